@@ -7,7 +7,11 @@ use std::alloc::{AllocError, Global};
 use std::test::Fail;
 
 // Over any disk a block that was written reads back.
-fn write_and_read<D: Device>(device: &mut D, b: u32, block: &[u8; BLOCK_SIZE]) -> Result<[u8; BLOCK_SIZE], Fault>
+fn write_and_read<D: Device>(
+    device: &mut D,
+    b: u32,
+    block: &[u8; BLOCK_SIZE],
+) -> Result<[u8; BLOCK_SIZE], Fault>
     requires { b < length (D.contents device.old) }
     ensures reads_back { IfOk result (λ bytes. bytes ≡ block.now) }
     ensures count { length (D.contents device.new) ≡ length (D.contents device.old) }
@@ -29,7 +33,15 @@ fn counted(alloc: Global, len: usize) -> Result<Vec<u8>, AllocError> {
 
 #[test]
 fn counts_whole_blocks(rt: HostRuntime) -> Result<(), Fail> {
-    for (len, blocks) in [(0, 0), (1023, 0), (1024, 1), (1025, 1), (2047, 1), (2048, 2), (2500, 2)] {
+    for (len, blocks) in [
+        (0, 0),
+        (1023, 0),
+        (1024, 1),
+        (1025, 1),
+        (2047, 1),
+        (2048, 2),
+        (2500, 2),
+    ] {
         let disk = MemoryDisk::new(vec![in rt.alloc(); 0; len]?);
         assert_eq!(rt; disk.blocks(), blocks, "of {len} bytes");
         assert_eq!(rt; disk.faults(), 0);
@@ -42,7 +54,10 @@ fn keeps_the_bytes_behind_the_last_block(rt: HostRuntime) -> Result<(), Fail> {
     let given = counted(rt.alloc(), 2500)?;
     let mut disk = MemoryDisk::new(given.clone()?);
     assert!(rt; 1 < disk.blocks());
-    assert_eq!(rt; write_and_read(&mut disk, 1, &[7; BLOCK_SIZE]), Ok([7; BLOCK_SIZE]));
+    assert_eq!(rt;
+        write_and_read(&mut disk, 1, &[7; BLOCK_SIZE]),
+        Ok([7; BLOCK_SIZE])
+    );
     let mut first = [0; BLOCK_SIZE];
     assert_eq!(rt; disk.read(0, &mut first), Ok(()));
     for (&was, &read) in given.iter().zip(first.iter()) {
