@@ -1,18 +1,18 @@
 -- An entry and its 16 bytes determine each other.
-use Rattle.std.proofs.Common.{◌≡◌, ◌≢◌, ℕ, zero, suc, ◌+◌, ◌-◌, ◌*◌, ◌^◌, ◌<◌, ◌≤◌, Bool, true, false, cond, not, ◌⊎◌, ⊎_elim, inl, inr, length-drop, eqb, ◌&&◌, nat_lt, nat_le, List, [], ◌∷◌, ◌++◌, length, take, drop, replicate, Some, None, Option, refl, sym, ap, ◌∙◌, arith, IsTrue, append_assoc, length-append, rules}
-use Rattle.std.proofs.lemmas.List.{append-nil, take_at, drop_at, length-replicate, length-take-le, take-append-drop, drop-take, drop-drop}
+use Rattle.std.proofs.Common.{◌≡◌, ◌≢◌, ℕ, zero, suc, ◌+◌, ◌-◌, ◌*◌, ◌<◌, ◌≤◌, true, false, not, ⊎_elim, length-drop, eqb, ◌&&◌, nat_lt, nat_le, List, [], ◌∷◌, ◌++◌, length, take, drop, replicate, Some, None, refl, sym, ap, ◌∙◌, arith, append_assoc, length-append}
+use Rattle.std.proofs.lemmas.List.{take_at, drop_at, length-replicate, length-take-le, take-append-drop, drop-take, drop-drop}
 use Rattle.std.proofs.lemmas.List.Sums.{prefix_len-le-length}
+use Rattle.fs_layout.proofs.Branches.{which_branch}
 use Rattle.fs_layout.proofs.Overwrites.{then_overwrite, part-overwrite, record_at-overwrite}
 use Rattle.std.proofs.lemmas.Bool.{and_parts, ne_eqb, eqb-true}
 use Rattle.std.proofs.lemmas.Bool.Decides.{nat_tests}
-use Rattle.std.proofs.lemmas.Grind.{common_steps}
 use Rattle.std.specs.List.{list_all, position_or_len}
 use Rattle.fs_layout.specs.declared.entry.Dirent.{Dirent}
 use Rattle.fs_layout.specs.declared.entry.Dirent.TheVariants.{Free, Used}
 use Rattle.fs_layout.specs.Bytes.{u16_bytes, u16_at, overwrite, record_at, IsBytes}
-use Rattle.fs_layout.specs.Name.{is_zero, is_name_byte, is_name, IsName}
+use Rattle.fs_layout.specs.Name.{is_zero, is_name_byte, is_name}
 use Rattle.fs_layout.specs.Entry.{spell_dirent, dirent_of, used_of, free_of, name_of, dirent_at, IsDirent}
-use Rattle.fs_layout.proofs.Numbers.{u16_at-part, length-u16_bytes, u16_at-bytes, u16_bytes-at, u16_at-lt}
+use Rattle.fs_layout.proofs.Numbers.{u16_at-part, length-u16_bytes, u16_at-bytes, u16_bytes-at}
 
 -- no byte of a name is zero
 byte_not_zero : (x : ℕ) → is_name_byte x ≡ true → is_zero x ≡ false
@@ -105,10 +105,6 @@ field-part block place at e =
     ∙ ap (λ (i : ℕ). take 14 (drop (i + 2) block)) (sym e) ∙ ap (λ (n : ℕ). take n (drop (at + 2) block)) size
 
 -- what is read is spelled so
-cases_cond : (b : Bool) (x y z : Option Dirent) → cond b x y ≡ z → ((b ≡ true) × (x ≡ z)) ⊎ ((b ≡ false) × (y ≡ z))
-cases_cond true x y z h = inl (refl, h)
-cases_cond false x y z h = inr (refl, h)
-
 spelled_free : (bytes : List ℕ) (d : Dirent) → length bytes ≡ 16 → IsBytes bytes → u16_at bytes 0 ≡ 0 → free_of (drop 2 bytes) ≡ Some d → spell_dirent d ≡ bytes
 unfolding u16_bytes
 spelled_free bytes d l fits z h =
@@ -120,7 +116,7 @@ spelled_free bytes d l fits z h =
     let all = u16_bytes-at bytes 0 (omega arith) fits in
     ap spell_dirent is ∙ (rw (z, zeros) at all))
     (λ (f : (list_all is_zero (drop 2 bytes) ≡ false) × (None ≡ Some d)). let e = f.1 in cc)
-    (cases_cond (list_all is_zero (drop 2 bytes)) (Some Free) None (Some d) h)
+    (which_branch (list_all is_zero (drop 2 bytes)) (Some Free) None (Some d) h)
 
 spelled_used : (bytes : List ℕ) (d : Dirent) → length bytes ≡ 16 → IsBytes bytes → used_of (u16_at bytes 0) (drop 2 bytes) ≡ Some d → spell_dirent d ≡ bytes
 spelled_used bytes d l fits h =
@@ -139,14 +135,14 @@ spelled_used bytes d l fits h =
     ∙ ap (λ (xs : List ℕ). u16_bytes (u16_at bytes 0) ++ xs) (take-append-drop n field)
     ∙ u16_bytes-at bytes 0 (omega arith) fits)
     (λ (f : ((is_name (name_of field) && list_all is_zero (drop n field)) ≡ false) × (None ≡ Some d)). let e = f.1 in cc)
-    (cases_cond (is_name (name_of field) && list_all is_zero (drop n field)) (Some (Used (u16_at bytes 0) (name_of field))) None (Some d) h)
+    (which_branch (is_name (name_of field) && list_all is_zero (drop n field)) (Some (Used (u16_at bytes 0) (name_of field))) None (Some d) h)
 
 pub spell-dirent_of : (bytes : List ℕ) (d : Dirent) → length bytes ≡ 16 → IsBytes bytes → dirent_of bytes ≡ Some d → spell_dirent d ≡ bytes
 spell-dirent_of bytes d l fits h =
     ⊎_elim
     (λ (t : (eqb (u16_at bytes 0) 0 ≡ true) × (free_of (drop 2 bytes) ≡ Some d)). spelled_free bytes d l fits (eqb-true (u16_at bytes 0) 0 t.0) t.1)
     (λ (f : (eqb (u16_at bytes 0) 0 ≡ false) × (used_of (u16_at bytes 0) (drop 2 bytes) ≡ Some d)). spelled_used bytes d l fits f.1)
-    (cases_cond (eqb (u16_at bytes 0) 0) (free_of (drop 2 bytes)) (used_of (u16_at bytes 0) (drop 2 bytes)) (Some d) h)
+    (which_branch (eqb (u16_at bytes 0) 0) (free_of (drop 2 bytes)) (used_of (u16_at bytes 0) (drop 2 bytes)) (Some d) h)
 
 -- the number of an entry within its block
 pub number-part : (block : List ℕ) (place : ℕ) → u16_at (record_at 16 place block) 0 ≡ u16_at block (16 * place)

@@ -1,11 +1,10 @@
 -- Laws of numbers in bytes.
-use Rattle.std.proofs.Common.{◌≡◌, ℕ, zero, suc, ◌+◌, ◌-◌, ◌*◌, ◌/◌, ◌%◌, ◌^◌, ◌<◌, ◌≤◌, ◌⊎◌, List, [], ◌∷◌, ◌++◌, length, take, drop, slice_index, get_or, refl, sym, ap, ◌∙◌, inl, inr, arith, append_assoc, length-append, length-drop, rules}
-use Rattle.std.proofs.lemmas.List.{length-take-le, take_at, drop_at, drop-drop, drop_all, take_more, drop_more, get_or-drop, get_or-take, drop-take}
-use Rattle.std.proofs.lemmas.Slice.{between_is}
+use Rattle.std.proofs.Common.{◌≡◌, ℕ, zero, suc, ◌+◌, ◌-◌, ◌*◌, ◌/◌, ◌%◌, ◌^◌, ◌<◌, ◌≤◌, List, [], ◌∷◌, ◌++◌, length, take, drop, get_or, refl, sym, ap, ◌∙◌, arith, append_assoc, length-append}
+use Rattle.std.proofs.lemmas.List.{drop_at, drop-drop, drop_all, drop_more, get_or-drop, drop-take}
 use Rattle.std.specs.List.{flat_map, AllByRecursion}
-use Rattle.byteorder.specs.Endian.{little_from, little_number}
+use Rattle.byteorder.specs.Endian.{little_number}
 use Rattle.byteorder.specs.Numbers.{little_number-reads_back, little_from-take, little_from-lt}
-use Rattle.fs_layout.specs.Bytes.{overwrite, u16_bytes, u32_bytes, u16_at, u32_at, u32s_at, IsBytes}
+use Rattle.fs_layout.specs.Bytes.{u16_bytes, u32_bytes, u16_at, u32_at, u32s_at, IsBytes}
 
 pub length-u16_bytes : (n : ℕ) → length (u16_bytes n) ≡ 2
 unfolding u16_bytes

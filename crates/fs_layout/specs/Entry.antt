@@ -1,5 +1,5 @@
 -- A directory entry: the number of an inode, and its name padded with zeros; a free slot is all zeros.
-use Rattle.std.specs.Prelude.{◌≡◌, ◌≢◌, ℕ, ◌+◌, ◌-◌, ◌^◌, ◌<◌, ◌==◌, ◌&&◌, nat_lt, nat_le, not, Bool, IsTrue, if◌then◌else◌, List, ◌++◌, length, take, drop, replicate, Option, Some, None}
+use Rattle.std.specs.Prelude.{◌≢◌, ℕ, ◌-◌, ◌^◌, ◌<◌, ◌==◌, ◌&&◌, if◌then◌else◌, List, ◌++◌, length, take, drop, replicate, Option, Some, None}
 use Rattle.std.specs.List.{list_all, position_or_len}
 use Rattle.fs_layout.specs.declared.entry.Dirent.{Dirent}
 use Rattle.fs_layout.specs.declared.entry.Dirent.TheVariants.{Free, Used}

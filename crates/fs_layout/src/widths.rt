@@ -19,6 +19,9 @@ pub const BITS_PER_BLOCK: usize = 8192;
 /// The number that a superblock begins with.
 pub const MAGIC: u32 = 0x1020_3040;
 
+/// A superblock.
+pub const SUPER_LEN: usize = 32;
+
 pub const SUPER_MAGIC_AT: usize = 0;
 
 pub const SUPER_SIZE_AT: usize = 4;
@@ -69,5 +72,8 @@ pub const NAME_LEN: usize = 14;
 /// How many blocks a log's head can name.
 pub const LOG_HEAD_LEN: usize = 255;
 
-/// Where the numbers of a log's head begin, behind their count.
+/// How many they are.
+pub const LOG_HEAD_COUNT_AT: usize = 0;
+
+/// Where the numbers begin.
 pub const LOG_HEAD_NUMBERS_AT: usize = 4;

@@ -1,6 +1,6 @@
-use Rattle.std.proofs.Common.{◌≡◌, ap, ◌∙◌, sym, refl, arith, subst, ◌*◌}
+use Rattle.std.proofs.Common.{◌≡◌, arith, ◌*◌}
 use Rattle.fs_layout.specs.Bytes.{overwrite}
-use Rattle.fs_layout.specs.Entry.{spell_dirent, IsDirent}
+use Rattle.fs_layout.specs.Entry.{spell_dirent}
 use Rattle.fs_layout.proofs.Entries.{wrote_used, reads_back, others_stay}
 use Rattle.fs_layout.proofs.entry.write_dirent.Goals as goal
 
