@@ -88,11 +88,8 @@ pub fn write_dirent(block: &mut Block, place: usize, entry: &Dirent)
             put_u16(block, at, *number);
             let bytes = name.as_bytes();
             put_bytes(block, at + DIRENT_NAME_AT, bytes);
-            put_zeros(
-                block,
-                at + DIRENT_NAME_AT + bytes.len(),
-                NAME_LEN - bytes.len(),
-            );
+            let end = at + DIRENT_NAME_AT + bytes.len();
+            put_zeros(block, end, NAME_LEN - bytes.len());
         }
     }
 }
