@@ -1,0 +1,126 @@
+//! Records of one block, at places that a row of pseudorandom numbers gives.
+use crate::workload::WorkloadError;
+use fs_layout::widths::{BITS_PER_BLOCK, BLOCK_LEN, DIRENTS_PER_BLOCK, INODES_PER_BLOCK};
+use fs_layout::{
+    Dinode, Dirent, Name, bit, read_dinode, read_dirent, set_bit, write_dinode, write_dirent,
+};
+
+const OPERATIONS: u32 = 4_000_000;
+
+// The number after `seed` in a row of pseudorandom ones: its upper bits vary well.
+fn next(seed: u32) -> u32 {
+    seed.wrapping_mul(1_664_525).wrapping_add(1_013_904_223)
+}
+
+fn inode_of_size(size: u32) -> Dinode {
+    Dinode {
+        kind: 2,
+        major: 0,
+        minor: 0,
+        nlink: 1,
+        size,
+        addrs: [size; 13],
+    }
+}
+
+fn checked(is_right: bool) -> Result<u64, WorkloadError> {
+    if is_right {
+        Ok(u64::from(OPERATIONS))
+    } else {
+        Err(WorkloadError::Wrong)
+    }
+}
+
+/// Inodes, written.
+pub fn write_inodes() -> Result<u64, WorkloadError> {
+    let mut block = [0; BLOCK_LEN];
+    let mut seed = 1;
+    let mut place = 0;
+    for _ in 0..OPERATIONS {
+        seed = next(seed ^ u32::from(block[8]));
+        place = (seed >> 16) as usize % INODES_PER_BLOCK;
+        write_dinode(&mut block, place, &inode_of_size(seed));
+    }
+    checked(read_dinode(&block, place % INODES_PER_BLOCK) == inode_of_size(seed))
+}
+
+/// Inodes, read.
+pub fn read_inodes() -> Result<u64, WorkloadError> {
+    let mut block = [0; BLOCK_LEN];
+    for place in 0..INODES_PER_BLOCK {
+        write_dinode(&mut block, place, &inode_of_size(3));
+    }
+    let mut seed = 1;
+    let mut sum = 0u64;
+    for _ in 0..OPERATIONS {
+        let inode = read_dinode(&block, (seed >> 16) as usize % INODES_PER_BLOCK);
+        sum = sum.wrapping_add(u64::from(inode.size));
+        seed = next(seed ^ inode.addrs[12]);
+    }
+    checked(sum == 3 * u64::from(OPERATIONS))
+}
+
+/// Entries, written.
+pub fn write_dirents() -> Result<u64, WorkloadError> {
+    let Some(name) = Name::new(b"a_name") else {
+        return Err(WorkloadError::Wrong);
+    };
+    let entry = Dirent::Used { number: 7, name };
+    let mut block = [0; BLOCK_LEN];
+    let mut seed = 1;
+    let mut place = 0;
+    for _ in 0..OPERATIONS {
+        seed = next(seed ^ u32::from(block[0]));
+        place = (seed >> 16) as usize % DIRENTS_PER_BLOCK;
+        write_dirent(&mut block, place, &entry);
+    }
+    let last = read_dirent(&block, place % DIRENTS_PER_BLOCK);
+    checked(matches!(last, Some(Dirent::Used { number: 7, .. })))
+}
+
+/// Entries, read.
+pub fn read_dirents() -> Result<u64, WorkloadError> {
+    let mut block = [0; BLOCK_LEN];
+    for place in 0..DIRENTS_PER_BLOCK {
+        block[16 * place] = 7;
+        block[16 * place + 2..16 * place + 8].copy_from_slice(b"a_name");
+    }
+    let mut seed = 1;
+    let mut sum = 0u64;
+    for _ in 0..OPERATIONS {
+        if let Some(Dirent::Used { number, name }) = read_dirent(
+            &block,
+            (seed >> 16) as usize % DIRENTS_PER_BLOCK,
+        ) {
+            sum = sum.wrapping_add(name.as_bytes().len() as u64);
+            seed = next(seed ^ u32::from(number));
+        }
+    }
+    checked(sum == 6 * u64::from(OPERATIONS))
+}
+
+/// Bits of a bitmap, set.
+pub fn set_bits() -> Result<u64, WorkloadError> {
+    let mut block = [0; BLOCK_LEN];
+    let mut seed = 1;
+    let mut b = 0;
+    for _ in 0..OPERATIONS {
+        seed = next(seed ^ u32::from(block[0]));
+        b = (seed >> 16) as usize % BITS_PER_BLOCK;
+        set_bit(&mut block, b);
+    }
+    checked(bit(&block, b % BITS_PER_BLOCK))
+}
+
+/// Bits of a bitmap, tested.
+pub fn test_bits() -> Result<u64, WorkloadError> {
+    let block = [0xff; BLOCK_LEN];
+    let mut seed = 1;
+    let mut sum = 0u64;
+    for _ in 0..OPERATIONS {
+        let is_set = bit(&block, (seed >> 16) as usize % BITS_PER_BLOCK);
+        sum = sum.wrapping_add(u64::from(is_set));
+        seed = next(seed ^ u32::from(is_set));
+    }
+    checked(sum == u64::from(OPERATIONS))
+}

@@ -1,0 +1,71 @@
+//! What is measured.
+use crate::{devices, records};
+use block_device::Fault;
+use std::alloc::{AllocError, Global};
+use thiserror::Error;
+
+/// Why a workload did not run to its end.
+#[derive(Debug, Drop, Error)]
+pub enum WorkloadError {
+    #[error("no memory")]
+    Memory(#[from(alloc)] AllocError),
+    #[error("the device failed")]
+    Device,
+    #[error("an operation gave a wrong result")]
+    Wrong,
+}
+
+impl From<Fault> for WorkloadError {
+    fn from(_fault: Fault) -> WorkloadError {
+        WorkloadError::Device
+    }
+}
+
+#[derive(Clone, Copy)]
+pub enum Workload {
+    DeviceRead,
+    InodeRead,
+    InodeWrite,
+    DirentRead,
+    DirentWrite,
+    BitSet,
+    BitTest,
+}
+
+/// All of them, in the order in which they run.
+pub const ALL: [Workload; 7] = [
+    Workload::DeviceRead,
+    Workload::InodeRead,
+    Workload::InodeWrite,
+    Workload::DirentRead,
+    Workload::DirentWrite,
+    Workload::BitSet,
+    Workload::BitTest,
+];
+
+impl Workload {
+    pub fn name(self) -> &'static str {
+        match self {
+            Workload::DeviceRead => "device_read_block",
+            Workload::InodeRead => "inode_read",
+            Workload::InodeWrite => "inode_write",
+            Workload::DirentRead => "dirent_read",
+            Workload::DirentWrite => "dirent_write",
+            Workload::BitSet => "bit_set",
+            Workload::BitTest => "bit_test",
+        }
+    }
+
+    /// Runs it, and says how many operations that were.
+    pub fn run(self, alloc: Global) -> Result<u64, WorkloadError> {
+        match self {
+            Workload::DeviceRead => devices::read_blocks(alloc),
+            Workload::InodeRead => records::read_inodes(),
+            Workload::InodeWrite => records::write_inodes(),
+            Workload::DirentRead => records::read_dirents(),
+            Workload::DirentWrite => records::write_dirents(),
+            Workload::BitSet => records::set_bits(),
+            Workload::BitTest => records::test_bits(),
+        }
+    }
+}
