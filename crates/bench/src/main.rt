@@ -3,6 +3,7 @@
 #![tactic(auto)]
 
 mod devices;
+mod locks;
 mod records;
 mod workload;
 

@@ -1,5 +1,5 @@
 //! What is measured.
-use crate::{devices, records};
+use crate::{devices, locks, records};
 use block_device::Fault;
 use std::alloc::{AllocError, Global};
 use thiserror::Error;
@@ -30,10 +30,11 @@ pub enum Workload {
     DirentWrite,
     BitSet,
     BitTest,
+    LockUnlock,
 }
 
 /// All of them, in the order in which they run.
-pub const ALL: [Workload; 7] = [
+pub const ALL: [Workload; 8] = [
     Workload::DeviceRead,
     Workload::InodeRead,
     Workload::InodeWrite,
@@ -41,6 +42,7 @@ pub const ALL: [Workload; 7] = [
     Workload::DirentWrite,
     Workload::BitSet,
     Workload::BitTest,
+    Workload::LockUnlock,
 ];
 
 impl Workload {
@@ -53,6 +55,7 @@ impl Workload {
             Workload::DirentWrite => "dirent_write",
             Workload::BitSet => "bit_set",
             Workload::BitTest => "bit_test",
+            Workload::LockUnlock => "lock_and_unlock",
         }
     }
 
@@ -66,6 +69,7 @@ impl Workload {
             Workload::DirentWrite => records::write_dirents(),
             Workload::BitSet => records::set_bits(),
             Workload::BitTest => records::test_bits(),
+            Workload::LockUnlock => locks::lock_and_unlock(alloc),
         }
     }
 }
