@@ -123,13 +123,20 @@ pub data Refusal : Type 0 where
 abbrev pub P : Type 0 → Type 0
 P A = Prog Op Answer Step A
 
--- the old number is fetched, and marked as seen where the call only looks
+-- the lock is given back, and this number answered
 abbrev pub dropped : ℕ → P ℕ
 dropped x = Do Drop unmarked (λ _. Ret x)
 
+-- the lock is taken, and the number fetched
+abbrev pub opened : P ℕ
+opened = Do Take unmarked (λ _. once Fetch unmarked)
+
+abbrev pub stored_and : ℕ → ℕ → P ℕ
+stored_and n x = Do (Store n) (λ _. Some (Swapped n x)) (λ _. dropped x)
+
 abbrev pub program : Call → P ℕ
-program (Swap n) = Do Take unmarked (λ _. Do Fetch unmarked (λ x. Do (Store n) (λ _. Some (Swapped n x)) (λ _. dropped x)))
-program Look = Do Take unmarked (λ _. bind (marked (once Fetch unmarked) (λ x. Some (Saw x))) dropped)
+program (Swap n) = bind opened (stored_and n)
+program Look = bind (marked opened (λ x. Some (Saw x))) dropped
 
 abbrev pub Written : Call → List Step → ℕ → Type 0
 Written (Swap n) es old = es ≡ Swapped n old ∷ []
