@@ -1,10 +1,12 @@
 //! The theorems, at the examples: a contract can't speak of every theory, so the general lemmas stand in `proofs`, for a
 //! project to use at its own theory, and each function here carries one of them at an example of this crate.
 
-ghost use Rattle.std.specs.Prelude.{◌≡◌, ℕ, ◌∷◌, [], List, Option, Some, None};
+ghost use Rattle.std.specs.Prelude.{◌≡◌, ℕ, ◌∷◌, [], List, Option, None, true};
 ghost use Rattle.atomic_programs.specs.Calls.{Event, Start, Step, Finished, Placed, Outcome, Started, Refused, WasIdle, DidWait, DidRun, DidEnd, DidStop, WasStopped, run, outcomes, fresh};
 ghost use Rattle.atomic_programs.specs.Explained.{Explained, Steady, history};
 ghost use Rattle.atomic_programs.specs.Cell as cell;
+ghost use Rattle.atomic_programs.specs.Desk as desk;
+ghost use Rattle.atomic_programs.specs.Staged as staged;
 
 /// Over every list of events, from any world that holds and where every hart is idle, the cell's replies are explained by
 /// one list of steps.
@@ -33,4 +35,35 @@ pub fn cell_finishes()
 /// The device fails in a store, which stops the world: each later step says so, and starts are taken or refused as before.
 pub fn cell_stops()
     ensures { outcomes cell.swaps (Start 0 (cell.Swap 7) ∷ Step 0 ∷ Step 0 ∷ Step 0 ∷ Step 0 ∷ Start 0 cell.Look ∷ Start 1 cell.Look ∷ Start 8 cell.Look ∷ Step 1 ∷ Step 2 ∷ []) (fresh cell.swaps (cell.rest 5 0)) ≡ Started ∷ DidRun cell.Take ∷ DidRun cell.Fetch ∷ DidStop (cell.Store 7) ∷ WasStopped ∷ Refused cell.Busy ∷ Started ∷ Refused cell.NoSuchHart ∷ WasStopped ∷ WasIdle ∷ [] }
+{}
+
+/// The same of the desk, where a hart's step may be placed by another hart, and a start may reserve an idle one.
+pub fn desk_explained()
+    ensures { (w : desk.World) (events : List (Event desk.Call)) → ((h : ℕ) → desk.Idle h w) → Explained desk.desk w.book (run desk.desk events (fresh desk.desk w)) }
+{}
+
+/// Every hart is idle at a desk at rest.
+pub fn desk_rests(number: u32)
+    ensures { (tokens : ℕ → ℕ) (h : ℕ) → desk.Idle h (desk.rest number tokens) }
+{}
+
+/// A request waits until another hart serves it; its step is placed at that hart's event.
+pub fn desk_helps()
+    ensures outcomes { outcomes desk.desk (Start 0 (desk.Request 7) ∷ Step 0 ∷ Step 0 ∷ Start 1 (desk.Help 0) ∷ Step 1 ∷ Step 0 ∷ []) (fresh desk.desk (desk.rest 5 (λ h. 0))) ≡ Started ∷ DidRun (desk.Ask 7) ∷ DidWait ∷ Started ∷ DidEnd (desk.Serve 0) (desk.Helped true) ∷ DidEnd desk.Collect (desk.Got 5) ∷ [] }
+    ensures history { history desk.desk (run desk.desk (Start 0 (desk.Request 7) ∷ Step 0 ∷ Step 0 ∷ Start 1 (desk.Help 0) ∷ Step 1 ∷ []) (fresh desk.desk (desk.rest 5 (λ h. 0)))) ≡ record { number = 4; hart = 0; call = 0; step = desk.Swapped 7 5 } ∷ [] }
+{}
+
+/// A hart that is reserved for another's call starts nothing until that call's reply.
+pub fn desk_reserves()
+    ensures { outcomes desk.desk (Start 0 (desk.Give 1) ∷ Start 1 (desk.Help 0) ∷ Step 0 ∷ Start 1 (desk.Help 0) ∷ Step 0 ∷ Start 1 (desk.Help 0) ∷ Start 0 (desk.Give 1) ∷ []) (fresh desk.desk (desk.rest 5 (λ h. 0))) ≡ Started ∷ Refused desk.Reserved ∷ DidRun (desk.Hand 1) ∷ Refused desk.Reserved ∷ DidEnd (desk.Free 1) desk.Given ∷ Started ∷ Refused desk.Busy ∷ [] }
+{}
+
+/// The cell's calls over the machine below, where a store takes two operations: explained by lifting what was shown above.
+pub fn staged_explained()
+    ensures { (w : staged.World) (events : List (Event cell.Call)) → cell.Inv w.whole → ((h : ℕ) → cell.own_of h w.whole ≡ None) → Explained staged.staged_swaps w.whole.value (run staged.staged_swaps events (fresh staged.staged_swaps w)) }
+{}
+
+/// There the store acts at its second operation.
+pub fn staged_finishes()
+    ensures { history staged.staged_swaps (run staged.staged_swaps (Start 0 (cell.Swap 7) ∷ Step 0 ∷ Step 0 ∷ Step 0 ∷ Step 0 ∷ Step 0 ∷ []) (fresh staged.staged_swaps (staged.rest 5 9))) ≡ record { number = 4; hart = 0; call = 0; step = cell.Swapped 7 5 } ∷ [] }
 {}
