@@ -3,8 +3,8 @@ use Rattle.std.proofs.Common.{◌≡◌, ℕ, suc, Option, Some, None, Bool, tru
 use Rattle.std.specs.Prelude.{nat_eq, if◌then◌else◌}
 use Rattle.atomic_programs.specs.Prog.{Ret, Do, Did, Waits, Ran, Stops, Moved, Ended, StillWaits, WentOn, Broke, went, advance}
 use Rattle.atomic_programs.specs.Logic.{P, own, onto}
-use Rattle.atomic_programs.specs.Calls.{Theory, Began, Refuses, Begins, Run, State, Event, Start, Step, Made, changed, is_some, told, all_told, moved, tried, step_prog, step_unless, step_run, begun, busy_in, start_run, makes, next, run}
-use Rattle.atomic_programs.specs.Plain.{Code, IsCode, did_in, began_in, Plain, PlainMade, by_kind, plain_moved, plain_tried, plain_prog, plain_unless, plain_step, plain_begun, plain_start, plain_makes, plain_run, prog_of, erase}
+use Rattle.atomic_programs.specs.Calls.{Theory, Began, Refuses, Begins, Run, State, Event, Start, Step, Made, changed, is_some, told, all_told, moved, tried, step_prog, step_unless, step_run, begun, busy_in, start_run, makes, next, run, Outcome, outcomes}
+use Rattle.atomic_programs.specs.Plain.{Code, IsCode, did_in, began_in, Plain, PlainMade, by_kind, plain_moved, plain_tried, plain_prog, plain_unless, plain_step, plain_begun, plain_start, plain_makes, plain_run, plain_outcomes, all_by_kind, prog_of, erase}
 
 module _ (L : Theory) (C : Code L) where
   -- an event with its history, without it
@@ -93,6 +93,11 @@ module _ (L : Theory) (C : Code L) where
     pub erase-run : (es : List (Event L.Call)) (s : State L) → plain_run L C es (erase L C s) ≡ erase L C (run L es s)
     erase-run [] s = refl
     erase-run (e ∷ es) s = ap (plain_run L C es) (ap (λ (x : PlainMade L C). x.after) (erase-makes e s)) ∙ erase-run es (next L e s)
+
+    pub erase-outcomes : (es : List (Event L.Call)) (s : State L) → plain_outcomes L C es (erase L C s) ≡ all_by_kind L C (outcomes L es s)
+    erase-outcomes [] s = refl
+    erase-outcomes (e ∷ es) s =
+        ap (λ (x : PlainMade L C). x.came ∷ plain_outcomes L C es x.after) (erase-makes e s) ∙ ap (λ (z : List (Outcome C.Kind L.Reply L.Refusal)). by_kind L C (makes L e s).came ∷ z) (erase-outcomes es (next L e s))
 
   -- one event more
   pub plain_run-more : (es : List (Event L.Call)) (e : Event L.Call) (s : Plain L C) → plain_run L C (es ++ e ∷ []) s ≡ (plain_makes L C e (plain_run L C es s)).after

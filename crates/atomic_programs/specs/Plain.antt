@@ -89,6 +89,15 @@ module _ (L : Theory) (C : Code L) where
   plain_run [] s = s
   plain_run (e ∷ es) s = plain_run es (plain_makes e s).after
 
+  -- the outcome of each event of the list
+  abbrev pub plain_outcomes : List (Event L.Call) → Plain L C → List (Outcome C.Kind L.Reply L.Refusal)
+  plain_outcomes [] s = []
+  plain_outcomes (e ∷ es) s = (plain_makes e s).came ∷ plain_outcomes es (plain_makes e s).after
+
+  abbrev pub all_by_kind : List (Came L) → List (Outcome C.Kind L.Reply L.Refusal)
+  all_by_kind [] = []
+  all_by_kind (c ∷ cs) = by_kind c ∷ all_by_kind cs
+
   abbrev pub prog_of : Option (Run L) → Option (P L.M L.Reply)
   prog_of None = None
   prog_of (Some r) = Some r.prog
