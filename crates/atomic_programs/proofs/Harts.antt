@@ -1,12 +1,12 @@
 -- A step of a machine of the example in its place.
-use Rattle.std.proofs.Common.{◌≡◌, ◌<◌, ℕ, Option, Some, None, Bool, true, false, List, [], ◌∷◌, ◌++◌, refl, sym, ◌∙◌, ap, length, get_or, set}
+use Rattle.std.proofs.Common.{◌≡◌, ◌<◌, ℕ, zero, suc, Option, Some, None, Bool, true, false, List, [], ◌∷◌, ◌++◌, refl, sym, ◌∙◌, ap, length, get_or, set}
 use Rattle.std.specs.Prelude.{nat_lt}
 use Rattle.atomic_programs.specs.Prog.{Did, Waits, Ran, Stops, WentOn, advance}
 use Rattle.atomic_programs.specs.Calls.{DidRun, State, Began, run as run_of}
 use Rattle.atomic_programs.specs.Calls as calls
 use Rattle.atomic_programs.specs.Plain.{IsCode, did_in, began_in, Plain, PlainMade, plain_moved, plain_step, plain_makes, plain_run, erase}
 use Rattle.atomic_programs.specs.Machines.{asks, kind_asked, program_at, programs_in}
-use Rattle.atomic_programs.specs.Cell.{Cell, Step, World, Refusal, P, with_value, begin_if, exec, swaps, Call}
+use Rattle.atomic_programs.specs.Cell.{Cell, Step, World, Refusal, P, with_value, begin_if, exec, swaps, rest, Call}
 use Rattle.atomic_programs.specs.CellCode.{kind_of, machine_of, event_of, events_of, code}
 use Rattle.atomic_programs.specs.declared.cell.Kind.{Kind}
 use Rattle.atomic_programs.specs.declared.cell.Machine.{Machine}
@@ -64,3 +64,15 @@ one_more s es e p made was makes =
     ∙ plain_run-more swaps code (events_of es) (event_of e) (erase swaps code s)
     ∙ ap (λ (z : Plain swaps code). (plain_makes swaps code (event_of e) z).after) (erase-run swaps code is_code (events_of es) s ∙ was)
     ∙ ap (λ (z : PlainMade swaps code). z.after) makes
+
+-- a table without a machine
+pub none_more : (xs : List (Option Machine)) (k : ℕ) → ((i : ℕ) → get_or xs i None ≡ None) → get_or (xs ++ None ∷ []) k None ≡ None
+none_more [] zero all = refl
+none_more [] (suc k) all = refl
+none_more (x ∷ xs) zero all = all 0
+none_more (x ∷ xs) (suc k) all = none_more xs k (λ i. all (suc i))
+
+-- no machine, and no program
+pub rests : (c : Cell) (xs : List (Option Machine)) (count fuse : ℕ) → c ≡ record { holder = None; count = count; fuse = fuse } → ((i : ℕ) → get_or xs i None ≡ None)
+    → ◌≡◌ {A = Plain swaps code} (record { shared = c; stopped = false; running = programs_in machine_of xs }) (erase swaps code (calls.fresh swaps (rest count fuse)))
+rests c xs count fuse is all = λ i. record { shared = is i; stopped = false; running = λ h. program_at machine_of (all h i) }

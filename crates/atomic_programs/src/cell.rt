@@ -2,14 +2,14 @@
 
 ghost use Rattle.std.specs.Prelude.{◌≡◌, ℕ, ◌<◌, ◌∷◌, [], Option, Some, None, IfNone, IfOk};
 ghost use Rattle.atomic_programs.specs.Prog.{advance, Ran as ItRan};
-ghost use Rattle.atomic_programs.specs.Calls.{State, run as run_of, Start as StartOf, Step as StepOf};
+ghost use Rattle.atomic_programs.specs.Calls.{State, run as run_of, fresh, Start as StartOf, Step as StepOf};
 ghost use Rattle.atomic_programs.specs.Plain.{plain_makes, erase, Plain};
 ghost use Rattle.atomic_programs.specs.Machines.{moved_to, Still, asks, kind_asked, or_waits, or_stops};
-ghost use Rattle.atomic_programs.specs.Cell.{exec, swaps, Take as TakeOp, Fetch as FetchOp, Store as StoreOp, Drop as DropOp};
+ghost use Rattle.atomic_programs.specs.Cell.{exec, swaps, rest, Take as TakeOp, Fetch as FetchOp, Store as StoreOp, Drop as DropOp};
 ghost use Rattle.atomic_programs.specs.CellCode.{kind_of, open_of, machine_of, call_of, event_of, events_of, outcome_of, refusal_of, code, plain_of, HasEight};
 
 use crate::machines::Stepped;
-use std::alloc::AllocError;
+use std::alloc::{AllocError, Global};
 use std::marker::Model;
 
 /// The harts of the example.
@@ -239,6 +239,22 @@ pub struct World {
 }
 
 impl World {
+    /// Eight idle harts over this number, on a device that takes `fuse` writes.
+    pub fn new(alloc: Global, count: u32, fuse: u32) -> Result<World, AllocError>
+        ensures eight { IfOk result (λ w. HasEight w) }
+        ensures rests { IfOk result (λ w. plain_of w ≡ erase swaps code (fresh swaps (rest count fuse))) }
+    {
+        let mut calls = Vec::with_capacity(alloc, HARTS as usize)?;
+        for _ in 0..HARTS {
+            calls.push(None)?;
+        }
+        Ok(World {
+            shared: Register::new(count, fuse),
+            stopped: false,
+            calls,
+        })
+    }
+
     /// Begins a call.
     pub fn start(&mut self, hart: u8, call: Call) -> Outcome
         requires { HasEight self.old }
@@ -315,5 +331,38 @@ pub fn run(world: &mut World, events: &[Event])
 {
     for event in events {
         let _outcome = world.event(*event);
+    }
+}
+
+#[cfg(test)]
+mod tests {
+    use super::*;
+
+    /// Two harts meet: one waits, and sees what the other put in; then the device fails.
+    #[test]
+    fn two_harts_meet(rt: HostRuntime) {
+        let mut world = World::new(rt.alloc(), 5, 1).expect(&rt, "memory");
+        let events = [
+            Event::Start(0, Call::Swap(7)),
+            Event::Step(0),
+            Event::Start(1, Call::Look),
+            Event::Step(1),
+            Event::Step(0),
+            Event::Step(0),
+        ];
+        run(&mut world, &events);
+        assert!(rt; matches!(world.start(8, Call::Look), Outcome::Refused(Refusal::NoSuchHart)));
+        assert!(rt; matches!(world.start(0, Call::Look), Outcome::Refused(Refusal::Busy)));
+        assert!(rt; matches!(world.step(1), Outcome::Waits));
+        assert!(rt; matches!(world.step(0), Outcome::Done(Kind::Drop, 5)));
+        assert!(rt; matches!(world.step(0), Outcome::Idle));
+        assert!(rt; matches!(world.step(1), Outcome::Ran(Kind::Take)));
+        assert!(rt; matches!(world.step(1), Outcome::Ran(Kind::Fetch)));
+        assert!(rt; matches!(world.step(1), Outcome::Done(Kind::Drop, 7)));
+        run(&mut world, &[Event::Start(2, Call::Swap(9)), Event::Step(2), Event::Step(2)]);
+        assert!(rt; matches!(world.step(2), Outcome::Stops(Kind::Store)));
+        assert!(rt; matches!(world.step(2), Outcome::Stopped));
+        assert!(rt; matches!(world.start(3, Call::Look), Outcome::Started));
+        assert!(rt; matches!(world.step(3), Outcome::Stopped));
     }
 }
