@@ -6,7 +6,7 @@ use Rattle.atomic_programs.specs.Prog.{Prog, Ret, Do, unmarked, Did, Waits, Ran,
 use Rattle.atomic_programs.specs.Logic.{own, onto, Grown, Fine, Good, Wp, Laws}
 use Rattle.atomic_programs.specs.Calls.{Began, Refuses, Begins, IsBeginning, Begun, Ends, Right, Lawful, Event, changed, run, fresh}
 use Rattle.atomic_programs.specs.Explained.{Explained}
-use Rattle.atomic_programs.specs.Desk.{Slot, Empty, Asked, Served, Book, World, Op, Ask, Serve, Collect, Hand, Free, Answer, Step, Swapped, Gave, Happens, go, serve_if, collect_if, served, places, Fared, is_for, Others, Idle, IsAsked, MayWait, machine, Call, Request, Help, Give, Reply, Got, Helped, Given, Refusal, Busy, Reserved, P, program, Written, unless, reserve_if, start_call, start_if, desk}
+use Rattle.atomic_programs.specs.Desk.{Slot, Empty, Asked, Served, Book, World, Op, Ask, Serve, Collect, Hand, Free, Wipe, Answer, Step, Swapped, Gave, Happens, go, serve_if, collect_if, served, places, Fared, is_for, Others, Idle, IsAsked, MayWait, machine, Call, Request, Help, Give, Reset, Reply, Got, Helped, Given, Wiped, Refusal, Busy, Reserved, P, program, Written, unless, reserve_if, start_call, start_if, desk}
 use Rattle.atomic_programs.proofs.Explains.{changed_same, changed_other, explains}
 
 fared_same : (s : Slot) → Fared s [] s
@@ -31,7 +31,7 @@ fared_trans (Asked n) t u xs ys (inl a) b = at (subst (λ (z : Slot). Fared z ys
     at (inr c) = inr (c.0, rw (a.0, c.1) refl, c.2)
 
 pub others_same : (h : ℕ) (w : World) → Others h w [] w
-others_same h w = record { fared = fared_same (w.slots h); tokens = λ e. (e, refl); lends = λ j. refl }
+others_same h w = record { fared = fared_same (w.slots h); tokens = λ e. (e, refl); lends = λ j. refl; clean = λ y. y }
 
 others_trans : (h : ℕ) (u v w : World) (xs ys : List Step) → Others h u xs v → Others h v ys w → Others h u (xs ++ ys) w
 others_trans h u v w xs ys a b =
@@ -39,6 +39,7 @@ others_trans h u v w xs ys a b =
       fared = fared_trans (u.slots h) (v.slots h) (w.slots h) xs ys a.fared b.fared;
       tokens = λ e. (let c = a.tokens e in let d = b.tokens c.0 in (d.0, d.1 ∙ c.1));
       lends = λ j. b.lends j ∙ a.lends j;
+      clean = λ y. a.clean (b.clean y);
     }
 
 -- an empty place stays so
@@ -52,12 +53,13 @@ laws =
       trans = others_trans;
       idle_none = λ h v w xs o i. (empty_stays h v w xs o i.slot).0;
       idle_stays = λ h v w xs o i. record { slot = (empty_stays h v w xs o i.slot).1; lends = λ j. o.lends j ∙ i.lends j };
-      clean_before = λ h v w xs o y. tt;
+      clean_before = λ h v w xs o y. o.clean y;
     }
 
 -- what an operation changed is none of this hart's
-others_quiet : (g : ℕ) (v u : World) → u.slots g ≡ v.slots g → (v.lent g ≡ None → (u.lent g ≡ None) × (u.book.tokens g ≡ v.book.tokens g)) → ((j : ℕ) → is_for g (u.lent j) ≡ is_for g (v.lent j)) → Others g v [] u
-others_quiet g v u slot tokens lends = record { fared = subst (λ (z : Slot). Fared (v.slots g) [] z) (sym slot) (fared_same (v.slots g)); tokens = tokens; lends = lends }
+others_quiet : (g : ℕ) (v u : World) → u.slots g ≡ v.slots g → (v.lent g ≡ None → (u.lent g ≡ None) × (u.book.tokens g ≡ v.book.tokens g)) → ((j : ℕ) → is_for g (u.lent j) ≡ is_for g (v.lent j))
+    → (u.clean ≡ true → v.clean ≡ true) → Others g v [] u
+others_quiet g v u slot tokens lends clean = record { fared = subst (λ (z : Slot). Fared (v.slots g) [] z) (sym slot) (fared_same (v.slots g)); tokens = tokens; lends = lends; clean = clean }
 
 own_none : (g j : ℕ) (e : Step) → g ≢ j → own g ((j, e) ∷ []) ≡ []
 own_none g j e ne = rw (ne_eqb j g (λ q. ne (sym q))) refl
@@ -71,22 +73,22 @@ collect_ok h n w asked lends v xs o inv = at (subst (λ (z : Slot). Fared z xs (
   where
     Goal : Slot → List Step → Type 0
     Goal s ys =
-        (Unit {0} → Grown (Begun desk (Request n)) ys [])
+        (v.clean ≡ true → Grown (Begun desk (Request n)) ys [])
         × Good machine ℕ h (λ a. []) 1 (Begun desk (Request n)) (onto ys []) v (IsAsked s) (collect_if h v s) (λ l a u. Ends desk h (Request n) (Got a) (onto ys []) u)
 
     goal : (s : Slot) (ys : List Step) → v.slots h ≡ s → xs ≡ ys → Goal s ys
-        → (Unit {0} → Grown (Begun desk (Request n)) xs []) × Good machine ℕ h (λ a. []) 1 (Begun desk (Request n)) (onto xs []) v (IsAsked (v.slots h)) (collect_if h v (v.slots h)) (λ l a u. Ends desk h (Request n) (Got a) (onto xs []) u)
+        → (v.clean ≡ true → Grown (Begun desk (Request n)) xs []) × Good machine ℕ h (λ a. []) 1 (Begun desk (Request n)) (onto xs []) v (IsAsked (v.slots h)) (collect_if h v (v.slots h)) (λ l a u. Ends desk h (Request n) (Got a) (onto xs []) u)
     goal s ys e f g = subst (λ (z : Slot). Goal z xs) (sym e) (subst (λ (zs : List Step). Goal s zs) (sym f) g)
 
     at : ((xs ≡ []) × (v.slots h ≡ Asked n)) ⊎ ((old : ℕ) × (xs ≡ Swapped n old ∷ []) × (v.slots h ≡ Served old))
-        → (Unit {0} → Grown (Begun desk (Request n)) xs []) × Good machine ℕ h (λ a. []) 1 (Begun desk (Request n)) (onto xs []) v (IsAsked (v.slots h)) (collect_if h v (v.slots h)) (λ l a u. Ends desk h (Request n) (Got a) (onto xs []) u)
+        → (v.clean ≡ true → Grown (Begun desk (Request n)) xs []) × Good machine ℕ h (λ a. []) 1 (Begun desk (Request n)) (onto xs []) v (IsAsked (v.slots h)) (collect_if h v (v.slots h)) (λ l a u. Ends desk h (Request n) (Got a) (onto xs []) u)
     at (inl a) = goal (Asked n) [] a.1 a.0 (λ y. inl refl, tt)
     at (inr a) =
         goal (Served a.0) (Swapped n a.0 ∷ []) a.2 a.1
         (λ y. inr ([], Got a.0, refl),
          record {
            inv = tt;
-           kept = λ other ne. others_quiet other v (record v { slots = changed v.slots h Empty }) (changed_other v.slots h Empty other ne) (λ e. (e, refl)) (λ j. refl);
+           kept = λ other ne. others_quiet other v (record v { slots = changed v.slots h Empty }) (changed_other v.slots h Empty other ne) (λ e. (e, refl)) (λ j. refl) (λ y. y);
            goes = λ y. refl;
            clean = λ y. y;
            begun = λ y. inl refl;
@@ -101,7 +103,7 @@ request_ok h n w idle v xs o inv =
     (λ y. inl at.0,
      record {
        inv = tt;
-       kept = λ other ne. others_quiet other v (record v { slots = changed v.slots h (Asked n) }) (changed_other v.slots h (Asked n) other ne) (λ e. (e, refl)) (λ j. refl);
+       kept = λ other ne. others_quiet other v (record v { slots = changed v.slots h (Asked n) }) (changed_other v.slots h (Asked n) other ne) (λ e. (e, refl)) (λ j. refl) (λ y. y);
        goes = λ y. refl;
        clean = λ y. y;
        begun = λ y. inl refl;
@@ -113,7 +115,7 @@ request_ok h n w idle v xs o inv =
 
 -- the world after hart j's request of n was served
 abbrev served_by : ℕ → ℕ → World → World
-served_by j n v = record { book = record { number = n; tokens = v.book.tokens }; slots = changed v.slots j (Served v.book.number); lent = v.lent }
+served_by j n v = record { book = record { number = n; tokens = v.book.tokens }; slots = changed v.slots j (Served v.book.number); lent = v.lent; clean = v.clean }
 
 -- the asking hart is given its step, and the others nothing
 served_keeps : (j n : ℕ) (v : World) → v.slots j ≡ Asked n → (other : ℕ) → Others other v (own other ((j, Swapped n v.book.number) ∷ [])) (served_by j n v)
@@ -125,6 +127,7 @@ served_keeps j n v e other = at (nat_eq other j) refl
           fared = subst (λ (z : Slot). Fared z (Swapped n v.book.number ∷ []) (changed v.slots j (Served v.book.number) j)) (sym e) (inr (v.book.number, refl, changed_same v.slots j (Served v.book.number) j refl));
           tokens = λ q. (q, refl);
           lends = λ i. refl;
+          clean = λ y. y;
         }
 
     at : (b : Bool) → nat_eq other j ≡ b → Others other v (own other ((j, Swapped n v.book.number) ∷ [])) (served_by j n v)
@@ -133,7 +136,7 @@ served_keeps j n v e other = at (nat_eq other j) refl
         (subst (λ (zs : List Step). Others j v zs (served_by j n v)) (sym (own_one j (Swapped n v.book.number))) asking)
     at false t =
         subst (λ (zs : List Step). Others other v zs (served_by j n v)) (sym (own_none other j (Swapped n v.book.number) (eqb-false other j t)))
-        (others_quiet other v (served_by j n v) (changed_other v.slots j (Served v.book.number) other (eqb-false other j t)) (λ q. (q, refl)) (λ i. refl))
+        (others_quiet other v (served_by j n v) (changed_other v.slots j (Served v.book.number) other (eqb-false other j t)) (λ q. (q, refl)) (λ i. refl) (λ y. y))
 
 -- a hart that serves another's request places that hart's step, and none of its own
 help_ok : (h j : ℕ) (w : World) → j ≢ h → Idle h w → Wp machine h (Begun desk (Help j)) (Ends desk h (Help j)) (program (Help j)) 2 [] w
@@ -215,7 +218,7 @@ free_ok h j x w lends v xs o inv =
        inv = tt;
        kept = λ other ne.
          others_quiet other v (freed v) refl (λ e. (none (v.lent other) (nat_eq other j) e, refl))
-         (lends_changed other v.lent j None (sym (ap (is_for other) (is_for-is h (v.lent j) l.mine) ∙ is_for-other other h ne)));
+         (lends_changed other v.lent j None (sym (ap (is_for other) (is_for-is h (v.lent j) l.mine) ∙ is_for-other other h ne))) (λ y. y);
        goes = λ y. refl;
        clean = λ y. y;
        begun = λ y. inl refl;
@@ -225,7 +228,7 @@ free_ok h j x w lends v xs o inv =
      })
   where
     freed : World → World
-    freed v = record { book = v.book; slots = v.slots; lent = changed v.lent j None }
+    freed v = record { book = v.book; slots = v.slots; lent = changed v.lent j None; clean = v.clean }
 
     none : (y : Option ℕ) (b : Bool) → y ≡ None → (if b then None else y) ≡ None
     none y true e = refl
@@ -245,7 +248,7 @@ give_ok h j w apart lends v xs o inv =
        inv = tt;
        kept = λ other ne.
          subst (λ (zs : List Step). Others other v zs handed) (sym (own_none other h (Gave j (v.book.tokens h)) ne))
-         (others_quiet other v handed refl (λ e. (e, tokens l other (nat_eq other j) refl e)) (λ i. refl));
+         (others_quiet other v handed refl (λ e. (e, tokens l other (nat_eq other j) refl e)) (λ i. refl) (λ y. y));
        goes = λ y. (handed.book, (refl, refl), refl);
        clean = λ y. y;
        begun = λ y. inr (subst (λ (zs : List Step). Begun desk (Give j) (onto zs (onto xs []))) (sym (own_one h (Gave j (v.book.tokens h)))) (subst (λ (zs : List Step). Begun desk (Give j) (Gave j (v.book.tokens h) ∷ onto zs [])) (sym at.0) ([], Given, (v.book.tokens h, refl))));
@@ -258,12 +261,34 @@ give_ok h j w apart lends v xs o inv =
      })
   where
     handed : World
-    handed = record { book = record { number = v.book.number; tokens = changed v.book.tokens j (v.book.tokens h) }; slots = v.slots; lent = v.lent }
+    handed = record { book = record { number = v.book.number; tokens = changed v.book.tokens j (v.book.tokens h) }; slots = v.slots; lent = v.lent; clean = v.clean }
 
     tokens : Lends h j v → (other : ℕ) (b : Bool) → nat_eq other j ≡ b → v.lent other ≡ None → (if b then v.book.tokens h else v.book.tokens other) ≡ v.book.tokens other
     tokens l other true t e =
         let c : ◌≡◌ {A = Option ℕ} None (Some h) = sym e ∙ ap v.lent (eqb-true other j t) ∙ is_for-is h (v.lent j) l.mine in cc
     tokens l other false t e = refl
+
+-- what is wiped is placed for nobody, so nothing is claimed of the list from then on
+reset_ok : (h : ℕ) (w : World) → Idle h w → Wp machine h (Begun desk Reset) (Ends desk h Reset) (program Reset) 2 [] w
+reset_ok h w idle v xs o inv =
+    let at = empty_stays h w v xs o idle.slot in
+    (λ y. inl at.0,
+     record {
+       inv = tt;
+       kept = λ other ne. others_quiet other v (record v { book = record { number = 0; tokens = v.book.tokens }; clean = false }) refl (λ e. (e, refl)) (λ j. refl) unclean;
+       goes = λ y. absurd (never y);
+       clean = unclean;
+       begun = λ y. inl refl;
+       left = 0;
+       falls = omega arith;
+       next = (λ y. absurd (never y), record { slot = at.1; lends = λ j. o.lends j ∙ idle.lends j });
+     })
+  where
+    never : false ≡ true → ⊥
+    never e = cc
+
+    unclean : false ≡ true → v.clean ≡ true
+    unclean e = cc
 
 -- Starts.
 not_lent : (o : Option ℕ) (b : Began Refusal World) (u : World) → start_if o b ≡ Begins u → b ≡ Begins u
@@ -277,7 +302,7 @@ unless_is false why x u e = (refl, e)
 begins_inj : (w u : World) → ◌≡◌ {A = Began Refusal World} (Begins w) (Begins u) → w ≡ u
 begins_inj w u e = cc
 
-reserved : (h j : ℕ) (w u : World) (o : Option ℕ) → reserve_if h j w o ≡ Begins u → (o ≡ None) × (record { book = w.book; slots = w.slots; lent = changed w.lent j (Some h) } ≡ u)
+reserved : (h j : ℕ) (w u : World) (o : Option ℕ) → reserve_if h j w o ≡ Begins u → (o ≡ None) × (record { book = w.book; slots = w.slots; lent = changed w.lent j (Some h); clean = w.clean } ≡ u)
 reserved h j w u None e = (refl, cc)
 reserved h j w u (Some g) e = cc
 
@@ -291,20 +316,20 @@ plainly h call busy w u idle free is first runs =
       kept = λ other ne b. subst (λ (x : World). Others other w [] x) is (others_same other w);
       rests = λ other ne b. subst (λ (x : World). Idle other x) is (idle other b);
       tree = ap (λ (x : World). x.book) (sym is);
-      clean = λ y. y;
+      clean = λ y. ap (λ (x : World). x.clean) is ∙ y;
       none = λ y. first;
       runs = λ i. runs (subst (λ (x : World). Idle h x) is (idle h free));
     }
 
 -- a start that reserves an idle hart
 give_right : (h j : ℕ) (busy : ℕ → Bool) (w : World) → ((other : ℕ) → busy other ≡ false → Idle other w) → busy h ≡ false → j ≢ h → busy j ≡ false → w.lent j ≡ None
-    → Right desk h (Give j) busy w (record { book = w.book; slots = w.slots; lent = changed w.lent j (Some h) })
+    → Right desk h (Give j) busy w (record { book = w.book; slots = w.slots; lent = changed w.lent j (Some h); clean = w.clean })
 give_right h j busy w idle free apart rests unlent =
     record {
       inv = λ i. i;
       halted = λ i. i;
       kept = λ other ne b.
-        others_quiet other w u refl (λ e. (changed_other w.lent j (Some h) other (not_j other b) ∙ e, refl)) (lends_changed other w.lent j (Some h) (is_for-other other h ne ∙ sym (ap (is_for other) unlent)));
+        others_quiet other w u refl (λ e. (changed_other w.lent j (Some h) other (not_j other b) ∙ e, refl)) (lends_changed other w.lent j (Some h) (is_for-other other h ne ∙ sym (ap (is_for other) unlent))) (λ y. y);
       rests = λ other ne b.
         let i = idle other b in
         record { slot = i.slot; lends = λ k. lends_changed other w.lent j (Some h) (is_for-other other h ne ∙ sym (ap (is_for other) unlent)) k ∙ i.lends k };
@@ -322,13 +347,14 @@ give_right h j busy w idle free apart rests unlent =
     }
   where
     u : World
-    u = record { book = w.book; slots = w.slots; lent = changed w.lent j (Some h) }
+    u = record { book = w.book; slots = w.slots; lent = changed w.lent j (Some h); clean = w.clean }
 
     not_j : (other : ℕ) → busy other ≡ true → other ≢ j
     not_j other b q = let c : true ≡ false = sym b ∙ ap busy q ∙ rests in cc
 
 call_ok : (h : ℕ) (call : Call) (busy : ℕ → Bool) (w u : World) → ((other : ℕ) → busy other ≡ false → Idle other w) → busy h ≡ false → start_call h call busy w ≡ Begins u → Right desk h call busy w u
 call_ok h (Request n) busy w u idle free e = plainly h (Request n) busy w u idle free (begins_inj w u e) (Swapped n 0 ∷ [], Got 0, refl) (request_ok h n u)
+call_ok h Reset busy w u idle free e = plainly h Reset busy w u idle free (begins_inj w u e) ([], Wiped, refl) (reset_ok h u)
 call_ok h (Help j) busy w u idle free e =
     let x = unless_is (nat_eq j h) Busy (Begins w) u e in
     plainly h (Help j) busy w u idle free (begins_inj w u x.1) ([], Helped true, refl) (help_ok h j u (eqb-false j h x.0))

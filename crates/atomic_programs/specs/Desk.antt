@@ -1,4 +1,5 @@
--- An example: requests that another hart serves, and tokens that are handed to an idle hart.
+-- An example: requests that another hart serves, tokens that are handed to an idle hart, and a call after which nothing is
+-- claimed of the list of steps any more.
 use Rattle.std.specs.Prelude.{◌≡◌, ◌⊎◌, ℕ, Bool, true, false, nat_eq, if◌then◌else◌, Option, Some, None, List, [], ◌∷◌}
 use Rattle.atomic_programs.specs.Prog.{Prog, Ret, Do, unmarked, Did, Waits, Ran}
 use Rattle.atomic_programs.specs.Logic.{Machine}
@@ -20,6 +21,8 @@ pub record World : Type 0 where
   pub slots : ℕ → Slot
   -- for whom a hart is reserved
   pub lent : ℕ → Option ℕ
+  -- nothing was wiped yet
+  pub clean : Bool
 
 pub data Op : Type 0 where
   Ask : ℕ → Op
@@ -27,6 +30,7 @@ pub data Op : Type 0 where
   Collect : Op
   Hand : ℕ → Op
   Free : ℕ → Op
+  Wipe : Op
 
 abbrev pub Answer : Op → Type 0
 Answer (Ask n) = Unit {0}
@@ -34,6 +38,7 @@ Answer (Serve j) = Bool
 Answer Collect = ℕ
 Answer (Hand j) = Unit {0}
 Answer (Free j) = Unit {0}
+Answer Wipe = Unit {0}
 
 pub data Step : Type 0 where
   Swapped : ℕ → ℕ → Step
@@ -59,6 +64,7 @@ go h (Serve j) m w = serve_if j w (w.slots j)
 go h Collect m w = collect_if h w (w.slots h)
 go h (Hand j) m w = Ran tt (record w { book = record { number = w.book.number; tokens = changed w.book.tokens j (w.book.tokens h) } })
 go h (Free j) m w = Ran tt (record w { lent = changed w.lent j None })
+go h Wipe m w = Ran tt (record w { book = record { number = 0; tokens = w.book.tokens }; clean = false })
 
 -- who serves a request places the asking hart's step
 abbrev pub served : ℕ → ℕ → Slot → List (ℕ × Step)
@@ -72,6 +78,7 @@ places h (Serve j) a m w = served j w.book.number (w.slots j)
 places h Collect a m w = []
 places h (Hand j) a m w = (h, Gave j (w.book.tokens h)) ∷ []
 places h (Free j) a m w = []
+places h Wipe a m w = []
 
 -- how a hart's place fares while the others step: a request may be served, with its step
 abbrev pub Fared : Slot → List Step → Slot → Type 0
@@ -88,6 +95,7 @@ pub record Others (h : ℕ) (v : World) (xs : List Step) (w : World) : Type 0 wh
   -- the tokens of a hart that is reserved may change
   pub tokens : v.lent h ≡ None → (w.lent h ≡ None) × (w.book.tokens h ≡ v.book.tokens h)
   pub lends : (j : ℕ) → is_for h (w.lent j) ≡ is_for h (v.lent j)
+  pub clean : w.clean ≡ true → v.clean ≡ true
 
 pub record Idle (h : ℕ) (w : World) : Type 0 where
   pub slot : w.slots h ≡ Empty
@@ -105,6 +113,7 @@ MayWait h (Serve j) w = ⊥
 MayWait h Collect w = IsAsked (w.slots h)
 MayWait h (Hand j) w = ⊥
 MayWait h (Free j) w = ⊥
+MayWait h Wipe w = ⊥
 
 abbrev pub machine : Machine
 machine =
@@ -124,18 +133,20 @@ machine =
       Others = Others;
       Idle = Idle;
       MayWait = MayWait;
-      Clean = λ w. Unit {0};
+      Clean = λ w. w.clean ≡ true;
     }
 
 pub data Call : Type 0 where
   Request : ℕ → Call
   Help : ℕ → Call
   Give : ℕ → Call
+  Reset : Call
 
 pub data Reply : Type 0 where
   Got : ℕ → Reply
   Helped : Bool → Reply
   Given : Reply
+  Wiped : Reply
 
 pub data Refusal : Type 0 where
   Busy : Refusal
@@ -148,17 +159,25 @@ abbrev pub program : Call → P Reply
 program (Request n) = Do (Ask n) unmarked (λ _. Do Collect unmarked (λ old. Ret (Got old)))
 program (Help j) = Do (Serve j) unmarked (λ b. Ret (Helped b))
 program (Give j) = Do (Hand j) unmarked (λ _. Do (Free j) unmarked (λ _. Ret Given))
+program Reset = Do Wipe unmarked (λ _. Ret Wiped)
 
 abbrev pub Written : Call → List Step → Reply → Type 0
 Written (Request n) es (Got old) = es ≡ Swapped n old ∷ []
 Written (Request n) es (Helped b) = ⊥
 Written (Request n) es Given = ⊥
+Written (Request n) es Wiped = ⊥
 Written (Help j) es (Got old) = ⊥
 Written (Help j) es (Helped b) = es ≡ []
 Written (Help j) es Given = ⊥
+Written (Help j) es Wiped = ⊥
 Written (Give j) es (Got old) = ⊥
 Written (Give j) es (Helped b) = ⊥
 Written (Give j) es Given = (x : ℕ) × (es ≡ Gave j x ∷ [])
+Written (Give j) es Wiped = ⊥
+Written Reset es (Got old) = ⊥
+Written Reset es (Helped b) = ⊥
+Written Reset es Given = ⊥
+Written Reset es Wiped = es ≡ []
 
 abbrev pub unless : Bool → Refusal → Began Refusal World → Began Refusal World
 unless true why b = Refuses why
@@ -172,6 +191,7 @@ abbrev pub start_call : ℕ → Call → (ℕ → Bool) → World → Began Refu
 start_call h (Request n) busy w = Begins w
 start_call h (Help j) busy w = unless (nat_eq j h) Busy (Begins w)
 start_call h (Give j) busy w = unless (nat_eq j h) Busy (unless (busy j) Busy (reserve_if h j w (w.lent j)))
+start_call h Reset busy w = Begins w
 
 -- a hart that is reserved starts nothing
 abbrev pub start_if : Option ℕ → Began Refusal World → Began Refusal World
@@ -193,4 +213,4 @@ desk =
     }
 
 abbrev pub rest : ℕ → (ℕ → ℕ) → World
-rest x tokens = record { book = record { number = x; tokens = tokens }; slots = λ h. Empty; lent = λ h. None }
+rest x tokens = record { book = record { number = x; tokens = tokens }; slots = λ h. Empty; lent = λ h. None; clean = true }

@@ -1,9 +1,10 @@
 //! The theorems, at the examples: a contract can't speak of every theory, so the general lemmas stand in `proofs`, for a
 //! project to use at its own theory, and each function here carries one of them at an example of this crate.
 
-ghost use Rattle.std.specs.Prelude.{◌≡◌, ℕ, ◌∷◌, [], List, Option, None, true};
+ghost use Rattle.std.specs.Prelude.{◌≡◌, ℕ, ◌∷◌, [], List, Option, None, true, false};
 ghost use Rattle.atomic_programs.specs.Calls.{Event, Start, Step, Finished, Placed, Outcome, Started, Refused, WasIdle, DidWait, DidRun, DidEnd, DidStop, WasStopped, run, outcomes, fresh};
-ghost use Rattle.atomic_programs.specs.Explained.{Explained, Steady, history};
+ghost use Rattle.atomic_programs.specs.Explained.{Explained, Steady, In, history};
+ghost use Rattle.atomic_programs.specs.Trace.{Traced, happened};
 ghost use Rattle.atomic_programs.specs.Cell as cell;
 ghost use Rattle.atomic_programs.specs.Desk as desk;
 ghost use Rattle.atomic_programs.specs.Staged as staged;
@@ -18,6 +19,12 @@ pub fn cell_explained()
 /// takes starts as before.
 pub fn cell_steady()
     ensures { Steady cell.swaps }
+{}
+
+/// The calls that have finished or are under way are just those that the events with their outcomes show: each reply that was
+/// given is a finished call's, and each of these was started and gave its reply.
+pub fn cell_traced()
+    ensures { (w : cell.World) (events : List (Event cell.Call)) → Traced cell.swaps (λ x. In x (happened cell.swaps events (fresh cell.swaps w))) (run cell.swaps events (fresh cell.swaps w)) }
 {}
 
 /// There are worlds that hold and where every hart is idle: any number, any fuse.
@@ -56,6 +63,12 @@ pub fn desk_helps()
 /// A hart that is reserved for another's call starts nothing until that call's reply.
 pub fn desk_reserves()
     ensures { outcomes desk.desk (Start 0 (desk.Give 1) ∷ Start 1 (desk.Help 0) ∷ Step 0 ∷ Start 1 (desk.Help 0) ∷ Step 0 ∷ Start 1 (desk.Help 0) ∷ Start 0 (desk.Give 1) ∷ []) (fresh desk.desk (desk.rest 5 (λ h. 0))) ≡ Started ∷ Refused desk.Reserved ∷ DidRun (desk.Hand 1) ∷ Refused desk.Reserved ∷ DidEnd (desk.Free 1) desk.Given ∷ Started ∷ Refused desk.Busy ∷ [] }
+{}
+
+/// After a wipe no reply is explained: the list has a step that the number didn't take.
+pub fn desk_unclean()
+    ensures clean { (run desk.desk (Start 0 desk.Reset ∷ Step 0 ∷ []) (fresh desk.desk (desk.rest 5 (λ h. 0)))).world.clean ≡ false }
+    ensures history { history desk.desk (run desk.desk (Start 0 desk.Reset ∷ Step 0 ∷ Start 0 (desk.Request 7) ∷ Step 0 ∷ Start 1 (desk.Help 0) ∷ Step 1 ∷ []) (fresh desk.desk (desk.rest 5 (λ h. 0)))) ≡ record { number = 5; hart = 0; call = 2; step = desk.Swapped 7 0 } ∷ [] }
 {}
 
 /// The cell's calls over the machine below, where a store takes two operations: explained by lifting what was shown above.
