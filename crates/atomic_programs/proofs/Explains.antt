@@ -4,8 +4,8 @@ use Rattle.std.proofs.lemmas.Bool.{eqb-true, eqb-false, eq-eqb, ne_eqb}
 use Rattle.std.specs.Prelude.{nat_eq, if◌then◌else◌}
 use Rattle.atomic_programs.specs.Prog.{Ret, Do, Did, Waits, Ran, Stops}
 use Rattle.atomic_programs.specs.Logic.{Machine, P, own, onto, oldest_first, Goes, Grown, Halts, Good, Wp}
-use Rattle.atomic_programs.specs.Calls.{Theory, Began, Refuses, Begins, IsBeginning, Begun, Ends, Right, Lawful, Run, Placed, Finished, State, Event, Start, Step, Came, DidWait, Made, changed, is_some, start_of, placed, told, all_told, unchanged, moved, tried, step_prog, step_unless, step_run, begun, busy_in, start_run, makes, next, run, fresh}
-use Rattle.atomic_programs.specs.Explained.{In, steps_of, history, IsOfCall, Blocked, Holds, Explained}
+use Rattle.atomic_programs.specs.Calls.{Theory, Began, Refuses, Begins, IsBeginning, Begun, Ends, Right, Lawful, Run, Placed, Finished, State, Event, Start, Step, DidWait, changed, is_some, start_of, placed, told, all_told, unchanged, moved, tried, step_prog, step_unless, step_run, begun, busy_in, start_run, makes, next, run, fresh}
+use Rattle.atomic_programs.specs.Explained.{In, steps_of, IsOfCall, Blocked, Holds, Explained}
 use Rattle.atomic_programs.proofs.Sound.{Wp-others, Grown-all}
 use Rattle.atomic_programs.proofs.History.{Chained, Falling, chain_turned, rising_turned, steps_turned, in_history, In-own, steps_of-placed, steps_of-other, steps_of-none, New, In-placed, Falling-more, Falling-placed, Chained-placed, below_of}
 
@@ -88,9 +88,10 @@ Keeps-unchanged L base s k =
 
 -- Ends lasts while the others place nothing
 pub ends_last : (L : Theory) (laws : Lawful L) (j : ℕ) (call : L.Call) (a : L.Reply) (es xs : List L.M.Step) (x y : L.M.World) → L.M.Others j x xs y → Ends L j call a es x → Ends L j call a (onto xs es) y
-ends_last L laws j call a es xs x y o e =
-    (λ z. subst (λ (zs : List L.M.Step). L.Written call (oldest_first (onto zs es)) a) (sym (laws.laws.idle_none j x y xs o e.1)) (e.0 (laws.laws.clean_before j x y xs o z)),
-     laws.laws.idle_stays j x y xs o e.1)
+ends_last L laws j call a es xs x y o e = (
+  λ z. subst (λ (zs : List L.M.Step). L.Written call (oldest_first (onto zs es)) a) (sym (laws.laws.idle_none j x y xs o e.1)) (e.0 (laws.laws.clean_before j x y xs o z)),
+  laws.laws.idle_stays j x y xs o e.1,
+)
 
 -- what others place for a call is a beginning of its sequence still
 pub grown_of : (L : Machine) {A : Type 0} (h : ℕ) (p : P L A) (B : List L.Step → Type 0) (Q : A → List L.Step → L.World → Type 0) (n : ℕ) (es xs : List L.Step) (w v : L.World)
@@ -302,8 +303,8 @@ module _ (L : Theory) (laws : Lawful L) (base : L.M.Tree) (h : ℕ) (s : State L
         bounded = g.bounded;
         wp = λ x. Wp-others L.M laws.laws j q.prog (Begun L q.call) (Ends L j q.call) g.left q.done (own j ps) s.world w (λ a e. ends_last L laws j q.call a q.done (own j ps) s.world w o e) o (g.wp x);
         first = λ y.
-          Grown-all (Begun L q.call) (own j ps) q.done (g.first (st.clean y))
-          (grown_of L.M j q.prog (Begun L q.call) (Ends L j q.call) g.left q.done (own j ps) s.world w (λ a e. laws.laws.idle_none j s.world w (own j ps) o e.1) o st.inv (g.wp st.goes_on) y);
+            Grown-all (Begun L q.call) (own j ps) q.done (g.first (st.clean y))
+            (grown_of L.M j q.prog (Begun L q.call) (Ends L j q.call) g.left q.done (own j ps) s.world w (λ a e. laws.laws.idle_none j s.world w (own j ps) o e.1) o st.inv (g.wp st.goes_on) y);
         done_is = ap (onto (own j ps)) g.done_is ∙ sym (steps_of-placed L s.now q.start j s.running ps s.list (same_call j q run));
         begun = (let b : q.start < s.now = g.begun in omega arith);
         after = after2 j q run;
@@ -532,7 +533,7 @@ module _ (L : Theory) (laws : Lawful L) (base : L.M.Tree) (s : State L) (k : Kee
         is = e;
         asks = is;
         may = subst (λ (x : Did (L.M.Answer op) L.M.World). Good L.M (L.M.Answer op) h (λ a. L.M.places h op a (m a) s.world) g.left (Begun L r.call) r.done s.world (L.M.MayWait h op s.world) x (λ l a u. Wp L.M h (Begun L r.call) (Ends L h r.call) (c a) l (onto (own h (L.M.places h op a (m a) s.world)) r.done) u)) none
-          (wp s.world [] (laws.laws.same h s.world) (inv_of L s.stopped s.world k.holds y)).1;
+            (wp s.world [] (laws.laws.same h s.world) (inv_of L s.stopped s.world k.holds y)).1;
       }
   wait_tried r op m c (Ran a u) e is y none w = absurd (wait_moved (c a) w)
     where
@@ -564,8 +565,8 @@ explained_by L laws base s k =
       chained = λ y. chain_turned L base (L.M.tree s.world) (L.M.tree s.world) s.list [] (k.chained y) refl;
       whole = λ y f i. subst (λ (x : List L.M.Step). L.Written f.call x f.reply) (sym (steps_turned L f.start s.list [])) ((k.over f i).whole y);
       begun = λ y h r e.
-        let g = k.going h r e in
-        subst (IsBeginning L r.call) (ap oldest_first g.done_is ∙ sym (steps_turned L r.start s.list [])) (g.first y);
+          let g = k.going h r e in
+          subst (IsBeginning L r.call) (ap oldest_first g.done_is ∙ sym (steps_turned L r.start s.list [])) (g.first y);
       owned = λ e i. k.owned e (in_history e s.list i);
       within = λ f i e j. (k.over f i).within e (in_history e s.list j);
       after = λ h r x e j q. ((k.going h r x).after e (in_history e s.list j) q, below_of L s.list s.now k.falling e (in_history e s.list j));

@@ -4,7 +4,7 @@ use Rattle.std.proofs.lemmas.Bool.{eq-eqb, ne_eqb}
 use Rattle.std.specs.Prelude.{nat_eq, if◌then◌else◌, ◌≢◌}
 use Rattle.atomic_programs.specs.Logic.{own, onto, Goes}
 use Rattle.atomic_programs.specs.Calls.{Theory, Run, Placed, start_of, placed}
-use Rattle.atomic_programs.specs.Explained.{In, steps_of, Chain, Rising, history}
+use Rattle.atomic_programs.specs.Explained.{In, steps_of, Chain, Rising}
 
 -- the sequential object came from base to t through these entries, the newest first
 abbrev pub Chained : (L : Theory) → L.M.Tree → List (Placed L) → L.M.Tree → Type 0

@@ -1,6 +1,6 @@
 -- What holds of a program over the machine above holds of the lowered program below.
-use Rattle.std.proofs.Common.{◌≡◌, ◌≤◌, ◌<◌, ◌+◌, ◌*◌, ℕ, suc, Option, List, refl, sym, subst, arith}
-use Rattle.atomic_programs.specs.Prog.{Ret, Do, bind, once, Did, Waits, Ran, Stops}
+use Rattle.std.proofs.Common.{◌≤◌, ◌<◌, ◌+◌, ◌*◌, ℕ, suc, Option, List, refl, sym, subst, arith}
+use Rattle.atomic_programs.specs.Prog.{Ret, Do, bind, Did, Waits, Ran, Stops}
 use Rattle.atomic_programs.specs.Logic.{Machine, P, onto, placed_with, Grown, Good, Wp, Laws}
 use Rattle.atomic_programs.specs.Layers.{Layer, lowered, steps_below, BeginsBelow, Below, Lasts, Atomic}
 use Rattle.atomic_programs.proofs.Sound.{Wp-weaker, Wp-more, Wp-bind, Wp-others}

@@ -1,12 +1,12 @@
 -- The calls at the desk do as they should.
-use Rattle.std.proofs.Common.{◌≡◌, ◌≢◌, ◌<◌, ℕ, Option, Some, None, Bool, true, false, List, [], ◌∷◌, ◌++◌, refl, sym, ◌∙◌, ap, subst, arith, ◌⊎◌, inl, inr}
+use Rattle.std.proofs.Common.{◌≡◌, ◌≢◌, ℕ, Option, Some, None, Bool, true, false, List, [], ◌∷◌, ◌++◌, refl, sym, ◌∙◌, ap, subst, arith, ◌⊎◌, inl, inr}
 use Rattle.std.proofs.lemmas.Bool.{eqb-true, eqb-false, eq-eqb, ne_eqb}
 use Rattle.std.specs.Prelude.{nat_eq, if◌then◌else◌}
-use Rattle.atomic_programs.specs.Prog.{Prog, Ret, Do, unmarked, Did, Waits, Ran, Stops}
+use Rattle.atomic_programs.specs.Prog.{Ret, Do, unmarked}
 use Rattle.atomic_programs.specs.Logic.{own, onto, Grown, Fine, Good, Wp, Laws}
-use Rattle.atomic_programs.specs.Calls.{Began, Refuses, Begins, IsBeginning, Begun, Ends, Right, Lawful, Event, changed, run, fresh}
+use Rattle.atomic_programs.specs.Calls.{Began, Begins, IsBeginning, Begun, Ends, Right, Lawful, Event, changed, run, fresh}
 use Rattle.atomic_programs.specs.Explained.{Explained}
-use Rattle.atomic_programs.specs.Desk.{Slot, Empty, Asked, Served, Book, World, Op, Ask, Serve, Collect, Hand, Free, Wipe, Answer, Step, Swapped, Gave, Happens, go, serve_if, collect_if, served, places, Fared, is_for, Others, Idle, IsAsked, MayWait, machine, Call, Request, Help, Give, Reset, Reply, Got, Helped, Given, Wiped, Refusal, Busy, Reserved, P, program, Written, unless, reserve_if, start_call, start_if, desk}
+use Rattle.atomic_programs.specs.Desk.{Slot, Empty, Asked, Served, World, Collect, Free, Step, Swapped, Gave, serve_if, collect_if, served, Fared, is_for, Others, Idle, IsAsked, machine, Call, Request, Help, Give, Reset, Got, Helped, Given, Wiped, Refusal, Busy, program, unless, reserve_if, start_call, start_if, desk}
 use Rattle.atomic_programs.proofs.Explains.{changed_same, changed_other, explains}
 
 fared_same : (s : Slot) → Fared s [] s
@@ -84,34 +84,36 @@ collect_ok h n w asked lends v xs o inv = at (subst (λ (z : Slot). Fared z xs (
         → (v.clean ≡ true → Grown (Begun desk (Request n)) xs []) × Good machine ℕ h (λ a. []) 1 (Begun desk (Request n)) (onto xs []) v (IsAsked (v.slots h)) (collect_if h v (v.slots h)) (λ l a u. Ends desk h (Request n) (Got a) (onto xs []) u)
     at (inl a) = goal (Asked n) [] a.1 a.0 (λ y. inl refl, tt)
     at (inr a) =
-        goal (Served a.0) (Swapped n a.0 ∷ []) a.2 a.1
-        (λ y. inr ([], Got a.0, refl),
-         record {
-           inv = tt;
-           kept = λ other ne. others_quiet other v (record v { slots = changed v.slots h Empty }) (changed_other v.slots h Empty other ne) (λ e. (e, refl)) (λ j. refl) (λ y. y);
-           goes = λ y. refl;
-           clean = λ y. y;
-           begun = λ y. inl refl;
-           left = 0;
-           falls = omega arith;
-           next = (λ y. refl, record { slot = changed_same v.slots h Empty h refl; lends = λ j. o.lends j ∙ lends j });
-         })
+        goal (Served a.0) (Swapped n a.0 ∷ []) a.2 a.1 (
+          λ y. inr ([], Got a.0, refl),
+          record {
+            inv = tt;
+            kept = λ other ne. others_quiet other v (record v { slots = changed v.slots h Empty }) (changed_other v.slots h Empty other ne) (λ e. (e, refl)) (λ j. refl) (λ y. y);
+            goes = λ y. refl;
+            clean = λ y. y;
+            begun = λ y. inl refl;
+            left = 0;
+            falls = omega arith;
+            next = (λ y. refl, record { slot = changed_same v.slots h Empty h refl; lends = λ j. o.lends j ∙ lends j });
+          },
+        )
 
 request_ok : (h n : ℕ) (w : World) → Idle h w → Wp machine h (Begun desk (Request n)) (Ends desk h (Request n)) (program (Request n)) 2 [] w
 request_ok h n w idle v xs o inv =
-    let at = empty_stays h w v xs o idle.slot in
-    (λ y. inl at.0,
-     record {
-       inv = tt;
-       kept = λ other ne. others_quiet other v (record v { slots = changed v.slots h (Asked n) }) (changed_other v.slots h (Asked n) other ne) (λ e. (e, refl)) (λ j. refl) (λ y. y);
-       goes = λ y. refl;
-       clean = λ y. y;
-       begun = λ y. inl refl;
-       left = 1;
-       falls = omega arith;
-       next = subst (λ (zs : List Step). Wp machine h (Begun desk (Request n)) (Ends desk h (Request n)) (Do Collect unmarked (λ old. Ret (Got old))) 1 (onto zs []) (record v { slots = changed v.slots h (Asked n) })) (sym at.0)
-         (collect_ok h n (record v { slots = changed v.slots h (Asked n) }) (changed_same v.slots h (Asked n) h refl) (λ j. o.lends j ∙ idle.lends j));
-     })
+    let at = empty_stays h w v xs o idle.slot in (
+      λ y. inl at.0,
+      record {
+        inv = tt;
+        kept = λ other ne. others_quiet other v (record v { slots = changed v.slots h (Asked n) }) (changed_other v.slots h (Asked n) other ne) (λ e. (e, refl)) (λ j. refl) (λ y. y);
+        goes = λ y. refl;
+        clean = λ y. y;
+        begun = λ y. inl refl;
+        left = 1;
+        falls = omega arith;
+        next = subst (λ (zs : List Step). Wp machine h (Begun desk (Request n)) (Ends desk h (Request n)) (Do Collect unmarked (λ old. Ret (Got old))) 1 (onto zs []) (record v { slots = changed v.slots h (Asked n) })) (sym at.0)
+            (collect_ok h n (record v { slots = changed v.slots h (Asked n) }) (changed_same v.slots h (Asked n) h refl) (λ j. o.lends j ∙ idle.lends j));
+      },
+    )
 
 -- the world after hart j's request of n was served
 abbrev served_by : ℕ → ℕ → World → World
@@ -178,8 +180,8 @@ help_ok h j w apart idle v xs o inv =
           left = 0;
           falls = omega arith;
           next =
-            subst (λ (zs : List Step). Ends desk h (Help j) (Helped true) (onto zs []) (served_by j n v)) (sym (own_none h j (Swapped n v.book.number) (λ q. apart (sym q))))
-            (λ y. refl, record { slot = changed_other v.slots j (Served v.book.number) h (λ q. apart (sym q)) ∙ empty; lends = λ i. o.lends i ∙ idle.lends i });
+              subst (λ (zs : List Step). Ends desk h (Help j) (Helped true) (onto zs []) (served_by j n v)) (sym (own_none h j (Swapped n v.book.number) (λ q. apart (sym q))))
+              (λ y. refl, record { slot = changed_other v.slots j (Served v.book.number) h (λ q. apart (sym q)) ∙ empty; lends = λ i. o.lends i ∙ idle.lends i });
         })
 
 is_for-is : (h : ℕ) (o : Option ℕ) → is_for h o ≡ true → o ≡ Some h
@@ -212,20 +214,21 @@ lends_changed g f j x same i = at (nat_eq i j) refl
 free_ok : (h j x : ℕ) (w : World) → Lends h j w → Wp machine h (Begun desk (Give j)) (Ends desk h (Give j)) (Do (Free j) unmarked (λ _. Ret Given)) 1 (Gave j x ∷ []) w
 free_ok h j x w lends v xs o inv =
     let at = lends_stays h j w v xs o lends in
-    let l = at.1 in
-    (λ y. inl at.0,
-     record {
-       inv = tt;
-       kept = λ other ne.
-         others_quiet other v (freed v) refl (λ e. (none (v.lent other) (nat_eq other j) e, refl))
-         (lends_changed other v.lent j None (sym (ap (is_for other) (is_for-is h (v.lent j) l.mine) ∙ is_for-other other h ne))) (λ y. y);
-       goes = λ y. refl;
-       clean = λ y. y;
-       begun = λ y. inl refl;
-       left = 0;
-       falls = omega arith;
-       next = subst (λ (zs : List Step). Ends desk h (Give j) Given (onto zs (Gave j x ∷ [])) (freed v)) (sym at.0) (λ y. (x, refl), record { slot = l.slot; lends = λ i. idle l i (nat_eq i j) refl });
-     })
+    let l = at.1 in (
+      λ y. inl at.0,
+      record {
+        inv = tt;
+        kept = λ other ne.
+            others_quiet other v (freed v) refl (λ e. (none (v.lent other) (nat_eq other j) e, refl))
+            (lends_changed other v.lent j None (sym (ap (is_for other) (is_for-is h (v.lent j) l.mine) ∙ is_for-other other h ne))) (λ y. y);
+        goes = λ y. refl;
+        clean = λ y. y;
+        begun = λ y. inl refl;
+        left = 0;
+        falls = omega arith;
+        next = subst (λ (zs : List Step). Ends desk h (Give j) Given (onto zs (Gave j x ∷ [])) (freed v)) (sym at.0) (λ y. (x, refl), record { slot = l.slot; lends = λ i. idle l i (nat_eq i j) refl });
+      },
+    )
   where
     freed : World → World
     freed v = record { book = v.book; slots = v.slots; lent = changed v.lent j None; clean = v.clean }
@@ -242,23 +245,24 @@ free_ok h j x w lends v xs o inv =
 give_ok : (h j : ℕ) (w : World) → j ≢ h → Lends h j w → Wp machine h (Begun desk (Give j)) (Ends desk h (Give j)) (program (Give j)) 2 [] w
 give_ok h j w apart lends v xs o inv =
     let at = lends_stays h j w v xs o lends in
-    let l = at.1 in
-    (λ y. inl at.0,
-     record {
-       inv = tt;
-       kept = λ other ne.
-         subst (λ (zs : List Step). Others other v zs handed) (sym (own_none other h (Gave j (v.book.tokens h)) ne))
-         (others_quiet other v handed refl (λ e. (e, tokens l other (nat_eq other j) refl e)) (λ i. refl) (λ y. y));
-       goes = λ y. (handed.book, (refl, refl), refl);
-       clean = λ y. y;
-       begun = λ y. inr (subst (λ (zs : List Step). Begun desk (Give j) (onto zs (onto xs []))) (sym (own_one h (Gave j (v.book.tokens h)))) (subst (λ (zs : List Step). Begun desk (Give j) (Gave j (v.book.tokens h) ∷ onto zs [])) (sym at.0) ([], Given, (v.book.tokens h, refl))));
-       left = 1;
-       falls = omega arith;
-       next =
-         subst (λ (zs : List Step). Wp machine h (Begun desk (Give j)) (Ends desk h (Give j)) (Do (Free j) unmarked (λ _. Ret Given)) 1 (onto zs (onto xs [])) handed) (sym (own_one h (Gave j (v.book.tokens h))))
-         (subst (λ (zs : List Step). Wp machine h (Begun desk (Give j)) (Ends desk h (Give j)) (Do (Free j) unmarked (λ _. Ret Given)) 1 (Gave j (v.book.tokens h) ∷ onto zs []) handed) (sym at.0)
-         (free_ok h j (v.book.tokens h) handed (record { slot = l.slot; mine = l.mine; only = l.only })));
-     })
+    let l = at.1 in (
+      λ y. inl at.0,
+      record {
+        inv = tt;
+        kept = λ other ne.
+            subst (λ (zs : List Step). Others other v zs handed) (sym (own_none other h (Gave j (v.book.tokens h)) ne))
+            (others_quiet other v handed refl (λ e. (e, tokens l other (nat_eq other j) refl e)) (λ i. refl) (λ y. y));
+        goes = λ y. (handed.book, (refl, refl), refl);
+        clean = λ y. y;
+        begun = λ y. inr (subst (λ (zs : List Step). Begun desk (Give j) (onto zs (onto xs []))) (sym (own_one h (Gave j (v.book.tokens h)))) (subst (λ (zs : List Step). Begun desk (Give j) (Gave j (v.book.tokens h) ∷ onto zs [])) (sym at.0) ([], Given, (v.book.tokens h, refl))));
+        left = 1;
+        falls = omega arith;
+        next =
+            subst (λ (zs : List Step). Wp machine h (Begun desk (Give j)) (Ends desk h (Give j)) (Do (Free j) unmarked (λ _. Ret Given)) 1 (onto zs (onto xs [])) handed) (sym (own_one h (Gave j (v.book.tokens h))))
+            (subst (λ (zs : List Step). Wp machine h (Begun desk (Give j)) (Ends desk h (Give j)) (Do (Free j) unmarked (λ _. Ret Given)) 1 (Gave j (v.book.tokens h) ∷ onto zs []) handed) (sym at.0)
+            (free_ok h j (v.book.tokens h) handed (record { slot = l.slot; mine = l.mine; only = l.only })));
+      },
+    )
   where
     handed : World
     handed = record { book = record { number = v.book.number; tokens = changed v.book.tokens j (v.book.tokens h) }; slots = v.slots; lent = v.lent; clean = v.clean }
@@ -271,18 +275,19 @@ give_ok h j w apart lends v xs o inv =
 -- what is wiped is placed for nobody, so nothing is claimed of the list from then on
 reset_ok : (h : ℕ) (w : World) → Idle h w → Wp machine h (Begun desk Reset) (Ends desk h Reset) (program Reset) 2 [] w
 reset_ok h w idle v xs o inv =
-    let at = empty_stays h w v xs o idle.slot in
-    (λ y. inl at.0,
-     record {
-       inv = tt;
-       kept = λ other ne. others_quiet other v (record v { book = record { number = 0; tokens = v.book.tokens }; clean = false }) refl (λ e. (e, refl)) (λ j. refl) unclean;
-       goes = λ y. absurd (never y);
-       clean = unclean;
-       begun = λ y. inl refl;
-       left = 0;
-       falls = omega arith;
-       next = (λ y. absurd (never y), record { slot = at.1; lends = λ j. o.lends j ∙ idle.lends j });
-     })
+    let at = empty_stays h w v xs o idle.slot in (
+      λ y. inl at.0,
+      record {
+        inv = tt;
+        kept = λ other ne. others_quiet other v (record v { book = record { number = 0; tokens = v.book.tokens }; clean = false }) refl (λ e. (e, refl)) (λ j. refl) unclean;
+        goes = λ y. absurd (never y);
+        clean = unclean;
+        begun = λ y. inl refl;
+        left = 0;
+        falls = omega arith;
+        next = (λ y. absurd (never y), record { slot = at.1; lends = λ j. o.lends j ∙ idle.lends j });
+      },
+    )
   where
     never : false ≡ true → ⊥
     never e = cc
@@ -329,21 +334,21 @@ give_right h j busy w idle free apart rests unlent =
       inv = λ i. i;
       halted = λ i. i;
       kept = λ other ne b.
-        others_quiet other w u refl (λ e. (changed_other w.lent j (Some h) other (not_j other b) ∙ e, refl)) (lends_changed other w.lent j (Some h) (is_for-other other h ne ∙ sym (ap (is_for other) unlent))) (λ y. y);
+          others_quiet other w u refl (λ e. (changed_other w.lent j (Some h) other (not_j other b) ∙ e, refl)) (lends_changed other w.lent j (Some h) (is_for-other other h ne ∙ sym (ap (is_for other) unlent))) (λ y. y);
       rests = λ other ne b.
-        let i = idle other b in
-        record { slot = i.slot; lends = λ k. lends_changed other w.lent j (Some h) (is_for-other other h ne ∙ sym (ap (is_for other) unlent)) k ∙ i.lends k };
+          let i = idle other b in
+          record { slot = i.slot; lends = λ k. lends_changed other w.lent j (Some h) (is_for-other other h ne ∙ sym (ap (is_for other) unlent)) k ∙ i.lends k };
       tree = refl;
       clean = λ y. y;
       none = λ y. (Gave j 0 ∷ [], Given, (0, refl));
       runs = λ i.
-        let mine = idle h free in
-        give_ok h j u apart
-        (record {
-          slot = mine.slot;
-          mine = ap (is_for h) (changed_same w.lent j (Some h) j refl) ∙ eq-eqb h h refl;
-          only = λ k ne. ap (is_for h) (changed_other w.lent j (Some h) k ne) ∙ mine.lends k;
-        });
+          let mine = idle h free in
+          give_ok h j u apart
+          (record {
+            slot = mine.slot;
+            mine = ap (is_for h) (changed_same w.lent j (Some h) j refl) ∙ eq-eqb h h refl;
+            only = λ k ne. ap (is_for h) (changed_other w.lent j (Some h) k ne) ∙ mine.lends k;
+          });
     }
   where
     u : World

@@ -1,6 +1,6 @@
 -- The rules of the logic.
-use Rattle.std.proofs.Common.{◌≡◌, ◌≤◌, ◌<◌, ◌+◌, ℕ, List, [], ◌∷◌, ◌++◌, refl, sym, ◌∙◌, subst, arith, ◌⊎◌, inl, inr}
-use Rattle.atomic_programs.specs.Prog.{Prog, Ret, Do, bind, Did, Waits, Ran, Stops}
+use Rattle.std.proofs.Common.{◌≡◌, ◌≤◌, ◌<◌, ◌+◌, ℕ, List, [], ◌∷◌, ◌++◌, refl, sym, subst, arith, inl, inr}
+use Rattle.atomic_programs.specs.Prog.{Ret, Do, bind, Did, Waits, Ran, Stops}
 use Rattle.atomic_programs.specs.Logic.{Machine, P, own, onto, placed_with, Grown, Good, Wp, Safe, Laws}
 use Rattle.atomic_programs.proofs.Prog.{bind-assoc}
 
@@ -38,9 +38,10 @@ pub Wp-weaker : (L : Machine) {A : Type 0} (h : ℕ) (p : P L A) (B C : List L.S
     → ((fs : List L.Step) → B fs → C fs) → ((a : A) (fs : List L.Step) (v : L.World) → Q a fs v → R a fs v) → Wp L h B Q p n es w → Wp L h C R p n es w
 Wp-weaker L h (Ret a) B C Q R n es w b f g = f a es w g
 Wp-weaker L h (Do op m k) B C Q R n es w b f g =
-    λ v xs o i.
-    (λ y. Grown-weaker B C xs es b ((g v xs o i).0 y),
-     Good-weaker L h (placed_with L h op m v) n B C (onto xs es) v (L.MayWait h op v) (L.go h op m v) _ _ b (λ l a u. Wp-weaker L h (k a) B C Q R l _ u b f) (g v xs o i).1)
+    λ v xs o i. (
+      λ y. Grown-weaker B C xs es b ((g v xs o i).0 y),
+      Good-weaker L h (placed_with L h op m v) n B C (onto xs es) v (L.MayWait h op v) (L.go h op m v) _ _ b (λ l a u. Wp-weaker L h (k a) B C Q R l _ u b f) (g v xs o i).1,
+    )
 
 -- it lasts while the others step
 pub Wp-others : (L : Machine) (laws : Laws L) {A : Type 0} (h : ℕ) (p : P L A) (B : List L.Step → Type 0) (Q : A → List L.Step → L.World → Type 0) (n : ℕ) (es xs : List L.Step) (v w : L.World)
@@ -48,10 +49,11 @@ pub Wp-others : (L : Machine) (laws : Laws L) {A : Type 0} (h : ℕ) (p : P L A)
 Wp-others L laws h (Ret a) B Q n es xs v w stays o g = stays a g
 Wp-others L laws h (Do op m k) B Q n es xs v w stays o g =
     λ u ys o2 i.
-    let both = g u (xs ++ ys) (laws.trans h v w u xs ys o o2) i in
-    (λ y. Grown-rest B xs ys es (both.0 y),
-     subst (λ (zs : List L.Step). Good L (L.Answer op) h (placed_with L h op m u) n B zs u (L.MayWait h op u) (L.go h op m u) (λ l a x. Wp L h B Q (k a) l (onto (own h (L.places h op a (m a) u)) zs) x))
-     (onto-append xs ys es) both.1)
+    let both = g u (xs ++ ys) (laws.trans h v w u xs ys o o2) i in (
+      λ y. Grown-rest B xs ys es (both.0 y),
+      subst (λ (zs : List L.Step). Good L (L.Answer op) h (placed_with L h op m u) n B zs u (L.MayWait h op u) (L.go h op m u) (λ l a x. Wp L h B Q (k a) l (onto (own h (L.places h op a (m a) u)) zs) x))
+          (onto-append xs ys es) both.1,
+    )
 
 -- more steps may be left
 pub Wp-more : (L : Machine) {A : Type 0} (h : ℕ) (p : P L A) (B : List L.Step → Type 0) (Q : A → List L.Step → L.World → Type 0) (n m : ℕ) (es : List L.Step) (w : L.World)

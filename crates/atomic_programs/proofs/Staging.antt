@@ -1,14 +1,14 @@
 -- What was shown of the cell's calls holds of them over the machine below.
-use Rattle.std.proofs.Common.{◌≡◌, ◌≢◌, ◌<◌, ◌+◌, ◌*◌, ℕ, suc, Option, Some, None, Bool, true, false, List, [], ◌∷◌, ◌++◌, refl, sym, ◌∙◌, ap, subst, arith, inl, inr}
+use Rattle.std.proofs.Common.{◌≡◌, ◌<◌, ◌*◌, ℕ, suc, Option, None, Bool, true, false, List, [], ◌∷◌, ◌++◌, refl, sym, ◌∙◌, ap, subst, arith, inl}
 use Rattle.std.specs.Prelude.{nat_lt}
-use Rattle.atomic_programs.specs.Prog.{Prog, Ret, Do, once, unmarked, Did, Waits, Ran, Stops}
-use Rattle.atomic_programs.specs.Logic.{own, onto, oldest_first, Grown, Good, Wp, Laws}
-use Rattle.atomic_programs.specs.Calls.{Began, Begins, IsBeginning, Begun, Ends, Right, Lawful, Event, changed, run, fresh}
+use Rattle.atomic_programs.specs.Prog.{Prog, Do, once, unmarked, Did, Waits, Ran, Stops}
+use Rattle.atomic_programs.specs.Logic.{own, onto, oldest_first, Good, Wp, Laws}
+use Rattle.atomic_programs.specs.Calls.{Began, Begins, Begun, Ends, Right, Lawful, Event, run, fresh}
 use Rattle.atomic_programs.specs.Explained.{Explained}
 use Rattle.atomic_programs.specs.Plain.{did_in}
-use Rattle.atomic_programs.specs.Layers.{lowered, steps_below, BeginsBelow, Below, Lasts, Atomic}
+use Rattle.atomic_programs.specs.Layers.{lowered, steps_below, BeginsBelow, Below, Atomic}
 use Rattle.atomic_programs.specs.Cell as cell
-use Rattle.atomic_programs.specs.Staged.{World, Op, Take, Fetch, Stage, Write, Drop, Answer, with_whole, go, Others, machine, handler, layer, staged_swaps}
+use Rattle.atomic_programs.specs.Staged.{World, Op, Take, Fetch, Stage, Write, Drop, Answer, with_whole, machine, layer, staged_swaps}
 use Rattle.atomic_programs.proofs.Sound.{Grown-weaker, Wp-weaker}
 use Rattle.atomic_programs.proofs.Explains.{changed_same, changed_other, ends_last, explains}
 use Rattle.atomic_programs.proofs.Lift.{lift}
@@ -80,26 +80,28 @@ module _ (h : ℕ) where
   store_atomic : (n : ℕ) (m : Unit {0} → Option cell.Step) → Atomic layer h (cell.Store n) m
   store_atomic n m B C es w lasts g base =
       from (Do (Stage n) unmarked (λ _. once Write m)) B C es w
-      (λ v xs o i.
-      (λ y. inl o.0.0,
-       record {
-         inv = i;
-         kept = λ other ne. ((refl, refl), changed_other v.staged h n other ne);
-         goes = λ y. refl;
-         clean = λ y. y;
-         begun = λ y. inl refl;
-         left = 1;
-         falls = omega arith;
-         next = λ u ys o2 i2.
-           let x = g u.whole (xs ++ ys) (above.laws.trans h w.whole v.whole u.whole xs ys o.0 o2.0) i2 in
-           let staged : u.staged h ≡ n = o2.1 ∙ changed_same v.staged h n h refl in
-           (λ y. inl o2.0.0,
-            good_below h (λ a. cell.placed_by h (m a)) 1 B C (onto ys (onto xs es)) u ⊥ (cell.go h (cell.Store (u.staged h)) m u.whole) (omega arith)
-            (subst (λ (zs : List cell.Step). Good cell.machine (Unit {0}) h (λ a. cell.placed_by h (m a)) 1 B zs u.whole ⊥ (cell.go h (cell.Store (u.staged h)) m u.whole) (λ l a t. C a (onto (own h (cell.placed_by h (m a))) zs) t))
-            (onto_two xs ys es)
-            (subst (λ (z : ℕ). Good cell.machine (Unit {0}) h (λ a. cell.placed_by h (m a)) 1 B (onto (xs ++ ys) es) u.whole ⊥ (cell.go h (cell.Store z) m u.whole) (λ l a t. C a (onto (own h (cell.placed_by h (m a))) (onto (xs ++ ys) es)) t))
-            (sym staged) x.1)));
-       }))
+      (λ v xs o i. (
+        λ y. inl o.0.0,
+        record {
+          inv = i;
+          kept = λ other ne. ((refl, refl), changed_other v.staged h n other ne);
+          goes = λ y. refl;
+          clean = λ y. y;
+          begun = λ y. inl refl;
+          left = 1;
+          falls = omega arith;
+          next = λ u ys o2 i2.
+              let x = g u.whole (xs ++ ys) (above.laws.trans h w.whole v.whole u.whole xs ys o.0 o2.0) i2 in
+              let staged : u.staged h ≡ n = o2.1 ∙ changed_same v.staged h n h refl in (
+                λ y. inl o2.0.0,
+                good_below h (λ a. cell.placed_by h (m a)) 1 B C (onto ys (onto xs es)) u ⊥ (cell.go h (cell.Store (u.staged h)) m u.whole) (omega arith)
+                    (subst (λ (zs : List cell.Step). Good cell.machine (Unit {0}) h (λ a. cell.placed_by h (m a)) 1 B zs u.whole ⊥ (cell.go h (cell.Store (u.staged h)) m u.whole) (λ l a t. C a (onto (own h (cell.placed_by h (m a))) zs) t))
+                    (onto_two xs ys es)
+                    (subst (λ (z : ℕ). Good cell.machine (Unit {0}) h (λ a. cell.placed_by h (m a)) 1 B (onto (xs ++ ys) es) u.whole ⊥ (cell.go h (cell.Store z) m u.whole) (λ l a t. C a (onto (own h (cell.placed_by h (m a))) (onto (xs ++ ys) es)) t))
+                    (sym staged) x.1)),
+              );
+        },
+      ))
     where
       onto_two : (xs ys es : List cell.Step) → onto (xs ++ ys) es ≡ onto ys (onto xs es)
       onto_two [] ys es = refl
@@ -148,8 +150,8 @@ lawful =
     record {
       laws = laws;
       calls = λ h call busy w u idle free e.
-        subst (λ (x : World). Right staged_swaps h call busy w x) (begun_same (nat_lt h 8) w u e)
-        (right h call busy w idle free (above.lawful.calls h call busy w.whole w.whole idle free (begun_above (nat_lt h 8) w u e)));
+          subst (λ (x : World). Right staged_swaps h call busy w x) (begun_same (nat_lt h 8) w u e)
+          (right h call busy w idle free (above.lawful.calls h call busy w.whole w.whole idle free (begun_above (nat_lt h 8) w u e)));
     }
 
 pub any_run : (w : World) (events : List (Event cell.Call)) → cell.Inv w.whole → ((h : ℕ) → cell.own_of h w.whole ≡ None) → Explained staged_swaps w.whole.value (run staged_swaps events (fresh staged_swaps w))

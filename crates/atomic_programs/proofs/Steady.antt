@@ -1,5 +1,5 @@
 -- What holds of each event in any state.
-use Rattle.std.proofs.Common.{◌≡◌, ℕ, Option, Some, None, Bool, true, false, List, refl, ap}
+use Rattle.std.proofs.Common.{◌≡◌, ℕ, Option, Some, None, Bool, true, false, List, refl}
 use Rattle.atomic_programs.specs.Prog.{Ret, Do, Did, Waits, Ran, Stops}
 use Rattle.atomic_programs.specs.Logic.{P}
 use Rattle.atomic_programs.specs.Calls.{Theory, Began, Refuses, Begins, Run, State, Event, Start, Step, WasStopped, unchanged, moved, tried, step_prog, step_unless, step_run, begun, busy_in, start_run, makes, next}

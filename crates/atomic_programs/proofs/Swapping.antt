@@ -1,12 +1,12 @@
 -- The calls of the cell do as they should.
-use Rattle.std.proofs.Common.{◌≡◌, ◌≢◌, ◌<◌, ◌+◌, ◌-◌, ℕ, Option, Some, None, Bool, true, false, List, [], ◌∷◌, ◌++◌, refl, sym, ◌∙◌, ap, subst, arith, inl, inr}
-use Rattle.std.proofs.lemmas.Bool.{eqb-true, eqb-false, eq-eqb, ne_eqb}
+use Rattle.std.proofs.Common.{◌≡◌, ◌≢◌, ◌<◌, ◌+◌, ◌-◌, ℕ, Option, Some, None, Bool, true, false, List, [], ◌∷◌, refl, sym, ◌∙◌, ap, subst, arith, inl, inr}
+use Rattle.std.proofs.lemmas.Bool.{eqb-true, eq-eqb, ne_eqb}
 use Rattle.std.specs.Prelude.{nat_eq, nat_lt, if◌then◌else◌}
-use Rattle.atomic_programs.specs.Prog.{Prog, Ret, Do, unmarked, Did, Waits, Ran, Stops}
-use Rattle.atomic_programs.specs.Logic.{own, onto, oldest_first, Fine, Halts, Good, Wp, Safe, Laws}
+use Rattle.atomic_programs.specs.Prog.{Do, unmarked, Did, Waits, Ran, Stops}
+use Rattle.atomic_programs.specs.Logic.{own, onto, Good, Wp, Safe, Laws}
 use Rattle.atomic_programs.specs.Calls.{Began, Begins, IsBeginning, Begun, Ends, Right, Lawful, Event, run, fresh}
 use Rattle.atomic_programs.specs.Explained.{Explained}
-use Rattle.atomic_programs.specs.Cell.{Cell, Op, Take, Fetch, Store, Drop, Answer, Step, Swapped, Saw, Happens, World, acted, with_value, go, placed_by, if_held, own_of, Inv, IsOut, MayWait, machine, Call, Swap, Look, Refusal, P, dropped, program, Written, begin_if, swaps}
+use Rattle.atomic_programs.specs.Cell.{Cell, Op, Take, Fetch, Store, Drop, Answer, Step, Swapped, Saw, World, with_value, go, placed_by, if_held, own_of, Inv, IsOut, MayWait, machine, Call, Swap, Look, Refusal, P, program, begin_if, swaps}
 use Rattle.atomic_programs.proofs.Explains.{explains}
 
 pub laws : Laws machine
@@ -56,10 +56,11 @@ pub s-op : {A : Type 0} {h : ℕ} {op : Op} {m : Answer op → Option Step} {k :
     → Safe machine h B Q (Do op m k) n es w
 s-op {A} {h} {op} {m} {k} {B} {Q} {n} {es} {w} f =
     record {
-      wp = λ v xs o i.
-        (λ y. inl o.0,
-         subst (λ (zs : List Step). Good machine (Answer op) h (λ a. placed_by h (m a)) n B (onto zs es) v (MayWait h op v) (go h op m v) (λ l a u. Wp machine h B Q (k a) l (onto (own h (placed_by h (m a))) (onto zs es)) u))
-         (sym o.0) (f v o.1 i));
+      wp = λ v xs o i. (
+        λ y. inl o.0,
+        subst (λ (zs : List Step). Good machine (Answer op) h (λ a. placed_by h (m a)) n B (onto zs es) v (MayWait h op v) (go h op m v) (λ l a u. Wp machine h B Q (k a) l (onto (own h (placed_by h (m a))) (onto zs es)) u))
+            (sym o.0) (f v o.1 i),
+      );
     }
 
 pub s-take : {A : Type 0} {h : ℕ} {k : Unit {0} → P A} {B : List Step → Type 0} {Q : A → List Step → World → Type 0} {n : ℕ} {es : List Step} {w : World}

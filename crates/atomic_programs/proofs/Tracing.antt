@@ -1,9 +1,8 @@
 -- A state's calls are just those that the events with their outcomes show.
 use Rattle.std.proofs.Common.{◌≡◌, ◌≢◌, ℕ, suc, Option, Some, None, Bool, true, false, List, [], ◌∷◌, refl, sym, ◌∙◌, ap, subst, ◌⊎◌, inl, inr}
-use Rattle.std.specs.Prelude.{nat_eq}
 use Rattle.atomic_programs.specs.Prog.{Ret, Do, Did, Waits, Ran, Stops}
 use Rattle.atomic_programs.specs.Logic.{P, own, onto}
-use Rattle.atomic_programs.specs.Calls.{Theory, Began, Refuses, Begins, Run, Finished, State, Event, Start, Step, Came, Started, Refused, WasIdle, DidWait, DidRun, DidEnd, DidStop, WasStopped, Made, changed, told, all_told, unchanged, moved, tried, step_prog, step_unless, step_run, begun, busy_in, start_run, makes, next, run, fresh}
+use Rattle.atomic_programs.specs.Calls.{Theory, Began, Refuses, Begins, Run, Finished, State, Event, Start, Step, Came, Started, Refused, WasIdle, DidWait, DidRun, DidEnd, DidStop, WasStopped, told, all_told, unchanged, moved, tried, step_prog, step_unless, step_run, begun, busy_in, start_run, makes, next, run, fresh}
 use Rattle.atomic_programs.specs.Explained.{In}
 use Rattle.atomic_programs.specs.Trace.{Happened, happened, Traced}
 use Rattle.atomic_programs.proofs.Explains.{changed_tells, Some-inj}

@@ -1,5 +1,5 @@
 -- A machine with its calls, and what a list of events makes of them.
-use Rattle.std.specs.Prelude.{◌≡◌, ◌≢◌, ◌⊎◌, ℕ, suc, Bool, true, false, Option, Some, None, nat_eq, if◌then◌else◌, List, [], ◌∷◌, ◌++◌}
+use Rattle.std.specs.Prelude.{◌≡◌, ◌≢◌, ℕ, suc, Bool, true, false, Option, Some, None, nat_eq, if◌then◌else◌, List, [], ◌∷◌, ◌++◌}
 use Rattle.atomic_programs.specs.Prog.{Prog, Ret, Do, Did, Waits, Ran, Stops}
 use Rattle.atomic_programs.specs.Logic.{Machine, P, own, onto, oldest_first, Wp, Laws}
 
@@ -151,27 +151,27 @@ moved L h s r op ps (Ret reply) w =
     record {
       came = DidEnd op reply;
       after =
-        record {
-          world = w;
-          stopped = s.stopped;
-          running = changed (all_told L ps s.running) h None;
-          list = placed L s.now s.running ps s.list;
-          finished = record { hart = h; call = r.call; start = r.start; number = s.now; count = suc r.count; reply = reply } ∷ s.finished;
-          now = suc s.now;
-        };
+          record {
+            world = w;
+            stopped = s.stopped;
+            running = changed (all_told L ps s.running) h None;
+            list = placed L s.now s.running ps s.list;
+            finished = record { hart = h; call = r.call; start = r.start; number = s.now; count = suc r.count; reply = reply } ∷ s.finished;
+            now = suc s.now;
+          };
     }
 moved L h s r op ps (Do op' m' k) w =
     record {
       came = DidRun op;
       after =
-        record {
-          world = w;
-          stopped = s.stopped;
-          running = changed (all_told L ps s.running) h (Some (record { call = r.call; start = r.start; prog = Do op' m' k; count = suc r.count; done = onto (own h ps) r.done }));
-          list = placed L s.now s.running ps s.list;
-          finished = s.finished;
-          now = suc s.now;
-        };
+          record {
+            world = w;
+            stopped = s.stopped;
+            running = changed (all_told L ps s.running) h (Some (record { call = r.call; start = r.start; prog = Do op' m' k; count = suc r.count; done = onto (own h ps) r.done }));
+            list = placed L s.now s.running ps s.list;
+            finished = s.finished;
+            now = suc s.now;
+          };
     }
 
 -- the operation came to this
@@ -202,14 +202,14 @@ begun L h call s (Begins w) =
     record {
       came = Started;
       after =
-        record {
-          world = w;
-          stopped = s.stopped;
-          running = changed s.running h (Some (record { call = call; start = s.now; prog = L.program call; count = 0; done = [] }));
-          list = s.list;
-          finished = s.finished;
-          now = suc s.now;
-        };
+          record {
+            world = w;
+            stopped = s.stopped;
+            running = changed s.running h (Some (record { call = call; start = s.now; prog = L.program call; count = 0; done = [] }));
+            list = s.list;
+            finished = s.finished;
+            now = suc s.now;
+          };
     }
 
 -- which harts have a call under way

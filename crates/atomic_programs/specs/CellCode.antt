@@ -1,7 +1,7 @@
 -- The programs that the example's machines stand for, and what its world is as programs.
-use Rattle.std.specs.Prelude.{◌≡◌, ℕ, Bool, Option, Some, None, List, [], ◌∷◌, length, get_or, nat_lt}
-use Rattle.atomic_programs.specs.Prog.{Prog, Ret, Do, bind, once, unmarked, marked}
-use Rattle.atomic_programs.specs.Calls.{Theory, Event as EventOf, Start as StartOf, Step as StepOf, Outcome as OutcomeOf, Started as WasStarted, Refused as WasRefused, WasIdle, DidWait, DidRun, DidEnd, DidStop, WasStopped}
+use Rattle.std.specs.Prelude.{◌≡◌, ℕ, Some, List, [], ◌∷◌, length, nat_lt}
+use Rattle.atomic_programs.specs.Prog.{bind, once, unmarked, marked}
+use Rattle.atomic_programs.specs.Calls.{Event as EventOf, Start as StartOf, Step as StepOf, Outcome as OutcomeOf, Started as WasStarted, Refused as WasRefused, WasIdle, DidWait, DidRun, DidEnd, DidStop, WasStopped}
 use Rattle.atomic_programs.specs.Plain.{Code, Plain}
 use Rattle.atomic_programs.specs.Machines.{programs_in}
 use Rattle.atomic_programs.specs.Cell as cell

@@ -351,7 +351,12 @@ mod tests {
             Event::Step(0),
         ];
         run(&mut world, &events);
-        assert!(rt; matches!(world.start(8, Call::Look), Outcome::Refused(Refusal::NoSuchHart)));
+        assert!(rt;
+            matches!(
+                world.start(8, Call::Look),
+                Outcome::Refused(Refusal::NoSuchHart)
+            )
+        );
         assert!(rt; matches!(world.start(0, Call::Look), Outcome::Refused(Refusal::Busy)));
         assert!(rt; matches!(world.step(1), Outcome::Waits));
         assert!(rt; matches!(world.step(0), Outcome::Done(Kind::Drop, 5)));
@@ -359,7 +364,14 @@ mod tests {
         assert!(rt; matches!(world.step(1), Outcome::Ran(Kind::Take)));
         assert!(rt; matches!(world.step(1), Outcome::Ran(Kind::Fetch)));
         assert!(rt; matches!(world.step(1), Outcome::Done(Kind::Drop, 7)));
-        run(&mut world, &[Event::Start(2, Call::Swap(9)), Event::Step(2), Event::Step(2)]);
+        run(
+            &mut world,
+            &[
+                Event::Start(2, Call::Swap(9)),
+                Event::Step(2),
+                Event::Step(2),
+            ],
+        );
         assert!(rt; matches!(world.step(2), Outcome::Stops(Kind::Store)));
         assert!(rt; matches!(world.step(2), Outcome::Stopped));
         assert!(rt; matches!(world.start(3, Call::Look), Outcome::Started));

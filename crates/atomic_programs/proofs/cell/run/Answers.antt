@@ -11,7 +11,7 @@ loop-event-preserved c =
     record {
       eight = c.event-outcome.ensures.eight;
       run = λ s e.
-        let lt : c.loop-event.event-index < length c.args.events.now = c.loop-event-test.true in
-        rw (take_more c.args.events.now c.loop-event.event-index (EventIs.Start 0 (CallIs.Swap 0)) lt)
-        (one_more s (take c.loop-event.event-index c.args.events.now) (get_or c.args.events.now c.loop-event.event-index (EventIs.Start 0 (CallIs.Swap 0))) _ _ (c.loop-event.invariant.run s e) c.event-outcome.ensures.makes);
+          let lt : c.loop-event.event-index < length c.args.events.now = c.loop-event-test.true in
+          rw (take_more c.args.events.now c.loop-event.event-index (EventIs.Start 0 (CallIs.Swap 0)) lt)
+          (one_more s (take c.loop-event.event-index c.args.events.now) (get_or c.args.events.now c.loop-event.event-index (EventIs.Start 0 (CallIs.Swap 0))) _ _ (c.loop-event.invariant.run s e) c.event-outcome.ensures.makes);
     }

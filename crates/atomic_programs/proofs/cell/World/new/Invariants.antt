@@ -1,5 +1,4 @@
-use Rattle.std.proofs.Common.{◌≡◌, ℕ, Option, None, length, get_or}
-use Rattle.atomic_programs.specs.declared.cell.Machine.{Machine}
+use Rattle.std.proofs.Common.{◌≡◌, ℕ, None, length, get_or}
 use Rattle.atomic_programs.proofs.cell.World.new.Given as goal
 
 abbrev pub invariant-loop : goal.invariant-loop
