@@ -1,5 +1,5 @@
 -- What explains a run: one list of steps, the oldest first.
-use Rattle.std.specs.Prelude.{◌≡◌, ◌⊎◌, ℕ, ◌<◌, ◌≤◌, Bool, true, false, Option, Some, None, nat_eq, if◌then◌else◌, List, [], ◌∷◌}
+use Rattle.std.specs.Prelude.{◌≡◌, ◌⊎◌, ℕ, ◌<◌, ◌≤◌, Bool, true, false, Option, Some, None, nat_eq, if◌then◌else◌, List, [], ◌∷◌, suc, ◌++◌}
 use Rattle.atomic_programs.specs.Prog.{Do}
 use Rattle.atomic_programs.specs.Logic.{P, oldest_first}
 use Rattle.atomic_programs.specs.Calls.{Theory, IsBeginning, Run, Placed, Finished, State, Event, Start, Step, Outcome, Started, Refused, WasIdle, DidWait, DidRun, DidEnd, DidStop, WasStopped, makes, next, unchanged}
@@ -71,6 +71,12 @@ pub record Explained (L : Theory) (base : L.M.Tree) (s : State L) : Type 0 where
   pub idle : (h : ℕ) → s.running h ≡ None → L.M.Idle h s.world
   pub holds : Holds L s.stopped s.world
 
+-- the list of u is that of s with more at its end, all of the event that s is at
+pub record Appends (L : Theory) (s u : State L) : Type 0 where
+  pub more : List (Placed L)
+  pub is : history L u ≡ history L s ++ more
+  pub now : (e : Placed L) → In e more → e.number ≡ s.now
+
 -- these outcomes leave all as it was
 abbrev pub is_quiet : {Op Reply Refusal : Type 0} → Outcome Op Reply Refusal → Bool
 is_quiet (Refused why) = true
@@ -86,6 +92,9 @@ is_quiet (DidStop op) = false
 pub record Steady (L : Theory) : Type 0 where
   -- an event that was refused, waited, found no call or a stopped world changes nothing but the number of events
   pub quiet : (e : Event L.Call) (s : State L) → is_quiet (makes L e s).came ≡ true → next L e s ≡ unchanged L s
+  -- events are numbered one after the other, and the list grows at its end alone
+  pub counts : (e : Event L.Call) (s : State L) → (next L e s).now ≡ suc s.now
+  pub appends : (e : Event L.Call) (s : State L) → Appends L s (next L e s)
   -- once the world has stopped, each step of a hart with a call says so
   pub answers_stopped : (h : ℕ) (r : Run L) (s : State L) → s.stopped ≡ true → s.running h ≡ Some r → (makes L (Step h) s).came ≡ WasStopped
   pub stays_stopped : (e : Event L.Call) (s : State L) → s.stopped ≡ true → (next L e s).stopped ≡ true
