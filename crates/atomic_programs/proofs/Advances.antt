@@ -2,11 +2,11 @@
 use Rattle.std.proofs.Common.{◌≡◌, ◌<◌, ℕ, Option, Some, None, Bool, true, false, List, refl, ◌∙◌, ap, length, get_or, set, get_or-set_same, get_or-set_other}
 use Rattle.std.proofs.lemmas.Bool.{eqb-true, eqb-false}
 use Rattle.std.specs.Prelude.{nat_eq, if◌then◌else◌}
-use Rattle.atomic_programs.specs.Prog.{Ret, Do, Did, Waits, Ran, Stops, Moved, Ended, StillWaits, WentOn, Broke, went, advance}
+use Rattle.atomic_programs.specs.Prog.{Ret, Do, Did, Waits, Ran, Stops, Moved, Ended, StillWaits, WentOn, Broke, went, advance, asks}
 use Rattle.atomic_programs.specs.Logic.{P}
 use Rattle.atomic_programs.specs.Calls.{Theory, WasIdle, DidWait, DidStop, changed}
 use Rattle.atomic_programs.specs.Plain.{Code, Plain, PlainMade, plain_moved, plain_tried, plain_prog, plain_unless, plain_step}
-use Rattle.atomic_programs.specs.Machines.{asks, kind_asked, program_at, programs_in}
+use Rattle.atomic_programs.specs.Machines.{kind_asked, program_at, programs_in}
 
 -- one place of the table was set
 pub programs_in-set : {M T : Type 0} (program : M → T) (calls : List (Option M)) (h : ℕ) (x : Option M) → h < length calls

@@ -1,11 +1,11 @@
 -- A step of a machine of the example in its place.
 use Rattle.std.proofs.Common.{◌≡◌, ◌<◌, ℕ, zero, suc, Option, Some, None, Bool, true, false, List, [], ◌∷◌, ◌++◌, refl, sym, ◌∙◌, ap, length, get_or, set}
 use Rattle.std.specs.Prelude.{nat_lt}
-use Rattle.atomic_programs.specs.Prog.{Did, Waits, Ran, Stops, WentOn, advance}
+use Rattle.atomic_programs.specs.Prog.{Did, Waits, Ran, Stops, WentOn, advance, did_in, asks}
 use Rattle.atomic_programs.specs.Calls.{DidRun, State, Began, run as run_of}
 use Rattle.atomic_programs.specs.Calls as calls
-use Rattle.atomic_programs.specs.Plain.{IsCode, did_in, began_in, Plain, PlainMade, plain_moved, plain_step, plain_makes, plain_run, erase}
-use Rattle.atomic_programs.specs.Machines.{asks, kind_asked, program_at, programs_in}
+use Rattle.atomic_programs.specs.Plain.{IsCode, began_in, Plain, PlainMade, plain_moved, plain_step, plain_makes, plain_run, erase}
+use Rattle.atomic_programs.specs.Machines.{kind_asked, program_at, programs_in}
 use Rattle.atomic_programs.specs.Cell.{Cell, Step, World, Refusal, P, with_value, begin_if, exec, swaps, rest, Call}
 use Rattle.atomic_programs.specs.CellCode.{kind_of, machine_of, event_of, events_of, code}
 use Rattle.atomic_programs.specs.declared.cell.Kind.{Kind}

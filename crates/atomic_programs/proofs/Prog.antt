@@ -1,6 +1,6 @@
 -- Laws of programs.
-use Rattle.std.proofs.Common.{◌≡◌, Option, refl}
-use Rattle.atomic_programs.specs.Prog.{Prog, Ret, Do, bind, unmarked, marked, plain, Did, Waits, Ran, Stops, StillWaits, WentOn, Broke, went, advance}
+use Rattle.std.proofs.Common.{◌≡◌, Option, Some, refl, ap, ◌∙◌}
+use Rattle.atomic_programs.specs.Prog.{Prog, Ret, Do, bind, unmarked, marked, plain, Did, Waits, Ran, Stops, StillWaits, WentOn, Broke, went, advance, asks, did_in, moved_in}
 
 pub bind-assoc : {Op : Type 0} {Answer : Op → Type 0} {M A B C : Type 0} (p : Prog Op Answer M A) (f : A → Prog Op Answer M B) (g : B → Prog Op Answer M C) → bind (bind p f) g ≡ bind p (λ a. bind (f a) g)
 bind-assoc (Ret a) f g = refl
@@ -41,3 +41,14 @@ advance-bind-breaks {Op} {Answer} {M} {A} {B} {S} exec (Do op m k) f s s' e = go
     go Waits h = cc
     go (Ran a t) h = cc
     go (Stops t) h = cc
+
+-- a program whose next operation is of a part of the state moves the whole as it moves the part
+pub advance-within : {Op : Type 0} {Answer : Op → Type 0} {M A S T : Type 0} (exec : (op : Op) → S → Did (Answer op) S) (whole : (op : Op) → T → Did (Answer op) T) (into : S → T) (p : Prog Op Answer M A) (s : S)
+    → ((op : Op) → asks p ≡ Some op → whole op (into s) ≡ did_in into (exec op s)) → advance whole p (into s) ≡ moved_in into (advance exec p s)
+advance-within exec whole into (Ret a) s same = refl
+advance-within {Op} {Answer} {M} {A} {S} {T} exec whole into (Do op m k) s same = ap (went op k) (same op refl) ∙ go (exec op s)
+  where
+    go : (r : Did (Answer op) S) → went op k (did_in into r) ≡ moved_in into (went op k r)
+    go Waits = refl
+    go (Ran a t) = refl
+    go (Stops t) = refl

@@ -1,5 +1,5 @@
 -- The rules of the logic.
-use Rattle.std.proofs.Common.{◌≡◌, ◌≤◌, ◌<◌, ◌+◌, ℕ, List, [], ◌∷◌, ◌++◌, refl, sym, subst, arith, inl, inr}
+use Rattle.std.proofs.Common.{◌≡◌, ◌≤◌, ◌<◌, ◌+◌, ℕ, List, [], ◌∷◌, ◌++◌, refl, sym, subst, arith, inl, inr, Option}
 use Rattle.atomic_programs.specs.Prog.{Ret, Do, bind, Did, Waits, Ran, Stops}
 use Rattle.atomic_programs.specs.Logic.{Machine, P, own, onto, placed_with, Grown, Good, Wp, Safe, Laws}
 use Rattle.atomic_programs.proofs.Prog.{bind-assoc}
@@ -112,3 +112,19 @@ s-bind {L} {A} {C} {h} p f {B} {Q} {n} m {es} {w} s =
 pub s-assoc : {L : Machine} {A C D : Type 0} {h : ℕ} (p : P L A) (f : A → P L C) (g : C → P L D) {B : List L.Step → Type 0} {Q : D → List L.Step → L.World → Type 0} {n : ℕ} {es : List L.Step} {w : L.World}
     → Safe L h B Q (bind p (λ a. bind (f a) g)) n es w → Safe L h B Q (bind (bind p f) g) n es w
 s-assoc {L} {A} {C} {D} {h} p f g {B} {Q} {n} {es} {w} s = subst (λ (x : P L D). Safe L h B Q x n es w) (sym (bind-assoc p f g)) s
+
+-- An operation of a hart for which nobody places steps: what is left to show is the operation alone, in a world that the
+-- others may have changed.
+pub s-op : {L : Machine} {A : Type 0} {h : ℕ} {op : L.Op} {m : L.Answer op → Option L.Mark} {k : L.Answer op → P L A} {B : List L.Step → Type 0} {Q : A → List L.Step → L.World → Type 0} {n : ℕ} {es : List L.Step} {w : L.World}
+    → ((v : L.World) (xs : List L.Step) → L.Others h w xs v → xs ≡ [])
+    → ((v : L.World) → L.Others h w [] v → L.Inv v
+    → Good L (L.Answer op) h (placed_with L h op m v) n B es v (L.MayWait h op v) (L.go h op m v) (λ l a u. Wp L h B Q (k a) l (onto (own h (L.places h op a (m a) v)) es) u))
+    → Safe L h B Q (Do op m k) n es w
+s-op {L} {A} {h} {op} {m} {k} {B} {Q} {n} {es} {w} none alone =
+    record {
+      wp = λ v xs o i.
+        let empty : xs ≡ [] = none v xs o in
+        (λ y. inl empty,
+         subst (λ (zs : List L.Step). Good L (L.Answer op) h (placed_with L h op m v) n B (onto zs es) v (L.MayWait h op v) (L.go h op m v) (λ l a u. Wp L h B Q (k a) l (onto (own h (L.places h op a (m a) v)) (onto zs es)) u))
+         (sym empty) (alone v (subst (λ (zs : List L.Step). L.Others h w zs v) empty o) i));
+    }

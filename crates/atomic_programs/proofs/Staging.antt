@@ -1,11 +1,10 @@
 -- What was shown of the cell's calls holds of them over the machine below.
 use Rattle.std.proofs.Common.{◌≡◌, ◌<◌, ◌*◌, ℕ, suc, Option, None, Bool, true, false, List, [], ◌∷◌, ◌++◌, refl, sym, ◌∙◌, ap, subst, arith, inl}
 use Rattle.std.specs.Prelude.{nat_lt}
-use Rattle.atomic_programs.specs.Prog.{Prog, Do, once, unmarked, Did, Waits, Ran, Stops}
+use Rattle.atomic_programs.specs.Prog.{Prog, Do, once, unmarked, Did, Waits, Ran, Stops, did_in}
 use Rattle.atomic_programs.specs.Logic.{own, onto, oldest_first, Good, Wp, Laws}
 use Rattle.atomic_programs.specs.Calls.{Began, Begins, Begun, Ends, Right, Lawful, Event, run, fresh}
 use Rattle.atomic_programs.specs.Explained.{Explained}
-use Rattle.atomic_programs.specs.Plain.{did_in}
 use Rattle.atomic_programs.specs.Layers.{lowered, steps_below, BeginsBelow, Below, Atomic}
 use Rattle.atomic_programs.specs.Cell as cell
 use Rattle.atomic_programs.specs.Staged.{World, Op, Take, Fetch, Stage, Write, Drop, Answer, with_whole, machine, layer, staged_swaps}

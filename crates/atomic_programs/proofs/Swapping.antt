@@ -7,6 +7,7 @@ use Rattle.atomic_programs.specs.Logic.{own, onto, Good, Wp, Safe, Laws}
 use Rattle.atomic_programs.specs.Calls.{Began, Begins, IsBeginning, Begun, Ends, Right, Lawful, Event, run, fresh}
 use Rattle.atomic_programs.specs.Explained.{Explained}
 use Rattle.atomic_programs.specs.Cell.{Cell, Op, Take, Fetch, Store, Drop, Answer, Step, Swapped, Saw, World, with_value, go, placed_by, if_held, own_of, Inv, IsOut, MayWait, machine, Call, Swap, Look, Refusal, P, program, begin_if, swaps}
+use Rattle.atomic_programs.proofs.Sound.{s-op}
 use Rattle.atomic_programs.proofs.Explains.{explains}
 
 pub laws : Laws machine
@@ -50,23 +51,16 @@ pub others_keep : (h g : ℕ) (o : Option ℕ) (x y : ℕ × ℕ) → o ≡ Some
 others_keep h g o x y e ne = rw e (not_held g h x ne ∙ sym (not_held g h y ne))
 
 -- what is owned stays until the operation runs
-pub s-op : {A : Type 0} {h : ℕ} {op : Op} {m : Answer op → Option Step} {k : Answer op → P A} {B : List Step → Type 0} {Q : A → List Step → World → Type 0} {n : ℕ} {es : List Step} {w : World}
+pub s-owned : {A : Type 0} {h : ℕ} {op : Op} {m : Answer op → Option Step} {k : Answer op → P A} {B : List Step → Type 0} {Q : A → List Step → World → Type 0} {n : ℕ} {es : List Step} {w : World}
     → ((v : World) → own_of h v ≡ own_of h w → Inv v
     → Good machine (Answer op) h (λ a. placed_by h (m a)) n B es v (MayWait h op v) (go h op m v) (λ l a u. Wp machine h B Q (k a) l (onto (own h (placed_by h (m a))) es) u))
     → Safe machine h B Q (Do op m k) n es w
-s-op {A} {h} {op} {m} {k} {B} {Q} {n} {es} {w} f =
-    record {
-      wp = λ v xs o i. (
-        λ y. inl o.0,
-        subst (λ (zs : List Step). Good machine (Answer op) h (λ a. placed_by h (m a)) n B (onto zs es) v (MayWait h op v) (go h op m v) (λ l a u. Wp machine h B Q (k a) l (onto (own h (placed_by h (m a))) (onto zs es)) u))
-            (sym o.0) (f v o.1 i),
-      );
-    }
+s-owned f = s-op (λ v xs o. o.0) (λ v o i. f v o.1 i)
 
 pub s-take : {A : Type 0} {h : ℕ} {k : Unit {0} → P A} {B : List Step → Type 0} {Q : A → List Step → World → Type 0} {n : ℕ} {es : List Step} {w : World}
     → own_of h w ≡ None → 0 < n → ((l x : ℕ) (u : World) → l + 1 ≡ n → own_of h u ≡ Some (x, x) → Safe machine h B Q (k tt) l es u)
     → Safe machine h B Q (Do Take unmarked k) n es w
-s-take {A} {h} {k} {B} {Q} {n} {es} {w} none few then_ = s-op (λ v o inv. at v inv (o ∙ none) v.cell.holder refl)
+s-take {A} {h} {k} {B} {Q} {n} {es} {w} none few then_ = s-owned (λ v o inv. at v inv (o ∙ none) v.cell.holder refl)
   where
     at : (v : World) → Inv v → own_of h v ≡ None → (x : Option ℕ) → v.cell.holder ≡ x
         → Good machine (Unit {0}) h (λ a. []) n B es v (IsOut h v.cell.holder) (with_value unmarked v.value (elim x as (λ y. Did (Unit {0}) Cell) [ None ↦ Ran tt (record (v.cell) { holder = Some h }) | Some g ↦ Waits ])) (λ l a u. Wp machine h B Q (k a) l es u)
@@ -87,7 +81,7 @@ pub s-fetch : {A : Type 0} {h : ℕ} {k : ℕ → P A} {B : List Step → Type 0
     → own_of h w ≡ Some (x, x) → 0 < n → ((l : ℕ) (u : World) → l + 1 ≡ n → own_of h u ≡ Some (x, x) → Safe machine h B Q (k x) l es u)
     → Safe machine h B Q (Do Fetch unmarked k) n es w
 s-fetch {A} {h} {k} {B} {Q} {n} {x} {es} {w} mine few then_ =
-    s-op
+    s-owned
     (λ v o inv.
     let is = held_by v.cell.holder h (v.cell.count, v.value) (x, x) (o ∙ mine) in
     record {
@@ -106,7 +100,7 @@ pub s-see : {A : Type 0} {h : ℕ} {k : ℕ → P A} {B : List Step → Type 0} 
     → own_of h w ≡ Some (x, x) → 0 < n → B (Saw x ∷ es) → ((l : ℕ) (u : World) → l + 1 ≡ n → own_of h u ≡ Some (x, x) → Safe machine h B Q (k x) l (Saw x ∷ es) u)
     → Safe machine h B Q (Do Fetch (λ y. Some (Saw y)) k) n es w
 s-see {A} {h} {k} {B} {Q} {n} {x} {es} {w} mine few begins then_ =
-    s-op
+    s-owned
     (λ v o inv.
     let is = held_by v.cell.holder h (v.cell.count, v.value) (x, x) (o ∙ mine) in
     let count : v.cell.count ≡ x = ap (λ (p : ℕ × ℕ). p.0) is.1 in
@@ -128,7 +122,7 @@ stored j v = record { cell = record { holder = v.cell.holder; count = j; fuse = 
 pub s-store : {A : Type 0} {h : ℕ} {j : ℕ} {k : Unit {0} → P A} {B : List Step → Type 0} {Q : A → List Step → World → Type 0} {n x : ℕ} {es : List Step} {w : World}
     → own_of h w ≡ Some (x, x) → 0 < n → B (Swapped j x ∷ es) → ((l : ℕ) (u : World) → l + 1 ≡ n → own_of h u ≡ Some (j, j) → Safe machine h B Q (k tt) l (Swapped j x ∷ es) u)
     → Safe machine h B Q (Do (Store j) (λ _. Some (Swapped j x)) k) n es w
-s-store {A} {h} {j} {k} {B} {Q} {n} {x} {es} {w} mine few begins then_ = s-op (λ v o inv. at v inv (held_by v.cell.holder h (v.cell.count, v.value) (x, x) (o ∙ mine)) (nat_eq v.cell.fuse 0))
+s-store {A} {h} {j} {k} {B} {Q} {n} {x} {es} {w} mine few begins then_ = s-owned (λ v o inv. at v inv (held_by v.cell.holder h (v.cell.count, v.value) (x, x) (o ∙ mine)) (nat_eq v.cell.fuse 0))
   where
     at : (v : World) → Inv v → (v.cell.holder ≡ Some h) × (◌≡◌ {A = ℕ × ℕ} (v.cell.count, v.value) (x, x)) → (b : Bool)
         → Good machine (Unit {0}) h (λ a. (h, Swapped j x) ∷ []) n B es v ⊥ (with_value (λ _. Some (Swapped j x)) v.value (elim b as (λ y. Did (Unit {0}) Cell) [ true ↦ Stops v.cell | false ↦ Ran tt (record (v.cell) { count = j; fuse = v.cell.fuse - 1 }) ])) (λ l a u. Wp machine h B Q (k a) l (onto (own h ((h, Swapped j x) ∷ [])) es) u)
@@ -149,7 +143,7 @@ pub s-drop : {A : Type 0} {h : ℕ} {k : Unit {0} → P A} {B : List Step → Ty
     → own_of h w ≡ Some (x, x) → 0 < n → ((l : ℕ) (u : World) → l + 1 ≡ n → own_of h u ≡ None → Safe machine h B Q (k tt) l es u)
     → Safe machine h B Q (Do Drop unmarked k) n es w
 s-drop {A} {h} {k} {B} {Q} {n} {x} {es} {w} mine few then_ =
-    s-op
+    s-owned
     (λ v o inv.
     let is = held_by v.cell.holder h (v.cell.count, v.value) (x, x) (o ∙ mine) in
     record {

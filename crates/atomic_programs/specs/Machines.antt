@@ -25,11 +25,7 @@ Left Fits (Ran m) = Fits m
 Left Fits (Done a) = Unit {0}
 Left Fits (Stopped m) = Fits m
 
--- the operation that a program makes next
-abbrev pub asks : {Op : Type 0} {Answer : Op → Type 0} {M A : Type 0} → Prog Op Answer M A → Option Op
-asks (Ret a) = None
-asks (Do op m k) = Some op
-
+-- its kind
 abbrev pub kind_asked : {Op K : Type 0} → (Op → K) → Option Op → Option K
 kind_asked kind None = None
 kind_asked kind (Some op) = Some (kind op)

@@ -1,6 +1,6 @@
 -- All harts' programs over the state that the code has, without what the proof keeps beside them.
 use Rattle.std.specs.Prelude.{◌≡◌, ℕ, Bool, true, false, Option, Some, None, List, [], ◌∷◌}
-use Rattle.atomic_programs.specs.Prog.{Ret, Do, Did, Waits, Ran, Stops}
+use Rattle.atomic_programs.specs.Prog.{Ret, Do, Did, Waits, Ran, Stops, did_in}
 use Rattle.atomic_programs.specs.Logic.{P}
 use Rattle.atomic_programs.specs.Calls.{Theory, Began, Refuses, Begins, Run, State, Event, Start, Step, Outcome, Started, Refused, WasIdle, DidWait, DidRun, DidEnd, DidStop, WasStopped, Came, changed, is_some}
 
@@ -12,11 +12,6 @@ pub record Code (L : Theory) : Type 1 where
   pub kind : L.M.Op → Kind
   pub exec : ℕ → (op : L.M.Op) → Shared → Did (L.M.Answer op) Shared
   pub begin : ℕ → L.Call → (ℕ → Bool) → Shared → Began L.Refusal Shared
-
-abbrev pub did_in : {A V W : Type 0} → (V → W) → Did A V → Did A W
-did_in f Waits = Waits
-did_in f (Ran a v) = Ran a (f v)
-did_in f (Stops v) = Stops (f v)
 
 abbrev pub began_in : {R V W : Type 0} → (V → W) → Began R V → Began R W
 began_in f (Refuses why) = Refuses why

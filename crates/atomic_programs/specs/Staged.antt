@@ -1,10 +1,9 @@
 -- An example of layers: the cell's store is two operations below. A hart stages the number in a place of its own, and then
 -- writes it.
 use Rattle.std.specs.Prelude.{◌≡◌, ℕ, ◌*◌, suc, nat_lt, Option, None, List}
-use Rattle.atomic_programs.specs.Prog.{Do, once, unmarked, Did, Ran}
+use Rattle.atomic_programs.specs.Prog.{Do, once, unmarked, Did, Ran, did_in}
 use Rattle.atomic_programs.specs.Logic.{Machine, P}
 use Rattle.atomic_programs.specs.Calls.{Theory, changed}
-use Rattle.atomic_programs.specs.Plain.{did_in}
 use Rattle.atomic_programs.specs.Layers.{Layer, lowered}
 use Rattle.atomic_programs.specs.Cell as cell
 

@@ -1,10 +1,10 @@
 //! An example: eight harts that swap one number behind a lock, on a device that may fail.
 
 ghost use Rattle.std.specs.Prelude.{◌≡◌, ℕ, ◌<◌, ◌∷◌, [], Option, Some, None, IfNone, IfOk};
-ghost use Rattle.atomic_programs.specs.Prog.{advance, Ran as ItRan};
+ghost use Rattle.atomic_programs.specs.Prog.{advance, asks, Ran as ItRan};
 ghost use Rattle.atomic_programs.specs.Calls.{State, run as run_of, fresh, Start as StartOf, Step as StepOf};
 ghost use Rattle.atomic_programs.specs.Plain.{plain_makes, erase, Plain};
-ghost use Rattle.atomic_programs.specs.Machines.{moved_to, Still, asks, kind_asked, or_waits, or_stops};
+ghost use Rattle.atomic_programs.specs.Machines.{moved_to, Still, kind_asked, or_waits, or_stops};
 ghost use Rattle.atomic_programs.specs.Cell.{exec, swaps, rest, Take as TakeOp, Fetch as FetchOp, Store as StoreOp, Drop as DropOp};
 ghost use Rattle.atomic_programs.specs.CellCode.{kind_of, open_of, machine_of, call_of, event_of, events_of, outcome_of, refusal_of, code, plain_of, HasEight};
 
