@@ -23,7 +23,7 @@ module _ (L : Theory) (C : Code L) (h : ℕ) (s : Plain L C) where
   by_moved kind Ended = record { came = WasIdle; after = s }
   by_moved kind StillWaits = record { came = DidWait; after = s }
   by_moved kind (WentOn p t) = plain_moved L C h s kind p t
-  by_moved kind (Broke t) = record { came = DidStop kind; after = record { shared = t; stopped = true; running = s.running } }
+  by_moved kind (Broke t) = record { came = DidStop; after = record { shared = t; stopped = true; running = s.running } }
 
   pub prog_advances : (kind : C.Kind) (p : P L.M L.Reply) (r : Moved (P L.M L.Reply) C.Shared) → kind_asked C.kind (asks p) ≡ Some kind → advance (C.exec h) p s.shared ≡ r → plain_prog L C h s p ≡ by_moved kind r
   prog_advances kind (Ret a) r k e = cc
@@ -35,10 +35,7 @@ module _ (L : Theory) (C : Code L) (h : ℕ) (s : Plain L C) where
         where
           some_inj : (x y : C.Kind) → Some x ≡ Some y → x ≡ y
           some_inj x y e = cc
-      at (Stops t) q = ap (λ (z : C.Kind). record { came = DidStop z; after = record { shared = t; stopped = true; running = s.running } }) (some_inj (C.kind op) kind k)
-        where
-          some_inj : (x y : C.Kind) → Some x ≡ Some y → x ≡ y
-          some_inj x y e = cc
+      at (Stops t) q = refl
 
   -- a hart's next operation, where the world has not stopped
   pub step_advances : (kind : C.Kind) (p : P L.M L.Reply) (r : Moved (P L.M L.Reply) C.Shared) → s.stopped ≡ false → s.running h ≡ Some p

@@ -101,9 +101,9 @@ pub data Outcome (Op Reply Refusal : Type 0) : Type 0 where
   WasIdle : Outcome Op Reply Refusal
   DidWait : Outcome Op Reply Refusal
   DidRun : Op → Outcome Op Reply Refusal
-  DidEnd : Op → Reply → Outcome Op Reply Refusal
+  DidEnd : Reply → Outcome Op Reply Refusal
   -- this step stopped the world
-  DidStop : Op → Outcome Op Reply Refusal
+  DidStop : Outcome Op Reply Refusal
   -- the world had stopped before
   WasStopped : Outcome Op Reply Refusal
 
@@ -149,7 +149,7 @@ unchanged L s = record s { now = suc s.now }
 abbrev pub moved : (L : Theory) → ℕ → State L → Run L → L.M.Op → List (ℕ × L.M.Step) → P L.M L.Reply → L.M.World → Made L
 moved L h s r op ps (Ret reply) w =
     record {
-      came = DidEnd op reply;
+      came = DidEnd reply;
       after =
           record {
             world = w;
@@ -180,7 +180,7 @@ tried L h s r op ps k Waits = record { came = DidWait; after = unchanged L s }
 tried L h s r op ps k (Ran a w) = moved L h s r op (ps a) (k a) w
 tried L h s r op ps k (Stops w) =
     record {
-      came = DidStop op;
+      came = DidStop;
       after = record { world = w; stopped = true; running = s.running; list = s.list; finished = s.finished; now = suc s.now };
     }
 

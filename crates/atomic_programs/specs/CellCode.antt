@@ -61,8 +61,8 @@ outcome_of (OutcomeIs.Refused why) = WasRefused (refusal_of why)
 outcome_of OutcomeIs.Idle = WasIdle
 outcome_of OutcomeIs.Waits = DidWait
 outcome_of (OutcomeIs.Ran kind) = DidRun kind
-outcome_of (OutcomeIs.Done kind reply) = DidEnd kind reply
-outcome_of (OutcomeIs.Stops kind) = DidStop kind
+outcome_of (OutcomeIs.Done reply) = DidEnd reply
+outcome_of OutcomeIs.Stops = DidStop
 outcome_of OutcomeIs.Stopped = WasStopped
 
 -- the cell is all that the code has

@@ -85,8 +85,8 @@ is_quiet DidWait = true
 is_quiet WasStopped = true
 is_quiet Started = false
 is_quiet (DidRun op) = false
-is_quiet (DidEnd op reply) = false
-is_quiet (DidStop op) = false
+is_quiet (DidEnd reply) = false
+is_quiet DidStop = false
 
 -- what holds of each event in any state
 pub record Steady (L : Theory) : Type 0 where

@@ -39,20 +39,20 @@ module _ (L : Theory) (C : Code L) where
   by_kind WasIdle = WasIdle
   by_kind DidWait = DidWait
   by_kind (DidRun op) = DidRun (C.kind op)
-  by_kind (DidEnd op reply) = DidEnd (C.kind op) reply
-  by_kind (DidStop op) = DidStop (C.kind op)
+  by_kind (DidEnd reply) = DidEnd reply
+  by_kind DidStop = DidStop
   by_kind WasStopped = WasStopped
 
   abbrev pub plain_moved : ℕ → Plain L C → C.Kind → P L.M L.Reply → C.Shared → PlainMade L C
   plain_moved h s kind (Ret reply) t =
-      record { came = DidEnd kind reply; after = record { shared = t; stopped = s.stopped; running = changed s.running h None } }
+      record { came = DidEnd reply; after = record { shared = t; stopped = s.stopped; running = changed s.running h None } }
   plain_moved h s kind (Do op m k) t =
       record { came = DidRun kind; after = record { shared = t; stopped = s.stopped; running = changed s.running h (Some (Do op m k)) } }
 
   abbrev pub plain_tried : ℕ → Plain L C → (op : L.M.Op) → (L.M.Answer op → P L.M L.Reply) → Did (L.M.Answer op) C.Shared → PlainMade L C
   plain_tried h s op k Waits = record { came = DidWait; after = s }
   plain_tried h s op k (Ran a t) = plain_moved h s (C.kind op) (k a) t
-  plain_tried h s op k (Stops t) = record { came = DidStop (C.kind op); after = record { shared = t; stopped = true; running = s.running } }
+  plain_tried h s op k (Stops t) = record { came = DidStop; after = record { shared = t; stopped = true; running = s.running } }
 
   abbrev pub plain_prog : ℕ → Plain L C → P L.M L.Reply → PlainMade L C
   plain_prog h s (Ret reply) = record { came = WasIdle; after = s }

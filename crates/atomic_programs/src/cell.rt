@@ -216,9 +216,9 @@ pub enum Outcome {
     Idle,
     Waits,
     Ran(Kind),
-    Done(Kind, u32),
+    Done(u32),
     /// This operation stopped the world.
-    Stops(Kind),
+    Stops,
     /// The world had stopped before.
     Stopped,
 }
@@ -299,11 +299,11 @@ impl World {
                         *slot = Some(call);
                         Outcome::Ran(kind)
                     }
-                    Stepped::Done(reply) => Outcome::Done(kind, reply),
+                    Stepped::Done(reply) => Outcome::Done(reply),
                     Stepped::Stopped(call) => {
                         *slot = Some(call);
                         self.stopped = true;
-                        Outcome::Stops(kind)
+                        Outcome::Stops
                     }
                 }
             }
@@ -359,11 +359,11 @@ mod tests {
         );
         assert!(rt; matches!(world.start(0, Call::Look), Outcome::Refused(Refusal::Busy)));
         assert!(rt; matches!(world.step(1), Outcome::Waits));
-        assert!(rt; matches!(world.step(0), Outcome::Done(Kind::Drop, 5)));
+        assert!(rt; matches!(world.step(0), Outcome::Done(5)));
         assert!(rt; matches!(world.step(0), Outcome::Idle));
         assert!(rt; matches!(world.step(1), Outcome::Ran(Kind::Take)));
         assert!(rt; matches!(world.step(1), Outcome::Ran(Kind::Fetch)));
-        assert!(rt; matches!(world.step(1), Outcome::Done(Kind::Drop, 7)));
+        assert!(rt; matches!(world.step(1), Outcome::Done(7)));
         run(
             &mut world,
             &[
@@ -372,7 +372,7 @@ mod tests {
                 Event::Step(2),
             ],
         );
-        assert!(rt; matches!(world.step(2), Outcome::Stops(Kind::Store)));
+        assert!(rt; matches!(world.step(2), Outcome::Stops));
         assert!(rt; matches!(world.step(2), Outcome::Stopped));
         assert!(rt; matches!(world.start(3, Call::Look), Outcome::Started));
         assert!(rt; matches!(world.step(3), Outcome::Stopped));
