@@ -123,8 +123,9 @@ pub s-op : {L : Machine} {A : Type 0} {h : ℕ} {op : L.Op} {m : L.Answer op →
 s-op {L} {A} {h} {op} {m} {k} {B} {Q} {n} {es} {w} none alone =
     record {
       wp = λ v xs o i.
-        let empty : xs ≡ [] = none v xs o in
-        (λ y. inl empty,
-         subst (λ (zs : List L.Step). Good L (L.Answer op) h (placed_with L h op m v) n B (onto zs es) v (L.MayWait h op v) (L.go h op m v) (λ l a u. Wp L h B Q (k a) l (onto (own h (L.places h op a (m a) v)) (onto zs es)) u))
-         (sym empty) (alone v (subst (λ (zs : List L.Step). L.Others h w zs v) empty o) i));
+          let empty : xs ≡ [] = none v xs o in (
+            λ y. inl empty,
+            subst (λ (zs : List L.Step). Good L (L.Answer op) h (placed_with L h op m v) n B (onto zs es) v (L.MayWait h op v) (L.go h op m v) (λ l a u. Wp L h B Q (k a) l (onto (own h (L.places h op a (m a) v)) (onto zs es)) u))
+                (sym empty) (alone v (subst (λ (zs : List L.Step). L.Others h w zs v) empty o) i),
+          );
     }

@@ -3,7 +3,7 @@ use Rattle.std.proofs.Common.{◌≡◌, ℕ, suc, Option, Some, None, Bool, tru
 use Rattle.atomic_programs.specs.Prog.{Ret, Do, Did, Waits, Ran, Stops}
 use Rattle.atomic_programs.specs.Logic.{P, oldest_first}
 use Rattle.atomic_programs.specs.Calls.{Theory, Began, Refuses, Begins, Run, State, Event, Start, Step, WasStopped, unchanged, moved, tried, step_prog, step_unless, step_run, begun, busy_in, start_run, makes, next, Placed, placed, start_of}
-use Rattle.atomic_programs.specs.Explained.{In, history, Appends, is_quiet, Steady}
+use Rattle.atomic_programs.specs.Explained.{In, is_quiet, Steady}
 use Rattle.atomic_programs.proofs.Beginnings.{append_nil, oldest_first_more}
 
 module _ (L : Theory) (s : State L) where

@@ -1,6 +1,6 @@
 -- Machines in code: each value stands for the program that is left.
 use Rattle.std.specs.Prelude.{◌≡◌, ℕ, Option, Some, None, List, get_or}
-use Rattle.atomic_programs.specs.Prog.{Prog, Ret, Do, Did, Waits as ItWaits, Ran as ItRan, Stops, Moved, StillWaits, WentOn, Broke}
+use Rattle.atomic_programs.specs.Prog.{Prog, Ret, Did, Waits as ItWaits, Ran as ItRan, Stops, Moved, StillWaits, WentOn, Broke}
 use Rattle.atomic_programs.specs.declared.machines.Stepped.{Stepped}
 use Rattle.atomic_programs.specs.declared.machines.Stepped.TheVariants.{Waits, Ran, Done, Stopped}
 
