@@ -1,0 +1,49 @@
+-- Machines in code: each value stands for the program that is left.
+use Rattle.std.specs.Prelude.{◌≡◌, ℕ, Option, Some, None, List, get_or}
+use Rattle.atomic_programs.specs.Prog.{Prog, Ret, Did, Waits as ItWaits, Ran as ItRan, Stops, Moved, StillWaits, WentOn, Broke}
+use Rattle.atomic_programs.specs.declared.machines.Stepped.{Stepped}
+use Rattle.atomic_programs.specs.declared.machines.Stepped.TheVariants.{Waits, Ran, Done, Stopped}
+
+-- where a step of a machine leads, as a program; its result stands for what the program returns
+abbrev pub moved_to : {M R A S Op Mark : Type 0} {Answer : Op → Type 0} → (M → Prog Op Answer Mark A) → (R → A) → Stepped M R → S → Moved (Prog Op Answer Mark A) S
+moved_to program result (Waits m) s = StillWaits
+moved_to program result (Ran m) s = WentOn (program m) s
+moved_to program result (Done a) s = WentOn (Ret (result a)) s
+moved_to program result (Stopped m) s = Broke s
+
+-- a step that waits changes nothing, and after one that stopped the world the machine stands for the same program
+abbrev pub Still : {M R S T : Type 0} → (M → T) → Stepped M R → M → S → S → Type 0
+Still program (Waits m) self old new = (program m ≡ program self) × (new ≡ old)
+Still program (Ran m) self old new = Unit {0}
+Still program (Done a) self old new = Unit {0}
+Still program (Stopped m) self old new = program m ≡ program self
+
+-- the machine that is left
+abbrev pub Left : {M R : Type 0} → (M → Type 0) → Stepped M R → Type 0
+Left Fits (Waits m) = Fits m
+Left Fits (Ran m) = Fits m
+Left Fits (Done a) = Unit {0}
+Left Fits (Stopped m) = Fits m
+
+-- its kind
+abbrev pub kind_asked : {Op K : Type 0} → (Op → K) → Option Op → Option K
+kind_asked kind None = None
+kind_asked kind (Some op) = Some (kind op)
+
+-- a call of an operation, by its Option: None where it waits
+abbrev pub or_waits : {A S : Type 0} → Option A → S → Did A S
+or_waits None s = ItWaits
+or_waits (Some a) s = ItRan a s
+
+-- the same, where None says that it stopped the world
+abbrev pub or_stops : {A S : Type 0} → Option A → S → Did A S
+or_stops None s = Stops s
+or_stops (Some a) s = ItRan a s
+
+-- the programs of a table of machines
+abbrev pub program_at : {M T : Type 0} → (M → T) → Option M → Option T
+program_at program None = None
+program_at program (Some m) = Some (program m)
+
+abbrev pub programs_in : {M T : Type 0} → (M → T) → List (Option M) → ℕ → Option T
+programs_in program calls h = program_at program (get_or calls h None)

@@ -1,0 +1,102 @@
+-- All harts' programs over the state that the code has, without what the proof keeps beside them.
+use Rattle.std.specs.Prelude.{◌≡◌, ℕ, Bool, true, false, Option, Some, None, List, [], ◌∷◌}
+use Rattle.atomic_programs.specs.Prog.{Ret, Do, Did, Waits, Ran, Stops, did_in}
+use Rattle.atomic_programs.specs.Logic.{P}
+use Rattle.atomic_programs.specs.Calls.{Theory, Began, Refuses, Begins, Run, State, Event, Start, Step, Outcome, Started, Refused, WasIdle, DidWait, DidRun, DidEnd, DidStop, WasStopped, Came, changed, is_some}
+
+-- what the code has of a theory's world, what an operation and a start make of it, and which kind an operation is
+pub record Code (L : Theory) : Type 1 where
+  pub Shared : Type 0
+  pub Kind : Type 0
+  pub shared : L.M.World → Shared
+  pub kind : L.M.Op → Kind
+  pub exec : ℕ → (op : L.M.Op) → Shared → Did (L.M.Answer op) Shared
+  pub begin : ℕ → L.Call → (ℕ → Bool) → Shared → Began L.Refusal Shared
+
+abbrev pub began_in : {R V W : Type 0} → (V → W) → Began R V → Began R W
+began_in f (Refuses why) = Refuses why
+began_in f (Begins v) = Begins (f v)
+
+-- the theory makes of the world what the code makes of its state; marks change nothing of it
+pub record IsCode (L : Theory) (C : Code L) : Type 0 where
+  pub goes : (h : ℕ) (op : L.M.Op) (m : L.M.Answer op → Option L.M.Mark) (w : L.M.World) → C.exec h op (C.shared w) ≡ did_in C.shared (L.M.go h op m w)
+  pub starts : (h : ℕ) (call : L.Call) (busy : ℕ → Bool) (w : L.M.World) → C.begin h call busy (C.shared w) ≡ began_in C.shared (L.start h call busy w)
+
+pub record Plain (L : Theory) (C : Code L) : Type 0 where
+  pub shared : C.Shared
+  pub stopped : Bool
+  pub running : ℕ → Option (P L.M L.Reply)
+
+pub record PlainMade (L : Theory) (C : Code L) : Type 0 where
+  pub came : Outcome C.Kind L.Reply L.Refusal
+  pub after : Plain L C
+
+module _ (L : Theory) (C : Code L) where
+  -- the outcome, with the operation's kind
+  abbrev pub by_kind : Came L → Outcome C.Kind L.Reply L.Refusal
+  by_kind Started = Started
+  by_kind (Refused why) = Refused why
+  by_kind WasIdle = WasIdle
+  by_kind DidWait = DidWait
+  by_kind (DidRun op) = DidRun (C.kind op)
+  by_kind (DidEnd reply) = DidEnd reply
+  by_kind DidStop = DidStop
+  by_kind WasStopped = WasStopped
+
+  abbrev pub plain_moved : ℕ → Plain L C → C.Kind → P L.M L.Reply → C.Shared → PlainMade L C
+  plain_moved h s kind (Ret reply) t =
+      record { came = DidEnd reply; after = record { shared = t; stopped = s.stopped; running = changed s.running h None } }
+  plain_moved h s kind (Do op m k) t =
+      record { came = DidRun kind; after = record { shared = t; stopped = s.stopped; running = changed s.running h (Some (Do op m k)) } }
+
+  abbrev pub plain_tried : ℕ → Plain L C → (op : L.M.Op) → (L.M.Answer op → P L.M L.Reply) → Did (L.M.Answer op) C.Shared → PlainMade L C
+  plain_tried h s op k Waits = record { came = DidWait; after = s }
+  plain_tried h s op k (Ran a t) = plain_moved h s (C.kind op) (k a) t
+  plain_tried h s op k (Stops t) = record { came = DidStop; after = record { shared = t; stopped = true; running = s.running } }
+
+  abbrev pub plain_prog : ℕ → Plain L C → P L.M L.Reply → PlainMade L C
+  plain_prog h s (Ret reply) = record { came = WasIdle; after = s }
+  plain_prog h s (Do op m k) = plain_tried h s op k (C.exec h op s.shared)
+
+  abbrev pub plain_unless : ℕ → Plain L C → Bool → P L.M L.Reply → PlainMade L C
+  plain_unless h s true p = record { came = WasStopped; after = s }
+  plain_unless h s false p = plain_prog h s p
+
+  abbrev pub plain_step : ℕ → Plain L C → Option (P L.M L.Reply) → PlainMade L C
+  plain_step h s None = record { came = WasIdle; after = s }
+  plain_step h s (Some p) = plain_unless h s s.stopped p
+
+  abbrev pub plain_begun : ℕ → L.Call → Plain L C → Began L.Refusal C.Shared → PlainMade L C
+  plain_begun h call s (Refuses why) = record { came = Refused why; after = s }
+  plain_begun h call s (Begins t) =
+      record { came = Started; after = record { shared = t; stopped = s.stopped; running = changed s.running h (Some (L.program call)) } }
+
+  abbrev pub plain_start : ℕ → L.Call → Plain L C → Option (P L.M L.Reply) → PlainMade L C
+  plain_start h call s (Some p) = record { came = Refused L.busy; after = s }
+  plain_start h call s None = plain_begun h call s (C.begin h call (λ j. is_some (s.running j)) s.shared)
+
+  -- one event
+  abbrev pub plain_makes : Event L.Call → Plain L C → PlainMade L C
+  plain_makes (Start h call) s = plain_start h call s (s.running h)
+  plain_makes (Step h) s = plain_step h s (s.running h)
+
+  abbrev pub plain_run : List (Event L.Call) → Plain L C → Plain L C
+  plain_run [] s = s
+  plain_run (e ∷ es) s = plain_run es (plain_makes e s).after
+
+  -- the outcome of each event of the list
+  abbrev pub plain_outcomes : List (Event L.Call) → Plain L C → List (Outcome C.Kind L.Reply L.Refusal)
+  plain_outcomes [] s = []
+  plain_outcomes (e ∷ es) s = (plain_makes e s).came ∷ plain_outcomes es (plain_makes e s).after
+
+  abbrev pub all_by_kind : List (Came L) → List (Outcome C.Kind L.Reply L.Refusal)
+  all_by_kind [] = []
+  all_by_kind (c ∷ cs) = by_kind c ∷ all_by_kind cs
+
+  abbrev pub prog_of : Option (Run L) → Option (P L.M L.Reply)
+  prog_of None = None
+  prog_of (Some r) = Some r.prog
+
+  -- what the proof keeps is left out
+  abbrev pub erase : State L → Plain L C
+  erase s = record { shared = C.shared s.world; stopped = s.stopped; running = λ h. prog_of (s.running h) }
