@@ -1,0 +1,19 @@
+//! The plain tree: what the files and directories are to a caller, what each call does to them in steps that each
+//! happen at one moment, and when a list of such steps explains the replies that several harts were given.
+#![tactic(auto)]
+
+mod answer;
+mod bytes;
+mod call;
+mod node;
+mod step;
+mod trace;
+mod tree;
+
+pub use crate::answer::{Answer, Cause, Full, NodeType, Reply, Stat};
+pub use crate::bytes::Bytes;
+pub use crate::call::Call;
+pub use crate::node::{Kind, Node, Slot, Slots};
+pub use crate::step::{Action, StepAnswer, TreeStep};
+pub use crate::trace::{Calls, Placed, Trace, TracedCall};
+pub use crate::tree::{Hart, Hold, OpenFile, OpenFileEntry, Tree};
