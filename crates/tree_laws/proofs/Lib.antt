@@ -1,0 +1,4 @@
+pub mod Maps
+pub mod Sums
+pub mod Slots
+pub mod Forest
