@@ -231,17 +231,17 @@ with_new ns d e n v = put (put ns d (Some (with_name (node_or (ns d)) e n))) n (
 pub new_apart : (ns : ℕ → Option Node) (d n : ℕ) → live_directory (ns d) ≡ true → ns n ≡ None → n ≢ d
 new_apart ns d n good none = λ q. absurd (let z : live_directory (ns n) ≡ true = subst (λ (x : ℕ). live_directory (ns x) ≡ true) (sym q) good in let y : live_directory (ns n) ≡ false = ap (λ (o : Option Node). live_directory o) none in cc (z, y))
 
-new_keeps : (ns : ℕ → Option Node) (d n : ℕ) (e : Name) (v : Node) → live_directory (ns d) ≡ true → ns n ≡ None → Keeps ns (with_new ns d e n v)
+pub new_keeps : (ns : ℕ → Option Node) (d n : ℕ) (e : Name) (v : Node) → live_directory (ns d) ≡ true → ns n ≡ None → Keeps ns (with_new ns d e n v)
 new_keeps ns d n e v good none =
     let ns1 = put ns d (Some (with_name (node_or (ns d)) e n)) in
     keeps_on ns ns1 (put ns1 n (Some v)) (entered_keeps ns d n e good) (keeps_new ns1 n v (put_other ns d (Some (with_name (node_or (ns d)) e n)) n (new_apart ns d n good none) ∙ none))
 
-new_range : (ns : ℕ → Option Node) (d n N : ℕ) (e : Name) (v : Node) → live_directory (ns d) ≡ true → 1 ≤ n → n < N → InRange ns N → InRange (with_new ns d e n v) N
+pub new_range : (ns : ℕ → Option Node) (d n N : ℕ) (e : Name) (v : Node) → live_directory (ns d) ≡ true → 1 ≤ n → n < N → InRange ns N → InRange (with_new ns d e n v) N
 new_range ns d n N e v good low high r =
     let ns1 = put ns d (Some (with_name (node_or (ns d)) e n)) in
     range_put ns1 n v N (entered_range ns d n N e good r) low high
 
-new_links : (ns : ℕ → Option Node) (d n : ℕ) (e : Name) (v : Node) → live_directory (ns d) ≡ true → ns n ≡ None → v.count ≡ 1 → (j : ℕ) → links_in (with_new ns d e n v) j ≡ links_in ns j + one_if (n == j)
+pub new_links : (ns : ℕ → Option Node) (d n : ℕ) (e : Name) (v : Node) → live_directory (ns d) ≡ true → ns n ≡ None → v.count ≡ 1 → (j : ℕ) → links_in (with_new ns d e n v) j ≡ links_in ns j + one_if (n == j)
 new_links ns d n e v good none one j =
     let ns1 = put ns d (Some (with_name (node_or (ns d)) e n)) in
     elim (put_is ns1 n (Some v) j) [
@@ -257,13 +257,13 @@ new_links ns d n e v good none one j =
           omega (arith, a, b, c)
     ]
 
-new_folders : (ns : ℕ → Option Node) (d n : ℕ) (e : Name) (v : Node) → live_directory (ns d) ≡ true → folders_of (with_new ns d e n v) ≡ put (put (folders_of ns) d (Some (first_free (all_slots (ns d)) (record { name = e; number = n })))) n (folder (Some v))
+pub new_folders : (ns : ℕ → Option Node) (d n : ℕ) (e : Name) (v : Node) → live_directory (ns d) ≡ true → folders_of (with_new ns d e n v) ≡ put (put (folders_of ns) d (Some (first_free (all_slots (ns d)) (record { name = e; number = n })))) n (folder (Some v))
 new_folders ns d n e v good =
     let ns1 = put ns d (Some (with_name (node_or (ns d)) e n)) in
     folders_put ns1 n (Some v) ∙ ap (λ (G : Folders). put G n (folder (Some v))) (entered_folders ns d n e good)
 
 -- the forest with a file's name entered at a new number
-file_forest : (t : Tree) (d n : ℕ) (e : Name) (C : ℕ → ℕ) → IsWellFormed t → live_directory (t.nodes d) ≡ true → first_slot (all_slots (t.nodes d)) e ≡ None → t.nodes n ≡ None → (k : IsWellFormed t)
+pub file_forest : (t : Tree) (d n : ℕ) (e : Name) (C : ℕ → ℕ) → IsWellFormed t → live_directory (t.nodes d) ≡ true → first_slot (all_slots (t.nodes d)) e ≡ None → t.nodes n ≡ None → (k : IsWellFormed t)
     → ((j : ℕ) → C j ≡ links_in t.nodes j + one_if (n == j))
     → IsForest (put (folders_of t.nodes) d (Some (first_free (all_slots (t.nodes d)) (record { name = e; number = n })))) C (raises t.holds) t.ninodes k.depth
 file_forest t d n e C kk good none new k count =

@@ -6,3 +6,4 @@ pub mod Nodes
 pub mod Walks
 pub mod Facts
 pub mod Formed
+pub mod Placed
