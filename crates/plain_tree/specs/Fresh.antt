@@ -1,6 +1,5 @@
 -- A fresh tree, and what a list of steps answers.
-use Rattle.std.specs.Prelude.{ℕ, ◌-◌, List, [], ◌∷◌, ◌++◌, Option, Some, None, replicate}
-use Rattle.plain_tree.specs.declared.node.Slot.{Slot}
+use Rattle.std.specs.Prelude.{ℕ, ◌-◌, List, [], ◌∷◌, Some, None, replicate}
 use Rattle.plain_tree.specs.declared.node.Node.{Node}
 use Rattle.plain_tree.specs.declared.node.Kind.TheVariants.{Directory}
 use Rattle.plain_tree.specs.declared.step.TreeStep.{TreeStep}
@@ -8,7 +7,7 @@ use Rattle.plain_tree.specs.declared.step.StepAnswer.{StepAnswer}
 use Rattle.plain_tree.specs.declared.tree.Hart.{Hart}
 use Rattle.plain_tree.specs.TreeData.{TreeData}
 use Rattle.plain_tree.specs.Tree.{Tree, dot, dotdot}
-use Rattle.plain_tree.specs.Applied.{Outcome, applied}
+use Rattle.plain_tree.specs.Applied.{applied}
 use Rattle.plain_tree.specs.Widths.{root, hart_count, descriptor_count}
 
 -- slots of a fresh root: one block of them

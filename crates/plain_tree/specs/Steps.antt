@@ -1,5 +1,5 @@
 -- One step of the plain tree: its causes in order, its answer, what it changes.
-use Rattle.std.specs.Prelude.{◌≡◌, ◌≢◌, ℕ, zero, suc, ◌+◌, ◌-◌, ◌*◌, ◌/◌, ◌%◌, ◌<◌, ◌≤◌, ℤ, pos, negsuc, Bool, true, false, ◌&&◌, ◌||◌, not, List, [], ◌∷◌, ◌++◌, take, drop, length, replicate, ◌==◌, nat_lt, if◌then◌else◌, Option, Some, None, bit_and}
+use Rattle.std.specs.Prelude.{◌≡◌, ℕ, zero, suc, ◌+◌, ◌-◌, ◌*◌, ◌/◌, ◌%◌, ◌<◌, ◌≤◌, ℤ, pos, negsuc, Bool, true, false, ◌&&◌, ◌||◌, not, List, [], ◌∷◌, ◌++◌, take, drop, length, replicate, ◌==◌, nat_lt, if◌then◌else◌, Option, Some, None, bit_and}
 use Rattle.plain_tree.specs.declared.answer.Cause.{Cause}
 use Rattle.plain_tree.specs.declared.answer.Cause.TheVariants.{NoEntry, Exists, IsDirectory, NotEmpty, DotName, BadDescriptor, BadMode, TooBig, NoDriver, TooManyLinks, BadOffset, NotDirectory}
 use Rattle.plain_tree.specs.declared.answer.Full.TheVariants.{Descriptors}
