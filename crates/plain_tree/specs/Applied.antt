@@ -1,5 +1,5 @@
 -- What `Tree::apply` does: the tree step, and an answer to every other step.
-use Rattle.std.specs.Prelude.{◌≡◌, ◌≢◌, ℕ, ◌<◌, Bool, true, false, ◌&&◌, not, nat_lt, if◌then◌else◌, Option, Some, None}
+use Rattle.std.specs.Prelude.{◌≡◌, ◌≢◌, ℕ, ◌<◌, true, nat_lt, if◌then◌else◌, Option, Some, None}
 use Rattle.plain_tree.specs.declared.answer.Cause.{Cause}
 use Rattle.plain_tree.specs.declared.answer.Cause.TheVariants.{BadDescriptor}
 use Rattle.plain_tree.specs.declared.answer.Full.TheVariants.{Descriptors}
@@ -33,8 +33,8 @@ in_place t s None id = record {
 abbrev pub applied : Tree → TreeStep → ℕ → Outcome
 applied t s id =
     if nat_lt s.hart hart_count
-      then (if place_of t s.hart s.action then in_place t s (refusal t s.hart s.action) id else record { answer = out_of_place s.action; tree = t })
-      else record { answer = Failed BadDescriptor; tree = t }
+    then (if place_of t s.hart s.action then in_place t s (refusal t s.hart s.action) id else record { answer = out_of_place s.action; tree = t })
+    else record { answer = Failed BadDescriptor; tree = t }
 
 -- the least unused id
 pub record IsLeastUnused (t : Tree) (id : ℕ) : Type 0 where

@@ -6,3 +6,5 @@ pub mod Steps
 pub mod Calls
 pub mod Explains
 pub mod Applied
+pub mod Fresh
+pub mod Rows

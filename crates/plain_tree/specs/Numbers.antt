@@ -1,5 +1,5 @@
--- The numbers of answers.
-use Rattle.std.specs.Prelude.{ℕ}
+-- The numbers and the names of answers.
+use Rattle.std.specs.Prelude.{ℕ, List, codes}
 use Rattle.plain_tree.specs.declared.answer.Cause.{Cause}
 use Rattle.plain_tree.specs.declared.answer.Cause.TheVariants.{NoEntry, Exists, IsDirectory, NotEmpty, DotName, BadDescriptor, BadMode, TooBig, NoDriver, TooManyLinks, BadOffset, NotDirectory}
 use Rattle.plain_tree.specs.declared.answer.Full.{Full}
@@ -21,6 +21,20 @@ cause_number TooManyLinks = 10
 cause_number BadOffset = 11
 cause_number NotDirectory = 12
 
+abbrev pub cause_name : Cause → List ℕ
+cause_name NoEntry = codes "NoEntry"
+cause_name Exists = codes "Exists"
+cause_name IsDirectory = codes "IsDirectory"
+cause_name NotEmpty = codes "NotEmpty"
+cause_name DotName = codes "DotName"
+cause_name BadDescriptor = codes "BadDescriptor"
+cause_name BadMode = codes "BadMode"
+cause_name TooBig = codes "TooBig"
+cause_name NoDriver = codes "NoDriver"
+cause_name TooManyLinks = codes "TooManyLinks"
+cause_name BadOffset = codes "BadOffset"
+cause_name NotDirectory = codes "NotDirectory"
+
 abbrev pub full_number : Full → ℕ
 full_number MemInodes = 21
 full_number OpenFiles = 22
@@ -28,6 +42,14 @@ full_number Descriptors = 23
 full_number Blocks = 24
 full_number DiskInodes = 25
 full_number FullDirectory = 26
+
+abbrev pub full_name : Full → List ℕ
+full_name MemInodes = codes "MemInodes"
+full_name OpenFiles = codes "OpenFiles"
+full_name Descriptors = codes "Descriptors"
+full_name Blocks = codes "Blocks"
+full_name DiskInodes = codes "DiskInodes"
+full_name FullDirectory = codes "Directory"
 
 abbrev pub type_number : NodeType → ℕ
 type_number Directory = 1

@@ -1,5 +1,5 @@
 -- One step of the plain tree: its causes in order, its answer, what it changes.
-use Rattle.std.specs.Prelude.{◌≡◌, ◌≢◌, ℕ, zero, suc, ◌+◌, ◌-◌, ◌*◌, ◌/◌, ◌%◌, ◌<◌, ◌≤◌, ℤ, pos, negsuc, Bool, true, false, ◌&&◌, ◌||◌, not, List, [], ◌∷◌, ◌++◌, take, drop, length, replicate, ◌==◌, nat_lt, if◌then◌else◌, Option, Some, None, bit_and}
+use Rattle.std.specs.Prelude.{◌≡◌, ℕ, zero, suc, ◌+◌, ◌-◌, ◌*◌, ◌/◌, ◌%◌, ◌<◌, ◌≤◌, ℤ, pos, negsuc, Bool, true, false, ◌&&◌, ◌||◌, not, List, [], ◌∷◌, ◌++◌, take, drop, length, replicate, ◌==◌, nat_lt, if◌then◌else◌, Option, Some, None, bit_and}
 use Rattle.plain_tree.specs.declared.answer.Cause.{Cause}
 use Rattle.plain_tree.specs.declared.answer.Cause.TheVariants.{NoEntry, Exists, IsDirectory, NotEmpty, DotName, BadDescriptor, BadMode, TooBig, NoDriver, TooManyLinks, BadOffset, NotDirectory}
 use Rattle.plain_tree.specs.declared.answer.Full.TheVariants.{Descriptors}
@@ -519,10 +519,28 @@ makes_node t (Close fd) par = false
 makes_node t (Fstat fd) par = false
 makes_node t (Inherit child) par = false
 
--- What a step may choose: a new node any number that isn't in the tree, a new open file any unused id.
+-- the step, where it isn't refused, opens a file
+abbrev pub opens_one : Tree → ℕ → Action → Bool
+opens_one t h (Open path flags) = has_room (t.fds h)
+opens_one t h (Truncate fd) = false
+opens_one t h (Read fd n) = false
+opens_one t h (WritePart fd b) = false
+opens_one t h (Find old) = false
+opens_one t h Bump = false
+opens_one t h (Enter new) = false
+opens_one t h Unbump = false
+opens_one t h (Unlink path) = false
+opens_one t h (Mkdir path) = false
+opens_one t h (Chdir path) = false
+opens_one t h (Dup fd) = false
+opens_one t h (Close fd) = false
+opens_one t h (Fstat fd) = false
+opens_one t h (Inherit child) = false
+
+-- What a step may choose: for a new node any number that isn't in the tree, for a new open file any unused id.
 pub record MayChoose (t : Tree) (h : ℕ) (s : Action) (par : Option (ℕ × Name)) (new id : ℕ) : Type 0 where
   pub node : makes_node t s par ≡ true → IsNewNode t new
-  pub file : t.files id ≡ None
+  pub file : opens_one t h s ≡ true → t.files id ≡ None
 
 -- The step, where the path was found to resolve to res and its parent to be par.
 abbrev pub StepWith : Tree → ℕ → Action → Option ℕ → Option (ℕ × Name) → StepAnswer → ℕ → ℕ → Tree → Type 0

@@ -1,6 +1,6 @@
 //! What a call is answered.
 ghost use Rattle.std.specs.Prelude.{◌≡◌};
-ghost use Rattle.plain_tree.specs.Numbers.{cause_number, full_number, type_number};
+ghost use Rattle.plain_tree.specs.Numbers.{cause_name, cause_number, full_name, full_number, type_number};
 
 use crate::call::Call;
 
@@ -47,7 +47,7 @@ pub struct Stat {
     pub inode: u16,
     pub kind: NodeType,
     pub nlink: u16,
-    pub size: u32,
+    pub size: u64,
 }
 
 /// What a call answers.
@@ -89,6 +89,26 @@ impl Cause {
             Cause::NotDirectory => 12,
         }
     }
+
+    /// The name under which it is printed.
+    pub fn name(&self) -> &'static str
+        ensures { result.now ≡ cause_name self.now }
+    {
+        match self {
+            Cause::NoEntry => "NoEntry",
+            Cause::Exists => "Exists",
+            Cause::IsDirectory => "IsDirectory",
+            Cause::NotEmpty => "NotEmpty",
+            Cause::DotName => "DotName",
+            Cause::BadDescriptor => "BadDescriptor",
+            Cause::BadMode => "BadMode",
+            Cause::TooBig => "TooBig",
+            Cause::NoDriver => "NoDriver",
+            Cause::TooManyLinks => "TooManyLinks",
+            Cause::BadOffset => "BadOffset",
+            Cause::NotDirectory => "NotDirectory",
+        }
+    }
 }
 
 impl Full {
@@ -103,6 +123,20 @@ impl Full {
             Full::Blocks => 24,
             Full::DiskInodes => 25,
             Full::Directory => 26,
+        }
+    }
+
+    /// The name under which it is printed.
+    pub fn name(&self) -> &'static str
+        ensures { result.now ≡ full_name self.now }
+    {
+        match self {
+            Full::MemInodes => "MemInodes",
+            Full::OpenFiles => "OpenFiles",
+            Full::Descriptors => "Descriptors",
+            Full::Blocks => "Blocks",
+            Full::DiskInodes => "DiskInodes",
+            Full::Directory => "Directory",
         }
     }
 }

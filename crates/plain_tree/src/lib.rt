@@ -6,6 +6,7 @@ mod answer;
 mod bytes;
 mod call;
 mod node;
+pub mod rows;
 mod step;
 mod trace;
 mod tree;

@@ -52,18 +52,10 @@ impl Slots {
 /// What a node is.
 #[derive(Drop)]
 pub enum Kind {
-    Directory {
-        slots: Slots,
-    },
-    File {
-        bytes: Bytes,
-    },
+    Directory { slots: Slots },
+    File { bytes: Bytes },
     /// A device as its image has it: `size` is the size that the inode says, and has no bytes behind it.
-    Device {
-        major: i16,
-        minor: i16,
-        size: u32,
-    },
+    Device { major: i16, minor: i16, size: u32 },
 }
 
 /// A node, and how many names it has (a directory: the one in its parent, and the ".." of each directory in it).

@@ -40,7 +40,7 @@ pub struct TreeStep {
 #[derive(Drop)]
 pub enum StepAnswer {
     /// The descriptor, the id of the new open file, and whether a file was opened (only a file is emptied).
-    Opened { fd: u32, id: u32, is_file: bool },
+    Opened { fd: u32, id: usize, is_file: bool },
     /// The bytes read.
     Bytes { bytes: Bytes },
     Stat { stat: Stat },

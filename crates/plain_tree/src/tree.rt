@@ -6,7 +6,7 @@ use std::marker::Model;
 #[derive(Clone, Copy)]
 pub struct OpenFile {
     pub number: u16,
-    pub offset: u32,
+    pub offset: u64,
     pub readable: bool,
     pub writable: bool,
 }
@@ -14,7 +14,7 @@ pub struct OpenFile {
 /// An open file with its id.
 #[derive(Clone, Copy)]
 pub struct OpenFileEntry {
-    pub id: u32,
+    pub id: usize,
     pub file: OpenFile,
 }
 
@@ -29,7 +29,7 @@ pub struct Hold {
 #[derive(Clone, Copy)]
 pub struct Hart {
     pub directory: u16,
-    pub descriptors: [Option<u32>; 16],
+    pub descriptors: [Option<usize>; 16],
     pub hold: Option<Hold>,
 }
 
