@@ -7,3 +7,5 @@ pub mod Walks
 pub mod Facts
 pub mod Formed
 pub mod Placed
+pub mod Opened
+pub mod Kept
