@@ -132,7 +132,7 @@ is_raised o n h = ap (λ (b : Bool). one_if b) (left o.raised (o.number == n) h)
     left a b p = grind arith
 
 -- the count of a node that is no directory changes
-counted_folders : (ns : ℕ → Option Node) (n : ℕ) (v w : Node) → ns n ≡ Some v → w.kind ≡ v.kind → is_directory v.kind ≡ false → folders_of (put ns n (Some w)) ≡ folders_of ns
+pub counted_folders : (ns : ℕ → Option Node) (n : ℕ) (v w : Node) → ns n ≡ Some v → w.kind ≡ v.kind → is_directory v.kind ≡ false → folders_of (put ns n (Some w)) ≡ folders_of ns
 counted_folders ns n v w is kind dv =
     let none : folder (ns n) ≡ folder (Some w) = ap (λ (o : Option Node). folder o) is ∙ (not_folder v dv ∙ sym (not_folder w (ap (λ (z : Kind). is_directory z) kind ∙ dv))) in
     folders_put ns n (Some w) ∙ put_self (folders_of ns) n (folder (Some w)) none

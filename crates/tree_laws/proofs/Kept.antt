@@ -26,34 +26,34 @@ use Rattle.tree_laws.proofs.Placed.{well_directory, well_removed}
 use Rattle.tree_laws.proofs.Opened.{file_is, well_opened, well_moved, well_dup, well_closed, well_inherit, well_chdir, well_hold}
 
 -- what a test leaves
-if_none : {A : Type 0} → (b : Bool) (k : A) → (if b then Some k else None) ≡ None → b ≡ false
+pub if_none : {A : Type 0} → (b : Bool) (k : A) → (if b then Some k else None) ≡ None → b ≡ false
 if_none true k h = absurd cc
 if_none false k h = refl
 
-if_some : {A : Type 0} → (b : Bool) (k : A) → (if b then None else Some k) ≡ None → b ≡ true
+pub if_some : {A : Type 0} → (b : Bool) (k : A) → (if b then None else Some k) ≡ None → b ≡ true
 if_some true k h = refl
 if_some false k h = absurd cc
 
-none_taken : (r : Option ℕ) → name_taken r ≡ None → r ≡ None
+pub none_taken : (r : Option ℕ) → name_taken r ≡ None → r ≡ None
 none_taken None h = refl
 none_taken (Some n) h = absurd cc
 
-or_first : (a b : Option Cause) → or_else a b ≡ None → a ≡ None
+pub or_first : (a b : Option Cause) → or_else a b ≡ None → a ≡ None
 or_first None b h = refl
 or_first (Some k) b h = absurd cc
 
-not_false : (b : Bool) → not b ≡ true → b ≡ false
+pub not_false : (b : Bool) → not b ≡ true → b ≡ false
 not_false true h = absurd cc
 not_false false h = refl
 
-there_map : (ns : ℕ → Option Node) (n : ℕ) (b : Bool) → IsThere ns n b → InMap ns n × (is_directory (node_or (ns n)).kind ≡ b)
+pub there_map : (ns : ℕ → Option Node) (n : ℕ) (b : Bool) → IsThere ns n b → InMap ns n × (is_directory (node_or (ns n)).kind ≡ b)
 there_map ns n b th = (in_map ns n th.node th.is, ap (λ (o : Option Node). is_directory (node_or o).kind) th.is ∙ th.sort)
 
 map_there : (ns : ℕ → Option Node) (n : ℕ) (b : Bool) → InMap ns n → is_directory (node_or (ns n)).kind ≡ b → IsThere ns n b
 map_there ns n b is sort = record { node = node_or (ns n); is = is; sort = sort }
 
 -- the node of a descriptor's open file is in the map
-open_node : (t : Tree) (h fd : ℕ) (f : OpenFile) → IsWellFormed t → h < hart_count → file_at t h fd ≡ Some f → InMap t.nodes f.number
+pub open_node : (t : Tree) (h fd : ℕ) (f : OpenFile) → IsWellFormed t → h < hart_count → file_at t h fd ≡ Some f → InMap t.nodes f.number
 open_node t h fd f k lt is =
     let two = file_is t h fd f is in
     let o = k.descriptors h fd two.1.0 lt two.0 two.1.1 in
@@ -61,22 +61,22 @@ open_node t h fd f k lt is =
     let same : o.file ≡ f = cc in
     subst (λ (z : OpenFile). InMap t.nodes z.number) same (in_map t.nodes o.file.number o.node o.there)
 
-file_sort : (x : Kind) → is_file x ≡ true → is_directory x ≡ false
+pub file_sort : (x : Kind) → is_file x ≡ true → is_directory x ≡ false
 file_sort (Directory slots) h = absurd cc
 file_sort (File bytes) h = refl
 file_sort (Device a b c) h = absurd cc
 
-emptied_sort : (x : Kind) → is_directory x ≡ false → is_directory (emptied x) ≡ false
+pub emptied_sort : (x : Kind) → is_directory x ≡ false → is_directory (emptied x) ≡ false
 emptied_sort (Directory slots) h = h
 emptied_sort (File bytes) h = refl
 emptied_sort (Device a b c) h = refl
 
-written_sort : (x : Kind) (o : ℕ) (b : List ℕ) → is_directory x ≡ false → is_directory (written_kind x o b) ≡ false
+pub written_sort : (x : Kind) (o : ℕ) (b : List ℕ) → is_directory x ≡ false → is_directory (written_kind x o b) ≡ false
 written_sort (Directory slots) o b h = h
 written_sort (File bytes) o b h = refl
 written_sort (Device x y z) o b h = refl
 
-written_dir : (x : Kind) (o : ℕ) (b : List ℕ) → is_directory x ≡ true → written_kind x o b ≡ x
+pub written_dir : (x : Kind) (o : ℕ) (b : List ℕ) → is_directory x ≡ true → written_kind x o b ≡ x
 written_dir (Directory slots) o b h = refl
 written_dir (File bytes) o b h = absurd cc
 written_dir (Device x y z) o b h = refl
@@ -147,10 +147,10 @@ unbumped_well t h (Some o) k lt is place =
     (omega (arith, one, links, sum, part))
     (λ q e. absurd cc)
 
-absent_slot : (t : Tree) (d : ℕ) (e : Name) → live_directory (t.nodes d) ≡ true → look t.nodes d e ≡ None → first_slot (all_slots (t.nodes d)) e ≡ None
+pub absent_slot : (t : Tree) (d : ℕ) (e : Name) → live_directory (t.nodes d) ≡ true → look t.nodes d e ≡ None → first_slot (all_slots (t.nodes d)) e ≡ None
 absent_slot t d e good none = sym (look_in t.nodes d e good) ∙ none
 
-abbrev LiveParent : Tree → Option (ℕ × Name) → Type 0
+abbrev pub LiveParent : Tree → Option (ℕ × Name) → Type 0
 LiveParent t par = (q : ℕ × Name) → par ≡ Some q → live_directory (t.nodes q.0) ≡ true
 
 entered_well : (t : Tree) (h : ℕ) (par : Option (ℕ × Name)) (o : Option Hold) → IsWellFormed t → h < hart_count → LiveParent t par → enter_refusal t par ≡ None → t.holds h ≡ o → holds_raised true o ≡ true → IsWellFormed (drop_hold (enter_hold t par o) h)
@@ -161,6 +161,14 @@ entered_well t h (Some q) (Some o) k lt live ref is place =
     let good = live q refl in
     well_entered t h q.0 q.1 o k lt good none (absent_slot t q.0 q.1 good none) is place
 
+pub dotted : {A : Type 0} (k : A) (b : Bool) (r : Option A) → b ≡ true → (if b then Some k else r) ≡ None → ⊥
+dotted k true r y h = absurd cc
+dotted k false r y h = absurd cc
+
+pub plain : {A : Type 0} (k : A) (b : Bool) (r : Option A) → b ≡ false → (if b then Some k else r) ≡ None → r ≡ None
+plain k true r y h = absurd cc
+plain k false r y h = h
+
 removed_well : (t : Tree) (par : Option (ℕ × Name)) → IsWellFormed t → LiveParent t par → unlink_refusal t par ≡ None → IsWellFormed (removed t par)
 removed_well t None k live ref = absurd cc
 removed_well t (Some q) k live ref = elim (either (same_name q.1 dot || same_name q.1 dotdot)) [
@@ -170,14 +178,6 @@ removed_well t (Some q) k live ref = elim (either (same_name q.1 dot || same_nam
       go two.0 two.1 (look t.nodes q.0 q.1) refl (plain DotName (same_name q.1 dot || same_name q.1 dotdot) (child_refusal t (look t.nodes q.0 q.1)) y ref)
 ]
   where
-    dotted : {A : Type 0} (k : A) (b : Bool) (r : Option A) → b ≡ true → (if b then Some k else r) ≡ None → ⊥
-    dotted k true r y h = absurd cc
-    dotted k false r y h = absurd cc
-
-    plain : {A : Type 0} (k : A) (b : Bool) (r : Option A) → b ≡ false → (if b then Some k else r) ≡ None → r ≡ None
-    plain k true r y h = absurd cc
-    plain k false r y h = h
-
     go : same_name q.1 dot ≡ false → same_name q.1 dotdot ≡ false → (r : Option ℕ) → look t.nodes q.0 q.1 ≡ r → child_refusal t r ≡ None → IsWellFormed (removed_child t q.0 q.1 r)
     go a b None is h = absurd cc
     go a b (Some n) is h = let good = live q refl in well_removed t q.0 n q.1 k good a b is (sym (look_in t.nodes q.0 q.1 good) ∙ is) h

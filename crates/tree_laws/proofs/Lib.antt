@@ -9,3 +9,5 @@ pub mod Formed
 pub mod Placed
 pub mod Opened
 pub mod Kept
+pub mod Changed
+pub mod Frames

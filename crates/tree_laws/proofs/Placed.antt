@@ -24,7 +24,7 @@ both_true a b p q = grind arith
 more_live : (c : ℕ) → nat_lt 0 (c + 1) ≡ true
 more_live c = grind (arith, nat_tests)
 
-raised_folder : (o : Option Node) → live_directory o ≡ true → folder o ≡ folder (Some (raised (node_or o)))
+pub raised_folder : (o : Option Node) → live_directory o ≡ true → folder o ≡ folder (Some (raised (node_or o)))
 raised_folder None h = absurd cc
 raised_folder (Some v) h = folder_live (Some v) h ∙ sym (folder_live (Some (raised v)) (both_true (nat_lt 0 (v.count + 1)) (is_directory v.kind) (more_live v.count) (and_true _ _ h).1))
 
@@ -92,7 +92,7 @@ well_directory t d n e k good none new low high =
 
 -- Removal.
 
-put_turn : {A : Type 0} → (f : ℕ → A) (a b : ℕ) (x y : A) → a ≢ b → put (put f a x) b y ≡ put (put f b y) a x
+pub put_turn : {A : Type 0} → (f : ℕ → A) (a b : ℕ) (x y : A) → a ≢ b → put (put f a x) b y ≡ put (put f b y) a x
 put_turn f a b x y ne = everywhere (put (put f a x) b y) (put (put f b y) a x) (λ k. elim (put_is (put f a x) b y k) [
   | inl p ↦
       let ka : k ≢ a = (λ q. ne (sym q ∙ p.0)) in
@@ -110,7 +110,7 @@ less b e v = record v { kind = Directory (cleared (slots_of v.kind) e); count = 
 abbrev pub without : (ℕ → Option Node) → ℕ → Name → ℕ → Bool → ℕ → Option Node
 without ns d e n b = let ns1 = put ns d (Some (less b e (node_or (ns d)))) in put ns1 n (Some (lowered (node_or (ns1 n))))
 
-less_folder : (o : Option Node) (b : Bool) (e : Name) → live_directory o ≡ true → nat_lt 0 (less b e (node_or o)).count ≡ true → folder (Some (less b e (node_or o))) ≡ Some (cleared (all_slots o) e)
+pub less_folder : (o : Option Node) (b : Bool) (e : Name) → live_directory o ≡ true → nat_lt 0 (less b e (node_or o)).count ≡ true → folder (Some (less b e (node_or o))) ≡ Some (cleared (all_slots o) e)
 less_folder None b e h c = absurd cc
 less_folder (Some v) b e h c = folder_live (Some (less b e v)) (both_true (nat_lt 0 (less b e v).count) true c refl)
 
@@ -129,7 +129,7 @@ without_range ns d n N b e p q r =
     range_put ns1 n (lowered (node_or (ns1 n))) N (range_put ns d (less b e (node_or (ns d))) N r p.0 p.1) q.0 q.1
 
 -- folders and counts afterwards, where d and n differ
-without_folders : (ns : ℕ → Option Node) (d n : ℕ) (b : Bool) (e : Name) → folders_of (without ns d e n b) ≡ put (put (folders_of ns) d (folder (Some (less b e (node_or (ns d)))))) n (folder (Some (lowered (node_or (put ns d (Some (less b e (node_or (ns d)))) n)))))
+pub without_folders : (ns : ℕ → Option Node) (d n : ℕ) (b : Bool) (e : Name) → folders_of (without ns d e n b) ≡ put (put (folders_of ns) d (folder (Some (less b e (node_or (ns d)))))) n (folder (Some (lowered (node_or (put ns d (Some (less b e (node_or (ns d)))) n)))))
 without_folders ns d n b e =
     let ns1 = put ns d (Some (less b e (node_or (ns d)))) in
     folders_put ns1 n (Some (lowered (node_or (ns1 n)))) ∙ ap (λ (G : Folders). put G n (folder (Some (lowered (node_or (ns1 n)))))) (folders_put ns d (Some (less b e (node_or (ns d)))))
@@ -171,7 +171,7 @@ without_links ns d n b e v w ne dv nw live more j =
     split true c h = let m : 1 ≤ c = h refl in let o : one_if true ≡ 1 = one_yes true refl in omega (arith, m, o)
     split false c h = let o : one_if false ≡ 0 = one_no false refl in omega (arith, o)
 
-empty_slots : (o : Option Node) (ss : Slots) → folder o ≡ Some ss → not_empty (node_or o).kind ≡ None → any_used (drop 2 ss) ≡ false
+pub empty_slots : (o : Option Node) (ss : Slots) → folder o ≡ Some ss → not_empty (node_or o).kind ≡ None → any_used (drop 2 ss) ≡ false
 empty_slots None ss h e = absurd cc
 empty_slots (Some v) ss h e = let two = folder_some (Some v) ss h in subst (λ (z : Slots). any_used (drop 2 z) ≡ false) two.1 (go v.kind (and_true _ _ two.0).1 e)
   where
@@ -184,21 +184,21 @@ empty_slots (Some v) ss h e = let two = folder_some (Some v) ss h in subst (λ (
     go (File bytes) d h = absurd cc
     go (Device a b c) d h = absurd cc
 
-sort_file : (o : Option Node) → is_live o ≡ true → folder o ≡ None → is_directory (node_or o).kind ≡ false
+pub sort_file : (o : Option Node) → is_live o ≡ true → folder o ≡ None → is_directory (node_or o).kind ≡ false
 sort_file None l h = absurd cc
 sort_file (Some v) l h = elim (either (is_directory v.kind)) [
   | inr y ↦ y
   | inl y ↦ absurd (let a : live_directory (Some v) ≡ true = both_true (nat_lt 0 v.count) (is_directory v.kind) l y in let b : live_directory (Some v) ≡ false = folder_none (Some v) h in cc (a, b))
 ]
 
-sort_folder : (o : Option Node) (ss : Slots) → folder o ≡ Some ss → is_directory (node_or o).kind ≡ true
+pub sort_folder : (o : Option Node) (ss : Slots) → folder o ≡ Some ss → is_directory (node_or o).kind ≡ true
 sort_folder None ss h = absurd cc
 sort_folder (Some v) ss h = (and_true _ _ (folder_some (Some v) ss h).0).1
 
-positive : (c : ℕ) → 1 ≤ c → nat_lt 0 c ≡ true
+pub positive : (c : ℕ) → 1 ≤ c → nat_lt 0 c ≡ true
 positive c h = grind (arith, nat_tests)
 
-gone : (c : ℕ) → c ≡ 0 → nat_lt 0 c ≡ false
+pub gone : (c : ℕ) → c ≡ 0 → nat_lt 0 c ≡ false
 gone c h = grind (arith, nat_tests)
 
 left_false : (a b : Bool) → a ≡ false → (a && b) ≡ false
@@ -216,7 +216,7 @@ pub record CanGo (t : Tree) (d n : ℕ) (e : Name) : Type 0 where
   pub higher : is_directory (node_at t n).kind ≡ true → n ≢ root
   pub empty : (ss : Slots) → folder (t.nodes n) ≡ Some ss → any_used (drop 2 ss) ≡ false
 
-links_node : (o : Option Node) → links_of o ≡ (node_or o).count
+pub links_node : (o : Option Node) → links_of o ≡ (node_or o).count
 links_node None = refl
 links_node (Some v) = refl
 
