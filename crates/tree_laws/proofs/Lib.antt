@@ -11,3 +11,4 @@ pub mod Opened
 pub mod Kept
 pub mod Changed
 pub mod Frames
+pub mod FreshTree

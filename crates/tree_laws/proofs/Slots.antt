@@ -157,7 +157,7 @@ first_dots d up rest e a b =
 pub first_dot : (d up : ℕ) (rest : Slots) (e : Name) → same_name e dot ≡ true → first_slot (Dots d up rest) e ≡ Some d
 first_dot d up rest e a = slot_here (record { name = dot; number = d }) (Some (record { name = dotdot; number = up }) ∷ rest) e (subst (λ (z : Name). same_name dot z ≡ true) (sym (same_is e dot a)) (same_self dot))
 
-dots_differ : same_name dot dotdot ≡ false
+pub dots_differ : same_name dot dotdot ≡ false
 unfolding same_name
 dots_differ = refl
 

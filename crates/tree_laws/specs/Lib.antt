@@ -1,2 +1,3 @@
 pub mod WellFormed
 pub mod Leaves
+pub mod Laws
