@@ -13,7 +13,7 @@ use Rattle.plain_tree.specs.declared.step.StepAnswer.{StepAnswer}
 use Rattle.plain_tree.specs.declared.step.StepAnswer.TheVariants.{Opened, Bytes, Stat as Status, Fd as NewFd, Done, Failed, Full as NoRoom}
 use Rattle.plain_tree.specs.Widths.{hart_count, descriptor_count, root}
 use Rattle.plain_tree.specs.Tree.{Name, Tree, put, same_name, dot, dotdot, is_directory, live_directory, all_slots, first_slot, look, resolve, parent, settle}
-use Rattle.plain_tree.specs.Steps.{node_or, node_at, file_at, is_open_file, holds_raised, has_room, creates, find_refusal, enter_refusal, child_refusal, unlink_refusal, mkdir_refusal, not_empty, any_used, first_free, cleared, path_of, refusal_with, place_of, IsInPlace, effect_with, refused, new_file, new_directory, raised, lowered, emptied, truncated, written_kind, written, moved, wrote, held, at_hold, raise_hold, enter_hold, drop_hold, removed, removed_child, made, opened_at, opened_in, opened_new, at_dir, with_file, is_absent, is_nothing, IsNewNode, MayChoose, StepWith}
+use Rattle.plain_tree.specs.Steps.{node_or, node_at, file_at, is_open_file, holds_raised, has_room, creates, find_refusal, enter_refusal, child_refusal, unlink_refusal, mkdir_refusal, not_empty, any_used, first_free, cleared, path_of, refusal_with, place_of, IsInPlace, effect_with, refused, new_file, new_directory, raised, lowered, emptied, truncated, written_kind, written, moved, wrote, held, at_hold, raise_hold, enter_hold, drop_hold, removed, removed_child, made, opened_at, opened_in, opened_new, at_dir, with_file, is_absent, is_nothing, makes_node, IsNewNode, MayChoose, StepWith}
 use Rattle.tree_laws.proofs.Maps.{either, same_or, eq_self, eq_not, put_is, put_same, put_other, and_true, or_none}
 use Rattle.tree_laws.specs.WellFormed.{Slots, Folders, folder, folders_of, links_in, raises, up_in, past, count_in, NamesOnce, is_free_to_find, IsForest, IsThere, IsOpen, IsWellFormed}
 use Rattle.tree_laws.specs.Leaves.{names_change}
@@ -26,16 +26,16 @@ use Rattle.tree_laws.proofs.Formed.{counted_folders, entered_folders, new_folder
 use Rattle.tree_laws.proofs.Placed.{with_directory, without, less, without_folders, less_folder, put_turn, can_go, sort_file, sort_folder, raised_folder, positive, gone, empty_slots, links_node}
 use Rattle.tree_laws.proofs.Kept.{LiveParent, in_place, absent_slot, none_taken, or_first, dotted, plain, not_false, if_none, there_map, open_node, file_sort, emptied_sort, written_sort, written_dir}
 
--- par: the path's parent and last element; b: whether the step enters or clears names; new: the number it may choose
-pub data Change (F F' : Folders) (b : Bool) (par : Option (ℕ × Name)) (new : ℕ) : Type 0 where
-  Same : F' ≡ F → Change F F' b par new
-  Entered : (d n : ℕ) (e : Name) (ss : Slots) → b ≡ true → par ≡ Some (d, e) → F d ≡ Some ss → first_slot ss e ≡ None → F' ≡ put F d (Some (first_free ss (record { name = e; number = n }))) → Change F F' b par new
-  Made : (d : ℕ) (e : Name) (ss : Slots) → b ≡ true → par ≡ Some (d, e) → F d ≡ Some ss → first_slot ss e ≡ None → F new ≡ None → F' ≡ put (put F d (Some (first_free ss (record { name = e; number = new })))) new (Some (Dots new d [])) → Change F F' b par new
-  Cleared : (d n : ℕ) (e : Name) (ss : Slots) → b ≡ true → par ≡ Some (d, e) → F d ≡ Some ss → NamesOnce ss → first_slot ss e ≡ Some n → F n ≡ None → F' ≡ put F d (Some (cleared ss e)) → Change F F' b par new
-  Removed : (d n : ℕ) (e : Name) (ss ns : Slots) → b ≡ true → par ≡ Some (d, e) → d ≢ n → F d ≡ Some ss → NamesOnce ss → first_slot ss e ≡ Some n → F n ≡ Some ns → ns ≡ Dots n (up_in ns) (drop 2 ns) → any_used (drop 2 ns) ≡ false → F' ≡ put (put F n None) d (Some (cleared ss e)) → Change F F' b par new
+-- par: the path's parent and last element; b: whether the step enters or clears names; m: whether it makes a node; new: the number it may choose
+pub data Change (F F' : Folders) (b m : Bool) (par : Option (ℕ × Name)) (new : ℕ) : Type 0 where
+  Same : F' ≡ F → Change F F' b m par new
+  Entered : (d n : ℕ) (e : Name) (ss : Slots) → b ≡ true → par ≡ Some (d, e) → F d ≡ Some ss → first_slot ss e ≡ None → F' ≡ put F d (Some (first_free ss (record { name = e; number = n }))) → Change F F' b m par new
+  Made : (d : ℕ) (e : Name) (ss : Slots) → b ≡ true → m ≡ true → par ≡ Some (d, e) → F d ≡ Some ss → first_slot ss e ≡ None → F new ≡ None → F' ≡ put (put F d (Some (first_free ss (record { name = e; number = new })))) new (Some (Dots new d [])) → Change F F' b m par new
+  Cleared : (d n : ℕ) (e : Name) (ss : Slots) → b ≡ true → par ≡ Some (d, e) → F d ≡ Some ss → NamesOnce ss → first_slot ss e ≡ Some n → F n ≡ None → F' ≡ put F d (Some (cleared ss e)) → Change F F' b m par new
+  Removed : (d n : ℕ) (e : Name) (ss ns : Slots) → b ≡ true → par ≡ Some (d, e) → d ≢ n → F d ≡ Some ss → NamesOnce ss → first_slot ss e ≡ Some n → F n ≡ Some ns → ns ≡ Dots n (up_in ns) (drop 2 ns) → any_used (drop 2 ns) ≡ false → F' ≡ put (put F n None) d (Some (cleared ss e)) → Change F F' b m par new
 
-same_nodes : (ns ns' : ℕ → Option Node) (b : Bool) (par : Option (ℕ × Name)) (new : ℕ) → ns' ≡ ns → Change (folders_of ns) (folders_of ns') b par new
-same_nodes ns ns' b par new e = Same (ap (λ (f : ℕ → Option Node). folders_of f) e)
+same_nodes : (ns ns' : ℕ → Option Node) (b m : Bool) (par : Option (ℕ × Name)) (new : ℕ) → ns' ≡ ns → Change (folders_of ns) (folders_of ns') b m par new
+same_nodes ns ns' b m par new e = Same (ap (λ (f : ℕ → Option Node). folders_of f) e)
 
 content_folders : (ns : ℕ → Option Node) (n : ℕ) (v w : Node) → ns n ≡ Some v → is_directory v.kind ≡ false → is_directory w.kind ≡ false → folders_of (put ns n (Some w)) ≡ folders_of ns
 content_folders ns n v w is dv dw = folders_put ns n (Some w) ∙ put_self (folders_of ns) n (folder (Some w)) (ap (λ (o : Option Node). folder o) is ∙ (not_folder v dv ∙ sym (not_folder w dw)))
@@ -88,14 +88,14 @@ held_folders t h (Some o) f k lt is same =
     let two = there_map t.nodes o.number false (k.holds h o lt is) in
     counted_folders t.nodes o.number (node_at t o.number) (f (node_at t o.number)) two.0 (same (node_at t o.number)) two.1
 
-entered_change : (t : Tree) (h new : ℕ) (par : Option (ℕ × Name)) (o : Option Hold) → LiveParent t par → enter_refusal t par ≡ None → Change (folders_of t.nodes) (folders_of (drop_hold (enter_hold t par o) h).nodes) true par new
-entered_change t h new None o live ref = Same refl
-entered_change t h new (Some q) None live ref = Same refl
-entered_change t h new (Some q) (Some o) live ref =
+entered_change : (m : Bool) (t : Tree) (h new : ℕ) (par : Option (ℕ × Name)) (o : Option Hold) → LiveParent t par → enter_refusal t par ≡ None → Change (folders_of t.nodes) (folders_of (drop_hold (enter_hold t par o) h).nodes) true m par new
+entered_change m t h new None o live ref = Same refl
+entered_change m t h new (Some q) None live ref = Same refl
+entered_change m t h new (Some q) (Some o) live ref =
     let good = live q refl in
     Entered q.0 o.number q.1 (all_slots (t.nodes q.0)) refl refl (folder_live (t.nodes q.0) good) (absent_slot t q.0 q.1 good (none_taken (look t.nodes q.0 q.1) ref)) (entered_folders t.nodes q.0 o.number q.1 good)
 
-made_change : (t : Tree) (par : Option (ℕ × Name)) (n : ℕ) → LiveParent t par → mkdir_refusal t par ≡ None → IsNewNode t n → Change (folders_of t.nodes) (folders_of (made t par n).nodes) true par n
+made_change : (t : Tree) (par : Option (ℕ × Name)) (n : ℕ) → LiveParent t par → mkdir_refusal t par ≡ None → IsNewNode t n → Change (folders_of t.nodes) (folders_of (made t par n).nodes) true true par n
 made_change t None n live ref new = Same refl
 made_change t (Some q) n live ref new =
     let ns = t.nodes in
@@ -112,11 +112,11 @@ made_change t (Some q) n live ref new =
     let two : folder (ns2 d) ≡ Some (first_free ss (record { name = e; number = n })) = ap (λ (G : Folders). G d) F2 ∙ (put_other F1 n (Some (Dots n d [])) d (λ r. nd (sym r)) ∙ put_same F d (Some (first_free ss (record { name = e; number = n })))) in
     let live2 : live_directory (ns2 d) ≡ true = (folder_some (ns2 d) (first_free ss (record { name = e; number = n })) two).0 in
     let F3 : folders_of (with_directory ns d e n) ≡ folders_of ns2 = folders_put ns2 d (Some (raised (node_or (ns2 d)))) ∙ put_self (folders_of ns2) d (folder (Some (raised (node_or (ns2 d))))) (raised_folder (ns2 d) live2) in
-    Made d e ss refl refl (folder_live (ns d) good) (absent_slot t d e good (none_taken (look t.nodes d e) (or_first _ _ ref))) (ap (λ (z : Option Node). folder z) new.unused) (F3 ∙ F2)
+    Made d e ss refl refl refl (folder_live (ns d) good) (absent_slot t d e good (none_taken (look t.nodes d e) (or_first _ _ ref))) (ap (λ (z : Option Node). folder z) new.unused) (F3 ∙ F2)
 
-opened_in_change : (t : Tree) (h id flags n d : ℕ) (e : Name) (r : Option ℕ) → live_directory (t.nodes d) ≡ true → look t.nodes d e ≡ r → (r ≡ None → IsNewNode t n) → Change (folders_of t.nodes) (folders_of (opened_in t h id flags d e r n).nodes) true (Some (d, e)) n
-opened_in_change t h id flags n d e (Some j) good is new = same_nodes t.nodes _ true (Some (d, e)) n (file_nodes t h id j flags)
-opened_in_change t h id flags n d e None good is new =
+opened_in_change : (m : Bool) (t : Tree) (h id flags n d : ℕ) (e : Name) (r : Option ℕ) → live_directory (t.nodes d) ≡ true → look t.nodes d e ≡ r → (r ≡ None → IsNewNode t n) → Change (folders_of t.nodes) (folders_of (opened_in t h id flags d e r n).nodes) true m (Some (d, e)) n
+opened_in_change m t h id flags n d e (Some j) good is new = same_nodes t.nodes _ true m (Some (d, e)) n (file_nodes t h id j flags)
+opened_in_change m t h id flags n d e None good is new =
     let ns = t.nodes in
     let F = folders_of ns in
     let ss = all_slots (ns d) in
@@ -127,14 +127,14 @@ opened_in_change t h id flags n d e None good is new =
     let F2 : folders_of t2.nodes ≡ F1 = new_folders ns d n e new_file good ∙ put_self F1 n (folder (Some new_file)) out in
     Entered d n e ss refl refl (folder_live (ns d) good) (absent_slot t d e good is) (ap (λ (g : ℕ → Option Node). folders_of g) (file_nodes t2 h id n flags) ∙ F2)
 
-opened_new_change : (t : Tree) (h id flags n : ℕ) (par : Option (ℕ × Name)) → LiveParent t par → (is_absent t par ≡ true → IsNewNode t n) → Change (folders_of t.nodes) (folders_of (opened_new t h id flags par n).nodes) true par n
-opened_new_change t h id flags n None live new = Same refl
-opened_new_change t h id flags n (Some q) live new = opened_in_change t h id flags n q.0 q.1 (look t.nodes q.0 q.1) (live q refl) refl (λ e. new (ap (λ (r : Option ℕ). is_nothing r) e))
+opened_new_change : (m : Bool) (t : Tree) (h id flags n : ℕ) (par : Option (ℕ × Name)) → LiveParent t par → (is_absent t par ≡ true → IsNewNode t n) → Change (folders_of t.nodes) (folders_of (opened_new t h id flags par n).nodes) true m par n
+opened_new_change m t h id flags n None live new = Same refl
+opened_new_change m t h id flags n (Some q) live new = opened_in_change m t h id flags n q.0 q.1 (look t.nodes q.0 q.1) (live q refl) refl (λ e. new (ap (λ (r : Option ℕ). is_nothing r) e))
 
 -- a name is removed
-gone_change : (t : Tree) (d n new : ℕ) (e : Name) → IsWellFormed t → live_directory (t.nodes d) ≡ true → same_name e dot ≡ false → same_name e dotdot ≡ false → look t.nodes d e ≡ Some n → not_empty (node_at t n).kind ≡ None
-    → Change (folders_of t.nodes) (folders_of (without t.nodes d e n (is_directory (node_at t n).kind))) true (Some (d, e)) new
-gone_change t d n new e k good a b found bare =
+gone_change : (m : Bool) (t : Tree) (d n new : ℕ) (e : Name) → IsWellFormed t → live_directory (t.nodes d) ≡ true → same_name e dot ≡ false → same_name e dotdot ≡ false → look t.nodes d e ≡ Some n → not_empty (node_at t n).kind ≡ None
+    → Change (folders_of t.nodes) (folders_of (without t.nodes d e n (is_directory (node_at t n).kind))) true m (Some (d, e)) new
+gone_change m t d n new e k good a b found bare =
     let ns = t.nodes in
     let first : first_slot (all_slots (ns d)) e ≡ Some n = sym (look_in ns d e good) ∙ found in
     let g = can_go t d n e k good a b found first bare in
@@ -175,39 +175,39 @@ gone_change t d n new e k good a b found bare =
     left_false : (a b : Bool) → a ≡ false → (a && b) ≡ false
     left_false a b h = grind arith
 
-removed_change : (t : Tree) (new : ℕ) (par : Option (ℕ × Name)) → IsWellFormed t → LiveParent t par → unlink_refusal t par ≡ None → Change (folders_of t.nodes) (folders_of (removed t par).nodes) true par new
-removed_change t new None k live ref = Same refl
-removed_change t new (Some q) k live ref = elim (either (same_name q.1 dot || same_name q.1 dotdot)) [
+removed_change : (m : Bool) (t : Tree) (new : ℕ) (par : Option (ℕ × Name)) → IsWellFormed t → LiveParent t par → unlink_refusal t par ≡ None → Change (folders_of t.nodes) (folders_of (removed t par).nodes) true m par new
+removed_change m t new None k live ref = Same refl
+removed_change m t new (Some q) k live ref = elim (either (same_name q.1 dot || same_name q.1 dotdot)) [
   | inl y ↦ absurd (dotted DotName (same_name q.1 dot || same_name q.1 dotdot) (child_refusal t (look t.nodes q.0 q.1)) y ref)
   | inr y ↦
       let two = or_none (same_name q.1 dot) (same_name q.1 dotdot) y in
       go two.0 two.1 (look t.nodes q.0 q.1) refl (plain DotName (same_name q.1 dot || same_name q.1 dotdot) (child_refusal t (look t.nodes q.0 q.1)) y ref)
 ]
   where
-    go : same_name q.1 dot ≡ false → same_name q.1 dotdot ≡ false → (r : Option ℕ) → look t.nodes q.0 q.1 ≡ r → child_refusal t r ≡ None → Change (folders_of t.nodes) (folders_of (removed_child t q.0 q.1 r).nodes) true (Some q) new
+    go : same_name q.1 dot ≡ false → same_name q.1 dotdot ≡ false → (r : Option ℕ) → look t.nodes q.0 q.1 ≡ r → child_refusal t r ≡ None → Change (folders_of t.nodes) (folders_of (removed_child t q.0 q.1 r).nodes) true m (Some q) new
     go a b None is h = absurd cc
-    go a b (Some n) is h = gone_change t q.0 n new q.1 k (live q refl) a b is h
+    go a b (Some n) is h = gone_change m t q.0 n new q.1 k (live q refl) a b is h
 
 effect_change : (t : Tree) (h : ℕ) (s : Action) (res : Option ℕ) (par : Option (ℕ × Name)) (new id : ℕ) → IsWellFormed t → h < hart_count → place_of t h s ≡ true → LiveParent t par
-    → refusal_with t h s res par ≡ None → MayChoose t h s par new id → Change (folders_of t.nodes) (folders_of (effect_with t h s res par new id).nodes) (names_change s) par new
+    → refusal_with t h s res par ≡ None → MayChoose t h s par new id → Change (folders_of t.nodes) (folders_of (effect_with t h s res par new id).nodes) (names_change s) (makes_node t s par) par new
 unfolding effect_with refusal_with place_of
 effect_change t h (Open path flags) res par new id k lt place live ref may = elim (either (creates flags)) [
-  | inl y ↦ rw y (opened_new_change t h id flags new par live (λ e. may.node (both (creates flags) (is_absent t par) y e)))
-  | inr y ↦ rw y (same_nodes t.nodes _ false par new (opened_nodes t h id flags new res))
+  | inl y ↦ rw y (opened_new_change (true && is_absent t par) t h id flags new par live (λ e. may.node (both (creates flags) (is_absent t par) y e)))
+  | inr y ↦ rw y (same_nodes t.nodes _ false (false && is_absent t par) par new (opened_nodes t h id flags new res))
 ]
   where
     both : (a b : Bool) → a ≡ true → b ≡ true → (a && b) ≡ true
     both a b p q = grind arith
 effect_change t h (Truncate fd) res par new id k lt place live ref may = Same (truncated_folders t h fd (file_at t h fd) k lt refl place)
-effect_change t h (Read fd n) res par new id k lt place live ref may = same_nodes t.nodes _ false par new (moved_nodes t (t.fds h fd) _)
+effect_change t h (Read fd n) res par new id k lt place live ref may = same_nodes t.nodes _ false false par new (moved_nodes t (t.fds h fd) _)
 effect_change t h (WritePart fd b) res par new id k lt place live ref may = Same (wrote_folders t h fd b k lt)
-effect_change t h (Find old) res par new id k lt place live ref may = same_nodes t.nodes _ false par new (held_nodes t h res)
+effect_change t h (Find old) res par new id k lt place live ref may = same_nodes t.nodes _ false false par new (held_nodes t h res)
 effect_change t h Bump res par new id k lt place live ref may = Same (held_folders t h (t.holds h) raised k lt refl (λ v. refl))
-effect_change t h (Enter name) res par new id k lt place live ref may = entered_change t h new par (t.holds h) live ref
+effect_change t h (Enter name) res par new id k lt place live ref may = entered_change false t h new par (t.holds h) live ref
 effect_change t h Unbump res par new id k lt place live ref may = Same (held_folders t h (t.holds h) lowered k lt refl (λ v. refl))
-effect_change t h (Unlink path) res par new id k lt place live ref may = removed_change t new par k live ref
+effect_change t h (Unlink path) res par new id k lt place live ref may = removed_change false t new par k live ref
 effect_change t h (Mkdir path) res par new id k lt place live ref may = made_change t par new live ref (may.node refl)
-effect_change t h (Chdir path) res par new id k lt place live ref may = same_nodes t.nodes _ false par new (dir_nodes t h res)
+effect_change t h (Chdir path) res par new id k lt place live ref may = same_nodes t.nodes _ false false par new (dir_nodes t h res)
 effect_change t h (Dup fd) res par new id k lt place live ref may = Same refl
 effect_change t h (Close fd) res par new id k lt place live ref may = Same refl
 effect_change t h (Fstat fd) res par new id k lt place live ref may = Same refl
@@ -231,19 +231,19 @@ refused_folders t h (Fstat fd) = refl
 refused_folders t h (Inherit child) = refl
 
 -- what a step does to the live directories
-pub step_change : (t t' : Tree) (h : ℕ) (s : Action) (a : StepAnswer) (new id : ℕ) → IsWellFormed t → StepWith t h s (resolve t h (path_of s)) (parent t h (path_of s)) a new id t' → Change (folders_of t.nodes) (folders_of t'.nodes) (names_change s) (parent t h (path_of s)) new
+pub step_change : (t t' : Tree) (h : ℕ) (s : Action) (a : StepAnswer) (new id : ℕ) → IsWellFormed t → StepWith t h s (resolve t h (path_of s)) (parent t h (path_of s)) a new id t' → Change (folders_of t.nodes) (folders_of t'.nodes) (names_change s) (makes_node t s (parent t h (path_of s))) (parent t h (path_of s)) new
 step_change t t' h s a new id k = go a
   where
     done : refusal_with t h s (resolve t h (path_of s)) (parent t h (path_of s)) ≡ None → MayChoose t h s (parent t h (path_of s)) new id → t' ≡ settle (effect_with t h s (resolve t h (path_of s)) (parent t h (path_of s)) new id) → IsInPlace t h s
-        → Change (folders_of t.nodes) (folders_of t'.nodes) (names_change s) (parent t h (path_of s)) new
+        → Change (folders_of t.nodes) (folders_of t'.nodes) (names_change s) (makes_node t s (parent t h (path_of s))) (parent t h (path_of s)) new
     done ref may is place =
         let two = in_place t h s place in
         let u : Tree = effect_with t h s (resolve t h (path_of s)) (parent t h (path_of s)) new id in
         let e : folders_of t'.nodes ≡ folders_of u.nodes = ap (λ (z : Tree). folders_of z.nodes) is ∙ settle_folders u in
-        subst (λ (G : Folders). Change (folders_of t.nodes) G (names_change s) (parent t h (path_of s)) new) (sym e)
+        subst (λ (G : Folders). Change (folders_of t.nodes) G (names_change s) (makes_node t s (parent t h (path_of s))) (parent t h (path_of s)) new) (sym e)
         (effect_change t h s (resolve t h (path_of s)) (parent t h (path_of s)) new id k two.0 two.1 (λ q e. parent_live t h (path_of s) q e) ref may)
 
-    go : (a : StepAnswer) → StepWith t h s (resolve t h (path_of s)) (parent t h (path_of s)) a new id t' → Change (folders_of t.nodes) (folders_of t'.nodes) (names_change s) (parent t h (path_of s)) new
+    go : (a : StepAnswer) → StepWith t h s (resolve t h (path_of s)) (parent t h (path_of s)) a new id t' → Change (folders_of t.nodes) (folders_of t'.nodes) (names_change s) (makes_node t s (parent t h (path_of s))) (parent t h (path_of s)) new
     go (Failed c) o = Same (ap (λ (z : Tree). folders_of z.nodes) o.1 ∙ refused_folders t h s)
     go (Opened fd j f) o = done o.0 o.2 o.3 o.4
     go (Bytes b) o = done o.0 o.2 o.3 o.4

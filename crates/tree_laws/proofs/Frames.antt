@@ -10,7 +10,7 @@ use Rattle.plain_tree.specs.declared.step.StepAnswer.{StepAnswer}
 use Rattle.plain_tree.specs.declared.step.StepAnswer.TheVariants.{Opened, Bytes, Stat as Status, Fd as NewFd, Done, Failed, Full as NoRoom}
 use Rattle.plain_tree.specs.Widths.{hart_count, descriptor_count, root}
 use Rattle.plain_tree.specs.Tree.{Name, Tree, put, any_below, same_name, dot, dotdot, climbs_in, live_directory, is_live, all_slots, first_slot, look, follow, resolve, parent, settle, is_named, hold_names, fd_names, file_names}
-use Rattle.plain_tree.specs.Steps.{new_file, has_room, creates, any_used, first_free, cleared, path_of, effect_with, refused, truncated, written, wrote, moved, file_at, held, at_hold, enter_hold, drop_hold, removed, removed_child, made, opened_at, opened_in, opened_new, at_dir, with_file, StepWith}
+use Rattle.plain_tree.specs.Steps.{new_file, has_room, creates, any_used, first_free, cleared, path_of, effect_with, refused, truncated, written, wrote, moved, file_at, held, at_hold, enter_hold, drop_hold, removed, removed_child, made, raise_hold, opened_at, opened_in, opened_new, at_dir, with_file, makes_node, StepWith}
 use Rattle.tree_laws.proofs.Maps.{either, same_or, eq_self, eq_not, put_is, put_same, put_other, none_any}
 use Rattle.tree_laws.specs.WellFormed.{Slots, Folders, folder, folders_of, up_in, NamesOnce, IsThere, IsOpen, IsWellFormed}
 use Rattle.tree_laws.specs.Leaves.{names_change, LeavesFinding, Frame, IsNobodys}
@@ -106,15 +106,15 @@ removes_leads ns ns' d n e r a x w c is = elim (after_removal ns ns' d n a x e w
 at_folder : (F F' : Folders) (k : ℕ) (o : Option Slots) → F' ≡ F → F k ≡ o → F' k ≡ o
 at_folder F F' k o e h = ap (λ (G : Folders). G k) e ∙ h
 
-change_leads : (ns ns' : Nodes) (b : Bool) (par : Option (ℕ × Name)) (new : ℕ) → Change (folders_of ns) (folders_of ns') b par new → Leads ns ns'
-change_leads ns ns' b par new (Same is) a x w c h = inl (grows_paths ns ns' a x w (λ s y e f. same_folder ns ns' s e (ap (λ (G : Folders). G s) is) ∙ f) h)
-change_leads ns ns' b par new (Entered d n e ss bt pt is none to) a x w c h = inl (grows_paths ns ns' a x w (λ s y f q. elim (put_is (folders_of ns) d (Some (first_free ss (record { name = e; number = n }))) s) [
+change_leads : (ns ns' : Nodes) (b m : Bool) (par : Option (ℕ × Name)) (new : ℕ) → Change (folders_of ns) (folders_of ns') b m par new → Leads ns ns'
+change_leads ns ns' b m par new (Same is) a x w c h = inl (grows_paths ns ns' a x w (λ s y e f. same_folder ns ns' s e (ap (λ (G : Folders). G s) is) ∙ f) h)
+change_leads ns ns' b m par new (Entered d n e ss bt pt is none to) a x w c h = inl (grows_paths ns ns' a x w (λ s y f q. elim (put_is (folders_of ns) d (Some (first_free ss (record { name = e; number = n }))) s) [
   | inl p ↦
       subst (λ (z : ℕ). look ns' z f ≡ Some y) (sym p.0)
       (entered_finds ns ns' d n e ss is none (ap (λ (G : Folders). G d) to ∙ put_same (folders_of ns) d (Some (first_free ss (record { name = e; number = n })))) y f (subst (λ (z : ℕ). look ns z f ≡ Some y) p.0 q))
   | inr p ↦ same_folder ns ns' s f (ap (λ (G : Folders). G s) to ∙ p.1) ∙ q
 ]) h)
-change_leads ns ns' b par new (Made d e ss bt pt is none fresh to) a x w c h =
+change_leads ns ns' b m par new (Made d e ss bt mt pt is none fresh to) a x w c h =
     let F = folders_of ns in
     let F1 : Folders = put F d (Some (first_free ss (record { name = e; number = new }))) in
     let nd : d ≢ new = (λ q. absurd (let z : folder (ns d) ≡ None = subst (λ (k : ℕ). folder (ns k) ≡ None) (sym q) fresh in cc (z, is))) in
@@ -127,7 +127,7 @@ change_leads ns ns' b par new (Made d e ss bt pt is none fresh to) a x w c h =
         | inr r ↦ same_folder ns ns' s f (ap (λ (G : Folders). G s) to ∙ (p.1 ∙ r.1)) ∙ q
       ]
     ]) h)
-change_leads ns ns' b par new (Cleared d n e ss bt pt is once found plain to) a x w c h =
+change_leads ns ns' b m par new (Cleared d n e ss bt pt is once found plain to) a x w c h =
     let F = folders_of ns in
     let dn : d ≢ n = (λ q. absurd (let z : folder (ns d) ≡ None = subst (λ (k : ℕ). folder (ns k) ≡ None) (sym q) plain in cc (z, is))) in
     removes_leads ns ns' d n e
@@ -135,7 +135,7 @@ change_leads ns ns' b par new (Cleared d n e ss bt pt is once found plain to) a 
     (λ s sd sn. ap (λ (G : Folders). G s) to ∙ put_other F d (Some (cleared ss e)) s sd)
     (λ f y nd q. absurd (let z : look ns n f ≡ None = look_off ns n f plain in cc (z, q))))
     a x w c h
-change_leads ns ns' b par new (Removed d n e ss ds bt pt dn is once found dis shape bare to) a x w c h =
+change_leads ns ns' b m par new (Removed d n e ss ds bt pt dn is once found dis shape bare to) a x w c h =
     let F = folders_of ns in
     let F1 : Folders = put F n None in
     removes_leads ns ns' d n e
@@ -145,12 +145,12 @@ change_leads ns ns' b par new (Removed d n e ss ds bt pt dn is once found dis sh
     a x w c h
 
 -- what is no live directory stays so
-change_dead : (ns ns' : Nodes) (b : Bool) (par : Option (ℕ × Name)) (new : ℕ) → Change (folders_of ns) (folders_of ns') b par new → (k : ℕ) → k ≢ new → folder (ns k) ≡ None → folder (ns' k) ≡ None
-change_dead ns ns' b par new (Same is) k ne h = ap (λ (G : Folders). G k) is ∙ h
-change_dead ns ns' b par new (Entered d n e ss bt pt is none to) k ne h = ap (λ (G : Folders). G k) to ∙ (put_other (folders_of ns) d _ k (λ q. absurd (let z : folder (ns k) ≡ Some ss = subst (λ (j : ℕ). folder (ns j) ≡ Some ss) (sym q) is in cc (z, h))) ∙ h)
-change_dead ns ns' b par new (Made d e ss bt pt is none fresh to) k ne h = ap (λ (G : Folders). G k) to ∙ (put_other _ new _ k ne ∙ (put_other (folders_of ns) d _ k (λ q. absurd (let z : folder (ns k) ≡ Some ss = subst (λ (j : ℕ). folder (ns j) ≡ Some ss) (sym q) is in cc (z, h))) ∙ h))
-change_dead ns ns' b par new (Cleared d n e ss bt pt is once found plain to) k ne h = ap (λ (G : Folders). G k) to ∙ (put_other (folders_of ns) d _ k (λ q. absurd (let z : folder (ns k) ≡ Some ss = subst (λ (j : ℕ). folder (ns j) ≡ Some ss) (sym q) is in cc (z, h))) ∙ h)
-change_dead ns ns' b par new (Removed d n e ss ds bt pt dn is once found dis shape bare to) k ne h =
+change_dead : (ns ns' : Nodes) (b m : Bool) (par : Option (ℕ × Name)) (new : ℕ) → Change (folders_of ns) (folders_of ns') b m par new → (k : ℕ) → (m ≡ true → k ≢ new) → folder (ns k) ≡ None → folder (ns' k) ≡ None
+change_dead ns ns' b m par new (Same is) k ne h = ap (λ (G : Folders). G k) is ∙ h
+change_dead ns ns' b m par new (Entered d n e ss bt pt is none to) k ne h = ap (λ (G : Folders). G k) to ∙ (put_other (folders_of ns) d _ k (λ q. absurd (let z : folder (ns k) ≡ Some ss = subst (λ (j : ℕ). folder (ns j) ≡ Some ss) (sym q) is in cc (z, h))) ∙ h)
+change_dead ns ns' b m par new (Made d e ss bt mt pt is none fresh to) k ne h = ap (λ (G : Folders). G k) to ∙ (put_other _ new _ k (ne mt) ∙ (put_other (folders_of ns) d _ k (λ q. absurd (let z : folder (ns k) ≡ Some ss = subst (λ (j : ℕ). folder (ns j) ≡ Some ss) (sym q) is in cc (z, h))) ∙ h))
+change_dead ns ns' b m par new (Cleared d n e ss bt pt is once found plain to) k ne h = ap (λ (G : Folders). G k) to ∙ (put_other (folders_of ns) d _ k (λ q. absurd (let z : folder (ns k) ≡ Some ss = subst (λ (j : ℕ). folder (ns j) ≡ Some ss) (sym q) is in cc (z, h))) ∙ h)
+change_dead ns ns' b m par new (Removed d n e ss ds bt pt dn is once found dis shape bare to) k ne h =
     ap (λ (G : Folders). G k) to ∙ (put_other _ d _ k (λ q. absurd (let z : folder (ns k) ≡ Some ss = subst (λ (j : ℕ). folder (ns j) ≡ Some ss) (sym q) is in cc (z, h)))
     ∙ elim (put_is (folders_of ns) n None k) [ inl p ↦ p.1 | inr p ↦ p.1 ∙ h ])
 
@@ -168,16 +168,16 @@ flipped a b h = elim (either (same_name b a)) [
   | inl z ↦ absurd (let q : b ≡ a = same_is b a z in let w : same_name a b ≡ true = subst (λ (x : Name). same_name x b ≡ true) q (same_self b) in cc (w, h))
 ]
 
-change_finds : (ns ns' : Nodes) (b : Bool) (par : Option (ℕ × Name)) (new : ℕ) → Change (folders_of ns) (folders_of ns') b par new → (d : ℕ) (a : Name) → live_directory (ns d) ≡ true → live_directory (ns' d) ≡ true → (b ≡ true → par ≢ Some (d, a)) → look ns' d a ≡ look ns d a
-change_finds ns ns' b par new (Same is) k a live live' other = same_folder ns ns' k a (ap (λ (G : Folders). G k) is)
-change_finds ns ns' b par new (Entered d n e ss bt pt is none to) k a live live' other = elim (put_is (folders_of ns) d (Some (first_free ss (record { name = e; number = n }))) k) [
+change_finds : (ns ns' : Nodes) (b m : Bool) (par : Option (ℕ × Name)) (new : ℕ) → Change (folders_of ns) (folders_of ns') b m par new → (d : ℕ) (a : Name) → live_directory (ns d) ≡ true → live_directory (ns' d) ≡ true → (b ≡ true → par ≢ Some (d, a)) → look ns' d a ≡ look ns d a
+change_finds ns ns' b m par new (Same is) k a live live' other = same_folder ns ns' k a (ap (λ (G : Folders). G k) is)
+change_finds ns ns' b m par new (Entered d n e ss bt pt is none to) k a live live' other = elim (put_is (folders_of ns) d (Some (first_free ss (record { name = e; number = n }))) k) [
   | inr p ↦ same_folder ns ns' k a (ap (λ (G : Folders). G k) to ∙ p.1)
   | inl p ↦
       let other' : b ≡ true → par ≢ Some (d, a) = (λ q r. other q (subst (λ (z : ℕ). par ≡ Some (z, a)) (sym p.0) r)) in
       subst (λ (z : ℕ). look ns' z a ≡ look ns z a) (sym p.0)
       (look_by ns' d a _ (first_slot ss a) (ap (λ (G : Folders). G d) to ∙ put_same (folders_of ns) d (Some (first_free ss (record { name = e; number = n })))) (entered_other ss (record { name = e; number = n }) a (ne_names d e a b par bt pt other')) ∙ sym (look_by ns d a ss (first_slot ss a) is refl))
 ]
-change_finds ns ns' b par new (Made d e ss bt pt is none fresh to) k a live live' other =
+change_finds ns ns' b m par new (Made d e ss bt mt pt is none fresh to) k a live live' other =
     let F = folders_of ns in
     let s : Slot = record { name = e; number = new } in
     let F1 : Folders = put F d (Some (first_free ss s)) in
@@ -192,14 +192,14 @@ change_finds ns ns' b par new (Made d e ss bt pt is none fresh to) k a live live
             (look_by ns' d a _ (first_slot ss a) (ap (λ (G : Folders). G d) to ∙ (put_other F1 new (Some (Dots new d [])) d nd ∙ put_same F d (Some (first_free ss s)))) (entered_other ss s a (ne_names d e a b par bt pt other')) ∙ sym (look_by ns d a ss (first_slot ss a) is refl))
       ]
     ]
-change_finds ns ns' b par new (Cleared d n e ss bt pt is once found plain to) k a live live' other = elim (put_is (folders_of ns) d (Some (cleared ss e)) k) [
+change_finds ns ns' b m par new (Cleared d n e ss bt pt is once found plain to) k a live live' other = elim (put_is (folders_of ns) d (Some (cleared ss e)) k) [
   | inr p ↦ same_folder ns ns' k a (ap (λ (G : Folders). G k) to ∙ p.1)
   | inl p ↦
       let other' : b ≡ true → par ≢ Some (d, a) = (λ q r. other q (subst (λ (z : ℕ). par ≡ Some (z, a)) (sym p.0) r)) in
       subst (λ (z : ℕ). look ns' z a ≡ look ns z a) (sym p.0)
       (look_by ns' d a _ (first_slot ss a) (ap (λ (G : Folders). G d) to ∙ put_same (folders_of ns) d (Some (cleared ss e))) (cleared_other ss e a (flipped e a (ne_names d e a b par bt pt other'))) ∙ sym (look_by ns d a ss (first_slot ss a) is refl))
 ]
-change_finds ns ns' b par new (Removed d n e ss ds bt pt dn is once found dis shape bare to) k a live live' other =
+change_finds ns ns' b m par new (Removed d n e ss ds bt pt dn is once found dis shape bare to) k a live live' other =
     let F = folders_of ns in
     let F1 : Folders = put F n None in
     elim (put_is F1 d (Some (cleared ss e)) k) [
@@ -214,13 +214,13 @@ change_finds ns ns' b par new (Removed d n e ss ds bt pt dn is once found dis sh
     ]
 
 -- a directory that is live no more had no entries
-change_gone : (ns ns' : Nodes) (b : Bool) (par : Option (ℕ × Name)) (new : ℕ) → Change (folders_of ns) (folders_of ns') b par new → (k : ℕ) (ks : Slots) → folder (ns k) ≡ Some ks → folder (ns' k) ≡ None → any_used (drop 2 ks) ≡ false
-change_gone ns ns' b par new (Same is) k ks h gone = absurd (let z : folder (ns' k) ≡ Some ks = ap (λ (G : Folders). G k) is ∙ h in cc (z, gone))
-change_gone ns ns' b par new (Entered d n e ss bt pt is none to) k ks h gone = elim (put_is (folders_of ns) d (Some (first_free ss (record { name = e; number = n }))) k) [
+change_gone : (ns ns' : Nodes) (b m : Bool) (par : Option (ℕ × Name)) (new : ℕ) → Change (folders_of ns) (folders_of ns') b m par new → (k : ℕ) (ks : Slots) → folder (ns k) ≡ Some ks → folder (ns' k) ≡ None → any_used (drop 2 ks) ≡ false
+change_gone ns ns' b m par new (Same is) k ks h gone = absurd (let z : folder (ns' k) ≡ Some ks = ap (λ (G : Folders). G k) is ∙ h in cc (z, gone))
+change_gone ns ns' b m par new (Entered d n e ss bt pt is none to) k ks h gone = elim (put_is (folders_of ns) d (Some (first_free ss (record { name = e; number = n }))) k) [
   | inl p ↦ absurd (let z : folder (ns' k) ≡ Some (first_free ss (record { name = e; number = n })) = ap (λ (G : Folders). G k) to ∙ p.1 in cc (z, gone))
   | inr p ↦ absurd (let z : folder (ns' k) ≡ Some ks = ap (λ (G : Folders). G k) to ∙ (p.1 ∙ h) in cc (z, gone))
 ]
-change_gone ns ns' b par new (Made d e ss bt pt is none fresh to) k ks h gone =
+change_gone ns ns' b m par new (Made d e ss bt mt pt is none fresh to) k ks h gone =
     let F1 : Folders = put (folders_of ns) d (Some (first_free ss (record { name = e; number = new }))) in
     elim (put_is F1 new (Some (Dots new d [])) k) [
       | inl p ↦ absurd (let z : folder (ns' k) ≡ Some (Dots new d []) = ap (λ (G : Folders). G k) to ∙ p.1 in cc (z, gone))
@@ -229,11 +229,11 @@ change_gone ns ns' b par new (Made d e ss bt pt is none fresh to) k ks h gone =
         | inr r ↦ absurd (let z : folder (ns' k) ≡ Some ks = ap (λ (G : Folders). G k) to ∙ (p.1 ∙ (r.1 ∙ h)) in cc (z, gone))
       ]
     ]
-change_gone ns ns' b par new (Cleared d n e ss bt pt is once found plain to) k ks h gone = elim (put_is (folders_of ns) d (Some (cleared ss e)) k) [
+change_gone ns ns' b m par new (Cleared d n e ss bt pt is once found plain to) k ks h gone = elim (put_is (folders_of ns) d (Some (cleared ss e)) k) [
   | inl p ↦ absurd (let z : folder (ns' k) ≡ Some (cleared ss e) = ap (λ (G : Folders). G k) to ∙ p.1 in cc (z, gone))
   | inr p ↦ absurd (let z : folder (ns' k) ≡ Some ks = ap (λ (G : Folders). G k) to ∙ (p.1 ∙ h) in cc (z, gone))
 ]
-change_gone ns ns' b par new (Removed d n e ss ds bt pt dn is once found dis shape bare to) k ks h gone = elim (put_is (put (folders_of ns) n None) d (Some (cleared ss e)) k) [
+change_gone ns ns' b m par new (Removed d n e ss ds bt pt dn is once found dis shape bare to) k ks h gone = elim (put_is (put (folders_of ns) n None) d (Some (cleared ss e)) k) [
   | inl p ↦ absurd (let z : folder (ns' k) ≡ Some (cleared ss e) = ap (λ (G : Folders). G k) to ∙ p.1 in cc (z, gone))
   | inr p ↦ elim (put_is (folders_of ns) n None k) [
     | inr r ↦ absurd (let z : folder (ns' k) ≡ Some ks = ap (λ (G : Folders). G k) to ∙ (p.1 ∙ (r.1 ∙ h)) in cc (z, gone))
@@ -248,9 +248,9 @@ pub step_finds : (t t' : Tree) (h : ℕ) (s : Action) (a : StepAnswer) (new id :
 step_finds t t' h s a new id k o =
     let c = step_change t t' h s a new id k o in
     record {
-      finds = λ d e live live' other. change_finds t.nodes t'.nodes (names_change s) (parent t h (path_of s)) new c d e live live' other;
-      gone = λ d live dead. change_gone t.nodes t'.nodes (names_change s) (parent t h (path_of s)) new c d (all_slots (t.nodes d)) (folder_live (t.nodes d) live) (folder_dead (t'.nodes d) dead);
-      dead = λ d ne dead. folder_none (t'.nodes d) (change_dead t.nodes t'.nodes (names_change s) (parent t h (path_of s)) new c d ne (folder_dead (t.nodes d) dead));
+      finds = λ d e live live' other. change_finds t.nodes t'.nodes (names_change s) (makes_node t s (parent t h (path_of s))) (parent t h (path_of s)) new c d e live live' other;
+      gone = λ d live dead. change_gone t.nodes t'.nodes (names_change s) (makes_node t s (parent t h (path_of s))) (parent t h (path_of s)) new c d (all_slots (t.nodes d)) (folder_live (t.nodes d) live) (folder_dead (t'.nodes d) dead);
+      dead = λ d ne dead. folder_none (t'.nodes d) (change_dead t.nodes t'.nodes (names_change s) (makes_node t s (parent t h (path_of s))) (parent t h (path_of s)) new c d ne (folder_dead (t.nodes d) dead));
     }
 
 -- Current directories of the other harts.
@@ -369,13 +369,130 @@ step_cwd t t' h g s (NewFd fd) new id res par o ne other = ap (λ (z : Tree). z.
 step_cwd t t' h g s Done new id res par o ne other = ap (λ (z : Tree). z.cwd g) o.3 ∙ (at_hart _ _ g (settled_cwd _) ∙ effect_cwd t h g s res par new id ne other)
 step_cwd t t' h g s (NoRoom f) new id res par o ne other = ap (λ (z : Tree). z.cwd g) o.3 ∙ (at_hart _ _ g (settled_cwd _) ∙ effect_cwd t h g s res par new id ne other)
 
+-- Holds of the other harts.
+
+moved_holds : (t : Tree) (o : Option ℕ) (by : ℕ) → (moved t o by).holds ≡ t.holds
+moved_holds t None by = refl
+moved_holds t (Some id) by = refl
+
+truncated_holds : (t : Tree) (o : Option OpenFile) → (truncated t o).holds ≡ t.holds
+truncated_holds t None = refl
+truncated_holds t (Some f) = refl
+
+written_holds : (t : Tree) (o : Option OpenFile) (b : List ℕ) → (written t o b).holds ≡ t.holds
+written_holds t None b = refl
+written_holds t (Some f) b = refl
+
+wrote_holds : (t : Tree) (h fd : ℕ) (b : List ℕ) → (wrote t h fd b).holds ≡ t.holds
+wrote_holds t h fd [] = refl
+wrote_holds t h fd (b ∷ bs) = moved_holds (written t (file_at t h fd) (b ∷ bs)) (t.fds h fd) (length (b ∷ bs)) ∙ written_holds t (file_at t h fd) (b ∷ bs)
+
+held_holds : (t : Tree) (h g : ℕ) (r : Option ℕ) → g ≢ h → (held t h r).holds g ≡ t.holds g
+held_holds t h g None ne = refl
+held_holds t h g (Some n) ne = put_other t.holds h (Some (record { number = n; raised = false })) g ne
+
+hold_holds : (t : Tree) (o : Option Hold) (f : Node → Node) → (at_hold t o f).holds ≡ t.holds
+hold_holds t None f = refl
+hold_holds t (Some o) f = refl
+
+enter_holds : (t : Tree) (par : Option (ℕ × Name)) (o : Option Hold) → (enter_hold t par o).holds ≡ t.holds
+enter_holds t None o = refl
+enter_holds t (Some q) None = refl
+enter_holds t (Some q) (Some o) = refl
+
+child_holds : (t : Tree) (d : ℕ) (e : Name) (r : Option ℕ) → (removed_child t d e r).holds ≡ t.holds
+child_holds t d e None = refl
+child_holds t d e (Some n) = refl
+
+removed_holds : (t : Tree) (par : Option (ℕ × Name)) → (removed t par).holds ≡ t.holds
+removed_holds t None = refl
+removed_holds t (Some q) = child_holds t q.0 q.1 (look t.nodes q.0 q.1)
+
+made_holds : (t : Tree) (par : Option (ℕ × Name)) (n : ℕ) → (made t par n).holds ≡ t.holds
+made_holds t None n = refl
+made_holds t (Some q) n = refl
+
+file_holds : (t : Tree) (h id n flags : ℕ) → (with_file t h id n flags).holds ≡ t.holds
+file_holds t h id n flags = elim (either (has_room (t.fds h))) [ inl y ↦ rw y refl | inr y ↦ rw y refl ]
+
+opened_holds : (t : Tree) (h id flags new : ℕ) (r : Option ℕ) → (opened_at t h id flags r new).holds ≡ t.holds
+opened_holds t h id flags new None = refl
+opened_holds t h id flags new (Some n) = file_holds t h id n flags
+
+opened_in_holds : (t : Tree) (h id flags new d : ℕ) (e : Name) (r : Option ℕ) → (opened_in t h id flags d e r new).holds ≡ t.holds
+opened_in_holds t h id flags new d e None = file_holds (record t { nodes = with_new t.nodes d e new new_file }) h id new flags
+opened_in_holds t h id flags new d e (Some n) = file_holds t h id n flags
+
+opened_new_holds : (t : Tree) (h id flags new : ℕ) (par : Option (ℕ × Name)) → (opened_new t h id flags par new).holds ≡ t.holds
+opened_new_holds t h id flags new None = refl
+opened_new_holds t h id flags new (Some q) = opened_in_holds t h id flags new q.0 q.1 (look t.nodes q.0 q.1)
+
+dir_holds : (t : Tree) (h : ℕ) (r : Option ℕ) → (at_dir t h r).holds ≡ t.holds
+dir_holds t h None = refl
+dir_holds t h (Some n) = refl
+
+of_hart : (f f' : ℕ → Option Hold) (g : ℕ) → f' ≡ f → f' g ≡ f g
+of_hart f f' g e = ap (λ (z : ℕ → Option Hold). z g) e
+
+effect_holds : (t : Tree) (h g : ℕ) (s : Action) (res : Option ℕ) (par : Option (ℕ × Name)) (new id : ℕ) → g ≢ h → (effect_with t h s res par new id).holds g ≡ t.holds g
+unfolding effect_with
+effect_holds t h g (Open path flags) res par new id ne = elim (either (creates flags)) [
+  | inl y ↦ rw y (of_hart t.holds _ g (opened_new_holds t h id flags new par))
+  | inr y ↦ rw y (of_hart t.holds _ g (opened_holds t h id flags new res))
+]
+effect_holds t h g (Truncate fd) res par new id ne = of_hart t.holds _ g (truncated_holds t (file_at t h fd))
+effect_holds t h g (Read fd n) res par new id ne = of_hart t.holds _ g (moved_holds t (t.fds h fd) _)
+effect_holds t h g (WritePart fd b) res par new id ne = of_hart t.holds _ g (wrote_holds t h fd b)
+effect_holds t h g (Find old) res par new id ne = held_holds t h g res ne
+effect_holds t h g Bump res par new id ne = put_other t.holds h (raise_hold (t.holds h)) g ne
+effect_holds t h g (Enter name) res par new id ne = put_other _ h None g ne ∙ of_hart t.holds _ g (enter_holds t par (t.holds h))
+effect_holds t h g Unbump res par new id ne = put_other _ h None g ne ∙ of_hart t.holds _ g (hold_holds t (t.holds h) _)
+effect_holds t h g (Unlink path) res par new id ne = of_hart t.holds _ g (removed_holds t par)
+effect_holds t h g (Mkdir path) res par new id ne = of_hart t.holds _ g (made_holds t par new)
+effect_holds t h g (Chdir path) res par new id ne = of_hart t.holds _ g (dir_holds t h res)
+effect_holds t h g (Dup fd) res par new id ne = refl
+effect_holds t h g (Close fd) res par new id ne = refl
+effect_holds t h g (Fstat fd) res par new id ne = refl
+effect_holds t h g (Inherit child) res par new id ne = refl
+
+settled_holds : (t : Tree) → (settle t).holds ≡ t.holds
+unfolding settle
+settled_holds t = refl
+
+refused_holds : (t : Tree) (h g : ℕ) (s : Action) → g ≢ h → (refused t h s).holds g ≡ t.holds g
+refused_holds t h g Bump ne = of_hart _ _ g (settled_holds (drop_hold t h)) ∙ put_other t.holds h None g ne
+refused_holds t h g (Open path flags) ne = refl
+refused_holds t h g (Truncate fd) ne = refl
+refused_holds t h g (Read fd n) ne = refl
+refused_holds t h g (WritePart fd b) ne = refl
+refused_holds t h g (Find old) ne = refl
+refused_holds t h g (Enter new) ne = refl
+refused_holds t h g Unbump ne = refl
+refused_holds t h g (Unlink path) ne = refl
+refused_holds t h g (Mkdir path) ne = refl
+refused_holds t h g (Chdir path) ne = refl
+refused_holds t h g (Dup fd) ne = refl
+refused_holds t h g (Close fd) ne = refl
+refused_holds t h g (Fstat fd) ne = refl
+refused_holds t h g (Inherit child) ne = refl
+
+step_holds : (t t' : Tree) (h g : ℕ) (s : Action) (a : StepAnswer) (new id : ℕ) (res : Option ℕ) (par : Option (ℕ × Name)) → StepWith t h s res par a new id t' → g ≢ h → t'.holds g ≡ t.holds g
+step_holds t t' h g s (Failed c) new id res par o ne = ap (λ (z : Tree). z.holds g) o.1 ∙ refused_holds t h g s ne
+step_holds t t' h g s (Opened fd j f) new id res par o ne = ap (λ (z : Tree). z.holds g) o.3 ∙ (of_hart _ _ g (settled_holds _) ∙ effect_holds t h g s res par new id ne)
+step_holds t t' h g s (Bytes b) new id res par o ne = ap (λ (z : Tree). z.holds g) o.3 ∙ (of_hart _ _ g (settled_holds _) ∙ effect_holds t h g s res par new id ne)
+step_holds t t' h g s (Status x) new id res par o ne = ap (λ (z : Tree). z.holds g) o.3 ∙ (of_hart _ _ g (settled_holds _) ∙ effect_holds t h g s res par new id ne)
+step_holds t t' h g s (NewFd fd) new id res par o ne = ap (λ (z : Tree). z.holds g) o.3 ∙ (of_hart _ _ g (settled_holds _) ∙ effect_holds t h g s res par new id ne)
+step_holds t t' h g s Done new id res par o ne = ap (λ (z : Tree). z.holds g) o.3 ∙ (of_hart _ _ g (settled_holds _) ∙ effect_holds t h g s res par new id ne)
+step_holds t t' h g s (NoRoom f) new id res par o ne = ap (λ (z : Tree). z.holds g) o.3 ∙ (of_hart _ _ g (settled_holds _) ∙ effect_holds t h g s res par new id ne)
+
 -- What a tree step leaves to the walks of the other harts.
 pub step_frame : (t t' : Tree) (h : ℕ) (s : Action) (a : StepAnswer) (new id : ℕ) → IsWellFormed t → StepWith t h s (resolve t h (path_of s)) (parent t h (path_of s)) a new id t' → Frame t h s new t'
 step_frame t t' h s a new id k o =
     let c = step_change t t' h s a new id k o in
     record {
-      paths = change_leads t.nodes t'.nodes (names_change s) (parent t h (path_of s)) new c;
-      dead = λ n ne dead. folder_none (t'.nodes n) (change_dead t.nodes t'.nodes (names_change s) (parent t h (path_of s)) new c n ne (folder_dead (t.nodes n) dead));
+      paths = change_leads t.nodes t'.nodes (names_change s) (makes_node t s (parent t h (path_of s))) (parent t h (path_of s)) new c;
+      dead = λ n ne dead. folder_none (t'.nodes n) (change_dead t.nodes t'.nodes (names_change s) (makes_node t s (parent t h (path_of s))) (parent t h (path_of s)) new c n ne (folder_dead (t.nodes n) dead));
+      holds = λ g ne. step_holds t t' h g s a new id (resolve t h (path_of s)) (parent t h (path_of s)) o ne;
       cwds = λ g ne other. step_cwd t t' h g s a new id (resolve t h (path_of s)) (parent t h (path_of s)) o ne other;
     }
 
