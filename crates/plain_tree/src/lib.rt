@@ -3,18 +3,23 @@
 #![tactic(auto)]
 
 mod answer;
+mod apply;
 mod bytes;
 mod call;
+mod copy;
 mod node;
+mod refused;
 pub mod rows;
 mod step;
 mod trace;
 mod tree;
+mod widths;
 
 pub use crate::answer::{Answer, Cause, Full, NodeType, Reply, Stat};
 pub use crate::bytes::Bytes;
 pub use crate::call::Call;
 pub use crate::node::{Kind, Node, Slot, Slots};
+pub use crate::refused::{ApplyRefused, NoMemory};
 pub use crate::step::{Action, StepAnswer, TreeStep};
 pub use crate::trace::{Calls, Placed, Trace, TracedCall};
 pub use crate::tree::{Hart, Hold, OpenFile, OpenFileEntry, Tree};
