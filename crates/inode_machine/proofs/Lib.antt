@@ -1,2 +1,4 @@
 pub mod Lists
 pub mod Book
+pub mod Walked
+pub mod Moved
