@@ -2,3 +2,5 @@ pub mod Lists
 pub mod Book
 pub mod Walked
 pub mod Moved
+pub mod Explained
+pub mod Cut
