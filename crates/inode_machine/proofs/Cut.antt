@@ -66,7 +66,7 @@ all_grew m t h (suc n) b =
     let one = acts_grew (falls_of m t h n) (all_fall m t h n b) n in
     (grew_on b.trace.events (all_fall m t h n b).trace.events b.list (all_fall m t h n b).list _ (omega (arith, ap (λ (z : Trace). z.events) ih.1)) ih.0 one.0, one.1 ∙ ih.1)
 
-finish_list : (r : Option Reply) (b : Book) (h : ℕ) → (finishes r h b).list ≡ b.list
+pub finish_list : (r : Option Reply) (b : Book) (h : ℕ) → (finishes r h b).list ≡ b.list
 finish_list None b h = refl
 finish_list (Some r) b h = refl
 

@@ -56,7 +56,7 @@ acts_here : (a : Option Deed) (b : Book) (h : ℕ) → (act_of_hart a h b).statu
 acts_here None b h = refl
 acts_here (Some d) b h = act_here (b.status h) b h d refl
 
-acts_there : (a : Option Deed) (b : Book) (h g : ℕ) → g ≢ h → (act_of_hart a h b).status g ≡ b.status g
+pub acts_there : (a : Option Deed) (b : Book) (h g : ℕ) → g ≢ h → (act_of_hart a h b).status g ≡ b.status g
 acts_there None b h g ne = refl
 acts_there (Some d) b h g ne = act_there (b.status h) b h g d ne
 
@@ -82,7 +82,7 @@ all_mid base t m h k b (suc n) mid may =
       ],
     )
 
-falls_not : (m : Inodes) (t : Tree) (h : ℕ) → falls_of m t h h ≡ None
+pub falls_not : (m : Inodes) (t : Tree) (h : ℕ) → falls_of m t h h ≡ None
 falls_not m t h = rw (eq_self h) refl
 
 falls_as : (m : Inodes) (t : Tree) (h g : ℕ) → g ≢ h → falls_of m t h g ≡ falls m.tree t (m.walk g)
@@ -137,11 +137,11 @@ abbrev finish_status : Option Reply → Status → Status
 finish_status None s = s
 finish_status (Some r) s = Free
 
-finish_here : (r : Option Reply) (b : Book) (h : ℕ) → (finishes r h b).status h ≡ finish_status r (b.status h)
+pub finish_here : (r : Option Reply) (b : Book) (h : ℕ) → (finishes r h b).status h ≡ finish_status r (b.status h)
 finish_here None b h = refl
 finish_here (Some r) b h = put_same b.status h Free
 
-finish_there : (r : Option Reply) (b : Book) (h g : ℕ) → g ≢ h → (finishes r h b).status g ≡ b.status g
+pub finish_there : (r : Option Reply) (b : Book) (h g : ℕ) → g ≢ h → (finishes r h b).status g ≡ b.status g
 finish_there None b h g ne = refl
 finish_there (Some r) b h g ne = put_other b.status h Free g ne
 
@@ -303,7 +303,7 @@ apart_calm h g c c' ne a b = b
 abbrev pub IsHart : ℕ → ℕ → Call → Type 0
 IsHart k h c = h ≡ k
 
-start_alone : (k : ℕ) (e : Event) → IsStartBy k e → MayStart (IsHart k) e
+pub start_alone : (k : ℕ) (e : Event) → IsStartBy k e → MayStart (IsHart k) e
 start_alone k (Starts h c) a = a
 start_alone k (Steps h v r) a = tt
 start_alone k Nothing a = tt

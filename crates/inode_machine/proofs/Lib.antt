@@ -4,3 +4,4 @@ pub mod Walked
 pub mod Moved
 pub mod Explained
 pub mod Cut
+pub mod Serial
