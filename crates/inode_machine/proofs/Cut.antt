@@ -1,12 +1,12 @@
 -- The entries up to a moment are the list as it stood then.
-use Rattle.std.proofs.Common.{◌≡◌, ℕ, zero, suc, ◌+◌, ◌<◌, ◌≤◌, Bool, true, false, refl, sym, ◌∙◌, ap, subst, arith, List, [], ◌∷◌, ◌++◌, append_assoc, append-nil, filter, map, length, inl, inr, Option, Some, None, nat_lt}
+use Rattle.std.proofs.Common.{◌≡◌, ℕ, zero, suc, ◌+◌, ◌<◌, ◌≤◌, true, false, refl, sym, ◌∙◌, ap, subst, arith, List, [], ◌∷◌, ◌++◌, append_assoc, append-nil, length, inl, inr, Option, Some, None, nat_lt}
 use Rattle.std.proofs.lemmas.Bool.Decides.{nat_tests}
 use Rattle.plain_tree.specs.declared.answer.Reply.{Reply}
 use Rattle.plain_tree.specs.declared.trace.Trace.{Trace}
 use Rattle.plain_tree.specs.declared.trace.Placed.{Placed}
 use Rattle.plain_tree.specs.Widths.{hart_count}
 use Rattle.plain_tree.specs.Tree.{Tree}
-use Rattle.plain_tree.specs.Explains.{noted, trace_from, Shown}
+use Rattle.plain_tree.specs.Explains.{noted, Shown}
 use Rattle.plain_tree.specs.Explains.Shown.{Started, Replied, Other}
 use Rattle.tree_laws.proofs.Maps.{either}
 use Rattle.inode_machine.specs.Kept.{Status, Deed, Book, act_of, entry_of}

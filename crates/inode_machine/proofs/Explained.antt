@@ -1,5 +1,5 @@
 -- The whole event: the book, the other harts, and the walks that fail. Every run is explained by the list that is kept.
-use Rattle.std.proofs.Common.{◌≡◌, ◌≢◌, ℕ, zero, suc, ◌+◌, ◌<◌, ◌≤◌, Bool, true, false, ◌&&◌, not, ◌⊎◌, inl, inr, refl, sym, ◌∙◌, ap, subst, arith, List, [], ◌∷◌, ◌++◌, map, length, Option, Some, None, if◌then◌else◌}
+use Rattle.std.proofs.Common.{◌≡◌, ◌≢◌, ℕ, zero, suc, ◌+◌, ◌<◌, ◌≤◌, Bool, true, false, ◌&&◌, not, inl, inr, refl, sym, ◌∙◌, ap, subst, arith, List, [], ◌∷◌, ◌++◌, map, length, Option, Some, None, if◌then◌else◌}
 use Rattle.plain_tree.specs.declared.answer.Reply.{Reply}
 use Rattle.plain_tree.specs.declared.call.Call.{Call}
 use Rattle.plain_tree.specs.declared.trace.Trace.{Trace}
@@ -7,12 +7,12 @@ use Rattle.plain_tree.specs.TreeData.{TreeData}
 use Rattle.plain_tree.specs.Widths.{hart_count}
 use Rattle.plain_tree.specs.Tree.{Tree, tree_of, put, live_directory}
 use Rattle.plain_tree.specs.Calls.{Act, next_of, call_climbs}
-use Rattle.plain_tree.specs.Explains.{Shown, Chain, Rises, AllBelong, noted, trace_from, trace_of, no_calls, Explains}
+use Rattle.plain_tree.specs.Explains.{Chain, Rises, AllBelong, noted, trace_from, trace_of, Explains}
 use Rattle.tree_laws.specs.WellFormed.{IsWellFormed}
 use Rattle.tree_laws.proofs.Maps.{either, eq_self, eq_not, same_or, put_same, put_other}
-use Rattle.inode_machine.specs.Kept.{Status, Deed, Book, act_of, replies, passes}
+use Rattle.inode_machine.specs.Kept.{Status, Deed, Book, act_of, passes}
 use Rattle.inode_machine.specs.Kept.Status.{Free, Busy}
-use Rattle.inode_machine.specs.Inodes.{Walk, Inodes, Move, World, Event, Moves, fail, act_of_hart, falls, falls_of, all_fall, after, MayReply, finishes, Happens, Runs, opened, shown_of, climbing, NoneClimbs, IsStartBy, Alone}
+use Rattle.inode_machine.specs.Inodes.{Walk, Inodes, Move, World, Event, fail, act_of_hart, falls, falls_of, all_fall, after, MayReply, finishes, Happens, Runs, opened, shown_of, climbing, NoneClimbs, IsStartBy, Alone}
 use Rattle.inode_machine.specs.Inodes.Event.{Starts, Steps, Nothing}
 use Rattle.inode_machine.proofs.Book.{BookOk, AllBelow, act_ok, start_ok, reply_ok, passes_ok, later_ok, explained}
 use Rattle.inode_machine.proofs.Walked.{WalkOk, Left, StepBy, walk_falls, walk_kept}

@@ -1,13 +1,11 @@
 -- What a hart's own move does.
-use Rattle.std.proofs.Common.{◌≡◌, ◌≢◌, ℕ, zero, suc, ◌+◌, ◌<◌, ◌≤◌, Bool, true, false, ◌&&◌, not, ◌⊎◌, inl, inr, refl, sym, ◌∙◌, ap, subst, arith, List, [], ◌∷◌, ◌++◌, append_assoc, Option, Some, None, if◌then◌else◌}
+use Rattle.std.proofs.Common.{◌≡◌, ◌≢◌, ℕ, Bool, true, inl, inr, refl, sym, ◌∙◌, ap, subst, List, [], ◌∷◌, ◌++◌, append_assoc, Option, Some, None, if◌then◌else◌}
 use Rattle.plain_tree.specs.declared.call.Call.{Call}
 use Rattle.plain_tree.specs.declared.step.Action.{Action}
-use Rattle.plain_tree.specs.declared.step.Action.TheVariants.{Inherit}
 use Rattle.plain_tree.specs.Tree.{Name, Tree, put, elements, live_directory, look, follow, start_of, resolve, parent, parent_of}
-use Rattle.plain_tree.specs.Steps.{path_of, follows_path, IsInPlace, makes_node}
+use Rattle.plain_tree.specs.Steps.{path_of, follows_path, IsInPlace}
 use Rattle.plain_tree.specs.Calls.{Act, next_of}
 use Rattle.tree_laws.specs.WellFormed.{IsWellFormed, is_free_to_find}
-use Rattle.tree_laws.specs.Leaves.{Frame}
 use Rattle.tree_laws.proofs.Maps.{either, put_same, put_other}
 use Rattle.tree_laws.proofs.Walks.{follow_on, follow_stop, follow_end, follow_one, parent_nil, parent_on, parent_stop, parent_here}
 use Rattle.tree_laws.proofs.Kept.{step_well}

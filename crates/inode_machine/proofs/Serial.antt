@@ -1,5 +1,5 @@
 -- Where one hart alone makes calls, the list is its calls' sequences one after the other.
-use Rattle.std.proofs.Common.{◌≡◌, ◌≢◌, ℕ, zero, suc, ◌+◌, ◌<◌, ◌≤◌, Bool, true, false, ◌==◌, ◌⊎◌, inl, inr, refl, sym, ◌∙◌, ap, subst, arith, List, [], ◌∷◌, ◌++◌, append_assoc, append-nil, filter, map, length, Option, Some, None}
+use Rattle.std.proofs.Common.{◌≡◌, ◌≢◌, ℕ, zero, suc, ◌<◌, ◌≤◌, ◌==◌, inl, inr, refl, sym, ◌∙◌, ap, subst, arith, List, [], ◌∷◌, ◌++◌, append_assoc, append-nil, map, length, Option, Some, None}
 use Rattle.plain_tree.specs.declared.answer.Reply.{Reply}
 use Rattle.plain_tree.specs.declared.call.Call.{Call}
 use Rattle.plain_tree.specs.declared.trace.Trace.{Trace}
@@ -11,15 +11,14 @@ use Rattle.plain_tree.specs.Tree.{Tree, tree_of, put}
 use Rattle.plain_tree.specs.Calls.{Act}
 use Rattle.plain_tree.specs.Explains.{trace_of, ends_at}
 use Rattle.tree_laws.specs.WellFormed.{IsWellFormed}
-use Rattle.tree_laws.proofs.Maps.{either, same_or, eq_self, eq_not, put_same, put_other, put_is}
+use Rattle.tree_laws.proofs.Maps.{either, same_or, eq_self, eq_not, put_same}
 use Rattle.inode_machine.specs.Kept.{Status, Deed, Book, act_of, entry_of}
 use Rattle.inode_machine.specs.Kept.Status.{Free, Busy}
-use Rattle.inode_machine.specs.Inodes.{Inodes, World, Event, Walk, act_of_hart, falls_of, all_fall, finishes, Happens, Runs, Alone, IsStartBy, opened, shown_of}
+use Rattle.inode_machine.specs.Inodes.{Inodes, World, Event, act_of_hart, falls_of, all_fall, finishes, Happens, Runs, Alone, IsStartBy, opened, shown_of}
 use Rattle.inode_machine.specs.Inodes.Event.{Starts, Steps, Nothing}
 use Rattle.inode_machine.specs.Laws.{of_call, in_turn}
 use Rattle.inode_machine.proofs.Lists.{map_length, more_length}
-use Rattle.inode_machine.proofs.Explained.{Inv, OwnOk, IsHart, MayStart, apart_alone, starts_alone, start_alone, happens_ok, opened_ok, run_explained, run_trace, falls_not, acts_there, finish_here, finish_there}
-use Rattle.inode_machine.proofs.Cut.{finish_list}
+use Rattle.inode_machine.proofs.Explained.{Inv, OwnOk, IsHart, apart_alone, start_alone, happens_ok, opened_ok, run_trace, falls_not, acts_there}
 
 of_append : (id : ℕ) (xs ys : List Placed) → of_call id (xs ++ ys) ≡ of_call id xs ++ of_call id ys
 of_append id [] ys = refl

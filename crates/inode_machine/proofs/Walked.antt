@@ -1,5 +1,5 @@
 -- A walk's path so far leads to its node while that is a live directory; when another hart's step kills it the walk fails just then.
-use Rattle.std.proofs.Common.{◌≡◌, ◌≢◌, ℕ, zero, suc, ◌+◌, ◌<◌, ◌≤◌, Bool, true, false, ◌&&◌, not, ◌⊎◌, inl, inr, refl, sym, ◌∙◌, ap, subst, arith, List, [], ◌∷◌, ◌++◌, append_assoc, length, Option, Some, None, if◌then◌else◌, nat_lt}
+use Rattle.std.proofs.Common.{◌≡◌, ℕ, Bool, true, false, ◌&&◌, not, ◌⊎◌, inl, inr, refl, sym, ◌∙◌, ap, subst, List, [], ◌∷◌, ◌++◌, length, Option, Some, None, if◌then◌else◌, nat_lt}
 use Rattle.plain_tree.specs.declared.answer.Cause.{Cause}
 use Rattle.plain_tree.specs.declared.answer.Cause.TheVariants.{NoEntry}
 use Rattle.plain_tree.specs.declared.call.Call.{Call}
@@ -10,11 +10,10 @@ use Rattle.plain_tree.specs.declared.step.StepAnswer.{StepAnswer}
 use Rattle.plain_tree.specs.declared.step.StepAnswer.TheVariants.{Opened, Bytes, Stat as Status, Fd as NewFd, Done, Failed, Full as NoRoom}
 use Rattle.plain_tree.specs.declared.tree.Hold.{Hold}
 use Rattle.plain_tree.specs.Widths.{hart_count}
-use Rattle.plain_tree.specs.Tree.{Name, Tree, elements, climbs, climbs_in, pieces, live_directory, look, follow, start_of, resolve, parent, parent_of}
-use Rattle.plain_tree.specs.Steps.{path_of, follows_path, refusal_with, refused, place_of, holds_raised, IsInPlace, StepWith, Step, creates, has, empty_it, is_file, makes_node}
-use Rattle.plain_tree.specs.Calls.{Act, next_of, call_climbs, last_cause, next_piece, once, next_open, next_link, to_truncate, if_done, if_failed, piece, piece_count}
-use Rattle.tree_laws.specs.WellFormed.{IsWellFormed, is_free_to_find}
-use Rattle.tree_laws.specs.Leaves.{Frame}
+use Rattle.plain_tree.specs.Tree.{Name, Tree, elements, climbs, climbs_in, pieces, live_directory, follow, start_of, resolve, parent, parent_of}
+use Rattle.plain_tree.specs.Steps.{path_of, follows_path, refusal_with, refused, place_of, holds_raised, IsInPlace, Step, creates, has, empty_it}
+use Rattle.plain_tree.specs.Calls.{Act, next_of, call_climbs, last_cause, next_piece, once, to_truncate, if_done, if_failed, piece, piece_count}
+use Rattle.tree_laws.specs.WellFormed.{is_free_to_find}
 use Rattle.tree_laws.proofs.Maps.{either, or_none}
 use Rattle.tree_laws.proofs.Walks.{follow_on, follow_off, follow_stop, look_bad, parent_on, parent_off, parent_bad, climbs_front}
 use Rattle.inode_machine.specs.Kept.{Deed}

@@ -1,5 +1,5 @@
 -- Every run of the machine is explained by the list that is kept.
-use Rattle.std.specs.Prelude.{◌≡◌, ◌≢◌, ℕ, zero, suc, Bool, ◌<◌, List, [], ◌∷◌, ◌++◌, map, filter, length, nat_lt, ◌==◌}
+use Rattle.std.specs.Prelude.{◌≡◌, ℕ, zero, suc, List, [], ◌++◌, map, filter, length, nat_lt, ◌==◌}
 use Rattle.plain_tree.specs.declared.trace.Placed.{Placed}
 use Rattle.plain_tree.specs.TreeData.{TreeData}
 use Rattle.plain_tree.specs.Tree.{Tree, tree_of}

@@ -1,16 +1,15 @@
 -- What well-formedness says of a name that is found.
-use Rattle.std.proofs.Common.{◌≡◌, ◌≢◌, ℕ, ◌+◌, ◌<◌, ◌≤◌, Bool, true, false, ◌&&◌, ◌==◌, ◌⊎◌, inl, inr, refl, sym, ◌∙◌, ap, subst, arith, List, [], ◌∷◌, drop, Option, Some, None}
-use Rattle.plain_tree.specs.declared.node.Slot.{Slot}
+use Rattle.std.proofs.Common.{◌≡◌, ◌≢◌, ℕ, ◌+◌, ◌<◌, ◌≤◌, true, false, inl, inr, refl, sym, ◌∙◌, ap, subst, arith, List, [], ◌∷◌, drop, Option, Some, None}
 use Rattle.plain_tree.specs.declared.node.Node.{Node}
-use Rattle.plain_tree.specs.Widths.{hart_count, descriptor_count, root}
-use Rattle.plain_tree.specs.Tree.{Name, Tree, same_name, dot, dotdot, is_directory, live_directory, is_live, all_slots, is_absolute, first_slot, look, follow, parent_from, parent_of, resolve, parent, start_of, elements}
-use Rattle.plain_tree.specs.Steps.{node_or, node_at}
-use Rattle.tree_laws.proofs.Maps.{either, same_or, eq_self, and_true}
-use Rattle.tree_laws.specs.WellFormed.{Slots, Folders, folder, links_of, folders_of, links_in, up_in, past, count_in, mentions, raises, IsInOrder, IsForest, IsThere, IsOpen, IsWellFormed}
-use Rattle.tree_laws.proofs.Slots.{first_dots, first_dot, first_dotdot, first_counts, Dots}
-use Rattle.tree_laws.proofs.Forest.{mentions_part, mentions_two, plain_or, apart}
-use Rattle.tree_laws.proofs.Nodes.{folder_live, folder_some, folder_none, folder_links, linked_live, live_some, live_is}
-use Rattle.tree_laws.proofs.Walks.{look_bad, look_in, look_good, first_found, follow_end, follow_step, parent_here, parent_bad, parent_step, parent_stop}
+use Rattle.plain_tree.specs.Widths.{hart_count, root}
+use Rattle.plain_tree.specs.Tree.{Name, Tree, same_name, dot, dotdot, live_directory, is_live, all_slots, is_absolute, first_slot, look, follow, parent_from, parent_of, resolve, parent, start_of, elements}
+use Rattle.plain_tree.specs.Steps.{node_or}
+use Rattle.tree_laws.proofs.Maps.{either, same_or}
+use Rattle.tree_laws.specs.WellFormed.{Slots, Folders, folder, folders_of, links_in, up_in, past, count_in, mentions, raises, IsForest, IsWellFormed}
+use Rattle.tree_laws.proofs.Slots.{first_dots, first_dot, first_dotdot, first_counts}
+use Rattle.tree_laws.proofs.Forest.{mentions_part, mentions_two, plain_or}
+use Rattle.tree_laws.proofs.Nodes.{folder_live, linked_live, live_some}
+use Rattle.tree_laws.proofs.Walks.{look_in, look_good, first_found, follow_end, parent_here, parent_bad, parent_step, parent_stop}
 
 pub look_folder : (ns : ℕ → Option Node) (d : ℕ) (e : Name) (r : Option ℕ) → live_directory (ns d) ≡ true → look ns d e ≡ r → (folder (ns d) ≡ Some (all_slots (ns d))) × (first_slot (all_slots (ns d)) e ≡ r)
 look_folder ns d e r good h = (folder_live (ns d) good, sym (look_in ns d e good) ∙ h)
@@ -31,17 +30,19 @@ entry_up F C R N D d n ss ns f is nis some =
     let k = f.directory d ss is in
     let j = f.directory n ns nis in
     let part : count_in (past (F d)) n ≤ mentions F N n = mentions_part F N d n k.within in
-    let n1 : n ≢ root = (λ q. absurd (let z = (j.rooted q).1 in let z' : mentions F N n ≡ 0 = subst (λ (x : ℕ). mentions F N x ≡ 0) (sym q) z in omega (arith, z', part, some))) in
-    (n1, elim (same_or (up_in ns) d) [
-      | inl e ↦ e
-      | inr ne ↦ absurd (
-          let p = j.place n1 in
-          let u = lives F C R N D (up_in ns) f j.above in
-          let two : count_in (past (F (up_in ns))) n + count_in (past (F d)) n ≤ mentions F N n = mentions_two F N (up_in ns) d n u k.within ne in
-          let a = p.0 in
-          let b = p.1 in
-          omega (arith, two, a, b, some))
-    ])
+    let n1 : n ≢ root = (λ q. absurd (let z = (j.rooted q).1 in let z' : mentions F N n ≡ 0 = subst (λ (x : ℕ). mentions F N x ≡ 0) (sym q) z in omega (arith, z', part, some))) in (
+      n1,
+      elim (same_or (up_in ns) d) [
+        | inl e ↦ e
+        | inr ne ↦ absurd (
+            let p = j.place n1 in
+            let u = lives F C R N D (up_in ns) f j.above in
+            let two : count_in (past (F (up_in ns))) n + count_in (past (F d)) n ≤ mentions F N n = mentions_two F N (up_in ns) d n u k.within ne in
+            let a = p.0 in
+            let b = p.1 in
+            omega (arith, two, a, b, some))
+      ],
+    )
   where
     lives : (F : Folders) (C R : ℕ → ℕ) (N : ℕ) (D : ℕ → ℕ) (x : ℕ) → IsForest F C R N D → F x ≢ None → x < N
     lives F C R N D x f nn = elim (plain_or (F x)) [ inl e ↦ absurd (nn e) | inr e ↦ (f.directory x e.0 e.1).within ]

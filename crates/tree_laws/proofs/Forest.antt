@@ -1,12 +1,12 @@
 -- How the forest of live directories and the counts of links go on when a name is entered or cleared, a file becomes a directory, or an empty directory a file.
-use Rattle.std.proofs.Common.{◌≡◌, ◌≢◌, ℕ, zero, suc, ◌+◌, ◌<◌, ◌≤◌, Bool, true, false, ◌&&◌, not, ◌==◌, ◌⊎◌, inl, inr, refl, sym, ◌∙◌, ap, subst, arith, List, [], ◌∷◌, drop, Option, Some, None}
+use Rattle.std.proofs.Common.{◌≡◌, ◌≢◌, ℕ, suc, ◌+◌, ◌<◌, ◌≤◌, Bool, true, false, ◌&&◌, not, ◌==◌, ◌⊎◌, inl, inr, refl, sym, ◌∙◌, ap, subst, arith, [], drop, Option, Some, None}
 use Rattle.plain_tree.specs.declared.node.Slot.{Slot}
 use Rattle.plain_tree.specs.Tree.{Name, put, same_name, dot, dotdot, first_slot}
-use Rattle.plain_tree.specs.Steps.{first_free, cleared, any_used}
-use Rattle.tree_laws.proofs.Maps.{either, same_or, eq_self, eq_not, eq_is, put_same, put_other, put_is}
-use Rattle.tree_laws.specs.WellFormed.{Slots, Folders, up_in, past, has_up, sum_below, one_if, count_in, mentions, children, NamesOnce, IsInOrder, IsForest}
-use Rattle.tree_laws.proofs.Sums.{sum_same, sum_changed, sum_part, sum_two, sum_none, one_yes, one_no, count_nil, count_entered, count_cleared, count_unused}
-use Rattle.tree_laws.proofs.Slots.{entered_once, entered_dots, cleared_gone, cleared_once, cleared_dots, first_dots, first_dot, first_dotdot, first_counts, dots_once, Dots}
+use Rattle.plain_tree.specs.Steps.{first_free, cleared}
+use Rattle.tree_laws.proofs.Maps.{same_or, eq_not, put_same, put_other, put_is}
+use Rattle.tree_laws.specs.WellFormed.{Slots, Folders, up_in, past, has_up, one_if, count_in, mentions, children, NamesOnce, IsInOrder, IsForest}
+use Rattle.tree_laws.proofs.Sums.{sum_same, sum_changed, sum_part, sum_two, sum_none, one_no, count_nil, count_entered, count_cleared}
+use Rattle.tree_laws.proofs.Slots.{entered_once, entered_dots, cleared_once, cleared_dots, first_dots, dots_once, Dots}
 
 -- The sums, when one folder changes.
 
@@ -143,11 +143,11 @@ one_folder F C C' R R' N D d ss ss' f is shape once dirs others =
       | inr w ↦ ap (λ (o : Option Slots). count_in (past o) k) w.1
     ]) in
     let again : (k : ℕ) (ks ks' : Slots) → F k ≡ Some ks → up_in ks' ≡ up_in ks → ks' ≡ Dots k (up_in ks') (drop 2 ks') → NamesOnce ks' → IsInOrder F' C' R' N D k ks' = (λ k ks ks' kis up dots o.
-        let old = f.directory k ks kis in
-        let three = dirs k ks kis in
-        let sk = said k in
-        let ck = kids k in
-        order_kept F F' C C' R R' N D D k ks ks' old up dots o (live (up_in ks) old.above) (omega (arith, ck, three.0)) (three.1 ∙ old.unheld) (omega (arith, sk, three.2)) (there k ks kis (up_in ks)) refl refl) in
+    let old = f.directory k ks kis in
+    let three = dirs k ks kis in
+    let sk = said k in
+    let ck = kids k in
+    order_kept F F' C C' R R' N D D k ks ks' old up dots o (live (up_in ks) old.above) (omega (arith, ck, three.0)) (three.1 ∙ old.unheld) (omega (arith, sk, three.2)) (there k ks kis (up_in ks)) refl refl) in
     record {
       rooted = live 1 f.rooted;
       directory = λ k ks' q. elim (put_is F d (Some ss') k) [
@@ -241,15 +241,15 @@ grown_forest F C C' R N D d n ss f is none lt one unheld named links =
     let nd : n ≢ d = apart F n d ss none is in
     let n1 : n ≢ 1 = (λ q. f.rooted (subst (λ (z : ℕ). F z ≡ None) q none)) in
     let said : (k : ℕ) → mentions F' N k ≡ mentions F N k = (λ k.
-        let m = mentions_at F (Some (Dots n d [])) N n k lt in
-        let z : count_in (past (F n)) k ≡ 0 = ap (λ (o : Option Slots). count_in (past o) k) none ∙ count_nil k in
-        let z' : count_in (past (Some (Dots n d []))) k ≡ 0 = count_nil k in
-        omega (arith, m, z, z')) in
+    let m = mentions_at F (Some (Dots n d [])) N n k lt in
+    let z : count_in (past (F n)) k ≡ 0 = ap (λ (o : Option Slots). count_in (past o) k) none ∙ count_nil k in
+    let z' : count_in (past (Some (Dots n d []))) k ≡ 0 = count_nil k in
+    omega (arith, m, z, z')) in
     let kids : (x : ℕ) → children F' N x ≡ children F N x + one_if (d == x) = (λ x.
-        let m = children_at F (Some (Dots n d [])) N n x lt in
-        let z : is_child (F n) n x ≡ 0 = ap (λ (o : Option Slots). is_child o n x) none ∙ adds_none n x in
-        let z' : is_child (Some (Dots n d [])) n x ≡ one_if (d == x) = adds_child n d x (Some (Dots n d [])) n1 refl in
-        omega (arith, m, z, z')) in
+    let m = children_at F (Some (Dots n d [])) N n x lt in
+    let z : is_child (F n) n x ≡ 0 = ap (λ (o : Option Slots). is_child o n x) none ∙ adds_none n x in
+    let z' : is_child (Some (Dots n d [])) n x ≡ one_if (d == x) = adds_child n d x (Some (Dots n d [])) n1 refl in
+    omega (arith, m, z, z')) in
     let live : (x : ℕ) → F x ≢ None → F' x ≢ None = (λ x nn. elim (put_is F n (Some (Dots n d [])) x) [
       | inl w ↦ (λ q. absurd (let z : Some (Dots n d []) ≡ None = sym w.1 ∙ q in cc))
       | inr w ↦ (λ q. nn (sym w.1 ∙ q))
@@ -332,23 +332,23 @@ shrunk_forest F C C' R N D n ns f is n1 empty links =
     let lt = mine.within in
     let z : (k : ℕ) → count_in (past (F n)) k ≡ 0 = (λ k. ap (λ (o : Option Slots). count_in (past o) k) is ∙ empty k) in
     let said : (k : ℕ) → mentions F' N k ≡ mentions F N k = (λ k.
-        let m = mentions_at F None N n k lt in
-        let a = z k in
-        let b : count_in (past None) k ≡ 0 = count_nil k in
-        omega (arith, m, a, b)) in
+    let m = mentions_at F None N n k lt in
+    let a = z k in
+    let b : count_in (past None) k ≡ 0 = count_nil k in
+    omega (arith, m, a, b)) in
     let kids : (x : ℕ) → children F' N x + one_if (up_in ns == x) ≡ children F N x = (λ x.
-        let m = children_at F None N n x lt in
-        let a : is_child (F n) n x ≡ one_if (up_in ns == x) = adds_child n (up_in ns) x (F n) n1 (ap (λ (o : Option Slots). has_up o x) is) in
-        let b : is_child None n x ≡ 0 = adds_none n x in
-        omega (arith, m, a, b)) in
+    let m = children_at F None N n x lt in
+    let a : is_child (F n) n x ≡ one_if (up_in ns == x) = adds_child n (up_in ns) x (F n) n1 (ap (λ (o : Option Slots). has_up o x) is) in
+    let b : is_child None n x ≡ 0 = adds_none n x in
+    omega (arith, m, a, b)) in
     let alone : children F N n ≡ 0 = childless F C R N D n f z in
     -- n is nobody's ".."
     let above : (k : ℕ) (ks : Slots) → F k ≡ Some ks → up_in ks ≢ n = (λ k ks kis r.
-        let old = f.directory k ks kis in
-        elim (same_or k 1) [
-          | inl e ↦ n1 (sym r ∙ (old.rooted e).0)
-          | inr ne ↦ absurd (let p : count_in (past (F n)) k ≡ 1 = subst (λ (x : ℕ). count_in (past (F x)) k ≡ 1) r (old.place ne).1 in let y = z k in omega (arith, p, y))
-        ]) in
+    let old = f.directory k ks kis in
+    elim (same_or k 1) [
+      | inl e ↦ n1 (sym r ∙ (old.rooted e).0)
+      | inr ne ↦ absurd (let p : count_in (past (F n)) k ≡ 1 = subst (λ (x : ℕ). count_in (past (F x)) k ≡ 1) r (old.place ne).1 in let y = z k in omega (arith, p, y))
+    ]) in
     record {
       rooted = λ q. f.rooted (sym (put_other F n None 1 (λ r. n1 (sym r))) ∙ q);
       directory = λ k ks q. elim (put_is F n None k) [

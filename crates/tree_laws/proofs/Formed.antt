@@ -1,21 +1,18 @@
 -- What each part of a tree may become.
-use Rattle.std.proofs.Common.{◌≡◌, ◌≢◌, ℕ, zero, suc, ◌+◌, ◌-◌, ◌<◌, ◌≤◌, Bool, true, false, ◌&&◌, not, ◌==◌, ◌⊎◌, inl, inr, refl, sym, ◌∙◌, ap, subst, arith, List, [], ◌∷◌, drop, Option, Some, None, nat_lt, if◌then◌else◌}
-use Rattle.std.proofs.lemmas.Bool.Decides.{nat_tests}
-use Rattle.plain_tree.specs.declared.node.Slot.{Slot}
+use Rattle.std.proofs.Common.{◌≡◌, ◌≢◌, ℕ, ◌+◌, ◌<◌, ◌≤◌, Bool, true, false, ◌&&◌, ◌==◌, ◌⊎◌, inl, inr, refl, sym, ◌∙◌, ap, subst, arith, Option, Some, None, nat_lt}
 use Rattle.plain_tree.specs.declared.node.Node.{Node}
 use Rattle.plain_tree.specs.declared.node.Kind.{Kind}
-use Rattle.plain_tree.specs.declared.node.Kind.TheVariants.{Directory, File, Device}
+use Rattle.plain_tree.specs.declared.node.Kind.TheVariants.{Directory}
 use Rattle.plain_tree.specs.declared.tree.OpenFile.{OpenFile}
 use Rattle.plain_tree.specs.declared.tree.Hold.{Hold}
-use Rattle.plain_tree.specs.Widths.{hart_count, descriptor_count, root}
-use Rattle.plain_tree.specs.Tree.{Name, Tree, put, any_below, same_name, dot, dotdot, is_directory, slots_of, live_directory, is_live, all_slots, first_slot, look, and_then}
-use Rattle.plain_tree.specs.Steps.{node_or, node_at, at_node, with_nodes, first_free, cleared, any_used, entered, raised, lowered, new_file, new_directory, made, removed_child, has_room, has_fd, closed, lowest, with_file, moved, has, write_only, read_write}
-use Rattle.tree_laws.proofs.Maps.{either, same_or, eq_self, eq_is, eq_not, eq_isnt, put_is, put_same, put_other, and_true, any_at}
-use Rattle.tree_laws.specs.WellFormed.{Slots, Folders, folder, links_of, folders_of, links_in, up_in, past, count_in, one_if, sum_below, mentions, raised_at, raises, IsInOrder, IsForest, IsThere, IsOpen, IsWellFormed}
-use Rattle.tree_laws.proofs.Sums.{sum_changed, sum_part, one_yes, one_no, count_entered, count_unused}
-use Rattle.tree_laws.proofs.Slots.{Dots}
-use Rattle.tree_laws.proofs.Forest.{entered_forest, cleared_forest, recounted_forest, grown_forest, shrunk_forest, apart, plain_or, mentions_part, childless}
-use Rattle.tree_laws.proofs.Nodes.{folder_live, folder_dead, folder_some, folder_none, folder_links, linked_live, live_some, some_node, live_is, everywhere, folders_put, put_self}
+use Rattle.plain_tree.specs.Widths.{hart_count, descriptor_count}
+use Rattle.plain_tree.specs.Tree.{Name, Tree, put, is_directory, slots_of, live_directory, all_slots, first_slot, look}
+use Rattle.plain_tree.specs.Steps.{node_or, with_nodes, first_free, entered, new_file}
+use Rattle.tree_laws.proofs.Maps.{eq_self, eq_not, put_is, put_same, put_other, and_true}
+use Rattle.tree_laws.specs.WellFormed.{Slots, Folders, folder, links_of, folders_of, links_in, one_if, raised_at, raises, IsForest, IsThere, IsWellFormed}
+use Rattle.tree_laws.proofs.Sums.{sum_changed, sum_part, one_yes, one_no}
+use Rattle.tree_laws.proofs.Forest.{entered_forest, recounted_forest, apart}
+use Rattle.tree_laws.proofs.Nodes.{folder_live, folder_dead, some_node, everywhere, folders_put, put_self}
 
 abbrev pub InRange : (ℕ → Option Node) → ℕ → Type 0
 InRange ns below = (n : ℕ) (v : Node) → ns n ≡ Some v → (1 ≤ n) × (n < below)

@@ -1,5 +1,5 @@
 -- What a tree step leaves, from what it does to the live directories.
-use Rattle.std.proofs.Common.{◌≡◌, ◌≢◌, ℕ, zero, suc, ◌+◌, ◌<◌, ◌≤◌, Bool, true, false, ◌&&◌, ◌||◌, not, ◌==◌, ◌⊎◌, inl, inr, refl, sym, ◌∙◌, ap, subst, arith, List, [], ◌∷◌, drop, length, Option, Some, None, nat_lt, if◌then◌else◌}
+use Rattle.std.proofs.Common.{◌≡◌, ◌≢◌, ℕ, Bool, true, false, ◌||◌, ◌⊎◌, inl, inr, refl, sym, ◌∙◌, ap, subst, arith, List, [], ◌∷◌, drop, length, Option, Some, None}
 use Rattle.plain_tree.specs.declared.node.Slot.{Slot}
 use Rattle.plain_tree.specs.declared.node.Node.{Node}
 use Rattle.plain_tree.specs.declared.tree.OpenFile.{OpenFile}
@@ -8,15 +8,15 @@ use Rattle.plain_tree.specs.declared.step.Action.{Action}
 use Rattle.plain_tree.specs.declared.step.Action.TheVariants.{Open, Truncate, Read, WritePart, Find, Bump, Enter, Unbump, Unlink, Mkdir, Chdir, Dup, Close, Fstat, Inherit}
 use Rattle.plain_tree.specs.declared.step.StepAnswer.{StepAnswer}
 use Rattle.plain_tree.specs.declared.step.StepAnswer.TheVariants.{Opened, Bytes, Stat as Status, Fd as NewFd, Done, Failed, Full as NoRoom}
-use Rattle.plain_tree.specs.Widths.{hart_count, descriptor_count, root}
-use Rattle.plain_tree.specs.Tree.{Name, Tree, put, any_below, same_name, dot, dotdot, climbs_in, live_directory, is_live, all_slots, first_slot, look, follow, resolve, parent, settle, is_named, hold_names, fd_names, file_names}
+use Rattle.plain_tree.specs.Widths.{hart_count, descriptor_count}
+use Rattle.plain_tree.specs.Tree.{Name, Tree, put, same_name, dot, dotdot, climbs_in, live_directory, is_live, all_slots, first_slot, look, follow, resolve, parent, settle, is_named, hold_names, fd_names, file_names}
 use Rattle.plain_tree.specs.Steps.{new_file, has_room, creates, any_used, first_free, cleared, path_of, effect_with, refused, truncated, written, wrote, moved, file_at, held, at_hold, enter_hold, drop_hold, removed, removed_child, made, raise_hold, opened_at, opened_in, opened_new, at_dir, with_file, makes_node, StepWith}
-use Rattle.tree_laws.proofs.Maps.{either, same_or, eq_self, eq_not, put_is, put_same, put_other, none_any}
-use Rattle.tree_laws.specs.WellFormed.{Slots, Folders, folder, folders_of, up_in, NamesOnce, IsThere, IsOpen, IsWellFormed}
+use Rattle.tree_laws.proofs.Maps.{either, same_or, eq_not, put_is, put_same, put_other, none_any}
+use Rattle.tree_laws.specs.WellFormed.{Slots, Folders, folder, folders_of, up_in, NamesOnce, IsWellFormed}
 use Rattle.tree_laws.specs.Leaves.{names_change, LeavesFinding, Frame, IsNobodys}
 use Rattle.tree_laws.proofs.Slots.{same_is, same_self, entered_other, cleared_other, cleared_gone, first_dots, first_dot, first_unused, Dots}
 use Rattle.tree_laws.proofs.Nodes.{folder_live, folder_dead, folder_some, folder_none}
-use Rattle.tree_laws.proofs.Walks.{look_bad, look_in, look_good, first_found, follow_end, follow_step, follow_stop, Removes, after_removal}
+use Rattle.tree_laws.proofs.Walks.{look_bad, look_in, look_good, first_found, follow_end, follow_step, Removes, after_removal}
 use Rattle.tree_laws.proofs.Facts.{look_live}
 use Rattle.tree_laws.proofs.Formed.{with_new}
 use Rattle.tree_laws.proofs.Changed.{Change, step_change}
@@ -518,13 +518,13 @@ unfolding is_named
 new_is_nobodys t n k none = (
   λ d e h. absurd (let live : is_live (t.nodes n) ≡ true = look_live t d n e k h in let dead : is_live (t.nodes n) ≡ false = ap (λ (o : Option Node). is_live o) none in cc (live, dead)),
   none_any hart_count _ (λ h lh. none_of _ _ _
-  (eq_not (t.cwd h) n (λ q. let th = k.directories h lh in gone (t.cwd h) th.node th.is q))
-  (hold_not (t.holds h) n (λ q is e. let th = k.holds h q lh is in gone q.number th.node th.is e))
-  (none_any descriptor_count _ (λ i li. fd_not t (t.fds h i) n (λ id is f fis e.
-  let th = k.descriptors h i id lh li is in
-  let z : Some th.file ≡ Some f = sym th.is ∙ fis in
-  let same : th.file ≡ f = cc in
-  gone f.number th.node (subst (λ (x : OpenFile). t.nodes x.number ≡ Some th.node) same th.there) e)))),
+      (eq_not (t.cwd h) n (λ q. let th = k.directories h lh in gone (t.cwd h) th.node th.is q))
+      (hold_not (t.holds h) n (λ q is e. let th = k.holds h q lh is in gone q.number th.node th.is e))
+      (none_any descriptor_count _ (λ i li. fd_not t (t.fds h i) n (λ id is f fis e.
+      let th = k.descriptors h i id lh li is in
+      let z : Some th.file ≡ Some f = sym th.is ∙ fis in
+      let same : th.file ≡ f = cc in
+      gone f.number th.node (subst (λ (x : OpenFile). t.nodes x.number ≡ Some th.node) same th.there) e)))),
 )
   where
     gone : (m : ℕ) (v : Node) → t.nodes m ≡ Some v → m ≡ n → ⊥

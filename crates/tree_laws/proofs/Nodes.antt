@@ -1,17 +1,14 @@
 -- Nodes as the forest sees them, and what settling leaves.
-use Rattle.std.proofs.Common.{◌≡◌, ◌≢◌, ℕ, ◌+◌, ◌<◌, ◌≤◌, Bool, true, false, ◌&&◌, ◌||◌, not, ◌==◌, ◌⊎◌, inl, inr, refl, sym, ◌∙◌, ap, subst, arith, List, [], ◌∷◌, Option, Some, None, nat_lt}
+use Rattle.std.proofs.Common.{◌≡◌, ℕ, ◌<◌, ◌≤◌, Bool, true, false, ◌||◌, ◌==◌, ◌⊎◌, inl, inr, refl, sym, ◌∙◌, ap, subst, arith, Option, Some, None, nat_lt}
 use Rattle.std.proofs.lemmas.Bool.Decides.{nat_tests}
-use Rattle.plain_tree.specs.declared.node.Slot.{Slot}
 use Rattle.plain_tree.specs.declared.node.Node.{Node}
-use Rattle.plain_tree.specs.declared.node.Kind.{Kind}
-use Rattle.plain_tree.specs.declared.node.Kind.TheVariants.{Directory, File, Device}
 use Rattle.plain_tree.specs.declared.tree.OpenFile.{OpenFile}
 use Rattle.plain_tree.specs.declared.tree.Hold.{Hold}
 use Rattle.plain_tree.specs.Widths.{hart_count, descriptor_count}
-use Rattle.plain_tree.specs.Tree.{Name, Tree, put, any_below, is_directory, live_directory, is_live, all_slots, first_slot, look, fd_names, file_names, hold_names, is_named, settle}
-use Rattle.plain_tree.specs.Steps.{node_or, node_at}
-use Rattle.tree_laws.proofs.Maps.{either, same_or, eq_self, eq_is, put_is, put_same, put_other, and_true, or_left, or_right, any_at}
-use Rattle.tree_laws.specs.WellFormed.{Slots, Folders, folder, links_of, folders_of, links_in, raises, IsForest, IsThere, IsOpen, IsWellFormed}
+use Rattle.plain_tree.specs.Tree.{Tree, put, any_below, live_directory, is_live, all_slots, fd_names, file_names, hold_names, is_named, settle}
+use Rattle.plain_tree.specs.Steps.{node_or}
+use Rattle.tree_laws.proofs.Maps.{either, eq_self, put_is, put_same, put_other, and_true, or_left, or_right, any_at}
+use Rattle.tree_laws.specs.WellFormed.{Slots, Folders, folder, links_of, folders_of, links_in, raises, IsForest, IsWellFormed}
 
 pub folder_live : (v : Option Node) → live_directory v ≡ true → folder v ≡ Some (all_slots v)
 folder_live v h = rw h refl

@@ -1,16 +1,14 @@
 -- What descriptors, open files, holds and current directories may become.
-use Rattle.std.proofs.Common.{◌≡◌, ◌≢◌, ℕ, zero, suc, ◌+◌, ◌<◌, ◌≤◌, Bool, true, false, ◌&&◌, ◌||◌, not, ◌==◌, ◌⊎◌, inl, inr, refl, sym, ◌∙◌, ap, subst, arith, List, [], ◌∷◌, Option, Some, None, nat_lt, if◌then◌else◌}
+use Rattle.std.proofs.Common.{◌≡◌, ◌≢◌, ℕ, ◌+◌, ◌<◌, true, false, ◌||◌, not, ◌==◌, ◌⊎◌, inl, inr, refl, sym, ◌∙◌, ap, subst, arith, Option, Some, None, nat_lt, if◌then◌else◌}
 use Rattle.std.proofs.lemmas.Bool.Decides.{nat_tests}
 use Rattle.plain_tree.specs.declared.node.Node.{Node}
-use Rattle.plain_tree.specs.declared.node.Kind.{Kind}
-use Rattle.plain_tree.specs.declared.node.Kind.TheVariants.{Directory, File, Device}
 use Rattle.plain_tree.specs.declared.tree.OpenFile.{OpenFile}
 use Rattle.plain_tree.specs.declared.tree.Hold.{Hold}
-use Rattle.plain_tree.specs.Widths.{hart_count, descriptor_count, root}
+use Rattle.plain_tree.specs.Widths.{hart_count, descriptor_count}
 use Rattle.plain_tree.specs.Tree.{Tree, put, any_below, is_directory, and_then}
-use Rattle.plain_tree.specs.Steps.{node_or, node_at, file_at, has_room, lowest, with_file, moved, has_fd, closed, held, at_dir, has, write_only, read_write}
-use Rattle.tree_laws.proofs.Maps.{either, same_or, eq_self, put_is, put_same, put_other, any_at}
-use Rattle.tree_laws.specs.WellFormed.{Folders, folders_of, links_in, raised_at, raises, IsForest, IsThere, IsOpen, IsWellFormed}
+use Rattle.plain_tree.specs.Steps.{node_or, node_at, file_at, has_room, lowest, with_file, moved, has_fd, closed, at_dir, has, write_only, read_write}
+use Rattle.tree_laws.proofs.Maps.{either, eq_self, put_is, put_same, put_other, any_at}
+use Rattle.tree_laws.specs.WellFormed.{folders_of, links_in, raised_at, raises, IsForest, IsThere, IsWellFormed}
 use Rattle.tree_laws.proofs.Nodes.{everywhere}
 use Rattle.tree_laws.proofs.Formed.{well_held, well_cwd, well_files, raises_put}
 
@@ -36,8 +34,8 @@ well_opened t h id n flags v k is unused = elim (either (has_room (t.fds h))) [
   | inr y ↦ rw y k
   | inl y ↦ rw y (well_files t (put t.files id (Some (new_open n flags))) (put t.fds h (put (t.fds h) (lowest (t.fds h)) (Some id))) k (λ g i j lg li q.
       let old : t.fds g i ≡ Some j → There t (put t.files id (Some (new_open n flags))) j = (λ e.
-          there_old t (put t.files id (Some (new_open n flags))) g i j k lg li e (λ f fis.
-          put_other t.files id (Some (new_open n flags)) j (λ r. absurd (let a : t.files j ≡ None = subst (λ (z : ℕ). t.files z ≡ None) (sym r) (unused y) in cc (a, fis))) ∙ fis)) in
+      there_old t (put t.files id (Some (new_open n flags))) g i j k lg li e (λ f fis.
+      put_other t.files id (Some (new_open n flags)) j (λ r. absurd (let a : t.files j ≡ None = subst (λ (z : ℕ). t.files z ≡ None) (sym r) (unused y) in cc (a, fis))) ∙ fis)) in
       elim (put_at t.fds h g i (put (t.fds h) (lowest (t.fds h)) (Some id))) [
         | inr p ↦ old (sym p.1 ∙ q)
         | inl p ↦ elim (put_is (t.fds h) (lowest (t.fds h)) (Some id) i) [
@@ -56,11 +54,11 @@ well_moved t (Some id) by k =
     let g : OpenFile → Option OpenFile = (λ f. Some (record f { offset = f.offset + by })) in
     let files : ℕ → Option OpenFile = put t.files id (and_then (t.files id) g) in
     well_files t files t.fds k (λ h i j lh li is.
-        let o = k.descriptors h i j lh li is in
-        elim (put_is t.files id (and_then (t.files id) g) j) [
-          | inr p ↦ (o.file, p.1 ∙ o.is, o.node, o.there)
-          | inl p ↦ (record o.file { offset = o.file.offset + by }, p.1 ∙ ap (λ (z : Option OpenFile). and_then z g) (subst (λ (z : ℕ). t.files z ≡ Some o.file) p.0 o.is), o.node, o.there)
-        ])
+    let o = k.descriptors h i j lh li is in
+    elim (put_is t.files id (and_then (t.files id) g) j) [
+      | inr p ↦ (o.file, p.1 ∙ o.is, o.node, o.there)
+      | inl p ↦ (record o.file { offset = o.file.offset + by }, p.1 ∙ ap (λ (z : Option OpenFile). and_then z g) (subst (λ (z : ℕ). t.files z ≡ Some o.file) p.0 o.is), o.node, o.there)
+    ])
 
 -- the open file of a descriptor
 pub file_is : (t : Tree) (h fd : ℕ) (f : OpenFile) → file_at t h fd ≡ Some f → (fd < descriptor_count) × ((id : ℕ) × (t.fds h fd ≡ Some id) × (t.files id ≡ Some f))
@@ -80,13 +78,13 @@ pub well_dup : (t : Tree) (h fd : ℕ) (f : OpenFile) → IsWellFormed t → h <
 well_dup t h fd f k lt is =
     let two = file_is t h fd f is in
     well_files t t.files (put t.fds h (put (t.fds h) (lowest (t.fds h)) (t.fds h fd))) k (λ g i j lg li q.
-        elim (put_at t.fds h g i (put (t.fds h) (lowest (t.fds h)) (t.fds h fd))) [
-          | inr p ↦ there_old t t.files g i j k lg li (sym p.1 ∙ q) (λ f fis. fis)
-          | inl p ↦ elim (put_is (t.fds h) (lowest (t.fds h)) (t.fds h fd) i) [
-            | inr r ↦ there_old t t.files g i j k lg li (subst (λ (z : ℕ). t.fds z i ≡ Some j) (sym p.0) (sym r.1 ∙ (sym p.1 ∙ q))) (λ f fis. fis)
-            | inl r ↦ there_old t t.files h fd j k lt two.0 (sym r.1 ∙ (sym p.1 ∙ q)) (λ f fis. fis)
-          ]
-        ])
+    elim (put_at t.fds h g i (put (t.fds h) (lowest (t.fds h)) (t.fds h fd))) [
+      | inr p ↦ there_old t t.files g i j k lg li (sym p.1 ∙ q) (λ f fis. fis)
+      | inl p ↦ elim (put_is (t.fds h) (lowest (t.fds h)) (t.fds h fd) i) [
+        | inr r ↦ there_old t t.files g i j k lg li (subst (λ (z : ℕ). t.fds z i ≡ Some j) (sym p.0) (sym r.1 ∙ (sym p.1 ∙ q))) (λ f fis. fis)
+        | inl r ↦ there_old t t.files h fd j k lt two.0 (sym r.1 ∙ (sym p.1 ∙ q)) (λ f fis. fis)
+      ]
+    ])
 
 has_it : (t : Tree) (h i id : ℕ) → h < hart_count → i < descriptor_count → t.fds h i ≡ Some id → has_fd t id ≡ true
 unfolding has_fd
@@ -97,14 +95,14 @@ pub well_closed : (t : Tree) (h fd : ℕ) → IsWellFormed t → IsWellFormed (c
 well_closed t h fd k =
     let t1 : Tree = record t { fds = put t.fds h (put (t.fds h) fd None) } in
     well_files t (closed t1).files (put t.fds h (put (t.fds h) fd None)) k (λ g i j lg li q.
-        let old : t.fds g i ≡ Some j → There t (closed t1).files j = (λ e. there_old t (closed t1).files g i j k lg li e (λ f fis. kept t1 j f (has_it t1 g i j lg li q) fis)) in
-        elim (put_at t.fds h g i (put (t.fds h) fd None)) [
-          | inr p ↦ old (sym p.1 ∙ q)
-          | inl p ↦ elim (put_is (t.fds h) fd None i) [
-            | inr r ↦ old (subst (λ (z : ℕ). t.fds z i ≡ Some j) (sym p.0) (sym r.1 ∙ (sym p.1 ∙ q)))
-            | inl r ↦ absurd (let e : None ≡ Some j = sym r.1 ∙ (sym p.1 ∙ q) in cc)
-          ]
-        ])
+    let old : t.fds g i ≡ Some j → There t (closed t1).files j = (λ e. there_old t (closed t1).files g i j k lg li e (λ f fis. kept t1 j f (has_it t1 g i j lg li q) fis)) in
+    elim (put_at t.fds h g i (put (t.fds h) fd None)) [
+      | inr p ↦ old (sym p.1 ∙ q)
+      | inl p ↦ elim (put_is (t.fds h) fd None i) [
+        | inr r ↦ old (subst (λ (z : ℕ). t.fds z i ≡ Some j) (sym p.0) (sym r.1 ∙ (sym p.1 ∙ q)))
+        | inl r ↦ absurd (let e : None ≡ Some j = sym r.1 ∙ (sym p.1 ∙ q) in cc)
+      ]
+    ])
   where
     kept : (u : Tree) (id : ℕ) (f : OpenFile) → has_fd u id ≡ true → u.files id ≡ Some f → (closed u).files id ≡ Some f
     kept u id f has is = rw has is

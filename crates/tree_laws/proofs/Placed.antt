@@ -1,22 +1,22 @@
 -- A directory is made, and a name is removed.
-use Rattle.std.proofs.Common.{◌≡◌, ◌≢◌, ℕ, zero, suc, ◌+◌, ◌-◌, ◌<◌, ◌≤◌, Bool, true, false, ◌&&◌, not, ◌==◌, ◌⊎◌, inl, inr, refl, sym, ◌∙◌, ap, subst, arith, List, [], ◌∷◌, drop, Option, Some, None, nat_lt, if◌then◌else◌}
+use Rattle.std.proofs.Common.{◌≡◌, ◌≢◌, ℕ, suc, ◌+◌, ◌-◌, ◌<◌, ◌≤◌, Bool, true, false, ◌&&◌, ◌==◌, inl, inr, refl, sym, ◌∙◌, ap, subst, arith, [], drop, Option, Some, None, nat_lt, if◌then◌else◌}
 use Rattle.std.proofs.lemmas.Bool.Decides.{nat_tests}
 use Rattle.plain_tree.specs.declared.answer.Cause.{Cause}
 use Rattle.plain_tree.specs.declared.node.Slot.{Slot}
 use Rattle.plain_tree.specs.declared.node.Node.{Node}
 use Rattle.plain_tree.specs.declared.node.Kind.{Kind}
 use Rattle.plain_tree.specs.declared.node.Kind.TheVariants.{Directory, File, Device}
-use Rattle.plain_tree.specs.Widths.{hart_count, descriptor_count, root}
+use Rattle.plain_tree.specs.Widths.{root}
 use Rattle.plain_tree.specs.Tree.{Name, Tree, put, same_name, dot, dotdot, is_directory, slots_of, live_directory, is_live, all_slots, first_slot, look}
-use Rattle.plain_tree.specs.Steps.{node_or, node_at, at_node, with_nodes, first_free, cleared, any_used, not_empty, raised, lowered, new_directory, removed_child}
-use Rattle.tree_laws.proofs.Maps.{either, same_or, eq_self, eq_is, eq_not, put_is, put_same, put_other, and_true}
-use Rattle.tree_laws.specs.WellFormed.{Slots, Folders, folder, links_of, folders_of, links_in, up_in, past, count_in, one_if, mentions, children, raises, IsInOrder, IsForest, IsThere, IsOpen, IsWellFormed}
+use Rattle.plain_tree.specs.Steps.{node_or, node_at, with_nodes, first_free, cleared, any_used, not_empty, raised, lowered, new_directory}
+use Rattle.tree_laws.proofs.Maps.{either, same_or, eq_self, eq_not, put_is, put_same, put_other, and_true}
+use Rattle.tree_laws.specs.WellFormed.{Slots, Folders, folder, links_of, folders_of, links_in, up_in, past, count_in, one_if, mentions, children, raises, IsForest, IsWellFormed}
 use Rattle.tree_laws.proofs.Sums.{one_yes, one_no, count_entered, count_unused}
 use Rattle.tree_laws.proofs.Slots.{Dots}
 use Rattle.tree_laws.proofs.Forest.{cleared_forest, grown_forest, shrunk_forest, apart, plain_or, mentions_part, childless, entered_shape, shape_rest}
-use Rattle.tree_laws.proofs.Nodes.{folder_live, folder_dead, folder_some, folder_none, folder_links, linked_live, live_some, some_node, live_is, everywhere, folders_put, put_self}
+use Rattle.tree_laws.proofs.Nodes.{folder_live, folder_dead, folder_some, folder_none, folder_links, linked_live, live_some, some_node, everywhere, folders_put, put_self}
 use Rattle.tree_laws.proofs.Facts.{entry_found, entry_up, entry_apart, entry_linked}
-use Rattle.tree_laws.proofs.Formed.{InRange, Keeps, range_put, keeps_put, keeps_on, well_nodes, not_folder, with_name, with_new, new_apart, new_keeps, new_range, new_links, new_folders, file_forest}
+use Rattle.tree_laws.proofs.Formed.{InRange, Keeps, range_put, keeps_put, keeps_on, well_nodes, not_folder, with_new, new_apart, new_keeps, new_range, new_links, new_folders, file_forest}
 
 both_true : (a b : Bool) → a ≡ true → b ≡ true → (a && b) ≡ true
 both_true a b p q = grind arith
@@ -263,11 +263,11 @@ can_go t d n e k good a b found first bare =
     let ln = links_node (t.nodes n) in
     let ld = links_node (t.nodes d) in
     let child : is_directory (node_at t n).kind ≡ true → (n ≢ root) × ((node_at t n).count ≡ 1) × (2 ≤ (node_at t d).count) = (λ dir.
-        let q = folder_or (t.nodes n) live dir in
-        let c = empty_child F C R t.ninodes k.depth d n ss q.0 k.forest is q.1 some (empty_slots (t.nodes n) q.0 q.1 bare) in
-        let one = c.2 in
-        let two = c.4 in
-        (c.0, omega (arith, one, ln), omega (arith, two, ld))) in
+    let q = folder_or (t.nodes n) live dir in
+    let c = empty_child F C R t.ninodes k.depth d n ss q.0 k.forest is q.1 some (empty_slots (t.nodes n) q.0 q.1 bare) in
+    let one = c.2 in
+    let two = c.4 in
+    (c.0, omega (arith, one, ln), omega (arith, two, ld))) in
     record {
       good = good;
       found = found;

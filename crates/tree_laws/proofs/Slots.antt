@@ -1,11 +1,11 @@
 -- Slots: what entering and clearing a name do to the others.
-use Rattle.std.proofs.Common.{◌≡◌, ◌≢◌, ℕ, ◌+◌, Bool, true, false, ◌&&◌, ◌||◌, ◌==◌, inl, inr, refl, sym, ◌∙◌, ap, subst, arith, List, [], ◌∷◌, drop, Option, Some, None}
+use Rattle.std.proofs.Common.{◌≡◌, ℕ, ◌+◌, true, false, ◌==◌, inl, inr, refl, sym, ◌∙◌, subst, arith, [], ◌∷◌, Some, None}
 use Rattle.plain_tree.specs.declared.node.Slot.{Slot}
 use Rattle.plain_tree.specs.Tree.{Name, same_name, dot, dotdot, first_slot}
 use Rattle.plain_tree.specs.Steps.{first_free, cleared, any_used, is_used}
 use Rattle.tree_laws.proofs.Maps.{either, eq_self, eq_is, and_true, or_none}
-use Rattle.tree_laws.specs.WellFormed.{Slots, up_in, NamesOnce, count_in, one_if, names}
-use Rattle.tree_laws.proofs.Sums.{count_entered, count_cleared, count_unused, one_yes}
+use Rattle.tree_laws.specs.WellFormed.{Slots, NamesOnce, count_in, one_if}
+use Rattle.tree_laws.proofs.Sums.{count_cleared, one_yes}
 
 pub same_is : (a b : Name) → same_name a b ≡ true → a ≡ b
 unfolding same_name

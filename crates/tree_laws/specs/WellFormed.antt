@@ -8,7 +8,7 @@ use Rattle.plain_tree.specs.declared.step.Action.{Action}
 use Rattle.plain_tree.specs.declared.step.Action.TheVariants.{Open, Truncate, Read, WritePart, Find, Bump, Enter, Unbump, Unlink, Mkdir, Chdir, Dup, Close, Fstat, Inherit}
 use Rattle.plain_tree.specs.Steps.{holds_raised}
 use Rattle.plain_tree.specs.Widths.{hart_count, descriptor_count, root}
-use Rattle.plain_tree.specs.Tree.{Name, Tree, dot, dotdot, is_directory, live_directory, all_slots, first_slot}
+use Rattle.plain_tree.specs.Tree.{Tree, dot, dotdot, is_directory, live_directory, all_slots, first_slot}
 
 abbrev pub Slots : Type 0
 Slots = List (Option Slot)

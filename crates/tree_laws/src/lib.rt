@@ -8,30 +8,25 @@ ghost use Rattle.tree_laws.specs.Laws.{StepsKeepWellFormed, StepsLeaveFinding, S
 /// nothing raised, as a link's written sequence has it.
 pub fn steps_keep_well_formed()
     ensures { StepsKeepWellFormed }
-{
-}
+{}
 
 /// A step that enters or clears a name changes what directories find at that name alone, and any other step changes
 /// none of it. A directory that goes had no entries, and only a new number becomes a live directory.
 pub fn steps_leave_finding()
     ensures { StepsLeaveFinding }
-{
-}
+{}
 
 /// A path without ".." that led somewhere leads there still, or led to what the step removed and leads nowhere.
 pub fn steps_leave_paths()
     ensures { StepsLeavePaths }
-{
-}
+{}
 
 /// A number without a node is under no name, and no current directory, hold or open file has it.
 pub fn new_numbers_are_nobodys()
     ensures { NewNumbersAreNobodys }
-{
-}
+{}
 
 /// The tree that a fresh image holds is well formed.
 pub fn fresh_trees_are_well_formed()
     ensures { FreshTreesAreWellFormed }
-{
-}
+{}
