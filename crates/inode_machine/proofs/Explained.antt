@@ -172,7 +172,7 @@ stepped Ok base w h id c x a m' r apart lt k is ok d may =
     let mid1 : Mid base m'.tree n b1 = mid_acts base m.tree m'.tree n b h a (refl, later_ok base m.tree n (n + 1) b (omega arith) k.book) (may_act m.tree m'.tree h id c x (b.status h) a is d.act) in
     let all = all_mid base m'.tree m h n b1 hart_count mid1 (λ g l. elim (same_or g h) [
       | inl e ↦ (λ f q. absurd (let none : falls_of m m'.tree h g ≡ None = subst (λ (z : ℕ). falls_of m m'.tree h z ≡ None) (sym e) (falls_not m m'.tree h) in cc (none, q)))
-      | inr e ↦ may_fall Ok m m' h g b1 (b.status g) (m.walk g) (calm g e) e (acts_there a b h g e) refl (k.harts g l) (λ v q. d.others g v e q)
+      | inr e ↦ may_fall Ok m m' h g b1 (b.status g) (m.walk g) (calm g e) e (acts_there a b h g e) refl (k.harts g l) (λ v q. d.others g v l e q)
     ]) in
     let mine : b2.status h ≡ Busy id c (after a x) = all.2 h lt ∙ (ap (λ (z : Option Deed). status_after z (b1.status h)) (falls_not m m'.tree h) ∙ (acts_here a b h ∙ (ap (λ (z : Status). status_after a z) is ∙ after_is a id c x))) in
     record {
@@ -184,7 +184,7 @@ stepped Ok base w h id c x a m' r apart lt k is ok d may =
         | inr e ↦
             subst (λ (z : Option Walk). OwnOk Ok m'.tree g ((finishes r h b2).status g) z) (sym (d.walks g e))
             (subst (λ (z : Status). OwnOk Ok m'.tree g z (m.walk g)) (sym (finish_there r b2 h g e ∙ (all.2 g l ∙ (ap (λ (z : Option Deed). status_after z (b1.status g)) (falls_as m m'.tree h g e) ∙ ap (λ (z : Status). status_after (falls m.tree m'.tree (m.walk g)) z) (acts_there a b h g e)))))
-            (own_after Ok m m' g (b.status g) (m.walk g) (calm g e) refl (k.harts g l) (λ v q. d.others g v e q)))
+            (own_after Ok m m' g (b.status g) (m.walk g) (calm g e) refl (k.harts g l) (λ v q. d.others g v l e q)))
       ];
     }
 

@@ -5,3 +5,4 @@ pub mod Moved
 pub mod Explained
 pub mod Cut
 pub mod Serial
+pub mod Played

@@ -1,7 +1,8 @@
 -- What a hart's own move does.
-use Rattle.std.proofs.Common.{◌≡◌, ◌≢◌, ℕ, Bool, true, inl, inr, refl, sym, ◌∙◌, ap, subst, List, [], ◌∷◌, ◌++◌, append_assoc, Option, Some, None, if◌then◌else◌}
+use Rattle.std.proofs.Common.{◌≡◌, ◌≢◌, ℕ, ◌<◌, Bool, true, inl, inr, refl, sym, ◌∙◌, ap, subst, List, [], ◌∷◌, ◌++◌, append_assoc, Option, Some, None, if◌then◌else◌}
 use Rattle.plain_tree.specs.declared.call.Call.{Call}
 use Rattle.plain_tree.specs.declared.step.Action.{Action}
+use Rattle.plain_tree.specs.Widths.{hart_count}
 use Rattle.plain_tree.specs.Tree.{Name, Tree, put, elements, live_directory, look, follow, start_of, resolve, parent, parent_of}
 use Rattle.plain_tree.specs.Steps.{path_of, follows_path, IsInPlace}
 use Rattle.plain_tree.specs.Calls.{Act, next_of}
@@ -28,7 +29,7 @@ pub record Did (m : Inodes) (h : ℕ) (c : Call) (x : List Act) (a : Option Deed
   pub act : ActOk m.tree h c x a m'.tree
   pub own : WalkAt m'.tree h c (after a x) (m'.walk h)
   pub walks : (g : ℕ) → g ≢ h → m'.walk g ≡ m.walk g
-  pub others : (g : ℕ) (w : Walk) → g ≢ h → m.walk g ≡ Some w → Left m.tree m'.tree g w.at
+  pub others : (g : ℕ) (w : Walk) → g < hart_count → g ≢ h → m.walk g ≡ Some w → Left m.tree m'.tree g w.at
 
 -- a move that changes neither the tree nor a walk
 calm_did : (m m' : Inodes) (h : ℕ) (c : Call) (x : List Act) → IsWellFormed m.tree → WalkAt m.tree h c x (m.walk h) → m'.tree ≡ m.tree → m'.walk ≡ m.walk → Did m h c x None m'
@@ -37,7 +38,7 @@ calm_did m m' h c x good own tree walk = record {
   act = tree;
   own = subst (λ (z : Tree). WalkAt z h c x (m'.walk h)) (sym tree) (subst (λ (f : ℕ → Option Walk). WalkAt m.tree h c x (f h)) (sym walk) own);
   walks = λ g ne. ap (λ (f : ℕ → Option Walk). f g) walk;
-  others = λ g w ne is. left_same m.tree m'.tree g w.at tree;
+  others = λ g w lg ne is. left_same m.tree m'.tree g w.at tree;
 }
 
 -- the walk is given up
@@ -47,7 +48,7 @@ quit_did m m' h c x good is = subst (λ (z : Inodes). Did m h c x None z) (sym i
   act = refl;
   own = subst (λ (z : Option Walk). WalkAt m.tree h c x z) (sym (put_same m.walk h None)) tt;
   walks = λ g ne. put_other m.walk h None g ne;
-  others = λ g w ne i. left_same m.tree m.tree g w.at refl;
+  others = λ g w lg ne i. left_same m.tree m.tree g w.at refl;
 })
 
 -- the step acts by what the whole path says
@@ -60,10 +61,10 @@ acts_did m m' h c x s new id a good free next k =
       act = (next, (id, k.step));
       own = subst (λ (z : Option Walk). WalkAt m'.tree h c (x ++ record { step = s; answer = k.answer } ∷ []) z) (sym (ap (λ (f : ℕ → Option Walk). f h) k.walk ∙ put_same m.walk h None)) tt;
       walks = λ g ne. ap (λ (f : ℕ → Option Walk). f g) k.walk ∙ put_other m.walk h None g ne;
-      others = λ g w ne is. record {
+      others = λ g w lg ne is. record {
         paths = frame.paths;
-        dead = λ bad. frame.dead w.at (λ makes q. k.alone makes g ne (subst (λ (z : Option Walk). walks_at z new) (sym is) q)) bad;
-        cwd = frame.cwds g ne (λ q. let none : m.walk g ≡ None = k.idle g q in absurd (cc (none, is)));
+        dead = λ bad. frame.dead w.at (λ makes q. k.alone makes g lg ne (subst (λ (z : Option Walk). walks_at z new) (sym is) q)) bad;
+        cwd = frame.cwds g ne (λ q. let none : m.walk g ≡ None = k.idle g lg q in absurd (cc (none, is)));
         hold = frame.holds g ne;
       };
     })
@@ -80,14 +81,14 @@ goes_did m m' h c x w done a good next f place free path at k =
         act = refl;
         own = subst (λ (z : Option Walk). WalkAt m.tree h c x z) (sym (put_same m.walk h (Some w))) (record { done = done; path = path; follows = f; place = place; free = free; here = λ l. (next, at) });
         walks = λ g ne. put_other m.walk h (Some w) g ne;
-        others = λ g v ne is. left_same m.tree m.tree g v.at refl;
+        others = λ g v lg ne is. left_same m.tree m.tree g v.at refl;
       })
       | inr y ↦ subst (λ (b : Bool). Did m h c x (if b then None else Some (fail w.step)) there) (sym y) (record {
         good = good;
         act = (next, lost_fails m.tree h w.at w.next done w.rest w.step f place path (inl (at, y)));
         own = subst (λ (z : Option Walk). WalkAt m.tree h c (x ++ (fail w.step).act ∷ []) z) (sym (put_same m.walk h (Some w))) (record { done = done; path = path; follows = f; place = place; free = free; here = λ l. absurd (cc (l, y)) });
         walks = λ g ne. put_other m.walk h (Some w) g ne;
-        others = λ g v ne is. left_same m.tree m.tree g v.at refl;
+        others = λ g v lg ne is. left_same m.tree m.tree g v.at refl;
       })
     ]))
   where

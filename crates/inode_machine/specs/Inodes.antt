@@ -58,8 +58,8 @@ pub record ActsWith (m : Inodes) (h : ℕ) (s : Action) (res : Option ℕ) (par 
   pub lock : m'.lock ≡ m.lock
   pub walk : m'.walk ≡ put m.walk h None
   -- no other hart's walk refers to a new node's number
-  pub alone : makes_node m.tree s par ≡ true → (g : ℕ) → g ≢ h → walks_at (m.walk g) new → ⊥
-  pub idle : (g : ℕ) → s ≡ Inherit g → m.walk g ≡ None
+  pub alone : makes_node m.tree s par ≡ true → (g : ℕ) → g < hart_count → g ≢ h → walks_at (m.walk g) new → ⊥
+  pub idle : (g : ℕ) → g < hart_count → s ≡ Inherit g → m.walk g ≡ None
 
 abbrev pub GoesTo : Inodes → ℕ → Walk → Option Deed → Inodes → Type 0
 GoesTo m h w x m' = (x ≡ if_lost (m.tree.nodes w.at) w.step) × (m' ≡ record { tree = m.tree; lock = m.lock; walk = put m.walk h (Some w) })

@@ -2,6 +2,7 @@
 //! functions do nothing: each carries a law.
 #![tactic(auto)]
 
+ghost use Rattle.inode_machine.specs.Examples.{OpenFinishes, ReadFinishes, WriteFinishes, LinkFinishes, UnlinkFinishes, MkdirFinishes, ChdirFinishes, DupFinishes, FstatFinishes, CloseFinishes, InheritFinishes, WalkerFails, WalkerStaysFailed};
 ghost use Rattle.inode_machine.specs.Laws.{RunsAreExplained, ListsGrow, OneHartIsExplained};
 
 /// The list that a run keeps, by appending alone, explains its trace: calls of many harts that walk, look up, enter
@@ -20,3 +21,27 @@ pub fn lists_grow()
 pub fn one_hart_is_explained()
     ensures { OneHartIsExplained }
 {}
+
+/// There are runs: for each of the eleven calls one in which it finishes.
+pub fn each_call_finishes()
+    ensures open { OpenFinishes }
+    ensures read { ReadFinishes }
+    ensures write { WriteFinishes }
+    ensures link { LinkFinishes }
+    ensures unlink { UnlinkFinishes }
+    ensures mkdir { MkdirFinishes }
+    ensures chdir { ChdirFinishes }
+    ensures dup { DupFinishes }
+    ensures fstat { FstatFinishes }
+    ensures close { CloseFinishes }
+    ensures inherit { InheritFinishes }
+{
+}
+
+/// A hart walks to a directory that another hart removes under it: its open fails at that very unlink, also where the
+/// names are made again before it looks.
+pub fn walkers_fail_with_their_directory()
+    ensures removed { WalkerFails }
+    ensures made_again { WalkerStaysFailed }
+{
+}
