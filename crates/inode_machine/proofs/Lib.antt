@@ -6,3 +6,5 @@ pub mod Explained
 pub mod Cut
 pub mod Serial
 pub mod Played
+pub mod Finished
+pub mod Removed

@@ -18,7 +18,7 @@ use Rattle.inode_machine.specs.Kept.{Status as Standing, Deed, Book, starts}
 use Rattle.inode_machine.specs.Kept.Status.{Free, Busy}
 use Rattle.inode_machine.specs.Inodes.{Walk, Inodes, Move, World, Event, Moves, Begins, Looks, GoesTo, ActsWith, if_lost, walks_at, act_of_hart, all_fall, after, MayReply, finishes, Happens, Runs}
 use Rattle.inode_machine.specs.Inodes.Move.{Quiet, Take, Give, Begin, Look, Quit, Own}
-use Rattle.inode_machine.specs.Inodes.Event.{Starts, Steps}
+use Rattle.inode_machine.specs.Inodes.Event.{Starts, Steps, Nothing}
 
 -- a move's deed and inodes, and whether it is allowed
 pub record Played : Type 0 where
@@ -350,3 +350,15 @@ script_runs w [] may = refl
 script_runs w (d ∷ ds) may =
     let a = and_true (played w d).may (may_all (played w d).world ds) may in
     ((played w d).world, played_ok w d a.0, script_runs (played w d).world ds a.1)
+
+-- the script of events
+abbrev pub script_of : List Event → List Do
+script_of [] = []
+script_of (Starts h c ∷ es) = Start h c ∷ script_of es
+script_of (Steps h v None ∷ es) = Step h v ∷ script_of es
+script_of (Steps h v (Some r) ∷ es) = Last h v ∷ script_of es
+script_of (Nothing ∷ es) = script_of es
+
+-- Events that their own script gives are a run.
+pub events_run : (w : World) (es : List Event) → may_all w (script_of es) ≡ true → events_of w (script_of es) ≡ es → Runs w es (end_of w (script_of es))
+events_run w es may same = subst (λ (z : List Event). Runs w z (end_of w (script_of es))) same (script_runs w (script_of es) may)
