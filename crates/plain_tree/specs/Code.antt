@@ -1,7 +1,9 @@
 -- Words in which the code's parts are promised.
-use Rattle.std.specs.Prelude.{ℕ, ◌≡◌, ◌<◌, length, slice_index_or, Bool, List, [], ◌∷◌, take, nat_lt, if◌then◌else◌, Option, Some, None}
+use Rattle.std.specs.Prelude.{ℕ, ◌≡◌, ◌<◌, ◌++◌, length, slice_index_or, slice_set, Bool, List, [], ◌∷◌, take, nat_lt, if◌then◌else◌, Option, Some, None}
+use Rattle.plain_tree.specs.declared.node.Slot.{Slot}
 use Rattle.plain_tree.specs.declared.tree.OpenFileEntry.{OpenFileEntry}
 use Rattle.plain_tree.specs.Tree.{Name, Tree, file_in, is_empty, settle}
+use Rattle.plain_tree.specs.Steps.{cleared, first_free}
 use Rattle.plain_tree.specs.Widths.{name_width}
 
 -- the element that these bytes are, if there are any, before the others
@@ -22,3 +24,13 @@ pub record IsEntryOf (es : List OpenFileEntry) (id i : ℕ) : Type 0 where
   pub below : i < length es
   pub before : file_in (take i es) id ≡ None
   pub there : (d : OpenFileEntry) → (slice_index_or es i d).id ≡ id
+
+-- a new slot goes to i; where there is none, to the end
+abbrev pub FreeAt : List (Option Slot) → Option ℕ → Type 0
+FreeAt ss None = (s : Slot) → first_free ss s ≡ ss ++ Some s ∷ []
+FreeAt ss (Some i) = (i < length ss) × ((s : Slot) → first_free ss s ≡ slice_set ss i (Some s))
+
+-- the slot at i is the one to be cleared; where there is none, none is
+abbrev pub ClearsAt : List (Option Slot) → Name → Option ℕ → Type 0
+ClearsAt ss e None = cleared ss e ≡ ss
+ClearsAt ss e (Some i) = (i < length ss) × (cleared ss e ≡ slice_set ss i None)

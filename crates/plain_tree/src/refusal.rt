@@ -54,7 +54,7 @@ fn kind_refuses_write(kind: &Kind, offset: u64, bytes: &[u8]) -> Option<Cause>
     match kind {
         Kind::Directory { slots } => part_refuses(
             offset,
-            slots.as_slice().len() as u64 * ENTRY_WIDTH,
+            slots.as_slice().len() as u64 * ENTRY_WIDTH as u64,
             bytes,
         ),
         Kind::File { bytes: old } => part_refuses(offset, old.as_slice().len() as u64, bytes),
@@ -72,6 +72,13 @@ fn slot_in_use(slots: &[Option<Slot>]) -> bool
         }
     }
     false
+}
+
+/// The directory has an entry beside "." and "..".
+fn has_entries(slots: &[Option<Slot>]) -> bool
+    ensures { result ≡ any_used (drop 2 slots.now) }
+{
+    slots.len() > 2 && slot_in_use(&slots[2..])
 }
 
 impl Tree {
@@ -102,15 +109,12 @@ impl Tree {
         }
     }
 
-    fn has_used_slot(&self, number: u16) -> Option<Cause>
+    fn refuses_unlink(&self, number: u16) -> Option<Cause>
         ensures { result ≡ not_empty (node_at (tree_of self.now) number).kind }
     {
         let node = self.node(usize::from(number))?;
         match &node.kind {
-            Kind::Directory { slots }
-                if slots.as_slice().len() > 2 && slot_in_use(&slots.as_slice()[2..]) => Some(
-                Cause::NotEmpty,
-            ),
+            Kind::Directory { slots } if has_entries(slots.as_slice()) => Some(Cause::NotEmpty),
             _ => None,
         }
     }
@@ -225,7 +229,7 @@ impl Tree {
             return Some(Cause::DotName);
         }
         match self.look(directory, name) {
-            Some(number) => self.has_used_slot(number),
+            Some(number) => self.refuses_unlink(number),
             None => Some(Cause::NoEntry),
         }
     }

@@ -184,6 +184,14 @@ impl Tree {
         self.nodes[number] = Some(node);
     }
 
+    /// The node goes.
+    pub(crate) fn drop_node(&mut self, number: usize)
+        requires { number < (tree_of self.old).ninodes }
+        ensures { tree_of self.new ≡ with_nodes (tree_of self.old) (put (tree_of self.old).nodes number None) }
+    {
+        self.nodes[number] = None;
+    }
+
     /// Adds an open file under an unused id.
     pub(crate) fn add_file(&mut self, id: usize, file: OpenFile) -> Result<(), NoMemory>
         requires { (tree_of self.old).files id ≡ None }

@@ -4,7 +4,7 @@
 pub(crate) const NAME_WIDTH: usize = 14;
 
 /// Bytes of a directory's slot in its content.
-pub(crate) const ENTRY_WIDTH: u64 = 16;
+pub(crate) const ENTRY_WIDTH: usize = 16;
 
 /// Bytes of the largest file.
 pub(crate) const FILE_LIMIT: u64 = 274_432;
