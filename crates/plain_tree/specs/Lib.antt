@@ -7,4 +7,5 @@ pub mod Calls
 pub mod Explains
 pub mod Applied
 pub mod Fresh
+pub mod Code
 pub mod Rows
