@@ -1,22 +1,21 @@
 -- Computed runs.
-use Rattle.std.proofs.Common.{ℕ, refl, List, [], ◌∷◌, ◌++◌}
+use Rattle.std.proofs.Common.{refl, List, [], ◌∷◌, ◌++◌}
 use Rattle.plain_tree.specs.Tree.{pieces, put, any_below, same_name, first_slot, look, follow, parent_from, parent_of, file_in, is_named, settle, tree_of}
 use Rattle.plain_tree.specs.Steps.{entries, any_used, lowest_from, refusal_with, place_of, first_free, cleared, has_fd, effect_with, answer_with}
 use Rattle.plain_tree.specs.Calls.{last_cause, next_of, first_cause, reply_of, had_room}
 use Rattle.plain_tree.specs.Fresh.{fresh}
-use Rattle.plain_tree.specs.declared.call.Call.TheVariants.{Open, Read, Write, Link, Unlink, Mkdir, Chdir, Dup, Fstat, Close, Inherit}
+use Rattle.plain_tree.specs.declared.call.Call.TheVariants.{Read, Write, Unlink, Mkdir, Chdir, Dup, Fstat, Close, Inherit}
 use Rattle.inode_machine.specs.Inodes.{World, Event, all_fall, opened}
-use Rattle.inode_machine.specs.Examples.{IsRun, goes, ends, placed, walks, walks_through, opens_a, link_a, OpenFinishes, ReadFinishes, WriteFinishes, LinkFinishes, UnlinkFinishes, MkdirFinishes, ChdirFinishes, DupFinishes, FstatFinishes, CloseFinishes, InheritFinishes}
-use Rattle.inode_machine.specs.Inodes.Event.{Starts, Steps}
-use Rattle.inode_machine.specs.Inodes.Move.{Take, Give, Begin, Look, Quit, Own}
-use Rattle.plain_tree.specs.declared.answer.Answer.TheVariants.{Fd, Count, Stat as Stated, Done as Finished, Failed as Refused}
+use Rattle.inode_machine.specs.Examples.{goes, ends, walks, opens_a, link_a, OpenFinishes, ReadFinishes, WriteFinishes, LinkFinishes, UnlinkFinishes, MkdirFinishes, ChdirFinishes, DupFinishes, FstatFinishes, CloseFinishes, InheritFinishes}
+use Rattle.inode_machine.specs.Inodes.Event.{Starts}
+use Rattle.inode_machine.specs.Inodes.Move.{Give, Look, Own}
+use Rattle.plain_tree.specs.declared.answer.Answer.TheVariants.{Fd, Count, Stat as Stated, Done as Finished}
 use Rattle.plain_tree.specs.declared.answer.NodeType.TheVariants.{File as AFile}
-use Rattle.std.specs.Prelude.{codes, Option, Some, None}
+use Rattle.std.specs.Prelude.{codes}
 use Rattle.inode_machine.proofs.Played.{acted, moved, played, may_all, events_of, end_of, script_of, events_run}
 
 abbrev first : World
 first = opened (tree_of (fresh 200))
-
 
 abbrev events_open_finishes : List Event
 events_open_finishes = opens_a

@@ -1,5 +1,5 @@
 -- Runs that are computed: what a script of moves does, and that it is a run where each move is allowed.
-use Rattle.std.proofs.Common.{◌≡◌, ◌≢◌, ℕ, zero, suc, ◌+◌, ◌<◌, ◌≤◌, Bool, true, false, ◌&&◌, ◌||◌, not, ◌==◌, inl, inr, refl, sym, ◌∙◌, ap, subst, arith, List, [], ◌∷◌, Option, Some, None, nat_lt}
+use Rattle.std.proofs.Common.{◌≡◌, ℕ, ◌<◌, Bool, true, false, ◌&&◌, ◌||◌, not, ◌==◌, refl, ap, subst, arith, List, [], ◌∷◌, Option, Some, None, nat_lt}
 use Rattle.std.proofs.lemmas.Bool.Decides.{nat_tests}
 use Rattle.plain_tree.specs.declared.answer.Cause.{Cause}
 use Rattle.plain_tree.specs.declared.answer.Reply.{Reply}
@@ -10,13 +10,13 @@ use Rattle.plain_tree.specs.declared.step.StepAnswer.{StepAnswer}
 use Rattle.plain_tree.specs.declared.step.StepAnswer.TheVariants.{Opened, Bytes, Stat as Status, Fd as NewFd, Done, Failed, Full as NoRoom}
 use Rattle.plain_tree.specs.Widths.{hart_count}
 use Rattle.plain_tree.specs.Tree.{Name, Tree, put, any_below, elements, live_directory, look, start_of, resolve, parent, settle}
-use Rattle.plain_tree.specs.Steps.{path_of, follows_path, makes_node, opens_one, is_nothing, place_of, IsInPlace, IsNewNode, MayChoose, StepWith, refusal_with, refused, effect_with, answer_with}
+use Rattle.plain_tree.specs.Steps.{path_of, follows_path, makes_node, opens_one, is_nothing, place_of, IsInPlace, MayChoose, StepWith, refusal_with, refused, effect_with, answer_with}
 use Rattle.plain_tree.specs.Calls.{Act, next_of, reply_of, had_room}
 use Rattle.tree_laws.specs.WellFormed.{is_free_to_find}
-use Rattle.tree_laws.proofs.Maps.{either, eq_self, eq_is, eq_not, and_true, any_none}
-use Rattle.inode_machine.specs.Kept.{Status as Standing, Deed, Book, starts}
+use Rattle.tree_laws.proofs.Maps.{eq_self, eq_is, eq_not, and_true, any_none}
+use Rattle.inode_machine.specs.Kept.{Status as Standing, Deed, starts}
 use Rattle.inode_machine.specs.Kept.Status.{Free, Busy}
-use Rattle.inode_machine.specs.Inodes.{Walk, Inodes, Move, World, Event, Moves, Begins, Looks, GoesTo, ActsWith, if_lost, walks_at, act_of_hart, all_fall, after, MayReply, finishes, Happens, Runs}
+use Rattle.inode_machine.specs.Inodes.{Walk, Inodes, Move, World, Event, Moves, Begins, Looks, ActsWith, if_lost, walks_at, act_of_hart, all_fall, after, finishes, Happens, Runs}
 use Rattle.inode_machine.specs.Inodes.Move.{Quiet, Take, Give, Begin, Look, Quit, Own}
 use Rattle.inode_machine.specs.Inodes.Event.{Starts, Steps, Nothing}
 

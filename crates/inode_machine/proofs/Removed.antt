@@ -1,12 +1,11 @@
 -- Computed runs.
-use Rattle.std.proofs.Common.{ℕ, refl, List, [], ◌∷◌, ◌++◌}
+use Rattle.std.proofs.Common.{refl, List, [], ◌∷◌, ◌++◌}
 use Rattle.plain_tree.specs.Tree.{pieces, put, any_below, same_name, first_slot, look, follow, parent_from, parent_of, file_in, is_named, settle, tree_of}
 use Rattle.plain_tree.specs.Steps.{entries, any_used, lowest_from, refusal_with, place_of, first_free, cleared, has_fd, effect_with, answer_with}
 use Rattle.plain_tree.specs.Calls.{last_cause, next_of, first_cause, reply_of, had_room}
 use Rattle.plain_tree.specs.Fresh.{fresh}
-use Rattle.plain_tree.specs.declared.call.Call.TheVariants.{Open, Read, Write, Link, Unlink, Mkdir, Chdir, Dup, Fstat, Close, Inherit}
 use Rattle.inode_machine.specs.Inodes.{World, Event, all_fall, opened}
-use Rattle.inode_machine.specs.Examples.{IsRun, goes, ends, placed, walks, makes_both, removes_both, gives_up, until_removed, WalkerFails, WalkerStaysFailed}
+use Rattle.inode_machine.specs.Examples.{makes_both, removes_both, gives_up, WalkerFails, WalkerStaysFailed}
 use Rattle.inode_machine.proofs.Played.{acted, moved, played, may_all, events_of, end_of, script_of, events_run}
 
 abbrev first : World

@@ -1,10 +1,9 @@
 -- Runs of the machine: one in which each call finishes, and two in which a walker's directory is removed under it.
-use Rattle.std.specs.Prelude.{◌≡◌, ℕ, true, List, [], ◌∷◌, ◌++◌, Option, Some, None, codes}
+use Rattle.std.specs.Prelude.{◌≡◌, ℕ, true, List, [], ◌∷◌, ◌++◌, Some, None, codes}
 use Rattle.plain_tree.specs.declared.answer.Answer.{Answer}
 use Rattle.plain_tree.specs.declared.answer.Answer.TheVariants.{Fd, Count, Stat as Stated, Done as Finished, Failed as Refused}
 use Rattle.plain_tree.specs.declared.answer.Cause.TheVariants.{NoEntry}
 use Rattle.plain_tree.specs.declared.answer.NodeType.TheVariants.{File as AFile}
-use Rattle.plain_tree.specs.declared.answer.Reply.{Reply}
 use Rattle.plain_tree.specs.declared.call.Call.{Call}
 use Rattle.plain_tree.specs.declared.call.Call.TheVariants.{Open, Read, Write, Link, Unlink, Mkdir, Chdir, Dup, Fstat, Close, Inherit}
 use Rattle.plain_tree.specs.declared.step.Action.{Action}

@@ -35,13 +35,11 @@ pub fn each_call_finishes()
     ensures fstat { FstatFinishes }
     ensures close { CloseFinishes }
     ensures inherit { InheritFinishes }
-{
-}
+{}
 
 /// A hart walks to a directory that another hart removes under it: its open fails at that very unlink, also where the
 /// names are made again before it looks.
 pub fn walkers_fail_with_their_directory()
     ensures removed { WalkerFails }
     ensures made_again { WalkerStaysFailed }
-{
-}
+{}
