@@ -28,7 +28,7 @@ Nodes = ℕ → Option Node
 found_in : (ns : Nodes) (s y : ℕ) (a : Name) → look ns s a ≡ Some y → (ss : Slots) × (folder (ns s) ≡ Some ss) × (first_slot ss a ≡ Some y)
 found_in ns s y a h = let good = look_good ns s a y h in (all_slots (ns s), folder_live (ns s) good, sym (look_in ns s a good) ∙ h)
 
-look_by : (ns : Nodes) (s : ℕ) (a : Name) (ss : Slots) (r : Option ℕ) → folder (ns s) ≡ Some ss → first_slot ss a ≡ r → look ns s a ≡ r
+pub look_by : (ns : Nodes) (s : ℕ) (a : Name) (ss : Slots) (r : Option ℕ) → folder (ns s) ≡ Some ss → first_slot ss a ≡ r → look ns s a ≡ r
 look_by ns s a ss r is found = let two = folder_some (ns s) ss is in look_in ns s a two.0 ∙ (ap (λ (z : Slots). first_slot z a) two.1 ∙ found)
 
 look_off : (ns : Nodes) (s : ℕ) (a : Name) → folder (ns s) ≡ None → look ns s a ≡ None
@@ -117,7 +117,7 @@ change_leads ns ns' b m par new (Entered d n e ss bt pt is none to) a x w c h = 
 change_leads ns ns' b m par new (Made d e ss bt mt pt is none fresh to) a x w c h =
     let F = folders_of ns in
     let F1 : Folders = put F d (Some (first_free ss (record { name = e; number = new }))) in
-    let nd : d ≢ new = (λ q. absurd (let z : folder (ns d) ≡ None = subst (λ (k : ℕ). folder (ns k) ≡ None) (sym q) fresh in cc (z, is))) in
+    let nd : d ≢ new = (λ q. absurd (cc (q, fresh, is))) in
     inl (grows_paths ns ns' a x w (λ s y f q. elim (put_is F1 new (Some (Dots new d [])) s) [
       | inl p ↦ absurd (let z : look ns s f ≡ None = look_off ns s f (subst (λ (k : ℕ). folder (ns k) ≡ None) (sym p.0) fresh) in cc (z, q))
       | inr p ↦ elim (put_is F d (Some (first_free ss (record { name = e; number = new }))) s) [
@@ -129,7 +129,7 @@ change_leads ns ns' b m par new (Made d e ss bt mt pt is none fresh to) a x w c 
     ]) h)
 change_leads ns ns' b m par new (Cleared d n e ss bt pt is once found plain to) a x w c h =
     let F = folders_of ns in
-    let dn : d ≢ n = (λ q. absurd (let z : folder (ns d) ≡ None = subst (λ (k : ℕ). folder (ns k) ≡ None) (sym q) plain in cc (z, is))) in
+    let dn : d ≢ n = (λ q. absurd (cc (q, plain, is))) in
     removes_leads ns ns' d n e
     (cleared_removes ns ns' d n e ss dn is once found (ap (λ (G : Folders). G d) to ∙ put_same F d (Some (cleared ss e))) (ap (λ (G : Folders). G n) to ∙ (put_other F d (Some (cleared ss e)) n (λ q. dn (sym q)) ∙ plain))
     (λ s sd sn. ap (λ (G : Folders). G s) to ∙ put_other F d (Some (cleared ss e)) s sd)
@@ -181,7 +181,7 @@ change_finds ns ns' b m par new (Made d e ss bt mt pt is none fresh to) k a live
     let F = folders_of ns in
     let s : Slot = record { name = e; number = new } in
     let F1 : Folders = put F d (Some (first_free ss s)) in
-    let nd : d ≢ new = (λ q. absurd (let z : folder (ns d) ≡ None = subst (λ (k : ℕ). folder (ns k) ≡ None) (sym q) fresh in cc (z, is))) in
+    let nd : d ≢ new = (λ q. absurd (cc (q, fresh, is))) in
     elim (put_is F1 new (Some (Dots new d [])) k) [
       | inl p ↦ absurd (let z : live_directory (ns k) ≡ false = folder_none (ns k) (subst (λ (j : ℕ). folder (ns j) ≡ None) (sym p.0) fresh) in cc (z, live))
       | inr p ↦ elim (put_is F d (Some (first_free ss s)) k) [

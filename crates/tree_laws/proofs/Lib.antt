@@ -12,3 +12,4 @@ pub mod Kept
 pub mod Changed
 pub mod Frames
 pub mod FreshTree
+pub mod Reached

@@ -2,10 +2,11 @@
 use Rattle.std.specs.Prelude.{◌≡◌, ℕ, ◌≤◌, true, None}
 use Rattle.plain_tree.specs.declared.step.TreeStep.{TreeStep}
 use Rattle.plain_tree.specs.declared.step.StepAnswer.{StepAnswer}
-use Rattle.plain_tree.specs.Tree.{Tree, tree_of}
+use Rattle.plain_tree.specs.Tree.{Tree, tree_of, is_live}
 use Rattle.plain_tree.specs.Steps.{Step}
+use Rattle.plain_tree.specs.Explains.{IsReached}
 use Rattle.plain_tree.specs.Fresh.{fresh}
-use Rattle.tree_laws.specs.WellFormed.{IsWellFormed, is_free_to_find}
+use Rattle.tree_laws.specs.WellFormed.{raises, IsWellFormed, is_free_to_find}
 use Rattle.tree_laws.specs.Leaves.{LeavesFinding, Frame, IsNobodys}
 
 -- Every tree step, also a refused one, keeps a tree well formed.
@@ -27,3 +28,7 @@ NewNumbersAreNobodys = (t : Tree) (n : ℕ) → IsWellFormed t → t.nodes n ≡
 -- A tree with a root alone is well formed.
 abbrev pub FreshTreesAreWellFormed : Type 0
 FreshTreesAreWellFormed = (ninodes : ℕ) → 2 ≤ ninodes → IsWellFormed (tree_of (fresh ninodes))
+
+-- What is live has a path from the root, but for a node that a link has raised and not yet named.
+abbrev pub LiveNodesAreReached : Type 0
+LiveNodesAreReached = (t : Tree) (n : ℕ) → IsWellFormed t → is_live (t.nodes n) ≡ true → raises t.holds n ≡ 0 → IsReached t n

@@ -2,7 +2,7 @@
 //! directories and of the paths that other harts follow. The functions do nothing: each carries a law.
 #![tactic(auto)]
 
-ghost use Rattle.tree_laws.specs.Laws.{StepsKeepWellFormed, StepsLeaveFinding, StepsLeavePaths, NewNumbersAreNobodys, FreshTreesAreWellFormed};
+ghost use Rattle.tree_laws.specs.Laws.{StepsKeepWellFormed, StepsLeaveFinding, StepsLeavePaths, NewNumbersAreNobodys, FreshTreesAreWellFormed, LiveNodesAreReached};
 
 /// Each of the fifteen tree steps, refused or not, keeps a tree well formed. A find is made by a hart that holds
 /// nothing raised, as a link's written sequence has it.
@@ -29,4 +29,9 @@ pub fn new_numbers_are_nobodys()
 /// The tree that a fresh image holds is well formed.
 pub fn fresh_trees_are_well_formed()
     ensures { FreshTreesAreWellFormed }
+{}
+
+/// Going down from the root reaches each live node, but one that a link has raised and not yet named.
+pub fn live_nodes_are_reached()
+    ensures { LiveNodesAreReached }
 {}
