@@ -1,0 +1,8 @@
+use Rattle.inode_machine.proofs.Removed.{walker_fails, walker_stays_failed}
+use Rattle.inode_machine.proofs.walkers_fail_with_their_directory.Goals as goal
+
+pub returns-clause-removed : goal.returns-clause-removed
+returns-clause-removed c = walker_fails
+
+pub returns-clause-made_again : goal.returns-clause-made_again
+returns-clause-made_again c = walker_stays_failed

@@ -1,0 +1,4 @@
+pub mod Kept
+pub mod Inodes
+pub mod Laws
+pub mod Examples

@@ -1,0 +1,45 @@
+//! The machine of whole inodes, and the law that each of its runs is explained by one list of tree steps. The
+//! functions do nothing: each carries a law.
+#![tactic(auto)]
+
+ghost use Rattle.inode_machine.specs.Examples.{OpenFinishes, ReadFinishes, WriteFinishes, LinkFinishes, UnlinkFinishes, MkdirFinishes, ChdirFinishes, DupFinishes, FstatFinishes, CloseFinishes, InheritFinishes, WalkerFails, WalkerStaysFailed};
+ghost use Rattle.inode_machine.specs.Laws.{RunsAreExplained, ListsGrow, OneHartIsExplained};
+
+/// The list that a run keeps, by appending alone, explains its trace: calls of many harts that walk, look up, enter
+/// and remove step by step act as one list of tree steps. No path has the element "..".
+pub fn runs_are_explained()
+    ensures { RunsAreExplained }
+{}
+
+/// The entries of the events up to a moment are the list as it stood at that moment.
+pub fn lists_grow()
+    ensures { ListsGrow }
+{}
+
+/// Where one hart alone makes calls the same holds for any paths, and the list is the sequences of its calls one after
+/// the other.
+pub fn one_hart_is_explained()
+    ensures { OneHartIsExplained }
+{}
+
+/// There are runs: for each of the eleven calls one in which it finishes.
+pub fn each_call_finishes()
+    ensures open { OpenFinishes }
+    ensures read { ReadFinishes }
+    ensures write { WriteFinishes }
+    ensures link { LinkFinishes }
+    ensures unlink { UnlinkFinishes }
+    ensures mkdir { MkdirFinishes }
+    ensures chdir { ChdirFinishes }
+    ensures dup { DupFinishes }
+    ensures fstat { FstatFinishes }
+    ensures close { CloseFinishes }
+    ensures inherit { InheritFinishes }
+{}
+
+/// A hart walks to a directory that another hart removes under it: its open fails at that very unlink, also where the
+/// names are made again before it looks.
+pub fn walkers_fail_with_their_directory()
+    ensures removed { WalkerFails }
+    ensures made_again { WalkerStaysFailed }
+{}

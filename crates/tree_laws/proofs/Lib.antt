@@ -1,0 +1,15 @@
+pub mod Maps
+pub mod Sums
+pub mod Slots
+pub mod Forest
+pub mod Nodes
+pub mod Walks
+pub mod Facts
+pub mod Formed
+pub mod Placed
+pub mod Opened
+pub mod Kept
+pub mod Changed
+pub mod Frames
+pub mod FreshTree
+pub mod Reached

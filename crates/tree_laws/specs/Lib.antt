@@ -1,0 +1,3 @@
+pub mod WellFormed
+pub mod Leaves
+pub mod Laws

@@ -1,0 +1,37 @@
+//! Laws of the plain tree: when a tree is well formed, that every tree step keeps it so, and what a step leaves of
+//! directories and of the paths that other harts follow. The functions do nothing: each carries a law.
+#![tactic(auto)]
+
+ghost use Rattle.tree_laws.specs.Laws.{StepsKeepWellFormed, StepsLeaveFinding, StepsLeavePaths, NewNumbersAreNobodys, FreshTreesAreWellFormed, LiveNodesAreReached};
+
+/// Each of the fifteen tree steps, refused or not, keeps a tree well formed. A find is made by a hart that holds
+/// nothing raised, as a link's written sequence has it.
+pub fn steps_keep_well_formed()
+    ensures { StepsKeepWellFormed }
+{}
+
+/// A step that enters or clears a name changes what directories find at that name alone, and any other step changes
+/// none of it. A directory that goes had no entries, and only a new number becomes a live directory.
+pub fn steps_leave_finding()
+    ensures { StepsLeaveFinding }
+{}
+
+/// A path without ".." that led somewhere leads there still, or led to what the step removed and leads nowhere.
+pub fn steps_leave_paths()
+    ensures { StepsLeavePaths }
+{}
+
+/// A number without a node is under no name, and no current directory, hold or open file has it.
+pub fn new_numbers_are_nobodys()
+    ensures { NewNumbersAreNobodys }
+{}
+
+/// The tree that a fresh image holds is well formed.
+pub fn fresh_trees_are_well_formed()
+    ensures { FreshTreesAreWellFormed }
+{}
+
+/// Going down from the root reaches each live node, but one that a link has raised and not yet named.
+pub fn live_nodes_are_reached()
+    ensures { LiveNodesAreReached }
+{}
