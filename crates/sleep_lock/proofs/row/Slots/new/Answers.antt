@@ -1,0 +1,18 @@
+use Rattle.std.proofs.Common.{rules, refl, length-append, append_assoc, ◌+◌, ◌≡◌, ap, ◌∙◌, sym, arith, ◌∷◌, [], length, ℕ}
+use Rattle.sleep_lock.specs.SleepLock.{filled}
+use Rattle.sleep_lock.proofs.Locks.{numbered_row, row_of-push}
+use Rattle.sleep_lock.proofs.row.Slots.new.Goals as goal
+
+pub loop-value-preserved : goal.loop-value-preserved
+loop-value-preserved g c =
+    let values = c.loop-value.yielded in
+    let value = c.in-Some.value in
+    let at : filled (0 + length values) value ≡ c.new.result = ap (λ (n : ℕ). filled n value) (let n : 0 + length values ≡ c.loop-value.number = omega (arith, c.loop-value.invariant.number) in n) ∙ sym c.new.ensures in
+    record {
+      row = rw (c.in_ok-push.ensures.items, c.loop-value.invariant.row, row_of-push 0 values value, at) refl;
+      number = omega (arith, length-append values (value ∷ []), c.loop-value.invariant.number);
+      rest = search (rules, append_assoc);
+    }
+
+pub returns-clause-numbered : goal.returns-clause-numbered
+returns-clause-numbered g c = rw c.loop-value.invariant.row (numbered_row c.loop-value.yielded)

@@ -1,0 +1,4 @@
+pub mod SleepLock
+pub mod Lending
+pub mod Row
+pub mod LendingRow
