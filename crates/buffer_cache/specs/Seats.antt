@@ -62,7 +62,7 @@ abbrev pub unused : ℕ → SeatState
 unused n = record { number = n; block = None; content = None; pinned = false; holder = None }
 
 -- so many of these, numbered from n on
-abbrev pub unused_from : ℕ → ℕ → List SeatState
+unfoldable pub unused_from : ℕ → ℕ → List SeatState
 unused_from n zero = []
 unused_from n (suc count) = unused n ∷ unused_from (n + 1) count
 
