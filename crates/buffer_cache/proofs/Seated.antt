@@ -1,6 +1,6 @@
 -- How the slots go on with their seats.
-use Rattle.std.proofs.Common.{◌≡◌, ◌≢◌, ℕ, zero, suc, ◌+◌, ◌<◌, ◌≤◌, List, [], ◌∷◌, ◌++◌, length, get_or, set, take, drop, Bool, true, false, cond, not, ◌&&◌, refl, sym, ◌∙◌, ap, subst, arith, Option, Some, None, IsSome, is_some, is_none, if◌then◌else◌, ◌==◌}
-use Rattle.std.specs.Prelude.{slice_get, slice_set, IfSome, Result, Ok, Err, OnOk, OnErr}
+use Rattle.std.proofs.Common.{◌≡◌, ◌≢◌, ℕ, ◌+◌, ◌<◌, ◌≤◌, List, [], ◌∷◌, ◌++◌, length, get_or, set, take, drop, Bool, true, false, cond, not, ◌&&◌, refl, sym, ◌∙◌, ap, subst, arith, Option, Some, None, IsSome, is_some, is_none, if◌then◌else◌, ◌==◌}
+use Rattle.std.specs.Prelude.{slice_get, slice_set, Result, Ok, Err, OnOk, OnErr}
 use Rattle.std.specs.Option.{MatchOption}
 use Rattle.std.specs.List.{position}
 use Rattle.std.proofs.lemmas.Bool.Decides.{nat_tests}
@@ -11,7 +11,7 @@ use Rattle.sleep_lock.specs.Row.{lock_at, lock_of, unlocked, IsOut}
 use Rattle.sleep_lock.proofs.Lists.{set_same, slice_get-set_same, slice_get-set_other}
 use Rattle.buffer_cache.specs.Buffers.{BufferState}
 use Rattle.buffer_cache.specs.Lists.{first_of, change_first, change_to_end, count_of}
-use Rattle.buffer_cache.specs.Seats.{SeatState, has_block, is_free, is_out, seat_of, kept, with_holder, without_holder, with_content, with_pin, as_new, with_seat, given_back, IsHeld, IsGuardOf}
+use Rattle.buffer_cache.specs.Seats.{SeatState, has_block, is_free, seat_of, kept, with_holder, without_holder, with_content, with_pin, as_new, with_seat, given_back, IsHeld, IsGuardOf}
 use Rattle.buffer_cache.specs.Rows.{has_number, InsideFits, SlotFits, AllSeated, IsSeated}
 use Rattle.buffer_cache.specs.Getting.{get_of, get_by, get_new, guard_of}
 use Rattle.buffer_cache.specs.declared.got.Got.{Got}

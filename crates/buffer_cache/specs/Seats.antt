@@ -1,5 +1,5 @@
 -- The buffers of a cache, in order of giving back: the first was given back least recently.
-use Rattle.std.specs.Prelude.{◌≡◌, ◌≢◌, ℕ, zero, suc, ◌+◌, ◌<◌, ◌≤◌, List, [], ◌∷◌, length, Bool, true, false, not, ◌&&◌, ◌==◌, Option, Some, None, is_some, is_none}
+use Rattle.std.specs.Prelude.{◌≡◌, ◌≢◌, ℕ, zero, suc, ◌+◌, ◌<◌, ◌≤◌, List, [], ◌∷◌, length, Bool, false, not, ◌&&◌, ◌==◌, Option, Some, None, is_some, is_none}
 use Rattle.std.specs.Option.{MatchOption, option_and_then, unwrap_or}
 use Rattle.sleep_lock.specs.SleepLock.{GuardState}
 use Rattle.block_device.specs.Blocks.{block_at}

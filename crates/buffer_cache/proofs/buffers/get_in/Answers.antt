@@ -1,4 +1,4 @@
-use Rattle.std.proofs.Common.{◌≡◌, List, sym, ◌∙◌, ap, subst, IsSome}
+use Rattle.std.proofs.Common.{List, sym, subst, IsSome}
 use Rattle.buffer_cache.specs.Lists.{first_of}
 use Rattle.buffer_cache.specs.Seats.{SeatState, is_free}
 use Rattle.buffer_cache.proofs.Firsts.{has_place}

@@ -1,7 +1,7 @@
-use Rattle.std.proofs.Common.{◌≡◌, ◌-◌, ◌++◌, ◌∷◌, [], List, sym, ◌∙◌, ap, subst, IsSome, length, length-set, set, arith}
+use Rattle.std.proofs.Common.{◌≡◌, ◌-◌, List, sym, ◌∙◌, length, length-set, set, arith}
 use Rattle.std.specs.List.{position}
 use Rattle.std.proofs.lemmas.Slice.{put_mid-rotated}
-use Rattle.buffer_cache.specs.Seats.{SeatState, has_block, seat_of, without_holder}
+use Rattle.buffer_cache.specs.Seats.{SeatState, has_block, without_holder}
 use Rattle.buffer_cache.proofs.Firsts.{has_place, place_to_end, position_some}
 use Rattle.buffer_cache.proofs.buffers.give_back.Goals as goal
 

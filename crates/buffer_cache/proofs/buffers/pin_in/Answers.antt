@@ -1,4 +1,4 @@
-use Rattle.std.proofs.Common.{◌≡◌, List, sym, ◌∙◌, ap, subst, IsSome}
+use Rattle.std.proofs.Common.{List, sym, ◌∙◌, ap, subst, IsSome}
 use Rattle.std.specs.List.{position}
 use Rattle.buffer_cache.specs.Seats.{SeatState, has_block, seat_of, with_pin}
 use Rattle.buffer_cache.proofs.Firsts.{has_place, place_change}

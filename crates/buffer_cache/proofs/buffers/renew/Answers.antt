@@ -1,13 +1,6 @@
-use Rattle.std.proofs.Common.{◌≡◌, ◌∙◌, List, sym, ap, subst, length, ℕ, ◌<◌, Some}
-use Rattle.std.specs.Prelude.{Option, set}
-use Rattle.sleep_lock.specs.SleepLock.{GuardState}
+use Rattle.std.proofs.Common.{◌∙◌, sym, ap, subst, length, ℕ, ◌<◌, Some}
 use Rattle.sleep_lock.specs.Row.{lock_of}
-use Rattle.buffer_cache.specs.Buffers.{BufferState}
 use Rattle.buffer_cache.specs.Seats.{SeatState, is_free}
-use Rattle.buffer_cache.specs.Rows.{IsSeated}
-use Rattle.buffer_cache.specs.Getting.{get_of}
-use Rattle.buffer_cache.specs.declared.got.Got.{Got}
-use Rattle.buffer_cache.specs.declared.got.Got.TheVariants.{Held}
 use Rattle.buffer_cache.proofs.Firsts.{place_first}
 use Rattle.buffer_cache.proofs.Seated.{RenewGives, renew_gives, renews_so, seated_at, slot_within}
 use Rattle.buffer_cache.proofs.buffers.renew.Goals as goal

@@ -1,8 +1,6 @@
-use Rattle.std.proofs.Common.{◌≡◌, ℕ, List, Option, Some, None, IsSome, sym, subst}
+use Rattle.std.proofs.Common.{ℕ, List, Option, Some, None, IsSome, sym, subst}
 use Rattle.std.specs.Prelude.{IfSome}
-use Rattle.std.proofs.lemmas.Option.{IfSome_then}
-use Rattle.sleep_lock.proofs.Locks.{IfSome_each}
-use Rattle.buffer_cache.specs.Seats.{SeatState, IsHeld, with_seat, with_content}
+use Rattle.buffer_cache.specs.Seats.{SeatState, IsHeld}
 use Rattle.buffer_cache.specs.Rows.{IsSeated}
 use Rattle.buffer_cache.proofs.Seated.{seated_filled}
 use Rattle.buffer_cache.proofs.buffers.Buffers.keep.Goals as goal

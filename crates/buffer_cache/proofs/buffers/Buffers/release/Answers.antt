@@ -1,8 +1,6 @@
 use Rattle.std.proofs.Common.{◌≡◌, ℕ, List, length, sym, ◌∙◌, ap, subst, arith}
-use Rattle.std.specs.Prelude.{Option}
 use Rattle.buffer_cache.specs.Buffers.{BufferState}
 use Rattle.buffer_cache.specs.Seats.{SeatState, IsHeld, kept, has_block, without_holder, given_back}
-use Rattle.buffer_cache.specs.Rows.{IsSeated}
 use Rattle.buffer_cache.proofs.Firsts.{length-change_to_end}
 use Rattle.buffer_cache.proofs.Seated.{held_out, seated_given_back, seated_as, written_back}
 use Rattle.buffer_cache.proofs.buffers.Buffers.release.Goals as goal

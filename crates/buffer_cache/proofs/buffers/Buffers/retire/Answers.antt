@@ -1,4 +1,4 @@
-use Rattle.std.proofs.Common.{◌<◌, ◌∙◌, ℕ, List, length, sym, subst}
+use Rattle.std.proofs.Common.{◌<◌, ℕ, List, sym, subst}
 use Rattle.buffer_cache.specs.Seats.{SeatState, IsHeld}
 use Rattle.buffer_cache.proofs.Seated.{held_within}
 use Rattle.buffer_cache.proofs.buffers.Buffers.retire.Goals as goal
