@@ -41,9 +41,9 @@ seat_with_other b k f [] same ne = refl
 seat_with_other b k f (s ∷ ss) same ne =
     pick (has_block b s) (λ t. has_block b s ≡ t → seat_of k (if t then f s ∷ ss else s ∷ with_seat b f ss) ≡ seat_of k (s ∷ ss))
     (λ is _.
-      let not_k : has_block k s ≡ false = other_block b k s.block is ne in
-      let not_k_then : has_block k (f s) ≡ false = ap (is_number k) (same s) ∙ not_k in
-      ap (λ (t : Bool). if t then Some (f s) else seat_of k ss) not_k_then ∙ sym (ap (λ (t : Bool). if t then Some s else seat_of k ss) not_k))
+    let not_k : has_block k s ≡ false = other_block b k s.block is ne in
+    let not_k_then : has_block k (f s) ≡ false = ap (is_number k) (same s) ∙ not_k in
+    ap (λ (t : Bool). if t then Some (f s) else seat_of k ss) not_k_then ∙ sym (ap (λ (t : Bool). if t then Some s else seat_of k ss) not_k))
     (λ _ _. pick (has_block k s) (λ t. (if t then Some s else seat_of k (with_seat b f ss)) ≡ (if t then Some s else seat_of k ss)) (λ _. refl) (λ _. seat_with_other b k f ss same ne))
     refl
 
@@ -70,8 +70,8 @@ seat_back_other b k [] ne = refl
 seat_back_other b k (s ∷ ss) ne =
     pick (has_block b s) (λ t. has_block b s ≡ t → seat_of k (if t then ss ++ without_holder s ∷ [] else s ∷ given_back b ss) ≡ seat_of k (s ∷ ss))
     (λ is _.
-      let not_k : has_block k s ≡ false = other_block b k s.block is ne in
-      seat_push k ss (without_holder s) not_k ∙ sym (ap (λ (t : Bool). if t then Some s else seat_of k ss) not_k))
+    let not_k : has_block k s ≡ false = other_block b k s.block is ne in
+    seat_push k ss (without_holder s) not_k ∙ sym (ap (λ (t : Bool). if t then Some s else seat_of k ss) not_k))
     (λ _ _. pick (has_block k s) (λ t. (if t then Some s else seat_of k (given_back b ss)) ≡ (if t then Some s else seat_of k ss)) (λ _. refl) (λ _. seat_back_other b k ss ne))
     refl
 
@@ -90,12 +90,12 @@ seat_new_here hart b (x ∷ ss) s none e =
     pick (has_block b x) (λ t. has_block b x ≡ t → (if t then Some x else seat_of b ss) ≡ None → seat_of b (change_first is_free (as_new hart b) (x ∷ ss)) ≡ Some (as_new hart b s))
     (λ _ _ none_here. absurd (none-some x (sym none_here)))
     (λ isnt _ none_here.
-      pick (is_free x) (λ t. (if t then Some x else first_of is_free ss) ≡ Some s → seat_of b (if t then as_new hart b x ∷ ss else x ∷ change_first is_free (as_new hart b) ss) ≡ Some (as_new hart b s))
-      (λ _ here.
-        ap (λ (t : Bool). if t then Some (as_new hart b x) else seat_of b ss) (equals b)
-        ∙ ap (λ (y : SeatState). Some (as_new hart b y)) (same_Some x s here))
-      (λ _ here. ap (λ (t : Bool). if t then Some x else seat_of b (change_first is_free (as_new hart b) ss)) isnt ∙ seat_new_here hart b ss s none_here here)
-      e)
+    pick (is_free x) (λ t. (if t then Some x else first_of is_free ss) ≡ Some s → seat_of b (if t then as_new hart b x ∷ ss else x ∷ change_first is_free (as_new hart b) ss) ≡ Some (as_new hart b s))
+    (λ _ here.
+    ap (λ (t : Bool). if t then Some (as_new hart b x) else seat_of b ss) (equals b)
+    ∙ ap (λ (y : SeatState). Some (as_new hart b y)) (same_Some x s here))
+    (λ _ here. ap (λ (t : Bool). if t then Some x else seat_of b (change_first is_free (as_new hart b) ss)) isnt ∙ seat_new_here hart b ss s none_here here)
+    e)
     refl none
 
 -- a seat that isn't free stays
@@ -104,16 +104,16 @@ seat_new_other hart b k [] s ne e taken = absurd (none-some s e)
 seat_new_other hart b k (x ∷ ss) s ne e taken =
     pick (is_free x) (λ t. is_free x ≡ t → seat_of k (if t then as_new hart b x ∷ ss else x ∷ change_first is_free (as_new hart b) ss) ≡ Some s)
     (λ free _.
-      ap (λ (t : Bool). if t then Some (as_new hart b x) else seat_of k ss) (different b k ne)
-      ∙ pick (has_block k x) (λ t. (if t then Some x else seat_of k ss) ≡ Some s → seat_of k ss ≡ Some s)
-        (λ _ here. let clash : false ≡ true = sym taken ∙ ap is_free (sym (same_Some x s here)) ∙ free in absurd (cc clash))
-        (λ _ here. here)
-        e)
+    ap (λ (t : Bool). if t then Some (as_new hart b x) else seat_of k ss) (different b k ne)
+    ∙ pick (has_block k x) (λ t. (if t then Some x else seat_of k ss) ≡ Some s → seat_of k ss ≡ Some s)
+    (λ _ here. let clash : false ≡ true = sym taken ∙ ap is_free (sym (same_Some x s here)) ∙ free in absurd (cc clash))
+    (λ _ here. here)
+    e)
     (λ _ _.
-      pick (has_block k x) (λ t. (if t then Some x else seat_of k ss) ≡ Some s → (if t then Some x else seat_of k (change_first is_free (as_new hart b) ss)) ≡ Some s)
-      (λ _ here. here)
-      (λ _ here. seat_new_other hart b k ss s ne here taken)
-      e)
+    pick (has_block k x) (λ t. (if t then Some x else seat_of k ss) ≡ Some s → (if t then Some x else seat_of k (change_first is_free (as_new hart b) ss)) ≡ Some s)
+    (λ _ here. here)
+    (λ _ here. seat_new_other hart b k ss s ne here taken)
+    e)
     refl
   where
     different : (b k : ℕ) → b ≢ k → (b == k) ≡ false
@@ -141,25 +141,25 @@ new_seen disk k hart b [] none once clean = refl
 new_seen disk k hart b (s ∷ ss) none once clean =
     pick (is_free s) (λ t. is_free s ≡ t → bytes_or (block_at disk k) (seat_of k (if t then as_new hart b s ∷ ss else s ∷ change_first is_free (as_new hart b) ss)) ≡ seen_in disk (s ∷ ss) k)
     (λ free _.
-      pick (b == k) (λ t. (b == k) ≡ t → bytes_or (block_at disk k) (if t then Some (as_new hart b s) else seat_of k ss) ≡ seen_in disk (s ∷ ss) k)
-      (λ is _. sym (ap (bytes_or (block_at disk k)) (ap (λ (j : ℕ). seat_of j (s ∷ ss)) (sym (equal b k is)) ∙ none)))
-      (λ isnt _.
-        pick (has_block k s) (λ t. has_block k s ≡ t → cond t 1 0 + count_of (has_block k) ss ≤ 1 → bytes_or (block_at disk k) (seat_of k ss) ≡ bytes_or (block_at disk k) (if t then Some s else seat_of k ss))
-        (λ has _ le.
-          ap (bytes_or (block_at disk k)) (none_first (has_block k) ss (omega (arith, le)))
-          ∙ sym (clean_seen disk k s clean.0 (is_block k s.block has) (free_unpinned s.pinned s.holder free)))
-        (λ _ _ _. refl)
-        refl once)
-      refl)
+    pick (b == k) (λ t. (b == k) ≡ t → bytes_or (block_at disk k) (if t then Some (as_new hart b s) else seat_of k ss) ≡ seen_in disk (s ∷ ss) k)
+    (λ is _. sym (ap (bytes_or (block_at disk k)) (ap (λ (j : ℕ). seat_of j (s ∷ ss)) (sym (equal b k is)) ∙ none)))
+    (λ isnt _.
+    pick (has_block k s) (λ t. has_block k s ≡ t → cond t 1 0 + count_of (has_block k) ss ≤ 1 → bytes_or (block_at disk k) (seat_of k ss) ≡ bytes_or (block_at disk k) (if t then Some s else seat_of k ss))
+    (λ has _ le.
+    ap (bytes_or (block_at disk k)) (none_first (has_block k) ss (omega (arith, le)))
+    ∙ sym (clean_seen disk k s clean.0 (is_block k s.block has) (free_unpinned s.pinned s.holder free)))
+    (λ _ _ _. refl)
+    refl once)
+    refl)
     (λ _ _.
-      pick (has_block b s) (λ t. (if t then Some s else seat_of b ss) ≡ None → bytes_or (block_at disk k) (seat_of k (s ∷ change_first is_free (as_new hart b) ss)) ≡ seen_in disk (s ∷ ss) k)
-      (λ _ none_here. absurd (none-some s (sym none_here)))
-      (λ _ none_here.
-        pick (has_block k s) (λ t. cond t 1 0 + count_of (has_block k) ss ≤ 1 → bytes_or (block_at disk k) (if t then Some s else seat_of k (change_first is_free (as_new hart b) ss)) ≡ bytes_or (block_at disk k) (if t then Some s else seat_of k ss))
-        (λ _ _. refl)
-        (λ _ le. new_seen disk k hart b ss none_here (omega (arith, le)) clean.1)
-        once)
-      none)
+    pick (has_block b s) (λ t. (if t then Some s else seat_of b ss) ≡ None → bytes_or (block_at disk k) (seat_of k (s ∷ change_first is_free (as_new hart b) ss)) ≡ seen_in disk (s ∷ ss) k)
+    (λ _ none_here. absurd (none-some s (sym none_here)))
+    (λ _ none_here.
+    pick (has_block k s) (λ t. cond t 1 0 + count_of (has_block k) ss ≤ 1 → bytes_or (block_at disk k) (if t then Some s else seat_of k (change_first is_free (as_new hart b) ss)) ≡ bytes_or (block_at disk k) (if t then Some s else seat_of k ss))
+    (λ _ _. refl)
+    (λ _ le. new_seen disk k hart b ss none_here (omega (arith, le)) clean.1)
+    once)
+    none)
     refl
 
 -- what the cache keeps of each block stays, where the seats' contents do

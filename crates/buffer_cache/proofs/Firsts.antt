@@ -1,7 +1,8 @@
 -- The first of a list that passes a test: where it stands, and what changing it does to counts.
-use Rattle.std.proofs.Common.{◌≡◌, ℕ, zero, suc, ◌+◌, ◌<◌, ◌≤◌, List, [], ◌∷◌, ◌++◌, length, get_or, set, Bool, true, false, cond, not, refl, sym, ◌∙◌, ap, subst, arith, Option, Some, None, IsSome, if◌then◌else◌, nat_lt}
+use Rattle.std.proofs.Common.{◌≡◌, ℕ, zero, suc, ◌+◌, ◌<◌, ◌≤◌, List, [], ◌∷◌, ◌++◌, length, get_or, set, Bool, true, false, cond, not, refl, sym, ◌∙◌, ap, subst, arith, Option, Some, None, IsSome, is_some, if◌then◌else◌, nat_lt}
 use Rattle.std.proofs.lemmas.Bool.Decides.{nat_tests}
-use Rattle.std.specs.List.{position, position_or_len, remove}
+use Rattle.std.specs.List.{position, position_or_len, remove, count_by}
+use Rattle.std.proofs.lemmas.List.Recursion.{is_count_by}
 use Rattle.buffer_cache.specs.Lists.{first_of, change_first, change_to_end, count_of}
 
 pub pick : (t : Bool) (P : Bool → Type 0) → (t ≡ true → P true) → (t ≡ false → P false) → P t
@@ -165,3 +166,35 @@ none_first p [] e = refl
 none_first {X} p (y ∷ xs) e =
     pick (p y) (λ t. cond t 1 0 + count_of p xs ≡ 0 → (if t then Some y else first_of p xs) ≡ None)
     (λ _ zero_. absurd (omega (arith, zero_))) (λ _ zero_. none_first p xs (omega (arith, zero_))) e
+
+-- std's count
+pub counted : {X : Type 0} (q : X → Bool) (xs : List X) → count_by q xs ≡ count_of q xs
+counted {X} q xs = sym (is_count_by (count_of q) q refl each xs)
+  where
+    each : (x : X) (xs : List X) → count_of q (x ∷ xs) ≡ cond (q x) (1 + count_of q xs) (count_of q xs)
+    each x xs = pick (q x) (λ t. cond t 1 0 + count_of q xs ≡ cond t (1 + count_of q xs) (count_of q xs)) (λ _. refl) (λ _. omega arith)
+
+-- the two counts, over a list that is seen as another
+pub counted_in : {X : Type 0} (q : X → Bool) (view xs : List X) (n : ℕ) → n ≡ count_by q view → view ≡ xs → n ≡ count_of q xs
+counted_in q view xs n e v = e ∙ counted q view ∙ ap (count_of q) v
+
+first_exists : {X : Type 0} (p : X → Bool) (xs : List X) → position_or_len p xs < length xs → IsSome (first_of p xs)
+first_exists p [] lt = absurd (omega arith)
+first_exists {X} p (x ∷ xs) lt = found (p x) lt (λ l. first_exists p xs l)
+  where
+    found : (t : Bool) → cond (not t) (1 + position_or_len p xs) 0 < suc (length xs) → (position_or_len p xs < length xs → IsSome (first_of p xs)) → IsSome (if t then Some x else first_of p xs)
+    found true lt more = refl
+    found false lt more = more (omega (arith, lt))
+
+-- where there is a place there is a first
+pub placed : {X : Type 0} (p : X → Bool) (xs : List X) (b : Bool) → b ≡ is_some (position p xs) → (b ≡ true → IsSome (first_of p xs)) × (IsSome (first_of p xs) → b ≡ true)
+placed {X} p xs b e = by_place (position p xs) refl e
+  where
+    by_place : (o : Option ℕ) → position p xs ≡ o → b ≡ is_some o → (b ≡ true → IsSome (first_of p xs)) × (IsSome (first_of p xs) → b ≡ true)
+    by_place None at is = (
+      λ yes. let clash : false ≡ true = sym is ∙ yes in absurd (cc clash),
+      λ some. let none : IsSome {T = X} None = subst (λ (o : Option X). IsSome o) (no_place p xs at) some in absurd (cc none),
+    )
+    by_place (Some i) at is =
+        let here = position_some p xs i at in
+        (λ _. first_exists p xs (omega (arith, here.0, here.1)), λ _. is)

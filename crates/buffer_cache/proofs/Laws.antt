@@ -1,6 +1,6 @@
 -- What each call keeps, in the words of its contract.
-use Rattle.std.proofs.Common.{◌≡◌, ◌≢◌, ◌⊎◌, inl, inr, ℕ, ◌<◌, ◌≤◌, List, [], Bool, true, false, ◌==◌, refl, sym, ◌∙◌, ap, subst, arith, Option, Some, None, IsSome, is_some, is_none, not, ◌&&◌, if◌then◌else◌}
-use Rattle.std.specs.Prelude.{◌↔◌, IfSome, Result, Ok, Err, OnOk, OnErr}
+use Rattle.std.proofs.Common.{◌≡◌, ◌≢◌, ◌⊎◌, inl, inr, ℕ, ◌<◌, ◌≤◌, List, [], length, Bool, true, false, ◌==◌, refl, sym, ◌∙◌, ap, subst, arith, Option, Some, None, IsSome, is_some, is_none, not, ◌&&◌, if◌then◌else◌}
+use Rattle.std.specs.Prelude.{slice_set, ◌↔◌, IfSome, Result, Ok, Err, OnOk, OnErr}
 use Rattle.std.specs.Option.{MatchOption, option_map, option_and_then, unwrap_or}
 use Rattle.std.proofs.lemmas.Bool.{cases_eq}
 use Rattle.std.proofs.lemmas.Bool.Decides.{nat_tests}
@@ -8,6 +8,7 @@ use Rattle.std.proofs.lemmas.Option.{same_Some, none-some}
 use Rattle.sleep_lock.specs.SleepLock.{GuardState}
 use Rattle.sleep_lock.proofs.Locks.{IfSome_each}
 use Rattle.block_device.specs.Blocks.{block_at}
+use Rattle.block_device.specs.BlockLaws.{block_at-set_same}
 use Rattle.buffer_cache.specs.Buffers.{BufferState}
 use Rattle.buffer_cache.specs.Lists.{first_of, change_first, count_of}
 use Rattle.buffer_cache.specs.Seats.{SeatState, is_held_by, is_pinned, is_free, seat_of, holder_of, kept, seen_in, with_seat, given_back, with_holder, with_content, with_pin, as_new, IsGuardOf, IsHeld, KeepsHeld, KeepsOthers, IsSound}
@@ -54,6 +55,7 @@ get_laws disk hart b ss lt one sound = by_seat (seat_of b ss) refl
   where
     free : IsSome (first_of is_free ss)
     free = some_free ss hart lt sound.count sound.few_pinned sound.few_out sound.harts one
+
     by_free : seat_of b ss ≡ None → (o : Option SeatState) → first_of is_free ss ≡ o → GetLaws disk hart b ss (get_new hart b ss o)
     by_free none None e = let isnt : IsSome {T = SeatState} None = subst (λ (o : Option SeatState). IsSome o) e free in absurd (cc isnt)
     by_free none (Some s) e = record {
@@ -72,6 +74,7 @@ get_laws disk hart b ss lt one sound = by_seat (seat_of b ss) refl
       ];
       seen = λ k. new_seen disk k hart b ss none (sound.once k) sound.clean;
     }
+
     by_holder : (s : SeatState) → seat_of b ss ≡ Some s → (h : Option ℕ) → s.holder ≡ h → GetLaws disk hart b ss (if is_some h then (ss, Waits) else (with_seat b (with_holder hart) ss, Held (guard_of hart b s s.content)))
     by_holder s e (Some other) out = record {
       sound = sound;
@@ -82,24 +85,25 @@ get_laws disk hart b ss lt one sound = by_seat (seat_of b ss) refl
       seen = λ k. refl;
     }
     by_holder s e None none =
-      let seat_then : seat_of b (with_seat b (with_holder hart) ss) ≡ Some (with_holder hart s) = seat_with_here b (with_holder hart) ss (λ _. refl) ∙ ap (λ (o : Option SeatState). option_map (with_holder hart) o) e in
-      record {
-        sound = sound_lent disk ss b hart lt one sound;
-        waits = (
-          λ is. absurd (cc is),
-          λ out. let isnt : IsSome {T = ℕ} None = subst (λ (o : Option ℕ). IsSome o) (ap (λ (o : Option SeatState). option_and_then (λ (x : SeatState). x.holder) o) e ∙ none) out in absurd (cc isnt),
-        );
-        held = (refl, refl, held_by (with_seat b (with_holder hart) ss) (guard_of hart b s s.content) (with_holder hart s) seat_then (record { number = refl; holder = refl; valid = refl }));
-        bytes = IfSome_each s.content (λ bytes is. sym (seen_as disk ss b (Some bytes) (content_in ss b s e ∙ is)));
-        others = λ g held. elim (cases_eq b g.value.block) [
-          | inl same ↦
-              let at = held_seat ss g held in
-              let is_s : at.0 ≡ s = same_Some at.0 s (sym at.1 ∙ ap (λ (k : ℕ). seat_of k ss) (sym same) ∙ e) in
-              absurd (none-some g.hart (sym none ∙ ap (λ (x : SeatState). x.holder) (sym is_s) ∙ at.2.holder))
-          | inr ne ↦ held_same ss (with_seat b (with_holder hart) ss) g (seat_with_other b g.value.block (with_holder hart) ss (λ _. refl) ne) held
-        ];
-        seen = λ k. ap (λ (o : Option (List ℕ)). unwrap_or o (block_at disk k)) (kept_with b k (with_holder hart) ss (λ _. refl) (λ _. refl));
-      }
+        let seat_then : seat_of b (with_seat b (with_holder hart) ss) ≡ Some (with_holder hart s) = seat_with_here b (with_holder hart) ss (λ _. refl) ∙ ap (λ (o : Option SeatState). option_map (with_holder hart) o) e in
+        record {
+          sound = sound_lent disk ss b hart lt one sound;
+          waits = (
+            λ is. absurd (cc is),
+            λ out. let isnt : IsSome {T = ℕ} None = subst (λ (o : Option ℕ). IsSome o) (ap (λ (o : Option SeatState). option_and_then (λ (x : SeatState). x.holder) o) e ∙ none) out in absurd (cc isnt),
+          );
+          held = (refl, refl, held_by (with_seat b (with_holder hart) ss) (guard_of hart b s s.content) (with_holder hart s) seat_then (record { number = refl; holder = refl; valid = refl }));
+          bytes = IfSome_each s.content (λ bytes is. sym (seen_as disk ss b (Some bytes) (content_in ss b s e ∙ is)));
+          others = λ g held. elim (cases_eq b g.value.block) [
+            | inl same ↦
+                let at = held_seat ss g held in
+                let is_s : at.0 ≡ s = same_Some at.0 s (sym at.1 ∙ ap (λ (k : ℕ). seat_of k ss) (sym same) ∙ e) in
+                absurd (none-some g.hart (sym none ∙ ap (λ (x : SeatState). x.holder) (sym is_s) ∙ at.2.holder))
+            | inr ne ↦ held_same ss (with_seat b (with_holder hart) ss) g (seat_with_other b g.value.block (with_holder hart) ss (λ _. refl) ne) held
+          ];
+          seen = λ k. ap (λ (o : Option (List ℕ)). unwrap_or o (block_at disk k)) (kept_with b k (with_holder hart) ss (λ _. refl) (λ _. refl));
+        }
+
     by_seat : (o : Option SeatState) → seat_of b ss ≡ o → GetLaws disk hart b ss (get_by hart b ss o)
     by_seat None none = by_free none (first_of is_free ss) refl
     by_seat (Some s) e = by_holder s e s.holder refl
@@ -108,6 +112,7 @@ get_laws disk hart b ss lt one sound = by_seat (seat_of b ss) refl
 pub record FillLaws (disk : List (List ℕ)) (b : ℕ) (old new : List SeatState) (g : GuardState BufferState) : Type 0 where
   pub sound : IsSound disk new
   pub held : IsHeld new g
+  pub bytes : IfSome g.value.content (λ bytes. bytes ≡ seen_in disk new g.value.block)
   pub others : KeepsOthers b old new
   pub seen : (k : ℕ) → seen_in disk new k ≡ seen_in disk old k
 
@@ -123,16 +128,17 @@ seen_content : (disk : List (List ℕ)) (ss : List SeatState) (b k : ℕ) (bytes
 seen_content disk ss b k bytes s e =
     pick (k == b) (λ t. (k == b) ≡ t → seen_in disk (with_seat b (with_content bytes) ss) k ≡ (if t then bytes else seen_in disk ss k))
     (λ _ is.
-      let same : k ≡ b = equal k b is in
-      let here : seen_in disk (with_seat b (with_content bytes) ss) b ≡ bytes = seen_as disk (with_seat b (with_content bytes) ss) b (Some bytes) (content_in (with_seat b (with_content bytes) ss) b (with_content bytes s) (content_then ss b bytes s e)) in
-      subst (λ (j : ℕ). seen_in disk (with_seat b (with_content bytes) ss) j ≡ bytes) (sym same) here)
+    let same : k ≡ b = equal k b is in
+    let here : seen_in disk (with_seat b (with_content bytes) ss) b ≡ bytes = seen_as disk (with_seat b (with_content bytes) ss) b (Some bytes) (content_in (with_seat b (with_content bytes) ss) b (with_content bytes s) (content_then ss b bytes s e)) in
+    subst (λ (j : ℕ). seen_in disk (with_seat b (with_content bytes) ss) j ≡ bytes) (sym same) here)
     (λ _ isnt.
-      ap (λ (o : Option SeatState). unwrap_or (option_and_then (λ (x : SeatState). x.content) o) (block_at disk k))
-      (seat_with_other b k (with_content bytes) ss (λ _. refl) (other k b isnt)))
+    ap (λ (o : Option SeatState). unwrap_or (option_and_then (λ (x : SeatState). x.content) o) (block_at disk k))
+    (seat_with_other b k (with_content bytes) ss (λ _. refl) (other k b isnt)))
     refl
   where
     equal : (i n : ℕ) → (i == n) ≡ true → i ≡ n
     equal i n e = grind (arith, nat_tests)
+
     other : (i n : ℕ) → (i == n) ≡ false → n ≢ i
     other i n e = grind (arith, nat_tests)
 
@@ -148,9 +154,10 @@ fill_laws disk ss g held unread sound =
     record {
       sound = sound_content disk ss b bytes (λ _ _ _. refl) sound;
       held = held_by (with_seat b (with_content bytes) ss) _ (with_content bytes s) (content_then ss b bytes s at.1) (record { number = at.2.number; holder = at.2.holder; valid = refl });
+      bytes = sym (seen_as disk (with_seat b (with_content bytes) ss) b (Some bytes) (content_in (with_seat b (with_content bytes) ss) b (with_content bytes s) (content_then ss b bytes s at.1)));
       others = others_with b (with_content bytes) ss (λ _. refl);
       seen = λ k. seen_content disk ss b k bytes s at.1
-        ∙ pick (k == b) (λ t. (k == b) ≡ t → (if t then bytes else seen_in disk ss k) ≡ seen_in disk ss k)
+          ∙ pick (k == b) (λ t. (k == b) ≡ t → (if t then bytes else seen_in disk ss k) ≡ seen_in disk ss k)
           (λ _ is. sym before ∙ ap (seen_in disk ss) (sym (equal k b is)))
           (λ _ _. refl)
           refl;
@@ -201,7 +208,7 @@ change_laws disk ss g bytes held is pinned sound =
     let at = held_seat ss g held in
     let s = at.0 in
     let sound_then : IsSound disk middle = sound_content disk ss b bytes
-      (λ t e unpinned. let clash : Some false ≡ Some true = ap (λ (p : Bool). Some p) (sym unpinned) ∙ ap (λ (o : Option SeatState). option_map is_pinned o) (sym e) ∙ pinned in absurd (cc clash)) sound in
+    (λ t e unpinned. let clash : Some false ≡ Some true = ap (λ (p : Bool). Some p) (sym unpinned) ∙ ap (λ (o : Option SeatState). option_map is_pinned o) (sym e) ∙ pinned in absurd (cc clash)) sound in
     let back = back_laws disk middle b sound_then in
     record {
       held = held_by middle g (with_content bytes s) (content_then ss b bytes s at.1) (record { number = at.2.number; holder = at.2.holder; valid = ap (λ (o : Option (List ℕ)). is_some o) (sym is) });
@@ -236,7 +243,7 @@ fill_either (Ok u) disk ss new g g_new held unread sound filled seats err =
     let laws = fill_laws disk ss g held unread sound in
     rw (filled, seats) laws
 fill_either (Err e) disk ss new g g_new held unread sound filled seats err =
-    rw (err.0, err.1) (record { sound = sound; held = held; others = λ h _ h_held. h_held; seen = λ _. refl })
+    rw (err.0, err.1) (record { sound = sound; held = held; bytes = subst (λ (o : Option (List ℕ)). IfSome o (λ bytes. bytes ≡ seen_in disk ss g.value.block)) (sym unread) tt; others = λ h _ h_held. h_held; seen = λ _. refl })
 
 pub change_some : (disk : List (List ℕ)) (ss middle : List SeatState) (g : GuardState BufferState) → IsHeld ss g → IsSome g.value.content → option_map is_pinned (seat_of g.value.block ss) ≡ Some true → IsSound disk ss
     → IfSome g.value.content (λ bytes. middle ≡ with_seat g.value.block (with_content bytes) ss)
@@ -266,3 +273,9 @@ pub written_err : {T E X : Type 0} (r : Result T E) (new old old_too x y : X) �
 written_err (Ok t) new old old_too x y err f e = err
 written_err (Err t) new old old_too x y (inl is) f e = inl (is ∙ f)
 written_err (Err t) new old old_too x y (inr is) f e = inr (is ∙ e)
+
+-- after a write of what is kept the block stands as it is seen
+pub home_then : {T E : Type 0} (r : Result T E) (disk new : List (List ℕ)) (ss : List SeatState) (b : ℕ) (bytes : List ℕ) → b < length disk → kept b ss ≡ Some bytes → OnOk r (new ≡ slice_set disk b bytes)
+    → OnOk r (block_at new b ≡ seen_in new ss b)
+home_then (Ok t) disk new ss b bytes within keeps is = ap (λ (d : List (List ℕ)). block_at d b) is ∙ block_at-set_same disk b bytes within ∙ sym (seen_as new ss b (Some bytes) keeps)
+home_then (Err e) disk new ss b bytes within keeps is = is

@@ -100,15 +100,14 @@ seated_change slots p f [] s y e keeps fits within apart all = tt
 seated_change slots p f (t ∷ ts) s y e keeps fits within apart all =
     pick (p t) (λ w. (if w then Some t else first_of p ts) ≡ Some s → AllSeated (slice_set slots s.number y) (if w then f t ∷ ts else t ∷ change_first p f ts))
     (λ _ here.
-      let is = same_Some t s here in
-      (seated_here slots f t s y is keeps fits within, seated_others slots ts s.number y (others_none s.number t s _ is refl apart) all.1))
+    let is = same_Some t s here in
+    (seated_here slots f t s y is keeps fits within, seated_others slots ts s.number y (others_none s.number t s _ is refl apart) all.1))
     (λ _ here.
-      let more = first_counted (has_number s.number) p ts s here (same_number s.number) in
-      let isnt = counted_out (has_number s.number t) _ more apart in
-      (
-        subst (λ o. SlotFits t o) (sym (slice_get-set_other slots s.number t.number y (not_equal t.number s.number isnt))) all.0,
-        seated_change slots p f ts s y here keeps fits within (omega (arith, apart)) all.1,
-      ))
+    let more = first_counted (has_number s.number) p ts s here (same_number s.number) in
+    let isnt = counted_out (has_number s.number t) _ more apart in (
+      subst (λ o. SlotFits t o) (sym (slice_get-set_other slots s.number t.number y (not_equal t.number s.number isnt))) all.0,
+      seated_change slots p f ts s y here keeps fits within (omega (arith, apart)) all.1,
+    ))
     e
 
 seated_push : (slots : Row) (ss : List SeatState) (x : SeatState) → AllSeated slots ss → SlotFits x (slice_get slots x.number) → AllSeated slots (ss ++ x ∷ [])
@@ -122,15 +121,14 @@ seated_to_end slots p f [] s y e keeps fits within apart all = tt
 seated_to_end slots p f (t ∷ ts) s y e keeps fits within apart all =
     pick (p t) (λ w. (if w then Some t else first_of p ts) ≡ Some s → AllSeated (slice_set slots s.number y) (if w then ts ++ f t ∷ [] else t ∷ change_to_end p f ts))
     (λ _ here.
-      let is = same_Some t s here in
-      seated_push (slice_set slots s.number y) ts (f t) (seated_others slots ts s.number y (others_none s.number t s _ is refl apart) all.1) (seated_here slots f t s y is keeps fits within))
+    let is = same_Some t s here in
+    seated_push (slice_set slots s.number y) ts (f t) (seated_others slots ts s.number y (others_none s.number t s _ is refl apart) all.1) (seated_here slots f t s y is keeps fits within))
     (λ _ here.
-      let more = first_counted (has_number s.number) p ts s here (same_number s.number) in
-      let isnt = counted_out (has_number s.number t) _ more apart in
-      (
-        subst (λ o. SlotFits t o) (sym (slice_get-set_other slots s.number t.number y (not_equal t.number s.number isnt))) all.0,
-        seated_to_end slots p f ts s y here keeps fits within (omega (arith, apart)) all.1,
-      ))
+    let more = first_counted (has_number s.number) p ts s here (same_number s.number) in
+    let isnt = counted_out (has_number s.number t) _ more apart in (
+      subst (λ o. SlotFits t o) (sym (slice_get-set_other slots s.number t.number y (not_equal t.number s.number isnt))) all.0,
+      seated_to_end slots p f ts s y here keeps fits within (omega (arith, apart)) all.1,
+    ))
     e
 
 -- a change of the seat alone
@@ -139,7 +137,7 @@ seated_same : (slots : Row) (p : SeatState → Bool) (f : SeatState → SeatStat
 seated_same slots p f [] new all = tt
 seated_same slots p f (t ∷ ts) new all =
     pick (p t) (λ w. ((s : SeatState) → (if w then Some t else first_of p ts) ≡ Some s → SlotFits s (slice_get slots s.number) → SlotFits (f s) (slice_get slots (f s).number))
-      → AllSeated slots (if w then f t ∷ ts else t ∷ change_first p f ts))
+    → AllSeated slots (if w then f t ∷ ts else t ∷ change_first p f ts))
     (λ _ k. (k t refl all.0, all.1))
     (λ _ k. (all.0, seated_same slots p f ts k all.1))
     new
@@ -192,8 +190,10 @@ lend_gives slots new ss i hart b s r at is seated lock = by_holder s.holder refl
   where
     first : seat_of b ss ≡ Some s
     first = place_first (has_block b) ss i s at ∙ ap (λ (w : SeatState). Some w) (sym is)
+
     fits : SlotFits s (slice_get slots s.number)
     fits = seated_at slots (has_block b) ss s seated.all first
+
     by_holder : (h : Option ℕ) → s.holder ≡ h → LendGives new ss i hart b s r
     by_holder (Some other) out =
         let locked = lock ∙ lock_out slots s.number hart other (slot_out s (slice_get slots s.number) other fits out) in
@@ -248,6 +248,7 @@ renew_gives slots new ss i hart b s r none at is seated lock =
   where
     first : first_of is_free ss ≡ Some s
     first = place_first is_free ss i s at ∙ ap (λ (w : SeatState). Some w) (sym is)
+
     fits : SlotFits s (slice_get slots s.number)
     fits = seated_at slots is_free ss s seated.all first
 
@@ -284,7 +285,7 @@ held_fits s content pinned hart (Some x) out fits = (fits.0, fits.1, subst (λ (
 pub seated_filled : (slots : Row) (ss : List SeatState) (g : GuardState BufferState) (bytes : List ℕ) → IsSeated slots ss → IsHeld ss g → IsSeated slots (with_seat g.value.block (with_content bytes) ss)
 seated_filled slots ss g bytes seated held = record {
   all = seated_same slots (has_block g.value.block) (with_content bytes) ss
-    (λ s e fits. let at = held_seat ss g held in let same : at.0 ≡ s = same_Some at.0 s (sym at.1 ∙ e) in
+      (λ s e fits. let at = held_seat ss g held in let same : at.0 ≡ s = same_Some at.0 s (sym at.1 ∙ e) in
       held_fits s (Some bytes) s.pinned g.hart (slice_get slots s.number) (subst (λ (u : SeatState). u.holder ≡ Some g.hart) same at.2.holder) fits) seated.all;
   apart = apart_change (has_block g.value.block) (with_content bytes) ss (λ _. refl) seated.apart;
 }

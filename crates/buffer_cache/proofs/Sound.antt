@@ -97,7 +97,7 @@ sound_content disk ss b bytes new sound = record {
   harts = holders_change 8 (has_block b) (with_content bytes) ss (λ s old. old) sound.harts;
   once = λ k. (let a = count_same (has_block k) (has_block b) (with_content bytes) ss (λ s _ e. e) in omega (arith, a, sound.once k));
   clean = clean_change disk (has_block b) (with_content bytes) ss
-    (λ s e old k bytes_k is unpinned valid.
+      (λ s e old k bytes_k is unpinned valid.
       let same : b ≡ k = same_Some b k (sym (seat_has b ss s e) ∙ is) in
       sym (same_Some bytes bytes_k valid) ∙ new s e unpinned ∙ ap (block_at disk) same) sound.clean;
 }
@@ -127,7 +127,7 @@ sound_unpin disk ss b home sound = record {
   harts = holders_change 8 (has_block b) (with_pin false) ss (λ s old. old) sound.harts;
   once = λ k. (let a = count_same (has_block k) (has_block b) (with_pin false) ss (λ s _ e. e) in omega (arith, a, sound.once k));
   clean = clean_change disk (has_block b) (with_pin false) ss
-    (λ s e old k bytes is unpinned valid.
+      (λ s e old k bytes is unpinned valid.
       let same : b ≡ k = same_Some b k (sym (seat_has b ss s e) ∙ is) in
       let here : seen_in disk ss b ≡ bytes = ap (λ (o : Option SeatState). unwrap_or (option_and_then (λ (x : SeatState). x.content) o) (block_at disk b)) e ∙ ap (λ (o : Option (List ℕ)). unwrap_or o (block_at disk b)) valid in
       sym here ∙ sym home ∙ ap (block_at disk) same) sound.clean;
@@ -168,8 +168,8 @@ clean_home disk b bytes (s ∷ ss) within once is old =
     pick (has_block b s) (λ t. has_block b s ≡ t → cond t 1 0 + count_of (has_block b) ss ≤ 1 → option_and_then (λ (x : SeatState). x.content) (if t then Some s else seat_of b ss) ≡ Some bytes → IsCleanSeat (slice_set disk b bytes) s × AllClean (slice_set disk b bytes) ss)
     (λ _ has le here. (
       λ k bytes_k is_k _ valid.
-      let same : b ≡ k = same_Some b k (sym (is_block b s.block has) ∙ is_k) in
-      same_Some bytes_k bytes (sym valid ∙ here) ∙ sym (block_at-set_same disk b bytes within) ∙ ap (block_at (slice_set disk b bytes)) same,
+          let same : b ≡ k = same_Some b k (sym (is_block b s.block has) ∙ is_k) in
+          same_Some bytes_k bytes (sym valid ∙ here) ∙ sym (block_at-set_same disk b bytes within) ∙ ap (block_at (slice_set disk b bytes)) same,
       clean_none disk b bytes ss (omega (arith, le)) old.1,
     ))
     (λ _ isnt le here. (clean_past disk b bytes s isnt old.0, clean_home disk b bytes ss within (omega (arith, le)) here old.1))

@@ -1,10 +1,10 @@
 // The buffers, their slots, and the order of giving back.
-ghost use Rattle.std.specs.Prelude.{◌≡◌, ◌<◌, ◌≤◌, length, position, slice_get, Some, None, IsSome, IfOk, IfSome, OnOk, OnErr};
+ghost use Rattle.std.specs.Prelude.{count_by, ◌≡◌, ◌↔◌, ◌<◌, ◌≤◌, length, position, slice_get, Some, None, IsSome, IsTrue, IfOk, IfSome, OnOk, OnErr};
 ghost use Rattle.sleep_lock.specs.SleepLock.{GuardState};
 ghost use Rattle.buffer_cache.specs.Buffers.{BufferState};
 ghost use Rattle.block_device.specs.Blocks.{block_at, faults_after};
-ghost use Rattle.buffer_cache.specs.Lists.{first_of, change_first, change_to_end};
-ghost use Rattle.buffer_cache.specs.Seats.{has_block, is_free, seat_of, kept, IsHeld, with_seat, with_content, with_pin, given_back, without_holder, unused_from};
+ghost use Rattle.buffer_cache.specs.Lists.{first_of, count_of};
+ghost use Rattle.buffer_cache.specs.Seats.{has_block, is_free, is_held_by, is_pinned, seat_of, kept, IsHeld, with_seat, with_content, with_pin, given_back, without_holder, unused_from};
 ghost use Rattle.buffer_cache.specs.Rows.{IsSeated};
 ghost use Rattle.buffer_cache.specs.Getting.{get_of};
 
@@ -47,6 +47,24 @@ impl Buffers {
         Ok(Buffers { seats, slots })
     }
 
+    pub(crate) fn held_by(&self, hart: u8) -> usize
+        ensures { result ≡ count_of (is_held_by hart) self.now }
+    {
+        count_held(&self.seats, hart)
+    }
+
+    pub(crate) fn pinned(&self) -> usize
+        ensures { result ≡ count_of is_pinned self.now }
+    {
+        count_pinned(&self.seats)
+    }
+
+    pub(crate) fn is_cached(&self, b: u32) -> bool
+        ensures { IsTrue result ↔ IsSome (seat_of b self.now) }
+    {
+        place_of(&self.seats, b).is_some()
+    }
+
     // A block's buffer, else the first that is free.
     pub(crate) fn get(&mut self, hart: u8, b: u32) -> Got
         requires { IsSome (first_of is_free self.old) }
@@ -56,13 +74,20 @@ impl Buffers {
     }
 
     // The device's block into a buffer that isn't valid.
-    pub(crate) fn fill<D: Device>(&mut self, device: &mut D, guard: &mut Guard<Buffer>) -> Result<(), Fault>
+    pub(crate) fn fill<D: Device>(
+        &mut self,
+        device: &mut D,
+        guard: &mut Guard<Buffer>,
+    ) -> Result<(), Fault>
         requires held { IsHeld self.old guard.old }
         requires unread { guard.old.value.content ≡ None }
         requires within { guard.old.value.block < length (D.contents device.old) }
-        ensures ok { OnOk result (guard.new ≡ record guard.old { value = record {
+        ensures ok { OnOk result (guard.new ≡ record guard.old {
+          value = record {
             block = guard.old.value.block;
-            content = Some (block_at (D.contents device.old) guard.old.value.block) } }) }
+            content = Some (block_at (D.contents device.old) guard.old.value.block);
+          };
+        }) }
         ensures seats { OnOk result (self.new
             ≡ with_seat guard.old.value.block (with_content (block_at (D.contents device.old) guard.old.value.block)) self.old) }
         ensures err { OnErr result ((guard.new ≡ guard.old) × (self.new ≡ self.old)) }
@@ -143,6 +168,18 @@ fn first_free(seats: &[Seat]) -> Option<usize>
     seats.iter().position(|seat| seat.is_free())
 }
 
+fn count_held(seats: &[Seat], hart: u8) -> usize
+    ensures { result ≡ count_by (is_held_by hart) seats.now }
+{
+    seats.iter().filter(|seat| seat.is_held_by(hart)).count()
+}
+
+fn count_pinned(seats: &[Seat]) -> usize
+    ensures { result ≡ count_by is_pinned seats.now }
+{
+    seats.iter().filter(|seat| seat.is_pinned()).count()
+}
+
 fn get_in(seats: &mut Vec<Seat>, slots: &mut Slots<Buffer>, hart: u8, b: u32) -> Got
     requires free { IsSome (first_of is_free seats.old.items) }
     requires seated { IsSeated slots.old seats.old.items }
@@ -195,13 +232,20 @@ fn renew(seats: &mut Vec<Seat>, slots: &mut Slots<Buffer>, i: usize, hart: u8, b
     }
 }
 
-fn fill_in<D: Device>(seats: &mut Vec<Seat>, device: &mut D, guard: &mut Guard<Buffer>) -> Result<(), Fault>
+fn fill_in<D: Device>(
+    seats: &mut Vec<Seat>,
+    device: &mut D,
+    guard: &mut Guard<Buffer>,
+) -> Result<(), Fault>
     requires held { IsHeld seats.old.items guard.old }
     requires unread { guard.old.value.content ≡ None }
     requires within { guard.old.value.block < length (D.contents device.old) }
-    ensures ok { OnOk result (guard.new ≡ record guard.old { value = record {
+    ensures ok { OnOk result (guard.new ≡ record guard.old {
+      value = record {
         block = guard.old.value.block;
-        content = Some (block_at (D.contents device.old) guard.old.value.block) } }) }
+        content = Some (block_at (D.contents device.old) guard.old.value.block);
+      };
+    }) }
     ensures seats { OnOk result (seats.new.items
         ≡ with_seat guard.old.value.block (with_content (block_at (D.contents device.old) guard.old.value.block)) seats.old.items) }
     ensures err { OnErr result ((guard.new ≡ guard.old) × (seats.new.items ≡ seats.old.items)) }

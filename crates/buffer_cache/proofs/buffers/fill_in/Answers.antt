@@ -29,5 +29,5 @@ returns-clause-seats g c =
     let contents = g.D.Device.contents c.args.device.now in
     place_change (has_block gb) (with_content (block_at contents gb)) c.args.seats.now.items c.unwrap-i.result _ _ place
     (ap (with_content (block_at contents gb)) (sym c.index_mut-seat.ensures.value)
-      ∙ ap (λ (k : ℕ). with_content (block_at contents k) c.index_mut-seat.result.now) (sym b)
-      ∙ sym c.in_ok-read.ensures.ok)
+    ∙ ap (λ (k : ℕ). with_content (block_at contents k) c.index_mut-seat.result.now) (sym b)
+    ∙ sym c.in_ok-read.ensures.ok)

@@ -20,6 +20,6 @@ returns c =
     let place = found c.block.result c.args.guard.now.value.block c.unwrap-i.result c.deref.result.now c.args.seats.now.items c.place_of.result c.place_of.ensures c.deref.ensures.value b c.unwrap-i.ensures in
     IfSome_each c.args.guard.now.value.content
     (λ bytes is.
-      let same : c.bytes.result.now ≡ bytes = same_Some c.bytes.result.now bytes (c.bytes.ensures ∙ ap (λ (v : BufferState). v.content) c.value-buffer.ensures ∙ is) in
-      place_change (has_block c.args.guard.now.value.block) (with_content bytes) c.args.seats.now.items c.unwrap-i.result _ _ place
-      (ap (with_content bytes) (sym c.index_mut-seat.ensures.value) ∙ ap (λ (x : List ℕ). with_content x c.index_mut-seat.result.now) (sym same) ∙ sym c.keep.ensures))
+    let same : c.bytes.result.now ≡ bytes = same_Some c.bytes.result.now bytes (c.bytes.ensures ∙ ap (λ (v : BufferState). v.content) c.value-buffer.ensures ∙ is) in
+    place_change (has_block c.args.guard.now.value.block) (with_content bytes) c.args.seats.now.items c.unwrap-i.result _ _ place
+    (ap (with_content bytes) (sym c.index_mut-seat.ensures.value) ∙ ap (λ (x : List ℕ). with_content x c.index_mut-seat.result.now) (sym same) ∙ sym c.keep.ensures))

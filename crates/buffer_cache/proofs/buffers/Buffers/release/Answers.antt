@@ -18,7 +18,7 @@ invariant_of-self c =
     let seated = seated_given_back c.self.inside.slots items c.args.guard c.self.invariant held unchanged in
     let b : c.block-b.result ≡ c.args.guard.value.block = c.block-b.ensures ∙ ap (λ (v : BufferState). v.block) c.value.ensures in
     let given : c.give_back.new.seats ≡ given_back c.args.guard.value.block items =
-        c.give_back.ensures ∙ ap (λ (k : ℕ). given_back k c.deref_mut.result.now) b ∙ ap (given_back c.args.guard.value.block) c.deref_mut.ensures.value in
+    c.give_back.ensures ∙ ap (λ (k : ℕ). given_back k c.deref_mut.result.now) b ∙ ap (given_back c.args.guard.value.block) c.deref_mut.ensures.value in
     let long : length c.give_back.new.seats ≡ length items = ap (λ (l : List SeatState). length l) given ∙ length-change_to_end (has_block c.args.guard.value.block) without_holder items in
     let same : length c.deref_mut.result.now ≡ length items = ap (λ (l : List SeatState). length l) c.deref_mut.ensures.value in
     let back = written_back c.self.inside.seats.len c.give_back.new.seats items (omega (arith, long, c.deref_mut.ensures.len, same)) long in

@@ -19,6 +19,14 @@ returns-clause-held_on g c =
     let laws = fill_either c.fill.result disk ss c.fill.new.self c.args.guard.now c.fill.new.guard held c.requires.unread c.self.invariant c.fill.ensures.ok c.fill.ensures.seats c.fill.ensures.err in
     laws.held
 
+pub returns-clause-bytes : goal.returns-clause-bytes
+returns-clause-bytes g c =
+    let disk = g.D.Device.contents c.self.inside.device in
+    let ss : List SeatState = c.self.inside.buffers in
+    let held = subst (λ v. IsHeld v.seats c.args.guard.now) (sym c.self.view_is) c.requires.held in
+    let laws = fill_either c.fill.result disk ss c.fill.new.self c.args.guard.now c.fill.new.guard held c.requires.unread c.self.invariant c.fill.ensures.ok c.fill.ensures.seats c.fill.ensures.err in
+    rw c.fill.ensures.contents laws.bytes
+
 pub returns-clause-others : goal.returns-clause-others
 returns-clause-others g c =
     let disk = g.D.Device.contents c.self.inside.device in
