@@ -1,9 +1,9 @@
 -- What a get answers, and what it leaves.
-use Rattle.std.specs.Prelude.{◌≡◌, ℕ, List, if◌then◌else◌, Option, Some, None}
+use Rattle.std.specs.Prelude.{ℕ, List, if◌then◌else◌, Option, Some, None}
 use Rattle.sleep_lock.specs.SleepLock.{GuardState}
 use Rattle.buffer_cache.specs.Buffers.{BufferState}
 use Rattle.buffer_cache.specs.Lists.{first_of, change_first}
-use Rattle.buffer_cache.specs.Seats.{SeatState, seat_of, has_block, is_free, is_out, with_holder, as_new, with_seat}
+use Rattle.buffer_cache.specs.Seats.{SeatState, seat_of, is_free, is_out, with_holder, as_new, with_seat}
 use Rattle.buffer_cache.specs.declared.got.Got.{Got}
 use Rattle.buffer_cache.specs.declared.got.Got.TheVariants.{Held, Waits}
 

@@ -1,5 +1,5 @@
 -- The buffers of a cache, in order of giving back: the first was given back least recently.
-use Rattle.std.specs.Prelude.{◌≡◌, ◌≢◌, ℕ, zero, suc, ◌+◌, ◌<◌, ◌≤◌, List, [], ◌∷◌, length, Bool, true, false, not, ◌&&◌, ◌==◌, Option, Some, None, is_some, is_none}
+use Rattle.std.specs.Prelude.{◌≡◌, ◌≢◌, ℕ, zero, suc, ◌+◌, ◌<◌, ◌≤◌, List, [], ◌∷◌, length, Bool, false, not, ◌&&◌, ◌==◌, Option, Some, None, is_some, is_none}
 use Rattle.std.specs.Option.{MatchOption, option_and_then, unwrap_or}
 use Rattle.sleep_lock.specs.SleepLock.{GuardState}
 use Rattle.block_device.specs.Blocks.{block_at}
@@ -62,7 +62,7 @@ abbrev pub unused : ℕ → SeatState
 unused n = record { number = n; block = None; content = None; pinned = false; holder = None }
 
 -- so many of these, numbered from n on
-abbrev pub unused_from : ℕ → ℕ → List SeatState
+unfoldable pub unused_from : ℕ → ℕ → List SeatState
 unused_from n zero = []
 unused_from n (suc count) = unused n ∷ unused_from (n + 1) count
 

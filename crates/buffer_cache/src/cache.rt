@@ -1,5 +1,5 @@
 // The cache.
-ghost use Rattle.std.specs.Prelude.{◌≡◌, ◌≢◌, ◌+◌, ◌<◌, ◌≤◌, ◌⊎◌, ◌↔◌, ◌==◌, if◌then◌else◌, ℕ, [], true, false, length, slice_set, Some, None, IsSome, IfSome, OnOk, OnErr};
+ghost use Rattle.std.specs.Prelude.{◌≡◌, ◌≢◌, ◌+◌, ◌<◌, ◌≤◌, ◌⊎◌, ◌↔◌, ◌==◌, if◌then◌else◌, ℕ, [], true, false, length, slice_set, Some, None, IsSome, IfSome, IsTrue, OnOk, OnErr};
 ghost use Rattle.std.specs.Option.{unwrap_or, option_map};
 ghost use Rattle.sleep_lock.specs.SleepLock.{GuardState};
 ghost use Rattle.block_device.specs.Blocks.{block_at, faults_after};
@@ -52,6 +52,27 @@ impl<D: Device> Cache<D> {
         &self.device
     }
 
+    /// How many buffers a hart has in its hand.
+    pub fn held_by(&self, hart: u8) -> usize
+        ensures { result ≡ count_of (is_held_by hart) self.now.seats }
+    {
+        self.buffers.held_by(hart)
+    }
+
+    /// How many buffers are pinned.
+    pub fn pinned(&self) -> usize
+        ensures { result ≡ count_of is_pinned self.now.seats }
+    {
+        self.buffers.pinned()
+    }
+
+    /// Whether a block has a buffer.
+    pub fn is_cached(&self, b: u32) -> bool
+        ensures { IsTrue result ↔ IsSome (seat_of b self.now.seats) }
+    {
+        self.buffers.is_cached(b)
+    }
+
     /// A block's buffer for a hart that has one other at most: the one that has the block, else a buffer that is
     /// neither out nor pinned, the least recently given back (one that was never used before any other). It waits
     /// exactly where the block's buffer is out, and then nothing changes.
@@ -79,14 +100,18 @@ impl<D: Device> Cache<D> {
         requires held { IsHeld self.old.seats guard.old }
         requires unread { guard.old.value.content ≡ None }
         requires within { guard.old.value.block < length (D.contents self.old.device) }
-        ensures filled { OnOk result (guard.new ≡ record guard.old { value = record {
+        ensures filled { OnOk result (guard.new ≡ record guard.old {
+          value = record {
             block = guard.old.value.block;
-            content = Some (block_at (D.contents self.old.device) guard.old.value.block) } }) }
+            content = Some (block_at (D.contents self.old.device) guard.old.value.block);
+          };
+        }) }
         ensures seats { OnOk result (self.new.seats
             ≡ with_seat guard.old.value.block (with_content (block_at (D.contents self.old.device) guard.old.value.block)) self.old.seats) }
         ensures err { OnErr result ((guard.new ≡ guard.old) × (self.new.seats ≡ self.old.seats)) }
 
         ensures held_on { IsHeld self.new.seats guard.new }
+        ensures bytes { IfSome guard.new.value.content (λ bytes. bytes ≡ seen D.contents self.new guard.new.value.block) }
         ensures others { KeepsOthers guard.old.value.block self.old.seats self.new.seats }
         ensures contents { D.contents self.new.device ≡ D.contents self.old.device }
         ensures faults { D.failures self.new.device ≡ faults_after result (D.failures self.old.device) }
@@ -159,7 +184,8 @@ impl<D: Device> Cache<D> {
             ≡ slice_set (D.contents self.old.device) guard.now.value.block (seen D.contents self.old guard.now.value.block)) }
         ensures err { OnErr result ((D.contents self.new.device ≡ D.contents self.old.device)
             ⊎ (D.contents self.new.device
-              ≡ slice_set (D.contents self.old.device) guard.now.value.block (seen D.contents self.old guard.now.value.block))) }
+            ≡ slice_set (D.contents self.old.device) guard.now.value.block (seen D.contents self.old guard.now.value.block))) }
+        ensures home { OnOk result (block_at (D.contents self.new.device) guard.now.value.block ≡ seen D.contents self.new guard.now.value.block) }
         ensures faults { D.failures self.new.device ≡ faults_after result (D.failures self.old.device) }
         ensures seats { self.new.seats ≡ self.old.seats }
         ensures seen { (k : ℕ) → seen D.contents self.new k ≡ seen D.contents self.old k }

@@ -14,6 +14,8 @@ mod cache;
 mod got;
 mod limits;
 mod seat;
+#[cfg(test)]
+mod tests;
 
 pub use buffer::Buffer;
 pub use buffers::Buffers;

@@ -1,7 +1,7 @@
 // What the cache keeps of a buffer, and the list of these in order of giving back.
 ghost use Rattle.std.specs.Prelude.{◌≡◌, ◌↔◌, ◌<◌, length, position, Some, None, IsSome, IsTrue, IfOk, OnOk, OnErr};
 ghost use Rattle.block_device.specs.Blocks.{block_at, faults_after};
-ghost use Rattle.buffer_cache.specs.Seats.{has_block, is_free, is_out, unused, with_holder, without_holder, with_content, with_pin, as_new};
+ghost use Rattle.buffer_cache.specs.Seats.{has_block, is_free, is_held_by, is_pinned, unused, with_holder, without_holder, with_content, with_pin, as_new};
 
 use crate::buffer::zeros;
 use block_device::{BLOCK_SIZE, Device, Fault};
@@ -26,11 +26,12 @@ impl Model for Seat {
     ghost Value = { SeatState };
 
     ghost view = { λ s. record {
-        number = s.number;
-        block = s.block;
-        content = content_of s.valid s.bytes.value;
-        pinned = s.pinned;
-        holder = s.holder } };
+      number = s.number;
+      block = s.block;
+      content = content_of s.valid s.bytes.value;
+      pinned = s.pinned;
+      holder = s.holder;
+    } };
 }
 
 impl Seat {
@@ -63,6 +64,18 @@ impl Seat {
         ensures { result ≡ is_free self.now }
     {
         !self.pinned && self.holder.is_none()
+    }
+
+    pub fn is_held_by(&self, hart: u8) -> bool
+        ensures { result ≡ is_held_by hart self.now }
+    {
+        self.holder == Some(hart)
+    }
+
+    pub fn is_pinned(&self) -> bool
+        ensures { result ≡ is_pinned self.now }
+    {
+        self.pinned
     }
 
     pub fn bytes(&self) -> &[u8; BLOCK_SIZE]
