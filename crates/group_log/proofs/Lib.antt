@@ -10,3 +10,4 @@ pub mod Leaving
 pub mod Committed
 pub mod Recorded
 pub mod Cuts
+pub mod Fresh

@@ -253,6 +253,7 @@ impl<D: Device> Log<D> {
             ≡ with_seat guard.old.value.block (with_content (block_at (D.contents self.old.cache.device) guard.old.value.block)) self.old.cache.seats) }
         ensures err { OnErr result ((guard.new ≡ guard.old) × (self.new.cache.seats ≡ self.old.cache.seats)) }
         ensures held_on { IsHeld self.new.cache.seats guard.new }
+        ensures bytes { IfSome guard.new.value.content (λ bytes. bytes ≡ seen D.contents self.new.cache guard.new.value.block) }
         ensures others { KeepsOthers guard.old.value.block self.old.cache.seats self.new.cache.seats }
         ensures contents { D.contents self.new.cache.device ≡ D.contents self.old.cache.device }
         ensures faults { D.failures self.new.cache.device ≡ faults_after result (D.failures self.old.cache.device) }
