@@ -63,7 +63,7 @@ pub record LockLaws {T : Type 0} (hart : ℕ) (old : List (SlotState T)) (r : Li
 
 laws_at : {T : Type 0} (slots : List (SlotState T)) (number hart n : ℕ) (o : Option T) (h : Option ℕ)
     → (let s : SlotState T = record { number = n; inside = o; holder = h } in
-      slice_get slots number ≡ Some s → LockLaws hart slots (slice_set slots number (taken s hart), guard_of s hart))
+    slice_get slots number ≡ Some s → LockLaws hart slots (slice_set slots number (taken s hart), guard_of s hart))
 unfolding IsNumbered IsOut
 laws_at {T} slots number hart n None h e =
     let s : SlotState T = record { number = n; inside = None; holder = h } in

@@ -7,7 +7,6 @@
 
 mod row;
 mod slot;
-
 #[cfg(test)]
 mod tests;
 

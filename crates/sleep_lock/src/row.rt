@@ -36,6 +36,15 @@ impl Model for RetiredSlots {
     ghost view = { λ r. r.count };
 }
 
+impl RetiredSlots {
+    /// How many slots have ended: those with the numbers below.
+    pub fn count(&self) -> usize
+        ensures { result ≡ self.now }
+    {
+        self.count
+    }
+}
+
 impl<T> Slots<T> {
     ghost use Rattle.sleep_lock.specs.LendingRow.{LendsSlot};
 

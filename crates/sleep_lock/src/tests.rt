@@ -48,11 +48,17 @@ fn a_row_of_fifty_ends_with_three_out(rt: HostRuntime) {
     if let Some(_guard) = row.lock(7, 17) {
         panic!(rt; "it is out");
     }
-    assert_eq!(rt; (**first.value(), **middle.value(), **last.value()), (100, 5, 149));
+    assert_eq!(rt;
+        (**first.value(), **middle.value(), **last.value()),
+        (100, 5, 149)
+    );
 
     row.unlock(middle);
     let middle = row.lock(7, 17).expect(&rt, "it was given back");
-    assert_eq!(rt; (middle.number(), middle.hart(), **middle.value()), (17, 7, 5));
+    assert_eq!(rt;
+        (middle.number(), middle.hart(), **middle.value()),
+        (17, 7, 5)
+    );
     let ended = row.retire();
     first.retire_in_row(&ended);
     middle.retire_in_row(&ended);

@@ -10,7 +10,7 @@ returns g c =
     let old : List (SlotState g.row.T.Denot) = c.args.self.now in
     let new : List (SlotState g.row.T.Denot) × Option (GuardState g.row.T.Denot) = (slice_set old c.args.number c.try_take.new.self, c.try_take.result) in
     let gives : new ≡ lock_of old c.args.number c.args.hart =
-        rw (c.try_take.ensures.guard, c.try_take.ensures.slot) (lock_gives _ _ _ c.at.result.now c.at.ensures.value) in
+    rw (c.try_take.ensures.guard, c.try_take.ensures.slot) (lock_gives _ _ _ c.at.result.now c.at.ensures.value) in
     let laws : LockLaws c.args.hart old new = subst (LockLaws c.args.hart old) (sym gives) (lock_laws old c.args.number c.args.hart) in
     record {
       gives = gives;

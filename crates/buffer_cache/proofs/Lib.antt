@@ -1,0 +1,7 @@
+pub mod Firsts
+pub mod Seated
+pub mod Made
+pub mod Blocks
+pub mod Enough
+pub mod Sound
+pub mod Laws

@@ -1,0 +1,229 @@
+-- What each call keeps of a sound cache, and of what is seen.
+use Rattle.std.proofs.Common.{◌≡◌, ◌≢◌, ◌⊎◌, inl, inr, ℕ, zero, suc, ◌+◌, ◌<◌, ◌≤◌, List, [], ◌∷◌, ◌++◌, length, Bool, true, false, cond, ◌==◌, refl, sym, ◌∙◌, ap, subst, arith, Option, Some, None, if◌then◌else◌}
+use Rattle.std.specs.Prelude.{slice_set}
+use Rattle.std.specs.Option.{option_map, option_and_then, unwrap_or}
+use Rattle.std.proofs.lemmas.Bool.{cases_eq}
+use Rattle.std.proofs.lemmas.Option.{same_Some, none-some}
+use Rattle.block_device.specs.Blocks.{block_at}
+use Rattle.block_device.specs.BlockLaws.{block_at-set_same, block_at-set_other}
+use Rattle.buffer_cache.specs.Lists.{first_of, change_first, count_of}
+use Rattle.buffer_cache.specs.Seats.{SeatState, is_number, has_block, is_held_by, is_pinned, is_free, seat_of, kept, seen_in, with_seat, given_back, with_holder, without_holder, with_content, with_pin, as_new, unused_from, unused, AllClean, IsCleanSeat, IsBelow, HoldersBelow, IsSound}
+use Rattle.buffer_cache.proofs.Firsts.{pick, none_counted, count_same, count_more, count_to_end, length-change_first, length-change_to_end}
+use Rattle.buffer_cache.proofs.Blocks.{equal, equals, seat_has, is_block}
+
+-- facts of each seat, after a change of one
+holders_change : (n : ℕ) (p : SeatState → Bool) (f : SeatState → SeatState) (ss : List SeatState) → ((s : SeatState) → IsBelow n s.holder → IsBelow n (f s).holder) → HoldersBelow n ss → HoldersBelow n (change_first p f ss)
+holders_change n p f [] new old = tt
+holders_change n p f (s ∷ ss) new old =
+    pick (p s) (λ t. HoldersBelow n (if t then f s ∷ ss else s ∷ change_first p f ss)) (λ _. (new s old.0, old.1)) (λ _. (old.0, holders_change n p f ss new old.1))
+
+clean_change : (disk : List (List ℕ)) (p : SeatState → Bool) (f : SeatState → SeatState) (ss : List SeatState)
+    → ((s : SeatState) → first_of p ss ≡ Some s → IsCleanSeat disk s → IsCleanSeat disk (f s)) → AllClean disk ss → AllClean disk (change_first p f ss)
+clean_change disk p f [] new old = tt
+clean_change disk p f (s ∷ ss) new old =
+    pick (p s) (λ t. ((x : SeatState) → (if t then Some s else first_of p ss) ≡ Some x → IsCleanSeat disk x → IsCleanSeat disk (f x)) → AllClean disk (if t then f s ∷ ss else s ∷ change_first p f ss))
+    (λ _ k. (k s refl old.0, old.1)) (λ _ k. (old.0, clean_change disk p f ss k old.1)) new
+
+holders_push : (n : ℕ) (ss : List SeatState) (x : SeatState) → HoldersBelow n ss → IsBelow n x.holder → HoldersBelow n (ss ++ x ∷ [])
+holders_push n [] x old new = (new, tt)
+holders_push n (s ∷ ss) x old new = (old.0, holders_push n ss x old.1 new)
+
+holders_back : (n b : ℕ) (ss : List SeatState) → HoldersBelow n ss → HoldersBelow n (given_back b ss)
+holders_back n b [] old = tt
+holders_back n b (s ∷ ss) old =
+    pick (has_block b s) (λ t. HoldersBelow n (if t then ss ++ without_holder s ∷ [] else s ∷ given_back b ss)) (λ _. holders_push n ss (without_holder s) old.1 tt) (λ _. (old.0, holders_back n b ss old.1))
+
+clean_push : (disk : List (List ℕ)) (ss : List SeatState) (x : SeatState) → AllClean disk ss → IsCleanSeat disk x → AllClean disk (ss ++ x ∷ [])
+clean_push disk [] x old new = (new, tt)
+clean_push disk (s ∷ ss) x old new = (old.0, clean_push disk ss x old.1 new)
+
+clean_back : (disk : List (List ℕ)) (b : ℕ) (ss : List SeatState) → AllClean disk ss → AllClean disk (given_back b ss)
+clean_back disk b [] old = tt
+clean_back disk b (s ∷ ss) old =
+    pick (has_block b s) (λ t. AllClean disk (if t then ss ++ without_holder s ∷ [] else s ∷ given_back b ss)) (λ _. clean_push disk ss (without_holder s) old.1 old.0) (λ _. (old.0, clean_back disk b ss old.1))
+
+pub clean_at : (disk : List (List ℕ)) (p : SeatState → Bool) (ss : List SeatState) (s : SeatState) → AllClean disk ss → first_of p ss ≡ Some s → IsCleanSeat disk s
+clean_at disk p [] s clean e = absurd (none-some s e)
+clean_at disk p (x ∷ ss) s clean e =
+    pick (p x) (λ t. (if t then Some x else first_of p ss) ≡ Some s → IsCleanSeat disk s) (λ _ here. subst (λ u. IsCleanSeat disk u) (same_Some x s here) clean.0) (λ _ here. clean_at disk p ss s clean.1 here) e
+
+-- a holder more
+held_more : (p : SeatState → Bool) (f : SeatState → SeatState) (ss : List SeatState) (hart : ℕ) → ((s : SeatState) → (f s).holder ≡ Some hart) → count_of (is_held_by hart) ss ≤ 1 → ((h : ℕ) → count_of (is_held_by h) ss ≤ 2)
+    → (h : ℕ) → count_of (is_held_by h) (change_first p f ss) ≤ 2
+held_more p f ss hart holds one two h = elim (cases_eq hart h) [
+  | inl same ↦ (let a = count_more (is_held_by h) p f ss in let b : count_of (is_held_by h) ss ≤ 1 = subst (λ (j : ℕ). count_of (is_held_by j) ss ≤ 1) same one in omega (arith, a, b))
+  | inr other ↦ (let a = count_same (is_held_by h) p f ss (λ s _ e. absurd (other (equal hart h (ap (is_number h) (sym (holds s)) ∙ e)))) in omega (arith, a, two h))
+]
+
+pub sound_lent : (disk : List (List ℕ)) (ss : List SeatState) (b hart : ℕ) → hart < 8 → count_of (is_held_by hart) ss ≤ 1 → IsSound disk ss → IsSound disk (with_seat b (with_holder hart) ss)
+sound_lent disk ss b hart lt one sound = record {
+  count = length-change_first (has_block b) (with_holder hart) ss ∙ sound.count;
+  few_pinned = (let a = count_same is_pinned (has_block b) (with_holder hart) ss (λ s _ e. e) in omega (arith, a, sound.few_pinned));
+  few_out = held_more (has_block b) (with_holder hart) ss hart (λ _. refl) one sound.few_out;
+  harts = holders_change 8 (has_block b) (with_holder hart) ss (λ s _. lt) sound.harts;
+  once = λ k. (let a = count_same (has_block k) (has_block b) (with_holder hart) ss (λ s _ e. e) in omega (arith, a, sound.once k));
+  clean = clean_change disk (has_block b) (with_holder hart) ss (λ s _ old. old) sound.clean;
+}
+
+pub sound_new : (disk : List (List ℕ)) (ss : List SeatState) (b hart : ℕ) → hart < 8 → count_of (is_held_by hart) ss ≤ 1 → seat_of b ss ≡ None → IsSound disk ss → IsSound disk (change_first is_free (as_new hart b) ss)
+sound_new disk ss b hart lt one none sound = record {
+  count = length-change_first is_free (as_new hart b) ss ∙ sound.count;
+  few_pinned = (let a = count_same is_pinned is_free (as_new hart b) ss (λ s _ e. e) in omega (arith, a, sound.few_pinned));
+  few_out = held_more is_free (as_new hart b) ss hart (λ _. refl) one sound.few_out;
+  harts = holders_change 8 is_free (as_new hart b) ss (λ s _. lt) sound.harts;
+  once = λ k. elim (cases_eq b k) [
+    | inl same ↦ (let a = count_more (has_block k) is_free (as_new hart b) ss in let c : count_of (has_block k) ss ≡ 0 = subst (λ (j : ℕ). count_of (has_block j) ss ≡ 0) same (none_counted (has_block b) ss none) in omega (arith, a, c))
+    | inr other ↦ (let a = count_same (has_block k) is_free (as_new hart b) ss (λ s _ e. absurd (other (equal b k e))) in omega (arith, a, sound.once k))
+  ];
+  clean = clean_change disk is_free (as_new hart b) ss (λ s _ old k bytes is unpinned valid. absurd (none-some bytes valid)) sound.clean;
+}
+
+pub sound_back : (disk : List (List ℕ)) (ss : List SeatState) (b : ℕ) → IsSound disk ss → IsSound disk (given_back b ss)
+sound_back disk ss b sound = record {
+  count = length-change_to_end (has_block b) without_holder ss ∙ sound.count;
+  few_pinned = (let a = count_to_end is_pinned (has_block b) without_holder ss (λ s e. e) in omega (arith, a, sound.few_pinned));
+  few_out = λ h. (let a = count_to_end (is_held_by h) (has_block b) without_holder ss (λ s e. absurd (cc e)) in omega (arith, a, sound.few_out h));
+  harts = holders_back 8 b ss sound.harts;
+  once = λ k. (let a = count_to_end (has_block k) (has_block b) without_holder ss (λ s e. e) in omega (arith, a, sound.once k));
+  clean = clean_back disk b ss sound.clean;
+}
+
+-- new bytes, of a seat that is pinned or has the disk's
+pub sound_content : (disk : List (List ℕ)) (ss : List SeatState) (b : ℕ) (bytes : List ℕ) → ((s : SeatState) → seat_of b ss ≡ Some s → s.pinned ≡ false → bytes ≡ block_at disk b) → IsSound disk ss → IsSound disk (with_seat b (with_content bytes) ss)
+sound_content disk ss b bytes new sound = record {
+  count = length-change_first (has_block b) (with_content bytes) ss ∙ sound.count;
+  few_pinned = (let a = count_same is_pinned (has_block b) (with_content bytes) ss (λ s _ e. e) in omega (arith, a, sound.few_pinned));
+  few_out = λ h. (let a = count_same (is_held_by h) (has_block b) (with_content bytes) ss (λ s _ e. e) in omega (arith, a, sound.few_out h));
+  harts = holders_change 8 (has_block b) (with_content bytes) ss (λ s old. old) sound.harts;
+  once = λ k. (let a = count_same (has_block k) (has_block b) (with_content bytes) ss (λ s _ e. e) in omega (arith, a, sound.once k));
+  clean = clean_change disk (has_block b) (with_content bytes) ss
+      (λ s e old k bytes_k is unpinned valid.
+      let same : b ≡ k = same_Some b k (sym (seat_has b ss s e) ∙ is) in
+      sym (same_Some bytes bytes_k valid) ∙ new s e unpinned ∙ ap (block_at disk) same) sound.clean;
+}
+
+pinned_bit : (ss : List SeatState) (b : ℕ) → (option_map is_pinned (seat_of b ss) ≡ Some true) ⊎ (count_of is_pinned ss < 30) → count_of is_pinned ss ≤ 30 → count_of is_pinned (with_seat b (with_pin true) ss) ≤ 30
+pinned_bit ss b (inl is) few =
+    let a = count_same is_pinned (has_block b) (with_pin true) ss
+    (λ s e _. let at : Some s.pinned ≡ Some true = ap (λ (o : Option SeatState). option_map is_pinned o) (sym e) ∙ is in same_Some s.pinned true at) in
+    omega (arith, a, few)
+pinned_bit ss b (inr lt) few = let a = count_more is_pinned (has_block b) (with_pin true) ss in omega (arith, a, lt)
+
+pub sound_pin : (disk : List (List ℕ)) (ss : List SeatState) (b : ℕ) → (option_map is_pinned (seat_of b ss) ≡ Some true) ⊎ (count_of is_pinned ss < 30) → IsSound disk ss → IsSound disk (with_seat b (with_pin true) ss)
+sound_pin disk ss b room sound = record {
+  count = length-change_first (has_block b) (with_pin true) ss ∙ sound.count;
+  few_pinned = pinned_bit ss b room sound.few_pinned;
+  few_out = λ h. (let a = count_same (is_held_by h) (has_block b) (with_pin true) ss (λ s _ e. e) in omega (arith, a, sound.few_out h));
+  harts = holders_change 8 (has_block b) (with_pin true) ss (λ s old. old) sound.harts;
+  once = λ k. (let a = count_same (has_block k) (has_block b) (with_pin true) ss (λ s _ e. e) in omega (arith, a, sound.once k));
+  clean = clean_change disk (has_block b) (with_pin true) ss (λ s _ old k bytes is unpinned valid. absurd (cc unpinned)) sound.clean;
+}
+
+pub sound_unpin : (disk : List (List ℕ)) (ss : List SeatState) (b : ℕ) → block_at disk b ≡ seen_in disk ss b → IsSound disk ss → IsSound disk (with_seat b (with_pin false) ss)
+sound_unpin disk ss b home sound = record {
+  count = length-change_first (has_block b) (with_pin false) ss ∙ sound.count;
+  few_pinned = (let a = count_same is_pinned (has_block b) (with_pin false) ss (λ s _ e. absurd (cc e)) in omega (arith, a, sound.few_pinned));
+  few_out = λ h. (let a = count_same (is_held_by h) (has_block b) (with_pin false) ss (λ s _ e. e) in omega (arith, a, sound.few_out h));
+  harts = holders_change 8 (has_block b) (with_pin false) ss (λ s old. old) sound.harts;
+  once = λ k. (let a = count_same (has_block k) (has_block b) (with_pin false) ss (λ s _ e. e) in omega (arith, a, sound.once k));
+  clean = clean_change disk (has_block b) (with_pin false) ss
+      (λ s e old k bytes is unpinned valid.
+      let same : b ≡ k = same_Some b k (sym (seat_has b ss s e) ∙ is) in
+      let here : seen_in disk ss b ≡ bytes = ap (λ (o : Option SeatState). unwrap_or (option_and_then (λ (x : SeatState). x.content) o) (block_at disk b)) e ∙ ap (λ (o : Option (List ℕ)). unwrap_or o (block_at disk b)) valid in
+      sym here ∙ sym home ∙ ap (block_at disk) same) sound.clean;
+}
+
+-- a write of a block that no seat has
+different : (b k : ℕ) (o : Option ℕ) → is_number b o ≡ false → o ≡ Some k → k ≢ b
+different b k o isnt is same = let clash : false ≡ true = sym isnt ∙ ap (is_number b) is ∙ ap (λ (n : ℕ). n == b) same ∙ equals b in cc clash
+
+clean_past : (disk : List (List ℕ)) (b : ℕ) (bytes : List ℕ) (s : SeatState) → has_block b s ≡ false → IsCleanSeat disk s → IsCleanSeat (slice_set disk b bytes) s
+clean_past disk b bytes s isnt old k bytes_k is unpinned valid = old k bytes_k is unpinned valid ∙ sym (block_at-set_other disk b k bytes (different b k s.block isnt is))
+
+not_counted : (t : Bool) (k : ℕ) → cond t 1 0 + k ≡ 0 → t ≡ false
+not_counted true k e = absurd (omega (arith, e))
+not_counted false k e = refl
+
+clean_none : (disk : List (List ℕ)) (b : ℕ) (bytes : List ℕ) (ss : List SeatState) → count_of (has_block b) ss ≡ 0 → AllClean disk ss → AllClean (slice_set disk b bytes) ss
+clean_none disk b bytes [] none old = tt
+clean_none disk b bytes (s ∷ ss) none old = (clean_past disk b bytes s (not_counted (has_block b s) _ none) old.0, clean_none disk b bytes ss (omega (arith, none)) old.1)
+
+pub sound_uncached : (disk : List (List ℕ)) (ss : List SeatState) (b : ℕ) (bytes : List ℕ) → seat_of b ss ≡ None → IsSound disk ss → IsSound (slice_set disk b bytes) ss
+sound_uncached disk ss b bytes none sound = record {
+  count = sound.count;
+  few_pinned = sound.few_pinned;
+  few_out = sound.few_out;
+  harts = sound.harts;
+  once = sound.once;
+  clean = clean_none disk b bytes ss (none_counted (has_block b) ss none) sound.clean;
+}
+
+pub seen_past : (disk : List (List ℕ)) (ss : List SeatState) (b k : ℕ) (bytes : List ℕ) → k ≢ b → seen_in (slice_set disk b bytes) ss k ≡ seen_in disk ss k
+seen_past disk ss b k bytes ne = ap (unwrap_or (kept k ss)) (block_at-set_other disk b k bytes ne)
+
+-- a write of the bytes that are kept
+clean_home : (disk : List (List ℕ)) (b : ℕ) (bytes : List ℕ) (ss : List SeatState) → b < length disk → count_of (has_block b) ss ≤ 1 → kept b ss ≡ Some bytes → AllClean disk ss → AllClean (slice_set disk b bytes) ss
+clean_home disk b bytes [] within once is old = tt
+clean_home disk b bytes (s ∷ ss) within once is old =
+    pick (has_block b s) (λ t. has_block b s ≡ t → cond t 1 0 + count_of (has_block b) ss ≤ 1 → option_and_then (λ (x : SeatState). x.content) (if t then Some s else seat_of b ss) ≡ Some bytes → IsCleanSeat (slice_set disk b bytes) s × AllClean (slice_set disk b bytes) ss)
+    (λ _ has le here. (
+      λ k bytes_k is_k _ valid.
+          let same : b ≡ k = same_Some b k (sym (is_block b s.block has) ∙ is_k) in
+          same_Some bytes_k bytes (sym valid ∙ here) ∙ sym (block_at-set_same disk b bytes within) ∙ ap (block_at (slice_set disk b bytes)) same,
+      clean_none disk b bytes ss (omega (arith, le)) old.1,
+    ))
+    (λ _ isnt le here. (clean_past disk b bytes s isnt old.0, clean_home disk b bytes ss within (omega (arith, le)) here old.1))
+    refl once is
+
+pub sound_home : (disk : List (List ℕ)) (ss : List SeatState) (b : ℕ) (bytes : List ℕ) → b < length disk → kept b ss ≡ Some bytes → IsSound disk ss → IsSound (slice_set disk b bytes) ss
+sound_home disk ss b bytes within is sound = record {
+  count = sound.count;
+  few_pinned = sound.few_pinned;
+  few_out = sound.few_out;
+  harts = sound.harts;
+  once = sound.once;
+  clean = clean_home disk b bytes ss within (sound.once b) is sound.clean;
+}
+
+pub seen_home : (disk : List (List ℕ)) (ss : List SeatState) (b k : ℕ) (bytes : List ℕ) → kept b ss ≡ Some bytes → seen_in (slice_set disk b bytes) ss k ≡ seen_in disk ss k
+seen_home disk ss b k bytes is = elim (cases_eq k b) [
+  | inl same ↦
+      let here : kept k ss ≡ Some bytes = ap (λ (j : ℕ). kept j ss) same ∙ is in
+      ap (λ (o : Option (List ℕ)). unwrap_or o (block_at (slice_set disk b bytes) k)) here ∙ sym (ap (λ (o : Option (List ℕ)). unwrap_or o (block_at disk k)) here)
+  | inr ne ↦ seen_past disk ss b k bytes ne
+]
+
+-- a cache with nothing in it
+count_unused : (p : SeatState → Bool) (n count : ℕ) → ((k : ℕ) → p (unused k) ≡ false) → count_of p (unused_from n count) ≡ 0
+unfolding unused_from
+count_unused p n zero none = refl
+count_unused p n (suc count) none =
+    let more = count_unused p (n + 1) count none in
+    let zero_ : ℕ = 0 in
+    let a : cond (p (unused n)) 1 zero_ ≡ zero_ = ap (λ (t : Bool). cond t 1 zero_) (none n) in
+    omega (arith, more, a)
+
+length-unused_from : (n count : ℕ) → length (unused_from n count) ≡ count
+unfolding unused_from
+length-unused_from n zero = refl
+length-unused_from n (suc count) = ap suc (length-unused_from (n + 1) count)
+
+holders_unused : (m n count : ℕ) → HoldersBelow m (unused_from n count)
+unfolding unused_from
+holders_unused m n zero = tt
+holders_unused m n (suc count) = (tt, holders_unused m (n + 1) count)
+
+clean_unused : (disk : List (List ℕ)) (n count : ℕ) → AllClean disk (unused_from n count)
+unfolding unused_from
+clean_unused disk n zero = tt
+clean_unused disk n (suc count) = (λ k bytes is _ _. absurd (none-some k is), clean_unused disk (n + 1) count)
+
+pub sound_unused : (disk : List (List ℕ)) → IsSound disk (unused_from 0 46)
+sound_unused disk = record {
+  count = length-unused_from 0 46;
+  few_pinned = (let a = count_unused is_pinned 0 46 (λ _. refl) in omega (arith, a));
+  few_out = λ h. (let a = count_unused (is_held_by h) 0 46 (λ _. refl) in omega (arith, a));
+  harts = holders_unused 8 0 46;
+  once = λ b. (let a = count_unused (has_block b) 0 46 (λ _. refl) in omega (arith, a));
+  clean = clean_unused disk 0 46;
+}

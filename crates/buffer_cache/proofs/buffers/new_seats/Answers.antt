@@ -1,0 +1,14 @@
+use Rattle.std.proofs.Common.{◌∷◌, ◌++◌, [], List, ◌∙◌, ap}
+use Rattle.buffer_cache.specs.Seats.{SeatState, unused_from}
+use Rattle.buffer_cache.proofs.Made.{unused_push, no_unused}
+use Rattle.buffer_cache.proofs.buffers.new_seats.Goals as goal
+
+pub loop-number-init : goal.loop-number-init
+loop-number-init c = c.in_ok-seats.ensures.items ∙ no_unused
+
+pub loop-number-preserved : goal.loop-number-preserved
+loop-number-preserved c =
+    c.in_ok-push.ensures.items
+    ∙ ap (λ (l : List SeatState). l ++ c.in_ok-new.field-0 ∷ []) c.loop-number.invariant
+    ∙ ap (λ (s : SeatState). unused_from 0 c.loop-number.number ++ s ∷ []) c.in_ok-new.ensures
+    ∙ unused_push c.loop-number.number

@@ -1,0 +1,52 @@
+use Rattle.std.proofs.Common.{◌≡◌, List, sym, ◌∙◌, ap, subst, Some, true, ◌==◌, if◌then◌else◌, []}
+use Rattle.std.specs.Option.{option_map, unwrap_or}
+use Rattle.buffer_cache.specs.Seats.{SeatState, is_pinned, seat_of, seen, seen_in, IsHeld, KeepsOthers, IsSound}
+use Rattle.buffer_cache.proofs.Laws.{change_some}
+use Rattle.buffer_cache.proofs.cache.Cache.release_changed.Goals as goal
+
+pub release-requires-clause-held : goal.release-requires-clause-held
+release-requires-clause-held g c =
+    let disk = g.D.Device.contents c.self.inside.device in
+    let ss : List SeatState = c.self.inside.buffers in
+    let held = subst (λ v. IsHeld v.seats c.args.guard) (sym c.self.view_is) c.requires.held in
+    let pinned = subst (λ v. option_map is_pinned (seat_of c.args.guard.value.block v.seats) ≡ Some true) (sym c.self.view_is) c.requires.pinned in
+    let laws = change_some disk ss c.keep.new.self c.args.guard held c.requires.valid pinned c.self.invariant c.keep.ensures in
+    laws.held
+
+pub release-requires-clause-unchanged : goal.release-requires-clause-unchanged
+release-requires-clause-unchanged g c =
+    let disk = g.D.Device.contents c.self.inside.device in
+    let ss : List SeatState = c.self.inside.buffers in
+    let held = subst (λ v. IsHeld v.seats c.args.guard) (sym c.self.view_is) c.requires.held in
+    let pinned = subst (λ v. option_map is_pinned (seat_of c.args.guard.value.block v.seats) ≡ Some true) (sym c.self.view_is) c.requires.pinned in
+    let laws = change_some disk ss c.keep.new.self c.args.guard held c.requires.valid pinned c.self.invariant c.keep.ensures in
+    laws.kept_then
+
+pub invariant_of-self : goal.invariant_of-self
+invariant_of-self g c =
+    let disk = g.D.Device.contents c.self.inside.device in
+    let ss : List SeatState = c.self.inside.buffers in
+    let held = subst (λ v. IsHeld v.seats c.args.guard) (sym c.self.view_is) c.requires.held in
+    let pinned = subst (λ v. option_map is_pinned (seat_of c.args.guard.value.block v.seats) ≡ Some true) (sym c.self.view_is) c.requires.pinned in
+    let laws = change_some disk ss c.keep.new.self c.args.guard held c.requires.valid pinned c.self.invariant c.keep.ensures in
+    subst (λ (l : List SeatState). IsSound disk l) (sym c.release.ensures) laws.sound
+
+pub returns-clause-others : goal.returns-clause-others
+returns-clause-others g c =
+    let disk = g.D.Device.contents c.self.inside.device in
+    let ss : List SeatState = c.self.inside.buffers in
+    let held = subst (λ v. IsHeld v.seats c.args.guard) (sym c.self.view_is) c.requires.held in
+    let pinned = subst (λ v. option_map is_pinned (seat_of c.args.guard.value.block v.seats) ≡ Some true) (sym c.self.view_is) c.requires.pinned in
+    let laws = change_some disk ss c.keep.new.self c.args.guard held c.requires.valid pinned c.self.invariant c.keep.ensures in
+    subst (λ v. KeepsOthers c.args.guard.value.block v.seats c.release.new.self) c.self.view_is
+    (subst (λ (l : List SeatState). KeepsOthers c.args.guard.value.block ss l) (sym c.release.ensures) laws.others)
+
+pub returns-clause-seen : goal.returns-clause-seen
+returns-clause-seen g c k =
+    let disk = g.D.Device.contents c.self.inside.device in
+    let ss : List SeatState = c.self.inside.buffers in
+    let held = subst (λ v. IsHeld v.seats c.args.guard) (sym c.self.view_is) c.requires.held in
+    let pinned = subst (λ v. option_map is_pinned (seat_of c.args.guard.value.block v.seats) ≡ Some true) (sym c.self.view_is) c.requires.pinned in
+    let laws = change_some disk ss c.keep.new.self c.args.guard held c.requires.valid pinned c.self.invariant c.keep.ensures in
+    ap (λ (l : List SeatState). seen_in disk l k) c.release.ensures ∙ laws.seen k
+    ∙ ap (λ v. if k == c.args.guard.value.block then unwrap_or c.args.guard.value.content [] else seen g.D.Device.contents v k) c.self.view_is

@@ -1,0 +1,8 @@
+use Rattle.std.specs.Prelude.{ℕ, List, Some}
+use Rattle.std.specs.Borrow.{Lends, MutBor, Fml, Array, u8}
+use Rattle.buffer_cache.specs.Buffers.{BufferState}
+use Rattle.buffer_cache.specs.contracts.buffer.Buffer.{the_row}
+
+-- the buffer ends with the last bytes behind r
+abbrev pub LendsBytes : MutBor BufferState → MutBor (List ℕ) → Fml
+LendsBytes b r = Lends the_row (Array u8 1024) b r (λ w. record b.now { content = Some w })

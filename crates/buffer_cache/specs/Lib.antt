@@ -1,0 +1,6 @@
+pub mod Buffers
+pub mod Lists
+pub mod Seats
+pub mod Getting
+pub mod Rows
+pub mod Lending

@@ -1,0 +1,292 @@
+// The buffers, their slots, and the order of giving back.
+ghost use Rattle.std.specs.Prelude.{count_by, ◌≡◌, ◌↔◌, ◌<◌, ◌≤◌, length, position, slice_get, Some, None, IsSome, IsTrue, IfOk, IfSome, OnOk, OnErr};
+ghost use Rattle.sleep_lock.specs.SleepLock.{GuardState};
+ghost use Rattle.buffer_cache.specs.Buffers.{BufferState};
+ghost use Rattle.block_device.specs.Blocks.{block_at, faults_after};
+ghost use Rattle.buffer_cache.specs.Lists.{first_of, count_of};
+ghost use Rattle.buffer_cache.specs.Seats.{has_block, is_free, is_held_by, is_pinned, seat_of, kept, IsHeld, with_seat, with_content, with_pin, given_back, without_holder, unused_from};
+ghost use Rattle.buffer_cache.specs.Rows.{IsSeated};
+ghost use Rattle.buffer_cache.specs.Getting.{get_of};
+
+use crate::buffer::Buffer;
+use crate::got::Got;
+use crate::limits::BUFFERS;
+use crate::seat::Seat;
+use block_device::{Device, Fault};
+use sleep_lock::{Guard, RetiredSlots, Slots};
+use std::alloc::{AllocError, Global};
+use std::marker::Model;
+
+/// Forty-six buffers: the memory of a cache, taken before there is one. A contract sees the list of what is kept of
+/// each, in order of giving back.
+#[derive(Drop)]
+pub struct Buffers {
+    seats: Vec<Seat>,
+    slots: Slots<Buffer>,
+}
+
+impl Model for Buffers {
+    ghost use Rattle.std.specs.Prelude.{List};
+    ghost use Rattle.buffer_cache.specs.Seats.{SeatState};
+    ghost use Rattle.buffer_cache.specs.Rows.{IsSeated};
+
+    ghost Value = { List SeatState };
+
+    ghost view = { λ b. b.seats.items };
+
+    ghost invariant = { λ b. IsSeated b.slots b.seats.items };
+}
+
+impl Buffers {
+    /// Forty-six buffers that were never used. An error is want of memory.
+    pub fn new(alloc: Global) -> Result<Buffers, AllocError>
+        ensures { IfOk result (λ buffers. buffers ≡ unused_from 0 BUFFERS) }
+    {
+        let seats = new_seats(alloc)?;
+        let slots = new_slots(alloc)?;
+        Ok(Buffers { seats, slots })
+    }
+
+    pub(crate) fn held_by(&self, hart: u8) -> usize
+        ensures { result ≡ count_of (is_held_by hart) self.now }
+    {
+        count_held(&self.seats, hart)
+    }
+
+    pub(crate) fn pinned(&self) -> usize
+        ensures { result ≡ count_of is_pinned self.now }
+    {
+        count_pinned(&self.seats)
+    }
+
+    pub(crate) fn is_cached(&self, b: u32) -> bool
+        ensures { IsTrue result ↔ IsSome (seat_of b self.now) }
+    {
+        place_of(&self.seats, b).is_some()
+    }
+
+    // A block's buffer, else the first that is free.
+    pub(crate) fn get(&mut self, hart: u8, b: u32) -> Got
+        requires { IsSome (first_of is_free self.old) }
+        ensures { (self.new, result) ≡ get_of hart b self.old }
+    {
+        get_in(&mut self.seats, &mut self.slots, hart, b)
+    }
+
+    // The device's block into a buffer that isn't valid.
+    pub(crate) fn fill<D: Device>(
+        &mut self,
+        device: &mut D,
+        guard: &mut Guard<Buffer>,
+    ) -> Result<(), Fault>
+        requires held { IsHeld self.old guard.old }
+        requires unread { guard.old.value.content ≡ None }
+        requires within { guard.old.value.block < length (D.contents device.old) }
+        ensures ok { OnOk result (guard.new ≡ record guard.old {
+          value = record {
+            block = guard.old.value.block;
+            content = Some (block_at (D.contents device.old) guard.old.value.block);
+          };
+        }) }
+        ensures seats { OnOk result (self.new
+            ≡ with_seat guard.old.value.block (with_content (block_at (D.contents device.old) guard.old.value.block)) self.old) }
+        ensures err { OnErr result ((guard.new ≡ guard.old) × (self.new ≡ self.old)) }
+        ensures contents { D.contents device.new ≡ D.contents device.old }
+        ensures faults { D.failures device.new ≡ faults_after result (D.failures device.old) }
+    {
+        fill_in(&mut self.seats, device, guard)
+    }
+
+    // Keeps a guard's bytes.
+    pub(crate) fn keep(&mut self, guard: &Guard<Buffer>)
+        requires held { IsHeld self.old guard.now }
+        requires valid { IsSome guard.now.value.content }
+        ensures { IfSome guard.now.value.content (λ bytes. self.new ≡ with_seat guard.now.value.block (with_content bytes) self.old) }
+    {
+        keep_in(&mut self.seats, guard)
+    }
+
+    // Gives a buffer back, with the bytes that are kept. It is the most recent one then.
+    pub(crate) fn release(&mut self, guard: Guard<Buffer>)
+        requires held { IsHeld self.old guard }
+        requires unchanged { guard.value.content ≡ kept guard.value.block self.old }
+        ensures { self.new ≡ given_back guard.value.block self.old }
+    {
+        let b = guard.value().block();
+        self.slots.unlock(guard);
+        give_back(&mut self.seats, b);
+    }
+
+    // Pins a block's buffer, or takes the pin away.
+    pub(crate) fn set_pinned(&mut self, b: u32, pinned: bool)
+        requires { IsSome (seat_of b self.old) }
+        ensures { self.new ≡ with_seat b (with_pin pinned) self.old }
+    {
+        pin_in(&mut self.seats, b, pinned);
+    }
+
+    // Ends the buffers. A guard that is out may then be ended too.
+    pub(crate) fn retire(self) -> RetiredSlots
+        ensures { (guard : GuardState BufferState) → IsHeld self guard → guard.number < result }
+    {
+        let Buffers { seats: _, slots } = self;
+        slots.retire()
+    }
+}
+
+fn new_seats(alloc: Global) -> Result<Vec<Seat>, AllocError>
+    ensures { IfOk result (λ seats. seats.items ≡ unused_from 0 BUFFERS) }
+{
+    let mut seats = Vec::with_capacity(alloc, BUFFERS)?;
+    for number in 0..BUFFERS {
+        seats.push(Seat::new(alloc, number as u32)?)?;
+    }
+    Ok(seats)
+}
+
+fn new_slots(alloc: Global) -> Result<Slots<Buffer>, AllocError>
+    ensures { IfOk result (λ slots. IsSeated slots (unused_from 0 BUFFERS)) }
+{
+    let mut buffers = Vec::with_capacity(alloc, BUFFERS)?;
+    for _ in 0..BUFFERS {
+        buffers.push(Buffer::new(alloc)?)?;
+    }
+    Slots::new(alloc, buffers)
+}
+
+// Where a block's buffer is.
+fn place_of(seats: &[Seat], b: u32) -> Option<usize>
+    ensures { result ≡ position (has_block b) seats.now }
+{
+    seats.iter().position(|seat| seat.has_block(b))
+}
+
+// The least recently given back buffer that is neither out nor pinned.
+fn first_free(seats: &[Seat]) -> Option<usize>
+    ensures { result ≡ position is_free seats.now }
+{
+    seats.iter().position(|seat| seat.is_free())
+}
+
+fn count_held(seats: &[Seat], hart: u8) -> usize
+    ensures { result ≡ count_by (is_held_by hart) seats.now }
+{
+    seats.iter().filter(|seat| seat.is_held_by(hart)).count()
+}
+
+fn count_pinned(seats: &[Seat]) -> usize
+    ensures { result ≡ count_by is_pinned seats.now }
+{
+    seats.iter().filter(|seat| seat.is_pinned()).count()
+}
+
+fn get_in(seats: &mut Vec<Seat>, slots: &mut Slots<Buffer>, hart: u8, b: u32) -> Got
+    requires free { IsSome (first_of is_free seats.old.items) }
+    requires seated { IsSeated slots.old seats.old.items }
+    ensures gives { (seats.new.items, result) ≡ get_of hart b seats.old.items }
+    ensures seated { IsSeated slots.new seats.new.items }
+{
+    match place_of(seats, b) {
+        Some(i) => lend(seats, slots, i, hart, b),
+        None => {
+            let i = first_free(seats).unwrap();
+            renew(seats, slots, i, hart, b)
+        }
+    }
+}
+
+// The buffer that has the block.
+fn lend(seats: &mut Vec<Seat>, slots: &mut Slots<Buffer>, i: usize, hart: u8, b: u32) -> Got
+    requires place { position (has_block b) seats.old.items ≡ Some i }
+    requires seated { IsSeated slots.old seats.old.items }
+    ensures gives { (seats.new.items, result) ≡ get_of hart b seats.old.items }
+    ensures seated { IsSeated slots.new seats.new.items }
+{
+    let seat = &mut seats[i];
+    match slots.lock(hart, seat.number()) {
+        None => Got::Waits,
+        Some(mut guard) => {
+            guard.value_mut().name(b);
+            seat.lend(hart);
+            Got::Held(guard)
+        }
+    }
+}
+
+// A free buffer, for a block that none has.
+fn renew(seats: &mut Vec<Seat>, slots: &mut Slots<Buffer>, i: usize, hart: u8, b: u32) -> Got
+    requires none { position (has_block b) seats.old.items ≡ None }
+    requires place { position is_free seats.old.items ≡ Some i }
+    requires seated { IsSeated slots.old seats.old.items }
+    ensures gives { (seats.new.items, result) ≡ get_of hart b seats.old.items }
+    ensures seated { IsSeated slots.new seats.new.items }
+{
+    let seat = &mut seats[i];
+    match slots.lock(hart, seat.number()) {
+        None => unreachable!(),
+        Some(mut guard) => {
+            guard.value_mut().renew(b);
+            seat.renew(hart, b);
+            Got::Held(guard)
+        }
+    }
+}
+
+fn fill_in<D: Device>(
+    seats: &mut Vec<Seat>,
+    device: &mut D,
+    guard: &mut Guard<Buffer>,
+) -> Result<(), Fault>
+    requires held { IsHeld seats.old.items guard.old }
+    requires unread { guard.old.value.content ≡ None }
+    requires within { guard.old.value.block < length (D.contents device.old) }
+    ensures ok { OnOk result (guard.new ≡ record guard.old {
+      value = record {
+        block = guard.old.value.block;
+        content = Some (block_at (D.contents device.old) guard.old.value.block);
+      };
+    }) }
+    ensures seats { OnOk result (seats.new.items
+        ≡ with_seat guard.old.value.block (with_content (block_at (D.contents device.old) guard.old.value.block)) seats.old.items) }
+    ensures err { OnErr result ((guard.new ≡ guard.old) × (seats.new.items ≡ seats.old.items)) }
+    ensures contents { D.contents device.new ≡ D.contents device.old }
+    ensures faults { D.failures device.new ≡ faults_after result (D.failures device.old) }
+{
+    let b = guard.value().block();
+    let i = place_of(seats, b).unwrap();
+    let seat = &mut seats[i];
+    seat.read(device, b)?;
+    guard.value_mut().fill(seat.bytes());
+    Ok(())
+}
+
+fn keep_in(seats: &mut Vec<Seat>, guard: &Guard<Buffer>)
+    requires held { IsSome (seat_of guard.now.value.block seats.old.items) }
+    requires valid { IsSome guard.now.value.content }
+    ensures { IfSome guard.now.value.content (λ bytes. seats.new.items ≡ with_seat guard.now.value.block (with_content bytes) seats.old.items) }
+{
+    let buffer = guard.value();
+    let i = place_of(seats, buffer.block()).unwrap();
+    let seat = &mut seats[i];
+    seat.keep(buffer.bytes());
+}
+
+fn pin_in(seats: &mut Vec<Seat>, b: u32, pinned: bool)
+    requires { IsSome (seat_of b seats.old.items) }
+    ensures { seats.new.items ≡ with_seat b (with_pin pinned) seats.old.items }
+{
+    let i = place_of(seats, b).unwrap();
+    let seat = &mut seats[i];
+    seat.set_pinned(pinned);
+}
+
+fn give_back(seats: &mut [Seat], b: u32)
+    requires { IsSome (seat_of b seats.old) }
+    ensures { seats.new ≡ given_back b seats.old }
+{
+    let i = place_of(seats, b).unwrap();
+    let seat = &mut seats[i];
+    seat.take_back();
+    let rest = &mut seats[i..];
+    rest.rotate_left(1);
+}

@@ -1,0 +1,134 @@
+// What the cache keeps of a buffer, and the list of these in order of giving back.
+ghost use Rattle.std.specs.Prelude.{◌≡◌, ◌↔◌, ◌<◌, length, position, Some, None, IsSome, IsTrue, IfOk, OnOk, OnErr};
+ghost use Rattle.block_device.specs.Blocks.{block_at, faults_after};
+ghost use Rattle.buffer_cache.specs.Seats.{has_block, is_free, is_held_by, is_pinned, unused, with_holder, without_holder, with_content, with_pin, as_new};
+
+use crate::buffer::zeros;
+use block_device::{BLOCK_SIZE, Device, Fault};
+use std::alloc::{AllocError, Global};
+use std::marker::Model;
+
+/// What the cache keeps of a buffer. The bytes are those of the last fill or record.
+#[derive(Drop)]
+pub(crate) struct Seat {
+    number: u32,
+    block: Option<u32>,
+    valid: bool,
+    pinned: bool,
+    holder: Option<u8>,
+    bytes: Box<[u8; BLOCK_SIZE]>,
+}
+
+impl Model for Seat {
+    ghost use Rattle.buffer_cache.specs.Seats.{SeatState};
+    ghost use Rattle.buffer_cache.specs.Buffers.{content_of};
+
+    ghost Value = { SeatState };
+
+    ghost view = { λ s. record {
+      number = s.number;
+      block = s.block;
+      content = content_of s.valid s.bytes.value;
+      pinned = s.pinned;
+      holder = s.holder;
+    } };
+}
+
+impl Seat {
+    pub fn new(alloc: Global, number: u32) -> Result<Seat, AllocError>
+        ensures { IfOk result (λ seat. seat ≡ unused number) }
+    {
+        Ok(Seat {
+            number,
+            block: None,
+            valid: false,
+            pinned: false,
+            holder: None,
+            bytes: zeros(alloc)?,
+        })
+    }
+
+    pub fn number(&self) -> u32
+        ensures { result ≡ self.now.number }
+    {
+        self.number
+    }
+
+    pub fn has_block(&self, b: u32) -> bool
+        ensures { result ≡ has_block b self.now }
+    {
+        self.block == Some(b)
+    }
+
+    pub fn is_free(&self) -> bool
+        ensures { result ≡ is_free self.now }
+    {
+        !self.pinned && self.holder.is_none()
+    }
+
+    pub fn is_held_by(&self, hart: u8) -> bool
+        ensures { result ≡ is_held_by hart self.now }
+    {
+        self.holder == Some(hart)
+    }
+
+    pub fn is_pinned(&self) -> bool
+        ensures { result ≡ is_pinned self.now }
+    {
+        self.pinned
+    }
+
+    pub fn bytes(&self) -> &[u8; BLOCK_SIZE]
+        requires { IsSome self.now.content }
+        ensures { Some result.now ≡ self.now.content }
+    {
+        &*self.bytes
+    }
+
+    pub fn lend(&mut self, hart: u8)
+        ensures { self.new ≡ with_holder hart self.old }
+    {
+        self.holder = Some(hart);
+    }
+
+    pub fn renew(&mut self, hart: u8, b: u32)
+        ensures { self.new ≡ as_new hart b self.old }
+    {
+        self.block = Some(b);
+        self.valid = false;
+        self.holder = Some(hart);
+    }
+
+    pub fn take_back(&mut self)
+        ensures { self.new ≡ without_holder self.old }
+    {
+        self.holder = None;
+    }
+
+    pub fn keep(&mut self, bytes: &[u8; BLOCK_SIZE])
+        ensures { self.new ≡ with_content bytes.now self.old }
+    {
+        *self.bytes = *bytes;
+        self.valid = true;
+    }
+
+    pub fn set_pinned(&mut self, pinned: bool)
+        ensures { self.new ≡ with_pin pinned self.old }
+    {
+        self.pinned = pinned;
+    }
+
+    // Reads block b of the device.
+    pub fn read<D: Device>(&mut self, device: &mut D, b: u32) -> Result<(), Fault>
+        requires unread { self.old.content ≡ None }
+        requires within { b < length (D.contents device.old) }
+        ensures ok { OnOk result (self.new ≡ with_content (block_at (D.contents device.old) b) self.old) }
+        ensures err { OnErr result (self.new ≡ self.old) }
+        ensures contents { D.contents device.new ≡ D.contents device.old }
+        ensures faults { D.failures device.new ≡ faults_after result (D.failures device.old) }
+    {
+        device.read(b, &mut *self.bytes)?;
+        self.valid = true;
+        Ok(())
+    }
+}

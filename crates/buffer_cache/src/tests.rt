@@ -1,0 +1,166 @@
+// Which buffers are taken anew, what a fault leaves, and that there always is a buffer.
+use crate::{BUFFERS, BUFFERS_OF_A_HART, Buffers, Cache, Got, HARTS, MOST_PINNED};
+use block_device::{BLOCK_SIZE, Device, Fused, MemoryDisk};
+use sleep_lock::Guard;
+use std::alloc::{AllocError, Global};
+use std::process::Abort;
+
+const BLOCKS: u32 = 60;
+
+// Sixty blocks, each full of its number.
+fn numbered(alloc: Global) -> Result<MemoryDisk, AllocError> {
+    let mut bytes = Vec::new(alloc);
+    for b in 0..BLOCKS {
+        for _ in 0..BLOCK_SIZE {
+            bytes.push(b as u8)?;
+        }
+    }
+    Ok(MemoryDisk::new(bytes))
+}
+
+// Gets a block, fills it if it isn't valid, and gives it back: was it valid?
+fn touch<D: Device>(rt: &impl Abort, cache: &mut Cache<D>, hart: u8, b: u32) -> bool {
+    assert!(rt; hart < HARTS && b < cache.device().blocks());
+    assert!(rt; cache.held_by(hart) < BUFFERS_OF_A_HART);
+    match cache.get(hart, b) {
+        Got::Waits => panic!(rt; "nothing is out"),
+        Got::Held(mut guard) => {
+            let valid = guard.value().is_valid();
+            if !valid {
+                assert!(rt; cache.fill(&mut guard).is_ok());
+            }
+            assert_eq!(rt; guard.value().bytes()[7], b as u8);
+            cache.release(guard);
+            valid
+        }
+    }
+}
+
+#[test]
+fn the_least_recent_is_taken(rt: HostRuntime) {
+    for (pin, taken) in [(None, 1), (Some(1), 2)] {
+        let buffers = Buffers::new(rt.alloc()).expect(&rt, "memory");
+        let mut cache = Cache::new(buffers, numbered(rt.alloc()).expect(&rt, "memory"));
+        for b in 0..BUFFERS as u32 {
+            assert!(rt; !touch(&rt, &mut cache, 0, b));
+        }
+        assert!(rt; touch(&rt, &mut cache, 0, 0));
+        if let Some(b) = pin {
+            assert!(rt; cache.is_cached(b) && cache.pinned() < MOST_PINNED);
+            cache.pin(b);
+        }
+        assert!(rt; !touch(&rt, &mut cache, 0, BUFFERS as u32));
+        for b in 0..BUFFERS as u32 {
+            assert_eq!(rt; cache.is_cached(b), b != taken);
+        }
+        let _ = cache.retire();
+    }
+}
+
+// The device fails at each call in turn: the guard isn't valid then, the rest is as it was, and the cache ends with
+// the guard out.
+#[test]
+fn a_fault_leaves_the_guard(rt: HostRuntime) {
+    for calls in 0..6 {
+        let buffers = Buffers::new(rt.alloc()).expect(&rt, "memory");
+        let disk = Fused::new(numbered(rt.alloc()).expect(&rt, "memory"), calls as u64);
+        let mut cache = Cache::new(buffers, disk);
+        for b in 0..calls {
+            assert!(rt; !touch(&rt, &mut cache, 1, b));
+        }
+        assert!(rt; calls < cache.device().blocks());
+        assert!(rt; cache.held_by(7) < BUFFERS_OF_A_HART);
+        match cache.get(7, calls) {
+            Got::Waits => panic!(rt; "nothing is out"),
+            Got::Held(mut guard) => {
+                assert!(rt; !guard.value().is_valid());
+                assert!(rt; cache.fill(&mut guard).is_err());
+                assert!(rt; !guard.value().is_valid());
+                for b in 0..calls {
+                    assert!(rt; touch(&rt, &mut cache, 1, b));
+                }
+                let (retired, disk) = cache.retire();
+                assert_eq!(rt; disk.faults(), 1);
+                guard.retire_in_row(&retired);
+            }
+        }
+    }
+}
+
+// Thirty buffers pinned and fifteen out, and one more asked; a block that is out waits.
+#[test]
+fn there_is_one_more(rt: HostRuntime) {
+    let buffers = Buffers::new(rt.alloc()).expect(&rt, "memory");
+    let mut cache = Cache::new(buffers, numbered(rt.alloc()).expect(&rt, "memory"));
+    for b in 0..MOST_PINNED as u32 {
+        assert!(rt; !touch(&rt, &mut cache, 0, b));
+        assert!(rt; cache.is_cached(b) && cache.pinned() < MOST_PINNED);
+        cache.pin(b);
+    }
+    let mut guards = Vec::with_capacity(rt.alloc(), 16).expect(&rt, "memory");
+    for n in 0..16 {
+        let hart = (n / 2) as u8;
+        let b = MOST_PINNED as u32 + n;
+        assert!(rt; hart < HARTS && cache.held_by(hart) < BUFFERS_OF_A_HART);
+        match cache.get(hart, b) {
+            Got::Waits => panic!(rt; "there always is a buffer"),
+            Got::Held(guard) => match guards.push(guard) {
+                Ok(()) => {}
+                Err(_full) => panic!(rt; "there is room for sixteen"),
+            },
+        }
+        assert_eq!(rt; cache.pinned(), MOST_PINNED);
+    }
+    for b in 0..BUFFERS as u32 {
+        assert!(rt; cache.is_cached(b));
+    }
+    let (retired, _disk) = cache.retire();
+    while let Some(guard) = guards.pop() {
+        assert!(rt; (guard.number() as usize) < retired.count());
+        guard.retire_in_row(&retired);
+    }
+    guards.destroy_empty();
+}
+
+#[test]
+fn what_is_recorded_is_seen_and_comes_home(rt: HostRuntime) {
+    let buffers = Buffers::new(rt.alloc()).expect(&rt, "memory");
+    let mut cache = Cache::new(buffers, numbered(rt.alloc()).expect(&rt, "memory"));
+    assert!(rt; !touch(&rt, &mut cache, 2, 9));
+    assert!(rt; cache.is_cached(9) && cache.pinned() < MOST_PINNED);
+    cache.pin(9);
+    assert!(rt; cache.held_by(2) < BUFFERS_OF_A_HART && 9 < cache.device().blocks());
+    match cache.get(2, 9) {
+        Got::Waits => panic!(rt; "nothing is out"),
+        Got::Held(mut guard) => {
+            assert!(rt; guard.value().is_valid());
+            guard.value_mut().bytes_mut()[7] = 200;
+            cache.release_changed(guard);
+        }
+    }
+    match cache.get(2, 9) {
+        Got::Waits => panic!(rt; "nothing is out"),
+        Got::Held(guard) => {
+            assert!(rt; guard.value().is_valid());
+            assert_eq!(rt; guard.value().bytes()[7], 200);
+            assert!(rt; cache.held_by(3) < BUFFERS_OF_A_HART);
+            match cache.get(3, 9) {
+                Got::Waits => {}
+                Got::Held(_other) => panic!(rt; "it is out"),
+            }
+            assert!(rt; cache.write_home(&guard).is_ok());
+            cache.release(guard);
+            cache.unpin(9);
+        }
+    }
+    assert_eq!(rt; cache.pinned(), 0);
+    assert!(rt; !cache.is_cached(50) && 50 < cache.device().blocks());
+    assert!(rt; cache.write_uncached(50, &[3; BLOCK_SIZE]).is_ok());
+    let (_retired, mut disk) = cache.retire();
+    for (b, byte) in [(9, 200), (50, 3), (51, 51)] {
+        let mut bytes = [0; BLOCK_SIZE];
+        assert!(rt; b < disk.blocks());
+        assert!(rt; disk.read(b, &mut bytes).is_ok());
+        assert_eq!(rt; bytes[7], byte);
+    }
+}

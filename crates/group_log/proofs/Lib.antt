@@ -1,0 +1,13 @@
+pub mod Rooms
+pub mod Seats
+pub mod Getting
+pub mod Outcomes
+pub mod Writes
+pub mod Kept
+pub mod Steps
+pub mod Recording
+pub mod Leaving
+pub mod Committed
+pub mod Recorded
+pub mod Cuts
+pub mod Fresh

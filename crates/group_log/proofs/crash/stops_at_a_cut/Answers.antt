@@ -1,0 +1,5 @@
+use Rattle.group_log.proofs.Cuts.{stops_at_a_cut}
+use Rattle.group_log.proofs.crash.stops_at_a_cut.Goals as goal
+
+pub returns : goal.returns
+returns c = stops_at_a_cut

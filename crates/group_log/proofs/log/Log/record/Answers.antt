@@ -1,0 +1,81 @@
+use Rattle.std.proofs.Common.{◌≡◌, ◌≢◌, ◌⊎◌, ◌∙◌, ◌<◌, ap, sym, subst, ℕ, Some, true, false, arith}
+use Rattle.std.specs.Option.{option_map}
+use Rattle.buffer_cache.specs.Buffers.{BufferState}
+use Rattle.buffer_cache.specs.Lists.{count_of}
+use Rattle.buffer_cache.specs.Seats.{is_pinned, seat_of, IsHeld}
+use Rattle.group_log.specs.declared.phase.Phase.{Phase}
+use Rattle.group_log.specs.declared.phase.Phase.TheVariants.{Open, Halted}
+use Rattle.group_log.specs.Group.{has, HasRoom, IsMember}
+use Rattle.group_log.specs.Soundness.{IsHome, IsSoundLog}
+use Rattle.group_log.proofs.Rooms.{member_below}
+use Rattle.group_log.proofs.Steps.{open_of}
+use Rattle.group_log.proofs.Recorded.{room_to_add, room_to_pin, pinned_by_pin, recorded_all}
+use Rattle.group_log.proofs.log.Log.record.Goals as goal
+
+pub add-requires-clause-within : goal.add-requires-clause-within
+add-requires-clause-within g c =
+    let l = c.self.inside in
+    let member : IsMember l.members c.args.txn.now = subst (λ v. IsMember v.members c.args.txn.now) (sym c.self.view_is) c.requires.member in
+    let below = member_below l.members c.args.txn.now member in
+    let is : c.hart.result ≡ c.args.txn.now = c.hart.ensures in
+    omega (arith, below, is)
+
+pub add-requires-clause-room : goal.add-requires-clause-room
+add-requires-clause-room g c =
+    let l = c.self.inside in
+    let d = g.D.Device.contents l.cache.device in
+    let member : IsMember l.members c.args.txn.now = subst (λ v. IsMember v.members c.args.txn.now) (sym c.self.view_is) c.requires.member in
+    let running : l.phase ≢ Halted = subst (λ v. v.phase ≢ Halted) (sym c.self.view_is) c.requires.running in
+    let is_open : l.phase ≡ Open = open_of l.phase l.members c.args.txn.now c.self.invariant.quiet running member in
+    let sound : IsSoundLog d l.cache.seats l.sizes l.group.items l.members Open = subst (λ (p : Phase). IsSoundLog d l.cache.seats l.sizes l.group.items l.members p) is_open c.self.invariant in
+    let b : c.block-b.result ≡ c.args.guard.value.block = c.block-b.ensures ∙ ap (λ (x : BufferState). x.block) c.value.ensures in
+    let has_room : has l.group.items c.args.guard.value.block ≡ false → HasRoom l.members c.args.txn.now = subst (λ v. has v.group c.args.guard.value.block ≡ false → HasRoom v.members c.args.txn.now) (sym c.self.view_is) c.requires.room in
+    λ isnt.
+    let room = has_room (ap (λ (k : ℕ). has l.group.items k) (sym b) ∙ isnt) in
+    (subst (λ (h : ℕ). HasRoom l.members h) (sym c.hart.ensures) room, room_to_add d l.cache.seats l.sizes l.group.items l.members c.block-b.result c.args.txn.now sound room)
+
+pub pin-requires-clause-room : goal.pin-requires-clause-room
+pin-requires-clause-room g c =
+    let l = c.self.inside in
+    let d = g.D.Device.contents l.cache.device in
+    let member : IsMember l.members c.args.txn.now = subst (λ v. IsMember v.members c.args.txn.now) (sym c.self.view_is) c.requires.member in
+    let running : l.phase ≢ Halted = subst (λ v. v.phase ≢ Halted) (sym c.self.view_is) c.requires.running in
+    let is_open : l.phase ≡ Open = open_of l.phase l.members c.args.txn.now c.self.invariant.quiet running member in
+    let sound : IsSoundLog d l.cache.seats l.sizes l.group.items l.members Open = subst (λ (p : Phase). IsSoundLog d l.cache.seats l.sizes l.group.items l.members p) is_open c.self.invariant in
+    let b : c.block-b.result ≡ c.args.guard.value.block = c.block-b.ensures ∙ ap (λ (x : BufferState). x.block) c.value.ensures in
+    let has_room : has l.group.items c.args.guard.value.block ≡ false → HasRoom l.members c.args.txn.now = subst (λ v. has v.group c.args.guard.value.block ≡ false → HasRoom v.members c.args.txn.now) (sym c.self.view_is) c.requires.room in
+    subst (λ (k : ℕ). (option_map is_pinned (seat_of k l.cache.seats) ≡ Some true) ⊎ (count_of is_pinned l.cache.seats < 30)) (sym b)
+    (room_to_pin d l.cache.seats l.sizes l.group.items l.members c.args.guard.value.block c.args.txn.now sound has_room)
+
+pub release_changed-requires-clause-pinned : goal.release_changed-requires-clause-pinned
+release_changed-requires-clause-pinned g c =
+    let l = c.self.inside in
+    let b : c.block-b.result ≡ c.args.guard.value.block = c.block-b.ensures ∙ ap (λ (x : BufferState). x.block) c.value.ensures in
+    let held : IsHeld l.cache.seats c.args.guard = subst (λ v. IsHeld v.cache.seats c.args.guard) (sym c.self.view_is) c.requires.held in
+    pinned_by_pin c.args.guard.value.block c.block-b.result l.cache.seats c.pin.new.self.seats c.args.guard (λ i. c.args.guard.value.block) b held c.pin.ensures.seats
+
+pub invariant_of-self : goal.invariant_of-self
+invariant_of-self g c =
+    let l = c.self.inside in
+    let d = g.D.Device.contents l.cache.device in
+    let member : IsMember l.members c.args.txn.now = subst (λ v. IsMember v.members c.args.txn.now) (sym c.self.view_is) c.requires.member in
+    let running : l.phase ≢ Halted = subst (λ v. v.phase ≢ Halted) (sym c.self.view_is) c.requires.running in
+    let is_open : l.phase ≡ Open = open_of l.phase l.members c.args.txn.now c.self.invariant.quiet running member in
+    let sound : IsSoundLog d l.cache.seats l.sizes l.group.items l.members Open = subst (λ (p : Phase). IsSoundLog d l.cache.seats l.sizes l.group.items l.members p) is_open c.self.invariant in
+    let b : c.block-b.result ≡ c.args.guard.value.block = c.block-b.ensures ∙ ap (λ (x : BufferState). x.block) c.value.ensures in
+    let held : IsHeld l.cache.seats c.args.guard = subst (λ v. IsHeld v.cache.seats c.args.guard) (sym c.self.view_is) c.requires.held in
+    let home : IsHome d l.sizes c.args.guard.value.block = subst (λ v. IsHome (g.D.Device.contents v.cache.device) v.sizes c.args.guard.value.block) (sym c.self.view_is) c.requires.home in
+    let has_room : has l.group.items c.args.guard.value.block ≡ false → HasRoom l.members c.args.txn.now = subst (λ v. has v.group c.args.guard.value.block ≡ false → HasRoom v.members c.args.txn.now) (sym c.self.view_is) c.requires.room in
+    subst (λ (p : Phase). IsSoundLog (g.D.Device.contents c.release_changed.new.self.device) c.release_changed.new.self.seats l.sizes c.add.new.group.items c.add.new.members p) (sym is_open)
+    (recorded_all d (g.D.Device.contents c.pin.new.self.device) (g.D.Device.contents c.release_changed.new.self.device) l.cache.seats c.pin.new.self.seats c.release_changed.new.self.seats l.sizes l.group.items c.add.new.group.items l.members c.add.new.members c.block-b.result c.args.txn.now c.hart.result c.args.guard
+    c.has_each_once.ensures sound held c.requires.valid has_room home b c.hart.ensures c.add.ensures.group c.add.ensures.members
+    (ap g.D.Device.contents c.pin.ensures.device) c.pin.ensures.seats c.pin.ensures.seen
+    (ap g.D.Device.contents c.release_changed.ensures.device) c.release_changed.ensures.seats c.release_changed.ensures.seen)
+
+pub returns-clause-open : goal.returns-clause-open
+returns-clause-open g c =
+    let l = c.self.inside in
+    let member : IsMember l.members c.args.txn.now = subst (λ v. IsMember v.members c.args.txn.now) (sym c.self.view_is) c.requires.member in
+    let running : l.phase ≢ Halted = subst (λ v. v.phase ≢ Halted) (sym c.self.view_is) c.requires.running in
+    let is_open : l.phase ≡ Open = open_of l.phase l.members c.args.txn.now c.self.invariant.quiet running member in
+    (ap (λ v. v.phase) (sym c.self.view_is) ∙ is_open, is_open)

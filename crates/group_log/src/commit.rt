@@ -1,0 +1,77 @@
+// The steps of a commit.
+ghost use Rattle.std.specs.Prelude.{◌≡◌, ◌↔◌, ◌<◌, ◌≤◌, ℕ, List, length, IsTrue};
+ghost use Rattle.buffer_cache.specs.Lists.{count_of};
+ghost use Rattle.buffer_cache.specs.Seats.{is_held_by, has_block, seen, KeepsHeld};
+ghost use Rattle.fs_layout.specs.Recovered.{IsOutsideLog};
+ghost use Rattle.group_log.specs.Phases.{write_to, write_of, IsUnderWay};
+ghost use Rattle.group_log.specs.Soundness.{CanWrite};
+ghost use Rattle.group_log.specs.Turns.{turn_is_out, seats_after, seats_at_fault};
+ghost use Rattle.group_log.specs.Written.{Writes, by_outcome, faults_of};
+
+use crate::copies::{Written, copy_home, copy_to_log, write_head};
+use crate::phase::Phase;
+use block_device::Device;
+use buffer_cache::{Cache, HARTS};
+use fs_layout::Super;
+
+/// What came of a commit's step.
+#[derive(Debug, Clone, Copy, PartialEq, Eq)]
+pub enum Progress {
+    /// The buffer of the block that is copied next is out. Nothing changed.
+    Waits,
+    /// A write was made, and there are more.
+    Wrote,
+    /// The last write was made: others may join.
+    Ended,
+    /// The device failed, and the log is halted for good.
+    Failed,
+}
+
+/// Makes the commit's next write.
+pub(crate) fn write_next<D: Device>(
+    cache: &mut Cache<D>,
+    hart: u8,
+    sizes: &Super,
+    group: &[u32],
+    phase: Phase,
+) -> Written
+    requires hart { hart < HARTS }
+    requires few { count_of (is_held_by hart) cache.old.seats ≤ 1 }
+    requires runs { IsUnderWay (length group.now) phase }
+    requires ready { CanWrite (D.contents cache.old.device) cache.old.seats sizes.now group.now phase }
+    ensures waits { (result ≡ Written.Waits) ↔ IsTrue (turn_is_out cache.old.seats group.now phase) }
+    ensures same { (result ≡ Written.Waits) → cache.new ≡ cache.old }
+    ensures writes { Writes (D.contents cache.old.device) (write_to sizes.now group.now phase)
+        (write_of (seen D.contents cache.old) group.now phase) result (D.contents cache.new.device) }
+    ensures faults { D.failures cache.new.device ≡ faults_of result (D.failures cache.old.device) }
+    ensures seats { cache.new.seats
+        ≡ by_outcome result cache.old.seats (seats_after group.now phase cache.old.seats) (seats_at_fault group.now phase cache.old.seats) }
+    ensures held { KeepsHeld cache.old.seats cache.new.seats }
+    ensures seen { (k : ℕ) → IsOutsideLog sizes.now k → seen D.contents cache.new k ≡ seen D.contents cache.old k }
+{
+    match phase {
+        Phase::Staging(i) => {
+            if i as usize == group.len() {
+                write_head(cache, sizes.logstart, group)
+            } else {
+                copy_to_log(cache, hart, group[i as usize], sizes.logstart + 1 + i)
+            }
+        }
+        Phase::Installing(i) => {
+            if i as usize == group.len() {
+                write_head(cache, sizes.logstart, &[])
+            } else {
+                copy_home(cache, hart, group[i as usize])
+            }
+        }
+        Phase::Open => unreachable!(),
+        Phase::Halted => unreachable!(),
+    }
+}
+
+/// In a sound cache no block has two buffers.
+pub(crate) fn has_each_once<D: Device>(cache: &Cache<D>)
+    ensures { (b : ℕ) → count_of (has_block b) cache.now.seats ≤ 1 }
+{
+    let _ = cache.device();
+}

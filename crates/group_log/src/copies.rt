@@ -1,0 +1,137 @@
+// One write of a commit, over the cache.
+ghost use Rattle.std.specs.Prelude.{◌≡◌, ◌≢◌, ◌↔◌, ◌⊎◌, ◌<◌, ◌≤◌, ℕ, List, [], false, length, slice_set, replicate, None, IsSome, OnOk, OnErr};
+ghost use Rattle.std.specs.Option.{unwrap_or};
+ghost use Rattle.block_device.specs.Blocks.{faults_after};
+ghost use Rattle.buffer_cache.specs.Lists.{count_of};
+ghost use Rattle.buffer_cache.specs.Seats.{is_held_by, seat_of, holder_of, with_seat, with_pin, given_back, seen, KeepsHeld};
+ghost use Rattle.group_log.specs.Pins.{IsPinned};
+ghost use Rattle.group_log.specs.Phases.{head_block};
+ghost use Rattle.group_log.specs.Written.{Writes, by_outcome, faults_of, outcome_of};
+
+use block_device::{Device, Fault};
+use buffer_cache::{Buffer, Cache, Got, HARTS};
+use fs_layout::widths::{BLOCK_LEN, Block, LOG_HEAD_LEN};
+use fs_layout::write_log_head;
+use sleep_lock::Guard;
+
+/// What came of a write.
+pub(crate) enum Written {
+    /// The block's buffer is out, and nothing changed.
+    Waits,
+    /// It was made.
+    Done,
+    /// The device failed.
+    Failed,
+}
+
+fn outcome(made: Result<(), Fault>) -> Written
+    ensures { result ≡ outcome_of made }
+{
+    match made {
+        Ok(()) => Written::Done,
+        Err(Fault) => Written::Failed,
+    }
+}
+
+/// Writes a recorded block, as it is seen, to a block of the log.
+pub(crate) fn copy_to_log<D: Device>(cache: &mut Cache<D>, hart: u8, b: u32, at: u32) -> Written
+    requires hart { hart < HARTS }
+    requires few { count_of (is_held_by hart) cache.old.seats ≤ 1 }
+    requires pinned { IsPinned cache.old.seats b }
+    requires uncached { seat_of at cache.old.seats ≡ None }
+    requires within { at < length (D.contents cache.old.device) }
+    ensures waits { (result ≡ Written.Waits) ↔ IsSome (holder_of b cache.old.seats) }
+    ensures same { (result ≡ Written.Waits) → cache.new ≡ cache.old }
+    ensures writes { Writes (D.contents cache.old.device) at (seen D.contents cache.old b) result (D.contents cache.new.device) }
+    ensures faults { D.failures cache.new.device ≡ faults_of result (D.failures cache.old.device) }
+    ensures seats { cache.new.seats ≡ by_outcome result cache.old.seats (given_back b cache.old.seats) (given_back b cache.old.seats) }
+    ensures held { KeepsHeld cache.old.seats cache.new.seats }
+    ensures seen { (k : ℕ) → k ≢ at → seen D.contents cache.new k ≡ seen D.contents cache.old k }
+{
+    match cache.get(hart, b) {
+        Got::Waits => Written::Waits,
+        Got::Held(guard) => {
+            let made = write_copy(cache, &guard, at);
+            cache.release(guard);
+            outcome(made)
+        }
+    }
+}
+
+// Writes a guard's bytes to a block that no buffer has.
+fn write_copy<D: Device>(cache: &mut Cache<D>, guard: &Guard<Buffer>, at: u32) -> Result<(), Fault>
+    requires valid { IsSome guard.now.value.content }
+    requires uncached { seat_of at cache.old.seats ≡ None }
+    requires within { at < length (D.contents cache.old.device) }
+    ensures ok { OnOk result (D.contents cache.new.device
+        ≡ slice_set (D.contents cache.old.device) at (unwrap_or guard.now.value.content [])) }
+    ensures err { OnErr result ((D.contents cache.new.device ≡ D.contents cache.old.device)
+        ⊎ (D.contents cache.new.device ≡ slice_set (D.contents cache.old.device) at (unwrap_or guard.now.value.content []))) }
+    ensures faults { D.failures cache.new.device ≡ faults_after result (D.failures cache.old.device) }
+    ensures seats { cache.new.seats ≡ cache.old.seats }
+    ensures seen { (k : ℕ) → k ≢ at → seen D.contents cache.new k ≡ seen D.contents cache.old k }
+{
+    cache.write_uncached(at, guard.value().bytes())
+}
+
+/// Writes a recorded block, as it is seen, to its own place, and gives its pin back.
+pub(crate) fn copy_home<D: Device>(cache: &mut Cache<D>, hart: u8, b: u32) -> Written
+    requires hart { hart < HARTS }
+    requires few { count_of (is_held_by hart) cache.old.seats ≤ 1 }
+    requires pinned { IsPinned cache.old.seats b }
+    requires within { b < length (D.contents cache.old.device) }
+    ensures waits { (result ≡ Written.Waits) ↔ IsSome (holder_of b cache.old.seats) }
+    ensures same { (result ≡ Written.Waits) → cache.new ≡ cache.old }
+    ensures writes { Writes (D.contents cache.old.device) b (seen D.contents cache.old b) result (D.contents cache.new.device) }
+    ensures faults { D.failures cache.new.device ≡ faults_of result (D.failures cache.old.device) }
+    ensures seats { cache.new.seats
+        ≡ by_outcome result cache.old.seats (given_back b (with_seat b (with_pin false) cache.old.seats)) (given_back b cache.old.seats) }
+    ensures held { KeepsHeld cache.old.seats cache.new.seats }
+    ensures seen { (k : ℕ) → seen D.contents cache.new k ≡ seen D.contents cache.old k }
+{
+    match cache.get(hart, b) {
+        Got::Waits => Written::Waits,
+        Got::Held(guard) => match cache.write_home(&guard) {
+            Ok(()) => {
+                cache.unpin(b);
+                cache.release(guard);
+                Written::Done
+            }
+            Err(Fault) => {
+                cache.release(guard);
+                Written::Failed
+            }
+        },
+    }
+}
+
+/// Writes the log's head, with these blocks.
+pub(crate) fn write_head<D: Device>(cache: &mut Cache<D>, start: u32, blocks: &[u32]) -> Written
+    requires short { length blocks.now ≤ LOG_HEAD_LEN }
+    requires uncached { seat_of start cache.old.seats ≡ None }
+    requires within { start < length (D.contents cache.old.device) }
+    ensures ran { result ≢ Written.Waits }
+    ensures writes { Writes (D.contents cache.old.device) start (head_block blocks.now) result (D.contents cache.new.device) }
+    ensures faults { D.failures cache.new.device ≡ faults_of result (D.failures cache.old.device) }
+    ensures seats { cache.new.seats ≡ cache.old.seats }
+    ensures seen { (k : ℕ) → k ≢ start → seen D.contents cache.new k ≡ seen D.contents cache.old k }
+{
+    let head = head_of(blocks);
+    outcome(cache.write_uncached(start, &head))
+}
+
+// The bytes of a head with these blocks.
+fn head_of(blocks: &[u32]) -> Block
+    requires { length blocks.now ≤ LOG_HEAD_LEN }
+    ensures { result ≡ head_block blocks.now }
+{
+    let mut head = zeros();
+    write_log_head(&mut head, blocks);
+    head
+}
+
+fn zeros() -> Block
+    ensures { result ≡ replicate BLOCK_LEN 0 }
+{
+    [0; BLOCK_LEN]
+}

@@ -1,0 +1,23 @@
+//! The log: transactions that are committed as a group (the xv6 book, chapter "File system", "Logging layer").
+//!
+//! A call that changes the disk joins a transaction, records the buffers that it changed, and leaves. The last to
+//! leave commits what all of them recorded: the blocks are copied into the log, the log's head is written with their
+//! numbers, the blocks are copied home, and the head is cleared. Wherever that stops, recovery finds the whole group
+//! on the disk or none of it.
+#![tactic(auto)]
+
+mod commit;
+mod copies;
+mod crash;
+mod limits;
+mod log;
+mod members;
+mod phase;
+mod txn;
+
+pub use commit::Progress;
+pub use crash::stops_at_a_cut;
+pub use limits::{BLOCKS_OF_A_TRANSACTION, MOST_LOGGED};
+pub use log::{Left, Log};
+pub use phase::Phase;
+pub use txn::{RetiredLog, Txn};

@@ -1,0 +1,51 @@
+// Which harts are in a transaction, and how many blocks each added to the group.
+ghost use Rattle.std.specs.Prelude.{◌≡◌, ◌<◌, ◌≤◌, ◌+◌, ◌*◌, ℕ, List, length, false};
+ghost use Rattle.group_log.specs.Group.{joined, HasRoom, one_more, members_with, has, with_block};
+
+use crate::limits::{MOST_LOGGED, PLACES};
+use arrayvec::ArrayVec;
+
+/// How many are in a transaction.
+pub(crate) fn outstanding(members: &[Option<u8>]) -> usize
+    requires { length members.now ≤ PLACES }
+    ensures count { result ≡ joined members.now }
+    ensures few { result ≤ length members.now }
+{
+    members.iter().filter(|member| member.is_some()).count()
+}
+
+/// Whether a block is in the group.
+pub(crate) fn contains(group: &[u32], b: u32) -> bool
+    ensures { result ≡ has group.now b }
+{
+    group.iter().any(|k| *k == b)
+}
+
+// One block more that a hart added.
+fn count_up(members: &mut [Option<u8>], hart: usize)
+    requires within { hart < length members.old }
+    requires room { HasRoom members.old hart }
+    ensures { members.new ≡ one_more members.old hart }
+{
+    if let Some(added) = members[hart] {
+        members[hart] = Some(added + 1);
+    }
+}
+
+/// A block into the group, once.
+pub(crate) fn add(
+    group: &mut ArrayVec<u32, MOST_LOGGED>,
+    members: &mut [Option<u8>],
+    hart: usize,
+    b: u32,
+)
+    requires within { hart < length members.old }
+    requires room { has group.old.items b ≡ false → HasRoom members.old hart × (length group.old.items < MOST_LOGGED) }
+    ensures group { group.new.items ≡ with_block group.old.items b }
+    ensures members { members.new ≡ members_with group.old.items b members.old hart }
+{
+    if !contains(group, b) {
+        group.push(b);
+        count_up(members, hart);
+    }
+}
