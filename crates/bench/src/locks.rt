@@ -1,9 +1,11 @@
 //! Sleep locks in a row.
+ghost use Rattle.sleep_lock.specs.Row.{IsNumbered};
+
 use crate::workload::WorkloadError;
 use sleep_lock::Slots;
 use std::alloc::Global;
 
-const OPERATIONS: u32 = 4_000_000;
+const ROUNDS: u32 = 80_000;
 const SLOTS: u32 = 50;
 const HART: u8 = 3;
 
@@ -13,19 +15,35 @@ pub fn lock_and_unlock(alloc: Global) -> Result<u64, WorkloadError> {
     for number in 0..SLOTS {
         values.push(Box::new(alloc, u64::from(number))?)?;
     }
-    let mut slots = Slots::new(alloc, values)?;
-    let mut number = 0u32;
-    let mut sum = 0u64;
-    for _ in 0..OPERATIONS {
-        if (number as usize) < slots.len() {
-            if let Some(guard) = slots.lock(HART, number) {
-                sum = sum.wrapping_add(**guard.value());
-                slots.unlock(guard);
-            }
-        }
-        number = (number + 1) % SLOTS;
+    if values.len() != SLOTS as usize {
+        return Err(WorkloadError::Wrong);
     }
-    let rounds = u64::from(OPERATIONS / SLOTS);
-    let each = u64::from(SLOTS * (SLOTS - 1) / 2);
-    if sum == rounds * each { Ok(u64::from(OPERATIONS)) } else { Err(WorkloadError::Wrong) }
+    let mut slots = Slots::new(alloc, values)?;
+    let mut sum = 0u64;
+    for _ in 0..ROUNDS {
+        for number in 0..SLOTS {
+            sum = sum.wrapping_add(touch(&mut slots, number));
+        }
+    }
+    let operations = u64::from(ROUNDS) * u64::from(SLOTS);
+    let expected = u64::from(ROUNDS) * u64::from(SLOTS * (SLOTS - 1) / 2);
+    if sum == expected { Ok(operations) } else { Err(WorkloadError::Wrong) }
+}
+
+// Locks a slot and unlocks it: its value, or 0 where it was not had.
+fn touch(slots: &mut Slots<Box<u64>>, number: u32) -> u64
+    requires { IsNumbered slots.old }
+    ensures { IsNumbered slots.new }
+{
+    if slots.len() <= number as usize {
+        return 0;
+    }
+    match slots.lock(HART, number) {
+        None => 0,
+        Some(guard) => {
+            let value = **guard.value();
+            slots.unlock(guard);
+            value
+        }
+    }
 }

@@ -2,6 +2,7 @@
 //! printed. With the word `--list` the names alone are printed.
 #![tactic(auto)]
 
+mod buffers;
 mod devices;
 mod locks;
 mod records;

@@ -1,5 +1,5 @@
 //! What is measured.
-use crate::{devices, locks, records};
+use crate::{buffers, devices, locks, records};
 use block_device::Fault;
 use std::alloc::{AllocError, Global};
 use thiserror::Error;
@@ -31,10 +31,11 @@ pub enum Workload {
     BitSet,
     BitTest,
     LockUnlock,
+    BufferGet,
 }
 
 /// All of them, in the order in which they run.
-pub const ALL: [Workload; 8] = [
+pub const ALL: [Workload; 9] = [
     Workload::DeviceRead,
     Workload::InodeRead,
     Workload::InodeWrite,
@@ -43,6 +44,7 @@ pub const ALL: [Workload; 8] = [
     Workload::BitSet,
     Workload::BitTest,
     Workload::LockUnlock,
+    Workload::BufferGet,
 ];
 
 impl Workload {
@@ -56,6 +58,7 @@ impl Workload {
             Workload::BitSet => "bit_set",
             Workload::BitTest => "bit_test",
             Workload::LockUnlock => "lock_and_unlock",
+            Workload::BufferGet => "buffer_get_and_release",
         }
     }
 
@@ -70,6 +73,7 @@ impl Workload {
             Workload::BitSet => records::set_bits(),
             Workload::BitTest => records::test_bits(),
             Workload::LockUnlock => locks::lock_and_unlock(alloc),
+            Workload::BufferGet => buffers::get_and_release(alloc),
         }
     }
 }

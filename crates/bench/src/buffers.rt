@@ -1,0 +1,44 @@
+//! Buffers over a disk in memory.
+use crate::workload::WorkloadError;
+use block_device::{BLOCK_SIZE, Device, MemoryDisk};
+use buffer_cache::{BUFFERS, BUFFERS_OF_A_HART, Buffer, Buffers, Cache, Got};
+use std::alloc::Global;
+
+const ROUNDS: u32 = 20_000;
+const HART: u8 = 1;
+
+/// Each cached block got and given back, the least recent one each time: one operation is both.
+pub fn get_and_release(alloc: Global) -> Result<u64, WorkloadError> {
+    let disk = MemoryDisk::new(vec![in alloc; 1; BUFFERS * BLOCK_SIZE]?);
+    let mut cache = Cache::new(Buffers::new(alloc)?, disk);
+    let mut count = 0u64;
+    let mut sum = 0u64;
+    for _ in 0..ROUNDS {
+        for b in 0..BUFFERS as u32 {
+            sum = sum.wrapping_add(touch(&mut cache, b));
+            count = count.wrapping_add(1);
+        }
+    }
+    let _ = cache.retire();
+    if sum == count { Ok(count) } else { Err(WorkloadError::Wrong) }
+}
+
+// Gets a block and gives it back: a byte of it, or 0 where it was not had.
+fn touch<D: Device>(cache: &mut Cache<D>, b: u32) -> u64 {
+    if cache.device().blocks() <= b || BUFFERS_OF_A_HART <= cache.held_by(HART) {
+        return 0;
+    }
+    match cache.get(HART, b) {
+        Got::Waits => 0,
+        Got::Held(mut guard) => {
+            let is_read = guard.value().is_valid() || cache.fill(&mut guard).is_ok();
+            let byte = if is_read { first_byte(guard.value()) } else { 0 };
+            cache.release(guard);
+            byte
+        }
+    }
+}
+
+fn first_byte(buffer: &Buffer) -> u64 {
+    if buffer.is_valid() { u64::from(buffer.bytes()[0]) } else { 0 }
+}
