@@ -29,7 +29,7 @@ fn touch<D: Device>(rt: &impl Abort, cache: &mut Cache<D>, hart: u8, b: u32) -> 
             if !valid {
                 assert!(rt; cache.fill(&mut guard).is_ok());
             }
-            assert_eq!(rt; guard.value().bytes()[7], b as u8);
+            assert_eq!(rt; guard.value().bytes()[7] as u32, b);
             cache.release(guard);
             valid
         }
@@ -81,6 +81,7 @@ fn a_fault_leaves_the_guard(rt: HostRuntime) {
                 }
                 let (retired, disk) = cache.retire();
                 assert_eq!(rt; disk.faults(), 1);
+                assert!(rt; (guard.number() as usize) < retired.count());
                 guard.retire_in_row(&retired);
             }
         }
@@ -138,6 +139,7 @@ fn what_is_recorded_is_seen_and_comes_home(rt: HostRuntime) {
             cache.release_changed(guard);
         }
     }
+    assert!(rt; cache.held_by(2) < BUFFERS_OF_A_HART);
     match cache.get(2, 9) {
         Got::Waits => panic!(rt; "nothing is out"),
         Got::Held(guard) => {
