@@ -157,8 +157,8 @@ get_laws disk hart b ss lt one sound = by_seat (seat_of b ss) refl
             | inr ne ↦ held_same ss (with_seat b (with_holder hart) ss) g (seat_with_other b g.value.block (with_holder hart) ss (λ _. refl) ne) held
           ];
           pins = keeps_with is_pinned b (with_holder hart) ss (λ _. refl) (λ s e. e);
-        recorded = keeps_with is_recorded b (with_holder hart) ss (λ _. refl) (λ s e. e);
-        seen = λ k. ap (λ (o : Option (List ℕ)). unwrap_or o (block_at disk k)) (kept_with b k (with_holder hart) ss (λ _. refl) (λ _. refl));
+          recorded = keeps_with is_recorded b (with_holder hart) ss (λ _. refl) (λ s e. e);
+          seen = λ k. ap (λ (o : Option (List ℕ)). unwrap_or o (block_at disk k)) (kept_with b k (with_holder hart) ss (λ _. refl) (λ _. refl));
         }
 
     by_seat : (o : Option SeatState) → seat_of b ss ≡ o → GetLaws disk hart b ss (get_by hart b ss o)
@@ -286,7 +286,7 @@ change_laws disk ss g bytes held is pinned sound =
       pins = λ k passes. back.pins k (keeps_with is_pinned b (with_content bytes) ss (λ _. refl) (λ t e. e) k passes);
       recorded = λ k passes. back.recorded k (keeps_with is_recorded b (with_content bytes) ss (λ _. refl) (λ t e. recorded_then t bytes e) k passes);
       block = back.recorded b (ap (λ (o : Option SeatState). option_map is_recorded o) (content_then ss b bytes s at.1)
-        ∙ ap (λ (t : Bool). Some (t && true)) (same_Some s.pinned true (ap (λ (o : Option SeatState). option_map is_pinned o) (sym at.1) ∙ pinned)));
+          ∙ ap (λ (t : Bool). Some (t && true)) (same_Some s.pinned true (ap (λ (o : Option SeatState). option_map is_pinned o) (sym at.1) ∙ pinned)));
       seen = λ k. back.seen k ∙ seen_content disk ss b k bytes s at.1;
     }
 

@@ -1,5 +1,5 @@
 use Rattle.std.proofs.Common.{ℕ, List, sym, ◌∙◌, ap, subst}
-use Rattle.buffer_cache.specs.Seats.{Keeps, is_recorded, is_pinned, IsRecorded, SeatState, seen, seen_in, IsHeld, KeepsOthers}
+use Rattle.buffer_cache.specs.Seats.{Keeps, is_recorded, is_pinned, SeatState, seen, seen_in, IsHeld, KeepsOthers}
 use Rattle.buffer_cache.proofs.Laws.{fill_either}
 use Rattle.buffer_cache.proofs.cache.Cache.fill.Goals as goal
 

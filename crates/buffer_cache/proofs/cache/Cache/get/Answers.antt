@@ -1,7 +1,7 @@
 use Rattle.std.proofs.Common.{◌≡◌, ◌≤◌, List, sym, ◌∙◌, ap, subst, IsSome}
 use Rattle.std.specs.Prelude.{◌↔◌, IfSome}
 use Rattle.buffer_cache.specs.Lists.{count_of}
-use Rattle.buffer_cache.specs.Seats.{Keeps, is_recorded, is_pinned, IsRecorded, SeatState, is_held_by, holder_of, seen, KeepsHeld}
+use Rattle.buffer_cache.specs.Seats.{Keeps, is_recorded, is_pinned, SeatState, is_held_by, holder_of, seen, KeepsHeld}
 use Rattle.buffer_cache.specs.Getting.{IfHeld}
 use Rattle.buffer_cache.specs.declared.got.Got.{Got}
 use Rattle.buffer_cache.specs.declared.got.Got.TheVariants.{Waits}

@@ -1,6 +1,6 @@
 use Rattle.std.proofs.Common.{◌≡◌, List, sym, ◌∙◌, ap, subst}
 use Rattle.std.specs.Prelude.{IfSome}
-use Rattle.buffer_cache.specs.Seats.{Keeps, is_recorded, is_pinned, IsRecorded, SeatState, seen, IsHeld, KeepsOthers}
+use Rattle.buffer_cache.specs.Seats.{Keeps, is_recorded, is_pinned, SeatState, seen, IsHeld, KeepsOthers}
 use Rattle.buffer_cache.proofs.Laws.{BackLaws, back_laws, unchanged_kept}
 use Rattle.buffer_cache.proofs.cache.Cache.release.Goals as goal
 
