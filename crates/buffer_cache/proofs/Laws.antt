@@ -11,13 +11,13 @@ use Rattle.block_device.specs.Blocks.{block_at}
 use Rattle.block_device.specs.BlockLaws.{block_at-set_same}
 use Rattle.buffer_cache.specs.Buffers.{BufferState}
 use Rattle.buffer_cache.specs.Lists.{first_of, change_first, count_of}
-use Rattle.buffer_cache.specs.Seats.{SeatState, is_held_by, is_pinned, is_free, seat_of, holder_of, kept, seen_in, with_seat, given_back, with_holder, with_content, with_pin, as_new, IsGuardOf, IsHeld, KeepsHeld, KeepsOthers, IsSound}
+use Rattle.buffer_cache.specs.Seats.{SeatState, has_block, without_holder, Passes, Keeps, IsPinned, IsRecorded, is_recorded, is_held_by, is_pinned, is_free, seat_of, holder_of, kept, seen_in, with_seat, given_back, with_holder, with_content, with_pin, as_new, IsGuardOf, IsHeld, KeepsHeld, KeepsOthers, IsSound}
 use Rattle.buffer_cache.specs.Getting.{get_of, get_by, get_new, guard_of, IfHeld}
 use Rattle.buffer_cache.specs.declared.got.Got.{Got}
 use Rattle.buffer_cache.specs.declared.got.Got.TheVariants.{Held, Waits}
 use Rattle.buffer_cache.proofs.Firsts.{pick}
 use Rattle.buffer_cache.proofs.Seated.{held_seat, held_unread}
-use Rattle.buffer_cache.proofs.Blocks.{seat_with_other, seat_with_here, seat_back_other, seat_new_here, seat_new_other, new_seen, kept_with, kept_back}
+use Rattle.buffer_cache.proofs.Blocks.{seat_back_here, seat_with_other, seat_with_here, seat_back_other, seat_new_here, seat_new_other, new_seen, kept_with, kept_back}
 use Rattle.buffer_cache.proofs.Sound.{sound_lent, sound_new, sound_back, sound_content}
 use Rattle.buffer_cache.proofs.Enough.{some_free}
 
@@ -41,12 +41,63 @@ taken t h e = ap (λ (o : Option ℕ). not t.pinned && is_none o) e ∙ never t.
     never true = refl
     never false = refl
 
+-- a test that a change of one seat leaves
+keeps_with : (p : SeatState → Bool) (b : ℕ) (f : SeatState → SeatState) (ss : List SeatState) → ((s : SeatState) → (f s).block ≡ s.block) → ((s : SeatState) → p s ≡ true → p (f s) ≡ true) → Keeps p ss (with_seat b f ss)
+keeps_with p b f ss same stays k passes = elim (cases_eq b k) [
+  | inl is ↦
+      let here : Passes p b ss = subst (λ (j : ℕ). Passes p j ss) (sym is) passes in
+      let seat_then : seat_of b (with_seat b f ss) ≡ option_map f (seat_of b ss) = seat_with_here b f ss same in
+      subst (λ (j : ℕ). Passes p j (with_seat b f ss)) is (ap (λ (o : Option SeatState). option_map p o) seat_then ∙ mapped (seat_of b ss) here)
+  | inr ne ↦ ap (λ (o : Option SeatState). option_map p o) (seat_with_other b k f ss same ne) ∙ passes
+]
+  where
+    mapped : (o : Option SeatState) → option_map p o ≡ Some true → option_map p (option_map f o) ≡ Some true
+    mapped None e = absurd (none-some true e)
+    mapped (Some s) e = ap (λ (t : Bool). Some t) (stays s (same_Some (p s) true e))
+
+keeps_back : (p : SeatState → Bool) (b : ℕ) (ss : List SeatState) → count_of (has_block b) ss ≤ 1 → ((s : SeatState) → p s ≡ true → p (without_holder s) ≡ true) → Keeps p ss (given_back b ss)
+keeps_back p b ss once stays k passes = elim (cases_eq b k) [
+  | inl is ↦
+      let here : Passes p b ss = subst (λ (j : ℕ). Passes p j ss) (sym is) passes in
+      subst (λ (j : ℕ). Passes p j (given_back b ss)) is (ap (λ (o : Option SeatState). option_map p o) (seat_back_here b ss once) ∙ mapped (seat_of b ss) here)
+  | inr ne ↦ ap (λ (o : Option SeatState). option_map p o) (seat_back_other b k ss ne) ∙ passes
+]
+  where
+    mapped : (o : Option SeatState) → option_map p o ≡ Some true → option_map p (option_map without_holder o) ≡ Some true
+    mapped None e = absurd (none-some true e)
+    mapped (Some s) e = ap (λ (t : Bool). Some t) (stays s (same_Some (p s) true e))
+
+keeps_new : (p : SeatState → Bool) (hart b : ℕ) (ss : List SeatState) → ((s : SeatState) → p s ≡ true → s.pinned ≡ true) → seat_of b ss ≡ None → Keeps p ss (change_first is_free (as_new hart b) ss)
+keeps_new p hart b ss pinned none k passes = by_seat (seat_of k ss) refl passes
+  where
+    by_seat : (o : Option SeatState) → seat_of k ss ≡ o → option_map p o ≡ Some true → Passes p k (change_first is_free (as_new hart b) ss)
+    by_seat None e f = absurd (none-some true f)
+    by_seat (Some s) e f = elim (cases_eq b k) [
+      | inl is ↦ absurd (none-some s (sym none ∙ ap (λ (j : ℕ). seat_of j ss) is ∙ e))
+      | inr ne ↦
+          let passing : p s ≡ true = same_Some (p s) true f in
+          let not_free : is_free s ≡ false = ap (λ (t : Bool). not t && is_none s.holder) (pinned s passing) in
+          ap (λ (o : Option SeatState). option_map p o) (seat_new_other hart b k ss s ne e not_free) ∙ f
+    ]
+
+recorded_pinned : (s : SeatState) → is_recorded s ≡ true → s.pinned ≡ true
+recorded_pinned s e = first s.pinned (is_some s.content) e
+  where
+    first : (a b : Bool) → (a && b) ≡ true → a ≡ true
+    first true b e = refl
+    first false b e = absurd (cc e)
+
+recorded_then : (s : SeatState) (bytes : List ℕ) → is_recorded s ≡ true → is_recorded (with_content bytes s) ≡ true
+recorded_then s bytes e = ap (λ (t : Bool). t && true) (recorded_pinned s e)
+
 pub record GetLaws (disk : List (List ℕ)) (hart b : ℕ) (old : List SeatState) (r : List SeatState × Got) : Type 0 where
   pub sound : IsSound disk r.0
   pub waits : (r.1 ≡ Waits) ↔ IsSome (holder_of b old)
   pub held : IfHeld r.1 (λ guard. (guard.hart ≡ hart) × (guard.value.block ≡ b) × IsHeld r.0 guard)
   pub bytes : IfHeld r.1 (λ guard. IfSome guard.value.content (λ bytes. bytes ≡ seen_in disk old b))
   pub others : KeepsHeld old r.0
+  pub pins : Keeps is_pinned old r.0
+  pub recorded : Keeps is_recorded old r.0
   pub seen : (k : ℕ) → seen_in disk r.0 k ≡ seen_in disk old k
 
 pub get_laws : (disk : List (List ℕ)) (hart b : ℕ) (ss : List SeatState) → hart < 8 → count_of (is_held_by hart) ss ≤ 1 → IsSound disk ss → GetLaws disk hart b ss (get_of hart b ss)
@@ -72,6 +123,8 @@ get_laws disk hart b ss lt one sound = by_seat (seat_of b ss) refl
             let at = held_seat ss g held in
             held_by (change_first is_free (as_new hart b) ss) g at.0 (seat_new_other hart b g.value.block ss at.0 ne at.1 (taken at.0 g.hart at.2.holder)) at.2
       ];
+      pins = keeps_new is_pinned hart b ss (λ s e. e) none;
+      recorded = keeps_new is_recorded hart b ss recorded_pinned none;
       seen = λ k. new_seen disk k hart b ss none (sound.once k) sound.clean;
     }
 
@@ -82,6 +135,8 @@ get_laws disk hart b ss lt one sound = by_seat (seat_of b ss) refl
       held = tt;
       bytes = tt;
       others = λ g held. held;
+      pins = λ k passes. passes;
+      recorded = λ k passes. passes;
       seen = λ k. refl;
     }
     by_holder s e None none =
@@ -101,6 +156,8 @@ get_laws disk hart b ss lt one sound = by_seat (seat_of b ss) refl
                 absurd (none-some g.hart (sym none ∙ ap (λ (x : SeatState). x.holder) (sym is_s) ∙ at.2.holder))
             | inr ne ↦ held_same ss (with_seat b (with_holder hart) ss) g (seat_with_other b g.value.block (with_holder hart) ss (λ _. refl) ne) held
           ];
+          pins = keeps_with is_pinned b (with_holder hart) ss (λ _. refl) (λ s e. e);
+          recorded = keeps_with is_recorded b (with_holder hart) ss (λ _. refl) (λ s e. e);
           seen = λ k. ap (λ (o : Option (List ℕ)). unwrap_or o (block_at disk k)) (kept_with b k (with_holder hart) ss (λ _. refl) (λ _. refl));
         }
 
@@ -114,6 +171,8 @@ pub record FillLaws (disk : List (List ℕ)) (b : ℕ) (old new : List SeatState
   pub held : IsHeld new g
   pub bytes : IfSome g.value.content (λ bytes. bytes ≡ seen_in disk new g.value.block)
   pub others : KeepsOthers b old new
+  pub pins : Keeps is_pinned old new
+  pub recorded : Keeps is_recorded old new
   pub seen : (k : ℕ) → seen_in disk new k ≡ seen_in disk old k
 
 others_with : (b : ℕ) (f : SeatState → SeatState) (ss : List SeatState) → ((s : SeatState) → (f s).block ≡ s.block) → KeepsOthers b ss (with_seat b f ss)
@@ -156,6 +215,8 @@ fill_laws disk ss g held unread sound =
       held = held_by (with_seat b (with_content bytes) ss) _ (with_content bytes s) (content_then ss b bytes s at.1) (record { number = at.2.number; holder = at.2.holder; valid = refl });
       bytes = sym (seen_as disk (with_seat b (with_content bytes) ss) b (Some bytes) (content_in (with_seat b (with_content bytes) ss) b (with_content bytes s) (content_then ss b bytes s at.1)));
       others = others_with b (with_content bytes) ss (λ _. refl);
+      pins = keeps_with is_pinned b (with_content bytes) ss (λ _. refl) (λ t e. e);
+      recorded = keeps_with is_recorded b (with_content bytes) ss (λ _. refl) (λ t e. recorded_then t bytes e);
       seen = λ k. seen_content disk ss b k bytes s at.1
           ∙ pick (k == b) (λ t. (k == b) ≡ t → (if t then bytes else seen_in disk ss k) ≡ seen_in disk ss k)
           (λ _ is. sym before ∙ ap (seen_in disk ss) (sym (equal k b is)))
@@ -170,12 +231,16 @@ fill_laws disk ss g held unread sound =
 pub record BackLaws (disk : List (List ℕ)) (b : ℕ) (old new : List SeatState) : Type 0 where
   pub sound : IsSound disk new
   pub others : KeepsOthers b old new
+  pub pins : Keeps is_pinned old new
+  pub recorded : Keeps is_recorded old new
   pub seen : (k : ℕ) → seen_in disk new k ≡ seen_in disk old k
 
 pub back_laws : (disk : List (List ℕ)) (ss : List SeatState) (b : ℕ) → IsSound disk ss → BackLaws disk b ss (given_back b ss)
 back_laws disk ss b sound = record {
   sound = sound_back disk ss b sound;
   others = λ g ne held. held_same ss (given_back b ss) g (seat_back_other b g.value.block ss (λ e. ne (sym e))) held;
+  pins = keeps_back is_pinned b ss (sound.once b) (λ s e. e);
+  recorded = keeps_back is_recorded b ss (sound.once b) (λ s e. e);
   seen = λ k. ap (λ (o : Option (List ℕ)). unwrap_or o (block_at disk k)) (kept_back b k ss (sound.once b));
 }
 
@@ -198,9 +263,12 @@ pub record ChangeLaws (disk : List (List ℕ)) (bytes : List ℕ) (g : GuardStat
   pub kept_then : g.value.content ≡ kept g.value.block middle
   pub sound : IsSound disk new
   pub others : KeepsOthers g.value.block old new
+  pub pins : Keeps is_pinned old new
+  pub recorded : Keeps is_recorded old new
+  pub block : IsRecorded g.value.block new
   pub seen : (k : ℕ) → seen_in disk new k ≡ (if k == g.value.block then bytes else seen_in disk old k)
 
-pub change_laws : (disk : List (List ℕ)) (ss : List SeatState) (g : GuardState BufferState) (bytes : List ℕ) → IsHeld ss g → g.value.content ≡ Some bytes → option_map is_pinned (seat_of g.value.block ss) ≡ Some true → IsSound disk ss
+pub change_laws : (disk : List (List ℕ)) (ss : List SeatState) (g : GuardState BufferState) (bytes : List ℕ) → IsHeld ss g → g.value.content ≡ Some bytes → IsPinned g.value.block ss → IsSound disk ss
     → (let middle = with_seat g.value.block (with_content bytes) ss in ChangeLaws disk bytes g ss middle (given_back g.value.block middle))
 change_laws disk ss g bytes held is pinned sound =
     let b = g.value.block in
@@ -215,6 +283,10 @@ change_laws disk ss g bytes held is pinned sound =
       kept_then = is ∙ sym (content_in middle b (with_content bytes s) (content_then ss b bytes s at.1));
       sound = back.sound;
       others = λ h ne h_held. back.others h ne (others_with b (with_content bytes) ss (λ _. refl) h ne h_held);
+      pins = λ k passes. back.pins k (keeps_with is_pinned b (with_content bytes) ss (λ _. refl) (λ t e. e) k passes);
+      recorded = λ k passes. back.recorded k (keeps_with is_recorded b (with_content bytes) ss (λ _. refl) (λ t e. recorded_then t bytes e) k passes);
+      block = back.recorded b (ap (λ (o : Option SeatState). option_map is_recorded o) (content_then ss b bytes s at.1)
+          ∙ ap (λ (t : Bool). Some (t && true)) (same_Some s.pinned true (ap (λ (o : Option SeatState). option_map is_pinned o) (sym at.1) ∙ pinned)));
       seen = λ k. back.seen k ∙ seen_content disk ss b k bytes s at.1;
     }
 
@@ -243,9 +315,9 @@ fill_either (Ok u) disk ss new g g_new held unread sound filled seats err =
     let laws = fill_laws disk ss g held unread sound in
     rw (filled, seats) laws
 fill_either (Err e) disk ss new g g_new held unread sound filled seats err =
-    rw (err.0, err.1) (record { sound = sound; held = held; bytes = subst (λ (o : Option (List ℕ)). IfSome o (λ bytes. bytes ≡ seen_in disk ss g.value.block)) (sym unread) tt; others = λ h _ h_held. h_held; seen = λ _. refl })
+    rw (err.0, err.1) (record { sound = sound; held = held; bytes = subst (λ (o : Option (List ℕ)). IfSome o (λ bytes. bytes ≡ seen_in disk ss g.value.block)) (sym unread) tt; others = λ h _ h_held. h_held; pins = λ _ passes. passes; recorded = λ _ passes. passes; seen = λ _. refl })
 
-pub change_some : (disk : List (List ℕ)) (ss middle : List SeatState) (g : GuardState BufferState) → IsHeld ss g → IsSome g.value.content → option_map is_pinned (seat_of g.value.block ss) ≡ Some true → IsSound disk ss
+pub change_some : (disk : List (List ℕ)) (ss middle : List SeatState) (g : GuardState BufferState) → IsHeld ss g → IsSome g.value.content → IsPinned g.value.block ss → IsSound disk ss
     → IfSome g.value.content (λ bytes. middle ≡ with_seat g.value.block (with_content bytes) ss)
     → ChangeLaws disk (unwrap_or g.value.content []) g ss middle (given_back g.value.block middle)
 change_some disk ss middle g held valid pinned sound is = by_content g.value.content refl valid is
@@ -279,3 +351,26 @@ pub home_then : {T E : Type 0} (r : Result T E) (disk new : List (List ℕ)) (ss
     → OnOk r (block_at new b ≡ seen_in new ss b)
 home_then (Ok t) disk new ss b bytes within keeps is = ap (λ (d : List (List ℕ)). block_at d b) is ∙ block_at-set_same disk b bytes within ∙ sym (seen_as new ss b (Some bytes) keeps)
 home_then (Err e) disk new ss b bytes within keeps is = is
+
+pub pin_pins : (ss : List SeatState) (b : ℕ) → Keeps is_pinned ss (with_seat b (with_pin true) ss)
+pin_pins ss b = keeps_with is_pinned b (with_pin true) ss (λ _. refl) (λ _ _. refl)
+
+pub pin_recorded : (ss : List SeatState) (b : ℕ) → Keeps is_recorded ss (with_seat b (with_pin true) ss)
+pin_recorded ss b = keeps_with is_recorded b (with_pin true) ss (λ _. refl) valid_then
+  where
+    valid_then : (s : SeatState) → is_recorded s ≡ true → is_some s.content ≡ true
+    valid_then s e = second s.pinned (is_some s.content) e
+      where
+        second : (a b : Bool) → (a && b) ≡ true → b ≡ true
+        second true b e = e
+        second false b e = absurd (cc e)
+
+pub pin_block : (ss : List SeatState) (b : ℕ) → IsSome (seat_of b ss) → IsPinned b (with_seat b (with_pin true) ss)
+pin_block ss b cached = ap (λ (o : Option SeatState). option_map is_pinned o) (seat_with_here b (with_pin true) ss (λ _. refl)) ∙ mapped (seat_of b ss) cached
+  where
+    mapped : (o : Option SeatState) → IsSome o → option_map is_pinned (option_map (with_pin true) o) ≡ Some true
+    mapped None e = absurd (cc e)
+    mapped (Some s) e = refl
+
+pub unpin_others : (p : SeatState → Bool) (ss : List SeatState) (b k : ℕ) → k ≢ b → Passes p k ss → Passes p k (with_seat b (with_pin false) ss)
+unpin_others p ss b k ne passes = ap (λ (o : Option SeatState). option_map p o) (seat_with_other b k (with_pin false) ss (λ _. refl) (λ e. ne (sym e))) ∙ passes

@@ -1,6 +1,6 @@
 -- The buffers of a cache, in order of giving back: the first was given back least recently.
-use Rattle.std.specs.Prelude.{◌≡◌, ◌≢◌, ℕ, zero, suc, ◌+◌, ◌<◌, ◌≤◌, List, [], ◌∷◌, length, Bool, false, not, ◌&&◌, ◌==◌, Option, Some, None, is_some, is_none}
-use Rattle.std.specs.Option.{MatchOption, option_and_then, unwrap_or}
+use Rattle.std.specs.Prelude.{◌≡◌, ◌≢◌, ℕ, zero, suc, ◌+◌, ◌<◌, ◌≤◌, List, [], ◌∷◌, length, Bool, true, false, not, ◌&&◌, ◌==◌, Option, Some, None, is_some, is_none}
+use Rattle.std.specs.Option.{MatchOption, option_map, option_and_then, unwrap_or}
 use Rattle.sleep_lock.specs.SleepLock.{GuardState}
 use Rattle.block_device.specs.Blocks.{block_at}
 use Rattle.buffer_cache.specs.Buffers.{BufferState}
@@ -69,6 +69,24 @@ unused_from n (suc count) = unused n ∷ unused_from (n + 1) count
 -- a block's buffer
 abbrev pub seat_of : ℕ → List SeatState → Option SeatState
 seat_of b seats = first_of (has_block b) seats
+
+-- a block's buffer is there, and passes
+abbrev pub Passes : (SeatState → Bool) → ℕ → List SeatState → Type 0
+Passes p b seats = option_map p (seat_of b seats) ≡ Some true
+
+-- a block's buffer is pinned; and, pinned, it is valid too, as a recorded one is
+abbrev pub IsPinned : ℕ → List SeatState → Type 0
+IsPinned b seats = Passes is_pinned b seats
+
+abbrev pub is_recorded : SeatState → Bool
+is_recorded s = s.pinned && is_some s.content
+
+abbrev pub IsRecorded : ℕ → List SeatState → Type 0
+IsRecorded b seats = Passes is_recorded b seats
+
+-- buffers that pass go on to
+abbrev pub Keeps : (SeatState → Bool) → List SeatState → List SeatState → Type 0
+Keeps p old new = (k : ℕ) → Passes p k old → Passes p k new
 
 -- the hart that has a block's buffer in its hand
 abbrev pub holder_of : ℕ → List SeatState → Option ℕ

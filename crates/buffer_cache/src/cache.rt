@@ -5,7 +5,7 @@ ghost use Rattle.sleep_lock.specs.SleepLock.{GuardState};
 ghost use Rattle.block_device.specs.Blocks.{block_at, faults_after};
 ghost use Rattle.buffer_cache.specs.Buffers.{BufferState};
 ghost use Rattle.buffer_cache.specs.Lists.{count_of};
-ghost use Rattle.buffer_cache.specs.Seats.{is_held_by, is_pinned, seat_of, holder_of, kept, IsHeld, KeepsHeld, KeepsOthers, with_seat, with_content, with_pin, given_back, unused_from};
+ghost use Rattle.buffer_cache.specs.Seats.{is_held_by, is_pinned, is_recorded, IsPinned, IsRecorded, Keeps, seat_of, holder_of, kept, IsHeld, KeepsHeld, KeepsOthers, with_seat, with_content, with_pin, given_back, unused_from};
 
 use crate::buffer::Buffer;
 use crate::buffers::Buffers;
@@ -88,6 +88,8 @@ impl<D: Device> Cache<D> {
 
         // All else is as it was.
         ensures others { KeepsHeld self.old.seats self.new.seats }
+        ensures pins { Keeps is_pinned self.old.seats self.new.seats }
+        ensures recorded { Keeps is_recorded self.old.seats self.new.seats }
         ensures device { self.new.device ≡ self.old.device }
         ensures seen { (k : ℕ) → seen D.contents self.new k ≡ seen D.contents self.old k }
     {
@@ -113,6 +115,8 @@ impl<D: Device> Cache<D> {
         ensures held_on { IsHeld self.new.seats guard.new }
         ensures bytes { IfSome guard.new.value.content (λ bytes. bytes ≡ seen D.contents self.new guard.new.value.block) }
         ensures others { KeepsOthers guard.old.value.block self.old.seats self.new.seats }
+        ensures pins { Keeps is_pinned self.old.seats self.new.seats }
+        ensures recorded { Keeps is_recorded self.old.seats self.new.seats }
         ensures contents { D.contents self.new.device ≡ D.contents self.old.device }
         ensures faults { D.failures self.new.device ≡ faults_after result (D.failures self.old.device) }
         ensures seen { (k : ℕ) → seen D.contents self.new k ≡ seen D.contents self.old k }
@@ -126,6 +130,8 @@ impl<D: Device> Cache<D> {
         requires unchanged { IfSome guard.value.content (λ bytes. bytes ≡ seen D.contents self.old guard.value.block) }
         ensures seats { self.new.seats ≡ given_back guard.value.block self.old.seats }
         ensures others { KeepsOthers guard.value.block self.old.seats self.new.seats }
+        ensures pins { Keeps is_pinned self.old.seats self.new.seats }
+        ensures recorded { Keeps is_recorded self.old.seats self.new.seats }
         ensures device { self.new.device ≡ self.old.device }
         ensures seen { (k : ℕ) → seen D.contents self.new k ≡ seen D.contents self.old k }
     {
@@ -137,10 +143,13 @@ impl<D: Device> Cache<D> {
     pub fn release_changed(&mut self, guard: Guard<Buffer>)
         requires held { IsHeld self.old.seats guard }
         requires valid { IsSome guard.value.content }
-        requires pinned { option_map is_pinned (seat_of guard.value.block self.old.seats) ≡ Some true }
+        requires pinned { IsPinned guard.value.block self.old.seats }
         ensures seats { IfSome guard.value.content (λ bytes.
             self.new.seats ≡ given_back guard.value.block (with_seat guard.value.block (with_content bytes) self.old.seats)) }
+        ensures block { IsRecorded guard.value.block self.new.seats }
         ensures others { KeepsOthers guard.value.block self.old.seats self.new.seats }
+        ensures pins { Keeps is_pinned self.old.seats self.new.seats }
+        ensures recorded { Keeps is_recorded self.old.seats self.new.seats }
         ensures device { self.new.device ≡ self.old.device }
         ensures seen { (k : ℕ) → seen D.contents self.new k
             ≡ (if k == guard.value.block then unwrap_or guard.value.content [] else seen D.contents self.old k) }
@@ -152,9 +161,12 @@ impl<D: Device> Cache<D> {
     /// Pins a block's buffer: until its pin is given back it isn't taken for another block.
     pub fn pin(&mut self, b: u32)
         requires cached { IsSome (seat_of b self.old.seats) }
-        requires room { (option_map is_pinned (seat_of b self.old.seats) ≡ Some true) ⊎ (count_of is_pinned self.old.seats < MOST_PINNED) }
+        requires room { IsPinned b self.old.seats ⊎ (count_of is_pinned self.old.seats < MOST_PINNED) }
         ensures seats { self.new.seats ≡ with_seat b (with_pin true) self.old.seats }
+        ensures pinned { IsPinned b self.new.seats }
         ensures others { KeepsHeld self.old.seats self.new.seats }
+        ensures pins { Keeps is_pinned self.old.seats self.new.seats }
+        ensures recorded { Keeps is_recorded self.old.seats self.new.seats }
         ensures device { self.new.device ≡ self.old.device }
         ensures seen { (k : ℕ) → seen D.contents self.new k ≡ seen D.contents self.old k }
     {
@@ -167,6 +179,8 @@ impl<D: Device> Cache<D> {
         requires home { block_at (D.contents self.old.device) b ≡ seen D.contents self.old b }
         ensures seats { self.new.seats ≡ with_seat b (with_pin false) self.old.seats }
         ensures others { KeepsHeld self.old.seats self.new.seats }
+        ensures pins { (k : ℕ) → k ≢ b → IsPinned k self.old.seats → IsPinned k self.new.seats }
+        ensures recorded { (k : ℕ) → k ≢ b → IsRecorded k self.old.seats → IsRecorded k self.new.seats }
         ensures device { self.new.device ≡ self.old.device }
         ensures seen { (k : ℕ) → seen D.contents self.new k ≡ seen D.contents self.old k }
     {

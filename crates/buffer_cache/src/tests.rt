@@ -29,7 +29,7 @@ fn touch<D: Device>(rt: &impl Abort, cache: &mut Cache<D>, hart: u8, b: u32) -> 
             if !valid {
                 assert!(rt; cache.fill(&mut guard).is_ok());
             }
-            assert_eq!(rt; guard.value().bytes()[7], b as u8);
+            assert_eq!(rt; guard.value().bytes()[7] as u32, b);
             cache.release(guard);
             valid
         }
@@ -81,6 +81,7 @@ fn a_fault_leaves_the_guard(rt: HostRuntime) {
                 }
                 let (retired, disk) = cache.retire();
                 assert_eq!(rt; disk.faults(), 1);
+                assert!(rt; (guard.number() as usize) < retired.count());
                 guard.retire_in_row(&retired);
             }
         }
@@ -138,6 +139,7 @@ fn what_is_recorded_is_seen_and_comes_home(rt: HostRuntime) {
             cache.release_changed(guard);
         }
     }
+    assert!(rt; cache.held_by(2) < BUFFERS_OF_A_HART);
     match cache.get(2, 9) {
         Got::Waits => panic!(rt; "nothing is out"),
         Got::Held(guard) => {
@@ -154,7 +156,10 @@ fn what_is_recorded_is_seen_and_comes_home(rt: HostRuntime) {
         }
     }
     assert_eq!(rt; cache.pinned(), 0);
-    assert!(rt; !cache.is_cached(50) && 50 < cache.device().blocks());
+    if cache.is_cached(50) {
+        panic!(rt; "no hart asked for it");
+    }
+    assert!(rt; 50 < cache.device().blocks());
     assert!(rt; cache.write_uncached(50, &[3; BLOCK_SIZE]).is_ok());
     let (_retired, mut disk) = cache.retire();
     for (b, byte) in [(9, 200), (50, 3), (51, 51)] {

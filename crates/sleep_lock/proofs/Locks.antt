@@ -55,15 +55,15 @@ unfolding unlocked
 numbered_unlocked slots g numbered = numbered_set slots g.number _ refl numbered
 
 -- a lock tried: what others hold stays out, the numbers stay, and what is taken is out in the hart's hand
-pub record LockLaws {T : Type 0} (hart : ℕ) (old : List (SlotState T)) (r : List (SlotState T) × Option (GuardState T)) : Type 0 where
+pub record LockLaws {T : Type 0} (number hart : ℕ) (old : List (SlotState T)) (r : List (SlotState T) × Option (GuardState T)) : Type 0 where
   pub others : LeavesOthers hart old r.0
   pub numbered : IsNumbered old → IsNumbered r.0
   pub length_same : length r.0 ≡ length old
-  pub out : IsNumbered old → (g : GuardState T) → r.1 ≡ Some g → (g.hart ≡ hart) × IsOut r.0 g
+  pub out : IsNumbered old → (g : GuardState T) → r.1 ≡ Some g → (g.number ≡ number) × (g.hart ≡ hart) × IsOut r.0 g
 
 laws_at : {T : Type 0} (slots : List (SlotState T)) (number hart n : ℕ) (o : Option T) (h : Option ℕ)
     → (let s : SlotState T = record { number = n; inside = o; holder = h } in
-    slice_get slots number ≡ Some s → LockLaws hart slots (slice_set slots number (taken s hart), guard_of s hart))
+    slice_get slots number ≡ Some s → LockLaws number hart slots (slice_set slots number (taken s hart), guard_of s hart))
 unfolding IsNumbered IsOut
 laws_at {T} slots number hart n None h e =
     let s : SlotState T = record { number = n; inside = None; holder = h } in
@@ -83,17 +83,17 @@ laws_at {T} slots number hart n (Some v) h e =
       length_same = length-set slots number left;
       out = λ old g is.
           let same : record { number = n; hart = hart; value = v } ≡ g = same_Some _ _ is in
-          let P : GuardState T → Type 0 = λ w. (w.hart ≡ hart) × IsOut (slice_set slots number left) w in
-          subst P same (refl, ap (slice_get (slice_set slots number left)) (old number s e) ∙ slice_get-set_same slots number left (slice_get_within slots number s e));
+          let P : GuardState T → Type 0 = λ w. (w.number ≡ number) × (w.hart ≡ hart) × IsOut (slice_set slots number left) w in
+          subst P same (old number s e, refl, ap (slice_get (slice_set slots number left)) (old number s e) ∙ slice_get-set_same slots number left (slice_get_within slots number s e));
     }
 
 laws_of : {T : Type 0} (slots : List (SlotState T)) (number hart : ℕ) (o : Option (SlotState T)) → slice_get slots number ≡ o
-    → LockLaws hart slots (lock_at slots number hart o)
+    → LockLaws number hart slots (lock_at slots number hart o)
 laws_of slots number hart None e =
     record { others = others_same hart slots; numbered = λ old. old; length_same = refl; out = λ old g is. absurd (none-some g is) }
 laws_of slots number hart (Some s) e = laws_at slots number hart s.number s.inside s.holder e
 
-pub lock_laws : {T : Type 0} (slots : List (SlotState T)) (number hart : ℕ) → LockLaws hart slots (lock_of slots number hart)
+pub lock_laws : {T : Type 0} (slots : List (SlotState T)) (number hart : ℕ) → LockLaws number hart slots (lock_of slots number hart)
 unfolding lock_of
 lock_laws slots number hart = laws_of slots number hart (slice_get slots number) refl
 
@@ -116,3 +116,7 @@ pub row_of-push : {T : Type 0} (n : ℕ) (values : List T) (v : T) → row_of n 
 row_of-push n [] v = ap (λ (k : ℕ). filled k v ∷ []) (sym (add-zero n))
 row_of-push n (w ∷ ws) v =
     ap (λ ss. filled n w ∷ ss) (row_of-push (n + 1) ws v ∙ ap (λ (k : ℕ). row_of (n + 1) ws ++ filled k v ∷ []) (let e : n + 1 + length ws ≡ n + suc (length ws) = omega arith in e))
+
+pub length-row_of : {T : Type 0} (n : ℕ) (values : List T) → length (row_of n values) ≡ length values
+length-row_of n [] = refl
+length-row_of n (v ∷ vs) = ap suc (length-row_of (n + 1) vs)

@@ -56,6 +56,7 @@ impl<T> Slots<T> {
         requires { length values.items ≤ 2 ^ 32 }
         ensures row { IfOk result (λ slots. slots ≡ row_of 0 values.items) }
         ensures numbered { IfOk result (λ slots. IsNumbered slots) }
+        ensures count { IfOk result (λ slots. length slots ≡ length values.items) }
     {
         let mut items = Vec::with_capacity(alloc, values.len())?;
         let mut number: u64 = 0;
@@ -88,7 +89,8 @@ impl<T> Slots<T> {
         ensures gives { (self.new, result) ≡ lock_of self.old number hart }
         ensures others { LeavesOthers hart self.old self.new }
         ensures numbered { IsNumbered self.old → IsNumbered self.new }
-        ensures out { IsNumbered self.old → IfSome result (λ guard. IsOut self.new guard) }
+        ensures count { length self.new ≡ length self.old }
+        ensures out { IsNumbered self.old → IfSome result (λ guard. (guard.number ≡ number) × (guard.hart ≡ hart) × IsOut self.new guard) }
     {
         self.at(number).try_take(hart)
     }
@@ -100,6 +102,7 @@ impl<T> Slots<T> {
         ensures slots { self.new ≡ unlocked self.old guard }
         ensures others { LeavesOthers guard.hart self.old self.new }
         ensures numbered { IsNumbered self.old → IsNumbered self.new }
+        ensures count { length self.new ≡ length self.old }
     {
         self.at(guard.number()).put(guard);
     }

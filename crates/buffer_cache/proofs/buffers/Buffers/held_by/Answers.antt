@@ -1,5 +1,5 @@
 use Rattle.std.proofs.Common.{◌∙◌}
-use Rattle.buffer_cache.specs.Seats.{is_held_by, is_pinned}
+use Rattle.buffer_cache.specs.Seats.{is_held_by}
 use Rattle.buffer_cache.proofs.Firsts.{counted_in}
 use Rattle.buffer_cache.proofs.buffers.Buffers.held_by.Goals as goal
 

@@ -1,4 +1,4 @@
-use Rattle.std.proofs.Common.{◌≡◌, List, Option, ℕ, ◌∙◌, ap, is_some}
+use Rattle.std.proofs.Common.{List, Option, ℕ, ◌∙◌, ap, is_some}
 use Rattle.std.specs.List.{position}
 use Rattle.buffer_cache.specs.Seats.{SeatState, has_block}
 use Rattle.buffer_cache.proofs.Firsts.{placed}

@@ -1,5 +1,5 @@
 use Rattle.std.proofs.Common.{ℕ, List, sym, ◌∙◌, ap, subst}
-use Rattle.buffer_cache.specs.Seats.{SeatState, seen, seen_in, IsHeld, KeepsOthers}
+use Rattle.buffer_cache.specs.Seats.{Keeps, is_recorded, is_pinned, SeatState, seen, seen_in, IsHeld, KeepsOthers}
 use Rattle.buffer_cache.proofs.Laws.{fill_either}
 use Rattle.buffer_cache.proofs.cache.Cache.fill.Goals as goal
 
@@ -42,3 +42,19 @@ returns-clause-seen g c k =
     let held = subst (λ v. IsHeld v.seats c.args.guard.now) (sym c.self.view_is) c.requires.held in
     let laws = fill_either c.fill.result disk ss c.fill.new.self c.args.guard.now c.fill.new.guard held c.requires.unread c.self.invariant c.fill.ensures.ok c.fill.ensures.seats c.fill.ensures.err in
     ap (λ (d : List (List ℕ)). seen_in d c.fill.new.self k) c.fill.ensures.contents ∙ laws.seen k ∙ ap (λ v. seen g.D.Device.contents v k) c.self.view_is
+
+pub returns-clause-pins : goal.returns-clause-pins
+returns-clause-pins g c =
+    let disk = g.D.Device.contents c.self.inside.device in
+    let ss : List SeatState = c.self.inside.buffers in
+    let held = subst (λ v. IsHeld v.seats c.args.guard.now) (sym c.self.view_is) c.requires.held in
+    let laws = fill_either c.fill.result disk ss c.fill.new.self c.args.guard.now c.fill.new.guard held c.requires.unread c.self.invariant c.fill.ensures.ok c.fill.ensures.seats c.fill.ensures.err in
+    subst (λ v. Keeps is_pinned v.seats c.fill.new.self) c.self.view_is laws.pins
+
+pub returns-clause-recorded : goal.returns-clause-recorded
+returns-clause-recorded g c =
+    let disk = g.D.Device.contents c.self.inside.device in
+    let ss : List SeatState = c.self.inside.buffers in
+    let held = subst (λ v. IsHeld v.seats c.args.guard.now) (sym c.self.view_is) c.requires.held in
+    let laws = fill_either c.fill.result disk ss c.fill.new.self c.args.guard.now c.fill.new.guard held c.requires.unread c.self.invariant c.fill.ensures.ok c.fill.ensures.seats c.fill.ensures.err in
+    subst (λ v. Keeps is_recorded v.seats c.fill.new.self) c.self.view_is laws.recorded

@@ -1,9 +1,9 @@
-use Rattle.std.proofs.Common.{◌≡◌, ◌<◌, ◌⊎◌, List, sym, ◌∙◌, ap, subst, Some, true}
+use Rattle.std.proofs.Common.{◌≡◌, IsSome, ◌<◌, ◌⊎◌, List, sym, ◌∙◌, ap, subst, Some, true}
 use Rattle.std.specs.Option.{option_map}
 use Rattle.buffer_cache.specs.Lists.{count_of}
-use Rattle.buffer_cache.specs.Seats.{SeatState, is_pinned, seat_of, seen, seen_in, KeepsHeld, IsSound}
+use Rattle.buffer_cache.specs.Seats.{Keeps, is_recorded, IsPinned, SeatState, is_pinned, seat_of, seen, seen_in, KeepsHeld, IsSound}
 use Rattle.buffer_cache.proofs.Sound.{sound_pin}
-use Rattle.buffer_cache.proofs.Laws.{pin_keeps, pin_seen}
+use Rattle.buffer_cache.proofs.Laws.{pin_block, pin_pins, pin_recorded, pin_keeps, pin_seen}
 use Rattle.buffer_cache.proofs.cache.Cache.pin.Goals as goal
 
 pub invariant_of-self : goal.invariant_of-self
@@ -21,3 +21,18 @@ pub returns-clause-seen : goal.returns-clause-seen
 returns-clause-seen g c k =
     let disk = g.D.Device.contents c.self.inside.device in
     ap (λ (l : List SeatState). seen_in disk l k) c.set_pinned.ensures ∙ pin_seen disk c.self.inside.buffers c.args.b true k ∙ ap (λ v. seen g.D.Device.contents v k) c.self.view_is
+
+pub returns-clause-pinned : goal.returns-clause-pinned
+returns-clause-pinned g c =
+    let cached = subst (λ v. IsSome (seat_of c.args.b v.seats)) (sym c.self.view_is) c.requires.cached in
+    subst (λ (l : List SeatState). IsPinned c.args.b l) (sym c.set_pinned.ensures) (pin_block c.self.inside.buffers c.args.b cached)
+
+pub returns-clause-pins : goal.returns-clause-pins
+returns-clause-pins g c =
+    let keeps = subst (λ (l : List SeatState). Keeps is_pinned c.self.inside.buffers l) (sym c.set_pinned.ensures) (pin_pins c.self.inside.buffers c.args.b) in
+    subst (λ v. Keeps is_pinned v.seats c.set_pinned.new.self) c.self.view_is keeps
+
+pub returns-clause-recorded : goal.returns-clause-recorded
+returns-clause-recorded g c =
+    let keeps = subst (λ (l : List SeatState). Keeps is_recorded c.self.inside.buffers l) (sym c.set_pinned.ensures) (pin_recorded c.self.inside.buffers c.args.b) in
+    subst (λ v. Keeps is_recorded v.seats c.set_pinned.new.self) c.self.view_is keeps

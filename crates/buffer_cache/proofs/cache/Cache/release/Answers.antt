@@ -1,6 +1,6 @@
 use Rattle.std.proofs.Common.{◌≡◌, List, sym, ◌∙◌, ap, subst}
 use Rattle.std.specs.Prelude.{IfSome}
-use Rattle.buffer_cache.specs.Seats.{SeatState, seen, IsHeld, KeepsOthers}
+use Rattle.buffer_cache.specs.Seats.{Keeps, is_recorded, is_pinned, SeatState, seen, IsHeld, KeepsOthers}
 use Rattle.buffer_cache.proofs.Laws.{BackLaws, back_laws, unchanged_kept}
 use Rattle.buffer_cache.proofs.cache.Cache.release.Goals as goal
 
@@ -30,3 +30,17 @@ returns-clause-seen g c k =
     let ss : List SeatState = c.self.inside.buffers in
     let laws : BackLaws disk c.args.guard.value.block ss c.release.new.self = subst (λ (l : List SeatState). BackLaws disk c.args.guard.value.block ss l) (sym c.release.ensures) (back_laws disk ss c.args.guard.value.block c.self.invariant) in
     laws.seen k ∙ ap (λ v. seen g.D.Device.contents v k) c.self.view_is
+
+pub returns-clause-pins : goal.returns-clause-pins
+returns-clause-pins g c =
+    let disk = g.D.Device.contents c.self.inside.device in
+    let ss : List SeatState = c.self.inside.buffers in
+    let laws : BackLaws disk c.args.guard.value.block ss c.release.new.self = subst (λ (l : List SeatState). BackLaws disk c.args.guard.value.block ss l) (sym c.release.ensures) (back_laws disk ss c.args.guard.value.block c.self.invariant) in
+    subst (λ v. Keeps is_pinned v.seats c.release.new.self) c.self.view_is laws.pins
+
+pub returns-clause-recorded : goal.returns-clause-recorded
+returns-clause-recorded g c =
+    let disk = g.D.Device.contents c.self.inside.device in
+    let ss : List SeatState = c.self.inside.buffers in
+    let laws : BackLaws disk c.args.guard.value.block ss c.release.new.self = subst (λ (l : List SeatState). BackLaws disk c.args.guard.value.block ss l) (sym c.release.ensures) (back_laws disk ss c.args.guard.value.block c.self.invariant) in
+    subst (λ v. Keeps is_recorded v.seats c.release.new.self) c.self.view_is laws.recorded

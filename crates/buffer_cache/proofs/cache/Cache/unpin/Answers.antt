@@ -1,8 +1,8 @@
 use Rattle.std.proofs.Common.{◌≡◌, List, sym, ◌∙◌, ap, subst, false}
 use Rattle.block_device.specs.Blocks.{block_at}
-use Rattle.buffer_cache.specs.Seats.{SeatState, seen, seen_in, KeepsHeld, IsSound}
+use Rattle.buffer_cache.specs.Seats.{is_recorded, is_pinned, IsPinned, IsRecorded, SeatState, seen, seen_in, KeepsHeld, IsSound}
 use Rattle.buffer_cache.proofs.Sound.{sound_unpin}
-use Rattle.buffer_cache.proofs.Laws.{pin_keeps, pin_seen}
+use Rattle.buffer_cache.proofs.Laws.{unpin_others, pin_keeps, pin_seen}
 use Rattle.buffer_cache.proofs.cache.Cache.unpin.Goals as goal
 
 pub invariant_of-self : goal.invariant_of-self
@@ -20,3 +20,13 @@ pub returns-clause-seen : goal.returns-clause-seen
 returns-clause-seen g c k =
     let disk = g.D.Device.contents c.self.inside.device in
     ap (λ (l : List SeatState). seen_in disk l k) c.set_pinned.ensures ∙ pin_seen disk c.self.inside.buffers c.args.b false k ∙ ap (λ v. seen g.D.Device.contents v k) c.self.view_is
+
+pub returns-clause-pins : goal.returns-clause-pins
+returns-clause-pins g c k ne pinned =
+    let before = subst (λ v. IsPinned k v.seats) (sym c.self.view_is) pinned in
+    subst (λ (l : List SeatState). IsPinned k l) (sym c.set_pinned.ensures) (unpin_others is_pinned c.self.inside.buffers c.args.b k ne before)
+
+pub returns-clause-recorded : goal.returns-clause-recorded
+returns-clause-recorded g c k ne recorded =
+    let before = subst (λ v. IsRecorded k v.seats) (sym c.self.view_is) recorded in
+    subst (λ (l : List SeatState). IsRecorded k l) (sym c.set_pinned.ensures) (unpin_others is_recorded c.self.inside.buffers c.args.b k ne before)

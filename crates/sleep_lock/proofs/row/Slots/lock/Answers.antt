@@ -11,10 +11,11 @@ returns g c =
     let new : List (SlotState g.row.T.Denot) × Option (GuardState g.row.T.Denot) = (slice_set old c.args.number c.try_take.new.self, c.try_take.result) in
     let gives : new ≡ lock_of old c.args.number c.args.hart =
     rw (c.try_take.ensures.guard, c.try_take.ensures.slot) (lock_gives _ _ _ c.at.result.now c.at.ensures.value) in
-    let laws : LockLaws c.args.hart old new = subst (LockLaws c.args.hart old) (sym gives) (lock_laws old c.args.number c.args.hart) in
+    let laws : LockLaws c.args.number c.args.hart old new = subst (LockLaws c.args.number c.args.hart old) (sym gives) (lock_laws old c.args.number c.args.hart) in
     record {
       gives = gives;
       others = laws.others;
       numbered = laws.numbered;
-      out = λ numbered. IfSome_each c.try_take.result (λ guard is. (laws.out numbered guard is).1);
+      count = laws.length_same;
+      out = λ numbered. IfSome_each c.try_take.result (λ guard is. laws.out numbered guard is);
     }

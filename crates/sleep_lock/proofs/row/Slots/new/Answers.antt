@@ -1,6 +1,8 @@
 use Rattle.std.proofs.Common.{rules, refl, length-append, append_assoc, ◌+◌, ◌≡◌, ap, ◌∙◌, sym, arith, ◌∷◌, [], length, ℕ}
+use Rattle.std.proofs.lemmas.Grind.{common_steps}
+use Rattle.sleep_lock.specs.Row.{row_of}
 use Rattle.sleep_lock.specs.SleepLock.{filled}
-use Rattle.sleep_lock.proofs.Locks.{numbered_row, row_of-push}
+use Rattle.sleep_lock.proofs.Locks.{numbered_row, row_of-push, length-row_of}
 use Rattle.sleep_lock.proofs.row.Slots.new.Goals as goal
 
 pub loop-value-preserved : goal.loop-value-preserved
@@ -16,3 +18,8 @@ loop-value-preserved g c =
 
 pub returns-clause-numbered : goal.returns-clause-numbered
 returns-clause-numbered g c = rw c.loop-value.invariant.row (numbered_row c.loop-value.yielded)
+
+pub returns-clause-count : goal.returns-clause-count
+returns-clause-count g c =
+    let row : c.loop-value.items.items ≡ row_of 0 c.args.values.items = grind (arith, common_steps) in
+    ap (λ ss. length ss) row ∙ length-row_of 0 c.args.values.items
