@@ -1,5 +1,6 @@
 pub mod PathLemmas
 pub mod SlotLemmas
+pub mod FileLemmas
 pub mod TreeLemmas
 pub mod ReadLemmas
 pub mod SettleLemmas

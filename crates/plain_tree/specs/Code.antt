@@ -1,9 +1,10 @@
 -- Words in which the code's parts are promised.
-use Rattle.std.specs.Prelude.{ℕ, ◌≡◌, ◌<◌, ◌++◌, length, slice_index_or, slice_set, Bool, List, [], ◌∷◌, take, nat_lt, if◌then◌else◌, Option, Some, None}
+use Rattle.std.specs.Prelude.{ℕ, ◌≡◌, ◌==◌, true, false, ◌<◌, ◌++◌, length, slice_index_or, slice_set, Bool, List, [], ◌∷◌, take, nat_lt, if◌then◌else◌, Option, Some, None}
 use Rattle.plain_tree.specs.declared.node.Slot.{Slot}
 use Rattle.plain_tree.specs.declared.tree.OpenFileEntry.{OpenFileEntry}
-use Rattle.plain_tree.specs.Tree.{Name, Tree, file_in, is_empty, settle}
-use Rattle.plain_tree.specs.Steps.{cleared, first_free}
+use Rattle.plain_tree.specs.Tree.{Name, Tree, tree_of, file_in, is_empty, settle}
+use Rattle.plain_tree.specs.TreeData.{TreeData}
+use Rattle.plain_tree.specs.Steps.{cleared, first_free, has_fd}
 use Rattle.plain_tree.specs.Widths.{name_width}
 
 -- the element that these bytes are, if there are any, before the others
@@ -34,3 +35,11 @@ FreeAt ss (Some i) = (i < length ss) × ((s : Slot) → first_free ss s ≡ slic
 abbrev pub ClearsAt : List (Option Slot) → Name → Option ℕ → Type 0
 ClearsAt ss e None = cleared ss e ≡ ss
 ClearsAt ss e (Some i) = (i < length ss) × (cleared ss e ≡ slice_set ss i None)
+
+abbrev pub is_id : Option ℕ → ℕ → Bool
+is_id o id = elim o [ None ↦ false | Some j ↦ j == id ]
+
+-- no descriptor has the open file that stands at i; where there is none, each has one
+abbrev pub IsOrphan : TreeData → Option ℕ → Type 0
+IsOrphan d None = (j : ℕ) (e : OpenFileEntry) → j < length d.files → has_fd (tree_of d) (slice_index_or d.files j e).id ≡ true
+IsOrphan d (Some i) = (i < length d.files) × ((e : OpenFileEntry) → has_fd (tree_of d) (slice_index_or d.files i e).id ≡ false)

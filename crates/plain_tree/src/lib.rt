@@ -6,6 +6,7 @@ mod answer;
 mod apply;
 mod bytes;
 mod call;
+mod change;
 mod copy;
 mod look;
 mod node;

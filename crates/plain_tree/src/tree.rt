@@ -1,8 +1,8 @@
 //! The tree.
-ghost use Rattle.std.specs.Prelude.{◌≡◌, ◌<◌, ◌++◌, ◌∷◌, [], length, IfOk, MatchOption, MatchResult, slice_index_or};
-ghost use Rattle.plain_tree.specs.Code.{IsEntryOf};
+ghost use Rattle.std.specs.Prelude.{◌≡◌, ◌<◌, ◌++◌, ◌∷◌, [], length, IfOk, MatchOption, MatchResult, remove, slice_index_or, slice_set};
+ghost use Rattle.plain_tree.specs.Code.{IsEntryOf, IsOrphan};
 ghost use Rattle.plain_tree.specs.Fresh.{fresh};
-ghost use Rattle.plain_tree.specs.Steps.{moved, node_at, with_nodes};
+ghost use Rattle.plain_tree.specs.Steps.{closed, moved, node_at, with_nodes};
 ghost use Rattle.plain_tree.specs.Tree.{file_in, hart_at, put, tree_of};
 
 use crate::bytes::Bytes;
@@ -163,6 +163,7 @@ impl Tree {
         requires { number < (tree_of self.old).ninodes }
         ensures node { result ≡ node_at (tree_of self.old) number }
         ensures rest { tree_of self.new ≡ with_nodes (tree_of self.old) (put (tree_of self.old).nodes number None) }
+        ensures place { self.new ≡ record self.old { nodes = slice_set self.old.nodes number None } }
     {
         let place = &mut self.nodes[number];
         match mem::replace(place, None) {
@@ -179,7 +180,8 @@ impl Tree {
     /// Puts the node in its place.
     pub(crate) fn set_node(&mut self, number: usize, node: Node)
         requires { number < (tree_of self.old).ninodes }
-        ensures { tree_of self.new ≡ with_nodes (tree_of self.old) (put (tree_of self.old).nodes number (Some node)) }
+        ensures tree { tree_of self.new ≡ with_nodes (tree_of self.old) (put (tree_of self.old).nodes number (Some node)) }
+        ensures place { self.new ≡ record self.old { nodes = slice_set self.old.nodes number (Some node) } }
     {
         self.nodes[number] = Some(node);
     }
@@ -218,5 +220,33 @@ impl Tree {
         file.offset = offset;
         self.files[i] = OpenFileEntry { id, file };
         Ok(())
+    }
+
+    /// Where an open file stands that no descriptor has.
+    fn orphan(&self) -> Option<usize>
+        ensures { IsOrphan self.now result }
+    {
+        for i in 0..self.files.len() {
+            if !self.has_descriptor(self.files[i].id) {
+                return Some(i);
+            }
+        }
+        None
+    }
+
+    fn remove_file(&mut self, i: usize)
+        requires { i < length self.old.files }
+        ensures { self.new ≡ record self.old { files = remove self.old.files i } }
+    {
+        let _removed = self.files.remove(i);
+    }
+
+    /// The open files that no descriptor has go.
+    pub(crate) fn close_orphans(&mut self)
+        ensures { tree_of self.new ≡ closed (tree_of self.old) }
+    {
+        while let Some(i) = self.orphan() {
+            self.remove_file(i);
+        }
     }
 }
