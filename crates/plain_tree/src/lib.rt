@@ -2,7 +2,9 @@
 //! happen at one moment, and when a list of such steps explains the replies that several harts were given.
 #![tactic(auto)]
 
+mod act;
 mod answer;
+mod answer_of;
 mod apply;
 mod bytes;
 mod call;

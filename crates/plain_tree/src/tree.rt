@@ -1,6 +1,6 @@
 //! The tree.
-ghost use Rattle.std.specs.Prelude.{◌≡◌, ◌<◌, ◌++◌, ◌∷◌, [], length, IfOk, MatchOption, MatchResult, remove, slice_index_or, slice_set};
-ghost use Rattle.plain_tree.specs.Code.{IsEntryOf, IsOrphan};
+ghost use Rattle.std.specs.Prelude.{◌≡◌, ◌<◌, ◌++◌, ◌∷◌, [], length, IfOk, MatchOption, MatchResult, remove, slice_index_or, slice_set, true};
+ghost use Rattle.plain_tree.specs.Code.{Advances, HasFiles, IsEntryOf, IsOrphan};
 ghost use Rattle.plain_tree.specs.Fresh.{fresh};
 ghost use Rattle.plain_tree.specs.Steps.{closed, moved, node_at, with_nodes};
 ghost use Rattle.plain_tree.specs.Tree.{file_in, hart_at, put, tree_of};
@@ -194,32 +194,55 @@ impl Tree {
         self.nodes[number] = None;
     }
 
-    /// Adds an open file under an unused id.
-    pub(crate) fn add_file(&mut self, id: usize, file: OpenFile) -> Result<(), NoMemory>
-        requires { (tree_of self.old).files id ≡ None }
-        ensures { MatchResult result (λ _. tree_of self.new ≡ record (tree_of self.old) { files = put (tree_of self.old).files id (Some file) }) (λ _. self.new ≡ self.old) }
+    /// The open files with one more, under an unused id.
+    pub(crate) fn files_with(
+        &self,
+        alloc: Global,
+        id: usize,
+        file: OpenFile,
+    ) -> Result<Vec<OpenFileEntry>, NoMemory>
+        requires { (tree_of self.now).files id ≡ None }
+        ensures { IfOk result (λ v. HasFiles v.items (put (tree_of self.now).files id (Some file))) }
     {
-        self.files.push(OpenFileEntry { id, file })?;
-        Ok(())
+        let mut files = Vec::from_slice(alloc, &self.files)?;
+        files.push(OpenFileEntry { id, file })?;
+        Ok(files)
+    }
+
+    /// These are the open files.
+    pub(crate) fn set_files(&mut self, files: Vec<OpenFileEntry>)
+        ensures { tree_of self.new ≡ record (tree_of self.old) { files = λ k. file_in files.items k } }
+    {
+        self.files = files;
+    }
+
+    /// The offset can move on by so much.
+    pub(crate) fn can_advance(&self, id: Option<usize>, by: u64) -> bool
+        ensures { result ≡ true → Advances (tree_of self.now) id by }
+    {
+        let Some(id) = id else {
+            return true;
+        };
+        match self.file(id) {
+            Some(file) => file.offset <= u64::MAX - by,
+            None => true,
+        }
     }
 
     /// Moves the offset of the open file on, where there is one.
-    pub(crate) fn advance(&mut self, id: Option<usize>, by: u64) -> Result<(), NoMemory>
-        ensures { MatchResult result (λ _. tree_of self.new ≡ moved (tree_of self.old) id by) (λ _. self.new ≡ self.old) }
+    pub(crate) fn advance(&mut self, id: Option<usize>, by: u64)
+        requires { Advances (tree_of self.old) id by }
+        ensures { tree_of self.new ≡ moved (tree_of self.old) id by }
     {
         let Some(id) = id else {
-            return Ok(());
+            return;
         };
         let Some(i) = entry_of(&self.files, id) else {
-            return Ok(());
+            return;
         };
         let mut file = self.files[i].file;
-        let Some(offset) = file.offset.checked_add(by) else {
-            return Err(NoMemory);
-        };
-        file.offset = offset;
+        file.offset += by;
         self.files[i] = OpenFileEntry { id, file };
-        Ok(())
     }
 
     /// Where an open file stands that no descriptor has.
