@@ -1,6 +1,7 @@
 pub mod PathLemmas
 pub mod SlotLemmas
 pub mod FileLemmas
+pub mod ActLemmas
 pub mod TreeLemmas
 pub mod ReadLemmas
 pub mod SettleLemmas
