@@ -1,8 +1,8 @@
 //! One step of the tree.
-ghost use Rattle.std.specs.Prelude.{◌≡◌, true, IfSome, MatchResult};
+ghost use Rattle.std.specs.Prelude.{◌≡◌, ◌<◌, IfSome, MatchResult};
 ghost use Rattle.plain_tree.specs.Applied.{IsApplied, IsAppliedAt, IsLeastUnused, IsRefused, out_of_place};
 ghost use Rattle.plain_tree.specs.Code.{is_open};
-ghost use Rattle.plain_tree.specs.Steps.{opens_one, path_of, refused};
+ghost use Rattle.plain_tree.specs.Steps.{path_of, refused};
 ghost use Rattle.plain_tree.specs.Tree.{tree_of};
 
 use crate::answer::{Cause, Full};
