@@ -1,19 +1,21 @@
 -- A tree's data changed in one place, and what its functions then say.
-use Rattle.std.proofs.Common.{◌≡◌, ◌≢◌, ℕ, zero, suc, ◌+◌, ◌<◌, ◌≤◌, Bool, true, false, List, [], ◌∷◌, ◌++◌, length, take, drop, get_or, ◌==◌, ◌⊎◌, inl, inr, refl, sym, ◌∙◌, ap, subst, arith, add-one, Option, Some, None, if◌then◌else◌, get_or-set_other, get_or-set_same}
+use Rattle.std.proofs.Common.{◌^◌, ◌&&◌, nat_lt, Result, Ok, Err, MatchResult, ◌≡◌, ◌≢◌, ℕ, zero, suc, ◌+◌, ◌<◌, ◌≤◌, Bool, true, false, List, [], ◌∷◌, ◌++◌, length, take, drop, get_or, ◌==◌, ◌⊎◌, inl, inr, refl, sym, ◌∙◌, ap, subst, arith, add-one, Option, Some, None, if◌then◌else◌, get_or-set_other, get_or-set_same}
 use Rattle.std.proofs.Math.Path.{fun_ext}
-use Rattle.std.proofs.Math.ListN.{set, length-set}
-use Rattle.std.proofs.lemmas.List.{take_more}
-use Rattle.std.proofs.lemmas.Bool.{cases_eq}
+use Rattle.std.proofs.Math.ListN.{set, length-set, get_or-eq_default}
+use Rattle.std.proofs.lemmas.List.{take_more, set-get_or}
+use Rattle.std.proofs.lemmas.Bool.{cases_eq, cases_Bool}
 use Rattle.std.proofs.lemmas.Bool.Decides.{nat_tests}
 use Rattle.plain_tree.specs.declared.node.Node.{Node}
+use Rattle.plain_tree.specs.declared.node.Kind.{Kind}
+use Rattle.plain_tree.specs.declared.node.Kind.TheVariants.{Directory, File, Device}
 use Rattle.plain_tree.specs.declared.tree.OpenFile.{OpenFile}
 use Rattle.plain_tree.specs.declared.tree.OpenFileEntry.{OpenFileEntry}
 use Rattle.plain_tree.specs.declared.tree.Hart.{Hart}
 use Rattle.plain_tree.specs.declared.tree.Hold.{Hold}
-use Rattle.plain_tree.specs.Code.{IsEntryOf}
+use Rattle.plain_tree.specs.Code.{Advances, IsEntryOf}
 use Rattle.plain_tree.specs.TreeData.{TreeData}
-use Rattle.plain_tree.specs.Tree.{Tree, tree_of, hart_at, resting, file_in, put, and_then}
-use Rattle.plain_tree.specs.Steps.{with_nodes, moved}
+use Rattle.plain_tree.specs.Tree.{Tree, tree_of, hart_at, resting, file_in, put, and_then, is_directory, live_directory, slots_of}
+use Rattle.plain_tree.specs.Steps.{at_node, node_or, node_at, with_nodes, moved}
 
 pub eq_true : (n k : ℕ) → n ≡ k → (n == k) ≡ true
 eq_true n k e = grind (arith, nat_tests)
@@ -59,18 +61,18 @@ harts_set d h x lt =
     ∙ ap (λ (f : ℕ → Option Hold). record (tree_of d) { cwd = put (tree_of d).cwd h x.directory; fds = put (tree_of d).fds h (λ i. get_or x.descriptors i None); holds = f }) (set_put {A = Hart} {B = Option Hold} (λ y. y.hold) d.harts h x resting lt))
 
 -- an entry more at the end
-file_first : (x : OpenFileEntry) (xs : List OpenFileEntry) (k : ℕ) → x.id ≡ k → file_in (x ∷ xs) k ≡ Some x.file
+pub file_first : (x : OpenFileEntry) (xs : List OpenFileEntry) (k : ℕ) → x.id ≡ k → file_in (x ∷ xs) k ≡ Some x.file
 unfolding file_in
 file_first x xs k e = rw (eq_true x.id k e)
 
-file_later : (x : OpenFileEntry) (xs : List OpenFileEntry) (k : ℕ) → x.id ≢ k → file_in (x ∷ xs) k ≡ file_in xs k
+pub file_later : (x : OpenFileEntry) (xs : List OpenFileEntry) (k : ℕ) → x.id ≢ k → file_in (x ∷ xs) k ≡ file_in xs k
 unfolding file_in
 file_later x xs k ne = rw (eq_false x.id k ne)
 
 not_first : (x : OpenFileEntry) (xs : List OpenFileEntry) (k : ℕ) → file_in (x ∷ xs) k ≡ None → x.id ≢ k
 not_first x xs k h e = absurd (let s : Some x.file ≡ None = sym (file_first x xs k e) ∙ h in cc)
 
-file_added : (es : List OpenFileEntry) (e : OpenFileEntry) → file_in es e.id ≡ None → (k : ℕ) → file_in (es ++ e ∷ []) k ≡ put (λ j. file_in es j) e.id (Some e.file) k
+pub file_added : (es : List OpenFileEntry) (e : OpenFileEntry) → file_in es e.id ≡ None → (k : ℕ) → file_in (es ++ e ∷ []) k ≡ put (λ j. file_in es j) e.id (Some e.file) k
 file_added [] e h k = elim (cases_eq k e.id) [
   | inl i ↦ file_first e [] k (sym i) ∙ sym (put_same (λ j. file_in [] j) e.id (Some e.file) k i)
   | inr ne ↦ file_later e [] k (λ b. ne (sym b)) ∙ sym (put_other (λ j. file_in [] j) e.id (Some e.file) k ne)
@@ -110,9 +112,6 @@ file_set (x ∷ xs) e (suc i) d lt h s k =
       ]
     ]
 
-pub files_added : (d : TreeData) (id : ℕ) (f : OpenFile) → file_in d.files id ≡ None → tree_of (record d { files = d.files ++ record { id = id; file = f } ∷ [] }) ≡ record (tree_of d) { files = put (tree_of d).files id (Some f) }
-files_added d id f h = ap (λ (g : ℕ → Option OpenFile). record (tree_of d) { files = g }) (fun_ext (file_added d.files (record { id = id; file = f }) h))
-
 pub none_more : (es : List OpenFileEntry) (e : OpenFileEntry) (k : ℕ) → file_in es k ≡ None → e.id ≢ k → file_in (es ++ e ∷ []) k ≡ None
 none_more [] e k h ne = file_later e [] k ne ∙ h
 none_more (x ∷ xs) e k h ne =
@@ -135,3 +134,92 @@ file_stays d id by h =
 
 pub none_next : (es : List OpenFileEntry) (i : ℕ) (d : OpenFileEntry) (k : ℕ) → i < length es → file_in (take i es) k ≡ None → (get_or es i d).id ≢ k → file_in (take (i + 1) es) k ≡ None
 none_next es i d k lt h ne = rw (take_more es i d lt) (none_more (take i es) (get_or es i d) k h ne)
+
+-- a node that was taken out is put back changed
+pub set_again : (t t1 t2 : Tree) (n : ℕ) (v w : Option Node) → t1 ≡ with_nodes t (put t.nodes n w) → t2 ≡ with_nodes t1 (put t1.nodes n v) → t2 ≡ with_nodes t (put t.nodes n v)
+set_again t t1 t2 n v w a b =
+    b ∙ (ap (λ (x : Tree). with_nodes x (put x.nodes n v)) a ∙ ap (λ (f : ℕ → Option Node). with_nodes t f) (put_again t.nodes n w v))
+
+-- t1: without the node, t2: with the changed one
+pub changed : (t t1 t2 : Tree) (n : ℕ) (f : Node → Node) (x w : Node) → t1 ≡ with_nodes t (put t.nodes n None) → t2 ≡ with_nodes t1 (put t1.nodes n (Some w)) → x ≡ node_at t n → w ≡ f x → t2 ≡ at_node t n f
+changed t t1 t2 n f x w a b is e = set_again t t1 t2 n (Some w) None a b ∙ ap (λ (y : Node). with_nodes t (put t.nodes n (Some y))) (e ∙ ap f is)
+
+pub stays : (t : Tree) (n : ℕ) (w : Node) → t.nodes n ≡ Some w → t ≡ with_nodes t (put t.nodes n (Some w))
+stays t n w h = ap (λ (f : ℕ → Option Node). with_nodes t f) (sym (put_back t.nodes n (Some w) (sym h)))
+
+set_twice : {A : Type 0} (xs : List A) (n : ℕ) (a b : A) → set (set xs n a) n b ≡ set xs n b
+set_twice [] n a b = refl
+set_twice (x ∷ xs) zero a b = refl
+set_twice (x ∷ xs) (suc n) a b = ap (λ ys. x ∷ ys) (set_twice xs n a b)
+
+set_own : {A : Type 0} (xs : List A) (n : ℕ) (v d : A) → get_or xs n d ≡ v → set xs n v ≡ xs
+set_own xs n v d h = ap (λ y. set xs n y) (sym h) ∙ set-get_or xs n d
+
+-- the node that was taken out is put back
+pub put_node_back : (d d1 d2 : TreeData) (n : ℕ) (v w : Option Node) → d1 ≡ record d { nodes = set d.nodes n v } → d2 ≡ record d1 { nodes = set d1.nodes n w } → get_or d.nodes n None ≡ w → d2 ≡ d
+put_node_back d d1 d2 n v w a b h =
+    b ∙ (ap (λ (x : TreeData). record x { nodes = set x.nodes n w }) a ∙ ap (λ (ns : List (Option Node)). record d { nodes = ns }) (set_twice d.nodes n v w ∙ set_own d.nodes n w None h))
+
+not_and_false : (b : Bool) → (b && false) ≡ true → ⊥
+not_and_false true h = absurd cc
+not_and_false false h = absurd cc
+
+live_kind : (k : ℕ) (kd : Kind) → (nat_lt 0 k && is_directory kd) ≡ true → kd ≡ Directory (slots_of kd)
+live_kind k (Directory ss) h = refl
+live_kind k (File bs) h = absurd (not_and_false (nat_lt 0 k) h)
+live_kind k (Device x y z) h = absurd (not_and_false (nat_lt 0 k) h)
+
+pub live_is : (v : Option Node) → live_directory v ≡ true → v ≡ Some (record { count = (node_or v).count; kind = Directory (slots_of (node_or v).kind) })
+live_is None h = absurd cc
+live_is (Some v) h = ap (λ (kd : Kind). Some (record v { kind = kd })) (live_kind v.count v.kind h)
+
+cases_le : (m n : ℕ) → (m ≤ n) ⊎ (n < m)
+cases_le m n = elim (cases_Bool (nat_lt n m)) [ inl y ↦ inr (grind (arith, nat_tests)) | inr y ↦ inl (grind (arith, nat_tests)) ]
+
+pub live_below : (d : TreeData) (n : ℕ) → live_directory (get_or d.nodes n None) ≡ true → n < length d.nodes
+live_below d n h = elim (cases_le (length d.nodes) n) [
+  | inl le ↦ absurd (let e : false ≡ true = sym (ap live_directory (get_or-eq_default d.nodes None le)) ∙ h in cc)
+  | inr lt ↦ lt
+]
+
+pub on_result : {E : Type 0} {A B A' B' : Type 0} (r : Result (Unit {0}) E) → (A → A') → (B → B') → MatchResult r (λ _. A) (λ _. B) → MatchResult r (λ _. A') (λ _. B')
+on_result (Ok x) f g h = f h
+on_result (Err e) f g h = g h
+
+-- a hart's own parts are put in their place unchanged
+cwd_back : (d : TreeData) (h : ℕ) (x : Hart) → x ≡ hart_at d h → put (tree_of d).cwd h x.directory ≡ (tree_of d).cwd
+cwd_back d h x e = put_back (tree_of d).cwd h x.directory (ap (λ (y : Hart). y.directory) e)
+
+fds_back : (d : TreeData) (h : ℕ) (x : Hart) → x ≡ hart_at d h → put (tree_of d).fds h (λ i. get_or x.descriptors i None) ≡ (tree_of d).fds
+fds_back d h x e = put_back (tree_of d).fds h (λ i. get_or x.descriptors i None) (ap {B = ℕ → Option ℕ} (λ y i. get_or y.descriptors i None) e)
+
+holds_back : (d : TreeData) (h : ℕ) (o : Option Hold) → o ≡ (tree_of d).holds h → put (tree_of d).holds h o ≡ (tree_of d).holds
+holds_back d h o e = put_back (tree_of d).holds h o e
+
+abbrev pub hart_put : TreeData → ℕ → Hart → Tree
+hart_put d h x = record (tree_of d) { cwd = put (tree_of d).cwd h x.directory; fds = put (tree_of d).fds h (λ i. get_or x.descriptors i None); holds = put (tree_of d).holds h x.hold }
+
+pub directory_set : (d : TreeData) (t : Tree) (h n : ℕ) (x : Hart) → x ≡ hart_at d h → t ≡ hart_put d h (record x { directory = n }) → t ≡ record (tree_of d) { cwd = put (tree_of d).cwd h n }
+directory_set d t h n x e is =
+    is ∙ (ap (λ (f : ℕ → ℕ → Option ℕ). record (tree_of d) { cwd = put (tree_of d).cwd h n; fds = f; holds = put (tree_of d).holds h x.hold }) (fds_back d h x e)
+    ∙ ap (λ (f : ℕ → Option Hold). record (tree_of d) { cwd = put (tree_of d).cwd h n; holds = f }) (holds_back d h x.hold (ap (λ (y : Hart). y.hold) e)))
+
+pub hold_set : (d : TreeData) (t : Tree) (h : ℕ) (o : Option Hold) (x : Hart) → x ≡ hart_at d h → t ≡ hart_put d h (record x { hold = o }) → t ≡ record (tree_of d) { holds = put (tree_of d).holds h o }
+hold_set d t h o x e is =
+    is ∙ (ap (λ (f : ℕ → ℕ → Option ℕ). record (tree_of d) { cwd = put (tree_of d).cwd h x.directory; fds = f; holds = put (tree_of d).holds h o }) (fds_back d h x e)
+    ∙ ap (λ (f : ℕ → ℕ). record (tree_of d) { cwd = f; holds = put (tree_of d).holds h o }) (cwd_back d h x e))
+
+pub descriptor_set : (d : TreeData) (t : Tree) (h fd : ℕ) (id : Option ℕ) (x : Hart) → fd < length x.descriptors → x ≡ hart_at d h → t ≡ hart_put d h (record x { descriptors = set x.descriptors fd id }) → t ≡ record (tree_of d) { fds = put (tree_of d).fds h (put ((tree_of d).fds h) fd id) }
+descriptor_set d t h fd id x lt e is =
+    is ∙ (ap (λ (f : ℕ → ℕ). record (hart_put d h (record x { descriptors = set x.descriptors fd id })) { cwd = f }) (cwd_back d h x e)
+    ∙ (ap (λ (f : ℕ → Option Hold). record (tree_of d) { fds = put (tree_of d).fds h (λ i. get_or (set x.descriptors fd id) i None); holds = f }) (holds_back d h x.hold (ap (λ (y : Hart). y.hold) e))
+    ∙ (ap (λ (f : ℕ → Option ℕ). record (tree_of d) { fds = put (tree_of d).fds h f }) (set_put {A = Option ℕ} {B = Option ℕ} (λ y. y) x.descriptors fd id None lt)
+    ∙ ap (λ (y : Hart). record (tree_of d) { fds = put (tree_of d).fds h (put (λ i. get_or y.descriptors i None) fd id) }) e)))
+
+pub inherited : (d : TreeData) (t : Tree) (h c : ℕ) (x : Hart) (o : Option Hold) → x ≡ hart_at d h → o ≡ (tree_of d).holds c → t ≡ hart_put d c (record x { hold = o }) → t ≡ record (tree_of d) { fds = put (tree_of d).fds c ((tree_of d).fds h); cwd = put (tree_of d).cwd c ((tree_of d).cwd h) }
+inherited d t h c x o e oe is =
+    is ∙ (ap (λ (f : ℕ → Option Hold). record (hart_put d c (record x { hold = o })) { holds = f }) (holds_back d c o oe)
+    ∙ ap (λ (y : Hart). record (tree_of d) { cwd = put (tree_of d).cwd c y.directory; fds = put (tree_of d).fds c (λ i. get_or y.descriptors i None) }) e)
+
+pub advances : (d : TreeData) (id i by : ℕ) (x : OpenFileEntry) → Advances (tree_of d) (Some id) by → IsEntryOf d.files id i → x ≡ get_or d.files i x → x.file.offset + by < 2 ^ 64
+advances d id i by x h is xe = h x.file (file_found d.files id i x is.below is.before (is.there x) ∙ ap (λ (y : OpenFileEntry). Some y.file) (sym xe))

@@ -2,10 +2,13 @@
 //! happen at one moment, and when a list of such steps explains the replies that several harts were given.
 #![tactic(auto)]
 
+mod act;
 mod answer;
+mod answer_of;
 mod apply;
 mod bytes;
 mod call;
+mod change;
 mod copy;
 mod look;
 mod node;

@@ -1,5 +1,5 @@
 //! What a path names.
-ghost use Rattle.std.specs.Prelude.{◌≡◌};
+ghost use Rattle.std.specs.Prelude.{◌≡◌, IfSome, true};
 ghost use Rattle.plain_tree.specs.Code.{with_name};
 ghost use Rattle.plain_tree.specs.Tree.{first_slot, live_directory, look, parent, resolve, start_of, tree_of};
 
@@ -72,7 +72,8 @@ impl Tree {
     #[tactic(auto, unfolding(crate::specs::Tree::parent_of, crate::specs::Tree::parent_from))]
     /// The live directory before the path's last element, and that element.
     pub(crate) fn parent<'a>(&self, hart: u8, path: &'a [u8]) -> (Option<u16>, &'a [u8])
-        ensures { parent (tree_of self.now) hart path.now ≡ with_name result.0 result.1.now }
+        ensures parent { parent (tree_of self.now) hart path.now ≡ with_name result.0 result.1.now }
+        ensures live { IfSome result.0 (λ d. live_directory ((tree_of self.now).nodes d) ≡ true) }
     {
         let Some((first, after)) = next_element(path) else {
             return (None, path);

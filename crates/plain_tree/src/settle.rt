@@ -1,5 +1,7 @@
 //! The nodes that nothing keeps.
 ghost use Rattle.std.specs.Prelude.{◌≡◌, ◌<◌, ◌||◌, ◌==◌, ℕ};
+ghost use Rattle.plain_tree.specs.Code.{is_id};
+ghost use Rattle.plain_tree.specs.Steps.{has_fd};
 ghost use Rattle.plain_tree.specs.Tree.{any_below, fd_names, hold_names, is_live, is_named, settle, tree_of};
 ghost use Rattle.plain_tree.specs.Widths.{descriptor_count};
 
@@ -53,6 +55,38 @@ impl Tree {
     {
         for hart in 0..HART_COUNT {
             if self.is_named_by(hart, number) {
+                return true;
+            }
+        }
+        false
+    }
+
+    fn is_of(&self, hart: u8, fd: usize, id: usize) -> bool
+        ensures { result ≡ is_id ((tree_of self.now).fds hart fd) id }
+    {
+        match self.descriptor(hart, fd) {
+            Some(other) => other == id,
+            None => false,
+        }
+    }
+
+    fn has_descriptor_by(&self, hart: u8, id: usize) -> bool
+        ensures { result ≡ any_below descriptor_count (λ i. is_id ((tree_of self.now).fds hart i) id) }
+    {
+        for fd in 0..DESCRIPTOR_COUNT {
+            if self.is_of(hart, fd, id) {
+                return true;
+            }
+        }
+        false
+    }
+
+    /// A descriptor has the open file.
+    pub(crate) fn has_descriptor(&self, id: usize) -> bool
+        ensures { result ≡ has_fd (tree_of self.now) id }
+    {
+        for hart in 0..HART_COUNT {
+            if self.has_descriptor_by(hart, id) {
                 return true;
             }
         }

@@ -1,8 +1,8 @@
 //! The tree.
-ghost use Rattle.std.specs.Prelude.{◌≡◌, ◌<◌, ◌++◌, ◌∷◌, [], length, IfOk, MatchOption, MatchResult, slice_index_or};
-ghost use Rattle.plain_tree.specs.Code.{IsEntryOf};
+ghost use Rattle.std.specs.Prelude.{◌≡◌, ◌<◌, ◌++◌, ◌∷◌, [], length, IfOk, MatchOption, MatchResult, remove, slice_index_or, slice_set, true};
+ghost use Rattle.plain_tree.specs.Code.{Advances, HasFiles, IsEntryOf, IsOrphan};
 ghost use Rattle.plain_tree.specs.Fresh.{fresh};
-ghost use Rattle.plain_tree.specs.Steps.{moved, node_at, with_nodes};
+ghost use Rattle.plain_tree.specs.Steps.{closed, moved, node_at, with_nodes};
 ghost use Rattle.plain_tree.specs.Tree.{file_in, hart_at, put, tree_of};
 
 use crate::bytes::Bytes;
@@ -163,6 +163,7 @@ impl Tree {
         requires { number < (tree_of self.old).ninodes }
         ensures node { result ≡ node_at (tree_of self.old) number }
         ensures rest { tree_of self.new ≡ with_nodes (tree_of self.old) (put (tree_of self.old).nodes number None) }
+        ensures place { self.new ≡ record self.old { nodes = slice_set self.old.nodes number None } }
     {
         let place = &mut self.nodes[number];
         match mem::replace(place, None) {
@@ -179,7 +180,8 @@ impl Tree {
     /// Puts the node in its place.
     pub(crate) fn set_node(&mut self, number: usize, node: Node)
         requires { number < (tree_of self.old).ninodes }
-        ensures { tree_of self.new ≡ with_nodes (tree_of self.old) (put (tree_of self.old).nodes number (Some node)) }
+        ensures tree { tree_of self.new ≡ with_nodes (tree_of self.old) (put (tree_of self.old).nodes number (Some node)) }
+        ensures place { self.new ≡ record self.old { nodes = slice_set self.old.nodes number (Some node) } }
     {
         self.nodes[number] = Some(node);
     }
@@ -192,31 +194,82 @@ impl Tree {
         self.nodes[number] = None;
     }
 
-    /// Adds an open file under an unused id.
-    pub(crate) fn add_file(&mut self, id: usize, file: OpenFile) -> Result<(), NoMemory>
-        requires { (tree_of self.old).files id ≡ None }
-        ensures { MatchResult result (λ _. tree_of self.new ≡ record (tree_of self.old) { files = put (tree_of self.old).files id (Some file) }) (λ _. self.new ≡ self.old) }
+    /// The open files with one more, under an unused id.
+    pub(crate) fn files_with(
+        &self,
+        alloc: Global,
+        id: usize,
+        file: OpenFile,
+    ) -> Result<Vec<OpenFileEntry>, NoMemory>
+        requires { (tree_of self.now).files id ≡ None }
+        ensures { IfOk result (λ v. HasFiles v.items (put (tree_of self.now).files id (Some file))) }
     {
-        self.files.push(OpenFileEntry { id, file })?;
-        Ok(())
+        let mut files = Vec::from_slice(alloc, &self.files)?;
+        files.push(OpenFileEntry { id, file })?;
+        Ok(files)
+    }
+
+    /// These are the open files.
+    pub(crate) fn set_files(&mut self, files: Vec<OpenFileEntry>)
+        ensures { tree_of self.new ≡ record (tree_of self.old) { files = λ k. file_in files.items k } }
+    {
+        self.files = files;
+    }
+
+    /// The offset can move on by so much.
+    pub(crate) fn can_advance(&self, id: Option<usize>, by: u64) -> bool
+        ensures { result ≡ true → Advances (tree_of self.now) id by }
+    {
+        let Some(id) = id else {
+            return true;
+        };
+        match self.file(id) {
+            Some(file) => file.offset <= u64::MAX - by,
+            None => true,
+        }
     }
 
     /// Moves the offset of the open file on, where there is one.
-    pub(crate) fn advance(&mut self, id: Option<usize>, by: u64) -> Result<(), NoMemory>
-        ensures { MatchResult result (λ _. tree_of self.new ≡ moved (tree_of self.old) id by) (λ _. self.new ≡ self.old) }
+    pub(crate) fn advance(&mut self, id: Option<usize>, by: u64)
+        requires { Advances (tree_of self.old) id by }
+        ensures { tree_of self.new ≡ moved (tree_of self.old) id by }
     {
         let Some(id) = id else {
-            return Ok(());
+            return;
         };
         let Some(i) = entry_of(&self.files, id) else {
-            return Ok(());
+            return;
         };
         let mut file = self.files[i].file;
-        let Some(offset) = file.offset.checked_add(by) else {
-            return Err(NoMemory);
-        };
-        file.offset = offset;
+        file.offset += by;
         self.files[i] = OpenFileEntry { id, file };
-        Ok(())
+    }
+
+    /// Where an open file stands that no descriptor has.
+    fn orphan(&self) -> Option<usize>
+        ensures { IsOrphan self.now result }
+    {
+        for i in 0..self.files.len() {
+            if !self.has_descriptor(self.files[i].id) {
+                return Some(i);
+            }
+        }
+        None
+    }
+
+    fn remove_file(&mut self, i: usize)
+        requires { i < length self.old.files }
+        ensures { self.new ≡ record self.old { files = remove self.old.files i } }
+    {
+        let _removed = self.files.remove(i);
+    }
+
+    /// The open files that no descriptor has go.
+    pub(crate) fn close_orphans(&mut self)
+        ensures { tree_of self.new ≡ closed (tree_of self.old) }
+    {
+        while let Some(i) = self.orphan() {
+            self.remove_file(i);
+        }
     }
 }

@@ -1,0 +1,7 @@
+use Rattle.std.proofs.Common.{◌≡◌, false}
+use Rattle.plain_tree.specs.Tree.{tree_of, any_below}
+use Rattle.plain_tree.specs.Code.{is_id}
+use Rattle.plain_tree.proofs.tree.Tree.has_descriptor_by.Given as goal
+
+abbrev pub invariant-loop-fd : goal.invariant-loop-fd
+invariant-loop-fd l = any_below l.fd (λ i. is_id ((tree_of l.self).fds l.hart i) l.id) ≡ false

@@ -1,0 +1,8 @@
+use Rattle.std.proofs.Common.{◌≡◌, ◌<◌, ℕ, true, get_or}
+use Rattle.plain_tree.specs.declared.tree.OpenFileEntry.{OpenFileEntry}
+use Rattle.plain_tree.specs.Tree.{tree_of}
+use Rattle.plain_tree.specs.Steps.{has_fd}
+use Rattle.plain_tree.proofs.tree.Tree.orphan.Given as goal
+
+abbrev pub invariant-loop-i : goal.invariant-loop-i
+invariant-loop-i l = (j : ℕ) (e : OpenFileEntry) → j < l.i → has_fd (tree_of l.self) (get_or l.self.files j e).id ≡ true

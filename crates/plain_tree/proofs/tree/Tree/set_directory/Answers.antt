@@ -1,0 +1,6 @@
+use Rattle.plain_tree.specs.Tree.{tree_of}
+use Rattle.plain_tree.proofs.TreeLemmas.{directory_set}
+use Rattle.plain_tree.proofs.tree.Tree.set_directory.Goals as goal
+
+pub returns : goal.returns
+returns c = directory_set c.args.self.now (tree_of c.set_hart.new.self) c.args.hart c.args.number c.hart-value.result c.hart-value.ensures c.set_hart.ensures

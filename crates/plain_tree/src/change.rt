@@ -1,0 +1,227 @@
+//! A tree changed in one place.
+ghost use Rattle.std.specs.Prelude.{◌≡◌, ◌+◌, ◌-◌, ◌<◌, ◌++◌, take, drop, length, true, IfOk, MatchOption, MatchResult, if◌then◌else◌};
+ghost use Rattle.plain_tree.specs.Steps.{at_node, cleared, emptied, entered, lowered, node_at, raised, written_kind};
+ghost use Rattle.plain_tree.specs.Tree.{live_directory, put, slots_of, tree_of};
+ghost use Rattle.plain_tree.specs.declared.node.Kind.TheVariants.{Directory, File};
+
+use crate::bytes::Bytes;
+use crate::node::{Kind, Node, Slot, Slots};
+use crate::refused::NoMemory;
+use crate::slots::{clear_slot, enter_slot};
+use crate::tree::{Hold, Tree};
+use std::alloc::Global;
+
+/// These bytes, written at the offset.
+fn overwritten(alloc: Global, old: &[u8], offset: u64, bytes: &[u8]) -> Result<Vec<u8>, NoMemory>
+    ensures { IfOk result (λ v. v.items ≡ take offset old.now ++ bytes.now ++ drop (offset + length bytes.now) old.now) }
+{
+    let start = if offset < old.len() as u64 {
+        offset as usize
+    } else {
+        old.len()
+    };
+    let rest = &old[start..];
+    let mut out = Vec::from_slice(alloc, &old[..start])?;
+    out.extend_from_slice(bytes)?;
+    if bytes.len() < rest.len() {
+        out.extend_from_slice(&rest[bytes.len()..])?;
+    }
+    Ok(out)
+}
+
+/// The slots of a directory; none of another kind.
+fn into_slots(alloc: Global, kind: Kind) -> Vec<Option<Slot>>
+    ensures { result.items ≡ slots_of kind }
+{
+    match kind {
+        Kind::Directory { slots } => slots.into_vec(),
+        _ => Vec::new(alloc),
+    }
+}
+
+/// A file without its bytes; another kind as it is.
+fn without_bytes(alloc: Global, kind: Kind) -> Kind
+    ensures { result ≡ emptied kind }
+{
+    match kind {
+        Kind::File { .. } => Kind::File {
+            bytes: Bytes::new(Vec::new(alloc)),
+        },
+        other => other,
+    }
+}
+
+fn fewer(count: u16, lowers: bool) -> u16
+    ensures { result ≡ (if lowers then count - 1 else count) }
+{
+    if lowers {
+        count.saturating_sub(1)
+    } else {
+        count
+    }
+}
+
+impl Tree {
+    /// One name more.
+    pub(crate) fn raise(&mut self, alloc: Global, number: usize)
+        requires range { number < (tree_of self.old).ninodes }
+        requires few { (node_at (tree_of self.old) number).count < 32767 }
+        ensures { tree_of self.new ≡ at_node (tree_of self.old) number raised }
+    {
+        let Node { count, kind } = self.take_node(alloc, number);
+        self.set_node(
+            number,
+            Node {
+                count: count + 1,
+                kind,
+            },
+        );
+    }
+
+    /// One name less.
+    pub(crate) fn lower(&mut self, alloc: Global, number: usize)
+        requires { number < (tree_of self.old).ninodes }
+        ensures { tree_of self.new ≡ at_node (tree_of self.old) number lowered }
+    {
+        let Node { count, kind } = self.take_node(alloc, number);
+        self.set_node(
+            number,
+            Node {
+                count: count.saturating_sub(1),
+                kind,
+            },
+        );
+    }
+
+    /// A file without bytes.
+    pub(crate) fn empty(&mut self, alloc: Global, number: usize)
+        requires { number < (tree_of self.old).ninodes }
+        ensures { tree_of self.new ≡ at_node (tree_of self.old) number (λ v. record v { kind = emptied v.kind }) }
+    {
+        let Node { count, kind } = self.take_node(alloc, number);
+        let kind = without_bytes(alloc, kind);
+        self.set_node(number, Node { count, kind });
+    }
+
+    /// What the file's bytes are after the write; none where it leaves the node as it is.
+    fn rewritten(
+        &self,
+        alloc: Global,
+        number: usize,
+        offset: u64,
+        bytes: &[u8],
+    ) -> Result<Option<Vec<u8>>, NoMemory>
+        ensures { IfOk result (λ o. MatchOption o ((tree_of self.now).nodes number ≡ Some (record (node_at (tree_of self.now) number) { kind = written_kind (node_at (tree_of self.now) number).kind offset bytes.now })) (λ v. written_kind (node_at (tree_of self.now) number).kind offset bytes.now ≡ File v.items)) }
+    {
+        match self.node(number) {
+            Some(node) => match &node.kind {
+                Kind::File { bytes: old } => Ok(Some(overwritten(
+                    alloc,
+                    old.as_slice(),
+                    offset,
+                    bytes,
+                )?)),
+                Kind::Directory { .. } => Ok(None),
+                Kind::Device { .. } => Ok(None),
+            },
+            None => Ok(Some(overwritten(alloc, &[], offset, bytes)?)),
+        }
+    }
+
+    /// A file with these bytes at the offset.
+    pub(crate) fn overwrite(
+        &mut self,
+        alloc: Global,
+        number: usize,
+        offset: u64,
+        bytes: &[u8],
+    ) -> Result<(), NoMemory>
+        requires { number < (tree_of self.old).ninodes }
+        ensures { MatchResult result (λ _. tree_of self.new ≡ at_node (tree_of self.old) number (λ v. record v { kind = written_kind v.kind offset bytes.now })) (λ _. self.new ≡ self.old) }
+    {
+        let Some(new) = self.rewritten(alloc, number, offset, bytes)? else {
+            return Ok(());
+        };
+        let count = self.take_node(alloc, number).count;
+        let kind = Kind::File {
+            bytes: Bytes::new(new),
+        };
+        self.set_node(number, Node { count, kind });
+        Ok(())
+    }
+
+    /// A live directory with a slot more.
+    pub(crate) fn enter(
+        &mut self,
+        alloc: Global,
+        directory: usize,
+        name: Bytes,
+        number: u16,
+    ) -> Result<(), NoMemory>
+        requires { live_directory ((tree_of self.old).nodes directory) ≡ true }
+        ensures { MatchResult result (λ _. tree_of self.new ≡ entered (tree_of self.old) directory name number) (λ _. self.new ≡ self.old) }
+    {
+        let Node { count, kind } = self.take_node(alloc, directory);
+        let mut slots = into_slots(alloc, kind);
+        let entered = enter_slot(&mut slots, Slot { name, number });
+        let kind = Kind::Directory {
+            slots: Slots::new(slots),
+        };
+        self.set_node(directory, Node { count, kind });
+        entered
+    }
+
+    /// A directory with the first slot of that name free, and one name less where it says so.
+    pub(crate) fn clear(&mut self, alloc: Global, directory: usize, name: &[u8], lowers: bool)
+        requires { directory < (tree_of self.old).ninodes }
+        ensures { tree_of self.new ≡ at_node (tree_of self.old) directory (λ v. record v { kind = Directory (cleared (slots_of v.kind) name.now); count = if lowers then v.count - 1 else v.count }) }
+    {
+        let Node { count, kind } = self.take_node(alloc, directory);
+        let mut slots = into_slots(alloc, kind);
+        clear_slot(&mut slots, name);
+        let count = fewer(count, lowers);
+        let kind = Kind::Directory {
+            slots: Slots::new(slots),
+        };
+        self.set_node(directory, Node { count, kind });
+    }
+
+    pub(crate) fn set_directory(&mut self, hart: u8, number: u16)
+        requires { hart < 8 }
+        ensures { tree_of self.new ≡ record (tree_of self.old) { cwd = put (tree_of self.old).cwd hart number } }
+    {
+        let mut value = self.hart(hart);
+        value.directory = number;
+        self.set_hart(hart, value);
+    }
+
+    pub(crate) fn set_hold(&mut self, hart: u8, hold: Option<Hold>)
+        requires { hart < 8 }
+        ensures { tree_of self.new ≡ record (tree_of self.old) { holds = put (tree_of self.old).holds hart hold } }
+    {
+        let mut value = self.hart(hart);
+        value.hold = hold;
+        self.set_hart(hart, value);
+    }
+
+    pub(crate) fn set_descriptor(&mut self, hart: u8, fd: usize, id: Option<usize>)
+        requires hart { hart < 8 }
+        requires fd { fd < 16 }
+        ensures { tree_of self.new ≡ record (tree_of self.old) { fds = put (tree_of self.old).fds hart (put ((tree_of self.old).fds hart) fd id) } }
+    {
+        let mut value = self.hart(hart);
+        value.descriptors[fd] = id;
+        self.set_hart(hart, value);
+    }
+
+    /// The child takes over the hart's descriptors and current directory.
+    pub(crate) fn inherit(&mut self, hart: u8, child: u8)
+        requires hart { hart < 8 }
+        requires child { child < 8 }
+        ensures { tree_of self.new ≡ record (tree_of self.old) { fds = put (tree_of self.old).fds child ((tree_of self.old).fds hart); cwd = put (tree_of self.old).cwd child ((tree_of self.old).cwd hart) } }
+    {
+        let mut value = self.hart(hart);
+        value.hold = self.hold(child);
+        self.set_hart(child, value);
+    }
+}
