@@ -1,0 +1,9 @@
+pub mod Bits
+pub mod Bytes
+pub mod Entry
+pub mod Indirect
+pub mod Inode
+pub mod LogHead
+pub mod Name
+pub mod Super
+pub mod Widths
