@@ -1,0 +1,5 @@
+pub mod Layouts
+pub mod NumberLists
+pub mod MarkLemmas
+pub mod Gathered
+pub mod SuperAndLog

@@ -1,0 +1,17 @@
+//! The examination of an image: what damage it has, and which tree it holds.
+#![tactic(auto)]
+
+mod disk;
+mod examination;
+mod fault;
+mod heads;
+mod numbers;
+mod once;
+mod shape;
+mod types;
+
+pub use crate::disk::{Layout, load, load_inode};
+pub use crate::examination::examine_blocks;
+pub use crate::fault::{Damage, MountFault};
+pub use crate::heads::find_layout;
+pub use crate::shape::Shape;
