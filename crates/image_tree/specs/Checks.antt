@@ -77,10 +77,14 @@ pub record HasMarks (disk : List (List ℕ)) : Type 0 where
 abbrev pub largest_size : ℕ
 largest_size = 274432
 
-pub record IsGoodSize (disk : List (List ℕ)) (d : Dinode) : Type 0 where
+pub record IsFittingSize (d : Dinode) : Type 0 where
   pub limit : d.size ≤ largest_size
+  -- a live directory has whole slots, and its first two
+  pub slots : is_directory d ≡ true → is_live d ≡ true → (32 ≤ d.size) × (d.size % 16 ≡ 0)
+
+pub record IsGoodSize (disk : List (List ℕ)) (d : Dinode) : Type 0 where
+  pub fits : IsFittingSize d
   pub named : (k : ℕ) → 1024 * k < d.size → block_number (numbers_of disk d) k ≢ 0
-  pub directory : is_directory d ≡ true → is_live d ≡ true → (32 ≤ d.size) × (d.size % 16 ≡ 0)
 
 abbrev pub HasGoodSizes : List (List ℕ) → Type 0
 HasGoodSizes disk = (i : ℕ) → is_node disk i ≡ true → IsGoodSize disk (inode_of disk i)

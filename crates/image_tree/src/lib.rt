@@ -5,9 +5,12 @@ mod disk;
 mod examination;
 mod fault;
 mod heads;
+mod inodes;
+mod marks;
 mod numbers;
 mod once;
 mod shape;
+mod sizes;
 mod types;
 
 pub use crate::disk::{Layout, load, load_inode};

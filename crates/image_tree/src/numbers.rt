@@ -39,7 +39,7 @@ fn are_good(sizes: &Super, numbers: &[u32]) -> bool
 }
 
 /// The numbers in an inode, and those in its indirect block.
-fn load_numbers<D: Device>(
+pub fn load_numbers<D: Device>(
     device: &mut D,
     layout: &Layout,
     inode: &Dinode,
