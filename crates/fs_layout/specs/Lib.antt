@@ -5,5 +5,6 @@ pub mod Indirect
 pub mod Inode
 pub mod LogHead
 pub mod Name
+pub mod Recovered
 pub mod Super
 pub mod Widths

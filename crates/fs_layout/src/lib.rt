@@ -9,6 +9,7 @@ mod indirect;
 mod inode;
 mod log_head;
 mod name;
+mod recovered;
 mod superblock;
 pub mod widths;
 
@@ -20,4 +21,5 @@ pub use crate::indirect::{
 pub use crate::inode::{Dinode, dinode_spelling, read_dinode, write_dinode};
 pub use crate::log_head::{LogHead, log_head_spelling, read_log_head, write_log_head};
 pub use crate::name::Name;
+pub use crate::recovered::recovered_blocks;
 pub use crate::superblock::{Super, read_super, super_spelling, write_super};
