@@ -5,7 +5,7 @@ use Rattle.std.specs.List.{All}
 use Rattle.std.proofs.lemmas.Bool.{false≢true}
 use Rattle.std.proofs.lemmas.Bool.Decides.{nat_tests}
 use Rattle.fs_layout.specs.declared.inode.Dinode.{Dinode}
-use Rattle.image_tree.specs.Recovered.{sizes_of}
+use Rattle.fs_layout.specs.Recovered.{sizes_of}
 use Rattle.image_tree.specs.Inodes.{inode_of, is_free, is_directory, is_live, is_node, is_live_directory, numbers_of, numbers_by}
 use Rattle.image_tree.specs.Checks.{HasGoodNumbers, IsData}
 use Rattle.image_tree.specs.declared.disk.Layout.{Layout}

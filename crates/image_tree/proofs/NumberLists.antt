@@ -6,7 +6,7 @@ use Rattle.std.specs.List.{All}
 use Rattle.fs_layout.specs.declared.inode.Dinode.{Dinode}
 use Rattle.fs_layout.specs.Bytes.{u32s_at}
 use Rattle.image_tree.specs.Inodes.{numbers_of, numbers_by, inode_of, is_number}
-use Rattle.image_tree.specs.Recovered.{recovered, sizes_of}
+use Rattle.fs_layout.specs.Recovered.{recovered, sizes_of}
 use Rattle.image_tree.specs.Checks.{IsData}
 use Rattle.image_tree.specs.declared.disk.Layout.{Layout}
 use Rattle.image_tree.specs.Layout.{IsLayout}

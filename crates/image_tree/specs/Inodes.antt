@@ -5,7 +5,7 @@ use Rattle.fs_layout.specs.declared.entry.Dirent.{Dirent}
 use Rattle.fs_layout.specs.Bytes.{u32s_at}
 use Rattle.fs_layout.specs.Inode.{dinode_at}
 use Rattle.fs_layout.specs.Entry.{dirent_at}
-use Rattle.image_tree.specs.Recovered.{recovered, sizes_of}
+use Rattle.fs_layout.specs.Recovered.{recovered, sizes_of}
 
 unfoldable pub inode_of : List (List ℕ) → ℕ → Dinode
 inode_of disk i = dinode_at (i % 16) (recovered disk ((sizes_of disk).inodestart + i / 16))

@@ -1,4 +1,3 @@
-pub mod Recovered
 pub mod Lists
 pub mod Inodes
 pub mod Links

@@ -1,7 +1,7 @@
 //! A disk, seen as recovery would leave it.
 ghost use Rattle.std.specs.Prelude.{◌≡◌, ◌+◌, ◌<◌, ◌≤◌, ◌^◌, ◌==◌, length, position, OnOk, IfOk, IfSome};
 ghost use Rattle.block_device.specs.Blocks.{faults_after};
-ghost use Rattle.image_tree.specs.Recovered.{place_of, recovered};
+ghost use Rattle.fs_layout.specs.Recovered.{place_of, recovered};
 ghost use Rattle.image_tree.specs.Inodes.{inode_of};
 ghost use Rattle.image_tree.specs.Layout.{IsLayout};
 

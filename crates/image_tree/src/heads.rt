@@ -2,7 +2,7 @@
 ghost use Rattle.std.specs.Prelude.{◌≡◌, ◌<◌, ◌≤◌, length, All};
 ghost use Rattle.std.specs.Bool.{MatchBool};
 ghost use Rattle.image_tree.specs.Checks.{IsGoodSuper, HasSuper, HasGoodLog};
-ghost use Rattle.image_tree.specs.Recovered.{sizes_of, logged};
+ghost use Rattle.fs_layout.specs.Recovered.{sizes_of, logged};
 ghost use Rattle.image_tree.specs.Damage.{JudgesWith, UpToShort, UpToSize, faults_with};
 ghost use Rattle.image_tree.specs.Layout.{IsLayout};
 ghost use Rattle.image_tree.specs.Lists.{IsOnce};

@@ -4,7 +4,7 @@ ghost use Rattle.std.specs.Bool.{MatchBool};
 ghost use Rattle.block_device.specs.Blocks.{faults_after};
 ghost use Rattle.image_tree.specs.Checks.{IsData, HasGoodNumbers, NamesOnce};
 ghost use Rattle.image_tree.specs.Inodes.{numbers_of, numbers_by, is_block};
-ghost use Rattle.image_tree.specs.Recovered.{sizes_of};
+ghost use Rattle.fs_layout.specs.Recovered.{sizes_of};
 ghost use Rattle.image_tree.specs.Damage.{JudgesFault, faults_with};
 ghost use Rattle.image_tree.specs.Layout.{IsLayout};
 ghost use Rattle.image_tree.specs.Marks.{Marks};

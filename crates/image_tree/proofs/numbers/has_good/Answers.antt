@@ -1,7 +1,7 @@
 use Rattle.std.proofs.Common.{◌≢◌, ap, sym, subst, ℕ, rules, SFits, w16, of_z, List}
 use Rattle.std.specs.List.{All}
 use Rattle.image_tree.specs.Checks.{IsData}
-use Rattle.image_tree.specs.Recovered.{sizes_of}
+use Rattle.fs_layout.specs.Recovered.{sizes_of}
 use Rattle.image_tree.proofs.NumberLists.{numbers_by_free, numbers_by_used, All-addrs, All-nil, kind_zero}
 use Rattle.image_tree.proofs.numbers.has_good.Goals as goal
 

@@ -1,7 +1,7 @@
 use Rattle.std.proofs.Common.{◌≢◌, ◌∙◌, ap, sym, subst, ℕ, arith, rules, SFits, w16, of_z, List}
 use Rattle.std.specs.List.{All}
 use Rattle.image_tree.specs.Checks.{IsData}
-use Rattle.image_tree.specs.Recovered.{sizes_of}
+use Rattle.fs_layout.specs.Recovered.{sizes_of}
 use Rattle.image_tree.specs.Inodes.{numbers_by, numbers_of}
 use Rattle.image_tree.proofs.NumberLists.{numbers_by_free, numbers_by_used, kind_zero, twelfth_within, small_numbers, All-addrs}
 use Rattle.image_tree.proofs.Layouts.{in_order}

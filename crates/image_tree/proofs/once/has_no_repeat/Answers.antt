@@ -1,7 +1,7 @@
 use Rattle.std.proofs.Common.{◌≡◌, ◌∙◌, sym, refl, subst, ℕ, List, ◌+◌, ◌-◌, arith}
 use Rattle.image_tree.specs.Lists.{gathered}
 use Rattle.image_tree.specs.Inodes.{named_by}
-use Rattle.image_tree.specs.Recovered.{sizes_of}
+use Rattle.fs_layout.specs.Recovered.{sizes_of}
 use Rattle.image_tree.specs.Marks.{Marks}
 use Rattle.image_tree.specs.Lists.{IsOnce}
 use Rattle.image_tree.proofs.MarkLemmas.{once_nil}

@@ -1,5 +1,5 @@
 use Rattle.std.proofs.Common.{◌≡◌, ℕ, ◌<◌, ◌≤◌, List, arith}
-use Rattle.image_tree.specs.Recovered.{sizes_of}
+use Rattle.fs_layout.specs.Recovered.{sizes_of}
 use Rattle.image_tree.proofs.Nodes.{node_is}
 use Rattle.image_tree.proofs.sizes.has_good_sizes.Goals as goal
 
