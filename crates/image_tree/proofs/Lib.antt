@@ -4,4 +4,5 @@ pub mod MarkLemmas
 pub mod Gathered
 pub mod Nodes
 pub mod SizeLemmas
+pub mod SlotLemmas
 pub mod SuperAndLog

@@ -23,6 +23,12 @@ pub fn is_live(inode: &Dinode) -> bool
     0 < inode.nlink
 }
 
+pub fn is_live_directory(inode: &Dinode) -> bool
+    ensures { result ≡ (is_directory inode.now && is_live inode.now) }
+{
+    is_directory(inode) && is_live(inode)
+}
+
 /// The types of inodes.
 pub const KIND_FREE: i16 = 0;
 pub const KIND_DIRECTORY: i16 = 1;

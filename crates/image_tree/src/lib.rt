@@ -11,6 +11,7 @@ mod numbers;
 mod once;
 mod shape;
 mod sizes;
+mod slots;
 mod types;
 
 pub use crate::disk::{Layout, load, load_inode};

@@ -7,7 +7,7 @@ ghost use Rattle.image_tree.specs.Inodes.{block_number, inode_of, is_node};
 ghost use Rattle.image_tree.specs.Layout.{IsLayout};
 
 use crate::disk::{Layout, load_inode};
-use crate::inodes::{is_directory, is_free, is_live};
+use crate::inodes::{is_free, is_live_directory};
 use crate::numbers::load_numbers;
 use block_device::{Device, Fault};
 use fs_layout::Dinode;
@@ -48,9 +48,7 @@ fn is_fitting(inode: &Dinode) -> bool
 {
     let size = inode.size as usize;
     inode.size <= LARGEST_SIZE
-        && (!is_directory(inode)
-            || !is_live(inode)
-            || (2 * DIRENT_LEN <= size && size % DIRENT_LEN == 0))
+        && (!is_live_directory(inode) || (2 * DIRENT_LEN <= size && size % DIRENT_LEN == 0))
 }
 
 fn has_good_size<D: Device>(device: &mut D, layout: &Layout, i: u32) -> Result<bool, Fault>
