@@ -5,4 +5,7 @@ pub mod Gathered
 pub mod Nodes
 pub mod SizeLemmas
 pub mod SlotLemmas
+pub mod SlotNumbers
+pub mod NameLemmas
+pub mod EntryLemmas
 pub mod SuperAndLog

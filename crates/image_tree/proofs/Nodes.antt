@@ -1,8 +1,8 @@
 -- What it is to be a node, or a live directory.
-use Rattle.std.proofs.Common.{◌≡◌, ◌≢◌, ℕ, ◌<◌, ◌≤◌, Bool, true, false, not, List, length, slice_index, refl, sym, ap, ◌∙◌, subst, arith}
+use Rattle.std.proofs.Common.{◌≡◌, ◌≢◌, ℕ, ◌<◌, ◌≤◌, Bool, true, false, not, List, length, slice_index, refl, sym, ap, ◌∙◌, subst, arith, ◌+◌, ⊎_elim}
 use Rattle.std.specs.Prelude.{◌&&◌, nat_lt}
 use Rattle.std.specs.List.{All}
-use Rattle.std.proofs.lemmas.Bool.{false≢true}
+use Rattle.std.proofs.lemmas.Bool.{false≢true, cases_lt}
 use Rattle.std.proofs.lemmas.Bool.Decides.{nat_tests}
 use Rattle.fs_layout.specs.declared.inode.Dinode.{Dinode}
 use Rattle.fs_layout.specs.Recovered.{sizes_of}
@@ -85,3 +85,8 @@ twelfth_of_node disk layout i d h good low bound e used l =
     let own : All P (numbers_of disk (inode_of disk i)) =
         subst (All P) (numbers_by_node disk i (rw e at used)) (good i low (rw (← h.sizes) bound)) in
     twelfth_within disk layout d h l (All-addrs P disk d (subst (λ (x : Dinode). All P (numbers_of disk x)) (sym e) own))
+
+-- what holds of each inode below one, and of that one
+pub one_more : (P : ℕ → Type 0) (i : ℕ) → ((k : ℕ) → 1 ≤ k → k < i → P k) → P i → (k : ℕ) → 1 ≤ k → k < i + 1 → P k
+one_more P i below here k low bound =
+    ⊎_elim (λ (h : k < i). below k low h) (λ (h : i ≤ k). let e : i ≡ k = omega arith in subst P e here) (cases_lt k i)

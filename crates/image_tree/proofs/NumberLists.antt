@@ -21,7 +21,7 @@ unfolding numbers_of
 numbers_with disk d h = rw (ne_eqb (slice_index d.addrs 12) 0 h) refl
 
 -- the front of a list of good numbers
-pub All-front : (P : ℕ → Type 0) (xs ys : List ℕ) → All P (xs ++ ys) → All P xs
+pub All-front : {A : Type 0} (P : A → Type 0) (xs ys : List A) → All P (xs ++ ys) → All P xs
 All-front P xs ys h = λ k d l. subst P (get_or_append_left xs ys d k l) (h k d (omega (arith, length-append xs ys)))
 
 pub All-addrs : (P : ℕ → Type 0) (disk : List (List ℕ)) (d : Dinode) → All P (numbers_of disk d) → All P d.addrs

@@ -3,7 +3,7 @@ use Rattle.std.specs.Prelude.{◌≡◌, ◌≢◌, ℕ, ◌+◌, ◌-◌, ◌*�
 use Rattle.fs_layout.specs.declared.superblock.Super.{Super}
 use Rattle.fs_layout.specs.declared.inode.Dinode.{Dinode}
 use Rattle.fs_layout.specs.declared.entry.Dirent.{Dirent}
-use Rattle.fs_layout.specs.declared.entry.Dirent.TheVariants.{Used}
+use Rattle.fs_layout.specs.declared.entry.Dirent.TheVariants.{Free, Used}
 use Rattle.fs_layout.specs.Bytes.{u32_at}
 use Rattle.fs_layout.specs.Bits.{bit_of}
 use Rattle.fs_layout.specs.Recovered.{block_at, sizes_of, log_head_at, logged, recovered}
@@ -101,17 +101,23 @@ dot = 46 ∷ []
 abbrev pub dotdot : List ℕ
 dotdot = 46 ∷ 46 ∷ []
 
--- of the slots of directory i
-pub record AreGoodSlots (disk : List (List ℕ)) (i : ℕ) (slots : List (Option Dirent)) : Type 0 where
+-- used, with the name ".."
+abbrev pub IsDotDot : Option Dirent → Type 0
+IsDotDot None = ⊥
+IsDotDot (Some Free) = ⊥
+IsDotDot (Some (Used number name)) = name ≡ dotdot
+
+-- of the slots of directory i, where these numbers are those of nodes
+pub record AreGoodSlots (is_node : ℕ → Bool) (i : ℕ) (slots : List (Option Dirent)) : Type 0 where
   pub first : slice_index_or slots 0 None ≡ Some (Used i dot)
-  pub second : (n : ℕ) × (slice_index_or slots 1 None ≡ Some (Used n dotdot))
+  pub second : IsDotDot (slice_index_or slots 1 None)
   -- each is free and all zeros, or used with a name
   pub entries : All (λ slot. slot ≢ None) slots
-  pub nodes : All (λ n. is_node disk n ≡ true) (slot_numbers slots)
+  pub nodes : All (λ n. is_node n ≡ true) (slot_numbers slots)
   pub names : IsOnce (slot_names slots)
 
 abbrev pub HasGoodSlots : List (List ℕ) → Type 0
-HasGoodSlots disk = (i : ℕ) → is_live_directory disk i ≡ true → AreGoodSlots disk i (slots_in disk i)
+HasGoodSlots disk = (i : ℕ) → is_live_directory disk i ≡ true → AreGoodSlots (is_node disk) i (slots_in disk i)
 
 -- ---- 60: one tree
 

@@ -6,3 +6,4 @@ pub mod Damage
 pub mod Shape
 pub mod Layout
 pub mod Marks
+pub mod Names

@@ -2,11 +2,13 @@
 #![tactic(auto)]
 
 mod disk;
+mod entries;
 mod examination;
 mod fault;
 mod heads;
 mod inodes;
 mod marks;
+mod names;
 mod numbers;
 mod once;
 mod shape;

@@ -1,0 +1,8 @@
+use Rattle.std.proofs.Common.{subst, ℕ, List}
+use Rattle.image_tree.specs.Names.{IsKeyed}
+use Rattle.image_tree.proofs.NameLemmas.{keyed_name}
+use Rattle.fs_layout.specs.Name.{IsName}
+use Rattle.image_tree.proofs.names.name_key.Goals as goal
+
+pub returns-clause-keyed : goal.returns-clause-keyed
+returns-clause-keyed c = keyed_name c.args.name.now c.as_bytes.ensures.name (rw c.as_bytes.ensures.value at c.key_of.ensures.fits)
