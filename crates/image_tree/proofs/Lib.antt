@@ -8,4 +8,6 @@ pub mod SlotLemmas
 pub mod SlotNumbers
 pub mod NameLemmas
 pub mod EntryLemmas
+pub mod TallyLemmas
+pub mod LinkLemmas
 pub mod SuperAndLog

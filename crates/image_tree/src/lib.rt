@@ -7,6 +7,7 @@ mod examination;
 mod fault;
 mod heads;
 mod inodes;
+mod links;
 mod marks;
 mod names;
 mod numbers;
@@ -14,6 +15,7 @@ mod once;
 mod shape;
 mod sizes;
 mod slots;
+mod tallies;
 mod types;
 
 pub use crate::disk::{Layout, load, load_inode};
