@@ -1,6 +1,8 @@
 -- The tables of who names whom.
 use Rattle.std.proofs.Common.{◌≡◌, ◌≢◌, ◌∙◌, ap, sym, refl, subst, ℕ, zero, suc, ◌+◌, ◌-◌, ◌<◌, ◌≤◌, Bool, true, false, not, eqb, List, [], ◌∷◌, ◌++◌, length, get_or, filter, drop, arith, ⊎_elim, Option, Some, None}
-use Rattle.std.proofs.lemmas.List.{get_or_past}
+use Rattle.std.specs.Prelude.{Vec, vec_len}
+use Rattle.std.specs.Vec.{with_items}
+use Rattle.std.proofs.lemmas.List.{get_or_past, with_items_is}
 use Rattle.std.proofs.lemmas.List.Elements.{filter_agree}
 use Rattle.std.proofs.lemmas.Bool.{false_from_ne_true, cases_lt}
 use Rattle.fs_layout.specs.declared.entry.Dirent.{Dirent}
@@ -88,3 +90,14 @@ children_are disk ups shown table is same t =
     ∙ ap (λ (n : ℕ). gathered (f ups) (n - 1)) is.length
     ∙ gathered-same (f ups) (parent_of disk) (last disk) (λ d. ap (λ (u : ℕ). filter (λ n. not (eqb n d)) (u ∷ [])) (is.says d)))
     t
+
+-- a table that was written through a borrow of its elements
+pub table_kept : {Z : Type 0} (v : Vec ℕ Z) (lent written : List ℕ) (n : ℕ) → length written ≡ length lent → length lent ≡ vec_len v → length v.items ≡ n
+    → ((with_items v written).items ≡ written) × (length written ≡ n)
+table_kept v lent written n e l k = (with_items_is v written (e ∙ l), e ∙ l ∙ v.ok.0 ∙ k)
+
+pub tallies_kept : {Z : Type 0} (v : Vec ℕ Z) (written xs : List ℕ) → (with_items v written).items ≡ written → Tallies written xs → Tallies (with_items v written).items xs
+tallies_kept v written xs e t = subst (λ (ys : List ℕ). Tallies ys xs) (sym e) t
+
+pub length_kept : {Z : Type 0} (v : Vec ℕ Z) (written : List ℕ) (n : ℕ) → (with_items v written).items ≡ written → length written ≡ n → length (with_items v written).items ≡ n
+length_kept v written n e l = ap length e ∙ l
