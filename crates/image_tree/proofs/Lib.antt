@@ -10,4 +10,6 @@ pub mod NameLemmas
 pub mod EntryLemmas
 pub mod TallyLemmas
 pub mod LinkLemmas
+pub mod Climbs
+pub mod TreeLemmas
 pub mod SuperAndLog

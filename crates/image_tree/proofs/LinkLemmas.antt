@@ -23,7 +23,7 @@ slots_in_none disk i h = rw h refl
 pub up_none : (disk : List (List ℕ)) (i : ℕ) → is_live_directory disk i ≡ false → up disk i ≡ 0
 up_none disk i h = ap (λ (slots : List (Option Dirent)). number_in (get_or slots 1 None)) (slots_in_none disk i h)
 
-no_directory_zero : (disk : List (List ℕ)) → is_live_directory disk 0 ≡ false
+pub no_directory_zero : (disk : List (List ℕ)) → is_live_directory disk 0 ≡ false
 unfolding is_live_directory
 no_directory_zero disk = refl
 

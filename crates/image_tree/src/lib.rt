@@ -12,6 +12,7 @@ mod marks;
 mod names;
 mod numbers;
 mod once;
+mod one_tree;
 mod shape;
 mod sizes;
 mod slots;

@@ -33,7 +33,7 @@ pub fn tally_slots(table: &mut [u16], slots: &[Option<Dirent>])
     }
 }
 
-fn up_of(ups: &[u16], n: u16) -> u16
+pub fn up_of(ups: &[u16], n: u16) -> u16
     ensures { result ≡ slice_index ups.now n }
 {
     let place = n as usize;
