@@ -12,4 +12,5 @@ pub mod TallyLemmas
 pub mod LinkLemmas
 pub mod Climbs
 pub mod TreeLemmas
+pub mod CountLemmas
 pub mod SuperAndLog

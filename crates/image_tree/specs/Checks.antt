@@ -131,10 +131,12 @@ pub record IsOneTree (disk : List (List ℕ)) : Type 0 where
 
 -- ---- 61: counts
 
-pub record IsGoodCount (disk : List (List ℕ)) (i : ℕ) (d : Dinode) : Type 0 where
-  pub file : is_directory d ≡ false → d.nlink ≡ pos (names_of disk i)
-  pub directory : is_directory d ≡ true → is_live d ≡ true → d.nlink ≡ pos (1 + children_of disk i)
-  pub dead : is_directory d ≡ true → is_live d ≡ false → further_names_of disk i ≡ 0
+-- of an inode that so many slots of live directories name, so many of them past the first two, and that is the ".." of so many others
+pub record IsGoodCount (d : Dinode) (names further children : ℕ) : Type 0 where
+  pub file : is_directory d ≡ false → d.nlink ≡ pos names
+  pub directory : is_directory d ≡ true → is_live d ≡ true → d.nlink ≡ pos (1 + children)
+  pub dead : is_directory d ≡ true → is_live d ≡ false → further ≡ 0
 
 abbrev pub HasGoodCounts : List (List ℕ) → Type 0
-HasGoodCounts disk = (i : ℕ) → is_node disk i ≡ true → IsGoodCount disk i (inode_of disk i)
+HasGoodCounts disk =
+    (i : ℕ) → is_node disk i ≡ true → IsGoodCount (inode_of disk i) (names_of disk i) (further_names_of disk i) (children_of disk i)

@@ -1,6 +1,7 @@
 //! The examination of an image: what damage it has, and which tree it holds.
 #![tactic(auto)]
 
+mod counts;
 mod disk;
 mod entries;
 mod examination;
