@@ -35,7 +35,7 @@ flags-one disk before after none e =
 lt_test : (m n : ℕ) → m < n → nat_lt m n ≡ true
 lt_test m n h = lt-ltb m n h
 
-node_flag : (disk : List (List ℕ)) (layout : Layout) (i : ℕ) (d : Dinode) → IsLayout disk layout → 1 ≤ i → i < layout.sizes.ninodes → d ≡ inode_of disk i
+pub node_flag : (disk : List (List ℕ)) (layout : Layout) (i : ℕ) (d : Dinode) → IsLayout disk layout → 1 ≤ i → i < layout.sizes.ninodes → d ≡ inode_of disk i
     → not (is_free d) ≡ is_node disk i
 unfolding is_node
 node_flag disk layout i d h low bound e =

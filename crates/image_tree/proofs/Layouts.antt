@@ -6,13 +6,12 @@ use Rattle.std.specs.Option.{option_map_or}
 use Rattle.fs_layout.specs.Inode.{dinode_at}
 use Rattle.fs_layout.proofs.Numbers.{length-u32s_at}
 use Rattle.image_tree.specs.declared.disk.Layout.{Layout}
-use Rattle.fs_layout.specs.Recovered.{place_of, logged, sizes_of, block_at, recovered}
-use Rattle.image_tree.specs.Checks.{log_count}
+use Rattle.fs_layout.specs.Recovered.{place_of, logged, log_count, sizes_of, block_at, recovered}
 use Rattle.image_tree.specs.Inodes.{inode_of}
 use Rattle.image_tree.specs.Layout.{IsLayout}
 
 pub length-logged : (disk : List (List ℕ)) → length (logged disk) ≡ log_count disk
-unfolding logged log_count
+unfolding logged
 length-logged disk = length-u32s_at (log_count disk) (block_at disk (sizes_of disk).logstart) 4
 
 -- a block's place is below any bound that the block and the log's blocks are below

@@ -13,4 +13,5 @@ pub mod LinkLemmas
 pub mod Climbs
 pub mod TreeLemmas
 pub mod CountLemmas
+pub mod ShapeLemmas
 pub mod SuperAndLog

@@ -7,8 +7,7 @@ use Rattle.fs_layout.specs.declared.log_head.LogHead.{LogHead}
 use Rattle.fs_layout.specs.Bytes.{u32_at, u32s_at}
 use Rattle.fs_layout.specs.Super.{super_of, super_fields}
 use Rattle.fs_layout.specs.LogHead.{log_head_of}
-use Rattle.fs_layout.specs.Recovered.{sizes_of, logged, block_at}
-use Rattle.image_tree.specs.Checks.{log_count}
+use Rattle.fs_layout.specs.Recovered.{sizes_of, logged, log_count, block_at}
 use Rattle.image_tree.specs.Checks.{HasGoodLog}
 
 some_from : {T : Type 0} (b : Bool) (x y : T) → cond b (Some x) None ≡ Some y → (b ≡ true) × (x ≡ y)
@@ -28,14 +27,14 @@ super_is disk block s e h =
 
 pub head_is : (disk : List (List ℕ)) (block : List ℕ) (h : LogHead) → block ≡ block_at disk (sizes_of disk).logstart → log_head_of block ≡ Some h
     → (log_count disk ≤ 255) × (h.blocks.items ≡ logged disk)
-unfolding logged log_count
+unfolding logged
 head_is disk block h e is =
     let f = some_from (leb (u32_at block 0) 255) _ h is in
     let small : u32_at block 0 ≤ 255 = let t = f.0 in grind (arith, nat_tests) in
     (rw (← e) small, sym (ap (λ (x : LogHead). x.blocks.items) f.1) ∙ ap (λ (b : List ℕ). u32s_at (u32_at b 0) b 4) e)
 
 pub no_head : (disk : List (List ℕ)) (block : List ℕ) → block ≡ block_at disk (sizes_of disk).logstart → log_head_of block ≡ None → HasGoodLog disk → ⊥
-unfolding log_count
+
 no_head disk block e is good =
     let f = none_from (leb (u32_at block 0) 255) _ is in
     let small : u32_at block 0 ≤ 255 = rw e good.room in

@@ -6,7 +6,7 @@ use Rattle.fs_layout.specs.declared.entry.Dirent.{Dirent}
 use Rattle.fs_layout.specs.declared.entry.Dirent.TheVariants.{Free, Used}
 use Rattle.fs_layout.specs.Bytes.{u32_at}
 use Rattle.fs_layout.specs.Bits.{bit_of}
-use Rattle.fs_layout.specs.Recovered.{block_at, sizes_of, log_head_at, logged, recovered}
+use Rattle.fs_layout.specs.Recovered.{block_at, sizes_of, log_count, logged, recovered}
 use Rattle.image_tree.specs.Lists.{IsOnce, gathered}
 use Rattle.image_tree.specs.Inodes.{inode_of, last, is_directory, is_live, is_node, is_live_directory, numbers_of, numbers_by, named_by, block_number}
 use Rattle.image_tree.specs.Links.{slots_in, slot_numbers, slot_names, up, names_of, further_names_of, proper_names_of, children_of, Reaches}
@@ -27,10 +27,6 @@ abbrev pub HasSuper : List (List ℕ) → Type 0
 HasSuper disk = (u32_at (block_at disk 1) 0 ≡ 0x10203040) × IsGoodSuper (sizes_of disk)
 
 -- ---- 53: the log's head
-
--- how many blocks the log's head says that it names
-unfoldable pub log_count : List (List ℕ) → ℕ
-log_count disk = u32_at (log_head_at disk) 0
 
 pub record HasGoodLog (disk : List (List ℕ)) : Type 0 where
   pub count : log_count disk ≤ (sizes_of disk).nlog - 1

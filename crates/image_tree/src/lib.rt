@@ -20,8 +20,8 @@ mod slots;
 mod tallies;
 mod types;
 
-pub use crate::disk::{Layout, load, load_inode};
-pub use crate::examination::examine_blocks;
+pub use crate::disk::{Layout, load};
+pub use crate::examination::examine;
 pub use crate::fault::{Damage, MountFault};
 pub use crate::heads::find_layout;
 pub use crate::shape::Shape;

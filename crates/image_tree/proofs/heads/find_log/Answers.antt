@@ -1,6 +1,5 @@
 use Rattle.std.proofs.Common.{◌≡◌, ◌∙◌, ◌≤◌, ◌<◌, sym, ap, ℕ, List, subst, arith, length, refl}
-use Rattle.fs_layout.specs.Recovered.{sizes_of, block_at}
-use Rattle.image_tree.specs.Checks.{log_count}
+use Rattle.fs_layout.specs.Recovered.{sizes_of, block_at, log_count}
 use Rattle.image_tree.specs.Lists.{IsOnce}
 use Rattle.image_tree.proofs.SuperAndLog.{head_is, no_head}
 use Rattle.image_tree.proofs.Layouts.{length-logged}
