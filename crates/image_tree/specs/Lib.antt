@@ -3,6 +3,7 @@ pub mod Inodes
 pub mod Links
 pub mod Checks
 pub mod Damage
+pub mod Faults
 pub mod Shape
 pub mod Layout
 pub mod Marks

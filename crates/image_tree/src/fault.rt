@@ -1,4 +1,7 @@
 //! Why an image is not taken.
+ghost use Rattle.std.specs.Prelude.{◌≡◌};
+ghost use Rattle.image_tree.specs.Faults.{fault_number};
+
 use block_device::Fault;
 use std::alloc::AllocError;
 
@@ -58,5 +61,18 @@ impl From<AllocError> for MountFault {
 
     fn from(_error: AllocError) -> MountFault {
         MountFault::NoMemory
+    }
+}
+
+impl MountFault {
+    /// Its number, as programs print it.
+    pub fn number(self) -> u8
+        ensures { result ≡ fault_number self }
+    {
+        match self {
+            MountFault::Damaged(damage) => damage as u8,
+            MountFault::DeviceFault => 31,
+            MountFault::NoMemory => 33,
+        }
     }
 }

@@ -25,3 +25,6 @@ pub use crate::examination::examine;
 pub use crate::fault::{Damage, MountFault};
 pub use crate::heads::find_layout;
 pub use crate::shape::Shape;
+
+#[cfg(test)]
+mod tests;
