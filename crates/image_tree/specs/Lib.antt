@@ -5,6 +5,7 @@ pub mod Checks
 pub mod Damage
 pub mod Faults
 pub mod Shape
+pub mod Trees
 pub mod Layout
 pub mod Marks
 pub mod Names
