@@ -19,7 +19,7 @@ use Rattle.image_tree.proofs.Nodes.{both_from, directory_is, directory_from, nod
 
 -- ---- the table of nodes
 
-no_node_zero : (disk : List (List ℕ)) → is_node disk 0 ≡ false
+pub no_node_zero : (disk : List (List ℕ)) → is_node disk 0 ≡ false
 unfolding is_node
 no_node_zero disk = refl
 

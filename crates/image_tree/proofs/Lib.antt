@@ -14,4 +14,5 @@ pub mod Climbs
 pub mod TreeLemmas
 pub mod CountLemmas
 pub mod ShapeLemmas
+pub mod TreeOfLemmas
 pub mod SuperAndLog

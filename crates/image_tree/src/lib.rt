@@ -1,6 +1,7 @@
 //! The examination of an image: what damage it has, and which tree it holds.
 #![tactic(auto)]
 
+mod content;
 mod counts;
 mod disk;
 mod entries;
@@ -18,6 +19,7 @@ mod shape;
 mod sizes;
 mod slots;
 mod tallies;
+mod trees;
 mod types;
 
 pub use crate::disk::{Layout, load};
@@ -25,6 +27,7 @@ pub use crate::examination::examine;
 pub use crate::fault::{Damage, MountFault};
 pub use crate::heads::find_layout;
 pub use crate::shape::Shape;
+pub use crate::trees::tree_of;
 
 #[cfg(test)]
 mod tests;

@@ -47,7 +47,7 @@ fn push_slot(slots: &mut Vec<Option<Dirent>>, slot: Option<Dirent>) -> Result<()
 }
 
 /// All slots of a directory with these block numbers.
-fn load_slots<D: Device>(
+pub fn load_slots<D: Device>(
     alloc: Global,
     device: &mut D,
     layout: &Layout,
