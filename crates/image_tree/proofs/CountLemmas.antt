@@ -1,10 +1,9 @@
 -- Counts, and how often inodes are named.
-use Rattle.std.proofs.Common.{◌≡◌, ◌∙◌, ap, sym, refl, subst, ℕ, ◌<◌, ◌≤◌, min, Bool, true, false, List, length, get_or, arith}
+use Rattle.std.proofs.Common.{◌≡◌, ◌∙◌, sym, subst, ℕ, ◌<◌, ◌≤◌, min, Bool, true, false, List, length, get_or, arith}
 use Rattle.std.specs.Bool.{MatchBool}
 use Rattle.std.proofs.lemmas.List.{get_or_default}
 use Rattle.std.proofs.lemmas.Bool.{false≢true}
 use Rattle.fs_layout.specs.declared.inode.Dinode.{Dinode}
-use Rattle.fs_layout.specs.Recovered.{sizes_of}
 use Rattle.image_tree.specs.Lists.{times}
 use Rattle.image_tree.specs.Inodes.{inode_of, is_free, is_node}
 use Rattle.image_tree.specs.Links.{names_of, further_names_of, children_of}

@@ -1,14 +1,10 @@
 -- Tables of counts.
-use Rattle.std.proofs.Common.{◌≡◌, ◌≢◌, ◌∙◌, ap, sym, refl, subst, ℕ, suc, ◌+◌, ◌-◌, ◌<◌, ◌≤◌, min, Bool, true, false, cond, eqb, List, [], ◌∷◌, ◌++◌, length, get_or, set, take, filter, replicate, arith, length-append, append_assoc, ⊎_elim}
-use Rattle.std.specs.List.{count_by, fold, flat_map}
-use Rattle.std.proofs.lemmas.List.{get_or-set_same, get_or-set_other, get_or_past, get_or-replicate, append-nil, length-set, length-replicate, take_all}
+use Rattle.std.proofs.Common.{◌≡◌, ◌≢◌, ◌∙◌, ap, sym, refl, ℕ, ◌+◌, ◌<◌, min, Bool, cond, eqb, List, [], ◌∷◌, ◌++◌, length, get_or, set, replicate, arith, ⊎_elim}
+use Rattle.std.proofs.lemmas.List.{get_or-set_same, get_or-set_other, get_or-replicate, length-set, length-replicate}
 use Rattle.std.proofs.lemmas.List.Sums.{fold_push}
-use Rattle.std.proofs.lemmas.List.Elements.{filter-append}
-use Rattle.std.proofs.lemmas.Bool.{cases_eq, cases_lt, eq-eqb, ne_eqb}
-use Rattle.std.proofs.lemmas.Bool.Decides.{nat_tests}
+use Rattle.std.proofs.lemmas.Bool.{cases_eq, eq-eqb, ne_eqb}
 use Rattle.image_tree.specs.Lists.{times}
 use Rattle.image_tree.specs.Marks.{Tallies}
-use Rattle.image_tree.proofs.SlotNumbers.{flat_more}
 
 times-push : (i n : ℕ) (xs : List ℕ) → times i (xs ++ n ∷ []) ≡ times i xs + cond (eqb n i) 1 0
 times-push i n xs = fold_push (λ a x. a + cond (eqb x i) 1 0) 0 xs n

@@ -1,15 +1,14 @@
 -- What the tables tell of the live directories.
-use Rattle.std.proofs.Common.{◌≡◌, ◌≢◌, ◌∙◌, ap, sym, refl, subst, ℕ, ◌+◌, ◌-◌, ◌<◌, ◌≤◌, min, Bool, true, false, List, [], ◌∷◌, length, get_or, arith, ⊎_elim, Option, Some, None}
+use Rattle.std.proofs.Common.{◌≡◌, ◌≢◌, ◌∙◌, ap, sym, refl, subst, ℕ, ◌<◌, ◌≤◌, Bool, true, false, List, length, get_or, arith, ⊎_elim, Option, Some, None}
 use Rattle.std.specs.Bool.{MatchBool}
 use Rattle.std.specs.List.{All}
 use Rattle.std.proofs.lemmas.List.{get_or_past, get_or_default}
-use Rattle.std.proofs.lemmas.Bool.{cases_lt, cases_eq}
+use Rattle.std.proofs.lemmas.Bool.{cases_lt}
 use Rattle.fs_layout.specs.declared.entry.Dirent.{Dirent}
 use Rattle.fs_layout.specs.declared.entry.Dirent.TheVariants.{Free, Used}
-use Rattle.fs_layout.specs.Recovered.{sizes_of}
 use Rattle.image_tree.specs.Lists.{gathered, times}
 use Rattle.image_tree.specs.Inodes.{is_node, is_live_directory, last}
-use Rattle.image_tree.specs.Links.{slots_in, slot_number, number_in, up, further_in, proper_in, further_names_of, proper_names_of, climb, Reaches}
+use Rattle.image_tree.specs.Links.{slots_in, slot_number, number_in, up, further_in, proper_in, Reaches}
 use Rattle.image_tree.specs.Checks.{HasGoodSlots, IsDotDot, IsOneTree}
 use Rattle.image_tree.specs.Marks.{Tallies, IsUpTable, IsLinks}
 use Rattle.image_tree.specs.declared.links.Links.{Links}

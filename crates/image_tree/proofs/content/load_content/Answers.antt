@@ -1,4 +1,4 @@
-use Rattle.std.proofs.Common.{◌≡◌, ◌∙◌, sym, refl, ℕ, List}
+use Rattle.std.proofs.Common.{◌∙◌, sym, refl}
 use Rattle.image_tree.proofs.TreeOfLemmas.{front_blocks-none, front_blocks-more}
 use Rattle.image_tree.proofs.content.load_content.Goals as goal
 

@@ -1,4 +1,4 @@
-use Rattle.std.proofs.Common.{◌≡◌, ◌∙◌, subst, ℕ, ◌<◌, List, arith}
+use Rattle.std.proofs.Common.{◌∙◌, subst, ℕ, ◌<◌, List, arith}
 use Rattle.std.proofs.lemmas.Bool.{MatchBool-at_true}
 use Rattle.image_tree.proofs.Nodes.{node_is, one_more}
 use Rattle.image_tree.proofs.CountLemmas.{GoodCount}

@@ -1,4 +1,3 @@
-use Rattle.std.proofs.Common.{ℕ}
 use Rattle.image_tree.proofs.EntryLemmas.{few_slots}
 use Rattle.image_tree.proofs.entries.has_dots.Goals as goal
 

@@ -1,4 +1,4 @@
-use Rattle.std.proofs.Common.{◌≡◌, ◌∙◌, sym, ap, subst, refl, ℕ, ◌<◌, ◌≤◌, List, Bool, true, arith}
+use Rattle.std.proofs.Common.{◌≡◌, ◌∙◌, subst, ℕ, ◌<◌, List, true, arith}
 use Rattle.std.proofs.lemmas.Bool.{MatchBool-at_true}
 use Rattle.image_tree.specs.Inodes.{is_node, is_live_directory}
 use Rattle.image_tree.specs.Links.{slots_in}

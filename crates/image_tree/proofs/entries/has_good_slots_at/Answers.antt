@@ -1,4 +1,4 @@
-use Rattle.std.proofs.Common.{◌≡◌, ◌∙◌, sym, ap, ℕ, List}
+use Rattle.std.proofs.Common.{◌∙◌, sym, ap, ℕ, List}
 use Rattle.image_tree.specs.Links.{slots_in}
 use Rattle.image_tree.proofs.EntryLemmas.{no_directory, slots_told}
 use Rattle.image_tree.proofs.entries.has_good_slots_at.Goals as goal

@@ -1,4 +1,4 @@
-use Rattle.std.proofs.Common.{◌≡◌, ℕ, true, false, get_or, arith}
+use Rattle.std.proofs.Common.{◌≡◌, true, false, get_or, arith}
 use Rattle.std.proofs.lemmas.List.{take_all}
 use Rattle.image_tree.specs.Links.{slot_number}
 use Rattle.image_tree.proofs.SlotNumbers.{All-at}

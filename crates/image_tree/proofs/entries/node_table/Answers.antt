@@ -1,4 +1,4 @@
-use Rattle.std.proofs.Common.{◌≡◌, ◌∙◌, refl, sym, ap, ℕ, List, arith, not}
+use Rattle.std.proofs.Common.{◌∙◌, refl, ap, ℕ, List, arith, not}
 use Rattle.image_tree.specs.Inodes.{inode_of}
 use Rattle.image_tree.proofs.Layouts.{in_order}
 use Rattle.image_tree.proofs.EntryLemmas.{flags-one, flags-more, node_table_is}

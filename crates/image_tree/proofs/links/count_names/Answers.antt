@@ -1,10 +1,6 @@
-use Rattle.std.proofs.Common.{◌≡◌, ◌∙◌, ℕ, ◌-◌, ◌≤◌, List, refl, subst, ap, arith}
-use Rattle.fs_layout.specs.Recovered.{sizes_of}
-use Rattle.image_tree.specs.Inodes.{last}
+use Rattle.std.proofs.Common.{◌≡◌, ◌∙◌, ℕ, ◌-◌, ◌≤◌, List, refl}
 use Rattle.image_tree.specs.Links.{named_in, further_in, proper_in}
 use Rattle.image_tree.specs.Lists.{gathered}
-use Rattle.image_tree.specs.Marks.{Tallies}
-use Rattle.image_tree.proofs.Layouts.{in_order}
 use Rattle.image_tree.proofs.LinkLemmas.{tallies_more, tallies_none, named_loaded, further_loaded, proper_loaded}
 use Rattle.image_tree.proofs.links.count_names.Goals as goal
 

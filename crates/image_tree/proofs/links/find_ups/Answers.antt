@@ -1,4 +1,4 @@
-use Rattle.std.proofs.Common.{ℕ, refl, arith}
+use Rattle.std.proofs.Common.{refl, arith}
 use Rattle.image_tree.proofs.Layouts.{in_order}
 use Rattle.image_tree.proofs.LinkLemmas.{up-one, up_table_is}
 use Rattle.image_tree.proofs.links.find_ups.Goals as goal

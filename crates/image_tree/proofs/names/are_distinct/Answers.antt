@@ -1,4 +1,3 @@
-use Rattle.std.proofs.Common.{ℕ}
 use Rattle.std.proofs.lemmas.List.Sorted.{IsNonDecreasingBy-from_sort}
 use Rattle.image_tree.proofs.NameLemmas.{distinct_told}
 use Rattle.image_tree.proofs.names.are_distinct.Goals as goal

@@ -1,7 +1,4 @@
-use Rattle.std.proofs.Common.{subst, ℕ, List}
-use Rattle.image_tree.specs.Names.{IsKeyed}
 use Rattle.image_tree.proofs.NameLemmas.{keyed_name}
-use Rattle.fs_layout.specs.Name.{IsName}
 use Rattle.image_tree.proofs.names.name_key.Goals as goal
 
 pub returns-clause-keyed : goal.returns-clause-keyed

@@ -1,7 +1,5 @@
-use Rattle.std.proofs.Common.{◌≡◌, ◌∙◌, ℕ, List, sym, ap, arith, get_or, length}
-use Rattle.image_tree.specs.Marks.{IsLinks}
-use Rattle.image_tree.specs.declared.links.Links.{Links}
-use Rattle.image_tree.proofs.TreeLemmas.{Tables, tables_of, unnamed_no_tree, tree_told, up_zero}
+use Rattle.std.proofs.Common.{◌∙◌, ℕ, List, ap, arith, get_or}
+use Rattle.image_tree.proofs.TreeLemmas.{tables_of, unnamed_no_tree, tree_told, up_zero}
 use Rattle.image_tree.proofs.one_tree.is_one_tree.Goals as goal
 
 pub returns-then-not-are_named : goal.returns-then-not-are_named

@@ -1,7 +1,6 @@
-use Rattle.std.proofs.Common.{◌≡◌, ◌∙◌, ℕ, List, refl, ap, arith, rules}
-use Rattle.image_tree.specs.Inodes.{inode_of, numbers_by}
-use Rattle.image_tree.proofs.Layouts.{in_order}
-use Rattle.image_tree.proofs.ShapeLemmas.{shape_none, shape_more, shape_told}
+use Rattle.std.proofs.Common.{◌∙◌, ℕ, List, refl, ap, rules}
+use Rattle.image_tree.specs.Inodes.{inode_of}
+use Rattle.image_tree.proofs.ShapeLemmas.{shape_none, shape_more}
 use Rattle.image_tree.proofs.shape.find_shape.Goals as goal
 
 pub loop-i-init : goal.loop-i-init

@@ -1,8 +1,6 @@
-use Rattle.std.proofs.Common.{◌≡◌, ◌≢◌, ◌∙◌, ap, sym, refl, subst, ℕ, ◌<◌, ◌*◌, List, arith, true, false}
-use Rattle.std.proofs.lemmas.Bool.{false≢true}
-use Rattle.fs_layout.specs.declared.inode.Dinode.{Dinode}
-use Rattle.image_tree.specs.Inodes.{inode_of, is_free, numbers_of}
-use Rattle.image_tree.proofs.Nodes.{node_is, node_from, twelfth_of_node}
+use Rattle.std.proofs.Common.{◌∙◌, ap, sym, ℕ, List, arith}
+use Rattle.image_tree.specs.Inodes.{numbers_of}
+use Rattle.image_tree.proofs.Nodes.{twelfth_of_node}
 use Rattle.image_tree.proofs.SizeLemmas.{free_no_size, unfit_no_size, size_told}
 use Rattle.image_tree.proofs.sizes.has_good_size.Goals as goal
 

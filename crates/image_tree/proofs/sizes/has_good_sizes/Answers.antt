@@ -1,5 +1,4 @@
-use Rattle.std.proofs.Common.{◌≡◌, ℕ, ◌<◌, ◌≤◌, List, arith}
-use Rattle.fs_layout.specs.Recovered.{sizes_of}
+use Rattle.std.proofs.Common.{◌<◌, arith}
 use Rattle.image_tree.proofs.Nodes.{node_is}
 use Rattle.image_tree.proofs.sizes.has_good_sizes.Goals as goal
 

@@ -1,4 +1,4 @@
-use Rattle.std.proofs.Common.{◌≡◌, ◌∙◌, sym, refl, ℕ, List}
+use Rattle.std.proofs.Common.{◌∙◌, sym, refl}
 use Rattle.image_tree.proofs.SlotLemmas.{first_slots-none, first_slots-more}
 use Rattle.image_tree.proofs.slots.load_slots.Goals as goal
 

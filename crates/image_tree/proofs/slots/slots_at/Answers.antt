@@ -1,5 +1,5 @@
-use Rattle.std.proofs.Common.{◌≡◌, ◌∙◌, sym, ap, refl, ℕ, List, true, false}
-use Rattle.image_tree.specs.Inodes.{is_directory, is_live, is_free, numbers_by, slots_of}
+use Rattle.std.proofs.Common.{◌∙◌, sym, ap, ℕ, List}
+use Rattle.image_tree.specs.Inodes.{slots_of}
 use Rattle.image_tree.proofs.SlotLemmas.{slots_in_directory, slots_in_other, numbers_of_directory}
 use Rattle.image_tree.proofs.slots.slots_at.Goals as goal
 

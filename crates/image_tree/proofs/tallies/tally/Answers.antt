@@ -1,4 +1,4 @@
-use Rattle.std.proofs.Common.{ℕ, List, arith}
+use Rattle.std.proofs.Common.{arith}
 use Rattle.image_tree.proofs.TallyLemmas.{tally_in}
 use Rattle.image_tree.proofs.tallies.tally.Goals as goal
 

@@ -1,6 +1,5 @@
-use Rattle.std.proofs.Common.{◌≡◌, ◌∙◌, sym, ap, ℕ, List, SFits, w16, rules}
+use Rattle.std.proofs.Common.{◌∙◌, sym, SFits, w16, rules}
 use Rattle.std.proofs.lemmas.Int.{to_z-of_z}
-use Rattle.image_tree.specs.Inodes.{content_of, slots_of}
 use Rattle.image_tree.proofs.TreeOfLemmas.{numbers_loaded, directory_kind, file_kind, device_kind}
 use Rattle.image_tree.proofs.trees.load_kind.Goals as goal
 

@@ -1,4 +1,4 @@
-use Rattle.std.proofs.Common.{◌≡◌, ◌∙◌, sym, refl, ℕ, List}
+use Rattle.std.proofs.Common.{◌∙◌, refl}
 use Rattle.image_tree.proofs.TreeOfLemmas.{nodes_one, nodes_more}
 use Rattle.image_tree.proofs.trees.load_nodes.Goals as goal
 
