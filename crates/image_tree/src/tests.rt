@@ -1,4 +1,6 @@
 //! Images made by hand, byte by byte, and what their examination answers.
+ghost use Rattle.std.specs.Prelude.{◌<◌};
+
 use crate::{MountFault, Shape, examine, tree_of};
 use block_device::{Device, Fused, MemoryDisk};
 use plain_tree::{Kind, Slot};
