@@ -1,8 +1,9 @@
 //! The tree.
-ghost use Rattle.std.specs.Prelude.{◌≡◌, ◌<◌, ◌++◌, ◌∷◌, [], length, IfOk, MatchOption, MatchResult, remove, slice_index_or, slice_set, true};
+ghost use Rattle.std.specs.Prelude.{◌≡◌, ◌<◌, ◌++◌, ◌∷◌, [], length, replicate, IfOk, MatchOption, MatchResult, remove, slice_index_or, slice_set, true};
 ghost use Rattle.plain_tree.specs.Code.{Advances, HasFiles, IsEntryOf, IsOrphan};
-ghost use Rattle.plain_tree.specs.Fresh.{fresh};
+ghost use Rattle.plain_tree.specs.Fresh.{fresh, fresh_hart};
 ghost use Rattle.plain_tree.specs.Steps.{closed, moved, node_at, with_nodes};
+ghost use Rattle.plain_tree.specs.Widths.{hart_count};
 ghost use Rattle.plain_tree.specs.Tree.{file_in, hart_at, put, tree_of};
 
 use crate::bytes::Bytes;
@@ -83,6 +84,22 @@ impl Tree {
         ensures { IfOk result (λ t. t ≡ fresh ninodes) }
     {
         Err(NoMemory)
+    }
+
+    /// A tree of these nodes, each at its number. Nothing is open, and all harts are in the root. It takes no memory.
+    pub fn of_nodes(alloc: Global, nodes: Vec<Option<Node>>) -> Tree
+        ensures { result ≡ record { nodes = nodes.items; files = []; harts = replicate hart_count fresh_hart } }
+    {
+        let hart = Hart {
+            directory: ROOT,
+            descriptors: [None; 16],
+            hold: None,
+        };
+        Tree {
+            nodes,
+            files: Vec::new(alloc),
+            harts: [hart; 8],
+        }
     }
 
     /// The numbers of nodes are below it.
