@@ -6,11 +6,12 @@ use Rattle.std.proofs.lemmas.List.{get_or-set_same, get_or-set_other}
 use Rattle.std.proofs.lemmas.List.Sums.{position_or_len_is, passes_at_first, fails_before_first}
 use Rattle.std.proofs.lemmas.Bool.{eq-eqb, ne_eqb, eqb-true, eqb-false, cases_lt}
 use Rattle.std.proofs.lemmas.Bool.Decides.{nat_tests}
-use Rattle.fs_layout.specs.Bytes.{overwrite, u32_at, u32s_at}
+use Rattle.fs_layout.specs.Bytes.{overwrite, u32s_at}
 use Rattle.fs_layout.specs.LogHead.{spell_log_head, head_numbers}
 use Rattle.fs_layout.specs.declared.superblock.Super.{Super}
 use Rattle.fs_layout.specs.Super.{super_fields}
-use Rattle.fs_layout.specs.Recovered.{block_at, sizes_of, log_head_at, logged, place_of, overlay, recovered}
+use Rattle.fs_layout.specs.Recovered.{block_at, sizes_of, log_head_at, log_count, logged, place_of, overlay, recovered}
+use Rattle.fs_layout.proofs.Numbers.{length-u32s_at}
 use Rattle.fs_layout.proofs.Words.{front-overwrite, head_numbers-spell}
 
 -- ---- one block written
@@ -129,7 +130,11 @@ recovered-set disk c b bytes h l p =
 
 -- ---- with nothing logged, and after a write of the head
 
-pub logged-empty : (disk : List (List ℕ)) → u32_at (log_head_at disk) 0 ≡ 0 → logged disk ≡ []
+pub length-logged : (disk : List (List ℕ)) → length (logged disk) ≡ log_count disk
+unfolding logged
+length-logged disk = length-u32s_at (log_count disk) (log_head_at disk) 4
+
+pub logged-empty : (disk : List (List ℕ)) → log_count disk ≡ 0 → logged disk ≡ []
 unfolding logged u32s_at
 logged-empty disk e =
     ap (λ (n : ℕ). u32s_at n (log_head_at disk) 4) e

@@ -2,9 +2,10 @@
 use Rattle.std.specs.Prelude.{◌≡◌, ◌⊎◌, ℕ, ◌+◌, ◌<◌, ◌≤◌, ◌==◌, List, [], slice_index_or, position}
 use Rattle.std.specs.Option.{option_map_or}
 use Rattle.fs_layout.specs.declared.superblock.Super.{Super}
+use Rattle.fs_layout.specs.Bytes.{u32_at}
 use Rattle.fs_layout.specs.Super.{super_fields}
 use Rattle.fs_layout.specs.LogHead.{head_numbers}
-use Rattle.fs_layout.specs.Widths.{super_block}
+use Rattle.fs_layout.specs.Widths.{super_block, log_head_count_at}
 
 -- a block of the disk; one that the disk doesn't have has no bytes
 abbrev pub block_at : List (List ℕ) → ℕ → List ℕ
@@ -17,6 +18,10 @@ sizes_of disk = super_fields (block_at disk super_block)
 -- the log's head
 abbrev pub log_head_at : List (List ℕ) → List ℕ
 log_head_at disk = block_at disk (sizes_of disk).logstart
+
+-- how many copies the head says that the log has
+abbrev pub log_count : List (List ℕ) → ℕ
+log_count disk = u32_at (log_head_at disk) log_head_count_at
 
 -- the blocks that the log has copies of, in order
 unfoldable pub logged : List (List ℕ) → List ℕ

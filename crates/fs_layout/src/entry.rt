@@ -1,4 +1,4 @@
-//! A directory entry on the disk.
+//! A directory entry on the disk, of which a block has 64. docs/FORMATS.md has its table.
 ghost use Rattle.std.specs.Prelude.{◌≡◌, ◌≢◌, ◌+◌, ◌*◌, ◌≤◌, ◌<◌, ℕ, List, Some, length, drop};
 ghost use Rattle.std.specs.List.{list_all, position_or_len};
 ghost use Rattle.fs_layout.specs.Bytes.{overwrite, IsBytes};
@@ -58,7 +58,8 @@ fn used_in(number: u16, field: &[u8]) -> Option<Dirent>
     }
 }
 
-/// The slot at a place of a directory's block, if its bytes are one.
+/// The slot at a place of a directory's block, counted in slots. `None` where its bytes are no entry:
+/// a number 0 with bytes that aren't 0, an empty name, a '/' in it, or a byte other than 0 behind a 0.
 pub fn read_dirent(block: &Block, place: usize) -> Option<Dirent>
     requires { place < DIRENTS_PER_BLOCK }
     ensures { result ≡ dirent_at place block.now }
@@ -73,7 +74,8 @@ pub fn read_dirent(block: &Block, place: usize) -> Option<Dirent>
     }
 }
 
-/// Writes a slot at a place of a directory's block.
+/// Writes a slot at a place of a directory's block, counted in slots. A name is padded with zeros;
+/// one of 14 bytes has none behind it.
 pub fn write_dirent(block: &mut Block, place: usize, entry: &Dirent)
     requires place { place < DIRENTS_PER_BLOCK }
     requires entry { IsDirent entry.now }

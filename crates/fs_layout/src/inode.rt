@@ -1,4 +1,4 @@
-//! An inode on the disk.
+//! An inode on the disk, of which a block has 16. docs/FORMATS.md has its table.
 ghost use Rattle.std.specs.Prelude.{◌≡◌, ◌+◌, ◌*◌, ◌≤◌, ◌<◌, ◌≢◌, ℕ, List, length};
 ghost use Rattle.fs_layout.specs.Bytes.{overwrite, IsBytes};
 ghost use Rattle.fs_layout.specs.Inode.{dinode_at, dinode_of, spell_dinode, IsDinode};
@@ -10,7 +10,9 @@ use crate::widths::{
     INODE_NLINK_AT, INODE_SIZE_AT, INODES_PER_BLOCK,
 };
 
-/// An inode as it stands on the disk. Any bytes are one.
+/// An inode as it stands on the disk. Any 64 bytes are one: whether its kind (0 free, 1 directory,
+/// 2 file, 3 device) and its count are right is for the examination of an image to say. A block
+/// number 0 is none; the last is that of the indirect block.
 #[derive(Clone, Copy, PartialEq, Eq, Debug)]
 pub struct Dinode {
     pub kind: i16,
@@ -21,7 +23,7 @@ pub struct Dinode {
     pub addrs: [u32; ADDRESSES],
 }
 
-/// The inode at a place of an inode block.
+/// The inode at a place of an inode block, counted in inodes.
 pub fn read_dinode(block: &Block, place: usize) -> Dinode
     requires { place < INODES_PER_BLOCK }
     ensures { result ≡ dinode_at place block.now }
@@ -39,7 +41,7 @@ pub fn read_dinode(block: &Block, place: usize) -> Dinode
     }
 }
 
-/// Writes an inode at a place of an inode block.
+/// Writes an inode at a place of an inode block, counted in inodes.
 pub fn write_dinode(block: &mut Block, place: usize, inode: &Dinode)
     requires { place < INODES_PER_BLOCK }
     ensures bytes { block.new ≡ overwrite block.old (INODE_LEN * place) (spell_dinode inode.now) }

@@ -1,4 +1,5 @@
-//! The head of the log.
+//! The head of the log: its first block. docs/FORMATS.md has its table; the xv6 book, chapter 8, its
+//! use.
 ghost use Rattle.std.specs.Prelude.{◌≡◌, ◌+◌, ◌*◌, ◌≤◌, ◌<◌, ◌^◌, ℕ, List, Some, length};
 ghost use Rattle.std.specs.List.{AllByRecursion};
 ghost use Rattle.fs_layout.specs.Bytes.{overwrite, u32s_at, IsBytes};
@@ -29,7 +30,8 @@ pub fn read_log_head(block: &Block) -> Option<LogHead>
     })
 }
 
-/// Writes the log's head with these home blocks. What stands behind it stays.
+/// Writes the log's head with these home blocks; with none of them the log is empty. What stands
+/// behind the head stays.
 pub fn write_log_head(block: &mut Block, blocks: &[u32])
     requires { length blocks.now ≤ LOG_HEAD_LEN }
     ensures bytes { block.new ≡ overwrite block.old LOG_HEAD_COUNT_AT (spell_log_head blocks.now) }

@@ -1,4 +1,4 @@
-//! The name of a directory's element.
+//! The name of an element of a directory.
 ghost use Rattle.std.specs.Prelude.{◌≡◌};
 ghost use Rattle.std.specs.Option.{SomeIff};
 ghost use Rattle.fs_layout.specs.Name.{IsName};
@@ -36,7 +36,7 @@ impl Name {
         Some(Name { bytes })
     }
 
-    /// Its bytes.
+    /// Its bytes, with no padding.
     pub fn as_bytes(&self) -> &[u8]
         ensures value { result.now ≡ self.now }
         ensures name { IsName self.now }

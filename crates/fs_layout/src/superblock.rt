@@ -1,4 +1,4 @@
-//! The superblock.
+//! The superblock: block 1 of a disk. docs/FORMATS.md has its table; the xv6 book, chapter 8, its use.
 ghost use Rattle.std.specs.Prelude.{◌≡◌, ℕ, List, Some, length};
 ghost use Rattle.fs_layout.specs.Bytes.{overwrite, IsBytes};
 ghost use Rattle.fs_layout.specs.Super.{spell_super, super_of, IsSuper};
@@ -10,7 +10,8 @@ use crate::widths::{
     SUPER_MAGIC_AT, SUPER_NBLOCKS_AT, SUPER_NINODES_AT, SUPER_NLOG_AT, SUPER_SIZE_AT,
 };
 
-/// Where the parts of a disk lie, in blocks, and how many inodes it has.
+/// Where the parts of a disk lie, in blocks, and how many inodes it has. Any values are one: whether
+/// they fit together is for the examination of an image to say.
 #[derive(Clone, Copy, PartialEq, Eq, Debug)]
 pub struct Super {
     pub size: u32,
@@ -40,7 +41,8 @@ pub fn read_super(block: &Block) -> Option<Super>
     })
 }
 
-/// Writes the magic number and the fields. What stands behind them stays.
+/// Writes the magic number and the fields. What stands behind them stays: begin with a block of
+/// zeros where it is to be zero.
 pub fn write_super(block: &mut Block, superblock: &Super)
     ensures bytes { block.new ≡ overwrite block.old SUPER_MAGIC_AT (spell_super superblock.now) }
     ensures reads_back { super_of block.new ≡ Some superblock.now }

@@ -1,0 +1,36 @@
+-- Counts, and how often inodes are named.
+use Rattle.std.proofs.Common.{◌≡◌, ◌∙◌, sym, subst, ℕ, ◌<◌, ◌≤◌, min, Bool, true, false, List, length, get_or, arith}
+use Rattle.std.specs.Bool.{MatchBool}
+use Rattle.std.proofs.lemmas.List.{get_or_default}
+use Rattle.std.proofs.lemmas.Bool.{false≢true}
+use Rattle.fs_layout.specs.declared.inode.Dinode.{Dinode}
+use Rattle.image_tree.specs.Lists.{times}
+use Rattle.image_tree.specs.Inodes.{inode_of, is_free, is_node}
+use Rattle.image_tree.specs.Links.{names_of, further_names_of, children_of}
+use Rattle.image_tree.specs.Checks.{IsGoodCount}
+use Rattle.image_tree.specs.Marks.{Tallies}
+use Rattle.image_tree.specs.declared.disk.Layout.{Layout}
+use Rattle.image_tree.specs.Layout.{IsLayout}
+use Rattle.image_tree.proofs.Nodes.{node_is, node_from}
+
+abbrev pub GoodCount : List (List ℕ) → ℕ → Type 0
+GoodCount disk i = is_node disk i ≡ true → IsGoodCount (inode_of disk i) (names_of disk i) (further_names_of disk i) (children_of disk i)
+
+pub free_count : (disk : List (List ℕ)) (i : ℕ) (d : Dinode) → d ≡ inode_of disk i → is_free d ≡ true → GoodCount disk i
+free_count disk i d e free = λ node. absurd (false≢true (sym (node_is disk i node).used ∙ rw e at free))
+
+-- what a table says of an inode, as it was read
+pub table_at : (table xs : List ℕ) (i n read : ℕ) → Tallies table xs → length table ≡ n → i < n → read ≡ get_or table i read → read ≡ min (times i xs) 65535
+table_at table xs i n read t l bound is = is ∙ get_or_default table i read 0 (omega arith) ∙ t.says i (omega arith)
+
+pub count_told : (disk : List (List ℕ)) (layout : Layout) (i : ℕ) (d : Dinode) (told : Bool) → IsLayout disk layout → 1 ≤ i → i < layout.sizes.ninodes
+    → d ≡ inode_of disk i → is_free d ≡ false
+    → MatchBool told (IsGoodCount d (names_of disk i) (further_names_of disk i) (children_of disk i))
+      (IsGoodCount d (names_of disk i) (further_names_of disk i) (children_of disk i) → ⊥)
+    → MatchBool told (GoodCount disk i) (GoodCount disk i → ⊥)
+count_told disk layout i d true h low bound e used says =
+    λ node. subst (λ (x : Dinode). IsGoodCount x (names_of disk i) (further_names_of disk i) (children_of disk i)) e says
+count_told disk layout i d false h low bound e used says =
+    λ good.
+    let node = node_from disk i (record { low = low; bound = rw (← h.sizes) bound; used = rw e at used }) in
+    says (subst (λ (x : Dinode). IsGoodCount x (names_of disk i) (further_names_of disk i) (children_of disk i)) (sym e) (good node))

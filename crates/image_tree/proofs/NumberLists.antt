@@ -1,0 +1,69 @@
+-- The numbers that an inode has.
+use Rattle.std.proofs.Common.{◌≡◌, ◌≢◌, ℕ, ◌<◌, ◌≤◌, false, List, [], ◌++◌, length, get_or, slice_index, refl, ap, arith, length-append, ℤ, pos, negsuc, subst, of_z, w16, SFits, ⊎_elim}
+use Rattle.std.proofs.lemmas.List.{append-nil, get_or_append_left}
+use Rattle.std.proofs.lemmas.Bool.{ne_eqb, cases_eq}
+use Rattle.std.specs.List.{All}
+use Rattle.fs_layout.specs.declared.inode.Dinode.{Dinode}
+use Rattle.fs_layout.specs.Bytes.{u32s_at}
+use Rattle.image_tree.specs.Inodes.{numbers_of, numbers_by, inode_of, is_number}
+use Rattle.fs_layout.specs.Recovered.{recovered, sizes_of}
+use Rattle.image_tree.specs.Checks.{IsData}
+use Rattle.image_tree.specs.declared.disk.Layout.{Layout}
+use Rattle.image_tree.specs.Layout.{IsLayout}
+
+pub numbers_without : (disk : List (List ℕ)) (d : Dinode) → slice_index d.addrs 12 ≡ 0 → numbers_of disk d ≡ d.addrs
+unfolding numbers_of
+numbers_without disk d h = rw (h, append-nil) refl
+
+pub numbers_with : (disk : List (List ℕ)) (d : Dinode) → slice_index d.addrs 12 ≢ 0
+    → numbers_of disk d ≡ d.addrs ++ u32s_at 256 (recovered disk (slice_index d.addrs 12)) 0
+unfolding numbers_of
+numbers_with disk d h = rw (ne_eqb (slice_index d.addrs 12) 0 h) refl
+
+-- the front of a list of good numbers
+pub All-front : {A : Type 0} (P : A → Type 0) (xs ys : List A) → All P (xs ++ ys) → All P xs
+All-front P xs ys h = λ k d l. subst P (get_or_append_left xs ys d k l) (h k d (omega (arith, length-append xs ys)))
+
+pub All-addrs : (P : ℕ → Type 0) (disk : List (List ℕ)) (d : Dinode) → All P (numbers_of disk d) → All P d.addrs
+unfolding numbers_of
+All-addrs P disk d h = All-front P d.addrs _ h
+
+not_free : (z : ℤ) → z ≢ pos 0 → is_number 0 z ≡ false
+not_free (pos n) h = ne_eqb n 0 (λ e. h (ap pos e))
+not_free (negsuc n) h = refl
+
+pub numbers_by_free : (disk : List (List ℕ)) (i : ℕ) (d : Dinode) → d ≡ inode_of disk i → d.kind ≡ pos 0 → numbers_by disk i ≡ []
+unfolding numbers_by
+numbers_by_free disk i d e z = rw (← e, z) refl
+
+pub numbers_by_used : (disk : List (List ℕ)) (i : ℕ) (d : Dinode) → d ≡ inode_of disk i → d.kind ≢ pos 0 → numbers_by disk i ≡ numbers_of disk d
+unfolding numbers_by
+numbers_by_used disk i d e n = rw (← e, not_free d.kind n) refl
+
+-- a kind that the code compares with 0
+pub kind_zero : (z : ℤ) → of_z w16 z ≡ 0 → SFits w16 z → z ≡ pos 0
+kind_zero (pos n) h f = ap pos h
+kind_zero (negsuc n) h f = absurd (let g = f.sfits in omega arith)
+
+pub All-nil : (P : ℕ → Type 0) → All P []
+All-nil P = λ k d l. absurd (omega arith)
+
+-- a good number is a block of the disk
+pub twelfth_within : (disk : List (List ℕ)) (layout : Layout) (d : Dinode) → IsLayout disk layout → length d.addrs ≡ 13
+    → All (λ b. b ≢ 0 → IsData (sizes_of disk) b) d.addrs → slice_index d.addrs 12 < length disk
+twelfth_within disk layout d h l good =
+    let two : 2 ≤ length disk = h.good.0.0.0 in
+    let size = h.good.0.1 in
+    ⊎_elim
+    (λ (e : slice_index d.addrs 12 ≡ 0). omega arith)
+    (λ (n : slice_index d.addrs 12 ≡ 0 → ⊥). let p = good 12 0 (omega arith) n in omega arith)
+    (cases_eq (slice_index d.addrs 12) 0)
+
+pub small_numbers : (disk : List (List ℕ)) (xs : List ℕ) → (sizes_of disk).size ≤ 8191
+    → All (λ b. b ≢ 0 → IsData (sizes_of disk) b) xs → All (λ b. b < 8192) xs
+small_numbers disk xs size good =
+    λ k d l.
+    ⊎_elim
+    (λ (e : get_or xs k d ≡ 0). omega arith)
+    (λ (n : get_or xs k d ≡ 0 → ⊥). let p = good k d l n in omega arith)
+    (cases_eq (get_or xs k d) 0)

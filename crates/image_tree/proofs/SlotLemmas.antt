@@ -1,0 +1,60 @@
+-- The slots of a directory, one by one.
+use Rattle.std.proofs.Common.{◌≡◌, ℕ, ◌+◌, ◌/◌, ◌%◌, ◌<◌, ◌≤◌, true, false, List, [], ◌∷◌, ◌++◌, refl, sym, ap, ◌∙◌, add-one, Option, ℤ, pos, negsuc, eqb}
+use Rattle.std.specs.Prelude.{◌&&◌}
+use Rattle.std.proofs.lemmas.Bool.{false≢true, false_from_ne_true, eqb-true}
+use Rattle.fs_layout.specs.declared.inode.Dinode.{Dinode}
+use Rattle.fs_layout.specs.declared.entry.Dirent.{Dirent}
+use Rattle.fs_layout.specs.Entry.{dirent_at}
+use Rattle.fs_layout.specs.Recovered.{recovered}
+use Rattle.image_tree.specs.Inodes.{inode_of, is_directory, is_live, is_live_directory, is_free, is_number, numbers_by, numbers_of, block_number, content_block, slot_at, first_slots, slots_of}
+use Rattle.image_tree.specs.Links.{slots_in}
+use Rattle.image_tree.specs.declared.disk.Layout.{Layout}
+use Rattle.image_tree.specs.Layout.{IsLayout}
+use Rattle.image_tree.proofs.Nodes.{both, both_from, directory_is, directory_from, numbers_by_node}
+
+directory_kind : (z : ℤ) → is_number 1 z ≡ true → is_number 0 z ≡ false
+directory_kind (pos n) h = ap (λ (k : ℕ). eqb k 0) (eqb-true n 1 h)
+directory_kind (negsuc n) h = refl
+
+pub first_slots-none : (disk : List (List ℕ)) (d : Dinode) → first_slots disk d 0 ≡ []
+unfolding first_slots
+first_slots-none disk d = refl
+
+-- one more slot, as it was loaded from a disk with these contents
+pub first_slots-more : (disk now : List (List ℕ)) (d : Dinode) (numbers : List ℕ) (n : ℕ) (slots more : List (Option Dirent)) (slot : Option Dirent) → now ≡ disk
+    → numbers ≡ numbers_of disk d → slot ≡ dirent_at (n % 64) (recovered now (block_number numbers (n / 64))) → slots ≡ first_slots disk d n
+    → more ≡ slots ++ slot ∷ [] → more ≡ first_slots disk d (n + 1)
+unfolding first_slots slot_at content_block
+first_slots-more disk now d numbers n slots more slot same is read before e =
+    let at : dirent_at (n % 64) (recovered now (block_number numbers (n / 64))) ≡ slot_at disk d n = rw (same, is) refl in
+    e ∙ ap (λ (xs : List (Option Dirent)). xs ++ slot ∷ []) before ∙ ap (λ (x : Option Dirent). first_slots disk d n ++ x ∷ []) (read ∙ at)
+    ∙ ap (first_slots disk d) (sym (add-one n))
+
+pub slots_in_directory : (disk : List (List ℕ)) (layout : Layout) (i : ℕ) (d : Dinode) → IsLayout disk layout → 1 ≤ i → i < layout.sizes.ninodes
+    → d ≡ inode_of disk i → (is_directory d && is_live d) ≡ true → slots_of disk d ≡ slots_in disk i
+unfolding slots_in
+slots_in_directory disk layout i d h low bound e is =
+    let parts = both (is_directory d) (is_live d) is in
+    let live : is_live_directory disk i ≡ true =
+        directory_from disk i (record { low = low; bound = rw (← h.sizes) bound; directory = rw e at parts.0; live = rw e at parts.1 }) in
+    rw (live, ← e) refl
+
+pub slots_in_other : (disk : List (List ℕ)) (i : ℕ) (d : Dinode) → d ≡ inode_of disk i → (is_directory d && is_live d) ≡ false → slots_in disk i ≡ []
+unfolding slots_in
+slots_in_other disk i d e not =
+    let live : is_live_directory disk i ≡ false =
+        false_from_ne_true (is_live_directory disk i) (λ t.
+            let is = directory_is disk i t in
+            false≢true (sym not ∙ rw e (both_from (is_directory (inode_of disk i)) (is_live (inode_of disk i)) is.directory is.live))) in
+    rw live refl
+
+directory_not_free : (d : Dinode) → is_directory d ≡ true → is_free d ≡ false
+directory_not_free d h = directory_kind d.kind h
+
+-- the numbers that were loaded are those of the inode that was loaded
+pub numbers_of_directory : (disk now later : List (List ℕ)) (i : ℕ) (d : Dinode) (numbers : List ℕ) → now ≡ disk → later ≡ now → d ≡ inode_of disk i
+    → (is_directory d && is_live d) ≡ true → numbers ≡ numbers_by now i → numbers ≡ numbers_of later d
+numbers_of_directory disk now later i d numbers same same2 e is n =
+    let used : is_free (inode_of disk i) ≡ false = rw e at (directory_not_free d (both (is_directory d) (is_live d) is).0) in
+    n ∙ ap (λ (x : List (List ℕ)). numbers_by x i) same ∙ numbers_by_node disk i used ∙ ap (numbers_of disk) (sym e)
+    ∙ ap (λ (x : List (List ℕ)). numbers_of x d) (sym (same2 ∙ same))

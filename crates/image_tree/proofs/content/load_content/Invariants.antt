@@ -1,0 +1,8 @@
+use Rattle.std.proofs.Common.{◌≡◌}
+use Rattle.image_tree.specs.Inodes.{front_blocks}
+use Rattle.image_tree.proofs.content.load_content.Given as goal
+
+abbrev pub invariant-loop-k : goal.invariant-loop-k
+invariant-loop-k g l =
+    (g.D.Device.contents l.device ≡ g.D.Device.contents l.fn.device) × (g.D.Device.failures l.device ≡ g.D.Device.failures l.fn.device)
+    × (l.bytes.items ≡ front_blocks (g.D.Device.contents l.fn.device) l.inode l.k)

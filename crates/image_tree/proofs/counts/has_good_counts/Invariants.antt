@@ -1,0 +1,12 @@
+use Rattle.std.proofs.Common.{◌≡◌, ℕ, ◌<◌, ◌≤◌, true}
+use Rattle.image_tree.specs.Inodes.{inode_of, is_node}
+use Rattle.image_tree.specs.Links.{names_of, further_names_of, children_of}
+use Rattle.image_tree.specs.Checks.{IsGoodCount}
+use Rattle.image_tree.proofs.counts.has_good_counts.Given as goal
+
+abbrev pub invariant-loop-i : goal.invariant-loop-i
+invariant-loop-i g l =
+    (g.D.Device.contents l.device ≡ g.D.Device.contents l.fn.device) × (g.D.Device.failures l.device ≡ g.D.Device.failures l.fn.device)
+    × ((k : ℕ) → 1 ≤ k → k < l.i → is_node (g.D.Device.contents l.fn.device) k ≡ true
+        → IsGoodCount (inode_of (g.D.Device.contents l.fn.device) k) (names_of (g.D.Device.contents l.fn.device) k) (further_names_of (g.D.Device.contents l.fn.device) k)
+          (children_of (g.D.Device.contents l.fn.device) k))

@@ -1,0 +1,9 @@
+use Rattle.std.proofs.Common.{◌∙◌, ap, sym, ◌%◌}
+use Rattle.fs_layout.specs.Inode.{dinode_at}
+use Rattle.image_tree.proofs.Layouts.{inode_at}
+use Rattle.image_tree.proofs.disk.load_inode.Goals as goal
+
+pub returns-clause-inode : goal.returns-clause-inode
+returns-clause-inode g c =
+    c.read_dinode.ensures ∙ ap (dinode_at (c.args.i % 16)) c.in_ok-load.ensures.read
+    ∙ sym (inode_at (g.D.Device.contents c.args.device.now) c.args.layout.now c.args.i c.requires.layout)

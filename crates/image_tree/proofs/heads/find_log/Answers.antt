@@ -1,0 +1,55 @@
+use Rattle.std.proofs.Common.{◌≡◌, ◌∙◌, ◌≤◌, ◌<◌, sym, ap, ℕ, List, subst, arith, length, refl}
+use Rattle.fs_layout.specs.Recovered.{sizes_of, block_at, log_count}
+use Rattle.image_tree.specs.Lists.{IsOnce}
+use Rattle.image_tree.proofs.SuperAndLog.{head_is, no_head}
+use Rattle.image_tree.proofs.Layouts.{length-logged}
+use Rattle.image_tree.proofs.heads.find_log.Goals as goal
+
+pub returns-in_default-clause-judges : goal.returns-in_default-clause-judges
+returns-in_default-clause-judges g c =
+    let disk : List (List ℕ) = g.D.Device.contents c.args.device.now in
+    let at : c.read.new.to ≡ block_at disk (sizes_of disk).logstart = rw (← c.requires.sizes) c.in_ok-read.ensures.read in
+    (c.requires.passed, no_head disk c.read.new.to at (sym c.read_log_head.ensures ∙ c.in_default.is))
+
+pub returns-then-blocks-sizes-clause-judges : goal.returns-then-blocks-sizes-clause-judges
+returns-then-blocks-sizes-clause-judges g c =
+    let disk : List (List ℕ) = g.D.Device.contents c.args.device.now in
+    let at : c.read.new.to ≡ block_at disk (sizes_of disk).logstart = rw (← c.requires.sizes) c.in_ok-read.ensures.read in
+    let is = head_is disk c.read.new.to c.in-Some.head at (sym c.read_log_head.ensures ∙ c.in-Some.is) in
+    let n : length c.as_slice-blocks.result.now ≡ log_count disk = ap length (c.as_slice-blocks.ensures.value ∙ is.1) ∙ length-logged disk in
+    let s : c.args.sizes.now.nlog ≤ length c.as_slice-blocks.result.now = c.if-blocks-sizes.true in
+    let e = c.requires.sizes in
+    let nlog : c.args.sizes.now.nlog ≡ (sizes_of disk).nlog = rw e refl in
+    let low = c.requires.passed.0.1.1.nlog in
+    (c.requires.passed, λ h. absurd (omega (arith, h.count)))
+
+pub returns-then-not-are_between-clause-judges : goal.returns-then-not-are_between-clause-judges
+returns-then-not-are_between-clause-judges g c =
+    let disk : List (List ℕ) = g.D.Device.contents c.args.device.now in
+    let at : c.read.new.to ≡ block_at disk (sizes_of disk).logstart = rw (← c.requires.sizes) c.in_ok-read.ensures.read in
+    let is = head_is disk c.read.new.to c.in-Some.head at (sym c.read_log_head.ensures ∙ c.in-Some.is) in
+    (c.requires.passed, λ h. c.if-not-are_between.ensures (rw (c.requires.sizes, c.as_slice-blocks.ensures.value, is.1) h.within))
+
+pub returns-then-has_repeat-clause-judges : goal.returns-then-has_repeat-clause-judges
+returns-then-has_repeat-clause-judges g c =
+    let disk : List (List ℕ) = g.D.Device.contents c.args.device.now in
+    let at : c.read.new.to ≡ block_at disk (sizes_of disk).logstart = rw (← c.requires.sizes) c.in_ok-read.ensures.read in
+    let is = head_is disk c.read.new.to c.in-Some.head at (sym c.read_log_head.ensures ∙ c.in-Some.is) in
+    (c.requires.passed, λ h. c.if-has_repeat.ensures (subst IsOnce (sym (c.as_slice-blocks.ensures.value ∙ is.1)) h.once))
+
+pub returns-clause-judges : goal.returns-clause-judges
+returns-clause-judges g c =
+    let disk : List (List ℕ) = g.D.Device.contents c.args.device.now in
+    let at : c.read.new.to ≡ block_at disk (sizes_of disk).logstart = rw (← c.requires.sizes) c.in_ok-read.ensures.read in
+    let is = head_is disk c.read.new.to c.in-Some.head at (sym c.read_log_head.ensures ∙ c.in-Some.is) in
+    let all = c.as_slice-blocks.ensures.value ∙ is.1 in
+    let n : length c.as_slice-blocks.result.now ≡ log_count disk = ap length all ∙ length-logged disk in
+    let s : length c.as_slice-blocks.result.now < c.args.sizes.now.nlog = c.if-blocks-sizes.false in
+    let e = c.requires.sizes in
+    let nlog : c.args.sizes.now.nlog ≡ (sizes_of disk).nlog = rw e refl in
+    (is.1, record {
+      count = omega arith;
+      room = is.0;
+      within = rw (← c.requires.sizes, ← all) c.if-not-are_between.ensures;
+      once = subst IsOnce all c.if-has_repeat.ensures;
+    })

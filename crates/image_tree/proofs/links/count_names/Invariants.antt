@@ -1,0 +1,12 @@
+use Rattle.std.proofs.Common.{◌≡◌, ◌-◌}
+use Rattle.image_tree.specs.Links.{named_in, further_in, proper_in}
+use Rattle.image_tree.specs.Lists.{gathered}
+use Rattle.image_tree.specs.Marks.{Tallies}
+use Rattle.image_tree.proofs.links.count_names.Given as goal
+
+abbrev pub invariant-loop-i : goal.invariant-loop-i
+invariant-loop-i g l =
+    (g.D.Device.contents l.device ≡ g.D.Device.contents l.fn.device) × (g.D.Device.failures l.device ≡ g.D.Device.failures l.fn.device)
+    × Tallies l.names (gathered (named_in (g.D.Device.contents l.fn.device)) (l.i - 1))
+    × Tallies l.further (gathered (further_in (g.D.Device.contents l.fn.device)) (l.i - 1))
+    × Tallies l.proper (gathered (proper_in (g.D.Device.contents l.fn.device)) (l.i - 1))

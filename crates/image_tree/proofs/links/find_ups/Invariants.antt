@@ -1,0 +1,8 @@
+use Rattle.std.proofs.Common.{◌≡◌, ◌<◌, ℕ, length, get_or}
+use Rattle.image_tree.specs.Links.{up}
+use Rattle.image_tree.proofs.links.find_ups.Given as goal
+
+abbrev pub invariant-loop-i : goal.invariant-loop-i
+invariant-loop-i g l =
+    (g.D.Device.contents l.device ≡ g.D.Device.contents l.fn.device) × (g.D.Device.failures l.device ≡ g.D.Device.failures l.fn.device)
+    × (length l.ups.items ≡ l.i) × ((k : ℕ) → k < l.i → get_or l.ups.items k 0 ≡ up (g.D.Device.contents l.fn.device) k)

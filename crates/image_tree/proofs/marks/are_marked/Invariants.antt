@@ -1,0 +1,6 @@
+use Rattle.std.proofs.Common.{◌≡◌, ◌≢◌, ℕ, ◌<◌, true, get_or}
+use Rattle.fs_layout.specs.Bits.{bit_of}
+use Rattle.image_tree.proofs.marks.are_marked.Given as goal
+
+abbrev pub invariant-loop-i : goal.invariant-loop-i
+invariant-loop-i l = (k : ℕ) → k < l.i → get_or l.numbers k 0 ≢ 0 → bit_of l.bitmap (get_or l.numbers k 0) ≡ true

@@ -1,0 +1,7 @@
+use Rattle.image_tree.specs.Links.{slot_names}
+use Rattle.image_tree.proofs.NameLemmas.{names_told}
+use Rattle.image_tree.proofs.names.are_names_once.Goals as goal
+
+pub returns : goal.returns
+returns c =
+    names_told c.are_distinct.result c.in_ok-keys.keys.items (slot_names c.args.slots.now) c.in_ok-keys.ensures.keys c.in_ok-keys.ensures.keyed c.are_distinct.ensures

@@ -1,0 +1,6 @@
+use Rattle.std.proofs.Common.{◌≢◌, ℕ, ◌<◌, get_or}
+use Rattle.image_tree.specs.Checks.{IsData}
+use Rattle.image_tree.proofs.numbers.are_good.Given as goal
+
+abbrev pub invariant-loop-i : goal.invariant-loop-i
+invariant-loop-i l = (k : ℕ) → k < l.i → get_or l.numbers k 0 ≢ 0 → IsData l.sizes (get_or l.numbers k 0)

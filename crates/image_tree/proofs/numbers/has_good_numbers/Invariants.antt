@@ -1,0 +1,11 @@
+use Rattle.std.proofs.Common.{◌≡◌, ◌≢◌, ℕ, ◌<◌, ◌≤◌}
+use Rattle.std.specs.List.{All}
+use Rattle.image_tree.specs.Checks.{IsData}
+use Rattle.image_tree.specs.Inodes.{numbers_by}
+use Rattle.fs_layout.specs.Recovered.{sizes_of}
+use Rattle.image_tree.proofs.numbers.has_good_numbers.Given as goal
+
+abbrev pub invariant-loop-i : goal.invariant-loop-i
+invariant-loop-i g l =
+    (g.D.Device.contents l.device ≡ g.D.Device.contents l.fn.device) × (g.D.Device.failures l.device ≡ g.D.Device.failures l.fn.device)
+    × ((k : ℕ) → 1 ≤ k → k < l.i → All (λ b. b ≢ 0 → IsData (sizes_of (g.D.Device.contents l.fn.device)) b) (numbers_by (g.D.Device.contents l.fn.device) k))

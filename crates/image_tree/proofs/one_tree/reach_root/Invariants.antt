@@ -1,0 +1,6 @@
+use Rattle.std.proofs.Common.{◌^◌}
+use Rattle.image_tree.proofs.Climbs.{IsJumpTable}
+use Rattle.image_tree.proofs.one_tree.reach_root.Given as goal
+
+abbrev pub invariant-loop-doubling : goal.invariant-loop-doubling
+invariant-loop-doubling l = IsJumpTable l.ups (2 ^ l._doubling) l.jumps.items

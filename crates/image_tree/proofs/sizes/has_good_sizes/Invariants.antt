@@ -1,0 +1,10 @@
+use Rattle.std.proofs.Common.{◌≡◌, ℕ, ◌<◌, ◌≤◌, true}
+use Rattle.image_tree.specs.Inodes.{inode_of, is_node}
+use Rattle.image_tree.specs.Checks.{IsGoodSize}
+use Rattle.image_tree.proofs.sizes.has_good_sizes.Given as goal
+
+abbrev pub invariant-loop-i : goal.invariant-loop-i
+invariant-loop-i g l =
+    (g.D.Device.contents l.device ≡ g.D.Device.contents l.fn.device) × (g.D.Device.failures l.device ≡ g.D.Device.failures l.fn.device)
+    × ((k : ℕ) → 1 ≤ k → k < l.i
+        → is_node (g.D.Device.contents l.fn.device) k ≡ true → IsGoodSize (g.D.Device.contents l.fn.device) (inode_of (g.D.Device.contents l.fn.device) k))

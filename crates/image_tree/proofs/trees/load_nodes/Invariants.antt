@@ -1,0 +1,8 @@
+use Rattle.std.proofs.Common.{◌≡◌}
+use Rattle.image_tree.specs.Trees.{first_nodes}
+use Rattle.image_tree.proofs.trees.load_nodes.Given as goal
+
+abbrev pub invariant-loop-i : goal.invariant-loop-i
+invariant-loop-i g l =
+    (g.D.Device.contents l.device ≡ g.D.Device.contents l.fn.device) × (g.D.Device.failures l.device ≡ g.D.Device.failures l.fn.device)
+    × (l.nodes.items ≡ first_nodes (g.D.Device.contents l.fn.device) l.i)

@@ -1,0 +1,99 @@
+-- The inodes of an image: their fields, the blocks that they name, the slots of a directory, the content of a file.
+use Rattle.std.specs.Prelude.{ℕ, zero, suc, ◌+◌, ◌-◌, ◌/◌, ◌%◌, ◌==◌, nat_lt, ◌&&◌, not, ℤ, pos, negsuc, Bool, false, if◌then◌else◌, List, [], ◌∷◌, ◌++◌, take, filter, slice_index, Option}
+use Rattle.fs_layout.specs.declared.inode.Dinode.{Dinode}
+use Rattle.fs_layout.specs.declared.entry.Dirent.{Dirent}
+use Rattle.fs_layout.specs.Bytes.{u32s_at}
+use Rattle.fs_layout.specs.Inode.{dinode_at}
+use Rattle.fs_layout.specs.Entry.{dirent_at}
+use Rattle.fs_layout.specs.Recovered.{recovered, sizes_of}
+
+unfoldable pub inode_of : List (List ℕ) → ℕ → Dinode
+inode_of disk i = dinode_at (i % 16) (recovered disk ((sizes_of disk).inodestart + i / 16))
+
+-- the number of the last inode
+abbrev pub last : List (List ℕ) → ℕ
+last disk = (sizes_of disk).ninodes - 1
+
+-- ---- what an inode is
+
+abbrev pub is_number : ℕ → ℤ → Bool
+is_number n (pos m) = m == n
+is_number n (negsuc m) = false
+
+abbrev pub is_positive : ℤ → Bool
+is_positive (pos n) = nat_lt 0 n
+is_positive (negsuc n) = false
+
+abbrev pub is_free : Dinode → Bool
+is_free d = is_number 0 d.kind
+
+abbrev pub is_directory : Dinode → Bool
+is_directory d = is_number 1 d.kind
+
+-- its count is above 0
+abbrev pub is_live : Dinode → Bool
+is_live d = is_positive d.nlink
+
+-- inode i is one that can be used, and is in use
+unfoldable pub is_node : List (List ℕ) → ℕ → Bool
+is_node disk i = (nat_lt 0 i && nat_lt i (sizes_of disk).ninodes) && not (is_free (inode_of disk i))
+
+unfoldable pub is_live_directory : List (List ℕ) → ℕ → Bool
+is_live_directory disk i = (nat_lt 0 i && nat_lt i (sizes_of disk).ninodes) && (is_directory (inode_of disk i) && is_live (inode_of disk i))
+
+-- ---- the blocks that it names
+
+-- the numbers in its indirect block, if there is one
+abbrev pub indirect_numbers : List (List ℕ) → Dinode → List ℕ
+indirect_numbers disk d = if slice_index d.addrs 12 == 0 then [] else u32s_at 256 (recovered disk (slice_index d.addrs 12)) 0
+
+-- the numbers in an inode, and then those in its indirect block
+unfoldable pub numbers_of : List (List ℕ) → Dinode → List ℕ
+numbers_of disk d = d.addrs ++ indirect_numbers disk d
+
+-- the number of its block k, behind the twelfth one place further, since the indirect block's own number stands between
+abbrev pub block_number : List ℕ → ℕ → ℕ
+block_number numbers k = slice_index numbers (if nat_lt k 12 then k else k + 1)
+
+-- block k of its content
+unfoldable pub content_block : List (List ℕ) → Dinode → ℕ → List ℕ
+content_block disk d k = recovered disk (block_number (numbers_of disk d) k)
+
+-- the numbers in inode i, if it is in use
+unfoldable pub numbers_by : List (List ℕ) → ℕ → List ℕ
+numbers_by disk i = if is_free (inode_of disk i) then [] else numbers_of disk (inode_of disk i)
+
+-- 0 stands for no block
+abbrev pub is_block : ℕ → Bool
+is_block b = not (b == 0)
+
+-- the block numbers that inode i names
+abbrev pub named_by : List (List ℕ) → ℕ → List ℕ
+named_by disk i = filter is_block (numbers_by disk i)
+
+-- ---- the content
+
+-- how many blocks hold so many bytes
+abbrev pub blocks_for : ℕ → ℕ
+blocks_for size = (size + 1023) / 1024
+
+-- the first n blocks of its content, one after the other
+unfoldable pub front_blocks : List (List ℕ) → Dinode → ℕ → List ℕ
+front_blocks disk d zero = []
+front_blocks disk d (suc n) = front_blocks disk d n ++ content_block disk d n
+
+-- the bytes of a file
+abbrev pub content_of : List (List ℕ) → Dinode → List ℕ
+content_of disk d = take d.size (front_blocks disk d (blocks_for d.size))
+
+-- slot s of a directory: None where its bytes are no entry
+unfoldable pub slot_at : List (List ℕ) → Dinode → ℕ → Option Dirent
+slot_at disk d s = dirent_at (s % 64) (content_block disk d (s / 64))
+
+unfoldable pub first_slots : List (List ℕ) → Dinode → ℕ → List (Option Dirent)
+first_slots disk d zero = []
+first_slots disk d (suc n) = first_slots disk d n ++ slot_at disk d n ∷ []
+
+-- the slots of a directory
+abbrev pub slots_of : List (List ℕ) → Dinode → List (Option Dirent)
+slots_of disk d = first_slots disk d (d.size / 16)

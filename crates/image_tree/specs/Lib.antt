@@ -1,0 +1,11 @@
+pub mod Lists
+pub mod Inodes
+pub mod Links
+pub mod Checks
+pub mod Damage
+pub mod Faults
+pub mod Shape
+pub mod Trees
+pub mod Layout
+pub mod Marks
+pub mod Names

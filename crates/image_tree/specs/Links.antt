@@ -1,0 +1,80 @@
+-- Who names whom: the slots of live directories as lists of inode numbers.
+use Rattle.std.specs.Prelude.{◌≡◌, ℕ, zero, suc, ◌==◌, not, if◌then◌else◌, List, [], ◌∷◌, drop, filter, slice_index_or, Option, Some, None}
+use Rattle.std.specs.List.{flat_map}
+use Rattle.fs_layout.specs.declared.entry.Dirent.{Dirent}
+use Rattle.fs_layout.specs.declared.entry.Dirent.TheVariants.{Free, Used}
+use Rattle.image_tree.specs.Inodes.{inode_of, is_live_directory, slots_of, last}
+use Rattle.image_tree.specs.Lists.{gathered, times}
+
+-- the number in a slot, if it is used
+abbrev pub slot_number : Option Dirent → List ℕ
+slot_number None = []
+slot_number (Some Free) = []
+slot_number (Some (Used number name)) = number ∷ []
+
+abbrev pub slot_numbers : List (Option Dirent) → List ℕ
+slot_numbers slots = flat_map slot_number slots
+
+-- the name in a slot, if it is used
+abbrev pub slot_name : Option Dirent → List (List ℕ)
+slot_name None = []
+slot_name (Some Free) = []
+slot_name (Some (Used number name)) = name ∷ []
+
+abbrev pub slot_names : List (Option Dirent) → List (List ℕ)
+slot_names slots = flat_map slot_name slots
+
+-- the number in a slot, or 0
+abbrev pub number_in : Option Dirent → ℕ
+number_in None = 0
+number_in (Some Free) = 0
+number_in (Some (Used number name)) = number
+
+-- the slots of a live directory
+unfoldable pub slots_in : List (List ℕ) → ℕ → List (Option Dirent)
+slots_in disk d = if is_live_directory disk d then slots_of disk (inode_of disk d) else []
+
+-- the numbers that they name
+abbrev pub named_in : List (List ℕ) → ℕ → List ℕ
+named_in disk d = slot_numbers (slots_in disk d)
+
+-- and those that the slots past the first two name
+abbrev pub further_in : List (List ℕ) → ℕ → List ℕ
+further_in disk d = slot_numbers (drop 2 (slots_in disk d))
+
+-- the directory that a live directory's ".." is
+abbrev pub up : List (List ℕ) → ℕ → ℕ
+up disk d = number_in (slice_index_or (slots_in disk d) 1 None)
+
+-- of those the numbers whose ".." is d
+abbrev pub proper_in : List (List ℕ) → ℕ → List ℕ
+proper_in disk d = filter (λ n. up disk n == d) (further_in disk d)
+
+-- the ".." of a live directory, where it is another one (0 where d is no live directory)
+abbrev pub parent_of : List (List ℕ) → ℕ → List ℕ
+parent_of disk d = filter (λ n. not (n == d)) (up disk d ∷ [])
+
+-- ---- how often inode i is named: by slots of live directories; by those past the first two; by those in its own ".."; as the ".." of others
+
+abbrev pub names_of : List (List ℕ) → ℕ → ℕ
+names_of disk i = times i (gathered (named_in disk) (last disk))
+
+abbrev pub further_names_of : List (List ℕ) → ℕ → ℕ
+further_names_of disk i = times i (gathered (further_in disk) (last disk))
+
+abbrev pub proper_names_of : List (List ℕ) → ℕ → ℕ
+proper_names_of disk i = times i (gathered (proper_in disk) (last disk))
+
+abbrev pub children_of : List (List ℕ) → ℕ → ℕ
+children_of disk i = times i (gathered (parent_of disk) (last disk))
+
+-- ---- going up
+
+-- so many steps by ".." from d
+unfoldable pub climb : (ℕ → ℕ) → ℕ → ℕ → ℕ
+climb up zero d = d
+climb up (suc n) d = climb up n (up d)
+
+-- some number of steps leads to the root
+pub record Reaches (up : ℕ → ℕ) (d : ℕ) : Type 0 where
+  pub steps : (n : ℕ) × (climb up n d ≡ 1)

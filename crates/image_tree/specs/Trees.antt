@@ -1,0 +1,49 @@
+-- The tree that an image holds: its live nodes; no open files, no holds, and all harts in the root.
+use Rattle.std.specs.Prelude.{ℕ, zero, suc, ◌&&◌, ℤ, pos, negsuc, Bool, List, [], ◌∷◌, ◌++◌, map, replicate, Option, Some, None, if◌then◌else◌}
+use Rattle.fs_layout.specs.declared.inode.Dinode.{Dinode}
+use Rattle.fs_layout.specs.declared.entry.Dirent.{Dirent}
+use Rattle.fs_layout.specs.declared.entry.Dirent.TheVariants.{Free, Used}
+use Rattle.fs_layout.specs.Recovered.{sizes_of}
+use Rattle.plain_tree.specs.declared.node.Slot.{Slot}
+use Rattle.plain_tree.specs.declared.node.Kind.{Kind}
+use Rattle.plain_tree.specs.declared.node.Kind.TheVariants.{Directory, File, Device}
+use Rattle.plain_tree.specs.declared.node.Node.{Node}
+use Rattle.plain_tree.specs.TreeData.{TreeData}
+use Rattle.plain_tree.specs.Fresh.{fresh_hart}
+use Rattle.plain_tree.specs.Widths.{hart_count}
+use Rattle.image_tree.specs.Inodes.{inode_of, is_node, is_live, is_number, is_directory, content_of, slots_of}
+
+-- a slot as the tree has it
+abbrev pub slot_of : Option Dirent → Option Slot
+slot_of None = None
+slot_of (Some Free) = None
+slot_of (Some (Used number name)) = Some (record { name = name; number = number })
+
+-- a regular file
+abbrev pub is_file : Dinode → Bool
+is_file d = is_number 2 d.kind
+
+unfoldable pub kind_of : List (List ℕ) → Dinode → Kind
+kind_of disk d =
+    if is_directory d then Directory (map slot_of (slots_of disk d))
+    else (if is_file d then File (content_of disk d) else Device d.major d.minor d.size)
+
+-- a count, where it isn't below 0
+abbrev pub count_of : ℤ → ℕ
+count_of (pos n) = n
+count_of (negsuc n) = 0
+
+-- node i of the tree, if there is one
+unfoldable pub node_of : List (List ℕ) → ℕ → Option Node
+node_of disk i =
+    if is_node disk i && is_live (inode_of disk i)
+    then Some (record { count = count_of (inode_of disk i).nlink; kind = kind_of disk (inode_of disk i) })
+    else None
+
+-- the nodes with numbers below n
+unfoldable pub first_nodes : List (List ℕ) → ℕ → List (Option Node)
+first_nodes disk zero = []
+first_nodes disk (suc n) = first_nodes disk n ++ node_of disk n ∷ []
+
+abbrev pub tree_in : List (List ℕ) → TreeData
+tree_in disk = record { nodes = first_nodes disk (sizes_of disk).ninodes; files = []; harts = replicate hart_count fresh_hart }

@@ -1,0 +1,63 @@
+//! A disk, seen as recovery would leave it.
+ghost use Rattle.std.specs.Prelude.{◌≡◌, ◌+◌, ◌<◌, ◌≤◌, ◌^◌, ◌==◌, length, position, OnOk, IfOk, IfSome};
+ghost use Rattle.block_device.specs.Blocks.{faults_after};
+ghost use Rattle.fs_layout.specs.Recovered.{place_of, recovered};
+ghost use Rattle.image_tree.specs.Inodes.{inode_of};
+ghost use Rattle.image_tree.specs.Layout.{IsLayout};
+
+use block_device::{Device, Fault};
+use fs_layout::{Dinode, LogHead, Super, read_dinode};
+
+/// The superblock and the head of the log.
+#[derive(Drop)]
+pub struct Layout {
+    pub sizes: Super,
+    pub head: LogHead,
+}
+
+fn find_in(blocks: &[u32], b: u32) -> Option<usize>
+    ensures found { result ≡ position (λ x. x == b) blocks.now }
+    ensures bound { IfSome result (λ i. i < length blocks.now) }
+{
+    blocks.iter().position(|x| *x == b)
+}
+
+fn place_in(logstart: u32, blocks: &[u32], b: u32) -> u32
+    requires { logstart + 1 + length blocks.now < 2 ^ 32 }
+    ensures { result ≡ place_of logstart blocks.now b }
+{
+    match find_in(blocks, b) {
+        Some(i) => logstart + 1 + i as u32,
+        None => b,
+    }
+}
+
+/// Reads a block as recovery would leave it.
+pub fn load<D: Device>(
+    device: &mut D,
+    layout: &Layout,
+    b: u32,
+    to: &mut [u8; 1024],
+) -> Result<(), Fault>
+    requires layout { IsLayout (D.contents device.old) layout.now }
+    requires bound { b < length (D.contents device.old) }
+    ensures read { OnOk result (to.new ≡ recovered (D.contents device.old) b) }
+    ensures contents { D.contents device.new ≡ D.contents device.old }
+    ensures faults { D.failures device.new ≡ faults_after result (D.failures device.old) }
+{
+    let place = place_in(layout.sizes.logstart, layout.head.blocks.as_slice(), b);
+    device.read(place, to)
+}
+
+/// Reads an inode.
+pub fn load_inode<D: Device>(device: &mut D, layout: &Layout, i: u32) -> Result<Dinode, Fault>
+    requires layout { IsLayout (D.contents device.old) layout.now }
+    requires bound { i < layout.now.sizes.ninodes }
+    ensures inode { IfOk result (λ d. d ≡ inode_of (D.contents device.old) i) }
+    ensures contents { D.contents device.new ≡ D.contents device.old }
+    ensures faults { D.failures device.new ≡ faults_after result (D.failures device.old) }
+{
+    let mut block = [0; 1024];
+    load(device, layout, layout.sizes.inodestart + i / 16, &mut block)?;
+    Ok(read_dinode(&block, (i % 16) as usize))
+}

@@ -1,0 +1,91 @@
+//! The examination of an image.
+ghost use Rattle.std.specs.Prelude.{◌≡◌, List, ℕ};
+ghost use Rattle.image_tree.specs.Damage.{IsWellFormed, JudgesWith, UpToOnce, UpToSlots, faults_with};
+ghost use Rattle.image_tree.specs.Layout.{IsLayout};
+ghost use Rattle.image_tree.specs.Shape.{shape_of};
+
+use crate::counts::has_good_counts;
+use crate::disk::Layout;
+use crate::entries::has_good_slots;
+use crate::fault::{Damage, MountFault};
+use crate::heads::find_layout;
+use crate::links::find_links;
+use crate::marks::has_marks;
+use crate::numbers::has_good_numbers;
+use crate::once::names_once;
+use crate::one_tree::is_one_tree;
+use crate::shape::{Shape, find_shape};
+use crate::sizes::has_good_sizes;
+use crate::types::{has_good_types, has_root};
+use block_device::Device;
+use std::alloc::Global;
+
+/// The checks of what inodes say alone, and of the blocks that they name.
+fn examine_blocks<D: Device>(alloc: Global, device: &mut D) -> Result<Layout, MountFault>
+    ensures judges { JudgesWith (λ layout. IsLayout (D.contents device.old) layout × UpToOnce (D.contents device.old)) (D.contents device.old) result }
+    ensures contents { D.contents device.new ≡ D.contents device.old }
+    ensures faults { D.failures device.new ≡ faults_with result (D.failures device.old) }
+{
+    let layout = find_layout(device)?;
+    if !has_good_types(device, &layout)? {
+        return Err(MountFault::Damaged(Damage::BadType));
+    }
+    if !has_root(device, &layout)? {
+        return Err(MountFault::Damaged(Damage::NoRoot));
+    }
+    if !has_good_numbers(device, &layout)? {
+        return Err(MountFault::Damaged(Damage::BlockRange));
+    }
+    if !names_once(alloc, device, &layout)? {
+        return Err(MountFault::Damaged(Damage::BlockShared));
+    }
+    Ok(layout)
+}
+
+/// The checks up to those of the slots of directories.
+fn examine_slots<D: Device>(alloc: Global, device: &mut D) -> Result<Layout, MountFault>
+    ensures judges { JudgesWith (λ layout. IsLayout (D.contents device.old) layout × UpToSlots (D.contents device.old)) (D.contents device.old) result }
+    ensures contents { D.contents device.new ≡ D.contents device.old }
+    ensures faults { D.failures device.new ≡ faults_with result (D.failures device.old) }
+{
+    let layout = examine_blocks(alloc, device)?;
+    if !has_marks(device, &layout)? {
+        return Err(MountFault::Damaged(Damage::BlockUnmarked));
+    }
+    if !has_good_sizes(device, &layout)? {
+        return Err(MountFault::Damaged(Damage::BadSize));
+    }
+    if !has_good_slots(alloc, device, &layout)? {
+        return Err(MountFault::Damaged(Damage::BadSlot));
+    }
+    Ok(layout)
+}
+
+/// All checks, in their order.
+pub fn examine_all<D: Device>(alloc: Global, device: &mut D) -> Result<Layout, MountFault>
+    ensures judges { JudgesWith (λ layout. IsLayout (D.contents device.old) layout × IsWellFormed (D.contents device.old)) (D.contents device.old) result }
+    ensures contents { D.contents device.new ≡ D.contents device.old }
+    ensures faults { D.failures device.new ≡ faults_with result (D.failures device.old) }
+{
+    let layout = examine_slots(alloc, device)?;
+    let links = find_links(alloc, device, &layout)?;
+    if !is_one_tree(alloc, &links)? {
+        return Err(MountFault::Damaged(Damage::NotOneTree));
+    }
+    if !has_good_counts(device, &layout, &links)? {
+        return Err(MountFault::Damaged(Damage::BadCount));
+    }
+    Ok(layout)
+}
+
+/// Examines an image as recovery would leave it, and reads alone. A damage is the first check that fails, in the order in
+/// which `Damage` has them; memory that is refused and a device that fails end the examination wherever it is.
+pub fn examine<D: Device>(alloc: Global, device: &mut D) -> Result<Shape, MountFault>
+    ensures judges { JudgesWith (λ shape. IsWellFormed (D.contents device.old) × (shape ≡ shape_of (D.contents device.old))) (D.contents device.old) result }
+    ensures contents { D.contents device.new ≡ D.contents device.old }
+    ensures faults { D.failures device.new ≡ faults_with result (D.failures device.old) }
+{
+    let layout = examine_all(alloc, device)?;
+    let shape = find_shape(device, &layout)?;
+    Ok(shape)
+}

@@ -1,0 +1,78 @@
+//! Why an image is not taken.
+ghost use Rattle.std.specs.Prelude.{◌≡◌};
+ghost use Rattle.image_tree.specs.Faults.{fault_number};
+
+use block_device::Fault;
+use std::alloc::AllocError;
+
+/// What is wrong with an image: the first check that fails, in the order in which they stand here.
+#[derive(Clone, Copy, PartialEq, Eq, Debug)]
+pub enum Damage {
+    /// The device has fewer than 2 blocks, or fewer than the superblock says.
+    TooShort = 51,
+    /// The superblock has another magic number, or sizes that don't fit together.
+    BadSuper = 52,
+    /// The log's head names too many blocks, one outside inodes, bitmap and data, or one twice.
+    BadLog = 53,
+    /// An inode has an unknown type, or a negative count.
+    BadType = 54,
+    /// Inode 1 is no live directory.
+    NoRoot = 62,
+    /// An inode names a block that holds no data.
+    BlockRange = 55,
+    /// A block is named twice.
+    BlockShared = 56,
+    /// The bitmap shows a block in use as free.
+    BlockUnmarked = 57,
+    /// A size is above the limit, or has no blocks behind it, or is no directory's.
+    BadSize = 58,
+    /// A live directory has a slot that is no entry, or not the one that belongs there, or a name twice.
+    BadSlot = 59,
+    /// The live directories are not one tree.
+    NotOneTree = 60,
+    /// A count isn't how often its node is named.
+    BadCount = 61,
+}
+
+/// Why an image is not taken.
+#[derive(Clone, Copy, PartialEq, Eq, Debug)]
+pub enum MountFault {
+    Damaged(Damage),
+    DeviceFault,
+    NoMemory,
+}
+
+impl From<Fault> for MountFault {
+    ghost use Rattle.std.specs.Prelude.{◌≡◌};
+    ghost use Rattle.image_tree.specs.declared.fault.MountFault.TheVariants.{DeviceFault};
+
+    ghost from_gives = { λ _ e. e ≡ DeviceFault };
+
+    fn from(_fault: Fault) -> MountFault {
+        MountFault::DeviceFault
+    }
+}
+
+impl From<AllocError> for MountFault {
+    ghost use Rattle.std.specs.Prelude.{◌≡◌};
+    ghost use Rattle.image_tree.specs.declared.fault.MountFault.TheVariants.{NoMemory};
+
+    ghost from_gives = { λ _ e. e ≡ NoMemory };
+
+    fn from(_error: AllocError) -> MountFault {
+        MountFault::NoMemory
+    }
+}
+
+impl MountFault {
+    /// Its number, as programs print it.
+    pub fn number(self) -> u8
+        ensures { result ≡ fault_number self }
+    {
+        match self {
+            MountFault::Damaged(damage) => damage as u8,
+            MountFault::DeviceFault => 31,
+            MountFault::NoMemory => 33,
+        }
+    }
+}

@@ -1,0 +1,109 @@
+//! The superblock and the log's head.
+ghost use Rattle.std.specs.Prelude.{◌≡◌, ◌<◌, ◌≤◌, length, All};
+ghost use Rattle.std.specs.Bool.{MatchBool};
+ghost use Rattle.image_tree.specs.Checks.{IsGoodSuper, HasSuper, HasGoodLog};
+ghost use Rattle.fs_layout.specs.Recovered.{sizes_of, logged};
+ghost use Rattle.image_tree.specs.Damage.{JudgesWith, UpToShort, UpToSize, faults_with};
+ghost use Rattle.image_tree.specs.Layout.{IsLayout};
+ghost use Rattle.image_tree.specs.Lists.{IsOnce};
+
+use crate::disk::Layout;
+use crate::fault::{Damage, MountFault};
+use block_device::Device;
+use fs_layout::{LogHead, Super, read_log_head, read_super};
+
+fn is_good(s: &Super) -> bool
+    ensures { MatchBool result (IsGoodSuper s.now) (¬ IsGoodSuper s.now) }
+{
+    s.size <= 8191
+        && s.ninodes >= 2
+        && s.ninodes <= 65_535
+        && s.logstart >= 2
+        && s.nlog >= 11
+        && u64::from(s.logstart) + u64::from(s.nlog) <= u64::from(s.inodestart)
+        && u64::from(s.inodestart) + (u64::from(s.ninodes) + 15) / 16 <= u64::from(s.bmapstart)
+        && s.bmapstart < s.size
+}
+
+fn find_super<D: Device>(device: &mut D) -> Result<Super, MountFault>
+    requires { UpToShort (D.contents device.old) }
+    ensures judges { JudgesWith (λ s. (s ≡ sizes_of (D.contents device.old)) × HasSuper (D.contents device.old)) (D.contents device.old) result }
+    ensures contents { D.contents device.new ≡ D.contents device.old }
+    ensures faults { D.failures device.new ≡ faults_with result (D.failures device.old) }
+{
+    let mut block = [0; 1024];
+    device.read(1, &mut block)?;
+    let Some(sizes) = read_super(&block) else {
+        return Err(MountFault::Damaged(Damage::BadSuper));
+    };
+    if !is_good(&sizes) {
+        return Err(MountFault::Damaged(Damage::BadSuper));
+    }
+    Ok(sizes)
+}
+
+fn has_repeat(numbers: &[u32]) -> bool
+    ensures { MatchBool result (¬ IsOnce numbers.now) (IsOnce numbers.now) }
+{
+    for i in 0..numbers.len() {
+        if numbers[..i].contains(&numbers[i]) {
+            return true;
+        }
+    }
+    false
+}
+
+fn are_between(numbers: &[u32], low: u32, high: u32) -> bool
+    ensures { MatchBool result (All (λ b. (low ≤ b) × (b < high)) numbers.now)
+        (¬ All (λ b. (low ≤ b) × (b < high)) numbers.now) }
+{
+    for b in numbers {
+        if *b < low || high <= *b {
+            return false;
+        }
+    }
+    true
+}
+
+fn find_log<D: Device>(device: &mut D, sizes: &Super) -> Result<LogHead, MountFault>
+    requires sizes { sizes.now ≡ sizes_of (D.contents device.old) }
+    requires passed { UpToSize (D.contents device.old) }
+    ensures judges { JudgesWith (λ head. (head.blocks.items ≡ logged (D.contents device.old)) × HasGoodLog (D.contents device.old)) (D.contents device.old) result }
+    ensures contents { D.contents device.new ≡ D.contents device.old }
+    ensures faults { D.failures device.new ≡ faults_with result (D.failures device.old) }
+{
+    let mut block = [0; 1024];
+    device.read(sizes.logstart, &mut block)?;
+    let Some(head) = read_log_head(&block) else {
+        return Err(MountFault::Damaged(Damage::BadLog));
+    };
+    let blocks = head.blocks.as_slice();
+    if blocks.len() >= sizes.nlog as usize {
+        return Err(MountFault::Damaged(Damage::BadLog));
+    }
+    if !are_between(blocks, sizes.inodestart, sizes.size) {
+        return Err(MountFault::Damaged(Damage::BadLog));
+    }
+    if has_repeat(blocks) {
+        return Err(MountFault::Damaged(Damage::BadLog));
+    }
+    Ok(head)
+}
+
+/// Finds the parts of a disk: its superblock, and the blocks that its log holds.
+pub fn find_layout<D: Device>(device: &mut D) -> Result<Layout, MountFault>
+    ensures judges { JudgesWith (IsLayout (D.contents device.old)) (D.contents device.old) result }
+    ensures contents { D.contents device.new ≡ D.contents device.old }
+    ensures faults { D.failures device.new ≡ faults_with result (D.failures device.old) }
+{
+    let blocks = device.blocks();
+    if blocks < 2 {
+        return Err(MountFault::Damaged(Damage::TooShort));
+    }
+    let sizes = find_super(device)?;
+    if blocks < sizes.size {
+        return Err(MountFault::Damaged(Damage::TooShort));
+    }
+    let head = find_log(device, &sizes)?;
+    Ok(Layout { sizes, head })
+}

@@ -1,0 +1,33 @@
+//! The examination of an image: what damage it has, and which tree it holds.
+#![tactic(auto)]
+
+mod content;
+mod counts;
+mod disk;
+mod entries;
+mod examination;
+mod fault;
+mod heads;
+mod inodes;
+mod links;
+mod marks;
+mod names;
+mod numbers;
+mod once;
+mod one_tree;
+mod shape;
+mod sizes;
+mod slots;
+mod tallies;
+mod trees;
+mod types;
+
+pub use crate::disk::{Layout, load};
+pub use crate::examination::examine;
+pub use crate::fault::{Damage, MountFault};
+pub use crate::heads::find_layout;
+pub use crate::shape::Shape;
+pub use crate::trees::tree_of;
+
+#[cfg(test)]
+mod tests;

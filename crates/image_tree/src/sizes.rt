@@ -1,0 +1,91 @@
+//! That nodes have sizes that their blocks can hold.
+ghost use Rattle.std.specs.Prelude.{◌≡◌, ◌≢◌, ◌+◌, ◌*◌, ◌<◌, ◌≤◌, ◌^◌, ℕ, Bool, true, length, IfOk};
+ghost use Rattle.std.specs.Bool.{MatchBool};
+ghost use Rattle.block_device.specs.Blocks.{faults_after};
+ghost use Rattle.image_tree.specs.Checks.{HasGoodNumbers, HasGoodSizes, IsFittingSize, IsGoodSize};
+ghost use Rattle.image_tree.specs.Inodes.{block_number, inode_of, is_node};
+ghost use Rattle.image_tree.specs.Layout.{IsLayout};
+
+use crate::disk::{Layout, load_inode};
+use crate::inodes::{is_free, is_live_directory};
+use crate::numbers::load_numbers;
+use block_device::{Device, Fault};
+use fs_layout::Dinode;
+use fs_layout::widths::{BLOCK_LEN, DIRENT_LEN};
+
+/// The greatest size of a node, in bytes: that of 268 blocks.
+pub const LARGEST_SIZE: u32 = 274_432;
+
+/// How many block numbers stand in the inode itself.
+const DIRECT: usize = 12;
+
+/// The number of block k among the numbers of an inode: 0 where there is none.
+pub fn block_number(numbers: &[u32], k: usize) -> u32
+    requires { k < 2 ^ 32 }
+    ensures { result ≡ block_number numbers.now k }
+{
+    let place = if k < DIRECT { k } else { k + 1 };
+    if place < numbers.len() { numbers[place] } else { 0 }
+}
+
+/// Whether each block inside the size is there.
+fn has_blocks(numbers: &[u32], size: u32) -> bool
+    requires { size ≤ LARGEST_SIZE }
+    ensures { MatchBool result ((k : ℕ) → 1024 * k < size → block_number numbers.now k ≢ 0)
+        (¬ ((k : ℕ) → 1024 * k < size → block_number numbers.now k ≢ 0)) }
+{
+    for k in 0..(size as usize).div_ceil(BLOCK_LEN) {
+        if block_number(numbers, k) == 0 {
+            return false;
+        }
+    }
+    true
+}
+
+/// Whether the size is one that a node of this inode's kind can have.
+fn is_fitting(inode: &Dinode) -> bool
+    ensures { MatchBool result (IsFittingSize inode.now) (¬ IsFittingSize inode.now) }
+{
+    let size = inode.size as usize;
+    inode.size <= LARGEST_SIZE
+        && (!is_live_directory(inode) || (2 * DIRENT_LEN <= size && size % DIRENT_LEN == 0))
+}
+
+fn has_good_size<D: Device>(device: &mut D, layout: &Layout, i: u32) -> Result<bool, Fault>
+    requires layout { IsLayout (D.contents device.old) layout.now }
+    requires low { 1 ≤ i }
+    requires bound { i < layout.now.sizes.ninodes }
+    requires numbers { HasGoodNumbers (D.contents device.old) }
+    ensures good { IfOk result (λ good. MatchBool good
+        (is_node (D.contents device.old) i ≡ true → IsGoodSize (D.contents device.old) (inode_of (D.contents device.old) i))
+        (¬ (is_node (D.contents device.old) i ≡ true → IsGoodSize (D.contents device.old) (inode_of (D.contents device.old) i)))) }
+    ensures contents { D.contents device.new ≡ D.contents device.old }
+    ensures faults { D.failures device.new ≡ faults_after result (D.failures device.old) }
+{
+    let inode = load_inode(device, layout, i)?;
+    if is_free(&inode) {
+        return Ok(true);
+    }
+    if !is_fitting(&inode) {
+        return Ok(false);
+    }
+    let numbers = load_numbers(device, layout, &inode)?;
+    Ok(has_blocks(numbers.as_slice(), inode.size))
+}
+
+/// Whether each node's size is within the limit, has its blocks, and for a live directory is a number of slots.
+pub fn has_good_sizes<D: Device>(device: &mut D, layout: &Layout) -> Result<bool, Fault>
+    requires layout { IsLayout (D.contents device.old) layout.now }
+    requires numbers { HasGoodNumbers (D.contents device.old) }
+    ensures good { IfOk result (λ good. MatchBool good (HasGoodSizes (D.contents device.old)) (¬ HasGoodSizes (D.contents device.old))) }
+    ensures contents { D.contents device.new ≡ D.contents device.old }
+    ensures faults { D.failures device.new ≡ faults_after result (D.failures device.old) }
+{
+    for i in 1..layout.sizes.ninodes {
+        let good = has_good_size(device, layout, i)?;
+        if !good {
+            return Ok(false);
+        }
+    }
+    Ok(true)
+}

@@ -1,0 +1,96 @@
+//! The slots of a directory.
+ghost use Rattle.std.specs.Prelude.{◌≡◌, ◌≢◌, ◌+◌, ◌*◌, ◌/◌, ◌%◌, ◌<◌, ◌≤◌, ◌++◌, ◌∷◌, [], ℕ, List, length, IfOk, IfErr, OnOk, All};
+ghost use Rattle.block_device.specs.Blocks.{faults_after};
+ghost use Rattle.fs_layout.specs.Entry.{dirent_at};
+ghost use Rattle.fs_layout.specs.Recovered.{recovered, sizes_of};
+ghost use Rattle.image_tree.specs.Inodes.{block_number, numbers_of, slots_of};
+ghost use Rattle.image_tree.specs.Links.{slots_in};
+ghost use Rattle.image_tree.specs.Checks.{HasGoodNumbers, IsData};
+ghost use Rattle.image_tree.specs.Damage.{JudgesFault, faults_with};
+ghost use Rattle.image_tree.specs.Layout.{IsLayout};
+
+use crate::disk::{Layout, load, load_inode};
+use crate::fault::MountFault;
+use crate::inodes::is_live_directory;
+use crate::numbers::numbers_at;
+use crate::sizes::block_number;
+use block_device::{Device, Fault};
+use fs_layout::widths::{BLOCK_LEN, DIRENT_LEN, DIRENTS_PER_BLOCK};
+use fs_layout::{Dinode, Dirent, read_dirent};
+use std::alloc::{AllocError, Global};
+
+/// Slot s of a directory with these block numbers.
+fn load_slot<D: Device>(
+    device: &mut D,
+    layout: &Layout,
+    numbers: &[u32],
+    s: usize,
+) -> Result<Option<Dirent>, Fault>
+    requires layout { IsLayout (D.contents device.old) layout.now }
+    requires good { All (λ b. b ≢ 0 → IsData (sizes_of (D.contents device.old)) b) numbers.now }
+    requires bound { s < 4294967296 }
+    ensures slot { IfOk result (λ slot. slot ≡ dirent_at (s % 64) (recovered (D.contents device.old) (block_number numbers.now (s / 64)))) }
+    ensures contents { D.contents device.new ≡ D.contents device.old }
+    ensures faults { D.failures device.new ≡ faults_after result (D.failures device.old) }
+{
+    let mut block = [0; BLOCK_LEN];
+    let b = block_number(numbers, s / DIRENTS_PER_BLOCK);
+    load(device, layout, b, &mut block)?;
+    Ok(read_dirent(&block, s % DIRENTS_PER_BLOCK))
+}
+
+fn push_slot(slots: &mut Vec<Option<Dirent>>, slot: Option<Dirent>) -> Result<(), AllocError>
+    ensures { OnOk result (slots.new.items ≡ slots.old.items ++ slot ∷ []) }
+{
+    slots.push(slot)?;
+    Ok(())
+}
+
+/// All slots of a directory with these block numbers.
+pub fn load_slots<D: Device>(
+    alloc: Global,
+    device: &mut D,
+    layout: &Layout,
+    inode: &Dinode,
+    numbers: &[u32],
+) -> Result<Vec<Option<Dirent>>, MountFault>
+    requires layout { IsLayout (D.contents device.old) layout.now }
+    requires numbers { numbers.now ≡ numbers_of (D.contents device.old) inode.now }
+    requires good { All (λ b. b ≢ 0 → IsData (sizes_of (D.contents device.old)) b) numbers.now }
+    ensures slots { IfOk result (λ slots. slots.items ≡ slots_of (D.contents device.old) inode.now) }
+    ensures err { IfErr result (JudgesFault (D.contents device.old)) }
+    ensures contents { D.contents device.new ≡ D.contents device.old }
+    ensures faults { D.failures device.new ≡ faults_with result (D.failures device.old) }
+{
+    let mut slots = Vec::new(alloc);
+    for s in 0..inode.size as usize / DIRENT_LEN {
+        let slot = load_slot(device, layout, numbers, s)?;
+        push_slot(&mut slots, slot)?;
+    }
+    Ok(slots)
+}
+
+/// The slots of inode i, if it is a live directory, else none.
+pub fn slots_at<D: Device>(
+    alloc: Global,
+    device: &mut D,
+    layout: &Layout,
+    i: u32,
+) -> Result<Vec<Option<Dirent>>, MountFault>
+    requires layout { IsLayout (D.contents device.old) layout.now }
+    requires low { 1 ≤ i }
+    requires bound { i < layout.now.sizes.ninodes }
+    requires numbers { HasGoodNumbers (D.contents device.old) }
+    ensures slots { IfOk result (λ slots. slots.items ≡ slots_in (D.contents device.old) i) }
+    ensures err { IfErr result (JudgesFault (D.contents device.old)) }
+    ensures contents { D.contents device.new ≡ D.contents device.old }
+    ensures faults { D.failures device.new ≡ faults_with result (D.failures device.old) }
+{
+    let inode = load_inode(device, layout, i)?;
+    if !is_live_directory(&inode) {
+        return Ok(Vec::new(alloc));
+    }
+    let numbers = numbers_at(device, layout, i)?;
+    let slots = load_slots(alloc, device, layout, &inode, numbers.as_slice())?;
+    Ok(slots)
+}

@@ -1,0 +1,183 @@
+//! The tree that an image holds.
+ghost use Rattle.std.specs.Prelude.{◌≡◌, ◌≢◌, ◌<◌, ◌≤◌, ◌++◌, ◌∷◌, [], ℕ, List, length, map, Option, IfOk, IfErr, OnOk, false};
+ghost use Rattle.image_tree.specs.Checks.{HasGoodNumbers};
+ghost use Rattle.image_tree.specs.Damage.{IsWellFormed, JudgesFault, JudgesWith, faults_with};
+ghost use Rattle.image_tree.specs.Inodes.{inode_of, is_free};
+ghost use Rattle.image_tree.specs.Layout.{IsLayout};
+ghost use Rattle.image_tree.specs.Trees.{count_of, first_nodes, is_file, kind_of, node_of, slot_of, tree_in};
+ghost use Rattle.fs_layout.specs.Recovered.{sizes_of};
+
+use crate::content::load_content;
+use crate::disk::{Layout, load_inode};
+use crate::examination::examine_all;
+use crate::fault::MountFault;
+use crate::inodes::{KIND_FILE, is_directory, is_free, is_live};
+use crate::numbers::numbers_at;
+use crate::slots::load_slots;
+use block_device::Device;
+use fs_layout::{Dinode, Dirent, Name};
+use plain_tree::{Bytes, Kind, Node, Slot, Slots, Tree};
+use std::alloc::{AllocError, Global};
+
+fn copied_name(alloc: Global, name: &Name) -> Result<Bytes, AllocError>
+    ensures { IfOk result (λ bytes. bytes ≡ name.now) }
+{
+    let bytes = Vec::from_slice(alloc, name.as_bytes())?;
+    Ok(Bytes::new(bytes))
+}
+
+fn slot_in(alloc: Global, slot: &Option<Dirent>) -> Result<Option<Slot>, AllocError>
+    ensures { IfOk result (λ s. s ≡ slot_of slot.now) }
+{
+    match slot {
+        Some(Dirent::Used { number, name }) => {
+            let name = copied_name(alloc, name)?;
+            Ok(Some(Slot {
+                name,
+                number: *number,
+            }))
+        }
+        _ => Ok(None),
+    }
+}
+
+fn push_slot(slots: &mut Vec<Option<Slot>>, slot: Option<Slot>) -> Result<(), AllocError>
+    ensures { OnOk result (slots.new.items ≡ slots.old.items ++ slot ∷ []) }
+{
+    slots.push(slot)?;
+    Ok(())
+}
+
+fn slots_in(alloc: Global, entries: &[Option<Dirent>]) -> Result<Slots, AllocError>
+    ensures { IfOk result (λ slots. slots ≡ map slot_of entries.now) }
+{
+    let mut slots = Vec::new(alloc);
+    for s in 0..entries.len() {
+        let slot = slot_in(alloc, &entries[s])?;
+        push_slot(&mut slots, slot)?;
+    }
+    Ok(Slots::new(slots))
+}
+
+fn is_file(inode: &Dinode) -> bool
+    ensures { result ≡ is_file inode.now }
+{
+    inode.kind == KIND_FILE
+}
+
+/// What a node in use is.
+fn load_kind<D: Device>(
+    alloc: Global,
+    device: &mut D,
+    layout: &Layout,
+    i: u32,
+    inode: &Dinode,
+) -> Result<Kind, MountFault>
+    requires layout { IsLayout (D.contents device.old) layout.now }
+    requires low { 1 ≤ i }
+    requires bound { i < layout.now.sizes.ninodes }
+    requires numbers { HasGoodNumbers (D.contents device.old) }
+    requires inode { inode.now ≡ inode_of (D.contents device.old) i }
+    requires used { is_free inode.now ≡ false }
+    ensures kind { IfOk result (λ kind. kind ≡ kind_of (D.contents device.old) inode.now) }
+    ensures err { IfErr result (JudgesFault (D.contents device.old)) }
+    ensures contents { D.contents device.new ≡ D.contents device.old }
+    ensures faults { D.failures device.new ≡ faults_with result (D.failures device.old) }
+{
+    let numbers = numbers_at(device, layout, i)?;
+    if is_directory(inode) {
+        let entries = load_slots(alloc, device, layout, inode, numbers.as_slice())?;
+        let slots = slots_in(alloc, entries.as_slice())?;
+        return Ok(Kind::Directory { slots });
+    }
+    if is_file(inode) {
+        let bytes = load_content(alloc, device, layout, inode, numbers.as_slice())?;
+        return Ok(Kind::File {
+            bytes: Bytes::new(bytes),
+        });
+    }
+    Ok(Kind::Device {
+        major: inode.major,
+        minor: inode.minor,
+        size: inode.size,
+    })
+}
+
+fn count_in(inode: &Dinode) -> u16
+    ensures { result ≡ count_of inode.now.nlink }
+{
+    if inode.nlink < 0 {
+        return 0;
+    }
+    inode.nlink as u16
+}
+
+/// Node i of the tree, if there is one.
+fn load_node<D: Device>(
+    alloc: Global,
+    device: &mut D,
+    layout: &Layout,
+    i: u32,
+) -> Result<Option<Node>, MountFault>
+    requires layout { IsLayout (D.contents device.old) layout.now }
+    requires low { 1 ≤ i }
+    requires bound { i < layout.now.sizes.ninodes }
+    requires numbers { HasGoodNumbers (D.contents device.old) }
+    ensures node { IfOk result (λ node. node ≡ node_of (D.contents device.old) i) }
+    ensures err { IfErr result (JudgesFault (D.contents device.old)) }
+    ensures contents { D.contents device.new ≡ D.contents device.old }
+    ensures faults { D.failures device.new ≡ faults_with result (D.failures device.old) }
+{
+    let inode = load_inode(device, layout, i)?;
+    if is_free(&inode) {
+        return Ok(None);
+    }
+    if !is_live(&inode) {
+        return Ok(None);
+    }
+    let kind = load_kind(alloc, device, layout, i, &inode)?;
+    Ok(Some(Node {
+        count: count_in(&inode),
+        kind,
+    }))
+}
+
+fn push_node(nodes: &mut Vec<Option<Node>>, node: Option<Node>) -> Result<(), AllocError>
+    ensures { OnOk result (nodes.new.items ≡ nodes.old.items ++ node ∷ []) }
+{
+    nodes.push(node)?;
+    Ok(())
+}
+
+fn load_nodes<D: Device>(
+    alloc: Global,
+    device: &mut D,
+    layout: &Layout,
+) -> Result<Vec<Option<Node>>, MountFault>
+    requires layout { IsLayout (D.contents device.old) layout.now }
+    requires numbers { HasGoodNumbers (D.contents device.old) }
+    ensures nodes { IfOk result (λ nodes. nodes.items ≡ first_nodes (D.contents device.old) (sizes_of (D.contents device.old)).ninodes) }
+    ensures err { IfErr result (JudgesFault (D.contents device.old)) }
+    ensures contents { D.contents device.new ≡ D.contents device.old }
+    ensures faults { D.failures device.new ≡ faults_with result (D.failures device.old) }
+{
+    let mut nodes = Vec::new(alloc);
+    push_node(&mut nodes, None)?;
+    for i in 1..layout.sizes.ninodes {
+        let node = load_node(alloc, device, layout, i)?;
+        push_node(&mut nodes, node)?;
+    }
+    Ok(nodes)
+}
+
+/// The tree that an image holds as recovery would leave it: its live nodes with their contents. The image is examined
+/// first, with the answers of [`examine`](crate::examine).
+pub fn tree_of<D: Device>(alloc: Global, device: &mut D) -> Result<Tree, MountFault>
+    ensures judges { JudgesWith (λ tree. IsWellFormed (D.contents device.old) × (tree ≡ tree_in (D.contents device.old))) (D.contents device.old) result }
+    ensures contents { D.contents device.new ≡ D.contents device.old }
+    ensures faults { D.failures device.new ≡ faults_with result (D.failures device.old) }
+{
+    let layout = examine_all(alloc, device)?;
+    let nodes = load_nodes(alloc, device, &layout)?;
+    Ok(Tree::of_nodes(alloc, nodes))
+}

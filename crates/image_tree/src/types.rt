@@ -1,0 +1,43 @@
+//! The types of inodes, and the root.
+ghost use Rattle.std.specs.Prelude.{◌≡◌, ◌↔◌, ◌<◌, IsTrue, IfOk};
+ghost use Rattle.std.specs.Bool.{MatchBool};
+ghost use Rattle.block_device.specs.Blocks.{faults_after};
+ghost use Rattle.image_tree.specs.Checks.{IsGoodType, HasGoodTypes, HasRoot};
+ghost use Rattle.image_tree.specs.Layout.{IsLayout};
+
+use crate::disk::{Layout, load_inode};
+use block_device::{Device, Fault};
+use fs_layout::Dinode;
+
+fn has_good_type(inode: &Dinode) -> bool
+    ensures { MatchBool result (IsGoodType inode.now) (¬ IsGoodType inode.now) }
+{
+    0 <= inode.kind && inode.kind <= 3 && (inode.kind == 0 || 0 <= inode.nlink)
+}
+
+/// Whether each inode's type is one, and no node's count is negative.
+pub fn has_good_types<D: Device>(device: &mut D, layout: &Layout) -> Result<bool, Fault>
+    requires layout { IsLayout (D.contents device.old) layout.now }
+    ensures good { IfOk result (λ good. MatchBool good (HasGoodTypes (D.contents device.old)) (¬ HasGoodTypes (D.contents device.old))) }
+    ensures contents { D.contents device.new ≡ D.contents device.old }
+    ensures faults { D.failures device.new ≡ faults_after result (D.failures device.old) }
+{
+    for i in 1..layout.sizes.ninodes {
+        let inode = load_inode(device, layout, i)?;
+        if !has_good_type(&inode) {
+            return Ok(false);
+        }
+    }
+    Ok(true)
+}
+
+/// Whether inode 1 is a live directory.
+pub fn has_root<D: Device>(device: &mut D, layout: &Layout) -> Result<bool, Fault>
+    requires layout { IsLayout (D.contents device.old) layout.now }
+    ensures good { IfOk result (λ good. MatchBool good (HasRoot (D.contents device.old)) (¬ HasRoot (D.contents device.old))) }
+    ensures contents { D.contents device.new ≡ D.contents device.old }
+    ensures faults { D.failures device.new ≡ faults_after result (D.failures device.old) }
+{
+    let root = load_inode(device, layout, 1)?;
+    Ok(root.kind == 1 && 0 < root.nlink)
+}

@@ -1,0 +1,137 @@
+-- A tree's data changed in one place, and what its functions then say.
+use Rattle.std.proofs.Common.{◌≡◌, ◌≢◌, ℕ, zero, suc, ◌+◌, ◌<◌, ◌≤◌, Bool, true, false, List, [], ◌∷◌, ◌++◌, length, take, drop, get_or, ◌==◌, ◌⊎◌, inl, inr, refl, sym, ◌∙◌, ap, subst, arith, add-one, Option, Some, None, if◌then◌else◌, get_or-set_other, get_or-set_same}
+use Rattle.std.proofs.Math.Path.{fun_ext}
+use Rattle.std.proofs.Math.ListN.{set, length-set}
+use Rattle.std.proofs.lemmas.List.{take_more}
+use Rattle.std.proofs.lemmas.Bool.{cases_eq}
+use Rattle.std.proofs.lemmas.Bool.Decides.{nat_tests}
+use Rattle.plain_tree.specs.declared.node.Node.{Node}
+use Rattle.plain_tree.specs.declared.tree.OpenFile.{OpenFile}
+use Rattle.plain_tree.specs.declared.tree.OpenFileEntry.{OpenFileEntry}
+use Rattle.plain_tree.specs.declared.tree.Hart.{Hart}
+use Rattle.plain_tree.specs.declared.tree.Hold.{Hold}
+use Rattle.plain_tree.specs.Code.{IsEntryOf}
+use Rattle.plain_tree.specs.TreeData.{TreeData}
+use Rattle.plain_tree.specs.Tree.{Tree, tree_of, hart_at, resting, file_in, put, and_then}
+use Rattle.plain_tree.specs.Steps.{with_nodes, moved}
+
+pub eq_true : (n k : ℕ) → n ≡ k → (n == k) ≡ true
+eq_true n k e = grind (arith, nat_tests)
+
+pub eq_false : (n k : ℕ) → n ≢ k → (n == k) ≡ false
+eq_false n k e = grind (arith, nat_tests)
+
+pub put_same : {A : Type 0} (f : ℕ → A) (k : ℕ) (v : A) (n : ℕ) → n ≡ k → put f k v n ≡ v
+unfolding put
+put_same f k v n e = rw (eq_true n k e)
+
+pub put_other : {A : Type 0} (f : ℕ → A) (k : ℕ) (v : A) (n : ℕ) → n ≢ k → put f k v n ≡ f n
+unfolding put
+put_other f k v n ne = rw (eq_false n k ne)
+
+pub put_back : {A : Type 0} (f : ℕ → A) (k : ℕ) (v : A) → v ≡ f k → put f k v ≡ f
+put_back f k v e = fun_ext (λ n. elim (cases_eq n k) [ inl i ↦ put_same f k v n i ∙ e ∙ ap f (sym i) | inr ne ↦ put_other f k v n ne ])
+
+pub put_again : {A : Type 0} (f : ℕ → A) (k : ℕ) (v w : A) → put (put f k v) k w ≡ put f k w
+put_again f k v w = fun_ext (λ n. elim (cases_eq n k) [ inl i ↦ put_same (put f k v) k w n i ∙ sym (put_same f k w n i) | inr ne ↦ put_other (put f k v) k w n ne ∙ (put_other f k v n ne ∙ sym (put_other f k w n ne)) ])
+
+-- one place of a list is written
+set_at : {A B : Type 0} (g : A → B) (xs : List A) (n : ℕ) (v : A) (d : A) → n < length xs → (k : ℕ) → g (get_or (set xs n v) k d) ≡ put (λ j. g (get_or xs j d)) n (g v) k
+set_at {A} {B} g xs n v d h k =
+    let f : ℕ → B = λ j. g (get_or xs j d) in
+    elim (cases_eq k n) [
+      | inl e ↦ (let F : ℕ → B = λ j. g (get_or (set xs n v) j d) in ap F e ∙ (ap g (get_or-set_same xs n v d h) ∙ sym (put_same f n (g v) k e)))
+      | inr ne ↦ ap g (get_or-set_other xs n k v d ne) ∙ sym (put_other f n (g v) k ne)
+    ]
+
+pub set_put : {A B : Type 0} (g : A → B) (xs : List A) (n : ℕ) (v : A) (d : A) → n < length xs → let F : ℕ → B = λ k. g (get_or (set xs n v) k d) in F ≡ put (λ k. g (get_or xs k d)) n (g v)
+set_put g xs n v d h = fun_ext (set_at g xs n v d h)
+
+pub nodes_set : (d : TreeData) (n : ℕ) (v : Option Node) → n < length d.nodes → tree_of (record d { nodes = set d.nodes n v }) ≡ with_nodes (tree_of d) (put (tree_of d).nodes n v)
+nodes_set d n v h =
+    ap (λ (x : ℕ). record (tree_of (record d { nodes = set d.nodes n v })) { ninodes = x }) (length-set d.nodes n v)
+    ∙ ap (λ (f : ℕ → Option Node). with_nodes (tree_of d) f) (set_put {A = Option Node} {B = Option Node} (λ x. x) d.nodes n v None h)
+
+pub harts_set : (d : TreeData) (h : ℕ) (x : Hart) → h < length d.harts → tree_of (record d { harts = set d.harts h x }) ≡ record (tree_of d) { cwd = put (tree_of d).cwd h x.directory; fds = put (tree_of d).fds h (λ i. get_or x.descriptors i None); holds = put (tree_of d).holds h x.hold }
+harts_set d h x lt =
+    ap (λ (f : ℕ → ℕ). record (tree_of (record d { harts = set d.harts h x })) { cwd = f }) (set_put {A = Hart} {B = ℕ} (λ y. y.directory) d.harts h x resting lt)
+    ∙ (ap (λ (f : ℕ → ℕ → Option ℕ). record (tree_of (record d { harts = set d.harts h x })) { cwd = put (tree_of d).cwd h x.directory; fds = f }) (set_put {A = Hart} {B = ℕ → Option ℕ} (λ y i. get_or y.descriptors i None) d.harts h x resting lt)
+    ∙ ap (λ (f : ℕ → Option Hold). record (tree_of d) { cwd = put (tree_of d).cwd h x.directory; fds = put (tree_of d).fds h (λ i. get_or x.descriptors i None); holds = f }) (set_put {A = Hart} {B = Option Hold} (λ y. y.hold) d.harts h x resting lt))
+
+-- an entry more at the end
+file_first : (x : OpenFileEntry) (xs : List OpenFileEntry) (k : ℕ) → x.id ≡ k → file_in (x ∷ xs) k ≡ Some x.file
+unfolding file_in
+file_first x xs k e = rw (eq_true x.id k e)
+
+file_later : (x : OpenFileEntry) (xs : List OpenFileEntry) (k : ℕ) → x.id ≢ k → file_in (x ∷ xs) k ≡ file_in xs k
+unfolding file_in
+file_later x xs k ne = rw (eq_false x.id k ne)
+
+not_first : (x : OpenFileEntry) (xs : List OpenFileEntry) (k : ℕ) → file_in (x ∷ xs) k ≡ None → x.id ≢ k
+not_first x xs k h e = absurd (let s : Some x.file ≡ None = sym (file_first x xs k e) ∙ h in cc)
+
+file_added : (es : List OpenFileEntry) (e : OpenFileEntry) → file_in es e.id ≡ None → (k : ℕ) → file_in (es ++ e ∷ []) k ≡ put (λ j. file_in es j) e.id (Some e.file) k
+file_added [] e h k = elim (cases_eq k e.id) [
+  | inl i ↦ file_first e [] k (sym i) ∙ sym (put_same (λ j. file_in [] j) e.id (Some e.file) k i)
+  | inr ne ↦ file_later e [] k (λ b. ne (sym b)) ∙ sym (put_other (λ j. file_in [] j) e.id (Some e.file) k ne)
+]
+file_added (x ∷ xs) e h k =
+    let other : x.id ≢ e.id = not_first x xs e.id h in
+    let rest : file_in (xs ++ e ∷ []) k ≡ put (λ j. file_in xs j) e.id (Some e.file) k = file_added xs e (sym (file_later x xs e.id other) ∙ h) k in
+    elim (cases_eq k e.id) [
+      | inl i ↦ file_later x (xs ++ e ∷ []) k (λ b. other (b ∙ i)) ∙ (rest ∙ (put_same (λ j. file_in xs j) e.id (Some e.file) k i ∙ sym (put_same (λ j. file_in (x ∷ xs) j) e.id (Some e.file) k i)))
+      | inr ne ↦ elim (cases_eq x.id k) [
+        | inl y ↦ file_first x (xs ++ e ∷ []) k y ∙ (sym (file_first x xs k y) ∙ sym (put_other (λ j. file_in (x ∷ xs) j) e.id (Some e.file) k ne))
+        | inr nx ↦ file_later x (xs ++ e ∷ []) k nx ∙ (rest ∙ (put_other (λ j. file_in xs j) e.id (Some e.file) k ne ∙ (sym (file_later x xs k nx) ∙ sym (put_other (λ j. file_in (x ∷ xs) j) e.id (Some e.file) k ne))))
+      ]
+    ]
+
+file_found : (es : List OpenFileEntry) (id i : ℕ) (d : OpenFileEntry) → i < length es → file_in (take i es) id ≡ None → (get_or es i d).id ≡ id → file_in es id ≡ Some (get_or es i d).file
+file_found [] id i d lt h e = absurd (omega arith)
+file_found (x ∷ xs) id zero d lt h e = file_first x xs id e
+file_found (x ∷ xs) id (suc i) d lt h e =
+    let other : x.id ≢ id = not_first x (take i xs) id h in
+    file_later x xs id other ∙ file_found xs id i d (omega arith) (sym (file_later x (take i xs) id other) ∙ h) e
+
+file_set : (es : List OpenFileEntry) (e : OpenFileEntry) (i : ℕ) (d : OpenFileEntry) → i < length es → file_in (take i es) e.id ≡ None → (get_or es i d).id ≡ e.id → (k : ℕ) → file_in (set es i e) k ≡ put (λ j. file_in es j) e.id (Some e.file) k
+file_set [] e i d lt h s k = absurd (omega arith)
+file_set (x ∷ xs) e zero d lt h s k = elim (cases_eq k e.id) [
+  | inl i ↦ file_first e xs k (sym i) ∙ sym (put_same (λ j. file_in (x ∷ xs) j) e.id (Some e.file) k i)
+  | inr ne ↦ file_later e xs k (λ b. ne (sym b)) ∙ (sym (file_later x xs k (λ b. ne (sym b ∙ s))) ∙ sym (put_other (λ j. file_in (x ∷ xs) j) e.id (Some e.file) k ne))
+]
+file_set (x ∷ xs) e (suc i) d lt h s k =
+    let other : x.id ≢ e.id = not_first x (take i xs) e.id h in
+    let rest : file_in (set xs i e) k ≡ put (λ j. file_in xs j) e.id (Some e.file) k = file_set xs e i d (omega arith) (sym (file_later x (take i xs) e.id other) ∙ h) s k in
+    elim (cases_eq k e.id) [
+      | inl y ↦ file_later x (set xs i e) k (λ b. other (b ∙ y)) ∙ (rest ∙ (put_same (λ j. file_in xs j) e.id (Some e.file) k y ∙ sym (put_same (λ j. file_in (x ∷ xs) j) e.id (Some e.file) k y)))
+      | inr ne ↦ elim (cases_eq x.id k) [
+        | inl y ↦ file_first x (set xs i e) k y ∙ (sym (file_first x xs k y) ∙ sym (put_other (λ j. file_in (x ∷ xs) j) e.id (Some e.file) k ne))
+        | inr nx ↦ file_later x (set xs i e) k nx ∙ (rest ∙ (put_other (λ j. file_in xs j) e.id (Some e.file) k ne ∙ (sym (file_later x xs k nx) ∙ sym (put_other (λ j. file_in (x ∷ xs) j) e.id (Some e.file) k ne))))
+      ]
+    ]
+
+pub files_added : (d : TreeData) (id : ℕ) (f : OpenFile) → file_in d.files id ≡ None → tree_of (record d { files = d.files ++ record { id = id; file = f } ∷ [] }) ≡ record (tree_of d) { files = put (tree_of d).files id (Some f) }
+files_added d id f h = ap (λ (g : ℕ → Option OpenFile). record (tree_of d) { files = g }) (fun_ext (file_added d.files (record { id = id; file = f }) h))
+
+pub none_more : (es : List OpenFileEntry) (e : OpenFileEntry) (k : ℕ) → file_in es k ≡ None → e.id ≢ k → file_in (es ++ e ∷ []) k ≡ None
+none_more [] e k h ne = file_later e [] k ne ∙ h
+none_more (x ∷ xs) e k h ne =
+    let other : x.id ≢ k = not_first x xs k h in
+    file_later x (xs ++ e ∷ []) k other ∙ none_more xs e k (sym (file_later x xs k other) ∙ h) ne
+
+-- the offset of the entry at i is moved on
+pub file_moved : (d : TreeData) (id i by offset : ℕ) (x : OpenFileEntry) → IsEntryOf d.files id i → x ≡ get_or d.files i x → offset ≡ x.file.offset + by → tree_of (record d { files = set d.files i (record { id = id; file = record x.file { offset = offset } }) }) ≡ moved (tree_of d) (Some id) by
+file_moved d id i by offset x is xe o =
+    let e : OpenFileEntry = record { id = id; file = record x.file { offset = offset } } in
+    let was : file_in d.files id ≡ Some x.file = file_found d.files id i x is.below is.before (is.there x) ∙ ap (λ (y : OpenFileEntry). Some y.file) (sym xe) in
+    let moves : and_then (file_in d.files id) (λ f. Some (record f { offset = f.offset + by })) ≡ Some e.file = rw (was, o) refl in
+    ap (λ (g : ℕ → Option OpenFile). record (tree_of d) { files = g }) (fun_ext (file_set d.files e i x is.below is.before (is.there x)))
+    ∙ ap (λ (v : Option OpenFile). record (tree_of d) { files = put (λ j. file_in d.files j) id v }) (sym moves)
+
+pub file_stays : (d : TreeData) (id by : ℕ) → file_in d.files id ≡ None → tree_of d ≡ moved (tree_of d) (Some id) by
+file_stays d id by h =
+    let same : and_then (file_in d.files id) (λ f. Some (record f { offset = f.offset + by })) ≡ file_in d.files id = rw h refl in
+    ap (λ (g : ℕ → Option OpenFile). record (tree_of d) { files = g }) (sym (put_back (λ j. file_in d.files j) id (and_then (file_in d.files id) (λ f. Some (record f { offset = f.offset + by }))) same))
+
+pub none_next : (es : List OpenFileEntry) (i : ℕ) (d : OpenFileEntry) (k : ℕ) → i < length es → file_in (take i es) k ≡ None → (get_or es i d).id ≢ k → file_in (take (i + 1) es) k ≡ None
+none_next es i d k lt h ne = rw (take_more es i d lt) (none_more (take i es) (get_or es i d) k h ne)

@@ -1,0 +1,10 @@
+use Rattle.std.proofs.Common.{ap, sym, ◌∙◌, ◌++◌}
+use Rattle.plain_tree.specs.Steps.{entry_bytes}
+use Rattle.plain_tree.proofs.SlotLemmas.{entries_more, entries_nil}
+use Rattle.plain_tree.proofs.slots.entries.Goals as goal
+
+pub loop-slot-init : goal.loop-slot-init
+loop-slot-init c = c.new-out.ensures.items ∙ sym entries_nil
+
+pub loop-slot-preserved : goal.loop-slot-preserved
+loop-slot-preserved c = c.in_ok-push_entry.ensures ∙ (ap (λ y. y ++ entry_bytes c.slot-item.result) c.loop-slot.invariant ∙ sym (entries_more c.args.slots.now c.loop-slot.slot-index c.slot-item.result c.loop-slot-test.true c.slot-item.is))

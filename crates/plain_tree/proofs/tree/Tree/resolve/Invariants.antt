@@ -1,0 +1,9 @@
+use Rattle.std.proofs.Common.{◌≡◌, length}
+use Rattle.plain_tree.specs.Tree.{elements, follow, resolve, tree_of}
+use Rattle.plain_tree.proofs.tree.Tree.resolve.Given as goal
+
+abbrev pub invariant-loop-name : goal.invariant-loop-name
+invariant-loop-name l = follow (tree_of l.self).nodes l.at (elements l.rest) ≡ resolve (tree_of l.self) l.hart l.path
+
+abbrev pub decreases-loop-name : goal.decreases-loop-name
+decreases-loop-name l = length l.rest

@@ -1,0 +1,34 @@
+-- A fresh tree, and what a list of steps answers.
+use Rattle.std.specs.Prelude.{ℕ, ◌-◌, List, [], ◌∷◌, Some, None, replicate}
+use Rattle.plain_tree.specs.declared.node.Node.{Node}
+use Rattle.plain_tree.specs.declared.node.Kind.TheVariants.{Directory}
+use Rattle.plain_tree.specs.declared.step.TreeStep.{TreeStep}
+use Rattle.plain_tree.specs.declared.step.StepAnswer.{StepAnswer}
+use Rattle.plain_tree.specs.declared.tree.Hart.{Hart}
+use Rattle.plain_tree.specs.TreeData.{TreeData}
+use Rattle.plain_tree.specs.Tree.{Tree, dot, dotdot}
+use Rattle.plain_tree.specs.Applied.{applied}
+use Rattle.plain_tree.specs.Widths.{root, hart_count, descriptor_count}
+
+-- slots of a fresh root: one block of them
+abbrev pub fresh_slots : ℕ
+fresh_slots = 64
+
+abbrev pub fresh_root : Node
+fresh_root = record { count = 1; kind = Directory (Some (record { name = dot; number = root }) ∷ Some (record { name = dotdot; number = root }) ∷ replicate (fresh_slots - 2) None) }
+
+abbrev pub fresh_hart : Hart
+fresh_hart = record { directory = root; descriptors = replicate descriptor_count None; hold = None }
+
+-- a root without names, and room for these numbers of nodes
+abbrev pub fresh : ℕ → TreeData
+fresh ninodes = record { nodes = None ∷ Some fresh_root ∷ replicate (ninodes - 2) None; files = []; harts = replicate hart_count fresh_hart }
+
+-- a step, with the id of an open file that it makes
+pub record Made : Type 0 where
+  pub step : TreeStep
+  pub id : ℕ
+
+unfoldable pub answers : Tree → List Made → List StepAnswer
+answers t [] = []
+answers t (m ∷ ms) = (applied t m.step m.id).answer ∷ answers (applied t m.step m.id).tree ms

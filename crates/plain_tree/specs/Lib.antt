@@ -1,0 +1,11 @@
+pub mod Widths
+pub mod Numbers
+pub mod TreeData
+pub mod Tree
+pub mod Steps
+pub mod Calls
+pub mod Explains
+pub mod Applied
+pub mod Fresh
+pub mod Code
+pub mod Rows

@@ -1,0 +1,40 @@
+-- The widths and limits of this version of the file system.
+use Rattle.std.specs.Prelude.{ℕ}
+
+-- bytes of a name; a longer element of a path is cut
+abbrev pub name_width : ℕ
+name_width = 14
+
+-- bytes of a slot in a directory's content: two of the number, then the name
+abbrev pub entry_width : ℕ
+entry_width = 16
+
+-- bytes of the largest file
+abbrev pub file_limit : ℕ
+file_limit = 274432
+
+-- bytes of a write's piece
+abbrev pub piece_width : ℕ
+piece_width = 3072
+
+-- the greatest count of a node
+abbrev pub count_limit : ℕ
+count_limit = 32767
+
+abbrev pub hart_count : ℕ
+hart_count = 8
+
+-- descriptors of a hart
+abbrev pub descriptor_count : ℕ
+descriptor_count = 16
+
+-- devices whose major is below this open
+abbrev pub major_limit : ℕ
+major_limit = 10
+
+-- the number of the root directory, and of the one device
+abbrev pub root : ℕ
+root = 1
+
+abbrev pub root_device : ℕ
+root_device = 1

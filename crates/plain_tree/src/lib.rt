@@ -1,0 +1,31 @@
+//! The plain tree: what the files and directories are to a caller, what each call does to them in steps that each
+//! happen at one moment, and when a list of such steps explains the replies that several harts were given.
+#![tactic(auto)]
+
+mod answer;
+mod apply;
+mod bytes;
+mod call;
+mod copy;
+mod look;
+mod node;
+mod paths;
+mod place;
+mod refusal;
+mod refused;
+pub mod rows;
+mod settle;
+mod slots;
+mod step;
+mod trace;
+mod tree;
+mod widths;
+
+pub use crate::answer::{Answer, Cause, Full, NodeType, Reply, Stat};
+pub use crate::bytes::Bytes;
+pub use crate::call::Call;
+pub use crate::node::{Kind, Node, Slot, Slots};
+pub use crate::refused::{ApplyRefused, NoMemory};
+pub use crate::step::{Action, StepAnswer, TreeStep};
+pub use crate::trace::{Calls, Placed, Trace, TracedCall};
+pub use crate::tree::{Hart, Hold, OpenFile, OpenFileEntry, Tree};

@@ -1,0 +1,66 @@
+//! The nodes of a tree.
+ghost use Rattle.std.specs.Prelude.{◌≡◌};
+
+use crate::bytes::Bytes;
+use std::marker::Model;
+
+/// A used slot of a directory: a name of at most 14 bytes, and the number of the node that it names.
+#[derive(Drop)]
+pub struct Slot {
+    pub name: Bytes,
+    pub number: u16,
+}
+
+/// The slots of a directory in their order, each free or used.
+#[derive(Drop)]
+pub struct Slots {
+    items: Vec<Option<Slot>>,
+}
+
+impl Model for Slots {
+    ghost use Rattle.std.specs.Prelude.{List, Option};
+    ghost use Rattle.plain_tree.specs.declared.node.Slot.{Slot};
+
+    ghost Value = { List (Option Slot) };
+
+    ghost view = { λ s. s.items.items };
+}
+
+impl Slots {
+    /// These slots. It takes no memory.
+    pub fn new(items: Vec<Option<Slot>>) -> Slots
+        ensures { result ≡ items.items }
+    {
+        Slots { items }
+    }
+
+    /// The slots, given back. It takes no memory.
+    pub fn into_vec(self) -> Vec<Option<Slot>>
+        ensures { result.items ≡ self }
+    {
+        let Slots { items } = self;
+        items
+    }
+
+    pub fn as_slice(&self) -> &[Option<Slot>]
+        ensures { result.now ≡ self.now }
+    {
+        self.items.as_slice()
+    }
+}
+
+/// What a node is.
+#[derive(Drop)]
+pub enum Kind {
+    Directory { slots: Slots },
+    File { bytes: Bytes },
+    /// A device as its image has it: `size` is the size that the inode says, and has no bytes behind it.
+    Device { major: i16, minor: i16, size: u32 },
+}
+
+/// A node, and how many names it has (a directory: the one in its parent, and the ".." of each directory in it).
+#[derive(Drop)]
+pub struct Node {
+    pub count: u16,
+    pub kind: Kind,
+}

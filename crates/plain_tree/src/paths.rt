@@ -1,0 +1,67 @@
+//! The elements of a path.
+ghost use Rattle.std.specs.Prelude.{◌≡◌, ◌+◌, ◌<◌, ◌≤◌, [], ◌∷◌, length, take, drop, MatchOption};
+ghost use Rattle.plain_tree.specs.Code.{with_element};
+ghost use Rattle.plain_tree.specs.Tree.{elements, is_absolute, same_name};
+ghost use Rattle.plain_tree.specs.Widths.{name_width};
+
+use crate::widths::{NAME_WIDTH, SLASH};
+
+/// The same bytes.
+pub(crate) fn same(a: &[u8], b: &[u8]) -> bool
+    ensures { result ≡ same_name a.now b.now }
+{
+    a == b
+}
+
+pub(crate) fn begins_at_root(path: &[u8]) -> bool
+    ensures { result ≡ is_absolute path.now }
+{
+    match path.first() {
+        Some(byte) => *byte == SLASH,
+        None => false,
+    }
+}
+
+/// Where the path's first '/' is, or its end.
+fn name_end(path: &[u8]) -> usize
+    ensures bound { result ≤ length path.now }
+    ensures cut { elements path.now ≡ with_element (take result path.now) (elements (drop (result + 1) path.now)) }
+{
+    for (i, byte) in path.iter().enumerate() {
+        if *byte == SLASH {
+            return i;
+        }
+    }
+    path.len()
+}
+
+/// At most the first 14 bytes.
+fn cut(name: &[u8]) -> &[u8]
+    ensures { result.now ≡ take name_width name.now }
+{
+    if name.len() > NAME_WIDTH {
+        &name[..NAME_WIDTH]
+    } else {
+        name
+    }
+}
+
+/// The first element of a path, and the path after it.
+pub(crate) fn next_element(path: &[u8]) -> Option<(&[u8], &[u8])>
+    ensures { MatchOption result (elements path.now ≡ []) (λ r. (elements path.now ≡ r.0.now ∷ elements r.1.now) × (length r.1.now < length path.now)) }
+{
+    let mut rest = path;
+    while !rest.is_empty() {
+        let end = name_end(rest);
+        let after = if end < rest.len() {
+            &rest[end + 1..]
+        } else {
+            &rest[end..]
+        };
+        if end > 0 {
+            return Some((cut(&rest[..end]), after));
+        }
+        rest = after;
+    }
+    None
+}

@@ -1,0 +1,82 @@
+//! The nodes that nothing keeps.
+ghost use Rattle.std.specs.Prelude.{◌≡◌, ◌<◌, ◌||◌, ◌==◌, ℕ};
+ghost use Rattle.plain_tree.specs.Tree.{any_below, fd_names, hold_names, is_live, is_named, settle, tree_of};
+ghost use Rattle.plain_tree.specs.Widths.{descriptor_count};
+
+use crate::tree::Tree;
+use crate::widths::{DESCRIPTOR_COUNT, HART_COUNT};
+
+impl Tree {
+    fn is_open_at(&self, hart: u8, fd: usize, number: usize) -> bool
+        ensures { result ≡ fd_names (tree_of self.now) ((tree_of self.now).fds hart fd) number }
+    {
+        let Some(id) = self.descriptor(hart, fd) else {
+            return false;
+        };
+        match self.file(id) {
+            Some(file) => usize::from(file.number) == number,
+            None => false,
+        }
+    }
+
+    fn is_open_by(&self, hart: u8, number: usize) -> bool
+        ensures { result ≡ any_below descriptor_count (λ i. fd_names (tree_of self.now) ((tree_of self.now).fds hart i) number) }
+    {
+        for fd in 0..DESCRIPTOR_COUNT {
+            if self.is_open_at(hart, fd, number) {
+                return true;
+            }
+        }
+        false
+    }
+
+    fn is_held_by(&self, hart: u8, number: usize) -> bool
+        ensures { result ≡ hold_names ((tree_of self.now).holds hart) number }
+    {
+        match self.hold(hart) {
+            Some(hold) => usize::from(hold.number) == number,
+            None => false,
+        }
+    }
+
+    fn is_named_by(&self, hart: u8, number: usize) -> bool
+        ensures { result ≡ (((tree_of self.now).cwd hart == number) || (hold_names ((tree_of self.now).holds hart) number || any_below descriptor_count (λ i. fd_names (tree_of self.now) ((tree_of self.now).fds hart i) number))) }
+    {
+        usize::from(self.directory(hart)) == number
+            || self.is_held_by(hart, number)
+            || self.is_open_by(hart, number)
+    }
+
+    /// A hart names the node: by its current directory, its hold or a descriptor.
+    fn is_named(&self, number: usize) -> bool
+        ensures { result ≡ is_named (tree_of self.now) number }
+    {
+        for hart in 0..HART_COUNT {
+            if self.is_named_by(hart, number) {
+                return true;
+            }
+        }
+        false
+    }
+
+    fn is_kept(&self, number: usize) -> bool
+        ensures { result ≡ (is_live ((tree_of self.now).nodes number) || is_named (tree_of self.now) number) }
+    {
+        let live = match self.node(number) {
+            Some(node) => node.count > 0,
+            None => false,
+        };
+        live || self.is_named(number)
+    }
+
+    /// The nodes that nothing keeps go.
+    pub(crate) fn settle(&mut self)
+        ensures { tree_of self.new ≡ settle (tree_of self.old) }
+    {
+        for number in 0..self.ninodes() {
+            if !self.is_kept(number) {
+                self.drop_node(number);
+            }
+        }
+    }
+}

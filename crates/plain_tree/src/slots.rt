@@ -1,0 +1,102 @@
+//! The slots of a directory.
+ghost use Rattle.std.specs.Prelude.{◌≡◌, ◌++◌, MatchResult, IfOk, replicate};
+ghost use Rattle.plain_tree.specs.Code.{FreeAt, ClearsAt};
+ghost use Rattle.plain_tree.specs.Steps.{cleared, entries, entry_bytes, first_free};
+
+use crate::node::Slot;
+use crate::paths::same;
+use crate::refused::NoMemory;
+use crate::widths::{ENTRY_WIDTH, NAME_WIDTH};
+use std::alloc::Global;
+
+/// Where the first free slot is.
+fn free_slot(slots: &[Option<Slot>]) -> Option<usize>
+    ensures { FreeAt slots.now result }
+{
+    for (i, slot) in slots.iter().enumerate() {
+        match slot {
+            None => return Some(i),
+            Some(_) => {}
+        }
+    }
+    None
+}
+
+/// Puts the slot into the first free place, else at the end.
+pub(crate) fn enter_slot(slots: &mut Vec<Option<Slot>>, slot: Slot) -> Result<(), NoMemory>
+    ensures { MatchResult result (λ _. slots.new.items ≡ first_free slots.old.items slot) (λ _. slots.new.items ≡ slots.old.items) }
+{
+    match free_slot(slots.as_slice()) {
+        Some(i) => {
+            slots[i] = Some(slot);
+            Ok(())
+        }
+        None => {
+            slots.push(Some(slot))?;
+            Ok(())
+        }
+    }
+}
+
+/// Where the first slot of that name is.
+fn slot_named(slots: &[Option<Slot>], name: &[u8]) -> Option<usize>
+    ensures { ClearsAt slots.now name.now result }
+{
+    for (i, slot) in slots.iter().enumerate() {
+        match slot {
+            None => {}
+            Some(slot) => {
+                if same(slot.name.as_slice(), name) {
+                    return Some(i);
+                }
+            }
+        }
+    }
+    None
+}
+
+/// Frees the first slot of that name.
+pub(crate) fn clear_slot(slots: &mut Vec<Option<Slot>>, name: &[u8])
+    ensures { slots.new.items ≡ cleared slots.old.items name.now }
+{
+    if let Some(i) = slot_named(slots.as_slice(), name) {
+        slots[i] = None;
+    }
+}
+
+/// Appends zeros.
+fn push_zeros(out: &mut Vec<u8>, count: usize) -> Result<(), NoMemory>
+    ensures { IfOk result (λ _. out.new.items ≡ out.old.items ++ replicate count 0) }
+{
+    for _ in 0..count {
+        out.push(0)?;
+    }
+    Ok(())
+}
+
+/// Appends the bytes of a slot: the number, low byte first, then the name, with zeros up to its width.
+fn push_entry(out: &mut Vec<u8>, slot: &Option<Slot>) -> Result<(), NoMemory>
+    ensures { IfOk result (λ _. out.new.items ≡ out.old.items ++ entry_bytes slot.now) }
+{
+    match slot {
+        None => push_zeros(out, ENTRY_WIDTH),
+        Some(slot) => {
+            let name = slot.name.as_slice();
+            out.push((slot.number % 256) as u8)?;
+            out.push((slot.number / 256) as u8)?;
+            out.extend_from_slice(name)?;
+            push_zeros(out, NAME_WIDTH.saturating_sub(name.len()))
+        }
+    }
+}
+
+/// The bytes of the slots.
+pub(crate) fn entries(alloc: Global, slots: &[Option<Slot>]) -> Result<Vec<u8>, NoMemory>
+    ensures { IfOk result (λ v. v.items ≡ entries slots.now) }
+{
+    let mut out = Vec::new(alloc);
+    for slot in slots {
+        push_entry(&mut out, slot)?;
+    }
+    Ok(out)
+}

@@ -1,0 +1,51 @@
+//! The steps of a tree, each of which happens at one moment.
+use crate::answer::{Cause, Full, Stat};
+use crate::bytes::Bytes;
+
+/// What a step does. Most calls are one step; `open` that empties, `write` and `link` are several.
+#[derive(Drop)]
+pub enum Action {
+    Open { path: Bytes, flags: u32 },
+    /// Empties the file that was opened before.
+    Truncate { fd: u32 },
+    Read { fd: u32, count: usize },
+    /// Writes one piece.
+    WritePart { fd: u32, bytes: Bytes },
+    /// Finds what a link is to name, and holds it.
+    Find { old: Bytes },
+    /// Raises the count of what is held.
+    Bump,
+    /// Enters the new name of what is held, and lets go of it.
+    Enter { new: Bytes },
+    /// Takes the raise back, and lets go of what was held.
+    Unbump,
+    Unlink { path: Bytes },
+    Mkdir { path: Bytes },
+    Chdir { path: Bytes },
+    Dup { fd: u32 },
+    Close { fd: u32 },
+    Fstat { fd: u32 },
+    Inherit { child: u8 },
+}
+
+/// A step of a hart. `new` is the number of the node that the step makes; where it makes none, it says nothing.
+#[derive(Drop)]
+pub struct TreeStep {
+    pub hart: u8,
+    pub new: u16,
+    pub action: Action,
+}
+
+/// What a step answers.
+#[derive(Drop)]
+pub enum StepAnswer {
+    /// The descriptor, the id of the new open file, and whether a file was opened (only a file is emptied).
+    Opened { fd: u32, id: usize, is_file: bool },
+    /// The bytes read.
+    Bytes { bytes: Bytes },
+    Stat { stat: Stat },
+    Fd { fd: u32 },
+    Done,
+    Failed { cause: Cause },
+    Full { full: Full },
+}

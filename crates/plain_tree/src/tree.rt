@@ -1,0 +1,239 @@
+//! The tree.
+ghost use Rattle.std.specs.Prelude.{◌≡◌, ◌<◌, ◌++◌, ◌∷◌, [], length, replicate, IfOk, MatchOption, MatchResult, slice_index_or};
+ghost use Rattle.plain_tree.specs.Code.{IsEntryOf};
+ghost use Rattle.plain_tree.specs.Fresh.{fresh, fresh_hart};
+ghost use Rattle.plain_tree.specs.Steps.{moved, node_at, with_nodes};
+ghost use Rattle.plain_tree.specs.Widths.{hart_count};
+ghost use Rattle.plain_tree.specs.Tree.{file_in, hart_at, put, tree_of};
+
+use crate::bytes::Bytes;
+use crate::node::{Kind, Node};
+use crate::refused::NoMemory;
+use crate::widths::{HART_COUNT, ROOT};
+use std::alloc::Global;
+use std::marker::Model;
+use std::mem;
+
+/// An open file: the node's number, and the byte at which the next read or write begins.
+#[derive(Clone, Copy)]
+pub struct OpenFile {
+    pub number: u16,
+    pub offset: u64,
+    pub readable: bool,
+    pub writable: bool,
+}
+
+/// An open file with its id.
+#[derive(Clone, Copy)]
+pub struct OpenFileEntry {
+    pub id: usize,
+    pub file: OpenFile,
+}
+
+/// What a link under way has found: the node's number, and whether its count was raised for the name to come.
+#[derive(Clone, Copy)]
+pub struct Hold {
+    pub number: u16,
+    pub raised: bool,
+}
+
+/// A hart's current directory, the ids of its open files by descriptor, and what it holds.
+#[derive(Clone, Copy)]
+pub struct Hart {
+    pub directory: u16,
+    pub descriptors: [Option<usize>; 16],
+    pub hold: Option<Hold>,
+}
+
+/// The nodes by their numbers (number 0 names none), the open files, and the harts. A contract reads it by `tree_of`.
+#[derive(Drop)]
+pub struct Tree {
+    nodes: Vec<Option<Node>>,
+    files: Vec<OpenFileEntry>,
+    harts: [Hart; 8],
+}
+
+impl Model for Tree {
+    ghost use Rattle.plain_tree.specs.TreeData.{TreeData};
+
+    ghost Value = { TreeData };
+
+    ghost use Rattle.std.specs.Prelude.{◌≡◌, length};
+
+    ghost view = { λ t. record { nodes = t.nodes.items; files = t.files.items; harts = t.harts } };
+
+    ghost invariant = { λ t. length t.harts ≡ 8 };
+}
+
+/// Where the first entry of that id stands.
+#[tactic(auto, unfolding(crate::specs::Tree::file_in))]
+fn entry_of(files: &[OpenFileEntry], id: usize) -> Option<usize>
+    ensures { MatchOption result (file_in files.now id ≡ None) (λ i. IsEntryOf files.now id i) }
+{
+    for (i, entry) in files.iter().enumerate() {
+        if entry.id == id {
+            return Some(i);
+        }
+    }
+    None
+}
+
+impl Tree {
+    /// A root without names, with numbers below `ninodes` for the nodes to come (2 at least).
+    pub fn new(alloc: Global, ninodes: u16) -> Result<Tree, NoMemory>
+        ensures { IfOk result (λ t. t ≡ fresh ninodes) }
+    {
+        Err(NoMemory)
+    }
+
+    /// A tree of these nodes, each at its number. Nothing is open, and all harts are in the root. It takes no memory.
+    pub fn of_nodes(alloc: Global, nodes: Vec<Option<Node>>) -> Tree
+        ensures { result ≡ record { nodes = nodes.items; files = []; harts = replicate hart_count fresh_hart } }
+    {
+        let hart = Hart {
+            directory: ROOT,
+            descriptors: [None; 16],
+            hold: None,
+        };
+        Tree {
+            nodes,
+            files: Vec::new(alloc),
+            harts: [hart; 8],
+        }
+    }
+
+    /// The numbers of nodes are below it.
+    pub fn ninodes(&self) -> usize
+        ensures { result ≡ (tree_of self.now).ninodes }
+    {
+        self.nodes.len()
+    }
+
+    /// The node of that number.
+    pub fn node(&self, number: usize) -> Option<&Node>
+        ensures { MatchOption result ((tree_of self.now).nodes number ≡ None) (λ v. (tree_of self.now).nodes number ≡ Some v.now) }
+    {
+        match self.nodes.get(number) {
+            Some(Some(node)) => Some(node),
+            _ => None,
+        }
+    }
+
+    /// The open file of that id.
+    #[tactic(auto, unfolding(crate::specs::Tree::file_in))]
+    pub fn file(&self, id: usize) -> Option<OpenFile>
+        ensures { result ≡ (tree_of self.now).files id }
+    {
+        for entry in &self.files {
+            if entry.id == id {
+                return Some(entry.file);
+            }
+        }
+        None
+    }
+
+    /// The hart's current directory; the root for one that isn't there.
+    pub fn directory(&self, hart: u8) -> u16
+        ensures { result ≡ (tree_of self.now).cwd hart }
+    {
+        match self.harts.get(usize::from(hart)) {
+            Some(hart) => hart.directory,
+            None => ROOT,
+        }
+    }
+
+    /// The id of the open file that the hart has under the descriptor.
+    pub fn descriptor(&self, hart: u8, fd: usize) -> Option<usize>
+        ensures { result ≡ (tree_of self.now).fds hart fd }
+    {
+        let hart = self.harts.get(usize::from(hart))?;
+        let fd = hart.descriptors.get(fd)?;
+        *fd
+    }
+
+    /// What the hart holds.
+    pub fn hold(&self, hart: u8) -> Option<Hold>
+        ensures { result ≡ (tree_of self.now).holds hart }
+    {
+        let hart = self.harts.get(usize::from(hart))?;
+        hart.hold
+    }
+
+    /// Everything of the hart.
+    pub(crate) fn hart(&self, hart: u8) -> Hart
+        requires { hart < 8 }
+        ensures { result ≡ hart_at self.now hart }
+    {
+        self.harts[usize::from(hart)]
+    }
+
+    /// Puts everything of the hart in its place.
+    pub(crate) fn set_hart(&mut self, hart: u8, value: Hart)
+        requires { hart < 8 }
+        ensures { tree_of self.new ≡ record (tree_of self.old) { cwd = put (tree_of self.old).cwd hart value.directory; fds = put (tree_of self.old).fds hart (λ i. slice_index_or value.descriptors i None); holds = put (tree_of self.old).holds hart value.hold } }
+    {
+        self.harts[usize::from(hart)] = value;
+    }
+
+    /// Takes the node out; an empty file where there is none.
+    pub(crate) fn take_node(&mut self, alloc: Global, number: usize) -> Node
+        requires { number < (tree_of self.old).ninodes }
+        ensures node { result ≡ node_at (tree_of self.old) number }
+        ensures rest { tree_of self.new ≡ with_nodes (tree_of self.old) (put (tree_of self.old).nodes number None) }
+    {
+        let place = &mut self.nodes[number];
+        match mem::replace(place, None) {
+            Some(node) => node,
+            None => Node {
+                count: 0,
+                kind: Kind::File {
+                    bytes: Bytes::new(Vec::new(alloc)),
+                },
+            },
+        }
+    }
+
+    /// Puts the node in its place.
+    pub(crate) fn set_node(&mut self, number: usize, node: Node)
+        requires { number < (tree_of self.old).ninodes }
+        ensures { tree_of self.new ≡ with_nodes (tree_of self.old) (put (tree_of self.old).nodes number (Some node)) }
+    {
+        self.nodes[number] = Some(node);
+    }
+
+    /// The node goes.
+    pub(crate) fn drop_node(&mut self, number: usize)
+        requires { number < (tree_of self.old).ninodes }
+        ensures { tree_of self.new ≡ with_nodes (tree_of self.old) (put (tree_of self.old).nodes number None) }
+    {
+        self.nodes[number] = None;
+    }
+
+    /// Adds an open file under an unused id.
+    pub(crate) fn add_file(&mut self, id: usize, file: OpenFile) -> Result<(), NoMemory>
+        requires { (tree_of self.old).files id ≡ None }
+        ensures { MatchResult result (λ _. tree_of self.new ≡ record (tree_of self.old) { files = put (tree_of self.old).files id (Some file) }) (λ _. self.new ≡ self.old) }
+    {
+        self.files.push(OpenFileEntry { id, file })?;
+        Ok(())
+    }
+
+    /// Moves the offset of the open file on, where there is one.
+    pub(crate) fn advance(&mut self, id: Option<usize>, by: u64) -> Result<(), NoMemory>
+        ensures { MatchResult result (λ _. tree_of self.new ≡ moved (tree_of self.old) id by) (λ _. self.new ≡ self.old) }
+    {
+        let Some(id) = id else {
+            return Ok(());
+        };
+        let Some(i) = entry_of(&self.files, id) else {
+            return Ok(());
+        };
+        let mut file = self.files[i].file;
+        let Some(offset) = file.offset.checked_add(by) else {
+            return Err(NoMemory);
+        };
+        file.offset = offset;
+        self.files[i] = OpenFileEntry { id, file };
+        Ok(())
+    }
+}

@@ -1,0 +1,45 @@
+//! The widths and limits of this version of the file system.
+
+/// Bytes of a name; a longer element of a path is cut.
+pub(crate) const NAME_WIDTH: usize = 14;
+
+/// Bytes of a directory's slot in its content.
+pub(crate) const ENTRY_WIDTH: usize = 16;
+
+/// Bytes of the largest file.
+pub(crate) const FILE_LIMIT: u64 = 274_432;
+
+/// The greatest count of a node.
+pub(crate) const COUNT_LIMIT: u16 = 32767;
+
+pub(crate) const HART_COUNT: u8 = 8;
+
+/// Descriptors of a hart.
+pub(crate) const DESCRIPTOR_COUNT: usize = 16;
+
+/// Devices whose major is below this open.
+pub(crate) const MAJOR_LIMIT: i16 = 10;
+
+/// The number of the root directory.
+pub(crate) const ROOT: u16 = 1;
+
+/// The number of the one device.
+pub(crate) const ROOT_DEVICE: u32 = 1;
+
+/// Slots of a fresh root: one block of them.
+pub(crate) const FRESH_SLOTS: usize = 64;
+
+/// Flags of open: write only, read and write, make the file.
+pub(crate) const WRITE_ONLY: u32 = 1;
+
+pub(crate) const READ_WRITE: u32 = 2;
+
+pub(crate) const CREATE: u32 = 512;
+
+/// What parts the elements of a path.
+pub(crate) const SLASH: u8 = b'/';
+
+/// The names of a directory itself and of its parent.
+pub(crate) const DOT: [u8; 1] = [b'.'];
+
+pub(crate) const DOTDOT: [u8; 2] = [b'.', b'.'];
