@@ -16,3 +16,4 @@ pub mod CountLemmas
 pub mod ShapeLemmas
 pub mod TreeOfLemmas
 pub mod SuperAndLog
+pub mod Installs

@@ -9,3 +9,4 @@ pub mod Trees
 pub mod Layout
 pub mod Marks
 pub mod Names
+pub mod Recovery

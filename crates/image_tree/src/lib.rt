@@ -15,6 +15,7 @@ mod names;
 mod numbers;
 mod once;
 mod one_tree;
+mod recovery;
 mod shape;
 mod sizes;
 mod slots;
@@ -26,8 +27,11 @@ pub use crate::disk::{Layout, load};
 pub use crate::examination::examine;
 pub use crate::fault::{Damage, MountFault};
 pub use crate::heads::find_layout;
+pub use crate::recovery::recover;
 pub use crate::shape::Shape;
 pub use crate::trees::tree_of;
 
+#[cfg(test)]
+mod recovery_tests;
 #[cfg(test)]
 mod tests;

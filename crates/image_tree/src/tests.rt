@@ -8,7 +8,7 @@ use std::alloc::{AllocError, Global};
 use std::test::Fail;
 
 // Bytes to write at a place of an image.
-type Change = (usize, &'static [u8]);
+pub(crate) type Change = (usize, &'static [u8]);
 
 fn put(image: &mut [u8], at: usize, bytes: &[u8]) {
     for i in 0..bytes.len() {
@@ -54,7 +54,7 @@ fn answer(outcome: &Result<Shape, MountFault>) -> u8 {
     }
 }
 
-fn fresh(alloc: Global, changes: &[Change]) -> Result<MemoryDisk, AllocError> {
+pub(crate) fn fresh(alloc: Global, changes: &[Change]) -> Result<MemoryDisk, AllocError> {
     let mut image = with(alloc, 2000, &FRESH)?;
     for change in changes {
         put(&mut image, change.0, change.1);

@@ -1,0 +1,89 @@
+//! Recovery: what the log holds goes home.
+ghost use Rattle.std.specs.Prelude.{◌≡◌, ◌⊎◌, ◌<◌, ℕ, [], length, replicate, slice_set, OnOk, OnErr, IfOk};
+ghost use Rattle.block_device.specs.Blocks.{faults_after};
+ghost use Rattle.fs_layout.specs.Recovered.{block_at, logged, recovered, sizes_of, IsOutsideLog, SameRecovered};
+ghost use Rattle.image_tree.specs.Damage.{JudgesWith, UpToLog, faults_with};
+ghost use Rattle.image_tree.specs.Layout.{IsLayout};
+ghost use Rattle.image_tree.specs.Recovery.{OnDamage};
+
+use crate::disk::Layout;
+use crate::fault::MountFault;
+use crate::heads::find_layout;
+use block_device::{Device, Fault};
+
+/// Copies the logged blocks home, and then clears the log's head (the xv6 book, chapter "File system", "Logging
+/// layer"). Where nothing is logged it writes nothing. It takes no memory.
+///
+/// Wherever it stops, also in the middle of a write, recovery may be run again and makes the same disk.
+pub fn recover<D: Device>(device: &mut D) -> Result<(), MountFault>
+    // Superblock and log are good, or the answer is their first damage; then nothing was written.
+    ensures judges { JudgesWith (λ _. UpToLog (D.contents device.old)) (D.contents device.old) result }
+    ensures unwritten { OnDamage result (D.contents device.new ≡ D.contents device.old) }
+    ensures empty { logged (D.contents device.old) ≡ [] → D.contents device.new ≡ D.contents device.old }
+    ensures faults { D.failures device.new ≡ faults_with result (D.failures device.old) }
+
+    // Whatever it answers, recovery would make the same disk as before.
+    ensures kept { SameRecovered (D.contents device.old) (D.contents device.new) }
+    ensures sizes { sizes_of (D.contents device.new) ≡ sizes_of (D.contents device.old) }
+
+    // Afterwards the disk is the recovered one, and its log is empty.
+    ensures home { OnOk result ((b : ℕ) → IsOutsideLog (sizes_of (D.contents device.old)) b
+        → block_at (D.contents device.new) b ≡ recovered (D.contents device.old) b) }
+    ensures cleared { OnOk result (logged (D.contents device.new) ≡ []) }
+{
+    let layout = find_layout(device)?;
+    install(device, &layout)?;
+    Ok(())
+}
+
+fn install<D: Device>(device: &mut D, layout: &Layout) -> Result<(), Fault>
+    requires { IsLayout (D.contents device.old) layout.now }
+    ensures empty { logged (D.contents device.old) ≡ [] → D.contents device.new ≡ D.contents device.old }
+    ensures faults { D.failures device.new ≡ faults_after result (D.failures device.old) }
+    ensures kept { SameRecovered (D.contents device.old) (D.contents device.new) }
+    ensures sizes { sizes_of (D.contents device.new) ≡ sizes_of (D.contents device.old) }
+    ensures home { OnOk result ((b : ℕ) → IsOutsideLog (sizes_of (D.contents device.old)) b
+        → block_at (D.contents device.new) b ≡ recovered (D.contents device.old) b) }
+    ensures cleared { OnOk result (logged (D.contents device.new) ≡ []) }
+{
+    let blocks = layout.head.blocks.as_slice();
+    if blocks.is_empty() {
+        return Ok(());
+    }
+    let logstart = layout.sizes.logstart;
+    for i in 0..blocks.len() {
+        copy(device, logstart + 1 + i as u32, blocks[i])?;
+    }
+    device.write(logstart, &zeros())
+}
+
+// One block into the place of another.
+fn copy<D: Device>(device: &mut D, from: u32, to: u32) -> Result<(), Fault>
+    requires from { from < length (D.contents device.old) }
+    requires to { to < length (D.contents device.old) }
+    ensures ok { OnOk result (D.contents device.new ≡ slice_set (D.contents device.old) to (block_at (D.contents device.old) from)) }
+    ensures err { OnErr result ((D.contents device.new ≡ D.contents device.old)
+        ⊎ (D.contents device.new ≡ slice_set (D.contents device.old) to (block_at (D.contents device.old) from))) }
+    ensures faults { D.failures device.new ≡ faults_after result (D.failures device.old) }
+{
+    let block = read(device, from)?;
+    device.write(to, &block)
+}
+
+fn read<D: Device>(device: &mut D, b: u32) -> Result<[u8; 1024], Fault>
+    requires { b < length (D.contents device.old) }
+    ensures read { IfOk result (λ block. block ≡ block_at (D.contents device.old) b) }
+    ensures contents { D.contents device.new ≡ D.contents device.old }
+    ensures faults { D.failures device.new ≡ faults_after result (D.failures device.old) }
+{
+    let mut block = [0; 1024];
+    device.read(b, &mut block)?;
+    Ok(block)
+}
+
+// A head that names no block.
+fn zeros() -> [u8; 1024]
+    ensures { result ≡ replicate 1024 0 }
+{
+    [0; 1024]
+}

@@ -1,0 +1,99 @@
+//! Recovery that is stopped at each call of the device in turn.
+use crate::tests::fresh;
+use crate::{Damage, MountFault, Shape, examine, recover};
+use block_device::{Fused, MemoryDisk};
+use std::alloc::{AllocError, Global};
+use std::test::Fail;
+
+// Where the first block of the log begins, and the three copies behind it.
+const HEAD: usize = 2048;
+
+const COPIES: usize = 3072;
+
+// The fresh image, with the bitmap, the root's inode and block 48 in the log alone.
+fn logged(alloc: Global) -> Result<MemoryDisk, AllocError> {
+    fresh(
+        alloc,
+        &[
+            (47104, b"\0\0\0\0\0\0"),
+            (33856, b"\0\0\0\0\0\0\0\0\0\0\0\0\0"),
+            (HEAD, b"\x03\0\0\0\x2e\0\0\0\x21\0\0\0\x30\0\0\0"),
+            (COPIES, b"\xff\xff\xff\xff\xff\xff\x01"),
+            (4160, b"\x01\0\0\0\0\0\x01\0\0\x04\0\0\x2f\0\0\0"),
+            (5120, b"new"),
+        ],
+    )
+}
+
+fn byte_at(bytes: &Vec<u8>, at: usize) -> Option<u8> {
+    bytes.get(at).copied()
+}
+
+#[test]
+fn recovery_goes_on_where_it_stopped(rt: HostRuntime) -> Result<(), Fail> {
+    let shape = Shape {
+        size: 2000,
+        ninodes: 200,
+        live: 1,
+        orphans: 0,
+        blocks: 1,
+    };
+    for calls in 0..12u64 {
+        let mut disk = Fused::new(logged(rt.alloc())?, calls);
+        // Superblock and head are read, each block is read and written, and the head is written.
+        let want = if calls < 9 {
+            Err(MountFault::DeviceFault)
+        } else {
+            Ok(())
+        };
+        assert_eq!(rt; recover(&mut disk), want, "after {calls} calls");
+        let mut disk = disk.into_disk();
+        assert_eq!(rt;
+            examine(rt.alloc(), &mut disk),
+            Ok(shape),
+            "after {calls} calls"
+        );
+        assert_eq!(rt; recover(&mut disk), Ok(()), "after {calls} calls");
+        assert_eq!(rt;
+            examine(rt.alloc(), &mut disk),
+            Ok(shape),
+            "after {calls} calls"
+        );
+        let bytes = disk.into_bytes();
+        for (at, byte) in [
+            (HEAD, 0),
+            (47104, 0xff),
+            (47110, 1),
+            (33856, 1),
+            (33868, 0x2f),
+            (49152, b'n'),
+            (49154, b'w'),
+        ] {
+            assert_eq!(rt;
+                byte_at(&bytes, at),
+                Some(byte),
+                "byte {at} after {calls} calls"
+            );
+        }
+    }
+    Ok(())
+}
+
+#[test]
+fn recovery_writes_nothing_to_a_damaged_image(rt: HostRuntime) -> Result<(), Fail> {
+    // A block below the inodes is named.
+    let mut disk = fresh(
+        rt.alloc(),
+        &[(HEAD, b"\x02\0\0\0\x2e\0\0\0\x20\0\0\0"), (COPIES, b"new")],
+    )?;
+    assert_eq!(rt;
+        recover(&mut disk),
+        Err(MountFault::Damaged(Damage::BadLog))
+    );
+    let bytes = disk.into_bytes();
+    assert_eq!(rt;
+        (byte_at(&bytes, HEAD), byte_at(&bytes, 47104)),
+        (Some(2), Some(0xff))
+    );
+    Ok(())
+}
