@@ -1,0 +1,151 @@
+-- An entry and its 16 bytes determine each other.
+use Rattle.std.proofs.Common.{◌≡◌, ◌≢◌, ℕ, zero, suc, ◌+◌, ◌-◌, ◌*◌, ◌<◌, ◌≤◌, true, false, not, ⊎_elim, length-drop, eqb, ◌&&◌, nat_lt, nat_le, List, [], ◌∷◌, ◌++◌, length, take, drop, replicate, Some, None, refl, sym, ap, ◌∙◌, arith, append_assoc, length-append}
+use Rattle.std.proofs.lemmas.List.{take_at, drop_at, length-replicate, length-take-le, take-append-drop, drop-take, drop-drop}
+use Rattle.std.proofs.lemmas.List.Sums.{prefix_len-le-length}
+use Rattle.fs_layout.proofs.Branches.{which_branch}
+use Rattle.fs_layout.proofs.Overwrites.{then_overwrite, part-overwrite, record_at-overwrite}
+use Rattle.std.proofs.lemmas.Bool.{and_parts, ne_eqb, eqb-true}
+use Rattle.std.proofs.lemmas.Bool.Decides.{nat_tests}
+use Rattle.std.specs.List.{list_all, position_or_len}
+use Rattle.fs_layout.specs.declared.entry.Dirent.{Dirent}
+use Rattle.fs_layout.specs.declared.entry.Dirent.TheVariants.{Free, Used}
+use Rattle.fs_layout.specs.Bytes.{u16_bytes, u16_at, overwrite, record_at, IsBytes}
+use Rattle.fs_layout.specs.Name.{is_zero, is_name_byte, is_name}
+use Rattle.fs_layout.specs.Entry.{spell_dirent, dirent_of, used_of, free_of, name_of, dirent_at, IsDirent}
+use Rattle.fs_layout.proofs.Numbers.{u16_at-part, length-u16_bytes, u16_at-bytes, u16_bytes-at}
+
+-- no byte of a name is zero
+byte_not_zero : (x : ℕ) → is_name_byte x ≡ true → is_zero x ≡ false
+byte_not_zero zero h = cc
+byte_not_zero (suc n) h = ne_eqb (suc n) 0 (omega arith)
+
+pub position-name : (name rest : List ℕ) → list_all is_name_byte name ≡ true → position_or_len is_zero (name ++ rest) ≡ length name + position_or_len is_zero rest
+position-name [] rest h = omega arith
+position-name (x ∷ xs) rest h =
+    let parts = and_parts (is_name_byte x) (list_all is_name_byte xs) h in
+    rw (byte_not_zero x parts.0) (omega (arith, position-name xs rest parts.1))
+
+pub position-zeros : (n : ℕ) → position_or_len is_zero (replicate n 0) ≡ 0
+position-zeros zero = refl
+position-zeros (suc n) = refl
+
+pub all-zeros : (n : ℕ) → list_all is_zero (replicate n 0) ≡ true
+all-zeros zero = refl
+all-zeros (suc n) = all-zeros n
+
+-- only zeros are all zero
+pub zeros-all : (xs : List ℕ) → list_all is_zero xs ≡ true → xs ≡ replicate (length xs) 0
+zeros-all [] h = refl
+zeros-all (zero ∷ xs) h = ap (λ (ys : List ℕ). 0 ∷ ys) (zeros-all xs h)
+zeros-all (suc n ∷ xs) h =
+    let p = and_parts (is_zero (suc n)) (list_all is_zero xs) h in
+    let e : suc n ≡ 0 = eqb-true (suc n) 0 p.0 in
+    absurd (omega arith)
+
+-- what a name is
+pub record NameParts (name : List ℕ) : Type 0 where
+  pub low : 0 < length name
+  pub high : length name ≤ 14
+  pub bytes : list_all is_name_byte name ≡ true
+
+pub name_parts : (name : List ℕ) → is_name name ≡ true → NameParts name
+name_parts name h =
+    let p = and_parts (nat_lt 0 (length name) && nat_le (length name) 14) (list_all is_name_byte name) h in
+    let q = and_parts (nat_lt 0 (length name)) (nat_le (length name) 14) p.0 in
+    record { low = grind (arith, nat_tests, q.0); high = grind (arith, nat_tests, q.1); bytes = p.1 }
+
+pub length-spell_dirent : (d : Dirent) → IsDirent d → length (spell_dirent d) ≡ 16
+length-spell_dirent Free h = refl
+length-spell_dirent (Used number name) h =
+    let n = name_parts name (h.2) in
+    simp (length-append, length-u16_bytes, length-replicate) (omega (arith, n.high))
+
+pub dirent_of-spell : (d : Dirent) → IsDirent d → dirent_of (spell_dirent d) ≡ Some d
+unfolding u16_at
+dirent_of-spell Free h = refl
+dirent_of-spell (Used number name) h =
+    let yes = h.2 in
+    let n = name_parts name yes in
+    let pad : List ℕ = replicate (14 - length name) 0 in
+    let field : List ℕ = name ++ pad in
+    let first : u16_at (u16_bytes number ++ field) 0 ≡ number = u16_at-bytes number field h.1 in
+    let behind : drop 2 (u16_bytes number ++ field) ≡ field = drop_at (u16_bytes number) field 2 (length-u16_bytes number) in
+    let long : position_or_len is_zero field ≡ length name = position-name name pad n.bytes ∙ omega (arith, position-zeros (14 - length name)) in
+    let front : take (length name) field ≡ name = take_at name pad (length name) refl in
+    let rest : drop (length name) field ≡ pad = drop_at name pad (length name) refl in
+    let used : used_of number field ≡ Some (Used number name) = rw (long, front, rest, yes, all-zeros (14 - length name)) refl in
+    rw (first, behind, ne_eqb number 0 h.0) used
+
+-- the three writes of a used entry
+pub wrote_used : (b0 b1 b2 b3 name : List ℕ) (number at : ℕ) → at ≤ length b0
+    → b1 ≡ overwrite b0 at (u16_bytes number)
+    → b2 ≡ overwrite b1 (at + 2) name
+    → b3 ≡ overwrite b2 (at + 2 + length name) (replicate (14 - length name) 0)
+    → b3 ≡ overwrite b0 at (u16_bytes number ++ (name ++ replicate (14 - length name) 0))
+wrote_used b0 b1 b2 b3 name number at h e1 e2 e3 =
+    let l = length-u16_bytes number in
+    let x2 = then_overwrite b0 b1 b2 (u16_bytes number) name at (at + 2) e1 e2 (omega arith) h in
+    let x3 = then_overwrite b0 b2 b3 (u16_bytes number ++ name) (replicate (14 - length name) 0) at (at + 2 + length name) x2 e3 (omega (arith, length-append (u16_bytes number) name)) h in
+    x3 ∙ ap (overwrite b0 at) (append_assoc (u16_bytes number) name (replicate (14 - length name) 0))
+
+-- what a write of an entry means
+pub reads_back : (old new : List ℕ) (place : ℕ) (d : Dirent) → 16 * place ≤ length old → IsDirent d → new ≡ overwrite old (16 * place) (spell_dirent d) → dirent_at place new ≡ Some d
+reads_back old new place d h is e =
+    ap (dirent_at place) e ∙ ap dirent_of (part-overwrite old (spell_dirent d) (16 * place) 16 h (length-spell_dirent d is)) ∙ dirent_of-spell d is
+
+pub others_stay : (old new : List ℕ) (place q : ℕ) (d : Dirent) → 16 * place ≤ length old → IsDirent d → q ≢ place → new ≡ overwrite old (16 * place) (spell_dirent d) → dirent_at q new ≡ dirent_at q old
+others_stay old new place q d h is ne e =
+    ap (dirent_at q) e ∙ ap dirent_of (record_at-overwrite 16 place q old (spell_dirent d) (length-spell_dirent d is) h ne)
+
+-- the field of a name within its block
+pub field-part : (block : List ℕ) (place at : ℕ) → at ≡ 16 * place → drop 2 (record_at 16 place block) ≡ take (at + 16 - (at + 2)) (drop (at + 2) block)
+field-part block place at e =
+    let size : 14 ≡ at + 16 - (at + 2) = omega arith in
+    drop-take 2 14 (drop (16 * place) block) ∙ ap (take 14) (drop-drop 2 (16 * place) block)
+    ∙ ap (λ (i : ℕ). take 14 (drop (i + 2) block)) (sym e) ∙ ap (λ (n : ℕ). take n (drop (at + 2) block)) size
+
+-- what is read is spelled so
+spelled_free : (bytes : List ℕ) (d : Dirent) → length bytes ≡ 16 → IsBytes bytes → u16_at bytes 0 ≡ 0 → free_of (drop 2 bytes) ≡ Some d → spell_dirent d ≡ bytes
+unfolding u16_bytes
+spelled_free bytes d l fits z h =
+    let size : length (drop 2 bytes) ≡ 14 = omega (arith, length-drop 2 bytes) in
+    ⊎_elim
+    (λ (t : (list_all is_zero (drop 2 bytes) ≡ true) × (Some Free ≡ Some d)).
+    let is : d ≡ Free = let e = t.1 in cc in
+    let zeros : drop 2 bytes ≡ replicate 14 0 = zeros-all (drop 2 bytes) t.0 ∙ ap (λ (n : ℕ). replicate n 0) size in
+    let all = u16_bytes-at bytes 0 (omega arith) fits in
+    ap spell_dirent is ∙ (rw (z, zeros) at all))
+    (λ (f : (list_all is_zero (drop 2 bytes) ≡ false) × (None ≡ Some d)). let e = f.1 in cc)
+    (which_branch (list_all is_zero (drop 2 bytes)) (Some Free) None (Some d) h)
+
+spelled_used : (bytes : List ℕ) (d : Dirent) → length bytes ≡ 16 → IsBytes bytes → used_of (u16_at bytes 0) (drop 2 bytes) ≡ Some d → spell_dirent d ≡ bytes
+spelled_used bytes d l fits h =
+    let field : List ℕ = drop 2 bytes in
+    let n : ℕ = position_or_len is_zero field in
+    let within : n ≤ length field = prefix_len-le-length (λ (x : ℕ). not (is_zero x)) field in
+    let short : length (take n field) ≡ n = length-take-le n field within in
+    let size : length field ≡ 14 = omega (arith, length-drop 2 bytes) in
+    let left : length (drop n field) ≡ 14 - length (name_of field) = omega (arith, length-drop n field) in
+    ⊎_elim
+    (λ (t : ((is_name (name_of field) && list_all is_zero (drop n field)) ≡ true) × (Some (Used (u16_at bytes 0) (name_of field)) ≡ Some d)).
+    let is : d ≡ Used (u16_at bytes 0) (name_of field) = let e = t.1 in cc in
+    let p = and_parts (is_name (name_of field)) (list_all is_zero (drop n field)) t.0 in
+    let pad : replicate (14 - length (name_of field)) 0 ≡ drop n field = sym (zeros-all (drop n field) p.1 ∙ ap (λ (k : ℕ). replicate k 0) left) in
+    ap spell_dirent is ∙ ap (λ (xs : List ℕ). u16_bytes (u16_at bytes 0) ++ (name_of field ++ xs)) pad
+    ∙ ap (λ (xs : List ℕ). u16_bytes (u16_at bytes 0) ++ xs) (take-append-drop n field)
+    ∙ u16_bytes-at bytes 0 (omega arith) fits)
+    (λ (f : ((is_name (name_of field) && list_all is_zero (drop n field)) ≡ false) × (None ≡ Some d)). let e = f.1 in cc)
+    (which_branch (is_name (name_of field) && list_all is_zero (drop n field)) (Some (Used (u16_at bytes 0) (name_of field))) None (Some d) h)
+
+pub spell-dirent_of : (bytes : List ℕ) (d : Dirent) → length bytes ≡ 16 → IsBytes bytes → dirent_of bytes ≡ Some d → spell_dirent d ≡ bytes
+spell-dirent_of bytes d l fits h =
+    ⊎_elim
+    (λ (t : (eqb (u16_at bytes 0) 0 ≡ true) × (free_of (drop 2 bytes) ≡ Some d)). spelled_free bytes d l fits (eqb-true (u16_at bytes 0) 0 t.0) t.1)
+    (λ (f : (eqb (u16_at bytes 0) 0 ≡ false) × (used_of (u16_at bytes 0) (drop 2 bytes) ≡ Some d)). spelled_used bytes d l fits f.1)
+    (which_branch (eqb (u16_at bytes 0) 0) (free_of (drop 2 bytes)) (used_of (u16_at bytes 0) (drop 2 bytes)) (Some d) h)
+
+-- the number of an entry within its block
+pub number-part : (block : List ℕ) (place : ℕ) → u16_at (record_at 16 place block) 0 ≡ u16_at block (16 * place)
+number-part block place =
+    let same : 16 * place + 0 ≡ 16 * place = omega arith in
+    u16_at-part block (16 * place) 16 0 (omega arith) ∙ ap (u16_at block) same

@@ -1,0 +1,11 @@
+use Rattle.std.proofs.Common.{◌∙◌, ap, sym, []}
+use Rattle.std.proofs.lemmas.List.{append-nil}
+use Rattle.fs_layout.specs.LogHead.{spell_log_head, log_head_of}
+use Rattle.fs_layout.proofs.Words.{log_head_of-spell, spell-log_head_of}
+use Rattle.fs_layout.proofs.log_head.log_head_spelling.Goals as goal
+
+pub returns-clause-reads_back : goal.returns-clause-reads_back
+returns-clause-reads_back c = λ blocks l h. ap log_head_of (sym (append-nil (spell_log_head blocks))) ∙ log_head_of-spell blocks [] l h
+
+pub returns-clause-only : goal.returns-clause-only
+returns-clause-only c = spell-log_head_of

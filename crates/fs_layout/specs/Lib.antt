@@ -1,0 +1,10 @@
+pub mod Bits
+pub mod Bytes
+pub mod Entry
+pub mod Indirect
+pub mod Inode
+pub mod LogHead
+pub mod Name
+pub mod Recovered
+pub mod Super
+pub mod Widths

@@ -1,0 +1,44 @@
+-- The disk as recovery leaves it. A disk is the list of its blocks, each the list of its bytes.
+use Rattle.std.specs.Prelude.{◌≡◌, ◌⊎◌, ℕ, ◌+◌, ◌<◌, ◌≤◌, ◌==◌, List, [], slice_index_or, position}
+use Rattle.std.specs.Option.{option_map_or}
+use Rattle.fs_layout.specs.declared.superblock.Super.{Super}
+use Rattle.fs_layout.specs.Super.{super_fields}
+use Rattle.fs_layout.specs.LogHead.{head_numbers}
+use Rattle.fs_layout.specs.Widths.{super_block}
+
+-- a block of the disk; one that the disk doesn't have has no bytes
+abbrev pub block_at : List (List ℕ) → ℕ → List ℕ
+block_at disk b = slice_index_or disk b []
+
+-- where the parts of the disk lie, as its superblock has it
+unfoldable pub sizes_of : List (List ℕ) → Super
+sizes_of disk = super_fields (block_at disk super_block)
+
+-- the log's head
+abbrev pub log_head_at : List (List ℕ) → List ℕ
+log_head_at disk = block_at disk (sizes_of disk).logstart
+
+-- the blocks that the log has copies of, in order
+unfoldable pub logged : List (List ℕ) → List ℕ
+logged disk = head_numbers (log_head_at disk)
+
+-- which block has the recovered bytes of block b, where the log begins at logstart and has copies of these blocks in order: the first
+-- copy, and where there is none, b itself
+abbrev pub place_of : ℕ → List ℕ → ℕ → ℕ
+place_of logstart blocks b = option_map_or (λ i. logstart + 1 + i) (position (λ x. x == b) blocks) b
+
+-- the disk with such copies laid over their blocks
+abbrev pub overlay : List (List ℕ) → ℕ → List ℕ → ℕ → List ℕ
+overlay disk logstart blocks b = block_at disk (place_of logstart blocks b)
+
+-- the block as recovery leaves it
+unfoldable pub recovered : List (List ℕ) → ℕ → List ℕ
+recovered disk b = overlay disk (sizes_of disk).logstart (logged disk) b
+
+-- a block that the log doesn't take
+abbrev pub IsOutsideLog : Super → ℕ → Type 0
+IsOutsideLog sizes b = (b < sizes.logstart) ⊎ (sizes.logstart + sizes.nlog ≤ b)
+
+-- recovery leaves the same of both, outside the log
+abbrev pub SameRecovered : List (List ℕ) → List (List ℕ) → Type 0
+SameRecovered old new = (b : ℕ) → IsOutsideLog (sizes_of old) b → recovered new b ≡ recovered old b

@@ -1,0 +1,29 @@
+//! The bits of a bitmap block.
+ghost use Rattle.std.specs.Prelude.{◌≡◌, ◌<◌, ◌==◌, ℕ, if◌then◌else◌, true, false};
+ghost use Rattle.fs_layout.specs.Bits.{bit_of};
+
+use crate::widths::{BITS_PER_BLOCK, Block};
+
+/// Whether the bit for block b is set.
+pub fn bit(block: &Block, b: usize) -> bool
+    requires { b < BITS_PER_BLOCK }
+    ensures { result ≡ bit_of block.now b }
+{
+    (block[b / 8] >> (b % 8)) % 2 == 1
+}
+
+/// Sets the bit for block b.
+pub fn set_bit(block: &mut Block, b: usize)
+    requires { b < BITS_PER_BLOCK }
+    ensures { (c : ℕ) → bit_of block.new c ≡ (if c == b then true else bit_of block.old c) }
+{
+    block[b / 8] |= 1 << (b % 8);
+}
+
+/// Clears the bit for block b.
+pub fn clear_bit(block: &mut Block, b: usize)
+    requires { b < BITS_PER_BLOCK }
+    ensures { (c : ℕ) → bit_of block.new c ≡ (if c == b then false else bit_of block.old c) }
+{
+    block[b / 8] &= !(1 << (b % 8));
+}

@@ -1,0 +1,62 @@
+//! An inode on the disk.
+ghost use Rattle.std.specs.Prelude.{◌≡◌, ◌+◌, ◌*◌, ◌≤◌, ◌<◌, ◌≢◌, ℕ, List, length};
+ghost use Rattle.fs_layout.specs.Bytes.{overwrite, IsBytes};
+ghost use Rattle.fs_layout.specs.Inode.{dinode_at, dinode_of, spell_dinode, IsDinode};
+ghost use Rattle.fs_layout.specs.declared.inode.Dinode.{Dinode};
+
+use crate::bytes::{i16_in, put_i16, put_u32, put_u32s, u32_in, u32s_in};
+use crate::widths::{
+    ADDRESSES, Block, INODE_ADDRESSES_AT, INODE_LEN, INODE_MAJOR_AT, INODE_MINOR_AT,
+    INODE_NLINK_AT, INODE_SIZE_AT, INODES_PER_BLOCK,
+};
+
+/// An inode as it stands on the disk. Any bytes are one.
+#[derive(Clone, Copy, PartialEq, Eq, Debug)]
+pub struct Dinode {
+    pub kind: i16,
+    pub major: i16,
+    pub minor: i16,
+    pub nlink: i16,
+    pub size: u32,
+    pub addrs: [u32; ADDRESSES],
+}
+
+/// The inode at a place of an inode block.
+pub fn read_dinode(block: &Block, place: usize) -> Dinode
+    requires { place < INODES_PER_BLOCK }
+    ensures { result ≡ dinode_at place block.now }
+{
+    let at = INODE_LEN * place;
+    let mut addrs = [0; ADDRESSES];
+    u32s_in(block, at + INODE_ADDRESSES_AT, &mut addrs);
+    Dinode {
+        kind: i16_in(block, at),
+        major: i16_in(block, at + INODE_MAJOR_AT),
+        minor: i16_in(block, at + INODE_MINOR_AT),
+        nlink: i16_in(block, at + INODE_NLINK_AT),
+        size: u32_in(block, at + INODE_SIZE_AT),
+        addrs,
+    }
+}
+
+/// Writes an inode at a place of an inode block.
+pub fn write_dinode(block: &mut Block, place: usize, inode: &Dinode)
+    requires { place < INODES_PER_BLOCK }
+    ensures bytes { block.new ≡ overwrite block.old (INODE_LEN * place) (spell_dinode inode.now) }
+    ensures reads_back { dinode_at place block.new ≡ inode.now }
+    ensures others { (q : ℕ) → q < INODES_PER_BLOCK → q ≢ place → dinode_at q block.new ≡ dinode_at q block.old }
+{
+    let at = INODE_LEN * place;
+    put_i16(block, at, inode.kind);
+    put_i16(block, at + INODE_MAJOR_AT, inode.major);
+    put_i16(block, at + INODE_MINOR_AT, inode.minor);
+    put_i16(block, at + INODE_NLINK_AT, inode.nlink);
+    put_u32(block, at + INODE_SIZE_AT, inode.size);
+    put_u32s(block, at + INODE_ADDRESSES_AT, &inode.addrs);
+}
+
+/// An inode and its bytes determine each other.
+pub fn dinode_spelling()
+    ensures reads_back { (d : Dinode) → IsDinode d → dinode_of (spell_dinode d) ≡ d }
+    ensures only { (bytes : List ℕ) → length bytes ≡ INODE_LEN → IsBytes bytes → spell_dinode (dinode_of bytes) ≡ bytes }
+{}

@@ -1,0 +1,59 @@
+//! The head of the log.
+ghost use Rattle.std.specs.Prelude.{◌≡◌, ◌+◌, ◌*◌, ◌≤◌, ◌<◌, ◌^◌, ℕ, List, Some, length};
+ghost use Rattle.std.specs.List.{AllByRecursion};
+ghost use Rattle.fs_layout.specs.Bytes.{overwrite, u32s_at, IsBytes};
+ghost use Rattle.fs_layout.specs.LogHead.{log_head, log_head_of, spell_log_head};
+
+use crate::bytes::{put_u32, put_u32s, u32_in};
+use crate::widths::{Block, LOG_HEAD_COUNT_AT, LOG_HEAD_LEN, LOG_HEAD_NUMBERS_AT, NUMBER_LEN};
+use arrayvec::ArrayVec;
+
+/// The home blocks of the logged blocks, in order: the copy of the first stands just behind the
+/// head, and so on.
+#[derive(Drop)]
+pub struct LogHead {
+    pub blocks: ArrayVec<u32, LOG_HEAD_LEN>,
+}
+
+/// The log's head that a block is; `None` where it says that it names more blocks than it has room
+/// for.
+pub fn read_log_head(block: &Block) -> Option<LogHead>
+    ensures { result ≡ log_head_of block.now }
+{
+    let n = u32_in(block, LOG_HEAD_COUNT_AT) as usize;
+    if n > LOG_HEAD_LEN {
+        return None;
+    }
+    Some(LogHead {
+        blocks: first_numbers(block, n),
+    })
+}
+
+/// Writes the log's head with these home blocks. What stands behind it stays.
+pub fn write_log_head(block: &mut Block, blocks: &[u32])
+    requires { length blocks.now ≤ LOG_HEAD_LEN }
+    ensures bytes { block.new ≡ overwrite block.old LOG_HEAD_COUNT_AT (spell_log_head blocks.now) }
+    ensures reads_back { log_head_of block.new ≡ Some (log_head blocks.now) }
+{
+    put_u32(block, LOG_HEAD_COUNT_AT, blocks.len() as u32);
+    put_u32s(block, LOG_HEAD_NUMBERS_AT, blocks);
+}
+
+/// A head and its bytes determine each other, and other bytes are none.
+pub fn log_head_spelling()
+    ensures reads_back { (blocks : List ℕ) → length blocks ≤ LOG_HEAD_LEN → AllByRecursion (λ n. n < 2 ^ 32) blocks
+        → log_head_of (spell_log_head blocks) ≡ Some (log_head blocks) }
+    ensures only { (bytes blocks : List ℕ) → length bytes ≡ LOG_HEAD_NUMBERS_AT + NUMBER_LEN * length blocks → IsBytes bytes
+        → log_head_of bytes ≡ Some (log_head blocks) → spell_log_head blocks ≡ bytes }
+{}
+
+fn first_numbers(block: &Block, n: usize) -> ArrayVec<u32, LOG_HEAD_LEN>
+    requires { n ≤ LOG_HEAD_LEN }
+    ensures { result.items ≡ u32s_at n block.now LOG_HEAD_NUMBERS_AT }
+{
+    let mut numbers = ArrayVec::new();
+    for i in 0..n {
+        numbers.push(u32_in(block, LOG_HEAD_NUMBERS_AT + NUMBER_LEN * i));
+    }
+    numbers
+}

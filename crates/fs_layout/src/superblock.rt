@@ -1,0 +1,66 @@
+//! The superblock.
+ghost use Rattle.std.specs.Prelude.{◌≡◌, ℕ, List, Some, length};
+ghost use Rattle.fs_layout.specs.Bytes.{overwrite, IsBytes};
+ghost use Rattle.fs_layout.specs.Super.{spell_super, super_of, IsSuper};
+ghost use Rattle.fs_layout.specs.declared.superblock.Super.{Super};
+
+use crate::bytes::{put_u32s, u32_in};
+use crate::widths::{
+    Block, MAGIC, SUPER_BMAPSTART_AT, SUPER_INODESTART_AT, SUPER_LEN, SUPER_LOGSTART_AT,
+    SUPER_MAGIC_AT, SUPER_NBLOCKS_AT, SUPER_NINODES_AT, SUPER_NLOG_AT, SUPER_SIZE_AT,
+};
+
+/// Where the parts of a disk lie, in blocks, and how many inodes it has.
+#[derive(Clone, Copy, PartialEq, Eq, Debug)]
+pub struct Super {
+    pub size: u32,
+    pub nblocks: u32,
+    pub ninodes: u32,
+    pub nlog: u32,
+    pub logstart: u32,
+    pub inodestart: u32,
+    pub bmapstart: u32,
+}
+
+/// The superblock that a block is; `None` where its magic number is another.
+pub fn read_super(block: &Block) -> Option<Super>
+    ensures { result ≡ super_of block.now }
+{
+    if u32_in(block, SUPER_MAGIC_AT) != MAGIC {
+        return None;
+    }
+    Some(Super {
+        size: u32_in(block, SUPER_SIZE_AT),
+        nblocks: u32_in(block, SUPER_NBLOCKS_AT),
+        ninodes: u32_in(block, SUPER_NINODES_AT),
+        nlog: u32_in(block, SUPER_NLOG_AT),
+        logstart: u32_in(block, SUPER_LOGSTART_AT),
+        inodestart: u32_in(block, SUPER_INODESTART_AT),
+        bmapstart: u32_in(block, SUPER_BMAPSTART_AT),
+    })
+}
+
+/// Writes the magic number and the fields. What stands behind them stays.
+pub fn write_super(block: &mut Block, superblock: &Super)
+    ensures bytes { block.new ≡ overwrite block.old SUPER_MAGIC_AT (spell_super superblock.now) }
+    ensures reads_back { super_of block.new ≡ Some superblock.now }
+{
+    let numbers = [
+        MAGIC,
+        superblock.size,
+        superblock.nblocks,
+        superblock.ninodes,
+        superblock.nlog,
+        superblock.logstart,
+        superblock.inodestart,
+        superblock.bmapstart,
+    ];
+    put_u32s(block, SUPER_MAGIC_AT, &numbers);
+}
+
+/// A superblock and its bytes determine each other, and other bytes are none.
+pub fn super_spelling()
+    ensures reads_back { (s : Super) → IsSuper s → super_of (spell_super s) ≡ Some s }
+    ensures only { (bytes : List ℕ) (s : Super) → length bytes ≡ SUPER_LEN → IsBytes bytes
+        → super_of bytes ≡ Some s → spell_super s ≡ bytes }
+{}

@@ -1,0 +1,79 @@
+//! How wide the parts of a block are and where they stand: the tables of docs/FORMATS.md.
+//! Widths and places are in bytes where nothing else is said.
+
+/// A block of the disk.
+pub const BLOCK_LEN: usize = 1024;
+
+/// A block's bytes.
+pub type Block = [u8; BLOCK_LEN];
+
+/// A block number.
+pub const NUMBER_LEN: usize = 4;
+
+/// How many numbers an indirect block has.
+pub const NUMBERS_PER_BLOCK: usize = 256;
+
+/// How many bits a bitmap block has.
+pub const BITS_PER_BLOCK: usize = 8192;
+
+/// The number that a superblock begins with.
+pub const MAGIC: u32 = 0x1020_3040;
+
+/// A superblock.
+pub const SUPER_LEN: usize = 32;
+
+pub const SUPER_MAGIC_AT: usize = 0;
+
+pub const SUPER_SIZE_AT: usize = 4;
+
+pub const SUPER_NBLOCKS_AT: usize = 8;
+
+pub const SUPER_NINODES_AT: usize = 12;
+
+pub const SUPER_NLOG_AT: usize = 16;
+
+pub const SUPER_LOGSTART_AT: usize = 20;
+
+pub const SUPER_INODESTART_AT: usize = 24;
+
+pub const SUPER_BMAPSTART_AT: usize = 28;
+
+/// An inode.
+pub const INODE_LEN: usize = 64;
+
+/// How many inodes a block has.
+pub const INODES_PER_BLOCK: usize = 16;
+
+/// How many block numbers stand in an inode: 12 direct ones and that of an indirect block.
+pub const ADDRESSES: usize = 13;
+
+pub const INODE_MAJOR_AT: usize = 2;
+
+pub const INODE_MINOR_AT: usize = 4;
+
+pub const INODE_NLINK_AT: usize = 6;
+
+pub const INODE_SIZE_AT: usize = 8;
+
+pub const INODE_ADDRESSES_AT: usize = 12;
+
+/// A directory entry.
+pub const DIRENT_LEN: usize = 16;
+
+/// How many entries a block has.
+pub const DIRENTS_PER_BLOCK: usize = 64;
+
+/// Where the name of an entry stands in it.
+pub const DIRENT_NAME_AT: usize = 2;
+
+/// The longest name, and the field that holds one.
+pub const NAME_LEN: usize = 14;
+
+/// How many blocks a log's head can name.
+pub const LOG_HEAD_LEN: usize = 255;
+
+/// How many they are.
+pub const LOG_HEAD_COUNT_AT: usize = 0;
+
+/// Where the numbers begin.
+pub const LOG_HEAD_NUMBERS_AT: usize = 4;
