@@ -1,0 +1,4 @@
+pub mod Doubles
+pub mod Joins
+pub mod Padding
+pub mod Steps

@@ -1,0 +1,14 @@
+//! Makes images: a root with files in it, on an otherwise empty disk.
+#![tactic(auto)]
+
+mod appends;
+mod judges;
+mod layout;
+mod made;
+mod nodes;
+mod parts;
+mod refused;
+pub mod widths;
+
+pub use crate::made::make;
+pub use crate::refused::MakeRefused;
