@@ -8,6 +8,8 @@ mod made;
 mod nodes;
 mod parts;
 mod refused;
+#[cfg(test)]
+mod tests;
 pub mod widths;
 
 pub use crate::made::make;
