@@ -2,6 +2,7 @@
 #![tactic(auto)]
 
 mod appends;
+mod command_line;
 mod judges;
 mod layout;
 mod made;
@@ -12,5 +13,7 @@ mod refused;
 mod tests;
 pub mod widths;
 
+pub use crate::command_line::{FILES, IMAGE, INODES, SIZE, number, options};
+pub use crate::layout::data_start;
 pub use crate::made::make;
 pub use crate::refused::MakeRefused;
