@@ -1,0 +1,96 @@
+-- The parts of an image, as they are appended.
+use Rattle.std.proofs.Common.{◌≡◌, ℕ, ◌+◌, ◌-◌, ◌*◌, ◌^◌, ◌<◌, ◌≢◌, suc, List, [], ◌∷◌, ◌++◌, length, map, replicate, sum_by, ap, ◌∙◌, sym, refl, arith, append_assoc, length-append}
+use Rattle.std.specs.List.{All, flat_map}
+use Rattle.std.proofs.lemmas.List.Sums.{sum_by-cons}
+use Rattle.fs_layout.specs.declared.entry.Dirent.TheVariants.{Used}
+use Rattle.fs_layout.specs.Name.{IsName}
+use Rattle.fs_layout.specs.Inode.{spell_dinode}
+use Rattle.fs_layout.specs.Entry.{spell_dirent}
+use Rattle.fs_layout.specs.Super.{spell_super}
+use Rattle.fs_layout.proofs.Entries.{length-spell_dirent}
+use Rattle.mkfs.specs.Layout.{node_blocks, file_blocks, blocks_for, inode_blocks, data_start, super_for, root_size}
+use Rattle.mkfs.specs.Image.{Node, padded, front, inode_for, inodes_from, inode_table, bitmap, data_from, used_by, image_with, nodes_with, root_node, file_node, blocks_of_node, root_content, entries_from, dot, dotdot}
+use Rattle.mkfs.proofs.Padding.{length-whole}
+
+pub sum-files : (contents : List (List ℕ)) → sum_by blocks_of_node (map file_node contents) ≡ file_blocks contents
+sum-files [] = refl
+sum-files (content ∷ contents) =
+    sum_by-cons blocks_of_node (file_node content) (map file_node contents)
+    ∙ ap (λ (n : ℕ). node_blocks (length content) + n) (sum-files contents)
+    ∙ sym (sum_by-cons (λ (bytes : List ℕ). node_blocks (length bytes)) content contents)
+
+pub used-parts : (first : ℕ) (root : List ℕ) (contents : List (List ℕ))
+    → first + node_blocks (length root) + file_blocks contents ≡ used_by first (nodes_with root contents)
+used-parts first root contents =
+    let all = sum_by-cons blocks_of_node (root_node root) (map file_node contents) in
+    let files = sum-files contents in
+    let n : ℕ = node_blocks (length root) in
+    let sum : sum_by blocks_of_node (nodes_with root contents) ≡ n + file_blocks contents = all ∙ ap (λ (k : ℕ). n + k) files in
+    let regroup : (a b c : ℕ) → a + b + c ≡ a + (b + c) = λ a b c. omega arith in
+    regroup first n (file_blocks contents) ∙ ap (λ (k : ℕ). first + k) (sym sum)
+
+pub front-parts : (old : List ℕ) (size ninodes : ℕ)
+    → ((old ++ replicate 1024 0) ++ padded 1024 (spell_super (super_for size ninodes))) ++ replicate 31744 0 ≡ old ++ front size ninodes
+unfolding front
+front-parts old size ninodes =
+    let a : List ℕ = replicate 1024 0 in
+    let b : List ℕ = padded 1024 (spell_super (super_for size ninodes)) in
+    let c : List ℕ = replicate 31744 0 in
+    ap (λ (xs : List ℕ). xs ++ c) (append_assoc old a b) ∙ append_assoc old (a ++ b) c
+
+pub table-parts : (old : List ℕ) (ninodes first k : ℕ) (node : Node) (nodes : List Node)
+    → k ≡ 64 * (16 * inode_blocks ninodes - (2 + length nodes))
+    → (((old ++ replicate 64 0) ++ spell_dinode (inode_for first node)) ++ flat_map spell_dinode (inodes_from (first + blocks_of_node node) nodes)) ++ replicate k 0
+    ≡ old ++ inode_table ninodes first (node ∷ nodes)
+unfolding inode_table
+table-parts old ninodes first k node nodes h =
+    let a : List ℕ = replicate 64 0 in
+    let b : List ℕ = spell_dinode (inode_for first node) in
+    let c : List ℕ = flat_map spell_dinode (inodes_from (first + blocks_of_node node) nodes) in
+    let count : 2 + length nodes ≡ 1 + suc (length nodes) = omega arith in
+    ap (λ (xs : List ℕ). (xs ++ c) ++ replicate k 0) (append_assoc old a b)
+    ∙ ap (λ (xs : List ℕ). xs ++ replicate k 0) (append_assoc old (a ++ b) c ∙ ap (λ (xs : List ℕ). old ++ xs) (append_assoc a b c))
+    ∙ append_assoc old (a ++ (b ++ c)) (replicate k 0)
+    ∙ ap (λ (n : ℕ). old ++ ((a ++ (b ++ c)) ++ replicate n 0)) (h ∙ ap (λ (n : ℕ). 64 * (16 * inode_blocks ninodes - n)) count)
+
+pub image-parts : (old : List ℕ) (size ninodes used : ℕ) (nodes : List Node) → used ≡ used_by (data_start ninodes) nodes
+    → ((((old ++ front size ninodes) ++ inode_table ninodes (data_start ninodes) nodes) ++ bitmap used) ++ data_from (data_start ninodes) nodes) ++ replicate (1024 * (size - used)) 0
+    ≡ old ++ image_with size ninodes nodes
+unfolding image_with
+image-parts old size ninodes used nodes h =
+    let a : List ℕ = front size ninodes in
+    let b : List ℕ = inode_table ninodes (data_start ninodes) nodes in
+    let d : List ℕ = data_from (data_start ninodes) nodes in
+    let c : ℕ → List ℕ = λ n. bitmap n in
+    let e : ℕ → List ℕ = λ n. replicate (1024 * (size - n)) 0 in
+    ap (λ (n : ℕ). ((((old ++ a) ++ b) ++ c n) ++ d) ++ e n) h
+    ∙ ap (λ (xs : List ℕ). ((xs ++ c (used_by (data_start ninodes) nodes)) ++ d) ++ e (used_by (data_start ninodes) nodes)) (append_assoc old a b)
+    ∙ ap (λ (xs : List ℕ). (xs ++ d) ++ e (used_by (data_start ninodes) nodes)) (append_assoc old (a ++ b) (c (used_by (data_start ninodes) nodes)))
+    ∙ ap (λ (xs : List ℕ). xs ++ e (used_by (data_start ninodes) nodes)) (append_assoc old ((a ++ b) ++ c (used_by (data_start ninodes) nodes)) d)
+    ∙ append_assoc old (((a ++ b) ++ c (used_by (data_start ninodes) nodes)) ++ d) (e (used_by (data_start ninodes) nodes))
+
+-- ---- the root's size
+
+length-entries : (number : ℕ) (names : List (List ℕ)) → number ≢ 0 → number + length names < 2 ^ 16 → All IsName names
+    → length (flat_map spell_dirent (entries_from number names)) ≡ 16 * length names
+length-entries number [] some few h = refl
+length-entries number (name ∷ names) some few h =
+    let this : IsName name = h 0 [] (omega arith) in
+    let small : number < 2 ^ 16 = omega arith in
+    let more : number + 1 + length names < 2 ^ 16 = omega arith in
+    let one = length-spell_dirent (Used number name) (some, small, this) in
+    let rest = length-entries (number + 1) names (λ e. absurd (omega arith)) more (λ i d l. h (suc i) d (omega arith)) in
+    omega (arith, length-append (spell_dirent (Used number name)) (flat_map spell_dirent (entries_from (number + 1) names)), one, rest)
+
+pub length-root_content : (names : List (List ℕ)) → 2 + length names < 2 ^ 16 → All IsName names → length (root_content names) ≡ root_size (length names)
+unfolding root_content
+length-root_content names few h =
+    let rest = length-entries 2 names (λ e. absurd (omega arith)) few h in
+    let entries : List ℕ = flat_map spell_dirent (entries_from 2 names) in
+    let a : List ℕ = spell_dirent (Used 1 dot) in
+    let b : List ℕ = spell_dirent (Used 1 dotdot) in
+    let one : 1 < 2 ^ 16 = omega arith in
+    let la = length-spell_dirent (Used 1 dot) ((λ e. absurd (omega arith)), one, refl) in
+    let lb = length-spell_dirent (Used 1 dotdot) ((λ e. absurd (omega arith)), one, refl) in
+    let all : length (a ++ (b ++ entries)) ≡ 16 * (2 + length names) = omega (arith, length-append a (b ++ entries), length-append b entries, la, lb, rest) in
+    length-whole (a ++ (b ++ entries)) ∙ ap (λ (n : ℕ). 1024 * blocks_for n) all

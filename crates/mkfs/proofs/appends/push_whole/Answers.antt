@@ -1,0 +1,12 @@
+use Rattle.std.proofs.Common.{◌-◌, ◌%◌, ◌++◌, List, ℕ, length, replicate, ap, ◌∙◌, refl, append_assoc}
+use Rattle.std.proofs.lemmas.Result.{IfOk-equal}
+use Rattle.mkfs.proofs.Padding.{whole-missing}
+use Rattle.mkfs.proofs.appends.push_whole.Goals as goal
+
+pub returns : goal.returns
+returns c =
+    let m : ℕ = (1024 - length c.args.bytes.now % 1024) % 1024 in
+    IfOk-equal c.push_many.result _ _ _ c.push_many.ensures
+    (ap (λ (xs : List ℕ). xs ++ replicate m 0) c.in_ok-extend_from_slice.ensures.items
+    ∙ append_assoc c.args.image.now.items c.args.bytes.now (replicate m 0)
+    ∙ ap (λ (xs : List ℕ). c.args.image.now.items ++ xs) (whole-missing c.args.bytes.now m refl))

@@ -1,0 +1,11 @@
+use Rattle.std.proofs.Common.{◌≡◌, ◌≤◌, ◌+◌, ◌*◌, ◌++◌, drop, map}
+use Rattle.std.specs.List.{flat_map}
+use Rattle.fs_layout.specs.Inode.{spell_dinode}
+use Rattle.mkfs.specs.Image.{contents_of, file_node, inodes_from}
+use Rattle.mkfs.proofs.nodes.push_file_inodes.Given as goal
+
+abbrev pub invariant-loop-file : goal.invariant-loop-file
+invariant-loop-file l =
+    (l.at ≤ l.first + 269 * l.file-index)
+    × (l.image.items ++ flat_map spell_dinode (inodes_from l.at (map file_node (contents_of (drop l.file-index l.files))))
+    ≡ l.fn.image.items ++ flat_map spell_dinode (inodes_from l.first (map file_node (contents_of l.files))))

@@ -1,0 +1,20 @@
+use Rattle.std.proofs.Common.{◌≡◌, ◌++◌, List, ℕ, ap, ◌∙◌, append_assoc}
+use Rattle.std.specs.List.{flat_map}
+use Rattle.fs_layout.specs.Entry.{spell_dirent}
+use Rattle.fs_layout.specs.declared.entry.Dirent.TheVariants.{Used}
+use Rattle.mkfs.specs.Image.{root_content, whole, dot, dotdot, entries_from, names_of}
+use Rattle.mkfs.proofs.nodes.root_content.Goals as goal
+
+pub returns : goal.returns
+unfolding root_content
+returns c =
+    let a : List ℕ = spell_dirent (Used 1 dot) in
+    let b : List ℕ = spell_dirent (Used 1 dotdot) in
+    let rest : List ℕ = flat_map spell_dirent (entries_from 2 (names_of c.args.files.now)) in
+    let one : c.push_entry.new.content.items ≡ a = c.in_ok-push_entry.ensures ∙ ap (λ (xs : List ℕ). xs ++ a) c.new-entries.ensures.items in
+    let two : c.push_entry-2.new.content.items ≡ a ++ b = c.in_ok-push_entry-2.ensures ∙ ap (λ (xs : List ℕ). xs ++ b) one in
+    let all : c.push_entries.new.content.items ≡ a ++ (b ++ rest) =
+    c.in_ok-push_entries.ensures ∙ ap (λ (xs : List ℕ). xs ++ rest) two ∙ append_assoc a b rest in
+    c.in_ok-push_whole.ensures
+    ∙ ap (λ (xs : List ℕ). xs ++ whole c.deref.result.now) c.new-content.ensures.items
+    ∙ ap whole (c.deref.ensures.value ∙ all)

@@ -1,0 +1,25 @@
+use Rattle.std.proofs.Common.{◌++◌, ◌∙◌, ◌+◌, ◌-◌, ap, sym, arith, List, ℕ}
+use Rattle.std.specs.List.{range_with_len}
+use Rattle.std.proofs.lemmas.Result.{IfOk-equal}
+use Rattle.fs_layout.specs.Indirect.{spell_numbers}
+use Rattle.mkfs.specs.Image.{padded, whole}
+use Rattle.mkfs.proofs.Padding.{node_bytes-small}
+use Rattle.mkfs.proofs.Steps.{content-parts}
+use Rattle.mkfs.proofs.parts.push_content.Goals as goal
+
+pub returns-then-content-le-DIRECT_LEN : goal.returns-then-content-le-DIRECT_LEN
+returns-then-content-le-DIRECT_LEN c =
+    IfOk-equal c.push_whole.result _ _ _ c.push_whole.ensures
+    (ap (λ (xs : List ℕ). c.args.image.now.items ++ xs) (sym (node_bytes-small c.args.first c.args.content.now (omega arith))))
+
+pub returns : goal.returns
+returns c =
+    let old : List ℕ = c.args.image.now.items in
+    let first : ℕ = c.args.first in
+    let n : ℕ = c.blocks_for-numbers.result in
+    let numbers : List ℕ = spell_numbers (padded 256 (range_with_len (first + 13) (n - 12))) in
+    let front : List ℕ = c.split_at.result.0.now in
+    let rest : List ℕ = c.split_at.result.1.now in
+    IfOk-equal c.push_whole-3.result _ _ _ c.push_whole-3.ensures
+    (ap (λ (xs : List ℕ). xs ++ whole rest) (c.in_ok-push_numbers.ensures ∙ ap (λ (xs : List ℕ). xs ++ numbers) c.in_ok-push_whole.ensures)
+    ∙ content-parts old c.args.content.now front rest first n (omega arith) c.split_at.ensures.front c.split_at.ensures.back c.blocks_for-numbers.ensures)

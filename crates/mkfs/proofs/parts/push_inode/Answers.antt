@@ -1,0 +1,26 @@
+use Rattle.std.proofs.Common.{◌++◌, ◌≡◌, List, ℕ, ap, ◌∙◌, take, arith, rules, w16, SFits}
+use Rattle.std.proofs.lemmas.List.{length-take-le}
+use Rattle.std.proofs.lemmas.Int.{to_z-of_z}
+use Rattle.fs_layout.specs.declared.inode.Dinode.{Dinode}
+use Rattle.fs_layout.specs.Inode.{spell_dinode}
+use Rattle.fs_layout.proofs.Inodes.{length-spell_dinode}
+use Rattle.mkfs.specs.Image.{Node, inode_for, padded}
+use Rattle.mkfs.proofs.Padding.{overwrite-zeros, take-padded, length-addrs}
+use Rattle.mkfs.proofs.Steps.{ok_items}
+use Rattle.mkfs.proofs.parts.push_inode.Goals as goal
+
+pub slice_bounds-extend_from_slice-end : goal.slice_bounds-extend_from_slice-end
+slice_bounds-extend_from_slice-end c = omega (arith, length-take-le 64 c.write_dinode.new.block (omega arith))
+
+pub returns : goal.returns
+returns c =
+    λ content e.
+    let node : Node = record { kind = c.args.kind; content = content } in
+    let d : Dinode = inode_for c.args.first node in
+    let fits : SFits w16 c.args.kind = search rules in
+    let is : c.inode_for-inode.result ≡ d = simp to_z-of_z at (c.inode_for-inode.ensures content e) in
+    let bytes : c.write_dinode.new.block ≡ padded 1024 (spell_dinode d) =
+    c.write_dinode.ensures.bytes ∙ overwrite-zeros 1024 (spell_dinode c.inode_for-inode.result) ∙ ap (λ (x : Dinode). padded 1024 (spell_dinode x)) is in
+    ok_items c.extend_from_slice.result _ _ _ _ c.extend_from_slice.ensures.items
+    (ap (λ (xs : List ℕ). c.args.image.now.items ++ xs)
+    (ap (take 64) bytes ∙ take-padded 1024 64 (spell_dinode d) (length-spell_dinode d (length-addrs c.args.first node))))

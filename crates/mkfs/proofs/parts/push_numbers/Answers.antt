@@ -1,0 +1,11 @@
+use Rattle.std.proofs.Common.{◌++◌, ◌∙◌, ap, List, ℕ}
+use Rattle.fs_layout.specs.Indirect.{spell_numbers}
+use Rattle.mkfs.proofs.Padding.{range-padded}
+use Rattle.mkfs.proofs.Steps.{ok_items}
+use Rattle.mkfs.proofs.parts.push_numbers.Goals as goal
+
+pub returns : goal.returns
+returns c =
+    ok_items c.extend_from_slice.result _ _ _ _ c.extend_from_slice.ensures.items
+    (ap (λ (xs : List ℕ). c.args.image.now.items ++ xs)
+    (c.write_numbers.ensures.bytes ∙ ap spell_numbers (c.set_rising.ensures ∙ range-padded 256 c.args.count c.args.first)))

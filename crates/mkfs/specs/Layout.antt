@@ -1,0 +1,55 @@
+-- Where the parts of an image lie that is made, in blocks.
+use Rattle.std.specs.Prelude.{ℕ, ◌+◌, ◌-◌, ◌*◌, ◌/◌, nat_lt, if◌then◌else◌, List, length, sum_by}
+use Rattle.fs_layout.specs.declared.superblock.Super.{Super}
+
+-- where the log begins, and how many blocks it has
+abbrev pub log_start : ℕ
+log_start = 2
+
+abbrev pub log_blocks : ℕ
+log_blocks = 31
+
+-- where the inodes begin
+abbrev pub inode_start : ℕ
+inode_start = 33
+
+-- how many blocks of inodes there are
+abbrev pub inode_blocks : ℕ → ℕ
+inode_blocks ninodes = ninodes / 16 + 1
+
+-- where the bitmap stands
+abbrev pub bitmap_start : ℕ → ℕ
+bitmap_start ninodes = inode_start + inode_blocks ninodes
+
+-- where the data begins
+abbrev pub data_start : ℕ → ℕ
+data_start ninodes = bitmap_start ninodes + 1
+
+abbrev pub super_for : ℕ → ℕ → Super
+super_for size ninodes = record {
+  size = size;
+  nblocks = size - data_start ninodes;
+  ninodes = ninodes;
+  nlog = log_blocks;
+  logstart = log_start;
+  inodestart = inode_start;
+  bmapstart = bitmap_start ninodes;
+}
+
+-- ---- the blocks of a node
+
+-- how many blocks hold so many bytes
+abbrev pub blocks_for : ℕ → ℕ
+blocks_for size = (size + 1023) / 1024
+
+-- how many blocks a node of so many bytes takes: with more than twelve blocks also one for their numbers
+abbrev pub node_blocks : ℕ → ℕ
+node_blocks size = blocks_for size + (if nat_lt 12 (blocks_for size) then 1 else 0)
+
+-- how many blocks files with these contents take
+abbrev pub file_blocks : List (List ℕ) → ℕ
+file_blocks contents = sum_by (λ content. node_blocks (length content)) contents
+
+-- how many bytes the root has that names so many files: 16 for each entry, "." and ".." among them, up to a whole block
+abbrev pub root_size : ℕ → ℕ
+root_size files = 1024 * blocks_for (16 * (2 + files))

@@ -1,0 +1,4 @@
+pub mod Image
+pub mod Layout
+pub mod Options
+pub mod Refusals

@@ -1,0 +1,87 @@
+//! Where things lie.
+ghost use Rattle.std.specs.Prelude.{◌≡◌, ◌+◌, ◌*◌, ◌^◌, ◌<◌, ◌≤◌, length, All};
+ghost use Rattle.mkfs.specs.Layout.{bitmap_start, blocks_for, data_start, file_blocks, node_blocks, root_size, super_for};
+ghost use Rattle.mkfs.specs.Image.{contents_of};
+ghost use Rattle.mkfs.specs.Refusals.{largest_size, HasGoodFiles};
+
+use crate::widths::{DIRECT_BLOCKS, INODE_START, LOG_BLOCKS, LOG_START};
+use fs_layout::Super;
+use fs_layout::widths::{BLOCK_LEN, DIRENT_LEN, INODES_PER_BLOCK};
+
+/// How many blocks hold so many bytes.
+pub fn blocks_for(size: usize) -> usize
+    requires { size < 2 ^ 32 }
+    ensures { result ≡ blocks_for size }
+{
+    (size + BLOCK_LEN - 1) / BLOCK_LEN
+}
+
+/// How many blocks a node of so many bytes takes.
+pub fn node_blocks(size: usize) -> usize
+    requires { size < 2 ^ 32 }
+    ensures value { result ≡ node_blocks size }
+    ensures few { size ≤ largest_size → result ≤ 269 }
+{
+    let blocks = blocks_for(size);
+    if blocks > DIRECT_BLOCKS {
+        blocks + 1
+    } else {
+        blocks
+    }
+}
+
+/// Where the data begins, as a block's number.
+pub fn data_start(ninodes: u32) -> u32
+    ensures { result ≡ data_start ninodes }
+{
+    INODE_START + ninodes / INODES_PER_BLOCK as u32 + 2
+}
+
+/// The superblock of an image that has room for its parts.
+pub fn super_for(size: u32, ninodes: u32) -> Super
+    requires { data_start ninodes ≤ size }
+    ensures { result ≡ super_for size ninodes }
+{
+    let data = data_start(ninodes);
+    Super {
+        size,
+        nblocks: size - data,
+        ninodes,
+        nlog: LOG_BLOCKS,
+        logstart: LOG_START,
+        inodestart: INODE_START,
+        bmapstart: data - 1,
+    }
+}
+
+/// How many blocks the files take.
+pub fn file_blocks(files: &[(Vec<u8>, Vec<u8>)]) -> usize
+    requires each { All (λ content. length content ≤ largest_size) (contents_of files.now) }
+    requires few { length files.now < 2 ^ 32 }
+    ensures value { result ≡ file_blocks (contents_of files.now) }
+    ensures few { result ≤ 269 * length files.now }
+{
+    let mut blocks = 0;
+    for file in files {
+        let content = file.1.as_slice();
+        blocks += node_blocks(content.len());
+    }
+    blocks
+}
+
+/// How many bytes the root has that names so many files.
+pub fn root_size(files: usize) -> usize
+    requires { files < 2 ^ 24 }
+    ensures { result ≡ root_size files }
+{
+    BLOCK_LEN * blocks_for(DIRENT_LEN * (2 + files))
+}
+
+/// How many blocks are used in all, where the data begins at `first` and the root has so many bytes.
+pub fn used_blocks(first: u32, root: usize, files: &[(Vec<u8>, Vec<u8>)]) -> usize
+    requires root { root ≤ largest_size }
+    requires files { HasGoodFiles (contents_of files.now) }
+    ensures { result ≡ first + node_blocks root + file_blocks (contents_of files.now) }
+{
+    first as usize + node_blocks(root) + file_blocks(files)
+}

@@ -1,0 +1,19 @@
+//! Makes images: a root with files in it, on an otherwise empty disk.
+#![tactic(auto)]
+
+mod appends;
+mod command_line;
+mod judges;
+mod layout;
+mod made;
+mod nodes;
+mod parts;
+mod refused;
+#[cfg(test)]
+mod tests;
+pub mod widths;
+
+pub use crate::command_line::{FILES, IMAGE, INODES, SIZE, number, options};
+pub use crate::layout::data_start;
+pub use crate::made::make;
+pub use crate::refused::MakeRefused;

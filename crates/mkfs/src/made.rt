@@ -1,0 +1,142 @@
+//! Making an image.
+ghost use Rattle.std.specs.Prelude.{◌≡◌, ◌^◌, ◌<◌, ◌≤◌, ◌++◌, length, IfOk, OnOk, MatchResult};
+ghost use Rattle.mkfs.specs.Layout.{data_start};
+ghost use Rattle.mkfs.specs.Image.{contents_of, data_from, front, image_of, image_with, inode_table, names_of, nodes_with, used_by};
+ghost use Rattle.mkfs.specs.Refusals.{largest_size, CanBeMade, HasGoodFiles, HasInodes, IsFirstRefusal};
+
+use crate::appends::push_many;
+use crate::judges::{has_good_files, has_good_names, has_good_sizes};
+use crate::layout::{data_start, node_blocks, root_size, super_for, used_blocks};
+use crate::nodes::{push_file_inodes, push_files, root_content};
+use crate::parts::{push_bitmap, push_content, push_inode, push_super};
+use crate::refused::MakeRefused;
+use crate::widths::{DIRECTORY, LOG_BLOCKS};
+use block_device::MemoryDisk;
+use fs_layout::widths::{BLOCK_LEN, INODE_LEN, INODES_PER_BLOCK};
+use std::alloc::{AllocError, Global};
+
+// Appends the inode blocks.
+fn push_table(
+    image: &mut Vec<u8>,
+    ninodes: u32,
+    root: &[u8],
+    files: &[(Vec<u8>, Vec<u8>)],
+) -> Result<(), AllocError>
+    requires ninodes { ninodes ≤ 65535 }
+    requires root { length root.now ≤ largest_size }
+    requires files { HasGoodFiles (contents_of files.now) }
+    requires inodes { HasInodes ninodes (contents_of files.now) }
+    ensures { OnOk result (image.new.items ≡ image.old.items
+        ++ inode_table ninodes (data_start ninodes) (nodes_with root.now (contents_of files.now))) }
+{
+    let first = data_start(ninodes);
+    let inodes = (ninodes as usize / INODES_PER_BLOCK + 1) * INODES_PER_BLOCK;
+    push_many(image, INODE_LEN, 0)?;
+    push_inode(image, DIRECTORY, first, root.len())?;
+    push_file_inodes(image, first + node_blocks(root.len()) as u32, files)?;
+    push_many(image, INODE_LEN * (inodes - (2 + files.len())), 0)
+}
+
+// Appends the nodes' blocks.
+fn push_data(
+    image: &mut Vec<u8>,
+    first: u32,
+    root: &[u8],
+    files: &[(Vec<u8>, Vec<u8>)],
+) -> Result<(), AllocError>
+    requires first { first < 2 ^ 15 }
+    requires root { length root.now ≤ largest_size }
+    requires files { HasGoodFiles (contents_of files.now) }
+    ensures { OnOk result (image.new.items ≡ image.old.items
+        ++ data_from first (nodes_with root.now (contents_of files.now))) }
+{
+    push_content(image, first, root)?;
+    push_files(image, first + node_blocks(root.len()) as u32, files)
+}
+
+// Appends boot block, superblock and log.
+fn push_front(image: &mut Vec<u8>, size: u32, ninodes: u32) -> Result<(), AllocError>
+    requires { data_start ninodes ≤ size }
+    ensures { OnOk result (image.new.items ≡ image.old.items ++ front size ninodes) }
+{
+    push_many(image, BLOCK_LEN, 0)?;
+    push_super(image, &super_for(size, ninodes))?;
+    push_many(image, BLOCK_LEN * LOG_BLOCKS as usize, 0)
+}
+
+// Appends all parts.
+fn push_parts(
+    image: &mut Vec<u8>,
+    size: u32,
+    ninodes: u32,
+    root: &[u8],
+    files: &[(Vec<u8>, Vec<u8>)],
+) -> Result<(), AllocError>
+    requires size { size ≤ 8191 }
+    requires ninodes { ninodes ≤ 65535 }
+    requires root { length root.now ≤ largest_size }
+    requires files { HasGoodFiles (contents_of files.now) }
+    requires inodes { HasInodes ninodes (contents_of files.now) }
+    requires blocks { used_by (data_start ninodes) (nodes_with root.now (contents_of files.now)) ≤ size }
+    ensures { OnOk result (image.new.items ≡ image.old.items ++ image_with size ninodes (nodes_with root.now (contents_of files.now))) }
+{
+    let first = data_start(ninodes);
+    let used = used_blocks(first, root.len(), files);
+    push_front(image, size, ninodes)?;
+    push_table(image, ninodes, root, files)?;
+    push_bitmap(image, used)?;
+    push_data(image, first, root, files)?;
+    push_many(image, BLOCK_LEN * (size as usize - used), 0)
+}
+
+// The image's bytes.
+fn image_bytes(
+    alloc: Global,
+    size: u32,
+    ninodes: u32,
+    files: &[(Vec<u8>, Vec<u8>)],
+) -> Result<Vec<u8>, AllocError>
+    requires { CanBeMade size ninodes (names_of files.now) (contents_of files.now) }
+    ensures { IfOk result (λ bytes. bytes.items ≡ image_of size ninodes (names_of files.now) (contents_of files.now)) }
+{
+    let root = root_content(alloc, files)?;
+    let mut image = Vec::with_capacity(alloc, size as usize * BLOCK_LEN)?;
+    push_parts(&mut image, size, ninodes, root.as_slice(), files)?;
+    Ok(image)
+}
+
+/// Makes an image of `size` blocks with `ninodes` inodes, the first unused, whose root has these
+/// files in this order: their names and contents.
+pub fn make(
+    alloc: Global,
+    size: u32,
+    ninodes: u32,
+    files: &[(Vec<u8>, Vec<u8>)],
+) -> Result<MemoryDisk, MakeRefused>
+    ensures { MatchResult result
+        (λ disk. CanBeMade size ninodes (names_of files.now) (contents_of files.now)
+        × (disk ≡ image_of size ninodes (names_of files.now) (contents_of files.now)))
+        (IsFirstRefusal size ninodes (names_of files.now) (contents_of files.now)) }
+{
+    if !has_good_sizes(size, ninodes, files.len()) {
+        return Err(MakeRefused::BadSizes);
+    }
+    match has_good_names(alloc, files) {
+        Ok(true) => {}
+        Ok(false) => return Err(MakeRefused::BadName),
+        Err(_) => return Err(MakeRefused::NoMemory),
+    }
+    if !has_good_files(files) {
+        return Err(MakeRefused::FileTooBig);
+    }
+    if 1 + files.len() > ninodes as usize - 1 {
+        return Err(MakeRefused::NoInodes);
+    }
+    if used_blocks(data_start(ninodes), root_size(files.len()), files) > size as usize {
+        return Err(MakeRefused::NoBlocks);
+    }
+    match image_bytes(alloc, size, ninodes, files) {
+        Ok(bytes) => Ok(MemoryDisk::new(bytes)),
+        Err(_) => Err(MakeRefused::NoMemory),
+    }
+}

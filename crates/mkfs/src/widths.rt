@@ -1,0 +1,46 @@
+//! Where the parts of an image lie and how much fits: the tables of docs/FORMATS.md.
+
+/// Where the log begins, as a block's number.
+pub const LOG_START: u32 = 2;
+
+/// How many blocks the log has, its head among them.
+pub const LOG_BLOCKS: u32 = 31;
+
+/// Where the inodes begin, as a block's number.
+pub const INODE_START: u32 = 33;
+
+/// How many blocks an inode names directly.
+pub const DIRECT_BLOCKS: usize = 12;
+
+/// The bytes in these.
+pub const DIRECT_LEN: usize = 12_288;
+
+/// The most bytes that a node may have: 268 blocks.
+pub const LARGEST_SIZE: usize = 274_432;
+
+/// The most blocks that a node may take: 268 and one with numbers.
+pub const MOST_NODE_BLOCKS: usize = 269;
+
+/// The most entries that a directory may have.
+pub const MOST_ENTRIES: usize = 17_152;
+
+/// The most blocks that an image may have: as many as a block has bits, but one.
+pub const MOST_BLOCKS: u32 = 8_191;
+
+/// The most inodes: an entry has 16 bits for the number of one.
+pub const MOST_INODES: u32 = 65_535;
+
+/// The root's inode.
+pub const ROOT: u16 = 1;
+
+/// The first file's inode.
+pub const FIRST_FILE: u16 = 2;
+
+/// What an inode says that a directory's is.
+pub const DIRECTORY: i16 = 1;
+
+/// What an inode says that a file's is.
+pub const FILE: i16 = 2;
+
+/// How many bits a byte has.
+pub const BITS: usize = 8;
