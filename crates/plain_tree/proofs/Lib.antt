@@ -4,3 +4,4 @@ pub mod FileLemmas
 pub mod TreeLemmas
 pub mod ReadLemmas
 pub mod SettleLemmas
+pub mod MarkLemmas

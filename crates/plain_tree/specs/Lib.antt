@@ -9,3 +9,4 @@ pub mod Applied
 pub mod Fresh
 pub mod Code
 pub mod Rows
+pub mod Marks

@@ -9,6 +9,7 @@ mod call;
 mod change;
 mod copy;
 mod look;
+mod named;
 mod node;
 mod paths;
 mod place;
