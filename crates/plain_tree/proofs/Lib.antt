@@ -5,3 +5,4 @@ pub mod TreeLemmas
 pub mod ReadLemmas
 pub mod SettleLemmas
 pub mod MarkLemmas
+pub mod StepLaws

@@ -10,3 +10,4 @@ pub mod Fresh
 pub mod Code
 pub mod Rows
 pub mod Marks
+pub mod OneEnd
