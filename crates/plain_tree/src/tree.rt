@@ -2,11 +2,13 @@
 ghost use Rattle.std.specs.Prelude.{◌≡◌, ◌<◌, ◌++◌, ◌∷◌, [], length, replicate, IfOk, MatchOption, MatchResult, remove, slice_index_or, slice_set, true};
 ghost use Rattle.plain_tree.specs.Code.{Advances, HasFiles, IsEntryOf, IsOrphan};
 ghost use Rattle.plain_tree.specs.Fresh.{fresh, fresh_hart};
+ghost use Rattle.plain_tree.specs.Marks.{at_rest};
 ghost use Rattle.plain_tree.specs.Steps.{closed, moved, node_at, with_nodes};
 ghost use Rattle.plain_tree.specs.Widths.{hart_count};
 ghost use Rattle.plain_tree.specs.Tree.{file_in, hart_at, put, tree_of};
 
 use crate::bytes::Bytes;
+use crate::copy::nodes_copy;
 use crate::node::{Kind, Node};
 use crate::refused::NoMemory;
 use crate::widths::{HART_COUNT, ROOT};
@@ -287,6 +289,35 @@ impl Tree {
     {
         while let Some(i) = self.orphan() {
             self.remove_file(i);
+        }
+    }
+}
+
+impl Tree {
+    /// The same tree.
+    pub fn try_clone(&self, alloc: Global) -> Result<Tree, NoMemory>
+        ensures { IfOk result (λ t. t ≡ self.now) }
+    {
+        Ok(Tree {
+            nodes: nodes_copy(alloc, &self.nodes)?,
+            files: Vec::from_slice(alloc, &self.files)?,
+            harts: self.harts,
+        })
+    }
+
+    /// These nodes, with nothing open and all harts at rest in the root.
+    pub(crate) fn at_rest(alloc: Global, nodes: Vec<Option<Node>>) -> Tree
+        ensures { result ≡ at_rest nodes.items }
+    {
+        let hart = Hart {
+            directory: ROOT,
+            descriptors: [None; 16],
+            hold: None,
+        };
+        Tree {
+            nodes,
+            files: Vec::new(alloc),
+            harts: [hart; 8],
         }
     }
 }
