@@ -6,9 +6,11 @@ ghost use Rattle.plain_tree.specs.Steps.{closed, moved, node_at, with_nodes};
 ghost use Rattle.plain_tree.specs.Tree.{file_in, hart_at, put, tree_of};
 
 use crate::bytes::Bytes;
+use crate::copy::copy_nodes;
+use crate::fresh::{fresh_hart, fresh_nodes};
 use crate::node::{Kind, Node};
 use crate::refused::NoMemory;
-use crate::widths::{HART_COUNT, ROOT};
+use crate::widths::ROOT;
 use std::alloc::Global;
 use std::marker::Model;
 use std::mem;
@@ -82,7 +84,25 @@ impl Tree {
     pub fn new(alloc: Global, ninodes: u16) -> Result<Tree, NoMemory>
         ensures { IfOk result (λ t. t ≡ fresh ninodes) }
     {
-        Err(NoMemory)
+        let nodes = fresh_nodes(alloc, ninodes)?;
+        Ok(Tree {
+            nodes,
+            files: Vec::new(alloc),
+            harts: [fresh_hart(); 8],
+        })
+    }
+
+    /// The same tree.
+    pub fn try_clone(&self, alloc: Global) -> Result<Tree, NoMemory>
+        ensures { IfOk result (λ t. t ≡ self.now) }
+    {
+        let nodes = copy_nodes(alloc, &self.nodes)?;
+        let files = Vec::from_slice(alloc, &self.files)?;
+        Ok(Tree {
+            nodes,
+            files,
+            harts: self.harts,
+        })
     }
 
     /// The numbers of nodes are below it.
