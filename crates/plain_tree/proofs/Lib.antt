@@ -6,3 +6,5 @@ pub mod ApplyLemmas
 pub mod TreeLemmas
 pub mod ReadLemmas
 pub mod SettleLemmas
+pub mod MarkLemmas
+pub mod StepLaws

@@ -9,3 +9,5 @@ pub mod Applied
 pub mod Fresh
 pub mod Code
 pub mod Rows
+pub mod Marks
+pub mod OneEnd

@@ -1,0 +1,5 @@
+use Rattle.plain_tree.proofs.StepLaws.{chain_one}
+use Rattle.plain_tree.proofs.one_end.chains_to_one.Goals as goal
+
+pub returns : goal.returns
+returns c = chain_one

@@ -1,0 +1,7 @@
+use Rattle.std.proofs.Common.{◌≡◌, ℕ, ◌<◌, true}
+use Rattle.plain_tree.specs.Tree.{tree_of}
+use Rattle.plain_tree.specs.Marks.{is_marked, LooksMarked}
+use Rattle.plain_tree.proofs.tree.Tree.next_new.Given as goal
+
+abbrev pub invariant-loop-directory : goal.invariant-loop-directory
+invariant-loop-directory l = (d : ℕ) → d < l.directory → is_marked l.marks d ≡ true → LooksMarked (tree_of l.self) l.marks d
