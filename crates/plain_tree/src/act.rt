@@ -29,7 +29,7 @@ fn just_opened(number: u16, flags: u32) -> OpenFile
 }
 
 /// A slot with this name.
-fn slot(alloc: Global, name: &[u8], number: u16) -> Result<Option<Slot>, NoMemory>
+pub(crate) fn slot(alloc: Global, name: &[u8], number: u16) -> Result<Option<Slot>, NoMemory>
     ensures { IfOk result (λ s. s ≡ Some (record { name = name.now; number = number })) }
 {
     let name = Bytes::new(Vec::from_slice(alloc, name)?);

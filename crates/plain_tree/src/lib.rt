@@ -10,6 +10,7 @@ mod bytes;
 mod call;
 mod change;
 mod copy;
+mod fresh;
 mod look;
 mod named;
 mod node;

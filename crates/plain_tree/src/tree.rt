@@ -9,9 +9,10 @@ ghost use Rattle.plain_tree.specs.Tree.{file_in, hart_at, put, tree_of};
 
 use crate::bytes::Bytes;
 use crate::copy::nodes_copy;
+use crate::fresh::{fresh_hart, fresh_nodes};
 use crate::node::{Kind, Node};
 use crate::refused::NoMemory;
-use crate::widths::{HART_COUNT, ROOT};
+use crate::widths::ROOT;
 use std::alloc::Global;
 use std::marker::Model;
 use std::mem;
@@ -85,7 +86,12 @@ impl Tree {
     pub fn new(alloc: Global, ninodes: u16) -> Result<Tree, NoMemory>
         ensures { IfOk result (λ t. t ≡ fresh ninodes) }
     {
-        Err(NoMemory)
+        let nodes = fresh_nodes(alloc, ninodes)?;
+        Ok(Tree {
+            nodes,
+            files: Vec::new(alloc),
+            harts: [fresh_hart(); 8],
+        })
     }
 
     /// A tree of these nodes, each at its number. Nothing is open, and all harts are in the root. It takes no memory.
