@@ -126,7 +126,7 @@ count_same {X} q p f (x ∷ xs) keeps =
     (λ _ k. let b = count_same q p f xs k in omega (arith, b))
     keeps
 
-count_push : {X : Type 0} (q : X → Bool) (xs : List X) (x : X) → count_of q (xs ++ x ∷ []) ≡ count_of q xs + cond (q x) 1 0
+pub count_push : {X : Type 0} (q : X → Bool) (xs : List X) (x : X) → count_of q (xs ++ x ∷ []) ≡ count_of q xs + cond (q x) 1 0
 count_push q [] x = omega arith
 count_push q (y ∷ xs) x = let a = count_push q xs x in omega (arith, a)
 

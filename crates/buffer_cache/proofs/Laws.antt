@@ -1,5 +1,5 @@
 -- What each call keeps, in the words of its contract.
-use Rattle.std.proofs.Common.{◌≡◌, ◌≢◌, ◌⊎◌, inl, inr, ℕ, ◌<◌, ◌≤◌, List, [], length, Bool, true, false, ◌==◌, refl, sym, ◌∙◌, ap, subst, arith, Option, Some, None, IsSome, is_some, is_none, not, ◌&&◌, if◌then◌else◌}
+use Rattle.std.proofs.Common.{◌∷◌, is_some, cond, ◌≡◌, ◌≢◌, ◌⊎◌, inl, inr, ℕ, ◌<◌, ◌≤◌, List, [], length, Bool, true, false, ◌==◌, refl, sym, ◌∙◌, ap, subst, arith, Option, Some, None, IsSome, is_none, not, ◌&&◌, if◌then◌else◌}
 use Rattle.std.specs.Prelude.{slice_set, ◌↔◌, IfSome, Result, Ok, Err, OnOk, OnErr}
 use Rattle.std.specs.Option.{MatchOption, option_map, option_and_then, unwrap_or}
 use Rattle.std.proofs.lemmas.Bool.{cases_eq}
@@ -11,7 +11,7 @@ use Rattle.block_device.specs.Blocks.{block_at}
 use Rattle.block_device.specs.BlockLaws.{block_at-set_same}
 use Rattle.buffer_cache.specs.Buffers.{BufferState}
 use Rattle.buffer_cache.specs.Lists.{first_of, change_first, count_of}
-use Rattle.buffer_cache.specs.Seats.{SeatState, has_block, without_holder, Passes, Keeps, IsPinned, IsRecorded, is_recorded, is_held_by, is_pinned, is_free, seat_of, holder_of, kept, seen_in, with_seat, given_back, with_holder, with_content, with_pin, as_new, IsGuardOf, IsHeld, KeepsHeld, KeepsOthers, IsSound}
+use Rattle.buffer_cache.specs.Seats.{is_any, is_unused, is_settled, UnusedFirst, is_number, SeatState, has_block, without_holder, Passes, Keeps, IsPinned, IsRecorded, is_recorded, is_held_by, is_pinned, is_free, seat_of, holder_of, kept, seen_in, with_seat, given_back, with_holder, with_content, with_pin, as_new, IsGuardOf, IsHeld, KeepsHeld, KeepsOthers, IsSound}
 use Rattle.buffer_cache.specs.Getting.{get_of, get_by, get_new, guard_of, IfHeld}
 use Rattle.buffer_cache.specs.declared.got.Got.{Got}
 use Rattle.buffer_cache.specs.declared.got.Got.TheVariants.{Held, Waits}
@@ -90,6 +90,52 @@ recorded_pinned s e = first s.pinned (is_some s.content) e
 recorded_then : (s : SeatState) (bytes : List ℕ) → is_recorded s ≡ true → is_recorded (with_content bytes s) ≡ true
 recorded_then s bytes e = ap (λ (t : Bool). t && true) (recorded_pinned s e)
 
+-- as long as one was never used, such a one is taken
+taken_unused : (ss : List SeatState) (s : SeatState) → UnusedFirst ss → first_of is_free ss ≡ Some s → 0 < count_of is_unused ss → s.block ≡ None
+taken_unused [] s old e some = absurd (none-some s e)
+taken_unused (x ∷ xs) s old e some =
+    pick (is_free x) (λ t. is_free x ≡ t → (if t then Some x else first_of is_free xs) ≡ Some s → s.block ≡ None)
+    (λ _ free here. subst (λ (u : SeatState). u.block ≡ None) (same_Some x s here) (by_block x.block refl free))
+    (λ _ taken_ here. taken_unused xs s old.2 here (more (is_unused x) refl taken_))
+    refl e
+  where
+    free_in : (p : Bool) (h : Option ℕ) → (not p && is_none h) ≡ true → is_none h ≡ true
+    free_in true h f = absurd (cc f)
+    free_in false h f = f
+
+    by_block : (o : Option ℕ) → x.block ≡ o → is_free x ≡ true → x.block ≡ None
+    by_block None at free = at
+    by_block (Some k) at free =
+        let settled : is_settled x ≡ true = ap (λ (o : Option ℕ). is_some o && is_none x.holder) at ∙ free_in x.pinned x.holder free in
+        let none = old.0 settled in
+        let used : is_unused x ≡ false = ap (λ (o : Option ℕ). is_none o) at in
+        let zero_ : ℕ = 0 in
+        let a : cond (is_unused x) 1 zero_ ≡ zero_ = ap (λ (t : Bool). cond t 1 zero_) used in
+        absurd (omega (arith, some, none, a))
+
+    more : (t : Bool) → is_unused x ≡ t → is_free x ≡ false → 0 < count_of is_unused xs
+    more true is taken_ = let clash : false ≡ true = sym taken_ ∙ old.1 is in absurd (cc clash)
+    more false is taken_ =
+        let zero_ : ℕ = 0 in
+        let a : cond (is_unused x) 1 zero_ ≡ zero_ = ap (λ (t : Bool). cond t 1 zero_) is in
+        omega (arith, some, a)
+
+new_unused : (hart b k : ℕ) (ss : List SeatState) (s : SeatState) → first_of is_free ss ≡ Some s → s.block ≡ None → Passes is_any k ss → Passes is_any k (change_first is_free (as_new hart b) ss)
+new_unused hart b k [] s e unused_ there = absurd (none-some s e)
+new_unused hart b k (x ∷ xs) s e unused_ there =
+    pick (is_free x) (λ t. (if t then Some x else first_of is_free xs) ≡ Some s → option_map is_any (seat_of k (if t then as_new hart b x ∷ xs else x ∷ change_first is_free (as_new hart b) xs)) ≡ Some true)
+    (λ _ here.
+    let blank : x.block ≡ None = ap (λ (u : SeatState). u.block) (same_Some x s here) ∙ unused_ in
+    let isnt : has_block k x ≡ false = ap (λ (o : Option ℕ). is_number k o) blank in
+    let rest : Passes is_any k xs = ap (λ (t : Bool). option_map is_any (if t then Some x else seat_of k xs)) (sym isnt) ∙ there in
+    pick (b == k) (λ t. option_map is_any (if t then Some (as_new hart b x) else seat_of k xs) ≡ Some true) (λ _. refl) (λ _. rest))
+    (λ _ here.
+    pick (has_block k x) (λ t. option_map is_any (if t then Some x else seat_of k xs) ≡ Some true → option_map is_any (if t then Some x else seat_of k (change_first is_free (as_new hart b) xs)) ≡ Some true)
+    (λ _ _. refl)
+    (λ _ rest. new_unused hart b k xs s here unused_ rest)
+    there)
+    e
+
 pub record GetLaws (disk : List (List ℕ)) (hart b : ℕ) (old : List SeatState) (r : List SeatState × Got) : Type 0 where
   pub sound : IsSound disk r.0
   pub waits : (r.1 ≡ Waits) ↔ IsSome (holder_of b old)
@@ -98,6 +144,7 @@ pub record GetLaws (disk : List (List ℕ)) (hart b : ℕ) (old : List SeatState
   pub others : KeepsHeld old r.0
   pub pins : Keeps is_pinned old r.0
   pub recorded : Keeps is_recorded old r.0
+  pub unused : 0 < count_of is_unused old → Keeps is_any old r.0
   pub seen : (k : ℕ) → seen_in disk r.0 k ≡ seen_in disk old k
 
 pub get_laws : (disk : List (List ℕ)) (hart b : ℕ) (ss : List SeatState) → hart < 8 → count_of (is_held_by hart) ss ≤ 1 → IsSound disk ss → GetLaws disk hart b ss (get_of hart b ss)
@@ -125,6 +172,7 @@ get_laws disk hart b ss lt one sound = by_seat (seat_of b ss) refl
       ];
       pins = keeps_new is_pinned hart b ss (λ s e. e) none;
       recorded = keeps_new is_recorded hart b ss recorded_pinned none;
+      unused = λ some k. new_unused hart b k ss s e (taken_unused ss s sound.unused e some);
       seen = λ k. new_seen disk k hart b ss none (sound.once k) sound.clean;
     }
 
@@ -137,6 +185,7 @@ get_laws disk hart b ss lt one sound = by_seat (seat_of b ss) refl
       others = λ g held. held;
       pins = λ k passes. passes;
       recorded = λ k passes. passes;
+      unused = λ _ k passes. passes;
       seen = λ k. refl;
     }
     by_holder s e None none =
@@ -158,6 +207,7 @@ get_laws disk hart b ss lt one sound = by_seat (seat_of b ss) refl
           ];
           pins = keeps_with is_pinned b (with_holder hart) ss (λ _. refl) (λ s e. e);
           recorded = keeps_with is_recorded b (with_holder hart) ss (λ _. refl) (λ s e. e);
+          unused = λ _. keeps_with is_any b (with_holder hart) ss (λ _. refl) (λ s e. e);
           seen = λ k. ap (λ (o : Option (List ℕ)). unwrap_or o (block_at disk k)) (kept_with b k (with_holder hart) ss (λ _. refl) (λ _. refl));
         }
 

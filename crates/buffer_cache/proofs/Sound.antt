@@ -1,5 +1,5 @@
 -- What each call keeps of a sound cache, and of what is seen.
-use Rattle.std.proofs.Common.{◌≡◌, ◌≢◌, ◌⊎◌, inl, inr, ℕ, zero, suc, ◌+◌, ◌<◌, ◌≤◌, List, [], ◌∷◌, ◌++◌, length, Bool, true, false, cond, ◌==◌, refl, sym, ◌∙◌, ap, subst, arith, Option, Some, None, if◌then◌else◌}
+use Rattle.std.proofs.Common.{is_none, is_some, ◌&&◌, ◌≡◌, ◌≢◌, ◌⊎◌, inl, inr, ℕ, zero, suc, ◌+◌, ◌<◌, ◌≤◌, List, [], ◌∷◌, ◌++◌, length, Bool, true, false, cond, ◌==◌, refl, sym, ◌∙◌, ap, subst, arith, Option, Some, None, if◌then◌else◌}
 use Rattle.std.specs.Prelude.{slice_set}
 use Rattle.std.specs.Option.{option_map, option_and_then, unwrap_or}
 use Rattle.std.proofs.lemmas.Bool.{cases_eq}
@@ -7,8 +7,8 @@ use Rattle.std.proofs.lemmas.Option.{same_Some, none-some}
 use Rattle.block_device.specs.Blocks.{block_at}
 use Rattle.block_device.specs.BlockLaws.{block_at-set_same, block_at-set_other}
 use Rattle.buffer_cache.specs.Lists.{first_of, change_first, count_of}
-use Rattle.buffer_cache.specs.Seats.{SeatState, is_number, has_block, is_held_by, is_pinned, is_free, seat_of, kept, seen_in, with_seat, given_back, with_holder, without_holder, with_content, with_pin, as_new, unused_from, unused, AllClean, IsCleanSeat, IsBelow, HoldersBelow, IsSound}
-use Rattle.buffer_cache.proofs.Firsts.{pick, none_counted, count_same, count_more, count_to_end, length-change_first, length-change_to_end}
+use Rattle.buffer_cache.specs.Seats.{is_unused, is_settled, UnusedFirst, SeatState, is_number, has_block, is_held_by, is_pinned, is_free, seat_of, kept, seen_in, with_seat, given_back, with_holder, without_holder, with_content, with_pin, as_new, unused_from, unused, AllClean, IsCleanSeat, IsBelow, HoldersBelow, IsSound}
+use Rattle.buffer_cache.proofs.Firsts.{count_push, pick, none_counted, count_same, count_more, count_to_end, length-change_first, length-change_to_end}
 use Rattle.buffer_cache.proofs.Blocks.{equal, equals, seat_has, is_block}
 
 -- facts of each seat, after a change of one
@@ -47,6 +47,63 @@ clean_at disk p [] s clean e = absurd (none-some s e)
 clean_at disk p (x ∷ ss) s clean e =
     pick (p x) (λ t. (if t then Some x else first_of p ss) ≡ Some s → IsCleanSeat disk s) (λ _ here. subst (λ u. IsCleanSeat disk u) (same_Some x s here) clean.0) (λ _ here. clean_at disk p ss s clean.1 here) e
 
+-- the unused stay in front
+unused_change : (p : SeatState → Bool) (f : SeatState → SeatState) (ss : List SeatState) → ((s : SeatState) → first_of p ss ≡ Some s → is_settled (f s) ≡ true → is_settled s ≡ true)
+    → ((s : SeatState) → first_of p ss ≡ Some s → is_unused (f s) ≡ true → (is_unused s ≡ true) × (is_free (f s) ≡ true)) → UnusedFirst ss → UnusedFirst (change_first p f ss)
+unused_change p f [] settles uses old = tt
+unused_change p f (s ∷ ss) settles uses old =
+    pick (p s) (λ t. ((x : SeatState) → (if t then Some s else first_of p ss) ≡ Some x → is_settled (f x) ≡ true → is_settled x ≡ true)
+    → ((x : SeatState) → (if t then Some s else first_of p ss) ≡ Some x → is_unused (f x) ≡ true → (is_unused x ≡ true) × (is_free (f x) ≡ true)) → UnusedFirst (if t then f s ∷ ss else s ∷ change_first p f ss))
+    (λ _ settle uses_it. (λ is. old.0 (settle s refl is), λ is. (uses_it s refl is).1, old.2))
+    (λ _ settle uses_it. (
+      λ is. let a = count_same is_unused p f ss (λ x e u. (uses_it x e u).0) in let b = old.0 is in omega (arith, a, b),
+      old.1,
+      unused_change p f ss settle uses_it old.2,
+    ))
+    settles uses
+
+unused_push : (ss : List SeatState) (x : SeatState) → is_unused x ≡ false → UnusedFirst ss → UnusedFirst (ss ++ x ∷ [])
+unused_push [] x used old = (λ _. refl, λ is. let clash : false ≡ true = sym used ∙ is in absurd (cc clash), tt)
+unused_push (s ∷ ss) x used old = (
+  λ is.
+      let a = count_push is_unused ss x in
+      let b = old.0 is in
+      let none : ℕ = 0 in
+      let c : cond (is_unused x) 1 none ≡ none = ap (λ (t : Bool). cond t 1 none) used in
+      omega (arith, a, b, c),
+  old.1,
+  unused_push ss x used old.2,
+)
+
+block_used : (b : ℕ) (o : Option ℕ) → is_number b o ≡ true → is_none o ≡ false
+block_used b None e = absurd (cc e)
+block_used b (Some k) e = refl
+
+unused_back : (b : ℕ) (ss : List SeatState) → UnusedFirst ss → UnusedFirst (given_back b ss)
+unused_back b [] old = tt
+unused_back b (s ∷ ss) old =
+    pick (has_block b s) (λ t. has_block b s ≡ t → UnusedFirst (if t then ss ++ without_holder s ∷ [] else s ∷ given_back b ss))
+    (λ _ has. unused_push ss (without_holder s) (block_used b s.block has) old.2)
+    (λ _ _. (
+      λ is. let a = count_to_end is_unused (has_block b) without_holder ss (λ x u. u) in let c = old.0 is in omega (arith, a, c),
+      old.1,
+      unused_back b ss old.2,
+    ))
+    refl
+
+-- a seat that has a block was used
+seat_used : (b : ℕ) (ss : List SeatState) (s : SeatState) → seat_of b ss ≡ Some s → is_unused s ≡ false
+seat_used b ss s e = ap (λ (o : Option ℕ). is_none o) (seat_has b ss s e)
+
+unused_with : (b : ℕ) (f : SeatState → SeatState) (ss : List SeatState) → ((s : SeatState) → (f s).block ≡ s.block) → ((s : SeatState) → is_settled (f s) ≡ true → is_settled s ≡ true) → UnusedFirst ss → UnusedFirst (with_seat b f ss)
+unused_with b f ss same settles old =
+    unused_change (has_block b) f ss (λ s _. settles s)
+    (λ s e is. let clash : false ≡ true = sym (seat_used b ss s e) ∙ ap (λ (o : Option ℕ). is_none o) (sym (same s)) ∙ is in absurd (cc clash)) old
+
+never : (t : Bool) → (t && false) ≡ true → ⊥
+never true e = cc e
+never false e = cc e
+
 -- a holder more
 held_more : (p : SeatState → Bool) (f : SeatState → SeatState) (ss : List SeatState) (hart : ℕ) → ((s : SeatState) → (f s).holder ≡ Some hart) → count_of (is_held_by hart) ss ≤ 1 → ((h : ℕ) → count_of (is_held_by h) ss ≤ 2)
     → (h : ℕ) → count_of (is_held_by h) (change_first p f ss) ≤ 2
@@ -63,6 +120,7 @@ sound_lent disk ss b hart lt one sound = record {
   harts = holders_change 8 (has_block b) (with_holder hart) ss (λ s _. lt) sound.harts;
   once = λ k. (let a = count_same (has_block k) (has_block b) (with_holder hart) ss (λ s _ e. e) in omega (arith, a, sound.once k));
   clean = clean_change disk (has_block b) (with_holder hart) ss (λ s _ old. old) sound.clean;
+  unused = unused_with b (with_holder hart) ss (λ _. refl) (λ s is. absurd (never (is_some s.block) is)) sound.unused;
 }
 
 pub sound_new : (disk : List (List ℕ)) (ss : List SeatState) (b hart : ℕ) → hart < 8 → count_of (is_held_by hart) ss ≤ 1 → seat_of b ss ≡ None → IsSound disk ss → IsSound disk (change_first is_free (as_new hart b) ss)
@@ -76,6 +134,7 @@ sound_new disk ss b hart lt one none sound = record {
     | inr other ↦ (let a = count_same (has_block k) is_free (as_new hart b) ss (λ s _ e. absurd (other (equal b k e))) in omega (arith, a, sound.once k))
   ];
   clean = clean_change disk is_free (as_new hart b) ss (λ s _ old k bytes is unpinned valid. absurd (none-some bytes valid)) sound.clean;
+  unused = unused_change is_free (as_new hart b) ss (λ s _ is. absurd (cc is)) (λ s _ is. absurd (cc is)) sound.unused;
 }
 
 pub sound_back : (disk : List (List ℕ)) (ss : List SeatState) (b : ℕ) → IsSound disk ss → IsSound disk (given_back b ss)
@@ -86,6 +145,7 @@ sound_back disk ss b sound = record {
   harts = holders_back 8 b ss sound.harts;
   once = λ k. (let a = count_to_end (has_block k) (has_block b) without_holder ss (λ s e. e) in omega (arith, a, sound.once k));
   clean = clean_back disk b ss sound.clean;
+  unused = unused_back b ss sound.unused;
 }
 
 -- new bytes, of a seat that is pinned or has the disk's
@@ -100,6 +160,7 @@ sound_content disk ss b bytes new sound = record {
       (λ s e old k bytes_k is unpinned valid.
       let same : b ≡ k = same_Some b k (sym (seat_has b ss s e) ∙ is) in
       sym (same_Some bytes bytes_k valid) ∙ new s e unpinned ∙ ap (block_at disk) same) sound.clean;
+  unused = unused_with b (with_content bytes) ss (λ _. refl) (λ s is. is) sound.unused;
 }
 
 pinned_bit : (ss : List SeatState) (b : ℕ) → (option_map is_pinned (seat_of b ss) ≡ Some true) ⊎ (count_of is_pinned ss < 30) → count_of is_pinned ss ≤ 30 → count_of is_pinned (with_seat b (with_pin true) ss) ≤ 30
@@ -117,6 +178,7 @@ sound_pin disk ss b room sound = record {
   harts = holders_change 8 (has_block b) (with_pin true) ss (λ s old. old) sound.harts;
   once = λ k. (let a = count_same (has_block k) (has_block b) (with_pin true) ss (λ s _ e. e) in omega (arith, a, sound.once k));
   clean = clean_change disk (has_block b) (with_pin true) ss (λ s _ old k bytes is unpinned valid. absurd (cc unpinned)) sound.clean;
+  unused = unused_with b (with_pin true) ss (λ _. refl) (λ s is. is) sound.unused;
 }
 
 pub sound_unpin : (disk : List (List ℕ)) (ss : List SeatState) (b : ℕ) → block_at disk b ≡ seen_in disk ss b → IsSound disk ss → IsSound disk (with_seat b (with_pin false) ss)
@@ -131,6 +193,7 @@ sound_unpin disk ss b home sound = record {
       let same : b ≡ k = same_Some b k (sym (seat_has b ss s e) ∙ is) in
       let here : seen_in disk ss b ≡ bytes = ap (λ (o : Option SeatState). unwrap_or (option_and_then (λ (x : SeatState). x.content) o) (block_at disk b)) e ∙ ap (λ (o : Option (List ℕ)). unwrap_or o (block_at disk b)) valid in
       sym here ∙ sym home ∙ ap (block_at disk) same) sound.clean;
+  unused = unused_with b (with_pin false) ss (λ _. refl) (λ s is. is) sound.unused;
 }
 
 -- a write of a block that no seat has
@@ -156,6 +219,7 @@ sound_uncached disk ss b bytes none sound = record {
   harts = sound.harts;
   once = sound.once;
   clean = clean_none disk b bytes ss (none_counted (has_block b) ss none) sound.clean;
+  unused = sound.unused;
 }
 
 pub seen_past : (disk : List (List ℕ)) (ss : List SeatState) (b k : ℕ) (bytes : List ℕ) → k ≢ b → seen_in (slice_set disk b bytes) ss k ≡ seen_in disk ss k
@@ -183,6 +247,7 @@ sound_home disk ss b bytes within is sound = record {
   harts = sound.harts;
   once = sound.once;
   clean = clean_home disk b bytes ss within (sound.once b) is sound.clean;
+  unused = sound.unused;
 }
 
 pub seen_home : (disk : List (List ℕ)) (ss : List SeatState) (b k : ℕ) (bytes : List ℕ) → kept b ss ≡ Some bytes → seen_in (slice_set disk b bytes) ss k ≡ seen_in disk ss k
@@ -218,6 +283,11 @@ unfolding unused_from
 clean_unused disk n zero = tt
 clean_unused disk n (suc count) = (λ k bytes is _ _. absurd (none-some k is), clean_unused disk (n + 1) count)
 
+unused_unused : (n count : ℕ) → UnusedFirst (unused_from n count)
+unfolding unused_from
+unused_unused n zero = tt
+unused_unused n (suc count) = (λ is. absurd (cc is), λ _. refl, unused_unused (n + 1) count)
+
 pub sound_unused : (disk : List (List ℕ)) → IsSound disk (unused_from 0 46)
 sound_unused disk = record {
   count = length-unused_from 0 46;
@@ -226,4 +296,5 @@ sound_unused disk = record {
   harts = holders_unused 8 0 46;
   once = λ b. (let a = count_unused (has_block b) 0 46 (λ _. refl) in omega (arith, a));
   clean = clean_unused disk 0 46;
+  unused = unused_unused 0 46;
 }

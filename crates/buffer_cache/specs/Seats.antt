@@ -84,6 +84,9 @@ is_recorded s = s.pinned && is_some s.content
 abbrev pub IsRecorded : ℕ → List SeatState → Type 0
 IsRecorded b seats = Passes is_recorded b seats
 
+abbrev pub is_any : SeatState → Bool
+is_any s = true
+
 -- buffers that pass go on to
 abbrev pub Keeps : (SeatState → Bool) → List SeatState → List SeatState → Type 0
 Keeps p old new = (k : ℕ) → Passes p k old → Passes p k new
@@ -145,6 +148,18 @@ abbrev pub HoldersBelow : ℕ → List SeatState → Type 0
 HoldersBelow n [] = Unit {0}
 HoldersBelow n (s ∷ ss) = IsBelow n s.holder × HoldersBelow n ss
 
+-- it was never used; it holds a block, and is in
+abbrev pub is_unused : SeatState → Bool
+is_unused s = is_none s.block
+
+abbrev pub is_settled : SeatState → Bool
+is_settled s = is_some s.block && is_none s.holder
+
+-- buffers that were never used are free, and stand before those that hold a block and are in
+abbrev pub UnusedFirst : List SeatState → Type 0
+UnusedFirst [] = Unit {0}
+UnusedFirst (s ∷ ss) = (is_settled s ≡ true → count_of is_unused ss ≡ 0) × (is_unused s ≡ true → is_free s ≡ true) × UnusedFirst ss
+
 -- what holds of every cache: 46 buffers, at most 30 of them pinned, and at most two in the hands of each of eight harts;
 -- a block has at most one; and what isn't pinned is as on the disk
 pub record IsSound (disk : List (List ℕ)) (seats : List SeatState) : Type 0 where
@@ -154,3 +169,4 @@ pub record IsSound (disk : List (List ℕ)) (seats : List SeatState) : Type 0 wh
   pub harts : HoldersBelow HARTS seats
   pub once : (b : ℕ) → count_of (has_block b) seats ≤ 1
   pub clean : AllClean disk seats
+  pub unused : UnusedFirst seats

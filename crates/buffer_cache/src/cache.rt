@@ -5,7 +5,7 @@ ghost use Rattle.sleep_lock.specs.SleepLock.{GuardState};
 ghost use Rattle.block_device.specs.Blocks.{block_at, faults_after};
 ghost use Rattle.buffer_cache.specs.Buffers.{BufferState};
 ghost use Rattle.buffer_cache.specs.Lists.{count_of};
-ghost use Rattle.buffer_cache.specs.Seats.{is_held_by, is_pinned, is_recorded, IsPinned, IsRecorded, Keeps, seat_of, holder_of, kept, IsHeld, KeepsHeld, KeepsOthers, with_seat, with_content, with_pin, given_back, unused_from};
+ghost use Rattle.buffer_cache.specs.Seats.{is_any, is_held_by, is_pinned, is_recorded, is_unused, IsPinned, IsRecorded, Keeps, seat_of, holder_of, kept, IsHeld, KeepsHeld, KeepsOthers, with_seat, with_content, with_pin, given_back, unused_from};
 
 use crate::buffer::Buffer;
 use crate::buffers::Buffers;
@@ -81,6 +81,9 @@ impl<D: Device> Cache<D> {
         requires few { count_of (is_held_by hart) self.old.seats ≤ 1 }
         ensures gives { (self.new.seats, result) ≡ get_of hart b self.old.seats }
         ensures waits { (result ≡ Got.Waits) ↔ IsSome (holder_of b self.old.seats) }
+
+        // As long as a buffer was never used, each block that has one keeps it.
+        ensures unused { 0 < count_of is_unused self.old.seats → Keeps is_any self.old.seats self.new.seats }
 
         // The guard has the block's buffer, and a valid one has the bytes as they are seen.
         ensures held { IfHeld result (λ guard. (guard.hart ≡ hart) × (guard.value.block ≡ b) × IsHeld self.new.seats guard) }

@@ -1,7 +1,7 @@
-use Rattle.std.proofs.Common.{◌≡◌, ◌≤◌, List, sym, ◌∙◌, ap, subst, IsSome}
+use Rattle.std.proofs.Common.{◌<◌, ◌≡◌, ◌≤◌, List, sym, ◌∙◌, ap, subst, IsSome}
 use Rattle.std.specs.Prelude.{◌↔◌, IfSome}
 use Rattle.buffer_cache.specs.Lists.{count_of}
-use Rattle.buffer_cache.specs.Seats.{Keeps, is_recorded, is_pinned, SeatState, is_held_by, holder_of, seen, KeepsHeld}
+use Rattle.buffer_cache.specs.Seats.{is_any, is_unused, Keeps, is_recorded, is_pinned, SeatState, is_held_by, holder_of, seen, KeepsHeld}
 use Rattle.buffer_cache.specs.Getting.{IfHeld}
 use Rattle.buffer_cache.specs.declared.got.Got.{Got}
 use Rattle.buffer_cache.specs.declared.got.Got.TheVariants.{Waits}
@@ -78,3 +78,11 @@ returns-clause-recorded g c =
     let ss : List SeatState = c.self.inside.buffers in
     let laws : GetLaws disk c.args.hart c.args.b ss (c.get.new.self, c.get.result) = subst (λ (r : List SeatState × Got). GetLaws disk c.args.hart c.args.b ss r) (sym c.get.ensures) (get_laws disk c.args.hart c.args.b ss c.requires.hart one c.self.invariant) in
     subst (λ v. Keeps is_recorded v.seats c.get.new.self) c.self.view_is laws.recorded
+
+pub returns-clause-unused : goal.returns-clause-unused
+returns-clause-unused g c =
+    let one = subst (λ v. count_of (is_held_by c.args.hart) v.seats ≤ 1) (sym c.self.view_is) c.requires.few in
+    let disk = g.D.Device.contents c.self.inside.device in
+    let ss : List SeatState = c.self.inside.buffers in
+    let laws : GetLaws disk c.args.hart c.args.b ss (c.get.new.self, c.get.result) = subst (λ (r : List SeatState × Got). GetLaws disk c.args.hart c.args.b ss r) (sym c.get.ensures) (get_laws disk c.args.hart c.args.b ss c.requires.hart one c.self.invariant) in
+    subst (λ v. 0 < count_of is_unused v.seats → Keeps is_any v.seats c.get.new.self) c.self.view_is laws.unused
