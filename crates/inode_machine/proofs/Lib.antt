@@ -8,3 +8,4 @@ pub mod Serial
 pub mod Played
 pub mod Finished
 pub mod Removed
+pub mod Appended
