@@ -2,7 +2,7 @@ pub mod Lists
 pub mod Book
 pub mod Walked
 pub mod Moved
-pub mod Explained
+pub mod History
 pub mod Cut
 pub mod Serial
 pub mod Played

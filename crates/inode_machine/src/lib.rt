@@ -7,7 +7,7 @@ ghost use Rattle.inode_machine.specs.Laws.{RunsAreExplained, ListsLeadToTheTree,
 
 /// The list that a run keeps, by appending alone, explains its trace: calls of many harts that walk, look up, enter
 /// and remove step by step act as one list of tree steps. No path has the element "..".
-pub fn runs_are_explained()
+pub fn explained()
     ensures { RunsAreExplained }
 {}
 

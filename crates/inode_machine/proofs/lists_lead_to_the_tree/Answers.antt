@@ -1,6 +1,6 @@
 use Rattle.plain_tree.specs.Tree.{tree_of}
 use Rattle.inode_machine.specs.Inodes.{opened}
-use Rattle.inode_machine.proofs.Explained.{run_ok, opened_ok, NeverClimbs, starts_calm, apart_calm}
+use Rattle.inode_machine.proofs.History.{run_ok, opened_ok, NeverClimbs, starts_calm, apart_calm}
 use Rattle.inode_machine.proofs.lists_lead_to_the_tree.Goals as goal
 
 pub returns : goal.returns
