@@ -15,7 +15,7 @@ use Rattle.inode_machine.specs.Inodes.{Inodes, World, Event, act_of_hart, falls_
 use Rattle.inode_machine.specs.Inodes.Event.{Starts, Steps, Nothing}
 use Rattle.inode_machine.specs.Laws.{before}
 use Rattle.inode_machine.proofs.Book.{AllBelow, below_later}
-use Rattle.inode_machine.proofs.Explained.{happens_trace}
+use Rattle.inode_machine.proofs.History.{happens_trace}
 
 unfoldable pub AllFrom : ℕ → List Placed → Type 0
 AllFrom n [] = Unit {0}

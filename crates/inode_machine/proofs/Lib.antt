@@ -2,9 +2,10 @@ pub mod Lists
 pub mod Book
 pub mod Walked
 pub mod Moved
-pub mod Explained
+pub mod History
 pub mod Cut
 pub mod Serial
 pub mod Played
 pub mod Finished
 pub mod Removed
+pub mod Appended

@@ -18,7 +18,7 @@ use Rattle.inode_machine.specs.Inodes.{Inodes, World, Event, act_of_hart, falls_
 use Rattle.inode_machine.specs.Inodes.Event.{Starts, Steps, Nothing}
 use Rattle.inode_machine.specs.Laws.{of_call, in_turn}
 use Rattle.inode_machine.proofs.Lists.{map_length, more_length}
-use Rattle.inode_machine.proofs.Explained.{Inv, OwnOk, IsHart, apart_alone, start_alone, happens_ok, opened_ok, run_trace, falls_not, acts_there}
+use Rattle.inode_machine.proofs.History.{Inv, OwnOk, IsHart, apart_alone, start_alone, happens_ok, opened_ok, run_trace, falls_not, acts_there}
 
 of_append : (id : ℕ) (xs ys : List Placed) → of_call id (xs ++ ys) ≡ of_call id xs ++ of_call id ys
 of_append id [] ys = refl

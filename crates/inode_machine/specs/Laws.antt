@@ -3,13 +3,17 @@ use Rattle.std.specs.Prelude.{◌≡◌, ℕ, zero, suc, List, [], ◌++◌, map
 use Rattle.plain_tree.specs.declared.trace.Placed.{Placed}
 use Rattle.plain_tree.specs.TreeData.{TreeData}
 use Rattle.plain_tree.specs.Tree.{Tree, tree_of}
-use Rattle.plain_tree.specs.Explains.{trace_of, Explains}
+use Rattle.plain_tree.specs.Explains.{Chain, trace_of, Explains}
 use Rattle.tree_laws.specs.WellFormed.{IsWellFormed}
 use Rattle.inode_machine.specs.Inodes.{World, Event, Runs, NoneClimbs, Alone, opened, shown_of}
 
 -- From a well-formed tree with idle harts, where no path climbs.
 abbrev pub RunsAreExplained : Type 0
 RunsAreExplained = (base : TreeData) (w : World) (events : List Event) → IsWellFormed (tree_of base) → NoneClimbs events → Runs (opened (tree_of base)) events w → Explains base (trace_of (map shown_of events)) w.book.list
+
+-- The list leads from the beginning to the tree as it stands, which is well formed.
+abbrev pub ListsLeadToTheTree : Type 0
+ListsLeadToTheTree = (base : TreeData) (w : World) (events : List Event) → IsWellFormed (tree_of base) → NoneClimbs events → Runs (opened (tree_of base)) events w → Chain (tree_of base) w.book.list w.inodes.tree × IsWellFormed w.inodes.tree
 
 -- the entries whose event is before this one
 abbrev pub before : ℕ → List Placed → List Placed

@@ -3,12 +3,17 @@
 #![tactic(auto)]
 
 ghost use Rattle.inode_machine.specs.Examples.{OpenFinishes, ReadFinishes, WriteFinishes, LinkFinishes, UnlinkFinishes, MkdirFinishes, ChdirFinishes, DupFinishes, FstatFinishes, CloseFinishes, InheritFinishes, WalkerFails, WalkerStaysFailed};
-ghost use Rattle.inode_machine.specs.Laws.{RunsAreExplained, ListsGrow, OneHartIsExplained};
+ghost use Rattle.inode_machine.specs.Laws.{RunsAreExplained, ListsLeadToTheTree, ListsGrow, OneHartIsExplained};
 
 /// The list that a run keeps, by appending alone, explains its trace: calls of many harts that walk, look up, enter
 /// and remove step by step act as one list of tree steps. No path has the element "..".
-pub fn runs_are_explained()
+pub fn explained()
     ensures { RunsAreExplained }
+{}
+
+/// At each moment the list so far leads from the first tree to the tree as it stands then, which is well formed.
+pub fn lists_lead_to_the_tree()
+    ensures { ListsLeadToTheTree }
 {}
 
 /// The entries of the events up to a moment are the list as it stood at that moment.

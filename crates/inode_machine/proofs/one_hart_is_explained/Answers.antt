@@ -1,4 +1,4 @@
-use Rattle.inode_machine.proofs.Explained.{run_explained, IsHart, starts_alone, apart_alone}
+use Rattle.inode_machine.proofs.History.{run_explained, IsHart, starts_alone, apart_alone}
 use Rattle.inode_machine.proofs.Serial.{serial}
 use Rattle.inode_machine.proofs.one_hart_is_explained.Goals as goal
 
