@@ -34,12 +34,7 @@ fn place_in(logstart: u32, blocks: &[u32], b: u32) -> u32
 }
 
 /// Reads a block as recovery would leave it.
-pub fn load<D: Device>(
-    device: &mut D,
-    layout: &Layout,
-    b: u32,
-    to: &mut Block,
-) -> Result<(), Fault>
+pub fn load<D: Device>(device: &mut D, layout: &Layout, b: u32, to: &mut Block) -> Result<(), Fault>
     requires layout { IsLayout (D.contents device.old) layout.now }
     requires bound { b < length (D.contents device.old) }
     ensures read { OnOk result (to.new ≡ recovered (D.contents device.old) b) }
@@ -59,6 +54,11 @@ pub fn load_inode<D: Device>(device: &mut D, layout: &Layout, i: u32) -> Result<
     ensures faults { D.failures device.new ≡ faults_after result (D.failures device.old) }
 {
     let mut block = [0; BLOCK_LEN];
-    load(device, layout, layout.sizes.inodestart + i / INODES_PER_BLOCK as u32, &mut block)?;
+    load(
+        device,
+        layout,
+        layout.sizes.inodestart + i / INODES_PER_BLOCK as u32,
+        &mut block,
+    )?;
     Ok(read_dinode(&block, i as usize % INODES_PER_BLOCK))
 }

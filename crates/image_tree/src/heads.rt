@@ -25,7 +25,8 @@ fn is_good(s: &Super) -> bool
         && s.logstart >= FIRST_LOG_BLOCK
         && s.nlog >= SHORTEST_LOG
         && u64::from(s.logstart) + u64::from(s.nlog) <= u64::from(s.inodestart)
-        && u64::from(s.inodestart) + u64::from(s.ninodes).div_ceil(INODES_PER_BLOCK as u64) <= u64::from(s.bmapstart)
+        && u64::from(s.inodestart) + u64::from(s.ninodes).div_ceil(INODES_PER_BLOCK as u64)
+            <= u64::from(s.bmapstart)
         && s.bmapstart < s.size
 }
 

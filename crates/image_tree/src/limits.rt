@@ -33,6 +33,9 @@ pub const LARGEST_SIZE: u32 = 274_432;
 
 /// The types of inodes.
 pub const KIND_FREE: i16 = 0;
+
 pub const KIND_DIRECTORY: i16 = 1;
+
 pub const KIND_FILE: i16 = 2;
+
 pub const KIND_DEVICE: i16 = 3;

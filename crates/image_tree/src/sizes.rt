@@ -20,7 +20,11 @@ pub fn block_number(numbers: &[u32], k: usize) -> u32
     ensures { result ≡ block_number numbers.now k }
 {
     let place = if k < DIRECT { k } else { k + 1 };
-    if place < numbers.len() { numbers[place] } else { 0 }
+    if place < numbers.len() {
+        numbers[place]
+    } else {
+        0
+    }
 }
 
 /// Whether each block inside the size is there.
