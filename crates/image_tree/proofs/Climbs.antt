@@ -53,12 +53,13 @@ first_reach f (suc n) d h =
     ⊎_elim
     (λ (e : d ≡ 1). (0, record { there = climb-none f d ∙ e; before = λ k l. absurd (omega arith) }))
     (λ (ne : d ≡ 1 → ⊥).
-        let rest = first_reach f n (f d) (sym (climb-more f n d) ∙ h) in
-        (suc rest.0,
-        record {
-          there = climb-more f rest.0 d ∙ rest.1.there;
-          before = λ k l e. later f d rest.0 rest.1 ne k l e;
-        }))
+    let rest = first_reach f n (f d) (sym (climb-more f n d) ∙ h) in (
+      suc rest.0,
+      record {
+        there = climb-more f rest.0 d ∙ rest.1.there;
+        before = λ k l e. later f d rest.0 rest.1 ne k l e;
+      },
+    ))
     (cases_eq d 1)
   where
     later : (f : ℕ → ℕ) (d m : ℕ) → FirstReach f (f d) m → (d ≡ 1 → ⊥) → (k : ℕ) → k < suc m → climb f k d ≡ 1 → ⊥
@@ -105,7 +106,7 @@ reach_bound : (f : ℕ → ℕ) (d top : ℕ) → ((i : ℕ) → f i < top) → 
 reach_bound f d top small low root r =
     let first = first_reach f r.steps.0 d r.steps.1 in
     let short = length-le_from_distinct_below (path f first.0 d) top (IsDistinct-from_AllPairs Decides-eqb (path f first.0 d) (path_apart f d first.0 first.1))
-        (path_below f first.0 d top small low) in
+    (path_below f first.0 d top small low) in
     climb-farther f first.0 top d root (omega (arith, length-path f first.0 d)) first.1.there
 
 -- ---- jumps
@@ -120,8 +121,8 @@ get_or-doubled jumps i none =
     ⊎_elim
     (λ (h : i < length jumps). get_or-map (λ n. get_or jumps n 0) jumps i 0 0 h)
     (λ (h : length jumps ≤ i).
-        let f : ℕ → ℕ = λ n. get_or jumps n 0 in
-        get_or_past (map f jumps) i 0 (omega (arith, length-map jumps f)) ∙ sym none ∙ ap (λ (k : ℕ). get_or jumps k 0) (sym (get_or_past jumps i 0 h)))
+    let f : ℕ → ℕ = λ n. get_or jumps n 0 in
+    get_or_past (map f jumps) i 0 (omega (arith, length-map jumps f)) ∙ sym none ∙ ap (λ (k : ℕ). get_or jumps k 0) (sym (get_or_past jumps i 0 h)))
     (cases_lt i (length jumps))
 
 pub jumps_first : (ups jumps : List ℕ) → get_or ups 0 0 ≡ 0 → jumps ≡ map (λ n. get_or ups n 0) ups → IsJumpTable ups (2 ^ 1) jumps
@@ -129,7 +130,7 @@ jumps_first ups jumps none e =
     let f : ℕ → ℕ = λ n. get_or ups n 0 in
     record {
       says = λ i.
-        ap (λ (xs : List ℕ). get_or xs i 0) e ∙ get_or-doubled ups i none ∙ sym (climb-one f (f i)) ∙ sym (climb-more f 1 i);
+          ap (λ (xs : List ℕ). get_or xs i 0) e ∙ get_or-doubled ups i none ∙ sym (climb-one f (f i)) ∙ sym (climb-more f 1 i);
       length = ap length e ∙ length-map ups f;
     }
 
@@ -147,8 +148,8 @@ jumps_more ups jumps shown twice r none t same e =
     let is : twice ≡ map (λ n. get_or jumps n 0) jumps = e ∙ ap (λ (xs : List ℕ). map (λ n. get_or xs n 0) xs) same in
     record {
       says = λ i.
-        ap (λ (xs : List ℕ). get_or xs i 0) is ∙ get_or-doubled jumps i (t.says 0 ∙ climb-zero f s none) ∙ t.says (get_or jumps i 0) ∙ ap (climb f s) (t.says i)
-        ∙ sym (climb-add f s s i) ∙ ap (λ (k : ℕ). climb f k i) double;
+          ap (λ (xs : List ℕ). get_or xs i 0) is ∙ get_or-doubled jumps i (t.says 0 ∙ climb-zero f s none) ∙ t.says (get_or jumps i 0) ∙ ap (climb f s) (t.says i)
+          ∙ sym (climb-add f s s i) ∙ ap (λ (k : ℕ). climb f k i) double;
       length = ap length is ∙ length-map jumps (λ n. get_or jumps n 0) ∙ t.length;
     }
 
@@ -166,4 +167,4 @@ reach_told ups jumps shown true root small short same t says =
 reach_told ups jumps shown false root small short same t says =
     λ reach.
     says (λ i h ne.
-        ap (λ (xs : List ℕ). get_or xs i 0) same ∙ t.says i ∙ reach_bound (λ n. get_or ups n 0) i 65536 small (omega arith) root (reach i ne))
+    ap (λ (xs : List ℕ). get_or xs i 0) same ∙ t.says i ∙ reach_bound (λ n. get_or ups n 0) i 65536 small (omega arith) root (reach i ne))

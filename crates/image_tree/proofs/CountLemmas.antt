@@ -26,7 +26,7 @@ table_at table xs i n read t l bound is = is ∙ get_or_default table i read 0 (
 pub count_told : (disk : List (List ℕ)) (layout : Layout) (i : ℕ) (d : Dinode) (told : Bool) → IsLayout disk layout → 1 ≤ i → i < layout.sizes.ninodes
     → d ≡ inode_of disk i → is_free d ≡ false
     → MatchBool told (IsGoodCount d (names_of disk i) (further_names_of disk i) (children_of disk i))
-      (IsGoodCount d (names_of disk i) (further_names_of disk i) (children_of disk i) → ⊥)
+    (IsGoodCount d (names_of disk i) (further_names_of disk i) (children_of disk i) → ⊥)
     → MatchBool told (GoodCount disk i) (GoodCount disk i → ⊥)
 count_told disk layout i d true h low bound e used says =
     λ node. subst (λ (x : Dinode). IsGoodCount x (names_of disk i) (further_names_of disk i) (children_of disk i)) e says

@@ -24,11 +24,12 @@ no_node_zero disk = refl
 pub flags-one : (disk : List (List ℕ)) (before after : List Bool) → before ≡ [] → after ≡ before ++ false ∷ []
     → (length after ≡ 1) × ((k : ℕ) → k < 1 → get_or after k false ≡ is_node disk k)
 flags-one disk before after none e =
-    let is : after ≡ false ∷ [] = e ∙ ap (λ (xs : List Bool). xs ++ false ∷ []) none in
-    (ap length is,
-    λ k l.
-    let z : k ≡ 0 = omega arith in
-    ap (λ (xs : List Bool). get_or xs k false) is ∙ ap (λ (n : ℕ). get_or (false ∷ []) n false) z ∙ sym (no_node_zero disk) ∙ ap (is_node disk) (sym z))
+    let is : after ≡ false ∷ [] = e ∙ ap (λ (xs : List Bool). xs ++ false ∷ []) none in (
+      ap length is,
+      λ k l.
+          let z : k ≡ 0 = omega arith in
+          ap (λ (xs : List Bool). get_or xs k false) is ∙ ap (λ (n : ℕ). get_or (false ∷ []) n false) z ∙ sym (no_node_zero disk) ∙ ap (is_node disk) (sym z),
+    )
 
 lt_test : (m n : ℕ) → m < n → nat_lt m n ≡ true
 lt_test m n h = lt-ltb m n h
@@ -45,27 +46,28 @@ pub flags-more : (disk : List (List ℕ)) (layout : Layout) (i : ℕ) (d : Dinod
     → i < layout.sizes.ninodes → d ≡ inode_of disk i → flag ≡ not (is_free d) → length before ≡ i
     → ((k : ℕ) → k < i → get_or before k false ≡ is_node disk k) → after ≡ before ++ flag ∷ []
     → (length after ≡ i + 1) × ((k : ℕ) → k < i + 1 → get_or after k false ≡ is_node disk k)
-flags-more disk layout i d flag before after h low bound e f l says is =
-    (ap length is ∙ length-append before (flag ∷ []) ∙ ap (λ (n : ℕ). n + 1) l,
-    λ k q.
-    ap (λ (xs : List Bool). get_or xs k false) is
-    ∙ ⊎_elim
+flags-more disk layout i d flag before after h low bound e f l says is = (
+  ap length is ∙ length-append before (flag ∷ []) ∙ ap (λ (n : ℕ). n + 1) l,
+  λ k q.
+      ap (λ (xs : List Bool). get_or xs k false) is
+      ∙ ⊎_elim
       (λ (p : k < i). get_or_append_left before (flag ∷ []) false k (omega arith) ∙ says k p)
       (λ (p : i ≤ k).
-          let z : k ≡ i = omega arith in
-          get_or_at before flag [] false k (omega arith) ∙ f ∙ node_flag disk layout i d h low bound e ∙ ap (is_node disk) (sym z))
-      (cases_lt k i))
+      let z : k ≡ i = omega arith in
+      get_or_at before flag [] false k (omega arith) ∙ f ∙ node_flag disk layout i d h low bound e ∙ ap (is_node disk) (sym z))
+      (cases_lt k i),
+)
 
 pub node_table_is : (disk : List (List ℕ)) (layout : Layout) (i : ℕ) (nodes : List Bool) → IsLayout disk layout → layout.sizes.ninodes ≡ i → length nodes ≡ i
     → ((k : ℕ) → k < i → get_or nodes k false ≡ is_node disk k) → IsNodeTable disk nodes
 node_table_is disk layout i nodes h all l says = record {
   says = λ k.
-    ⊎_elim
-    (λ (p : k < i). says k p)
-    (λ (p : i ≤ k).
-        get_or_past nodes k false (omega arith)
-        ∙ sym (false_from_ne_true (is_node disk k) (λ t. let b = (node_is disk k t).bound in let s = h.sizes in let n : layout.sizes.ninodes ≡ (sizes_of disk).ninodes = rw s refl in absurd (omega arith))))
-    (cases_lt k i);
+      ⊎_elim
+      (λ (p : k < i). says k p)
+      (λ (p : i ≤ k).
+      get_or_past nodes k false (omega arith)
+      ∙ sym (false_from_ne_true (is_node disk k) (λ t. let b = (node_is disk k t).bound in let s = h.sizes in let n : layout.sizes.ninodes ≡ (sizes_of disk).ninodes = rw s refl in absurd (omega arith))))
+      (cases_lt k i);
 }
 
 -- ---- slots
@@ -92,12 +94,12 @@ pub slots_told : (disk : List (List ℕ)) (layout : Layout) (i : ℕ) (d : Dinod
     → IsNodeTable disk nodes → slots ≡ slots_in disk i
     → MatchBool told (AreGoodSlots (λ n. get_or nodes n false) i slots) (AreGoodSlots (λ n. get_or nodes n false) i slots → ⊥)
     → MatchBool told (is_live_directory disk i ≡ true → AreGoodSlots (is_node disk) i (slots_in disk i))
-      ((is_live_directory disk i ≡ true → AreGoodSlots (is_node disk) i (slots_in disk i)) → ⊥)
+    ((is_live_directory disk i ≡ true → AreGoodSlots (is_node disk) i (slots_in disk i)) → ⊥)
 slots_told disk layout i d nodes slots true h low bound e is table same says =
     λ _. subst (AreGoodSlots (is_node disk) i) same (good_slots_same (λ n. get_or nodes n false) (is_node disk) i slots table.says says)
 slots_told disk layout i d nodes slots false h low bound e is table same says =
     λ good.
     let parts = and_parts (is_directory d) (is_live d) is in
     let live : is_live_directory disk i ≡ true =
-        directory_from disk i (record { low = low; bound = rw (← h.sizes) bound; directory = rw e at parts.0; live = rw e at parts.1 }) in
+    directory_from disk i (record { low = low; bound = rw (← h.sizes) bound; directory = rw e at parts.0; live = rw e at parts.1 }) in
     says (good_slots_same (is_node disk) (λ n. get_or nodes n false) i slots (λ n. sym (table.says n)) (subst (AreGoodSlots (is_node disk) i) (sym same) (good live)))

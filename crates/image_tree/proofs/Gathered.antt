@@ -11,9 +11,10 @@ unfolding gathered
 gathered-add f n zero = let e : n + 0 ≡ n = omega arith in ([], ap (gathered f) e ∙ sym (append-nil (gathered f n)))
 gathered-add f n (suc k) =
     let ih = gathered-add f n k in
-    let e : n + suc k ≡ suc (n + k) = omega arith in
-    (ih.0 ++ f (suc (n + k)),
-    ap (gathered f) e ∙ ap (λ (xs : List ℕ). xs ++ f (suc (n + k))) ih.1 ∙ append_assoc (gathered f n) ih.0 (f (suc (n + k))))
+    let e : n + suc k ≡ suc (n + k) = omega arith in (
+      ih.0 ++ f (suc (n + k)),
+      ap (gathered f) e ∙ ap (λ (xs : List ℕ). xs ++ f (suc (n + k))) ih.1 ∙ append_assoc (gathered f n) ih.0 (f (suc (n + k))),
+    )
 
 pub gathered-none : (f : ℕ → List ℕ) → gathered f 0 ≡ []
 unfolding gathered

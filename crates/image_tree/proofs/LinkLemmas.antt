@@ -30,11 +30,12 @@ no_directory_zero disk = refl
 pub up-one : (disk : List (List ℕ)) (before after : List ℕ) → before ≡ [] → after ≡ before ++ 0 ∷ []
     → (length after ≡ 1) × ((k : ℕ) → k < 1 → get_or after k 0 ≡ up disk k)
 up-one disk before after none e =
-    let is : after ≡ 0 ∷ [] = e ∙ ap (λ (xs : List ℕ). xs ++ 0 ∷ []) none in
-    (ap length is,
-    λ k l.
-    let z : k ≡ 0 = omega arith in
-    ap (λ (xs : List ℕ). get_or xs k 0) is ∙ ap (λ (n : ℕ). get_or (0 ∷ []) n 0) z ∙ sym (up_none disk 0 (no_directory_zero disk)) ∙ ap (up disk) (sym z))
+    let is : after ≡ 0 ∷ [] = e ∙ ap (λ (xs : List ℕ). xs ++ 0 ∷ []) none in (
+      ap length is,
+      λ k l.
+          let z : k ≡ 0 = omega arith in
+          ap (λ (xs : List ℕ). get_or xs k 0) is ∙ ap (λ (n : ℕ). get_or (0 ∷ []) n 0) z ∙ sym (up_none disk 0 (no_directory_zero disk)) ∙ ap (up disk) (sym z),
+    )
 
 pub up_table_is : (disk : List (List ℕ)) (layout : Layout) (i : ℕ) (ups : List ℕ) → IsLayout disk layout → layout.sizes.ninodes ≡ i → length ups ≡ i
     → ((k : ℕ) → k < i → get_or ups k 0 ≡ up disk k) → IsUpTable disk ups
@@ -43,12 +44,12 @@ up_table_is disk layout i ups h all l says =
     let n : layout.sizes.ninodes ≡ (sizes_of disk).ninodes = rw s refl in
     record {
       says = λ k.
-        ⊎_elim
-        (λ (p : k < i). says k p)
-        (λ (p : i ≤ k).
-            get_or_past ups k 0 (omega arith)
-            ∙ sym (up_none disk k (false_from_ne_true (is_live_directory disk k) (λ t. let b = (directory_is disk k t).bound in absurd (omega arith)))))
-        (cases_lt k i);
+          ⊎_elim
+          (λ (p : k < i). says k p)
+          (λ (p : i ≤ k).
+          get_or_past ups k 0 (omega arith)
+          ∙ sym (up_none disk k (false_from_ne_true (is_live_directory disk k) (λ t. let b = (directory_is disk k t).bound in absurd (omega arith)))))
+          (cases_lt k i);
       length = omega arith;
     }
 

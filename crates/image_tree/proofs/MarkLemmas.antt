@@ -12,8 +12,8 @@ use Rattle.image_tree.specs.Lists.{IsOnce}
 pub front_once : {X : Type 0} (xs ys : List X) → IsOnce (xs ++ ys) → IsOnce xs
 front_once xs ys h = record {
   apart = λ i j d p q e.
-    h.apart i j d p (omega (arith, length-append xs ys))
-    (get_or_append_left xs ys d i (omega arith) ∙ e ∙ sym (get_or_append_left xs ys d j q));
+      h.apart i j d p (omega (arith, length-append xs ys))
+      (get_or_append_left xs ys d i (omega arith) ∙ e ∙ sym (get_or_append_left xs ys d j q));
 }
 
 pub once_nil : {X : Type 0} → IsOnce {X = X} []
@@ -30,22 +30,25 @@ push_twice xs b (k, l, e) h =
 pub marks_push : (seen : List Bool) (xs : List ℕ) (b : ℕ) → length seen ≡ 8192 → b < 8192 → Marks seen xs → Marks (set seen b true) (xs ++ b ∷ [])
 marks_push seen xs b l s m = record {
   says = λ c q.
-    ⊎_elim
-    (λ (e : c ≡ b).
-        ((λ _. subst (λ (x : ℕ). Contains (xs ++ b ∷ []) x) (sym e) (Contains-push xs b)),
-        (λ _. ap (λ (x : ℕ). get_or (set seen b true) x false) e ∙ get_or-set_same seen b true false (omega arith))))
-    (λ (n : c ≡ b → ⊥).
-        let same = get_or-set_other seen b c true false n in
-        ((λ t. Contains-append_left xs (b ∷ []) c ((m.says c q).0 (sym same ∙ t))),
-        (λ i. same ∙ (m.says c q).1 (⊎_elim (λ (y : Contains xs c). y) (λ (e : b ≡ c). absurd (n (sym e))) (Contains-push_cases xs b c i)))))
-    (cases_eq c b);
+      ⊎_elim
+      (λ (e : c ≡ b). (
+        (λ _. subst (λ (x : ℕ). Contains (xs ++ b ∷ []) x) (sym e) (Contains-push xs b)),
+        (λ _. ap (λ (x : ℕ). get_or (set seen b true) x false) e ∙ get_or-set_same seen b true false (omega arith)),
+      ))
+      (λ (n : c ≡ b → ⊥).
+      let same = get_or-set_other seen b c true false n in (
+        (λ t. Contains-append_left xs (b ∷ []) c ((m.says c q).0 (sym same ∙ t))),
+        (λ i. same ∙ (m.says c q).1 (⊎_elim (λ (y : Contains xs c). y) (λ (e : b ≡ c). absurd (n (sym e))) (Contains-push_cases xs b c i))),
+      ))
+      (cases_eq c b);
 }
 
 pub marks_none : Marks (replicate 8192 false) []
 marks_none = record {
-  says = λ b q.
-    ((λ t. absurd (false≢true (sym (get_or-replicate 8192 b false false q) ∙ t))),
-    (λ c. absurd (let l = c.1 in omega arith)));
+  says = λ b q. (
+    (λ t. absurd (false≢true (sym (get_or-replicate 8192 b false false q) ∙ t))),
+    (λ c. absurd (let l = c.1 in omega arith)),
+  );
 }
 
 -- what is kept of one more number
@@ -58,9 +61,9 @@ kept_more xs ns i h =
 pub twice_front : (xs ns : List ℕ) (i : ℕ) → (IsOnce (xs ++ filter is_block (take i ns)) → ⊥) → IsOnce (xs ++ filter is_block ns) → ⊥
 twice_front xs ns i bad h =
     let split : filter is_block ns ≡ filter is_block (take i ns) ++ filter is_block (drop i ns) =
-        ap (filter is_block) (sym (take-append-drop i ns)) ∙ filter-append is_block (take i ns) (drop i ns) in
+    ap (filter is_block) (sym (take-append-drop i ns)) ∙ filter-append is_block (take i ns) (drop i ns) in
     let whole : xs ++ filter is_block ns ≡ (xs ++ filter is_block (take i ns)) ++ filter is_block (drop i ns) =
-        ap (λ (ys : List ℕ). xs ++ ys) split ∙ sym (append_assoc xs (filter is_block (take i ns)) (filter is_block (drop i ns))) in
+    ap (λ (ys : List ℕ). xs ++ ys) split ∙ sym (append_assoc xs (filter is_block (take i ns)) (filter is_block (drop i ns))) in
     bad (front_once _ (filter is_block (drop i ns)) (subst IsOnce whole h))
 
 pub kept_zero : (xs : List ℕ) (b : ℕ) → b ≡ 0 → xs ++ filter is_block (b ∷ []) ≡ xs

@@ -73,20 +73,20 @@ short_name name h =
 keys_once : (names : List (List ℕ)) → All IsKeyed names → IsOnce names → IsOnce (map name_key names)
 keys_once names keyed once = record {
   apart = λ i j d p q e.
-    let l : length (map name_key names) ≡ length names = length-map names name_key in
-    let qq : j < length names = omega arith in
-    let pp : i < length names = omega arith in
-    let same : name_key (get_or names i []) ≡ name_key (get_or names j []) =
-        sym (get_or-map name_key names i [] d pp) ∙ e ∙ get_or-map name_key names j [] d qq in
-    once.apart i j [] p qq (key_same (get_or names i []) (get_or names j []) (keyed i [] pp).digits (keyed j [] qq).digits same);
+      let l : length (map name_key names) ≡ length names = length-map names name_key in
+      let qq : j < length names = omega arith in
+      let pp : i < length names = omega arith in
+      let same : name_key (get_or names i []) ≡ name_key (get_or names j []) =
+      sym (get_or-map name_key names i [] d pp) ∙ e ∙ get_or-map name_key names j [] d qq in
+      once.apart i j [] p qq (key_same (get_or names i []) (get_or names j []) (keyed i [] pp).digits (keyed j [] qq).digits same);
 }
 
 names_once : (names : List (List ℕ)) → IsOnce (map name_key names) → IsOnce names
 names_once names once = record {
   apart = λ i j d p q e.
-    let l : length (map name_key names) ≡ length names = length-map names name_key in
-    let pp : i < length names = omega arith in
-    once.apart i j 0 p (omega arith) (get_or-map name_key names i d 0 pp ∙ ap name_key e ∙ sym (get_or-map name_key names j d 0 q));
+      let l : length (map name_key names) ≡ length names = length-map names name_key in
+      let pp : i < length names = omega arith in
+      once.apart i j 0 p (omega arith) (get_or-map name_key names i d 0 pp ∙ ap name_key e ∙ sym (get_or-map name_key names j d 0 q));
 }
 
 pub names_told : (told : Bool) (keys : List ℕ) (names : List (List ℕ)) → keys ≡ map name_key names → All IsKeyed names
@@ -111,7 +111,7 @@ increasing_once xs h =
     λ i j d p q e.
     let k : i + suc (j - i - 1) ≡ j = omega arith in
     let less : get_or xs i 0 < get_or xs j 0 =
-        subst (λ (m : ℕ). get_or xs i 0 < get_or xs m 0) k (increasing_below xs h i (j - i - 1) (omega arith)) in
+    subst (λ (m : ℕ). get_or xs i 0 < get_or xs m 0) k (increasing_below xs h i (j - i - 1) (omega arith)) in
     let f : get_or xs i 0 ≡ get_or xs j 0 = get_or_default xs i 0 d (omega arith) ∙ e ∙ get_or_default xs j d 0 q in
     omega arith
 

@@ -83,7 +83,7 @@ pub twelfth_of_node : (disk : List (List ℕ)) (layout : Layout) (i : ℕ) (d : 
 twelfth_of_node disk layout i d h good low bound e used l =
     let P : ℕ → Type 0 = λ b. b ≢ 0 → IsData (sizes_of disk) b in
     let own : All P (numbers_of disk (inode_of disk i)) =
-        subst (All P) (numbers_by_node disk i (rw e at used)) (good i low (rw (← h.sizes) bound)) in
+    subst (All P) (numbers_by_node disk i (rw e at used)) (good i low (rw (← h.sizes) bound)) in
     twelfth_within disk layout d h l (All-addrs P disk d (subst (λ (x : Dinode). All P (numbers_of disk x)) (sym e) own))
 
 -- what holds of each inode below one, and of that one

@@ -1,11 +1,11 @@
 -- The numbers that an inode has.
-use Rattle.std.proofs.Common.{◌≡◌, ◌≢◌, ℕ, ◌<◌, ◌≤◌, false, List, [], ◌++◌, length, get_or, slice_index, refl, ap, arith, length-append, ℤ, pos, negsuc, subst, of_z, w16, SFits, ⊎_elim}
+use Rattle.std.proofs.Common.{true, ◌≡◌, ◌≢◌, ℕ, ◌<◌, ◌≤◌, false, List, [], ◌++◌, length, get_or, slice_index, refl, arith, length-append, subst, ⊎_elim}
 use Rattle.std.proofs.lemmas.List.{append-nil, get_or_append_left}
 use Rattle.std.proofs.lemmas.Bool.{ne_eqb, cases_eq}
 use Rattle.std.specs.List.{All}
 use Rattle.fs_layout.specs.declared.inode.Dinode.{Dinode}
 use Rattle.fs_layout.specs.Bytes.{u32s_at}
-use Rattle.image_tree.specs.Inodes.{numbers_of, numbers_by, inode_of, is_number}
+use Rattle.image_tree.specs.Inodes.{numbers_of, numbers_by, inode_of, is_free}
 use Rattle.fs_layout.specs.Recovered.{recovered, sizes_of}
 use Rattle.image_tree.specs.Checks.{IsData}
 use Rattle.image_tree.specs.declared.disk.Layout.{Layout}
@@ -28,22 +28,13 @@ pub All-addrs : (P : ℕ → Type 0) (disk : List (List ℕ)) (d : Dinode) → A
 unfolding numbers_of
 All-addrs P disk d h = All-front P d.addrs _ h
 
-not_free : (z : ℤ) → z ≢ pos 0 → is_number 0 z ≡ false
-not_free (pos n) h = ne_eqb n 0 (λ e. h (ap pos e))
-not_free (negsuc n) h = refl
-
-pub numbers_by_free : (disk : List (List ℕ)) (i : ℕ) (d : Dinode) → d ≡ inode_of disk i → d.kind ≡ pos 0 → numbers_by disk i ≡ []
+pub numbers_by_free : (disk : List (List ℕ)) (i : ℕ) (d : Dinode) → d ≡ inode_of disk i → is_free d ≡ true → numbers_by disk i ≡ []
 unfolding numbers_by
-numbers_by_free disk i d e z = rw (← e, z) refl
+numbers_by_free disk i d e h = rw (← e, h) refl
 
-pub numbers_by_used : (disk : List (List ℕ)) (i : ℕ) (d : Dinode) → d ≡ inode_of disk i → d.kind ≢ pos 0 → numbers_by disk i ≡ numbers_of disk d
+pub numbers_by_used : (disk : List (List ℕ)) (i : ℕ) (d : Dinode) → d ≡ inode_of disk i → is_free d ≡ false → numbers_by disk i ≡ numbers_of disk d
 unfolding numbers_by
-numbers_by_used disk i d e n = rw (← e, not_free d.kind n) refl
-
--- a kind that the code compares with 0
-pub kind_zero : (z : ℤ) → of_z w16 z ≡ 0 → SFits w16 z → z ≡ pos 0
-kind_zero (pos n) h f = ap pos h
-kind_zero (negsuc n) h f = absurd (let g = f.sfits in omega arith)
+numbers_by_used disk i d e h = rw (← e, h) refl
 
 pub All-nil : (P : ℕ → Type 0) → All P []
 All-nil P = λ k d l. absurd (omega arith)

@@ -62,8 +62,8 @@ shape_more disk now layout i d shown numbers live orphans blocks a b c h low bou
       live_is = ap (λ (k : ℕ). k + a) t.live_is ∙ ap (λ (k : ℕ). count_upto (is_live_node disk) (i - 1) + k) la ∙ sym (count_upto-more (is_live_node disk) i low);
       orphans_is = ap (λ (k : ℕ). k + b) t.orphans_is ∙ ap (λ (k : ℕ). count_upto (is_orphan disk) (i - 1) + k) lb ∙ sym (count_upto-more (is_orphan disk) i low);
       blocks_is =
-        ap (λ (k : ℕ). k + c) t.blocks_is ∙ ap (λ (k : ℕ). length (gathered (named_by disk) (i - 1)) + k) (ec ∙ ap length own)
-        ∙ sym (length-append (gathered (named_by disk) (i - 1)) (named_by disk i)) ∙ sym (ap length (gathered-more (named_by disk) i low));
+          ap (λ (k : ℕ). k + c) t.blocks_is ∙ ap (λ (k : ℕ). length (gathered (named_by disk) (i - 1)) + k) (ec ∙ ap length own)
+          ∙ sym (length-append (gathered (named_by disk) (i - 1)) (named_by disk i)) ∙ sym (ap length (gathered-more (named_by disk) i low));
       few_live = omega arith;
       few_orphans = omega arith;
       few_blocks = omega arith;

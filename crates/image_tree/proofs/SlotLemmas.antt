@@ -36,16 +36,16 @@ unfolding slots_in
 slots_in_directory disk layout i d h low bound e is =
     let parts = both (is_directory d) (is_live d) is in
     let live : is_live_directory disk i ≡ true =
-        directory_from disk i (record { low = low; bound = rw (← h.sizes) bound; directory = rw e at parts.0; live = rw e at parts.1 }) in
+    directory_from disk i (record { low = low; bound = rw (← h.sizes) bound; directory = rw e at parts.0; live = rw e at parts.1 }) in
     rw (live, ← e) refl
 
 pub slots_in_other : (disk : List (List ℕ)) (i : ℕ) (d : Dinode) → d ≡ inode_of disk i → (is_directory d && is_live d) ≡ false → slots_in disk i ≡ []
 unfolding slots_in
 slots_in_other disk i d e not =
     let live : is_live_directory disk i ≡ false =
-        false_from_ne_true (is_live_directory disk i) (λ t.
-            let is = directory_is disk i t in
-            false≢true (sym not ∙ rw e (both_from (is_directory (inode_of disk i)) (is_live (inode_of disk i)) is.directory is.live))) in
+    false_from_ne_true (is_live_directory disk i) (λ t.
+    let is = directory_is disk i t in
+    false≢true (sym not ∙ rw e (both_from (is_directory (inode_of disk i)) (is_live (inode_of disk i)) is.directory is.live))) in
     rw live refl
 
 directory_not_free : (d : Dinode) → is_directory d ≡ true → is_free d ≡ false

@@ -34,7 +34,6 @@ head_is disk block h e is =
     (rw (← e) small, sym (ap (λ (x : LogHead). x.blocks.items) f.1) ∙ ap (λ (b : List ℕ). u32s_at (u32_at b 0) b 4) e)
 
 pub no_head : (disk : List (List ℕ)) (block : List ℕ) → block ≡ block_at disk (sizes_of disk).logstart → log_head_of block ≡ None → HasGoodLog disk → ⊥
-
 no_head disk block e is good =
     let f = none_from (leb (u32_at block 0) 255) _ is in
     let small : u32_at block 0 ≤ 255 = rw e good.room in

@@ -19,22 +19,22 @@ pub tally_in : (table : List ℕ) (xs : List ℕ) (n count : ℕ) → n < length
     → Tallies (set table n count) (xs ++ n ∷ [])
 tally_in table xs n count h is t = record {
   says = λ i l.
-    let same : length (set table n count) ≡ length table = length-set table n count in
-    ⊎_elim
-    (λ (e : i ≡ n).
-        let old = t.says n h in
-        let more = times-same n xs in
-        let now : count ≡ min (times n (xs ++ n ∷ [])) 65535 = omega arith in
-        ap (λ (k : ℕ). get_or (set table n count) k 0) e ∙ get_or-set_same table n count 0 h ∙ now ∙ ap (λ (k : ℕ). min (times k (xs ++ n ∷ [])) 65535) (sym e))
-    (λ (ne : i ≡ n → ⊥).
-        get_or-set_other table n i count 0 ne ∙ t.says i (omega arith) ∙ ap (λ (k : ℕ). min k 65535) (sym (times-other i n xs (λ e. ne (sym e)))))
-    (cases_eq i n);
+      let same : length (set table n count) ≡ length table = length-set table n count in
+      ⊎_elim
+      (λ (e : i ≡ n).
+      let old = t.says n h in
+      let more = times-same n xs in
+      let now : count ≡ min (times n (xs ++ n ∷ [])) 65535 = omega arith in
+      ap (λ (k : ℕ). get_or (set table n count) k 0) e ∙ get_or-set_same table n count 0 h ∙ now ∙ ap (λ (k : ℕ). min (times k (xs ++ n ∷ [])) 65535) (sym e))
+      (λ (ne : i ≡ n → ⊥).
+      get_or-set_other table n i count 0 ne ∙ t.says i (omega arith) ∙ ap (λ (k : ℕ). min k 65535) (sym (times-other i n xs (λ e. ne (sym e)))))
+      (cases_eq i n);
 }
 
 pub tallies_fresh : (n : ℕ) → Tallies (replicate n 0) []
 tallies_fresh n = record {
   says = λ i l.
-    let zeros : List ℕ = replicate n 0 in
-    let e : length zeros ≡ n = length-replicate n 0 in
-    get_or-replicate n i 0 0 (omega arith);
+      let zeros : List ℕ = replicate n 0 in
+      let e : length zeros ≡ n = length-replicate n 0 in
+      get_or-replicate n i 0 0 (omega arith);
 }

@@ -29,8 +29,8 @@ up_node disk i good live =
     let h = good i live in
     ⊎_elim
     (λ (l : 1 < length slots).
-        dotdot_number (λ n. is_node disk n ≡ true) (get_or slots 1 None) h.second
-        (All-at (λ n. is_node disk n ≡ true) slot_number slots 1 (get_or slots 1 None) l (get_or_default slots 1 None (get_or slots 1 None) l) h.nodes))
+    dotdot_number (λ n. is_node disk n ≡ true) (get_or slots 1 None) h.second
+    (All-at (λ n. is_node disk n ≡ true) slot_number slots 1 (get_or slots 1 None) l (get_or_default slots 1 None (get_or slots 1 None) l) h.nodes))
     (λ (l : length slots ≤ 1). absurd (subst IsDotDot (get_or_past slots 1 None l) h.second))
     (cases_lt 1 (length slots))
 
@@ -65,11 +65,12 @@ pub unnamed_no_tree : (disk : List (List ℕ)) (ups further proper : List ℕ) �
     → (((i : ℕ) → 2 ≤ i → i < length ups → get_or ups i 0 ≢ 0 → (get_or further i 0 ≡ 1) × (get_or proper i 0 ≡ 1)) → ⊥) → IsOneTree disk → ⊥
 unnamed_no_tree disk ups further proper t good bad one =
     bad (λ i two l ne.
-        let live = up_live disk i (λ e. ne (t.up_table.says i ∙ e)) in
-        let fl = t.further_length in
-        let pl = t.proper_length in
-        (tallied further (gathered (further_in disk) (last disk)) i 1 t.further_table (omega arith) (omega arith) (one.named i live (λ e. omega arith)),
-        tallied proper (gathered (proper_in disk) (last disk)) i 1 t.proper_table (omega arith) (omega arith) (one.proper i live (λ e. omega arith))))
+    let live = up_live disk i (λ e. ne (t.up_table.says i ∙ e)) in
+    let fl = t.further_length in
+    let pl = t.proper_length in (
+      tallied further (gathered (further_in disk) (last disk)) i 1 t.further_table (omega arith) (omega arith) (one.named i live (λ e. omega arith)),
+      tallied proper (gathered (proper_in disk) (last disk)) i 1 t.proper_table (omega arith) (omega arith) (one.proper i live (λ e. omega arith)),
+    ))
 
 reaches_same : (f g : ℕ → ℕ) (i : ℕ) → ((n : ℕ) → f n ≡ g n) → Reaches f i → Reaches g i
 reaches_same f g i same r = record { steps = (r.steps.0, sym (climb-same f g r.steps.0 i same) ∙ r.steps.1) }
@@ -87,19 +88,19 @@ tree_told disk ups further proper true t good two root unnamed named says =
       root = sym (t.up_table.says 1) ∙ root;
       root_unnamed = counted further (gathered (further_in disk) (last disk)) 1 0 t.further_table (omega arith) (omega arith) unnamed;
       named = λ i live ne.
-        let is = directory_is disk i live in
-        let low = is.low in
-        let bound = is.bound in
-        let at = named i (at_least_two i low ne) (omega arith) (λ e. live_up disk i good live (sym (t.up_table.says i) ∙ e)) in
-        counted further (gathered (further_in disk) (last disk)) i 1 t.further_table (omega arith) (omega arith) at.0;
+          let is = directory_is disk i live in
+          let low = is.low in
+          let bound = is.bound in
+          let at = named i (at_least_two i low ne) (omega arith) (λ e. live_up disk i good live (sym (t.up_table.says i) ∙ e)) in
+          counted further (gathered (further_in disk) (last disk)) i 1 t.further_table (omega arith) (omega arith) at.0;
       proper = λ i live ne.
-        let is = directory_is disk i live in
-        let low = is.low in
-        let bound = is.bound in
-        let at = named i (at_least_two i low ne) (omega arith) (λ e. live_up disk i good live (sym (t.up_table.says i) ∙ e)) in
-        counted proper (gathered (proper_in disk) (last disk)) i 1 t.proper_table (omega arith) (omega arith) at.1;
+          let is = directory_is disk i live in
+          let low = is.low in
+          let bound = is.bound in
+          let at = named i (at_least_two i low ne) (omega arith) (λ e. live_up disk i good live (sym (t.up_table.says i) ∙ e)) in
+          counted proper (gathered (proper_in disk) (last disk)) i 1 t.proper_table (omega arith) (omega arith) at.1;
       reaches = λ i live.
-        reaches_same (λ n. get_or ups n 0) (up disk) i t.up_table.says (says i (λ e. live_up disk i good live (sym (t.up_table.says i) ∙ e)));
+          reaches_same (λ n. get_or ups n 0) (up disk) i t.up_table.says (says i (λ e. live_up disk i good live (sym (t.up_table.says i) ∙ e)));
     }
   where
     at_least_two : (i : ℕ) → 1 ≤ i → i ≢ 1 → 2 ≤ i

@@ -6,6 +6,7 @@ use Rattle.fs_layout.specs.declared.entry.Dirent.{Dirent}
 use Rattle.fs_layout.specs.declared.entry.Dirent.TheVariants.{Free, Used}
 use Rattle.fs_layout.specs.Bytes.{u32_at}
 use Rattle.fs_layout.specs.Bits.{bit_of}
+use Rattle.fs_layout.specs.Widths.{block_len, dirent_len, inodes_per_block, log_head_len, magic, super_block, super_magic_at}
 use Rattle.fs_layout.specs.Recovered.{block_at, sizes_of, log_count, logged, recovered}
 use Rattle.image_tree.specs.Lists.{IsOnce, gathered}
 use Rattle.image_tree.specs.Inodes.{inode_of, last, is_directory, is_live, is_node, is_live_directory, numbers_of, numbers_by, named_by, block_number}
@@ -20,17 +21,17 @@ pub record IsGoodSuper (s : Super) : Type 0 where
   pub log : s.logstart + s.nlog ≤ s.inodestart
   pub few_inodes : 2 ≤ s.ninodes
   pub many_inodes : s.ninodes ≤ 65535
-  pub inodes : s.inodestart + (s.ninodes + 15) / 16 ≤ s.bmapstart
+  pub inodes : s.inodestart + (s.ninodes + (inodes_per_block - 1)) / inodes_per_block ≤ s.bmapstart
   pub bitmap : s.bmapstart + 1 ≤ s.size
 
 abbrev pub HasSuper : List (List ℕ) → Type 0
-HasSuper disk = (u32_at (block_at disk 1) 0 ≡ 0x10203040) × IsGoodSuper (sizes_of disk)
+HasSuper disk = (u32_at (block_at disk super_block) super_magic_at ≡ magic) × IsGoodSuper (sizes_of disk)
 
 -- ---- 53: the log's head
 
 pub record HasGoodLog (disk : List (List ℕ)) : Type 0 where
   pub count : log_count disk ≤ (sizes_of disk).nlog - 1
-  pub room : log_count disk ≤ 255
+  pub room : log_count disk ≤ log_head_len
   pub within : All (λ b. ((sizes_of disk).inodestart ≤ b) × (b < (sizes_of disk).size)) (logged disk)
   pub once : IsOnce (logged disk)
 
@@ -75,16 +76,16 @@ pub record HasMarks (disk : List (List ℕ)) : Type 0 where
 
 -- the greatest size of a node: 268 blocks
 abbrev pub largest_size : ℕ
-largest_size = 274432
+largest_size = 268 * block_len
 
 pub record IsFittingSize (d : Dinode) : Type 0 where
   pub limit : d.size ≤ largest_size
   -- a live directory has whole slots, and its first two
-  pub slots : is_directory d ≡ true → is_live d ≡ true → (32 ≤ d.size) × (d.size % 16 ≡ 0)
+  pub slots : is_directory d ≡ true → is_live d ≡ true → (2 * dirent_len ≤ d.size) × (d.size % dirent_len ≡ 0)
 
 pub record IsGoodSize (disk : List (List ℕ)) (d : Dinode) : Type 0 where
   pub fits : IsFittingSize d
-  pub named : (k : ℕ) → 1024 * k < d.size → block_number (numbers_of disk d) k ≢ 0
+  pub named : (k : ℕ) → block_len * k < d.size → block_number (numbers_of disk d) k ≢ 0
 
 abbrev pub HasGoodSizes : List (List ℕ) → Type 0
 HasGoodSizes disk = (i : ℕ) → is_node disk i ≡ true → IsGoodSize disk (inode_of disk i)

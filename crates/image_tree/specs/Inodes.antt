@@ -2,13 +2,14 @@
 use Rattle.std.specs.Prelude.{ℕ, zero, suc, ◌+◌, ◌-◌, ◌/◌, ◌%◌, ◌==◌, nat_lt, ◌&&◌, not, ℤ, pos, negsuc, Bool, false, if◌then◌else◌, List, [], ◌∷◌, ◌++◌, take, filter, slice_index, Option}
 use Rattle.fs_layout.specs.declared.inode.Dinode.{Dinode}
 use Rattle.fs_layout.specs.declared.entry.Dirent.{Dirent}
-use Rattle.fs_layout.specs.Bytes.{u32s_at}
+use Rattle.fs_layout.specs.Indirect.{numbers_in}
+use Rattle.fs_layout.specs.Widths.{block_len, inodes_per_block, dirents_per_block, dirent_len}
 use Rattle.fs_layout.specs.Inode.{dinode_at}
 use Rattle.fs_layout.specs.Entry.{dirent_at}
 use Rattle.fs_layout.specs.Recovered.{recovered, sizes_of}
 
 unfoldable pub inode_of : List (List ℕ) → ℕ → Dinode
-inode_of disk i = dinode_at (i % 16) (recovered disk ((sizes_of disk).inodestart + i / 16))
+inode_of disk i = dinode_at (i % inodes_per_block) (recovered disk ((sizes_of disk).inodestart + i / inodes_per_block))
 
 -- the number of the last inode
 abbrev pub last : List (List ℕ) → ℕ
@@ -43,17 +44,21 @@ is_live_directory disk i = (nat_lt 0 i && nat_lt i (sizes_of disk).ninodes) && (
 
 -- ---- the blocks that it names
 
+-- how many block numbers stand in the inode itself; that of the indirect block comes behind them
+abbrev pub direct : ℕ
+direct = 12
+
 -- the numbers in its indirect block, if there is one
 abbrev pub indirect_numbers : List (List ℕ) → Dinode → List ℕ
-indirect_numbers disk d = if slice_index d.addrs 12 == 0 then [] else u32s_at 256 (recovered disk (slice_index d.addrs 12)) 0
+indirect_numbers disk d = if slice_index d.addrs direct == 0 then [] else numbers_in (recovered disk (slice_index d.addrs direct))
 
 -- the numbers in an inode, and then those in its indirect block
 unfoldable pub numbers_of : List (List ℕ) → Dinode → List ℕ
 numbers_of disk d = d.addrs ++ indirect_numbers disk d
 
--- the number of its block k, behind the twelfth one place further, since the indirect block's own number stands between
+-- the number of its block k: behind the direct ones a place further, since the indirect block's own number stands between
 abbrev pub block_number : List ℕ → ℕ → ℕ
-block_number numbers k = slice_index numbers (if nat_lt k 12 then k else k + 1)
+block_number numbers k = slice_index numbers (if nat_lt k direct then k else k + 1)
 
 -- block k of its content
 unfoldable pub content_block : List (List ℕ) → Dinode → ℕ → List ℕ
@@ -75,7 +80,7 @@ named_by disk i = filter is_block (numbers_by disk i)
 
 -- how many blocks hold so many bytes
 abbrev pub blocks_for : ℕ → ℕ
-blocks_for size = (size + 1023) / 1024
+blocks_for size = (size + (block_len - 1)) / block_len
 
 -- the first n blocks of its content, one after the other
 unfoldable pub front_blocks : List (List ℕ) → Dinode → ℕ → List ℕ
@@ -88,7 +93,7 @@ content_of disk d = take d.size (front_blocks disk d (blocks_for d.size))
 
 -- slot s of a directory: None where its bytes are no entry
 unfoldable pub slot_at : List (List ℕ) → Dinode → ℕ → Option Dirent
-slot_at disk d s = dirent_at (s % 64) (content_block disk d (s / 64))
+slot_at disk d s = dirent_at (s % dirents_per_block) (content_block disk d (s / dirents_per_block))
 
 unfoldable pub first_slots : List (List ℕ) → Dinode → ℕ → List (Option Dirent)
 first_slots disk d zero = []
@@ -96,4 +101,4 @@ first_slots disk d (suc n) = first_slots disk d n ++ slot_at disk d n ∷ []
 
 -- the slots of a directory
 abbrev pub slots_of : List (List ℕ) → Dinode → List (Option Dirent)
-slots_of disk d = first_slots disk d (d.size / 16)
+slots_of disk d = first_slots disk d (d.size / dirent_len)

@@ -6,6 +6,7 @@ ghost use Rattle.image_tree.specs.Inodes.{inode_of};
 ghost use Rattle.image_tree.specs.Layout.{IsLayout};
 
 use block_device::{Device, Fault};
+use fs_layout::widths::{BLOCK_LEN, Block, INODES_PER_BLOCK};
 use fs_layout::{Dinode, LogHead, Super, read_dinode};
 
 /// The superblock and the head of the log.
@@ -33,12 +34,7 @@ fn place_in(logstart: u32, blocks: &[u32], b: u32) -> u32
 }
 
 /// Reads a block as recovery would leave it.
-pub fn load<D: Device>(
-    device: &mut D,
-    layout: &Layout,
-    b: u32,
-    to: &mut [u8; 1024],
-) -> Result<(), Fault>
+pub fn load<D: Device>(device: &mut D, layout: &Layout, b: u32, to: &mut Block) -> Result<(), Fault>
     requires layout { IsLayout (D.contents device.old) layout.now }
     requires bound { b < length (D.contents device.old) }
     ensures read { OnOk result (to.new ≡ recovered (D.contents device.old) b) }
@@ -57,7 +53,12 @@ pub fn load_inode<D: Device>(device: &mut D, layout: &Layout, i: u32) -> Result<
     ensures contents { D.contents device.new ≡ D.contents device.old }
     ensures faults { D.failures device.new ≡ faults_after result (D.failures device.old) }
 {
-    let mut block = [0; 1024];
-    load(device, layout, layout.sizes.inodestart + i / 16, &mut block)?;
-    Ok(read_dinode(&block, (i % 16) as usize))
+    let mut block = [0; BLOCK_LEN];
+    load(
+        device,
+        layout,
+        layout.sizes.inodestart + i / INODES_PER_BLOCK as u32,
+        &mut block,
+    )?;
+    Ok(read_dinode(&block, i as usize % INODES_PER_BLOCK))
 }

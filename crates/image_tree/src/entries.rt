@@ -22,6 +22,7 @@ use std::alloc::{AllocError, Global};
 
 /// The name of a directory in itself, and that of its parent.
 const DOT: [u8; 1] = *b".";
+
 const DOTDOT: [u8; 2] = *b"..";
 
 /// The number in a slot, if it is used.

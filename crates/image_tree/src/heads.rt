@@ -9,19 +9,24 @@ ghost use Rattle.image_tree.specs.Lists.{IsOnce};
 
 use crate::disk::Layout;
 use crate::fault::{Damage, MountFault};
+use crate::limits::{
+    FEWEST_INODES, FIRST_LOG_BLOCK, MOST_BLOCKS, MOST_INODES, SHORTEST_LOG, SUPER_BLOCK,
+};
 use block_device::Device;
+use fs_layout::widths::{BLOCK_LEN, INODES_PER_BLOCK};
 use fs_layout::{LogHead, Super, read_log_head, read_super};
 
 fn is_good(s: &Super) -> bool
     ensures { MatchBool result (IsGoodSuper s.now) (¬ IsGoodSuper s.now) }
 {
-    s.size <= 8191
-        && s.ninodes >= 2
-        && s.ninodes <= 65_535
-        && s.logstart >= 2
-        && s.nlog >= 11
+    s.size <= MOST_BLOCKS
+        && s.ninodes >= FEWEST_INODES
+        && s.ninodes <= MOST_INODES
+        && s.logstart >= FIRST_LOG_BLOCK
+        && s.nlog >= SHORTEST_LOG
         && u64::from(s.logstart) + u64::from(s.nlog) <= u64::from(s.inodestart)
-        && u64::from(s.inodestart) + (u64::from(s.ninodes) + 15) / 16 <= u64::from(s.bmapstart)
+        && u64::from(s.inodestart) + u64::from(s.ninodes).div_ceil(INODES_PER_BLOCK as u64)
+            <= u64::from(s.bmapstart)
         && s.bmapstart < s.size
 }
 
@@ -31,8 +36,8 @@ fn find_super<D: Device>(device: &mut D) -> Result<Super, MountFault>
     ensures contents { D.contents device.new ≡ D.contents device.old }
     ensures faults { D.failures device.new ≡ faults_with result (D.failures device.old) }
 {
-    let mut block = [0; 1024];
-    device.read(1, &mut block)?;
+    let mut block = [0; BLOCK_LEN];
+    device.read(SUPER_BLOCK, &mut block)?;
     let Some(sizes) = read_super(&block) else {
         return Err(MountFault::Damaged(Damage::BadSuper));
     };
@@ -72,7 +77,7 @@ fn find_log<D: Device>(device: &mut D, sizes: &Super) -> Result<LogHead, MountFa
     ensures contents { D.contents device.new ≡ D.contents device.old }
     ensures faults { D.failures device.new ≡ faults_with result (D.failures device.old) }
 {
-    let mut block = [0; 1024];
+    let mut block = [0; BLOCK_LEN];
     device.read(sizes.logstart, &mut block)?;
     let Some(head) = read_log_head(&block) else {
         return Err(MountFault::Damaged(Damage::BadLog));
@@ -97,7 +102,7 @@ pub fn find_layout<D: Device>(device: &mut D) -> Result<Layout, MountFault>
     ensures faults { D.failures device.new ≡ faults_with result (D.failures device.old) }
 {
     let blocks = device.blocks();
-    if blocks < 2 {
+    if blocks <= SUPER_BLOCK {
         return Err(MountFault::Damaged(Damage::TooShort));
     }
     let sizes = find_super(device)?;

@@ -2,6 +2,7 @@
 ghost use Rattle.std.specs.Prelude.{◌≡◌, ◌<◌, ◌&&◌};
 ghost use Rattle.image_tree.specs.Inodes.{is_directory, is_free, is_live};
 
+use crate::limits::{KIND_DIRECTORY, KIND_FREE};
 use fs_layout::Dinode;
 
 pub fn is_free(inode: &Dinode) -> bool
@@ -28,9 +29,3 @@ pub fn is_live_directory(inode: &Dinode) -> bool
 {
     is_directory(inode) && is_live(inode)
 }
-
-/// The types of inodes.
-pub const KIND_FREE: i16 = 0;
-pub const KIND_DIRECTORY: i16 = 1;
-pub const KIND_FILE: i16 = 2;
-pub const KIND_DEVICE: i16 = 3;

@@ -9,6 +9,7 @@ mod examination;
 mod fault;
 mod heads;
 mod inodes;
+mod limits;
 mod links;
 mod marks;
 mod names;

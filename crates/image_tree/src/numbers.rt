@@ -12,13 +12,13 @@ ghost use Rattle.image_tree.specs.Lists.{IsOnce};
 
 use crate::disk::{Layout, load, load_inode};
 use crate::fault::MountFault;
+use crate::inodes::is_free;
+use crate::limits::{DIRECT, NUMBERS};
 use arrayvec::ArrayVec;
 use block_device::{Device, Fault};
+use fs_layout::widths::BLOCK_LEN;
 use fs_layout::{Dinode, Super, read_numbers};
 use std::alloc::Global;
-
-/// How many numbers an inode can have: 13 and those of its indirect block.
-const NUMBERS: usize = 269;
 
 fn is_good(sizes: &Super, b: u32) -> bool
     ensures { MatchBool result (b ≢ 0 → IsData sizes.now b) (¬ (b ≢ 0 → IsData sizes.now b)) }
@@ -52,11 +52,11 @@ pub fn load_numbers<D: Device>(
 {
     let mut numbers = ArrayVec::new();
     append(&mut numbers, &inode.addrs);
-    let indirect = inode.addrs[12];
+    let indirect = inode.addrs[DIRECT];
     if indirect == 0 {
         return Ok(numbers);
     }
-    let mut block = [0; 1024];
+    let mut block = [0; BLOCK_LEN];
     load(device, layout, indirect, &mut block)?;
     append(&mut numbers, &read_numbers(&block));
     Ok(numbers)
@@ -80,7 +80,7 @@ fn has_good<D: Device>(device: &mut D, layout: &Layout, i: u32) -> Result<bool, 
     ensures faults { D.failures device.new ≡ faults_after result (D.failures device.old) }
 {
     let inode = load_inode(device, layout, i)?;
-    if inode.kind == 0 {
+    if is_free(&inode) {
         return Ok(true);
     }
     if !are_good(&layout.sizes, &inode.addrs) {
@@ -122,7 +122,7 @@ pub fn numbers_at<D: Device>(
     ensures faults { D.failures device.new ≡ faults_after result (D.failures device.old) }
 {
     let inode = load_inode(device, layout, i)?;
-    if inode.kind == 0 {
+    if is_free(&inode) {
         return Ok(ArrayVec::new());
     }
     let numbers = load_numbers(device, layout, &inode)?;

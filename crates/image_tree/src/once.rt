@@ -13,6 +13,7 @@ use crate::disk::Layout;
 use crate::fault::MountFault;
 use crate::numbers::numbers_at;
 use block_device::{Device, Fault};
+use fs_layout::widths::BITS_PER_BLOCK;
 use std::alloc::Global;
 
 fn mark_all(seen: &mut [bool], numbers: &[u32]) -> bool
@@ -61,7 +62,7 @@ pub fn names_once<D: Device>(
     ensures contents { D.contents device.new ≡ D.contents device.old }
     ensures faults { D.failures device.new ≡ faults_with result (D.failures device.old) }
 {
-    let mut seen = vec![in alloc; false; 8192]?;
+    let mut seen = vec![in alloc; false; BITS_PER_BLOCK]?;
     let once = has_no_repeat(device, layout, &mut seen)?;
     Ok(once)
 }

@@ -5,12 +5,13 @@ ghost use Rattle.image_tree.specs.Links.{Reaches};
 ghost use Rattle.image_tree.specs.Checks.{HasGoodSlots, IsOneTree};
 ghost use Rattle.image_tree.specs.Marks.{IsLinks};
 
+use crate::limits;
 use crate::links::Links;
 use crate::tallies::up_of;
 use std::alloc::{AllocError, Global};
 
 /// The number of the root.
-const ROOT: u16 = 1;
+const ROOT: u16 = limits::ROOT as u16;
 
 /// As many doublings of one step as reach farther than there are inodes.
 const DOUBLINGS: u32 = 16;

@@ -8,16 +8,11 @@ ghost use Rattle.image_tree.specs.Layout.{IsLayout};
 
 use crate::disk::{Layout, load_inode};
 use crate::inodes::{is_free, is_live_directory};
+use crate::limits::{DIRECT, LARGEST_SIZE};
 use crate::numbers::load_numbers;
 use block_device::{Device, Fault};
 use fs_layout::Dinode;
 use fs_layout::widths::{BLOCK_LEN, DIRENT_LEN};
-
-/// The greatest size of a node, in bytes: that of 268 blocks.
-pub const LARGEST_SIZE: u32 = 274_432;
-
-/// How many block numbers stand in the inode itself.
-const DIRECT: usize = 12;
 
 /// The number of block k among the numbers of an inode: 0 where there is none.
 pub fn block_number(numbers: &[u32], k: usize) -> u32
@@ -25,7 +20,11 @@ pub fn block_number(numbers: &[u32], k: usize) -> u32
     ensures { result ≡ block_number numbers.now k }
 {
     let place = if k < DIRECT { k } else { k + 1 };
-    if place < numbers.len() { numbers[place] } else { 0 }
+    if place < numbers.len() {
+        numbers[place]
+    } else {
+        0
+    }
 }
 
 /// Whether each block inside the size is there.

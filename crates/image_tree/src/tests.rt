@@ -30,7 +30,10 @@ fn with(alloc: Global, blocks: usize, changes: &[Change]) -> Result<Vec<u8>, All
 
 // 2000 blocks, 200 inodes, a log of 31 blocks, and a root without names in block 47.
 const FRESH: [Change; 5] = [
-    (1024, b"\x40\x30\x20\x10\xd0\x07\0\0\xa1\x07\0\0\xc8\0\0\0\x1f\0\0\0\x02\0\0\0\x21\0\0\0\x2e\0\0\0"),
+    (
+        1024,
+        b"\x40\x30\x20\x10\xd0\x07\0\0\xa1\x07\0\0\xc8\0\0\0\x1f\0\0\0\x02\0\0\0\x21\0\0\0\x2e\0\0\0",
+    ),
     (33856, b"\x01\0\0\0\0\0\x01\0\0\x04\0\0\x2f\0\0\0"),
     (47104, b"\xff\xff\xff\xff\xff\xff"),
     (48128, b"\x01\0."),
@@ -39,7 +42,10 @@ const FRESH: [Change; 5] = [
 
 // 40 blocks, 16 inodes, a log of 30 blocks, and a root without names in block 34.
 const SMALL: [Change; 5] = [
-    (1024, b"\x40\x30\x20\x10\x28\0\0\0\x06\0\0\0\x10\0\0\0\x1e\0\0\0\x02\0\0\0\x20\0\0\0\x21\0\0\0"),
+    (
+        1024,
+        b"\x40\x30\x20\x10\x28\0\0\0\x06\0\0\0\x10\0\0\0\x1e\0\0\0\x02\0\0\0\x20\0\0\0\x21\0\0\0",
+    ),
     (32832, b"\x01\0\0\0\0\0\x01\0\0\x04\0\0\x22\0\0\0"),
     (33792, b"\xff\xff\xff\xff\x07"),
     (34816, b"\x01\0."),
@@ -65,10 +71,22 @@ pub(crate) fn fresh(alloc: Global, changes: &[Change]) -> Result<MemoryDisk, All
 #[test]
 fn fresh_images_are_well_formed(rt: HostRuntime) -> Result<(), Fail> {
     let mut disk = fresh(rt.alloc(), &[])?;
-    let shape = Shape { size: 2000, ninodes: 200, live: 1, orphans: 0, blocks: 1 };
+    let shape = Shape {
+        size: 2000,
+        ninodes: 200,
+        live: 1,
+        orphans: 0,
+        blocks: 1,
+    };
     assert_eq!(rt; examine(rt.alloc(), &mut disk), Ok(shape));
     let mut disk = MemoryDisk::new(with(rt.alloc(), 40, &SMALL)?);
-    let shape = Shape { size: 40, ninodes: 16, live: 1, orphans: 0, blocks: 1 };
+    let shape = Shape {
+        size: 40,
+        ninodes: 16,
+        live: 1,
+        orphans: 0,
+        blocks: 1,
+    };
     assert_eq!(rt; examine(rt.alloc(), &mut disk), Ok(shape));
     Ok(())
 }
@@ -112,12 +130,21 @@ fn changed_bytes_are_damage(rt: HostRuntime) -> Result<(), Fail> {
 // "/f" and "/d/g" are inode 3 with 12 blocks, an indirect block and 5 bytes behind it, "/t" is the device 4, and inode 5 is
 // a file without a name.
 const RICH: [Change; 19] = [
-    (1024, b"\x40\x30\x20\x10\x40\0\0\0\x1e\0\0\0\x10\0\0\0\x1e\0\0\0\x02\0\0\0\x20\0\0\0\x21\0\0\0"),
+    (
+        1024,
+        b"\x40\x30\x20\x10\x40\0\0\0\x1e\0\0\0\x10\0\0\0\x1e\0\0\0\x02\0\0\0\x20\0\0\0\x21\0\0\0",
+    ),
     (2048, b"\x01\0\0\0\x20\0\0\0"),
     (3136, b"\x01\0\0\0\0\0\x02\0\x50\0\0\0\x22\0\0\0"),
     (3200, b"\x01\0\0\0\0\0\x01\0\x40\0\0\0\x23\0\0\0"),
-    (3264, b"\x02\0\0\0\0\0\x02\0\x05\x30\0\0\x24\0\0\0\x25\0\0\0\x26\0\0\0\x27\0\0\0\x28\0\0\0\x29\0\0\0"),
-    (3300, b"\x2a\0\0\0\x2b\0\0\0\x2c\0\0\0\x2d\0\0\0\x2e\0\0\0\x2f\0\0\0\x30\0\0\0"),
+    (
+        3264,
+        b"\x02\0\0\0\0\0\x02\0\x05\x30\0\0\x24\0\0\0\x25\0\0\0\x26\0\0\0\x27\0\0\0\x28\0\0\0\x29\0\0\0",
+    ),
+    (
+        3300,
+        b"\x2a\0\0\0\x2b\0\0\0\x2c\0\0\0\x2d\0\0\0\x2e\0\0\0\x2f\0\0\0\x30\0\0\0",
+    ),
     (3328, b"\x03\0\x01\0\x02\0\x01\0"),
     (3392, b"\x02\0\0\0\0\0\0\0\x01\0\0\0\x32\0\0\0"),
     (33792, b"\xff\xff\xff\xff\xff\xff\x07"),
@@ -136,14 +163,26 @@ const RICH: [Change; 19] = [
 #[test]
 fn shapes_count_nodes_and_blocks(rt: HostRuntime) -> Result<(), Fail> {
     let mut disk = MemoryDisk::new(with(rt.alloc(), 64, &RICH)?);
-    let shape = Shape { size: 64, ninodes: 16, live: 4, orphans: 1, blocks: 17 };
+    let shape = Shape {
+        size: 64,
+        ninodes: 16,
+        live: 4,
+        orphans: 1,
+        blocks: 17,
+    };
     assert_eq!(rt; examine(rt.alloc(), &mut disk), Ok(shape));
     let orphan: [Change; 2] = [
         (33920, b"\x02\0\0\0\0\0\0\0\x01\0\0\0\x30"),
         (47110, b"\x01"),
     ];
     let mut disk = fresh(rt.alloc(), &orphan)?;
-    let shape = Shape { size: 2000, ninodes: 200, live: 1, orphans: 1, blocks: 2 };
+    let shape = Shape {
+        size: 2000,
+        ninodes: 200,
+        live: 1,
+        orphans: 1,
+        blocks: 2,
+    };
     assert_eq!(rt; examine(rt.alloc(), &mut disk), Ok(shape));
     Ok(())
 }
@@ -155,14 +194,24 @@ fn whole_trees_are_judged(rt: HostRuntime) -> Result<(), Fail> {
         (33920, b"\x01\0\0\0\0\0\x02\0\x30\0\0\0\x30"),
         (33984, b"\x01\0\0\0\0\0\x02\0\x30\0\0\0\x31"),
         (47110, b"\x03"),
-        (49152, b"\x02\0.\0\0\0\0\0\0\0\0\0\0\0\0\0\x03\0..\0\0\0\0\0\0\0\0\0\0\0\0\x03\0b"),
+        (
+            49152,
+            b"\x02\0.\0\0\0\0\0\0\0\0\0\0\0\0\0\x03\0..\0\0\0\0\0\0\0\0\0\0\0\0\x03\0b",
+        ),
     ];
     let mut image = with(rt.alloc(), 2000, &FRESH)?;
     for change in cycle {
         put(&mut image, change.0, change.1);
     }
-    put(&mut image, 50176, b"\x03\0.\0\0\0\0\0\0\0\0\0\0\0\0\0\x02\0..\0\0\0\0\0\0\0\0\0\0\0\0\x02\0a");
-    assert_eq!(rt; answer(&examine(rt.alloc(), &mut MemoryDisk::new(image))), 60);
+    put(
+        &mut image,
+        50176,
+        b"\x03\0.\0\0\0\0\0\0\0\0\0\0\0\0\0\x02\0..\0\0\0\0\0\0\0\0\0\0\0\0\x02\0a",
+    );
+    assert_eq!(rt;
+        answer(&examine(rt.alloc(), &mut MemoryDisk::new(image))),
+        60
+    );
     // "/a" and "/b" are files with the one block 48.
     let shared: [Change; 4] = [
         (33920, b"\x02\0\0\0\0\0\x01\0\x01\0\0\0\x30"),
@@ -186,7 +235,10 @@ fn whole_trees_are_judged(rt: HostRuntime) -> Result<(), Fail> {
         for change in changes {
             put(&mut image, change.0, change.1);
         }
-        assert_eq!(rt; answer(&examine(rt.alloc(), &mut MemoryDisk::new(image))), want);
+        assert_eq!(rt;
+            answer(&examine(rt.alloc(), &mut MemoryDisk::new(image))),
+            want
+        );
     }
     Ok(())
 }
@@ -197,7 +249,11 @@ fn cut_images_are_too_short(rt: HostRuntime) -> Result<(), Fail> {
     image.truncate(1500);
     for blocks in 0..2u64 {
         let mut disk = MemoryDisk::new(image);
-        assert_eq!(rt; answer(&examine(rt.alloc(), &mut disk)), 51, "with {blocks} blocks");
+        assert_eq!(rt;
+            answer(&examine(rt.alloc(), &mut disk)),
+            51,
+            "with {blocks} blocks"
+        );
         image = disk.into_bytes();
         image.truncate(1024);
     }
@@ -233,12 +289,20 @@ fn each_call_of_the_device_can_fail(rt: HostRuntime) -> Result<(), Fail> {
 
 // How often each answer comes, from 51 on; 0 comes first.
 fn tally(counts: &mut [u32; 13], number: u8) {
-    let place = if number < 51 || 62 < number { 0 } else { number as usize - 50 };
+    let place = if number < 51 || 62 < number {
+        0
+    } else {
+        number as usize - 50
+    };
     counts[place] = counts[place].saturating_add(1);
 }
 
-fn turned(alloc: Global, image: Vec<u8>, blocks: &[usize], by: u8) -> Result<[u32; 13], AllocError>
-{
+fn turned(
+    alloc: Global,
+    image: Vec<u8>,
+    blocks: &[usize],
+    by: u8,
+) -> Result<[u32; 13], AllocError> {
     let mut counts = [0; 13];
     let mut image = image;
     for block in blocks {
@@ -264,12 +328,17 @@ fn turn(image: &mut [u8], place: usize, by: u8) {
 #[test]
 fn every_turned_byte_is_judged(rt: HostRuntime) -> Result<(), Fail> {
     let image = with(rt.alloc(), 2000, &FRESH)?;
-    let blocks = [1, 33, 34, 35, 36, 37, 38, 39, 40, 41, 42, 43, 44, 45, 46, 47];
+    let blocks = [
+        1, 33, 34, 35, 36, 37, 38, 39, 40, 41, 42, 43, 44, 45, 46, 47,
+    ];
     let counts = turned(rt.alloc(), image, &blocks, 0xff)?;
     assert_eq!(rt; counts, [14872, 0, 25, 0, 399, 40, 0, 19, 4, 1024, 0, 1, 0]);
     let image = with(rt.alloc(), 64, &RICH)?;
     let counts = turned(rt.alloc(), image, &[1, 2, 3, 33, 34, 35, 48], 0x01)?;
-    assert_eq!(rt; counts, [5664, 2, 26, 6, 15, 1268, 15, 8, 14, 133, 3, 11, 3]);
+    assert_eq!(rt;
+        counts,
+        [5664, 2, 26, 6, 15, 1268, 15, 8, 14, 133, 3, 11, 3]
+    );
     Ok(())
 }
 
@@ -295,33 +364,49 @@ fn trees_have_what_the_image_has(rt: HostRuntime) -> Result<(), Fail> {
         assert!(rt; tree.hold(hart).is_none());
         assert!(rt; tree.descriptor(hart, 0).is_none());
     }
-    let Some(root) = tree.node(1) else { return Err(Fail::new("another node")) };
+    let Some(root) = tree.node(1) else {
+        return Err(Fail::new("another node"))
+    };
     assert_eq!(rt; root.count, 2);
-    let Kind::Directory { slots } = &root.kind else { return Err(Fail::new("another node")) };
+    let Kind::Directory { slots } = &root.kind else {
+        return Err(Fail::new("another node"))
+    };
     let slots = slots.as_slice();
     assert_eq!(rt; slots.len(), 5);
     let names: [(&[u8], u16); 5] = [(b".", 1), (b"..", 1), (b"d", 2), (b"f", 3), (b"t", 4)];
     for (s, (name, number)) in names.iter().enumerate() {
         assert!(rt; is_slot(slots.get(s), name, *number), "slot {s}");
     }
-    let Some(d) = tree.node(2) else { return Err(Fail::new("another node")) };
+    let Some(d) = tree.node(2) else {
+        return Err(Fail::new("another node"))
+    };
     assert_eq!(rt; d.count, 1);
-    let Kind::Directory { slots } = &d.kind else { return Err(Fail::new("another node")) };
+    let Kind::Directory { slots } = &d.kind else {
+        return Err(Fail::new("another node"))
+    };
     let slots = slots.as_slice();
     assert_eq!(rt; slots.len(), 4);
     assert!(rt; is_slot(slots.get(2), b"g", 3));
     assert!(rt; slots.last().is_some_and(|slot| slot.is_none()));
-    let Some(f) = tree.node(3) else { return Err(Fail::new("another node")) };
+    let Some(f) = tree.node(3) else {
+        return Err(Fail::new("another node"))
+    };
     assert_eq!(rt; f.count, 2);
-    let Kind::File { bytes } = &f.kind else { return Err(Fail::new("another node")) };
+    let Kind::File { bytes } = &f.kind else {
+        return Err(Fail::new("another node"))
+    };
     let bytes = bytes.as_slice();
     assert_eq!(rt; bytes.len(), 12_293);
     assert_eq!(rt; bytes.get(0), Some(&b'A'));
     assert_eq!(rt; bytes.get(1), Some(&0));
     assert!(rt; bytes.ends_with(b"\0hello"));
-    let Some(t) = tree.node(4) else { return Err(Fail::new("another node")) };
+    let Some(t) = tree.node(4) else {
+        return Err(Fail::new("another node"))
+    };
     assert_eq!(rt; t.count, 1);
-    let Kind::Device { major, minor, size } = &t.kind else { return Err(Fail::new("another node")) };
+    let Kind::Device { major, minor, size } = &t.kind else {
+        return Err(Fail::new("another node"))
+    };
     assert_eq!(rt; (*major, *minor, *size), (1, 2, 0));
     Ok(())
 }

@@ -6,13 +6,16 @@ ghost use Rattle.image_tree.specs.Checks.{IsGoodType, HasGoodTypes, HasRoot};
 ghost use Rattle.image_tree.specs.Layout.{IsLayout};
 
 use crate::disk::{Layout, load_inode};
+use crate::limits::{KIND_DEVICE, KIND_DIRECTORY, KIND_FREE, ROOT};
 use block_device::{Device, Fault};
 use fs_layout::Dinode;
 
 fn has_good_type(inode: &Dinode) -> bool
     ensures { MatchBool result (IsGoodType inode.now) (¬ IsGoodType inode.now) }
 {
-    0 <= inode.kind && inode.kind <= 3 && (inode.kind == 0 || 0 <= inode.nlink)
+    KIND_FREE <= inode.kind
+        && inode.kind <= KIND_DEVICE
+        && (inode.kind == KIND_FREE || 0 <= inode.nlink)
 }
 
 /// Whether each inode's type is one, and no node's count is negative.
@@ -38,6 +41,6 @@ pub fn has_root<D: Device>(device: &mut D, layout: &Layout) -> Result<bool, Faul
     ensures contents { D.contents device.new ≡ D.contents device.old }
     ensures faults { D.failures device.new ≡ faults_after result (D.failures device.old) }
 {
-    let root = load_inode(device, layout, 1)?;
-    Ok(root.kind == 1 && 0 < root.nlink)
+    let root = load_inode(device, layout, ROOT)?;
+    Ok(root.kind == KIND_DIRECTORY && 0 < root.nlink)
 }

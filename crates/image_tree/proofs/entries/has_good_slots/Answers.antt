@@ -10,9 +10,11 @@ pub loop-i-preserved : goal.loop-i-preserved
 loop-i-preserved g c =
     let disk : List (List ℕ) = g.D.Device.contents c.args.device.now in
     let Good = λ (d : List (List ℕ)) (k : ℕ). is_live_directory d k ≡ true → AreGoodSlots (is_node d) k (slots_in d k) in
-    let here : Good (g.D.Device.contents c.loop-i.device) c.loop-i.i = MatchBool-at_true _ _ c.if-not-good.false c.in_ok-good.ensures.good in
-    (c.in_ok-good.ensures.contents ∙ c.loop-i.invariant.0, c.in_ok-good.ensures.faults ∙ c.loop-i.invariant.1,
-    one_more (Good disk) c.loop-i.i c.loop-i.invariant.2 (subst (λ (d : List (List ℕ)). Good d c.loop-i.i) c.loop-i.invariant.0 here))
+    let here : Good (g.D.Device.contents c.loop-i.device) c.loop-i.i = MatchBool-at_true _ _ c.if-not-good.false c.in_ok-good.ensures.good in (
+      c.in_ok-good.ensures.contents ∙ c.loop-i.invariant.0,
+      c.in_ok-good.ensures.faults ∙ c.loop-i.invariant.1,
+      one_more (Good disk) c.loop-i.i c.loop-i.invariant.2 (subst (λ (d : List (List ℕ)). Good d c.loop-i.i) c.loop-i.invariant.0 here),
+    )
 
 pub returns-clause-good : goal.returns-clause-good
 returns-clause-good g c =

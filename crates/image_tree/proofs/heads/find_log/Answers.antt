@@ -46,10 +46,12 @@ returns-clause-judges g c =
     let n : length c.as_slice-blocks.result.now ≡ log_count disk = ap length all ∙ length-logged disk in
     let s : length c.as_slice-blocks.result.now < c.args.sizes.now.nlog = c.if-blocks-sizes.false in
     let e = c.requires.sizes in
-    let nlog : c.args.sizes.now.nlog ≡ (sizes_of disk).nlog = rw e refl in
-    (is.1, record {
-      count = omega arith;
-      room = is.0;
-      within = rw (← c.requires.sizes, ← all) c.if-not-are_between.ensures;
-      once = subst IsOnce all c.if-has_repeat.ensures;
-    })
+    let nlog : c.args.sizes.now.nlog ≡ (sizes_of disk).nlog = rw e refl in (
+      is.1,
+      record {
+        count = omega arith;
+        room = is.0;
+        within = rw (← c.requires.sizes, ← all) c.if-not-are_between.ensures;
+        once = subst IsOnce all c.if-has_repeat.ensures;
+      },
+    )

@@ -22,8 +22,8 @@ returns-clause-links g c =
       further = tallies_kept c.in_ok-further.further c.count_names.new.further (gathered (further_in disk) (last disk)) further.0 (rw same at c.in_ok-count_names.ensures.further);
       proper = tallies_kept c.in_ok-proper.proper c.count_names.new.proper (gathered (proper_in disk) (last disk)) proper.0 (rw same at c.in_ok-count_names.ensures.proper);
       children = tallies_kept c.in_ok-children.children c.count_children.new.children (gathered (parent_of disk) (last disk)) children.0
-        (children_are disk c.in_ok-ups.ups.items c.as_slice-2.result.now c.count_children.new.children c.in_ok-ups.ensures.table c.as_slice-2.ensures.value
-        c.count_children.ensures);
+          (children_are disk c.in_ok-ups.ups.items c.as_slice-2.result.now c.count_children.new.children c.in_ok-ups.ensures.table c.as_slice-2.ensures.value
+          c.count_children.ensures);
       names_length = length_kept c.in_ok-names.names c.count_names.new.names (sizes_of disk).ninodes names.0 names.1;
       further_length = length_kept c.in_ok-further.further c.count_names.new.further (sizes_of disk).ninodes further.0 further.1;
       proper_length = length_kept c.in_ok-proper.proper c.count_names.new.proper (sizes_of disk).ninodes proper.0 proper.1;

@@ -8,4 +8,4 @@ abbrev pub invariant-loop-i : goal.invariant-loop-i
 invariant-loop-i g l =
     (g.D.Device.contents l.device ≡ g.D.Device.contents l.fn.device) × (g.D.Device.failures l.device ≡ g.D.Device.failures l.fn.device)
     × ((k : ℕ) → 1 ≤ k → k < l.i
-        → All (λ b. b ≢ 0 → is_marked (g.D.Device.contents l.fn.device) b ≡ true) (numbers_by (g.D.Device.contents l.fn.device) k))
+    → All (λ b. b ≢ 0 → is_marked (g.D.Device.contents l.fn.device) b ≡ true) (numbers_by (g.D.Device.contents l.fn.device) k))

@@ -15,7 +15,7 @@ overflow_mul-key c =
     let rest : List ℕ = drop (length bytes - c.loop-k.k) bytes in
     let fits : All (λ b. b < 256) bytes = (λ k d l. subst (λ (x : ℕ). x < 256) (get_or_default bytes k 0 d l) (let f = (c.type_inv.bytes k).fits in omega arith)) in
     let room : c.loop-k.key < 256 ^ 13 =
-        key_room rest c.loop-k.key (All-drop (λ b. b < 256) (length bytes - c.loop-k.k) bytes fits) (omega (arith, length-drop (length bytes - c.loop-k.k) bytes)) c.loop-k.invariant in
+    key_room rest c.loop-k.key (All-drop (λ b. b < 256) (length bytes - c.loop-k.k) bytes fits) (omega (arith, length-drop (length bytes - c.loop-k.k) bytes)) c.loop-k.invariant in
     omega arith
 
 pub overflow_add-key : goal.overflow_add-key
@@ -24,7 +24,7 @@ overflow_add-key c =
     let rest : List ℕ = drop (length bytes - c.loop-k.k) bytes in
     let fits : All (λ b. b < 256) bytes = (λ k d l. subst (λ (x : ℕ). x < 256) (get_or_default bytes k 0 d l) (let f = (c.type_inv.bytes k).fits in omega arith)) in
     let room : c.loop-k.key < 256 ^ 13 =
-        key_room rest c.loop-k.key (All-drop (λ b. b < 256) (length bytes - c.loop-k.k) bytes fits) (omega (arith, length-drop (length bytes - c.loop-k.k) bytes)) c.loop-k.invariant in
+    key_room rest c.loop-k.key (All-drop (λ b. b < 256) (length bytes - c.loop-k.k) bytes fits) (omega (arith, length-drop (length bytes - c.loop-k.k) bytes)) c.loop-k.invariant in
     let e = c.from.ensures in
     let f = (c.type_inv.bytes (length bytes - 1 - c.loop-k.k)).fits in
     omega arith

@@ -1,22 +1,21 @@
-use Rattle.std.proofs.Common.{◌≢◌, ap, sym, subst, ℕ, rules, SFits, w16, of_z, List}
+use Rattle.std.proofs.Common.{◌≢◌, sym, subst, ℕ, List, ◌∙◌}
 use Rattle.std.specs.List.{All}
 use Rattle.image_tree.specs.Checks.{IsData}
 use Rattle.fs_layout.specs.Recovered.{sizes_of}
-use Rattle.image_tree.proofs.NumberLists.{numbers_by_free, numbers_by_used, All-addrs, All-nil, kind_zero}
+use Rattle.image_tree.proofs.NumberLists.{numbers_by_free, numbers_by_used, All-addrs, All-nil}
 use Rattle.image_tree.proofs.numbers.has_good.Goals as goal
 
-pub returns-then-inode-eq0-clause-good : goal.returns-then-inode-eq0-clause-good
-returns-then-inode-eq0-clause-good g c =
+pub returns-then-is_free-clause-good : goal.returns-then-is_free-clause-good
+returns-then-is_free-clause-good g c =
     let disk : List (List ℕ) = g.D.Device.contents c.args.device.now in
-    let f : SFits w16 c.in_ok-inode.inode.kind = search rules in
-    let e = numbers_by_free disk c.args.i c.in_ok-inode.inode c.in_ok-inode.ensures.inode (kind_zero c.in_ok-inode.inode.kind c.if-inode-eq0.true f) in
+    let e = numbers_by_free disk c.args.i c.in_ok-inode.inode c.in_ok-inode.ensures.inode (sym c.is_free.ensures ∙ c.if-is_free.true) in
     subst (All (λ b. b ≢ 0 → IsData (sizes_of disk) b)) (sym e) (All-nil _)
 
 pub returns-then-not-are_good-clause-good : goal.returns-then-not-are_good-clause-good
 returns-then-not-are_good-clause-good g c =
     λ h.
     let disk : List (List ℕ) = g.D.Device.contents c.args.device.now in
-    let e = numbers_by_used disk c.args.i c.in_ok-inode.inode c.in_ok-inode.ensures.inode (λ z. c.if-inode-eq0.false (ap (of_z w16) z)) in
+    let e = numbers_by_used disk c.args.i c.in_ok-inode.inode c.in_ok-inode.ensures.inode (sym c.is_free.ensures ∙ c.if-is_free.false) in
     let P : ℕ → Type 0 = λ b. b ≢ 0 → IsData (sizes_of disk) b in
     let front : All P c.in_ok-inode.inode.addrs = All-addrs P disk c.in_ok-inode.inode (subst (All P) e h) in
     c.if-not-are_good.ensures (rw c.requires.layout.sizes front)
@@ -24,7 +23,7 @@ returns-then-not-are_good-clause-good g c =
 pub returns-clause-good : goal.returns-clause-good
 returns-clause-good g c =
     let disk : List (List ℕ) = g.D.Device.contents c.args.device.now in
-    let e = numbers_by_used disk c.args.i c.in_ok-inode.inode c.in_ok-inode.ensures.inode (λ z. c.if-inode-eq0.false (ap (of_z w16) z)) in
+    let e = numbers_by_used disk c.args.i c.in_ok-inode.inode c.in_ok-inode.ensures.inode (sym c.is_free.ensures ∙ c.if-is_free.false) in
     let n = c.in_ok-numbers.ensures.numbers in
     let v = c.as_slice.ensures.value in
     let same = c.load_inode.ensures.contents in

@@ -1,23 +1,22 @@
-use Rattle.std.proofs.Common.{◌≢◌, ◌∙◌, ap, sym, subst, ℕ, arith, rules, SFits, w16, of_z, List}
+use Rattle.std.proofs.Common.{◌≢◌, ◌∙◌, sym, subst, ℕ, arith, List}
 use Rattle.std.specs.List.{All}
 use Rattle.image_tree.specs.Checks.{IsData}
 use Rattle.fs_layout.specs.Recovered.{sizes_of}
 use Rattle.image_tree.specs.Inodes.{numbers_by, numbers_of}
-use Rattle.image_tree.proofs.NumberLists.{numbers_by_free, numbers_by_used, kind_zero, twelfth_within, small_numbers, All-addrs}
+use Rattle.image_tree.proofs.NumberLists.{numbers_by_free, numbers_by_used, twelfth_within, small_numbers, All-addrs}
 use Rattle.image_tree.proofs.Layouts.{in_order}
 use Rattle.image_tree.proofs.numbers.numbers_at.Goals as goal
 
-pub returns-then-inode-eq0-clause-numbers : goal.returns-then-inode-eq0-clause-numbers
-returns-then-inode-eq0-clause-numbers g c =
+pub returns-then-is_free-clause-numbers : goal.returns-then-is_free-clause-numbers
+returns-then-is_free-clause-numbers g c =
     let disk : List (List ℕ) = g.D.Device.contents c.args.device.now in
-    let f : SFits w16 c.in_ok-inode.inode.kind = search rules in
-    c.new.ensures ∙ sym (numbers_by_free disk c.args.i c.in_ok-inode.inode c.in_ok-inode.ensures.inode (kind_zero c.in_ok-inode.inode.kind c.if-inode-eq0.true f))
+    c.new.ensures ∙ sym (numbers_by_free disk c.args.i c.in_ok-inode.inode c.in_ok-inode.ensures.inode (sym c.is_free.ensures ∙ c.if-is_free.true))
 
 pub load_numbers-requires-clause-bound : goal.load_numbers-requires-clause-bound
 load_numbers-requires-clause-bound g c =
     let disk : List (List ℕ) = g.D.Device.contents c.args.device.now in
     let P : ℕ → Type 0 = λ b. b ≢ 0 → IsData (sizes_of disk) b in
-    let e = numbers_by_used disk c.args.i c.in_ok-inode.inode c.in_ok-inode.ensures.inode (λ z. c.if-inode-eq0.false (ap (of_z w16) z)) in
+    let e = numbers_by_used disk c.args.i c.in_ok-inode.inode c.in_ok-inode.ensures.inode (sym c.is_free.ensures ∙ c.if-is_free.false) in
     let size = in_order disk c.args.layout.now c.requires.layout in
     let all : All P (numbers_of disk c.in_ok-inode.inode) = subst (All P) e (c.requires.good c.args.i c.requires.low (rw (← c.requires.layout.sizes) c.requires.bound)) in
     rw c.load_inode.ensures.contents (twelfth_within disk c.args.layout.now c.in_ok-inode.inode c.requires.layout (omega arith) (All-addrs P disk c.in_ok-inode.inode all))
@@ -25,7 +24,7 @@ load_numbers-requires-clause-bound g c =
 pub returns-clause-numbers : goal.returns-clause-numbers
 returns-clause-numbers g c =
     let disk : List (List ℕ) = g.D.Device.contents c.args.device.now in
-    let e = numbers_by_used disk c.args.i c.in_ok-inode.inode c.in_ok-inode.ensures.inode (λ z. c.if-inode-eq0.false (ap (of_z w16) z)) in
+    let e = numbers_by_used disk c.args.i c.in_ok-inode.inode c.in_ok-inode.ensures.inode (sym c.is_free.ensures ∙ c.if-is_free.false) in
     rw (e, ← c.load_inode.ensures.contents) c.in_ok-numbers.ensures.numbers
 
 pub returns-clause-small : goal.returns-clause-small

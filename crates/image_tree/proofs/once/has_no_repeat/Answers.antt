@@ -27,9 +27,12 @@ pub loop-i-preserved : goal.loop-i-preserved
 loop-i-preserved g c =
     let disk : List (List ℕ) = g.D.Device.contents c.args.device.now in
     let m = c.if-not-mark_all.ensures (gathered (named_by disk) (c.loop-i.i - 1)) c.loop-i.invariant.2 c.loop-i.invariant.3 in
-    let e = marked disk (g.D.Device.contents c.loop-i.device) c.loop-i.i c.as_slice.result.now c.in_ok-numbers.numbers.items (omega arith) c.as_slice.ensures.value c.in_ok-numbers.ensures.numbers c.loop-i.invariant.0 in
-    (c.in_ok-numbers.ensures.contents ∙ c.loop-i.invariant.0, c.in_ok-numbers.ensures.faults ∙ c.loop-i.invariant.1,
-    subst (Marks c.mark_all.new.seen) e m.0, subst IsOnce e m.1)
+    let e = marked disk (g.D.Device.contents c.loop-i.device) c.loop-i.i c.as_slice.result.now c.in_ok-numbers.numbers.items (omega arith) c.as_slice.ensures.value c.in_ok-numbers.ensures.numbers c.loop-i.invariant.0 in (
+      c.in_ok-numbers.ensures.contents ∙ c.loop-i.invariant.0,
+      c.in_ok-numbers.ensures.faults ∙ c.loop-i.invariant.1,
+      subst (Marks c.mark_all.new.seen) e m.0,
+      subst IsOnce e m.1,
+    )
 
 pub returns-clause-once : goal.returns-clause-once
 returns-clause-once g c =

@@ -18,6 +18,7 @@ returns-then-seen-b c =
 pub returns : goal.returns
 returns c =
     λ xs m o.
-    let e = sym (kept_other xs c.args.b c.if-b-eq0.false) in
-    (subst (Marks _) e (marks_push c.args.seen.now xs c.args.b c.requires.length c.requires.small m),
-    subst IsOnce e (push_once xs c.args.b o (false_mark c.args.seen.now xs c.args.b c.requires.small m c.if-seen-b.false)))
+    let e = sym (kept_other xs c.args.b c.if-b-eq0.false) in (
+      subst (Marks _) e (marks_push c.args.seen.now xs c.args.b c.requires.length c.requires.small m),
+      subst IsOnce e (push_once xs c.args.b o (false_mark c.args.seen.now xs c.args.b c.requires.small m c.if-seen-b.false)),
+    )
