@@ -1,6 +1,8 @@
 //! Making an image.
-ghost use Rattle.std.specs.Prelude.{◌≡◌, ◌^◌, ◌<◌, ◌≤◌, ◌++◌, length, IfOk, OnOk, MatchResult};
-ghost use Rattle.mkfs.specs.Layout.{data_start};
+ghost use Rattle.std.specs.Prelude.{◌≡◌, ◌^◌, ◌<◌, ◌≤◌, ◌++◌, ℕ, List, [], length, IfOk, OnOk, MatchResult};
+ghost use Rattle.block_device.specs.Blocks.{blocks_of};
+ghost use Rattle.fs_layout.specs.Recovered.{block_at, logged, recovered, sizes_of};
+ghost use Rattle.mkfs.specs.Layout.{data_start, super_for};
 ghost use Rattle.mkfs.specs.Image.{contents_of, data_from, front, image_of, image_with, inode_table, names_of, nodes_with, used_by};
 ghost use Rattle.mkfs.specs.Refusals.{largest_size, CanBeMade, HasGoodFiles, HasInodes, IsFirstRefusal};
 
@@ -140,3 +142,16 @@ pub fn make(
         Err(_) => Err(MakeRefused::NoMemory),
     }
 }
+
+/// What an image that can be made holds in front: as many blocks as asked for, the superblock, and
+/// an empty log, so that recovery leaves each block as it stands.
+pub fn made_front()
+    ensures size { (size ninodes : ℕ) (names contents : List (List ℕ)) → length names ≡ length contents → CanBeMade size ninodes names contents
+        → length (blocks_of (image_of size ninodes names contents)) ≡ size }
+    ensures superblock { (size ninodes : ℕ) (names contents : List (List ℕ)) → length names ≡ length contents → CanBeMade size ninodes names contents
+        → sizes_of (blocks_of (image_of size ninodes names contents)) ≡ super_for size ninodes }
+    ensures log { (size ninodes : ℕ) (names contents : List (List ℕ)) → length names ≡ length contents → CanBeMade size ninodes names contents
+        → logged (blocks_of (image_of size ninodes names contents)) ≡ [] }
+    ensures recovered { (size ninodes b : ℕ) (names contents : List (List ℕ)) → length names ≡ length contents → CanBeMade size ninodes names contents
+        → recovered (blocks_of (image_of size ninodes names contents)) b ≡ block_at (blocks_of (image_of size ninodes names contents)) b }
+{}
