@@ -1,11 +1,10 @@
 -- How long the parts of an image are.
-use Rattle.std.proofs.Common.{◌≡◌, ℕ, zero, suc, ◌+◌, ◌-◌, ◌*◌, ◌/◌, ◌<◌, ◌≤◌, ◌^◌, ◌%◌, Bool, true, false, cond, nat_lt, List, [], ◌∷◌, ◌++◌, length, take, drop, map, replicate, sum_by, ap, ◌∙◌, sym, refl, subst, ⊎_elim, arith, length-append, length-drop}
+use Rattle.std.proofs.Common.{◌≡◌, ℕ, suc, ◌+◌, ◌-◌, ◌*◌, ◌/◌, ◌<◌, ◌≤◌, ◌^◌, ◌%◌, Bool, false, cond, nat_lt, List, [], ◌∷◌, ◌++◌, length, take, drop, replicate, sum_by, ap, ◌∙◌, sym, refl, ⊎_elim, arith, length-append, length-drop}
 use Rattle.std.specs.List.{All, flat_map, range_with_len}
-use Rattle.std.proofs.lemmas.List.{length-replicate, length-take-le, length-map}
+use Rattle.std.proofs.lemmas.List.{length-replicate, length-take-le}
 use Rattle.std.proofs.lemmas.List.FromFn.{length-range_with_len}
 use Rattle.std.proofs.lemmas.List.Sums.{sum_by-cons}
 use Rattle.std.proofs.lemmas.Bool.{cases_lt, le-ltb, lt-ltb}
-use Rattle.fs_layout.specs.Bytes.{u32_bytes}
 use Rattle.fs_layout.specs.Inode.{spell_dinode}
 use Rattle.fs_layout.specs.Indirect.{spell_numbers}
 use Rattle.fs_layout.specs.Super.{spell_super, super_numbers}
@@ -68,20 +67,20 @@ length-node first content h =
     let size : ℕ = length content in
     ⊎_elim
     (λ (more : 12288 < size).
-        let numbers : List ℕ = range_with_len (first + 13) (blocks_for size - 12) in
-        let a : List ℕ = take 12288 content in
-        let b : List ℕ = spell_numbers (padded 256 numbers) in
-        let d : List ℕ = drop 12288 content in
-        let few : length numbers ≤ 256 = omega (arith, length-range_with_len (first + 13) (blocks_for size - 12)) in
-        let la = length-take-le 12288 content (omega arith) in
-        let lb : length b ≡ 1024 = omega (arith, length-u32s_bytes (padded 256 numbers), length-padded 256 numbers few) in
-        let ld = length-drop 12288 content in
-        let wa : length (whole a) ≡ 12288 = length-whole a ∙ ap (λ (n : ℕ). 1024 * blocks_for n) la in
-        let wd : length (whole d) ≡ 1024 * blocks_for (size - 12288) = length-whole d ∙ ap (λ (n : ℕ). 1024 * blocks_for n) ld in
-        let all : length (whole a ++ (b ++ whole d)) ≡ 1024 * (blocks_for size + 1) = omega (arith, length-append (whole a) (b ++ whole d), length-append b (whole d), wa, lb, wd) in
-        ap (λ (xs : List ℕ). length xs) (node_bytes-large first content more) ∙ all ∙ ap (λ (n : ℕ). 1024 * n) (sym (blocks-large size more)))
+    let numbers : List ℕ = range_with_len (first + 13) (blocks_for size - 12) in
+    let a : List ℕ = take 12288 content in
+    let b : List ℕ = spell_numbers (padded 256 numbers) in
+    let d : List ℕ = drop 12288 content in
+    let few : length numbers ≤ 256 = omega (arith, length-range_with_len (first + 13) (blocks_for size - 12)) in
+    let la = length-take-le 12288 content (omega arith) in
+    let lb : length b ≡ 1024 = omega (arith, length-u32s_bytes (padded 256 numbers), length-padded 256 numbers few) in
+    let ld = length-drop 12288 content in
+    let wa : length (whole a) ≡ 12288 = length-whole a ∙ ap (λ (n : ℕ). 1024 * blocks_for n) la in
+    let wd : length (whole d) ≡ 1024 * blocks_for (size - 12288) = length-whole d ∙ ap (λ (n : ℕ). 1024 * blocks_for n) ld in
+    let all : length (whole a ++ (b ++ whole d)) ≡ 1024 * (blocks_for size + 1) = omega (arith, length-append (whole a) (b ++ whole d), length-append b (whole d), wa, lb, wd) in
+    ap (λ (xs : List ℕ). length xs) (node_bytes-large first content more) ∙ all ∙ ap (λ (n : ℕ). 1024 * n) (sym (blocks-large size more)))
     (λ (few : size ≤ 12288).
-        ap (λ (xs : List ℕ). length xs) (node_bytes-small first content few) ∙ length-whole content ∙ ap (λ (n : ℕ). 1024 * n) (sym (blocks-small size few)))
+    ap (λ (xs : List ℕ). length xs) (node_bytes-small first content few) ∙ length-whole content ∙ ap (λ (n : ℕ). 1024 * n) (sym (blocks-small size few)))
     (cases_lt 12288 size)
 
 abbrev pub AreNodes : List Node → Type 0

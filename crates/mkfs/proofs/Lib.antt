@@ -4,5 +4,6 @@ pub mod Lengths
 pub mod Padding
 pub mod Places
 pub mod Readings
+pub mod Records
 pub mod Steps
 pub mod Wanted

@@ -1,13 +1,12 @@
 -- What stands where in an image.
-use Rattle.std.proofs.Common.{◌≡◌, ◌≢◌, ℕ, zero, suc, ◌+◌, ◌-◌, ◌*◌, ◌/◌, ◌%◌, ◌^◌, ◌<◌, ◌≤◌, min, Bool, true, false, cond, eqb, Option, Some, None, List, [], ◌∷◌, ◌++◌, length, take, drop, map, replicate, get_or, sum_by, ap, ◌∙◌, sym, refl, subst, arith, append_assoc, length-append}
-use Rattle.std.specs.List.{All, flat_map, AllByRecursion}
-use Rattle.std.proofs.lemmas.List.{take_at, drop_at, take-append-le, take-replicate, length-map}
+use Rattle.std.proofs.Common.{◌≡◌, ℕ, ◌-◌, ◌*◌, ◌<◌, ◌≤◌, Bool, true, false, cond, eqb, Some, None, List, [], ◌++◌, length, take, drop, replicate, ap, ◌∙◌, sym, refl, arith, append_assoc, length-append}
+use Rattle.std.proofs.lemmas.List.{take_at, drop_at, take-append-le, take-replicate}
 use Rattle.block_device.specs.Blocks.{blocks_of}
 use Rattle.block_device.specs.BlockLaws.{get_or-blocks_of, length-blocks_of}
 use Rattle.fs_layout.specs.declared.superblock.Super.{Super}
 use Rattle.fs_layout.specs.Bytes.{u32_at, u32s_at}
-use Rattle.fs_layout.specs.Super.{super_of, super_fields, spell_super, super_numbers, IsSuper}
-use Rattle.fs_layout.specs.Recovered.{block_at, sizes_of, logged, recovered, log_head_at}
+use Rattle.fs_layout.specs.Super.{super_fields, spell_super, IsSuper}
+use Rattle.fs_layout.specs.Recovered.{block_at, sizes_of, logged, recovered}
 use Rattle.fs_layout.proofs.Words.{super_of-spell}
 use Rattle.mkfs.specs.Layout.{data_start, super_for}
 use Rattle.mkfs.specs.Image.{Node, padded, front, inode_table, bitmap, data_from, used_by, image_with}

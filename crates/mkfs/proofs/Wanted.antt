@@ -1,11 +1,11 @@
 -- What can be made fits its image.
-use Rattle.std.proofs.Common.{◌≡◌, ℕ, zero, suc, ◌+◌, ◌-◌, ◌*◌, ◌<◌, ◌≤◌, ◌^◌, List, [], ◌∷◌, length, map, ap, ◌∙◌, sym, subst, arith}
+use Rattle.std.proofs.Common.{◌≡◌, ℕ, zero, suc, ◌+◌, ◌<◌, ◌≤◌, ◌^◌, List, length, map, ap, ◌∙◌, sym, subst, arith}
 use Rattle.std.specs.List.{All}
 use Rattle.std.proofs.lemmas.List.{length-map}
 use Rattle.std.proofs.lemmas.List.Elements.{All-map}
 use Rattle.fs_layout.specs.Name.{IsName}
 use Rattle.mkfs.specs.Layout.{node_blocks, file_blocks, data_start, root_size}
-use Rattle.mkfs.specs.Image.{Node, nodes_with, file_node, root_node, used_by, root_content}
+use Rattle.mkfs.specs.Image.{Node, nodes_with, file_node, used_by, root_content}
 use Rattle.mkfs.specs.Refusals.{CanBeMade}
 use Rattle.mkfs.proofs.Joins.{used-parts, length-root_content}
 use Rattle.mkfs.proofs.Lengths.{Fits, AreNodes}
