@@ -1,7 +1,11 @@
 //! Making an image.
-ghost use Rattle.std.specs.Prelude.{◌≡◌, ◌^◌, ◌<◌, ◌≤◌, ◌++◌, length, IfOk, OnOk, MatchResult};
-ghost use Rattle.mkfs.specs.Layout.{data_start};
-ghost use Rattle.mkfs.specs.Image.{contents_of, data_from, front, image_of, image_with, inode_table, names_of, nodes_with, used_by};
+ghost use Rattle.std.specs.Prelude.{◌≡◌, ◌^◌, ◌<◌, ◌≤◌, ◌+◌, ◌/◌, ◌%◌, ◌++◌, ℕ, List, [], length, slice_index_or, IfOk, OnOk, MatchResult};
+ghost use Rattle.block_device.specs.Blocks.{blocks_of};
+ghost use Rattle.fs_layout.specs.Inode.{dinode_at};
+ghost use Rattle.fs_layout.specs.declared.inode.Dinode.{Dinode};
+ghost use Rattle.fs_layout.specs.Recovered.{block_at, logged, recovered, sizes_of};
+ghost use Rattle.mkfs.specs.Layout.{data_start, inode_start, super_for};
+ghost use Rattle.mkfs.specs.Image.{contents_of, data_from, front, image_of, image_with, inode_table, inodes_from, names_of, nodes_with, root_content, used_by};
 ghost use Rattle.mkfs.specs.Refusals.{largest_size, CanBeMade, HasGoodFiles, HasInodes, IsFirstRefusal};
 
 use crate::appends::push_many;
@@ -140,3 +144,23 @@ pub fn make(
         Err(_) => Err(MakeRefused::NoMemory),
     }
 }
+
+/// What an image that can be made holds in front: as many blocks as asked for, the superblock, and
+/// an empty log, so that recovery leaves each block as it stands.
+pub fn made_front()
+    ensures size { (size ninodes : ℕ) (names contents : List (List ℕ)) → length names ≡ length contents → CanBeMade size ninodes names contents
+        → length (blocks_of (image_of size ninodes names contents)) ≡ size }
+    ensures superblock { (size ninodes : ℕ) (names contents : List (List ℕ)) → length names ≡ length contents → CanBeMade size ninodes names contents
+        → sizes_of (blocks_of (image_of size ninodes names contents)) ≡ super_for size ninodes }
+    ensures log { (size ninodes : ℕ) (names contents : List (List ℕ)) → length names ≡ length contents → CanBeMade size ninodes names contents
+        → logged (blocks_of (image_of size ninodes names contents)) ≡ [] }
+    ensures recovered { (size ninodes b : ℕ) (names contents : List (List ℕ)) → length names ≡ length contents → CanBeMade size ninodes names contents
+        → recovered (blocks_of (image_of size ninodes names contents)) b ≡ block_at (blocks_of (image_of size ninodes names contents)) b }
+{}
+
+/// The inodes of an image that can be made, where they stand: the first is inode 1, the root.
+pub fn made_inodes()
+    ensures { (size ninodes i : ℕ) (names contents : List (List ℕ)) (d : Dinode) → length names ≡ length contents → CanBeMade size ninodes names contents
+        → i ≤ length contents → dinode_at ((i + 1) % 16) (block_at (blocks_of (image_of size ninodes names contents)) (inode_start + (i + 1) / 16))
+        ≡ slice_index_or (inodes_from (data_start ninodes) (nodes_with (root_content names) contents)) i d }
+{}

@@ -1,5 +1,5 @@
 //! Images against bytes of disks made elsewhere, and the values at which a refusal begins.
-use crate::{MakeRefused, make};
+use crate::{INODES, MakeRefused, SIZE, make, number, options};
 use block_device::MemoryDisk;
 use std::alloc::{AllocError, Global};
 use std::test::Fail;
@@ -275,4 +275,40 @@ fn refused_names(rt: HostRuntime) -> Result<(), Fail> {
     assert!(rt; matches!(&refused, Err(MakeRefused::FileTooBig)));
     assert_eq!(rt; refused.map(|_| 0).map_err(|e| e.name()), Err("FileTooBig"));
     Ok(())
+}
+
+// The two numbers of a command line, or the status that a program ends with.
+fn read(alloc: Global, line: &str) -> Result<(u32, u32), i32> {
+    let Ok(words) = words_of(alloc, line) else {
+        return Err(-1);
+    };
+    match options(alloc, words.as_slice()) {
+        Ok(matches) => Ok((number(&matches, SIZE), number(&matches, INODES))),
+        Err(error) => Err(error.exit_code()),
+    }
+}
+
+fn words_of(alloc: Global, line: &str) -> Result<Vec<String>, AllocError> {
+    let mut words = Vec::new(alloc);
+    for word in line.split_whitespace() {
+        words.push(String::from_str(alloc, word)?)?;
+    }
+    Ok(words)
+}
+
+#[test]
+fn command_lines(rt: HostRuntime) {
+    for (line, want) in [
+        ("mkfs fs.img", Ok((2000, 200))),
+        ("mkfs fs.img --size 60 --inodes 16 a b/c", Ok((60, 16))),
+        ("mkfs --size=4294967295 fs.img a", Ok((4_294_967_295, 200))),
+        ("mkfs fs.img --size 4294967296", Err(2)),
+        ("mkfs fs.img --inodes many", Err(2)),
+        ("mkfs fs.img --inodes", Err(2)),
+        ("mkfs fs.img --blocks 3", Err(2)),
+        ("mkfs", Err(2)),
+        ("mkfs --help", Err(0)),
+    ] {
+        assert_eq!(rt; read(rt.alloc(), line), want, "of {line}");
+    }
 }

@@ -1,0 +1,119 @@
+-- How long the parts of an image are.
+use Rattle.std.proofs.Common.{◌≡◌, ℕ, suc, ◌+◌, ◌-◌, ◌*◌, ◌/◌, ◌<◌, ◌≤◌, ◌^◌, ◌%◌, Bool, false, cond, nat_lt, List, [], ◌∷◌, ◌++◌, length, take, drop, replicate, sum_by, ap, ◌∙◌, sym, refl, ⊎_elim, arith, length-append, length-drop}
+use Rattle.std.specs.List.{All, flat_map, range_with_len}
+use Rattle.std.proofs.lemmas.List.{length-replicate, length-take-le}
+use Rattle.std.proofs.lemmas.List.FromFn.{length-range_with_len}
+use Rattle.std.proofs.lemmas.List.Sums.{sum_by-cons}
+use Rattle.std.proofs.lemmas.Bool.{cases_lt, le-ltb, lt-ltb}
+use Rattle.fs_layout.specs.Inode.{spell_dinode}
+use Rattle.fs_layout.specs.Indirect.{spell_numbers}
+use Rattle.fs_layout.specs.Super.{spell_super, super_numbers}
+use Rattle.fs_layout.specs.Widths.{magic}
+use Rattle.fs_layout.proofs.Numbers.{length-u32s_bytes}
+use Rattle.fs_layout.proofs.Inodes.{length-spell_dinode}
+use Rattle.mkfs.specs.Layout.{node_blocks, blocks_for, inode_blocks, data_start, super_for}
+use Rattle.mkfs.specs.Image.{Node, padded, whole, front, inode_for, inodes_from, inode_table, bitmap, data_from, used_by, image_with, node_bytes, blocks_of_node}
+use Rattle.mkfs.proofs.Padding.{length-padded, length-whole, length-addrs, node_bytes-small, node_bytes-large}
+
+pub length-zeros : (n : ℕ) → length {A = ℕ} (replicate n 0) ≡ n
+length-zeros n = let none : ℕ = 0 in length-replicate n none
+
+pub length-super : (size ninodes : ℕ) → length (spell_super (super_for size ninodes)) ≡ 32
+length-super size ninodes = length-u32s_bytes (magic ∷ super_numbers (super_for size ninodes))
+
+pub length-front : (size ninodes : ℕ) → length (front size ninodes) ≡ 33792
+unfolding front
+length-front size ninodes =
+    let block : List ℕ = padded 1024 (spell_super (super_for size ninodes)) in
+    let one : length block ≡ 1024 = length-padded 1024 (spell_super (super_for size ninodes)) (omega (arith, length-super size ninodes)) in
+    omega (arith, length-append (replicate 1024 0 ++ block) (replicate 31744 0), length-append (replicate 1024 0) block, one, length-zeros 1024, length-zeros 31744)
+
+pub length-inodes : (first : ℕ) (nodes : List Node) → length (flat_map spell_dinode (inodes_from first nodes)) ≡ 64 * length nodes
+length-inodes first [] = refl
+length-inodes first (node ∷ nodes) =
+    let rest = length-inodes (first + blocks_of_node node) nodes in
+    let one = length-spell_dinode (inode_for first node) (length-addrs first node) in
+    omega (arith, length-append (spell_dinode (inode_for first node)) (flat_map spell_dinode (inodes_from (first + blocks_of_node node) nodes)), one, rest)
+
+pub length-table : (ninodes first : ℕ) (nodes : List Node) → 1 + length nodes ≤ 16 * inode_blocks ninodes
+    → length (inode_table ninodes first nodes) ≡ 1024 * inode_blocks ninodes
+unfolding inode_table
+length-table ninodes first nodes h =
+    let some : List ℕ = flat_map spell_dinode (inodes_from first nodes) in
+    let free : ℕ = 64 * (16 * inode_blocks ninodes - (1 + length nodes)) in
+    omega (arith, length-append (replicate 64 0 ++ some) (replicate free 0), length-append (replicate 64 0) some, length-inodes first nodes, length-zeros 64, length-zeros free)
+
+pub length-bitmap : (used : ℕ) → used < 8192 → length (bitmap used) ≡ 1024
+unfolding bitmap
+length-bitmap used h =
+    let ff : ℕ = 255 in
+    let last : List ℕ = (2 ^ (used % 8) - 1) ∷ [] in
+    length-padded 1024 (replicate (used / 8) 255 ++ last) (omega (arith, length-append (replicate (used / 8) 255) last, length-replicate (used / 8) ff))
+
+-- a node's blocks, by how many it has
+pub blocks-small : (size : ℕ) → size ≤ 12288 → node_blocks size ≡ blocks_for size
+blocks-small size h =
+    let few : blocks_for size ≤ 12 = omega arith in
+    let not : nat_lt 12 (blocks_for size) ≡ false = le-ltb 12 (blocks_for size) few in
+    ap (λ (b : Bool). blocks_for size + cond b 1 0) not ∙ (let none : blocks_for size + 0 ≡ blocks_for size = omega arith in none)
+
+pub blocks-large : (size : ℕ) → 12288 < size → node_blocks size ≡ blocks_for size + 1
+blocks-large size h =
+    let many : 12 < blocks_for size = omega arith in
+    ap (λ (b : Bool). blocks_for size + cond b 1 0) (lt-ltb 12 (blocks_for size) many)
+
+pub length-node : (first : ℕ) (content : List ℕ) → length content ≤ 274432 → length (node_bytes first content) ≡ 1024 * node_blocks (length content)
+length-node first content h =
+    let size : ℕ = length content in
+    ⊎_elim
+    (λ (more : 12288 < size).
+    let numbers : List ℕ = range_with_len (first + 13) (blocks_for size - 12) in
+    let a : List ℕ = take 12288 content in
+    let b : List ℕ = spell_numbers (padded 256 numbers) in
+    let d : List ℕ = drop 12288 content in
+    let few : length numbers ≤ 256 = omega (arith, length-range_with_len (first + 13) (blocks_for size - 12)) in
+    let la = length-take-le 12288 content (omega arith) in
+    let lb : length b ≡ 1024 = omega (arith, length-u32s_bytes (padded 256 numbers), length-padded 256 numbers few) in
+    let ld = length-drop 12288 content in
+    let wa : length (whole a) ≡ 12288 = length-whole a ∙ ap (λ (n : ℕ). 1024 * blocks_for n) la in
+    let wd : length (whole d) ≡ 1024 * blocks_for (size - 12288) = length-whole d ∙ ap (λ (n : ℕ). 1024 * blocks_for n) ld in
+    let all : length (whole a ++ (b ++ whole d)) ≡ 1024 * (blocks_for size + 1) = omega (arith, length-append (whole a) (b ++ whole d), length-append b (whole d), wa, lb, wd) in
+    ap (λ (xs : List ℕ). length xs) (node_bytes-large first content more) ∙ all ∙ ap (λ (n : ℕ). 1024 * n) (sym (blocks-large size more)))
+    (λ (few : size ≤ 12288).
+    ap (λ (xs : List ℕ). length xs) (node_bytes-small first content few) ∙ length-whole content ∙ ap (λ (n : ℕ). 1024 * n) (sym (blocks-small size few)))
+    (cases_lt 12288 size)
+
+abbrev pub AreNodes : List Node → Type 0
+AreNodes nodes = All (λ node. length node.content ≤ 274432) nodes
+
+pub length-data : (first : ℕ) (nodes : List Node) → AreNodes nodes → length (data_from first nodes) ≡ 1024 * sum_by blocks_of_node nodes
+length-data first [] h = refl
+length-data first (node ∷ nodes) h =
+    let this = length-node first node.content (h 0 node (omega arith)) in
+    let rest = length-data (first + blocks_of_node node) nodes (λ i d l. h (suc i) d (omega arith)) in
+    omega (arith, length-append (node_bytes first node.content) (data_from (first + blocks_of_node node) nodes), this, rest, sum_by-cons blocks_of_node node nodes)
+
+-- what an image needs
+pub record Fits (size ninodes : ℕ) (nodes : List Node) : Type 0 where
+  pub few : size ≤ 8191
+  pub inodes : 1 + length nodes ≤ ninodes
+  pub contents : AreNodes nodes
+  pub room : used_by (data_start ninodes) nodes ≤ size
+
+pub length-image : (size ninodes : ℕ) (nodes : List Node) → Fits size ninodes nodes → length (image_with size ninodes nodes) ≡ 1024 * size
+unfolding image_with
+length-image size ninodes nodes h =
+    let first : ℕ = data_start ninodes in
+    let used : ℕ = used_by first nodes in
+    let sum : ℕ = sum_by blocks_of_node nodes in
+    let a : List ℕ = front size ninodes in
+    let b : List ℕ = inode_table ninodes first nodes in
+    let c : List ℕ = bitmap used in
+    let d : List ℕ = data_from first nodes in
+    let free : ℕ = 1024 * (size - used) in
+    let room : first + sum ≤ size = h.room in
+    let many : 1 + length nodes ≤ 16 * inode_blocks ninodes = omega (arith, h.inodes) in
+    let lb = length-table ninodes first nodes many in
+    let lc = length-bitmap used (omega (arith, h.few)) in
+    let ld = length-data first nodes h.contents in
+    omega (arith, length-append (((a ++ b) ++ c) ++ d) (replicate free 0), length-append ((a ++ b) ++ c) d, length-append (a ++ b) c, length-append a b, length-front size ninodes, lb, lc, ld, length-zeros free)

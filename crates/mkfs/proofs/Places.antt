@@ -1,0 +1,114 @@
+-- What stands where in an image.
+use Rattle.std.proofs.Common.{◌≡◌, ℕ, ◌-◌, ◌*◌, ◌<◌, ◌≤◌, Bool, true, false, cond, eqb, Some, None, List, [], ◌++◌, length, take, drop, replicate, ap, ◌∙◌, sym, refl, arith, append_assoc, length-append}
+use Rattle.std.proofs.lemmas.List.{take_at, drop_at, take-append-le, take-replicate}
+use Rattle.block_device.specs.Blocks.{blocks_of}
+use Rattle.block_device.specs.BlockLaws.{get_or-blocks_of, length-blocks_of}
+use Rattle.fs_layout.specs.declared.superblock.Super.{Super}
+use Rattle.fs_layout.specs.Bytes.{u32_at, u32s_at}
+use Rattle.fs_layout.specs.Super.{super_fields, spell_super, IsSuper}
+use Rattle.fs_layout.specs.Recovered.{block_at, sizes_of, logged, recovered}
+use Rattle.fs_layout.proofs.Words.{super_of-spell}
+use Rattle.mkfs.specs.Layout.{data_start, super_for}
+use Rattle.mkfs.specs.Image.{Node, padded, front, inode_table, bitmap, data_from, used_by, image_with}
+use Rattle.mkfs.proofs.Padding.{length-padded}
+use Rattle.mkfs.proofs.Lengths.{Fits, length-image, length-zeros, length-super}
+
+-- the disk of an image
+abbrev pub disk_of : ℕ → ℕ → List Node → List (List ℕ)
+disk_of size ninodes nodes = blocks_of (image_with size ninodes nodes)
+
+pub length-disk : (size ninodes : ℕ) (nodes : List Node) → Fits size ninodes nodes → length (disk_of size ninodes nodes) ≡ size
+length-disk size ninodes nodes h = omega (arith, length-blocks_of (image_with size ninodes nodes), length-image size ninodes nodes h, h.few)
+
+pub block-at : (size ninodes : ℕ) (nodes : List Node) (b : ℕ) → Fits size ninodes nodes → b < size
+    → block_at (disk_of size ninodes nodes) b ≡ take 1024 (drop (1024 * b) (image_with size ninodes nodes))
+block-at size ninodes nodes b h l = get_or-blocks_of (image_with size ninodes nodes) [] b (omega (arith, length-disk size ninodes nodes h))
+
+regroup : (z s l t b d f : List ℕ) → ((((((z ++ s) ++ l) ++ t) ++ b) ++ d) ++ f) ≡ z ++ (s ++ (l ++ (t ++ (b ++ (d ++ f)))))
+regroup z s l t b d f = simp append_assoc
+
+-- the superblock's block
+super_block : ℕ → ℕ → List ℕ
+super_block size ninodes = padded 1024 (spell_super (super_for size ninodes))
+
+-- what follows the log
+behind : ℕ → ℕ → List Node → List ℕ
+behind size ninodes nodes =
+    inode_table ninodes (data_start ninodes) nodes
+    ++ (bitmap (used_by (data_start ninodes) nodes) ++ (data_from (data_start ninodes) nodes ++ replicate (1024 * (size - used_by (data_start ninodes) nodes)) 0))
+
+split : (size ninodes : ℕ) (nodes : List Node)
+    → image_with size ninodes nodes ≡ replicate 1024 0 ++ (super_block size ninodes ++ (replicate 31744 0 ++ behind size ninodes nodes))
+unfolding image_with front super_block behind
+split size ninodes nodes =
+    regroup (replicate 1024 0) (padded 1024 (spell_super (super_for size ninodes))) (replicate 31744 0) (inode_table ninodes (data_start ninodes) nodes)
+    (bitmap (used_by (data_start ninodes) nodes)) (data_from (data_start ninodes) nodes) (replicate (1024 * (size - used_by (data_start ninodes) nodes)) 0)
+
+length-super_block : (size ninodes : ℕ) → length (super_block size ninodes) ≡ 1024
+unfolding super_block
+length-super_block size ninodes = length-padded 1024 (spell_super (super_for size ninodes)) (omega (arith, length-super size ninodes))
+
+-- ---- the superblock
+
+block-one : (size ninodes : ℕ) (nodes : List Node) → Fits size ninodes nodes → block_at (disk_of size ninodes nodes) 1 ≡ super_block size ninodes
+block-one size ninodes nodes h =
+    let rest : List ℕ = replicate 31744 0 ++ behind size ninodes nodes in
+    let within : 1 < size = omega (arith, h.room) in
+    block-at size ninodes nodes 1 h within
+    ∙ ap (λ (xs : List ℕ). take 1024 (drop 1024 xs)) (split size ninodes nodes)
+    ∙ ap (take 1024) (drop_at (replicate 1024 0) (super_block size ninodes ++ rest) 1024 (length-zeros 1024))
+    ∙ take_at (super_block size ninodes) rest 1024 (length-super_block size ninodes)
+
+some_from : {T : Type 0} (b : Bool) (x y : T) → cond b (Some x) None ≡ Some y → (b ≡ true) × (x ≡ y)
+some_from true x y h = (refl, let e = h in cc)
+some_from false x y h = cc
+
+fields-there : (size ninodes : ℕ) → size ≤ 8191 → ninodes ≤ 65535 → super_fields (super_block size ninodes) ≡ super_for size ninodes
+unfolding super_block padded
+fields-there size ninodes h n =
+    let s : Super = super_for size ninodes in
+    let rest : List ℕ = replicate (1024 - length (spell_super s)) 0 in
+    let small : IsSuper s = (omega arith, (omega arith, (omega arith, (omega arith, (omega arith, (omega arith, (omega arith, tt))))))) in
+    (some_from (eqb (u32_at (spell_super s ++ rest) 0) 0x10203040) (super_fields (spell_super s ++ rest)) s (super_of-spell s rest small)).1
+
+pub sizes-there : (size ninodes : ℕ) (nodes : List Node) → ninodes ≤ 65535 → Fits size ninodes nodes → sizes_of (disk_of size ninodes nodes) ≡ super_for size ninodes
+unfolding sizes_of
+sizes-there size ninodes nodes n h = ap super_fields (block-one size ninodes nodes h) ∙ fields-there size ninodes h.few n
+
+-- ---- the log, which is empty
+
+block-two : (size ninodes : ℕ) (nodes : List Node) → Fits size ninodes nodes → block_at (disk_of size ninodes nodes) 2 ≡ replicate 1024 0
+block-two size ninodes nodes h =
+    let a : List ℕ = replicate 1024 0 in
+    let s : List ℕ = super_block size ninodes in
+    let log : List ℕ = replicate 31744 0 in
+    let rest : List ℕ = behind size ninodes nodes in
+    let within : 2 < size = omega (arith, h.room) in
+    let two : length (a ++ s) ≡ 2048 = omega (arith, length-append a s, length-zeros 1024, length-super_block size ninodes) in
+    block-at size ninodes nodes 2 h within
+    ∙ ap (λ (xs : List ℕ). take 1024 (drop 2048 xs)) (split size ninodes nodes ∙ sym (append_assoc a s (log ++ rest)))
+    ∙ ap (take 1024) (drop_at (a ++ s) (log ++ rest) 2048 two)
+    ∙ take-append-le 1024 log rest (omega (arith, length-zeros 31744))
+    ∙ (let none : ℕ = 0 in take-replicate 1024 31744 none (omega arith))
+
+zero-head : u32_at (replicate 1024 0) 0 ≡ 0
+unfolding u32_at
+zero-head = refl
+
+no-numbers : (block : List ℕ) → u32s_at 0 block 4 ≡ []
+unfolding u32s_at
+no-numbers block = refl
+
+pub log-empty : (size ninodes : ℕ) (nodes : List Node) → ninodes ≤ 65535 → Fits size ninodes nodes → logged (disk_of size ninodes nodes) ≡ []
+unfolding logged
+log-empty size ninodes nodes n h =
+    let disk : List (List ℕ) = disk_of size ninodes nodes in
+    let head : block_at disk (sizes_of disk).logstart ≡ replicate 1024 0 =
+    ap (λ (s : Super). block_at disk s.logstart) (sizes-there size ninodes nodes n h) ∙ block-two size ninodes nodes h in
+    ap (λ (block : List ℕ). u32s_at (u32_at block 0) block 4) head ∙ ap (λ (k : ℕ). u32s_at k (replicate 1024 0) 4) zero-head ∙ no-numbers (replicate 1024 0)
+
+-- so what recovery leaves is what stands there
+pub recovered-there : (size ninodes : ℕ) (nodes : List Node) (b : ℕ) → ninodes ≤ 65535 → Fits size ninodes nodes
+    → recovered (disk_of size ninodes nodes) b ≡ block_at (disk_of size ninodes nodes) b
+unfolding recovered
+recovered-there size ninodes nodes b n h = rw (log-empty size ninodes nodes n h) refl

@@ -1,0 +1,136 @@
+-- The inodes of an image.
+use Rattle.std.proofs.Common.{◌≡◌, ℕ, zero, suc, ◌+◌, ◌-◌, ◌*◌, ◌/◌, ◌%◌, ◌^◌, ◌<◌, ◌≤◌, min, w16, FitsSigned, List, [], ◌∷◌, ◌++◌, length, take, drop, map, replicate, get_or, sum_by, ap, ◌∙◌, sym, subst, arith, rules, append_assoc, length-append}
+use Rattle.std.specs.List.{All, AllByRecursion, flat_map, range_with_len}
+use Rattle.std.proofs.lemmas.List.{take_at, drop_at, drop-drop, drop-take, take-take, length-map, get_or-map}
+use Rattle.std.proofs.lemmas.List.Sums.{sum_by-cons}
+use Rattle.fs_layout.specs.declared.inode.Dinode.{Dinode}
+use Rattle.fs_layout.specs.Bytes.{record_at}
+use Rattle.fs_layout.specs.Inode.{dinode_at, dinode_of, spell_dinode, IsDinode}
+use Rattle.fs_layout.specs.Recovered.{block_at}
+use Rattle.fs_layout.proofs.Inodes.{length-spell_dinode, dinode_of-spell}
+use Rattle.mkfs.specs.Layout.{data_start, inode_blocks}
+use Rattle.mkfs.specs.Image.{Node, padded, front, inode_for, inodes_from, inode_table, bitmap, data_from, used_by, image_with, blocks_of_node, nodes_with, file_node}
+use Rattle.mkfs.proofs.Padding.{length-addrs}
+use Rattle.mkfs.proofs.Lengths.{AreNodes, Fits, length-front, length-zeros}
+use Rattle.mkfs.proofs.Places.{disk_of, block-at}
+
+-- a record of a block of these bytes is a part of them
+piece : (xs : List ℕ) (q r : ℕ) → r < 16 → record_at 64 r (take 1024 (drop (1024 * q) xs)) ≡ take 64 (drop (64 * (16 * q + r)) xs)
+piece xs q r h =
+    let m : ℕ = 1024 - 64 * r in
+    let whole : 1024 ≡ 64 * r + m = omega arith in
+    let low : 64 ≤ m = omega arith in
+    let place : 1024 * q + 64 * r ≡ 64 * (16 * q + r) = omega arith in
+    ap (λ (n : ℕ). take 64 (drop (64 * r) (take n (drop (1024 * q) xs)))) whole
+    ∙ ap (take 64) (drop-take (64 * r) m (drop (1024 * q) xs))
+    ∙ take-take 64 m (drop (64 * r) (drop (1024 * q) xs)) low
+    ∙ ap (take 64) (drop-drop (64 * r) (1024 * q) xs ∙ ap (λ (n : ℕ). drop n xs) place)
+
+regroup : (f z i r b d e : List ℕ) → (((f ++ ((z ++ i) ++ r)) ++ b) ++ d) ++ e ≡ (f ++ z) ++ (i ++ (r ++ (b ++ (d ++ e))))
+regroup f z i r b d e = simp append_assoc
+
+-- the spelled inode at j
+spelled : (first : ℕ) (nodes : List Node) (j : ℕ) (d : Dinode) (rest : List ℕ) → j < length nodes
+    → take 64 (drop (64 * j) (flat_map spell_dinode (inodes_from first nodes) ++ rest)) ≡ spell_dinode (get_or (inodes_from first nodes) j d)
+spelled first [] j d rest h = absurd (omega arith)
+spelled first (node ∷ nodes) zero d rest h =
+    let a : List ℕ = spell_dinode (inode_for first node) in
+    let f : List ℕ = flat_map spell_dinode (inodes_from (first + blocks_of_node node) nodes) in
+    ap (take 64) (append_assoc a f rest) ∙ take_at a (f ++ rest) 64 (length-spell_dinode (inode_for first node) (length-addrs first node))
+spelled first (node ∷ nodes) (suc j) d rest h =
+    let a : List ℕ = spell_dinode (inode_for first node) in
+    let f : List ℕ = flat_map spell_dinode (inodes_from (first + blocks_of_node node) nodes) in
+    let place : 64 * suc j ≡ 64 + 64 * j = omega arith in
+    let long = length-spell_dinode (inode_for first node) (length-addrs first node) in
+    ap (λ (n : ℕ). take 64 (drop n ((a ++ f) ++ rest))) place
+    ∙ ap (λ (xs : List ℕ). take 64 (drop (64 + 64 * j) xs)) (append_assoc a f rest)
+    ∙ ap (take 64) (sym (drop-drop (64 * j) 64 (a ++ (f ++ rest))) ∙ ap (drop (64 * j)) (drop_at a (f ++ rest) 64 long))
+    ∙ spelled (first + blocks_of_node node) nodes j d rest (omega arith)
+
+-- ---- each of them can be read back
+
+all-append : (xs ys : List ℕ) → AllByRecursion (λ n. n < 2 ^ 32) xs → AllByRecursion (λ n. n < 2 ^ 32) ys → AllByRecursion (λ n. n < 2 ^ 32) (xs ++ ys)
+all-append [] ys a b = b
+all-append (x ∷ xs) ys a b = (a.0, all-append xs ys a.1 b)
+
+all-range : (a n : ℕ) → a + n < 2 ^ 32 → AllByRecursion (λ k. k < 2 ^ 32) (range_with_len a n)
+all-range a zero h = tt
+all-range a (suc n) h = (omega arith, all-range (a + 1) n (omega arith))
+
+all-zeros : (n : ℕ) → AllByRecursion (λ k. k < 2 ^ 32) (replicate n 0)
+all-zeros zero = tt
+all-zeros (suc n) = (omega arith, all-zeros n)
+
+-- what a node's inode can say
+pub record IsNode (node : Node) : Type 0 where
+  pub kind : FitsSigned w16 node.kind
+  pub size : length node.content ≤ 274432
+
+good-inode : (first : ℕ) (node : Node) → first < 2 ^ 31 → IsNode node → IsDinode (inode_for first node)
+unfolding inode_for padded
+good-inode first node f h =
+    let k : ℕ = min (blocks_of_node node) 13 in
+    let numbers : List ℕ = range_with_len first k in
+    record {
+      kind = h.kind;
+      major = first_of (omega arith, search rules);
+      minor = first_of (omega arith, search rules);
+      nlink = first_of (omega arith, search rules);
+      size = omega (arith, h.size);
+      thirteen = length-addrs first node;
+      addrs = all-append numbers (replicate (13 - length numbers) 0) (all-range first k (omega arith)) (all-zeros (13 - length numbers));
+    }
+
+good-inodes : (first : ℕ) (nodes : List Node) (j : ℕ) (d : Dinode) → j < length nodes → first + sum_by blocks_of_node nodes < 2 ^ 31 → All IsNode nodes
+    → IsDinode (get_or (inodes_from first nodes) j d)
+good-inodes first [] j d h f all = absurd (omega arith)
+good-inodes first (node ∷ nodes) zero d h f all =
+    good-inode first node (omega arith) (all 0 node (omega arith))
+good-inodes first (node ∷ nodes) (suc j) d h f all =
+    let sum = sum_by-cons blocks_of_node node nodes in
+    good-inodes (first + blocks_of_node node) nodes j d (omega arith) (omega (arith, sum)) (λ i x l. all (suc i) x (omega arith))
+
+-- ---- where they stand
+
+table-at : (size ninodes : ℕ) (nodes : List Node) (j : ℕ) (d : Dinode) → j < length nodes
+    → take 64 (drop (33856 + 64 * j) (image_with size ninodes nodes)) ≡ spell_dinode (get_or (inodes_from (data_start ninodes) nodes) j d)
+unfolding image_with inode_table
+table-at size ninodes nodes j d h =
+    let first : ℕ = data_start ninodes in
+    let used : ℕ = used_by first nodes in
+    let f : List ℕ = front size ninodes in
+    let z : List ℕ = replicate 64 0 in
+    let i : List ℕ = flat_map spell_dinode (inodes_from first nodes) in
+    let r : List ℕ = replicate (64 * (16 * inode_blocks ninodes - (1 + length nodes))) 0 in
+    let e : List ℕ = replicate (1024 * (size - used)) 0 in
+    let rest : List ℕ = r ++ (bitmap used ++ (data_from first nodes ++ e)) in
+    let long : length (f ++ z) ≡ 33856 = omega (arith, length-append f z, length-front size ninodes, length-zeros 64) in
+    ap (λ (xs : List ℕ). take 64 (drop (33856 + 64 * j) xs)) (regroup f z i r (bitmap used) (data_from first nodes) e)
+    ∙ ap (take 64) (sym (drop-drop (64 * j) 33856 ((f ++ z) ++ (i ++ rest))) ∙ ap (drop (64 * j)) (drop_at (f ++ z) (i ++ rest) 33856 long))
+    ∙ spelled first nodes j d rest h
+
+pub inode-there : (size ninodes : ℕ) (nodes : List Node) (j : ℕ) (d : Dinode) → Fits size ninodes nodes → All IsNode nodes → j < length nodes
+    → dinode_at ((j + 1) % 16) (block_at (disk_of size ninodes nodes) (33 + (j + 1) / 16)) ≡ get_or (inodes_from (data_start ninodes) nodes) j d
+inode-there size ninodes nodes j d h all l =
+    let q : ℕ = 33 + (j + 1) / 16 in
+    let r : ℕ = (j + 1) % 16 in
+    let image : List ℕ = image_with size ninodes nodes in
+    let there : Dinode = get_or (inodes_from (data_start ninodes) nodes) j d in
+    let low : r < 16 = omega arith in
+    let within : q < size = omega (arith, h.inodes, h.room) in
+    let place : 64 * (16 * q + r) ≡ 33856 + 64 * j = omega arith in
+    let few : data_start ninodes + sum_by blocks_of_node nodes < 2 ^ 31 = omega (arith, h.room, h.few) in
+    ap (λ (block : List ℕ). dinode_of (record_at 64 r block)) (block-at size ninodes nodes q h within)
+    ∙ ap dinode_of (piece image q r low ∙ ap (λ (n : ℕ). take 64 (drop n image)) place ∙ table-at size ninodes nodes j d l)
+    ∙ dinode_of-spell there (good-inodes (data_start ninodes) nodes j d l few all)
+
+pub are-nodes : (root : List ℕ) (contents : List (List ℕ)) → AreNodes (nodes_with root contents) → All IsNode (nodes_with root contents)
+are-nodes root contents h zero d l = record { kind = first_of (omega arith, search rules); size = h zero d l }
+are-nodes root contents h (suc i) d l =
+    let below : i < length (map file_node contents) = omega arith in
+    let within : i < length contents = omega (arith, length-map contents file_node) in
+    let none : List ℕ = [] in
+    let is : file_node (get_or contents i none) ≡ get_or (map file_node contents) i d = sym (get_or-map file_node contents i none d within) in
+    let size : length (get_or (map file_node contents) i d).content ≤ 274432 = h (suc i) d l in
+    let same : length (get_or contents i none) ≡ length (get_or (map file_node contents) i d).content = ap (λ (node : Node). length node.content) is in
+    subst IsNode is (record { kind = first_of (omega arith, search rules); size = omega arith })
