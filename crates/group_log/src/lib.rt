@@ -15,6 +15,9 @@ mod members;
 mod phase;
 mod txn;
 
+#[cfg(test)]
+mod tests;
+
 pub use commit::Progress;
 pub use crash::stops_at_a_cut;
 pub use limits::{BLOCKS_OF_A_TRANSACTION, MOST_LOGGED};

@@ -12,6 +12,8 @@ ghost use Rattle.buffer_cache.specs.Seats.{is_held_by, holder_of, IsHeld, KeepsH
 use crate::commit::{Progress, has_each_once, write_next};
 use crate::copies::Written;
 use crate::limits::{BLOCKS_OF_A_TRANSACTION, MOST_LOGGED, PLACES};
+#[cfg(test)]
+use crate::members::{has_room, is_member};
 use crate::members::{add, outstanding};
 use crate::phase::{Phase, after, clear_when_open};
 use crate::txn::{RetiredLog, Txn};
@@ -88,6 +90,49 @@ impl<D: Device> Log<D> {
     {
         let _ = &self.phase;
         self.cache.device()
+    }
+
+    /// Where the commit is.
+    pub fn phase(&self) -> Phase
+        ensures { result ≡ self.now.phase }
+    {
+        self.phase
+    }
+
+    /// How many buffers a hart has in its hand.
+    pub fn held_by(&self, hart: u8) -> usize
+        ensures { result ≡ count_of (is_held_by hart) self.now.cache.seats }
+    {
+        self.cache.held_by(hart)
+    }
+
+    /// Whether a hart is in no transaction.
+    pub fn is_idle(&self, hart: u8) -> bool
+        requires { hart < HARTS }
+        ensures { IsTrue result ↔ (slice_get self.now.members hart ≡ Some None) }
+    {
+        self.members[hart as usize].is_none()
+    }
+
+    // What a record asks of its transaction and its block.
+    #[cfg(test)]
+    pub(crate) fn may_record(&self, txn: &Txn, b: u32) -> bool
+        ensures member { IsTrue result → IsMember self.now.members txn.now }
+        ensures room { IsTrue result → HasRoom self.now.members txn.now }
+        ensures home { IsTrue result → IsHome (D.contents self.now.cache.device) self.now.sizes b }
+    {
+        if !is_outside(&self.sizes, b) || b == 1 || self.cache.device().blocks() <= b {
+            return false;
+        }
+        has_room(&self.members, txn.hart() as usize)
+    }
+
+    // Whether a transaction is one of this log's.
+    #[cfg(test)]
+    pub(crate) fn is_member(&self, txn: &Txn) -> bool
+        ensures { IsTrue result → IsMember self.now.members txn.now }
+    {
+        is_member(&self.members, txn.hart() as usize)
     }
 
     /// Joins a transaction. It waits exactly while a commit runs, where the group might outgrow the log, and for good
@@ -293,6 +338,14 @@ impl<D: Device> Log<D> {
         let (slots, device) = cache.retire();
         (RetiredLog::new(), slots, device)
     }
+}
+
+// Whether a block is outside the log.
+#[cfg(test)]
+fn is_outside(sizes: &Super, b: u32) -> bool
+    ensures { IsTrue result → IsOutsideLog sizes.now b }
+{
+    b < sizes.logstart || u64::from(sizes.logstart) + u64::from(sizes.nlog) <= u64::from(b)
 }
 
 // What follows a leave that leaves so many in a transaction.

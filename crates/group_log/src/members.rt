@@ -1,7 +1,9 @@
 // Which harts are in a transaction, and how many blocks each added to the group.
-ghost use Rattle.std.specs.Prelude.{◌≡◌, ◌<◌, ◌≤◌, ◌+◌, ◌*◌, ℕ, List, length, false};
-ghost use Rattle.group_log.specs.Group.{joined, HasRoom, one_more, members_with, has, with_block};
+ghost use Rattle.std.specs.Prelude.{◌≡◌, ◌<◌, ◌≤◌, ◌+◌, ◌*◌, ℕ, List, length, false, IsTrue};
+ghost use Rattle.group_log.specs.Group.{joined, HasRoom, IsMember, one_more, members_with, has, with_block};
 
+#[cfg(test)]
+use crate::limits::BLOCKS_OF_A_TRANSACTION;
 use crate::limits::{MOST_LOGGED, PLACES};
 use arrayvec::ArrayVec;
 
@@ -47,5 +49,28 @@ pub(crate) fn add(
     if !contains(group, b) {
         group.push(b);
         count_up(members, hart);
+    }
+}
+
+// Whether the hart is in a transaction.
+#[cfg(test)]
+pub(crate) fn is_member(members: &[Option<u8>], hart: usize) -> bool
+    ensures { IsTrue result → IsMember members.now hart }
+{
+    hart < members.len() && members[hart].is_some()
+}
+
+// Whether the hart is in a transaction that may add a block.
+#[cfg(test)]
+pub(crate) fn has_room(members: &[Option<u8>], hart: usize) -> bool
+    ensures member { IsTrue result → IsMember members.now hart }
+    ensures room { IsTrue result → HasRoom members.now hart }
+{
+    if members.len() <= hart {
+        return false;
+    }
+    match members[hart] {
+        Some(added) => added < BLOCKS_OF_A_TRANSACTION,
+        None => false,
     }
 }

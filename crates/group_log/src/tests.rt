@@ -1,0 +1,300 @@
+//! A log over disks in memory: who waits, what a commit writes, and what a fault leaves.
+ghost use Rattle.std.specs.Prelude.{◌≡◌, [], length, IfSome};
+ghost use Rattle.fs_layout.specs.Recovered.{logged};
+ghost use Rattle.group_log.specs.Soundness.{IsPlaced};
+
+use crate::{Left, Log, Phase, Progress, Txn};
+use arrayvec::ArrayVec;
+use block_device::{BLOCK_SIZE, Device, Fault, Fused, MemoryDisk};
+use buffer_cache::{BUFFERS_OF_A_HART, Buffers, Cache, Got, HARTS};
+use fs_layout::{Super, read_log_head, read_super, write_super};
+use std::alloc::{AllocError, Global};
+use std::process::Abort;
+
+// Where the parts of the fresh image lie.
+const FRESH: Super = Super {
+    size: 2000,
+    nblocks: 1953,
+    ninodes: 200,
+    nlog: 31,
+    logstart: 2,
+    inodestart: 33,
+    bmapstart: 46,
+};
+
+// The blocks up to the last that is changed.
+const BLOCKS: usize = 64;
+
+// A disk of zeros with such a superblock.
+fn disk(rt: &impl Abort, alloc: Global, sizes: &Super) -> MemoryDisk {
+    let mut disk = MemoryDisk::new(vec![in alloc; 0u8; BLOCKS * BLOCK_SIZE].expect(rt, "memory"));
+    let mut block = [0; BLOCK_SIZE];
+    write_super(&mut block, sizes);
+    assert!(rt; 1 < disk.blocks());
+    assert_eq!(rt; disk.write(1, &block), Ok(()));
+    disk
+}
+
+// A disk that keeps the numbers of the blocks that were written, in order.
+struct Watched {
+    disk: Fused,
+    writes: ArrayVec<u32, 64>,
+}
+
+impl Device for Watched {
+    ghost use Rattle.block_device.specs.Blocks.{blocks_of};
+    ghost use Rattle.block_device.specs.BlockLaws.{blocks_of-whole};
+
+    ghost contents = { λ d. blocks_of d.disk.bytes };
+
+    ghost failures = { λ d. d.disk.faults };
+
+    ghost whole = { λ d. blocks_of-whole d.disk.bytes };
+
+    fn blocks(&self) -> u32 {
+        self.disk.blocks()
+    }
+
+    fn faults(&self) -> u64 {
+        self.disk.faults()
+    }
+
+    fn read(&mut self, b: u32, to: &mut [u8; BLOCK_SIZE]) -> Result<(), Fault> {
+        self.disk.read(b, to)
+    }
+
+    fn write(&mut self, b: u32, from: &[u8; BLOCK_SIZE]) -> Result<(), Fault> {
+        self.disk.write(b, from)?;
+        if !self.writes.is_full() {
+            self.writes.push(b);
+        }
+        Ok(())
+    }
+}
+
+// Where the parts of a disk lie whose log is empty.
+fn parts<D: Device>(device: &mut D) -> Option<Super>
+    ensures place { IfSome result (λ sizes. IsPlaced (D.contents device.new) sizes) }
+    ensures empty { IfSome result (λ _. logged (D.contents device.new) ≡ []) }
+{
+    let blocks = u64::from(device.blocks());
+    if blocks < 2 {
+        return None;
+    }
+    let mut block = [0; BLOCK_SIZE];
+    device.read(1, &mut block).ok()?;
+    let sizes = read_super(&block)?;
+    if sizes.logstart < 2 || sizes.nlog == 0 || blocks < u64::from(sizes.logstart) + u64::from(sizes.nlog) {
+        return None;
+    }
+    device.read(sizes.logstart, &mut block).ok()?;
+    let head = read_log_head(&block)?;
+    if !head.blocks.is_empty() {
+        return None;
+    }
+    Some(sizes)
+}
+
+fn open<D: Device>(rt: &impl Abort, alloc: Global, device: D) -> Log<D> {
+    let mut device = device;
+    let sizes = parts(&mut device).expect(rt, "the log is empty");
+    Log::new(Cache::new(Buffers::new(alloc).expect(rt, "memory"), device), sizes)
+}
+
+fn join<D: Device>(rt: &impl Abort, log: &mut Log<D>, hart: u8) -> Option<Txn> {
+    assert!(rt; hart < HARTS && log.is_idle(hart));
+    log.join(hart)
+}
+
+fn waits<D: Device>(rt: &impl Abort, log: &mut Log<D>, hart: u8) {
+    match join(rt, log, hart) {
+        None => {}
+        Some(_txn) => panic!(rt; "there is no room"),
+    }
+}
+
+fn leave<D: Device>(rt: &impl Abort, log: &mut Log<D>, txn: Txn) -> Left {
+    assert!(rt; log.is_member(&txn));
+    match log.phase() {
+        Phase::Halted => panic!(rt; "it isn't halted"),
+        Phase::Open => {}
+        Phase::Staging(_) => {}
+        Phase::Installing(_) => {}
+    }
+    log.leave(txn)
+}
+
+// Fills a block with this byte, and records it. An error is the device's.
+fn change<D: Device>(rt: &impl Abort, log: &mut Log<D>, txn: &mut Txn, b: u32, byte: u8) -> Result<(), Fault> {
+    let hart = txn.hart();
+    assert!(rt; hart < HARTS && log.held_by(hart) < BUFFERS_OF_A_HART && log.may_record(txn, b));
+    match log.get(hart, b) {
+        Got::Waits => panic!(rt; "nothing is out"),
+        Got::Held(mut guard) => {
+            if !guard.value().is_valid() {
+                if log.fill(&mut guard).is_err() {
+                    log.release(guard);
+                    return Err(Fault);
+                }
+            }
+            *guard.value_mut().bytes_mut() = [byte; BLOCK_SIZE];
+            assert!(rt; log.may_record(txn, b));
+            log.record(txn, guard);
+            Ok(())
+        }
+    }
+}
+
+// Makes the commit's steps to its end or to a fault, and counts the writes.
+fn commit<D: Device>(rt: &impl Abort, log: &mut Log<D>, hart: u8) -> (u64, Progress) {
+    assert!(rt; hart < HARTS);
+    for made in 0..100u64 {
+        match log.phase() {
+            Phase::Open => panic!(rt; "a commit runs"),
+            Phase::Halted => panic!(rt; "a commit runs"),
+            Phase::Staging(_) => {}
+            Phase::Installing(_) => {}
+        }
+        assert!(rt; log.held_by(hart) < BUFFERS_OF_A_HART);
+        match log.commit_step(hart) {
+            Progress::Wrote => {}
+            Progress::Ended => return (made + 1, Progress::Ended),
+            Progress::Failed => return (made, Progress::Failed),
+            Progress::Waits => return (made, Progress::Waits),
+        }
+    }
+    panic!(rt; "a commit has an end")
+}
+
+#[test]
+fn a_commit_writes_in_order(rt: HostRuntime) {
+    let disk = Watched { disk: Fused::new(disk(&rt, rt.alloc(), &FRESH), u64::MAX), writes: ArrayVec::new() };
+    let mut log = open(&rt, rt.alloc(), disk);
+    let mut txn = join(&rt, &mut log, 0).expect(&rt, "there is room");
+    for (b, byte) in [(48, 1), (46, 2), (48, 3)] {
+        assert_eq!(rt; change(&rt, &mut log, &mut txn, b, byte), Ok(()));
+    }
+    assert_eq!(rt; leave(&rt, &mut log, txn), Left::Commits);
+    assert_eq!(rt; commit(&rt, &mut log, 0), (6, Progress::Ended));
+    let (_ended, _slots, disk) = log.retire();
+    let Watched { disk, writes } = disk;
+    assert_eq!(rt; writes.as_slice(), [3, 4, 2, 48, 46, 2].as_slice());
+    let bytes = disk.into_disk().into_bytes();
+    for (b, byte) in [(46usize, 2), (48, 3), (3, 3), (4, 2), (2, 0)] {
+        assert_eq!(rt; bytes.get(b * BLOCK_SIZE).copied(), Some(byte), "block {b}");
+    }
+}
+
+#[test]
+fn a_join_waits_for_room(rt: HostRuntime) {
+    for (nlog, third) in [(31, true), (30, false)] {
+        let sizes = Super { nlog, ..FRESH };
+        let mut log = open(&rt, rt.alloc(), disk(&rt, rt.alloc(), &sizes));
+        let first = join(&rt, &mut log, 0).expect(&rt, "there is room");
+        let second = join(&rt, &mut log, 1).expect(&rt, "there is room");
+        match join(&rt, &mut log, 2) {
+            Some(txn) => {
+                assert!(rt; third);
+                waits(&rt, &mut log, 3);
+                assert_eq!(rt; leave(&rt, &mut log, txn), Left::Free);
+            }
+            None => assert!(rt; !third),
+        }
+        assert_eq!(rt; leave(&rt, &mut log, first), Left::Free);
+        assert_eq!(rt; leave(&rt, &mut log, second), Left::Free);
+        let _ = log.retire();
+    }
+}
+
+#[test]
+fn a_join_counts_what_was_recorded(rt: HostRuntime) {
+    let mut log = open(&rt, rt.alloc(), disk(&rt, rt.alloc(), &FRESH));
+    let mut first = join(&rt, &mut log, 0).expect(&rt, "there is room");
+    for b in 47..57 {
+        assert_eq!(rt; change(&rt, &mut log, &mut first, b, 1), Ok(()));
+    }
+    let mut second = join(&rt, &mut log, 1).expect(&rt, "ten are recorded, and one is in");
+    assert_eq!(rt; change(&rt, &mut log, &mut second, 57, 1), Ok(()));
+    assert_eq!(rt; leave(&rt, &mut log, first), Left::Free);
+    waits(&rt, &mut log, 2);
+    assert_eq!(rt; leave(&rt, &mut log, second), Left::Commits);
+    waits(&rt, &mut log, 2);
+    assert_eq!(rt; commit(&rt, &mut log, 1), (24, Progress::Ended));
+    let again = join(&rt, &mut log, 2).expect(&rt, "nothing is recorded");
+    assert_eq!(rt; leave(&rt, &mut log, again), Left::Free);
+    let _ = log.retire();
+}
+
+// What recovery would make of the block's first byte, where the log has copies of 48 and those behind it.
+fn recovered_byte(rt: &impl Abort, bytes: &Vec<u8>, b: usize) -> u8 {
+    assert!(rt; 48 <= b && b < BLOCKS);
+    let logged = bytes.get(2 * BLOCK_SIZE).copied().expect(rt, "it has a head");
+    let at = if b - 48 < logged as usize { b - 45 } else { b };
+    bytes.get(at * BLOCK_SIZE).copied().expect(rt, "it has so many blocks")
+}
+
+// Two calls read the superblock and the head, and three the blocks. Then the device fails at each write of the commit
+// in turn: three copies, the head, three copies home, the empty head.
+#[test]
+fn a_group_is_there_whole_or_not_at_all(rt: HostRuntime) {
+    for writes in 0..9u64 {
+        let mut log = open(&rt, rt.alloc(), Fused::new(disk(&rt, rt.alloc(), &FRESH), 5 + writes));
+        let mut txn = join(&rt, &mut log, 7).expect(&rt, "there is room");
+        for b in 48..51 {
+            assert_eq!(rt; change(&rt, &mut log, &mut txn, b, 9), Ok(()));
+        }
+        assert_eq!(rt; leave(&rt, &mut log, txn), Left::Commits);
+        let want = if writes < 8 { Progress::Failed } else { Progress::Ended };
+        let made = if writes < 8 { writes } else { 8 };
+        assert_eq!(rt; commit(&rt, &mut log, 7), (made, want));
+        if writes < 8 {
+            waits(&rt, &mut log, 0);
+        }
+        let (_ended, _slots, disk) = log.retire();
+        let bytes = disk.into_disk().into_bytes();
+        for b in 48..51 {
+            let byte = if writes < 4 { 0 } else { 9 };
+            assert_eq!(rt; recovered_byte(&rt, &bytes, b), byte, "block {b} after {writes} writes");
+        }
+    }
+}
+
+#[test]
+fn harts_join_and_leave_for_a_hundred_commits(rt: HostRuntime) {
+    let mut log = open(&rt, rt.alloc(), disk(&rt, rt.alloc(), &FRESH));
+    for round in 0..100u8 {
+        let (one, other) = (round % HARTS, (round + 1) % HARTS);
+        let mut first = join(&rt, &mut log, one).expect(&rt, "there is room");
+        let mut second = join(&rt, &mut log, other).expect(&rt, "there is room");
+        assert_eq!(rt; change(&rt, &mut log, &mut first, 48 + (round % 5) as u32, round), Ok(()));
+        assert_eq!(rt; leave(&rt, &mut log, first), Left::Free);
+        assert_eq!(rt; change(&rt, &mut log, &mut second, 53 + (round % 5) as u32, round), Ok(()));
+        assert_eq!(rt; leave(&rt, &mut log, second), Left::Commits);
+        assert_eq!(rt; commit(&rt, &mut log, other), (6, Progress::Ended));
+    }
+    let (_ended, _slots, disk) = log.retire();
+    let bytes = disk.into_bytes();
+    for n in 0..5u8 {
+        for b in [48 + n as usize, 53 + n as usize] {
+            assert_eq!(rt; bytes.get(b * BLOCK_SIZE).copied(), Some(95 + n), "block {b}");
+        }
+    }
+}
+
+#[test]
+fn a_log_ends_at_any_moment(rt: HostRuntime) {
+    let mut log = open(&rt, rt.alloc(), disk(&rt, rt.alloc(), &FRESH));
+    let mut txn = join(&rt, &mut log, 3).expect(&rt, "there is room");
+    assert_eq!(rt; change(&rt, &mut log, &mut txn, 48, 1), Ok(()));
+    assert!(rt; log.held_by(3) < BUFFERS_OF_A_HART && log.may_record(&txn, 48));
+    match log.get(3, 48) {
+        Got::Waits => panic!(rt; "nothing is out"),
+        Got::Held(guard) => {
+            let (ended, slots, disk) = log.retire();
+            assert!(rt; (guard.number() as usize) < slots.count());
+            guard.retire_in_row(&slots);
+            txn.retire(&ended);
+            assert_eq!(rt; disk.into_bytes().get(48 * BLOCK_SIZE).copied(), Some(0));
+        }
+    }
+}
