@@ -4,8 +4,10 @@
 
 mod buffers;
 mod devices;
+mod images;
 mod locks;
 mod records;
+mod trees;
 mod workload;
 
 use crate::workload::ALL;

@@ -1,5 +1,5 @@
 //! What is measured.
-use crate::{buffers, devices, locks, records};
+use crate::{buffers, devices, images, locks, records, trees};
 use block_device::Fault;
 use std::alloc::{AllocError, Global};
 use thiserror::Error;
@@ -32,10 +32,14 @@ pub enum Workload {
     BitTest,
     LockUnlock,
     BufferGet,
+    ExamineFresh,
+    ExamineFull,
+    MakeImage,
+    TreeStep,
 }
 
 /// All of them, in the order in which they run.
-pub const ALL: [Workload; 9] = [
+pub const ALL: [Workload; 13] = [
     Workload::DeviceRead,
     Workload::InodeRead,
     Workload::InodeWrite,
@@ -45,6 +49,10 @@ pub const ALL: [Workload; 9] = [
     Workload::BitTest,
     Workload::LockUnlock,
     Workload::BufferGet,
+    Workload::ExamineFresh,
+    Workload::ExamineFull,
+    Workload::MakeImage,
+    Workload::TreeStep,
 ];
 
 impl Workload {
@@ -59,6 +67,10 @@ impl Workload {
             Workload::BitTest => "bit_test",
             Workload::LockUnlock => "lock_and_unlock",
             Workload::BufferGet => "buffer_get_and_release",
+            Workload::ExamineFresh => "examine_fresh_image",
+            Workload::ExamineFull => "examine_full_image",
+            Workload::MakeImage => "make_image",
+            Workload::TreeStep => "tree_step",
         }
     }
 
@@ -74,6 +86,10 @@ impl Workload {
             Workload::BitTest => records::test_bits(),
             Workload::LockUnlock => locks::lock_and_unlock(alloc),
             Workload::BufferGet => buffers::get_and_release(alloc),
+            Workload::ExamineFresh => images::examine_fresh(alloc),
+            Workload::ExamineFull => images::examine_full(alloc),
+            Workload::MakeImage => images::make_image(alloc),
+            Workload::TreeStep => trees::apply_steps(alloc),
         }
     }
 }

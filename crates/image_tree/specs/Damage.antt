@@ -1,7 +1,7 @@
 -- The first check that fails. "Too short" is asked twice: for a superblock, and then for the size that it says.
 use Rattle.std.specs.Prelude.{◌⊎◌, ℕ, ◌+◌, ◌≤◌, List, length, min, Result, Ok, Err}
 use Rattle.image_tree.specs.declared.fault.Damage.{Damage}
-use Rattle.image_tree.specs.declared.fault.Damage.TheVariants.{TooShort, BadSuper, BadLog, BadType, NoRoot, BlockRange, BlockShared, BlockUnmarked, BadSize, BadSlot, NotOneTree, BadCount}
+use Rattle.image_tree.specs.declared.fault.Damage.TheVariants.{TooShort, BadSuper, BadLog, BadType, NoRoot, BlockRange, BlockShared, BlockUnmarked, BadSize, BadEntry, NotATree, LinkCount}
 use Rattle.image_tree.specs.declared.fault.MountFault.{MountFault}
 use Rattle.image_tree.specs.declared.fault.MountFault.TheVariants as faults
 use Rattle.fs_layout.specs.Recovered.{sizes_of}
@@ -59,9 +59,9 @@ IsFirstDamage disk BlockRange = UpToRoot disk × (¬ HasGoodNumbers disk)
 IsFirstDamage disk BlockShared = UpToRange disk × (¬ NamesOnce disk)
 IsFirstDamage disk BlockUnmarked = UpToOnce disk × (¬ HasMarks disk)
 IsFirstDamage disk BadSize = UpToMarks disk × (¬ HasGoodSizes disk)
-IsFirstDamage disk BadSlot = UpToSizes disk × (¬ HasGoodSlots disk)
-IsFirstDamage disk NotOneTree = UpToSlots disk × (¬ IsOneTree disk)
-IsFirstDamage disk BadCount = UpToTree disk × (¬ HasGoodCounts disk)
+IsFirstDamage disk BadEntry = UpToSizes disk × (¬ HasGoodSlots disk)
+IsFirstDamage disk NotATree = UpToSlots disk × (¬ IsOneTree disk)
+IsFirstDamage disk LinkCount = UpToTree disk × (¬ HasGoodCounts disk)
 
 abbrev pub JudgesFault : List (List ℕ) → MountFault → Type 0
 JudgesFault disk (faults.Damaged d) = IsFirstDamage disk d

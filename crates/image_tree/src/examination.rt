@@ -56,13 +56,13 @@ fn examine_slots<D: Device>(alloc: Global, device: &mut D) -> Result<Layout, Mou
         return Err(MountFault::Damaged(Damage::BadSize));
     }
     if !has_good_slots(alloc, device, &layout)? {
-        return Err(MountFault::Damaged(Damage::BadSlot));
+        return Err(MountFault::Damaged(Damage::BadEntry));
     }
     Ok(layout)
 }
 
-/// All checks, in their order.
-pub fn examine_all<D: Device>(alloc: Global, device: &mut D) -> Result<Layout, MountFault>
+/// All checks, in their order. Where none fails it tells where the parts of the image lie.
+pub fn examine_layout<D: Device>(alloc: Global, device: &mut D) -> Result<Layout, MountFault>
     ensures judges { JudgesWith (λ layout. IsLayout (D.contents device.old) layout × IsWellFormed (D.contents device.old)) (D.contents device.old) result }
     ensures contents { D.contents device.new ≡ D.contents device.old }
     ensures faults { D.failures device.new ≡ faults_with result (D.failures device.old) }
@@ -70,10 +70,10 @@ pub fn examine_all<D: Device>(alloc: Global, device: &mut D) -> Result<Layout, M
     let layout = examine_slots(alloc, device)?;
     let links = find_links(alloc, device, &layout)?;
     if !is_one_tree(alloc, &links)? {
-        return Err(MountFault::Damaged(Damage::NotOneTree));
+        return Err(MountFault::Damaged(Damage::NotATree));
     }
     if !has_good_counts(device, &layout, &links)? {
-        return Err(MountFault::Damaged(Damage::BadCount));
+        return Err(MountFault::Damaged(Damage::LinkCount));
     }
     Ok(layout)
 }
@@ -85,7 +85,7 @@ pub fn examine<D: Device>(alloc: Global, device: &mut D) -> Result<Shape, MountF
     ensures contents { D.contents device.new ≡ D.contents device.old }
     ensures faults { D.failures device.new ≡ faults_with result (D.failures device.old) }
 {
-    let layout = examine_all(alloc, device)?;
+    let layout = examine_layout(alloc, device)?;
     let shape = find_shape(device, &layout)?;
     Ok(shape)
 }

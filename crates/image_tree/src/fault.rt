@@ -1,6 +1,6 @@
 //! Why an image is not taken.
 ghost use Rattle.std.specs.Prelude.{◌≡◌};
-ghost use Rattle.image_tree.specs.Faults.{fault_number};
+ghost use Rattle.image_tree.specs.Faults.{damage_name, fault_name, fault_number};
 
 use block_device::Fault;
 use std::alloc::AllocError;
@@ -27,11 +27,11 @@ pub enum Damage {
     /// A size is above the limit, or has no blocks behind it, or is no directory's.
     BadSize = 58,
     /// A live directory has a slot that is no entry, or not the one that belongs there, or a name twice.
-    BadSlot = 59,
+    BadEntry = 59,
     /// The live directories are not one tree.
-    NotOneTree = 60,
+    NotATree = 60,
     /// A count isn't how often its node is named.
-    BadCount = 61,
+    LinkCount = 61,
 }
 
 /// Why an image is not taken.
@@ -64,7 +64,40 @@ impl From<AllocError> for MountFault {
     }
 }
 
+impl Damage {
+    /// The name under which it is printed.
+    pub fn name(&self) -> &'static str
+        ensures { result.now ≡ damage_name self.now }
+    {
+        match self {
+            Damage::TooShort => "TooShort",
+            Damage::BadSuper => "BadSuper",
+            Damage::BadLog => "BadLog",
+            Damage::BadType => "BadType",
+            Damage::NoRoot => "NoRoot",
+            Damage::BlockRange => "BlockRange",
+            Damage::BlockShared => "BlockShared",
+            Damage::BlockUnmarked => "BlockUnmarked",
+            Damage::BadSize => "BadSize",
+            Damage::BadEntry => "BadEntry",
+            Damage::NotATree => "NotATree",
+            Damage::LinkCount => "LinkCount",
+        }
+    }
+}
+
 impl MountFault {
+    /// The name under which it is printed.
+    pub fn name(&self) -> &'static str
+        ensures { result.now ≡ fault_name self.now }
+    {
+        match self {
+            MountFault::Damaged(damage) => damage.name(),
+            MountFault::DeviceFault => "DeviceFault",
+            MountFault::NoMemory => "NoMemory",
+        }
+    }
+
     /// Its number, as programs print it.
     pub fn number(self) -> u8
         ensures { result ≡ fault_number self }

@@ -24,12 +24,14 @@ mod tallies;
 mod trees;
 mod types;
 
-pub use crate::disk::{Layout, load};
-pub use crate::examination::examine;
+pub use crate::disk::{Layout, load, load_inode};
+pub use crate::examination::{examine, examine_layout};
 pub use crate::fault::{Damage, MountFault};
 pub use crate::heads::find_layout;
+pub use crate::numbers::numbers_at;
 pub use crate::recovery::recover;
 pub use crate::shape::Shape;
+pub use crate::sizes::block_number;
 pub use crate::trees::tree_of;
 
 #[cfg(test)]

@@ -9,7 +9,7 @@ ghost use Rattle.fs_layout.specs.Recovered.{sizes_of};
 
 use crate::content::load_content;
 use crate::disk::{Layout, load_inode};
-use crate::examination::examine_all;
+use crate::examination::examine_layout;
 use crate::fault::MountFault;
 use crate::inodes::{is_directory, is_free, is_live};
 use crate::limits::KIND_FILE;
@@ -178,7 +178,7 @@ pub fn tree_of<D: Device>(alloc: Global, device: &mut D) -> Result<Tree, MountFa
     ensures contents { D.contents device.new ≡ D.contents device.old }
     ensures faults { D.failures device.new ≡ faults_with result (D.failures device.old) }
 {
-    let layout = examine_all(alloc, device)?;
+    let layout = examine_layout(alloc, device)?;
     let nodes = load_nodes(alloc, device, &layout)?;
     Ok(Tree::of_nodes(alloc, nodes))
 }

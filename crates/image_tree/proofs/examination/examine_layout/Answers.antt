@@ -2,7 +2,7 @@ use Rattle.std.proofs.Common.{◌≡◌, ◌∙◌, sym, subst, ℕ, List}
 use Rattle.std.proofs.lemmas.Bool.{MatchBool-at_true, MatchBool-at_false}
 use Rattle.image_tree.specs.Checks.{IsOneTree, HasGoodCounts}
 use Rattle.image_tree.specs.Marks.{IsLinks}
-use Rattle.image_tree.proofs.examination.examine_all.Goals as goal
+use Rattle.image_tree.proofs.examination.examine_layout.Goals as goal
 
 pub returns-then-not-branch-2-clause-judges : goal.returns-then-not-branch-2-clause-judges
 returns-then-not-branch-2-clause-judges g c =

@@ -1,0 +1,77 @@
+//! Images: made, and examined.
+use crate::workload::WorkloadError;
+use block_device::MemoryDisk;
+use image_tree::examine;
+use mkfs::make;
+use std::alloc::{AllocError, Global};
+
+type NewFile = (Vec<u8>, Vec<u8>);
+
+const FRESH_BLOCKS: u32 = 2000;
+const FRESH_INODES: u32 = 200;
+const LARGEST_BLOCKS: u32 = 8191;
+const LARGEST_INODES: u32 = 1200;
+const BLOCK: usize = 1024;
+
+// So many files of so many bytes.
+fn files(alloc: Global, count: u32, size: usize) -> Result<Vec<NewFile>, AllocError> {
+    let mut files = Vec::new(alloc);
+    for number in 0..count {
+        let name = format!(in alloc; "f{number}")?;
+        let name = Vec::from_slice(alloc, name.as_bytes())?;
+        files.push((name, vec![in alloc; b'x'; size]?))?;
+    }
+    Ok(files)
+}
+
+fn image(
+    alloc: Global,
+    size: u32,
+    inodes: u32,
+    files: &[NewFile],
+) -> Result<MemoryDisk, WorkloadError> {
+    make(alloc, size, inodes, files).map_err(|_| WorkloadError::Wrong)
+}
+
+fn examine_often(
+    alloc: Global,
+    mut disk: MemoryDisk,
+    rounds: u64,
+    live: u32,
+) -> Result<u64, WorkloadError> {
+    let mut right = 0u64;
+    for _ in 0..rounds {
+        match examine(alloc, &mut disk) {
+            Ok(shape) if shape.live == live => right = right.wrapping_add(1),
+            _ => return Err(WorkloadError::Wrong),
+        }
+    }
+    Ok(right)
+}
+
+/// A fresh image of 2000 blocks, examined.
+pub fn examine_fresh(alloc: Global) -> Result<u64, WorkloadError> {
+    let disk = image(alloc, FRESH_BLOCKS, FRESH_INODES, &[])?;
+    examine_often(alloc, disk, 200, 1)
+}
+
+/// A full image of 8191 blocks with 1000 files, examined.
+pub fn examine_full(alloc: Global) -> Result<u64, WorkloadError> {
+    let files = files(alloc, 1000, 8 * BLOCK)?;
+    let disk = image(alloc, LARGEST_BLOCKS, LARGEST_INODES, files.as_slice())?;
+    examine_often(alloc, disk, 20, 1001)
+}
+
+/// An image of 2000 blocks with 100 files of 10 KiB, made.
+pub fn make_image(alloc: Global) -> Result<u64, WorkloadError> {
+    let files = files(alloc, 100, 10 * BLOCK)?;
+    let mut count = 0u64;
+    for _ in 0..50 {
+        let disk = image(alloc, FRESH_BLOCKS, FRESH_INODES, files.as_slice())?;
+        if disk.into_bytes().len() != FRESH_BLOCKS as usize * BLOCK {
+            return Err(WorkloadError::Wrong);
+        }
+        count = count.wrapping_add(1);
+    }
+    Ok(count)
+}
