@@ -1,5 +1,5 @@
 -- A tree's data changed in one place, and what its functions then say.
-use Rattle.std.proofs.Common.{◌&&◌, nat_lt, Result, Ok, Err, MatchResult, ◌≡◌, ◌≢◌, ℕ, zero, suc, ◌+◌, ◌<◌, ◌≤◌, Bool, true, false, List, [], ◌∷◌, ◌++◌, length, take, drop, get_or, ◌==◌, ◌⊎◌, inl, inr, refl, sym, ◌∙◌, ap, subst, arith, add-one, Option, Some, None, if◌then◌else◌, get_or-set_other, get_or-set_same}
+use Rattle.std.proofs.Common.{◌^◌, ◌&&◌, nat_lt, Result, Ok, Err, MatchResult, ◌≡◌, ◌≢◌, ℕ, zero, suc, ◌+◌, ◌<◌, ◌≤◌, Bool, true, false, List, [], ◌∷◌, ◌++◌, length, take, drop, get_or, ◌==◌, ◌⊎◌, inl, inr, refl, sym, ◌∙◌, ap, subst, arith, add-one, Option, Some, None, if◌then◌else◌, get_or-set_other, get_or-set_same}
 use Rattle.std.proofs.Math.Path.{fun_ext}
 use Rattle.std.proofs.Math.ListN.{set, length-set, get_or-eq_default}
 use Rattle.std.proofs.lemmas.List.{take_more, set-get_or}
@@ -12,7 +12,7 @@ use Rattle.plain_tree.specs.declared.tree.OpenFile.{OpenFile}
 use Rattle.plain_tree.specs.declared.tree.OpenFileEntry.{OpenFileEntry}
 use Rattle.plain_tree.specs.declared.tree.Hart.{Hart}
 use Rattle.plain_tree.specs.declared.tree.Hold.{Hold}
-use Rattle.plain_tree.specs.Code.{IsEntryOf}
+use Rattle.plain_tree.specs.Code.{Advances, IsEntryOf}
 use Rattle.plain_tree.specs.TreeData.{TreeData}
 use Rattle.plain_tree.specs.Tree.{Tree, tree_of, hart_at, resting, file_in, put, and_then, is_directory, live_directory, slots_of}
 use Rattle.plain_tree.specs.Steps.{at_node, node_or, node_at, with_nodes, moved}
@@ -72,7 +72,7 @@ file_later x xs k ne = rw (eq_false x.id k ne)
 not_first : (x : OpenFileEntry) (xs : List OpenFileEntry) (k : ℕ) → file_in (x ∷ xs) k ≡ None → x.id ≢ k
 not_first x xs k h e = absurd (let s : Some x.file ≡ None = sym (file_first x xs k e) ∙ h in cc)
 
-file_added : (es : List OpenFileEntry) (e : OpenFileEntry) → file_in es e.id ≡ None → (k : ℕ) → file_in (es ++ e ∷ []) k ≡ put (λ j. file_in es j) e.id (Some e.file) k
+pub file_added : (es : List OpenFileEntry) (e : OpenFileEntry) → file_in es e.id ≡ None → (k : ℕ) → file_in (es ++ e ∷ []) k ≡ put (λ j. file_in es j) e.id (Some e.file) k
 file_added [] e h k = elim (cases_eq k e.id) [
   | inl i ↦ file_first e [] k (sym i) ∙ sym (put_same (λ j. file_in [] j) e.id (Some e.file) k i)
   | inr ne ↦ file_later e [] k (λ b. ne (sym b)) ∙ sym (put_other (λ j. file_in [] j) e.id (Some e.file) k ne)
@@ -111,9 +111,6 @@ file_set (x ∷ xs) e (suc i) d lt h s k =
         | inr nx ↦ file_later x (set xs i e) k nx ∙ (rest ∙ (put_other (λ j. file_in xs j) e.id (Some e.file) k ne ∙ (sym (file_later x xs k nx) ∙ sym (put_other (λ j. file_in (x ∷ xs) j) e.id (Some e.file) k ne))))
       ]
     ]
-
-pub files_added : (d : TreeData) (id : ℕ) (f : OpenFile) → file_in d.files id ≡ None → tree_of (record d { files = d.files ++ record { id = id; file = f } ∷ [] }) ≡ record (tree_of d) { files = put (tree_of d).files id (Some f) }
-files_added d id f h = ap (λ (g : ℕ → Option OpenFile). record (tree_of d) { files = g }) (fun_ext (file_added d.files (record { id = id; file = f }) h))
 
 pub none_more : (es : List OpenFileEntry) (e : OpenFileEntry) (k : ℕ) → file_in es k ≡ None → e.id ≢ k → file_in (es ++ e ∷ []) k ≡ None
 none_more [] e k h ne = file_later e [] k ne ∙ h
@@ -223,3 +220,6 @@ pub inherited : (d : TreeData) (t : Tree) (h c : ℕ) (x : Hart) (o : Option Hol
 inherited d t h c x o e oe is =
     is ∙ (ap (λ (f : ℕ → Option Hold). record (hart_put d c (record x { hold = o })) { holds = f }) (holds_back d c o oe)
     ∙ ap (λ (y : Hart). record (tree_of d) { cwd = put (tree_of d).cwd c y.directory; fds = put (tree_of d).fds c (λ i. get_or y.descriptors i None) }) e)
+
+pub advances : (d : TreeData) (id i by : ℕ) (x : OpenFileEntry) → Advances (tree_of d) (Some id) by → IsEntryOf d.files id i → x ≡ get_or d.files i x → x.file.offset + by < 2 ^ 64
+advances d id i by x h is xe = h x.file (file_found d.files id i x is.below is.before (is.there x) ∙ ap (λ (y : OpenFileEntry). Some y.file) (sym xe))

@@ -7,12 +7,12 @@ use Rattle.plain_tree.specs.declared.step.Action.{Action}
 use Rattle.plain_tree.specs.declared.step.Action.TheVariants.{Dup}
 use Rattle.plain_tree.specs.declared.step.TreeStep.{TreeStep}
 use Rattle.plain_tree.specs.declared.step.StepAnswer.{StepAnswer}
-use Rattle.plain_tree.specs.declared.step.StepAnswer.TheVariants.{Opened, Bytes, Stat as Status, Fd as NewFd, Done, Failed, Full as NoRoom}
+use Rattle.plain_tree.specs.declared.step.StepAnswer.TheVariants.{Failed, Full as NoRoom}
 use Rattle.plain_tree.specs.declared.refused.ApplyRefused.{ApplyRefused}
 use Rattle.plain_tree.specs.declared.refused.ApplyRefused.TheVariants.{NoMemory, BadChoice}
 use Rattle.plain_tree.specs.TreeData.{TreeData}
 use Rattle.plain_tree.specs.Tree.{Tree, tree_of, resolve, parent, settle}
-use Rattle.plain_tree.specs.Steps.{path_of, refusal, refused, effect_with, answer_with, place_of, makes_node, IsNewNode}
+use Rattle.plain_tree.specs.Steps.{path_of, refusal, refused, effect_with, answer_with, place_of, makes_node, opens_one, IsNewNode}
 use Rattle.plain_tree.specs.Widths.{hart_count}
 
 -- an answer, and the tree after it
@@ -56,28 +56,11 @@ pub record IsAppliedAt (t : Tree) (s : TreeStep) (id : ℕ) (a : StepAnswer) (t'
   pub is : applied t s id ≡ record { answer = a; tree = t' }
   pub chosen : IsBadChoice t s → ⊥
 
--- the id that the answer says; where no file was opened any serves
-abbrev pub id_of : StepAnswer → ℕ
-id_of (Opened fd id f) = id
-id_of (Bytes b) = 0
-id_of (Status s) = 0
-id_of (NewFd fd) = 0
-id_of Done = 0
-id_of (Failed k) = 0
-id_of (NoRoom f) = 0
-
-abbrev pub IsApplied : Tree → TreeStep → StepAnswer → Tree → Type 0
-IsApplied t s a t' = IsAppliedAt t s (id_of a) a t'
-
--- a file that was opened took the least unused id
-abbrev pub IsLeastFor : Tree → StepAnswer → Type 0
-IsLeastFor t (Opened fd id f) = IsLeastUnused t id
-IsLeastFor t (Bytes b) = Unit {0}
-IsLeastFor t (Status s) = Unit {0}
-IsLeastFor t (NewFd fd) = Unit {0}
-IsLeastFor t Done = Unit {0}
-IsLeastFor t (Failed k) = Unit {0}
-IsLeastFor t (NoRoom f) = Unit {0}
+-- the same, where a file that is opened takes the least unused id
+pub record IsApplied (t : Tree) (s : TreeStep) (a : StepAnswer) (t' : Tree) : Type 0 where
+  pub id : ℕ
+  pub least : opens_one t s.hart s.action ≡ true → IsLeastUnused t id
+  pub made : IsAppliedAt t s id a t'
 
 -- a step that was not made leaves the tree as it was
 abbrev pub IsRefused : TreeData → TreeStep → ApplyRefused → TreeData → Type 0

@@ -1,8 +1,13 @@
 -- Words in which the code's parts are promised.
-use Rattle.std.specs.Prelude.{ℕ, ◌≡◌, ◌==◌, true, false, ◌<◌, ◌++◌, length, slice_index_or, slice_set, Bool, List, [], ◌∷◌, take, nat_lt, if◌then◌else◌, Option, Some, None}
+use Rattle.std.specs.Prelude.{ℕ, ◌≡◌, ◌+◌, ◌^◌, ◌==◌, true, false, ◌<◌, ◌++◌, length, slice_index_or, slice_set, Bool, List, [], ◌∷◌, take, nat_lt, if◌then◌else◌, Option, Some, None}
 use Rattle.plain_tree.specs.declared.node.Slot.{Slot}
+use Rattle.plain_tree.specs.declared.step.Action.{Action}
+use Rattle.plain_tree.specs.declared.step.Action.TheVariants.{Open, Truncate, Read, WritePart, Find, Bump, Enter, Unbump, Unlink, Mkdir, Chdir, Dup, Close, Fstat, Inherit}
+use Rattle.plain_tree.specs.declared.step.StepAnswer.{StepAnswer}
+use Rattle.plain_tree.specs.declared.step.StepAnswer.TheVariants.{Opened, Bytes, Stat as Status, Fd as NewFd, Done, Failed, Full as NoRoom}
+use Rattle.plain_tree.specs.declared.tree.OpenFile.{OpenFile}
 use Rattle.plain_tree.specs.declared.tree.OpenFileEntry.{OpenFileEntry}
-use Rattle.plain_tree.specs.Tree.{Name, Tree, tree_of, file_in, is_empty, settle}
+use Rattle.plain_tree.specs.Tree.{Name, Tree, tree_of, file_in, is_empty, and_then, settle}
 use Rattle.plain_tree.specs.TreeData.{TreeData}
 use Rattle.plain_tree.specs.Steps.{cleared, first_free, has_fd}
 use Rattle.plain_tree.specs.Widths.{name_width}
@@ -43,3 +48,38 @@ is_id o id = elim o [ None ↦ false | Some j ↦ j == id ]
 abbrev pub IsOrphan : TreeData → Option ℕ → Type 0
 IsOrphan d None = (j : ℕ) (e : OpenFileEntry) → j < length d.files → has_fd (tree_of d) (slice_index_or d.files j e).id ≡ true
 IsOrphan d (Some i) = (i < length d.files) × ((e : OpenFileEntry) → has_fd (tree_of d) (slice_index_or d.files i e).id ≡ false)
+
+-- these entries say the open files f
+abbrev pub HasFiles : List OpenFileEntry → (ℕ → Option OpenFile) → Type 0
+HasFiles es f = (k : ℕ) → file_in es k ≡ f k
+
+-- the offset of that open file, moved on by so much, is a u64
+abbrev pub Advances : Tree → Option ℕ → ℕ → Type 0
+Advances t id by = (f : OpenFile) → and_then id (λ j. t.files j) ≡ Some f → f.offset + by < 2 ^ 64
+
+-- the number of bytes that a read's answer has
+abbrev pub read_count : StepAnswer → ℕ
+read_count (Bytes b) = length b
+read_count (Opened fd id f) = 0
+read_count (Status s) = 0
+read_count (NewFd fd) = 0
+read_count Done = 0
+read_count (Failed k) = 0
+read_count (NoRoom f) = 0
+
+abbrev pub is_open : Action → Bool
+is_open (Open path flags) = true
+is_open (Truncate fd) = false
+is_open (Read fd n) = false
+is_open (WritePart fd b) = false
+is_open (Find old) = false
+is_open Bump = false
+is_open (Enter new) = false
+is_open Unbump = false
+is_open (Unlink path) = false
+is_open (Mkdir path) = false
+is_open (Chdir path) = false
+is_open (Dup fd) = false
+is_open (Close fd) = false
+is_open (Fstat fd) = false
+is_open (Inherit child) = false

@@ -1,21 +1,88 @@
 //! One step of the tree.
-ghost use Rattle.std.specs.Prelude.{◌≡◌, true, None, MatchResult};
-ghost use Rattle.plain_tree.specs.Applied.{IsApplied, IsAppliedAt, IsLeastFor, IsRefused};
-ghost use Rattle.plain_tree.specs.Steps.{opens_one};
+ghost use Rattle.std.specs.Prelude.{◌≡◌, ◌<◌, IfSome, MatchResult};
+ghost use Rattle.plain_tree.specs.Applied.{IsApplied, IsAppliedAt, IsLeastUnused, IsRefused, out_of_place};
+ghost use Rattle.plain_tree.specs.Code.{is_open};
+ghost use Rattle.plain_tree.specs.Steps.{path_of, refused};
 ghost use Rattle.plain_tree.specs.Tree.{tree_of};
 
-use crate::refused::ApplyRefused;
-use crate::step::{StepAnswer, TreeStep};
+use crate::answer::{Cause, Full};
+use crate::refused::{ApplyRefused, NoMemory};
+use crate::step::{Action, StepAnswer, TreeStep};
 use crate::tree::Tree;
+use crate::widths::HART_COUNT;
 use std::alloc::Global;
 
+/// The path that the action follows; empty where it follows none.
+fn path_of(action: &Action) -> &[u8]
+    ensures { result.now ≡ path_of action.now }
+{
+    match action {
+        Action::Open { path, .. } => path.as_slice(),
+        Action::Find { old } => old.as_slice(),
+        Action::Enter { new } => new.as_slice(),
+        Action::Unlink { path } => path.as_slice(),
+        Action::Mkdir { path } => path.as_slice(),
+        Action::Chdir { path } => path.as_slice(),
+        _ => &[],
+    }
+}
+
+fn is_open(action: &Action) -> bool
+    ensures { result ≡ is_open action.now }
+{
+    matches!(action, Action::Open { .. })
+}
+
+fn out_of_place(action: &Action) -> StepAnswer
+    ensures { result ≡ out_of_place action.now }
+{
+    match action {
+        Action::Dup { .. } => StepAnswer::Full {
+            full: Full::Descriptors,
+        },
+        _ => StepAnswer::Failed {
+            cause: Cause::BadDescriptor,
+        },
+    }
+}
+
 impl Tree {
+    fn least_unused(&self) -> Option<usize>
+        ensures { IfSome result (λ id. IsLeastUnused (tree_of self.now) id) }
+    {
+        for id in 0..usize::MAX {
+            match self.file(id) {
+                None => return Some(id),
+                Some(_) => {}
+            }
+        }
+        None
+    }
+
+    /// What a refused action changes: a raise drops its hold.
+    fn refuse(&mut self, hart: u8, action: &Action)
+        requires { hart < 8 }
+        ensures { tree_of self.new ≡ refused (tree_of self.old) hart action.now }
+    {
+        match action {
+            Action::Bump => {
+                self.set_hold(hart, None);
+                self.settle();
+            }
+            _ => {}
+        }
+    }
+
     /// Makes the step and gives its answer. A new open file takes the least unused id. A step out of its place
     /// answers cause 6, `dup` with all descriptors taken 23, and changes nothing.
     pub fn apply(&mut self, alloc: Global, step: &TreeStep) -> Result<StepAnswer, ApplyRefused>
-        ensures { MatchResult result (λ a. IsApplied (tree_of self.old) step.now a (tree_of self.new) × IsLeastFor (tree_of self.old) a) (λ e. IsRefused self.old step.now e self.new) }
+        ensures { MatchResult result (λ a. IsApplied (tree_of self.old) step.now a (tree_of self.new)) (λ e. IsRefused self.old step.now e self.new) }
     {
-        Err(ApplyRefused::NoMemory)
+        let mut id = 0;
+        if is_open(&step.action) {
+            id = self.least_unused().ok_or(NoMemory)?;
+        }
+        self.apply_at(alloc, step, id)
     }
 
     /// The same with the id that a new open file takes.
@@ -25,9 +92,33 @@ impl Tree {
         step: &TreeStep,
         id: usize,
     ) -> Result<StepAnswer, ApplyRefused>
-        requires { opens_one (tree_of self.old) step.now.hart step.now.action ≡ true → (tree_of self.old).files id ≡ None }
         ensures { MatchResult result (λ a. IsAppliedAt (tree_of self.old) step.now id a (tree_of self.new)) (λ e. IsRefused self.old step.now e self.new) }
     {
-        Err(ApplyRefused::NoMemory)
+        let hart = step.hart;
+        let action = &step.action;
+        if hart >= HART_COUNT {
+            return Ok(StepAnswer::Failed {
+                cause: Cause::BadDescriptor,
+            });
+        }
+        if !self.has_place(hart, action) {
+            return Ok(out_of_place(action));
+        }
+        let path = path_of(action);
+        let found = self.resolve(hart, path);
+        let (parent, name) = self.parent(hart, path);
+        if let Some(cause) = self.refusal(hart, action, found, parent, name) {
+            self.refuse(hart, action);
+            return Ok(StepAnswer::Failed { cause });
+        }
+        if self.makes_node(action, parent, name) && !self.is_new(step.new) {
+            return Err(ApplyRefused::BadChoice);
+        }
+        let answer = self.answer(alloc, hart, action, found, parent, name, id)?;
+        self.act(
+            alloc, hart, action, found, parent, name, step.new, id, &answer,
+        )?;
+        self.settle();
+        Ok(answer)
     }
 }

@@ -2,12 +2,15 @@
 //! happen at one moment, and when a list of such steps explains the replies that several harts were given.
 #![tactic(auto)]
 
+mod act;
 mod answer;
+mod answer_of;
 mod apply;
 mod bytes;
 mod call;
 mod change;
 mod copy;
+mod fresh;
 mod look;
 mod named;
 mod node;
@@ -20,6 +23,8 @@ pub mod rows;
 mod settle;
 mod slots;
 mod step;
+#[cfg(test)]
+mod tests;
 mod trace;
 mod tree;
 mod widths;

@@ -22,7 +22,8 @@ impl Tree {
     /// The lowest free descriptor, 16 where there is none.
     #[tactic(auto, unfolding(crate::specs::Steps::lowest_from))]
     pub(crate) fn lowest(&self, hart: u8) -> usize
-        ensures { result ≡ lowest ((tree_of self.now).fds hart) }
+        ensures value { result ≡ lowest ((tree_of self.now).fds hart) }
+        ensures bound { result ≤ 16 }
     {
         for fd in 0..DESCRIPTOR_COUNT {
             match self.descriptor(hart, fd) {

@@ -1,16 +1,17 @@
 //! The tree.
-ghost use Rattle.std.specs.Prelude.{◌≡◌, ◌<◌, ◌++◌, ◌∷◌, [], length, IfOk, MatchOption, MatchResult, remove, slice_index_or, slice_set};
-ghost use Rattle.plain_tree.specs.Code.{IsEntryOf, IsOrphan};
+ghost use Rattle.std.specs.Prelude.{◌≡◌, ◌<◌, ◌++◌, ◌∷◌, [], length, IfOk, MatchOption, MatchResult, remove, slice_index_or, slice_set, true};
+ghost use Rattle.plain_tree.specs.Code.{Advances, HasFiles, IsEntryOf, IsOrphan};
 ghost use Rattle.plain_tree.specs.Fresh.{fresh};
 ghost use Rattle.plain_tree.specs.Marks.{at_rest};
 ghost use Rattle.plain_tree.specs.Steps.{closed, moved, node_at, with_nodes};
 ghost use Rattle.plain_tree.specs.Tree.{file_in, hart_at, put, tree_of};
 
 use crate::bytes::Bytes;
-use crate::copy::nodes_copy;
+use crate::copy::copy_nodes;
+use crate::fresh::{fresh_hart, fresh_nodes};
 use crate::node::{Kind, Node};
 use crate::refused::NoMemory;
-use crate::widths::{HART_COUNT, ROOT};
+use crate::widths::ROOT;
 use std::alloc::Global;
 use std::marker::Model;
 use std::mem;
@@ -84,7 +85,25 @@ impl Tree {
     pub fn new(alloc: Global, ninodes: u16) -> Result<Tree, NoMemory>
         ensures { IfOk result (λ t. t ≡ fresh ninodes) }
     {
-        Err(NoMemory)
+        let nodes = fresh_nodes(alloc, ninodes)?;
+        Ok(Tree {
+            nodes,
+            files: Vec::new(alloc),
+            harts: [fresh_hart(); 8],
+        })
+    }
+
+    /// The same tree.
+    pub fn try_clone(&self, alloc: Global) -> Result<Tree, NoMemory>
+        ensures { IfOk result (λ t. t ≡ self.now) }
+    {
+        let nodes = copy_nodes(alloc, &self.nodes)?;
+        let files = Vec::from_slice(alloc, &self.files)?;
+        Ok(Tree {
+            nodes,
+            files,
+            harts: self.harts,
+        })
     }
 
     /// The numbers of nodes are below it.
@@ -196,32 +215,55 @@ impl Tree {
         self.nodes[number] = None;
     }
 
-    /// Adds an open file under an unused id.
-    pub(crate) fn add_file(&mut self, id: usize, file: OpenFile) -> Result<(), NoMemory>
-        requires { (tree_of self.old).files id ≡ None }
-        ensures { MatchResult result (λ _. tree_of self.new ≡ record (tree_of self.old) { files = put (tree_of self.old).files id (Some file) }) (λ _. self.new ≡ self.old) }
+    /// The open files with one more, under an unused id.
+    pub(crate) fn files_with(
+        &self,
+        alloc: Global,
+        id: usize,
+        file: OpenFile,
+    ) -> Result<Vec<OpenFileEntry>, NoMemory>
+        requires { (tree_of self.now).files id ≡ None }
+        ensures { IfOk result (λ v. HasFiles v.items (put (tree_of self.now).files id (Some file))) }
     {
-        self.files.push(OpenFileEntry { id, file })?;
-        Ok(())
+        let mut files = Vec::from_slice(alloc, &self.files)?;
+        files.push(OpenFileEntry { id, file })?;
+        Ok(files)
+    }
+
+    /// These are the open files.
+    pub(crate) fn set_files(&mut self, files: Vec<OpenFileEntry>)
+        ensures { tree_of self.new ≡ record (tree_of self.old) { files = λ k. file_in files.items k } }
+    {
+        self.files = files;
+    }
+
+    /// The offset can move on by so much.
+    pub(crate) fn can_advance(&self, id: Option<usize>, by: u64) -> bool
+        ensures { result ≡ true → Advances (tree_of self.now) id by }
+    {
+        let Some(id) = id else {
+            return true;
+        };
+        match self.file(id) {
+            Some(file) => file.offset <= u64::MAX - by,
+            None => true,
+        }
     }
 
     /// Moves the offset of the open file on, where there is one.
-    pub(crate) fn advance(&mut self, id: Option<usize>, by: u64) -> Result<(), NoMemory>
-        ensures { MatchResult result (λ _. tree_of self.new ≡ moved (tree_of self.old) id by) (λ _. self.new ≡ self.old) }
+    pub(crate) fn advance(&mut self, id: Option<usize>, by: u64)
+        requires { Advances (tree_of self.old) id by }
+        ensures { tree_of self.new ≡ moved (tree_of self.old) id by }
     {
         let Some(id) = id else {
-            return Ok(());
+            return;
         };
         let Some(i) = entry_of(&self.files, id) else {
-            return Ok(());
+            return;
         };
         let mut file = self.files[i].file;
-        let Some(offset) = file.offset.checked_add(by) else {
-            return Err(NoMemory);
-        };
-        file.offset = offset;
+        file.offset += by;
         self.files[i] = OpenFileEntry { id, file };
-        Ok(())
     }
 
     /// Where an open file stands that no descriptor has.
@@ -254,26 +296,11 @@ impl Tree {
 }
 
 impl Tree {
-    /// The same tree.
-    pub fn try_clone(&self, alloc: Global) -> Result<Tree, NoMemory>
-        ensures { IfOk result (λ t. t ≡ self.now) }
-    {
-        Ok(Tree {
-            nodes: nodes_copy(alloc, &self.nodes)?,
-            files: Vec::from_slice(alloc, &self.files)?,
-            harts: self.harts,
-        })
-    }
-
     /// These nodes, with nothing open and all harts at rest in the root.
     pub(crate) fn at_rest(alloc: Global, nodes: Vec<Option<Node>>) -> Tree
         ensures { result ≡ at_rest nodes.items }
     {
-        let hart = Hart {
-            directory: ROOT,
-            descriptors: [None; 16],
-            hold: None,
-        };
+        let hart = fresh_hart();
         Tree {
             nodes,
             files: Vec::new(alloc),

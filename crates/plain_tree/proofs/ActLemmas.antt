@@ -1,0 +1,35 @@
+-- What a step makes of a tree, from its parts.
+use Rattle.std.proofs.Common.{◌≡◌, ◌≢◌, ℕ, ◌<◌, Bool, true, false, ◌||◌, not, List, refl, sym, ◌∙◌, ap, Option, Some, None, if◌then◌else◌, arith}
+use Rattle.std.proofs.Math.Path.{fun_ext}
+use Rattle.plain_tree.specs.declared.node.Node.{Node}
+use Rattle.plain_tree.specs.declared.tree.OpenFile.{OpenFile}
+use Rattle.plain_tree.specs.declared.tree.OpenFileEntry.{OpenFileEntry}
+use Rattle.plain_tree.specs.Tree.{Tree, file_in, live_directory, put}
+use Rattle.plain_tree.specs.Steps.{has, has_room, lowest, node_or, node_at, read_write, with_file, with_nodes, write_only}
+use Rattle.plain_tree.specs.Code.{HasFiles}
+use Rattle.plain_tree.proofs.TreeLemmas.{put_same, put_other}
+
+pub given_file : (t t1 t2 : Tree) (ns : ℕ → Option Node) (h id n flags : ℕ) (es : List OpenFileEntry) → t1 ≡ with_nodes t ns → has_room (t.fds h) ≡ true
+    → HasFiles es (put t.files id (Some (record { number = n; offset = 0; readable = not (has flags write_only); writable = has flags write_only || has flags read_write })))
+    → t2 ≡ record t1 { files = λ k. file_in es k; fds = put t1.fds h (put (t1.fds h) (lowest (t1.fds h)) (Some id)) }
+    → t2 ≡ with_file (with_nodes t ns) h id n flags
+given_file t t1 t2 ns h id n flags es a room f b =
+    b ∙ (ap (λ (x : Tree). record x { files = λ k. file_in es k; fds = put x.fds h (put (x.fds h) (lowest (x.fds h)) (Some id)) }) a
+    ∙ (ap (λ (g : ℕ → Option OpenFile). record (with_nodes t ns) { files = g; fds = put t.fds h (put (t.fds h) (lowest (t.fds h)) (Some id)) }) (fun_ext f)
+    ∙ rw room refl))
+
+pub not_given : (t t1 : Tree) (ns : ℕ → Option Node) (h id n flags : ℕ) → t1 ≡ with_nodes t ns → has_room (t.fds h) ≡ false → t1 ≡ with_file (with_nodes t ns) h id n flags
+not_given t t1 ns h id n flags a room = a ∙ rw room refl
+
+pub not_same : (t : Tree) (d n : ℕ) → live_directory (t.nodes d) ≡ true → t.nodes n ≡ None → d ≢ n
+not_same t d n live none e = absurd (let u : false ≡ true = sym (ap live_directory none) ∙ (sym (ap (λ (k : ℕ). live_directory (t.nodes k)) e) ∙ live) in cc)
+
+pub count_kept : (t t1 : Tree) (d n : ℕ) (v w : Node) → t1 ≡ with_nodes t (put (put t.nodes d (Some v)) n (Some w)) → d ≢ n → (node_at t1 d).count ≡ v.count
+count_kept t t1 d n v w e ne =
+    ap (λ (x : Tree). (node_at x d).count) e
+    ∙ ap (λ (o : Option Node). (node_or o).count) (put_other (put t.nodes d (Some v)) n (Some w) d ne ∙ put_same t.nodes d (Some v) d refl)
+
+pub few_still : (t t1 : Tree) (d n k : ℕ) (v w : Node) → t1 ≡ with_nodes t (put (put t.nodes d (Some v)) n (Some w)) → live_directory (t.nodes d) ≡ true → t.nodes n ≡ None → k ≡ d → v.count < 32767 → (node_at t1 k).count < 32767
+few_still t t1 d n k v w e live none is few =
+    let same : (node_at t1 k).count ≡ v.count = ap (λ (j : ℕ). (node_at t1 j).count) is ∙ count_kept t t1 d n v w e (not_same t d n live none) in
+    omega arith

@@ -1,0 +1,51 @@
+-- A step, from the parts that the code found.
+use Rattle.std.proofs.Common.{◌≡◌, ◌≢◌, ℕ, ◌<◌, ◌≤◌, Bool, true, false, ◌||◌, nat_lt, not, List, refl, sym, ◌∙◌, ap, subst, arith, Option, Some, None, if◌then◌else◌}
+use Rattle.std.proofs.lemmas.Bool.Decides.{nat_tests}
+use Rattle.plain_tree.specs.declared.answer.Cause.{Cause}
+use Rattle.plain_tree.specs.declared.answer.Cause.TheVariants.{BadDescriptor}
+use Rattle.plain_tree.specs.declared.step.Action.{Action}
+use Rattle.plain_tree.specs.declared.step.Action.TheVariants.{Open, Truncate, Read, WritePart, Find, Bump, Enter, Unbump, Unlink, Mkdir, Chdir, Dup, Close, Fstat, Inherit}
+use Rattle.plain_tree.specs.declared.step.TreeStep.{TreeStep}
+use Rattle.plain_tree.specs.declared.step.StepAnswer.{StepAnswer}
+use Rattle.plain_tree.specs.declared.step.StepAnswer.TheVariants.{Failed}
+use Rattle.plain_tree.specs.Tree.{Name, Tree, resolve, parent, settle}
+use Rattle.plain_tree.specs.Steps.{path_of, refusal, refusal_with, refused, effect_with, answer_with, place_of, makes_node, opens_one, IsNewNode}
+use Rattle.plain_tree.specs.Applied.{applied, out_of_place, IsAppliedAt, IsBadChoice}
+use Rattle.plain_tree.specs.Code.{is_open}
+
+hart_true : (h : ℕ) → h < 8 → nat_lt h 8 ≡ true
+hart_true h lt = grind (arith, nat_tests)
+
+hart_false : (h : ℕ) → 8 ≤ h → nat_lt h 8 ≡ false
+hart_false h le = grind (arith, nat_tests)
+
+pub no_hart : (t : Tree) (s : TreeStep) (id : ℕ) → 8 ≤ s.hart → IsAppliedAt t s id (Failed BadDescriptor) t
+no_hart t s id le = record {
+  is = rw (hart_false s.hart le) refl;
+  chosen = λ b. absurd (omega (arith, b.hart, le));
+}
+
+-- what is out of its place makes no node
+placeless : (t : Tree) (h : ℕ) (a : Action) (par : Option (ℕ × Name)) → place_of t h a ≡ false → makes_node t a par ≡ true → ⊥
+unfolding place_of
+placeless t h (Open path flags) par p m = absurd cc
+placeless t h (Truncate fd) par p m = absurd cc
+placeless t h (Read fd n) par p m = absurd cc
+placeless t h (WritePart fd b) par p m = absurd cc
+placeless t h (Find old) par p m = absurd cc
+placeless t h Bump par p m = absurd cc
+placeless t h (Enter name) par p m = absurd cc
+placeless t h Unbump par p m = absurd cc
+placeless t h (Unlink path) par p m = absurd cc
+placeless t h (Mkdir path) par p m = absurd cc
+placeless t h (Chdir path) par p m = absurd cc
+placeless t h (Dup fd) par p m = absurd cc
+placeless t h (Close fd) par p m = absurd cc
+placeless t h (Fstat fd) par p m = absurd cc
+placeless t h (Inherit child) par p m = absurd cc
+
+pub no_place : (t : Tree) (s : TreeStep) (id : ℕ) (a : StepAnswer) → s.hart < 8 → place_of t s.hart s.action ≡ false → a ≡ out_of_place s.action → IsAppliedAt t s id a t
+no_place t s id a lt p e = record {
+  is = rw (hart_true s.hart lt, p, e) refl;
+  chosen = λ b. placeless t s.hart s.action (parent t s.hart (path_of s.action)) p b.makes;
+}

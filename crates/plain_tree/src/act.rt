@@ -1,0 +1,488 @@
+//! What a step that isn't refused changes, before the nodes that nothing keeps leave the tree.
+ghost use Rattle.std.specs.Prelude.{◌≡◌, ◌<◌, ◌||◌, true, not, IfOk, IfSome, MatchResult};
+ghost use Rattle.plain_tree.specs.Code.{HasFiles, with_name};
+ghost use Rattle.plain_tree.specs.Steps.{answer_with, at_dir, at_hold, closed, drop_hold, effect_with, enter_hold, entered, file_at, has, has_room, held, lowered, lowest, made, moved, new_directory, new_file, node_at, opened_at, opened_in, opened_new, raise_hold, raised, read_write, removed, truncated, with_file, with_nodes, write_only, wrote};
+ghost use Rattle.plain_tree.specs.Tree.{file_in, live_directory, look, put, tree_of};
+
+use crate::answer_of::bytes_read;
+use crate::bytes::Bytes;
+use crate::node::{Kind, Node, Slot, Slots};
+use crate::refusal::has_flag;
+use crate::refused::NoMemory;
+use crate::step::{Action, StepAnswer};
+use crate::tree::{Hold, OpenFile, OpenFileEntry, Tree};
+use crate::widths::{
+    COUNT_LIMIT, CREATE, DESCRIPTOR_COUNT, DOT, DOTDOT, HART_COUNT, READ_WRITE, WRITE_ONLY,
+};
+use std::alloc::Global;
+
+/// A file as it is when it is opened.
+fn just_opened(number: u16, flags: u32) -> OpenFile
+    ensures { result ≡ record { number = number; offset = 0; readable = not (has flags write_only); writable = has flags write_only || has flags read_write } }
+{
+    OpenFile {
+        number,
+        offset: 0,
+        readable: !has_flag(flags, WRITE_ONLY),
+        writable: has_flag(flags, WRITE_ONLY) || has_flag(flags, READ_WRITE),
+    }
+}
+
+/// A slot with this name.
+pub(crate) fn slot(alloc: Global, name: &[u8], number: u16) -> Result<Option<Slot>, NoMemory>
+    ensures { IfOk result (λ s. s ≡ Some (record { name = name.now; number = number })) }
+{
+    let name = Bytes::new(Vec::from_slice(alloc, name)?);
+    Ok(Some(Slot { name, number }))
+}
+
+/// A directory with no entries but "." and "..".
+fn new_directory(alloc: Global, number: u16, parent: u16) -> Result<Node, NoMemory>
+    ensures { IfOk result (λ v. v ≡ new_directory number parent) }
+{
+    let mut slots = Vec::new(alloc);
+    slots.push(slot(alloc, &DOT, number)?)?;
+    slots.push(slot(alloc, &DOTDOT, parent)?)?;
+    let slots = Slots::new(slots);
+    Ok(Node {
+        count: 1,
+        kind: Kind::Directory { slots },
+    })
+}
+
+impl Tree {
+    /// Gives the open file that was added to the hart's lowest descriptor.
+    fn give_file(&mut self, hart: u8, files: Vec<OpenFileEntry>, id: usize)
+        requires hart { hart < 8 }
+        requires room { has_room ((tree_of self.old).fds hart) ≡ true }
+        ensures { tree_of self.new ≡ record (tree_of self.old) { files = λ k. file_in files.items k; fds = put (tree_of self.old).fds hart (put ((tree_of self.old).fds hart) (lowest ((tree_of self.old).fds hart)) (Some id)) } }
+    {
+        let fd = self.lowest(hart);
+        self.set_descriptor(hart, fd, Some(id));
+        self.set_files(files);
+    }
+
+    /// Opens the node, where the hart has a descriptor free.
+    fn open_node(
+        &mut self,
+        alloc: Global,
+        hart: u8,
+        number: u16,
+        flags: u32,
+        id: usize,
+    ) -> Result<(), NoMemory>
+        requires { hart < 8 }
+        ensures { MatchResult result (λ _. tree_of self.new ≡ with_file (tree_of self.old) hart id number flags) (λ _. self.new ≡ self.old) }
+    {
+        if self.has_room(hart) {
+            let files = self.files_opened(alloc, number, flags, id)?;
+            self.give_file(hart, files, id);
+        }
+        Ok(())
+    }
+
+    /// Puts a node into the tree, under a name in a live directory.
+    fn add_node(
+        &mut self,
+        alloc: Global,
+        directory: u16,
+        name: Bytes,
+        number: u16,
+        node: Node,
+    ) -> Result<(), NoMemory>
+        requires live { live_directory ((tree_of self.old).nodes directory) ≡ true }
+        requires range { number < (tree_of self.old).ninodes }
+        ensures { MatchResult result (λ _. tree_of self.new ≡ with_nodes (tree_of self.old) (put (entered (tree_of self.old) directory name number).nodes number (Some node))) (λ _. self.new ≡ self.old) }
+    {
+        self.enter(alloc, usize::from(directory), name, number)?;
+        self.set_node(usize::from(number), node);
+        Ok(())
+    }
+
+    /// The open files, and this node opened under an unused id.
+    fn files_opened(
+        &self,
+        alloc: Global,
+        number: u16,
+        flags: u32,
+        id: usize,
+    ) -> Result<Vec<OpenFileEntry>, NoMemory>
+        ensures { IfOk result (λ v. HasFiles v.items (put (tree_of self.now).files id (Some (record { number = number; offset = 0; readable = not (has flags write_only); writable = has flags write_only || has flags read_write })))) }
+    {
+        if self.file(id).is_some() {
+            return Err(NoMemory);
+        }
+        self.files_with(alloc, id, just_opened(number, flags))
+    }
+
+    /// Puts an empty file into the tree.
+    fn add_file_node(
+        &mut self,
+        alloc: Global,
+        directory: u16,
+        name: &[u8],
+        number: u16,
+    ) -> Result<(), NoMemory>
+        requires { live_directory ((tree_of self.old).nodes directory) ≡ true }
+        ensures { MatchResult result (λ _. tree_of self.new ≡ with_nodes (tree_of self.old) (put (entered (tree_of self.old) directory name.now number).nodes number (Some new_file))) (λ _. self.new ≡ self.old) }
+    {
+        if usize::from(number) >= self.ninodes() {
+            return Err(NoMemory);
+        }
+        let name = Bytes::new(Vec::from_slice(alloc, name)?);
+        let bytes = Bytes::new(Vec::new(alloc));
+        let node = Node {
+            count: 1,
+            kind: Kind::File { bytes },
+        };
+        self.add_node(alloc, directory, name, number, node)
+    }
+
+    /// Makes an empty file under a name that isn't there, and opens it.
+    fn create(
+        &mut self,
+        alloc: Global,
+        hart: u8,
+        directory: u16,
+        name: &[u8],
+        flags: u32,
+        number: u16,
+        id: usize,
+    ) -> Result<(), NoMemory>
+        requires hart { hart < 8 }
+        requires live { live_directory ((tree_of self.old).nodes directory) ≡ true }
+        ensures { MatchResult result (λ _. tree_of self.new ≡ opened_in (tree_of self.old) hart id flags directory name.now None number) (λ _. self.new ≡ self.old) }
+    {
+        if self.has_room(hart) {
+            let files = self.files_opened(alloc, number, flags, id)?;
+            self.add_file_node(alloc, directory, name, number)?;
+            self.give_file(hart, files, id);
+        } else {
+            self.add_file_node(alloc, directory, name, number)?;
+        }
+        Ok(())
+    }
+
+    fn open_named(
+        &mut self,
+        alloc: Global,
+        hart: u8,
+        parent: Option<u16>,
+        name: &[u8],
+        flags: u32,
+        number: u16,
+        id: usize,
+    ) -> Result<(), NoMemory>
+        requires hart { hart < 8 }
+        requires live { IfSome parent (λ d. live_directory ((tree_of self.old).nodes d) ≡ true) }
+        ensures { MatchResult result (λ _. tree_of self.new ≡ opened_new (tree_of self.old) hart id flags (with_name parent name.now) number) (λ _. self.new ≡ self.old) }
+    {
+        let Some(directory) = parent else {
+            return Ok(());
+        };
+        match self.look(directory, name) {
+            Some(old) => self.open_node(alloc, hart, old, flags, id),
+            None => self.create(alloc, hart, directory, name, flags, number, id),
+        }
+    }
+
+    fn open_found(
+        &mut self,
+        alloc: Global,
+        hart: u8,
+        found: Option<u16>,
+        flags: u32,
+        number: u16,
+        id: usize,
+    ) -> Result<(), NoMemory>
+        requires { hart < 8 }
+        ensures { MatchResult result (λ _. tree_of self.new ≡ opened_at (tree_of self.old) hart id flags found number) (λ _. self.new ≡ self.old) }
+    {
+        match found {
+            Some(old) => self.open_node(alloc, hart, old, flags, id),
+            None => Ok(()),
+        }
+    }
+
+    /// Makes a directory under a name that isn't there.
+    fn make_directory(
+        &mut self,
+        alloc: Global,
+        directory: u16,
+        name: &[u8],
+        number: u16,
+    ) -> Result<(), NoMemory>
+        requires live { live_directory ((tree_of self.old).nodes directory) ≡ true }
+        requires few { (node_at (tree_of self.old) directory).count < 32767 }
+        requires range { number < (tree_of self.old).ninodes }
+        requires unused { (tree_of self.old).nodes number ≡ None }
+        ensures { MatchResult result (λ _. tree_of self.new ≡ made (tree_of self.old) (with_name (Some directory) name.now) number) (λ _. self.new ≡ self.old) }
+    {
+        let name = Bytes::new(Vec::from_slice(alloc, name)?);
+        let node = new_directory(alloc, number, directory)?;
+        self.add_node(alloc, directory, name, number, node)?;
+        self.raise(alloc, usize::from(directory));
+        Ok(())
+    }
+
+    /// Takes the name out of the directory, and one from the count of what it named.
+    fn remove_name(&mut self, alloc: Global, directory: u16, name: &[u8]) -> Result<(), NoMemory>
+        requires { live_directory ((tree_of self.old).nodes directory) ≡ true }
+        ensures { MatchResult result (λ _. tree_of self.new ≡ removed (tree_of self.old) (with_name (Some directory) name.now)) (λ _. self.new ≡ self.old) }
+    {
+        let Some(number) = self.look(directory, name) else {
+            return Ok(());
+        };
+        let number_at = usize::from(number);
+        if number_at >= self.ninodes() {
+            return Err(NoMemory);
+        }
+        let lowers = self.is_directory(number);
+        self.clear(alloc, usize::from(directory), name, lowers);
+        self.lower(alloc, number_at);
+        Ok(())
+    }
+
+    fn write_part(&mut self, alloc: Global, hart: u8, fd: u32, bytes: &[u8]) -> Result<(), NoMemory>
+        ensures { MatchResult result (λ _. tree_of self.new ≡ wrote (tree_of self.old) hart fd bytes.now) (λ _. self.new ≡ self.old) }
+    {
+        if bytes.is_empty() {
+            return Ok(());
+        }
+        let id = self.descriptor(hart, fd as usize);
+        let by = bytes.len() as u64;
+        if !self.can_advance(id, by) {
+            return Err(NoMemory);
+        }
+        if let Some(file) = self.file_at(hart, fd) {
+            let number = usize::from(file.number);
+            if number >= self.ninodes() {
+                return Err(NoMemory);
+            }
+            self.overwrite(alloc, number, file.offset, bytes)?;
+        }
+        self.advance(id, by);
+        Ok(())
+    }
+
+    fn truncate(&mut self, alloc: Global, hart: u8, fd: u32) -> Result<(), NoMemory>
+        ensures { MatchResult result (λ _. tree_of self.new ≡ truncated (tree_of self.old) (file_at (tree_of self.old) hart fd)) (λ _. self.new ≡ self.old) }
+    {
+        let Some(file) = self.file_at(hart, fd) else {
+            return Ok(());
+        };
+        let number = usize::from(file.number);
+        if number >= self.ninodes() {
+            return Err(NoMemory);
+        }
+        self.empty(alloc, number);
+        Ok(())
+    }
+
+    fn mkdir(
+        &mut self,
+        alloc: Global,
+        parent: Option<u16>,
+        name: &[u8],
+        number: u16,
+    ) -> Result<(), NoMemory>
+        requires { IfSome parent (λ d. live_directory ((tree_of self.old).nodes d) ≡ true) }
+        ensures { MatchResult result (λ _. tree_of self.new ≡ made (tree_of self.old) (with_name parent name.now) number) (λ _. self.new ≡ self.old) }
+    {
+        let Some(directory) = parent else {
+            return Ok(());
+        };
+        if self.count(directory) >= COUNT_LIMIT || !self.is_new(number) {
+            return Err(NoMemory);
+        }
+        self.make_directory(alloc, directory, name, number)
+    }
+
+    fn unlink(&mut self, alloc: Global, parent: Option<u16>, name: &[u8]) -> Result<(), NoMemory>
+        requires { IfSome parent (λ d. live_directory ((tree_of self.old).nodes d) ≡ true) }
+        ensures { MatchResult result (λ _. tree_of self.new ≡ removed (tree_of self.old) (with_name parent name.now)) (λ _. self.new ≡ self.old) }
+    {
+        let Some(directory) = parent else {
+            return Ok(());
+        };
+        self.remove_name(alloc, directory, name)
+    }
+
+    fn find(&mut self, hart: u8, found: Option<u16>)
+        requires { hart < 8 }
+        ensures { tree_of self.new ≡ held (tree_of self.old) hart found }
+    {
+        if let Some(number) = found {
+            self.set_hold(
+                hart,
+                Some(Hold {
+                    number,
+                    raised: false,
+                }),
+            );
+        }
+    }
+
+    fn bump(&mut self, alloc: Global, hart: u8) -> Result<(), NoMemory>
+        requires { hart < 8 }
+        ensures { MatchResult result (λ _. tree_of self.new ≡ record (at_hold (tree_of self.old) ((tree_of self.old).holds hart) raised) { holds = put (tree_of self.old).holds hart (raise_hold ((tree_of self.old).holds hart)) }) (λ _. self.new ≡ self.old) }
+    {
+        let Some(hold) = self.hold(hart) else {
+            self.set_hold(hart, None);
+            return Ok(());
+        };
+        let number = usize::from(hold.number);
+        if number >= self.ninodes() || self.count(hold.number) >= COUNT_LIMIT {
+            return Err(NoMemory);
+        }
+        self.raise(alloc, number);
+        self.set_hold(
+            hart,
+            Some(Hold {
+                number: hold.number,
+                raised: true,
+            }),
+        );
+        Ok(())
+    }
+
+    fn enter_held(
+        &mut self,
+        alloc: Global,
+        hart: u8,
+        parent: Option<u16>,
+        name: &[u8],
+    ) -> Result<(), NoMemory>
+        requires hart { hart < 8 }
+        requires live { IfSome parent (λ d. live_directory ((tree_of self.old).nodes d) ≡ true) }
+        ensures { MatchResult result (λ _. tree_of self.new ≡ drop_hold (enter_hold (tree_of self.old) (with_name parent name.now) ((tree_of self.old).holds hart)) hart) (λ _. self.new ≡ self.old) }
+    {
+        if let Some(directory) = parent {
+            if let Some(hold) = self.hold(hart) {
+                let name = Bytes::new(Vec::from_slice(alloc, name)?);
+                self.enter(alloc, usize::from(directory), name, hold.number)?;
+            }
+        }
+        self.set_hold(hart, None);
+        Ok(())
+    }
+
+    fn unbump(&mut self, alloc: Global, hart: u8) -> Result<(), NoMemory>
+        requires { hart < 8 }
+        ensures { MatchResult result (λ _. tree_of self.new ≡ drop_hold (at_hold (tree_of self.old) ((tree_of self.old).holds hart) lowered) hart) (λ _. self.new ≡ self.old) }
+    {
+        if let Some(hold) = self.hold(hart) {
+            let number = usize::from(hold.number);
+            if number >= self.ninodes() {
+                return Err(NoMemory);
+            }
+            self.lower(alloc, number);
+        }
+        self.set_hold(hart, None);
+        Ok(())
+    }
+
+    fn chdir(&mut self, hart: u8, found: Option<u16>)
+        requires { hart < 8 }
+        ensures { tree_of self.new ≡ at_dir (tree_of self.old) hart found }
+    {
+        if let Some(number) = found {
+            self.set_directory(hart, number);
+        }
+    }
+
+    fn dup(&mut self, hart: u8, fd: u32) -> Result<(), NoMemory>
+        requires { hart < 8 }
+        ensures { MatchResult result (λ _. tree_of self.new ≡ record (tree_of self.old) { fds = put (tree_of self.old).fds hart (put ((tree_of self.old).fds hart) (lowest ((tree_of self.old).fds hart)) ((tree_of self.old).fds hart fd)) }) (λ _. self.new ≡ self.old) }
+    {
+        let free = self.lowest(hart);
+        if free >= DESCRIPTOR_COUNT {
+            return Err(NoMemory);
+        }
+        let id = self.descriptor(hart, fd as usize);
+        self.set_descriptor(hart, free, id);
+        Ok(())
+    }
+
+    fn close(&mut self, hart: u8, fd: u32) -> Result<(), NoMemory>
+        requires { hart < 8 }
+        ensures { MatchResult result (λ _. tree_of self.new ≡ closed (record (tree_of self.old) { fds = put (tree_of self.old).fds hart (put ((tree_of self.old).fds hart) fd None) })) (λ _. self.new ≡ self.old) }
+    {
+        let fd = fd as usize;
+        if fd >= DESCRIPTOR_COUNT {
+            return Err(NoMemory);
+        }
+        self.set_descriptor(hart, fd, None);
+        self.close_orphans();
+        Ok(())
+    }
+
+    fn read(&mut self, hart: u8, fd: u32, count: u64) -> Result<(), NoMemory>
+        ensures { MatchResult result (λ _. tree_of self.new ≡ moved (tree_of self.old) ((tree_of self.old).fds hart fd) count) (λ _. self.new ≡ self.old) }
+    {
+        let id = self.descriptor(hart, fd as usize);
+        if !self.can_advance(id, count) {
+            return Err(NoMemory);
+        }
+        self.advance(id, count);
+        Ok(())
+    }
+
+    fn give_all(&mut self, hart: u8, child: u8) -> Result<(), NoMemory>
+        requires { hart < 8 }
+        ensures { MatchResult result (λ _. tree_of self.new ≡ record (tree_of self.old) { fds = put (tree_of self.old).fds child ((tree_of self.old).fds hart); cwd = put (tree_of self.old).cwd child ((tree_of self.old).cwd hart) }) (λ _. self.new ≡ self.old) }
+    {
+        if child >= HART_COUNT {
+            return Err(NoMemory);
+        }
+        self.inherit(hart, child);
+        Ok(())
+    }
+
+    /// The change that the action makes, where it isn't refused. `answer` is what it answers.
+    #[tactic(auto, unfolding(crate::specs::Steps::effect_with))]
+    pub(crate) fn act(
+        &mut self,
+        alloc: Global,
+        hart: u8,
+        action: &Action,
+        found: Option<u16>,
+        parent: Option<u16>,
+        name: &[u8],
+        number: u16,
+        id: usize,
+        answer: &StepAnswer,
+    ) -> Result<(), NoMemory>
+        requires hart { hart < 8 }
+        requires live { IfSome parent (λ d. live_directory ((tree_of self.old).nodes d) ≡ true) }
+        requires answer { answer.now ≡ answer_with (tree_of self.old) hart action.now found (with_name parent name.now) id }
+        ensures { MatchResult result (λ _. tree_of self.new ≡ effect_with (tree_of self.old) hart action.now found (with_name parent name.now) number id) (λ _. self.new ≡ self.old) }
+    {
+        match action {
+            Action::Open { flags, .. } if has_flag(*flags, CREATE) => self.open_named(
+                alloc, hart, parent, name, *flags, number, id,
+            ),
+            Action::Open { flags, .. } => self.open_found(alloc, hart, found, *flags, number, id),
+            Action::Truncate { fd } => self.truncate(alloc, hart, *fd),
+            Action::Read { fd, .. } => self.read(hart, *fd, bytes_read(answer)),
+            Action::WritePart { fd, bytes } => self.write_part(alloc, hart, *fd, bytes.as_slice()),
+            Action::Find { .. } => {
+                self.find(hart, found);
+                Ok(())
+            }
+            Action::Bump => self.bump(alloc, hart),
+            Action::Enter { .. } => self.enter_held(alloc, hart, parent, name),
+            Action::Unbump => self.unbump(alloc, hart),
+            Action::Unlink { .. } => self.unlink(alloc, parent, name),
+            Action::Mkdir { .. } => self.mkdir(alloc, parent, name, number),
+            Action::Chdir { .. } => {
+                self.chdir(hart, found);
+                Ok(())
+            }
+            Action::Dup { fd } => self.dup(hart, *fd),
+            Action::Close { fd } => self.close(hart, *fd),
+            Action::Fstat { .. } => Ok(()),
+            Action::Inherit { child } => self.give_all(hart, *child),
+        }
+    }
+}

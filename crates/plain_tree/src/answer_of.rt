@@ -1,0 +1,174 @@
+//! What a step that isn't refused answers.
+ghost use Rattle.std.specs.Prelude.{◌≡◌, IfOk, take, drop};
+ghost use Rattle.plain_tree.specs.Code.{read_count, with_name};
+ghost use Rattle.plain_tree.specs.Steps.{answer_with, opened, size_of, opens_file, part, stat_answer, stat_of, type_of};
+ghost use Rattle.plain_tree.specs.Tree.{and_then, look, tree_of};
+
+use crate::answer::{Full, NodeType, Stat};
+use crate::bytes::Bytes;
+use crate::node::Kind;
+use crate::refusal::has_flag;
+use crate::refused::NoMemory;
+use crate::slots::entries;
+use crate::step::{Action, StepAnswer};
+use crate::tree::{OpenFile, Tree};
+use crate::widths::{CREATE, DESCRIPTOR_COUNT, ENTRY_WIDTH, ROOT_DEVICE};
+use std::alloc::Global;
+
+/// So many bytes from the offset on, as far as there are.
+fn cut_out(alloc: Global, bytes: &[u8], offset: u64, count: usize) -> Result<Vec<u8>, NoMemory>
+    ensures { IfOk result (λ v. v.items ≡ take count (drop offset bytes.now)) }
+{
+    let start = if offset < bytes.len() as u64 {
+        offset as usize
+    } else {
+        bytes.len()
+    };
+    let rest = &bytes[start..];
+    let end = if count < rest.len() {
+        count
+    } else {
+        rest.len()
+    };
+    Ok(Vec::from_slice(alloc, &rest[..end])?)
+}
+
+fn node_type(kind: &Kind) -> NodeType
+    ensures { result ≡ type_of kind.now }
+{
+    match kind {
+        Kind::Directory { .. } => NodeType::Directory,
+        Kind::File { .. } => NodeType::File,
+        Kind::Device { .. } => NodeType::Device,
+    }
+}
+
+fn size(kind: &Kind) -> u64
+    ensures { result ≡ size_of kind.now }
+{
+    match kind {
+        Kind::Directory { slots } => slots.as_slice().len() as u64 * ENTRY_WIDTH as u64,
+        Kind::File { bytes } => bytes.as_slice().len() as u64,
+        Kind::Device { size, .. } => u64::from(*size),
+    }
+}
+
+/// The number of bytes that a read's answer has.
+pub(crate) fn bytes_read(answer: &StepAnswer) -> u64
+    ensures { result ≡ read_count answer.now }
+{
+    match answer {
+        StepAnswer::Bytes { bytes } => bytes.as_slice().len() as u64,
+        _ => 0,
+    }
+}
+
+impl Tree {
+    fn part(&self, alloc: Global, file: Option<OpenFile>, count: usize) -> Result<Vec<u8>, NoMemory>
+        ensures { IfOk result (λ v. v.items ≡ part (tree_of self.now) file count) }
+    {
+        let Some(file) = file else {
+            return Ok(Vec::new(alloc));
+        };
+        match self.node(usize::from(file.number)) {
+            None => cut_out(alloc, &[], file.offset, count),
+            Some(node) => match &node.kind {
+                Kind::Directory { slots } => {
+                    let content = entries(alloc, slots.as_slice())?;
+                    cut_out(alloc, &content, file.offset, count)
+                }
+                Kind::File { bytes } => cut_out(alloc, bytes.as_slice(), file.offset, count),
+                Kind::Device { .. } => cut_out(alloc, &[], file.offset, count),
+            },
+        }
+    }
+
+    fn stat(&self, file: Option<OpenFile>) -> StepAnswer
+        ensures { result ≡ stat_answer (tree_of self.now) file }
+    {
+        let Some(file) = file else {
+            return StepAnswer::Done;
+        };
+        let (kind, nlink, size) = match self.node(usize::from(file.number)) {
+            Some(node) => (node_type(&node.kind), node.count, size(&node.kind)),
+            None => (NodeType::File, 0, 0),
+        };
+        StepAnswer::Stat {
+            stat: Stat {
+                device: ROOT_DEVICE,
+                inode: file.number,
+                kind,
+                nlink,
+                size,
+            },
+        }
+    }
+
+    fn opens_file(&self, number: Option<u16>) -> bool
+        ensures { result ≡ opens_file (tree_of self.now) number }
+    {
+        match number {
+            Some(number) => self.is_file(number),
+            None => true,
+        }
+    }
+
+    fn opened(&self, hart: u8, id: usize, number: Option<u16>) -> StepAnswer
+        ensures { result ≡ opened (tree_of self.now) hart id number }
+    {
+        let fd = self.lowest(hart);
+        if fd < DESCRIPTOR_COUNT {
+            let is_file = self.opens_file(number);
+            StepAnswer::Opened {
+                fd: fd as u32,
+                id,
+                is_file,
+            }
+        } else {
+            StepAnswer::Full {
+                full: Full::Descriptors,
+            }
+        }
+    }
+
+    /// What an open finds under the name.
+    fn look_in(&self, parent: Option<u16>, name: &[u8]) -> Option<u16>
+        ensures { result ≡ and_then (with_name parent name.now) (λ q. look (tree_of self.now).nodes q.0 q.1) }
+    {
+        let directory = parent?;
+        self.look(directory, name)
+    }
+
+    /// The answer of the action, where it isn't refused.
+    #[tactic(auto, unfolding(crate::specs::Steps::answer_with))]
+    pub(crate) fn answer(
+        &self,
+        alloc: Global,
+        hart: u8,
+        action: &Action,
+        found: Option<u16>,
+        parent: Option<u16>,
+        name: &[u8],
+        id: usize,
+    ) -> Result<StepAnswer, NoMemory>
+        ensures { IfOk result (λ a. a ≡ answer_with (tree_of self.now) hart action.now found (with_name parent name.now) id) }
+    {
+        match action {
+            Action::Open { flags, .. } if has_flag(*flags, CREATE) => Ok(self.opened(
+                hart,
+                id,
+                self.look_in(parent, name),
+            )),
+            Action::Open { .. } => Ok(self.opened(hart, id, found)),
+            Action::Read { fd, count } => {
+                let bytes = Bytes::new(self.part(alloc, self.file_at(hart, *fd), *count)?);
+                Ok(StepAnswer::Bytes { bytes })
+            }
+            Action::Dup { .. } => Ok(StepAnswer::Fd {
+                fd: self.lowest(hart) as u32,
+            }),
+            Action::Fstat { fd } => Ok(self.stat(self.file_at(hart, *fd))),
+            _ => Ok(StepAnswer::Done),
+        }
+    }
+}

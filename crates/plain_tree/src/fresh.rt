@@ -1,0 +1,64 @@
+//! The parts of a fresh tree.
+ghost use Rattle.std.specs.Prelude.{◌≡◌, ◌++◌, ◌-◌, ◌∷◌, IfOk, replicate};
+ghost use Rattle.plain_tree.specs.Fresh.{fresh_hart, fresh_root};
+
+use crate::act::slot;
+use crate::node::{Kind, Node, Slot, Slots};
+use crate::refused::NoMemory;
+use crate::tree::Hart;
+use crate::widths::{DOT, DOTDOT, FRESH_SLOTS, ROOT};
+use std::alloc::Global;
+
+fn push_free(slots: &mut Vec<Option<Slot>>, count: usize) -> Result<(), NoMemory>
+    ensures { IfOk result (λ _. slots.new.items ≡ slots.old.items ++ replicate count None) }
+{
+    for _ in 0..count {
+        slots.push(None)?;
+    }
+    Ok(())
+}
+
+fn push_absent(nodes: &mut Vec<Option<Node>>, count: usize) -> Result<(), NoMemory>
+    ensures { IfOk result (λ _. nodes.new.items ≡ nodes.old.items ++ replicate count None) }
+{
+    for _ in 0..count {
+        nodes.push(None)?;
+    }
+    Ok(())
+}
+
+fn fresh_root(alloc: Global) -> Result<Node, NoMemory>
+    ensures { IfOk result (λ v. v ≡ fresh_root) }
+{
+    let mut slots = Vec::new(alloc);
+    slots.push(slot(alloc, &DOT, ROOT)?)?;
+    slots.push(slot(alloc, &DOTDOT, ROOT)?)?;
+    push_free(&mut slots, FRESH_SLOTS - 2)?;
+    let slots = Slots::new(slots);
+    Ok(Node {
+        count: 1,
+        kind: Kind::Directory { slots },
+    })
+}
+
+/// The nodes of a fresh tree: the root alone.
+pub(crate) fn fresh_nodes(alloc: Global, ninodes: u16) -> Result<Vec<Option<Node>>, NoMemory>
+    ensures { IfOk result (λ v. v.items ≡ None ∷ Some fresh_root ∷ replicate (ninodes - 2) None) }
+{
+    let mut nodes = Vec::new(alloc);
+    nodes.push(None)?;
+    nodes.push(Some(fresh_root(alloc)?))?;
+    push_absent(&mut nodes, usize::from(ninodes.saturating_sub(2)))?;
+    Ok(nodes)
+}
+
+/// A hart in the root with nothing open.
+pub(crate) fn fresh_hart() -> Hart
+    ensures { result ≡ fresh_hart }
+{
+    Hart {
+        directory: ROOT,
+        descriptors: [None; 16],
+        hold: None,
+    }
+}
