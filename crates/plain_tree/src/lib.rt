@@ -6,11 +6,14 @@ mod act;
 mod answer;
 mod answer_of;
 mod apply;
+#[cfg(test)]
+mod apply_tests;
 mod bytes;
 mod call;
 mod change;
 mod copy;
 mod fresh;
+pub mod laws;
 mod look;
 mod named;
 mod node;
