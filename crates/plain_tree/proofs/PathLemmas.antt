@@ -1,5 +1,5 @@
 -- The elements of a path, found byte by byte.
-use Rattle.std.proofs.Common.{◌≡◌, ◌≢◌, ℕ, zero, suc, ◌+◌, ◌<◌, ◌≤◌, Bool, true, false, ◌&&◌, List, [], ◌∷◌, ◌++◌, length, take, drop, map, filter, get_or, ◌==◌, refl, sym, ◌∙◌, ap, not, arith, add-one, drop-cons, append-nil, nat_eq}
+use Rattle.std.proofs.Common.{◌≡◌, ◌≢◌, ℕ, suc, ◌+◌, ◌<◌, ◌≤◌, true, false, ◌&&◌, List, [], ◌∷◌, ◌++◌, length, take, drop, map, filter, get_or, ◌==◌, refl, sym, ◌∙◌, ap, not, arith, add-one, drop-cons, nat_eq}
 use Rattle.std.proofs.lemmas.List.{take_more, drop_all, take_all}
 use lib.Pointwise.{pointwise}
 use Rattle.std.proofs.lemmas.Bool.Decides.{nat_tests}

@@ -13,7 +13,7 @@ use Rattle.plain_tree.specs.declared.step.StepAnswer.TheVariants.{Opened, Bytes,
 use Rattle.plain_tree.specs.declared.trace.Placed.{Placed}
 use Rattle.plain_tree.specs.Tree.{Name, Tree, resolve, parent, settle, look, and_then}
 use Rattle.plain_tree.specs.Steps.{Step, StepWith, MayChoose, IsInPlace, IsNewNode, answer_with, effect_with, refusal, refusal_with, refused, path_of, place_of, makes_node, opens_one, opens_file, stat_answer, file_at, has_room, lowest, opened, creates, with_file, opened_new, opened_in, opened_at}
-use Rattle.plain_tree.specs.Applied.{Outcome, applied, in_place, IsAppliedAt, IsBadChoice}
+use Rattle.plain_tree.specs.Applied.{Outcome, applied, in_place, IsAppliedAt, IsBadChoice, id_of}
 use Rattle.plain_tree.specs.Explains.{Chain}
 use Rattle.plain_tree.specs.Widths.{hart_count}
 
@@ -153,16 +153,6 @@ taken_by t s a t' id names x =
     let r : Option Cause = refusal t s.hart s.action in
     let e : in_place t s r x.0 ≡ record { answer = a; tree = t' } = sym (applied_in t s x.0 y.place) ∙ y.is in
     record { is = applied_in t s id y.place ∙ (in_place_same t s r a id x.0 t' e names ∙ e); chosen = y.chosen }
-
--- the id that the answer says; where it is of no open any serves
-abbrev id_of : StepAnswer → ℕ
-id_of (Opened fd id f) = id
-id_of (Bytes b) = 0
-id_of (Status s) = 0
-id_of (NewFd fd) = 0
-id_of Done = 0
-id_of (Failed k) = 0
-id_of (NoRoom f) = 0
 
 names_own : (a : StepAnswer) → Names a (id_of a)
 names_own (Opened fd id f) fd' j g e = cc

@@ -1,5 +1,5 @@
 -- A tree's data changed in one place, and what its functions then say.
-use Rattle.std.proofs.Common.{◌^◌, ◌&&◌, nat_lt, Result, Ok, Err, MatchResult, ◌≡◌, ◌≢◌, ℕ, zero, suc, ◌+◌, ◌<◌, ◌≤◌, Bool, true, false, List, [], ◌∷◌, ◌++◌, length, take, drop, get_or, ◌==◌, ◌⊎◌, inl, inr, refl, sym, ◌∙◌, ap, subst, arith, add-one, Option, Some, None, if◌then◌else◌, get_or-set_other, get_or-set_same}
+use Rattle.std.proofs.Common.{◌^◌, ◌&&◌, nat_lt, Result, Ok, Err, MatchResult, ◌≡◌, ◌≢◌, ℕ, zero, suc, ◌+◌, ◌<◌, ◌≤◌, Bool, true, false, List, [], ◌∷◌, ◌++◌, length, take, get_or, ◌==◌, ◌⊎◌, inl, inr, refl, sym, ◌∙◌, ap, arith, Option, Some, None, get_or-set_other, get_or-set_same}
 use Rattle.std.proofs.Math.Path.{fun_ext}
 use Rattle.std.proofs.Math.ListN.{set, length-set, get_or-eq_default}
 use Rattle.std.proofs.lemmas.List.{take_more, set-get_or}

@@ -4,7 +4,6 @@ ghost use Rattle.plain_tree.specs.Explains.{IsNamedPart};
 ghost use Rattle.plain_tree.specs.Marks.{FindsMarked, FindsNew, IsClosed, IsNext, LooksMarked, LooksNew, MarksAll, MarksReached, at_rest, is_marked};
 ghost use Rattle.plain_tree.specs.Tree.{tree_of};
 
-use crate::copy::copy_node;
 use crate::look::number_of;
 use crate::node::{Kind, Node, Slot};
 use crate::refused::NoMemory;
@@ -94,7 +93,7 @@ impl Tree {
         ensures { IfOk result (λ v. v ≡ (tree_of self.now).nodes number) }
     {
         match self.node(number) {
-            Some(node) => Ok(Some(copy_node(alloc, node)?)),
+            Some(node) => Ok(Some(node.try_clone(alloc)?)),
             None => Ok(None),
         }
     }

@@ -7,7 +7,7 @@ ghost use Rattle.plain_tree.specs.Steps.{closed, moved, node_at, with_nodes};
 ghost use Rattle.plain_tree.specs.Tree.{file_in, hart_at, put, tree_of};
 
 use crate::bytes::Bytes;
-use crate::copy::copy_nodes;
+use crate::copy::nodes_copy;
 use crate::fresh::{fresh_hart, fresh_nodes};
 use crate::node::{Kind, Node};
 use crate::refused::NoMemory;
@@ -90,19 +90,6 @@ impl Tree {
             nodes,
             files: Vec::new(alloc),
             harts: [fresh_hart(); 8],
-        })
-    }
-
-    /// The same tree.
-    pub fn try_clone(&self, alloc: Global) -> Result<Tree, NoMemory>
-        ensures { IfOk result (λ t. t ≡ self.now) }
-    {
-        let nodes = copy_nodes(alloc, &self.nodes)?;
-        let files = Vec::from_slice(alloc, &self.files)?;
-        Ok(Tree {
-            nodes,
-            files,
-            harts: self.harts,
         })
     }
 
@@ -296,11 +283,26 @@ impl Tree {
 }
 
 impl Tree {
+    /// The same tree.
+    pub fn try_clone(&self, alloc: Global) -> Result<Tree, NoMemory>
+        ensures { IfOk result (λ t. t ≡ self.now) }
+    {
+        Ok(Tree {
+            nodes: nodes_copy(alloc, &self.nodes)?,
+            files: Vec::from_slice(alloc, &self.files)?,
+            harts: self.harts,
+        })
+    }
+
     /// These nodes, with nothing open and all harts at rest in the root.
     pub(crate) fn at_rest(alloc: Global, nodes: Vec<Option<Node>>) -> Tree
         ensures { result ≡ at_rest nodes.items }
     {
-        let hart = fresh_hart();
+        let hart = Hart {
+            directory: ROOT,
+            descriptors: [None; 16],
+            hold: None,
+        };
         Tree {
             nodes,
             files: Vec::new(alloc),

@@ -1,4 +1,3 @@
-use Rattle.std.proofs.lemmas.List.{take_more}
 use Rattle.plain_tree.proofs.TreeLemmas.{none_next}
 use Rattle.plain_tree.proofs.tree.entry_of.Goals as goal
 

@@ -1,5 +1,4 @@
 use Rattle.std.proofs.Common.{ap, ℕ}
-use Rattle.plain_tree.specs.declared.node.Node.{Node}
 use Rattle.plain_tree.specs.Tree.{tree_of}
 use Rattle.plain_tree.specs.Steps.{lowered}
 use Rattle.plain_tree.proofs.TreeLemmas.{changed}

@@ -1,4 +1,4 @@
-use Rattle.std.proofs.Common.{sym, ◌∙◌}
+use Rattle.std.proofs.Common.{◌∙◌}
 use Rattle.plain_tree.proofs.ReadLemmas.{lowest_next}
 use Rattle.plain_tree.proofs.tree.Tree.lowest.Goals as goal
 
