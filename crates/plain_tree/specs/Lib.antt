@@ -11,3 +11,4 @@ pub mod Code
 pub mod Rows
 pub mod Marks
 pub mod OneEnd
+pub mod Laws

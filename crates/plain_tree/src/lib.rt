@@ -6,13 +6,18 @@ mod act;
 mod answer;
 mod answer_of;
 mod apply;
+#[cfg(test)]
+mod apply_tests;
 mod bytes;
 mod call;
 mod change;
 mod copy;
 mod fresh;
+pub mod laws;
 mod look;
 mod named;
+#[cfg(test)]
+mod named_tests;
 mod node;
 mod one_end;
 mod paths;
