@@ -5,6 +5,7 @@ use buffer_cache::{BUFFERS, BUFFERS_OF_A_HART, Buffer, Buffers, Cache, Got};
 use std::alloc::Global;
 
 const ROUNDS: u32 = 20_000;
+
 const HART: u8 = 1;
 
 /// Each cached block got and given back, the least recent one each time: one operation is both.
@@ -20,7 +21,11 @@ pub fn get_and_release(alloc: Global) -> Result<u64, WorkloadError> {
         }
     }
     let _ = cache.retire();
-    if sum == count { Ok(count) } else { Err(WorkloadError::Wrong) }
+    if sum == count {
+        Ok(count)
+    } else {
+        Err(WorkloadError::Wrong)
+    }
 }
 
 // Gets a block and gives it back: a byte of it, or 0 where it was not had.
@@ -32,7 +37,11 @@ fn touch<D: Device>(cache: &mut Cache<D>, b: u32) -> u64 {
         Got::Waits => 0,
         Got::Held(mut guard) => {
             let is_read = guard.value().is_valid() || cache.fill(&mut guard).is_ok();
-            let byte = if is_read { first_byte(guard.value()) } else { 0 };
+            let byte = if is_read {
+                first_byte(guard.value())
+            } else {
+                0
+            };
             cache.release(guard);
             byte
         }
@@ -40,5 +49,9 @@ fn touch<D: Device>(cache: &mut Cache<D>, b: u32) -> u64 {
 }
 
 fn first_byte(buffer: &Buffer) -> u64 {
-    if buffer.is_valid() { u64::from(buffer.bytes()[0]) } else { 0 }
+    if buffer.is_valid() {
+        u64::from(buffer.bytes()[0])
+    } else {
+        0
+    }
 }

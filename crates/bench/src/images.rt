@@ -8,9 +8,13 @@ use std::alloc::{AllocError, Global};
 type NewFile = (Vec<u8>, Vec<u8>);
 
 const FRESH_BLOCKS: u32 = 2000;
+
 const FRESH_INODES: u32 = 200;
+
 const LARGEST_BLOCKS: u32 = 8191;
+
 const LARGEST_INODES: u32 = 1200;
+
 const BLOCK: usize = 1024;
 
 // So many files of so many bytes.

@@ -6,7 +6,9 @@ use sleep_lock::Slots;
 use std::alloc::Global;
 
 const ROUNDS: u32 = 80_000;
+
 const SLOTS: u32 = 50;
+
 const HART: u8 = 3;
 
 /// Values on the heap, locked and unlocked: one operation is both.
@@ -27,7 +29,11 @@ pub fn lock_and_unlock(alloc: Global) -> Result<u64, WorkloadError> {
     }
     let operations = u64::from(ROUNDS) * u64::from(SLOTS);
     let expected = u64::from(ROUNDS) * u64::from(SLOTS * (SLOTS - 1) / 2);
-    if sum == expected { Ok(operations) } else { Err(WorkloadError::Wrong) }
+    if sum == expected {
+        Ok(operations)
+    } else {
+        Err(WorkloadError::Wrong)
+    }
 }
 
 // Locks a slot and unlocks it: its value, or 0 where it was not had.

@@ -4,7 +4,9 @@ use plain_tree::{Action, Bytes, StepAnswer, Tree, TreeStep};
 use std::alloc::{AllocError, Global};
 
 const NODES: u16 = 200;
+
 const CREATE: u32 = 0x200;
+
 const ROUNDS: u32 = 2000;
 
 fn path(alloc: Global, number: u16) -> Result<Bytes, AllocError> {
@@ -18,7 +20,11 @@ fn apply(
     new: u16,
     action: Action,
 ) -> Result<StepAnswer, WorkloadError> {
-    let step = TreeStep { hart: 0, new, action };
+    let step = TreeStep {
+        hart: 0,
+        new,
+        action,
+    };
     tree.apply(alloc, &step).map_err(|_| WorkloadError::Wrong)
 }
 

@@ -258,9 +258,9 @@ named_part d marks nodes named is m size each = subst (λ (x : TreeData). IsName
   ];
   others = λ n no. elim (cases_lt n (length marks)) [
     | inl lt ↦ each n lt ∙ elim (cases_Bool (is_marked marks n)) [
-        | inl y ↦ absurd (no (m.reached n lt y))
-        | inr y ↦ rw y refl
-      ]
+      | inl y ↦ absurd (no (m.reached n lt y))
+      | inr y ↦ rw y refl
+    ]
     | inr ge ↦ get_or-eq_default nodes None (omega (arith, size, ge))
   ];
   files = λ id. refl;

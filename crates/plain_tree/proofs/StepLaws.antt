@@ -186,6 +186,7 @@ new_or_not t n = elim (cases_Bool (nat_lt 0 n && nat_lt n t.ninodes)) [
   free : (r : Option Node) → t.nodes n ≡ r → nat_lt 0 n ≡ true → nat_lt n t.ninodes ≡ true → IsNewNode t n ⊎ (IsNewNode t n → ⊥)
   free None e a b = inl (record { from = grind (arith, nat_tests); below = grind (arith, nat_tests); unused = e })
   free (Some v) e a b = inr (λ x. absurd (let y : Some v ≡ None = sym e ∙ x.unused in cc))
+
   out : 1 ≤ n → n < t.ninodes → (nat_lt 0 n && nat_lt n t.ninodes) ≡ false → ⊥
   out a b y = grind (arith, nat_tests)
 

@@ -23,9 +23,25 @@ fn grown(alloc: Global) -> Result<Tree, ApplyRefused> {
     let d = path(alloc, "d")?;
     let _ = make(alloc, &mut tree, 2, Action::Mkdir { path: d })?;
     let f = path(alloc, "d/f")?;
-    let _ = make(alloc, &mut tree, 3, Action::Open { path: f, flags: 514 })?;
+    let _ = make(
+        alloc,
+        &mut tree,
+        3,
+        Action::Open {
+            path: f,
+            flags: 514,
+        },
+    )?;
     let g = path(alloc, "g")?;
-    let _ = make(alloc, &mut tree, 4, Action::Open { path: g, flags: 514 })?;
+    let _ = make(
+        alloc,
+        &mut tree,
+        4,
+        Action::Open {
+            path: g,
+            flags: 514,
+        },
+    )?;
     let g = path(alloc, "g")?;
     let _ = make(alloc, &mut tree, 0, Action::Unlink { path: g })?;
     let d = path(alloc, "d")?;
