@@ -1,6 +1,6 @@
 //! A log over disks in memory: who waits, what a commit writes, and what a fault leaves.
-ghost use Rattle.std.specs.Prelude.{◌≡◌, [], length, IfSome};
-ghost use Rattle.fs_layout.specs.Recovered.{logged};
+ghost use Rattle.std.specs.Prelude.{◌≡◌, ◌<◌, [], length, IfOk, OnOk};
+ghost use Rattle.fs_layout.specs.Recovered.{block_at, logged, sizes_of};
 ghost use Rattle.group_log.specs.Soundness.{IsPlaced};
 
 use crate::{Left, Log, Phase, Progress, Txn};
@@ -72,27 +72,59 @@ impl Device for Watched {
     }
 }
 
-// Where the parts of a disk lie whose log is empty.
-fn parts<D: Device>(device: &mut D) -> Option<Super>
-    ensures place { IfSome result (λ sizes. IsPlaced (D.contents device.new) sizes) }
-    ensures empty { IfSome result (λ _. logged (D.contents device.new) ≡ []) }
+// Reads a block.
+fn read<D: Device>(device: &mut D, b: u32) -> Result<[u8; BLOCK_SIZE], Fault>
+    requires { b < length (D.contents device.old) }
+    ensures read { IfOk result (λ block. block ≡ block_at (D.contents device.old) b) }
+    ensures contents { D.contents device.new ≡ D.contents device.old }
 {
-    let blocks = u64::from(device.blocks());
-    if blocks < 2 {
-        return None;
-    }
     let mut block = [0; BLOCK_SIZE];
-    device.read(1, &mut block).ok()?;
-    let sizes = read_super(&block)?;
-    if sizes.logstart < 2 || sizes.nlog == 0 || blocks < u64::from(sizes.logstart) + u64::from(sizes.nlog) {
-        return None;
+    device.read(b, &mut block)?;
+    Ok(block)
+}
+
+// Where the parts of a disk lie.
+fn sizes_in<D: Device>(device: &mut D) -> Result<Super, Fault>
+    requires { 1 < length (D.contents device.old) }
+    ensures sizes { IfOk result (λ sizes. sizes_of (D.contents device.old) ≡ sizes) }
+    ensures contents { D.contents device.new ≡ D.contents device.old }
+{
+    let block = read(device, 1)?;
+    match read_super(&block) {
+        Some(sizes) => Ok(sizes),
+        None => Err(Fault),
     }
-    device.read(sizes.logstart, &mut block).ok()?;
-    let head = read_log_head(&block)?;
-    if !head.blocks.is_empty() {
-        return None;
+}
+
+// Fails where the log isn't empty.
+fn check_log<D: Device>(device: &mut D, logstart: u32) -> Result<(), Fault>
+    requires within { logstart < length (D.contents device.old) }
+    requires sizes { (sizes_of (D.contents device.old)).logstart ≡ logstart }
+    ensures empty { OnOk result (logged (D.contents device.old) ≡ []) }
+    ensures contents { D.contents device.new ≡ D.contents device.old }
+{
+    let block = read(device, logstart)?;
+    match read_log_head(&block) {
+        Some(head) => if head.blocks.is_empty() { Ok(()) } else { Err(Fault) },
+        None => Err(Fault),
     }
-    Some(sizes)
+}
+
+// Where the parts of a disk lie whose log is empty.
+fn parts<D: Device>(device: &mut D) -> Result<Super, Fault>
+    ensures place { IfOk result (λ sizes. IsPlaced (D.contents device.new) sizes) }
+    ensures empty { IfOk result (λ _. logged (D.contents device.new) ≡ []) }
+{
+    let blocks = device.blocks();
+    if blocks < 2 {
+        return Err(Fault);
+    }
+    let sizes = sizes_in(device)?;
+    if sizes.logstart < 2 || sizes.nlog == 0 || blocks < sizes.logstart || blocks - sizes.logstart < sizes.nlog {
+        return Err(Fault);
+    }
+    check_log(device, sizes.logstart)?;
+    Ok(sizes)
 }
 
 fn open<D: Device>(rt: &impl Abort, alloc: Global, device: D) -> Log<D> {
@@ -139,6 +171,12 @@ fn change<D: Device>(rt: &impl Abort, log: &mut Log<D>, txn: &mut Txn, b: u32, b
             }
             *guard.value_mut().bytes_mut() = [byte; BLOCK_SIZE];
             assert!(rt; log.may_record(txn, b));
+            match log.phase() {
+                Phase::Halted => panic!(rt; "it isn't halted"),
+                Phase::Open => {}
+                Phase::Staging(_) => {}
+                Phase::Installing(_) => {}
+            }
             log.record(txn, guard);
             Ok(())
         }
