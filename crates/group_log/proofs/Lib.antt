@@ -11,3 +11,4 @@ pub mod Committed
 pub mod Recorded
 pub mod Cuts
 pub mod Fresh
+pub mod Heads

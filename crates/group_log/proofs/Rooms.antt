@@ -94,3 +94,18 @@ member_leaves (None ∷ ms) zero is = absurd is
 member_leaves (Some k ∷ ms) zero is = let a = joined-cons (Some k) ms in let b = joined-cons None ms in omega (arith, a, b)
 member_leaves (None ∷ ms) (suc i) is = let a = member_leaves ms i is in let b = joined-cons None ms in let d = joined-cons None (slice_set ms i None) in omega (arith, a, b, d)
 member_leaves (Some k ∷ ms) (suc i) is = let a = member_leaves ms i is in let b = joined-cons (Some k) ms in let d = joined-cons (Some k) (slice_set ms i None) in omega (arith, a, b, d)
+
+-- a hart with a count is in a transaction, and has room where the count is low
+pub member_at : (ms : List (Option ℕ)) (i k : ℕ) → get_or ms i None ≡ Some k → IsMember ms i
+member_at [] i k e = absurd (cc e)
+member_at (None ∷ ms) zero k e = absurd (cc e)
+member_at (Some j ∷ ms) zero k e = tt
+member_at (None ∷ ms) (suc i) k e = member_at ms i k e
+member_at (Some j ∷ ms) (suc i) k e = member_at ms i k e
+
+pub room_at : (ms : List (Option ℕ)) (i k : ℕ) → get_or ms i None ≡ Some k → k < 10 → HasRoom ms i
+room_at [] i k e lt = absurd (cc e)
+room_at (None ∷ ms) zero k e lt = absurd (cc e)
+room_at (Some j ∷ ms) zero k e lt = let a : j ≡ k = cc e in omega (arith, a, lt)
+room_at (None ∷ ms) (suc i) k e lt = room_at ms i k e lt
+room_at (Some j ∷ ms) (suc i) k e lt = room_at ms i k e lt

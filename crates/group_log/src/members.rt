@@ -57,7 +57,13 @@ pub(crate) fn add(
 pub(crate) fn is_member(members: &[Option<u8>], hart: usize) -> bool
     ensures { IsTrue result → IsMember members.now hart }
 {
-    hart < members.len() && members[hart].is_some()
+    if members.len() <= hart {
+        return false;
+    }
+    match members[hart] {
+        Some(_) => true,
+        None => false,
+    }
 }
 
 // Whether the hart is in a transaction that may add a block.

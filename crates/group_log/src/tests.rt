@@ -1,6 +1,6 @@
 //! A log over disks in memory: who waits, what a commit writes, and what a fault leaves.
-ghost use Rattle.std.specs.Prelude.{◌≡◌, [], length, IfSome};
-ghost use Rattle.fs_layout.specs.Recovered.{logged};
+ghost use Rattle.std.specs.Prelude.{◌≡◌, ◌<◌, [], length, IfOk, OnOk};
+ghost use Rattle.fs_layout.specs.Recovered.{block_at, logged, sizes_of};
 ghost use Rattle.group_log.specs.Soundness.{IsPlaced};
 
 use crate::{Left, Log, Phase, Progress, Txn};
@@ -72,39 +72,65 @@ impl Device for Watched {
     }
 }
 
-// Where the parts of a disk lie whose log is empty.
-fn parts<D: Device>(device: &mut D) -> Option<Super>
-    ensures place { IfSome result (λ sizes. IsPlaced (D.contents device.new) sizes) }
-    ensures empty { IfSome result (λ _. logged (D.contents device.new) ≡ []) }
+// Reads a block.
+fn read<D: Device>(device: &mut D, b: u32) -> Result<[u8; BLOCK_SIZE], Fault>
+    requires { b < length (D.contents device.old) }
+    ensures read { IfOk result (λ block. block ≡ block_at (D.contents device.old) b) }
+    ensures contents { D.contents device.new ≡ D.contents device.old }
 {
-    let blocks = u64::from(device.blocks());
-    if blocks < 2 {
-        return None;
-    }
     let mut block = [0; BLOCK_SIZE];
-    device.read(1, &mut block).ok()?;
-    let sizes = read_super(&block)?;
-    if sizes.logstart < 2
-        || sizes.nlog == 0
-        || blocks < u64::from(sizes.logstart) + u64::from(sizes.nlog)
-    {
-        return None;
+    device.read(b, &mut block)?;
+    Ok(block)
+}
+
+// Where the parts of a disk lie.
+fn sizes_in<D: Device>(device: &mut D) -> Result<Super, Fault>
+    requires { 1 < length (D.contents device.old) }
+    ensures sizes { IfOk result (λ sizes. sizes_of (D.contents device.old) ≡ sizes) }
+    ensures contents { D.contents device.new ≡ D.contents device.old }
+{
+    let block = read(device, 1)?;
+    match read_super(&block) {
+        Some(sizes) => Ok(sizes),
+        None => Err(Fault),
     }
-    device.read(sizes.logstart, &mut block).ok()?;
-    let head = read_log_head(&block)?;
-    if !head.blocks.is_empty() {
-        return None;
+}
+
+// Fails where the log isn't empty.
+fn check_log<D: Device>(device: &mut D, logstart: u32) -> Result<(), Fault>
+    requires within { logstart < length (D.contents device.old) }
+    requires sizes { (sizes_of (D.contents device.old)).logstart ≡ logstart }
+    ensures empty { OnOk result (logged (D.contents device.old) ≡ []) }
+    ensures contents { D.contents device.new ≡ D.contents device.old }
+{
+    let block = read(device, logstart)?;
+    match read_log_head(&block) {
+        Some(head) => if head.blocks.is_empty() { Ok(()) } else { Err(Fault) },
+        None => Err(Fault),
     }
-    Some(sizes)
+}
+
+// Where the parts of a disk lie whose log is empty.
+fn parts<D: Device>(device: &mut D) -> Result<Super, Fault>
+    ensures place { IfOk result (λ sizes. IsPlaced (D.contents device.new) sizes) }
+    ensures empty { IfOk result (λ _. logged (D.contents device.new) ≡ []) }
+{
+    let blocks = device.blocks();
+    if blocks < 2 {
+        return Err(Fault);
+    }
+    let sizes = sizes_in(device)?;
+    if sizes.logstart < 2 || sizes.nlog == 0 || blocks < sizes.logstart || blocks - sizes.logstart < sizes.nlog {
+        return Err(Fault);
+    }
+    check_log(device, sizes.logstart)?;
+    Ok(sizes)
 }
 
 fn open<D: Device>(rt: &impl Abort, alloc: Global, device: D) -> Log<D> {
     let mut device = device;
     let sizes = parts(&mut device).expect(rt, "the log is empty");
-    Log::new(
-        Cache::new(Buffers::new(alloc).expect(rt, "memory"), device),
-        sizes,
-    )
+    Log::new(Cache::new(Buffers::new(alloc).expect(rt, "memory"), device), sizes)
 }
 
 fn join<D: Device>(rt: &impl Abort, log: &mut Log<D>, hart: u8) -> Option<Txn> {
@@ -131,13 +157,7 @@ fn leave<D: Device>(rt: &impl Abort, log: &mut Log<D>, txn: Txn) -> Left {
 }
 
 // Fills a block with this byte, and records it. An error is the device's.
-fn change<D: Device>(
-    rt: &impl Abort,
-    log: &mut Log<D>,
-    txn: &mut Txn,
-    b: u32,
-    byte: u8,
-) -> Result<(), Fault> {
+fn change<D: Device>(rt: &impl Abort, log: &mut Log<D>, txn: &mut Txn, b: u32, byte: u8) -> Result<(), Fault> {
     let hart = txn.hart();
     assert!(rt; hart < HARTS && log.held_by(hart) < BUFFERS_OF_A_HART && log.may_record(txn, b));
     match log.get(hart, b) {
@@ -151,6 +171,12 @@ fn change<D: Device>(
             }
             *guard.value_mut().bytes_mut() = [byte; BLOCK_SIZE];
             assert!(rt; log.may_record(txn, b));
+            match log.phase() {
+                Phase::Halted => panic!(rt; "it isn't halted"),
+                Phase::Open => {}
+                Phase::Staging(_) => {}
+                Phase::Installing(_) => {}
+            }
             log.record(txn, guard);
             Ok(())
         }
@@ -180,10 +206,7 @@ fn commit<D: Device>(rt: &impl Abort, log: &mut Log<D>, hart: u8) -> (u64, Progr
 
 #[test]
 fn a_commit_writes_in_order(rt: HostRuntime) {
-    let disk = Watched {
-        disk: Fused::new(disk(&rt, rt.alloc(), &FRESH), u64::MAX),
-        writes: ArrayVec::new(),
-    };
+    let disk = Watched { disk: Fused::new(disk(&rt, rt.alloc(), &FRESH), u64::MAX), writes: ArrayVec::new() };
     let mut log = open(&rt, rt.alloc(), disk);
     let mut txn = join(&rt, &mut log, 0).expect(&rt, "there is room");
     for (b, byte) in [(48, 1), (46, 2), (48, 3)] {
@@ -243,15 +266,9 @@ fn a_join_counts_what_was_recorded(rt: HostRuntime) {
 // What recovery would make of the block's first byte, where the log has copies of 48 and those behind it.
 fn recovered_byte(rt: &impl Abort, bytes: &Vec<u8>, b: usize) -> u8 {
     assert!(rt; 48 <= b && b < BLOCKS);
-    let logged = bytes
-        .get(2 * BLOCK_SIZE)
-        .copied()
-        .expect(rt, "it has a head");
+    let logged = bytes.get(2 * BLOCK_SIZE).copied().expect(rt, "it has a head");
     let at = if b - 48 < logged as usize { b - 45 } else { b };
-    bytes
-        .get(at * BLOCK_SIZE)
-        .copied()
-        .expect(rt, "it has so many blocks")
+    bytes.get(at * BLOCK_SIZE).copied().expect(rt, "it has so many blocks")
 }
 
 // Two calls read the superblock and the head, and three the blocks. Then the device fails at each write of the commit
@@ -259,21 +276,13 @@ fn recovered_byte(rt: &impl Abort, bytes: &Vec<u8>, b: usize) -> u8 {
 #[test]
 fn a_group_is_there_whole_or_not_at_all(rt: HostRuntime) {
     for writes in 0..9u64 {
-        let mut log = open(
-            &rt,
-            rt.alloc(),
-            Fused::new(disk(&rt, rt.alloc(), &FRESH), 5 + writes),
-        );
+        let mut log = open(&rt, rt.alloc(), Fused::new(disk(&rt, rt.alloc(), &FRESH), 5 + writes));
         let mut txn = join(&rt, &mut log, 7).expect(&rt, "there is room");
         for b in 48..51 {
             assert_eq!(rt; change(&rt, &mut log, &mut txn, b, 9), Ok(()));
         }
         assert_eq!(rt; leave(&rt, &mut log, txn), Left::Commits);
-        let want = if writes < 8 {
-            Progress::Failed
-        } else {
-            Progress::Ended
-        };
+        let want = if writes < 8 { Progress::Failed } else { Progress::Ended };
         let made = if writes < 8 { writes } else { 8 };
         assert_eq!(rt; commit(&rt, &mut log, 7), (made, want));
         if writes < 8 {
@@ -283,11 +292,7 @@ fn a_group_is_there_whole_or_not_at_all(rt: HostRuntime) {
         let bytes = disk.into_disk().into_bytes();
         for b in 48..51 {
             let byte = if writes < 4 { 0 } else { 9 };
-            assert_eq!(rt;
-                recovered_byte(&rt, &bytes, b),
-                byte,
-                "block {b} after {writes} writes"
-            );
+            assert_eq!(rt; recovered_byte(&rt, &bytes, b), byte, "block {b} after {writes} writes");
         }
     }
 }
@@ -299,15 +304,9 @@ fn harts_join_and_leave_for_a_hundred_commits(rt: HostRuntime) {
         let (one, other) = (round % HARTS, (round + 1) % HARTS);
         let mut first = join(&rt, &mut log, one).expect(&rt, "there is room");
         let mut second = join(&rt, &mut log, other).expect(&rt, "there is room");
-        assert_eq!(rt;
-            change(&rt, &mut log, &mut first, 48 + (round % 5) as u32, round),
-            Ok(())
-        );
+        assert_eq!(rt; change(&rt, &mut log, &mut first, 48 + (round % 5) as u32, round), Ok(()));
         assert_eq!(rt; leave(&rt, &mut log, first), Left::Free);
-        assert_eq!(rt;
-            change(&rt, &mut log, &mut second, 53 + (round % 5) as u32, round),
-            Ok(())
-        );
+        assert_eq!(rt; change(&rt, &mut log, &mut second, 53 + (round % 5) as u32, round), Ok(()));
         assert_eq!(rt; leave(&rt, &mut log, second), Left::Commits);
         assert_eq!(rt; commit(&rt, &mut log, other), (6, Progress::Ended));
     }
@@ -315,11 +314,7 @@ fn harts_join_and_leave_for_a_hundred_commits(rt: HostRuntime) {
     let bytes = disk.into_bytes();
     for n in 0..5u8 {
         for b in [48 + n as usize, 53 + n as usize] {
-            assert_eq!(rt;
-                bytes.get(b * BLOCK_SIZE).copied(),
-                Some(95 + n),
-                "block {b}"
-            );
+            assert_eq!(rt; bytes.get(b * BLOCK_SIZE).copied(), Some(95 + n), "block {b}");
         }
     }
 }
