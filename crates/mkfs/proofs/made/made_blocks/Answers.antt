@@ -1,4 +1,4 @@
-use Rattle.std.proofs.Common.{◌<◌, length, arith, map}
+use Rattle.std.proofs.Common.{◌<◌, length, arith}
 use Rattle.std.proofs.lemmas.List.{length-map}
 use Rattle.mkfs.specs.Image.{nodes_with, root_content, file_node}
 use Rattle.mkfs.proofs.DataBlocks.{bitmap-there, node-there}
