@@ -1,3 +1,4 @@
+pub mod DataBlocks
 pub mod Doubles
 pub mod Joins
 pub mod Lengths

@@ -115,6 +115,10 @@ data_from first (node ∷ nodes) = node_bytes first node.content ++ data_from (f
 abbrev pub used_by : ℕ → List Node → ℕ
 used_by first nodes = first + sum_by blocks_of_node nodes
 
+-- how many blocks the nodes before node i of the list have
+abbrev pub blocks_before : ℕ → List Node → ℕ
+blocks_before i nodes = sum_by blocks_of_node (take i nodes)
+
 -- ---- the whole
 
 -- boot block, superblock and log

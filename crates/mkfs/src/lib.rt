@@ -15,5 +15,5 @@ pub mod widths;
 
 pub use crate::command_line::{FILES, IMAGE, INODES, SIZE, number, options};
 pub use crate::layout::data_start;
-pub use crate::made::{made_front, made_inodes, make};
+pub use crate::made::{made_blocks, made_front, made_inodes, make};
 pub use crate::refused::MakeRefused;

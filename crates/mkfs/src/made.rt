@@ -1,11 +1,11 @@
 //! Making an image.
-ghost use Rattle.std.specs.Prelude.{◌≡◌, ◌^◌, ◌<◌, ◌≤◌, ◌+◌, ◌/◌, ◌%◌, ◌++◌, ℕ, List, [], length, slice_index_or, IfOk, OnOk, MatchResult};
+ghost use Rattle.std.specs.Prelude.{◌≡◌, ◌^◌, ◌<◌, ◌≤◌, ◌+◌, ◌*◌, ◌/◌, ◌%◌, ◌++◌, ℕ, List, [], drop, length, slice_index_or, take, IfOk, OnOk, MatchResult};
 ghost use Rattle.block_device.specs.Blocks.{blocks_of};
 ghost use Rattle.fs_layout.specs.Inode.{dinode_at};
 ghost use Rattle.fs_layout.specs.declared.inode.Dinode.{Dinode};
 ghost use Rattle.fs_layout.specs.Recovered.{block_at, logged, recovered, sizes_of};
-ghost use Rattle.mkfs.specs.Layout.{data_start, inode_start, super_for};
-ghost use Rattle.mkfs.specs.Image.{contents_of, data_from, front, image_of, image_with, inode_table, inodes_from, names_of, nodes_with, root_content, used_by};
+ghost use Rattle.mkfs.specs.Layout.{bitmap_start, data_start, inode_start, super_for};
+ghost use Rattle.mkfs.specs.Image.{bitmap, blocks_before, blocks_of_node, contents_of, data_from, front, image_of, image_with, inode_table, inodes_from, names_of, node_bytes, nodes_with, root_content, used_by, Node};
 ghost use Rattle.mkfs.specs.Refusals.{largest_size, CanBeMade, HasGoodFiles, HasInodes, IsFirstRefusal};
 
 use crate::appends::push_many;
@@ -163,4 +163,17 @@ pub fn made_inodes()
     ensures { (size ninodes i : ℕ) (names contents : List (List ℕ)) (d : Dinode) → length names ≡ length contents → CanBeMade size ninodes names contents
         → i ≤ length contents → dinode_at ((i + 1) % 16) (block_at (blocks_of (image_of size ninodes names contents)) (inode_start + (i + 1) / 16))
         ≡ slice_index_or (inodes_from (data_start ninodes) (nodes_with (root_content names) contents)) i d }
+{}
+
+/// The bitmap of an image that can be made, and each node's blocks: they begin where those of the
+/// nodes before it end. Node 0 of the list is the root.
+pub fn made_blocks()
+    ensures bitmap { (size ninodes : ℕ) (names contents : List (List ℕ)) → length names ≡ length contents → CanBeMade size ninodes names contents
+        → block_at (blocks_of (image_of size ninodes names contents)) (bitmap_start ninodes)
+        ≡ bitmap (used_by (data_start ninodes) (nodes_with (root_content names) contents)) }
+    ensures nodes { (size ninodes i : ℕ) (names contents : List (List ℕ)) (d : Node) → length names ≡ length contents → CanBeMade size ninodes names contents
+        → i ≤ length contents
+        → let nodes = nodes_with (root_content names) contents in let first = data_start ninodes + blocks_before i nodes in
+        take (1024 * blocks_of_node (slice_index_or nodes i d)) (drop (1024 * first) (image_of size ninodes names contents))
+        ≡ node_bytes first (slice_index_or nodes i d).content }
 {}
