@@ -1,0 +1,10 @@
+pub mod Maps
+pub mod Rooted
+pub mod Closed
+pub mod Mounted
+pub mod Opened
+pub mod Contents
+pub mod Stats
+pub mod Buffers
+pub mod Calls
+pub mod Answered

@@ -1,0 +1,5 @@
+pub mod Held
+pub mod Makes
+pub mod Root
+pub mod View
+pub mod Single

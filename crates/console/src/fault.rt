@@ -1,0 +1,62 @@
+//! Why a script didn't come to its end.
+use crate::script::ScriptFault;
+use crate::stop::Stop;
+use image_tree::MountFault;
+use std::alloc::AllocError;
+use std::io;
+use thiserror::Error;
+
+/// Why a script didn't come to its end.
+#[derive(Debug, Drop, Error)]
+pub enum ConsoleFault {
+    /// The image isn't taken.
+    #[error("refused {} {}", .0.number(), .0.name())]
+    Image(MountFault),
+    /// The script can't be read, or is too long.
+    #[error("the script can't be read: {0}")]
+    Read(io::Error),
+    /// An answer can't be written.
+    #[error("an answer can't be written: {0}")]
+    Write(io::Error),
+    /// The line, counted from 1, is no command, so that no line was run.
+    #[error("line {0}: bad command")]
+    Line(u64),
+    /// A call was stopped, and its line printed.
+    #[error("stopped {} {}", .0.number(), .0.name())]
+    Stopped(Stop),
+    #[error("no memory")]
+    Memory,
+}
+
+impl From<AllocError> for ConsoleFault {
+    fn from(_error: AllocError) -> ConsoleFault {
+        ConsoleFault::Memory
+    }
+}
+
+impl From<MountFault> for ConsoleFault {
+    fn from(fault: MountFault) -> ConsoleFault {
+        match fault {
+            MountFault::NoMemory => ConsoleFault::Memory,
+            fault => ConsoleFault::Image(fault),
+        }
+    }
+}
+
+impl From<ScriptFault> for ConsoleFault {
+    fn from(fault: ScriptFault) -> ConsoleFault {
+        match fault {
+            ScriptFault::Line(number) => ConsoleFault::Line(number),
+            ScriptFault::Memory => ConsoleFault::Memory,
+        }
+    }
+}
+
+/// The exit status of a program whose script ended so.
+pub fn status(fault: &ConsoleFault) -> u8 {
+    match fault {
+        ConsoleFault::Image(_) | ConsoleFault::Read(_) | ConsoleFault::Write(_) => 1,
+        ConsoleFault::Line(_) => 2,
+        ConsoleFault::Stopped(_) | ConsoleFault::Memory => 3,
+    }
+}

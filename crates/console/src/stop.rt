@@ -1,0 +1,36 @@
+//! Why a call has no reply.
+ghost use Rattle.std.specs.Prelude.{◌≡◌};
+
+use plain_tree::Call;
+
+/// Why the file system stopped. It answers no further call.
+#[derive(Clone, Copy, PartialEq, Eq, Debug)]
+pub enum Stop {
+    /// The device failed in this call.
+    DeviceFault = 31,
+    /// It had stopped before.
+    Halted = 32,
+}
+
+impl Stop {
+    /// The number under which it is printed.
+    pub fn number(&self) -> u8 {
+        *self as u8
+    }
+
+    /// The name under which it is printed.
+    pub fn name(&self) -> &'static str {
+        match self {
+            Stop::DeviceFault => "DeviceFault",
+            Stop::Halted => "Halted",
+        }
+    }
+}
+
+/// Why a call has no reply.
+#[derive(Drop)]
+pub enum SingleFault {
+    Stop(Stop),
+    /// This file system doesn't make the call, which is handed back.
+    NotYet(Call),
+}

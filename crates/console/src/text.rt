@@ -1,0 +1,90 @@
+//! The lines that a console prints (docs/SCRIPT.md).
+use crate::start::StartRefused;
+use crate::stop::Stop;
+use plain_tree::{Answer, Call, Reply};
+use std::io;
+use std::io::Write;
+
+/// The hart that a console of one hart has.
+const HART: u8 = 0;
+
+/// The number of a refusal that stands for calls to come.
+const NOT_YET: u8 = 49;
+
+/// The word by which a script says a call.
+pub fn call_name(call: &Call) -> &'static str {
+    match call {
+        Call::Open { .. } => "open",
+        Call::Read { .. } => "read",
+        Call::Write { .. } => "write",
+        Call::Link { .. } => "link",
+        Call::Unlink { .. } => "unlink",
+        Call::Mkdir { .. } => "mkdir",
+        Call::Chdir { .. } => "chdir",
+        Call::Dup { .. } => "dup",
+        Call::Fstat { .. } => "fstat",
+        Call::Close { .. } => "close",
+        Call::Inherit { .. } => "inherit",
+    }
+}
+
+/// The line of a reply.
+pub fn write_reply<W: Write>(out: &mut W, reply: &Reply) -> io::Result<()> {
+    let name = call_name(&reply.call);
+    match reply.answer {
+        Answer::Fd(fd) => writeln!(out, "{HART} {name} fd {fd}"),
+        Answer::Count(count) => {
+            write!(out, "{HART} {name} {count}")?;
+            write_read_bytes(out, &reply.call, count)?;
+            writeln!(out)
+        }
+        Answer::Stat(stat) => {
+            let (device, inode, kind) = (stat.device, stat.inode, stat.kind.number());
+            let (nlink, size) = (stat.nlink, stat.size);
+            writeln!(out, "{HART} {name} {device} {inode} {kind} {nlink} {size}")
+        }
+        Answer::Done => writeln!(out, "{HART} {name} ok"),
+        Answer::Failed(cause) => {
+            let (number, cause) = (cause.number(), cause.name());
+            writeln!(out, "{HART} {name} failed {number} {cause}")
+        }
+        Answer::Full(full) => {
+            let (number, full) = (full.number(), full.name());
+            writeln!(out, "{HART} {name} full {number} {full}")
+        }
+    }
+}
+
+// After a read that gave bytes: a space, and the bytes.
+fn write_read_bytes<W: Write>(out: &mut W, call: &Call, count: u32) -> io::Result<()> {
+    let Call::Read { buf, .. } = call else {
+        return Ok(());
+    };
+    let bytes = buf.as_slice();
+    let count = bytes.len().min(count as usize);
+    if count == 0 {
+        return Ok(());
+    }
+    write!(out, " ")?;
+    for byte in &bytes[..count] {
+        write!(out, "{byte:02x}")?;
+    }
+    Ok(())
+}
+
+/// The line of a call that the file system doesn't make yet.
+pub fn write_not_yet<W: Write>(out: &mut W, name: &str) -> io::Result<()> {
+    writeln!(out, "{HART} {name} refused {NOT_YET} NotYet")
+}
+
+/// The line of a call that wasn't started.
+pub fn write_refused<W: Write>(out: &mut W, name: &str, refused: StartRefused) -> io::Result<()> {
+    let (number, refused) = (refused.number(), refused.name());
+    writeln!(out, "{HART} {name} refused {number} {refused}")
+}
+
+/// The line of a call that was stopped.
+pub fn write_stopped<W: Write>(out: &mut W, name: &str, stop: Stop) -> io::Result<()> {
+    let (number, stop) = (stop.number(), stop.name());
+    writeln!(out, "{HART} {name} stopped {number} {stop}")
+}
