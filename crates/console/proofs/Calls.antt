@@ -28,12 +28,18 @@ pub fstat_refused : (count : ℕ) (nodes : ℕ → Option Node) (offsets : List 
     → Makes (rooted count nodes offsets) (Fstat fd) (record { answer = Refused BadDescriptor; call = Fstat fd }) (rooted count nodes offsets)
 unfolding next_of reply_of refusal_with place_of
 fstat_refused count nodes offsets fd e = record {
-  some = (FstatStep fd, (Failed BadDescriptor, record {
-    first = refl;
-    last = refl;
-    reply = refl;
-    step = (0, (ap fd_refusal (file_at-none count nodes offsets fd e), refl, refl));
-  }));
+  some = (
+    FstatStep fd,
+    (
+      Failed BadDescriptor,
+      record {
+        first = refl;
+        last = refl;
+        reply = refl;
+        step = (0, (ap fd_refusal (file_at-none count nodes offsets fd e), refl, refl));
+      },
+    ),
+  );
 }
 
 stat_given : (count : ℕ) (nodes : ℕ → Option Node) (offsets : List (Option ℕ)) (offset : ℕ) → stat_answer (rooted count nodes offsets) (Some (root_at offset)) ≡ Status (stat_of root (node_or (nodes root)))
@@ -49,25 +55,45 @@ fstat_done count nodes offsets fd offset s named lt is e =
     let file : file_at t 0 fd ≡ Some (root_at offset) = file_at-some count nodes offsets fd offset lt is in
     let same : settle t ≡ t = settled t (names count nodes offsets named) in
     record {
-      some = (FstatStep fd, (Status s, record {
-        first = refl;
-        last = refl;
-        reply = refl;
-        step = (0, (ap fd_refusal file, ap Status e ∙ sym (stat_given count nodes offsets offset) ∙ sym (ap (stat_answer t) file),
-          record { node = λ y. absurd (let y' : false ≡ true = y in cc); file = λ y. absurd (let y' : false ≡ true = y in cc) }, sym same, refl));
-      }));
+      some = (
+        FstatStep fd,
+        (
+          Status s,
+          record {
+            first = refl;
+            last = refl;
+            reply = refl;
+            step = (
+              0,
+              (
+                ap fd_refusal file,
+                ap Status e ∙ sym (stat_given count nodes offsets offset) ∙ sym (ap (stat_answer t) file),
+                record { node = λ y. absurd (let y' : false ≡ true = y in cc); file = λ y. absurd (let y' : false ≡ true = y in cc) },
+                sym same,
+                refl,
+              ),
+            );
+          },
+        ),
+      );
     }
 
 pub read_refused : (count : ℕ) (nodes : ℕ → Option Node) (offsets : List (Option ℕ)) (fd : ℕ) (buf : List ℕ) → offset_at offsets fd ≡ None
     → Makes (rooted count nodes offsets) (Read fd buf) (record { answer = Refused BadDescriptor; call = Read fd buf }) (rooted count nodes offsets)
 unfolding next_of reply_of refusal_with place_of
 read_refused count nodes offsets fd buf e = record {
-  some = (ReadStep fd (length buf), (Failed BadDescriptor, record {
-    first = refl;
-    last = refl;
-    reply = refl;
-    step = (0, (ap (read_refusal (rooted count nodes offsets)) (file_at-none count nodes offsets fd e), refl, refl));
-  }));
+  some = (
+    ReadStep fd (length buf),
+    (
+      Failed BadDescriptor,
+      record {
+        first = refl;
+        last = refl;
+        reply = refl;
+        step = (0, (ap (read_refusal (rooted count nodes offsets)) (file_at-none count nodes offsets fd e), refl, refl));
+      },
+    ),
+  );
 }
 
 not_refused : (count : ℕ) (nodes : ℕ → Option Node) (offsets : List (Option ℕ)) (offset n : ℕ) (slots : List (Option Slot)) → nodes root ≡ Some (root_of n slots)
@@ -121,14 +147,28 @@ read_done count nodes offsets n slots fd offset buf k new named there len lt is 
     let size : length (part t (file_at t 0 fd) (length buf)) ≡ k = ap length gives ∙ sym given.count in
     let same : settle t' ≡ t' = settled t' (names count nodes (set offsets fd (Some (offset + k))) named) in
     let after : settle (moved t (t.fds 0 fd) (length (part t (file_at t 0 fd) (length buf)))) ≡ t' =
-        ap (λ (by : ℕ). settle (moved t (t.fds 0 fd) by)) size ∙ ap settle (moves count nodes offsets fd offset k len lt is) ∙ same in
+    ap (λ (by : ℕ). settle (moved t (t.fds 0 fd) by)) size ∙ ap settle (moves count nodes offsets fd offset k len lt is) ∙ same in
     let buffer : new ≡ bytes ++ drop (length bytes) buf = given.buffer ∙ ap (λ (m : ℕ). bytes ++ drop m buf) given.count in
     record {
-      some = (ReadStep fd (length buf), (Bytes bytes, record {
-        first = refl;
-        last = refl;
-        reply = λ i. record { answer = Count (given.count i); call = Read fd (buffer i) };
-        step = (0, (ap (read_refusal t) file ∙ not_refused count nodes offsets offset n slots there, ap Bytes (sym gives),
-          record { node = λ y. absurd (let y' : false ≡ true = y in cc); file = λ y. absurd (let y' : false ≡ true = y in cc) }, sym after, refl));
-      }));
+      some = (
+        ReadStep fd (length buf),
+        (
+          Bytes bytes,
+          record {
+            first = refl;
+            last = refl;
+            reply = λ i. record { answer = Count (given.count i); call = Read fd (buffer i) };
+            step = (
+              0,
+              (
+                ap (read_refusal t) file ∙ not_refused count nodes offsets offset n slots there,
+                ap Bytes (sym gives),
+                record { node = λ y. absurd (let y' : false ≡ true = y in cc); file = λ y. absurd (let y' : false ≡ true = y in cc) },
+                sym after,
+                refl,
+              ),
+            );
+          },
+        ),
+      );
     }

@@ -22,12 +22,18 @@ pub close_refused : (count : ℕ) (nodes : ℕ → Option Node) (offsets : List 
     → Makes (rooted count nodes offsets) (Close fd) (record { answer = Refused BadDescriptor; call = Close fd }) (rooted count nodes offsets)
 unfolding next_of reply_of refusal_with place_of
 close_refused count nodes offsets fd e = record {
-  some = (CloseStep fd, (Failed BadDescriptor, record {
-    first = refl;
-    last = refl;
-    reply = refl;
-    step = (0, (ap fd_refusal (file_at-none count nodes offsets fd e), refl, refl));
-  }));
+  some = (
+    CloseStep fd,
+    (
+      Failed BadDescriptor,
+      record {
+        first = refl;
+        last = refl;
+        reply = refl;
+        step = (0, (ap fd_refusal (file_at-none count nodes offsets fd e), refl, refl));
+      },
+    ),
+  );
 }
 
 -- the offset under a descriptor, when one was freed
@@ -117,12 +123,18 @@ close_done count nodes offsets fd offset named len lt is =
     let fds : u.fds ≡ fds_of (set offsets fd None) = λ i h k. freed_fds offsets fd h k len lt i in
     let files : (id : ℕ) → (closed u).files id ≡ option_map root_at (offset_at (set offsets fd None) id) = λ id. close_files u offsets fd id len lt fds in
     let after : settle (closed u) ≡ rooted count nodes (set offsets fd None) =
-        settled (closed u) named ∙ (λ i. record t { fds = fds i; files = λ id. files id i }) in
+    settled (closed u) named ∙ (λ i. record t { fds = fds i; files = λ id. files id i }) in
     record {
-      some = (CloseStep fd, (Done, record {
-        first = refl;
-        last = refl;
-        reply = refl;
-        step = (0, (ap fd_refusal (file_at-some count nodes offsets fd offset lt is), refl, record { node = λ no. absurd cc; file = λ no. absurd cc }, sym after, refl));
-      }));
+      some = (
+        CloseStep fd,
+        (
+          Done,
+          record {
+            first = refl;
+            last = refl;
+            reply = refl;
+            step = (0, (ap fd_refusal (file_at-some count nodes offsets fd offset lt is), refl, record { node = λ no. absurd cc; file = λ no. absurd cc }, sym after, refl));
+          },
+        ),
+      );
     }

@@ -138,12 +138,18 @@ pub open_makes : (count : ℕ) (nodes : ℕ → Option Node) (offsets : List (Op
     → Makes (rooted count nodes offsets) (Open path flags) (record { answer = Refused NoEntry; call = Open path flags }) (rooted count nodes offsets)
 unfolding next_of reply_of refusal_with place_of
 open_makes count nodes offsets path flags none makes = record {
-  some = (OpenStep path flags, (Failed NoEntry, record {
-    first = refl;
-    last = refl;
-    reply = refl;
-    step = (0, (rw (makes, no_parent count nodes offsets path none) refl, refl, refl));
-  }));
+  some = (
+    OpenStep path flags,
+    (
+      Failed NoEntry,
+      record {
+        first = refl;
+        last = refl;
+        reply = refl;
+        step = (0, (rw (makes, no_parent count nodes offsets path none) refl, refl, refl));
+      },
+    ),
+  );
 }
 
 flag_refused : (count : ℕ) (nodes : ℕ → Option Node) (offsets : List (Option ℕ)) (n : ℕ) (slots : List (Option Slot)) (flags : ℕ) → nodes root ≡ Some (root_of n slots) → flags ≢ 0
@@ -156,12 +162,18 @@ pub open_flagged : (count : ℕ) (nodes : ℕ → Option Node) (offsets : List (
     → Makes (rooted count nodes offsets) (Open path flags) (record { answer = Refused IsDirectory; call = Open path flags }) (rooted count nodes offsets)
 unfolding next_of reply_of refusal_with place_of
 open_flagged count nodes offsets n slots path flags is none makes flagged = record {
-  some = (OpenStep path flags, (Failed IsDirectory, record {
-    first = refl;
-    last = refl;
-    reply = refl;
-    step = (0, (rw (makes, resolves count nodes offsets path none) (flag_refused count nodes offsets n slots flags is flagged), refl, refl));
-  }));
+  some = (
+    OpenStep path flags,
+    (
+      Failed IsDirectory,
+      record {
+        first = refl;
+        last = refl;
+        reply = refl;
+        step = (0, (rw (makes, resolves count nodes offsets path none) (flag_refused count nodes offsets n slots flags is flagged), refl, refl));
+      },
+    ),
+  );
 }
 
 pub names : (count : ℕ) (nodes : ℕ → Option Node) (offsets : List (Option ℕ)) → AllNamed nodes → AllNamed (rooted count nodes offsets).nodes
@@ -208,14 +220,27 @@ open_full count nodes offsets n slots path named is none full =
     let r = no_room count nodes offsets full in
     let same : settle t ≡ t = settled t (names count nodes offsets named) in
     record {
-      some = (OpenStep path 0, (NoRoom Descriptors, record {
-        first = refl;
-        last = refl;
-        reply = refl;
-        step = (0, (rw res (plain_refusal count nodes offsets n slots is), rw (res, r) refl,
-          record { node = λ e. absurd (let e' : false ≡ true = e in cc); file = λ e. absurd (let e' : has_room (t.fds 0) ≡ true = e in let e2 = rw r at e' in cc) },
-          rw (res, r) (sym same), refl));
-      }));
+      some = (
+        OpenStep path 0,
+        (
+          NoRoom Descriptors,
+          record {
+            first = refl;
+            last = refl;
+            reply = refl;
+            step = (
+              0,
+              (
+                rw res (plain_refusal count nodes offsets n slots is),
+                rw (res, r) refl,
+                record { node = λ e. absurd (let e' : false ≡ true = e in cc); file = λ e. absurd (let e' : has_room (t.fds 0) ≡ true = e in let e2 = rw r at e' in cc) },
+                rw (res, r) (sym same),
+                refl,
+              ),
+            );
+          },
+        ),
+      );
     }
 
 opened_files : (offsets : List (Option ℕ)) (i id : ℕ) → length offsets ≡ 16 → i < 16
@@ -259,12 +284,25 @@ open_done count nodes offsets n slots path i named is none len low =
     let same : settle t' ≡ t' = settled t' (names count nodes (set offsets i (Some 0)) named) in
     let opens = is_no_file count nodes offsets n slots is in
     record {
-      some = (OpenStep path 0, (Opened i i false, record {
-        first = refl;
-        last = refl;
-        reply = refl;
-        step = (i, (rw res (plain_refusal count nodes offsets n slots is), rw (res, r, at, opens) refl,
-          record { node = λ e. absurd (let e' : false ≡ true = e in cc); file = λ e. no_file count nodes offsets i low },
-          rw res (sym (ap settle (with_root count nodes offsets i len low) ∙ same)), refl));
-      }));
+      some = (
+        OpenStep path 0,
+        (
+          Opened i i false,
+          record {
+            first = refl;
+            last = refl;
+            reply = refl;
+            step = (
+              i,
+              (
+                rw res (plain_refusal count nodes offsets n slots is),
+                rw (res, r, at, opens) refl,
+                record { node = λ e. absurd (let e' : false ≡ true = e in cc); file = λ e. no_file count nodes offsets i low },
+                rw res (sym (ap settle (with_root count nodes offsets i len low) ∙ same)),
+                refl,
+              ),
+            );
+          },
+        ),
+      );
     }

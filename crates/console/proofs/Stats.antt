@@ -66,5 +66,5 @@ number_within disk numbers i m good =
 pub root_block : (disk : List (List ℕ)) (numbers : List ℕ) (k : ℕ) → IsMounted disk → numbers ≡ numbers_of disk (inode_of disk 1) → block_number numbers k < length disk
 root_block disk numbers k m is =
     let good : All (λ b. b ≢ 0 → IsData (sizes_of disk) b) (numbers_of disk (inode_of disk 1)) =
-        subst (λ (xs : List ℕ). All (λ b. b ≢ 0 → IsData (sizes_of disk) b) xs) (root_numbers disk m) (has_numbers disk m 1 (omega arith) (omega (arith, (has_sizes disk m).few_inodes))) in
+    subst (λ (xs : List ℕ). All (λ b. b ≢ 0 → IsData (sizes_of disk) b) xs) (root_numbers disk m) (has_numbers disk m 1 (omega arith) (omega (arith, (has_sizes disk m).few_inodes))) in
     number_within disk numbers (if nat_lt k 12 then k else k + 1) m (subst (λ (xs : List ℕ). All (λ b. b ≢ 0 → IsData (sizes_of disk) b) xs) (sym is) good)

@@ -14,7 +14,6 @@ use Rattle.plain_tree.specs.declared.node.Kind.TheVariants.{Directory, File, Dev
 use Rattle.plain_tree.specs.declared.tree.OpenFile.{OpenFile}
 use Rattle.plain_tree.specs.Tree.{Tree}
 use Rattle.plain_tree.specs.Widths.{root}
-
 pub use Rattle.image_tree.specs.Trees.{slot_of, count_of}
 unfoldable pub use Rattle.image_tree.specs.Trees.{kind_of, node_of}
 

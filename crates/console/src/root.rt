@@ -113,10 +113,7 @@ fn load_entry<D: Device>(
     let mut block = [0; BLOCK_LEN];
     let b = block_number(numbers, slot / DIRENTS_PER_BLOCK);
     load(device, layout, b, &mut block)?;
-    Ok(entry_bytes(&read_dirent(
-        &block,
-        slot % DIRENTS_PER_BLOCK,
-    )))
+    Ok(entry_bytes(&read_dirent(&block, slot % DIRENTS_PER_BLOCK)))
 }
 
 fn entry_bytes(slot: &Option<Dirent>) -> [u8; DIRENT_LEN]

@@ -66,9 +66,7 @@ fn read_script<R: Read + Drop>(alloc: Global, script: R) -> Result<Vec<u8>, Cons
         Err(fault) => return Err(read_fault(fault)),
     }
     if text.len() as u64 > LONGEST_SCRIPT {
-        return Err(ConsoleFault::Read(io::Error::from(
-            io::ErrorKind::FileTooLarge,
-        )));
+        return Err(ConsoleFault::Read(io::Error::from(io::ErrorKind::FileTooLarge)));
     }
     Ok(text)
 }

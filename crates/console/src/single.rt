@@ -90,13 +90,7 @@ impl<D: Device> Single<D> {
                 }
             }
             Call::Read { fd, buf } => {
-                let reply = read(
-                    &mut self.device,
-                    &self.layout,
-                    &mut self.offsets,
-                    fd,
-                    buf,
-                );
+                let reply = read(&mut self.device, &self.layout, &mut self.offsets, fd, buf);
                 or_stop(reply, &mut self.stopped)
             }
             Call::Fstat { fd } => {

@@ -32,10 +32,22 @@ fn prints_what_the_calls_answer(rt: HostRuntime) -> Result<(), Fail> {
     for (script, lines) in [
         ("", ""),
         ("# nothing\n\n", ""),
-        ("do 0 open / 0\ndo 0 open / 1\ndo 0 open / 0x200\ndo 0 read 5 1\n", "0 open fd 0\n0 open failed 3 IsDirectory\n0 open failed 1 NoEntry\n0 read failed 6 BadDescriptor\n"),
-        ("do 0 open \"\" 0\ndo 0 open // 0\ndo 0 close 0\ndo 0 open / 0\ndo 0 close 5", "0 open fd 0\n0 open fd 1\n0 close ok\n0 open fd 0\n0 close failed 6 BadDescriptor\n"),
-        ("do 0 open / 0\ndo 0 fstat 0\ndo 0 read 0 32\ndo 0 read 0 0\n", "0 open fd 0\n0 fstat 1 1 1 1 1024\n0 read 32 01002e0000000000000000000000000001002e2e000000000000000000000000\n0 read 0\n"),
-        ("do 0 open /a 0\ndo 0 open hex:2f00 0\ndo 0 read 0 524289\n", "0 open refused 49 NotYet\n0 open refused 43 ZeroInPath\n0 read refused 44 TooLong\n"),
+        (
+            "do 0 open / 0\ndo 0 open / 1\ndo 0 open / 0x200\ndo 0 read 5 1\n",
+            "0 open fd 0\n0 open failed 3 IsDirectory\n0 open failed 1 NoEntry\n0 read failed 6 BadDescriptor\n",
+        ),
+        (
+            "do 0 open \"\" 0\ndo 0 open // 0\ndo 0 close 0\ndo 0 open / 0\ndo 0 close 5",
+            "0 open fd 0\n0 open fd 1\n0 close ok\n0 open fd 0\n0 close failed 6 BadDescriptor\n",
+        ),
+        (
+            "do 0 open / 0\ndo 0 fstat 0\ndo 0 read 0 32\ndo 0 read 0 0\n",
+            "0 open fd 0\n0 fstat 1 1 1 1 1024\n0 read 32 01002e0000000000000000000000000001002e2e000000000000000000000000\n0 read 0\n",
+        ),
+        (
+            "do 0 open /a 0\ndo 0 open hex:2f00 0\ndo 0 read 0 524289\n",
+            "0 open refused 49 NotYet\n0 open refused 43 ZeroInPath\n0 read refused 44 TooLong\n",
+        ),
     ] {
         let (out, fault) = run(rt.alloc(), script)?;
         assert!(rt; fault.is_none());
@@ -63,7 +75,17 @@ fn gives_sixteen_descriptors(rt: HostRuntime) -> Result<(), Fail> {
 
 #[test]
 fn runs_no_line_of_a_bad_script(rt: HostRuntime) -> Result<(), Fail> {
-    for line in ["do 1 open / 0", "do 0 mkdir /a", "0 open / 0", "do 0 open /", "do 0  open / 0", "do 0 read 0 4294967296", "do 0 read 0 0x", "do 0 open hex:2 0", "do 0 fstat 0\r"] {
+    for line in [
+        "do 1 open / 0",
+        "do 0 mkdir /a",
+        "0 open / 0",
+        "do 0 open /",
+        "do 0  open / 0",
+        "do 0 read 0 4294967296",
+        "do 0 read 0 0x",
+        "do 0 open hex:2 0",
+        "do 0 fstat 0\r",
+    ] {
         let script = format!(in rt.alloc(); "do 0 open / 0\n# two\n{line}\n")?;
         let (out, fault) = run(rt.alloc(), script.as_str())?;
         assert!(rt; out.is_empty(), "{line}");
@@ -86,7 +108,13 @@ fn tells_damage_and_other_faults(rt: HostRuntime) -> Result<(), Fail> {
         (changed, "refused 52 BadSuper"),
     ] {
         let mut out = Vec::new(rt.alloc());
-        match run_script(rt.alloc(), Some(image), Mode::Listed, b"bad".as_slice(), &mut out) {
+        match run_script(
+            rt.alloc(),
+            Some(image),
+            Mode::Listed,
+            b"bad".as_slice(),
+            &mut out,
+        ) {
             Ok(_) => return Err(Fail::from(AllocError)),
             Err(fault) => {
                 assert!(rt; out.is_empty());
@@ -98,7 +126,11 @@ fn tells_damage_and_other_faults(rt: HostRuntime) -> Result<(), Fail> {
     }
     for (fault, text, number) in [
         (ConsoleFault::Memory, "no memory", 3),
-        (ConsoleFault::Stopped(Stop::DeviceFault), "stopped 31 DeviceFault", 3),
+        (
+            ConsoleFault::Stopped(Stop::DeviceFault),
+            "stopped 31 DeviceFault",
+            3,
+        ),
         (ConsoleFault::Line(7), "line 7: bad command", 2),
     ] {
         assert_eq!(rt; status(&fault), number);
@@ -108,7 +140,11 @@ fn tells_damage_and_other_faults(rt: HostRuntime) -> Result<(), Fail> {
 }
 
 // The root's bytes, read in pieces.
-fn read_all<D: Device>(alloc: Global, single: &mut Single<D>, piece: usize) -> Result<Vec<u8>, Fail> {
+fn read_all<D: Device>(
+    alloc: Global,
+    single: &mut Single<D>,
+    piece: usize,
+) -> Result<Vec<u8>, Fail> {
     let path = Bytes::new(Vec::from_slice(alloc, b"/")?);
     let _ = single.call(Call::Open { path, flags: 0 });
     let mut all = Vec::new(alloc);

@@ -17,7 +17,7 @@ more : (disk : List (List ℕ)) (offset k : ℕ) (before entry buf : List ℕ) �
 more disk offset k before entry buf m inv lt within is =
     let at : offset + (k + 1) - 1 ≡ offset + k = omega arith in
     let b : get_or entry ((offset + k) % 16) 0 ≡ get_or (root_bytes disk) (offset + k) 0 =
-        ap (λ (e : List ℕ). get_or e ((offset + k) % 16) 0) is ∙ sym (root_byte disk (offset + k) m (omega arith)) in
+    ap (λ (e : List ℕ). get_or e ((offset + k) % 16) 0) is ∙ sym (root_byte disk (offset + k) m (omega arith)) in
     record {
       loaded = λ pos'. is ∙ ap (λ (p : ℕ). entry_at disk (p / 16)) (sym at);
       read = filled_more (root_bytes disk) offset k buf (get_or entry ((offset + k) % 16) 0) lt b inv.read;
@@ -49,13 +49,18 @@ loop-k-preserved g c =
     let lt : c.loop-k.k < length c.loop-k.buf = (let t = c.loop-k-test.true in omega arith) in
     let within : c.args.offset + length c.loop-k.buf ≤ (inode_of disk 1).size = (let w = c.requires.within in omega arith) in
     elim c.if-k-eq0.branch [
-      | then-k-eq0+in_ok-entry w ↦ (ap (λ d. g.D.Device.contents d) w.device-is ∙ w.in_ok-entry.ensures.contents ∙ c.loop-k.invariant.0,
-          ap (λ d. g.D.Device.failures d) w.device-is ∙ w.in_ok-entry.ensures.faults ∙ c.loop-k.invariant.1,
-          more disk c.args.offset c.loop-k.k c.loop-k.entry c.if-k-eq0.entry c.loop-k.buf c.requires.mounted c.loop-k.invariant.2 lt within
-          (w.entry-is ∙ w.in_ok-entry.ensures.entry ∙ ap (λ (d : List (List ℕ)). entry_at d ((c.args.offset + c.loop-k.k) / 16)) c.loop-k.invariant.0))
-      | else-k-eq0+else-place-eq0 w ↦ (ap (λ d. g.D.Device.contents d) w.device-is ∙ c.loop-k.invariant.0, ap (λ d. g.D.Device.failures d) w.device-is ∙ c.loop-k.invariant.1,
-          more disk c.args.offset c.loop-k.k c.loop-k.entry c.if-k-eq0.entry c.loop-k.buf c.requires.mounted c.loop-k.invariant.2 lt within
-          (w.entry-is ∙ still disk c.args.offset c.loop-k.k c.loop-k.entry c.loop-k.buf c.loop-k.invariant.2 w.if-k-eq0.false w.if-place-eq0.false))
+      | then-k-eq0+in_ok-entry w ↦ (
+        ap (λ d. g.D.Device.contents d) w.device-is ∙ w.in_ok-entry.ensures.contents ∙ c.loop-k.invariant.0,
+        ap (λ d. g.D.Device.failures d) w.device-is ∙ w.in_ok-entry.ensures.faults ∙ c.loop-k.invariant.1,
+        more disk c.args.offset c.loop-k.k c.loop-k.entry c.if-k-eq0.entry c.loop-k.buf c.requires.mounted c.loop-k.invariant.2 lt within
+            (w.entry-is ∙ w.in_ok-entry.ensures.entry ∙ ap (λ (d : List (List ℕ)). entry_at d ((c.args.offset + c.loop-k.k) / 16)) c.loop-k.invariant.0),
+      )
+      | else-k-eq0+else-place-eq0 w ↦ (
+        ap (λ d. g.D.Device.contents d) w.device-is ∙ c.loop-k.invariant.0,
+        ap (λ d. g.D.Device.failures d) w.device-is ∙ c.loop-k.invariant.1,
+        more disk c.args.offset c.loop-k.k c.loop-k.entry c.if-k-eq0.entry c.loop-k.buf c.requires.mounted c.loop-k.invariant.2 lt within
+            (w.entry-is ∙ still disk c.args.offset c.loop-k.k c.loop-k.entry c.loop-k.buf c.loop-k.invariant.2 w.if-k-eq0.false w.if-place-eq0.false),
+      )
     ]
 
 pub returns-clause-read : goal.returns-clause-read

@@ -36,8 +36,8 @@ returns-clause-read g c =
     let len = length-root_bytes disk c.requires.mounted in
     let t = c.if-size-offset.false in
     let m : c.min-count.result ≡ min (length (root_bytes disk) - c.args.offset) (length c.args.buf.now) =
-        let e = c.min-count.ensures in first_of (omega arith, grind (arith, e, size, len, t)) in
+    let e = c.min-count.ensures in first_of (omega arith, grind (arith, e, size, len, t)) in
     let part : c.read_entries.new.buf ≡ take c.min-count.result (drop c.args.offset (root_bytes disk)) =
-        let fits : c.min-count.result ≤ length c.args.buf.now = omega arith in
-        part_is disk (g.D.Device.contents c.numbers_at.new.device) c.args.offset c.min-count.result c.args.buf.now c.read_entries.new.buf same fits c.in_ok-read_entries.ensures.read in
+    let fits : c.min-count.result ≤ length c.args.buf.now = omega arith in
+    part_is disk (g.D.Device.contents c.numbers_at.new.device) c.args.offset c.min-count.result c.args.buf.now c.read_entries.new.buf same fits c.in_ok-read_entries.ensures.read in
     read_some (root_bytes disk) c.args.offset c.min-count.result c.args.buf.now c.read_entries.new.buf (omega arith) m part

@@ -35,13 +35,13 @@ returns-clause-makes g c =
     let disk : List (List ℕ) = g.D.Device.contents c.args.device.now in
     let old : c.as_mut_slice.result.now ≡ c.args.buf = c.as_mut_slice.ensures.value ∙ c.into_vec-bytes.ensures in
     let len : length c.read_root.new.buf ≡ c.into_vec-bytes.result.len =
-        let a = c.read_root.auto.buf in
-        let b = c.as_mut_slice.ensures.len in
-        first_of (omega arith, search rules) in
+    let a = c.read_root.auto.buf in
+    let b = c.as_mut_slice.ensures.len in
+    first_of (omega arith, search rules) in
     let new : c.read_root.new.buf ≡ c.new.result = sym (c.new.ensures ∙ take_at c.read_root.new.buf _ c.into_vec-bytes.result.len len) in
     let read : IsRead (root_bytes disk) c.in-Some.offset c.args.buf c.in_ok-count.count c.new.result =
-        subst (λ (xs : List ℕ). IsRead (root_bytes disk) c.in-Some.offset c.args.buf c.in_ok-count.count xs) new
-        (subst (λ (xs : List ℕ). IsRead (root_bytes disk) c.in-Some.offset xs c.in_ok-count.count c.read_root.new.buf) old c.in_ok-count.ensures.read) in
+    subst (λ (xs : List ℕ). IsRead (root_bytes disk) c.in-Some.offset c.args.buf c.in_ok-count.count xs) new
+    (subst (λ (xs : List ℕ). IsRead (root_bytes disk) c.in-Some.offset xs c.in_ok-count.count c.read_root.new.buf) old c.in_ok-count.ensures.read) in
     let is : offset_at c.args.offsets.now c.args.fd ≡ Some c.in-Some.offset = sym c.offset_under.ensures ∙ c.in-Some.is in
     read_done _ _ c.args.offsets.now _ _ c.args.fd c.in-Some.offset c.args.buf c.in_ok-count.count c.new.result (all_named disk) (root_is_held disk c.requires.mounted) c.told-offsets
     (within c.args.offsets.now c.args.fd c.in-Some.offset c.told-offsets is) is read
