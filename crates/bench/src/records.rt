@@ -7,9 +7,9 @@ use fs_layout::{
 
 const OPERATIONS: u32 = 4_000_000;
 
-// The number after `seed` in a row of pseudorandom ones: its upper bits vary well.
-fn next(seed: u32) -> u32 {
-    seed.wrapping_mul(1_664_525).wrapping_add(1_013_904_223)
+// The number after `state` in a row of pseudorandom ones: its upper bits vary well.
+fn next(state: u32) -> u32 {
+    state.wrapping_mul(1_664_525).wrapping_add(1_013_904_223)
 }
 
 fn inode_of_size(size: u32) -> Dinode {
@@ -34,14 +34,14 @@ fn checked(is_right: bool) -> Result<u64, WorkloadError> {
 /// Inodes, written.
 pub fn write_inodes() -> Result<u64, WorkloadError> {
     let mut block = [0; BLOCK_LEN];
-    let mut seed = 1;
+    let mut state = 1;
     let mut place = 0;
     for _ in 0..OPERATIONS {
-        seed = next(seed ^ u32::from(block[8]));
-        place = (seed >> 16) as usize % INODES_PER_BLOCK;
-        write_dinode(&mut block, place, &inode_of_size(seed));
+        state = next(state ^ u32::from(block[8]));
+        place = (state >> 16) as usize % INODES_PER_BLOCK;
+        write_dinode(&mut block, place, &inode_of_size(state));
     }
-    checked(read_dinode(&block, place % INODES_PER_BLOCK) == inode_of_size(seed))
+    checked(read_dinode(&block, place % INODES_PER_BLOCK) == inode_of_size(state))
 }
 
 /// Inodes, read.
@@ -50,12 +50,12 @@ pub fn read_inodes() -> Result<u64, WorkloadError> {
     for place in 0..INODES_PER_BLOCK {
         write_dinode(&mut block, place, &inode_of_size(3));
     }
-    let mut seed = 1;
+    let mut state = 1;
     let mut sum = 0u64;
     for _ in 0..OPERATIONS {
-        let inode = read_dinode(&block, (seed >> 16) as usize % INODES_PER_BLOCK);
+        let inode = read_dinode(&block, (state >> 16) as usize % INODES_PER_BLOCK);
         sum = sum.wrapping_add(u64::from(inode.size));
-        seed = next(seed ^ inode.addrs[12]);
+        state = next(state ^ inode.addrs[12]);
     }
     checked(sum == 3 * u64::from(OPERATIONS))
 }
@@ -67,11 +67,11 @@ pub fn write_dirents() -> Result<u64, WorkloadError> {
     };
     let entry = Dirent::Used { number: 7, name };
     let mut block = [0; BLOCK_LEN];
-    let mut seed = 1;
+    let mut state = 1;
     let mut place = 0;
     for _ in 0..OPERATIONS {
-        seed = next(seed ^ u32::from(block[0]));
-        place = (seed >> 16) as usize % DIRENTS_PER_BLOCK;
+        state = next(state ^ u32::from(block[0]));
+        place = (state >> 16) as usize % DIRENTS_PER_BLOCK;
         write_dirent(&mut block, place, &entry);
     }
     let last = read_dirent(&block, place % DIRENTS_PER_BLOCK);
@@ -85,15 +85,15 @@ pub fn read_dirents() -> Result<u64, WorkloadError> {
         block[16 * place] = 7;
         block[16 * place + 2..16 * place + 8].copy_from_slice(b"a_name");
     }
-    let mut seed = 1;
+    let mut state = 1;
     let mut sum = 0u64;
     for _ in 0..OPERATIONS {
         if let Some(Dirent::Used { number, name }) = read_dirent(
             &block,
-            (seed >> 16) as usize % DIRENTS_PER_BLOCK,
+            (state >> 16) as usize % DIRENTS_PER_BLOCK,
         ) {
             sum = sum.wrapping_add(name.as_bytes().len() as u64);
-            seed = next(seed ^ u32::from(number));
+            state = next(state ^ u32::from(number));
         }
     }
     checked(sum == 6 * u64::from(OPERATIONS))
@@ -102,11 +102,11 @@ pub fn read_dirents() -> Result<u64, WorkloadError> {
 /// Bits of a bitmap, set.
 pub fn set_bits() -> Result<u64, WorkloadError> {
     let mut block = [0; BLOCK_LEN];
-    let mut seed = 1;
+    let mut state = 1;
     let mut b = 0;
     for _ in 0..OPERATIONS {
-        seed = next(seed ^ u32::from(block[0]));
-        b = (seed >> 16) as usize % BITS_PER_BLOCK;
+        state = next(state ^ u32::from(block[0]));
+        b = (state >> 16) as usize % BITS_PER_BLOCK;
         set_bit(&mut block, b);
     }
     checked(bit(&block, b % BITS_PER_BLOCK))
@@ -115,12 +115,12 @@ pub fn set_bits() -> Result<u64, WorkloadError> {
 /// Bits of a bitmap, tested.
 pub fn test_bits() -> Result<u64, WorkloadError> {
     let block = [0xff; BLOCK_LEN];
-    let mut seed = 1;
+    let mut state = 1;
     let mut sum = 0u64;
     for _ in 0..OPERATIONS {
-        let is_set = bit(&block, (seed >> 16) as usize % BITS_PER_BLOCK);
+        let is_set = bit(&block, (state >> 16) as usize % BITS_PER_BLOCK);
         sum = sum.wrapping_add(u64::from(is_set));
-        seed = next(seed ^ u32::from(is_set));
+        state = next(state ^ u32::from(is_set));
     }
     checked(sum == u64::from(OPERATIONS))
 }
