@@ -13,10 +13,9 @@ mod limits;
 mod log;
 mod members;
 mod phase;
-mod txn;
-
 #[cfg(test)]
 mod tests;
+mod txn;
 
 pub use commit::Progress;
 pub use crash::stops_at_a_cut;

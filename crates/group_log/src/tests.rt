@@ -105,7 +105,11 @@ fn check_log<D: Device>(device: &mut D, logstart: u32) -> Result<(), Fault>
 {
     let block = read(device, logstart)?;
     match read_log_head(&block) {
-        Some(head) => if head.blocks.is_empty() { Ok(()) } else { Err(Fault) },
+        Some(head) => if head.blocks.is_empty() {
+            Ok(())
+        } else {
+            Err(Fault)
+        },
         None => Err(Fault),
     }
 }
@@ -120,7 +124,11 @@ fn parts<D: Device>(device: &mut D) -> Result<Super, Fault>
         return Err(Fault);
     }
     let sizes = sizes_in(device)?;
-    if sizes.logstart < 2 || sizes.nlog == 0 || blocks < sizes.logstart || blocks - sizes.logstart < sizes.nlog {
+    if sizes.logstart < 2
+        || sizes.nlog == 0
+        || blocks < sizes.logstart
+        || blocks - sizes.logstart < sizes.nlog
+    {
         return Err(Fault);
     }
     check_log(device, sizes.logstart)?;
@@ -130,7 +138,10 @@ fn parts<D: Device>(device: &mut D) -> Result<Super, Fault>
 fn open<D: Device>(rt: &impl Abort, alloc: Global, device: D) -> Log<D> {
     let mut device = device;
     let sizes = parts(&mut device).expect(rt, "the log is empty");
-    Log::new(Cache::new(Buffers::new(alloc).expect(rt, "memory"), device), sizes)
+    Log::new(
+        Cache::new(Buffers::new(alloc).expect(rt, "memory"), device),
+        sizes,
+    )
 }
 
 fn join<D: Device>(rt: &impl Abort, log: &mut Log<D>, hart: u8) -> Option<Txn> {
@@ -157,7 +168,13 @@ fn leave<D: Device>(rt: &impl Abort, log: &mut Log<D>, txn: Txn) -> Left {
 }
 
 // Fills a block with this byte, and records it. An error is the device's.
-fn change<D: Device>(rt: &impl Abort, log: &mut Log<D>, txn: &mut Txn, b: u32, byte: u8) -> Result<(), Fault> {
+fn change<D: Device>(
+    rt: &impl Abort,
+    log: &mut Log<D>,
+    txn: &mut Txn,
+    b: u32,
+    byte: u8,
+) -> Result<(), Fault> {
     let hart = txn.hart();
     assert!(rt; hart < HARTS && log.held_by(hart) < BUFFERS_OF_A_HART && log.may_record(txn, b));
     match log.get(hart, b) {
@@ -206,7 +223,10 @@ fn commit<D: Device>(rt: &impl Abort, log: &mut Log<D>, hart: u8) -> (u64, Progr
 
 #[test]
 fn a_commit_writes_in_order(rt: HostRuntime) {
-    let disk = Watched { disk: Fused::new(disk(&rt, rt.alloc(), &FRESH), u64::MAX), writes: ArrayVec::new() };
+    let disk = Watched {
+        disk: Fused::new(disk(&rt, rt.alloc(), &FRESH), u64::MAX),
+        writes: ArrayVec::new(),
+    };
     let mut log = open(&rt, rt.alloc(), disk);
     let mut txn = join(&rt, &mut log, 0).expect(&rt, "there is room");
     for (b, byte) in [(48, 1), (46, 2), (48, 3)] {
@@ -266,9 +286,15 @@ fn a_join_counts_what_was_recorded(rt: HostRuntime) {
 // What recovery would make of the block's first byte, where the log has copies of 48 and those behind it.
 fn recovered_byte(rt: &impl Abort, bytes: &Vec<u8>, b: usize) -> u8 {
     assert!(rt; 48 <= b && b < BLOCKS);
-    let logged = bytes.get(2 * BLOCK_SIZE).copied().expect(rt, "it has a head");
+    let logged = bytes
+        .get(2 * BLOCK_SIZE)
+        .copied()
+        .expect(rt, "it has a head");
     let at = if b - 48 < logged as usize { b - 45 } else { b };
-    bytes.get(at * BLOCK_SIZE).copied().expect(rt, "it has so many blocks")
+    bytes
+        .get(at * BLOCK_SIZE)
+        .copied()
+        .expect(rt, "it has so many blocks")
 }
 
 // Two calls read the superblock and the head, and three the blocks. Then the device fails at each write of the commit
@@ -276,13 +302,21 @@ fn recovered_byte(rt: &impl Abort, bytes: &Vec<u8>, b: usize) -> u8 {
 #[test]
 fn a_group_is_there_whole_or_not_at_all(rt: HostRuntime) {
     for writes in 0..9u64 {
-        let mut log = open(&rt, rt.alloc(), Fused::new(disk(&rt, rt.alloc(), &FRESH), 5 + writes));
+        let mut log = open(
+            &rt,
+            rt.alloc(),
+            Fused::new(disk(&rt, rt.alloc(), &FRESH), 5 + writes),
+        );
         let mut txn = join(&rt, &mut log, 7).expect(&rt, "there is room");
         for b in 48..51 {
             assert_eq!(rt; change(&rt, &mut log, &mut txn, b, 9), Ok(()));
         }
         assert_eq!(rt; leave(&rt, &mut log, txn), Left::Commits);
-        let want = if writes < 8 { Progress::Failed } else { Progress::Ended };
+        let want = if writes < 8 {
+            Progress::Failed
+        } else {
+            Progress::Ended
+        };
         let made = if writes < 8 { writes } else { 8 };
         assert_eq!(rt; commit(&rt, &mut log, 7), (made, want));
         if writes < 8 {
@@ -292,7 +326,11 @@ fn a_group_is_there_whole_or_not_at_all(rt: HostRuntime) {
         let bytes = disk.into_disk().into_bytes();
         for b in 48..51 {
             let byte = if writes < 4 { 0 } else { 9 };
-            assert_eq!(rt; recovered_byte(&rt, &bytes, b), byte, "block {b} after {writes} writes");
+            assert_eq!(rt;
+                recovered_byte(&rt, &bytes, b),
+                byte,
+                "block {b} after {writes} writes"
+            );
         }
     }
 }
@@ -304,9 +342,15 @@ fn harts_join_and_leave_for_a_hundred_commits(rt: HostRuntime) {
         let (one, other) = (round % HARTS, (round + 1) % HARTS);
         let mut first = join(&rt, &mut log, one).expect(&rt, "there is room");
         let mut second = join(&rt, &mut log, other).expect(&rt, "there is room");
-        assert_eq!(rt; change(&rt, &mut log, &mut first, 48 + (round % 5) as u32, round), Ok(()));
+        assert_eq!(rt;
+            change(&rt, &mut log, &mut first, 48 + (round % 5) as u32, round),
+            Ok(())
+        );
         assert_eq!(rt; leave(&rt, &mut log, first), Left::Free);
-        assert_eq!(rt; change(&rt, &mut log, &mut second, 53 + (round % 5) as u32, round), Ok(()));
+        assert_eq!(rt;
+            change(&rt, &mut log, &mut second, 53 + (round % 5) as u32, round),
+            Ok(())
+        );
         assert_eq!(rt; leave(&rt, &mut log, second), Left::Commits);
         assert_eq!(rt; commit(&rt, &mut log, other), (6, Progress::Ended));
     }
@@ -314,7 +358,11 @@ fn harts_join_and_leave_for_a_hundred_commits(rt: HostRuntime) {
     let bytes = disk.into_bytes();
     for n in 0..5u8 {
         for b in [48 + n as usize, 53 + n as usize] {
-            assert_eq!(rt; bytes.get(b * BLOCK_SIZE).copied(), Some(95 + n), "block {b}");
+            assert_eq!(rt;
+                bytes.get(b * BLOCK_SIZE).copied(),
+                Some(95 + n),
+                "block {b}"
+            );
         }
     }
 }
