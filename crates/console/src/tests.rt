@@ -102,6 +102,7 @@ fn runs_no_line_of_a_bad_script(rt: HostRuntime) -> Result<(), Fail> {
 #[test]
 fn tells_damage_and_other_faults(rt: HostRuntime) -> Result<(), Fail> {
     let mut changed = fresh(rt.alloc())?.into_bytes();
+    assert!(rt; 1024 < changed.len());
     changed[1024] = 0;
     for (image, want) in [
         (vec![in rt.alloc(); 0; 1500]?, "refused 51 TooShort"),
