@@ -1,4 +1,4 @@
-use Rattle.std.proofs.Common.{◌<◌, ℕ, arith, IsTrue, nat_lt}
+use Rattle.std.proofs.Common.{◌≡◌, ◌<◌, ℕ, arith, IsTrue, nat_lt}
 use Rattle.std.proofs.lemmas.Bool.Decides.{nat_tests}
 use Rattle.group_log.proofs.Rooms.{member_at, room_at}
 use Rattle.group_log.proofs.members.has_room.Goals as goal

@@ -1,3 +1,4 @@
+use Rattle.std.proofs.Common.{◌≡◌, ℕ}
 use Rattle.group_log.proofs.Rooms.{member_at}
 use Rattle.group_log.proofs.members.is_member.Goals as goal
 
