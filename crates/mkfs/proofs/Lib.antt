@@ -2,9 +2,14 @@ pub mod DataBlocks
 pub mod Doubles
 pub mod Joins
 pub mod Lengths
+pub mod NodeBlocks
+pub mod NodeContents
+pub mod NodeInodes
+pub mod NodeNumbers
 pub mod Padding
 pub mod Places
 pub mod Readings
 pub mod Records
+pub mod Shown
 pub mod Steps
 pub mod Wanted

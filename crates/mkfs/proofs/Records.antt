@@ -49,15 +49,15 @@ spelled first (node ∷ nodes) (suc j) d rest h =
 
 -- ---- each of them can be read back
 
-all-append : (xs ys : List ℕ) → AllByRecursion (λ n. n < 2 ^ 32) xs → AllByRecursion (λ n. n < 2 ^ 32) ys → AllByRecursion (λ n. n < 2 ^ 32) (xs ++ ys)
+pub all-append : (xs ys : List ℕ) → AllByRecursion (λ n. n < 2 ^ 32) xs → AllByRecursion (λ n. n < 2 ^ 32) ys → AllByRecursion (λ n. n < 2 ^ 32) (xs ++ ys)
 all-append [] ys a b = b
 all-append (x ∷ xs) ys a b = (a.0, all-append xs ys a.1 b)
 
-all-range : (a n : ℕ) → a + n < 2 ^ 32 → AllByRecursion (λ k. k < 2 ^ 32) (range_with_len a n)
+pub all-range : (a n : ℕ) → a + n < 2 ^ 32 → AllByRecursion (λ k. k < 2 ^ 32) (range_with_len a n)
 all-range a zero h = tt
 all-range a (suc n) h = (omega arith, all-range (a + 1) n (omega arith))
 
-all-zeros : (n : ℕ) → AllByRecursion (λ k. k < 2 ^ 32) (replicate n 0)
+pub all-zeros : (n : ℕ) → AllByRecursion (λ k. k < 2 ^ 32) (replicate n 0)
 all-zeros zero = tt
 all-zeros (suc n) = (omega arith, all-zeros n)
 

@@ -2,3 +2,4 @@ pub mod Image
 pub mod Layout
 pub mod Options
 pub mod Refusals
+pub mod Stated

@@ -1,0 +1,28 @@
+-- The inodes that an image shows.
+use Rattle.std.proofs.Common.{◌≡◌, ℕ, ◌+◌, ◌/◌, ◌%◌, ◌<◌, ◌≤◌, List, length, get_or, ap, ◌∙◌}
+use Rattle.std.specs.List.{All}
+use Rattle.fs_layout.specs.declared.superblock.Super.{Super}
+use Rattle.fs_layout.specs.declared.inode.Dinode.{Dinode}
+use Rattle.fs_layout.specs.Inode.{dinode_at}
+use Rattle.fs_layout.specs.Recovered.{block_at, recovered}
+use Rattle.image_tree.specs.Inodes.{inode_of}
+use Rattle.mkfs.specs.Layout.{data_start}
+use Rattle.mkfs.specs.Image.{Node, inodes_from}
+use Rattle.mkfs.proofs.Lengths.{Fits}
+use Rattle.mkfs.proofs.Places.{disk_of, sizes-there, recovered-there}
+use Rattle.mkfs.proofs.Records.{IsNode, inode-there}
+
+-- an inode stands in the image where its number says
+pub inode-at : (size ninodes : ℕ) (nodes : List Node) (i : ℕ) → ninodes ≤ 65535 → Fits size ninodes nodes
+    → inode_of (disk_of size ninodes nodes) i ≡ dinode_at (i % 16) (block_at (disk_of size ninodes nodes) (33 + i / 16))
+unfolding inode_of
+inode-at size ninodes nodes i n h =
+    let disk : List (List ℕ) = disk_of size ninodes nodes in
+    ap (λ (s : Super). dinode_at (i % 16) (recovered disk (s.inodestart + i / 16))) (sizes-there size ninodes nodes n h)
+    ∙ ap (dinode_at (i % 16)) (recovered-there size ninodes nodes (33 + i / 16) n h)
+
+-- the root's is inode 1
+pub inode-is : (size ninodes : ℕ) (nodes : List Node) (j : ℕ) (d : Dinode) → ninodes ≤ 65535 → Fits size ninodes nodes → All IsNode nodes → j < length nodes
+    → inode_of (disk_of size ninodes nodes) (j + 1) ≡ get_or (inodes_from (data_start ninodes) nodes) j d
+inode-is size ninodes nodes j d n h all l =
+    inode-at size ninodes nodes (j + 1) n h ∙ inode-there size ninodes nodes j d h all l

@@ -1,0 +1,164 @@
+-- The numbers of a node's blocks, as its inode and the block of its numbers have them.
+use Rattle.std.proofs.Common.{◌≡◌, ℕ, zero, suc, ◌+◌, ◌-◌, ◌<◌, ◌≤◌, ◌^◌, eqb, min, Bool, false, cond, List, [], ◌∷◌, ◌++◌, length, take, replicate, get_or, ap, ◌∙◌, sym, ⊎_elim, arith, append_assoc}
+use Rattle.std.specs.List.{All, range_with_len}
+use Rattle.std.proofs.lemmas.Bool.{cases_lt, ne_eqb}
+use Rattle.std.proofs.lemmas.List.{append-nil, get_or-append_right, get_or_append_left, get_or-replicate}
+use Rattle.std.proofs.lemmas.List.FromFn.{length-range_with_len, get_or-range_with_len}
+use Rattle.std.proofs.lemmas.List.Sums.{sum_by-cons, sum_by_more_le}
+use Rattle.fs_layout.specs.declared.inode.Dinode.{Dinode}
+use Rattle.fs_layout.specs.Indirect.{numbers_in, spell_numbers}
+use Rattle.fs_layout.specs.Recovered.{recovered}
+use Rattle.fs_layout.proofs.Words.{numbers_in-spell}
+use Rattle.image_tree.specs.Inodes.{inode_of, numbers_of}
+use Rattle.mkfs.specs.Layout.{blocks_for, data_start}
+use Rattle.mkfs.specs.Image.{Node, padded, inode_for, inodes_from, blocks_before, blocks_of_node}
+use Rattle.mkfs.proofs.Padding.{length-padded}
+use Rattle.mkfs.proofs.Lengths.{Fits, blocks-small, blocks-large}
+use Rattle.mkfs.proofs.Places.{disk_of}
+use Rattle.mkfs.proofs.Records.{IsNode, all-append, all-range, all-zeros}
+use Rattle.mkfs.proofs.Shown.{IsRange}
+use Rattle.mkfs.proofs.NodeInodes.{inode-is}
+use Rattle.mkfs.proofs.NodeBlocks.{node-block, block-of-numbers}
+
+-- ---- the inode
+
+inode-in : (first : ℕ) (nodes : List Node) (j : ℕ) (n : Node) (d : Dinode) → j < length nodes
+    → get_or (inodes_from first nodes) j d ≡ inode_for (first + blocks_before j nodes) (get_or nodes j n)
+inode-in first [] j n d h = absurd (omega arith)
+inode-in first (node ∷ nodes) zero n d h = let e : first ≡ first + 0 = omega arith in ap (λ (i : ℕ). inode_for i node) e
+inode-in first (node ∷ nodes) (suc j) n d h =
+    let count : ℕ = blocks_of_node node in
+    let place : first + count + blocks_before j nodes ≡ first + blocks_before (suc j) (node ∷ nodes) = omega (arith, sum_by-cons blocks_of_node node (take j nodes)) in
+    inode-in (first + count) nodes j n d (omega arith) ∙ ap (λ (i : ℕ). inode_for i (get_or nodes j n)) place
+
+pub inode-for-there : (size ninodes : ℕ) (nodes : List Node) (j : ℕ) (n : Node) → ninodes ≤ 65535 → Fits size ninodes nodes → All IsNode nodes → j < length nodes
+    → inode_of (disk_of size ninodes nodes) (j + 1) ≡ inode_for (data_start ninodes + blocks_before j nodes) (get_or nodes j n)
+inode-for-there size ninodes nodes j n few h all l =
+    let d : Dinode = inode_for 0 n in
+    inode-is size ninodes nodes j d few h all l ∙ inode-in (data_start ninodes) nodes j n d l
+
+-- ---- numbers that rise
+
+range-append : (a m n : ℕ) → range_with_len a m ++ range_with_len (a + m) n ≡ range_with_len a (m + n)
+range-append a zero n =
+    let same : a + 0 ≡ a = omega arith in
+    let count : n ≡ 0 + n = omega arith in
+    ap (λ (i : ℕ). range_with_len i n) same ∙ ap (range_with_len a) count
+range-append a (suc m) n =
+    let same : a + suc m ≡ a + 1 + m = omega arith in
+    let count : suc (m + n) ≡ suc m + n = omega arith in
+    ap (λ (i : ℕ). a ∷ (range_with_len (a + 1) m ++ range_with_len i n)) same
+    ∙ ap (λ (xs : List ℕ). a ∷ xs) (range-append (a + 1) m n)
+    ∙ ap (range_with_len a) count
+
+-- the address of the indirect block, where there is one
+twelfth : (first n : ℕ) → 13 ≤ n → get_or (padded 13 (range_with_len first (min n 13))) 12 0 ≡ first + 12
+unfolding padded
+twelfth first n h =
+    let numbers : List ℕ = range_with_len first (min n 13) in
+    let long : 12 < length numbers = omega (arith, length-range_with_len first (min n 13)) in
+    get_or_append_left numbers (replicate (13 - length numbers) 0) 0 12 long
+    ∙ get_or-range_with_len first (min n 13) 12 0 (omega arith)
+
+no-twelfth : (first n : ℕ) → n ≤ 12 → get_or (padded 13 (range_with_len first (min n 13))) 12 0 ≡ 0
+unfolding padded
+no-twelfth first n h =
+    let numbers : List ℕ = range_with_len first (min n 13) in
+    let count : ℕ = 13 - length numbers in
+    let none : ℕ = 0 in
+    let long : length numbers ≡ min n 13 = length-range_with_len first (min n 13) in
+    get_or-append_right numbers (replicate count 0) (min n 13) 12 0 long (omega arith)
+    ∙ get_or-replicate count (12 - min n 13) none none (omega (arith, long))
+
+addrs-small : (first n : ℕ) → n ≤ 12 → padded 13 (range_with_len first (min n 13)) ≡ range_with_len first n ++ replicate (13 - n) 0
+unfolding padded
+addrs-small first n h =
+    let count : min n 13 ≡ n = omega arith in
+    ap (λ (i : ℕ). range_with_len first i ++ replicate (13 - length (range_with_len first i)) 0) count
+    ∙ ap (λ (i : ℕ). range_with_len first n ++ replicate (13 - i) 0) (length-range_with_len first n)
+
+addrs-large : (first n : ℕ) → 13 ≤ n → padded 13 (range_with_len first (min n 13)) ≡ range_with_len first 13
+unfolding padded
+addrs-large first n h =
+    let count : min n 13 ≡ 13 = omega arith in
+    ap (λ (i : ℕ). range_with_len first i ++ replicate (13 - length (range_with_len first i)) 0) count
+    ∙ ap (λ (i : ℕ). range_with_len first 13 ++ replicate (13 - i) 0) (length-range_with_len first 13)
+    ∙ append-nil (range_with_len first 13)
+
+-- ---- the numbers of a node with at most twelve blocks, and of one with more
+
+-- the numbers in the block at this address, if there is one
+abbrev behind : List (List ℕ) → ℕ → List ℕ
+behind disk address = cond (eqb address 0) [] (numbers_in (recovered disk address))
+
+few-numbers : (disk : List (List ℕ)) (first : ℕ) (node : Node) → blocks_of_node node ≤ 12
+    → numbers_of disk (inode_for first node) ≡ range_with_len first (blocks_of_node node) ++ replicate (13 - blocks_of_node node) 0
+unfolding numbers_of inode_for
+few-numbers disk first node h =
+    let n : ℕ = blocks_of_node node in
+    let addrs : List ℕ = padded 13 (range_with_len first (min n 13)) in
+    ap (λ (a : ℕ). addrs ++ behind disk a) (no-twelfth first n h) ∙ append-nil addrs ∙ addrs-small first n h
+
+many-numbers : (disk : List (List ℕ)) (first : ℕ) (node : Node) → 13 ≤ blocks_of_node node
+    → numbers_in (recovered disk (first + 12)) ≡ padded 256 (range_with_len (first + 13) (blocks_of_node node - 13))
+    → numbers_of disk (inode_for first node) ≡ range_with_len first (blocks_of_node node) ++ replicate (256 - (blocks_of_node node - 13)) 0
+unfolding numbers_of inode_for padded
+many-numbers disk first node h there =
+    let n : ℕ = blocks_of_node node in
+    let addrs : List ℕ = padded 13 (range_with_len first (min n 13)) in
+    let further : List ℕ = range_with_len (first + 13) (n - 13) in
+    let zeros : ℕ → List ℕ = λ k. replicate (256 - k) 0 in
+    let not : eqb (first + 12) 0 ≡ false = ne_eqb (first + 12) 0 (λ e. omega arith) in
+    let all : 13 + (n - 13) ≡ n = omega arith in
+    ap (λ (a : ℕ). addrs ++ behind disk a) (twelfth first n h)
+    ∙ ap (λ (b : Bool). addrs ++ cond b [] (numbers_in (recovered disk (first + 12)))) not
+    ∙ ap (λ (xs : List ℕ). addrs ++ xs) there
+    ∙ ap (λ (xs : List ℕ). xs ++ (further ++ zeros (length further))) (addrs-large first n h)
+    ∙ sym (append_assoc (range_with_len first 13) further (zeros (length further)))
+    ∙ ap (λ (xs : List ℕ). xs ++ zeros (length further)) (range-append first 13 (n - 13) ∙ ap (range_with_len first) all)
+    ∙ ap (λ (k : ℕ). range_with_len first n ++ zeros k) (length-range_with_len (first + 13) (n - 13))
+
+-- what was spelled in the block of the numbers is read
+read-numbers : (first count : ℕ) → first + count < 2 ^ 32 → count ≤ 256
+    → numbers_in (spell_numbers (padded 256 (range_with_len first count))) ≡ padded 256 (range_with_len first count)
+unfolding padded
+read-numbers first count h few =
+    let numbers : List ℕ = range_with_len first count in
+    let long : length numbers ≤ 256 = omega (arith, length-range_with_len first count) in
+    let zeros : ℕ = 256 - length numbers in
+    numbers_in-spell (padded 256 numbers) (length-padded 256 numbers long) (all-append numbers (replicate zeros 0) (all-range first count h) (all-zeros zeros))
+
+-- ---- in an image
+
+pub numbers-there : (size ninodes : ℕ) (nodes : List Node) (j : ℕ) (n : Node) → ninodes ≤ 65535 → Fits size ninodes nodes → All IsNode nodes → j < length nodes
+    → IsRange (numbers_of (disk_of size ninodes nodes) (inode_of (disk_of size ninodes nodes) (j + 1)))
+    (data_start ninodes + blocks_before j nodes) (blocks_of_node (get_or nodes j n))
+numbers-there size ninodes nodes j n few h all l =
+    let disk : List (List ℕ) = disk_of size ninodes nodes in
+    let first : ℕ = data_start ninodes + blocks_before j nodes in
+    let node : Node = get_or nodes j n in
+    let bytes : ℕ = length node.content in
+    let count : ℕ = blocks_of_node node in
+    let most : bytes ≤ 274432 = h.contents j n l in
+    let room : first + count ≤ size = omega (arith, h.room, sum_by_more_le blocks_of_node nodes j n l) in
+    let inode = inode-for-there size ninodes nodes j n few h all l in
+    ⊎_elim
+    (λ (more : 12288 < bytes).
+    let blocks : count ≡ blocks_for bytes + 1 = blocks-large bytes more in
+    let many : 13 ≤ count = omega (arith, blocks) in
+    let rest : blocks_for bytes - 12 ≡ count - 13 = omega (arith, blocks) in
+    let within : 12 < count = omega (arith, many) in
+    let there : numbers_in (recovered disk (first + 12)) ≡ padded 256 (range_with_len (first + 13) (count - 13)) =
+    ap numbers_in (node-block size ninodes nodes j 12 n few h l within ∙ block-of-numbers first node.content more most)
+    ∙ ap (λ (k : ℕ). numbers_in (spell_numbers (padded 256 (range_with_len (first + 13) k)))) rest
+    ∙ read-numbers (first + 13) (count - 13) (omega (arith, room, h.few)) (omega (arith, blocks)) in
+    let is : IsRange (numbers_of disk (inode_of disk (j + 1))) first count =
+    record { zeros = 256 - (count - 13); is = ap (numbers_of disk) inode ∙ many-numbers disk first node many there } in
+    is)
+    (λ (less : bytes ≤ 12288).
+    let blocks : count ≡ blocks_for bytes = blocks-small bytes less in
+    let some : count ≤ 12 = omega (arith, blocks) in
+    let is : IsRange (numbers_of disk (inode_of disk (j + 1))) first count =
+    record { zeros = 13 - count; is = ap (numbers_of disk) inode ∙ few-numbers disk first node some } in
+    is)
+    (cases_lt 12288 bytes)

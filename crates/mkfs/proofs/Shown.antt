@@ -1,0 +1,35 @@
+-- What the disk of an image shows of the nodes that lie on it.
+use Rattle.std.proofs.Common.{◌≡◌, ℕ, ◌+◌, ◌*◌, ◌<◌, nat_lt, List, [], ◌++◌, length, take, drop, replicate, get_or, pos}
+use Rattle.std.specs.List.{range_with_len}
+use Rattle.fs_layout.specs.declared.inode.Dinode.{Dinode}
+use Rattle.fs_layout.specs.Bytes.{u32_at}
+use Rattle.fs_layout.specs.Recovered.{block_at, sizes_of, log_count, logged, recovered}
+use Rattle.image_tree.specs.Inodes.{inode_of, numbers_of, content_block}
+use Rattle.image_tree.specs.Checks.{is_marked}
+use Rattle.mkfs.specs.Layout.{data_start, super_for}
+use Rattle.mkfs.specs.Image.{Node, whole, inodes_from, used_by, blocks_before, blocks_of_node}
+
+-- an inode that is all zeros
+abbrev pub free_inode : Dinode
+free_inode = record { kind = pos 0; major = pos 0; minor = pos 0; nlink = pos 0; size = 0; addrs = replicate 13 0 }
+
+-- the numbers of a node's blocks, from the first on, with zeros behind
+pub record IsRange (numbers : List ℕ) (first count : ℕ) : Type 0 where
+  pub zeros : ℕ
+  pub is : numbers ≡ range_with_len first count ++ replicate zeros 0
+
+pub record Shows (disk : List (List ℕ)) (size ninodes : ℕ) (nodes : List Node) : Type 0 where
+  pub long : length disk ≡ size
+  pub magic : u32_at (block_at disk 1) 0 ≡ 0x10203040
+  pub sizes : sizes_of disk ≡ super_for size ninodes
+  pub count : log_count disk ≡ 0
+  pub empty : logged disk ≡ []
+  pub stands : (b : ℕ) → recovered disk b ≡ block_at disk b
+  -- the root is inode 1
+  pub inode : (j : ℕ) (d : Dinode) → j < length nodes → inode_of disk (j + 1) ≡ get_or (inodes_from (data_start ninodes) nodes) j d
+  pub free : (i : ℕ) → length nodes < i → i < ninodes → inode_of disk i ≡ free_inode
+  pub bits : (b : ℕ) → b < 8192 → is_marked disk b ≡ nat_lt b (used_by (data_start ninodes) nodes)
+  pub numbers : (j : ℕ) (n : Node) → j < length nodes
+      → IsRange (numbers_of disk (inode_of disk (j + 1))) (data_start ninodes + blocks_before j nodes) (blocks_of_node (get_or nodes j n))
+  pub content : (j k : ℕ) (n : Node) → j < length nodes → 1024 * k < length (get_or nodes j n).content
+      → content_block disk (inode_of disk (j + 1)) k ≡ take 1024 (drop (1024 * k) (whole (get_or nodes j n).content))
