@@ -3,3 +3,4 @@ pub mod Makes
 pub mod Root
 pub mod View
 pub mod Single
+pub mod Options

@@ -1,8 +1,35 @@
--- What a command line gives.
-use Rattle.std.specs.Prelude.{◌≡◌, ℕ, ◌^◌, ◌<◌, List, Some}
+-- The command line: IMAGE [--size N] [--inodes N] [FILE..], and what it gives.
+use Rattle.std.specs.Prelude.{◌≡◌, ℕ, ◌^◌, ◌<◌, List, [], ◌∷◌, Some, true, codes, pos}
 use Rattle.std.specs.Str.Parse.{IsNumeral, digits_value, without_leading_plus}
-use Rattle.clap.specs.Matches.{found_of, one_text}
+use Rattle.clap.specs.Lexer.{usize_max}
+use Rattle.clap.specs.Words.{App, Rule, Text, found_of, new_app, new_rule, one_text, with_rule}
+use Rattle.clap.specs.declared.builder.action.ArgAction.TheVariants.{Set}
+use Rattle.clap.specs.declared.builder.value_parser.ValueParser.TheVariants.{Signed}
 use Rattle.clap.specs.declared.parser.matches.ArgMatches.{ArgMatches}
+
+-- the file to write
+abbrev pub image_rule : Rule
+image_rule = record (new_rule (codes "image")) { action = Some Set; value_names = 1; required = true }
+
+-- an option with a u32 and a default
+abbrev pub number_rule : Text → Text → Rule
+number_rule id default = record (new_rule id) {
+  long = Some id;
+  value_names = 1;
+  defaults = default ∷ [];
+  parser = Some (Signed (pos 0) (pos 4294967295));
+}
+
+-- any number of files
+abbrev pub files_rule : Rule
+files_rule = record (new_rule (codes "files")) {
+  range = Some (record { start_inclusive = 0; end_inclusive = usize_max });
+  value_names = 1;
+}
+
+abbrev pub mkfs_line : App
+mkfs_line =
+    with_rule (with_rule (with_rule (with_rule (new_app (codes "mkfs")) image_rule) (number_rule (codes "size") (codes "2000"))) (number_rule (codes "inodes") (codes "200"))) files_rule
 
 -- the number that a decimal text is, where one `+` may stand before it
 abbrev pub number_in : List ℕ → ℕ

@@ -1,6 +1,7 @@
 //! The command line.
-ghost use Rattle.std.specs.Prelude.{◌≡◌, codes, IfOk, IsTrue};
-ghost use Rattle.mkfs.specs.Options.{number_in, HasNumber};
+ghost use Rattle.std.specs.Prelude.{◌≡◌, codes, false, map, string_bytes, IfOk, IsTrue};
+ghost use Rattle.clap.specs.Words.{app_of, found_of, matches_of, rows_of, rule_of};
+ghost use Rattle.mkfs.specs.Options.{files_rule, image_rule, mkfs_line, number_in, number_rule, HasNumber};
 
 use clap::error::ErrorKind;
 use clap::{Arg, ArgAction, ArgMatches, Command, Error};
@@ -19,7 +20,10 @@ pub const IMAGE: &str = "image";
 pub const FILES: &str = "files";
 
 // An option with a number and a default.
-fn option<'a>(alloc: Global, id: &'a str, default: &'a str, help: &'a str) -> Arg<'a> {
+fn option<'a>(alloc: Global, id: &'a str, default: &'a str, help: &'a str) -> Arg<'a>
+    ensures rule { rule_of result ≡ number_rule id.entry.now default.entry.now }
+    ensures local { result.global ≡ false }
+{
     Arg::new(alloc, id)
         .long(id)
         .value_name("N")
@@ -28,22 +32,38 @@ fn option<'a>(alloc: Global, id: &'a str, default: &'a str, help: &'a str) -> Ar
         .help(help)
 }
 
-fn command<'a>(alloc: Global) -> Result<Command<'a>, AllocError> {
-    let image = Arg::new(alloc, IMAGE)
+// The file to write.
+fn image<'a>(alloc: Global) -> Arg<'a>
+    ensures rule { rule_of result ≡ image_rule }
+    ensures local { result.global ≡ false }
+{
+    Arg::new(alloc, IMAGE)
         .required(true)
         .action(ArgAction::Set)
         .value_name("IMAGE")
-        .help("The file to write");
-    let files = Arg::new(alloc, FILES)
+        .help("The file to write")
+}
+
+// The files to put into it.
+fn files<'a>(alloc: Global) -> Arg<'a>
+    ensures rule { rule_of result ≡ files_rule }
+    ensures local { result.global ≡ false }
+{
+    Arg::new(alloc, FILES)
         .num_args(0..)
         .value_name("FILE")
-        .help("Files to put into the image's root");
+        .help("Files to put into the image's root")
+}
+
+fn command<'a>(alloc: Global) -> Result<Command<'a>, AllocError>
+    ensures { IfOk result (λ command. app_of command ≡ mkfs_line) }
+{
     Command::new(alloc, "mkfs")
         .about("Makes an image of a file system")
-        .arg(image)?
+        .arg(image(alloc))?
         .arg(option(alloc, SIZE, "2000", "How many blocks the image has"))?
         .arg(option(alloc, INODES, "200", "How many inodes it has"))?
-        .arg(files)
+        .arg(files(alloc))
 }
 
 // Whether the option's value is a u32.
@@ -53,9 +73,11 @@ fn has_number(matches: &ArgMatches, id: &str) -> bool
     matches.get_one::<u32>(id).is_some()
 }
 
-/// Reads a command line, the program's name first. After an `Ok` both numbers are there.
+/// Reads a command line, the program's name first. After an `Ok` the values are those that the words give, and both
+/// numbers are there.
 pub fn options<'a>(alloc: Global, words: &'a [String]) -> Result<ArgMatches<'a>, Error>
-    ensures { IfOk result (λ matches. HasNumber matches (codes "size") × HasNumber matches (codes "inodes")) }
+    ensures numbers { IfOk result (λ matches. HasNumber matches (codes "size") × HasNumber matches (codes "inodes")) }
+    ensures values { IfOk result (λ matches. rows_of (found_of matches) ≡ matches_of mkfs_line (map string_bytes words.entry.now)) }
 {
     let mut command = command(alloc)?;
     let matches = command.try_get_matches_from_mut(words)?;
