@@ -1,7 +1,10 @@
 pub mod DataBlocks
+pub mod Directories
 pub mod Doubles
+pub mod FilesShown
 pub mod Joins
 pub mod Lengths
+pub mod LinkChecks
 pub mod NodeBlocks
 pub mod NodeContents
 pub mod NodeInodes
@@ -10,6 +13,10 @@ pub mod Padding
 pub mod Places
 pub mod Readings
 pub mod Records
+pub mod RootBytes
 pub mod Shown
+pub mod SlotChecks
 pub mod Steps
+pub mod TreeChecks
+pub mod TreeShown
 pub mod Wanted

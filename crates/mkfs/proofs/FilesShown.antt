@@ -1,0 +1,150 @@
+-- What the disk of an image shows of the root and the files.
+use Rattle.std.proofs.Common.{◌≡◌, ℕ, zero, suc, ◌+◌, ◌-◌, ◌*◌, ◌/◌, ◌%◌, ◌^◌, ◌<◌, ◌≤◌, pos, List, [], ◌∷◌, ◌++◌, length, take, drop, map, replicate, get_or, Some, refl, sym, ap, subst, ◌∙◌, arith}
+use Rattle.std.specs.List.{All}
+use Rattle.std.proofs.Math.Seq.{take-add}
+use Rattle.std.proofs.lemmas.List.{take_all, take_at, take-take, map_more, get_or-map, length-map}
+use Rattle.fs_layout.specs.declared.inode.Dinode.{Dinode}
+use Rattle.fs_layout.specs.declared.entry.Dirent.{Dirent}
+use Rattle.fs_layout.specs.declared.entry.Dirent.TheVariants.{Free}
+use Rattle.fs_layout.specs.declared.superblock.Super.{Super}
+use Rattle.fs_layout.specs.Name.{IsName}
+use Rattle.fs_layout.specs.Entry.{dirent_at}
+use Rattle.fs_layout.specs.Recovered.{sizes_of}
+use Rattle.image_tree.specs.Inodes.{inode_of, content_block, front_blocks, content_of, slot_at, first_slots, slots_of}
+use Rattle.mkfs.specs.Layout.{blocks_for, root_size, data_start}
+use Rattle.mkfs.specs.Image.{Node, padded, whole, inode_for, inodes_from, root_content, root_node, file_node, nodes_with, blocks_of_node}
+use Rattle.mkfs.specs.Refusals.{CanBeMade, HasGoodNames}
+use Rattle.mkfs.proofs.Wanted.{root_long}
+use Rattle.mkfs.proofs.RootBytes.{all_entries, good-entries, length-all, root-bytes, entry-there}
+use Rattle.mkfs.proofs.Shown.{Shows, free_inode}
+
+-- ---- inodes
+
+-- an inode with the kind and size of a node, and one name
+pub record IsInodeOf (d : Dinode) (node : Node) : Type 0 where
+  pub kind : d.kind ≡ node.kind
+  pub count : d.nlink ≡ pos 1
+  pub size : d.size ≡ length node.content
+
+inode-at : (first : ℕ) (nodes : List Node) (j : ℕ) (d : Dinode) (n : Node) → j < length nodes → IsInodeOf (get_or (inodes_from first nodes) j d) (get_or nodes j n)
+unfolding inode_for
+inode-at first [] j d n l = absurd (omega arith)
+inode-at first (node ∷ nodes) zero d n l = record { kind = refl; count = refl; size = refl }
+inode-at first (node ∷ nodes) (suc j) d n l = inode-at (first + blocks_of_node node) nodes j d n (omega arith)
+
+shown-inode : (disk : List (List ℕ)) (size ninodes : ℕ) (nodes : List Node) (j : ℕ) (n : Node) → Shows disk size ninodes nodes → j < length nodes
+    → IsInodeOf (inode_of disk (j + 1)) (get_or nodes j n)
+shown-inode disk size ninodes nodes j n h l =
+    subst (λ (d : Dinode). IsInodeOf d (get_or nodes j n)) (sym (h.inode j free_inode l)) (inode-at (data_start ninodes) nodes j free_inode n l)
+
+-- ---- a file's bytes
+
+-- the blocks of a node's content
+abbrev HasContent : List (List ℕ) → Dinode → List ℕ → Type 0
+HasContent disk d content = (k : ℕ) → 1024 * k < length content → content_block disk d k ≡ take 1024 (drop (1024 * k) (whole content))
+
+front-are : (disk : List (List ℕ)) (d : Dinode) (content : List ℕ) (n : ℕ) → n ≤ blocks_for (length content) → HasContent disk d content
+    → front_blocks disk d n ≡ take (1024 * n) (whole content)
+unfolding front_blocks
+front-are disk d content zero h at = refl
+front-are disk d content (suc n) h at =
+    let bytes : List ℕ = whole content in
+    let count : 1024 * n + 1024 ≡ 1024 * suc n = omega arith in
+    ap (λ (xs : List ℕ). xs ++ content_block disk d n) (front-are disk d content n (omega arith) at)
+    ∙ ap (λ (xs : List ℕ). take (1024 * n) bytes ++ xs) (at n (omega arith))
+    ∙ sym (take-add (1024 * n) 1024 bytes)
+    ∙ ap (λ (k : ℕ). take k bytes) count
+
+take-whole : (bytes : List ℕ) → take (length bytes) (whole bytes) ≡ bytes
+unfolding whole padded
+take-whole bytes = take_at bytes (replicate (1024 * blocks_for (length bytes) - length bytes) 0) (length bytes) refl
+
+content-is : (disk : List (List ℕ)) (d : Dinode) (content : List ℕ) → d.size ≡ length content → HasContent disk d content → content_of disk d ≡ content
+content-is disk d content size at =
+    let n : ℕ = blocks_for (length content) in
+    let same : n ≤ n = omega arith in
+    ap (λ (k : ℕ). take k (front_blocks disk d (blocks_for k))) size
+    ∙ ap (take (length content)) (front-are disk d content n same at)
+    ∙ take-take (length content) (1024 * n) (whole content) (omega arith)
+    ∙ take-whole content
+
+-- ---- the root's slots
+
+first-are : (disk : List (List ℕ)) (d : Dinode) (entries : List Dirent) (n : ℕ) → n ≤ length entries
+    → ((s : ℕ) → s < length entries → slot_at disk d s ≡ Some (get_or entries s Free)) → first_slots disk d n ≡ map Some (take n entries)
+unfolding first_slots
+first-are disk d entries zero h at = refl
+first-are disk d entries (suc n) h at =
+    let count : n + 1 ≡ suc n = omega arith in
+    ap (λ xs. xs ++ slot_at disk d n ∷ []) (first-are disk d entries n (omega arith) at)
+    ∙ ap (λ x. map Some (take n entries) ++ x ∷ []) (at n (omega arith))
+    ∙ sym (map_more Some entries n Free (omega arith))
+    ∙ ap (λ (k : ℕ). map Some (take k entries)) count
+
+slot-there : (disk : List (List ℕ)) (d : Dinode) (names : List (List ℕ)) (s : ℕ) → 2 + length names < 2 ^ 16 → All IsName names
+    → HasContent disk d (root_content names) → length (root_content names) ≡ root_size (length names) → s < length (all_entries names)
+    → slot_at disk d s ≡ Some (get_or (all_entries names) s Free)
+unfolding slot_at whole padded
+slot-there disk d names s few good at long l =
+    let root : List ℕ = root_content names in
+    let rest : List ℕ = replicate (1024 * blocks_for (length root) - length root) 0 in
+    let within : 1024 * (s / 64) < length root = omega (arith, length-all names) in
+    ap (dirent_at (s % 64)) (at (s / 64) within ∙ ap (λ (xs : List ℕ). take 1024 (drop (1024 * (s / 64)) (xs ++ rest))) (root-bytes names few good))
+    ∙ entry-there (all_entries names) s Free rest (good-entries names few good) l
+
+slots-are : (disk : List (List ℕ)) (d : Dinode) (names : List (List ℕ)) → 2 + length names < 2 ^ 16 → All IsName names
+    → HasContent disk d (root_content names) → length (root_content names) ≡ root_size (length names) → d.size ≡ length (root_content names)
+    → slots_of disk d ≡ map Some (all_entries names)
+slots-are disk d names few good at long size =
+    let entries : List Dirent = all_entries names in
+    let count : d.size / 16 ≡ length entries = omega (arith, length-all names) in
+    let same : length entries ≤ length entries = omega arith in
+    ap (first_slots disk d) count
+    ∙ first-are disk d entries (length entries) same (λ s l. slot-there disk d names s few good at long l)
+    ∙ ap (map Some) (take_all (length entries) entries same)
+
+-- ---- all of it
+
+pub record ShowsFiles (disk : List (List ℕ)) (ninodes : ℕ) (names contents : List (List ℕ)) : Type 0 where
+  pub good : HasGoodNames names
+  pub many : length names ≡ length contents
+  pub count : (sizes_of disk).ninodes ≡ ninodes
+  pub room : 1 + length contents < ninodes
+  pub root : IsInodeOf (inode_of disk 1) (root_node (root_content names))
+  pub slots : slots_of disk (inode_of disk 1) ≡ map Some (all_entries names)
+  -- file j is inode j + 2
+  pub file : (j : ℕ) → j < length contents → IsInodeOf (inode_of disk (j + 2)) (file_node (get_or contents j []))
+  pub content : (j : ℕ) → j < length contents → content_of disk (inode_of disk (j + 2)) ≡ get_or contents j []
+  pub free : (i : ℕ) → 1 + length contents < i → i < ninodes → inode_of disk i ≡ free_inode
+
+pub shown_files : (disk : List (List ℕ)) (size ninodes : ℕ) (names contents : List (List ℕ)) → Shows disk size ninodes (nodes_with (root_content names) contents)
+    → length names ≡ length contents → CanBeMade size ninodes names contents → ShowsFiles disk ninodes names contents
+shown_files disk size ninodes names contents h many can =
+    let nodes : List Node = nodes_with (root_content names) contents in
+    let none : Node = root_node [] in
+    let no_bytes : List ℕ = [] in
+    let long : length (map file_node contents) ≡ length contents = length-map contents file_node in
+    let few : 2 + length names < 2 ^ 16 = omega (arith, many, can.0.0.1.few) in
+    let each : All IsName names = λ i d l. (can.0.0.0.1.each i d l).0 in
+    let root : IsInodeOf (inode_of disk 1) (root_node (root_content names)) = shown-inode disk size ninodes nodes 0 none h (omega arith) in
+    let size_is = root_long size ninodes names contents many can ∙ ap root_size (sym many) in
+    let is : (j : ℕ) → j < length contents → get_or nodes (suc j) none ≡ file_node (get_or contents j []) = λ j l. get_or-map file_node contents j no_bytes none l in
+    let place : (j : ℕ) → suc j + 1 ≡ j + 2 = λ j. omega arith in
+    let file : (j : ℕ) → j < length contents → IsInodeOf (inode_of disk (j + 2)) (file_node (get_or contents j [])) =
+    λ j l.
+    subst (IsInodeOf (inode_of disk (j + 2))) (is j l)
+    (subst (λ (i : ℕ). IsInodeOf (inode_of disk i) (get_or nodes (suc j) none)) (place j) (shown-inode disk size ninodes nodes (suc j) none h (omega arith))) in
+    record {
+      good = can.0.0.0.1;
+      many = many;
+      count = ap (λ (s : Super). s.ninodes) h.sizes;
+      room = omega (arith, can.0.1, can.0.0.0.0.some_inodes);
+      root = root;
+      slots = slots-are disk (inode_of disk 1) names few each (λ k l. h.content 0 k none (omega arith) l) size_is root.size;
+      file = file;
+      content = λ j l.
+          content-is disk (inode_of disk (j + 2)) (get_or contents j []) (file j l).size
+          (subst (λ (node : Node). HasContent disk (inode_of disk (j + 2)) node.content) (is j l)
+          (subst (λ (i : ℕ). HasContent disk (inode_of disk i) (get_or nodes (suc j) none).content) (place j) (λ k m. h.content (suc j) k none (omega arith) m)));
+      free = λ i low bound. h.free i (omega arith) bound;
+    }

@@ -1,0 +1,125 @@
+-- The root's bytes are its entries, spelled: those of the names, and free ones behind them.
+use Rattle.std.proofs.Common.{◌≡◌, ◌≢◌, ℕ, zero, suc, ◌+◌, ◌-◌, ◌*◌, ◌/◌, ◌%◌, ◌^◌, ◌<◌, ◌≤◌, List, [], ◌∷◌, ◌++◌, length, take, drop, replicate, get_or, Some, refl, sym, ap, ◌∙◌, arith, append_assoc, length-append}
+use Rattle.std.specs.List.{All, flat_map}
+use Rattle.std.proofs.lemmas.List.{take_at, drop_at, drop-drop, drop-take, take-take, length-replicate, replicate-append-replicate}
+use Rattle.std.proofs.lemmas.List.Concat.{flat_map-append}
+use Rattle.std.proofs.lemmas.List.Elements.{All-append, All-cons, All-head, All-tail, All-nil, All-replicate}
+use Rattle.fs_layout.specs.declared.entry.Dirent.{Dirent}
+use Rattle.fs_layout.specs.declared.entry.Dirent.TheVariants.{Free, Used}
+use Rattle.fs_layout.specs.Bytes.{record_at}
+use Rattle.fs_layout.specs.Name.{IsName}
+use Rattle.fs_layout.specs.Entry.{spell_dirent, dirent_at, dirent_of, IsDirent}
+use Rattle.fs_layout.proofs.Entries.{length-spell_dirent, dirent_of-spell}
+use Rattle.mkfs.specs.Layout.{blocks_for, root_size}
+use Rattle.mkfs.specs.Image.{padded, whole, root_content, root_entries, entries_from, dot, dotdot}
+
+-- how many of the root's entries are free
+abbrev pub free_entries : ℕ → ℕ
+free_entries files = root_size files / 16 - (2 + files)
+
+-- all entries of the root
+abbrev pub all_entries : List (List ℕ) → List Dirent
+all_entries names = root_entries names ++ replicate (free_entries (length names)) Free
+
+-- ---- each can be spelled
+
+good-from : (number : ℕ) (names : List (List ℕ)) → number ≢ 0 → number + length names < 2 ^ 16 → All IsName names → All IsDirent (entries_from number names)
+good-from number [] some few h = All-nil IsDirent
+good-from number (name ∷ names) some few h =
+    let small : number < 2 ^ 16 = omega arith in
+    All-cons IsDirent (Used number name) (entries_from (number + 1) names) (some, small, All-head IsName name names h)
+    (good-from (number + 1) names (λ e. absurd (omega arith)) (omega arith) (All-tail IsName name names h))
+
+not-zero : (n : ℕ) → suc n ≢ 0
+not-zero n e = absurd (omega arith)
+
+good-root : (names : List (List ℕ)) → 2 + length names < 2 ^ 16 → All IsName names → All IsDirent (root_entries names)
+good-root names few h =
+    let one : 1 < 2 ^ 16 = omega arith in
+    let files : List Dirent = entries_from 2 names in
+    All-cons IsDirent (Used 1 dot) (Used 1 dotdot ∷ files) (not-zero 0, one, refl)
+    (All-cons IsDirent (Used 1 dotdot) files (not-zero 0, one, refl) (good-from 2 names (not-zero 1) few h))
+
+pub good-entries : (names : List (List ℕ)) → 2 + length names < 2 ^ 16 → All IsName names → All IsDirent (all_entries names)
+good-entries names few h =
+    let free : ℕ = free_entries (length names) in
+    All-append IsDirent (root_entries names) (replicate free Free) (good-root names few h) (All-replicate IsDirent free Free tt)
+
+pub length-from : (number : ℕ) (names : List (List ℕ)) → length (entries_from number names) ≡ length names
+length-from number [] = refl
+length-from number (name ∷ names) = ap suc (length-from (number + 1) names)
+
+pub length-all : (names : List (List ℕ)) → length (all_entries names) ≡ root_size (length names) / 16
+length-all names =
+    let free : ℕ = free_entries (length names) in
+    omega (arith, length-append (root_entries names) (replicate free Free), length-from 2 names, length-replicate free Free)
+
+-- ---- their bytes
+
+length-spelled : (entries : List Dirent) → All IsDirent entries → length (flat_map spell_dirent entries) ≡ 16 * length entries
+length-spelled [] h = refl
+length-spelled (entry ∷ entries) h =
+    let one = length-spell_dirent entry (All-head IsDirent entry entries h) in
+    let rest = length-spelled entries (All-tail IsDirent entry entries h) in
+    omega (arith, length-append (spell_dirent entry) (flat_map spell_dirent entries), one, rest)
+
+spelled-free : (n : ℕ) → flat_map spell_dirent (replicate n Free) ≡ replicate (16 * n) 0
+spelled-free zero = refl
+spelled-free (suc n) =
+    let count : 16 + 16 * n ≡ 16 * suc n = omega arith in
+    let none : ℕ = 0 in
+    ap (λ (xs : List ℕ). replicate 16 0 ++ xs) (spelled-free n) ∙ replicate-append-replicate 16 (16 * n) none ∙ ap (λ (k : ℕ). replicate k 0) count
+
+pub root-bytes : (names : List (List ℕ)) → 2 + length names < 2 ^ 16 → All IsName names → root_content names ≡ flat_map spell_dirent (all_entries names)
+unfolding root_content whole padded
+root-bytes names few h =
+    let free : ℕ = free_entries (length names) in
+    let used : List ℕ = flat_map spell_dirent (root_entries names) in
+    let long : length used ≡ 16 * (2 + length names) = omega (arith, length-spelled (root_entries names) (good-root names few h), length-from 2 names) in
+    let zeros : 1024 * blocks_for (length used) - length used ≡ 16 * free =
+    ap (λ (n : ℕ). 1024 * blocks_for n - n) long ∙ (let count : root_size (length names) - 16 * (2 + length names) ≡ 16 * free = omega arith in count) in
+    ap (λ (n : ℕ). used ++ replicate n 0) zeros
+    ∙ ap (λ (xs : List ℕ). used ++ xs) (sym (spelled-free free))
+    ∙ sym (flat_map-append spell_dirent (root_entries names) (replicate free Free))
+
+-- ---- each is read back
+
+-- a record of a block of these bytes is a part of them
+piece : (xs : List ℕ) (q r : ℕ) → r < 64 → record_at 16 r (take 1024 (drop (1024 * q) xs)) ≡ take 16 (drop (16 * (64 * q + r)) xs)
+piece xs q r h =
+    let m : ℕ = 1024 - 16 * r in
+    let block : 1024 ≡ 16 * r + m = omega arith in
+    let low : 16 ≤ m = omega arith in
+    let place : 1024 * q + 16 * r ≡ 16 * (64 * q + r) = omega arith in
+    ap (λ (n : ℕ). take 16 (drop (16 * r) (take n (drop (1024 * q) xs)))) block
+    ∙ ap (take 16) (drop-take (16 * r) m (drop (1024 * q) xs))
+    ∙ take-take 16 m (drop (16 * r) (drop (1024 * q) xs)) low
+    ∙ ap (take 16) (drop-drop (16 * r) (1024 * q) xs ∙ ap (λ (n : ℕ). drop n xs) place)
+
+-- the spelled entry at s
+spelled : (entries : List Dirent) (s : ℕ) (d : Dirent) (rest : List ℕ) → All IsDirent entries → s < length entries
+    → take 16 (drop (16 * s) (flat_map spell_dirent entries ++ rest)) ≡ spell_dirent (get_or entries s d)
+spelled [] s d rest h l = absurd (omega arith)
+spelled (entry ∷ entries) zero d rest h l =
+    let a : List ℕ = spell_dirent entry in
+    let f : List ℕ = flat_map spell_dirent entries in
+    ap (take 16) (append_assoc a f rest) ∙ take_at a (f ++ rest) 16 (length-spell_dirent entry (All-head IsDirent entry entries h))
+spelled (entry ∷ entries) (suc s) d rest h l =
+    let a : List ℕ = spell_dirent entry in
+    let f : List ℕ = flat_map spell_dirent entries in
+    let place : 16 * suc s ≡ 16 + 16 * s = omega arith in
+    let long = length-spell_dirent entry (All-head IsDirent entry entries h) in
+    ap (λ (n : ℕ). take 16 (drop n ((a ++ f) ++ rest))) place
+    ∙ ap (λ (xs : List ℕ). take 16 (drop (16 + 16 * s) xs)) (append_assoc a f rest)
+    ∙ ap (take 16) (sym (drop-drop (16 * s) 16 (a ++ (f ++ rest))) ∙ ap (drop (16 * s)) (drop_at a (f ++ rest) 16 long))
+    ∙ spelled entries s d rest (All-tail IsDirent entry entries h) (omega arith)
+
+-- in the blocks of spelled entries and what follows them
+pub entry-there : (entries : List Dirent) (s : ℕ) (d : Dirent) (rest : List ℕ) → All IsDirent entries → s < length entries
+    → dirent_at (s % 64) (take 1024 (drop (1024 * (s / 64)) (flat_map spell_dirent entries ++ rest))) ≡ Some (get_or entries s d)
+entry-there entries s d rest h l =
+    let bytes : List ℕ = flat_map spell_dirent entries ++ rest in
+    let low : s % 64 < 64 = omega arith in
+    let place : 16 * (64 * (s / 64) + s % 64) ≡ 16 * s = omega arith in
+    ap dirent_of (piece bytes (s / 64) (s % 64) low ∙ ap (λ (n : ℕ). take 16 (drop n bytes)) place ∙ spelled entries s d rest h l)
+    ∙ dirent_of-spell (get_or entries s d) (h s d l)
