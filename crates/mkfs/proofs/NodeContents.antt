@@ -1,9 +1,7 @@
 -- The content of a node, block by block, as the image shows it.
-use Rattle.std.proofs.Common.{◌≡◌, ℕ, ◌+◌, ◌*◌, ◌<◌, ◌≤◌, List, length, take, drop, replicate, get_or, ap, ◌∙◌, ⊎_elim, arith}
-use Rattle.std.specs.List.{All, range_with_len}
+use Rattle.std.proofs.Common.{◌≡◌, ℕ, ◌+◌, ◌*◌, ◌<◌, ◌≤◌, List, length, take, drop, get_or, ap, ◌∙◌, ⊎_elim, arith}
+use Rattle.std.specs.List.{All}
 use Rattle.std.proofs.lemmas.Bool.{cases_lt}
-use Rattle.std.proofs.lemmas.List.{get_or_append_left}
-use Rattle.std.proofs.lemmas.List.FromFn.{length-range_with_len, get_or-range_with_len}
 use Rattle.fs_layout.specs.Recovered.{recovered}
 use Rattle.image_tree.specs.Inodes.{inode_of, numbers_of, block_number, content_block}
 use Rattle.mkfs.specs.Layout.{data_start, node_blocks}
@@ -11,18 +9,9 @@ use Rattle.mkfs.specs.Image.{Node, whole, blocks_before, blocks_of_node}
 use Rattle.mkfs.proofs.Lengths.{Fits, blocks-small, blocks-large}
 use Rattle.mkfs.proofs.Places.{disk_of}
 use Rattle.mkfs.proofs.Records.{IsNode}
-use Rattle.mkfs.proofs.Shown.{IsRange}
+use Rattle.mkfs.proofs.Ranges.{in-range}
 use Rattle.mkfs.proofs.NodeBlocks.{node-block, place, place-below, place-behind, block-of-content}
 use Rattle.mkfs.proofs.NodeNumbers.{numbers-there}
-
--- a number of a range
-pub number-in : (numbers : List ℕ) (first count i : ℕ) → IsRange numbers first count → i < count → get_or numbers i 0 ≡ first + i
-number-in numbers first count i range h =
-    let front : List ℕ = range_with_len first count in
-    let within : i < length front = omega (arith, length-range_with_len first count) in
-    ap (λ (xs : List ℕ). get_or xs i 0) range.is
-    ∙ get_or_append_left front (replicate range.zeros 0) 0 i within
-    ∙ get_or-range_with_len first count i 0 h
 
 -- a block of the content is one of the node's
 pub place-within : (size k : ℕ) → 1024 * k < size → place k < node_blocks size
@@ -45,7 +34,7 @@ pub block_number-there : (size ninodes : ℕ) (nodes : List Node) (j k : ℕ) (n
 block_number-there size ninodes nodes j k n few h all l in_content =
     let disk : List (List ℕ) = disk_of size ninodes nodes in
     let node : Node = get_or nodes j n in
-    number-in (numbers_of disk (inode_of disk (j + 1))) (data_start ninodes + blocks_before j nodes) (blocks_of_node node) (place k)
+    in-range (numbers_of disk (inode_of disk (j + 1))) (data_start ninodes + blocks_before j nodes) (blocks_of_node node) (place k)
     (numbers-there size ninodes nodes j n few h all l) (place-within (length node.content) k in_content)
 
 pub content-there : (size ninodes : ℕ) (nodes : List Node) (j k : ℕ) (n : Node) → ninodes ≤ 65535 → Fits size ninodes nodes → All IsNode nodes → j < length nodes

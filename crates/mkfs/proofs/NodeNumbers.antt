@@ -17,12 +17,13 @@ use Rattle.mkfs.proofs.Lengths.{Fits, blocks-small, blocks-large}
 use Rattle.mkfs.proofs.Places.{disk_of}
 use Rattle.mkfs.proofs.Records.{IsNode, all-append, all-range, all-zeros}
 use Rattle.mkfs.proofs.Shown.{IsRange}
+use Rattle.mkfs.proofs.Ranges.{range-append}
 use Rattle.mkfs.proofs.NodeInodes.{inode-is}
 use Rattle.mkfs.proofs.NodeBlocks.{node-block, block-of-numbers}
 
 -- ---- the inode
 
-inode-in : (first : ℕ) (nodes : List Node) (j : ℕ) (n : Node) (d : Dinode) → j < length nodes
+pub inode-in : (first : ℕ) (nodes : List Node) (j : ℕ) (n : Node) (d : Dinode) → j < length nodes
     → get_or (inodes_from first nodes) j d ≡ inode_for (first + blocks_before j nodes) (get_or nodes j n)
 inode-in first [] j n d h = absurd (omega arith)
 inode-in first (node ∷ nodes) zero n d h = let e : first ≡ first + 0 = omega arith in ap (λ (i : ℕ). inode_for i node) e
@@ -37,19 +38,7 @@ inode-for-there size ninodes nodes j n few h all l =
     let d : Dinode = inode_for 0 n in
     inode-is size ninodes nodes j d few h all l ∙ inode-in (data_start ninodes) nodes j n d l
 
--- ---- numbers that rise
-
-range-append : (a m n : ℕ) → range_with_len a m ++ range_with_len (a + m) n ≡ range_with_len a (m + n)
-range-append a zero n =
-    let same : a + 0 ≡ a = omega arith in
-    let count : n ≡ 0 + n = omega arith in
-    ap (λ (i : ℕ). range_with_len i n) same ∙ ap (range_with_len a) count
-range-append a (suc m) n =
-    let same : a + suc m ≡ a + 1 + m = omega arith in
-    let count : suc (m + n) ≡ suc m + n = omega arith in
-    ap (λ (i : ℕ). a ∷ (range_with_len (a + 1) m ++ range_with_len i n)) same
-    ∙ ap (λ (xs : List ℕ). a ∷ xs) (range-append (a + 1) m n)
-    ∙ ap (range_with_len a) count
+-- ---- its addresses
 
 -- the address of the indirect block, where there is one
 twelfth : (first n : ℕ) → 13 ≤ n → get_or (padded 13 (range_with_len first (min n 13))) 12 0 ≡ first + 12

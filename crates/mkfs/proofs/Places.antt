@@ -1,12 +1,13 @@
 -- What stands where in an image.
 use Rattle.std.proofs.Common.{◌≡◌, ℕ, ◌-◌, ◌*◌, ◌<◌, ◌≤◌, Bool, true, false, cond, eqb, Some, None, List, [], ◌++◌, length, take, drop, replicate, ap, ◌∙◌, sym, refl, arith, append_assoc, length-append}
+use Rattle.std.proofs.lemmas.Bool.{eqb-true}
 use Rattle.std.proofs.lemmas.List.{take_at, drop_at, take-append-le, take-replicate}
 use Rattle.block_device.specs.Blocks.{blocks_of}
 use Rattle.block_device.specs.BlockLaws.{get_or-blocks_of, length-blocks_of}
 use Rattle.fs_layout.specs.declared.superblock.Super.{Super}
 use Rattle.fs_layout.specs.Bytes.{u32_at, u32s_at}
 use Rattle.fs_layout.specs.Super.{super_fields, spell_super, IsSuper}
-use Rattle.fs_layout.specs.Recovered.{block_at, sizes_of, logged, recovered}
+use Rattle.fs_layout.specs.Recovered.{block_at, sizes_of, log_head_at, log_count, logged, recovered}
 use Rattle.fs_layout.proofs.Words.{super_of-spell}
 use Rattle.mkfs.specs.Layout.{data_start, super_for}
 use Rattle.mkfs.specs.Image.{Node, padded, front, inode_table, bitmap, data_from, used_by, image_with}
@@ -63,17 +64,25 @@ some_from : {T : Type 0} (b : Bool) (x y : T) → cond b (Some x) None ≡ Some 
 some_from true x y h = (refl, let e = h in cc)
 some_from false x y h = cc
 
-fields-there : (size ninodes : ℕ) → size ≤ 8191 → ninodes ≤ 65535 → super_fields (super_block size ninodes) ≡ super_for size ninodes
+-- it can be read back
+super-read : (size ninodes : ℕ) → size ≤ 8191 → ninodes ≤ 65535
+    → (eqb (u32_at (super_block size ninodes) 0) 0x10203040 ≡ true) × (super_fields (super_block size ninodes) ≡ super_for size ninodes)
 unfolding super_block padded
-fields-there size ninodes h n =
+super-read size ninodes h n =
     let s : Super = super_for size ninodes in
     let rest : List ℕ = replicate (1024 - length (spell_super s)) 0 in
     let small : IsSuper s = (omega arith, (omega arith, (omega arith, (omega arith, (omega arith, (omega arith, (omega arith, tt))))))) in
-    (some_from (eqb (u32_at (spell_super s ++ rest) 0) 0x10203040) (super_fields (spell_super s ++ rest)) s (super_of-spell s rest small)).1
+    some_from (eqb (u32_at (spell_super s ++ rest) 0) 0x10203040) (super_fields (spell_super s ++ rest)) s (super_of-spell s rest small)
+
+pub magic-there : (size ninodes : ℕ) (nodes : List Node) → ninodes ≤ 65535 → Fits size ninodes nodes
+    → u32_at (block_at (disk_of size ninodes nodes) 1) 0 ≡ 0x10203040
+magic-there size ninodes nodes n h =
+    ap (λ (block : List ℕ). u32_at block 0) (block-one size ninodes nodes h)
+    ∙ eqb-true (u32_at (super_block size ninodes) 0) 0x10203040 (super-read size ninodes h.few n).0
 
 pub sizes-there : (size ninodes : ℕ) (nodes : List Node) → ninodes ≤ 65535 → Fits size ninodes nodes → sizes_of (disk_of size ninodes nodes) ≡ super_for size ninodes
 unfolding sizes_of
-sizes-there size ninodes nodes n h = ap super_fields (block-one size ninodes nodes h) ∙ fields-there size ninodes h.few n
+sizes-there size ninodes nodes n h = ap super_fields (block-one size ninodes nodes h) ∙ (super-read size ninodes h.few n).1
 
 -- ---- the log, which is empty
 
@@ -99,13 +108,19 @@ no-numbers : (block : List ℕ) → u32s_at 0 block 4 ≡ []
 unfolding u32s_at
 no-numbers block = refl
 
+head-there : (size ninodes : ℕ) (nodes : List Node) → ninodes ≤ 65535 → Fits size ninodes nodes
+    → log_head_at (disk_of size ninodes nodes) ≡ replicate 1024 0
+head-there size ninodes nodes n h =
+    ap (λ (s : Super). block_at (disk_of size ninodes nodes) s.logstart) (sizes-there size ninodes nodes n h) ∙ block-two size ninodes nodes h
+
+pub count-there : (size ninodes : ℕ) (nodes : List Node) → ninodes ≤ 65535 → Fits size ninodes nodes → log_count (disk_of size ninodes nodes) ≡ 0
+count-there size ninodes nodes n h = ap (λ (block : List ℕ). u32_at block 0) (head-there size ninodes nodes n h) ∙ zero-head
+
 pub log-empty : (size ninodes : ℕ) (nodes : List Node) → ninodes ≤ 65535 → Fits size ninodes nodes → logged (disk_of size ninodes nodes) ≡ []
 unfolding logged
 log-empty size ninodes nodes n h =
-    let disk : List (List ℕ) = disk_of size ninodes nodes in
-    let head : block_at disk (sizes_of disk).logstart ≡ replicate 1024 0 =
-    ap (λ (s : Super). block_at disk s.logstart) (sizes-there size ninodes nodes n h) ∙ block-two size ninodes nodes h in
-    ap (λ (block : List ℕ). u32s_at (u32_at block 0) block 4) head ∙ ap (λ (k : ℕ). u32s_at k (replicate 1024 0) 4) zero-head ∙ no-numbers (replicate 1024 0)
+    ap (λ (block : List ℕ). u32s_at (u32_at block 0) block 4) (head-there size ninodes nodes n h)
+    ∙ ap (λ (k : ℕ). u32s_at k (replicate 1024 0) 4) zero-head ∙ no-numbers (replicate 1024 0)
 
 -- so what recovery leaves is what stands there
 pub recovered-there : (size ninodes : ℕ) (nodes : List Node) (b : ℕ) → ninodes ≤ 65535 → Fits size ninodes nodes

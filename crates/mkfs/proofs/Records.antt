@@ -15,7 +15,7 @@ use Rattle.mkfs.proofs.Lengths.{AreNodes, Fits, length-front, length-zeros}
 use Rattle.mkfs.proofs.Places.{disk_of, block-at}
 
 -- a record of a block of these bytes is a part of them
-piece : (xs : List ℕ) (q r : ℕ) → r < 16 → record_at 64 r (take 1024 (drop (1024 * q) xs)) ≡ take 64 (drop (64 * (16 * q + r)) xs)
+pub piece : (xs : List ℕ) (q r : ℕ) → r < 16 → record_at 64 r (take 1024 (drop (1024 * q) xs)) ≡ take 64 (drop (64 * (16 * q + r)) xs)
 piece xs q r h =
     let m : ℕ = 1024 - 64 * r in
     let whole : 1024 ≡ 64 * r + m = omega arith in

@@ -1,0 +1,68 @@
+-- The inodes of an image that no node has.
+use Rattle.std.proofs.Common.{◌≡◌, ℕ, ◌+◌, ◌-◌, ◌*◌, ◌/◌, ◌%◌, ◌<◌, ◌≤◌, List, ◌++◌, length, take, drop, replicate, ap, ◌∙◌, sym, refl, arith, append_assoc, length-append}
+use Rattle.std.specs.List.{flat_map}
+use Rattle.std.proofs.lemmas.List.{drop_at, drop-drop, drop-append-le, drop-replicate, take-append-le, take-replicate}
+use Rattle.fs_layout.specs.Bytes.{u16_at, u32_at, u32s_at, record_at}
+use Rattle.fs_layout.specs.Inode.{dinode_of, spell_dinode}
+use Rattle.image_tree.specs.Inodes.{inode_of}
+use Rattle.mkfs.specs.Layout.{data_start, inode_blocks}
+use Rattle.mkfs.specs.Image.{Node, front, inodes_from, inode_table, bitmap, data_from, used_by, image_with}
+use Rattle.mkfs.proofs.Lengths.{Fits, length-front, length-zeros, length-inodes}
+use Rattle.mkfs.proofs.Places.{disk_of, block-at}
+use Rattle.mkfs.proofs.Records.{piece}
+use Rattle.mkfs.proofs.NodeInodes.{inode-at}
+use Rattle.mkfs.proofs.Shown.{free_inode}
+
+zero-inode : dinode_of (replicate 64 0) ≡ free_inode
+unfolding u16_at u32_at u32s_at
+zero-inode = refl
+
+-- 64 bytes of a row of zeros
+in-zeros : (n k : ℕ) (rest : List ℕ) → k + 64 ≤ n → take 64 (drop k (replicate n 0 ++ rest)) ≡ replicate 64 0
+in-zeros n k rest h =
+    let none : ℕ = 0 in
+    let many : 64 ≤ n - k = omega arith in
+    ap (take 64) (drop-append-le k (replicate n 0) rest (omega (arith, length-zeros n)) ∙ ap (λ (xs : List ℕ). xs ++ rest) (drop-replicate k n none))
+    ∙ take-append-le 64 (replicate (n - k) 0) rest (omega (arith, length-zeros (n - k)))
+    ∙ take-replicate 64 (n - k) none many
+
+regroup : (f z i r b d e : List ℕ) → (((f ++ ((z ++ i) ++ r)) ++ b) ++ d) ++ e ≡ ((f ++ z) ++ i) ++ (r ++ (b ++ (d ++ e)))
+regroup f z i r b d e = simp append_assoc
+
+-- behind the nodes' inodes stand zeros
+zeros-at : (size ninodes : ℕ) (nodes : List Node) (i : ℕ) → length nodes < i → i < ninodes
+    → take 64 (drop (33792 + 64 * i) (image_with size ninodes nodes)) ≡ replicate 64 0
+unfolding image_with inode_table
+zeros-at size ninodes nodes i h l =
+    let first : ℕ = data_start ninodes in
+    let used : ℕ = used_by first nodes in
+    let f : List ℕ = front size ninodes in
+    let z : List ℕ = replicate 64 0 in
+    let s : List ℕ = flat_map spell_dinode (inodes_from first nodes) in
+    let n : ℕ = 64 * (16 * inode_blocks ninodes - (1 + length nodes)) in
+    let e : List ℕ = replicate (1024 * (size - used)) 0 in
+    let rest : List ℕ = bitmap used ++ (data_from first nodes ++ e) in
+    let before : ℕ = 33856 + 64 * length nodes in
+    let k : ℕ = 64 * (i - (1 + length nodes)) in
+    let long : length ((f ++ z) ++ s) ≡ before =
+    omega (arith, length-append (f ++ z) s, length-append f z, length-front size ninodes, length-zeros 64, length-inodes first nodes) in
+    let place : 33792 + 64 * i ≡ before + k = omega arith in
+    let within : k + 64 ≤ n = omega arith in
+    ap (λ (xs : List ℕ). take 64 (drop (33792 + 64 * i) xs)) (regroup f z s (replicate n 0) (bitmap used) (data_from first nodes) e)
+    ∙ ap (λ (m : ℕ). take 64 (drop m (((f ++ z) ++ s) ++ (replicate n 0 ++ rest)))) place
+    ∙ ap (take 64) (sym (drop-drop k before (((f ++ z) ++ s) ++ (replicate n 0 ++ rest))) ∙ ap (drop k) (drop_at ((f ++ z) ++ s) (replicate n 0 ++ rest) before long))
+    ∙ in-zeros n k rest within
+
+pub free-there : (size ninodes : ℕ) (nodes : List Node) (i : ℕ) → ninodes ≤ 65535 → Fits size ninodes nodes → length nodes < i → i < ninodes
+    → inode_of (disk_of size ninodes nodes) i ≡ free_inode
+free-there size ninodes nodes i n h low l =
+    let q : ℕ = 33 + i / 16 in
+    let r : ℕ = i % 16 in
+    let image : List ℕ = image_with size ninodes nodes in
+    let small : r < 16 = omega arith in
+    let within : q < size = omega (arith, h.room) in
+    let place : 64 * (16 * q + r) ≡ 33792 + 64 * i = omega arith in
+    inode-at size ninodes nodes i n h
+    ∙ ap (λ (block : List ℕ). dinode_of (record_at 64 r block)) (block-at size ninodes nodes q h within)
+    ∙ ap dinode_of (piece image q r small ∙ ap (λ (m : ℕ). take 64 (drop m image)) place ∙ zeros-at size ninodes nodes i low l)
+    ∙ zero-inode
