@@ -9,6 +9,7 @@ pub mod ImageShows
 pub mod Joins
 pub mod Lengths
 pub mod LinkChecks
+pub mod MadeImages
 pub mod NodeBlocks
 pub mod NodeContents
 pub mod NodeInodes

@@ -1,5 +1,6 @@
 pub mod Image
 pub mod Layout
+pub mod Made
 pub mod Options
 pub mod Refusals
 pub mod Stated

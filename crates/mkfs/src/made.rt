@@ -6,6 +6,7 @@ ghost use Rattle.fs_layout.specs.declared.inode.Dinode.{Dinode};
 ghost use Rattle.fs_layout.specs.Recovered.{block_at, logged, recovered, sizes_of};
 ghost use Rattle.mkfs.specs.Layout.{bitmap_start, data_start, inode_start, super_for};
 ghost use Rattle.mkfs.specs.Image.{bitmap, blocks_before, blocks_of_node, contents_of, data_from, front, image_of, image_with, inode_table, inodes_from, names_of, node_bytes, nodes_with, root_content, used_by, Node};
+ghost use Rattle.mkfs.specs.Made.{IsMade};
 ghost use Rattle.mkfs.specs.Refusals.{largest_size, CanBeMade, HasGoodFiles, HasInodes, IsFirstRefusal};
 
 use crate::appends::push_many;
@@ -101,7 +102,7 @@ fn image_bytes(
     files: &[(Vec<u8>, Vec<u8>)],
 ) -> Result<Vec<u8>, AllocError>
     requires { CanBeMade size ninodes (names_of files.now) (contents_of files.now) }
-    ensures { IfOk result (λ bytes. bytes.items ≡ image_of size ninodes (names_of files.now) (contents_of files.now)) }
+    ensures { IfOk result (λ bytes. IsMade size ninodes (names_of files.now) (contents_of files.now) bytes.items) }
 {
     let root = root_content(alloc, files)?;
     let mut image = Vec::with_capacity(alloc, size as usize * BLOCK_LEN)?;
@@ -110,7 +111,7 @@ fn image_bytes(
 }
 
 /// Makes an image of `size` blocks with `ninodes` inodes, the first unused, whose root has these
-/// files in this order: their names and contents.
+/// files in this order: their names and contents. No check of an image fails on it.
 pub fn make(
     alloc: Global,
     size: u32,
@@ -118,8 +119,7 @@ pub fn make(
     files: &[(Vec<u8>, Vec<u8>)],
 ) -> Result<MemoryDisk, MakeRefused>
     ensures { MatchResult result
-        (λ disk. CanBeMade size ninodes (names_of files.now) (contents_of files.now)
-        × (disk ≡ image_of size ninodes (names_of files.now) (contents_of files.now)))
+        (IsMade size ninodes (names_of files.now) (contents_of files.now))
         (IsFirstRefusal size ninodes (names_of files.now) (contents_of files.now)) }
 {
     if !has_good_sizes(size, ninodes, files.len()) {

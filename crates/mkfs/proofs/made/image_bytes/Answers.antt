@@ -1,11 +1,12 @@
-use Rattle.std.proofs.Common.{◌≡◌, ◌+◌, ◌<◌, ◌≤◌, ◌^◌, ◌∙◌, ℕ, List, ap, sym, subst, arith, length}
+use Rattle.std.proofs.Common.{rules, ◌≡◌, ◌+◌, ◌<◌, ◌≤◌, ◌^◌, ◌∙◌, ℕ, List, ap, sym, subst, arith, length}
 use Rattle.std.proofs.lemmas.List.{length-map}
 use Rattle.std.specs.List.{All}
 use Rattle.fs_layout.specs.Name.{IsName}
 use Rattle.mkfs.specs.Layout.{node_blocks, file_blocks, data_start, root_size}
-use Rattle.mkfs.specs.Image.{File, names_of, contents_of, nodes_with, used_by, root_content}
+use Rattle.mkfs.specs.Image.{File, names_of, contents_of, image_of, nodes_with, used_by, root_content}
 use Rattle.mkfs.specs.Refusals.{CanBeMade}
 use Rattle.mkfs.proofs.Joins.{used-parts, length-root_content}
+use Rattle.mkfs.proofs.MadeImages.{is-made}
 use Rattle.mkfs.proofs.made.image_bytes.Goals as goal
 
 root_long : (size ninodes : ℕ) (files : List File) (root : List ℕ) → CanBeMade size ninodes (names_of files) (contents_of files) → root ≡ root_content (names_of files)
@@ -36,3 +37,8 @@ push_parts-requires-clause-root c =
 pub push_parts-requires-clause-blocks : goal.push_parts-requires-clause-blocks
 push_parts-requires-clause-blocks c =
     room c.args.size c.args.ninodes c.args.files.now c.as_slice.result.now c.requires (c.as_slice.ensures.value ∙ c.in_ok-root.ensures)
+
+pub returns : goal.returns
+returns c =
+    let bytes : c.push_parts.new.image.items ≡ image_of c.args.size c.args.ninodes (names_of c.args.files.now) (contents_of c.args.files.now) = search rules in
+    is-made c.args.size c.args.ninodes c.args.files.now c.push_parts.new.image.items c.requires bytes
