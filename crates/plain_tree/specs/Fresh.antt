@@ -1,5 +1,5 @@
 -- A fresh tree, and what a list of steps answers.
-use Rattle.std.specs.Prelude.{ℕ, ◌-◌, List, [], ◌∷◌, Some, None, replicate}
+use Rattle.std.specs.Prelude.{ℕ, ◌-◌, List, [], ◌∷◌, Option, Some, None, replicate}
 use Rattle.plain_tree.specs.declared.node.Node.{Node}
 use Rattle.plain_tree.specs.declared.node.Kind.TheVariants.{Directory}
 use Rattle.plain_tree.specs.declared.step.TreeStep.{TreeStep}
@@ -20,9 +20,13 @@ fresh_root = record { count = 1; kind = Directory (Some (record { name = dot; nu
 abbrev pub fresh_hart : Hart
 fresh_hart = record { directory = root; descriptors = replicate descriptor_count None; hold = None }
 
+-- these nodes, with nothing open and all harts in the root
+abbrev pub at_rest : List (Option Node) → TreeData
+at_rest nodes = record { nodes = nodes; files = []; harts = replicate hart_count fresh_hart }
+
 -- a root without names, and room for these numbers of nodes
 abbrev pub fresh : ℕ → TreeData
-fresh ninodes = record { nodes = None ∷ Some fresh_root ∷ replicate (ninodes - 2) None; files = []; harts = replicate hart_count fresh_hart }
+fresh ninodes = at_rest (None ∷ Some fresh_root ∷ replicate (ninodes - 2) None)
 
 -- a step, with the id of an open file that it makes
 pub record Made : Type 0 where

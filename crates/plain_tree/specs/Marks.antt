@@ -1,12 +1,9 @@
 -- Words in which the search for the named part is promised.
-use Rattle.std.specs.Prelude.{ℕ, ◌≡◌, ◌<◌, length, slice_index_or, Bool, true, false, List, [], Option, Some, None, replicate, ◌↔◌}
-use Rattle.plain_tree.specs.declared.node.Node.{Node}
+use Rattle.std.specs.Prelude.{ℕ, ◌≡◌, ◌<◌, length, slice_index_or, Bool, true, false, List, Option, Some}
 use Rattle.plain_tree.specs.declared.node.Slot.{Slot}
-use Rattle.plain_tree.specs.TreeData.{TreeData}
 use Rattle.plain_tree.specs.Tree.{Name, Tree, first_slot, look}
 use Rattle.plain_tree.specs.Explains.{IsReached}
-use Rattle.plain_tree.specs.Fresh.{fresh_hart}
-use Rattle.plain_tree.specs.Widths.{root, hart_count}
+use Rattle.plain_tree.specs.Widths.{root}
 
 -- a number past the marks counts as marked
 abbrev pub is_marked : List Bool → ℕ → Bool
@@ -55,7 +52,3 @@ pub record MarksAll (t : Tree) (marks : List Bool) : Type 0 where
   pub size : length marks ≡ t.ninodes
   pub reached : (n : ℕ) → n < length marks → is_marked marks n ≡ true → IsReached t n
   pub all : (n : ℕ) → IsReached t n → is_marked marks n ≡ true
-
--- nodes with nothing open, and all harts at rest in the root
-abbrev pub at_rest : List (Option Node) → TreeData
-at_rest nodes = record { nodes = nodes; files = []; harts = replicate hart_count fresh_hart }

@@ -1,7 +1,7 @@
 //! The part of a tree that has names.
 ghost use Rattle.std.specs.Prelude.{◌≡◌, ◌<◌, length, IfOk, MatchOption, replicate, true, false, map};
 ghost use Rattle.plain_tree.specs.Explains.{IsNamedPart};
-ghost use Rattle.plain_tree.specs.Marks.{FindsMarked, FindsNew, IsClosed, IsNext, LooksMarked, LooksNew, MarksAll, MarksReached, at_rest, is_marked};
+ghost use Rattle.plain_tree.specs.Marks.{FindsMarked, FindsNew, IsClosed, IsNext, LooksMarked, LooksNew, MarksAll, MarksReached, is_marked};
 ghost use Rattle.plain_tree.specs.Tree.{tree_of};
 
 use crate::look::number_of;
@@ -112,6 +112,6 @@ impl Tree {
                 nodes.push(None)?;
             }
         }
-        Ok(Tree::at_rest(alloc, nodes))
+        Ok(Tree::of_nodes(alloc, nodes))
     }
 }

@@ -1,10 +1,8 @@
 //! The tree.
 ghost use Rattle.std.specs.Prelude.{◌≡◌, ◌<◌, ◌++◌, ◌∷◌, [], length, replicate, IfOk, MatchOption, MatchResult, remove, slice_index_or, slice_set, true};
 ghost use Rattle.plain_tree.specs.Code.{Advances, HasFiles, IsEntryOf, IsOrphan};
-ghost use Rattle.plain_tree.specs.Fresh.{fresh, fresh_hart};
-ghost use Rattle.plain_tree.specs.Marks.{at_rest};
+ghost use Rattle.plain_tree.specs.Fresh.{at_rest, fresh};
 ghost use Rattle.plain_tree.specs.Steps.{closed, moved, node_at, with_nodes};
-ghost use Rattle.plain_tree.specs.Widths.{hart_count};
 ghost use Rattle.plain_tree.specs.Tree.{file_in, hart_at, put, tree_of};
 
 use crate::bytes::Bytes;
@@ -86,27 +84,17 @@ impl Tree {
     pub fn new(alloc: Global, ninodes: u16) -> Result<Tree, NoMemory>
         ensures { IfOk result (λ t. t ≡ fresh ninodes) }
     {
-        let nodes = fresh_nodes(alloc, ninodes)?;
-        Ok(Tree {
-            nodes,
-            files: Vec::new(alloc),
-            harts: [fresh_hart(); 8],
-        })
+        Ok(Tree::of_nodes(alloc, fresh_nodes(alloc, ninodes)?))
     }
 
     /// A tree of these nodes, each at its number. Nothing is open, and all harts are in the root. It takes no memory.
     pub fn of_nodes(alloc: Global, nodes: Vec<Option<Node>>) -> Tree
-        ensures { result ≡ record { nodes = nodes.items; files = []; harts = replicate hart_count fresh_hart } }
+        ensures { result ≡ at_rest nodes.items }
     {
-        let hart = Hart {
-            directory: ROOT,
-            descriptors: [None; 16],
-            hold: None,
-        };
         Tree {
             nodes,
             files: Vec::new(alloc),
-            harts: [hart; 8],
+            harts: [fresh_hart(); 8],
         }
     }
 
@@ -309,21 +297,5 @@ impl Tree {
             files: Vec::from_slice(alloc, &self.files)?,
             harts: self.harts,
         })
-    }
-
-    /// These nodes, with nothing open and all harts at rest in the root.
-    pub(crate) fn at_rest(alloc: Global, nodes: Vec<Option<Node>>) -> Tree
-        ensures { result ≡ at_rest nodes.items }
-    {
-        let hart = Hart {
-            directory: ROOT,
-            descriptors: [None; 16],
-            hold: None,
-        };
-        Tree {
-            nodes,
-            files: Vec::new(alloc),
-            harts: [hart; 8],
-        }
     }
 }

@@ -1,4 +1,4 @@
-use Rattle.std.proofs.Common.{arith, sym, ◌∙◌, ap, ◌≡◌, length, refl}
+use Rattle.std.proofs.Common.{arith, ap}
 use Rattle.plain_tree.specs.Tree.{tree_of}
 use Rattle.plain_tree.proofs.MarkLemmas.{first_marked, none_marked, next_fewer, next_marks, closed_all}
 use Rattle.plain_tree.proofs.tree.Tree.reached.Goals as goal
