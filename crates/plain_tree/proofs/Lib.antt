@@ -8,3 +8,7 @@ pub mod ReadLemmas
 pub mod SettleLemmas
 pub mod MarkLemmas
 pub mod StepLaws
+pub mod CheckLemmas
+pub mod ReplyLemmas
+pub mod LeadLemmas
+pub mod ProgressLemmas

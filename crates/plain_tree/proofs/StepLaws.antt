@@ -58,7 +58,7 @@ full_effect t h path flags res par new id id' r = elim (cases_Bool (creates flag
 full_opened : (t : Tree) (h id id' : ℕ) (n : Option ℕ) → has_room (t.fds h) ≡ false → opened t h id n ≡ opened t h id' n
 full_opened t h id id' n r = rw r refl
 
-room_opened : (t : Tree) (h id : ℕ) (n : Option ℕ) → has_room (t.fds h) ≡ true → opened t h id n ≡ Opened (lowest (t.fds h)) id (opens_file t n)
+pub room_opened : (t : Tree) (h id : ℕ) (n : Option ℕ) → has_room (t.fds h) ≡ true → opened t h id n ≡ Opened (lowest (t.fds h)) id (opens_file t n)
 room_opened t h id n r = rw r refl
 
 pub record SameAt (t : Tree) (h : ℕ) (s : Action) (res : Option ℕ) (par : Option (ℕ × Name)) (new id id' : ℕ) : Type 0 where
@@ -154,7 +154,7 @@ taken_by t s a t' id names x =
     let e : in_place t s r x.0 ≡ record { answer = a; tree = t' } = sym (applied_in t s x.0 y.place) ∙ y.is in
     record { is = applied_in t s id y.place ∙ (in_place_same t s r a id x.0 t' e names ∙ e); chosen = y.chosen }
 
-names_own : (a : StepAnswer) → Names a (id_of a)
+pub names_own : (a : StepAnswer) → Names a (id_of a)
 names_own (Opened fd id f) fd' j g e = cc
 names_own (Failed k) fd' j g e = absurd cc
 names_own (Bytes b) fd' j g e = absurd cc
@@ -229,22 +229,27 @@ done_step t s id (NoRoom g) t' r e m f p = (id, (r, e, m, f, p))
 failed_step : (t : Tree) (s : TreeStep) (id : ℕ) (k : Cause) (a : StepAnswer) (t' : Tree) → refusal t s.hart s.action ≡ Some k → Failed k ≡ a → refused t s.hart s.action ≡ t' → IsInPlace t s.hart s.action → Step t s a t'
 failed_step t s id k a t' r e f p = subst (λ (b : StepAnswer). Step t s b t') e (let w : StepWith t s.hart s.action (resolve t s.hart (path_of s.action)) (parent t s.hart (path_of s.action)) (Failed k) s.new id t' = (r, sym f, p) in (id, w))
 
-may_choose : (t : Tree) (s : TreeStep) (id : ℕ) → refusal t s.hart s.action ≡ None → (IsBadChoice t s → ⊥) → t.files id ≡ None → IsInPlace t s.hart s.action → MayChoose t s.hart s.action (parent t s.hart (path_of s.action)) s.new id
+may_choose : (t : Tree) (s : TreeStep) (id : ℕ) → refusal t s.hart s.action ≡ None → (IsBadChoice t s → ⊥) → (opens_one t s.hart s.action ≡ true → t.files id ≡ None) → IsInPlace t s.hart s.action → MayChoose t s.hart s.action (parent t s.hart (path_of s.action)) s.new id
 may_choose t s id r good unused p = record {
   node = λ makes. elim (new_or_not t s.new) [
     | inl y ↦ y
     | inr bad ↦ absurd (good (record { hart = in_hart (and_left (nat_lt s.hart hart_count) (place_of t s.hart s.action) p); not_refused = r; makes = makes; bad = bad }))
   ];
-  file = λ o. unused;
+  file = unused;
 } where
   in_hart : nat_lt s.hart hart_count ≡ true → s.hart < hart_count
   in_hart y = grind (arith, nat_tests)
 
--- what is applied in its place, with an unused id, is a step
-pub applied_step : (t : Tree) (s : TreeStep) (id : ℕ) (a : StepAnswer) (t' : Tree) → IsInPlace t s.hart s.action → t.files id ≡ None → IsAppliedAt t s id a t' → Step t s a t'
-applied_step t s id a t' p unused x = elim (cases_refusal (refusal t s.hart s.action)) [
+-- what is applied in its place, with an unused id for a file that it opens, is a step
+pub step_from : (t : Tree) (s : TreeStep) (id : ℕ) (a : StepAnswer) (t' : Tree) → IsInPlace t s.hart s.action → (a ≡ answer_with t s.hart s.action (resolve t s.hart (path_of s.action)) (parent t s.hart (path_of s.action)) id → opens_one t s.hart s.action ≡ true → t.files id ≡ None) → IsAppliedAt t s id a t' → Step t s a t'
+step_from t s id a t' p unused x = elim (cases_refusal (refusal t s.hart s.action)) [
   | inl r ↦ (let e = sym (ap (λ z. in_place t s z id) r) ∙ (sym (applied_in t s id p) ∙ x.is) in
-      done_step t s id a t' r (sym (ap (λ (o : Outcome). o.answer) e)) (may_choose t s id r x.chosen unused p) (sym (ap (λ (o : Outcome). o.tree) e)) p)
+      let is : a ≡ answer_with t s.hart s.action (resolve t s.hart (path_of s.action)) (parent t s.hart (path_of s.action)) id = sym (ap (λ (o : Outcome). o.answer) e) in
+      done_step t s id a t' r is (may_choose t s id r x.chosen (unused is) p) (sym (ap (λ (o : Outcome). o.tree) e)) p)
   | inr y ↦ (let e = sym (ap (λ z. in_place t s z id) y.1) ∙ (sym (applied_in t s id p) ∙ x.is) in
       failed_step t s id y.0 a t' y.1 (ap (λ (o : Outcome). o.answer) e) (ap (λ (o : Outcome). o.tree) e) p)
 ]
+
+-- the same, where the id is unused whatever the step does
+pub applied_step : (t : Tree) (s : TreeStep) (id : ℕ) (a : StepAnswer) (t' : Tree) → IsInPlace t s.hart s.action → t.files id ≡ None → IsAppliedAt t s id a t' → Step t s a t'
+applied_step t s id a t' p unused x = step_from t s id a t' p (λ is opens. unused) x

@@ -5,10 +5,13 @@ pub mod Tree
 pub mod Steps
 pub mod Calls
 pub mod Explains
+pub mod Progress
 pub mod Applied
 pub mod Fresh
 pub mod Code
 pub mod Rows
 pub mod Marks
+pub mod Checks
 pub mod OneEnd
+pub mod Checked
 pub mod Laws

@@ -27,7 +27,7 @@ fn path_of(action: &Action) -> &[u8]
     }
 }
 
-fn is_open(action: &Action) -> bool
+pub(crate) fn is_open(action: &Action) -> bool
     ensures { result ≡ is_open action.now }
 {
     matches!(action, Action::Open { .. })
@@ -47,7 +47,7 @@ fn out_of_place(action: &Action) -> StepAnswer
 }
 
 impl Tree {
-    fn least_unused(&self) -> Option<usize>
+    pub(crate) fn least_unused(&self) -> Option<usize>
         ensures { IfSome result (λ id. IsLeastUnused (tree_of self.now) id) }
     {
         for id in 0..usize::MAX {

@@ -8,12 +8,20 @@ mod answer_of;
 mod apply;
 #[cfg(test)]
 mod apply_tests;
+mod belongs;
 mod bytes;
 mod call;
 mod change;
 mod copy;
+mod explains;
+#[cfg(test)]
+mod explains_tests;
 mod fresh;
+mod handed;
 pub mod laws;
+mod leads;
+#[cfg(test)]
+mod leads_tests;
 mod look;
 mod named;
 #[cfg(test)]
@@ -22,19 +30,27 @@ mod node;
 mod one_end;
 mod paths;
 mod place;
+mod progress;
 mod refusal;
 mod refused;
+mod reply;
 pub mod rows;
+mod same;
 mod settle;
 mod slots;
 mod step;
+#[cfg(test)]
+mod story;
 mod trace;
 mod tree;
+mod which_step;
 mod widths;
+mod written;
 
 pub use crate::answer::{Answer, Cause, Full, NodeType, Reply, Stat};
 pub use crate::bytes::Bytes;
 pub use crate::call::Call;
+pub use crate::explains::check;
 pub use crate::node::{Kind, Node, Slot, Slots};
 pub use crate::one_end::{chains_to_one, steps_to_one};
 pub use crate::refused::{ApplyRefused, NoMemory};

@@ -9,6 +9,9 @@ pub(crate) const ENTRY_WIDTH: usize = 16;
 /// Bytes of the largest file.
 pub(crate) const FILE_LIMIT: u64 = 274_432;
 
+/// Bytes of a write's piece.
+pub(crate) const PIECE_WIDTH: usize = 3072;
+
 /// The greatest count of a node.
 pub(crate) const COUNT_LIMIT: u16 = 32767;
 
@@ -29,12 +32,14 @@ pub(crate) const ROOT_DEVICE: u32 = 1;
 /// Slots of a fresh root: one block of them.
 pub(crate) const FRESH_SLOTS: usize = 64;
 
-/// Flags of open: write only, read and write, make the file.
+/// Flags of open: write only, read and write, make the file, empty it.
 pub(crate) const WRITE_ONLY: u32 = 1;
 
 pub(crate) const READ_WRITE: u32 = 2;
 
 pub(crate) const CREATE: u32 = 512;
+
+pub(crate) const EMPTY_IT: u32 = 1024;
 
 /// What parts the elements of a path.
 pub(crate) const SLASH: u8 = b'/';

@@ -1,0 +1,6 @@
+use Rattle.std.proofs.Common.{◌≡◌, drop}
+use Rattle.plain_tree.specs.Explains.{acts_of}
+use Rattle.plain_tree.proofs.reply.first_answer.Given as goal
+
+abbrev pub invariant-loop-entry : goal.invariant-loop-entry
+invariant-loop-entry l = acts_of l.id (drop l.entry-index l.list) ≡ acts_of l.id l.list

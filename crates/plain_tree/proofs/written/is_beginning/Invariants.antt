@@ -1,0 +1,11 @@
+use Rattle.std.proofs.Common.{[], take}
+use Rattle.plain_tree.specs.Calls.{Follows}
+use Rattle.plain_tree.specs.Explains.{acts_of}
+use Rattle.plain_tree.proofs.ProgressLemmas.{HasCome}
+use Rattle.plain_tree.proofs.written.is_beginning.Given as goal
+
+abbrev pub invariant-loop-placed : goal.invariant-loop-placed
+invariant-loop-placed l = record {
+  come : HasCome l.progress l.id l.list l.placed-index;
+  follows : Follows l.call [] (acts_of l.id (take l.placed-index l.list));
+}

@@ -1,0 +1,26 @@
+-- What is checked of a list of steps.
+use Rattle.std.specs.Prelude.{◌≡◌, ℕ, Bool, true, false, List, None}
+use Rattle.plain_tree.specs.declared.step.TreeStep.{TreeStep}
+use Rattle.plain_tree.specs.declared.step.StepAnswer.{StepAnswer}
+use Rattle.plain_tree.specs.declared.step.StepAnswer.TheVariants.{Opened}
+use Rattle.plain_tree.specs.declared.trace.Placed.{Placed}
+use Rattle.plain_tree.specs.Tree.{Tree}
+use Rattle.plain_tree.specs.Steps.{Step}
+use Rattle.plain_tree.specs.Explains.{Chain}
+
+-- the list leads from t to some tree
+abbrev pub Leads : Tree → List Placed → Type 0
+Leads t list = (end : Tree) × Chain t list end
+
+-- the id that an open's answer says is of no open file
+abbrev pub IsFree : Tree → StepAnswer → Type 0
+IsFree t a = (fd id : ℕ) (f : Bool) → a ≡ Opened fd id f → t.files id ≡ None
+
+-- where the answer says the id of a new open file, it is this one
+abbrev pub Says : StepAnswer → ℕ → Type 0
+Says a id = (fd j : ℕ) (f : Bool) → a ≡ Opened fd j f → id ≡ j
+
+-- Where this is true the step with its answer leads from t to t', otherwise from t to no tree.
+abbrev pub LeadsOn : Bool → Tree → TreeStep → StepAnswer → Tree → Type 0
+LeadsOn true t s a t' = Step t s a t'
+LeadsOn false t s a t' = (u : Tree) → Step t s a u → ⊥

@@ -1,0 +1,21 @@
+-- Words in which the parts of the check are promised.
+use Rattle.std.specs.Prelude.{◌≡◌, ℕ, Bool, true, false, List, Some, slice_get}
+use Rattle.plain_tree.specs.declared.step.StepAnswer.{StepAnswer}
+use Rattle.plain_tree.specs.declared.step.StepAnswer.TheVariants.{Opened, Bytes, Stat as Status, Fd as NewFd, Done, Failed, Full as NoRoom}
+use Rattle.plain_tree.specs.declared.trace.Placed.{Placed}
+use Rattle.plain_tree.specs.declared.trace.TracedCall.{TracedCall}
+use Rattle.plain_tree.specs.Explains.{IsWritten, acts_of}
+
+-- the step answered that there is no room
+abbrev pub is_full : StepAnswer → Bool
+is_full (Opened fd id f) = false
+is_full (Bytes b) = false
+is_full (Status s) = false
+is_full (NewFd fd) = false
+is_full Done = false
+is_full (Failed k) = false
+is_full (NoRoom f) = true
+
+-- the list has of each call what it is to have
+abbrev pub AllWritten : List TracedCall → List Placed → Type 0
+AllWritten calls list = (id : ℕ) (c : TracedCall) → slice_get calls id ≡ Some c → IsWritten c.call (acts_of id list) c.finished

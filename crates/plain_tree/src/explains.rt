@@ -1,0 +1,61 @@
+//! When a list of steps explains a trace.
+ghost use Rattle.std.specs.Prelude.{◌≡◌, IfOk, IsTrue, ◌↔◌};
+ghost use Rattle.plain_tree.specs.Calls.{IsWhole};
+ghost use Rattle.plain_tree.specs.Checks.{AllWritten};
+ghost use Rattle.plain_tree.specs.Explains.{Explains, IsWritten, acts_of};
+
+use crate::answer::Reply;
+use crate::belongs::{all_belong, rises};
+use crate::call::Call;
+use crate::leads::leads;
+use crate::refused::NoMemory;
+use crate::reply::{had_room, is_reply};
+use crate::trace::{Placed, Trace, TracedCall};
+use crate::tree::Tree;
+use crate::written::{is_beginning, is_through};
+use std::alloc::Global;
+
+/// The list has the call's whole written sequence, which makes this reply.
+fn is_whole(id: usize, call: &Call, list: &[Placed], reply: &Reply) -> bool
+    ensures { IsTrue result ↔ IsWhole call.now (acts_of id list.now) reply.now }
+{
+    is_beginning(id, call, list)
+        && is_through(id, call, list)
+        && is_reply(id, call, list, reply)
+        && had_room(id, list)
+}
+
+/// The list has of the call what it is to have: all of it where it is finished, else a beginning.
+fn is_written(id: usize, traced: &TracedCall, list: &[Placed]) -> bool
+    ensures { IsTrue result ↔ IsWritten traced.now.call (acts_of id list.now) traced.now.finished }
+{
+    match &traced.finished {
+        Some((_, reply)) => is_whole(id, &traced.call, list, reply),
+        None => is_beginning(id, &traced.call, list),
+    }
+}
+
+/// The list has of each call what it is to have.
+fn all_written(calls: &[TracedCall], list: &[Placed]) -> bool
+    ensures { IsTrue result ↔ AllWritten calls.now list.now }
+{
+    for (id, traced) in calls.iter().enumerate() {
+        if !is_written(id, traced, list) {
+            return false;
+        }
+    }
+    true
+}
+
+/// The list of tree steps explains the trace from this tree: the numbers never fall, each step leads on from the
+/// one before, each call has its steps and its reply, and no entry belongs to anything else. The error is that
+/// memory is short for a copy of the tree, which takes the steps.
+pub fn check(alloc: Global, base: &Tree, trace: &Trace, list: &[Placed]) -> Result<bool, NoMemory>
+    ensures { IfOk result (λ b. IsTrue b ↔ Explains base.now trace.now list.now) }
+{
+    if rises(list) && all_belong(trace, list) && all_written(trace.calls.as_slice(), list) {
+        leads(alloc, base, list)
+    } else {
+        Ok(false)
+    }
+}

@@ -1,0 +1,183 @@
+//! Whether the steps that a list has of a call are a beginning of the call's written sequence, and the whole of it.
+ghost use Rattle.std.specs.Prelude.{◌≡◌, ℕ, List, Some, None, IsTrue, ◌↔◌, ◌<◌, take};
+ghost use Rattle.plain_tree.specs.Calls.{IsBeginning, next_of, piece, piece_count};
+ghost use Rattle.plain_tree.specs.Explains.{acts_of};
+ghost use Rattle.plain_tree.specs.Progress.{has_failed, is_done, link_next, next_at, open_next, truncate_next, write_next};
+ghost use Rattle.plain_tree.specs.Steps.{is_nothing};
+
+use crate::call::Call;
+use crate::progress::{Last, Progress, START, after, progress_in};
+use crate::refusal::has_flag;
+use crate::step::Action;
+use crate::trace::Placed;
+use crate::which_step::{
+    is_bump, is_chdir, is_close, is_dup, is_enter, is_find, is_fstat, is_inherit, is_mkdir,
+    is_open, is_read, is_truncate, is_unbump, is_unlink, is_write_part,
+};
+use crate::widths::{EMPTY_IT, PIECE_WIDTH};
+
+fn is_done(last: Last) -> bool
+    ensures { result ≡ is_done last }
+{
+    matches!(last, Last::Done)
+}
+
+fn has_failed(last: Last) -> bool
+    ensures { result ≡ has_failed last }
+{
+    matches!(last, Last::Failed)
+}
+
+/// The number of pieces of a write of these bytes.
+fn piece_count(bytes: &[u8]) -> usize
+    ensures { result ≡ piece_count bytes.now }
+{
+    if bytes.is_empty() {
+        1
+    } else {
+        (bytes.len() - 1) / PIECE_WIDTH + 1
+    }
+}
+
+/// At most the first `count` bytes.
+fn first(bytes: &[u8], count: usize) -> &[u8]
+    ensures { result.now ≡ take count bytes.now }
+{
+    if bytes.len() > count {
+        &bytes[..count]
+    } else {
+        bytes
+    }
+}
+
+fn piece(bytes: &[u8], i: usize) -> &[u8]
+    requires { i < piece_count bytes.now }
+    ensures { result.now ≡ piece bytes.now i }
+{
+    first(&bytes[PIECE_WIDTH * i..], PIECE_WIDTH)
+}
+
+fn truncates(flags: u32, last: Last, action: &Action) -> bool
+    ensures { IsTrue result ↔ (truncate_next flags last ≡ Some action.now) }
+{
+    match last {
+        Last::File { fd } => has_flag(flags, EMPTY_IT) && is_truncate(action, fd),
+        _ => false,
+    }
+}
+
+fn is_next_of_open(path: &[u8], flags: u32, progress: Progress, action: &Action) -> bool
+    ensures { IsTrue result ↔ (open_next path.now flags progress ≡ Some action.now) }
+{
+    match progress.count {
+        0 => is_open(action, path, flags),
+        1 => truncates(flags, progress.last, action),
+        _ => false,
+    }
+}
+
+fn is_next_of_write(fd: u32, bytes: &[u8], progress: Progress, action: &Action) -> bool
+    ensures { IsTrue result ↔ (write_next fd bytes.now progress ≡ Some action.now) }
+{
+    if has_failed(progress.last) || progress.count >= piece_count(bytes) {
+        false
+    } else {
+        is_write_part(action, fd, piece(bytes, progress.count))
+    }
+}
+
+fn is_next_of_link(old: &[u8], new: &[u8], progress: Progress, action: &Action) -> bool
+    ensures { IsTrue result ↔ (link_next old.now new.now progress ≡ Some action.now) }
+{
+    match progress.count {
+        0 => is_find(action, old),
+        1 => is_done(progress.last) && is_bump(action),
+        2 => is_done(progress.last) && is_enter(action, new),
+        3 => has_failed(progress.last) && is_unbump(action),
+        _ => false,
+    }
+}
+
+/// The action comes next of the call where it has come so far.
+fn is_next(call: &Call, progress: Progress, action: &Action) -> bool
+    ensures { IsTrue result ↔ (next_at call.now progress ≡ Some action.now) }
+{
+    let is_first = progress.count == 0;
+    match call {
+        Call::Open { path, flags } => is_next_of_open(path.as_slice(), *flags, progress, action),
+        Call::Read { fd, buf } => is_first && is_read(action, *fd, buf.as_slice().len()),
+        Call::Write { fd, bytes } => is_next_of_write(*fd, bytes.as_slice(), progress, action),
+        Call::Link { old, new } => {
+            is_next_of_link(old.as_slice(), new.as_slice(), progress, action)
+        }
+        Call::Unlink { path } => is_first && is_unlink(action, path.as_slice()),
+        Call::Mkdir { path } => is_first && is_mkdir(action, path.as_slice()),
+        Call::Chdir { path } => is_first && is_chdir(action, path.as_slice()),
+        Call::Dup { fd } => is_first && is_dup(action, *fd),
+        Call::Fstat { fd } => is_first && is_fstat(action, *fd),
+        Call::Close { fd } => is_first && is_close(action, *fd),
+        Call::Inherit { child } => is_first && is_inherit(action, *child),
+    }
+}
+
+fn is_open_through(flags: u32, progress: Progress) -> bool
+    ensures { (path : List ℕ) → result ≡ is_nothing (open_next path flags progress) }
+{
+    match progress.count {
+        0 => false,
+        1 => !(matches!(progress.last, Last::File { .. }) && has_flag(flags, EMPTY_IT)),
+        _ => true,
+    }
+}
+
+fn is_write_through(bytes: &[u8], progress: Progress) -> bool
+    ensures { (fd : ℕ) → result ≡ is_nothing (write_next fd bytes.now progress) }
+{
+    has_failed(progress.last) || progress.count >= piece_count(bytes)
+}
+
+fn is_link_through(progress: Progress) -> bool
+    ensures { (old new : List ℕ) → result ≡ is_nothing (link_next old new progress) }
+{
+    match progress.count {
+        0 => false,
+        1 | 2 => !is_done(progress.last),
+        3 => !has_failed(progress.last),
+        _ => true,
+    }
+}
+
+/// Nothing comes next of the call where it has come so far.
+fn is_last(call: &Call, progress: Progress) -> bool
+    ensures { result ≡ is_nothing (next_at call.now progress) }
+{
+    match call {
+        Call::Open { flags, .. } => is_open_through(*flags, progress),
+        Call::Write { bytes, .. } => is_write_through(bytes.as_slice(), progress),
+        Call::Link { .. } => is_link_through(progress),
+        _ => progress.count > 0,
+    }
+}
+
+/// What the list has of the call at place `id` is a beginning of the call's written sequence.
+pub(crate) fn is_beginning(id: usize, call: &Call, list: &[Placed]) -> bool
+    ensures { IsTrue result ↔ IsBeginning call.now (acts_of id list.now) }
+{
+    let mut progress = START;
+    for placed in list {
+        if placed.call == id {
+            if !is_next(call, progress, &placed.step.action) {
+                return false;
+            }
+            progress = after(progress, &placed.answer);
+        }
+    }
+    true
+}
+
+/// The call goes on with no step after those that the list has of it.
+pub(crate) fn is_through(id: usize, call: &Call, list: &[Placed]) -> bool
+    ensures { IsTrue result ↔ (next_of call.now (acts_of id list.now) ≡ None) }
+{
+    is_last(call, progress_in(id, list))
+}
