@@ -8,7 +8,7 @@ use Rattle.plain_tree.specs.declared.step.StepAnswer.{StepAnswer}
 use Rattle.plain_tree.specs.declared.step.StepAnswer.TheVariants.{Opened, Bytes, Stat as Status, Fd as NewFd, Done, Failed, Full as NoRoom}
 use Rattle.plain_tree.specs.declared.trace.Placed.{Placed}
 use Rattle.plain_tree.specs.Calls.{Act, cause_of, first_cause, had_room}
-use Rattle.plain_tree.specs.Checks.{is_full}
+use Rattle.plain_tree.specs.Checked.{is_full}
 use Rattle.plain_tree.specs.Explains.{act_of, acts_of}
 use Rattle.plain_tree.proofs.CheckLemmas.{drop_at}
 

@@ -1,12 +1,13 @@
--- What is checked of a list of steps.
-use Rattle.std.specs.Prelude.{◌≡◌, ℕ, Bool, true, false, List, None}
+-- Words in which the parts of the check of a list are promised.
+use Rattle.std.specs.Prelude.{◌≡◌, ℕ, Bool, true, false, List, Some, None, slice_get}
 use Rattle.plain_tree.specs.declared.step.TreeStep.{TreeStep}
 use Rattle.plain_tree.specs.declared.step.StepAnswer.{StepAnswer}
-use Rattle.plain_tree.specs.declared.step.StepAnswer.TheVariants.{Opened}
+use Rattle.plain_tree.specs.declared.step.StepAnswer.TheVariants.{Opened, Bytes, Stat as Status, Fd as NewFd, Done, Failed, Full as NoRoom}
 use Rattle.plain_tree.specs.declared.trace.Placed.{Placed}
+use Rattle.plain_tree.specs.declared.trace.TracedCall.{TracedCall}
 use Rattle.plain_tree.specs.Tree.{Tree}
 use Rattle.plain_tree.specs.Steps.{Step}
-use Rattle.plain_tree.specs.Explains.{Chain}
+use Rattle.plain_tree.specs.Explains.{Chain, IsWritten, acts_of}
 
 -- the list leads from t to some tree
 abbrev pub Leads : Tree → List Placed → Type 0
@@ -24,3 +25,17 @@ Says a id = (fd j : ℕ) (f : Bool) → a ≡ Opened fd j f → id ≡ j
 abbrev pub LeadsOn : Bool → Tree → TreeStep → StepAnswer → Tree → Type 0
 LeadsOn true t s a t' = Step t s a t'
 LeadsOn false t s a t' = (u : Tree) → Step t s a u → ⊥
+
+-- the step answered that there is no room
+abbrev pub is_full : StepAnswer → Bool
+is_full (Opened fd id f) = false
+is_full (Bytes b) = false
+is_full (Status s) = false
+is_full (NewFd fd) = false
+is_full Done = false
+is_full (Failed k) = false
+is_full (NoRoom f) = true
+
+-- the list has of each call what it is to have
+abbrev pub AllWritten : List TracedCall → List Placed → Type 0
+AllWritten calls list = (id : ℕ) (c : TracedCall) → slice_get calls id ≡ Some c → IsWritten c.call (acts_of id list) c.finished

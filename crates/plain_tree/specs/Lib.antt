@@ -11,7 +11,6 @@ pub mod Fresh
 pub mod Code
 pub mod Rows
 pub mod Marks
-pub mod Checks
 pub mod OneEnd
 pub mod Checked
 pub mod Laws

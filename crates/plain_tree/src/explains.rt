@@ -1,7 +1,7 @@
 //! When a list of steps explains a trace.
 ghost use Rattle.std.specs.Prelude.{◌≡◌, IfOk, IsTrue, ◌↔◌};
 ghost use Rattle.plain_tree.specs.Calls.{IsWhole};
-ghost use Rattle.plain_tree.specs.Checks.{AllWritten};
+ghost use Rattle.plain_tree.specs.Checked.{AllWritten};
 ghost use Rattle.plain_tree.specs.Explains.{Explains, IsWritten, acts_of};
 
 use crate::answer::Reply;

@@ -1,7 +1,7 @@
 //! The reply that a call's steps make.
 ghost use Rattle.std.specs.Prelude.{◌≡◌, IsTrue, ◌↔◌, MatchOption};
 ghost use Rattle.plain_tree.specs.Calls.{cause_of, counted, first_answer, first_cause, had_room, in_buffer, linked, plain_answer, reply_of};
-ghost use Rattle.plain_tree.specs.Checks.{is_full};
+ghost use Rattle.plain_tree.specs.Checked.{is_full};
 ghost use Rattle.plain_tree.specs.Explains.{acts_of};
 ghost use Rattle.plain_tree.specs.declared.step.StepAnswer.TheVariants.{Done as IsDone};
 
