@@ -44,10 +44,18 @@ fn steps(alloc: Global, first: usize, second: usize, closed: u32) -> Result<Vec<
     Ok(list)
 }
 
-fn steps_lead(alloc: Global, first: usize, second: usize, closed: u32) -> Result<bool, NoMemory> {
+fn told(alloc: Global, first: usize, second: usize, closed: u32) -> Result<bool, NoMemory> {
     let tree = Tree::new(alloc, 10)?;
     let list = steps(alloc, first, second, closed)?;
     leads(alloc, &tree, &list)
+}
+
+// What finds no memory is tried once more.
+fn steps_lead(alloc: Global, first: usize, second: usize, closed: u32) -> Result<bool, NoMemory> {
+    match told(alloc, first, second, closed) {
+        Err(NoMemory) => told(alloc, first, second, closed),
+        answer => answer,
+    }
 }
 
 #[test]
