@@ -3,6 +3,7 @@
 #![tactic(auto)]
 
 mod buffers;
+mod checks;
 mod devices;
 mod images;
 mod locks;

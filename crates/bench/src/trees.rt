@@ -43,13 +43,19 @@ fn open(alloc: Global, tree: &mut Tree, number: u16, flags: u32) -> Result<(), W
     }
 }
 
-/// A tree of 200 nodes: its last file opened and closed, each a step.
-pub fn apply_steps(alloc: Global) -> Result<u64, WorkloadError> {
+/// A tree of 200 nodes: the root and the files "/f2" to "/f199".
+pub fn grown(alloc: Global) -> Result<Tree, WorkloadError> {
     let mut tree = Tree::new(alloc, NODES).map_err(|_| WorkloadError::Wrong)?;
     for number in 2..NODES {
         open(alloc, &mut tree, number, CREATE)?;
         close(alloc, &mut tree)?;
     }
+    Ok(tree)
+}
+
+/// The last file of such a tree opened and closed, each a step.
+pub fn apply_steps(alloc: Global) -> Result<u64, WorkloadError> {
+    let mut tree = grown(alloc)?;
     let mut count = 0u64;
     for _ in 0..ROUNDS {
         open(alloc, &mut tree, NODES - 1, 0)?;

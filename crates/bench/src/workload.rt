@@ -1,5 +1,5 @@
 //! What is measured.
-use crate::{buffers, devices, images, locks, records, trees};
+use crate::{buffers, checks, devices, images, locks, records, trees};
 use block_device::Fault;
 use std::alloc::{AllocError, Global};
 use thiserror::Error;
@@ -36,10 +36,11 @@ pub enum Workload {
     ExamineFull,
     MakeImage,
     TreeStep,
+    CheckEntry,
 }
 
 /// All of them, in the order in which they run.
-pub const ALL: [Workload; 13] = [
+pub const ALL: [Workload; 14] = [
     Workload::DeviceRead,
     Workload::InodeRead,
     Workload::InodeWrite,
@@ -53,6 +54,7 @@ pub const ALL: [Workload; 13] = [
     Workload::ExamineFull,
     Workload::MakeImage,
     Workload::TreeStep,
+    Workload::CheckEntry,
 ];
 
 impl Workload {
@@ -71,6 +73,7 @@ impl Workload {
             Workload::ExamineFull => "examine_full_image",
             Workload::MakeImage => "make_image",
             Workload::TreeStep => "tree_step",
+            Workload::CheckEntry => "check_entry",
         }
     }
 
@@ -90,6 +93,7 @@ impl Workload {
             Workload::ExamineFull => images::examine_full(alloc),
             Workload::MakeImage => images::make_image(alloc),
             Workload::TreeStep => trees::apply_steps(alloc),
+            Workload::CheckEntry => checks::check_entries(alloc),
         }
     }
 }

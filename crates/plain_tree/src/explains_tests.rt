@@ -133,8 +133,8 @@ fn two_at_once(alloc: Global) -> Result<Story, NoMemory> {
 fn without_room(alloc: Global) -> Result<Story, NoMemory> {
     let full = Full::Descriptors;
     let mut story = Story::begin(alloc, 100);
-    let mut fd = 0;
-    for id in 0..16 {
+    for fd in 0..16 {
+        let id = fd as usize;
         story.open(0, 0, "", 0, 99, Answer::Fd(fd))?;
         let answer = StepAnswer::Opened {
             fd,
@@ -142,7 +142,6 @@ fn without_room(alloc: Global) -> Result<Story, NoMemory> {
             is_file: false,
         };
         story.opens(1, id, 0, "", 0, answer)?;
-        fd += 1;
     }
     story.open(0, 0, "/f", 0x200, 99, Answer::Full(full))?;
     story.opens(1, 16, 2, "/f", 0x200, StepAnswer::Full { full })?;
@@ -162,9 +161,10 @@ fn told(alloc: Global, run: Run) -> Result<Story, NoMemory> {
     }
 }
 
-fn changed(alloc: Global, run: Run, change: Change) -> Result<bool, NoMemory> {
+fn changed(alloc: Global, run: Run, one: Change, two: Change) -> Result<bool, NoMemory> {
     let mut story = told(alloc, run)?;
-    story.change(change)?;
+    story.change(one)?;
+    story.change(two)?;
     story.is_explained()
 }
 
@@ -174,11 +174,15 @@ fn doubled(alloc: Global, run: Run, place: usize) -> Result<bool, NoMemory> {
     story.is_explained()
 }
 
-fn is_explained(alloc: Global, run: Run, change: Change) -> Option<bool> {
-    match changed(alloc, run, change) {
+fn is_explained_with(alloc: Global, run: Run, one: Change, two: Change) -> Option<bool> {
+    match changed(alloc, run, one, two) {
         Ok(is) => Some(is),
-        Err(NoMemory) => changed(alloc, run, change).ok(),
+        Err(NoMemory) => changed(alloc, run, one, two).ok(),
     }
+}
+
+fn is_explained(alloc: Global, run: Run, change: Change) -> Option<bool> {
+    is_explained_with(alloc, run, change, Change::Nothing)
 }
 
 fn is_explained_doubled(alloc: Global, run: Run, place: usize) -> Option<bool> {
@@ -312,6 +316,32 @@ fn keeps_replies(rt: HostRuntime) -> Result<(), Fail> {
                 "the call {call}"
             );
         }
+    }
+    Ok(())
+}
+
+// A call that isn't finished has a beginning of its steps, up to the last event.
+#[test]
+fn takes_a_beginning_of_what_is_under_way(rt: HostRuntime) -> Result<(), Fail> {
+    let alloc = rt.alloc();
+    let write = Change::Unfinished(2);
+    for (change, wanted) in [
+        (Change::Nothing, true),
+        (Change::Dropped(4), true),
+        (Change::Dropped(2), false),
+        (Change::Answered(2), false),
+    ] {
+        let is = is_explained_with(alloc, Run::Pieces, write, change);
+        assert_eq!(rt; is, Some(wanted), "a write");
+    }
+    let chdir = Change::Unfinished(1);
+    for (change, wanted) in [
+        (Change::Dropped(1), true),
+        (Change::At(1, 8), true),
+        (Change::At(1, 9), false),
+    ] {
+        let is = is_explained_with(alloc, Run::TwoAtOnce, chdir, change);
+        assert_eq!(rt; is, Some(wanted), "a chdir");
     }
     Ok(())
 }
