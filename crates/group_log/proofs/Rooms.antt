@@ -109,3 +109,17 @@ room_at (None ∷ ms) zero k e lt = absurd (cc e)
 room_at (Some j ∷ ms) zero k e lt = let a : j ≡ k = cc e in omega (arith, a, lt)
 room_at (None ∷ ms) (suc i) k e lt = room_at ms i k e lt
 room_at (Some j ∷ ms) (suc i) k e lt = room_at ms i k e lt
+
+pub none_past : (ms : List (Option ℕ)) (i : ℕ) → length ms ≤ i → get_or ms i None ≡ None
+none_past [] i le = refl
+none_past (None ∷ ms) zero le = refl
+none_past (Some j ∷ ms) zero le = absurd (omega (arith, le))
+none_past (None ∷ ms) (suc i) le = none_past ms i (omega (arith, le))
+none_past (Some j ∷ ms) (suc i) le = none_past ms i (omega (arith, le))
+
+pub member_some : (ms : List (Option ℕ)) (i : ℕ) → get_or ms i None ≡ None → IsMember ms i → ⊥
+member_some [] i e is = is
+member_some (None ∷ ms) zero e is = is
+member_some (Some j ∷ ms) zero e is = cc e
+member_some (None ∷ ms) (suc i) e is = member_some ms i e is
+member_some (Some j ∷ ms) (suc i) e is = member_some ms i e is

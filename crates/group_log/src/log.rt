@@ -11,10 +11,8 @@ ghost use Rattle.buffer_cache.specs.Seats.{is_held_by, holder_of, IsHeld, KeepsH
 
 use crate::commit::{Progress, has_each_once, write_next};
 use crate::copies::Written;
-use crate::limits::{BLOCKS_OF_A_TRANSACTION, MOST_LOGGED, PLACES};
-#[cfg(test)]
-use crate::members::{has_room, is_member};
-use crate::members::{add, outstanding};
+use crate::limits::{BLOCKS_OF_A_TRANSACTION, MOST_LOGGED, PLACES, SUPER_BLOCK};
+use crate::members::{add, contains, has_room, is_member, outstanding};
 use crate::phase::{Phase, after, clear_when_open};
 use crate::txn::{RetiredLog, Txn};
 use arrayvec::ArrayVec;
@@ -114,25 +112,39 @@ impl<D: Device> Log<D> {
         self.members[hart as usize].is_none()
     }
 
-    // What a record asks of its transaction and its block.
-    #[cfg(test)]
-    pub(crate) fn may_record(&self, txn: &Txn, b: u32) -> bool
-        ensures member { IsTrue result → IsMember self.now.members txn.now }
-        ensures room { IsTrue result → HasRoom self.now.members txn.now }
-        ensures home { IsTrue result → IsHome (D.contents self.now.cache.device) self.now.sizes b }
+    /// Whether a transaction is one of this log's.
+    pub fn is_member(&self, txn: &Txn) -> bool
+        ensures { IsTrue result ↔ IsMember self.now.members txn.now }
     {
-        if !is_outside(&self.sizes, b) || b == 1 || self.cache.device().blocks() <= b {
-            return false;
-        }
+        is_member(&self.members, txn.hart() as usize)
+    }
+
+    /// Whether a transaction may add another block to the group.
+    pub fn has_room(&self, txn: &Txn) -> bool
+        ensures { IsTrue result ↔ HasRoom self.now.members txn.now }
+    {
         has_room(&self.members, txn.hart() as usize)
     }
 
-    // Whether a transaction is one of this log's.
-    #[cfg(test)]
-    pub(crate) fn is_member(&self, txn: &Txn) -> bool
-        ensures { IsTrue result → IsMember self.now.members txn.now }
+    /// Whether a block is in the group: to record it again takes no room.
+    pub fn is_recorded(&self, b: u32) -> bool
+        ensures { result ≡ has self.now.group b }
     {
-        is_member(&self.members, txn.hart() as usize)
+        contains(&self.group, b)
+    }
+
+    /// Whether a block is none of the log's, so that a hart may get it.
+    pub fn is_outside(&self, b: u32) -> bool
+        ensures { IsTrue result ↔ IsOutsideLog self.now.sizes b }
+    {
+        is_outside(&self.sizes, b)
+    }
+
+    /// Whether a block may be recorded: it is on the disk, neither the log's nor the superblock.
+    pub fn is_home(&self, b: u32) -> bool
+        ensures { IsTrue result ↔ IsHome (D.contents self.now.cache.device) self.now.sizes b }
+    {
+        is_outside(&self.sizes, b) && b != SUPER_BLOCK && b < self.cache.device().blocks()
     }
 
     /// Joins a transaction. It waits exactly while a commit runs, where the group might outgrow the log, and for good
@@ -341,9 +353,8 @@ impl<D: Device> Log<D> {
 }
 
 // Whether a block is outside the log.
-#[cfg(test)]
 fn is_outside(sizes: &Super, b: u32) -> bool
-    ensures { IsTrue result → IsOutsideLog sizes.now b }
+    ensures { IsTrue result ↔ IsOutsideLog sizes.now b }
 {
     b < sizes.logstart || u64::from(sizes.logstart) + u64::from(sizes.nlog) <= u64::from(b)
 }

@@ -1,10 +1,8 @@
 // Which harts are in a transaction, and how many blocks each added to the group.
-ghost use Rattle.std.specs.Prelude.{◌≡◌, ◌<◌, ◌≤◌, ◌+◌, ◌*◌, ℕ, List, length, false, IsTrue};
+ghost use Rattle.std.specs.Prelude.{◌≡◌, ◌↔◌, ◌<◌, ◌≤◌, ◌+◌, ◌*◌, ℕ, List, length, false, IsTrue};
 ghost use Rattle.group_log.specs.Group.{joined, HasRoom, IsMember, one_more, members_with, has, with_block};
 
-#[cfg(test)]
-use crate::limits::BLOCKS_OF_A_TRANSACTION;
-use crate::limits::{MOST_LOGGED, PLACES};
+use crate::limits::{BLOCKS_OF_A_TRANSACTION, MOST_LOGGED, PLACES};
 use arrayvec::ArrayVec;
 
 /// How many are in a transaction.
@@ -52,10 +50,9 @@ pub(crate) fn add(
     }
 }
 
-// Whether the hart is in a transaction.
-#[cfg(test)]
+/// Whether the hart is in a transaction.
 pub(crate) fn is_member(members: &[Option<u8>], hart: usize) -> bool
-    ensures { IsTrue result → IsMember members.now hart }
+    ensures { IsTrue result ↔ IsMember members.now hart }
 {
     if members.len() <= hart {
         return false;
@@ -66,11 +63,9 @@ pub(crate) fn is_member(members: &[Option<u8>], hart: usize) -> bool
     }
 }
 
-// Whether the hart is in a transaction that may add a block.
-#[cfg(test)]
+/// Whether the hart is in a transaction that may add a block.
 pub(crate) fn has_room(members: &[Option<u8>], hart: usize) -> bool
-    ensures member { IsTrue result → IsMember members.now hart }
-    ensures room { IsTrue result → HasRoom members.now hart }
+    ensures { IsTrue result ↔ HasRoom members.now hart }
 {
     if members.len() <= hart {
         return false;

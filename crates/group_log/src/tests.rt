@@ -176,7 +176,7 @@ fn change<D: Device>(
     byte: u8,
 ) -> Result<(), Fault> {
     let hart = txn.hart();
-    assert!(rt; hart < HARTS && log.held_by(hart) < BUFFERS_OF_A_HART && log.may_record(txn, b));
+    assert!(rt; hart < HARTS && log.held_by(hart) < BUFFERS_OF_A_HART && log.is_home(b));
     match log.get(hart, b) {
         Got::Waits => panic!(rt; "nothing is out"),
         Got::Held(mut guard) => {
@@ -187,7 +187,7 @@ fn change<D: Device>(
                 }
             }
             *guard.value_mut().bytes_mut() = [byte; BLOCK_SIZE];
-            assert!(rt; log.may_record(txn, b));
+            assert!(rt; log.is_member(txn) && log.has_room(txn) && log.is_home(b));
             match log.phase() {
                 Phase::Halted => panic!(rt; "it isn't halted"),
                 Phase::Open => {}
@@ -372,7 +372,7 @@ fn a_log_ends_at_any_moment(rt: HostRuntime) {
     let mut log = open(&rt, rt.alloc(), disk(&rt, rt.alloc(), &FRESH));
     let mut txn = join(&rt, &mut log, 3).expect(&rt, "there is room");
     assert_eq!(rt; change(&rt, &mut log, &mut txn, 48, 1), Ok(()));
-    assert!(rt; log.held_by(3) < BUFFERS_OF_A_HART && log.may_record(&txn, 48));
+    assert!(rt; log.held_by(3) < BUFFERS_OF_A_HART && log.is_outside(48));
     match log.get(3, 48) {
         Got::Waits => panic!(rt; "nothing is out"),
         Got::Held(guard) => {

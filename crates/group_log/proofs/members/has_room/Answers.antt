@@ -1,13 +1,24 @@
-use Rattle.std.proofs.Common.{◌≡◌, ◌<◌, ℕ, arith, IsTrue, nat_lt}
+use Rattle.std.proofs.Common.{◌<◌, ℕ, rules, tests, arith, IsTrue, nat_lt}
 use Rattle.std.proofs.lemmas.Bool.Decides.{nat_tests}
-use Rattle.group_log.proofs.Rooms.{member_at, room_at}
+use Rattle.group_log.proofs.Rooms.{none_past, room_at, room_below, room_some}
 use Rattle.group_log.proofs.members.has_room.Goals as goal
 
 below : (k : ℕ) → IsTrue (nat_lt k 10) → k < 10
 below k is = grind (arith, nat_tests, is)
 
-pub returns-in-Some-clause-member : goal.returns-in-Some-clause-member
-returns-in-Some-clause-member c = λ _. member_at c.args.members.now c.args.hart c.in-Some.added c.in-Some.is
+is_below : (k : ℕ) → k < 10 → IsTrue (nat_lt k 10)
+is_below k lt = grind (arith, nat_tests, lt)
 
-pub returns-in-Some-clause-room : goal.returns-in-Some-clause-room
-returns-in-Some-clause-room c = λ is. room_at c.args.members.now c.args.hart c.in-Some.added c.in-Some.is (below c.in-Some.added is)
+pub returns-then-members-hart : goal.returns-then-members-hart
+returns-then-members-hart c =
+    let ms = c.args.members.now in
+    (λ e. absurd (cc e), λ room. absurd (room_some ms c.args.hart (none_past ms c.args.hart (search (rules, tests))) room))
+
+pub returns-in-Some : goal.returns-in-Some
+returns-in-Some c =
+    let ms = c.args.members.now in
+    let k = c.in-Some.added in
+    (λ is. room_at ms c.args.hart k c.in-Some.is (below k is), λ room. is_below k (room_below ms c.args.hart k c.in-Some.is room))
+
+pub returns-in-None : goal.returns-in-None
+returns-in-None c = (λ e. absurd (cc e), λ room. absurd (room_some c.args.members.now c.args.hart c.in-None.is room))
