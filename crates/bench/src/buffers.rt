@@ -10,8 +10,7 @@ const HART: u8 = 1;
 
 /// Each cached block got and given back, the least recent one each time: one operation is both.
 pub fn get_and_release(alloc: Global) -> Result<u64, WorkloadError> {
-    let disk = MemoryDisk::new(vec![in alloc; 1; BUFFERS * BLOCK_SIZE]?);
-    let mut cache = Cache::new(Buffers::new(alloc)?, disk);
+    let mut cache = full(alloc)?;
     let mut count = 0u64;
     let mut sum = 0u64;
     for _ in 0..ROUNDS {
@@ -24,6 +23,38 @@ pub fn get_and_release(alloc: Global) -> Result<u64, WorkloadError> {
     if sum == count {
         Ok(count)
     } else {
+        Err(WorkloadError::Wrong)
+    }
+}
+
+/// The block that was given back last got and given back again: one operation is both.
+pub fn get_most_recent(alloc: Global) -> Result<u64, WorkloadError> {
+    let mut cache = full(alloc)?;
+    let rounds = ROUNDS * BUFFERS as u32;
+    let mut sum = 0u64;
+    for _ in 0..rounds {
+        sum = sum.wrapping_add(touch(&mut cache, BUFFERS as u32 - 1));
+    }
+    let _ = cache.retire();
+    if sum == u64::from(rounds) {
+        Ok(sum)
+    } else {
+        Err(WorkloadError::Wrong)
+    }
+}
+
+// A cache that has each block of its disk, the last one most recently given back. Each block begins with a 1.
+fn full(alloc: Global) -> Result<Cache<MemoryDisk>, WorkloadError> {
+    let disk = MemoryDisk::new(vec![in alloc; 1; BUFFERS * BLOCK_SIZE]?);
+    let mut cache = Cache::new(Buffers::new(alloc)?, disk);
+    let mut sum = 0u64;
+    for b in 0..BUFFERS as u32 {
+        sum = sum.wrapping_add(touch(&mut cache, b));
+    }
+    if sum == BUFFERS as u64 {
+        Ok(cache)
+    } else {
+        let _ = cache.retire();
         Err(WorkloadError::Wrong)
     }
 }

@@ -7,6 +7,7 @@ mod checks;
 mod devices;
 mod images;
 mod locks;
+mod logs;
 mod records;
 mod trees;
 mod workload;

@@ -1,5 +1,5 @@
 //! What is measured.
-use crate::{buffers, checks, devices, images, locks, records, trees};
+use crate::{buffers, checks, devices, images, locks, logs, records, trees};
 use block_device::Fault;
 use std::alloc::{AllocError, Global};
 use thiserror::Error;
@@ -32,6 +32,8 @@ pub enum Workload {
     BitTest,
     LockUnlock,
     BufferGet,
+    BufferGetMostRecent,
+    CommitThree,
     ExamineFresh,
     ExamineFull,
     MakeImage,
@@ -40,7 +42,7 @@ pub enum Workload {
 }
 
 /// All of them, in the order in which they run.
-pub const ALL: [Workload; 14] = [
+pub const ALL: [Workload; 16] = [
     Workload::DeviceRead,
     Workload::InodeRead,
     Workload::InodeWrite,
@@ -50,6 +52,8 @@ pub const ALL: [Workload; 14] = [
     Workload::BitTest,
     Workload::LockUnlock,
     Workload::BufferGet,
+    Workload::BufferGetMostRecent,
+    Workload::CommitThree,
     Workload::ExamineFresh,
     Workload::ExamineFull,
     Workload::MakeImage,
@@ -69,6 +73,8 @@ impl Workload {
             Workload::BitTest => "bit_test",
             Workload::LockUnlock => "lock_and_unlock",
             Workload::BufferGet => "buffer_get_and_release",
+            Workload::BufferGetMostRecent => "buffer_get_most_recent",
+            Workload::CommitThree => "commit_three_blocks",
             Workload::ExamineFresh => "examine_fresh_image",
             Workload::ExamineFull => "examine_full_image",
             Workload::MakeImage => "make_image",
@@ -89,6 +95,8 @@ impl Workload {
             Workload::BitTest => records::test_bits(),
             Workload::LockUnlock => locks::lock_and_unlock(alloc),
             Workload::BufferGet => buffers::get_and_release(alloc),
+            Workload::BufferGetMostRecent => buffers::get_most_recent(alloc),
+            Workload::CommitThree => logs::commit_three_blocks(alloc),
             Workload::ExamineFresh => images::examine_fresh(alloc),
             Workload::ExamineFull => images::examine_full(alloc),
             Workload::MakeImage => images::make_image(alloc),

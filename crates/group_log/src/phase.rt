@@ -6,7 +6,7 @@ use crate::limits::MOST_LOGGED;
 use arrayvec::ArrayVec;
 
 /// Where a commit is. While one is under way nobody joins.
-#[derive(Clone, Copy)]
+#[derive(Debug, Clone, Copy, PartialEq, Eq)]
 pub enum Phase {
     /// None is under way: transactions join, record and leave.
     Open,

@@ -1,4 +1,4 @@
-use Rattle.std.proofs.Common.{◌≡◌, ◌∙◌, ap, sym, ℕ, List, length}
+use Rattle.std.proofs.Common.{◌∙◌, ap, sym, ℕ, length}
 use Rattle.std.proofs.lemmas.Bool.{eqb-true}
 use Rattle.fs_layout.specs.Recovered.{block_at}
 use Rattle.group_log.proofs.Heads.{head_is, empty_list}

@@ -1,4 +1,4 @@
-use Rattle.std.proofs.Common.{◌≡◌, ◌∙◌, sym}
+use Rattle.std.proofs.Common.{◌∙◌, sym}
 use Rattle.group_log.proofs.Heads.{super_is}
 use Rattle.group_log.proofs.tests.sizes_in.Goals as goal
 

@@ -1,0 +1,155 @@
+//! Transactions over a disk in memory.
+ghost use Rattle.std.specs.Prelude.{◌≡◌, ◌≢◌, [], IfOk, IsTrue};
+ghost use Rattle.block_device.specs.Blocks.{blocks_of};
+ghost use Rattle.fs_layout.specs.Recovered.{logged};
+ghost use Rattle.group_log.specs.Group.{HasRoom, IsMember};
+ghost use Rattle.group_log.specs.Soundness.{IsHome, IsPlaced};
+ghost use Rattle.group_log.specs.declared.phase.Phase.TheVariants.{Halted};
+
+use crate::workload::WorkloadError;
+use block_device::{BLOCK_SIZE, Device, MemoryDisk};
+use buffer_cache::{BUFFERS_OF_A_HART, Buffers, Cache, Got};
+use fs_layout::Super;
+use group_log::{Left, Log, Phase, Progress, Txn};
+use image_tree::{find_layout, recover};
+use mkfs::make;
+use std::alloc::Global;
+
+const COMMITS: u32 = 100_000;
+
+const HART: u8 = 1;
+
+const DISK_BLOCKS: u32 = 2000;
+
+const INODES: u32 = 200;
+
+// The blocks that each transaction changes. None of them holds anything of a fresh image.
+const CHANGED: [u32; 3] = [100, 200, 300];
+
+// A commit's writes: each block into the log, the head, each block home, the empty head.
+const WRITES: u32 = 8;
+
+/// Transactions of three blocks, committed one after another: one operation is a transaction with its commit.
+pub fn commit_three_blocks(alloc: Global) -> Result<u64, WorkloadError> {
+    let disk = make(alloc, DISK_BLOCKS, INODES, &[]).map_err(|_| WorkloadError::Wrong)?;
+    let (sizes, disk) = recovered(disk)?;
+    let log = Log::new(Cache::new(Buffers::new(alloc)?, disk), sizes);
+    let mut disk = commit_often(log)?;
+    recover(&mut disk).map_err(|_| WorkloadError::Wrong)?;
+    if has_last_bytes(disk) {
+        Ok(u64::from(COMMITS))
+    } else {
+        Err(WorkloadError::Wrong)
+    }
+}
+
+// A disk whose log is empty, and where its parts lie.
+fn recovered(disk: MemoryDisk) -> Result<(Super, MemoryDisk), WorkloadError>
+    ensures place { IfOk result (λ (sizes, disk). IsPlaced (blocks_of disk) sizes) }
+    ensures empty { IfOk result (λ (_, disk). logged (blocks_of disk) ≡ []) }
+{
+    let mut disk = disk;
+    recover(&mut disk).map_err(|_| WorkloadError::Wrong)?;
+    let layout = find_layout(&mut disk).map_err(|_| WorkloadError::Wrong)?;
+    let _ = disk.blocks();
+    Ok((layout.sizes, disk))
+}
+
+// Makes the transactions, and gives the disk.
+fn commit_often(log: Log<MemoryDisk>) -> Result<MemoryDisk, WorkloadError> {
+    let mut log = log;
+    for number in 0..COMMITS {
+        log = transact(log, byte_of(number))?;
+    }
+    let (_ended, _slots, disk) = log.retire();
+    Ok(disk)
+}
+
+// What a transaction writes at the start of its blocks.
+fn byte_of(number: u32) -> u8 {
+    (number % 251) as u8
+}
+
+// One transaction with its commit. After an error the log has ended.
+fn transact(log: Log<MemoryDisk>, byte: u8) -> Result<Log<MemoryDisk>, WorkloadError> {
+    let mut log = log;
+    let joined = if log.is_idle(HART) {
+        log.join(HART)
+    } else {
+        None
+    };
+    let Some(mut txn) = joined else {
+        let _ = log.retire();
+        return Err(WorkloadError::Wrong);
+    };
+    let mut changed = true;
+    for b in CHANGED {
+        changed &= change(&mut log, &mut txn, b, byte);
+    }
+    if !changed || !log.is_member(&txn) || log.phase() == Phase::Halted {
+        let (ended, _slots, _disk) = log.retire();
+        txn.retire(&ended);
+        return Err(WorkloadError::Wrong);
+    }
+    if log.leave(txn) == Left::Commits && commit(&mut log) {
+        return Ok(log);
+    }
+    let _ = log.retire();
+    Err(WorkloadError::Wrong)
+}
+
+// Writes a byte at the start of a block, and records it. It says whether it could.
+fn change<D: Device>(log: &mut Log<D>, txn: &mut Txn, b: u32, byte: u8) -> bool {
+    if !may_record(log, txn, b) || BUFFERS_OF_A_HART <= log.held_by(HART) {
+        return false;
+    }
+    match log.get(HART, b) {
+        Got::Waits => false,
+        Got::Held(mut guard) => {
+            if !guard.value().is_valid() && log.fill(&mut guard).is_err() {
+                log.release(guard);
+                return false;
+            }
+            guard.value_mut().bytes_mut()[0] = byte;
+            log.record(txn, guard);
+            true
+        }
+    }
+}
+
+// Whether a transaction may record a block.
+fn may_record<D: Device>(log: &Log<D>, txn: &Txn, b: u32) -> bool
+    ensures member { IsTrue result → IsMember log.now.members txn.now }
+    ensures running { IsTrue result → log.now.phase ≢ Halted }
+    ensures home { IsTrue result → IsHome (D.contents log.now.cache.device) log.now.sizes b }
+    ensures room { IsTrue result → HasRoom log.now.members txn.now }
+{
+    log.is_member(txn) && log.phase() != Phase::Halted && log.is_home(b) && log.has_room(txn)
+}
+
+// Makes the commit's steps. It says whether they ended.
+fn commit<D: Device>(log: &mut Log<D>) -> bool {
+    for _ in 0..WRITES {
+        let phase = log.phase();
+        if phase == Phase::Open
+            || phase == Phase::Halted
+            || BUFFERS_OF_A_HART <= log.held_by(HART)
+        {
+            return false;
+        }
+        match log.commit_step(HART) {
+            Progress::Wrote => {}
+            Progress::Ended => return true,
+            Progress::Waits => return false,
+            Progress::Failed => return false,
+        }
+    }
+    false
+}
+
+// Whether the changed blocks have what the last transaction wrote.
+fn has_last_bytes(disk: MemoryDisk) -> bool {
+    let bytes = disk.into_bytes();
+    let byte = byte_of(COMMITS - 1);
+    CHANGED.iter().all(|b| bytes.get(*b as usize * BLOCK_SIZE).copied() == Some(byte))
+}
