@@ -6,6 +6,9 @@ ghost use Rattle.console.specs.Options.{console_line};
 use clap::{Arg, ArgAction, ArgMatches, Command, Error};
 use std::alloc::{AllocError, Global};
 
+// What the program is called, whatever its file is.
+const NAME: &str = "console";
+
 /// The file with the image, in the command line's words.
 pub const IMAGE: &str = "image";
 
@@ -16,7 +19,8 @@ fn command<'a>(alloc: Global) -> Result<Command<'a>, AllocError>
         .action(ArgAction::Set)
         .value_name("IMAGE")
         .help("The file with the image; without it a fresh image is made in memory");
-    Command::new(alloc, "console")
+    Command::new(alloc, NAME)
+        .bin_name(NAME)?
         .about("Runs a script of calls, read from standard input, on a file system")
         .arg(image)
 }

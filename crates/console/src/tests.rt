@@ -1,5 +1,7 @@
 //! What no clause says: the lines that are printed, the statuses, and that the calls can succeed.
-use crate::{ConsoleFault, Mode, Single, SingleFault, Stop, run_script, status};
+use crate::{
+    ConsoleFault, LONGEST_SCRIPT, Mode, Single, SingleFault, Stop, options, run_script, status,
+};
 use block_device::{Device, Fused, MemoryDisk};
 use image_tree::MountFault;
 use mkfs::make;
@@ -239,5 +241,43 @@ fn stops_where_the_device_fails(rt: HostRuntime) -> Result<(), Fail> {
         failed = failed.saturating_add(1);
     }
     assert!(rt; 5 < failed && failed < 10_000);
+    Ok(())
+}
+
+#[test]
+fn takes_scripts_up_to_their_longest(rt: HostRuntime) -> Result<(), Fail> {
+    let mut script = vec![in rt.alloc(); b'#'; LONGEST_SCRIPT as usize]?;
+    let mut out = Vec::new(rt.alloc());
+    let ran = run_script(rt.alloc(), None, Mode::Listed, script.as_slice(), &mut out);
+    assert!(rt; ran.is_ok() && out.is_empty());
+    script.push(b'\n')?;
+    match run_script(rt.alloc(), None, Mode::Listed, script.as_slice(), &mut out) {
+        Ok(_) => panic!(rt; "it is too long"),
+        Err(fault) => {
+            assert_eq!(rt; status(&fault), 1);
+            let text = format!(in rt.alloc(); "{fault}")?;
+            assert!(rt;
+                text.as_str() == "the script can't be read: file too large",
+                "{text}"
+            );
+        }
+    }
+    Ok(())
+}
+
+#[test]
+fn help_names_the_program(rt: HostRuntime) -> Result<(), Fail> {
+    let alloc = rt.alloc();
+    let mut words = Vec::new(alloc);
+    for word in ["out/console_program.kept", "--help"] {
+        words.push(String::from_str(alloc, word)?)?;
+    }
+    match options(alloc, words.as_slice()) {
+        Ok(_) => panic!(rt; "help runs no script"),
+        Err(error) => {
+            let text = format!(in alloc; "{error}")?;
+            assert!(rt; text.as_str().contains("Usage: console [IMAGE]"), "{text}");
+        }
+    }
     Ok(())
 }

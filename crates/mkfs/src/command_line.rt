@@ -7,6 +7,9 @@ use clap::error::ErrorKind;
 use clap::{Arg, ArgAction, ArgMatches, Command, Error};
 use std::alloc::{AllocError, Global};
 
+// What the program is called, whatever its file is.
+const NAME: &str = "mkfs";
+
 /// How many blocks an image has, in the command line's words.
 pub const SIZE: &str = "size";
 
@@ -58,7 +61,8 @@ fn files<'a>(alloc: Global) -> Arg<'a>
 fn command<'a>(alloc: Global) -> Result<Command<'a>, AllocError>
     ensures { IfOk result (λ command. app_of command ≡ mkfs_line) }
 {
-    Command::new(alloc, "mkfs")
+    Command::new(alloc, NAME)
+        .bin_name(NAME)?
         .about("Makes an image of a file system")
         .arg(image(alloc))?
         .arg(option(alloc, SIZE, "2000", "How many blocks the image has"))?

@@ -312,3 +312,20 @@ fn command_lines(rt: HostRuntime) {
         assert_eq!(rt; read(rt.alloc(), line), want, "of {line}");
     }
 }
+
+#[test]
+fn help_names_the_program(rt: HostRuntime) -> Result<(), Fail> {
+    let words = words_of(rt.alloc(), "out/mkfs_program.kept --help")?;
+    match options(rt.alloc(), words.as_slice()) {
+        Ok(_) => panic!(rt; "help is no image"),
+        Err(error) => {
+            let text = format!(in rt.alloc(); "{error}")?;
+            assert!(rt;
+                text.as_str()
+                    .contains("Usage: mkfs [OPTIONS] <IMAGE> [FILE]..."),
+                "{text}"
+            );
+        }
+    }
+    Ok(())
+}
