@@ -1,6 +1,7 @@
+pub mod Faults
 pub mod Held
 pub mod Makes
+pub mod Options
 pub mod Root
 pub mod View
 pub mod Single
-pub mod Options

@@ -1,4 +1,7 @@
 //! Why a script didn't come to its end.
+ghost use Rattle.std.specs.Prelude.{◌≡◌};
+ghost use Rattle.console.specs.Faults.{status_of};
+
 use crate::script::ScriptFault;
 use crate::stop::Stop;
 use image_tree::MountFault;
@@ -29,12 +32,22 @@ pub enum ConsoleFault {
 }
 
 impl From<AllocError> for ConsoleFault {
+    ghost use Rattle.std.specs.Prelude.{◌≡◌};
+    ghost use Rattle.console.specs.declared.fault.ConsoleFault.TheVariants.{Memory};
+
+    ghost from_gives = { λ _ e. e ≡ Memory };
+
     fn from(_error: AllocError) -> ConsoleFault {
         ConsoleFault::Memory
     }
 }
 
 impl From<MountFault> for ConsoleFault {
+    ghost use Rattle.std.specs.Prelude.{◌≡◌};
+    ghost use Rattle.console.specs.Faults.{of_mount};
+
+    ghost from_gives = { λ fault e. e ≡ of_mount fault };
+
     fn from(fault: MountFault) -> ConsoleFault {
         match fault {
             MountFault::NoMemory => ConsoleFault::Memory,
@@ -44,6 +57,11 @@ impl From<MountFault> for ConsoleFault {
 }
 
 impl From<ScriptFault> for ConsoleFault {
+    ghost use Rattle.std.specs.Prelude.{◌≡◌};
+    ghost use Rattle.console.specs.Faults.{of_script};
+
+    ghost from_gives = { λ fault e. e ≡ of_script fault };
+
     fn from(fault: ScriptFault) -> ConsoleFault {
         match fault {
             ScriptFault::Line(number) => ConsoleFault::Line(number),
@@ -53,7 +71,9 @@ impl From<ScriptFault> for ConsoleFault {
 }
 
 /// The exit status of a program whose script ended so.
-pub fn status(fault: &ConsoleFault) -> u8 {
+pub fn status(fault: &ConsoleFault) -> u8
+    ensures { result ≡ status_of fault.now }
+{
     match fault {
         ConsoleFault::Image(_) | ConsoleFault::Read(_) | ConsoleFault::Write(_) => 1,
         ConsoleFault::Line(_) => 2,

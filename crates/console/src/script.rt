@@ -48,6 +48,11 @@ enum LineFault {
 }
 
 impl From<AllocError> for LineFault {
+    ghost use Rattle.std.specs.Prelude.{◌≡◌};
+    ghost use Rattle.console.specs.declared.script.LineFault.TheVariants.{Memory};
+
+    ghost from_gives = { λ _ e. e ≡ Memory };
+
     fn from(_error: AllocError) -> LineFault {
         LineFault::Memory
     }

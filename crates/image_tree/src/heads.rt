@@ -1,5 +1,5 @@
 //! The superblock and the log's head.
-ghost use Rattle.std.specs.Prelude.{◌≡◌, ◌<◌, ◌≤◌, length, All};
+ghost use Rattle.std.specs.Prelude.{◌≡◌, ◌≢◌, ◌<◌, ◌≤◌, length, All, Err};
 ghost use Rattle.std.specs.Bool.{MatchBool};
 ghost use Rattle.image_tree.specs.Checks.{IsGoodSuper, HasSuper, HasGoodLog};
 ghost use Rattle.fs_layout.specs.Recovered.{sizes_of, logged};
@@ -33,6 +33,7 @@ fn is_good(s: &Super) -> bool
 fn find_super<D: Device>(device: &mut D) -> Result<Super, MountFault>
     requires { UpToShort (D.contents device.old) }
     ensures judges { JudgesWith (λ s. (s ≡ sizes_of (D.contents device.old)) × HasSuper (D.contents device.old)) (D.contents device.old) result }
+    ensures memory { result ≢ Err MountFault.NoMemory }
     ensures contents { D.contents device.new ≡ D.contents device.old }
     ensures faults { D.failures device.new ≡ faults_with result (D.failures device.old) }
 {
@@ -74,6 +75,7 @@ fn find_log<D: Device>(device: &mut D, sizes: &Super) -> Result<LogHead, MountFa
     requires sizes { sizes.now ≡ sizes_of (D.contents device.old) }
     requires passed { UpToSize (D.contents device.old) }
     ensures judges { JudgesWith (λ head. (head.blocks.items ≡ logged (D.contents device.old)) × HasGoodLog (D.contents device.old)) (D.contents device.old) result }
+    ensures memory { result ≢ Err MountFault.NoMemory }
     ensures contents { D.contents device.new ≡ D.contents device.old }
     ensures faults { D.failures device.new ≡ faults_with result (D.failures device.old) }
 {
@@ -95,9 +97,10 @@ fn find_log<D: Device>(device: &mut D, sizes: &Super) -> Result<LogHead, MountFa
     Ok(head)
 }
 
-/// Finds the parts of a disk: its superblock, and the blocks that its log holds.
+/// Finds the parts of a disk: its superblock, and the blocks that its log holds. It takes no memory.
 pub fn find_layout<D: Device>(device: &mut D) -> Result<Layout, MountFault>
     ensures judges { JudgesWith (IsLayout (D.contents device.old)) (D.contents device.old) result }
+    ensures memory { result ≢ Err MountFault.NoMemory }
     ensures contents { D.contents device.new ≡ D.contents device.old }
     ensures faults { D.failures device.new ≡ faults_with result (D.failures device.old) }
 {

@@ -1,5 +1,5 @@
 //! Recovery: what the log holds goes home.
-ghost use Rattle.std.specs.Prelude.{◌≡◌, ◌⊎◌, ◌<◌, ℕ, [], length, replicate, slice_set, OnOk, OnErr, IfOk};
+ghost use Rattle.std.specs.Prelude.{◌≡◌, ◌≢◌, ◌⊎◌, ◌<◌, ℕ, [], length, replicate, slice_set, Err, OnOk, OnErr, IfOk};
 ghost use Rattle.block_device.specs.Blocks.{faults_after};
 ghost use Rattle.fs_layout.specs.Recovered.{block_at, logged, recovered, sizes_of, IsOutsideLog, SameRecovered};
 ghost use Rattle.image_tree.specs.Damage.{JudgesWith, UpToLog, faults_with};
@@ -18,6 +18,7 @@ use block_device::{Device, Fault};
 pub fn recover<D: Device>(device: &mut D) -> Result<(), MountFault>
     // Superblock and log are good, or the answer is their first damage; then nothing was written.
     ensures judges { JudgesWith (λ _. UpToLog (D.contents device.old)) (D.contents device.old) result }
+    ensures memory { result ≢ Err MountFault.NoMemory }
     ensures unwritten { OnDamage result (D.contents device.new ≡ D.contents device.old) }
     ensures empty { logged (D.contents device.old) ≡ [] → D.contents device.new ≡ D.contents device.old }
     ensures faults { D.failures device.new ≡ faults_with result (D.failures device.old) }
