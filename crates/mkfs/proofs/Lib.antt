@@ -15,6 +15,7 @@ pub mod NodeContents
 pub mod NodeInodes
 pub mod NodeNumbers
 pub mod NumberChecks
+pub mod OptionNumbers
 pub mod Padding
 pub mod Places
 pub mod Ranges

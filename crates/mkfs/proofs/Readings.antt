@@ -14,23 +14,6 @@ pub first_part : (t : List ℕ) (r : Result ℕ ParseIntError) → Reads t r →
 first_part t r g = g.0
 
 module _ {E : Type 0} (G : List ℕ → Result ℕ E → Type 0) (first : (t : List ℕ) (r : Result ℕ E) → G t r → ParsesUnsigned 32 10 t r) where
-  read_some : (t : List ℕ) (r : Option ℕ) → ReadsOne G t r → is_some r ≡ true → IsNumeral 10 (without_leading_plus t) × (number_in t < 2 ^ 32)
-  read_some t (Some v) reads some = (first t (Ok v) reads).0
-  read_some t None reads some = absurd (cc)
-
-  at_text : (m : ArgMatches) (id : List ℕ) (r : Option ℕ) → (one_text (found_of m) id ≡ None → r ≡ None)
-      → ((t : List ℕ) → one_text (found_of m) id ≡ Some t → ReadsOne G t r) → is_some r ≡ true
-      → (o : Option (List ℕ)) → one_text (found_of m) id ≡ o → HasNumber m id
-  at_text m id None none value some o e = absurd (cc)
-  at_text m id (Some v) none value some None e = let bad : Some v ≡ None = none e in absurd (cc)
-  at_text m id (Some v) none value some (Some t) e =
-      let good = read_some t (Some v) (value t e) some in
-      record { text = t; there = e; numeral = good.0; fits = good.1 }
-
-  pub number_there : (m : ArgMatches) (id : List ℕ) (r : Option ℕ) → (one_text (found_of m) id ≡ None → r ≡ None)
-      → ((t : List ℕ) → one_text (found_of m) id ≡ Some t → ReadsOne G t r) → is_some r ≡ true → HasNumber m id
-  number_there m id r none value some = at_text m id r none value some (one_text (found_of m) id) refl
-
   pub number_read : (m : ArgMatches) (id : List ℕ) (r : Option ℕ) → ((t : List ℕ) → one_text (found_of m) id ≡ Some t → ReadsOne G t r)
       → HasNumber m id → is_some r ≡ true
   number_read m id (Some v) value h = refl

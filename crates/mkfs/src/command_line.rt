@@ -1,9 +1,8 @@
 //! The command line.
-ghost use Rattle.std.specs.Prelude.{◌≡◌, codes, false, map, string_bytes, IfOk, IsTrue};
-ghost use Rattle.clap.specs.Words.{app_of, found_of, matches_of, rows_of, rule_of};
+ghost use Rattle.std.specs.Prelude.{◌≡◌, codes, false, map, string_bytes, IfOk};
+ghost use Rattle.clap.specs.Words.{app_of, fault_of, found_of, matches_of, rows_of, rule_of, FailsBy};
 ghost use Rattle.mkfs.specs.Options.{files_rule, image_rule, mkfs_line, number_in, number_rule, HasNumber};
 
-use clap::error::ErrorKind;
 use clap::{Arg, ArgAction, ArgMatches, Command, Error};
 use std::alloc::{AllocError, Global};
 
@@ -70,25 +69,15 @@ fn command<'a>(alloc: Global) -> Result<Command<'a>, AllocError>
         .arg(files(alloc))
 }
 
-// Whether the option's value is a u32.
-fn has_number(matches: &ArgMatches, id: &str) -> bool
-    ensures { IsTrue result → HasNumber matches.now id.now }
-{
-    matches.get_one::<u32>(id).is_some()
-}
-
 /// Reads a command line, the program's name first. After an `Ok` the values are those that the words give, and both
-/// numbers are there.
+/// numbers are there; an error has one of the kinds that the words call for, or memory was refused.
 pub fn options<'a>(alloc: Global, words: &'a [String]) -> Result<ArgMatches<'a>, Error>
     ensures numbers { IfOk result (λ matches. HasNumber matches (codes "size") × HasNumber matches (codes "inodes")) }
     ensures values { IfOk result (λ matches. rows_of (found_of matches) ≡ matches_of mkfs_line (map string_bytes words.entry.now)) }
+    ensures kinds { FailsBy (fault_of mkfs_line (map string_bytes words.entry.now)) result }
 {
     let mut command = command(alloc)?;
-    let matches = command.try_get_matches_from_mut(words)?;
-    if !has_number(&matches, SIZE) || !has_number(&matches, INODES) {
-        return Err(command.error(ErrorKind::ValueValidation, "a number is missing")?);
-    }
-    Ok(matches)
+    command.try_get_matches_from_mut(words)
 }
 
 /// The number that an option has.

@@ -1,0 +1,22 @@
+use Rattle.std.proofs.Common.{ap, map, refl, string_bytes, subst, ◌∙◌, ◌≡◌}
+use Rattle.std.proofs.lemmas.Result.{IfOk-weaker}
+use Rattle.clap.specs.Words.{FailsBy, fault_of, is_simple, is_simple_and_free, matches_of}
+use Rattle.mkfs.proofs.OptionNumbers.{both_given}
+use Rattle.mkfs.proofs.command_line.options.Goals as goal
+
+pub returns-clause-numbers : goal.returns-clause-numbers
+returns-clause-numbers c =
+    let parse = c.try_get_matches_from_mut in
+    both_given c.in_ok-command.command parse.new.self parse.result _ _ c.in_ok-command.ensures parse.ensures.ok parse.ensures.after parse.ensures.fails
+
+pub returns-clause-values : goal.returns-clause-values
+returns-clause-values c =
+    let parse = c.try_get_matches_from_mut in
+    let line = c.in_ok-command.ensures in
+    IfOk-weaker parse.result _ _ (λ m h. (h.2 (ap is_simple line)).0 ∙ ap (λ a. matches_of a (map string_bytes c.args.words.now)) line) parse.ensures.ok
+
+pub returns-clause-kinds : goal.returns-clause-kinds
+returns-clause-kinds c =
+    let parse = c.try_get_matches_from_mut in
+    let line = c.in_ok-command.ensures in
+    subst (λ a. FailsBy (fault_of a (map string_bytes c.args.words.now)) parse.result) line (parse.ensures.kinds (ap is_simple_and_free line))
