@@ -1,6 +1,6 @@
 //! The command line.
-ghost use Rattle.std.specs.Prelude.{◌≡◌, map, string_bytes, IfOk};
-ghost use Rattle.clap.specs.Words.{app_of, fault_of, found_of, matches_of, rows_of, FailsBy};
+ghost use Rattle.std.specs.Prelude.{◌≡◌, codes, map, string_bytes, IfOk};
+ghost use Rattle.clap.specs.Words.{app_of, fault_of, found_of, matches_of, new_app, rows_of, FailsBy};
 ghost use Rattle.console.specs.Options.{console_line};
 
 use clap::{Arg, ArgAction, ArgMatches, Command, Error};
@@ -12,6 +12,15 @@ const NAME: &str = "console";
 /// The file with the image, in the command line's words.
 pub const IMAGE: &str = "image";
 
+// The command, with its name in usage.
+fn named<'a>(alloc: Global) -> Result<Command<'a>, AllocError>
+    ensures { IfOk result (λ command. app_of command ≡ new_app (codes "console")) }
+{
+    Command::new(alloc, NAME)
+        .about("Runs a script of calls, read from standard input, on a file system")
+        .bin_name(NAME)
+}
+
 fn command<'a>(alloc: Global) -> Result<Command<'a>, AllocError>
     ensures { IfOk result (λ command. app_of command ≡ console_line) }
 {
@@ -19,10 +28,8 @@ fn command<'a>(alloc: Global) -> Result<Command<'a>, AllocError>
         .action(ArgAction::Set)
         .value_name("IMAGE")
         .help("The file with the image; without it a fresh image is made in memory");
-    Command::new(alloc, NAME)
-        .bin_name(NAME)?
-        .about("Runs a script of calls, read from standard input, on a file system")
-        .arg(image)
+    let named = named(alloc)?;
+    named.arg(image)
 }
 
 /// Reads a command line, the program's name first. After an `Ok` the values are those that the words give; an error

@@ -1,5 +1,5 @@
 -- A parse of the command line gives its numbers.
-use Rattle.std.proofs.Common.{◌≡◌, ◌∙◌, ◌<◌, ◌==◌, ◌&&◌, ◌^◌, ℕ, Bool, true, false, true≢false, not, cond, zero, suc, refl, sym, ap, subst, arith, inl, inr, List, [], ◌∷◌, map, length, drop, Option, Some, None, is_some, codes, option_map}
+use Rattle.std.proofs.Common.{◌≡◌, ◌∙◌, ◌<◌, ◌==◌, ◌&&◌, ◌^◌, ℕ, Bool, true, false, true≢false, not, cond, zero, suc, refl, sym, ap, subst, arith, inl, inr, List, [], ◌∷◌, map, length, drop, Some, None, codes, option_map}
 use Rattle.std.specs.Prelude.{⊤, find, pos, slice_get, unwrap_or, Err, IfOk, IsErrAnd, Ok, Result}
 use Rattle.std.specs.Borrow.{Bor}
 use Rattle.std.specs.List.{All, Any, list_any, slice_index_or}
@@ -16,7 +16,6 @@ use Rattle.clap.specs.Facts.{Entry, EntryPasses, HasId, HasIn, IsParsed, MayBeEm
 use Rattle.clap.specs.Lexer.{without_minus}
 use Rattle.clap.specs.Matches.{found_of, has_subcommand, matched_of, one_text}
 use Rattle.clap.specs.Simple.{App, app_of, built, is_buildable}
-use Rattle.clap.specs.Texts.{items_of}
 use Rattle.clap.specs.Values.{Accepts, IsSignedIn, reading_of}
 use Rattle.clap.specs.Walk.{Rule, Text, action_of, is_empty, rule_of, texts}
 use Rattle.clap.specs.declared.builder.action.ArgAction.TheVariants.{Count, Set}

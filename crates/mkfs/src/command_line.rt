@@ -1,6 +1,6 @@
 //! The command line.
 ghost use Rattle.std.specs.Prelude.{◌≡◌, codes, false, map, string_bytes, IfOk};
-ghost use Rattle.clap.specs.Words.{app_of, fault_of, found_of, matches_of, rows_of, rule_of, FailsBy};
+ghost use Rattle.clap.specs.Words.{app_of, fault_of, found_of, matches_of, new_app, rows_of, rule_of, FailsBy};
 ghost use Rattle.mkfs.specs.Options.{files_rule, image_rule, mkfs_line, number_in, number_rule, HasNumber};
 
 use clap::{Arg, ArgAction, ArgMatches, Command, Error};
@@ -57,12 +57,20 @@ fn files<'a>(alloc: Global) -> Arg<'a>
         .help("Files to put into the image's root")
 }
 
+// The command, with its name in usage.
+fn named<'a>(alloc: Global) -> Result<Command<'a>, AllocError>
+    ensures { IfOk result (λ command. app_of command ≡ new_app (codes "mkfs")) }
+{
+    Command::new(alloc, NAME)
+        .about("Makes an image of a file system")
+        .bin_name(NAME)
+}
+
 fn command<'a>(alloc: Global) -> Result<Command<'a>, AllocError>
     ensures { IfOk result (λ command. app_of command ≡ mkfs_line) }
 {
-    Command::new(alloc, NAME)
-        .bin_name(NAME)?
-        .about("Makes an image of a file system")
+    let named = named(alloc)?;
+    named
         .arg(image(alloc))?
         .arg(option(alloc, SIZE, "2000", "How many blocks the image has"))?
         .arg(option(alloc, INODES, "200", "How many inodes it has"))?

@@ -1,4 +1,4 @@
-use Rattle.std.proofs.Common.{ap, map, refl, string_bytes, subst, ◌∙◌, ◌≡◌}
+use Rattle.std.proofs.Common.{ap, map, string_bytes, subst, ◌∙◌}
 use Rattle.std.proofs.lemmas.Result.{IfOk-weaker}
 use Rattle.clap.specs.Words.{FailsBy, fault_of, is_simple, is_simple_and_free, matches_of}
 use Rattle.mkfs.proofs.OptionNumbers.{both_given}
