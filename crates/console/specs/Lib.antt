@@ -1,5 +1,6 @@
 pub mod Faults
 pub mod Held
+pub mod Images
 pub mod Makes
 pub mod Options
 pub mod Root

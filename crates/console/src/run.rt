@@ -1,4 +1,10 @@
 //! Running a script.
+ghost use Rattle.std.specs.Prelude.{◌≡◌, ℕ, List, [], IfOk, IfErr};
+ghost use Rattle.block_device.specs.Blocks.{blocks_of};
+ghost use Rattle.mkfs.specs.Image.{image_of};
+ghost use Rattle.console.specs.Held.{IsMounted};
+ghost use Rattle.console.specs.Images.{disk_for, fresh_bytes, JudgesImage};
+
 use crate::fault::ConsoleFault;
 use crate::script::{Command, parse};
 use crate::single::Single;
@@ -6,7 +12,7 @@ use crate::start::start_refused;
 use crate::stop::SingleFault;
 use crate::text::{call_name, write_not_yet, write_refused, write_reply, write_stopped};
 use block_device::{Device, MemoryDisk};
-use mkfs::make;
+use mkfs::{MakeRefused, make};
 use plain_tree::{Bytes, Call};
 use std::alloc::{AllocError, Global};
 use std::io;
@@ -26,10 +32,14 @@ pub enum Mode {
     Listed,
 }
 
-fn fresh_image(alloc: Global) -> Result<MemoryDisk, ConsoleFault> {
+fn fresh_image(alloc: Global) -> Result<MemoryDisk, ConsoleFault>
+    ensures fresh { IfOk result (λ disk. disk ≡ fresh_bytes) }
+    ensures judges { IfErr result (λ fault. (disk : List (List ℕ)) → JudgesImage disk fault) }
+{
     match make(alloc, FRESH_SIZE, FRESH_INODES, &[]) {
         Ok(disk) => Ok(disk),
-        Err(_) => Err(ConsoleFault::Memory),
+        Err(MakeRefused::NoMemory) => Err(ConsoleFault::Memory),
+        Err(_) => unreachable!(),
     }
 }
 
@@ -41,7 +51,11 @@ pub fn run_script<R: Read + Drop, W: Write>(
     mode: Mode,
     script: R,
     out: &mut W,
-) -> Result<MemoryDisk, ConsoleFault> {
+) -> Result<MemoryDisk, ConsoleFault>
+    // The image is only read, and is refused for its first damage alone.
+    ensures kept { IfOk result (λ disk. (blocks_of disk ≡ disk_for image) × IsMounted (blocks_of disk)) }
+    ensures refused { IfErr result (JudgesImage (disk_for image)) }
+{
     let disk = match image {
         Some(bytes) => MemoryDisk::new(bytes),
         None => fresh_image(alloc)?,
@@ -58,7 +72,9 @@ pub fn run_script<R: Read + Drop, W: Write>(
     Ok(single.into_device())
 }
 
-fn read_script<R: Read + Drop>(alloc: Global, script: R) -> Result<Vec<u8>, ConsoleFault> {
+fn read_script<R: Read + Drop>(alloc: Global, script: R) -> Result<Vec<u8>, ConsoleFault>
+    ensures { IfErr result (λ fault. (disk : List (List ℕ)) → JudgesImage disk fault) }
+{
     let mut text = Vec::new(alloc);
     let mut limited = script.take(LONGEST_SCRIPT + 1);
     match limited.read_to_end(&mut text) {
@@ -71,7 +87,9 @@ fn read_script<R: Read + Drop>(alloc: Global, script: R) -> Result<Vec<u8>, Cons
     Ok(text)
 }
 
-fn read_fault(fault: io::Error) -> ConsoleFault {
+fn read_fault(fault: io::Error) -> ConsoleFault
+    ensures { (disk : List (List ℕ)) → JudgesImage disk result }
+{
     if fault.kind() == io::ErrorKind::OutOfMemory {
         ConsoleFault::Memory
     } else {
@@ -84,7 +102,10 @@ fn run_commands<D: Device, W: Write>(
     single: &mut Single<D>,
     commands: Vec<Command>,
     out: &mut W,
-) -> Result<(), ConsoleFault> {
+) -> Result<(), ConsoleFault>
+    ensures contents { D.contents single.new.device ≡ D.contents single.old.device }
+    ensures judges { IfErr result (λ fault. (disk : List (List ℕ)) → JudgesImage disk fault) }
+{
     for command in commands {
         run_command(alloc, single, command, out)?;
     }
@@ -96,7 +117,10 @@ fn run_command<D: Device, W: Write>(
     single: &mut Single<D>,
     command: Command,
     out: &mut W,
-) -> Result<(), ConsoleFault> {
+) -> Result<(), ConsoleFault>
+    ensures contents { D.contents single.new.device ≡ D.contents single.old.device }
+    ensures judges { IfErr result (λ fault. (disk : List (List ℕ)) → JudgesImage disk fault) }
+{
     if let Some(refused) = start_refused(&command) {
         return write_refused(out, command.name(), refused).map_err(ConsoleFault::Write);
     }
