@@ -1,11 +1,14 @@
 -- What a step makes of a tree, from its parts.
-use Rattle.std.proofs.Common.{◌≡◌, ◌≢◌, ℕ, ◌<◌, true, false, ◌||◌, not, List, refl, sym, ◌∙◌, ap, Option, Some, None, arith}
+use Rattle.std.proofs.Common.{◌≡◌, ◌≢◌, ℕ, ◌<◌, true, false, ◌||◌, not, nat_lt, List, inl, inr, refl, sym, ◌∙◌, ap, Option, Some, None, arith}
 use Rattle.std.proofs.Math.Path.{fun_ext}
+use Rattle.std.proofs.lemmas.Bool.{cases_Bool}
+use Rattle.std.proofs.lemmas.Bool.Decides.{nat_tests}
 use Rattle.plain_tree.specs.declared.node.Node.{Node}
 use Rattle.plain_tree.specs.declared.tree.OpenFile.{OpenFile}
 use Rattle.plain_tree.specs.declared.tree.OpenFileEntry.{OpenFileEntry}
-use Rattle.plain_tree.specs.Tree.{Tree, file_in, live_directory, put}
-use Rattle.plain_tree.specs.Steps.{has, has_room, lowest, node_or, node_at, read_write, with_file, with_nodes, write_only}
+use Rattle.plain_tree.specs.declared.step.Action.TheVariants.{Dup, Close, Inherit}
+use Rattle.plain_tree.specs.Tree.{Name, Tree, file_in, live_directory, put}
+use Rattle.plain_tree.specs.Steps.{fd_refusal, file_at, has, has_room, is_nothing, lowest, node_or, node_at, place_of, read_write, refusal_with, with_file, with_nodes, write_only}
 use Rattle.plain_tree.specs.Code.{HasFiles}
 use Rattle.plain_tree.proofs.TreeLemmas.{put_same, put_other}
 
@@ -33,3 +36,24 @@ pub few_still : (t t1 : Tree) (d n k : ℕ) (v w : Node) → t1 ≡ with_nodes t
 few_still t t1 d n k v w e live none is few =
     let same : (node_at t1 k).count ≡ v.count = ap (λ (j : ℕ). (node_at t1 j).count) is ∙ count_kept t t1 d n v w e (not_same t d n live none) in
     omega arith
+
+pub dup_room : (t : Tree) (h fd : ℕ) (res : Option ℕ) (par : Option (ℕ × Name)) → refusal_with t h (Dup fd) res par ≡ None → place_of t h (Dup fd) ≡ true → has_room (t.fds h) ≡ true
+unfolding refusal_with place_of
+dup_room t h fd res par none place = room (file_at t h fd) none place where
+  room : (f : Option OpenFile) → fd_refusal f ≡ None → (is_nothing f || has_room (t.fds h)) ≡ true → has_room (t.fds h) ≡ true
+  room None none place = absurd cc
+  room (Some f) none place = place
+
+pub close_below : (t : Tree) (h fd : ℕ) (res : Option ℕ) (par : Option (ℕ × Name)) → refusal_with t h (Close fd) res par ≡ None → fd < 16
+unfolding refusal_with
+close_below t h fd res par none = elim (cases_Bool (nat_lt fd 16)) [
+  | inl y ↦ grind (arith, nat_tests)
+  | inr y ↦ absurd (let x = rw y at none in cc)
+]
+
+pub child_below : (t : Tree) (h child : ℕ) → place_of t h (Inherit child) ≡ true → child < 8
+unfolding place_of
+child_below t h child place = elim (cases_Bool (nat_lt child 8)) [
+  | inl y ↦ grind (arith, nat_tests)
+  | inr y ↦ absurd (let x = rw y at place in cc)
+]

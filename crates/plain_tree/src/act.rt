@@ -1,7 +1,7 @@
 //! What a step that isn't refused changes, before the nodes that nothing keeps leave the tree.
 ghost use Rattle.std.specs.Prelude.{◌≡◌, ◌<◌, ◌||◌, true, not, IfOk, IfSome, MatchResult};
-ghost use Rattle.plain_tree.specs.Code.{HasFiles, with_name};
-ghost use Rattle.plain_tree.specs.Steps.{answer_with, at_dir, at_hold, closed, drop_hold, effect_with, enter_hold, entered, file_at, has, has_room, held, lowered, lowest, made, moved, new_directory, new_file, node_at, opened_at, opened_in, opened_new, raise_hold, raised, read_write, removed, truncated, with_file, with_nodes, write_only, wrote};
+ghost use Rattle.plain_tree.specs.Code.{HasFiles, is_open, with_name};
+ghost use Rattle.plain_tree.specs.Steps.{IsNewNode, answer_with, at_dir, at_hold, bump_refusal, closed, drop_hold, effect_with, enter_hold, entered, file_at, has, has_room, held, is_absent, lowered, lowest, made, makes_node, mkdir_refusal, moved, new_directory, new_file, node_at, opened_at, opened_in, opened_new, place_of, raise_hold, raised, read_write, refusal_with, removed, truncated, with_file, with_nodes, write_only, wrote};
 ghost use Rattle.plain_tree.specs.Tree.{file_in, live_directory, look, put, tree_of};
 
 use crate::answer_of::bytes_read;
@@ -11,9 +11,7 @@ use crate::refusal::has_flag;
 use crate::refused::NoMemory;
 use crate::step::{Action, StepAnswer};
 use crate::tree::{Hold, OpenFile, OpenFileEntry, Tree};
-use crate::widths::{
-    COUNT_LIMIT, CREATE, DESCRIPTOR_COUNT, DOT, DOTDOT, HART_COUNT, READ_WRITE, WRITE_ONLY,
-};
+use crate::widths::{CREATE, DOT, DOTDOT, READ_WRITE, WRITE_ONLY};
 use std::alloc::Global;
 
 /// A file as it is when it is opened.
@@ -71,7 +69,8 @@ impl Tree {
         flags: u32,
         id: usize,
     ) -> Result<(), NoMemory>
-        requires { hart < 8 }
+        requires hart { hart < 8 }
+        requires unused { (tree_of self.old).files id ≡ None }
         ensures { MatchResult result (λ _. tree_of self.new ≡ with_file (tree_of self.old) hart id number flags) (λ _. self.new ≡ self.old) }
     {
         if self.has_room(hart) {
@@ -107,11 +106,9 @@ impl Tree {
         flags: u32,
         id: usize,
     ) -> Result<Vec<OpenFileEntry>, NoMemory>
+        requires { (tree_of self.now).files id ≡ None }
         ensures { IfOk result (λ v. HasFiles v.items (put (tree_of self.now).files id (Some (record { number = number; offset = 0; readable = not (has flags write_only); writable = has flags write_only || has flags read_write })))) }
     {
-        if self.file(id).is_some() {
-            return Err(NoMemory);
-        }
         self.files_with(alloc, id, just_opened(number, flags))
     }
 
@@ -123,12 +120,10 @@ impl Tree {
         name: &[u8],
         number: u16,
     ) -> Result<(), NoMemory>
-        requires { live_directory ((tree_of self.old).nodes directory) ≡ true }
+        requires live { live_directory ((tree_of self.old).nodes directory) ≡ true }
+        requires range { number < (tree_of self.old).ninodes }
         ensures { MatchResult result (λ _. tree_of self.new ≡ with_nodes (tree_of self.old) (put (entered (tree_of self.old) directory name.now number).nodes number (Some new_file))) (λ _. self.new ≡ self.old) }
     {
-        if usize::from(number) >= self.ninodes() {
-            return Err(NoMemory);
-        }
         let name = Bytes::new(Vec::from_slice(alloc, name)?);
         let bytes = Bytes::new(Vec::new(alloc));
         let node = Node {
@@ -151,6 +146,8 @@ impl Tree {
     ) -> Result<(), NoMemory>
         requires hart { hart < 8 }
         requires live { live_directory ((tree_of self.old).nodes directory) ≡ true }
+        requires range { number < (tree_of self.old).ninodes }
+        requires unused { (tree_of self.old).files id ≡ None }
         ensures { MatchResult result (λ _. tree_of self.new ≡ opened_in (tree_of self.old) hart id flags directory name.now None number) (λ _. self.new ≡ self.old) }
     {
         if self.has_room(hart) {
@@ -175,6 +172,8 @@ impl Tree {
     ) -> Result<(), NoMemory>
         requires hart { hart < 8 }
         requires live { IfSome parent (λ d. live_directory ((tree_of self.old).nodes d) ≡ true) }
+        requires new { is_absent (tree_of self.old) (with_name parent name.now) ≡ true → IsNewNode (tree_of self.old) number }
+        requires unused { (tree_of self.old).files id ≡ None }
         ensures { MatchResult result (λ _. tree_of self.new ≡ opened_new (tree_of self.old) hart id flags (with_name parent name.now) number) (λ _. self.new ≡ self.old) }
     {
         let Some(directory) = parent else {
@@ -195,7 +194,8 @@ impl Tree {
         number: u16,
         id: usize,
     ) -> Result<(), NoMemory>
-        requires { hart < 8 }
+        requires hart { hart < 8 }
+        requires unused { (tree_of self.old).files id ≡ None }
         ensures { MatchResult result (λ _. tree_of self.new ≡ opened_at (tree_of self.old) hart id flags found number) (λ _. self.new ≡ self.old) }
     {
         match found {
@@ -286,15 +286,14 @@ impl Tree {
         name: &[u8],
         number: u16,
     ) -> Result<(), NoMemory>
-        requires { IfSome parent (λ d. live_directory ((tree_of self.old).nodes d) ≡ true) }
+        requires live { IfSome parent (λ d. live_directory ((tree_of self.old).nodes d) ≡ true) }
+        requires few { mkdir_refusal (tree_of self.old) (with_name parent name.now) ≡ None }
+        requires new { IsNewNode (tree_of self.old) number }
         ensures { MatchResult result (λ _. tree_of self.new ≡ made (tree_of self.old) (with_name parent name.now) number) (λ _. self.new ≡ self.old) }
     {
         let Some(directory) = parent else {
             return Ok(());
         };
-        if self.count(directory) >= COUNT_LIMIT || !self.is_new(number) {
-            return Err(NoMemory);
-        }
         self.make_directory(alloc, directory, name, number)
     }
 
@@ -324,7 +323,8 @@ impl Tree {
     }
 
     fn bump(&mut self, alloc: Global, hart: u8) -> Result<(), NoMemory>
-        requires { hart < 8 }
+        requires hart { hart < 8 }
+        requires few { bump_refusal (tree_of self.old) ((tree_of self.old).holds hart) ≡ None }
         ensures { MatchResult result (λ _. tree_of self.new ≡ record (at_hold (tree_of self.old) ((tree_of self.old).holds hart) raised) { holds = put (tree_of self.old).holds hart (raise_hold ((tree_of self.old).holds hart)) }) (λ _. self.new ≡ self.old) }
     {
         let Some(hold) = self.hold(hart) else {
@@ -332,7 +332,7 @@ impl Tree {
             return Ok(());
         };
         let number = usize::from(hold.number);
-        if number >= self.ninodes() || self.count(hold.number) >= COUNT_LIMIT {
+        if number >= self.ninodes() {
             return Err(NoMemory);
         }
         self.raise(alloc, number);
@@ -391,30 +391,23 @@ impl Tree {
         }
     }
 
-    fn dup(&mut self, hart: u8, fd: u32) -> Result<(), NoMemory>
-        requires { hart < 8 }
-        ensures { MatchResult result (λ _. tree_of self.new ≡ record (tree_of self.old) { fds = put (tree_of self.old).fds hart (put ((tree_of self.old).fds hart) (lowest ((tree_of self.old).fds hart)) ((tree_of self.old).fds hart fd)) }) (λ _. self.new ≡ self.old) }
+    fn dup(&mut self, hart: u8, fd: u32)
+        requires hart { hart < 8 }
+        requires room { has_room ((tree_of self.old).fds hart) ≡ true }
+        ensures { tree_of self.new ≡ record (tree_of self.old) { fds = put (tree_of self.old).fds hart (put ((tree_of self.old).fds hart) (lowest ((tree_of self.old).fds hart)) ((tree_of self.old).fds hart fd)) } }
     {
         let free = self.lowest(hart);
-        if free >= DESCRIPTOR_COUNT {
-            return Err(NoMemory);
-        }
         let id = self.descriptor(hart, fd as usize);
         self.set_descriptor(hart, free, id);
-        Ok(())
     }
 
-    fn close(&mut self, hart: u8, fd: u32) -> Result<(), NoMemory>
-        requires { hart < 8 }
-        ensures { MatchResult result (λ _. tree_of self.new ≡ closed (record (tree_of self.old) { fds = put (tree_of self.old).fds hart (put ((tree_of self.old).fds hart) fd None) })) (λ _. self.new ≡ self.old) }
+    fn close(&mut self, hart: u8, fd: u32)
+        requires hart { hart < 8 }
+        requires fd { fd < 16 }
+        ensures { tree_of self.new ≡ closed (record (tree_of self.old) { fds = put (tree_of self.old).fds hart (put ((tree_of self.old).fds hart) fd None) }) }
     {
-        let fd = fd as usize;
-        if fd >= DESCRIPTOR_COUNT {
-            return Err(NoMemory);
-        }
-        self.set_descriptor(hart, fd, None);
+        self.set_descriptor(hart, fd as usize, None);
         self.close_orphans();
-        Ok(())
     }
 
     fn read(&mut self, hart: u8, fd: u32, count: u64) -> Result<(), NoMemory>
@@ -425,17 +418,6 @@ impl Tree {
             return Err(NoMemory);
         }
         self.advance(id, count);
-        Ok(())
-    }
-
-    fn give_all(&mut self, hart: u8, child: u8) -> Result<(), NoMemory>
-        requires { hart < 8 }
-        ensures { MatchResult result (λ _. tree_of self.new ≡ record (tree_of self.old) { fds = put (tree_of self.old).fds child ((tree_of self.old).fds hart); cwd = put (tree_of self.old).cwd child ((tree_of self.old).cwd hart) }) (λ _. self.new ≡ self.old) }
-    {
-        if child >= HART_COUNT {
-            return Err(NoMemory);
-        }
-        self.inherit(hart, child);
         Ok(())
     }
 
@@ -455,6 +437,10 @@ impl Tree {
     ) -> Result<(), NoMemory>
         requires hart { hart < 8 }
         requires live { IfSome parent (λ d. live_directory ((tree_of self.old).nodes d) ≡ true) }
+        requires none { refusal_with (tree_of self.old) hart action.now found (with_name parent name.now) ≡ None }
+        requires place { place_of (tree_of self.old) hart action.now ≡ true }
+        requires new { makes_node (tree_of self.old) action.now (with_name parent name.now) ≡ true → IsNewNode (tree_of self.old) number }
+        requires unused { is_open action.now ≡ true → (tree_of self.old).files id ≡ None }
         requires answer { answer.now ≡ answer_with (tree_of self.old) hart action.now found (with_name parent name.now) id }
         ensures { MatchResult result (λ _. tree_of self.new ≡ effect_with (tree_of self.old) hart action.now found (with_name parent name.now) number id) (λ _. self.new ≡ self.old) }
     {
@@ -479,10 +465,19 @@ impl Tree {
                 self.chdir(hart, found);
                 Ok(())
             }
-            Action::Dup { fd } => self.dup(hart, *fd),
-            Action::Close { fd } => self.close(hart, *fd),
+            Action::Dup { fd } => {
+                self.dup(hart, *fd);
+                Ok(())
+            }
+            Action::Close { fd } => {
+                self.close(hart, *fd);
+                Ok(())
+            }
             Action::Fstat { .. } => Ok(()),
-            Action::Inherit { child } => self.give_all(hart, *child),
+            Action::Inherit { child } => {
+                self.inherit(hart, *child);
+                Ok(())
+            }
         }
     }
 }

@@ -1,5 +1,5 @@
 //! One step of the tree.
-ghost use Rattle.std.specs.Prelude.{◌≡◌, ◌<◌, IfSome, MatchResult};
+ghost use Rattle.std.specs.Prelude.{◌≡◌, ◌<◌, IfSome, MatchResult, true};
 ghost use Rattle.plain_tree.specs.Applied.{IsApplied, IsAppliedAt, IsLeastUnused, IsRefused, out_of_place};
 ghost use Rattle.plain_tree.specs.Code.{is_open};
 ghost use Rattle.plain_tree.specs.Steps.{path_of, refused};
@@ -85,13 +85,14 @@ impl Tree {
         self.apply_at(alloc, step, id)
     }
 
-    /// The same with the id that a new open file takes.
+    /// The same with the unused id that a new open file takes.
     pub(crate) fn apply_at(
         &mut self,
         alloc: Global,
         step: &TreeStep,
         id: usize,
     ) -> Result<StepAnswer, ApplyRefused>
+        requires { is_open step.now.action ≡ true → (tree_of self.old).files id ≡ None }
         ensures { MatchResult result (λ a. IsAppliedAt (tree_of self.old) step.now id a (tree_of self.new)) (λ e. IsRefused self.old step.now e self.new) }
     {
         let hart = step.hart;

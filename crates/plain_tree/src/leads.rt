@@ -1,6 +1,7 @@
 //! When a list of steps leads on from a tree.
-ghost use Rattle.std.specs.Prelude.{◌≡◌, IfOk, IfSome, IsTrue, ◌↔◌};
+ghost use Rattle.std.specs.Prelude.{◌≡◌, IfOk, IfSome, IsTrue, ◌↔◌, true};
 ghost use Rattle.plain_tree.specs.Checked.{IsFree, Leads, LeadsOn, Says};
+ghost use Rattle.plain_tree.specs.Code.{is_open};
 ghost use Rattle.plain_tree.specs.Steps.{IsInPlace};
 ghost use Rattle.plain_tree.specs.Tree.{tree_of};
 
@@ -16,7 +17,9 @@ use std::alloc::Global;
 impl Tree {
     /// The id for a new open file: the one that the answer says, else an unused one.
     fn id_for(&self, entry: &Placed) -> Option<usize>
-        ensures { IfSome result (λ id. Says entry.now.answer id) }
+        requires { IsFree (tree_of self.now) entry.now.answer }
+        ensures said { IfSome result (λ id. Says entry.now.answer id) }
+        ensures unused { IfSome result (λ id. is_open entry.now.step.action ≡ true → (tree_of self.now).files id ≡ None) }
     {
         match &entry.answer {
             StepAnswer::Opened { id, .. } => Some(*id),
