@@ -287,7 +287,7 @@ impl Tree {
         number: u16,
     ) -> Result<(), NoMemory>
         requires live { IfSome parent (λ d. live_directory ((tree_of self.old).nodes d) ≡ true) }
-        requires few { mkdir_refusal (tree_of self.old) (with_name parent name.now) ≡ None }
+        requires none { mkdir_refusal (tree_of self.old) (with_name parent name.now) ≡ None }
         requires new { IsNewNode (tree_of self.old) number }
         ensures { MatchResult result (λ _. tree_of self.new ≡ made (tree_of self.old) (with_name parent name.now) number) (λ _. self.new ≡ self.old) }
     {
@@ -324,7 +324,7 @@ impl Tree {
 
     fn bump(&mut self, alloc: Global, hart: u8) -> Result<(), NoMemory>
         requires hart { hart < 8 }
-        requires few { bump_refusal (tree_of self.old) ((tree_of self.old).holds hart) ≡ None }
+        requires none { bump_refusal (tree_of self.old) ((tree_of self.old).holds hart) ≡ None }
         ensures { MatchResult result (λ _. tree_of self.new ≡ record (at_hold (tree_of self.old) ((tree_of self.old).holds hart) raised) { holds = put (tree_of self.old).holds hart (raise_hold ((tree_of self.old).holds hart)) }) (λ _. self.new ≡ self.old) }
     {
         let Some(hold) = self.hold(hart) else {
@@ -421,7 +421,7 @@ impl Tree {
         Ok(())
     }
 
-    /// The change that the action makes, where it isn't refused. `answer` is what it answers.
+    /// The change that the action makes, where it has its place and isn't refused. `answer` is what it answers.
     #[tactic(auto, unfolding(crate::specs::Steps::effect_with))]
     pub(crate) fn act(
         &mut self,

@@ -12,13 +12,13 @@ returns-in-Read c =
     let count : c.bytes_read.result ≡ length (part (tree_of c.args.self.now) (file_at (tree_of c.args.self.now) c.args.hart c.in-Read.fd) c.in-Read.count) = rw c.in-Read.is at said in
     rw (c.in-Read.is, ← count) c.read.ensures
 
-pub bump-requires-clause-few : goal.bump-requires-clause-few
+pub bump-requires-clause-none : goal.bump-requires-clause-none
 unfolding refusal_with
-bump-requires-clause-few c = rw c.in-Bump.is at c.requires.none
+bump-requires-clause-none c = rw c.in-Bump.is at c.requires.none
 
-pub mkdir-requires-clause-few : goal.mkdir-requires-clause-few
+pub mkdir-requires-clause-none : goal.mkdir-requires-clause-none
 unfolding refusal_with
-mkdir-requires-clause-few c = rw c.in-Mkdir.is at c.requires.none
+mkdir-requires-clause-none c = rw c.in-Mkdir.is at c.requires.none
 
 pub dup-requires-clause-room : goal.dup-requires-clause-room
 dup-requires-clause-room c = dup_room (tree_of c.args.self.now) c.args.hart c.in-Dup.fd c.args.found (with_name c.args.parent c.args.name.now) (rw c.in-Dup.is at c.requires.none) (rw c.in-Dup.is at c.requires.place)
