@@ -216,8 +216,13 @@ fn a_commit_writes_in_order(rt: HostRuntime) {
     for (b, byte) in [(48, 1), (46, 2), (48, 3)] {
         assert_eq!(rt; change(&rt, &mut log, &mut txn, b, byte), Ok(()));
     }
+    assert!(rt; log.is_recorded(46) && log.is_recorded(48) && !log.is_recorded(47));
+    assert!(rt;
+        log.is_home(46) && !log.is_home(1) && !log.is_home(32) && !log.is_home(BLOCKS as u32)
+    );
     assert_eq!(rt; leave(&rt, &mut log, txn), Left::Commits);
     assert_eq!(rt; commit(&rt, &mut log, 0), (6, Progress::Ended));
+    assert!(rt; !log.is_recorded(46));
     let (_ended, _slots, disk) = log.retire();
     let Watched { disk, writes } = disk;
     assert_eq!(rt; writes.as_slice(), [3, 4, 2, 48, 46, 2].as_slice());
@@ -255,6 +260,7 @@ fn a_join_counts_what_was_recorded(rt: HostRuntime) {
     for b in 47..57 {
         assert_eq!(rt; change(&rt, &mut log, &mut first, b, 1), Ok(()));
     }
+    assert!(rt; log.is_member(&first) && !log.has_room(&first));
     let mut second = join(&rt, &mut log, 1).expect(&rt, "ten are recorded, and one is in");
     assert_eq!(rt; change(&rt, &mut log, &mut second, 57, 1), Ok(()));
     assert_eq!(rt; leave(&rt, &mut log, first), Left::Free);
