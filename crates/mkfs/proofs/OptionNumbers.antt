@@ -87,6 +87,7 @@ HasNumberRules id (r ∷ rs) = (bytes_eq r.id id ≡ true → IsNumberRule r) ×
 abbrev pub is_default_of : Text → Rule → Bool
 is_default_of id r = bytes_eq r.id id && (not (is_empty r.defaults) && r.is_simple)
 
+-- the rule of an argument that has the id
 rule_at : (xs : List Arg) (id : Text) → HasNumberRules id (map rule_of xs) → (i : ℕ) (a : Arg) → i < length xs
     → slice_index_or xs i a ≡ a → bytes_eq a.id.now id ≡ true → IsNumberRule (rule_of a)
 rule_at [] id h i a lt at same = absurd (omega arith)
@@ -196,7 +197,7 @@ module _ (c : Command) (id : Text) (no_groups : groups_of c ≡ []) (named : id 
       (without_minus first.0.now, text_read f id e.1 first.0 found first.1 (is_read e key pass), value_number e.0.now key first.0.now first.2)
 
   -- a parse with an entry of it gives a number
-  pub parsed_number : (f : Found) (s : Bool) → IsParsed c f s → HasId f id → (t : Text) × (one_text f id ≡ Some t) × IsNumber t
+  parsed_number : (f : Found) (s : Bool) → IsParsed c f s → HasId f id → (t : Text) × (one_text f id ≡ Some t) × IsNumber t
   parsed_number f s parsed has =
       let found = found_entry f.entries.items id has in
       let e = entry_by_id (EntryPasses c) f.entries.items id found.0 parsed.values found.1 in
@@ -210,7 +211,8 @@ pub record GivesNumber (id : Text) (a : App) : Type 0 where
   pub numbers : HasNumberRules id a.top.rules
   pub default : list_any (is_default_of id) a.top.rules ≡ true
 
-pub number_given : (c : Command) (m : ArgMatches) (id : Text) → (id ≡ [] → ⊥) → GivesNumber id (app_of c)
+-- a parse by such a command gives the number
+number_given : (c : Command) (m : ArgMatches) (id : Text) → (id ≡ [] → ⊥) → GivesNumber id (app_of c)
     → IsParsed c (found_of m) (has_subcommand m) → HasNumber m id
 number_given c m id named gives parsed =
     let groups : groups_of c ≡ [] = is_nil _ (both _ _ gives.plain).0 in
@@ -225,6 +227,7 @@ number_parsed c m id named gives parsed =
     let locals : (out-Command c).has_globals ≡ false = is_false _ (both _ _ (both _ _ (both _ _ gives.plain).1).1).0 in
     number_given c m id named gives (parsed locals)
 
+-- of a rule with another id nothing is asked
 differs : {A : Type 0} (b : Bool) → b ≡ false → b ≡ true → A
 differs b f t = absurd (true≢false (sym t ∙ f))
 
