@@ -12,3 +12,4 @@ pub mod CheckLemmas
 pub mod ReplyLemmas
 pub mod LeadLemmas
 pub mod ProgressLemmas
+pub mod FileCounts

@@ -1,6 +1,6 @@
 //! One step of the tree.
 ghost use Rattle.std.specs.Prelude.{◌≡◌, ◌<◌, IfSome, MatchResult, true};
-ghost use Rattle.plain_tree.specs.Applied.{IsApplied, IsAppliedAt, IsLeastUnused, IsRefused, out_of_place};
+ghost use Rattle.plain_tree.specs.Applied.{IsApplied, IsAppliedAt, IsRefused, out_of_place};
 ghost use Rattle.plain_tree.specs.Code.{is_open};
 ghost use Rattle.plain_tree.specs.Steps.{path_of, refused};
 ghost use Rattle.plain_tree.specs.Tree.{tree_of};
@@ -47,18 +47,6 @@ fn out_of_place(action: &Action) -> StepAnswer
 }
 
 impl Tree {
-    pub(crate) fn least_unused(&self) -> Option<usize>
-        ensures { IfSome result (λ id. IsLeastUnused (tree_of self.now) id) }
-    {
-        for id in 0..usize::MAX {
-            match self.file(id) {
-                None => return Some(id),
-                Some(_) => {}
-            }
-        }
-        None
-    }
-
     /// What a refused action changes: a raise drops its hold.
     fn refuse(&mut self, hart: u8, action: &Action)
         requires { hart < 8 }
@@ -80,7 +68,7 @@ impl Tree {
     {
         let mut id = 0;
         if is_open(&step.action) {
-            id = self.least_unused().ok_or(NoMemory)?;
+            id = self.least_unused();
         }
         self.apply_at(alloc, step, id)
     }

@@ -16,15 +16,15 @@ use std::alloc::Global;
 
 impl Tree {
     /// The id for a new open file: the one that the answer says, else an unused one.
-    fn id_for(&self, entry: &Placed) -> Option<usize>
+    fn id_for(&self, entry: &Placed) -> usize
         requires { IsFree (tree_of self.now) entry.now.answer }
-        ensures said { IfSome result (λ id. Says entry.now.answer id) }
-        ensures unused { IfSome result (λ id. is_open entry.now.step.action ≡ true → (tree_of self.now).files id ≡ None) }
+        ensures said { Says entry.now.answer result }
+        ensures unused { is_open entry.now.step.action ≡ true → (tree_of self.now).files result ≡ None }
     {
         match &entry.answer {
-            StepAnswer::Opened { id, .. } => Some(*id),
+            StepAnswer::Opened { id, .. } => *id,
             _ if is_open(&entry.step.action) => self.least_unused(),
-            _ => Some(0),
+            _ => 0,
         }
     }
 
@@ -52,7 +52,7 @@ impl Tree {
         if !self.is_in_place(&entry.step) || !self.is_free(&entry.answer) {
             return Ok(false);
         }
-        let id = self.id_for(entry).ok_or(NoMemory)?;
+        let id = self.id_for(entry);
         match self.apply_at(alloc, &entry.step, id) {
             Ok(answer) => Ok(same_answer(&answer, &entry.answer)),
             Err(ApplyRefused::BadChoice) => Ok(false),

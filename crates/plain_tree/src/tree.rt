@@ -1,5 +1,6 @@
 //! The tree.
 ghost use Rattle.std.specs.Prelude.{◌≡◌, ◌<◌, ◌++◌, ◌∷◌, [], length, replicate, IfOk, MatchOption, MatchResult, remove, slice_index_or, slice_set, true};
+ghost use Rattle.plain_tree.specs.Applied.{IsLeastUnused};
 ghost use Rattle.plain_tree.specs.Code.{Advances, HasFiles, IsEntryOf, IsOrphan};
 ghost use Rattle.plain_tree.specs.Fresh.{at_rest, fresh};
 ghost use Rattle.plain_tree.specs.Steps.{closed, moved, node_at, with_nodes};
@@ -126,6 +127,19 @@ impl Tree {
             }
         }
         None
+    }
+
+    /// The least id that no open file has.
+    #[tactic(auto, using(crate::proofs::FileCounts::last_unused))]
+    pub(crate) fn least_unused(&self) -> usize
+        ensures { IsLeastUnused (tree_of self.now) result }
+    {
+        for id in 0..self.files.len() {
+            if self.file(id).is_none() {
+                return id;
+            }
+        }
+        self.files.len()
     }
 
     /// The hart's current directory; the root for one that isn't there.

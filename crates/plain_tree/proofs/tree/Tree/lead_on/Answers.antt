@@ -1,6 +1,4 @@
-use Rattle.std.proofs.Common.{ℕ, subst, Option, IfSome}
 use Rattle.std.proofs.lemmas.Bool.Decides.{not_from_Decides}
-use Rattle.plain_tree.specs.Checked.{Says}
 use Rattle.plain_tree.specs.Tree.{tree_of}
 use Rattle.plain_tree.proofs.LeadLemmas.{step_free, step_placed, made_leads}
 use Rattle.plain_tree.proofs.tree.Tree.lead_on.Goals as goal
@@ -18,4 +16,4 @@ returns-then-not-is_in_place c =
 pub returns-in-Ok : goal.returns-in-Ok
 returns-in-Ok c =
     let e = c.args.entry.now in
-    made_leads c.same_answer.result (tree_of c.args.self.now) e.step e.answer c.in-Ok.answer (tree_of c.apply_at.new.self) c.in_ok-id.id (subst (λ (o : Option ℕ). IfSome o (λ i. Says e.answer i)) c.in_ok-id.ensures.ok_part c.id_for.ensures.said) (c.is_in_place.ensures.0 c.if-not-is_in_place.false) (c.is_free.ensures.0 c.if-not-is_free.false) c.same_answer.ensures c.in-Ok.ensures
+    made_leads c.same_answer.result (tree_of c.args.self.now) e.step e.answer c.in-Ok.answer (tree_of c.apply_at.new.self) c.id_for-id.result c.id_for-id.ensures.said (c.is_in_place.ensures.0 c.if-not-is_in_place.false) (c.is_free.ensures.0 c.if-not-is_free.false) c.same_answer.ensures c.in-Ok.ensures
