@@ -1,6 +1,11 @@
 //! Images against bytes of disks made elsewhere, and the values at which a refusal begins.
-use crate::{INODES, MakeRefused, SIZE, make, number, options};
+ghost use Rattle.std.specs.Prelude.{codes, IfOk};
+ghost use Rattle.mkfs.specs.Options.{HasNumber};
+
+use crate::{INODES, MakeRefused, SIZE, number, options};
 use block_device::MemoryDisk;
+use clap::error::ErrorKind;
+use clap::{ArgMatches, Error};
 use std::alloc::{AllocError, Global};
 use std::test::Fail;
 
@@ -28,6 +33,20 @@ const ENTRIES: [u8; 20] = [
     1, 0, b'.', 0, 0, 0, 0, 0, 0, 0, 0, 0, 0, 0, 0, 0, 1, 0, b'.', b'.',
 ];
 
+// Makes an image, once more where memory was refused: that changed nothing, so the answer is the same.
+fn make(
+    alloc: Global,
+    size: u32,
+    ninodes: u32,
+    files: &[(Vec<u8>, Vec<u8>)],
+) -> Result<MemoryDisk, MakeRefused> {
+    match crate::make(alloc, size, ninodes, files) {
+        Err(MakeRefused::NoMemory) => crate::make(alloc, size, ninodes, files),
+        made => made,
+    }
+}
+
+// A disk's bytes, from those at some places.
 fn bytes_of(alloc: Global, len: usize, parts: &[(usize, &[u8])]) -> Result<Vec<u8>, AllocError> {
     let mut bytes = Vec::new(alloc);
     for (at, part) in parts {
@@ -42,20 +61,18 @@ fn bytes_of(alloc: Global, len: usize, parts: &[(usize, &[u8])]) -> Result<Vec<u
     Ok(bytes)
 }
 
-fn one(alloc: Global, name: &[u8], content: usize) -> Result<Files, AllocError> {
+// Files with these names, and as many bytes.
+fn files_of(alloc: Global, asked: &[(&[u8], usize)]) -> Result<Files, AllocError> {
     let mut files = Vec::new(alloc);
-    add(alloc, &mut files, name, content)?;
-    Ok(files)
-}
-
-fn add(alloc: Global, files: &mut Files, name: &[u8], content: usize) -> Result<(), AllocError> {
-    let name = Vec::from_slice(alloc, name)?;
-    let mut bytes = Vec::new(alloc);
-    for i in 0..content {
-        bytes.push((i % 251) as u8)?;
+    for (name, len) in asked {
+        let name = Vec::from_slice(alloc, name)?;
+        let mut content = Vec::new(alloc);
+        for i in 0..*len {
+            content.push((i % 251) as u8)?;
+        }
+        files.push((name, content))?;
     }
-    files.push((name, bytes))?;
-    Ok(())
+    Ok(files)
 }
 
 // Files of no bytes, as many as asked for, whose names are numbers of six digits.
@@ -63,7 +80,8 @@ fn many(alloc: Global, count: usize) -> Result<Files, AllocError> {
     let mut files = Vec::new(alloc);
     for i in 0..count {
         let name = format!(in alloc; "{i:06}")?;
-        add(alloc, &mut files, name.as_bytes(), 0)?;
+        let name = Vec::from_slice(alloc, name.as_bytes())?;
+        files.push((name, Vec::new(alloc)))?;
     }
     Ok(files)
 }
@@ -90,35 +108,28 @@ fn number_at(bytes: &[u8], at: usize) -> usize {
 
 #[test]
 fn empty_images(rt: HostRuntime) -> Result<(), Fail> {
-    let fresh = bytes_of(
-        rt.alloc(),
-        2_048_000,
-        &[
-            (1024, &FRESH),
-            (33 * 1024 + 64, &FRESH_ROOT),
-            (46 * 1024, &[0xff; 6]),
-            (47 * 1024, &ENTRIES),
-        ],
-    )?;
+    let parts: [(usize, &[u8]); 4] = [
+        (1024, &FRESH),
+        (33 * 1024 + 64, &FRESH_ROOT),
+        (46 * 1024, &[0xff; 6]),
+        (47 * 1024, &ENTRIES),
+    ];
+    let fresh = bytes_of(rt.alloc(), 2_048_000, &parts)?;
     assert!(rt; made(rt.alloc(), 2000, 200, &Vec::new(rt.alloc())) == Some(fresh));
-    let small = bytes_of(
-        rt.alloc(),
-        60 * 1024,
-        &[
-            (1024, &SMALL),
-            (33 * 1024 + 64, &SMALL_ROOT),
-            (35 * 1024, &[0xff, 0xff, 0xff, 0xff, 0x1f]),
-            (36 * 1024, &ENTRIES),
-        ],
-    )?;
+    let parts: [(usize, &[u8]); 4] = [
+        (1024, &SMALL),
+        (33 * 1024 + 64, &SMALL_ROOT),
+        (35 * 1024, &[0xff, 0xff, 0xff, 0xff, 0x1f]),
+        (36 * 1024, &ENTRIES),
+    ];
+    let small = bytes_of(rt.alloc(), 60 * 1024, &parts)?;
     assert!(rt; made(rt.alloc(), 60, 16, &Vec::new(rt.alloc())) == Some(small));
     Ok(())
 }
 
 #[test]
 fn an_image_with_two_files(rt: HostRuntime) -> Result<(), Fail> {
-    let mut files = one(rt.alloc(), b"README", 3)?;
-    add(rt.alloc(), &mut files, b"fourteen_bytes", 1025)?;
+    let files = files_of(rt.alloc(), &[(b"README", 3), (b"fourteen_bytes", 1025)])?;
     let bytes = made(rt.alloc(), 60, 16, &files).unwrap_or(Vec::new(rt.alloc()));
     assert_eq!(rt; bytes.len(), 60 * 1024);
     for (at, part) in [
@@ -177,7 +188,7 @@ fn root_sizes(rt: HostRuntime) -> Result<(), Fail> {
 #[test]
 fn large_files(rt: HostRuntime) -> Result<(), Fail> {
     for (blocks, indirect, first, last) in [(12, 0, 0, 0), (13, 60, 61, 0), (268, 60, 61, 316)] {
-        let files = one(rt.alloc(), b"large", 1024 * blocks)?;
+        let files = files_of(rt.alloc(), &[(b"large", 1024 * blocks)])?;
         let bytes = made(rt.alloc(), 2000, 200, &files).unwrap_or(Vec::new(rt.alloc()));
         let inode = 33 * 1024 + 128;
         assert_eq!(rt; number_at(&bytes, inode + 8), 1024 * blocks);
@@ -244,7 +255,7 @@ fn refused_sizes(rt: HostRuntime) -> Result<(), Fail> {
         (2000, 200, 274_433, 83),
         (60, 2, 274_433, 83),
     ] {
-        let files = one(rt.alloc(), b"file", bytes)?;
+        let files = files_of(rt.alloc(), &[(b"file", bytes)])?;
         let made = make(rt.alloc(), size, ninodes, &files);
         assert_eq!(rt; refusal(made), want, "of {size} blocks and {bytes} bytes");
     }
@@ -264,8 +275,7 @@ fn refused_names(rt: HostRuntime) -> Result<(), Fail> {
         (b"fifteen_bytes__".as_slice(), 82),
         (b"double".as_slice(), 82),
     ] {
-        let mut files = one(rt.alloc(), b"double", 0)?;
-        add(rt.alloc(), &mut files, name, 0)?;
+        let files = files_of(rt.alloc(), &[(b"double", 0), (name, 0)])?;
         assert_eq!(rt; refusal(make(rt.alloc(), 60, 16, &files)), want, "{name:?}");
     }
     let files = many(rt.alloc(), 17_150)?;
@@ -277,17 +287,6 @@ fn refused_names(rt: HostRuntime) -> Result<(), Fail> {
     Ok(())
 }
 
-// The two numbers of a command line, or the status that a program ends with.
-fn read(alloc: Global, line: &str) -> Result<(u32, u32), i32> {
-    let Ok(words) = words_of(alloc, line) else {
-        return Err(-1);
-    };
-    match options(alloc, words.as_slice()) {
-        Ok(matches) => Ok((number(&matches, SIZE), number(&matches, INODES))),
-        Err(error) => Err(error.exit_code()),
-    }
-}
-
 fn words_of(alloc: Global, line: &str) -> Result<Vec<String>, AllocError> {
     let mut words = Vec::new(alloc);
     for word in line.split_whitespace() {
@@ -296,8 +295,26 @@ fn words_of(alloc: Global, line: &str) -> Result<Vec<String>, AllocError> {
     Ok(words)
 }
 
+fn is_refused(read: &Result<ArgMatches, Error>) -> bool {
+    match read {
+        Ok(_) => false,
+        Err(error) => error.kind() == ErrorKind::OutOfMemory,
+    }
+}
+
+// Reads a command line, once more where memory was refused.
+fn matches_of<'a>(alloc: Global, words: &'a [String]) -> Result<ArgMatches<'a>, Error>
+    ensures { IfOk result (λ matches. HasNumber matches (codes "size") × HasNumber matches (codes "inodes")) }
+{
+    let read = options(alloc, words);
+    if is_refused(&read) {
+        return options(alloc, words);
+    }
+    read
+}
+
 #[test]
-fn command_lines(rt: HostRuntime) {
+fn command_lines(rt: HostRuntime) -> Result<(), Fail> {
     for (line, want) in [
         ("mkfs fs.img", Ok((2000, 200))),
         ("mkfs fs.img --size 60 --inodes 16 a b/c", Ok((60, 16))),
@@ -309,14 +326,20 @@ fn command_lines(rt: HostRuntime) {
         ("mkfs", Err(2)),
         ("mkfs --help", Err(0)),
     ] {
-        assert_eq!(rt; read(rt.alloc(), line), want, "of {line}");
+        let words = words_of(rt.alloc(), line)?;
+        let read = match matches_of(rt.alloc(), words.as_slice()) {
+            Ok(matches) => Ok((number(&matches, SIZE), number(&matches, INODES))),
+            Err(error) => Err(error.exit_code()),
+        };
+        assert_eq!(rt; read, want, "of {line}");
     }
+    Ok(())
 }
 
 #[test]
 fn help_names_the_program(rt: HostRuntime) -> Result<(), Fail> {
     let words = words_of(rt.alloc(), "out/mkfs_program.kept --help")?;
-    match options(rt.alloc(), words.as_slice()) {
+    match matches_of(rt.alloc(), words.as_slice()) {
         Ok(_) => panic!(rt; "help is no image"),
         Err(error) => {
             let text = format!(in rt.alloc(); "{error}")?;

@@ -1,14 +1,70 @@
 //! `mkfs IMAGE [--size N] [--inodes N] [FILE..]`: writes an image with these files in its root.
 //!
 //! Faults are told in this order: the command line (status 2), a FILE that can't be read, what
-//! can't be made, an IMAGE that can't be written (status 1).
+//! can't be made, an IMAGE that can't be written (status 1). Want of memory is told where it comes,
+//! as a refusal to make (status 1).
 #![tactic(auto)]
 
+use clap::ArgMatches;
+use clap::error::ErrorKind;
 use mkfs::widths::{INODE_START, LOG_BLOCKS};
-use mkfs::{FILES, IMAGE, INODES, SIZE, data_start, make, number, options};
+use mkfs::{FILES, IMAGE, INODES, MakeRefused, SIZE, data_start, make, number, options};
 use std::alloc::{AllocError, Global};
 use std::process::ExitCode;
-use std::{fs, io};
+use std::{env, fs, io};
+use thiserror::Error;
+
+/// Why no image was written.
+#[derive(Debug, Drop, Error)]
+enum Fault<'a> {
+    /// The command line has a word that is no text.
+    #[error("the command line: {0}")]
+    Words(io::Error),
+    /// The image can't be made, or memory was refused.
+    #[error("refused {} {}", .0.number(), .0.name())]
+    Refused(MakeRefused),
+    /// What can't be read or written, and why.
+    #[error("{0}: {1}")]
+    File(&'a str, io::Error),
+}
+
+impl<'a> From<AllocError> for Fault<'a> {
+    fn from(_error: AllocError) -> Fault<'a> {
+        Fault::Refused(MakeRefused::NoMemory)
+    }
+}
+
+impl<'a> From<MakeRefused> for Fault<'a> {
+    fn from(refused: MakeRefused) -> Fault<'a> {
+        Fault::Refused(refused)
+    }
+}
+
+impl<'a> Fault<'a> {
+    // What came of reading or writing a file.
+    fn of_file(path: &'a str, error: io::Error) -> Fault<'a> {
+        if error.kind() == io::ErrorKind::OutOfMemory {
+            return Fault::Refused(MakeRefused::NoMemory);
+        }
+        Fault::File(path, error)
+    }
+
+    // What came of reading the words of the command line.
+    fn of_words(error: io::Error) -> Fault<'a> {
+        if error.kind() == io::ErrorKind::OutOfMemory {
+            return Fault::Refused(MakeRefused::NoMemory);
+        }
+        Fault::Words(error)
+    }
+
+    // The program's exit status.
+    fn status(&self) -> u8 {
+        match self {
+            Fault::Words(_) => 2,
+            Fault::Refused(_) | Fault::File(..) => 1,
+        }
+    }
+}
 
 // What a FILE is called in the root.
 fn last_element(path: &str) -> &str {
@@ -18,11 +74,15 @@ fn last_element(path: &str) -> &str {
     }
 }
 
-// A FILE's name and content.
-fn load(rt: &HostRuntime, path: &str) -> io::Result<(Vec<u8>, Vec<u8>)> {
-    let name = Vec::from_slice(rt.alloc(), last_element(path).as_bytes())?;
-    let content = fs::read(rt, path)?;
-    Ok((name, content))
+// The names and contents of the FILEs, in their order.
+fn load<'a>(rt: &HostRuntime, paths: &[&'a str]) -> Result<Vec<(Vec<u8>, Vec<u8>)>, Fault<'a>> {
+    let mut files = Vec::new(rt.alloc());
+    for &path in paths {
+        let name = Vec::from_slice(rt.alloc(), last_element(path).as_bytes())?;
+        let content = fs::read(rt, path).map_err(|error| Fault::of_file(path, error))?;
+        files.push((name, content)).map_err(AllocError::from)?;
+    }
+    Ok(files)
 }
 
 // Writes the image beside its place and then moves it there, so that no file with its name is ever
@@ -50,41 +110,56 @@ fn summary(alloc: Global, size: u32, ninodes: u32) -> Result<String, AllocError>
     )
 }
 
+// Writes the image that the command line asks for, and gives the line about it.
+fn run<'a>(
+    rt: &HostRuntime,
+    matches: &'a ArgMatches,
+    size: u32,
+    ninodes: u32,
+) -> Result<String, Fault<'a>> {
+    let files = load(rt, matches.get_strs(FILES).unwrap_or([].as_slice()))?;
+    let disk = make(rt.alloc(), size, ninodes, files.as_slice())?;
+    let line = summary(rt.alloc(), size, ninodes)?;
+    let image = matches.get_str(IMAGE).unwrap_or("");
+    let bytes = disk.into_bytes();
+    save(rt, image, bytes.as_slice()).map_err(|error| Fault::of_file(image, error))?;
+    Ok(line)
+}
+
+// The command line's words.
+fn words(rt: &HostRuntime) -> Result<Vec<String>, Fault<'static>> {
+    match env::args(rt) {
+        Ok(words) => Ok(words.collect(rt.alloc())?),
+        Err(error) => Err(Fault::of_words(error)),
+    }
+}
+
+// Tells why there is no image.
+fn tell(rt: &HostRuntime, fault: &Fault) -> io::Result<ExitCode> {
+    eprintln!(rt; "{fault}")?;
+    Ok(ExitCode::from(fault.status()))
+}
+
 fn main(rt: HostRuntime) -> anyhow::Result<ExitCode> {
-    let alloc = rt.alloc();
-    let words: Vec<String> = std::env::args(&rt)?.collect(alloc)?;
-    let matches = match options(alloc, words.as_slice()) {
+    let words = match words(&rt) {
+        Ok(words) => words,
+        Err(fault) => return Ok(tell(&rt, &fault)?),
+    };
+    let matches = match options(rt.alloc(), words.as_slice()) {
         Ok(matches) => matches,
+        Err(error) if error.kind() == ErrorKind::OutOfMemory => {
+            return Ok(tell(&rt, &Fault::Refused(MakeRefused::NoMemory))?);
+        }
         Err(error) => {
             error.print(&rt)?;
             return Ok(ExitCode::from(error.exit_code() as u8));
         }
     };
-    let mut files = Vec::new(alloc);
-    for &path in matches.get_strs(FILES).unwrap_or([].as_slice()) {
-        match load(&rt, path) {
-            Ok(file) => files.push(file)?,
-            Err(fault) => {
-                eprintln!(rt; "{path}: {fault}")?;
-                return Ok(ExitCode::FAILURE);
-            }
-        }
-    }
     let size = number(&matches, SIZE);
     let ninodes = number(&matches, INODES);
-    let disk = match make(alloc, size, ninodes, files.as_slice()) {
-        Ok(disk) => disk,
-        Err(refused) => {
-            eprintln!(rt; "refused {} {}", refused.number(), refused.name())?;
-            return Ok(ExitCode::FAILURE);
-        }
-    };
-    let image = matches.get_str(IMAGE).unwrap_or("");
-    let bytes = disk.into_bytes();
-    if let Err(fault) = save(&rt, image, bytes.as_slice()) {
-        eprintln!(rt; "{image}: {fault}")?;
-        return Ok(ExitCode::FAILURE);
+    match run(&rt, &matches, size, ninodes) {
+        Ok(line) => println!(rt; "{line}")?,
+        Err(fault) => return Ok(tell(&rt, &fault)?),
     }
-    println!(rt; "{}", summary(alloc, size, ninodes)?)?;
     Ok(ExitCode::SUCCESS)
 }
