@@ -3,10 +3,12 @@ use crate::{
     ConsoleFault, LONGEST_SCRIPT, Mode, Single, SingleFault, Stop, options, run_script, status,
 };
 use block_device::{Device, Fused, MemoryDisk};
+use clap::error::ErrorKind;
 use image_tree::MountFault;
-use mkfs::make;
+use mkfs::{MakeRefused, make};
 use plain_tree::{Answer, Bytes, Call, Reply};
 use std::alloc::{AllocError, Global};
+use std::io;
 use std::test::Fail;
 
 fn fresh(alloc: Global) -> Result<MemoryDisk, Fail> {
@@ -16,16 +18,55 @@ fn fresh(alloc: Global) -> Result<MemoryDisk, Fail> {
 fn disk(alloc: Global, size: u32, ninodes: u32) -> Result<MemoryDisk, Fail> {
     match make(alloc, size, ninodes, &[]) {
         Ok(disk) => Ok(disk),
-        Err(_) => Err(Fail::from(AllocError)),
+        Err(MakeRefused::NoMemory) => Err(Fail::from(AllocError)),
+        Err(_) => Err(Fail::new("no disk")),
     }
 }
 
-fn run(alloc: Global, script: &str) -> Result<(Vec<u8>, Option<ConsoleFault>), Fail> {
+// Mounts a disk, once more where memory was refused.
+fn mount<D: Device>(alloc: Global, device: D) -> Result<Single<D>, (D, MountFault)> {
+    match Single::mount(alloc, device) {
+        Err((device, MountFault::NoMemory)) => Single::mount(alloc, device),
+        mounted => mounted,
+    }
+}
+
+// Runs a script once. Gives what it printed, and the fault that it ended with.
+fn run_once(
+    alloc: Global,
+    image: Option<&[u8]>,
+    script: &[u8],
+) -> Result<(Vec<u8>, Option<ConsoleFault>), AllocError> {
+    let image = match image {
+        Some(bytes) => Some(Vec::from_slice(alloc, bytes)?),
+        None => None,
+    };
     let mut out = Vec::new(alloc);
-    let fault = match run_script(alloc, None, Mode::Listed, script.as_bytes(), &mut out) {
+    let fault = match run_script(alloc, image, Mode::Listed, script, &mut out) {
         Ok(_) => None,
         Err(fault) => Some(fault),
     };
+    Ok((out, fault))
+}
+
+fn is_refused_memory(fault: &Option<ConsoleFault>) -> bool {
+    match fault {
+        Some(ConsoleFault::Memory) => true,
+        Some(ConsoleFault::Write(error)) => error.kind() == io::ErrorKind::OutOfMemory,
+        _ => false,
+    }
+}
+
+// Runs a script, once more where memory was refused.
+fn run(
+    alloc: Global,
+    image: Option<&[u8]>,
+    script: &[u8],
+) -> Result<(Vec<u8>, Option<ConsoleFault>), AllocError> {
+    let (out, fault) = run_once(alloc, image, script)?;
+    if is_refused_memory(&fault) {
+        return run_once(alloc, image, script);
+    }
     Ok((out, fault))
 }
 
@@ -51,7 +92,7 @@ fn prints_what_the_calls_answer(rt: HostRuntime) -> Result<(), Fail> {
             "0 open refused 49 NotYet\n0 open refused 43 ZeroInPath\n0 read refused 44 TooLong\n",
         ),
     ] {
-        let (out, fault) = run(rt.alloc(), script)?;
+        let (out, fault) = run(rt.alloc(), None, script.as_bytes())?;
         assert!(rt; fault.is_none());
         assert!(rt; out.as_slice() == lines.as_bytes(), "of {script}");
     }
@@ -60,16 +101,15 @@ fn prints_what_the_calls_answer(rt: HostRuntime) -> Result<(), Fail> {
 
 #[test]
 fn gives_sixteen_descriptors(rt: HostRuntime) -> Result<(), Fail> {
-    let mut single = match Single::mount(rt.alloc(), fresh(rt.alloc())?) {
-        Ok(single) => single,
-        Err(_) => return Err(Fail::from(AllocError)),
+    let Ok(mut single) = mount(rt.alloc(), fresh(rt.alloc())?) else {
+        return Err(Fail::new("it isn't mounted"));
     };
     for i in 0..17u32 {
         let path = Bytes::new(Vec::from_slice(rt.alloc(), b"/")?);
         match single.call(Call::Open { path, flags: 0 }) {
             Ok(reply) if i < 16 => assert!(rt; reply.answer == Answer::Fd(i)),
             Ok(reply) => assert!(rt; reply.answer == Answer::Full(plain_tree::Full::Descriptors)),
-            Err(_) => return Err(Fail::from(AllocError)),
+            Err(_) => return Err(Fail::new("it has stopped")),
         }
     }
     Ok(())
@@ -89,10 +129,10 @@ fn runs_no_line_of_a_bad_script(rt: HostRuntime) -> Result<(), Fail> {
         "do 0 fstat 0\r",
     ] {
         let script = format!(in rt.alloc(); "do 0 open / 0\n# two\n{line}\n")?;
-        let (out, fault) = run(rt.alloc(), script.as_str())?;
+        let (out, fault) = run(rt.alloc(), None, script.as_str().as_bytes())?;
         assert!(rt; out.is_empty(), "{line}");
         let Some(fault) = fault else {
-            return Err(Fail::from(AllocError));
+            return Err(Fail::new("it is run"));
         };
         assert_eq!(rt; status(&fault), 2, "{line}");
         let text = format!(in rt.alloc(); "{fault}")?;
@@ -110,22 +150,14 @@ fn tells_damage_and_other_faults(rt: HostRuntime) -> Result<(), Fail> {
         (vec![in rt.alloc(); 0; 1500]?, "refused 51 TooShort"),
         (changed, "refused 52 BadSuper"),
     ] {
-        let mut out = Vec::new(rt.alloc());
-        match run_script(
-            rt.alloc(),
-            Some(image),
-            Mode::Listed,
-            b"bad".as_slice(),
-            &mut out,
-        ) {
-            Ok(_) => return Err(Fail::from(AllocError)),
-            Err(fault) => {
-                assert!(rt; out.is_empty());
-                assert_eq!(rt; status(&fault), 1);
-                let text = format!(in rt.alloc(); "{fault}")?;
-                assert!(rt; text.as_str() == want);
-            }
-        }
+        let (out, fault) = run(rt.alloc(), Some(image.as_slice()), b"bad".as_slice())?;
+        assert!(rt; out.is_empty());
+        let Some(fault) = fault else {
+            return Err(Fail::new("it is taken"));
+        };
+        assert_eq!(rt; status(&fault), 1);
+        let text = format!(in rt.alloc(); "{fault}")?;
+        assert!(rt; text.as_str() == want);
     }
     for (fault, text, number) in [
         (ConsoleFault::Memory, "no memory", 3),
@@ -160,9 +192,9 @@ fn read_all<D: Device>(
                     let bytes = buf.as_slice();
                     all.extend_from_slice(&bytes[..bytes.len().min(count as usize)])?;
                 }
-                _ => return Err(Fail::from(AllocError)),
+                _ => return Err(Fail::new("another answer")),
             },
-            Err(_) => return Err(Fail::from(AllocError)),
+            Err(_) => return Err(Fail::new("it has stopped")),
         }
     }
     Ok(all)
@@ -177,13 +209,11 @@ fn reads_the_root_in_pieces(rt: HostRuntime) -> Result<(), Fail> {
     want[18] = b'.';
     want[19] = b'.';
     for piece in [1, 7, 16, 1024, 2000] {
-        match Single::mount(rt.alloc(), fresh(rt.alloc())?) {
-            Ok(mut single) => {
-                let all = read_all(rt.alloc(), &mut single, piece)?;
-                assert!(rt; all.as_slice() == want.as_slice(), "in pieces of {piece}");
-            }
-            Err(_) => return Err(Fail::from(AllocError)),
-        }
+        let Ok(mut single) = mount(rt.alloc(), fresh(rt.alloc())?) else {
+            return Err(Fail::new("it isn't mounted"));
+        };
+        let all = read_all(rt.alloc(), &mut single, piece)?;
+        assert!(rt; all.as_slice() == want.as_slice(), "in pieces of {piece}");
     }
     Ok(())
 }
@@ -201,7 +231,7 @@ fn is_right(stopped: bool, answer: &Result<Reply, SingleFault>) -> bool {
 // Mounts a disk that fails from call k on, and makes four calls. Whether none failed; none where an answer is wrong.
 fn calls_pass(alloc: Global, k: u64) -> Result<Option<bool>, Fail> {
     let device = Fused::new(disk(alloc, 60, 16)?, k);
-    let mut single = match Single::mount(alloc, device) {
+    let mut single = match mount(alloc, device) {
         Ok(single) => single,
         Err((_, MountFault::DeviceFault)) => return Ok(Some(false)),
         Err(_) => return Ok(None),
@@ -247,21 +277,19 @@ fn stops_where_the_device_fails(rt: HostRuntime) -> Result<(), Fail> {
 #[test]
 fn takes_scripts_up_to_their_longest(rt: HostRuntime) -> Result<(), Fail> {
     let mut script = vec![in rt.alloc(); b'#'; LONGEST_SCRIPT as usize]?;
-    let mut out = Vec::new(rt.alloc());
-    let ran = run_script(rt.alloc(), None, Mode::Listed, script.as_slice(), &mut out);
-    assert!(rt; ran.is_ok() && out.is_empty());
+    let (out, fault) = run(rt.alloc(), None, script.as_slice())?;
+    assert!(rt; fault.is_none() && out.is_empty());
     script.push(b'\n')?;
-    match run_script(rt.alloc(), None, Mode::Listed, script.as_slice(), &mut out) {
-        Ok(_) => panic!(rt; "it is too long"),
-        Err(fault) => {
-            assert_eq!(rt; status(&fault), 1);
-            let text = format!(in rt.alloc(); "{fault}")?;
-            assert!(rt;
-                text.as_str() == "the script can't be read: file too large",
-                "{text}"
-            );
-        }
-    }
+    let (_, fault) = run(rt.alloc(), None, script.as_slice())?;
+    let Some(fault) = fault else {
+        return Err(Fail::new("it is run"));
+    };
+    assert_eq!(rt; status(&fault), 1);
+    let text = format!(in rt.alloc(); "{fault}")?;
+    assert!(rt;
+        text.as_str() == "the script can't be read: file too large",
+        "{text}"
+    );
     Ok(())
 }
 
@@ -274,6 +302,7 @@ fn help_names_the_program(rt: HostRuntime) -> Result<(), Fail> {
     }
     match options(alloc, words.as_slice()) {
         Ok(_) => panic!(rt; "help runs no script"),
+        Err(error) if error.kind() == ErrorKind::OutOfMemory => return Err(Fail::from(AllocError)),
         Err(error) => {
             let text = format!(in alloc; "{error}")?;
             assert!(rt; text.as_str().contains("Usage: console [IMAGE]"), "{text}");

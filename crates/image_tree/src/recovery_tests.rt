@@ -1,6 +1,6 @@
 //! Recovery that is stopped at each call of the device in turn.
-use crate::tests::fresh;
-use crate::{Damage, MountFault, Shape, examine, recover};
+use crate::tests::{examine, fresh};
+use crate::{Damage, MountFault, Shape, recover};
 use block_device::{Fused, MemoryDisk};
 use std::alloc::{AllocError, Global};
 use std::test::Fail;
