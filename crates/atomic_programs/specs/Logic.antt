@@ -30,7 +30,7 @@ pub record Machine : Type 1 where
   pub Idle : ℕ → World → Type 0
   -- where this operation may wait
   pub MayWait : ℕ → Op → World → Type 0
-  -- the premise of the headline still holds
+  -- the premise under which one list of steps explains the run still holds
   pub Clean : World → Type 0
 
 abbrev pub P : Machine → Type 0 → Type 0

@@ -142,7 +142,7 @@ impl<D: Device> Cache<D> {
     }
 
     /// Gives a pinned buffer back with the bytes that the guard has: they are what its block is seen as from now on.
-    /// No other call changes what a block is seen as.
+    /// No other call changes what a block is seen as, but `write_uncached` for the block that it writes.
     pub fn release_changed(&mut self, guard: Guard<Buffer>)
         requires held { IsHeld self.old.seats guard }
         requires valid { IsSome guard.value.content }

@@ -112,14 +112,14 @@ impl<D: Device> Log<D> {
         self.members[hart as usize].is_none()
     }
 
-    /// Whether a transaction is one of this log's.
+    /// Whether the hart of a transaction is in a transaction of this log.
     pub fn is_member(&self, txn: &Txn) -> bool
         ensures { IsTrue result ↔ IsMember self.now.members txn.now }
     {
         is_member(&self.members, txn.hart() as usize)
     }
 
-    /// Whether a transaction may add another block to the group.
+    /// Whether the hart of a transaction is in one of this log that may add another block to the group.
     pub fn has_room(&self, txn: &Txn) -> bool
         ensures { IsTrue result ↔ HasRoom self.now.members txn.now }
     {

@@ -5,7 +5,8 @@ use std::marker::Model;
 
 /// A hart's transaction. A contract sees the hart.
 ///
-/// A transaction leaves the log, or is ended after its log has ended: code that lets one go doesn't compile.
+/// A transaction leaves a log, or is ended after a log has ended: code that lets one go doesn't compile. That the log is
+/// the one it joined isn't told.
 pub struct Txn {
     hart: u8,
 }
@@ -45,7 +46,7 @@ impl Txn {
         hart
     }
 
-    /// Ends a transaction once its log has ended.
+    /// Ends a transaction once a log has ended.
     pub fn retire(self, _log: &RetiredLog) {
         let Txn { hart: _ } = self;
     }
