@@ -15,9 +15,6 @@ numbers_per_block = 256
 abbrev pub magic : ℕ
 magic = 0x10203040
 
-abbrev pub super_len : ℕ
-super_len = 32
-
 abbrev pub super_magic_at : ℕ
 super_magic_at = 0
 

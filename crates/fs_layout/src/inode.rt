@@ -10,16 +10,21 @@ use crate::widths::{
     INODE_NLINK_AT, INODE_SIZE_AT, INODES_PER_BLOCK,
 };
 
-/// An inode as it stands on the disk. Any 64 bytes are one: whether its kind (0 free, 1 directory,
-/// 2 file, 3 device) and its count are right is for the examination of an image to say. A block
-/// number 0 is none; the last is that of the indirect block.
+/// An inode as it stands on the disk. Any 64 bytes are one: whether its fields are right, as a well-formed image has
+/// them, is for the examination of an image to say.
 #[derive(Clone, Copy, PartialEq, Eq, Debug)]
 pub struct Dinode {
+    /// Its type: 0 free, 1 directory, 2 file, 3 device.
     pub kind: i16,
+    /// The major number of a device.
     pub major: i16,
+    /// The minor number of a device.
     pub minor: i16,
+    /// How many names it has: of a node in a well-formed image not below 0.
     pub nlink: i16,
+    /// Its size in bytes: of a node in a well-formed image at most 274,432.
     pub size: u32,
+    /// The numbers of its first 12 blocks, then that of its indirect block. A number 0 is none.
     pub addrs: [u32; ADDRESSES],
 }
 

@@ -10,16 +10,23 @@ use crate::widths::{
     SUPER_MAGIC_AT, SUPER_NBLOCKS_AT, SUPER_NINODES_AT, SUPER_NLOG_AT, SUPER_SIZE_AT,
 };
 
-/// Where the parts of a disk lie, in blocks, and how many inodes it has. Any values are one: whether
-/// they fit together is for the examination of an image to say.
+/// Where the parts of a disk lie, by block numbers, and how many inodes it has. Any values are one: whether they fit
+/// together, as a well-formed image has them, is for the examination of an image to say.
 #[derive(Clone, Copy, PartialEq, Eq, Debug)]
 pub struct Super {
+    /// How many blocks the disk has: at most 8191 in a well-formed image.
     pub size: u32,
+    /// How many of them are data blocks. An examination doesn't look at it.
     pub nblocks: u32,
+    /// How many inodes there are, with inode 0, which is never used: from 2 to 65,535 in a well-formed image.
     pub ninodes: u32,
+    /// How many blocks the log has, its head and the copies: at least 11 in a well-formed image.
     pub nlog: u32,
+    /// The block of the log's head. The copies follow it.
     pub logstart: u32,
+    /// The first block of inodes.
     pub inodestart: u32,
+    /// The block of the bitmap. The data blocks follow it.
     pub bmapstart: u32,
 }
 

@@ -164,14 +164,3 @@ fn numbers_of_an_indirect_block(rt: HostRuntime) {
     assert_eq!(rt; &block[..8], [48, 0, 0, 0, 0, 0, 0, 0].as_slice());
     assert_eq!(rt; read_number(&block, 0), 48);
 }
-
-#[test]
-fn laws(rt: HostRuntime) {
-    super_spelling();
-    dinode_spelling();
-    dirent_spelling();
-    log_head_spelling();
-    numbers_spelling();
-    recovered_blocks();
-    assert!(rt; true);
-}

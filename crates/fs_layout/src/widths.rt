@@ -19,26 +19,34 @@ pub const BITS_PER_BLOCK: usize = 8192;
 /// The number that a superblock begins with.
 pub const MAGIC: u32 = 0x1020_3040;
 
-/// A superblock.
+/// A superblock: its magic number and seven fields, each a u32. Each place below is one of block 1.
 pub const SUPER_LEN: usize = 32;
 
+/// Where the magic number stands.
 pub const SUPER_MAGIC_AT: usize = 0;
 
+/// Where the size of the disk stands, in blocks.
 pub const SUPER_SIZE_AT: usize = 4;
 
+/// Where the number of data blocks stands.
 pub const SUPER_NBLOCKS_AT: usize = 8;
 
+/// Where the number of inodes stands.
 pub const SUPER_NINODES_AT: usize = 12;
 
+/// Where the number of the log's blocks stands, its head among them.
 pub const SUPER_NLOG_AT: usize = 16;
 
+/// Where the number of the log's first block stands.
 pub const SUPER_LOGSTART_AT: usize = 20;
 
+/// Where the number of the first inode block stands.
 pub const SUPER_INODESTART_AT: usize = 24;
 
+/// Where the number of the bitmap block stands.
 pub const SUPER_BMAPSTART_AT: usize = 28;
 
-/// An inode.
+/// An inode. Its kind, an i16, stands at its start; each place below counts from there.
 pub const INODE_LEN: usize = 64;
 
 /// How many inodes a block has.
@@ -47,14 +55,19 @@ pub const INODES_PER_BLOCK: usize = 16;
 /// How many block numbers stand in an inode: 12 direct ones and that of an indirect block.
 pub const ADDRESSES: usize = 13;
 
+/// Where the major number of a device stands, an i16.
 pub const INODE_MAJOR_AT: usize = 2;
 
+/// Where the minor number of a device stands, an i16.
 pub const INODE_MINOR_AT: usize = 4;
 
+/// Where the count of names stands, an i16.
 pub const INODE_NLINK_AT: usize = 6;
 
+/// Where the size in bytes stands, a u32.
 pub const INODE_SIZE_AT: usize = 8;
 
+/// Where the 13 block numbers begin, each a u32.
 pub const INODE_ADDRESSES_AT: usize = 12;
 
 /// A directory entry.
@@ -72,8 +85,8 @@ pub const NAME_LEN: usize = 14;
 /// How many blocks a log's head can name.
 pub const LOG_HEAD_LEN: usize = 255;
 
-/// How many they are.
+/// Where a log's head says how many blocks it names, a u32.
 pub const LOG_HEAD_COUNT_AT: usize = 0;
 
-/// Where the numbers begin.
+/// Where their numbers begin in it, each a u32.
 pub const LOG_HEAD_NUMBERS_AT: usize = 4;
