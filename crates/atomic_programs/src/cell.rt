@@ -337,11 +337,22 @@ pub fn run(world: &mut World, events: &[Event])
 #[cfg(test)]
 mod tests {
     use super::*;
+    use std::process::Abort;
+
+    // A world, made once more where memory was refused.
+    fn world(rt: &impl Abort, alloc: Global, count: u32, fuse: u32) -> World
+        ensures { HasEight result }
+    {
+        match World::new(alloc, count, fuse) {
+            Ok(world) => world,
+            Err(AllocError) => World::new(alloc, count, fuse).expect(rt, "memory the second time"),
+        }
+    }
 
     /// Two harts meet: one waits, and sees what the other put in; then the device fails.
     #[test]
     fn two_harts_meet(rt: HostRuntime) {
-        let mut world = World::new(rt.alloc(), 5, 1).expect(&rt, "memory");
+        let mut world = world(&rt, rt.alloc(), 5, 1);
         let events = [
             Event::Start(0, Call::Swap(7)),
             Event::Step(0),

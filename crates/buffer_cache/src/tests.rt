@@ -1,9 +1,13 @@
 // Which buffers are taken anew, what a fault leaves, and that there always is a buffer.
+ghost use Rattle.std.specs.Prelude.{◌≡◌};
+ghost use Rattle.buffer_cache.specs.Seats.{unused_from};
+
 use crate::{BUFFERS, BUFFERS_OF_A_HART, Buffers, Cache, Got, HARTS, MOST_PINNED};
 use block_device::{BLOCK_SIZE, Device, Fused, MemoryDisk};
 use sleep_lock::Guard;
 use std::alloc::{AllocError, Global};
 use std::process::Abort;
+use std::test::Fail;
 
 const BLOCKS: u32 = 60;
 
@@ -16,6 +20,16 @@ fn numbered(alloc: Global) -> Result<MemoryDisk, AllocError> {
         }
     }
     Ok(MemoryDisk::new(bytes))
+}
+
+// The buffers, asked for once more where memory was refused.
+fn buffers(rt: &impl Abort, alloc: Global) -> Buffers
+    ensures { result ≡ unused_from 0 BUFFERS }
+{
+    match Buffers::new(alloc) {
+        Ok(buffers) => buffers,
+        Err(AllocError) => Buffers::new(alloc).expect(rt, "memory the second time"),
+    }
 }
 
 // Gets a block, fills it if it isn't valid, and gives it back: was it valid?
@@ -37,10 +51,10 @@ fn touch<D: Device>(rt: &impl Abort, cache: &mut Cache<D>, hart: u8, b: u32) -> 
 }
 
 #[test]
-fn the_least_recent_is_taken(rt: HostRuntime) {
+fn the_least_recent_is_taken(rt: HostRuntime) -> Result<(), Fail> {
     for (pin, taken) in [(None, 1), (Some(1), 2)] {
-        let buffers = Buffers::new(rt.alloc()).expect(&rt, "memory");
-        let mut cache = Cache::new(buffers, numbered(rt.alloc()).expect(&rt, "memory"));
+        let disk = numbered(rt.alloc())?;
+        let mut cache = Cache::new(buffers(&rt, rt.alloc()), disk);
         for b in 0..BUFFERS as u32 {
             assert!(rt; !touch(&rt, &mut cache, 0, b));
         }
@@ -55,16 +69,16 @@ fn the_least_recent_is_taken(rt: HostRuntime) {
         }
         let _ = cache.retire();
     }
+    Ok(())
 }
 
 // The device fails at each call in turn: the guard isn't valid then, the rest is as it was, and the cache ends with
 // the guard out.
 #[test]
-fn a_fault_leaves_the_guard(rt: HostRuntime) {
+fn a_fault_leaves_the_guard(rt: HostRuntime) -> Result<(), Fail> {
     for calls in 0..6 {
-        let buffers = Buffers::new(rt.alloc()).expect(&rt, "memory");
-        let disk = Fused::new(numbered(rt.alloc()).expect(&rt, "memory"), calls as u64);
-        let mut cache = Cache::new(buffers, disk);
+        let disk = Fused::new(numbered(rt.alloc())?, calls as u64);
+        let mut cache = Cache::new(buffers(&rt, rt.alloc()), disk);
         for b in 0..calls {
             assert!(rt; !touch(&rt, &mut cache, 1, b));
         }
@@ -86,19 +100,20 @@ fn a_fault_leaves_the_guard(rt: HostRuntime) {
             }
         }
     }
+    Ok(())
 }
 
 // Thirty buffers pinned and fifteen out, and one more asked; a block that is out waits.
 #[test]
-fn there_is_one_more(rt: HostRuntime) {
-    let buffers = Buffers::new(rt.alloc()).expect(&rt, "memory");
-    let mut cache = Cache::new(buffers, numbered(rt.alloc()).expect(&rt, "memory"));
+fn there_is_one_more(rt: HostRuntime) -> Result<(), Fail> {
+    let disk = numbered(rt.alloc())?;
+    let mut guards = Vec::with_capacity(rt.alloc(), 16)?;
+    let mut cache = Cache::new(buffers(&rt, rt.alloc()), disk);
     for b in 0..MOST_PINNED as u32 {
         assert!(rt; !touch(&rt, &mut cache, 0, b));
         assert!(rt; cache.is_cached(b) && cache.pinned() < MOST_PINNED);
         cache.pin(b);
     }
-    let mut guards = Vec::with_capacity(rt.alloc(), 16).expect(&rt, "memory");
     for n in 0..16 {
         let hart = (n / 2) as u8;
         let b = MOST_PINNED as u32 + n;
@@ -121,12 +136,13 @@ fn there_is_one_more(rt: HostRuntime) {
         guard.retire_in_row(&retired);
     }
     guards.destroy_empty();
+    Ok(())
 }
 
 #[test]
-fn what_is_recorded_is_seen_and_comes_home(rt: HostRuntime) {
-    let buffers = Buffers::new(rt.alloc()).expect(&rt, "memory");
-    let mut cache = Cache::new(buffers, numbered(rt.alloc()).expect(&rt, "memory"));
+fn what_is_recorded_is_seen_and_comes_home(rt: HostRuntime) -> Result<(), Fail> {
+    let disk = numbered(rt.alloc())?;
+    let mut cache = Cache::new(buffers(&rt, rt.alloc()), disk);
     assert!(rt; !touch(&rt, &mut cache, 2, 9));
     assert!(rt; cache.is_cached(9) && cache.pinned() < MOST_PINNED);
     cache.pin(9);
@@ -168,4 +184,5 @@ fn what_is_recorded_is_seen_and_comes_home(rt: HostRuntime) {
         assert!(rt; disk.read(b, &mut bytes).is_ok());
         assert_eq!(rt; bytes[7], byte);
     }
+    Ok(())
 }
