@@ -3,19 +3,41 @@ ghost use Rattle.sleep_lock.specs.Row.{IsNumbered};
 
 use crate::{Slot, Slots};
 use std::alloc::{AllocError, Global};
+use std::process::Abort;
+use std::test::Fail;
 
 const ROW: u32 = 50;
 
-// Fifty numbers on the heap, in a row of slots.
-fn fifty(alloc: Global) -> Result<Slots<Box<u64>>, AllocError>
-    ensures count { IfOk result (λ slots. length slots ≡ 50) }
-    ensures numbered { IfOk result (λ slots. IsNumbered slots) }
+// A number on the heap.
+fn boxed(alloc: Global, number: u64) -> Result<Box<u64>, AllocError>
+    ensures { IfOk result (λ boxed. boxed.value ≡ number) }
+{
+    Ok(Box::new(alloc, number)?)
+}
+
+// Fifty numbers on the heap.
+fn fifty(alloc: Global) -> Result<Vec<Box<u64>>, AllocError>
+    ensures { IfOk result (λ values. length values.items ≡ 50) }
 {
     let mut values = Vec::new(alloc);
     for number in 0..ROW as u64 {
-        values.push(Box::new(alloc, 100 + number)?)?;
+        values.push(boxed(alloc, 100 + number)?)?;
     }
-    Slots::new(alloc, values)
+    Ok(values)
+}
+
+// A row of slots with these numbers, made once more where memory was refused. An error is of the numbers.
+fn row_of_fifty(rt: &impl Abort, alloc: Global) -> Result<Slots<Box<u64>>, AllocError>
+    ensures count { IfOk result (λ slots. length slots ≡ 50) }
+    ensures numbered { IfOk result (λ slots. IsNumbered slots) }
+{
+    match Slots::new(alloc, fifty(alloc)?) {
+        Ok(slots) => Ok(slots),
+        Err(AllocError) => {
+            let values = fifty(alloc)?;
+            Ok(Slots::new(alloc, values).expect(rt, "memory the second time"))
+        }
+    }
 }
 
 #[test]
@@ -34,8 +56,8 @@ fn a_slot_gives_and_takes_back(rt: HostRuntime) {
 }
 
 #[test]
-fn a_boxed_value_is_moved(rt: HostRuntime) {
-    let mut slot = Slot::new(0, Box::new(rt.alloc(), 40u64).expect(&rt, "memory"));
+fn a_boxed_value_is_moved(rt: HostRuntime) -> Result<(), Fail> {
+    let mut slot = Slot::new(0, boxed(rt.alloc(), 40)?);
     let mut guard = slot.try_take(3).expect(&rt, "a new slot is not out");
     **guard.value_mut() += 1;
     if let Some(_guard) = slot.try_take(4) {
@@ -46,11 +68,12 @@ fn a_boxed_value_is_moved(rt: HostRuntime) {
     assert_eq!(rt; (guard.number(), guard.hart(), **guard.value()), (0, 4, 41));
     let ended = slot.retire();
     guard.retire(&ended);
+    Ok(())
 }
 
 #[test]
-fn a_row_of_fifty_ends_with_three_out(rt: HostRuntime) {
-    let mut row = fifty(rt.alloc()).expect(&rt, "memory for fifty numbers");
+fn a_row_of_fifty_ends_with_three_out(rt: HostRuntime) -> Result<(), Fail> {
+    let mut row = row_of_fifty(&rt, rt.alloc())?;
     assert_eq!(rt; row.len(), ROW as usize);
     for number in 0..ROW {
         let guard = row.lock(1, number).expect(&rt, "nothing is out");
@@ -81,4 +104,5 @@ fn a_row_of_fifty_ends_with_three_out(rt: HostRuntime) {
     first.retire_in_row(&ended);
     middle.retire_in_row(&ended);
     last.retire_in_row(&ended);
+    Ok(())
 }
