@@ -10,6 +10,7 @@ use buffer_cache::{BUFFERS_OF_A_HART, Buffers, Cache, Got, HARTS};
 use fs_layout::{Super, read_log_head, read_super, write_super};
 use std::alloc::{AllocError, Global};
 use std::process::Abort;
+use std::test::Fail;
 
 // Where the parts of the fresh image lie.
 const FRESH: Super = Super {
@@ -26,16 +27,17 @@ const FRESH: Super = Super {
 const BLOCKS: usize = 64;
 
 // A disk of zeros with such a superblock.
-fn disk(rt: &impl Abort, alloc: Global, sizes: &Super) -> MemoryDisk {
-    let mut disk = MemoryDisk::new(vec![in alloc; 0u8; BLOCKS * BLOCK_SIZE].expect(rt, "memory"));
+fn disk(rt: &impl Abort, alloc: Global, sizes: &Super) -> Result<MemoryDisk, AllocError> {
+    let mut disk = MemoryDisk::new(vec![in alloc; 0u8; BLOCKS * BLOCK_SIZE]?);
     let mut block = [0; BLOCK_SIZE];
     write_super(&mut block, sizes);
     assert!(rt; 1 < disk.blocks());
     assert_eq!(rt; disk.write(1, &block), Ok(()));
-    disk
+    Ok(disk)
 }
 
 // A disk that keeps the numbers of the blocks that were written, in order.
+#[derive(Drop)]
 struct Watched {
     disk: Fused,
     writes: ArrayVec<u32, 64>,
@@ -135,13 +137,12 @@ fn parts<D: Device>(device: &mut D) -> Result<Super, Fault>
     Ok(sizes)
 }
 
-fn open<D: Device>(rt: &impl Abort, alloc: Global, device: D) -> Log<D> {
+// A log over fresh buffers, on a disk whose log is empty. An error is of the buffers.
+fn open<D: Device + Drop>(rt: &impl Abort, alloc: Global, device: D) -> Result<Log<D>, AllocError> {
     let mut device = device;
+    let buffers = Buffers::new(alloc)?;
     let sizes = parts(&mut device).expect(rt, "the log is empty");
-    Log::new(
-        Cache::new(Buffers::new(alloc).expect(rt, "memory"), device),
-        sizes,
-    )
+    Ok(Log::new(Cache::new(buffers, device), sizes))
 }
 
 fn join<D: Device>(rt: &impl Abort, log: &mut Log<D>, hart: u8) -> Option<Txn> {
@@ -206,12 +207,12 @@ fn commit<D: Device>(rt: &impl Abort, log: &mut Log<D>, hart: u8) -> (u64, Progr
 }
 
 #[test]
-fn a_commit_writes_in_order(rt: HostRuntime) {
+fn a_commit_writes_in_order(rt: HostRuntime) -> Result<(), Fail> {
     let disk = Watched {
-        disk: Fused::new(disk(&rt, rt.alloc(), &FRESH), u64::MAX),
+        disk: Fused::new(disk(&rt, rt.alloc(), &FRESH)?, u64::MAX),
         writes: ArrayVec::new(),
     };
-    let mut log = open(&rt, rt.alloc(), disk);
+    let mut log = open(&rt, rt.alloc(), disk)?;
     let mut txn = join(&rt, &mut log, 0).expect(&rt, "there is room");
     for (b, byte) in [(48, 1), (46, 2), (48, 3)] {
         assert_eq!(rt; change(&rt, &mut log, &mut txn, b, byte), Ok(()));
@@ -230,13 +231,14 @@ fn a_commit_writes_in_order(rt: HostRuntime) {
     for (b, byte) in [(46usize, 2), (48, 3), (3, 3), (4, 2), (2, 0)] {
         assert_eq!(rt; bytes.get(b * BLOCK_SIZE).copied(), Some(byte), "block {b}");
     }
+    Ok(())
 }
 
 #[test]
-fn a_join_waits_for_room(rt: HostRuntime) {
+fn a_join_waits_for_room(rt: HostRuntime) -> Result<(), Fail> {
     for (nlog, third) in [(31, true), (30, false)] {
         let sizes = Super { nlog, ..FRESH };
-        let mut log = open(&rt, rt.alloc(), disk(&rt, rt.alloc(), &sizes));
+        let mut log = open(&rt, rt.alloc(), disk(&rt, rt.alloc(), &sizes)?)?;
         let first = join(&rt, &mut log, 0).expect(&rt, "there is room");
         let second = join(&rt, &mut log, 1).expect(&rt, "there is room");
         match join(&rt, &mut log, 2) {
@@ -251,11 +253,12 @@ fn a_join_waits_for_room(rt: HostRuntime) {
         assert_eq!(rt; leave(&rt, &mut log, second), Left::Free);
         let _ = log.retire();
     }
+    Ok(())
 }
 
 #[test]
-fn a_join_counts_what_was_recorded(rt: HostRuntime) {
-    let mut log = open(&rt, rt.alloc(), disk(&rt, rt.alloc(), &FRESH));
+fn a_join_counts_what_was_recorded(rt: HostRuntime) -> Result<(), Fail> {
+    let mut log = open(&rt, rt.alloc(), disk(&rt, rt.alloc(), &FRESH)?)?;
     let mut first = join(&rt, &mut log, 0).expect(&rt, "there is room");
     for b in 47..57 {
         assert_eq!(rt; change(&rt, &mut log, &mut first, b, 1), Ok(()));
@@ -271,6 +274,7 @@ fn a_join_counts_what_was_recorded(rt: HostRuntime) {
     let again = join(&rt, &mut log, 2).expect(&rt, "nothing is recorded");
     assert_eq!(rt; leave(&rt, &mut log, again), Left::Free);
     let _ = log.retire();
+    Ok(())
 }
 
 // What recovery would make of the block's first byte, where the log has copies of 48 and those behind it.
@@ -290,13 +294,10 @@ fn recovered_byte(rt: &impl Abort, bytes: &Vec<u8>, b: usize) -> u8 {
 // Two calls read the superblock and the head, and three the blocks. Then the device fails at each write of the commit
 // in turn: three copies, the head, three copies home, the empty head.
 #[test]
-fn a_group_is_there_whole_or_not_at_all(rt: HostRuntime) {
+fn a_group_is_there_whole_or_not_at_all(rt: HostRuntime) -> Result<(), Fail> {
     for writes in 0..9u64 {
-        let mut log = open(
-            &rt,
-            rt.alloc(),
-            Fused::new(disk(&rt, rt.alloc(), &FRESH), 5 + writes),
-        );
+        let disk = Fused::new(disk(&rt, rt.alloc(), &FRESH)?, 5 + writes);
+        let mut log = open(&rt, rt.alloc(), disk)?;
         let mut txn = join(&rt, &mut log, 7).expect(&rt, "there is room");
         for b in 48..51 {
             assert_eq!(rt; change(&rt, &mut log, &mut txn, b, 9), Ok(()));
@@ -323,11 +324,12 @@ fn a_group_is_there_whole_or_not_at_all(rt: HostRuntime) {
             );
         }
     }
+    Ok(())
 }
 
 #[test]
-fn harts_join_and_leave_for_a_hundred_commits(rt: HostRuntime) {
-    let mut log = open(&rt, rt.alloc(), disk(&rt, rt.alloc(), &FRESH));
+fn harts_join_and_leave_for_a_hundred_commits(rt: HostRuntime) -> Result<(), Fail> {
+    let mut log = open(&rt, rt.alloc(), disk(&rt, rt.alloc(), &FRESH)?)?;
     for round in 0..100u8 {
         let (one, other) = (round % HARTS, (round + 1) % HARTS);
         let mut first = join(&rt, &mut log, one).expect(&rt, "there is room");
@@ -355,11 +357,12 @@ fn harts_join_and_leave_for_a_hundred_commits(rt: HostRuntime) {
             );
         }
     }
+    Ok(())
 }
 
 #[test]
-fn a_log_ends_at_any_moment(rt: HostRuntime) {
-    let mut log = open(&rt, rt.alloc(), disk(&rt, rt.alloc(), &FRESH));
+fn a_log_ends_at_any_moment(rt: HostRuntime) -> Result<(), Fail> {
+    let mut log = open(&rt, rt.alloc(), disk(&rt, rt.alloc(), &FRESH)?)?;
     let mut txn = join(&rt, &mut log, 3).expect(&rt, "there is room");
     assert_eq!(rt; change(&rt, &mut log, &mut txn, 48, 1), Ok(()));
     assert!(rt; log.held_by(3) < BUFFERS_OF_A_HART && log.is_outside(48));
@@ -373,4 +376,5 @@ fn a_log_ends_at_any_moment(rt: HostRuntime) {
             assert_eq!(rt; disk.into_bytes().get(48 * BLOCK_SIZE).copied(), Some(0));
         }
     }
+    Ok(())
 }
