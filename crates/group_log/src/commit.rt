@@ -69,9 +69,10 @@ pub(crate) fn write_next<D: Device>(
     }
 }
 
-/// In a sound cache no block has two buffers.
-pub(crate) fn has_each_once<D: Device>(cache: &Cache<D>)
+/// Shows that in a sound cache no block has two buffers.
+pub(crate) fn show_each_once<D: Device>(cache: &Cache<D>)
     ensures { (b : ℕ) → count_of (has_block b) cache.now.seats ≤ 1 }
 {
+    // With the device comes that the cache is sound.
     let _ = cache.device();
 }

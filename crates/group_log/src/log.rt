@@ -9,7 +9,7 @@ ghost use Rattle.group_log.specs.Waiting.{progress_at, left_at};
 ghost use Rattle.buffer_cache.specs.Lists.{count_of};
 ghost use Rattle.buffer_cache.specs.Seats.{is_held_by, holder_of, IsHeld, KeepsHeld, KeepsOthers, with_seat, with_content, with_pin, given_back, unused_from};
 
-use crate::commit::{Progress, has_each_once, write_next};
+use crate::commit::{Progress, show_each_once, write_next};
 use crate::copies::Written;
 use crate::limits::{BLOCKS_OF_A_TRANSACTION, MOST_LOGGED, PLACES, SUPER_BLOCK};
 use crate::members::{add, contains, has_room, is_member, outstanding};
@@ -86,7 +86,6 @@ impl<D: Device> Log<D> {
         ensures device { result.now ≡ self.now.cache.device }
         ensures sound { IsSoundLog (D.contents self.now.cache.device) self.now.cache.seats self.now.sizes self.now.group self.now.members self.now.phase }
     {
-        let _ = &self.phase;
         self.cache.device()
     }
 
@@ -191,7 +190,7 @@ impl<D: Device> Log<D> {
         ensures seen { (k : ℕ) → seen D.contents self.new.cache k
             ≡ (if k == guard.value.block then unwrap_or guard.value.content [] else seen D.contents self.old.cache k) }
     {
-        has_each_once(&self.cache);
+        show_each_once(&self.cache);
         let b = guard.value().block();
         add(&mut self.group, &mut self.members, txn.hart() as usize, b);
         self.cache.pin(b);
@@ -262,7 +261,7 @@ impl<D: Device> Log<D> {
         ensures others { KeepsHeld self.old.cache.seats self.new.cache.seats }
         ensures seen { (b : ℕ) → IsOutsideLog self.old.sizes b → seen D.contents self.new.cache b ≡ seen D.contents self.old.cache b }
     {
-        has_each_once(&self.cache);
+        show_each_once(&self.cache);
         match write_next(&mut self.cache, hart, &self.sizes, &self.group, self.phase) {
             Written::Waits => Progress::Waits,
             Written::Failed => {
@@ -330,7 +329,7 @@ impl<D: Device> Log<D> {
         ensures rest { self.new ≡ record self.old { cache = record self.old.cache { seats = self.new.cache.seats } } }
         ensures seen { (k : ℕ) → seen D.contents self.new.cache k ≡ seen D.contents self.old.cache k }
     {
-        has_each_once(&self.cache);
+        show_each_once(&self.cache);
         self.cache.release(guard);
     }
 

@@ -21,7 +21,7 @@ invariant_of-self-in-Done g c =
     let l = c.self.inside in
     let begun : (l.phase ≢ Open) × (l.phase ≢ Halted) = subst (λ v. (v.phase ≢ Open) × (v.phase ≢ Halted)) (sym c.self.view_is) c.requires.begun in
     done_good (g.D.Device.contents l.cache.device) (g.D.Device.contents c.write_next.new.cache.device) l.cache.seats c.write_next.new.cache.seats l.sizes l.group.items c.deref.result.now l.members l.phase
-    c.self.invariant begun c.deref.ensures.0 c.clear_when_open.new.group.items c.after-phase.result c.len.result c.has_each_once.ensures c.in-Done.ensures.writes c.in-Done.ensures.seats c.in-Done.ensures.seen c.len.ensures.value c.after-phase.ensures c.clear_when_open.ensures
+    c.self.invariant begun c.deref.ensures.0 c.clear_when_open.new.group.items c.after-phase.result c.len.result c.show_each_once.ensures c.in-Done.ensures.writes c.in-Done.ensures.seats c.in-Done.ensures.seen c.len.ensures.value c.after-phase.ensures c.clear_when_open.ensures
 
 pub returns-in-Failed-clause-kept : goal.returns-in-Failed-clause-kept
 returns-in-Failed-clause-kept g c =

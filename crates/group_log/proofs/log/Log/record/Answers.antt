@@ -68,7 +68,7 @@ invariant_of-self g c =
     let has_room : has l.group.items c.args.guard.value.block ≡ false → HasRoom l.members c.args.txn.now = subst (λ v. has v.group c.args.guard.value.block ≡ false → HasRoom v.members c.args.txn.now) (sym c.self.view_is) c.requires.room in
     subst (λ (p : Phase). IsSoundLog (g.D.Device.contents c.release_changed.new.self.device) c.release_changed.new.self.seats l.sizes c.add.new.group.items c.add.new.members p) (sym is_open)
     (recorded_all d (g.D.Device.contents c.pin.new.self.device) (g.D.Device.contents c.release_changed.new.self.device) l.cache.seats c.pin.new.self.seats c.release_changed.new.self.seats l.sizes l.group.items c.add.new.group.items l.members c.add.new.members c.block-b.result c.args.txn.now c.hart.result c.args.guard
-    c.has_each_once.ensures sound held c.requires.valid has_room home b c.hart.ensures c.add.ensures.group c.add.ensures.members
+    c.show_each_once.ensures sound held c.requires.valid has_room home b c.hart.ensures c.add.ensures.group c.add.ensures.members
     (ap g.D.Device.contents c.pin.ensures.device) c.pin.ensures.seats c.pin.ensures.seen
     (ap g.D.Device.contents c.release_changed.ensures.device) c.release_changed.ensures.seats c.release_changed.ensures.seen)
 

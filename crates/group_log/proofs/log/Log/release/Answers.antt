@@ -10,5 +10,5 @@ invariant_of-self g c =
     let b = c.args.guard.value.block in
     let out : IsOutsideLog l.sizes b = subst (λ v. IsOutsideLog v.sizes b) (sym c.self.view_is) c.requires.outside in
     sound_kept (g.D.Device.contents l.cache.device) (g.D.Device.contents c.release.new.self.device) l.cache.seats c.release.new.self.seats l.sizes l.group.items l.members l.phase b
-    c.self.invariant (subst (λ (s : List SeatState). Kept b l.cache.seats s) (sym c.release.ensures.seats) (kept_back b l.cache.seats (c.has_each_once.ensures b)))
+    c.self.invariant (subst (λ (s : List SeatState). Kept b l.cache.seats s) (sym c.release.ensures.seats) (kept_back b l.cache.seats (c.show_each_once.ensures b)))
     out (ap g.D.Device.contents c.release.ensures.device) c.release.ensures.seen
