@@ -2,7 +2,7 @@
 use Rattle.std.proofs.Common.{◌≡◌, ℕ, zero, suc, ◌+◌, ◌-◌, ◌*◌, ◌/◌, ◌%◌, ◌^◌, ◌<◌, ◌≤◌, pos, List, [], ◌∷◌, ◌++◌, length, take, drop, map, replicate, get_or, Some, refl, sym, ap, subst, ◌∙◌, arith}
 use Rattle.std.specs.List.{All}
 use Rattle.std.proofs.Math.Seq.{take-add}
-use Rattle.std.proofs.lemmas.List.{take_all, take_at, take-take, map_more, get_or-map, length-map}
+use Rattle.std.proofs.lemmas.List.{take_all, take_at, take-take, map_more, length-map}
 use Rattle.fs_layout.specs.declared.inode.Dinode.{Dinode}
 use Rattle.fs_layout.specs.declared.entry.Dirent.{Dirent}
 use Rattle.fs_layout.specs.declared.entry.Dirent.TheVariants.{Free}
@@ -10,13 +10,14 @@ use Rattle.fs_layout.specs.declared.superblock.Super.{Super}
 use Rattle.fs_layout.specs.Name.{IsName}
 use Rattle.fs_layout.specs.Entry.{dirent_at}
 use Rattle.fs_layout.specs.Recovered.{sizes_of}
-use Rattle.image_tree.specs.Inodes.{inode_of, content_block, front_blocks, content_of, slot_at, first_slots, slots_of}
-use Rattle.mkfs.specs.Layout.{blocks_for, root_size, data_start}
-use Rattle.mkfs.specs.Image.{Node, padded, whole, inode_for, inodes_from, root_content, root_node, file_node, nodes_with, blocks_of_node}
+use Rattle.image_tree.specs.Inodes.{inode_of, content_block, front_blocks, content_of, slot_at, first_slots, slots_of, blocks_for}
+use Rattle.mkfs.specs.Layout.{root_size, data_start}
+use Rattle.mkfs.specs.Image.{Node, padded, whole, inode_for, root_content, root_node, file_node, nodes_with, blocks_before}
 use Rattle.mkfs.specs.Refusals.{CanBeMade, HasGoodNames}
 use Rattle.mkfs.proofs.Wanted.{root_long}
 use Rattle.mkfs.proofs.RootBytes.{all_entries, good-entries, length-all, root-bytes, entry-there}
 use Rattle.mkfs.proofs.Shown.{Shows, free_inode}
+use Rattle.mkfs.proofs.ShownInodes.{inode-shown, file-at}
 
 -- ---- inodes
 
@@ -26,16 +27,15 @@ pub record IsInodeOf (d : Dinode) (node : Node) : Type 0 where
   pub count : d.nlink ≡ pos 1
   pub size : d.size ≡ length node.content
 
-inode-at : (first : ℕ) (nodes : List Node) (j : ℕ) (d : Dinode) (n : Node) → j < length nodes → IsInodeOf (get_or (inodes_from first nodes) j d) (get_or nodes j n)
+has-fields : (first : ℕ) (node : Node) → IsInodeOf (inode_for first node) node
 unfolding inode_for
-inode-at first [] j d n l = absurd (omega arith)
-inode-at first (node ∷ nodes) zero d n l = record { kind = refl; count = refl; size = refl }
-inode-at first (node ∷ nodes) (suc j) d n l = inode-at (first + blocks_of_node node) nodes j d n (omega arith)
+has-fields first node = record { kind = refl; count = refl; size = refl }
 
 shown-inode : (disk : List (List ℕ)) (size ninodes : ℕ) (nodes : List Node) (j : ℕ) (n : Node) → Shows disk size ninodes nodes → j < length nodes
     → IsInodeOf (inode_of disk (j + 1)) (get_or nodes j n)
 shown-inode disk size ninodes nodes j n h l =
-    subst (λ (d : Dinode). IsInodeOf d (get_or nodes j n)) (sym (h.inode j free_inode l)) (inode-at (data_start ninodes) nodes j free_inode n l)
+    let node : Node = get_or nodes j n in
+    subst (λ (d : Dinode). IsInodeOf d node) (sym (inode-shown disk size ninodes nodes j n h l)) (has-fields (data_start ninodes + blocks_before j nodes) node)
 
 -- ---- a file's bytes
 
@@ -122,13 +122,12 @@ pub shown_files : (disk : List (List ℕ)) (size ninodes : ℕ) (names contents 
 shown_files disk size ninodes names contents h many can =
     let nodes : List Node = nodes_with (root_content names) contents in
     let none : Node = root_node [] in
-    let no_bytes : List ℕ = [] in
     let long : length (map file_node contents) ≡ length contents = length-map contents file_node in
     let few : 2 + length names < 2 ^ 16 = omega (arith, many, can.0.0.1.few) in
     let each : All IsName names = λ i d l. (can.0.0.0.1.each i d l).0 in
     let root : IsInodeOf (inode_of disk 1) (root_node (root_content names)) = shown-inode disk size ninodes nodes 0 none h (omega arith) in
     let size_is = root_long size ninodes names contents many can ∙ ap root_size (sym many) in
-    let is : (j : ℕ) → j < length contents → get_or nodes (suc j) none ≡ file_node (get_or contents j []) = λ j l. get_or-map file_node contents j no_bytes none l in
+    let is : (j : ℕ) → j < length contents → get_or nodes (suc j) none ≡ file_node (get_or contents j []) = λ j l. file-at contents j none (omega arith) in
     let place : (j : ℕ) → suc j + 1 ≡ j + 2 = λ j. omega arith in
     let file : (j : ℕ) → j < length contents → IsInodeOf (inode_of disk (j + 2)) (file_node (get_or contents j [])) =
     λ j l.

@@ -9,7 +9,7 @@ use Rattle.mkfs.specs.Layout.{data_start, inode_blocks}
 use Rattle.mkfs.specs.Image.{Node, front, inodes_from, inode_table, bitmap, data_from, used_by, image_with}
 use Rattle.mkfs.proofs.Lengths.{Fits, length-front, length-zeros, length-inodes}
 use Rattle.mkfs.proofs.Places.{disk_of, block-at}
-use Rattle.mkfs.proofs.Records.{piece}
+use Rattle.mkfs.proofs.Pieces.{part-of-part}
 use Rattle.mkfs.proofs.NodeInodes.{inode-at}
 use Rattle.mkfs.proofs.Shown.{free_inode}
 
@@ -59,10 +59,10 @@ free-there size ninodes nodes i n h low l =
     let q : ℕ = 33 + i / 16 in
     let r : ℕ = i % 16 in
     let image : List ℕ = image_with size ninodes nodes in
-    let small : r < 16 = omega arith in
+    let small : 64 * r + 64 ≤ 1024 = omega arith in
     let within : q < size = omega (arith, h.room) in
-    let place : 64 * (16 * q + r) ≡ 33792 + 64 * i = omega arith in
+    let place : 1024 * q + 64 * r ≡ 33792 + 64 * i = omega arith in
     inode-at size ninodes nodes i n h
     ∙ ap (λ (block : List ℕ). dinode_of (record_at 64 r block)) (block-at size ninodes nodes q h within)
-    ∙ ap dinode_of (piece image q r small ∙ ap (λ (m : ℕ). take 64 (drop m image)) place ∙ zeros-at size ninodes nodes i low l)
+    ∙ ap dinode_of (part-of-part image 64 (64 * r) 1024 (1024 * q) (33792 + 64 * i) small place ∙ zeros-at size ninodes nodes i low l)
     ∙ zero-inode

@@ -1,16 +1,11 @@
 -- The parts of an image, as they are appended.
-use Rattle.std.proofs.Common.{◌≡◌, ℕ, ◌+◌, ◌-◌, ◌*◌, ◌^◌, ◌<◌, ◌≢◌, suc, List, [], ◌∷◌, ◌++◌, length, map, replicate, sum_by, ap, ◌∙◌, sym, refl, arith, append_assoc, length-append}
-use Rattle.std.specs.List.{All, flat_map}
+use Rattle.std.proofs.Common.{◌≡◌, ℕ, ◌+◌, ◌-◌, ◌*◌, suc, List, [], ◌∷◌, ◌++◌, length, map, replicate, sum_by, ap, ◌∙◌, sym, refl, arith, append_assoc}
+use Rattle.std.specs.List.{flat_map}
 use Rattle.std.proofs.lemmas.List.Sums.{sum_by-cons}
-use Rattle.fs_layout.specs.declared.entry.Dirent.TheVariants.{Used}
-use Rattle.fs_layout.specs.Name.{IsName}
 use Rattle.fs_layout.specs.Inode.{spell_dinode}
-use Rattle.fs_layout.specs.Entry.{spell_dirent}
 use Rattle.fs_layout.specs.Super.{spell_super}
-use Rattle.fs_layout.proofs.Entries.{length-spell_dirent}
-use Rattle.mkfs.specs.Layout.{node_blocks, file_blocks, blocks_for, inode_blocks, data_start, super_for, root_size}
-use Rattle.mkfs.specs.Image.{Node, padded, front, inode_for, inodes_from, inode_table, bitmap, data_from, used_by, image_with, nodes_with, root_node, file_node, blocks_of_node, root_content, entries_from, dot, dotdot}
-use Rattle.mkfs.proofs.Padding.{length-whole}
+use Rattle.mkfs.specs.Layout.{node_blocks, file_blocks, inode_blocks, data_start, super_for}
+use Rattle.mkfs.specs.Image.{Node, padded, front, inode_for, inodes_from, inode_table, bitmap, data_from, used_by, image_with, nodes_with, root_node, file_node, blocks_of_node}
 
 pub sum-files : (contents : List (List ℕ)) → sum_by blocks_of_node (map file_node contents) ≡ file_blocks contents
 sum-files [] = refl
@@ -68,29 +63,3 @@ image-parts old size ninodes used nodes h =
     ∙ ap (λ (xs : List ℕ). (xs ++ d) ++ e (used_by (data_start ninodes) nodes)) (append_assoc old (a ++ b) (c (used_by (data_start ninodes) nodes)))
     ∙ ap (λ (xs : List ℕ). xs ++ e (used_by (data_start ninodes) nodes)) (append_assoc old ((a ++ b) ++ c (used_by (data_start ninodes) nodes)) d)
     ∙ append_assoc old (((a ++ b) ++ c (used_by (data_start ninodes) nodes)) ++ d) (e (used_by (data_start ninodes) nodes))
-
--- ---- the root's size
-
-length-entries : (number : ℕ) (names : List (List ℕ)) → number ≢ 0 → number + length names < 2 ^ 16 → All IsName names
-    → length (flat_map spell_dirent (entries_from number names)) ≡ 16 * length names
-length-entries number [] some few h = refl
-length-entries number (name ∷ names) some few h =
-    let this : IsName name = h 0 [] (omega arith) in
-    let small : number < 2 ^ 16 = omega arith in
-    let more : number + 1 + length names < 2 ^ 16 = omega arith in
-    let one = length-spell_dirent (Used number name) (some, small, this) in
-    let rest = length-entries (number + 1) names (λ e. absurd (omega arith)) more (λ i d l. h (suc i) d (omega arith)) in
-    omega (arith, length-append (spell_dirent (Used number name)) (flat_map spell_dirent (entries_from (number + 1) names)), one, rest)
-
-pub length-root_content : (names : List (List ℕ)) → 2 + length names < 2 ^ 16 → All IsName names → length (root_content names) ≡ root_size (length names)
-unfolding root_content
-length-root_content names few h =
-    let rest = length-entries 2 names (λ e. absurd (omega arith)) few h in
-    let entries : List ℕ = flat_map spell_dirent (entries_from 2 names) in
-    let a : List ℕ = spell_dirent (Used 1 dot) in
-    let b : List ℕ = spell_dirent (Used 1 dotdot) in
-    let one : 1 < 2 ^ 16 = omega arith in
-    let la = length-spell_dirent (Used 1 dot) ((λ e. absurd (omega arith)), one, refl) in
-    let lb = length-spell_dirent (Used 1 dotdot) ((λ e. absurd (omega arith)), one, refl) in
-    let all : length (a ++ (b ++ entries)) ≡ 16 * (2 + length names) = omega (arith, length-append a (b ++ entries), length-append b entries, la, lb, rest) in
-    length-whole (a ++ (b ++ entries)) ∙ ap (λ (n : ℕ). 1024 * blocks_for n) all

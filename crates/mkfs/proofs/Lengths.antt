@@ -11,7 +11,8 @@ use Rattle.fs_layout.specs.Super.{spell_super, super_numbers}
 use Rattle.fs_layout.specs.Widths.{magic}
 use Rattle.fs_layout.proofs.Numbers.{length-u32s_bytes}
 use Rattle.fs_layout.proofs.Inodes.{length-spell_dinode}
-use Rattle.mkfs.specs.Layout.{node_blocks, blocks_for, inode_blocks, data_start, super_for}
+use Rattle.image_tree.specs.Inodes.{blocks_for}
+use Rattle.mkfs.specs.Layout.{node_blocks, inode_blocks, data_start, super_for}
 use Rattle.mkfs.specs.Image.{Node, padded, whole, front, inode_for, inodes_from, inode_table, bitmap, data_from, used_by, image_with, node_bytes, blocks_of_node}
 use Rattle.mkfs.proofs.Padding.{length-padded, length-whole, length-addrs, node_bytes-small, node_bytes-large}
 
@@ -75,9 +76,8 @@ length-node first content h =
     let la = length-take-le 12288 content (omega arith) in
     let lb : length b ≡ 1024 = omega (arith, length-u32s_bytes (padded 256 numbers), length-padded 256 numbers few) in
     let ld = length-drop 12288 content in
-    let wa : length (whole a) ≡ 12288 = length-whole a ∙ ap (λ (n : ℕ). 1024 * blocks_for n) la in
     let wd : length (whole d) ≡ 1024 * blocks_for (size - 12288) = length-whole d ∙ ap (λ (n : ℕ). 1024 * blocks_for n) ld in
-    let all : length (whole a ++ (b ++ whole d)) ≡ 1024 * (blocks_for size + 1) = omega (arith, length-append (whole a) (b ++ whole d), length-append b (whole d), wa, lb, wd) in
+    let all : length (a ++ (b ++ whole d)) ≡ 1024 * (blocks_for size + 1) = omega (arith, length-append a (b ++ whole d), length-append b (whole d), la, lb, wd) in
     ap (λ (xs : List ℕ). length xs) (node_bytes-large first content more) ∙ all ∙ ap (λ (n : ℕ). 1024 * n) (sym (blocks-large size more)))
     (λ (few : size ≤ 12288).
     ap (λ (xs : List ℕ). length xs) (node_bytes-small first content few) ∙ length-whole content ∙ ap (λ (n : ℕ). 1024 * n) (sym (blocks-small size few)))

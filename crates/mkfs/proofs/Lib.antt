@@ -17,6 +17,7 @@ pub mod NodeNumbers
 pub mod NumberChecks
 pub mod OptionNumbers
 pub mod Padding
+pub mod Pieces
 pub mod Places
 pub mod Ranges
 pub mod Readings

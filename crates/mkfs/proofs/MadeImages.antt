@@ -13,7 +13,8 @@ use Rattle.mkfs.proofs.ImageShows.{image-shows}
 use Rattle.mkfs.proofs.UpToSizes.{up_to_sizes}
 use Rattle.mkfs.proofs.TreeChecks.{shown_well_formed, shown_tree}
 
-same-length : (files : List File) → length (names_of files) ≡ length (contents_of files)
+-- as many names as contents
+pub same-length : (files : List File) → length (names_of files) ≡ length (contents_of files)
 same-length files = length-map files (λ (f : File). f.0.items) ∙ sym (length-map files (λ (f : File). f.1.items))
 
 pub is-made : (size ninodes : ℕ) (files : List File) (disk : List ℕ) → CanBeMade size ninodes (names_of files) (contents_of files)

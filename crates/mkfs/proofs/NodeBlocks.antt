@@ -2,33 +2,21 @@
 use Rattle.std.proofs.Common.{◌≡◌, ℕ, ◌+◌, ◌-◌, ◌*◌, ◌<◌, ◌≤◌, Bool, cond, nat_lt, List, ◌++◌, length, take, drop, replicate, get_or, ap, ◌∙◌, sym, ⊎_elim, arith, append_assoc, length-append, length-drop}
 use Rattle.std.specs.List.{range_with_len}
 use Rattle.std.proofs.lemmas.Bool.{cases_lt, lt-ltb, le-ltb}
-use Rattle.std.proofs.lemmas.List.{take_at, drop_at, drop-drop, drop-take, take-take, take-append-le, drop-append-le, take-append-drop, length-take-le, append-nil}
+use Rattle.std.proofs.lemmas.List.{take_at, drop_at, drop-drop, take-append-le, drop-append-le, take-append-drop, length-take-le}
 use Rattle.std.proofs.lemmas.List.FromFn.{length-range_with_len}
 use Rattle.std.proofs.lemmas.List.Sums.{sum_by_more_le}
-use Rattle.fs_layout.specs.Indirect.{spell_numbers}
 use Rattle.fs_layout.specs.Recovered.{recovered}
 use Rattle.fs_layout.proofs.Numbers.{length-u32s_bytes}
-use Rattle.mkfs.specs.Layout.{blocks_for, data_start}
-use Rattle.mkfs.specs.Image.{Node, padded, whole, image_with, node_bytes, blocks_before, blocks_of_node}
+use Rattle.image_tree.specs.Inodes.{blocks_for}
+use Rattle.mkfs.specs.Layout.{data_start}
+use Rattle.mkfs.specs.Image.{Node, padded, whole, image_with, node_bytes, indirect_block, blocks_before, blocks_of_node}
 use Rattle.mkfs.proofs.Padding.{length-padded, node_bytes-small, node_bytes-large}
+use Rattle.mkfs.proofs.Pieces.{part-of-part}
 use Rattle.mkfs.proofs.Lengths.{Fits}
 use Rattle.mkfs.proofs.Places.{disk_of, block-at, recovered-there}
 use Rattle.mkfs.proofs.DataBlocks.{node-there}
 
 -- ---- in the image
-
--- a block of a part that begins with block `first`
-block-of-part : (xs : List ℕ) (first count m : ℕ) → m < count
-    → take 1024 (drop (1024 * m) (take (1024 * count) (drop (1024 * first) xs))) ≡ take 1024 (drop (1024 * (first + m)) xs)
-block-of-part xs first count m h =
-    let rest : ℕ = 1024 * (count - m) in
-    let split : 1024 * count ≡ 1024 * m + rest = omega arith in
-    let many : 1024 ≤ rest = omega arith in
-    let place : 1024 * first + 1024 * m ≡ 1024 * (first + m) = omega arith in
-    ap (λ (n : ℕ). take 1024 (drop (1024 * m) (take n (drop (1024 * first) xs)))) split
-    ∙ ap (take 1024) (drop-take (1024 * m) rest (drop (1024 * first) xs))
-    ∙ take-take 1024 rest (drop (1024 * m) (drop (1024 * first) xs)) many
-    ∙ ap (take 1024) (drop-drop (1024 * m) (1024 * first) xs ∙ ap (λ (n : ℕ). drop n xs) place)
 
 pub node-block : (size ninodes : ℕ) (nodes : List Node) (j m : ℕ) (n : Node) → ninodes ≤ 65535 → Fits size ninodes nodes → j < length nodes
     → m < blocks_of_node (get_or nodes j n)
@@ -38,23 +26,16 @@ node-block size ninodes nodes j m n few h l within =
     let first : ℕ = data_start ninodes + blocks_before j nodes in
     let count : ℕ = blocks_of_node (get_or nodes j n) in
     let there : first + m < size = omega (arith, h.room, sum_by_more_le blocks_of_node nodes j n l) in
+    let inside : 1024 * m + 1024 ≤ 1024 * count = omega arith in
+    let sum : 1024 * first + 1024 * m ≡ 1024 * (first + m) = omega arith in
     recovered-there size ninodes nodes (first + m) few h
     ∙ block-at size ninodes nodes (first + m) h there
-    ∙ sym (block-of-part (image_with size ninodes nodes) first count m within)
+    ∙ sym (part-of-part (image_with size ninodes nodes) 1024 (1024 * m) (1024 * count) (1024 * first) (1024 * (first + m)) inside sum)
     ∙ ap (λ (xs : List ℕ). take 1024 (drop (1024 * m) xs)) (node-there size ninodes nodes j n h l)
 
 -- ---- in the bytes of a node with more than twelve blocks
 
--- twelve blocks are whole
-whole-front : (content : List ℕ) → 12288 ≤ length content → whole (take 12288 content) ≡ take 12288 content
-unfolding whole padded
-whole-front content h =
-    let a : List ℕ = take 12288 content in
-    let long : length a ≡ 12288 = length-take-le 12288 content h in
-    let none : 1024 * blocks_for (length a) - length a ≡ 0 = omega (arith, long) in
-    ap (λ (n : ℕ). a ++ replicate n 0) none ∙ append-nil a
-
--- and what is behind them is padded as the whole is
+-- what is behind the first twelve blocks is padded as the whole is
 whole-parts : (content : List ℕ) → 12288 ≤ length content → whole content ≡ take 12288 content ++ whole (drop 12288 content)
 unfolding whole padded
 whole-parts content h =
@@ -67,23 +48,11 @@ whole-parts content h =
     ∙ append_assoc a d (replicate n 0)
     ∙ ap (λ (k : ℕ). a ++ (d ++ replicate k 0)) same
 
--- the block of the numbers
-numbers_block : ℕ → List ℕ → List ℕ
-numbers_block first content = spell_numbers (padded 256 (range_with_len (first + 13) (blocks_for (length content) - 12)))
-
-length-numbers_block : (first : ℕ) (content : List ℕ) → length content ≤ 274432 → length (numbers_block first content) ≡ 1024
-unfolding numbers_block
-length-numbers_block first content h =
+length-indirect_block : (first : ℕ) (content : List ℕ) → length content ≤ 274432 → length (indirect_block first (length content)) ≡ 1024
+length-indirect_block first content h =
     let numbers : List ℕ = range_with_len (first + 13) (blocks_for (length content) - 12) in
     let few : length numbers ≤ 256 = omega (arith, length-range_with_len (first + 13) (blocks_for (length content) - 12)) in
     omega (arith, length-u32s_bytes (padded 256 numbers), length-padded 256 numbers few)
-
-parts : (first : ℕ) (content : List ℕ) → 12288 < length content
-    → node_bytes first content ≡ take 12288 content ++ (numbers_block first content ++ whole (drop 12288 content))
-unfolding numbers_block
-parts first content h =
-    let rest : List ℕ = numbers_block first content ++ whole (drop 12288 content) in
-    node_bytes-large first content h ∙ ap (λ (xs : List ℕ). xs ++ rest) (whole-front content (omega arith))
 
 -- a block of the first part
 block-before : (a rest : List ℕ) (k : ℕ) → 1024 * k + 1024 ≤ length a → take 1024 (drop (1024 * k) (a ++ rest)) ≡ take 1024 (drop (1024 * k) a)
@@ -99,15 +68,14 @@ block-behind a rest n k h =
     ∙ ap (take 1024) (sym (drop-drop (1024 * k) (1024 * n) (a ++ rest)) ∙ ap (drop (1024 * k)) (drop_at a rest (1024 * n) h))
 
 pub block-of-numbers : (first : ℕ) (content : List ℕ) → 12288 < length content → length content ≤ 274432
-    → take 1024 (drop 12288 (node_bytes first content)) ≡ spell_numbers (padded 256 (range_with_len (first + 13) (blocks_for (length content) - 12)))
-unfolding numbers_block
+    → take 1024 (drop 12288 (node_bytes first content)) ≡ indirect_block first (length content)
 block-of-numbers first content h few =
     let a : List ℕ = take 12288 content in
-    let b : List ℕ = numbers_block first content in
+    let b : List ℕ = indirect_block first (length content) in
     let c : List ℕ = whole (drop 12288 content) in
-    ap (λ (xs : List ℕ). take 1024 (drop 12288 xs)) (parts first content h)
+    ap (λ (xs : List ℕ). take 1024 (drop 12288 xs)) (node_bytes-large first content h)
     ∙ ap (take 1024) (drop_at a (b ++ c) 12288 (length-take-le 12288 content (omega arith)))
-    ∙ take_at b c 1024 (length-numbers_block first content few)
+    ∙ take_at b c 1024 (length-indirect_block first content few)
 
 -- ---- the blocks of the content
 
@@ -132,12 +100,12 @@ large-block-below : (first : ℕ) (content : List ℕ) (k : ℕ) → 12288 < len
     → take 1024 (drop (1024 * place k) (node_bytes first content)) ≡ take 1024 (drop (1024 * k) (whole content))
 large-block-below first content k h low =
     let a : List ℕ = take 12288 content in
-    let b : List ℕ = numbers_block first content in
+    let b : List ℕ = indirect_block first (length content) in
     let c : List ℕ = whole (drop 12288 content) in
     let long : length a ≡ 12288 = length-take-le 12288 content (omega arith) in
     let within : 1024 * k + 1024 ≤ length a = omega (arith, long) in
     ap (λ (i : ℕ). take 1024 (drop (1024 * i) (node_bytes first content))) (place-below k low)
-    ∙ ap (λ (xs : List ℕ). take 1024 (drop (1024 * k) xs)) (parts first content h)
+    ∙ ap (λ (xs : List ℕ). take 1024 (drop (1024 * k) xs)) (node_bytes-large first content h)
     ∙ block-before a (b ++ c) k within
     ∙ sym (block-before a c k within)
     ∙ ap (λ (xs : List ℕ). take 1024 (drop (1024 * k) xs)) (sym (whole-parts content (omega arith)))
@@ -146,15 +114,15 @@ large-block-behind : (first : ℕ) (content : List ℕ) (k : ℕ) → 12288 < le
     → take 1024 (drop (1024 * place k) (node_bytes first content)) ≡ take 1024 (drop (1024 * k) (whole content))
 large-block-behind first content k h few high =
     let a : List ℕ = take 12288 content in
-    let b : List ℕ = numbers_block first content in
+    let b : List ℕ = indirect_block first (length content) in
     let c : List ℕ = whole (drop 12288 content) in
     let i : ℕ = k - 12 in
     let long : length a ≡ 1024 * 12 = length-take-le 12288 content (omega arith) in
-    let longer : length (a ++ b) ≡ 1024 * 13 = omega (arith, length-append a b, long, length-numbers_block first content few) in
+    let longer : length (a ++ b) ≡ 1024 * 13 = omega (arith, length-append a b, long, length-indirect_block first content few) in
     let here : place k ≡ 13 + i = place-behind k high ∙ (let e : k + 1 ≡ 13 + i = omega arith in e) in
     let there : 12 + i ≡ k = omega arith in
     ap (λ (n : ℕ). take 1024 (drop (1024 * n) (node_bytes first content))) here
-    ∙ ap (λ (xs : List ℕ). take 1024 (drop (1024 * (13 + i)) xs)) (parts first content h ∙ sym (append_assoc a b c))
+    ∙ ap (λ (xs : List ℕ). take 1024 (drop (1024 * (13 + i)) xs)) (node_bytes-large first content h ∙ sym (append_assoc a b c))
     ∙ block-behind (a ++ b) c 13 i longer
     ∙ sym (block-behind a c 12 i long)
     ∙ ap (λ (n : ℕ). take 1024 (drop (1024 * n) (a ++ c))) there

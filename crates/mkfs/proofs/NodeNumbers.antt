@@ -9,8 +9,8 @@ use Rattle.fs_layout.specs.declared.inode.Dinode.{Dinode}
 use Rattle.fs_layout.specs.Indirect.{numbers_in, spell_numbers}
 use Rattle.fs_layout.specs.Recovered.{recovered}
 use Rattle.fs_layout.proofs.Words.{numbers_in-spell}
-use Rattle.image_tree.specs.Inodes.{inode_of, numbers_of}
-use Rattle.mkfs.specs.Layout.{blocks_for, data_start}
+use Rattle.image_tree.specs.Inodes.{inode_of, numbers_of, blocks_for}
+use Rattle.mkfs.specs.Layout.{data_start}
 use Rattle.mkfs.specs.Image.{Node, padded, inode_for, inodes_from, blocks_before, blocks_of_node}
 use Rattle.mkfs.proofs.Padding.{length-padded}
 use Rattle.mkfs.proofs.Lengths.{Fits, blocks-small, blocks-large}

@@ -1,14 +1,14 @@
 -- Zeros behind numbers, and numbers that rise.
 use Rattle.std.proofs.Common.{◌≡◌, ℕ, zero, suc, ◌+◌, ◌-◌, ◌*◌, ◌/◌, ◌%◌, ◌<◌, ◌≤◌, List, [], ◌∷◌, ◌++◌, length, take, drop, replicate, refl, sym, ap, ◌∙◌, arith, length-append, append_assoc, set, get_or, ◌^◌, Bool, true, false, if◌then◌else◌, nat_lt, min}
-use Rattle.std.proofs.lemmas.List.{drop-replicate, length-replicate, take_at, set_at, drop_more}
+use Rattle.std.proofs.lemmas.List.{append-nil, drop-replicate, length-replicate, length-take-le, take_at, set_at, drop_more}
 use Rattle.std.proofs.lemmas.List.FromFn.{length-range_with_len}
 use Rattle.std.specs.List.{range_with_len}
 use Rattle.fs_layout.specs.Bytes.{overwrite}
 use Rattle.std.proofs.Math.Pow.{pow-lt}
 use Rattle.std.proofs.lemmas.Bool.{le-ltb, lt-ltb}
-use Rattle.fs_layout.specs.Indirect.{spell_numbers}
-use Rattle.mkfs.specs.Image.{Node, inode_for, padded, whole, bitmap, node_bytes}
-use Rattle.mkfs.specs.Layout.{blocks_for, node_blocks}
+use Rattle.mkfs.specs.Image.{Node, inode_for, padded, whole, bitmap, node_bytes, indirect_block}
+use Rattle.image_tree.specs.Inodes.{blocks_for}
+use Rattle.mkfs.specs.Layout.{node_blocks}
 
 -- written over zeros
 pub overwrite-zeros : (n : ℕ) (xs : List ℕ) → overwrite (replicate n 0) 0 xs ≡ padded n xs
@@ -82,13 +82,22 @@ bitmap-parts old used =
     ∙ append_assoc old here (replicate (1023 - used / 8) 0)
     ∙ ap (λ (n : ℕ). old ++ (here ++ replicate n 0)) count
 
+-- as many bytes as twelve blocks have are whole
+pub whole-front : (content : List ℕ) → 12288 ≤ length content → whole (take 12288 content) ≡ take 12288 content
+unfolding whole padded
+whole-front content h =
+    let a : List ℕ = take 12288 content in
+    let long : length a ≡ 12288 = length-take-le 12288 content h in
+    let none : 1024 * blocks_for (length a) - length a ≡ 0 = omega (arith, long) in
+    ap (λ (n : ℕ). a ++ replicate n 0) none ∙ append-nil a
+
 pub node_bytes-small : (first : ℕ) (content : List ℕ) → length content ≤ 12288 → node_bytes first content ≡ whole content
 unfolding node_bytes
 node_bytes-small first content h = rw (le-ltb 12288 (length content) h) refl
 
 pub node_bytes-large : (first : ℕ) (content : List ℕ) → 12288 < length content
     → node_bytes first content
-    ≡ whole (take 12288 content) ++ (spell_numbers (padded 256 (range_with_len (first + 13) (blocks_for (length content) - 12))) ++ whole (drop 12288 content))
+    ≡ take 12288 content ++ (indirect_block first (length content) ++ whole (drop 12288 content))
 unfolding node_bytes
 node_bytes-large first content h = rw (lt-ltb 12288 (length content) h) refl
 

@@ -1,7 +1,7 @@
 -- The inodes of an image.
 use Rattle.std.proofs.Common.{◌≡◌, ℕ, zero, suc, ◌+◌, ◌-◌, ◌*◌, ◌/◌, ◌%◌, ◌^◌, ◌<◌, ◌≤◌, min, w16, FitsSigned, List, [], ◌∷◌, ◌++◌, length, take, drop, map, replicate, get_or, sum_by, ap, ◌∙◌, sym, subst, arith, rules, append_assoc, length-append}
 use Rattle.std.specs.List.{All, AllByRecursion, flat_map, range_with_len}
-use Rattle.std.proofs.lemmas.List.{take_at, drop_at, drop-drop, drop-take, take-take, length-map, get_or-map}
+use Rattle.std.proofs.lemmas.List.{take_at, drop_at, drop-drop, length-map, get_or-map}
 use Rattle.std.proofs.lemmas.List.Sums.{sum_by-cons}
 use Rattle.fs_layout.specs.declared.inode.Dinode.{Dinode}
 use Rattle.fs_layout.specs.Bytes.{record_at}
@@ -12,19 +12,8 @@ use Rattle.mkfs.specs.Layout.{data_start, inode_blocks}
 use Rattle.mkfs.specs.Image.{Node, padded, front, inode_for, inodes_from, inode_table, bitmap, data_from, used_by, image_with, blocks_of_node, nodes_with, file_node}
 use Rattle.mkfs.proofs.Padding.{length-addrs}
 use Rattle.mkfs.proofs.Lengths.{AreNodes, Fits, length-front, length-zeros}
+use Rattle.mkfs.proofs.Pieces.{part-of-part}
 use Rattle.mkfs.proofs.Places.{disk_of, block-at}
-
--- a record of a block of these bytes is a part of them
-pub piece : (xs : List ℕ) (q r : ℕ) → r < 16 → record_at 64 r (take 1024 (drop (1024 * q) xs)) ≡ take 64 (drop (64 * (16 * q + r)) xs)
-piece xs q r h =
-    let m : ℕ = 1024 - 64 * r in
-    let whole : 1024 ≡ 64 * r + m = omega arith in
-    let low : 64 ≤ m = omega arith in
-    let place : 1024 * q + 64 * r ≡ 64 * (16 * q + r) = omega arith in
-    ap (λ (n : ℕ). take 64 (drop (64 * r) (take n (drop (1024 * q) xs)))) whole
-    ∙ ap (take 64) (drop-take (64 * r) m (drop (1024 * q) xs))
-    ∙ take-take 64 m (drop (64 * r) (drop (1024 * q) xs)) low
-    ∙ ap (take 64) (drop-drop (64 * r) (1024 * q) xs ∙ ap (λ (n : ℕ). drop n xs) place)
 
 regroup : (f z i r b d e : List ℕ) → (((f ++ ((z ++ i) ++ r)) ++ b) ++ d) ++ e ≡ (f ++ z) ++ (i ++ (r ++ (b ++ (d ++ e))))
 regroup f z i r b d e = simp append_assoc
@@ -116,12 +105,12 @@ inode-there size ninodes nodes j d h all l =
     let r : ℕ = (j + 1) % 16 in
     let image : List ℕ = image_with size ninodes nodes in
     let there : Dinode = get_or (inodes_from (data_start ninodes) nodes) j d in
-    let low : r < 16 = omega arith in
+    let low : 64 * r + 64 ≤ 1024 = omega arith in
     let within : q < size = omega (arith, h.inodes, h.room) in
-    let place : 64 * (16 * q + r) ≡ 33856 + 64 * j = omega arith in
+    let place : 1024 * q + 64 * r ≡ 33856 + 64 * j = omega arith in
     let few : data_start ninodes + sum_by blocks_of_node nodes < 2 ^ 31 = omega (arith, h.room, h.few) in
     ap (λ (block : List ℕ). dinode_of (record_at 64 r block)) (block-at size ninodes nodes q h within)
-    ∙ ap dinode_of (piece image q r low ∙ ap (λ (n : ℕ). take 64 (drop n image)) place ∙ table-at size ninodes nodes j d l)
+    ∙ ap dinode_of (part-of-part image 64 (64 * r) 1024 (1024 * q) (33856 + 64 * j) low place ∙ table-at size ninodes nodes j d l)
     ∙ dinode_of-spell there (good-inodes (data_start ninodes) nodes j d l few all)
 
 pub are-nodes : (root : List ℕ) (contents : List (List ℕ)) → AreNodes (nodes_with root contents) → All IsNode (nodes_with root contents)

@@ -1,17 +1,20 @@
 -- The root's bytes are its entries, spelled: those of the names, and free ones behind them.
 use Rattle.std.proofs.Common.{◌≡◌, ◌≢◌, ℕ, zero, suc, ◌+◌, ◌-◌, ◌*◌, ◌/◌, ◌%◌, ◌^◌, ◌<◌, ◌≤◌, List, [], ◌∷◌, ◌++◌, length, take, drop, replicate, get_or, Some, refl, sym, ap, ◌∙◌, arith, append_assoc, length-append}
 use Rattle.std.specs.List.{All, flat_map}
-use Rattle.std.proofs.lemmas.List.{take_at, drop_at, drop-drop, drop-take, take-take, length-replicate, replicate-append-replicate}
+use Rattle.std.proofs.lemmas.List.{take_at, drop_at, drop-drop, length-replicate, replicate-append-replicate}
 use Rattle.std.proofs.lemmas.List.Concat.{flat_map-append}
 use Rattle.std.proofs.lemmas.List.Elements.{All-append, All-cons, All-head, All-tail, All-nil, All-replicate}
 use Rattle.fs_layout.specs.declared.entry.Dirent.{Dirent}
 use Rattle.fs_layout.specs.declared.entry.Dirent.TheVariants.{Free, Used}
-use Rattle.fs_layout.specs.Bytes.{record_at}
 use Rattle.fs_layout.specs.Name.{IsName}
 use Rattle.fs_layout.specs.Entry.{spell_dirent, dirent_at, dirent_of, IsDirent}
 use Rattle.fs_layout.proofs.Entries.{length-spell_dirent, dirent_of-spell}
-use Rattle.mkfs.specs.Layout.{blocks_for, root_size}
-use Rattle.mkfs.specs.Image.{padded, whole, root_content, root_entries, entries_from, dot, dotdot}
+use Rattle.image_tree.specs.Inodes.{blocks_for}
+use Rattle.mkfs.specs.Layout.{root_size}
+use Rattle.plain_tree.specs.Tree.{dot, dotdot}
+use Rattle.mkfs.specs.Image.{padded, whole, root_content, root_entries, entries_from}
+use Rattle.mkfs.proofs.Padding.{length-whole}
+use Rattle.mkfs.proofs.Pieces.{part-of-part}
 
 -- how many of the root's entries are free
 abbrev pub free_entries : ℕ → ℕ
@@ -70,31 +73,25 @@ spelled-free (suc n) =
     let none : ℕ = 0 in
     ap (λ (xs : List ℕ). replicate 16 0 ++ xs) (spelled-free n) ∙ replicate-append-replicate 16 (16 * n) none ∙ ap (λ (k : ℕ). replicate k 0) count
 
+length-used : (names : List (List ℕ)) → 2 + length names < 2 ^ 16 → All IsName names → length (flat_map spell_dirent (root_entries names)) ≡ 16 * (2 + length names)
+length-used names few h = omega (arith, length-spelled (root_entries names) (good-root names few h), length-from 2 names)
+
+pub length-root_content : (names : List (List ℕ)) → 2 + length names < 2 ^ 16 → All IsName names → length (root_content names) ≡ root_size (length names)
+unfolding root_content
+length-root_content names few h = length-whole (flat_map spell_dirent (root_entries names)) ∙ ap (λ (n : ℕ). 1024 * blocks_for n) (length-used names few h)
+
 pub root-bytes : (names : List (List ℕ)) → 2 + length names < 2 ^ 16 → All IsName names → root_content names ≡ flat_map spell_dirent (all_entries names)
 unfolding root_content whole padded
 root-bytes names few h =
     let free : ℕ = free_entries (length names) in
     let used : List ℕ = flat_map spell_dirent (root_entries names) in
-    let long : length used ≡ 16 * (2 + length names) = omega (arith, length-spelled (root_entries names) (good-root names few h), length-from 2 names) in
     let zeros : 1024 * blocks_for (length used) - length used ≡ 16 * free =
-    ap (λ (n : ℕ). 1024 * blocks_for n - n) long ∙ (let count : root_size (length names) - 16 * (2 + length names) ≡ 16 * free = omega arith in count) in
+    ap (λ (n : ℕ). 1024 * blocks_for n - n) (length-used names few h) ∙ (let count : root_size (length names) - 16 * (2 + length names) ≡ 16 * free = omega arith in count) in
     ap (λ (n : ℕ). used ++ replicate n 0) zeros
     ∙ ap (λ (xs : List ℕ). used ++ xs) (sym (spelled-free free))
     ∙ sym (flat_map-append spell_dirent (root_entries names) (replicate free Free))
 
 -- ---- each is read back
-
--- a record of a block of these bytes is a part of them
-piece : (xs : List ℕ) (q r : ℕ) → r < 64 → record_at 16 r (take 1024 (drop (1024 * q) xs)) ≡ take 16 (drop (16 * (64 * q + r)) xs)
-piece xs q r h =
-    let m : ℕ = 1024 - 16 * r in
-    let block : 1024 ≡ 16 * r + m = omega arith in
-    let low : 16 ≤ m = omega arith in
-    let place : 1024 * q + 16 * r ≡ 16 * (64 * q + r) = omega arith in
-    ap (λ (n : ℕ). take 16 (drop (16 * r) (take n (drop (1024 * q) xs)))) block
-    ∙ ap (take 16) (drop-take (16 * r) m (drop (1024 * q) xs))
-    ∙ take-take 16 m (drop (16 * r) (drop (1024 * q) xs)) low
-    ∙ ap (take 16) (drop-drop (16 * r) (1024 * q) xs ∙ ap (λ (n : ℕ). drop n xs) place)
 
 -- the spelled entry at s
 spelled : (entries : List Dirent) (s : ℕ) (d : Dirent) (rest : List ℕ) → All IsDirent entries → s < length entries
@@ -119,7 +116,7 @@ pub entry-there : (entries : List Dirent) (s : ℕ) (d : Dirent) (rest : List �
     → dirent_at (s % 64) (take 1024 (drop (1024 * (s / 64)) (flat_map spell_dirent entries ++ rest))) ≡ Some (get_or entries s d)
 entry-there entries s d rest h l =
     let bytes : List ℕ = flat_map spell_dirent entries ++ rest in
-    let low : s % 64 < 64 = omega arith in
-    let place : 16 * (64 * (s / 64) + s % 64) ≡ 16 * s = omega arith in
-    ap dirent_of (piece bytes (s / 64) (s % 64) low ∙ ap (λ (n : ℕ). take 16 (drop n bytes)) place ∙ spelled entries s d rest h l)
+    let within : 16 * (s % 64) + 16 ≤ 1024 = omega arith in
+    let place : 1024 * (s / 64) + 16 * (s % 64) ≡ 16 * s = omega arith in
+    ap dirent_of (part-of-part bytes 16 (16 * (s % 64)) 1024 (1024 * (s / 64)) (16 * s) within place ∙ spelled entries s d rest h l)
     ∙ dirent_of-spell (get_or entries s d) (h s d l)

@@ -9,7 +9,8 @@ use Rattle.fs_layout.specs.declared.entry.Dirent.TheVariants.{Free}
 use Rattle.image_tree.specs.Inodes.{is_node}
 use Rattle.image_tree.specs.Links.{slots_in, slot_numbers, slot_names}
 use Rattle.image_tree.specs.Checks.{AreGoodSlots, HasGoodSlots}
-use Rattle.mkfs.specs.Image.{entries_from, dot, dotdot}
+use Rattle.plain_tree.specs.Tree.{dot, dotdot}
+use Rattle.mkfs.specs.Image.{entries_from}
 use Rattle.mkfs.specs.Refusals.{HasGoodNames}
 use Rattle.mkfs.proofs.RootBytes.{all_entries, free_entries}
 use Rattle.mkfs.proofs.FilesShown.{ShowsFiles}

@@ -7,9 +7,10 @@ use Rattle.fs_layout.specs.Inode.{spell_dinode}
 use Rattle.fs_layout.specs.Entry.{spell_dirent}
 use Rattle.fs_layout.specs.Indirect.{spell_numbers}
 use Rattle.fs_layout.specs.declared.entry.Dirent.TheVariants.{Used}
-use Rattle.mkfs.specs.Layout.{node_blocks, blocks_for, file_blocks}
+use Rattle.image_tree.specs.Inodes.{blocks_for}
+use Rattle.mkfs.specs.Layout.{node_blocks, file_blocks}
 use Rattle.mkfs.specs.Image.{File, contents_of, names_of, entries_from, inodes_from, data_from, file_node, inode_for, node_bytes, padded, whole}
-use Rattle.mkfs.proofs.Padding.{node_bytes-large}
+use Rattle.mkfs.proofs.Padding.{node_bytes-large, whole-front}
 
 -- one part more, of those that are left
 pub one_more : (old part rest left all new : List ℕ) → new ≡ old ++ part → left ≡ part ++ rest → old ++ left ≡ all → new ++ rest ≡ all
@@ -64,10 +65,10 @@ pub content-parts : (old content front rest : List ℕ) (first n : ℕ) → 1228
     → ((old ++ whole front) ++ spell_numbers (padded 256 (range_with_len (first + 13) (n - 12)))) ++ whole rest ≡ old ++ node_bytes first content
 content-parts old content front rest first n h e1 e2 e3 =
     let numbers : ℕ → List ℕ = λ k. spell_numbers (padded 256 (range_with_len (first + 13) (k - 12))) in
-    let a : List ℕ = whole (take 12288 content) in
+    let a : List ℕ = take 12288 content in
     let b : List ℕ = numbers (blocks_for (length content)) in
     let c : List ℕ = whole (drop 12288 content) in
-    ap (λ (xs : List ℕ). ((old ++ whole xs) ++ numbers n) ++ whole rest) e1
+    ap (λ (xs : List ℕ). ((old ++ xs) ++ numbers n) ++ whole rest) (ap whole e1 ∙ whole-front content (omega arith))
     ∙ ap (λ (xs : List ℕ). ((old ++ a) ++ numbers n) ++ whole xs) e2
     ∙ ap (λ (k : ℕ). ((old ++ a) ++ numbers k) ++ c) e3
     ∙ append_assoc (old ++ a) b c

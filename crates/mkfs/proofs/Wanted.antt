@@ -7,7 +7,8 @@ use Rattle.fs_layout.specs.Name.{IsName}
 use Rattle.mkfs.specs.Layout.{node_blocks, file_blocks, data_start, root_size}
 use Rattle.mkfs.specs.Image.{Node, nodes_with, file_node, used_by, root_content}
 use Rattle.mkfs.specs.Refusals.{CanBeMade}
-use Rattle.mkfs.proofs.Joins.{used-parts, length-root_content}
+use Rattle.mkfs.proofs.Joins.{used-parts}
+use Rattle.mkfs.proofs.RootBytes.{length-root_content}
 use Rattle.mkfs.proofs.Lengths.{Fits, AreNodes}
 
 pub root_long : (size ninodes : ℕ) (names contents : List (List ℕ)) → length names ≡ length contents → CanBeMade size ninodes names contents

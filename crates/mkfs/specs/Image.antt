@@ -9,10 +9,16 @@ use Rattle.fs_layout.specs.Inode.{spell_dinode}
 use Rattle.fs_layout.specs.Entry.{spell_dirent}
 use Rattle.fs_layout.specs.Indirect.{spell_numbers}
 use Rattle.fs_layout.specs.Super.{spell_super}
-use Rattle.mkfs.specs.Layout.{log_blocks, inode_blocks, data_start, super_for, blocks_for, node_blocks}
+use Rattle.fs_layout.specs.Widths.{addresses, block_len, inode_len, inodes_per_block, numbers_per_block}
+use Rattle.image_tree.specs.Inodes.{blocks_for, direct}
+use Rattle.plain_tree.specs.Tree.{dot, dotdot}
+use Rattle.plain_tree.specs.Widths.{root}
+use Rattle.mkfs.specs.Layout.{log_blocks, inode_blocks, data_start, super_for, node_blocks}
+use Rattle.mkfs.specs.Widths.{bits_per_byte, direct_len, directory_kind, file_kind, first_file}
 
 -- ---- what is given
 
+-- a file's name, and its content
 abbrev pub File : Type 0
 File = Vec ℕ Global × Vec ℕ Global
 
@@ -22,57 +28,61 @@ names_of files = map (λ file. file.0.items) files
 abbrev pub contents_of : List File → List (List ℕ)
 contents_of files = map (λ file. file.1.items) files
 
--- ---- padding
+-- ---- zeros
 
--- zeros behind, up to n of them in all
+-- numbers, and zeros behind them, n in all
 unfoldable pub padded : ℕ → List ℕ → List ℕ
 padded n numbers = numbers ++ replicate (n - length numbers) 0
 
--- zeros behind, up to a whole block
+-- bytes, and zeros behind them up to a whole block
 unfoldable pub whole : List ℕ → List ℕ
-whole bytes = padded (1024 * blocks_for (length bytes)) bytes
+whole bytes = padded (block_len * blocks_for (length bytes)) bytes
+
+-- so many blocks of zeros
+abbrev pub zero_blocks : ℕ → List ℕ
+zero_blocks n = replicate (block_len * n) 0
+
+-- so many free inodes, all zeros
+abbrev pub free_inodes : ℕ → List ℕ
+free_inodes n = replicate (inode_len * n) 0
 
 -- ---- the nodes
 
--- the root, or a file
+-- the root, or a file: its inode's kind, and its content
 pub record Node : Type 0 where
   pub kind : ℤ
   pub content : List ℕ
-
-abbrev pub dot : List ℕ
-dot = 46 ∷ []
-
-abbrev pub dotdot : List ℕ
-dotdot = 46 ∷ 46 ∷ []
 
 -- the files' entries: their inodes are numbered upwards
 abbrev pub entries_from : ℕ → List (List ℕ) → List Dirent
 entries_from number [] = []
 entries_from number (name ∷ names) = Used number name ∷ entries_from (number + 1) names
 
--- the root is inode 1, and the files follow it
+-- the root's entries: ".", ".." and the files
 abbrev pub root_entries : List (List ℕ) → List Dirent
-root_entries names = Used 1 dot ∷ Used 1 dotdot ∷ entries_from 2 names
+root_entries names = Used root dot ∷ Used root dotdot ∷ entries_from first_file names
 
+-- its content: behind the entries zeros, which are free entries, up to a whole block
 unfoldable pub root_content : List (List ℕ) → List ℕ
 root_content names = whole (flat_map spell_dirent (root_entries names))
 
 abbrev pub root_node : List ℕ → Node
-root_node content = record { kind = pos 1; content = content }
+root_node content = record { kind = directory_kind; content = content }
 
 abbrev pub file_node : List ℕ → Node
-file_node content = record { kind = pos 2; content = content }
+file_node content = record { kind = file_kind; content = content }
 
--- inode 1 and those that follow it, where the root has this content
+-- in the order of their inodes: the root with this content, and the files with theirs
 abbrev pub nodes_with : List ℕ → List (List ℕ) → List Node
-nodes_with root contents = root_node root ∷ map file_node contents
+nodes_with content contents = root_node content ∷ map file_node contents
 
+-- how many blocks a node takes, its indirect block among them
 abbrev pub blocks_of_node : Node → ℕ
 blocks_of_node node = node_blocks (length node.content)
 
 -- ---- the inodes
 
--- of a node whose blocks begin at `first`: they lie side by side, and the thirteenth has the numbers of those behind it
+-- the inode of a node whose blocks begin at `first`: they lie side by side, the direct ones, the indirect block, and those that it names
 unfoldable pub inode_for : ℕ → Node → Dinode
 inode_for first node = record {
   kind = node.kind;
@@ -80,7 +90,7 @@ inode_for first node = record {
   minor = pos 0;
   nlink = pos 1;
   size = length node.content;
-  addrs = padded 13 (range_with_len first (min (blocks_of_node node) 13));
+  addrs = padded addresses (range_with_len first (min (blocks_of_node node) addresses));
 }
 
 -- each node's blocks begin where those before it end
@@ -88,25 +98,35 @@ abbrev pub inodes_from : ℕ → List Node → List Dinode
 inodes_from first [] = []
 inodes_from first (node ∷ nodes) = inode_for first node ∷ inodes_from (first + blocks_of_node node) nodes
 
--- the bytes of the inode blocks: inode 0 and those behind the nodes are free
+-- the bytes of the inode blocks: inode 0 is free, and so are those behind the nodes'
 unfoldable pub inode_table : ℕ → ℕ → List Node → List ℕ
 inode_table ninodes first nodes =
-    replicate 64 0 ++ flat_map spell_dinode (inodes_from first nodes) ++ replicate (64 * (16 * inode_blocks ninodes - (1 + length nodes))) 0
+    free_inodes 1 ++ flat_map spell_dinode (inodes_from first nodes) ++ free_inodes (inodes_per_block * inode_blocks ninodes - (1 + length nodes))
 
--- ---- the bitmap: the bits of the first `used` blocks are set, the lowest in a byte first
+-- ---- the bitmap
 
+-- the byte whose n lowest bits are set
+abbrev pub low_bits : ℕ → ℕ
+low_bits n = 2 ^ n - 1
+
+-- the bitmap in which the bits of the first `used` blocks are set, the lowest in a byte first
 unfoldable pub bitmap : ℕ → List ℕ
-bitmap used = padded 1024 (replicate (used / 8) 255 ++ (2 ^ (used % 8) - 1) ∷ [])
+bitmap used = padded block_len (replicate (used / bits_per_byte) (low_bits bits_per_byte) ++ low_bits (used % bits_per_byte) ∷ [])
 
 -- ---- the data
 
--- the blocks of a node with this content, the first of them block `first`: past twelve blocks, a block with the numbers of those behind it
+-- the indirect block of a node of so many bytes whose blocks begin at `first`: it names the blocks behind it
+abbrev pub indirect_block : ℕ → ℕ → List ℕ
+indirect_block first size = spell_numbers (padded numbers_per_block (range_with_len (first + addresses) (blocks_for size - direct)))
+
+-- the blocks of a node with this content, the first of them block `first`: where the direct ones don't suffice, the indirect block stands behind them
 unfoldable pub node_bytes : ℕ → List ℕ → List ℕ
 node_bytes first content =
-    if nat_lt 12288 (length content)
-    then whole (take 12288 content) ++ (spell_numbers (padded 256 (range_with_len (first + 13) (blocks_for (length content) - 12))) ++ whole (drop 12288 content))
+    if nat_lt direct_len (length content)
+    then take direct_len content ++ (indirect_block first (length content) ++ whole (drop direct_len content))
     else whole content
 
+-- the blocks of all nodes
 abbrev pub data_from : ℕ → List Node → List ℕ
 data_from first [] = []
 data_from first (node ∷ nodes) = node_bytes first node.content ++ data_from (first + blocks_of_node node) nodes
@@ -121,9 +141,9 @@ blocks_before i nodes = sum_by blocks_of_node (take i nodes)
 
 -- ---- the whole
 
--- boot block, superblock and log
+-- boot block, superblock and log, which is empty
 unfoldable pub front : ℕ → ℕ → List ℕ
-front size ninodes = replicate 1024 0 ++ padded 1024 (spell_super (super_for size ninodes)) ++ replicate (1024 * log_blocks) 0
+front size ninodes = zero_blocks 1 ++ padded block_len (spell_super (super_for size ninodes)) ++ zero_blocks log_blocks
 
 -- an image with these nodes: behind them the blocks that are free
 unfoldable pub image_with : ℕ → ℕ → List Node → List ℕ
@@ -132,7 +152,7 @@ image_with size ninodes nodes =
     ++ inode_table ninodes (data_start ninodes) nodes
     ++ bitmap (used_by (data_start ninodes) nodes)
     ++ data_from (data_start ninodes) nodes
-    ++ replicate (1024 * (size - used_by (data_start ninodes) nodes)) 0
+    ++ zero_blocks (size - used_by (data_start ninodes) nodes)
 
 -- the image with files of these names and contents in its root
 abbrev pub image_of : ℕ → ℕ → List (List ℕ) → List (List ℕ) → List ℕ

@@ -1,6 +1,8 @@
 -- Where the parts of an image lie that is made, in blocks.
 use Rattle.std.specs.Prelude.{ℕ, ◌+◌, ◌-◌, ◌*◌, ◌/◌, nat_lt, if◌then◌else◌, List, length, sum_by}
 use Rattle.fs_layout.specs.declared.superblock.Super.{Super}
+use Rattle.fs_layout.specs.Widths.{block_len, inodes_per_block, dirent_len}
+use Rattle.image_tree.specs.Inodes.{blocks_for, direct}
 
 -- where the log begins, and how many blocks it has
 abbrev pub log_start : ℕ
@@ -11,13 +13,13 @@ log_blocks = 31
 
 -- where the inodes begin
 abbrev pub inode_start : ℕ
-inode_start = 33
+inode_start = log_start + log_blocks
 
 -- how many blocks of inodes there are
 abbrev pub inode_blocks : ℕ → ℕ
-inode_blocks ninodes = ninodes / 16 + 1
+inode_blocks ninodes = ninodes / inodes_per_block + 1
 
--- where the bitmap stands
+-- where the bitmap stands, in one block
 abbrev pub bitmap_start : ℕ → ℕ
 bitmap_start ninodes = inode_start + inode_blocks ninodes
 
@@ -25,6 +27,7 @@ bitmap_start ninodes = inode_start + inode_blocks ninodes
 abbrev pub data_start : ℕ → ℕ
 data_start ninodes = bitmap_start ninodes + 1
 
+-- the superblock
 abbrev pub super_for : ℕ → ℕ → Super
 super_for size ninodes = record {
   size = size;
@@ -38,18 +41,14 @@ super_for size ninodes = record {
 
 -- ---- the blocks of a node
 
--- how many blocks hold so many bytes
-abbrev pub blocks_for : ℕ → ℕ
-blocks_for size = (size + 1023) / 1024
-
--- how many blocks a node of so many bytes takes: with more than twelve blocks also one for their numbers
+-- how many blocks a node of so many bytes takes: with more than the direct ones also an indirect block
 abbrev pub node_blocks : ℕ → ℕ
-node_blocks size = blocks_for size + (if nat_lt 12 (blocks_for size) then 1 else 0)
+node_blocks size = blocks_for size + (if nat_lt direct (blocks_for size) then 1 else 0)
 
 -- how many blocks files with these contents take
 abbrev pub file_blocks : List (List ℕ) → ℕ
 file_blocks contents = sum_by (λ content. node_blocks (length content)) contents
 
--- how many bytes the root has that names so many files: 16 for each entry, "." and ".." among them, up to a whole block
+-- how many bytes the root has that names so many files: its entries, "." and ".." among them, up to a whole block
 abbrev pub root_size : ℕ → ℕ
-root_size files = 1024 * blocks_for (16 * (2 + files))
+root_size files = block_len * blocks_for (dirent_len * (2 + files))

@@ -4,3 +4,4 @@ pub mod Made
 pub mod Options
 pub mod Refusals
 pub mod Stated
+pub mod Widths

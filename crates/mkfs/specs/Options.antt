@@ -1,5 +1,5 @@
 -- The command line: IMAGE [--size N] [--inodes N] [FILE..], and what it gives.
-use Rattle.std.specs.Prelude.{◌≡◌, ℕ, ◌^◌, ◌<◌, List, [], ◌∷◌, Some, true, codes, pos}
+use Rattle.std.specs.Prelude.{◌≡◌, ℕ, ◌-◌, ◌^◌, ◌<◌, List, [], ◌∷◌, Some, true, codes, pos}
 use Rattle.std.specs.Str.Parse.{IsNumeral, digits_value, without_leading_plus}
 use Rattle.clap.specs.Lexer.{usize_max}
 use Rattle.clap.specs.Words.{App, Rule, Text, found_of, new_app, new_rule, one_text, with_rule}
@@ -11,13 +11,17 @@ use Rattle.clap.specs.declared.parser.matches.ArgMatches.{ArgMatches}
 abbrev pub image_rule : Rule
 image_rule = record (new_rule (codes "image")) { action = Some Set; value_names = 1; required = true }
 
--- an option with a u32 and a default
+-- the greatest number that an option may have: a u32's
+abbrev pub greatest_number : ℕ
+greatest_number = 2 ^ 32 - 1
+
+-- an option with such a number and a default
 abbrev pub number_rule : Text → Text → Rule
 number_rule id default = record (new_rule id) {
   long = Some id;
   value_names = 1;
   defaults = default ∷ [];
-  parser = Some (Signed (pos 0) (pos 4294967295));
+  parser = Some (Signed (pos 0) (pos greatest_number));
 }
 
 -- any number of files
@@ -27,6 +31,7 @@ files_rule = record (new_rule (codes "files")) {
   value_names = 1;
 }
 
+-- the whole command line
 abbrev pub mkfs_line : App
 mkfs_line =
     with_rule (with_rule (with_rule (with_rule (new_app (codes "mkfs")) image_rule) (number_rule (codes "size") (codes "2000"))) (number_rule (codes "inodes") (codes "200"))) files_rule

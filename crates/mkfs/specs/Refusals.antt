@@ -3,41 +3,43 @@ use Rattle.std.specs.Prelude.{◌≢◌, ℕ, ◌+◌, ◌-◌, ◌≤◌, List,
 use Rattle.fs_layout.specs.Name.{IsName}
 use Rattle.mkfs.specs.declared.refused.MakeRefused.{MakeRefused}
 use Rattle.mkfs.specs.declared.refused.MakeRefused.TheVariants.{NoMemory, BadSizes, BadName, FileTooBig, NoBlocks, NoInodes}
+use Rattle.image_tree.specs.Checks.{largest_size}
+use Rattle.plain_tree.specs.Tree.{dot, dotdot}
 use Rattle.mkfs.specs.Layout.{data_start, node_blocks, file_blocks, root_size}
-use Rattle.mkfs.specs.Image.{dot, dotdot}
+use Rattle.mkfs.specs.Widths.{most_blocks, most_entries, most_inodes}
 
 -- ---- what must hold, in the order in which it is asked
 
--- the numbers are within their limits, and what stands before the data, and the root, fit
+-- the numbers are within their limits, and what stands before the data fits, and the root with it
 pub record HasGoodSizes (size ninodes files : ℕ) : Type 0 where
-  pub few_blocks : size ≤ 8191
+  pub few_blocks : size ≤ most_blocks
   pub some_inodes : 2 ≤ ninodes
-  pub few_inodes : ninodes ≤ 65535
+  pub few_inodes : ninodes ≤ most_inodes
   pub room : data_start ninodes + node_blocks (root_size files) ≤ size
 
+-- a name of an entry that isn't "." or ".."
 abbrev pub IsFileName : List ℕ → Type 0
 IsFileName name = IsName name × (name ≢ dot) × (name ≢ dotdot)
 
+-- each file may be named so, and no two have one name
 pub record HasGoodNames (names : List (List ℕ)) : Type 0 where
   pub each : All IsFileName names
   pub once : AllPairs (λ x y. x ≢ y) names
 
--- the most bytes that a node may have: 268 blocks
-abbrev pub largest_size : ℕ
-largest_size = 274432
-
 -- no file is too large, and the root has no more entries than a directory may
 pub record HasGoodFiles (contents : List (List ℕ)) : Type 0 where
   pub each : All (λ content. length content ≤ largest_size) contents
-  pub few : 2 + length contents ≤ 17152
+  pub few : 2 + length contents ≤ most_entries
 
+-- the root and the files have inodes: the first of all is unused
 abbrev pub HasInodes : ℕ → List (List ℕ) → Type 0
 HasInodes ninodes contents = 1 + length contents ≤ ninodes - 1
 
+-- the blocks suffice: those before the data, the root's and the files'
 abbrev pub HasBlocks : ℕ → ℕ → List (List ℕ) → Type 0
 HasBlocks size ninodes contents = data_start ninodes + node_blocks (root_size (length contents)) + file_blocks contents ≤ size
 
--- ---- up to each
+-- ---- all up to one of them
 
 abbrev pub UpToNames : ℕ → ℕ → List (List ℕ) → Type 0
 UpToNames size ninodes names = HasGoodSizes size ninodes (length names) × HasGoodNames names
@@ -48,10 +50,11 @@ UpToFiles size ninodes names contents = UpToNames size ninodes names × HasGoodF
 abbrev pub UpToInodes : ℕ → ℕ → List (List ℕ) → List (List ℕ) → Type 0
 UpToInodes size ninodes names contents = UpToFiles size ninodes names contents × HasInodes ninodes contents
 
+-- all of them
 abbrev pub CanBeMade : ℕ → ℕ → List (List ℕ) → List (List ℕ) → Type 0
 CanBeMade size ninodes names contents = UpToInodes size ninodes names contents × HasBlocks size ninodes contents
 
--- the first that doesn't hold; of memory nothing is said
+-- the refusal names the first that doesn't hold; of memory nothing is said
 abbrev pub IsFirstRefusal : ℕ → ℕ → List (List ℕ) → List (List ℕ) → MakeRefused → Type 0
 IsFirstRefusal size ninodes names contents NoMemory = Unit {0}
 IsFirstRefusal size ninodes names contents BadSizes = ¬ HasGoodSizes size ninodes (length names)

@@ -4,11 +4,14 @@ use Rattle.plain_tree.specs.declared.node.Slot.{Slot}
 use Rattle.plain_tree.specs.declared.node.Kind.TheVariants.{Directory, File}
 use Rattle.plain_tree.specs.declared.node.Node.{Node}
 use Rattle.plain_tree.specs.TreeData.{TreeData}
-use Rattle.plain_tree.specs.Fresh.{fresh_hart}
-use Rattle.plain_tree.specs.Widths.{hart_count}
+use Rattle.plain_tree.specs.Fresh.{at_rest}
+use Rattle.plain_tree.specs.Tree.{dot, dotdot}
+use Rattle.plain_tree.specs.Widths.{root}
+use Rattle.fs_layout.specs.Widths.{dirent_len}
 use Rattle.mkfs.specs.Layout.{root_size}
-use Rattle.mkfs.specs.Image.{dot, dotdot}
+use Rattle.mkfs.specs.Widths.{first_file}
 
+-- a slot with this number and name
 abbrev pub used : ℕ → List ℕ → Option Slot
 used number name = Some (record { name = name; number = number })
 
@@ -17,9 +20,10 @@ abbrev pub slots_from : ℕ → List (List ℕ) → List (Option Slot)
 slots_from number [] = []
 slots_from number (name ∷ names) = used number name ∷ slots_from (number + 1) names
 
--- behind the names the slots are free, up to the end of the root's last block
+-- ".", ".." and the files; behind them the slots are free, up to the end of the root's last block
 abbrev pub root_slots : List (List ℕ) → List (Option Slot)
-root_slots names = used 1 dot ∷ used 1 dotdot ∷ slots_from 2 names ++ replicate (root_size (length names) / 16 - (2 + length names)) None
+root_slots names =
+    used root dot ∷ used root dotdot ∷ slots_from first_file names ++ replicate (root_size (length names) / dirent_len - (2 + length names)) None
 
 abbrev pub root_in_tree : List (List ℕ) → Option Node
 root_in_tree names = Some (record { count = 1; kind = Directory (root_slots names) })
@@ -29,8 +33,5 @@ file_in_tree content = Some (record { count = 1; kind = File content })
 
 -- node 0 is none, the root is node 1, the files follow it, and nothing is open
 abbrev pub stated_tree : ℕ → List (List ℕ) → List (List ℕ) → TreeData
-stated_tree ninodes names contents = record {
-  nodes = None ∷ root_in_tree names ∷ map file_in_tree contents ++ replicate (ninodes - (2 + length contents)) None;
-  files = [];
-  harts = replicate hart_count fresh_hart;
-}
+stated_tree ninodes names contents =
+    at_rest (None ∷ root_in_tree names ∷ map file_in_tree contents ++ replicate (ninodes - (2 + length contents)) None)

@@ -1,8 +1,11 @@
 //! Where things lie.
 ghost use Rattle.std.specs.Prelude.{◌≡◌, ◌+◌, ◌*◌, ◌^◌, ◌<◌, ◌≤◌, length, All};
-ghost use Rattle.mkfs.specs.Layout.{bitmap_start, blocks_for, data_start, file_blocks, node_blocks, root_size, super_for};
+ghost use Rattle.image_tree.specs.Inodes.{blocks_for};
+ghost use Rattle.mkfs.specs.Layout.{bitmap_start, data_start, file_blocks, node_blocks, root_size, super_for};
 ghost use Rattle.mkfs.specs.Image.{contents_of};
-ghost use Rattle.mkfs.specs.Refusals.{largest_size, HasGoodFiles};
+ghost use Rattle.image_tree.specs.Checks.{largest_size};
+ghost use Rattle.mkfs.specs.Refusals.{HasGoodFiles};
+ghost use Rattle.mkfs.specs.Widths.{most_node_blocks};
 
 use crate::widths::{DIRECT_BLOCKS, INODE_START, LOG_BLOCKS, LOG_START};
 use fs_layout::Super;
@@ -20,7 +23,7 @@ pub fn blocks_for(size: usize) -> usize
 pub fn node_blocks(size: usize) -> usize
     requires { size < 2 ^ 32 }
     ensures value { result ≡ node_blocks size }
-    ensures few { size ≤ largest_size → result ≤ 269 }
+    ensures few { size ≤ largest_size → result ≤ most_node_blocks }
 {
     let blocks = blocks_for(size);
     if blocks > DIRECT_BLOCKS {
@@ -59,7 +62,7 @@ pub fn file_blocks(files: &[(Vec<u8>, Vec<u8>)]) -> usize
     requires each { All (λ content. length content ≤ largest_size) (contents_of files.now) }
     requires few { length files.now < 2 ^ 32 }
     ensures value { result ≡ file_blocks (contents_of files.now) }
-    ensures few { result ≤ 269 * length files.now }
+    ensures few { result ≤ most_node_blocks * length files.now }
 {
     let mut blocks = 0;
     for file in files {

@@ -7,7 +7,9 @@ ghost use Rattle.fs_layout.specs.Recovered.{block_at, logged, recovered, sizes_o
 ghost use Rattle.mkfs.specs.Layout.{bitmap_start, data_start, inode_start, super_for};
 ghost use Rattle.mkfs.specs.Image.{bitmap, blocks_before, blocks_of_node, contents_of, data_from, front, image_of, image_with, inode_table, inodes_from, names_of, node_bytes, nodes_with, root_content, used_by, Node};
 ghost use Rattle.mkfs.specs.Made.{IsMade};
-ghost use Rattle.mkfs.specs.Refusals.{largest_size, CanBeMade, HasGoodFiles, HasInodes, IsFirstRefusal};
+ghost use Rattle.image_tree.specs.Checks.{largest_size};
+ghost use Rattle.mkfs.specs.Refusals.{CanBeMade, HasGoodFiles, HasInodes, IsFirstRefusal};
+ghost use Rattle.mkfs.specs.Widths.{most_blocks, most_inodes};
 
 use crate::appends::push_many;
 use crate::judges::{has_good_files, has_good_names, has_good_sizes};
@@ -27,7 +29,7 @@ fn push_table(
     root: &[u8],
     files: &[(Vec<u8>, Vec<u8>)],
 ) -> Result<(), AllocError>
-    requires ninodes { ninodes ≤ 65535 }
+    requires ninodes { ninodes ≤ most_inodes }
     requires root { length root.now ≤ largest_size }
     requires files { HasGoodFiles (contents_of files.now) }
     requires inodes { HasInodes ninodes (contents_of files.now) }
@@ -77,8 +79,8 @@ fn push_parts(
     root: &[u8],
     files: &[(Vec<u8>, Vec<u8>)],
 ) -> Result<(), AllocError>
-    requires size { size ≤ 8191 }
-    requires ninodes { ninodes ≤ 65535 }
+    requires size { size ≤ most_blocks }
+    requires ninodes { ninodes ≤ most_inodes }
     requires root { length root.now ≤ largest_size }
     requires files { HasGoodFiles (contents_of files.now) }
     requires inodes { HasInodes ninodes (contents_of files.now) }

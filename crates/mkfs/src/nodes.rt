@@ -4,9 +4,10 @@ ghost use Rattle.std.specs.List.{flat_map};
 ghost use Rattle.fs_layout.specs.Inode.{spell_dinode};
 ghost use Rattle.fs_layout.specs.Entry.{spell_dirent};
 ghost use Rattle.fs_layout.specs.Name.{IsName};
-ghost use Rattle.mkfs.specs.Layout.{blocks_for, node_blocks};
+ghost use Rattle.image_tree.specs.Inodes.{blocks_for};
+ghost use Rattle.mkfs.specs.Layout.{node_blocks};
 ghost use Rattle.mkfs.specs.Image.{contents_of, data_from, entries_from, file_node, inodes_from, names_of, root_content};
-ghost use Rattle.mkfs.specs.Refusals.{largest_size};
+ghost use Rattle.image_tree.specs.Checks.{largest_size};
 
 use crate::appends::push_whole;
 use crate::layout::node_blocks;

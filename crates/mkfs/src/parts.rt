@@ -6,9 +6,11 @@ ghost use Rattle.fs_layout.specs.Inode.{spell_dinode};
 ghost use Rattle.fs_layout.specs.Entry.{spell_dirent};
 ghost use Rattle.fs_layout.specs.Indirect.{spell_numbers};
 ghost use Rattle.fs_layout.specs.Name.{IsName};
+ghost use Rattle.fs_layout.specs.Widths.{addresses, block_len, numbers_per_block};
 ghost use Rattle.fs_layout.specs.declared.entry.Dirent.TheVariants.{Used};
 ghost use Rattle.mkfs.specs.Image.{bitmap, inode_for, node_bytes, padded};
-ghost use Rattle.mkfs.specs.Refusals.{largest_size};
+ghost use Rattle.image_tree.specs.Checks.{largest_size};
+ghost use Rattle.mkfs.specs.Widths.{most_blocks};
 
 use crate::appends::{push_many, push_whole};
 use crate::layout::{blocks_for, node_blocks};
@@ -21,7 +23,7 @@ use std::alloc::AllocError;
 
 /// Appends the superblock's block.
 pub fn push_super(image: &mut Vec<u8>, superblock: &Super) -> Result<(), AllocError>
-    ensures { OnOk result (image.new.items ≡ image.old.items ++ padded 1024 (spell_super superblock.now)) }
+    ensures { OnOk result (image.new.items ≡ image.old.items ++ padded block_len (spell_super superblock.now)) }
 {
     let mut block = [0; BLOCK_LEN];
     write_super(&mut block, superblock);
@@ -42,7 +44,7 @@ pub fn push_entry(content: &mut Vec<u8>, number: u16, name: &[u8]) -> Result<(),
 
 /// Appends a bitmap in which the bits of so many blocks are set.
 pub fn push_bitmap(image: &mut Vec<u8>, used: usize) -> Result<(), AllocError>
-    requires { used < 8192 }
+    requires { used ≤ most_blocks }
     ensures { OnOk result (image.new.items ≡ image.old.items ++ bitmap used) }
 {
     let full = used / BITS;
@@ -65,7 +67,7 @@ fn set_rising(numbers: &mut [u32], first: u32, count: usize)
 // The numbers in the inode of a node whose blocks lie side by side.
 fn addresses(first: u32, count: usize) -> [u32; ADDRESSES]
     requires { first + count < 2 ^ 32 }
-    ensures { result ≡ padded 13 (range_with_len first (min count 13)) }
+    ensures { result ≡ padded addresses (range_with_len first (min count addresses)) }
 {
     let mut numbers = [0; ADDRESSES];
     set_rising(&mut numbers, first, count.min(ADDRESSES));
@@ -104,8 +106,8 @@ pub fn push_inode(image: &mut Vec<u8>, kind: i16, first: u32, size: usize) -> Re
 // Appends a block with numbers that rise one by one.
 fn push_numbers(image: &mut Vec<u8>, first: u32, count: usize) -> Result<(), AllocError>
     requires fits { first + count < 2 ^ 32 }
-    requires room { count ≤ 256 }
-    ensures { OnOk result (image.new.items ≡ image.old.items ++ spell_numbers (padded 256 (range_with_len first count))) }
+    requires room { count ≤ numbers_per_block }
+    ensures { OnOk result (image.new.items ≡ image.old.items ++ spell_numbers (padded numbers_per_block (range_with_len first count))) }
 {
     let mut numbers = [0; NUMBERS_PER_BLOCK];
     set_rising(&mut numbers, first, count);

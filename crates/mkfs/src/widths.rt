@@ -18,9 +18,6 @@ pub const DIRECT_LEN: usize = 12_288;
 /// The most bytes that a node may have: 268 blocks.
 pub const LARGEST_SIZE: usize = 274_432;
 
-/// The most blocks that a node may take: 268 and one with numbers.
-pub const MOST_NODE_BLOCKS: usize = 269;
-
 /// The most entries that a directory may have.
 pub const MOST_ENTRIES: usize = 17_152;
 

@@ -2,7 +2,8 @@ use Rattle.std.proofs.Common.{◌≡◌, ◌++◌, List, ℕ, ap, ◌∙◌, app
 use Rattle.std.specs.List.{flat_map}
 use Rattle.fs_layout.specs.Entry.{spell_dirent}
 use Rattle.fs_layout.specs.declared.entry.Dirent.TheVariants.{Used}
-use Rattle.mkfs.specs.Image.{root_content, whole, dot, dotdot, entries_from, names_of}
+use Rattle.plain_tree.specs.Tree.{dot, dotdot}
+use Rattle.mkfs.specs.Image.{root_content, whole, entries_from, names_of}
 use Rattle.mkfs.proofs.nodes.root_content.Goals as goal
 
 pub returns : goal.returns

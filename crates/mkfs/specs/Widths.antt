@@ -1,0 +1,39 @@
+-- How much an image and its nodes may have, and the numbers that an inode and an entry begin with.
+use Rattle.std.specs.Prelude.{ℕ, ◌+◌, ◌-◌, ◌*◌, ◌^◌, ℤ, pos}
+use Rattle.fs_layout.specs.Widths.{block_len, numbers_per_block, dirents_per_block}
+use Rattle.image_tree.specs.Inodes.{direct}
+
+-- how many bits a byte has
+abbrev pub bits_per_byte : ℕ
+bits_per_byte = 8
+
+-- the most blocks of an image: as many as the bitmap has bits, but one
+abbrev pub most_blocks : ℕ
+most_blocks = bits_per_byte * block_len - 1
+
+-- the most inodes: an entry has 16 bits for the number of one
+abbrev pub most_inodes : ℕ
+most_inodes = 2 ^ 16 - 1
+
+-- how many bytes the blocks have that an inode itself names
+abbrev pub direct_len : ℕ
+direct_len = block_len * direct
+
+-- the most blocks of a node: the direct ones, the indirect one and those that it names
+abbrev pub most_node_blocks : ℕ
+most_node_blocks = direct + 1 + numbers_per_block
+
+-- the most entries of a directory
+abbrev pub most_entries : ℕ
+most_entries = dirents_per_block * (direct + numbers_per_block)
+
+-- the first file's inode: it follows the root's
+abbrev pub first_file : ℕ
+first_file = 2
+
+-- the kinds that an inode says
+abbrev pub directory_kind : ℤ
+directory_kind = pos 1
+
+abbrev pub file_kind : ℤ
+file_kind = pos 2
