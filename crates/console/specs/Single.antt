@@ -1,5 +1,6 @@
 -- A file system with one hart, and what its calls answer.
 use Rattle.std.specs.Prelude.{◌≡◌, ℕ, ◌+◌, min, Bool, true, false, List, Option, None, replicate, Result, Ok, Err}
+use Rattle.block_device.specs.Blocks.{most_faults}
 use Rattle.block_device.specs.declared.device.Fault.{Fault}
 use Rattle.plain_tree.specs.declared.answer.Reply.{Reply}
 use Rattle.plain_tree.specs.declared.call.Call.{Call}
@@ -31,7 +32,7 @@ Answers disk offsets stopped c (Err (Stopped Halted)) offsets' stopped' = (stopp
 abbrev pub faults_of : Result Reply SingleFault → ℕ → ℕ
 faults_of (Ok r) n = n
 faults_of (Err (NotYet c)) n = n
-faults_of (Err (Stopped DeviceFault)) n = min (n + 1) 18446744073709551615
+faults_of (Err (Stopped DeviceFault)) n = min (n + 1) most_faults
 faults_of (Err (Stopped Halted)) n = n
 
 -- a device's failure stops the file system

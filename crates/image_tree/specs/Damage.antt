@@ -4,6 +4,7 @@ use Rattle.image_tree.specs.declared.fault.Damage.{Damage}
 use Rattle.image_tree.specs.declared.fault.Damage.TheVariants.{TooShort, BadSuper, BadLog, BadType, NoRoot, BlockRange, BlockShared, BlockUnmarked, BadSize, BadEntry, NotATree, LinkCount}
 use Rattle.image_tree.specs.declared.fault.MountFault.{MountFault}
 use Rattle.image_tree.specs.declared.fault.MountFault.TheVariants as faults
+use Rattle.block_device.specs.Blocks.{most_faults}
 use Rattle.fs_layout.specs.Recovered.{sizes_of}
 use Rattle.image_tree.specs.Checks.{HasSuper, HasGoodLog, HasGoodTypes, HasRoot, HasGoodNumbers, NamesOnce, HasMarks, HasGoodSizes, HasGoodSlots, IsOneTree, HasGoodCounts}
 
@@ -71,7 +72,7 @@ JudgesFault disk faults.NoMemory = Unit {0}
 -- the device has failed just where that is the answer
 abbrev pub fault_count_of : MountFault → ℕ → ℕ
 fault_count_of (faults.Damaged d) n = n
-fault_count_of faults.DeviceFault n = min (n + 1) 18446744073709551615
+fault_count_of faults.DeviceFault n = min (n + 1) most_faults
 fault_count_of faults.NoMemory n = n
 
 -- of an answer: what Ok says, and a damage only where it is the first
