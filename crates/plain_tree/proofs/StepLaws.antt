@@ -13,7 +13,7 @@ use Rattle.plain_tree.specs.declared.step.StepAnswer.TheVariants.{Opened, Bytes,
 use Rattle.plain_tree.specs.declared.trace.Placed.{Placed}
 use Rattle.plain_tree.specs.Tree.{Name, Tree, resolve, parent, settle, look, and_then}
 use Rattle.plain_tree.specs.Steps.{Step, StepWith, MayChoose, IsInPlace, IsNewNode, answer_with, effect_with, refusal, refused, path_of, place_of, opens_one, opens_file, stat_answer, file_at, has_room, lowest, opened, creates, with_file, opened_new, opened_in, opened_at}
-use Rattle.plain_tree.specs.Applied.{Outcome, applied, in_place, IsAppliedAt, IsBadChoice, id_of}
+use Rattle.plain_tree.specs.Applied.{Outcome, applied, in_place, IsApplied, IsAppliedAt, IsBadChoice, id_of}
 use Rattle.plain_tree.specs.Explains.{Chain}
 use Rattle.plain_tree.specs.Widths.{hart_count}
 
@@ -250,6 +250,20 @@ step_from t s id a t' p unused x = elim (cases_refusal (refusal t s.hart s.actio
       failed_step t s id y.0 a t' y.1 (ap (λ (o : Outcome). o.answer) e) (ap (λ (o : Outcome). o.tree) e) p)
 ]
 
--- the same, where the id is unused whatever the step does
-pub applied_step : (t : Tree) (s : TreeStep) (id : ℕ) (a : StepAnswer) (t' : Tree) → IsInPlace t s.hart s.action → t.files id ≡ None → IsAppliedAt t s id a t' → Step t s a t'
-applied_step t s id a t' p unused x = step_from t s id a t' p (λ is opens. unused) x
+-- the same, whatever the answer
+pub applied_step : (t : Tree) (s : TreeStep) (id : ℕ) (a : StepAnswer) (t' : Tree) → IsInPlace t s.hart s.action → (opens_one t s.hart s.action ≡ true → t.files id ≡ None) → IsAppliedAt t s id a t' → Step t s a t'
+applied_step t s id a t' p unused x = step_from t s id a t' p (λ is. unused) x
+
+-- out of its place a step changes nothing
+out_of_its_place : (t : Tree) (s : TreeStep) (id : ℕ) → (nat_lt s.hart hart_count && place_of t s.hart s.action) ≡ false → (applied t s id).tree ≡ t
+out_of_its_place t s id out = elim (cases_Bool (nat_lt s.hart hart_count)) [
+  | inl y ↦ (let p : place_of t s.hart s.action ≡ false = rw y at out in rw (y, p) refl)
+  | inr y ↦ rw y refl
+]
+
+-- what is applied is a step, or was out of its place and changed nothing
+pub step_or_nothing : (t : Tree) (s : TreeStep) (a : StepAnswer) (t' : Tree) → IsApplied t s a t' → Step t s a t' ⊎ ((IsInPlace t s.hart s.action → ⊥) × (t' ≡ t))
+step_or_nothing t s a t' x = elim (cases_Bool (nat_lt s.hart hart_count && place_of t s.hart s.action)) [
+  | inl y ↦ inl (applied_step t s x.id a t' y (λ opens. (x.least opens).unused) x.made)
+  | inr y ↦ inr ((λ p. absurd (let e : true ≡ false = sym p ∙ y in cc)), sym (ap (λ (o : Outcome). o.tree) x.made.is) ∙ out_of_its_place t s x.id y)
+]
