@@ -1,5 +1,8 @@
 //! Worked runs, step by step. A step that finds no memory is made again: it changed nothing, so its answer is the same.
-use crate::{Action, ApplyRefused, Bytes, Cause, NoMemory, NodeType, StepAnswer, Tree, TreeStep};
+use crate::{
+    Action, ApplyRefused, Bytes, Cause, Kind, NoMemory, Node, NodeType, Slot, Slots, StepAnswer,
+    Tree, TreeStep,
+};
 use std::alloc::Global;
 use std::test::Fail;
 
@@ -79,6 +82,19 @@ impl Run {
             Ok(())
         } else {
             Err(Otherwise)
+        }
+    }
+
+    /// The tree makes no such step.
+    fn is_stopped(&mut self, action: Action) -> Result<(), Otherwise> {
+        let step = TreeStep {
+            hart: 0,
+            new: 0,
+            action,
+        };
+        match self.tree.apply(self.alloc, &step) {
+            Err(ApplyRefused::NoMemory) => Ok(()),
+            _ => Err(Otherwise),
         }
     }
 
@@ -289,5 +305,48 @@ fn refuses_a_number_that_is_taken(rt: HostRuntime) -> Result<(), Fail> {
         assert!(rt; run.mkdir(0, 199, "/d", Want::Done).is_ok());
         assert_eq!(rt; run.tree.ninodes(), 200);
     }
+    Ok(())
+}
+
+/// A root whose one name leads past the table.
+fn astray(alloc: Global) -> Result<Run, NoMemory> {
+    let mut slots = Vec::new(alloc);
+    slots.push(Some(Slot {
+        name: Bytes::new(Vec::from_slice(alloc, b"x")?),
+        number: 9,
+    }))?;
+    let slots = Slots::new(slots);
+    let mut nodes = Vec::new(alloc);
+    nodes.push(None)?;
+    nodes.push(Some(Node {
+        count: 1,
+        kind: Kind::Directory { slots },
+    }))?;
+    let tree = Tree::of_nodes(alloc, nodes);
+    Ok(Run { alloc, tree })
+}
+
+fn past_the_table(alloc: Global) -> Result<(), Otherwise> {
+    let mut run = match astray(alloc) {
+        Ok(run) => run,
+        Err(NoMemory) => return Ok(()),
+    };
+    run.open(0, 0, "/x", 2, Want::Fd(0))?;
+    run.read(0, 0, 9, &[])?;
+    run.write(0, 0, &[], Want::Done)?;
+    run.is_stopped(Action::Truncate { fd: 0 })?;
+    let bytes = copied(alloc, b"A")?;
+    run.is_stopped(Action::WritePart { fd: 0, bytes })?;
+    run.find(0, "/x")?;
+    run.is_stopped(Action::Bump)?;
+    let path = copied(alloc, b"/x")?;
+    run.is_stopped(Action::Unlink { path })?;
+    run.fstat(0, 0, 9, FILE, 0, 0)?;
+    run.open(0, 0, "/x", 2, Want::Fd(1))
+}
+
+#[test]
+fn changes_no_node_past_the_table(rt: HostRuntime) -> Result<(), Fail> {
+    assert!(rt; past_the_table(rt.alloc()).is_ok());
     Ok(())
 }

@@ -61,7 +61,8 @@ impl Tree {
     }
 }
 
-/// Each step leads on from the tree that the one before it left.
+/// Each step leads on from the tree that the one before it left. The error is that of the copy, or of the first step
+/// that `apply` refuses with `NoMemory`.
 pub(crate) fn leads(alloc: Global, base: &Tree, list: &[Placed]) -> Result<bool, NoMemory>
     ensures { IfOk result (λ b. IsTrue b ↔ Leads (tree_of base.now) list.now) }
 {
