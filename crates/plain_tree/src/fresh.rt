@@ -3,26 +3,18 @@ ghost use Rattle.std.specs.Prelude.{◌≡◌, ◌++◌, ◌-◌, ◌∷◌, IfO
 ghost use Rattle.plain_tree.specs.Fresh.{fresh_hart, fresh_root};
 
 use crate::act::slot;
-use crate::node::{Kind, Node, Slot, Slots};
+use crate::node::{Kind, Node, Slots};
 use crate::refused::NoMemory;
 use crate::tree::Hart;
-use crate::widths::{DOT, DOTDOT, FRESH_SLOTS, ROOT};
+use crate::widths::{DESCRIPTOR_COUNT, DOT, DOTDOT, FRESH_SLOTS, ROOT};
 use std::alloc::Global;
 
-fn push_free(slots: &mut Vec<Option<Slot>>, count: usize) -> Result<(), NoMemory>
-    ensures { IfOk result (λ _. slots.new.items ≡ slots.old.items ++ replicate count None) }
+/// Adds so many places with nothing in them.
+fn push_absent<T: Drop>(places: &mut Vec<Option<T>>, count: usize) -> Result<(), NoMemory>
+    ensures { IfOk result (λ _. places.new.items ≡ places.old.items ++ replicate count None) }
 {
     for _ in 0..count {
-        slots.push(None)?;
-    }
-    Ok(())
-}
-
-fn push_absent(nodes: &mut Vec<Option<Node>>, count: usize) -> Result<(), NoMemory>
-    ensures { IfOk result (λ _. nodes.new.items ≡ nodes.old.items ++ replicate count None) }
-{
-    for _ in 0..count {
-        nodes.push(None)?;
+        places.push(None)?;
     }
     Ok(())
 }
@@ -33,7 +25,7 @@ fn fresh_root(alloc: Global) -> Result<Node, NoMemory>
     let mut slots = Vec::new(alloc);
     slots.push(slot(alloc, &DOT, ROOT)?)?;
     slots.push(slot(alloc, &DOTDOT, ROOT)?)?;
-    push_free(&mut slots, FRESH_SLOTS - 2)?;
+    push_absent(&mut slots, FRESH_SLOTS - 2)?;
     let slots = Slots::new(slots);
     Ok(Node {
         count: 1,
@@ -58,7 +50,7 @@ pub(crate) fn fresh_hart() -> Hart
 {
     Hart {
         directory: ROOT,
-        descriptors: [None; 16],
+        descriptors: [None; DESCRIPTOR_COUNT],
         hold: None,
     }
 }

@@ -11,7 +11,7 @@ use crate::copy::nodes_copy;
 use crate::fresh::{fresh_hart, fresh_nodes};
 use crate::node::{Kind, Node};
 use crate::refused::NoMemory;
-use crate::widths::ROOT;
+use crate::widths::{DESCRIPTOR_COUNT, HART_COUNT, ROOT};
 use std::alloc::Global;
 use std::marker::Model;
 use std::mem;
@@ -43,7 +43,7 @@ pub struct Hold {
 #[derive(Clone, Copy)]
 pub struct Hart {
     pub directory: u16,
-    pub descriptors: [Option<usize>; 16],
+    pub descriptors: [Option<usize>; DESCRIPTOR_COUNT],
     pub hold: Option<Hold>,
 }
 
@@ -52,7 +52,7 @@ pub struct Hart {
 pub struct Tree {
     nodes: Vec<Option<Node>>,
     files: Vec<OpenFileEntry>,
-    harts: [Hart; 8],
+    harts: [Hart; HART_COUNT as usize],
 }
 
 impl Model for Tree {
@@ -95,7 +95,7 @@ impl Tree {
         Tree {
             nodes,
             files: Vec::new(alloc),
-            harts: [fresh_hart(); 8],
+            harts: [fresh_hart(); HART_COUNT as usize],
         }
     }
 

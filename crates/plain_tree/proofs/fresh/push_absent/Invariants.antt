@@ -1,6 +1,5 @@
-use Rattle.std.proofs.Common.{◌≡◌, ◌++◌, replicate, Option, None}
-use Rattle.plain_tree.specs.declared.node.Node.{Node}
+use Rattle.std.proofs.Common.{◌≡◌, ◌++◌, replicate, None}
 use Rattle.plain_tree.proofs.fresh.push_absent.Given as goal
 
 abbrev pub invariant-loop : goal.invariant-loop
-invariant-loop l = l.nodes.items ≡ l.fn.nodes.items ++ replicate {A = Option Node} l.counter None
+invariant-loop g l = l.places.items ≡ l.fn.places.items ++ replicate l.counter None
