@@ -6,6 +6,7 @@ ghost use Rattle.plain_tree.specs.Tree.{file_in, live_directory, look, put, tree
 
 use crate::answer_of::bytes_read;
 use crate::bytes::Bytes;
+use crate::look::Found;
 use crate::node::{Kind, Node, Slot, Slots};
 use crate::refusal::has_flag;
 use crate::refused::NoMemory;
@@ -428,41 +429,47 @@ impl Tree {
         alloc: Global,
         hart: u8,
         action: &Action,
-        found: Option<u16>,
-        parent: Option<u16>,
-        name: &[u8],
+        found: &Found,
         number: u16,
         id: usize,
         answer: &StepAnswer,
     ) -> Result<(), NoMemory>
         requires hart { hart < 8 }
-        requires live { IfSome parent (λ d. live_directory ((tree_of self.old).nodes d) ≡ true) }
-        requires none { refusal_with (tree_of self.old) hart action.now found (with_name parent name.now) ≡ None }
+        requires live { IfSome found.now.parent (λ d. live_directory ((tree_of self.old).nodes d) ≡ true) }
+        requires none { refusal_with (tree_of self.old) hart action.now found.now.node (with_name found.now.parent found.now.name.now) ≡ None }
         requires place { place_of (tree_of self.old) hart action.now ≡ true }
-        requires new { makes_node (tree_of self.old) action.now (with_name parent name.now) ≡ true → IsNewNode (tree_of self.old) number }
+        requires new { makes_node (tree_of self.old) action.now (with_name found.now.parent found.now.name.now) ≡ true → IsNewNode (tree_of self.old) number }
         requires unused { is_open action.now ≡ true → (tree_of self.old).files id ≡ None }
-        requires answer { answer.now ≡ answer_with (tree_of self.old) hart action.now found (with_name parent name.now) id }
-        ensures { MatchResult result (λ _. tree_of self.new ≡ effect_with (tree_of self.old) hart action.now found (with_name parent name.now) number id) (λ _. self.new ≡ self.old) }
+        requires answer { answer.now ≡ answer_with (tree_of self.old) hart action.now found.now.node (with_name found.now.parent found.now.name.now) id }
+        ensures { MatchResult result (λ _. tree_of self.new ≡ effect_with (tree_of self.old) hart action.now found.now.node (with_name found.now.parent found.now.name.now) number id) (λ _. self.new ≡ self.old) }
     {
         match action {
             Action::Open { flags, .. } if has_flag(*flags, CREATE) => self.open_named(
-                alloc, hart, parent, name, *flags, number, id,
+                alloc,
+                hart,
+                found.parent,
+                found.name,
+                *flags,
+                number,
+                id,
             ),
-            Action::Open { flags, .. } => self.open_found(alloc, hart, found, *flags, number, id),
+            Action::Open { flags, .. } => self.open_found(
+                alloc, hart, found.node, *flags, number, id,
+            ),
             Action::Truncate { fd } => self.truncate(alloc, hart, *fd),
             Action::Read { fd, .. } => self.read(hart, *fd, bytes_read(answer)),
             Action::WritePart { fd, bytes } => self.write_part(alloc, hart, *fd, bytes.as_slice()),
             Action::Find { .. } => {
-                self.find(hart, found);
+                self.find(hart, found.node);
                 Ok(())
             }
             Action::Bump => self.bump(alloc, hart),
-            Action::Enter { .. } => self.enter_held(alloc, hart, parent, name),
+            Action::Enter { .. } => self.enter_held(alloc, hart, found.parent, found.name),
             Action::Unbump => self.unbump(alloc, hart),
-            Action::Unlink { .. } => self.unlink(alloc, parent, name),
-            Action::Mkdir { .. } => self.mkdir(alloc, parent, name, number),
+            Action::Unlink { .. } => self.unlink(alloc, found.parent, found.name),
+            Action::Mkdir { .. } => self.mkdir(alloc, found.parent, found.name, number),
             Action::Chdir { .. } => {
-                self.chdir(hart, found);
+                self.chdir(hart, found.node);
                 Ok(())
             }
             Action::Dup { fd } => {

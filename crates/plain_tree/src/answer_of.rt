@@ -6,6 +6,7 @@ ghost use Rattle.plain_tree.specs.Tree.{and_then, look, tree_of};
 
 use crate::answer::{Full, NodeType, Stat};
 use crate::bytes::Bytes;
+use crate::look::Found;
 use crate::node::Kind;
 use crate::refusal::has_flag;
 use crate::refused::NoMemory;
@@ -146,20 +147,18 @@ impl Tree {
         alloc: Global,
         hart: u8,
         action: &Action,
-        found: Option<u16>,
-        parent: Option<u16>,
-        name: &[u8],
+        found: &Found,
         id: usize,
     ) -> Result<StepAnswer, NoMemory>
-        ensures { IfOk result (λ a. a ≡ answer_with (tree_of self.now) hart action.now found (with_name parent name.now) id) }
+        ensures { IfOk result (λ a. a ≡ answer_with (tree_of self.now) hart action.now found.now.node (with_name found.now.parent found.now.name.now) id) }
     {
         match action {
             Action::Open { flags, .. } if has_flag(*flags, CREATE) => Ok(self.opened(
                 hart,
                 id,
-                self.look_in(parent, name),
+                self.look_in(found.parent, found.name),
             )),
-            Action::Open { .. } => Ok(self.opened(hart, id, found)),
+            Action::Open { .. } => Ok(self.opened(hart, id, found.node)),
             Action::Read { fd, count } => {
                 let bytes = Bytes::new(self.part(alloc, self.file_at(hart, *fd), *count)?);
                 Ok(StepAnswer::Bytes { bytes })

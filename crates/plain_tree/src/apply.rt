@@ -93,20 +93,16 @@ impl Tree {
         if !self.has_place(hart, action) {
             return Ok(out_of_place(action));
         }
-        let path = path_of(action);
-        let found = self.resolve(hart, path);
-        let (parent, name) = self.parent(hart, path);
-        if let Some(cause) = self.refusal(hart, action, found, parent, name) {
+        let found = &self.found(hart, path_of(action));
+        if let Some(cause) = self.refusal(hart, action, found) {
             self.refuse(hart, action);
             return Ok(StepAnswer::Failed { cause });
         }
-        if self.makes_node(action, parent, name) && !self.is_new(step.new) {
+        if self.makes_node(action, found) && !self.is_new(step.new) {
             return Err(ApplyRefused::BadChoice);
         }
-        let answer = self.answer(alloc, hart, action, found, parent, name, id)?;
-        self.act(
-            alloc, hart, action, found, parent, name, step.new, id, &answer,
-        )?;
+        let answer = self.answer(alloc, hart, action, found, id)?;
+        self.act(alloc, hart, action, found, step.new, id, &answer)?;
         self.settle();
         Ok(answer)
     }

@@ -8,6 +8,14 @@ use crate::paths::{begins_at_root, next_element, same};
 use crate::tree::Tree;
 use crate::widths::ROOT;
 
+/// What an action's path leads to: the node, and the live directory before the last element, with that element.
+#[derive(Drop)]
+pub(crate) struct Found<'a> {
+    pub(crate) node: Option<u16>,
+    pub(crate) parent: Option<u16>,
+    pub(crate) name: &'a [u8],
+}
+
 /// The number in the first slot of that name.
 #[tactic(auto, unfolding(crate::specs::Tree::first_slot))]
 pub(crate) fn number_of(slots: &[Option<Slot>], name: &[u8]) -> Option<u16>
@@ -57,7 +65,7 @@ impl Tree {
 
     /// The number that the path leads to.
     #[tactic(auto, unfolding(crate::specs::Tree::follow))]
-    pub(crate) fn resolve(&self, hart: u8, path: &[u8]) -> Option<u16>
+    fn resolve(&self, hart: u8, path: &[u8]) -> Option<u16>
         ensures { result ≡ resolve (tree_of self.now) hart path.now }
     {
         let mut at = self.start(hart, path);
@@ -71,7 +79,7 @@ impl Tree {
 
     #[tactic(auto, unfolding(crate::specs::Tree::parent_of, crate::specs::Tree::parent_from))]
     /// The live directory before the path's last element, and that element.
-    pub(crate) fn parent<'a>(&self, hart: u8, path: &'a [u8]) -> (Option<u16>, &'a [u8])
+    fn parent<'a>(&self, hart: u8, path: &'a [u8]) -> (Option<u16>, &'a [u8])
         ensures parent { parent (tree_of self.now) hart path.now ≡ with_name result.0 result.1.now }
         ensures live { IfSome result.0 (λ d. live_directory ((tree_of self.now).nodes d) ≡ true) }
     {
@@ -93,6 +101,20 @@ impl Tree {
             (Some(at), name)
         } else {
             (None, name)
+        }
+    }
+
+    /// What the path leads to.
+    pub(crate) fn found<'a>(&self, hart: u8, path: &'a [u8]) -> Found<'a>
+        ensures node { result.node ≡ resolve (tree_of self.now) hart path.now }
+        ensures parent { parent (tree_of self.now) hart path.now ≡ with_name result.parent result.name.now }
+        ensures live { IfSome result.parent (λ d. live_directory ((tree_of self.now).nodes d) ≡ true) }
+    {
+        let (parent, name) = self.parent(hart, path);
+        Found {
+            node: self.resolve(hart, path),
+            parent,
+            name,
         }
     }
 }

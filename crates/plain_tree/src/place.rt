@@ -4,6 +4,7 @@ ghost use Rattle.plain_tree.specs.Code.{with_name};
 ghost use Rattle.plain_tree.specs.Steps.{IsNewNode, has_descriptors, has_room, holds_raised, is_open_file, lowest, makes_node, opens_one, place_of};
 ghost use Rattle.plain_tree.specs.Tree.{is_named, tree_of};
 
+use crate::look::Found;
 use crate::refusal::has_flag;
 use crate::step::Action;
 use crate::tree::{Hold, OpenFile, Tree};
@@ -79,12 +80,12 @@ impl Tree {
     }
 
     /// The action, where it isn't refused, makes a node.
-    pub(crate) fn makes_node(&self, action: &Action, parent: Option<u16>, name: &[u8]) -> bool
-        ensures { result ≡ makes_node (tree_of self.now) action.now (with_name parent name.now) }
+    pub(crate) fn makes_node(&self, action: &Action, found: &Found) -> bool
+        ensures { result ≡ makes_node (tree_of self.now) action.now (with_name found.now.parent found.now.name.now) }
     {
         match action {
-            Action::Open { flags, .. } if has_flag(*flags, CREATE) => match parent {
-                Some(directory) => self.look(directory, name).is_none(),
+            Action::Open { flags, .. } if has_flag(*flags, CREATE) => match found.parent {
+                Some(directory) => self.look(directory, found.name).is_none(),
                 None => false,
             },
             Action::Mkdir { .. } => true,

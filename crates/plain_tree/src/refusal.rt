@@ -6,6 +6,7 @@ ghost use Rattle.plain_tree.specs.Tree.{is_directory, tree_of};
 
 use crate::answer::Cause;
 use crate::bytes::Bytes;
+use crate::look::Found;
 use crate::node::{Kind, Slot};
 use crate::paths::same;
 use crate::step::Action;
@@ -259,35 +260,29 @@ impl Tree {
         }
     }
 
-    /// The first cause that stands. `found` is what the action's path leads to, `parent` and `name` are its parent
-    /// and its last element.
+    /// The first cause that stands. `found` is what the action's path leads to.
     #[tactic(auto, unfolding(crate::specs::Steps::refusal_with))]
-    pub(crate) fn refusal(
-        &self,
-        hart: u8,
-        action: &Action,
-        found: Option<u16>,
-        parent: Option<u16>,
-        name: &[u8],
-    ) -> Option<Cause>
-        ensures { result ≡ refusal_with (tree_of self.now) hart action.now found (with_name parent name.now) }
+    pub(crate) fn refusal(&self, hart: u8, action: &Action, found: &Found) -> Option<Cause>
+        ensures { result ≡ refusal_with (tree_of self.now) hart action.now found.now.node (with_name found.now.parent found.now.name.now) }
     {
         match action {
             Action::Open { flags, .. } if has_flag(*flags, CREATE) => self.open_new(
-                *flags, parent, name,
+                *flags,
+                found.parent,
+                found.name,
             ),
-            Action::Open { flags, .. } => self.open_old(*flags, found),
+            Action::Open { flags, .. } => self.open_old(*flags, found.node),
             Action::Read { fd, .. } => self.read_refusal(self.file_at(hart, *fd)),
             Action::WritePart { fd, bytes } => self.write_refusal(
                 bytes.as_slice(),
                 self.file_at(hart, *fd),
             ),
-            Action::Find { .. } => self.find_refusal(found),
+            Action::Find { .. } => self.find_refusal(found.node),
             Action::Bump => self.bump_refusal(self.hold(hart)),
-            Action::Enter { .. } => self.enter_refusal(parent, name),
-            Action::Unlink { .. } => self.unlink_refusal(parent, name),
-            Action::Mkdir { .. } => self.mkdir_refusal(parent, name),
-            Action::Chdir { .. } => self.chdir_refusal(found),
+            Action::Enter { .. } => self.enter_refusal(found.parent, found.name),
+            Action::Unlink { .. } => self.unlink_refusal(found.parent, found.name),
+            Action::Mkdir { .. } => self.mkdir_refusal(found.parent, found.name),
+            Action::Chdir { .. } => self.chdir_refusal(found.node),
             Action::Dup { fd } | Action::Close { fd } | Action::Fstat { fd } => match self.file_at(
                 hart, *fd,
             ) {
