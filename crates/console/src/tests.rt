@@ -300,13 +300,14 @@ fn help_names_the_program(rt: HostRuntime) -> Result<(), Fail> {
     for word in ["out/console_program.kept", "--help"] {
         words.push(String::from_str(alloc, word)?)?;
     }
-    match options(alloc, words.as_slice()) {
-        Ok(_) => panic!(rt; "help runs no script"),
-        Err(error) if error.kind() == ErrorKind::OutOfMemory => return Err(Fail::from(AllocError)),
-        Err(error) => {
-            let text = format!(in alloc; "{error}")?;
-            assert!(rt; text.as_str().contains("Usage: console [IMAGE]"), "{text}");
-        }
+    let error = match options(alloc, words.as_slice()) {
+        Ok(_) => return Err(Fail::new("help runs no script")),
+        Err(error) => error,
+    };
+    if error.kind() == ErrorKind::OutOfMemory {
+        return Err(Fail::from(AllocError));
     }
+    let text = format!(in alloc; "{error}")?;
+    assert!(rt; text.as_str().contains("Usage: console [IMAGE]"), "{text}");
     Ok(())
 }
