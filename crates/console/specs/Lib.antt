@@ -2,7 +2,9 @@ pub mod Faults
 pub mod Held
 pub mod Images
 pub mod Makes
+pub mod Numbers
 pub mod Options
 pub mod Root
 pub mod View
 pub mod Single
+pub mod Starts

@@ -9,6 +9,8 @@ mod run;
 mod script;
 mod single;
 mod start;
+#[cfg(test)]
+mod start_tests;
 mod stop;
 #[cfg(test)]
 mod tests;

@@ -4,6 +4,7 @@ ghost use Rattle.block_device.specs.Blocks.{blocks_of};
 ghost use Rattle.mkfs.specs.Image.{image_of};
 ghost use Rattle.console.specs.Held.{IsMounted};
 ghost use Rattle.console.specs.Images.{disk_for, fresh_bytes, JudgesImage};
+ghost use Rattle.console.specs.Starts.{started_call};
 
 use crate::fault::ConsoleFault;
 use crate::script::{Command, parse};
@@ -138,7 +139,9 @@ fn run_command<D: Device, W: Write>(
     }
 }
 
-fn call_of(alloc: Global, command: Command) -> Result<Call, AllocError> {
+fn call_of(alloc: Global, command: Command) -> Result<Call, AllocError>
+    ensures { IfOk result (λ call. call ≡ started_call command) }
+{
     match command {
         Command::Open { path, flags } => Ok(Call::Open {
             path: Bytes::new(path),

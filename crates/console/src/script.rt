@@ -1,5 +1,6 @@
 //! A script: one command on each line, in words parted by single spaces (docs/SCRIPT.md).
-ghost use Rattle.std.specs.Prelude.{◌<◌, IfSome};
+ghost use Rattle.std.specs.Prelude.{◌≡◌, ◌≢◌, ◌<◌, IfSome, MatchBool};
+ghost use Rattle.console.specs.Numbers.{call_name};
 
 use arrayvec::ArrayVec;
 use std::alloc::{AllocError, Global};
@@ -24,7 +25,9 @@ pub enum Command {
 
 impl Command {
     /// The word by which a script says the call.
-    pub fn name(&self) -> &'static str {
+    pub fn name(&self) -> &'static str
+        ensures { result.now ≡ call_name self.now }
+    {
         match self {
             Command::Open { .. } => "open",
             Command::Read { .. } => "read",
@@ -101,7 +104,9 @@ fn parse_line(alloc: Global, line: &[u8]) -> Result<Command, LineFault> {
     }
 }
 
-fn is_word(word: &[u8], text: &[u8]) -> bool {
+fn is_word(word: &[u8], text: &[u8]) -> bool
+    ensures { MatchBool result (word.now ≡ text.now) (word.now ≢ text.now) }
+{
     word == text
 }
 

@@ -1,4 +1,8 @@
 //! What is tested before a call is started.
+ghost use Rattle.std.specs.Prelude.{◌≡◌};
+ghost use Rattle.console.specs.Numbers.{start_name, start_number};
+ghost use Rattle.console.specs.Starts.{IsFirstRefusal};
+
 use crate::script::Command;
 
 /// The longest path, in bytes.
@@ -20,12 +24,16 @@ pub enum StartRefused {
 
 impl StartRefused {
     /// The number under which it is printed.
-    pub fn number(&self) -> u8 {
+    pub fn number(&self) -> u8
+        ensures { result ≡ start_number self.now }
+    {
         *self as u8
     }
 
     /// The name under which it is printed.
-    pub fn name(&self) -> &'static str {
+    pub fn name(&self) -> &'static str
+        ensures { result.now ≡ start_name self.now }
+    {
         match self {
             StartRefused::PathTooLong => "PathTooLong",
             StartRefused::ZeroInPath => "ZeroInPath",
@@ -35,20 +43,13 @@ impl StartRefused {
 }
 
 /// Why the command's call isn't started. It takes no memory.
-pub fn start_refused(command: &Command) -> Option<StartRefused> {
+pub fn start_refused(command: &Command) -> Option<StartRefused>
+    ensures { IsFirstRefusal command.now result }
+{
     match command {
-        Command::Open { path, .. } => path_refused(path.as_slice()),
+        Command::Open { path, .. } if path.len() > LONGEST_PATH => Some(StartRefused::PathTooLong),
+        Command::Open { path, .. } if path.contains(&0) => Some(StartRefused::ZeroInPath),
         Command::Read { count, .. } if *count > LONGEST_PART => Some(StartRefused::TooLong),
         _ => None,
-    }
-}
-
-fn path_refused(path: &[u8]) -> Option<StartRefused> {
-    if path.len() > LONGEST_PATH {
-        Some(StartRefused::PathTooLong)
-    } else if path.contains(&0) {
-        Some(StartRefused::ZeroInPath)
-    } else {
-        None
     }
 }

@@ -1,5 +1,6 @@
 //! Why a call has no reply.
 ghost use Rattle.std.specs.Prelude.{◌≡◌};
+ghost use Rattle.console.specs.Numbers.{stop_name, stop_number};
 
 use plain_tree::Call;
 
@@ -14,12 +15,16 @@ pub enum Stop {
 
 impl Stop {
     /// The number under which it is printed.
-    pub fn number(&self) -> u8 {
+    pub fn number(&self) -> u8
+        ensures { result ≡ stop_number self.now }
+    {
         *self as u8
     }
 
     /// The name under which it is printed.
-    pub fn name(&self) -> &'static str {
+    pub fn name(&self) -> &'static str
+        ensures { result.now ≡ stop_name self.now }
+    {
         match self {
             Stop::DeviceFault => "DeviceFault",
             Stop::Halted => "Halted",

@@ -88,13 +88,30 @@ fn prints_what_the_calls_answer(rt: HostRuntime) -> Result<(), Fail> {
             "0 open fd 0\n0 fstat 1 1 1 1 1024\n0 read 32 01002e0000000000000000000000000001002e2e000000000000000000000000\n0 read 0\n",
         ),
         (
-            "do 0 open /a 0\ndo 0 open hex:2f00 0\ndo 0 read 0 524289\n",
-            "0 open refused 49 NotYet\n0 open refused 43 ZeroInPath\n0 read refused 44 TooLong\n",
+            "do 0 open /a 0\ndo 0 open hex:2f00 0\ndo 0 read 5 524288\ndo 0 read 5 524289\n",
+            "0 open refused 49 NotYet\n0 open refused 43 ZeroInPath\n0 read failed 6 BadDescriptor\n0 read refused 44 TooLong\n",
         ),
     ] {
         let (out, fault) = run(rt.alloc(), None, script.as_bytes())?;
         assert!(rt; fault.is_none());
         assert!(rt; out.as_slice() == lines.as_bytes(), "of {script}");
+    }
+    Ok(())
+}
+
+#[test]
+fn opens_paths_up_to_their_longest(rt: HostRuntime) -> Result<(), Fail> {
+    for (len, line) in [
+        (127, "0 open fd 0\n"),
+        (128, "0 open refused 42 PathTooLong\n"),
+    ] {
+        let path = vec![in rt.alloc(); b'/'; len]?;
+        let mut script = Vec::from_slice(rt.alloc(), b"do 0 open ")?;
+        script.extend_from_slice(path.as_slice())?;
+        script.extend_from_slice(b" 0")?;
+        let (out, fault) = run(rt.alloc(), None, script.as_slice())?;
+        assert!(rt; fault.is_none());
+        assert!(rt; out.as_slice() == line.as_bytes(), "of {len} bytes");
     }
     Ok(())
 }
