@@ -15,12 +15,11 @@ mod stop;
 #[cfg(test)]
 mod tests;
 mod text;
+#[cfg(test)]
+mod text_tests;
 
 pub use crate::command_line::{IMAGE, options};
 pub use crate::fault::{ConsoleFault, status};
-pub use crate::run::{LONGEST_SCRIPT, Mode, run_script};
-pub use crate::script::{Command, ScriptFault, parse};
+pub use crate::run::{Mode, run_script};
 pub use crate::single::Single;
-pub use crate::start::StartRefused;
 pub use crate::stop::{SingleFault, Stop};
-pub use crate::text::{call_name, write_reply};

@@ -11,7 +11,7 @@ use crate::script::{Command, parse};
 use crate::single::Single;
 use crate::start::start_refused;
 use crate::stop::SingleFault;
-use crate::text::{call_name, write_not_yet, write_refused, write_reply, write_stopped};
+use crate::text::{write_not_yet, write_refused, write_reply, write_stopped};
 use block_device::{Device, MemoryDisk};
 use mkfs::{MakeRefused, make};
 use plain_tree::{Bytes, Call};
@@ -122,16 +122,14 @@ fn run_command<D: Device, W: Write>(
     ensures contents { D.contents single.new.device ≡ D.contents single.old.device }
     ensures judges { IfErr result (λ fault. (disk : List (List ℕ)) → JudgesImage disk fault) }
 {
+    let name = command.name();
     if let Some(refused) = start_refused(&command) {
-        return write_refused(out, command.name(), refused).map_err(ConsoleFault::Write);
+        return write_refused(out, name, refused).map_err(ConsoleFault::Write);
     }
     let call = call_of(alloc, command)?;
-    let name = call_name(&call);
     match single.call(call) {
-        Ok(reply) => write_reply(out, &reply).map_err(ConsoleFault::Write),
-        Err(SingleFault::NotYet(call)) => {
-            write_not_yet(out, call_name(&call)).map_err(ConsoleFault::Write)
-        }
+        Ok(reply) => write_reply(out, name, &reply).map_err(ConsoleFault::Write),
+        Err(SingleFault::NotYet(_call)) => write_not_yet(out, name).map_err(ConsoleFault::Write),
         Err(SingleFault::Stop(stop)) => {
             write_stopped(out, name, stop).map_err(ConsoleFault::Write)?;
             Err(ConsoleFault::Stopped(stop))

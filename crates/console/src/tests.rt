@@ -1,7 +1,6 @@
 //! What no clause says: the lines that are printed, the statuses, and that the calls can succeed.
-use crate::{
-    ConsoleFault, LONGEST_SCRIPT, Mode, Single, SingleFault, Stop, options, run_script, status,
-};
+use crate::run::LONGEST_SCRIPT;
+use crate::{ConsoleFault, Mode, Single, SingleFault, Stop, options, run_script, status};
 use block_device::{Device, Fused, MemoryDisk};
 use clap::error::ErrorKind;
 use image_tree::MountFault;

@@ -11,26 +11,8 @@ const HART: u8 = 0;
 /// The number of a refusal that stands for calls to come.
 const NOT_YET: u8 = 49;
 
-/// The word by which a script says a call.
-pub fn call_name(call: &Call) -> &'static str {
-    match call {
-        Call::Open { .. } => "open",
-        Call::Read { .. } => "read",
-        Call::Write { .. } => "write",
-        Call::Link { .. } => "link",
-        Call::Unlink { .. } => "unlink",
-        Call::Mkdir { .. } => "mkdir",
-        Call::Chdir { .. } => "chdir",
-        Call::Dup { .. } => "dup",
-        Call::Fstat { .. } => "fstat",
-        Call::Close { .. } => "close",
-        Call::Inherit { .. } => "inherit",
-    }
-}
-
 /// The line of a reply.
-pub fn write_reply<W: Write>(out: &mut W, reply: &Reply) -> io::Result<()> {
-    let name = call_name(&reply.call);
+pub fn write_reply<W: Write>(out: &mut W, name: &str, reply: &Reply) -> io::Result<()> {
     match reply.answer {
         Answer::Fd(fd) => writeln!(out, "{HART} {name} fd {fd}"),
         Answer::Count(count) => {
