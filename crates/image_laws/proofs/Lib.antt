@@ -1,0 +1,5 @@
+pub mod Lists
+pub mod Slots
+pub mod Nodes
+pub mod Links
+pub mod Depths
