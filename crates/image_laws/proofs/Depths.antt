@@ -1,33 +1,29 @@
 -- How far below the root a directory stands.
-use Rattle.std.proofs.Common.{◌≡◌, ◌≢◌, ℕ, zero, suc, ◌+◌, ◌<◌, Bool, true, false, ◌⊎◌, inl, inr, refl, sym, ◌∙◌, ap, arith, List}
+use Rattle.std.proofs.Common.{◌≡◌, ◌≢◌, ℕ, zero, suc, ◌+◌, ◌<◌, Bool, true, false, eqb, ◌⊎◌, inl, inr, refl, sym, ◌∙◌, ap, arith, List}
 use Rattle.std.proofs.lemmas.Bool.{false≢true}
 use Rattle.image_tree.specs.Inodes.{is_live_directory}
 use Rattle.image_tree.specs.Links.{up, climb}
 use Rattle.image_tree.specs.Checks.{HasGoodSlots, IsOneTree}
-use Rattle.tree_laws.proofs.Maps.{either, same_or}
+use Rattle.tree_laws.proofs.Maps.{either, eq_not, same_or}
 use Rattle.image_laws.proofs.Links.{up_live}
+
+abbrev one_more_unless : Bool → ℕ → ℕ
+one_more_unless true n = 0
+one_more_unless false n = suc n
 
 -- the first of at most so many steps that leads to the root
 first_step : ℕ → (ℕ → ℕ) → ℕ → ℕ
 first_step zero f d = 0
-first_step (suc n) f d = elim (same_or d 1) [ inl e ↦ 0 | inr ne ↦ suc (first_step n f (f d)) ]
+first_step (suc n) f d = one_more_unless (eqb d 1) (first_step n f (f d))
 
 step_at_root : (n : ℕ) (f : ℕ → ℕ) (d : ℕ) → d ≡ 1 → first_step n f d ≡ 0
 unfolding first_step
 step_at_root zero f d e = refl
-step_at_root (suc n) f d e = go (same_or d 1)
-  where
-    go : (w : (d ≡ 1) ⊎ (d ≢ 1)) → elim w [ inl e ↦ 0 | inr ne ↦ suc (first_step n f (f d)) ] ≡ 0
-    go (inl q) = refl
-    go (inr ne) = absurd (ne e)
+step_at_root (suc n) f d e = ap (λ (b : Bool). one_more_unless b (first_step n f (f d))) (ap (λ (k : ℕ). eqb k 1) e)
 
 step_below : (n : ℕ) (f : ℕ → ℕ) (d : ℕ) → d ≢ 1 → first_step (suc n) f d ≡ suc (first_step n f (f d))
 unfolding first_step
-step_below n f d ne = go (same_or d 1)
-  where
-    go : (w : (d ≡ 1) ⊎ (d ≢ 1)) → elim w [ inl e ↦ 0 | inr ne ↦ suc (first_step n f (f d)) ] ≡ suc (first_step n f (f d))
-    go (inl e) = absurd (ne e)
-    go (inr q) = refl
+step_below n f d ne = ap (λ (b : Bool). one_more_unless b (first_step n f (f d))) (eq_not d 1 ne)
 
 climb_none : (f : ℕ → ℕ) (d : ℕ) → climb f 0 d ≡ 1 → d ≡ 1
 unfolding climb

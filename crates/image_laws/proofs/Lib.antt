@@ -3,3 +3,4 @@ pub mod Slots
 pub mod Nodes
 pub mod Links
 pub mod Depths
+pub mod Forests
