@@ -33,7 +33,7 @@ dead_count (negsuc m) n e h = absurd (let q : false ≡ true = ap is_negative (s
 
 positive : (z : ℤ) → pos 0 <ℤ z → is_positive z ≡ true
 positive (pos n) h = grind (arith, nat_tests)
-positive (negsuc n) h = absurd h
+positive (negsuc n) h = absurd h.lt
 
 module _ (disk : List (List ℕ)) (many : 2 ≤ (sizes_of disk).ninodes) (has_root : HasRoot disk) (good : HasGoodSlots disk) (one : IsOneTree disk) (counts : HasGoodCounts disk) where
   pub root_live : is_live_directory disk 1 ≡ true

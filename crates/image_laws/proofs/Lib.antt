@@ -4,3 +4,4 @@ pub mod Nodes
 pub mod Links
 pub mod Depths
 pub mod Forests
+pub mod Trees
