@@ -1,5 +1,5 @@
 -- How far below the root a directory stands.
-use Rattle.std.proofs.Common.{◌≡◌, ◌≢◌, ℕ, zero, suc, ◌+◌, ◌<◌, Bool, true, false, eqb, ◌⊎◌, inl, inr, refl, sym, ◌∙◌, ap, arith, List}
+use Rattle.std.proofs.Common.{◌≡◌, ◌≢◌, ℕ, zero, suc, ◌<◌, Bool, true, false, eqb, ◌⊎◌, inl, inr, refl, sym, ◌∙◌, ap, arith, List}
 use Rattle.std.proofs.lemmas.Bool.{false≢true}
 use Rattle.image_tree.specs.Inodes.{is_live_directory}
 use Rattle.image_tree.specs.Links.{up, climb}

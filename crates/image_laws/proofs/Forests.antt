@@ -1,5 +1,5 @@
 -- The tree of a well-formed image is one forest under the root, and its counts are numbers of links.
-use Rattle.std.proofs.Common.{◌≡◌, ◌≢◌, ℕ, zero, suc, ◌+◌, ◌<◌, ◌≤◌, Bool, true, false, ℤ, pos, negsuc, inl, inr, refl, sym, ◌∙◌, ap, subst, arith, List, Option, Some, None}
+use Rattle.std.proofs.Common.{◌≡◌, ℕ, ◌+◌, ◌<◌, ◌≤◌, Bool, true, false, ℤ, pos, negsuc, inl, inr, refl, sym, ◌∙◌, ap, subst, arith, List, Option, Some, None}
 use Rattle.std.specs.Prelude.{nat_lt, ◌<ℤ◌}
 use Rattle.std.proofs.lemmas.Bool.{false≢true}
 use Rattle.std.proofs.lemmas.Bool.Decides.{nat_tests}
@@ -11,9 +11,9 @@ use Rattle.image_tree.specs.Links.{slots_in, up, names_of, further_names_of, chi
 use Rattle.image_tree.specs.Checks.{HasRoot, HasGoodSlots, IsOneTree, HasGoodCounts}
 use Rattle.image_tree.specs.Trees.{count_of, node_of}
 use Rattle.image_tree.proofs.Nodes.{node_is, directory_is, directory_from}
-use Rattle.tree_laws.specs.WellFormed.{Slots, folder, links_of, up_in, past, count_in, mentions, children, IsInOrder, IsForest}
-use Rattle.tree_laws.proofs.Maps.{either, same_or}
-use Rattle.image_laws.proofs.Slots.{in_tree, past_in_tree, dots_stand, names_stand_once}
+use Rattle.tree_laws.specs.WellFormed.{Slots, links_of, up_in, past, count_in, mentions, IsInOrder, IsForest}
+use Rattle.tree_laws.proofs.Maps.{either}
+use Rattle.image_laws.proofs.Slots.{in_tree, dots_stand, names_stand_once}
 use Rattle.image_laws.proofs.Nodes.{no_node, dead_node, live_node, directory_node, directory_folder, other_folder, past_counts, directory_there}
 use Rattle.image_laws.proofs.Links.{folders_in, up_of, mentions_are, further_le_names, unnamed_no_node, up_live, stands_once, file_names, children_are}
 use Rattle.image_laws.proofs.Depths.{depth_in, higher}

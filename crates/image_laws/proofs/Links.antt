@@ -1,5 +1,5 @@
 -- Who names whom, in an image whose slots are good and that is one tree.
-use Rattle.std.proofs.Common.{◌≡◌, ◌≢◌, ◌⊎◌, ℕ, zero, suc, ◌+◌, ◌-◌, ◌<◌, ◌≤◌, Bool, true, false, not, eqb, inl, inr, refl, sym, ◌∙◌, ap, subst, arith, List, [], ◌∷◌, length, drop, filter, get_or, Option, Some, None}
+use Rattle.std.proofs.Common.{◌≡◌, ◌≢◌, ◌⊎◌, ℕ, zero, suc, ◌-◌, ◌≤◌, Bool, true, false, not, eqb, inl, inr, refl, sym, ◌∙◌, ap, subst, arith, List, [], ◌∷◌, drop, filter, Option}
 use Rattle.std.specs.Prelude.{◌&&◌}
 use Rattle.std.specs.List.{All}
 use Rattle.std.proofs.lemmas.Bool.{false≢true}
@@ -8,38 +8,27 @@ use Rattle.fs_layout.specs.Recovered.{sizes_of}
 use Rattle.plain_tree.specs.Widths.{root}
 use Rattle.image_tree.specs.Lists.{gathered, times}
 use Rattle.image_tree.specs.Inodes.{is_node, is_live_directory, last}
-use Rattle.image_tree.specs.Links.{slots_in, slot_numbers, number_in, up, named_in, further_in, proper_in, parent_of, names_of, further_names_of, children_of, climb, Reaches}
+use Rattle.image_tree.specs.Links.{slots_in, slot_numbers, up, named_in, further_in, proper_in, parent_of, names_of, further_names_of, children_of, climb}
 use Rattle.image_tree.specs.Checks.{HasGoodSlots, IsOneTree}
 use Rattle.image_tree.specs.Trees.{node_of}
 use Rattle.image_tree.proofs.Nodes.{directory_is}
+use Rattle.image_tree.proofs.LinkLemmas.{up_none, no_directory_zero}
 use Rattle.tree_laws.specs.WellFormed.{Slots, Folders, folder, one_if, up_in, has_up, past, count_in, sum_below, mentions, children}
 use Rattle.tree_laws.proofs.Maps.{either, eq_self, eq_not, same_or}
 use Rattle.tree_laws.proofs.Sums.{count_nil}
 use Rattle.image_laws.proofs.Lists.{times_nil, times_cons, no_hit, sum_gathered, gathered_same, gathered_le, gathered_none, gathered_only, times_filtered, times_dropped, filter_keeps, filter_drops}
-use Rattle.image_laws.proofs.Slots.{Entries, in_tree, past_in_tree, counts_same, up_same, further_le, further_same}
-use Rattle.image_laws.proofs.Nodes.{directory_folder, other_folder, past_counts}
+use Rattle.image_laws.proofs.Slots.{Entries, in_tree, up_same, further_le, further_same}
+use Rattle.image_laws.proofs.Nodes.{no_slots, directory_folder, other_folder, past_counts}
 
 -- the slots of the tree's live directories
 abbrev pub folders_in : List (List ℕ) → Folders
 folders_in disk = λ i. folder (node_of disk i)
 
-no_directory : (disk : List (List ℕ)) (i : ℕ) → is_live_directory disk i ≡ false → slots_in disk i ≡ []
-unfolding slots_in
-no_directory disk i h = rw h refl
-
--- inode 0 is no directory
-zero_is_none : (disk : List (List ℕ)) → is_live_directory disk 0 ≡ false
-unfolding is_live_directory
-zero_is_none disk = refl
-
 pub up_of : (disk : List (List ℕ)) (i : ℕ) → up_in (in_tree (slots_in disk i)) ≡ up disk i
 up_of disk i = up_same (slots_in disk i)
 
-up_of_none : (disk : List (List ℕ)) (i : ℕ) → is_live_directory disk i ≡ false → up disk i ≡ 0
-up_of_none disk i h = ap (λ (slots : Entries). number_in (get_or slots 1 None)) (no_directory disk i h)
-
-further_of_none : (disk : List (List ℕ)) (i : ℕ) → is_live_directory disk i ≡ false → further_in disk i ≡ []
-further_of_none disk i h = ap (λ (slots : Entries). slot_numbers (drop 2 slots)) (no_directory disk i h)
+no_further : (disk : List (List ℕ)) (i : ℕ) → is_live_directory disk i ≡ false → further_in disk i ≡ []
+no_further disk i h = ap (λ (slots : Entries). slot_numbers (drop 2 slots)) (no_slots disk i h)
 
 -- how many slots past the first two name i
 pub mentions_are : (disk : List (List ℕ)) (i : ℕ) → 1 ≤ (sizes_of disk).ninodes → mentions (folders_in disk) (sizes_of disk).ninodes i ≡ further_names_of disk i
@@ -48,7 +37,7 @@ mentions_are disk i some =
     let all : ℕ = (sizes_of disk).ninodes in
     let e : all ≡ suc (all - 1) = omega arith in
     let named : ℕ → ℕ = λ d. count_in (past (folders_in disk d)) i in
-    let none : named 0 ≡ 0 = ap (λ (o : Option Slots). count_in (past o) i) (other_folder disk 0 (zero_is_none disk)) ∙ count_nil i in
+    let none : named 0 ≡ 0 = ap (λ (o : Option Slots). count_in (past o) i) (other_folder disk 0 (no_directory_zero disk)) ∙ count_nil i in
     ap (λ (n : ℕ). sum_below n named) e ∙ sum_gathered (further_in disk) named i (all - 1) none (λ d low high. past_counts disk d i)
 
 pub further_le_names : (disk : List (List ℕ)) (i : ℕ) → further_names_of disk i ≤ names_of disk i
@@ -67,7 +56,7 @@ unnamed_no_node disk i good h =
     gathered_none (named_in disk) i (last disk) (λ d.
     elim (either (is_live_directory disk d)) [
       | inl y ↦ times_absent (is_node disk) i (named_in disk d) (good d y).nodes h
-      | inr y ↦ ap (λ (slots : Entries). times i (slot_numbers slots)) (no_directory disk d y)
+      | inr y ↦ ap (λ (slots : Entries). times i (slot_numbers slots)) (no_slots disk d y)
     ])
 
 module _ (disk : List (List ℕ)) (good : HasGoodSlots disk) (one : IsOneTree disk) where
@@ -86,7 +75,7 @@ module _ (disk : List (List ℕ)) (good : HasGoodSlots disk) (one : IsOneTree di
       | inr y ↦
           let none : times i (gathered (proper_in disk) (last disk)) ≡ 0 = gathered_none (proper_in disk) i (last disk) (λ k. elim (same_or (up disk i) k) [
             | inr other ↦ unproper i k other
-            | inl e ↦ proper i k e ∙ ap (times i) (further_of_none disk k (subst (λ (z : ℕ). is_live_directory disk z ≡ false) e y))
+            | inl e ↦ proper i k e ∙ ap (times i) (no_further disk k (subst (λ (z : ℕ). is_live_directory disk z ≡ false) e y))
           ]) in
           absurd (omega (arith, none, one.proper i live ne))
     ]
@@ -117,7 +106,7 @@ module _ (disk : List (List ℕ)) (good : HasGoodSlots disk) (one : IsOneTree di
       gathered_same (named_in disk) (further_in disk) i (last disk) (λ d.
       elim (either (is_live_directory disk d)) [
         | inl y ↦ further_same (slots_in disk d) d i (good d y).first (good d y).second (apart d y) (apart (up disk d) (up_live d y))
-        | inr y ↦ ap (λ (slots : Entries). times i (slot_numbers slots)) (no_directory disk d y) ∙ ap (λ (slots : Entries). times i (slot_numbers (drop 2 slots))) (sym (no_directory disk d y))
+        | inr y ↦ ap (λ (slots : Entries). times i (slot_numbers slots)) (no_slots disk d y) ∙ ap (λ (slots : Entries). times i (slot_numbers (drop 2 slots))) (sym (no_slots disk d y))
       ])
     where
       apart : (d : ℕ) → is_live_directory disk d ≡ true → d ≢ i
@@ -137,12 +126,9 @@ module _ (disk : List (List ℕ)) (good : HasGoodSlots disk) (one : IsOneTree di
   alone : (i n : ℕ) → times i (n ∷ []) ≡ one_if (eqb n i)
   alone i n = omega (arith, times_cons i n [], times_nil i)
 
-  -- what a filtered single number adds
+  -- a number alone, where another one is left out
   kept : (i n c : ℕ) → eqb n c ≡ false → times i (filter (λ m. not (eqb m c)) (n ∷ [])) ≡ one_if (eqb n i)
-  kept i n c h = times_filtered_one (λ m. not (eqb m c)) (ap not h)
-    where
-      times_filtered_one : (p : ℕ → Bool) → p n ≡ true → times i (filter p (n ∷ [])) ≡ one_if (eqb n i)
-      times_filtered_one p y = ap (times i) (filter_keeps p n [] y) ∙ alone i n
+  kept i n c h = ap (times i) (filter_keeps (λ m. not (eqb m c)) n [] (ap not h)) ∙ alone i n
 
   left_out : (i n c : ℕ) → eqb n c ≡ true → times i (filter (λ m. not (eqb m c)) (n ∷ [])) ≡ 0
   left_out i n c h = ap (times i) (filter_drops (λ m. not (eqb m c)) n [] (ap not h))
@@ -162,7 +148,7 @@ module _ (disk : List (List ℕ)) (good : HasGoodSlots disk) (one : IsOneTree di
     | inr y ↦
         let zero : eqb 0 c ≡ false = eq_not 0 c (λ e. absurd (omega (arith, e))) in
         let parent : times i (parent_of disk c) ≡ one_if (eqb 0 i) =
-        ap (λ (n : ℕ). times i (filter (λ m. not (eqb m c)) (n ∷ []))) (up_of_none disk c y) ∙ kept i 0 c zero in
+        ap (λ (n : ℕ). times i (filter (λ m. not (eqb m c)) (n ∷ []))) (up_none disk c y) ∙ kept i 0 c zero in
         no_child (eqb c root) (has_up (folders_in disk c) i) (inr (no_up i c y)) ∙ sym (parent ∙ no_hit 0 i (λ e. absurd (omega (arith, e))))
     | inl y ↦ elim (same_or c 1) [
       | inl e ↦
@@ -184,4 +170,4 @@ module _ (disk : List (List ℕ)) (good : HasGoodSlots disk) (one : IsOneTree di
       ap (λ (n : ℕ). sum_below n (child i)) e ∙ sum_gathered (parent_of disk) (child i) i (all - 1) nothing (λ c some high. child_same i c low some)
     where
       nothing : child i 0 ≡ 0
-      nothing = no_child (eqb 0 root) (has_up (folders_in disk 0) i) (inr (no_up i 0 (zero_is_none disk)))
+      nothing = no_child (eqb 0 root) (has_up (folders_in disk 0) i) (inr (no_up i 0 (no_directory_zero disk)))

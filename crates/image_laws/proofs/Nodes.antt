@@ -1,24 +1,23 @@
 -- The nodes of the tree that an image holds, and their slots.
-use Rattle.std.proofs.Common.{◌≡◌, ◌≢◌, ℕ, zero, suc, ◌+◌, ◌<◌, ◌≤◌, Bool, true, false, ℤ, pos, negsuc, eqb, inl, inr, refl, sym, ◌∙◌, ap, arith, List, [], ◌∷◌, ◌++◌, length, length-append, drop, map, get_or, Option, Some, None}
-use Rattle.std.specs.Prelude.{◌&&◌, nat_lt}
+use Rattle.std.proofs.Common.{◌≡◌, ⊎_elim, ℕ, zero, suc, ◌<◌, ◌≤◌, true, false, ℤ, pos, negsuc, eqb, inl, inr, refl, sym, ◌∙◌, ap, arith, List, [], ◌∷◌, length, length-append, drop, get_or, Option, Some, None}
+use Rattle.std.specs.Prelude.{nat_lt}
 use Rattle.std.proofs.lemmas.Bool.{false≢true, false_from_ne_true, cases_lt, eqb-true}
 use Rattle.std.proofs.lemmas.List.{get_or_past, get_or_append_left, get_or_at}
-use Rattle.std.proofs.Common.{⊎_elim}
 use Rattle.fs_layout.specs.declared.inode.Dinode.{Dinode}
 use Rattle.fs_layout.specs.Recovered.{sizes_of}
 use Rattle.plain_tree.specs.declared.node.Node.{Node}
 use Rattle.plain_tree.specs.declared.node.Kind.{Kind}
-use Rattle.plain_tree.specs.declared.node.Kind.TheVariants.{Directory, File, Device}
-use Rattle.plain_tree.specs.Tree.{Tree, tree_of, is_directory, live_directory, all_slots}
+use Rattle.plain_tree.specs.declared.node.Kind.TheVariants.{Directory}
+use Rattle.plain_tree.specs.Tree.{tree_of, is_directory, live_directory}
 use Rattle.image_tree.specs.Lists.{times}
 use Rattle.image_tree.specs.Inodes.{inode_of, is_free, is_number, is_positive, is_live, is_node, is_live_directory}
 use Rattle.image_tree.specs.Inodes as inodes
 use Rattle.image_tree.specs.Links.{slots_in, slot_numbers, further_in}
 use Rattle.image_tree.specs.Trees.{is_file, kind_of, count_of, node_of, first_nodes, tree_in}
 use Rattle.image_tree.proofs.Nodes.{node_is, node_from, directory_is, directory_from}
-use Rattle.tree_laws.specs.WellFormed.{Slots, Folders, folder, links_of, past, count_in}
+use Rattle.tree_laws.specs.WellFormed.{Slots, folder, past, count_in}
 use Rattle.tree_laws.proofs.Maps.{either}
-use Rattle.tree_laws.proofs.Nodes.{folder_live, folder_dead}
+use Rattle.tree_laws.proofs.Nodes.{folder_dead}
 use Rattle.tree_laws.proofs.Sums.{count_nil}
 use Rattle.image_laws.proofs.Slots.{Entries, in_tree, past_in_tree, counts_same}
 
@@ -51,9 +50,6 @@ dead_node disk i h = elim (either (is_node disk i)) [
   | inl y ↦ rw (y, h) refl
   | inr y ↦ rw y refl
 ]
-
-node_in : List (List ℕ) → ℕ → Node
-node_in disk i = record { count = count_of (inode_of disk i).nlink; kind = kind_of disk (inode_of disk i) }
 
 pub live_node : (disk : List (List ℕ)) (i : ℕ) → is_node disk i ≡ true → is_live (inode_of disk i) ≡ true
     → node_of disk i ≡ Some (record { count = count_of (inode_of disk i).nlink; kind = kind_of disk (inode_of disk i) })
@@ -105,9 +101,9 @@ slots_of_directory : (disk : List (List ℕ)) (i : ℕ) → is_live_directory di
 unfolding slots_in
 slots_of_directory disk i h = rw h refl
 
-slots_of_other : (disk : List (List ℕ)) (i : ℕ) → is_live_directory disk i ≡ false → slots_in disk i ≡ []
+pub no_slots : (disk : List (List ℕ)) (i : ℕ) → is_live_directory disk i ≡ false → slots_in disk i ≡ []
 unfolding slots_in
-slots_of_other disk i h = rw h refl
+no_slots disk i h = rw h refl
 
 -- the node of a live directory
 pub directory_there : (disk : List (List ℕ)) (i : ℕ) → is_live_directory disk i ≡ true
@@ -153,5 +149,5 @@ past_counts disk d i = elim (either (is_live_directory disk d)) [
   | inr y ↦
       ap (λ (o : Option Slots). count_in (past o) i) (other_folder disk d y)
       ∙ count_nil i
-      ∙ ap (λ (ss : Entries). times i (slot_numbers (drop 2 ss))) (sym (slots_of_other disk d y))
+      ∙ ap (λ (ss : Entries). times i (slot_numbers (drop 2 ss))) (sym (no_slots disk d y))
 ]

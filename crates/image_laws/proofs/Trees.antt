@@ -1,5 +1,6 @@
 -- A well-formed image holds a well-formed tree.
-use Rattle.std.proofs.Common.{◌≡◌, ◌≢◌, ℕ, zero, suc, ◌<◌, ◌≤◌, Bool, true, false, inl, inr, refl, sym, ◌∙◌, ap, subst, arith, List, replicate, get_or, Option, Some, None}
+use Rattle.std.proofs.Common.{◌≡◌, ℕ, ◌<◌, true, inl, inr, refl, sym, ◌∙◌, ap, subst, arith, List, replicate, get_or, Option, Some, None}
+use Rattle.std.proofs.lemmas.List.{get_or-replicate}
 use Rattle.fs_layout.specs.Recovered.{sizes_of}
 use Rattle.plain_tree.specs.declared.node.Node.{Node}
 use Rattle.plain_tree.specs.declared.tree.Hart.{Hart}
@@ -20,21 +21,16 @@ use Rattle.image_laws.proofs.Nodes.{no_node, nodes_at, ninodes_are, directory_th
 use Rattle.image_laws.proofs.Depths.{depth_in}
 use Rattle.image_laws.proofs.Forests.{root_live, forest}
 
-at_replicate : {A : Type 0} → (k n : ℕ) (x d : A) → n < k → get_or (replicate k x) n d ≡ x
-at_replicate zero n x d l = absurd (omega arith)
-at_replicate (suc k) zero x d l = refl
-at_replicate (suc k) (suc n) x d l = at_replicate k n x d (omega arith)
-
 -- ---- nothing is open, and all harts are in the root
 
 hart_rests : (h : ℕ) → h < hart_count → get_or (replicate hart_count fresh_hart) h resting ≡ fresh_hart
-hart_rests h l = at_replicate hart_count h fresh_hart resting l
+hart_rests h l = get_or-replicate hart_count h fresh_hart resting l
 
 no_hold : (disk : List (List ℕ)) (h : ℕ) → h < hart_count → (tree_of (tree_in disk)).holds h ≡ None
 no_hold disk h l = ap (λ (x : Hart). x.hold) (hart_rests h l)
 
 no_descriptor : (disk : List (List ℕ)) (h i : ℕ) → h < hart_count → i < descriptor_count → (tree_of (tree_in disk)).fds h i ≡ None
-no_descriptor disk h i l m = ap (λ (x : Hart). get_or x.descriptors i None) (hart_rests h l) ∙ at_replicate descriptor_count i None None m
+no_descriptor disk h i l m = ap (λ (x : Hart). get_or x.descriptors i None) (hart_rests h l) ∙ get_or-replicate descriptor_count i None None m
 
 in_root : (disk : List (List ℕ)) (h : ℕ) → h < hart_count → (tree_of (tree_in disk)).cwd h ≡ root
 in_root disk h l = ap (λ (x : Hart). x.directory) (hart_rests h l)
