@@ -1,19 +1,21 @@
 -- How long the parts of an image are.
-use Rattle.std.proofs.Common.{◌≡◌, ℕ, suc, ◌+◌, ◌-◌, ◌*◌, ◌/◌, ◌<◌, ◌≤◌, ◌^◌, ◌%◌, Bool, false, cond, nat_lt, List, [], ◌∷◌, ◌++◌, length, take, drop, replicate, sum_by, ap, ◌∙◌, sym, refl, ⊎_elim, arith, length-append, length-drop}
+use Rattle.std.proofs.Common.{◌≡◌, ℕ, suc, ◌+◌, ◌-◌, ◌*◌, ◌/◌, ◌<◌, ◌≤◌, ◌^◌, ◌%◌, Bool, false, cond, nat_lt, List, [], ◌∷◌, ◌++◌, length, take, drop, replicate, sum_by, get_or, ap, ◌∙◌, sym, refl, ⊎_elim, arith, length-append, length-drop}
 use Rattle.std.specs.List.{All, flat_map, range_with_len}
 use Rattle.std.proofs.lemmas.List.{length-replicate, length-take-le}
+use Rattle.std.proofs.lemmas.List.Elements.{All-cons, All-nil}
 use Rattle.std.proofs.lemmas.List.FromFn.{length-range_with_len}
 use Rattle.std.proofs.lemmas.List.Sums.{sum_by-cons}
 use Rattle.std.proofs.lemmas.Bool.{cases_lt, le-ltb, lt-ltb}
+use Rattle.fs_layout.specs.declared.inode.Dinode.{Dinode}
 use Rattle.fs_layout.specs.Inode.{spell_dinode}
-use Rattle.fs_layout.specs.Indirect.{spell_numbers}
 use Rattle.fs_layout.specs.Super.{spell_super, super_numbers}
 use Rattle.fs_layout.specs.Widths.{magic}
 use Rattle.fs_layout.proofs.Numbers.{length-u32s_bytes}
 use Rattle.fs_layout.proofs.Inodes.{length-spell_dinode}
 use Rattle.image_tree.specs.Inodes.{blocks_for}
 use Rattle.mkfs.specs.Layout.{node_blocks, inode_blocks, data_start, super_for}
-use Rattle.mkfs.specs.Image.{Node, padded, whole, front, inode_for, inodes_from, inode_table, bitmap, data_from, used_by, image_with, node_bytes, blocks_of_node}
+use Rattle.mkfs.specs.Image.{Node, padded, whole, front, inode_for, inodes_from, inode_table, bitmap, data_from, used_by, image_with, node_bytes, indirect_block, blocks_of_node}
+use Rattle.mkfs.proofs.Pieces.{AreLong, length-records, record-there}
 use Rattle.mkfs.proofs.Padding.{length-padded, length-whole, length-addrs, node_bytes-small, node_bytes-large}
 
 pub length-zeros : (n : ℕ) → length {A = ℕ} (replicate n 0) ≡ n
@@ -29,12 +31,24 @@ length-front size ninodes =
     let one : length block ≡ 1024 = length-padded 1024 (spell_super (super_for size ninodes)) (omega (arith, length-super size ninodes)) in
     omega (arith, length-append (replicate 1024 0 ++ block) (replicate 31744 0), length-append (replicate 1024 0) block, one, length-zeros 1024, length-zeros 31744)
 
+count-inodes : (first : ℕ) (nodes : List Node) → length (inodes_from first nodes) ≡ length nodes
+count-inodes first [] = refl
+count-inodes first (node ∷ nodes) = ap suc (count-inodes (first + blocks_of_node node) nodes)
+
+long-inodes : (first : ℕ) (nodes : List Node) → AreLong spell_dinode 64 (inodes_from first nodes)
+long-inodes first [] = All-nil (λ d. length (spell_dinode d) ≡ 64)
+long-inodes first (node ∷ nodes) =
+    let behind : ℕ = first + blocks_of_node node in
+    All-cons (λ d. length (spell_dinode d) ≡ 64) (inode_for first node) (inodes_from behind nodes) (length-spell_dinode (inode_for first node) (length-addrs first node)) (long-inodes behind nodes)
+
 pub length-inodes : (first : ℕ) (nodes : List Node) → length (flat_map spell_dinode (inodes_from first nodes)) ≡ 64 * length nodes
-length-inodes first [] = refl
-length-inodes first (node ∷ nodes) =
-    let rest = length-inodes (first + blocks_of_node node) nodes in
-    let one = length-spell_dinode (inode_for first node) (length-addrs first node) in
-    omega (arith, length-append (spell_dinode (inode_for first node)) (flat_map spell_dinode (inodes_from (first + blocks_of_node node) nodes)), one, rest)
+length-inodes first nodes = length-records spell_dinode 64 (inodes_from first nodes) (long-inodes first nodes) ∙ ap (λ (n : ℕ). 64 * n) (count-inodes first nodes)
+
+-- the spelled inode at j
+pub inode-spelled : (first : ℕ) (nodes : List Node) (j : ℕ) (d : Dinode) (rest : List ℕ) → j < length nodes
+    → take 64 (drop (64 * j) (flat_map spell_dinode (inodes_from first nodes) ++ rest)) ≡ spell_dinode (get_or (inodes_from first nodes) j d)
+inode-spelled first nodes j d rest l =
+    record-there spell_dinode 64 (inodes_from first nodes) j d rest (long-inodes first nodes) (omega (arith, count-inodes first nodes))
 
 pub length-table : (ninodes first : ℕ) (nodes : List Node) → 1 + length nodes ≤ 16 * inode_blocks ninodes
     → length (inode_table ninodes first nodes) ≡ 1024 * inode_blocks ninodes
@@ -63,18 +77,22 @@ blocks-large size h =
     let many : 12 < blocks_for size = omega arith in
     ap (λ (b : Bool). blocks_for size + cond b 1 0) (lt-ltb 12 (blocks_for size) many)
 
+pub length-indirect_block : (first size : ℕ) → size ≤ 274432 → length (indirect_block first size) ≡ 1024
+length-indirect_block first size h =
+    let numbers : List ℕ = range_with_len (first + 13) (blocks_for size - 12) in
+    let few : length numbers ≤ 256 = omega (arith, length-range_with_len (first + 13) (blocks_for size - 12)) in
+    omega (arith, length-u32s_bytes (padded 256 numbers), length-padded 256 numbers few)
+
 pub length-node : (first : ℕ) (content : List ℕ) → length content ≤ 274432 → length (node_bytes first content) ≡ 1024 * node_blocks (length content)
 length-node first content h =
     let size : ℕ = length content in
     ⊎_elim
     (λ (more : 12288 < size).
-    let numbers : List ℕ = range_with_len (first + 13) (blocks_for size - 12) in
     let a : List ℕ = take 12288 content in
-    let b : List ℕ = spell_numbers (padded 256 numbers) in
+    let b : List ℕ = indirect_block first size in
     let d : List ℕ = drop 12288 content in
-    let few : length numbers ≤ 256 = omega (arith, length-range_with_len (first + 13) (blocks_for size - 12)) in
     let la = length-take-le 12288 content (omega arith) in
-    let lb : length b ≡ 1024 = omega (arith, length-u32s_bytes (padded 256 numbers), length-padded 256 numbers few) in
+    let lb = length-indirect_block first size h in
     let ld = length-drop 12288 content in
     let wd : length (whole d) ≡ 1024 * blocks_for (size - 12288) = length-whole d ∙ ap (λ (n : ℕ). 1024 * blocks_for n) ld in
     let all : length (a ++ (b ++ whole d)) ≡ 1024 * (blocks_for size + 1) = omega (arith, length-append a (b ++ whole d), length-append b (whole d), la, lb, wd) in

@@ -1,18 +1,15 @@
 -- The blocks of a node, one by one.
 use Rattle.std.proofs.Common.{◌≡◌, ℕ, ◌+◌, ◌-◌, ◌*◌, ◌<◌, ◌≤◌, Bool, cond, nat_lt, List, ◌++◌, length, take, drop, replicate, get_or, ap, ◌∙◌, sym, ⊎_elim, arith, append_assoc, length-append, length-drop}
-use Rattle.std.specs.List.{range_with_len}
 use Rattle.std.proofs.lemmas.Bool.{cases_lt, lt-ltb, le-ltb}
 use Rattle.std.proofs.lemmas.List.{take_at, drop_at, drop-drop, take-append-le, drop-append-le, take-append-drop, length-take-le}
-use Rattle.std.proofs.lemmas.List.FromFn.{length-range_with_len}
 use Rattle.std.proofs.lemmas.List.Sums.{sum_by_more_le}
 use Rattle.fs_layout.specs.Recovered.{recovered}
-use Rattle.fs_layout.proofs.Numbers.{length-u32s_bytes}
 use Rattle.image_tree.specs.Inodes.{blocks_for}
 use Rattle.mkfs.specs.Layout.{data_start}
 use Rattle.mkfs.specs.Image.{Node, padded, whole, image_with, node_bytes, indirect_block, blocks_before, blocks_of_node}
-use Rattle.mkfs.proofs.Padding.{length-padded, node_bytes-small, node_bytes-large}
+use Rattle.mkfs.proofs.Padding.{node_bytes-small, node_bytes-large}
 use Rattle.mkfs.proofs.Pieces.{part-of-part}
-use Rattle.mkfs.proofs.Lengths.{Fits}
+use Rattle.mkfs.proofs.Lengths.{Fits, length-indirect_block}
 use Rattle.mkfs.proofs.Places.{disk_of, block-at, recovered-there}
 use Rattle.mkfs.proofs.DataBlocks.{node-there}
 
@@ -48,12 +45,6 @@ whole-parts content h =
     ∙ append_assoc a d (replicate n 0)
     ∙ ap (λ (k : ℕ). a ++ (d ++ replicate k 0)) same
 
-length-indirect_block : (first : ℕ) (content : List ℕ) → length content ≤ 274432 → length (indirect_block first (length content)) ≡ 1024
-length-indirect_block first content h =
-    let numbers : List ℕ = range_with_len (first + 13) (blocks_for (length content) - 12) in
-    let few : length numbers ≤ 256 = omega (arith, length-range_with_len (first + 13) (blocks_for (length content) - 12)) in
-    omega (arith, length-u32s_bytes (padded 256 numbers), length-padded 256 numbers few)
-
 -- a block of the first part
 block-before : (a rest : List ℕ) (k : ℕ) → 1024 * k + 1024 ≤ length a → take 1024 (drop (1024 * k) (a ++ rest)) ≡ take 1024 (drop (1024 * k) a)
 block-before a rest k h =
@@ -75,7 +66,7 @@ block-of-numbers first content h few =
     let c : List ℕ = whole (drop 12288 content) in
     ap (λ (xs : List ℕ). take 1024 (drop 12288 xs)) (node_bytes-large first content h)
     ∙ ap (take 1024) (drop_at a (b ++ c) 12288 (length-take-le 12288 content (omega arith)))
-    ∙ take_at b c 1024 (length-indirect_block first content few)
+    ∙ take_at b c 1024 (length-indirect_block first (length content) few)
 
 -- ---- the blocks of the content
 
@@ -118,7 +109,7 @@ large-block-behind first content k h few high =
     let c : List ℕ = whole (drop 12288 content) in
     let i : ℕ = k - 12 in
     let long : length a ≡ 1024 * 12 = length-take-le 12288 content (omega arith) in
-    let longer : length (a ++ b) ≡ 1024 * 13 = omega (arith, length-append a b, long, length-indirect_block first content few) in
+    let longer : length (a ++ b) ≡ 1024 * 13 = omega (arith, length-append a b, long, length-indirect_block first (length content) few) in
     let here : place k ≡ 13 + i = place-behind k high ∙ (let e : k + 1 ≡ 13 + i = omega arith in e) in
     let there : 12 + i ≡ k = omega arith in
     ap (λ (n : ℕ). take 1024 (drop (1024 * n) (node_bytes first content))) here

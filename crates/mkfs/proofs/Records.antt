@@ -1,40 +1,22 @@
 -- The inodes of an image.
 use Rattle.std.proofs.Common.{◌≡◌, ℕ, zero, suc, ◌+◌, ◌-◌, ◌*◌, ◌/◌, ◌%◌, ◌^◌, ◌<◌, ◌≤◌, min, w16, FitsSigned, List, [], ◌∷◌, ◌++◌, length, take, drop, map, replicate, get_or, sum_by, ap, ◌∙◌, sym, subst, arith, rules, append_assoc, length-append}
 use Rattle.std.specs.List.{All, AllByRecursion, flat_map, range_with_len}
-use Rattle.std.proofs.lemmas.List.{take_at, drop_at, drop-drop, length-map, get_or-map}
+use Rattle.std.proofs.lemmas.List.{drop_at, drop-drop, length-map, get_or-map}
 use Rattle.std.proofs.lemmas.List.Sums.{sum_by-cons}
 use Rattle.fs_layout.specs.declared.inode.Dinode.{Dinode}
 use Rattle.fs_layout.specs.Bytes.{record_at}
 use Rattle.fs_layout.specs.Inode.{dinode_at, dinode_of, spell_dinode, IsDinode}
 use Rattle.fs_layout.specs.Recovered.{block_at}
-use Rattle.fs_layout.proofs.Inodes.{length-spell_dinode, dinode_of-spell}
+use Rattle.fs_layout.proofs.Inodes.{dinode_of-spell}
 use Rattle.mkfs.specs.Layout.{data_start, inode_blocks}
 use Rattle.mkfs.specs.Image.{Node, padded, front, inode_for, inodes_from, inode_table, bitmap, data_from, used_by, image_with, blocks_of_node, nodes_with, file_node}
 use Rattle.mkfs.proofs.Padding.{length-addrs}
-use Rattle.mkfs.proofs.Lengths.{AreNodes, Fits, length-front, length-zeros}
+use Rattle.mkfs.proofs.Lengths.{AreNodes, Fits, length-front, length-zeros, inode-spelled}
 use Rattle.mkfs.proofs.Pieces.{part-of-part}
 use Rattle.mkfs.proofs.Places.{disk_of, block-at}
 
 regroup : (f z i r b d e : List ℕ) → (((f ++ ((z ++ i) ++ r)) ++ b) ++ d) ++ e ≡ (f ++ z) ++ (i ++ (r ++ (b ++ (d ++ e))))
 regroup f z i r b d e = simp append_assoc
-
--- the spelled inode at j
-spelled : (first : ℕ) (nodes : List Node) (j : ℕ) (d : Dinode) (rest : List ℕ) → j < length nodes
-    → take 64 (drop (64 * j) (flat_map spell_dinode (inodes_from first nodes) ++ rest)) ≡ spell_dinode (get_or (inodes_from first nodes) j d)
-spelled first [] j d rest h = absurd (omega arith)
-spelled first (node ∷ nodes) zero d rest h =
-    let a : List ℕ = spell_dinode (inode_for first node) in
-    let f : List ℕ = flat_map spell_dinode (inodes_from (first + blocks_of_node node) nodes) in
-    ap (take 64) (append_assoc a f rest) ∙ take_at a (f ++ rest) 64 (length-spell_dinode (inode_for first node) (length-addrs first node))
-spelled first (node ∷ nodes) (suc j) d rest h =
-    let a : List ℕ = spell_dinode (inode_for first node) in
-    let f : List ℕ = flat_map spell_dinode (inodes_from (first + blocks_of_node node) nodes) in
-    let place : 64 * suc j ≡ 64 + 64 * j = omega arith in
-    let long = length-spell_dinode (inode_for first node) (length-addrs first node) in
-    ap (λ (n : ℕ). take 64 (drop n ((a ++ f) ++ rest))) place
-    ∙ ap (λ (xs : List ℕ). take 64 (drop (64 + 64 * j) xs)) (append_assoc a f rest)
-    ∙ ap (take 64) (sym (drop-drop (64 * j) 64 (a ++ (f ++ rest))) ∙ ap (drop (64 * j)) (drop_at a (f ++ rest) 64 long))
-    ∙ spelled (first + blocks_of_node node) nodes j d rest (omega arith)
 
 -- ---- each of them can be read back
 
@@ -96,7 +78,7 @@ table-at size ninodes nodes j d h =
     let long : length (f ++ z) ≡ 33856 = omega (arith, length-append f z, length-front size ninodes, length-zeros 64) in
     ap (λ (xs : List ℕ). take 64 (drop (33856 + 64 * j) xs)) (regroup f z i r (bitmap used) (data_from first nodes) e)
     ∙ ap (take 64) (sym (drop-drop (64 * j) 33856 ((f ++ z) ++ (i ++ rest))) ∙ ap (drop (64 * j)) (drop_at (f ++ z) (i ++ rest) 33856 long))
-    ∙ spelled first nodes j d rest h
+    ∙ inode-spelled first nodes j d rest h
 
 pub inode-there : (size ninodes : ℕ) (nodes : List Node) (j : ℕ) (d : Dinode) → Fits size ninodes nodes → All IsNode nodes → j < length nodes
     → dinode_at ((j + 1) % 16) (block_at (disk_of size ninodes nodes) (33 + (j + 1) / 16)) ≡ get_or (inodes_from (data_start ninodes) nodes) j d

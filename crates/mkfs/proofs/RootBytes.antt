@@ -1,7 +1,7 @@
 -- The root's bytes are its entries, spelled: those of the names, and free ones behind them.
-use Rattle.std.proofs.Common.{◌≡◌, ◌≢◌, ℕ, zero, suc, ◌+◌, ◌-◌, ◌*◌, ◌/◌, ◌%◌, ◌^◌, ◌<◌, ◌≤◌, List, [], ◌∷◌, ◌++◌, length, take, drop, replicate, get_or, Some, refl, sym, ap, ◌∙◌, arith, append_assoc, length-append}
+use Rattle.std.proofs.Common.{◌≡◌, ◌≢◌, ℕ, zero, suc, ◌+◌, ◌-◌, ◌*◌, ◌/◌, ◌%◌, ◌^◌, ◌<◌, ◌≤◌, List, [], ◌∷◌, ◌++◌, length, take, drop, replicate, get_or, Some, refl, sym, ap, ◌∙◌, arith, length-append}
 use Rattle.std.specs.List.{All, flat_map}
-use Rattle.std.proofs.lemmas.List.{take_at, drop_at, drop-drop, length-replicate, replicate-append-replicate}
+use Rattle.std.proofs.lemmas.List.{length-replicate, replicate-append-replicate}
 use Rattle.std.proofs.lemmas.List.Concat.{flat_map-append}
 use Rattle.std.proofs.lemmas.List.Elements.{All-append, All-cons, All-head, All-tail, All-nil, All-replicate}
 use Rattle.fs_layout.specs.declared.entry.Dirent.{Dirent}
@@ -14,7 +14,7 @@ use Rattle.mkfs.specs.Layout.{root_size}
 use Rattle.plain_tree.specs.Tree.{dot, dotdot}
 use Rattle.mkfs.specs.Image.{padded, whole, root_content, root_entries, entries_from}
 use Rattle.mkfs.proofs.Padding.{length-whole}
-use Rattle.mkfs.proofs.Pieces.{part-of-part}
+use Rattle.mkfs.proofs.Pieces.{part-of-part, AreLong, length-records, record-there}
 
 -- how many of the root's entries are free
 abbrev pub free_entries : ℕ → ℕ
@@ -59,12 +59,8 @@ length-all names =
 
 -- ---- their bytes
 
-length-spelled : (entries : List Dirent) → All IsDirent entries → length (flat_map spell_dirent entries) ≡ 16 * length entries
-length-spelled [] h = refl
-length-spelled (entry ∷ entries) h =
-    let one = length-spell_dirent entry (All-head IsDirent entry entries h) in
-    let rest = length-spelled entries (All-tail IsDirent entry entries h) in
-    omega (arith, length-append (spell_dirent entry) (flat_map spell_dirent entries), one, rest)
+long-entries : (entries : List Dirent) → All IsDirent entries → AreLong spell_dirent 16 entries
+long-entries entries h = λ i d l. length-spell_dirent (get_or entries i d) (h i d l)
 
 spelled-free : (n : ℕ) → flat_map spell_dirent (replicate n Free) ≡ replicate (16 * n) 0
 spelled-free zero = refl
@@ -74,7 +70,9 @@ spelled-free (suc n) =
     ap (λ (xs : List ℕ). replicate 16 0 ++ xs) (spelled-free n) ∙ replicate-append-replicate 16 (16 * n) none ∙ ap (λ (k : ℕ). replicate k 0) count
 
 length-used : (names : List (List ℕ)) → 2 + length names < 2 ^ 16 → All IsName names → length (flat_map spell_dirent (root_entries names)) ≡ 16 * (2 + length names)
-length-used names few h = omega (arith, length-spelled (root_entries names) (good-root names few h), length-from 2 names)
+length-used names few h =
+    let entries : List Dirent = root_entries names in
+    omega (arith, length-records spell_dirent 16 entries (long-entries entries (good-root names few h)), length-from 2 names)
 
 pub length-root_content : (names : List (List ℕ)) → 2 + length names < 2 ^ 16 → All IsName names → length (root_content names) ≡ root_size (length names)
 unfolding root_content
@@ -93,24 +91,6 @@ root-bytes names few h =
 
 -- ---- each is read back
 
--- the spelled entry at s
-spelled : (entries : List Dirent) (s : ℕ) (d : Dirent) (rest : List ℕ) → All IsDirent entries → s < length entries
-    → take 16 (drop (16 * s) (flat_map spell_dirent entries ++ rest)) ≡ spell_dirent (get_or entries s d)
-spelled [] s d rest h l = absurd (omega arith)
-spelled (entry ∷ entries) zero d rest h l =
-    let a : List ℕ = spell_dirent entry in
-    let f : List ℕ = flat_map spell_dirent entries in
-    ap (take 16) (append_assoc a f rest) ∙ take_at a (f ++ rest) 16 (length-spell_dirent entry (All-head IsDirent entry entries h))
-spelled (entry ∷ entries) (suc s) d rest h l =
-    let a : List ℕ = spell_dirent entry in
-    let f : List ℕ = flat_map spell_dirent entries in
-    let place : 16 * suc s ≡ 16 + 16 * s = omega arith in
-    let long = length-spell_dirent entry (All-head IsDirent entry entries h) in
-    ap (λ (n : ℕ). take 16 (drop n ((a ++ f) ++ rest))) place
-    ∙ ap (λ (xs : List ℕ). take 16 (drop (16 + 16 * s) xs)) (append_assoc a f rest)
-    ∙ ap (take 16) (sym (drop-drop (16 * s) 16 (a ++ (f ++ rest))) ∙ ap (drop (16 * s)) (drop_at a (f ++ rest) 16 long))
-    ∙ spelled entries s d rest (All-tail IsDirent entry entries h) (omega arith)
-
 -- in the blocks of spelled entries and what follows them
 pub entry-there : (entries : List Dirent) (s : ℕ) (d : Dirent) (rest : List ℕ) → All IsDirent entries → s < length entries
     → dirent_at (s % 64) (take 1024 (drop (1024 * (s / 64)) (flat_map spell_dirent entries ++ rest))) ≡ Some (get_or entries s d)
@@ -118,5 +98,5 @@ entry-there entries s d rest h l =
     let bytes : List ℕ = flat_map spell_dirent entries ++ rest in
     let within : 16 * (s % 64) + 16 ≤ 1024 = omega arith in
     let place : 1024 * (s / 64) + 16 * (s % 64) ≡ 16 * s = omega arith in
-    ap dirent_of (part-of-part bytes 16 (16 * (s % 64)) 1024 (1024 * (s / 64)) (16 * s) within place ∙ spelled entries s d rest h l)
+    ap dirent_of (part-of-part bytes 16 (16 * (s % 64)) 1024 (1024 * (s / 64)) (16 * s) within place ∙ record-there spell_dirent 16 entries s d rest (long-entries entries h) l)
     ∙ dirent_of-spell (get_or entries s d) (h s d l)

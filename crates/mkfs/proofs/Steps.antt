@@ -1,5 +1,5 @@
 -- Appending one part after another.
-use Rattle.std.proofs.Common.{◌≡◌, ℕ, ◌+◌, ◌-◌, ◌<◌, ◌≤◌, List, ◌∷◌, ◌++◌, length, take, drop, map, get_or, sym, subst, ap, if◌then◌else◌, is_ok, Ok, Err, Result, OnOk, ◌∙◌, arith, append_assoc}
+use Rattle.std.proofs.Common.{◌≡◌, ℕ, ◌+◌, ◌-◌, ◌<◌, ◌≤◌, List, [], ◌∷◌, ◌++◌, length, take, drop, map, get_or, sym, subst, ap, if◌then◌else◌, is_ok, Ok, Err, Result, OnOk, ◌∙◌, arith, append_assoc}
 use Rattle.std.specs.List.{All, flat_map, range_with_len}
 use Rattle.std.proofs.lemmas.List.{drop_more, get_or-map, length-map}
 use Rattle.std.proofs.lemmas.List.Sums.{sum_by-cons}
@@ -53,6 +53,10 @@ pub at-file : (f : File → List ℕ) (P : List ℕ → Type 0) (files : List Fi
 at-file f P files i file h l e =
     let many : i < length (map f files) = omega (arith, length-map files f) in
     subst P (get_or-map f files i file (f file) l ∙ ap f (sym e)) (h i (f file) many)
+
+pub name-at : (files : List File) (i : ℕ) (file : File) (name : List ℕ) → name ≡ file.0.items → i < length files → file ≡ get_or files i file
+    → name ≡ get_or (names_of files) i []
+name-at files i file name same l e = same ∙ ap (λ (f : File). f.0.items) e ∙ sym (get_or-map (λ (f : File). f.0.items) files i file [] l)
 
 pub size-at : (files : List File) (i : ℕ) (file : File) (bytes : List ℕ) → bytes ≡ file.1.items
     → All (λ content. length content ≤ 274432) (contents_of files) → i < length files → file ≡ get_or files i file → length bytes ≤ 274432

@@ -10,7 +10,7 @@ use Rattle.mkfs.specs.Widths.{most_blocks, most_entries, most_inodes}
 
 -- ---- what must hold, in the order in which it is asked
 
--- the numbers are within their limits, and what stands before the data fits, and the root with it
+-- blocks and inodes are within their limits, and the blocks before the data and the root's own fit
 pub record HasGoodSizes (size ninodes files : ℕ) : Type 0 where
   pub few_blocks : size ≤ most_blocks
   pub some_inodes : 2 ≤ ninodes
@@ -31,7 +31,7 @@ pub record HasGoodFiles (contents : List (List ℕ)) : Type 0 where
   pub each : All (λ content. length content ≤ largest_size) contents
   pub few : 2 + length contents ≤ most_entries
 
--- the root and the files have inodes: the first of all is unused
+-- the inodes suffice for the root and the files: inode 0 is never used
 abbrev pub HasInodes : ℕ → List (List ℕ) → Type 0
 HasInodes ninodes contents = 1 + length contents ≤ ninodes - 1
 

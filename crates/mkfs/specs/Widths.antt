@@ -1,4 +1,4 @@
--- How much an image and its nodes may have, and the numbers that an inode and an entry begin with.
+-- How much an image and its nodes may have, and what their inodes say.
 use Rattle.std.specs.Prelude.{ℕ, ◌+◌, ◌-◌, ◌*◌, ◌^◌, ℤ, pos}
 use Rattle.fs_layout.specs.Widths.{block_len, numbers_per_block, dirents_per_block}
 use Rattle.image_tree.specs.Inodes.{direct}
@@ -31,7 +31,7 @@ most_entries = dirents_per_block * (direct + numbers_per_block)
 abbrev pub first_file : ℕ
 first_file = 2
 
--- the kinds that an inode says
+-- the kind that an inode of a directory says, and that of a file
 abbrev pub directory_kind : ℤ
 directory_kind = pos 1
 

@@ -1,8 +1,9 @@
-use Rattle.std.proofs.Common.{ℕ, ◌<◌, List, [], length, refl, sym, ap, ◌∙◌, arith}
-use Rattle.std.proofs.lemmas.List.{get_or-map, length-map}
+use Rattle.std.proofs.Common.{ℕ, ◌<◌, List, length, refl, sym, ◌∙◌, arith}
+use Rattle.std.proofs.lemmas.List.{length-map}
 use denote.Bor.{Bor}
 use Rattle.mkfs.specs.Image.{File, names_of}
 use Rattle.mkfs.proofs.Doubles.{seen-none, seen-more, seen-all, seen-double, contains-has, not-true, not-false}
+use Rattle.mkfs.proofs.Steps.{name-at}
 use Rattle.mkfs.proofs.judges.has_no_double.Goals as goal
 
 pub loop-file-init : goal.loop-file-init
@@ -12,7 +13,7 @@ pub loop-file-preserved : goal.loop-file-preserved
 loop-file-preserved c =
     let files : List File = c.args.files.now in
     let i : ℕ = c.loop-file.file-index in
-    let same = c.as_slice-name.ensures.value ∙ ap (λ (f : File). f.0.items) c.file-item.is ∙ sym (get_or-map (λ (f : File). f.0.items) files i c.file-item.result [] c.loop-file-test.true) in
+    let same = name-at files i c.file-item.result _ c.as_slice-name.ensures.value c.loop-file-test.true c.file-item.is in
     let v : Bor (List ℕ) → List ℕ = λ k. k.now in
     let keys : List (Bor (List ℕ)) = c.loop-file.seen.keys in
     let fresh = sym (contains-has v keys c.as_slice-name.result) ∙ not-true _ c.in_ok-insert.field-0 c.in_ok-insert.ensures.added c.if-not-branch.false in
@@ -22,7 +23,7 @@ pub returns-then-not-branch : goal.returns-then-not-branch
 returns-then-not-branch c =
     let files : List File = c.args.files.now in
     let i : ℕ = c.loop-file.file-index in
-    let same = c.as_slice-name.ensures.value ∙ ap (λ (f : File). f.0.items) c.file-item.is ∙ sym (get_or-map (λ (f : File). f.0.items) files i c.file-item.result [] c.loop-file-test.true) in
+    let same = name-at files i c.file-item.result _ c.as_slice-name.ensures.value c.loop-file-test.true c.file-item.is in
     let v : Bor (List ℕ) → List ℕ = λ k. k.now in
     let keys : List (Bor (List ℕ)) = c.loop-file.seen.keys in
     let there = sym (contains-has v keys c.as_slice-name.result) ∙ not-false _ c.in_ok-insert.field-0 c.in_ok-insert.ensures.added c.if-not-branch.true in
