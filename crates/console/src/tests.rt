@@ -295,7 +295,7 @@ fn takes_scripts_up_to_their_longest(rt: HostRuntime) -> Result<(), Fail> {
     let mut script = vec![in rt.alloc(); b'#'; LONGEST_SCRIPT as usize]?;
     let (out, fault) = run(rt.alloc(), None, script.as_slice())?;
     assert!(rt; fault.is_none() && out.is_empty());
-    script.push(b'\n')?;
+    script.push(b'\n').map_err(AllocError::from)?;
     let (_, fault) = run(rt.alloc(), None, script.as_slice())?;
     let Some(fault) = fault else {
         return Err(Fail::new("it is run"));
@@ -314,7 +314,9 @@ fn help_names_the_program(rt: HostRuntime) -> Result<(), Fail> {
     let alloc = rt.alloc();
     let mut words = Vec::new(alloc);
     for word in ["out/console_program.kept", "--help"] {
-        words.push(String::from_str(alloc, word)?)?;
+        words
+            .push(String::from_str(alloc, word)?)
+            .map_err(AllocError::from)?;
     }
     let error = match options(alloc, words.as_slice()) {
         Ok(_) => return Err(Fail::new("help runs no script")),
