@@ -37,8 +37,11 @@ pub enum Damage {
 /// Why an image is not taken.
 #[derive(Clone, Copy, PartialEq, Eq, Debug)]
 pub enum MountFault {
+    /// The image is damaged. Its number is that of the damage.
     Damaged(Damage),
+    /// A call of the device failed. Its number is 31.
     DeviceFault,
+    /// Memory was refused. Its number is 33.
     NoMemory,
 }
 

@@ -9,7 +9,7 @@ ghost use Rattle.image_tree.specs.Recovery.{OnDamage};
 use crate::disk::Layout;
 use crate::fault::MountFault;
 use crate::heads::find_layout;
-use block_device::{Device, Fault};
+use block_device::{BLOCK_SIZE, Device, Fault};
 
 /// Copies the logged blocks home, and then clears the log's head (the xv6 book, chapter "File system", "Logging
 /// layer"). Where nothing is logged it writes nothing. It takes no memory.
@@ -71,20 +71,20 @@ fn copy<D: Device>(device: &mut D, from: u32, to: u32) -> Result<(), Fault>
     device.write(to, &block)
 }
 
-fn read<D: Device>(device: &mut D, b: u32) -> Result<[u8; 1024], Fault>
+fn read<D: Device>(device: &mut D, b: u32) -> Result<[u8; BLOCK_SIZE], Fault>
     requires { b < length (D.contents device.old) }
     ensures read { IfOk result (λ block. block ≡ block_at (D.contents device.old) b) }
     ensures contents { D.contents device.new ≡ D.contents device.old }
     ensures faults { D.failures device.new ≡ faults_after result (D.failures device.old) }
 {
-    let mut block = [0; 1024];
+    let mut block = [0; BLOCK_SIZE];
     device.read(b, &mut block)?;
     Ok(block)
 }
 
 // A head that names no block.
-fn zeros() -> [u8; 1024]
-    ensures { result ≡ replicate 1024 0 }
+fn zeros() -> [u8; BLOCK_SIZE]
+    ensures { result ≡ replicate BLOCK_SIZE 0 }
 {
-    [0; 1024]
+    [0; BLOCK_SIZE]
 }
