@@ -1,5 +1,5 @@
 //! That live directories have good slots.
-ghost use Rattle.std.specs.Prelude.{◌≡◌, ◌≢◌, ◌+◌, ◌<◌, ◌≤◌, ◌++◌, ◌∷◌, [], ℕ, Bool, true, false, List, length, slice_index_or, IfOk, IfErr, OnOk, Option, Some, None};
+ghost use Rattle.std.specs.Prelude.{◌≡◌, ◌≢◌, ◌+◌, ◌<◌, ◌≤◌, ℕ, Bool, true, false, List, length, slice_index_or, IfOk, IfErr, Option, Some, None};
 ghost use Rattle.std.specs.Bool.{MatchBool};
 ghost use Rattle.std.specs.List.{All};
 ghost use Rattle.std.specs.Option.{option_to_list};
@@ -15,6 +15,7 @@ use crate::disk::{Layout, load_inode};
 use crate::fault::MountFault;
 use crate::inodes::{is_free, is_live_directory};
 use crate::names::are_names_once;
+use crate::rows::push;
 use crate::slots::slots_at;
 use block_device::Device;
 use fs_layout::Dirent;
@@ -113,13 +114,6 @@ fn are_good_slots(
     Ok(once)
 }
 
-fn push_flag(flags: &mut Vec<bool>, flag: bool) -> Result<(), AllocError>
-    ensures { OnOk result (flags.new.items ≡ flags.old.items ++ flag ∷ []) }
-{
-    flags.push(flag)?;
-    Ok(())
-}
-
 /// Which inodes are nodes.
 fn node_table<D: Device>(
     alloc: Global,
@@ -133,10 +127,10 @@ fn node_table<D: Device>(
     ensures faults { D.failures device.new ≡ faults_with result (D.failures device.old) }
 {
     let mut nodes = Vec::new(alloc);
-    push_flag(&mut nodes, false)?;
+    push(&mut nodes, false)?;
     for i in 1..layout.sizes.ninodes {
         let inode = load_inode(device, layout, i)?;
-        push_flag(&mut nodes, !is_free(&inode))?;
+        push(&mut nodes, !is_free(&inode))?;
     }
     Ok(nodes)
 }

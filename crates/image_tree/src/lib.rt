@@ -17,6 +17,7 @@ mod numbers;
 mod once;
 mod one_tree;
 mod recovery;
+mod rows;
 mod shape;
 mod sizes;
 mod slots;

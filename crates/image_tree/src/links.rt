@@ -10,6 +10,7 @@ ghost use Rattle.image_tree.specs.Marks.{IsLinks, IsUpTable, Tallies};
 
 use crate::disk::Layout;
 use crate::fault::MountFault;
+use crate::rows::push;
 use crate::slots::slots_at;
 use crate::tallies::{past_dots, tally, tally_proper, tally_slots};
 use block_device::Device;
@@ -44,13 +45,6 @@ fn up_in(slots: &[Option<Dirent>]) -> u16
     }
 }
 
-fn push_number(numbers: &mut Vec<u16>, number: u16) -> Result<(), AllocError>
-    ensures { OnOk result (numbers.new.items ≡ numbers.old.items ++ number ∷ []) }
-{
-    numbers.push(number)?;
-    Ok(())
-}
-
 fn find_ups<D: Device>(
     alloc: Global,
     device: &mut D,
@@ -64,10 +58,10 @@ fn find_ups<D: Device>(
     ensures faults { D.failures device.new ≡ faults_with result (D.failures device.old) }
 {
     let mut ups = Vec::new(alloc);
-    push_number(&mut ups, 0)?;
+    push(&mut ups, 0)?;
     for i in 1..layout.sizes.ninodes {
         let slots = slots_at(alloc, device, layout, i)?;
-        push_number(&mut ups, up_in(slots.as_slice()))?;
+        push(&mut ups, up_in(slots.as_slice()))?;
     }
     Ok(ups)
 }

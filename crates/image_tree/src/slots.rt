@@ -1,5 +1,5 @@
 //! The slots of a directory.
-ghost use Rattle.std.specs.Prelude.{◌≡◌, ◌≢◌, ◌+◌, ◌*◌, ◌/◌, ◌%◌, ◌<◌, ◌≤◌, ◌++◌, ◌∷◌, [], ℕ, List, length, IfOk, IfErr, OnOk, All};
+ghost use Rattle.std.specs.Prelude.{◌≡◌, ◌≢◌, ◌+◌, ◌*◌, ◌/◌, ◌%◌, ◌<◌, ◌≤◌, ℕ, List, length, IfOk, IfErr, All};
 ghost use Rattle.block_device.specs.Blocks.{faults_after};
 ghost use Rattle.fs_layout.specs.Entry.{dirent_at};
 ghost use Rattle.fs_layout.specs.Recovered.{recovered, sizes_of};
@@ -13,11 +13,12 @@ use crate::disk::{Layout, load, load_inode};
 use crate::fault::MountFault;
 use crate::inodes::is_live_directory;
 use crate::numbers::numbers_at;
+use crate::rows::push;
 use crate::sizes::block_number;
 use block_device::{Device, Fault};
 use fs_layout::widths::{BLOCK_LEN, DIRENT_LEN, DIRENTS_PER_BLOCK};
 use fs_layout::{Dinode, Dirent, read_dirent};
-use std::alloc::{AllocError, Global};
+use std::alloc::Global;
 
 /// Slot s of a directory with these block numbers.
 fn load_slot<D: Device>(
@@ -39,13 +40,6 @@ fn load_slot<D: Device>(
     Ok(read_dirent(&block, s % DIRENTS_PER_BLOCK))
 }
 
-fn push_slot(slots: &mut Vec<Option<Dirent>>, slot: Option<Dirent>) -> Result<(), AllocError>
-    ensures { OnOk result (slots.new.items ≡ slots.old.items ++ slot ∷ []) }
-{
-    slots.push(slot)?;
-    Ok(())
-}
-
 /// All slots of a directory with these block numbers.
 pub fn load_slots<D: Device>(
     alloc: Global,
@@ -65,7 +59,7 @@ pub fn load_slots<D: Device>(
     let mut slots = Vec::new(alloc);
     for s in 0..inode.size as usize / DIRENT_LEN {
         let slot = load_slot(device, layout, numbers, s)?;
-        push_slot(&mut slots, slot)?;
+        push(&mut slots, slot)?;
     }
     Ok(slots)
 }

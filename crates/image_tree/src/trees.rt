@@ -1,5 +1,5 @@
 //! The tree that an image holds.
-ghost use Rattle.std.specs.Prelude.{◌≡◌, ◌≢◌, ◌<◌, ◌≤◌, ◌++◌, ◌∷◌, [], ℕ, List, length, map, Option, IfOk, IfErr, OnOk, false};
+ghost use Rattle.std.specs.Prelude.{◌≡◌, ◌≢◌, ◌<◌, ◌≤◌, ℕ, List, length, map, Option, IfOk, IfErr, false};
 ghost use Rattle.image_tree.specs.Checks.{HasGoodNumbers};
 ghost use Rattle.image_tree.specs.Damage.{IsWellFormed, JudgesFault, JudgesWith, faults_with};
 ghost use Rattle.image_tree.specs.Inodes.{inode_of, is_free};
@@ -14,6 +14,7 @@ use crate::fault::MountFault;
 use crate::inodes::{is_directory, is_free, is_live};
 use crate::limits::KIND_FILE;
 use crate::numbers::numbers_at;
+use crate::rows::push;
 use crate::slots::load_slots;
 use block_device::Device;
 use fs_layout::{Dinode, Dirent, Name};
@@ -42,20 +43,13 @@ fn slot_in(alloc: Global, slot: &Option<Dirent>) -> Result<Option<Slot>, AllocEr
     }
 }
 
-fn push_slot(slots: &mut Vec<Option<Slot>>, slot: Option<Slot>) -> Result<(), AllocError>
-    ensures { OnOk result (slots.new.items ≡ slots.old.items ++ slot ∷ []) }
-{
-    slots.push(slot)?;
-    Ok(())
-}
-
 fn slots_in(alloc: Global, entries: &[Option<Dirent>]) -> Result<Slots, AllocError>
     ensures { IfOk result (λ slots. slots ≡ map slot_of entries.now) }
 {
     let mut slots = Vec::new(alloc);
     for s in 0..entries.len() {
         let slot = slot_in(alloc, &entries[s])?;
-        push_slot(&mut slots, slot)?;
+        push(&mut slots, slot)?;
     }
     Ok(Slots::new(slots))
 }
@@ -143,13 +137,6 @@ fn load_node<D: Device>(
     }))
 }
 
-fn push_node(nodes: &mut Vec<Option<Node>>, node: Option<Node>) -> Result<(), AllocError>
-    ensures { OnOk result (nodes.new.items ≡ nodes.old.items ++ node ∷ []) }
-{
-    nodes.push(node)?;
-    Ok(())
-}
-
 fn load_nodes<D: Device>(
     alloc: Global,
     device: &mut D,
@@ -163,10 +150,10 @@ fn load_nodes<D: Device>(
     ensures faults { D.failures device.new ≡ faults_with result (D.failures device.old) }
 {
     let mut nodes = Vec::new(alloc);
-    push_node(&mut nodes, None)?;
+    push(&mut nodes, None)?;
     for i in 1..layout.sizes.ninodes {
         let node = load_node(alloc, device, layout, i)?;
-        push_node(&mut nodes, node)?;
+        push(&mut nodes, node)?;
     }
     Ok(nodes)
 }

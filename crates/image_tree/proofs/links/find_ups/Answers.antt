@@ -5,7 +5,7 @@ use Rattle.image_tree.proofs.links.find_ups.Goals as goal
 
 pub loop-i-init : goal.loop-i-init
 loop-i-init g c =
-    let one = up-one (g.D.Device.contents c.args.device.now) c.new-ups.result.items c.push_number.new.numbers.items c.new-ups.ensures.items c.in_ok-push_number.ensures in
+    let one = up-one (g.D.Device.contents c.args.device.now) c.new-ups.result.items c.push.new.items.items c.new-ups.ensures.items c.in_ok-push.ensures in
     (refl, refl, one.0, one.1)
 
 pub returns-clause-table : goal.returns-clause-table

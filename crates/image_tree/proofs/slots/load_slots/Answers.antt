@@ -10,5 +10,5 @@ loop-s-preserved g c = (
   c.in_ok-slot.ensures.contents ∙ c.loop-s.invariant.0,
   c.in_ok-slot.ensures.faults ∙ c.loop-s.invariant.1,
   first_slots-more (g.D.Device.contents c.args.device.now) (g.D.Device.contents c.loop-s.device) c.args.inode.now c.args.numbers.now c.loop-s.s c.loop-s.slots.items
-      c.push_slot.new.slots.items c.in_ok-slot.slot c.loop-s.invariant.0 c.requires.numbers c.in_ok-slot.ensures.slot c.loop-s.invariant.2 c.in_ok-push_slot.ensures,
+      c.push.new.items.items c.in_ok-slot.slot c.loop-s.invariant.0 c.requires.numbers c.in_ok-slot.ensures.slot c.loop-s.invariant.2 c.in_ok-push.ensures,
 )

@@ -4,12 +4,12 @@ use Rattle.image_tree.proofs.trees.load_nodes.Goals as goal
 
 pub loop-i-init : goal.loop-i-init
 loop-i-init g c =
-    (refl, refl, nodes_one (g.D.Device.contents c.args.device.now) c.new-nodes.result.items c.push_node.new.nodes.items c.new-nodes.ensures.items c.in_ok-push_node.ensures)
+    (refl, refl, nodes_one (g.D.Device.contents c.args.device.now) c.new-nodes.result.items c.push.new.items.items c.new-nodes.ensures.items c.in_ok-push.ensures)
 
 pub loop-i-preserved : goal.loop-i-preserved
 loop-i-preserved g c = (
   c.in_ok-node.ensures.contents ∙ c.loop-i.invariant.0,
   c.in_ok-node.ensures.faults ∙ c.loop-i.invariant.1,
-  nodes_more (g.D.Device.contents c.args.device.now) (g.D.Device.contents c.loop-i.device) c.loop-i.i c.in_ok-node.node c.loop-i.nodes.items c.push_node-in-loop-i.new.nodes.items
-      c.loop-i.invariant.0 c.in_ok-node.ensures.node c.loop-i.invariant.2 c.in_ok-push_node-2.ensures,
+  nodes_more (g.D.Device.contents c.args.device.now) (g.D.Device.contents c.loop-i.device) c.loop-i.i c.in_ok-node.node c.loop-i.nodes.items c.push-in-loop-i.new.items.items
+      c.loop-i.invariant.0 c.in_ok-node.ensures.node c.loop-i.invariant.2 c.in_ok-push-2.ensures,
 )
