@@ -1,5 +1,5 @@
-use Rattle.inode_machine.proofs.Removed.{walker_fails, walker_stays_failed}
-use Rattle.inode_machine.proofs.walkers_fail_with_their_directory.Goals as goal
+use Rattle.tree_moves.proofs.Removed.{walker_fails, walker_stays_failed}
+use Rattle.tree_moves.proofs.walkers_fail_with_their_directory.Goals as goal
 
 pub returns-clause-removed : goal.returns-clause-removed
 returns-clause-removed c = walker_fails

@@ -10,13 +10,13 @@ use Rattle.plain_tree.specs.Calls.{Act, next_of, call_climbs}
 use Rattle.plain_tree.specs.Explains.{Chain, Rises, AllBelong, noted, trace_from, trace_of, Explains}
 use Rattle.tree_laws.specs.WellFormed.{IsWellFormed}
 use Rattle.tree_laws.proofs.Maps.{either, eq_self, eq_not, same_or, put_same, put_other}
-use Rattle.inode_machine.specs.Kept.{Status, Deed, Book, act_of, passes}
-use Rattle.inode_machine.specs.Kept.Status.{Free, Busy}
-use Rattle.inode_machine.specs.Inodes.{Walk, Inodes, Move, World, Event, fail, act_of_hart, falls, falls_of, all_fall, after, MayReply, finishes, Happens, Runs, opened, shown_of, climbing, NoneClimbs, IsStartBy, Alone}
-use Rattle.inode_machine.specs.Inodes.Event.{Starts, Steps, Nothing}
-use Rattle.inode_machine.proofs.Book.{BookOk, AllBelow, act_ok, start_ok, reply_ok, passes_ok, later_ok, explained}
-use Rattle.inode_machine.proofs.Walked.{WalkOk, Left, StepBy, walk_falls, walk_kept}
-use Rattle.inode_machine.proofs.Moved.{WalkAt, ActOk, Did, moves_did}
+use Rattle.tree_moves.specs.Kept.{Status, Deed, Book, act_of, passes}
+use Rattle.tree_moves.specs.Kept.Status.{Free, Busy}
+use Rattle.tree_moves.specs.Inodes.{Walk, Inodes, Move, World, Event, fail, act_of_hart, falls, falls_of, all_fall, after, MayReply, finishes, Happens, Runs, opened, shown_of, climbing, NoneClimbs, IsStartBy, Alone}
+use Rattle.tree_moves.specs.Inodes.Event.{Starts, Steps, Nothing}
+use Rattle.tree_moves.proofs.Book.{BookOk, AllBelow, act_ok, start_ok, reply_ok, passes_ok, later_ok, explained}
+use Rattle.tree_moves.proofs.Walked.{WalkOk, Left, StepBy, walk_falls, walk_kept}
+use Rattle.tree_moves.proofs.Moved.{WalkAt, ActOk, Did, moves_did}
 
 -- Which calls a hart may make, so that another hart's call climbs nowhere where it makes one.
 abbrev pub Apart : (ℕ → Call → Type 0) → Type 0

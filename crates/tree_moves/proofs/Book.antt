@@ -13,9 +13,9 @@ use Rattle.plain_tree.specs.Calls.{Act, next_of, reply_of, had_room, Follows, Is
 use Rattle.plain_tree.specs.Explains.{noted, ends_at, Chain, act_of as act_in, acts_of, IsWritten, IsInTime, Belongs, Rises, AllBelong, Explains}
 use Rattle.plain_tree.specs.Explains.Shown.{Started, Replied}
 use Rattle.tree_laws.proofs.Maps.{either, eq_self, eq_not, eq_is, same_or, put_same, put_other, put_is, and_true}
-use Rattle.inode_machine.specs.Kept.{Status, Deed, Book, act_of, entry_of, starts, replies, passes}
-use Rattle.inode_machine.specs.Kept.Status.{Free, Busy}
-use Rattle.inode_machine.proofs.Lists.{get_left, get_last, get_more, get_past, get_map, map_get}
+use Rattle.tree_moves.specs.Kept.{Status, Deed, Book, act_of, entry_of, starts, replies, passes}
+use Rattle.tree_moves.specs.Kept.Status.{Free, Busy}
+use Rattle.tree_moves.proofs.Lists.{get_left, get_last, get_more, get_past, get_map, map_get}
 
 abbrev pub Told : Book → ℕ → TracedCall → Option (ℕ × Reply) → Type 0
 Told b id s None = (x : List Act) × (b.status s.hart ≡ Busy id s.call x) × (acts_of id b.list ≡ x) × Follows s.call [] x

@@ -1,5 +1,5 @@
-use Rattle.inode_machine.proofs.Finished.{open_finishes, read_finishes, write_finishes, link_finishes, unlink_finishes, mkdir_finishes, chdir_finishes, dup_finishes, fstat_finishes, close_finishes, inherit_finishes}
-use Rattle.inode_machine.proofs.each_call_finishes.Goals as goal
+use Rattle.tree_moves.proofs.Finished.{open_finishes, read_finishes, write_finishes, link_finishes, unlink_finishes, mkdir_finishes, chdir_finishes, dup_finishes, fstat_finishes, close_finishes, inherit_finishes}
+use Rattle.tree_moves.proofs.each_call_finishes.Goals as goal
 
 pub returns-clause-open : goal.returns-clause-open
 returns-clause-open c = open_finishes

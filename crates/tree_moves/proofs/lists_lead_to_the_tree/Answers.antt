@@ -1,7 +1,7 @@
 use Rattle.plain_tree.specs.Tree.{tree_of}
-use Rattle.inode_machine.specs.Inodes.{opened}
-use Rattle.inode_machine.proofs.History.{run_ok, opened_ok, NeverClimbs, starts_calm, apart_calm}
-use Rattle.inode_machine.proofs.lists_lead_to_the_tree.Goals as goal
+use Rattle.tree_moves.specs.Inodes.{opened}
+use Rattle.tree_moves.proofs.History.{run_ok, opened_ok, NeverClimbs, starts_calm, apart_calm}
+use Rattle.tree_moves.proofs.lists_lead_to_the_tree.Goals as goal
 
 pub returns : goal.returns
 returns c = λ base w es k calm r. let inv = run_ok NeverClimbs (tree_of base) (opened (tree_of base)) w es apart_calm (starts_calm es calm) (opened_ok NeverClimbs (tree_of base) k) r in (inv.book.chain, inv.good)

@@ -16,8 +16,8 @@ use Rattle.plain_tree.specs.Calls.{Act, next_of, call_climbs, last_cause, next_p
 use Rattle.tree_laws.specs.WellFormed.{is_free_to_find}
 use Rattle.tree_laws.proofs.Maps.{either, or_none}
 use Rattle.tree_laws.proofs.Walks.{follow_on, follow_off, follow_stop, look_bad, parent_on, parent_off, parent_bad, climbs_front}
-use Rattle.inode_machine.specs.Kept.{Deed}
-use Rattle.inode_machine.specs.Inodes.{Walk, fail, falls, after}
+use Rattle.tree_moves.specs.Kept.{Deed}
+use Rattle.tree_moves.specs.Inodes.{Walk, fail, falls, after}
 
 -- While the walk's node is a live directory, nothing acted for its step, and the path so far leads to it.
 pub record WalkOk (t : Tree) (h : ℕ) (c : Call) (x : List Act) (w : Walk) : Type 0 where

@@ -5,7 +5,7 @@ use Rattle.plain_tree.specs.TreeData.{TreeData}
 use Rattle.plain_tree.specs.Tree.{Tree, tree_of}
 use Rattle.plain_tree.specs.Explains.{Chain, trace_of, Explains}
 use Rattle.tree_laws.specs.WellFormed.{IsWellFormed}
-use Rattle.inode_machine.specs.Inodes.{World, Event, Runs, NoneClimbs, Alone, opened, shown_of}
+use Rattle.tree_moves.specs.Inodes.{World, Event, Runs, NoneClimbs, Alone, opened, shown_of}
 
 -- From a well-formed tree with idle harts, where no path climbs.
 abbrev pub RunsAreExplained : Type 0

@@ -15,8 +15,8 @@ use Rattle.plain_tree.specs.Calls.{Act, next_of, reply_of, had_room, call_climbs
 use Rattle.plain_tree.specs.Explains.{Shown, no_calls}
 use Rattle.plain_tree.specs.Explains.Shown.{Started, Replied, Other}
 use Rattle.tree_laws.specs.WellFormed.{is_free_to_find}
-use Rattle.inode_machine.specs.Kept.{Deed, Book, act_of, starts, replies, passes}
-use Rattle.inode_machine.specs.Kept.Status.{Free, Busy}
+use Rattle.tree_moves.specs.Kept.{Deed, Book, act_of, starts, replies, passes}
+use Rattle.tree_moves.specs.Kept.Status.{Free, Busy}
 
 -- A walk for a tree step refers to the node at, and has the elements next and rest left.
 pub record Walk : Type 0 where

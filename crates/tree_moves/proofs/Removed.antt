@@ -4,9 +4,9 @@ use Rattle.plain_tree.specs.Tree.{pieces, put, any_below, same_name, first_slot,
 use Rattle.plain_tree.specs.Steps.{entries, any_used, lowest_from, refusal_with, place_of, first_free, cleared, has_fd, effect_with, answer_with}
 use Rattle.plain_tree.specs.Calls.{last_cause, next_of, first_cause, reply_of, had_room}
 use Rattle.plain_tree.specs.Fresh.{fresh}
-use Rattle.inode_machine.specs.Inodes.{World, Event, all_fall, opened}
-use Rattle.inode_machine.specs.Examples.{makes_both, removes_both, gives_up, WalkerFails, WalkerStaysFailed}
-use Rattle.inode_machine.proofs.Played.{acted, moved, played, may_all, events_of, end_of, script_of, events_run}
+use Rattle.tree_moves.specs.Inodes.{World, Event, all_fall, opened}
+use Rattle.tree_moves.specs.Examples.{makes_both, removes_both, gives_up, WalkerFails, WalkerStaysFailed}
+use Rattle.tree_moves.proofs.Played.{acted, moved, played, may_all, events_of, end_of, script_of, events_run}
 
 abbrev first : World
 first = opened (tree_of (fresh 200))

@@ -1,9 +1,9 @@
-//! The machine of whole inodes, and the law that each of its runs is explained by one list of tree steps. The
+//! The moves of calls on a tree (walks, lookups, acts), and the law that each run of them is explained by one list of tree steps. The
 //! functions do nothing: each carries a law.
 #![tactic(auto)]
 
-ghost use Rattle.inode_machine.specs.Examples.{OpenFinishes, ReadFinishes, WriteFinishes, LinkFinishes, UnlinkFinishes, MkdirFinishes, ChdirFinishes, DupFinishes, FstatFinishes, CloseFinishes, InheritFinishes, WalkerFails, WalkerStaysFailed};
-ghost use Rattle.inode_machine.specs.Laws.{RunsAreExplained, ListsLeadToTheTree, ListsGrow, OneHartIsExplained};
+ghost use Rattle.tree_moves.specs.Examples.{OpenFinishes, ReadFinishes, WriteFinishes, LinkFinishes, UnlinkFinishes, MkdirFinishes, ChdirFinishes, DupFinishes, FstatFinishes, CloseFinishes, InheritFinishes, WalkerFails, WalkerStaysFailed};
+ghost use Rattle.tree_moves.specs.Laws.{RunsAreExplained, ListsLeadToTheTree, ListsGrow, OneHartIsExplained};
 
 /// The list that a run keeps, by appending alone, explains its trace: calls of many harts that walk, look up, enter
 /// and remove step by step act as one list of tree steps. No path has the element "..".

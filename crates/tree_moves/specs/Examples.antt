@@ -13,9 +13,9 @@ use Rattle.plain_tree.specs.declared.step.StepAnswer.TheVariants.{Opened, Bytes,
 use Rattle.plain_tree.specs.declared.trace.Placed.{Placed}
 use Rattle.plain_tree.specs.Tree.{tree_of}
 use Rattle.plain_tree.specs.Fresh.{fresh}
-use Rattle.inode_machine.specs.Inodes.{World, Move, Event, Runs, opened}
-use Rattle.inode_machine.specs.Inodes.Move.{Take, Give, Begin, Look, Quit, Own}
-use Rattle.inode_machine.specs.Inodes.Event.{Starts, Steps}
+use Rattle.tree_moves.specs.Inodes.{World, Move, Event, Runs, opened}
+use Rattle.tree_moves.specs.Inodes.Move.{Take, Give, Begin, Look, Quit, Own}
+use Rattle.tree_moves.specs.Inodes.Event.{Starts, Steps}
 
 -- from a fresh tree of 200 numbers these events are a run that keeps this list
 abbrev pub IsRun : List Event → List Placed → Type 0

@@ -5,14 +5,14 @@ use Rattle.plain_tree.specs.Steps.{entries, any_used, lowest_from, refusal_with,
 use Rattle.plain_tree.specs.Calls.{last_cause, next_of, first_cause, reply_of, had_room}
 use Rattle.plain_tree.specs.Fresh.{fresh}
 use Rattle.plain_tree.specs.declared.call.Call.TheVariants.{Read, Write, Unlink, Mkdir, Chdir, Dup, Fstat, Close, Inherit}
-use Rattle.inode_machine.specs.Inodes.{World, Event, all_fall, opened}
-use Rattle.inode_machine.specs.Examples.{goes, ends, walks, opens_a, link_a, OpenFinishes, ReadFinishes, WriteFinishes, LinkFinishes, UnlinkFinishes, MkdirFinishes, ChdirFinishes, DupFinishes, FstatFinishes, CloseFinishes, InheritFinishes}
-use Rattle.inode_machine.specs.Inodes.Event.{Starts}
-use Rattle.inode_machine.specs.Inodes.Move.{Give, Look, Own}
+use Rattle.tree_moves.specs.Inodes.{World, Event, all_fall, opened}
+use Rattle.tree_moves.specs.Examples.{goes, ends, walks, opens_a, link_a, OpenFinishes, ReadFinishes, WriteFinishes, LinkFinishes, UnlinkFinishes, MkdirFinishes, ChdirFinishes, DupFinishes, FstatFinishes, CloseFinishes, InheritFinishes}
+use Rattle.tree_moves.specs.Inodes.Event.{Starts}
+use Rattle.tree_moves.specs.Inodes.Move.{Give, Look, Own}
 use Rattle.plain_tree.specs.declared.answer.Answer.TheVariants.{Fd, Count, Stat as Stated, Done as Finished}
 use Rattle.plain_tree.specs.declared.answer.NodeType.TheVariants.{File as AFile}
 use Rattle.std.specs.Prelude.{codes}
-use Rattle.inode_machine.proofs.Played.{acted, moved, played, may_all, events_of, end_of, script_of, events_run}
+use Rattle.tree_moves.proofs.Played.{acted, moved, played, may_all, events_of, end_of, script_of, events_run}
 
 abbrev first : World
 first = opened (tree_of (fresh 200))

@@ -9,13 +9,13 @@ use Rattle.plain_tree.specs.Tree.{Tree}
 use Rattle.plain_tree.specs.Explains.{noted, Shown}
 use Rattle.plain_tree.specs.Explains.Shown.{Started, Replied, Other}
 use Rattle.tree_laws.proofs.Maps.{either}
-use Rattle.inode_machine.specs.Kept.{Status, Deed, Book, act_of, entry_of}
-use Rattle.inode_machine.specs.Kept.Status.{Free, Busy}
-use Rattle.inode_machine.specs.Inodes.{Inodes, World, Event, act_of_hart, falls_of, all_fall, finishes, Happens, Runs, opened, shown_of}
-use Rattle.inode_machine.specs.Inodes.Event.{Starts, Steps, Nothing}
-use Rattle.inode_machine.specs.Laws.{before}
-use Rattle.inode_machine.proofs.Book.{AllBelow, below_later}
-use Rattle.inode_machine.proofs.History.{happens_trace}
+use Rattle.tree_moves.specs.Kept.{Status, Deed, Book, act_of, entry_of}
+use Rattle.tree_moves.specs.Kept.Status.{Free, Busy}
+use Rattle.tree_moves.specs.Inodes.{Inodes, World, Event, act_of_hart, falls_of, all_fall, finishes, Happens, Runs, opened, shown_of}
+use Rattle.tree_moves.specs.Inodes.Event.{Starts, Steps, Nothing}
+use Rattle.tree_moves.specs.Laws.{before}
+use Rattle.tree_moves.proofs.Book.{AllBelow, below_later}
+use Rattle.tree_moves.proofs.History.{happens_trace}
 
 unfoldable pub AllFrom : ℕ → List Placed → Type 0
 AllFrom n [] = Unit {0}

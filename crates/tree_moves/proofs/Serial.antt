@@ -12,13 +12,13 @@ use Rattle.plain_tree.specs.Calls.{Act}
 use Rattle.plain_tree.specs.Explains.{trace_of, ends_at}
 use Rattle.tree_laws.specs.WellFormed.{IsWellFormed}
 use Rattle.tree_laws.proofs.Maps.{either, same_or, eq_self, eq_not, put_same}
-use Rattle.inode_machine.specs.Kept.{Status, Deed, Book, act_of, entry_of}
-use Rattle.inode_machine.specs.Kept.Status.{Free, Busy}
-use Rattle.inode_machine.specs.Inodes.{Inodes, World, Event, act_of_hart, falls_of, all_fall, finishes, Happens, Runs, Alone, IsStartBy, opened, shown_of}
-use Rattle.inode_machine.specs.Inodes.Event.{Starts, Steps, Nothing}
-use Rattle.inode_machine.specs.Laws.{of_call, in_turn}
-use Rattle.inode_machine.proofs.Lists.{map_length, more_length}
-use Rattle.inode_machine.proofs.History.{Inv, OwnOk, IsHart, apart_alone, start_alone, happens_ok, opened_ok, run_trace, falls_not, acts_there}
+use Rattle.tree_moves.specs.Kept.{Status, Deed, Book, act_of, entry_of}
+use Rattle.tree_moves.specs.Kept.Status.{Free, Busy}
+use Rattle.tree_moves.specs.Inodes.{Inodes, World, Event, act_of_hart, falls_of, all_fall, finishes, Happens, Runs, Alone, IsStartBy, opened, shown_of}
+use Rattle.tree_moves.specs.Inodes.Event.{Starts, Steps, Nothing}
+use Rattle.tree_moves.specs.Laws.{of_call, in_turn}
+use Rattle.tree_moves.proofs.Lists.{map_length, more_length}
+use Rattle.tree_moves.proofs.History.{Inv, OwnOk, IsHart, apart_alone, start_alone, happens_ok, opened_ok, run_trace, falls_not, acts_there}
 
 of_append : (id : ℕ) (xs ys : List Placed) → of_call id (xs ++ ys) ≡ of_call id xs ++ of_call id ys
 of_append id [] ys = refl

@@ -14,11 +14,11 @@ use Rattle.plain_tree.specs.Steps.{path_of, follows_path, makes_node, opens_one,
 use Rattle.plain_tree.specs.Calls.{Act, next_of, reply_of, had_room}
 use Rattle.tree_laws.specs.WellFormed.{is_free_to_find}
 use Rattle.tree_laws.proofs.Maps.{eq_self, eq_is, eq_not, and_true, any_none}
-use Rattle.inode_machine.specs.Kept.{Status as Standing, Deed, starts}
-use Rattle.inode_machine.specs.Kept.Status.{Free, Busy}
-use Rattle.inode_machine.specs.Inodes.{Walk, Inodes, Move, World, Event, Moves, Begins, Looks, ActsWith, if_lost, walks_at, act_of_hart, all_fall, after, finishes, Happens, Runs}
-use Rattle.inode_machine.specs.Inodes.Move.{Quiet, Take, Give, Begin, Look, Quit, Own}
-use Rattle.inode_machine.specs.Inodes.Event.{Starts, Steps, Nothing}
+use Rattle.tree_moves.specs.Kept.{Status as Standing, Deed, starts}
+use Rattle.tree_moves.specs.Kept.Status.{Free, Busy}
+use Rattle.tree_moves.specs.Inodes.{Walk, Inodes, Move, World, Event, Moves, Begins, Looks, ActsWith, if_lost, walks_at, act_of_hart, all_fall, after, finishes, Happens, Runs}
+use Rattle.tree_moves.specs.Inodes.Move.{Quiet, Take, Give, Begin, Look, Quit, Own}
+use Rattle.tree_moves.specs.Inodes.Event.{Starts, Steps, Nothing}
 
 -- a move's deed and inodes, and whether it is allowed
 pub record Played : Type 0 where

@@ -11,10 +11,10 @@ use Rattle.tree_laws.proofs.Maps.{either, put_same, put_other}
 use Rattle.tree_laws.proofs.Walks.{follow_on, follow_stop, follow_end, follow_one, parent_nil, parent_on, parent_stop, parent_here}
 use Rattle.tree_laws.proofs.Kept.{step_well}
 use Rattle.tree_laws.proofs.Frames.{step_frame}
-use Rattle.inode_machine.specs.Kept.{Deed}
-use Rattle.inode_machine.specs.Inodes.{Walk, Inodes, Move, Moves, Begins, Looks, GoesTo, ActsWith, fail, walks_at, after}
-use Rattle.inode_machine.specs.Inodes.Move.{Quiet, Take, Give, Begin, Look, Quit, Own}
-use Rattle.inode_machine.proofs.Walked.{WalkOk, Left, left_same, StepBy, lost_fails, own_free}
+use Rattle.tree_moves.specs.Kept.{Deed}
+use Rattle.tree_moves.specs.Inodes.{Walk, Inodes, Move, Moves, Begins, Looks, GoesTo, ActsWith, fail, walks_at, after}
+use Rattle.tree_moves.specs.Inodes.Move.{Quiet, Take, Give, Begin, Look, Quit, Own}
+use Rattle.tree_moves.proofs.Walked.{WalkOk, Left, left_same, StepBy, lost_fails, own_free}
 
 abbrev pub WalkAt : Tree → ℕ → Call → List Act → Option Walk → Type 0
 WalkAt t h c x None = Unit {0}
