@@ -23,11 +23,11 @@ pub no_hit : (x i : ℕ) → x ≢ i → one_if (eqb x i) ≡ 0
 unfolding one_if
 no_hit x i ne = rw (eq_not x i ne) refl
 
-times_more : (i : ℕ) (f : ℕ → List ℕ) (n : ℕ) → times i (gathered f (suc n)) ≡ times i (gathered f n) + times i (f (suc n))
+pub times_more : (i : ℕ) (f : ℕ → List ℕ) (n : ℕ) → times i (gathered f (suc n)) ≡ times i (gathered f n) + times i (f (suc n))
 unfolding gathered
 times_more i f n = sum_by-append (hits i) (gathered f n) (f (suc n))
 
-times_start : (i : ℕ) (f : ℕ → List ℕ) → times i (gathered f 0) ≡ 0
+pub times_start : (i : ℕ) (f : ℕ → List ℕ) → times i (gathered f 0) ≡ 0
 unfolding gathered
 times_start i f = refl
 

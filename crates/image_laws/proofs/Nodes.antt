@@ -10,7 +10,7 @@ use Rattle.plain_tree.specs.declared.node.Kind.{Kind}
 use Rattle.plain_tree.specs.declared.node.Kind.TheVariants.{Directory}
 use Rattle.plain_tree.specs.Tree.{tree_of, is_directory, live_directory}
 use Rattle.image_tree.specs.Lists.{times}
-use Rattle.image_tree.specs.Inodes.{inode_of, is_free, is_number, is_positive, is_live, is_node, is_live_directory}
+use Rattle.image_tree.specs.Inodes.{inode_of, is_number, is_positive, is_live, is_node, is_live_directory}
 use Rattle.image_tree.specs.Inodes as inodes
 use Rattle.image_tree.specs.Links.{slots_in, slot_numbers, further_in}
 use Rattle.image_tree.specs.Trees.{is_file, kind_of, count_of, node_of, first_nodes, tree_in}
@@ -72,7 +72,7 @@ nodes_at disk i =
 
 -- ---- live directories
 
-directory_kind : (z : ℤ) → is_number 1 z ≡ true → is_number 0 z ≡ false
+pub directory_kind : (z : ℤ) → is_number 1 z ≡ true → is_number 0 z ≡ false
 directory_kind (pos n) h = ap (λ (k : ℕ). eqb k 0) (eqb-true n 1 h)
 directory_kind (negsuc n) h = refl
 
@@ -82,7 +82,7 @@ directory_node disk i h =
     let is = directory_is disk i h in
     node_from disk i (record { low = is.low; bound = is.bound; used = directory_kind (inode_of disk i).kind is.directory })
 
-kind_of_directory : (disk : List (List ℕ)) (d : Dinode) → inodes.is_directory d ≡ true → kind_of disk d ≡ Directory (in_tree (inodes.slots_of disk d))
+pub kind_of_directory : (disk : List (List ℕ)) (d : Dinode) → inodes.is_directory d ≡ true → kind_of disk d ≡ Directory (in_tree (inodes.slots_of disk d))
 unfolding kind_of
 kind_of_directory disk d h = rw h refl
 
@@ -97,7 +97,7 @@ pub positive_count : (z : ℤ) → is_positive z ≡ true → nat_lt 0 (count_of
 positive_count (pos n) h = h
 positive_count (negsuc n) h = absurd (false≢true h)
 
-slots_of_directory : (disk : List (List ℕ)) (i : ℕ) → is_live_directory disk i ≡ true → slots_in disk i ≡ inodes.slots_of disk (inode_of disk i)
+pub slots_of_directory : (disk : List (List ℕ)) (i : ℕ) → is_live_directory disk i ≡ true → slots_in disk i ≡ inodes.slots_of disk (inode_of disk i)
 unfolding slots_in
 slots_of_directory disk i h = rw h refl
 

@@ -35,16 +35,16 @@ no_descriptor disk h i l m = ap (λ (x : Hart). get_or x.descriptors i None) (ha
 in_root : (disk : List (List ℕ)) (h : ℕ) → h < hart_count → (tree_of (tree_in disk)).cwd h ≡ root
 in_root disk h l = ap (λ (x : Hart). x.directory) (hart_rests h l)
 
-no_raises : (disk : List (List ℕ)) (n : ℕ) → raises (tree_of (tree_in disk)).holds n ≡ 0
+pub no_raises : (disk : List (List ℕ)) (n : ℕ) → raises (tree_of (tree_in disk)).holds n ≡ 0
 unfolding raises
 no_raises disk n = sum_none hart_count _ (λ h l. ap (λ (o : Option Hold). raised_at o n) (no_hold disk h l))
 
 -- ---- the tree
 
-nodes_are : (disk : List (List ℕ)) → (tree_of (tree_in disk)).nodes ≡ node_of disk
+pub nodes_are : (disk : List (List ℕ)) → (tree_of (tree_in disk)).nodes ≡ node_of disk
 nodes_are disk = everywhere (tree_of (tree_in disk)).nodes (node_of disk) (nodes_at disk)
 
-there_is_node : (disk : List (List ℕ)) (i : ℕ) (v : Node) → node_of disk i ≡ Some v → is_node disk i ≡ true
+pub there_is_node : (disk : List (List ℕ)) (i : ℕ) (v : Node) → node_of disk i ≡ Some v → is_node disk i ≡ true
 there_is_node disk i v is = elim (either (is_node disk i)) [
   | inl y ↦ y
   | inr y ↦ absurd (let none = no_node disk i y in cc (none, is))

@@ -1,1 +1,4 @@
+pub mod Holds
+pub mod Puts
 pub mod Laws
+pub mod PutLaws
