@@ -1,92 +1,22 @@
 -- A step that leads on with its answer, and a list of them.
-use Rattle.std.proofs.Common.{◌≡◌, ℕ, suc, ◌+◌, ◌<◌, ◌≤◌, Bool, true, false, ◌↔◌, IsTrue, List, [], ◌∷◌, inl, inr, refl, sym, ◌∙◌, ap, subst, drop, length, get_or, add-one, drop-cons, Option, Some, None, if◌then◌else◌}
-use Rattle.std.proofs.lemmas.Bool.{cases_Bool}
+use Rattle.std.proofs.Common.{◌≡◌, ℕ, suc, ◌+◌, ◌<◌, ◌≤◌, Bool, true, false, ◌↔◌, IsTrue, List, [], ◌∷◌, refl, sym, ◌∙◌, ap, subst, drop, length, get_or, add-one, drop-cons}
 use Rattle.std.proofs.lemmas.List.{drop_all}
-use Rattle.plain_tree.specs.declared.tree.OpenFile.{OpenFile}
-use Rattle.plain_tree.specs.declared.step.Action.{Action}
-use Rattle.plain_tree.specs.declared.step.Action.TheVariants.{Open, Truncate, Read, WritePart, Find, Bump, Enter, Unbump, Unlink, Mkdir, Chdir, Dup, Close, Fstat, Inherit}
 use Rattle.plain_tree.specs.declared.step.TreeStep.{TreeStep}
 use Rattle.plain_tree.specs.declared.step.StepAnswer.{StepAnswer}
-use Rattle.plain_tree.specs.declared.step.StepAnswer.TheVariants.{Opened}
 use Rattle.plain_tree.specs.declared.trace.Placed.{Placed}
-use Rattle.plain_tree.specs.Tree.{Name, Tree, resolve, parent, look, and_then}
-use Rattle.plain_tree.specs.Steps.{Step, IsInPlace, answer_with, path_of, opens_one, opens_file, has_room, lowest, opened, creates, stat_answer, file_at}
-use Rattle.plain_tree.specs.Applied.{Outcome, IsAppliedAt}
+use Rattle.plain_tree.specs.Tree.{Tree}
+use Rattle.plain_tree.specs.Steps.{Step, IsInPlace}
+use Rattle.plain_tree.specs.Applied.{IsApplied}
 use Rattle.plain_tree.specs.Explains.{Chain}
-use Rattle.plain_tree.specs.Checked.{IsFree, Leads, LeadsOn, Says}
-use Rattle.plain_tree.proofs.StepLaws.{step_taken, step_from, taken_by, room_opened, step_one}
+use Rattle.plain_tree.specs.Checked.{Leads, LeadsOn}
+use Rattle.plain_tree.proofs.StepLaws.{step_taken, applied_step, step_one}
 
-opens_says : (t : Tree) (h : ℕ) (s : Action) (res : Option ℕ) (par : Option (ℕ × Name)) (id : ℕ) → opens_one t h s ≡ true → (fd : ℕ) × (f : Bool) × (answer_with t h s res par id ≡ Opened fd id f)
-unfolding answer_with
-opens_says t h (Open path flags) res par id o =
-    let n : Option ℕ = if creates flags then and_then par (λ q. look t.nodes q.0 q.1) else res in
-    (lowest (t.fds h), opens_file t n, room_opened t h id n o)
-opens_says t h (Truncate fd) res par id o = absurd cc
-opens_says t h (Read fd n) res par id o = absurd cc
-opens_says t h (WritePart fd b) res par id o = absurd cc
-opens_says t h (Find old) res par id o = absurd cc
-opens_says t h Bump res par id o = absurd cc
-opens_says t h (Enter new) res par id o = absurd cc
-opens_says t h Unbump res par id o = absurd cc
-opens_says t h (Unlink path) res par id o = absurd cc
-opens_says t h (Mkdir path) res par id o = absurd cc
-opens_says t h (Chdir path) res par id o = absurd cc
-opens_says t h (Dup fd) res par id o = absurd cc
-opens_says t h (Close fd) res par id o = absurd cc
-opens_says t h (Fstat fd) res par id o = absurd cc
-opens_says t h (Inherit child) res par id o = absurd cc
-
--- an open's answer says the id that it took
-abbrev Takes : Tree → ℕ → Action → ℕ → ℕ → Type 0
-Takes t h s id j = (opens_one t h s ≡ true) × (id ≡ j)
-
-says_opened : (t : Tree) (h : ℕ) (s : Action) (res : Option ℕ) (par : Option (ℕ × Name)) (id fd j : ℕ) (f : Bool) → answer_with t h s res par id ≡ Opened fd j f → Takes t h s id j
-unfolding answer_with
-says_opened t h (Open path flags) res par id fd j f e = room t h id (if creates flags then and_then par (λ q. look t.nodes q.0 q.1) else res) fd j f e where
-  room : (t : Tree) (h id : ℕ) (n : Option ℕ) (fd j : ℕ) (f : Bool) → opened t h id n ≡ Opened fd j f → (has_room (t.fds h) ≡ true) × (id ≡ j)
-  room t h id n fd j f e = elim (cases_Bool (has_room (t.fds h))) [
-    | inl y ↦ (y, (let x : Opened (lowest (t.fds h)) id (opens_file t n) ≡ Opened fd j f = sym (room_opened t h id n y) ∙ e in cc))
-    | inr y ↦ absurd (let x = rw y at e in cc)
-  ]
-says_opened t h (Truncate fd') res par id fd j f e = absurd cc
-says_opened t h (Read fd' n) res par id fd j f e = absurd cc
-says_opened t h (WritePart fd' b) res par id fd j f e = absurd cc
-says_opened t h (Find old) res par id fd j f e = absurd cc
-says_opened t h Bump res par id fd j f e = absurd cc
-says_opened t h (Enter new) res par id fd j f e = absurd cc
-says_opened t h Unbump res par id fd j f e = absurd cc
-says_opened t h (Unlink path) res par id fd j f e = absurd cc
-says_opened t h (Mkdir path) res par id fd j f e = absurd cc
-says_opened t h (Chdir path) res par id fd j f e = absurd cc
-says_opened t h (Dup fd') res par id fd j f e = absurd cc
-says_opened t h (Close fd') res par id fd j f e = absurd cc
-says_opened t h (Fstat fd') res par id fd j f e = absurd (not_stat t (file_at t h fd') e) where
-  not_stat : (t : Tree) (o : Option OpenFile) → stat_answer t o ≡ Opened fd j f → ⊥
-  not_stat t None e = cc
-  not_stat t (Some o) e = cc
-says_opened t h (Inherit child) res par id fd j f e = absurd cc
-
-opened_free : (t : Tree) (s : TreeStep) (fd id : ℕ) (f : Bool) (t' : Tree) → Step t s (Opened fd id f) t' → t.files id ≡ None
-opened_free t s fd id f t' x =
-    let y : Takes t s.hart s.action x.0 id = says_opened t s.hart s.action (resolve t s.hart (path_of s.action)) (parent t s.hart (path_of s.action)) x.0 fd id f (sym x.1.1) in
-    subst (λ (j : ℕ). t.files j ≡ None) y.1 (x.1.2.file y.0)
-
--- an open takes an unused id
-pub step_free : (t : Tree) (s : TreeStep) (a : StepAnswer) (t' : Tree) → Step t s a t' → IsFree t a
-step_free t s a t' x = λ fd id f e. opened_free t s fd id f t' (subst (λ (b : StepAnswer). Step t s b t') e x)
-
-free_id : (t : Tree) (s : TreeStep) (a : StepAnswer) (id : ℕ) → IsFree t a → a ≡ answer_with t s.hart s.action (resolve t s.hart (path_of s.action)) (parent t s.hart (path_of s.action)) id → opens_one t s.hart s.action ≡ true → t.files id ≡ None
-free_id t s a id free is o =
-    let w : (fd : ℕ) × (f : Bool) × (answer_with t s.hart s.action (resolve t s.hart (path_of s.action)) (parent t s.hart (path_of s.action)) id ≡ Opened fd id f) = opens_says t s.hart s.action (resolve t s.hart (path_of s.action)) (parent t s.hart (path_of s.action)) id o in
-    free w.0 id w.1 (is ∙ w.2)
-
--- The step that was made with the id that the answer a says, if it says one, and answered b.
-pub made_leads : (r : Bool) (t : Tree) (s : TreeStep) (a b : StepAnswer) (t' : Tree) (id : ℕ) → Says a id → IsInPlace t s.hart s.action → IsFree t a → (IsTrue r ↔ (b ≡ a)) → IsAppliedAt t s id b t' → LeadsOn r t s a t'
-made_leads true t s a b t' id own p free same x = step_from t s id a t' p (free_id t s a id free) (subst (λ (c : StepAnswer). IsAppliedAt t s id c t') (same.0 refl) x)
-made_leads false t s a b t' id own p free same x = λ u y.
-    let z : IsAppliedAt t s id a u = taken_by t s a u id own y in
-    let e : b ≡ a = ap (λ (o : Outcome). o.answer) (sym x.is ∙ z.is) in
-    let f : false ≡ true = same.1 e in
+-- the step was made and answered b
+pub made_leads : (r : Bool) (t : Tree) (s : TreeStep) (a b : StepAnswer) (t' : Tree) → IsInPlace t s.hart s.action → (IsTrue r ↔ (b ≡ a)) → IsApplied t s b t' → LeadsOn r t s a t'
+made_leads true t s a b t' p same x = subst (λ (c : StepAnswer). Step t s c t') (same.0 refl) (applied_step t s x.id b t' p x.least x.made)
+made_leads false t s a b t' p same x = λ u y.
+    let one = step_one t s b a t' u (applied_step t s x.id b t' p x.least x.made) y in
+    let f : false ≡ true = same.1 one.0 in
     cc
 
 pub step_placed : (t : Tree) (s : TreeStep) (a : StepAnswer) (t' : Tree) → Step t s a t' → IsInPlace t s.hart s.action
@@ -121,7 +51,7 @@ begins t e es x = record { mid = x.1.0; step = x.1.1; rest = (x.0, x.1.2) }
 same_after : (t mid u : Tree) (e : Placed) (es list : List Placed) → Step t e.step e.answer mid → LeadsSame t (e ∷ es) u list → LeadsSame mid es u list
 same_after t mid u e es list x s = record {
   to = λ y. s.to (y.0, one_more t mid y.0 e es x y.1);
-  from = λ y. (let z : Begins t e es = begins t e es (s.from y) in subst (λ (m : Tree). Leads m es) (step_one t e.step e.answer z.mid mid z.step x) z.rest);
+  from = λ y. (let z : Begins t e es = begins t e es (s.from y) in subst (λ (m : Tree). Leads m es) (step_one t e.step e.answer e.answer z.mid mid z.step x).1 z.rest);
 }
 
 front : (list : List Placed) (i : ℕ) (e : Placed) → i < length list → e ≡ get_or list i e → drop i list ≡ e ∷ drop (i + 1) list

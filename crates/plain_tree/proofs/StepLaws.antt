@@ -6,20 +6,26 @@ use Rattle.plain_tree.specs.declared.answer.Cause.{Cause}
 use Rattle.plain_tree.specs.declared.node.Node.{Node}
 use Rattle.plain_tree.specs.declared.tree.OpenFile.{OpenFile}
 use Rattle.plain_tree.specs.declared.step.Action.{Action}
-use Rattle.plain_tree.specs.declared.step.Action.TheVariants.{Open, Truncate, Read, WritePart, Find, Bump, Enter, Unbump, Unlink, Mkdir, Chdir, Dup, Close, Fstat, Inherit}
+use Rattle.plain_tree.specs.declared.step.Action.TheVariants.{Open, Fstat}
 use Rattle.plain_tree.specs.declared.step.TreeStep.{TreeStep}
 use Rattle.plain_tree.specs.declared.step.StepAnswer.{StepAnswer}
 use Rattle.plain_tree.specs.declared.step.StepAnswer.TheVariants.{Opened, Bytes, Stat as Status, Fd as NewFd, Done, Failed, Full as NoRoom}
 use Rattle.plain_tree.specs.declared.trace.Placed.{Placed}
 use Rattle.plain_tree.specs.Tree.{Name, Tree, resolve, parent, settle, look, and_then}
-use Rattle.plain_tree.specs.Steps.{Step, StepWith, MayChoose, IsInPlace, IsNewNode, answer_with, effect_with, refusal, refused, path_of, place_of, opens_one, opens_file, stat_answer, file_at, has_room, lowest, opened, creates, with_file, opened_new, opened_in, opened_at}
-use Rattle.plain_tree.specs.Applied.{Outcome, applied, in_place, IsApplied, IsAppliedAt, IsBadChoice, id_of}
+use Rattle.plain_tree.specs.Steps.{Step, StepWith, MayChoose, IsInPlace, IsLeastUnused, IsNewNode, answer_with, effect_with, refusal, refused, path_of, place_of, opens_one, opens_file, stat_answer, file_at, has_room, lowest, opened, creates, with_file, opened_new, opened_in, opened_at}
+use Rattle.plain_tree.specs.Applied.{Outcome, applied, in_place, IsApplied, IsAppliedAt, IsBadChoice}
 use Rattle.plain_tree.specs.Explains.{Chain}
 use Rattle.plain_tree.specs.Widths.{hart_count}
 
--- where the answer is of an open, the id is its id
-abbrev pub Names : StepAnswer → ℕ → Type 0
-Names a id = (fd j : ℕ) (f : Bool) → a ≡ Opened fd j f → id ≡ j
+-- one id is the least unused
+pub least_one : (t : Tree) (i j : ℕ) → IsLeastUnused t i → IsLeastUnused t j → i ≡ j
+least_one t i j x y = elim (cases_Bool (nat_lt i j)) [
+  | inl lt ↦ absurd (y.least i (grind (arith, nat_tests)) x.unused)
+  | inr ge ↦ elim (cases_Bool (nat_lt j i)) [
+    | inl lt ↦ absurd (x.least j (grind (arith, nat_tests)) y.unused)
+    | inr le ↦ grind (arith, nat_tests)
+  ]
+]
 
 and_left : (a b : Bool) → (a && b) ≡ true → a ≡ true
 and_left true b h = refl
@@ -68,40 +74,27 @@ pub record SameAt (t : Tree) (h : ℕ) (s : Action) (res : Option ℕ) (par : Op
 by_id : (t : Tree) (h : ℕ) (s : Action) (res : Option ℕ) (par : Option (ℕ × Name)) (new id id' : ℕ) → id ≡ id' → SameAt t h s res par new id id'
 by_id t h s res par new id id' e = record { answer = ap (λ i. answer_with t h s res par i) e; effect = ap (λ i. effect_with t h s res par new i) e }
 
-open_same : (t : Tree) (h : ℕ) (path : List ℕ) (flags : ℕ) (res : Option ℕ) (par : Option (ℕ × Name)) (new id id' : ℕ) (a : StepAnswer) → a ≡ answer_with t h (Open path flags) res par id' → Names a id → SameAt t h (Open path flags) res par new id id'
+open_same : (t : Tree) (h : ℕ) (path : List ℕ) (flags : ℕ) (res : Option ℕ) (par : Option (ℕ × Name)) (new id id' : ℕ) → (has_room (t.fds h) ≡ true → id ≡ id') → SameAt t h (Open path flags) res par new id id'
 unfolding answer_with
-open_same t h path flags res par new id id' a is names =
+open_same t h path flags res par new id id' same =
     let n : Option ℕ = if creates flags then and_then par (λ q. look t.nodes q.0 q.1) else res in
     elim (cases_Bool (has_room (t.fds h))) [
-      | inl y ↦ by_id t h (Open path flags) res par new id id' (names (lowest (t.fds h)) id' (opens_file t n) (is ∙ room_opened t h id' n y))
+      | inl y ↦ by_id t h (Open path flags) res par new id id' (same y)
       | inr y ↦ record { answer = full_opened t h id id' n y; effect = full_effect t h path flags res par new id id' y }
     ]
 
--- the answer and the effect don't depend on the id but by the answer
-pub same_at : (t : Tree) (h : ℕ) (s : Action) (res : Option ℕ) (par : Option (ℕ × Name)) (new id id' : ℕ) (a : StepAnswer) → a ≡ answer_with t h s res par id' → Names a id → SameAt t h s res par new id id'
+-- the answer and the effect depend on the id only where a file is opened
+pub same_at : (t : Tree) (h : ℕ) (s : Action) (res : Option ℕ) (par : Option (ℕ × Name)) (new id id' : ℕ) → (opens_one t h s ≡ true → id ≡ id') → SameAt t h s res par new id id'
 unfolding answer_with effect_with
-same_at t h (Open path flags) res par new id id' a is names = open_same t h path flags res par new id id' a is names
-same_at t h (Truncate fd) res par new id id' a is names = record { answer = refl; effect = refl }
-same_at t h (Read fd n) res par new id id' a is names = record { answer = refl; effect = refl }
-same_at t h (WritePart fd b) res par new id id' a is names = record { answer = refl; effect = refl }
-same_at t h (Find old) res par new id id' a is names = record { answer = refl; effect = refl }
-same_at t h Bump res par new id id' a is names = record { answer = refl; effect = refl }
-same_at t h (Enter name) res par new id id' a is names = record { answer = refl; effect = refl }
-same_at t h Unbump res par new id id' a is names = record { answer = refl; effect = refl }
-same_at t h (Unlink path) res par new id id' a is names = record { answer = refl; effect = refl }
-same_at t h (Mkdir path) res par new id id' a is names = record { answer = refl; effect = refl }
-same_at t h (Chdir path) res par new id id' a is names = record { answer = refl; effect = refl }
-same_at t h (Dup fd) res par new id id' a is names = record { answer = refl; effect = refl }
-same_at t h (Close fd) res par new id id' a is names = record { answer = refl; effect = refl }
-same_at t h (Fstat fd) res par new id id' a is names = record { answer = refl; effect = refl }
-same_at t h (Inherit child) res par new id id' a is names = record { answer = refl; effect = refl }
+same_at t h (Open path flags) res par new id id' same = open_same t h path flags res par new id id' same
+same_at t h s res par new id id' same = record { answer = refl; effect = refl }
 
 -- The step in full, with the id that it took.
 pub record Taken (t : Tree) (s : TreeStep) (a : StepAnswer) (id : ℕ) (t' : Tree) : Type 0 where
   pub is : applied t s id ≡ record { answer = a; tree = t' }
   pub chosen : IsBadChoice t s → ⊥
   pub place : IsInPlace t s.hart s.action
-  pub file : refusal t s.hart s.action ≡ None → opens_one t s.hart s.action ≡ true → t.files id ≡ None
+  pub file : refusal t s.hart s.action ≡ None → opens_one t s.hart s.action ≡ true → IsLeastUnused t id
 
 outcome : (a b : StepAnswer) (t u : Tree) → a ≡ b → t ≡ u → let x : Outcome = record { answer = a; tree = t } in x ≡ record { answer = b; tree = u }
 outcome a b t u e f = cc
@@ -138,43 +131,34 @@ cases_refusal : (r : Option Cause) → (r ≡ None) ⊎ ((k : Cause) × (r ≡ S
 cases_refusal None = inl refl
 cases_refusal (Some k) = inr (k, refl)
 
-in_place_same : (t : Tree) (s : TreeStep) (r : Option Cause) (a : StepAnswer) (id id' : ℕ) (t' : Tree) → in_place t s r id' ≡ record { answer = a; tree = t' } → Names a id → in_place t s r id ≡ in_place t s r id'
-in_place_same t s (Some k) a id id' t' e names = refl
-in_place_same t s None a id id' t' e names =
+-- where the step opens a file these are one id
+abbrev SameId : Tree → TreeStep → ℕ → ℕ → Type 0
+SameId t s id id' = refusal t s.hart s.action ≡ None → opens_one t s.hart s.action ≡ true → id ≡ id'
+
+in_place_same : (t : Tree) (s : TreeStep) (r : Option Cause) (id id' : ℕ) → refusal t s.hart s.action ≡ r → SameId t s id id' → in_place t s r id ≡ in_place t s r id'
+in_place_same t s (Some k) id id' is same = refl
+in_place_same t s None id id' is same =
     let res : Option ℕ = resolve t s.hart (path_of s.action) in
     let par : Option (ℕ × Name) = parent t s.hart (path_of s.action) in
-    let x : SameAt t s.hart s.action res par s.new id id' = same_at t s.hart s.action res par s.new id id' a (sym (ap (λ (o : Outcome). o.answer) e)) names in
+    let x : SameAt t s.hart s.action res par s.new id id' = same_at t s.hart s.action res par s.new id id' (same is) in
     outcome (answer_with t s.hart s.action res par id) (answer_with t s.hart s.action res par id') (settle (effect_with t s.hart s.action res par s.new id)) (settle (effect_with t s.hart s.action res par s.new id')) x.answer (ap settle x.effect)
 
--- the step is applied with any id that its answer allows
-pub taken_by : (t : Tree) (s : TreeStep) (a : StepAnswer) (t' : Tree) (id : ℕ) → Names a id → Step t s a t' → IsAppliedAt t s id a t'
-taken_by t s a t' id names x =
-    let y : Taken t s a x.0 t' = step_taken t s a t' x in
-    let r : Option Cause = refusal t s.hart s.action in
-    let e : in_place t s r x.0 ≡ record { answer = a; tree = t' } = sym (applied_in t s x.0 y.place) ∙ y.is in
-    record { is = applied_in t s id y.place ∙ (in_place_same t s r a id x.0 t' e names ∙ e); chosen = y.chosen }
+applied_same : (t : Tree) (s : TreeStep) (id id' : ℕ) → IsInPlace t s.hart s.action → SameId t s id id' → applied t s id ≡ applied t s id'
+applied_same t s id id' p same = applied_in t s id p ∙ (in_place_same t s (refusal t s.hart s.action) id id' refl same ∙ sym (applied_in t s id' p))
 
-pub names_own : (a : StepAnswer) → Names a (id_of a)
-names_own (Opened fd id f) fd' j g e = cc
-names_own (Failed k) fd' j g e = absurd cc
-names_own (Bytes b) fd' j g e = absurd cc
-names_own (Status b) fd' j g e = absurd cc
-names_own (NewFd fd) fd' j g e = absurd cc
-names_own Done fd' j g e = absurd cc
-names_own (NoRoom f) fd' j g e = absurd cc
-
-pub step_one : (t : Tree) (s : TreeStep) (a : StepAnswer) (one two : Tree) → Step t s a one → Step t s a two → one ≡ two
-step_one t s a one two x y =
-    let p : IsAppliedAt t s (id_of a) a one = taken_by t s a one (id_of a) (names_own a) x in
-    let q : IsAppliedAt t s (id_of a) a two = taken_by t s a two (id_of a) (names_own a) y in
-    ap (λ (o : Outcome). o.tree) (sym p.is ∙ q.is)
+pub step_one : (t : Tree) (s : TreeStep) (a b : StepAnswer) (one two : Tree) → Step t s a one → Step t s b two → (a ≡ b) × (one ≡ two)
+step_one t s a b one two x y =
+    let p : Taken t s a x.0 one = step_taken t s a one x in
+    let q : Taken t s b y.0 two = step_taken t s b two y in
+    let e = sym p.is ∙ (applied_same t s x.0 y.0 p.place (λ n o. least_one t x.0 y.0 (p.file n o) (q.file n o)) ∙ q.is) in
+    (ap (λ (o : Outcome). o.answer) e, ap (λ (o : Outcome). o.tree) e)
 
 pub chain_one : (t : Tree) (list : List Placed) (one two : Tree) → Chain t list one → Chain t list two → one ≡ two
 unfolding Chain
 chain_one t [] one two x y = sym x ∙ y
 chain_one t (e ∷ es) one two x y =
-    let same : y.0 ≡ x.0 = step_one t e.step e.answer y.0 x.0 y.1 x.1 in
-    chain_one x.0 es one two x.2 (subst (λ (m : Tree). Chain m es two) same y.2)
+    let same = step_one t e.step e.answer e.answer y.0 x.0 y.1 x.1 in
+    chain_one x.0 es one two x.2 (subst (λ (m : Tree). Chain m es two) same.1 y.2)
 
 -- The way back.
 
@@ -198,23 +182,11 @@ no_failed t h (Open path flags) res par id k e = not_opened t h id (if creates f
     | inl y ↦ (let x : Opened (lowest (t.fds h)) id (opens_file t n) ≡ Failed k = sym (room_opened t h id n y) ∙ e in cc)
     | inr y ↦ (let x = rw y at e in cc)
   ]
-no_failed t h (Truncate fd) res par id k e = cc
-no_failed t h (Read fd n) res par id k e = cc
-no_failed t h (WritePart fd b) res par id k e = cc
-no_failed t h (Find old) res par id k e = cc
-no_failed t h Bump res par id k e = cc
-no_failed t h (Enter new) res par id k e = cc
-no_failed t h Unbump res par id k e = cc
-no_failed t h (Unlink path) res par id k e = cc
-no_failed t h (Mkdir path) res par id k e = cc
-no_failed t h (Chdir path) res par id k e = cc
-no_failed t h (Dup fd) res par id k e = cc
-no_failed t h (Close fd) res par id k e = cc
 no_failed t h (Fstat fd) res par id k e = not_stat t (file_at t h fd) k e where
   not_stat : (t : Tree) (f : Option OpenFile) (k : Cause) → stat_answer t f ≡ Failed k → ⊥
   not_stat t None k e = cc
   not_stat t (Some f) k e = cc
-no_failed t h (Inherit child) res par id k e = cc
+no_failed t h s res par id k e = cc
 
 -- a step that was done, whatever it answered
 done_step : (t : Tree) (s : TreeStep) (id : ℕ) (a : StepAnswer) (t' : Tree) → refusal t s.hart s.action ≡ None → a ≡ answer_with t s.hart s.action (resolve t s.hart (path_of s.action)) (parent t s.hart (path_of s.action)) id → MayChoose t s.hart s.action (parent t s.hart (path_of s.action)) s.new id → t' ≡ settle (effect_with t s.hart s.action (resolve t s.hart (path_of s.action)) (parent t s.hart (path_of s.action)) s.new id) → IsInPlace t s.hart s.action → Step t s a t'
@@ -229,30 +201,25 @@ done_step t s id (NoRoom g) t' r e m f p = (id, (r, e, m, f, p))
 failed_step : (t : Tree) (s : TreeStep) (id : ℕ) (k : Cause) (a : StepAnswer) (t' : Tree) → refusal t s.hart s.action ≡ Some k → Failed k ≡ a → refused t s.hart s.action ≡ t' → IsInPlace t s.hart s.action → Step t s a t'
 failed_step t s id k a t' r e f p = subst (λ (b : StepAnswer). Step t s b t') e (let w : StepWith t s.hart s.action (resolve t s.hart (path_of s.action)) (parent t s.hart (path_of s.action)) (Failed k) s.new id t' = (r, sym f, p) in (id, w))
 
-may_choose : (t : Tree) (s : TreeStep) (id : ℕ) → refusal t s.hart s.action ≡ None → (IsBadChoice t s → ⊥) → (opens_one t s.hart s.action ≡ true → t.files id ≡ None) → IsInPlace t s.hart s.action → MayChoose t s.hart s.action (parent t s.hart (path_of s.action)) s.new id
-may_choose t s id r good unused p = record {
+may_choose : (t : Tree) (s : TreeStep) (id : ℕ) → refusal t s.hart s.action ≡ None → (IsBadChoice t s → ⊥) → (opens_one t s.hart s.action ≡ true → IsLeastUnused t id) → IsInPlace t s.hart s.action → MayChoose t s.hart s.action (parent t s.hart (path_of s.action)) s.new id
+may_choose t s id r good least p = record {
   node = λ makes. elim (new_or_not t s.new) [
     | inl y ↦ y
     | inr bad ↦ absurd (good (record { hart = in_hart (and_left (nat_lt s.hart hart_count) (place_of t s.hart s.action) p); not_refused = r; makes = makes; bad = bad }))
   ];
-  file = unused;
+  file = least;
 } where
   in_hart : nat_lt s.hart hart_count ≡ true → s.hart < hart_count
   in_hart y = grind (arith, nat_tests)
 
--- what is applied in its place, with an unused id for a file that it opens, is a step
-pub step_from : (t : Tree) (s : TreeStep) (id : ℕ) (a : StepAnswer) (t' : Tree) → IsInPlace t s.hart s.action → (a ≡ answer_with t s.hart s.action (resolve t s.hart (path_of s.action)) (parent t s.hart (path_of s.action)) id → opens_one t s.hart s.action ≡ true → t.files id ≡ None) → IsAppliedAt t s id a t' → Step t s a t'
-step_from t s id a t' p unused x = elim (cases_refusal (refusal t s.hart s.action)) [
+-- what is applied in its place, with the least unused id for a file that it opens, is a step
+pub applied_step : (t : Tree) (s : TreeStep) (id : ℕ) (a : StepAnswer) (t' : Tree) → IsInPlace t s.hart s.action → (opens_one t s.hart s.action ≡ true → IsLeastUnused t id) → IsAppliedAt t s id a t' → Step t s a t'
+applied_step t s id a t' p least x = elim (cases_refusal (refusal t s.hart s.action)) [
   | inl r ↦ (let e = sym (ap (λ z. in_place t s z id) r) ∙ (sym (applied_in t s id p) ∙ x.is) in
-      let is : a ≡ answer_with t s.hart s.action (resolve t s.hart (path_of s.action)) (parent t s.hart (path_of s.action)) id = sym (ap (λ (o : Outcome). o.answer) e) in
-      done_step t s id a t' r is (may_choose t s id r x.chosen (unused is) p) (sym (ap (λ (o : Outcome). o.tree) e)) p)
+      done_step t s id a t' r (sym (ap (λ (o : Outcome). o.answer) e)) (may_choose t s id r x.chosen least p) (sym (ap (λ (o : Outcome). o.tree) e)) p)
   | inr y ↦ (let e = sym (ap (λ z. in_place t s z id) y.1) ∙ (sym (applied_in t s id p) ∙ x.is) in
       failed_step t s id y.0 a t' y.1 (ap (λ (o : Outcome). o.answer) e) (ap (λ (o : Outcome). o.tree) e) p)
 ]
-
--- the same, whatever the answer
-pub applied_step : (t : Tree) (s : TreeStep) (id : ℕ) (a : StepAnswer) (t' : Tree) → IsInPlace t s.hart s.action → (opens_one t s.hart s.action ≡ true → t.files id ≡ None) → IsAppliedAt t s id a t' → Step t s a t'
-applied_step t s id a t' p unused x = step_from t s id a t' p (λ is. unused) x
 
 -- out of its place a step changes nothing
 out_of_its_place : (t : Tree) (s : TreeStep) (id : ℕ) → (nat_lt s.hart hart_count && place_of t s.hart s.action) ≡ false → (applied t s id).tree ≡ t
@@ -264,6 +231,6 @@ out_of_its_place t s id out = elim (cases_Bool (nat_lt s.hart hart_count)) [
 -- what is applied is a step, or was out of its place and changed nothing
 pub step_or_nothing : (t : Tree) (s : TreeStep) (a : StepAnswer) (t' : Tree) → IsApplied t s a t' → Step t s a t' ⊎ ((IsInPlace t s.hart s.action → ⊥) × (t' ≡ t))
 step_or_nothing t s a t' x = elim (cases_Bool (nat_lt s.hart hart_count && place_of t s.hart s.action)) [
-  | inl y ↦ inl (applied_step t s x.id a t' y (λ opens. (x.least opens).unused) x.made)
+  | inl y ↦ inl (applied_step t s x.id a t' y x.least x.made)
   | inr y ↦ inr ((λ p. absurd (let e : true ≡ false = sym p ∙ y in cc)), sym (ap (λ (o : Outcome). o.tree) x.made.is) ∙ out_of_its_place t s x.id y)
 ]

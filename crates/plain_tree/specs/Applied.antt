@@ -1,5 +1,5 @@
 -- What `Tree::apply` does: the tree step, and an answer to every other step.
-use Rattle.std.specs.Prelude.{◌≡◌, ◌≢◌, ℕ, ◌<◌, true, nat_lt, if◌then◌else◌, Option, Some, None}
+use Rattle.std.specs.Prelude.{◌≡◌, ℕ, ◌<◌, true, nat_lt, if◌then◌else◌, Option, Some, None}
 use Rattle.plain_tree.specs.declared.answer.Cause.{Cause}
 use Rattle.plain_tree.specs.declared.answer.Cause.TheVariants.{BadDescriptor}
 use Rattle.plain_tree.specs.declared.answer.Full.TheVariants.{Descriptors}
@@ -12,7 +12,7 @@ use Rattle.plain_tree.specs.declared.refused.ApplyRefused.{ApplyRefused}
 use Rattle.plain_tree.specs.declared.refused.ApplyRefused.TheVariants.{NoMemory, BadChoice}
 use Rattle.plain_tree.specs.TreeData.{TreeData}
 use Rattle.plain_tree.specs.Tree.{Tree, tree_of, resolve, parent, settle}
-use Rattle.plain_tree.specs.Steps.{path_of, refusal, refused, effect_with, answer_with, place_of, makes_node, opens_one, IsNewNode}
+use Rattle.plain_tree.specs.Steps.{path_of, refusal, refused, effect_with, answer_with, place_of, makes_node, opens_one, IsNewNode, IsLeastUnused}
 use Rattle.plain_tree.specs.Widths.{hart_count}
 
 -- an answer, and the tree after it
@@ -38,11 +38,6 @@ applied t s id =
     if nat_lt s.hart hart_count
     then (if place_of t s.hart s.action then in_place t s (refusal t s.hart s.action) id else record { answer = out_of_place s.action; tree = t })
     else record { answer = Failed BadDescriptor; tree = t }
-
--- the least unused id
-pub record IsLeastUnused (t : Tree) (id : ℕ) : Type 0 where
-  pub unused : t.files id ≡ None
-  pub least : (j : ℕ) → j < id → t.files j ≢ None
 
 -- the step makes a node, and may not take the number that it says
 pub record IsBadChoice (t : Tree) (s : TreeStep) : Type 0 where

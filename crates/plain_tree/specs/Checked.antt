@@ -1,5 +1,5 @@
 -- Words in which the parts of the check of a list are promised.
-use Rattle.std.specs.Prelude.{◌≡◌, ℕ, Bool, true, false, List, Some, None, slice_get}
+use Rattle.std.specs.Prelude.{◌≡◌, ℕ, Bool, true, false, List, Some, slice_get}
 use Rattle.plain_tree.specs.declared.step.TreeStep.{TreeStep}
 use Rattle.plain_tree.specs.declared.step.StepAnswer.{StepAnswer}
 use Rattle.plain_tree.specs.declared.step.StepAnswer.TheVariants.{Opened, Bytes, Stat as Status, Fd as NewFd, Done, Failed, Full as NoRoom}
@@ -12,14 +12,6 @@ use Rattle.plain_tree.specs.Explains.{Chain, IsWritten, acts_of}
 -- the list leads from t to some tree
 abbrev pub Leads : Tree → List Placed → Type 0
 Leads t list = (end : Tree) × Chain t list end
-
--- the id that an open's answer says is of no open file
-abbrev pub IsFree : Tree → StepAnswer → Type 0
-IsFree t a = (fd id : ℕ) (f : Bool) → a ≡ Opened fd id f → t.files id ≡ None
-
--- where the answer says the id of a new open file, it is this one
-abbrev pub Says : StepAnswer → ℕ → Type 0
-Says a id = (fd j : ℕ) (f : Bool) → a ≡ Opened fd j f → id ≡ j
 
 -- Where this is true the step with its answer leads from t to t', otherwise from t to no tree.
 abbrev pub LeadsOn : Bool → Tree → TreeStep → StepAnswer → Tree → Type 0

@@ -1,4 +1,4 @@
--- What a list of steps leads to, where it leads anywhere.
+-- What a step answers and what a list of steps leads to, where it leads anywhere.
 use Rattle.std.specs.Prelude.{◌≡◌, List}
 use Rattle.plain_tree.specs.declared.step.TreeStep.{TreeStep}
 use Rattle.plain_tree.specs.declared.step.StepAnswer.{StepAnswer}
@@ -7,9 +7,9 @@ use Rattle.plain_tree.specs.Tree.{Tree}
 use Rattle.plain_tree.specs.Steps.{Step}
 use Rattle.plain_tree.specs.Explains.{Chain}
 
--- a step with its answer leads to one tree
+-- a step gives one answer and leads to one tree
 abbrev pub StepsToOne : Type 0
-StepsToOne = (t : Tree) (s : TreeStep) (a : StepAnswer) (one two : Tree) → Step t s a one → Step t s a two → one ≡ two
+StepsToOne = (t : Tree) (s : TreeStep) (a b : StepAnswer) (one two : Tree) → Step t s a one → Step t s b two → (a ≡ b) × (one ≡ two)
 
 -- a list leads to one tree
 abbrev pub ChainsToOne : Type 0

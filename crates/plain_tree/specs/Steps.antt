@@ -1,5 +1,5 @@
 -- One step of the plain tree: its causes in order, its answer, what it changes.
-use Rattle.std.specs.Prelude.{◌≡◌, ℕ, zero, suc, ◌+◌, ◌-◌, ◌*◌, ◌/◌, ◌%◌, ◌<◌, ◌≤◌, ℤ, pos, negsuc, Bool, true, false, ◌&&◌, ◌||◌, not, List, [], ◌∷◌, ◌++◌, take, drop, length, replicate, ◌==◌, nat_lt, if◌then◌else◌, Option, Some, None, bit_and}
+use Rattle.std.specs.Prelude.{◌≡◌, ◌≢◌, ℕ, zero, suc, ◌+◌, ◌-◌, ◌*◌, ◌/◌, ◌%◌, ◌<◌, ◌≤◌, ℤ, pos, negsuc, Bool, true, false, ◌&&◌, ◌||◌, not, List, [], ◌∷◌, ◌++◌, take, drop, length, replicate, ◌==◌, nat_lt, if◌then◌else◌, Option, Some, None, bit_and}
 use Rattle.plain_tree.specs.declared.answer.Cause.{Cause}
 use Rattle.plain_tree.specs.declared.answer.Cause.TheVariants.{NoEntry, Exists, IsDirectory, NotEmpty, DotName, BadDescriptor, BadMode, TooBig, NoDriver, TooManyLinks, BadOffset, NotDirectory}
 use Rattle.plain_tree.specs.declared.answer.Full.TheVariants.{Descriptors}
@@ -537,10 +537,15 @@ opens_one t h (Close fd) = false
 opens_one t h (Fstat fd) = false
 opens_one t h (Inherit child) = false
 
--- What a step may choose: for a new node any number that isn't in the tree, for a new open file any unused id.
+-- the least unused id
+pub record IsLeastUnused (t : Tree) (id : ℕ) : Type 0 where
+  pub unused : t.files id ≡ None
+  pub least : (j : ℕ) → j < id → t.files j ≢ None
+
+-- What a step takes: for a new node any number that isn't in the tree, for a new open file the least unused id.
 pub record MayChoose (t : Tree) (h : ℕ) (s : Action) (par : Option (ℕ × Name)) (new id : ℕ) : Type 0 where
   pub node : makes_node t s par ≡ true → IsNewNode t new
-  pub file : opens_one t h s ≡ true → t.files id ≡ None
+  pub file : opens_one t h s ≡ true → IsLeastUnused t id
 
 -- The step, where the path was found to resolve to res and its parent to be par.
 abbrev pub StepWith : Tree → ℕ → Action → Option ℕ → Option (ℕ × Name) → StepAnswer → ℕ → ℕ → Tree → Type 0

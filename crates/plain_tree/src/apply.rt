@@ -27,7 +27,7 @@ fn path_of(action: &Action) -> &[u8]
     }
 }
 
-pub(crate) fn is_open(action: &Action) -> bool
+fn is_open(action: &Action) -> bool
     ensures { result ≡ is_open action.now }
 {
     matches!(action, Action::Open { .. })
@@ -74,7 +74,7 @@ impl Tree {
     }
 
     /// The same with the unused id that a new open file takes.
-    pub(crate) fn apply_at(
+    fn apply_at(
         &mut self,
         alloc: Global,
         step: &TreeStep,

@@ -1,7 +1,7 @@
 //! What the definitions say of one another.
 ghost use Rattle.plain_tree.specs.Laws.{AnswersAreSteps, AppliedIsAStep};
 
-/// What is applied in its place, with a right choice and an unused id for a file that it opens, is a tree step.
+/// What is applied in its place, with a right choice and the least unused id for a file that it opens, is a tree step.
 pub fn applied_is_a_step()
     ensures { AppliedIsAStep }
 {}

@@ -1,33 +1,18 @@
 //! When a list of steps leads on from a tree.
-ghost use Rattle.std.specs.Prelude.{◌≡◌, IfOk, IfSome, IsTrue, ◌↔◌, true};
-ghost use Rattle.plain_tree.specs.Checked.{IsFree, Leads, LeadsOn, Says};
-ghost use Rattle.plain_tree.specs.Code.{is_open};
+ghost use Rattle.std.specs.Prelude.{IfOk, IsTrue, ◌↔◌};
+ghost use Rattle.plain_tree.specs.Checked.{Leads, LeadsOn};
 ghost use Rattle.plain_tree.specs.Steps.{IsInPlace};
 ghost use Rattle.plain_tree.specs.Tree.{tree_of};
 
-use crate::apply::is_open;
 use crate::refused::{ApplyRefused, NoMemory};
 use crate::same::same_answer;
-use crate::step::{StepAnswer, TreeStep};
+use crate::step::TreeStep;
 use crate::trace::Placed;
 use crate::tree::Tree;
 use crate::widths::HART_COUNT;
 use std::alloc::Global;
 
 impl Tree {
-    /// The id for a new open file: the one that the answer says, else an unused one.
-    fn id_for(&self, entry: &Placed) -> usize
-        requires { IsFree (tree_of self.now) entry.now.answer }
-        ensures said { Says entry.now.answer result }
-        ensures unused { is_open entry.now.step.action ≡ true → (tree_of self.now).files result ≡ None }
-    {
-        match &entry.answer {
-            StepAnswer::Opened { id, .. } => *id,
-            _ if is_open(&entry.step.action) => self.least_unused(),
-            _ => 0,
-        }
-    }
-
     /// The step is in its place.
     fn is_in_place(&self, step: &TreeStep) -> bool
         ensures { IsTrue result ↔ IsInPlace (tree_of self.now) step.now.hart step.now.action }
@@ -35,25 +20,14 @@ impl Tree {
         step.hart < HART_COUNT && self.has_place(step.hart, &step.action)
     }
 
-    /// No file is open under the id that the answer of an open says.
-    fn is_free(&self, answer: &StepAnswer) -> bool
-        ensures { IsTrue result ↔ IsFree (tree_of self.now) answer.now }
-    {
-        match answer {
-            StepAnswer::Opened { id, .. } => self.file(*id).is_none(),
-            _ => true,
-        }
-    }
-
     /// Makes the step, and says whether it leads on with that answer. Where it doesn't, the tree is of no account.
     fn lead_on(&mut self, alloc: Global, entry: &Placed) -> Result<bool, NoMemory>
         ensures { IfOk result (λ b. LeadsOn b (tree_of self.old) entry.now.step entry.now.answer (tree_of self.new)) }
     {
-        if !self.is_in_place(&entry.step) || !self.is_free(&entry.answer) {
+        if !self.is_in_place(&entry.step) {
             return Ok(false);
         }
-        let id = self.id_for(entry);
-        match self.apply_at(alloc, &entry.step, id) {
+        match self.apply(alloc, &entry.step) {
             Ok(answer) => Ok(same_answer(&answer, &entry.answer)),
             Err(ApplyRefused::BadChoice) => Ok(false),
             Err(ApplyRefused::NoMemory) => Err(NoMemory),

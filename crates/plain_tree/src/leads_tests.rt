@@ -59,17 +59,20 @@ fn steps_lead(alloc: Global, first: usize, second: usize, closed: u32) -> Result
 }
 
 #[test]
-fn leads_by_any_free_ids(rt: HostRuntime) -> Result<(), Fail> {
+fn leads_by_the_least_ids(rt: HostRuntime) -> Result<(), Fail> {
     let alloc = rt.alloc();
     assert_eq!(rt; steps_lead(alloc, 0, 1, 1), Ok(true));
-    assert_eq!(rt; steps_lead(alloc, 7, 3, 0), Ok(true));
+    for (first, second) in [(0, 2), (1, 0), (7, 3)] {
+        let leads = steps_lead(alloc, first, second, 0);
+        assert_eq!(rt; leads, Ok(false), "{first} and {second}");
+    }
     Ok(())
 }
 
 #[test]
 fn stops_at_a_wrong_step(rt: HostRuntime) -> Result<(), Fail> {
     let alloc = rt.alloc();
-    assert_eq!(rt; steps_lead(alloc, 7, 7, 1), Ok(false));
-    assert_eq!(rt; steps_lead(alloc, 7, 3, 2), Ok(false));
+    assert_eq!(rt; steps_lead(alloc, 0, 0, 1), Ok(false));
+    assert_eq!(rt; steps_lead(alloc, 0, 1, 2), Ok(false));
     Ok(())
 }

@@ -1,7 +1,7 @@
 //! Where steps lead.
 ghost use Rattle.plain_tree.specs.OneEnd.{ChainsToOne, StepsToOne};
 
-/// A step with its answer leads to one tree at most: the answer of an open says the id that it took.
+/// A step gives one answer at most, and leads to one tree: that of `Tree::apply`, where it is in its place.
 pub fn steps_to_one()
     ensures { StepsToOne }
 {}

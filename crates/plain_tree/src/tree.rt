@@ -1,9 +1,8 @@
 //! The tree.
 ghost use Rattle.std.specs.Prelude.{◌≡◌, ◌<◌, ◌++◌, ◌∷◌, [], length, replicate, IfOk, MatchOption, MatchResult, remove, slice_index_or, slice_set, true};
-ghost use Rattle.plain_tree.specs.Applied.{IsLeastUnused};
 ghost use Rattle.plain_tree.specs.Code.{Advances, HasFiles, IsEntryOf, IsOrphan};
 ghost use Rattle.plain_tree.specs.Fresh.{at_rest, fresh};
-ghost use Rattle.plain_tree.specs.Steps.{closed, moved, node_at, with_nodes};
+ghost use Rattle.plain_tree.specs.Steps.{IsLeastUnused, closed, moved, node_at, with_nodes};
 ghost use Rattle.plain_tree.specs.Tree.{file_in, hart_at, put, tree_of};
 
 use crate::bytes::Bytes;

@@ -218,8 +218,8 @@ effect_well : (t : Tree) (h : ℕ) (s : Action) (res : Option ℕ) (par : Option
     → refusal_with t h s res par ≡ None → MayChoose t h s par new id → IsWellFormed (effect_with t h s res par new id)
 unfolding effect_with refusal_with place_of
 effect_well t h (Open path flags) res par new id k lt place free map live ref may = elim (either (creates flags)) [
-  | inl y ↦ rw y (opened_new_well t h id flags new par k live (λ e. may.node (both (creates flags) (is_absent t par) y e)) may.file)
-  | inr y ↦ rw y (opened_well t h id flags new res k map may.file)
+  | inl y ↦ rw y (opened_new_well t h id flags new par k live (λ e. may.node (both (creates flags) (is_absent t par) y e)) (λ o. (may.file o).unused))
+  | inr y ↦ rw y (opened_well t h id flags new res k map (λ o. (may.file o).unused))
 ]
   where
     both : (a b : Bool) → a ≡ true → b ≡ true → (a && b) ≡ true

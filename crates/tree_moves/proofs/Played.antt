@@ -1,5 +1,5 @@
 -- Runs that are computed: what a script of moves does, and that it is a run where each move is allowed.
-use Rattle.std.proofs.Common.{◌≡◌, ℕ, ◌<◌, Bool, true, false, ◌&&◌, ◌||◌, not, ◌==◌, refl, ap, subst, arith, List, [], ◌∷◌, Option, Some, None, nat_lt}
+use Rattle.std.proofs.Common.{◌≡◌, ◌≢◌, ℕ, ◌<◌, Bool, true, false, ◌&&◌, ◌||◌, not, ◌==◌, refl, ap, subst, arith, List, [], ◌∷◌, Option, Some, None, nat_lt}
 use Rattle.std.proofs.lemmas.Bool.Decides.{nat_tests}
 use Rattle.plain_tree.specs.declared.answer.Cause.{Cause}
 use Rattle.plain_tree.specs.declared.answer.Reply.{Reply}
@@ -10,7 +10,7 @@ use Rattle.plain_tree.specs.declared.step.StepAnswer.{StepAnswer}
 use Rattle.plain_tree.specs.declared.step.StepAnswer.TheVariants.{Opened, Bytes, Stat as Status, Fd as NewFd, Done, Failed, Full as NoRoom}
 use Rattle.plain_tree.specs.Widths.{hart_count}
 use Rattle.plain_tree.specs.Tree.{Name, Tree, put, any_below, elements, live_directory, look, start_of, resolve, parent, settle}
-use Rattle.plain_tree.specs.Steps.{path_of, follows_path, makes_node, opens_one, is_nothing, place_of, IsInPlace, MayChoose, StepWith, refusal_with, refused, effect_with, answer_with}
+use Rattle.plain_tree.specs.Steps.{path_of, follows_path, makes_node, opens_one, is_nothing, place_of, IsInPlace, IsLeastUnused, MayChoose, StepWith, refusal_with, refused, effect_with, answer_with}
 use Rattle.plain_tree.specs.Calls.{Act, next_of, reply_of, had_room}
 use Rattle.tree_laws.specs.WellFormed.{is_free_to_find}
 use Rattle.tree_laws.proofs.Maps.{eq_self, eq_is, eq_not, and_true, any_none}
@@ -53,8 +53,11 @@ answered t h s res par id None = is_ok (answer_with t h s res par id)
 abbrev pub is_new : Tree → ℕ → Bool
 is_new t new = nat_lt 0 new && (nat_lt new t.ninodes && is_nothing (t.nodes new))
 
+abbrev pub is_least : Tree → ℕ → Bool
+is_least t id = is_nothing (t.files id) && not (any_below id (λ j. is_nothing (t.files j)))
+
 abbrev pub may_choose : Tree → ℕ → Action → Option (ℕ × Name) → ℕ → ℕ → Bool
-may_choose t h s par new id = (not (makes_node t s par) || is_new t new) && (not (opens_one t h s) || is_nothing (t.files id))
+may_choose t h s par new id = (not (makes_node t s par) || is_new t new) && (not (opens_one t h s) || is_least t id)
 
 abbrev pub is_at : Option Walk → ℕ → Bool
 is_at None n = false
@@ -140,6 +143,10 @@ nothing_is : {A : Type 0} → (o : Option A) → is_nothing o ≡ true → o ≡
 nothing_is None h = refl
 nothing_is (Some x) h = absurd cc
 
+nothing_not : {A : Type 0} → (o : Option A) → is_nothing o ≡ false → o ≢ None
+nothing_not None h e = absurd cc
+nothing_not (Some x) h e = absurd cc
+
 not_is : (b : Bool) → not b ≡ true → b ≡ false
 not_is true h = absurd cc
 not_is false h = refl
@@ -155,15 +162,23 @@ lock_is : (o : Option ℕ) (h : ℕ) → has_lock o h ≡ true → o ≡ Some h
 lock_is None h q = absurd cc
 lock_is (Some g) h q = ap (λ (z : ℕ). Some z) (eq_is g h q)
 
+least_is : (t : Tree) (id : ℕ) → is_least t id ≡ true → IsLeastUnused t id
+least_is t id is =
+    let two = and_true (is_nothing (t.files id)) (not (any_below id (λ j. is_nothing (t.files j)))) is in
+    record {
+      unused = nothing_is (t.files id) two.0;
+      least = λ j lt. nothing_not (t.files j) (any_none id (λ k. is_nothing (t.files k)) (not_is (any_below id (λ k. is_nothing (t.files k))) two.1) j lt);
+    }
+
 chosen : (t : Tree) (h : ℕ) (s : Action) (par : Option (ℕ × Name)) (new id : ℕ) → may_choose t h s par new id ≡ true → MayChoose t h s par new id
 chosen t h s par new id may =
-    let two = and_true (not (makes_node t s par) || is_new t new) (not (opens_one t h s) || is_nothing (t.files id)) may in
+    let two = and_true (not (makes_node t s par) || is_new t new) (not (opens_one t h s) || is_least t id) may in
     record {
       node = λ y.
           let one = and_true (nat_lt 0 new) (nat_lt new t.ninodes && is_nothing (t.nodes new)) (unless (makes_node t s par) (is_new t new) two.0 y) in
           let rest = and_true (nat_lt new t.ninodes) (is_nothing (t.nodes new)) one.1 in
           record { from = less_is 0 new one.0; below = less_is new t.ninodes rest.0; unused = nothing_is (t.nodes new) rest.1 };
-      file = λ y. nothing_is (t.files id) (unless (opens_one t h s) (is_nothing (t.files id)) two.1 y);
+      file = λ y. least_is t id (unless (opens_one t h s) (is_least t id) two.1 y);
     }
 
 ok_step : (t : Tree) (h : ℕ) (s : Action) (res : Option ℕ) (par : Option (ℕ × Name)) (new id : ℕ) (a : StepAnswer) → refusal_with t h s res par ≡ None → a ≡ answer_with t h s res par id → is_ok a ≡ true → MayChoose t h s par new id → IsInPlace t h s → StepWith t h s res par a new id (settle (effect_with t h s res par new id))
