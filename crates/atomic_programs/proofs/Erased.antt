@@ -50,18 +50,18 @@ module _ (L : Theory) (C : Code L) where
   erase-tried h s r op ps k (Stops w) = refl
 
   module _ (is : IsCode L C) where
-    erase-prog : (h : ℕ) (s : State L) (r : Run L) (p : P L.M L.Reply) → plain_prog L C h (erase L C s) p ≡ erased (step_prog L h s r p)
-    erase-prog h s r (Ret a) = refl
-    erase-prog h s r (Do op m k) =
-        ap (plain_tried L C h (erase L C s) op k) (is.goes h op m s.world) ∙ erase-tried h s r op (λ a. L.M.places h op a (m a) s.world) k (L.M.go h op m s.world)
+    erase-prog : (h : ℕ) (y : L.M.Outside) (s : State L) (r : Run L) (p : P L.M L.Reply) → plain_prog L C h y (erase L C s) p ≡ erased (step_prog L h y s r p)
+    erase-prog h y s r (Ret a) = refl
+    erase-prog h y s r (Do op m k) =
+        ap (plain_tried L C h (erase L C s) op k) (is.goes h y op m s.world) ∙ erase-tried h s r op (λ a. L.M.places h op a (m a) s.world) k (L.M.go h y op m s.world)
 
-    erase-unless : (h : ℕ) (s : State L) (r : Run L) (b : Bool) → plain_unless L C h (erase L C s) b r.prog ≡ erased (step_unless L h s b r)
-    erase-unless h s r true = refl
-    erase-unless h s r false = erase-prog h s r r.prog
+    erase-unless : (h : ℕ) (y : L.M.Outside) (s : State L) (r : Run L) (b : Bool) → plain_unless L C h y (erase L C s) b r.prog ≡ erased (step_unless L h y s b r)
+    erase-unless h y s r true = refl
+    erase-unless h y s r false = erase-prog h y s r r.prog
 
-    erase-step : (h : ℕ) (s : State L) (x : Option (Run L)) → plain_step L C h (erase L C s) (prog_of L C x) ≡ erased (step_run L h s x)
-    erase-step h s None = refl
-    erase-step h s (Some r) = erase-unless h s r s.stopped
+    erase-step : (h : ℕ) (y : L.M.Outside) (s : State L) (x : Option (Run L)) → plain_step L C h y (erase L C s) (prog_of L C x) ≡ erased (step_run L h y s x)
+    erase-step h y s None = refl
+    erase-step h y s (Some r) = erase-unless h y s r s.stopped
 
     erase-begun : (h : ℕ) (call : L.Call) (s : State L) (x : Began L.Refusal L.M.World) → plain_begun L C h call (erase L C s) (began_in C.shared x) ≡ erased (begun L h call s x)
     erase-begun h call s (Refuses why) = refl
@@ -86,20 +86,20 @@ module _ (L : Theory) (C : Code L) where
         ∙ erase-begun h call s (L.start h call (busy_in L s) s.world)
 
     -- an event makes of the code's state what it makes with the history
-    pub erase-makes : (e : Event L.Call) (s : State L) → plain_makes L C e (erase L C s) ≡ erased (makes L e s)
+    pub erase-makes : (e : Event L.Call L.M.Outside) (s : State L) → plain_makes L C e (erase L C s) ≡ erased (makes L e s)
     erase-makes (Start h call) s = erase-start h call s (s.running h)
-    erase-makes (Step h) s = erase-step h s (s.running h)
+    erase-makes (Step h y) s = erase-step h y s (s.running h)
 
-    pub erase-run : (es : List (Event L.Call)) (s : State L) → plain_run L C es (erase L C s) ≡ erase L C (run L es s)
+    pub erase-run : (es : List (Event L.Call L.M.Outside)) (s : State L) → plain_run L C es (erase L C s) ≡ erase L C (run L es s)
     erase-run [] s = refl
     erase-run (e ∷ es) s = ap (plain_run L C es) (ap (λ (x : PlainMade L C). x.after) (erase-makes e s)) ∙ erase-run es (next L e s)
 
-    pub erase-outcomes : (es : List (Event L.Call)) (s : State L) → plain_outcomes L C es (erase L C s) ≡ all_by_kind L C (outcomes L es s)
+    pub erase-outcomes : (es : List (Event L.Call L.M.Outside)) (s : State L) → plain_outcomes L C es (erase L C s) ≡ all_by_kind L C (outcomes L es s)
     erase-outcomes [] s = refl
     erase-outcomes (e ∷ es) s =
         ap (λ (x : PlainMade L C). x.came ∷ plain_outcomes L C es x.after) (erase-makes e s) ∙ ap (λ (z : List (Outcome C.Kind L.Reply L.Refusal)). by_kind L C (makes L e s).came ∷ z) (erase-outcomes es (next L e s))
 
   -- one event more
-  pub plain_run-more : (es : List (Event L.Call)) (e : Event L.Call) (s : Plain L C) → plain_run L C (es ++ e ∷ []) s ≡ (plain_makes L C e (plain_run L C es s)).after
+  pub plain_run-more : (es : List (Event L.Call L.M.Outside)) (e : Event L.Call L.M.Outside) (s : Plain L C) → plain_run L C (es ++ e ∷ []) s ≡ (plain_makes L C e (plain_run L C es s)).after
   plain_run-more [] e s = refl
   plain_run-more (x ∷ es) e s = plain_run-more es e (plain_makes L C x s).after

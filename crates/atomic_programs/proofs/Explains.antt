@@ -2,9 +2,9 @@
 use Rattle.std.proofs.Common.{◌≡◌, ◌≢◌, ℕ, suc, ◌<◌, ◌≤◌, ◌+◌, Option, Some, None, Bool, true, false, List, [], ◌∷◌, refl, sym, ◌∙◌, ap, subst, arith, ◌⊎◌, inl, inr}
 use Rattle.std.proofs.lemmas.Bool.{eqb-true, eqb-false, eq-eqb, ne_eqb}
 use Rattle.std.specs.Prelude.{nat_eq, if◌then◌else◌}
-use Rattle.atomic_programs.specs.Prog.{Ret, Do, Did, Waits, Ran, Stops}
+use Rattle.atomic_programs.specs.Prog.{Ret, Do, Did, Waits, Ran, Stops, asks, OfNext}
 use Rattle.atomic_programs.specs.Logic.{Machine, P, own, onto, oldest_first, Goes, Grown, Halts, Good, Wp}
-use Rattle.atomic_programs.specs.Calls.{Theory, Began, Refuses, Begins, IsBeginning, Begun, Ends, Right, Lawful, Run, Placed, Finished, State, Event, Start, Step, DidWait, changed, is_some, start_of, placed, told, all_told, unchanged, moved, tried, step_prog, step_unless, step_run, begun, busy_in, start_run, makes, next, run, fresh}
+use Rattle.atomic_programs.specs.Calls.{Theory, Began, Refuses, Begins, IsBeginning, Begun, Ends, Right, Lawful, Run, Placed, Finished, State, Event, Start, Step, DidWait, changed, is_some, start_of, placed, told, all_told, unchanged, moved, tried, step_prog, step_unless, step_run, begun, busy_in, start_run, makes, next, run, fresh, HonestStep, IsHonest, AllHonest, Sound}
 use Rattle.atomic_programs.specs.Explained.{In, steps_of, IsOfCall, Blocked, Holds, Explained}
 use Rattle.atomic_programs.proofs.Sound.{Wp-others, Grown-all}
 use Rattle.atomic_programs.proofs.History.{Chained, Falling, chain_turned, rising_turned, steps_turned, in_history, In-own, steps_of-placed, steps_of-other, steps_of-none, New, In-placed, Falling-more, Falling-placed, Chained-placed, below_of}
@@ -482,27 +482,29 @@ Keeps-tried L laws base h s r op ps c wait (Ran a w) e y k g =
     Keeps-moved L laws base h s r op (ps a) (c a) w g.left k (record { is = e; goes_on = y; inv = g.inv; kept = g.kept; goes = g.goes; clean = g.clean; begun = g.begun }) g.falls g.next
 Keeps-tried L laws base h s r op ps c wait (Stops w) e y k g = Keeps-stops L laws base h s r w e k g
 
-pub Keeps-prog : (L : Theory) (laws : Lawful L) (base : L.M.Tree) (h : ℕ) (s : State L) (r : Run L) (p : P L.M L.Reply)
-    → (e : s.running h ≡ Some r) → s.stopped ≡ false → (k : Keeps L base s) → Wp L.M h (Begun L r.call) (Ends L h r.call) p (k.going h r e).left r.done s.world → Keeps L base (step_prog L h s r p).after
-Keeps-prog L laws base h s r (Ret reply) e y k g = Keeps-unchanged L base s k
-Keeps-prog L laws base h s r (Do op m c) e y k g =
-    Keeps-tried L laws base h s r op (λ a. L.M.places h op a (m a) s.world) c (L.M.MayWait h op s.world) (L.M.go h op m s.world) e y k (g s.world [] (laws.laws.same h s.world) (inv_of L s.stopped s.world k.holds y)).1
+pub Keeps-prog : (L : Theory) (laws : Lawful L) (base : L.M.Tree) (h : ℕ) (x : L.M.Outside) (s : State L) (r : Run L) (p : P L.M L.Reply)
+    → (e : s.running h ≡ Some r) → s.stopped ≡ false → (k : Keeps L base s) → OfNext (λ op v. L.M.Honest h op v x) (asks p) s.world
+    → Wp L.M h (Begun L r.call) (Ends L h r.call) p (k.going h r e).left r.done s.world → Keeps L base (step_prog L h x s r p).after
+Keeps-prog L laws base h x s r (Ret reply) e y k t g = Keeps-unchanged L base s k
+Keeps-prog L laws base h x s r (Do op m c) e y k t g =
+    Keeps-tried L laws base h s r op (λ a. L.M.places h op a (m a) s.world) c (L.M.MayWait h op s.world) (L.M.go h x op m s.world) e y k
+    ((g s.world [] (laws.laws.same h s.world) (inv_of L s.stopped s.world k.holds y)).2 x t)
 
-pub Keeps-unless : (L : Theory) (laws : Lawful L) (base : L.M.Tree) (h : ℕ) (s : State L) (r : Run L) (b : Bool) → s.stopped ≡ b → s.running h ≡ Some r → Keeps L base s → Keeps L base (step_unless L h s b r).after
-Keeps-unless L laws base h s r true y e k = Keeps-unchanged L base s k
-Keeps-unless L laws base h s r false y e k = Keeps-prog L laws base h s r r.prog e y k ((k.going h r e).wp y)
+pub Keeps-unless : (L : Theory) (laws : Lawful L) (base : L.M.Tree) (h : ℕ) (x : L.M.Outside) (s : State L) (r : Run L) (b : Bool) → s.stopped ≡ b → s.running h ≡ Some r → HonestStep L h x s.world b (Some r) → Keeps L base s → Keeps L base (step_unless L h x s b r).after
+Keeps-unless L laws base h x s r true y e t k = Keeps-unchanged L base s k
+Keeps-unless L laws base h x s r false y e t k = Keeps-prog L laws base h x s r r.prog e y k t ((k.going h r e).wp y)
 
-pub Keeps-step : (L : Theory) (laws : Lawful L) (base : L.M.Tree) (h : ℕ) (s : State L) (x : Option (Run L)) → s.running h ≡ x → Keeps L base s → Keeps L base (step_run L h s x).after
-Keeps-step L laws base h s None e k = Keeps-unchanged L base s k
-Keeps-step L laws base h s (Some r) e k = Keeps-unless L laws base h s r s.stopped refl e k
+pub Keeps-step : (L : Theory) (laws : Lawful L) (base : L.M.Tree) (h : ℕ) (x : L.M.Outside) (s : State L) (r : Option (Run L)) → s.running h ≡ r → HonestStep L h x s.world s.stopped r → Keeps L base s → Keeps L base (step_run L h x s r).after
+Keeps-step L laws base h x s None e t k = Keeps-unchanged L base s k
+Keeps-step L laws base h x s (Some r) e t k = Keeps-unless L laws base h x s r s.stopped refl e t k
 
-pub Keeps-next : (L : Theory) (laws : Lawful L) (base : L.M.Tree) (event : Event L.Call) (s : State L) → Keeps L base s → Keeps L base (next L event s)
-Keeps-next L laws base (Start h call) s k = Keeps-start L laws base h call s (s.running h) refl k
-Keeps-next L laws base (Step h) s k = Keeps-step L laws base h s (s.running h) refl k
+pub Keeps-next : (L : Theory) (laws : Lawful L) (base : L.M.Tree) (event : Event L.Call L.M.Outside) (s : State L) → IsHonest L event s → Keeps L base s → Keeps L base (next L event s)
+Keeps-next L laws base (Start h call) s t k = Keeps-start L laws base h call s (s.running h) refl k
+Keeps-next L laws base (Step h x) s t k = Keeps-step L laws base h x s (s.running h) refl t k
 
-pub Keeps-run : (L : Theory) (laws : Lawful L) (base : L.M.Tree) (events : List (Event L.Call)) (s : State L) → Keeps L base s → Keeps L base (run L events s)
-Keeps-run L laws base [] s k = k
-Keeps-run L laws base (e ∷ es) s k = Keeps-run L laws base es (next L e s) (Keeps-next L laws base e s k)
+pub Keeps-run : (L : Theory) (laws : Lawful L) (base : L.M.Tree) (events : List (Event L.Call L.M.Outside)) (s : State L) → AllHonest L events s → Keeps L base s → Keeps L base (run L events s)
+Keeps-run L laws base [] s t k = k
+Keeps-run L laws base (e ∷ es) s t k = Keeps-run L laws base es (next L e s) t.1 (Keeps-next L laws base e s t.0 k)
 
 pub Keeps-fresh : (L : Theory) (w : L.M.World) → L.M.Inv w → ((h : ℕ) → L.M.Idle h w) → Keeps L (L.M.tree w) (fresh L w)
 Keeps-fresh L w inv idle =
@@ -517,12 +519,20 @@ Keeps-fresh L w inv idle =
       over = λ f i. absurd i;
     }
 
+-- each hart's next operation may be made
+pub may_make : (L : Theory) (laws : Lawful L) (base : L.M.Tree) (s : State L) → Keeps L base s → (h : ℕ) (r : Run L) → s.stopped ≡ false → s.running h ≡ Some r → OfNext (L.M.May h) (asks r.prog) s.world
+may_make L laws base s k h r y e = at r.prog ((k.going h r e).wp y)
+  where
+    at : (p : P L.M L.Reply) → Wp L.M h (Begun L r.call) (Ends L h r.call) p (k.going h r e).left r.done s.world → OfNext (L.M.May h) (asks p) s.world
+    at (Ret reply) g = tt
+    at (Do op m c) g = (g s.world [] (laws.laws.same h s.world) (inv_of L s.stopped s.world k.holds y)).1
+
 -- a step waits only where it may
-module _ (L : Theory) (laws : Lawful L) (base : L.M.Tree) (s : State L) (k : Keeps L base s) (h : ℕ) where
-  wait_tried : (r : Run L) (op : L.M.Op) (m : L.M.Answer op → Option L.M.Mark) (c : L.M.Answer op → P L.M L.Reply) (x : Did (L.M.Answer op) L.M.World)
-      → s.running h ≡ Some r → r.prog ≡ Do op m c → s.stopped ≡ false → L.M.go h op m s.world ≡ x
-      → (tried L h s r op (λ a. L.M.places h op a (m a) s.world) c x).came ≡ DidWait → Blocked L h s
-  wait_tried r op m c Waits e is y none w =
+module _ (L : Theory) (laws : Lawful L) (base : L.M.Tree) (s : State L) (k : Keeps L base s) (h : ℕ) (x : L.M.Outside) where
+  wait_tried : (r : Run L) (op : L.M.Op) (m : L.M.Answer op → Option L.M.Mark) (c : L.M.Answer op → P L.M L.Reply) (d : Did (L.M.Answer op) L.M.World)
+      → s.running h ≡ Some r → r.prog ≡ Do op m c → s.stopped ≡ false → L.M.Honest h op s.world x → L.M.go h x op m s.world ≡ d
+      → (tried L h s r op (λ a. L.M.places h op a (m a) s.world) c d).came ≡ DidWait → Blocked L h s
+  wait_tried r op m c Waits e is y t none w =
       let g = k.going h r e in
       let wp : Wp L.M h (Begun L r.call) (Ends L h r.call) (Do op m c) g.left r.done s.world = subst (λ (p : P L.M L.Reply). Wp L.M h (Begun L r.call) (Ends L h r.call) p g.left r.done s.world) is (g.wp y) in
       record {
@@ -532,30 +542,30 @@ module _ (L : Theory) (laws : Lawful L) (base : L.M.Tree) (s : State L) (k : Kee
         rest = c;
         is = e;
         asks = is;
-        may = subst (λ (x : Did (L.M.Answer op) L.M.World). Good L.M (L.M.Answer op) h (λ a. L.M.places h op a (m a) s.world) g.left (Begun L r.call) r.done s.world (L.M.MayWait h op s.world) x (λ l a u. Wp L.M h (Begun L r.call) (Ends L h r.call) (c a) l (onto (own h (L.M.places h op a (m a) s.world)) r.done) u)) none
-            (wp s.world [] (laws.laws.same h s.world) (inv_of L s.stopped s.world k.holds y)).1;
+        may = subst (λ (d : Did (L.M.Answer op) L.M.World). Good L.M (L.M.Answer op) h (λ a. L.M.places h op a (m a) s.world) g.left (Begun L r.call) r.done s.world (L.M.MayWait h op s.world) d (λ l a u. Wp L.M h (Begun L r.call) (Ends L h r.call) (c a) l (onto (own h (L.M.places h op a (m a) s.world)) r.done) u)) none
+            ((wp s.world [] (laws.laws.same h s.world) (inv_of L s.stopped s.world k.holds y)).2 x t);
       }
-  wait_tried r op m c (Ran a u) e is y none w = absurd (wait_moved (c a) w)
+  wait_tried r op m c (Ran a u) e is y t none w = absurd (wait_moved (c a) w)
     where
       wait_moved : (p : P L.M L.Reply) → (moved L h s r op (L.M.places h op a (m a) s.world) p u).came ≡ DidWait → ⊥
       wait_moved (Ret reply) q = cc
       wait_moved (Do op' m' c') q = cc
-  wait_tried r op m c (Stops u) e is y none w = cc
+  wait_tried r op m c (Stops u) e is y t none w = cc
 
-  wait_prog : (r : Run L) (p : P L.M L.Reply) → s.running h ≡ Some r → r.prog ≡ p → s.stopped ≡ false → (step_prog L h s r p).came ≡ DidWait → Blocked L h s
-  wait_prog r (Ret reply) e is y w = cc
-  wait_prog r (Do op m c) e is y w = wait_tried r op m c (L.M.go h op m s.world) e is y refl w
+  wait_prog : (r : Run L) (p : P L.M L.Reply) → s.running h ≡ Some r → r.prog ≡ p → s.stopped ≡ false → OfNext (λ op v. L.M.Honest h op v x) (asks p) s.world → (step_prog L h x s r p).came ≡ DidWait → Blocked L h s
+  wait_prog r (Ret reply) e is y t w = cc
+  wait_prog r (Do op m c) e is y t w = wait_tried r op m c (L.M.go h x op m s.world) e is y t refl w
 
-  wait_unless : (r : Run L) (b : Bool) → s.running h ≡ Some r → s.stopped ≡ b → (step_unless L h s b r).came ≡ DidWait → Blocked L h s
-  wait_unless r true e y w = cc
-  wait_unless r false e y w = wait_prog r r.prog e refl y w
+  wait_unless : (r : Run L) (b : Bool) → s.running h ≡ Some r → s.stopped ≡ b → HonestStep L h x s.world b (Some r) → (step_unless L h x s b r).came ≡ DidWait → Blocked L h s
+  wait_unless r true e y t w = cc
+  wait_unless r false e y t w = wait_prog r r.prog e refl y t w
 
-  wait_run : (x : Option (Run L)) → s.running h ≡ x → (step_run L h s x).came ≡ DidWait → Blocked L h s
-  wait_run None e w = cc
-  wait_run (Some r) e w = wait_unless r s.stopped e refl w
+  wait_run : (r : Option (Run L)) → s.running h ≡ r → HonestStep L h x s.world s.stopped r → (step_run L h x s r).came ≡ DidWait → Blocked L h s
+  wait_run None e t w = cc
+  wait_run (Some r) e t w = wait_unless r s.stopped e refl t w
 
-  pub may_wait : (makes L (Step h) s).came ≡ DidWait → Blocked L h s
-  may_wait w = wait_run (s.running h) refl w
+  pub may_wait : IsHonest L (Step h x) s → (makes L (Step h x) s).came ≡ DidWait → Blocked L h s
+  may_wait t w = wait_run (s.running h) refl t w
 
 -- all replies of a run are explained by the list that it made
 pub explained_by : (L : Theory) (laws : Lawful L) (base : L.M.Tree) (s : State L) → Keeps L base s → Explained L base s
@@ -573,11 +583,30 @@ explained_by L laws base s k =
       apart = k.lone;
       bounded = λ f i. (k.over f i).bounded;
       bounded_yet = λ h r e. (let g = k.going h r e in let b : r.count + g.left ≤ L.limit r.call = g.bounded in omega arith);
-      waits = λ h w. may_wait L laws base s k h w;
+      waits = λ h x t w. may_wait L laws base s k h x t w;
+      may = λ h r y e. may_make L laws base s k h r y e;
       idle = k.idle;
       holds = k.holds;
     }
 
-pub explains : (L : Theory) (laws : Lawful L) (w : L.M.World) (events : List (Event L.Call)) → L.M.Inv w → ((h : ℕ) → L.M.Idle h w) → Explained L (L.M.tree w) (run L events (fresh L w))
-explains L laws w events inv idle =
-    explained_by L laws (L.M.tree w) (run L events (fresh L w)) (Keeps-run L laws (L.M.tree w) events (fresh L w) (Keeps-fresh L w inv idle))
+pub sound_keeps : (L : Theory) (laws : Lawful L) (s : State L) (q : Sound L s) → Keeps L (L.M.tree q.first) s
+sound_keeps L laws s q = subst (Keeps L (L.M.tree q.first)) q.is (Keeps-run L laws (L.M.tree q.first) q.events (fresh L q.first) q.honest (Keeps-fresh L q.first q.inv q.idle))
+
+pub explains : (L : Theory) (laws : Lawful L) (w : L.M.World) (events : List (Event L.Call L.M.Outside)) → L.M.Inv w → ((h : ℕ) → L.M.Idle h w) → AllHonest L events (fresh L w) → Explained L (L.M.tree w) (run L events (fresh L w))
+explains L laws w events inv idle honest =
+    explained_by L laws (L.M.tree w) (run L events (fresh L w)) (Keeps-run L laws (L.M.tree w) events (fresh L w) honest (Keeps-fresh L w inv idle))
+
+-- where the outside may answer anything, each list of events will do
+pub all_honest : (L : Theory) → ((h : ℕ) (op : L.M.Op) (w : L.M.World) (x : L.M.Outside) → L.M.Honest h op w x) → (events : List (Event L.Call L.M.Outside)) (s : State L) → AllHonest L events s
+all_honest L any [] s = tt
+all_honest L any (Start h call ∷ es) s = (tt, all_honest L any es (next L (Start h call) s))
+all_honest L any (Step h x ∷ es) s = (at s.stopped (s.running h), all_honest L any es (next L (Step h x) s))
+  where
+    of : (p : P L.M L.Reply) → OfNext (λ op v. L.M.Honest h op v x) (asks p) s.world
+    of (Ret reply) = tt
+    of (Do op m k) = any h op s.world x
+
+    at : (b : Bool) (r : Option (Run L)) → HonestStep L h x s.world b r
+    at true r = tt
+    at false None = tt
+    at false (Some r) = of r.prog

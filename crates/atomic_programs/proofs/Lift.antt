@@ -38,7 +38,7 @@ lift Y laws atomic {A} h (Do op m k) B Q lasts n es w g b =
     (atomic h op m B C es w
     (λ a fs xs v u o i c.
     (grows Y.U h (k a) B Q c.0 fs xs v u lasts o i c.2, (c.0, c.1, Wp-others Y.U laws h (k a) B Q c.0 fs xs v u (λ x e. (lasts x fs xs v u o i e).1) o c.2)))
-    (λ v xs o i. ((g v xs o i).0, Good-one Y.U h (placed_with Y.U h op m v) n B (onto xs es) v (Y.U.MayWait h op v) (Y.U.go h op m v) _ (g v xs o i).1)) b)))
+    (λ v xs o i. ((g v xs o i).0, (g v xs o i).1, λ x t. Good-one Y.U h (placed_with Y.U h op m v) n B (onto xs es) v (Y.U.MayWait h op v) (Y.U.go h x op m v) _ ((g v xs o i).2 x t))) b)))
   where
     C : Y.U.Answer op → List Y.U.Step → Y.U.World → Type 0
     C a fs u = (l : ℕ) × (l < n) × Wp Y.U h B Q (k a) l fs u

@@ -1,6 +1,6 @@
 -- Laws of programs.
 use Rattle.std.proofs.Common.{◌≡◌, Option, Some, refl, ap, ◌∙◌}
-use Rattle.atomic_programs.specs.Prog.{Prog, Ret, Do, bind, unmarked, marked, plain, Did, Waits, Ran, Stops, StillWaits, WentOn, Broke, went, advance, asks, did_in, moved_in}
+use Rattle.atomic_programs.specs.Prog.{Prog, Ret, Do, bind, unmarked, marked, plain, Did, Waits, Ran, Stops, StillWaits, WentOn, Broke, went, advance, asks, OfNext, did_in, moved_in}
 
 pub bind-assoc : {Op : Type 0} {Answer : Op → Type 0} {M A B C : Type 0} (p : Prog Op Answer M A) (f : A → Prog Op Answer M B) (g : B → Prog Op Answer M C) → bind (bind p f) g ≡ bind p (λ a. bind (f a) g)
 bind-assoc (Ret a) f g = refl
@@ -52,3 +52,22 @@ advance-within {Op} {Answer} {M} {A} {S} {T} exec whole into (Do op m k) s same 
     go Waits = refl
     go (Ran a t) = refl
     go (Stops t) = refl
+
+-- A premise of the next operation, in a larger program and in a part of the state.
+pub next-bind : {Op : Type 0} {Answer : Op → Type 0} {M A B S : Type 0} (Premise : Op → S → Type 0) (p : Prog Op Answer M A) (f : A → Prog Op Answer M B) (s : S) → OfNext Premise (asks (bind p f)) s → OfNext Premise (asks p) s
+next-bind Premise (Ret a) f s t = tt
+next-bind Premise (Do op m k) f s t = t
+
+pub bind-next : {Op : Type 0} {Answer : Op → Type 0} {M A B S : Type 0} (Premise : Op → S → Type 0) (p : Prog Op Answer M A) (f : A → Prog Op Answer M B) (s : S) (op : Op) → asks p ≡ Some op → OfNext Premise (asks p) s → OfNext Premise (asks (bind p f)) s
+bind-next Premise (Ret a) f s op e t = cc
+bind-next Premise (Do op' m k) f s op e t = t
+
+pub next-marked : {Op : Type 0} {Answer : Op → Type 0} {M A S : Type 0} (Premise : Op → S → Type 0) (p : Prog Op Answer M A) (f : A → Option M) (s : S) → OfNext Premise (asks p) s → OfNext Premise (asks (marked p f)) s
+next-marked Premise (Ret a) f s t = tt
+next-marked Premise (Do op m k) f s t = t
+
+-- a premise of a part of the state is one of the whole, and the other way round
+pub next-map : {Op : Type 0} {Answer : Op → Type 0} {M A S T : Type 0} (Here : Op → S → Type 0) (There : Op → T → Type 0) (p : Prog Op Answer M A) (s : S) (t : T)
+    → ((op : Op) → asks p ≡ Some op → Here op s → There op t) → OfNext Here (asks p) s → OfNext There (asks p) t
+next-map Here There (Ret a) s t same x = tt
+next-map Here There (Do op m k) s t same x = same op refl x

@@ -7,7 +7,7 @@ use Rattle.atomic_programs.specs.Logic.{own, onto, Grown, Fine, Good, Wp, Laws}
 use Rattle.atomic_programs.specs.Calls.{Began, Begins, IsBeginning, Begun, Ends, Right, Lawful, Event, changed, run, fresh}
 use Rattle.atomic_programs.specs.Explained.{Explained}
 use Rattle.atomic_programs.specs.Desk.{Slot, Empty, Asked, Served, World, Collect, Free, Step, Swapped, Gave, serve_if, collect_if, served, Fared, is_for, Others, Idle, IsAsked, machine, Call, Request, Help, Give, Reset, Got, Helped, Given, Wiped, Refusal, Busy, program, unless, reserve_if, start_call, start_if, desk}
-use Rattle.atomic_programs.proofs.Explains.{changed_same, changed_other, explains}
+use Rattle.atomic_programs.proofs.Explains.{changed_same, changed_other, explains, all_honest}
 
 fared_same : (s : Slot) → Fared s [] s
 fared_same Empty = (refl, refl)
@@ -74,19 +74,21 @@ collect_ok h n w asked lends v xs o inv = at (subst (λ (z : Slot). Fared z xs (
     Goal : Slot → List Step → Type 0
     Goal s ys =
         (v.clean ≡ true → Grown (Begun desk (Request n)) ys [])
-        × Good machine ℕ h (λ a. []) 1 (Begun desk (Request n)) (onto ys []) v (IsAsked s) (collect_if h v s) (λ l a u. Ends desk h (Request n) (Got a) (onto ys []) u)
+        × Unit {0}
+        × ((x : Unit {0}) → Unit {0} → Good machine ℕ h (λ a. []) 1 (Begun desk (Request n)) (onto ys []) v (IsAsked s) (collect_if h v s) (λ l a u. Ends desk h (Request n) (Got a) (onto ys []) u))
 
     goal : (s : Slot) (ys : List Step) → v.slots h ≡ s → xs ≡ ys → Goal s ys
-        → (v.clean ≡ true → Grown (Begun desk (Request n)) xs []) × Good machine ℕ h (λ a. []) 1 (Begun desk (Request n)) (onto xs []) v (IsAsked (v.slots h)) (collect_if h v (v.slots h)) (λ l a u. Ends desk h (Request n) (Got a) (onto xs []) u)
+        → (v.clean ≡ true → Grown (Begun desk (Request n)) xs []) × Unit {0} × ((x : Unit {0}) → Unit {0} → Good machine ℕ h (λ a. []) 1 (Begun desk (Request n)) (onto xs []) v (IsAsked (v.slots h)) (collect_if h v (v.slots h)) (λ l a u. Ends desk h (Request n) (Got a) (onto xs []) u))
     goal s ys e f g = subst (λ (z : Slot). Goal z xs) (sym e) (subst (λ (zs : List Step). Goal s zs) (sym f) g)
 
     at : ((xs ≡ []) × (v.slots h ≡ Asked n)) ⊎ ((old : ℕ) × (xs ≡ Swapped n old ∷ []) × (v.slots h ≡ Served old))
-        → (v.clean ≡ true → Grown (Begun desk (Request n)) xs []) × Good machine ℕ h (λ a. []) 1 (Begun desk (Request n)) (onto xs []) v (IsAsked (v.slots h)) (collect_if h v (v.slots h)) (λ l a u. Ends desk h (Request n) (Got a) (onto xs []) u)
-    at (inl a) = goal (Asked n) [] a.1 a.0 (λ y. inl refl, tt)
+        → (v.clean ≡ true → Grown (Begun desk (Request n)) xs []) × Unit {0} × ((x : Unit {0}) → Unit {0} → Good machine ℕ h (λ a. []) 1 (Begun desk (Request n)) (onto xs []) v (IsAsked (v.slots h)) (collect_if h v (v.slots h)) (λ l a u. Ends desk h (Request n) (Got a) (onto xs []) u))
+    at (inl a) = goal (Asked n) [] a.1 a.0 (λ y. inl refl, tt, λ _ _. tt)
     at (inr a) =
         goal (Served a.0) (Swapped n a.0 ∷ []) a.2 a.1 (
           λ y. inr ([], Got a.0, refl),
-          record {
+          tt,
+          λ _ _. record {
             inv = tt;
             kept = λ other ne. others_quiet other v (record v { slots = changed v.slots h Empty }) (changed_other v.slots h Empty other ne) (λ e. (e, refl)) (λ j. refl) (λ y. y);
             goes = λ y. refl;
@@ -102,7 +104,8 @@ request_ok : (h n : ℕ) (w : World) → Idle h w → Wp machine h (Begun desk (
 request_ok h n w idle v xs o inv =
     let at = empty_stays h w v xs o idle.slot in (
       λ y. inl at.0,
-      record {
+      tt,
+      λ _ _. record {
         inv = tt;
         kept = λ other ne. others_quiet other v (record v { slots = changed v.slots h (Asked n) }) (changed_other v.slots h (Asked n) other ne) (λ e. (e, refl)) (λ j. refl) (λ y. y);
         goes = λ y. refl;
@@ -144,7 +147,7 @@ served_keeps j n v e other = at (nat_eq other j) refl
 help_ok : (h j : ℕ) (w : World) → j ≢ h → Idle h w → Wp machine h (Begun desk (Help j)) (Ends desk h (Help j)) (program (Help j)) 2 [] w
 help_ok h j w apart idle v xs o inv =
     let at = empty_stays h w v xs o idle.slot in
-    (λ y. inl at.0, subst Goal (sym at.0) (one (v.slots j) refl at.1))
+    (λ y. inl at.0, tt, λ _ _. subst Goal (sym at.0) (one (v.slots j) refl at.1))
   where
     Goal : List Step → Type 0
     Goal ys =
@@ -216,7 +219,8 @@ free_ok h j x w lends v xs o inv =
     let at = lends_stays h j w v xs o lends in
     let l = at.1 in (
       λ y. inl at.0,
-      record {
+      tt,
+      λ _ _. record {
         inv = tt;
         kept = λ other ne.
             others_quiet other v (freed v) refl (λ e. (none (v.lent other) (nat_eq other j) e, refl))
@@ -247,7 +251,8 @@ give_ok h j w apart lends v xs o inv =
     let at = lends_stays h j w v xs o lends in
     let l = at.1 in (
       λ y. inl at.0,
-      record {
+      tt,
+      λ _ _. record {
         inv = tt;
         kept = λ other ne.
             subst (λ (zs : List Step). Others other v zs handed) (sym (own_none other h (Gave j (v.book.tokens h)) ne))
@@ -277,7 +282,8 @@ reset_ok : (h : ℕ) (w : World) → Idle h w → Wp machine h (Begun desk Reset
 reset_ok h w idle v xs o inv =
     let at = empty_stays h w v xs o idle.slot in (
       λ y. inl at.0,
-      record {
+      tt,
+      λ _ _. record {
         inv = tt;
         kept = λ other ne. others_quiet other v (record v { book = record { number = 0; tokens = v.book.tokens }; clean = false }) refl (λ e. (e, refl)) (λ j. refl) unclean;
         goes = λ y. absurd (never y);
@@ -372,5 +378,5 @@ call_ok h (Give j) busy w u idle free e =
 pub lawful : Lawful desk
 lawful = record { laws = laws; calls = λ h call busy w u idle free e. call_ok h call busy w u idle free (not_lent (w.lent h) (start_call h call busy w) u e) }
 
-pub any_run : (w : World) (events : List (Event Call)) → ((h : ℕ) → Idle h w) → Explained desk w.book (run desk events (fresh desk w))
-any_run w events idle = explains desk lawful w events tt idle
+pub any_run : (w : World) (events : List (Event Call (Unit {0}))) → ((h : ℕ) → Idle h w) → Explained desk w.book (run desk events (fresh desk w))
+any_run w events idle = explains desk lawful w events tt idle (all_honest desk (λ h op v x. tt) events (fresh desk w))

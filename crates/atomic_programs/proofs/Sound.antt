@@ -40,7 +40,8 @@ Wp-weaker L h (Ret a) B C Q R n es w b f g = f a es w g
 Wp-weaker L h (Do op m k) B C Q R n es w b f g =
     λ v xs o i. (
       λ y. Grown-weaker B C xs es b ((g v xs o i).0 y),
-      Good-weaker L h (placed_with L h op m v) n B C (onto xs es) v (L.MayWait h op v) (L.go h op m v) _ _ b (λ l a u. Wp-weaker L h (k a) B C Q R l _ u b f) (g v xs o i).1,
+      (g v xs o i).1,
+      λ x t. Good-weaker L h (placed_with L h op m v) n B C (onto xs es) v (L.MayWait h op v) (L.go h x op m v) _ _ b (λ l a u. Wp-weaker L h (k a) B C Q R l _ u b f) ((g v xs o i).2 x t),
     )
 
 -- it lasts while the others step
@@ -51,15 +52,17 @@ Wp-others L laws h (Do op m k) B Q n es xs v w stays o g =
     λ u ys o2 i.
     let both = g u (xs ++ ys) (laws.trans h v w u xs ys o o2) i in (
       λ y. Grown-rest B xs ys es (both.0 y),
-      subst (λ (zs : List L.Step). Good L (L.Answer op) h (placed_with L h op m u) n B zs u (L.MayWait h op u) (L.go h op m u) (λ l a x. Wp L h B Q (k a) l (onto (own h (L.places h op a (m a) u)) zs) x))
-          (onto-append xs ys es) both.1,
+      both.1,
+      λ q t.
+          subst (λ (zs : List L.Step). Good L (L.Answer op) h (placed_with L h op m u) n B zs u (L.MayWait h op u) (L.go h q op m u) (λ l a x. Wp L h B Q (k a) l (onto (own h (L.places h op a (m a) u)) zs) x))
+          (onto-append xs ys es) (both.2 q t),
     )
 
 -- more steps may be left
 pub Wp-more : (L : Machine) {A : Type 0} (h : ℕ) (p : P L A) (B : List L.Step → Type 0) (Q : A → List L.Step → L.World → Type 0) (n m : ℕ) (es : List L.Step) (w : L.World)
     → n ≤ m → Wp L h B Q p n es w → Wp L h B Q p m es w
 Wp-more L h (Ret a) B Q n m es w le g = g
-Wp-more L h (Do op mk k) B Q n m es w le g = λ v xs o i. ((g v xs o i).0, go v (onto xs es) (L.go h op mk v) (g v xs o i).1)
+Wp-more L h (Do op mk k) B Q n m es w le g = λ v xs o i. ((g v xs o i).0, (g v xs o i).1, λ x t. go v (onto xs es) (L.go h x op mk v) ((g v xs o i).2 x t))
   where
     go : (v : L.World) (fs : List L.Step) (r : Did (L.Answer op) L.World)
         → Good L (L.Answer op) h (placed_with L h op mk v) n B fs v (L.MayWait h op v) r (λ l a u. Wp L h B Q (k a) l (onto (own h (L.places h op a (mk a) v)) fs) u)
@@ -73,7 +76,7 @@ pub Wp-bind : (L : Machine) {A C : Type 0} (h : ℕ) (p : P L A) (f : A → P L 
     → Wp L h B (λ a. Wp L h B Q (f a) m) p n es w → Wp L h B Q (bind p f) (n + m) es w
 Wp-bind L h (Ret a) f B Q n m es w g = Wp-more L h (f a) B Q m (n + m) es w (omega arith) g
 Wp-bind L h (Do op mk k) f B Q n m es w g =
-    λ v xs o i. ((g v xs o i).0, go v (onto xs es) (λ a l u. Wp-bind L h (k a) f B Q l m (onto (own h (L.places h op a (mk a) v)) (onto xs es)) u) (L.go h op mk v) (g v xs o i).1)
+    λ v xs o i. ((g v xs o i).0, (g v xs o i).1, λ x t. go v (onto xs es) (λ a l u. Wp-bind L h (k a) f B Q l m (onto (own h (L.places h op a (mk a) v)) (onto xs es)) u) (L.go h x op mk v) ((g v xs o i).2 x t))
   where
     go : (v : L.World) (fs : List L.Step)
         → ((a : L.Answer op) (l : ℕ) (u : L.World) → Wp L h B (λ a. Wp L h B Q (f a) m) (k a) l (onto (own h (L.places h op a (mk a) v)) fs) u → Wp L h B Q (bind (k a) f) (l + m) (onto (own h (L.places h op a (mk a) v)) fs) u)
@@ -113,19 +116,22 @@ pub s-assoc : {L : Machine} {A C D : Type 0} {h : ℕ} (p : P L A) (f : A → P 
     → Safe L h B Q (bind p (λ a. bind (f a) g)) n es w → Safe L h B Q (bind (bind p f) g) n es w
 s-assoc {L} {A} {C} {D} {h} p f g {B} {Q} {n} {es} {w} s = subst (λ (x : P L D). Safe L h B Q x n es w) (sym (bind-assoc p f g)) s
 
--- An operation of a hart for which nobody places steps: what is left to show is the operation alone, in a world that the
--- others may have changed.
+-- An operation of a hart for which nobody places steps: what is left to show is that the operation may be made, and the
+-- operation alone, in a world that the others may have changed, at any answer from outside.
 pub s-op : {L : Machine} {A : Type 0} {h : ℕ} {op : L.Op} {m : L.Answer op → Option L.Mark} {k : L.Answer op → P L A} {B : List L.Step → Type 0} {Q : A → List L.Step → L.World → Type 0} {n : ℕ} {es : List L.Step} {w : L.World}
     → ((v : L.World) (xs : List L.Step) → L.Others h w xs v → xs ≡ [])
-    → ((v : L.World) → L.Others h w [] v → L.Inv v
-    → Good L (L.Answer op) h (placed_with L h op m v) n B es v (L.MayWait h op v) (L.go h op m v) (λ l a u. Wp L h B Q (k a) l (onto (own h (L.places h op a (m a) v)) es) u))
+    → ((v : L.World) → L.Others h w [] v → L.Inv v → L.May h op v)
+    → ((v : L.World) (x : L.Outside) → L.Others h w [] v → L.Inv v → L.Honest h op v x
+    → Good L (L.Answer op) h (placed_with L h op m v) n B es v (L.MayWait h op v) (L.go h x op m v) (λ l a u. Wp L h B Q (k a) l (onto (own h (L.places h op a (m a) v)) es) u))
     → Safe L h B Q (Do op m k) n es w
-s-op {L} {A} {h} {op} {m} {k} {B} {Q} {n} {es} {w} none alone =
+s-op {L} {A} {h} {op} {m} {k} {B} {Q} {n} {es} {w} none may alone =
     record {
       wp = λ v xs o i.
           let empty : xs ≡ [] = none v xs o in (
             λ y. inl empty,
-            subst (λ (zs : List L.Step). Good L (L.Answer op) h (placed_with L h op m v) n B (onto zs es) v (L.MayWait h op v) (L.go h op m v) (λ l a u. Wp L h B Q (k a) l (onto (own h (L.places h op a (m a) v)) (onto zs es)) u))
-                (sym empty) (alone v (subst (λ (zs : List L.Step). L.Others h w zs v) empty o) i),
+            may v (subst (λ (zs : List L.Step). L.Others h w zs v) empty o) i,
+            λ x t.
+                subst (λ (zs : List L.Step). Good L (L.Answer op) h (placed_with L h op m v) n B (onto zs es) v (L.MayWait h op v) (L.go h x op m v) (λ l a u. Wp L h B Q (k a) l (onto (own h (L.places h op a (m a) v)) (onto zs es)) u))
+                (sym empty) (alone v x (subst (λ (zs : List L.Step). L.Others h w zs v) empty o) i t),
           );
     }

@@ -3,7 +3,7 @@ use Rattle.std.proofs.Common.{◌≡◌, ◌<◌, ◌*◌, ℕ, suc, Option, Non
 use Rattle.std.specs.Prelude.{nat_lt}
 use Rattle.atomic_programs.specs.Prog.{Prog, Do, once, unmarked, Did, Waits, Ran, Stops, did_in}
 use Rattle.atomic_programs.specs.Logic.{own, onto, oldest_first, Good, Wp, Laws}
-use Rattle.atomic_programs.specs.Calls.{Began, Begins, Begun, Ends, Right, Lawful, Event, run, fresh}
+use Rattle.atomic_programs.specs.Calls.{Began, Begins, Begun, Ends, Right, Lawful, Event, AllHonest, run, fresh}
 use Rattle.atomic_programs.specs.Explained.{Explained}
 use Rattle.atomic_programs.specs.Layers.{lowered, steps_below, BeginsBelow, Below, Atomic}
 use Rattle.atomic_programs.specs.Cell as cell
@@ -59,21 +59,21 @@ module _ (h : ℕ) where
       from (once Take m) B C es w
       (λ v xs o i.
       let x = g v.whole xs o.0 i in
-      (λ y. inl o.0.0, good_below h (λ a. cell.placed_by h (m a)) 2 B C (onto xs es) v (cell.MayWait h cell.Take v.whole) (cell.go h cell.Take m v.whole) (omega arith) x.1))
+      (λ y. inl o.0.0, x.1, λ z t. good_below h (λ a. cell.placed_by h (m a)) 2 B C (onto xs es) v (cell.MayWait h cell.Take v.whole) (cell.go h z cell.Take m v.whole) (omega arith) (x.2 z t)))
 
   fetch_atomic : (m : ℕ → Option cell.Step) → Atomic layer h cell.Fetch m
   fetch_atomic m B C es w lasts g base =
       from (once Fetch m) B C es w
       (λ v xs o i.
       let x = g v.whole xs o.0 i in
-      (λ y. inl o.0.0, good_below h (λ a. cell.placed_by h (m a)) 2 B C (onto xs es) v ⊥ (cell.go h cell.Fetch m v.whole) (omega arith) x.1))
+      (λ y. inl o.0.0, x.1, λ z t. good_below h (λ a. cell.placed_by h (m a)) 2 B C (onto xs es) v ⊥ (cell.go h z cell.Fetch m v.whole) (omega arith) (x.2 z t)))
 
   drop_atomic : (m : Unit {0} → Option cell.Step) → Atomic layer h cell.Drop m
   drop_atomic m B C es w lasts g base =
       from (once Drop m) B C es w
       (λ v xs o i.
       let x = g v.whole xs o.0 i in
-      (λ y. inl o.0.0, good_below h (λ a. cell.placed_by h (m a)) 2 B C (onto xs es) v ⊥ (cell.go h cell.Drop m v.whole) (omega arith) x.1))
+      (λ y. inl o.0.0, x.1, λ z t. good_below h (λ a. cell.placed_by h (m a)) 2 B C (onto xs es) v ⊥ (cell.go h z cell.Drop m v.whole) (omega arith) (x.2 z t)))
 
   -- the store acts where it writes: what was staged is the hart's own
   store_atomic : (n : ℕ) (m : Unit {0} → Option cell.Step) → Atomic layer h (cell.Store n) m
@@ -81,7 +81,8 @@ module _ (h : ℕ) where
       from (Do (Stage n) unmarked (λ _. once Write m)) B C es w
       (λ v xs o i. (
         λ y. inl o.0.0,
-        record {
+        tt,
+        λ z t. record {
           inv = i;
           kept = λ other ne. ((refl, refl), changed_other v.staged h n other ne);
           goes = λ y. refl;
@@ -93,11 +94,13 @@ module _ (h : ℕ) where
               let x = g u.whole (xs ++ ys) (above.laws.trans h w.whole v.whole u.whole xs ys o.0 o2.0) i2 in
               let staged : u.staged h ≡ n = o2.1 ∙ changed_same v.staged h n h refl in (
                 λ y. inl o2.0.0,
-                good_below h (λ a. cell.placed_by h (m a)) 1 B C (onto ys (onto xs es)) u ⊥ (cell.go h (cell.Store (u.staged h)) m u.whole) (omega arith)
-                    (subst (λ (zs : List cell.Step). Good cell.machine (Unit {0}) h (λ a. cell.placed_by h (m a)) 1 B zs u.whole ⊥ (cell.go h (cell.Store (u.staged h)) m u.whole) (λ l a t. C a (onto (own h (cell.placed_by h (m a))) zs) t))
+                subst (λ (z : ℕ). cell.may h (cell.Store z) u.whole.cell) (sym staged) x.1,
+                λ d t2.
+                    good_below h (λ a. cell.placed_by h (m a)) 1 B C (onto ys (onto xs es)) u ⊥ (cell.go h d (cell.Store (u.staged h)) m u.whole) (omega arith)
+                    (subst (λ (zs : List cell.Step). Good cell.machine (Unit {0}) h (λ a. cell.placed_by h (m a)) 1 B zs u.whole ⊥ (cell.go h d (cell.Store (u.staged h)) m u.whole) (λ l a t. C a (onto (own h (cell.placed_by h (m a))) zs) t))
                     (onto_two xs ys es)
-                    (subst (λ (z : ℕ). Good cell.machine (Unit {0}) h (λ a. cell.placed_by h (m a)) 1 B (onto (xs ++ ys) es) u.whole ⊥ (cell.go h (cell.Store z) m u.whole) (λ l a t. C a (onto (own h (cell.placed_by h (m a))) (onto (xs ++ ys) es)) t))
-                    (sym staged) x.1)),
+                    (subst (λ (z : ℕ). Good cell.machine (Unit {0}) h (λ a. cell.placed_by h (m a)) 1 B (onto (xs ++ ys) es) u.whole ⊥ (cell.go h d (cell.Store z) m u.whole) (λ l a t. C a (onto (own h (cell.placed_by h (m a))) (onto (xs ++ ys) es)) t))
+                    (sym staged) (x.2 d (subst (λ (z : ℕ). cell.honest h (cell.Store z) u.whole.cell d) staged t2)))),
               );
         },
       ))
@@ -136,22 +139,24 @@ right h call busy w idle free r =
       runs = λ i. runs_below h call w (r.runs i);
     }
 
-begun_same : {S : Type 0} (b : Bool) (w u : S) → ◌≡◌ {A = Began cell.Refusal S} (cell.begin_if b w) (Begins u) → w ≡ u
-begun_same true w u e = cc
-begun_same false w u e = cc
+begun_same : {S : Type 0} (b c : Bool) (w u : S) → ◌≡◌ {A = Began cell.Refusal S} (cell.begin_if b c w) (Begins u) → w ≡ u
+begun_same true true w u e = cc
+begun_same true false w u e = cc
+begun_same false c w u e = cc
 
-begun_above : (b : Bool) (w u : World) → ◌≡◌ {A = Began cell.Refusal World} (cell.begin_if b w) (Begins u) → ◌≡◌ {A = Began cell.Refusal cell.World} (cell.begin_if b w.whole) (Begins w.whole)
-begun_above true w u e = refl
-begun_above false w u e = cc
+begun_above : (b c : Bool) (w u : World) → ◌≡◌ {A = Began cell.Refusal World} (cell.begin_if b c w) (Begins u) → ◌≡◌ {A = Began cell.Refusal cell.World} (cell.begin_if b c w.whole) (Begins w.whole)
+begun_above true true w u e = refl
+begun_above true false w u e = cc
+begun_above false c w u e = cc
 
 pub lawful : Lawful staged_swaps
 lawful =
     record {
       laws = laws;
       calls = λ h call busy w u idle free e.
-          subst (λ (x : World). Right staged_swaps h call busy w x) (begun_same (nat_lt h 8) w u e)
-          (right h call busy w idle free (above.lawful.calls h call busy w.whole w.whole idle free (begun_above (nat_lt h 8) w u e)));
+          subst (λ (x : World). Right staged_swaps h call busy w x) (begun_same (nat_lt h 8) (cell.fits call) w u e)
+          (right h call busy w idle free (above.lawful.calls h call busy w.whole w.whole idle free (begun_above (nat_lt h 8) (cell.fits call) w u e)));
     }
 
-pub any_run : (w : World) (events : List (Event cell.Call)) → cell.Inv w.whole → ((h : ℕ) → cell.own_of h w.whole ≡ None) → Explained staged_swaps w.whole.value (run staged_swaps events (fresh staged_swaps w))
-any_run w events inv idle = explains staged_swaps lawful w events inv idle
+pub any_run : (w : World) (events : List (Event cell.Call cell.Outside)) → cell.Inv w.whole → ((h : ℕ) → cell.own_of h w.whole ≡ None) → AllHonest staged_swaps events (fresh staged_swaps w) → Explained staged_swaps w.whole.value (run staged_swaps events (fresh staged_swaps w))
+any_run w events inv idle honest = explains staged_swaps lawful w events inv idle honest

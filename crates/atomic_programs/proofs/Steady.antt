@@ -16,17 +16,17 @@ module _ (L : Theory) (s : State L) where
   quiet_tried h r op ps k (Ran a w) q = quiet_moved h r op (ps a) (k a) w q
   quiet_tried h r op ps k (Stops w) q = cc
 
-  quiet_prog : (h : ℕ) (r : Run L) (p : P L.M L.Reply) → is_quiet (step_prog L h s r p).came ≡ true → (step_prog L h s r p).after ≡ unchanged L s
-  quiet_prog h r (Ret reply) q = refl
-  quiet_prog h r (Do op m k) q = quiet_tried h r op _ k (L.M.go h op m s.world) q
+  quiet_prog : (h : ℕ) (y : L.M.Outside) (r : Run L) (p : P L.M L.Reply) → is_quiet (step_prog L h y s r p).came ≡ true → (step_prog L h y s r p).after ≡ unchanged L s
+  quiet_prog h y r (Ret reply) q = refl
+  quiet_prog h y r (Do op m k) q = quiet_tried h r op _ k (L.M.go h y op m s.world) q
 
-  quiet_unless : (h : ℕ) (r : Run L) (b : Bool) → is_quiet (step_unless L h s b r).came ≡ true → (step_unless L h s b r).after ≡ unchanged L s
-  quiet_unless h r true q = refl
-  quiet_unless h r false q = quiet_prog h r r.prog q
+  quiet_unless : (h : ℕ) (y : L.M.Outside) (r : Run L) (b : Bool) → is_quiet (step_unless L h y s b r).came ≡ true → (step_unless L h y s b r).after ≡ unchanged L s
+  quiet_unless h y r true q = refl
+  quiet_unless h y r false q = quiet_prog h y r r.prog q
 
-  quiet_run : (h : ℕ) (x : Option (Run L)) → is_quiet (step_run L h s x).came ≡ true → (step_run L h s x).after ≡ unchanged L s
-  quiet_run h None q = refl
-  quiet_run h (Some r) q = quiet_unless h r s.stopped q
+  quiet_run : (h : ℕ) (y : L.M.Outside) (x : Option (Run L)) → is_quiet (step_run L h y s x).came ≡ true → (step_run L h y s x).after ≡ unchanged L s
+  quiet_run h y None q = refl
+  quiet_run h y (Some r) q = quiet_unless h y r s.stopped q
 
   quiet_begun : (h : ℕ) (call : L.Call) (x : Began L.Refusal L.M.World) → is_quiet (begun L h call s x).came ≡ true → (begun L h call s x).after ≡ unchanged L s
   quiet_begun h call (Refuses why) q = refl
@@ -36,9 +36,9 @@ module _ (L : Theory) (s : State L) where
   quiet_start h call None q = quiet_begun h call (L.start h call (busy_in L s) s.world) q
   quiet_start h call (Some r) q = refl
 
-  quiet_event : (e : Event L.Call) → is_quiet (makes L e s).came ≡ true → next L e s ≡ unchanged L s
+  quiet_event : (e : Event L.Call L.M.Outside) → is_quiet (makes L e s).came ≡ true → next L e s ≡ unchanged L s
   quiet_event (Start h call) q = quiet_start h call (s.running h) q
-  quiet_event (Step h) q = quiet_run h (s.running h) q
+  quiet_event (Step h y) q = quiet_run h y (s.running h) q
 
   stopped_begun : (h : ℕ) (call : L.Call) (x : Began L.Refusal L.M.World) → (begun L h call s x).after.stopped ≡ s.stopped
   stopped_begun h call (Refuses why) = refl
@@ -48,16 +48,16 @@ module _ (L : Theory) (s : State L) where
   stopped_start h call None = stopped_begun h call (L.start h call (busy_in L s) s.world)
   stopped_start h call (Some r) = refl
 
-  stopped_run : (h : ℕ) (x : Option (Run L)) → s.stopped ≡ true → (step_run L h s x).after.stopped ≡ true
-  stopped_run h None e = e
-  stopped_run h (Some r) e = rw e refl
+  stopped_run : (h : ℕ) (y : L.M.Outside) (x : Option (Run L)) → s.stopped ≡ true → (step_run L h y s x).after.stopped ≡ true
+  stopped_run h y None e = e
+  stopped_run h y (Some r) e = rw e refl
 
-  stopped_event : (e : Event L.Call) → s.stopped ≡ true → (next L e s).stopped ≡ true
+  stopped_event : (e : Event L.Call L.M.Outside) → s.stopped ≡ true → (next L e s).stopped ≡ true
   stopped_event (Start h call) e = rw (stopped_start h call (s.running h)) e
-  stopped_event (Step h) e = stopped_run h (s.running h) e
+  stopped_event (Step h y) e = stopped_run h y (s.running h) e
 
-  answers : (h : ℕ) (r : Run L) → s.stopped ≡ true → s.running h ≡ Some r → (makes L (Step h) s).came ≡ WasStopped
-  answers h r e is = rw (is, e) refl
+  answers : (h : ℕ) (y : L.M.Outside) (r : Run L) → s.stopped ≡ true → s.running h ≡ Some r → (makes L (Step h y) s).came ≡ WasStopped
+  answers h y r e is = rw (is, e) refl
 
   starts_begun : (h : ℕ) (call : L.Call) (b : Bool) (x : Began L.Refusal L.M.World)
       → begun L h call (record s { stopped = b }) x ≡ record { came = (begun L h call s x).came; after = record ((begun L h call s x).after) { stopped = b } }
@@ -103,17 +103,17 @@ module _ (L : Theory) (s : State L) where
   more_tried h r op ps k (Ran a w) = more_moved h r op (ps a) (k a) w
   more_tried h r op ps k (Stops w) = none_more L s.now s.list
 
-  more_prog : (h : ℕ) (r : Run L) (p : P L.M L.Reply) → More L s.now s.list (step_prog L h s r p).after.list
-  more_prog h r (Ret reply) = none_more L s.now s.list
-  more_prog h r (Do op m k) = more_tried h r op _ k (L.M.go h op m s.world)
+  more_prog : (h : ℕ) (y : L.M.Outside) (r : Run L) (p : P L.M L.Reply) → More L s.now s.list (step_prog L h y s r p).after.list
+  more_prog h y r (Ret reply) = none_more L s.now s.list
+  more_prog h y r (Do op m k) = more_tried h r op _ k (L.M.go h y op m s.world)
 
-  more_unless : (h : ℕ) (r : Run L) (b : Bool) → More L s.now s.list (step_unless L h s b r).after.list
-  more_unless h r true = none_more L s.now s.list
-  more_unless h r false = more_prog h r r.prog
+  more_unless : (h : ℕ) (y : L.M.Outside) (r : Run L) (b : Bool) → More L s.now s.list (step_unless L h y s b r).after.list
+  more_unless h y r true = none_more L s.now s.list
+  more_unless h y r false = more_prog h y r r.prog
 
-  more_run : (h : ℕ) (x : Option (Run L)) → More L s.now s.list (step_run L h s x).after.list
-  more_run h None = none_more L s.now s.list
-  more_run h (Some r) = more_unless h r s.stopped
+  more_run : (h : ℕ) (y : L.M.Outside) (x : Option (Run L)) → More L s.now s.list (step_run L h y s x).after.list
+  more_run h y None = none_more L s.now s.list
+  more_run h y (Some r) = more_unless h y r s.stopped
 
   more_begun : (h : ℕ) (call : L.Call) (x : Began L.Refusal L.M.World) → More L s.now s.list (begun L h call s x).after.list
   more_begun h call (Refuses why) = none_more L s.now s.list
@@ -123,9 +123,9 @@ module _ (L : Theory) (s : State L) where
   more_start h call (Some r) = none_more L s.now s.list
   more_start h call None = more_begun h call (L.start h call (busy_in L s) s.world)
 
-  more_event : (e : Event L.Call) → More L s.now s.list (next L e s).list
+  more_event : (e : Event L.Call L.M.Outside) → More L s.now s.list (next L e s).list
   more_event (Start h call) = more_start h call (s.running h)
-  more_event (Step h) = more_run h (s.running h)
+  more_event (Step h y) = more_run h y (s.running h)
 
   counts_moved : (h : ℕ) (r : Run L) (op : L.M.Op) (ps : List (ℕ × L.M.Step)) (p : P L.M L.Reply) (w : L.M.World) → (moved L h s r op ps p w).after.now ≡ suc s.now
   counts_moved h r op ps (Ret reply) w = refl
@@ -136,17 +136,17 @@ module _ (L : Theory) (s : State L) where
   counts_tried h r op ps k (Ran a w) = counts_moved h r op (ps a) (k a) w
   counts_tried h r op ps k (Stops w) = refl
 
-  counts_prog : (h : ℕ) (r : Run L) (p : P L.M L.Reply) → (step_prog L h s r p).after.now ≡ suc s.now
-  counts_prog h r (Ret reply) = refl
-  counts_prog h r (Do op m k) = counts_tried h r op _ k (L.M.go h op m s.world)
+  counts_prog : (h : ℕ) (y : L.M.Outside) (r : Run L) (p : P L.M L.Reply) → (step_prog L h y s r p).after.now ≡ suc s.now
+  counts_prog h y r (Ret reply) = refl
+  counts_prog h y r (Do op m k) = counts_tried h r op _ k (L.M.go h y op m s.world)
 
-  counts_unless : (h : ℕ) (r : Run L) (b : Bool) → (step_unless L h s b r).after.now ≡ suc s.now
-  counts_unless h r true = refl
-  counts_unless h r false = counts_prog h r r.prog
+  counts_unless : (h : ℕ) (y : L.M.Outside) (r : Run L) (b : Bool) → (step_unless L h y s b r).after.now ≡ suc s.now
+  counts_unless h y r true = refl
+  counts_unless h y r false = counts_prog h y r r.prog
 
-  counts_run : (h : ℕ) (x : Option (Run L)) → (step_run L h s x).after.now ≡ suc s.now
-  counts_run h None = refl
-  counts_run h (Some r) = counts_unless h r s.stopped
+  counts_run : (h : ℕ) (y : L.M.Outside) (x : Option (Run L)) → (step_run L h y s x).after.now ≡ suc s.now
+  counts_run h y None = refl
+  counts_run h y (Some r) = counts_unless h y r s.stopped
 
   counts_begun : (h : ℕ) (call : L.Call) (x : Began L.Refusal L.M.World) → (begun L h call s x).after.now ≡ suc s.now
   counts_begun h call (Refuses why) = refl
@@ -156,9 +156,9 @@ module _ (L : Theory) (s : State L) where
   counts_start h call (Some r) = refl
   counts_start h call None = counts_begun h call (L.start h call (busy_in L s) s.world)
 
-  counts_event : (e : Event L.Call) → (next L e s).now ≡ suc s.now
+  counts_event : (e : Event L.Call L.M.Outside) → (next L e s).now ≡ suc s.now
   counts_event (Start h call) = counts_start h call (s.running h)
-  counts_event (Step h) = counts_run h (s.running h)
+  counts_event (Step h y) = counts_run h y (s.running h)
 
 pub steady : (L : Theory) → Steady L
 steady L =
@@ -166,7 +166,7 @@ steady L =
       quiet = λ e s q. quiet_event L s e q;
       counts = λ e s. counts_event L s e;
       appends = λ e s. (let m = more_event L s e in record { more = m.more; is = m.is; now = m.now });
-      answers_stopped = λ h r s e is. answers L s h r e is;
+      answers_stopped = λ h y r s e is. answers L s h y r e is;
       stays_stopped = λ e s q. stopped_event L s e q;
       starts_as_before = λ h call s b. starts L s h call b (s.running h);
     }

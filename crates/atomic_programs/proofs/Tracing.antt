@@ -11,14 +11,14 @@ module _ (L : Theory) where
   same_set : (V W : Happened L → Type 0) (s : State L) → ((x : Happened L) → V x → W x) → ((x : Happened L) → W x → V x) → Traced L V s → Traced L W s
   same_set V W s to from t =
       record {
-        reported = λ x w h reply e c. t.reported x (from x w) h reply e c;
+        reported = λ x w h y reply e c. t.reported x (from x w) h y reply e c;
         started = λ f i. to _ (t.started f i);
-        ended = λ f i. to _ (t.ended f i);
+        ended = λ f i. (let e = t.ended f i in (e.0, to _ e.1));
         under_way = λ h r e. to _ (t.under_way h r e);
       }
 
   -- the events so far, and one more
-  abbrev And : (Happened L → Type 0) → ℕ → Event L.Call → Came L → Happened L → Type 0
+  abbrev And : (Happened L → Type 0) → ℕ → Event L.Call L.M.Outside → Came L → Happened L → Type 0
   And V n e c x = V x ⊎ (x ≡ record { number = n; event = e; came = c })
 
   module _ (V : Happened L → Type 0) (s : State L) (t : Traced L V s) where
@@ -26,34 +26,34 @@ module _ (L : Theory) where
     IsReply c = (reply : L.Reply) × (c ≡ DidEnd reply)
 
     -- an event that gives no reply
-    no_reply : (e : Event L.Call) (c : Came L) (u : State L) → (IsReply c → ⊥) → u.finished ≡ s.finished
+    no_reply : (e : Event L.Call L.M.Outside) (c : Came L) (u : State L) → (IsReply c → ⊥) → u.finished ≡ s.finished
         → ((h : ℕ) (r : Run L) → u.running h ≡ Some r → And V s.now e c (record { number = r.start; event = Start h r.call; came = Started })) → Traced L (And V s.now e c) u
     no_reply e c u none same runs =
         record {
-          reported = λ x w h reply ev ce. at x w h reply ev ce;
+          reported = λ x w h y reply ev ce. at x w h y reply ev ce;
           started = λ f i. inl (t.started f (subst (λ (fs : List (Finished L)). In f fs) same i));
-          ended = λ f i. inl (t.ended f (subst (λ (fs : List (Finished L)). In f fs) same i));
+          ended = λ f i. (let e = t.ended f (subst (λ (fs : List (Finished L)). In f fs) same i) in (e.0, inl e.1));
           under_way = runs;
         }
       where
-        at : (x : Happened L) → And V s.now e c x → (h : ℕ) (reply : L.Reply) → x.event ≡ Step h → x.came ≡ DidEnd reply
+        at : (x : Happened L) → And V s.now e c x → (h : ℕ) (y : L.M.Outside) (reply : L.Reply) → x.event ≡ Step h y → x.came ≡ DidEnd reply
             → (f : Finished L) × In f u.finished × (f.hart ≡ h) × (f.number ≡ x.number) × (f.reply ≡ reply)
-        at x (inl v) h reply ev ce =
-            let d = t.reported x v h reply ev ce in
+        at x (inl v) h y reply ev ce =
+            let d = t.reported x v h y reply ev ce in
             (d.0, subst (λ (fs : List (Finished L)). In d.0 fs) (sym same) d.1, d.2, d.3, d.4)
-        at x (inr q) h reply ev ce = absurd (none (reply, sym (ap (λ (y : Happened L). y.came) q) ∙ ce))
+        at x (inr q) h y reply ev ce = absurd (none (reply, sym (ap (λ (y : Happened L). y.came) q) ∙ ce))
 
-    quietly : (e : Event L.Call) (c : Came L) → (IsReply c → ⊥) → Traced L (And V s.now e c) (unchanged L s)
+    quietly : (e : Event L.Call L.M.Outside) (c : Came L) → (IsReply c → ⊥) → Traced L (And V s.now e c) (unchanged L s)
     quietly e c none = no_reply e c (unchanged L s) none refl (λ h r q. inl (t.under_way h r q))
 
     told_was : (h j : ℕ) (xs : List L.M.Step) (x : Option (Run L)) (r : Run L) → s.running j ≡ x → told L xs x ≡ Some r → V (record { number = r.start; event = Start j r.call; came = Started })
     told_was h j xs None r e q = let c : ◌≡◌ {A = Option (Run L)} None (Some r) = q in cc
     told_was h j xs (Some p) r e q = subst (λ (z : Run L). V (record { number = z.start; event = Start j z.call; came = Started })) (Some-inj (record p { done = onto xs p.done }) r q) (t.under_way j p e)
 
-    after_moved : (h : ℕ) (r : Run L) (op : L.M.Op) (ps : List (ℕ × L.M.Step)) (p : P L.M L.Reply) (w : L.M.World) → s.running h ≡ Some r
-        → Traced L (And V s.now (Step h) (moved L h s r op ps p w).came) (moved L h s r op ps p w).after
-    after_moved h r op ps (Do op' m' k) w is =
-        no_reply (Step h) (DidRun op) (moved L h s r op ps (Do op' m' k) w).after (λ y. (let c : DidRun op ≡ DidEnd y.0 = y.1 in cc)) refl (λ j q e. inl (at j q (changed_tells (all_told L ps s.running) h (Some new) j (Some q) e)))
+    after_moved : (h : ℕ) (y : L.M.Outside) (r : Run L) (op : L.M.Op) (ps : List (ℕ × L.M.Step)) (p : P L.M L.Reply) (w : L.M.World) → s.running h ≡ Some r
+        → Traced L (And V s.now (Step h y) (moved L h s r op ps p w).came) (moved L h s r op ps p w).after
+    after_moved h y r op ps (Do op' m' k) w is =
+        no_reply (Step h y) (DidRun op) (moved L h s r op ps (Do op' m' k) w).after (λ y. (let c : DidRun op ≡ DidEnd y.0 = y.1 in cc)) refl (λ j q e. inl (at j q (changed_tells (all_told L ps s.running) h (Some new) j (Some q) e)))
       where
         new : Run L
         new = record { call = r.call; start = r.start; prog = Do op' m' k; count = suc r.count; done = onto (own h ps) r.done }
@@ -63,9 +63,9 @@ module _ (L : Theory) where
             subst (λ (i : ℕ). V (record { number = q.start; event = Start i q.call; came = Started })) (sym x.0)
             (subst (λ (z : Run L). V (record { number = z.start; event = Start h z.call; came = Started })) (Some-inj new q x.1) (t.under_way h r is))
         at j q (inr x) = told_was h j (own j ps) (s.running j) q refl x.1
-    after_moved h r op ps (Ret reply) w is =
+    after_moved h y r op ps (Ret reply) w is =
         record {
-          reported = λ x v j reply2 ev ce. reported x v j reply2 ev ce;
+          reported = λ x v j z reply2 ev ce. reported x v j z reply2 ev ce;
           started = λ f i. started f i;
           ended = λ f i. ended f i;
           under_way = λ j q e. inl (at j q (changed_tells (all_told L ps s.running) h None j (Some q) e));
@@ -74,51 +74,51 @@ module _ (L : Theory) where
         new : Finished L
         new = record { hart = h; call = r.call; start = r.start; number = s.now; count = suc r.count; reply = reply }
 
-        reported : (x : Happened L) → And V s.now (Step h) (DidEnd reply) x → (j : ℕ) (reply2 : L.Reply) → x.event ≡ Step j → x.came ≡ DidEnd reply2
+        reported : (x : Happened L) → And V s.now (Step h y) (DidEnd reply) x → (j : ℕ) (z : L.M.Outside) (reply2 : L.Reply) → x.event ≡ Step j z → x.came ≡ DidEnd reply2
             → (f : Finished L) × In f (new ∷ s.finished) × (f.hart ≡ j) × (f.number ≡ x.number) × (f.reply ≡ reply2)
-        reported x (inl v) j reply2 ev ce = let d = t.reported x v j reply2 ev ce in (d.0, inr d.1, d.2, d.3, d.4)
-        reported x (inr q) j reply2 ev ce =
+        reported x (inl v) j z reply2 ev ce = let d = t.reported x v j z reply2 ev ce in (d.0, inr d.1, d.2, d.3, d.4)
+        reported x (inr q) j z reply2 ev ce =
             (new, inl refl, same_hart (sym (ap (λ (y : Happened L). y.event) q) ∙ ev), sym (ap (λ (y : Happened L). y.number) q), same_reply (sym (ap (λ (y : Happened L). y.came) q) ∙ ce))
           where
-            same_hart : ◌≡◌ {A = Event L.Call} (Step h) (Step j) → h ≡ j
+            same_hart : ◌≡◌ {A = Event L.Call L.M.Outside} (Step h y) (Step j z) → h ≡ j
             same_hart e = cc
 
             same_reply : ◌≡◌ {A = Came L} (DidEnd reply) (DidEnd reply2) → reply ≡ reply2
             same_reply e = cc
 
-        started : (f : Finished L) → In f (new ∷ s.finished) → And V s.now (Step h) (DidEnd reply) (record { number = f.start; event = Start f.hart f.call; came = Started })
+        started : (f : Finished L) → In f (new ∷ s.finished) → And V s.now (Step h y) (DidEnd reply) (record { number = f.start; event = Start f.hart f.call; came = Started })
         started f (inl e) = inl (subst (λ (z : Finished L). V (record { number = z.start; event = Start z.hart z.call; came = Started })) (sym e) (t.under_way h r is))
         started f (inr i) = inl (t.started f i)
 
-        ended : (f : Finished L) → In f (new ∷ s.finished) → And V s.now (Step h) (DidEnd reply) (record { number = f.number; event = Step f.hart; came = DidEnd f.reply })
-        ended f (inl e) = inr (ap (λ (z : Finished L). shown z) e)
+        ended : (f : Finished L) → In f (new ∷ s.finished) → (z : L.M.Outside) × And V s.now (Step h y) (DidEnd reply) (record { number = f.number; event = Step f.hart z; came = DidEnd f.reply })
+        ended f (inl e) = (y, inr (ap (λ (z : Finished L). shown z) e))
           where
             shown : Finished L → Happened L
-            shown z = record { number = z.number; event = Step z.hart; came = DidEnd z.reply }
-        ended f (inr i) = inl (t.ended f i)
+            shown z = record { number = z.number; event = Step z.hart y; came = DidEnd z.reply }
+        ended f (inr i) = let e = t.ended f i in (e.0, inl e.1)
 
         at : (j : ℕ) (q : Run L) → ((j ≡ h) × (None ≡ Some q)) ⊎ ((j ≢ h) × (all_told L ps s.running j ≡ Some q)) → V (record { number = q.start; event = Start j q.call; came = Started })
         at j q (inl x) = let c : None ≡ Some q = x.1 in cc
         at j q (inr x) = told_was h j (own j ps) (s.running j) q refl x.1
 
-    after_tried : (h : ℕ) (r : Run L) (op : L.M.Op) (ps : L.M.Answer op → List (ℕ × L.M.Step)) (k : L.M.Answer op → P L.M L.Reply) (x : Did (L.M.Answer op) L.M.World) → s.running h ≡ Some r
-        → Traced L (And V s.now (Step h) (tried L h s r op ps k x).came) (tried L h s r op ps k x).after
-    after_tried h r op ps k Waits is = quietly (Step h) DidWait (λ y. (let c : DidWait ≡ DidEnd y.0 = y.1 in cc))
-    after_tried h r op ps k (Ran a w) is = after_moved h r op (ps a) (k a) w is
-    after_tried h r op ps k (Stops w) is =
-        no_reply (Step h) DidStop (tried L h s r op ps k (Stops w)).after (λ y. (let c : DidStop ≡ DidEnd y.0 = y.1 in cc)) refl (λ j q e. inl (t.under_way j q e))
+    after_tried : (h : ℕ) (y : L.M.Outside) (r : Run L) (op : L.M.Op) (ps : L.M.Answer op → List (ℕ × L.M.Step)) (k : L.M.Answer op → P L.M L.Reply) (x : Did (L.M.Answer op) L.M.World) → s.running h ≡ Some r
+        → Traced L (And V s.now (Step h y) (tried L h s r op ps k x).came) (tried L h s r op ps k x).after
+    after_tried h y r op ps k Waits is = quietly (Step h y) DidWait (λ y. (let c : DidWait ≡ DidEnd y.0 = y.1 in cc))
+    after_tried h y r op ps k (Ran a w) is = after_moved h y r op (ps a) (k a) w is
+    after_tried h y r op ps k (Stops w) is =
+        no_reply (Step h y) DidStop (tried L h s r op ps k (Stops w)).after (λ y. (let c : DidStop ≡ DidEnd y.0 = y.1 in cc)) refl (λ j q e. inl (t.under_way j q e))
 
-    after_prog : (h : ℕ) (r : Run L) (p : P L.M L.Reply) → s.running h ≡ Some r → Traced L (And V s.now (Step h) (step_prog L h s r p).came) (step_prog L h s r p).after
-    after_prog h r (Ret reply) is = quietly (Step h) WasIdle (λ y. (let c : WasIdle ≡ DidEnd y.0 = y.1 in cc))
-    after_prog h r (Do op m k) is = after_tried h r op (λ a. L.M.places h op a (m a) s.world) k (L.M.go h op m s.world) is
+    after_prog : (h : ℕ) (y : L.M.Outside) (r : Run L) (p : P L.M L.Reply) → s.running h ≡ Some r → Traced L (And V s.now (Step h y) (step_prog L h y s r p).came) (step_prog L h y s r p).after
+    after_prog h y r (Ret reply) is = quietly (Step h y) WasIdle (λ y. (let c : WasIdle ≡ DidEnd y.0 = y.1 in cc))
+    after_prog h y r (Do op m k) is = after_tried h y r op (λ a. L.M.places h op a (m a) s.world) k (L.M.go h y op m s.world) is
 
-    after_unless : (h : ℕ) (r : Run L) (b : Bool) → s.running h ≡ Some r → Traced L (And V s.now (Step h) (step_unless L h s b r).came) (step_unless L h s b r).after
-    after_unless h r true is = quietly (Step h) WasStopped (λ y. (let c : WasStopped ≡ DidEnd y.0 = y.1 in cc))
-    after_unless h r false is = after_prog h r r.prog is
+    after_unless : (h : ℕ) (y : L.M.Outside) (r : Run L) (b : Bool) → s.running h ≡ Some r → Traced L (And V s.now (Step h y) (step_unless L h y s b r).came) (step_unless L h y s b r).after
+    after_unless h y r true is = quietly (Step h y) WasStopped (λ y. (let c : WasStopped ≡ DidEnd y.0 = y.1 in cc))
+    after_unless h y r false is = after_prog h y r r.prog is
 
-    after_step : (h : ℕ) (x : Option (Run L)) → s.running h ≡ x → Traced L (And V s.now (Step h) (step_run L h s x).came) (step_run L h s x).after
-    after_step h None is = quietly (Step h) WasIdle (λ y. (let c : WasIdle ≡ DidEnd y.0 = y.1 in cc))
-    after_step h (Some r) is = after_unless h r s.stopped is
+    after_step : (h : ℕ) (y : L.M.Outside) (x : Option (Run L)) → s.running h ≡ x → Traced L (And V s.now (Step h y) (step_run L h y s x).came) (step_run L h y s x).after
+    after_step h y None is = quietly (Step h y) WasIdle (λ y. (let c : WasIdle ≡ DidEnd y.0 = y.1 in cc))
+    after_step h y (Some r) is = after_unless h y r s.stopped is
 
     after_begun : (h : ℕ) (call : L.Call) (x : Began L.Refusal L.M.World) → Traced L (And V s.now (Start h call) (begun L h call s x).came) (begun L h call s x).after
     after_begun h call (Refuses why) = quietly (Start h call) (Refused why) (λ y. (let c : Refused why ≡ DidEnd y.0 = y.1 in cc))
@@ -139,11 +139,11 @@ module _ (L : Theory) where
     after_start h call (Some r) = quietly (Start h call) (Refused L.busy) (λ y. (let c : Refused L.busy ≡ DidEnd y.0 = y.1 in cc))
     after_start h call None = after_begun h call (L.start h call (busy_in L s) s.world)
 
-    after_event : (e : Event L.Call) → Traced L (And V s.now e (makes L e s).came) (next L e s)
+    after_event : (e : Event L.Call L.M.Outside) → Traced L (And V s.now e (makes L e s).came) (next L e s)
     after_event (Start h call) = after_start h call (s.running h)
-    after_event (Step h) = after_step h (s.running h) refl
+    after_event (Step h y) = after_step h y (s.running h) refl
 
-  after_run : (es : List (Event L.Call)) (V : Happened L → Type 0) (s : State L) → Traced L V s → Traced L (λ x. V x ⊎ In x (happened L es s)) (run L es s)
+  after_run : (es : List (Event L.Call L.M.Outside)) (V : Happened L → Type 0) (s : State L) → Traced L V s → Traced L (λ x. V x ⊎ In x (happened L es s)) (run L es s)
   after_run [] V s t = same_set V (λ x. V x ⊎ ⊥) s (λ x v. inl v) (λ x v. back x v) t
     where
       back : (x : Happened L) → V x ⊎ ⊥ → V x
@@ -164,12 +164,12 @@ module _ (L : Theory) where
       back x (inr (inr i)) = inr i
 
   -- over any list of events
-  pub traced : (w : L.M.World) (es : List (Event L.Call)) → Traced L (λ x. In x (happened L es (fresh L w))) (run L es (fresh L w))
+  pub traced : (w : L.M.World) (es : List (Event L.Call L.M.Outside)) → Traced L (λ x. In x (happened L es (fresh L w))) (run L es (fresh L w))
   traced w es =
       same_set (λ x. ⊥ ⊎ In x (happened L es (fresh L w))) (λ x. In x (happened L es (fresh L w))) (run L es (fresh L w)) to (λ x i. inr i)
       (after_run es (λ x. ⊥) (fresh L w)
       (record {
-        reported = λ x v h reply e c. absurd v;
+        reported = λ x v h y reply e c. absurd v;
         started = λ f i. absurd i;
         ended = λ f i. absurd i;
         under_way = λ h r e. (let c : ◌≡◌ {A = Option (Run L)} None (Some r) = e in cc);

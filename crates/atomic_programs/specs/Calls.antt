@@ -1,6 +1,6 @@
 -- A machine with its calls, and what a list of events makes of them.
 use Rattle.std.specs.Prelude.{◌≡◌, ◌≢◌, ℕ, suc, Bool, true, false, Option, Some, None, nat_eq, if◌then◌else◌, List, [], ◌∷◌, ◌++◌}
-use Rattle.atomic_programs.specs.Prog.{Prog, Ret, Do, Did, Waits, Ran, Stops}
+use Rattle.atomic_programs.specs.Prog.{Prog, Ret, Do, Did, Waits, Ran, Stops, asks, OfNext}
 use Rattle.atomic_programs.specs.Logic.{Machine, P, own, onto, oldest_first, Wp, Laws}
 
 -- what the start of a call comes to: it is refused, or begun in a world where what the call needs is reserved for it
@@ -89,9 +89,23 @@ pub record State (L : Theory) : Type 0 where
   pub finished : List (Finished L)
   pub now : ℕ
 
-pub data Event (Call : Type 0) : Type 0 where
-  Start : ℕ → Call → Event Call
-  Step : ℕ → Event Call
+-- a start of a call, or a step with what the outside answers in it
+pub data Event (Call Outside : Type 0) : Type 0 where
+  Start : ℕ → Call → Event Call Outside
+  Step : ℕ → Outside → Event Call Outside
+
+-- what was asked, without the outside's answer, and with one
+abbrev pub asked : {Call Outside : Type 0} → Event Call Outside → Event Call (Unit {0})
+asked (Start h call) = Start h call
+asked (Step h x) = Step h tt
+
+abbrev pub with_answer : {Call Outside : Type 0} → Event Call (Unit {0}) → Outside → Event Call Outside
+with_answer (Start h call) x = Start h call
+with_answer (Step h u) x = Step h x
+
+abbrev pub all_asked : {Call Outside : Type 0} → List (Event Call Outside) → List (Event Call (Unit {0}))
+all_asked [] = []
+all_asked (e ∷ es) = asked e ∷ all_asked es
 
 -- what an event came to
 pub data Outcome (Op Reply Refusal : Type 0) : Type 0 where
@@ -184,17 +198,17 @@ tried L h s r op ps k (Stops w) =
       after = record { world = w; stopped = true; running = s.running; list = s.list; finished = s.finished; now = suc s.now };
     }
 
-abbrev pub step_prog : (L : Theory) → ℕ → State L → Run L → P L.M L.Reply → Made L
-step_prog L h s r (Ret reply) = record { came = WasIdle; after = unchanged L s }
-step_prog L h s r (Do op m k) = tried L h s r op (λ a. L.M.places h op a (m a) s.world) k (L.M.go h op m s.world)
+abbrev pub step_prog : (L : Theory) → ℕ → L.M.Outside → State L → Run L → P L.M L.Reply → Made L
+step_prog L h x s r (Ret reply) = record { came = WasIdle; after = unchanged L s }
+step_prog L h x s r (Do op m k) = tried L h s r op (λ a. L.M.places h op a (m a) s.world) k (L.M.go h x op m s.world)
 
-abbrev pub step_unless : (L : Theory) → ℕ → State L → Bool → Run L → Made L
-step_unless L h s true r = record { came = WasStopped; after = unchanged L s }
-step_unless L h s false r = step_prog L h s r r.prog
+abbrev pub step_unless : (L : Theory) → ℕ → L.M.Outside → State L → Bool → Run L → Made L
+step_unless L h x s true r = record { came = WasStopped; after = unchanged L s }
+step_unless L h x s false r = step_prog L h x s r r.prog
 
-abbrev pub step_run : (L : Theory) → ℕ → State L → Option (Run L) → Made L
-step_run L h s None = record { came = WasIdle; after = unchanged L s }
-step_run L h s (Some r) = step_unless L h s s.stopped r
+abbrev pub step_run : (L : Theory) → ℕ → L.M.Outside → State L → Option (Run L) → Made L
+step_run L h x s None = record { came = WasIdle; after = unchanged L s }
+step_run L h x s (Some r) = step_unless L h x s s.stopped r
 
 abbrev pub begun : (L : Theory) → ℕ → L.Call → State L → Began L.Refusal L.M.World → Made L
 begun L h call s (Refuses why) = record { came = Refused why; after = unchanged L s }
@@ -221,22 +235,45 @@ start_run L h call s (Some r) = record { came = Refused L.busy; after = unchange
 start_run L h call s None = begun L h call s (L.start h call (busy_in L s) s.world)
 
 -- one event
-abbrev pub makes : (L : Theory) → Event L.Call → State L → Made L
+abbrev pub makes : (L : Theory) → Event L.Call L.M.Outside → State L → Made L
 makes L (Start h call) s = start_run L h call s (s.running h)
-makes L (Step h) s = step_run L h s (s.running h)
+makes L (Step h x) s = step_run L h x s (s.running h)
 
-abbrev pub next : (L : Theory) → Event L.Call → State L → State L
+abbrev pub next : (L : Theory) → Event L.Call L.M.Outside → State L → State L
 next L e s = (makes L e s).after
 
-abbrev pub run : (L : Theory) → List (Event L.Call) → State L → State L
+abbrev pub run : (L : Theory) → List (Event L.Call L.M.Outside) → State L → State L
 run L [] s = s
 run L (e ∷ es) s = run L es (next L e s)
 
+-- what the outside answers to the hart's next operation is what it may; a stopped world asks nothing
+abbrev pub HonestStep : (L : Theory) → ℕ → L.M.Outside → L.M.World → Bool → Option (Run L) → Type 0
+HonestStep L h x w true r = Unit {0}
+HonestStep L h x w false None = Unit {0}
+HonestStep L h x w false (Some r) = OfNext (λ op v. L.M.Honest h op v x) (asks r.prog) w
+
+abbrev pub IsHonest : (L : Theory) → Event L.Call L.M.Outside → State L → Type 0
+IsHonest L (Start h call) s = Unit {0}
+IsHonest L (Step h x) s = HonestStep L h x s.world s.stopped (s.running h)
+
+abbrev pub AllHonest : (L : Theory) → List (Event L.Call L.M.Outside) → State L → Type 0
+AllHonest L [] s = Unit {0}
+AllHonest L (e ∷ es) s = IsHonest L e s × AllHonest L es (next L e s)
+
 -- the outcome of each event of the list
-abbrev pub outcomes : (L : Theory) → List (Event L.Call) → State L → List (Came L)
+abbrev pub outcomes : (L : Theory) → List (Event L.Call L.M.Outside) → State L → List (Came L)
 outcomes L [] s = []
 outcomes L (e ∷ es) s = (makes L e s).came ∷ outcomes L es (next L e s)
 
 -- nothing happened yet
 abbrev pub fresh : (L : Theory) → L.M.World → State L
 fresh L w = record { world = w; stopped = false; running = λ h. None; list = []; finished = []; now = 0 }
+
+-- A state that events make of a world that holds and where every hart is idle, where the outside answers what it may.
+pub record Sound (L : Theory) (s : State L) : Type 0 where
+  pub first : L.M.World
+  pub inv : L.M.Inv first
+  pub idle : (h : ℕ) → L.M.Idle h first
+  pub events : List (Event L.Call L.M.Outside)
+  pub honest : AllHonest L events (fresh L first)
+  pub is : run L events (fresh L first) ≡ s

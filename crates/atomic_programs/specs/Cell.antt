@@ -1,14 +1,15 @@
--- An example: one number behind a lock, on a device that may fail.
-use Rattle.std.specs.Prelude.{◌≡◌, ◌≢◌, ℕ, ◌-◌, Bool, true, false, nat_eq, nat_lt, if◌then◌else◌, Option, Some, None, List, [], ◌∷◌}
+-- An example: one number behind a lock, on a device that may fail. The number is a byte.
+use Rattle.std.specs.Prelude.{◌≡◌, ◌≢◌, ◌⊎◌, ◌<◌, ℕ, Bool, true, false, nat_eq, nat_lt, if◌then◌else◌, Option, Some, None, List, [], ◌∷◌}
 use Rattle.atomic_programs.specs.Prog.{Prog, Ret, Do, bind, once, unmarked, marked, Did, Waits, Ran, Stops}
 use Rattle.atomic_programs.specs.Logic.{Machine}
+use Rattle.atomic_programs.specs.Faults.{one_more_fault}
 use Rattle.atomic_programs.specs.Calls.{Theory, Began, Refuses, Begins}
 
--- what the code has: who has the lock, the number, and how many writes the device still takes
+-- what the code has: who has the lock, the number, on the device, and how often the device has failed
 pub record Cell : Type 0 where
   pub holder : Option ℕ
   pub count : ℕ
-  pub fuse : ℕ
+  pub faults : ℕ
 
 pub data Op : Type 0 where
   Take : Op
@@ -26,16 +27,52 @@ abbrev pub take_if : ℕ → Cell → Option ℕ → Did (Unit {0}) Cell
 take_if h c None = Ran tt (record c { holder = Some h })
 take_if h c (Some g) = Waits
 
-abbrev pub store_if : ℕ → Cell → Bool → Did (Unit {0}) Cell
-store_if n c true = Stops c
-store_if n c false = Ran tt (record c { count = n; fuse = c.fuse - 1 })
+-- what the device answers to a read or a write: it passes, or fails and leaves this number
+pub data Outside : Type 0 where
+  Passes : Outside
+  Fails : ℕ → Outside
 
--- what an operation makes of the cell in hart h's hand
-abbrev pub exec : ℕ → (op : Op) → Cell → Did (Answer op) Cell
-exec h Take c = take_if h c c.holder
-exec h Fetch c = Ran c.count c
-exec h (Store n) c = store_if n c (nat_eq c.fuse 0)
-exec h Drop c = Ran tt (record c { holder = None })
+-- a read that fails leaves the number
+abbrev pub LeavesIt : ℕ → Outside → Type 0
+LeavesIt old Passes = Unit {0}
+LeavesIt old (Fails k) = k ≡ old
+
+-- a write that fails leaves the old number or the new one
+abbrev pub LeavesOne : ℕ → ℕ → Outside → Type 0
+LeavesOne old new Passes = Unit {0}
+LeavesOne old new (Fails k) = (k ≡ old) ⊎ (k ≡ new)
+
+abbrev pub honest : ℕ → Op → Cell → Outside → Type 0
+honest h Take c x = Unit {0}
+honest h Fetch c x = LeavesIt c.count x
+honest h (Store n) c x = LeavesOne c.count n x
+honest h Drop c x = Unit {0}
+
+-- All but a take need the lock. A fetch answers a byte, and the device takes no number that is none.
+abbrev pub may : ℕ → Op → Cell → Type 0
+may h Take c = Unit {0}
+may h Fetch c = (c.holder ≡ Some h) × (c.count < 256)
+may h (Store n) c = (c.holder ≡ Some h) × (n < 256)
+may h Drop c = c.holder ≡ Some h
+
+-- the cell after the device failed and left this number
+abbrev pub failed : Cell → ℕ → Cell
+failed c k = record c { count = k; faults = one_more_fault c.faults }
+
+abbrev pub fetch_if : Cell → Outside → Did ℕ Cell
+fetch_if c Passes = Ran c.count c
+fetch_if c (Fails k) = Stops (failed c k)
+
+abbrev pub store_if : ℕ → Cell → Outside → Did (Unit {0}) Cell
+store_if n c Passes = Ran tt (record c { count = n })
+store_if n c (Fails k) = Stops (failed c k)
+
+-- what an operation makes of the cell in hart h's hand, where the device answers so
+abbrev pub exec : ℕ → Outside → (op : Op) → Cell → Did (Answer op) Cell
+exec h x Take c = take_if h c c.holder
+exec h x Fetch c = fetch_if c x
+exec h x (Store n) c = store_if n c x
+exec h x Drop c = Ran tt (record c { holder = None })
 
 -- a step of the number alone: it is swapped for another one, or seen
 pub data Step : Type 0 where
@@ -61,8 +98,8 @@ with_value m t Waits = Waits
 with_value m t (Ran a c) = Ran a (record { cell = c; value = acted (m a) t })
 with_value m t (Stops c) = Stops (record { cell = c; value = t })
 
-abbrev pub go : ℕ → (op : Op) → (Answer op → Option Step) → World → Did (Answer op) World
-go h op m w = with_value m w.value (exec h op w.cell)
+abbrev pub go : ℕ → Outside → (op : Op) → (Answer op → Option Step) → World → Did (Answer op) World
+go h x op m w = with_value m w.value (exec h x op w.cell)
 
 abbrev pub placed_by : ℕ → Option Step → List (ℕ × Step)
 placed_by h None = []
@@ -76,9 +113,9 @@ if_held (Some g) h x = if nat_eq g h then Some x else None
 abbrev pub own_of : ℕ → World → Option (ℕ × ℕ)
 own_of h w = if_held w.cell.holder h (w.cell.count, w.value)
 
--- where nobody has the lock, the number is what the steps have made
+-- the number is a byte, and what the steps have made where nobody has the lock
 abbrev pub Inv : World → Type 0
-Inv w = w.cell.holder ≡ None → w.value ≡ w.cell.count
+Inv w = (w.cell.count < 256) × (w.cell.holder ≡ None → w.value ≡ w.cell.count)
 
 -- out in another hart's hand
 abbrev pub IsOut : ℕ → Option ℕ → Type 0
@@ -99,6 +136,9 @@ machine =
       Step = Step;
       World = World;
       Tree = ℕ;
+      Outside = Outside;
+      Honest = λ h op w x. honest h op w.cell x;
+      May = λ h op w. may h op w.cell;
       go = go;
       places = λ h op a m w. placed_by h m;
       tree = λ w. w.value;
@@ -119,6 +159,7 @@ pub data Call : Type 0 where
 pub data Refusal : Type 0 where
   Busy : Refusal
   NoSuchHart : Refusal
+  TooLarge : Refusal
 
 abbrev pub P : Type 0 → Type 0
 P A = Prog Op Answer Step A
@@ -146,10 +187,16 @@ abbrev pub limit_of : Call → ℕ
 limit_of (Swap n) = 4
 limit_of Look = 3
 
+-- no number is swapped in that is no byte
+abbrev pub fits : Call → Bool
+fits (Swap n) = nat_lt n 256
+fits Look = true
+
 -- there are eight harts
-abbrev pub begin_if : {S : Type 0} → Bool → S → Began Refusal S
-begin_if true s = Begins s
-begin_if false s = Refuses NoSuchHart
+abbrev pub begin_if : {S : Type 0} → Bool → Bool → S → Began Refusal S
+begin_if false b s = Refuses NoSuchHart
+begin_if true false s = Refuses TooLarge
+begin_if true true s = Begins s
 
 abbrev pub swaps : Theory
 swaps =
@@ -158,7 +205,7 @@ swaps =
       Call = Call;
       Reply = ℕ;
       Refusal = Refusal;
-      start = λ h call busy w. begin_if (nat_lt h 8) w;
+      start = λ h call busy w. begin_if (nat_lt h 8) (fits call) w;
       busy = Busy;
       program = program;
       Written = Written;
@@ -167,4 +214,4 @@ swaps =
 
 -- a cell at rest
 abbrev pub rest : ℕ → ℕ → World
-rest x f = record { cell = record { holder = None; count = x; fuse = f }; value = x }
+rest x f = record { cell = record { holder = None; count = x; faults = f }; value = x }

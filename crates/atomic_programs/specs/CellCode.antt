@@ -1,11 +1,13 @@
--- The programs that the example's machines stand for, and what its world is as programs.
-use Rattle.std.specs.Prelude.{◌≡◌, ℕ, Some, List, [], ◌∷◌, length, nat_lt}
+-- The programs that the example's machines stand for, what its world is as programs, and what it keeps.
+use Rattle.std.specs.Prelude.{◌≡◌, ℕ, Bool, Option, Some, None, List, [], ◌∷◌, nat_lt}
 use Rattle.atomic_programs.specs.Prog.{bind, once, unmarked, marked}
 use Rattle.atomic_programs.specs.Calls.{Event as EventOf, Start as StartOf, Step as StepOf, Outcome as OutcomeOf, Started as WasStarted, Refused as WasRefused, WasIdle, DidWait, DidRun, DidEnd, DidStop, WasStopped}
 use Rattle.atomic_programs.specs.Plain.{Code, Plain}
-use Rattle.atomic_programs.specs.Machines.{programs_in}
+use Rattle.atomic_programs.specs.Machines.{answered}
+use Rattle.atomic_programs.specs.Tables.{PlaceFits, plain_at, IsKept}
 use Rattle.atomic_programs.specs.Cell as cell
-use Rattle.atomic_programs.specs.Cell.{P, dropped, opened, stored_and, exec, begin_if, swaps}
+use Rattle.atomic_programs.specs.Cell.{P, Cell, Outside, Passes, Fails, dropped, opened, stored_and, exec, may, honest, begin_if, swaps}
+use Rattle.atomic_programs.specs.declared.machines.Stepped.{Stepped}
 use Rattle.atomic_programs.specs.declared.cell.Kind.{Kind}
 use Rattle.atomic_programs.specs.declared.cell.Kind.TheVariants as KindIs
 use Rattle.atomic_programs.specs.declared.cell.Open.{Open}
@@ -20,7 +22,6 @@ use Rattle.atomic_programs.specs.declared.cell.Event.{Event}
 use Rattle.atomic_programs.specs.declared.cell.Event.TheVariants as EventIs
 use Rattle.atomic_programs.specs.declared.cell.Outcome.{Outcome}
 use Rattle.atomic_programs.specs.declared.cell.Outcome.TheVariants as OutcomeIs
-use Rattle.atomic_programs.specs.declared.cell.World.{World}
 
 abbrev pub kind_of : cell.Op → Kind
 kind_of cell.Take = KindIs.Take
@@ -30,15 +31,49 @@ kind_of cell.Drop = KindIs.Drop
 
 abbrev pub open_of : Open → P ℕ
 open_of OpenAt.Take = opened
-open_of OpenAt.Fetch = once cell.Fetch unmarked
-
-abbrev pub machine_of : Machine → P ℕ
-machine_of (MachineAt.SwapOpen n first) = bind (open_of first) (stored_and n)
-machine_of (MachineAt.Store n old) = stored_and n old
-machine_of (MachineAt.LookOpen first) = bind (marked (open_of first) (λ x. Some (cell.Saw x))) dropped
-machine_of (MachineAt.Drop old) = dropped old
+open_of (OpenAt.Fetch key) = once cell.Fetch unmarked
 
 -- an open that goes on to a look is marked
+abbrev pub machine_of : Machine → P ℕ
+machine_of (MachineAt.SwapOpen n first) = bind (open_of first) (stored_and n)
+machine_of (MachineAt.Store n old key) = stored_and n old
+machine_of (MachineAt.LookOpen first) = bind (marked (open_of first) (λ x. Some (cell.Saw x))) dropped
+machine_of (MachineAt.Drop old key) = dropped old
+
+-- the key that a machine has is its hart's
+abbrev pub OpenFits : ℕ → Open → Type 0
+OpenFits h OpenAt.Take = Unit {0}
+OpenFits h (OpenAt.Fetch key) = key ≡ h
+
+abbrev pub MachineFits : ℕ → Machine → Type 0
+MachineFits h (MachineAt.SwapOpen n first) = OpenFits h first
+MachineFits h (MachineAt.Store n old key) = key ≡ h
+MachineFits h (MachineAt.LookOpen first) = OpenFits h first
+MachineFits h (MachineAt.Drop old key) = key ≡ h
+
+abbrev pub HartFits : ℕ → Option Machine → Type 0
+HartFits = PlaceFits MachineFits
+
+-- what the device answered in a machine's step, which left this cell
+abbrev pub said_in : {M R : Type 0} → Stepped M R → Cell → Outside
+said_in r c = answered (Fails c.count) Passes r
+
+-- the same, by what a call of the device came to
+abbrev pub said_by : {A : Type 0} → Option A → Cell → Outside
+said_by None c = Fails c.count
+said_by (Some a) c = Passes
+
+-- the same, by the step's outcome
+abbrev pub said : Outcome → Cell → Outside
+said OutcomeIs.Started c = Passes
+said (OutcomeIs.Refused why) c = Passes
+said OutcomeIs.Idle c = Passes
+said OutcomeIs.Waits c = Passes
+said (OutcomeIs.Ran kind) c = Passes
+said (OutcomeIs.Done reply) c = Passes
+said OutcomeIs.Stops c = Fails c.count
+said OutcomeIs.Stopped c = Passes
+
 abbrev pub call_of : Call → cell.Call
 call_of (CallIs.Swap n) = cell.Swap n
 call_of CallIs.Look = cell.Look
@@ -46,12 +81,14 @@ call_of CallIs.Look = cell.Look
 abbrev pub refusal_of : Refusal → cell.Refusal
 refusal_of RefusalIs.Busy = cell.Busy
 refusal_of RefusalIs.NoSuchHart = cell.NoSuchHart
+refusal_of RefusalIs.TooLarge = cell.TooLarge
 
-abbrev pub event_of : Event → EventOf cell.Call
+-- what an event asks
+abbrev pub event_of : Event → EventOf cell.Call (Unit {0})
 event_of (EventIs.Start h call) = StartOf h (call_of call)
-event_of (EventIs.Step h) = StepOf h
+event_of (EventIs.Step h) = StepOf h tt
 
-abbrev pub events_of : List Event → List (EventOf cell.Call)
+abbrev pub events_of : List Event → List (EventOf cell.Call (Unit {0}))
 events_of [] = []
 events_of (e ∷ es) = event_of e ∷ events_of es
 
@@ -65,21 +102,34 @@ outcome_of (OutcomeIs.Done reply) = DidEnd reply
 outcome_of OutcomeIs.Stops = DidStop
 outcome_of OutcomeIs.Stopped = WasStopped
 
+abbrev pub outcomes_of : List Outcome → List (OutcomeOf Kind ℕ cell.Refusal)
+outcomes_of [] = []
+outcomes_of (o ∷ os) = outcome_of o ∷ outcomes_of os
+
 -- the cell is all that the code has
 abbrev pub code : Code swaps
 code =
     record {
-      Shared = cell.Cell;
+      Shared = Cell;
       Kind = Kind;
       shared = λ w. w.cell;
       kind = kind_of;
       exec = exec;
-      begin = λ h call busy s. begin_if (nat_lt h 8) s;
+      may = may;
+      honest = honest;
+      begin = λ h call busy s. begin_if (nat_lt h 8) (cell.fits call) s;
     }
 
--- the world's harts as programs over the cell
-abbrev pub plain_of : World → Plain swaps code
-plain_of w = record { shared = w.shared; stopped = w.stopped; running = programs_in machine_of w.calls.items }
+-- what a world is to its callers
+pub record Harts : Type 0 where
+  pub shared : Cell
+  pub stopped : Bool
+  pub calls : List (Option Machine)
 
-abbrev pub HasEight : World → Type 0
-HasEight w = length w.calls.items ≡ 8
+-- the same as programs over the cell
+abbrev pub plain_of : Harts → Plain swaps code
+plain_of w = plain_at swaps code machine_of w.shared w.stopped w.calls
+
+-- what every world keeps
+abbrev pub IsWorld : Harts → Type 0
+IsWorld w = IsKept swaps code machine_of MachineFits 8 w.shared w.stopped w.calls

@@ -1,8 +1,8 @@
 -- What explains a run: one list of steps, the oldest first.
 use Rattle.std.specs.Prelude.{◌≡◌, ◌⊎◌, ℕ, ◌<◌, ◌≤◌, Bool, true, false, Option, Some, None, nat_eq, if◌then◌else◌, List, [], ◌∷◌, suc, ◌++◌}
-use Rattle.atomic_programs.specs.Prog.{Do}
+use Rattle.atomic_programs.specs.Prog.{Do, asks, OfNext}
 use Rattle.atomic_programs.specs.Logic.{P, oldest_first}
-use Rattle.atomic_programs.specs.Calls.{Theory, IsBeginning, Run, Placed, Finished, State, Event, Start, Step, Outcome, Started, Refused, WasIdle, DidWait, DidRun, DidEnd, DidStop, WasStopped, makes, next, unchanged}
+use Rattle.atomic_programs.specs.Calls.{Theory, IsBeginning, Run, Placed, Finished, State, Event, Start, Step, Outcome, Started, Refused, WasIdle, DidWait, DidRun, DidEnd, DidStop, WasStopped, makes, next, unchanged, IsHonest}
 
 abbrev pub In : {A : Type 0} → A → List A → Type 0
 In x [] = ⊥
@@ -66,7 +66,9 @@ pub record Explained (L : Theory) (base : L.M.Tree) (s : State L) : Type 0 where
   pub bounded : (f : Finished L) → In f s.finished → f.count ≤ L.limit f.call
   pub bounded_yet : (h : ℕ) (r : Run L) → s.running h ≡ Some r → r.count ≤ L.limit r.call
   -- a step waits only where it may
-  pub waits : (h : ℕ) → (makes L (Step h) s).came ≡ DidWait → Blocked L h s
+  pub waits : (h : ℕ) (x : L.M.Outside) → IsHonest L (Step h x) s → (makes L (Step h x) s).came ≡ DidWait → Blocked L h s
+  -- each hart's next operation may be made
+  pub may : (h : ℕ) (r : Run L) → s.stopped ≡ false → s.running h ≡ Some r → OfNext (L.M.May h) (asks r.prog) s.world
   -- a hart without a call owns nothing
   pub idle : (h : ℕ) → s.running h ≡ None → L.M.Idle h s.world
   pub holds : Holds L s.stopped s.world
@@ -91,13 +93,13 @@ is_quiet DidStop = false
 -- what holds of each event in any state
 pub record Steady (L : Theory) : Type 0 where
   -- an event that was refused, waited, found no call or a stopped world changes nothing but the number of events
-  pub quiet : (e : Event L.Call) (s : State L) → is_quiet (makes L e s).came ≡ true → next L e s ≡ unchanged L s
+  pub quiet : (e : Event L.Call L.M.Outside) (s : State L) → is_quiet (makes L e s).came ≡ true → next L e s ≡ unchanged L s
   -- events are numbered one after the other, and the list grows at its end alone
-  pub counts : (e : Event L.Call) (s : State L) → (next L e s).now ≡ suc s.now
-  pub appends : (e : Event L.Call) (s : State L) → Appends L s (next L e s)
+  pub counts : (e : Event L.Call L.M.Outside) (s : State L) → (next L e s).now ≡ suc s.now
+  pub appends : (e : Event L.Call L.M.Outside) (s : State L) → Appends L s (next L e s)
   -- once the world has stopped, each step of a hart with a call says so
-  pub answers_stopped : (h : ℕ) (r : Run L) (s : State L) → s.stopped ≡ true → s.running h ≡ Some r → (makes L (Step h) s).came ≡ WasStopped
-  pub stays_stopped : (e : Event L.Call) (s : State L) → s.stopped ≡ true → (next L e s).stopped ≡ true
+  pub answers_stopped : (h : ℕ) (x : L.M.Outside) (r : Run L) (s : State L) → s.stopped ≡ true → s.running h ≡ Some r → (makes L (Step h x) s).came ≡ WasStopped
+  pub stays_stopped : (e : Event L.Call L.M.Outside) (s : State L) → s.stopped ≡ true → (next L e s).stopped ≡ true
   -- and starts are taken as before
   pub starts_as_before : (h : ℕ) (call : L.Call) (s : State L) (b : Bool)
       → makes L (Start h call) (record s { stopped = b }) ≡ record { came = (makes L (Start h call) s).came; after = record (next L (Start h call) s) { stopped = b } }

@@ -12,8 +12,14 @@ pub record Machine : Type 1 where
   pub Step : Type 0
   pub World : Type 0
   pub Tree : Type 0
-  -- what the operation makes of the world in this hart's hand
-  pub go : ℕ → (op : Op) → (Answer op → Option Mark) → World → Did (Answer op) World
+  -- what a device, or whatever else is no part of the world, may answer to an operation
+  pub Outside : Type 0
+  -- what it may answer to this one
+  pub Honest : ℕ → Op → World → Outside → Type 0
+  -- what an operation asks of the world in this hart's hand: it is never made where this does not hold
+  pub May : ℕ → Op → World → Type 0
+  -- what the operation makes of the world in this hart's hand, at this answer
+  pub go : ℕ → Outside → (op : Op) → (Answer op → Option Mark) → World → Did (Answer op) World
   -- the steps that are placed where it runs with this answer and this mark, each with its hart; an operation may place
   -- steps of other harts' calls
   pub places : ℕ → (op : Op) → Answer op → Option Mark → World → List (ℕ × Step)
@@ -87,15 +93,17 @@ Good L A h ps n B es v wait Waits Next = wait
 Good L A h ps n B es v wait (Ran a w) Next = Fine L h (ps a) n B es v w (λ l. Next l a w)
 Good L A h ps n B es v wait (Stops w) Next = Halts L h v w
 
--- From w on hart h's program does as it should whatever the others do, in at most n steps, and ends with Q; es are the
--- steps so far, the newest first, and are B whenever they have grown.
+-- From w on hart h's program does as it should whatever the others do and the outside answers, in at most n steps, and ends
+-- with Q; each operation is made where it may be. es are the steps so far, the newest first, and are B whenever they have grown.
 abbrev pub Wp : (L : Machine) {A : Type 0} → ℕ → (List L.Step → Type 0) → (A → List L.Step → L.World → Type 0) → P L A → ℕ → List L.Step → L.World → Type 0
 Wp L h B Q (Ret a) n es w = Q a es w
 Wp L h B Q (Do op m k) n es w =
     (v : L.World) (xs : List L.Step) → L.Others h w xs v → L.Inv v
     → (L.Clean v → Grown B xs es)
-    × Good L (L.Answer op) h (placed_with L h op m v) n B (onto xs es) v (L.MayWait h op v) (L.go h op m v)
-    (λ l a u. Wp L h B Q (k a) l (onto (own h (L.places h op a (m a) v)) (onto xs es)) u)
+    × L.May h op v
+    × ((x : L.Outside) → L.Honest h op v x
+    → Good L (L.Answer op) h (placed_with L h op m v) n B (onto xs es) v (L.MayWait h op v) (L.go h x op m v)
+    (λ l a u. Wp L h B Q (k a) l (onto (own h (L.places h op a (m a) v)) (onto xs es)) u))
 
 -- the same, closed, so that the program can be read off it
 pub record Safe (L : Machine) {A : Type 0} (h : ℕ) (B : List L.Step → Type 0) (Q : A → List L.Step → L.World → Type 0) (p : P L A) (n : ℕ) (es : List L.Step) (w : L.World) : Type 0 where

@@ -18,12 +18,19 @@ Still program (Ran m) self old new = Unit {0}
 Still program (Done a) self old new = Unit {0}
 Still program (Stopped m) self old new = program m ≡ program self
 
--- the machine that is left
-abbrev pub Left : {M R : Type 0} → (M → Type 0) → Stepped M R → Type 0
-Left Fits (Waits m) = Fits m
-Left Fits (Ran m) = Fits m
-Left Fits (Done a) = Unit {0}
-Left Fits (Stopped m) = Fits m
+-- the machine that is left, or its result
+abbrev pub Left : {M R : Type 0} → (M → Type 0) → (R → Type 0) → Stepped M R → Type 0
+Left Fits Ends (Waits m) = Fits m
+Left Fits Ends (Ran m) = Fits m
+Left Fits Ends (Done a) = Ends a
+Left Fits Ends (Stopped m) = Fits m
+
+-- what the outside answered: this where the step stopped the world, and that elsewhere
+abbrev pub answered : {M R X : Type 0} → X → X → Stepped M R → X
+answered broke passed (Waits m) = passed
+answered broke passed (Ran m) = passed
+answered broke passed (Done a) = passed
+answered broke passed (Stopped m) = broke
 
 -- its kind
 abbrev pub kind_asked : {Op K : Type 0} → (Op → K) → Option Op → Option K

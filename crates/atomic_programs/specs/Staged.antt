@@ -28,12 +28,27 @@ Answer Drop = Unit {0}
 abbrev pub with_whole : World → cell.World → World
 with_whole w c = record { whole = c; staged = w.staged }
 
-abbrev pub go : ℕ → (op : Op) → (Answer op → Option cell.Step) → World → Did (Answer op) World
-go h Take m w = did_in (with_whole w) (cell.go h cell.Take m w.whole)
-go h Fetch m w = did_in (with_whole w) (cell.go h cell.Fetch m w.whole)
-go h (Stage n) m w = Ran tt (record { whole = w.whole; staged = changed w.staged h n })
-go h Write m w = did_in (with_whole w) (cell.go h (cell.Store (w.staged h)) m w.whole)
-go h Drop m w = did_in (with_whole w) (cell.go h cell.Drop m w.whole)
+abbrev pub go : ℕ → cell.Outside → (op : Op) → (Answer op → Option cell.Step) → World → Did (Answer op) World
+go h x Take m w = did_in (with_whole w) (cell.go h x cell.Take m w.whole)
+go h x Fetch m w = did_in (with_whole w) (cell.go h x cell.Fetch m w.whole)
+go h x (Stage n) m w = Ran tt (record { whole = w.whole; staged = changed w.staged h n })
+go h x Write m w = did_in (with_whole w) (cell.go h x (cell.Store (w.staged h)) m w.whole)
+go h x Drop m w = did_in (with_whole w) (cell.go h x cell.Drop m w.whole)
+
+-- what the device answers is as above
+abbrev pub Honest : ℕ → Op → World → cell.Outside → Type 0
+Honest h Take w x = Unit {0}
+Honest h Fetch w x = cell.honest h cell.Fetch w.whole.cell x
+Honest h (Stage n) w x = Unit {0}
+Honest h Write w x = cell.honest h (cell.Store (w.staged h)) w.whole.cell x
+Honest h Drop w x = Unit {0}
+
+abbrev pub May : ℕ → Op → World → Type 0
+May h Take w = cell.may h cell.Take w.whole.cell
+May h Fetch w = cell.may h cell.Fetch w.whole.cell
+May h (Stage n) w = Unit {0}
+May h Write w = cell.may h (cell.Store (w.staged h)) w.whole.cell
+May h Drop w = cell.may h cell.Drop w.whole.cell
 
 abbrev pub places : ℕ → (op : Op) → Answer op → Option cell.Step → World → List (ℕ × cell.Step)
 places h op a m w = cell.placed_by h m
@@ -57,6 +72,9 @@ machine =
       Step = cell.Step;
       World = World;
       Tree = ℕ;
+      Outside = cell.Outside;
+      Honest = Honest;
+      May = May;
       go = go;
       places = places;
       tree = λ w. w.whole.value;
@@ -87,7 +105,7 @@ staged_swaps =
       Call = cell.Call;
       Reply = ℕ;
       Refusal = cell.Refusal;
-      start = λ h call busy w. cell.begin_if (nat_lt h 8) w;
+      start = λ h call busy w. cell.begin_if (nat_lt h 8) (cell.fits call) w;
       busy = cell.Busy;
       program = λ call. lowered layer (cell.program call);
       Written = cell.Written;

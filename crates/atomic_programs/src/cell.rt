@@ -1,84 +1,125 @@
 //! An example: eight harts that swap one number behind a lock, on a device that may fail.
 
-ghost use Rattle.std.specs.Prelude.{◌≡◌, ℕ, ◌<◌, ◌∷◌, [], Option, Some, None, IfNone, IfOk};
-ghost use Rattle.atomic_programs.specs.Prog.{advance, asks, Ran as ItRan};
-ghost use Rattle.atomic_programs.specs.Calls.{State, run as run_of, fresh, Start as StartOf, Step as StepOf};
-ghost use Rattle.atomic_programs.specs.Plain.{plain_makes, erase, Plain};
-ghost use Rattle.atomic_programs.specs.Machines.{moved_to, Still, kind_asked, or_waits, or_stops};
-ghost use Rattle.atomic_programs.specs.Cell.{exec, swaps, rest, Take as TakeOp, Fetch as FetchOp, Store as StoreOp, Drop as DropOp};
-ghost use Rattle.atomic_programs.specs.CellCode.{kind_of, open_of, machine_of, call_of, event_of, events_of, outcome_of, refusal_of, code, plain_of, HasEight};
+ghost use Rattle.std.specs.Prelude.{◌≡◌, ℕ, ◌<◌, ◌⊎◌, ◌∷◌, [], Bool, true, false, Option, Some, None, IfSome, IfNone, IfOk, IfErr, slice_get, slice_set, get_or};
+ghost use Rattle.atomic_programs.specs.Prog.{advance, asks, OfNext, Ran as ItRan};
+ghost use Rattle.atomic_programs.specs.Calls.{State, fresh, with_answer, Start as StartOf, Step as StepOf};
+ghost use Rattle.atomic_programs.specs.Plain.{plain_makes, erase, Plain, PlainHonest, PlainHonestStep, MayOf, hart_start, hart_step};
+ghost use Rattle.atomic_programs.specs.Machines.{moved_to, Still, Left, kind_asked, program_at, or_waits, or_stops};
+ghost use Rattle.atomic_programs.specs.Cell as cell;
+ghost use Rattle.atomic_programs.specs.Cell.{Cell, Passes, LeavesOne, exec, may, honest, swaps, rest, Take as TakeOp, Fetch as FetchOp, Store as StoreOp, Drop as DropOp};
+ghost use Rattle.atomic_programs.specs.CellCode.{kind_of, open_of, machine_of, OpenFits, MachineFits, HartFits, said_in, said_by, said, call_of, event_of, events_of, outcome_of, outcomes_of, code, plain_of};
+ghost use Rattle.atomic_programs.specs.Shown.{CameTo, Shown};
 
+use crate::device::{Device, Fault};
 use crate::machines::Stepped;
 use std::alloc::{AllocError, Global};
 use std::marker::Model;
 
-/// The harts of the example.
-const HARTS: u8 = 8;
+/// The numbers from here on are no bytes.
+const LIMIT: u32 = 256;
 
-/// The number, its lock, and the writes that the device still takes.
-#[derive(Drop)]
-pub struct Register {
-    holder: Option<u8>,
-    count: u32,
-    fuse: u32,
+/// The lock in a hart's hand. It must be spent.
+pub struct Key {
+    hart: u8,
 }
 
-impl Model for Register {
+impl Model for Key {
+    ghost use Rattle.std.specs.Prelude.{ℕ};
+
+    ghost Value = { ℕ };
+
+    ghost view = { λ k. k.hart };
+}
+
+/// A register that has ended.
+#[derive(Drop)]
+pub struct Retired {}
+
+impl Key {
+    /// Spends the key of a register that has ended.
+    pub fn end(self, _retired: &Retired) {
+        let Key { hart: _ } = self;
+    }
+}
+
+/// The number, on its device, and who has the lock.
+#[derive(Drop)]
+pub struct Register<D: Device> {
+    holder: Option<u8>,
+    device: D,
+}
+
+impl<D: Device> Model for Register<D> {
     ghost use Rattle.atomic_programs.specs.Cell.{Cell};
 
     ghost Value = { Cell };
 
-    ghost view = { λ r. record { holder = r.holder; count = r.count; fuse = r.fuse } };
+    ghost view = { λ r. record { holder = r.holder; count = D.number r.device; faults = D.failures r.device } };
 }
 
-impl Register {
-    /// A register that nobody has; its device takes `fuse` writes.
-    pub fn new(count: u32, fuse: u32) -> Self
-        ensures { result ≡ record { holder = None; count = count; fuse = fuse } }
+impl<D: Device> Register<D> {
+    /// A register that nobody has.
+    pub fn new(device: D) -> Self
+        ensures { result ≡ record { holder = None; count = D.number device; faults = D.failures device } }
     {
         Register {
             holder: None,
-            count,
-            fuse,
+            device,
         }
     }
 
     /// Takes the lock; None only where it is out.
-    pub fn take(&mut self, hart: u8) -> Option<()>
-        ensures took { exec hart TakeOp self.old ≡ or_waits result self.new }
-        ensures waits { IfNone result (self.new ≡ self.old) }
+    pub fn take(&mut self, hart: u8) -> Option<Key>
+        ensures waits { IfNone result ((exec hart Passes TakeOp self.old ≡ or_waits None self.new) × (self.new ≡ self.old)) }
+        ensures took { IfSome result (λ key. (key ≡ hart) × (exec hart Passes TakeOp self.old ≡ ItRan tt self.new)) }
     {
         if self.holder.is_some() {
             return None;
         }
         self.holder = Some(hart);
-        Some(())
+        Some(Key { hart })
     }
 
-    /// The number.
-    pub fn fetch(&self) -> u32
-        ensures { (h : ℕ) → exec h FetchOp self.now ≡ ItRan result self.now }
+    /// The number, a byte; None where the device fails, which stops the world.
+    pub fn fetch(&mut self, key: &Key) -> Option<u8>
+        requires { may key.now FetchOp self.old }
+        ensures fetches { exec key.now (said_by result self.new) FetchOp self.old ≡ or_stops result self.new }
+        ensures honest { honest key.now FetchOp self.old (said_by result self.new) }
     {
-        self.count
+        match self.device.get() {
+            Ok(number) => Some(number as u8),
+            Err(Fault) => None,
+        }
     }
 
     /// Writes the number; None where the device fails, which stops the world.
-    pub fn store(&mut self, number: u32) -> Option<()>
-        ensures { (h : ℕ) → exec h (StoreOp number) self.old ≡ or_stops result self.new }
+    pub fn store(&mut self, key: &Key, number: u32) -> Option<()>
+        requires { may key.now (StoreOp number) self.old }
+        ensures stores { exec key.now (said_by result self.new) (StoreOp number) self.old ≡ or_stops result self.new }
+        ensures honest { honest key.now (StoreOp number) self.old (said_by result self.new) }
     {
-        if self.fuse == 0 {
-            return None;
+        match self.device.put(number) {
+            Ok(()) => Some(()),
+            Err(Fault) => None,
         }
-        self.fuse -= 1;
-        self.count = number;
-        Some(())
     }
 
     /// Gives the lock back.
-    pub fn release(&mut self)
-        ensures { (h : ℕ) → exec h DropOp self.old ≡ ItRan tt self.new }
+    pub fn release(&mut self, key: Key)
+        requires { may key DropOp self.old }
+        ensures { exec key Passes DropOp self.old ≡ ItRan tt self.new }
     {
+        let Key { hart: _ } = key;
         self.holder = None;
+    }
+
+    /// Its device, where no more steps are made.
+    pub fn end(self) -> (D, Retired)
+        ensures number { D.number result.0 ≡ self.count }
+        ensures faults { D.failures result.0 ≡ self.faults }
+    {
+        let Register { holder: _, device } = self;
+        (device, Retired {})
     }
 }
 
@@ -92,24 +133,30 @@ pub enum Kind {
 }
 
 /// Takes the lock and fetches the number.
-#[derive(Clone, Copy)]
 pub enum Open {
     Take,
-    Fetch,
+    Fetch { key: Key },
 }
 
 impl Open {
     /// One operation.
-    pub fn step(self, hart: u8, register: &mut Register) -> Stepped<Open, u32>
-        ensures moves { advance (exec hart) (open_of self) register.old ≡ moved_to open_of (λ x. x) result register.new }
+    pub fn step<D: Device>(self, hart: u8, register: &mut Register<D>) -> Stepped<Open, (u8, Key)>
+        requires may { OfNext (may hart) (asks (open_of self)) register.old }
+        requires fits { OpenFits hart self }
+        ensures moves { advance (exec hart (said_in result register.new)) (open_of self) register.old ≡ moved_to open_of (λ r. r.0) result register.new }
+        ensures honest { OfNext (λ op c. honest hart op c (said_in result register.new)) (asks (open_of self)) register.old }
+        ensures fits { Left (OpenFits hart) (λ r. r.1 ≡ hart) result }
         ensures still { Still open_of result self register.old register.new }
     {
         match self {
             Open::Take => match register.take(hart) {
                 None => Stepped::Waits(Open::Take),
-                Some(()) => Stepped::Ran(Open::Fetch),
+                Some(key) => Stepped::Ran(Open::Fetch { key }),
             },
-            Open::Fetch => Stepped::Done(register.fetch()),
+            Open::Fetch { key } => match register.fetch(&key) {
+                None => Stepped::Stopped(Open::Fetch { key }),
+                Some(number) => Stepped::Done((number, key)),
+            },
         }
     }
 
@@ -119,7 +166,15 @@ impl Open {
     {
         match self {
             Open::Take => Kind::Take,
-            Open::Fetch => Kind::Fetch,
+            Open::Fetch { key: _ } => Kind::Fetch,
+        }
+    }
+
+    /// Ends it in mid-call.
+    pub fn end(self, retired: &Retired) {
+        match self {
+            Open::Take => {}
+            Open::Fetch { key } => key.end(retired),
         }
     }
 }
@@ -133,19 +188,31 @@ pub enum Call {
     Look,
 }
 
+impl Call {
+    /// Whether its number is a byte.
+    pub fn fits(&self) -> bool
+        ensures { result ≡ cell.fits (call_of self.now) }
+    {
+        match self {
+            Call::Swap(number) => *number < LIMIT,
+            Call::Look => true,
+        }
+    }
+}
+
 /// A call under way.
-#[derive(Clone, Copy)]
 pub enum Machine {
     SwapOpen { number: u32, open: Open },
-    Store { number: u32, old: u32 },
+    Store { number: u32, old: u8, key: Key },
     LookOpen { open: Open },
-    Drop { old: u32 },
+    Drop { old: u8, key: Key },
 }
 
 impl Machine {
     /// The call from its beginning.
     pub fn new(call: Call) -> Machine
-        ensures { machine_of result ≡ swaps.program (call_of call) }
+        ensures program { machine_of result ≡ swaps.program (call_of call) }
+        ensures fits { (h : ℕ) → MachineFits h result }
     {
         match call {
             Call::Swap(number) => Machine::SwapOpen {
@@ -157,29 +224,33 @@ impl Machine {
     }
 
     /// One operation.
-    pub fn step(self, hart: u8, register: &mut Register) -> Stepped<Machine, u32>
-        ensures moves { advance (exec hart) (machine_of self) register.old ≡ moved_to machine_of (λ x. x) result register.new }
+    pub fn step<D: Device>(self, hart: u8, register: &mut Register<D>) -> Stepped<Machine, u8>
+        requires may { OfNext (may hart) (asks (machine_of self)) register.old }
+        requires fits { MachineFits hart self }
+        ensures moves { advance (exec hart (said_in result register.new)) (machine_of self) register.old ≡ moved_to machine_of (λ x. x) result register.new }
+        ensures honest { OfNext (λ op c. honest hart op c (said_in result register.new)) (asks (machine_of self)) register.old }
+        ensures fits { Left (MachineFits hart) (λ r. Unit {0}) result }
         ensures still { Still machine_of result self register.old register.new }
     {
         match self {
             Machine::SwapOpen { number, open } => match open.step(hart, register) {
                 Stepped::Waits(open) => Stepped::Waits(Machine::SwapOpen { number, open }),
                 Stepped::Ran(open) => Stepped::Ran(Machine::SwapOpen { number, open }),
-                Stepped::Done(old) => Stepped::Ran(Machine::Store { number, old }),
+                Stepped::Done((old, key)) => Stepped::Ran(Machine::Store { number, old, key }),
                 Stepped::Stopped(open) => Stepped::Stopped(Machine::SwapOpen { number, open }),
             },
-            Machine::Store { number, old } => match register.store(number) {
-                None => Stepped::Stopped(Machine::Store { number, old }),
-                Some(()) => Stepped::Ran(Machine::Drop { old }),
+            Machine::Store { number, old, key } => match register.store(&key, number) {
+                None => Stepped::Stopped(Machine::Store { number, old, key }),
+                Some(()) => Stepped::Ran(Machine::Drop { old, key }),
             },
             Machine::LookOpen { open } => match open.step(hart, register) {
                 Stepped::Waits(open) => Stepped::Waits(Machine::LookOpen { open }),
                 Stepped::Ran(open) => Stepped::Ran(Machine::LookOpen { open }),
-                Stepped::Done(old) => Stepped::Ran(Machine::Drop { old }),
+                Stepped::Done((old, key)) => Stepped::Ran(Machine::Drop { old, key }),
                 Stepped::Stopped(open) => Stepped::Stopped(Machine::LookOpen { open }),
             },
-            Machine::Drop { old } => {
-                register.release();
+            Machine::Drop { old, key } => {
+                register.release(key);
                 Stepped::Done(old)
             }
         }
@@ -191,9 +262,27 @@ impl Machine {
     {
         match self {
             Machine::SwapOpen { number: _, open } => open.kind(),
-            Machine::Store { number: _, old: _ } => Kind::Store,
+            Machine::Store {
+                number: _,
+                old: _,
+                key: _,
+            } => Kind::Store,
             Machine::LookOpen { open } => open.kind(),
-            Machine::Drop { old: _ } => Kind::Drop,
+            Machine::Drop { old: _, key: _ } => Kind::Drop,
+        }
+    }
+
+    /// Ends it in mid-call.
+    pub fn end(self, retired: &Retired) {
+        match self {
+            Machine::SwapOpen { number: _, open } => open.end(retired),
+            Machine::Store {
+                number: _,
+                old: _,
+                key,
+            } => key.end(retired),
+            Machine::LookOpen { open } => open.end(retired),
+            Machine::Drop { old: _, key } => key.end(retired),
         }
     }
 }
@@ -205,6 +294,8 @@ pub enum Refusal {
     Busy,
     /// There are eight harts.
     NoSuchHart,
+    /// The number is no byte.
+    TooLarge,
 }
 
 /// What an event came to.
@@ -216,7 +307,7 @@ pub enum Outcome {
     Idle,
     Waits,
     Ran(Kind),
-    Done(u32),
+    Done(u8),
     /// This operation stopped the world.
     Stops,
     /// The world had stopped before.
@@ -230,129 +321,266 @@ pub enum Event {
     Step(u8),
 }
 
-/// Eight harts over one register.
-#[derive(Drop)]
-pub struct World {
-    shared: Register,
-    stopped: bool,
-    calls: Vec<Option<Machine>>,
+// Takes out what the hart does.
+fn take_out(calls: &mut [Option<Machine>; 8], hart: u8) -> Option<Machine>
+    requires { hart < 8 }
+    ensures value { slice_get calls.old hart ≡ Some result }
+    ensures after { calls.new ≡ slice_set calls.old hart None }
+    ensures none { slice_get calls.new hart ≡ Some None }
+{
+    std::mem::replace(&mut calls[hart as usize], None)
 }
 
-impl World {
-    /// Eight idle harts over this number, on a device that takes `fuse` writes.
-    pub fn new(alloc: Global, count: u32, fuse: u32) -> Result<World, AllocError>
-        ensures eight { IfOk result (λ w. HasEight w) }
-        ensures rests { IfOk result (λ w. plain_of w ≡ erase swaps code (fresh swaps (rest count fuse))) }
+// Puts back what a hart does.
+fn put_back(calls: &mut [Option<Machine>; 8], hart: u8, call: Option<Machine>)
+    requires { slice_get calls.old hart ≡ Some None }
+    ensures { calls.new ≡ slice_set calls.old hart call }
+{
+    match std::mem::replace(&mut calls[hart as usize], call) {
+        None => {}
+        Some(_other) => unreachable!(),
+    }
+}
+
+// A start of a hart that does this.
+fn start(doing: Option<Machine>, hart: u8, call: Call) -> (Option<Machine>, Outcome)
+    requires eight { hart < 8 }
+    requires fits { HartFits hart doing }
+    ensures makes { (busy : ℕ → Bool) (c : Cell) (b : Bool) → hart_start swaps code hart (call_of call) busy c b (program_at machine_of doing) ≡ record { came = outcome_of result.1; left = program_at machine_of result.0; shared = c; stopped = b } }
+    ensures fits { HartFits hart result.0 }
+{
+    match doing {
+        Some(other) => (Some(other), Outcome::Refused(Refusal::Busy)),
+        None => {
+            if call.fits() {
+                (Some(Machine::new(call)), Outcome::Started)
+            } else {
+                (None, Outcome::Refused(Refusal::TooLarge))
+            }
+        }
+    }
+}
+
+// A step of a hart that does this; and whether the world has stopped.
+fn step<D: Device>(
+    doing: Option<Machine>,
+    hart: u8,
+    register: &mut Register<D>,
+    stopped: bool,
+) -> (Option<Machine>, Outcome, bool)
+    requires may { stopped ≡ false → MayOf swaps code hart register.old (program_at machine_of doing) }
+    requires fits { HartFits hart doing }
+    ensures makes { hart_step swaps code hart (said result.1 register.new) register.old stopped (program_at machine_of doing) ≡ record { came = outcome_of result.1; left = program_at machine_of result.0; shared = register.new; stopped = result.2 } }
+    ensures honest { PlainHonestStep swaps code hart (said result.1 register.new) register.old stopped (program_at machine_of doing) }
+    ensures fits { HartFits hart result.0 }
+{
+    match doing {
+        None => (None, Outcome::Idle, stopped),
+        Some(call) => {
+            if stopped {
+                return (Some(call), Outcome::Stopped, true);
+            }
+            let kind = call.kind();
+            match call.step(hart, register) {
+                Stepped::Waits(call) => (Some(call), Outcome::Waits, false),
+                Stepped::Ran(call) => (Some(call), Outcome::Ran(kind), false),
+                Stepped::Done(reply) => (None, Outcome::Done(reply), false),
+                Stepped::Stopped(call) => (Some(call), Outcome::Stops, true),
+            }
+        }
+    }
+}
+
+// Ends what a hart does.
+fn end(doing: Option<Machine>, retired: &Retired) {
+    match doing {
+        None => {}
+        Some(call) => call.end(retired),
+    }
+}
+
+fn end_all(calls: [Option<Machine>; 8], retired: &Retired) {
+    let [a, b, c, d, e, f, g, h] = calls;
+    end(a, retired);
+    end(b, retired);
+    end(c, retired);
+    end(d, retired);
+    end(e, retired);
+    end(f, retired);
+    end(g, retired);
+    end(h, retired);
+}
+
+/// Eight harts over one register. It must be unmounted.
+pub struct World<D: Device> {
+    register: Register<D>,
+    stopped: bool,
+    calls: [Option<Machine>; 8],
+}
+
+impl<D: Device> Model for World<D> {
+    ghost use Rattle.atomic_programs.specs.CellCode.{Harts, IsWorld};
+
+    ghost Value = { Harts };
+
+    ghost view = { λ w. record { shared = w.register; stopped = w.stopped; calls = w.calls } };
+
+    ghost invariant = { λ w. IsWorld (record { shared = w.register; stopped = w.stopped; calls = w.calls }) };
+}
+
+impl<D: Device> World<D> {
+    /// Eight idle harts over this device; it is given back where it fails, or its number is no byte.
+    pub fn new(device: D) -> Result<World<D>, D>
+        ensures byte { IfOk result (λ w. D.number device < 256) }
+        ensures rests { IfOk result (λ w. plain_of w ≡ erase swaps code (fresh swaps (rest (D.number device) (D.failures device)))) }
+        ensures err { IfErr result (λ d. D.number d ≡ D.number device) }
     {
-        let mut calls = Vec::with_capacity(alloc, HARTS as usize)?;
-        for _ in 0..HARTS {
-            calls.push(None)?;
+        let mut device = device;
+        let number = match device.get() {
+            Ok(number) => number,
+            Err(Fault) => return Err(device),
+        };
+        if number >= LIMIT {
+            return Err(device);
         }
         Ok(World {
-            shared: Register::new(count, fuse),
+            register: Register::new(device),
             stopped: false,
-            calls,
+            calls: [None, None, None, None, None, None, None, None],
         })
     }
 
     /// Begins a call.
     pub fn start(&mut self, hart: u8, call: Call) -> Outcome
-        requires { HasEight self.old }
-        ensures eight { HasEight self.new }
         ensures makes { plain_makes swaps code (StartOf hart (call_of call)) (plain_of self.old) ≡ record { came = outcome_of result; after = plain_of self.new } }
     {
-        if hart >= HARTS {
+        let calls = &self.calls;
+        if hart as usize >= calls.len() {
             return Outcome::Refused(Refusal::NoSuchHart);
         }
-        let slot = &mut self.calls[hart as usize];
-        if slot.is_some() {
-            return Outcome::Refused(Refusal::Busy);
-        }
-        *slot = Some(Machine::new(call));
-        Outcome::Started
+        let doing = take_out(&mut self.calls, hart);
+        let (doing, outcome) = start(doing, hart, call);
+        put_back(&mut self.calls, hart, doing);
+        outcome
     }
 
     /// One operation of a hart's call.
     pub fn step(&mut self, hart: u8) -> Outcome
-        requires { HasEight self.old }
-        ensures eight { HasEight self.new }
-        ensures makes { plain_makes swaps code (StepOf hart) (plain_of self.old) ≡ record { came = outcome_of result; after = plain_of self.new } }
+        ensures makes { plain_makes swaps code (StepOf hart (said result self.new.shared)) (plain_of self.old) ≡ record { came = outcome_of result; after = plain_of self.new } }
+        ensures honest { PlainHonest swaps code (StepOf hart (said result self.new.shared)) (plain_of self.old) }
     {
-        if hart >= HARTS {
+        let calls = &self.calls;
+        if hart as usize >= calls.len() {
             return Outcome::Idle;
         }
-        let slot = &mut self.calls[hart as usize];
-        match slot.take() {
-            None => Outcome::Idle,
-            Some(call) => {
-                if self.stopped {
-                    *slot = Some(call);
-                    return Outcome::Stopped;
-                }
-                let kind = call.kind();
-                match call.step(hart, &mut self.shared) {
-                    Stepped::Waits(call) => {
-                        *slot = Some(call);
-                        Outcome::Waits
-                    }
-                    Stepped::Ran(call) => {
-                        *slot = Some(call);
-                        Outcome::Ran(kind)
-                    }
-                    Stepped::Done(reply) => Outcome::Done(reply),
-                    Stepped::Stopped(call) => {
-                        *slot = Some(call);
-                        self.stopped = true;
-                        Outcome::Stops
-                    }
-                }
-            }
-        }
+        let doing = take_out(&mut self.calls, hart);
+        let (doing, outcome, stopped) = step(doing, hart, &mut self.register, self.stopped);
+        put_back(&mut self.calls, hart, doing);
+        self.stopped = stopped;
+        outcome
     }
 
     /// One event.
     pub fn event(&mut self, event: Event) -> Outcome
-        requires { HasEight self.old }
-        ensures eight { HasEight self.new }
-        ensures makes { plain_makes swaps code (event_of event) (plain_of self.old) ≡ record { came = outcome_of result; after = plain_of self.new } }
+        ensures makes { plain_makes swaps code (with_answer (event_of event) (said result self.new.shared)) (plain_of self.old) ≡ record { came = outcome_of result; after = plain_of self.new } }
+        ensures honest { PlainHonest swaps code (with_answer (event_of event) (said result self.new.shared)) (plain_of self.old) }
     {
         match event {
             Event::Start(hart, call) => self.start(hart, call),
             Event::Step(hart) => self.step(hart),
         }
     }
+
+    /// Ends the world, in mid-call too, and gives its device back.
+    pub fn unmount(self) -> D
+        ensures number { D.number result ≡ self.shared.count }
+        ensures faults { D.failures result ≡ self.shared.faults }
+    {
+        let World {
+            register,
+            stopped: _,
+            calls,
+        } = self;
+        let (device, retired) = register.end();
+        end_all(calls, &retired);
+        device
+    }
 }
 
-/// These events, one after the other: with its history, the world is what the run makes of it.
-pub fn run(world: &mut World, events: &[Event])
-    requires { HasEight world.old }
-    ensures eight { HasEight world.new }
-    ensures run { (s : State swaps) → erase swaps code s ≡ plain_of world.old → erase swaps code (run_of swaps (events_of events.now) s) ≡ plain_of world.new }
+/// These events, one after the other, and what they came to. With its history, the world is what the run makes of it, where
+/// the device answers as it may; from a world at rest, one list of steps explains the replies.
+pub fn run<D: Device>(
+    world: &mut World<D>,
+    alloc: Global,
+    events: &[Event],
+) -> Result<Vec<Outcome>, AllocError>
+    ensures came { IfOk result (λ v. (s : State swaps) → erase swaps code s ≡ plain_of world.old → CameTo swaps code s (events_of events.now) (outcomes_of v.items) (plain_of world.new)) }
+    ensures shown { IfOk result (λ v. (w : cell.World) → cell.Inv w → ((h : ℕ) → cell.own_of h w ≡ None) → erase swaps code (fresh swaps w) ≡ plain_of world.old → Shown swaps code w (events_of events.now) (outcomes_of v.items) (plain_of world.new)) }
+    ensures err { IfErr result (λ e. world.new ≡ world.old) }
 {
+    let mut came = Vec::with_capacity(alloc, events.len())?;
     for event in events {
-        let _outcome = world.event(*event);
+        let outcome = world.event(*event);
+        match came.push(outcome) {
+            Ok(()) => {}
+            Err(_) => unreachable!(),
+        }
+    }
+    Ok(came)
+}
+
+/// A world over this device, and these events: whatever the harts do and wherever the device fails, one list of steps explains
+/// the replies. The device is given back where its number is no byte, where it fails at once, or where memory is refused.
+pub fn show<D: Device>(
+    device: D,
+    alloc: Global,
+    events: &[Event],
+) -> Result<(World<D>, Vec<Outcome>), D>
+    ensures shown { IfOk result (λ r. Shown swaps code (rest (D.number device) (D.failures device)) (events_of events.now) (outcomes_of r.1.items) (plain_of r.0)) }
+    ensures err { IfErr result (λ d. D.number d ≡ D.number device) }
+{
+    let mut world = World::new(device)?;
+    match run(&mut world, alloc, events) {
+        Ok(came) => Ok((world, came)),
+        Err(AllocError) => Err(world.unmount()),
     }
 }
 
 #[cfg(test)]
 mod tests {
     use super::*;
+    use crate::device::Fused;
     use std::process::Abort;
 
-    // A world, made once more where memory was refused.
-    fn world(rt: &impl Abort, alloc: Global, count: u32, fuse: u32) -> World
-        ensures { HasEight result }
-    {
-        match World::new(alloc, count, fuse) {
+    fn world(rt: &impl Abort, number: u32, left: u32) -> World<Fused> {
+        let device = Fused {
+            number,
+            left,
+            faults: 0,
+        };
+        match World::new(device) {
             Ok(world) => world,
-            Err(AllocError) => World::new(alloc, count, fuse).expect(rt, "memory the second time"),
+            Err(_) => panic!(rt; "the number is a byte"),
         }
     }
 
-    /// Two harts meet: one waits, and sees what the other put in; then the device fails.
+    // These events, once more where memory was refused.
+    fn ran(
+        rt: &impl Abort,
+        alloc: Global,
+        world: &mut World<Fused>,
+        events: &[Event],
+    ) -> Vec<Outcome> {
+        match run(world, alloc, events) {
+            Ok(came) => came,
+            Err(AllocError) => run(world, alloc, events).expect(rt, "memory the second time"),
+        }
+    }
+
+    /// Two harts meet: one waits, and sees what the other put in; then the device fails, and the world ends in mid-call.
     #[test]
     fn two_harts_meet(rt: HostRuntime) {
-        let mut world = world(&rt, rt.alloc(), 5, 1);
+        let mut world = world(&rt, 5, 1);
         let events = [
             Event::Start(0, Call::Swap(7)),
             Event::Step(0),
@@ -361,7 +589,10 @@ mod tests {
             Event::Step(0),
             Event::Step(0),
         ];
-        run(&mut world, &events);
+        let came = ran(&rt, rt.alloc(), &mut world, &events);
+        assert!(rt; came.len() == 6);
+        assert!(rt; matches!(came[3], Outcome::Waits));
+        assert!(rt; matches!(came[5], Outcome::Ran(Kind::Store)));
         assert!(rt;
             matches!(
                 world.start(8, Call::Look),
@@ -369,13 +600,21 @@ mod tests {
             )
         );
         assert!(rt; matches!(world.start(0, Call::Look), Outcome::Refused(Refusal::Busy)));
+        assert!(rt;
+            matches!(
+                world.start(2, Call::Swap(256)),
+                Outcome::Refused(Refusal::TooLarge)
+            )
+        );
         assert!(rt; matches!(world.step(1), Outcome::Waits));
         assert!(rt; matches!(world.step(0), Outcome::Done(5)));
         assert!(rt; matches!(world.step(0), Outcome::Idle));
         assert!(rt; matches!(world.step(1), Outcome::Ran(Kind::Take)));
         assert!(rt; matches!(world.step(1), Outcome::Ran(Kind::Fetch)));
         assert!(rt; matches!(world.step(1), Outcome::Done(7)));
-        run(
+        let came = ran(
+            &rt,
+            rt.alloc(),
             &mut world,
             &[
                 Event::Start(2, Call::Swap(9)),
@@ -383,9 +622,32 @@ mod tests {
                 Event::Step(2),
             ],
         );
+        assert!(rt; came.len() == 3);
         assert!(rt; matches!(world.step(2), Outcome::Stops));
         assert!(rt; matches!(world.step(2), Outcome::Stopped));
         assert!(rt; matches!(world.start(3, Call::Look), Outcome::Started));
         assert!(rt; matches!(world.step(3), Outcome::Stopped));
+        let device = world.unmount();
+        assert!(rt; device.number == 9);
+        assert!(rt; device.faults == 1);
+    }
+
+    /// A number that is no byte is given back.
+    #[test]
+    fn no_byte_is_refused(rt: HostRuntime) {
+        let device = Fused {
+            number: 256,
+            left: 1,
+            faults: 0,
+        };
+        match World::new(device) {
+            Ok(world) => {
+                let _device = world.unmount();
+                panic!(rt; "256 is no byte");
+            }
+            Err(device) => {
+                assert!(rt; device.number == 256);
+            }
+        }
     }
 }

@@ -2,7 +2,7 @@
 //! project to use at its own theory, and each function here carries one of them at an example of this crate.
 
 ghost use Rattle.std.specs.Prelude.{◌≡◌, ℕ, ◌∷◌, [], List, Option, None, true, false};
-ghost use Rattle.atomic_programs.specs.Calls.{Event, Start, Step, Finished, Placed, Outcome, Started, Refused, WasIdle, DidWait, DidRun, DidEnd, DidStop, WasStopped, run, outcomes, fresh};
+ghost use Rattle.atomic_programs.specs.Calls.{Event, Start, Step, Finished, Placed, Outcome, Started, Refused, WasIdle, DidWait, DidRun, DidEnd, DidStop, WasStopped, run, outcomes, fresh, AllHonest};
 ghost use Rattle.atomic_programs.specs.Explained.{Explained, Steady, In, history};
 ghost use Rattle.atomic_programs.specs.Trace.{Traced, happened};
 ghost use Rattle.atomic_programs.specs.Cell as cell;
@@ -12,7 +12,7 @@ ghost use Rattle.atomic_programs.specs.Staged as staged;
 /// Over every list of events, from any world that holds and where every hart is idle, the cell's replies are explained by
 /// one list of steps.
 pub fn cell_explained()
-    ensures { (w : cell.World) (events : List (Event cell.Call)) → cell.Inv w → ((h : ℕ) → cell.own_of h w ≡ None) → Explained cell.swaps w.value (run cell.swaps events (fresh cell.swaps w)) }
+    ensures { (w : cell.World) (events : List (Event cell.Call cell.Outside)) → cell.Inv w → ((h : ℕ) → cell.own_of h w ≡ None) → AllHonest cell.swaps events (fresh cell.swaps w) → Explained cell.swaps w.value (run cell.swaps events (fresh cell.swaps w)) }
 {}
 
 /// A step that waits, a refused start and a step in a stopped world change nothing; a stopped world stays stopped, and
@@ -24,29 +24,30 @@ pub fn cell_steady()
 /// The calls that have finished or are under way are just those that the events with their outcomes show: each reply that was
 /// given is a finished call's, and each of these was started and gave its reply.
 pub fn cell_traced()
-    ensures { (w : cell.World) (events : List (Event cell.Call)) → Traced cell.swaps (λ x. In x (happened cell.swaps events (fresh cell.swaps w))) (run cell.swaps events (fresh cell.swaps w)) }
+    ensures { (w : cell.World) (events : List (Event cell.Call cell.Outside)) → Traced cell.swaps (λ x. In x (happened cell.swaps events (fresh cell.swaps w))) (run cell.swaps events (fresh cell.swaps w)) }
 {}
 
-/// There are worlds that hold and where every hart is idle: any number, any fuse.
-pub fn cell_rests(count: u32, fuse: u32)
-    ensures holds { cell.Inv (cell.rest count fuse) }
-    ensures idle { (h : ℕ) → cell.own_of h (cell.rest count fuse) ≡ None }
+/// There are worlds that hold and where every hart is idle: any byte, on a device that has failed so often.
+pub fn cell_rests(count: u8, faults: u32)
+    ensures holds { cell.Inv (cell.rest count faults) }
+    ensures idle { (h : ℕ) → cell.own_of h (cell.rest count faults) ≡ None }
 {}
 
 /// Two calls overlap: one waits for the other, both finish, and the list has their steps in the order of the number.
 pub fn cell_finishes()
-    ensures outcomes { outcomes cell.swaps (Start 0 (cell.Swap 7) ∷ Step 0 ∷ Start 1 cell.Look ∷ Step 1 ∷ Step 0 ∷ Step 0 ∷ Step 0 ∷ Step 1 ∷ Step 1 ∷ Step 1 ∷ Step 1 ∷ []) (fresh cell.swaps (cell.rest 5 9)) ≡ Started ∷ DidRun cell.Take ∷ Started ∷ DidWait ∷ DidRun cell.Fetch ∷ DidRun (cell.Store 7) ∷ DidEnd 5 ∷ DidRun cell.Take ∷ DidRun cell.Fetch ∷ DidEnd 7 ∷ WasIdle ∷ [] }
-    ensures history { history cell.swaps (run cell.swaps (Start 0 (cell.Swap 7) ∷ Step 0 ∷ Start 1 cell.Look ∷ Step 1 ∷ Step 0 ∷ Step 0 ∷ Step 0 ∷ Step 1 ∷ Step 1 ∷ Step 1 ∷ []) (fresh cell.swaps (cell.rest 5 9))) ≡ record { number = 5; hart = 0; call = 0; step = cell.Swapped 7 5 } ∷ record { number = 8; hart = 1; call = 2; step = cell.Saw 7 } ∷ [] }
+    ensures outcomes { outcomes cell.swaps (Start 0 (cell.Swap 7) ∷ Step 0 cell.Passes ∷ Start 1 cell.Look ∷ Step 1 cell.Passes ∷ Step 0 cell.Passes ∷ Step 0 cell.Passes ∷ Step 0 cell.Passes ∷ Step 1 cell.Passes ∷ Step 1 cell.Passes ∷ Step 1 cell.Passes ∷ Step 1 cell.Passes ∷ []) (fresh cell.swaps (cell.rest 5 0)) ≡ Started ∷ DidRun cell.Take ∷ Started ∷ DidWait ∷ DidRun cell.Fetch ∷ DidRun (cell.Store 7) ∷ DidEnd 5 ∷ DidRun cell.Take ∷ DidRun cell.Fetch ∷ DidEnd 7 ∷ WasIdle ∷ [] }
+    ensures history { history cell.swaps (run cell.swaps (Start 0 (cell.Swap 7) ∷ Step 0 cell.Passes ∷ Start 1 cell.Look ∷ Step 1 cell.Passes ∷ Step 0 cell.Passes ∷ Step 0 cell.Passes ∷ Step 0 cell.Passes ∷ Step 1 cell.Passes ∷ Step 1 cell.Passes ∷ Step 1 cell.Passes ∷ []) (fresh cell.swaps (cell.rest 5 0))) ≡ record { number = 5; hart = 0; call = 0; step = cell.Swapped 7 5 } ∷ record { number = 8; hart = 1; call = 2; step = cell.Saw 7 } ∷ [] }
 {}
 
 /// The device fails in a store, which stops the world: each later step says so, and starts are taken or refused as before.
 pub fn cell_stops()
-    ensures { outcomes cell.swaps (Start 0 (cell.Swap 7) ∷ Step 0 ∷ Step 0 ∷ Step 0 ∷ Step 0 ∷ Start 0 cell.Look ∷ Start 1 cell.Look ∷ Start 8 cell.Look ∷ Step 1 ∷ Step 2 ∷ []) (fresh cell.swaps (cell.rest 5 0)) ≡ Started ∷ DidRun cell.Take ∷ DidRun cell.Fetch ∷ DidStop ∷ WasStopped ∷ Refused cell.Busy ∷ Started ∷ Refused cell.NoSuchHart ∷ WasStopped ∷ WasIdle ∷ [] }
+    ensures outcomes { outcomes cell.swaps (Start 0 (cell.Swap 7) ∷ Step 0 cell.Passes ∷ Step 0 cell.Passes ∷ Step 0 (cell.Fails 7) ∷ Step 0 cell.Passes ∷ Start 0 cell.Look ∷ Start 1 cell.Look ∷ Start 8 cell.Look ∷ Step 1 cell.Passes ∷ Step 2 cell.Passes ∷ []) (fresh cell.swaps (cell.rest 5 0)) ≡ Started ∷ DidRun cell.Take ∷ DidRun cell.Fetch ∷ DidStop ∷ WasStopped ∷ Refused cell.Busy ∷ Started ∷ Refused cell.NoSuchHart ∷ WasStopped ∷ WasIdle ∷ [] }
+    ensures honest { AllHonest cell.swaps (Start 0 (cell.Swap 7) ∷ Step 0 cell.Passes ∷ Step 0 cell.Passes ∷ Step 0 (cell.Fails 7) ∷ Step 0 cell.Passes ∷ Start 0 cell.Look ∷ Start 1 cell.Look ∷ Start 8 cell.Look ∷ Step 1 cell.Passes ∷ Step 2 cell.Passes ∷ []) (fresh cell.swaps (cell.rest 5 0)) }
 {}
 
 /// The same of the desk, where a hart's step may be placed by another hart, and a start may reserve an idle one.
 pub fn desk_explained()
-    ensures { (w : desk.World) (events : List (Event desk.Call)) → ((h : ℕ) → desk.Idle h w) → Explained desk.desk w.book (run desk.desk events (fresh desk.desk w)) }
+    ensures { (w : desk.World) (events : List (Event desk.Call (Unit {0}))) → ((h : ℕ) → desk.Idle h w) → Explained desk.desk w.book (run desk.desk events (fresh desk.desk w)) }
 {}
 
 /// Every hart is idle at a desk at rest.
@@ -56,27 +57,27 @@ pub fn desk_rests(number: u32)
 
 /// A request waits until another hart serves it; its step is placed at that hart's event.
 pub fn desk_helps()
-    ensures outcomes { outcomes desk.desk (Start 0 (desk.Request 7) ∷ Step 0 ∷ Step 0 ∷ Start 1 (desk.Help 0) ∷ Step 1 ∷ Step 0 ∷ []) (fresh desk.desk (desk.rest 5 (λ h. 0))) ≡ Started ∷ DidRun (desk.Ask 7) ∷ DidWait ∷ Started ∷ DidEnd (desk.Helped true) ∷ DidEnd (desk.Got 5) ∷ [] }
-    ensures history { history desk.desk (run desk.desk (Start 0 (desk.Request 7) ∷ Step 0 ∷ Step 0 ∷ Start 1 (desk.Help 0) ∷ Step 1 ∷ []) (fresh desk.desk (desk.rest 5 (λ h. 0)))) ≡ record { number = 4; hart = 0; call = 0; step = desk.Swapped 7 5 } ∷ [] }
+    ensures outcomes { outcomes desk.desk (Start 0 (desk.Request 7) ∷ Step 0 tt ∷ Step 0 tt ∷ Start 1 (desk.Help 0) ∷ Step 1 tt ∷ Step 0 tt ∷ []) (fresh desk.desk (desk.rest 5 (λ h. 0))) ≡ Started ∷ DidRun (desk.Ask 7) ∷ DidWait ∷ Started ∷ DidEnd (desk.Helped true) ∷ DidEnd (desk.Got 5) ∷ [] }
+    ensures history { history desk.desk (run desk.desk (Start 0 (desk.Request 7) ∷ Step 0 tt ∷ Step 0 tt ∷ Start 1 (desk.Help 0) ∷ Step 1 tt ∷ []) (fresh desk.desk (desk.rest 5 (λ h. 0)))) ≡ record { number = 4; hart = 0; call = 0; step = desk.Swapped 7 5 } ∷ [] }
 {}
 
 /// A hart that is reserved for another's call starts nothing until that call's reply.
 pub fn desk_reserves()
-    ensures { outcomes desk.desk (Start 0 (desk.Give 1) ∷ Start 1 (desk.Help 0) ∷ Step 0 ∷ Start 1 (desk.Help 0) ∷ Step 0 ∷ Start 1 (desk.Help 0) ∷ Start 0 (desk.Give 1) ∷ []) (fresh desk.desk (desk.rest 5 (λ h. 0))) ≡ Started ∷ Refused desk.Reserved ∷ DidRun (desk.Hand 1) ∷ Refused desk.Reserved ∷ DidEnd desk.Given ∷ Started ∷ Refused desk.Busy ∷ [] }
+    ensures { outcomes desk.desk (Start 0 (desk.Give 1) ∷ Start 1 (desk.Help 0) ∷ Step 0 tt ∷ Start 1 (desk.Help 0) ∷ Step 0 tt ∷ Start 1 (desk.Help 0) ∷ Start 0 (desk.Give 1) ∷ []) (fresh desk.desk (desk.rest 5 (λ h. 0))) ≡ Started ∷ Refused desk.Reserved ∷ DidRun (desk.Hand 1) ∷ Refused desk.Reserved ∷ DidEnd desk.Given ∷ Started ∷ Refused desk.Busy ∷ [] }
 {}
 
 /// After a wipe no reply is explained: the list has a step that the number didn't take.
 pub fn desk_unclean()
-    ensures clean { (run desk.desk (Start 0 desk.Reset ∷ Step 0 ∷ []) (fresh desk.desk (desk.rest 5 (λ h. 0)))).world.clean ≡ false }
-    ensures history { history desk.desk (run desk.desk (Start 0 desk.Reset ∷ Step 0 ∷ Start 0 (desk.Request 7) ∷ Step 0 ∷ Start 1 (desk.Help 0) ∷ Step 1 ∷ []) (fresh desk.desk (desk.rest 5 (λ h. 0)))) ≡ record { number = 5; hart = 0; call = 2; step = desk.Swapped 7 0 } ∷ [] }
+    ensures clean { (run desk.desk (Start 0 desk.Reset ∷ Step 0 tt ∷ []) (fresh desk.desk (desk.rest 5 (λ h. 0)))).world.clean ≡ false }
+    ensures history { history desk.desk (run desk.desk (Start 0 desk.Reset ∷ Step 0 tt ∷ Start 0 (desk.Request 7) ∷ Step 0 tt ∷ Start 1 (desk.Help 0) ∷ Step 1 tt ∷ []) (fresh desk.desk (desk.rest 5 (λ h. 0)))) ≡ record { number = 5; hart = 0; call = 2; step = desk.Swapped 7 0 } ∷ [] }
 {}
 
 /// The cell's calls over the machine below, where a store takes two operations: explained by lifting what was shown above.
 pub fn staged_explained()
-    ensures { (w : staged.World) (events : List (Event cell.Call)) → cell.Inv w.whole → ((h : ℕ) → cell.own_of h w.whole ≡ None) → Explained staged.staged_swaps w.whole.value (run staged.staged_swaps events (fresh staged.staged_swaps w)) }
+    ensures { (w : staged.World) (events : List (Event cell.Call cell.Outside)) → cell.Inv w.whole → ((h : ℕ) → cell.own_of h w.whole ≡ None) → AllHonest staged.staged_swaps events (fresh staged.staged_swaps w) → Explained staged.staged_swaps w.whole.value (run staged.staged_swaps events (fresh staged.staged_swaps w)) }
 {}
 
 /// There the store acts at its second operation.
 pub fn staged_finishes()
-    ensures { history staged.staged_swaps (run staged.staged_swaps (Start 0 (cell.Swap 7) ∷ Step 0 ∷ Step 0 ∷ Step 0 ∷ Step 0 ∷ Step 0 ∷ []) (fresh staged.staged_swaps (staged.rest 5 9))) ≡ record { number = 4; hart = 0; call = 0; step = cell.Swapped 7 5 } ∷ [] }
+    ensures { history staged.staged_swaps (run staged.staged_swaps (Start 0 (cell.Swap 7) ∷ Step 0 cell.Passes ∷ Step 0 cell.Passes ∷ Step 0 cell.Passes ∷ Step 0 cell.Passes ∷ Step 0 cell.Passes ∷ []) (fresh staged.staged_swaps (staged.rest 5 0))) ≡ record { number = 4; hart = 0; call = 0; step = cell.Swapped 7 5 } ∷ [] }
 {}
