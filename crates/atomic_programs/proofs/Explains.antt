@@ -476,10 +476,10 @@ Keeps-moved L laws base h s r op ps (Ret reply) w left k st falls wp =
 
 pub Keeps-tried : (L : Theory) (laws : Lawful L) (base : L.M.Tree) (h : ℕ) (s : State L) (r : Run L) (op : L.M.Op) (ps : L.M.Answer op → List (ℕ × L.M.Step)) (c : L.M.Answer op → P L.M L.Reply) (wait : Type 0) (x : Did (L.M.Answer op) L.M.World)
     → (e : s.running h ≡ Some r) → s.stopped ≡ false → (k : Keeps L base s)
-    → Good L.M (L.M.Answer op) h ps (k.going h r e).left (Begun L r.call) r.done s.world wait x (λ l a u. Wp L.M h (Begun L r.call) (Ends L h r.call) (c a) l (onto (own h (ps a)) r.done) u) → Keeps L base (tried L h s r op ps c x).after
+    → Good L.M (L.M.Answer op) h ps (L.M.more op) (k.going h r e).left (Begun L r.call) r.done s.world wait x (λ l a u. Wp L.M h (Begun L r.call) (Ends L h r.call) (c a) l (onto (own h (ps a)) r.done) u) → Keeps L base (tried L h s r op ps c x).after
 Keeps-tried L laws base h s r op ps c wait Waits e y k g = Keeps-unchanged L base s k
 Keeps-tried L laws base h s r op ps c wait (Ran a w) e y k g =
-    Keeps-moved L laws base h s r op (ps a) (c a) w g.left k (record { is = e; goes_on = y; inv = g.inv; kept = g.kept; goes = g.goes; clean = g.clean; begun = g.begun }) g.falls g.next
+    Keeps-moved L laws base h s r op (ps a) (c a) w g.left k (record { is = e; goes_on = y; inv = g.inv; kept = g.kept; goes = g.goes; clean = g.clean; begun = g.begun }) (let b : g.left + L.M.more op < (k.going h r e).left = g.falls in omega arith) g.next
 Keeps-tried L laws base h s r op ps c wait (Stops w) e y k g = Keeps-stops L laws base h s r w e k g
 
 pub Keeps-prog : (L : Theory) (laws : Lawful L) (base : L.M.Tree) (h : ℕ) (x : L.M.Outside) (s : State L) (r : Run L) (p : P L.M L.Reply)
@@ -542,7 +542,7 @@ module _ (L : Theory) (laws : Lawful L) (base : L.M.Tree) (s : State L) (k : Kee
         rest = c;
         is = e;
         asks = is;
-        may = subst (λ (d : Did (L.M.Answer op) L.M.World). Good L.M (L.M.Answer op) h (λ a. L.M.places h op a (m a) s.world) g.left (Begun L r.call) r.done s.world (L.M.MayWait h op s.world) d (λ l a u. Wp L.M h (Begun L r.call) (Ends L h r.call) (c a) l (onto (own h (L.M.places h op a (m a) s.world)) r.done) u)) none
+        may = subst (λ (d : Did (L.M.Answer op) L.M.World). Good L.M (L.M.Answer op) h (λ a. L.M.places h op a (m a) s.world) (L.M.more op) g.left (Begun L r.call) r.done s.world (L.M.MayWait h op s.world) d (λ l a u. Wp L.M h (Begun L r.call) (Ends L h r.call) (c a) l (onto (own h (L.M.places h op a (m a) s.world)) r.done) u)) none
             ((wp s.world [] (laws.laws.same h s.world) (inv_of L s.stopped s.world k.holds y)).2 x t);
       }
   wait_tried r op m c (Ran a u) e is y t none w = absurd (wait_moved (c a) w)

@@ -1,5 +1,5 @@
 -- The calls at the desk do as they should.
-use Rattle.std.proofs.Common.{◌≡◌, ◌≢◌, ℕ, Option, Some, None, Bool, true, false, List, [], ◌∷◌, ◌++◌, refl, sym, ◌∙◌, ap, subst, arith, ◌⊎◌, inl, inr}
+use Rattle.std.proofs.Common.{◌≡◌, ◌<◌, ◌≢◌, ℕ, Option, Some, None, Bool, true, false, List, [], ◌∷◌, ◌++◌, refl, sym, ◌∙◌, ap, subst, arith, ◌⊎◌, inl, inr}
 use Rattle.std.proofs.lemmas.Bool.{eqb-true, eqb-false, eq-eqb, ne_eqb}
 use Rattle.std.specs.Prelude.{nat_eq, if◌then◌else◌}
 use Rattle.atomic_programs.specs.Prog.{Ret, Do, unmarked}
@@ -75,15 +75,15 @@ collect_ok h n w asked lends v xs o inv = at (subst (λ (z : Slot). Fared z xs (
     Goal s ys =
         (v.clean ≡ true → Grown (Begun desk (Request n)) ys [])
         × Unit {0}
-        × ((x : Unit {0}) → Unit {0} → Good machine ℕ h (λ a. []) 1 (Begun desk (Request n)) (onto ys []) v (IsAsked s) (collect_if h v s) (λ l a u. Ends desk h (Request n) (Got a) (onto ys []) u))
+        × ((x : Unit {0}) → Unit {0} → Good machine ℕ h (λ a. []) 0 1 (Begun desk (Request n)) (onto ys []) v (IsAsked s) (collect_if h v s) (λ l a u. Ends desk h (Request n) (Got a) (onto ys []) u)) × (0 < 1)
 
     goal : (s : Slot) (ys : List Step) → v.slots h ≡ s → xs ≡ ys → Goal s ys
-        → (v.clean ≡ true → Grown (Begun desk (Request n)) xs []) × Unit {0} × ((x : Unit {0}) → Unit {0} → Good machine ℕ h (λ a. []) 1 (Begun desk (Request n)) (onto xs []) v (IsAsked (v.slots h)) (collect_if h v (v.slots h)) (λ l a u. Ends desk h (Request n) (Got a) (onto xs []) u))
+        → (v.clean ≡ true → Grown (Begun desk (Request n)) xs []) × Unit {0} × ((x : Unit {0}) → Unit {0} → Good machine ℕ h (λ a. []) 0 1 (Begun desk (Request n)) (onto xs []) v (IsAsked (v.slots h)) (collect_if h v (v.slots h)) (λ l a u. Ends desk h (Request n) (Got a) (onto xs []) u)) × (0 < 1)
     goal s ys e f g = subst (λ (z : Slot). Goal z xs) (sym e) (subst (λ (zs : List Step). Goal s zs) (sym f) g)
 
     at : ((xs ≡ []) × (v.slots h ≡ Asked n)) ⊎ ((old : ℕ) × (xs ≡ Swapped n old ∷ []) × (v.slots h ≡ Served old))
-        → (v.clean ≡ true → Grown (Begun desk (Request n)) xs []) × Unit {0} × ((x : Unit {0}) → Unit {0} → Good machine ℕ h (λ a. []) 1 (Begun desk (Request n)) (onto xs []) v (IsAsked (v.slots h)) (collect_if h v (v.slots h)) (λ l a u. Ends desk h (Request n) (Got a) (onto xs []) u))
-    at (inl a) = goal (Asked n) [] a.1 a.0 (λ y. inl refl, tt, λ _ _. tt)
+        → (v.clean ≡ true → Grown (Begun desk (Request n)) xs []) × Unit {0} × ((x : Unit {0}) → Unit {0} → Good machine ℕ h (λ a. []) 0 1 (Begun desk (Request n)) (onto xs []) v (IsAsked (v.slots h)) (collect_if h v (v.slots h)) (λ l a u. Ends desk h (Request n) (Got a) (onto xs []) u)) × (0 < 1)
+    at (inl a) = goal (Asked n) [] a.1 a.0 (λ y. inl refl, tt, λ _ _. tt, omega arith)
     at (inr a) =
         goal (Served a.0) (Swapped n a.0 ∷ []) a.2 a.1 (
           λ y. inr ([], Got a.0, refl),
@@ -98,6 +98,7 @@ collect_ok h n w asked lends v xs o inv = at (subst (λ (z : Slot). Fared z xs (
             falls = omega arith;
             next = (λ y. refl, record { slot = changed_same v.slots h Empty h refl; lends = λ j. o.lends j ∙ lends j });
           },
+          omega arith,
         )
 
 request_ok : (h n : ℕ) (w : World) → Idle h w → Wp machine h (Begun desk (Request n)) (Ends desk h (Request n)) (program (Request n)) 2 [] w
@@ -116,6 +117,7 @@ request_ok h n w idle v xs o inv =
         next = subst (λ (zs : List Step). Wp machine h (Begun desk (Request n)) (Ends desk h (Request n)) (Do Collect unmarked (λ old. Ret (Got old))) 1 (onto zs []) (record v { slots = changed v.slots h (Asked n) })) (sym at.0)
             (collect_ok h n (record v { slots = changed v.slots h (Asked n) }) (changed_same v.slots h (Asked n) h refl) (λ j. o.lends j ∙ idle.lends j));
       },
+      omega arith,
     )
 
 -- the world after hart j's request of n was served
@@ -147,16 +149,16 @@ served_keeps j n v e other = at (nat_eq other j) refl
 help_ok : (h j : ℕ) (w : World) → j ≢ h → Idle h w → Wp machine h (Begun desk (Help j)) (Ends desk h (Help j)) (program (Help j)) 2 [] w
 help_ok h j w apart idle v xs o inv =
     let at = empty_stays h w v xs o idle.slot in
-    (λ y. inl at.0, tt, λ _ _. subst Goal (sym at.0) (one (v.slots j) refl at.1))
+    (λ y. inl at.0, tt, λ _ _. subst Goal (sym at.0) (one (v.slots j) refl at.1), omega arith)
   where
     Goal : List Step → Type 0
     Goal ys =
-        Good machine Bool h (λ a. served j v.book.number (v.slots j)) 2 (Begun desk (Help j)) (onto ys []) v ⊥ (serve_if j v (v.slots j)) (λ l a u. Ends desk h (Help j) (Helped a) (onto (own h (served j v.book.number (v.slots j))) (onto ys [])) u)
+        Good machine Bool h (λ a. served j v.book.number (v.slots j)) 0 2 (Begun desk (Help j)) (onto ys []) v ⊥ (serve_if j v (v.slots j)) (λ l a u. Ends desk h (Help j) (Helped a) (onto (own h (served j v.book.number (v.slots j))) (onto ys [])) u)
 
     Serves : Slot → Type 0
-    Serves s = Good machine Bool h (λ a. served j v.book.number s) 2 (Begun desk (Help j)) [] v ⊥ (serve_if j v s) (λ l a u. Ends desk h (Help j) (Helped a) (onto (own h (served j v.book.number s)) []) u)
+    Serves s = Good machine Bool h (λ a. served j v.book.number s) 0 2 (Begun desk (Help j)) [] v ⊥ (serve_if j v s) (λ l a u. Ends desk h (Help j) (Helped a) (onto (own h (served j v.book.number s)) []) u)
 
-    none : (b : Bool) → v.slots h ≡ Empty → Fine machine h [] 2 (Begun desk (Help j)) [] v v (λ l. Ends desk h (Help j) (Helped b) [] v)
+    none : (b : Bool) → v.slots h ≡ Empty → Fine machine h [] 0 2 (Begun desk (Help j)) [] v v (λ l. Ends desk h (Help j) (Helped b) [] v)
     none b empty =
         record {
           inv = tt;
@@ -232,6 +234,7 @@ free_ok h j x w lends v xs o inv =
         falls = omega arith;
         next = subst (λ (zs : List Step). Ends desk h (Give j) Given (onto zs (Gave j x ∷ [])) (freed v)) (sym at.0) (λ y. (x, refl), record { slot = l.slot; lends = λ i. idle l i (nat_eq i j) refl });
       },
+      omega arith,
     )
   where
     freed : World → World
@@ -267,6 +270,7 @@ give_ok h j w apart lends v xs o inv =
             (subst (λ (zs : List Step). Wp machine h (Begun desk (Give j)) (Ends desk h (Give j)) (Do (Free j) unmarked (λ _. Ret Given)) 1 (Gave j (v.book.tokens h) ∷ onto zs []) handed) (sym at.0)
             (free_ok h j (v.book.tokens h) handed (record { slot = l.slot; mine = l.mine; only = l.only })));
       },
+      omega arith,
     )
   where
     handed : World
@@ -293,6 +297,7 @@ reset_ok h w idle v xs o inv =
         falls = omega arith;
         next = (λ y. absurd (never y), record { slot = at.1; lends = λ j. o.lends j ∙ idle.lends j });
       },
+      omega arith,
     )
   where
     never : false ≡ true → ⊥

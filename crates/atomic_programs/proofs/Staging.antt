@@ -32,8 +32,8 @@ begins_below B fs b = (fs, sym (below_same fs), b)
 
 -- what is so above of the whole part of a world below
 good_below : (h : ℕ) {A : Type 0} (ps : A → List (ℕ × cell.Step)) (n : ℕ) (B : List cell.Step → Type 0) (C : A → List cell.Step → cell.World → Type 0) (es : List cell.Step) (v : World) (wait : Type 0) (r : Did A cell.World)
-    → 0 < n → Good cell.machine A h ps 1 B es v.whole wait r (λ l a u. C a (onto (own h (ps a)) es) u)
-    → Good machine A h ps n (BeginsBelow layer B) es v wait (did_in (with_whole v) r) (λ l a u. Below layer h C a (onto (own h (ps a)) es) u)
+    → 0 < n → Good cell.machine A h ps 0 1 B es v.whole wait r (λ l a u. C a (onto (own h (ps a)) es) u)
+    → Good machine A h ps 0 n (BeginsBelow layer B) es v wait (did_in (with_whole v) r) (λ l a u. Below layer h C a (onto (own h (ps a)) es) u)
 good_below h ps n B C es v wait Waits few g = g
 good_below h ps n B C es v wait (Ran a c) few g =
     record {
@@ -59,21 +59,21 @@ module _ (h : ℕ) where
       from (once Take m) B C es w
       (λ v xs o i.
       let x = g v.whole xs o.0 i in
-      (λ y. inl o.0.0, x.1, λ z t. good_below h (λ a. cell.placed_by h (m a)) 2 B C (onto xs es) v (cell.MayWait h cell.Take v.whole) (cell.go h z cell.Take m v.whole) (omega arith) (x.2 z t)))
+      (λ y. inl o.0.0, x.1, λ z t. good_below h (λ a. cell.placed_by h (m a)) 2 B C (onto xs es) v (cell.MayWait h cell.Take v.whole) (cell.go h z cell.Take m v.whole) (omega arith) (x.2 z t), omega arith))
 
   fetch_atomic : (m : ℕ → Option cell.Step) → Atomic layer h cell.Fetch m
   fetch_atomic m B C es w lasts g base =
       from (once Fetch m) B C es w
       (λ v xs o i.
       let x = g v.whole xs o.0 i in
-      (λ y. inl o.0.0, x.1, λ z t. good_below h (λ a. cell.placed_by h (m a)) 2 B C (onto xs es) v ⊥ (cell.go h z cell.Fetch m v.whole) (omega arith) (x.2 z t)))
+      (λ y. inl o.0.0, x.1, λ z t. good_below h (λ a. cell.placed_by h (m a)) 2 B C (onto xs es) v ⊥ (cell.go h z cell.Fetch m v.whole) (omega arith) (x.2 z t), omega arith))
 
   drop_atomic : (m : Unit {0} → Option cell.Step) → Atomic layer h cell.Drop m
   drop_atomic m B C es w lasts g base =
       from (once Drop m) B C es w
       (λ v xs o i.
       let x = g v.whole xs o.0 i in
-      (λ y. inl o.0.0, x.1, λ z t. good_below h (λ a. cell.placed_by h (m a)) 2 B C (onto xs es) v ⊥ (cell.go h z cell.Drop m v.whole) (omega arith) (x.2 z t)))
+      (λ y. inl o.0.0, x.1, λ z t. good_below h (λ a. cell.placed_by h (m a)) 2 B C (onto xs es) v ⊥ (cell.go h z cell.Drop m v.whole) (omega arith) (x.2 z t), omega arith))
 
   -- the store acts where it writes: what was staged is the hart's own
   store_atomic : (n : ℕ) (m : Unit {0} → Option cell.Step) → Atomic layer h (cell.Store n) m
@@ -97,12 +97,14 @@ module _ (h : ℕ) where
                 subst (λ (z : ℕ). cell.may h (cell.Store z) u.whole.cell) (sym staged) x.1,
                 λ d t2.
                     good_below h (λ a. cell.placed_by h (m a)) 1 B C (onto ys (onto xs es)) u ⊥ (cell.go h d (cell.Store (u.staged h)) m u.whole) (omega arith)
-                    (subst (λ (zs : List cell.Step). Good cell.machine (Unit {0}) h (λ a. cell.placed_by h (m a)) 1 B zs u.whole ⊥ (cell.go h d (cell.Store (u.staged h)) m u.whole) (λ l a t. C a (onto (own h (cell.placed_by h (m a))) zs) t))
+                    (subst (λ (zs : List cell.Step). Good cell.machine (Unit {0}) h (λ a. cell.placed_by h (m a)) 0 1 B zs u.whole ⊥ (cell.go h d (cell.Store (u.staged h)) m u.whole) (λ l a t. C a (onto (own h (cell.placed_by h (m a))) zs) t))
                     (onto_two xs ys es)
-                    (subst (λ (z : ℕ). Good cell.machine (Unit {0}) h (λ a. cell.placed_by h (m a)) 1 B (onto (xs ++ ys) es) u.whole ⊥ (cell.go h d (cell.Store z) m u.whole) (λ l a t. C a (onto (own h (cell.placed_by h (m a))) (onto (xs ++ ys) es)) t))
+                    (subst (λ (z : ℕ). Good cell.machine (Unit {0}) h (λ a. cell.placed_by h (m a)) 0 1 B (onto (xs ++ ys) es) u.whole ⊥ (cell.go h d (cell.Store z) m u.whole) (λ l a t. C a (onto (own h (cell.placed_by h (m a))) (onto (xs ++ ys) es)) t))
                     (sym staged) (x.2 d (subst (λ (z : ℕ). cell.honest h (cell.Store z) u.whole.cell d) staged t2)))),
+                omega arith,
               );
         },
+        omega arith,
       ))
     where
       onto_two : (xs ys es : List cell.Step) → onto (xs ++ ys) es ≡ onto ys (onto xs es)

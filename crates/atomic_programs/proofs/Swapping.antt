@@ -52,19 +52,19 @@ others_keep h g o x y e ne = rw e (not_held g h x ne ∙ sym (not_held g h y ne)
 
 -- what is owned stays until the operation runs
 pub s-owned : {A : Type 0} {h : ℕ} {op : Op} {m : Answer op → Option Step} {k : Answer op → P A} {B : List Step → Type 0} {Q : A → List Step → World → Type 0} {n : ℕ} {es : List Step} {w : World}
-    → ((v : World) → own_of h v ≡ own_of h w → Inv v → may h op v.cell)
+    → 0 < n → ((v : World) → own_of h v ≡ own_of h w → Inv v → may h op v.cell)
     → ((v : World) (x : Outside) → own_of h v ≡ own_of h w → Inv v → honest h op v.cell x
-    → Good machine (Answer op) h (λ a. placed_by h (m a)) n B es v (MayWait h op v) (go h x op m v) (λ l a u. Wp machine h B Q (k a) l (onto (own h (placed_by h (m a))) es) u))
+    → Good machine (Answer op) h (λ a. placed_by h (m a)) 0 n B es v (MayWait h op v) (go h x op m v) (λ l a u. Wp machine h B Q (k a) l (onto (own h (placed_by h (m a))) es) u))
     → Safe machine h B Q (Do op m k) n es w
-s-owned f g = s-op (λ v xs o. o.0) (λ v o i. f v o.1 i) (λ v x o i t. g v x o.1 i t)
+s-owned few f g = s-op few (λ v xs o. o.0) (λ v o i. f v o.1 i) (λ v x o i t. g v x o.1 i t)
 
 pub s-take : {A : Type 0} {h : ℕ} {k : Unit {0} → P A} {B : List Step → Type 0} {Q : A → List Step → World → Type 0} {n : ℕ} {es : List Step} {w : World}
     → own_of h w ≡ None → 0 < n → ((l x : ℕ) (u : World) → l + 1 ≡ n → own_of h u ≡ Some (x, x) → Safe machine h B Q (k tt) l es u)
     → Safe machine h B Q (Do Take unmarked k) n es w
-s-take {A} {h} {k} {B} {Q} {n} {es} {w} none few then_ = s-owned (λ v o inv. tt) (λ v x o inv t. at v inv (o ∙ none) v.cell.holder refl)
+s-take {A} {h} {k} {B} {Q} {n} {es} {w} none few then_ = s-owned few (λ v o inv. tt) (λ v x o inv t. at v inv (o ∙ none) v.cell.holder refl)
   where
     at : (v : World) → Inv v → own_of h v ≡ None → (x : Option ℕ) → v.cell.holder ≡ x
-        → Good machine (Unit {0}) h (λ a. []) n B es v (IsOut h v.cell.holder) (with_value unmarked v.value (elim x as (λ y. Did (Unit {0}) Cell) [ None ↦ Ran tt (record (v.cell) { holder = Some h }) | Some g ↦ Waits ])) (λ l a u. Wp machine h B Q (k a) l es u)
+        → Good machine (Unit {0}) h (λ a. []) 0 n B es v (IsOut h v.cell.holder) (with_value unmarked v.value (elim x as (λ y. Did (Unit {0}) Cell) [ None ↦ Ran tt (record (v.cell) { holder = Some h }) | Some g ↦ Waits ])) (λ l a u. Wp machine h B Q (k a) l es u)
     at v inv own None e =
         record {
           inv = (inv.0, λ q. (let c : ◌≡◌ {A = Option ℕ} (Some h) None = q in cc));
@@ -92,12 +92,12 @@ pub s-fetch : {A : Type 0} {h : ℕ} {k : ℕ → P A} {B : List Step → Type 0
     → own_of h w ≡ Some (x, x) → 0 < n → ((l : ℕ) (u : World) → l + 1 ≡ n → own_of h u ≡ Some (x, x) → Safe machine h B Q (k x) l es u)
     → Safe machine h B Q (Do Fetch unmarked k) n es w
 s-fetch {A} {h} {k} {B} {Q} {n} {x} {es} {w} mine few then_ =
-    s-owned
+    s-owned few
     (λ v o inv. ((held_by v.cell.holder h (v.cell.count, v.value) (x, x) (o ∙ mine)).0, inv.0))
     (λ v y o inv t. at v (o ∙ mine) inv (held_by v.cell.holder h (v.cell.count, v.value) (x, x) (o ∙ mine)) y t)
   where
     at : (v : World) → own_of h v ≡ Some (x, x) → Inv v → (v.cell.holder ≡ Some h) × (◌≡◌ {A = ℕ × ℕ} (v.cell.count, v.value) (x, x)) → (y : Outside) → LeavesIt v.cell.count y
-        → Good machine ℕ h (λ a. []) n B es v ⊥ (with_value unmarked v.value (fetch_if v.cell y)) (λ l a u. Wp machine h B Q (k a) l es u)
+        → Good machine ℕ h (λ a. []) 0 n B es v ⊥ (with_value unmarked v.value (fetch_if v.cell y)) (λ l a u. Wp machine h B Q (k a) l es u)
     at v o inv is (Fails j) t = broke inv is.0 j (subst (λ (z : ℕ). z < 256) (sym t) inv.0)
     at v o inv is Passes t =
         record {
@@ -116,12 +116,12 @@ pub s-see : {A : Type 0} {h : ℕ} {k : ℕ → P A} {B : List Step → Type 0} 
     → own_of h w ≡ Some (x, x) → 0 < n → B (Saw x ∷ es) → ((l : ℕ) (u : World) → l + 1 ≡ n → own_of h u ≡ Some (x, x) → Safe machine h B Q (k x) l (Saw x ∷ es) u)
     → Safe machine h B Q (Do Fetch (λ y. Some (Saw y)) k) n es w
 s-see {A} {h} {k} {B} {Q} {n} {x} {es} {w} mine few begins then_ =
-    s-owned
+    s-owned few
     (λ v o inv. ((held_by v.cell.holder h (v.cell.count, v.value) (x, x) (o ∙ mine)).0, inv.0))
     (λ v y o inv t. at v (o ∙ mine) inv (held_by v.cell.holder h (v.cell.count, v.value) (x, x) (o ∙ mine)) y t)
   where
     at : (v : World) → own_of h v ≡ Some (x, x) → Inv v → (v.cell.holder ≡ Some h) × (◌≡◌ {A = ℕ × ℕ} (v.cell.count, v.value) (x, x)) → (y : Outside) → LeavesIt v.cell.count y
-        → Good machine ℕ h (λ a. (h, Saw a) ∷ []) n B es v ⊥ (with_value (λ a. Some (Saw a)) v.value (fetch_if v.cell y)) (λ l a u. Wp machine h B Q (k a) l (onto (own h ((h, Saw a) ∷ [])) es) u)
+        → Good machine ℕ h (λ a. (h, Saw a) ∷ []) 0 n B es v ⊥ (with_value (λ a. Some (Saw a)) v.value (fetch_if v.cell y)) (λ l a u. Wp machine h B Q (k a) l (onto (own h ((h, Saw a) ∷ [])) es) u)
     at v o inv is (Fails j) t = broke inv is.0 j (subst (λ (z : ℕ). z < 256) (sym t) inv.0)
     at v o inv is Passes t =
         let count : v.cell.count ≡ x = ap (λ (p : ℕ × ℕ). p.0) is.1 in
@@ -144,11 +144,11 @@ pub s-store : {A : Type 0} {h : ℕ} {j : ℕ} {k : Unit {0} → P A} {B : List 
     → own_of h w ≡ Some (x, x) → j < 256 → 0 < n → B (Swapped j x ∷ es) → ((l : ℕ) (u : World) → l + 1 ≡ n → own_of h u ≡ Some (j, j) → Safe machine h B Q (k tt) l (Swapped j x ∷ es) u)
     → Safe machine h B Q (Do (Store j) (λ _. Some (Swapped j x)) k) n es w
 s-store {A} {h} {j} {k} {B} {Q} {n} {x} {es} {w} mine small few begins then_ =
-    s-owned (λ v o inv. ((held_by v.cell.holder h (v.cell.count, v.value) (x, x) (o ∙ mine)).0, small))
+    s-owned few (λ v o inv. ((held_by v.cell.holder h (v.cell.count, v.value) (x, x) (o ∙ mine)).0, small))
     (λ v y o inv t. at v inv (held_by v.cell.holder h (v.cell.count, v.value) (x, x) (o ∙ mine)) y t)
   where
     at : (v : World) → Inv v → (v.cell.holder ≡ Some h) × (◌≡◌ {A = ℕ × ℕ} (v.cell.count, v.value) (x, x)) → (y : Outside) → LeavesOne v.cell.count j y
-        → Good machine (Unit {0}) h (λ a. (h, Swapped j x) ∷ []) n B es v ⊥ (with_value (λ _. Some (Swapped j x)) v.value (store_if j v.cell y)) (λ l a u. Wp machine h B Q (k a) l (onto (own h ((h, Swapped j x) ∷ [])) es) u)
+        → Good machine (Unit {0}) h (λ a. (h, Swapped j x) ∷ []) 0 n B es v ⊥ (with_value (λ _. Some (Swapped j x)) v.value (store_if j v.cell y)) (λ l a u. Wp machine h B Q (k a) l (onto (own h ((h, Swapped j x) ∷ [])) es) u)
     at v inv is (Fails k) t = broke inv is.0 k (byte k t)
       where
         -- whichever of the two it leaves is a byte
@@ -171,7 +171,7 @@ pub s-drop : {A : Type 0} {h : ℕ} {k : Unit {0} → P A} {B : List Step → Ty
     → own_of h w ≡ Some (x, x) → 0 < n → ((l : ℕ) (u : World) → l + 1 ≡ n → own_of h u ≡ None → Safe machine h B Q (k tt) l es u)
     → Safe machine h B Q (Do Drop unmarked k) n es w
 s-drop {A} {h} {k} {B} {Q} {n} {x} {es} {w} mine few then_ =
-    s-owned
+    s-owned few
     (λ v o inv. (held_by v.cell.holder h (v.cell.count, v.value) (x, x) (o ∙ mine)).0)
     (λ v y o inv t.
     let is = held_by v.cell.holder h (v.cell.count, v.value) (x, x) (o ∙ mine) in

@@ -136,6 +136,7 @@ machine =
       Step = Step;
       World = World;
       Tree = ℕ;
+      more = λ op. 0;
       Outside = Outside;
       Honest = λ h op w x. honest h op w.cell x;
       May = λ h op w. may h op w.cell;

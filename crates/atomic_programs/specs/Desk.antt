@@ -124,6 +124,7 @@ machine =
       Step = Step;
       World = World;
       Tree = Book;
+      more = λ op. 0;
       Outside = Unit {0};
       Honest = λ h op w x. Unit {0};
       May = λ h op w. Unit {0};

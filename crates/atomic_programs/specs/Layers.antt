@@ -1,5 +1,5 @@
 -- A machine below another one: each operation above is a program below.
-use Rattle.std.specs.Prelude.{◌≡◌, ℕ, Option, List, [], ◌∷◌}
+use Rattle.std.specs.Prelude.{◌≡◌, ℕ, suc, Option, List, [], ◌∷◌}
 use Rattle.atomic_programs.specs.Prog.{Ret, Do, bind, once}
 use Rattle.atomic_programs.specs.Logic.{Machine, P, onto, Grown, Wp}
 
@@ -42,5 +42,5 @@ Lasts L {A} h B C =
 abbrev pub Atomic : (Y : Layer) → ℕ → (op : Y.U.Op) → (Y.U.Answer op → Option Y.U.Mark) → Type 1
 Atomic Y h op m =
     (B : List Y.U.Step → Type 0) (C : Y.U.Answer op → List Y.U.Step → Y.U.World → Type 0) (es : List Y.U.Step) (w : Y.D.World)
-    → Lasts Y.U h B C → Wp Y.U h B C (once op m) 1 es (Y.mid w) → Y.Base h w
+    → Lasts Y.U h B C → Wp Y.U h B C (once op m) (suc (Y.U.more op)) es (Y.mid w) → Y.Base h w
     → Wp Y.D h (BeginsBelow Y B) (Below Y h C) (Y.handler op m) Y.most (steps_below Y es) w

@@ -1,5 +1,5 @@
 -- A logic for programs that harts run at once: what a hart owns stays while the others step.
-use Rattle.std.specs.Prelude.{◌≡◌, ◌≢◌, ◌⊎◌, ℕ, ◌<◌, Option, nat_eq, if◌then◌else◌, List, [], ◌∷◌, ◌++◌}
+use Rattle.std.specs.Prelude.{◌≡◌, ◌≢◌, ◌⊎◌, ℕ, ◌+◌, ◌<◌, Option, nat_eq, if◌then◌else◌, List, [], ◌∷◌, ◌++◌}
 use Rattle.atomic_programs.specs.Prog.{Prog, Ret, Do, Did, Waits, Ran, Stops}
 
 -- What a project's machine is: its operations, its world, the sequential object, and the rules between harts.
@@ -12,6 +12,8 @@ pub record Machine : Type 1 where
   pub Step : Type 0
   pub World : Type 0
   pub Tree : Type 0
+  -- the steps that an operation counts for, beyond one
+  pub more : Op → ℕ
   -- what a device, or whatever else is no part of the world, may answer to an operation
   pub Outside : Type 0
   -- what it may answer to this one
@@ -69,8 +71,9 @@ placed_with L h op m v a = L.places h op a (m a) v
 abbrev pub Grown : {A : Type 0} → (List A → Type 0) → List A → List A → Type 0
 Grown B xs es = (xs ≡ []) ⊎ B (onto xs es)
 
--- an operation of hart h that placed ps and led from v to w: Next is of what comes after it, with fewer than n steps left
-pub record Fine (L : Machine) (h : ℕ) (ps : List (ℕ × L.Step)) (n : ℕ) (B : List L.Step → Type 0) (es : List L.Step) (v w : L.World) (Next : ℕ → Type 0) : Type 0 where
+-- an operation of hart h that placed ps and led from v to w: Next is of what comes after it; of n steps it took one, and
+-- `more`
+pub record Fine (L : Machine) (h : ℕ) (ps : List (ℕ × L.Step)) (more n : ℕ) (B : List L.Step → Type 0) (es : List L.Step) (v w : L.World) (Next : ℕ → Type 0) : Type 0 where
   pub inv : L.Inv w
   pub kept : (other : ℕ) → other ≢ h → L.Others other v (own other ps) w
   pub goes : L.Clean w → Goes L (L.tree v) ps (L.tree w)
@@ -78,7 +81,7 @@ pub record Fine (L : Machine) (h : ℕ) (ps : List (ℕ × L.Step)) (n : ℕ) (B
   -- the hart's own steps are a beginning still
   pub begun : L.Clean w → Grown B (own h ps) es
   pub left : ℕ
-  pub falls : left < n
+  pub falls : left + more < n
   pub next : Next left
 
 -- an operation of hart h that stopped the world
@@ -88,10 +91,10 @@ pub record Halts (L : Machine) (h : ℕ) (v w : L.World) : Type 0 where
   pub tree : L.Clean w → L.tree w ≡ L.tree v
   pub clean : L.Clean w → L.Clean v
 
-abbrev pub Good : (L : Machine) (A : Type 0) → ℕ → (A → List (ℕ × L.Step)) → ℕ → (List L.Step → Type 0) → List L.Step → L.World → Type 0 → Did A L.World → (ℕ → A → L.World → Type 0) → Type 0
-Good L A h ps n B es v wait Waits Next = wait
-Good L A h ps n B es v wait (Ran a w) Next = Fine L h (ps a) n B es v w (λ l. Next l a w)
-Good L A h ps n B es v wait (Stops w) Next = Halts L h v w
+abbrev pub Good : (L : Machine) (A : Type 0) → ℕ → (A → List (ℕ × L.Step)) → ℕ → ℕ → (List L.Step → Type 0) → List L.Step → L.World → Type 0 → Did A L.World → (ℕ → A → L.World → Type 0) → Type 0
+Good L A h ps more n B es v wait Waits Next = wait
+Good L A h ps more n B es v wait (Ran a w) Next = Fine L h (ps a) more n B es v w (λ l. Next l a w)
+Good L A h ps more n B es v wait (Stops w) Next = Halts L h v w
 
 -- From w on hart h's program does as it should whatever the others do and the outside answers, in at most n steps, and ends
 -- with Q; each operation is made where it may be. es are the steps so far, the newest first, and are B whenever they have grown.
@@ -102,8 +105,9 @@ Wp L h B Q (Do op m k) n es w =
     → (L.Clean v → Grown B xs es)
     × L.May h op v
     × ((x : L.Outside) → L.Honest h op v x
-    → Good L (L.Answer op) h (placed_with L h op m v) n B (onto xs es) v (L.MayWait h op v) (L.go h x op m v)
+    → Good L (L.Answer op) h (placed_with L h op m v) (L.more op) n B (onto xs es) v (L.MayWait h op v) (L.go h x op m v)
     (λ l a u. Wp L h B Q (k a) l (onto (own h (L.places h op a (m a) v)) (onto xs es)) u))
+    × (L.more op < n)
 
 -- the same, closed, so that the program can be read off it
 pub record Safe (L : Machine) {A : Type 0} (h : ℕ) (B : List L.Step → Type 0) (Q : A → List L.Step → L.World → Type 0) (p : P L A) (n : ℕ) (es : List L.Step) (w : L.World) : Type 0 where

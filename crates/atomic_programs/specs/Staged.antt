@@ -72,6 +72,7 @@ machine =
       Step = cell.Step;
       World = World;
       Tree = ℕ;
+      more = λ op. 0;
       Outside = cell.Outside;
       Honest = Honest;
       May = May;
