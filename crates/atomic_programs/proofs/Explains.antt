@@ -57,6 +57,10 @@ pub inv_of : (L : Theory) (b : Bool) (w : L.M.World) → Holds L b w → b ≡ f
 inv_of L true w h e = cc
 inv_of L false w h e = h
 
+pub holds_of : (L : Theory) (b : Bool) (w : L.M.World) → Holds L b w → L.M.Inv w ⊎ L.M.Halted w
+holds_of L true w h = inr h
+holds_of L false w h = inl h
+
 -- each entry's call began before now
 pub known : (L : Theory) (base : L.M.Tree) (s : State L) → Keeps L base s → (e : Placed L) → In e s.list → e.call < s.now
 known L base s k e i = at (k.owned e i)
@@ -189,7 +193,7 @@ pub Keeps-begun : (L : Theory) (laws : Lawful L) (base : L.M.Tree) (h : ℕ) (ca
     → s.running h ≡ None → L.start h call (busy_in L s) s.world ≡ x → Keeps L base s → Keeps L base (begun L h call s x).after
 Keeps-begun L laws base h call s (Refuses why) none e k = Keeps-unchanged L base s k
 Keeps-begun L laws base h call s (Begins u) none e k =
-    Keeps-begins L laws base h call s u none k (laws.calls h call (busy_in L s) s.world u (λ j q. k.idle j (is_some-false (s.running j) q)) (ap is_some none) e)
+    Keeps-begins L laws base h call s u none k (laws.calls h call (busy_in L s) s.world u (holds_of L s.stopped s.world k.holds) (λ j q. k.idle j (is_some-false (s.running j) q)) (ap is_some none) e)
 
 pub Keeps-start : (L : Theory) (laws : Lawful L) (base : L.M.Tree) (h : ℕ) (call : L.Call) (s : State L) (x : Option (Run L)) → s.running h ≡ x → Keeps L base s → Keeps L base (start_run L h call s x).after
 Keeps-start L laws base h call s (Some r) e k = Keeps-unchanged L base s k

@@ -381,7 +381,7 @@ call_ok h (Give j) busy w u idle free e =
     subst (λ (v : World). Right desk h (Give j) busy w v) z.1 (give_right h j busy w idle free (eqb-false j h x.0) y.0 z.0)
 
 pub lawful : Lawful desk
-lawful = record { laws = laws; calls = λ h call busy w u idle free e. call_ok h call busy w u idle free (not_lent (w.lent h) (start_call h call busy w) u e) }
+lawful = record { laws = laws; calls = λ h call busy w u holds idle free e. call_ok h call busy w u idle free (not_lent (w.lent h) (start_call h call busy w) u e) }
 
 pub any_run : (w : World) (events : List (Event Call (Unit {0}))) → ((h : ℕ) → Idle h w) → Explained desk w.book (run desk events (fresh desk w))
 any_run w events idle = explains desk lawful w events tt idle (all_honest desk (λ h op v x. tt) events (fresh desk w))

@@ -155,9 +155,9 @@ pub lawful : Lawful staged_swaps
 lawful =
     record {
       laws = laws;
-      calls = λ h call busy w u idle free e.
+      calls = λ h call busy w u holds idle free e.
           subst (λ (x : World). Right staged_swaps h call busy w x) (begun_same (nat_lt h 8) (cell.fits call) w u e)
-          (right h call busy w idle free (above.lawful.calls h call busy w.whole w.whole idle free (begun_above (nat_lt h 8) (cell.fits call) w u e)));
+          (right h call busy w idle free (above.lawful.calls h call busy w.whole w.whole holds idle free (begun_above (nat_lt h 8) (cell.fits call) w u e)));
     }
 
 pub any_run : (w : World) (events : List (Event cell.Call cell.Outside)) → cell.Inv w.whole → ((h : ℕ) → cell.own_of h w.whole ≡ None) → AllHonest staged_swaps events (fresh staged_swaps w) → Explained staged_swaps w.whole.value (run staged_swaps events (fresh staged_swaps w))

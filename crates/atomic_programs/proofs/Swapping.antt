@@ -221,7 +221,7 @@ begun_same true false w u e = cc
 begun_same false c w u e = cc
 
 pub lawful : Lawful swaps
-lawful = record { laws = laws; calls = λ h call busy w u idle free e. (let x = begun_same (nat_lt h 8) (fits call) w u e in call_ok h call busy w u idle free x.0 x.1) }
+lawful = record { laws = laws; calls = λ h call busy w u holds idle free e. (let x = begun_same (nat_lt h 8) (fits call) w u e in call_ok h call busy w u idle free x.0 x.1) }
   where
     call_ok : (h : ℕ) (call : Call) (busy : ℕ → Bool) (w u : World) → ((other : ℕ) → busy other ≡ false → own_of other w ≡ None) → busy h ≡ false → fits call ≡ true → w ≡ u → Right swaps h call busy w u
     call_ok h (Swap j) busy w u idle free small is = right h (Swap j) busy w u idle free is (Swapped j 0 ∷ [], 0, refl) (swap_ok h j u (ltb-true j 256 small))

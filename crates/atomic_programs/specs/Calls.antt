@@ -1,5 +1,5 @@
 -- A machine with its calls, and what a list of events makes of them.
-use Rattle.std.specs.Prelude.{◌≡◌, ◌≢◌, ℕ, suc, Bool, true, false, Option, Some, None, nat_eq, if◌then◌else◌, List, [], ◌∷◌, ◌++◌}
+use Rattle.std.specs.Prelude.{◌≡◌, ◌≢◌, ◌⊎◌, ℕ, suc, Bool, true, false, Option, Some, None, nat_eq, if◌then◌else◌, List, [], ◌∷◌, ◌++◌}
 use Rattle.atomic_programs.specs.Prog.{Prog, Ret, Do, Did, Waits, Ran, Stops, asks, OfNext}
 use Rattle.atomic_programs.specs.Logic.{Machine, P, own, onto, oldest_first, Wp, Laws}
 
@@ -52,7 +52,8 @@ pub record Right (L : Theory) (h : ℕ) (call : L.Call) (busy : ℕ → Bool) (w
 -- what a project shows: its machine's laws, and that each call is right alone
 pub record Lawful (L : Theory) : Type 0 where
   pub laws : Laws L.M
-  pub calls : (h : ℕ) (call : L.Call) (busy : ℕ → Bool) (w u : L.M.World) → ((other : ℕ) → busy other ≡ false → L.M.Idle other w) → busy h ≡ false
+  -- each call, started in a world that holds or has stopped
+  pub calls : (h : ℕ) (call : L.Call) (busy : ℕ → Bool) (w u : L.M.World) → L.M.Inv w ⊎ L.M.Halted w → ((other : ℕ) → busy other ≡ false → L.M.Idle other w) → busy h ≡ false
       → L.start h call busy w ≡ Begins u → Right L h call busy w u
 
 -- a call under way: the number of its start, its program from here on, how many steps ran, and its tree steps so far
