@@ -149,7 +149,7 @@ disk_kept sizes disk see sees group (Staging i) same fits =
     (fits.0, fits.1, λ b out none. fits.2 b out none ∙ sym (same b), λ k lt. fits.3 k lt ∙ sym (same (get_or group k 0)))
 disk_kept sizes disk see sees group (Installing i) same fits =
     (fits.0, fits.1, λ b out none. fits.2 b out none ∙ sym (same b), λ k lt. fits.3 k lt ∙ sym (same (get_or group k 0)))
-disk_kept sizes disk see sees group Halted same fits = tt
+disk_kept sizes disk see sees group Halted same fits = fits
 
 pub sound_kept : (d e : List (List ℕ)) (old new : List SeatState) (sizes : Super) (group : List ℕ) (members : List (Option ℕ)) (p : Phase) (b : ℕ)
     → IsSoundLog d old sizes group members p → Kept b old new → IsOutsideLog sizes b → e ≡ d → ((k : ℕ) → seen_in e new k ≡ seen_in d old k) → IsSoundLog e new sizes group members p

@@ -10,5 +10,7 @@ pub mod Leaving
 pub mod Committed
 pub mod Recorded
 pub mod Cuts
+pub mod Moving
+pub mod Stories
 pub mod Fresh
 pub mod Heads

@@ -2,7 +2,7 @@
 use Rattle.std.proofs.Common.{◌≡◌, ◌≢◌, ◌⊎◌, inl, inr, ℕ, ◌+◌, ◌<◌, ◌≤◌, ◌==◌, List, [], length, get_or, set, false, refl, sym, ◌∙◌, subst, arith, Option, if◌then◌else◌}
 use Rattle.std.proofs.lemmas.Bool.{eqb-true, eqb-false}
 use Rattle.fs_layout.specs.declared.superblock.Super.{Super}
-use Rattle.fs_layout.specs.Recovered.{recovered, IsOutsideLog}
+use Rattle.fs_layout.specs.Recovered.{recovered, logged, IsOutsideLog}
 use Rattle.buffer_cache.specs.Lists.{count_of}
 use Rattle.buffer_cache.specs.Seats.{SeatState, has_block, is_pinned, seat_of, seen_in, with_seat, with_pin, given_back}
 use Rattle.group_log.specs.declared.phase.Phase.{Phase}
@@ -175,6 +175,33 @@ module _ (d e : List (List ℕ)) (ss zs : List SeatState) (sizes : Super) (ks : 
       (λ _ isnt is. home_recovered sizes d e (seen_in d ss) (seen_in e zs) ks sound.place same (room_of (Installing i) sound) sound.homes i b (below i (length ks) runs isnt) is out sound.blocks)
       refl is
 
+  -- the head names the group afterwards, or nothing
+  write_logged : (p : Phase) → IsSoundLog d ss sizes ks ms p → IsUnderWay (length ks) p → e ≡ set d (write_to sizes ks p) (write_of (seen_in d ss) ks p) → (logged e ≡ []) ⊎ (logged e ≡ ks)
+  write_logged Open sound runs is = absurd runs
+  write_logged Halted sound runs is = absurd runs
+  write_logged (Staging i) sound runs is =
+      pick (i == length ks)
+      (λ t. (i == length ks) ≡ t → e ≡ set d (if t then sizes.logstart else sizes.logstart + 1 + i) (if t then head_block ks else seen_in d ss (get_or ks i 0)) → (logged e ≡ []) ⊎ (logged e ≡ ks))
+      (λ _ at is.
+      let fits : DiskFits sizes d (seen_in d ss) ks (Staging (length ks)) = subst (λ j. DiskFits sizes d (seen_in d ss) ks (Staging j)) (eqb-true i (length ks) at) sound.blocks in
+      inr (headed sizes d e (seen_in d ss) (seen_in e zs) ks sound.place same (room_of (Staging i) sound) sound.homes is (omega (arith, sound.room)) fits).1)
+      (λ _ isnt is. inl (copied sizes d e (seen_in d ss) (seen_in e zs) ks sound.place same (room_of (Staging i) sound) sound.homes i (below i (length ks) runs isnt) is sound.blocks).1)
+      refl is
+  write_logged (Installing i) sound runs is =
+      pick (i == length ks)
+      (λ t. (i == length ks) ≡ t → e ≡ set d (if t then sizes.logstart else get_or ks i 0) (if t then head_block [] else seen_in d ss (get_or ks i 0)) → (logged e ≡ []) ⊎ (logged e ≡ ks))
+      (λ _ at is.
+      let fits : DiskFits sizes d (seen_in d ss) ks (Installing (length ks)) = subst (λ j. DiskFits sizes d (seen_in d ss) ks (Installing j)) (eqb-true i (length ks) at) sound.blocks in
+      inl (cleared sizes d e (seen_in d ss) (seen_in e zs) ks sound.place same (room_of (Installing i) sound) sound.homes is fits).0)
+      (λ _ isnt is. inr (went_home sizes d e (seen_in d ss) (seen_in e zs) ks sound.place same (room_of (Installing i) sound) sound.homes i (below i (length ks) runs isnt) is sound.blocks).1)
+      refl is
+
+  logged_before : (p : Phase) → IsUnderWay (length ks) p → DiskFits sizes d (seen_in d ss) ks p → (logged d ≡ []) ⊎ (logged d ≡ ks)
+  logged_before Open runs fits = absurd runs
+  logged_before Halted runs fits = absurd runs
+  logged_before (Staging i) runs fits = inl fits.1
+  logged_before (Installing i) runs fits = inr fits.1
+
   -- a write that failed halts the log
   pub halted : (p : Phase) → IsSoundLog d ss sizes ks ms p → IsUnderWay (length ks) p → (e ≡ d) ⊎ (e ≡ set d (write_to sizes ks p) (write_of (seen_in d ss) ks p)) → IsSoundLog e zs sizes ks ms Halted
   halted p sound runs may = elim may [
@@ -186,11 +213,11 @@ module _ (d e : List (List ℕ)) (ss zs : List SeatState) (sizes : Super) (ks : 
       homes = λ k lt. subst (λ (x : List (List ℕ)). IsHome x sizes (get_or ks k 0)) (sym is) (sound.homes k lt);
       distinct = sound.distinct;
       buffers = tt;
-      blocks = tt;
+      blocks = subst (λ (x : List (List ℕ)). (logged x ≡ []) ⊎ (logged x ≡ ks)) (sym is) (logged_before p runs sound.blocks);
     }
     | inr is ↦
         let at = written_at p sound runs in
-        with_write (write_to sizes ks p) (write_of (seen_in d ss) ks p) p Halted is at.0 at.1 sound tt tt tt
+        with_write (write_to sizes ks p) (write_of (seen_in d ss) ks p) p Halted is at.0 at.1 sound tt tt (write_logged p sound runs is)
   ]
     where
       written_at : (p : Phase) → IsSoundLog d ss sizes ks ms p → IsUnderWay (length ks) p → (write_to sizes ks p < length d) × (write_to sizes ks p ≢ 1)

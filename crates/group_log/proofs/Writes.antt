@@ -4,6 +4,7 @@ use Rattle.std.specs.List.{AllByRecursion}
 use Rattle.std.proofs.lemmas.Bool.{cases_eq}
 use Rattle.std.proofs.Math.ListN.{length-set}
 use Rattle.fs_layout.specs.declared.superblock.Super.{Super}
+use Rattle.fs_layout.specs.Bytes.{u32_at}
 use Rattle.fs_layout.specs.Recovered.{sizes_of, logged, recovered, IsOutsideLog}
 use Rattle.fs_layout.proofs.RecoveredDisk.{block_at-set_same, block_at-set_other, sizes_of-set, logged-set, logged-written, recovered-empty, recovered-copy, recovered-own, first_copy}
 use Rattle.block_device.specs.Blocks.{block_at}
@@ -56,10 +57,13 @@ module _ (sizes : Super) (disk new : List (List ℕ)) (see sees : ℕ → List �
       some = placed.some;
       within = (let e = length_stays in omega (arith, e, placed.within));
       counted = (let e = length_stays in omega (arith, e, placed.counted));
+      is_super = ap (λ (bytes : List ℕ). u32_at bytes 0) (at_others 1 (λ e. no_super (sym e))) ∙ placed.is_super;
+      inodes = placed.inodes;
+      sized = (let e = length_stays in omega (arith, e, placed.sized));
     }
 
     pub homes_stay : (b : ℕ) → IsHome disk sizes b → IsHome new sizes b
-    homes_stay b home = record { outside = home.outside; no_super = home.no_super; within = (let e = length_stays in omega (arith, e, home.within)) }
+    homes_stay b home = record { outside = home.outside; no_super = home.no_super; within = (let e = length_stays in omega (arith, e, home.within)); front = home.front; sized = home.sized }
 
     pub head_stays : c ≢ sizes.logstart → logged new ≡ logged disk
     head_stays ne = ap (λ (d : List (List ℕ)). logged d) is ∙ logged-set disk c v no_super (λ e. ne (e ∙ ap (λ (s : Super). s.logstart) placed.sizes_are))

@@ -6,3 +6,5 @@ pub mod Written
 pub mod Turns
 pub mod Waiting
 pub mod CrashLaw
+pub mod Moves
+pub mod Stories

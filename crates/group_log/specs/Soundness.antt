@@ -1,8 +1,9 @@
 -- What holds of every log.
-use Rattle.std.specs.Prelude.{◌≡◌, ◌≢◌, ℕ, ◌+◌, ◌-◌, ◌<◌, ◌≤◌, ◌^◌, min, List, [], length, slice_index, Option, None}
+use Rattle.std.specs.Prelude.{◌≡◌, ◌≢◌, ◌⊎◌, ℕ, ◌+◌, ◌-◌, ◌<◌, ◌≤◌, ◌^◌, min, List, [], length, slice_index, Option, None}
 use Rattle.fs_layout.specs.declared.superblock.Super.{Super}
 use Rattle.fs_layout.specs.Recovered.{sizes_of, logged, IsOutsideLog}
-use Rattle.fs_layout.specs.Widths.{super_block}
+use Rattle.fs_layout.specs.Bytes.{u32_at}
+use Rattle.fs_layout.specs.Widths.{super_block, super_magic_at, magic}
 use Rattle.block_device.specs.Blocks.{block_at}
 use Rattle.buffer_cache.specs.Lists.{count_of}
 use Rattle.buffer_cache.specs.Seats.{SeatState, CacheState, is_pinned, seat_of, seen_in}
@@ -32,12 +33,18 @@ pub record IsPlaced (disk : List (List ℕ)) (sizes : Super) : Type 0 where
   pub some : 0 < sizes.nlog
   pub within : sizes.logstart + sizes.nlog ≤ length disk
   pub counted : length disk < 2 ^ 32
+  -- and before the inodes, on a disk that has the superblock's sign and all its blocks
+  pub is_super : u32_at (block_at disk super_block) super_magic_at ≡ magic
+  pub inodes : sizes.logstart + sizes.nlog ≤ sizes.inodestart
+  pub sized : sizes.size ≤ length disk
 
 -- a block that may be recorded
 pub record IsHome (disk : List (List ℕ)) (sizes : Super) (b : ℕ) : Type 0 where
   pub outside : IsOutsideLog sizes b
   pub no_super : b ≢ super_block
   pub within : b < length disk
+  pub front : sizes.inodestart ≤ b
+  pub sized : b < sizes.size
 
 -- where the blocks are seen so: outside the log, those that the group hasn't from its n-th block on stand on the disk as they are seen
 abbrev pub CleanFrom : Super → List (List ℕ) → (ℕ → List ℕ) → List ℕ → ℕ → Type 0
@@ -51,7 +58,7 @@ abbrev pub DiskFits : Super → List (List ℕ) → (ℕ → List ℕ) → List 
 DiskFits sizes disk see group Open = (logged disk ≡ []) × CleanFrom sizes disk see group 0
 DiskFits sizes disk see group (Staging i) = (i ≤ length group) × (logged disk ≡ []) × CleanFrom sizes disk see group 0 × HasCopies sizes disk see group i
 DiskFits sizes disk see group (Installing i) = (i ≤ length group) × (logged disk ≡ group) × CleanFrom sizes disk see group i × HasCopies sizes disk see group (length group)
-DiskFits sizes disk see group Halted = Unit {0}
+DiskFits sizes disk see group Halted = (logged disk ≡ []) ⊎ (logged disk ≡ group)
 
 -- no buffer has a block of the log; the group's blocks from the n-th on are pinned, and no others
 pub record PinsFrom (sizes : Super) (seats : List SeatState) (group : List ℕ) (n : ℕ) : Type 0 where

@@ -11,6 +11,7 @@ mod copies;
 mod crash;
 mod limits;
 mod log;
+mod marks;
 mod members;
 mod phase;
 #[cfg(test)]
@@ -18,8 +19,9 @@ mod tests;
 mod txn;
 
 pub use commit::Progress;
-pub use crash::stops_at_a_cut;
+pub use crash::{logs_stop_at_a_cut, stops_at_a_cut};
 pub use limits::{BLOCKS_OF_A_TRANSACTION, MOST_LOGGED};
 pub use log::{Left, Log};
+pub use marks::Marks;
 pub use phase::Phase;
 pub use txn::{RetiredLog, Txn};

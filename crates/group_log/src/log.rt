@@ -60,6 +60,7 @@ impl<D: Device> Log<D> {
     ghost use Rattle.group_log.specs.Phases.{write_to, write_of, next_phase, group_in, is_point, phase_at_leave};
     ghost use Rattle.group_log.specs.Soundness.{IsPlaced, IsHome, IsSoundLog, limit_of};
     ghost use Rattle.group_log.specs.Turns.{turn_is_out, seats_after, seats_at_fault};
+    ghost use Rattle.group_log.specs.Moves.{IsMove, IsCommitMove, begins_at};
     ghost use Rattle.group_log.specs.Waiting.{join_waits, faults_at, IfWaits, IfMade, IfFailed, StaysOrBecomes};
     ghost use Rattle.group_log.specs.declared.phase.Phase.TheVariants.{Open, Halted};
 
@@ -94,6 +95,18 @@ impl<D: Device> Log<D> {
         ensures { result ≡ self.now.phase }
     {
         self.phase
+    }
+
+    /// Whether the commit's next write is that of the head that names the group.
+    pub fn is_at_point(&self) -> bool
+        ensures { result ≡ is_point (length self.now.group) self.now.phase }
+    {
+        match self.phase {
+            Phase::Staging(i) => i as usize == self.group.len(),
+            Phase::Open => false,
+            Phase::Installing(_) => false,
+            Phase::Halted => false,
+        }
     }
 
     /// How many buffers a hart has in its hand.
@@ -143,7 +156,11 @@ impl<D: Device> Log<D> {
     pub fn is_home(&self, b: u32) -> bool
         ensures { IsTrue result ↔ IsHome (D.contents self.now.cache.device) self.now.sizes b }
     {
-        is_outside(&self.sizes, b) && b != SUPER_BLOCK && b < self.cache.device().blocks()
+        is_outside(&self.sizes, b)
+            && b != SUPER_BLOCK
+            && b < self.cache.device().blocks()
+            && self.sizes.inodestart <= b
+            && b < self.sizes.size
     }
 
     /// Joins a transaction. It waits exactly while a commit runs, where the group might outgrow the log, and for good
@@ -154,6 +171,7 @@ impl<D: Device> Log<D> {
         ensures waits { IsNone result ↔ IsTrue (join_waits self.old.phase (length self.old.group) (joined self.old.members) (limit_of self.old.sizes)) }
         ensures same { IfNone result (self.new ≡ self.old) }
         ensures joins { IfSome result (λ txn. (txn ≡ hart) × (self.new ≡ record self.old { members = slice_set self.old.members hart (Some 0) })) }
+        ensures moves { IsMove D.contents false false self.old self.new }
     {
         let Phase::Open = self.phase else {
             return None;
@@ -189,6 +207,7 @@ impl<D: Device> Log<D> {
         ensures device { self.new.cache.device ≡ self.old.cache.device }
         ensures seen { (k : ℕ) → seen D.contents self.new.cache k
             ≡ (if k == guard.value.block then unwrap_or guard.value.content [] else seen D.contents self.old.cache k) }
+        ensures moves { IsMove D.contents false false self.old self.new }
     {
         show_each_once(&self.cache);
         let b = guard.value().block();
@@ -208,6 +227,7 @@ impl<D: Device> Log<D> {
         } }
         ensures falls { joined self.new.members + 1 ≡ joined self.old.members }
         ensures left { result ≡ left_at (joined (slice_set self.old.members txn None)) self.old.group }
+        ensures moves { IsMove D.contents (begins_at result) false self.old self.new }
     {
         let hart = txn.end();
         self.members[hart as usize] = None;
@@ -260,6 +280,7 @@ impl<D: Device> Log<D> {
         ensures sizes { self.new.sizes ≡ self.old.sizes }
         ensures others { KeepsHeld self.old.cache.seats self.new.cache.seats }
         ensures seen { (b : ℕ) → IsOutsideLog self.old.sizes b → seen D.contents self.new.cache b ≡ seen D.contents self.old.cache b }
+        ensures moves { IsCommitMove D.contents result self.old self.new }
     {
         show_each_once(&self.cache);
         match write_next(&mut self.cache, hart, &self.sizes, &self.group, self.phase) {
@@ -289,6 +310,7 @@ impl<D: Device> Log<D> {
         ensures others { KeepsHeld self.old.cache.seats self.new.cache.seats }
         ensures rest { self.new ≡ record self.old { cache = record self.old.cache { seats = self.new.cache.seats } } }
         ensures seen { (k : ℕ) → seen D.contents self.new.cache k ≡ seen D.contents self.old.cache k }
+        ensures moves { IsMove D.contents false false self.old self.new }
     {
         self.cache.get(hart, b)
     }
@@ -315,6 +337,7 @@ impl<D: Device> Log<D> {
         ensures faults { D.failures self.new.cache.device ≡ faults_after result (D.failures self.old.cache.device) }
         ensures rest { self.new ≡ record self.old { cache = self.new.cache } }
         ensures seen { (k : ℕ) → seen D.contents self.new.cache k ≡ seen D.contents self.old.cache k }
+        ensures moves { IsMove D.contents false false self.old self.new }
     {
         self.cache.fill(guard)
     }
@@ -328,6 +351,7 @@ impl<D: Device> Log<D> {
         ensures others { KeepsOthers guard.value.block self.old.cache.seats self.new.cache.seats }
         ensures rest { self.new ≡ record self.old { cache = record self.old.cache { seats = self.new.cache.seats } } }
         ensures seen { (k : ℕ) → seen D.contents self.new.cache k ≡ seen D.contents self.old.cache k }
+        ensures moves { IsMove D.contents false false self.old self.new }
     {
         show_each_once(&self.cache);
         self.cache.release(guard);

@@ -17,3 +17,5 @@ pub mod ShapeLemmas
 pub mod TreeOfLemmas
 pub mod SuperAndLog
 pub mod Installs
+pub mod Goods
+pub mod Views

@@ -10,3 +10,4 @@ pub mod Layout
 pub mod Marks
 pub mod Names
 pub mod Recovery
+pub mod Views

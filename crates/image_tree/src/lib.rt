@@ -30,7 +30,7 @@ pub use crate::examination::{examine, examine_layout};
 pub use crate::fault::{Damage, MountFault};
 pub use crate::heads::find_layout;
 pub use crate::numbers::numbers_at;
-pub use crate::recovery::recover;
+pub use crate::recovery::{images_are_seen_recovered, recover};
 pub use crate::shape::Shape;
 pub use crate::sizes::block_number;
 pub use crate::trees::tree_of;

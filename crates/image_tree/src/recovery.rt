@@ -2,9 +2,11 @@
 ghost use Rattle.std.specs.Prelude.{◌≡◌, ◌≢◌, ◌⊎◌, ◌<◌, ℕ, [], length, replicate, slice_set, Err, OnOk, OnErr, IfOk};
 ghost use Rattle.block_device.specs.Blocks.{faults_after};
 ghost use Rattle.fs_layout.specs.Recovered.{block_at, logged, recovered, sizes_of, IsOutsideLog, SameRecovered};
-ghost use Rattle.image_tree.specs.Damage.{JudgesWith, UpToLog, faults_with};
+ghost use Rattle.image_tree.specs.Damage.{JudgesWith, UpToLog, IsWellFormed, faults_with};
+ghost use Rattle.image_tree.specs.Trees.{tree_in};
 ghost use Rattle.image_tree.specs.Layout.{IsLayout};
 ghost use Rattle.image_tree.specs.Recovery.{OnDamage};
+ghost use Rattle.image_tree.specs.Views.{ChecksSeeRecovered, TreesSeeRecovered};
 
 use crate::disk::Layout;
 use crate::fault::MountFault;
@@ -26,6 +28,11 @@ pub fn recover<D: Device>(device: &mut D) -> Result<(), MountFault>
     // Whatever it answers, recovery would make the same disk as before.
     ensures kept { SameRecovered (D.contents device.old) (D.contents device.new) }
     ensures sizes { sizes_of (D.contents device.new) ≡ sizes_of (D.contents device.old) }
+    ensures good { UpToLog (D.contents device.old) → UpToLog (D.contents device.new) }
+
+    // So what was well formed stays so, with the same tree.
+    ensures well { IsWellFormed (D.contents device.old) → IsWellFormed (D.contents device.new) }
+    ensures tree { IsWellFormed (D.contents device.old) → tree_in (D.contents device.new) ≡ tree_in (D.contents device.old) }
 
     // Afterwards the disk is the recovered one, and its log is empty.
     ensures home { OnOk result ((b : ℕ) → IsOutsideLog (sizes_of (D.contents device.old)) b
@@ -43,6 +50,7 @@ fn install<D: Device>(device: &mut D, layout: &Layout) -> Result<(), Fault>
     ensures faults { D.failures device.new ≡ faults_after result (D.failures device.old) }
     ensures kept { SameRecovered (D.contents device.old) (D.contents device.new) }
     ensures sizes { sizes_of (D.contents device.new) ≡ sizes_of (D.contents device.old) }
+    ensures good { UpToLog (D.contents device.new) }
     ensures home { OnOk result ((b : ℕ) → IsOutsideLog (sizes_of (D.contents device.old)) b
         → block_at (D.contents device.new) b ≡ recovered (D.contents device.old) b) }
     ensures cleared { OnOk result (logged (D.contents device.new) ≡ []) }
@@ -88,3 +96,9 @@ fn zeros() -> [u8; BLOCK_SIZE]
 {
     [0; BLOCK_SIZE]
 }
+
+/// Checks and trees see a disk's recovered blocks outside the log alone. The function does nothing: it carries the law.
+pub fn images_are_seen_recovered()
+    ensures checks { ChecksSeeRecovered }
+    ensures trees { TreesSeeRecovered }
+{}

@@ -6,6 +6,7 @@ use Rattle.fs_layout.proofs.RecoveredDisk.{recovered-empty}
 use Rattle.image_tree.specs.declared.disk.Layout.{Layout}
 use Rattle.image_tree.specs.Layout.{IsLayout}
 use Rattle.image_tree.proofs.Installs.{Installed, ready_of, installed_first, installed_next, stopped_copy, stopped_clear, cleared}
+use Rattle.image_tree.proofs.Goods.{copy_good, clear_good}
 use Rattle.image_tree.proofs.recovery.install.Goals as goal
 
 nothing_logged : (d : List (List ℕ)) (layout : Layout) → IsLayout d layout → length layout.head.blocks.items ≡ 0 → logged d ≡ []
@@ -26,7 +27,7 @@ pub loop-i-init : goal.loop-i-init
 loop-i-init g c =
     let layout = c.args.layout.now in
     let d = g.D.Device.contents c.args.device.now in
-    record { faults = refl; at = installed_first d layout.sizes layout.head.blocks.items (ready_of d layout c.requires) }
+    record { faults = refl; at = installed_first d layout.sizes layout.head.blocks.items (ready_of d layout c.requires); good = c.requires.good }
 
 pub copy-requires-clause-from : goal.copy-requires-clause-from
 copy-requires-clause-from g c =
@@ -85,7 +86,21 @@ loop-i-preserved g c = record {
   faults = c.in_ok-copy.ensures.faults ∙ c.loop-i.invariant.faults;
   at = after_copy (g.D.Device.contents c.args.device.now) (g.D.Device.contents c.loop-i.device) (g.D.Device.contents c.copy.new.device) c.args.layout.now c.requires c.as_slice-blocks.result.now c.as_slice-blocks.ensures.value c.loop-i.i
       c.loop-i.invariant.at c.loop-i-test.true c.in_ok-copy.ensures.ok;
+  good = copy_good (g.D.Device.contents c.loop-i.device) (g.D.Device.contents c.copy.new.device) c.args.layout.now.sizes (recovered (g.D.Device.contents c.args.device.now)) c.args.layout.now.head.blocks.items (length (g.D.Device.contents c.args.device.now)) c.loop-i.i
+      c.loop-i.invariant.at c.loop-i.invariant.good c.as_slice-blocks.result.now _ c.as_slice-blocks.ensures.value c.loop-i-test.true (inr c.in_ok-copy.ensures.ok);
 }
+
+pub returns-in_err-copy-clause-good : goal.returns-in_err-copy-clause-good
+returns-in_err-copy-clause-good g c =
+    copy_good (g.D.Device.contents c.loop-i.device) (g.D.Device.contents c.copy.new.device) c.args.layout.now.sizes (recovered (g.D.Device.contents c.args.device.now)) c.args.layout.now.head.blocks.items (length (g.D.Device.contents c.args.device.now)) c.loop-i.i
+    c.loop-i.invariant.at c.loop-i.invariant.good c.as_slice-blocks.result.now _ c.as_slice-blocks.ensures.value c.loop-i-test.true c.in_err-copy.ensures.err
+
+pub returns-clause-good : goal.returns-clause-good
+returns-clause-good g c =
+    let d = g.D.Device.contents c.loop-i.device in
+    let e = g.D.Device.contents c.write.new.self in
+    clear_good d e c.args.layout.now.sizes (recovered (g.D.Device.contents c.args.device.now)) c.args.layout.now.head.blocks.items (length (g.D.Device.contents c.args.device.now)) c.loop-i.i
+    c.loop-i.invariant.at c.loop-i.invariant.good (either_way c.write.result e d c.args.layout.now.sizes.logstart c.zeros.result (replicate 1024 0) c.zeros.ensures c.write.ensures.ok c.write.ensures.err)
 
 pub returns-in_err-copy-clause-kept : goal.returns-in_err-copy-clause-kept
 returns-in_err-copy-clause-kept g c =

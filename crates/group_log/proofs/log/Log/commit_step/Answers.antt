@@ -1,12 +1,13 @@
-use Rattle.std.proofs.Common.{◌≡◌, ◌≢◌, sym, subst, ℕ, length, if◌then◌else◌}
+use Rattle.std.proofs.Common.{◌≡◌, ◌≢◌, ◌∙◌, ap, refl, sym, subst, ℕ, length, if◌then◌else◌}
 use Rattle.fs_layout.specs.Recovered.{recovered, IsOutsideLog}
 use Rattle.buffer_cache.specs.Seats.{seen}
 use Rattle.group_log.specs.declared.phase.Phase.TheVariants.{Open, Halted}
 use Rattle.group_log.specs.declared.commit.Progress.{Progress}
 use Rattle.group_log.specs.declared.commit.Progress.TheVariants.{Waits, Wrote, Ended, Failed}
-use Rattle.group_log.specs.Phases.{is_point}
+use Rattle.group_log.specs.Phases.{is_point, next_phase}
 use Rattle.group_log.specs.Waiting.{IfMade, StaysOrBecomes}
 use Rattle.group_log.proofs.Committed.{done_good, failed_good, done_recovered, failed_recovered}
+use Rattle.group_log.proofs.Moving.{commit_move, done_move}
 use Rattle.group_log.proofs.log.Log.commit_step.Goals as goal
 
 pub invariant_of-self-in-Failed : goal.invariant_of-self-in-Failed
@@ -43,6 +44,26 @@ returns-in-Done-clause-recovered g c =
     let l = c.self.inside in
     let begun : (l.phase ≢ Open) × (l.phase ≢ Halted) = subst (λ v. (v.phase ≢ Open) × (v.phase ≢ Halted)) (sym c.self.view_is) c.requires.begun in
     if_made c.progress_to.result _
+    (subst (λ v. (b : ℕ) → IsOutsideLog v.sizes b → recovered (g.D.Device.contents c.write_next.new.cache.device) b ≡ (if is_point (length v.group) v.phase then seen g.D.Device.contents v.cache b else recovered (g.D.Device.contents v.cache.device) b))
+    c.self.view_is
+    (done_recovered (g.D.Device.contents l.cache.device) (g.D.Device.contents c.write_next.new.cache.device) l.cache.seats c.write_next.new.cache.seats l.sizes l.group.items c.deref.result.now l.members l.phase
+    c.self.invariant begun c.deref.ensures.0 c.in-Done.ensures.writes c.in-Done.ensures.seen))
+
+pub returns-in-Failed-clause-moves : goal.returns-in-Failed-clause-moves
+returns-in-Failed-clause-moves g c =
+    let now = c.args.self.now in
+    commit_move g.D.Device.contents now _ Failed (ap (λ v. v.sizes) c.self.view_is) c.requires.begun tt tt tt refl
+    (returns-in-Failed-clause-kept g c)
+    (subst (λ v. (b : ℕ) → IsOutsideLog v.sizes b → seen g.D.Device.contents c.write_next.new.cache b ≡ seen g.D.Device.contents v.cache b) c.self.view_is c.in-Failed.ensures.seen)
+
+pub returns-in-Done-clause-moves : goal.returns-in-Done-clause-moves
+returns-in-Done-clause-moves g c =
+    let l = c.self.inside in
+    let now = c.args.self.now in
+    let begun : (l.phase ≢ Open) × (l.phase ≢ Halted) = subst (λ v. (v.phase ≢ Open) × (v.phase ≢ Halted)) (sym c.self.view_is) c.requires.begun in
+    done_move g.D.Device.contents now _ c.after-phase.result c.progress_to.result (ap (λ v. v.sizes) c.self.view_is) c.requires.begun c.progress_to.ensures
+    (c.after-phase.ensures ∙ ap (λ (k : ℕ). next_phase k l.phase) c.len.ensures.value ∙ ap (λ v. next_phase (length v.group) v.phase) c.self.view_is)
+    (subst (λ v. (b : ℕ) → IsOutsideLog v.sizes b → seen g.D.Device.contents c.write_next.new.cache b ≡ seen g.D.Device.contents v.cache b) c.self.view_is c.in-Done.ensures.seen)
     (subst (λ v. (b : ℕ) → IsOutsideLog v.sizes b → recovered (g.D.Device.contents c.write_next.new.cache.device) b ≡ (if is_point (length v.group) v.phase then seen g.D.Device.contents v.cache b else recovered (g.D.Device.contents v.cache.device) b))
     c.self.view_is
     (done_recovered (g.D.Device.contents l.cache.device) (g.D.Device.contents c.write_next.new.cache.device) l.cache.seats c.write_next.new.cache.seats l.sizes l.group.items c.deref.result.now l.members l.phase

@@ -10,6 +10,7 @@ use Rattle.group_log.specs.Soundness.{IsHome, IsSoundLog}
 use Rattle.group_log.proofs.Rooms.{member_below}
 use Rattle.group_log.proofs.Steps.{open_of}
 use Rattle.group_log.proofs.Recorded.{room_to_add, room_to_pin, pinned_by_pin, recorded_all}
+use Rattle.group_log.proofs.Moving.{open_move}
 use Rattle.group_log.proofs.log.Log.record.Goals as goal
 
 pub add-requires-clause-within : goal.add-requires-clause-within
@@ -79,3 +80,13 @@ returns-clause-open g c =
     let running : l.phase ≢ Halted = subst (λ v. v.phase ≢ Halted) (sym c.self.view_is) c.requires.running in
     let is_open : l.phase ≡ Open = open_of l.phase l.members c.args.txn.now c.self.invariant.quiet running member in
     (ap (λ v. v.phase) (sym c.self.view_is) ∙ is_open, is_open)
+
+pub returns-clause-moves : goal.returns-clause-moves
+returns-clause-moves g c =
+    let l = c.self.inside in
+    let member : IsMember l.members c.args.txn.now = subst (λ v. IsMember v.members c.args.txn.now) (sym c.self.view_is) c.requires.member in
+    let running : l.phase ≢ Halted = subst (λ v. v.phase ≢ Halted) (sym c.self.view_is) c.requires.running in
+    let is_open : l.phase ≡ Open = open_of l.phase l.members c.args.txn.now c.self.invariant.quiet running member in
+    open_move g.D.Device.contents c.args.self.now _ (ap (λ v. v.sizes) c.self.view_is)
+    (ap g.D.Device.contents (c.release_changed.ensures.device ∙ c.pin.ensures.device) ∙ ap (λ v. g.D.Device.contents v.cache.device) c.self.view_is)
+    (ap (λ v. v.phase) (sym c.self.view_is) ∙ is_open) is_open

@@ -1,0 +1,29 @@
+use Rattle.std.proofs.Common.{◌≡◌, subst, ℕ, List}
+use Rattle.image_tree.specs.Damage.{IsWellFormed}
+use Rattle.image_tree.specs.Trees.{tree_in}
+use Rattle.image_tree.specs.Views.{IsViewOf}
+use Rattle.image_tree.proofs.Views.{checks_see_recovered, trees_see_recovered}
+use Rattle.image_tree.proofs.recovery.recover.Goals as goal
+
+from_same : (first old new : List (List ℕ)) → old ≡ first → IsViewOf old new → IsViewOf first new
+from_same first old new same view = subst (λ (x : List (List ℕ)). IsViewOf x new) same view
+
+pub returns-in_err-install-clause-well : goal.returns-in_err-install-clause-well
+returns-in_err-install-clause-well g c well =
+    checks_see_recovered (g.D.Device.contents c.args.device.now) (g.D.Device.contents c.install.new.device)
+    (from_same _ (g.D.Device.contents c.find_layout.new.device) _ c.find_layout.ensures.contents (record { sizes = c.install.ensures.sizes; good = c.install.ensures.good; same = c.install.ensures.kept })) well
+
+pub returns-in_err-install-clause-tree : goal.returns-in_err-install-clause-tree
+returns-in_err-install-clause-tree g c well =
+    trees_see_recovered (g.D.Device.contents c.args.device.now) (g.D.Device.contents c.install.new.device)
+    (from_same _ (g.D.Device.contents c.find_layout.new.device) _ c.find_layout.ensures.contents (record { sizes = c.install.ensures.sizes; good = c.install.ensures.good; same = c.install.ensures.kept })) well
+
+pub returns-clause-well : goal.returns-clause-well
+returns-clause-well g c well =
+    checks_see_recovered (g.D.Device.contents c.args.device.now) (g.D.Device.contents c.install.new.device)
+    (from_same _ (g.D.Device.contents c.find_layout.new.device) _ c.find_layout.ensures.contents (record { sizes = c.install.ensures.sizes; good = c.install.ensures.good; same = c.install.ensures.kept })) well
+
+pub returns-clause-tree : goal.returns-clause-tree
+returns-clause-tree g c well =
+    trees_see_recovered (g.D.Device.contents c.args.device.now) (g.D.Device.contents c.install.new.device)
+    (from_same _ (g.D.Device.contents c.find_layout.new.device) _ c.find_layout.ensures.contents (record { sizes = c.install.ensures.sizes; good = c.install.ensures.good; same = c.install.ensures.kept })) well
