@@ -110,11 +110,14 @@ module _ {D E : Type 0} (contents : D → List (List ℕ)) (number : E → ℕ) 
       numbers = numbers;
       order = kept.order;
       past = omega (arith, kept.past);
-      stored = (kept.stored.0, kept.stored.1,
+      stored = (
+        kept.stored.0,
+        kept.stored.1,
         respects (before number kept.stored.0 (list ++ news)) (recovered_of contents l) (recovered_of contents l') (over _ _ move.becomes)
-        (later kept.stored.0 (recovered_of contents l) (mark_past kept.stored.0 kept.stored.1) kept.stored.2));
+            (later kept.stored.0 (recovered_of contents l) (mark_past kept.stored.0 kept.stored.1) kept.stored.2),
+      );
       pending = λ way. respects (before number m.begun (list ++ news)) (seen_of contents l) (seen_of contents l') (over _ _ (move.still way))
-        (later m.begun (seen_of contents l) kept.past (kept.pending (move.begun_before way refl)));
+          (later m.begun (seen_of contents l) kept.past (kept.pending (move.begun_before way refl)));
       settled = λ is. elim (move.settles is).1 [ inl e ↦ never e | inr e ↦ kept.settled e ];
       certain = λ is. kept.certain (move.runs is);
     }
@@ -125,9 +128,12 @@ module _ {D E : Type 0} (contents : D → List (List ℕ)) (number : E → ℕ) 
       numbers = numbers;
       order = omega (arith, kept.order, kept.past);
       past = omega arith;
-      stored = (kept.stored.0, kept.stored.1,
+      stored = (
+        kept.stored.0,
+        kept.stored.1,
         respects (before number kept.stored.0 (list ++ news)) (recovered_of contents l) (recovered_of contents l') (over _ _ move.becomes)
-        (later kept.stored.0 (recovered_of contents l) (mark_past kept.stored.0 kept.stored.1) kept.stored.2));
+            (later kept.stored.0 (recovered_of contents l) (mark_past kept.stored.0 kept.stored.1) kept.stored.2),
+      );
       pending = λ way. subst (λ (es : List E). Image es (seen_of contents l')) (sym (all_before number (n + 1) (list ++ news) numbers)) image;
       settled = λ is. never (sym (move.settles is).0);
       certain = λ is. none;
@@ -142,12 +148,18 @@ module _ {D E : Type 0} (contents : D → List (List ℕ)) (number : E → ℕ) 
     -- what a commit's step makes of the mark and of the stored entries
     stored_after : (stands : Bool) (k : ℕ) (m' : Marks) → IsMove contents false stands l l' → (stands ≡ true → IsMarked m' m.begun) → (stands ≡ false → (k : ℕ) → IsMarked m k → IsMarked m' k)
         → (k : ℕ) × IsMarked m' k × Image (before number k (list ++ news)) (recovered_of contents l')
-    stored_after true k m' move fresh old = (m.begun, fresh refl,
+    stored_after true k m' move fresh old = (
+      m.begun,
+      fresh refl,
       respects (before number m.begun (list ++ news)) (seen_of contents l) (recovered_of contents l') (over _ _ move.becomes)
-      (later m.begun (seen_of contents l) kept.past (kept.pending (move.in_commit refl))))
-    stored_after false k m' move fresh old = (kept.stored.0, old refl kept.stored.0 kept.stored.1,
+          (later m.begun (seen_of contents l) kept.past (kept.pending (move.in_commit refl))),
+    )
+    stored_after false k m' move fresh old = (
+      kept.stored.0,
+      old refl kept.stored.0 kept.stored.1,
       respects (before number kept.stored.0 (list ++ news)) (recovered_of contents l) (recovered_of contents l') (over _ _ move.becomes)
-      (later kept.stored.0 (recovered_of contents l) (mark_past kept.stored.0 kept.stored.1) kept.stored.2))
+          (later kept.stored.0 (recovered_of contents l) (mark_past kept.stored.0 kept.stored.1) kept.stored.2),
+    )
 
     after_step : (stands : Bool) (m' : Marks) → IsMove contents false stands l l' → m'.begun ≡ m.begun → m'.cut ≤ m.begun → (is_settled l'.phase ≡ true → m'.cut ≡ m.begun) → (is_running l'.phase ≡ true → m'.doubt ≡ None)
         → (stands ≡ true → IsMarked m' m.begun) → (stands ≡ false → (k : ℕ) → IsMarked m k → IsMarked m' k) → IsKept contents number sizes Image (n + 1) (list ++ news) l' m'
@@ -158,8 +170,8 @@ module _ {D E : Type 0} (contents : D → List (List ℕ)) (number : E → ℕ) 
       past = omega (arith, same, kept.past);
       stored = stored_after stands 0 m' move fresh old;
       pending = λ way. subst (λ (k : ℕ). Image (before number k (list ++ news)) (seen_of contents l')) (sym same)
-        (respects (before number m.begun (list ++ news)) (seen_of contents l) (seen_of contents l') (over _ _ (move.still way))
-        (later m.begun (seen_of contents l) kept.past (kept.pending (move.begun_before way refl))));
+          (respects (before number m.begun (list ++ news)) (seen_of contents l) (seen_of contents l') (over _ _ (move.still way))
+          (later m.begun (seen_of contents l) kept.past (kept.pending (move.begun_before way refl))));
       settled = λ is. settled is ∙ sym same;
       certain = certain;
     }
@@ -204,7 +216,10 @@ module _ (n : ℕ) (m : Marks) (since : ℕ → Option ℕ) (ended : List Span) 
   pub whole_join : (hart : ℕ) (since' : ℕ → Option ℕ) → m.begun ≤ n → ((h from : ℕ) → since' h ≡ Some from → (from ≡ n) ⊎ (since h ≡ Some from)) → AreWhole (n + 1) m since' ended
   whole_join hart since' le joins = record {
     running = λ h from is. elim (joins h from is) [ inl e ↦ omega (arith, e, le) | inr e ↦ whole.running h from e ];
-    past = older; at_begun = whole.at_begun; at_cut = whole.at_cut; at_doubt = whole.at_doubt;
+    past = older;
+    at_begun = whole.at_begun;
+    at_cut = whole.at_cut;
+    at_doubt = whole.at_doubt;
   }
 
   pub whole_leave : (hart from : ℕ) (since' : ℕ → Option ℕ) → m.cut ≤ m.begun → since hart ≡ Some from → ((h k : ℕ) → since' h ≡ Some k → since h ≡ Some k) → AreWhole (n + 1) m since' (record { from = from; to = n } ∷ ended)
@@ -330,7 +345,7 @@ module _ {D E : Type 0} (contents : D → List (List ℕ)) (number : E → ℕ) 
   grew i lt =
       let kept = (all i (omega (arith, lt))).kept in
       let same : (m : Marks) → marks (i + 1) ≡ m → ((marks i).begun ≤ m.begun) × ((marks i).cut ≤ m.cut) → ((marks i).begun ≤ (marks (i + 1)).begun) × ((marks i).cut ≤ (marks (i + 1)).cut) =
-          (λ m is h. subst (λ (x : Marks). ((marks i).begun ≤ x.begun) × ((marks i).cut ≤ x.cut)) (sym is) h) in
+      (λ m is h. subst (λ (x : Marks). ((marks i).begun ≤ x.begun) × ((marks i).cut ≤ x.cut)) (sym is) h) in
       elim (story.does i lt) [
         | inl p ↦ same (marks i) p.1 (omega arith, omega arith)
         | inr rest ↦ elim rest [
@@ -390,7 +405,7 @@ module _ {D E : Type 0} (contents : D → List (List ℕ)) (number : E → ℕ) 
       let kept = (all contents number sizes Image respects n lists logs marks story i (omega (arith, lt))).kept in
       let after = turned i (marks i) (since i) (since (i + 1)) (ended i) (ended (i + 1)) kept.order kept.past whole (spans.turns i lt) in
       let as_ : (m : Marks) → marks (i + 1) ≡ m → AreWhole (i + 1) m (since (i + 1)) (ended (i + 1)) → AreWhole (i + 1) (marks (i + 1)) (since (i + 1)) (ended (i + 1)) =
-          (λ m is w. subst (λ (x : Marks). AreWhole (i + 1) x (since (i + 1)) (ended (i + 1))) (sym is) w) in
+      (λ m is w. subst (λ (x : Marks). AreWhole (i + 1) x (since (i + 1)) (ended (i + 1))) (sym is) w) in
       elim (story.does i lt) [
         | inl p ↦ as_ (marks i) p.1 after
         | inr rest ↦ elim rest [
@@ -417,8 +432,9 @@ module _ {D E : Type 0} (contents : D → List (List ℕ)) (number : E → ℕ) 
   pub none_in_part : (i : ℕ) → i ≤ n → (k : ℕ) → IsMarked (marks i) k → AllByRecursion (IsApart k) (ended i) × ((h from : ℕ) → since i h ≡ Some from → k ≤ from)
   none_in_part i le k marked =
       let whole = all_whole i le in
-      let kept = (all contents number sizes Image respects n lists logs marks story i le).kept in
-      (apart_at i (marks i) (since i) (ended i) whole k marked,
+      let kept = (all contents number sizes Image respects n lists logs marks story i le).kept in (
+        apart_at i (marks i) (since i) (ended i) whole k marked,
         λ h from is.
-        let a = whole.running h from is in
-        elim marked [ inl e ↦ omega (arith, e, a, kept.order) | inr e ↦ let b = whole.at_doubt k e in omega (arith, a, b) ])
+            let a = whole.running h from is in
+            elim marked [ inl e ↦ omega (arith, e, a, kept.order) | inr e ↦ let b = whole.at_doubt k e in omega (arith, a, b) ],
+      )

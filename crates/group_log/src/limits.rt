@@ -8,6 +8,3 @@ pub const BLOCKS_OF_A_TRANSACTION: u8 = 10;
 
 /// One place for each hart.
 pub(crate) const PLACES: usize = 8;
-
-/// The superblock's number.
-pub(crate) const SUPER_BLOCK: u32 = 1;

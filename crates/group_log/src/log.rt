@@ -11,7 +11,7 @@ ghost use Rattle.buffer_cache.specs.Seats.{is_held_by, holder_of, IsHeld, KeepsH
 
 use crate::commit::{Progress, show_each_once, write_next};
 use crate::copies::Written;
-use crate::limits::{BLOCKS_OF_A_TRANSACTION, MOST_LOGGED, PLACES, SUPER_BLOCK};
+use crate::limits::{BLOCKS_OF_A_TRANSACTION, MOST_LOGGED, PLACES};
 use crate::members::{add, contains, has_room, is_member, outstanding};
 use crate::phase::{Phase, after, clear_when_open};
 use crate::txn::{RetiredLog, Txn};
@@ -152,15 +152,11 @@ impl<D: Device> Log<D> {
         is_outside(&self.sizes, b)
     }
 
-    /// Whether a block may be recorded: it is on the disk, neither the log's nor the superblock.
+    /// Whether a block may be recorded: it is one from the inodes on, below the size that the superblock has.
     pub fn is_home(&self, b: u32) -> bool
         ensures { IsTrue result ↔ IsHome (D.contents self.now.cache.device) self.now.sizes b }
     {
-        is_outside(&self.sizes, b)
-            && b != SUPER_BLOCK
-            && b < self.cache.device().blocks()
-            && self.sizes.inodestart <= b
-            && b < self.sizes.size
+        self.sizes.inodestart <= b && b < self.sizes.size
     }
 
     /// Joins a transaction. It waits exactly while a commit runs, where the group might outgrow the log, and for good

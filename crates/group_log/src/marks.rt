@@ -44,7 +44,11 @@ impl Marks {
             Progress::Failed => Marks {
                 begun: self.begun,
                 cut: self.cut,
-                doubt: if at_point { Some(self.begun) } else { self.doubt },
+                doubt: if at_point {
+                    Some(self.begun)
+                } else {
+                    self.doubt
+                },
             },
         }
     }

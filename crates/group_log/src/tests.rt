@@ -1,6 +1,8 @@
 //! A log over disks in memory: who waits, what a commit writes, and what a fault leaves.
 ghost use Rattle.std.specs.Prelude.{◌≡◌, ◌<◌, [], length, IfOk, OnOk};
+ghost use Rattle.fs_layout.specs.Bytes.{u32_at};
 ghost use Rattle.fs_layout.specs.Recovered.{block_at, logged, sizes_of};
+ghost use Rattle.fs_layout.specs.Widths.{magic, super_block, super_magic_at};
 ghost use Rattle.group_log.specs.Soundness.{IsPlaced};
 
 use crate::{Left, Log, Phase, Progress, Txn};
@@ -12,10 +14,10 @@ use std::alloc::{AllocError, Global};
 use std::process::Abort;
 use std::test::Fail;
 
-// Where the parts of the fresh image lie.
+// Where the parts of the fresh image lie, with fewer data blocks.
 const FRESH: Super = Super {
-    size: 2000,
-    nblocks: 1953,
+    size: 64,
+    nblocks: 17,
     ninodes: 200,
     nlog: 31,
     logstart: 2,
@@ -23,7 +25,6 @@ const FRESH: Super = Super {
     bmapstart: 46,
 };
 
-// The blocks up to the last that is changed.
 const BLOCKS: usize = 64;
 
 // A disk of zeros with such a superblock.
@@ -89,6 +90,7 @@ fn read<D: Device>(device: &mut D, b: u32) -> Result<[u8; BLOCK_SIZE], Fault>
 fn sizes_in<D: Device>(device: &mut D) -> Result<Super, Fault>
     requires { 1 < length (D.contents device.old) }
     ensures sizes { IfOk result (λ sizes. sizes_of (D.contents device.old) ≡ sizes) }
+    ensures magic { OnOk result (u32_at (block_at (D.contents device.old) super_block) super_magic_at ≡ magic) }
     ensures contents { D.contents device.new ≡ D.contents device.old }
 {
     let block = read(device, 1)?;
@@ -128,8 +130,10 @@ fn parts<D: Device>(device: &mut D) -> Result<Super, Fault>
     let sizes = sizes_in(device)?;
     if sizes.logstart < 2
         || sizes.nlog == 0
-        || blocks < sizes.logstart
-        || blocks - sizes.logstart < sizes.nlog
+        || blocks < sizes.size
+        || sizes.size < sizes.inodestart
+        || sizes.inodestart < sizes.logstart
+        || sizes.inodestart - sizes.logstart < sizes.nlog
     {
         return Err(Fault);
     }

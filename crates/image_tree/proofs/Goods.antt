@@ -36,10 +36,16 @@ module _ (d : List (List ℕ)) (good : UpToLog d) where
   rest_of : (c : ℕ) (v : List ℕ) → c ≢ 1 → HasGoodLog (set d c v) → UpToLog (set d c v)
   rest_of c v ne head =
       let a = good.0 in let b = a.0 in
-      let same : sizes_of (set d c v) ≡ sizes_of d = sizes_of-set d c v ne in
-      (((subst (λ (n : ℕ). 2 ≤ n) (sym (length-set d c v)) two,
-        (ap (λ (bytes : List ℕ). u32_at bytes 0) (block_at-set_other d c 1 v (λ e. ne (sym e))) ∙ b.1.0, subst IsGoodSuper (sym same) b.1.1)),
-        (let l = length-set d c v in let z = ap (λ (z : Super). z.size) same in omega (arith, l, z, within_disk))), head)
+      let same : sizes_of (set d c v) ≡ sizes_of d = sizes_of-set d c v ne in (
+        (
+          (
+            subst (λ (n : ℕ). 2 ≤ n) (sym (length-set d c v)) two,
+            (ap (λ (bytes : List ℕ). u32_at bytes 0) (block_at-set_other d c 1 v (λ e. ne (sym e))) ∙ b.1.0, subst IsGoodSuper (sym same) b.1.1),
+          ),
+          (let l = length-set d c v in let z = ap (λ (z : Super). z.size) same in omega (arith, l, z, within_disk)),
+        ),
+        head,
+      )
 
   pub home_keeps : (c : ℕ) (v : List ℕ) → (sizes_of d).inodestart ≤ c → c < (sizes_of d).size → UpToLog (set d c v)
   home_keeps c v le lt =
@@ -73,7 +79,6 @@ module _ (d : List (List ℕ)) (good : UpToLog d) where
         within = subst (λ (l : List ℕ). All (λ b. ((sizes_of (set d c v)).inodestart ≤ b) × (b < (sizes_of (set d c v)).size)) l) (sym none) (λ k z lt. absurd (omega (arith, lt)));
         once = subst (λ (l : List ℕ). IsOnce l) (sym none) (record { apart = λ j k z lt below. absurd (omega (arith, below)) });
       })
-
 
 module _ (d e : List (List ℕ)) (sizes : Super) (f : ℕ → List ℕ) (ks : List ℕ) (size i : ℕ) (at : Installed d sizes f ks size i) (good : UpToLog d) where
   pub copy_good : (blocks : List ℕ) (v : List ℕ) → blocks ≡ ks → i < length blocks → (e ≡ d) ⊎ (e ≡ set d (get_or blocks i 0) v) → UpToLog e
