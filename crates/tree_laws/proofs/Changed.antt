@@ -10,16 +10,16 @@ use Rattle.plain_tree.specs.declared.step.Action.TheVariants.{Open, Truncate, Re
 use Rattle.plain_tree.specs.declared.step.StepAnswer.{StepAnswer}
 use Rattle.plain_tree.specs.declared.step.StepAnswer.TheVariants.{Opened, Bytes, Stat as Status, Fd as NewFd, Done, Failed, Full as NoRoom}
 use Rattle.plain_tree.specs.Widths.{hart_count}
-use Rattle.plain_tree.specs.Tree.{Name, Tree, put, same_name, dot, dotdot, is_directory, live_directory, all_slots, first_slot, look, resolve, parent, settle}
-use Rattle.plain_tree.specs.Steps.{node_or, node_at, file_at, is_open_file, has_room, creates, enter_refusal, child_refusal, unlink_refusal, mkdir_refusal, not_empty, any_used, first_free, cleared, path_of, refusal_with, place_of, IsInPlace, effect_with, refused, new_file, new_directory, raised, lowered, emptied, truncated, written_kind, written, moved, wrote, held, at_hold, enter_hold, drop_hold, removed, removed_child, made, opened_at, opened_in, opened_new, at_dir, with_file, is_absent, is_nothing, makes_node, IsNewNode, MayChoose, StepWith}
+use Rattle.plain_tree.specs.Tree.{Name, Tree, put, same_name, dot, dotdot, is_directory, live_directory, all_slots, first_slot, look, settle}
+use Rattle.plain_tree.specs.Steps.{node_or, node_at, file_at, is_open_file, has_room, creates, enter_refusal, child_refusal, unlink_refusal, mkdir_refusal, not_empty, any_used, first_free, cleared, refusal_with, place_of, IsInPlace, effect_with, refused, new_file, new_directory, raised, lowered, emptied, truncated, written_kind, written, moved, wrote, held, at_hold, enter_hold, drop_hold, removed, removed_child, made, opened_at, opened_in, opened_new, at_dir, with_file, is_absent, is_nothing, makes_node, IsNewNode, MayChoose, StepWith}
 use Rattle.tree_laws.proofs.Maps.{either, put_same, put_other, or_none}
 use Rattle.tree_laws.specs.WellFormed.{Slots, Folders, folder, folders_of, links_in, raises, up_in, NamesOnce, IsWellFormed}
-use Rattle.tree_laws.specs.Leaves.{names_change}
+use Rattle.tree_laws.specs.Leaves.{names_change, IsFound}
 use Rattle.tree_laws.proofs.Slots.{Dots}
 use Rattle.tree_laws.proofs.Forest.{plain_or}
 use Rattle.tree_laws.proofs.Nodes.{folder_live, folder_dead, folder_some, folder_links, linked_live, folders_put, put_self, settle_folders}
 use Rattle.tree_laws.proofs.Walks.{look_in}
-use Rattle.tree_laws.proofs.Facts.{parent_live, entry_found, entry_linked}
+use Rattle.tree_laws.proofs.Facts.{entry_found, entry_linked}
 use Rattle.tree_laws.proofs.Formed.{counted_folders, entered_folders, new_folders, new_apart, not_folder, with_new}
 use Rattle.tree_laws.proofs.Placed.{with_directory, without, less, without_folders, less_folder, put_turn, can_go, sort_file, sort_folder, raised_folder, positive, gone, links_node}
 use Rattle.tree_laws.proofs.Kept.{LiveParent, in_place, absent_slot, none_taken, or_first, dotted, plain, there_map, open_node, file_sort, emptied_sort, written_sort, written_dir}
@@ -211,7 +211,7 @@ effect_change t h (Close fd) res par new id k lt place live ref may = Same refl
 effect_change t h (Fstat fd) res par new id k lt place live ref may = Same refl
 effect_change t h (Inherit child) res par new id k lt place live ref may = Same refl
 
-refused_folders : (t : Tree) (h : ℕ) (s : Action) → folders_of (refused t h s).nodes ≡ folders_of t.nodes
+pub refused_folders : (t : Tree) (h : ℕ) (s : Action) → folders_of (refused t h s).nodes ≡ folders_of t.nodes
 refused_folders t h Bump = settle_folders (drop_hold t h)
 refused_folders t h (Open path flags) = refl
 refused_folders t h (Truncate fd) = refl
@@ -229,19 +229,19 @@ refused_folders t h (Fstat fd) = refl
 refused_folders t h (Inherit child) = refl
 
 -- what a step does to the live directories
-pub step_change : (t t' : Tree) (h : ℕ) (s : Action) (a : StepAnswer) (new id : ℕ) → IsWellFormed t → StepWith t h s (resolve t h (path_of s)) (parent t h (path_of s)) a new id t' → Change (folders_of t.nodes) (folders_of t'.nodes) (names_change s) (makes_node t s (parent t h (path_of s))) (parent t h (path_of s)) new
-step_change t t' h s a new id k = go a
+pub step_change : (t t' : Tree) (h : ℕ) (s : Action) (res : Option ℕ) (par : Option (ℕ × Name)) (a : StepAnswer) (new id : ℕ) → IsWellFormed t → IsFound t res par → StepWith t h s res par a new id t' → Change (folders_of t.nodes) (folders_of t'.nodes) (names_change s) (makes_node t s par) par new
+step_change t t' h s res par a new id k found = go a
   where
-    done : refusal_with t h s (resolve t h (path_of s)) (parent t h (path_of s)) ≡ None → MayChoose t h s (parent t h (path_of s)) new id → t' ≡ settle (effect_with t h s (resolve t h (path_of s)) (parent t h (path_of s)) new id) → IsInPlace t h s
-        → Change (folders_of t.nodes) (folders_of t'.nodes) (names_change s) (makes_node t s (parent t h (path_of s))) (parent t h (path_of s)) new
+    done : refusal_with t h s res par ≡ None → MayChoose t h s par new id → t' ≡ settle (effect_with t h s res par new id) → IsInPlace t h s
+        → Change (folders_of t.nodes) (folders_of t'.nodes) (names_change s) (makes_node t s par) par new
     done ref may is place =
         let two = in_place t h s place in
-        let u : Tree = effect_with t h s (resolve t h (path_of s)) (parent t h (path_of s)) new id in
+        let u : Tree = effect_with t h s res par new id in
         let e : folders_of t'.nodes ≡ folders_of u.nodes = ap (λ (z : Tree). folders_of z.nodes) is ∙ settle_folders u in
-        subst (λ (G : Folders). Change (folders_of t.nodes) G (names_change s) (makes_node t s (parent t h (path_of s))) (parent t h (path_of s)) new) (sym e)
-        (effect_change t h s (resolve t h (path_of s)) (parent t h (path_of s)) new id k two.0 two.1 (λ q e. parent_live t h (path_of s) q e) ref may)
+        subst (λ (G : Folders). Change (folders_of t.nodes) G (names_change s) (makes_node t s par) par new) (sym e)
+        (effect_change t h s res par new id k two.0 two.1 found.directory ref may)
 
-    go : (a : StepAnswer) → StepWith t h s (resolve t h (path_of s)) (parent t h (path_of s)) a new id t' → Change (folders_of t.nodes) (folders_of t'.nodes) (names_change s) (makes_node t s (parent t h (path_of s))) (parent t h (path_of s)) new
+    go : (a : StepAnswer) → StepWith t h s res par a new id t' → Change (folders_of t.nodes) (folders_of t'.nodes) (names_change s) (makes_node t s par) par new
     go (Failed c) o = Same (ap (λ (z : Tree). folders_of z.nodes) o.1 ∙ refused_folders t h s)
     go (Opened fd j f) o = done o.0 o.2 o.3 o.4
     go (Bytes b) o = done o.0 o.2 o.3 o.4

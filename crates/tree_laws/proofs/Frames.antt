@@ -9,17 +9,17 @@ use Rattle.plain_tree.specs.declared.step.Action.TheVariants.{Open, Truncate, Re
 use Rattle.plain_tree.specs.declared.step.StepAnswer.{StepAnswer}
 use Rattle.plain_tree.specs.declared.step.StepAnswer.TheVariants.{Opened, Bytes, Stat as Status, Fd as NewFd, Done, Failed, Full as NoRoom}
 use Rattle.plain_tree.specs.Widths.{hart_count, descriptor_count}
-use Rattle.plain_tree.specs.Tree.{Name, Tree, put, same_name, dot, dotdot, climbs_in, live_directory, is_live, all_slots, first_slot, look, follow, resolve, parent, settle, is_named, hold_names, fd_names, file_names}
-use Rattle.plain_tree.specs.Steps.{new_file, has_room, creates, any_used, first_free, cleared, path_of, effect_with, refused, truncated, written, wrote, moved, file_at, held, at_hold, enter_hold, drop_hold, removed, removed_child, made, raise_hold, opened_at, opened_in, opened_new, at_dir, with_file, makes_node, StepWith}
+use Rattle.plain_tree.specs.Tree.{Name, Tree, put, same_name, dot, dotdot, climbs_in, live_directory, is_live, all_slots, first_slot, look, follow, settle, is_named, hold_names, fd_names, file_names}
+use Rattle.plain_tree.specs.Steps.{new_file, has_room, creates, any_used, first_free, cleared, refusal_with, effect_with, refused, truncated, written, wrote, moved, file_at, held, at_hold, enter_hold, drop_hold, removed, removed_child, made, raise_hold, opened_at, opened_in, opened_new, at_dir, with_file, makes_node, StepWith}
 use Rattle.tree_laws.proofs.Maps.{either, same_or, eq_not, put_is, put_same, put_other, none_any}
 use Rattle.tree_laws.specs.WellFormed.{Slots, Folders, folder, folders_of, up_in, NamesOnce, IsWellFormed}
-use Rattle.tree_laws.specs.Leaves.{names_change, LeavesFinding, Frame, IsNobodys}
+use Rattle.tree_laws.specs.Leaves.{names_change, IsFound, LeavesFinding, Frame, IsNobodys}
 use Rattle.tree_laws.proofs.Slots.{same_is, same_self, entered_other, cleared_other, cleared_gone, first_dots, first_dot, first_unused, Dots}
 use Rattle.tree_laws.proofs.Nodes.{folder_live, folder_dead, folder_some, folder_none}
 use Rattle.tree_laws.proofs.Walks.{look_bad, look_in, look_good, first_found, follow_end, follow_step, Removes, after_removal}
 use Rattle.tree_laws.proofs.Facts.{look_live}
 use Rattle.tree_laws.proofs.Formed.{with_new}
-use Rattle.tree_laws.proofs.Changed.{Change, step_change}
+use Rattle.tree_laws.proofs.Changed.{Change, refused_folders, step_change}
 use Rattle.tree_laws.proofs.Changed.Change.{Same, Entered, Made, Cleared, Removed}
 
 abbrev Nodes : Type 0
@@ -244,13 +244,30 @@ change_gone ns ns' b m par new (Removed d n e ss ds bt pt dn is once found dis s
   ]
 ]
 
-pub step_finds : (t t' : Tree) (h : ℕ) (s : Action) (a : StepAnswer) (new id : ℕ) → IsWellFormed t → StepWith t h s (resolve t h (path_of s)) (parent t h (path_of s)) a new id t' → LeavesFinding t h s new t'
-step_finds t t' h s a new id k o =
-    let c = step_change t t' h s a new id k o in
+-- where the step makes no node of this number, it becomes no live directory
+step_dead : (t t' : Tree) (h : ℕ) (s : Action) (res : Option ℕ) (par : Option (ℕ × Name)) (a : StepAnswer) (new id : ℕ) → IsWellFormed t → IsFound t res par → StepWith t h s res par a new id t'
+    → (n : ℕ) → (refusal_with t h s res par ≡ None → makes_node t s par ≡ true → n ≢ new) → live_directory (t.nodes n) ≡ false → live_directory (t'.nodes n) ≡ false
+step_dead t t' h s res par a new id k found o n ne dead = folder_none (t'.nodes n) (go a o)
+  where
+    done : (a : StepAnswer) → StepWith t h s res par a new id t' → refusal_with t h s res par ≡ None → folder (t'.nodes n) ≡ None
+    done a o ref = change_dead t.nodes t'.nodes (names_change s) (makes_node t s par) par new (step_change t t' h s res par a new id k found o) n (ne ref) (folder_dead (t.nodes n) dead)
+
+    go : (a : StepAnswer) → StepWith t h s res par a new id t' → folder (t'.nodes n) ≡ None
+    go (Failed c) o = ap (λ (z : Tree). folders_of z.nodes n) o.1 ∙ (ap (λ (G : Folders). G n) (refused_folders t h s) ∙ folder_dead (t.nodes n) dead)
+    go (Opened fd j f) o = done (Opened fd j f) o o.0
+    go (Bytes b) o = done (Bytes b) o o.0
+    go (Status x) o = done (Status x) o o.0
+    go (NewFd fd) o = done (NewFd fd) o o.0
+    go Done o = done Done o o.0
+    go (NoRoom f) o = done (NoRoom f) o o.0
+
+pub step_finds : (t t' : Tree) (h : ℕ) (s : Action) (res : Option ℕ) (par : Option (ℕ × Name)) (a : StepAnswer) (new id : ℕ) → IsWellFormed t → IsFound t res par → StepWith t h s res par a new id t' → LeavesFinding t h s res par new t'
+step_finds t t' h s res par a new id k found o =
+    let c = step_change t t' h s res par a new id k found o in
     record {
-      finds = λ d e live live' other. change_finds t.nodes t'.nodes (names_change s) (makes_node t s (parent t h (path_of s))) (parent t h (path_of s)) new c d e live live' other;
-      gone = λ d live dead. change_gone t.nodes t'.nodes (names_change s) (makes_node t s (parent t h (path_of s))) (parent t h (path_of s)) new c d (all_slots (t.nodes d)) (folder_live (t.nodes d) live) (folder_dead (t'.nodes d) dead);
-      dead = λ d ne dead. folder_none (t'.nodes d) (change_dead t.nodes t'.nodes (names_change s) (makes_node t s (parent t h (path_of s))) (parent t h (path_of s)) new c d ne (folder_dead (t.nodes d) dead));
+      finds = λ d e live live' other. change_finds t.nodes t'.nodes (names_change s) (makes_node t s par) par new c d e live live' other;
+      gone = λ d live dead. change_gone t.nodes t'.nodes (names_change s) (makes_node t s par) par new c d (all_slots (t.nodes d)) (folder_live (t.nodes d) live) (folder_dead (t'.nodes d) dead);
+      dead = step_dead t t' h s res par a new id k found o;
     }
 
 -- Current directories of the other harts.
@@ -486,15 +503,13 @@ step_holds t t' h g s Done new id res par o ne = ap (λ (z : Tree). z.holds g) o
 step_holds t t' h g s (NoRoom f) new id res par o ne = ap (λ (z : Tree). z.holds g) o.3 ∙ (of_hart _ _ g (settled_holds _) ∙ effect_holds t h g s res par new id ne)
 
 -- What a tree step leaves to the walks of the other harts.
-pub step_frame : (t t' : Tree) (h : ℕ) (s : Action) (a : StepAnswer) (new id : ℕ) → IsWellFormed t → StepWith t h s (resolve t h (path_of s)) (parent t h (path_of s)) a new id t' → Frame t h s new t'
-step_frame t t' h s a new id k o =
-    let c = step_change t t' h s a new id k o in
-    record {
-      paths = change_leads t.nodes t'.nodes (names_change s) (makes_node t s (parent t h (path_of s))) (parent t h (path_of s)) new c;
-      dead = λ n ne dead. folder_none (t'.nodes n) (change_dead t.nodes t'.nodes (names_change s) (makes_node t s (parent t h (path_of s))) (parent t h (path_of s)) new c n ne (folder_dead (t.nodes n) dead));
-      holds = λ g ne. step_holds t t' h g s a new id (resolve t h (path_of s)) (parent t h (path_of s)) o ne;
-      cwds = λ g ne other. step_cwd t t' h g s a new id (resolve t h (path_of s)) (parent t h (path_of s)) o ne other;
-    }
+pub step_frame : (t t' : Tree) (h : ℕ) (s : Action) (res : Option ℕ) (par : Option (ℕ × Name)) (a : StepAnswer) (new id : ℕ) → IsWellFormed t → IsFound t res par → StepWith t h s res par a new id t' → Frame t h s res par new t'
+step_frame t t' h s res par a new id k found o = record {
+  paths = change_leads t.nodes t'.nodes (names_change s) (makes_node t s par) par new (step_change t t' h s res par a new id k found o);
+  dead = step_dead t t' h s res par a new id k found o;
+  holds = λ g ne. step_holds t t' h g s a new id res par o ne;
+  cwds = λ g ne other. step_cwd t t' h g s a new id res par o ne other;
+}
 
 -- A number that isn't in the tree is nobody's.
 

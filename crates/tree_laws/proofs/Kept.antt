@@ -1,5 +1,5 @@
 -- Every tree step keeps a tree well formed.
-use Rattle.std.proofs.Common.{◌≡◌, ℕ, ◌<◌, Bool, true, false, ◌&&◌, ◌||◌, not, ◌==◌, inl, inr, refl, sym, ◌∙◌, ap, subst, arith, List, [], ◌∷◌, length, Option, Some, None, nat_lt, if◌then◌else◌}
+use Rattle.std.proofs.Common.{◌≡◌, ◌≢◌, ℕ, ◌<◌, Bool, true, false, ◌&&◌, ◌||◌, not, ◌==◌, inl, inr, refl, sym, ◌∙◌, ap, subst, arith, List, [], ◌∷◌, length, Option, Some, None, nat_lt, if◌then◌else◌}
 use Rattle.std.proofs.lemmas.Bool.Decides.{nat_tests}
 use Rattle.plain_tree.specs.declared.answer.Cause.{Cause}
 use Rattle.plain_tree.specs.declared.answer.Cause.TheVariants.{DotName}
@@ -14,9 +14,10 @@ use Rattle.plain_tree.specs.declared.step.StepAnswer.{StepAnswer}
 use Rattle.plain_tree.specs.declared.step.StepAnswer.TheVariants.{Opened, Bytes, Stat as Status, Fd as NewFd, Done, Failed, Full as NoRoom}
 use Rattle.plain_tree.specs.Widths.{hart_count}
 use Rattle.plain_tree.specs.Tree.{Name, Tree, put, same_name, dot, dotdot, is_directory, live_directory, all_slots, first_slot, look, resolve, parent, settle}
-use Rattle.plain_tree.specs.Steps.{node_or, node_at, file_at, is_file, is_open_file, holds_raised, has_room, creates, find_refusal, enter_refusal, name_taken, or_else, child_refusal, unlink_refusal, mkdir_refusal, chdir_refusal, fd_refusal, path_of, refusal_with, place_of, IsInPlace, effect_with, refused, new_file, raised, lowered, emptied, truncated, written_kind, written, wrote, held, at_hold, raise_hold, enter_hold, drop_hold, removed, removed_child, made, opened_at, opened_in, opened_new, at_dir, is_absent, is_nothing, IsNewNode, MayChoose, StepWith}
+use Rattle.plain_tree.specs.Steps.{node_or, node_at, file_at, is_file, is_open_file, holds_raised, has_room, creates, find_refusal, enter_refusal, name_taken, or_else, child_refusal, unlink_refusal, mkdir_refusal, chdir_refusal, fd_refusal, refusal_with, place_of, IsInPlace, effect_with, refused, new_file, raised, lowered, emptied, truncated, written_kind, written, wrote, held, at_hold, raise_hold, enter_hold, drop_hold, removed, removed_child, made, opened_at, opened_in, opened_new, at_dir, is_absent, is_nothing, IsNewNode, MayChoose, StepWith}
 use Rattle.tree_laws.proofs.Maps.{either, eq_self, eq_not, put_same, and_true, or_none}
 use Rattle.tree_laws.specs.WellFormed.{folder, links_of, links_in, raised_at, one_if, is_free_to_find, IsThere, IsWellFormed}
+use Rattle.tree_laws.specs.Leaves.{IsFound}
 use Rattle.tree_laws.proofs.Sums.{one_yes, one_no}
 use Rattle.tree_laws.proofs.Nodes.{live_some, settled_well}
 use Rattle.tree_laws.proofs.Walks.{look_in}
@@ -214,7 +215,7 @@ dup_well t h fd None k lt is ref = absurd cc
 dup_well t h fd (Some f) k lt is ref = well_dup t h fd f k lt is
 
 -- A step that isn't refused. map, live: what the path's results are.
-effect_well : (t : Tree) (h : ℕ) (s : Action) (res : Option ℕ) (par : Option (ℕ × Name)) (new id : ℕ) → IsWellFormed t → h < hart_count → place_of t h s ≡ true → is_free_to_find t h s ≡ true → ((n : ℕ) → res ≡ Some n → InMap t.nodes n) → LiveParent t par
+pub effect_well : (t : Tree) (h : ℕ) (s : Action) (res : Option ℕ) (par : Option (ℕ × Name)) (new id : ℕ) → IsWellFormed t → h < hart_count → place_of t h s ≡ true → is_free_to_find t h s ≡ true → ((n : ℕ) → res ≡ Some n → InMap t.nodes n) → LiveParent t par
     → refusal_with t h s res par ≡ None → MayChoose t h s par new id → IsWellFormed (effect_with t h s res par new id)
 unfolding effect_with refusal_with place_of
 effect_well t h (Open path flags) res par new id k lt place free map live ref may = elim (either (creates flags)) [
@@ -268,24 +269,24 @@ in_place t h s is = let two = and_true (nat_lt h hart_count) (place_of t h s) is
     less : (a : ℕ) → nat_lt a hart_count ≡ true → a < hart_count
     less a h = grind (arith, nat_tests)
 
--- Every tree step keeps a tree well formed.
-pub step_well : (t t' : Tree) (h : ℕ) (s : Action) (a : StepAnswer) (new id : ℕ) → IsWellFormed t → is_free_to_find t h s ≡ true → StepWith t h s (resolve t h (path_of s)) (parent t h (path_of s)) a new id t' → IsWellFormed t'
-step_well t t' h s a new id k free = go a
+pub found_map : (t : Tree) (res : Option ℕ) (par : Option (ℕ × Name)) → IsFound t res par → (n : ℕ) → res ≡ Some n → InMap t.nodes n
+found_map t res par f n e = there (t.nodes n) (f.node n e)
   where
-    res : Option ℕ
-    res = resolve t h (path_of s)
+    there : (o : Option Node) → o ≢ None → o ≡ Some (node_or o)
+    there None ne = absurd (ne refl)
+    there (Some v) ne = refl
 
-    par : Option (ℕ × Name)
-    par = parent t h (path_of s)
-
-    done : (u : Tree) → refusal_with t h s (resolve t h (path_of s)) (parent t h (path_of s)) ≡ None → MayChoose t h s (parent t h (path_of s)) new id → u ≡ settle (effect_with t h s (resolve t h (path_of s)) (parent t h (path_of s)) new id) → IsInPlace t h s → IsWellFormed u
+-- Every tree step keeps a tree well formed.
+pub step_well : (t t' : Tree) (h : ℕ) (s : Action) (res : Option ℕ) (par : Option (ℕ × Name)) (a : StepAnswer) (new id : ℕ) → IsWellFormed t → IsFound t res par → is_free_to_find t h s ≡ true → StepWith t h s res par a new id t' → IsWellFormed t'
+step_well t t' h s res par a new id k found free = go a
+  where
+    done : (u : Tree) → refusal_with t h s res par ≡ None → MayChoose t h s par new id → u ≡ settle (effect_with t h s res par new id) → IsInPlace t h s → IsWellFormed u
     done u ref may is place =
         let two = in_place t h s place in
         subst (λ (z : Tree). IsWellFormed z) (sym is)
-        (settled_well (effect_with t h s (resolve t h (path_of s)) (parent t h (path_of s)) new id)
-        (effect_well t h s (resolve t h (path_of s)) (parent t h (path_of s)) new id k two.0 two.1 free (λ n e. resolve_map t h n (path_of s) two.0 k e) (λ q e. parent_live t h (path_of s) q e) ref may))
+        (settled_well (effect_with t h s res par new id) (effect_well t h s res par new id k two.0 two.1 free (found_map t res par found) found.directory ref may))
 
-    go : (a : StepAnswer) → StepWith t h s (resolve t h (path_of s)) (parent t h (path_of s)) a new id t' → IsWellFormed t'
+    go : (a : StepAnswer) → StepWith t h s res par a new id t' → IsWellFormed t'
     go (Failed c) o = let two = in_place t h s o.2 in subst (λ (z : Tree). IsWellFormed z) (sym o.1) (refused_well t h s k two.0 two.1)
     go (Opened fd j f) o = done t' o.0 o.2 o.3 o.4
     go (Bytes b) o = done t' o.0 o.2 o.3 o.4
@@ -293,3 +294,19 @@ step_well t t' h s a new id k free = go a
     go (NewFd fd) o = done t' o.0 o.2 o.3 o.4
     go Done o = done t' o.0 o.2 o.3 o.4
     go (NoRoom f) o = done t' o.0 o.2 o.3 o.4
+
+pub step_hart : (t t' : Tree) (h : ℕ) (s : Action) (res : Option ℕ) (par : Option (ℕ × Name)) (a : StepAnswer) (new id : ℕ) → StepWith t h s res par a new id t' → h < hart_count
+step_hart t t' h s res par (Failed c) new id o = (in_place t h s o.2).0
+step_hart t t' h s res par (Opened fd j f) new id o = (in_place t h s o.4).0
+step_hart t t' h s res par (Bytes b) new id o = (in_place t h s o.4).0
+step_hart t t' h s res par (Status x) new id o = (in_place t h s o.4).0
+step_hart t t' h s res par (NewFd fd) new id o = (in_place t h s o.4).0
+step_hart t t' h s res par Done new id o = (in_place t h s o.4).0
+step_hart t t' h s res par (NoRoom f) new id o = (in_place t h s o.4).0
+
+-- what a whole path leads to
+pub path_found : (t : Tree) (h : ℕ) (path : List ℕ) → h < hart_count → IsWellFormed t → IsFound t (resolve t h path) (parent t h path)
+path_found t h path lt k = record {
+  node = λ n e none. let there : InMap t.nodes n = resolve_map t h n path lt k e in absurd (cc (there, none));
+  directory = λ q e. parent_live t h path q e;
+}

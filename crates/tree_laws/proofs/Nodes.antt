@@ -1,5 +1,5 @@
 -- Nodes as the forest sees them, and what settling leaves.
-use Rattle.std.proofs.Common.{◌≡◌, ℕ, ◌<◌, ◌≤◌, Bool, true, false, ◌||◌, ◌==◌, ◌⊎◌, inl, inr, refl, sym, ◌∙◌, ap, subst, arith, Option, Some, None, nat_lt}
+use Rattle.std.proofs.Common.{◌≡◌, ◌≢◌, ℕ, ◌<◌, ◌≤◌, Bool, true, false, ◌||◌, ◌==◌, ◌⊎◌, inl, inr, refl, sym, ◌∙◌, ap, subst, arith, Option, Some, None, nat_lt}
 use Rattle.std.proofs.lemmas.Bool.Decides.{nat_tests}
 use Rattle.plain_tree.specs.declared.node.Node.{Node}
 use Rattle.plain_tree.specs.declared.tree.OpenFile.{OpenFile}
@@ -7,7 +7,7 @@ use Rattle.plain_tree.specs.declared.tree.Hold.{Hold}
 use Rattle.plain_tree.specs.Widths.{hart_count, descriptor_count}
 use Rattle.plain_tree.specs.Tree.{Tree, put, any_below, live_directory, is_live, all_slots, fd_names, file_names, hold_names, is_named, settle}
 use Rattle.plain_tree.specs.Steps.{node_or}
-use Rattle.tree_laws.proofs.Maps.{either, eq_self, put_is, put_same, put_other, and_true, or_left, or_right, any_at}
+use Rattle.tree_laws.proofs.Maps.{either, same_or, eq_self, put_is, put_same, put_other, and_true, or_left, or_right, any_at}
 use Rattle.tree_laws.specs.WellFormed.{Slots, Folders, folder, links_of, folders_of, links_in, raises, IsForest, IsWellFormed}
 
 pub folder_live : (v : Option Node) → live_directory v ≡ true → folder v ≡ Some (all_slots v)
@@ -139,3 +139,33 @@ settled_well t k = record {
   descriptors = λ h i id lh li is. let th = k.descriptors h i id lh li is in record { file = th.file; is = th.is; node = th.node; there = settle_named t th.file.number (file_named t h i id th.file lh li is th.is) ∙ th.there };
   directories = λ h lt. let th = k.directories h lt in record { node = th.node; is = settle_named t (t.cwd h) (cwd_named t h lt) ∙ th.is; sort = th.sort };
 }
+
+-- A dead node that nothing names leaves.
+pub well_gone : (t : Tree) (i : ℕ) → IsWellFormed t → is_live (t.nodes i) ≡ false → is_named t i ≡ false → IsWellFormed (record t { nodes = put t.nodes i None })
+well_gone t i k dead unnamed = record {
+  range = λ n v is. k.range n v (sym (stays n v is) ∙ is);
+  depth = k.depth;
+  forest = subst (λ (F : Folders). IsForest F (links_in (put t.nodes i None)) (raises t.holds) t.ninodes k.depth) (sym folders)
+      (subst (λ (C : ℕ → ℕ). IsForest (folders_of t.nodes) C (raises t.holds) t.ninodes k.depth) (sym links) k.forest);
+  holds = λ h o lt is. let th = k.holds h o lt is in record { node = th.node; is = other o.number (λ q. named o.number q (hold_named t h o lt is)) ∙ th.is; sort = th.sort };
+  descriptors = λ h j id lh lj is. let th = k.descriptors h j id lh lj is in record { file = th.file; is = th.is; node = th.node; there = other th.file.number (λ q. named th.file.number q (file_named t h j id th.file lh lj is th.is)) ∙ th.there };
+  directories = λ h lt. let th = k.directories h lt in record { node = th.node; is = other (t.cwd h) (λ q. named (t.cwd h) q (cwd_named t h lt)) ∙ th.is; sort = th.sort };
+}
+  where
+    folders : folders_of (put t.nodes i None) ≡ folders_of t.nodes
+    folders = folders_put t.nodes i None ∙ put_self (folders_of t.nodes) i (folder None) (folder_dead (t.nodes i) (no_node (t.nodes i) dead))
+
+    links : links_in (put t.nodes i None) ≡ links_in t.nodes
+    links = map_put (λ (o : Option Node). links_of o) t.nodes i None ∙ put_self (links_in t.nodes) i 0 (dead_links (t.nodes i) dead)
+
+    other : (n : ℕ) → n ≢ i → put t.nodes i None n ≡ t.nodes n
+    other n ne = put_other t.nodes i None n ne
+
+    named : (n : ℕ) → n ≡ i → is_named t n ≡ true → ⊥
+    named n q is = let a = subst (λ (z : ℕ). is_named t z ≡ true) q is in absurd (cc (a, unnamed))
+
+    stays : (n : ℕ) (v : Node) → put t.nodes i None n ≡ Some v → put t.nodes i None n ≡ t.nodes n
+    stays n v is = elim (same_or n i) [
+      | inl q ↦ absurd (let a : put t.nodes i None n ≡ None = ap (put t.nodes i None) q ∙ put_same t.nodes i None in cc (a, is))
+      | inr ne ↦ other n ne
+    ]

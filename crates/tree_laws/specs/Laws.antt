@@ -1,25 +1,39 @@
 -- The laws of the plain tree.
-use Rattle.std.specs.Prelude.{◌≡◌, ℕ, ◌≤◌, true, None}
-use Rattle.plain_tree.specs.declared.step.TreeStep.{TreeStep}
+use Rattle.std.specs.Prelude.{◌≡◌, ℕ, ◌<◌, ◌≤◌, true, false, List, Option, None}
+use Rattle.plain_tree.specs.declared.step.Action.{Action}
 use Rattle.plain_tree.specs.declared.step.StepAnswer.{StepAnswer}
-use Rattle.plain_tree.specs.Tree.{Tree, tree_of, is_live}
-use Rattle.plain_tree.specs.Steps.{Step}
+use Rattle.plain_tree.specs.Widths.{hart_count}
+use Rattle.plain_tree.specs.Tree.{Name, Tree, tree_of, put, is_live, is_named, resolve, parent}
+use Rattle.plain_tree.specs.Steps.{refusal_with, IsInPlace, MayChoose, effect_with, StepWith}
 use Rattle.plain_tree.specs.Explains.{IsReached}
 use Rattle.plain_tree.specs.Fresh.{fresh}
 use Rattle.tree_laws.specs.WellFormed.{raises, IsWellFormed, is_free_to_find}
-use Rattle.tree_laws.specs.Leaves.{LeavesFinding, Frame, IsNobodys}
+use Rattle.tree_laws.specs.Leaves.{IsFound, LeavesFinding, Frame, IsNobodys}
 
--- Every tree step, also a refused one, keeps a tree well formed.
+-- Every tree step, also a refused one, keeps a tree well formed, whatever was found for its path.
 abbrev pub StepsKeepWellFormed : Type 0
-StepsKeepWellFormed = (t t' : Tree) (s : TreeStep) (a : StepAnswer) → IsWellFormed t → is_free_to_find t s.hart s.action ≡ true → Step t s a t' → IsWellFormed t'
+StepsKeepWellFormed = (t t' : Tree) (h : ℕ) (s : Action) (res : Option ℕ) (par : Option (ℕ × Name)) (a : StepAnswer) (new id : ℕ) → IsWellFormed t → IsFound t res par → is_free_to_find t h s ≡ true → StepWith t h s res par a new id t' → IsWellFormed t'
+
+-- Before the nodes that nothing keeps leave it the tree is well formed too.
+abbrev pub EffectsKeepWellFormed : Type 0
+EffectsKeepWellFormed = (t : Tree) (h : ℕ) (s : Action) (res : Option ℕ) (par : Option (ℕ × Name)) (new id : ℕ) → IsWellFormed t → IsFound t res par → is_free_to_find t h s ≡ true → IsInPlace t h s → refusal_with t h s res par ≡ None → MayChoose t h s par new id
+    → IsWellFormed (effect_with t h s res par new id)
 
 -- What live directories find changes at the step's own name alone.
 abbrev pub StepsLeaveFinding : Type 0
-StepsLeaveFinding = (t t' : Tree) (s : TreeStep) (a : StepAnswer) → IsWellFormed t → Step t s a t' → LeavesFinding t s.hart s.action s.new t'
+StepsLeaveFinding = (t t' : Tree) (h : ℕ) (s : Action) (res : Option ℕ) (par : Option (ℕ × Name)) (a : StepAnswer) (new id : ℕ) → IsWellFormed t → IsFound t res par → StepWith t h s res par a new id t' → LeavesFinding t h s res par new t'
 
 -- A path without ".." leads where it led, or led to what the step removed.
 abbrev pub StepsLeavePaths : Type 0
-StepsLeavePaths = (t t' : Tree) (s : TreeStep) (a : StepAnswer) → IsWellFormed t → Step t s a t' → Frame t s.hart s.action s.new t'
+StepsLeavePaths = (t t' : Tree) (h : ℕ) (s : Action) (res : Option ℕ) (par : Option (ℕ × Name)) (a : StepAnswer) (new id : ℕ) → IsWellFormed t → IsFound t res par → StepWith t h s res par a new id t' → Frame t h s res par new t'
+
+-- What a whole path leads to is found.
+abbrev pub PathsLeadToWhatIsFound : Type 0
+PathsLeadToWhatIsFound = (t : Tree) (h : ℕ) (path : List ℕ) → h < hart_count → IsWellFormed t → IsFound t (resolve t h path) (parent t h path)
+
+-- A dead node that nothing names may leave.
+abbrev pub DeadNodesMayLeave : Type 0
+DeadNodesMayLeave = (t : Tree) (n : ℕ) → IsWellFormed t → is_live (t.nodes n) ≡ false → is_named t n ≡ false → IsWellFormed (record t { nodes = put t.nodes n None })
 
 -- A number that a step may choose for a new node is found nowhere.
 abbrev pub NewNumbersAreNobodys : Type 0

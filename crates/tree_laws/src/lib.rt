@@ -2,12 +2,18 @@
 //! directories and of the paths that other harts follow. The functions do nothing: each carries a law.
 #![tactic(auto)]
 
-ghost use Rattle.tree_laws.specs.Laws.{StepsKeepWellFormed, StepsLeaveFinding, StepsLeavePaths, NewNumbersAreNobodys, FreshTreesAreWellFormed, LiveNodesAreReached};
+ghost use Rattle.tree_laws.specs.Laws.{StepsKeepWellFormed, EffectsKeepWellFormed, StepsLeaveFinding, StepsLeavePaths, PathsLeadToWhatIsFound, DeadNodesMayLeave, NewNumbersAreNobodys, FreshTreesAreWellFormed, LiveNodesAreReached};
 
-/// Each of the fifteen tree steps, refused or not, keeps a tree well formed. A find is made by a hart that holds
-/// nothing raised, as a link's written sequence has it.
+/// Each of the fifteen tree steps, refused or not, keeps a tree well formed, for any node that is there and any live
+/// directory that were found for its path. A find is made by a hart that holds nothing raised, as a link's written
+/// sequence has it.
 pub fn steps_keep_well_formed()
     ensures { StepsKeepWellFormed }
+{}
+
+/// The same of a step that isn't refused, with the nodes that nothing keeps still in the tree.
+pub fn effects_keep_well_formed()
+    ensures { EffectsKeepWellFormed }
 {}
 
 /// A step that enters or clears a name changes what directories find at that name alone, and any other step changes
@@ -19,6 +25,16 @@ pub fn steps_leave_finding()
 /// A path without ".." that led somewhere leads there still, or led to what the step removed and leads nowhere.
 pub fn steps_leave_paths()
     ensures { StepsLeavePaths }
+{}
+
+/// What a path leads to is a node that is there, and its parent a live directory.
+pub fn paths_lead_to_what_is_found()
+    ensures { PathsLeadToWhatIsFound }
+{}
+
+/// A dead node that no current directory, hold or open file names may leave a well-formed tree.
+pub fn dead_nodes_may_leave()
+    ensures { DeadNodesMayLeave }
 {}
 
 /// A number without a node is under no name, and no current directory, hold or open file has it.

@@ -1,4 +1,4 @@
--- The kept list and the trace, for all calls: what starting, acting and replying keep true. Nothing here knows the machine or what a tree step does.
+-- The history, for all calls: what starting, writing, telling and replying keep true. Nothing here knows the moves or what a tree step does.
 use Rattle.std.proofs.Common.{◌≡◌, ◌≢◌, ℕ, ◌+◌, ◌<◌, ◌≤◌, Bool, true, ◌&&◌, ◌==◌, inl, inr, refl, sym, ◌∙◌, ap, subst, arith, List, [], ◌∷◌, ◌++◌, append_assoc, append-nil, length, Option, Some, None}
 use Rattle.std.specs.Prelude.{slice_get}
 use Rattle.plain_tree.specs.declared.answer.Reply.{Reply}
@@ -7,31 +7,33 @@ use Rattle.plain_tree.specs.declared.trace.Trace.{Trace}
 use Rattle.plain_tree.specs.declared.trace.TracedCall.{TracedCall}
 use Rattle.plain_tree.specs.declared.trace.Placed.{Placed}
 use Rattle.plain_tree.specs.TreeData.{TreeData}
-use Rattle.plain_tree.specs.Tree.{Tree, tree_of}
+use Rattle.plain_tree.specs.Tree.{Tree, tree_of, put}
 use Rattle.plain_tree.specs.Steps.{Step, is_nothing}
-use Rattle.plain_tree.specs.Calls.{Act, next_of, reply_of, had_room, Follows, IsWhole}
+use Rattle.plain_tree.specs.Calls.{Act, next_of, Follows, IsWhole}
 use Rattle.plain_tree.specs.Explains.{noted, ends_at, Chain, act_of as act_in, acts_of, IsWritten, IsInTime, Belongs, Rises, AllBelong, Explains}
 use Rattle.plain_tree.specs.Explains.Shown.{Started, Replied}
 use Rattle.tree_laws.proofs.Maps.{either, eq_self, eq_not, eq_is, same_or, put_same, put_other, put_is, and_true}
-use Rattle.tree_moves.specs.Kept.{Status, Deed, Book, act_of, entry_of, starts, replies, passes}
-use Rattle.tree_moves.specs.Kept.Status.{Free, Busy}
+use Rattle.tree_moves.specs.Moves.{Deed, MayEnd}
+use Rattle.tree_moves.specs.History.{Standing, History, writes, tells, entry_of, starts, replies, passes}
+use Rattle.tree_moves.specs.History.Standing.{Free, Busy}
 use Rattle.tree_moves.proofs.Lists.{get_left, get_last, get_more, get_past, get_map, map_get}
 
-abbrev pub Told : Book → ℕ → TracedCall → Option (ℕ × Reply) → Type 0
-Told b id s None = (x : List Act) × (b.status s.hart ≡ Busy id s.call x) × (acts_of id b.list ≡ x) × Follows s.call [] x
-Told b id s (Some r) = IsWhole s.call (acts_of id b.list) r.1
+-- late: by hart, what the list has of its call and the call wasn't told yet
+abbrev pub Told : (ℕ → List Act) → History → ℕ → TracedCall → Option (ℕ × Reply) → Type 0
+Told late b id s None = (x : List Act) × (b.calls s.hart ≡ Busy id s.call x) × (acts_of id b.list ≡ x ++ late s.hart) × Follows s.call [] (x ++ late s.hart)
+Told late b id s (Some r) = IsWhole s.call (acts_of id b.list) r.1
 
 unfoldable pub AllBelow : ℕ → List Placed → Type 0
 AllBelow now [] = Unit {0}
 AllBelow now (e ∷ es) = (e.event < now) × AllBelow now es
 
 -- now: the number of the event at hand, or the one after it once something acted at it
-pub record BookOk (base t : Tree) (now : ℕ) (b : Book) : Type 0 where
+pub record BookOk (base t : Tree) (late : ℕ → List Act) (now : ℕ) (b : History) : Type 0 where
   pub rises : Rises 0 b.list
   pub below : AllBelow now b.list
   pub chain : Chain base b.list t
-  pub busy : (h id : ℕ) (c : Call) (x : List Act) → b.status h ≡ Busy id c x → (start : ℕ) × (slice_get b.trace.calls id ≡ Some (record { hart = h; start = start; call = c; finished = None }))
-  pub told : (id : ℕ) (s : TracedCall) → slice_get b.trace.calls id ≡ Some s → Told b id s s.finished
+  pub busy : (h id : ℕ) (c : Call) (x : List Act) → b.calls h ≡ Busy id c x → (start : ℕ) × (slice_get b.trace.calls id ≡ Some (record { hart = h; start = start; call = c; finished = None }))
+  pub told : (id : ℕ) (s : TracedCall) → slice_get b.trace.calls id ≡ Some s → Told late b id s s.finished
   pub early : (id : ℕ) (s : TracedCall) → slice_get b.trace.calls id ≡ Some s → s.start < now
   pub belongs : AllBelong (record b.trace { events = now }) b.list
 
@@ -106,8 +108,8 @@ unfolding Follows
 follows_more c before [] a f is = (subst (λ (z : List Act). next_of c z ≡ Some a.step) (append-nil before) is, tt)
 follows_more c before (y ∷ ys) a f is = (f.0, follows_more c (before ++ y ∷ []) ys a f.1 (subst (λ (z : List Act). next_of c z ≡ Some a.step) (sym (append_assoc before (y ∷ []) ys)) is))
 
-pub later_ok : (base t : Tree) (now later : ℕ) (b : Book) → now ≤ later → BookOk base t now b → BookOk base t later b
-later_ok base t now later b le k =
+pub later_ok : (base t : Tree) (late : ℕ → List Act) (now later : ℕ) (b : History) → now ≤ later → BookOk base t late now b → BookOk base t late later b
+later_ok base t late now later b le k =
     let low : AllBelow later b.list = below_later now later b.list le k.below in
     record {
       rises = k.rises;
@@ -119,13 +121,13 @@ later_ok base t now later b le k =
       belongs = belong_map (record b.trace { events = now }) (record b.trace { events = later }) later b.list low (λ e lt o. record { traced = o.traced; is = o.is; hart = o.hart; after_start = o.after_start; before_return = in_time now later e.event o.traced.finished le o.before_return }) k.belongs;
     }
 
-same_id : (id id' : ℕ) (c c' : Call) (x x' : List Act) (s : Status) → s ≡ Busy id c x → s ≡ Busy id' c' x' → id ≡ id'
+same_id : (id id' : ℕ) (c c' : Call) (x x' : List Act) (s : Standing) → s ≡ Busy id c x → s ≡ Busy id' c' x' → id ≡ id'
 same_id id id' c c' x x' s p q = cc
 
-same_acts : (id id' : ℕ) (c c' : Call) (x x' : List Act) (s : Status) → s ≡ Busy id c x → s ≡ Busy id' c' x' → x ≡ x'
+same_acts : (id id' : ℕ) (c c' : Call) (x x' : List Act) (s : Standing) → s ≡ Busy id c x → s ≡ Busy id' c' x' → x ≡ x'
 same_acts id id' c c' x x' s p q = cc
 
-same_call : (id id' : ℕ) (c c' : Call) (x x' : List Act) (s : Status) → s ≡ Busy id c x → s ≡ Busy id' c' x' → c ≡ c'
+same_call : (id id' : ℕ) (c c' : Call) (x x' : List Act) (s : Standing) → s ≡ Busy id c x → s ≡ Busy id' c' x' → c ≡ c'
 same_call id id' c c' x x' s p q = cc
 
 same_some : {A : Type 0} (a b : A) (o : Option A) → o ≡ Some a → o ≡ Some b → a ≡ b
@@ -134,10 +136,10 @@ same_some a b o p q = cc
 abbrev pub going : ℕ → ℕ → Call → TracedCall
 going h start c = record { hart = h; start = start; call = c; finished = None }
 
--- the call's next step acts
-pub act_ok : (base t t' : Tree) (b : Book) (h id : ℕ) (c : Call) (x : List Act) (d : Deed) → BookOk base t (b.trace.events + 1) b → b.status h ≡ Busy id c x → next_of c x ≡ Some d.act.step → Step t (record { hart = h; new = d.new; action = d.act.step }) d.act.answer t'
-    → BookOk base t' (b.trace.events + 1) (act_of (Busy id c x) b h d)
-act_ok base t t' b h id c x d k is next step =
+-- the call's next step is written
+pub write_ok : (base t t' : Tree) (late : ℕ → List Act) (b : History) (h id : ℕ) (c : Call) (x : List Act) (d : Deed) → BookOk base t late (b.trace.events + 1) b → b.calls h ≡ Busy id c x → late h ≡ [] → next_of c x ≡ Some d.act.step → Step t (record { hart = h; new = d.new; action = d.act.step }) d.act.answer t'
+    → BookOk base t' (put late h (d.act ∷ [])) (b.trace.events + 1) (writes (Busy id c x) b h d)
+write_ok base t t' late b h id c x d k is none next step =
     let n : ℕ = b.trace.events in
     let e : Placed = entry_of n id h d in
     let said = k.busy h id c x is in
@@ -146,7 +148,53 @@ act_ok base t t' b h id c x d k is next step =
       rises = rises_more 0 n b.list e k.rises k.below (omega arith) refl;
       below = below_more (n + 1) b.list e k.below (omega arith);
       chain = chain_more base t t' b.list e k.chain step;
-      busy = λ g id' c' x' q. elim (put_is b.status h (Busy id c (x ++ d.act ∷ [])) g) [
+      busy = k.busy;
+      told = λ id' s q. elim (same_or id' id) [
+        | inl w ↦
+            let this : going h said.0 c ≡ s = same_some (going h said.0 c) s (slice_get b.trace.calls id) said.1 (subst (λ (z : ℕ). slice_get b.trace.calls z ≡ Some s) w q) in
+            subst (λ (z : TracedCall). Told late' written id' z z.finished) this
+            (subst (λ (z : ℕ). Told late' written z (going h said.0 c) None) (sym w)
+            (one_more said.0 (k.told id (going h said.0 c) said.1)))
+        | inr w ↦ others id' s (λ p. w (sym p)) s.finished (k.told id' s q)
+      ];
+      early = k.early;
+      belongs = belong_more (record b.trace { events = n + 1 }) b.list e k.belongs (record { traced = going h said.0 c; is = said.1; hart = refl; after_start = omega (arith, early); before_return = omega arith });
+    }
+  where
+    late' : ℕ → List Act
+    late' = put late h (d.act ∷ [])
+
+    written : History
+    written = writes (Busy id c x) b h d
+
+    one_more : (start : ℕ) → Told late b id (going h start c) None → Told late' written id (going h start c) None
+    one_more start w =
+        let same : w.0 ≡ x = same_acts id id c c w.0 x (b.calls h) w.1 is in
+        let all : w.0 ++ late h ≡ w.0 = ap (λ (z : List Act). w.0 ++ z) none ∙ append-nil w.0 in
+        let here : late' h ≡ d.act ∷ [] = put_same late h (d.act ∷ []) in (
+          w.0,
+          w.1,
+          acts_more id b.list (entry_of b.trace.events id h d) refl ∙ (ap (λ (z : List Act). z ++ d.act ∷ []) (w.2 ∙ all) ∙ ap (λ (z : List Act). w.0 ++ z) (sym here)),
+          subst (λ (z : List Act). Follows c [] (w.0 ++ z)) (sym here) (follows_more c [] w.0 d.act (subst (λ (z : List Act). Follows c [] z) all w.3) (ap (λ (z : List Act). next_of c z) same ∙ next)),
+        )
+
+    others : (id' : ℕ) (s : TracedCall) → id ≢ id' → (r : Option (ℕ × Reply)) → Told late b id' s r → Told late' written id' s r
+    others id' s ne None w =
+        let other : s.hart ≢ h = (λ q. let p : b.calls h ≡ Busy id' s.call w.0 = subst (λ (z : ℕ). b.calls z ≡ Busy id' s.call w.0) q w.1 in ne (same_id id id' c s.call x w.0 (b.calls h) is p)) in
+        let there : late' s.hart ≡ late s.hart = put_other late h (d.act ∷ []) s.hart other in
+        (w.0, w.1, acts_same id' b.list (entry_of b.trace.events id h d) ne ∙ (w.2 ∙ ap (λ (z : List Act). w.0 ++ z) (sym there)), subst (λ (z : List Act). Follows s.call [] (w.0 ++ z)) (sym there) w.3)
+    others id' s ne (Some r) w = subst (λ (z : List Act). IsWhole s.call z r.1) (sym (acts_same id' b.list (entry_of b.trace.events id h d) ne)) w
+
+-- the call is told what stands in the list
+pub tell_ok : (base t : Tree) (late : ℕ → List Act) (now : ℕ) (b : History) (h id : ℕ) (c : Call) (x : List Act) (d : Deed) → BookOk base t late now b → b.calls h ≡ Busy id c x → late h ≡ d.act ∷ []
+    → BookOk base t (put late h []) now (tells (Busy id c x) b h d)
+tell_ok base t late now b h id c x d k is one =
+    let said = k.busy h id c x is in
+    record {
+      rises = k.rises;
+      below = k.below;
+      chain = k.chain;
+      busy = λ g id' c' x' q. elim (put_is b.calls h (Busy id c (x ++ d.act ∷ [])) g) [
         | inl w ↦
             let same : Busy id c (x ++ d.act ∷ []) ≡ Busy id' c' x' = sym w.1 ∙ q in
             let i : id ≡ id' = cc in
@@ -156,36 +204,53 @@ act_ok base t t' b h id c x d k is next step =
             )
         | inr w ↦ k.busy g id' c' x' (sym w.1 ∙ q)
       ];
-      told = λ id' s q. elim (same_or id' id) [
-        | inl w ↦
-            let this : going h said.0 c ≡ s = same_some (going h said.0 c) s (slice_get b.trace.calls id) said.1 (subst (λ (z : ℕ). slice_get b.trace.calls z ≡ Some s) w q) in
-            subst (λ (z : TracedCall). Told (act_of (Busy id c x) b h d) id' z z.finished) this
-            (subst (λ (z : ℕ). Told (act_of (Busy id c x) b h d) z (going h said.0 c) None) (sym w)
-            (one_more said.0 (k.told id (going h said.0 c) said.1)))
-        | inr w ↦ others id' s (λ p. w (sym p)) s.finished (k.told id' s q)
-      ];
+      told = λ id' s q. told_at id' s s.finished (k.told id' s q);
       early = k.early;
-      belongs = belong_more (record b.trace { events = n + 1 }) b.list e k.belongs (record { traced = going h said.0 c; is = said.1; hart = refl; after_start = omega (arith, early); before_return = omega arith });
+      belongs = k.belongs;
     }
   where
-    one_more : (start : ℕ) → Told b id (going h start c) None → Told (act_of (Busy id c x) b h d) id (going h start c) None
-    one_more start w =
-        let same : w.0 ≡ x = same_acts id id c c w.0 x (b.status h) w.1 is in (
-          x ++ d.act ∷ [],
-          put_same b.status h (Busy id c (x ++ d.act ∷ [])),
-          acts_more id b.list (entry_of b.trace.events id h d) refl ∙ ap (λ (z : List Act). z ++ d.act ∷ []) (w.2 ∙ same),
-          follows_more c [] x d.act (subst (λ (z : List Act). Follows c [] z) same w.3) next,
+    late' : ℕ → List Act
+    late' = put late h []
+
+    all : List Act
+    all = x ++ d.act ∷ []
+
+    same_all : (y : List Act) → y ≡ x → y ++ late h ≡ all ++ late' h
+    same_all y e = ap (λ (z : List Act). z ++ late h) e ∙ (ap (λ (z : List Act). x ++ z) one ∙ (sym (append-nil all) ∙ ap (λ (z : List Act). all ++ z) (sym (put_same late h []))))
+
+    -- this call
+    here : (id' : ℕ) (s : TracedCall) → s.hart ≡ h → Told late b id' s None → Told late' (tells (Busy id c x) b h d) id' s None
+    here id' s p w =
+        let st : b.calls h ≡ Busy id' s.call w.0 = subst (λ (z : ℕ). b.calls z ≡ Busy id' s.call w.0) p w.1 in
+        let xs : w.0 ≡ x = same_acts id' id s.call c w.0 x (b.calls h) st is in
+        let i : id ≡ id' = same_id id id' c s.call x w.0 (b.calls h) is st in
+        let j : c ≡ s.call = same_call id id' c s.call x w.0 (b.calls h) is st in
+        let ends : w.0 ++ late s.hart ≡ all ++ late' s.hart = ap (λ (z : ℕ). w.0 ++ late z) p ∙ (same_all w.0 xs ∙ ap (λ (z : ℕ). all ++ late' z) (sym p)) in (
+          all,
+          ap (λ (z : ℕ). put b.calls h (Busy id c all) z) p ∙ (put_same b.calls h (Busy id c all) ∙ (ap (λ (z : ℕ). Busy z c all) i ∙ ap (λ (z : Call). Busy id' z all) j)),
+          w.2 ∙ ends,
+          subst (λ (z : List Act). Follows s.call [] z) ends w.3,
         )
 
-    others : (id' : ℕ) (s : TracedCall) → id ≢ id' → (r : Option (ℕ × Reply)) → Told b id' s r → Told (act_of (Busy id c x) b h d) id' s r
-    others id' s ne None w =
-        let other : s.hart ≢ h = (λ q. let p : b.status h ≡ Busy id' s.call w.0 = subst (λ (z : ℕ). b.status z ≡ Busy id' s.call w.0) q w.1 in ne (same_id id id' c s.call x w.0 (b.status h) is p)) in
-        (w.0, put_other b.status h (Busy id c (x ++ d.act ∷ [])) s.hart other ∙ w.1, acts_same id' b.list (entry_of b.trace.events id h d) ne ∙ w.2, w.3)
-    others id' s ne (Some r) w = subst (λ (z : List Act). IsWhole s.call z r.1) (sym (acts_same id' b.list (entry_of b.trace.events id h d) ne)) w
+    told_at : (id' : ℕ) (s : TracedCall) (r : Option (ℕ × Reply)) → Told late b id' s r → Told late' (tells (Busy id c x) b h d) id' s r
+    told_at id' s (Some r) w = w
+    told_at id' s None w = elim (same_or s.hart h) [
+      | inl p ↦ here id' s p w
+      | inr ne ↦
+          let there : late' s.hart ≡ late s.hart = put_other late h [] s.hart ne in
+          (w.0, put_other b.calls h (Busy id c all) s.hart ne ∙ w.1, w.2 ∙ ap (λ (z : List Act). w.0 ++ z) (sym there), subst (λ (z : List Act). Follows s.call [] (w.0 ++ z)) (sym there) w.3)
+    ]
+
+-- what the list has of a call under way
+pub list_has : (base t : Tree) (late : ℕ → List Act) (now : ℕ) (b : History) (h id : ℕ) (c : Call) (x : List Act) → BookOk base t late now b → b.calls h ≡ Busy id c x → acts_of id b.list ≡ x ++ late h
+list_has base t late now b h id c x k is =
+    let said = k.busy h id c x is in
+    let w = k.told id (going h said.0 c) said.1 in
+    w.2 ∙ ap (λ (z : List Act). z ++ late h) (same_acts id id c c w.0 x (b.calls h) w.1 is)
 
 -- a call starts
-pub start_ok : (base t : Tree) (b : Book) (h : ℕ) (c : Call) → BookOk base t b.trace.events b → b.status h ≡ Free → BookOk base t (b.trace.events + 1) (starts b h c)
-start_ok base t b h c k free =
+pub start_ok : (base t : Tree) (late : ℕ → List Act) (b : History) (h : ℕ) (c : Call) → BookOk base t late b.trace.events b → b.calls h ≡ Free → late h ≡ [] → BookOk base t late (b.trace.events + 1) (starts b h c)
+start_ok base t late b h c k free none =
     let n : ℕ = b.trace.events in
     let i : ℕ = length b.trace.calls in
     let said : TracedCall = going h n c in
@@ -194,7 +259,7 @@ start_ok base t b h c k free =
       rises = k.rises;
       below = low;
       chain = k.chain;
-      busy = λ g id c' x q. elim (put_is b.status h (Busy i c []) g) [
+      busy = λ g id c' x q. elim (put_is b.calls h (Busy i c []) g) [
         | inl w ↦
             let same : Busy i c [] ≡ Busy id c' x = sym w.1 ∙ q in
             let a : i ≡ id = cc in
@@ -207,9 +272,9 @@ start_ok base t b h c k free =
       ];
       told = λ id s q. elim (get_more b.trace.calls said id s q) [
         | inr w ↦
-            subst (λ (z : TracedCall). Told (starts b h c) id z z.finished) w.1
-            (subst (λ (z : ℕ). Told (starts b h c) z said None) (sym w.0)
-            ([], put_same b.status h (Busy i c []), no_acts (record b.trace { events = n }) i b.list (get_past b.trace.calls) k.belongs, nothing_follows))
+            subst (λ (z : TracedCall). Told late (starts b h c) id z z.finished) w.1
+            (subst (λ (z : ℕ). Told late (starts b h c) z said None) (sym w.0)
+            ([], put_same b.calls h (Busy i c []), no_acts (record b.trace { events = n }) i b.list (get_past b.trace.calls) k.belongs ∙ sym none, nothing_follows))
         | inl w ↦ others id s s.finished (k.told id s w)
       ];
       early = λ id s q. elim (get_more b.trace.calls said id s q) [
@@ -225,13 +290,13 @@ start_ok base t b h c k free =
       }) k.belongs;
     }
   where
-    nothing_follows : Follows c [] []
-    nothing_follows = follows_none c []
+    nothing_follows : Follows c [] (late h)
+    nothing_follows = subst (λ (z : List Act). Follows c [] z) (sym none) (follows_none c [])
 
-    others : (id : ℕ) (s : TracedCall) (r : Option (ℕ × Reply)) → Told b id s r → Told (starts b h c) id s r
+    others : (id : ℕ) (s : TracedCall) (r : Option (ℕ × Reply)) → Told late b id s r → Told late (starts b h c) id s r
     others id s None w =
-        let other : s.hart ≢ h = (λ q. let p : b.status h ≡ Busy id s.call w.0 = subst (λ (z : ℕ). b.status z ≡ Busy id s.call w.0) q w.1 in absurd (cc (p, free))) in
-        (w.0, put_other b.status h (Busy (length b.trace.calls) c []) s.hart other ∙ w.1, w.2, w.3)
+        let other : s.hart ≢ h = (λ q. let p : b.calls h ≡ Busy id s.call w.0 = subst (λ (z : ℕ). b.calls z ≡ Busy id s.call w.0) q w.1 in absurd (cc (p, free))) in
+        (w.0, put_other b.calls h (Busy (length b.trace.calls) c []) s.hart other ∙ w.1, w.2, w.3)
     others id s (Some r) w = w
 
 -- what a reply makes of a call
@@ -253,14 +318,14 @@ ends_is h r now v = elim (either ((v.hart == h) && is_nothing v.finished)) [
     both a b p q = grind arith
 
 -- a call replies
-pub reply_ok : (base t : Tree) (b : Book) (h id : ℕ) (c : Call) (x : List Act) (r : Reply) → BookOk base t (b.trace.events + 1) b → b.status h ≡ Busy id c x → next_of c x ≡ None → r ≡ reply_of c x → had_room x ≡ true → BookOk base t (b.trace.events + 1) (replies b h r)
-reply_ok base t b h id c x r k is next made room =
+pub reply_ok : (base t : Tree) (late : ℕ → List Act) (b : History) (h id : ℕ) (c : Call) (x : List Act) (r : Reply) → BookOk base t late (b.trace.events + 1) b → b.calls h ≡ Busy id c x → late h ≡ [] → MayEnd c x r → BookOk base t late (b.trace.events + 1) (replies b h r)
+reply_ok base t late b h id c x r k is none may =
     let n : ℕ = b.trace.events in
     record {
       rises = k.rises;
       below = k.below;
       chain = k.chain;
-      busy = λ g id' c' x' q. elim (put_is b.status h Free g) [
+      busy = λ g id' c' x' q. elim (put_is b.calls h Free g) [
         | inl w ↦ absurd (let z : Free ≡ Busy id' c' x' = sym w.1 ∙ q in cc)
         | inr w ↦
             let old = k.busy g id' c' x' (sym w.1 ∙ q) in
@@ -268,7 +333,7 @@ reply_ok base t b h id c x r k is next made room =
       ];
       told = λ id' s q.
           let v = get_map (ends_at h r n) b.trace.calls id' s q in
-          subst (λ (z : TracedCall). Told (replies b h r) id' z z.finished) (sym v.2) (told_at id' v.0 (ends_is h r n v.0) (k.told id' v.0 v.1));
+          subst (λ (z : TracedCall). Told late (replies b h r) id' z z.finished) (sym v.2) (told_at id' v.0 (ends_is h r n v.0) (k.told id' v.0 v.1));
       early = λ id' s q.
           let v = get_map (ends_at h r n) b.trace.calls id' s q in
           subst (λ (z : TracedCall). z.start < n + 1) (sym v.2) (early_at v.0 (ends_is h r n v.0) (k.early id' v.0 v.1));
@@ -283,20 +348,22 @@ reply_ok base t b h id c x r k is next made room =
     early_at v (Now p f e) lt = subst (λ (z : TracedCall). z.start < b.trace.events + 1) (sym e) lt
     early_at v (Not p e) lt = subst (λ (z : TracedCall). z.start < b.trace.events + 1) (sym e) lt
 
-    whole : (id' : ℕ) (v : TracedCall) → v.hart ≡ h → Told b id' v None → IsWhole v.call (acts_of id' b.list) r
+    whole : (id' : ℕ) (v : TracedCall) → v.hart ≡ h → Told late b id' v None → IsWhole v.call (acts_of id' b.list) r
     whole id' v p w =
-        let st : b.status h ≡ Busy id' v.call w.0 = subst (λ (z : ℕ). b.status z ≡ Busy id' v.call w.0) p w.1 in
-        let cs : c ≡ v.call = same_call id id' c v.call x w.0 (b.status h) is st in
-        let xs : x ≡ w.0 = same_acts id id' c v.call x w.0 (b.status h) is st in
-        subst (λ (z : List Act). IsWhole v.call z r) (sym w.2)
-        (w.3, subst (λ (z : List Act). next_of v.call z ≡ None) xs (subst (λ (z : Call). next_of z x ≡ None) cs next), subst (λ (z : List Act). r ≡ reply_of v.call z) xs (subst (λ (z : Call). r ≡ reply_of z x) cs made), subst (λ (z : List Act). had_room z ≡ true) xs room)
+        let st : b.calls h ≡ Busy id' v.call w.0 = subst (λ (z : ℕ). b.calls z ≡ Busy id' v.call w.0) p w.1 in
+        let cs : c ≡ v.call = same_call id id' c v.call x w.0 (b.calls h) is st in
+        let xs : x ≡ w.0 = same_acts id id' c v.call x w.0 (b.calls h) is st in
+        let all : w.0 ++ late v.hart ≡ w.0 = ap (λ (z : ℕ). w.0 ++ late z) p ∙ (ap (λ (z : List Act). w.0 ++ z) none ∙ append-nil w.0) in
+        let ends : MayEnd v.call w.0 r = subst (λ (z : List Act). MayEnd v.call z r) xs (subst (λ (z : Call). MayEnd z x r) cs may) in
+        subst (λ (z : List Act). IsWhole v.call z r) (sym (w.2 ∙ all))
+        (subst (λ (z : List Act). Follows v.call [] z) all w.3, ends.through, ends.reply, ends.room)
 
-    told_at : (id' : ℕ) (v : TracedCall) → Ends h r b.trace.events v → Told b id' v v.finished → Told (replies b h r) id' (ends_at h r b.trace.events v) (ends_at h r b.trace.events v).finished
-    told_at id' v (Now p f e) w = subst (λ (z : TracedCall). Told (replies b h r) id' z z.finished) (sym e) (whole id' v p (subst (λ (o : Option (ℕ × Reply)). Told b id' v o) f w))
-    told_at id' v (Not p e) w = subst (λ (z : TracedCall). Told (replies b h r) id' z z.finished) (sym e) (go v.finished refl w)
+    told_at : (id' : ℕ) (v : TracedCall) → Ends h r b.trace.events v → Told late b id' v v.finished → Told late (replies b h r) id' (ends_at h r b.trace.events v) (ends_at h r b.trace.events v).finished
+    told_at id' v (Now p f e) w = subst (λ (z : TracedCall). Told late (replies b h r) id' z z.finished) (sym e) (whole id' v p (subst (λ (o : Option (ℕ × Reply)). Told late b id' v o) f w))
+    told_at id' v (Not p e) w = subst (λ (z : TracedCall). Told late (replies b h r) id' z z.finished) (sym e) (go v.finished refl w)
       where
-        go : (o : Option (ℕ × Reply)) → v.finished ≡ o → Told b id' v o → Told (replies b h r) id' v o
-        go None f q = (q.0, put_other b.status h Free v.hart (p f) ∙ q.1, q.2, q.3)
+        go : (o : Option (ℕ × Reply)) → v.finished ≡ o → Told late b id' v o → Told late (replies b h r) id' v o
+        go None f q = (q.0, put_other b.calls h Free v.hart (p f) ∙ q.1, q.2, q.3)
         go (Some s) f q = q
 
     belongs_at : (e : Placed) → e.event < b.trace.events + 1 → (o : Belongs (record b.trace { events = b.trace.events + 1 }) e) → Ends h r b.trace.events o.traced → Belongs (record (noted b.trace (Replied h r)) { events = b.trace.events + 1 }) e
@@ -316,12 +383,12 @@ reply_ok base t b h id c x r k is next made room =
     }
 
 -- an event that neither starts nor replies
-pub passes_ok : (base t : Tree) (b : Book) → BookOk base t (b.trace.events + 1) b → BookOk base t (b.trace.events + 1) (passes b)
-passes_ok base t b k = record { rises = k.rises; below = k.below; chain = k.chain; busy = k.busy; told = k.told; early = k.early; belongs = k.belongs }
+pub passes_ok : (base t : Tree) (late : ℕ → List Act) (b : History) → BookOk base t late (b.trace.events + 1) b → BookOk base t late (b.trace.events + 1) (passes b)
+passes_ok base t late b k = record { rises = k.rises; below = k.below; chain = k.chain; busy = k.busy; told = k.told; early = k.early; belongs = k.belongs }
 
 -- The kept list explains the trace.
-pub explained : (base : TreeData) (t : Tree) (b : Book) → BookOk (tree_of base) t b.trace.events b → Explains base b.trace b.list
-explained base t b k = record {
+pub explained : (base : TreeData) (t : Tree) (late : ℕ → List Act) (b : History) → BookOk (tree_of base) t late b.trace.events b → Explains base b.trace b.list
+explained base t late b k = record {
   rises = k.rises;
   end = t;
   chain = k.chain;
@@ -329,6 +396,6 @@ explained base t b k = record {
   belongs = k.belongs;
 }
   where
-    written_at : (id : ℕ) (s : TracedCall) (r : Option (ℕ × Reply)) → Told b id s r → IsWritten s.call (acts_of id b.list) r
+    written_at : (id : ℕ) (s : TracedCall) (r : Option (ℕ × Reply)) → Told late b id s r → IsWritten s.call (acts_of id b.list) r
     written_at id s None w = subst (λ (z : List Act). Follows s.call [] z) (sym w.2) w.3
     written_at id s (Some r) w = w

@@ -3,6 +3,7 @@ pub mod Book
 pub mod Walked
 pub mod Moved
 pub mod History
+pub mod Told
 pub mod Cut
 pub mod Serial
 pub mod Played

@@ -1,5 +1,5 @@
 -- Runs that are computed: what a script of moves does, and that it is a run where each move is allowed.
-use Rattle.std.proofs.Common.{◌≡◌, ◌≢◌, ℕ, ◌<◌, Bool, true, false, ◌&&◌, ◌||◌, not, ◌==◌, refl, ap, subst, arith, List, [], ◌∷◌, Option, Some, None, nat_lt}
+use Rattle.std.proofs.Common.{◌≡◌, ◌≢◌, ℕ, zero, suc, ◌+◌, ◌*◌, ◌<◌, Bool, true, false, ◌&&◌, ◌||◌, not, ◌==◌, refl, ap, subst, arith, List, [], ◌∷◌, Option, Some, None, nat_lt, if◌then◌else◌}
 use Rattle.std.proofs.lemmas.Bool.Decides.{nat_tests}
 use Rattle.plain_tree.specs.declared.answer.Cause.{Cause}
 use Rattle.plain_tree.specs.declared.answer.Reply.{Reply}
@@ -8,26 +8,36 @@ use Rattle.plain_tree.specs.declared.step.Action.{Action}
 use Rattle.plain_tree.specs.declared.step.Action.TheVariants.{Open, Truncate, Read, WritePart, Find, Bump, Enter, Unbump, Unlink, Mkdir, Chdir, Dup, Close, Fstat, Inherit}
 use Rattle.plain_tree.specs.declared.step.StepAnswer.{StepAnswer}
 use Rattle.plain_tree.specs.declared.step.StepAnswer.TheVariants.{Opened, Bytes, Stat as Status, Fd as NewFd, Done, Failed, Full as NoRoom}
-use Rattle.plain_tree.specs.Widths.{hart_count}
+use Rattle.plain_tree.specs.declared.tree.OpenFile.{OpenFile}
+use Rattle.plain_tree.specs.Widths.{hart_count, descriptor_count}
 use Rattle.plain_tree.specs.Tree.{Name, Tree, put, any_below, elements, live_directory, look, start_of, resolve, parent, settle}
 use Rattle.plain_tree.specs.Steps.{path_of, follows_path, makes_node, opens_one, is_nothing, place_of, IsInPlace, IsLeastUnused, MayChoose, StepWith, refusal_with, refused, effect_with, answer_with}
 use Rattle.plain_tree.specs.Calls.{Act, next_of, reply_of, had_room}
 use Rattle.tree_laws.specs.WellFormed.{is_free_to_find}
-use Rattle.tree_laws.proofs.Maps.{eq_self, eq_is, eq_not, and_true, any_none}
-use Rattle.tree_moves.specs.Kept.{Status as Standing, Deed, starts}
-use Rattle.tree_moves.specs.Kept.Status.{Free, Busy}
-use Rattle.tree_moves.specs.Inodes.{Walk, Inodes, Move, World, Event, Moves, Begins, Looks, ActsWith, if_lost, walks_at, act_of_hart, all_fall, after, finishes, Happens, Runs}
-use Rattle.tree_moves.specs.Inodes.Move.{Quiet, Take, Give, Begin, Look, Quit, Own}
-use Rattle.tree_moves.specs.Inodes.Event.{Starts, Steps, Nothing}
+use Rattle.tree_laws.proofs.Maps.{eq_self, eq_not, and_true, any_none}
+use Rattle.tree_moves.specs.Moves.{Deed, Walk, Stage, Move, Acts, Begins, Looks, walks_at, fail, after}
+use Rattle.tree_moves.specs.Moves.Move.{Begin, Look, Quit, Own}
+use Rattle.tree_moves.specs.History.{Standing, starts}
+use Rattle.tree_moves.specs.History.Standing.{Free, Busy}
+use Rattle.tree_moves.specs.Runs.{World, Event, PlaysAny, BeginsNext, stepped, Happens, Runs}
+use Rattle.tree_moves.specs.Runs.Event.{Starts, Steps, Nothing}
 
--- a move's deed and inodes, and whether it is allowed
+-- a move without the step that it is for
+pub data Way : Type 0 where
+  Begins_it : (new : ℕ) → Way
+  Looks_on : (new : ℕ) → Way
+  Quits_it : Way
+  Owns_it : (new : ℕ) → Way
+
+-- a move, what it tells, the stage after it, and whether it is allowed
 pub record Played : Type 0 where
-  pub deed : Option Deed
-  pub inodes : Inodes
+  pub move : Option Move
+  pub told : Option Deed
+  pub stage : Stage
   pub may : Bool
 
-abbrev pub never : Inodes → Played
-never m = record { deed = None; inodes = m; may = false }
+abbrev pub never : Stage → Played
+never m = record { move = None; told = None; stage = m; may = false }
 
 abbrev pub is_ok : StepAnswer → Bool
 is_ok (Failed k) = false
@@ -56,6 +66,14 @@ is_new t new = nat_lt 0 new && (nat_lt new t.ninodes && is_nothing (t.nodes new)
 abbrev pub is_least : Tree → ℕ → Bool
 is_least t id = is_nothing (t.files id) && not (any_below id (λ j. is_nothing (t.files j)))
 
+-- the least unused of the ids from this one on
+unfoldable pub first_unused : ℕ → (ℕ → Option OpenFile) → ℕ → ℕ
+first_unused zero files id = id
+first_unused (suc more) files id = if is_nothing (files id) then id else first_unused more files (id + 1)
+
+abbrev pub least : Tree → ℕ
+least t = first_unused (hart_count * descriptor_count) t.files 0
+
 abbrev pub may_choose : Tree → ℕ → Action → Option (ℕ × Name) → ℕ → ℕ → Bool
 may_choose t h s par new id = (not (makes_node t s par) || is_new t new) && (not (opens_one t h s) || is_least t id)
 
@@ -63,10 +81,10 @@ abbrev pub is_at : Option Walk → ℕ → Bool
 is_at None n = false
 is_at (Some w) n = w.at == n
 
-abbrev pub is_alone : Inodes → ℕ → Action → Option (ℕ × Name) → ℕ → Bool
+abbrev pub is_alone : Stage → ℕ → Action → Option (ℕ × Name) → ℕ → Bool
 is_alone m h s par new = not (makes_node m.tree s par) || not (any_below hart_count (λ g. not (g == h) && is_at (m.walk g) new))
 
-abbrev pub is_idle : Inodes → Action → Bool
+abbrev pub is_idle : Stage → Action → Bool
 is_idle m (Inherit g) = is_nothing (m.walk g)
 is_idle m (Open path flags) = true
 is_idle m (Truncate fd) = true
@@ -86,58 +104,54 @@ is_idle m (Fstat fd) = true
 abbrev pub placed : Tree → ℕ → Action → Bool
 placed t h s = nat_lt h hart_count && place_of t h s
 
-unfoldable pub acted : Inodes → ℕ → Action → Option ℕ → Option (ℕ × Name) → ℕ → ℕ → Played
-acted m h s res par new id = record {
-  deed = Some (record { act = record { step = s; answer = answers_to m.tree h s res par id (refusal_with m.tree h s res par) }; new = new });
-  inodes = record { tree = becomes m.tree h s res par new id (refusal_with m.tree h s res par); lock = m.lock; walk = put m.walk h None };
-  may = placed m.tree h s && (answered m.tree h s res par id (refusal_with m.tree h s res par) && (may_choose m.tree h s par new id && (is_alone m h s par new && is_idle m s)));
+unfoldable pub acted : Stage → ℕ → Action → Option ℕ → Option (ℕ × Name) → ℕ → Played
+acted m h s res par new = record {
+  move = None;
+  told = Some (record { act = record { step = s; answer = answers_to m.tree h s res par (least m.tree) (refusal_with m.tree h s res par) }; new = new });
+  stage = record { tree = becomes m.tree h s res par new (least m.tree) (refusal_with m.tree h s res par); walk = put m.walk h None };
+  may = placed m.tree h s && (answered m.tree h s res par (least m.tree) (refusal_with m.tree h s res par) && (may_choose m.tree h s par new (least m.tree) && (is_alone m h s par new && is_idle m s)));
 }
 
-abbrev pub gone_to : Inodes → ℕ → Walk → Played
-gone_to m h w = record { deed = if_lost (m.tree.nodes w.at) w.step; inodes = record { tree = m.tree; lock = m.lock; walk = put m.walk h (Some w) }; may = true }
+abbrev pub gone_to : Stage → ℕ → Walk → Played
+gone_to m h w = record { move = None; told = None; stage = record { tree = m.tree; walk = put m.walk h (Some w) }; may = true }
 
-abbrev pub begun : Inodes → ℕ → Action → List Name → ℕ → ℕ → Played
-begun m h s [] new id = acted m h s (Some (start_of m.tree h (path_of s))) None new id
-begun m h s (e ∷ es) new id = gone_to m h (record { step = s; at = start_of m.tree h (path_of s); next = e; rest = es })
+abbrev pub begun : Stage → ℕ → Action → List Name → ℕ → Played
+begun m h s [] new = acted m h s (Some (start_of m.tree h (path_of s))) None new
+begun m h s (e ∷ es) new = gone_to m h (record { step = s; at = start_of m.tree h (path_of s); next = e; rest = es })
 
-abbrev pub looked : Inodes → ℕ → Walk → List Name → Option ℕ → ℕ → ℕ → Played
-looked m h w [] r new id = acted m h w.step r (Some (w.at, w.next)) new id
-looked m h w (e ∷ es) None new id = acted m h w.step None None new id
-looked m h w (e ∷ es) (Some n) new id = gone_to m h (record { step = w.step; at = n; next = e; rest = es })
+abbrev pub looked : Stage → ℕ → Walk → List Name → Option ℕ → ℕ → Played
+looked m h w [] r new = acted m h w.step r (Some (w.at, w.next)) new
+looked m h w (e ∷ es) None new = acted m h w.step None None new
+looked m h w (e ∷ es) (Some n) new = gone_to m h (record { step = w.step; at = n; next = e; rest = es })
 
-abbrev pub also : Bool → Played → Played
-also b p = record { deed = p.deed; inodes = p.inodes; may = b && p.may }
+-- this move, where it is allowed
+abbrev pub moves : Move → Bool → Played → Played
+moves v b p = record { move = Some v; told = p.told; stage = p.stage; may = b && p.may }
 
-abbrev pub begin_with : Inodes → ℕ → Option Action → ℕ → ℕ → Played
-begin_with m h None new id = never m
-begin_with m h (Some s) new id = also (follows_path s && (is_nothing (m.walk h) && (placed m.tree h s && is_free_to_find m.tree h s))) (begun m h s (elements (path_of s)) new id)
+abbrev pub begin_with : Stage → ℕ → Option Action → ℕ → Played
+begin_with m h None new = never m
+begin_with m h (Some s) new = moves (Begin s new) (follows_path s && (is_nothing (m.walk h) && (placed m.tree h s && is_free_to_find m.tree h s))) (begun m h s (elements (path_of s)) new)
 
-abbrev pub own_with : Inodes → ℕ → Option Action → ℕ → ℕ → Played
-own_with m h None new id = never m
-own_with m h (Some s) new id = also (not (follows_path s) && is_nothing (m.walk h)) (acted m h s (resolve m.tree h (path_of s)) (parent m.tree h (path_of s)) new id)
+abbrev pub own_with : Stage → ℕ → Option Action → ℕ → Played
+own_with m h None new = never m
+own_with m h (Some s) new = moves (Own s new) (not (follows_path s) && is_nothing (m.walk h)) (acted m h s (resolve m.tree h (path_of s)) (parent m.tree h (path_of s)) new)
 
-abbrev pub has_lock : Option ℕ → ℕ → Bool
-has_lock None h = false
-has_lock (Some g) h = g == h
+abbrev pub look_with : Stage → ℕ → Option Walk → ℕ → Played
+look_with m h None new = never m
+look_with m h (Some w) new = moves (Look new) (live_directory (m.tree.nodes w.at)) (looked m h w w.rest (look m.tree.nodes w.at w.next) new)
 
-abbrev pub look_with : Inodes → ℕ → Option Walk → ℕ → ℕ → Played
-look_with m h None new id = never m
-look_with m h (Some w) new id = also (live_directory (m.tree.nodes w.at) && has_lock (m.lock w.at) h) (looked m h w w.rest (look m.tree.nodes w.at w.next) new id)
-
-abbrev pub quit_with : Inodes → ℕ → Option Walk → Played
+abbrev pub quit_with : Stage → ℕ → Option Walk → Played
 quit_with m h None = never m
-quit_with m h (Some w) = record { deed = None; inodes = record { tree = m.tree; lock = m.lock; walk = put m.walk h None }; may = not (live_directory (m.tree.nodes w.at)) }
+quit_with m h (Some w) = record { move = Some (Quit w.step); told = Some (fail w.step); stage = record { tree = m.tree; walk = put m.walk h None }; may = not (live_directory (m.tree.nodes w.at)) }
 
-unfoldable pub moved : Inodes → ℕ → Call → List Act → Move → Played
-moved m h c acts Quiet = record { deed = None; inodes = m; may = true }
-moved m h c acts (Take n) = record { deed = None; inodes = record { tree = m.tree; lock = put m.lock n (Some h); walk = m.walk }; may = is_nothing (m.lock n) }
-moved m h c acts (Give n) = record { deed = None; inodes = record { tree = m.tree; lock = put m.lock n None; walk = m.walk }; may = has_lock (m.lock n) h }
-moved m h c acts (Begin new id) = begin_with m h (next_of c acts) new id
-moved m h c acts (Look new id) = look_with m h (m.walk h) new id
-moved m h c acts Quit = quit_with m h (m.walk h)
-moved m h c acts (Own new id) = own_with m h (next_of c acts) new id
+unfoldable pub moved : Stage → ℕ → Call → List Act → Option Way → Played
+moved m h c acts None = record { move = None; told = None; stage = m; may = true }
+moved m h c acts (Some (Begins_it new)) = begin_with m h (next_of c acts) new
+moved m h c acts (Some (Looks_on new)) = look_with m h (m.walk h) new
+moved m h c acts (Some Quits_it) = quit_with m h (m.walk h)
+moved m h c acts (Some (Owns_it new)) = own_with m h (next_of c acts) new
 
--- Each allowed move is one of the machine.
+-- Each allowed move is one.
 
 nothing_is : {A : Type 0} → (o : Option A) → is_nothing o ≡ true → o ≡ None
 nothing_is None h = refl
@@ -151,16 +165,12 @@ not_is : (b : Bool) → not b ≡ true → b ≡ false
 not_is true h = absurd cc
 not_is false h = refl
 
-unless : (a b : Bool) → (not a || b) ≡ true → a ≡ true → b ≡ true
-unless true b h y = h
-unless false b h y = absurd cc
+asked : (a b : Bool) → (not a || b) ≡ true → a ≡ true → b ≡ true
+asked true b h y = h
+asked false b h y = absurd cc
 
 less_is : (a b : ℕ) → nat_lt a b ≡ true → a < b
 less_is a b h = grind (arith, nat_tests)
-
-lock_is : (o : Option ℕ) (h : ℕ) → has_lock o h ≡ true → o ≡ Some h
-lock_is None h q = absurd cc
-lock_is (Some g) h q = ap (λ (z : ℕ). Some z) (eq_is g h q)
 
 least_is : (t : Tree) (id : ℕ) → is_least t id ≡ true → IsLeastUnused t id
 least_is t id is =
@@ -175,10 +185,10 @@ chosen t h s par new id may =
     let two = and_true (not (makes_node t s par) || is_new t new) (not (opens_one t h s) || is_least t id) may in
     record {
       node = λ y.
-          let one = and_true (nat_lt 0 new) (nat_lt new t.ninodes && is_nothing (t.nodes new)) (unless (makes_node t s par) (is_new t new) two.0 y) in
+          let one = and_true (nat_lt 0 new) (nat_lt new t.ninodes && is_nothing (t.nodes new)) (asked (makes_node t s par) (is_new t new) two.0 y) in
           let rest = and_true (nat_lt new t.ninodes) (is_nothing (t.nodes new)) one.1 in
           record { from = less_is 0 new one.0; below = less_is new t.ninodes rest.0; unused = nothing_is (t.nodes new) rest.1 };
-      file = λ y. least_is t id (unless (opens_one t h s) (is_least t id) two.1 y);
+      file = λ y. least_is t id (asked (opens_one t h s) (is_least t id) two.1 y);
     }
 
 ok_step : (t : Tree) (h : ℕ) (s : Action) (res : Option ℕ) (par : Option (ℕ × Name)) (new id : ℕ) (a : StepAnswer) → refusal_with t h s res par ≡ None → a ≡ answer_with t h s res par id → is_ok a ≡ true → MayChoose t h s par new id → IsInPlace t h s → StepWith t h s res par a new id (settle (effect_with t h s res par new id))
@@ -198,25 +208,26 @@ at_is : (o : Option Walk) (n : ℕ) → walks_at o n → is_at o n ≡ true
 at_is None n w = absurd w
 at_is (Some w) n q = subst (λ (z : ℕ). (w.at == z) ≡ true) q (eq_self w.at)
 
-idle_is : (m : Inodes) (s : Action) (g : ℕ) → is_idle m s ≡ true → s ≡ Inherit g → m.walk g ≡ None
+idle_is : (m : Stage) (s : Action) (g : ℕ) → is_idle m s ≡ true → s ≡ Inherit g → m.walk g ≡ None
 idle_is m s g h e = nothing_is (m.walk g) (subst (λ (z : Action). is_idle m z ≡ true) e h)
 
-acted_ok : (m : Inodes) (h : ℕ) (s : Action) (res : Option ℕ) (par : Option (ℕ × Name)) (new id : ℕ) → (acted m h s res par new id).may ≡ true → ActsWith m h s res par new id (acted m h s res par new id).deed (acted m h s res par new id).inodes
+acted_ok : (m : Stage) (h : ℕ) (s : Action) (res : Option ℕ) (par : Option (ℕ × Name)) (new : ℕ) → (acted m h s res par new).may ≡ true → Acts m h s res par new (acted m h s res par new).told (acted m h s res par new).stage
 unfolding acted
-acted_ok m h s res par new id may =
+acted_ok m h s res par new may =
     let r : Option Cause = refusal_with m.tree h s res par in
-    let a = and_true (placed m.tree h s) (answered m.tree h s res par id r && (may_choose m.tree h s par new id && (is_alone m h s par new && is_idle m s))) may in
-    let b = and_true (answered m.tree h s res par id r) (may_choose m.tree h s par new id && (is_alone m h s par new && is_idle m s)) a.1 in
-    let c = and_true (may_choose m.tree h s par new id) (is_alone m h s par new && is_idle m s) b.1 in
+    let i : ℕ = least m.tree in
+    let a = and_true (placed m.tree h s) (answered m.tree h s res par i r && (may_choose m.tree h s par new i && (is_alone m h s par new && is_idle m s))) may in
+    let b = and_true (answered m.tree h s res par i r) (may_choose m.tree h s par new i && (is_alone m h s par new && is_idle m s)) a.1 in
+    let c = and_true (may_choose m.tree h s par new i) (is_alone m h s par new && is_idle m s) b.1 in
     let d = and_true (is_alone m h s par new) (is_idle m s) c.1 in
     record {
-      answer = answers_to m.tree h s res par id r;
+      answer = answers_to m.tree h s res par i r;
+      id = i;
       deed = refl;
-      step = made_step m.tree h s res par new id r refl b.0 (chosen m.tree h s par new id c.0) a.0;
-      lock = refl;
+      step = made_step m.tree h s res par new i r refl b.0 (chosen m.tree h s par new i c.0) a.0;
       walk = refl;
-      alone = λ y g lg ne at.
-          let all : any_below hart_count (λ x. not (x == h) && is_at (m.walk x) new) ≡ false = not_is (any_below hart_count (λ x. not (x == h) && is_at (m.walk x) new)) (unless (makes_node m.tree s par) (not (any_below hart_count (λ x. not (x == h) && is_at (m.walk x) new))) d.0 y) in
+      alone = λ made y g lg ne at.
+          let all : any_below hart_count (λ x. not (x == h) && is_at (m.walk x) new) ≡ false = not_is (any_below hart_count (λ x. not (x == h) && is_at (m.walk x) new)) (asked (makes_node m.tree s par) (not (any_below hart_count (λ x. not (x == h) && is_at (m.walk x) new))) d.0 y) in
           let no' : (not (g == h) && is_at (m.walk g) new) ≡ false = any_none hart_count (λ x. not (x == h) && is_at (m.walk x) new) all g lg in
           let yes' : (not (g == h) && is_at (m.walk g) new) ≡ true = both (not (g == h)) (is_at (m.walk g) new) (ap (λ (z : Bool). not z) (eq_not g h ne)) (at_is (m.walk g) new at) in
           absurd (cc (no', yes'));
@@ -226,60 +237,61 @@ acted_ok m h s res par new id may =
     both : (a b : Bool) → a ≡ true → b ≡ true → (a && b) ≡ true
     both a b p q = grind arith
 
-begun_ok : (m : Inodes) (h : ℕ) (s : Action) (es : List Name) (new id : ℕ) → (begun m h s es new id).may ≡ true → Begins m h s es new id (begun m h s es new id).deed (begun m h s es new id).inodes
-begun_ok m h s [] new id may = acted_ok m h s (Some (start_of m.tree h (path_of s))) None new id may
-begun_ok m h s (e ∷ es) new id may = (refl, refl)
+begun_ok : (m : Stage) (h : ℕ) (s : Action) (es : List Name) (new : ℕ) → (begun m h s es new).may ≡ true → Begins m h s es new (begun m h s es new).told (begun m h s es new).stage
+begun_ok m h s [] new may = acted_ok m h s (Some (start_of m.tree h (path_of s))) None new may
+begun_ok m h s (e ∷ es) new may = (refl, refl)
 
-looked_ok : (m : Inodes) (h : ℕ) (w : Walk) (es : List Name) (r : Option ℕ) (new id : ℕ) → (looked m h w es r new id).may ≡ true → Looks m h w es r new id (looked m h w es r new id).deed (looked m h w es r new id).inodes
-looked_ok m h w [] r new id may = acted_ok m h w.step r (Some (w.at, w.next)) new id may
-looked_ok m h w (e ∷ es) None new id may = acted_ok m h w.step None None new id may
-looked_ok m h w (e ∷ es) (Some n) new id may = (refl, refl)
+looked_ok : (m : Stage) (h : ℕ) (w : Walk) (es : List Name) (r : Option ℕ) (new : ℕ) → (looked m h w es r new).may ≡ true → Looks m h w es r new (looked m h w es r new).told (looked m h w es r new).stage
+looked_ok m h w [] r new may = acted_ok m h w.step r (Some (w.at, w.next)) new may
+looked_ok m h w (e ∷ es) None new may = acted_ok m h w.step None None new may
+looked_ok m h w (e ∷ es) (Some n) new may = (refl, refl)
 
-begin_ok : (m : Inodes) (h : ℕ) (c : Call) (acts : List Act) (o : Option Action) (new id : ℕ) → next_of c acts ≡ o → (begin_with m h o new id).may ≡ true → Moves m h c acts (Begin new id) (begin_with m h o new id).deed (begin_with m h o new id).inodes
-begin_ok m h c acts None new id is may = absurd cc
-begin_ok m h c acts (Some s) new id is may =
-    let a = and_true (follows_path s && (is_nothing (m.walk h) && (placed m.tree h s && is_free_to_find m.tree h s))) (begun m h s (elements (path_of s)) new id).may may in
+-- the move is one that the call may make now
+abbrev pub MayPlay : Stage → ℕ → Call → List Act → Played → Type 0
+MayPlay m h c acts p = BeginsNext c acts p.move × PlaysAny m h p.move p.told p.stage
+
+begin_ok : (m : Stage) (h : ℕ) (c : Call) (acts : List Act) (o : Option Action) (new : ℕ) → next_of c acts ≡ o → (begin_with m h o new).may ≡ true → MayPlay m h c acts (begin_with m h o new)
+begin_ok m h c acts None new is may = absurd cc
+begin_ok m h c acts (Some s) new is may =
+    let a = and_true (follows_path s && (is_nothing (m.walk h) && (placed m.tree h s && is_free_to_find m.tree h s))) (begun m h s (elements (path_of s)) new).may may in
     let b = and_true (follows_path s) (is_nothing (m.walk h) && (placed m.tree h s && is_free_to_find m.tree h s)) a.0 in
     let d = and_true (is_nothing (m.walk h)) (placed m.tree h s && is_free_to_find m.tree h s) b.1 in
     let e = and_true (placed m.tree h s) (is_free_to_find m.tree h s) d.1 in
-    (s, is, b.0, nothing_is (m.walk h) d.0, e.0, e.1, begun_ok m h s (elements (path_of s)) new id a.1)
+    (is, record { follows = b.0; rests = nothing_is (m.walk h) d.0; place = e.0; free = e.1; begins = begun_ok m h s (elements (path_of s)) new a.1 })
 
-own_ok : (m : Inodes) (h : ℕ) (c : Call) (acts : List Act) (o : Option Action) (new id : ℕ) → next_of c acts ≡ o → (own_with m h o new id).may ≡ true → Moves m h c acts (Own new id) (own_with m h o new id).deed (own_with m h o new id).inodes
-own_ok m h c acts None new id is may = absurd cc
-own_ok m h c acts (Some s) new id is may =
-    let p = acted m h s (resolve m.tree h (path_of s)) (parent m.tree h (path_of s)) new id in
+own_ok : (m : Stage) (h : ℕ) (c : Call) (acts : List Act) (o : Option Action) (new : ℕ) → next_of c acts ≡ o → (own_with m h o new).may ≡ true → MayPlay m h c acts (own_with m h o new)
+own_ok m h c acts None new is may = absurd cc
+own_ok m h c acts (Some s) new is may =
+    let p = acted m h s (resolve m.tree h (path_of s)) (parent m.tree h (path_of s)) new in
     let a = and_true (not (follows_path s) && is_nothing (m.walk h)) p.may may in
     let b = and_true (not (follows_path s)) (is_nothing (m.walk h)) a.0 in
-    (s, is, not_is (follows_path s) b.0, nothing_is (m.walk h) b.1, acted_ok m h s (resolve m.tree h (path_of s)) (parent m.tree h (path_of s)) new id a.1)
+    (is, record { follows = not_is (follows_path s) b.0; rests = nothing_is (m.walk h) b.1; acts = acted_ok m h s (resolve m.tree h (path_of s)) (parent m.tree h (path_of s)) new a.1 })
 
-look_ok : (m : Inodes) (h : ℕ) (c : Call) (acts : List Act) (o : Option Walk) (new id : ℕ) → m.walk h ≡ o → (look_with m h o new id).may ≡ true → Moves m h c acts (Look new id) (look_with m h o new id).deed (look_with m h o new id).inodes
-look_ok m h c acts None new id is may = absurd cc
-look_ok m h c acts (Some w) new id is may =
-    let p = looked m h w w.rest (look m.tree.nodes w.at w.next) new id in
-    let a = and_true (live_directory (m.tree.nodes w.at) && has_lock (m.lock w.at) h) p.may may in
-    let b = and_true (live_directory (m.tree.nodes w.at)) (has_lock (m.lock w.at) h) a.0 in
-    (w, is, b.0, lock_is (m.lock w.at) h b.1, looked_ok m h w w.rest (look m.tree.nodes w.at w.next) new id a.1)
+look_ok : (m : Stage) (h : ℕ) (c : Call) (acts : List Act) (o : Option Walk) (new : ℕ) → m.walk h ≡ o → (look_with m h o new).may ≡ true → MayPlay m h c acts (look_with m h o new)
+look_ok m h c acts None new is may = absurd cc
+look_ok m h c acts (Some w) new is may =
+    let p = looked m h w w.rest (look m.tree.nodes w.at w.next) new in
+    let a = and_true (live_directory (m.tree.nodes w.at)) p.may may in
+    (tt, record { walk = w; is = is; live = a.0; looks = looked_ok m h w w.rest (look m.tree.nodes w.at w.next) new a.1 })
 
-quit_ok : (m : Inodes) (h : ℕ) (c : Call) (acts : List Act) (o : Option Walk) → m.walk h ≡ o → (quit_with m h o).may ≡ true → Moves m h c acts Quit (quit_with m h o).deed (quit_with m h o).inodes
+quit_ok : (m : Stage) (h : ℕ) (c : Call) (acts : List Act) (o : Option Walk) → m.walk h ≡ o → (quit_with m h o).may ≡ true → MayPlay m h c acts (quit_with m h o)
 quit_ok m h c acts None is may = absurd cc
-quit_ok m h c acts (Some w) is may = (w, is, not_is (live_directory (m.tree.nodes w.at)) may, refl, refl)
+quit_ok m h c acts (Some w) is may = (tt, record { walk = w; is = is; step = refl; lost = not_is (live_directory (m.tree.nodes w.at)) may; deed = refl; stage = refl })
 
-moved_ok : (m : Inodes) (h : ℕ) (c : Call) (acts : List Act) (v : Move) → (moved m h c acts v).may ≡ true → Moves m h c acts v (moved m h c acts v).deed (moved m h c acts v).inodes
+moved_ok : (m : Stage) (h : ℕ) (c : Call) (acts : List Act) (v : Option Way) → (moved m h c acts v).may ≡ true → MayPlay m h c acts (moved m h c acts v)
 unfolding moved
-moved_ok m h c acts Quiet may = (refl, refl)
-moved_ok m h c acts (Take n) may = (nothing_is (m.lock n) may, refl, refl)
-moved_ok m h c acts (Give n) may = (lock_is (m.lock n) h may, refl, refl)
-moved_ok m h c acts (Begin new id) may = begin_ok m h c acts (next_of c acts) new id refl may
-moved_ok m h c acts (Look new id) may = look_ok m h c acts (m.walk h) new id refl may
-moved_ok m h c acts Quit may = quit_ok m h c acts (m.walk h) refl may
-moved_ok m h c acts (Own new id) may = own_ok m h c acts (next_of c acts) new id refl may
+moved_ok m h c acts None may = (tt, (refl, refl))
+moved_ok m h c acts (Some (Begins_it new)) may = begin_ok m h c acts (next_of c acts) new refl may
+moved_ok m h c acts (Some (Looks_on new)) may = look_ok m h c acts (m.walk h) new refl may
+moved_ok m h c acts (Some Quits_it) may = quit_ok m h c acts (m.walk h) refl may
+moved_ok m h c acts (Some (Owns_it new)) may = own_ok m h c acts (next_of c acts) new refl may
 
 -- Scripts.
 
 pub data Do : Type 0 where
   Start : (h : ℕ) → (c : Call) → Do
-  Step : (h : ℕ) → (v : Move) → Do
-  Last : (h : ℕ) → (v : Move) → Do  -- a step with which the call ends
+  Step : (h : ℕ) → (v : Option Way) → Do
+  Last : (h : ℕ) → (v : Option Way) → Do  -- an event with which the call ends
 
 -- an event, the world after it, and whether it may happen
 pub record Shows : Type 0 where
@@ -291,60 +303,59 @@ abbrev pub is_free : Standing → Bool
 is_free Free = true
 is_free (Busy id c acts) = false
 
-abbrev pub stepped_to : World → ℕ → Played → Option Reply → World
-stepped_to w h p r = record { inodes = p.inodes; book = finishes r h (all_fall w.inodes p.inodes.tree h hart_count (act_of_hart p.deed h w.book)) }
-
-abbrev pub step_at : World → ℕ → Move → Standing → Shows
-step_at w h v Free = record { event = Steps h v None; world = w; may = false }
+abbrev pub step_at : World → ℕ → Option Way → Standing → Shows
+step_at w h v Free = record { event = Nothing; world = w; may = false }
 step_at w h v (Busy id c acts) = record {
-  event = Steps h v None;
-  world = stepped_to w h (moved w.inodes h c acts v) None;
-  may = nat_lt h hart_count && (moved w.inodes h c acts v).may;
+  event = Steps h (moved w.stage h c acts v).move None;
+  world = stepped w h (moved w.stage h c acts v).told (moved w.stage h c acts v).stage None;
+  may = nat_lt h hart_count && (moved w.stage h c acts v).may;
 }
 
 abbrev pub last_of : Call → List Act → Played → Reply
-last_of c acts p = reply_of c (after p.deed acts)
+last_of c acts p = reply_of c (after p.told acts)
 
-abbrev pub last_at : World → ℕ → Move → Standing → Shows
-last_at w h v Free = record { event = Steps h v None; world = w; may = false }
+abbrev pub last_at : World → ℕ → Option Way → Standing → Shows
+last_at w h v Free = record { event = Nothing; world = w; may = false }
 last_at w h v (Busy id c acts) = record {
-  event = Steps h v (Some (last_of c acts (moved w.inodes h c acts v)));
-  world = stepped_to w h (moved w.inodes h c acts v) (Some (last_of c acts (moved w.inodes h c acts v)));
-  may = nat_lt h hart_count && ((moved w.inodes h c acts v).may && (is_nothing ((moved w.inodes h c acts v).inodes.walk h) && (is_nothing (next_of c (after (moved w.inodes h c acts v).deed acts)) && had_room (after (moved w.inodes h c acts v).deed acts))));
+  event = Steps h (moved w.stage h c acts v).move (Some (last_of c acts (moved w.stage h c acts v)));
+  world = stepped w h (moved w.stage h c acts v).told (moved w.stage h c acts v).stage (Some (last_of c acts (moved w.stage h c acts v)));
+  may = nat_lt h hart_count && ((moved w.stage h c acts v).may && (is_nothing ((moved w.stage h c acts v).stage.walk h) && (is_nothing (next_of c (after (moved w.stage h c acts v).told acts)) && had_room (after (moved w.stage h c acts v).told acts))));
 }
 
 unfoldable pub played : World → Do → Shows
-played w (Start h c) = record { event = Starts h c; world = record { inodes = w.inodes; book = starts w.book h c }; may = nat_lt h hart_count && is_free (w.book.status h) }
-played w (Step h v) = step_at w h v (w.book.status h)
-played w (Last h v) = last_at w h v (w.book.status h)
+played w (Start h c) = record { event = Starts h c; world = record { stage = w.stage; history = starts w.history h c }; may = nat_lt h hart_count && is_free (w.history.calls h) }
+played w (Step h v) = step_at w h v (w.history.calls h)
+played w (Last h v) = last_at w h v (w.history.calls h)
 
 free_is : (s : Standing) → is_free s ≡ true → s ≡ Free
 free_is Free h = refl
 free_is (Busy id c acts) h = absurd cc
 
-step_ok : (w : World) (h : ℕ) (v : Move) (s : Standing) → w.book.status h ≡ s → (step_at w h v s).may ≡ true → Happens w (step_at w h v s).event (step_at w h v s).world
+step_ok : (w : World) (h : ℕ) (v : Option Way) (s : Standing) → w.history.calls h ≡ s → (step_at w h v s).may ≡ true → Happens w (step_at w h v s).event (step_at w h v s).world
 step_ok w h v Free is may = absurd cc
 step_ok w h v (Busy id c acts) is may =
-    let p = moved w.inodes h c acts v in
+    let p = moved w.stage h c acts v in
     let a = and_true (nat_lt h hart_count) p.may may in
-    (less_is h hart_count a.0, id, c, acts, p.deed, p.inodes, is, moved_ok w.inodes h c acts v a.1, tt, refl)
+    let one = moved_ok w.stage h c acts v a.1 in
+    record { hart = less_is h hart_count a.0; id = id; c = c; acts = acts; busy = is; next = one.0; told = p.told; stage = p.stage; plays = one.1; reply = tt; world = refl }
 
-last_ok : (w : World) (h : ℕ) (v : Move) (s : Standing) → w.book.status h ≡ s → (last_at w h v s).may ≡ true → Happens w (last_at w h v s).event (last_at w h v s).world
+last_ok : (w : World) (h : ℕ) (v : Option Way) (s : Standing) → w.history.calls h ≡ s → (last_at w h v s).may ≡ true → Happens w (last_at w h v s).event (last_at w h v s).world
 last_ok w h v Free is may = absurd cc
 last_ok w h v (Busy id c acts) is may =
-    let p = moved w.inodes h c acts v in
-    let x = after p.deed acts in
-    let a = and_true (nat_lt h hart_count) (p.may && (is_nothing (p.inodes.walk h) && (is_nothing (next_of c x) && had_room x))) may in
-    let b = and_true p.may (is_nothing (p.inodes.walk h) && (is_nothing (next_of c x) && had_room x)) a.1 in
-    let d = and_true (is_nothing (p.inodes.walk h)) (is_nothing (next_of c x) && had_room x) b.1 in
+    let p = moved w.stage h c acts v in
+    let x = after p.told acts in
+    let a = and_true (nat_lt h hart_count) (p.may && (is_nothing (p.stage.walk h) && (is_nothing (next_of c x) && had_room x))) may in
+    let b = and_true p.may (is_nothing (p.stage.walk h) && (is_nothing (next_of c x) && had_room x)) a.1 in
+    let d = and_true (is_nothing (p.stage.walk h)) (is_nothing (next_of c x) && had_room x) b.1 in
     let e = and_true (is_nothing (next_of c x)) (had_room x) d.1 in
-    (less_is h hart_count a.0, id, c, acts, p.deed, p.inodes, is, moved_ok w.inodes h c acts v b.0, (nothing_is (p.inodes.walk h) d.0, nothing_is (next_of c x) e.0, refl, e.1), refl)
+    let one = moved_ok w.stage h c acts v b.0 in
+    record { hart = less_is h hart_count a.0; id = id; c = c; acts = acts; busy = is; next = one.0; told = p.told; stage = p.stage; plays = one.1; reply = (nothing_is (p.stage.walk h) d.0, record { through = nothing_is (next_of c x) e.0; reply = refl; room = e.1 }); world = refl }
 
 played_ok : (w : World) (d : Do) → (played w d).may ≡ true → Happens w (played w d).event (played w d).world
 unfolding played
-played_ok w (Start h c) may = let a = and_true (nat_lt h hart_count) (is_free (w.book.status h)) may in (less_is h hart_count a.0, free_is (w.book.status h) a.1, refl)
-played_ok w (Step h v) may = step_ok w h v (w.book.status h) refl may
-played_ok w (Last h v) may = last_ok w h v (w.book.status h) refl may
+played_ok w (Start h c) may = let a = and_true (nat_lt h hart_count) (is_free (w.history.calls h)) may in record { hart = less_is h hart_count a.0; free = free_is (w.history.calls h) a.1; world = refl }
+played_ok w (Step h v) may = step_ok w h v (w.history.calls h) refl may
+played_ok w (Last h v) may = last_ok w h v (w.history.calls h) refl may
 
 unfoldable pub may_all : World → List Do → Bool
 may_all w [] = true
@@ -366,12 +377,22 @@ script_runs w (d ∷ ds) may =
     let a = and_true (played w d).may (may_all (played w d).world ds) may in
     ((played w d).world, played_ok w d a.0, script_runs (played w d).world ds a.1)
 
+abbrev pub way_of : Move → Way
+way_of (Begin s new) = Begins_it new
+way_of (Look new) = Looks_on new
+way_of (Quit s) = Quits_it
+way_of (Own s new) = Owns_it new
+
+abbrev pub any_way : Option Move → Option Way
+any_way None = None
+any_way (Some v) = Some (way_of v)
+
 -- the script of events
 abbrev pub script_of : List Event → List Do
 script_of [] = []
 script_of (Starts h c ∷ es) = Start h c ∷ script_of es
-script_of (Steps h v None ∷ es) = Step h v ∷ script_of es
-script_of (Steps h v (Some r) ∷ es) = Last h v ∷ script_of es
+script_of (Steps h v None ∷ es) = Step h (any_way v) ∷ script_of es
+script_of (Steps h v (Some r) ∷ es) = Last h (any_way v) ∷ script_of es
 script_of (Nothing ∷ es) = script_of es
 
 -- Events that their own script gives are a run.

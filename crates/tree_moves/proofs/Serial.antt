@@ -12,13 +12,14 @@ use Rattle.plain_tree.specs.Calls.{Act}
 use Rattle.plain_tree.specs.Explains.{trace_of, ends_at}
 use Rattle.tree_laws.specs.WellFormed.{IsWellFormed}
 use Rattle.tree_laws.proofs.Maps.{either, same_or, eq_self, eq_not, put_same}
-use Rattle.tree_moves.specs.Kept.{Status, Deed, Book, act_of, entry_of}
-use Rattle.tree_moves.specs.Kept.Status.{Free, Busy}
-use Rattle.tree_moves.specs.Inodes.{Inodes, World, Event, act_of_hart, falls_of, all_fall, finishes, Happens, Runs, Alone, IsStartBy, opened, shown_of}
-use Rattle.tree_moves.specs.Inodes.Event.{Starts, Steps, Nothing}
+use Rattle.tree_moves.specs.Moves.{Deed, Stage}
+use Rattle.tree_moves.specs.History.{Standing, History, writes, writes_any, tells, tells_any, entry_of}
+use Rattle.tree_moves.specs.History.Standing.{Free, Busy}
+use Rattle.tree_moves.specs.Runs.{World, Event, lost_of, unless, falls, all_fall, moves_on, finishes, Happens, Runs, Alone, IsStartBy, opened, shown_of}
+use Rattle.tree_moves.specs.Runs.Event.{Starts, Steps, Nothing}
 use Rattle.tree_moves.specs.Laws.{of_call, in_turn}
 use Rattle.tree_moves.proofs.Lists.{map_length, more_length}
-use Rattle.tree_moves.proofs.History.{Inv, OwnOk, IsHart, apart_alone, start_alone, happens_ok, opened_ok, run_trace, falls_not, acts_there}
+use Rattle.tree_moves.proofs.History.{Inv, OwnOk, IsHart, apart_alone, start_alone, happens_ok, opened_ok, run_trace, writes_calls, tells_there, falls_calls}
 
 of_append : (id : ℕ) (xs ys : List Placed) → of_call id (xs ++ ys) ≡ of_call id xs ++ of_call id ys
 of_append id [] ys = refl
@@ -76,103 +77,114 @@ turn_start : (n : ℕ) (xs : List Placed) → AllKnown n xs → in_turn (suc n) 
 unfolding in_turn
 turn_start n xs k = ap (λ (z : List Placed). in_turn n xs ++ z) (known_none n xs k) ∙ append-nil (in_turn n xs)
 
-pub record Turn (k : ℕ) (b : Book) : Type 0 where
+pub record Turn (k : ℕ) (b : History) : Type 0 where
   pub list : b.list ≡ in_turn (length b.trace.calls) b.list
-  pub last : (id : ℕ) (c : Call) (x : List Act) → b.status k ≡ Busy id c x → suc id ≡ length b.trace.calls
+  pub last : (id : ℕ) (c : Call) (x : List Act) → b.calls k ≡ Busy id c x → suc id ≡ length b.trace.calls
   pub known : AllKnown (length b.trace.calls) b.list
 
 -- the other harts have no call
-idle_others : (k : ℕ) (base : Tree) (w : World) → Inv (IsHart k) base w → (g : ℕ) → g < hart_count → g ≢ k → w.book.status g ≡ Free
-idle_others k base w inv g lt ne = go (w.book.status g) refl (inv.harts g lt)
+idle_others : (k : ℕ) (base : Tree) (w : World) → Inv (IsHart k) base w → (g : ℕ) → g < hart_count → g ≢ k → w.history.calls g ≡ Free
+idle_others k base w inv g lt ne = go (w.history.calls g) refl (inv.harts g lt)
   where
-    go : (s : Status) → w.book.status g ≡ s → OwnOk (IsHart k) w.inodes.tree g s (w.inodes.walk g) → w.book.status g ≡ Free
+    go : (s : Standing) → w.history.calls g ≡ s → OwnOk (IsHart k) w.stage.tree g s (w.stage.walk g) → w.history.calls g ≡ Free
     go Free is o = is
     go (Busy id c x) is o = absurd (ne o.0)
 
-mover_is : (k : ℕ) (base : Tree) (w : World) (h id : ℕ) (c : Call) (x : List Act) → Inv (IsHart k) base w → h < hart_count → w.book.status h ≡ Busy id c x → h ≡ k
-mover_is k base w h id c x inv lt is = (subst (λ (s : Status). OwnOk (IsHart k) w.inodes.tree h s (w.inodes.walk h)) is (inv.harts h lt)).0
+mover_is : (k : ℕ) (base : Tree) (w : World) (h id : ℕ) (c : Call) (x : List Act) → Inv (IsHart k) base w → h < hart_count → w.history.calls h ≡ Busy id c x → h ≡ k
+mover_is k base w h id c x inv lt is = (subst (λ (s : Standing). OwnOk (IsHart k) w.stage.tree h s (w.stage.walk h)) is (inv.harts h lt)).0
 
-free_falls : (a : Option Deed) (b : Book) (g : ℕ) → b.status g ≡ Free → act_of_hart a g b ≡ b
-free_falls None b g is = refl
-free_falls (Some d) b g is = ap (λ (s : Status). act_of s b g d) is
-
--- no walk of another hart can fail
-quiet_falls : (m : Inodes) (t : Tree) (h n : ℕ) (b : Book) → ((g : ℕ) → g < n → g ≢ h → b.status g ≡ Free) → all_fall m t h n b ≡ b
-unfolding all_fall
-quiet_falls m t h zero b free = refl
-quiet_falls m t h (suc n) b free =
-    let ih = quiet_falls m t h n b (λ g l. free g (omega (arith, l))) in
-    ap (λ (z : Book). act_of_hart (falls_of m t h n) n z) ih
-    ∙ elim (same_or n h) [
-      | inl e ↦ ap (λ (a : Option Deed). act_of_hart a n b) (subst (λ (z : ℕ). falls_of m t h z ≡ None) (sym e) (falls_not m t h))
-      | inr ne ↦ free_falls (falls_of m t h n) b n (free n (omega arith) ne)
-    ]
-
-act_turn : (k : ℕ) (b : Book) (id : ℕ) (c : Call) (x : List Act) (d : Deed) → b.status k ≡ Busy id c x → Turn k b → Turn k (act_of (Busy id c x) b k d)
-act_turn k b id c x d is t =
+write_turn : (k : ℕ) (b : History) (d : Deed) (s : Standing) → b.calls k ≡ s → Turn k b → Turn k (writes s b k d)
+write_turn k b d Free is t = t
+write_turn k b d (Busy id c x) is t =
     let e : Placed = entry_of b.trace.events id k d in
     let n = t.last id c x is in
     record {
       list =
           subst (λ (z : ℕ). b.list ++ e ∷ [] ≡ in_turn z (b.list ++ e ∷ [])) n
           (sym (turn_more id b.list e refl ∙ ap (λ (z : List Placed). z ++ e ∷ []) (sym (t.list ∙ ap (λ (z : ℕ). in_turn z b.list) (sym n)))));
-      last = λ id' c' x' q.
-          let same : Busy id c (x ++ d.act ∷ []) ≡ Busy id' c' x' = sym (put_same b.status k (Busy id c (x ++ d.act ∷ []))) ∙ q in
-          let i : id ≡ id' = cc in
-          subst (λ (z : ℕ). suc z ≡ length b.trace.calls) i n;
+      last = t.last;
       known = known_more (length b.trace.calls) b.list e t.known (omega (arith, n));
     }
 
-acts_turn : (k : ℕ) (b : Book) (id : ℕ) (c : Call) (x : List Act) (a : Option Deed) → b.status k ≡ Busy id c x → Turn k b → Turn k (act_of_hart a k b)
-acts_turn k b id c x None is t = t
-acts_turn k b id c x (Some d) is t = subst (λ (s : Status). Turn k (act_of s b k d)) (sym is) (act_turn k b id c x d is t)
+writes_turn : (k : ℕ) (b : History) (a : Option Deed) → Turn k b → Turn k (writes_any a k b)
+writes_turn k b None t = t
+writes_turn k b (Some d) t = write_turn k b d (b.calls k) refl t
 
-finish_turn : (k : ℕ) (b : Book) (r : Option Reply) → Turn k b → Turn k (finishes r k b)
+tell_turn : (k : ℕ) (b : History) (d : Deed) (s : Standing) → b.calls k ≡ s → Turn k b → Turn k (tells s b k d)
+tell_turn k b d Free is t = t
+tell_turn k b d (Busy id c x) is t = record {
+  list = t.list;
+  last = λ id' c' x' q.
+      let same : Busy id c (x ++ d.act ∷ []) ≡ Busy id' c' x' = sym (put_same b.calls k (Busy id c (x ++ d.act ∷ []))) ∙ q in
+      let i : id ≡ id' = cc in
+      subst (λ (z : ℕ). suc z ≡ length b.trace.calls) i (t.last id c x is);
+  known = t.known;
+}
+
+tells_turn : (k : ℕ) (b : History) (a : Option Deed) → Turn k b → Turn k (tells_any a k b)
+tells_turn k b None t = t
+tells_turn k b (Some d) t = tell_turn k b d (b.calls k) refl t
+
+free_writes : (a : Option Deed) (b : History) (g : ℕ) → b.calls g ≡ Free → writes_any a g b ≡ b
+free_writes None b g is = refl
+free_writes (Some d) b g is = ap (λ (s : Standing). writes s b g d) is
+
+-- no walk of another hart can be lost
+falls_turn : (k : ℕ) (m m' : Stage) (n : ℕ) (b : History) → ((g : ℕ) → g < n → g ≢ k → b.calls g ≡ Free) → Turn k b → Turn k (all_fall m m' n b)
+unfolding all_fall
+falls_turn k m m' zero b free t = t
+falls_turn k m m' (suc n) b free t =
+    let ih = falls_turn k m m' n b (λ g l. free g (omega (arith, l))) t in
+    elim (same_or n k) [
+      | inl e ↦ subst (λ (z : ℕ). Turn k (writes_any (falls m m' n) z (all_fall m m' n b))) (sym e) (writes_turn k (all_fall m m' n b) (falls m m' n) ih)
+      | inr ne ↦ subst (λ (z : History). Turn k z) (sym (free_writes (falls m m' n) (all_fall m m' n b) n (ap (λ (f : ℕ → Standing). f n) (falls_calls m m' n b) ∙ free n (omega arith) ne))) ih
+    ]
+
+finish_turn : (k : ℕ) (b : History) (r : Option Reply) → Turn k b → Turn k (finishes r k b)
 finish_turn k b None t = record { list = t.list; last = t.last; known = t.known }
 finish_turn k b (Some r) t =
     let n : length (map (ends_at k r b.trace.events) b.trace.calls) ≡ length b.trace.calls = map_length (ends_at k r b.trace.events) b.trace.calls in
     record {
       list = subst (λ (z : ℕ). b.list ≡ in_turn z b.list) (sym n) t.list;
-      last = λ id c x q. absurd (let z : Free ≡ Busy id c x = sym (put_same b.status k Free) ∙ q in cc);
+      last = λ id c x q. absurd (let z : Free ≡ Busy id c x = sym (put_same b.calls k Free) ∙ q in cc);
       known = subst (λ (z : ℕ). AllKnown z b.list) (sym n) t.known;
     }
 
-happens_turn : (k : ℕ) (base : Tree) (w w' : World) (e : Event) → Inv (IsHart k) base w → IsStartBy k e → Happens w e w' → Turn k w.book → Turn k w'.book
-happens_turn k base w w' Nothing inv by o t = subst (λ (z : World). Turn k z.book) (sym o) (record { list = t.list; last = t.last; known = t.known })
+happens_turn : (k : ℕ) (base : Tree) (w w' : World) (e : Event) → Inv (IsHart k) base w → IsStartBy k e → Happens w e w' → Turn k w.history → Turn k w'.history
+happens_turn k base w w' Nothing inv by o t = subst (λ (z : World). Turn k z.history) (sym o) (record { list = t.list; last = t.last; known = t.known })
 happens_turn k base w w' (Starts h c) inv by o t =
-    let calls = w.book.trace.calls in
-    let said : TracedCall = record { hart = h; start = w.book.trace.events; call = c; finished = None } in
+    let calls = w.history.trace.calls in
+    let said : TracedCall = record { hart = h; start = w.history.trace.events; call = c; finished = None } in
     let n : length (calls ++ said ∷ []) ≡ suc (length calls) = more_length calls said in
-    subst (λ (z : World). Turn k z.book) (sym o.2) (record {
-      list = subst (λ (z : ℕ). w.book.list ≡ in_turn z w.book.list) (sym n) (t.list ∙ sym (turn_start (length calls) w.book.list t.known));
+    subst (λ (z : World). Turn k z.history) (sym o.world) (record {
+      list = subst (λ (z : ℕ). w.history.list ≡ in_turn z w.history.list) (sym n) (t.list ∙ sym (turn_start (length calls) w.history.list t.known));
       last = λ id c' x q.
-          let same : Busy (length calls) c [] ≡ Busy id c' x = sym (subst (λ (z : ℕ). put w.book.status h (Busy (length calls) c []) z ≡ Busy (length calls) c []) by (put_same w.book.status h (Busy (length calls) c []))) ∙ q in
+          let same : Busy (length calls) c [] ≡ Busy id c' x = sym (subst (λ (z : ℕ). put w.history.calls h (Busy (length calls) c []) z ≡ Busy (length calls) c []) by (put_same w.history.calls h (Busy (length calls) c []))) ∙ q in
           let i : length calls ≡ id = cc in
           ap (λ (z : ℕ). suc z) (sym i) ∙ sym n;
-      known = subst (λ (z : ℕ). AllKnown z w.book.list) (sym n) (known_later (length calls) (suc (length calls)) w.book.list (omega arith) t.known);
+      known = subst (λ (z : ℕ). AllKnown z w.history.list) (sym n) (known_later (length calls) (suc (length calls)) w.history.list (omega arith) t.known);
     })
 happens_turn k base w w' (Steps h v r) inv by o t =
-    let mine : h ≡ k = mover_is k base w h o.1 o.2 o.3 inv o.0 o.6 in
-    let b1 = act_of_hart o.4 h w.book in
-    let none : all_fall w.inodes o.5.tree h hart_count b1 ≡ b1 = quiet_falls w.inodes o.5.tree h hart_count b1 (λ g l ne. acts_there o.4 w.book h g ne ∙ idle_others k base w inv g l (λ q. ne (q ∙ sym mine))) in
-    let here : w.book.status k ≡ Busy o.1 o.2 o.3 = subst (λ (z : ℕ). w.book.status z ≡ Busy o.1 o.2 o.3) mine o.6 in
-    let one : Turn k (act_of_hart o.4 k w.book) = acts_turn k w.book o.1 o.2 o.3 o.4 here t in
-    subst (λ (z : World). Turn k z.book) (sym o.9)
-    (subst (λ (z : Book). Turn k (finishes r h z)) (sym none)
-    (subst (λ (z : ℕ). Turn k (finishes r z (act_of_hart o.4 z w.book))) (sym mine) (finish_turn k (act_of_hart o.4 k w.book) r one)))
+    let mine : h ≡ k = mover_is k base w h o.id o.c o.acts inv o.hart o.busy in
+    let told : Option Deed = unless (lost_of w.stage k) o.told in
+    let b1 : History = writes_any told k w.history in
+    let others : (g : ℕ) → g < hart_count → g ≢ k → (tells_any o.told k b1).calls g ≡ Free = (λ g l ne. tells_there o.told k g b1 ne ∙ (ap (λ (f : ℕ → Standing). f g) (writes_calls told k w.history) ∙ idle_others k base w inv g l ne)) in
+    subst (λ (z : World). Turn k z.history) (sym o.world)
+    (subst (λ (z : ℕ). Turn k (finishes r z (moves_on w.stage o.stage z o.told w.history))) (sym mine)
+    (finish_turn k (moves_on w.stage o.stage k o.told w.history) r (falls_turn k w.stage o.stage hart_count (tells_any o.told k b1) others (tells_turn k b1 o.told (writes_turn k w.history told t)))))
 
-run_turn : (k : ℕ) (base : Tree) (w w' : World) (es : List Event) → Inv (IsHart k) base w → Alone k es → Runs w es w' → Turn k w.book → Turn k w'.book
+run_turn : (k : ℕ) (base : Tree) (w w' : World) (es : List Event) → Inv (IsHart k) base w → Alone k es → Runs w es w' → Turn k w.history → Turn k w'.history
 unfolding Runs Alone
-run_turn k base w w' [] inv by r t = subst (λ (z : World). Turn k z.book) r t
+run_turn k base w w' [] inv by r t = subst (λ (z : World). Turn k z.history) r t
 run_turn k base w w' (e ∷ es) inv by r t =
     run_turn k base r.0 w' es (happens_ok (IsHart k) base w r.0 e (apart_alone k) (start_alone k e by.0) inv r.1) by.1 r.2
     (happens_turn k base w r.0 e inv by.0 r.1 t)
 
-nothing_turn : (k : ℕ) (t : Tree) → Turn k (opened t).book
+nothing_turn : (k : ℕ) (t : Tree) → Turn k (opened t).history
 unfolding in_turn AllKnown
 nothing_turn k t = record { list = refl; last = λ id c x q. absurd cc; known = tt }
 
-pub serial : (base : TreeData) (w : World) (h : ℕ) (es : List Event) → IsWellFormed (tree_of base) → Alone h es → Runs (opened (tree_of base)) es w → w.book.list ≡ in_turn (length (trace_of (map shown_of es)).calls) w.book.list
+pub serial : (base : TreeData) (w : World) (h : ℕ) (es : List Event) → IsWellFormed (tree_of base) → Alone h es → Runs (opened (tree_of base)) es w → w.history.list ≡ in_turn (length (trace_of (map shown_of es)).calls) w.history.list
 serial base w h es k by r =
     let t = run_turn h (tree_of base) (opened (tree_of base)) w es (opened_ok (IsHart h) (tree_of base) k) by r (nothing_turn h (tree_of base)) in
-    subst (λ (z : Trace). w.book.list ≡ in_turn (length z.calls) w.book.list) (run_trace (opened (tree_of base)) w es r) t.list
+    subst (λ (z : Trace). w.history.list ≡ in_turn (length z.calls) w.history.list) (run_trace (opened (tree_of base)) w es r) t.list

@@ -1,5 +1,5 @@
 -- A walk's path so far leads to its node while that is a live directory; when another hart's step kills it the walk fails just then.
-use Rattle.std.proofs.Common.{◌≡◌, ℕ, Bool, true, false, ◌&&◌, not, ◌⊎◌, inl, inr, refl, sym, ◌∙◌, ap, subst, List, [], ◌∷◌, ◌++◌, length, Option, Some, None, if◌then◌else◌, nat_lt}
+use Rattle.std.proofs.Common.{◌≡◌, ℕ, Bool, true, false, ◌&&◌, not, ◌⊎◌, inl, inr, refl, sym, ◌∙◌, ap, subst, List, [], ◌∷◌, ◌++◌, length, Option, Some, None, nat_lt}
 use Rattle.plain_tree.specs.declared.answer.Cause.{Cause}
 use Rattle.plain_tree.specs.declared.answer.Cause.TheVariants.{NoEntry}
 use Rattle.plain_tree.specs.declared.call.Call.{Call}
@@ -16,17 +16,17 @@ use Rattle.plain_tree.specs.Calls.{Act, next_of, call_climbs, last_cause, next_p
 use Rattle.tree_laws.specs.WellFormed.{is_free_to_find}
 use Rattle.tree_laws.proofs.Maps.{either, or_none}
 use Rattle.tree_laws.proofs.Walks.{follow_on, follow_off, follow_stop, look_bad, parent_on, parent_off, parent_bad, climbs_front}
-use Rattle.tree_moves.specs.Kept.{Deed}
-use Rattle.tree_moves.specs.Inodes.{Walk, fail, falls, after}
+use Rattle.tree_moves.specs.Moves.{Deed, Walk, fail}
 
--- While the walk's node is a live directory, nothing acted for its step, and the path so far leads to it.
+-- The call's next step is the walk's, and while the walk's node is a live directory the path so far leads to it.
 pub record WalkOk (t : Tree) (h : ℕ) (c : Call) (x : List Act) (w : Walk) : Type 0 where
   pub done : List Name
   pub path : elements (path_of w.step) ≡ done ++ w.next ∷ w.rest
   pub follows : follows_path w.step ≡ true
   pub place : IsInPlace t h w.step
   pub free : is_free_to_find t h w.step ≡ true
-  pub here : live_directory (t.nodes w.at) ≡ true → (next_of c x ≡ Some w.step) × (follow t.nodes (start_of t h (path_of w.step)) done ≡ Some w.at)
+  pub next : next_of c x ≡ Some w.step
+  pub here : live_directory (t.nodes w.at) ≡ true → follow t.nodes (start_of t h (path_of w.step)) done ≡ Some w.at
 
 -- what another hart's event leaves to a walk at a node
 pub record Left (t t' : Tree) (g at : ℕ) : Type 0 where
@@ -228,32 +228,29 @@ calm_step (InheritCall child) x s calm h = subst (λ (z : Action). climbs (path_
 calm_done : (t : Tree) (h : ℕ) (c : Call) (x : List Act) (w : Walk) → (k : WalkOk t h c x w) → climbs (path_of w.step) ≡ false → climbs_in k.done ≡ false
 calm_done t h c x w k calm = climbs_front k.done (w.next ∷ w.rest) (subst (λ (z : List Name). climbs_in z ≡ false) k.path calm)
 
--- a walk whose directory died fails just now
-pub walk_falls : (t t' : Tree) (g : ℕ) (c : Call) (x : List Act) (w : Walk) → call_climbs c ≡ false → WalkOk t g c x w → Left t t' g w.at → live_directory (t.nodes w.at) ≡ true → live_directory (t'.nodes w.at) ≡ false
-    → (next_of c x ≡ Some w.step) × StepBy t' g (fail w.step) t'
-walk_falls t t' g c x w calm k f good bad =
-    let old = k.here good in
-    let at : follow t.nodes (start_of t' g (path_of w.step)) k.done ≡ Some w.at = subst (λ (z : ℕ). follow t.nodes z k.done ≡ Some w.at) (sym (start_same t t' g (path_of w.step) f.cwd)) old.1 in
-    let low = calm_done t g c x w k (calm_step c x w.step calm old.0) in
-    (old.0, lost_fails t' g w.at w.next k.done w.rest w.step k.follows (place_kept t t' g w.step k.follows f.hold k.place) k.path (elim (f.paths (start_of t' g (path_of w.step)) w.at k.done low at) [ inl p ↦ inl (p, bad) | inr p ↦ inr p.1 ]))
+-- where the path so far leads in the tree that the event leaves
+still_at : (t t' : Tree) (g : ℕ) (c : Call) (x : List Act) (w : Walk) → call_climbs c ≡ false → (k : WalkOk t g c x w) → Left t t' g w.at → live_directory (t.nodes w.at) ≡ true
+    → (follow t'.nodes (start_of t' g (path_of w.step)) k.done ≡ Some w.at) ⊎ ((live_directory (t'.nodes w.at) ≡ false) × (follow t'.nodes (start_of t' g (path_of w.step)) k.done ≡ None))
+still_at t t' g c x w calm k f good =
+    let at : follow t.nodes (start_of t' g (path_of w.step)) k.done ≡ Some w.at = subst (λ (z : ℕ). follow t.nodes z k.done ≡ Some w.at) (sym (start_same t t' g (path_of w.step) f.cwd)) (k.here good) in
+    f.paths (start_of t' g (path_of w.step)) w.at k.done (calm_done t g c x w k (calm_step c x w.step calm k.next)) at
 
--- the walk stays right, with its failing step where its directory died
-pub walk_kept : (t t' : Tree) (g : ℕ) (c : Call) (x : List Act) (w : Walk) → call_climbs c ≡ false → WalkOk t g c x w → Left t t' g w.at → WalkOk t' g c (after (falls t t' (Some w)) x) w
-walk_kept t t' g c x w calm k f = go (live_directory (t.nodes w.at)) (live_directory (t'.nodes w.at)) refl refl
-  where
-    go : (b b' : Bool) → live_directory (t.nodes w.at) ≡ b → live_directory (t'.nodes w.at) ≡ b' → WalkOk t' g c (after (if b && not b' then Some (fail w.step) else None) x) w
-    go true true good good' =
-        let old = k.here good in
-        let at : follow t.nodes (start_of t' g (path_of w.step)) k.done ≡ Some w.at = subst (λ (z : ℕ). follow t.nodes z k.done ≡ Some w.at) (sym (start_same t t' g (path_of w.step) f.cwd)) old.1 in
-        let low = calm_done t g c x w k (calm_step c x w.step calm old.0) in
-        record {
-          done = k.done;
-          path = k.path;
-          follows = k.follows;
-          place = place_kept t t' g w.step k.follows f.hold k.place;
-          free = free_same t t' g w.step f.hold ∙ k.free;
-          here = λ l. (old.0, elim (f.paths (start_of t' g (path_of w.step)) w.at k.done low at) [ inl p ↦ p | inr p ↦ let q : live_directory (t'.nodes w.at) ≡ false = p.0 in absurd (cc (good', q)) ]);
-        }
-    go true false good good' = record { done = k.done; path = k.path; follows = k.follows; place = place_kept t t' g w.step k.follows f.hold k.place; free = free_same t t' g w.step f.hold ∙ k.free; here = λ l. absurd (cc (l, good')) }
-    go false true good good' = let q : live_directory (t'.nodes w.at) ≡ false = f.dead good in absurd (cc (q, good'))
-    go false false good good' = record { done = k.done; path = k.path; follows = k.follows; place = place_kept t t' g w.step k.follows f.hold k.place; free = free_same t t' g w.step f.hold ∙ k.free; here = λ l. absurd (cc (l, good')) }
+-- a walk whose directory died fails just now
+pub walk_falls : (t t' : Tree) (g : ℕ) (c : Call) (x : List Act) (w : Walk) → call_climbs c ≡ false → WalkOk t g c x w → Left t t' g w.at → live_directory (t.nodes w.at) ≡ true → live_directory (t'.nodes w.at) ≡ false → StepBy t' g (fail w.step) t'
+walk_falls t t' g c x w calm k f good bad =
+    lost_fails t' g w.at w.next k.done w.rest w.step k.follows (place_kept t t' g w.step k.follows f.hold k.place) k.path (elim (still_at t t' g c x w calm k f good) [ inl p ↦ inl (p, bad) | inr p ↦ inr p.1 ])
+
+-- the walk stays right
+pub walk_kept : (t t' : Tree) (g : ℕ) (c : Call) (x : List Act) (w : Walk) → call_climbs c ≡ false → WalkOk t g c x w → Left t t' g w.at → WalkOk t' g c x w
+walk_kept t t' g c x w calm k f = record {
+  done = k.done;
+  path = k.path;
+  follows = k.follows;
+  place = place_kept t t' g w.step k.follows f.hold k.place;
+  free = free_same t t' g w.step f.hold ∙ k.free;
+  next = k.next;
+  here = λ live. elim (either (live_directory (t.nodes w.at))) [
+    | inl good ↦ elim (still_at t t' g c x w calm k f good) [ inl p ↦ p | inr p ↦ let dead : live_directory (t'.nodes w.at) ≡ false = p.0 in absurd (cc (live, dead)) ]
+    | inr bad ↦ let dead : live_directory (t'.nodes w.at) ≡ false = f.dead bad in absurd (cc (live, dead))
+  ];
+}

@@ -1,4 +1,5 @@
-pub mod Kept
-pub mod Inodes
+pub mod Moves
+pub mod History
+pub mod Runs
 pub mod Laws
 pub mod Examples

@@ -1,9 +1,10 @@
-//! The moves of calls on a tree (walks, lookups, acts), and the law that each run of them is explained by one list of tree steps. The
-//! functions do nothing: each carries a law.
+//! The moves of calls on a tree (walks, lookups, acts), as a single hart sees them, and the law that each run of them is
+//! explained by one list of tree steps. A walk that another hart's step kills fails at that very step; its call is told
+//! when it gives the walk up. The functions do nothing: each carries a law.
 #![tactic(auto)]
 
 ghost use Rattle.tree_moves.specs.Examples.{OpenFinishes, ReadFinishes, WriteFinishes, LinkFinishes, UnlinkFinishes, MkdirFinishes, ChdirFinishes, DupFinishes, FstatFinishes, CloseFinishes, InheritFinishes, WalkerFails, WalkerStaysFailed};
-ghost use Rattle.tree_moves.specs.Laws.{RunsAreExplained, ListsLeadToTheTree, ListsGrow, OneHartIsExplained};
+ghost use Rattle.tree_moves.specs.Laws.{RunsAreExplained, ListsLeadToTheTree, ListsGrow, OneHartIsExplained, CallsAreToldLate, WrittenMovesComeNext, WrittenMovesEnd, EventsTellTheirHart, RunsGoOn};
 
 /// The list that a run keeps, by appending alone, explains its trace: calls of many harts that walk, look up, enter
 /// and remove step by step act as one list of tree steps. No path has the element "..".
@@ -25,6 +26,29 @@ pub fn lists_grow()
 /// the other.
 pub fn one_hart_is_explained()
     ensures { OneHartIsExplained }
+{}
+
+/// What the list has of a call under way is what the call was told; where its walk is lost, also the failing step, of
+/// which it is told when it gives the walk up.
+pub fn calls_are_told_late()
+    ensures { CallsAreToldLate }
+{}
+
+/// A call whose moves are all written begins in each the step that its written sequence has next, and may reply after
+/// the last.
+pub fn written_moves_come_next()
+    ensures next { WrittenMovesComeNext }
+    ensures last { WrittenMovesEnd }
+{}
+
+/// An event of a hart tells that hart's call alone, and ends no other.
+pub fn events_tell_their_hart()
+    ensures { EventsTellTheirHart }
+{}
+
+/// A run and a run from where it ended are one run.
+pub fn runs_go_on()
+    ensures { RunsGoOn }
 {}
 
 /// There are runs: for each of the eleven calls one in which it finishes.

@@ -2,4 +2,4 @@ use Rattle.tree_laws.proofs.Frames.{step_frame}
 use Rattle.tree_laws.proofs.steps_leave_paths.Goals as goal
 
 pub returns : goal.returns
-returns c = λ t t' s a k o. step_frame t t' s.hart s.action a s.new o.0 k o.1
+returns c = step_frame

@@ -1,5 +1,5 @@
 use Rattle.plain_tree.specs.Tree.{tree_of}
-use Rattle.tree_moves.specs.Inodes.{opened}
+use Rattle.tree_moves.specs.Runs.{opened}
 use Rattle.tree_moves.proofs.History.{run_ok, opened_ok, NeverClimbs, starts_calm, apart_calm}
 use Rattle.tree_moves.proofs.lists_lead_to_the_tree.Goals as goal
 
