@@ -1,3 +1,4 @@
+pub mod Maps
 pub mod PathLemmas
 pub mod SlotLemmas
 pub mod FileLemmas
@@ -13,3 +14,6 @@ pub mod ReplyLemmas
 pub mod LeadLemmas
 pub mod ProgressLemmas
 pub mod FileCounts
+pub mod Settling
+pub mod RowLemmas
+pub mod SettledSteps

@@ -1,9 +1,12 @@
 -- What the definitions say of one another.
-use Rattle.std.specs.Prelude.{◌≡◌, ℕ, true, ◌⊎◌}
+use Rattle.std.specs.Prelude.{◌≡◌, ℕ, true, ◌⊎◌, Option, Some}
+use Rattle.plain_tree.specs.declared.step.Action.{Action}
 use Rattle.plain_tree.specs.declared.step.TreeStep.{TreeStep}
 use Rattle.plain_tree.specs.declared.step.StepAnswer.{StepAnswer}
-use Rattle.plain_tree.specs.Tree.{Tree}
-use Rattle.plain_tree.specs.Steps.{IsInPlace, IsLeastUnused, Step, opens_one}
+use Rattle.plain_tree.specs.Tree.{Name, Tree, any_below, is_named, look, settle}
+use Rattle.plain_tree.specs.Steps.{IsInPlace, IsLeastUnused, Step, StepWith, opens_one}
+use Rattle.plain_tree.specs.HartRow.{row_of, row_names}
+use Rattle.plain_tree.specs.Widths.{hart_count}
 use Rattle.plain_tree.specs.Applied.{applied, IsApplied, IsBadChoice}
 
 -- A step in its place, with a right number for a new node and the least unused id for a file that it opens, goes as it is applied.
@@ -13,3 +16,25 @@ AppliedIsAStep = (t : Tree) (s : TreeStep) (id : ℕ) → IsInPlace t s.hart s.a
 -- What `Tree::apply` promises is a tree step. Out of its place a step is none, and changes nothing.
 abbrev pub AnswersAreSteps : Type 0
 AnswersAreSteps = (t : Tree) (s : TreeStep) (a : StepAnswer) (t' : Tree) → IsApplied t s a t' → Step t s a t' ⊎ ((IsInPlace t s.hart s.action → ⊥) × (t' ≡ t))
+
+-- What has settled settles to itself.
+abbrev pub SettlesOnce : Type 0
+SettlesOnce = (t : Tree) → settle (settle t) ≡ settle t
+
+-- A node is named where a hart's row names it.
+abbrev pub RowsName : Type 0
+RowsName = (t : Tree) (n : ℕ) → is_named t n ≡ any_below hart_count (λ h. row_names (row_of t h) n)
+
+-- the node of that number stays where the tree settles
+abbrev pub Stays : Tree → ℕ → Type 0
+Stays t n = (settle t).nodes n ≡ t.nodes n
+
+-- What a step's path leads to stays, and the directory before the last element, and what stands there under that name.
+pub record AsksForWhatStays (t : Tree) (res : Option ℕ) (par : Option (ℕ × Name)) : Type 0 where
+  pub node : (n : ℕ) → res ≡ Some n → Stays t n
+  pub directory : (q : ℕ × Name) → par ≡ Some q → Stays t q.0
+  pub child : (q : ℕ × Name) (n : ℕ) → par ≡ Some q → look t.nodes q.0 q.1 ≡ Some n → Stays t n
+
+-- A step of a settled tree is that of the unsettled one.
+abbrev pub SettledSteps : Type 0
+SettledSteps = (t : Tree) (h : ℕ) (s : Action) (res : Option ℕ) (par : Option (ℕ × Name)) (a : StepAnswer) (new id : ℕ) (t' : Tree) → AsksForWhatStays t res par → StepWith t h s res par a new id t' → StepWith (settle t) h s res par a new id (settle t')

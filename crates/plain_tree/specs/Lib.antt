@@ -3,6 +3,7 @@ pub mod Numbers
 pub mod TreeData
 pub mod Tree
 pub mod Steps
+pub mod HartRow
 pub mod Calls
 pub mod Explains
 pub mod Progress

@@ -1,5 +1,5 @@
 //! What the definitions say of one another.
-ghost use Rattle.plain_tree.specs.Laws.{AnswersAreSteps, AppliedIsAStep};
+ghost use Rattle.plain_tree.specs.Laws.{AnswersAreSteps, AppliedIsAStep, RowsName, SettledSteps, SettlesOnce};
 
 /// What is applied in its place, with a right choice and the least unused id for a file that it opens, is a tree step.
 pub fn applied_is_a_step()
@@ -9,4 +9,19 @@ pub fn applied_is_a_step()
 /// What `Tree::apply` answered is a tree step, except where the step was out of its place; then nothing changed.
 pub fn answers_are_steps()
     ensures { AnswersAreSteps }
+{}
+
+/// A tree that has settled stays as it is where it settles again.
+pub fn settles_once()
+    ensures { SettlesOnce }
+{}
+
+/// A node is named where some hart's current directory, hold or descriptor names it.
+pub fn rows_name()
+    ensures { RowsName }
+{}
+
+/// A step does to a settled tree what it does to the tree before it settled, where what the step asks for stays.
+pub fn settled_steps()
+    ensures { SettledSteps }
 {}
