@@ -15,7 +15,7 @@ use Rattle.plain_tree.specs.declared.node.Slot.{Slot}
 use Rattle.plain_tree.specs.declared.node.Kind.TheVariants.{Directory}
 use Rattle.plain_tree.specs.declared.tree.OpenFile.{OpenFile}
 use Rattle.plain_tree.specs.Tree.{Name, Tree, put, is_live, settle, elements, pieces, is_empty, is_absolute, start_of, resolve, parent, follow, parent_of}
-use Rattle.plain_tree.specs.Steps.{lowest, lowest_from, has_room, creates, refusal_with, place_of, effect_with, answer_with, with_file, open_old, opens_file}
+use Rattle.plain_tree.specs.Steps.{IsLeastUnused, lowest, lowest_from, has_room, creates, refusal_with, place_of, effect_with, answer_with, with_file, open_old, opens_file}
 use Rattle.plain_tree.specs.Calls.{next_of, reply_of}
 use Rattle.plain_tree.specs.Widths.{root, name_width}
 use Rattle.console.specs.Held.{root_at, offset_at, rooted}
@@ -180,9 +180,13 @@ pub names : (count : ℕ) (nodes : ℕ → Option Node) (offsets : List (Option 
 unfolding rooted
 names count nodes offsets named = named
 
-no_file : (count : ℕ) (nodes : ℕ → Option Node) (offsets : List (Option ℕ)) (i : ℕ) → IsLowestFree offsets i → (rooted count nodes offsets).files i ≡ None
+least_unused : (count : ℕ) (nodes : ℕ → Option Node) (offsets : List (Option ℕ)) (i : ℕ) → IsLowestFree offsets i → IsLeastUnused (rooted count nodes offsets) i
 unfolding rooted
-no_file count nodes offsets i low = rw low.free refl
+least_unused count nodes offsets i low = record { unused = rw low.free refl; least = λ j below none. low.least j below (closed (offset_at offsets j) none) }
+  where
+    closed : (o : Option ℕ) → option_map root_at o ≡ None → o ≡ None
+    closed None e = refl
+    closed (Some offset) e = absurd cc
 
 plain_refusal : (count : ℕ) (nodes : ℕ → Option Node) (offsets : List (Option ℕ)) (n : ℕ) (slots : List (Option Slot)) → nodes root ≡ Some (root_of n slots)
     → open_old (rooted count nodes offsets) 0 (Some root) ≡ None
@@ -297,7 +301,7 @@ open_done count nodes offsets n slots path i named is none len low =
               (
                 rw res (plain_refusal count nodes offsets n slots is),
                 rw (res, r, at, opens) refl,
-                record { node = λ e. absurd (let e' : false ≡ true = e in cc); file = λ e. no_file count nodes offsets i low },
+                record { node = λ e. absurd (let e' : false ≡ true = e in cc); file = λ e. least_unused count nodes offsets i low },
                 rw res (sym (ap settle (with_root count nodes offsets i len low) ∙ same)),
                 refl,
               ),
