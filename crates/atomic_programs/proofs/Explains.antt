@@ -3,7 +3,7 @@ use Rattle.std.proofs.Common.{◌≡◌, ◌≢◌, ℕ, suc, ◌<◌, ◌≤◌
 use Rattle.std.proofs.lemmas.Bool.{eqb-true, eqb-false, eq-eqb, ne_eqb}
 use Rattle.std.specs.Prelude.{nat_eq, if◌then◌else◌}
 use Rattle.atomic_programs.specs.Prog.{Ret, Do, Did, Waits, Ran, Stops, asks, OfNext}
-use Rattle.atomic_programs.specs.Logic.{Machine, P, own, onto, oldest_first, Goes, Grown, Halts, Good, Wp}
+use Rattle.atomic_programs.specs.Logic.{Machine, P, Answered, own, onto, oldest_first, Goes, Grown, Halts, Good, Wp}
 use Rattle.atomic_programs.specs.Calls.{Theory, Began, Refuses, Begins, IsBeginning, Begun, Ends, Right, Lawful, Run, Placed, Finished, State, Event, Start, Step, DidWait, changed, is_some, start_of, placed, told, all_told, unchanged, moved, tried, step_prog, step_unless, step_run, begun, busy_in, start_run, makes, next, run, fresh, HonestStep, IsHonest, AllHonest, Sound}
 use Rattle.atomic_programs.specs.Explained.{In, steps_of, IsOfCall, Blocked, Holds, Explained}
 use Rattle.atomic_programs.proofs.Sound.{Wp-others, Grown-all}
@@ -351,10 +351,10 @@ module _ (L : Theory) (laws : Lawful L) (base : L.M.Tree) (h : ℕ) (s : State L
   holds2 true e = cc
   holds2 false e = st.inv
 
-pub Keeps-moved : (L : Theory) (laws : Lawful L) (base : L.M.Tree) (h : ℕ) (s : State L) (r : Run L) (op : L.M.Op) (ps : List (ℕ × L.M.Step)) (p : P L.M L.Reply) (w : L.M.World) (left : ℕ)
+pub Keeps-moved : (L : Theory) (laws : Lawful L) (base : L.M.Tree) (h : ℕ) (s : State L) (r : Run L) (did : Answered L.M) (ps : List (ℕ × L.M.Step)) (p : P L.M L.Reply) (w : L.M.World) (left : ℕ)
     → (k : Keeps L base s) → (st : Stepped L h s r ps w) → left < (k.going h r st.is).left
-    → Wp L.M h (Begun L r.call) (Ends L h r.call) p left (onto (own h ps) r.done) w → Keeps L base (moved L h s r op ps p w).after
-Keeps-moved L laws base h s r op ps (Do op' m' c) w left k st falls wp =
+    → Wp L.M h (Begun L r.call) (Ends L h r.call) p left (onto (own h ps) r.done) w → Keeps L base (moved L h s r did ps p w).after
+Keeps-moved L laws base h s r did ps (Do op m c) w left k st falls wp =
     record {
       holds = holds2 L laws base h s r ps w k st s.stopped st.goes_on;
       falling = Falling-placed L s.now s.running ps s.list (Falling-more L s.list s.now k.falling);
@@ -370,13 +370,13 @@ Keeps-moved L laws base h s r op ps (Do op' m' c) w left k st falls wp =
     old = k.going h r st.is
 
     new : Run L
-    new = record { call = r.call; start = r.start; prog = Do op' m' c; count = suc r.count; done = onto (own h ps) r.done }
+    new = record { call = r.call; start = r.start; prog = Do op m c; count = suc r.count; done = onto (own h ps) r.done }
 
-    owned3 : (e : Placed L) → IsOfCall L s e → IsOfCall L (moved L h s r op ps (Do op' m' c) w).after e
+    owned3 : (e : Placed L) → IsOfCall L s e → IsOfCall L (moved L h s r did ps (Do op m c) w).after e
     owned3 e (inl x) = inl x
     owned3 e (inr x) = at (nat_eq e.hart h) refl
       where
-        at : (b : Bool) → nat_eq e.hart h ≡ b → IsOfCall L (moved L h s r op ps (Do op' m' c) w).after e
+        at : (b : Bool) → nat_eq e.hart h ≡ b → IsOfCall L (moved L h s r did ps (Do op m c) w).after e
         at true t =
             let is : x.0 ≡ r = Some-inj x.0 r (sym x.1 ∙ ap s.running (eqb-true e.hart h t) ∙ st.is) in
             inr (new, changed_same (all_told L ps s.running) h (Some new) e.hart (eqb-true e.hart h t), sym (ap (λ (u : Run L). u.start) is) ∙ x.2)
@@ -410,7 +410,7 @@ Keeps-moved L laws base h s r op ps (Do op' m' c) w left k st falls wp =
     lone3 i j q x (inl a) (inr b) eq = a.0 ∙ sym (lone_me L laws base h s r ps w k st j x b.1 (sym eq ∙ sym (ap (λ (u : Run L). u.start) (Some-inj new q a.1))))
     lone3 i j q x (inr a) (inl b) eq = lone_me L laws base h s r ps w k st i q a.1 (eq ∙ sym (ap (λ (u : Run L). u.start) (Some-inj new x b.1))) ∙ sym b.0
     lone3 i j q x (inr a) (inr b) eq = lone_old L laws base h s r ps w k st i j q x a.1 b.1 eq
-Keeps-moved L laws base h s r op ps (Ret reply) w left k st falls wp =
+Keeps-moved L laws base h s r did ps (Ret reply) w left k st falls wp =
     record {
       holds = holds2 L laws base h s r ps w k st s.stopped st.goes_on;
       falling = Falling-placed L s.now s.running ps s.list (Falling-more L s.list s.now k.falling);
@@ -428,11 +428,11 @@ Keeps-moved L laws base h s r op ps (Ret reply) w left k st falls wp =
     ended : Finished L
     ended = record { hart = h; call = r.call; start = r.start; number = s.now; count = suc r.count; reply = reply }
 
-    owned3 : (e : Placed L) → IsOfCall L s e → IsOfCall L (moved L h s r op ps (Ret reply) w).after e
+    owned3 : (e : Placed L) → IsOfCall L s e → IsOfCall L (moved L h s r did ps (Ret reply) w).after e
     owned3 e (inl x) = inl (x.0, inr x.1, x.2, x.3)
     owned3 e (inr x) = at (nat_eq e.hart h) refl
       where
-        at : (b : Bool) → nat_eq e.hart h ≡ b → IsOfCall L (moved L h s r op ps (Ret reply) w).after e
+        at : (b : Bool) → nat_eq e.hart h ≡ b → IsOfCall L (moved L h s r did ps (Ret reply) w).after e
         at true t =
             let is : x.0 ≡ r = Some-inj x.0 r (sym x.1 ∙ ap s.running (eqb-true e.hart h t) ∙ st.is) in
             inl (ended, inl refl, sym (eqb-true e.hart h t), sym (ap (λ (u : Run L). u.start) is) ∙ x.2)
@@ -483,7 +483,7 @@ pub Keeps-tried : (L : Theory) (laws : Lawful L) (base : L.M.Tree) (h : ℕ) (s 
     → Good L.M (L.M.Answer op) h ps (L.M.more op) (k.going h r e).left (Begun L r.call) r.done s.world wait x (λ l a u. Wp L.M h (Begun L r.call) (Ends L h r.call) (c a) l (onto (own h (ps a)) r.done) u) → Keeps L base (tried L h s r op ps c x).after
 Keeps-tried L laws base h s r op ps c wait Waits e y k g = Keeps-unchanged L base s k
 Keeps-tried L laws base h s r op ps c wait (Ran a w) e y k g =
-    Keeps-moved L laws base h s r op (ps a) (c a) w g.left k (record { is = e; goes_on = y; inv = g.inv; kept = g.kept; goes = g.goes; clean = g.clean; begun = g.begun }) (let b : g.left + L.M.more op < (k.going h r e).left = g.falls in omega arith) g.next
+    Keeps-moved L laws base h s r (op, a) (ps a) (c a) w g.left k (record { is = e; goes_on = y; inv = g.inv; kept = g.kept; goes = g.goes; clean = g.clean; begun = g.begun }) (let b : g.left + L.M.more op < (k.going h r e).left = g.falls in omega arith) g.next
 Keeps-tried L laws base h s r op ps c wait (Stops w) e y k g = Keeps-stops L laws base h s r w e k g
 
 pub Keeps-prog : (L : Theory) (laws : Lawful L) (base : L.M.Tree) (h : ℕ) (x : L.M.Outside) (s : State L) (r : Run L) (p : P L.M L.Reply)
@@ -551,7 +551,7 @@ module _ (L : Theory) (laws : Lawful L) (base : L.M.Tree) (s : State L) (k : Kee
       }
   wait_tried r op m c (Ran a u) e is y t none w = absurd (wait_moved (c a) w)
     where
-      wait_moved : (p : P L.M L.Reply) → (moved L h s r op (L.M.places h op a (m a) s.world) p u).came ≡ DidWait → ⊥
+      wait_moved : (p : P L.M L.Reply) → (moved L h s r (op, a) (L.M.places h op a (m a) s.world) p u).came ≡ DidWait → ⊥
       wait_moved (Ret reply) q = cc
       wait_moved (Do op' m' c') q = cc
   wait_tried r op m c (Stops u) e is y t none w = cc

@@ -1,14 +1,17 @@
 -- The example's code is the theory's.
-use Rattle.std.proofs.Common.{◌≡◌, ℕ, Option, Bool, true, false, List, [], ◌∷◌, ◌++◌, refl, ap}
+use Rattle.std.proofs.Common.{◌≡◌, ℕ, Option, Some, Bool, true, false, List, [], ◌∷◌, ◌++◌, refl, ap}
 use Rattle.std.specs.Prelude.{nat_lt}
 use Rattle.atomic_programs.specs.Prog.{Did, Waits, Ran, Stops, did_in}
-use Rattle.atomic_programs.specs.Calls.{Began}
+use Rattle.atomic_programs.specs.Calls.{Began, DidRun}
 use Rattle.atomic_programs.specs.Calls as calls
-use Rattle.atomic_programs.specs.Plain.{IsCode, began_in}
+use Rattle.atomic_programs.specs.Plain.{IsCode, began_in, hart_moved}
 use Rattle.atomic_programs.specs.Cell.{Cell, Refusal, World, with_value, begin_if, fits, exec, swaps}
 use Rattle.atomic_programs.specs.Cell as cell
-use Rattle.atomic_programs.specs.CellCode.{event_of, events_of, outcome_of, outcomes_of, code}
+use Rattle.atomic_programs.specs.CellCode.{machine_of, event_of, events_of, outcome_of, outcomes_of, code}
 use Rattle.atomic_programs.specs.declared.cell.Kind.{Kind}
+use Rattle.atomic_programs.specs.declared.cell.Open.TheVariants as OpenAt
+use Rattle.atomic_programs.specs.declared.cell.Machine.{Machine}
+use Rattle.atomic_programs.specs.declared.cell.Machine.TheVariants as MachineAt
 use Rattle.atomic_programs.specs.declared.cell.Event.{Event}
 use Rattle.atomic_programs.specs.declared.cell.Outcome.{Outcome}
 
@@ -31,6 +34,15 @@ is_code =
     starts false c w = refl
     starts true false w = refl
     starts true true w = refl
+
+-- a machine that is left has an operation to make
+pub goes_on : (m : Machine) (kind : Kind) (c : Cell) → hart_moved swaps code false kind (machine_of m) c ≡ record { came = DidRun kind; left = Some (machine_of m); shared = c; stopped = false }
+goes_on (MachineAt.SwapOpen n OpenAt.Take) kind c = refl
+goes_on (MachineAt.SwapOpen n (OpenAt.Fetch key)) kind c = refl
+goes_on (MachineAt.Store n old key) kind c = refl
+goes_on (MachineAt.LookOpen OpenAt.Take) kind c = refl
+goes_on (MachineAt.LookOpen (OpenAt.Fetch key)) kind c = refl
+goes_on (MachineAt.Drop old key) kind c = refl
 
 pub events_more : (es : List Event) (e : Event) → events_of (es ++ e ∷ []) ≡ events_of es ++ event_of e ∷ []
 events_more [] e = refl

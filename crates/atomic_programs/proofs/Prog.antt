@@ -1,6 +1,6 @@
 -- Laws of programs.
 use Rattle.std.proofs.Common.{◌≡◌, Option, Some, refl, ap, ◌∙◌}
-use Rattle.atomic_programs.specs.Prog.{Prog, Ret, Do, bind, unmarked, marked, plain, Did, Waits, Ran, Stops, StillWaits, WentOn, Broke, went, advance, asks, OfNext, did_in, moved_in}
+use Rattle.atomic_programs.specs.Prog.{Prog, Ret, Do, bind, unmarked, marked, plain, Did, Waits, Ran, Stops, Moved, Ended, StillWaits, WentOn, Broke, went, advance, asks, OfNext, did_in, moved_in}
 
 pub bind-assoc : {Op : Type 0} {Answer : Op → Type 0} {M A B C : Type 0} (p : Prog Op Answer M A) (f : A → Prog Op Answer M B) (g : B → Prog Op Answer M C) → bind (bind p f) g ≡ bind p (λ a. bind (f a) g)
 bind-assoc (Ret a) f g = refl
@@ -11,44 +11,40 @@ pub plain-marked : {Op : Type 0} {Answer : Op → Type 0} {M A : Type 0} (p : Pr
 plain-marked (Ret a) f = refl
 plain-marked (Do op m k) f = λ i. Do op unmarked (λ x. plain-marked (k x) f i)
 
--- a program in a larger one moves as it does alone
-pub advance-bind : {Op : Type 0} {Answer : Op → Type 0} {M A B S : Type 0} (exec : (op : Op) → S → Did (Answer op) S) (p p' : Prog Op Answer M A) (f : A → Prog Op Answer M B) (s s' : S)
-    → advance exec p s ≡ WentOn p' s' → advance exec (bind p f) s ≡ WentOn (bind p' f) s'
-advance-bind exec (Ret a) p' f s s' e = cc
-advance-bind {Op} {Answer} {M} {A} {B} {S} exec (Do op m k) p' f s s' e = go (exec op s) e
-  where
-    go : (r : Did (Answer op) S) → went op k r ≡ WentOn p' s' → went op (λ x. bind (k x) f) r ≡ WentOn (bind p' f) s'
-    go Waits h = cc
-    go (Ran a t) h = cc
-    go (Stops t) h = cc
+-- of a program in parts the marks go part by part
+pub plain-bind : {Op : Type 0} {Answer : Op → Type 0} {M A B : Type 0} (p : Prog Op Answer M A) (f : A → Prog Op Answer M B) → plain (bind p f) ≡ bind (plain p) (λ a. plain (f a))
+plain-bind (Ret a) f = refl
+plain-bind (Do op m k) f = λ i. Do op unmarked (λ x. plain-bind (k x) f i)
 
-pub advance-bind-waits : {Op : Type 0} {Answer : Op → Type 0} {M A B S : Type 0} (exec : (op : Op) → S → Did (Answer op) S) (p : Prog Op Answer M A) (f : A → Prog Op Answer M B) (s : S)
-    → advance exec p s ≡ StillWaits → advance exec (bind p f) s ≡ StillWaits
-advance-bind-waits exec (Ret a) f s e = cc
-advance-bind-waits {Op} {Answer} {M} {A} {B} {S} exec (Do op m k) f s e = go (exec op s) e
-  where
-    go : (r : Did (Answer op) S) → went op k r ≡ StillWaits → went op (λ x. bind (k x) f) r ≡ StillWaits
-    go Waits h = cc
-    go (Ran a t) h = cc
-    go (Stops t) h = cc
+pub asks-plain : {Op : Type 0} {Answer : Op → Type 0} {M A : Type 0} (p : Prog Op Answer M A) → asks (plain p) ≡ asks p
+asks-plain (Ret a) = refl
+asks-plain (Do op m k) = refl
 
-pub advance-bind-breaks : {Op : Type 0} {Answer : Op → Type 0} {M A B S : Type 0} (exec : (op : Op) → S → Did (Answer op) S) (p : Prog Op Answer M A) (f : A → Prog Op Answer M B) (s s' : S)
-    → advance exec p s ≡ Broke s' → advance exec (bind p f) s ≡ Broke s'
-advance-bind-breaks exec (Ret a) f s s' e = cc
-advance-bind-breaks {Op} {Answer} {M} {A} {B} {S} exec (Do op m k) f s s' e = go (exec op s) e
-  where
-    go : (r : Did (Answer op) S) → went op k r ≡ Broke s' → went op (λ x. bind (k x) f) r ≡ Broke s'
-    go Waits h = cc
-    go (Ran a t) h = cc
-    go (Stops t) h = cc
+module _ {Op : Type 0} {Answer : Op → Type 0} {K S : Type 0} (kind : (op : Op) → Answer op → K) (exec : (op : Op) → S → Did (Answer op) S) {M A B : Type 0} where
+  -- what a program moves to, in a larger one
+  abbrev pub moved_bind : (A → Prog Op Answer M B) → Moved K (Prog Op Answer M A) S → Moved K (Prog Op Answer M B) S
+  moved_bind f Ended = Ended
+  moved_bind f StillWaits = StillWaits
+  moved_bind f (WentOn k p s) = WentOn k (bind p f) s
+  moved_bind f (Broke s) = Broke s
+
+  -- a program in a larger one moves as it does alone
+  pub advance-bind : (p : Prog Op Answer M A) (f : A → Prog Op Answer M B) (s : S) (op : Op) → asks p ≡ Some op → advance kind exec (bind p f) s ≡ moved_bind f (advance kind exec p s)
+  advance-bind (Ret a) f s op e = cc
+  advance-bind (Do op' m k) f s op e = go (exec op' s)
+    where
+      go : (r : Did (Answer op') S) → went op' (kind op') (λ x. bind (k x) f) r ≡ moved_bind f (went op' (kind op') k r)
+      go Waits = refl
+      go (Ran a t) = refl
+      go (Stops t) = refl
 
 -- a program whose next operation is of a part of the state moves the whole as it moves the part
-pub advance-within : {Op : Type 0} {Answer : Op → Type 0} {M A S T : Type 0} (exec : (op : Op) → S → Did (Answer op) S) (whole : (op : Op) → T → Did (Answer op) T) (into : S → T) (p : Prog Op Answer M A) (s : S)
-    → ((op : Op) → asks p ≡ Some op → whole op (into s) ≡ did_in into (exec op s)) → advance whole p (into s) ≡ moved_in into (advance exec p s)
-advance-within exec whole into (Ret a) s same = refl
-advance-within {Op} {Answer} {M} {A} {S} {T} exec whole into (Do op m k) s same = ap (went op k) (same op refl) ∙ go (exec op s)
+pub advance-within : {Op : Type 0} {Answer : Op → Type 0} {K M A S T : Type 0} (kind : (op : Op) → Answer op → K) (exec : (op : Op) → S → Did (Answer op) S) (whole : (op : Op) → T → Did (Answer op) T) (into : S → T) (p : Prog Op Answer M A) (s : S)
+    → ((op : Op) → asks p ≡ Some op → whole op (into s) ≡ did_in into (exec op s)) → advance kind whole p (into s) ≡ moved_in into (advance kind exec p s)
+advance-within kind exec whole into (Ret a) s same = refl
+advance-within {Op} {Answer} {K} {M} {A} {S} {T} kind exec whole into (Do op m k) s same = ap (went op (kind op) k) (same op refl) ∙ go (exec op s)
   where
-    go : (r : Did (Answer op) S) → went op k (did_in into r) ≡ moved_in into (went op k r)
+    go : (r : Did (Answer op) S) → went op (kind op) k (did_in into r) ≡ moved_in into (went op (kind op) k r)
     go Waits = refl
     go (Ran a t) = refl
     go (Stops t) = refl

@@ -1,6 +1,6 @@
 -- A sound state goes on to sound ones, and gives the code its premises.
 use Rattle.std.proofs.Common.{◌≡◌, ℕ, Option, Some, None, Bool, true, false, List, [], ◌∷◌, ◌++◌, refl, sym, ◌∙◌, ap, subst}
-use Rattle.atomic_programs.specs.Prog.{Ret, Do, asks, OfNext}
+use Rattle.atomic_programs.specs.Prog.{Ret, Do, plain, asks, OfNext}
 use Rattle.atomic_programs.specs.Logic.{P}
 use Rattle.atomic_programs.specs.Calls.{Theory, Lawful, Run, State, Event, Start, Step, Outcome, Came, HonestStep, IsHonest, AllHonest, Sound, asked, with_answer, all_asked, makes, next, run, outcomes, fresh}
 use Rattle.atomic_programs.specs.Explained.{Explained}
@@ -52,7 +52,7 @@ pub sound_explained : (L : Theory) (laws : Lawful L) (s : State L) (q : Sound L 
 sound_explained L laws s q = explained_by L laws (L.M.tree q.first) s (sound_keeps L laws s q)
 
 module _ (L : Theory) (C : Code L) (is : IsCode L C) where
-  honest_prog : (h : ℕ) (x : L.M.Outside) (w : L.M.World) (p : P L.M L.Reply) → OfNext (λ op v. C.honest h op v x) (asks p) (C.shared w) → OfNext (λ op v. L.M.Honest h op v x) (asks p) w
+  honest_prog : (h : ℕ) (x : L.M.Outside) (w : L.M.World) (p : P L.M L.Reply) → OfNext (λ op v. C.honest h op v x) (asks (plain p)) (C.shared w) → OfNext (λ op v. L.M.Honest h op v x) (asks p) w
   honest_prog h x w (Ret a) t = tt
   honest_prog h x w (Do op m k) t = is.honest h op w x t
 
@@ -75,7 +75,7 @@ module _ (L : Theory) (C : Code L) (is : IsCode L C) where
         is = ap (λ (x : PlainMade L C). x.after) (sym (erase-makes L C is e q.state) ∙ ap (plain_makes L C e) q.is ∙ makes);
       }
 
-  may_prog : (h : ℕ) (w : L.M.World) (p : P L.M L.Reply) → OfNext (L.M.May h) (asks p) w → OfNext (C.may h) (asks p) (C.shared w)
+  may_prog : (h : ℕ) (w : L.M.World) (p : P L.M L.Reply) → OfNext (L.M.May h) (asks p) w → OfNext (C.may h) (asks (plain p)) (C.shared w)
   may_prog h w (Ret a) t = tt
   may_prog h w (Do op m k) t = is.may h op w t
 

@@ -1,19 +1,19 @@
 -- What holds of each event in any state.
 use Rattle.std.proofs.Common.{◌≡◌, ℕ, suc, Option, Some, None, Bool, true, false, List, [], ◌∷◌, ◌++◌, refl, sym, ◌∙◌, ap, append_assoc, inl, inr}
 use Rattle.atomic_programs.specs.Prog.{Ret, Do, Did, Waits, Ran, Stops}
-use Rattle.atomic_programs.specs.Logic.{P, oldest_first}
+use Rattle.atomic_programs.specs.Logic.{P, Answered, oldest_first}
 use Rattle.atomic_programs.specs.Calls.{Theory, Began, Refuses, Begins, Run, State, Event, Start, Step, WasStopped, unchanged, moved, tried, step_prog, step_unless, step_run, begun, busy_in, start_run, makes, next, Placed, placed, start_of}
 use Rattle.atomic_programs.specs.Explained.{In, is_quiet, Steady}
 use Rattle.atomic_programs.proofs.Beginnings.{append_nil, oldest_first_more}
 
 module _ (L : Theory) (s : State L) where
-  quiet_moved : (h : ℕ) (r : Run L) (op : L.M.Op) (ps : List (ℕ × L.M.Step)) (p : P L.M L.Reply) (w : L.M.World) → is_quiet (moved L h s r op ps p w).came ≡ true → (moved L h s r op ps p w).after ≡ unchanged L s
-  quiet_moved h r op ps (Ret reply) w q = cc
-  quiet_moved h r op ps (Do op' m' k) w q = cc
+  quiet_moved : (h : ℕ) (r : Run L) (did : Answered L.M) (ps : List (ℕ × L.M.Step)) (p : P L.M L.Reply) (w : L.M.World) → is_quiet (moved L h s r did ps p w).came ≡ true → (moved L h s r did ps p w).after ≡ unchanged L s
+  quiet_moved h r did ps (Ret reply) w q = cc
+  quiet_moved h r did ps (Do op m k) w q = cc
 
   quiet_tried : (h : ℕ) (r : Run L) (op : L.M.Op) (ps : L.M.Answer op → List (ℕ × L.M.Step)) (k : L.M.Answer op → P L.M L.Reply) (x : Did (L.M.Answer op) L.M.World) → is_quiet (tried L h s r op ps k x).came ≡ true → (tried L h s r op ps k x).after ≡ unchanged L s
   quiet_tried h r op ps k Waits q = refl
-  quiet_tried h r op ps k (Ran a w) q = quiet_moved h r op (ps a) (k a) w q
+  quiet_tried h r op ps k (Ran a w) q = quiet_moved h r (op, a) (ps a) (k a) w q
   quiet_tried h r op ps k (Stops w) q = cc
 
   quiet_prog : (h : ℕ) (y : L.M.Outside) (r : Run L) (p : P L.M L.Reply) → is_quiet (step_prog L h y s r p).came ≡ true → (step_prog L h y s r p).after ≡ unchanged L s
@@ -94,13 +94,13 @@ placed_more L n running (p ∷ ps) list =
     among x more here all e (inr i) = all e i
 
 module _ (L : Theory) (s : State L) where
-  more_moved : (h : ℕ) (r : Run L) (op : L.M.Op) (ps : List (ℕ × L.M.Step)) (p : P L.M L.Reply) (w : L.M.World) → More L s.now s.list (moved L h s r op ps p w).after.list
-  more_moved h r op ps (Ret reply) w = placed_more L s.now s.running ps s.list
-  more_moved h r op ps (Do op' m' k) w = placed_more L s.now s.running ps s.list
+  more_moved : (h : ℕ) (r : Run L) (did : Answered L.M) (ps : List (ℕ × L.M.Step)) (p : P L.M L.Reply) (w : L.M.World) → More L s.now s.list (moved L h s r did ps p w).after.list
+  more_moved h r did ps (Ret reply) w = placed_more L s.now s.running ps s.list
+  more_moved h r did ps (Do op m k) w = placed_more L s.now s.running ps s.list
 
   more_tried : (h : ℕ) (r : Run L) (op : L.M.Op) (ps : L.M.Answer op → List (ℕ × L.M.Step)) (k : L.M.Answer op → P L.M L.Reply) (x : Did (L.M.Answer op) L.M.World) → More L s.now s.list (tried L h s r op ps k x).after.list
   more_tried h r op ps k Waits = none_more L s.now s.list
-  more_tried h r op ps k (Ran a w) = more_moved h r op (ps a) (k a) w
+  more_tried h r op ps k (Ran a w) = more_moved h r (op, a) (ps a) (k a) w
   more_tried h r op ps k (Stops w) = none_more L s.now s.list
 
   more_prog : (h : ℕ) (y : L.M.Outside) (r : Run L) (p : P L.M L.Reply) → More L s.now s.list (step_prog L h y s r p).after.list
@@ -127,13 +127,13 @@ module _ (L : Theory) (s : State L) where
   more_event (Start h call) = more_start h call (s.running h)
   more_event (Step h y) = more_run h y (s.running h)
 
-  counts_moved : (h : ℕ) (r : Run L) (op : L.M.Op) (ps : List (ℕ × L.M.Step)) (p : P L.M L.Reply) (w : L.M.World) → (moved L h s r op ps p w).after.now ≡ suc s.now
-  counts_moved h r op ps (Ret reply) w = refl
-  counts_moved h r op ps (Do op' m' k) w = refl
+  counts_moved : (h : ℕ) (r : Run L) (did : Answered L.M) (ps : List (ℕ × L.M.Step)) (p : P L.M L.Reply) (w : L.M.World) → (moved L h s r did ps p w).after.now ≡ suc s.now
+  counts_moved h r did ps (Ret reply) w = refl
+  counts_moved h r did ps (Do op m k) w = refl
 
   counts_tried : (h : ℕ) (r : Run L) (op : L.M.Op) (ps : L.M.Answer op → List (ℕ × L.M.Step)) (k : L.M.Answer op → P L.M L.Reply) (x : Did (L.M.Answer op) L.M.World) → (tried L h s r op ps k x).after.now ≡ suc s.now
   counts_tried h r op ps k Waits = refl
-  counts_tried h r op ps k (Ran a w) = counts_moved h r op (ps a) (k a) w
+  counts_tried h r op ps k (Ran a w) = counts_moved h r (op, a) (ps a) (k a) w
   counts_tried h r op ps k (Stops w) = refl
 
   counts_prog : (h : ℕ) (y : L.M.Outside) (r : Run L) (p : P L.M L.Reply) → (step_prog L h y s r p).after.now ≡ suc s.now

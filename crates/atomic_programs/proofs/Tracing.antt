@@ -1,7 +1,7 @@
 -- A state's calls are just those that the events with their outcomes show.
 use Rattle.std.proofs.Common.{◌≡◌, ◌≢◌, ℕ, suc, Option, Some, None, Bool, true, false, List, [], ◌∷◌, refl, sym, ◌∙◌, ap, subst, ◌⊎◌, inl, inr}
 use Rattle.atomic_programs.specs.Prog.{Ret, Do, Did, Waits, Ran, Stops}
-use Rattle.atomic_programs.specs.Logic.{P, own, onto}
+use Rattle.atomic_programs.specs.Logic.{P, Answered, own, onto}
 use Rattle.atomic_programs.specs.Calls.{Theory, Began, Refuses, Begins, Run, Finished, State, Event, Start, Step, Came, Started, Refused, WasIdle, DidWait, DidRun, DidEnd, DidStop, WasStopped, told, all_told, unchanged, moved, tried, step_prog, step_unless, step_run, begun, busy_in, start_run, makes, next, run, fresh}
 use Rattle.atomic_programs.specs.Explained.{In}
 use Rattle.atomic_programs.specs.Trace.{Happened, happened, Traced}
@@ -50,20 +50,20 @@ module _ (L : Theory) where
     told_was h j xs None r e q = let c : ◌≡◌ {A = Option (Run L)} None (Some r) = q in cc
     told_was h j xs (Some p) r e q = subst (λ (z : Run L). V (record { number = z.start; event = Start j z.call; came = Started })) (Some-inj (record p { done = onto xs p.done }) r q) (t.under_way j p e)
 
-    after_moved : (h : ℕ) (y : L.M.Outside) (r : Run L) (op : L.M.Op) (ps : List (ℕ × L.M.Step)) (p : P L.M L.Reply) (w : L.M.World) → s.running h ≡ Some r
-        → Traced L (And V s.now (Step h y) (moved L h s r op ps p w).came) (moved L h s r op ps p w).after
-    after_moved h y r op ps (Do op' m' k) w is =
-        no_reply (Step h y) (DidRun op) (moved L h s r op ps (Do op' m' k) w).after (λ y. (let c : DidRun op ≡ DidEnd y.0 = y.1 in cc)) refl (λ j q e. inl (at j q (changed_tells (all_told L ps s.running) h (Some new) j (Some q) e)))
+    after_moved : (h : ℕ) (y : L.M.Outside) (r : Run L) (did : Answered L.M) (ps : List (ℕ × L.M.Step)) (p : P L.M L.Reply) (w : L.M.World) → s.running h ≡ Some r
+        → Traced L (And V s.now (Step h y) (moved L h s r did ps p w).came) (moved L h s r did ps p w).after
+    after_moved h y r did ps (Do op m k) w is =
+        no_reply (Step h y) (DidRun did) (moved L h s r did ps (Do op m k) w).after (λ y. (let c : DidRun did ≡ DidEnd y.0 = y.1 in cc)) refl (λ j q e. inl (at j q (changed_tells (all_told L ps s.running) h (Some new) j (Some q) e)))
       where
         new : Run L
-        new = record { call = r.call; start = r.start; prog = Do op' m' k; count = suc r.count; done = onto (own h ps) r.done }
+        new = record { call = r.call; start = r.start; prog = Do op m k; count = suc r.count; done = onto (own h ps) r.done }
 
         at : (j : ℕ) (q : Run L) → ((j ≡ h) × (Some new ≡ Some q)) ⊎ ((j ≢ h) × (all_told L ps s.running j ≡ Some q)) → V (record { number = q.start; event = Start j q.call; came = Started })
         at j q (inl x) =
             subst (λ (i : ℕ). V (record { number = q.start; event = Start i q.call; came = Started })) (sym x.0)
             (subst (λ (z : Run L). V (record { number = z.start; event = Start h z.call; came = Started })) (Some-inj new q x.1) (t.under_way h r is))
         at j q (inr x) = told_was h j (own j ps) (s.running j) q refl x.1
-    after_moved h y r op ps (Ret reply) w is =
+    after_moved h y r did ps (Ret reply) w is =
         record {
           reported = λ x v j z reply2 ev ce. reported x v j z reply2 ev ce;
           started = λ f i. started f i;
@@ -104,7 +104,7 @@ module _ (L : Theory) where
     after_tried : (h : ℕ) (y : L.M.Outside) (r : Run L) (op : L.M.Op) (ps : L.M.Answer op → List (ℕ × L.M.Step)) (k : L.M.Answer op → P L.M L.Reply) (x : Did (L.M.Answer op) L.M.World) → s.running h ≡ Some r
         → Traced L (And V s.now (Step h y) (tried L h s r op ps k x).came) (tried L h s r op ps k x).after
     after_tried h y r op ps k Waits is = quietly (Step h y) DidWait (λ y. (let c : DidWait ≡ DidEnd y.0 = y.1 in cc))
-    after_tried h y r op ps k (Ran a w) is = after_moved h y r op (ps a) (k a) w is
+    after_tried h y r op ps k (Ran a w) is = after_moved h y r (op, a) (ps a) (k a) w is
     after_tried h y r op ps k (Stops w) is =
         no_reply (Step h y) DidStop (tried L h s r op ps k (Stops w)).after (λ y. (let c : DidStop ≡ DidEnd y.0 = y.1 in cc)) refl (λ j q e. inl (t.under_way j q e))
 

@@ -1,7 +1,7 @@
 -- A machine with its calls, and what a list of events makes of them.
 use Rattle.std.specs.Prelude.{◌≡◌, ◌≢◌, ◌⊎◌, ℕ, suc, Bool, true, false, Option, Some, None, nat_eq, if◌then◌else◌, List, [], ◌∷◌, ◌++◌}
 use Rattle.atomic_programs.specs.Prog.{Prog, Ret, Do, Did, Waits, Ran, Stops, asks, OfNext}
-use Rattle.atomic_programs.specs.Logic.{Machine, P, own, onto, oldest_first, Wp, Laws}
+use Rattle.atomic_programs.specs.Logic.{Machine, P, Answered, own, onto, oldest_first, Wp, Laws}
 
 -- what the start of a call comes to: it is refused, or begun in a world where what the call needs is reserved for it
 pub data Began (Refusal World : Type 0) : Type 0 where
@@ -109,21 +109,22 @@ all_asked [] = []
 all_asked (e ∷ es) = asked e ∷ all_asked es
 
 -- what an event came to
-pub data Outcome (Op Reply Refusal : Type 0) : Type 0 where
-  Started : Outcome Op Reply Refusal
-  Refused : Refusal → Outcome Op Reply Refusal
+pub data Outcome (Did Reply Refusal : Type 0) : Type 0 where
+  Started : Outcome Did Reply Refusal
+  Refused : Refusal → Outcome Did Reply Refusal
   -- the hart has no call
-  WasIdle : Outcome Op Reply Refusal
-  DidWait : Outcome Op Reply Refusal
-  DidRun : Op → Outcome Op Reply Refusal
-  DidEnd : Reply → Outcome Op Reply Refusal
+  WasIdle : Outcome Did Reply Refusal
+  DidWait : Outcome Did Reply Refusal
+  -- this was done, and the call goes on
+  DidRun : Did → Outcome Did Reply Refusal
+  DidEnd : Reply → Outcome Did Reply Refusal
   -- this step stopped the world
-  DidStop : Outcome Op Reply Refusal
+  DidStop : Outcome Did Reply Refusal
   -- the world had stopped before
-  WasStopped : Outcome Op Reply Refusal
+  WasStopped : Outcome Did Reply Refusal
 
 abbrev pub Came : Theory → Type 0
-Came L = Outcome L.M.Op L.Reply L.Refusal
+Came L = Outcome (Answered L.M) L.Reply L.Refusal
 
 -- an event's outcome, and the state after it
 pub record Made (L : Theory) : Type 0 where
@@ -161,8 +162,8 @@ abbrev pub unchanged : (L : Theory) → State L → State L
 unchanged L s = record s { now = suc s.now }
 
 -- the hart's program went on to p, in this world
-abbrev pub moved : (L : Theory) → ℕ → State L → Run L → L.M.Op → List (ℕ × L.M.Step) → P L.M L.Reply → L.M.World → Made L
-moved L h s r op ps (Ret reply) w =
+abbrev pub moved : (L : Theory) → ℕ → State L → Run L → Answered L.M → List (ℕ × L.M.Step) → P L.M L.Reply → L.M.World → Made L
+moved L h s r did ps (Ret reply) w =
     record {
       came = DidEnd reply;
       after =
@@ -175,14 +176,14 @@ moved L h s r op ps (Ret reply) w =
             now = suc s.now;
           };
     }
-moved L h s r op ps (Do op' m' k) w =
+moved L h s r did ps (Do op m k) w =
     record {
-      came = DidRun op;
+      came = DidRun did;
       after =
           record {
             world = w;
             stopped = s.stopped;
-            running = changed (all_told L ps s.running) h (Some (record { call = r.call; start = r.start; prog = Do op' m' k; count = suc r.count; done = onto (own h ps) r.done }));
+            running = changed (all_told L ps s.running) h (Some (record { call = r.call; start = r.start; prog = Do op m k; count = suc r.count; done = onto (own h ps) r.done }));
             list = placed L s.now s.running ps s.list;
             finished = s.finished;
             now = suc s.now;
@@ -192,7 +193,7 @@ moved L h s r op ps (Do op' m' k) w =
 -- the operation came to this
 abbrev pub tried : (L : Theory) → ℕ → State L → Run L → (op : L.M.Op) → (L.M.Answer op → List (ℕ × L.M.Step)) → (L.M.Answer op → P L.M L.Reply) → Did (L.M.Answer op) L.M.World → Made L
 tried L h s r op ps k Waits = record { came = DidWait; after = unchanged L s }
-tried L h s r op ps k (Ran a w) = moved L h s r op (ps a) (k a) w
+tried L h s r op ps k (Ran a w) = moved L h s r (op, a) (ps a) (k a) w
 tried L h s r op ps k (Stops w) =
     record {
       came = DidStop;

@@ -1,12 +1,12 @@
 -- The programs that the example's machines stand for, what its world is as programs, and what it keeps.
-use Rattle.std.specs.Prelude.{◌≡◌, ℕ, Bool, Option, Some, None, List, [], ◌∷◌, nat_lt}
-use Rattle.atomic_programs.specs.Prog.{bind, once, unmarked, marked}
+use Rattle.std.specs.Prelude.{◌≡◌, ℕ, zero, suc, Bool, Option, Some, None, List, [], ◌∷◌, nat_lt}
+use Rattle.atomic_programs.specs.Prog.{Prog, bind, once, unmarked, plain}
 use Rattle.atomic_programs.specs.Calls.{Event as EventOf, Start as StartOf, Step as StepOf, Outcome as OutcomeOf, Started as WasStarted, Refused as WasRefused, WasIdle, DidWait, DidRun, DidEnd, DidStop, WasStopped}
 use Rattle.atomic_programs.specs.Plain.{Code, Plain}
 use Rattle.atomic_programs.specs.Machines.{answered}
 use Rattle.atomic_programs.specs.Tables.{PlaceFits, plain_at, IsKept}
 use Rattle.atomic_programs.specs.Cell as cell
-use Rattle.atomic_programs.specs.Cell.{P, Cell, Outside, Passes, Fails, dropped, opened, stored_and, exec, may, honest, begin_if, swaps}
+use Rattle.atomic_programs.specs.Cell.{Cell, Outside, Passes, Fails, opened, stored_and, dropped, exec, may, honest, begin_if, swaps}
 use Rattle.atomic_programs.specs.declared.machines.Stepped.{Stepped}
 use Rattle.atomic_programs.specs.declared.cell.Kind.{Kind}
 use Rattle.atomic_programs.specs.declared.cell.Kind.TheVariants as KindIs
@@ -23,22 +23,31 @@ use Rattle.atomic_programs.specs.declared.cell.Event.TheVariants as EventIs
 use Rattle.atomic_programs.specs.declared.cell.Outcome.{Outcome}
 use Rattle.atomic_programs.specs.declared.cell.Outcome.TheVariants as OutcomeIs
 
-abbrev pub kind_of : cell.Op → Kind
-kind_of cell.Take = KindIs.Take
-kind_of cell.Fetch = KindIs.Fetch
-kind_of (cell.Store n) = KindIs.Store
-kind_of cell.Drop = KindIs.Drop
+-- a fetch is told by its answer: of zero or of another number
+abbrev pub kind_fetched : ℕ → Kind
+kind_fetched zero = KindIs.FetchZero
+kind_fetched (suc n) = KindIs.Fetch
+
+abbrev pub kind_of : (op : cell.Op) → cell.Answer op → Kind
+kind_of cell.Take a = KindIs.Take
+kind_of cell.Fetch a = kind_fetched a
+kind_of (cell.Store n) a = KindIs.Store
+kind_of cell.Drop a = KindIs.Drop
+
+-- what a machine is at, as a program without marks
+abbrev pub P : Type 0 → Type 0
+P A = Prog cell.Op cell.Answer ⊥ A
 
 abbrev pub open_of : Open → P ℕ
-open_of OpenAt.Take = opened
+open_of OpenAt.Take = plain opened
 open_of (OpenAt.Fetch key) = once cell.Fetch unmarked
 
--- an open that goes on to a look is marked
+-- an open is the same program in a swap and in a look, which marks its fetch
 abbrev pub machine_of : Machine → P ℕ
-machine_of (MachineAt.SwapOpen n first) = bind (open_of first) (stored_and n)
-machine_of (MachineAt.Store n old key) = stored_and n old
-machine_of (MachineAt.LookOpen first) = bind (marked (open_of first) (λ x. Some (cell.Saw x))) dropped
-machine_of (MachineAt.Drop old key) = dropped old
+machine_of (MachineAt.SwapOpen n first) = bind (open_of first) (λ x. plain (stored_and n x))
+machine_of (MachineAt.Store n old key) = plain (stored_and n old)
+machine_of (MachineAt.LookOpen first) = bind (open_of first) (λ x. plain (dropped x))
+machine_of (MachineAt.Drop old key) = plain (dropped old)
 
 -- the key that a machine has is its hart's
 abbrev pub OpenFits : ℕ → Open → Type 0
@@ -55,7 +64,7 @@ abbrev pub HartFits : ℕ → Option Machine → Type 0
 HartFits = PlaceFits MachineFits
 
 -- what the device answered in a machine's step, which left this cell
-abbrev pub said_in : {M R : Type 0} → Stepped M R → Cell → Outside
+abbrev pub said_in : {M R K : Type 0} → Stepped M R K → Cell → Outside
 said_in r c = answered (Fails c.count) Passes r
 
 -- the same, by what a call of the device came to

@@ -80,13 +80,13 @@ pub record Appends (L : Theory) (s u : State L) : Type 0 where
   pub now : (e : Placed L) → In e more → e.number ≡ s.now
 
 -- these outcomes leave all as it was
-abbrev pub is_quiet : {Op Reply Refusal : Type 0} → Outcome Op Reply Refusal → Bool
+abbrev pub is_quiet : {Did Reply Refusal : Type 0} → Outcome Did Reply Refusal → Bool
 is_quiet (Refused why) = true
 is_quiet WasIdle = true
 is_quiet DidWait = true
 is_quiet WasStopped = true
 is_quiet Started = false
-is_quiet (DidRun op) = false
+is_quiet (DidRun did) = false
 is_quiet (DidEnd reply) = false
 is_quiet DidStop = false
 

@@ -1,41 +1,36 @@
--- Machines in code: each value stands for the program that is left.
+-- Machines in code: each value stands for the program that is left, without marks.
 use Rattle.std.specs.Prelude.{◌≡◌, ℕ, Option, Some, None, List, get_or}
 use Rattle.atomic_programs.specs.Prog.{Prog, Ret, Did, Waits as ItWaits, Ran as ItRan, Stops, Moved, StillWaits, WentOn, Broke}
 use Rattle.atomic_programs.specs.declared.machines.Stepped.{Stepped}
 use Rattle.atomic_programs.specs.declared.machines.Stepped.TheVariants.{Waits, Ran, Done, Stopped}
 
 -- where a step of a machine leads, as a program; its result stands for what the program returns
-abbrev pub moved_to : {M R A S Op Mark : Type 0} {Answer : Op → Type 0} → (M → Prog Op Answer Mark A) → (R → A) → Stepped M R → S → Moved (Prog Op Answer Mark A) S
+abbrev pub moved_to : {M R K A S Op : Type 0} {Answer : Op → Type 0} → (M → Prog Op Answer ⊥ A) → (R → A) → Stepped M R K → S → Moved K (Prog Op Answer ⊥ A) S
 moved_to program result (Waits m) s = StillWaits
-moved_to program result (Ran m) s = WentOn (program m) s
-moved_to program result (Done a) s = WentOn (Ret (result a)) s
+moved_to program result (Ran m kind) s = WentOn kind (program m) s
+moved_to program result (Done a kind) s = WentOn kind (Ret (result a)) s
 moved_to program result (Stopped m) s = Broke s
 
 -- a step that waits changes nothing, and after one that stopped the world the machine stands for the same program
-abbrev pub Still : {M R S T : Type 0} → (M → T) → Stepped M R → M → S → S → Type 0
+abbrev pub Still : {M R K S T : Type 0} → (M → T) → Stepped M R K → M → S → S → Type 0
 Still program (Waits m) self old new = (program m ≡ program self) × (new ≡ old)
-Still program (Ran m) self old new = Unit {0}
-Still program (Done a) self old new = Unit {0}
+Still program (Ran m kind) self old new = Unit {0}
+Still program (Done a kind) self old new = Unit {0}
 Still program (Stopped m) self old new = program m ≡ program self
 
 -- the machine that is left, or its result
-abbrev pub Left : {M R : Type 0} → (M → Type 0) → (R → Type 0) → Stepped M R → Type 0
+abbrev pub Left : {M R K : Type 0} → (M → Type 0) → (R → Type 0) → Stepped M R K → Type 0
 Left Fits Ends (Waits m) = Fits m
-Left Fits Ends (Ran m) = Fits m
-Left Fits Ends (Done a) = Ends a
+Left Fits Ends (Ran m kind) = Fits m
+Left Fits Ends (Done a kind) = Ends a
 Left Fits Ends (Stopped m) = Fits m
 
 -- what the outside answered: this where the step stopped the world, and that elsewhere
-abbrev pub answered : {M R X : Type 0} → X → X → Stepped M R → X
+abbrev pub answered : {M R K X : Type 0} → X → X → Stepped M R K → X
 answered broke passed (Waits m) = passed
-answered broke passed (Ran m) = passed
-answered broke passed (Done a) = passed
+answered broke passed (Ran m kind) = passed
+answered broke passed (Done a kind) = passed
 answered broke passed (Stopped m) = broke
-
--- its kind
-abbrev pub kind_asked : {Op K : Type 0} → (Op → K) → Option Op → Option K
-kind_asked kind None = None
-kind_asked kind (Some op) = Some (kind op)
 
 -- a call of an operation, by its Option: None where it waits
 abbrev pub or_waits : {A S : Type 0} → Option A → S → Did A S

@@ -1,10 +1,10 @@
 //! An example: eight harts that swap one number behind a lock, on a device that may fail.
 
 ghost use Rattle.std.specs.Prelude.{◌≡◌, ℕ, ◌<◌, ◌⊎◌, ◌∷◌, [], Bool, true, false, Option, Some, None, IfSome, IfNone, IfOk, IfErr, slice_get, slice_set, get_or};
-ghost use Rattle.atomic_programs.specs.Prog.{advance, asks, OfNext, Ran as ItRan};
+ghost use Rattle.atomic_programs.specs.Prog.{plain, advance, asks, OfNext, Ran as ItRan};
 ghost use Rattle.atomic_programs.specs.Calls.{State, fresh, with_answer, Start as StartOf, Step as StepOf};
 ghost use Rattle.atomic_programs.specs.Plain.{plain_makes, erase, Plain, PlainHonest, PlainHonestStep, MayOf, hart_start, hart_step};
-ghost use Rattle.atomic_programs.specs.Machines.{moved_to, Still, Left, kind_asked, program_at, or_waits, or_stops};
+ghost use Rattle.atomic_programs.specs.Machines.{moved_to, Still, Left, program_at, or_waits, or_stops};
 ghost use Rattle.atomic_programs.specs.Cell as cell;
 ghost use Rattle.atomic_programs.specs.Cell.{Cell, Passes, LeavesOne, exec, may, honest, swaps, rest, Take as TakeOp, Fetch as FetchOp, Store as StoreOp, Drop as DropOp};
 ghost use Rattle.atomic_programs.specs.CellCode.{kind_of, open_of, machine_of, OpenFits, MachineFits, HartFits, said_in, said_by, said, call_of, event_of, events_of, outcome_of, outcomes_of, code, plain_of};
@@ -123,13 +123,28 @@ impl<D: Device> Register<D> {
     }
 }
 
-/// The kinds of operations.
+/// The kinds of operations with their answers.
 #[derive(Clone, Copy)]
 pub enum Kind {
     Take,
     Fetch,
+    /// A fetch that answers zero.
+    FetchZero,
     Store,
     Drop,
+}
+
+impl Kind {
+    /// Of a fetch that answers this number.
+    pub fn of_fetch(number: u8) -> Kind
+        ensures { result ≡ kind_of FetchOp number }
+    {
+        if number == 0 {
+            Kind::FetchZero
+        } else {
+            Kind::Fetch
+        }
+    }
 }
 
 /// Takes the lock and fetches the number.
@@ -140,10 +155,14 @@ pub enum Open {
 
 impl Open {
     /// One operation.
-    pub fn step<D: Device>(self, hart: u8, register: &mut Register<D>) -> Stepped<Open, (u8, Key)>
+    pub fn step<D: Device>(
+        self,
+        hart: u8,
+        register: &mut Register<D>,
+    ) -> Stepped<Open, (u8, Key), Kind>
         requires may { OfNext (may hart) (asks (open_of self)) register.old }
         requires fits { OpenFits hart self }
-        ensures moves { advance (exec hart (said_in result register.new)) (open_of self) register.old ≡ moved_to open_of (λ r. r.0) result register.new }
+        ensures moves { advance kind_of (exec hart (said_in result register.new)) (open_of self) register.old ≡ moved_to open_of (λ r. r.0) result register.new }
         ensures honest { OfNext (λ op c. honest hart op c (said_in result register.new)) (asks (open_of self)) register.old }
         ensures fits { Left (OpenFits hart) (λ r. r.1 ≡ hart) result }
         ensures still { Still open_of result self register.old register.new }
@@ -151,22 +170,12 @@ impl Open {
         match self {
             Open::Take => match register.take(hart) {
                 None => Stepped::Waits(Open::Take),
-                Some(key) => Stepped::Ran(Open::Fetch { key }),
+                Some(key) => Stepped::Ran(Open::Fetch { key }, Kind::Take),
             },
             Open::Fetch { key } => match register.fetch(&key) {
                 None => Stepped::Stopped(Open::Fetch { key }),
-                Some(number) => Stepped::Done((number, key)),
+                Some(number) => Stepped::Done((number, key), Kind::of_fetch(number)),
             },
-        }
-    }
-
-    /// Of its next operation.
-    pub fn kind(&self) -> Kind
-        ensures { kind_asked kind_of (asks (open_of self.now)) ≡ Some result }
-    {
-        match self {
-            Open::Take => Kind::Take,
-            Open::Fetch { key: _ } => Kind::Fetch,
         }
     }
 
@@ -211,7 +220,7 @@ pub enum Machine {
 impl Machine {
     /// The call from its beginning.
     pub fn new(call: Call) -> Machine
-        ensures program { machine_of result ≡ swaps.program (call_of call) }
+        ensures program { machine_of result ≡ plain (swaps.program (call_of call)) }
         ensures fits { (h : ℕ) → MachineFits h result }
     {
         match call {
@@ -224,10 +233,10 @@ impl Machine {
     }
 
     /// One operation.
-    pub fn step<D: Device>(self, hart: u8, register: &mut Register<D>) -> Stepped<Machine, u8>
+    pub fn step<D: Device>(self, hart: u8, register: &mut Register<D>) -> Stepped<Machine, u8, Kind>
         requires may { OfNext (may hart) (asks (machine_of self)) register.old }
         requires fits { MachineFits hart self }
-        ensures moves { advance (exec hart (said_in result register.new)) (machine_of self) register.old ≡ moved_to machine_of (λ x. x) result register.new }
+        ensures moves { advance kind_of (exec hart (said_in result register.new)) (machine_of self) register.old ≡ moved_to machine_of (λ x. x) result register.new }
         ensures honest { OfNext (λ op c. honest hart op c (said_in result register.new)) (asks (machine_of self)) register.old }
         ensures fits { Left (MachineFits hart) (λ r. Unit {0}) result }
         ensures still { Still machine_of result self register.old register.new }
@@ -235,40 +244,30 @@ impl Machine {
         match self {
             Machine::SwapOpen { number, open } => match open.step(hart, register) {
                 Stepped::Waits(open) => Stepped::Waits(Machine::SwapOpen { number, open }),
-                Stepped::Ran(open) => Stepped::Ran(Machine::SwapOpen { number, open }),
-                Stepped::Done((old, key)) => Stepped::Ran(Machine::Store { number, old, key }),
+                Stepped::Ran(open, kind) => Stepped::Ran(Machine::SwapOpen { number, open }, kind),
+                Stepped::Done(opened, kind) => {
+                    let (old, key) = opened;
+                    Stepped::Ran(Machine::Store { number, old, key }, kind)
+                }
                 Stepped::Stopped(open) => Stepped::Stopped(Machine::SwapOpen { number, open }),
             },
             Machine::Store { number, old, key } => match register.store(&key, number) {
                 None => Stepped::Stopped(Machine::Store { number, old, key }),
-                Some(()) => Stepped::Ran(Machine::Drop { old, key }),
+                Some(()) => Stepped::Ran(Machine::Drop { old, key }, Kind::Store),
             },
             Machine::LookOpen { open } => match open.step(hart, register) {
                 Stepped::Waits(open) => Stepped::Waits(Machine::LookOpen { open }),
-                Stepped::Ran(open) => Stepped::Ran(Machine::LookOpen { open }),
-                Stepped::Done((old, key)) => Stepped::Ran(Machine::Drop { old, key }),
+                Stepped::Ran(open, kind) => Stepped::Ran(Machine::LookOpen { open }, kind),
+                Stepped::Done(opened, kind) => {
+                    let (old, key) = opened;
+                    Stepped::Ran(Machine::Drop { old, key }, kind)
+                }
                 Stepped::Stopped(open) => Stepped::Stopped(Machine::LookOpen { open }),
             },
             Machine::Drop { old, key } => {
                 register.release(key);
-                Stepped::Done(old)
+                Stepped::Done(old, Kind::Drop)
             }
-        }
-    }
-
-    /// Of its next operation.
-    pub fn kind(&self) -> Kind
-        ensures { kind_asked kind_of (asks (machine_of self.now)) ≡ Some result }
-    {
-        match self {
-            Machine::SwapOpen { number: _, open } => open.kind(),
-            Machine::Store {
-                number: _,
-                old: _,
-                key: _,
-            } => Kind::Store,
-            Machine::LookOpen { open } => open.kind(),
-            Machine::Drop { old: _, key: _ } => Kind::Drop,
         }
     }
 
@@ -380,11 +379,10 @@ fn step<D: Device>(
             if stopped {
                 return (Some(call), Outcome::Stopped, true);
             }
-            let kind = call.kind();
             match call.step(hart, register) {
                 Stepped::Waits(call) => (Some(call), Outcome::Waits, false),
-                Stepped::Ran(call) => (Some(call), Outcome::Ran(kind), false),
-                Stepped::Done(reply) => (None, Outcome::Done(reply), false),
+                Stepped::Ran(call, kind) => (Some(call), Outcome::Ran(kind), false),
+                Stepped::Done(reply, _kind) => (None, Outcome::Done(reply), false),
                 Stepped::Stopped(call) => (Some(call), Outcome::Stops, true),
             }
         }

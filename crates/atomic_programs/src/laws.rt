@@ -35,13 +35,13 @@ pub fn cell_rests(count: u8, faults: u32)
 
 /// Two calls overlap: one waits for the other, both finish, and the list has their steps in the order of the number.
 pub fn cell_finishes()
-    ensures outcomes { outcomes cell.swaps (Start 0 (cell.Swap 7) ∷ Step 0 cell.Passes ∷ Start 1 cell.Look ∷ Step 1 cell.Passes ∷ Step 0 cell.Passes ∷ Step 0 cell.Passes ∷ Step 0 cell.Passes ∷ Step 1 cell.Passes ∷ Step 1 cell.Passes ∷ Step 1 cell.Passes ∷ Step 1 cell.Passes ∷ []) (fresh cell.swaps (cell.rest 5 0)) ≡ Started ∷ DidRun cell.Take ∷ Started ∷ DidWait ∷ DidRun cell.Fetch ∷ DidRun (cell.Store 7) ∷ DidEnd 5 ∷ DidRun cell.Take ∷ DidRun cell.Fetch ∷ DidEnd 7 ∷ WasIdle ∷ [] }
+    ensures outcomes { outcomes cell.swaps (Start 0 (cell.Swap 7) ∷ Step 0 cell.Passes ∷ Start 1 cell.Look ∷ Step 1 cell.Passes ∷ Step 0 cell.Passes ∷ Step 0 cell.Passes ∷ Step 0 cell.Passes ∷ Step 1 cell.Passes ∷ Step 1 cell.Passes ∷ Step 1 cell.Passes ∷ Step 1 cell.Passes ∷ []) (fresh cell.swaps (cell.rest 5 0)) ≡ Started ∷ DidRun (cell.Take, tt) ∷ Started ∷ DidWait ∷ DidRun (cell.Fetch, 5) ∷ DidRun (cell.Store 7, tt) ∷ DidEnd 5 ∷ DidRun (cell.Take, tt) ∷ DidRun (cell.Fetch, 7) ∷ DidEnd 7 ∷ WasIdle ∷ [] }
     ensures history { history cell.swaps (run cell.swaps (Start 0 (cell.Swap 7) ∷ Step 0 cell.Passes ∷ Start 1 cell.Look ∷ Step 1 cell.Passes ∷ Step 0 cell.Passes ∷ Step 0 cell.Passes ∷ Step 0 cell.Passes ∷ Step 1 cell.Passes ∷ Step 1 cell.Passes ∷ Step 1 cell.Passes ∷ []) (fresh cell.swaps (cell.rest 5 0))) ≡ record { number = 5; hart = 0; call = 0; step = cell.Swapped 7 5 } ∷ record { number = 8; hart = 1; call = 2; step = cell.Saw 7 } ∷ [] }
 {}
 
 /// The device fails in a store, which stops the world: each later step says so, and starts are taken or refused as before.
 pub fn cell_stops()
-    ensures outcomes { outcomes cell.swaps (Start 0 (cell.Swap 7) ∷ Step 0 cell.Passes ∷ Step 0 cell.Passes ∷ Step 0 (cell.Fails 7) ∷ Step 0 cell.Passes ∷ Start 0 cell.Look ∷ Start 1 cell.Look ∷ Start 8 cell.Look ∷ Step 1 cell.Passes ∷ Step 2 cell.Passes ∷ []) (fresh cell.swaps (cell.rest 5 0)) ≡ Started ∷ DidRun cell.Take ∷ DidRun cell.Fetch ∷ DidStop ∷ WasStopped ∷ Refused cell.Busy ∷ Started ∷ Refused cell.NoSuchHart ∷ WasStopped ∷ WasIdle ∷ [] }
+    ensures outcomes { outcomes cell.swaps (Start 0 (cell.Swap 7) ∷ Step 0 cell.Passes ∷ Step 0 cell.Passes ∷ Step 0 (cell.Fails 7) ∷ Step 0 cell.Passes ∷ Start 0 cell.Look ∷ Start 1 cell.Look ∷ Start 8 cell.Look ∷ Step 1 cell.Passes ∷ Step 2 cell.Passes ∷ []) (fresh cell.swaps (cell.rest 5 0)) ≡ Started ∷ DidRun (cell.Take, tt) ∷ DidRun (cell.Fetch, 5) ∷ DidStop ∷ WasStopped ∷ Refused cell.Busy ∷ Started ∷ Refused cell.NoSuchHart ∷ WasStopped ∷ WasIdle ∷ [] }
     ensures honest { AllHonest cell.swaps (Start 0 (cell.Swap 7) ∷ Step 0 cell.Passes ∷ Step 0 cell.Passes ∷ Step 0 (cell.Fails 7) ∷ Step 0 cell.Passes ∷ Start 0 cell.Look ∷ Start 1 cell.Look ∷ Start 8 cell.Look ∷ Step 1 cell.Passes ∷ Step 2 cell.Passes ∷ []) (fresh cell.swaps (cell.rest 5 0)) }
 {}
 
@@ -57,13 +57,13 @@ pub fn desk_rests(number: u32)
 
 /// A request waits until another hart serves it; its step is placed at that hart's event.
 pub fn desk_helps()
-    ensures outcomes { outcomes desk.desk (Start 0 (desk.Request 7) ∷ Step 0 tt ∷ Step 0 tt ∷ Start 1 (desk.Help 0) ∷ Step 1 tt ∷ Step 0 tt ∷ []) (fresh desk.desk (desk.rest 5 (λ h. 0))) ≡ Started ∷ DidRun (desk.Ask 7) ∷ DidWait ∷ Started ∷ DidEnd (desk.Helped true) ∷ DidEnd (desk.Got 5) ∷ [] }
+    ensures outcomes { outcomes desk.desk (Start 0 (desk.Request 7) ∷ Step 0 tt ∷ Step 0 tt ∷ Start 1 (desk.Help 0) ∷ Step 1 tt ∷ Step 0 tt ∷ []) (fresh desk.desk (desk.rest 5 (λ h. 0))) ≡ Started ∷ DidRun (desk.Ask 7, tt) ∷ DidWait ∷ Started ∷ DidEnd (desk.Helped true) ∷ DidEnd (desk.Got 5) ∷ [] }
     ensures history { history desk.desk (run desk.desk (Start 0 (desk.Request 7) ∷ Step 0 tt ∷ Step 0 tt ∷ Start 1 (desk.Help 0) ∷ Step 1 tt ∷ []) (fresh desk.desk (desk.rest 5 (λ h. 0)))) ≡ record { number = 4; hart = 0; call = 0; step = desk.Swapped 7 5 } ∷ [] }
 {}
 
 /// A hart that is reserved for another's call starts nothing until that call's reply.
 pub fn desk_reserves()
-    ensures { outcomes desk.desk (Start 0 (desk.Give 1) ∷ Start 1 (desk.Help 0) ∷ Step 0 tt ∷ Start 1 (desk.Help 0) ∷ Step 0 tt ∷ Start 1 (desk.Help 0) ∷ Start 0 (desk.Give 1) ∷ []) (fresh desk.desk (desk.rest 5 (λ h. 0))) ≡ Started ∷ Refused desk.Reserved ∷ DidRun (desk.Hand 1) ∷ Refused desk.Reserved ∷ DidEnd desk.Given ∷ Started ∷ Refused desk.Busy ∷ [] }
+    ensures { outcomes desk.desk (Start 0 (desk.Give 1) ∷ Start 1 (desk.Help 0) ∷ Step 0 tt ∷ Start 1 (desk.Help 0) ∷ Step 0 tt ∷ Start 1 (desk.Help 0) ∷ Start 0 (desk.Give 1) ∷ []) (fresh desk.desk (desk.rest 5 (λ h. 0))) ≡ Started ∷ Refused desk.Reserved ∷ DidRun (desk.Hand 1, tt) ∷ Refused desk.Reserved ∷ DidEnd desk.Given ∷ Started ∷ Refused desk.Busy ∷ [] }
 {}
 
 /// After a wipe no reply is explained: the list has a step that the number didn't take.
