@@ -1,12 +1,12 @@
 -- The calls at the desk do as they should.
-use Rattle.std.proofs.Common.{◌≡◌, ◌<◌, ◌≢◌, ℕ, Option, Some, None, Bool, true, false, List, [], ◌∷◌, ◌++◌, refl, sym, ◌∙◌, ap, subst, arith, ◌⊎◌, inl, inr}
+use Rattle.std.proofs.Common.{◌≡◌, ◌<◌, ◌≢◌, ℕ, Option, Some, None, Bool, true, false, List, [], ◌∷◌, ◌++◌, ◌≤◌, length, refl, sym, ◌∙◌, ap, subst, arith, ◌⊎◌, inl, inr}
 use Rattle.std.proofs.lemmas.Bool.{eqb-true, eqb-false, eq-eqb, ne_eqb}
 use Rattle.std.specs.Prelude.{nat_eq, if◌then◌else◌}
 use Rattle.atomic_programs.specs.Prog.{Ret, Do, unmarked}
-use Rattle.atomic_programs.specs.Logic.{own, onto, Grown, Fine, Good, Wp, Laws}
+use Rattle.atomic_programs.specs.Logic.{own, onto, PlacesOne, Grown, Fine, Good, Wp, Laws}
 use Rattle.atomic_programs.specs.Calls.{Began, Begins, IsBeginning, Begun, Ends, Right, Lawful, Event, changed, run, fresh}
 use Rattle.atomic_programs.specs.Explained.{Explained}
-use Rattle.atomic_programs.specs.Desk.{Slot, Empty, Asked, Served, World, Collect, Free, Step, Swapped, Gave, serve_if, collect_if, served, Fared, is_for, Others, Idle, IsAsked, machine, Call, Request, Help, Give, Reset, Got, Helped, Given, Wiped, Refusal, Busy, program, unless, reserve_if, start_call, start_if, desk}
+use Rattle.atomic_programs.specs.Desk.{Slot, Empty, Asked, Served, World, Ask, Serve, Collect, Hand, Free, Wipe, Step, Swapped, Gave, serve_if, collect_if, served, Fared, is_for, Others, Idle, IsAsked, machine, Call, Request, Help, Give, Reset, Got, Helped, Given, Wiped, Refusal, Busy, program, unless, reserve_if, start_call, start_if, desk}
 use Rattle.atomic_programs.proofs.Explains.{changed_same, changed_other, explains, all_honest}
 
 fared_same : (s : Slot) → Fared s [] s
@@ -383,5 +383,26 @@ call_ok h (Give j) busy w u idle free e =
 pub lawful : Lawful desk
 lawful = record { laws = laws; calls = λ h call busy w u holds idle free e. call_ok h call busy w u idle free (not_lent (w.lent h) (start_call h call busy w) u e) }
 
+own_at_most : (h j : ℕ) (e : Step) → length (own h ((j, e) ∷ [])) ≤ 1
+own_at_most h j e = at (nat_eq j h)
+  where
+    at : (b : Bool) → length (if b then e ∷ [] else []) ≤ 1
+    at true = omega arith
+    at false = omega arith
+
 pub any_run : (w : World) (events : List (Event Call (Unit {0}))) → ((h : ℕ) → Idle h w) → Explained desk w.book (run desk events (fresh desk w))
 any_run w events idle = explains desk lawful w events tt idle (all_honest desk (λ h op v x. tt) events (fresh desk w))
+
+-- whose the only step is doesn't matter
+pub places_one : PlacesOne machine
+places_one h (Ask n) a m w inv = omega arith
+places_one h (Serve j) a m w inv = at (w.slots j)
+  where
+    at : (s : Slot) → length (own h (served j w.book.number s)) ≤ 1
+    at Empty = omega arith
+    at (Asked n) = own_at_most h j (Swapped n w.book.number)
+    at (Served old) = omega arith
+places_one h Collect a m w inv = omega arith
+places_one h (Hand j) a m w inv = own_at_most h h (Gave j (w.book.tokens h))
+places_one h (Free j) a m w inv = omega arith
+places_one h Wipe a m w inv = omega arith

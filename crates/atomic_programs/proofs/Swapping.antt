@@ -3,7 +3,7 @@ use Rattle.std.proofs.Common.{◌≡◌, ◌≢◌, ◌<◌, ◌+◌, ◌-◌, �
 use Rattle.std.proofs.lemmas.Bool.{eqb-true, eq-eqb, ne_eqb, ltb-true}
 use Rattle.std.specs.Prelude.{nat_eq, nat_lt, if◌then◌else◌}
 use Rattle.atomic_programs.specs.Prog.{Do, unmarked, Did, Waits, Ran}
-use Rattle.atomic_programs.specs.Logic.{own, onto, Halts, Good, Wp, Safe, Laws}
+use Rattle.atomic_programs.specs.Logic.{own, onto, PlacesOne, Halts, Good, Wp, Safe, Laws}
 use Rattle.atomic_programs.specs.Calls.{Began, Begins, IsBeginning, Begun, Ends, Right, Lawful, Event, AllHonest, run, fresh}
 use Rattle.atomic_programs.specs.Explained.{Explained}
 use Rattle.atomic_programs.specs.Cell.{Cell, Outside, Passes, Fails, LeavesIt, LeavesOne, failed, fetch_if, store_if, honest, may, fits, Op, Take, Fetch, Store, Drop, Answer, Step, Swapped, Saw, World, with_value, go, placed_by, if_held, own_of, Inv, IsOut, MayWait, machine, Call, Swap, Look, Refusal, P, program, begin_if, swaps}
@@ -229,3 +229,8 @@ lawful = record { laws = laws; calls = λ h call busy w u holds idle free e. (le
 
 pub any_run : (w : World) (events : List (Event Call Outside)) → Inv w → ((h : ℕ) → own_of h w ≡ None) → AllHonest swaps events (fresh swaps w) → Explained swaps w.value (run swaps events (fresh swaps w))
 any_run w events inv idle honest = explains swaps lawful w events inv idle honest
+
+-- the only step that an operation places is its own
+pub places_one : PlacesOne machine
+places_one h op a None w inv = omega arith
+places_one h op a (Some e) w inv = rw (own_mine h e) (omega arith)

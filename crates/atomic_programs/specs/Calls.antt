@@ -95,6 +95,10 @@ pub data Event (Call Outside : Type 0) : Type 0 where
   Start : ℕ → Call → Event Call Outside
   Step : ℕ → Outside → Event Call Outside
 
+abbrev pub hart_of : {Call Outside : Type 0} → Event Call Outside → ℕ
+hart_of (Start h call) = h
+hart_of (Step h x) = h
+
 -- what was asked, without the outside's answer, and with one
 abbrev pub asked : {Call Outside : Type 0} → Event Call Outside → Event Call (Unit {0})
 asked (Start h call) = Start h call

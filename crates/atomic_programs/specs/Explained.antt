@@ -1,5 +1,5 @@
 -- What explains a run: one list of steps, the oldest first.
-use Rattle.std.specs.Prelude.{◌≡◌, ◌⊎◌, ℕ, ◌<◌, ◌≤◌, Bool, true, false, Option, Some, None, nat_eq, if◌then◌else◌, List, [], ◌∷◌, suc, ◌++◌}
+use Rattle.std.specs.Prelude.{◌≡◌, ◌⊎◌, ℕ, ◌<◌, ◌≤◌, Bool, true, false, Option, Some, None, nat_eq, if◌then◌else◌, List, [], ◌∷◌, suc, ◌++◌, length}
 use Rattle.atomic_programs.specs.Prog.{Do, asks, OfNext}
 use Rattle.atomic_programs.specs.Logic.{P, oldest_first}
 use Rattle.atomic_programs.specs.Calls.{Theory, IsBeginning, Run, Placed, Finished, State, Event, Start, Step, Outcome, Started, Refused, WasIdle, DidWait, DidRun, DidEnd, DidStop, WasStopped, makes, next, unchanged, IsHonest}
@@ -78,6 +78,20 @@ pub record Appends (L : Theory) (s u : State L) : Type 0 where
   pub more : List (Placed L)
   pub is : history L u ≡ history L s ++ more
   pub now : (e : Placed L) → In e more → e.number ≡ s.now
+
+-- the entries of this hart
+abbrev pub of_hart : (L : Theory) → ℕ → List (Placed L) → List (Placed L)
+of_hart L h [] = []
+of_hart L h (e ∷ es) = if nat_eq e.hart h then e ∷ of_hart L h es else of_hart L h es
+
+-- An event of hart h that led from s to u: what it placed leads the sequential object from where it was to where it is,
+-- and at most one step of it is the hart's own.
+pub record Led (L : Theory) (h : ℕ) (s u : State L) : Type 0 where
+  pub more : List (Placed L)
+  pub is : history L u ≡ history L s ++ more
+  pub clean : L.M.Clean u.world → L.M.Clean s.world
+  pub chained : L.M.Clean u.world → Chain L (L.M.tree s.world) more (L.M.tree u.world)
+  pub own : length (of_hart L h more) ≤ 1
 
 -- these outcomes leave all as it was
 abbrev pub is_quiet : {Did Reply Refusal : Type 0} → Outcome Did Reply Refusal → Bool

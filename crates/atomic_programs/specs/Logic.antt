@@ -1,5 +1,5 @@
 -- A logic for programs that harts run at once: what a hart owns stays while the others step.
-use Rattle.std.specs.Prelude.{◌≡◌, ◌≢◌, ◌⊎◌, ℕ, ◌+◌, ◌<◌, Option, nat_eq, if◌then◌else◌, List, [], ◌∷◌, ◌++◌}
+use Rattle.std.specs.Prelude.{◌≡◌, ◌≢◌, ◌⊎◌, ℕ, ◌+◌, ◌<◌, ◌≤◌, Option, nat_eq, if◌then◌else◌, List, [], ◌∷◌, ◌++◌, length}
 use Rattle.atomic_programs.specs.Prog.{Prog, Ret, Do, Did, Waits, Ran, Stops}
 
 -- What a project's machine is: its operations, its world, the sequential object, and the rules between harts.
@@ -116,6 +116,10 @@ Wp L h B Q (Do op m k) n es w =
 -- the same, closed, so that the program can be read off it
 pub record Safe (L : Machine) {A : Type 0} (h : ℕ) (B : List L.Step → Type 0) (Q : A → List L.Step → L.World → Type 0) (p : P L A) (n : ℕ) (es : List L.Step) (w : L.World) : Type 0 where
   pub wp : Wp L h B Q p n es w
+
+-- where an operation runs, at most one of the steps that are placed is its own hart's
+abbrev pub PlacesOne : Machine → Type 0
+PlacesOne L = (h : ℕ) (op : L.Op) (a : L.Answer op) (m : Option L.Mark) (w : L.World) → L.Inv w → length (own h (L.places h op a m w)) ≤ 1
 
 -- the laws that a machine shows once
 pub record Laws (L : Machine) : Type 0 where

@@ -2,8 +2,8 @@
 //! project to use at its own theory, and each function here carries one of them at an example of this crate.
 
 ghost use Rattle.std.specs.Prelude.{◌≡◌, ℕ, ◌∷◌, [], List, Option, None, true, false};
-ghost use Rattle.atomic_programs.specs.Calls.{Event, Start, Step, Finished, Placed, Outcome, Started, Refused, WasIdle, DidWait, DidRun, DidEnd, DidStop, WasStopped, run, outcomes, fresh, AllHonest};
-ghost use Rattle.atomic_programs.specs.Explained.{Explained, Steady, In, history};
+ghost use Rattle.atomic_programs.specs.Calls.{Event, Start, Step, Finished, Placed, Outcome, Started, Refused, WasIdle, DidWait, DidRun, DidEnd, DidStop, WasStopped, State, next, run, outcomes, fresh, hart_of, IsHonest, AllHonest, Sound};
+ghost use Rattle.atomic_programs.specs.Explained.{Explained, Led, Steady, In, history};
 ghost use Rattle.atomic_programs.specs.Trace.{Traced, happened};
 ghost use Rattle.atomic_programs.specs.Cell as cell;
 ghost use Rattle.atomic_programs.specs.Desk as desk;
@@ -27,6 +27,12 @@ pub fn cell_traced()
     ensures { (w : cell.World) (events : List (Event cell.Call cell.Outside)) → Traced cell.swaps (λ x. In x (happened cell.swaps events (fresh cell.swaps w))) (run cell.swaps events (fresh cell.swaps w)) }
 {}
 
+/// What each event places leads from the number before it to the one after it, and at most one step of it is the event's own
+/// hart's.
+pub fn cell_leads()
+    ensures { (s : State cell.swaps) (e : Event cell.Call cell.Outside) → Sound cell.swaps s → IsHonest cell.swaps e s → Led cell.swaps (hart_of e) s (next cell.swaps e s) }
+{}
+
 /// There are worlds that hold and where every hart is idle: any byte, on a device that has failed so often.
 pub fn cell_rests(count: u8, faults: u32)
     ensures holds { cell.Inv (cell.rest count faults) }
@@ -48,6 +54,11 @@ pub fn cell_stops()
 /// The same of the desk, where a hart's step may be placed by another hart, and a start may reserve an idle one.
 pub fn desk_explained()
     ensures { (w : desk.World) (events : List (Event desk.Call (Unit {0}))) → ((h : ℕ) → desk.Idle h w) → Explained desk.desk w.book (run desk.desk events (fresh desk.desk w)) }
+{}
+
+/// There an event may place another hart's step beside its own; what it places leads from book to book while nothing was wiped.
+pub fn desk_leads()
+    ensures { (s : State desk.desk) (e : Event desk.Call (Unit {0})) → Sound desk.desk s → IsHonest desk.desk e s → Led desk.desk (hart_of e) s (next desk.desk e s) }
 {}
 
 /// Every hart is idle at a desk at rest.
