@@ -1,7 +1,7 @@
 -- Whose the blocks of a well-formed image are.
 use Rattle.std.proofs.Common.{◌≡◌, ◌≢◌, ℕ, zero, suc, ◌+◌, ◌-◌, ◌<◌, ◌≤◌, Bool, true, false, eqb, inl, inr, refl, sym, ◌∙◌, ap, subst, arith, List, [], ◌∷◌, ◌++◌, length, length-append, filter, get_or}
 use Rattle.std.specs.Prelude.{nat_lt}
-use Rattle.std.specs.List.{All}
+use Rattle.std.specs.List.{All, Contains}
 use Rattle.std.proofs.lemmas.Bool.Decides.{nat_tests}
 use Rattle.std.proofs.lemmas.List.{get_or-append_right}
 use Rattle.fs_layout.specs.Recovered.{sizes_of}
@@ -55,6 +55,14 @@ times_place b (x ∷ xs) h = elim (same_or x b) [
       let ih = times_place b xs (omega (arith, h, times_cons b x xs, no_hit x b ne)) in
       (suc ih.0, (let l = ih.1 in omega (arith, l)), ih.2)
 ]
+
+contains_there : (xs : List ℕ) (k b : ℕ) → k < length xs → get_or xs k 0 ≡ b → Contains xs b
+contains_there xs k b l is = (k, l, same xs k l ∙ is)
+  where
+    same : (xs : List ℕ) (k : ℕ) → k < length xs → get_or xs k b ≡ get_or xs k 0
+    same [] k l = absurd (omega arith)
+    same (x ∷ xs) zero l = refl
+    same (x ∷ xs) (suc k) l = same xs k (omega arith)
 
 times_kept_le : (b : ℕ) (xs : List ℕ) → times b (filter is_block xs) ≤ times b xs
 times_kept_le b [] = omega (arith, times_nil b)
@@ -115,13 +123,13 @@ module _ (f : ℕ → List ℕ) where
         owner_before n b (omega (arith, before, few, times_more b f n)) ∙ owner_is n i b (omega (arith, few, times_more b f n)) low (omega arith) some
   ]
 
-  owner_names : (n b : ℕ) → owner_upto f n b ≢ 0 → (i : ℕ) × (1 ≤ i) × (i ≤ n) × (1 ≤ times b (f i))
+  owner_names : (n b : ℕ) → owner_upto f n b ≢ 0 → (i : ℕ) × (1 ≤ i) × (i ≤ n) × (1 ≤ times b (f i)) × (owner_upto f n b ≡ i)
   owner_names zero b ne = absurd (ne (owner_start b))
   owner_names (suc n) b ne = elim (same_or (times b (f (suc n))) 0) [
-    | inr some ↦ (suc n, omega arith, omega arith, omega (arith, some))
+    | inr some ↦ (suc n, omega arith, omega arith, omega (arith, some), owner_here n b (omega (arith, some)))
     | inl none ↦
         let ih = owner_names n b (λ e. ne (owner_before n b none ∙ e)) in
-        (ih.0, ih.1, (let l = ih.2 in omega (arith, l)), ih.3)
+        (ih.0, ih.1, (let l = ih.2 in omega (arith, l)), ih.3, owner_before n b none ∙ ih.4)
   ]
 
 -- ---- the image
@@ -140,6 +148,13 @@ module _ (disk : List (List ℕ)) (numbers : HasGoodNumbers disk) (once : NamesO
           owner_is = owner_is (named_by disk) (last disk) i b (once_times b (gathered (named_by disk) (last disk)) once) low (omega arith) there;
         };
     once = part_once (named_by disk) (last disk) i once low (omega arith);
+    named = λ b block own.
+        let who = owner_names (named_by disk) (last disk) b (λ z. absurd (omega (arith, z, own, low))) in
+        let named = who.3 in
+        let is : who.0 ≡ i = sym who.4 ∙ own in
+        let place = times_place b (numbers_by disk who.0) (omega (arith, named, times_kept_le b (numbers_by disk who.0))) in
+        let past = block.0 in
+        subst (λ (k : ℕ). Contains (numbers_by disk k) b) is (contains_there (numbers_by disk who.0) place.0 b place.1 place.2);
   }
 
   pub marks_blocks : 1 ≤ (sizes_of disk).ninodes → MarksBlocks disk (owner_in disk)

@@ -15,9 +15,10 @@ pub mod HeldImages
 pub mod HeldFrames
 pub mod ImageBlocks
 pub mod ImageNodes
+pub mod Places
 pub mod HeldPuts
-pub mod HeldContent
-pub mod HeldRecords
-pub mod HeldGrowth
-pub mod HeldLonger
-pub mod HeldBytes
+pub mod LaidInodes
+pub mod LaidContent
+pub mod LaidSlots
+pub mod LaidBytes
+pub mod LaidNumbers

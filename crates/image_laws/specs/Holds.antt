@@ -2,7 +2,7 @@
 -- they stand.
 --   nodes   by number: the live ones, and the dead ones (count 0) that something still refers to
 --   owner   by block: the inode that names it, 0 for none
-use Rattle.std.specs.Prelude.{◌≡◌, ◌≢◌, ℕ, zero, suc, ◌*◌, ◌<◌, ◌≤◌, ◌≤ℤ◌, pos, true, false, List, [], ◌∷◌, ◌++◌, length, map, All, Option, Some, None, if◌then◌else◌, nat_lt}
+use Rattle.std.specs.Prelude.{◌≡◌, ◌≢◌, ℕ, zero, suc, ◌*◌, ◌<◌, ◌≤◌, ◌≤ℤ◌, pos, true, false, List, [], ◌∷◌, ◌++◌, length, map, All, Contains, Option, Some, None, if◌then◌else◌, nat_lt}
 use Rattle.fs_layout.specs.declared.inode.Dinode.{Dinode}
 use Rattle.fs_layout.specs.declared.entry.Dirent.{Dirent}
 use Rattle.fs_layout.specs.declared.entry.Dirent.TheVariants.{Free, Used}
@@ -84,10 +84,15 @@ pub record IsOwned (disk : List (List ℕ)) (owner : ℕ → ℕ) (i b : ℕ) : 
   pub block : IsData (sizes_of disk) b
   pub owner_is : owner b ≡ i
 
--- the blocks that inode i names are its own, each in one place
+-- each block that is inode i's is one of these
+abbrev pub NamesOwned : List (List ℕ) → (ℕ → ℕ) → ℕ → List ℕ → Type 0
+NamesOwned disk owner i numbers = (b : ℕ) → IsData (sizes_of disk) b → owner b ≡ i → Contains numbers b
+
+-- the blocks that inode i names are just its own, each in one place
 pub record OwnsBlocks (disk : List (List ℕ)) (owner : ℕ → ℕ) (i : ℕ) : Type 0 where
   pub owned : All (λ b. b ≢ 0 → IsOwned disk owner i b) (numbers_by disk i)
   pub once : IsOnce (named_by disk i)
+  pub named : NamesOwned disk owner i (numbers_by disk i)
 
 -- inode i holds this
 pub record HoldsAt (disk : List (List ℕ)) (owner : ℕ → ℕ) (i : ℕ) (v : Option Node) : Type 0 where

@@ -1,81 +1,127 @@
--- The laws of puts: what a disk holds after one block is put.
-use Rattle.std.specs.Prelude.{◌≡◌, ◌≢◌, ◌⊎◌, ℕ, ◌+◌, ◌*◌, ◌/◌, ◌<◌, ◌≤◌, nat_lt, false, List, [], ◌∷◌, ◌++◌, length, slice_set, All, Option, Some, if◌then◌else◌}
+-- The laws of puts: what a disk holds after one block is put, and how a node is changed on it put by put.
+use Rattle.std.specs.Prelude.{◌≡◌, ◌≢◌, ℕ, suc, pos, ◌+◌, ◌*◌, ◌<◌, ◌≤◌, max, true, false, List, [], ◌∷◌, length, slice_index, slice_set, replicate, All, Option, Some, None}
 use Rattle.block_device.specs.Blocks.{HasWholeBlocks}
 use Rattle.fs_layout.specs.Bytes.{overwrite}
 use Rattle.fs_layout.specs.Recovered.{recovered, sizes_of}
+use Rattle.fs_layout.specs.Widths.{block_len, dirent_len, numbers_per_block}
+use Rattle.fs_layout.specs.declared.entry.Dirent.{Dirent}
+use Rattle.fs_layout.specs.declared.inode.Dinode.{Dinode}
 use Rattle.plain_tree.specs.declared.node.Node.{Node}
 use Rattle.plain_tree.specs.declared.node.Slot.{Slot}
 use Rattle.plain_tree.specs.declared.node.Kind.TheVariants.{Directory, File}
-use Rattle.fs_layout.specs.declared.entry.Dirent.{Dirent}
-use Rattle.fs_layout.specs.declared.inode.Dinode.{Dinode}
-use Rattle.fs_layout.specs.Widths.{block_len, dirent_len, dirents_per_block}
-use Rattle.image_tree.specs.Checks.{largest_size}
-use Rattle.image_tree.specs.Inodes.{direct, inode_of, is_free, slot_at, numbers_of, block_number}
+use Rattle.image_tree.specs.Checks.{IsData, largest_size}
+use Rattle.image_tree.specs.Inodes.{direct, inode_of, numbers_of}
 use Rattle.image_tree.specs.Damage.{UpToLog}
-use Rattle.image_laws.specs.Holds.{HasContent, HoldsAt, entry_of, IsRecord, HasContentOf, IsOwned}
-use Rattle.image_laws.specs.Puts.{IsUntouched, IsPut, LeavesOthers, PutsContent, IsSlotPut, WouldHold}
+use Rattle.image_laws.specs.Holds.{IsInode, HoldsAt, NamesOwned, entry_of, size_in}
+use Rattle.image_laws.specs.Puts.{IsPut, IsInodePut, IsBitPut, IsBytesPut, IsSlotPut, IsNumberPut, IsUntouched, LeavesOthers, IsLaidOut, IsSpare, slots_with, Becomes, Names, IsTaken, IsGivenBack}
+
+-- ---- what is left
 
 -- An inode that a change of the disk leaves alone holds what it held.
 abbrev pub UntouchedInodesAreKept : Type 0
 UntouchedInodesAreKept =
     (disk new : List (List ℕ)) (owner owner' : ℕ → ℕ) (i : ℕ) (v : Option Node) → IsUntouched disk new owner owner' i → HoldsAt disk owner i v → HoldsAt new owner' i v
 
--- One block that is put leaves what other inodes hold.
+-- A put of an inode's own data block leaves every other one.
 abbrev pub PutsLeaveOthers : Type 0
-PutsLeaveOthers = (disk new : List (List ℕ)) (owner : ℕ → ℕ) (b : ℕ) → UpToLog disk → IsPut disk new b → LeavesOthers disk new owner b
+PutsLeaveOthers =
+    (disk new : List (List ℕ)) (owner : ℕ → ℕ) (i b : ℕ) → UpToLog disk → IsData (sizes_of disk) b → owner b ≡ i → IsPut disk new b → LeavesOthers disk new owner owner i
 
--- A put of an inode's own block changes its content there alone.
-abbrev pub PutsChangeContent : Type 0
-PutsChangeContent =
-    (disk new : List (List ℕ)) (owner : ℕ → ℕ) (j k : ℕ) (v : Option Node) → UpToLog disk → 1 ≤ j → j < (sizes_of disk).ninodes → HoldsAt disk owner j v → is_free (inode_of disk j) ≡ false
-    → block_number (numbers_of disk (inode_of disk j)) k ≢ 0 → IsPut disk new (block_number (numbers_of disk (inode_of disk j)) k) → PutsContent disk new owner j k
+-- So does a put of an inode, those of its block too.
+abbrev pub InodePutsLeaveOthers : Type 0
+InodePutsLeaveOthers =
+    (disk new : List (List ℕ)) (owner : ℕ → ℕ) (i : ℕ) (d : Dinode) → UpToLog disk → i < (sizes_of disk).ninodes → IsInodePut disk new i d → LeavesOthers disk new owner owner i
 
--- A directory's slot that is put is the slot of its node.
-abbrev pub PutSlotsAreHeld : Type 0
-PutSlotsAreHeld =
-    (disk new : List (List ℕ)) (owner : ℕ → ℕ) (j s count : ℕ) (slots : List (Option Slot)) (slot : Option Slot) (entry : Dirent) → UpToLog disk → 1 ≤ j → j < (sizes_of disk).ninodes
-    → HoldsAt disk owner j (Some (record { count = count; kind = Directory slots })) → s < length slots → entry_of slot ≡ Some entry → IsSlotPut disk new j s entry
-    → HoldsAt new owner j (Some (record { count = count; kind = Directory (slice_set slots s slot) }))
+-- What leaves an inode leaves it while it is being changed as well.
+abbrev pub UntouchedChangesAreKept : Type 0
+UntouchedChangesAreKept =
+    (disk new : List (List ℕ)) (owner owner' : ℕ → ℕ) (i : ℕ) (d : Dinode) (v : Node) → IsUntouched disk new owner owner' i → IsLaidOut disk owner i d v → Becomes disk new owner owner' i d d v
 
--- An inode that is put holds what was laid out for it.
-abbrev pub PutInodesAreHeld : Type 0
-PutInodesAreHeld =
-    (disk new : List (List ℕ)) (owner : ℕ → ℕ) (b i : ℕ) (v : Option Node) → IsPut disk new b → b < (sizes_of disk).bmapstart → IsRecord (inode_of new i) v
-    → HasContentOf disk (inode_of new i) v → (is_free (inode_of new i) ≡ false → WouldHold disk owner i (inode_of new i)) → HoldsAt new owner i v
+-- ---- an inode, before it is changed and after
 
--- What the blocks say hangs on an inode's size and its block numbers alone, so a count that changes leaves it.
-abbrev pub CountsLeaveContents : Type 0
-CountsLeaveContents =
-    (disk : List (List ℕ)) (owner : ℕ → ℕ) (i : ℕ) (d : Dinode) (v : Node) (count : ℕ) → HoldsAt disk owner i (Some v) → d.size ≡ (inode_of disk i).size → d.addrs ≡ (inode_of disk i).addrs
-    → HasContentOf disk d (Some (record { count = count; kind = v.kind })) × WouldHold disk owner i d
+abbrev pub HeldNodesAreLaidOut : Type 0
+HeldNodesAreLaidOut =
+    (disk : List (List ℕ)) (owner : ℕ → ℕ) (i : ℕ) (v : Node) → HoldsAt disk owner i (Some v)
+    → IsLaidOut disk owner i (inode_of disk i) v × NamesOwned disk owner i (numbers_of disk (inode_of disk i))
 
--- One more block: an inode that owns it may name it, and may grow over it.
-abbrev pub BlocksCanBeAdded : Type 0
-BlocksCanBeAdded =
-    (disk : List (List ℕ)) (owner : ℕ → ℕ) (i p b : ℕ) (d e : Dinode) → WouldHold disk owner i d → IsOwned disk owner i b → All (λ c. c ≢ b) (numbers_of disk d)
-    → p < length (numbers_of disk d) → numbers_of disk e ≡ slice_set (numbers_of disk d) p b → e.size ≤ largest_size
-    → ((k : ℕ) → block_len * k < e.size → (block_len * k < d.size) ⊎ ((if nat_lt k direct then k else k + 1) ≡ p)) → WouldHold disk owner i e
+abbrev pub PutNodesAreHeld : Type 0
+PutNodesAreHeld =
+    (disk new : List (List ℕ)) (owner : ℕ → ℕ) (i : ℕ) (d : Dinode) (v : Node) → UpToLog disk → i < (sizes_of disk).ninodes → IsInodePut disk new i d → IsLaidOut disk owner i d v
+    → NamesOwned disk owner i (numbers_of disk d) → HoldsAt new owner i (Some v)
 
--- A slot behind a directory's last, in a block that it has, may be put before the directory grows over it.
-abbrev pub SlotsCanBePutBehind : Type 0
-SlotsCanBePutBehind =
-    (disk new : List (List ℕ)) (owner : ℕ → ℕ) (j s count : ℕ) (slots : List (Option Slot)) (entry : Dirent) → UpToLog disk → 1 ≤ j → j < (sizes_of disk).ninodes
-    → HoldsAt disk owner j (Some (record { count = count; kind = Directory slots })) → length slots ≤ s
-    → block_number (numbers_of disk (inode_of disk j)) (s / dirents_per_block) ≢ 0 → IsSlotPut disk new j s entry
-    → HoldsAt new owner j (Some (record { count = count; kind = Directory slots })) × (slot_at new (inode_of disk j) s ≡ Some entry)
+-- one that is put free, once it owns no block
+abbrev pub FreedInodesAreHeld : Type 0
+FreedInodesAreHeld =
+    (disk new : List (List ℕ)) (owner : ℕ → ℕ) (i : ℕ) (d : Dinode) → IsInodePut disk new i d → d.kind ≡ pos 0 → NamesOwned disk owner i []
+    → HoldsAt new owner i None
 
--- and then it grows by that slot.
-abbrev pub DirectoriesCanGrow : Type 0
-DirectoriesCanGrow =
-    (disk : List (List ℕ)) (owner : ℕ → ℕ) (i count : ℕ) (slots : List (Option Slot)) (slot : Option Slot) (e : Dinode)
-    → HoldsAt disk owner i (Some (record { count = count; kind = Directory slots })) → slot_at disk (inode_of disk i) (length slots) ≡ entry_of slot
-    → e.size ≡ (inode_of disk i).size + dirent_len → e.addrs ≡ (inode_of disk i).addrs → HasContent disk e (Directory (slots ++ slot ∷ []))
+-- one that nothing refers to any more
+abbrev pub DeadNodesMayGo : Type 0
+DeadNodesMayGo = (disk : List (List ℕ)) (owner : ℕ → ℕ) (i : ℕ) (v : Node) → HoldsAt disk owner i (Some v) → v.count ≡ 0 → HoldsAt disk owner i None
 
--- Bytes of a file that are put are bytes of its node.
-abbrev pub PutBytesAreHeld : Type 0
-PutBytesAreHeld =
-    (disk new : List (List ℕ)) (owner : ℕ → ℕ) (j k at count : ℕ) (bytes written : List ℕ) → HasWholeBlocks disk → UpToLog disk → 1 ≤ j → j < (sizes_of disk).ninodes
-    → HoldsAt disk owner j (Some (record { count = count; kind = File bytes })) → at + length written ≤ block_len → block_len * k + at + length written ≤ length bytes → block_len * k < length bytes
-    → IsPut disk new (block_number (numbers_of disk (inode_of disk j)) k)
-    → recovered new (block_number (numbers_of disk (inode_of disk j)) k) ≡ overwrite (recovered disk (block_number (numbers_of disk (inode_of disk j)) k)) at written
-    → HoldsAt new owner j (Some (record { count = count; kind = File (overwrite bytes (block_len * k + at) written) }))
+-- ---- a node's change, put by put
+
+-- Another count.
+abbrev pub CountsCanChange : Type 0
+CountsCanChange =
+    (disk : List (List ℕ)) (owner : ℕ → ℕ) (i count : ℕ) (d : Dinode) (v : Node) → IsLaidOut disk owner i d v
+    → Becomes disk disk owner owner i d (record d { nlink = pos count }) (record v { count = count })
+
+-- Nothing in it: a new node, or an emptied one.
+abbrev pub EmptyInodesAreLaidOut : Type 0
+EmptyInodesAreLaidOut =
+    (disk : List (List ℕ)) (owner : ℕ → ℕ) (i : ℕ) (d : Dinode) (v : Node) → IsInode d v → size_in v.kind ≡ 0 → All (λ b. b ≡ 0) d.addrs
+    → IsLaidOut disk owner i d v × (NamesOwned disk owner i [] → NamesOwned disk owner i (numbers_of disk d))
+
+-- Bytes of a file, within its size or from it on.
+abbrev pub BytesCanBePut : Type 0
+BytesCanBePut =
+    (disk new : List (List ℕ)) (owner : ℕ → ℕ) (i k at count : ℕ) (bytes written : List ℕ) (d : Dinode) → HasWholeBlocks disk → UpToLog disk
+    → IsLaidOut disk owner i d (record { count = count; kind = File bytes }) → IsBytesPut disk new d k at written → block_len * k + at ≤ length bytes
+    → block_len * k + at + length written ≤ largest_size
+    → Becomes disk new owner owner i d (record d { size = max d.size (block_len * k + at + length written) })
+    (record { count = count; kind = File (overwrite bytes (block_len * k + at) written) })
+
+-- A slot of a directory, or one more behind its last.
+abbrev pub SlotsCanBePut : Type 0
+SlotsCanBePut =
+    (disk new : List (List ℕ)) (owner : ℕ → ℕ) (i s count : ℕ) (slots : List (Option Slot)) (slot : Option Slot) (entry : Dirent) (d : Dinode)
+    → IsLaidOut disk owner i d (record { count = count; kind = Directory slots }) → s ≤ length slots → dirent_len * suc s ≤ largest_size → entry_of slot ≡ Some entry → IsSlotPut disk new d s entry
+    → Becomes disk new owner owner i d (record d { size = max d.size (dirent_len * suc s) }) (record { count = count; kind = Directory (slots_with slots s slot) })
+
+-- A spare block, as with zeros.
+abbrev pub SparesCanBePut : Type 0
+SparesCanBePut =
+    (disk new : List (List ℕ)) (owner : ℕ → ℕ) (i b : ℕ) (d : Dinode) (v : Node) → IsLaidOut disk owner i d v → IsSpare disk owner i d b → IsPut disk new b → Becomes disk new owner owner i d d v
+
+-- One more block in the inode itself.
+abbrev pub DirectNumbersCanBeSet : Type 0
+DirectNumbersCanBeSet =
+    (disk : List (List ℕ)) (owner : ℕ → ℕ) (i place b : ℕ) (d : Dinode) (v : Node) → IsLaidOut disk owner i d v → place < direct → place < length d.addrs → slice_index d.addrs place ≡ 0
+    → IsSpare disk owner i d b → Names disk disk owner i b d (record d { addrs = slice_set d.addrs place b }) v
+
+-- A table for further ones: a block of zeros.
+abbrev pub TablesCanBeSet : Type 0
+TablesCanBeSet =
+    (disk : List (List ℕ)) (owner : ℕ → ℕ) (i b : ℕ) (d : Dinode) (v : Node) → IsLaidOut disk owner i d v → direct < length d.addrs → slice_index d.addrs direct ≡ 0
+    → IsSpare disk owner i d b → recovered disk b ≡ replicate block_len 0 → Names disk disk owner i b d (record d { addrs = slice_set d.addrs direct b }) v
+
+-- One more block in the table.
+abbrev pub NumbersCanBePut : Type 0
+NumbersCanBePut =
+    (disk new : List (List ℕ)) (owner : ℕ → ℕ) (i place b : ℕ) (d : Dinode) (v : Node) → IsLaidOut disk owner i d v → length d.addrs ≡ suc direct → place < numbers_per_block
+    → slice_index (numbers_of disk d) (suc direct + place) ≡ 0 → IsSpare disk owner i d b → IsNumberPut disk new d place b → Names disk new owner i b d d v
+
+-- ---- whose the blocks are
+
+abbrev pub BlocksCanBeTaken : Type 0
+BlocksCanBeTaken =
+    (disk new : List (List ℕ)) (owner : ℕ → ℕ) (i b : ℕ) → UpToLog disk → i ≢ 0 → IsData (sizes_of disk) b → owner b ≡ 0 → IsBitPut disk new b true → IsTaken disk new owner i b
+
+abbrev pub BlocksCanBeGivenBack : Type 0
+BlocksCanBeGivenBack =
+    (disk new : List (List ℕ)) (owner : ℕ → ℕ) (i b : ℕ) → UpToLog disk → i ≢ 0 → IsData (sizes_of disk) b → owner b ≡ i → IsBitPut disk new b false → IsGivenBack disk new owner i b
+
+-- A number that names no block is owed nothing.
+abbrev pub NoBlockIsOwed : Type 0
+NoBlockIsOwed = (disk : List (List ℕ)) (owner : ℕ → ℕ) (i : ℕ) (numbers : List ℕ) → NamesOwned disk owner i (0 ∷ numbers) → NamesOwned disk owner i numbers

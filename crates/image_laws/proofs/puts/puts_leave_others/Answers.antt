@@ -1,5 +1,5 @@
-use Rattle.image_laws.proofs.HeldPuts.{leaves_others}
+use Rattle.image_laws.proofs.HeldPuts.{data_leaves}
 use Rattle.image_laws.proofs.puts.puts_leave_others.Goals as goal
 
 pub returns : goal.returns
-returns c = λ disk new owner b front put. leaves_others disk new owner b front put
+returns c = λ disk new owner i b front this own put. data_leaves disk new owner i b front this own put
