@@ -12,7 +12,7 @@ use Rattle.image_tree.specs.Inodes.{inode_of, numbers_of}
 use Rattle.image_tree.specs.Checks.{IsData, is_marked}
 use Rattle.image_tree.specs.Damage.{UpToLog}
 use Rattle.tree_laws.proofs.Maps.{same_or, eq_self, eq_not, put_same, put_other}
-use Rattle.image_laws.specs.Holds.{NamesOwned, MarksBlocks}
+use Rattle.image_laws.specs.Holds.{NamesOwned, MarksBlocks, MarksNoOthers}
 use Rattle.image_laws.specs.Puts.{IsPut, IsInodePut, IsBitPut, inode_block, IsUntouched, LeavesOthers, IsLaidOut, IsSpare, Becomes, IsTaken, IsGivenBack}
 use Rattle.image_laws.proofs.HeldFrames.{laid_kept, system_put}
 
@@ -39,6 +39,12 @@ module _ (disk new : List (List ℕ)) (b : ℕ) (put : IsPut disk new b) where
     owned = λ c block own. same_bit ne c ∙ marks.owned c (subst (λ (s : Super). IsData s c) put.sizes block) own;
   }
 
+  others_kept : (owner : ℕ → ℕ) → b ≢ (sizes_of disk).bmapstart → (left : ℕ → Bool) → MarksNoOthers disk owner left → MarksNoOthers new owner left
+  others_kept owner ne left marks = record {
+    free = λ c block own. same_bit ne c ∙ marks.free c (subst (λ (s : Super). IsData s c) put.sizes block) own;
+    apart = marks.apart;
+  }
+
 -- ---- a data block
 
 pub data_leaves : (disk new : List (List ℕ)) (owner : ℕ → ℕ) (i b : ℕ) → UpToLog disk → IsData (sizes_of disk) b → owner b ≡ i → IsPut disk new b → LeavesOthers disk new owner owner i
@@ -52,6 +58,7 @@ data_leaves disk new owner i b front this own put =
         alone = λ c block is. is;
       };
       bits = marks_kept disk new b put owner (λ e. absurd (omega (arith, e, past)));
+      no_others = others_kept disk new b put owner (λ e. absurd (omega (arith, e, past)));
     }
 
 -- ---- an inode
@@ -84,6 +91,7 @@ inode_leaves disk new owner i d front bound put =
         alone = λ c block is. is;
       };
       bits = marks_kept disk new (inode_block disk i) put.block owner (λ e. absurd (omega (arith, e, before)));
+      no_others = others_kept disk new (inode_block disk i) put.block owner (λ e. absurd (omega (arith, e, before)));
     }
 
 -- ---- the bitmap
@@ -120,6 +128,28 @@ module _ (disk new : List (List ℕ)) (owner : ℕ → ℕ) (i b : ℕ) (front :
           other_bit value put' c ne ∙ marks.owned c (subst (λ (s : Super). IsData s c) put'.block.sizes block) (λ z. own (put_other owner b j c ne ∙ z))
     ];
   }
+
+  -- and no other bits, where its own is set just while it has an owner and it is none of those left over
+  no_others_then : (value : Bool) (j : ℕ) → IsBitPut disk new b value → (j ≡ 0 → value ≡ false) → (left : ℕ → Bool) → left b ≡ false → MarksNoOthers disk owner left
+      → MarksNoOthers new (put owner b j) left
+  no_others_then value j put' clear left spare marks = record {
+    free = λ c block own. elim (same_or c b) [
+      | inl e ↦ ap (is_marked new) e ∙ own_bit value put' ∙ clear (sym (ap (put owner b j) e ∙ put_same owner b j) ∙ own) ∙ sym (ap left e ∙ spare)
+      | inr ne ↦
+          other_bit value put' c ne ∙ marks.free c (subst (λ (s : Super). IsData s c) put'.block.sizes block) (sym (put_other owner b j c ne) ∙ own)
+    ];
+    apart = λ c own. elim (same_or c b) [
+      | inl e ↦ ap left e ∙ spare
+      | inr ne ↦ marks.apart c (λ z. own (put_other owner b j c ne ∙ z))
+    ];
+  }
+
+  -- a clear bit's block has no owner
+  unmarked_free : MarksBlocks disk owner → is_marked disk b ≡ false → owner b ≡ 0
+  unmarked_free marks clear = elim (same_or (owner b) 0) [
+    | inl is ↦ is
+    | inr ne ↦ absurd (let q : false ≡ true = sym clear ∙ marks.owned b this ne in cc)
+  ]
 
   inodes_then : (value : Bool) (j g : ℕ) → IsBitPut disk new b value → 1 ≤ g → g < (sizes_of disk).ninodes → owner b ≢ g → j ≢ g → IsUntouched disk new owner (put owner b j) g
   inodes_then value j g put' low bound was now = record {
@@ -169,11 +199,12 @@ module _ (disk new : List (List ℕ)) (owner : ℕ → ℕ) (i b : ℕ) (front :
     taken_more : NamesOwned disk owner i (numbers_of disk d) → NamesOwned new (put owner b i) i (b ∷ numbers_of new d)
     taken_more named = taken_named put' (numbers_of new d) (subst (NamesOwned disk owner i) (sym before.numbers) named)
 
-  pub taken : owner b ≡ 0 → IsBitPut disk new b true → IsTaken disk new owner i b
-  taken free put' = record {
+  pub taken : MarksBlocks disk owner → is_marked disk b ≡ false → IsBitPut disk new b true → IsTaken disk new owner i b
+  taken marks clear put' = let free : owner b ≡ 0 = unmarked_free marks clear in record {
     left = record {
       inodes = λ j low bound ne. inodes_then true i j put' low bound (λ e. absurd (omega (arith, e, free, low))) (λ e. ne (sym e));
       bits = bits_then true i put' (λ _. refl);
+      no_others = λ left others. no_others_then true i put' (λ z. absurd (some z)) left (sym (others.free b this free) ∙ clear) others;
     };
     laid = taken_laid put'.block free;
     spare = taken_spare put'.block free;
@@ -185,6 +216,7 @@ module _ (disk new : List (List ℕ)) (owner : ℕ → ℕ) (i b : ℕ) (front :
     left = record {
       inodes = λ j low bound ne. inodes_then false 0 j put' low bound (λ e. ne (sym e ∙ own)) (λ e. absurd (omega (arith, e, low)));
       bits = bits_then false 0 put' (λ ne. absurd (ne refl));
+      no_others = λ left others. no_others_then false 0 put' (λ _. refl) left (others.apart b (λ z. some (sym own ∙ z))) others;
     };
     named = λ numbers named c block is. elim (same_or c b) [
       | inl e ↦ absurd (some (sym is ∙ ap (put owner b 0) e ∙ put_same owner b 0))

@@ -22,3 +22,4 @@ pub mod LaidContent
 pub mod LaidSlots
 pub mod LaidBytes
 pub mod LaidNumbers
+pub mod RunningBlocks

@@ -2,7 +2,7 @@
 -- they stand.
 --   nodes   by number: the live ones, and the dead ones (count 0) that something still refers to
 --   owner   by block: the inode that names it, 0 for none
-use Rattle.std.specs.Prelude.{◌≡◌, ◌≢◌, ℕ, zero, suc, ◌*◌, ◌<◌, ◌≤◌, ◌≤ℤ◌, pos, true, false, List, [], ◌∷◌, ◌++◌, length, map, All, Contains, Option, Some, None, if◌then◌else◌, nat_lt}
+use Rattle.std.specs.Prelude.{◌≡◌, ◌≢◌, ℕ, zero, suc, ◌*◌, ◌<◌, ◌≤◌, ◌≤ℤ◌, pos, Bool, true, false, List, [], ◌∷◌, ◌++◌, length, map, All, Contains, Option, Some, None, if◌then◌else◌, nat_lt}
 use Rattle.fs_layout.specs.declared.inode.Dinode.{Dinode}
 use Rattle.fs_layout.specs.declared.entry.Dirent.{Dirent}
 use Rattle.fs_layout.specs.declared.entry.Dirent.TheVariants.{Free, Used}
@@ -106,6 +106,11 @@ pub record HoldsAt (disk : List (List ℕ)) (owner : ℕ → ℕ) (i : ℕ) (v :
 pub record MarksBlocks (disk : List (List ℕ)) (owner : ℕ → ℕ) : Type 0 where
   pub front : (b : ℕ) → b ≤ (sizes_of disk).bmapstart → is_marked disk b ≡ true
   pub owned : (b : ℕ) → IsData (sizes_of disk) b → owner b ≢ 0 → is_marked disk b ≡ true
+
+-- no others of the data blocks, but for these: bits that an image had set and nothing named
+pub record MarksNoOthers (disk : List (List ℕ)) (owner : ℕ → ℕ) (left : ℕ → Bool) : Type 0 where
+  pub free : (b : ℕ) → IsData (sizes_of disk) b → owner b ≡ 0 → is_marked disk b ≡ left b
+  pub apart : (b : ℕ) → owner b ≢ 0 → left b ≡ false
 
 -- ---- all of it
 

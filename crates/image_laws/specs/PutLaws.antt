@@ -9,10 +9,10 @@ use Rattle.fs_layout.specs.declared.inode.Dinode.{Dinode}
 use Rattle.plain_tree.specs.declared.node.Node.{Node}
 use Rattle.plain_tree.specs.declared.node.Slot.{Slot}
 use Rattle.plain_tree.specs.declared.node.Kind.TheVariants.{Directory, File}
-use Rattle.image_tree.specs.Checks.{IsData, largest_size}
+use Rattle.image_tree.specs.Checks.{IsData, is_marked, largest_size}
 use Rattle.image_tree.specs.Inodes.{direct, inode_of, numbers_of}
 use Rattle.image_tree.specs.Damage.{UpToLog}
-use Rattle.image_laws.specs.Holds.{IsInode, HoldsAt, NamesOwned, entry_of, size_in}
+use Rattle.image_laws.specs.Holds.{IsInode, HoldsAt, NamesOwned, MarksBlocks, entry_of, size_in}
 use Rattle.image_laws.specs.Puts.{IsPut, IsInodePut, IsBitPut, IsBytesPut, IsSlotPut, IsNumberPut, IsUntouched, LeavesOthers, IsLaidOut, IsSpare, slots_with, Becomes, Names, IsTaken, IsGivenBack}
 
 -- ---- what is left
@@ -114,9 +114,11 @@ NumbersCanBePut =
 
 -- ---- whose the blocks are
 
+-- A block whose bit is clear has no owner, and may be taken.
 abbrev pub BlocksCanBeTaken : Type 0
 BlocksCanBeTaken =
-    (disk new : List (List ℕ)) (owner : ℕ → ℕ) (i b : ℕ) → UpToLog disk → i ≢ 0 → IsData (sizes_of disk) b → owner b ≡ 0 → IsBitPut disk new b true → IsTaken disk new owner i b
+    (disk new : List (List ℕ)) (owner : ℕ → ℕ) (i b : ℕ) → UpToLog disk → MarksBlocks disk owner → i ≢ 0 → IsData (sizes_of disk) b → is_marked disk b ≡ false → IsBitPut disk new b true
+    → IsTaken disk new owner i b
 
 abbrev pub BlocksCanBeGivenBack : Type 0
 BlocksCanBeGivenBack =

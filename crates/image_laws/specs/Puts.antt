@@ -14,7 +14,7 @@ use Rattle.plain_tree.specs.Tree.{put}
 use Rattle.image_tree.specs.Lists.{IsOnce}
 use Rattle.image_tree.specs.Inodes.{direct, inode_of, is_block, numbers_of, block_number}
 use Rattle.image_tree.specs.Checks.{IsData, is_marked}
-use Rattle.image_laws.specs.Holds.{HasContent, HasRoom, IsInode, IsOwned, NamesOwned, MarksBlocks}
+use Rattle.image_laws.specs.Holds.{HasContent, HasRoom, IsInode, IsOwned, NamesOwned, MarksBlocks, MarksNoOthers}
 
 -- ---- what is put
 
@@ -75,6 +75,7 @@ pub record IsUntouched (disk new : List (List ℕ)) (owner owner' : ℕ → ℕ)
 pub record LeavesOthers (disk new : List (List ℕ)) (owner owner' : ℕ → ℕ) (i : ℕ) : Type 0 where
   pub inodes : (j : ℕ) → 1 ≤ j → j < (sizes_of disk).ninodes → j ≢ i → IsUntouched disk new owner owner' j
   pub bits : MarksBlocks disk owner → MarksBlocks new owner'
+  pub no_others : (left : ℕ → Bool) → MarksNoOthers disk owner left → MarksNoOthers new owner' left
 
 -- ---- an inode that is being changed
 
