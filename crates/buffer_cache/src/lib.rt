@@ -14,8 +14,6 @@ mod cache;
 mod got;
 mod limits;
 mod seat;
-#[cfg(test)]
-mod tests;
 
 pub use buffer::Buffer;
 pub use buffers::Buffers;

@@ -9,17 +9,11 @@ mod run;
 mod script;
 mod single;
 mod start;
-#[cfg(test)]
-mod start_tests;
 mod stop;
-#[cfg(test)]
-mod tests;
 mod text;
-#[cfg(test)]
-mod text_tests;
 
 pub use crate::command_line::{IMAGE, options};
 pub use crate::fault::{ConsoleFault, status};
-pub use crate::run::{Mode, run_script};
+pub use crate::run::{Mode, run_on, run_script};
 pub use crate::single::Single;
 pub use crate::stop::{SingleFault, Stop};

@@ -65,12 +65,27 @@ pub fn run_script<R: Read + Drop, W: Write>(
         Ok(single) => single,
         Err((_, fault)) => return Err(ConsoleFault::from(fault)),
     };
+    run_on(alloc, &mut single, mode, script, out)?;
+    Ok(single.into_device())
+}
+
+/// Runs a script on a file system that is mounted. Answers are written as they come, and none where a line is bad. After
+/// a fault the file system is as the calls before have left it.
+pub fn run_on<D: Device, R: Read + Drop, W: Write>(
+    alloc: Global,
+    single: &mut Single<D>,
+    mode: Mode,
+    script: R,
+    out: &mut W,
+) -> Result<(), ConsoleFault>
+    ensures contents { D.contents single.new.device ≡ D.contents single.old.device }
+    ensures judges { IfErr result (λ fault. (disk : List (List ℕ)) → JudgesImage disk fault) }
+{
     let text = read_script(alloc, script)?;
     let commands = parse(alloc, text.as_slice())?;
     match mode {
-        Mode::Listed => run_commands(alloc, &mut single, commands, out)?,
+        Mode::Listed => run_commands(alloc, single, commands, out),
     }
-    Ok(single.into_device())
 }
 
 fn read_script<R: Read + Drop>(alloc: Global, script: R) -> Result<Vec<u8>, ConsoleFault>

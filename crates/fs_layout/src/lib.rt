@@ -11,8 +11,6 @@ mod log_head;
 mod name;
 mod recovered;
 mod superblock;
-#[cfg(test)]
-mod tests;
 pub mod widths;
 
 pub use crate::bitmap::{bit, clear_bit, set_bit};

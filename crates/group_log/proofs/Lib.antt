@@ -13,4 +13,3 @@ pub mod Cuts
 pub mod Moving
 pub mod Stories
 pub mod Fresh
-pub mod Heads

@@ -14,8 +14,6 @@ mod log;
 mod marks;
 mod members;
 mod phase;
-#[cfg(test)]
-mod tests;
 mod txn;
 
 pub use commit::Progress;

@@ -34,8 +34,3 @@ pub use crate::recovery::{images_are_seen_recovered, recover};
 pub use crate::shape::Shape;
 pub use crate::sizes::block_number;
 pub use crate::trees::tree_of;
-
-#[cfg(test)]
-mod recovery_tests;
-#[cfg(test)]
-mod tests;

@@ -9,8 +9,6 @@ mod made;
 mod nodes;
 mod parts;
 mod refused;
-#[cfg(test)]
-mod tests;
 pub mod widths;
 
 pub use crate::command_line::{FILES, IMAGE, INODES, SIZE, number, options};

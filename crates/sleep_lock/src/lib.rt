@@ -7,8 +7,6 @@
 
 mod row;
 mod slot;
-#[cfg(test)]
-mod tests;
 
 pub use row::{RetiredSlots, Slots};
 pub use slot::{Guard, Retired, Slot};

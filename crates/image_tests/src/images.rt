@@ -1,14 +1,14 @@
 //! Images made by hand, byte by byte, and what their examination answers.
 ghost use Rattle.std.specs.Prelude.{◌<◌};
 
-use crate::{MountFault, Shape};
 use block_device::{Device, Fused, MemoryDisk};
+use image_tree::{MountFault, Shape};
 use plain_tree::{Kind, Slot, Tree};
 use std::alloc::{AllocError, Global};
 use std::test::Fail;
 
 // Bytes to write at a place of an image.
-pub(crate) type Change = (usize, &'static [u8]);
+pub type Change = (usize, &'static [u8]);
 
 fn put(image: &mut [u8], at: usize, bytes: &[u8]) {
     for i in 0..bytes.len() {
@@ -53,17 +53,17 @@ const SMALL: [Change; 5] = [
 ];
 
 // Examines an image, once more where memory was refused: that changed nothing, so the answer is the same.
-pub(crate) fn examine<D: Device>(alloc: Global, device: &mut D) -> Result<Shape, MountFault> {
-    match crate::examine(alloc, device) {
-        Err(MountFault::NoMemory) => crate::examine(alloc, device),
+pub fn examine<D: Device>(alloc: Global, device: &mut D) -> Result<Shape, MountFault> {
+    match image_tree::examine(alloc, device) {
+        Err(MountFault::NoMemory) => image_tree::examine(alloc, device),
         examined => examined,
     }
 }
 
 // Makes an image's tree, once more where memory was refused.
 fn tree_of<D: Device>(alloc: Global, device: &mut D) -> Result<Tree, MountFault> {
-    match crate::tree_of(alloc, device) {
-        Err(MountFault::NoMemory) => crate::tree_of(alloc, device),
+    match image_tree::tree_of(alloc, device) {
+        Err(MountFault::NoMemory) => image_tree::tree_of(alloc, device),
         tree => tree,
     }
 }
@@ -76,7 +76,7 @@ fn answer(outcome: &Result<Shape, MountFault>) -> u8 {
     }
 }
 
-pub(crate) fn fresh(alloc: Global, changes: &[Change]) -> Result<MemoryDisk, AllocError> {
+pub fn fresh(alloc: Global, changes: &[Change]) -> Result<MemoryDisk, AllocError> {
     let mut image = with(alloc, 2000, &FRESH)?;
     for change in changes {
         put(&mut image, change.0, change.1);
@@ -432,7 +432,7 @@ fn trees_have_what_the_image_has(rt: HostRuntime) -> Result<(), Fail> {
 fn refused_memory_changes_nothing(rt: HostRuntime) -> Result<(), Fail> {
     let image = with(rt.alloc(), 64, &RICH)?;
     let mut disk = MemoryDisk::new(with(rt.alloc(), 64, &RICH)?);
-    let number = match crate::tree_of(rt.alloc(), &mut disk) {
+    let number = match image_tree::tree_of(rt.alloc(), &mut disk) {
         Ok(_) => 0,
         Err(fault) => fault.number(),
     };

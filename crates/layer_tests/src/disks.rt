@@ -1,8 +1,8 @@
-//! What no clause says: that these sizes are the right ones, and that the calls can succeed.
+//! Disks in memory: what a write leaves of the other bytes, and how many calls a fuse passes.
 ghost use Rattle.std.specs.Prelude.{◌≡◌, ◌<◌, length, IfOk};
 ghost use Rattle.block_device.specs.Blocks.{faults_after};
 
-use crate::{BLOCK_SIZE, Device, Fault, Fused, MemoryDisk};
+use block_device::{BLOCK_SIZE, Device, Fault, Fused, MemoryDisk};
 use std::alloc::{AllocError, Global};
 use std::test::Fail;
 
@@ -29,24 +29,6 @@ fn counted(alloc: Global, len: usize) -> Result<Vec<u8>, AllocError> {
         bytes.push((i % 251) as u8)?;
     }
     Ok(bytes)
-}
-
-#[test]
-fn counts_whole_blocks(rt: HostRuntime) -> Result<(), Fail> {
-    for (len, blocks) in [
-        (0, 0),
-        (1023, 0),
-        (1024, 1),
-        (1025, 1),
-        (2047, 1),
-        (2048, 2),
-        (2500, 2),
-    ] {
-        let disk = MemoryDisk::new(vec![in rt.alloc(); 0; len]?);
-        assert_eq!(rt; disk.blocks(), blocks, "of {len} bytes");
-        assert_eq!(rt; disk.faults(), 0);
-    }
-    Ok(())
 }
 
 #[test]
@@ -94,18 +76,5 @@ fn passes_as_many_calls_as_the_fuse(rt: HostRuntime) -> Result<(), Fail> {
             assert_eq!(rt; byte, want, "byte {i} of fuse {k}");
         }
     }
-    Ok(())
-}
-
-#[test]
-fn faults_stay_at_their_greatest(rt: HostRuntime) -> Result<(), Fail> {
-    let mut disk = Fused::worn(MemoryDisk::new(vec![in rt.alloc(); 0; 1024]?), u64::MAX - 1);
-    let mut bytes = [9; BLOCK_SIZE];
-    for faults in [u64::MAX, u64::MAX, u64::MAX] {
-        assert!(rt; 0 < disk.blocks());
-        assert_eq!(rt; disk.read(0, &mut bytes), Err(Fault));
-        assert_eq!(rt; disk.faults(), faults);
-    }
-    assert_eq!(rt; bytes, [9; BLOCK_SIZE]);
     Ok(())
 }

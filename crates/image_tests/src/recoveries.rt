@@ -1,7 +1,7 @@
 //! Recovery that is stopped at each call of the device in turn.
-use crate::tests::{examine, fresh};
-use crate::{Damage, MountFault, Shape, recover};
+use crate::images::{examine, fresh};
 use block_device::{Fused, MemoryDisk};
+use image_tree::{Damage, MountFault, Shape, recover};
 use std::alloc::{AllocError, Global};
 use std::test::Fail;
 

@@ -1,5 +1,5 @@
 use Rattle.std.proofs.Common.{◌≡◌, length}
-use Rattle.sleep_lock.proofs.tests.fifty.Given as goal
+use Rattle.layer_tests.proofs.locks.fifty.Given as goal
 
 abbrev pub invariant-loop-number : goal.invariant-loop-number
 invariant-loop-number l = length l.values.items ≡ l.number

@@ -1,6 +1,10 @@
 //! Bytes of images made elsewhere, read and written.
-use crate::widths::{BLOCK_LEN, Block, NAME_LEN};
-use crate::*;
+use fs_layout::widths::{BLOCK_LEN, Block, NAME_LEN};
+use fs_layout::{
+    Dinode, Dirent, Name, Super, bit, clear_bit, read_dinode, read_dirent, read_log_head,
+    read_number, read_numbers, read_super, set_bit, write_dinode, write_dirent, write_log_head,
+    write_number, write_numbers, write_super,
+};
 
 /// The superblock of a fresh disk of 2000 blocks.
 const SUPERBLOCK: [u8; 32] = [

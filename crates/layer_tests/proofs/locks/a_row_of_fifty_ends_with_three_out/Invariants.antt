@@ -1,6 +1,6 @@
 use Rattle.std.proofs.Common.{◌≡◌, length}
 use Rattle.sleep_lock.specs.Row.{IsNumbered}
-use Rattle.sleep_lock.proofs.tests.a_row_of_fifty_ends_with_three_out.Given as goal
+use Rattle.layer_tests.proofs.locks.a_row_of_fifty_ends_with_three_out.Given as goal
 
 abbrev pub invariant-loop-number : goal.invariant-loop-number
 invariant-loop-number g l = record { count : length l.row ≡ 50; numbered : IsNumbered l.row }

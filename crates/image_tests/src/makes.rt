@@ -2,10 +2,10 @@
 ghost use Rattle.std.specs.Prelude.{codes, IfOk};
 ghost use Rattle.mkfs.specs.Options.{HasNumber};
 
-use crate::{INODES, MakeRefused, SIZE, number, options};
 use block_device::MemoryDisk;
 use clap::error::ErrorKind;
 use clap::{ArgMatches, Error};
+use mkfs::{INODES, MakeRefused, SIZE, number, options};
 use std::alloc::{AllocError, Global};
 use std::test::Fail;
 
@@ -40,8 +40,8 @@ fn make(
     ninodes: u32,
     files: &[(Vec<u8>, Vec<u8>)],
 ) -> Result<MemoryDisk, MakeRefused> {
-    match crate::make(alloc, size, ninodes, files) {
-        Err(MakeRefused::NoMemory) => crate::make(alloc, size, ninodes, files),
+    match mkfs::make(alloc, size, ninodes, files) {
+        Err(MakeRefused::NoMemory) => mkfs::make(alloc, size, ninodes, files),
         made => made,
     }
 }

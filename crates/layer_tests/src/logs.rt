@@ -1,15 +1,14 @@
-//! A log over disks in memory: who waits, what a commit writes, and what a fault leaves.
-ghost use Rattle.std.specs.Prelude.{◌≡◌, ◌<◌, [], length, IfOk, OnOk};
-ghost use Rattle.fs_layout.specs.Bytes.{u32_at};
-ghost use Rattle.fs_layout.specs.Recovered.{block_at, logged, sizes_of};
-ghost use Rattle.fs_layout.specs.Widths.{magic, super_block, super_magic_at};
+//! A log over disks in memory: who waits, what a commit writes, and what a recovery makes of a fault.
+ghost use Rattle.std.specs.Prelude.{◌≡◌, [], IfOk};
+ghost use Rattle.fs_layout.specs.Recovered.{logged};
 ghost use Rattle.group_log.specs.Soundness.{IsPlaced};
 
-use crate::{Left, Log, Phase, Progress, Txn};
 use arrayvec::ArrayVec;
 use block_device::{BLOCK_SIZE, Device, Fault, Fused, MemoryDisk};
 use buffer_cache::{BUFFERS_OF_A_HART, Buffers, Cache, Got, HARTS};
-use fs_layout::{Super, read_log_head, read_super, write_super};
+use fs_layout::{Super, write_super};
+use group_log::{Left, Log, Phase, Progress, Txn};
+use image_tree::{MountFault, find_layout, recover};
 use std::alloc::{AllocError, Global};
 use std::process::Abort;
 use std::test::Fail;
@@ -75,77 +74,22 @@ impl Device for Watched {
     }
 }
 
-// Reads a block.
-fn read<D: Device>(device: &mut D, b: u32) -> Result<[u8; BLOCK_SIZE], Fault>
-    requires { b < length (D.contents device.old) }
-    ensures read { IfOk result (λ block. block ≡ block_at (D.contents device.old) b) }
-    ensures contents { D.contents device.new ≡ D.contents device.old }
-{
-    let mut block = [0; BLOCK_SIZE];
-    device.read(b, &mut block)?;
-    Ok(block)
-}
-
-// Where the parts of a disk lie.
-fn sizes_in<D: Device>(device: &mut D) -> Result<Super, Fault>
-    requires { 1 < length (D.contents device.old) }
-    ensures sizes { IfOk result (λ sizes. sizes_of (D.contents device.old) ≡ sizes) }
-    ensures magic { OnOk result (u32_at (block_at (D.contents device.old) super_block) super_magic_at ≡ magic) }
-    ensures contents { D.contents device.new ≡ D.contents device.old }
-{
-    let block = read(device, 1)?;
-    match read_super(&block) {
-        Some(sizes) => Ok(sizes),
-        None => Err(Fault),
-    }
-}
-
-// Fails where the log isn't empty.
-fn check_log<D: Device>(device: &mut D, logstart: u32) -> Result<(), Fault>
-    requires within { logstart < length (D.contents device.old) }
-    requires sizes { (sizes_of (D.contents device.old)).logstart ≡ logstart }
-    ensures empty { OnOk result (logged (D.contents device.old) ≡ []) }
-    ensures contents { D.contents device.new ≡ D.contents device.old }
-{
-    let block = read(device, logstart)?;
-    match read_log_head(&block) {
-        Some(head) => if head.blocks.is_empty() {
-            Ok(())
-        } else {
-            Err(Fault)
-        },
-        None => Err(Fault),
-    }
-}
-
-// Where the parts of a disk lie whose log is empty.
-fn parts<D: Device>(device: &mut D) -> Result<Super, Fault>
+// Where the parts of a disk lie, once it was recovered.
+fn recovered<D: Device>(device: &mut D) -> Result<Super, MountFault>
     ensures place { IfOk result (λ sizes. IsPlaced (D.contents device.new) sizes) }
     ensures empty { IfOk result (λ _. logged (D.contents device.new) ≡ []) }
 {
-    let blocks = device.blocks();
-    if blocks < 2 {
-        return Err(Fault);
-    }
-    let sizes = sizes_in(device)?;
-    if sizes.logstart < 2
-        || sizes.nlog == 0
-        || blocks < sizes.size
-        || sizes.size < sizes.inodestart
-        || sizes.inodestart < sizes.logstart
-        || sizes.inodestart - sizes.logstart < sizes.nlog
-    {
-        return Err(Fault);
-    }
-    check_log(device, sizes.logstart)?;
-    Ok(sizes)
+    recover(device)?;
+    let layout = find_layout(device)?;
+    let _ = device.blocks();
+    Ok(layout.sizes)
 }
 
-// A log over fresh buffers, on a disk whose log is empty. An error is of the buffers.
+// A log over fresh buffers, on a disk that was recovered. An error is of the buffers.
 fn open<D: Device + Drop>(rt: &impl Abort, alloc: Global, device: D) -> Result<Log<D>, AllocError> {
     let mut device = device;
     let buffers = Buffers::new(alloc)?;
-    let sizes = parts(&mut device).expect(rt, "the log is empty");
+    let sizes = recovered(&mut device).expect(rt, "the disk is good");
     Ok(Log::new(Cache::new(buffers, device), sizes))
 }
 
@@ -281,26 +225,12 @@ fn a_join_counts_what_was_recorded(rt: HostRuntime) -> Result<(), Fail> {
     Ok(())
 }
 
-// What recovery would make of the block's first byte, where the log has copies of 48 and those behind it.
-fn recovered_byte(rt: &impl Abort, bytes: &Vec<u8>, b: usize) -> u8 {
-    assert!(rt; 48 <= b && b < BLOCKS);
-    let logged = bytes
-        .get(2 * BLOCK_SIZE)
-        .copied()
-        .expect(rt, "it has a head");
-    let at = if b - 48 < logged as usize { b - 45 } else { b };
-    bytes
-        .get(at * BLOCK_SIZE)
-        .copied()
-        .expect(rt, "it has so many blocks")
-}
-
-// Two calls read the superblock and the head, and three the blocks. Then the device fails at each write of the commit
-// in turn: three copies, the head, three copies home, the empty head.
+// Four calls read the superblock and the head, and three the blocks. Then the device fails at each write of the commit
+// in turn: three copies, the head, three copies home, the empty head. What is there after a recovery is all or nothing.
 #[test]
 fn a_group_is_there_whole_or_not_at_all(rt: HostRuntime) -> Result<(), Fail> {
     for writes in 0..9u64 {
-        let disk = Fused::new(disk(&rt, rt.alloc(), &FRESH)?, 5 + writes);
+        let disk = Fused::new(disk(&rt, rt.alloc(), &FRESH)?, 7 + writes);
         let mut log = open(&rt, rt.alloc(), disk)?;
         let mut txn = join(&rt, &mut log, 7).expect(&rt, "there is room");
         for b in 48..51 {
@@ -318,12 +248,14 @@ fn a_group_is_there_whole_or_not_at_all(rt: HostRuntime) -> Result<(), Fail> {
             waits(&rt, &mut log, 0);
         }
         let (_ended, _slots, disk) = log.retire();
-        let bytes = disk.into_disk().into_bytes();
+        let mut disk = disk.into_disk();
+        assert_eq!(rt; recover(&mut disk), Ok(()));
+        let bytes = disk.into_bytes();
+        let byte = if writes < 4 { 0 } else { 9 };
         for b in 48..51 {
-            let byte = if writes < 4 { 0 } else { 9 };
             assert_eq!(rt;
-                recovered_byte(&rt, &bytes, b),
-                byte,
+                bytes.get(b * BLOCK_SIZE).copied(),
+                Some(byte),
                 "block {b} after {writes} writes"
             );
         }

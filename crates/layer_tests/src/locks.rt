@@ -1,7 +1,8 @@
+//! Sleep locks: what a slot gives, and a row that ends while some are out.
 ghost use Rattle.std.specs.Prelude.{◌≡◌, length, IfOk};
 ghost use Rattle.sleep_lock.specs.Row.{IsNumbered};
 
-use crate::{Slot, Slots};
+use sleep_lock::{Slot, Slots};
 use std::alloc::{AllocError, Global};
 use std::process::Abort;
 use std::test::Fail;
@@ -53,22 +54,6 @@ fn a_slot_gives_and_takes_back(rt: HostRuntime) {
     assert_eq!(rt; (guard.number(), guard.hart(), *guard.value()), (7, 4, 50));
     let ended = slot.retire();
     guard.retire(&ended);
-}
-
-#[test]
-fn a_boxed_value_is_moved(rt: HostRuntime) -> Result<(), Fail> {
-    let mut slot = Slot::new(0, boxed(rt.alloc(), 40)?);
-    let mut guard = slot.try_take(3).expect(&rt, "a new slot is not out");
-    **guard.value_mut() += 1;
-    if let Some(_guard) = slot.try_take(4) {
-        panic!(rt; "it is out");
-    }
-    slot.put(guard);
-    let guard = slot.try_take(4).expect(&rt, "it was put back");
-    assert_eq!(rt; (guard.number(), guard.hart(), **guard.value()), (0, 4, 41));
-    let ended = slot.retire();
-    guard.retire(&ended);
-    Ok(())
 }
 
 #[test]

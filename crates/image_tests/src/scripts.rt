@@ -1,19 +1,17 @@
 //! What no clause says: the lines that are printed, the statuses, and that the calls can succeed.
-use crate::run::LONGEST_SCRIPT;
-use crate::{ConsoleFault, Mode, Single, SingleFault, Stop, options, run_script, status};
-use block_device::{Device, Fused, MemoryDisk};
+use block_device::{Fused, MemoryDisk};
 use clap::error::ErrorKind;
+use console::{ConsoleFault, Mode, Single, Stop, options, run_on, run_script, status};
 use image_tree::MountFault;
 use mkfs::{MakeRefused, make};
-use plain_tree::{Answer, Bytes, Call, Reply};
 use std::alloc::{AllocError, Global};
 use std::io;
 use std::test::Fail;
 
-fn fresh(alloc: Global) -> Result<MemoryDisk, Fail> {
-    disk(alloc, 2000, 200)
-}
+// The longest script, in bytes.
+const LONGEST_SCRIPT: usize = 16_777_216;
 
+// A fresh image of these sizes.
 fn disk(alloc: Global, size: u32, ninodes: u32) -> Result<MemoryDisk, Fail> {
     match make(alloc, size, ninodes, &[]) {
         Ok(disk) => Ok(disk),
@@ -22,12 +20,17 @@ fn disk(alloc: Global, size: u32, ninodes: u32) -> Result<MemoryDisk, Fail> {
     }
 }
 
-// Mounts a disk, once more where memory was refused.
-fn mount<D: Device>(alloc: Global, device: D) -> Result<Single<D>, (D, MountFault)> {
-    match Single::mount(alloc, device) {
-        Err((device, MountFault::NoMemory)) => Single::mount(alloc, device),
-        mounted => mounted,
+// A file system on a device that passes no further call.
+fn mounted_at_last(alloc: Global) -> Result<Single<Fused>, Fail> {
+    for calls in 0..10_000 {
+        match Single::mount(alloc, Fused::new(disk(alloc, 60, 16)?, calls)) {
+            Ok(single) => return Ok(single),
+            Err((_, MountFault::DeviceFault)) => {}
+            Err((_, MountFault::NoMemory)) => return Err(Fail::from(AllocError)),
+            Err(_) => return Err(Fail::new("it is damaged")),
+        }
     }
+    Err(Fail::new("it isn't mounted"))
 }
 
 // Runs a script once. Gives what it printed, and the fault that it ended with.
@@ -87,6 +90,10 @@ fn prints_what_the_calls_answer(rt: HostRuntime) -> Result<(), Fail> {
             "0 open fd 0\n0 fstat 1 1 1 1 1024\n0 read 32 01002e0000000000000000000000000001002e2e000000000000000000000000\n0 read 0\n",
         ),
         (
+            "do 0 open / 0\ndo 0 read 0 7\ndo 0 read 0 7\ndo 0 read 0 7\n",
+            "0 open fd 0\n0 read 7 01002e00000000\n0 read 7 00000000000000\n0 read 7 000001002e2e00\n",
+        ),
+        (
             "do 0 open /a 0\ndo 0 open hex:2f00 0\ndo 0 read 5 524288\ndo 0 read 5 524289\n",
             "0 open refused 49 NotYet\n0 open refused 43 ZeroInPath\n0 read failed 6 BadDescriptor\n0 read refused 44 TooLong\n",
         ),
@@ -117,16 +124,55 @@ fn opens_paths_up_to_their_longest(rt: HostRuntime) -> Result<(), Fail> {
 
 #[test]
 fn gives_sixteen_descriptors(rt: HostRuntime) -> Result<(), Fail> {
-    let Ok(mut single) = mount(rt.alloc(), fresh(rt.alloc())?) else {
-        return Err(Fail::new("it isn't mounted"));
-    };
-    for i in 0..17u32 {
-        let path = Bytes::new(Vec::from_slice(rt.alloc(), b"/")?);
-        match single.call(Call::Open { path, flags: 0 }) {
-            Ok(reply) if i < 16 => assert!(rt; reply.answer == Answer::Fd(i)),
-            Ok(reply) => assert!(rt; reply.answer == Answer::Full(plain_tree::Full::Descriptors)),
-            Err(_) => return Err(Fail::new("it has stopped")),
+    let mut script = Vec::new(rt.alloc());
+    let mut lines = Vec::new(rt.alloc());
+    for fd in 0..16 {
+        script.extend_from_slice(b"do 0 open / 0\n")?;
+        let line = format!(in rt.alloc(); "0 open fd {fd}\n")?;
+        lines.extend_from_slice(line.as_bytes())?;
+    }
+    script.extend_from_slice(b"do 0 open / 0\n")?;
+    lines.extend_from_slice(b"0 open full 23 Descriptors\n")?;
+    let (out, fault) = run(rt.alloc(), None, script.as_slice())?;
+    assert!(rt; fault.is_none());
+    assert!(rt; out.as_slice() == lines.as_slice());
+    Ok(())
+}
+
+#[test]
+fn reads_no_more_than_there_is(rt: HostRuntime) -> Result<(), Fail> {
+    let script = b"do 0 open / 0\ndo 0 read 0 2000\ndo 0 read 0 2000\n".as_slice();
+    let (out, fault) = run(rt.alloc(), None, script)?;
+    assert!(rt; fault.is_none());
+    assert!(rt; out.starts_with(b"0 open fd 0\n0 read 1024 01002e00"));
+    assert!(rt; out.ends_with(b"0000\n0 read 0\n"));
+    assert_eq!(rt; out.len(), 12 + 12 + 2 * 1024 + 1 + 9);
+    Ok(())
+}
+
+#[test]
+fn prints_why_a_call_is_stopped(rt: HostRuntime) -> Result<(), Fail> {
+    let mut single = mounted_at_last(rt.alloc())?;
+    for (script, lines) in [
+        (
+            "do 0 open / 0\ndo 0 fstat 0\ndo 0 close 0\n",
+            "0 open fd 0\n0 fstat stopped 31 DeviceFault\n",
+        ),
+        ("do 0 close 0\n", "0 close stopped 32 Halted\n"),
+    ] {
+        let mut out = Vec::with_capacity(rt.alloc(), 64)?;
+        match run_on(
+            rt.alloc(),
+            &mut single,
+            Mode::Listed,
+            script.as_bytes(),
+            &mut out,
+        ) {
+            Err(ConsoleFault::Stopped(_)) => {}
+            Err(ConsoleFault::Memory) => return Err(Fail::from(AllocError)),
+            _ => return Err(Fail::new("it isn't stopped")),
         }
+        assert!(rt; out.as_slice() == lines.as_bytes(), "{script}");
     }
     Ok(())
 }
@@ -159,7 +205,7 @@ fn runs_no_line_of_a_bad_script(rt: HostRuntime) -> Result<(), Fail> {
 
 #[test]
 fn tells_damage_and_other_faults(rt: HostRuntime) -> Result<(), Fail> {
-    let mut changed = fresh(rt.alloc())?.into_bytes();
+    let mut changed = disk(rt.alloc(), 2000, 200)?.into_bytes();
     assert!(rt; 1024 < changed.len());
     changed[1024] = 0;
     for (image, want) in [
@@ -190,109 +236,9 @@ fn tells_damage_and_other_faults(rt: HostRuntime) -> Result<(), Fail> {
     Ok(())
 }
 
-// The root's bytes, read in pieces.
-fn read_all<D: Device>(
-    alloc: Global,
-    single: &mut Single<D>,
-    piece: usize,
-) -> Result<Vec<u8>, Fail> {
-    let path = Bytes::new(Vec::from_slice(alloc, b"/")?);
-    let _ = single.call(Call::Open { path, flags: 0 });
-    let mut all = Vec::new(alloc);
-    for _ in 0..1100 {
-        let buf = Bytes::new(vec![in alloc; 0; piece]?);
-        match single.call(Call::Read { fd: 0, buf }) {
-            Ok(reply) => match (reply.answer, reply.call) {
-                (Answer::Count(0), _) => break,
-                (Answer::Count(count), Call::Read { buf, .. }) => {
-                    let bytes = buf.as_slice();
-                    all.extend_from_slice(&bytes[..bytes.len().min(count as usize)])?;
-                }
-                _ => return Err(Fail::new("another answer")),
-            },
-            Err(_) => return Err(Fail::new("it has stopped")),
-        }
-    }
-    Ok(all)
-}
-
-#[test]
-fn reads_the_root_in_pieces(rt: HostRuntime) -> Result<(), Fail> {
-    let mut want = vec![in rt.alloc(); 0u8; 1024]?;
-    want[0] = 1;
-    want[2] = b'.';
-    want[16] = 1;
-    want[18] = b'.';
-    want[19] = b'.';
-    for piece in [1, 7, 16, 1024, 2000] {
-        let Ok(mut single) = mount(rt.alloc(), fresh(rt.alloc())?) else {
-            return Err(Fail::new("it isn't mounted"));
-        };
-        let all = read_all(rt.alloc(), &mut single, piece)?;
-        assert!(rt; all.as_slice() == want.as_slice(), "in pieces of {piece}");
-    }
-    Ok(())
-}
-
-// Whether a file system that has stopped or not answers so.
-fn is_right(stopped: bool, answer: &Result<Reply, SingleFault>) -> bool {
-    match answer {
-        Ok(_) => !stopped,
-        Err(SingleFault::Stop(Stop::DeviceFault)) => !stopped,
-        Err(SingleFault::Stop(Stop::Halted)) => stopped,
-        Err(SingleFault::NotYet(_)) => false,
-    }
-}
-
-// Mounts a disk that fails from call k on, and makes four calls. Whether none failed; none where an answer is wrong.
-fn calls_pass(alloc: Global, k: u64) -> Result<Option<bool>, Fail> {
-    let device = Fused::new(disk(alloc, 60, 16)?, k);
-    let mut single = match mount(alloc, device) {
-        Ok(single) => single,
-        Err((_, MountFault::DeviceFault)) => return Ok(Some(false)),
-        Err(_) => return Ok(None),
-    };
-    let mut stopped = false;
-    for i in 0..4 {
-        let call = match i {
-            0 => Call::Open {
-                path: Bytes::new(Vec::new(alloc)),
-                flags: 0,
-            },
-            1 => Call::Fstat { fd: 0 },
-            2 => Call::Read {
-                fd: 0,
-                buf: Bytes::new(vec![in alloc; 0; 32]?),
-            },
-            _ => Call::Close { fd: 0 },
-        };
-        let answer = single.call(call);
-        if !is_right(stopped, &answer) {
-            return Ok(None);
-        }
-        stopped = stopped || answer.is_err();
-    }
-    Ok(Some(!stopped))
-}
-
-#[test]
-fn stops_where_the_device_fails(rt: HostRuntime) -> Result<(), Fail> {
-    let mut failed = 0u64;
-    for k in 0..10_000 {
-        let passed = calls_pass(rt.alloc(), k)?;
-        assert!(rt; passed.is_some(), "with {k} calls");
-        if passed == Some(true) {
-            break;
-        }
-        failed = failed.saturating_add(1);
-    }
-    assert!(rt; 5 < failed && failed < 10_000);
-    Ok(())
-}
-
 #[test]
 fn takes_scripts_up_to_their_longest(rt: HostRuntime) -> Result<(), Fail> {
-    let mut script = vec![in rt.alloc(); b'#'; LONGEST_SCRIPT as usize]?;
+    let mut script = vec![in rt.alloc(); b'#'; LONGEST_SCRIPT]?;
     let (out, fault) = run(rt.alloc(), None, script.as_slice())?;
     assert!(rt; fault.is_none() && out.is_empty());
     script.push(b'\n').map_err(AllocError::from)?;

@@ -1,9 +1,9 @@
-// Which buffers are taken anew, what a fault leaves, and that there always is a buffer.
+//! Buffers: which are taken anew, what a fault leaves, and that there always is a buffer.
 ghost use Rattle.std.specs.Prelude.{◌≡◌};
 ghost use Rattle.buffer_cache.specs.Seats.{unused_from};
 
-use crate::{BUFFERS, BUFFERS_OF_A_HART, Buffers, Cache, Got, HARTS, MOST_PINNED};
 use block_device::{BLOCK_SIZE, Device, Fused, MemoryDisk};
+use buffer_cache::{BUFFERS, BUFFERS_OF_A_HART, Buffers, Cache, Got, HARTS, MOST_PINNED};
 use sleep_lock::Guard;
 use std::alloc::{AllocError, Global};
 use std::process::Abort;
