@@ -1,5 +1,5 @@
 //! A script: one command on each line, in words parted by single spaces (docs/SCRIPT.md).
-ghost use Rattle.std.specs.Prelude.{◌≡◌, ◌≢◌, ◌<◌, IfSome, MatchBool};
+ghost use Rattle.std.specs.Prelude.{◌≡◌, ◌↔◌, ◌<◌, IfSome, IsTrue};
 ghost use Rattle.console.specs.Numbers.{call_name};
 
 use arrayvec::ArrayVec;
@@ -105,7 +105,7 @@ fn parse_line(alloc: Global, line: &[u8]) -> Result<Command, LineFault> {
 }
 
 fn is_word(word: &[u8], text: &[u8]) -> bool
-    ensures { MatchBool result (word.now ≡ text.now) (word.now ≢ text.now) }
+    ensures { IsTrue result ↔ (word.now ≡ text.now) }
 {
     word == text
 }
