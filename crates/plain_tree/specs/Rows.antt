@@ -201,6 +201,9 @@ RefusesWhatIsOutOfPlace = is_so (
     ∷ line 0 (Inherit 0) (Failed BadDescriptor)
     ∷ line 0 (Inherit 8) (Failed BadDescriptor)
     ∷ line 8 (Chdir (codes "/")) (Failed BadDescriptor)
-    ∷ opens 1 0 0 (Open (codes "/") 0) (Opened 0 0 false)
+    ∷ opens 1 2 0 (Open (codes "/f") read_and_create) (Opened 0 0 true)
     ∷ line 0 (Inherit 1) (Failed BadDescriptor)
+    ∷ line 0 (Find (codes "/f")) Done
+    ∷ line 0 Bump Done
+    ∷ line 0 (Find (codes "/f")) (Failed BadDescriptor)
     ∷ [])

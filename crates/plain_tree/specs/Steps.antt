@@ -267,13 +267,13 @@ holds_raised r (Some o) = if r then o.raised else not o.raised
 abbrev pub has_descriptors : Tree → ℕ → Bool
 has_descriptors t h = any_below descriptor_count (λ i. not (is_nothing (t.fds h i)))
 
--- truncate is of an open file, the steps of a link have their hold, an inherit is to another hart without descriptors, and dup has a free descriptor
+-- truncate is of an open file, a find is made by a hart that holds nothing raised, the other steps of a link have their hold, an inherit is to another hart without descriptors, and dup has a free descriptor
 unfoldable pub place_of : Tree → ℕ → Action → Bool
 place_of t h (Open path flags) = true
 place_of t h (Truncate fd) = is_open_file t (file_at t h fd)
 place_of t h (Read fd n) = true
 place_of t h (WritePart fd b) = true
-place_of t h (Find old) = true
+place_of t h (Find old) = not (holds_raised true (t.holds h))
 place_of t h Bump = holds_raised false (t.holds h)
 place_of t h (Enter new) = holds_raised true (t.holds h)
 place_of t h Unbump = holds_raised true (t.holds h)

@@ -69,6 +69,7 @@ impl Tree {
     {
         match action {
             Action::Truncate { fd } => self.is_open_file(self.file_at(hart, *fd)),
+            Action::Find { .. } => !is_raised(true, self.hold(hart)),
             Action::Bump => is_raised(false, self.hold(hart)),
             Action::Enter { .. } | Action::Unbump => is_raised(true, self.hold(hart)),
             Action::Dup { fd } => self.file_at(hart, *fd).is_none() || self.has_room(hart),

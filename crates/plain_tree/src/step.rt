@@ -11,7 +11,7 @@ pub enum Action {
     Read { fd: u32, count: usize },
     /// Writes one piece.
     WritePart { fd: u32, bytes: Bytes },
-    /// Finds what a link is to name, and holds it.
+    /// Finds what a link is to name, and holds it. Made where nothing is held raised.
     Find { old: Bytes },
     /// Raises the count of what is held.
     Bump,

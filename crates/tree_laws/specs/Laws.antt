@@ -7,16 +7,16 @@ use Rattle.plain_tree.specs.Tree.{Name, Tree, tree_of, put, is_live, is_named, r
 use Rattle.plain_tree.specs.Steps.{refusal_with, IsInPlace, MayChoose, effect_with, StepWith}
 use Rattle.plain_tree.specs.Explains.{IsReached}
 use Rattle.plain_tree.specs.Fresh.{fresh}
-use Rattle.tree_laws.specs.WellFormed.{raises, IsWellFormed, is_free_to_find}
+use Rattle.tree_laws.specs.WellFormed.{raises, IsWellFormed}
 use Rattle.tree_laws.specs.Leaves.{IsFound, LeavesFinding, Frame, IsNobodys}
 
 -- Every tree step, also a refused one, keeps a tree well formed, whatever was found for its path.
 abbrev pub StepsKeepWellFormed : Type 0
-StepsKeepWellFormed = (t t' : Tree) (h : ℕ) (s : Action) (res : Option ℕ) (par : Option (ℕ × Name)) (a : StepAnswer) (new id : ℕ) → IsWellFormed t → IsFound t res par → is_free_to_find t h s ≡ true → StepWith t h s res par a new id t' → IsWellFormed t'
+StepsKeepWellFormed = (t t' : Tree) (h : ℕ) (s : Action) (res : Option ℕ) (par : Option (ℕ × Name)) (a : StepAnswer) (new id : ℕ) → IsWellFormed t → IsFound t res par → StepWith t h s res par a new id t' → IsWellFormed t'
 
 -- Before the nodes that nothing keeps leave it the tree is well formed too.
 abbrev pub EffectsKeepWellFormed : Type 0
-EffectsKeepWellFormed = (t : Tree) (h : ℕ) (s : Action) (res : Option ℕ) (par : Option (ℕ × Name)) (new id : ℕ) → IsWellFormed t → IsFound t res par → is_free_to_find t h s ≡ true → IsInPlace t h s → refusal_with t h s res par ≡ None → MayChoose t h s par new id
+EffectsKeepWellFormed = (t : Tree) (h : ℕ) (s : Action) (res : Option ℕ) (par : Option (ℕ × Name)) (new id : ℕ) → IsWellFormed t → IsFound t res par → IsInPlace t h s → refusal_with t h s res par ≡ None → MayChoose t h s par new id
     → IsWellFormed (effect_with t h s res par new id)
 
 -- What live directories find changes at the step's own name alone.

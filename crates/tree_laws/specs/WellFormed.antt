@@ -4,9 +4,6 @@ use Rattle.plain_tree.specs.declared.node.Slot.{Slot}
 use Rattle.plain_tree.specs.declared.node.Node.{Node}
 use Rattle.plain_tree.specs.declared.tree.OpenFile.{OpenFile}
 use Rattle.plain_tree.specs.declared.tree.Hold.{Hold}
-use Rattle.plain_tree.specs.declared.step.Action.{Action}
-use Rattle.plain_tree.specs.declared.step.Action.TheVariants.{Open, Truncate, Read, WritePart, Find, Bump, Enter, Unbump, Unlink, Mkdir, Chdir, Dup, Close, Fstat, Inherit}
-use Rattle.plain_tree.specs.Steps.{holds_raised}
 use Rattle.plain_tree.specs.Widths.{hart_count, descriptor_count, root}
 use Rattle.plain_tree.specs.Tree.{Tree, dot, dotdot, is_directory, live_directory, all_slots, first_slot}
 
@@ -130,21 +127,3 @@ pub record IsWellFormed (t : Tree) : Type 0 where
   pub holds : (h : ℕ) (o : Hold) → h < hart_count → t.holds h ≡ Some o → IsThere t.nodes o.number false
   pub descriptors : (h i id : ℕ) → h < hart_count → i < descriptor_count → t.fds h i ≡ Some id → IsOpen t id
   pub directories : (h : ℕ) → h < hart_count → IsThere t.nodes (t.cwd h) true
-
--- A find takes the hart's hold, so it is made where the hart holds nothing that is raised.
-abbrev pub is_free_to_find : Tree → ℕ → Action → Bool
-is_free_to_find t h (Open path flags) = true
-is_free_to_find t h (Truncate fd) = true
-is_free_to_find t h (Read fd n) = true
-is_free_to_find t h (WritePart fd b) = true
-is_free_to_find t h (Find old) = not (holds_raised true (t.holds h))
-is_free_to_find t h Bump = true
-is_free_to_find t h (Enter new) = true
-is_free_to_find t h Unbump = true
-is_free_to_find t h (Unlink path) = true
-is_free_to_find t h (Mkdir path) = true
-is_free_to_find t h (Chdir path) = true
-is_free_to_find t h (Dup fd) = true
-is_free_to_find t h (Close fd) = true
-is_free_to_find t h (Fstat fd) = true
-is_free_to_find t h (Inherit child) = true

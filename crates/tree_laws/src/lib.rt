@@ -5,8 +5,7 @@
 ghost use Rattle.tree_laws.specs.Laws.{StepsKeepWellFormed, EffectsKeepWellFormed, StepsLeaveFinding, StepsLeavePaths, PathsLeadToWhatIsFound, DeadNodesMayLeave, NewNumbersAreNobodys, FreshTreesAreWellFormed, LiveNodesAreReached};
 
 /// Each of the fifteen tree steps, refused or not, keeps a tree well formed, for any node that is there and any live
-/// directory that were found for its path. A find is made by a hart that holds nothing raised, as a link's written
-/// sequence has it.
+/// directory that were found for its path.
 pub fn steps_keep_well_formed()
     ensures { StepsKeepWellFormed }
 {}

@@ -6,7 +6,7 @@ use Rattle.plain_tree.specs.Widths.{hart_count}
 use Rattle.plain_tree.specs.Tree.{Name, Tree, put, elements, live_directory, look, follow, start_of, resolve, parent, parent_of}
 use Rattle.plain_tree.specs.Steps.{path_of, follows_path, IsInPlace}
 use Rattle.plain_tree.specs.Calls.{Act, next_of}
-use Rattle.tree_laws.specs.WellFormed.{IsWellFormed, is_free_to_find}
+use Rattle.tree_laws.specs.WellFormed.{IsWellFormed}
 use Rattle.tree_laws.proofs.Maps.{put_same, put_other}
 use Rattle.tree_laws.proofs.Walks.{follow_on, follow_stop, follow_end, follow_one, parent_nil, parent_on, parent_stop, parent_here}
 use Rattle.tree_laws.proofs.Kept.{step_well, step_hart, path_found}
@@ -14,7 +14,7 @@ use Rattle.tree_laws.proofs.Frames.{step_frame}
 use Rattle.tree_moves.specs.Moves.{Deed, Walk, Stage, Move, Acts, GoesTo, Begins, Looks, Plays, fail, walks_at, after}
 use Rattle.tree_moves.specs.Moves.Move.{Begin, Look, Quit, Own}
 use Rattle.tree_moves.specs.Runs.{lost, lost_of, PlaysAny, BeginsNext}
-use Rattle.tree_moves.proofs.Walked.{WalkOk, Left, left_same, StepBy, lost_fails, own_free}
+use Rattle.tree_moves.proofs.Walked.{WalkOk, Left, left_same, StepBy, lost_fails}
 
 abbrev pub WalkAt : Tree → ℕ → Call → List Act → Option Walk → Type 0
 WalkAt t h c x None = Unit {0}
@@ -63,14 +63,14 @@ quit_moved m m' h c x a w s good is step dead deed stage = subst (λ (z : Stage)
 })
 
 -- the step acts by what the whole path says
-acts_moved : (m m' : Stage) (h : ℕ) (c : Call) (x : List Act) (s : Action) (new : ℕ) (a : Option Deed) → IsWellFormed m.tree → is_free_to_find m.tree h s ≡ true → next_of c x ≡ Some s → lost_of m h ≡ None
+acts_moved : (m m' : Stage) (h : ℕ) (c : Call) (x : List Act) (s : Action) (new : ℕ) (a : Option Deed) → IsWellFormed m.tree → next_of c x ≡ Some s → lost_of m h ≡ None
     → Acts m h s (resolve m.tree h (path_of s)) (parent m.tree h (path_of s)) new a m' → HasMoved m h c x a m'
-acts_moved m m' h c x s new a good free next none k =
+acts_moved m m' h c x s new a good next none k =
     let found = path_found m.tree h (path_of s) (step_hart m.tree m'.tree h s _ _ k.answer new k.id k.step) good in
     let frame = step_frame m.tree m'.tree h s _ _ k.answer new k.id good found k.step in
     let ended : m'.walk h ≡ None = ap (λ (f : ℕ → Option Walk). f h) k.walk ∙ put_same m.walk h None in
     record {
-      good = step_well m.tree m'.tree h s _ _ k.answer new k.id good found free k.step;
+      good = step_well m.tree m'.tree h s _ _ k.answer new k.id good found k.step;
       way = Did (record { act = record { step = s; answer = k.answer }; new = new }) k.deed none ended next (k.id, k.step);
       own = subst (λ (z : Option Walk). WalkAt m'.tree h c (after a x) z) (sym ended) tt;
       walks = λ g ne. ap (λ (f : ℕ → Option Walk). f g) k.walk ∙ put_other m.walk h None g ne;
@@ -84,13 +84,13 @@ acts_moved m m' h c x s new a good free next none k =
 
 -- the walk goes on to a node, and is lost there where that is no live directory
 goes_moved : (m m' : Stage) (h : ℕ) (c : Call) (x : List Act) (w : Walk) (done : List Name) (a : Option Deed) → IsWellFormed m.tree → lost_of m h ≡ None → next_of c x ≡ Some w.step
-    → follows_path w.step ≡ true → IsInPlace m.tree h w.step → is_free_to_find m.tree h w.step ≡ true → elements (path_of w.step) ≡ done ++ w.next ∷ w.rest → follow m.tree.nodes (start_of m.tree h (path_of w.step)) done ≡ Some w.at
+    → follows_path w.step ≡ true → IsInPlace m.tree h w.step → elements (path_of w.step) ≡ done ++ w.next ∷ w.rest → follow m.tree.nodes (start_of m.tree h (path_of w.step)) done ≡ Some w.at
     → GoesTo m h w a m' → HasMoved m h c x a m'
-goes_moved m m' h c x w done a good none next f place free path at k =
+goes_moved m m' h c x w done a good none next f place path at k =
     subst (λ (z : Stage). HasMoved m h c x a z) (sym k.1) (subst (λ (z : Option Deed). HasMoved m h c x z there) (sym k.0) (record {
       good = good;
       way = Went w refl none (put_same m.walk h (Some w)) refl next (λ dead. lost_fails m.tree h w.at w.next done w.rest w.step f place path (inl (at, dead)));
-      own = subst (λ (z : Option Walk). WalkAt m.tree h c x z) (sym (put_same m.walk h (Some w))) (record { done = done; path = path; follows = f; place = place; free = free; next = next; here = λ l. at });
+      own = subst (λ (z : Option Walk). WalkAt m.tree h c x z) (sym (put_same m.walk h (Some w))) (record { done = done; path = path; follows = f; place = place; next = next; here = λ l. at });
       walks = λ g ne. put_other m.walk h (Some w) g ne;
       others = λ g v lg ne is. left_same m.tree m.tree g v.at refl;
     }))
@@ -100,15 +100,15 @@ goes_moved m m' h c x w done a good none next f place free path at k =
 
 -- The results of a lookup are those of the whole path.
 
-begins_moved : (m m' : Stage) (h : ℕ) (c : Call) (x : List Act) (s : Action) (es : List Name) (new : ℕ) (a : Option Deed) → IsWellFormed m.tree → m.walk h ≡ None → next_of c x ≡ Some s → follows_path s ≡ true → IsInPlace m.tree h s → is_free_to_find m.tree h s ≡ true
+begins_moved : (m m' : Stage) (h : ℕ) (c : Call) (x : List Act) (s : Action) (es : List Name) (new : ℕ) (a : Option Deed) → IsWellFormed m.tree → m.walk h ≡ None → next_of c x ≡ Some s → follows_path s ≡ true → IsInPlace m.tree h s
     → elements (path_of s) ≡ es → Begins m h s es new a m' → HasMoved m h c x a m'
-begins_moved m m' h c x s [] new a good rests next f place free path k =
+begins_moved m m' h c x s [] new a good rests next f place path k =
     let start : ℕ = start_of m.tree h (path_of s) in
     let res : resolve m.tree h (path_of s) ≡ Some start = subst (λ (z : List Name). follow m.tree.nodes start z ≡ Some start) (sym path) (follow_end m.tree.nodes start) in
     let par : parent m.tree h (path_of s) ≡ None = subst (λ (z : List Name). parent_of m.tree.nodes start z ≡ None) (sym path) (parent_nil m.tree.nodes start) in
-    acts_moved m m' h c x s new a good free next (no_walk m h rests) (subst (λ (z : Option (ℕ × Name)). Acts m h s (resolve m.tree h (path_of s)) z new a m') (sym par) (subst (λ (z : Option ℕ). Acts m h s z None new a m') (sym res) k))
-begins_moved m m' h c x s (e ∷ es) new a good rests next f place free path k =
-    goes_moved m m' h c x (record { step = s; at = start_of m.tree h (path_of s); next = e; rest = es }) [] a good (no_walk m h rests) next f place free path (follow_end m.tree.nodes (start_of m.tree h (path_of s))) k
+    acts_moved m m' h c x s new a good next (no_walk m h rests) (subst (λ (z : Option (ℕ × Name)). Acts m h s (resolve m.tree h (path_of s)) z new a m') (sym par) (subst (λ (z : Option ℕ). Acts m h s z None new a m') (sym res) k))
+begins_moved m m' h c x s (e ∷ es) new a good rests next f place path k =
+    goes_moved m m' h c x (record { step = s; at = start_of m.tree h (path_of s); next = e; rest = es }) [] a good (no_walk m h rests) next f place path (follow_end m.tree.nodes (start_of m.tree h (path_of s))) k
 
 looks_moved : (m m' : Stage) (h : ℕ) (c : Call) (x : List Act) (w : Walk) (rest : List Name) (r : Option ℕ) (new : ℕ) (a : Option Deed) → IsWellFormed m.tree → lost_of m h ≡ None → WalkOk m.tree h c x w → live_directory (m.tree.nodes w.at) ≡ true
     → w.rest ≡ rest → look m.tree.nodes w.at w.next ≡ r → Looks m h w rest r new a m' → HasMoved m h c x a m'
@@ -118,25 +118,25 @@ looks_moved m m' h c x w [] r new a good none k live rest found l =
     let path : elements (path_of w.step) ≡ k.done ++ w.next ∷ [] = k.path ∙ ap (λ (z : List Name). k.done ++ w.next ∷ z) rest in
     let res : resolve m.tree h (path_of w.step) ≡ r = subst (λ (z : List Name). follow m.tree.nodes start z ≡ r) (sym path) (follow_on m.tree.nodes start w.at k.done (w.next ∷ []) here ∙ follow_one m.tree.nodes w.at w.next r found) in
     let par : parent m.tree h (path_of w.step) ≡ Some (w.at, w.next) = subst (λ (z : List Name). parent_of m.tree.nodes start z ≡ Some (w.at, w.next)) (sym path) (parent_on m.tree.nodes start w.at w.next k.done [] here ∙ parent_here m.tree.nodes w.at w.next live) in
-    acts_moved m m' h c x w.step new a good k.free k.next none (subst (λ (z : Option (ℕ × Name)). Acts m h w.step (resolve m.tree h (path_of w.step)) z new a m') (sym par) (subst (λ (z : Option ℕ). Acts m h w.step z (Some (w.at, w.next)) new a m') (sym res) l))
+    acts_moved m m' h c x w.step new a good k.next none (subst (λ (z : Option (ℕ × Name)). Acts m h w.step (resolve m.tree h (path_of w.step)) z new a m') (sym par) (subst (λ (z : Option ℕ). Acts m h w.step z (Some (w.at, w.next)) new a m') (sym res) l))
 looks_moved m m' h c x w (e ∷ es) None new a good none k live rest found l =
     let here = k.here live in
     let start : ℕ = start_of m.tree h (path_of w.step) in
     let path : elements (path_of w.step) ≡ k.done ++ w.next ∷ e ∷ es = k.path ∙ ap (λ (z : List Name). k.done ++ w.next ∷ z) rest in
     let res : resolve m.tree h (path_of w.step) ≡ None = subst (λ (z : List Name). follow m.tree.nodes start z ≡ None) (sym path) (follow_on m.tree.nodes start w.at k.done (w.next ∷ e ∷ es) here ∙ follow_stop m.tree.nodes w.at w.next (e ∷ es) found) in
     let par : parent m.tree h (path_of w.step) ≡ None = subst (λ (z : List Name). parent_of m.tree.nodes start z ≡ None) (sym path) (parent_on m.tree.nodes start w.at w.next k.done (e ∷ es) here ∙ parent_stop m.tree.nodes w.at w.next e es found) in
-    acts_moved m m' h c x w.step new a good k.free k.next none (subst (λ (z : Option (ℕ × Name)). Acts m h w.step (resolve m.tree h (path_of w.step)) z new a m') (sym par) (subst (λ (z : Option ℕ). Acts m h w.step z None new a m') (sym res) l))
+    acts_moved m m' h c x w.step new a good k.next none (subst (λ (z : Option (ℕ × Name)). Acts m h w.step (resolve m.tree h (path_of w.step)) z new a m') (sym par) (subst (λ (z : Option ℕ). Acts m h w.step z None new a m') (sym res) l))
 looks_moved m m' h c x w (e ∷ es) (Some n) new a good none k live rest found l =
-    goes_moved m m' h c x (record { step = w.step; at = n; next = e; rest = es }) (k.done ++ w.next ∷ []) a good none k.next k.follows k.place k.free
+    goes_moved m m' h c x (record { step = w.step; at = n; next = e; rest = es }) (k.done ++ w.next ∷ []) a good none k.next k.follows k.place
     (k.path ∙ (ap (λ (z : List Name). k.done ++ w.next ∷ z) rest ∙ sym (append_assoc k.done (w.next ∷ []) (e ∷ es))))
     (follow_on m.tree.nodes (start_of m.tree h (path_of w.step)) w.at k.done (w.next ∷ []) (k.here live) ∙ follow_one m.tree.nodes w.at w.next (Some n) found) l
 
 plays_moved : (m m' : Stage) (h : ℕ) (c : Call) (x : List Act) (v : Move) (a : Option Deed) → IsWellFormed m.tree → WalkAt m.tree h c x (m.walk h) → BeginsNext c x (Some v) → Plays m h v a m' → HasMoved m h c x a m'
-plays_moved m m' h c x (Begin s new) a good own next k = begins_moved m m' h c x s (elements (path_of s)) new a good k.rests next k.follows k.place k.free refl k.begins
+plays_moved m m' h c x (Begin s new) a good own next k = begins_moved m m' h c x s (elements (path_of s)) new a good k.rests next k.follows k.place refl k.begins
 plays_moved m m' h c x (Look new) a good own next k =
     looks_moved m m' h c x k.walk k.walk.rest (look m.tree.nodes k.walk.at k.walk.next) new a good (ap (λ (o : Option Walk). lost m.tree o) k.is ∙ lost_live m.tree k.walk k.live) (subst (λ (z : Option Walk). WalkAt m.tree h c x z) k.is own) k.live refl refl k.looks
 plays_moved m m' h c x (Quit s) a good own next k = quit_moved m m' h c x a k.walk s good k.is k.step k.lost k.deed k.stage
-plays_moved m m' h c x (Own s new) a good own next k = acts_moved m m' h c x s new a good (own_free m.tree h s k.follows) next (no_walk m h k.rests) k.acts
+plays_moved m m' h c x (Own s new) a good own next k = acts_moved m m' h c x s new a good next (no_walk m h k.rests) k.acts
 
 pub any_moved : (m m' : Stage) (h : ℕ) (c : Call) (x : List Act) (v : Option Move) (a : Option Deed) → IsWellFormed m.tree → WalkAt m.tree h c x (m.walk h) → BeginsNext c x v → PlaysAny m h v a m' → HasMoved m h c x a m'
 any_moved m m' h c x None a good own next k = stays_moved m m' h c x a good own k.0 k.1

@@ -13,7 +13,6 @@ use Rattle.plain_tree.specs.Widths.{hart_count, descriptor_count}
 use Rattle.plain_tree.specs.Tree.{Name, Tree, put, any_below, elements, live_directory, look, start_of, resolve, parent, settle}
 use Rattle.plain_tree.specs.Steps.{path_of, follows_path, makes_node, opens_one, is_nothing, place_of, IsInPlace, IsLeastUnused, MayChoose, StepWith, refusal_with, refused, effect_with, answer_with}
 use Rattle.plain_tree.specs.Calls.{Act, next_of, reply_of, had_room}
-use Rattle.tree_laws.specs.WellFormed.{is_free_to_find}
 use Rattle.tree_laws.proofs.Maps.{eq_self, eq_not, and_true, any_none}
 use Rattle.tree_moves.specs.Moves.{Deed, Walk, Stage, Move, Acts, Begins, Looks, walks_at, fail, after}
 use Rattle.tree_moves.specs.Moves.Move.{Begin, Look, Quit, Own}
@@ -23,11 +22,11 @@ use Rattle.tree_moves.specs.Runs.{World, Event, PlaysAny, BeginsNext, stepped, H
 use Rattle.tree_moves.specs.Runs.Event.{Starts, Steps, Nothing}
 
 -- a move without the step that it is for
-pub data Way : Type 0 where
-  Begins_it : (new : ℕ) → Way
-  Looks_on : (new : ℕ) → Way
-  Quits_it : Way
-  Owns_it : (new : ℕ) → Way
+pub data Plan : Type 0 where
+  StartWalk : (new : ℕ) → Plan
+  LookUp : (new : ℕ) → Plan
+  GiveUp : Plan
+  AtOnce : (new : ℕ) → Plan
 
 -- a move, what it tells, the stage after it, and whether it is allowed
 pub record Played : Type 0 where
@@ -130,7 +129,7 @@ moves v b p = record { move = Some v; told = p.told; stage = p.stage; may = b &&
 
 abbrev pub begin_with : Stage → ℕ → Option Action → ℕ → Played
 begin_with m h None new = never m
-begin_with m h (Some s) new = moves (Begin s new) (follows_path s && (is_nothing (m.walk h) && (placed m.tree h s && is_free_to_find m.tree h s))) (begun m h s (elements (path_of s)) new)
+begin_with m h (Some s) new = moves (Begin s new) (follows_path s && (is_nothing (m.walk h) && placed m.tree h s)) (begun m h s (elements (path_of s)) new)
 
 abbrev pub own_with : Stage → ℕ → Option Action → ℕ → Played
 own_with m h None new = never m
@@ -144,12 +143,12 @@ abbrev pub quit_with : Stage → ℕ → Option Walk → Played
 quit_with m h None = never m
 quit_with m h (Some w) = record { move = Some (Quit w.step); told = Some (fail w.step); stage = record { tree = m.tree; walk = put m.walk h None }; may = not (live_directory (m.tree.nodes w.at)) }
 
-unfoldable pub moved : Stage → ℕ → Call → List Act → Option Way → Played
+unfoldable pub moved : Stage → ℕ → Call → List Act → Option Plan → Played
 moved m h c acts None = record { move = None; told = None; stage = m; may = true }
-moved m h c acts (Some (Begins_it new)) = begin_with m h (next_of c acts) new
-moved m h c acts (Some (Looks_on new)) = look_with m h (m.walk h) new
-moved m h c acts (Some Quits_it) = quit_with m h (m.walk h)
-moved m h c acts (Some (Owns_it new)) = own_with m h (next_of c acts) new
+moved m h c acts (Some (StartWalk new)) = begin_with m h (next_of c acts) new
+moved m h c acts (Some (LookUp new)) = look_with m h (m.walk h) new
+moved m h c acts (Some GiveUp) = quit_with m h (m.walk h)
+moved m h c acts (Some (AtOnce new)) = own_with m h (next_of c acts) new
 
 -- Each allowed move is one.
 
@@ -253,11 +252,10 @@ MayPlay m h c acts p = BeginsNext c acts p.move × PlaysAny m h p.move p.told p.
 begin_ok : (m : Stage) (h : ℕ) (c : Call) (acts : List Act) (o : Option Action) (new : ℕ) → next_of c acts ≡ o → (begin_with m h o new).may ≡ true → MayPlay m h c acts (begin_with m h o new)
 begin_ok m h c acts None new is may = absurd cc
 begin_ok m h c acts (Some s) new is may =
-    let a = and_true (follows_path s && (is_nothing (m.walk h) && (placed m.tree h s && is_free_to_find m.tree h s))) (begun m h s (elements (path_of s)) new).may may in
-    let b = and_true (follows_path s) (is_nothing (m.walk h) && (placed m.tree h s && is_free_to_find m.tree h s)) a.0 in
-    let d = and_true (is_nothing (m.walk h)) (placed m.tree h s && is_free_to_find m.tree h s) b.1 in
-    let e = and_true (placed m.tree h s) (is_free_to_find m.tree h s) d.1 in
-    (is, record { follows = b.0; rests = nothing_is (m.walk h) d.0; place = e.0; free = e.1; begins = begun_ok m h s (elements (path_of s)) new a.1 })
+    let a = and_true (follows_path s && (is_nothing (m.walk h) && placed m.tree h s)) (begun m h s (elements (path_of s)) new).may may in
+    let b = and_true (follows_path s) (is_nothing (m.walk h) && placed m.tree h s) a.0 in
+    let d = and_true (is_nothing (m.walk h)) (placed m.tree h s) b.1 in
+    (is, record { follows = b.0; rests = nothing_is (m.walk h) d.0; place = d.1; begins = begun_ok m h s (elements (path_of s)) new a.1 })
 
 own_ok : (m : Stage) (h : ℕ) (c : Call) (acts : List Act) (o : Option Action) (new : ℕ) → next_of c acts ≡ o → (own_with m h o new).may ≡ true → MayPlay m h c acts (own_with m h o new)
 own_ok m h c acts None new is may = absurd cc
@@ -278,20 +276,20 @@ quit_ok : (m : Stage) (h : ℕ) (c : Call) (acts : List Act) (o : Option Walk) �
 quit_ok m h c acts None is may = absurd cc
 quit_ok m h c acts (Some w) is may = (tt, record { walk = w; is = is; step = refl; lost = not_is (live_directory (m.tree.nodes w.at)) may; deed = refl; stage = refl })
 
-moved_ok : (m : Stage) (h : ℕ) (c : Call) (acts : List Act) (v : Option Way) → (moved m h c acts v).may ≡ true → MayPlay m h c acts (moved m h c acts v)
+moved_ok : (m : Stage) (h : ℕ) (c : Call) (acts : List Act) (v : Option Plan) → (moved m h c acts v).may ≡ true → MayPlay m h c acts (moved m h c acts v)
 unfolding moved
 moved_ok m h c acts None may = (tt, (refl, refl))
-moved_ok m h c acts (Some (Begins_it new)) may = begin_ok m h c acts (next_of c acts) new refl may
-moved_ok m h c acts (Some (Looks_on new)) may = look_ok m h c acts (m.walk h) new refl may
-moved_ok m h c acts (Some Quits_it) may = quit_ok m h c acts (m.walk h) refl may
-moved_ok m h c acts (Some (Owns_it new)) may = own_ok m h c acts (next_of c acts) new refl may
+moved_ok m h c acts (Some (StartWalk new)) may = begin_ok m h c acts (next_of c acts) new refl may
+moved_ok m h c acts (Some (LookUp new)) may = look_ok m h c acts (m.walk h) new refl may
+moved_ok m h c acts (Some GiveUp) may = quit_ok m h c acts (m.walk h) refl may
+moved_ok m h c acts (Some (AtOnce new)) may = own_ok m h c acts (next_of c acts) new refl may
 
 -- Scripts.
 
 pub data Do : Type 0 where
   Start : (h : ℕ) → (c : Call) → Do
-  Step : (h : ℕ) → (v : Option Way) → Do
-  Last : (h : ℕ) → (v : Option Way) → Do  -- an event with which the call ends
+  Step : (h : ℕ) → (v : Option Plan) → Do
+  Last : (h : ℕ) → (v : Option Plan) → Do  -- an event with which the call ends
 
 -- an event, the world after it, and whether it may happen
 pub record Shows : Type 0 where
@@ -303,7 +301,7 @@ abbrev pub is_free : Standing → Bool
 is_free Free = true
 is_free (Busy id c acts) = false
 
-abbrev pub step_at : World → ℕ → Option Way → Standing → Shows
+abbrev pub step_at : World → ℕ → Option Plan → Standing → Shows
 step_at w h v Free = record { event = Nothing; world = w; may = false }
 step_at w h v (Busy id c acts) = record {
   event = Steps h (moved w.stage h c acts v).move None;
@@ -314,7 +312,7 @@ step_at w h v (Busy id c acts) = record {
 abbrev pub last_of : Call → List Act → Played → Reply
 last_of c acts p = reply_of c (after p.told acts)
 
-abbrev pub last_at : World → ℕ → Option Way → Standing → Shows
+abbrev pub last_at : World → ℕ → Option Plan → Standing → Shows
 last_at w h v Free = record { event = Nothing; world = w; may = false }
 last_at w h v (Busy id c acts) = record {
   event = Steps h (moved w.stage h c acts v).move (Some (last_of c acts (moved w.stage h c acts v)));
@@ -331,7 +329,7 @@ free_is : (s : Standing) → is_free s ≡ true → s ≡ Free
 free_is Free h = refl
 free_is (Busy id c acts) h = absurd cc
 
-step_ok : (w : World) (h : ℕ) (v : Option Way) (s : Standing) → w.history.calls h ≡ s → (step_at w h v s).may ≡ true → Happens w (step_at w h v s).event (step_at w h v s).world
+step_ok : (w : World) (h : ℕ) (v : Option Plan) (s : Standing) → w.history.calls h ≡ s → (step_at w h v s).may ≡ true → Happens w (step_at w h v s).event (step_at w h v s).world
 step_ok w h v Free is may = absurd cc
 step_ok w h v (Busy id c acts) is may =
     let p = moved w.stage h c acts v in
@@ -339,7 +337,7 @@ step_ok w h v (Busy id c acts) is may =
     let one = moved_ok w.stage h c acts v a.1 in
     record { hart = less_is h hart_count a.0; id = id; c = c; acts = acts; busy = is; next = one.0; told = p.told; stage = p.stage; plays = one.1; reply = tt; world = refl }
 
-last_ok : (w : World) (h : ℕ) (v : Option Way) (s : Standing) → w.history.calls h ≡ s → (last_at w h v s).may ≡ true → Happens w (last_at w h v s).event (last_at w h v s).world
+last_ok : (w : World) (h : ℕ) (v : Option Plan) (s : Standing) → w.history.calls h ≡ s → (last_at w h v s).may ≡ true → Happens w (last_at w h v s).event (last_at w h v s).world
 last_ok w h v Free is may = absurd cc
 last_ok w h v (Busy id c acts) is may =
     let p = moved w.stage h c acts v in
@@ -377,22 +375,22 @@ script_runs w (d ∷ ds) may =
     let a = and_true (played w d).may (may_all (played w d).world ds) may in
     ((played w d).world, played_ok w d a.0, script_runs (played w d).world ds a.1)
 
-abbrev pub way_of : Move → Way
-way_of (Begin s new) = Begins_it new
-way_of (Look new) = Looks_on new
-way_of (Quit s) = Quits_it
-way_of (Own s new) = Owns_it new
+abbrev pub plan_of : Move → Plan
+plan_of (Begin s new) = StartWalk new
+plan_of (Look new) = LookUp new
+plan_of (Quit s) = GiveUp
+plan_of (Own s new) = AtOnce new
 
-abbrev pub any_way : Option Move → Option Way
-any_way None = None
-any_way (Some v) = Some (way_of v)
+abbrev pub any_plan : Option Move → Option Plan
+any_plan None = None
+any_plan (Some v) = Some (plan_of v)
 
 -- the script of events
 abbrev pub script_of : List Event → List Do
 script_of [] = []
 script_of (Starts h c ∷ es) = Start h c ∷ script_of es
-script_of (Steps h v None ∷ es) = Step h (any_way v) ∷ script_of es
-script_of (Steps h v (Some r) ∷ es) = Last h (any_way v) ∷ script_of es
+script_of (Steps h v None ∷ es) = Step h (any_plan v) ∷ script_of es
+script_of (Steps h v (Some r) ∷ es) = Last h (any_plan v) ∷ script_of es
 script_of (Nothing ∷ es) = script_of es
 
 -- Events that their own script gives are a run.

@@ -13,7 +13,6 @@ use Rattle.plain_tree.specs.Widths.{hart_count}
 use Rattle.plain_tree.specs.Tree.{Name, Tree, elements, climbs, climbs_in, pieces, live_directory, follow, start_of, resolve, parent, parent_of}
 use Rattle.plain_tree.specs.Steps.{path_of, follows_path, refusal_with, refused, place_of, holds_raised, IsInPlace, Step, creates, has, empty_it}
 use Rattle.plain_tree.specs.Calls.{Act, next_of, call_climbs, last_cause, next_piece, once, to_truncate, if_done, if_failed, piece, piece_count}
-use Rattle.tree_laws.specs.WellFormed.{is_free_to_find}
 use Rattle.tree_laws.proofs.Maps.{either, or_none}
 use Rattle.tree_laws.proofs.Walks.{follow_on, follow_off, follow_stop, look_bad, parent_on, parent_off, parent_bad, climbs_front}
 use Rattle.tree_moves.specs.Moves.{Deed, Walk, fail}
@@ -24,7 +23,6 @@ pub record WalkOk (t : Tree) (h : ℕ) (c : Call) (x : List Act) (w : Walk) : Ty
   pub path : elements (path_of w.step) ≡ done ++ w.next ∷ w.rest
   pub follows : follows_path w.step ≡ true
   pub place : IsInPlace t h w.step
-  pub free : is_free_to_find t h w.step ≡ true
   pub next : next_of c x ≡ Some w.step
   pub here : live_directory (t.nodes w.at) ≡ true → follow t.nodes (start_of t h (path_of w.step)) done ≡ Some w.at
 
@@ -44,7 +42,7 @@ start_same t t' h p e = rw e refl
 place_same : (t t' : Tree) (h : ℕ) (s : Action) → follows_path s ≡ true → t'.holds h ≡ t.holds h → place_of t' h s ≡ place_of t h s
 unfolding place_of
 place_same t t' h (Open path flags) f e = refl
-place_same t t' h (Find old) f e = refl
+place_same t t' h (Find old) f e = ap (λ (o : Option Hold). not (holds_raised true o)) e
 place_same t t' h (Enter new) f e = ap (λ (o : Option Hold). holds_raised true o) e
 place_same t t' h (Unlink path) f e = refl
 place_same t t' h (Mkdir path) f e = refl
@@ -61,40 +59,6 @@ place_same t t' h (Inherit child) f e = absurd cc
 
 place_kept : (t t' : Tree) (h : ℕ) (s : Action) → follows_path s ≡ true → t'.holds h ≡ t.holds h → IsInPlace t h s → IsInPlace t' h s
 place_kept t t' h s f e is = ap (λ (b : Bool). nat_lt h hart_count && b) (place_same t t' h s f e) ∙ is
-
-free_same : (t t' : Tree) (h : ℕ) (s : Action) → t'.holds h ≡ t.holds h → is_free_to_find t' h s ≡ is_free_to_find t h s
-free_same t t' h (Open path flags) e = refl
-free_same t t' h (Find old) e = ap (λ (o : Option Hold). not (holds_raised true o)) e
-free_same t t' h (Enter new) e = refl
-free_same t t' h (Unlink path) e = refl
-free_same t t' h (Mkdir path) e = refl
-free_same t t' h (Chdir path) e = refl
-free_same t t' h (Truncate fd) e = refl
-free_same t t' h (Read fd n) e = refl
-free_same t t' h (WritePart fd b) e = refl
-free_same t t' h Bump e = refl
-free_same t t' h Unbump e = refl
-free_same t t' h (Dup fd) e = refl
-free_same t t' h (Close fd) e = refl
-free_same t t' h (Fstat fd) e = refl
-free_same t t' h (Inherit child) e = refl
-
-pub own_free : (t : Tree) (h : ℕ) (s : Action) → follows_path s ≡ false → is_free_to_find t h s ≡ true
-own_free t h (Open path flags) f = refl
-own_free t h (Find old) f = absurd cc
-own_free t h (Enter new) f = refl
-own_free t h (Unlink path) f = refl
-own_free t h (Mkdir path) f = refl
-own_free t h (Chdir path) f = refl
-own_free t h (Truncate fd) f = refl
-own_free t h (Read fd n) f = refl
-own_free t h (WritePart fd b) f = refl
-own_free t h Bump f = refl
-own_free t h Unbump f = refl
-own_free t h (Dup fd) f = refl
-own_free t h (Close fd) f = refl
-own_free t h (Fstat fd) f = refl
-own_free t h (Inherit child) f = refl
 
 -- A path that leads nowhere is refused, as a name that isn't there.
 
@@ -247,7 +211,6 @@ walk_kept t t' g c x w calm k f = record {
   path = k.path;
   follows = k.follows;
   place = place_kept t t' g w.step k.follows f.hold k.place;
-  free = free_same t t' g w.step f.hold ∙ k.free;
   next = k.next;
   here = λ live. elim (either (live_directory (t.nodes w.at))) [
     | inl good ↦ elim (still_at t t' g c x w calm k f good) [ inl p ↦ p | inr p ↦ let dead : live_directory (t'.nodes w.at) ≡ false = p.0 in absurd (cc (live, dead)) ]

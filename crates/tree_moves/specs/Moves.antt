@@ -11,7 +11,6 @@ use Rattle.plain_tree.specs.Widths.{hart_count}
 use Rattle.plain_tree.specs.Tree.{Name, Tree, put, elements, live_directory, look, start_of, resolve, parent}
 use Rattle.plain_tree.specs.Steps.{path_of, follows_path, makes_node, refusal_with, IsInPlace, StepWith}
 use Rattle.plain_tree.specs.Calls.{Act, next_of, reply_of, had_room}
-use Rattle.tree_laws.specs.WellFormed.{is_free_to_find}
 
 -- A step with its answer, and the number that it may give a new node.
 pub record Deed : Type 0 where
@@ -76,7 +75,6 @@ pub record BeginsWalk (m : Stage) (h : ℕ) (s : Action) (new : ℕ) (told : Opt
   pub follows : follows_path s ≡ true
   pub rests : m.walk h ≡ None
   pub place : IsInPlace m.tree h s
-  pub free : is_free_to_find m.tree h s ≡ true
   pub begins : Begins m h s (elements (path_of s)) new told m'
 
 pub record LooksUp (m : Stage) (h : ℕ) (new : ℕ) (told : Option Deed) (m' : Stage) : Type 0 where
