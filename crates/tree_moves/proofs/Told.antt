@@ -29,7 +29,11 @@ pub played_end : (c : Call) (acts : List Act) (es : List Step) (r : Reply) → P
 played_end c acts [] r k = k
 played_end c acts (x ∷ es) r k = played_end c (after x.told acts) es r k.1
 
--- how the calls stand after a hart's event
+pub told_more : (acts : List Act) (es : List Step) (e : Step) → told_by acts (es ++ e ∷ []) ≡ after e.told (told_by acts es)
+told_more acts [] e = refl
+told_more acts (x ∷ es) e = told_more (after x.told acts) es e
+
+-- How the calls stand after a hart's event.
 
 moved_calls : (w : World) (h : ℕ) (told : Option Deed) (m : Stage) (g : ℕ) → (moves_on w.stage m h told w.history).calls g ≡ (tells_any told h (writes_any (unless (lost_of w.stage h) told) h w.history)).calls g
 moved_calls w h told m g = ap (λ (f : ℕ → Standing). f g) (falls_calls w.stage m hart_count (tells_any told h (writes_any (unless (lost_of w.stage h) told) h w.history)))

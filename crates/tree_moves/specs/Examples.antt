@@ -1,4 +1,4 @@
--- Runs: one in which each call finishes, and two in which a walker's directory is removed under it.
+-- Runs: one in which each call finishes, and three in which a walk is lost: twice its directory is removed under it.
 use Rattle.std.specs.Prelude.{◌≡◌, ℕ, true, List, [], ◌∷◌, ◌++◌, Some, None, codes}
 use Rattle.plain_tree.specs.declared.answer.Answer.{Answer}
 use Rattle.plain_tree.specs.declared.answer.Answer.TheVariants.{Fd, Count, Stat as Stated, Done as Finished, Failed as Refused}
@@ -178,3 +178,14 @@ made_again = makes_both 2 3 ++ removes_both ++ makes_both 3 4 ++ gives_up ∷ []
 
 abbrev pub WalkerStaysFailed : Type 0
 WalkerStaysFailed = IsRun made_again (until_removed ++ placed 25 6 1 3 (MkdirStep (codes "/d")) Done ∷ placed 30 7 1 4 (OpenStep (codes "/d/f") 512) (Opened 0 0 true) ∷ [])
+
+-- A walk that comes to a file is lost there and then, and fails where it was lost.
+
+abbrev pub open_below_a : Call
+open_below_a = Open (codes "/a/b") 0
+
+abbrev pub opens_below_a : List Event
+opens_below_a = opens_a ++ Starts 0 open_below_a ∷ walks 0 (OpenStep (codes "/a/b") 0) 0 ++ ends 0 (Quit (OpenStep (codes "/a/b") 0)) open_below_a (Refused NoEntry) ∷ []
+
+abbrev pub WalkerFailsAtAFile : Type 0
+WalkerFailsAtAFile = IsRun opens_below_a (opened_a ∷ placed 6 1 0 0 (OpenStep (codes "/a/b") 0) (Failed NoEntry) ∷ [])

@@ -54,6 +54,10 @@ WrittenMovesComeNext = (c : Call) (es rest : List Step) (e : Step) (r : Reply) �
 abbrev pub WrittenMovesEnd : Type 0
 WrittenMovesEnd = (c : Call) (es : List Step) (r : Reply) → Written c es r → MayEnd c (told_by [] es) r
 
+-- One move more tells the call one deed more, or nothing.
+abbrev pub MovesTellInTurn : Type 0
+MovesTellInTurn = (acts : List Act) (es : List Step) (e : Step) → told_by acts (es ++ e ∷ []) ≡ after e.told (told_by acts es)
+
 -- How the calls stand after a hart's event.
 pub record Tells (w : World) (h id : ℕ) (c : Call) (acts : List Act) (told : Option Deed) (m : Stage) : Type 0 where
   pub goes_on : (stepped w h told m None).history.calls h ≡ Busy id c (after told acts)

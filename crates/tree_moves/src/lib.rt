@@ -3,8 +3,8 @@
 //! when it gives the walk up. The functions do nothing: each carries a law.
 #![tactic(auto)]
 
-ghost use Rattle.tree_moves.specs.Examples.{OpenFinishes, ReadFinishes, WriteFinishes, LinkFinishes, UnlinkFinishes, MkdirFinishes, ChdirFinishes, DupFinishes, FstatFinishes, CloseFinishes, InheritFinishes, WalkerFails, WalkerStaysFailed};
-ghost use Rattle.tree_moves.specs.Laws.{RunsAreExplained, ListsLeadToTheTree, ListsGrow, OneHartIsExplained, CallsAreToldLate, WrittenMovesComeNext, WrittenMovesEnd, EventsTellTheirHart, RunsGoOn};
+ghost use Rattle.tree_moves.specs.Examples.{OpenFinishes, ReadFinishes, WriteFinishes, LinkFinishes, UnlinkFinishes, MkdirFinishes, ChdirFinishes, DupFinishes, FstatFinishes, CloseFinishes, InheritFinishes, WalkerFails, WalkerStaysFailed, WalkerFailsAtAFile};
+ghost use Rattle.tree_moves.specs.Laws.{RunsAreExplained, ListsLeadToTheTree, ListsGrow, OneHartIsExplained, CallsAreToldLate, WrittenMovesComeNext, WrittenMovesEnd, MovesTellInTurn, EventsTellTheirHart, RunsGoOn};
 
 /// The list that a run keeps, by appending alone, explains its trace: calls of many harts that walk, look up, enter
 /// and remove step by step act as one list of tree steps. No path has the element "..".
@@ -39,6 +39,7 @@ pub fn calls_are_told_late()
 pub fn written_moves_come_next()
     ensures next { WrittenMovesComeNext }
     ensures last { WrittenMovesEnd }
+    ensures told { MovesTellInTurn }
 {}
 
 /// An event of a hart tells that hart's call alone, and ends no other.
@@ -67,8 +68,9 @@ pub fn each_call_finishes()
 {}
 
 /// A hart walks to a directory that another hart removes under it: its open fails at that very unlink, also where the
-/// names are made again before it looks.
+/// names are made again before it looks. An open through a file fails where its walk comes to the file.
 pub fn walkers_fail_with_their_directory()
     ensures removed { WalkerFails }
     ensures made_again { WalkerStaysFailed }
+    ensures at_a_file { WalkerFailsAtAFile }
 {}
