@@ -23,3 +23,4 @@ pub mod LaidSlots
 pub mod LaidBytes
 pub mod LaidNumbers
 pub mod RunningBlocks
+pub mod SeenDisks

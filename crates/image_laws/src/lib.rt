@@ -6,6 +6,7 @@ ghost use Rattle.image_laws.specs.Laws.{HeldTreesAreImages, ImagesHoldTheirTrees
 
 pub mod puts;
 pub mod running;
+pub mod seen;
 
 /// The tree of an image that passes the twelve checks is well formed: one tree of directories under the root, in which
 /// each count is the number of names, with nothing open and all harts in the root.

@@ -1,0 +1,47 @@
+-- The disk as it is seen while a log runs: of each block the bytes that are seen, and a log that has copies of none.
+use Rattle.std.specs.Prelude.{◌≡◌, ◌≢◌, ℕ, zero, suc, ◌<◌, ◌≤◌, ◌==◌, List, [], ◌∷◌, ◌++◌, length, replicate, if◌then◌else◌}
+use Rattle.block_device.specs.Blocks.{HasWholeBlocks}
+use Rattle.fs_layout.specs.declared.superblock.Super.{Super}
+use Rattle.fs_layout.specs.Widths.{block_len, magic, super_block, super_magic_at}
+use Rattle.fs_layout.specs.Bytes.{u32_at}
+use Rattle.fs_layout.specs.Super.{super_fields}
+use Rattle.fs_layout.specs.Recovered.{recovered, sizes_of, IsOutsideLog}
+use Rattle.image_tree.specs.Checks.{IsGoodSuper}
+use Rattle.image_tree.specs.Damage.{UpToLog}
+
+-- the first n blocks as they are seen; the log's head names none
+unfoldable pub seen_blocks : ℕ → (ℕ → List ℕ) → ℕ → List (List ℕ)
+seen_blocks logstart see zero = []
+seen_blocks logstart see (suc n) = seen_blocks logstart see n ++ (if n == logstart then replicate block_len 0 else see n) ∷ []
+
+-- a disk of n blocks that are seen so
+abbrev pub seen_disk : Super → (ℕ → List ℕ) → ℕ → List (List ℕ)
+seen_disk sizes see n = seen_blocks sizes.logstart see n
+
+-- the blocks that are seen of a disk which passed the checks of its superblock
+pub record AreSeen (sizes : Super) (see : ℕ → List ℕ) (n : ℕ) : Type 0 where
+  pub is_super : u32_at (see super_block) super_magic_at ≡ magic
+  pub sizes_are : super_fields (see super_block) ≡ sizes
+  pub good : IsGoodSuper sizes
+  pub sized : sizes.size ≤ n
+  pub whole : (b : ℕ) → b < n → length (see b) ≡ block_len
+
+-- The seen disk has these sizes, passes the checks up to the log's, and recovery would leave what is seen.
+pub record IsGoodSeen (sizes : Super) (see : ℕ → List ℕ) (n : ℕ) : Type 0 where
+  pub sizes_are : sizes_of (seen_disk sizes see n) ≡ sizes
+  pub good : UpToLog (seen_disk sizes see n)
+  pub whole : HasWholeBlocks (seen_disk sizes see n)
+  pub blocks : (b : ℕ) → b < n → IsOutsideLog sizes b → recovered (seen_disk sizes see n) b ≡ see b
+
+-- block b, which may be put, is seen otherwise, and no other one
+pub record IsSeenPut (sizes : Super) (see now : ℕ → List ℕ) (b : ℕ) : Type 0 where
+  pub no_super : b ≢ super_block
+  pub outside : IsOutsideLog sizes b
+  pub whole : length (now b) ≡ block_len
+  pub others : (c : ℕ) → c ≢ b → now c ≡ see c
+
+-- recovery would leave a disk as it is seen
+pub record IsRecoveredSo (sizes : Super) (see : ℕ → List ℕ) (disk : List (List ℕ)) : Type 0 where
+  pub sizes_are : sizes_of disk ≡ sizes
+  pub good : UpToLog disk
+  pub blocks : (b : ℕ) → b < length disk → IsOutsideLog sizes b → recovered disk b ≡ see b

@@ -1,0 +1,22 @@
+-- The laws of the disk as it is seen.
+use Rattle.std.specs.Prelude.{◌≡◌, ℕ, List, length}
+use Rattle.fs_layout.specs.declared.superblock.Super.{Super}
+use Rattle.image_tree.specs.Damage.{IsWellFormed}
+use Rattle.image_tree.specs.Trees.{tree_in}
+use Rattle.image_laws.specs.Puts.{IsPut}
+use Rattle.image_laws.specs.Seen.{seen_disk, AreSeen, IsGoodSeen, IsSeenPut, IsRecoveredSo}
+
+abbrev pub SeenDisksAreGood : Type 0
+SeenDisksAreGood = (sizes : Super) (see : ℕ → List ℕ) (n : ℕ) → AreSeen sizes see n → IsGoodSeen sizes see n
+
+-- A block that comes to be seen otherwise is a put of the seen disk.
+abbrev pub SeenPutsArePuts : Type 0
+SeenPutsArePuts =
+    (sizes : Super) (see now : ℕ → List ℕ) (n b : ℕ) → AreSeen sizes see n → IsSeenPut sizes see now b
+    → AreSeen sizes now n × IsPut (seen_disk sizes see n) (seen_disk sizes now n) b
+
+-- A disk that recovery would leave as it is seen is a well-formed image where the seen disk is, of the same tree.
+abbrev pub RecoveredDisksAreImages : Type 0
+RecoveredDisksAreImages =
+    (sizes : Super) (see : ℕ → List ℕ) (disk : List (List ℕ)) → AreSeen sizes see (length disk) → IsRecoveredSo sizes see disk → IsWellFormed (seen_disk sizes see (length disk))
+    → IsWellFormed disk × (tree_in disk ≡ tree_in (seen_disk sizes see (length disk)))
