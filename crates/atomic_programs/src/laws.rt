@@ -7,7 +7,6 @@ ghost use Rattle.atomic_programs.specs.Explained.{Explained, Led, Steady, In, hi
 ghost use Rattle.atomic_programs.specs.Trace.{Traced, happened};
 ghost use Rattle.atomic_programs.specs.Cell as cell;
 ghost use Rattle.atomic_programs.specs.Desk as desk;
-ghost use Rattle.atomic_programs.specs.Staged as staged;
 
 /// Over every list of events, from any world that holds and where every hart is idle, the cell's replies are explained by
 /// one list of steps.
@@ -81,14 +80,4 @@ pub fn desk_reserves()
 pub fn desk_unclean()
     ensures clean { (run desk.desk (Start 0 desk.Reset ∷ Step 0 tt ∷ []) (fresh desk.desk (desk.rest 5 (λ h. 0)))).world.clean ≡ false }
     ensures history { history desk.desk (run desk.desk (Start 0 desk.Reset ∷ Step 0 tt ∷ Start 0 (desk.Request 7) ∷ Step 0 tt ∷ Start 1 (desk.Help 0) ∷ Step 1 tt ∷ []) (fresh desk.desk (desk.rest 5 (λ h. 0)))) ≡ record { number = 5; hart = 0; call = 2; step = desk.Swapped 7 0 } ∷ [] }
-{}
-
-/// The cell's calls over the machine below, where a store takes two operations: explained by lifting what was shown above.
-pub fn staged_explained()
-    ensures { (w : staged.World) (events : List (Event cell.Call cell.Outside)) → cell.Inv w.whole → ((h : ℕ) → cell.own_of h w.whole ≡ None) → AllHonest staged.staged_swaps events (fresh staged.staged_swaps w) → Explained staged.staged_swaps w.whole.value (run staged.staged_swaps events (fresh staged.staged_swaps w)) }
-{}
-
-/// There the store acts at its second operation.
-pub fn staged_finishes()
-    ensures { history staged.staged_swaps (run staged.staged_swaps (Start 0 (cell.Swap 7) ∷ Step 0 cell.Passes ∷ Step 0 cell.Passes ∷ Step 0 cell.Passes ∷ Step 0 cell.Passes ∷ Step 0 cell.Passes ∷ []) (fresh staged.staged_swaps (staged.rest 5 0))) ≡ record { number = 4; hart = 0; call = 0; step = cell.Swapped 7 5 } ∷ [] }
 {}

@@ -1,0 +1,268 @@
+-- Two puts below, one step above.
+use Rattle.std.proofs.Common.{◌≡◌, ◌≢◌, ◌<◌, ◌≤◌, ◌+◌, ◌⊎◌, inl, inr, ℕ, suc, zero, Bool, true, false, if◌then◌else◌, Option, Some, None, List, refl, sym, ◌∙◌, ap, subst, arith}
+use Rattle.atomic_programs.specs.Prog.{Ret, Do, unmarked}
+use Rattle.atomic_programs.specs.Logic.{Machine, Wp, Laws}
+use Rattle.atomic_programs.specs.Joined.{Lasts, Both, joined, LowerLaws, Below, Atomic}
+use Rattle.atomic_examples.specs.Whole.{put, if_held}
+use Rattle.atomic_examples.specs.Grab.{Above, Grab, grabbed, Kept, machine, World, GetBits, PutBits, Zero, bits_if, lock_of, holder, IsOut, Same, TiedAt, Base, low, first, grab_at, handler}
+use Rattle.atomic_programs.proofs.Joined.{Here, Silent, s-silent, ToAct, to_act, acted, s-act}
+use Rattle.atomic_examples.proofs.Maps.{put_same, put_other, same_or, Ours, ours_none, ours_some, not_held, held_is, held_here, none_is}
+use Rattle.atomic_examples.proofs.Steps.{not_mine, ours_is, put_like}
+
+still : {A : Type 0} (h : ℕ) (o p : Option ℕ) (x y : A) → if_held p h y ≡ if_held o h x → o ≡ Some h → (p ≡ Some h) × (y ≡ x)
+still h o p x y s e = held_is h p y x (s ∙ ap (λ (z : Option ℕ). if_held z h x) e ∙ held_here h x)
+
+laws : Laws machine
+laws =
+    record {
+      same = λ h w. (refl, (λ i. refl), λ c i a b. (a, b, refl));
+      trans = λ h u v w xs ys a b. (rw (a.0, b.0) refl, (λ i. b.1 i ∙ a.1 i), λ c i o k. let x = a.2 c i o k in let y = b.2 c i x.0 x.1 in (y.0, y.1, y.2 ∙ x.2));
+      idle_none = λ h v w xs o i. o.0;
+      idle_stays = λ h v w xs o idle i. o.1 i ∙ idle i;
+      clean_before = λ h v w xs o y. tt;
+    }
+
+tied_at : (h c : ℕ) (v w : World) (g u : Above) → Same h v w → Kept h g u → TiedAt h c v g → holder v c ≡ Some h → TiedAt h c w u
+tied_at h c v w g u s k t e =
+    let x : Option ℕ × ℕ = (v.owner c, v.block c) in
+    let y : Option ℕ × ℕ = (w.owner c, w.block c) in
+    let q = still h (holder v c) (holder w c) x y (s.blocks c) e in
+    let n = k c t.0 t.2 t.3 in
+    (t.0, ap (λ (p : Option ℕ × ℕ). p.0) q.1 ∙ t.1, n.0, n.1, n.2 ∙ t.4 ∙ sym (ap (λ (p : Option ℕ × ℕ). p.1) q.1))
+
+held_before : (h c : ℕ) (v w : World) → Same h v w → holder w c ≡ Some h → holder v c ≡ Some h
+held_before h c v w s e =
+    let x : Option ℕ × ℕ = (v.owner c, v.block c) in
+    let y : Option ℕ × ℕ = (w.owner c, w.block c) in
+    (still h (holder w c) (holder v c) y x (sym (s.blocks c)) e).0
+
+free_stays : (h : ℕ) (v w : World) → Same h v w → v.bits_out ≢ Some h → w.bits_out ≢ Some h
+free_stays h v w s ne = none_is h w.bits_out w.bits (s.bits ∙ not_mine h v.bits_out v.bits ne)
+
+low_laws : LowerLaws machine low
+low_laws =
+    record {
+      same = λ h w. record { locks = λ i. refl; bits = refl; blocks = λ c. refl };
+      trans = λ h u v w p q. record { locks = λ i. q.locks i ∙ p.locks i; bits = q.bits ∙ p.bits; blocks = λ c. q.blocks c ∙ p.blocks c };
+      kept = λ h g u xs o. o.2;
+      base = λ h v w g u s k b. record { free = free_stays h v w s b.free; tied = λ c e. let q = held_before h c v w s e in tied_at h c v w g u s k (b.tied c q) q };
+    }
+
+-- a step of hart h that leaves all locks
+record Did (h : ℕ) (v r : World) : Type 0 where
+  pub locks : r.lock ≡ v.lock
+  pub bits : ((r.bits_out ≡ v.bits_out) × (r.bits ≡ v.bits)) ⊎ (Ours h v.bits_out × Ours h r.bits_out)
+  pub blocks : (c : ℕ) → ((r.owner c ≡ v.owner c) × (r.block c ≡ v.block c)) ⊎ (Ours h (holder v c) × Ours h (holder r c))
+
+did_same : (h : ℕ) (v r : World) → Did h v r → (g : ℕ) → g ≢ h → Same g v r
+did_same h v r did g ne =
+    record { locks = λ i. ap (λ (f : ℕ → Option ℕ). if_held (f i) g i) did.locks; bits = bits did.bits; blocks = λ c. block c (did.blocks c) }
+  where
+    bits : ((r.bits_out ≡ v.bits_out) × (r.bits ≡ v.bits)) ⊎ (Ours h v.bits_out × Ours h r.bits_out) → if_held r.bits_out g r.bits ≡ if_held v.bits_out g v.bits
+    bits (inl k) = λ j. if_held (k.0 j) g (k.1 j)
+    bits (inr o) = not_held h g r.bits_out r.bits o.1 ne ∙ sym (not_held h g v.bits_out v.bits o.0 ne)
+
+    block : (c : ℕ) → ((r.owner c ≡ v.owner c) × (r.block c ≡ v.block c)) ⊎ (Ours h (holder v c) × Ours h (holder r c))
+        → if_held {A = Option ℕ × ℕ} (holder r c) g (r.owner c, r.block c) ≡ if_held {A = Option ℕ × ℕ} (holder v c) g (v.owner c, v.block c)
+    block c (inl k) = λ j. if_held {A = Option ℕ × ℕ} (lock_of (did.locks j) (k.0 j)) g (k.0 j, k.1 j)
+    block c (inr o) =
+        let x : Option ℕ × ℕ = (r.owner c, r.block c) in
+        let y : Option ℕ × ℕ = (v.owner c, v.block c) in
+        not_held h g (holder r c) x o.1 ne ∙ sym (not_held h g (holder v c) y o.0 ne)
+
+first_is : (z : ℕ → Bool) (k n c : ℕ) → first z k n ≡ Some c → z c ≡ false
+first_is z k zero c e = absurd cc
+first_is z k (suc n) c e = at (z k) refl (first_is z (suc k) n c) e
+  where
+    at : (t : Bool) → z k ≡ t → (first z (suc k) n ≡ Some c → z c ≡ false) → (if t then first z (suc k) n else Some k) ≡ Some c → z c ≡ false
+    at true q later s = later s
+    at false q later s = let p : k ≡ c = cc in subst (λ (j : ℕ). z j ≡ false) p q
+
+none_is_free : (z : ℕ → Bool) (k n : ℕ) → first z k n ≡ None → (c : ℕ) → k ≤ c → c < k + n → z c ≡ true
+none_is_free z k zero e c a b = absurd (omega arith)
+none_is_free z k (suc n) e c a b = at (z k) refl (λ s. none_is_free z (suc k) n s c) e
+  where
+    at : (t : Bool) → z k ≡ t → (first z (suc k) n ≡ None → suc k ≤ c → c < suc k + n → z c ≡ true) → (if t then first z (suc k) n else Some k) ≡ None → z c ≡ true
+    at false q later s = absurd cc
+    at true q later s = elim (same_or c k) [ inl p ↦ subst (λ (j : ℕ). z j ≡ true) (sym p) q | inr ne ↦ later s (omega arith) (omega arith) ]
+
+module _ (h i : ℕ) (m : Option ℕ → Option (Unit {0})) (B : List (Unit {0}) → Type 0) (C : Option ℕ → List (Unit {0}) → Above → Type 0) (lasts : Lasts machine h B C) where
+  abbrev D : Machine
+  D = joined machine low
+
+  abbrev W : Type 0
+  W = Both World Above
+
+  abbrev E : Type 0
+  E = List (Unit {0})
+
+  abbrev Todo : E → Above → Type 0
+  Todo = ToAct machine low laws low_laws h B (Grab i) m C lasts
+
+  -- between the act and the put of the block: c is the inode's, zero above, and below whatever it was
+  record Zeroing (c : ℕ) (r : World) (g : Above) : Type 0 where
+    pub free : r.bits_out ≢ Some h
+    pub tied : (d : ℕ) → d ≢ c → holder r d ≡ Some h → TiedAt h d r g
+    pub mine : holder r c ≡ Some h
+    pub below : r.owner c ≡ Some i
+    pub above : g.owner c ≡ Some i
+    pub lock : g.lock i ≡ Some h
+    pub zeroed : g.bytes c ≡ 0
+
+  zero_ok : (c : ℕ) (es : E) (w : W) → Zeroing c w.real w.seen → C (Some c) es w.seen → Wp D h B (Below machine low h C) (Do (Zero c) unmarked (λ _. Ret (Some c))) 1 es w
+  zero_ok c es w p done =
+      s-silent machine low laws low_laws h B (Zero c) (λ _. Ret (Some c)) (Below machine low h C) (C (Some c)) 0 es w (acted machine low laws low_laws h B (Grab i) m C lasts (Some c)) done
+      (λ v fs here.
+      let x : Option ℕ × ℕ = (w.real.owner c, w.real.block c) in
+      let y : Option ℕ × ℕ = (v.real.owner c, v.real.block c) in
+      let q = still h (holder w.real c) (holder v.real c) x y (here.same.blocks c) p.mine in
+      let k = here.kept c i p.above p.lock in
+      let owner : v.real.owner c ≡ Some i = ap (λ (t : Option ℕ × ℕ). t.0) q.1 ∙ p.below in
+      let lock : v.real.lock i ≡ Some h = sym (here.shows.locks i) ∙ k.1 in (
+        q.0,
+        λ t u. (
+          record {
+            locks = here.shows.locks;
+            owners = here.shows.owners;
+            free = here.shows.free;
+            used = here.shows.used;
+            datas = λ d j o f. elim (same_or d c) [
+              | inl e ↦ absurd (
+                  let a : ◌≡◌ {A = Option ℕ} (Some j) (Some i) = sym o ∙ ap v.real.owner e ∙ owner in
+                  let b : j ≡ i = cc in
+                  let n : ◌≡◌ {A = Option ℕ} None (Some h) = sym f ∙ ap v.real.lock b ∙ lock in
+                  cc)
+              | inr ne ↦ here.shows.datas d j o f ∙ sym (put_other v.real.block c 0 d ne)
+            ];
+          },
+          did_same h v.real _ (record {
+            locks = refl;
+            bits = inl (refl, refl);
+            blocks = λ d. elim (same_or d c) [
+              | inl e ↦ let o = ours_is h (holder v.real d) (inr (ap (holder v.real) e ∙ q.0)) in inr (o, o)
+              | inr ne ↦ inl (refl, put_other v.real.block c 0 d ne)
+            ];
+          }),
+          (
+            here.stage,
+            record {
+              free = free_stays h w.real v.real here.same p.free;
+              tied = λ d e. elim (same_or d c) [
+                | inl n ↦ (i, ap v.real.owner n ∙ owner, ap v.seen.owner n ∙ k.0, k.1, ap v.seen.bytes n ∙ k.2 ∙ p.zeroed ∙ sym (put_same v.real.block c 0) ∙ ap (put v.real.block c 0) (sym n))
+                | inr ne ↦
+                    let b = held_before h d w.real v.real here.same e in
+                    let s = tied_at h d w.real v.real w.seen v.seen here.same here.kept (p.tied d ne b) b in
+                    (s.0, s.1, s.2, s.3, s.4 ∙ sym (put_other v.real.block c 0 d ne))
+              ];
+            },
+          ),
+        ),
+      ))
+
+  -- the bitmap's buffer is the hart's, and these are its bits
+  record Got (z : ℕ → Bool) (r : World) (g : Above) : Type 0 where
+    pub mine : r.bits_out ≡ Some h
+    pub bits : r.bits ≡ z
+    pub tied : (d : ℕ) → holder r d ≡ Some h → TiedAt h d r g
+
+  got_stays : (z : ℕ → Bool) (v w : W) → Same h v.real w.real → Kept h v.seen w.seen → Got z v.real v.seen → Got z w.real w.seen
+  got_stays z v w s k p =
+      let q = still h v.real.bits_out w.real.bits_out v.real.bits w.real.bits s.bits p.mine in
+      record { mine = q.0; bits = q.1 ∙ p.bits; tied = λ d e. let b = held_before h d v.real w.real s e in tied_at h d v.real w.real v.seen w.seen s k (p.tied d b) b }
+
+  pick_ok : (z : ℕ → Bool) (es : E) (w : W) (x : Option ℕ) → first z 0 8 ≡ x → Got z w.real w.seen → Todo es w.seen → Wp D h B (Below machine low h C) (grab_at i m x) 2 es w
+  pick_ok z es w None e p todo =
+      s-act machine low laws low_laws h B (Grab i) m C lasts None (PutBits None) (λ _. Ret None) (Below machine low h C) 1 es w todo
+      (λ v fs here may.
+      let q = got_stays z w v here.same here.kept p in (
+        q.mine,
+        λ t u. (
+          None,
+          v.seen,
+          refl,
+          (λ c lt n.
+              here.shows.used c (ap (λ (f : ℕ → Bool). f c) q.bits ∙ none_is_free z 0 8 e c (omega arith) (omega arith)) (sym (here.shows.owners c) ∙ n)),
+          (λ inv. record { locks = here.shows.locks; owners = here.shows.owners; free = here.shows.free; used = here.shows.used; datas = here.shows.datas }),
+          did_same h v.real _ (record { locks = refl; bits = inr (ours_is h v.real.bits_out (inr q.mine), ours_none h); blocks = λ c. inl (refl, refl) }),
+          λ gs inv c. (c, record { free = λ n. cc; tied = q.tied }),
+        ),
+      ))
+  pick_ok z es w (Some c) e p todo =
+      s-act machine low laws low_laws h B (Grab i) m C lasts (Some c) (PutBits (Some (c, i))) (λ _. Do (Zero c) unmarked (λ _. Ret (Some c))) (Below machine low h C) 1 es w todo
+      (λ v fs here may.
+      let q = got_stays z w v here.same here.kept p in
+      let none : v.real.owner c ≡ None = here.shows.free c (ap (λ (f : ℕ → Bool). f c) q.bits ∙ first_is z 0 8 c e) in
+      let lock : v.real.lock i ≡ Some h = sym (here.shows.locks i) ∙ may in (
+        q.mine,
+        λ t u. (
+          Some c,
+          grabbed i v.seen (Some c),
+          refl,
+          here.shows.owners c ∙ none,
+          (λ inv. record {
+            locks = here.shows.locks;
+            owners = put_like v.seen.owner v.real.owner c (Some i) here.shows.owners;
+            free = λ d f. elim (same_or d c) [
+              | inl n ↦ absurd (let r : true ≡ false = sym (put_same v.real.bits c true) ∙ ap (put v.real.bits c true) (sym n) ∙ f in cc)
+              | inr ne ↦ put_other v.real.owner c (Some i) d ne ∙ here.shows.free d (sym (put_other v.real.bits c true d ne) ∙ f)
+            ];
+            used = λ d f n. elim (same_or d c) [
+              | inl s ↦ let r : ◌≡◌ {A = Option ℕ} (Some i) None = sym (put_same v.real.owner c (Some i)) ∙ ap (put v.real.owner c (Some i)) (sym s) ∙ n in cc
+              | inr ne ↦ here.shows.used d (sym (put_other v.real.bits c true d ne) ∙ f) (sym (put_other v.real.owner c (Some i) d ne) ∙ n)
+            ];
+            datas = λ d j o f. elim (same_or d c) [
+              | inl s ↦ absurd (
+                  let a : ◌≡◌ {A = Option ℕ} (Some i) (Some j) = sym (put_same v.real.owner c (Some i)) ∙ ap (put v.real.owner c (Some i)) (sym s) ∙ o in
+                  let b : j ≡ i = cc in
+                  let n : ◌≡◌ {A = Option ℕ} None (Some h) = sym f ∙ ap v.real.lock b ∙ lock in
+                  cc)
+              | inr ne ↦ put_other v.seen.bytes c 0 d ne ∙ here.shows.datas d j (sym (put_other v.real.owner c (Some i) d ne) ∙ o) f
+            ];
+          }),
+          did_same h v.real _ (record {
+            locks = refl;
+            bits = inr (ours_is h v.real.bits_out (inr q.mine), ours_none h);
+            blocks = λ d. elim (same_or d c) [
+              | inl s ↦ inr (
+                ours_is h (holder v.real d) (inl (ap (lock_of v.real.lock) (ap v.real.owner s ∙ none))),
+                ours_is h (lock_of v.real.lock (put v.real.owner c (Some i) d)) (inr (ap (lock_of v.real.lock) (ap (put v.real.owner c (Some i)) s ∙ put_same v.real.owner c (Some i)) ∙ lock)),
+              )
+              | inr ne ↦ inl (put_other v.real.owner c (Some i) d ne, refl)
+            ];
+          }),
+          λ gs inv done.
+              zero_ok c gs (record { real = record (v.real) { bits_out = None; bits = put v.real.bits c true; owner = put v.real.owner c (Some i) }; seen = grabbed i v.seen (Some c) })
+              (record {
+                free = λ n. cc;
+                tied = λ d ne y.
+                    let o = put_other v.real.owner c (Some i) d ne in
+                    let s = q.tied d (ap (lock_of v.real.lock) (sym o) ∙ y) in
+                    (s.0, o ∙ s.1, put_other v.seen.owner c (Some i) d ne ∙ s.2, s.3, put_other v.seen.bytes c 0 d ne ∙ s.4);
+                mine = ap (lock_of v.real.lock) (put_same v.real.owner c (Some i)) ∙ lock;
+                below = put_same v.real.owner c (Some i);
+                above = put_same v.seen.owner c (Some i);
+                lock = may;
+                zeroed = put_same v.seen.bytes c 0;
+              })
+              done,
+        ),
+      ))
+
+  grab_ok : (es : E) (w : W) → Base h w.real w.seen → Todo es w.seen → Wp D h B (Below machine low h C) (handler (Grab i) m) 3 es w
+  grab_ok es w base todo =
+      s-silent machine low laws low_laws h B GetBits (λ z. grab_at i m (first z 0 8)) (Below machine low h C) Todo 2 es w (to_act machine low laws low_laws h B (Grab i) m C lasts) todo
+      (λ v fs here. (free_stays h w.real v.real here.same base.free, λ t u. got v fs here (v.real.bits_out) refl))
+    where
+      got : (v : W) (fs : E) → Here machine low laws low_laws h B Todo w v fs → (o : Option ℕ) → v.real.bits_out ≡ o
+          → Silent machine low laws low_laws h B v (IsOut h v.real.bits_out) (bits_if h v.real o) (λ z r. Wp D h B (Below machine low h C) (grab_at i m (first z 0 8)) 2 fs (record { real = r; seen = v.seen }))
+      got v fs here (Some g) e = (g, (λ q. free_stays h w.real v.real here.same base.free (e ∙ ap (λ (z : ℕ). Some z) q)), e)
+      got v fs here None e = (
+        record { locks = here.shows.locks; owners = here.shows.owners; free = here.shows.free; used = here.shows.used; datas = here.shows.datas },
+        did_same h v.real _ (record { locks = refl; bits = inr (ours_is h v.real.bits_out (inl e), ours_some h); blocks = λ c. inl (refl, refl) }),
+        pick_ok v.real.bits fs (record { real = record (v.real) { bits_out = Some h }; seen = v.seen }) (first v.real.bits 0 8) refl
+            (record { mine = refl; bits = refl; tied = (low_laws.base h w.real v.real w.seen v.seen here.same here.kept base).tied })
+            here.stage,
+      )
+
+pub grab_atomic : (h i : ℕ) (m : Option ℕ → Option (Unit {0})) → Atomic machine low handler h (Grab i) m
+grab_atomic h i m B C es w lasts todo base = grab_ok h i m B C lasts es w base todo

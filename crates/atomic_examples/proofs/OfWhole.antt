@@ -1,0 +1,84 @@
+-- Every call over the machine of whole inodes, run on blocks.
+use Rattle.std.proofs.Common.{◌≡◌, ℕ, Option, None, Some, List, refl, subst}
+use Rattle.atomic_programs.specs.Prog.{Did, Waits, Ran, Stops, did_in}
+use Rattle.atomic_programs.specs.Calls.{Lawful, Event, AllHonest, run, fresh}
+use Rattle.atomic_programs.specs.Explained.{Explained}
+use Rattle.atomic_programs.specs.Joined.{Both}
+use Rattle.atomic_programs.specs.Lowered.{BeginsBoth, StartsBoth, lowered_calls}
+use Rattle.atomic_programs.specs.Operations.{IsCore, operations_of}
+use Rattle.atomic_programs.proofs.Explains.{explains}
+use Rattle.atomic_programs.proofs.Operations.{operations_laws}
+use Rattle.atomic_programs.proofs.Lowered.{lowered_lawful, refined}
+use Rattle.atomic_examples.specs.Whole as above
+use Rattle.atomic_examples.specs.Whole.{Labels, Keeps, whole, take_if}
+use Rattle.atomic_examples.specs.Blocks.{World, Outside, Shows, Base, blocks, handler}
+use Rattle.atomic_examples.specs.OfWhole.{Calls, theory, begins_at_once, core, operation_labels}
+use Rattle.atomic_examples.proofs.Steps.{blocks_laws}
+use Rattle.atomic_examples.proofs.Handlers.{atomic}
+
+some : (op : above.Op) → above.Answer op
+some (above.Take i) = record { kind = 0; size = 0 }
+some (above.Store i d) = tt
+some (above.Give i d) = tt
+some above.Enter = tt
+some above.Exit = tt
+some (above.Look i k) = 0
+some (above.Write i k z zs) = tt
+
+-- no operation above stops the world
+never : (h : ℕ) (op : above.Op) (v u : above.World) → above.exec h op v ≡ Stops u → ⊥
+never h (above.Take i) v u e = at (v.lock i) e
+  where
+    at : (o : Option ℕ) → take_if h i v o ≡ Stops u → ⊥
+    at None e = cc
+    at (Some g) e = cc
+never h (above.Store i d) v u e = cc
+never h (above.Give i d) v u e = cc
+never h above.Enter v u e = cc
+never h above.Exit v u e = cc
+never h (above.Look i k) v u e = cc
+never h (above.Write i k z zs) v u e = cc
+
+same : {A S : Type 0} (x : Did A S) → did_in (λ (w : S). w) x ≡ x
+same Waits = refl
+same (Ran a w) = refl
+same (Stops w) = refl
+
+module _ (l : Labels) (c : Calls l) (lawful : Lawful (theory l c)) (keeps : Keeps l) where
+  is_core : IsCore (theory l c) (core l)
+  is_core =
+      record {
+        may = λ h op w m. m;
+        honest = λ h op w x t. t;
+        goes = λ h x op m w. same (above.exec h op w);
+        stops = λ h x op t u e. absurd (never h op t u e);
+        starts = λ h call busy w u e. cc;
+        some = some;
+      }
+
+  starts_both : StartsBoth (theory l c) blocks (begins_at_once l c)
+  starts_both h call busy r s g holds inv idle free e =
+      let is : r ≡ s = cc in
+      subst (λ (z : World). BeginsBoth (theory l c) blocks h call busy r z g) is
+      (record {
+        above = g;
+        begins = refl;
+        shows = λ x. x;
+        halted = λ x. x;
+        kept = λ other ne b. (blocks_laws l keeps).same other r;
+        rests = λ other b. (idle other b).0;
+      })
+
+  module _ (w : Both World above.World) (shows : Shows w.real w.seen) (inv : l.Inv w.seen) (base : (h : ℕ) → Base h w.real w.seen) (idle : (h : ℕ) → l.Idle h w.seen) (events : List (Event c.Call Outside)) where
+    -- the history that the calls were shown to have over whole inodes explains each run on blocks
+    pub explained : AllHonest (lowered_calls (theory l c) blocks (handler l.Mark) (begins_at_once l c)) events (fresh (lowered_calls (theory l c) blocks (handler l.Mark) (begins_at_once l c)) w)
+        → Explained (lowered_calls (theory l c) blocks (handler l.Mark) (begins_at_once l c)) (l.tree w.seen) (run (lowered_calls (theory l c) blocks (handler l.Mark) (begins_at_once l c)) events (fresh (lowered_calls (theory l c) blocks (handler l.Mark) (begins_at_once l c)) w))
+    explained honest =
+        explains (lowered_calls (theory l c) blocks (handler l.Mark) (begins_at_once l c)) (lowered_lawful (theory l c) blocks (handler l.Mark) (begins_at_once l c) lawful (blocks_laws l keeps) starts_both (λ h op m. atomic l lawful.laws keeps h op m)) w events (shows, inv) (λ h. (base h, idle h)) honest
+
+    -- and each run on blocks is one of whole inodes, whatever that history is
+    pub run_above : AllHonest (lowered_calls (operations_of (theory l c) (core l)) blocks (handler l.Mark) (begins_at_once l c)) events (fresh (lowered_calls (operations_of (theory l c) (core l)) blocks (handler l.Mark) (begins_at_once l c)) w)
+        → Explained (lowered_calls (operations_of (theory l c) (core l)) blocks (handler l.Mark) (begins_at_once l c)) w.seen (run (lowered_calls (operations_of (theory l c) (core l)) blocks (handler l.Mark) (begins_at_once l c)) events (fresh (lowered_calls (operations_of (theory l c) (core l)) blocks (handler l.Mark) (begins_at_once l c)) w))
+    run_above honest =
+        refined (theory l c) (core l) blocks (handler l.Mark) (begins_at_once l c) lawful (blocks_laws l keeps) is_core starts_both
+        (λ h op m. atomic (operation_labels l) (operations_laws (whole l) (core l) lawful.laws) (λ h v w xs o. keeps h v w o.1.0 o.1.1) h op m) w events shows inv base idle honest

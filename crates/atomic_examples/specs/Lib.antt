@@ -1,0 +1,5 @@
+pub mod Whole
+pub mod Blocks
+pub mod OfWhole
+pub mod Grab
+pub mod Swap

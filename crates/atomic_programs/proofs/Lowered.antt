@@ -1,0 +1,101 @@
+-- What is shown of calls above holds of them below, and each run below is one of whole operations above.
+use Rattle.std.proofs.Common.{◌≡◌, ◌⊎◌, ℕ, Option, Bool, false, List, [], refl, sym, ◌∙◌, ap, subst, inl, inr}
+use Rattle.atomic_programs.specs.Prog.{Did, Waits, Ran, Stops, did_in}
+use Rattle.atomic_programs.specs.Logic.{Machine}
+use Rattle.atomic_programs.specs.Calls.{Theory, Began, Refuses, Begins, Begun, Ends, Right, Lawful, Event, AllHonest, run, fresh}
+use Rattle.atomic_programs.specs.Explained.{Explained}
+use Rattle.atomic_programs.specs.Plain as plain
+use Rattle.atomic_programs.specs.Plain.{IsCode}
+use Rattle.atomic_programs.specs.Joined.{ActOf, both, Lower, Both, joined, LowerLaws, Handlers, lowered, Below, Atomic}
+use Rattle.atomic_programs.specs.Lowered.{Starts, began_to, began_both, lowered_calls, BeginsBoth, StartsBoth, code_below}
+use Rattle.atomic_programs.specs.Operations.{Core, IsCore, operations, operations_of}
+use Rattle.atomic_programs.proofs.Sound.{Wp-weaker}
+use Rattle.atomic_programs.proofs.Explains.{ends_last, explains}
+use Rattle.atomic_programs.proofs.Joined.{joined_laws, lift}
+use Rattle.atomic_programs.proofs.Operations.{operations_lawful}
+
+pub operations_below : (U : Machine) (K : Core U) (R : Lower U.World) → LowerLaws U R → LowerLaws (operations U K) R
+operations_below U K R below = record { same = below.same; trans = below.trans; kept = λ h g u xs o. below.kept h g u o.1.0 o.1.1; base = below.base }
+
+-- a start below that begins the call
+begun_both : {Refusal S G : Type 0} (g : G) (x : Began Refusal S) (u : Both S G) → began_both g x ≡ Begins u → (x ≡ Begins u.real) × (u.seen ≡ g)
+begun_both g (Refuses why) u e = absurd cc
+begun_both {Refusal} {S} {G} g (Begins r) u e = (ap (λ (z : Both S G). begins z.real) is, ap (λ (z : Both S G). z.seen) (sym is))
+  where
+    begins : S → Began Refusal S
+    begins z = Begins z
+
+    is : ◌≡◌ {A = Both S G} (record { real = r; seen = g }) u
+    is = cc
+
+module _ (T : Theory) (R : Lower T.M.World) (handler : Handlers T.M R) (begin : Starts T R) (lawful : Lawful T) (below : LowerLaws T.M R) (starts : StartsBoth T R begin) where
+  pub lowered_lawful : ((h : ℕ) (op : T.M.Op) (m : T.M.Answer op → Option T.M.Mark) → Atomic T.M R handler h op m) → Lawful (lowered_calls T R handler begin)
+  lowered_lawful atomic =
+      record {
+        laws = joined_laws T.M R lawful.laws below;
+        calls = λ h call busy w u holds idle free e.
+            let b = begun_both (began_to w.seen (T.start h call busy w.seen)) (begin h call busy w.real) u e in
+            right h call busy w u.real idle free (inv_of w holds) (starts h call busy w.real u.real w.seen (shows_of w holds) (inv_of w holds) idle free b.0) u.seen b.1;
+      }
+    where
+      inv_of : (w : Both R.World T.M.World) → (R.Shows w.real w.seen × T.M.Inv w.seen) ⊎ (R.Halted w.real w.seen × T.M.Inv w.seen) → T.M.Inv w.seen
+      inv_of w (inl p) = p.1
+      inv_of w (inr p) = p.1
+
+      shows_of : (w : Both R.World T.M.World) → (R.Shows w.real w.seen × T.M.Inv w.seen) ⊎ (R.Halted w.real w.seen × T.M.Inv w.seen) → R.Shows w.real w.seen ⊎ R.Halted w.real w.seen
+      shows_of w (inl p) = inl p.0
+      shows_of w (inr p) = inr p.0
+
+      begun : (h : ℕ) (call : T.Call) (busy : ℕ → Bool) (w : Both R.World T.M.World) (s : R.World) → ((other : ℕ) → busy other ≡ false → R.Base other w.real w.seen × T.M.Idle other w.seen) → busy h ≡ false → T.M.Inv w.seen
+          → (b : BeginsBoth T R h call busy w.real s w.seen) → Right (lowered_calls T R handler begin) h call busy w (record { real = s; seen = b.above })
+      begun h call busy w s idle free inv b =
+          let r = lawful.calls h call busy w.seen b.above (inl inv) (λ j n. (idle j n).1) free b.begins in
+          record {
+            inv = λ i. (b.shows i.0, r.inv i.1);
+            halted = λ i. (b.halted i.0, r.inv i.1);
+            kept = λ other ne c. (b.kept other ne c, r.kept other ne c);
+            rests = λ other ne c. (b.rests other c, r.rests other ne c);
+            tree = r.tree;
+            clean = r.clean;
+            none = r.none;
+            runs = λ i.
+                Wp-weaker (joined T.M R) h (lowered T.M R handler (T.program call)) (Begun T call) (Begun (lowered_calls T R handler begin) call) (Below T.M R h (Ends T h call)) (Ends (lowered_calls T R handler begin) h call) (T.limit call) [] (record { real = s; seen = b.above })
+                (λ fs c. c) (λ a fs v c. (c.0.0, (c.1, c.0.1)))
+                (lift T.M R handler lawful.laws h (atomic h) (T.program call) (Begun T call) (Ends T h call)
+                (λ a fs xs v y o j c. (λ z. inl (lawful.laws.idle_none h v y xs o c.1), ends_last T lawful h call a fs xs v y o c)) (T.limit call) [] (record { real = s; seen = b.above }) (r.runs i.1) (b.rests h free) i.1);
+          }
+
+      right : (h : ℕ) (call : T.Call) (busy : ℕ → Bool) (w : Both R.World T.M.World) (s : R.World) → ((other : ℕ) → busy other ≡ false → R.Base other w.real w.seen × T.M.Idle other w.seen) → busy h ≡ false → T.M.Inv w.seen
+          → BeginsBoth T R h call busy w.real s w.seen → (g : T.M.World) → g ≡ began_to w.seen (T.start h call busy w.seen) → Right (lowered_calls T R handler begin) h call busy w (record { real = s; seen = g })
+      right h call busy w s idle free inv b g is =
+          subst (λ (z : T.M.World). Right (lowered_calls T R handler begin) h call busy w (record { real = s; seen = z })) (sym (is ∙ ap (began_to w.seen) b.begins)) (begun h call busy w s idle free inv b)
+
+-- Every run below shows a run of the machine above: whole operations one after the other, which lead from what was seen of
+-- the first world to what is seen of the last one; each call's own are a run of its program with its reply, or a beginning
+-- of one where it is under way.
+pub refined : (T : Theory) (K : Core T.M) (R : Lower T.M.World) (handler : Handlers T.M R) (begin : Starts T R) (lawful : Lawful T) (below : LowerLaws T.M R) (core : IsCore T K) (starts : StartsBoth T R begin)
+    → ((h : ℕ) (op : T.M.Op) (m : T.M.Answer op → Option T.M.Mark) → Atomic (operations T.M K) R handler h op m)
+    → (w : Both R.World T.M.World) (events : List (Event T.Call R.Outside)) → R.Shows w.real w.seen → T.M.Inv w.seen → ((h : ℕ) → R.Base h w.real w.seen) → ((h : ℕ) → T.M.Idle h w.seen)
+    → AllHonest (lowered_calls (operations_of T K) R handler begin) events (fresh (lowered_calls (operations_of T K) R handler begin) w)
+    → Explained (lowered_calls (operations_of T K) R handler begin) (K.of w.seen) (run (lowered_calls (operations_of T K) R handler begin) events (fresh (lowered_calls (operations_of T K) R handler begin) w))
+refined T K R handler begin lawful below core starts atomic w events shows inv base idle honest =
+    explains (lowered_calls (operations_of T K) R handler begin) (lowered_lawful (operations_of T K) R handler begin (operations_lawful T K lawful core) (operations_below T.M K R below) starts_too atomic) w events (shows, inv) (λ h. (base h, idle h)) honest
+  where
+    starts_too : StartsBoth (operations_of T K) R begin
+    starts_too h call busy r s g holds inv idle free e =
+        let b = starts h call busy r s g holds inv idle free e in
+        record { above = b.above; begins = b.begins; shows = b.shows; halted = b.halted; kept = b.kept; rests = b.rests }
+
+-- The code runs the lowered calls, whichever history is kept beside: its outcomes are those of both.
+both_real : (U : Machine) {A R : Type 0} (h : ℕ) (m : A → Option (ActOf U)) (g : U.World) (d : Did A R) → d ≡ did_in (λ (w : Both R U.World). w.real) (both U h m g d)
+both_real U h m g Waits = refl
+both_real U h m g (Ran a r) = refl
+both_real U h m g (Stops r) = refl
+
+pub is_code_below : (T : Theory) (R : Lower T.M.World) (handler : Handlers T.M R) (begin : Starts T R) (Kind : Type 0) (kind : (op : R.Op) → R.Answer op → Kind) → IsCode (lowered_calls T R handler begin) (code_below T R handler begin Kind kind)
+is_code_below T R handler begin Kind kind =
+    record { goes = λ h x op m w. both_real T.M h m w.seen (R.exec h x op w.real); may = λ h op w y. y; honest = λ h op w x y. y; starts = λ h call busy w. same (began_to w.seen (T.start h call busy w.seen)) (begin h call busy w.real) }
+  where
+    same : {Refusal S G : Type 0} (g : G) (x : Began Refusal S) → x ≡ plain.began_in (λ (v : Both S G). v.real) (began_both g x)
+    same g (Refuses why) = refl
+    same g (Begins r) = refl

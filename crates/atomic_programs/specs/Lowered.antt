@@ -1,0 +1,55 @@
+-- Calls over a machine above, run below.
+use Rattle.std.specs.Prelude.{◌≡◌, ◌≢◌, ◌⊎◌, ℕ, Bool, true, false}
+use Rattle.atomic_programs.specs.Calls.{Theory, Began, Refuses, Begins}
+use Rattle.atomic_programs.specs.Plain.{Code}
+use Rattle.atomic_programs.specs.Joined.{Lower, Both, joined, Handlers, lowered}
+
+-- A start below: it decides, on what the code has, whether the call is begun, and may reserve something for it.
+abbrev pub Starts : (T : Theory) → Lower T.M.World → Type 0
+Starts T R = ℕ → T.Call → (ℕ → Bool) → R.World → Began T.Refusal R.World
+
+-- the world after a start
+abbrev pub began_to : {Refusal G : Type 0} → G → Began Refusal G → G
+began_to g (Refuses why) = g
+began_to g (Begins u) = u
+
+-- what a start comes to below, with this world above
+abbrev pub began_both : {Refusal S G : Type 0} → G → Began Refusal S → Began Refusal (Both S G)
+began_both g (Refuses why) = Refuses why
+began_both g (Begins r) = Begins (record { real = r; seen = g })
+
+abbrev pub lowered_calls : (T : Theory) (R : Lower T.M.World) → Handlers T.M R → Starts T R → Theory
+lowered_calls T R handler begin =
+    record {
+      M = joined T.M R;
+      Call = T.Call;
+      Reply = T.Reply;
+      Refusal = T.Refusal;
+      start = λ h call busy w. began_both (began_to w.seen (T.start h call busy w.seen)) (begin h call busy w.real);
+      busy = T.busy;
+      program = λ call. lowered T.M R handler (T.program call);
+      Written = T.Written;
+      limit = T.limit;
+    }
+
+-- A start that made s of r below begins above too, where it made u of g: what it reserves, it reserves in both.
+pub record BeginsBoth (T : Theory) (R : Lower T.M.World) (h : ℕ) (call : T.Call) (busy : ℕ → Bool) (r s : R.World) (g : T.M.World) : Type 0 where
+  pub above : T.M.World
+  pub begins : T.start h call busy g ≡ Begins above
+  pub shows : R.Shows r g → R.Shows s above
+  pub halted : R.Halted r g → R.Halted s above
+  -- it takes nothing from a call under way
+  pub kept : (other : ℕ) → other ≢ h → busy other ≡ true → R.Same other r s
+  -- a hart without a call has what a hart has between two operations
+  pub rests : (other : ℕ) → busy other ≡ false → R.Base other s above
+
+-- what a project shows of the starts below
+abbrev pub StartsBoth : (T : Theory) (R : Lower T.M.World) → Starts T R → Type 0
+StartsBoth T R begin =
+    (h : ℕ) (call : T.Call) (busy : ℕ → Bool) (r s : R.World) (g : T.M.World) → R.Shows r g ⊎ R.Halted r g → T.M.Inv g → ((other : ℕ) → busy other ≡ false → R.Base other r g × T.M.Idle other g) → busy h ≡ false
+    → begin h call busy r ≡ Begins s → BeginsBoth T R h call busy r s g
+
+-- What the code has: the world below alone. The kind of a step is told by the operation below, with its answer.
+abbrev pub code_below : (T : Theory) (R : Lower T.M.World) (handler : Handlers T.M R) (begin : Starts T R) (Kind : Type 0) → ((op : R.Op) → R.Answer op → Kind) → Code (lowered_calls T R handler begin)
+code_below T R handler begin Kind kind =
+    record { Shared = R.World; Kind = Kind; shared = λ w. w.real; kind = kind; exec = R.exec; may = R.May; honest = λ h op w x. R.Honest h op w x; begin = begin }
