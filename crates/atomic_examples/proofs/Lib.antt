@@ -5,3 +5,4 @@ pub mod OfWhole
 pub mod Grab
 pub mod Swap
 pub mod Done
+pub mod Wards

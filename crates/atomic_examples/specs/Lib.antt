@@ -3,3 +3,4 @@ pub mod Blocks
 pub mod OfWhole
 pub mod Grab
 pub mod Swap
+pub mod Wards

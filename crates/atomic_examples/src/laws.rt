@@ -1,10 +1,12 @@
 //! The theorems, at the examples.
 
-ghost use Rattle.std.specs.Prelude.{◌≡◌, ◌∷◌, [], List};
-ghost use Rattle.atomic_programs.specs.Calls.{Event, Start, Step, run, fresh, AllHonest};
+ghost use Rattle.std.specs.Prelude.{◌≡◌, ℕ, ◌∷◌, [], List};
+ghost use Rattle.atomic_programs.specs.Calls.{Event, Start, Step, Started, Refused, DidRun, DidEnd, run, outcomes, fresh, AllHonest};
 ghost use Rattle.atomic_programs.specs.Explained.{Explained, history};
 ghost use Rattle.atomic_examples.specs.Whole as whole;
 ghost use Rattle.atomic_examples.specs.Blocks as blocks;
+ghost use Rattle.atomic_examples.specs.Wards as wards;
+ghost use Rattle.atomic_examples.specs.Wards.{gifts_above, rest as purses};
 ghost use Rattle.atomic_examples.specs.Swap.{Swap, Swapped, swaps, swaps_above, rest};
 
 /// Swaps of inodes' records, which were shown right over whole inodes, are explained where they run on blocks.
@@ -15,4 +17,26 @@ pub fn swaps_explained()
 /// And each such run shows a run of whole operations on whole inodes, of each call those of its program.
 pub fn swaps_refined()
     ensures { (events : List (Event Swap blocks.Outside)) → AllHonest swaps_above events (fresh swaps_above rest) → Explained swaps_above rest.seen (run swaps_above events (fresh swaps_above rest)) }
+{}
+
+/// A swap on blocks: the record is loaded in the steps 3 to 5, and the store acts at the put of its block.
+pub fn swaps_act()
+    ensures { history swaps (run swaps (Start 0 (record { inode = 17; to = record { kind = 7; size = 7 } }) ∷ Step 0 blocks.Passes ∷ Step 0 blocks.Passes ∷ Step 0 blocks.Passes ∷ Step 0 blocks.Passes ∷ Step 0 blocks.Passes ∷ Step 0 blocks.Passes ∷ Step 0 blocks.Passes ∷ Step 0 blocks.Passes ∷ []) (fresh swaps rest)) ≡ record { number = 7; hart = 0; call = 0; step = Swapped 17 (record { kind = 7; size = 7 }) (record { kind = 1; size = 1 }) } ∷ [] }
+{}
+
+/// The device fails in the load: above, the inode was taken before.
+pub fn swaps_stop()
+    ensures { history swaps_above (run swaps_above (Start 0 (record { inode = 17; to = record { kind = 7; size = 7 } }) ∷ Step 0 blocks.Passes ∷ Step 0 blocks.Passes ∷ Step 0 blocks.Passes ∷ Step 0 blocks.Fails ∷ []) (fresh swaps_above rest)) ≡ record { number = 1; hart = 0; call = 0; step = (whole.Enter, tt) } ∷ record { number = 2; hart = 0; call = 0; step = (whole.Take 17, record { kind = 1; size = 1 }) } ∷ [] }
+{}
+
+/// A start may reserve an idle hart for its call, in both worlds: each run below shows a run of whole operations above, which
+/// lead from purses to purses.
+pub fn gifts_refined()
+    ensures { (purse : ℕ → ℕ) (events : List (Event ℕ (Unit {0}))) → AllHonest gifts_above events (fresh gifts_above (purses purse)) → Explained gifts_above purse (run gifts_above events (fresh gifts_above (purses purse))) }
+{}
+
+/// A hart that is reserved starts nothing until the call that reserved it has ended; the gift acts at its first step below.
+pub fn gifts_reserve()
+    ensures outcomes { outcomes gifts_above (Start 0 1 ∷ Start 1 0 ∷ Start 2 1 ∷ Step 0 tt ∷ Step 0 tt ∷ Step 0 tt ∷ Start 1 0 ∷ []) (fresh gifts_above (purses (λ h. h))) ≡ Started ∷ Refused wards.Reserved ∷ Refused wards.Reserved ∷ DidRun (wards.Peek, 0) ∷ DidRun (wards.Fill 1 0, tt) ∷ DidEnd tt ∷ Started ∷ [] }
+    ensures history { history gifts_above (run gifts_above (Start 0 1 ∷ Start 1 0 ∷ Start 2 1 ∷ Step 0 tt ∷ Step 0 tt ∷ Step 0 tt ∷ []) (fresh gifts_above (purses (λ h. h)))) ≡ record { number = 3; hart = 0; call = 0; step = (wards.Give 1, tt) } ∷ record { number = 5; hart = 0; call = 0; step = (wards.Free 1, tt) } ∷ [] }
 {}
