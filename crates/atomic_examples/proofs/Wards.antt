@@ -1,22 +1,22 @@
 -- What a start reserves is reserved in both worlds, and its call is a run of its operations above.
-use Rattle.std.proofs.Common.{◌≡◌, ◌≢◌, ◌<◌, ◌+◌, ◌⊎◌, inl, inr, ℕ, Bool, true, false, Option, Some, None, List, [], ◌∷◌, ◌++◌, refl, sym, ◌∙◌, ap, subst, arith}
+use Rattle.std.proofs.Common.{◌≡◌, ◌≢◌, ◌<◌, ◌+◌, ◌⊎◌, inl, inr, ℕ, Bool, true, false, Option, Some, None, List, [], refl, sym, ◌∙◌, ap, subst, arith}
 use Rattle.std.specs.Prelude.{nat_eq}
 use Rattle.std.proofs.lemmas.Bool.{eqb-false, ne_eqb}
-use Rattle.atomic_programs.specs.Prog.{Ret, Do, once, unmarked, Ran, Stops, did_in}
+use Rattle.atomic_programs.specs.Prog.{Ret, once, unmarked, Stops, did_in}
 use Rattle.atomic_programs.specs.Logic.{Machine, Fine, Wp, Safe, Laws}
-use Rattle.atomic_programs.specs.Calls.{Began, Refuses, Begins, Begun, Ends, Right, Lawful, Event, AllHonest, run, fresh}
+use Rattle.atomic_programs.specs.Calls.{Began, Begins, Begun, Ends, Right, Lawful, Event, AllHonest, run, fresh}
 use Rattle.atomic_programs.specs.Explained.{Explained}
 use Rattle.atomic_programs.specs.Operations.{IsCore, operations}
-use Rattle.atomic_programs.specs.Joined.{Lasts, Both, joined, LowerLaws, Below, Atomic}
+use Rattle.atomic_programs.specs.Joined.{Both, joined, LowerLaws, Below, Atomic}
 use Rattle.atomic_programs.specs.Lowered.{BeginsBoth, StartsBoth}
 use Rattle.atomic_programs.proofs.Sound.{s-op}
 use Rattle.atomic_programs.proofs.Operations.{operations_laws}
-use Rattle.atomic_programs.proofs.Joined.{Here, s-silent, ToAct, acted, s-act}
+use Rattle.atomic_programs.proofs.Joined.{s-silent, acted, s-act}
 use Rattle.atomic_programs.proofs.Lowered.{operations_below, refined}
 use Rattle.atomic_examples.specs.Whole.{put, if_held}
-use Rattle.atomic_examples.specs.Wards.{World, Op, Give, Free, Answer, May, given, exec, Mine, machine, Refusal, unless, unless_ward, reserved, start, gifts, core, LowOp, Peek, Fill, Release, Shows, Base, low, handler, gifts_above, rest}
-use Rattle.atomic_examples.proofs.Maps.{put_same, put_other, same_or, put_elim, Ours, not_held, held_is, held_here, none_is}
-use Rattle.atomic_examples.proofs.Steps.{not_mine, ours_is}
+use Rattle.atomic_examples.specs.Wards.{World, Op, Give, Free, Answer, given, exec, Mine, machine, Refusal, unless, unless_ward, reserved, start, gifts, core, Peek, Fill, Release, Shows, Base, low, handler, gifts_above, rest}
+use Rattle.atomic_examples.proofs.Maps.{put_same, put_other, same_or, put_elim, Ours, not_held, held_is, held_here}
+use Rattle.atomic_examples.proofs.Steps.{ours_is}
 
 -- a ward stays one, with its purse
 ward_stays : (h j : ℕ) (v w : World) → Mine h v w → v.ward j ≡ Some h → (w.ward j ≡ Some h) × (w.purse j ≡ v.purse j)

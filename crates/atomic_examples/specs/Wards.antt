@@ -1,7 +1,7 @@
 -- An example of a start that reserves an idle hart for its call: what is in a hart's purse is handed to another hart, below in
 -- two steps. The call has no history; it is explained by its operations.
-use Rattle.std.specs.Prelude.{◌≡◌, ◌≢◌, ℕ, Bool, true, false, nat_eq, Option, Some, None, List, []}
-use Rattle.atomic_programs.specs.Prog.{Prog, Ret, Do, once, unmarked, Did, Ran}
+use Rattle.std.specs.Prelude.{◌≡◌, ◌≢◌, ℕ, Bool, true, false, nat_eq, Option, Some, None, []}
+use Rattle.atomic_programs.specs.Prog.{Prog, Do, once, unmarked, Did, Ran}
 use Rattle.atomic_programs.specs.Logic.{Machine}
 use Rattle.atomic_programs.specs.Calls.{Theory, Began, Refuses, Begins}
 use Rattle.atomic_programs.specs.Operations.{Core, operations_of}
