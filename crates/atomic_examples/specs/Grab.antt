@@ -2,7 +2,10 @@
 use Rattle.std.specs.Prelude.{◌≡◌, ◌≢◌, ◌<◌, ℕ, suc, zero, Bool, true, false, if◌then◌else◌, Option, Some, None, []}
 use Rattle.atomic_programs.specs.Prog.{Prog, Ret, Do, once, unmarked, Did, Waits, Ran}
 use Rattle.atomic_programs.specs.Logic.{Machine}
-use Rattle.atomic_programs.specs.Joined.{Act, Lower}
+use Rattle.atomic_programs.specs.Calls.{Theory, Begins}
+use Rattle.atomic_programs.specs.Operations.{Core, all_of, operations_of}
+use Rattle.atomic_programs.specs.Joined.{Act, Lower, Both}
+use Rattle.atomic_programs.specs.Lowered.{lowered_calls}
 use Rattle.atomic_examples.specs.Whole.{put, if_held}
 
 -- above: locks of inodes, and blocks with the inode that has each
@@ -81,6 +84,24 @@ machine =
       MayWait = λ h op w. Unit {0};
       Clean = λ w. Unit {0};
     }
+
+-- a call takes a block for an inode; no history is kept of it
+abbrev pub grabs : Theory
+grabs =
+    record {
+      M = machine;
+      Call = ℕ;
+      Reply = Option ℕ;
+      Refusal = Unit {0};
+      start = λ h i busy w. Begins w;
+      busy = tt;
+      program = λ i. Do (Hold i) unmarked (λ _. Do (Grab i) unmarked (λ r. Do (Drop i) unmarked (λ _. Ret r)));
+      Written = λ i es r. Unit {0};
+      limit = λ i. 5;
+    }
+
+abbrev pub core : Core machine
+core = all_of machine exec_above
 
 pub record World : Type 0 where
   pub lock : ℕ → Option ℕ
@@ -192,3 +213,11 @@ abbrev pub handler : (op : Op) → (Answer op → Option (Unit {0})) → P (Answ
 handler (Hold i) m = once (Lock i) (λ _. act (Hold i) m None)
 handler (Grab i) m = Do GetBits unmarked (λ z. grab_at i m (first z 0 8))
 handler (Drop i) m = once (Unlock i) (λ _. act (Drop i) m None)
+
+-- the calls below, explained by their operations above
+abbrev pub grabs_above : Theory
+grabs_above = lowered_calls (operations_of grabs core) low handler (λ h i busy r. Begins r)
+
+-- all blocks are free
+abbrev pub rest : Both World Above
+rest = record { real = record { lock = λ i. None; bits = λ c. false; bits_out = None; block = λ c. c; owner = λ c. None }; seen = record { lock = λ i. None; owner = λ c. None; bytes = λ c. c } }

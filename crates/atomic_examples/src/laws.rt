@@ -1,12 +1,14 @@
 //! The theorems, at the examples.
 
-ghost use Rattle.std.specs.Prelude.{◌≡◌, ℕ, ◌∷◌, [], List};
+ghost use Rattle.std.specs.Prelude.{◌≡◌, ℕ, ◌∷◌, [], List, Some};
 ghost use Rattle.atomic_programs.specs.Calls.{Event, Start, Step, Started, Refused, DidRun, DidEnd, run, outcomes, fresh, AllHonest};
 ghost use Rattle.atomic_programs.specs.Explained.{Explained, history};
 ghost use Rattle.atomic_examples.specs.Whole as whole;
 ghost use Rattle.atomic_examples.specs.Blocks as blocks;
 ghost use Rattle.atomic_examples.specs.Wards as wards;
 ghost use Rattle.atomic_examples.specs.Wards.{gifts_above, rest as purses};
+ghost use Rattle.atomic_examples.specs.Grab as grab;
+ghost use Rattle.atomic_examples.specs.Grab.{grabs_above};
 ghost use Rattle.atomic_examples.specs.Swap.{Swap, Swapped, swaps, swaps_above, rest};
 
 /// Swaps of inodes' records, which were shown right over whole inodes, are explained where they run on blocks.
@@ -27,6 +29,16 @@ pub fn swaps_act()
 /// The device fails in the load: above, the inode was taken before.
 pub fn swaps_stop()
     ensures { history swaps_above (run swaps_above (Start 0 (record { inode = 17; to = record { kind = 7; size = 7 } }) ∷ Step 0 blocks.Passes ∷ Step 0 blocks.Passes ∷ Step 0 blocks.Passes ∷ Step 0 blocks.Fails ∷ []) (fresh swaps_above rest)) ≡ record { number = 1; hart = 0; call = 0; step = (whole.Enter, tt) } ∷ record { number = 2; hart = 0; call = 0; step = (whole.Take 17, record { kind = 1; size = 1 }) } ∷ [] }
+{}
+
+/// A block is taken below by two puts, of the bitmap and of the block, and above in one step.
+pub fn grabs_refined()
+    ensures { (events : List (Event ℕ (Unit {0}))) → AllHonest grabs_above events (fresh grabs_above grab.rest) → Explained grabs_above grab.rest.seen (run grabs_above events (fresh grabs_above grab.rest)) }
+{}
+
+/// It acts at the bitmap's put, which is the call's third step.
+pub fn grabs_act()
+    ensures { history grabs_above (run grabs_above (Start 0 3 ∷ Step 0 tt ∷ Step 0 tt ∷ Step 0 tt ∷ Step 0 tt ∷ Step 0 tt ∷ []) (fresh grabs_above grab.rest)) ≡ record { number = 1; hart = 0; call = 0; step = (grab.Hold 3, tt) } ∷ record { number = 3; hart = 0; call = 0; step = (grab.Grab 3, Some 0) } ∷ record { number = 5; hart = 0; call = 0; step = (grab.Drop 3, tt) } ∷ [] }
 {}
 
 /// A start may reserve an idle hart for its call, in both worlds: each run below shows a run of whole operations above, which
