@@ -3,10 +3,9 @@ use Rattle.std.proofs.Common.{◌≡◌, ℕ, Option, None, Some, List, refl, su
 use Rattle.atomic_programs.specs.Prog.{Did, Waits, Ran, Stops, did_in}
 use Rattle.atomic_programs.specs.Calls.{Lawful, Event, AllHonest, run, fresh}
 use Rattle.atomic_programs.specs.Explained.{Explained}
-use Rattle.atomic_programs.specs.Joined.{Both}
+use Rattle.atomic_programs.specs.Joined.{Both, Atomic}
 use Rattle.atomic_programs.specs.Lowered.{BeginsBoth, StartsBoth, lowered_calls}
-use Rattle.atomic_programs.specs.Operations.{IsCore, operations_of}
-use Rattle.atomic_programs.proofs.Explains.{explains}
+use Rattle.atomic_programs.specs.Operations.{IsCore, operations, operations_of}
 use Rattle.atomic_programs.proofs.Operations.{operations_laws}
 use Rattle.atomic_programs.proofs.Lowered.{lowered_lawful, refined}
 use Rattle.atomic_examples.specs.Whole as above
@@ -69,16 +68,16 @@ module _ (l : Labels) (c : Calls l) (lawful : Lawful (theory l c)) (keeps : Keep
         rests = λ other b. (idle other b).0;
       })
 
-  module _ (w : Both World above.World) (shows : Shows w.real w.seen) (inv : l.Inv w.seen) (base : (h : ℕ) → Base h w.real w.seen) (idle : (h : ℕ) → l.Idle h w.seen) (events : List (Event c.Call Outside)) where
-    -- the history that the calls were shown to have over whole inodes explains each run on blocks
-    pub explained : AllHonest (lowered_calls (theory l c) blocks (handler l.Mark) (begins_at_once l c)) events (fresh (lowered_calls (theory l c) blocks (handler l.Mark) (begins_at_once l c)) w)
-        → Explained (lowered_calls (theory l c) blocks (handler l.Mark) (begins_at_once l c)) (l.tree w.seen) (run (lowered_calls (theory l c) blocks (handler l.Mark) (begins_at_once l c)) events (fresh (lowered_calls (theory l c) blocks (handler l.Mark) (begins_at_once l c)) w))
-    explained honest =
-        explains (lowered_calls (theory l c) blocks (handler l.Mark) (begins_at_once l c)) (lowered_lawful (theory l c) blocks (handler l.Mark) (begins_at_once l c) lawful (blocks_laws l keeps) starts_both (λ h op m. atomic l lawful.laws keeps h op m)) w events (shows, inv) (λ h. (base h, idle h)) honest
+  -- the calls on blocks, with the history that they were shown to have over whole inodes, and with the operations there
+  pub calls_lawful : Lawful (lowered_calls (theory l c) blocks (handler l.Mark) (begins_at_once l c))
+  calls_lawful = lowered_lawful (theory l c) blocks (handler l.Mark) (begins_at_once l c) lawful (blocks_laws l keeps) starts_both (λ h op m. atomic l lawful.laws keeps h op m)
 
-    -- and each run on blocks is one of whole inodes, whatever that history is
-    pub run_above : AllHonest (lowered_calls (operations_of (theory l c) (core l)) blocks (handler l.Mark) (begins_at_once l c)) events (fresh (lowered_calls (operations_of (theory l c) (core l)) blocks (handler l.Mark) (begins_at_once l c)) w)
-        → Explained (lowered_calls (operations_of (theory l c) (core l)) blocks (handler l.Mark) (begins_at_once l c)) w.seen (run (lowered_calls (operations_of (theory l c) (core l)) blocks (handler l.Mark) (begins_at_once l c)) events (fresh (lowered_calls (operations_of (theory l c) (core l)) blocks (handler l.Mark) (begins_at_once l c)) w))
-    run_above honest =
-        refined (theory l c) (core l) blocks (handler l.Mark) (begins_at_once l c) lawful (blocks_laws l keeps) is_core starts_both
-        (λ h op m. atomic (operation_labels l) (operations_laws (whole l) (core l) lawful.laws) (λ h v w xs o. keeps h v w o.1.0 o.1.1) h op m) w events shows inv base idle honest
+  pub operations_atomic : (h : ℕ) (op : above.Op) (m : above.Answer op → Option l.Mark) → Atomic (operations (whole l) (core l)) blocks (handler l.Mark) h op m
+  operations_atomic h op m = atomic (operation_labels l) (operations_laws (whole l) (core l) lawful.laws) (λ h v w xs o. keeps h v w o.1.0 o.1.1) h op m
+
+  -- each run on blocks is one of whole inodes, whatever the history is
+  pub calls_refined : (w : Both World above.World) → Shows w.real w.seen → l.Inv w.seen → ((h : ℕ) → Base h w.real w.seen) → ((h : ℕ) → l.Idle h w.seen) → (events : List (Event c.Call Outside))
+      → AllHonest (lowered_calls (operations_of (theory l c) (core l)) blocks (handler l.Mark) (begins_at_once l c)) events (fresh (lowered_calls (operations_of (theory l c) (core l)) blocks (handler l.Mark) (begins_at_once l c)) w)
+      → Explained (lowered_calls (operations_of (theory l c) (core l)) blocks (handler l.Mark) (begins_at_once l c)) w.seen (run (lowered_calls (operations_of (theory l c) (core l)) blocks (handler l.Mark) (begins_at_once l c)) events (fresh (lowered_calls (operations_of (theory l c) (core l)) blocks (handler l.Mark) (begins_at_once l c)) w))
+  calls_refined w shows inv base idle events honest =
+      refined (theory l c) (core l) blocks (handler l.Mark) (begins_at_once l c) lawful (blocks_laws l keeps) is_core starts_both operations_atomic w events shows inv base idle honest

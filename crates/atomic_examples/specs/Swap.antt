@@ -2,7 +2,8 @@
 use Rattle.std.specs.Prelude.{◌≡◌, ◌≢◌, ℕ, Bool, false, Option, Some, None, List, [], ◌∷◌}
 use Rattle.atomic_programs.specs.Prog.{Prog, Ret, Do, unmarked}
 use Rattle.atomic_programs.specs.Calls.{Theory}
-use Rattle.atomic_programs.specs.Lowered.{lowered_calls}
+use Rattle.atomic_programs.specs.Lowered.{lowered_calls, code_below}
+use Rattle.atomic_programs.specs.Plain.{Code}
 use Rattle.atomic_programs.specs.Operations.{operations_of}
 use Rattle.atomic_examples.specs.Whole.{put, if_held, Dinode, World, Op, Take, Store, Give, Enter, Exit, Look, Write, Answer, Labels}
 use Rattle.atomic_programs.specs.Joined.{Both}
@@ -20,6 +21,7 @@ abbrev pub placed : ℕ → Option Step → List (ℕ × Step)
 placed h None = []
 placed h (Some e) = (h, e) ∷ []
 
+-- what the others leave a hart: the inodes in its hand, and whether it is in a transaction
 pub record Mine (h : ℕ) (v w : World) : Type 0 where
   pub inodes : (i : ℕ) → if_held {A = Dinode × (ℕ → ℕ)} (w.lock i) h (w.dino i, w.node i) ≡ if_held {A = Dinode × (ℕ → ℕ)} (v.lock i) h (v.dino i, v.node i)
   pub txn : w.txn h ≡ v.txn h
@@ -33,10 +35,12 @@ MayWait h Exit w = ⊥
 MayWait h (Look i k) w = ⊥
 MayWait h (Write i k z zs) w = ⊥
 
+-- the hart has no inode
 pub record Nothing (h : ℕ) (t : Bool) (w : World) : Type 0 where
   pub none : (i : ℕ) → w.lock i ≢ Some h
   pub txn : w.txn h ≡ t
 
+-- the call: this inode's record becomes that one, and the old one is answered
 pub record Swap : Type 0 where
   pub inode : ℕ
   pub to : Dinode
@@ -78,6 +82,13 @@ swaps = lowered_calls (theory labels calls) low.blocks (low.handler Step) (begin
 
 abbrev pub swaps_above : Theory
 swaps_above = lowered_calls (operations_of (theory labels calls) (core labels)) low.blocks (low.handler Step) (begins_at_once labels calls)
+
+-- what the code has of both: the blocks
+abbrev pub code : Code swaps
+code = code_below (theory labels calls) low.blocks (low.handler Step) (begins_at_once labels calls) low.Op (λ op a. op)
+
+abbrev pub code_above : Code swaps_above
+code_above = code_below (operations_of (theory labels calls) (core labels)) low.blocks (low.handler Step) (begins_at_once labels calls) low.Op (λ op a. op)
 
 -- a world at rest: no inode is loaded, and no block is valid
 abbrev pub real : low.World

@@ -3,13 +3,16 @@ use Rattle.std.specs.Prelude.{◌≡◌, ◌≢◌, ℕ, Bool, true, false, nat_
 use Rattle.atomic_programs.specs.Prog.{Did, Waits, Ran}
 use Rattle.atomic_programs.specs.Logic.{Machine}
 
+-- one entry of a table changed
 unfoldable pub put : {A : Type 0} → (ℕ → A) → ℕ → A → ℕ → A
 put f k v n = if nat_eq n k then v else f n
 
+-- what the hart has, where it is the holder
 abbrev pub if_held : {A : Type 0} → Option ℕ → ℕ → A → Option A
 if_held None h x = None
 if_held (Some g) h x = if nat_eq g h then Some x else None
 
+-- an inode's record
 pub record Dinode : Type 0 where
   pub kind : ℕ
   pub size : ℕ

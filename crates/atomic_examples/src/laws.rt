@@ -1,15 +1,17 @@
 //! The theorems, at the examples.
 
 ghost use Rattle.std.specs.Prelude.{◌≡◌, ℕ, ◌∷◌, [], List, Some};
-ghost use Rattle.atomic_programs.specs.Calls.{Event, Start, Step, Started, Refused, DidRun, DidEnd, run, outcomes, fresh, AllHonest};
-ghost use Rattle.atomic_programs.specs.Explained.{Explained, history};
+ghost use Rattle.atomic_programs.specs.Calls.{Event, Start, Step, Started, Refused, DidRun, DidEnd, State, next, run, outcomes, fresh, hart_of, IsHonest, AllHonest, Sound};
+ghost use Rattle.atomic_programs.specs.Explained.{Explained, Led, history};
+ghost use Rattle.atomic_programs.specs.Plain.{IsCode};
+ghost use Rattle.atomic_programs.specs.Prog.{plain};
 ghost use Rattle.atomic_examples.specs.Whole as whole;
 ghost use Rattle.atomic_examples.specs.Blocks as blocks;
 ghost use Rattle.atomic_examples.specs.Wards as wards;
 ghost use Rattle.atomic_examples.specs.Wards.{gifts_above, rest as purses};
 ghost use Rattle.atomic_examples.specs.Grab as grab;
 ghost use Rattle.atomic_examples.specs.Grab.{grabs_above};
-ghost use Rattle.atomic_examples.specs.Swap.{Swap, Swapped, swaps, swaps_above, rest};
+ghost use Rattle.atomic_examples.specs.Swap.{Swap, Swapped, swaps, swaps_above, code, code_above, rest};
 
 /// Swaps of inodes' records, which were shown right over whole inodes, are explained where they run on blocks.
 pub fn swaps_explained()
@@ -19,6 +21,18 @@ pub fn swaps_explained()
 /// And each such run shows a run of whole operations on whole inodes, of each call those of its program.
 pub fn swaps_refined()
     ensures { (events : List (Event Swap blocks.Outside)) → AllHonest swaps_above events (fresh swaps_above rest) → Explained swaps_above rest.seen (run swaps_above events (fresh swaps_above rest)) }
+{}
+
+/// What each event on blocks places leads from the records before it to those after it.
+pub fn swaps_lead()
+    ensures { (s : State swaps) (e : Event Swap blocks.Outside) → Sound swaps s → IsHonest swaps e s → Led swaps (hart_of e) s (next swaps e s) }
+{}
+
+/// Both are of the code on blocks, whose programs are the same: whichever history is kept beside, its outcomes are the code's.
+pub fn swaps_are_code()
+    ensures swaps { IsCode swaps code }
+    ensures above { IsCode swaps_above code_above }
+    ensures programs { (c : Swap) → plain (swaps.program c) ≡ plain (swaps_above.program c) }
 {}
 
 /// A swap on blocks: the record is loaded in the steps 3 to 5, and the store acts at the put of its block.

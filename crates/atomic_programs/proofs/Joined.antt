@@ -1,7 +1,7 @@
 -- The rules of two machines as one.
-use Rattle.std.proofs.Common.{◌≡◌, ◌≢◌, ◌<◌, ◌+◌, ◌-◌, ℕ, suc, Option, Some, List, [], ◌∷◌, refl, sym, subst, arith, inl}
+use Rattle.std.proofs.Common.{◌≤◌, length, None, ◌≡◌, ◌≢◌, ◌<◌, ◌+◌, ◌-◌, ℕ, suc, Option, Some, List, [], ◌∷◌, refl, sym, subst, arith, inl}
 use Rattle.atomic_programs.specs.Prog.{Ret, Do, bind, once, unmarked, Did, Waits, Ran, Stops}
-use Rattle.atomic_programs.specs.Logic.{Machine, P, own, onto, Goes, placed_with, Grown, Fine, Good, Wp, Laws}
+use Rattle.atomic_programs.specs.Logic.{Machine, P, PlacesOne, own, onto, Goes, placed_with, Grown, Fine, Good, Wp, Laws}
 use Rattle.atomic_programs.proofs.Sound.{Wp-weaker, Wp-more, Wp-bind, Wp-others}
 use Rattle.atomic_programs.specs.Joined.{Lasts, ActOf, Lower, Both, ran_to, placed_at, both, joined, LowerLaws, Handlers, lowered, Below, Atomic}
 
@@ -18,6 +18,16 @@ joined_laws U R above below =
 goes_below : (U : Machine) (R : Lower U.World) (t : U.Tree) (ps : List (ℕ × U.Step)) (u : U.Tree) → Goes U t ps u → Goes (joined U R) t ps u
 goes_below U R t [] u g = g
 goes_below U R t (p ∷ ps) u g = (g.0, g.1, goes_below U R g.0 ps u g.2)
+
+-- a step below places what the operation that it acts for places, or nothing
+pub joined_places_one : (U : Machine) (R : Lower U.World) → PlacesOne U → PlacesOne (joined U R)
+joined_places_one U R one h op a None w inv = omega arith
+joined_places_one U R one h op a (Some t) w inv = at (U.go h t.outside t.op t.mark w.seen)
+  where
+    at : (d : Did (U.Answer t.op) U.World) → length (own h (placed_at (placed_with U h t.op t.mark w.seen) d)) ≤ 1
+    at Waits = omega arith
+    at (Ran b u) = one h t.op b (t.mark b) w.seen inv.1
+    at (Stops u) = omega arith
 
 -- what is placed for a program before its next step is a beginning still
 grows : (L : Machine) {A : Type 0} (h : ℕ) (p : P L A) (B : List L.Step → Type 0) (Q : A → List L.Step → L.World → Type 0) (n : ℕ) (fs xs : List L.Step) (v u : L.World)

@@ -1,8 +1,8 @@
 -- Every program that is right over a machine shows the run of its own operations.
-use Rattle.std.proofs.Common.{◌≡◌, ◌≢◌, ℕ, Option, List, [], ◌∷◌, ◌++◌, refl, sym, ◌∙◌, ap, subst, inl, inr}
+use Rattle.std.proofs.Common.{◌≡◌, ◌≢◌, ℕ, Option, List, [], ◌∷◌, ◌++◌, refl, sym, ◌∙◌, ap, subst, inl, inr, arith}
 use Rattle.std.proofs.lemmas.Bool.{eq-eqb, ne_eqb}
 use Rattle.atomic_programs.specs.Prog.{Ret, Do, Did, Waits, Ran, Stops, did_in}
-use Rattle.atomic_programs.specs.Logic.{Machine, P, Answered, own, onto, oldest_first, placed_with, Good, Wp, Laws}
+use Rattle.atomic_programs.specs.Logic.{Machine, P, Answered, PlacesOne, own, onto, oldest_first, placed_with, Good, Wp, Laws}
 use Rattle.atomic_programs.specs.Calls.{Theory, Begun, Ends, Lawful}
 use Rattle.atomic_programs.specs.Operations.{Core, IsCore, operations, IsRun, operations_of, bare, bare_calls}
 use Rattle.atomic_programs.proofs.Sound.{Wp-weaker}
@@ -31,6 +31,9 @@ own_one h e = rw (eq-eqb h h refl) refl
 
 own_none : {A : Type 0} (g h : ℕ) (e : A) → g ≢ h → own g ((h, e) ∷ []) ≡ []
 own_none g h e ne = rw (ne_eqb h g (λ q. ne (sym q))) refl
+
+pub operations_places_one : (L : Machine) (K : Core L) → PlacesOne (operations L K)
+operations_places_one L K h op a m w inv = rw (own_one {A = Answered L} h (op, a)) (omega arith)
 
 module _ (L : Machine) (K : Core L) {A : Type 0} (whole : P L A) where
   -- after these operations, the newest first, p is what is left of the whole
