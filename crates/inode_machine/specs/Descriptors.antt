@@ -1,0 +1,108 @@
+-- The programs of the calls on descriptors: dup, close, fstat, read, write.
+use Rattle.std.specs.Prelude.{ℕ, zero, suc, ◌-◌, ◌+◌, Bool, true, false, List, [], ◌∷◌, ◌++◌, take, drop as past, length, Option, Some, None}
+use Rattle.plain_tree.specs.declared.answer.Answer.TheVariants as answers
+use Rattle.plain_tree.specs.declared.answer.Cause.{Cause}
+use Rattle.plain_tree.specs.declared.answer.Cause.TheVariants.{BadDescriptor}
+use Rattle.plain_tree.specs.declared.answer.Full.TheVariants.{Descriptors, Blocks}
+use Rattle.plain_tree.specs.declared.answer.Reply.{Reply}
+use Rattle.plain_tree.specs.declared.call.Call.TheVariants as calls
+use Rattle.plain_tree.specs.declared.step.Action.TheVariants as steps
+use Rattle.plain_tree.specs.Calls.{piece, piece_count}
+use Rattle.atomic_programs.specs.Prog.{Ret, Do, unmarked}
+use Rattle.inode_machine.specs.Inodes.{Face, stat_of_face}
+use Rattle.inode_machine.specs.World.{Mark, Readout, NotRead, Part, Joining, NotJoined, Joined, Wrote, Whole, Refused, Short}
+use Rattle.inode_machine.specs.World.Op.{Give, StatFile, ReadFile, CheckFile, JoinFile, WriteFile, Double, Shut, Join, Leave}
+use Rattle.inode_machine.specs.World.Mark.{Fills, Spoils}
+use Rattle.inode_machine.specs.Parts.{P, own_step, failed, full, done, say, drop}
+
+-- dup: one step for descriptor and count; without an open file the reply alone
+
+abbrev pub dups : ℕ → Option (Option ℕ) → Option Mark
+dups fd None = own_step (steps.Dup fd)
+dups fd (Some None) = Some Fills
+dups fd (Some (Some f)) = own_step (steps.Dup fd)
+
+abbrev pub dup_on : ℕ → Option (Option ℕ) → P Reply
+dup_on fd None = Ret (failed (calls.Dup fd) BadDescriptor)
+dup_on fd (Some None) = say (full (calls.Dup fd) Descriptors)
+dup_on fd (Some (Some f)) = say (record { answer = answers.Fd f; call = calls.Dup fd })
+
+abbrev pub dup_program : ℕ → P Reply
+dup_program fd = Do (Double fd) (dups fd) (dup_on fd)
+
+-- close: with the last descriptor the open file's reference is dropped
+
+abbrev pub close_on : ℕ → Option (Option ℕ) → P Reply
+close_on fd None = Ret (failed (calls.Close fd) BadDescriptor)
+close_on fd (Some None) = say (done (calls.Close fd))
+close_on fd (Some (Some n)) = Do Join unmarked (λ _. drop n (Do Leave unmarked (λ _. say (done (calls.Close fd)))))
+
+abbrev pub close_program : ℕ → P Reply
+close_program fd = Do (Shut fd) (λ a. own_step (steps.Close fd)) (close_on fd)
+
+-- fstat
+
+abbrev pub stat_reply : ℕ → ℕ → Face → Reply
+stat_reply fd n f = record { answer = answers.Stat (stat_of_face n f); call = calls.Fstat fd }
+
+abbrev pub stat_on : ℕ → Option (ℕ × Face) → P Reply
+stat_on fd None = Ret (failed (calls.Fstat fd) BadDescriptor)
+stat_on fd (Some p) = Do (Give p.0) unmarked (λ _. say (stat_reply fd p.0 p.1))
+
+abbrev pub stat_program : ℕ → P Reply
+stat_program fd = Do (StatFile fd) (λ a. own_step (steps.Fstat fd)) (stat_on fd)
+
+-- read: the part and the offset under one lock
+
+abbrev pub read_reply : ℕ → List ℕ → List ℕ → Reply
+read_reply fd buffer b = record { answer = answers.Count (length b); call = calls.Read fd (b ++ past (length b) buffer) }
+
+abbrev pub read_on : ℕ → List ℕ → Readout → P Reply
+read_on fd buffer (NotRead c) = Ret (failed (calls.Read fd buffer) c)
+read_on fd buffer (Part n b) = Do (Give n) unmarked (λ _. say (read_reply fd buffer b))
+
+abbrev pub read_program : ℕ → List ℕ → P Reply
+read_program fd buffer = Do (ReadFile fd (length buffer)) (λ a. own_step (steps.Read fd (length buffer))) (read_on fd buffer)
+
+-- write: each piece in a transaction of its own; the first that is refused, or finds no block, ends the call
+
+abbrev pub write_reply : ℕ → List ℕ → Reply
+write_reply fd bytes = record { answer = answers.Count (length bytes); call = calls.Write fd bytes }
+
+abbrev pub writes : ℕ → List ℕ → Wrote → Option Mark
+writes fd b Whole = own_step (steps.WritePart fd b)
+writes fd b (Refused c) = own_step (steps.WritePart fd b)
+writes fd b (Short k) = Some (Spoils (steps.WritePart fd (take k b)))
+
+abbrev pub wrote_on : ℕ → List ℕ → P Reply → Wrote → P Reply
+wrote_on fd bytes more Whole = more
+wrote_on fd bytes more (Refused c) = say (failed (calls.Write fd bytes) c)
+wrote_on fd bytes more (Short k) = say (full (calls.Write fd bytes) Blocks)
+
+abbrev pub write_piece : ℕ → ℕ → List ℕ → ℕ → P Reply → P Reply
+write_piece fd n bytes i more =
+    Do (WriteFile fd n (piece bytes i)) (writes fd (piece bytes i)) (λ a.
+    Do (Give n) unmarked (λ _.
+    Do Leave unmarked (λ _.
+    wrote_on fd bytes more a)))
+
+-- so many pieces past this one
+abbrev pub write_from : ℕ → ℕ → List ℕ → ℕ → ℕ → P Reply
+write_from fd n bytes zero i = write_piece fd n bytes i (say (write_reply fd bytes))
+write_from fd n bytes (suc left) i = write_piece fd n bytes i (Do Join unmarked (λ _. write_from fd n bytes left (i + 1)))
+
+abbrev pub refused_to : ℕ → List ℕ → Joining → Option Mark
+refused_to fd b (NotJoined c) = own_step (steps.WritePart fd b)
+refused_to fd b (Joined n) = None
+
+abbrev pub joined_on : ℕ → List ℕ → Joining → P Reply
+joined_on fd bytes (NotJoined c) = Ret (failed (calls.Write fd bytes) c)
+joined_on fd bytes (Joined n) = write_from fd n bytes (piece_count bytes - 1) 0
+
+abbrev pub checked_reply : ℕ → Option Cause → Reply
+checked_reply fd None = write_reply fd []
+checked_reply fd (Some c) = failed (calls.Write fd []) c
+
+abbrev pub write_program : ℕ → List ℕ → P Reply
+write_program fd [] = Do (CheckFile fd) (λ o. own_step (steps.WritePart fd [])) (λ o. Ret (checked_reply fd o))
+write_program fd (b ∷ bs) = Do (JoinFile fd) (refused_to fd (piece (b ∷ bs) 0)) (joined_on fd (b ∷ bs))

@@ -1,0 +1,111 @@
+-- What is seen of an inode: its type, its count and size, and what a directory has under a name.
+use Rattle.std.specs.Prelude.{ℕ, ℤ, Bool, true, false, ◌&&◌, not, drop, nat_lt, if◌then◌else◌, Option, Some, None}
+use Rattle.plain_tree.specs.declared.answer.Cause.{Cause}
+use Rattle.plain_tree.specs.declared.answer.Cause.TheVariants.{IsDirectory, NoDriver}
+use Rattle.plain_tree.specs.declared.answer.NodeType.{NodeType}
+use Rattle.plain_tree.specs.declared.answer.NodeType.TheVariants as types
+use Rattle.plain_tree.specs.declared.answer.Stat.{Stat}
+use Rattle.plain_tree.specs.declared.node.Node.{Node}
+use Rattle.plain_tree.specs.declared.node.Kind.{Kind}
+use Rattle.plain_tree.specs.declared.node.Kind.TheVariants.{Directory, File, Device}
+use Rattle.plain_tree.specs.Tree.{Name, look}
+use Rattle.plain_tree.specs.Steps.{has_driver, any_used, size_of}
+use Rattle.plain_tree.specs.Widths.{root_device}
+
+-- an inode's type, which it has until it is freed; a device with its major
+pub data Sort : Type 0 where
+  OfDirectory : Sort
+  OfFile : Sort
+  OfDevice : ℤ → Sort
+
+abbrev pub sort_of_kind : Kind → Sort
+sort_of_kind (Directory slots) = OfDirectory
+sort_of_kind (File bytes) = OfFile
+sort_of_kind (Device major minor size) = OfDevice major
+
+abbrev pub sort_of : Option Node → Option Sort
+sort_of None = None
+sort_of (Some v) = Some (sort_of_kind v.kind)
+
+abbrev pub is_directory_sort : Sort → Bool
+is_directory_sort OfDirectory = true
+is_directory_sort OfFile = false
+is_directory_sort (OfDevice major) = false
+
+abbrev pub is_file_sort : Sort → Bool
+is_file_sort OfDirectory = false
+is_file_sort OfFile = true
+is_file_sort (OfDevice major) = false
+
+-- a device is neither read nor written
+abbrev pub no_driver_for : Sort → Option Cause
+no_driver_for OfDirectory = None
+no_driver_for OfFile = None
+no_driver_for (OfDevice major) = Some NoDriver
+
+-- a directory opens without flags alone, a device where it has a driver
+abbrev pub open_refusal : Bool → Sort → Option Cause
+open_refusal plain OfDirectory = if plain then None else Some IsDirectory
+open_refusal plain OfFile = None
+open_refusal plain (OfDevice major) = if has_driver major then None else Some NoDriver
+
+-- what a record tells without its content
+pub record Face : Type 0 where
+  pub sort : Sort
+  pub count : ℕ
+  pub size : ℕ
+
+abbrev pub face_of : Option Node → Option Face
+face_of None = None
+face_of (Some v) = Some (record { sort = sort_of_kind v.kind; count = v.count; size = size_of v.kind })
+
+-- only a directory with links finds anything
+abbrev pub is_live_face : Option Face → Bool
+is_live_face None = false
+is_live_face (Some f) = nat_lt 0 f.count && is_directory_sort f.sort
+
+abbrev pub is_directory_face : Option Face → Bool
+is_directory_face None = false
+is_directory_face (Some f) = is_directory_sort f.sort
+
+-- a face that is there, or one that nobody asks for
+abbrev pub face_or : Option Face → Face
+face_or None = record { sort = OfFile; count = 0; size = 0 }
+face_or (Some f) = f
+
+abbrev pub type_of_sort : Sort → NodeType
+type_of_sort OfDirectory = types.Directory
+type_of_sort OfFile = types.File
+type_of_sort (OfDevice major) = types.Device
+
+abbrev pub stat_of_face : ℕ → Face → Stat
+stat_of_face n f = record { device = root_device; inode = n; kind = type_of_sort f.sort; nlink = f.count; size = f.size }
+
+-- What is looked for in an inode whose lock is taken: nothing, a name, or whether a directory has entries.
+pub data Looking : Type 0 where
+  AtNothing : Looking
+  AtName : Name → Looking
+  AtEntries : Looking
+
+-- no slot past the first two is used
+abbrev pub is_empty_kind : Kind → Bool
+is_empty_kind (Directory slots) = not (any_used (drop 2 slots))
+is_empty_kind (File bytes) = true
+is_empty_kind (Device major minor size) = true
+
+abbrev pub is_empty_node : Option Node → Bool
+is_empty_node None = true
+is_empty_node (Some v) = is_empty_kind v.kind
+
+pub record Seen : Type 0 where
+  pub face : Option Face
+  pub found : Option ℕ
+  pub empty : Bool
+
+abbrev pub found_in : ℕ → Option Node → Looking → Option ℕ
+found_in n v AtNothing = None
+found_in n v (AtName e) = look (λ j. v) n e
+found_in n v AtEntries = None
+
+abbrev pub seen_in : ℕ → Looking → Option Node → Seen
+seen_in n looking v = record { face = face_of v; found = found_in n v looking; empty = is_empty_node v }

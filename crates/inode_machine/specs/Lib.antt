@@ -1,0 +1,12 @@
+pub mod Moves
+pub mod Inodes
+pub mod World
+pub mod Exec
+pub mod Marks
+pub mod Rules
+pub mod Parts
+pub mod Descriptors
+pub mod Opening
+pub mod Naming
+pub mod Moving
+pub mod Programs

@@ -1,0 +1,213 @@
+-- What an operation's mark makes of the tree, and which steps are placed.
+use Rattle.std.specs.Prelude.{ℕ, ◌+◌, Bool, true, false, ◌&&◌, List, [], ◌∷◌, if◌then◌else◌, Option, Some, None}
+use Rattle.plain_tree.specs.declared.node.Node.{Node}
+use Rattle.plain_tree.specs.declared.answer.Cause.{Cause}
+use Rattle.plain_tree.specs.declared.step.Action.{Action}
+use Rattle.plain_tree.specs.declared.step.Action.TheVariants.{Open, Truncate, Read, WritePart, Find, Bump, Enter, Unbump, Unlink, Mkdir, Chdir, Dup, Close, Fstat, Inherit}
+use Rattle.plain_tree.specs.declared.step.StepAnswer.{StepAnswer}
+use Rattle.plain_tree.specs.declared.step.StepAnswer.TheVariants.{Opened, Bytes, Stat as Status, Fd as NewFd, Done, Failed, Full as NoRoom}
+use Rattle.plain_tree.specs.declared.tree.Hold.{Hold}
+use Rattle.plain_tree.specs.Tree.{Name, Tree, put, elements, look, start_of, resolve, parent}
+use Rattle.plain_tree.specs.Steps.{path_of, refusal_with, effect_with, answer_with, makes_node, opens_one, lowest, closed, drop_hold}
+use Rattle.atomic_programs.specs.Prog.{Did, Waits, Ran, Stops}
+use Rattle.inode_machine.specs.Inodes.{sort_of}
+use Rattle.inode_machine.specs.Moves.{Walk, fail, Deed, Move, Step}
+use Rattle.inode_machine.specs.Moves.Move.{Begin, Look, Quit, Own}
+use Rattle.inode_machine.specs.World.{Desk, Note, World, Op, Answer, Outside, Mark}
+use Rattle.inode_machine.specs.World.Mark.{Makes, Frees, Fills, Mends, Spoils}
+use Rattle.inode_machine.specs.Exec.{is_nothing, first_from, or_zero, with_walk, exec}
+
+-- The step acts, or is refused; a tree that isn't settled stays so.
+
+abbrev pub act_all : Option Cause → Tree → ℕ → Action → Option ℕ → Option (ℕ × Name) → ℕ → ℕ → Tree
+act_all (Some k) b h s res par new id = b
+act_all None b h s res par new id = effect_with b h s res par new id
+
+abbrev pub act_answer : Option Cause → Tree → ℕ → Action → Option ℕ → Option (ℕ × Name) → ℕ → StepAnswer
+act_answer (Some k) b h s res par id = Failed k
+act_answer None b h s res par id = answer_with b h s res par id
+
+abbrev pub act_entered : Option Cause → Bool → ℕ → Option ℕ
+act_entered (Some k) m new = None
+act_entered None m new = if m then Some new else None
+
+-- what a move makes of the tree, of the hart's walk, and what it tells
+pub record Made : Type 0 where
+  pub all : Tree
+  pub walk : Option Walk
+  pub found : Option ℕ
+  pub opened : Option ℕ  -- the id of a new open file
+  pub entered : Option ℕ  -- a new node that was alone until now
+  pub left : Option ℕ  -- the directory that a change of directory leaves
+  pub told : Option Deed
+
+-- what the step leaves to be counted up: an open, a change of directory and a find have it named at once
+abbrev pub found_by : Action → Option ℕ → Option ℕ
+found_by (Open path flags) res = res
+found_by (Find old) res = res
+found_by (Chdir path) res = res
+found_by (Truncate fd) res = None
+found_by (Read fd n) res = None
+found_by (WritePart fd b) res = None
+found_by Bump res = None
+found_by (Enter new) res = None
+found_by Unbump res = None
+found_by (Unlink path) res = None
+found_by (Mkdir path) res = None
+found_by (Dup fd) res = None
+found_by (Close fd) res = None
+found_by (Fstat fd) res = None
+found_by (Inherit child) res = None
+
+-- a change of directory leaves the old one
+abbrev pub left_by : Action → ℕ → Option ℕ
+left_by (Open path flags) d = None
+left_by (Find old) d = None
+left_by (Chdir path) d = Some d
+left_by (Truncate fd) d = None
+left_by (Read fd n) d = None
+left_by (WritePart fd b) d = None
+left_by Bump d = None
+left_by (Enter new) d = None
+left_by Unbump d = None
+left_by (Unlink path) d = None
+left_by (Mkdir path) d = None
+left_by (Dup fd) d = None
+left_by (Close fd) d = None
+left_by (Fstat fd) d = None
+left_by (Inherit child) d = None
+
+abbrev pub act_left : Option Cause → Action → ℕ → Option ℕ
+act_left (Some k) s d = None
+act_left None s d = left_by s d
+
+abbrev pub acts : Tree → ℕ → Action → Option ℕ → Option (ℕ × Name) → ℕ → ℕ → Made
+acts b h s res par new id = record {
+  all = act_all (refusal_with b h s res par) b h s res par new id;
+  walk = None;
+  found = found_by s res;
+  opened = act_entered (refusal_with b h s res par) (opens_one b h s) id;
+  entered = act_entered (refusal_with b h s res par) (makes_node b s par) new;
+  left = act_left (refusal_with b h s res par) s (b.cwd h);
+  told = Some (record { act = record { step = s; answer = act_answer (refusal_with b h s res par) b h s res par id }; new = new });
+}
+
+abbrev pub begun : Tree → ℕ → Action → List Name → ℕ → ℕ → Made
+begun b h s [] new id = acts b h s (Some (start_of b h (path_of s))) None new id
+begun b h s (e ∷ es) new id = record { all = b; walk = Some (record { step = s; at = start_of b h (path_of s); next = e; rest = es }); found = None; opened = None; entered = None; left = None; told = None }
+
+abbrev pub looked : Tree → ℕ → Walk → List Name → Option ℕ → ℕ → ℕ → Made
+looked b h w [] r new id = acts b h w.step r (Some (w.at, w.next)) new id
+looked b h w (e ∷ es) None new id = acts b h w.step None None new id
+looked b h w (e ∷ es) (Some n) new id = record { all = b; walk = Some (record { step = w.step; at = n; next = e; rest = es }); found = Some n; opened = None; entered = None; left = None; told = None }
+
+abbrev pub look_made : Tree → ℕ → Option Walk → ℕ → ℕ → Made
+look_made b h None new id = record { all = b; walk = None; found = None; opened = None; entered = None; left = None; told = None }
+look_made b h (Some w) new id = looked b h w w.rest (look b.nodes w.at w.next) new id
+
+abbrev pub made_by : Tree → ℕ → ℕ → Option Walk → Move → Made
+made_by b h id k (Begin s new) = begun b h s (elements (path_of s)) new id
+made_by b h id k (Look new) = look_made b h k new id
+made_by b h id k (Quit s) = record { all = b; walk = None; found = None; opened = None; entered = None; left = None; told = Some (fail s) }
+made_by b h id k (Own s new) = acts b h s (resolve b h (path_of s)) (parent b h (path_of s)) new id
+
+-- the least id that no open file has
+abbrev pub new_id : World → ℕ
+new_id w = or_zero (first_from (w.next + 1) 0 (λ k. is_nothing (w.all.files k)))
+
+abbrev pub above : ℕ → Option ℕ → ℕ
+above n None = n
+above n (Some id) = n + 1
+
+abbrev pub clear : (ℕ → Bool) → Option ℕ → ℕ → Bool
+clear f None = f
+clear f (Some n) = put f n false
+
+-- a step that answers that there is no room explains nothing
+abbrev pub has_answer_room : StepAnswer → Bool
+has_answer_room (NoRoom f) = false
+has_answer_room (Opened fd id f) = true
+has_answer_room (Bytes b) = true
+has_answer_room (Status s) = true
+has_answer_room (NewFd fd) = true
+has_answer_room Done = true
+has_answer_room (Failed k) = true
+
+abbrev pub roomy : Option Deed → Bool
+roomy None = true
+roomy (Some d) = has_answer_room d.act.answer
+
+-- the tree has a new descriptor, and the table has it not yet
+abbrev pub with_opened : (ℕ → Desk) → ℕ → ℕ → Option ℕ → ℕ → Desk
+with_opened desks h fd None = desks
+with_opened desks h fd (Some id) = put desks h (record (desks h) { opening = Some fd })
+
+-- what was found had this type then
+abbrev pub with_noted : Tree → (ℕ → Desk) → ℕ → Option ℕ → ℕ → Desk
+with_noted b desks h None = desks
+with_noted b desks h (Some n) = put desks h (record (desks h) { noted = Some (record { number = n; sort = sort_of (b.nodes n) }) })
+
+abbrev pub with_left : (ℕ → Desk) → ℕ → Option ℕ → ℕ → Desk
+with_left desks h None = desks
+with_left desks h (Some d) = put desks h (record (desks h) { left = Some d })
+
+abbrev pub with_made : ℕ → Made → World → World
+with_made h x w = record w {
+  clean = roomy x.told && w.clean;
+  desks = with_left (with_noted w.all (with_opened w.desks h (lowest (w.all.fds h)) x.opened) h x.found) h x.left;
+  all = x.all;
+  alone = clear w.alone x.entered;
+  next = above w.next x.opened;
+  harts = with_walk w.harts h x.walk x.found;
+}
+
+-- the call found no room
+abbrev pub spoiled : ℕ → World → World
+spoiled h w = record w { clean = false; desks = put w.desks h (record (w.desks h) { full = true }) }
+
+-- What the tree has and the tables have not is taken back: a new descriptor, a change of directory, a hold.
+
+abbrev pub unopened : Tree → ℕ → Option ℕ → Tree
+unopened t h None = t
+unopened t h (Some fd) = closed (record t { fds = put t.fds h (put (t.fds h) fd None) })
+
+abbrev pub unmoved : Tree → ℕ → Option ℕ → Tree
+unmoved t h None = t
+unmoved t h (Some d) = record t { cwd = put t.cwd h d }
+
+-- a raised hold stays, until its raise is taken back
+abbrev pub unheld : Tree → ℕ → Option Hold → Tree
+unheld t h None = t
+unheld t h (Some o) = if o.raised then t else drop_hold t h
+
+abbrev pub mended : ℕ → World → World
+mended h w = record w {
+  clean = false;
+  desks = put w.desks h (record (w.desks h) { opening = None; left = None; full = true });
+  all = unheld (unmoved (unopened w.all h (w.desks h).opening) h (w.desks h).left) h (w.all.holds h);
+  harts = with_walk w.harts h None None;
+}
+
+abbrev pub marked : ℕ → Option Mark → World → World
+marked h None w = w
+marked h (Some (Makes v)) w = with_made h (made_by w.all h (new_id w) (w.harts h).walk v) w
+marked h (Some (Frees n)) w = record w { all = record (w.all) { nodes = put w.all.nodes n None } }
+marked h (Some Fills) w = spoiled h w
+marked h (Some Mends) w = mended h w
+marked h (Some (Spoils s)) w = spoiled h (with_made h (made_by w.all h (new_id w) (w.harts h).walk (Own s 0)) w)
+
+abbrev pub with_mark : {A : Type 0} → ℕ → (A → Option Mark) → Did A World → Did A World
+with_mark h m Waits = Waits
+with_mark h m (Ran a w) = Ran a (marked h (m a) w)
+with_mark h m (Stops w) = Stops w
+
+abbrev pub go : ℕ → Outside → (op : Op) → (Answer op → Option Mark) → World → Did (Answer op) World
+go h x op m w = with_mark h m (exec h x op w)
+
+abbrev pub places : ℕ → (op : Op) → Answer op → Option Mark → World → List (ℕ × Step)
+places h op a None w = []
+places h op a (Some (Makes v)) w = (h, record { move = v; told = (made_by w.all h (new_id w) (w.harts h).walk v).told }) ∷ []
+places h op a (Some (Frees n)) w = []
+places h op a (Some Fills) w = []
+places h op a (Some Mends) w = []
+places h op a (Some (Spoils s)) w = []

@@ -1,0 +1,131 @@
+-- The program of open.
+use Rattle.std.specs.Prelude.{ℕ, Bool, true, false, ◌&&◌, ◌||◌, not, List, [], ◌∷◌, ◌==◌, Option, Some, None, if◌then◌else◌}
+use Rattle.plain_tree.specs.declared.answer.Answer.TheVariants as answers
+use Rattle.plain_tree.specs.declared.answer.Cause.{Cause}
+use Rattle.plain_tree.specs.declared.answer.Cause.TheVariants.{NoEntry}
+use Rattle.plain_tree.specs.declared.answer.Full.{Full}
+use Rattle.plain_tree.specs.declared.answer.Full.TheVariants.{MemInodes, OpenFiles, Descriptors, Blocks, DiskInodes, Directory}
+use Rattle.plain_tree.specs.declared.answer.Reply.{Reply}
+use Rattle.plain_tree.specs.declared.call.Call.{Call}
+use Rattle.plain_tree.specs.declared.call.Call.TheVariants as calls
+use Rattle.plain_tree.specs.declared.step.Action.{Action}
+use Rattle.plain_tree.specs.declared.step.Action.TheVariants as steps
+use Rattle.plain_tree.specs.declared.tree.OpenFile.{OpenFile}
+use Rattle.plain_tree.specs.Tree.{Name, elements}
+use Rattle.plain_tree.specs.Steps.{has, write_only, read_write, empty_it, creates}
+use Rattle.atomic_programs.specs.Prog.{Ret, Do, unmarked}
+use Rattle.inode_machine.specs.Inodes.{Sort, OfFile, Face, face_or, Seen, AtNothing, AtName, is_file_sort, is_live_face, open_refusal}
+use Rattle.inode_machine.specs.Moves.Move.{Begin, Look}
+use Rattle.inode_machine.specs.World.{Mark, Claimed, New, NoInode, NoPlace, Entered, InPlace, NoBlock, NoSlot}
+use Rattle.inode_machine.specs.World.Op.{Take, Give, Up, Claim, Store, Enter, Empty, Slot, Install, Join}
+use Rattle.inode_machine.specs.World.Mark.{Mends}
+use Rattle.inode_machine.specs.Parts.{P, makes, own_step, mends_if_full, failed, full, drop, give_up, tail, Stop, stopped, walk, walk_parent, start, looks_where, is_there}
+
+-- an open file at its beginning
+abbrev pub file_for : ℕ → ℕ → OpenFile
+file_for n flags = record { number = n; offset = 0; readable = not (has flags write_only); writable = has flags write_only || has flags read_write }
+
+abbrev pub empties : ℕ → Sort → Bool
+empties flags sort = has flags empty_it && is_file_sort sort
+
+abbrev pub opened_reply : List ℕ → ℕ → ℕ → Reply
+opened_reply path flags fd = record { answer = answers.Fd fd; call = calls.Open path flags }
+
+-- A slot and a descriptor for an inode whose lock is had; without one the inode is given up.
+
+abbrev pub installs : (ℕ → Option Mark) → Option ℕ → Option Mark
+installs then_ None = Some Mends
+installs then_ (Some fd) = then_ fd
+
+abbrev pub installed_on : List ℕ → ℕ → ℕ → List ℕ → (ℕ → P Reply) → Option ℕ → P Reply
+installed_on path flags n ns k None = give_up n (tail ns (full (calls.Open path flags) Descriptors))
+installed_on path flags n ns k (Some fd) = k fd
+
+abbrev pub take_descriptor : List ℕ → ℕ → ℕ → Sort → List ℕ → (ℕ → Option Mark) → (ℕ → P Reply) → P Reply
+take_descriptor path flags n sort ns mark k =
+    Do Slot mends_if_full (λ there.
+    if there
+    then Do (Install (file_for n flags) sort) (installs mark) (installed_on path flags n ns k)
+    else give_up n (tail ns (full (calls.Open path flags) OpenFiles)))
+
+-- What is there is opened. It may be refused by its type, as was decided where it was found.
+
+abbrev pub open_end : List ℕ → ℕ → ℕ → List ℕ → ℕ → P Reply
+open_end path flags n ns fd = Do (Give n) unmarked (λ _. tail ns (opened_reply path flags fd))
+
+abbrev pub open_face : List ℕ → ℕ → ℕ → List ℕ → Sort → Option Cause → P Reply
+open_face path flags n ns sort (Some c) = give_up n (tail ns (failed (calls.Open path flags) c))
+open_face path flags n ns sort None =
+    take_descriptor path flags n sort ns (λ fd. None) (λ fd.
+    if empties flags sort
+    then Do (Empty n) (λ _. own_step (steps.Truncate fd)) (λ _. open_end path flags n ns fd)
+    else open_end path flags n ns fd)
+
+abbrev pub open_at : List ℕ → ℕ → ℕ → List ℕ → P Reply
+open_at path flags n ns = Do (Take n AtNothing) unmarked (λ a. open_face path flags n ns (face_or a.face).sort (open_refusal (flags == 0) (face_or a.face).sort))
+
+-- without CREATE
+abbrev pub open_old : List ℕ → ℕ → P Reply
+open_old path flags =
+    Do Join unmarked (λ _.
+    start (steps.Open path flags) path [] (λ d.
+    walk (steps.Open path flags) d (elements path) [] (open_at path flags) (λ why ns. tail ns (stopped (calls.Open path flags) why)))
+    (λ why ns. tail ns (stopped (calls.Open path flags) why)))
+
+-- With CREATE. A name that isn't there is made: the inode first, then its name.
+
+-- a new file is empty
+abbrev pub truncates : ℕ → ℕ → Option Mark
+truncates flags fd = if has flags empty_it then own_step (steps.Truncate fd) else None
+
+abbrev pub open_made : List ℕ → ℕ → ℕ → List ℕ → P Reply
+open_made path flags n ns = take_descriptor path flags n OfFile ns (truncates flags) (open_end path flags n ns)
+
+abbrev pub entered_file : ℕ → Entered → Option Mark
+entered_file n InPlace = makes (Look n)
+entered_file n NoBlock = Some Mends
+entered_file n NoSlot = Some Mends
+
+-- the new inode has no name, and is freed
+abbrev pub unmake : ℕ → ℕ → List ℕ → Reply → P Reply
+unmake n d ns r = Do (Store n 0) unmarked (λ _. give_up n (give_up d (tail ns r)))
+
+abbrev pub make_on : List ℕ → ℕ → ℕ → ℕ → List ℕ → Entered → P Reply
+make_on path flags n d ns InPlace = Do (Give d) unmarked (λ _. drop d (open_made path flags n ns))
+make_on path flags n d ns NoBlock = unmake n d ns (full (calls.Open path flags) Blocks)
+make_on path flags n d ns NoSlot = unmake n d ns (full (calls.Open path flags) Directory)
+
+abbrev pub mends_unless_new : Claimed → Option Mark
+mends_unless_new (New n) = None
+mends_unless_new NoInode = Some Mends
+mends_unless_new NoPlace = Some Mends
+
+abbrev pub make_with : List ℕ → ℕ → ℕ → Name → List ℕ → Claimed → P Reply
+make_with path flags d e ns NoInode = give_up d (tail ns (full (calls.Open path flags) DiskInodes))
+make_with path flags d e ns NoPlace = give_up d (tail ns (full (calls.Open path flags) MemInodes))
+make_with path flags d e ns (New n) =
+    Do (Take n AtNothing) unmarked (λ _.
+    Do (Store n 1) unmarked (λ _.
+    Do (Enter d e n) (entered_file n) (make_on path flags n d ns)))
+
+abbrev pub create_found : List ℕ → ℕ → ℕ → Name → List ℕ → Option ℕ → P Reply
+create_found path flags d e ns None = Do (Claim OfFile) mends_unless_new (make_with path flags d e ns)
+create_found path flags d e ns (Some n) =
+    Do (Up n) mends_if_full (λ there.
+    if there then give_up d (open_at path flags n ns) else give_up d (tail ns (full (calls.Open path flags) MemInodes)))
+
+abbrev pub create_in : List ℕ → ℕ → ℕ → Name → List ℕ → P Reply
+create_in path flags d e ns =
+    Do (Take d (AtName e)) (looks_where (steps.Open path flags) is_there) (λ a.
+    if is_live_face a.face then create_found path flags d e ns a.found else give_up d (tail ns (failed (calls.Open path flags) NoEntry)))
+
+abbrev pub open_new : List ℕ → ℕ → List Name → P Reply
+open_new path flags [] = Do Join (λ _. makes (Begin (steps.Open path flags) 0)) (λ _. tail [] (failed (calls.Open path flags) NoEntry))
+open_new path flags (e ∷ es) =
+    Do Join unmarked (λ _.
+    start (steps.Open path flags) path [] (λ d.
+    walk_parent (steps.Open path flags) d e es [] (create_in path flags) (λ why ns. tail ns (stopped (calls.Open path flags) why)))
+    (λ why ns. tail ns (stopped (calls.Open path flags) why)))
+
+abbrev pub open_program : List ℕ → ℕ → P Reply
+open_program path flags = if creates flags then open_new path flags (elements path) else open_old path flags

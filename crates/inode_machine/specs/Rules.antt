@@ -1,0 +1,368 @@
+-- What a hart has, what always holds, and the machine.
+use Rattle.std.specs.Prelude.{◌≡◌, ◌≢◌, ◌⊎◌, ℕ, ◌+◌, ◌<◌, ◌≤◌, Bool, true, false, ◌||◌, ◌&&◌, nat_lt, List, [], length, ◌==◌, if◌then◌else◌, Option, Some, None}
+use Rattle.plain_tree.specs.declared.node.Node.{Node}
+use Rattle.plain_tree.specs.declared.tree.OpenFile.{OpenFile}
+use Rattle.plain_tree.specs.declared.tree.Hold.{Hold}
+use Rattle.plain_tree.specs.Widths.{hart_count, descriptor_count}
+use Rattle.plain_tree.specs.Tree.{Name, Tree, any_below, hold_names, is_live, look}
+use Rattle.tree_laws.specs.WellFormed.{sum_below, one_if, IsWellFormed}
+use Rattle.inode_machine.specs.Moves.{Walk}
+use Rattle.atomic_programs.specs.Logic.{Machine}
+use Rattle.inode_machine.specs.Moves.{Stage, Step, Takes}
+use Rattle.inode_machine.specs.Inodes.{Sort, sort_of, Looking}
+use Rattle.inode_machine.specs.Inodes.Looking.{AtNothing, AtName, AtEntries}
+use Rattle.inode_machine.specs.World.{Mine, Entry, Note, Desk, World, Op, Answer, Mark, Outside, stage_of}
+use Rattle.inode_machine.specs.World.Op.{Take, Give, UpStart, Up, WalkDown, Down, Free, Claim, Store, Fill, Enter, Clear, Empty, Slot, Install, StatFile, ReadFile, CheckFile, JoinFile, WriteFile, Double, Shut, Settle, Lend, LendDirectory, Release, Join, Leave, Say}
+use Rattle.inode_machine.specs.World.Outside.{Room, RoomFor, Picks}
+use Rattle.inode_machine.specs.Exec.{file_count, is_at, is_free, entry_of}
+use Rattle.inode_machine.specs.Marks.{go, places}
+
+-- all that is an inode's
+pub record Held : Type 0 where
+  pub disk : Option Node
+  pub node : Option Node
+  pub alone : Bool
+  pub locked : Bool
+
+abbrev pub is_hart : Option ℕ → ℕ → Bool
+is_hart None h = false
+is_hart (Some g) h = g == h
+
+abbrev pub view : World → ℕ → ℕ → Held
+view w h i = record { disk = w.disk i; node = w.all.nodes i; alone = w.alone i; locked = is_hart (w.lock i) h }
+
+-- an open file without its offset, which harts may share
+pub record Key : Type 0 where
+  pub number : ℕ
+  pub readable : Bool
+  pub writable : Bool
+
+abbrev pub key_of : Option OpenFile → Option Key
+key_of None = None
+key_of (Some f) = Some (record { number = f.number; readable = f.readable; writable = f.writable })
+
+abbrev pub key_at : (ℕ → Option OpenFile) → Option ℕ → Option Key
+key_at files None = None
+key_at files (Some id) = key_of (files id)
+
+-- what the tree has of a hart
+pub record Row : Type 0 where
+  pub cwd : ℕ
+  pub hold : Option Hold
+  pub fds : ℕ → Option ℕ
+  pub keys : ℕ → Option Key
+
+abbrev pub row_of : Tree → ℕ → Row
+row_of t h = record { cwd = t.cwd h; hold = t.holds h; fds = t.fds h; keys = λ i. if nat_lt h hart_count && nat_lt i descriptor_count then key_at t.files (t.fds h i) else None }
+
+abbrev pub key_names : Option Key → ℕ → Bool
+key_names None n = false
+key_names (Some k) n = k.number == n
+
+abbrev pub row_names : Row → ℕ → Bool
+row_names r n = (r.cwd == n) || (hold_names r.hold n || any_below descriptor_count (λ i. key_names (r.keys i) n))
+
+abbrev pub key_in : (ℕ → Option Key) → Option ℕ → Option Key
+key_in keys None = None
+key_in keys (Some i) = keys i
+
+-- named by the hart itself: its current directory and the one that it leaves, its hold, and what it is opening
+abbrev pub own_names : Row → Desk → ℕ → Bool
+own_names r d n = (r.cwd == n) || (hold_names r.hold n || (key_names (key_in r.keys d.opening) n || is_at d.left n))
+
+abbrev pub if_kept : {A : Type 0} → Option ℕ → ℕ → A → Option A
+if_kept None h x = None
+if_kept (Some g) h x = if g == h then Some x else None
+
+-- all that is a hart's
+pub record Own : Type 0 where
+  pub inodes : ℕ → Option Held
+  pub mine : Mine
+  pub row : Row
+  pub ninodes : ℕ
+  pub desk : Desk
+
+abbrev pub own_of : ℕ → World → Own
+own_of h w = record { inodes = λ i. if_kept (w.keeper i) h (view w h i); mine = w.harts h; row = row_of w.all h; ninodes = w.all.ninodes; desk = w.desks h }
+
+abbrev pub nothing : {A : Type 0} → ℕ → Option A
+nothing i = None
+
+-- no lock, no transaction, no inode to free; the references of its descriptors and of its current directory alone
+pub record Rests (O : Own) : Type 0 where
+  pub inodes : O.inodes ≡ nothing
+  pub refs : (i : ℕ) → O.mine.refs i ≡ one_if (O.desk.directory == i)
+  pub walk : O.mine.walk ≡ None
+  pub pending : O.mine.pending ≡ None
+  pub hold : O.row.hold ≡ None
+  pub hand : O.desk.hand ≡ None
+  pub joined : O.desk.joined ≡ false
+  pub lent : O.desk.lent ≡ nothing
+  pub opening : O.desk.opening ≡ None
+  pub left : O.desk.left ≡ None
+  pub noted : O.desk.noted ≡ None
+
+abbrev pub Idle : ℕ → World → Type 0
+Idle h w = Rests (own_of h w)
+
+-- What a hart has stays while the others step. A hart to which another one hands its descriptors gets them, and rests still.
+pub record Others (h : ℕ) (v : World) (xs : List Step) (w : World) : Type 0 where
+  pub none : xs ≡ []
+  pub same : (v.desks h).lender ≡ None → own_of h w ≡ own_of h v
+  pub rests : Idle h v → Idle h w
+  pub clean : w.clean ≡ true → v.clean ≡ true
+
+-- hart g keeps a directory that has inode n under a name
+pub record Found (keeper : ℕ → Option ℕ) (nodes : ℕ → Option Node) (g n : ℕ) : Type 0 where
+  pub directory : ℕ
+  pub name : Name
+  pub keeps : keeper directory ≡ Some g
+  pub finds : look nodes directory name ≡ Some n
+
+-- a descriptor of the hart has an open file of the inode
+pub record Opens (fds : ℕ → Option ℕ) (files : ℕ → Option Entry) (n : ℕ) : Type 0 where
+  pub fd : ℕ
+  pub below : fd < descriptor_count
+  pub slot : ℕ
+  pub is : fds fd ≡ Some slot
+  pub entry : Entry
+  pub at : files slot ≡ Some entry
+  pub number : entry.file.number ≡ n
+
+-- a reference stands: of a descriptor of the hart, or of the hart itself
+abbrev pub Pinned : (desks : ℕ → Desk) (files : ℕ → Option Entry) (harts : ℕ → Mine) (g n : ℕ) → Type 0
+Pinned desks files harts g n = Opens (desks g).fds files n ⊎ (0 < (harts g).refs n)
+
+abbrev pub Reached : World → ℕ → ℕ → Type 0
+Reached w g n = (0 < (w.harts g).refs n) ⊎ ((w.harts g).pending ≡ Some n)
+
+-- The open-file table beside the tree's open files.
+
+abbrev pub id_at : (ℕ → ℕ) → Option ℕ → Option ℕ
+id_at ids None = None
+id_at ids (Some k) = Some (ids k)
+
+abbrev pub number_is : Option Entry → ℕ → ℕ
+number_is None n = 0
+number_is (Some e) n = one_if (e.file.number == n)
+
+-- how often a hart has a slot, for itself or to hand it on
+abbrev pub uses : Desk → ℕ → ℕ
+uses d k = sum_below descriptor_count (λ i. one_if (is_at (d.fds i) k)) + sum_below descriptor_count (λ i. one_if (is_at (d.lent i) k))
+
+abbrev pub users : (ℕ → Desk) → ℕ → ℕ
+users desks k = sum_below hart_count (λ g. uses (desks g) k)
+
+pub record Shop : Type 0 where
+  pub files : ℕ → Option Entry
+  pub desks : ℕ → Desk
+  pub ids : ℕ → ℕ
+  pub slots : ℕ → ℕ
+  pub clean : Bool
+  pub tree_fds : ℕ → ℕ → Option ℕ
+  pub tree_files : ℕ → Option OpenFile
+
+abbrev pub shop_of : World → Shop
+shop_of w = record { files = w.files; desks = w.desks; ids = w.ids; slots = w.slots; clean = w.clean; tree_fds = w.all.fds; tree_files = w.all.files }
+
+-- what the tree has opened and the table not yet: nobody else has it, and its offset is 0
+pub record IsOpening (s : Shop) (g i : ℕ) : Type 0 where
+  pub below : i < descriptor_count
+  pub free : (s.desks g).fds i ≡ None
+  pub id : ℕ
+  pub is : s.tree_fds g i ≡ Some id
+  pub file : OpenFile
+  pub at : s.tree_files id ≡ Some file
+  pub offset : file.offset ≡ 0
+  pub only : (j l : ℕ) → j < hart_count → l < descriptor_count → s.tree_fds j l ≡ Some id → (j ≡ g) × (l ≡ i)
+
+pub record Tied (s : Shop) : Type 0 where
+  -- a hart's descriptors are the tree's, but for what it is opening
+  pub fds : (g i : ℕ) → g < hart_count → i < descriptor_count → is_at (s.desks g).opening i ≡ false → s.tree_fds g i ≡ id_at s.ids ((s.desks g).fds i)
+  pub fresh : (g i : ℕ) → g < hart_count → (s.desks g).opening ≡ Some i → IsOpening s g i
+  pub used : (g i k : ℕ) → g < hart_count → i < descriptor_count → (s.desks g).fds i ≡ Some k → (e : Entry) × (s.files k ≡ Some e)
+  -- a slot in hand has no open file, and one hart has it
+  pub hand : (g k : ℕ) → g < hart_count → (s.desks g).hand ≡ Some k → (k < file_count) × (s.files k ≡ None)
+  pub hands : (g j k : ℕ) → g < hart_count → j < hart_count → (s.desks g).hand ≡ Some k → (s.desks j).hand ≡ Some k → g ≡ j
+  pub within : (k : ℕ) (e : Entry) → s.files k ≡ Some e → k < file_count
+  -- a slot's open file is the tree's, with its offset; no two slots have one
+  pub files : (k : ℕ) (e : Entry) → s.files k ≡ Some e → s.tree_files (s.ids k) ≡ Some e.file
+  pub apart : (k l : ℕ) (e f : Entry) → s.files k ≡ Some e → s.files l ≡ Some f → s.ids k ≡ s.ids l → k ≡ l
+  pub counted : (k : ℕ) (e : Entry) → s.files k ≡ Some e → (e.references ≡ users s.desks k) × (0 < e.references)
+  pub slots : (n : ℕ) → s.slots n ≡ sum_below file_count (λ k. number_is (s.files k) n)
+  pub spoiled : (g : ℕ) → (s.desks g).full ≡ true → s.clean ≡ false
+
+-- kept by one hart, which has all the references to it
+pub record IsAlone (keeper : ℕ → Option ℕ) (nodes : ℕ → Option Node) (refs : ℕ → ℕ) (harts : ℕ → Mine) (i : ℕ) : Type 0 where
+  pub hart : ℕ
+  pub kept : keeper i ≡ Some hart
+  pub dead : is_live (nodes i) ≡ false
+  pub counts : refs i ≡ (harts hart).refs i
+
+-- the directory that the hart refers to is the tree's, or the one that it leaves
+abbrev pub left_or : Option ℕ → ℕ → ℕ
+left_or None d = d
+left_or (Some k) d = k
+
+pub record Inv (w : World) : Type 0 where
+  -- the tree before it settles is well formed
+  pub well : IsWellFormed w.all
+  pub ids : (k : ℕ) → w.next ≤ k → w.all.files k ≡ None
+  -- where nobody keeps an inode its record is its node
+  pub whole : (i : ℕ) → w.keeper i ≡ None → w.disk i ≡ w.all.nodes i
+  -- and where its keeper is in no transaction
+  pub quiet : (i g : ℕ) → w.keeper i ≡ Some g → (w.desks g).joined ≡ false → w.disk i ≡ w.all.nodes i
+  -- who has the lock keeps it
+  pub keeps : (i g : ℕ) → w.lock i ≡ Some g → w.keeper i ≡ Some g
+  -- who keeps it has a reference
+  pub kept : (i g : ℕ) → w.keeper i ≡ Some g → (g < hart_count) × Pinned w.desks w.files w.harts g i
+  -- by its lock, or alone
+  pub held : (i g : ℕ) → w.keeper i ≡ Some g → (w.lock i ≡ Some g) ⊎ (w.alone i ≡ true)
+  pub alone : (i : ℕ) → w.alone i ≡ true → IsAlone w.keeper w.all.nodes w.refs w.harts i
+  -- each reference is of a hart or of an open file
+  pub counts : (i : ℕ) → w.refs i ≡ w.slots i + sum_below hart_count (λ g. (w.harts g).refs i)
+  pub tied : Tied (shop_of w)
+  -- an open file has its inode's type
+  pub sorts : (k : ℕ) (e : Entry) → w.files k ≡ Some e → sort_of (w.all.nodes e.file.number) ≡ Some e.sort
+  -- what a hart itself names it refers to, or it stands in a directory that the hart keeps
+  pub named : (g i : ℕ) → g < hart_count → own_names (row_of w.all g) (w.desks g) i ≡ true → Reached w g i
+  pub pending : (g i : ℕ) → g < hart_count → (w.harts g).pending ≡ Some i → Found w.keeper w.all.nodes g i
+  pub walks : (g : ℕ) (k : Walk) → g < hart_count → (w.harts g).walk ≡ Some k → Reached w g k.at
+  -- while it refers to what it found, that has the type that it had
+  pub noted : (g : ℕ) (n : Note) → g < hart_count → (w.desks g).noted ≡ Some n → Reached w g n.number → sort_of (w.all.nodes n.number) ≡ n.sort
+  pub directory : (g : ℕ) → g < hart_count → (w.desks g).directory ≡ left_or (w.desks g).left (w.all.cwd g)
+  -- a hart that gets another's descriptors rests
+  pub lent : (g : ℕ) → g < hart_count → (w.desks g).lender ≢ None → Idle g w
+
+-- in another hart's hand
+abbrev pub IsOut : ℕ → Option ℕ → Type 0
+IsOut h o = (g : ℕ) × (g ≢ h) × (o ≡ Some g)
+
+-- An operation waits only where the lock that it takes is another hart's.
+
+abbrev pub EntryOut : ℕ → World → Option Entry → Type 0
+EntryOut h w None = ⊥
+EntryOut h w (Some e) = IsOut h (w.lock e.file.number)
+
+abbrev pub MayWait : ℕ → Op → World → Type 0
+MayWait h (Take n looking) w = IsOut h (w.lock n)
+MayWait h (StatFile fd) w = EntryOut h w (entry_of w h fd)
+MayWait h (ReadFile fd n) w = EntryOut h w (entry_of w h fd)
+MayWait h (WriteFile fd n bytes) w = IsOut h (w.lock n)
+MayWait h op w = ⊥
+
+-- What an operation asks. Who locks an inode refers to it, and hasn't locked it; who changes one has its lock and has joined; who joins, leaves, opens by a
+-- descriptor or replies has no lock.
+
+abbrev pub Locks : ℕ → ℕ → World → Type 0
+Locks h n w = w.lock n ≡ Some h
+
+abbrev pub LocksNone : ℕ → World → Type 0
+LocksNone h w = (i : ℕ) → w.lock i ≢ Some h
+
+abbrev pub Changes : ℕ → ℕ → World → Type 0
+Changes h n w = (w.lock n ≡ Some h) × ((w.desks h).joined ≡ true)
+
+abbrev pub Refers : ℕ → ℕ → World → Type 0
+Refers h n w = (0 < (w.harts h).refs n) × (w.lock n ≢ Some h)
+
+abbrev pub May : ℕ → Op → World → Type 0
+May h (Take n looking) w = Refers h n w
+May h (Give n) w = Locks h n w
+May h (UpStart absolute) w = LocksNone h w
+May h (Up n) w = Unit {0}
+May h (WalkDown n) w = Refers h n w
+May h (Down n) w = Refers h n w
+May h (Free n) w = Changes h n w
+May h (Claim sort) w = (w.desks h).joined ≡ true
+May h (Store n count) w = Changes h n w
+May h (Fill n d) w = Changes h n w
+May h (Enter d e n) w = Changes h d w
+May h (Clear d e) w = Changes h d w
+May h (Empty n) w = Changes h n w
+May h Slot w = (w.desks h).hand ≡ None
+May h (Install f sort) w = (w.desks h).hand ≢ None
+May h (StatFile fd) w = LocksNone h w
+May h (ReadFile fd n) w = LocksNone h w
+May h (CheckFile fd) w = Unit {0}
+May h (JoinFile fd) w = LocksNone h w × ((w.desks h).joined ≡ false)
+May h (WriteFile fd n bytes) w = LocksNone h w × ((w.desks h).joined ≡ true)
+May h (Double fd) w = Unit {0}
+May h (Shut fd) w = LocksNone h w
+May h (Settle n) w = Locks h n w
+May h (Lend child from) w = (w.desks child).lender ≡ Some h
+May h (LendDirectory child) w = (w.desks child).lender ≡ Some h
+May h (Release child) w = (w.desks child).lender ≡ Some h
+May h Join w = LocksNone h w × ((w.desks h).joined ≡ false)
+May h Leave w = LocksNone h w × ((w.desks h).joined ≡ true)
+May h Say w = LocksNone h w × ((w.desks h).joined ≡ false)
+
+-- What may lie outside: an inode that is found is free; of a piece a part is left over; all else may be short of room at any time.
+
+abbrev pub HonestClaim : World → Outside → Type 0
+HonestClaim w Room = Unit {0}
+HonestClaim w (RoomFor k) = Unit {0}
+HonestClaim w (Picks n) = (1 ≤ n) × (n < w.all.ninodes) × (is_free w n ≡ true)
+
+abbrev pub HonestPiece : List ℕ → Outside → Type 0
+HonestPiece b Room = Unit {0}
+HonestPiece b (RoomFor k) = k < length b
+HonestPiece b (Picks n) = ⊥
+
+abbrev pub Honest : ℕ → Op → World → Outside → Type 0
+Honest h (Claim sort) w x = HonestClaim w x
+Honest h (WriteFile fd n bytes) w x = HonestPiece bytes x
+Honest h op w x = Unit {0}
+
+-- The most steps below that an operation takes beyond one, with 3 to a touch: get, read, put. A content has 268 blocks, each behind its table.
+
+abbrev pub load_cost : ℕ
+load_cost = 3
+
+abbrev pub search_cost : ℕ
+search_cost = 1608
+
+abbrev pub looking_cost : Looking → ℕ
+looking_cost AtNothing = 3
+looking_cost (AtName e) = 1611
+looking_cost AtEntries = 1611
+
+abbrev pub more : Op → ℕ
+more (Take n looking) = looking_cost looking
+more (Free n) = 900
+more (Claim sort) = 12300
+more (Store n count) = 2
+more (Fill n d) = 12
+more (Enter d e n) = 1640
+more (Clear d e) = 12
+more (Empty n) = 900
+more (StatFile fd) = 3
+more (ReadFile fd n) = 1611
+more (WriteFile fd n bytes) = 100
+more Leave = 62
+more op = 0
+
+abbrev pub machine : Machine
+machine =
+    record {
+      Op = Op;
+      Answer = Answer;
+      Mark = Mark;
+      Step = Step;
+      World = World;
+      Tree = Stage;
+      more = more;
+      Outside = Outside;
+      Honest = Honest;
+      May = May;
+      go = go;
+      places = places;
+      tree = stage_of;
+      Takes = Takes;
+      Inv = Inv;
+      Halted = Inv;
+      Others = Others;
+      Idle = Idle;
+      MayWait = MayWait;
+      Clean = λ w. w.clean ≡ true;
+    }
