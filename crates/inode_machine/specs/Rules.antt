@@ -181,6 +181,8 @@ pub record Tied (s : Shop) : Type 0 where
   pub fds : (g i : ℕ) → g < hart_count → i < descriptor_count → is_at (s.desks g).opening i ≡ false → s.tree_fds g i ≡ id_at s.ids ((s.desks g).fds i)
   pub fresh : (g i : ℕ) → g < hart_count → (s.desks g).opening ≡ Some i → IsOpening s g i
   pub used : (g i k : ℕ) → g < hart_count → i < descriptor_count → (s.desks g).fds i ≡ Some k → (e : Entry) × (s.files k ≡ Some e)
+  -- what is handed on the hart has still
+  pub lends : (g i k : ℕ) → g < hart_count → i < descriptor_count → (s.desks g).lent i ≡ Some k → (s.desks g).fds i ≡ Some k
   -- a slot in hand has no open file, and one hart has it
   pub hand : (g k : ℕ) → g < hart_count → (s.desks g).hand ≡ Some k → (k < file_count) × (s.files k ≡ None)
   pub hands : (g j k : ℕ) → g < hart_count → j < hart_count → (s.desks g).hand ≡ Some k → (s.desks j).hand ≡ Some k → g ≡ j

@@ -1,0 +1,266 @@
+-- One lemma for all operations: what a step of one hart leaves to the others, and what still holds.
+use Rattle.std.proofs.Common.{◌≡◌, ◌≢◌, ◌⊎◌, inl, inr, ℕ, ◌+◌, ◌<◌, ◌≤◌, Bool, true, false, ◌==◌, Option, Some, None, refl, sym, ◌∙◌, ap, subst, arith, if◌then◌else◌}
+use Rattle.plain_tree.specs.Widths.{hart_count, descriptor_count}
+use Rattle.plain_tree.specs.Tree.{put}
+use Rattle.tree_laws.specs.WellFormed.{sum_below, IsWellFormed}
+use Rattle.tree_laws.proofs.Maps.{eq_self, eq_is, eq_not, same_or, put_same, put_other}
+use Rattle.tree_laws.proofs.Walks.{look_same}
+use Rattle.tree_laws.proofs.Facts.{look_live}
+use Rattle.tree_laws.proofs.Sums.{sum_part, sum_two}
+use Rattle.inode_machine.specs.Inodes.{sort_of}
+use Rattle.inode_machine.specs.Moves.{Walk}
+use Rattle.inode_machine.specs.World.{Mine, Entry, Note, Desk, World}
+use Rattle.inode_machine.specs.Rules.{Own, Rests, left_or, shop_of, Shop, Tied, own_names, Held, view, is_hart, if_kept, row_of, own_of, Found, Pinned, Reached, IsAlone, Inv}
+
+-- Functions changed at one place, and what is kept.
+
+pub put_elim : {A : Type 0} (f : ℕ → A) (k : ℕ) (x : A) (n : ℕ) (P : A → Type 0) → (n ≡ k → P x) → (n ≢ k → P (f n)) → P (put f k x n)
+put_elim f k x n P yes_ no_ = elim (same_or n k) [
+  | inl e ↦ subst (λ z. P (put f k x z)) (sym e) (subst P (sym (put_same f k x)) (yes_ e))
+  | inr ne ↦ subst P (sym (put_other f k x n ne)) (no_ ne)
+]
+
+pub is_put : {A : Type 0} (f g : ℕ → A) (k : ℕ) (x : A) → g k ≡ x → ((n : ℕ) → n ≢ k → g n ≡ f n) → g ≡ put f k x
+is_put {A} f g k x here there = λ i n. each n i
+  where
+    each : (n : ℕ) → g n ≡ put f k x n
+    each n = put_elim f k x n (λ z. g n ≡ z) (λ e. ap g e ∙ here) (λ ne. there n ne)
+
+pub Ours : ℕ → Option ℕ → Type 0
+Ours h o = (g : ℕ) → g ≢ h → o ≢ Some g
+
+pub ours_none : (h : ℕ) (o : Option ℕ) → o ≡ None → Ours h o
+unfolding Ours
+ours_none h o is g ne e = cc
+
+pub ours_some : (h : ℕ) (o : Option ℕ) → o ≡ Some h → Ours h o
+unfolding Ours
+ours_some h o is g ne e = ne (let s : Some g ≡ Some h = sym e ∙ is in cc)
+
+pub not_ours : {A : Type 0} (h g : ℕ) (o : Option ℕ) → Ours h o → g ≢ h → o ≡ Some g → A
+unfolding Ours
+not_ours h g o ours ne e = absurd (ours g ne e)
+
+pub not_kept : {A : Type 0} (h g : ℕ) (o : Option ℕ) (x : A) → Ours h o → g ≢ h → if_kept o g x ≡ None
+unfolding Ours
+not_kept h g None x ours ne = refl
+not_kept {A} h g (Some k) x ours ne = rw (eq_not k g (λ e. ours g ne (ap (λ (z : ℕ). Some z) e))) refl
+
+pub kept_is : {A : Type 0} (h : ℕ) (o : Option ℕ) (x y : A) → if_kept o h x ≡ Some y → (o ≡ Some h) × (x ≡ y)
+kept_is h None x y e = absurd cc
+kept_is {A} h (Some k) x y e = at (k == h) refl e
+  where
+    at : (t : Bool) → (k == h) ≡ t → (if t then Some x else None) ≡ Some y → (◌≡◌ {A = Option ℕ} (Some k) (Some h)) × (x ≡ y)
+    at true t e = (ap (λ (z : ℕ). Some z) (eq_is k h t), cc)
+    at false t e = absurd cc
+
+pub kept_here : {A : Type 0} (h : ℕ) (o : Option ℕ) (x : A) → o ≡ Some h → if_kept o h x ≡ Some x
+kept_here h o x is = rw (is, eq_self h) refl
+
+pub none_is : {A : Type 0} (h : ℕ) (o : Option ℕ) (x : A) → if_kept o h x ≡ None → o ≢ Some h
+none_is h o x e is = let a = kept_here h o x is in absurd (cc (a, e))
+
+-- inode j is as it was
+pub record Kept (j : ℕ) (v u : World) : Type 0 where
+  pub lock : u.lock j ≡ v.lock j
+  pub keeper : u.keeper j ≡ v.keeper j
+  pub disk : u.disk j ≡ v.disk j
+  pub node : u.all.nodes j ≡ v.all.nodes j
+  pub alone : u.alone j ≡ v.alone j
+
+-- no other hart keeps or kept it
+pub record Changed (h j : ℕ) (v u : World) : Type 0 where
+  pub before : Ours h (v.keeper j)
+  pub after : Ours h (u.keeper j)
+  pub whole : u.keeper j ≡ None → u.disk j ≡ u.all.nodes j
+  pub keeps : (g : ℕ) → u.lock j ≡ Some g → u.keeper j ≡ Some g
+
+-- what a step does to open files
+pub record Kin (h : ℕ) (v u : Shop) : Type 0 where
+  pub tied : Tied u
+  pub desks : (g : ℕ) → g ≢ h → u.desks g ≡ v.desks g
+  -- what another hart's descriptor has keeps its number
+  pub numbers : (g i k : ℕ) (e : Entry) → g < hart_count → g ≢ h → i < descriptor_count → (v.desks g).fds i ≡ Some k → v.files k ≡ Some e → (f : Entry) × (u.files k ≡ Some f) × (f.file.number ≡ e.file.number)
+  pub clean : u.clean ≡ true → v.clean ≡ true
+
+pub shop_same : (h : ℕ) (s : Shop) → Tied s → Kin h s s
+shop_same h s tied = record { tied = tied; desks = λ g ne. refl; numbers = λ g i k e lt ne li is at. (e, at, refl); clean = λ c. c }
+
+-- a step of hart h: of the invariant's parts only what isn't the others'
+pub record Did (h : ℕ) (v u : World) : Type 0 where
+  pub hart : h < hart_count
+  pub inodes : (j : ℕ) → Kept j v u ⊎ Changed h j v u
+  pub mine : (g : ℕ) → g ≢ h → u.harts g ≡ v.harts g
+  pub rows : (g : ℕ) → g ≢ h → row_of u.all g ≡ row_of v.all g
+  pub size : u.all.ninodes ≡ v.all.ninodes
+  pub ids : (k : ℕ) → u.next ≤ k → u.all.files k ≡ None
+  pub shop : Kin h (shop_of v) (shop_of u)
+  pub free : (u.desks h).lender ≡ None
+  pub quiet : (j : ℕ) → u.keeper j ≡ Some h → (u.desks h).joined ≡ false → u.disk j ≡ u.all.nodes j
+  -- types stay, but for what the hart keeps alone
+  pub sort : (j : ℕ) → (sort_of (u.all.nodes j) ≡ sort_of (v.all.nodes j)) ⊎ ((v.keeper j ≡ Some h) × (v.alone j ≡ true))
+  pub sorts : (k : ℕ) (e : Entry) → u.files k ≡ Some e → sort_of (u.all.nodes e.file.number) ≡ Some e.sort
+  pub noted : (n : Note) → (u.desks h).noted ≡ Some n → Reached u h n.number → sort_of (u.all.nodes n.number) ≡ n.sort
+  pub directory : (u.desks h).directory ≡ left_or (u.desks h).left (u.all.cwd h)
+  pub well : IsWellFormed u.all
+  pub counts : (i : ℕ) → u.refs i ≡ u.slots i + sum_below hart_count (λ g. (u.harts g).refs i)
+  pub alone : (i : ℕ) → u.alone i ≡ true → IsAlone u.keeper u.all.nodes u.refs u.harts i
+  pub kept : (j : ℕ) → u.keeper j ≡ Some h → Pinned u.desks u.files u.harts h j
+  pub held : (j : ℕ) → u.keeper j ≡ Some h → (u.lock j ≡ Some h) ⊎ (u.alone j ≡ true)
+  pub named : (i : ℕ) → own_names (row_of u.all h) (u.desks h) i ≡ true → Reached u h i
+  pub pending : (i : ℕ) → (u.harts h).pending ≡ Some i → Found u.keeper u.all.nodes h i
+  pub walks : (k : Walk) → (u.harts h).walk ≡ Some k → Reached u h k.at
+
+pinned_on : (h : ℕ) (v u : World) (g i : ℕ) → Kin h (shop_of v) (shop_of u) → g < hart_count → g ≢ h → u.harts g ≡ v.harts g → Pinned v.desks v.files v.harts g i → Pinned u.desks u.files u.harts g i
+pinned_on h v u g i kin lt ne same (inl o) =
+    let n = kin.numbers g o.fd o.slot o.entry lt ne o.below o.is o.at in
+    inl (record { fd = o.fd; below = o.below; slot = o.slot; is = ap (λ (d : Desk). d.fds o.fd) (kin.desks g ne) ∙ o.is; entry = n.0; at = n.1; number = n.2 ∙ o.number })
+pinned_on h v u g i kin lt ne same (inr p) = inr (let e = ap (λ (m : Mine). m.refs i) same in omega (arith, e, p))
+
+found_on : (h : ℕ) (v u : World) (g i : ℕ) → Did h v u → g ≢ h → Found v.keeper v.all.nodes g i → Found u.keeper u.all.nodes g i
+found_on h v u g i did ne f = at (did.inodes f.directory)
+  where
+    at : Kept f.directory v u ⊎ Changed h f.directory v u → Found u.keeper u.all.nodes g i
+    at (inl k) = record { directory = f.directory; name = f.name; keeps = k.keeper ∙ f.keeps; finds = look_same v.all.nodes u.all.nodes f.directory f.name k.node ∙ f.finds }
+    at (inr c) = not_ours h g (v.keeper f.directory) c.before ne f.keeps
+
+reached_on : (h : ℕ) (v u : World) (g i : ℕ) → Did h v u → g ≢ h → Reached v g i → Reached u g i
+reached_on h v u g i did ne (inl p) = inl (let e = ap (λ (m : Mine). m.refs i) (did.mine g ne) in omega (arith, e, p))
+reached_on h v u g i did ne (inr f) = inr (ap (λ (m : Mine). m.pending) (did.mine g ne) ∙ f)
+
+reached_back : (h : ℕ) (v u : World) (g i : ℕ) → Did h v u → g ≢ h → Reached u g i → Reached v g i
+reached_back h v u g i did ne (inl p) = inl (let e = ap (λ (m : Mine). m.refs i) (did.mine g ne) in omega (arith, e, p))
+reached_back h v u g i did ne (inr f) = inr (ap (λ (m : Mine). m.pending) (sym (did.mine g ne)) ∙ f)
+
+-- two harts' references are among all
+pub two_refs : (v : World) (g h i : ℕ) → Inv v → g < hart_count → h < hart_count → g ≢ h → (v.harts g).refs i + (v.harts h).refs i + v.slots i ≤ v.refs i
+two_refs v g h i inv lg lh ne = let s = sum_two hart_count g h (λ k. (v.harts k).refs i) lg lh ne in let c = inv.counts i in omega (arith, s, c)
+
+pub one_refs : (v : World) (g i : ℕ) → Inv v → g < hart_count → (v.harts g).refs i + v.slots i ≤ v.refs i
+one_refs v g i inv lg = let s = sum_part hart_count g (λ k. (v.harts k).refs i) lg in let c = inv.counts i in omega (arith, s, c)
+
+-- what a hart keeps alone no other hart reaches
+pub lone_not : (h g i : ℕ) (v : World) → Inv v → g < hart_count → g ≢ h → v.keeper i ≡ Some h → v.alone i ≡ true → Reached v g i → ⊥
+lone_not h g i v inv lg ne keeps is reaches =
+    let a = inv.alone i is in
+    let s : Some a.hart ≡ Some h = sym a.kept ∙ keeps in
+    let e : a.hart ≡ h = cc in
+    let c : v.refs i ≡ (v.harts h).refs i = a.counts ∙ ap (λ (z : ℕ). (v.harts z).refs i) e in
+    let two = two_refs v g h i inv lg (inv.kept i h keeps).0 ne in
+    elim reaches [
+      | inl p ↦ omega (arith, c, two, p)
+      | inr p ↦ (let f = inv.pending g i lg p in let l = look_live v.all f.directory i f.name inv.well f.finds in let d = a.dead in cc (l, d))
+    ]
+
+pub did_others : (h : ℕ) (v u : World) → Did h v u → (g : ℕ) → g ≢ h → own_of g u ≡ own_of g v
+did_others h v u did g ne = λ i. record { inodes = λ j. inode j (did.inodes j) i; mine = did.mine g ne i; row = did.rows g ne i; ninodes = did.size i; desk = did.shop.desks g ne i }
+  where
+    inode : (j : ℕ) → Kept j v u ⊎ Changed h j v u → if_kept (u.keeper j) g (view u g j) ≡ if_kept (v.keeper j) g (view v g j)
+    inode j (inl k) =
+        let same : view u g j ≡ view v g j = (λ i. record { disk = k.disk i; node = k.node i; alone = k.alone i; locked = is_hart (k.lock i) g }) in
+        λ i. if_kept (k.keeper i) g (same i)
+    inode j (inr c) = not_kept h g (u.keeper j) (view u g j) c.after ne ∙ sym (not_kept h g (v.keeper j) (view v g j) c.before ne)
+
+pub did_inv : (h : ℕ) (v u : World) → Inv v → Did h v u → Inv u
+did_inv h v u inv did =
+    record {
+      well = did.well;
+      ids = did.ids;
+      whole = λ j. whole j (did.inodes j);
+      quiet = λ j g is free. elim (same_or g h) [
+        | inl e ↦ did.quiet j (is ∙ ap (λ (z : ℕ). Some z) e) (ap (λ (z : ℕ). (u.desks z).joined) (sym e) ∙ free)
+        | inr ne ↦ quiet j g ne is free (did.inodes j)
+      ];
+      keeps = λ j g. keeps j g (did.inodes j);
+      kept = λ j g is. elim (same_or g h) [
+        | inl e ↦ (subst (λ (z : ℕ). z < hart_count) (sym e) did.hart, subst (λ (z : ℕ). Pinned u.desks u.files u.harts z j) (sym e) (did.kept j (is ∙ ap (λ (z : ℕ). Some z) e)))
+        | inr ne ↦ kept j g ne is (did.inodes j)
+      ];
+      held = λ j g is. elim (same_or g h) [
+        | inl e ↦ subst (λ (z : ℕ). (u.lock j ≡ Some z) ⊎ (u.alone j ≡ true)) (sym e) (did.held j (is ∙ ap (λ (z : ℕ). Some z) e))
+        | inr ne ↦ held j g ne is (did.inodes j)
+      ];
+      alone = did.alone;
+      counts = did.counts;
+      tied = did.shop.tied;
+      sorts = did.sorts;
+      named = λ g i lt is. elim (same_or g h) [
+        | inl e ↦ subst (λ (z : ℕ). Reached u z i) (sym e) (did.named i (subst (λ (z : ℕ). own_names (row_of u.all z) (u.desks z) i ≡ true) e is))
+        | inr ne ↦ reached_on h v u g i did ne (inv.named g i lt ((λ z. own_names (sym (did.rows g ne) z) (sym (did.shop.desks g ne) z) i) ∙ is))
+      ];
+      pending = λ g i lt is. elim (same_or g h) [
+        | inl e ↦ subst (λ (z : ℕ). Found u.keeper u.all.nodes z i) (sym e) (did.pending i (subst (λ (z : ℕ). (u.harts z).pending ≡ Some i) e is))
+        | inr ne ↦ found_on h v u g i did ne (inv.pending g i lt (ap (λ (m : Mine). m.pending) (sym (did.mine g ne)) ∙ is))
+      ];
+      walks = λ g k lt is. elim (same_or g h) [
+        | inl e ↦ subst (λ (z : ℕ). Reached u z k.at) (sym e) (did.walks k (subst (λ (z : ℕ). (u.harts z).walk ≡ Some k) e is))
+        | inr ne ↦ reached_on h v u g k.at did ne (inv.walks g k lt (ap (λ (m : Mine). m.walk) (sym (did.mine g ne)) ∙ is))
+      ];
+      noted = λ g n lt is r. elim (same_or g h) [
+        | inl e ↦ did.noted n (ap (λ (z : ℕ). (u.desks z).noted) (sym e) ∙ is) (subst (λ (z : ℕ). Reached u z n.number) e r)
+        | inr ne ↦ (let r2 = reached_back h v u g n.number did ne r in elim (did.sort n.number) [
+          | inl e ↦ e ∙ inv.noted g n lt (ap (λ (d : Desk). d.noted) (sym (did.shop.desks g ne)) ∙ is) r2
+          | inr a ↦ absurd (lone_not h g n.number v inv lt ne a.0 a.1 r2)
+        ])
+      ];
+      directory = λ g lt. elim (same_or g h) [
+        | inl e ↦ subst (λ (z : ℕ). (u.desks z).directory ≡ left_or (u.desks z).left (u.all.cwd z)) (sym e) did.directory
+        | inr ne ↦ ap (λ (d : Desk). d.directory) (did.shop.desks g ne) ∙ inv.directory g lt ∙ (λ z. left_or (sym (did.shop.desks g ne) z).left (sym (did.rows g ne) z).cwd)
+      ];
+      lent = λ g lt has. elim (same_or g h) [
+        | inl e ↦ absurd (has (ap (λ (z : ℕ). (u.desks z).lender) e ∙ did.free))
+        | inr ne ↦ subst (λ (o : Own). Rests o) (sym (did_others h v u did g ne)) (inv.lent g lt (λ q. has (ap (λ (d : Desk). d.lender) (did.shop.desks g ne) ∙ q)))
+      ];
+    }
+  where
+    whole : (j : ℕ) → Kept j v u ⊎ Changed h j v u → u.keeper j ≡ None → u.disk j ≡ u.all.nodes j
+    whole j (inl k) none = k.disk ∙ inv.whole j (sym k.keeper ∙ none) ∙ sym k.node
+    whole j (inr c) none = c.whole none
+
+    quiet : (j g : ℕ) → g ≢ h → u.keeper j ≡ Some g → (u.desks g).joined ≡ false → Kept j v u ⊎ Changed h j v u → u.disk j ≡ u.all.nodes j
+    quiet j g ne is free (inl k) = k.disk ∙ inv.quiet j g (sym k.keeper ∙ is) (ap (λ (d : Desk). d.joined) (sym (did.shop.desks g ne)) ∙ free) ∙ sym k.node
+    quiet j g ne is free (inr c) = not_ours h g (u.keeper j) c.after ne is
+
+    keeps : (j g : ℕ) → Kept j v u ⊎ Changed h j v u → u.lock j ≡ Some g → u.keeper j ≡ Some g
+    keeps j g (inl k) is = k.keeper ∙ inv.keeps j g (sym k.lock ∙ is)
+    keeps j g (inr c) is = c.keeps g is
+
+    kept : (j g : ℕ) → g ≢ h → u.keeper j ≡ Some g → Kept j v u ⊎ Changed h j v u → (g < hart_count) × Pinned u.desks u.files u.harts g j
+    kept j g ne is (inl k) = let p = inv.kept j g (sym k.keeper ∙ is) in (p.0, pinned_on h v u g j did.shop p.0 ne (did.mine g ne) p.1)
+    kept j g ne is (inr c) = not_ours h g (u.keeper j) c.after ne is
+
+    held : (j g : ℕ) → g ≢ h → u.keeper j ≡ Some g → Kept j v u ⊎ Changed h j v u → (u.lock j ≡ Some g) ⊎ (u.alone j ≡ true)
+    held j g ne is (inl k) = elim (inv.held j g (sym k.keeper ∙ is)) [ inl a ↦ inl (k.lock ∙ a) | inr a ↦ inr (k.alone ∙ a) ]
+    held j g ne is (inr c) = not_ours h g (u.keeper j) c.after ne is
+
+-- all that a step shows to the rest
+pub record Fair (h : ℕ) (v u : World) : Type 0 where
+  pub inv : Inv u
+  pub others : (g : ℕ) → g ≢ h → own_of g u ≡ own_of g v
+  pub clean : u.clean ≡ true → v.clean ≡ true
+
+pub fair : {h : ℕ} {v u : World} → Inv v → Did h v u → Fair h v u
+fair {h} {v} {u} inv did = record { inv = did_inv h v u inv did; others = did_others h v u did; clean = did.shop.clean }
+
+pub fair_then : {h : ℕ} {v u w : World} → Fair h v u → Fair h u w → Fair h v w
+fair_then a b = record { inv = b.inv; others = λ g ne. b.others g ne ∙ a.others g ne; clean = λ c. a.clean (b.clean c) }
+
+pub fair_same : {h : ℕ} {v : World} → Inv v → Fair h v v
+fair_same inv = record { inv = inv; others = λ g ne. refl; clean = λ c. c }
+
+-- what the hart owns, where one inode changed
+pub own_inodes : (h i : ℕ) (v u : World) (O : Own) (y : Option Held) → own_of h v ≡ O → if_kept (u.keeper i) h (view u h i) ≡ y
+    → ((j : ℕ) → j ≢ i → (u.keeper j ≡ v.keeper j) × (view u h j ≡ view v h j)) → (own_of h u).inodes ≡ put O.inodes i y
+own_inodes h i v u O y ov here there =
+    is_put O.inodes (own_of h u).inodes i y here
+    (λ j ne. (let a = (there j ne).0 in let b = (there j ne).1 in let c : if_kept (u.keeper j) h (view u h j) ≡ if_kept (v.keeper j) h (view v h j) = (λ i. if_kept (a i) h (b i)) in c) ∙ ap (λ (o : Own). o.inodes j) ov)
+
+pub has_inode : (h i : ℕ) (v : World) (O : Own) (x : Held) → own_of h v ≡ O → O.inodes i ≡ Some x → (v.keeper i ≡ Some h) × (view v h i ≡ x)
+has_inode h i v O x ov is = kept_is h (v.keeper i) (view v h i) x (ap (λ (o : Own). o.inodes i) ov ∙ is)
+
+pub has_none : (h i : ℕ) (v : World) (O : Own) → own_of h v ≡ O → O.inodes i ≡ None → v.keeper i ≢ Some h
+has_none h i v O ov is = none_is h (v.keeper i) (view v h i) (ap (λ (o : Own). o.inodes i) ov ∙ is)
+
+-- a directory that is found still is
+pub found_more : (h : ℕ) (v u : World) (i : ℕ) → ((d : ℕ) → v.keeper d ≡ Some h → (u.keeper d ≡ Some h) × (u.all.nodes d ≡ v.all.nodes d)) → Found v.keeper v.all.nodes h i → Found u.keeper u.all.nodes h i
+found_more h v u i more f = let m = more f.directory f.keeps in record { directory = f.directory; name = f.name; keeps = m.0; finds = look_same v.all.nodes u.all.nodes f.directory f.name m.1 ∙ f.finds }

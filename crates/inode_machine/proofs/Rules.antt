@@ -1,0 +1,416 @@
+-- The rules of the operations that place nothing.
+use Rattle.std.proofs.Common.{◌≡◌, ◌≢◌, ◌⊎◌, inl, inr, ℕ, zero, suc, ◌+◌, ◌<◌, ◌≤◌, true, false, ◌==◌, List, [], ◌∷◌, Option, Some, None, refl, sym, ◌∙◌, ap, subst, arith, ◌-◌, Bool}
+use Rattle.atomic_programs.specs.Prog.{Do, unmarked}
+use Rattle.atomic_programs.specs.Logic.{P, own, onto, Good, Fine, Safe, Wp, Goes}
+use Rattle.plain_tree.specs.declared.node.Node.{Node}
+use Rattle.plain_tree.specs.Widths.{hart_count, root}
+use Rattle.plain_tree.specs.Tree.{Tree, put, look, is_live, settle}
+use Rattle.tree_laws.specs.WellFormed.{sum_below, one_if, folders_of, links_in, raises, IsWellFormed}
+use Rattle.tree_laws.proofs.Maps.{eq_self, eq_is, eq_not, either, same_or, put_same, put_other}
+use Rattle.tree_laws.proofs.Sums.{one_yes, sum_same, sum_changed, sum_part, sum_two}
+use Rattle.tree_laws.proofs.Facts.{look_live, folder_linked}
+use Rattle.tree_laws.proofs.Nodes.{linked_live}
+use Rattle.tree_laws.proofs.Walks.{look_same}
+use Rattle.inode_machine.specs.Moves.{Walk, Step, Takes, Stage}
+use Rattle.inode_machine.specs.World.{Mine, Entry, World, Op, Answer, Mark, stage_of, Note, Outside, Take}
+use Rattle.inode_machine.specs.Exec.{file_count, with_refs, lock_if, counted_up, locked, up_if, has_place}
+use Rattle.inode_machine.specs.Marks.{marked, go, places, with_mark}
+use Rattle.inode_machine.specs.World.Op.{Up}
+use Rattle.inode_machine.specs.Rules.{Own, shop_of, own_names, Opens, number_is, Held, view, is_hart, own_of, Found, Pinned, Reached, IsAlone, Inv, IsOut, MayWait, machine, more, Others, LocksNone, May, Rests, looking_cost, Honest}
+use Rattle.inode_machine.proofs.Frame.{shop_same, put_elim, ours_none, ours_some, kept_here, Did, Fair, fair, fair_same, own_inodes, has_inode, has_none, found_more, two_refs}
+use Rattle.inode_machine.specs.Inodes.{Looking, Seen, seen_in}
+
+abbrev pub Post : Type 0 → Type 1
+Post A = A → List Step → World → Type 0
+
+-- an operation: what the hart owns stays until it runs
+pub s-owned : {A : Type 0} {h : ℕ} {op : Op} {m : Answer op → Option Mark} {k : Answer op → P machine A} {B : List Step → Type 0} {Q : A → List Step → World → Type 0} {n : ℕ} {es : List Step} {w : World} {O : Own}
+    → own_of h w ≡ O → O.desk.lender ≡ None → more op < n
+    → ((v : World) → Inv v → own_of h v ≡ O → May h op v × ((x : Outside) → Honest h op v x
+    → Good machine (Answer op) h (λ a. places h op a (m a) v) (more op) n B es v (MayWait h op v) (go h x op m v) (λ l a u. Wp machine h B Q (k a) l (onto (own h (places h op a (m a) v)) es) u)))
+    → Safe machine h B Q (Do op m k) n es w
+s-owned {A} {h} {op} {m} {k} {B} {Q} {n} {es} {w} {O} owns free pos rule =
+    record { wp = λ v xs o inv. let ov = o.same (ap (λ (z : Own). z.desk.lender) owns ∙ free) ∙ owns in ((λ y. inl o.none), (rule v inv ov).0, (λ x honest. at v xs x o.none ((rule v inv ov).1 x honest)), pos) }
+  where
+    at : (v : World) (xs : List Step) (x : Outside) → xs ≡ []
+        → Good machine (Answer op) h (λ a. places h op a (m a) v) (more op) n B es v (MayWait h op v) (go h x op m v) (λ l a u. Wp machine h B Q (k a) l (onto (own h (places h op a (m a) v)) es) u)
+        → Good machine (Answer op) h (λ a. places h op a (m a) v) (more op) n B (onto xs es) v (MayWait h op v) (go h x op m v) (λ l a u. Wp machine h B Q (k a) l (onto (own h (places h op a (m a) v)) (onto xs es)) u)
+    at v xs x e g = subst (λ (zs : List Step). Good machine (Answer op) h (λ a. places h op a (m a) v) (more op) n B (onto zs es) v (MayWait h op v) (go h x op m v) (λ l a u. Wp machine h B Q (k a) l (onto (own h (places h op a (m a) v)) (onto zs es)) u)) (sym e) g
+
+-- what a step leaves to another hart
+pub others : {h : ℕ} {v u : World} → Fair h v u → (g : ℕ) → g ≢ h → Others g v [] u
+others f g ne = record { none = refl; same = λ free. f.others g ne; rests = λ i. subst (λ (o : Own). Rests o) (sym (f.others g ne)) i; clean = f.clean }
+
+-- it placed nothing
+pub quiet : {h more n : ℕ} {B : List Step → Type 0} {es : List Step} {v u : World} {Next : ℕ → Type 0} → Fair h v u → stage_of u ≡ stage_of v → more < n → ((l : ℕ) → l + (more + 1) ≡ n → Next l) → Fine machine h [] more n B es v u Next
+quiet {h} {more} {n} f same pos next =
+    record { inv = f.inv; kept = λ g ne. others f g ne; goes = λ c. same; clean = f.clean; begun = λ c. inl refl; left = n - (more + 1); falls = omega (arith, pos); next = next (n - (more + 1)) (omega (arith, pos)) }
+
+-- it made a move
+pub acted : {h more n : ℕ} {B : List Step → Type 0} {es : List Step} {v u : World} {e : Step} {Next : ℕ → Type 0} → Fair h v u → Takes (stage_of v) h e (stage_of u) → B (e ∷ es) → more < n
+    → ((l : ℕ) → l + (more + 1) ≡ n → Next l) → Fine machine h ((h, e) ∷ []) more n B es v u Next
+acted {h} {more} {n} {B} {es} {v} {u} {e} f takes b pos next =
+    record {
+      inv = f.inv;
+      kept = λ g ne. subst (λ (zs : List Step). Others g v zs u) (sym (rw (eq_not h g (λ q. ne (sym q))) refl)) (others f g ne);
+      goes = λ c. (stage_of u, takes, refl);
+      clean = f.clean;
+      begun = λ c. inr (rw (eq_self h) b);
+      left = n - (more + 1);
+      falls = omega (arith, pos);
+      next = next (n - (more + 1)) (omega (arith, pos));
+    }
+
+-- after a change that no other hart sees
+pub fine_after : {h more n : ℕ} {B : List Step → Type 0} {es : List Step} {ps : List (ℕ × Step)} {v w u : World} {Next : ℕ → Type 0} → Fair h v w → stage_of w ≡ stage_of v → Fine machine h ps more n B es w u Next → Fine machine h ps more n B es v u Next
+fine_after {h} {ps = ps} {v = v} {w = w} {u = u} f same g =
+    record {
+      inv = g.inv;
+      kept = λ j ne. let a = others f j ne in let b = g.kept j ne in record { none = b.none; same = λ free. b.same (ap (λ (o : Own). o.desk.lender) (f.others j ne) ∙ free) ∙ a.same free; rests = λ i. b.rests (a.rests i); clean = λ c. a.clean (b.clean c) };
+      goes = λ c. subst (λ (z : Stage). Goes machine z ps (stage_of u)) same (g.goes c);
+      clean = λ c. f.clean (g.clean c);
+      begun = g.begun;
+      left = g.left;
+      falls = g.falls;
+      next = g.next;
+    }
+
+-- Locks.
+
+pub is_me : (h : ℕ) (o : Option ℕ) → o ≡ Some h → is_hart o h ≡ true
+is_me h o e = rw e (eq_self h)
+
+pub is_mine : (h : ℕ) (o : Option ℕ) → is_hart o h ≡ true → o ≡ Some h
+is_mine h None e = absurd cc
+is_mine h (Some g) e = ap (λ (z : ℕ). Some z) (eq_is g h e)
+
+-- the lock that the hart has
+pub locks_it : (h i : ℕ) (v : World) (O : Own) (x : Held) → own_of h v ≡ O → O.inodes i ≡ Some x → x.locked ≡ true → v.lock i ≡ Some h
+locks_it h i v O x ov is e = is_mine h (v.lock i) (ap (λ (y : Held). y.locked) (has_inode h i v O x ov is).1 ∙ e)
+
+-- it has none of what it doesn't keep
+pub locks_not : (h i : ℕ) (v : World) (O : Own) → Inv v → own_of h v ≡ O → O.inodes i ≡ None → v.lock i ≢ Some h
+locks_not h i v O inv ov is e = has_none h i v O ov is (inv.keeps i h e)
+
+abbrev pub UnlocksAll : Own → Type 0
+UnlocksAll O = (i : ℕ) (x : Held) → O.inodes i ≡ Some x → x.locked ≡ false
+
+pub locks_none : (h : ℕ) (v : World) (O : Own) → Inv v → own_of h v ≡ O → UnlocksAll O → LocksNone h v
+locks_none h v O inv ov none i e =
+    let k = kept_here h (v.keeper i) (view v h i) (inv.keeps i h e) in
+    let a = none i (view v h i) (ap (λ (o : Own). o.inodes i) (sym ov) ∙ k) in
+    let b : is_hart (v.lock i) h ≡ true = is_me h (v.lock i) e in
+    cc (a, b)
+
+-- References.
+
+pub each_refs : (harts : ℕ → Mine) (h n r g i : ℕ) → ((g ≢ h) ⊎ (i ≢ n)) → (with_refs harts h n r g).refs i ≡ (harts g).refs i
+each_refs harts h n r g i (inl ne) = ap (λ (m : Mine). m.refs i) (put_other harts h (record { refs = put (harts h).refs n r; walk = (harts h).walk; pending = (harts h).pending }) g ne)
+each_refs harts h n r g i (inr ne) = put_elim harts h (record { refs = put (harts h).refs n r; walk = (harts h).walk; pending = (harts h).pending }) g (λ m. m.refs i ≡ (harts g).refs i)
+    (λ e. put_other (harts h).refs n r i ne ∙ ap (λ (z : ℕ). (harts z).refs i) (sym e)) (λ q. refl)
+
+pub here_refs : (harts : ℕ → Mine) (h n r : ℕ) → (with_refs harts h n r h).refs n ≡ r
+here_refs harts h n r = ap (λ (m : Mine). m.refs n) (put_same harts h (record { refs = put (harts h).refs n r; walk = (harts h).walk; pending = (harts h).pending })) ∙ put_same (harts h).refs n r
+
+pub walks_refs : (harts : ℕ → Mine) (h n r : ℕ) → ◌≡◌ {A = ℕ → Option Walk} (λ g. (with_refs harts h n r g).walk) (λ g. (harts g).walk)
+walks_refs harts h n r = λ i g. each g i
+  where
+    each : (g : ℕ) → (with_refs harts h n r g).walk ≡ (harts g).walk
+    each g = put_elim harts h (record { refs = put (harts h).refs n r; walk = (harts h).walk; pending = (harts h).pending }) g (λ m. m.walk ≡ (harts g).walk) (λ e. ap (λ (z : ℕ). (harts z).walk) (sym e)) (λ q. refl)
+
+abbrev pub total : (ℕ → Mine) → ℕ → ℕ
+total harts i = sum_below hart_count (λ g. (harts g).refs i)
+
+pub total_same : (harts : ℕ → Mine) (h n r i : ℕ) → i ≢ n → total (with_refs harts h n r) i ≡ total harts i
+total_same harts h n r i ne = sum_same hart_count (λ g. (harts g).refs i) (λ g. (with_refs harts h n r g).refs i) (λ g lt. each_refs harts h n r g i (inr ne))
+
+pub total_changed : (harts : ℕ → Mine) (h n r : ℕ) → h < hart_count → total (with_refs harts h n r) n + (harts h).refs n ≡ total harts n + r
+total_changed harts h n r lt =
+    let s = sum_changed hart_count h (λ g. (harts g).refs n) (λ g. (with_refs harts h n r g).refs n) lt (λ g ne. each_refs harts h n r g n (inl ne)) in
+    let e = here_refs harts h n r in
+    omega (arith, s, e)
+
+pub my_refs : (h : ℕ) (v : World) (O : Own) (i : ℕ) → own_of h v ≡ O → (v.harts h).refs i ≡ O.mine.refs i
+my_refs h v O i ov = ap (λ (o : Own). o.mine.refs i) ov
+
+-- an open file is among those counted
+pub opens_slots : (v : World) (g i : ℕ) → Inv v → Opens (v.desks g).fds v.files i → 0 < v.slots i
+opens_slots v g i inv o =
+    let s = inv.tied.slots i in
+    let p = sum_part file_count o.slot (λ k. number_is (v.files k) i) (inv.tied.within o.slot o.entry o.at) in
+    let a : number_is (v.files o.slot) i ≡ one_if (o.entry.file.number == i) = ap (λ (z : Option Entry). number_is z i) o.at in
+    let b : one_if (o.entry.file.number == i) ≡ 1 = one_yes (o.entry.file.number == i) (ap (λ (z : ℕ). z == i) o.number ∙ eq_self i) in
+    omega (arith, s, p, a, b)
+
+-- An inode that the hart refers to, and doesn't keep, is kept alone by nobody.
+pub not_alone : (h g i : ℕ) (v : World) → Inv v → h < hart_count → g ≢ h → Pinned v.desks v.files v.harts h i → v.alone i ≡ true → v.keeper i ≡ Some g → ⊥
+not_alone h g i v inv lt ne pos is kept =
+    let a = inv.alone i is in
+    let same : Some a.hart ≡ Some g = sym a.kept ∙ kept in
+    let e : a.hart ≡ g = cc in
+    let c : v.refs i ≡ (v.harts g).refs i = a.counts ∙ ap (λ (z : ℕ). (v.harts z).refs i) e in
+    let two = two_refs v g h i inv (inv.kept i g kept).0 lt ne in
+    elim pos [ inl o ↦ (let p = opens_slots v h i inv o in omega (arith, c, two, p)) | inr p ↦ omega (arith, c, two, p) ]
+
+abbrev pub locked_held : Option Node → Held
+locked_held s = record { disk = s; node = s; alone = false; locked = true }
+
+-- The lock of an inode that nobody else keeps, to which a reference stands.
+pub record Locking (h i : ℕ) (v : World) (O : Own) : Type 0 where
+  pub fair : Fair h v (locked h i v)
+  pub whole : v.disk i ≡ v.all.nodes i
+  pub owned : own_of h (locked h i v) ≡ record O { inodes = put O.inodes i (Some (locked_held (v.all.nodes i))) }
+
+pub locking : (h i : ℕ) (v : World) (O : Own) → own_of h v ≡ O → O.desk.lender ≡ None → h < hart_count → Inv v → O.inodes i ≡ None → Pinned v.desks v.files v.harts h i → v.lock i ≡ None → Locking h i v O
+locking h i v O ov free lt inv out mine e = record { fair = fair inv did; whole = inv.whole i nobody; owned = owned }
+  where
+    nobody : v.keeper i ≡ None
+    nobody = none (v.keeper i) refl
+      where
+        none : (o : Option ℕ) → v.keeper i ≡ o → o ≡ None
+        none None q = refl
+        none (Some g) q = elim (inv.held i g q) [
+          | inl a ↦ absurd (let b : None ≡ Some g = sym e ∙ a in cc)
+          | inr a ↦ absurd (not_alone h g i v inv lt (λ z. has_none h i v O ov out (q ∙ ap (λ (x : ℕ). Some x) z)) mine a q)
+        ]
+
+    u : World
+    u = locked h i v
+
+    more_kept : (d : ℕ) → v.keeper d ≡ Some h → (put v.keeper i (Some h) d ≡ Some h) × (v.all.nodes d ≡ v.all.nodes d)
+    more_kept d q = (put_elim v.keeper i (Some h) d (λ z. z ≡ Some h) (λ y. refl) (λ y. q), refl)
+
+    did : Did h v u
+    did =
+        record {
+          hart = lt;
+          inodes = λ j. elim (same_or j i) [
+            | inl q ↦ inr (record {
+              before = ours_none h (v.keeper j) (ap v.keeper q ∙ nobody);
+              after = ours_some h (u.keeper j) (ap u.keeper q ∙ put_same v.keeper i (Some h));
+              whole = λ f. absurd (let s : u.keeper j ≡ Some h = ap u.keeper q ∙ put_same v.keeper i (Some h) in cc);
+              keeps = λ g is. let a : u.lock j ≡ Some h = ap u.lock q ∙ put_same v.lock i (Some h) in let s : u.keeper j ≡ Some h = ap u.keeper q ∙ put_same v.keeper i (Some h) in s ∙ sym a ∙ is;
+            })
+            | inr ne ↦ inl (record { lock = put_other v.lock i (Some h) j ne; keeper = put_other v.keeper i (Some h) j ne; disk = refl; node = refl; alone = refl })
+          ];
+          mine = λ g ne. refl;
+          rows = λ g ne. refl;
+          size = refl;
+          ids = inv.ids;
+          shop = shop_same h (shop_of v) inv.tied;
+          free = ap (λ (o : Own). o.desk.lender) ov ∙ free;
+          quiet = λ j. put_elim v.keeper i (Some h) j (λ z. z ≡ Some h → (v.desks h).joined ≡ false → v.disk j ≡ v.all.nodes j) (λ q is f. inv.whole j (ap v.keeper q ∙ nobody)) (λ q is f. inv.quiet j h is f);
+          sort = λ j. inl refl;
+          sorts = inv.sorts;
+          noted = λ n is r. inv.noted h n lt is r;
+          directory = inv.directory h lt;
+          well = inv.well;
+          counts = inv.counts;
+          alone = λ j is. let a = inv.alone j is in record {
+            hart = a.hart;
+            kept = put_elim v.keeper i (Some h) j (λ z. z ≡ Some a.hart) (λ q. absurd (let b : v.keeper j ≡ None = ap v.keeper q ∙ nobody in let c = a.kept in cc)) (λ q. a.kept);
+            dead = a.dead;
+            counts = a.counts;
+          };
+          kept = λ j. put_elim v.keeper i (Some h) j (λ z. z ≡ Some h → Pinned v.desks v.files v.harts h j) (λ q is. subst (λ (z : ℕ). Pinned v.desks v.files v.harts h z) (sym q) mine) (λ q is. (inv.kept j h is).1);
+          held = λ j is. put_elim v.lock i (Some h) j (λ z. (z ≡ Some h) ⊎ (v.alone j ≡ true)) (λ q. inl refl) (λ q. inv.held j h (sym (put_other v.keeper i (Some h) j q) ∙ is));
+          named = λ j is. inv.named h j lt is;
+          pending = λ j is. found_more h v u j more_kept (inv.pending h j lt is);
+          walks = λ x is. inv.walks h x lt is;
+        }
+
+    alone_not : v.alone i ≡ false
+    alone_not = elim (either (v.alone i)) [ inr y ↦ y | inl y ↦ absurd (let a = inv.alone i y in let b = a.kept in cc (b, nobody)) ]
+
+    seen : view u h i ≡ locked_held (v.all.nodes i)
+    seen = λ z. record { disk = inv.whole i nobody z; node = v.all.nodes i; alone = alone_not z; locked = is_me h (u.lock i) (put_same v.lock i (Some h)) z }
+
+    owned : own_of h u ≡ record O { inodes = put O.inodes i (Some (locked_held (v.all.nodes i))) }
+    owned = λ z. record {
+      inodes = own_inodes h i v u O (Some (locked_held (v.all.nodes i))) ov (kept_here h (u.keeper i) (view u h i) (put_same v.keeper i (Some h)) ∙ ap (λ (y : Held). Some y) seen)
+          (λ j ne. (put_other v.keeper i (Some h) j ne, (λ r. record { disk = v.disk j; node = v.all.nodes j; alone = v.alone j; locked = is_hart (put_other v.lock i (Some h) j ne r) h }))) z;
+      mine = ap (λ (o : Own). o.mine) ov z;
+      row = ap (λ (o : Own). o.row) ov z;
+      ninodes = ap (λ (o : Own). o.ninodes) ov z;
+      desk = ap (λ (o : Own). o.desk) ov z;
+    }
+
+-- a lock that is out is another hart's
+pub is_out : (h i g : ℕ) (v : World) (O : Own) → Inv v → own_of h v ≡ O → O.inodes i ≡ None → v.lock i ≡ Some g → IsOut h (v.lock i)
+is_out h i g v O inv ov out e = (g, (λ q. has_none h i v O ov out (inv.keeps i h (e ∙ ap (λ (z : ℕ). Some z) q))), e)
+
+-- The lock is taken and the inode seen; F: what the invariant says of it.
+pub s-take : {A : Type 0} {h i : ℕ} {looking : Looking} {k : Seen → P machine A} {B : List Step → Type 0} {Q : A → List Step → World → Type 0} {n : ℕ} {es : List Step} {w : World} {O : Own} (F : Option Node → Type 0)
+    → own_of h w ≡ O → O.desk.lender ≡ None → h < hart_count → looking_cost looking < n → O.inodes i ≡ None → 0 < O.mine.refs i → ((v : World) → Inv v → own_of h v ≡ O → F (v.all.nodes i))
+    → ((l : ℕ) (s : Option Node) (u : World) → l + (looking_cost looking + 1) ≡ n → F s → own_of h u ≡ record O { inodes = put O.inodes i (Some (locked_held s)) } → Safe machine h B Q (k (seen_in i looking s)) l es u)
+    → Safe machine h B Q (Do (Take i looking) unmarked k) n es w
+s-take {A} {h} {i} {looking} {k} {B} {Q} {n} {es} {w} {O} F owns free lt pos out refers fact rest = s-owned owns free pos (λ v inv ov. ((let r = my_refs h v O i ov in omega (arith, r, refers), locks_not h i v O inv ov out), (λ x honest. at v inv ov (v.lock i) refl)))
+  where
+    at : (v : World) → Inv v → own_of h v ≡ O → (r : Option ℕ) → v.lock i ≡ r
+        → Good machine Seen h (λ a. []) (looking_cost looking) n B es v (IsOut h (v.lock i)) (with_mark h unmarked (lock_if h i (seen_in i looking (v.disk i)) v (locked h i v) r)) (λ l a u. Wp machine h B Q (k a) l es u)
+    at v inv ov (Some g) e = is_out h i g v O inv ov out e
+    at v inv ov None e =
+        let a = locking h i v O ov free lt inv out (inr (let r = my_refs h v O i ov in omega (arith, r, refers))) e in
+        quiet a.fair refl pos (λ l q. subst (λ (z : Option Node). Wp machine h B Q (k (seen_in i looking z)) l es (locked h i v)) (sym a.whole) (rest l (v.all.nodes i) (locked h i v) q (fact v inv ov) a.owned).wp)
+
+pub has_disk : (h i : ℕ) (v : World) (O : Own) (x : Held) → own_of h v ≡ O → O.inodes i ≡ Some x → v.disk i ≡ x.disk
+has_disk h i v O x ov is = ap (λ (y : Held). y.disk) (has_inode h i v O x ov is).1
+
+pub has_node : (h i : ℕ) (v : World) (O : Own) (x : Held) → own_of h v ≡ O → O.inodes i ≡ Some x → v.all.nodes i ≡ x.node
+has_node h i v O x ov is = ap (λ (y : Held). y.node) (has_inode h i v O x ov is).1
+
+pub root_live : (t : Tree) → IsWellFormed t → is_live (t.nodes root) ≡ true
+root_live t k = linked_live (t.nodes root) (folder_linked (folders_of t.nodes) (links_in t.nodes) (raises t.holds) t.ninodes k.depth root k.forest k.forest.rooted)
+
+-- a reference more, where one's own stands, or something was found
+abbrev pub MayRefer : Own → ℕ → Type 0
+MayRefer O i = (0 < O.mine.refs i) ⊎ ((i ≡ root) ⊎ ((O.mine.pending ≡ Some i) ⊎ ((d : ℕ) × (x : Held) × (e : List ℕ) × (O.inodes d ≡ Some x) × (look (λ j. x.node) d e ≡ Some i))))
+
+pub one_up : (r : ℕ) → 0 < r + 1
+one_up r = omega arith
+
+-- what it noted it reaches
+abbrev pub NotesOwn : Own → ℕ → Type 0
+NotesOwn O i = (m : Note) → O.desk.noted ≡ Some m → m.number ≡ i → (0 < O.mine.refs i) ⊎ (O.mine.pending ≡ Some i)
+
+pub record Ups (h i : ℕ) (O : Own) (v : World) : Type 0 where
+  pub fair : Fair h v (counted_up h i v)
+  pub stage : stage_of (counted_up h i v) ≡ stage_of v
+  pub owned : own_of h (counted_up h i v) ≡ record O { mine = record { refs = put O.mine.refs i (O.mine.refs i + 1); walk = O.mine.walk; pending = None } }
+
+pub ups : (h i : ℕ) (O : Own) (v : World) → Inv v → own_of h v ≡ O → O.desk.lender ≡ None → h < hart_count → MayRefer O i → ((O.mine.pending ≡ None) ⊎ (O.mine.pending ≡ Some i)) → NotesOwn O i → Ups h i O v
+ups h i O v0 inv0 ov0 free0 lt may only notes = record { fair = fair inv0 (did v0 inv0 ov0); stage = stage v0; owned = owned v0 ov0 }
+  where
+    after : World → World
+    after v = counted_up h i v
+
+    new : World → Mine
+    new v = record { refs = put (v.harts h).refs i ((v.harts h).refs i + 1); walk = (v.harts h).walk; pending = None }
+
+    refs_other : (v : World) (g j : ℕ) → (g ≢ h) ⊎ (j ≢ i) → (put v.harts h (new v) g).refs j ≡ (v.harts g).refs j
+    refs_other v g j (inl ne) = ap (λ (m : Mine). m.refs j) (put_other v.harts h (new v) g ne)
+    refs_other v g j (inr ne) = put_elim v.harts h (new v) g (λ m. m.refs j ≡ (v.harts g).refs j) (λ e. put_other (v.harts h).refs i ((v.harts h).refs i + 1) j ne ∙ ap (λ (z : ℕ). (v.harts z).refs j) (sym e)) (λ q. refl)
+
+    refs_here : (v : World) → (put v.harts h (new v) h).refs i ≡ (v.harts h).refs i + 1
+    refs_here v = ap (λ (m : Mine). m.refs i) (put_same v.harts h (new v)) ∙ put_same (v.harts h).refs i ((v.harts h).refs i + 1)
+
+    stage : (v : World) → stage_of (after v) ≡ stage_of v
+    stage v = λ r. record { tree = settle v.all; walk = λ g. each g r }
+      where
+        each : (g : ℕ) → (put v.harts h (new v) g).walk ≡ (v.harts g).walk
+        each g = put_elim v.harts h (new v) g (λ m. m.walk ≡ (v.harts g).walk) (λ e. ap (λ (z : ℕ). (v.harts z).walk) (sym e)) (λ q. refl)
+
+    -- nobody else keeps it alone
+    free : (v : World) → Inv v → own_of h v ≡ O → (a : IsAlone v.keeper v.all.nodes v.refs v.harts i) → a.hart ≡ h
+    free v inv ov a = elim (same_or a.hart h) [ inl e ↦ e | inr ne ↦ absurd (elim may [
+      | inl p ↦ (let two = two_refs v a.hart h i inv (inv.kept i a.hart a.kept).0 lt ne in let c = a.counts in let r = my_refs h v O i ov in omega (arith, two, c, r, p))
+      | inr (inl p) ↦ (let l = root_live v.all inv.well in let b = subst (λ (z : ℕ). is_live (v.all.nodes z) ≡ false) p a.dead in cc (l, b))
+      | inr (inr (inl p)) ↦ found (inv.pending h i lt (ap (λ (o : Own). o.mine.pending) ov ∙ p))
+      | inr (inr (inr p)) ↦ (let f : look v.all.nodes p.0 p.2 ≡ Some i = look_as p.0 p.2 p.1.node (has_node h p.0 v O p.1 ov p.3) p.4 in live_not p.0 p.2 f)
+    ]) ]
+      where
+        live_not : (d : ℕ) (e : List ℕ) → look v.all.nodes d e ≡ Some i → ⊥
+        live_not d e f = let l = look_live v.all d i e inv.well f in let b = a.dead in cc (l, b)
+
+        found : Found v.keeper v.all.nodes h i → ⊥
+        found f = live_not f.directory f.name f.finds
+
+        look_as : (d : ℕ) (e : List ℕ) (x : Option Node) → v.all.nodes d ≡ x → look (λ j. x) d e ≡ Some i → look v.all.nodes d e ≡ Some i
+        look_as d e x same is = look_same (λ j. x) v.all.nodes d e same ∙ is
+
+    grow : (v : World) (j : ℕ) → 0 < (v.harts h).refs j → 0 < (put v.harts h (new v) h).refs j
+    grow v j p = elim (same_or j i) [
+      | inl e ↦ subst (λ (z : ℕ). 0 < (put v.harts h (new v) h).refs z) (sym e) (let a = refs_here v in omega (arith, a))
+      | inr ne ↦ (let a = refs_other v h j (inr ne) in omega (arith, a, p))
+    ]
+
+    pin : (v : World) (j : ℕ) → Pinned v.desks v.files v.harts h j → Pinned v.desks v.files (put v.harts h (new v)) h j
+    pin v j (inl p) = inl p
+    pin v j (inr p) = inr (grow v j p)
+
+    reach : (v : World) (j : ℕ) → own_of h v ≡ O → Reached v h j → Reached (after v) h j
+    reach v j ov (inl p) = inl (grow v j p)
+    reach v j ov (inr p) = inl (elim only [
+      | inl e ↦ absurd (let a = ap (λ (o : Own). o.mine.pending) ov in cc (a, e, p))
+      | inr e ↦ (let a : (v.harts h).pending ≡ O.mine.pending = ap (λ (o : Own). o.mine.pending) ov in let b : Some i ≡ Some j = sym e ∙ sym a ∙ p in let c : i ≡ j = cc in
+          subst (λ (z : ℕ). 0 < (put v.harts h (new v) h).refs z) c (let d = refs_here v in omega (arith, d)))
+    ])
+
+    -- what it reaches now it did before
+    back : (v : World) (m : Note) → (v.desks h).noted ≡ Some m → own_of h v ≡ O → Reached (after v) h m.number → Reached v h m.number
+    back v m is ov r = elim (same_or m.number i) [
+      | inl e ↦ elim (notes m (ap (λ (o : Own). o.desk.noted) (sym ov) ∙ is) e) [
+        | inl p ↦ inl (let a = my_refs h v O i ov in let b : (v.harts h).refs m.number ≡ (v.harts h).refs i = ap (v.harts h).refs e in omega (arith, a, b, p))
+        | inr p ↦ inr (ap (λ (o : Own). o.mine.pending) ov ∙ p ∙ ap (λ (z : ℕ). Some z) (sym e))
+      ]
+      | inr ne ↦ elim r [
+        | inl p ↦ inl (let a = refs_other v h m.number (inr ne) in omega (arith, a, p))
+        | inr p ↦ absurd (let a : (put v.harts h (new v) h).pending ≡ None = ap (λ (x : Mine). x.pending) (put_same v.harts h (new v)) in cc (a, p))
+      ]
+    ]
+
+    did : (v : World) → Inv v → own_of h v ≡ O → Did h v (after v)
+    did v inv ov =
+        record {
+          hart = lt;
+          inodes = λ j. inl (record { lock = refl; keeper = refl; disk = refl; node = refl; alone = refl });
+          mine = λ g ne. put_other v.harts h (new v) g ne;
+          rows = λ g ne. refl;
+          size = refl;
+          ids = inv.ids;
+          shop = shop_same h (shop_of v) inv.tied;
+          free = ap (λ (o : Own). o.desk.lender) ov ∙ free0;
+          quiet = λ j is f. inv.quiet j h is f;
+          sort = λ j. inl refl;
+          sorts = inv.sorts;
+          noted = λ n is r. inv.noted h n lt is (back v n is ov r);
+          directory = inv.directory h lt;
+          well = inv.well;
+          counts = λ j. elim (same_or j i) [
+            | inl e ↦ subst (λ (z : ℕ). (after v).refs z ≡ v.slots z + sum_below hart_count (λ g. (put v.harts h (new v) g).refs z)) (sym e)
+                (let s = sum_changed hart_count h (λ g. (v.harts g).refs i) (λ g. (put v.harts h (new v) g).refs i) lt (λ g ne. refs_other v g i (inl ne)) in let r = refs_here v in let c = inv.counts i in let p = put_same v.refs i (v.refs i + 1) in omega (arith, s, r, c, p))
+            | inr ne ↦ put_other v.refs i (v.refs i + 1) j ne ∙ inv.counts j ∙ ap (λ (z : ℕ). v.slots j + z) (sym (sum_same hart_count (λ g. (v.harts g).refs j) (λ g. (put v.harts h (new v) g).refs j) (λ g l. refs_other v g j (inr ne))))
+          ];
+          alone = λ j is. let a = inv.alone j is in record {
+            hart = a.hart;
+            kept = a.kept;
+            dead = a.dead;
+            counts = elim (same_or j i) [
+              | inl e ↦
+                  let b : IsAlone v.keeper v.all.nodes v.refs v.harts i = subst (IsAlone v.keeper v.all.nodes v.refs v.harts) e a in
+                  let me : a.hart ≡ h = free v inv ov (record { hart = a.hart; kept = subst (λ (z : ℕ). v.keeper z ≡ Some a.hart) e a.kept; dead = subst (λ (z : ℕ). is_live (v.all.nodes z) ≡ false) e a.dead; counts = subst (λ (z : ℕ). v.refs z ≡ (v.harts a.hart).refs z) e a.counts }) in
+                  let c : v.refs i ≡ (v.harts h).refs i = subst (λ (z : ℕ). v.refs z ≡ (v.harts a.hart).refs z) e a.counts ∙ ap (λ (z : ℕ). (v.harts z).refs i) me in
+                  ap (put v.refs i (v.refs i + 1)) e ∙ put_same v.refs i (v.refs i + 1) ∙ ap (λ (z : ℕ). z + 1) c ∙ sym (refs_here v) ∙ ap (λ (z : ℕ). (put v.harts h (new v) z).refs i) (sym me) ∙ ap (λ (z : ℕ). (put v.harts h (new v) a.hart).refs z) (sym e)
+              | inr ne ↦ put_other v.refs i (v.refs i + 1) j ne ∙ a.counts ∙ sym (refs_other v a.hart j (inr ne))
+            ];
+          };
+          kept = λ j is. pin v j (inv.kept j h is).1;
+          held = λ j is. inv.held j h is;
+          named = λ j is. reach v j ov (inv.named h j lt is);
+          pending = λ j is. absurd (let a : (put v.harts h (new v) h).pending ≡ None = ap (λ (m : Mine). m.pending) (put_same v.harts h (new v)) in cc (a, is));
+          walks = λ x is. reach v x.at ov (inv.walks h x lt (sym (ap (λ (m : Mine). m.walk) (put_same v.harts h (new v))) ∙ is));
+        }
+
+    owned : (v : World) → own_of h v ≡ O → own_of h (after v) ≡ record O { mine = record { refs = put O.mine.refs i (O.mine.refs i + 1); walk = O.mine.walk; pending = None } }
+    owned v ov = λ z. record {
+      inodes = ap (λ (o : Own). o.inodes) ov z;
+      mine = (put_same v.harts h (new v) ∙ ap (λ (o : Own). record { refs = put o.mine.refs i (o.mine.refs i + 1); walk = o.mine.walk; pending = None }) ov) z;
+      row = ap (λ (o : Own). o.row) ov z;
+      ninodes = ap (λ (o : Own). o.ninodes) ov z;
+      desk = ap (λ (o : Own). o.desk) ov z;
+    }
+
+-- a reference more, where there is a place in memory
+pub s-up : {A : Type 0} {h i : ℕ} {m : Bool → Option Mark} {k : Bool → P machine A} {B : List Step → Type 0} {Q : A → List Step → World → Type 0} {n : ℕ} {es : List Step} {w : World} {O : Own}
+    → own_of h w ≡ O → O.desk.lender ≡ None → h < hart_count → 0 < n → m true ≡ None → MayRefer O i → ((O.mine.pending ≡ None) ⊎ (O.mine.pending ≡ Some i)) → NotesOwn O i
+    → ((l : ℕ) (u : World) → l + 1 ≡ n → own_of h u ≡ record O { mine = record { refs = put O.mine.refs i (O.mine.refs i + 1); walk = O.mine.walk; pending = None } } → Safe machine h B Q (k true) l es u)
+    → ((v : World) → Inv v → own_of h v ≡ O → Fine machine h (places h (Up i) false (m false) v) 0 n B es v (marked h (m false) v) (λ l. Wp machine h B Q (k false) l (onto (own h (places h (Up i) false (m false) v)) es) (marked h (m false) v)))
+    → Safe machine h B Q (Do (Up i) m k) n es w
+s-up {A} {h} {i} {m} {k} {B} {Q} {n} {es} {w} {O} owns free lt pos quietly may only notes rest full = s-owned owns free pos (λ v inv ov. (tt, (λ x honest. at v inv ov (has_place v i))))
+  where
+    at : (v : World) → Inv v → own_of h v ≡ O → (b : Bool) → Good machine Bool h (λ a. places h (Up i) a (m a) v) 0 n B es v ⊥ (with_mark h m (up_if h i v b)) (λ l a u. Wp machine h B Q (k a) l (onto (own h (places h (Up i) a (m a) v)) es) u)
+    at v inv ov false = full v inv ov
+    at v inv ov true =
+        let x = ups h i O v inv ov free lt may only notes in
+        subst (λ (z : Option Mark). Fine machine h (places h (Up i) true z v) 0 n B es v (marked h z (counted_up h i v)) (λ l. Wp machine h B Q (k true) l (onto (own h (places h (Up i) true z v)) es) (marked h z (counted_up h i v)))) (sym quietly)
+        (quiet x.fair x.stage pos (λ l q. (rest l (counted_up h i v) q x.owned).wp))

@@ -1,0 +1,4 @@
+//! A prototype: the block machine's world and the moves of whole inodes.
+#![tactic(auto)]
+
+pub fn nothing() {}
