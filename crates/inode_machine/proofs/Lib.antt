@@ -3,3 +3,7 @@ pub mod Rules
 pub mod Rows
 pub mod Tables
 pub mod Binds
+pub mod Settling
+pub mod Counting
+pub mod Walking
+pub mod Freeing

@@ -1,0 +1,461 @@
+-- Inodes that one hart keeps alone: locked, freed, and anybody's again.
+use Rattle.std.proofs.Common.{◌≡◌, ◌≢◌, ◌⊎◌, inl, inr, ℕ, zero, suc, ◌+◌, ◌-◌, ◌<◌, ◌≤◌, Bool, true, false, ◌==◌, ◌&&◌, List, [], Option, Some, None, refl, sym, ◌∙◌, ap, subst, arith, if◌then◌else◌}
+use Rattle.atomic_programs.specs.Prog.{Do, unmarked}
+use Rattle.atomic_programs.specs.Logic.{P, Good, Fine, Safe, Wp}
+use Rattle.plain_tree.specs.declared.node.Node.{Node}
+use Rattle.plain_tree.specs.Widths.{hart_count}
+use Rattle.plain_tree.specs.Tree.{Tree, put, is_live, is_named, settle}
+use Rattle.tree_laws.specs.WellFormed.{sum_below, folder, links_of, folders_of, links_in, raises, Folders, IsForest, IsWellFormed}
+use Rattle.tree_laws.proofs.Maps.{eq_is, either, same_or, put_same, put_other, and_true, none_any}
+use Rattle.tree_laws.proofs.Nodes.{folder_dead, dead_links, no_node, cwd_named, hold_named, file_named, folders_put, put_self, map_put}
+use Rattle.tree_laws.proofs.Facts.{look_live}
+use Rattle.inode_machine.specs.Moves.{Step, Walk, after}
+use Rattle.inode_machine.specs.World.{Mine, World, Entry, Note}
+use Rattle.inode_machine.specs.Marks.{with_mark}
+use Rattle.inode_machine.specs.Exec.{with_refs, lock_if, claim_if, first_from, is_free, is_nothing, blank, counted_down, down_if, file_count, is_dead, locked, unlocked}
+use Rattle.inode_machine.specs.World.Mark.{Frees}
+use Rattle.inode_machine.specs.World.Op.{Claim, Take, Give, Down, Free}
+use Rattle.inode_machine.specs.Rules.{shop_of, own_names, Held, view, is_hart, if_kept, row_of, own_of, Pinned, Reached, IsAlone, Inv, IsOut, machine, looking_cost, number_is}
+use Rattle.tree_laws.proofs.Sums.{sum_part, one_yes}
+use Rattle.tree_laws.specs.WellFormed.{one_if}
+use Rattle.tree_laws.proofs.Maps.{eq_self}
+use Rattle.inode_machine.specs.Rules.{Own}
+use Rattle.inode_machine.proofs.Frame.{shop_same, put_elim, ours_none, ours_some, kept_here, Did, fair, fair_then, fair_same, own_inodes, has_inode, found_more, one_refs, two_refs}
+use Rattle.inode_machine.proofs.Rules.{opens_slots, s-owned, quiet, each_refs, here_refs, walks_refs, total_same, total_changed, my_refs, is_me, has_disk, has_node, locks_it}
+use Rattle.inode_machine.proofs.Counting.{Writes, writes}
+use Rattle.inode_machine.proofs.Settling.{settle_nodes}
+use Rattle.inode_machine.proofs.Rows.{unlive, hart_not}
+use Rattle.inode_machine.specs.Inodes.{Looking, Seen, seen_in, sort_of}
+
+-- The lock of an inode that the hart keeps already is free.
+pub s-take-kept : {A : Type 0} {h i : ℕ} {x : Held} {looking : Looking} {k : Seen → P machine A} {B : List Step → Type 0} {Q : A → List Step → World → Type 0} {n : ℕ} {es : List Step} {w : World} {O : Own}
+    → own_of h w ≡ O → O.desk.lender ≡ None → h < hart_count → looking_cost looking < n → O.inodes i ≡ Some x → x.locked ≡ false → 0 < O.mine.refs i
+    → ((l : ℕ) (u : World) → l + (looking_cost looking + 1) ≡ n → own_of h u ≡ record O { inodes = put O.inodes i (Some (record x { locked = true })) } → Safe machine h B Q (k (seen_in i looking x.disk)) l es u)
+    → Safe machine h B Q (Do (Take i looking) unmarked k) n es w
+s-take-kept {A} {h} {i} {x} {looking} {k} {B} {Q} {n} {es} {w} {O} owns free lt pos isi out refers rest = s-owned owns free pos (λ v inv ov. ((let r = my_refs h v O i ov in omega (arith, r, refers), not_out v ov), (λ _ _. at v inv ov (v.lock i) refl)))
+  where
+    not_out : (v : World) → own_of h v ≡ O → v.lock i ≢ Some h
+    not_out v ov e = let m = is_me h (v.lock i) e in let l : is_hart (v.lock i) h ≡ false = ap (λ (y : Held). y.locked) (has_inode h i v O x ov isi).1 ∙ out in cc (m, l)
+
+    at : (v : World) → Inv v → own_of h v ≡ O → (r : Option ℕ) → v.lock i ≡ r → Good machine Seen h (λ a. []) (looking_cost looking) n B es v (IsOut h (v.lock i)) (with_mark h unmarked (lock_if h i (seen_in i looking (v.disk i)) v (locked h i v) r)) (λ l a u. Wp machine h B Q (k a) l es u)
+    at v inv ov (Some g) e = absurd (let a = inv.keeps i g e in let b = (has_inode h i v O x ov isi).0 in let s : Some g ≡ Some h = sym a ∙ b in let c : g ≡ h = cc in
+        let m = is_me h (v.lock i) (e ∙ ap (λ (z : ℕ). Some z) c) in let l : is_hart (v.lock i) h ≡ false = ap (λ (y : Held). y.locked) (has_inode h i v O x ov isi).1 ∙ out in cc (m, l))
+    at v inv ov None e = quiet (fair inv did) refl pos (λ l q. subst (λ (z : Option Node). Wp machine h B Q (k (seen_in i looking z)) l es u) (sym (has_disk h i v O x ov isi)) (rest l u q owned).wp)
+      where
+        u : World
+        u = locked h i v
+
+        kept : v.keeper i ≡ Some h
+        kept = (has_inode h i v O x ov isi).0
+
+        same : (j : ℕ) → put v.keeper i (Some h) j ≡ v.keeper j
+        same j = put_elim v.keeper i (Some h) j (λ z. z ≡ v.keeper j) (λ q. sym (ap v.keeper q ∙ kept)) (λ q. refl)
+
+        did : Did h v u
+        did =
+            record {
+              hart = lt;
+              inodes = λ j. elim (same_or j i) [
+                | inl q ↦ inr (record {
+                  before = ours_some h (v.keeper j) (ap v.keeper q ∙ kept);
+                  after = ours_some h (u.keeper j) (ap u.keeper q ∙ put_same v.keeper i (Some h));
+                  whole = λ f. absurd (let s : u.keeper j ≡ Some h = ap u.keeper q ∙ put_same v.keeper i (Some h) in cc);
+                  keeps = λ g is. let a : u.lock j ≡ Some h = ap u.lock q ∙ put_same v.lock i (Some h) in let s : u.keeper j ≡ Some h = ap u.keeper q ∙ put_same v.keeper i (Some h) in s ∙ sym a ∙ is;
+                })
+                | inr ne ↦ inl (record { lock = put_other v.lock i (Some h) j ne; keeper = put_other v.keeper i (Some h) j ne; disk = refl; node = refl; alone = refl })
+              ];
+              mine = λ g ne. refl;
+              rows = λ g ne. refl;
+              size = refl;
+              ids = inv.ids;
+              shop = shop_same h (shop_of v) inv.tied;
+              free = ap (λ (o : Own). o.desk.lender) ov ∙ free;
+              quiet = λ j is f. inv.quiet j h (sym (same j) ∙ is) f;
+              sort = λ j. inl refl;
+              sorts = inv.sorts;
+              noted = λ n is r. inv.noted h n lt is r;
+              directory = inv.directory h lt;
+              well = inv.well;
+              counts = inv.counts;
+              alone = λ j is. let a = inv.alone j is in record { hart = a.hart; kept = same j ∙ a.kept; dead = a.dead; counts = a.counts };
+              kept = λ j is. (inv.kept j h (sym (same j) ∙ is)).1;
+              held = λ j is. put_elim v.lock i (Some h) j (λ z. (z ≡ Some h) ⊎ (v.alone j ≡ true)) (λ q. inl refl) (λ q. inv.held j h (sym (same j) ∙ is));
+              named = λ j is. inv.named h j lt is;
+              pending = λ j is. found_more h v u j (λ d q. (same d ∙ q, refl)) (inv.pending h j lt is);
+              walks = λ y is. inv.walks h y lt is;
+            }
+
+        owned : own_of h u ≡ record O { inodes = put O.inodes i (Some (record x { locked = true })) }
+        owned = λ z. record {
+          inodes = own_inodes h i v u O (Some (record x { locked = true })) ov
+              (kept_here h (u.keeper i) (view u h i) (put_same v.keeper i (Some h)) ∙ (λ r. Some (record (view v h i) { locked = is_me h (u.lock i) (put_same v.lock i (Some h)) r })) ∙ ap (λ (y : Held). Some (record y { locked = true })) (has_inode h i v O x ov isi).1)
+              (λ j ne. (put_other v.keeper i (Some h) j ne, (λ r. record { disk = v.disk j; node = v.all.nodes j; alone = v.alone j; locked = is_hart (put_other v.lock i (Some h) j ne r) h }))) z;
+          mine = ap (λ (o : Own). o.mine) ov z;
+          row = ap (λ (o : Own). o.row) ov z;
+          ninodes = ap (λ (o : Own). o.ninodes) ov z;
+          desk = ap (λ (o : Own). o.desk) ov z;
+        }
+
+-- an open file isn't of an inode that one hart keeps alone
+lone_file : (h i k : ℕ) (e : Entry) (v : World) → Inv v → h < hart_count → v.alone i ≡ true → v.keeper i ≡ Some h → v.files k ≡ Some e → e.file.number ≢ i
+lone_file h i k e v inv lt lone kept is q =
+    let a = inv.alone i lone in
+    let s : Some a.hart ≡ Some h = sym a.kept ∙ kept in
+    let m : a.hart ≡ h = cc in
+    let c : v.refs i ≡ (v.harts h).refs i = a.counts ∙ ap (λ (z : ℕ). (v.harts z).refs i) m in
+    let o = one_refs v h i inv lt in
+    let t = inv.tied.slots i in
+    let p = sum_part file_count k (λ k. number_is (v.files k) i) (inv.tied.within k e is) in
+    let x : number_is (v.files k) i ≡ one_if (e.file.number == i) = ap (λ (z : Option Entry). number_is z i) is in
+    let y : one_if (e.file.number == i) ≡ 1 = one_yes (e.file.number == i) (ap (λ (z : ℕ). z == i) q ∙ eq_self i) in
+    omega (arith, c, o, t, p, x, y)
+
+-- A dead node that nothing names can be taken out of the tree before it settles.
+
+abbrev without_one : (ℕ → Option Node) → ℕ → ℕ → Option Node
+without_one ns i = put ns i None
+
+well_gone : (t : Tree) (i : ℕ) → IsWellFormed t → is_live (t.nodes i) ≡ false → is_named t i ≡ false → IsWellFormed (record t { nodes = put t.nodes i None })
+well_gone t i k dead unnamed = record {
+  range = λ n v is. k.range n v (sym (stays n v is) ∙ is);
+  depth = k.depth;
+  forest = subst (λ (F : Folders). IsForest F (links_in (put t.nodes i None)) (raises t.holds) t.ninodes k.depth) (sym folders)
+      (subst (λ (C : ℕ → ℕ). IsForest (folders_of t.nodes) C (raises t.holds) t.ninodes k.depth) (sym links) k.forest);
+  holds = λ h o lt is. let th = k.holds h o lt is in record { node = th.node; is = other o.number (λ q. named o.number q (hold_named t h o lt is)) ∙ th.is; sort = th.sort };
+  descriptors = λ h j id lh lj is. let th = k.descriptors h j id lh lj is in record { file = th.file; is = th.is; node = th.node; there = other th.file.number (λ q. named th.file.number q (file_named t h j id th.file lh lj is th.is)) ∙ th.there };
+  directories = λ h lt. let th = k.directories h lt in record { node = th.node; is = other (t.cwd h) (λ q. named (t.cwd h) q (cwd_named t h lt)) ∙ th.is; sort = th.sort };
+}
+  where
+    folders : folders_of (put t.nodes i None) ≡ folders_of t.nodes
+    folders = folders_put t.nodes i None ∙ put_self (folders_of t.nodes) i (folder None) (folder_dead (t.nodes i) (no_node (t.nodes i) dead))
+
+    links : links_in (put t.nodes i None) ≡ links_in t.nodes
+    links = map_put (λ (o : Option Node). links_of o) t.nodes i None ∙ put_self (links_in t.nodes) i 0 (dead_links (t.nodes i) dead)
+
+    other : (n : ℕ) → n ≢ i → put t.nodes i None n ≡ t.nodes n
+    other n ne = put_other t.nodes i None n ne
+
+    named : (n : ℕ) → n ≡ i → is_named t n ≡ true → ⊥
+    named n q is = let a = subst (λ (z : ℕ). is_named t z ≡ true) q is in absurd (cc (a, unnamed))
+
+    stays : (n : ℕ) (v : Node) → put t.nodes i None n ≡ Some v → put t.nodes i None n ≡ t.nodes n
+    stays n v is = elim (same_or n i) [
+      | inl q ↦ absurd (let a : put t.nodes i None n ≡ None = ap (put t.nodes i None) q ∙ put_same t.nodes i None in cc (a, is))
+      | inr ne ↦ other n ne
+    ]
+
+-- nobody names an inode that one hart keeps alone, and doesn't name itself
+unnamed : (h i : ℕ) (v : World) → Inv v → h < hart_count → v.alone i ≡ true → v.keeper i ≡ Some h → own_names (row_of v.all h) (v.desks h) i ≡ false → is_named v.all i ≡ false
+unfolding is_named
+unnamed h i v inv lt lone kept mine = none_any hart_count _ (λ g lg. hart_not g i v inv lg (let o = one_refs v h i inv lt in let c = counts in omega (arith, o, c)) (elim (same_or g h) [
+  | inl e ↦ ap (λ (z : ℕ). own_names (row_of v.all z) (v.desks z) i) e ∙ mine
+  | inr ne ↦ elim (either (own_names (row_of v.all g) (v.desks g) i)) [ inr y ↦ y | inl y ↦ absurd (reached g lg ne (inv.named g i lg y)) ]
+]))
+  where
+    a : IsAlone v.keeper v.all.nodes v.refs v.harts i
+    a = inv.alone i lone
+
+    counts : v.refs i ≡ (v.harts h).refs i
+    counts = let s : Some a.hart ≡ Some h = sym a.kept ∙ kept in let e : a.hart ≡ h = cc in a.counts ∙ ap (λ (z : ℕ). (v.harts z).refs i) e
+
+    reached : (g : ℕ) → g < hart_count → g ≢ h → Reached v g i → ⊥
+    reached g lg ne (inl p) = let o = two_refs v g h i inv lg lt ne in let c = counts in omega (arith, o, c, p)
+    reached g lg ne (inr p) = let f = inv.pending g i lg p in let l = look_live v.all f.directory i f.name inv.well f.finds in let u = a.dead in absurd (cc (l, u))
+
+-- The type of a dead inode is cleared on the disk.
+pub s-free : {A : Type 0} {h i : ℕ} {x : Held} {k : Unit {0} → P machine A} {B : List Step → Type 0} {Q : A → List Step → World → Type 0} {n : ℕ} {es : List Step} {w : World} {O : Own}
+    → own_of h w ≡ O → O.desk.lender ≡ None → h < hart_count → 900 < n → O.desk.joined ≡ true → O.inodes i ≡ Some x → x.locked ≡ true → x.alone ≡ true → own_names O.row O.desk i ≡ false → O.mine.pending ≡ None → ((m : Note) → O.desk.noted ≡ Some m → m.number ≢ i)
+    → ((l : ℕ) (u : World) → l + 901 ≡ n → own_of h u ≡ record O { inodes = put O.inodes i (Some (record x { disk = None; node = None })) } → Safe machine h B Q (k tt) l es u)
+    → Safe machine h B Q (Do (Free i) (λ a. Some (Frees i)) k) n es w
+s-free {A} {h} {i} {x} {k} {B} {Q} {n} {es} {w} {O} owns free lt pos joined isi has lone mine none unnoted rest = s-owned owns free pos (λ v inv ov. ((locks_it h i v O x ov isi has, ap (λ (o : Own). o.desk.joined) ov ∙ joined), (λ _ _. good v inv ov)))
+  where
+    good : (v : World) → Inv v → own_of h v ≡ O → Fine machine h [] 900 n B es v (record v { disk = put v.disk i None; all = record (v.all) { nodes = put v.all.nodes i None } }) (λ l. Wp machine h B Q (k tt) l es (record v { disk = put v.disk i None; all = record (v.all) { nodes = put v.all.nodes i None } }))
+    good v inv ov = quiet (fair_then wr.fair (fair wr.fair.inv did)) (λ z. record { tree = tree z; walk = λ g. (v.harts g).walk }) pos (λ l q. (rest l u q owned).wp)
+      where
+        wr : Writes h i None x O v
+        wr = writes h i None x O v free lt joined inv ov isi
+
+        u1 : World
+        u1 = record v { disk = put v.disk i None }
+
+        u : World
+        u = record u1 { all = record (v.all) { nodes = put v.all.nodes i None } }
+
+        kept : v.keeper i ≡ Some h
+        kept = (has_inode h i v O x ov isi).0
+
+        lone_at : v.alone i ≡ true
+        lone_at = ap (λ (y : Held). y.alone) (has_inode h i v O x ov isi).1 ∙ lone
+
+        dead : is_live (v.all.nodes i) ≡ false
+        dead = (inv.alone i lone_at).dead
+
+        out : is_named v.all i ≡ false
+        out = unnamed h i v inv lt lone_at kept (ap (λ (o : Own). own_names o.row o.desk i) ov ∙ mine)
+
+        tree : settle (record (v.all) { nodes = put v.all.nodes i None }) ≡ settle v.all
+        tree = settle_nodes v.all (put v.all.nodes i None) v.all.nodes (λ j. elim (same_or j i) [
+          | inl q ↦ inr (ap (put v.all.nodes i None) q ∙ put_same v.all.nodes i None, subst (λ (z : ℕ). is_live (v.all.nodes z) ≡ false) (sym q) dead, subst (λ (z : ℕ). is_named v.all z ≡ false) (sym q) out)
+          | inr ne ↦ inl (put_other v.all.nodes i None j ne)
+        ])
+
+        named_not : (m : Note) → (v.desks h).noted ≡ Some m → m.number ≡ i → ⊥
+        named_not m is q = unnoted m (ap (λ (o : Own). o.desk.noted) (sym ov) ∙ is) q
+
+        did : Did h u1 u
+        did =
+            record {
+              hart = lt;
+              inodes = λ j. elim (same_or j i) [
+                | inl q ↦ inr (record {
+                  before = ours_some h (v.keeper j) (ap v.keeper q ∙ kept);
+                  after = ours_some h (v.keeper j) (ap v.keeper q ∙ kept);
+                  whole = λ f. absurd (let s : v.keeper j ≡ Some h = ap v.keeper q ∙ kept in cc);
+                  keeps = λ g is. inv.keeps j g is;
+                })
+                | inr ne ↦ inl (record { lock = refl; keeper = refl; disk = refl; node = put_other v.all.nodes i None j ne; alone = refl })
+              ];
+              mine = λ g ne. refl;
+              rows = λ g ne. refl;
+              size = refl;
+              ids = inv.ids;
+              shop = shop_same h (shop_of v) inv.tied;
+              free = ap (λ (o : Own). o.desk.lender) ov ∙ free;
+              quiet = λ j is f. absurd (let e : (v.desks h).joined ≡ true = ap (λ (o : Own). o.desk.joined) ov ∙ joined in cc (e, f));
+              sort = λ j. elim (same_or j i) [
+                | inl q ↦ inr (ap v.keeper q ∙ kept, ap v.alone q ∙ lone_at)
+                | inr ne ↦ inl (ap (λ (z : Option Node). sort_of z) (put_other v.all.nodes i None j ne))
+              ];
+              sorts = λ k e is. ap (λ (z : Option Node). sort_of z) (put_other v.all.nodes i None e.file.number (lone_file h i k e v inv lt lone_at kept is)) ∙ inv.sorts k e is;
+              noted = λ n is r. elim (same_or n.number i) [
+                | inl q ↦ absurd (named_not n is q)
+                | inr ne ↦ ap (λ (z : Option Node). sort_of z) (put_other v.all.nodes i None n.number ne) ∙ inv.noted h n lt is r
+              ];
+              directory = inv.directory h lt;
+              well = well_gone v.all i inv.well dead out;
+              counts = inv.counts;
+              alone = λ j is. let a = inv.alone j is in record { hart = a.hart; kept = a.kept; dead = put_elim v.all.nodes i None j (λ z. is_live z ≡ false) (λ q. refl) (λ q. a.dead); counts = a.counts };
+              kept = λ j is. (inv.kept j h is).1;
+              held = λ j is. inv.held j h is;
+              named = λ j is. inv.named h j lt is;
+              pending = λ j is. absurd (let p : (v.harts h).pending ≡ None = ap (λ (o : Own). o.mine.pending) ov ∙ none in cc (p, is));
+              walks = λ y is. inv.walks h y lt is;
+            }
+
+        owned : own_of h u ≡ record O { inodes = put O.inodes i (Some (record x { disk = None; node = None })) }
+        owned = λ z. record {
+          inodes = own_inodes h i v u O (Some (record x { disk = None; node = None })) ov
+              (kept_here h (v.keeper i) (view u h i) kept ∙ (λ r. Some (record (view v h i) { disk = put_same v.disk i None r; node = put_same v.all.nodes i None r })) ∙ ap (λ (y : Held). Some (record y { disk = None; node = None })) (has_inode h i v O x ov isi).1)
+              (λ j ne. (refl, (λ r. record { disk = put_other v.disk i None j ne r; node = put_other v.all.nodes i None j ne r; alone = v.alone j; locked = is_hart (v.lock j) h }))) z;
+          mine = ap (λ (o : Own). o.mine) ov z;
+          row = ap (λ (o : Own). o.row) ov z;
+          ninodes = ap (λ (o : Own). o.ninodes) ov z;
+          desk = ap (λ (o : Own). o.desk) ov z;
+        }
+
+-- Its lock is given up, and the hart keeps it still.
+pub s-give-alone : {A : Type 0} {h i : ℕ} {x : Held} {k : Unit {0} → P machine A} {B : List Step → Type 0} {Q : A → List Step → World → Type 0} {n : ℕ} {es : List Step} {w : World} {O : Own}
+    → own_of h w ≡ O → O.desk.lender ≡ None → h < hart_count → 0 < n → O.inodes i ≡ Some x → x.locked ≡ true → x.alone ≡ true
+    → ((l : ℕ) (u : World) → l + 1 ≡ n → own_of h u ≡ record O { inodes = put O.inodes i (Some (record x { locked = false })) } → Safe machine h B Q (k tt) l es u)
+    → Safe machine h B Q (Do (Give i) unmarked k) n es w
+s-give-alone {A} {h} {i} {x} {k} {B} {Q} {n} {es} {w} {O} owns free lt pos isi has lone rest = s-owned owns free pos (λ v inv ov. (locks_it h i v O x ov isi has, (λ _ _.
+    let a : v.alone i ≡ true = ap (λ (y : Held). y.alone) (has_inode h i v O x ov isi).1 ∙ lone in
+    subst (λ (b : Bool). Fine machine h [] 0 n B es v (unlocked i v b) (λ l. Wp machine h B Q (k tt) l es (unlocked i v b))) (sym a)
+    (quiet (fair inv (did v inv ov)) refl pos (λ l q. (rest l (after v) q (owned v ov)).wp)))))
+  where
+    after : World → World
+    after v = record v { lock = put v.lock i None }
+
+    kept : (v : World) → own_of h v ≡ O → v.keeper i ≡ Some h
+    kept v ov = (has_inode h i v O x ov isi).0
+
+    did : (v : World) → Inv v → own_of h v ≡ O → Did h v (record v { lock = put v.lock i None })
+    did v inv ov =
+        record {
+          hart = lt;
+          inodes = λ j. elim (same_or j i) [
+            | inl q ↦ inr (record {
+              before = ours_some h (v.keeper j) (ap v.keeper q ∙ kept v ov);
+              after = ours_some h (v.keeper j) (ap v.keeper q ∙ kept v ov);
+              whole = λ f. absurd (let s : v.keeper j ≡ Some h = ap v.keeper q ∙ kept v ov in cc);
+              keeps = λ g is. absurd (let s : put v.lock i None j ≡ None = ap (put v.lock i None) q ∙ put_same v.lock i None in cc);
+            })
+            | inr ne ↦ inl (record { lock = put_other v.lock i None j ne; keeper = refl; disk = refl; node = refl; alone = refl })
+          ];
+          mine = λ g ne. refl;
+          rows = λ g ne. refl;
+          size = refl;
+          ids = inv.ids;
+          shop = shop_same h (shop_of v) inv.tied;
+          free = ap (λ (o : Own). o.desk.lender) ov ∙ free;
+          quiet = λ j is f. inv.quiet j h is f;
+          sort = λ j. inl refl;
+          sorts = inv.sorts;
+          noted = λ n is r. inv.noted h n lt is r;
+          directory = inv.directory h lt;
+          well = inv.well;
+          counts = inv.counts;
+          alone = inv.alone;
+          kept = λ j is. (inv.kept j h is).1;
+          held = λ j is. elim (same_or j i) [
+            | inl q ↦ inr (ap v.alone q ∙ ap (λ (y : Held). y.alone) (has_inode h i v O x ov isi).1 ∙ lone)
+            | inr ne ↦ elim (inv.held j h is) [ inl a ↦ inl (put_other v.lock i None j ne ∙ a) | inr a ↦ inr a ]
+          ];
+          named = λ j is. inv.named h j lt is;
+          pending = λ j is. inv.pending h j lt is;
+          walks = λ y is. inv.walks h y lt is;
+        }
+
+    owned : (v : World) → own_of h v ≡ O → own_of h (record v { lock = put v.lock i None }) ≡ record O { inodes = put O.inodes i (Some (record x { locked = false })) }
+    owned v ov = λ z. record {
+      inodes = own_inodes h i v (record v { lock = put v.lock i None }) O (Some (record x { locked = false })) ov
+          (kept_here h (v.keeper i) (view (record v { lock = put v.lock i None }) h i) (kept v ov) ∙ (λ r. Some (record (view v h i) { locked = is_hart (put_same v.lock i None r) h })) ∙ ap (λ (y : Held). Some (record y { locked = false })) (has_inode h i v O x ov isi).1)
+          (λ j ne. (refl, (λ r. record { disk = v.disk j; node = v.all.nodes j; alone = v.alone j; locked = is_hart (put_other v.lock i None j ne r) h }))) z;
+      mine = ap (λ (o : Own). o.mine) ov z;
+      row = ap (λ (o : Own). o.row) ov z;
+      ninodes = ap (λ (o : Own). o.ninodes) ov z;
+      desk = ap (λ (o : Own). o.desk) ov z;
+    }
+
+and_none : (b : Bool) (o : Option Node) → o ≡ None → (b && is_dead o) ≡ false
+and_none true o e = ap (λ (z : Option Node). is_dead z) e
+and_none false o e = refl
+
+-- The last reference to an inode that was freed is counted down: its number is anybody's.
+pub s-down-freed : {A : Type 0} {h i : ℕ} {x : Held} {k : Bool → P machine A} {B : List Step → Type 0} {Q : A → List Step → World → Type 0} {n : ℕ} {es : List Step} {w : World} {O : Own}
+    → own_of h w ≡ O → O.desk.lender ≡ None → h < hart_count → 0 < n → O.inodes i ≡ Some x → x.alone ≡ true → x.locked ≡ false → x.disk ≡ None → x.node ≡ None → 0 < O.mine.refs i → O.mine.pending ≡ None
+    → own_names O.row O.desk i ≡ false → ((y : Walk) → O.mine.walk ≡ Some y → y.at ≢ i)
+    → ((l : ℕ) (u : World) → l + 1 ≡ n → own_of h u ≡ record O { inodes = put O.inodes i None; mine = record { refs = put O.mine.refs i (O.mine.refs i - 1); walk = O.mine.walk; pending = O.mine.pending } } → Safe machine h B Q (k false) l es u)
+    → Safe machine h B Q (Do (Down i) unmarked k) n es w
+s-down-freed {A} {h} {i} {x} {k} {B} {Q} {n} {es} {w} {O} owns free lt pos isi lone out blank gone refers none unnamed unwalked rest = s-owned owns free pos (λ v inv ov. ((let r = my_refs h v O i ov in omega (arith, r, refers), not_out v ov), (λ _ _.
+    subst (λ (b : Bool). Good machine Bool h (λ a. []) 0 n B es v ⊥ (with_mark h unmarked (down_if h i v b)) (λ l a u. Wp machine h B Q (k a) l es u)) (sym (and_none (v.refs i == 1) (v.disk i) (has_disk h i v O x ov isi ∙ blank)))
+    (good v inv ov))))
+  where
+    not_out : (v : World) → own_of h v ≡ O → v.lock i ≢ Some h
+    not_out v ov e = let m = is_me h (v.lock i) e in let l : is_hart (v.lock i) h ≡ false = ap (λ (y : Held). y.locked) (has_inode h i v O x ov isi).1 ∙ out in cc (m, l)
+
+    good : (v : World) → Inv v → own_of h v ≡ O → Good machine Bool h (λ a. []) 0 n B es v ⊥ (with_mark h unmarked (down_if h i v false)) (λ l a u. Wp machine h B Q (k a) l es u)
+    good v inv ov = quiet (fair inv did) (λ z. record { tree = settle v.all; walk = walks_refs v.harts h i ((v.harts h).refs i - 1) z }) pos (λ l q. (rest l u q owned).wp)
+      where
+        u : World
+        u = counted_down h i v
+
+        lone_at : v.alone i ≡ true
+        lone_at = ap (λ (y : Held). y.alone) (has_inode h i v O x ov isi).1 ∙ lone
+
+        kept : v.keeper i ≡ Some h
+        kept = (has_inode h i v O x ov isi).0
+
+        keeper_is : u.keeper ≡ put v.keeper i None
+        keeper_is = rw lone_at refl
+
+        at : (j : ℕ) → u.keeper j ≡ put v.keeper i None j
+        at j = ap (λ (f : ℕ → Option ℕ). f j) keeper_is
+
+        more : 0 < (v.harts h).refs i
+        more = let r = my_refs h v O i ov in omega (arith, r, refers)
+
+        new : Mine
+        new = record { refs = put (v.harts h).refs i ((v.harts h).refs i - 1); walk = (v.harts h).walk; pending = (v.harts h).pending }
+
+        grow : (j : ℕ) → j ≢ i → 0 < (v.harts h).refs j → 0 < (u.harts h).refs j
+        grow j ne a = let r = each_refs v.harts h i ((v.harts h).refs i - 1) h j (inr ne) in omega (arith, r, a)
+
+        pin : (j : ℕ) → j ≢ i → Pinned v.desks v.files v.harts h j → Pinned v.desks v.files u.harts h j
+        pin j ne (inl a) = inl a
+        pin j ne (inr a) = inr (grow j ne a)
+
+        pend : (v.harts h).pending ≡ None
+        pend = ap (λ (o : Own). o.mine.pending) ov ∙ none
+
+        shrink : (j : ℕ) → Reached u h j → Reached v h j
+        shrink j (inr p) = inr (sym (ap (λ (m : Mine). m.pending) (put_same v.harts h new)) ∙ p)
+        shrink j (inl p) = elim (same_or j i) [
+          | inl q ↦ inl (subst (λ (z : ℕ). 0 < (v.harts h).refs z) (sym q) more)
+          | inr ne ↦ inl (let r = each_refs v.harts h i ((v.harts h).refs i - 1) h j (inr ne) in omega (arith, r, p))
+        ]
+
+        not_i : (j : ℕ) → u.keeper j ≡ Some h → j ≢ i
+        not_i j is q = absurd (let a : u.keeper j ≡ None = at j ∙ ap (put v.keeper i None) q ∙ put_same v.keeper i None in cc (a, is))
+
+        was : (j : ℕ) → u.keeper j ≡ Some h → v.keeper j ≡ Some h
+        was j is = sym (put_other v.keeper i None j (not_i j is)) ∙ sym (at j) ∙ is
+
+        unlocked_is : (g : ℕ) → v.lock i ≡ Some g → ⊥
+        unlocked_is g q =
+            let a = inv.keeps i g q in
+            let s : Some g ≡ Some h = sym a ∙ kept in
+            let m = is_me h (v.lock i) (q ∙ s) in
+            let l : is_hart (v.lock i) h ≡ false = ap (λ (y : Held). y.locked) (has_inode h i v O x ov isi).1 ∙ out in
+            absurd (cc (m, l))
+
+        did : Did h v u
+        did =
+            record {
+              hart = lt;
+              inodes = λ j. elim (same_or j i) [
+                | inl q ↦ inr (record {
+                  before = ours_some h (v.keeper j) (ap v.keeper q ∙ kept);
+                  after = ours_none h (u.keeper j) (at j ∙ ap (put v.keeper i None) q ∙ put_same v.keeper i None);
+                  whole = λ f. ap v.disk q ∙ has_disk h i v O x ov isi ∙ blank ∙ sym gone ∙ sym (has_node h i v O x ov isi) ∙ ap v.all.nodes (sym q);
+                  keeps = λ g is. absurd (unlocked_is g (ap v.lock (sym q) ∙ is));
+                })
+                | inr ne ↦ inl (record { lock = refl; keeper = at j ∙ put_other v.keeper i None j ne; disk = refl; node = refl; alone = put_other v.alone i false j ne })
+              ];
+              mine = λ g ne. put_other v.harts h new g ne;
+              rows = λ g ne. refl;
+              size = refl;
+              ids = inv.ids;
+              shop = shop_same h (shop_of v) inv.tied;
+              free = ap (λ (o : Own). o.desk.lender) ov ∙ free;
+              quiet = λ j is f. inv.quiet j h (was j is) f;
+              sort = λ j. inl refl;
+              sorts = inv.sorts;
+              noted = λ n is r. inv.noted h n lt is (shrink n.number r);
+              directory = inv.directory h lt;
+              well = inv.well;
+              counts = λ j. elim (same_or j i) [
+                | inl q ↦ subst (λ (z : ℕ). u.refs z ≡ v.slots z + sum_below hart_count (λ g. (u.harts g).refs z)) (sym q)
+                    (let t = total_changed v.harts h i ((v.harts h).refs i - 1) lt in let c = inv.counts i in let p = put_same v.refs i (v.refs i - 1) in let m = more in let o = one_refs v h i inv lt in omega (arith, t, c, p, m, o))
+                | inr ne ↦ put_other v.refs i (v.refs i - 1) j ne ∙ inv.counts j ∙ ap (λ (z : ℕ). v.slots j + z) (sym (total_same v.harts h i ((v.harts h).refs i - 1) j ne))
+              ];
+              alone = λ j is. elim (same_or j i) [
+                | inl q ↦ absurd (let a : put v.alone i false j ≡ false = ap (put v.alone i false) q ∙ put_same v.alone i false in cc (a, is))
+                | inr ne ↦ let a = inv.alone j (sym (put_other v.alone i false j ne) ∙ is) in record {
+                  hart = a.hart;
+                  kept = at j ∙ put_other v.keeper i None j ne ∙ a.kept;
+                  dead = a.dead;
+                  counts = put_other v.refs i (v.refs i - 1) j ne ∙ a.counts ∙ sym (each_refs v.harts h i ((v.harts h).refs i - 1) a.hart j (inr ne));
+                }
+              ];
+              kept = λ j is. pin j (not_i j is) (inv.kept j h (was j is)).1;
+              held = λ j is. elim (inv.held j h (was j is)) [ inl a ↦ inl a | inr a ↦ inr (put_other v.alone i false j (not_i j is) ∙ a) ];
+              named = λ j is. elim (inv.named h j lt is) [
+                | inl a ↦ inl (grow j (λ q. absurd (let f : own_names O.row O.desk j ≡ true = ap (λ (o : Own). own_names o.row o.desk j) (sym ov) ∙ is in let g : own_names O.row O.desk j ≡ false = ap (own_names O.row O.desk) q ∙ unnamed in cc (f, g))) a)
+                | inr a ↦ absurd (cc (a, pend))
+              ];
+              pending = λ j is. absurd (let p : (u.harts h).pending ≡ (v.harts h).pending = ap (λ (m : Mine). m.pending) (put_same v.harts h new) in cc (p, is, pend));
+              walks = λ y is.
+                  let old : (v.harts h).walk ≡ Some y = sym (ap (λ (m : Mine). m.walk) (put_same v.harts h new)) ∙ is in
+                  elim (inv.walks h y lt old) [ inl a ↦ inl (grow y.at (unwalked y (sym (ap (λ (o : Own). o.mine.walk) ov) ∙ old)) a) | inr a ↦ absurd (cc (a, pend)) ];
+            }
+
+        owned : own_of h u ≡ record O { inodes = put O.inodes i None; mine = record { refs = put O.mine.refs i (O.mine.refs i - 1); walk = O.mine.walk; pending = O.mine.pending } }
+        owned = λ z. record {
+          inodes = own_inodes h i v u O None ov ((λ r. if_kept ((at i ∙ put_same v.keeper i None) r) h (view u h i)))
+              (λ j ne. (at j ∙ put_other v.keeper i None j ne, (λ r. record { disk = v.disk j; node = v.all.nodes j; alone = put_other v.alone i false j ne r; locked = is_hart (v.lock j) h }))) z;
+          mine = (put_same v.harts h new ∙ ap (λ (o : Own). record { refs = put o.mine.refs i (o.mine.refs i - 1); walk = o.mine.walk; pending = o.mine.pending }) ov) z;
+          row = ap (λ (o : Own). o.row) ov z;
+          ninodes = ap (λ (o : Own). o.ninodes) ov z;
+          desk = ap (λ (o : Own). o.desk) ov z;
+        }
+
+-- Free, from the down that found the last reference: emptied, its lock given up, counted down.
+pub s-free-all : {A : Type 0} {h i : ℕ} (s : Option Node) {k : P machine A} {B : List Step → Type 0} {Q : A → List Step → World → Type 0} {n : ℕ} {es : List Step} {w : World} {O : Own}
+    → own_of h w ≡ O → O.desk.lender ≡ None → h < hart_count → 902 < n → O.desk.joined ≡ true → O.inodes i ≡ Some (record { disk = s; node = s; alone = true; locked = true }) → O.mine.refs i ≡ 1 → O.mine.pending ≡ None → own_names O.row O.desk i ≡ false → O.mine.walk ≡ None → ((m : Note) → O.desk.noted ≡ Some m → m.number ≢ i)
+    → ((l : ℕ) (u : World) → l + 903 ≡ n → own_of h u ≡ record O { inodes = put (put (put O.inodes i (Some (record { disk = None; node = None; alone = true; locked = true }))) i (Some (record { disk = None; node = None; alone = true; locked = false }))) i None; mine = record { refs = put O.mine.refs i (O.mine.refs i - 1); walk = O.mine.walk; pending = O.mine.pending } } → Safe machine h B Q k l es u)
+    → Safe machine h B Q (Do (Free i) (λ _. Some (Frees i)) (λ _. Do (Give i) unmarked (λ _. Do (Down i) unmarked (λ _. k)))) n es w
+s-free-all {h = h} {i = i} s {O = O} owns free lt few joined isi one none unnamed still unnoted rest =
+    s-free owns free lt (omega arith) joined isi refl refl unnamed none unnoted (λ l2 u2 q2 own2.
+    s-give-alone own2 free lt (omega arith) (put_same _ i (Some (record { disk = None; node = None; alone = true; locked = true }))) refl refl (λ l3 u3 q3 own3.
+    s-down-freed own3 free lt (omega arith) (put_same _ i (Some (record { disk = None; node = None; alone = true; locked = false }))) refl refl refl refl (omega (arith, one)) none unnamed (λ y is. absurd (cc (is, still))) (λ l4 u4 q4 own4. rest l4 u4 (omega arith) own4)))

@@ -1,0 +1,116 @@
+-- Steps on the open-file table: what they leave, and the steps of the tree that they make.
+use Rattle.std.proofs.Common.{◌≡◌, ◌≢◌, inl, inr, ℕ, ◌+◌, ◌<◌, ◌≤◌, true, false, ◌==◌, ◌||◌, [], Option, Some, None, refl, sym, ◌∙◌, ap, arith}
+use Rattle.plain_tree.specs.declared.node.Node.{Node}
+use Rattle.plain_tree.specs.declared.tree.OpenFile.{OpenFile}
+use Rattle.plain_tree.specs.declared.step.Action.{Action}
+use Rattle.plain_tree.specs.declared.step.Action.TheVariants.{Inherit}
+use Rattle.plain_tree.specs.declared.step.StepAnswer.{StepAnswer}
+use Rattle.plain_tree.specs.Widths.{hart_count, descriptor_count}
+use Rattle.plain_tree.specs.Tree.{Name, Tree, put, any_below, hold_names, fd_names, is_live, is_named, settle, resolve, parent}
+use Rattle.plain_tree.specs.Steps.{path_of, follows_path, with_nodes, makes_node, StepWith}
+use Rattle.tree_laws.specs.WellFormed.{sum_below, IsWellFormed}
+use Rattle.tree_laws.proofs.Maps.{any_none, none_any, or_none}
+use Rattle.inode_machine.specs.Moves.{Takes}
+use Rattle.inode_machine.specs.Moves.Move.{Own as OwnMove}
+use Rattle.inode_machine.specs.World.{Mine, Entry, Desk, World, stage_of}
+use Rattle.inode_machine.specs.Rules.{shop_of, Opens, own_names, row_of, Pinned, IsAlone, Inv}
+use Rattle.inode_machine.proofs.Frame.{Kin, Did}
+use Rattle.inode_machine.proofs.Settling.{settle_nodes, settle_or}
+
+-- What a step on the table needs of its change.
+pub record Sells (h : ℕ) (v : World) (F : ℕ → Option Entry) (D : ℕ → Desk) (S : ℕ → ℕ) (T : Tree) (H : ℕ → Mine) : Type 0 where
+  pub kin : Kin h (shop_of v) (record { files = F; desks = D; ids = v.ids; slots = S; clean = v.clean; tree_fds = T.fds; tree_files = T.files })
+  pub free : (D h).lender ≡ None
+  pub joined : (D h).joined ≡ (v.desks h).joined
+  pub sorts : (k : ℕ) (e : Entry) → F k ≡ Some e → sort_of (v.all.nodes e.file.number) ≡ Some e.sort
+  pub noted : (m : Note) → (D h).noted ≡ Some m → ((v.desks h).noted ≡ Some m) × (0 < (H h).refs m.number → 0 < (v.harts h).refs m.number)
+  pub directory : (D h).directory ≡ left_or (D h).left (T.cwd h)
+  pub well : IsWellFormed T
+  pub nodes : T.nodes ≡ v.all.nodes
+  pub size : T.ninodes ≡ v.all.ninodes
+  pub rows : (g : ℕ) → g ≢ h → row_of T g ≡ row_of v.all g
+  pub ids : (k : ℕ) → v.next ≤ k → T.files k ≡ None
+  pub others : (g : ℕ) → g ≢ h → H g ≡ v.harts g
+  pub refs : (j : ℕ) → (v.harts h).refs j ≤ (H h).refs j
+  pub counts : (j : ℕ) → v.refs j ≡ S j + sum_below hart_count (λ g. (H g).refs j)
+  pub pinned : (j : ℕ) → v.keeper j ≡ Some h → Opens (v.desks h).fds v.files j → Pinned D F H h j
+  pub names : (j : ℕ) → own_names (row_of T h) (D h) j ≡ true → own_names (row_of v.all h) (v.desks h) j ≡ true
+  pub still : (v.harts h).pending ≡ None
+  pub found : (H h).pending ≡ None
+  pub walk : (H h).walk ≡ None
+  pub lone : (i : ℕ) (a : IsAlone v.keeper v.all.nodes v.refs v.harts i) → v.refs i ≡ (H a.hart).refs i
+
+pub sells_did : (h : ℕ) (v : World) (F : ℕ → Option Entry) (D : ℕ → Desk) (S : ℕ → ℕ) (T : Tree) (H : ℕ → Mine) → h < hart_count → Inv v → Sells h v F D S T H → Did h v (record v { files = F; desks = D; slots = S; all = T; harts = H })
+sells_did h v F D S T H lt inv s =
+    record {
+      hart = lt;
+      inodes = λ j. inl (record { lock = refl; keeper = refl; disk = refl; node = ap (λ (f : ℕ → Option Node). f j) s.nodes; alone = refl });
+      mine = s.others;
+      rows = s.rows;
+      size = s.size;
+      ids = s.ids;
+      shop = s.kin;
+      free = s.free;
+      quiet = λ j is f. inv.quiet j h is (sym s.joined ∙ f) ∙ sym (ap (λ (f : ℕ → Option Node). f j) s.nodes);
+      sort = λ j. inl (ap (λ (f : ℕ → Option Node). sort_of (f j)) s.nodes);
+      sorts = λ k e is. ap (λ (f : ℕ → Option Node). sort_of (f e.file.number)) s.nodes ∙ s.sorts k e is;
+      noted = λ m is r. let a = s.noted m is in ap (λ (f : ℕ → Option Node). sort_of (f m.number)) s.nodes ∙ inv.noted h m lt a.0 (elim r [ inl p ↦ inl (a.1 p) | inr p ↦ absurd (let e = s.found in cc (e, p)) ]);
+      directory = s.directory;
+      well = s.well;
+      counts = s.counts;
+      alone = λ j is. let a = inv.alone j is in record { hart = a.hart; kept = a.kept; dead = ap (λ (f : ℕ → Option Node). is_live (f j)) s.nodes ∙ a.dead; counts = s.lone j a };
+      kept = λ j is. elim (inv.kept j h is).1 [ inl o ↦ s.pinned j is o | inr p ↦ inr (let r = s.refs j in omega (arith, r, p)) ];
+      held = λ j is. inv.held j h is;
+      named = λ j is. elim (inv.named h j lt (s.names j is)) [ inl p ↦ inl (let r = s.refs j in omega (arith, r, p)) | inr p ↦ absurd (let e = s.still in cc (e, p)) ];
+      pending = λ j is. absurd (let e = s.found in cc (e, is));
+      walks = λ x is. absurd (let e = s.walk in cc (e, is));
+    }
+
+-- A step of the call's own, made at once.
+pub own_takes : (h : ℕ) (v u : World) (s : Action) (a : StepAnswer) → follows_path s ≡ false → path_of s ≡ [] → (v.harts h).walk ≡ None → ((q : Option (ℕ × Name)) → makes_node (settle v.all) s q ≡ false) → ((g : ℕ) → s ≡ Inherit g → ⊥)
+    → StepWith (settle v.all) h s (resolve (settle v.all) h (path_of s)) (parent (settle v.all) h (path_of s)) a 0 (new_id v) (stage_of u).tree → (stage_of u).walk ≡ put (λ g. (v.harts g).walk) h None
+    → Takes (stage_of v) h (record { move = OwnMove s 0; told = Some (record { act = record { step = s; answer = a }; new = 0 }) }) (stage_of u)
+own_takes h v u s a follows path walk makes inherits step walks = ((new_id v), follows, walk, record {
+  answer = a;
+  deed = refl;
+  step = step;
+  walk = walks;
+  alone = λ ok q. absurd (let m = makes (parent (settle v.all) h (path_of s)) in cc (m, q));
+  idle = λ g l q. absurd (inherits g q);
+})
+
+-- Fewer descriptors, or other open files, of which none names more: the tree settles as it would have.
+abbrev pub with_open : Tree → (ℕ → ℕ → Option ℕ) → (ℕ → Option OpenFile) → Tree
+with_open t X F = record t { fds = X; files = F }
+
+abbrev pub NamesLess : Tree → (ℕ → ℕ → Option ℕ) → (ℕ → Option OpenFile) → Type 0
+NamesLess t X F = (n g i : ℕ) → g < hart_count → i < descriptor_count → ((k j : ℕ) → k < hart_count → j < descriptor_count → fd_names t (t.fds k j) n ≡ false) → fd_names (with_open t X F) (X g i) n ≡ false
+
+named_less : (t : Tree) (X : ℕ → ℕ → Option ℕ) (F : ℕ → Option OpenFile) → NamesLess t X F → (n : ℕ) → is_named t n ≡ false → is_named (with_open t X F) n ≡ false
+unfolding is_named
+named_less t X F less n none = none_any hart_count _ (λ g lg.
+    let a = any_none hart_count (λ h. (t.cwd h == n) || (hold_names (t.holds h) n || any_below descriptor_count (λ i. fd_names t (t.fds h i) n))) none in
+    let one = or_none (t.cwd g == n) (hold_names (t.holds g) n || any_below descriptor_count (λ i. fd_names t (t.fds g i) n)) (a g lg) in
+    let two = or_none (hold_names (t.holds g) n) (any_below descriptor_count (λ i. fd_names t (t.fds g i) n)) one.1 in
+    let three : any_below descriptor_count (λ i. fd_names (with_open t X F) (X g i) n) ≡ false = none_any descriptor_count _ (λ i li. less n g i lg li (λ k j lk lj.
+    let b = or_none (t.cwd k == n) (hold_names (t.holds k) n || any_below descriptor_count (λ i. fd_names t (t.fds k i) n)) (a k lk) in
+    let c = or_none (hold_names (t.holds k) n) (any_below descriptor_count (λ i. fd_names t (t.fds k i) n)) b.1 in
+    any_none descriptor_count (λ i. fd_names t (t.fds k i) n) c.1 j lj)) in
+    rw (one.0, two.0, three) refl)
+
+as_open : (t : Tree) (X : ℕ → ℕ → Option ℕ) (F : ℕ → Option OpenFile) → with_open (settle t) X F ≡ with_nodes (with_open t X F) (settle t).nodes
+unfolding settle
+as_open t X F = refl
+
+pub settle_less : (t : Tree) (X : ℕ → ℕ → Option ℕ) (F : ℕ → Option OpenFile) → NamesLess t X F → settle (with_open t X F) ≡ settle (with_open (settle t) X F)
+settle_less t X F less = sym (ap (λ (z : Tree). settle z) (as_open t X F) ∙ settle_nodes (with_open t X F) (settle t).nodes t.nodes (λ n. elim (settle_or t n) [
+  | inl e ↦ inl e
+  | inr e ↦ inr (e.0, e.1, named_less t X F less n e.2)
+]))
+
+-- what a hart names itself, where what it is opening is nothing
+pub names_less : (r s : Row) (d e : Desk) (n : ℕ) → r.cwd ≡ s.cwd → r.hold ≡ s.hold → d.opening ≡ None → e.opening ≡ None → d.left ≡ e.left → own_names r d n ≡ own_names s e n
+names_less r s d e n cwd hold od oe left =
+    (λ i. (r.cwd == n) || (hold_names r.hold n || (key_names (key_in r.keys (od i)) n || is_at d.left n)))
+    ∙ (λ i. (cwd i == n) || (hold_names (hold i) n || is_at (left i) n))
+    ∙ sym (λ i. (s.cwd == n) || (hold_names s.hold n || (key_names (key_in s.keys (oe i)) n || is_at e.left n)))

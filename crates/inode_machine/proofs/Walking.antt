@@ -1,0 +1,111 @@
+-- A move: what it leaves of the world, and its step of the tree.
+use Rattle.std.proofs.Common.{◌≡◌, ◌⊎◌, inl, inr, ℕ, ◌+◌, ◌<◌, true, false, List, [], ◌∷◌, Option, Some, None, refl, sym, ◌∙◌, ap, subst, arith}
+use Rattle.atomic_programs.specs.Prog.{Do}
+use Rattle.atomic_programs.specs.Logic.{P, own, onto, Fine, Safe, Wp}
+use Rattle.plain_tree.specs.declared.node.Node.{Node}
+use Rattle.plain_tree.specs.declared.step.Action.{Action}
+use Rattle.plain_tree.specs.Widths.{hart_count}
+use Rattle.plain_tree.specs.Tree.{Name, Tree, put, look, is_live, live_directory, elements, start_of, settle}
+use Rattle.plain_tree.specs.Steps.{path_of, follows_path, IsInPlace}
+use Rattle.tree_laws.specs.WellFormed.{is_free_to_find}
+use Rattle.tree_laws.proofs.Maps.{eq_self, put_same, put_other}
+use Rattle.tree_laws.proofs.Sums.{sum_same}
+use Rattle.tree_laws.proofs.Nodes.{live_is, settle_at}
+use Rattle.tree_laws.proofs.Walks.{look_same}
+use Rattle.tree_laws.proofs.Facts.{look_live}
+use Rattle.plain_tree.specs.declared.answer.Cause.{Cause}
+use Rattle.plain_tree.specs.declared.step.StepAnswer.TheVariants.{Failed}
+use Rattle.plain_tree.specs.declared.step.Action.TheVariants.{Inherit}
+use Rattle.plain_tree.specs.Steps.{refusal_with, refused}
+use Rattle.inode_machine.specs.Moves.{Walk, Deed, Stage, Step, Move, Takes, Looks, Begins, Acts, fail}
+use Rattle.inode_machine.specs.Moves.Move.{Begin, Look, Quit}
+use Rattle.inode_machine.specs.World.{Mine, World, Mark, stage_of, Note}
+use Rattle.inode_machine.specs.Marks.{Made, places, with_made, made_by, look_made, looked, begun, acts, found_by}
+use Rattle.inode_machine.specs.Exec.{with_walk, counted_up}
+use Rattle.inode_machine.specs.World.Mark.{Makes}
+use Rattle.inode_machine.specs.World.Op.{Up}
+use Rattle.inode_machine.specs.Rules.{Own, shop_of, Held, row_of, own_of, Found, Pinned, Inv, machine}
+use Rattle.inode_machine.proofs.Frame.{shop_same, put_elim, is_put, Did, Fair, fair, fair_then, has_inode}
+use Rattle.inode_machine.proofs.Rules.{s-owned, acted, has_node, has_disk, MayRefer, Ups, ups, quiet}
+use Rattle.inode_machine.specs.Inodes.{sort_of}
+
+-- A hart's walk, and what it found, change.
+pub after_walk : ℕ → Option Walk → Option ℕ → World → World
+after_walk h k p v = record v { harts = with_walk v.harts h k p }
+
+mine_walk : ℕ → Option Walk → Option ℕ → World → Mine
+mine_walk h k p v = record { refs = (v.harts h).refs; walk = k; pending = p }
+
+pub refs_walk : (harts : ℕ → Mine) (h : ℕ) (k : Option Walk) (p : Option ℕ) (g j : ℕ) → (with_walk harts h k p g).refs j ≡ (harts g).refs j
+refs_walk harts h k p g j = put_elim harts h (record { refs = (harts h).refs; walk = k; pending = p }) g (λ m. m.refs j ≡ (harts g).refs j) (λ e. ap (λ (z : ℕ). (harts z).refs j) (sym e)) (λ q. refl)
+
+pub walk_did : (h : ℕ) (k : Option Walk) (p : Option ℕ) (v : World) → (v.desks h).lender ≡ None → h < hart_count → Inv v → (v.harts h).pending ≡ None → ((m : Note) → (v.desks h).noted ≡ Some m → p ≡ Some m.number → sort_of (v.all.nodes m.number) ≡ m.sort) → ((x : Walk) → k ≡ Some x → (0 < (v.harts h).refs x.at) ⊎ (p ≡ Some x.at))
+    → ((i : ℕ) → p ≡ Some i → Found v.keeper v.all.nodes h i) → Did h v (record v { harts = with_walk v.harts h k p })
+walk_did h k p v free lt inv none notes lands finds =
+    record {
+      hart = lt;
+      inodes = λ j. inl (record { lock = refl; keeper = refl; disk = refl; node = refl; alone = refl });
+      mine = λ g ne. put_other v.harts h new g ne;
+      rows = λ g ne. refl;
+      size = refl;
+      ids = inv.ids;
+      shop = shop_same h (shop_of v) inv.tied;
+      free = free;
+      quiet = λ j is f. inv.quiet j h is f;
+      sort = λ j. inl refl;
+      sorts = inv.sorts;
+      noted = λ m is r. elim r [
+        | inl a ↦ inv.noted h m lt is (inl (let e = refs_walk v.harts h k p h m.number in omega (arith, e, a)))
+        | inr a ↦ notes m is (sym (ap (λ (x : Mine). x.pending) (put_same v.harts h new)) ∙ a)
+      ];
+      directory = inv.directory h lt;
+      well = inv.well;
+      counts = λ j. inv.counts j ∙ ap (λ (z : ℕ). v.slots j + z) (sym (sum_same hart_count (λ g. (v.harts g).refs j) (λ g. (with_walk v.harts h k p g).refs j) (λ g l. refs_walk v.harts h k p g j)));
+      alone = λ j is. let a = inv.alone j is in record { hart = a.hart; kept = a.kept; dead = a.dead; counts = a.counts ∙ sym (refs_walk v.harts h k p a.hart j) };
+      kept = λ j is. pin j (inv.kept j h is).1;
+      held = λ j is. inv.held j h is;
+      named = λ j is. inl (elim (inv.named h j lt is) [ inl a ↦ grow j a | inr a ↦ absurd (cc (a, none)) ]);
+      pending = λ j is. finds j (sym (ap (λ (m : Mine). m.pending) (put_same v.harts h new)) ∙ is);
+      walks = λ x is. elim (lands x (sym (ap (λ (m : Mine). m.walk) (put_same v.harts h new)) ∙ is)) [
+        | inl a ↦ inl (grow x.at a)
+        | inr a ↦ inr (ap (λ (m : Mine). m.pending) (put_same v.harts h new) ∙ a)
+      ];
+    }
+  where
+    new : Mine
+    new = record { refs = (v.harts h).refs; walk = k; pending = p }
+
+    grow : (j : ℕ) → 0 < (v.harts h).refs j → 0 < (with_walk v.harts h k p h).refs j
+    grow j a = let r = refs_walk v.harts h k p h j in omega (arith, r, a)
+
+    pin : (j : ℕ) → Pinned v.desks v.files v.harts h j → Pinned v.desks v.files (with_walk v.harts h k p) h j
+    pin j (inl a) = inl a
+    pin j (inr a) = inr (grow j a)
+
+pub stage_walk : (h : ℕ) (k : Option Walk) (p : Option ℕ) (v : World) → stage_of (record v { harts = with_walk v.harts h k p }) ≡ record { tree = settle v.all; walk = put (λ g. (v.harts g).walk) h k }
+stage_walk h k p v = λ r. record {
+  tree = settle v.all;
+  walk = is_put (λ g. (v.harts g).walk) (λ g. (with_walk v.harts h k p g).walk) h k (ap (λ (m : Mine). m.walk) (put_same v.harts h new)) (λ g ne. ap (λ (m : Mine). m.walk) (put_other v.harts h new g ne)) r;
+}
+  where
+    new : Mine
+    new = record { refs = (v.harts h).refs; walk = k; pending = p }
+
+pub own_walk : (h : ℕ) (k : Option Walk) (p : Option ℕ) (v : World) (O : Own) → own_of h v ≡ O → own_of h (record v { harts = with_walk v.harts h k p }) ≡ record O { mine = record { refs = O.mine.refs; walk = k; pending = p } }
+own_walk h k p v O ov = λ z. record {
+  inodes = ap (λ (o : Own). o.inodes) ov z;
+  mine = (put_same v.harts h (record { refs = (v.harts h).refs; walk = k; pending = p }) ∙ ap (λ (o : Own). record { refs = o.mine.refs; walk = k; pending = p }) ov) z;
+  row = ap (λ (o : Own). o.row) ov z;
+  ninodes = ap (λ (o : Own). o.ninodes) ov z;
+  desk = ap (λ (o : Own). o.desk) ov z;
+}
+
+-- The move as the machine makes it is this one.
+pub moves_good : {A : Type 0} (h more n : ℕ) (B : List Step → Type 0) (Q : A → List Step → World → Type 0) (es : List Step) (v u : World) (mv : Move) (p : P machine A) (made x : Made)
+    → made ≡ x → Fair h v (with_made h x u) → Takes (stage_of v) h (record { move = mv; told = x.told }) (stage_of (with_made h x u)) → B (record { move = mv; told = x.told } ∷ es) → more < n
+    → ((l : ℕ) → l + (more + 1) ≡ n → Wp machine h B Q p l (record { move = mv; told = x.told } ∷ es) (with_made h x u))
+    → Fine machine h ((h, record { move = mv; told = made.told }) ∷ []) more n B es v (with_made h made u) (λ l. Wp machine h B Q p l (onto (own h ((h, record { move = mv; told = made.told }) ∷ [])) es) (with_made h made u))
+moves_good {A} h more n B Q es v u mv p made x is f takes b pos next =
+    subst (λ (z : Made). Fine machine h ((h, record { move = mv; told = z.told }) ∷ []) more n B es v (with_made h z u) (λ l. Wp machine h B Q p l (onto (own h ((h, record { move = mv; told = z.told }) ∷ [])) es) (with_made h z u))) (sym is)
+    (acted f takes b pos (λ l q. rw (eq_self h) (next l q)))
+
