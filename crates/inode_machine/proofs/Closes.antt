@@ -17,16 +17,18 @@ use Rattle.inode_machine.specs.Moves.{Walk, Stage, Step, Takes}
 use Rattle.inode_machine.specs.Moves.Move.{Own as OwnMove}
 use Rattle.inode_machine.specs.Exec.{is_at, file_count, with_refs, with_walk, slot_at, entry_at, close_at, close_if, close_less, close_last}
 use Rattle.inode_machine.specs.World.{Mine, Entry, Desk, World, stage_of}
-use Rattle.inode_machine.specs.Marks.{places, with_mark, made_by}
+use Rattle.inode_machine.specs.Marks.{places, with_mark, made_by, go, new_id}
 use Rattle.inode_machine.specs.World.Op.{Shut}
-use Rattle.inode_machine.specs.Rules.{Own, shop_of, number_is, users, own_names, Row, key_at, key_of, row_of, own_of, IsAlone, Inv, machine}
-use Rattle.inode_machine.proofs.Frame.{put_elim, Fair, fair, has_none}
-use Rattle.inode_machine.proofs.Rules.{s-owned, my_refs, each_refs, here_refs, walks_refs, total_same, total_changed, one_refs, opens_slots}
+use Rattle.inode_machine.specs.Rules.{Own, shop_of, number_is, users, own_names, Row, key_at, key_of, row_of, own_of, IsAlone, Inv, machine, left_or, nothing}
+use Rattle.inode_machine.proofs.Frame.{put_elim, Fair, fair, has_none, one_refs}
+use Rattle.inode_machine.proofs.Rules.{s-owned, my_refs, each_refs, here_refs, walks_refs, total_same, total_changed, opens_slots, locks_none}
 use Rattle.inode_machine.proofs.Rows.{below_is}
 use Rattle.inode_machine.proofs.Walking.{refs_walk, stage_walk, moves_good}
 use Rattle.inode_machine.proofs.Tables.{with_fd, users_put, users_fd, Changes, changes, changed_shop, tied_closed, kept_open}
-use Rattle.inode_machine.proofs.Shops.{sells_did, own_takes, with_open, NamesLess, settle_less}
-use Rattle.inode_machine.proofs.Dups.{Behind, behind, behind_none, file_settled, Refused, fails, refused_good, renewed, renewed_slots, renewed_at, SameRow, SameDesk, less_is, not_one}
+use Rattle.inode_machine.proofs.Shops.{sells_did, own_takes, with_open, NamesLess, settle_less, names_less}
+use Rattle.inode_machine.proofs.Dups.{Behind, behind, behind_none, file_settled, Refused, fails, refused_good, renewed, renewed_slots, renewed_at, SameRow, SameDesk, less_is, not_one, renewed_sorts, same_desk}
+use Rattle.inode_machine.specs.Inodes.{sort_of}
+use Rattle.inode_machine.specs.Parts.{own_step}
 
 -- The tree without the descriptor.
 

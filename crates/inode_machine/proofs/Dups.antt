@@ -10,7 +10,7 @@ use Rattle.plain_tree.specs.declared.step.Action.{Action}
 use Rattle.plain_tree.specs.declared.step.Action.TheVariants.{Dup, Inherit}
 use Rattle.plain_tree.specs.declared.step.StepAnswer.TheVariants.{Fd as NewFd, Failed}
 use Rattle.plain_tree.specs.Widths.{hart_count, descriptor_count}
-use Rattle.plain_tree.specs.Tree.{Name, Tree, put, fd_names, and_then, settle, resolve, parent}
+use Rattle.plain_tree.specs.Tree.{Name, Tree, put, fd_names, and_then, settle, resolve, parent, hold_names}
 use Rattle.plain_tree.specs.Steps.{is_nothing, path_of, follows_path, file_at, lowest, has_room, refusal_with, effect_with, answer_with, makes_node, place_of, refused, IsInPlace}
 use Rattle.tree_laws.specs.WellFormed.{sum_below, one_if, IsWellFormed}
 use Rattle.tree_laws.proofs.Maps.{eq_self, eq_not, same_or, put_same, put_other}
@@ -18,19 +18,20 @@ use Rattle.tree_laws.proofs.Sums.{sum_same, one_no, one_yes}
 use Rattle.tree_laws.proofs.Opened.{well_dup}
 use Rattle.inode_machine.specs.Moves.{Stage, Step}
 use Rattle.inode_machine.specs.Moves.Move.{Own as OwnMove}
-use Rattle.inode_machine.specs.Exec.{is_at, file_count, with_walk, slot_at, entry_at, doubled, double_at, double_if}
-use Rattle.inode_machine.specs.Marks.{marked, go, places, with_mark, with_made, made_by, found_by}
-use Rattle.inode_machine.specs.World.{Mine, Entry, Desk, World, Op, Answer, Mark}
+use Rattle.inode_machine.specs.Exec.{is_at, file_count, with_walk, slot_at, entry_at, doubled, double_at, double_if, with_joined}
+use Rattle.inode_machine.specs.Marks.{go, places, with_mark, with_made, made_by, found_by, new_id, spoiled}
+use Rattle.inode_machine.specs.World.{Mine, Entry, Desk, World, Op, Answer, Mark, Note}
 use Rattle.inode_machine.specs.Descriptors.{dups}
 use Rattle.inode_machine.specs.World.Mark.{Makes}
-use Rattle.inode_machine.specs.World.Op.{Double, Join, Leave}
-use Rattle.inode_machine.specs.Rules.{Own, Key, key_of, shop_of, Shop, Tied, Opens, id_at, number_is, users, own_names, Row, key_at, row_of, own_of, Inv, machine}
-use Rattle.inode_machine.proofs.Frame.{put_elim, Fair, fair}
-use Rattle.inode_machine.proofs.Rules.{s-owned, quiet}
+use Rattle.inode_machine.specs.World.Op.{Double, Join, Leave, Say}
+use Rattle.inode_machine.specs.Rules.{Own, Key, key_of, shop_of, Shop, Tied, Opens, id_at, number_is, users, own_names, Row, key_at, row_of, own_of, Inv, machine, Held, key_in, key_names, left_or, view}
+use Rattle.inode_machine.proofs.Frame.{put_elim, Fair, fair, fair_same, kept_here}
+use Rattle.inode_machine.proofs.Rules.{s-owned, quiet, UnlocksAll, locks_none}
 use Rattle.inode_machine.proofs.Rows.{below_is}
 use Rattle.inode_machine.proofs.Walking.{refs_walk, walk_did, own_walk, stage_walk, moves_good}
 use Rattle.inode_machine.proofs.Tables.{with_fd, users_put, lowest_same, lowest_free, changes}
-use Rattle.inode_machine.proofs.Shops.{Sells, sells_did, own_takes, with_open, NamesLess, settle_less}
+use Rattle.inode_machine.proofs.Shops.{Sells, sells_did, own_takes, with_open, NamesLess, settle_less, names_less}
+use Rattle.inode_machine.specs.Inodes.{Sort, sort_of}
 
 -- What stands behind a descriptor.
 pub record Behind (h fd s : ℕ) (e : Entry) (v : World) : Type 0 where
@@ -222,9 +223,9 @@ s-leave {h = h} {O = O} owns free lt pos none joined whole rest = s-owned owns f
 
 -- The reply is given.
 pub s-say : {A : Type 0} {h : ℕ} {k : Unit {0} → P machine A} {B : List Step → Type 0} {Q : A → List Step → World → Type 0} {n : ℕ} {es : List Step} {w : World} {O : Own}
-    → own_of h w ≡ O → O.desk.lender ≡ None → h < hart_count → 0 < n → UnlocksAll O → O.desk.joined ≡ false → ((l : ℕ) (u : World) → l + 1 ≡ n → own_of h u ≡ O → Safe machine h B Q (k tt) l es u)
+    → own_of h w ≡ O → O.desk.lender ≡ None → h < hart_count → 0 < n → UnlocksAll O → O.desk.joined ≡ false → ((l : ℕ) (u : World) → l + 1 ≡ n → (O.desk.full ≡ true → u.clean ≡ false) → own_of h u ≡ O → Safe machine h B Q (k tt) l es u)
     → Safe machine h B Q (Do Say unmarked k) n es w
-s-say {h = h} {O = O} owns free lt pos none out rest = s-owned owns free pos (λ v inv ov. ((locks_none h v O inv ov none, ap (λ (o : Own). o.desk.joined) ov ∙ out), (λ _ _. quiet (fair_same inv) refl pos (λ l q. (rest l v q ov).wp))))
+s-say {h = h} {O = O} owns free lt pos none out rest = s-owned owns free pos (λ v inv ov. ((locks_none h v O inv ov none, ap (λ (o : Own). o.desk.joined) ov ∙ out), (λ _ _. quiet (fair_same inv) refl pos (λ l q. (rest l v q (λ f. inv.tied.spoiled h (ap (λ (o : Own). o.desk.full) ov ∙ f)) ov).wp))))
 
 -- A slot's entry changes, but not its open file.
 pub record Renews (s : Shop) (k : ℕ) (e f : Entry) (D : ℕ → Desk) : Type 0 where
@@ -509,3 +510,10 @@ s-double {A} {h} fd {k} {B} {Q} {n} {es} {w} {O} owns free lt pos walks none idl
         let b = behind h fd s v inv lt (opening_none v ov) q in
         subst (λ (z : Option Entry). Good machine (Option (Option ℕ)) h (λ a. places h (Double fd) a (dups fd a) v) 0 n B es v ⊥ (with_mark h (dups fd) (double_at h v (Some s) z)) (λ l a u. Wp machine h B Q (k a) l (onto (own h (places h (Double fd) a (dups fd a) v)) es) u)) (sym b.1.at)
         (rest v inv ov s b.0 b.1 (has_room (v.desks h).fds) refl)
+
+-- A key of an open file.
+abbrev pub key_is : OpenFile → Key
+key_is f = record { number = f.number; readable = f.readable; writable = f.writable }
+
+pub key_from : (t : Tree) (h fd id : ℕ) (f : OpenFile) → h < hart_count → fd < descriptor_count → t.fds h fd ≡ Some id → t.files id ≡ Some f → (row_of t h).keys fd ≡ Some (key_is f)
+key_from t h fd id f lt low e q = rw (below_is h hart_count lt, below_is fd descriptor_count low) (ap (λ (z : Option ℕ). key_at t.files z) e ∙ ap (λ (z : Option OpenFile). key_of z) q)

@@ -7,3 +7,11 @@ pub mod Settling
 pub mod Counting
 pub mod Walking
 pub mod Freeing
+pub mod Shops
+pub mod Dups
+pub mod Closes
+pub mod Stats
+pub mod Readings
+pub mod Drops
+pub mod Rest
+pub mod Calls

@@ -12,10 +12,14 @@ use Rattle.tree_laws.specs.WellFormed.{sum_below, IsWellFormed}
 use Rattle.tree_laws.proofs.Maps.{any_none, none_any, or_none}
 use Rattle.inode_machine.specs.Moves.{Takes}
 use Rattle.inode_machine.specs.Moves.Move.{Own as OwnMove}
-use Rattle.inode_machine.specs.World.{Mine, Entry, Desk, World, stage_of}
-use Rattle.inode_machine.specs.Rules.{shop_of, Opens, own_names, row_of, Pinned, IsAlone, Inv}
+use Rattle.inode_machine.specs.World.{Mine, Entry, Desk, World, stage_of, Note}
+use Rattle.inode_machine.specs.Rules.{shop_of, Opens, own_names, row_of, Pinned, IsAlone, Inv, Row, key_in, key_names, left_or}
 use Rattle.inode_machine.proofs.Frame.{Kin, Did}
 use Rattle.inode_machine.proofs.Settling.{settle_nodes, settle_or}
+use Rattle.inode_machine.proofs.Rules.{quiet}
+use Rattle.inode_machine.specs.Marks.{new_id}
+use Rattle.inode_machine.specs.Inodes.{sort_of}
+use Rattle.inode_machine.specs.Exec.{is_at}
 
 -- What a step on the table needs of its change.
 pub record Sells (h : ℕ) (v : World) (F : ℕ → Option Entry) (D : ℕ → Desk) (S : ℕ → ℕ) (T : Tree) (H : ℕ → Mine) : Type 0 where

@@ -1,4 +1,19 @@
-//! A prototype: the block machine's world and the moves of whole inodes.
+//! The machine of whole inodes, and the eleven calls as programs over it: each operation is one step of a hart, and each
+//! call is right whatever the other harts do. The functions do nothing: each carries a law.
 #![tactic(auto)]
 
-pub fn nothing() {}
+ghost use Rattle.inode_machine.specs.Theory.{DescriptorCallsAreExplained, WorldsRest};
+
+/// For every list of events of any harts, the replies of dup, close, fstat and read are those of one list of tree steps,
+/// each placed between its call's start and return, as long as no step found no room. At every moment each hart's next
+/// operation may be made, an operation waits only for a lock that another hart has, no call takes more steps than its
+/// bound, and a hart without a call has no lock, no transaction, and the references of its descriptors and current
+/// directory alone.
+pub fn descriptor_calls_are_explained()
+    ensures { DescriptorCallsAreExplained }
+{}
+
+/// There are such beginnings: a well-formed tree without open files, orphans included, with every hart at rest.
+pub fn worlds_rest()
+    ensures { WorldsRest }
+{}

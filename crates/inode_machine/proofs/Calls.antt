@@ -1,0 +1,248 @@
+-- The calls on descriptors are right, whatever the other harts do.
+use Rattle.std.proofs.Common.{◌≡◌, ◌≢◌, ◌⊎◌, inl, inr, ℕ, ◌+◌, ◌-◌, ◌<◌, ◌≤◌, Bool, true, false, ◌&&◌, ◌==◌, nat_lt, List, [], ◌∷◌, ◌++◌, length, Option, Some, None, refl, sym, ◌∙◌, ap, subst, arith}
+use Rattle.std.proofs.lemmas.Bool.Decides.{nat_tests}
+use Rattle.atomic_programs.specs.Prog.{Do, Ret, unmarked}
+use Rattle.atomic_programs.specs.Logic.{P, Wp, Safe, Laws}
+use Rattle.atomic_programs.specs.Calls.{Began, Begins, Begun, Ends, IsBeginning, Right, Lawful, Event, AllHonest, run, fresh}
+use Rattle.atomic_programs.specs.Explained.{Explained}
+use Rattle.atomic_programs.proofs.Explains.{explains}
+use Rattle.plain_tree.specs.declared.answer.Cause.{Cause}
+use Rattle.plain_tree.specs.declared.answer.Cause.TheVariants.{BadDescriptor}
+use Rattle.plain_tree.specs.declared.answer.Full.TheVariants.{Descriptors as NoDescriptors}
+use Rattle.plain_tree.specs.declared.answer.Answer.TheVariants as answers
+use Rattle.plain_tree.specs.declared.answer.Reply.{Reply}
+use Rattle.plain_tree.specs.declared.call.Call.{Call}
+use Rattle.plain_tree.specs.declared.call.Call.TheVariants as calls
+use Rattle.plain_tree.specs.declared.step.Action.TheVariants as steps
+use Rattle.plain_tree.specs.declared.node.Node.{Node}
+use Rattle.plain_tree.specs.Widths.{hart_count}
+use Rattle.plain_tree.specs.Tree.{put}
+use Rattle.plain_tree.specs.Steps.{stat_of}
+use Rattle.plain_tree.specs.Calls.{next_of, reply_of, had_room}
+use Rattle.tree_laws.specs.WellFormed.{one_if}
+use Rattle.tree_laws.proofs.Maps.{and_true, put_same, put_other, same_or}
+use Rattle.inode_machine.specs.Moves.{Step, Written}
+use Rattle.inode_machine.specs.World.{Desk, World, Outside, stage_of}
+use Rattle.inode_machine.specs.Inodes.{Face, face_or, face_of}
+use Rattle.inode_machine.specs.Exec.{is_nothing, locked}
+use Rattle.inode_machine.specs.Rules.{Held, Row, Own, Others, Rests, own_of, nothing, Idle, Inv, machine}
+use Rattle.inode_machine.specs.Parts.{say}
+use Rattle.inode_machine.specs.Parts as parts
+use Rattle.inode_machine.specs.Descriptors.{dup_program, dup_on, close_program, close_on, stat_program, stat_on, stat_reply, read_program, read_on, read_reply}
+use Rattle.inode_machine.specs.Programs.{program, limit, rest_cost}
+use Rattle.inode_machine.specs.Theory.{descriptor_calls, on_descriptors, begin_if, Refusal, DescriptorCallsAreExplained}
+use Rattle.inode_machine.proofs.Rules.{UnlocksAll, locked_held}
+use Rattle.inode_machine.proofs.Counting.{s-give}
+use Rattle.inode_machine.proofs.Dups.{fails, dupped, s-double, s-join, s-leave, s-say, SameRow, SameDesk}
+use Rattle.inode_machine.proofs.Closes.{shut_step, s-shut}
+use Rattle.inode_machine.proofs.Stats.{stat_step, stat_face, s-stat-file}
+use Rattle.inode_machine.proofs.Readings.{read_step, s-read-file}
+use Rattle.inode_machine.proofs.Drops.{s-drop}
+use Rattle.inode_machine.proofs.Rest.{rests}
+
+-- The machine's laws.
+
+pub laws : Laws machine
+laws =
+    record {
+      same = λ h w. record { none = refl; same = λ f. refl; rests = λ i. i; clean = λ c. c };
+      trans = λ h u v w xs ys o p. record {
+        none = (λ i. o.none i ++ p.none i);
+        same = λ f. p.same (ap (λ (z : Own). z.desk.lender) (o.same f) ∙ f) ∙ o.same f;
+        rests = λ i. p.rests (o.rests i);
+        clean = λ c. o.clean (p.clean c);
+      };
+      idle_none = λ h v w xs o i. o.none;
+      idle_stays = λ h v w xs o i. o.rests i;
+      clean_before = λ h v w xs o. o.clean;
+    }
+
+-- What a hart has at a call's end.
+
+pub idle_as : (h : ℕ) (u : World) (O : Own) → own_of h u ≡ O → Rests O → Idle h u
+idle_as h u O e r = subst (λ (o : Own). Rests o) (sym e) r
+
+abbrev pub ended : Own → Row → Desk → Own
+ended O r d = record O { row = r; desk = d; mine = record { refs = O.mine.refs; walk = None; pending = None } }
+
+pub rests_as : (O : Own) (r : Row) (d : Desk) → Rests O → r.hold ≡ O.row.hold → d.directory ≡ O.desk.directory → d.hand ≡ O.desk.hand → d.joined ≡ O.desk.joined → d.lent ≡ O.desk.lent → d.opening ≡ O.desk.opening → d.left ≡ O.desk.left → d.noted ≡ O.desk.noted → Rests (ended O r d)
+rests_as O r d i hold directory hand joined lent opening left noted = record {
+  inodes = i.inodes;
+  refs = λ n. i.refs n ∙ (λ z. one_if (sym directory z == n));
+  walk = refl;
+  pending = refl;
+  hold = hold ∙ i.hold;
+  hand = hand ∙ i.hand;
+  joined = joined ∙ i.joined;
+  lent = lent ∙ i.lent;
+  opening = opening ∙ i.opening;
+  left = left ∙ i.left;
+  noted = noted ∙ i.noted;
+}
+
+rests_same : (O : Own) (r : Row) (d : Desk) → Rests O → SameRow r O.row → SameDesk d O.desk → Rests (ended O r d)
+rests_same O r d i row desk = rests_as O r d i row.hold desk.directory desk.hand desk.joined desk.lent desk.opening desk.left desk.noted
+
+-- a resting hart has no lock
+pub rests_free : (O : Own) (I : ℕ → Option Held) → I ≡ nothing → (i : ℕ) (x : Held) → I i ≡ Some x → x.locked ≡ false
+rests_free O I e i x is = absurd (let a = ap (λ (f : ℕ → Option Held). f i) e in cc (a, is))
+
+pub none_left : (I : ℕ → Option Held) (i : ℕ) (x : Option Held) → I ≡ nothing → put (put I i x) i None ≡ nothing
+none_left I i x e = λ r j. each j r
+  where
+    each : (j : ℕ) → put (put I i x) i None j ≡ None
+    each j = elim (same_or j i) [
+      | inl q ↦ ap (put (put I i x) i None) q ∙ put_same (put I i x) i None
+      | inr ne ↦ put_other (put I i x) i None j ne ∙ put_other I i x j ne ∙ ap (λ (f : ℕ → Option Held). f j) e
+    ]
+
+-- Dup.
+
+dup_failed : (fd : ℕ) → Written (calls.Dup fd) (fails (steps.Dup fd) BadDescriptor ∷ []) (parts.failed (calls.Dup fd) BadDescriptor)
+unfolding next_of reply_of had_room
+dup_failed fd = (refl, (refl, refl, refl))
+
+dup_written : (fd f : ℕ) → Written (calls.Dup fd) (dupped fd f ∷ []) (record { answer = answers.Fd f; call = calls.Dup fd })
+unfolding next_of reply_of had_room
+dup_written fd f = (refl, (refl, refl, refl))
+
+pub dup_ok : (h fd : ℕ) (w : World) → (w.desks h).lender ≡ None → h < hart_count → Idle h w → Safe machine h (Begun descriptor_calls (calls.Dup fd)) (Ends descriptor_calls h (calls.Dup fd)) (dup_program fd) rest_cost [] w
+dup_ok h fd w free lt idle =
+    s-double fd refl free lt (omega arith) idle.walk idle.pending idle.opening ([], parts.failed (calls.Dup fd) BadDescriptor, dup_failed fd) (λ f. ([], record { answer = answers.Fd f; call = calls.Dup fd }, dup_written fd f))
+    (λ l u q own. record { wp = (λ c. dup_failed fd, idle_as h u _ own (rests_as (own_of h w) (own_of h w).row (own_of h w).desk idle refl refl refl refl refl refl refl refl)) })
+    (λ l u q bad own. s-say own free lt (omega (arith, q)) (rests_free (own_of h w) (own_of h w).inodes idle.inodes) idle.joined
+    (λ l2 u2 q2 spoilt own2. record { wp = (λ c. absurd (let a = spoilt refl in cc (a, c)), idle_as h u2 _ own2 (record { inodes = idle.inodes; refs = idle.refs; walk = idle.walk; pending = idle.pending; hold = idle.hold; hand = idle.hand; joined = idle.joined; lent = idle.lent; opening = idle.opening; left = idle.left; noted = idle.noted })) }))
+    (λ l f r d u q row desk own. s-say own (desk.lender ∙ free) lt (omega (arith, q)) (rests_free (own_of h w) (own_of h w).inodes idle.inodes) (desk.joined ∙ idle.joined)
+    (λ l2 u2 q2 _ own2. record { wp = (λ c. dup_written fd f, idle_as h u2 _ own2 (rests_same (own_of h w) r d idle row desk)) }))
+
+-- Close.
+
+close_failed : (fd : ℕ) → Written (calls.Close fd) (fails (steps.Close fd) BadDescriptor ∷ []) (parts.failed (calls.Close fd) BadDescriptor)
+unfolding next_of reply_of had_room
+close_failed fd = (refl, (refl, refl, refl))
+
+close_written : (fd : ℕ) → Written (calls.Close fd) (shut_step fd ∷ []) (parts.done (calls.Close fd))
+unfolding next_of reply_of had_room
+close_written fd = (refl, (refl, refl, refl))
+
+-- one up and one down
+refs_back : (r : ℕ → ℕ) (m : ℕ) → put (put r m (r m + 1)) m (put r m (r m + 1) m - 1) ≡ r
+refs_back r m = λ z n. each n z
+  where
+    each : (n : ℕ) → put (put r m (r m + 1)) m (put r m (r m + 1) m - 1) n ≡ r n
+    each n = elim (same_or n m) [
+      | inl q ↦ ap (put (put r m (r m + 1)) m (put r m (r m + 1) m - 1)) q ∙ put_same (put r m (r m + 1)) m (put r m (r m + 1) m - 1) ∙ (let a = put_same r m (r m + 1) in let b : put r m (r m + 1) m - 1 ≡ r m = omega (arith, a) in b) ∙ ap r (sym q)
+      | inr ne ↦ put_other (put r m (r m + 1)) m (put r m (r m + 1) m - 1) n ne ∙ put_other r m (r m + 1) n ne
+    ]
+
+pub close_ok : (h fd : ℕ) (w : World) → (w.desks h).lender ≡ None → h < hart_count → Idle h w → Safe machine h (Begun descriptor_calls (calls.Close fd)) (Ends descriptor_calls h (calls.Close fd)) (close_program fd) rest_cost [] w
+close_ok h fd w free lt idle =
+    s-shut fd refl free lt (omega arith) idle.walk idle.pending idle.opening (λ j. ap (λ (f : ℕ → Option Held). f j) idle.inodes) idle.noted idle.lent ([], parts.failed (calls.Close fd) BadDescriptor, close_failed fd) ([], parts.done (calls.Close fd), close_written fd)
+    (λ l u q own. record { wp = (λ c. close_failed fd, idle_as h u _ own (rests_as (own_of h w) (own_of h w).row (own_of h w).desk idle refl refl refl refl refl refl refl refl)) })
+    (λ l r d u q row desk own. s-say own (desk.lender ∙ free) lt (omega (arith, q)) none (desk.joined ∙ idle.joined)
+    (λ l2 u2 q2 _ own2. record { wp = (λ c. close_written fd, idle_as h u2 _ own2 (rests_same (own_of h w) r d idle row desk)) }))
+    (λ l n r d u q row desk named own.
+    let more : put (w.harts h).refs n ((w.harts h).refs n + 1) n ≡ (w.harts h).refs n + 1 = put_same (w.harts h).refs n ((w.harts h).refs n + 1) in
+    let unlent : d.lender ≡ None = desk.lender ∙ free in
+    s-join own unlent lt (omega (arith, q)) none (desk.joined ∙ idle.joined) (λ l2 u2 q2 own2.
+    s-drop n own2 unlent lt (omega (arith, q, q2)) refl (ap (λ (f : ℕ → Option Held). f n) idle.inodes) (omega (arith, more)) refl refl (elim named [ inl p ↦ inl (omega (arith, more, p)) | inr p ↦ inr p ]) (λ m p. absurd (let a = desk.noted in let b = idle.noted in cc (a, b, p))) (λ l3 u3 q3 own3.
+    s-leave own3 unlent lt (omega (arith, q, q2, q3)) none refl (λ i x is. absurd (let a = ap (λ (f : ℕ → Option Held). f i) idle.inodes in cc (a, is))) (λ l4 u4 q4 own4.
+    s-say own4 unlent lt (omega (arith, q, q2, q3, q4)) none refl (λ l5 u5 q5 _ own5.
+    record { wp = (λ c. close_written fd, idle_as h u5 _ own5 (subst (λ (f : ℕ → ℕ). Rests (record (own_of h w) { row = r; desk = record d { joined = false; noted = None }; mine = record { refs = f; walk = None; pending = None } })) (sym (refs_back (w.harts h).refs n))
+    (rests_as (own_of h w) r (record d { joined = false; noted = None }) idle row.hold desk.directory desk.hand (sym idle.joined) desk.lent desk.opening desk.left (sym idle.noted)))) })))))
+  where
+    none : (i : ℕ) (x : Held) → (own_of h w).inodes i ≡ Some x → x.locked ≡ false
+    none = rests_free (own_of h w) (own_of h w).inodes idle.inodes
+
+-- Fstat.
+
+stat_failed : (fd : ℕ) → Written (calls.Fstat fd) (fails (steps.Fstat fd) BadDescriptor ∷ []) (parts.failed (calls.Fstat fd) BadDescriptor)
+unfolding next_of reply_of had_room
+stat_failed fd = (refl, (refl, refl, refl))
+
+stat_written : (fd i : ℕ) (v : Node) → Written (calls.Fstat fd) (stat_step fd i v ∷ []) (stat_reply fd i (face_or (face_of (Some v))))
+unfolding next_of reply_of had_room
+stat_written fd i v = (refl, (refl, (λ j. record { answer = answers.Stat (stat_face i v j); call = calls.Fstat fd }), refl))
+
+pub stat_ok : (h fd : ℕ) (w : World) → (w.desks h).lender ≡ None → h < hart_count → Idle h w → Safe machine h (Begun descriptor_calls (calls.Fstat fd)) (Ends descriptor_calls h (calls.Fstat fd)) (stat_program fd) rest_cost [] w
+stat_ok h fd w free lt idle =
+    s-stat-file fd refl free lt (omega arith) idle.walk idle.pending idle.opening (λ j. ap (λ (f : ℕ → Option Held). f j) idle.inodes) ([], parts.failed (calls.Fstat fd) BadDescriptor, stat_failed fd) (λ i v. ([], stat_reply fd i (face_or (face_of (Some v))), stat_written fd i v))
+    (λ l u q own. record { wp = (λ c. stat_failed fd, idle_as h u _ own (rests_as (own_of h w) (own_of h w).row (own_of h w).desk idle refl refl refl refl refl refl refl refl)) })
+    (λ l i v u q own.
+    s-give own free lt (omega (arith, q)) (put_same (own_of h w).inodes i (Some (locked_held (Some v)))) refl refl refl refl (λ l2 u2 q2 own2.
+    s-say own2 free lt (omega (arith, q, q2)) (rests_free (own_of h w) _ (none_left (own_of h w).inodes i (Some (locked_held (Some v))) idle.inodes)) idle.joined (λ l3 u3 q3 _ own3.
+    record { wp = (λ c. stat_written fd i v, idle_as h u3 _ own3 (subst (λ (f : ℕ → Option Held). Rests (record (own_of h w) { inodes = f; mine = record { refs = (own_of h w).mine.refs; walk = None; pending = None } })) (idle.inodes ∙ sym (none_left (own_of h w).inodes i (Some (locked_held (Some v))) idle.inodes))
+    (rests_as (own_of h w) (own_of h w).row (own_of h w).desk idle refl refl refl refl refl refl refl refl))) })))
+
+-- Read.
+
+read_failed : (fd : ℕ) (buffer : List ℕ) (c : Cause) → Written (calls.Read fd buffer) (fails (steps.Read fd (length buffer)) c ∷ []) (parts.failed (calls.Read fd buffer) c)
+unfolding next_of reply_of had_room
+read_failed fd buffer c = (refl, (refl, refl, refl))
+
+read_written : (fd : ℕ) (buffer b : List ℕ) → Written (calls.Read fd buffer) (read_step fd (length buffer) b ∷ []) (read_reply fd buffer b)
+unfolding next_of reply_of had_room
+read_written fd buffer b = (refl, (refl, refl, refl))
+
+pub read_ok : (h fd : ℕ) (buffer : List ℕ) (w : World) → (w.desks h).lender ≡ None → h < hart_count → Idle h w → Safe machine h (Begun descriptor_calls (calls.Read fd buffer)) (Ends descriptor_calls h (calls.Read fd buffer)) (read_program fd buffer) rest_cost [] w
+read_ok h fd buffer w free lt idle =
+    s-read-file fd (length buffer) refl free lt (omega arith) idle.walk idle.pending idle.opening (λ j. ap (λ (f : ℕ → Option Held). f j) idle.inodes) (λ c. ([], parts.failed (calls.Read fd buffer) c, read_failed fd buffer c)) (λ b. ([], read_reply fd buffer b, read_written fd buffer b))
+    (λ l c u q own. record { wp = (λ y. read_failed fd buffer c, idle_as h u _ own (rests_as (own_of h w) (own_of h w).row (own_of h w).desk idle refl refl refl refl refl refl refl refl)) })
+    (λ l i b x u q own.
+    s-give own free lt (omega (arith, q)) (put_same (own_of h w).inodes i (Some (locked_held x))) refl refl refl refl (λ l2 u2 q2 own2.
+    s-say own2 free lt (omega (arith, q, q2)) (rests_free (own_of h w) _ (none_left (own_of h w).inodes i (Some (locked_held x)) idle.inodes)) idle.joined (λ l3 u3 q3 _ own3.
+    record { wp = (λ c. read_written fd buffer b, idle_as h u3 _ own3 (subst (λ (f : ℕ → Option Held). Rests (record (own_of h w) { inodes = f; mine = record { refs = (own_of h w).mine.refs; walk = None; pending = None } })) (idle.inodes ∙ sym (none_left (own_of h w).inodes i (Some (locked_held x)) idle.inodes))
+    (rests_as (own_of h w) (own_of h w).row (own_of h w).desk idle refl refl refl refl refl refl refl refl))) })))
+
+-- A start changes nothing.
+pub right : (h : ℕ) (call : Call) (busy : ℕ → Bool) (w u : World) → ((other : ℕ) → busy other ≡ false → Idle other w) → busy h ≡ false → w ≡ u
+    → IsBeginning descriptor_calls call [] → (Idle h u → Safe machine h (Begun descriptor_calls call) (Ends descriptor_calls h call) (program call) (limit call) [] u) → Right descriptor_calls h call busy w u
+right h call busy w u idle free is first runs =
+    record {
+      inv = λ i. subst Inv is i;
+      halted = λ i. subst Inv is i;
+      kept = λ other ne b. subst (λ (x : World). Others other w [] x) is (record { none = refl; same = λ f. refl; rests = λ i. i; clean = λ c. c });
+      rests = λ other ne b. subst (λ (x : World). Idle other x) is (idle other b);
+      tree = ap stage_of (sym is);
+      clean = λ c. ap (λ (x : World). x.clean) is ∙ c;
+      none = λ c. first;
+      runs = λ i. (runs (subst (λ (x : World). Idle h x) is (idle h free))).wp;
+    }
+
+begun_same : (b : Bool) (w u : World) → ◌≡◌ {A = Began Refusal World} (begin_if b w) (Begins u) → (b ≡ true) × (w ≡ u)
+begun_same true w u e = (refl, cc)
+begun_same false w u e = absurd cc
+
+below : (h : ℕ) → nat_lt h hart_count ≡ true → h < hart_count
+below h e = grind (arith, nat_tests)
+
+unlent : (o : Option ℕ) → is_nothing o ≡ true → o ≡ None
+unlent None e = refl
+unlent (Some g) e = absurd cc
+
+pub lawful : Lawful descriptor_calls
+lawful = record {
+  laws = laws;
+  calls = λ h call busy w u idle free e.
+      let b = begun_same (nat_lt h hart_count && (on_descriptors call && is_nothing (w.desks h).lender)) w u e in
+      let c = and_true (nat_lt h hart_count) (on_descriptors call && is_nothing (w.desks h).lender) b.0 in
+      let d = and_true (on_descriptors call) (is_nothing (w.desks h).lender) c.1 in
+      call_ok h call busy w u (below h c.0) d.0 (ap (λ (x : World). (x.desks h).lender) (sym b.1) ∙ unlent (w.desks h).lender d.1) idle free b.1;
+}
+  where
+    call_ok : (h : ℕ) (call : Call) (busy : ℕ → Bool) (w u : World) → h < hart_count → on_descriptors call ≡ true → (u.desks h).lender ≡ None → ((other : ℕ) → busy other ≡ false → Idle other w) → busy h ≡ false → w ≡ u → Right descriptor_calls h call busy w u
+    call_ok h (calls.Dup fd) busy w u lt here out idle free is = right h (calls.Dup fd) busy w u idle free is (fails (steps.Dup fd) BadDescriptor ∷ [], parts.failed (calls.Dup fd) BadDescriptor, dup_failed fd) (λ i. dup_ok h fd u out lt i)
+    call_ok h (calls.Close fd) busy w u lt here out idle free is = right h (calls.Close fd) busy w u idle free is (fails (steps.Close fd) BadDescriptor ∷ [], parts.failed (calls.Close fd) BadDescriptor, close_failed fd) (λ i. close_ok h fd u out lt i)
+    call_ok h (calls.Fstat fd) busy w u lt here out idle free is = right h (calls.Fstat fd) busy w u idle free is (fails (steps.Fstat fd) BadDescriptor ∷ [], parts.failed (calls.Fstat fd) BadDescriptor, stat_failed fd) (λ i. stat_ok h fd u out lt i)
+    call_ok h (calls.Read fd buffer) busy w u lt here out idle free is = right h (calls.Read fd buffer) busy w u idle free is (fails (steps.Read fd (length buffer)) BadDescriptor ∷ [], parts.failed (calls.Read fd buffer) BadDescriptor, read_failed fd buffer BadDescriptor) (λ i. read_ok h fd buffer u out lt i)
+    call_ok h (calls.Open path flags) busy w u lt here out idle free is = absurd cc
+    call_ok h (calls.Write fd bytes) busy w u lt here out idle free is = absurd cc
+    call_ok h (calls.Link old new) busy w u lt here out idle free is = absurd cc
+    call_ok h (calls.Unlink path) busy w u lt here out idle free is = absurd cc
+    call_ok h (calls.Mkdir path) busy w u lt here out idle free is = absurd cc
+    call_ok h (calls.Chdir path) busy w u lt here out idle free is = absurd cc
+    call_ok h (calls.Inherit child) busy w u lt here out idle free is = absurd cc
+
+-- Every interleaving of these calls is explained by one list of steps.
+pub explained : DescriptorCallsAreExplained
+explained w events inv idle honest = explains descriptor_calls lawful w events inv idle honest

@@ -1,0 +1,315 @@
+-- Read: a descriptor's inode is locked, a part read at the offset, and the offset moves.
+use Rattle.std.proofs.Common.{◌≡◌, inl, inr, ℕ, ◌+◌, ◌<◌, true, false, ◌==◌, ◌&&◌, nat_lt, List, [], ◌∷◌, take, drop, length, Option, Some, None, refl, sym, ◌∙◌, ap, subst, arith, if◌then◌else◌, Bool}
+use Rattle.atomic_programs.specs.Prog.{Do, Did as Came}
+use Rattle.atomic_programs.specs.Logic.{P, own, onto, Good, Fine, Safe, Wp}
+use Rattle.plain_tree.specs.declared.answer.Cause.{Cause}
+use Rattle.plain_tree.specs.declared.answer.Cause.TheVariants.{BadDescriptor, BadMode, NoDriver}
+use Rattle.plain_tree.specs.declared.node.Node.{Node}
+use Rattle.plain_tree.specs.declared.node.Kind.{Kind}
+use Rattle.plain_tree.specs.declared.node.Kind.TheVariants.{Directory, File, Device}
+use Rattle.inode_machine.specs.Parts.{own_step}
+use Rattle.inode_machine.specs.Inodes.{Sort, no_driver_for, sort_of, sort_of_kind}
+use Rattle.plain_tree.specs.declared.tree.OpenFile.{OpenFile}
+use Rattle.plain_tree.specs.declared.step.Action.TheVariants.{Read}
+use Rattle.plain_tree.specs.declared.step.StepAnswer.TheVariants.{Bytes}
+use Rattle.plain_tree.specs.Widths.{hart_count, descriptor_count}
+use Rattle.plain_tree.specs.Tree.{Name, Tree, put, fd_names, file_names, and_then, settle, resolve, parent}
+use Rattle.plain_tree.specs.Steps.{node_or, node_at, content, part, moved, no_driver, file_at, refusal_with, effect_with, answer_with, place_of, IsInPlace}
+use Rattle.tree_laws.specs.WellFormed.{IsWellFormed}
+use Rattle.tree_laws.proofs.Maps.{same_or, put_same, put_other}
+use Rattle.tree_laws.proofs.Sums.{sum_same}
+use Rattle.tree_laws.proofs.Nodes.{file_named}
+use Rattle.tree_laws.proofs.Opened.{well_moved}
+use Rattle.inode_machine.specs.Moves.{Stage, Step}
+use Rattle.inode_machine.specs.Moves.Move.{Own as OwnMove}
+use Rattle.inode_machine.specs.World.{Mine, Entry, World, Mark, Part as PartOf, NotRead, Readout}
+use Rattle.inode_machine.specs.Marks.{places, with_mark, made_by, go, new_id, spoiled, with_made}
+use Rattle.inode_machine.specs.Exec.{with_walk, slot_at, entry_at, entry_moved, part_of, entry_of, lock_if, locked, mode_refusal, read_at, read_refused, with_offset}
+use Rattle.inode_machine.specs.World.Mark.{Makes}
+use Rattle.inode_machine.specs.Rules.{Own, Key, key_of, own_names, Held, Row, key_at, row_of, own_of, Inv, machine, EntryOut}
+use Rattle.inode_machine.proofs.Frame.{put_elim, fair}
+use Rattle.inode_machine.proofs.Rules.{s-owned, has_disk, has_node, Locking, fine_after, is_out, locked_held, locking, locks_none}
+use Rattle.inode_machine.proofs.Rows.{below_is}
+use Rattle.inode_machine.proofs.Walking.{refs_walk, stage_walk, moves_good}
+use Rattle.inode_machine.proofs.Settling.{settle_or}
+use Rattle.inode_machine.proofs.Shops.{Sells, sells_did, own_takes, with_open, NamesLess, settle_less}
+use Rattle.inode_machine.proofs.Dups.{Behind, behind, behind_none, file_settled, Refused, renewed_slots, renewed_at, key_is, key_from, fails, refused_good, renewed_sorts}
+use Rattle.inode_machine.proofs.Stats.{behind_opens, entry_is, node_settled}
+use Rattle.inode_machine.specs.World.Op.{ReadFile}
+
+-- Refusals.
+
+read_none : (t : Tree) (h fd n : ℕ) (res : Option ℕ) (par : Option (ℕ × Name)) → file_at t h fd ≡ None → refusal_with t h (Read fd n) res par ≡ Some BadDescriptor
+unfolding refusal_with
+read_none t h fd n res par e = rw e refl
+
+read_mode : (t : Tree) (h fd n : ℕ) (f : OpenFile) (res : Option ℕ) (par : Option (ℕ × Name)) → file_at t h fd ≡ Some f → f.readable ≡ false → refusal_with t h (Read fd n) res par ≡ Some BadMode
+unfolding refusal_with
+read_mode t h fd n f res par e r = rw (e, r) refl
+
+read_kind : (t : Tree) (h fd n : ℕ) (f : OpenFile) (k : Option Cause) (res : Option ℕ) (par : Option (ℕ × Name)) → file_at t h fd ≡ Some f → f.readable ≡ true → no_driver (node_at t f.number).kind ≡ k → refusal_with t h (Read fd n) res par ≡ k
+unfolding refusal_with
+read_kind t h fd n f k res par e r q = rw (e, r) q
+
+read_place : (t : Tree) (h fd n : ℕ) → h < hart_count → IsInPlace t h (Read fd n)
+unfolding place_of
+read_place t h fd n lt = rw (below_is h hart_count lt) refl
+
+pub read_refused_at : (h fd n : ℕ) (c : Cause) (v : World) → h < hart_count → ((res : Option ℕ) (par : Option (ℕ × Name)) → refusal_with v.all h (Read fd n) res par ≡ Some c) → ((res : Option ℕ) (par : Option (ℕ × Name)) → refusal_with (settle v.all) h (Read fd n) res par ≡ Some c) → Refused h (Read fd n) c v
+read_refused_at h fd n c v lt now then_ = record {
+  follows = refl;
+  path = refl;
+  now = now;
+  then_ = then_;
+  found = λ res. refl;
+  stays = refl;
+  place = read_place (settle v.all) h fd n lt;
+  makes = λ q. refl;
+  inherits = λ g q. absurd cc;
+}
+
+pub refused_none : (h fd n : ℕ) (v : World) → h < hart_count → file_at v.all h fd ≡ None → Refused h (Read fd n) BadDescriptor v
+refused_none h fd n v lt e = read_refused_at h fd n BadDescriptor v lt (λ res par. read_none v.all h fd n res par e) (λ res par. read_none (settle v.all) h fd n res par (file_settled v.all h fd ∙ e))
+
+pub refused_mode : (h fd n : ℕ) (f : OpenFile) (v : World) → h < hart_count → file_at v.all h fd ≡ Some f → f.readable ≡ false → Refused h (Read fd n) BadMode v
+refused_mode h fd n f v lt e r = read_refused_at h fd n BadMode v lt (λ res par. read_mode v.all h fd n f res par e r) (λ res par. read_mode (settle v.all) h fd n f res par (file_settled v.all h fd ∙ e) r)
+
+-- The act.
+
+abbrev pub offset_on : OpenFile → ℕ → OpenFile
+offset_on f by = record f { offset = f.offset + by }
+
+read_effect : (t : Tree) (h fd n new id new_id : ℕ) (f : OpenFile) (b : List ℕ) (res : Option ℕ) (par : Option (ℕ × Name)) → t.fds h fd ≡ Some id → t.files id ≡ Some f → part t (file_at t h fd) n ≡ b → effect_with t h (Read fd n) res par new new_id ≡ with_open t t.fds (put t.files id (Some (offset_on f (length b))))
+unfolding effect_with
+read_effect t h fd n new id new_id f b res par e q p = (λ i. moved t (e i) (length (p i))) ∙ (λ i. record t { files = put t.files id (and_then (q i) (λ g. Some (record g { offset = g.offset + length b }))) })
+
+read_effect_settled : (t : Tree) (h fd n new id new_id : ℕ) (f : OpenFile) (b : List ℕ) (res : Option ℕ) (par : Option (ℕ × Name)) → t.fds h fd ≡ Some id → t.files id ≡ Some f → part (settle t) (file_at (settle t) h fd) n ≡ b → effect_with (settle t) h (Read fd n) res par new new_id ≡ with_open (settle t) t.fds (put t.files id (Some (offset_on f (length b))))
+unfolding effect_with settle
+read_effect_settled t h fd n new id new_id f b res par e q p = (λ i. moved (settle t) (e i) (length (p i))) ∙ (λ i. record (settle t) { files = put t.files id (and_then (q i) (λ g. Some (record g { offset = g.offset + length b }))) })
+
+read_answer : (t : Tree) (h fd n id : ℕ) (b : List ℕ) (res : Option ℕ) (par : Option (ℕ × Name)) → part t (file_at t h fd) n ≡ b → answer_with t h (Read fd n) res par id ≡ Bytes b
+unfolding answer_with
+read_answer t h fd n id b res par p = ap (λ (z : List ℕ). Bytes z) p
+
+part_is : (t : Tree) (h fd n : ℕ) (f : OpenFile) (x : Option Node) → file_at t h fd ≡ Some f → t.nodes f.number ≡ x → part t (file_at t h fd) n ≡ part_of x f.offset n
+part_is t h fd n f x e q = ap (λ (z : Option OpenFile). part t z n) e ∙ ap (λ (z : Option Node). take n (drop f.offset (content (node_or z).kind))) q
+
+-- another offset: keys stay
+moved_keys : (files : ℕ → Option OpenFile) (id : ℕ) (f g : OpenFile) (o : Option ℕ) → files id ≡ Some f → key_is g ≡ key_is f → key_at (put files id (Some g)) o ≡ key_at files o
+moved_keys files id f g None e q = refl
+moved_keys files id f g (Some j) e q = put_elim files id (Some g) j (λ z. key_of z ≡ key_of (files j)) (λ r. ap (λ (z : Key). Some z) q ∙ sym (ap (λ (z : Option OpenFile). key_of z) (ap files r ∙ e))) (λ ne. refl)
+
+moved_row : (t : Tree) (h id : ℕ) (f g : OpenFile) → t.files id ≡ Some f → key_is g ≡ key_is f → row_of (with_open t t.fds (put t.files id (Some g))) h ≡ row_of t h
+moved_row t h id f g e q = λ r. record { cwd = t.cwd h; hold = t.holds h; fds = t.fds h; keys = λ i. if nat_lt h hart_count && nat_lt i descriptor_count then moved_keys t.files id f g (t.fds h i) e q r else None }
+
+moved_names : (t : Tree) (id : ℕ) (f g : OpenFile) → t.files id ≡ Some f → g.number ≡ f.number → NamesLess t t.fds (put t.files id (Some g))
+moved_names t id f g e q n k i lk li out = at (t.fds k i) refl
+  where
+    at : (o : Option ℕ) → t.fds k i ≡ o → fd_names (with_open t t.fds (put t.files id (Some g))) (t.fds k i) n ≡ false
+    at None r = ap (λ (z : Option ℕ). fd_names (with_open t t.fds (put t.files id (Some g))) z n) r
+    at (Some j) r =
+        let was : file_names (t.files j) n ≡ false = sym (ap (λ (z : Option ℕ). fd_names t z n) r) ∙ out k i lk li in
+        ap (λ (z : Option ℕ). fd_names (with_open t t.fds (put t.files id (Some g))) z n) r
+        ∙ put_elim t.files id (Some g) j (λ z. file_names z n ≡ false) (λ p. ap (λ (z : ℕ). z == n) q ∙ sym (ap (λ (z : Option OpenFile). file_names z n) (ap t.files p ∙ e)) ∙ was) (λ ne. was)
+
+abbrev pub read_step : ℕ → ℕ → List ℕ → Step
+read_step fd n b = record { move = OwnMove (Read fd n) 0; told = Some (record { act = record { step = Read fd n; answer = Bytes b }; new = 0 }) }
+
+-- The part is read in a world where the hart has the inode's lock.
+pub part_good : {A : Type 0} (h more n i : ℕ) (B : List Step → Type 0) (Q : A → List Step → World → Type 0) (es : List Step) (v : World) (O : Own) (x : Held) (fd count s : ℕ) (e : Entry) (b : List ℕ) (p : P machine A)
+    → own_of h v ≡ O → O.desk.lender ≡ None → h < hart_count → Inv v → O.mine.walk ≡ None → O.mine.pending ≡ None → Behind h fd s e v → e.file.number ≡ i → O.inodes i ≡ Some x → x.disk ≡ x.node → b ≡ part_of (v.disk i) e.file.offset count
+    → ((t : Tree) → file_at t h fd ≡ Some e.file → t.nodes e.file.number ≡ v.all.nodes e.file.number → (res : Option ℕ) (par : Option (ℕ × Name)) → refusal_with t h (Read fd count) res par ≡ None)
+    → B (read_step fd count b ∷ es) → more < n
+    → ((l : ℕ) (u : World) → l + (more + 1) ≡ n → own_of h u ≡ record O { mine = record { refs = O.mine.refs; walk = None; pending = None } } → Safe machine h B Q p l (read_step fd count b ∷ es) u)
+    → Fine machine h ((h, record { move = OwnMove (Read fd count) 0; told = (made_by v.all h (new_id v) (v.harts h).walk (OwnMove (Read fd count) 0)).told }) ∷ []) more n B es v (with_made h (made_by v.all h (new_id v) (v.harts h).walk (OwnMove (Read fd count) 0)) (record v { files = put v.files s (Some (entry_moved e (length b))) }))
+        (λ l. Wp machine h B Q p l (onto (own h ((h, record { move = OwnMove (Read fd count) 0; told = (made_by v.all h (new_id v) (v.harts h).walk (OwnMove (Read fd count) 0)).told }) ∷ [])) es) (with_made h (made_by v.all h (new_id v) (v.harts h).walk (OwnMove (Read fd count) 0)) (record v { files = put v.files s (Some (entry_moved e (length b))) })))
+part_good {A} h more n i B Q es v O x fd count s e b p ov free lt inv walks none hit at_i isi same b_is goes bd pos then_ =
+    moves_good h more n B Q es v (record v { files = F }) (OwnMove (Read fd count) 0) p (made_by v.all h (new_id v) (v.harts h).walk (OwnMove (Read fd count) 0)) (record { all = T; walk = None; found = None; opened = None; entered = None; left = None; told = (read_step fd count b).told })
+    made_is
+    (fair inv (sells_did h v F v.desks v.slots T (with_walk v.harts h None None) lt inv sells))
+    (own_takes h v u (Read fd count) (Bytes b) refl refl (ap (λ (o : Own). o.mine.walk) ov ∙ walks) (λ z. refl) (λ g z. absurd cc)
+    (goes (settle v.all) (file_settled v.all h fd ∙ hit.file) settled (resolve (settle v.all) h []) (parent (settle v.all) h []),
+    sym (read_answer (settle v.all) h fd count (new_id v) b (resolve (settle v.all) h []) (parent (settle v.all) h []) part_settled),
+    record { node = λ z. absurd cc; file = λ z. absurd cc },
+    settle_less v.all v.all.fds (put v.all.files (v.ids s) (Some f)) (moved_names v.all (v.ids s) e.file f opened refl) ∙ ap (λ (z : Tree). settle z) (sym (read_effect_settled v.all h fd count 0 (v.ids s) (new_id v) e.file b (resolve (settle v.all) h []) (parent (settle v.all) h []) hit.tree opened part_settled)),
+    read_place (settle v.all) h fd count lt)
+    (ap (λ (z : Stage). z.walk) (stage_walk h None None v)))
+    bd pos
+    (λ l r. (then_ l u r owned).wp)
+      where
+    f : OpenFile
+    f = offset_on e.file (length b)
+
+    F : ℕ → Option Entry
+    F = put v.files s (Some (entry_moved e (length b)))
+
+    T : Tree
+    T = with_open v.all v.all.fds (put v.all.files (v.ids s) (Some f))
+
+    u : World
+    u = record v { files = F; all = T; harts = with_walk v.harts h None None }
+
+    opened : v.all.files (v.ids s) ≡ Some e.file
+    opened = inv.tied.files s e hit.at
+
+    node : v.all.nodes e.file.number ≡ x.node
+    node = ap v.all.nodes at_i ∙ has_node h i v O x ov isi
+
+    settled : (settle v.all).nodes e.file.number ≡ v.all.nodes e.file.number
+    settled = node_settled h fd v e s inv lt hit
+
+    disk : x.node ≡ v.disk i
+    disk = sym same ∙ sym (has_disk h i v O x ov isi)
+
+    part_now : part v.all (file_at v.all h fd) count ≡ b
+    part_now = part_is v.all h fd count e.file (v.disk i) hit.file (node ∙ disk) ∙ sym b_is
+
+    part_settled : part (settle v.all) (file_at (settle v.all) h fd) count ≡ b
+    part_settled = part_is (settle v.all) h fd count e.file (v.disk i) (file_settled v.all h fd ∙ hit.file) (settled ∙ node ∙ disk) ∙ sym b_is
+
+    made_is : made_by v.all h (new_id v) (v.harts h).walk (OwnMove (Read fd count) 0) ≡ record { all = T; walk = None; found = None; opened = None; entered = None; left = None; told = (read_step fd count b).told }
+    made_is = rw (goes v.all hit.file refl (resolve v.all h []) (parent v.all h []))
+        (λ r. record { all = read_effect v.all h fd count 0 (v.ids s) (new_id v) e.file b (resolve v.all h []) (parent v.all h []) hit.tree opened part_now r; walk = None; found = None; opened = None; entered = None; left = None; told = Some (record { act = record { step = Read fd count; answer = read_answer v.all h fd count (new_id v) b (resolve v.all h []) (parent v.all h []) part_now r }; new = 0 }) })
+
+    back : (j : ℕ) (d : Entry) → F j ≡ Some d → (c : Entry) × (v.files j ≡ Some c) × (d.references ≡ c.references) × (put v.all.files (v.ids s) (Some f) (v.ids j) ≡ Some d.file)
+    back j d q = elim (same_or j s) [
+      | inl r ↦
+          let a : Some (entry_moved e (length b)) ≡ Some d = sym (put_same v.files s (Some (entry_moved e (length b)))) ∙ ap F (sym r) ∙ q in
+          let c : entry_moved e (length b) ≡ d = cc in
+          (e, ap v.files r ∙ hit.at, ap (λ (z : Entry). z.references) (sym c), ap (λ (z : ℕ). put v.all.files (v.ids s) (Some f) (v.ids z)) r ∙ put_same v.all.files (v.ids s) (Some f) ∙ ap (λ (z : Entry). Some z.file) c)
+      | inr ne ↦
+          let a : v.files j ≡ Some d = sym (put_other v.files s (Some (entry_moved e (length b))) j ne) ∙ q in
+          (d, a, refl, put_other v.all.files (v.ids s) (Some f) (v.ids j) (λ z. ne (inv.tied.apart j s d e a hit.at z)) ∙ inv.tied.files j d a)
+    ]
+
+    empty : (j : ℕ) → v.files j ≡ None → (o : Option Entry) → F j ≡ o → F j ≡ None
+    empty j q None r = r
+    empty j q (Some d) r = absurd (let a = (back j d r).1 in cc (a, q))
+
+    on : (j : ℕ) (d : Entry) → v.files j ≡ Some d → (c : Entry) × (F j ≡ Some c) × (c.file.number ≡ d.file.number)
+    on j d q = renewed_at v.files s e (entry_moved e (length b)) j d hit.at refl q
+
+    sells : Sells h v F v.desks v.slots T (with_walk v.harts h None None)
+    sells = record {
+      kin = record {
+        tied = record {
+          fds = inv.tied.fds;
+          fresh = λ g j lg o. let z = inv.tied.fresh g j lg o in record {
+            below = z.below;
+            free = z.free;
+            id = z.id;
+            is = z.is;
+            file = z.file;
+            at = put_other v.all.files (v.ids s) (Some f) z.id (λ q. absurd (let m = z.only h fd lt hit.below (hit.tree ∙ ap (λ (y : ℕ). Some y) (sym q)) in let a : (v.desks h).fds fd ≡ (v.desks g).fds j = (λ r. (v.desks (m.0 r)).fds (m.1 r)) in let b = z.free in let c = hit.is in cc (a, b, c))) ∙ z.at;
+            offset = z.offset;
+            only = z.only;
+          };
+          lends = inv.tied.lends;
+          used = λ g j c lg lj q. let a = inv.tied.used g j c lg lj q in let o = on c a.0 a.1 in (o.0, o.1);
+          hand = λ g c lg q. let a = inv.tied.hand g c lg q in (a.0, empty c a.1 (F c) refl);
+          hands = inv.tied.hands;
+          within = λ j d q. let a = back j d q in inv.tied.within j a.0 a.1;
+          files = λ j d q. (back j d q).3;
+          apart = λ j l c d p q r. let a = back j c p in let z = back l d q in inv.tied.apart j l a.0 z.0 a.1 z.1 r;
+          counted = λ j d q. let a = back j d q in let c = inv.tied.counted j a.0 a.1 in (a.2 ∙ c.0, (let z = a.2 in let y = c.1 in omega (arith, z, y)));
+          slots = λ j. inv.tied.slots j ∙ sym (renewed_slots v.files s e (entry_moved e (length b)) j hit.at refl);
+          spoiled = inv.tied.spoiled;
+        };
+        desks = λ g ne. refl;
+        numbers = λ g j c d lg ne lj q a. on c d a;
+        clean = λ c. c;
+      };
+      free = ap (λ (o : Own). o.desk.lender) ov ∙ free;
+      joined = refl;
+      sorts = λ j d q. renewed_sorts v s e (entry_moved e (length b)) inv hit.at refl refl j d q;
+      noted = λ m q. (q, (λ z. let r = refs_walk v.harts h None None h m.number in omega (arith, r, z)));
+      directory = inv.directory h lt;
+      well = subst (λ (z : Tree). IsWellFormed z) (λ r. record (v.all) { files = put v.all.files (v.ids s) (and_then (opened r) (λ g. Some (record g { offset = g.offset + length b }))) }) (well_moved v.all (Some (v.ids s)) (length b) inv.well);
+      nodes = refl;
+      size = refl;
+      rows = λ g ne. moved_row v.all g (v.ids s) e.file f opened refl;
+      ids = λ j le. put_other v.all.files (v.ids s) (Some f) j (λ z. absurd (let a = inv.ids j le in let c : v.all.files j ≡ Some e.file = ap v.all.files z ∙ opened in cc (a, c))) ∙ inv.ids j le;
+      others = λ g ne. put_other v.harts h (record { refs = (v.harts h).refs; walk = None; pending = None }) g ne;
+      refs = λ j. let r = refs_walk v.harts h None None h j in omega (arith, r);
+      counts = λ j. inv.counts j ∙ ap (λ (z : ℕ). v.slots j + z) (sym (sum_same hart_count (λ g. (v.harts g).refs j) (λ g. (with_walk v.harts h None None g).refs j) (λ g l. refs_walk v.harts h None None g j)));
+      pinned = λ j kept o. let z = on o.slot o.entry o.at in inl (record { fd = o.fd; below = o.below; slot = o.slot; is = o.is; entry = z.0; at = z.1; number = z.2 ∙ o.number });
+      names = λ j is. ap (λ (r : Row). own_names r (v.desks h) j) (sym (moved_row v.all h (v.ids s) e.file f opened refl)) ∙ is;
+      still = ap (λ (o : Own). o.mine.pending) ov ∙ none;
+      found = ap (λ (z : Mine). z.pending) (put_same v.harts h (record { refs = (v.harts h).refs; walk = None; pending = None }));
+      walk = ap (λ (z : Mine). z.walk) (put_same v.harts h (record { refs = (v.harts h).refs; walk = None; pending = None }));
+      lone = λ j a. a.counts ∙ sym (refs_walk v.harts h None None a.hart j);
+    }
+
+    owned : own_of h u ≡ record O { mine = record { refs = O.mine.refs; walk = None; pending = None } }
+    owned = λ z. record {
+      inodes = ap (λ (o : Own). o.inodes) ov z;
+      mine = (put_same v.harts h (record { refs = (v.harts h).refs; walk = None; pending = None }) ∙ ap (λ (o : Own). record { refs = o.mine.refs; walk = None; pending = None }) ov) z;
+      row = (moved_row v.all h (v.ids s) e.file f opened refl ∙ ap (λ (o : Own). o.row) ov) z;
+      ninodes = ap (λ (o : Own). o.ninodes) ov z;
+      desk = ap (λ (o : Own). o.desk) ov z;
+    }
+
+-- What the table says of a descriptor is what the tree does.
+
+sort_driver : (x : Option Node) (s : Sort) → sort_of x ≡ Some s → no_driver (node_or x).kind ≡ no_driver_for s
+sort_driver None s e = absurd cc
+sort_driver (Some v) s e = by_kind v.kind s cc
+  where
+    by_kind : (k : Kind) (s : Sort) → sort_of_kind k ≡ s → no_driver k ≡ no_driver_for s
+    by_kind (Directory slots) s e = ap (λ (z : Sort). no_driver_for z) e
+    by_kind (File bytes) s e = ap (λ (z : Sort). no_driver_for z) e
+    by_kind (Device major minor size) s e = ap (λ (z : Sort). no_driver_for z) e
+
+read_as_table : (t : Tree) (h fd n : ℕ) (e : Entry) (res : Option ℕ) (par : Option (ℕ × Name)) → file_at t h fd ≡ Some e.file → sort_of (t.nodes e.file.number) ≡ Some e.sort → refusal_with t h (Read fd n) res par ≡ read_refused (Some e)
+read_as_table t h fd n e res par file sort = go e.file.readable refl
+  where
+    go : (b : Bool) → e.file.readable ≡ b → refusal_with t h (Read fd n) res par ≡ mode_refusal e.file.readable e.sort
+    go false q = read_mode t h fd n e.file res par file q ∙ (λ i. mode_refusal (sym q i) e.sort)
+    go true q = read_kind t h fd n e.file (no_driver_for e.sort) res par file q (sort_driver (t.nodes e.file.number) e.sort sort) ∙ (λ i. mode_refusal (sym q i) e.sort)
+
+pub s-read-file : {A : Type 0} {h : ℕ} (fd count : ℕ) {k : Readout → P machine A} {B : List Step → Type 0} {Q : A → List Step → World → Type 0} {n : ℕ} {es : List Step} {w : World} {O : Own}
+    → own_of h w ≡ O → O.desk.lender ≡ None → h < hart_count → 1611 < n → O.mine.walk ≡ None → O.mine.pending ≡ None → O.desk.opening ≡ None → ((j : ℕ) → O.inodes j ≡ None)
+    → ((c : Cause) → B (fails (Read fd count) c ∷ es)) → ((b : List ℕ) → B (read_step fd count b ∷ es))
+    → ((l : ℕ) (c : Cause) (u : World) → l + 1612 ≡ n → own_of h u ≡ record O { mine = record { refs = O.mine.refs; walk = None; pending = None } } → Safe machine h B Q (k (NotRead c)) l (fails (Read fd count) c ∷ es) u)
+    → ((l i : ℕ) (b : List ℕ) (x : Option Node) (u : World) → l + 1612 ≡ n → own_of h u ≡ record O { inodes = put O.inodes i (Some (locked_held x)); mine = record { refs = O.mine.refs; walk = None; pending = None } } → Safe machine h B Q (k (PartOf i b)) l (read_step fd count b ∷ es) u)
+    → Safe machine h B Q (Do (ReadFile fd count) (λ a. own_step (Read fd count)) k) n es w
+s-read-file {A} {h} fd count {k} {B} {Q} {n} {es} {w} {O} owns free lt pos walks none idle empty bf bd bad then_ = s-owned owns free pos (λ v inv ov. (locks_none h v O inv ov (λ i x q. absurd (let a = empty i in cc (a, q))), (λ _ _. at v inv ov (slot_at v h fd) refl)))
+  where
+    Goal : World → Came Readout World → Type 0
+    Goal v z = Good machine Readout h (λ a. places h (ReadFile fd count) a (own_step (Read fd count)) v) 1611 n B es v (EntryOut h v (entry_of v h fd)) (with_mark h (λ (_ : Readout). own_step (Read fd count)) z) (λ l a u. Wp machine h B Q (k a) l (onto (own h (places h (ReadFile fd count) a (own_step (Read fd count)) v)) es) u)
+
+    opening_none : (v : World) → own_of h v ≡ O → (v.desks h).opening ≡ None
+    opening_none v ov = ap (λ (o : Own). o.desk.opening) ov ∙ idle
+
+    told : (v : World) → Inv v → own_of h v ≡ O → (s : ℕ) (e : Entry) → slot_at v h fd ≡ Some s → Behind h fd s e v → read_refused (Some e) ≡ None → (r : Option ℕ) → v.lock e.file.number ≡ r
+        → Goal v (lock_if h e.file.number (PartOf e.file.number (part_of (v.disk e.file.number) e.file.offset count)) v (with_offset (locked h e.file.number v) (Some s) e (length (part_of (v.disk e.file.number) e.file.offset count))) r)
+    told v inv ov s e q hit goes (Some g) r = subst (λ (z : Option Entry). EntryOut h v z) (sym (entry_is h fd s e v q hit)) (is_out h e.file.number g v O inv ov (empty e.file.number) r)
+    told v inv ov s e q hit goes None r =
+        fine_after a.fair refl
+        (part_good h 1611 n e.file.number B Q es u (record O { inodes = put O.inodes e.file.number (Some (locked_held (v.all.nodes e.file.number))) }) (locked_held (v.all.nodes e.file.number)) fd count s e (part_of (v.disk e.file.number) e.file.offset count) (k (PartOf e.file.number (part_of (v.disk e.file.number) e.file.offset count)))
+        a.owned free lt a.fair.inv walks none
+        (record { below = hit.below; is = hit.is; at = hit.at; tree = hit.tree; file = hit.file }) refl (put_same O.inodes e.file.number (Some (locked_held (v.all.nodes e.file.number)))) refl refl
+        (λ t file nodes res par. read_as_table t h fd count e res par file (ap (λ (z : Option Node). sort_of z) nodes ∙ inv.sorts s e hit.at) ∙ goes)
+        (bd (part_of (v.disk e.file.number) e.file.offset count)) pos
+        (λ l w2 p own2. then_ l e.file.number (part_of (v.disk e.file.number) e.file.offset count) (v.all.nodes e.file.number) w2 p own2))
+      where
+        u : World
+        u = locked h e.file.number v
+
+        a : Locking h e.file.number v O
+        a = locking h e.file.number v O ov free lt inv (empty e.file.number) (inl (behind_opens h fd s e v hit)) r
+
+    by_cause : (v : World) → Inv v → own_of h v ≡ O → (s : ℕ) (e : Entry) → slot_at v h fd ≡ Some s → Behind h fd s e v → (o : Option Cause) → read_refused (Some e) ≡ o → Goal v (read_at h v count (Some s) (Some e) o)
+    by_cause v inv ov s e q hit None goes = told v inv ov s e q hit goes (v.lock e.file.number) refl
+    by_cause v inv ov s e q hit (Some c) stops =
+        refused_good h 1611 n B Q es v O (Read fd count) c (k (NotRead c)) ov free lt inv walks none
+        (read_refused_at h fd count c v lt
+        (λ res par. read_as_table v.all h fd count e res par hit.file (inv.sorts s e hit.at) ∙ stops)
+        (λ res par. read_as_table (settle v.all) h fd count e res par (file_settled v.all h fd ∙ hit.file) (ap (λ (z : Option Node). sort_of z) (node_settled h fd v e s inv lt hit) ∙ inv.sorts s e hit.at) ∙ stops))
+        (bf c) pos (λ l u p own2. bad l c u p own2)
+
+    at : (v : World) → Inv v → own_of h v ≡ O → (o : Option ℕ) → slot_at v h fd ≡ o → Goal v (read_at h v count o (entry_at v.files o) (read_refused (entry_at v.files o)))
+    at v inv ov None q = refused_good h 1611 n B Q es v O (Read fd count) BadDescriptor (k (NotRead BadDescriptor)) ov free lt inv walks none (refused_none h fd count v lt (behind_none h fd v inv lt (opening_none v ov) q)) (bf BadDescriptor) pos (λ l u p own2. bad l BadDescriptor u p own2)
+    at v inv ov (Some s) q =
+        let b = behind h fd s v inv lt (opening_none v ov) q in
+        subst (λ (z : Option Entry). Goal v (read_at h v count (Some s) z (read_refused z))) (sym b.1.at) (by_cause v inv ov s b.0 q b.1 (read_refused (Some b.0)) refl)

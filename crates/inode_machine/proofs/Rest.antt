@@ -1,0 +1,61 @@
+-- A world at rest meets the invariant, also one with orphans.
+use Rattle.std.proofs.Common.{◌≡◌, inl, inr, ℕ, ◌<◌, true, false, ◌==◌, ◌||◌, None, refl, sym, arith, if◌then◌else◌}
+use Rattle.plain_tree.specs.Widths.{hart_count}
+use Rattle.plain_tree.specs.Tree.{Tree, hold_names}
+use Rattle.tree_laws.specs.WellFormed.{sum_below, one_if, IsWellFormed}
+use Rattle.tree_laws.proofs.Maps.{either}
+use Rattle.tree_laws.proofs.Sums.{sum_none, one_yes}
+use Rattle.inode_machine.specs.Exec.{file_count}
+use Rattle.inode_machine.specs.Theory.{resting, at_rest}
+use Rattle.inode_machine.specs.World.{Mine, World}
+use Rattle.inode_machine.specs.Rules.{number_is, own_names, row_of, Inv, Idle}
+use Rattle.inode_machine.proofs.Rules.{quiet}
+use Rattle.inode_machine.specs.Marks.{spoiled}
+
+pub rests : (t : Tree) → IsWellFormed t → ((id : ℕ) → t.files id ≡ None) → ((h : ℕ) → t.holds h ≡ None) → ((h i : ℕ) → t.fds h i ≡ None) → Inv (at_rest t)
+rests t well files holds fds =
+    record {
+      well = well;
+      ids = λ k le. files k;
+      whole = λ i e. refl;
+      quiet = λ i g e. absurd cc;
+      keeps = λ i g e. absurd cc;
+      kept = λ i g e. absurd cc;
+      held = λ i g e. absurd cc;
+      alone = λ i e. absurd cc;
+      counts = λ i. omega arith;
+      tied = record {
+        fds = λ g i lg li e. fds g i;
+        fresh = λ g i lg e. absurd cc;
+        used = λ g i k lg li e. absurd cc;
+        lends = λ g i k lg li e. absurd cc;
+        hand = λ g k lg e. absurd cc;
+        hands = λ g j k lg lj e. absurd cc;
+        within = λ k e q. absurd cc;
+        files = λ k e q. absurd cc;
+        apart = λ k l e f p q r. absurd cc;
+        counted = λ k e q. absurd cc;
+        slots = λ n. sym (sum_none file_count (λ k. number_is None n) (λ k lk. refl));
+        spoiled = λ g q. absurd cc;
+      };
+      sorts = λ k e q. absurd cc;
+      named = λ g i lt is. inl (here g i (cwd g i lt is));
+      pending = λ g i lt e. absurd cc;
+      walks = λ g k lt e. absurd cc;
+      noted = λ g n lt e. absurd cc;
+      directory = λ g lt. refl;
+      lent = λ g lt has. absurd (has refl);
+    }
+  where
+    here : (g i : ℕ) → (t.cwd g == i) ≡ true → 0 < one_if (t.cwd g == i)
+    here g i e = let a = one_yes (t.cwd g == i) e in omega (arith, a)
+
+    cwd : (g i : ℕ) → g < hart_count → own_names (row_of t g) ((at_rest t).desks g) i ≡ true → (t.cwd g == i) ≡ true
+    cwd g i lt is = elim (either (t.cwd g == i)) [
+      | inl y ↦ y
+      | inr y ↦ absurd (let e : own_names (row_of t g) ((at_rest t).desks g) i ≡ false = (λ z. (y z) || (hold_names (holds g z) i || false)) in cc (e, is))
+    ]
+
+-- every hart rests
+pub idle_at_rest : (t : Tree) → ((h : ℕ) → t.holds h ≡ None) → (h : ℕ) → Idle h (at_rest t)
+idle_at_rest t holds h = record { inodes = refl; refs = λ i. refl; walk = refl; pending = refl; hold = holds h; hand = refl; joined = refl; lent = refl; opening = refl; left = refl; noted = refl }

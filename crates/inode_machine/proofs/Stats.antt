@@ -1,0 +1,170 @@
+-- Fstat: a descriptor's inode is locked, and its state told.
+use Rattle.std.proofs.Common.{◌≡◌, ◌≢◌, inl, inr, ℕ, ◌+◌, ◌<◌, true, false, ◌&&◌, nat_lt, List, [], ◌∷◌, Option, Some, None, refl, sym, ◌∙◌, ap, subst, arith, if◌then◌else◌}
+use Rattle.std.proofs.lemmas.Bool.Decides.{nat_tests}
+use Rattle.atomic_programs.specs.Prog.{Do, Did as Came}
+use Rattle.atomic_programs.specs.Logic.{P, own, onto, Good, Fine, Safe, Wp}
+use Rattle.plain_tree.specs.declared.answer.Cause.TheVariants.{BadDescriptor}
+use Rattle.plain_tree.specs.declared.node.Node.{Node}
+use Rattle.plain_tree.specs.declared.node.Kind.{Kind}
+use Rattle.plain_tree.specs.declared.node.Kind.TheVariants.{Directory, File, Device}
+use Rattle.plain_tree.specs.declared.tree.OpenFile.{OpenFile}
+use Rattle.plain_tree.specs.declared.step.Action.TheVariants.{Fstat}
+use Rattle.plain_tree.specs.declared.step.StepAnswer.TheVariants.{Stat as Status}
+use Rattle.plain_tree.specs.Widths.{hart_count}
+use Rattle.plain_tree.specs.Tree.{Name, Tree, put, settle, resolve, parent}
+use Rattle.plain_tree.specs.Steps.{node_or, node_at, stat_of, with_nodes, file_at, refusal_with, effect_with, answer_with, place_of, IsInPlace}
+use Rattle.tree_laws.proofs.Nodes.{file_named}
+use Rattle.inode_machine.specs.Moves.{Deed, Stage, Step}
+use Rattle.inode_machine.specs.Moves.Move.{Own as OwnMove}
+use Rattle.inode_machine.specs.World.{World, Entry, Mark}
+use Rattle.inode_machine.specs.World.Mark.{Makes}
+use Rattle.inode_machine.specs.Inodes.{Face, face_of, face_or, sort_of, stat_of_face}
+use Rattle.inode_machine.specs.Rules.{Own, Opens, EntryOut, Inv, machine, own_of}
+use Rattle.inode_machine.specs.Parts.{own_step}
+use Rattle.inode_machine.proofs.Rules.{Locking, fine_after, is_out, locked_held, locking, locks_none, s-owned}
+use Rattle.inode_machine.specs.Exec.{entry_at, entry_of, lock_if, locked, slot_at, stat_at, with_walk}
+use Rattle.inode_machine.proofs.Walking.{moves_good, own_walk, stage_walk, walk_did}
+use Rattle.inode_machine.specs.Marks.{go, made_by, new_id, places, with_mark}
+use Rattle.inode_machine.proofs.Dups.{Behind, behind, behind_none, fails, file_settled, refused_good, Refused}
+use Rattle.inode_machine.proofs.Frame.{fair}
+use Rattle.inode_machine.proofs.Settling.{settle_nodes, settle_or}
+use Rattle.inode_machine.specs.World.Op.{StatFile}
+
+-- an open file of the hart keeps its node where the tree settles
+pub node_settled : (h fd : ℕ) (v : World) (e : Entry) (s : ℕ) → Inv v → h < hart_count → Behind h fd s e v → (settle v.all).nodes e.file.number ≡ v.all.nodes e.file.number
+node_settled h fd v e s inv lt hit = elim (settle_or v.all e.file.number) [
+  | inl q ↦ q
+  | inr q ↦ absurd (let a = file_named v.all h fd (v.ids s) e.file lt hit.below hit.tree (inv.tied.files s e hit.at) in let b = q.2 in cc (a, b))
+]
+
+stat_goes : (t : Tree) (h fd : ℕ) (f : OpenFile) (res : Option ℕ) (par : Option (ℕ × Name)) → file_at t h fd ≡ Some f → refusal_with t h (Fstat fd) res par ≡ None
+unfolding refusal_with
+stat_goes t h fd f res par e = rw e refl
+
+stat_effect : (t : Tree) (h fd new id : ℕ) (res : Option ℕ) (par : Option (ℕ × Name)) → effect_with t h (Fstat fd) res par new id ≡ t
+unfolding effect_with
+stat_effect t h fd new id res par = refl
+
+stat_is : (t : Tree) (h fd id n : ℕ) (f : OpenFile) (v : Node) (res : Option ℕ) (par : Option (ℕ × Name)) → file_at t h fd ≡ Some f → f.number ≡ n → t.nodes n ≡ Some v → answer_with t h (Fstat fd) res par id ≡ Status (stat_of n v)
+unfolding answer_with
+stat_is t h fd id n f v res par e q r = rw e ((λ i. Status (stat_of (q i) (node_at t (q i)))) ∙ (λ i. Status (stat_of n (node_or (r i)))))
+
+stat_place : (t : Tree) (h fd : ℕ) → h < hart_count → IsInPlace t h (Fstat fd)
+unfolding place_of
+stat_place t h fd lt = grind (arith, nat_tests)
+
+as_nodes : (t : Tree) → settle (settle t) ≡ settle (with_nodes t (settle t).nodes)
+unfolding settle
+as_nodes t = refl
+
+pub settle_again : (t : Tree) → settle t ≡ settle (settle t)
+settle_again t = sym (as_nodes t ∙ settle_nodes t (settle t).nodes t.nodes (λ n. settle_or t n))
+
+
+stat_none : (t : Tree) (h fd : ℕ) (res : Option ℕ) (par : Option (ℕ × Name)) → file_at t h fd ≡ None → refusal_with t h (Fstat fd) res par ≡ Some BadDescriptor
+unfolding refusal_with
+stat_none t h fd res par e = rw e refl
+
+stat_is_refused : (h fd : ℕ) (v : World) → h < hart_count → file_at v.all h fd ≡ None → Refused h (Fstat fd) BadDescriptor v
+stat_is_refused h fd v lt e = record {
+  follows = refl;
+  path = refl;
+  now = λ res par. stat_none v.all h fd res par e;
+  then_ = λ res par. stat_none (settle v.all) h fd res par (file_settled v.all h fd ∙ e);
+  found = λ res. refl;
+  stays = refl;
+  place = stat_place (settle v.all) h fd lt;
+  makes = λ q. refl;
+  inherits = λ g q. absurd cc;
+}
+
+abbrev pub stat_step : ℕ → ℕ → Node → Step
+stat_step fd i v = record { move = OwnMove (Fstat fd) 0; told = Some (record { act = record { step = Fstat fd; answer = Status (stat_of i v) }; new = 0 }) }
+
+-- a face tells a node's state
+pub stat_face : (i : ℕ) (v : Node) → stat_of_face i (face_or (face_of (Some v))) ≡ stat_of i v
+stat_face i v = by_kind v.kind
+  where
+    by_kind : (k : Kind) → stat_of_face i (face_or (face_of (Some (record { count = v.count; kind = k })))) ≡ stat_of i (record { count = v.count; kind = k })
+    by_kind (Directory slots) = refl
+    by_kind (File bytes) = refl
+    by_kind (Device major minor size) = refl
+
+-- an open file's inode is there
+pub node_there : (v : World) (s : ℕ) (e : Entry) → Inv v → v.files s ≡ Some e → (x : Node) × (v.all.nodes e.file.number ≡ Some x)
+node_there v s e inv at = go (v.all.nodes e.file.number) refl
+  where
+    go : (o : Option Node) → v.all.nodes e.file.number ≡ o → (x : Node) × (v.all.nodes e.file.number ≡ Some x)
+    go None q = absurd (let a = inv.sorts s e at in let b : sort_of (v.all.nodes e.file.number) ≡ None = ap (λ (z : Option Node). sort_of z) q in cc (a, b))
+    go (Some x) q = (x, q)
+
+-- what stands behind a descriptor has the hart's reference
+pub behind_opens : (h fd s : ℕ) (e : Entry) (v : World) → Behind h fd s e v → Opens (v.desks h).fds v.files e.file.number
+behind_opens h fd s e v hit = record { fd = fd; below = hit.below; slot = s; is = hit.is; entry = e; at = hit.at; number = refl }
+
+pub entry_is : (h fd s : ℕ) (e : Entry) (v : World) → slot_at v h fd ≡ Some s → Behind h fd s e v → entry_of v h fd ≡ Some e
+entry_is h fd s e v q hit = ap (λ (o : Option ℕ). entry_at v.files o) q ∙ hit.at
+
+pub s-stat-file : {A : Type 0} {h : ℕ} (fd : ℕ) {k : Option (ℕ × Face) → P machine A} {B : List Step → Type 0} {Q : A → List Step → World → Type 0} {n : ℕ} {es : List Step} {w : World} {O : Own}
+    → own_of h w ≡ O → O.desk.lender ≡ None → h < hart_count → 3 < n → O.mine.walk ≡ None → O.mine.pending ≡ None → O.desk.opening ≡ None → ((j : ℕ) → O.inodes j ≡ None)
+    → B (fails (Fstat fd) BadDescriptor ∷ es) → ((i : ℕ) (x : Node) → B (stat_step fd i x ∷ es))
+    → ((l : ℕ) (u : World) → l + 4 ≡ n → own_of h u ≡ record O { mine = record { refs = O.mine.refs; walk = None; pending = None } } → Safe machine h B Q (k None) l (fails (Fstat fd) BadDescriptor ∷ es) u)
+    → ((l i : ℕ) (x : Node) (u : World) → l + 4 ≡ n → own_of h u ≡ record O { inodes = put O.inodes i (Some (locked_held (Some x))); mine = record { refs = O.mine.refs; walk = None; pending = None } } → Safe machine h B Q (k (Some (i, face_or (face_of (Some x))))) l (stat_step fd i x ∷ es) u)
+    → Safe machine h B Q (Do (StatFile fd) (λ a. own_step (Fstat fd)) k) n es w
+s-stat-file {A} {h} fd {k} {B} {Q} {n} {es} {w} {O} owns free lt pos walks none idle empty bf bd bad then_ = s-owned owns free pos (λ v inv ov. (locks_none h v O inv ov (λ i x q. absurd (let a = empty i in cc (a, q))), (λ _ _. at v inv ov (slot_at v h fd) refl)))
+  where
+    m : Option (ℕ × Face) → Option Mark
+    m a = own_step (Fstat fd)
+
+    Goal : World → Came (Option (ℕ × Face)) World → Type 0
+    Goal v z = Good machine (Option (ℕ × Face)) h (λ a. places h (StatFile fd) a (own_step (Fstat fd)) v) 3 n B es v (EntryOut h v (entry_of v h fd)) (with_mark h (λ (_ : Option (ℕ × Face)). own_step (Fstat fd)) z) (λ l a u. Wp machine h B Q (k a) l (onto (own h (places h (StatFile fd) a (own_step (Fstat fd)) v)) es) u)
+
+    opening_none : (v : World) → own_of h v ≡ O → (v.desks h).opening ≡ None
+    opening_none v ov = ap (λ (o : Own). o.desk.opening) ov ∙ idle
+
+    told : (v : World) → Inv v → own_of h v ≡ O → (s : ℕ) (e : Entry) → slot_at v h fd ≡ Some s → Behind h fd s e v → (r : Option ℕ) → v.lock e.file.number ≡ r → Goal v (lock_if h e.file.number (Some (e.file.number, face_or (face_of (v.disk e.file.number)))) v (locked h e.file.number v) r)
+    told v inv ov s e q hit (Some g) r = subst (λ (z : Option Entry). EntryOut h v z) (sym (entry_is h fd s e v q hit)) (is_out h e.file.number g v O inv ov (empty e.file.number) r)
+    told v inv ov s e q hit None r =
+        fine_after a.fair refl
+        (moves_good h 3 n B Q es u u (OwnMove (Fstat fd) 0) (k (Some (e.file.number, face_or (face_of (v.disk e.file.number))))) (made_by v.all h (new_id v) (v.harts h).walk (OwnMove (Fstat fd) 0)) (record { all = v.all; walk = None; found = None; opened = None; entered = None; left = None; told = Some deed })
+        made_is
+        (fair a.fair.inv (walk_did h None None u (ap (λ (o : Own). o.desk.lender) ov ∙ free) lt a.fair.inv (ap (λ (o : Own). o.mine.pending) ov ∙ none) (λ y z p. absurd cc) (λ z p. absurd cc) (λ j p. absurd cc)))
+        (new_id v, refl, ap (λ (o : Own). o.mine.walk) ov ∙ walks, record {
+          answer = Status (stat_of e.file.number x.0);
+          deed = refl;
+          step = (
+            stat_goes (settle v.all) h fd e.file (resolve (settle v.all) h []) (parent (settle v.all) h []) (file_settled v.all h fd ∙ hit.file),
+            sym (stat_is (settle v.all) h fd (new_id v) e.file.number e.file x.0 (resolve (settle v.all) h []) (parent (settle v.all) h []) (file_settled v.all h fd ∙ hit.file) refl (node_settled h fd v e s inv lt hit ∙ x.1)),
+            record { node = λ z. absurd cc; file = λ z. absurd cc },
+            settle_again v.all ∙ ap (λ (t : Tree). settle t) (sym (stat_effect (settle v.all) h fd 0 (new_id v) (resolve (settle v.all) h []) (parent (settle v.all) h []))),
+            stat_place (settle v.all) h fd lt,
+          );
+          walk = ap (λ (z : Stage). z.walk) (stage_walk h None None u);
+          alone = λ ok z. absurd cc;
+          idle = λ g l z. absurd cc;
+        })
+        (bd e.file.number x.0) pos
+        (λ l p. subst (λ (z : Option Node). Wp machine h B Q (k (Some (e.file.number, face_or (face_of z)))) l (stat_step fd e.file.number x.0 ∷ es) (record u { harts = with_walk v.harts h None None })) (sym (a.whole ∙ x.1))
+        (then_ l e.file.number x.0 (record u { harts = with_walk v.harts h None None }) p (own_walk h None None u (record O { inodes = put O.inodes e.file.number (Some (locked_held (Some x.0))) }) (a.owned ∙ (λ z. record O { inodes = put O.inodes e.file.number (Some (locked_held (x.1 z))) })))).wp))
+      where
+        u : World
+        u = locked h e.file.number v
+
+        a : Locking h e.file.number v O
+        a = locking h e.file.number v O ov free lt inv (empty e.file.number) (inl (behind_opens h fd s e v hit)) r
+
+        x : (x : Node) × (v.all.nodes e.file.number ≡ Some x)
+        x = node_there v s e inv hit.at
+
+        deed : Deed
+        deed = record { act = record { step = Fstat fd; answer = Status (stat_of e.file.number x.0) }; new = 0 }
+
+        made_is : made_by v.all h (new_id v) (v.harts h).walk (OwnMove (Fstat fd) 0) ≡ record { all = v.all; walk = None; found = None; opened = None; entered = None; left = None; told = Some deed }
+        made_is = rw (stat_goes v.all h fd e.file (resolve v.all h []) (parent v.all h []) hit.file)
+            (λ z. record { all = stat_effect v.all h fd 0 (new_id v) (resolve v.all h []) (parent v.all h []) z; walk = None; found = None; opened = None; entered = None; left = None; told = Some (record { act = record { step = Fstat fd; answer = stat_is v.all h fd (new_id v) e.file.number e.file x.0 (resolve v.all h []) (parent v.all h []) hit.file refl x.1 z }; new = 0 }) })
+
+    at : (v : World) → Inv v → own_of h v ≡ O → (o : Option ℕ) → slot_at v h fd ≡ o → Goal v (stat_at h v (entry_at v.files o))
+    at v inv ov None q = refused_good h 3 n B Q es v O (Fstat fd) BadDescriptor (k None) ov free lt inv walks none (stat_is_refused h fd v lt (behind_none h fd v inv lt (opening_none v ov) q)) bf pos bad
+    at v inv ov (Some s) q =
+        let b = behind h fd s v inv lt (opening_none v ov) q in
+        subst (λ (z : Option Entry). Goal v (stat_at h v z)) (sym b.1.at) (told v inv ov s b.0 q b.1 (v.lock b.0.file.number) refl)

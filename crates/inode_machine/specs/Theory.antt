@@ -1,0 +1,80 @@
+-- The calls on descriptors that change no content, as a theory: what every list of events makes of them.
+use Rattle.std.specs.Prelude.{◌≡◌, ℕ, Bool, true, false, ◌&&◌, nat_lt, ◌==◌, List, None}
+use Rattle.plain_tree.specs.declared.answer.Reply.{Reply}
+use Rattle.plain_tree.specs.declared.call.Call.{Call}
+use Rattle.plain_tree.specs.declared.call.Call.TheVariants.{Open, Read, Write, Link, Unlink, Mkdir, Chdir, Dup, Fstat, Close, Inherit}
+use Rattle.plain_tree.specs.Tree.{Tree}
+use Rattle.plain_tree.specs.Widths.{hart_count}
+use Rattle.tree_laws.specs.WellFormed.{one_if, sum_below, IsWellFormed}
+use Rattle.atomic_programs.specs.Calls.{Theory, Began, Refuses, Begins, Event, AllHonest, run, fresh}
+use Rattle.atomic_programs.specs.Explained.{Explained}
+use Rattle.inode_machine.specs.Moves.{Written}
+use Rattle.inode_machine.specs.World.{Mine, World, Outside, stage_of}
+use Rattle.inode_machine.specs.Exec.{is_nothing}
+use Rattle.inode_machine.specs.Rules.{Inv, Idle, machine}
+use Rattle.inode_machine.specs.Programs.{program, limit}
+
+-- why a start is refused: there is no such hart, it has a call or waits for another's, or the call is none of these
+pub data Refusal : Type 0 where
+  NotNow : Refusal
+  Busy : Refusal
+
+abbrev pub on_descriptors : Call → Bool
+on_descriptors (Open path flags) = false
+on_descriptors (Read fd buffer) = true
+on_descriptors (Write fd bytes) = false
+on_descriptors (Link old new) = false
+on_descriptors (Unlink path) = false
+on_descriptors (Mkdir path) = false
+on_descriptors (Chdir path) = false
+on_descriptors (Dup fd) = true
+on_descriptors (Fstat fd) = true
+on_descriptors (Close fd) = true
+on_descriptors (Inherit child) = false
+
+abbrev pub begin_if : Bool → World → Began Refusal World
+begin_if true w = Begins w
+begin_if false w = Refuses NotNow
+
+abbrev pub descriptor_calls : Theory
+descriptor_calls =
+    record {
+      M = machine;
+      Call = Call;
+      Reply = Reply;
+      Refusal = Refusal;
+      start = λ h call busy w. begin_if (nat_lt h hart_count && (on_descriptors call && is_nothing (w.desks h).lender)) w;
+      busy = Busy;
+      program = program;
+      Written = Written;
+      limit = limit;
+    }
+
+-- Every list of events, of any harts, from a world that holds and where every hart rests, is explained by one list of tree steps.
+abbrev pub DescriptorCallsAreExplained : Type 0
+DescriptorCallsAreExplained = (w : World) (events : List (Event Call Outside)) → Inv w → ((h : ℕ) → Idle h w) → AllHonest descriptor_calls events (fresh descriptor_calls w) → Explained descriptor_calls (stage_of w) (run descriptor_calls events (fresh descriptor_calls w))
+
+-- A world at rest on a tree without open files, orphans included.
+
+abbrev pub resting : Tree → ℕ → Mine
+resting t h = record { refs = λ i. one_if (t.cwd h == i); walk = None; pending = None }
+
+abbrev pub at_rest : Tree → World
+at_rest t = record {
+  disk = t.nodes;
+  lock = λ i. None;
+  refs = λ i. sum_below hart_count (λ g. (resting t g).refs i);
+  slots = λ i. 0;
+  files = λ k. None;
+  desks = λ h. record { fds = λ i. None; hand = None; joined = false; directory = t.cwd h; lent = λ i. None; lender = None; opening = None; left = None; noted = None; full = false };
+  ids = λ k. 0;
+  clean = true;
+  harts = resting t;
+  keeper = λ i. None;
+  alone = λ i. false;
+  next = 0;
+  all = t;
+}
+
+abbrev pub WorldsRest : Type 0
+WorldsRest = (t : Tree) → IsWellFormed t → ((id : ℕ) → t.files id ≡ None) → ((h : ℕ) → t.holds h ≡ None) → ((h i : ℕ) → t.fds h i ≡ None) → Inv (at_rest t) × ((h : ℕ) → Idle h (at_rest t))
