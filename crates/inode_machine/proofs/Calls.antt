@@ -1,44 +1,38 @@
 -- The calls on descriptors are right, whatever the other harts do.
-use Rattle.std.proofs.Common.{◌≡◌, ◌≢◌, ◌⊎◌, inl, inr, ℕ, ◌+◌, ◌-◌, ◌<◌, ◌≤◌, Bool, true, false, ◌&&◌, ◌==◌, nat_lt, List, [], ◌∷◌, ◌++◌, length, Option, Some, None, refl, sym, ◌∙◌, ap, subst, arith}
+use Rattle.std.proofs.Common.{◌≡◌, inl, inr, ℕ, ◌+◌, ◌-◌, ◌<◌, Bool, true, false, ◌&&◌, ◌==◌, nat_lt, List, [], ◌∷◌, ◌++◌, length, Option, Some, None, refl, sym, ◌∙◌, ap, subst, arith}
 use Rattle.std.proofs.lemmas.Bool.Decides.{nat_tests}
-use Rattle.atomic_programs.specs.Prog.{Do, Ret, unmarked}
-use Rattle.atomic_programs.specs.Logic.{P, Wp, Safe, Laws}
-use Rattle.atomic_programs.specs.Calls.{Began, Begins, Begun, Ends, IsBeginning, Right, Lawful, Event, AllHonest, run, fresh}
-use Rattle.atomic_programs.specs.Explained.{Explained}
+use Rattle.atomic_programs.specs.Logic.{Safe, Laws}
+use Rattle.atomic_programs.specs.Calls.{Began, Begins, Begun, Ends, IsBeginning, Right, Lawful}
 use Rattle.atomic_programs.proofs.Explains.{explains}
 use Rattle.plain_tree.specs.declared.answer.Cause.{Cause}
 use Rattle.plain_tree.specs.declared.answer.Cause.TheVariants.{BadDescriptor}
-use Rattle.plain_tree.specs.declared.answer.Full.TheVariants.{Descriptors as NoDescriptors}
 use Rattle.plain_tree.specs.declared.answer.Answer.TheVariants as answers
-use Rattle.plain_tree.specs.declared.answer.Reply.{Reply}
 use Rattle.plain_tree.specs.declared.call.Call.{Call}
 use Rattle.plain_tree.specs.declared.call.Call.TheVariants as calls
 use Rattle.plain_tree.specs.declared.step.Action.TheVariants as steps
 use Rattle.plain_tree.specs.declared.node.Node.{Node}
 use Rattle.plain_tree.specs.Widths.{hart_count}
 use Rattle.plain_tree.specs.Tree.{put}
-use Rattle.plain_tree.specs.Steps.{stat_of}
 use Rattle.plain_tree.specs.Calls.{next_of, reply_of, had_room}
 use Rattle.tree_laws.specs.WellFormed.{one_if}
 use Rattle.tree_laws.proofs.Maps.{and_true, put_same, put_other, same_or}
-use Rattle.inode_machine.specs.Moves.{Step, Written}
-use Rattle.inode_machine.specs.World.{Desk, World, Outside, stage_of}
-use Rattle.inode_machine.specs.Inodes.{Face, face_or, face_of}
-use Rattle.inode_machine.specs.Exec.{is_nothing, locked}
+use Rattle.inode_machine.specs.Moves.{Written}
+use Rattle.inode_machine.specs.World.{Desk, World, stage_of}
+use Rattle.inode_machine.specs.Inodes.{face_or, face_of}
+use Rattle.inode_machine.specs.Exec.{is_nothing}
 use Rattle.inode_machine.specs.Rules.{Held, Row, Own, Others, Rests, own_of, nothing, Idle, Inv, machine}
 use Rattle.inode_machine.specs.Parts.{say}
 use Rattle.inode_machine.specs.Parts as parts
-use Rattle.inode_machine.specs.Descriptors.{dup_program, dup_on, close_program, close_on, stat_program, stat_on, stat_reply, read_program, read_on, read_reply}
+use Rattle.inode_machine.specs.Descriptors.{dup_program, close_program, stat_program, stat_reply, read_program, read_reply}
 use Rattle.inode_machine.specs.Programs.{program, limit, rest_cost}
 use Rattle.inode_machine.specs.Theory.{descriptor_calls, on_descriptors, begin_if, Refusal, DescriptorCallsAreExplained}
-use Rattle.inode_machine.proofs.Rules.{UnlocksAll, locked_held}
+use Rattle.inode_machine.proofs.Rules.{locked_held}
 use Rattle.inode_machine.proofs.Counting.{s-give}
 use Rattle.inode_machine.proofs.Dups.{fails, dupped, s-double, s-join, s-leave, s-say, SameRow, SameDesk}
 use Rattle.inode_machine.proofs.Closes.{shut_step, s-shut}
 use Rattle.inode_machine.proofs.Stats.{stat_step, stat_face, s-stat-file}
 use Rattle.inode_machine.proofs.Readings.{read_step, s-read-file}
 use Rattle.inode_machine.proofs.Drops.{s-drop}
-use Rattle.inode_machine.proofs.Rest.{rests}
 
 -- The machine's laws.
 
@@ -145,11 +139,16 @@ close_ok h fd w free lt idle =
     let more : put (w.harts h).refs n ((w.harts h).refs n + 1) n ≡ (w.harts h).refs n + 1 = put_same (w.harts h).refs n ((w.harts h).refs n + 1) in
     let unlent : d.lender ≡ None = desk.lender ∙ free in
     s-join own unlent lt (omega (arith, q)) none (desk.joined ∙ idle.joined) (λ l2 u2 q2 own2.
-    s-drop n own2 unlent lt (omega (arith, q, q2)) refl (ap (λ (f : ℕ → Option Held). f n) idle.inodes) (omega (arith, more)) refl refl (elim named [ inl p ↦ inl (omega (arith, more, p)) | inr p ↦ inr p ]) (λ m p. absurd (let a = desk.noted in let b = idle.noted in cc (a, b, p))) (λ l3 u3 q3 own3.
+    s-drop n own2 unlent lt (omega (arith, q, q2)) refl (ap (λ (f : ℕ → Option Held). f n) idle.inodes) (omega (arith, more)) refl refl (elim named [ inl p ↦ inl (omega (arith, more, p)) | inr p ↦ inr p ]) (λ l3 u3 q3 own3.
     s-leave own3 unlent lt (omega (arith, q, q2, q3)) none refl (λ i x is. absurd (let a = ap (λ (f : ℕ → Option Held). f i) idle.inodes in cc (a, is))) (λ l4 u4 q4 own4.
     s-say own4 unlent lt (omega (arith, q, q2, q3, q4)) none refl (λ l5 u5 q5 _ own5.
-    record { wp = (λ c. close_written fd, idle_as h u5 _ own5 (subst (λ (f : ℕ → ℕ). Rests (record (own_of h w) { row = r; desk = record d { joined = false; noted = None }; mine = record { refs = f; walk = None; pending = None } })) (sym (refs_back (w.harts h).refs n))
-    (rests_as (own_of h w) r (record d { joined = false; noted = None }) idle row.hold desk.directory desk.hand (sym idle.joined) desk.lent desk.opening desk.left (sym idle.noted)))) })))))
+    record {
+      wp = (
+        λ c. close_written fd,
+        idle_as h u5 _ own5 (subst (λ (f : ℕ → ℕ). Rests (record (own_of h w) { row = r; desk = record d { joined = false; noted = None }; mine = record { refs = f; walk = None; pending = None } })) (sym (refs_back (w.harts h).refs n))
+            (rests_as (own_of h w) r (record d { joined = false; noted = None }) idle row.hold desk.directory desk.hand (sym idle.joined) desk.lent desk.opening desk.left (sym idle.noted))),
+      );
+    })))))
   where
     none : (i : ℕ) (x : Held) → (own_of h w).inodes i ≡ Some x → x.locked ≡ false
     none = rests_free (own_of h w) (own_of h w).inodes idle.inodes
@@ -171,8 +170,13 @@ stat_ok h fd w free lt idle =
     (λ l i v u q own.
     s-give own free lt (omega (arith, q)) (put_same (own_of h w).inodes i (Some (locked_held (Some v)))) refl refl refl refl (λ l2 u2 q2 own2.
     s-say own2 free lt (omega (arith, q, q2)) (rests_free (own_of h w) _ (none_left (own_of h w).inodes i (Some (locked_held (Some v))) idle.inodes)) idle.joined (λ l3 u3 q3 _ own3.
-    record { wp = (λ c. stat_written fd i v, idle_as h u3 _ own3 (subst (λ (f : ℕ → Option Held). Rests (record (own_of h w) { inodes = f; mine = record { refs = (own_of h w).mine.refs; walk = None; pending = None } })) (idle.inodes ∙ sym (none_left (own_of h w).inodes i (Some (locked_held (Some v))) idle.inodes))
-    (rests_as (own_of h w) (own_of h w).row (own_of h w).desk idle refl refl refl refl refl refl refl refl))) })))
+    record {
+      wp = (
+        λ c. stat_written fd i v,
+        idle_as h u3 _ own3 (subst (λ (f : ℕ → Option Held). Rests (record (own_of h w) { inodes = f; mine = record { refs = (own_of h w).mine.refs; walk = None; pending = None } })) (idle.inodes ∙ sym (none_left (own_of h w).inodes i (Some (locked_held (Some v))) idle.inodes))
+            (rests_as (own_of h w) (own_of h w).row (own_of h w).desk idle refl refl refl refl refl refl refl refl)),
+      );
+    })))
 
 -- Read.
 
@@ -191,8 +195,13 @@ read_ok h fd buffer w free lt idle =
     (λ l i b x u q own.
     s-give own free lt (omega (arith, q)) (put_same (own_of h w).inodes i (Some (locked_held x))) refl refl refl refl (λ l2 u2 q2 own2.
     s-say own2 free lt (omega (arith, q, q2)) (rests_free (own_of h w) _ (none_left (own_of h w).inodes i (Some (locked_held x)) idle.inodes)) idle.joined (λ l3 u3 q3 _ own3.
-    record { wp = (λ c. read_written fd buffer b, idle_as h u3 _ own3 (subst (λ (f : ℕ → Option Held). Rests (record (own_of h w) { inodes = f; mine = record { refs = (own_of h w).mine.refs; walk = None; pending = None } })) (idle.inodes ∙ sym (none_left (own_of h w).inodes i (Some (locked_held x)) idle.inodes))
-    (rests_as (own_of h w) (own_of h w).row (own_of h w).desk idle refl refl refl refl refl refl refl refl))) })))
+    record {
+      wp = (
+        λ c. read_written fd buffer b,
+        idle_as h u3 _ own3 (subst (λ (f : ℕ → Option Held). Rests (record (own_of h w) { inodes = f; mine = record { refs = (own_of h w).mine.refs; walk = None; pending = None } })) (idle.inodes ∙ sym (none_left (own_of h w).inodes i (Some (locked_held x)) idle.inodes))
+            (rests_as (own_of h w) (own_of h w).row (own_of h w).desk idle refl refl refl refl refl refl refl refl)),
+      );
+    })))
 
 -- A start changes nothing.
 pub right : (h : ℕ) (call : Call) (busy : ℕ → Bool) (w u : World) → ((other : ℕ) → busy other ≡ false → Idle other w) → busy h ≡ false → w ≡ u
@@ -223,7 +232,7 @@ unlent (Some g) e = absurd cc
 pub lawful : Lawful descriptor_calls
 lawful = record {
   laws = laws;
-  calls = λ h call busy w u idle free e.
+  calls = λ h call busy w u holds idle free e.
       let b = begun_same (nat_lt h hart_count && (on_descriptors call && is_nothing (w.desks h).lender)) w u e in
       let c = and_true (nat_lt h hart_count) (on_descriptors call && is_nothing (w.desks h).lender) b.0 in
       let d = and_true (on_descriptors call) (is_nothing (w.desks h).lender) c.1 in

@@ -17,7 +17,7 @@ use Rattle.inode_machine.specs.Moves.{Walk, Stage, Step, Takes}
 use Rattle.inode_machine.specs.Moves.Move.{Own as OwnMove}
 use Rattle.inode_machine.specs.Exec.{is_at, file_count, with_refs, with_walk, slot_at, entry_at, close_at, close_if, close_less, close_last}
 use Rattle.inode_machine.specs.World.{Mine, Entry, Desk, World, stage_of}
-use Rattle.inode_machine.specs.Marks.{places, with_mark, made_by, go, new_id}
+use Rattle.inode_machine.specs.Marks.{places, with_mark, made_by, new_id}
 use Rattle.inode_machine.specs.World.Op.{Shut}
 use Rattle.inode_machine.specs.Rules.{Own, shop_of, number_is, users, own_names, Row, key_at, key_of, row_of, own_of, IsAlone, Inv, machine, left_or, nothing}
 use Rattle.inode_machine.proofs.Frame.{put_elim, Fair, fair, has_none, one_refs}
@@ -178,12 +178,13 @@ shuts h fd s e v O F S H inv ov free lt walk still idle empty unnoted hit c = re
     walk = c.walk;
     lone = c.lone;
   }));
-  takes = own_takes h v (shut_world h fd v F S H) (Close fd) Done refl refl walk (λ z. refl) (λ g z. absurd cc)
-      (close_goes (settle v.all) h fd e.file (resolve (settle v.all) h []) (parent (settle v.all) h []) (file_settled v.all h fd ∙ hit.file),
-      sym (close_answer (settle v.all) h fd (new_id v) (resolve (settle v.all) h []) (parent (settle v.all) h [])),
-      record { node = λ z. absurd cc; file = λ z. absurd cc },
-      settle_less v.all (fewer v.all h fd) (left_open v.all h fd) (fewer_names v.all h fd) ∙ ap (λ (z : Tree). settle z) (sym (close_effect_settled v.all h fd 0 (new_id v) (resolve (settle v.all) h []) (parent (settle v.all) h []))),
-      close_place (settle v.all) h fd lt) c.walks;
+  takes = own_takes h v (shut_world h fd v F S H) (Close fd) Done refl refl walk (λ z. refl) (λ g z. absurd cc) (
+    close_goes (settle v.all) h fd e.file (resolve (settle v.all) h []) (parent (settle v.all) h []) (file_settled v.all h fd ∙ hit.file),
+    sym (close_answer (settle v.all) h fd (new_id v) (resolve (settle v.all) h []) (parent (settle v.all) h [])),
+    record { node = λ z. absurd cc; file = λ z. absurd cc },
+    settle_less v.all (fewer v.all h fd) (left_open v.all h fd) (fewer_names v.all h fd) ∙ ap (λ (z : Tree). settle z) (sym (close_effect_settled v.all h fd 0 (new_id v) (resolve (settle v.all) h []) (parent (settle v.all) h []))),
+    close_place (settle v.all) h fd lt,
+  ) c.walks;
   row = record { cwd = ap (λ (o : Own). o.row.cwd) ov; hold = ap (λ (o : Own). o.row.hold) ov };
   desk = same;
 }
@@ -377,8 +378,8 @@ s-shut {A} {h} fd {k} {B} {Q} {n} {es} {w} {O} owns free lt pos walks none idle 
         (λ z. record {
           inodes = ap (λ (o : Own). o.inodes) ov z;
           mine = (put_same (with_refs v.harts h e.file.number ((v.harts h).refs e.file.number + 1)) h (record { refs = (with_refs v.harts h e.file.number ((v.harts h).refs e.file.number + 1) h).refs; walk = None; pending = None })
-          ∙ ap (λ (m : Mine). record { refs = m.refs; walk = None; pending = None }) (put_same v.harts h (record { refs = put (v.harts h).refs e.file.number ((v.harts h).refs e.file.number + 1); walk = (v.harts h).walk; pending = (v.harts h).pending }))
-          ∙ ap (λ (o : Own). record { refs = put o.mine.refs e.file.number (o.mine.refs e.file.number + 1); walk = None; pending = None }) ov) z;
+              ∙ ap (λ (m : Mine). record { refs = m.refs; walk = None; pending = None }) (put_same v.harts h (record { refs = put (v.harts h).refs e.file.number ((v.harts h).refs e.file.number + 1); walk = (v.harts h).walk; pending = (v.harts h).pending }))
+              ∙ ap (λ (o : Own). record { refs = put o.mine.refs e.file.number (o.mine.refs e.file.number + 1); walk = None; pending = None }) ov) z;
           row = row_of (without_fd v.all h fd) h;
           ninodes = ap (λ (o : Own). o.ninodes) ov z;
           desk = with_fd v.desks h fd None h;

@@ -1,5 +1,5 @@
 -- Unlocking, writing, counting down, and claiming a free number.
-use Rattle.std.proofs.Common.{◌≡◌, ◌≢◌, ◌⊎◌, inl, inr, ℕ, ◌+◌, ◌-◌, ◌<◌, Bool, true, false, ◌==◌, ◌&&◌, List, [], Option, Some, None, refl, sym, ◌∙◌, ap, subst, arith}
+use Rattle.std.proofs.Common.{◌≡◌, ◌≢◌, ◌⊎◌, inl, inr, ℕ, ◌+◌, ◌-◌, ◌<◌, Bool, true, false, ◌==◌, List, [], Option, Some, None, refl, sym, ◌∙◌, ap, subst, arith}
 use Rattle.std.proofs.lemmas.Bool.Decides.{nat_tests}
 use Rattle.atomic_programs.specs.Prog.{Do, unmarked}
 use Rattle.atomic_programs.specs.Logic.{P, Good, Fine, Safe, Wp}
@@ -8,10 +8,10 @@ use Rattle.plain_tree.specs.Widths.{hart_count}
 use Rattle.plain_tree.specs.Tree.{put, is_live, settle}
 use Rattle.tree_laws.specs.WellFormed.{sum_below}
 use Rattle.tree_laws.proofs.Maps.{eq_is, either, same_or, put_same, put_other, and_true}
-use Rattle.inode_machine.specs.Moves.{Walk, Step, after}
+use Rattle.inode_machine.specs.Moves.{Walk, Step}
 use Rattle.inode_machine.specs.World.{Mine, World, stage_of}
-use Rattle.inode_machine.specs.Marks.{with_mark, go}
-use Rattle.inode_machine.specs.Exec.{unlocked, counted_down, down_if, is_dead, is_last, locked, reserved, walk_down_if}
+use Rattle.inode_machine.specs.Marks.{with_mark}
+use Rattle.inode_machine.specs.Exec.{unlocked, counted_down, down_if, is_dead, is_last, reserved, walk_down_if}
 use Rattle.inode_machine.specs.World.Op.{Down, Give, WalkDown}
 use Rattle.inode_machine.specs.Rules.{Own, shop_of, own_names, Held, view, is_hart, if_kept, row_of, own_of, Pinned, Inv, machine, Reached}
 use Rattle.inode_machine.proofs.Frame.{shop_same, put_elim, ours_none, ours_some, kept_here, Did, Fair, fair, own_inodes, has_inode, has_none, one_refs, two_refs}
@@ -25,10 +25,13 @@ pub s-give : {A : Type 0} {h i : ℕ} {x : Held} {k : Unit {0} → P machine A} 
     → own_of h w ≡ O → O.desk.lender ≡ None → h < hart_count → 0 < n → O.inodes i ≡ Some x → x.locked ≡ true → x.alone ≡ false → x.disk ≡ x.node → O.mine.pending ≡ None
     → ((l : ℕ) (u : World) → l + 1 ≡ n → own_of h u ≡ record O { inodes = put O.inodes i None } → Safe machine h B Q (k tt) l es u)
     → Safe machine h B Q (Do (Give i) unmarked k) n es w
-s-give {A} {h} {i} {x} {k} {B} {Q} {n} {es} {w} {O} owns free lt pos isi has shared whole none rest = s-owned owns free pos (λ v inv ov. (locks_it h i v O x ov isi has, (λ _ _.
-    let a : v.alone i ≡ false = ap (λ (y : Held). y.alone) (has_inode h i v O x ov isi).1 ∙ shared in
-    subst (λ (b : Bool). Fine machine h [] 0 n B es v (unlocked i v b) (λ l. Wp machine h B Q (k tt) l es (unlocked i v b))) (sym a)
-    (quiet (fair inv (did v inv ov)) refl pos (λ l q. (rest l (after_unlock i v) q (owned v ov)).wp)))))
+s-give {A} {h} {i} {x} {k} {B} {Q} {n} {es} {w} {O} owns free lt pos isi has shared whole none rest = s-owned owns free pos (λ v inv ov. (
+  locks_it h i v O x ov isi has,
+  (λ _ _.
+      let a : v.alone i ≡ false = ap (λ (y : Held). y.alone) (has_inode h i v O x ov isi).1 ∙ shared in
+      subst (λ (b : Bool). Fine machine h [] 0 n B es v (unlocked i v b) (λ l. Wp machine h B Q (k tt) l es (unlocked i v b))) (sym a)
+      (quiet (fair inv (did v inv ov)) refl pos (λ l q. (rest l (after_unlock i v) q (owned v ov)).wp))),
+))
   where
     kept : (v : World) → own_of h v ≡ O → v.keeper i ≡ Some h
     kept v ov = (has_inode h i v O x ov isi).0
@@ -55,7 +58,7 @@ s-give {A} {h} {i} {x} {k} {B} {Q} {n} {es} {w} {O} owns free lt pos isi has sha
           quiet = λ j. put_elim v.keeper i None j (λ z. z ≡ Some h → (v.desks h).joined ≡ false → v.disk j ≡ v.all.nodes j) (λ q is f. absurd cc) (λ q is f. inv.quiet j h is f);
           sort = λ j. inl refl;
           sorts = inv.sorts;
-          noted = λ n is r. inv.noted h n lt is r;
+          noted = λ n is r s. inv.noted h n lt is r s;
           directory = inv.directory h lt;
           well = inv.well;
           counts = inv.counts;
@@ -117,7 +120,7 @@ writes h i y x O v free lt joined inv ov isi = record { fair = fair inv did; own
           quiet = λ j is f. absurd (let e : (v.desks h).joined ≡ true = ap (λ (o : Own). o.desk.joined) ov ∙ joined in cc (e, f));
           sort = λ j. inl refl;
           sorts = inv.sorts;
-          noted = λ n is r. inv.noted h n lt is r;
+          noted = λ n is r s. inv.noted h n lt is r s;
           directory = inv.directory h lt;
           well = inv.well;
           counts = inv.counts;
@@ -215,7 +218,7 @@ lasting h i v O L b ov free lt inv out refers none e there here mine = record { 
           quiet = λ j. put_elim v.keeper i (Some h) j (λ z. z ≡ Some h → (v.desks h).joined ≡ false → v.disk j ≡ v.all.nodes j) (λ q is f. inv.whole j (ap v.keeper q ∙ nobody)) (λ q is f. inv.quiet j h is f);
           sort = λ j. inl refl;
           sorts = inv.sorts;
-          noted = λ n is r. inv.noted h n lt is r;
+          noted = λ n is r s. inv.noted h n lt is r (put_elim v.alone i true n.number (λ z. z ≡ false → v.alone n.number ≡ false) (λ q e. absurd cc) (λ q e. e) s);
           directory = inv.directory h lt;
           well = inv.well;
           counts = inv.counts;
@@ -322,7 +325,7 @@ counting h i v O ov free lt inv out refers none still = record { fair = fair inv
           quiet = λ j is f. inv.quiet j h (sym (keeper_same j) ∙ is) f;
           sort = λ j. inl refl;
           sorts = inv.sorts;
-          noted = λ n is r. inv.noted h n lt is (shrink n.number r);
+          noted = λ n is r s. inv.noted h n lt is (shrink n.number r) (sym (alone_same n.number) ∙ s);
           directory = inv.directory h lt;
           well = inv.well;
           counts = λ j. elim (same_or j i) [
@@ -375,7 +378,7 @@ s-down {A} {h} {i} {k} {B} {Q} {n} {es} {w} {O} owns free lt pos out refers none
     at : (v : World) → Inv v → own_of h v ≡ O → (b : Bool) → is_last v i ≡ b → Good machine Bool h (λ a. []) 0 n B es v ⊥ (with_mark h unmarked (down_if h i v b)) (λ l a u. Wp machine h B Q (k a) l es u)
     at v inv ov true e =
         let a = lasting h i v O (put v.lock i (Some h)) true ov free lt inv out refers none e (λ j ne. put_other v.lock i (Some h) j ne) (is_me h (put v.lock i (Some h) i) (put_same v.lock i (Some h)))
-            (λ g q. let s : Some h ≡ Some g = sym (put_same v.lock i (Some h)) ∙ q in let c : h ≡ g = cc in sym c) in
+        (λ g q. let s : Some h ≡ Some g = sym (put_same v.lock i (Some h)) ∙ q in let c : h ≡ g = cc in sym c) in
         quiet a.fair refl pos (λ l q. (last l (v.all.nodes i) (record (reserved h i v) { lock = put v.lock i (Some h) }) q a.dead a.only a.owned).wp)
     at v inv ov false e = let a = counting h i v O ov free lt inv out refers none still in quiet a.fair a.stage pos (λ l q. (rest l (counted_down h i v) q a.owned).wp)
 
@@ -390,7 +393,7 @@ s-walk-down {A} {h} {i} {k} {B} {Q} {n} {es} {w} {O} owns free lt pos out refers
     at : (v : World) → Inv v → own_of h v ≡ O → (b : Bool) → is_last v i ≡ b → Good machine Bool h (λ a. []) 0 n B es v ⊥ (with_mark h unmarked (walk_down_if h i v b)) (λ l a u. Wp machine h B Q (k a) l es u)
     at v inv ov true e =
         let a = lasting h i v O v.lock false ov free lt inv out refers none e (λ j ne. refl) (lock_free h i v O inv ov out)
-            (λ g q. absurd (let c : is_last v i ≡ true = e in elim (same_or g h) [ inl s ↦ locks_not h i v O inv ov out (q ∙ ap (λ (z : ℕ). Some z) s) | inr ne ↦ held_not g v inv ov ne q c ])) in
+        (λ g q. absurd (let c : is_last v i ≡ true = e in elim (same_or g h) [ inl s ↦ locks_not h i v O inv ov out (q ∙ ap (λ (z : ℕ). Some z) s) | inr ne ↦ held_not g v inv ov ne q c ])) in
         quiet a.fair refl pos (λ l q. (last l (v.all.nodes i) (reserved h i v) q a.dead a.only a.owned).wp)
       where
         -- another hart's lock has a reference of its own

@@ -1,22 +1,14 @@
 -- A reference is dropped, and its inode freed where it was the last one.
-use Rattle.std.proofs.Common.{◌≡◌, ◌≢◌, ◌⊎◌, inl, inr, ℕ, ◌+◌, ◌-◌, ◌<◌, ◌≤◌, true, false, List, [], ◌∷◌, Option, Some, None, refl, sym, ◌∙◌, ap, arith}
-use Rattle.atomic_programs.specs.Prog.{Do, unmarked}
+use Rattle.std.proofs.Common.{◌≡◌, ◌⊎◌, inl, inr, ℕ, ◌+◌, ◌-◌, ◌<◌, ◌≤◌, true, false, List, Some, None, sym, ◌∙◌, ap, arith}
 use Rattle.atomic_programs.specs.Logic.{Safe}
-use Rattle.plain_tree.specs.declared.node.Node.{Node}
-use Rattle.plain_tree.specs.declared.step.Action.TheVariants.{Unlink}
-use Rattle.plain_tree.specs.declared.step.StepAnswer.TheVariants.{Done}
 use Rattle.plain_tree.specs.Widths.{hart_count}
-use Rattle.plain_tree.specs.Tree.{Name, put, look, same_name, dot, dotdot, live_directory}
-use Rattle.plain_tree.specs.Steps.{lowered, not_empty}
+use Rattle.plain_tree.specs.Tree.{put}
 use Rattle.tree_laws.proofs.Maps.{same_or, put_same, put_other}
 use Rattle.inode_machine.specs.Moves.{Step}
-use Rattle.inode_machine.specs.Moves.Move.{Look}
-use Rattle.inode_machine.specs.World.{World, Note}
-use Rattle.inode_machine.specs.World.Mark.{Makes}
+use Rattle.inode_machine.specs.World.{World}
 use Rattle.inode_machine.specs.Parts.{P as ThisP, drop}
-use Rattle.inode_machine.specs.Rules.{Own, own_names, Held, own_of, machine}
+use Rattle.inode_machine.specs.Rules.{Own, own_names, own_of, machine}
 use Rattle.inode_machine.proofs.Counting.{s-down}
-use Rattle.inode_machine.specs.Exec.{locked}
 use Rattle.inode_machine.proofs.Freeing.{s-free-all}
 
 gone_back : {A : Type 0} (f : ℕ → A) (i : ℕ) (a b c y : A) → f i ≡ y → put (put (put (put f i a) i b) i c) i y ≡ f
@@ -29,12 +21,12 @@ gone_back {A} f i a b c y is = λ r n. each n r
     ]
 
 pub s-drop : {A : Type 0} {h : ℕ} (i : ℕ) {k : ThisP A} {B : List Step → Type 0} {Q : A → List Step → World → Type 0} {n : ℕ} {es : List Step} {w : World} {O : Own}
-    → own_of h w ≡ O → O.desk.lender ≡ None → h < hart_count → 903 < n → O.desk.joined ≡ true → O.inodes i ≡ None → 0 < O.mine.refs i → O.mine.pending ≡ None → O.mine.walk ≡ None → ((1 < O.mine.refs i) ⊎ (own_names O.row O.desk i ≡ false)) → ((m : Note) → O.desk.noted ≡ Some m → m.number ≢ i)
+    → own_of h w ≡ O → O.desk.lender ≡ None → h < hart_count → 903 < n → O.desk.joined ≡ true → O.inodes i ≡ None → 0 < O.mine.refs i → O.mine.pending ≡ None → O.mine.walk ≡ None → ((1 < O.mine.refs i) ⊎ (own_names O.row O.desk i ≡ false))
     → ((l : ℕ) (u : World) → n ≤ l + 904 → own_of h u ≡ record O { mine = record { refs = put O.mine.refs i (O.mine.refs i - 1); walk = O.mine.walk; pending = O.mine.pending } } → Safe machine h B Q k l es u)
     → Safe machine h B Q (drop i k) n es w
-s-drop i {O = O} owns free lt few joined out refers none still may unnoted rest =
+s-drop i {O = O} owns free lt few joined out refers none still may rest =
     s-down owns free lt (omega arith) out refers none (elim may [ inl m ↦ inl m | inr m ↦ inr (m, λ y is. absurd (cc (is, still))) ])
-    (λ l s u q dead one own1. s-free-all s own1 free lt (omega (arith, q, few)) joined (put_same O.inodes i (Some (record { disk = s; node = s; alone = true; locked = true }))) one none (elim may [ inl m ↦ absurd (omega (arith, m, one)) | inr m ↦ m ]) still unnoted
+    (λ l s u q dead one own1. s-free-all s own1 free lt (omega (arith, q, few)) joined (put_same O.inodes i (Some (record { disk = s; node = s; alone = true; locked = true }))) one none (elim may [ inl m ↦ absurd (omega (arith, m, one)) | inr m ↦ m ]) still
     (λ l2 u2 q2 own2. rest l2 u2 (omega (arith, q, q2)) (own2 ∙ (λ r. record O {
       inodes = gone_back O.inodes i (Some (record { disk = s; node = s; alone = true; locked = true })) (Some (record { disk = None; node = None; alone = true; locked = true })) (Some (record { disk = None; node = None; alone = true; locked = false })) None out r;
       mine = record { refs = put O.mine.refs i (O.mine.refs i - 1); walk = O.mine.walk; pending = O.mine.pending };

@@ -1,7 +1,7 @@
 -- A descriptor's open file, a refused step, want of room, and one more descriptor.
 use Rattle.std.proofs.Common.{◌≡◌, ◌≢◌, ◌⊎◌, inl, inr, ℕ, ◌+◌, ◌<◌, Bool, true, false, ◌==◌, ◌&&◌, ◌||◌, nat_lt, List, [], ◌∷◌, Option, Some, None, refl, sym, ◌∙◌, ap, subst, arith, if◌then◌else◌}
 use Rattle.std.proofs.lemmas.Bool.Decides.{nat_tests}
-use Rattle.atomic_programs.specs.Prog.{Do, unmarked, Did as Came, Ran}
+use Rattle.atomic_programs.specs.Prog.{Do, unmarked}
 use Rattle.atomic_programs.specs.Logic.{P, own, onto, Good, Fine, Safe, Wp}
 use Rattle.plain_tree.specs.declared.answer.Cause.{Cause}
 use Rattle.plain_tree.specs.declared.answer.Cause.TheVariants.{BadDescriptor}
@@ -19,12 +19,11 @@ use Rattle.tree_laws.proofs.Opened.{well_dup}
 use Rattle.inode_machine.specs.Moves.{Stage, Step}
 use Rattle.inode_machine.specs.Moves.Move.{Own as OwnMove}
 use Rattle.inode_machine.specs.Exec.{is_at, file_count, with_walk, slot_at, entry_at, doubled, double_at, double_if, with_joined}
-use Rattle.inode_machine.specs.Marks.{go, places, with_mark, with_made, made_by, found_by, new_id, spoiled}
-use Rattle.inode_machine.specs.World.{Mine, Entry, Desk, World, Op, Answer, Mark, Note}
+use Rattle.inode_machine.specs.Marks.{places, with_mark, with_made, made_by, found_by, new_id}
+use Rattle.inode_machine.specs.World.{Mine, Entry, Desk, World, Note}
 use Rattle.inode_machine.specs.Descriptors.{dups}
-use Rattle.inode_machine.specs.World.Mark.{Makes}
 use Rattle.inode_machine.specs.World.Op.{Double, Join, Leave, Say}
-use Rattle.inode_machine.specs.Rules.{Own, Key, key_of, shop_of, Shop, Tied, Opens, id_at, number_is, users, own_names, Row, key_at, row_of, own_of, Inv, machine, Held, key_in, key_names, left_or, view}
+use Rattle.inode_machine.specs.Rules.{Own, Key, key_of, shop_of, Shop, Tied, id_at, number_is, users, own_names, Row, key_at, row_of, own_of, Inv, machine, Held, key_in, key_names, left_or, view, Reached}
 use Rattle.inode_machine.proofs.Frame.{put_elim, Fair, fair, fair_same, kept_here}
 use Rattle.inode_machine.proofs.Rules.{s-owned, quiet, UnlocksAll, locks_none}
 use Rattle.inode_machine.proofs.Rows.{below_is}
@@ -117,7 +116,7 @@ pub record Flagging (h : ℕ) (v : World) (O : Own) (new d : Desk) (c : Bool) : 
 -- A desk changes, but not what the table knows of it.
 pub flagging : (h : ℕ) (v : World) (O : Own) (new d : Desk) (c : Bool) → own_of h v ≡ O → O.desk.lender ≡ None → h < hart_count → Inv v → new ≡ d → SameTable new (v.desks h) → new.lender ≡ None
     → (new.joined ≡ false → (j : ℕ) → v.keeper j ≡ Some h → v.disk j ≡ v.all.nodes j)
-    → ((m : Note) → new.noted ≡ Some m → (v.desks h).noted ≡ Some m)
+    → ((m : Note) → new.noted ≡ Some m → Reached v h m.number → v.alone m.number ≡ false → sort_of (v.all.nodes m.number) ≡ m.sort)
     → (new.full ≡ true → c ≡ false) → (v.clean ≡ false → c ≡ false) → (c ≡ true → v.clean ≡ true) → Flagging h v O new d c
 flagging h v O new d c ov free lt inv is same unlent quiet notes mine his back = record {
   fair = fair inv (record {
@@ -132,7 +131,7 @@ flagging h v O new d c ov free lt inv is same unlent quiet notes mine his back =
     quiet = λ j is f. quiet (sym (ap (λ (z : Desk). z.joined) here) ∙ f) j is;
     sort = λ j. inl refl;
     sorts = inv.sorts;
-    noted = λ m is r. inv.noted h m lt (notes m (sym (ap (λ (z : Desk). z.noted) here) ∙ is)) r;
+    noted = λ m is r s. notes m (sym (ap (λ (z : Desk). z.noted) here) ∙ is) r s;
     directory = ap (λ (z : Desk). z.directory) here ∙ same.directory ∙ inv.directory h lt ∙ (λ z. left_or (sym same.left z) (v.all.cwd h)) ∙ (λ z. left_or (sym here z).left (v.all.cwd h));
     well = inv.well;
     counts = inv.counts;
@@ -197,29 +196,35 @@ same_table d = record { fds = refl; hand = refl; lent = refl; opening = refl; le
 
 pub filling : (h : ℕ) (v : World) (O : Own) → own_of h v ≡ O → O.desk.lender ≡ None → h < hart_count → Inv v → Flagging h v O (record (v.desks h) { full = true }) (record (O.desk) { full = true }) false
 filling h v O ov free lt inv = flagging h v O (record (v.desks h) { full = true }) (record (O.desk) { full = true }) false ov free lt inv (ap (λ (o : Own). record (o.desk) { full = true }) ov)
-    (record { fds = refl; hand = refl; lent = refl; opening = refl; left = refl; directory = refl }) (ap (λ (o : Own). o.desk.lender) ov ∙ free) (λ f j is. inv.quiet j h is f) (λ m q. q) (λ q. refl) (λ q. refl) (λ q. absurd cc)
+    (record { fds = refl; hand = refl; lent = refl; opening = refl; left = refl; directory = refl }) (ap (λ (o : Own). o.desk.lender) ov ∙ free) (λ f j is. inv.quiet j h is f) (λ m q r s. inv.noted h m lt q r s) (λ q. refl) (λ q. refl) (λ q. absurd cc)
 
 -- The hart joins the transaction.
 pub s-join : {A : Type 0} {h : ℕ} {k : Unit {0} → P machine A} {B : List Step → Type 0} {Q : A → List Step → World → Type 0} {n : ℕ} {es : List Step} {w : World} {O : Own}
     → own_of h w ≡ O → O.desk.lender ≡ None → h < hart_count → 0 < n → UnlocksAll O → O.desk.joined ≡ false → ((l : ℕ) (u : World) → l + 1 ≡ n → own_of h u ≡ record O { desk = record (O.desk) { joined = true } } → Safe machine h B Q (k tt) l es u)
     → Safe machine h B Q (Do Join unmarked k) n es w
-s-join {h = h} {O = O} owns free lt pos none out rest = s-owned owns free pos (λ v inv ov. ((locks_none h v O inv ov none, ap (λ (o : Own). o.desk.joined) ov ∙ out), (λ _ _.
-    let new : Desk = record (v.desks h) { joined = true } in
-    let f = flagging h v O new (record (O.desk) { joined = true }) v.clean ov free lt inv (ap (λ (o : Own). record (o.desk) { joined = true }) ov)
-        (record { fds = refl; hand = refl; lent = refl; opening = refl; left = refl; directory = refl }) (ap (λ (o : Own). o.desk.lender) ov ∙ free) (λ f j is. absurd cc) (λ m q. q) (λ q. inv.tied.spoiled h q) (λ q. q) (λ q. q) in
-    quiet f.fair refl pos (λ l q. (rest l (with_joined v h true) q f.owned).wp))))
+s-join {h = h} {O = O} owns free lt pos none out rest = s-owned owns free pos (λ v inv ov. (
+  (locks_none h v O inv ov none, ap (λ (o : Own). o.desk.joined) ov ∙ out),
+  (λ _ _.
+      let new : Desk = record (v.desks h) { joined = true } in
+      let f = flagging h v O new (record (O.desk) { joined = true }) v.clean ov free lt inv (ap (λ (o : Own). record (o.desk) { joined = true }) ov)
+      (record { fds = refl; hand = refl; lent = refl; opening = refl; left = refl; directory = refl }) (ap (λ (o : Own). o.desk.lender) ov ∙ free) (λ f j is. absurd cc) (λ m q r s. inv.noted h m lt q r s) (λ q. inv.tied.spoiled h q) (λ q. q) (λ q. q) in
+      quiet f.fair refl pos (λ l q. (rest l (with_joined v h true) q f.owned).wp)),
+))
 
 -- It leaves it, with every inode as its node says.
 pub s-leave : {A : Type 0} {h : ℕ} {k : Unit {0} → P machine A} {B : List Step → Type 0} {Q : A → List Step → World → Type 0} {n : ℕ} {es : List Step} {w : World} {O : Own}
     → own_of h w ≡ O → O.desk.lender ≡ None → h < hart_count → 62 < n → UnlocksAll O → O.desk.joined ≡ true → ((i : ℕ) (x : Held) → O.inodes i ≡ Some x → x.disk ≡ x.node)
     → ((l : ℕ) (u : World) → l + 63 ≡ n → own_of h u ≡ record O { desk = record (O.desk) { joined = false; noted = None } } → Safe machine h B Q (k tt) l es u)
     → Safe machine h B Q (Do Leave unmarked k) n es w
-s-leave {h = h} {O = O} owns free lt pos none joined whole rest = s-owned owns free pos (λ v inv ov. ((locks_none h v O inv ov none, ap (λ (o : Own). o.desk.joined) ov ∙ joined), (λ _ _.
-    let new : Desk = record (v.desks h) { joined = false; noted = None } in
-    let f = flagging h v O new (record (O.desk) { joined = false; noted = None }) v.clean ov free lt inv (ap (λ (o : Own). record (o.desk) { joined = false; noted = None }) ov)
-        (record { fds = refl; hand = refl; lent = refl; opening = refl; left = refl; directory = refl }) (ap (λ (o : Own). o.desk.lender) ov ∙ free)
-        (λ f j is. whole j (view v h j) (ap (λ (o : Own). o.inodes j) (sym ov) ∙ kept_here h (v.keeper j) (view v h j) is)) (λ m q. absurd cc) (λ q. inv.tied.spoiled h q) (λ q. q) (λ q. q) in
-    quiet f.fair refl pos (λ l q. (rest l (with_new v h new v.clean) q f.owned).wp))))
+s-leave {h = h} {O = O} owns free lt pos none joined whole rest = s-owned owns free pos (λ v inv ov. (
+  (locks_none h v O inv ov none, ap (λ (o : Own). o.desk.joined) ov ∙ joined),
+  (λ _ _.
+      let new : Desk = record (v.desks h) { joined = false; noted = None } in
+      let f = flagging h v O new (record (O.desk) { joined = false; noted = None }) v.clean ov free lt inv (ap (λ (o : Own). record (o.desk) { joined = false; noted = None }) ov)
+      (record { fds = refl; hand = refl; lent = refl; opening = refl; left = refl; directory = refl }) (ap (λ (o : Own). o.desk.lender) ov ∙ free)
+      (λ f j is. whole j (view v h j) (ap (λ (o : Own). o.inodes j) (sym ov) ∙ kept_here h (v.keeper j) (view v h j) is)) (λ m q r s. absurd cc) (λ q. inv.tied.spoiled h q) (λ q. q) (λ q. q) in
+      quiet f.fair refl pos (λ l q. (rest l (with_new v h new v.clean) q f.owned).wp)),
+))
 
 -- The reply is given.
 pub s-say : {A : Type 0} {h : ℕ} {k : Unit {0} → P machine A} {B : List Step → Type 0} {Q : A → List Step → World → Type 0} {n : ℕ} {es : List Step} {w : World} {O : Own}
@@ -376,12 +381,13 @@ s-double {A} {h} fd {k} {B} {Q} {n} {es} {w} {O} owns free lt pos walks none idl
         moves_good h 0 n B Q es v (doubled h v s e f) (OwnMove (Dup fd) 0) (k (Some (Some f))) (made_by v.all h (new_id v) (v.harts h).walk (OwnMove (Dup fd) 0)) (record { all = T; walk = None; found = None; opened = None; entered = None; left = None; told = (dupped fd f).told })
         made_is
         (fair inv (sells_did h v F D v.slots T (with_walk v.harts h None None) lt inv sells))
-        (own_takes h v u (Dup fd) (NewFd f) refl refl (ap (λ (o : Own). o.mine.walk) ov ∙ walks) (λ z. refl) (λ g z. absurd cc)
-        (dup_goes (settle v.all) h fd e.file (resolve (settle v.all) h []) (parent (settle v.all) h []) (file_settled v.all h fd ∙ hit.file),
-        sym (dup_answer_settled v.all h fd (new_id v) f (resolve (settle v.all) h []) (parent (settle v.all) h []) low),
-        record { node = λ z. absurd cc; file = λ z. absurd cc },
-        settle_less v.all X v.all.files less ∙ ap (λ (z : Tree). settle z) (sym (dup_effect_settled v.all h fd 0 (new_id v) f (Some (v.ids s)) (resolve (settle v.all) h []) (parent (settle v.all) h []) low hit.tree)),
-        dup_place v.all h fd lt (inr (ap (λ (z : ℕ). nat_lt z descriptor_count) low ∙ q)))
+        (own_takes h v u (Dup fd) (NewFd f) refl refl (ap (λ (o : Own). o.mine.walk) ov ∙ walks) (λ z. refl) (λ g z. absurd cc) (
+          dup_goes (settle v.all) h fd e.file (resolve (settle v.all) h []) (parent (settle v.all) h []) (file_settled v.all h fd ∙ hit.file),
+          sym (dup_answer_settled v.all h fd (new_id v) f (resolve (settle v.all) h []) (parent (settle v.all) h []) low),
+          record { node = λ z. absurd cc; file = λ z. absurd cc },
+          settle_less v.all X v.all.files less ∙ ap (λ (z : Tree). settle z) (sym (dup_effect_settled v.all h fd 0 (new_id v) f (Some (v.ids s)) (resolve (settle v.all) h []) (parent (settle v.all) h []) low hit.tree)),
+          dup_place v.all h fd lt (inr (ap (λ (z : ℕ). nat_lt z descriptor_count) low ∙ q)),
+        )
         (ap (λ (m : Stage). m.walk) (stage_walk h None None v)))
         (bd f) pos
         (λ l r. (then_ l f (row_of T h) (D h) u r (record { cwd = ap (λ (o : Own). o.row.cwd) ov; hold = ap (λ (o : Own). o.row.hold) ov })

@@ -3,7 +3,7 @@ use Rattle.std.proofs.Common.{◌≡◌, ◌≢◌, ◌⊎◌, inl, inr, ℕ, �
 use Rattle.plain_tree.specs.Widths.{hart_count, descriptor_count}
 use Rattle.plain_tree.specs.Tree.{put}
 use Rattle.tree_laws.specs.WellFormed.{sum_below, IsWellFormed}
-use Rattle.tree_laws.proofs.Maps.{eq_self, eq_is, eq_not, same_or, put_same, put_other}
+use Rattle.tree_laws.proofs.Maps.{either, eq_self, eq_is, eq_not, same_or, put_same, put_other}
 use Rattle.tree_laws.proofs.Walks.{look_same}
 use Rattle.tree_laws.proofs.Facts.{look_live}
 use Rattle.tree_laws.proofs.Sums.{sum_part, sum_two}
@@ -100,7 +100,7 @@ pub record Did (h : ℕ) (v u : World) : Type 0 where
   -- types stay, but for what the hart keeps alone
   pub sort : (j : ℕ) → (sort_of (u.all.nodes j) ≡ sort_of (v.all.nodes j)) ⊎ ((v.keeper j ≡ Some h) × (v.alone j ≡ true))
   pub sorts : (k : ℕ) (e : Entry) → u.files k ≡ Some e → sort_of (u.all.nodes e.file.number) ≡ Some e.sort
-  pub noted : (n : Note) → (u.desks h).noted ≡ Some n → Reached u h n.number → sort_of (u.all.nodes n.number) ≡ n.sort
+  pub noted : (n : Note) → (u.desks h).noted ≡ Some n → Reached u h n.number → u.alone n.number ≡ false → sort_of (u.all.nodes n.number) ≡ n.sort
   pub directory : (u.desks h).directory ≡ left_or (u.desks h).left (u.all.cwd h)
   pub well : IsWellFormed u.all
   pub counts : (i : ℕ) → u.refs i ≡ u.slots i + sum_below hart_count (λ g. (u.harts g).refs i)
@@ -196,10 +196,10 @@ did_inv h v u inv did =
         | inl e ↦ subst (λ (z : ℕ). Reached u z k.at) (sym e) (did.walks k (subst (λ (z : ℕ). (u.harts z).walk ≡ Some k) e is))
         | inr ne ↦ reached_on h v u g k.at did ne (inv.walks g k lt (ap (λ (m : Mine). m.walk) (sym (did.mine g ne)) ∙ is))
       ];
-      noted = λ g n lt is r. elim (same_or g h) [
-        | inl e ↦ did.noted n (ap (λ (z : ℕ). (u.desks z).noted) (sym e) ∙ is) (subst (λ (z : ℕ). Reached u z n.number) e r)
+      noted = λ g n lt is r s. elim (same_or g h) [
+        | inl e ↦ did.noted n (ap (λ (z : ℕ). (u.desks z).noted) (sym e) ∙ is) (subst (λ (z : ℕ). Reached u z n.number) e r) s
         | inr ne ↦ (let r2 = reached_back h v u g n.number did ne r in elim (did.sort n.number) [
-          | inl e ↦ e ∙ inv.noted g n lt (ap (λ (d : Desk). d.noted) (sym (did.shop.desks g ne)) ∙ is) r2
+          | inl e ↦ e ∙ inv.noted g n lt (ap (λ (d : Desk). d.noted) (sym (did.shop.desks g ne)) ∙ is) r2 (still_shared g n.number lt ne r2 s (did.inodes n.number))
           | inr a ↦ absurd (lone_not h g n.number v inv lt ne a.0 a.1 r2)
         ])
       ];
@@ -220,6 +220,17 @@ did_inv h v u inv did =
     quiet : (j g : ℕ) → g ≢ h → u.keeper j ≡ Some g → (u.desks g).joined ≡ false → Kept j v u ⊎ Changed h j v u → u.disk j ≡ u.all.nodes j
     quiet j g ne is free (inl k) = k.disk ∙ inv.quiet j g (sym k.keeper ∙ is) (ap (λ (d : Desk). d.joined) (sym (did.shop.desks g ne)) ∙ free) ∙ sym k.node
     quiet j g ne is free (inr c) = not_ours h g (u.keeper j) c.after ne is
+
+    -- what another hart reaches wasn't this one's alone
+    still_shared : (g j : ℕ) → g < hart_count → g ≢ h → Reached v g j → u.alone j ≡ false → Kept j v u ⊎ Changed h j v u → v.alone j ≡ false
+    still_shared g j lg ne r s (inl k) = sym k.alone ∙ s
+    still_shared g j lg ne r s (inr c) = elim (either (v.alone j)) [
+      | inr y ↦ y
+      | inl y ↦ (let a = inv.alone j y in elim (same_or a.hart h) [
+        | inl e ↦ absurd (lone_not h g j v inv lg ne (a.kept ∙ ap (λ (z : ℕ). Some z) e) y r)
+        | inr na ↦ not_ours h a.hart (v.keeper j) c.before na a.kept
+      ])
+    ]
 
     keeps : (j g : ℕ) → Kept j v u ⊎ Changed h j v u → u.lock j ≡ Some g → u.keeper j ≡ Some g
     keeps j g (inl k) is = k.keeper ∙ inv.keeps j g (sym k.lock ∙ is)

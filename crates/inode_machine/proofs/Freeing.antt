@@ -1,30 +1,30 @@
 -- Inodes that one hart keeps alone: locked, freed, and anybody's again.
-use Rattle.std.proofs.Common.{◌≡◌, ◌≢◌, ◌⊎◌, inl, inr, ℕ, zero, suc, ◌+◌, ◌-◌, ◌<◌, ◌≤◌, Bool, true, false, ◌==◌, ◌&&◌, List, [], Option, Some, None, refl, sym, ◌∙◌, ap, subst, arith, if◌then◌else◌}
+use Rattle.std.proofs.Common.{◌≡◌, ◌≢◌, ◌⊎◌, inl, inr, ℕ, ◌+◌, ◌-◌, ◌<◌, Bool, true, false, ◌==◌, ◌&&◌, List, [], Option, Some, None, refl, sym, ◌∙◌, ap, subst, arith}
 use Rattle.atomic_programs.specs.Prog.{Do, unmarked}
 use Rattle.atomic_programs.specs.Logic.{P, Good, Fine, Safe, Wp}
 use Rattle.plain_tree.specs.declared.node.Node.{Node}
 use Rattle.plain_tree.specs.Widths.{hart_count}
 use Rattle.plain_tree.specs.Tree.{Tree, put, is_live, is_named, settle}
 use Rattle.tree_laws.specs.WellFormed.{sum_below, folder, links_of, folders_of, links_in, raises, Folders, IsForest, IsWellFormed}
-use Rattle.tree_laws.proofs.Maps.{eq_is, either, same_or, put_same, put_other, and_true, none_any}
+use Rattle.tree_laws.proofs.Maps.{either, same_or, put_same, put_other, none_any}
 use Rattle.tree_laws.proofs.Nodes.{folder_dead, dead_links, no_node, cwd_named, hold_named, file_named, folders_put, put_self, map_put}
 use Rattle.tree_laws.proofs.Facts.{look_live}
-use Rattle.inode_machine.specs.Moves.{Step, Walk, after}
-use Rattle.inode_machine.specs.World.{Mine, World, Entry, Note}
+use Rattle.inode_machine.specs.Moves.{Step, Walk}
+use Rattle.inode_machine.specs.World.{Mine, World, Entry}
 use Rattle.inode_machine.specs.Marks.{with_mark}
-use Rattle.inode_machine.specs.Exec.{with_refs, lock_if, claim_if, first_from, is_free, is_nothing, blank, counted_down, down_if, file_count, is_dead, locked, unlocked}
+use Rattle.inode_machine.specs.Exec.{lock_if, blank, counted_down, down_if, file_count, is_dead, locked, unlocked}
 use Rattle.inode_machine.specs.World.Mark.{Frees}
-use Rattle.inode_machine.specs.World.Op.{Claim, Take, Give, Down, Free}
+use Rattle.inode_machine.specs.World.Op.{Take, Give, Down, Free}
 use Rattle.inode_machine.specs.Rules.{shop_of, own_names, Held, view, is_hart, if_kept, row_of, own_of, Pinned, Reached, IsAlone, Inv, IsOut, machine, looking_cost, number_is}
 use Rattle.tree_laws.proofs.Sums.{sum_part, one_yes}
 use Rattle.tree_laws.specs.WellFormed.{one_if}
 use Rattle.tree_laws.proofs.Maps.{eq_self}
 use Rattle.inode_machine.specs.Rules.{Own}
-use Rattle.inode_machine.proofs.Frame.{shop_same, put_elim, ours_none, ours_some, kept_here, Did, fair, fair_then, fair_same, own_inodes, has_inode, found_more, one_refs, two_refs}
-use Rattle.inode_machine.proofs.Rules.{opens_slots, s-owned, quiet, each_refs, here_refs, walks_refs, total_same, total_changed, my_refs, is_me, has_disk, has_node, locks_it}
+use Rattle.inode_machine.proofs.Frame.{shop_same, put_elim, ours_none, ours_some, kept_here, Did, fair, fair_then, own_inodes, has_inode, found_more, one_refs, two_refs}
+use Rattle.inode_machine.proofs.Rules.{s-owned, quiet, each_refs, here_refs, walks_refs, total_same, total_changed, my_refs, is_me, has_disk, has_node, locks_it}
 use Rattle.inode_machine.proofs.Counting.{Writes, writes}
 use Rattle.inode_machine.proofs.Settling.{settle_nodes}
-use Rattle.inode_machine.proofs.Rows.{unlive, hart_not}
+use Rattle.inode_machine.proofs.Rows.{hart_not}
 use Rattle.inode_machine.specs.Inodes.{Looking, Seen, seen_in, sort_of}
 
 -- The lock of an inode that the hart keeps already is free.
@@ -73,7 +73,7 @@ s-take-kept {A} {h} {i} {x} {looking} {k} {B} {Q} {n} {es} {w} {O} owns free lt 
               quiet = λ j is f. inv.quiet j h (sym (same j) ∙ is) f;
               sort = λ j. inl refl;
               sorts = inv.sorts;
-              noted = λ n is r. inv.noted h n lt is r;
+              noted = λ n is r s. inv.noted h n lt is r s;
               directory = inv.directory h lt;
               well = inv.well;
               counts = inv.counts;
@@ -164,10 +164,10 @@ unnamed h i v inv lt lone kept mine = none_any hart_count _ (λ g lg. hart_not g
 
 -- The type of a dead inode is cleared on the disk.
 pub s-free : {A : Type 0} {h i : ℕ} {x : Held} {k : Unit {0} → P machine A} {B : List Step → Type 0} {Q : A → List Step → World → Type 0} {n : ℕ} {es : List Step} {w : World} {O : Own}
-    → own_of h w ≡ O → O.desk.lender ≡ None → h < hart_count → 900 < n → O.desk.joined ≡ true → O.inodes i ≡ Some x → x.locked ≡ true → x.alone ≡ true → own_names O.row O.desk i ≡ false → O.mine.pending ≡ None → ((m : Note) → O.desk.noted ≡ Some m → m.number ≢ i)
+    → own_of h w ≡ O → O.desk.lender ≡ None → h < hart_count → 900 < n → O.desk.joined ≡ true → O.inodes i ≡ Some x → x.locked ≡ true → x.alone ≡ true → own_names O.row O.desk i ≡ false → O.mine.pending ≡ None
     → ((l : ℕ) (u : World) → l + 901 ≡ n → own_of h u ≡ record O { inodes = put O.inodes i (Some (record x { disk = None; node = None })) } → Safe machine h B Q (k tt) l es u)
     → Safe machine h B Q (Do (Free i) (λ a. Some (Frees i)) k) n es w
-s-free {A} {h} {i} {x} {k} {B} {Q} {n} {es} {w} {O} owns free lt pos joined isi has lone mine none unnoted rest = s-owned owns free pos (λ v inv ov. ((locks_it h i v O x ov isi has, ap (λ (o : Own). o.desk.joined) ov ∙ joined), (λ _ _. good v inv ov)))
+s-free {A} {h} {i} {x} {k} {B} {Q} {n} {es} {w} {O} owns free lt pos joined isi has lone mine none rest = s-owned owns free pos (λ v inv ov. ((locks_it h i v O x ov isi has, ap (λ (o : Own). o.desk.joined) ov ∙ joined), (λ _ _. good v inv ov)))
   where
     good : (v : World) → Inv v → own_of h v ≡ O → Fine machine h [] 900 n B es v (record v { disk = put v.disk i None; all = record (v.all) { nodes = put v.all.nodes i None } }) (λ l. Wp machine h B Q (k tt) l es (record v { disk = put v.disk i None; all = record (v.all) { nodes = put v.all.nodes i None } }))
     good v inv ov = quiet (fair_then wr.fair (fair wr.fair.inv did)) (λ z. record { tree = tree z; walk = λ g. (v.harts g).walk }) pos (λ l q. (rest l u q owned).wp)
@@ -199,9 +199,6 @@ s-free {A} {h} {i} {x} {k} {B} {Q} {n} {es} {w} {O} owns free lt pos joined isi 
           | inr ne ↦ inl (put_other v.all.nodes i None j ne)
         ])
 
-        named_not : (m : Note) → (v.desks h).noted ≡ Some m → m.number ≡ i → ⊥
-        named_not m is q = unnoted m (ap (λ (o : Own). o.desk.noted) (sym ov) ∙ is) q
-
         did : Did h u1 u
         did =
             record {
@@ -227,9 +224,9 @@ s-free {A} {h} {i} {x} {k} {B} {Q} {n} {es} {w} {O} owns free lt pos joined isi 
                 | inr ne ↦ inl (ap (λ (z : Option Node). sort_of z) (put_other v.all.nodes i None j ne))
               ];
               sorts = λ k e is. ap (λ (z : Option Node). sort_of z) (put_other v.all.nodes i None e.file.number (lone_file h i k e v inv lt lone_at kept is)) ∙ inv.sorts k e is;
-              noted = λ n is r. elim (same_or n.number i) [
-                | inl q ↦ absurd (named_not n is q)
-                | inr ne ↦ ap (λ (z : Option Node). sort_of z) (put_other v.all.nodes i None n.number ne) ∙ inv.noted h n lt is r
+              noted = λ n is r s. elim (same_or n.number i) [
+                | inl q ↦ absurd (let a : v.alone n.number ≡ true = ap v.alone q ∙ lone_at in cc (a, s))
+                | inr ne ↦ ap (λ (z : Option Node). sort_of z) (put_other v.all.nodes i None n.number ne) ∙ inv.noted h n lt is r s
               ];
               directory = inv.directory h lt;
               well = well_gone v.all i inv.well dead out;
@@ -258,10 +255,13 @@ pub s-give-alone : {A : Type 0} {h i : ℕ} {x : Held} {k : Unit {0} → P machi
     → own_of h w ≡ O → O.desk.lender ≡ None → h < hart_count → 0 < n → O.inodes i ≡ Some x → x.locked ≡ true → x.alone ≡ true
     → ((l : ℕ) (u : World) → l + 1 ≡ n → own_of h u ≡ record O { inodes = put O.inodes i (Some (record x { locked = false })) } → Safe machine h B Q (k tt) l es u)
     → Safe machine h B Q (Do (Give i) unmarked k) n es w
-s-give-alone {A} {h} {i} {x} {k} {B} {Q} {n} {es} {w} {O} owns free lt pos isi has lone rest = s-owned owns free pos (λ v inv ov. (locks_it h i v O x ov isi has, (λ _ _.
-    let a : v.alone i ≡ true = ap (λ (y : Held). y.alone) (has_inode h i v O x ov isi).1 ∙ lone in
-    subst (λ (b : Bool). Fine machine h [] 0 n B es v (unlocked i v b) (λ l. Wp machine h B Q (k tt) l es (unlocked i v b))) (sym a)
-    (quiet (fair inv (did v inv ov)) refl pos (λ l q. (rest l (after v) q (owned v ov)).wp)))))
+s-give-alone {A} {h} {i} {x} {k} {B} {Q} {n} {es} {w} {O} owns free lt pos isi has lone rest = s-owned owns free pos (λ v inv ov. (
+  locks_it h i v O x ov isi has,
+  (λ _ _.
+      let a : v.alone i ≡ true = ap (λ (y : Held). y.alone) (has_inode h i v O x ov isi).1 ∙ lone in
+      subst (λ (b : Bool). Fine machine h [] 0 n B es v (unlocked i v b) (λ l. Wp machine h B Q (k tt) l es (unlocked i v b))) (sym a)
+      (quiet (fair inv (did v inv ov)) refl pos (λ l q. (rest l (after v) q (owned v ov)).wp))),
+))
   where
     after : World → World
     after v = record v { lock = put v.lock i None }
@@ -291,7 +291,7 @@ s-give-alone {A} {h} {i} {x} {k} {B} {Q} {n} {es} {w} {O} owns free lt pos isi h
           quiet = λ j is f. inv.quiet j h is f;
           sort = λ j. inl refl;
           sorts = inv.sorts;
-          noted = λ n is r. inv.noted h n lt is r;
+          noted = λ n is r s. inv.noted h n lt is r s;
           directory = inv.directory h lt;
           well = inv.well;
           counts = inv.counts;
@@ -323,13 +323,16 @@ and_none false o e = refl
 
 -- The last reference to an inode that was freed is counted down: its number is anybody's.
 pub s-down-freed : {A : Type 0} {h i : ℕ} {x : Held} {k : Bool → P machine A} {B : List Step → Type 0} {Q : A → List Step → World → Type 0} {n : ℕ} {es : List Step} {w : World} {O : Own}
-    → own_of h w ≡ O → O.desk.lender ≡ None → h < hart_count → 0 < n → O.inodes i ≡ Some x → x.alone ≡ true → x.locked ≡ false → x.disk ≡ None → x.node ≡ None → 0 < O.mine.refs i → O.mine.pending ≡ None
+    → own_of h w ≡ O → O.desk.lender ≡ None → h < hart_count → 0 < n → O.inodes i ≡ Some x → x.alone ≡ true → x.locked ≡ false → x.disk ≡ None → x.node ≡ None → O.mine.refs i ≡ 1 → O.mine.pending ≡ None
     → own_names O.row O.desk i ≡ false → ((y : Walk) → O.mine.walk ≡ Some y → y.at ≢ i)
     → ((l : ℕ) (u : World) → l + 1 ≡ n → own_of h u ≡ record O { inodes = put O.inodes i None; mine = record { refs = put O.mine.refs i (O.mine.refs i - 1); walk = O.mine.walk; pending = O.mine.pending } } → Safe machine h B Q (k false) l es u)
     → Safe machine h B Q (Do (Down i) unmarked k) n es w
-s-down-freed {A} {h} {i} {x} {k} {B} {Q} {n} {es} {w} {O} owns free lt pos isi lone out blank gone refers none unnamed unwalked rest = s-owned owns free pos (λ v inv ov. ((let r = my_refs h v O i ov in omega (arith, r, refers), not_out v ov), (λ _ _.
-    subst (λ (b : Bool). Good machine Bool h (λ a. []) 0 n B es v ⊥ (with_mark h unmarked (down_if h i v b)) (λ l a u. Wp machine h B Q (k a) l es u)) (sym (and_none (v.refs i == 1) (v.disk i) (has_disk h i v O x ov isi ∙ blank)))
-    (good v inv ov))))
+s-down-freed {A} {h} {i} {x} {k} {B} {Q} {n} {es} {w} {O} owns free lt pos isi lone out blank gone one none unnamed unwalked rest = s-owned owns free pos (λ v inv ov. (
+  (let r = my_refs h v O i ov in omega (arith, r, one), not_out v ov),
+  (λ _ _.
+      subst (λ (b : Bool). Good machine Bool h (λ a. []) 0 n B es v ⊥ (with_mark h unmarked (down_if h i v b)) (λ l a u. Wp machine h B Q (k a) l es u)) (sym (and_none (v.refs i == 1) (v.disk i) (has_disk h i v O x ov isi ∙ blank)))
+      (good v inv ov)),
+))
   where
     not_out : (v : World) → own_of h v ≡ O → v.lock i ≢ Some h
     not_out v ov e = let m = is_me h (v.lock i) e in let l : is_hart (v.lock i) h ≡ false = ap (λ (y : Held). y.locked) (has_inode h i v O x ov isi).1 ∙ out in cc (m, l)
@@ -353,7 +356,7 @@ s-down-freed {A} {h} {i} {x} {k} {B} {Q} {n} {es} {w} {O} owns free lt pos isi l
         at j = ap (λ (f : ℕ → Option ℕ). f j) keeper_is
 
         more : 0 < (v.harts h).refs i
-        more = let r = my_refs h v O i ov in omega (arith, r, refers)
+        more = let r = my_refs h v O i ov in omega (arith, r, one)
 
         new : Mine
         new = record { refs = put (v.harts h).refs i ((v.harts h).refs i - 1); walk = (v.harts h).walk; pending = (v.harts h).pending }
@@ -374,6 +377,10 @@ s-down-freed {A} {h} {i} {x} {k} {B} {Q} {n} {es} {w} {O} owns free lt pos isi l
           | inl q ↦ inl (subst (λ (z : ℕ). 0 < (v.harts h).refs z) (sym q) more)
           | inr ne ↦ inl (let r = each_refs v.harts h i ((v.harts h).refs i - 1) h j (inr ne) in omega (arith, r, p))
         ]
+
+        none_left : (j : ℕ) → j ≡ i → Reached u h j → ⊥
+        none_left j q (inl p) = let a : (u.harts h).refs j ≡ (u.harts h).refs i = ap (u.harts h).refs q in let b = here_refs v.harts h i ((v.harts h).refs i - 1) in let r = my_refs h v O i ov in omega (arith, a, b, r, one, p)
+        none_left j q (inr p) = let a : (u.harts h).pending ≡ (v.harts h).pending = ap (λ (m : Mine). m.pending) (put_same v.harts h new) in cc (a, p, pend)
 
         not_i : (j : ℕ) → u.keeper j ≡ Some h → j ≢ i
         not_i j is q = absurd (let a : u.keeper j ≡ None = at j ∙ ap (put v.keeper i None) q ∙ put_same v.keeper i None in cc (a, is))
@@ -411,7 +418,10 @@ s-down-freed {A} {h} {i} {x} {k} {B} {Q} {n} {es} {w} {O} owns free lt pos isi l
               quiet = λ j is f. inv.quiet j h (was j is) f;
               sort = λ j. inl refl;
               sorts = inv.sorts;
-              noted = λ n is r. inv.noted h n lt is (shrink n.number r);
+              noted = λ n is r s. elim (same_or n.number i) [
+                | inl q ↦ absurd (none_left n.number q r)
+                | inr ne ↦ inv.noted h n lt is (shrink n.number r) (sym (put_other v.alone i false n.number ne) ∙ s)
+              ];
               directory = inv.directory h lt;
               well = inv.well;
               counts = λ j. elim (same_or j i) [
@@ -452,10 +462,10 @@ s-down-freed {A} {h} {i} {x} {k} {B} {Q} {n} {es} {w} {O} owns free lt pos isi l
 
 -- Free, from the down that found the last reference: emptied, its lock given up, counted down.
 pub s-free-all : {A : Type 0} {h i : ℕ} (s : Option Node) {k : P machine A} {B : List Step → Type 0} {Q : A → List Step → World → Type 0} {n : ℕ} {es : List Step} {w : World} {O : Own}
-    → own_of h w ≡ O → O.desk.lender ≡ None → h < hart_count → 902 < n → O.desk.joined ≡ true → O.inodes i ≡ Some (record { disk = s; node = s; alone = true; locked = true }) → O.mine.refs i ≡ 1 → O.mine.pending ≡ None → own_names O.row O.desk i ≡ false → O.mine.walk ≡ None → ((m : Note) → O.desk.noted ≡ Some m → m.number ≢ i)
+    → own_of h w ≡ O → O.desk.lender ≡ None → h < hart_count → 902 < n → O.desk.joined ≡ true → O.inodes i ≡ Some (record { disk = s; node = s; alone = true; locked = true }) → O.mine.refs i ≡ 1 → O.mine.pending ≡ None → own_names O.row O.desk i ≡ false → O.mine.walk ≡ None
     → ((l : ℕ) (u : World) → l + 903 ≡ n → own_of h u ≡ record O { inodes = put (put (put O.inodes i (Some (record { disk = None; node = None; alone = true; locked = true }))) i (Some (record { disk = None; node = None; alone = true; locked = false }))) i None; mine = record { refs = put O.mine.refs i (O.mine.refs i - 1); walk = O.mine.walk; pending = O.mine.pending } } → Safe machine h B Q k l es u)
     → Safe machine h B Q (Do (Free i) (λ _. Some (Frees i)) (λ _. Do (Give i) unmarked (λ _. Do (Down i) unmarked (λ _. k)))) n es w
-s-free-all {h = h} {i = i} s {O = O} owns free lt few joined isi one none unnamed still unnoted rest =
-    s-free owns free lt (omega arith) joined isi refl refl unnamed none unnoted (λ l2 u2 q2 own2.
+s-free-all {h = h} {i = i} s {O = O} owns free lt few joined isi one none unnamed still rest =
+    s-free owns free lt (omega arith) joined isi refl refl unnamed none (λ l2 u2 q2 own2.
     s-give-alone own2 free lt (omega arith) (put_same _ i (Some (record { disk = None; node = None; alone = true; locked = true }))) refl refl (λ l3 u3 q3 own3.
-    s-down-freed own3 free lt (omega arith) (put_same _ i (Some (record { disk = None; node = None; alone = true; locked = false }))) refl refl refl refl (omega (arith, one)) none unnamed (λ y is. absurd (cc (is, still))) (λ l4 u4 q4 own4. rest l4 u4 (omega arith) own4)))
+    s-down-freed own3 free lt (omega arith) (put_same _ i (Some (record { disk = None; node = None; alone = true; locked = false }))) refl refl refl refl one none unnamed (λ y is. absurd (cc (is, still))) (λ l4 u4 q4 own4. rest l4 u4 (omega arith) own4)))

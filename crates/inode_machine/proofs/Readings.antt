@@ -3,7 +3,7 @@ use Rattle.std.proofs.Common.{◌≡◌, inl, inr, ℕ, ◌+◌, ◌<◌, true, 
 use Rattle.atomic_programs.specs.Prog.{Do, Did as Came}
 use Rattle.atomic_programs.specs.Logic.{P, own, onto, Good, Fine, Safe, Wp}
 use Rattle.plain_tree.specs.declared.answer.Cause.{Cause}
-use Rattle.plain_tree.specs.declared.answer.Cause.TheVariants.{BadDescriptor, BadMode, NoDriver}
+use Rattle.plain_tree.specs.declared.answer.Cause.TheVariants.{BadDescriptor, BadMode}
 use Rattle.plain_tree.specs.declared.node.Node.{Node}
 use Rattle.plain_tree.specs.declared.node.Kind.{Kind}
 use Rattle.plain_tree.specs.declared.node.Kind.TheVariants.{Directory, File, Device}
@@ -18,22 +18,19 @@ use Rattle.plain_tree.specs.Steps.{node_or, node_at, content, part, moved, no_dr
 use Rattle.tree_laws.specs.WellFormed.{IsWellFormed}
 use Rattle.tree_laws.proofs.Maps.{same_or, put_same, put_other}
 use Rattle.tree_laws.proofs.Sums.{sum_same}
-use Rattle.tree_laws.proofs.Nodes.{file_named}
 use Rattle.tree_laws.proofs.Opened.{well_moved}
 use Rattle.inode_machine.specs.Moves.{Stage, Step}
 use Rattle.inode_machine.specs.Moves.Move.{Own as OwnMove}
-use Rattle.inode_machine.specs.World.{Mine, Entry, World, Mark, Part as PartOf, NotRead, Readout}
-use Rattle.inode_machine.specs.Marks.{places, with_mark, made_by, go, new_id, spoiled, with_made}
+use Rattle.inode_machine.specs.World.{Mine, Entry, World, Part as PartOf, NotRead, Readout}
+use Rattle.inode_machine.specs.Marks.{places, with_mark, made_by, new_id, with_made}
 use Rattle.inode_machine.specs.Exec.{with_walk, slot_at, entry_at, entry_moved, part_of, entry_of, lock_if, locked, mode_refusal, read_at, read_refused, with_offset}
-use Rattle.inode_machine.specs.World.Mark.{Makes}
 use Rattle.inode_machine.specs.Rules.{Own, Key, key_of, own_names, Held, Row, key_at, row_of, own_of, Inv, machine, EntryOut}
 use Rattle.inode_machine.proofs.Frame.{put_elim, fair}
 use Rattle.inode_machine.proofs.Rules.{s-owned, has_disk, has_node, Locking, fine_after, is_out, locked_held, locking, locks_none}
 use Rattle.inode_machine.proofs.Rows.{below_is}
 use Rattle.inode_machine.proofs.Walking.{refs_walk, stage_walk, moves_good}
-use Rattle.inode_machine.proofs.Settling.{settle_or}
 use Rattle.inode_machine.proofs.Shops.{Sells, sells_did, own_takes, with_open, NamesLess, settle_less}
-use Rattle.inode_machine.proofs.Dups.{Behind, behind, behind_none, file_settled, Refused, renewed_slots, renewed_at, key_is, key_from, fails, refused_good, renewed_sorts}
+use Rattle.inode_machine.proofs.Dups.{Behind, behind, behind_none, file_settled, Refused, renewed_slots, renewed_at, key_is, fails, refused_good, renewed_sorts}
 use Rattle.inode_machine.proofs.Stats.{behind_opens, entry_is, node_settled}
 use Rattle.inode_machine.specs.World.Op.{ReadFile}
 
@@ -122,21 +119,22 @@ pub part_good : {A : Type 0} (h more n i : ℕ) (B : List Step → Type 0) (Q : 
     → B (read_step fd count b ∷ es) → more < n
     → ((l : ℕ) (u : World) → l + (more + 1) ≡ n → own_of h u ≡ record O { mine = record { refs = O.mine.refs; walk = None; pending = None } } → Safe machine h B Q p l (read_step fd count b ∷ es) u)
     → Fine machine h ((h, record { move = OwnMove (Read fd count) 0; told = (made_by v.all h (new_id v) (v.harts h).walk (OwnMove (Read fd count) 0)).told }) ∷ []) more n B es v (with_made h (made_by v.all h (new_id v) (v.harts h).walk (OwnMove (Read fd count) 0)) (record v { files = put v.files s (Some (entry_moved e (length b))) }))
-        (λ l. Wp machine h B Q p l (onto (own h ((h, record { move = OwnMove (Read fd count) 0; told = (made_by v.all h (new_id v) (v.harts h).walk (OwnMove (Read fd count) 0)).told }) ∷ [])) es) (with_made h (made_by v.all h (new_id v) (v.harts h).walk (OwnMove (Read fd count) 0)) (record v { files = put v.files s (Some (entry_moved e (length b))) })))
+    (λ l. Wp machine h B Q p l (onto (own h ((h, record { move = OwnMove (Read fd count) 0; told = (made_by v.all h (new_id v) (v.harts h).walk (OwnMove (Read fd count) 0)).told }) ∷ [])) es) (with_made h (made_by v.all h (new_id v) (v.harts h).walk (OwnMove (Read fd count) 0)) (record v { files = put v.files s (Some (entry_moved e (length b))) })))
 part_good {A} h more n i B Q es v O x fd count s e b p ov free lt inv walks none hit at_i isi same b_is goes bd pos then_ =
     moves_good h more n B Q es v (record v { files = F }) (OwnMove (Read fd count) 0) p (made_by v.all h (new_id v) (v.harts h).walk (OwnMove (Read fd count) 0)) (record { all = T; walk = None; found = None; opened = None; entered = None; left = None; told = (read_step fd count b).told })
     made_is
     (fair inv (sells_did h v F v.desks v.slots T (with_walk v.harts h None None) lt inv sells))
-    (own_takes h v u (Read fd count) (Bytes b) refl refl (ap (λ (o : Own). o.mine.walk) ov ∙ walks) (λ z. refl) (λ g z. absurd cc)
-    (goes (settle v.all) (file_settled v.all h fd ∙ hit.file) settled (resolve (settle v.all) h []) (parent (settle v.all) h []),
-    sym (read_answer (settle v.all) h fd count (new_id v) b (resolve (settle v.all) h []) (parent (settle v.all) h []) part_settled),
-    record { node = λ z. absurd cc; file = λ z. absurd cc },
-    settle_less v.all v.all.fds (put v.all.files (v.ids s) (Some f)) (moved_names v.all (v.ids s) e.file f opened refl) ∙ ap (λ (z : Tree). settle z) (sym (read_effect_settled v.all h fd count 0 (v.ids s) (new_id v) e.file b (resolve (settle v.all) h []) (parent (settle v.all) h []) hit.tree opened part_settled)),
-    read_place (settle v.all) h fd count lt)
+    (own_takes h v u (Read fd count) (Bytes b) refl refl (ap (λ (o : Own). o.mine.walk) ov ∙ walks) (λ z. refl) (λ g z. absurd cc) (
+      goes (settle v.all) (file_settled v.all h fd ∙ hit.file) settled (resolve (settle v.all) h []) (parent (settle v.all) h []),
+      sym (read_answer (settle v.all) h fd count (new_id v) b (resolve (settle v.all) h []) (parent (settle v.all) h []) part_settled),
+      record { node = λ z. absurd cc; file = λ z. absurd cc },
+      settle_less v.all v.all.fds (put v.all.files (v.ids s) (Some f)) (moved_names v.all (v.ids s) e.file f opened refl) ∙ ap (λ (z : Tree). settle z) (sym (read_effect_settled v.all h fd count 0 (v.ids s) (new_id v) e.file b (resolve (settle v.all) h []) (parent (settle v.all) h []) hit.tree opened part_settled)),
+      read_place (settle v.all) h fd count lt,
+    )
     (ap (λ (z : Stage). z.walk) (stage_walk h None None v)))
     bd pos
     (λ l r. (then_ l u r owned).wp)
-      where
+  where
     f : OpenFile
     f = offset_on e.file (length b)
 

@@ -1,16 +1,13 @@
 -- A world at rest meets the invariant, also one with orphans.
-use Rattle.std.proofs.Common.{◌≡◌, inl, inr, ℕ, ◌<◌, true, false, ◌==◌, ◌||◌, None, refl, sym, arith, if◌then◌else◌}
+use Rattle.std.proofs.Common.{◌≡◌, inl, inr, ℕ, ◌<◌, true, false, ◌==◌, ◌||◌, None, refl, sym, arith}
 use Rattle.plain_tree.specs.Widths.{hart_count}
 use Rattle.plain_tree.specs.Tree.{Tree, hold_names}
-use Rattle.tree_laws.specs.WellFormed.{sum_below, one_if, IsWellFormed}
+use Rattle.tree_laws.specs.WellFormed.{one_if, IsWellFormed}
 use Rattle.tree_laws.proofs.Maps.{either}
 use Rattle.tree_laws.proofs.Sums.{sum_none, one_yes}
 use Rattle.inode_machine.specs.Exec.{file_count}
-use Rattle.inode_machine.specs.Theory.{resting, at_rest}
-use Rattle.inode_machine.specs.World.{Mine, World}
+use Rattle.inode_machine.specs.Theory.{at_rest}
 use Rattle.inode_machine.specs.Rules.{number_is, own_names, row_of, Inv, Idle}
-use Rattle.inode_machine.proofs.Rules.{quiet}
-use Rattle.inode_machine.specs.Marks.{spoiled}
 
 pub rests : (t : Tree) → IsWellFormed t → ((id : ℕ) → t.files id ≡ None) → ((h : ℕ) → t.holds h ≡ None) → ((h i : ℕ) → t.fds h i ≡ None) → Inv (at_rest t)
 rests t well files holds fds =

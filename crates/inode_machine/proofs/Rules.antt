@@ -1,5 +1,5 @@
 -- The rules of the operations that place nothing.
-use Rattle.std.proofs.Common.{◌≡◌, ◌≢◌, ◌⊎◌, inl, inr, ℕ, zero, suc, ◌+◌, ◌<◌, ◌≤◌, true, false, ◌==◌, List, [], ◌∷◌, Option, Some, None, refl, sym, ◌∙◌, ap, subst, arith, ◌-◌, Bool}
+use Rattle.std.proofs.Common.{◌≡◌, ◌≢◌, ◌⊎◌, inl, inr, ℕ, ◌+◌, ◌<◌, true, false, ◌==◌, List, [], ◌∷◌, Option, Some, None, refl, sym, ◌∙◌, ap, subst, arith, ◌-◌, Bool}
 use Rattle.atomic_programs.specs.Prog.{Do, unmarked}
 use Rattle.atomic_programs.specs.Logic.{P, own, onto, Good, Fine, Safe, Wp, Goes}
 use Rattle.plain_tree.specs.declared.node.Node.{Node}
@@ -7,7 +7,7 @@ use Rattle.plain_tree.specs.Widths.{hart_count, root}
 use Rattle.plain_tree.specs.Tree.{Tree, put, look, is_live, settle}
 use Rattle.tree_laws.specs.WellFormed.{sum_below, one_if, folders_of, links_in, raises, IsWellFormed}
 use Rattle.tree_laws.proofs.Maps.{eq_self, eq_is, eq_not, either, same_or, put_same, put_other}
-use Rattle.tree_laws.proofs.Sums.{one_yes, sum_same, sum_changed, sum_part, sum_two}
+use Rattle.tree_laws.proofs.Sums.{one_yes, sum_same, sum_changed, sum_part}
 use Rattle.tree_laws.proofs.Facts.{look_live, folder_linked}
 use Rattle.tree_laws.proofs.Nodes.{linked_live}
 use Rattle.tree_laws.proofs.Walks.{look_same}
@@ -16,8 +16,8 @@ use Rattle.inode_machine.specs.World.{Mine, Entry, World, Op, Answer, Mark, stag
 use Rattle.inode_machine.specs.Exec.{file_count, with_refs, lock_if, counted_up, locked, up_if, has_place}
 use Rattle.inode_machine.specs.Marks.{marked, go, places, with_mark}
 use Rattle.inode_machine.specs.World.Op.{Up}
-use Rattle.inode_machine.specs.Rules.{Own, shop_of, own_names, Opens, number_is, Held, view, is_hart, own_of, Found, Pinned, Reached, IsAlone, Inv, IsOut, MayWait, machine, more, Others, LocksNone, May, Rests, looking_cost, Honest}
-use Rattle.inode_machine.proofs.Frame.{shop_same, put_elim, ours_none, ours_some, kept_here, Did, Fair, fair, fair_same, own_inodes, has_inode, has_none, found_more, two_refs}
+use Rattle.inode_machine.specs.Rules.{Own, shop_of, Opens, number_is, Held, view, is_hart, own_of, Found, Pinned, Reached, IsAlone, Inv, IsOut, MayWait, machine, more, Others, LocksNone, May, Rests, looking_cost, Honest}
+use Rattle.inode_machine.proofs.Frame.{shop_same, put_elim, ours_none, ours_some, kept_here, Did, Fair, fair, own_inodes, has_inode, has_none, found_more, two_refs}
 use Rattle.inode_machine.specs.Inodes.{Looking, Seen, seen_in}
 
 abbrev pub Post : Type 0 → Type 1
@@ -202,7 +202,7 @@ locking h i v O ov free lt inv out mine e = record { fair = fair inv did; whole 
           quiet = λ j. put_elim v.keeper i (Some h) j (λ z. z ≡ Some h → (v.desks h).joined ≡ false → v.disk j ≡ v.all.nodes j) (λ q is f. inv.whole j (ap v.keeper q ∙ nobody)) (λ q is f. inv.quiet j h is f);
           sort = λ j. inl refl;
           sorts = inv.sorts;
-          noted = λ n is r. inv.noted h n lt is r;
+          noted = λ n is r s. inv.noted h n lt is r s;
           directory = inv.directory h lt;
           well = inv.well;
           counts = inv.counts;
@@ -302,12 +302,15 @@ ups h i O v0 inv0 ov0 free0 lt may only notes = record { fair = fair inv0 (did v
 
     -- nobody else keeps it alone
     free : (v : World) → Inv v → own_of h v ≡ O → (a : IsAlone v.keeper v.all.nodes v.refs v.harts i) → a.hart ≡ h
-    free v inv ov a = elim (same_or a.hart h) [ inl e ↦ e | inr ne ↦ absurd (elim may [
-      | inl p ↦ (let two = two_refs v a.hart h i inv (inv.kept i a.hart a.kept).0 lt ne in let c = a.counts in let r = my_refs h v O i ov in omega (arith, two, c, r, p))
-      | inr (inl p) ↦ (let l = root_live v.all inv.well in let b = subst (λ (z : ℕ). is_live (v.all.nodes z) ≡ false) p a.dead in cc (l, b))
-      | inr (inr (inl p)) ↦ found (inv.pending h i lt (ap (λ (o : Own). o.mine.pending) ov ∙ p))
-      | inr (inr (inr p)) ↦ (let f : look v.all.nodes p.0 p.2 ≡ Some i = look_as p.0 p.2 p.1.node (has_node h p.0 v O p.1 ov p.3) p.4 in live_not p.0 p.2 f)
-    ]) ]
+    free v inv ov a = elim (same_or a.hart h) [
+      | inl e ↦ e
+      | inr ne ↦ absurd (elim may [
+        | inl p ↦ (let two = two_refs v a.hart h i inv (inv.kept i a.hart a.kept).0 lt ne in let c = a.counts in let r = my_refs h v O i ov in omega (arith, two, c, r, p))
+        | inr (inl p) ↦ (let l = root_live v.all inv.well in let b = subst (λ (z : ℕ). is_live (v.all.nodes z) ≡ false) p a.dead in cc (l, b))
+        | inr (inr (inl p)) ↦ found (inv.pending h i lt (ap (λ (o : Own). o.mine.pending) ov ∙ p))
+        | inr (inr (inr p)) ↦ (let f : look v.all.nodes p.0 p.2 ≡ Some i = look_as p.0 p.2 p.1.node (has_node h p.0 v O p.1 ov p.3) p.4 in live_not p.0 p.2 f)
+      ])
+    ]
       where
         live_not : (d : ℕ) (e : List ℕ) → look v.all.nodes d e ≡ Some i → ⊥
         live_not d e f = let l = look_live v.all d i e inv.well f in let b = a.dead in cc (l, b)
@@ -363,7 +366,7 @@ ups h i O v0 inv0 ov0 free0 lt may only notes = record { fair = fair inv0 (did v
           quiet = λ j is f. inv.quiet j h is f;
           sort = λ j. inl refl;
           sorts = inv.sorts;
-          noted = λ n is r. inv.noted h n lt is (back v n is ov r);
+          noted = λ n is r s. inv.noted h n lt is (back v n is ov r) s;
           directory = inv.directory h lt;
           well = inv.well;
           counts = λ j. elim (same_or j i) [

@@ -1,5 +1,5 @@
 -- What a tree is before and after it settles.
-use Rattle.std.proofs.Common.{◌≡◌, ◌⊎◌, inl, inr, ℕ, Bool, true, false, ◌||◌, Option, Some, None, refl, sym, ◌∙◌, ap, if◌then◌else◌}
+use Rattle.std.proofs.Common.{◌≡◌, ◌⊎◌, inl, inr, ℕ, Bool, true, false, ◌||◌, Option, None, refl, ◌∙◌, ap, if◌then◌else◌}
 use Rattle.plain_tree.specs.declared.node.Node.{Node}
 use Rattle.plain_tree.specs.Tree.{Tree, is_live, is_named, live_directory, settle}
 use Rattle.plain_tree.specs.Steps.{with_nodes}
@@ -38,4 +38,3 @@ settle_dead t d dead = elim (settle_at t d) [ inl e ↦ ap (λ (z : Option Node)
 pub settled_row : (t : Tree) (h : ℕ) → row_of (settle t) h ≡ row_of t h
 unfolding settle
 settled_row t h = refl
-

@@ -16,7 +16,6 @@ use Rattle.inode_machine.specs.World.{Mine, Entry, Desk, World, stage_of, Note}
 use Rattle.inode_machine.specs.Rules.{shop_of, Opens, own_names, row_of, Pinned, IsAlone, Inv, Row, key_in, key_names, left_or}
 use Rattle.inode_machine.proofs.Frame.{Kin, Did}
 use Rattle.inode_machine.proofs.Settling.{settle_nodes, settle_or}
-use Rattle.inode_machine.proofs.Rules.{quiet}
 use Rattle.inode_machine.specs.Marks.{new_id}
 use Rattle.inode_machine.specs.Inodes.{sort_of}
 use Rattle.inode_machine.specs.Exec.{is_at}
@@ -58,7 +57,7 @@ sells_did h v F D S T H lt inv s =
       quiet = λ j is f. inv.quiet j h is (sym s.joined ∙ f) ∙ sym (ap (λ (f : ℕ → Option Node). f j) s.nodes);
       sort = λ j. inl (ap (λ (f : ℕ → Option Node). sort_of (f j)) s.nodes);
       sorts = λ k e is. ap (λ (f : ℕ → Option Node). sort_of (f e.file.number)) s.nodes ∙ s.sorts k e is;
-      noted = λ m is r. let a = s.noted m is in ap (λ (f : ℕ → Option Node). sort_of (f m.number)) s.nodes ∙ inv.noted h m lt a.0 (elim r [ inl p ↦ inl (a.1 p) | inr p ↦ absurd (let e = s.found in cc (e, p)) ]);
+      noted = λ m is r t. let a = s.noted m is in ap (λ (f : ℕ → Option Node). sort_of (f m.number)) s.nodes ∙ inv.noted h m lt a.0 (elim r [ inl p ↦ inl (a.1 p) | inr p ↦ absurd (let e = s.found in cc (e, p)) ]) t;
       directory = s.directory;
       well = s.well;
       counts = s.counts;
@@ -74,14 +73,19 @@ sells_did h v F D S T H lt inv s =
 pub own_takes : (h : ℕ) (v u : World) (s : Action) (a : StepAnswer) → follows_path s ≡ false → path_of s ≡ [] → (v.harts h).walk ≡ None → ((q : Option (ℕ × Name)) → makes_node (settle v.all) s q ≡ false) → ((g : ℕ) → s ≡ Inherit g → ⊥)
     → StepWith (settle v.all) h s (resolve (settle v.all) h (path_of s)) (parent (settle v.all) h (path_of s)) a 0 (new_id v) (stage_of u).tree → (stage_of u).walk ≡ put (λ g. (v.harts g).walk) h None
     → Takes (stage_of v) h (record { move = OwnMove s 0; told = Some (record { act = record { step = s; answer = a }; new = 0 }) }) (stage_of u)
-own_takes h v u s a follows path walk makes inherits step walks = ((new_id v), follows, walk, record {
-  answer = a;
-  deed = refl;
-  step = step;
-  walk = walks;
-  alone = λ ok q. absurd (let m = makes (parent (settle v.all) h (path_of s)) in cc (m, q));
-  idle = λ g l q. absurd (inherits g q);
-})
+own_takes h v u s a follows path walk makes inherits step walks = (
+  (new_id v),
+  follows,
+  walk,
+  record {
+    answer = a;
+    deed = refl;
+    step = step;
+    walk = walks;
+    alone = λ ok q. absurd (let m = makes (parent (settle v.all) h (path_of s)) in cc (m, q));
+    idle = λ g l q. absurd (inherits g q);
+  },
+)
 
 -- Fewer descriptors, or other open files, of which none names more: the tree settles as it would have.
 abbrev pub with_open : Tree → (ℕ → ℕ → Option ℕ) → (ℕ → Option OpenFile) → Tree

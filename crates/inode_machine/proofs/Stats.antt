@@ -1,8 +1,8 @@
 -- Fstat: a descriptor's inode is locked, and its state told.
-use Rattle.std.proofs.Common.{◌≡◌, ◌≢◌, inl, inr, ℕ, ◌+◌, ◌<◌, true, false, ◌&&◌, nat_lt, List, [], ◌∷◌, Option, Some, None, refl, sym, ◌∙◌, ap, subst, arith, if◌then◌else◌}
+use Rattle.std.proofs.Common.{◌≡◌, inl, inr, ℕ, ◌+◌, ◌<◌, List, [], ◌∷◌, Option, Some, None, refl, sym, ◌∙◌, ap, subst, arith}
 use Rattle.std.proofs.lemmas.Bool.Decides.{nat_tests}
 use Rattle.atomic_programs.specs.Prog.{Do, Did as Came}
-use Rattle.atomic_programs.specs.Logic.{P, own, onto, Good, Fine, Safe, Wp}
+use Rattle.atomic_programs.specs.Logic.{P, own, onto, Good, Safe, Wp}
 use Rattle.plain_tree.specs.declared.answer.Cause.TheVariants.{BadDescriptor}
 use Rattle.plain_tree.specs.declared.node.Node.{Node}
 use Rattle.plain_tree.specs.declared.node.Kind.{Kind}
@@ -17,14 +17,13 @@ use Rattle.tree_laws.proofs.Nodes.{file_named}
 use Rattle.inode_machine.specs.Moves.{Deed, Stage, Step}
 use Rattle.inode_machine.specs.Moves.Move.{Own as OwnMove}
 use Rattle.inode_machine.specs.World.{World, Entry, Mark}
-use Rattle.inode_machine.specs.World.Mark.{Makes}
 use Rattle.inode_machine.specs.Inodes.{Face, face_of, face_or, sort_of, stat_of_face}
 use Rattle.inode_machine.specs.Rules.{Own, Opens, EntryOut, Inv, machine, own_of}
 use Rattle.inode_machine.specs.Parts.{own_step}
 use Rattle.inode_machine.proofs.Rules.{Locking, fine_after, is_out, locked_held, locking, locks_none, s-owned}
 use Rattle.inode_machine.specs.Exec.{entry_at, entry_of, lock_if, locked, slot_at, stat_at, with_walk}
 use Rattle.inode_machine.proofs.Walking.{moves_good, own_walk, stage_walk, walk_did}
-use Rattle.inode_machine.specs.Marks.{go, made_by, new_id, places, with_mark}
+use Rattle.inode_machine.specs.Marks.{made_by, new_id, places, with_mark}
 use Rattle.inode_machine.proofs.Dups.{Behind, behind, behind_none, fails, file_settled, refused_good, Refused}
 use Rattle.inode_machine.proofs.Frame.{fair}
 use Rattle.inode_machine.proofs.Settling.{settle_nodes, settle_or}
@@ -59,7 +58,6 @@ as_nodes t = refl
 
 pub settle_again : (t : Tree) → settle t ≡ settle (settle t)
 settle_again t = sym (as_nodes t ∙ settle_nodes t (settle t).nodes t.nodes (λ n. settle_or t n))
-
 
 stat_none : (t : Tree) (h fd : ℕ) (res : Option ℕ) (par : Option (ℕ × Name)) → file_at t h fd ≡ None → refusal_with t h (Fstat fd) res par ≡ Some BadDescriptor
 unfolding refusal_with
@@ -128,21 +126,25 @@ s-stat-file {A} {h} fd {k} {B} {Q} {n} {es} {w} {O} owns free lt pos walks none 
         fine_after a.fair refl
         (moves_good h 3 n B Q es u u (OwnMove (Fstat fd) 0) (k (Some (e.file.number, face_or (face_of (v.disk e.file.number))))) (made_by v.all h (new_id v) (v.harts h).walk (OwnMove (Fstat fd) 0)) (record { all = v.all; walk = None; found = None; opened = None; entered = None; left = None; told = Some deed })
         made_is
-        (fair a.fair.inv (walk_did h None None u (ap (λ (o : Own). o.desk.lender) ov ∙ free) lt a.fair.inv (ap (λ (o : Own). o.mine.pending) ov ∙ none) (λ y z p. absurd cc) (λ z p. absurd cc) (λ j p. absurd cc)))
-        (new_id v, refl, ap (λ (o : Own). o.mine.walk) ov ∙ walks, record {
-          answer = Status (stat_of e.file.number x.0);
-          deed = refl;
-          step = (
-            stat_goes (settle v.all) h fd e.file (resolve (settle v.all) h []) (parent (settle v.all) h []) (file_settled v.all h fd ∙ hit.file),
-            sym (stat_is (settle v.all) h fd (new_id v) e.file.number e.file x.0 (resolve (settle v.all) h []) (parent (settle v.all) h []) (file_settled v.all h fd ∙ hit.file) refl (node_settled h fd v e s inv lt hit ∙ x.1)),
-            record { node = λ z. absurd cc; file = λ z. absurd cc },
-            settle_again v.all ∙ ap (λ (t : Tree). settle t) (sym (stat_effect (settle v.all) h fd 0 (new_id v) (resolve (settle v.all) h []) (parent (settle v.all) h []))),
-            stat_place (settle v.all) h fd lt,
-          );
-          walk = ap (λ (z : Stage). z.walk) (stage_walk h None None u);
-          alone = λ ok z. absurd cc;
-          idle = λ g l z. absurd cc;
-        })
+        (fair a.fair.inv (walk_did h None None u (ap (λ (o : Own). o.desk.lender) ov ∙ free) lt a.fair.inv (ap (λ (o : Own). o.mine.pending) ov ∙ none) (λ y z p. absurd cc) (λ z p. absurd cc) (λ j p. absurd cc))) (
+          new_id v,
+          refl,
+          ap (λ (o : Own). o.mine.walk) ov ∙ walks,
+          record {
+            answer = Status (stat_of e.file.number x.0);
+            deed = refl;
+            step = (
+              stat_goes (settle v.all) h fd e.file (resolve (settle v.all) h []) (parent (settle v.all) h []) (file_settled v.all h fd ∙ hit.file),
+              sym (stat_is (settle v.all) h fd (new_id v) e.file.number e.file x.0 (resolve (settle v.all) h []) (parent (settle v.all) h []) (file_settled v.all h fd ∙ hit.file) refl (node_settled h fd v e s inv lt hit ∙ x.1)),
+              record { node = λ z. absurd cc; file = λ z. absurd cc },
+              settle_again v.all ∙ ap (λ (t : Tree). settle t) (sym (stat_effect (settle v.all) h fd 0 (new_id v) (resolve (settle v.all) h []) (parent (settle v.all) h []))),
+              stat_place (settle v.all) h fd lt,
+            );
+            walk = ap (λ (z : Stage). z.walk) (stage_walk h None None u);
+            alone = λ ok z. absurd cc;
+            idle = λ g l z. absurd cc;
+          },
+        )
         (bd e.file.number x.0) pos
         (λ l p. subst (λ (z : Option Node). Wp machine h B Q (k (Some (e.file.number, face_or (face_of z)))) l (stat_step fd e.file.number x.0 ∷ es) (record u { harts = with_walk v.harts h None None })) (sym (a.whole ∙ x.1))
         (then_ l e.file.number x.0 (record u { harts = with_walk v.harts h None None }) p (own_walk h None None u (record O { inodes = put O.inodes e.file.number (Some (locked_held (Some x.0))) }) (a.owned ∙ (λ z. record O { inodes = put O.inodes e.file.number (Some (locked_held (x.1 z))) })))).wp))

@@ -1,32 +1,17 @@
 -- A move: what it leaves of the world, and its step of the tree.
-use Rattle.std.proofs.Common.{◌≡◌, ◌⊎◌, inl, inr, ℕ, ◌+◌, ◌<◌, true, false, List, [], ◌∷◌, Option, Some, None, refl, sym, ◌∙◌, ap, subst, arith}
-use Rattle.atomic_programs.specs.Prog.{Do}
-use Rattle.atomic_programs.specs.Logic.{P, own, onto, Fine, Safe, Wp}
-use Rattle.plain_tree.specs.declared.node.Node.{Node}
-use Rattle.plain_tree.specs.declared.step.Action.{Action}
+use Rattle.std.proofs.Common.{◌≡◌, ◌⊎◌, inl, inr, ℕ, ◌+◌, ◌<◌, List, [], ◌∷◌, Option, Some, None, refl, sym, ◌∙◌, ap, subst, arith}
+use Rattle.atomic_programs.specs.Logic.{P, own, onto, Fine, Wp}
 use Rattle.plain_tree.specs.Widths.{hart_count}
-use Rattle.plain_tree.specs.Tree.{Name, Tree, put, look, is_live, live_directory, elements, start_of, settle}
-use Rattle.plain_tree.specs.Steps.{path_of, follows_path, IsInPlace}
-use Rattle.tree_laws.specs.WellFormed.{is_free_to_find}
+use Rattle.plain_tree.specs.Tree.{put, settle}
 use Rattle.tree_laws.proofs.Maps.{eq_self, put_same, put_other}
 use Rattle.tree_laws.proofs.Sums.{sum_same}
-use Rattle.tree_laws.proofs.Nodes.{live_is, settle_at}
-use Rattle.tree_laws.proofs.Walks.{look_same}
-use Rattle.tree_laws.proofs.Facts.{look_live}
-use Rattle.plain_tree.specs.declared.answer.Cause.{Cause}
-use Rattle.plain_tree.specs.declared.step.StepAnswer.TheVariants.{Failed}
-use Rattle.plain_tree.specs.declared.step.Action.TheVariants.{Inherit}
-use Rattle.plain_tree.specs.Steps.{refusal_with, refused}
-use Rattle.inode_machine.specs.Moves.{Walk, Deed, Stage, Step, Move, Takes, Looks, Begins, Acts, fail}
-use Rattle.inode_machine.specs.Moves.Move.{Begin, Look, Quit}
-use Rattle.inode_machine.specs.World.{Mine, World, Mark, stage_of, Note}
-use Rattle.inode_machine.specs.Marks.{Made, places, with_made, made_by, look_made, looked, begun, acts, found_by}
-use Rattle.inode_machine.specs.Exec.{with_walk, counted_up}
-use Rattle.inode_machine.specs.World.Mark.{Makes}
-use Rattle.inode_machine.specs.World.Op.{Up}
-use Rattle.inode_machine.specs.Rules.{Own, shop_of, Held, row_of, own_of, Found, Pinned, Inv, machine}
-use Rattle.inode_machine.proofs.Frame.{shop_same, put_elim, is_put, Did, Fair, fair, fair_then, has_inode}
-use Rattle.inode_machine.proofs.Rules.{s-owned, acted, has_node, has_disk, MayRefer, Ups, ups, quiet}
+use Rattle.inode_machine.specs.Moves.{Walk, Step, Move, Takes}
+use Rattle.inode_machine.specs.World.{Mine, World, stage_of, Note}
+use Rattle.inode_machine.specs.Marks.{Made, with_made}
+use Rattle.inode_machine.specs.Exec.{with_walk}
+use Rattle.inode_machine.specs.Rules.{Own, shop_of, own_of, Found, Pinned, Inv, machine}
+use Rattle.inode_machine.proofs.Frame.{shop_same, put_elim, is_put, Did, Fair}
+use Rattle.inode_machine.proofs.Rules.{acted}
 use Rattle.inode_machine.specs.Inodes.{sort_of}
 
 -- A hart's walk, and what it found, change.
@@ -54,8 +39,8 @@ walk_did h k p v free lt inv none notes lands finds =
       quiet = λ j is f. inv.quiet j h is f;
       sort = λ j. inl refl;
       sorts = inv.sorts;
-      noted = λ m is r. elim r [
-        | inl a ↦ inv.noted h m lt is (inl (let e = refs_walk v.harts h k p h m.number in omega (arith, e, a)))
+      noted = λ m is r s. elim r [
+        | inl a ↦ inv.noted h m lt is (inl (let e = refs_walk v.harts h k p h m.number in omega (arith, e, a))) s
         | inr a ↦ notes m is (sym (ap (λ (x : Mine). x.pending) (put_same v.harts h new)) ∙ a)
       ];
       directory = inv.directory h lt;
@@ -108,4 +93,3 @@ pub moves_good : {A : Type 0} (h more n : ℕ) (B : List Step → Type 0) (Q : A
 moves_good {A} h more n B Q es v u mv p made x is f takes b pos next =
     subst (λ (z : Made). Fine machine h ((h, record { move = mv; told = z.told }) ∷ []) more n B es v (with_made h z u) (λ l. Wp machine h B Q p l (onto (own h ((h, record { move = mv; told = z.told }) ∷ [])) es) (with_made h z u))) (sym is)
     (acted f takes b pos (λ l q. rw (eq_self h) (next l q)))
-

@@ -1,6 +1,5 @@
 -- What an operation's mark makes of the tree, and which steps are placed.
 use Rattle.std.specs.Prelude.{ℕ, ◌+◌, Bool, true, false, ◌&&◌, List, [], ◌∷◌, if◌then◌else◌, Option, Some, None}
-use Rattle.plain_tree.specs.declared.node.Node.{Node}
 use Rattle.plain_tree.specs.declared.answer.Cause.{Cause}
 use Rattle.plain_tree.specs.declared.step.Action.{Action}
 use Rattle.plain_tree.specs.declared.step.Action.TheVariants.{Open, Truncate, Read, WritePart, Find, Bump, Enter, Unbump, Unlink, Mkdir, Chdir, Dup, Close, Fstat, Inherit}
@@ -13,7 +12,7 @@ use Rattle.atomic_programs.specs.Prog.{Did, Waits, Ran, Stops}
 use Rattle.inode_machine.specs.Inodes.{sort_of}
 use Rattle.inode_machine.specs.Moves.{Walk, fail, Deed, Move, Step}
 use Rattle.inode_machine.specs.Moves.Move.{Begin, Look, Quit, Own}
-use Rattle.inode_machine.specs.World.{Desk, Note, World, Op, Answer, Outside, Mark}
+use Rattle.inode_machine.specs.World.{Desk, World, Op, Answer, Outside, Mark}
 use Rattle.inode_machine.specs.World.Mark.{Makes, Frees, Fills, Mends, Spoils}
 use Rattle.inode_machine.specs.Exec.{is_nothing, first_from, or_zero, with_walk, exec}
 

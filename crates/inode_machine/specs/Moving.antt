@@ -1,5 +1,5 @@
 -- The programs of chdir and inherit.
-use Rattle.std.specs.Prelude.{ℕ, zero, suc, ◌+◌, Bool, true, false, List, [], ◌∷◌, Option, Some, None, if◌then◌else◌}
+use Rattle.std.specs.Prelude.{ℕ, zero, suc, ◌+◌, true, false, List, [], Option, None, if◌then◌else◌}
 use Rattle.plain_tree.specs.declared.answer.Cause.TheVariants.{NotDirectory}
 use Rattle.plain_tree.specs.declared.answer.Reply.{Reply}
 use Rattle.plain_tree.specs.declared.call.Call.TheVariants as calls

@@ -2,7 +2,6 @@
 use Rattle.std.specs.Prelude.{ℕ, ◌+◌, ◌-◌, Bool, true, false, ◌||◌, not, List, [], ◌∷◌, nat_lt, Option, Some, None, if◌then◌else◌}
 use Rattle.plain_tree.specs.declared.answer.Cause.{Cause}
 use Rattle.plain_tree.specs.declared.answer.Cause.TheVariants.{NoEntry, Exists, IsDirectory, NotEmpty, DotName, TooManyLinks}
-use Rattle.plain_tree.specs.declared.answer.Full.{Full}
 use Rattle.plain_tree.specs.declared.answer.Full.TheVariants.{MemInodes, Blocks, DiskInodes, Directory}
 use Rattle.plain_tree.specs.declared.answer.Reply.{Reply}
 use Rattle.plain_tree.specs.declared.call.Call.{Call}
@@ -11,13 +10,13 @@ use Rattle.plain_tree.specs.declared.step.Action.{Action}
 use Rattle.plain_tree.specs.declared.step.Action.TheVariants as steps
 use Rattle.plain_tree.specs.Tree.{Name, elements, same_name, dot, dotdot}
 use Rattle.plain_tree.specs.Widths.{count_limit}
-use Rattle.atomic_programs.specs.Prog.{Ret, Do, unmarked}
-use Rattle.inode_machine.specs.Inodes.{Sort, OfDirectory, Face, face_or, Seen, AtNothing, AtName, AtEntries, is_directory_sort, is_live_face}
+use Rattle.atomic_programs.specs.Prog.{Do, unmarked}
+use Rattle.inode_machine.specs.Inodes.{OfDirectory, Face, face_or, Seen, AtNothing, AtName, AtEntries, is_directory_sort, is_live_face}
 use Rattle.inode_machine.specs.Moves.Move.{Begin, Look}
 use Rattle.inode_machine.specs.World.{Mark, Claimed, New, NoInode, NoPlace, Entered, InPlace, NoBlock, NoSlot}
 use Rattle.inode_machine.specs.World.Op.{Take, Give, Up, Claim, Store, Fill, Enter, Clear, Join}
 use Rattle.inode_machine.specs.World.Mark.{Mends}
-use Rattle.inode_machine.specs.Parts.{P, makes, own_step, mends_if_full, failed, full, done, drop, give_up, tail, Stop, stopped, walk, walk_parent, start, looks_if, looks_where, is_there}
+use Rattle.inode_machine.specs.Parts.{P, makes, own_step, mends_if_full, failed, full, done, drop, give_up, tail, stopped, walk, walk_parent, start, looks_if, looks_where, is_there}
 use Rattle.inode_machine.specs.Opening.{entered_file, unmake, mends_unless_new}
 
 -- no room was found for a name

@@ -1,25 +1,22 @@
 -- The program of open.
-use Rattle.std.specs.Prelude.{ℕ, Bool, true, false, ◌&&◌, ◌||◌, not, List, [], ◌∷◌, ◌==◌, Option, Some, None, if◌then◌else◌}
+use Rattle.std.specs.Prelude.{ℕ, Bool, ◌&&◌, ◌||◌, not, List, [], ◌∷◌, ◌==◌, Option, Some, None, if◌then◌else◌}
 use Rattle.plain_tree.specs.declared.answer.Answer.TheVariants as answers
 use Rattle.plain_tree.specs.declared.answer.Cause.{Cause}
 use Rattle.plain_tree.specs.declared.answer.Cause.TheVariants.{NoEntry}
-use Rattle.plain_tree.specs.declared.answer.Full.{Full}
 use Rattle.plain_tree.specs.declared.answer.Full.TheVariants.{MemInodes, OpenFiles, Descriptors, Blocks, DiskInodes, Directory}
 use Rattle.plain_tree.specs.declared.answer.Reply.{Reply}
-use Rattle.plain_tree.specs.declared.call.Call.{Call}
 use Rattle.plain_tree.specs.declared.call.Call.TheVariants as calls
-use Rattle.plain_tree.specs.declared.step.Action.{Action}
 use Rattle.plain_tree.specs.declared.step.Action.TheVariants as steps
 use Rattle.plain_tree.specs.declared.tree.OpenFile.{OpenFile}
 use Rattle.plain_tree.specs.Tree.{Name, elements}
 use Rattle.plain_tree.specs.Steps.{has, write_only, read_write, empty_it, creates}
-use Rattle.atomic_programs.specs.Prog.{Ret, Do, unmarked}
-use Rattle.inode_machine.specs.Inodes.{Sort, OfFile, Face, face_or, Seen, AtNothing, AtName, is_file_sort, is_live_face, open_refusal}
+use Rattle.atomic_programs.specs.Prog.{Do, unmarked}
+use Rattle.inode_machine.specs.Inodes.{Sort, OfFile, face_or, AtNothing, AtName, is_file_sort, is_live_face, open_refusal}
 use Rattle.inode_machine.specs.Moves.Move.{Begin, Look}
 use Rattle.inode_machine.specs.World.{Mark, Claimed, New, NoInode, NoPlace, Entered, InPlace, NoBlock, NoSlot}
 use Rattle.inode_machine.specs.World.Op.{Take, Give, Up, Claim, Store, Enter, Empty, Slot, Install, Join}
 use Rattle.inode_machine.specs.World.Mark.{Mends}
-use Rattle.inode_machine.specs.Parts.{P, makes, own_step, mends_if_full, failed, full, drop, give_up, tail, Stop, stopped, walk, walk_parent, start, looks_where, is_there}
+use Rattle.inode_machine.specs.Parts.{P, makes, own_step, mends_if_full, failed, full, drop, give_up, tail, stopped, walk, walk_parent, start, looks_where, is_there}
 
 -- an open file at its beginning
 abbrev pub file_for : ℕ → ℕ → OpenFile

@@ -10,7 +10,7 @@ use Rattle.plain_tree.specs.declared.call.Call.{Call}
 use Rattle.plain_tree.specs.declared.step.Action.{Action}
 use Rattle.plain_tree.specs.Tree.{Name, is_absolute}
 use Rattle.atomic_programs.specs.Prog.{Prog, Ret, Do, unmarked}
-use Rattle.inode_machine.specs.Inodes.{Seen, Looking, AtNothing, AtName, is_live_face, is_directory_face}
+use Rattle.inode_machine.specs.Inodes.{Seen, AtNothing, AtName, is_live_face, is_directory_face}
 use Rattle.inode_machine.specs.Moves.{Move}
 use Rattle.inode_machine.specs.Moves.Move.{Begin, Look, Quit, Own}
 use Rattle.inode_machine.specs.World.{Op, Answer, Mark}

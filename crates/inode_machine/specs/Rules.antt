@@ -9,7 +9,7 @@ use Rattle.tree_laws.specs.WellFormed.{sum_below, one_if, IsWellFormed}
 use Rattle.inode_machine.specs.Moves.{Walk}
 use Rattle.atomic_programs.specs.Logic.{Machine}
 use Rattle.inode_machine.specs.Moves.{Stage, Step, Takes}
-use Rattle.inode_machine.specs.Inodes.{Sort, sort_of, Looking}
+use Rattle.inode_machine.specs.Inodes.{sort_of, Looking}
 use Rattle.inode_machine.specs.Inodes.Looking.{AtNothing, AtName, AtEntries}
 use Rattle.inode_machine.specs.World.{Mine, Entry, Note, Desk, World, Op, Answer, Mark, Outside, stage_of}
 use Rattle.inode_machine.specs.World.Op.{Take, Give, UpStart, Up, WalkDown, Down, Free, Claim, Store, Fill, Enter, Clear, Empty, Slot, Install, StatFile, ReadFile, CheckFile, JoinFile, WriteFile, Double, Shut, Settle, Lend, LendDirectory, Release, Join, Leave, Say}
@@ -230,8 +230,8 @@ pub record Inv (w : World) : Type 0 where
   pub named : (g i : ℕ) → g < hart_count → own_names (row_of w.all g) (w.desks g) i ≡ true → Reached w g i
   pub pending : (g i : ℕ) → g < hart_count → (w.harts g).pending ≡ Some i → Found w.keeper w.all.nodes g i
   pub walks : (g : ℕ) (k : Walk) → g < hart_count → (w.harts g).walk ≡ Some k → Reached w g k.at
-  -- while it refers to what it found, that has the type that it had
-  pub noted : (g : ℕ) (n : Note) → g < hart_count → (w.desks g).noted ≡ Some n → Reached w g n.number → sort_of (w.all.nodes n.number) ≡ n.sort
+  -- while it refers to what it found, and doesn't free it, that has the type that it had
+  pub noted : (g : ℕ) (n : Note) → g < hart_count → (w.desks g).noted ≡ Some n → Reached w g n.number → w.alone n.number ≡ false → sort_of (w.all.nodes n.number) ≡ n.sort
   pub directory : (g : ℕ) → g < hart_count → (w.desks g).directory ≡ left_or (w.desks g).left (w.all.cwd g)
   -- a hart that gets another's descriptors rests
   pub lent : (g : ℕ) → g < hart_count → (w.desks g).lender ≢ None → Idle g w
