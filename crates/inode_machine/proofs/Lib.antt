@@ -15,3 +15,4 @@ pub mod Readings
 pub mod Drops
 pub mod Rest
 pub mod Calls
+pub mod Looks
