@@ -16,7 +16,7 @@ use Rattle.plain_tree.specs.Tree.{put}
 use Rattle.plain_tree.specs.Calls.{next_of, reply_of, had_room}
 use Rattle.tree_laws.specs.WellFormed.{one_if}
 use Rattle.tree_laws.proofs.Maps.{and_true, put_same, put_other, same_or}
-use Rattle.inode_machine.specs.Moves.{Written}
+use Rattle.tree_moves.specs.Moves.{Written}
 use Rattle.inode_machine.specs.World.{Desk, World, stage_of}
 use Rattle.inode_machine.specs.Inodes.{face_or, face_of}
 use Rattle.inode_machine.specs.Exec.{is_nothing}
@@ -94,11 +94,11 @@ none_left I i x e = λ r j. each j r
 
 dup_failed : (fd : ℕ) → Written (calls.Dup fd) (fails (steps.Dup fd) BadDescriptor ∷ []) (parts.failed (calls.Dup fd) BadDescriptor)
 unfolding next_of reply_of had_room
-dup_failed fd = (refl, (refl, refl, refl))
+dup_failed fd = (refl, record { through = refl; reply = refl; room = refl })
 
 dup_written : (fd f : ℕ) → Written (calls.Dup fd) (dupped fd f ∷ []) (record { answer = answers.Fd f; call = calls.Dup fd })
 unfolding next_of reply_of had_room
-dup_written fd f = (refl, (refl, refl, refl))
+dup_written fd f = (refl, record { through = refl; reply = refl; room = refl })
 
 pub dup_ok : (h fd : ℕ) (w : World) → (w.desks h).lender ≡ None → h < hart_count → Idle h w → Safe machine h (Begun descriptor_calls (calls.Dup fd)) (Ends descriptor_calls h (calls.Dup fd)) (dup_program fd) rest_cost [] w
 dup_ok h fd w free lt idle =
@@ -113,11 +113,11 @@ dup_ok h fd w free lt idle =
 
 close_failed : (fd : ℕ) → Written (calls.Close fd) (fails (steps.Close fd) BadDescriptor ∷ []) (parts.failed (calls.Close fd) BadDescriptor)
 unfolding next_of reply_of had_room
-close_failed fd = (refl, (refl, refl, refl))
+close_failed fd = (refl, record { through = refl; reply = refl; room = refl })
 
 close_written : (fd : ℕ) → Written (calls.Close fd) (shut_step fd ∷ []) (parts.done (calls.Close fd))
 unfolding next_of reply_of had_room
-close_written fd = (refl, (refl, refl, refl))
+close_written fd = (refl, record { through = refl; reply = refl; room = refl })
 
 -- one up and one down
 refs_back : (r : ℕ → ℕ) (m : ℕ) → put (put r m (r m + 1)) m (put r m (r m + 1) m - 1) ≡ r
@@ -157,11 +157,11 @@ close_ok h fd w free lt idle =
 
 stat_failed : (fd : ℕ) → Written (calls.Fstat fd) (fails (steps.Fstat fd) BadDescriptor ∷ []) (parts.failed (calls.Fstat fd) BadDescriptor)
 unfolding next_of reply_of had_room
-stat_failed fd = (refl, (refl, refl, refl))
+stat_failed fd = (refl, record { through = refl; reply = refl; room = refl })
 
 stat_written : (fd i : ℕ) (v : Node) → Written (calls.Fstat fd) (stat_step fd i v ∷ []) (stat_reply fd i (face_or (face_of (Some v))))
 unfolding next_of reply_of had_room
-stat_written fd i v = (refl, (refl, (λ j. record { answer = answers.Stat (stat_face i v j); call = calls.Fstat fd }), refl))
+stat_written fd i v = (refl, record { through = refl; reply = λ j. record { answer = answers.Stat (stat_face i v j); call = calls.Fstat fd }; room = refl })
 
 pub stat_ok : (h fd : ℕ) (w : World) → (w.desks h).lender ≡ None → h < hart_count → Idle h w → Safe machine h (Begun descriptor_calls (calls.Fstat fd)) (Ends descriptor_calls h (calls.Fstat fd)) (stat_program fd) rest_cost [] w
 stat_ok h fd w free lt idle =
@@ -182,11 +182,11 @@ stat_ok h fd w free lt idle =
 
 read_failed : (fd : ℕ) (buffer : List ℕ) (c : Cause) → Written (calls.Read fd buffer) (fails (steps.Read fd (length buffer)) c ∷ []) (parts.failed (calls.Read fd buffer) c)
 unfolding next_of reply_of had_room
-read_failed fd buffer c = (refl, (refl, refl, refl))
+read_failed fd buffer c = (refl, record { through = refl; reply = refl; room = refl })
 
 read_written : (fd : ℕ) (buffer b : List ℕ) → Written (calls.Read fd buffer) (read_step fd (length buffer) b ∷ []) (read_reply fd buffer b)
 unfolding next_of reply_of had_room
-read_written fd buffer b = (refl, (refl, refl, refl))
+read_written fd buffer b = (refl, record { through = refl; reply = refl; room = refl })
 
 pub read_ok : (h fd : ℕ) (buffer : List ℕ) (w : World) → (w.desks h).lender ≡ None → h < hart_count → Idle h w → Safe machine h (Begun descriptor_calls (calls.Read fd buffer)) (Ends descriptor_calls h (calls.Read fd buffer)) (read_program fd buffer) rest_cost [] w
 read_ok h fd buffer w free lt idle =

@@ -8,7 +8,7 @@ use Rattle.plain_tree.specs.Widths.{hart_count}
 use Rattle.plain_tree.specs.Tree.{put, is_live, settle}
 use Rattle.tree_laws.specs.WellFormed.{sum_below}
 use Rattle.tree_laws.proofs.Maps.{eq_is, either, same_or, put_same, put_other, and_true}
-use Rattle.inode_machine.specs.Moves.{Walk, Step}
+use Rattle.tree_moves.specs.Moves.{Walk, Step}
 use Rattle.inode_machine.specs.World.{Mine, World, stage_of}
 use Rattle.inode_machine.specs.Marks.{with_mark}
 use Rattle.inode_machine.specs.Exec.{unlocked, counted_down, down_if, is_dead, is_last, reserved, walk_down_if}

@@ -8,7 +8,7 @@ use Rattle.tree_laws.proofs.Walks.{look_same}
 use Rattle.tree_laws.proofs.Facts.{look_live}
 use Rattle.tree_laws.proofs.Sums.{sum_part, sum_two}
 use Rattle.inode_machine.specs.Inodes.{sort_of}
-use Rattle.inode_machine.specs.Moves.{Walk}
+use Rattle.tree_moves.specs.Moves.{Walk}
 use Rattle.inode_machine.specs.World.{Mine, Entry, Note, Desk, World}
 use Rattle.inode_machine.specs.Rules.{Own, Rests, left_or, shop_of, Shop, Tied, own_names, Held, view, is_hart, if_kept, row_of, own_of, Found, Pinned, Reached, IsAlone, Inv}
 

@@ -13,13 +13,12 @@ use Rattle.plain_tree.specs.declared.step.StepAnswer.TheVariants.{Failed}
 use Rattle.plain_tree.specs.Widths.{hart_count}
 use Rattle.plain_tree.specs.Tree.{Name, Tree, put, look, is_live, live_directory, elements, start_of, settle, hold_names}
 use Rattle.plain_tree.specs.Steps.{path_of, follows_path, refusal_with, refused, IsInPlace}
-use Rattle.tree_laws.specs.WellFormed.{is_free_to_find}
 use Rattle.tree_laws.proofs.Maps.{either, eq_self, same_or, put_same, put_other}
 use Rattle.tree_laws.proofs.Facts.{look_live}
 use Rattle.tree_laws.proofs.Nodes.{settle_at}
 use Rattle.tree_laws.proofs.Walks.{look_same}
-use Rattle.inode_machine.specs.Moves.{Walk, Deed, Stage, Step, Move, Acts, Looks, Begins, fail}
-use Rattle.inode_machine.specs.Moves.Move.{Begin, Look, Quit}
+use Rattle.tree_moves.specs.Moves.{Walk, Deed, Stage, Step, Move, Acts, Looks, Begins, fail}
+use Rattle.tree_moves.specs.Moves.Move.{Begin, Look, Quit}
 use Rattle.inode_machine.specs.World.{Mine, Desk, Note, World, Mark, stage_of}
 use Rattle.inode_machine.specs.World.Mark.{Makes, Frees, Fills, Mends, Spoils}
 use Rattle.inode_machine.specs.World.Op.{Take, UpStart}
@@ -90,7 +89,7 @@ quit_good h more n d B Q es v O x y p ov free lt inv walks none at isd dead b po
     let node_at : v.all.nodes y.at ≡ x.node = ap v.all.nodes at ∙ has_node h d v O x ov isd in
     moves_good h more n B Q es v v (Quit y.step) p (made_by v.all h (new_id v) (v.harts h).walk (Quit y.step)) (record { all = v.all; walk = None; found = None; opened = None; entered = None; left = None; told = Some (fail y.step) }) refl
     (fair inv (walk_did h None None v (ap (λ (o : Own). o.desk.lender) ov ∙ free) lt inv (ap (λ (o : Own). o.mine.pending) ov ∙ none) (λ m q e. absurd cc) (λ z q. absurd cc) (λ i q. absurd cc)))
-    (y, ap (λ (o : Own). o.mine.walk) ov ∙ walks, refl, settle_dead v.all y.at (ap (λ (z : Option Node). live_directory z) node_at ∙ dead), refl, stage_walk h None None v)
+    (record { walk = y; is = ap (λ (o : Own). o.mine.walk) ov ∙ walks; step = refl; lost = settle_dead v.all y.at (ap (λ (z : Option Node). live_directory z) node_at ∙ dead); deed = refl; stage = stage_walk h None None v })
     b pos
     (λ l q. (then_ l (record v { harts = with_walk v.harts h None None }) q (own_walk h None None v O ov)).wp)
 
@@ -119,7 +118,7 @@ look_on_good {A} h more n d B Q es v O x y e r j p ov free lt inv walks none at 
     (λ m q s. let a : note_of v.all j ≡ m = some_is (sym (ap (λ (z : Desk). z.noted) (put_same v.desks h (record (v.desks h) { noted = Some (note_of v.all j) }))) ∙ q) in (λ z. sort_of (v.all.nodes (sym a z).number)) ∙ (λ z. (a z).sort))
     (λ z q. inr (let s : to ≡ z = cc in ap (λ (o : Walk). Some o.at) s))
     (λ i q. let s : j ≡ i = cc in record { directory = d; name = y.next; keeps = (has_inode h d v O x ov isd).0; finds = subst (λ (z : ℕ). look v.all.nodes z y.next ≡ Some j) at look_is ∙ ap (λ (z : ℕ). Some z) s }))))
-    (new_id v, y, mine, ap (λ (z : Option Node). live_directory z) settled ∙ live_at, plays)
+    (record { walk = y; is = mine; live = ap (λ (z : Option Node). live_directory z) settled ∙ live_at; looks = plays })
     b pos
     (λ l q. (then_ l (Some (note_of v.all j)) (record u1 { harts = with_walk v.harts h (Some to) (Some j) }) q (λ z q. ap (λ (o : Option Node). is_live o) (sym (has_node h j v O z ov q)) ∙ look_live v.all y.at j y.next inv.well look_is)
     (own_walk h (Some to) (Some j) u1 (record O { desk = record (O.desk) { noted = Some (note_of v.all j) } }) note.owned) (λ m q. let a : note_of v.all j ≡ m = some_is q in ap (λ (z : Note). z.number) (sym a))).wp)
@@ -154,12 +153,12 @@ look_on_good {A} h more n d B Q es v O x y e r j p ov free lt inv walks none at 
     look_is : look v.all.nodes y.at y.next ≡ Some j
     look_is = look_same (λ z. x.node) v.all.nodes y.at y.next node_at ∙ subst (λ (z : ℕ). look (λ i. x.node) z y.next ≡ Some j) (sym at) finds
 
-    goes : Looks (stage_of v) h y (e ∷ r) (Some j) 0 (new_id v) None (stage_of (record u1 { harts = with_walk v.harts h (Some to) (Some j) }))
+    goes : Looks (stage_of v) h y (e ∷ r) (Some j) 0 None (stage_of (record u1 { harts = with_walk v.harts h (Some to) (Some j) }))
     goes = (refl, stage_walk h (Some to) (Some j) v)
 
-    plays : Looks (stage_of v) h y y.rest (look (settle v.all).nodes y.at y.next) 0 (new_id v) None (stage_of (record u1 { harts = with_walk v.harts h (Some to) (Some j) }))
-    plays = subst (λ (z : List Name). Looks (stage_of v) h y z (look (settle v.all).nodes y.at y.next) 0 (new_id v) None (stage_of (record u1 { harts = with_walk v.harts h (Some to) (Some j) }))) (sym rest)
-        (subst (λ (z : Option ℕ). Looks (stage_of v) h y (e ∷ r) z 0 (new_id v) None (stage_of (record u1 { harts = with_walk v.harts h (Some to) (Some j) }))) (sym (look_same v.all.nodes (settle v.all).nodes y.at y.next settled ∙ look_is)) goes)
+    plays : Looks (stage_of v) h y y.rest (look (settle v.all).nodes y.at y.next) 0 None (stage_of (record u1 { harts = with_walk v.harts h (Some to) (Some j) }))
+    plays = subst (λ (z : List Name). Looks (stage_of v) h y z (look (settle v.all).nodes y.at y.next) 0 None (stage_of (record u1 { harts = with_walk v.harts h (Some to) (Some j) }))) (sym rest)
+        (subst (λ (z : Option ℕ). Looks (stage_of v) h y (e ∷ r) z 0 None (stage_of (record u1 { harts = with_walk v.harts h (Some to) (Some j) }))) (sym (look_same v.all.nodes (settle v.all).nodes y.at y.next settled ∙ look_is)) goes)
 
 -- what a tree must have to agree with what the hart keeps
 abbrev pub Agrees : Own → Tree → Type 0
@@ -184,7 +183,7 @@ acts_refused b h s res par new id c r f = rw r (λ i. record { all = b; walk = N
 pub look_refused_good : {A : Type 0} (h more n d : ℕ) (B : List Step → Type 0) (Q : A → List Step → World → Type 0) (es : List Step) (v : World) (O : Own) (x : Held) (y : Walk) (f : Option ℕ) (c : Cause) (res : Option ℕ) (par : Option (ℕ × Name)) (p : P machine A)
     → own_of h v ≡ O → O.desk.lender ≡ None → h < hart_count → Inv v → O.mine.walk ≡ Some y → O.mine.pending ≡ None → y.at ≡ d → O.inodes d ≡ Some x → live_directory x.node ≡ true → look (λ z. x.node) d y.next ≡ f
     → ((b : Tree) (id : ℕ) → looked b h y y.rest f 0 id ≡ acts b h y.step res par 0 id)
-    → ((m m' : Stage) (id : ℕ) (t : Option Deed) → Acts m h y.step res par 0 id t m' → Looks m h y y.rest f 0 id t m')
+    → ((m m' : Stage) (t : Option Deed) → Acts m h y.step res par 0 t m' → Looks m h y y.rest f 0 t m')
     → ((b : Tree) → Agrees O b → refusal_with b h y.step res par ≡ Some c) → ((b : Tree) → refused b h y.step ≡ b)
     → ((t : Tree) → row_of t h ≡ O.row → IsInPlace t h y.step) → ((g : ℕ) → y.step ≡ Inherit g → ⊥) → found_by y.step res ≡ None
     → B (record { move = Look 0; told = Some (record { act = record { step = y.step; answer = Failed c }; new = 0 }) } ∷ es) → more < n
@@ -194,7 +193,7 @@ look_refused_good {A} h more n d B Q es v O x y f c res par p ov free lt inv wal
     moves_good h more n B Q es v v (Look 0) p (made_by v.all h (new_id v) (v.harts h).walk (Look 0)) (record { all = v.all; walk = None; found = None; opened = None; entered = None; left = None; told = Some (record { act = record { step = y.step; answer = Failed c }; new = 0 }) })
     (ap (λ (z : Option Walk). look_made v.all h z 0 (new_id v)) walk_is ∙ (λ i. looked v.all h y y.rest (look_is i) 0 (new_id v)) ∙ same v.all (new_id v) ∙ acts_refused v.all h y.step res par 0 (new_id v) c (refusal v.all (agrees_all h v O ov)) found)
     (fair inv (walk_did h None None v (ap (λ (o : Own). o.desk.lender) ov ∙ free) lt inv (ap (λ (o : Own). o.mine.pending) ov ∙ none) (λ m q e. absurd cc) (λ z q. absurd cc) (λ i q. absurd cc)))
-    (new_id v, y, walk_is, ap (λ (z : Option Node). live_directory z) settled ∙ live_at, subst (λ (z : Option ℕ). Looks (stage_of v) h y y.rest z 0 (new_id v) (Some (record { act = record { step = y.step; answer = Failed c }; new = 0 })) (stage_of (record v { harts = with_walk v.harts h None None }))) (sym look_settled) (plays (stage_of v) (stage_of (record v { harts = with_walk v.harts h None None })) (new_id v) (Some (record { act = record { step = y.step; answer = Failed c }; new = 0 })) takes))
+    (record { walk = y; is = walk_is; live = ap (λ (z : Option Node). live_directory z) settled ∙ live_at; looks = subst (λ (z : Option ℕ). Looks (stage_of v) h y y.rest z 0 (Some (record { act = record { step = y.step; answer = Failed c }; new = 0 })) (stage_of (record v { harts = with_walk v.harts h None None }))) (sym look_settled) (plays (stage_of v) (stage_of (record v { harts = with_walk v.harts h None None })) (Some (record { act = record { step = y.step; answer = Failed c }; new = 0 })) takes) })
     b pos
     (λ l q. (then_ l (record v { harts = with_walk v.harts h None None }) q (own_walk h None None v O ov)).wp)
   where
@@ -216,9 +215,10 @@ look_refused_good {A} h more n d B Q es v O x y f c res par p ov free lt inv wal
     walk_is : (v.harts h).walk ≡ Some y
     walk_is = ap (λ (o : Own). o.mine.walk) ov ∙ walks
 
-    takes : Acts (stage_of v) h y.step res par 0 (new_id v) (Some (record { act = record { step = y.step; answer = Failed c }; new = 0 })) (stage_of (record v { harts = with_walk v.harts h None None }))
+    takes : Acts (stage_of v) h y.step res par 0 (Some (record { act = record { step = y.step; answer = Failed c }; new = 0 })) (stage_of (record v { harts = with_walk v.harts h None None }))
     takes = record {
       answer = Failed c;
+      id = new_id v;
       deed = refl;
       step = (refusal (settle v.all) (agrees_settled h v O ov), sym (stays (settle v.all)), place (settle v.all) (settled_row v.all h ∙ ap (λ (o : Own). o.row) ov));
       walk = ap (λ (z : Stage). z.walk) (stage_walk h None None v);

@@ -19,8 +19,8 @@ use Rattle.tree_laws.specs.WellFormed.{IsWellFormed}
 use Rattle.tree_laws.proofs.Maps.{same_or, put_same, put_other}
 use Rattle.tree_laws.proofs.Sums.{sum_same}
 use Rattle.tree_laws.proofs.Opened.{well_moved}
-use Rattle.inode_machine.specs.Moves.{Stage, Step}
-use Rattle.inode_machine.specs.Moves.Move.{Own as OwnMove}
+use Rattle.tree_moves.specs.Moves.{Stage, Step}
+use Rattle.tree_moves.specs.Moves.Move.{Own as OwnMove}
 use Rattle.inode_machine.specs.World.{Mine, Entry, World, Part as PartOf, NotRead, Readout}
 use Rattle.inode_machine.specs.Marks.{places, with_mark, made_by, new_id, with_made}
 use Rattle.inode_machine.specs.Exec.{with_walk, slot_at, entry_at, entry_moved, part_of, entry_of, lock_if, locked, mode_refusal, read_at, read_refused, with_offset}

@@ -10,8 +10,8 @@ use Rattle.plain_tree.specs.Tree.{Name, Tree, put, any_below, hold_names, fd_nam
 use Rattle.plain_tree.specs.Steps.{path_of, follows_path, with_nodes, makes_node, StepWith}
 use Rattle.tree_laws.specs.WellFormed.{sum_below, IsWellFormed}
 use Rattle.tree_laws.proofs.Maps.{any_none, none_any, or_none}
-use Rattle.inode_machine.specs.Moves.{Takes}
-use Rattle.inode_machine.specs.Moves.Move.{Own as OwnMove}
+use Rattle.tree_moves.specs.Moves.{Takes}
+use Rattle.tree_moves.specs.Moves.Move.{Own as OwnMove}
 use Rattle.inode_machine.specs.World.{Mine, Entry, Desk, World, stage_of, Note}
 use Rattle.inode_machine.specs.Rules.{shop_of, Opens, own_names, row_of, Pinned, IsAlone, Inv, Row, key_in, key_names, left_or}
 use Rattle.inode_machine.proofs.Frame.{Kin, Did}
@@ -73,19 +73,19 @@ sells_did h v F D S T H lt inv s =
 pub own_takes : (h : ℕ) (v u : World) (s : Action) (a : StepAnswer) → follows_path s ≡ false → path_of s ≡ [] → (v.harts h).walk ≡ None → ((q : Option (ℕ × Name)) → makes_node (settle v.all) s q ≡ false) → ((g : ℕ) → s ≡ Inherit g → ⊥)
     → StepWith (settle v.all) h s (resolve (settle v.all) h (path_of s)) (parent (settle v.all) h (path_of s)) a 0 (new_id v) (stage_of u).tree → (stage_of u).walk ≡ put (λ g. (v.harts g).walk) h None
     → Takes (stage_of v) h (record { move = OwnMove s 0; told = Some (record { act = record { step = s; answer = a }; new = 0 }) }) (stage_of u)
-own_takes h v u s a follows path walk makes inherits step walks = (
-  (new_id v),
-  follows,
-  walk,
-  record {
+own_takes h v u s a follows path walk makes inherits step walks = record {
+  follows = follows;
+  rests = walk;
+  acts = record {
     answer = a;
+    id = new_id v;
     deed = refl;
     step = step;
     walk = walks;
     alone = λ ok q. absurd (let m = makes (parent (settle v.all) h (path_of s)) in cc (m, q));
     idle = λ g l q. absurd (inherits g q);
-  },
-)
+  };
+}
 
 -- Fewer descriptors, or other open files, of which none names more: the tree settles as it would have.
 abbrev pub with_open : Tree → (ℕ → ℕ → Option ℕ) → (ℕ → Option OpenFile) → Tree

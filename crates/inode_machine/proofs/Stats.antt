@@ -14,8 +14,8 @@ use Rattle.plain_tree.specs.Widths.{hart_count}
 use Rattle.plain_tree.specs.Tree.{Name, Tree, put, settle, resolve, parent}
 use Rattle.plain_tree.specs.Steps.{node_or, node_at, stat_of, with_nodes, file_at, refusal_with, effect_with, answer_with, place_of, IsInPlace}
 use Rattle.tree_laws.proofs.Nodes.{file_named}
-use Rattle.inode_machine.specs.Moves.{Deed, Stage, Step}
-use Rattle.inode_machine.specs.Moves.Move.{Own as OwnMove}
+use Rattle.tree_moves.specs.Moves.{Deed, Stage, Step}
+use Rattle.tree_moves.specs.Moves.Move.{Own as OwnMove}
 use Rattle.inode_machine.specs.World.{World, Entry, Mark}
 use Rattle.inode_machine.specs.Inodes.{Face, face_of, face_or, sort_of, stat_of_face}
 use Rattle.inode_machine.specs.Rules.{Own, Opens, EntryOut, Inv, machine, own_of}
@@ -126,11 +126,11 @@ s-stat-file {A} {h} fd {k} {B} {Q} {n} {es} {w} {O} owns free lt pos walks none 
         fine_after a.fair refl
         (moves_good h 3 n B Q es u u (OwnMove (Fstat fd) 0) (k (Some (e.file.number, face_or (face_of (v.disk e.file.number))))) (made_by v.all h (new_id v) (v.harts h).walk (OwnMove (Fstat fd) 0)) (record { all = v.all; walk = None; found = None; opened = None; entered = None; left = None; told = Some deed })
         made_is
-        (fair a.fair.inv (walk_did h None None u (ap (λ (o : Own). o.desk.lender) ov ∙ free) lt a.fair.inv (ap (λ (o : Own). o.mine.pending) ov ∙ none) (λ y z p. absurd cc) (λ z p. absurd cc) (λ j p. absurd cc))) (
-          new_id v,
-          refl,
-          ap (λ (o : Own). o.mine.walk) ov ∙ walks,
-          record {
+        (fair a.fair.inv (walk_did h None None u (ap (λ (o : Own). o.desk.lender) ov ∙ free) lt a.fair.inv (ap (λ (o : Own). o.mine.pending) ov ∙ none) (λ y z p. absurd cc) (λ z p. absurd cc) (λ j p. absurd cc))) (record {
+          follows = refl;
+          rests = ap (λ (o : Own). o.mine.walk) ov ∙ walks;
+          acts = record {
+            id = new_id v;
             answer = Status (stat_of e.file.number x.0);
             deed = refl;
             step = (
@@ -143,8 +143,8 @@ s-stat-file {A} {h} fd {k} {B} {Q} {n} {es} {w} {O} owns free lt pos walks none 
             walk = ap (λ (z : Stage). z.walk) (stage_walk h None None u);
             alone = λ ok z. absurd cc;
             idle = λ g l z. absurd cc;
-          },
-        )
+          };
+        })
         (bd e.file.number x.0) pos
         (λ l p. subst (λ (z : Option Node). Wp machine h B Q (k (Some (e.file.number, face_or (face_of z)))) l (stat_step fd e.file.number x.0 ∷ es) (record u { harts = with_walk v.harts h None None })) (sym (a.whole ∙ x.1))
         (then_ l e.file.number x.0 (record u { harts = with_walk v.harts h None None }) p (own_walk h None None u (record O { inodes = put O.inodes e.file.number (Some (locked_held (Some x.0))) }) (a.owned ∙ (λ z. record O { inodes = put O.inodes e.file.number (Some (locked_held (x.1 z))) })))).wp))

@@ -5,7 +5,7 @@ use Rattle.plain_tree.specs.Widths.{hart_count}
 use Rattle.plain_tree.specs.Tree.{put, settle}
 use Rattle.tree_laws.proofs.Maps.{eq_self, put_same, put_other}
 use Rattle.tree_laws.proofs.Sums.{sum_same}
-use Rattle.inode_machine.specs.Moves.{Walk, Step, Move, Takes}
+use Rattle.tree_moves.specs.Moves.{Walk, Step, Move, Takes}
 use Rattle.inode_machine.specs.World.{Mine, World, stage_of, Note}
 use Rattle.inode_machine.specs.Marks.{Made, with_made}
 use Rattle.inode_machine.specs.Exec.{with_walk}

@@ -1,4 +1,3 @@
-pub mod Moves
 pub mod Inodes
 pub mod World
 pub mod Exec

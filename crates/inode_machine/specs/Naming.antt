@@ -12,7 +12,7 @@ use Rattle.plain_tree.specs.Tree.{Name, elements, same_name, dot, dotdot}
 use Rattle.plain_tree.specs.Widths.{count_limit}
 use Rattle.atomic_programs.specs.Prog.{Do, unmarked}
 use Rattle.inode_machine.specs.Inodes.{OfDirectory, Face, face_or, Seen, AtNothing, AtName, AtEntries, is_directory_sort, is_live_face}
-use Rattle.inode_machine.specs.Moves.Move.{Begin, Look}
+use Rattle.tree_moves.specs.Moves.Move.{Begin, Look}
 use Rattle.inode_machine.specs.World.{Mark, Claimed, New, NoInode, NoPlace, Entered, InPlace, NoBlock, NoSlot}
 use Rattle.inode_machine.specs.World.Op.{Take, Give, Up, Claim, Store, Fill, Enter, Clear, Join}
 use Rattle.inode_machine.specs.World.Mark.{Mends}

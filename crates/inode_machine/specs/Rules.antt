@@ -6,9 +6,9 @@ use Rattle.plain_tree.specs.declared.tree.Hold.{Hold}
 use Rattle.plain_tree.specs.Widths.{hart_count, descriptor_count}
 use Rattle.plain_tree.specs.Tree.{Name, Tree, any_below, hold_names, is_live, look}
 use Rattle.tree_laws.specs.WellFormed.{sum_below, one_if, IsWellFormed}
-use Rattle.inode_machine.specs.Moves.{Walk}
+use Rattle.tree_moves.specs.Moves.{Walk}
 use Rattle.atomic_programs.specs.Logic.{Machine}
-use Rattle.inode_machine.specs.Moves.{Stage, Step, Takes}
+use Rattle.tree_moves.specs.Moves.{Stage, Step, Takes}
 use Rattle.inode_machine.specs.Inodes.{sort_of, Looking}
 use Rattle.inode_machine.specs.Inodes.Looking.{AtNothing, AtName, AtEntries}
 use Rattle.inode_machine.specs.World.{Mine, Entry, Note, Desk, World, Op, Answer, Mark, Outside, stage_of}

@@ -8,7 +8,7 @@ use Rattle.plain_tree.specs.Widths.{hart_count}
 use Rattle.tree_laws.specs.WellFormed.{one_if, sum_below, IsWellFormed}
 use Rattle.atomic_programs.specs.Calls.{Theory, Began, Refuses, Begins, Event, AllHonest, run, fresh}
 use Rattle.atomic_programs.specs.Explained.{Explained}
-use Rattle.inode_machine.specs.Moves.{Written}
+use Rattle.tree_moves.specs.Moves.{Written}
 use Rattle.inode_machine.specs.World.{Mine, World, Outside, stage_of}
 use Rattle.inode_machine.specs.Exec.{is_nothing}
 use Rattle.inode_machine.specs.Rules.{Inv, Idle, machine}
