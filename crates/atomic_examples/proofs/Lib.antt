@@ -6,3 +6,4 @@ pub mod Grab
 pub mod Swap
 pub mod Done
 pub mod Wards
+pub mod Serving

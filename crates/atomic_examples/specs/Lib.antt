@@ -4,3 +4,4 @@ pub mod OfWhole
 pub mod Grab
 pub mod Swap
 pub mod Wards
+pub mod Desk

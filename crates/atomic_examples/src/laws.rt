@@ -1,10 +1,11 @@
 //! The theorems, at the examples.
 
-ghost use Rattle.std.specs.Prelude.{◌≡◌, ℕ, ◌∷◌, [], List, Some};
-ghost use Rattle.atomic_programs.specs.Calls.{Event, Start, Step, Started, Refused, DidRun, DidEnd, State, next, run, outcomes, fresh, hart_of, IsHonest, AllHonest, Sound};
+ghost use Rattle.std.specs.Prelude.{◌≡◌, ℕ, ◌∷◌, [], List, Some, true, false};
+ghost use Rattle.atomic_programs.specs.Calls.{Event, Start, Step, Started, Refused, DidWait, DidRun, DidEnd, State, next, run, outcomes, fresh, hart_of, IsHonest, AllHonest, Sound};
 ghost use Rattle.atomic_programs.specs.Explained.{Explained, Led, history};
 ghost use Rattle.atomic_programs.specs.Plain.{IsCode};
 ghost use Rattle.atomic_programs.specs.Prog.{plain};
+ghost use Rattle.atomic_examples.specs.Desk as desk;
 ghost use Rattle.atomic_examples.specs.Whole as whole;
 ghost use Rattle.atomic_examples.specs.Blocks as blocks;
 ghost use Rattle.atomic_examples.specs.Wards as wards;
@@ -12,6 +13,38 @@ ghost use Rattle.atomic_examples.specs.Wards.{gifts_above, rest as purses};
 ghost use Rattle.atomic_examples.specs.Grab as grab;
 ghost use Rattle.atomic_examples.specs.Grab.{grabs_above};
 ghost use Rattle.atomic_examples.specs.Swap.{Swap, Swapped, swaps, swaps_above, code, code_above, rest};
+
+/// Over every list of events the replies at the desk are explained, where a hart's step may be placed by another hart, and a start may reserve an idle one.
+pub fn desk_explained()
+    ensures { (w : desk.World) (events : List (Event desk.Call (Unit {0}))) → ((h : ℕ) → desk.Idle h w) → Explained desk.desk w.book (run desk.desk events (fresh desk.desk w)) }
+{}
+
+/// At the desk an event may place another hart's step beside its own; what it places leads from book to book while nothing was wiped.
+pub fn desk_leads()
+    ensures { (s : State desk.desk) (e : Event desk.Call (Unit {0})) → Sound desk.desk s → IsHonest desk.desk e s → Led desk.desk (hart_of e) s (next desk.desk e s) }
+{}
+
+/// Every hart is idle at a desk at rest.
+pub fn desk_rests(number: u32)
+    ensures { (tokens : ℕ → ℕ) (h : ℕ) → desk.Idle h (desk.rest number tokens) }
+{}
+
+/// A request waits until another hart serves it; its step is placed at that hart's event.
+pub fn desk_helps()
+    ensures outcomes { outcomes desk.desk (Start 0 (desk.Request 7) ∷ Step 0 tt ∷ Step 0 tt ∷ Start 1 (desk.Help 0) ∷ Step 1 tt ∷ Step 0 tt ∷ []) (fresh desk.desk (desk.rest 5 (λ h. 0))) ≡ Started ∷ DidRun (desk.Ask 7, tt) ∷ DidWait ∷ Started ∷ DidEnd (desk.Helped true) ∷ DidEnd (desk.Got 5) ∷ [] }
+    ensures history { history desk.desk (run desk.desk (Start 0 (desk.Request 7) ∷ Step 0 tt ∷ Step 0 tt ∷ Start 1 (desk.Help 0) ∷ Step 1 tt ∷ []) (fresh desk.desk (desk.rest 5 (λ h. 0)))) ≡ record { number = 4; hart = 0; call = 0; step = desk.Swapped 7 5 } ∷ [] }
+{}
+
+/// A hart that is reserved for another's call starts nothing until that call's reply.
+pub fn desk_reserves()
+    ensures { outcomes desk.desk (Start 0 (desk.Give 1) ∷ Start 1 (desk.Help 0) ∷ Step 0 tt ∷ Start 1 (desk.Help 0) ∷ Step 0 tt ∷ Start 1 (desk.Help 0) ∷ Start 0 (desk.Give 1) ∷ []) (fresh desk.desk (desk.rest 5 (λ h. 0))) ≡ Started ∷ Refused desk.Reserved ∷ DidRun (desk.Hand 1, tt) ∷ Refused desk.Reserved ∷ DidEnd desk.Given ∷ Started ∷ Refused desk.Busy ∷ [] }
+{}
+
+/// After a wipe no reply is explained: the list has a step that the number didn't take.
+pub fn desk_unclean()
+    ensures clean { (run desk.desk (Start 0 desk.Reset ∷ Step 0 tt ∷ []) (fresh desk.desk (desk.rest 5 (λ h. 0)))).world.clean ≡ false }
+    ensures history { history desk.desk (run desk.desk (Start 0 desk.Reset ∷ Step 0 tt ∷ Start 0 (desk.Request 7) ∷ Step 0 tt ∷ Start 1 (desk.Help 0) ∷ Step 1 tt ∷ []) (fresh desk.desk (desk.rest 5 (λ h. 0)))) ≡ record { number = 5; hart = 0; call = 2; step = desk.Swapped 7 0 } ∷ [] }
+{}
 
 /// Swaps of inodes' records, which were shown right over whole inodes, are explained where they run on blocks.
 pub fn swaps_explained()

@@ -6,7 +6,6 @@ ghost use Rattle.atomic_programs.specs.Calls.{Event, Start, Step, Finished, Plac
 ghost use Rattle.atomic_programs.specs.Explained.{Explained, Led, Steady, In, history};
 ghost use Rattle.atomic_programs.specs.Trace.{Traced, happened};
 ghost use Rattle.atomic_programs.specs.Cell as cell;
-ghost use Rattle.atomic_programs.specs.Desk as desk;
 
 /// Over every list of events, from any world that holds and where every hart is idle, the cell's replies are explained by
 /// one list of steps.
@@ -48,36 +47,4 @@ pub fn cell_finishes()
 pub fn cell_stops()
     ensures outcomes { outcomes cell.swaps (Start 0 (cell.Swap 7) ∷ Step 0 cell.Passes ∷ Step 0 cell.Passes ∷ Step 0 (cell.Fails 7) ∷ Step 0 cell.Passes ∷ Start 0 cell.Look ∷ Start 1 cell.Look ∷ Start 8 cell.Look ∷ Step 1 cell.Passes ∷ Step 2 cell.Passes ∷ []) (fresh cell.swaps (cell.rest 5 0)) ≡ Started ∷ DidRun (cell.Take, tt) ∷ DidRun (cell.Fetch, 5) ∷ DidStop ∷ WasStopped ∷ Refused cell.Busy ∷ Started ∷ Refused cell.NoSuchHart ∷ WasStopped ∷ WasIdle ∷ [] }
     ensures honest { AllHonest cell.swaps (Start 0 (cell.Swap 7) ∷ Step 0 cell.Passes ∷ Step 0 cell.Passes ∷ Step 0 (cell.Fails 7) ∷ Step 0 cell.Passes ∷ Start 0 cell.Look ∷ Start 1 cell.Look ∷ Start 8 cell.Look ∷ Step 1 cell.Passes ∷ Step 2 cell.Passes ∷ []) (fresh cell.swaps (cell.rest 5 0)) }
-{}
-
-/// The same of the desk, where a hart's step may be placed by another hart, and a start may reserve an idle one.
-pub fn desk_explained()
-    ensures { (w : desk.World) (events : List (Event desk.Call (Unit {0}))) → ((h : ℕ) → desk.Idle h w) → Explained desk.desk w.book (run desk.desk events (fresh desk.desk w)) }
-{}
-
-/// There an event may place another hart's step beside its own; what it places leads from book to book while nothing was wiped.
-pub fn desk_leads()
-    ensures { (s : State desk.desk) (e : Event desk.Call (Unit {0})) → Sound desk.desk s → IsHonest desk.desk e s → Led desk.desk (hart_of e) s (next desk.desk e s) }
-{}
-
-/// Every hart is idle at a desk at rest.
-pub fn desk_rests(number: u32)
-    ensures { (tokens : ℕ → ℕ) (h : ℕ) → desk.Idle h (desk.rest number tokens) }
-{}
-
-/// A request waits until another hart serves it; its step is placed at that hart's event.
-pub fn desk_helps()
-    ensures outcomes { outcomes desk.desk (Start 0 (desk.Request 7) ∷ Step 0 tt ∷ Step 0 tt ∷ Start 1 (desk.Help 0) ∷ Step 1 tt ∷ Step 0 tt ∷ []) (fresh desk.desk (desk.rest 5 (λ h. 0))) ≡ Started ∷ DidRun (desk.Ask 7, tt) ∷ DidWait ∷ Started ∷ DidEnd (desk.Helped true) ∷ DidEnd (desk.Got 5) ∷ [] }
-    ensures history { history desk.desk (run desk.desk (Start 0 (desk.Request 7) ∷ Step 0 tt ∷ Step 0 tt ∷ Start 1 (desk.Help 0) ∷ Step 1 tt ∷ []) (fresh desk.desk (desk.rest 5 (λ h. 0)))) ≡ record { number = 4; hart = 0; call = 0; step = desk.Swapped 7 5 } ∷ [] }
-{}
-
-/// A hart that is reserved for another's call starts nothing until that call's reply.
-pub fn desk_reserves()
-    ensures { outcomes desk.desk (Start 0 (desk.Give 1) ∷ Start 1 (desk.Help 0) ∷ Step 0 tt ∷ Start 1 (desk.Help 0) ∷ Step 0 tt ∷ Start 1 (desk.Help 0) ∷ Start 0 (desk.Give 1) ∷ []) (fresh desk.desk (desk.rest 5 (λ h. 0))) ≡ Started ∷ Refused desk.Reserved ∷ DidRun (desk.Hand 1, tt) ∷ Refused desk.Reserved ∷ DidEnd desk.Given ∷ Started ∷ Refused desk.Busy ∷ [] }
-{}
-
-/// After a wipe no reply is explained: the list has a step that the number didn't take.
-pub fn desk_unclean()
-    ensures clean { (run desk.desk (Start 0 desk.Reset ∷ Step 0 tt ∷ []) (fresh desk.desk (desk.rest 5 (λ h. 0)))).world.clean ≡ false }
-    ensures history { history desk.desk (run desk.desk (Start 0 desk.Reset ∷ Step 0 tt ∷ Start 0 (desk.Request 7) ∷ Step 0 tt ∷ Start 1 (desk.Help 0) ∷ Step 1 tt ∷ []) (fresh desk.desk (desk.rest 5 (λ h. 0)))) ≡ record { number = 5; hart = 0; call = 2; step = desk.Swapped 7 0 } ∷ [] }
 {}

@@ -6,7 +6,7 @@ use Rattle.atomic_programs.specs.Prog.{Ret, Do, unmarked}
 use Rattle.atomic_programs.specs.Logic.{own, onto, PlacesOne, Grown, Fine, Good, Wp, Laws}
 use Rattle.atomic_programs.specs.Calls.{Began, Begins, IsBeginning, Begun, Ends, Right, Lawful, Event, changed, run, fresh}
 use Rattle.atomic_programs.specs.Explained.{Explained}
-use Rattle.atomic_programs.specs.Desk.{Slot, Empty, Asked, Served, World, Ask, Serve, Collect, Hand, Free, Wipe, Step, Swapped, Gave, serve_if, collect_if, served, Fared, is_for, Others, Idle, IsAsked, machine, Call, Request, Help, Give, Reset, Got, Helped, Given, Wiped, Refusal, Busy, program, unless, reserve_if, start_call, start_if, desk}
+use Rattle.atomic_examples.specs.Desk.{Slot, Empty, Asked, Served, World, Ask, Serve, Collect, Hand, Free, Wipe, Step, Swapped, Gave, serve_if, collect_if, served, Fared, is_for, Others, Idle, IsAsked, machine, Call, Request, Help, Give, Reset, Got, Helped, Given, Wiped, Refusal, Busy, program, unless, reserve_if, start_call, start_if, desk}
 use Rattle.atomic_programs.proofs.Explains.{changed_same, changed_other, explains, all_honest}
 
 fared_same : (s : Slot) → Fared s [] s
