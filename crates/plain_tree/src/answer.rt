@@ -7,7 +7,7 @@ use crate::call::Call;
 /// Why a call is refused. A refused call changes nothing, but for the pieces of a write before the refused one.
 #[derive(Clone, Copy, PartialEq, Eq, Debug)]
 pub enum Cause {
-    NoEntry,
+    NoEntry = 1,
     Exists,
     IsDirectory,
     NotEmpty,
@@ -24,7 +24,7 @@ pub enum Cause {
 /// Which table, disk or directory has no room.
 #[derive(Clone, Copy, PartialEq, Eq, Debug)]
 pub enum Full {
-    MemInodes,
+    MemInodes = 21,
     OpenFiles,
     Descriptors,
     Blocks,
@@ -35,7 +35,7 @@ pub enum Full {
 /// The type of a node, as `fstat` answers it.
 #[derive(Clone, Copy, PartialEq, Eq, Debug)]
 pub enum NodeType {
-    Directory,
+    Directory = 1,
     File,
     Device,
 }
@@ -74,20 +74,7 @@ impl Cause {
     pub fn number(&self) -> u8
         ensures { result ≡ cause_number self.now }
     {
-        match self {
-            Cause::NoEntry => 1,
-            Cause::Exists => 2,
-            Cause::IsDirectory => 3,
-            Cause::NotEmpty => 4,
-            Cause::DotName => 5,
-            Cause::BadDescriptor => 6,
-            Cause::BadMode => 7,
-            Cause::TooBig => 8,
-            Cause::NoDriver => 9,
-            Cause::TooManyLinks => 10,
-            Cause::BadOffset => 11,
-            Cause::NotDirectory => 12,
-        }
+        *self as u8
     }
 
     /// The name under which it is printed.
@@ -116,14 +103,7 @@ impl Full {
     pub fn number(&self) -> u8
         ensures { result ≡ full_number self.now }
     {
-        match self {
-            Full::MemInodes => 21,
-            Full::OpenFiles => 22,
-            Full::Descriptors => 23,
-            Full::Blocks => 24,
-            Full::DiskInodes => 25,
-            Full::Directory => 26,
-        }
+        *self as u8
     }
 
     /// The name under which it is printed.
@@ -146,10 +126,6 @@ impl NodeType {
     pub fn number(&self) -> u8
         ensures { result ≡ type_number self.now }
     {
-        match self {
-            NodeType::Directory => 1,
-            NodeType::File => 2,
-            NodeType::Device => 3,
-        }
+        *self as u8
     }
 }

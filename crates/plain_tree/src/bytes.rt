@@ -1,6 +1,10 @@
 //! Bytes that a contract sees as a list of numbers.
 ghost use Rattle.std.specs.Prelude.{◌≡◌};
+ghost use Rattle.std.proofs.Common.{rules};
+ghost use Rattle.std.specs.Cmp.Rules.{comparing};
+ghost use Rattle.std.specs.Str.{bytes_eq};
 
+use std::alloc::AllocError;
 use std::marker::Model;
 
 /// A path, a name or a file's content.
@@ -15,6 +19,26 @@ impl Model for Bytes {
     ghost Value = { List ℕ };
 
     ghost view = { λ b. b.items.items };
+}
+
+impl Clone for Bytes {
+    ghost is_clone = { λ x y. y ≡ x };
+
+    fn clone(&self) -> Result<Bytes, AllocError> {
+        Ok(Bytes {
+            items: self.items.clone()?,
+        })
+    }
+}
+
+impl PartialEq for Bytes {
+    ghost eq = { bytes_eq };
+
+    ghost laws = { Prim.search (comparing, rules) };
+
+    fn eq(&self, other: &Bytes) -> bool {
+        self.as_slice() == other.as_slice()
+    }
 }
 
 impl Bytes {

@@ -2,7 +2,7 @@
 use crate::bytes::Bytes;
 
 /// A call of a hart. `inherit` stands for what fork does to files.
-#[derive(Drop)]
+#[derive(Clone, PartialEq, Drop)]
 pub enum Call {
     Open { path: Bytes, flags: u32 },
     /// Reads at most as many bytes as the buffer has. The reply has the buffer with the bytes read at its front.

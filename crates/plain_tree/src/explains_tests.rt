@@ -1,7 +1,7 @@
 //! Worked runs, each with a list of steps that explains it, and what becomes of that list where one entry is another.
 //! What finds no memory is tried once more.
-use crate::story::{Change, Story, opened};
-use crate::{Answer, Cause, Full, NoMemory, StepAnswer};
+use crate::story::{Change, Story, bytes, opened};
+use crate::{Action, Answer, Call, Cause, Full, NoMemory, NodeType, Stat, StepAnswer};
 use std::alloc::Global;
 use std::test::Fail;
 
@@ -11,9 +11,7 @@ enum Run {
     Nothing,
     /// A write of 3073 bytes, with another hart's read between its two pieces.
     Pieces,
-    /// An open of a file, while another hart unlinks it and its directory.
-    Removed,
-    /// The same, and both names are made anew before the open returns.
+    /// An open of a file, while another hart unlinks it and its directory and makes both names anew.
     MadeAnew,
     /// A link whose file is unlinked between its find and its enter.
     UnlinkedWhileLinked,
@@ -25,126 +23,171 @@ enum Run {
     WithoutRoom,
 }
 
+const DONE: StepAnswer = StepAnswer::Done;
+
+fn refused(cause: Cause) -> StepAnswer {
+    StepAnswer::Failed { cause }
+}
+
+fn read(alloc: Global, text: &[u8]) -> Result<StepAnswer, NoMemory> {
+    let bytes = bytes(alloc, text)?;
+    Ok(StepAnswer::Bytes { bytes })
+}
+
+/// A piece that is written through descriptor 0.
+fn piece(alloc: Global, text: &[u8]) -> Result<Action, NoMemory> {
+    let bytes = bytes(alloc, text)?;
+    Ok(Action::WritePart { fd: 0, bytes })
+}
+
+/// File 2, empty.
+fn stat(nlink: u16) -> Stat {
+    Stat {
+        device: 1,
+        inode: 2,
+        kind: NodeType::File,
+        nlink,
+        size: 0,
+    }
+}
+
+fn mkdir(alloc: Global, path: &str) -> Result<Call, NoMemory> {
+    let path = bytes(alloc, path.as_bytes())?;
+    Ok(Call::Mkdir { path })
+}
+
+fn unlink(alloc: Global, path: &str) -> Result<Call, NoMemory> {
+    let path = bytes(alloc, path.as_bytes())?;
+    Ok(Call::Unlink { path })
+}
+
+/// A link of "/f" as "/g".
+fn link(alloc: Global) -> Result<Call, NoMemory> {
+    let old = bytes(alloc, b"/f")?;
+    let new = bytes(alloc, b"/g")?;
+    Ok(Call::Link { old, new })
+}
+
+fn enter(alloc: Global) -> Result<Action, NoMemory> {
+    let new = bytes(alloc, b"/g")?;
+    Ok(Action::Enter { new })
+}
+
+fn buffer(alloc: Global, text: &[u8]) -> Result<Call, NoMemory> {
+    let buf = bytes(alloc, text)?;
+    Ok(Call::Read { fd: 0, buf })
+}
+
+fn write(alloc: Global, text: &[u8]) -> Result<Call, NoMemory> {
+    let bytes = bytes(alloc, text)?;
+    Ok(Call::Write { fd: 0, bytes })
+}
+
 fn pieces(alloc: Global) -> Result<Story, NoMemory> {
-    let bytes = [7; 3073];
+    let text = [7; 3073];
     let mut filled = [0; 4000];
     for i in 0..3072 {
         filled[i] = 7;
     }
+    let given = buffer(alloc, &[0; 4000])?;
+    let handed = buffer(alloc, &filled)?;
     let mut story = Story::begin(alloc, 12);
-    story.open(0, 0, "/f", 0x201, 2, Answer::Fd(0))?;
-    story.open(1, 3, "/f", 0, 5, Answer::Fd(0))?;
-    story.write(0, 6, &bytes, 11, 3073)?;
-    story.read(1, 7, &[0; 4000], 11, 3072, &filled)?;
-    story.opens(1, 0, 2, "/f", 0x201, opened(0, 0))?;
-    story.opens(4, 1, 0, "/f", 0, opened(0, 1))?;
-    story.writes(8, 2, &bytes[..3072])?;
-    story.reads(9, 3, 4000, &bytes[..3072])?;
-    story.writes(10, 2, &bytes[3072..])?;
-    Ok(story)
-}
-
-/// Up to both unlinks. The open is call 3 and starts before them.
-fn with_both_unlinked(alloc: Global, end: u64, events: u64) -> Result<Story, NoMemory> {
-    let mut story = Story::begin(alloc, events);
-    story.mkdir(1, 0, "/d", 2)?;
-    story.open(1, 3, "/d/f", 0x200, 5, Answer::Fd(0))?;
-    story.close(1, 6, 8)?;
-    story.open(0, 9, "/d/f", 0, end, Answer::Failed(Cause::NoEntry))?;
-    story.unlink(1, 10, "/d/f", 12)?;
-    story.unlink(1, 13, "/d", 15)?;
-    story.makes(1, 0, 2, "/d")?;
-    story.opens(4, 1, 3, "/d/f", 0x200, opened(0, 0))?;
-    story.closes(7, 2)?;
-    story.unlinks(11, 4, "/d/f")?;
-    story.unlinks(14, 5, "/d")?;
-    Ok(story)
-}
-
-/// The open finds nothing.
-fn finds_nothing(story: &mut Story, event: u64) -> Result<(), NoMemory> {
-    let cause = Cause::NoEntry;
-    story.opens(event, 3, 0, "/d/f", 0, StepAnswer::Failed { cause })
-}
-
-fn removed(alloc: Global) -> Result<Story, NoMemory> {
-    let mut story = with_both_unlinked(alloc, 17, 18)?;
-    finds_nothing(&mut story, 16)?;
+    story.open(0, 0, 2, "/f", 0x201, Answer::Fd(0))?;
+    story.open(1, 3, 5, "/f", 0, Answer::Fd(0))?;
+    story.call(0, 6, 11, write(alloc, &text)?, Answer::Count(3073))?;
+    story.call_back(1, 7, 11, given, Answer::Count(3072), handed)?;
+    story.acts(1, 0, 2, opened(0, 0))?;
+    story.acts(4, 1, 0, opened(0, 1))?;
+    story.step(8, 2, 0, piece(alloc, &text[..3072])?, DONE)?;
+    story.acts(9, 3, 0, read(alloc, &text[..3072])?)?;
+    story.step(10, 2, 0, piece(alloc, &text[3072..])?, DONE)?;
     Ok(story)
 }
 
 fn made_anew(alloc: Global) -> Result<Story, NoMemory> {
-    let mut story = with_both_unlinked(alloc, 23, 24)?;
-    story.mkdir(1, 16, "/d", 18)?;
-    story.open(1, 19, "/d/f", 0x200, 21, Answer::Fd(0))?;
-    finds_nothing(&mut story, 15)?;
-    story.makes(17, 6, 3, "/d")?;
-    story.opens(20, 7, 4, "/d/f", 0x200, opened(0, 0))?;
+    let mut story = Story::begin(alloc, 24);
+    story.done(1, 0, 2, mkdir(alloc, "/d")?)?;
+    story.open(1, 3, 5, "/d/f", 0x200, Answer::Fd(0))?;
+    story.done(1, 6, 8, Call::Close { fd: 0 })?;
+    story.open(0, 9, 23, "/d/f", 0, Answer::Failed(Cause::NoEntry))?;
+    story.done(1, 10, 12, unlink(alloc, "/d/f")?)?;
+    story.done(1, 13, 15, unlink(alloc, "/d")?)?;
+    story.done(1, 16, 18, mkdir(alloc, "/d")?)?;
+    story.open(1, 19, 21, "/d/f", 0x200, Answer::Fd(0))?;
+    story.acts(1, 0, 2, DONE)?;
+    story.acts(4, 1, 3, opened(0, 0))?;
+    story.acts(7, 2, 0, DONE)?;
+    story.acts(11, 4, 0, DONE)?;
+    story.acts(14, 5, 0, DONE)?;
+    story.acts(15, 3, 0, refused(Cause::NoEntry))?;
+    story.acts(17, 6, 3, DONE)?;
+    story.acts(20, 7, 4, opened(0, 0))?;
     Ok(story)
 }
 
 fn unlinked_while_linked(alloc: Global) -> Result<Story, NoMemory> {
+    let given = buffer(alloc, b"....")?;
+    let handed = buffer(alloc, b"A...")?;
     let mut story = Story::begin(alloc, 21);
-    story.open(1, 0, "/f", 0x201, 2, Answer::Fd(0))?;
-    story.write(1, 3, b"A", 5, 1)?;
-    story.link(0, 6, 14, Answer::Done)?;
-    story.unlink(1, 7, "/f", 12)?;
-    story.open(0, 15, "/g", 0, 17, Answer::Fd(0))?;
-    story.read(0, 18, b"....", 20, 1, b"A...")?;
-    story.opens(1, 0, 2, "/f", 0x201, opened(0, 0))?;
-    story.writes(4, 1, b"A")?;
-    story.finds(8, 2)?;
-    story.raises(9, 2)?;
-    story.unlinks(10, 3, "/f")?;
-    story.enters(11, 2, StepAnswer::Done)?;
-    story.opens(16, 4, 0, "/g", 0, opened(0, 1))?;
-    story.reads(19, 5, 4, b"A")?;
+    story.open(1, 0, 2, "/f", 0x201, Answer::Fd(0))?;
+    story.call(1, 3, 5, write(alloc, b"A")?, Answer::Count(1))?;
+    story.done(0, 6, 14, link(alloc)?)?;
+    story.done(1, 7, 12, unlink(alloc, "/f")?)?;
+    story.open(0, 15, 17, "/g", 0, Answer::Fd(0))?;
+    story.call_back(0, 18, 20, given, Answer::Count(1), handed)?;
+    story.acts(1, 0, 2, opened(0, 0))?;
+    story.acts(4, 1, 0, DONE)?;
+    story.acts(8, 2, 0, DONE)?;
+    story.step(9, 2, 0, Action::Bump, DONE)?;
+    story.acts(10, 3, 0, DONE)?;
+    story.step(11, 2, 0, enter(alloc)?, DONE)?;
+    story.acts(16, 4, 0, opened(0, 1))?;
+    story.acts(19, 5, 0, read(alloc, b"A")?)?;
     Ok(story)
 }
 
 fn refused_link(alloc: Global) -> Result<Story, NoMemory> {
-    let cause = Cause::Exists;
+    let there = Cause::Exists;
     let mut story = Story::begin(alloc, 18);
-    story.open(1, 0, "/f", 0x200, 2, Answer::Fd(0))?;
-    story.open(1, 3, "/g", 0x200, 5, Answer::Fd(1))?;
-    story.link(0, 6, 14, Answer::Failed(cause))?;
-    story.fstat(1, 7, 13, 2)?;
-    story.fstat(1, 15, 17, 1)?;
-    story.opens(1, 0, 2, "/f", 0x200, opened(0, 0))?;
-    story.opens(4, 1, 3, "/g", 0x200, opened(1, 1))?;
-    story.finds(8, 2)?;
-    story.raises(9, 2)?;
-    story.stats(10, 3, 2)?;
-    story.enters(11, 2, StepAnswer::Failed { cause })?;
-    story.lowers(12, 2)?;
-    story.stats(16, 4, 1)?;
+    story.open(1, 0, 2, "/f", 0x200, Answer::Fd(0))?;
+    story.open(1, 3, 5, "/g", 0x200, Answer::Fd(1))?;
+    story.call(0, 6, 14, link(alloc)?, Answer::Failed(there))?;
+    story.call(1, 7, 13, Call::Fstat { fd: 0 }, Answer::Stat(stat(2)))?;
+    story.call(1, 15, 17, Call::Fstat { fd: 0 }, Answer::Stat(stat(1)))?;
+    story.acts(1, 0, 2, opened(0, 0))?;
+    story.acts(4, 1, 3, opened(1, 1))?;
+    story.acts(8, 2, 0, DONE)?;
+    story.step(9, 2, 0, Action::Bump, DONE)?;
+    story.acts(10, 3, 0, StepAnswer::Stat { stat: stat(2) })?;
+    story.step(11, 2, 0, enter(alloc)?, refused(there))?;
+    story.step(12, 2, 0, Action::Unbump, DONE)?;
+    story.acts(16, 4, 0, StepAnswer::Stat { stat: stat(1) })?;
     Ok(story)
 }
 
 fn two_at_once(alloc: Global) -> Result<Story, NoMemory> {
     let mut story = Story::begin(alloc, 9);
-    story.chdir(0, 2, "/", 6)?;
-    story.chdir(1, 3, "/", 7)?;
-    story.changes_to(4, 0, "/")?;
-    story.changes_to(5, 1, "/")?;
+    for hart in 0..2 {
+        let path = bytes(alloc, b"/")?;
+        let at = u64::from(hart);
+        story.done(hart, at + 2, at + 6, Call::Chdir { path })?;
+    }
+    story.acts(4, 0, 0, DONE)?;
+    story.acts(5, 1, 0, DONE)?;
     Ok(story)
 }
 
 fn without_room(alloc: Global) -> Result<Story, NoMemory> {
     let full = Full::Descriptors;
+    let is_file = false;
     let mut story = Story::begin(alloc, 100);
     for fd in 0..16 {
         let id = fd as usize;
-        story.open(0, 0, "", 0, 99, Answer::Fd(fd))?;
-        let answer = StepAnswer::Opened {
-            fd,
-            id,
-            is_file: false,
-        };
-        story.opens(1, id, 0, "", 0, answer)?;
+        story.open(0, 0, 99, "", 0, Answer::Fd(fd))?;
+        story.acts(1, id, 0, StepAnswer::Opened { fd, id, is_file })?;
     }
-    story.open(0, 0, "/f", 0x200, 99, Answer::Full(full))?;
-    story.opens(1, 16, 2, "/f", 0x200, StepAnswer::Full { full })?;
+    story.open(0, 0, 99, "/f", 0x200, Answer::Full(full))?;
+    story.acts(1, 16, 2, StepAnswer::Full { full })?;
     Ok(story)
 }
 
@@ -152,7 +195,6 @@ fn told(alloc: Global, run: Run) -> Result<Story, NoMemory> {
     match run {
         Run::Nothing => Ok(Story::begin(alloc, 0)),
         Run::Pieces => pieces(alloc),
-        Run::Removed => removed(alloc),
         Run::MadeAnew => made_anew(alloc),
         Run::UnlinkedWhileLinked => unlinked_while_linked(alloc),
         Run::RefusedLink => refused_link(alloc),
@@ -168,134 +210,91 @@ fn changed(alloc: Global, run: Run, one: Change, two: Change) -> Result<bool, No
     story.is_explained()
 }
 
-fn doubled(alloc: Global, run: Run, place: usize) -> Result<bool, NoMemory> {
-    let mut story = told(alloc, run)?;
-    story.doubled(told(alloc, run)?, place)?;
-    story.is_explained()
-}
-
-fn is_explained_with(alloc: Global, run: Run, one: Change, two: Change) -> Option<bool> {
+fn is_explained(alloc: Global, run: Run, one: Change, two: Change) -> Option<bool> {
     match changed(alloc, run, one, two) {
         Ok(is) => Some(is),
         Err(NoMemory) => changed(alloc, run, one, two).ok(),
     }
 }
 
-fn is_explained(alloc: Global, run: Run, change: Change) -> Option<bool> {
-    is_explained_with(alloc, run, change, Change::Nothing)
-}
-
-fn is_explained_doubled(alloc: Global, run: Run, place: usize) -> Option<bool> {
-    match doubled(alloc, run, place) {
-        Ok(is) => Some(is),
-        Err(NoMemory) => doubled(alloc, run, place).ok(),
-    }
-}
-
-/// The list is taken, and refused without an entry, with one twice, and with another answer of one.
-fn stands(alloc: Global, run: Run, entries: usize) -> bool {
-    if is_explained(alloc, run, Change::Nothing) != Some(true) {
-        return false;
-    }
-    for place in 0..entries {
-        if is_explained(alloc, run, Change::Dropped(place)) != Some(false)
-            || is_explained(alloc, run, Change::Answered(place)) != Some(false)
-            || is_explained_doubled(alloc, run, place) != Some(false)
-        {
-            return false;
-        }
-    }
-    true
-}
-
+// Each list is taken, and refused without an entry, with one twice, and with another answer of one.
 #[test]
 fn explains_the_worked_runs(rt: HostRuntime) -> Result<(), Fail> {
     let alloc = rt.alloc();
-    assert!(rt; stands(alloc, Run::Nothing, 0), "nothing");
-    assert!(rt; stands(alloc, Run::Pieces, 5), "a write in pieces");
-    assert!(rt;
-        stands(alloc, Run::Removed, 6),
-        "an open of what is removed"
-    );
-    assert!(rt; stands(alloc, Run::MadeAnew, 8), "the names made anew");
-    assert!(rt;
-        stands(alloc, Run::UnlinkedWhileLinked, 8),
-        "a link whose file is unlinked"
-    );
-    assert!(rt; stands(alloc, Run::RefusedLink, 8), "a refused link");
-    assert!(rt; stands(alloc, Run::TwoAtOnce, 2), "two at once");
-    Ok(())
-}
-
-// The reader sees the first piece alone.
-#[test]
-fn keeps_the_read_between_the_pieces(rt: HostRuntime) -> Result<(), Fail> {
-    let alloc = rt.alloc();
-    for (from, to) in [(3, 2), (3, 4), (2, 3), (4, 3), (4, 2)] {
-        let is = is_explained(alloc, Run::Pieces, Change::Moved(from, to));
-        assert_eq!(rt; is, Some(false), "{from} to {to}");
-    }
-    Ok(())
-}
-
-// Before the unlink of the file it would be found; between the unlinks it isn't.
-#[test]
-fn keeps_the_open_after_the_unlink(rt: HostRuntime) -> Result<(), Fail> {
-    let alloc = rt.alloc();
-    let before = is_explained(alloc, Run::Removed, Change::Moved(5, 3));
-    assert_eq!(rt; before, Some(false));
-    let between = is_explained(alloc, Run::Removed, Change::Moved(5, 4));
-    assert_eq!(rt; between, Some(true));
-    Ok(())
-}
-
-#[test]
-fn keeps_the_open_before_the_new_file(rt: HostRuntime) -> Result<(), Fail> {
-    let alloc = rt.alloc();
-    for (to, wanted) in [(3, false), (4, true), (6, true), (7, false)] {
-        let is = is_explained(alloc, Run::MadeAnew, Change::Moved(5, to));
-        assert_eq!(rt; is, Some(wanted), "to {to}");
-    }
-    Ok(())
-}
-
-#[test]
-fn keeps_the_unlink_after_the_find(rt: HostRuntime) -> Result<(), Fail> {
-    let alloc = rt.alloc();
-    for (from, to, wanted) in [(4, 2, false), (4, 3, true), (4, 5, true), (5, 3, false)] {
-        let is = is_explained(alloc, Run::UnlinkedWhileLinked, Change::Moved(from, to));
-        assert_eq!(rt; is, Some(wanted), "{from} to {to}");
-    }
-    Ok(())
-}
-
-#[test]
-fn keeps_the_fstat_where_the_raise_is_seen(rt: HostRuntime) -> Result<(), Fail> {
-    let alloc = rt.alloc();
-    for (to, wanted) in [(2, false), (3, false), (5, true), (6, false)] {
-        let is = is_explained(alloc, Run::RefusedLink, Change::Moved(4, to));
-        assert_eq!(rt; is, Some(wanted), "to {to}");
-    }
-    Ok(())
-}
-
-// The calls are under way from event 2 to 6 and from 3 to 7.
-#[test]
-fn keeps_entries_within_their_calls(rt: HostRuntime) -> Result<(), Fail> {
-    let alloc = rt.alloc();
-    for (change, wanted) in [
-        (Change::At(0, 2), true),
-        (Change::At(0, 1), false),
-        (Change::At(0, 5), true),
-        (Change::At(0, 6), false),
-        (Change::At(1, 7), true),
-        (Change::At(1, 8), false),
-        (Change::Of(0, 1), false),
-        (Change::Of(0, 2), false),
-        (Change::By(0, 1), false),
-        (Change::Moved(0, 1), true),
+    for (run, entries) in [
+        (Run::Nothing, 0),
+        (Run::Pieces, 5),
+        (Run::MadeAnew, 8),
+        (Run::UnlinkedWhileLinked, 8),
+        (Run::RefusedLink, 8),
+        (Run::TwoAtOnce, 2),
     ] {
-        assert_eq!(rt; is_explained(alloc, Run::TwoAtOnce, change), Some(wanted));
+        assert_eq!(rt;
+            is_explained(alloc, run, Change::Nothing, Change::Nothing),
+            Some(true)
+        );
+        for place in 0..entries {
+            for change in [
+                Change::Dropped(place),
+                Change::Answered(place),
+                Change::Doubled(place),
+            ] {
+                assert_eq!(rt;
+                    is_explained(alloc, run, change, Change::Nothing),
+                    Some(false)
+                );
+            }
+        }
+    }
+    Ok(())
+}
+
+#[test]
+fn keeps_entries_in_their_places(rt: HostRuntime) -> Result<(), Fail> {
+    let alloc = rt.alloc();
+    for (run, change, wanted) in [
+        // The reader sees the first piece alone.
+        (Run::Pieces, Change::Moved(3, 2), false),
+        (Run::Pieces, Change::Moved(3, 4), false),
+        (Run::Pieces, Change::Moved(4, 2), false),
+        // A new open file has the least unused id.
+        (Run::Pieces, Change::Under(1, 0), false),
+        (Run::Pieces, Change::Under(1, 1), true),
+        (Run::Pieces, Change::Under(1, 2), false),
+        // The open finds nothing between the unlink of the file and the new one.
+        (Run::MadeAnew, Change::Moved(5, 3), false),
+        (Run::MadeAnew, Change::Moved(5, 4), true),
+        (Run::MadeAnew, Change::Moved(5, 6), true),
+        (Run::MadeAnew, Change::Moved(5, 7), false),
+        // The unlink comes after the find.
+        (Run::UnlinkedWhileLinked, Change::Moved(4, 2), false),
+        (Run::UnlinkedWhileLinked, Change::Moved(4, 3), true),
+        (Run::UnlinkedWhileLinked, Change::Moved(4, 5), true),
+        (Run::UnlinkedWhileLinked, Change::Moved(5, 3), false),
+        // The raise is seen between bump and unbump.
+        (Run::RefusedLink, Change::Moved(4, 2), false),
+        (Run::RefusedLink, Change::Moved(4, 3), false),
+        (Run::RefusedLink, Change::Moved(4, 5), true),
+        (Run::RefusedLink, Change::Moved(4, 6), false),
+        // The calls are under way from event 2 to 6 and from 3 to 7.
+        (Run::TwoAtOnce, Change::At(0, 2), true),
+        (Run::TwoAtOnce, Change::At(0, 1), false),
+        (Run::TwoAtOnce, Change::At(0, 5), true),
+        (Run::TwoAtOnce, Change::At(0, 6), false),
+        (Run::TwoAtOnce, Change::At(1, 7), true),
+        (Run::TwoAtOnce, Change::At(1, 8), false),
+        (Run::TwoAtOnce, Change::Of(0, 1), false),
+        (Run::TwoAtOnce, Change::Of(0, 2), false),
+        (Run::TwoAtOnce, Change::By(0, 1), false),
+        (Run::TwoAtOnce, Change::Moved(0, 1), true),
+        // A call that answered for want of room may not be finished.
+        (Run::WithoutRoom, Change::Nothing, false),
+        (Run::WithoutRoom, Change::Unfinished(16), true),
+    ] {
+        assert_eq!(rt;
+            is_explained(alloc, run, change, Change::Nothing),
+            Some(wanted)
+        );
     }
     Ok(())
 }
@@ -305,16 +304,12 @@ fn keeps_replies(rt: HostRuntime) -> Result<(), Fail> {
     let alloc = rt.alloc();
     for call in 0..5 {
         for run in [Run::RefusedLink, Run::UnlinkedWhileLinked] {
-            assert_eq!(rt;
-                is_explained(alloc, run, Change::Given(call)),
-                Some(false),
-                "the answer of {call}"
-            );
-            assert_eq!(rt;
-                is_explained(alloc, run, Change::Handed(call)),
-                Some(false),
-                "the call {call}"
-            );
+            for change in [Change::Given(call), Change::Handed(call)] {
+                assert_eq!(rt;
+                    is_explained(alloc, run, change, Change::Nothing),
+                    Some(false)
+                );
+            }
         }
     }
     Ok(())
@@ -325,38 +320,17 @@ fn keeps_replies(rt: HostRuntime) -> Result<(), Fail> {
 fn takes_a_beginning_of_what_is_under_way(rt: HostRuntime) -> Result<(), Fail> {
     let alloc = rt.alloc();
     let write = Change::Unfinished(2);
-    for (change, wanted) in [
-        (Change::Nothing, true),
-        (Change::Dropped(4), true),
-        (Change::Dropped(2), false),
-        (Change::Answered(2), false),
-    ] {
-        let is = is_explained_with(alloc, Run::Pieces, write, change);
-        assert_eq!(rt; is, Some(wanted), "a write");
-    }
     let chdir = Change::Unfinished(1);
-    for (change, wanted) in [
-        (Change::Dropped(1), true),
-        (Change::At(1, 8), true),
-        (Change::At(1, 9), false),
+    for (run, unfinished, change, wanted) in [
+        (Run::Pieces, write, Change::Nothing, true),
+        (Run::Pieces, write, Change::Dropped(4), true),
+        (Run::Pieces, write, Change::Dropped(2), false),
+        (Run::Pieces, write, Change::Answered(2), false),
+        (Run::TwoAtOnce, chdir, Change::Dropped(1), true),
+        (Run::TwoAtOnce, chdir, Change::At(1, 8), true),
+        (Run::TwoAtOnce, chdir, Change::At(1, 9), false),
     ] {
-        let is = is_explained_with(alloc, Run::TwoAtOnce, chdir, change);
-        assert_eq!(rt; is, Some(wanted), "a chdir");
+        assert_eq!(rt; is_explained(alloc, run, unfinished, change), Some(wanted));
     }
-    Ok(())
-}
-
-// A call that answered for want of room may not be finished.
-#[test]
-fn keeps_a_call_without_room_unfinished(rt: HostRuntime) -> Result<(), Fail> {
-    let alloc = rt.alloc();
-    assert_eq!(rt;
-        is_explained(alloc, Run::WithoutRoom, Change::Nothing),
-        Some(false)
-    );
-    assert_eq!(rt;
-        is_explained(alloc, Run::WithoutRoom, Change::Unfinished(16)),
-        Some(true)
-    );
     Ok(())
 }

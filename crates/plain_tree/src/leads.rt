@@ -1,16 +1,21 @@
 //! When a list of steps leads on from a tree.
-ghost use Rattle.std.specs.Prelude.{IfOk, IsTrue, ◌↔◌};
+ghost use Rattle.std.specs.Prelude.{◌≡◌, IfOk, IsTrue, ◌↔◌};
 ghost use Rattle.plain_tree.specs.Checked.{Leads, LeadsOn};
 ghost use Rattle.plain_tree.specs.Steps.{IsInPlace};
 ghost use Rattle.plain_tree.specs.Tree.{tree_of};
 
 use crate::refused::{ApplyRefused, NoMemory};
-use crate::same::same_answer;
-use crate::step::TreeStep;
+use crate::step::{StepAnswer, TreeStep};
 use crate::trace::Placed;
 use crate::tree::Tree;
 use crate::widths::HART_COUNT;
 use std::alloc::Global;
+
+fn same_answer(a: &StepAnswer, b: &StepAnswer) -> bool
+    ensures { IsTrue result ↔ (a.now ≡ b.now) }
+{
+    a == b
+}
 
 impl Tree {
     /// The step is in its place.

@@ -6,13 +6,10 @@ mod act;
 mod answer;
 mod answer_of;
 mod apply;
-#[cfg(test)]
-mod apply_tests;
 mod belongs;
 mod bytes;
 mod call;
 mod change;
-mod copy;
 mod explains;
 #[cfg(test)]
 mod explains_tests;
@@ -20,12 +17,8 @@ mod fresh;
 mod handed;
 pub mod laws;
 mod leads;
-#[cfg(test)]
-mod leads_tests;
 mod look;
 mod named;
-#[cfg(test)]
-mod named_tests;
 mod node;
 mod one_end;
 mod paths;
@@ -35,7 +28,6 @@ mod refusal;
 mod refused;
 mod reply;
 pub mod rows;
-mod same;
 mod settle;
 mod slots;
 mod step;
@@ -43,7 +35,8 @@ mod step;
 mod story;
 mod trace;
 mod tree;
-mod which_step;
+#[cfg(test)]
+mod tree_tests;
 mod widths;
 mod written;
 

@@ -93,7 +93,7 @@ impl Tree {
         ensures { IfOk result (λ v. v ≡ (tree_of self.now).nodes number) }
     {
         match self.node(number) {
-            Some(node) => Ok(Some(node.try_clone(alloc)?)),
+            Some(node) => Ok(Some(node.clone()?)),
             None => Ok(None),
         }
     }

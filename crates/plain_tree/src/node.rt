@@ -2,10 +2,11 @@
 ghost use Rattle.std.specs.Prelude.{◌≡◌};
 
 use crate::bytes::Bytes;
+use std::alloc::AllocError;
 use std::marker::Model;
 
 /// A used slot of a directory: a name of at most 14 bytes, and the number of the node that it names.
-#[derive(Drop)]
+#[derive(Clone, Drop)]
 pub struct Slot {
     pub name: Bytes,
     pub number: u16,
@@ -24,6 +25,16 @@ impl Model for Slots {
     ghost Value = { List (Option Slot) };
 
     ghost view = { λ s. s.items.items };
+}
+
+impl Clone for Slots {
+    ghost is_clone = { λ x y. y ≡ x };
+
+    fn clone(&self) -> Result<Slots, AllocError> {
+        Ok(Slots {
+            items: self.items.clone()?,
+        })
+    }
 }
 
 impl Slots {
@@ -50,7 +61,7 @@ impl Slots {
 }
 
 /// What a node is.
-#[derive(Drop)]
+#[derive(Clone, Drop)]
 pub enum Kind {
     Directory { slots: Slots },
     File { bytes: Bytes },
@@ -59,7 +70,7 @@ pub enum Kind {
 }
 
 /// A node, and how many names it has (a directory: the one in its parent, and the ".." of each directory in it).
-#[derive(Drop)]
+#[derive(Clone, Drop)]
 pub struct Node {
     pub count: u16,
     pub kind: Kind,

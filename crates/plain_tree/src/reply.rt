@@ -7,8 +7,7 @@ ghost use Rattle.plain_tree.specs.declared.step.StepAnswer.TheVariants.{Done as 
 
 use crate::answer::{Answer, Cause, Reply};
 use crate::call::Call;
-use crate::handed::{is_buffer, same_call};
-use crate::same::same_bytes;
+use crate::handed::{is_buffer, same_bytes};
 use crate::step::StepAnswer;
 use crate::trace::Placed;
 
@@ -156,7 +155,7 @@ fn is_handed(id: usize, call: &Call, list: &[Placed], handed: &Call) -> bool
             },
         ) => { fd == other && has_buffer(id, list, buf.as_slice(), others.as_slice()) }
         (Call::Read { .. }, _) => false,
-        _ => same_call(handed, call),
+        _ => handed == call,
     }
 }
 

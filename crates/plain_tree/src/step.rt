@@ -3,7 +3,7 @@ use crate::answer::{Cause, Full, Stat};
 use crate::bytes::Bytes;
 
 /// What a step does. Most calls are one step; `open` that empties, `write` and `link` are several.
-#[derive(Drop)]
+#[derive(Clone, Drop)]
 pub enum Action {
     Open { path: Bytes, flags: u32 },
     /// Empties the file that was opened before.
@@ -29,7 +29,7 @@ pub enum Action {
 }
 
 /// A step of a hart. `new` is the number of the node that the step makes; where it makes none, it says nothing.
-#[derive(Drop)]
+#[derive(Clone, Drop)]
 pub struct TreeStep {
     pub hart: u8,
     pub new: u16,
@@ -37,7 +37,7 @@ pub struct TreeStep {
 }
 
 /// What a step answers.
-#[derive(Drop)]
+#[derive(Clone, PartialEq, Drop)]
 pub enum StepAnswer {
     /// The descriptor, the id of the new open file, and whether a file was opened (only a file is emptied).
     Opened { fd: u32, id: usize, is_file: bool },

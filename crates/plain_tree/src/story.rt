@@ -1,7 +1,7 @@
 //! A run told for a test: its calls, and a list of steps with their answers.
 use crate::{
-    Action, Answer, Bytes, Call, Calls, Cause, NoMemory, NodeType, Placed, Reply, Stat, StepAnswer,
-    Trace, TracedCall, Tree, TreeStep, check,
+    Action, Answer, Bytes, Call, Calls, Cause, NoMemory, Placed, Reply, StepAnswer, Trace,
+    TracedCall, Tree, TreeStep, check,
 };
 use std::alloc::Global;
 
@@ -12,8 +12,12 @@ pub(crate) enum Change {
     /// The entry stands at another place, at the event of the entry that stood there.
     Moved(usize, usize),
     Dropped(usize),
+    /// The entry stands there once more.
+    Doubled(usize),
     /// The entry has another answer.
     Answered(usize),
+    /// The entry opened a file under another id.
+    Under(usize, usize),
     /// The entry stands at another event.
     At(usize, u64),
     /// The entry is of another call.
@@ -36,26 +40,39 @@ pub(crate) struct Story {
     pub(crate) events: u64,
 }
 
+/// Nothing, where there is memory for it.
+pub(crate) type Told = Result<(), NoMemory>;
+
 /// The answer that nothing has in these runs.
 const OTHER: Cause = Cause::NotDirectory;
 
-/// File 2, empty.
-fn stat(nlink: u16) -> Stat {
-    Stat {
-        device: 1,
-        inode: 2,
-        kind: NodeType::File,
-        nlink,
-        size: 0,
-    }
+pub(crate) fn opened(fd: u32, id: usize) -> StepAnswer {
+    let is_file = true;
+    StepAnswer::Opened { fd, id, is_file }
 }
 
-pub(crate) fn opened(fd: u32, id: usize) -> StepAnswer {
-    StepAnswer::Opened {
-        fd,
-        id,
-        is_file: true,
-    }
+pub(crate) fn bytes(alloc: Global, text: &[u8]) -> Result<Bytes, NoMemory> {
+    Ok(Bytes::new(Vec::from_slice(alloc, text)?))
+}
+
+/// The first step of the call; all bytes of a write.
+fn first_step(call: &Call) -> Result<Action, NoMemory> {
+    Ok(match call.clone()? {
+        Call::Open { path, flags } => Action::Open { path, flags },
+        Call::Read { fd, buf } => Action::Read {
+            fd,
+            count: buf.as_slice().len(),
+        },
+        Call::Write { fd, bytes } => Action::WritePart { fd, bytes },
+        Call::Link { old, .. } => Action::Find { old },
+        Call::Unlink { path } => Action::Unlink { path },
+        Call::Mkdir { path } => Action::Mkdir { path },
+        Call::Chdir { path } => Action::Chdir { path },
+        Call::Dup { fd } => Action::Dup { fd },
+        Call::Fstat { fd } => Action::Fstat { fd },
+        Call::Close { fd } => Action::Close { fd },
+        Call::Inherit { child } => Action::Inherit { child },
+    })
 }
 
 impl Story {
@@ -68,301 +85,91 @@ impl Story {
         }
     }
 
-    fn bytes(&self, text: &[u8]) -> Result<Bytes, NoMemory> {
-        Ok(Bytes::new(Vec::from_slice(self.alloc, text)?))
-    }
-
-    /// The next call, finished, with what it was handed back.
-    pub(crate) fn call(
+    /// The next call, which handed back another one than it was given.
+    pub(crate) fn call_back(
         &mut self,
         hart: u8,
         start: u64,
-        call: Call,
         end: u64,
+        call: Call,
         answer: Answer,
         handed: Call,
-    ) -> Result<(), NoMemory> {
+    ) -> Told {
         let reply = Reply {
             answer,
             call: handed,
         };
+        let finished = Some((end, reply));
         self.calls.push(TracedCall {
             hart,
             start,
             call,
-            finished: Some((end, reply)),
+            finished,
         })?;
         Ok(())
+    }
+
+    /// The next call, with its answer.
+    pub(crate) fn call(
+        &mut self,
+        hart: u8,
+        start: u64,
+        end: u64,
+        call: Call,
+        answer: Answer,
+    ) -> Told {
+        let handed = call.clone()?;
+        self.call_back(hart, start, end, call, answer, handed)
+    }
+
+    /// A call on a path, which was done.
+    pub(crate) fn done(&mut self, hart: u8, start: u64, end: u64, call: Call) -> Told {
+        self.call(hart, start, end, call, Answer::Done)
     }
 
     pub(crate) fn open(
         &mut self,
         hart: u8,
         start: u64,
+        end: u64,
         path: &str,
         flags: u32,
-        end: u64,
         answer: Answer,
-    ) -> Result<(), NoMemory> {
-        let path = path.as_bytes();
-        let called = Call::Open {
-            path: self.bytes(path)?,
-            flags,
-        };
-        let handed = Call::Open {
-            path: self.bytes(path)?,
-            flags,
-        };
-        self.call(hart, start, called, end, answer, handed)
-    }
-
-    pub(crate) fn mkdir(
-        &mut self,
-        hart: u8,
-        start: u64,
-        path: &str,
-        end: u64,
-    ) -> Result<(), NoMemory> {
-        let path = path.as_bytes();
-        let called = Call::Mkdir {
-            path: self.bytes(path)?,
-        };
-        let handed = Call::Mkdir {
-            path: self.bytes(path)?,
-        };
-        self.call(hart, start, called, end, Answer::Done, handed)
-    }
-
-    pub(crate) fn unlink(
-        &mut self,
-        hart: u8,
-        start: u64,
-        path: &str,
-        end: u64,
-    ) -> Result<(), NoMemory> {
-        let path = path.as_bytes();
-        let called = Call::Unlink {
-            path: self.bytes(path)?,
-        };
-        let handed = Call::Unlink {
-            path: self.bytes(path)?,
-        };
-        self.call(hart, start, called, end, Answer::Done, handed)
-    }
-
-    pub(crate) fn chdir(
-        &mut self,
-        hart: u8,
-        start: u64,
-        path: &str,
-        end: u64,
-    ) -> Result<(), NoMemory> {
-        let path = path.as_bytes();
-        let called = Call::Chdir {
-            path: self.bytes(path)?,
-        };
-        let handed = Call::Chdir {
-            path: self.bytes(path)?,
-        };
-        self.call(hart, start, called, end, Answer::Done, handed)
-    }
-
-    /// A link of "/f" as "/g".
-    pub(crate) fn link(
-        &mut self,
-        hart: u8,
-        start: u64,
-        end: u64,
-        answer: Answer,
-    ) -> Result<(), NoMemory> {
-        let called = Call::Link {
-            old: self.bytes(b"/f")?,
-            new: self.bytes(b"/g")?,
-        };
-        let handed = Call::Link {
-            old: self.bytes(b"/f")?,
-            new: self.bytes(b"/g")?,
-        };
-        self.call(hart, start, called, end, answer, handed)
-    }
-
-    /// A write of so many bytes through descriptor 0.
-    pub(crate) fn write(
-        &mut self,
-        hart: u8,
-        start: u64,
-        text: &[u8],
-        end: u64,
-        count: u32,
-    ) -> Result<(), NoMemory> {
-        let called = Call::Write {
-            fd: 0,
-            bytes: self.bytes(text)?,
-        };
-        let handed = Call::Write {
-            fd: 0,
-            bytes: self.bytes(text)?,
-        };
-        self.call(hart, start, called, end, Answer::Count(count), handed)
-    }
-
-    /// A read of so many bytes through descriptor 0, with its buffer before and after.
-    pub(crate) fn read(
-        &mut self,
-        hart: u8,
-        start: u64,
-        before: &[u8],
-        end: u64,
-        count: u32,
-        after: &[u8],
-    ) -> Result<(), NoMemory> {
-        let called = Call::Read {
-            fd: 0,
-            buf: self.bytes(before)?,
-        };
-        let handed = Call::Read {
-            fd: 0,
-            buf: self.bytes(after)?,
-        };
-        self.call(hart, start, called, end, Answer::Count(count), handed)
-    }
-
-    pub(crate) fn close(&mut self, hart: u8, start: u64, end: u64) -> Result<(), NoMemory> {
-        let called = Call::Close { fd: 0 };
-        self.call(
-            hart,
-            start,
-            called,
-            end,
-            Answer::Done,
-            Call::Close { fd: 0 },
-        )
-    }
-
-    pub(crate) fn fstat(
-        &mut self,
-        hart: u8,
-        start: u64,
-        end: u64,
-        nlink: u16,
-    ) -> Result<(), NoMemory> {
-        let called = Call::Fstat { fd: 0 };
-        let answer = Answer::Stat(stat(nlink));
-        self.call(hart, start, called, end, answer, Call::Fstat { fd: 0 })
+    ) -> Told {
+        let path = bytes(self.alloc, path.as_bytes())?;
+        self.call(hart, start, end, Call::Open { path, flags }, answer)
     }
 
     /// The next entry, a step of the call's hart. `new` is the number of a new node.
-    pub(crate) fn entry(
+    pub(crate) fn step(
         &mut self,
         event: u64,
         call: usize,
         new: u16,
         action: Action,
         answer: StepAnswer,
-    ) -> Result<(), NoMemory> {
-        let hart = match self.calls.get(call) {
-            Some(traced) => traced.hart,
-            None => 0,
-        };
+    ) -> Told {
+        let hart = self.calls.get(call).map_or(0, |traced| traced.hart);
+        let step = TreeStep { hart, new, action };
         self.list.push(Placed {
             event,
             call,
-            step: TreeStep { hart, new, action },
+            step,
             answer,
         })?;
         Ok(())
     }
 
-    pub(crate) fn opens(
-        &mut self,
-        event: u64,
-        call: usize,
-        new: u16,
-        path: &str,
-        flags: u32,
-        answer: StepAnswer,
-    ) -> Result<(), NoMemory> {
-        let path = self.bytes(path.as_bytes())?;
-        self.entry(event, call, new, Action::Open { path, flags }, answer)
+    /// The next entry, the call's first step.
+    pub(crate) fn acts(&mut self, event: u64, call: usize, new: u16, answer: StepAnswer) -> Told {
+        if let Some(traced) = self.calls.get(call) {
+            let action = first_step(&traced.call)?;
+            self.step(event, call, new, action, answer)?;
+        }
+        Ok(())
     }
 
-    pub(crate) fn makes(
-        &mut self,
-        event: u64,
-        call: usize,
-        new: u16,
-        path: &str,
-    ) -> Result<(), NoMemory> {
-        let path = self.bytes(path.as_bytes())?;
-        self.entry(event, call, new, Action::Mkdir { path }, StepAnswer::Done)
-    }
-
-    pub(crate) fn unlinks(&mut self, event: u64, call: usize, path: &str) -> Result<(), NoMemory> {
-        let path = self.bytes(path.as_bytes())?;
-        self.entry(event, call, 0, Action::Unlink { path }, StepAnswer::Done)
-    }
-
-    pub(crate) fn changes_to(
-        &mut self,
-        event: u64,
-        call: usize,
-        path: &str,
-    ) -> Result<(), NoMemory> {
-        let path = self.bytes(path.as_bytes())?;
-        self.entry(event, call, 0, Action::Chdir { path }, StepAnswer::Done)
-    }
-
-    pub(crate) fn writes(&mut self, event: u64, call: usize, text: &[u8]) -> Result<(), NoMemory> {
-        let bytes = self.bytes(text)?;
-        let action = Action::WritePart { fd: 0, bytes };
-        self.entry(event, call, 0, action, StepAnswer::Done)
-    }
-
-    pub(crate) fn reads(
-        &mut self,
-        event: u64,
-        call: usize,
-        count: usize,
-        text: &[u8],
-    ) -> Result<(), NoMemory> {
-        let bytes = self.bytes(text)?;
-        let action = Action::Read { fd: 0, count };
-        self.entry(event, call, 0, action, StepAnswer::Bytes { bytes })
-    }
-
-    pub(crate) fn finds(&mut self, event: u64, call: usize) -> Result<(), NoMemory> {
-        let old = self.bytes(b"/f")?;
-        self.entry(event, call, 0, Action::Find { old }, StepAnswer::Done)
-    }
-
-    pub(crate) fn raises(&mut self, event: u64, call: usize) -> Result<(), NoMemory> {
-        self.entry(event, call, 0, Action::Bump, StepAnswer::Done)
-    }
-
-    pub(crate) fn lowers(&mut self, event: u64, call: usize) -> Result<(), NoMemory> {
-        self.entry(event, call, 0, Action::Unbump, StepAnswer::Done)
-    }
-
-    pub(crate) fn enters(
-        &mut self,
-        event: u64,
-        call: usize,
-        answer: StepAnswer,
-    ) -> Result<(), NoMemory> {
-        let new = self.bytes(b"/g")?;
-        self.entry(event, call, 0, Action::Enter { new }, answer)
-    }
-
-    pub(crate) fn closes(&mut self, event: u64, call: usize) -> Result<(), NoMemory> {
-        self.entry(event, call, 0, Action::Close { fd: 0 }, StepAnswer::Done)
-    }
-
-    pub(crate) fn stats(&mut self, event: u64, call: usize, nlink: u16) -> Result<(), NoMemory> {
-        let answer = StepAnswer::Stat { stat: stat(nlink) };
-        self.entry(event, call, 0, Action::Fstat { fd: 0 }, answer)
-    }
-
-    fn moved(&mut self, from: usize, to: usize) -> Result<(), NoMemory> {
+    fn moved(&mut self, from: usize, to: usize) -> Told {
         if from < self.list.len() && to < self.list.len() {
             let event = self.list[to].event;
             let mut entry = self.list.remove(from);
@@ -372,79 +179,55 @@ impl Story {
         Ok(())
     }
 
-    /// The entry stands there once more, taken from another telling.
-    pub(crate) fn doubled(&mut self, mut again: Story, place: usize) -> Result<(), NoMemory> {
-        if place < self.list.len() && place < again.list.len() {
-            let entry = again.list.remove(place);
-            self.list.insert(place, entry)?;
-        }
-        Ok(())
-    }
-
-    fn change_call(&mut self, change: Change) {
-        match change {
-            Change::Given(call) => {
-                if let Some(traced) = self.calls.get_mut(call) {
-                    if let Some((_, reply)) = &mut traced.finished {
-                        reply.answer = Answer::Failed(OTHER);
-                    }
-                }
-            }
-            Change::Handed(call) => {
-                if let Some(traced) = self.calls.get_mut(call) {
-                    if let Some((_, reply)) = &mut traced.finished {
-                        reply.call = Call::Dup { fd: 3 };
-                    }
-                }
-            }
-            Change::Unfinished(call) => {
-                if let Some(traced) = self.calls.get_mut(call) {
-                    traced.finished = None;
-                }
-            }
-            _ => {}
+    fn change_call(&mut self, place: usize, change: Change) {
+        let Some(traced) = self.calls.get_mut(place) else {
+            return;
+        };
+        match (&mut traced.finished, change) {
+            (Some((_, reply)), Change::Given(_)) => reply.answer = Answer::Failed(OTHER),
+            (Some((_, reply)), Change::Handed(_)) => reply.call = Call::Dup { fd: 3 },
+            _ => traced.finished = None,
         }
     }
 
-    fn change_entry(&mut self, change: Change) {
+    fn change_entry(&mut self, place: usize, change: Change) {
+        let Some(entry) = self.list.get_mut(place) else {
+            return;
+        };
         match change {
-            Change::Answered(place) => {
-                if let Some(entry) = self.list.get_mut(place) {
-                    entry.answer = StepAnswer::Failed { cause: OTHER };
-                }
-            }
-            Change::At(place, event) => {
-                if let Some(entry) = self.list.get_mut(place) {
-                    entry.event = event;
-                }
-            }
-            Change::Of(place, call) => {
-                if let Some(entry) = self.list.get_mut(place) {
-                    entry.call = call;
-                }
-            }
-            Change::By(place, hart) => {
-                if let Some(entry) = self.list.get_mut(place) {
-                    entry.step.hart = hart;
-                }
-            }
-            _ => {}
+            Change::Under(_, id) => entry.answer = opened(0, id),
+            Change::At(_, event) => entry.event = event,
+            Change::Of(_, call) => entry.call = call,
+            Change::By(_, hart) => entry.step.hart = hart,
+            _ => entry.answer = StepAnswer::Failed { cause: OTHER },
         }
     }
 
-    pub(crate) fn change(&mut self, change: Change) -> Result<(), NoMemory> {
-        self.change_call(change);
-        self.change_entry(change);
+    pub(crate) fn change(&mut self, change: Change) -> Told {
         match change {
-            Change::Moved(from, to) => self.moved(from, to),
+            Change::Nothing => {}
+            Change::Moved(from, to) => self.moved(from, to)?,
             Change::Dropped(place) => {
                 if place < self.list.len() {
                     let _ = self.list.remove(place);
                 }
-                Ok(())
             }
-            _ => Ok(()),
+            Change::Doubled(place) => {
+                if place < self.list.len() {
+                    let again = self.list[place].clone()?;
+                    self.list.insert(place, again)?;
+                }
+            }
+            Change::Given(call) | Change::Handed(call) | Change::Unfinished(call) => {
+                self.change_call(call, change);
+            }
+            Change::Answered(place)
+            | Change::Under(place, _)
+            | Change::At(place, _)
+            | Change::Of(place, _)
+            | Change::By(place, _) => self.change_entry(place, change),
         }
+        Ok(())
     }
 
     /// From a fresh tree of 200 numbers the list explains what the calls were told.
@@ -456,10 +239,7 @@ impl Story {
             events,
         } = self;
         let tree = Tree::new(alloc, 200)?;
-        let trace = Trace {
-            calls: Calls::new(calls),
-            events,
-        };
-        check(alloc, &tree, &trace, &list)
+        let calls = Calls::new(calls);
+        check(alloc, &tree, &Trace { calls, events }, &list)
     }
 }

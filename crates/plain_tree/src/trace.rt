@@ -63,7 +63,7 @@ pub struct Trace {
 
 /// A tree step with its answer, placed at an event of a run. `call` is the place in the trace of the call that it
 /// belongs to.
-#[derive(Drop)]
+#[derive(Clone, Drop)]
 pub struct Placed {
     pub event: u64,
     pub call: usize,

@@ -6,7 +6,6 @@ ghost use Rattle.plain_tree.specs.Steps.{IsLeastUnused, closed, moved, node_at, 
 ghost use Rattle.plain_tree.specs.Tree.{file_in, hart_at, put, tree_of};
 
 use crate::bytes::Bytes;
-use crate::copy::nodes_copy;
 use crate::fresh::{fresh_hart, fresh_nodes};
 use crate::node::{Kind, Node};
 use crate::refused::NoMemory;
@@ -306,7 +305,7 @@ impl Tree {
         ensures { IfOk result (λ t. t ≡ self.now) }
     {
         Ok(Tree {
-            nodes: nodes_copy(alloc, &self.nodes)?,
+            nodes: self.nodes.clone()?,
             files: Vec::from_slice(alloc, &self.files)?,
             harts: self.harts,
         })

@@ -5,15 +5,13 @@ ghost use Rattle.plain_tree.specs.Explains.{acts_of};
 ghost use Rattle.plain_tree.specs.Progress.{has_failed, is_done, link_next, next_at, open_next, truncate_next, write_next};
 ghost use Rattle.plain_tree.specs.Steps.{is_nothing};
 
+use crate::bytes::Bytes;
 use crate::call::Call;
+use crate::handed::same_bytes;
 use crate::progress::{Last, Progress, START, after, progress_in};
 use crate::refusal::has_flag;
 use crate::step::Action;
 use crate::trace::Placed;
-use crate::which_step::{
-    is_bump, is_chdir, is_close, is_dup, is_enter, is_find, is_fstat, is_inherit, is_mkdir,
-    is_open, is_read, is_truncate, is_unbump, is_unlink, is_write_part,
-};
 use crate::widths::{EMPTY_IT, PIECE_WIDTH};
 
 fn is_done(last: Last) -> bool
@@ -60,18 +58,20 @@ fn piece(bytes: &[u8], i: usize) -> &[u8]
 fn truncates(flags: u32, last: Last, action: &Action) -> bool
     ensures { IsTrue result ↔ (truncate_next flags last ≡ Some action.now) }
 {
-    match last {
-        Last::File { fd } => has_flag(flags, EMPTY_IT) && is_truncate(action, fd),
+    match (last, action) {
+        (Last::File { fd }, Action::Truncate { fd: other }) => {
+            has_flag(flags, EMPTY_IT) && *other == fd
+        }
         _ => false,
     }
 }
 
-fn is_next_of_open(path: &[u8], flags: u32, progress: Progress, action: &Action) -> bool
+fn is_next_of_open(path: &Bytes, flags: u32, progress: Progress, action: &Action) -> bool
     ensures { IsTrue result ↔ (open_next path.now flags progress ≡ Some action.now) }
 {
-    match progress.count {
-        0 => is_open(action, path, flags),
-        1 => truncates(flags, progress.last, action),
+    match (progress.count, action) {
+        (0, Action::Open { path: p, flags: f }) => p == path && *f == flags,
+        (1, _) => truncates(flags, progress.last, action),
         _ => false,
     }
 }
@@ -80,20 +80,24 @@ fn is_next_of_write(fd: u32, bytes: &[u8], progress: Progress, action: &Action) 
     ensures { IsTrue result ↔ (write_next fd bytes.now progress ≡ Some action.now) }
 {
     if has_failed(progress.last) || progress.count >= piece_count(bytes) {
-        false
-    } else {
-        is_write_part(action, fd, piece(bytes, progress.count))
+        return false;
+    }
+    match action {
+        Action::WritePart { fd: f, bytes: b } => {
+            *f == fd && same_bytes(b.as_slice(), piece(bytes, progress.count))
+        }
+        _ => false,
     }
 }
 
-fn is_next_of_link(old: &[u8], new: &[u8], progress: Progress, action: &Action) -> bool
+fn is_next_of_link(old: &Bytes, new: &Bytes, progress: Progress, action: &Action) -> bool
     ensures { IsTrue result ↔ (link_next old.now new.now progress ≡ Some action.now) }
 {
-    match progress.count {
-        0 => is_find(action, old),
-        1 => is_done(progress.last) && is_bump(action),
-        2 => is_done(progress.last) && is_enter(action, new),
-        3 => has_failed(progress.last) && is_unbump(action),
+    match (progress.count, action) {
+        (0, Action::Find { old: o }) => o == old,
+        (1, Action::Bump) => is_done(progress.last),
+        (2, Action::Enter { new: n }) => is_done(progress.last) && n == new,
+        (3, Action::Unbump) => has_failed(progress.last),
         _ => false,
     }
 }
@@ -102,21 +106,22 @@ fn is_next_of_link(old: &[u8], new: &[u8], progress: Progress, action: &Action) 
 fn is_next(call: &Call, progress: Progress, action: &Action) -> bool
     ensures { IsTrue result ↔ (next_at call.now progress ≡ Some action.now) }
 {
-    let is_first = progress.count == 0;
-    match call {
-        Call::Open { path, flags } => is_next_of_open(path.as_slice(), *flags, progress, action),
-        Call::Read { fd, buf } => is_first && is_read(action, *fd, buf.as_slice().len()),
-        Call::Write { fd, bytes } => is_next_of_write(*fd, bytes.as_slice(), progress, action),
-        Call::Link { old, new } => {
-            is_next_of_link(old.as_slice(), new.as_slice(), progress, action)
+    match (call, action) {
+        (Call::Open { path, flags }, _) => is_next_of_open(path, *flags, progress, action),
+        (Call::Write { fd, bytes }, _) => is_next_of_write(*fd, bytes.as_slice(), progress, action),
+        (Call::Link { old, new }, _) => is_next_of_link(old, new, progress, action),
+        (Call::Read { fd, buf }, Action::Read { fd: f, count }) => {
+            progress.count == 0 && f == fd && *count == buf.as_slice().len()
         }
-        Call::Unlink { path } => is_first && is_unlink(action, path.as_slice()),
-        Call::Mkdir { path } => is_first && is_mkdir(action, path.as_slice()),
-        Call::Chdir { path } => is_first && is_chdir(action, path.as_slice()),
-        Call::Dup { fd } => is_first && is_dup(action, *fd),
-        Call::Fstat { fd } => is_first && is_fstat(action, *fd),
-        Call::Close { fd } => is_first && is_close(action, *fd),
-        Call::Inherit { child } => is_first && is_inherit(action, *child),
+        (Call::Unlink { path }, Action::Unlink { path: p }) => progress.count == 0 && p == path,
+        (Call::Mkdir { path }, Action::Mkdir { path: p }) => progress.count == 0 && p == path,
+        (Call::Chdir { path }, Action::Chdir { path: p }) => progress.count == 0 && p == path,
+        (Call::Dup { fd }, Action::Dup { fd: f }) => progress.count == 0 && f == fd,
+        (Call::Fstat { fd }, Action::Fstat { fd: f }) => progress.count == 0 && f == fd,
+        (Call::Close { fd }, Action::Close { fd: f }) => progress.count == 0 && f == fd,
+        (Call::Inherit { child }, Action::Inherit { child: c }) => progress.count == 0
+            && c == child,
+        _ => false,
     }
 }
 
