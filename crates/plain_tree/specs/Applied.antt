@@ -7,7 +7,7 @@ use Rattle.plain_tree.specs.declared.step.Action.{Action}
 use Rattle.plain_tree.specs.declared.step.Action.TheVariants.{Dup}
 use Rattle.plain_tree.specs.declared.step.TreeStep.{TreeStep}
 use Rattle.plain_tree.specs.declared.step.StepAnswer.{StepAnswer}
-use Rattle.plain_tree.specs.declared.step.StepAnswer.TheVariants.{Opened, Bytes, Stat as Status, Fd as NewFd, Done, Failed, Full as NoRoom}
+use Rattle.plain_tree.specs.declared.step.StepAnswer.TheVariants.{Failed, Full as NoRoom}
 use Rattle.plain_tree.specs.declared.refused.ApplyRefused.{ApplyRefused}
 use Rattle.plain_tree.specs.declared.refused.ApplyRefused.TheVariants.{NoMemory, BadChoice}
 use Rattle.plain_tree.specs.TreeData.{TreeData}
@@ -50,16 +50,6 @@ pub record IsBadChoice (t : Tree) (s : TreeStep) : Type 0 where
 pub record IsAppliedAt (t : Tree) (s : TreeStep) (id : ℕ) (a : StepAnswer) (t' : Tree) : Type 0 where
   pub is : applied t s id ≡ record { answer = a; tree = t' }
   pub chosen : IsBadChoice t s → ⊥
-
--- the id that an answer says; where no file was opened any serves
-abbrev pub id_of : StepAnswer → ℕ
-id_of (Opened fd id f) = id
-id_of (Bytes b) = 0
-id_of (Status s) = 0
-id_of (NewFd fd) = 0
-id_of Done = 0
-id_of (Failed k) = 0
-id_of (NoRoom f) = 0
 
 -- the same, where a file that is opened takes the least unused id
 pub record IsApplied (t : Tree) (s : TreeStep) (a : StepAnswer) (t' : Tree) : Type 0 where

@@ -21,12 +21,7 @@ pub record Act : Type 0 where
 
 abbrev pub cause_of : StepAnswer → Option Cause
 cause_of (Failed k) = Some k
-cause_of (Opened fd id f) = None
-cause_of (Bytes b) = None
-cause_of (Status s) = None
-cause_of (NewFd fd) = None
-cause_of Done = None
-cause_of (NoRoom f) = None
+cause_of a = None
 
 -- the cause with which the last step was refused
 unfoldable pub last_cause : List Act → Option Cause
@@ -52,12 +47,7 @@ once s (a ∷ acts) = None
 -- only a file is emptied
 abbrev pub to_truncate : ℕ → StepAnswer → Option Action
 to_truncate flags (Opened fd id is_file) = if has flags empty_it && is_file then Some (TruncateStep fd) else None
-to_truncate flags (Bytes b) = None
-to_truncate flags (Status s) = None
-to_truncate flags (NewFd fd) = None
-to_truncate flags Done = None
-to_truncate flags (Failed k) = None
-to_truncate flags (NoRoom f) = None
+to_truncate flags a = None
 
 abbrev pub next_open : List ℕ → ℕ → List Act → Option Action
 next_open path flags [] = Some (OpenStep path flags)
@@ -66,21 +56,11 @@ next_open path flags (a ∷ b ∷ bs) = None
 
 abbrev pub if_done : StepAnswer → Action → Option Action
 if_done Done s = Some s
-if_done (Opened fd id f) s = None
-if_done (Bytes b) s = None
-if_done (Status t) s = None
-if_done (NewFd fd) s = None
-if_done (Failed k) s = None
-if_done (NoRoom f) s = None
+if_done a s = None
 
 abbrev pub if_failed : StepAnswer → Action → Option Action
 if_failed (Failed k) s = Some s
-if_failed Done s = None
-if_failed (Opened fd id f) s = None
-if_failed (Bytes b) s = None
-if_failed (Status t) s = None
-if_failed (NewFd fd) s = None
-if_failed (NoRoom f) s = None
+if_failed a s = None
 
 abbrev pub next_link : List ℕ → List ℕ → List Act → Option Action
 next_link old new [] = Some (FindStep old)
@@ -111,12 +91,7 @@ first_cause (a ∷ acts) = elim (cause_of a.answer) [ Some k ↦ Some k | None �
 -- the buffer, with the bytes read at its front
 abbrev pub in_buffer : List ℕ → StepAnswer → List ℕ
 in_buffer buffer (Bytes b) = b ++ drop (length b) buffer
-in_buffer buffer (Opened fd id f) = buffer
-in_buffer buffer (Status s) = buffer
-in_buffer buffer (NewFd fd) = buffer
-in_buffer buffer Done = buffer
-in_buffer buffer (Failed k) = buffer
-in_buffer buffer (NoRoom f) = buffer
+in_buffer buffer a = buffer
 
 abbrev pub first_answer : List Act → StepAnswer
 first_answer [] = Done
@@ -173,13 +148,8 @@ IsWhole c acts r = Follows c [] acts × (next_of c acts ≡ None) × (r ≡ repl
 -- a path of the call has the element ".."
 abbrev pub call_climbs : Call → Bool
 call_climbs (Open path flags) = climbs path
-call_climbs (Read fd buffer) = false
-call_climbs (Write fd bytes) = false
 call_climbs (Link old new) = climbs old || climbs new
 call_climbs (Unlink path) = climbs path
 call_climbs (Mkdir path) = climbs path
 call_climbs (Chdir path) = climbs path
-call_climbs (Dup fd) = false
-call_climbs (Fstat fd) = false
-call_climbs (Close fd) = false
-call_climbs (Inherit child) = false
+call_climbs c = false

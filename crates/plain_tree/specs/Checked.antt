@@ -2,7 +2,7 @@
 use Rattle.std.specs.Prelude.{◌≡◌, ℕ, Bool, true, false, List, Some, slice_get}
 use Rattle.plain_tree.specs.declared.step.TreeStep.{TreeStep}
 use Rattle.plain_tree.specs.declared.step.StepAnswer.{StepAnswer}
-use Rattle.plain_tree.specs.declared.step.StepAnswer.TheVariants.{Opened, Bytes, Stat as Status, Fd as NewFd, Done, Failed, Full as NoRoom}
+use Rattle.plain_tree.specs.declared.step.StepAnswer.TheVariants.{Full as NoRoom}
 use Rattle.plain_tree.specs.declared.trace.Placed.{Placed}
 use Rattle.plain_tree.specs.declared.trace.TracedCall.{TracedCall}
 use Rattle.plain_tree.specs.Tree.{Tree}
@@ -20,13 +20,8 @@ LeadsOn false t s a t' = (u : Tree) → Step t s a u → ⊥
 
 -- the step answered that there is no room
 abbrev pub is_full : StepAnswer → Bool
-is_full (Opened fd id f) = false
-is_full (Bytes b) = false
-is_full (Status s) = false
-is_full (NewFd fd) = false
-is_full Done = false
-is_full (Failed k) = false
 is_full (NoRoom f) = true
+is_full a = false
 
 -- the list has of each call what it is to have
 abbrev pub AllWritten : List TracedCall → List Placed → Type 0

@@ -2,9 +2,9 @@
 use Rattle.std.specs.Prelude.{ℕ, ◌≡◌, ◌+◌, ◌^◌, ◌==◌, true, false, ◌<◌, ◌++◌, length, slice_index_or, slice_set, Bool, List, [], ◌∷◌, take, nat_lt, if◌then◌else◌, Option, Some, None}
 use Rattle.plain_tree.specs.declared.node.Slot.{Slot}
 use Rattle.plain_tree.specs.declared.step.Action.{Action}
-use Rattle.plain_tree.specs.declared.step.Action.TheVariants.{Open, Truncate, Read, WritePart, Find, Bump, Enter, Unbump, Unlink, Mkdir, Chdir, Dup, Close, Fstat, Inherit}
+use Rattle.plain_tree.specs.declared.step.Action.TheVariants.{Open}
 use Rattle.plain_tree.specs.declared.step.StepAnswer.{StepAnswer}
-use Rattle.plain_tree.specs.declared.step.StepAnswer.TheVariants.{Opened, Bytes, Stat as Status, Fd as NewFd, Done, Failed, Full as NoRoom}
+use Rattle.plain_tree.specs.declared.step.StepAnswer.TheVariants.{Bytes}
 use Rattle.plain_tree.specs.declared.tree.OpenFile.{OpenFile}
 use Rattle.plain_tree.specs.declared.tree.OpenFileEntry.{OpenFileEntry}
 use Rattle.plain_tree.specs.Tree.{Name, Tree, tree_of, file_in, is_empty, and_then, settle}
@@ -60,26 +60,8 @@ Advances t id by = (f : OpenFile) → and_then id (λ j. t.files j) ≡ Some f �
 -- the number of bytes that a read's answer has
 abbrev pub read_count : StepAnswer → ℕ
 read_count (Bytes b) = length b
-read_count (Opened fd id f) = 0
-read_count (Status s) = 0
-read_count (NewFd fd) = 0
-read_count Done = 0
-read_count (Failed k) = 0
-read_count (NoRoom f) = 0
+read_count a = 0
 
 abbrev pub is_open : Action → Bool
 is_open (Open path flags) = true
-is_open (Truncate fd) = false
-is_open (Read fd n) = false
-is_open (WritePart fd b) = false
-is_open (Find old) = false
-is_open Bump = false
-is_open (Enter new) = false
-is_open Unbump = false
-is_open (Unlink path) = false
-is_open (Mkdir path) = false
-is_open (Chdir path) = false
-is_open (Dup fd) = false
-is_open (Close fd) = false
-is_open (Fstat fd) = false
-is_open (Inherit child) = false
+is_open s = false

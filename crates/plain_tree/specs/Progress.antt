@@ -5,7 +5,7 @@ use Rattle.plain_tree.specs.declared.call.Call.TheVariants.{Open, Read, Write, L
 use Rattle.plain_tree.specs.declared.step.Action.{Action}
 use Rattle.plain_tree.specs.declared.step.Action.TheVariants.{Open as OpenStep, Truncate as TruncateStep, Read as ReadStep, WritePart as WritePartStep, Find as FindStep, Bump as BumpStep, Enter as EnterStep, Unbump as UnbumpStep, Unlink as UnlinkStep, Mkdir as MkdirStep, Chdir as ChdirStep, Dup as DupStep, Fstat as FstatStep, Close as CloseStep, Inherit as InheritStep}
 use Rattle.plain_tree.specs.declared.step.StepAnswer.{StepAnswer}
-use Rattle.plain_tree.specs.declared.step.StepAnswer.TheVariants.{Opened, Bytes, Stat as Status, Fd as NewFd, Done, Failed, Full as NoRoom}
+use Rattle.plain_tree.specs.declared.step.StepAnswer.TheVariants.{Opened, Done, Failed}
 use Rattle.plain_tree.specs.declared.progress.Last.{Last}
 use Rattle.plain_tree.specs.declared.progress.Last.TheVariants.{Nothing, Done as WasDone, Failed as HasFailed, File, Other}
 use Rattle.plain_tree.specs.declared.progress.Progress.{Progress}
@@ -15,12 +15,9 @@ use Rattle.plain_tree.specs.Calls.{Act, piece, piece_count}
 -- what an answer says to the step after it
 abbrev pub said : StepAnswer → Last
 said (Opened fd id is_file) = if is_file then File fd else Other
-said (Bytes b) = Other
-said (Status s) = Other
-said (NewFd fd) = Other
 said Done = WasDone
 said (Failed k) = HasFailed
-said (NoRoom f) = Other
+said a = Other
 
 unfoldable pub last_of : List Act → Last
 last_of [] = Nothing
@@ -31,27 +28,18 @@ abbrev pub progress_of : List Act → Progress
 progress_of acts = record { count = length acts; last = last_of acts }
 
 abbrev pub is_done : Last → Bool
-is_done Nothing = false
 is_done WasDone = true
-is_done HasFailed = false
-is_done (File fd) = false
-is_done Other = false
+is_done last = false
 
 abbrev pub has_failed : Last → Bool
-has_failed Nothing = false
-has_failed WasDone = false
 has_failed HasFailed = true
-has_failed (File fd) = false
-has_failed Other = false
+has_failed last = false
 
 -- What comes next of each call.
 
 abbrev pub truncate_next : ℕ → Last → Option Action
-truncate_next flags Nothing = None
-truncate_next flags WasDone = None
-truncate_next flags HasFailed = None
 truncate_next flags (File fd) = if has flags empty_it then Some (TruncateStep fd) else None
-truncate_next flags Other = None
+truncate_next flags last = None
 
 abbrev pub open_next : List ℕ → ℕ → Progress → Option Action
 open_next path flags p = if p.count == 0 then Some (OpenStep path flags) else if p.count == 1 then truncate_next flags p.last else None

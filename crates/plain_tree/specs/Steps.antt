@@ -201,55 +201,37 @@ fd_refusal (Some f) = None
 -- the path that a step follows; empty where it follows none
 abbrev pub path_of : Action → List ℕ
 path_of (Open path flags) = path
-path_of (Truncate fd) = []
-path_of (Read fd n) = []
-path_of (WritePart fd b) = []
 path_of (Find old) = old
-path_of Bump = []
 path_of (Enter new) = new
-path_of Unbump = []
 path_of (Unlink path) = path
 path_of (Mkdir path) = path
 path_of (Chdir path) = path
-path_of (Dup fd) = []
-path_of (Close fd) = []
-path_of (Fstat fd) = []
-path_of (Inherit child) = []
+path_of s = []
 
 abbrev pub follows_path : Action → Bool
 follows_path (Open path flags) = true
-follows_path (Truncate fd) = false
-follows_path (Read fd n) = false
-follows_path (WritePart fd b) = false
 follows_path (Find old) = true
-follows_path Bump = false
 follows_path (Enter new) = true
-follows_path Unbump = false
 follows_path (Unlink path) = true
 follows_path (Mkdir path) = true
 follows_path (Chdir path) = true
-follows_path (Dup fd) = false
-follows_path (Close fd) = false
-follows_path (Fstat fd) = false
-follows_path (Inherit child) = false
+follows_path s = false
 
 -- The first cause that stands. res: what the path resolves to; par: its parent, with the last element.
 unfoldable pub refusal_with : Tree → ℕ → Action → Option ℕ → Option (ℕ × Name) → Option Cause
 refusal_with t h (Open path flags) res par = if creates flags then open_new t flags par else open_old t flags res
-refusal_with t h (Truncate fd) res par = None
 refusal_with t h (Read fd n) res par = read_refusal t (file_at t h fd)
 refusal_with t h (WritePart fd b) res par = write_refusal t b (file_at t h fd)
 refusal_with t h (Find old) res par = find_refusal t res
 refusal_with t h Bump res par = bump_refusal t (t.holds h)
 refusal_with t h (Enter new) res par = enter_refusal t par
-refusal_with t h Unbump res par = None
 refusal_with t h (Unlink path) res par = unlink_refusal t par
 refusal_with t h (Mkdir path) res par = mkdir_refusal t par
 refusal_with t h (Chdir path) res par = chdir_refusal t res
 refusal_with t h (Dup fd) res par = fd_refusal (file_at t h fd)
 refusal_with t h (Close fd) res par = fd_refusal (file_at t h fd)
 refusal_with t h (Fstat fd) res par = fd_refusal (file_at t h fd)
-refusal_with t h (Inherit child) res par = None
+refusal_with t h s res par = None
 
 abbrev pub refusal : Tree → ℕ → Action → Option Cause
 refusal t h s = refusal_with t h s (resolve t h (path_of s)) (parent t h (path_of s))
@@ -269,21 +251,14 @@ has_descriptors t h = any_below descriptor_count (λ i. not (is_nothing (t.fds h
 
 -- truncate is of an open file, a find is made by a hart that holds nothing raised, the other steps of a link have their hold, an inherit is to another hart without descriptors, and dup has a free descriptor
 unfoldable pub place_of : Tree → ℕ → Action → Bool
-place_of t h (Open path flags) = true
 place_of t h (Truncate fd) = is_open_file t (file_at t h fd)
-place_of t h (Read fd n) = true
-place_of t h (WritePart fd b) = true
 place_of t h (Find old) = not (holds_raised true (t.holds h))
 place_of t h Bump = holds_raised false (t.holds h)
 place_of t h (Enter new) = holds_raised true (t.holds h)
 place_of t h Unbump = holds_raised true (t.holds h)
-place_of t h (Unlink path) = true
-place_of t h (Mkdir path) = true
-place_of t h (Chdir path) = true
 place_of t h (Dup fd) = is_nothing (file_at t h fd) || has_room (t.fds h)
-place_of t h (Close fd) = true
-place_of t h (Fstat fd) = true
 place_of t h (Inherit child) = nat_lt child hart_count && (not (child == h) && not (has_descriptors t child))
+place_of t h s = true
 
 abbrev pub IsInPlace : Tree → ℕ → Action → Type 0
 IsInPlace t h s = (nat_lt h hart_count && place_of t h s) ≡ true
@@ -458,38 +433,15 @@ opened t h id n = if has_room (t.fds h) then Opened (lowest (t.fds h)) id (opens
 
 unfoldable pub answer_with : Tree → ℕ → Action → Option ℕ → Option (ℕ × Name) → ℕ → StepAnswer
 answer_with t h (Open path flags) res par id = opened t h id (if creates flags then and_then par (λ q. look t.nodes q.0 q.1) else res)
-answer_with t h (Truncate fd) res par id = Done
 answer_with t h (Read fd n) res par id = Bytes (part t (file_at t h fd) n)
-answer_with t h (WritePart fd b) res par id = Done
-answer_with t h (Find old) res par id = Done
-answer_with t h Bump res par id = Done
-answer_with t h (Enter new) res par id = Done
-answer_with t h Unbump res par id = Done
-answer_with t h (Unlink path) res par id = Done
-answer_with t h (Mkdir path) res par id = Done
-answer_with t h (Chdir path) res par id = Done
 answer_with t h (Dup fd) res par id = NewFd (lowest (t.fds h))
-answer_with t h (Close fd) res par id = Done
 answer_with t h (Fstat fd) res par id = stat_answer t (file_at t h fd)
-answer_with t h (Inherit child) res par id = Done
+answer_with t h s res par id = Done
 
 -- what a refused step changes: a refused bump drops its hold
 abbrev pub refused : Tree → ℕ → Action → Tree
-refused t h (Open path flags) = t
-refused t h (Truncate fd) = t
-refused t h (Read fd n) = t
-refused t h (WritePart fd b) = t
-refused t h (Find old) = t
 refused t h Bump = settle (drop_hold t h)
-refused t h (Enter new) = t
-refused t h Unbump = t
-refused t h (Unlink path) = t
-refused t h (Mkdir path) = t
-refused t h (Chdir path) = t
-refused t h (Dup fd) = t
-refused t h (Close fd) = t
-refused t h (Fstat fd) = t
-refused t h (Inherit child) = t
+refused t h s = t
 
 -- any number of the range that is not in the tree
 pub record IsNewNode (t : Tree) (new : ℕ) : Type 0 where
@@ -504,38 +456,13 @@ is_absent t (Some q) = is_nothing (look t.nodes q.0 q.1)
 -- the step, where it isn't refused, makes a node
 abbrev pub makes_node : Tree → Action → Option (ℕ × Name) → Bool
 makes_node t (Open path flags) par = creates flags && is_absent t par
-makes_node t (Truncate fd) par = false
-makes_node t (Read fd n) par = false
-makes_node t (WritePart fd b) par = false
-makes_node t (Find old) par = false
-makes_node t Bump par = false
-makes_node t (Enter new) par = false
-makes_node t Unbump par = false
-makes_node t (Unlink path) par = false
 makes_node t (Mkdir path) par = true
-makes_node t (Chdir path) par = false
-makes_node t (Dup fd) par = false
-makes_node t (Close fd) par = false
-makes_node t (Fstat fd) par = false
-makes_node t (Inherit child) par = false
+makes_node t s par = false
 
 -- the step, where it isn't refused, opens a file
 abbrev pub opens_one : Tree → ℕ → Action → Bool
 opens_one t h (Open path flags) = has_room (t.fds h)
-opens_one t h (Truncate fd) = false
-opens_one t h (Read fd n) = false
-opens_one t h (WritePart fd b) = false
-opens_one t h (Find old) = false
-opens_one t h Bump = false
-opens_one t h (Enter new) = false
-opens_one t h Unbump = false
-opens_one t h (Unlink path) = false
-opens_one t h (Mkdir path) = false
-opens_one t h (Chdir path) = false
-opens_one t h (Dup fd) = false
-opens_one t h (Close fd) = false
-opens_one t h (Fstat fd) = false
-opens_one t h (Inherit child) = false
+opens_one t h s = false
 
 -- the least unused id
 pub record IsLeastUnused (t : Tree) (id : ℕ) : Type 0 where

@@ -21,6 +21,8 @@ enum Run {
     TwoAtOnce,
     /// A seventeenth open, which finds no descriptor.
     WithoutRoom,
+    /// A file is emptied as it is opened, and its descriptor doubled and inherited.
+    Doubled,
 }
 
 const DONE: StepAnswer = StepAnswer::Done;
@@ -191,6 +193,18 @@ fn without_room(alloc: Global) -> Result<Story, NoMemory> {
     Ok(story)
 }
 
+fn doubled(alloc: Global) -> Result<Story, NoMemory> {
+    let mut story = Story::begin(alloc, 10);
+    story.open(0, 0, 3, "/f", 0x602, Answer::Fd(0))?;
+    story.call(0, 4, 6, Call::Dup { fd: 0 }, Answer::Fd(1))?;
+    story.done(0, 7, 9, Call::Inherit { child: 1 })?;
+    story.acts(1, 0, 2, opened(0, 0))?;
+    story.step(2, 0, 0, Action::Truncate { fd: 0 }, DONE)?;
+    story.acts(5, 1, 0, StepAnswer::Fd { fd: 1 })?;
+    story.acts(8, 2, 0, DONE)?;
+    Ok(story)
+}
+
 fn told(alloc: Global, run: Run) -> Result<Story, NoMemory> {
     match run {
         Run::Nothing => Ok(Story::begin(alloc, 0)),
@@ -200,6 +214,7 @@ fn told(alloc: Global, run: Run) -> Result<Story, NoMemory> {
         Run::RefusedLink => refused_link(alloc),
         Run::TwoAtOnce => two_at_once(alloc),
         Run::WithoutRoom => without_room(alloc),
+        Run::Doubled => doubled(alloc),
     }
 }
 
@@ -228,6 +243,7 @@ fn explains_the_worked_runs(rt: HostRuntime) -> Result<(), Fail> {
         (Run::UnlinkedWhileLinked, 8),
         (Run::RefusedLink, 8),
         (Run::TwoAtOnce, 2),
+        (Run::Doubled, 4),
     ] {
         assert_eq!(rt;
             is_explained(alloc, run, Change::Nothing, Change::Nothing),

@@ -35,14 +35,14 @@ fn name_end(path: &[u8]) -> usize
     path.len()
 }
 
-/// At most the first 14 bytes.
-fn cut(name: &[u8]) -> &[u8]
-    ensures { result.now ≡ take name_width name.now }
+/// At most the first `count` bytes.
+pub(crate) fn first(bytes: &[u8], count: usize) -> &[u8]
+    ensures { result.now ≡ take count bytes.now }
 {
-    if name.len() > NAME_WIDTH {
-        &name[..NAME_WIDTH]
+    if bytes.len() > count {
+        &bytes[..count]
     } else {
-        name
+        bytes
     }
 }
 
@@ -59,7 +59,7 @@ pub(crate) fn next_element(path: &[u8]) -> Option<(&[u8], &[u8])>
             &rest[end..]
         };
         if end > 0 {
-            return Some((cut(&rest[..end]), after));
+            return Some((first(&rest[..end], NAME_WIDTH), after));
         }
         rest = after;
     }

@@ -1,30 +1,19 @@
 //! Whether the steps that a list has of a call are a beginning of the call's written sequence, and the whole of it.
-ghost use Rattle.std.specs.Prelude.{◌≡◌, ℕ, List, Some, None, IsTrue, ◌↔◌, ◌<◌, take};
+ghost use Rattle.std.specs.Prelude.{◌≡◌, ℕ, List, Some, None, IsTrue, ◌↔◌, ◌<◌};
 ghost use Rattle.plain_tree.specs.Calls.{IsBeginning, next_of, piece, piece_count};
 ghost use Rattle.plain_tree.specs.Explains.{acts_of};
-ghost use Rattle.plain_tree.specs.Progress.{has_failed, is_done, link_next, next_at, open_next, truncate_next, write_next};
+ghost use Rattle.plain_tree.specs.Progress.{link_next, next_at, open_next, truncate_next, write_next};
 ghost use Rattle.plain_tree.specs.Steps.{is_nothing};
 
 use crate::bytes::Bytes;
 use crate::call::Call;
 use crate::handed::same_bytes;
+use crate::paths::first;
 use crate::progress::{Last, Progress, START, after, progress_in};
 use crate::refusal::has_flag;
 use crate::step::Action;
 use crate::trace::Placed;
 use crate::widths::{EMPTY_IT, PIECE_WIDTH};
-
-fn is_done(last: Last) -> bool
-    ensures { result ≡ is_done last }
-{
-    matches!(last, Last::Done)
-}
-
-fn has_failed(last: Last) -> bool
-    ensures { result ≡ has_failed last }
-{
-    matches!(last, Last::Failed)
-}
 
 /// The number of pieces of a write of these bytes.
 fn piece_count(bytes: &[u8]) -> usize
@@ -34,17 +23,6 @@ fn piece_count(bytes: &[u8]) -> usize
         1
     } else {
         (bytes.len() - 1) / PIECE_WIDTH + 1
-    }
-}
-
-/// At most the first `count` bytes.
-fn first(bytes: &[u8], count: usize) -> &[u8]
-    ensures { result.now ≡ take count bytes.now }
-{
-    if bytes.len() > count {
-        &bytes[..count]
-    } else {
-        bytes
     }
 }
 
@@ -79,7 +57,7 @@ fn is_next_of_open(path: &Bytes, flags: u32, progress: Progress, action: &Action
 fn is_next_of_write(fd: u32, bytes: &[u8], progress: Progress, action: &Action) -> bool
     ensures { IsTrue result ↔ (write_next fd bytes.now progress ≡ Some action.now) }
 {
-    if has_failed(progress.last) || progress.count >= piece_count(bytes) {
+    if matches!(progress.last, Last::Failed) || progress.count >= piece_count(bytes) {
         return false;
     }
     match action {
@@ -95,9 +73,9 @@ fn is_next_of_link(old: &Bytes, new: &Bytes, progress: Progress, action: &Action
 {
     match (progress.count, action) {
         (0, Action::Find { old: o }) => o == old,
-        (1, Action::Bump) => is_done(progress.last),
-        (2, Action::Enter { new: n }) => is_done(progress.last) && n == new,
-        (3, Action::Unbump) => has_failed(progress.last),
+        (1, Action::Bump) => matches!(progress.last, Last::Done),
+        (2, Action::Enter { new: n }) => matches!(progress.last, Last::Done) && n == new,
+        (3, Action::Unbump) => matches!(progress.last, Last::Failed),
         _ => false,
     }
 }
@@ -138,7 +116,7 @@ fn is_open_through(flags: u32, progress: Progress) -> bool
 fn is_write_through(bytes: &[u8], progress: Progress) -> bool
     ensures { (fd : ℕ) → result ≡ is_nothing (write_next fd bytes.now progress) }
 {
-    has_failed(progress.last) || progress.count >= piece_count(bytes)
+    matches!(progress.last, Last::Failed) || progress.count >= piece_count(bytes)
 }
 
 fn is_link_through(progress: Progress) -> bool
@@ -146,8 +124,8 @@ fn is_link_through(progress: Progress) -> bool
 {
     match progress.count {
         0 => false,
-        1 | 2 => !is_done(progress.last),
-        3 => !has_failed(progress.last),
+        1 | 2 => !matches!(progress.last, Last::Done),
+        3 => !matches!(progress.last, Last::Failed),
         _ => true,
     }
 }
