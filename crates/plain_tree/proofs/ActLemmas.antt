@@ -1,14 +1,15 @@
 -- What a step makes of a tree, from its parts.
-use Rattle.std.proofs.Common.{◌≡◌, ◌≢◌, ℕ, ◌<◌, true, false, ◌||◌, not, nat_lt, List, inl, inr, refl, sym, ◌∙◌, ap, Option, Some, None, arith}
+use Rattle.std.proofs.Common.{◌≡◌, ◌≢◌, ℕ, ◌<◌, true, false, ◌||◌, not, nat_lt, List, inl, inr, refl, sym, ◌∙◌, ap, Option, Some, None, if◌then◌else◌, arith}
 use Rattle.std.proofs.Math.Path.{fun_ext}
 use Rattle.std.proofs.lemmas.Bool.{cases_Bool}
 use Rattle.std.proofs.lemmas.Bool.Decides.{nat_tests}
+use Rattle.plain_tree.specs.declared.answer.Cause.TheVariants.{TooManyLinks}
 use Rattle.plain_tree.specs.declared.node.Node.{Node}
 use Rattle.plain_tree.specs.declared.tree.OpenFile.{OpenFile}
 use Rattle.plain_tree.specs.declared.tree.OpenFileEntry.{OpenFileEntry}
 use Rattle.plain_tree.specs.declared.step.Action.TheVariants.{Dup, Close, Inherit}
-use Rattle.plain_tree.specs.Tree.{Name, Tree, file_in, live_directory, put}
-use Rattle.plain_tree.specs.Steps.{fd_refusal, file_at, has, has_room, is_nothing, lowest, node_or, node_at, place_of, read_write, refusal_with, with_file, with_nodes, write_only}
+use Rattle.plain_tree.specs.Tree.{Name, Tree, file_in, live_directory, look, put}
+use Rattle.plain_tree.specs.Steps.{mkdir_refusal, name_taken, or_else, fd_refusal, file_at, has, has_room, is_nothing, lowest, node_or, node_at, place_of, read_write, refusal_with, with_file, with_nodes, write_only}
 use Rattle.plain_tree.specs.Code.{HasFiles}
 use Rattle.plain_tree.proofs.TreeLemmas.{put_same, put_other}
 
@@ -57,3 +58,14 @@ child_below t h child place = elim (cases_Bool (nat_lt child 8)) [
   | inl y ↦ grind (arith, nat_tests)
   | inr y ↦ absurd (let x = rw y at place in cc)
 ]
+
+-- a directory that isn't refused has room for a link
+pub mkdir_few : (t : Tree) (d : ℕ) (e : Name) → mkdir_refusal t (Some (d, e)) ≡ None → (node_at t d).count < 32767
+mkdir_few t d e none = go (look t.nodes d e) none
+  where
+    go : (r : Option ℕ) → or_else (name_taken r) (if nat_lt (node_at t d).count 32767 then None else Some TooManyLinks) ≡ None → (node_at t d).count < 32767
+    go (Some n) h = absurd cc
+    go None h = elim (cases_Bool (nat_lt (node_at t d).count 32767)) [
+      | inl y ↦ grind (arith, nat_tests)
+      | inr y ↦ absurd (let x = rw y at h in cc)
+    ]

@@ -9,7 +9,7 @@ use crate::bytes::Bytes;
 use crate::look::Found;
 use crate::node::{Kind, Node, Slot, Slots};
 use crate::refusal::has_flag;
-use crate::refused::NoMemory;
+use crate::refused::{Attempt, NoMemory};
 use crate::step::{Action, StepAnswer};
 use crate::tree::{Hold, OpenFile, OpenFileEntry, Tree};
 use crate::widths::{CREATE, DOT, DOTDOT, READ_WRITE, WRITE_ONLY};
@@ -28,7 +28,7 @@ fn just_opened(number: u16, flags: u32) -> OpenFile
 }
 
 /// A slot with this name.
-pub(crate) fn slot(alloc: Global, name: &[u8], number: u16) -> Result<Option<Slot>, NoMemory>
+pub(crate) fn slot(alloc: Global, name: &[u8], number: u16) -> Attempt<Option<Slot>>
     ensures { IfOk result (λ s. s ≡ Some (record { name = name.now; number = number })) }
 {
     let name = Bytes::new(Vec::from_slice(alloc, name)?);
@@ -36,7 +36,7 @@ pub(crate) fn slot(alloc: Global, name: &[u8], number: u16) -> Result<Option<Slo
 }
 
 /// A directory with no entries but "." and "..".
-fn new_directory(alloc: Global, number: u16, parent: u16) -> Result<Node, NoMemory>
+fn new_directory(alloc: Global, number: u16, parent: u16) -> Attempt<Node>
     ensures { IfOk result (λ v. v ≡ new_directory number parent) }
 {
     let mut slots = Vec::new(alloc);
@@ -62,20 +62,13 @@ impl Tree {
     }
 
     /// Opens the node, where the hart has a descriptor free.
-    fn open_node(
-        &mut self,
-        alloc: Global,
-        hart: u8,
-        number: u16,
-        flags: u32,
-        id: usize,
-    ) -> Result<(), NoMemory>
+    fn open_node(&mut self, alloc: Global, hart: u8, number: u16, flags: u32, id: usize) -> Attempt
         requires hart { hart < 8 }
         requires unused { (tree_of self.old).files id ≡ None }
         ensures { MatchResult result (λ _. tree_of self.new ≡ with_file (tree_of self.old) hart id number flags) (λ _. self.new ≡ self.old) }
     {
         if self.has_room(hart) {
-            let files = self.files_opened(alloc, number, flags, id)?;
+            let files = self.files_with(alloc, id, just_opened(number, flags))?;
             self.give_file(hart, files, id);
         }
         Ok(())
@@ -89,7 +82,7 @@ impl Tree {
         name: Bytes,
         number: u16,
         node: Node,
-    ) -> Result<(), NoMemory>
+    ) -> Attempt
         requires live { live_directory ((tree_of self.old).nodes directory) ≡ true }
         requires range { number < (tree_of self.old).ninodes }
         ensures { MatchResult result (λ _. tree_of self.new ≡ with_nodes (tree_of self.old) (put (entered (tree_of self.old) directory name number).nodes number (Some node))) (λ _. self.new ≡ self.old) }
@@ -99,28 +92,8 @@ impl Tree {
         Ok(())
     }
 
-    /// The open files, and this node opened under an unused id.
-    fn files_opened(
-        &self,
-        alloc: Global,
-        number: u16,
-        flags: u32,
-        id: usize,
-    ) -> Result<Vec<OpenFileEntry>, NoMemory>
-        requires { (tree_of self.now).files id ≡ None }
-        ensures { IfOk result (λ v. HasFiles v.items (put (tree_of self.now).files id (Some (record { number = number; offset = 0; readable = not (has flags write_only); writable = has flags write_only || has flags read_write })))) }
-    {
-        self.files_with(alloc, id, just_opened(number, flags))
-    }
-
     /// Puts an empty file into the tree.
-    fn add_file_node(
-        &mut self,
-        alloc: Global,
-        directory: u16,
-        name: &[u8],
-        number: u16,
-    ) -> Result<(), NoMemory>
+    fn add_file_node(&mut self, alloc: Global, directory: u16, name: &[u8], number: u16) -> Attempt
         requires live { live_directory ((tree_of self.old).nodes directory) ≡ true }
         requires range { number < (tree_of self.old).ninodes }
         ensures { MatchResult result (λ _. tree_of self.new ≡ with_nodes (tree_of self.old) (put (entered (tree_of self.old) directory name.now number).nodes number (Some new_file))) (λ _. self.new ≡ self.old) }
@@ -144,7 +117,7 @@ impl Tree {
         flags: u32,
         number: u16,
         id: usize,
-    ) -> Result<(), NoMemory>
+    ) -> Attempt
         requires hart { hart < 8 }
         requires live { live_directory ((tree_of self.old).nodes directory) ≡ true }
         requires range { number < (tree_of self.old).ninodes }
@@ -152,7 +125,7 @@ impl Tree {
         ensures { MatchResult result (λ _. tree_of self.new ≡ opened_in (tree_of self.old) hart id flags directory name.now None number) (λ _. self.new ≡ self.old) }
     {
         if self.has_room(hart) {
-            let files = self.files_opened(alloc, number, flags, id)?;
+            let files = self.files_with(alloc, id, just_opened(number, flags))?;
             self.add_file_node(alloc, directory, name, number)?;
             self.give_file(hart, files, id);
         } else {
@@ -170,7 +143,7 @@ impl Tree {
         flags: u32,
         number: u16,
         id: usize,
-    ) -> Result<(), NoMemory>
+    ) -> Attempt
         requires hart { hart < 8 }
         requires live { IfSome parent (λ d. live_directory ((tree_of self.old).nodes d) ≡ true) }
         requires new { is_absent (tree_of self.old) (with_name parent name.now) ≡ true → IsNewNode (tree_of self.old) number }
@@ -194,7 +167,7 @@ impl Tree {
         flags: u32,
         number: u16,
         id: usize,
-    ) -> Result<(), NoMemory>
+    ) -> Attempt
         requires hart { hart < 8 }
         requires unused { (tree_of self.old).files id ≡ None }
         ensures { MatchResult result (λ _. tree_of self.new ≡ opened_at (tree_of self.old) hart id flags found number) (λ _. self.new ≡ self.old) }
@@ -205,46 +178,7 @@ impl Tree {
         }
     }
 
-    /// Makes a directory under a name that isn't there.
-    fn make_directory(
-        &mut self,
-        alloc: Global,
-        directory: u16,
-        name: &[u8],
-        number: u16,
-    ) -> Result<(), NoMemory>
-        requires live { live_directory ((tree_of self.old).nodes directory) ≡ true }
-        requires few { (node_at (tree_of self.old) directory).count < 32767 }
-        requires range { number < (tree_of self.old).ninodes }
-        requires unused { (tree_of self.old).nodes number ≡ None }
-        ensures { MatchResult result (λ _. tree_of self.new ≡ made (tree_of self.old) (with_name (Some directory) name.now) number) (λ _. self.new ≡ self.old) }
-    {
-        let name = Bytes::new(Vec::from_slice(alloc, name)?);
-        let node = new_directory(alloc, number, directory)?;
-        self.add_node(alloc, directory, name, number, node)?;
-        self.raise(alloc, usize::from(directory));
-        Ok(())
-    }
-
-    /// Takes the name out of the directory, and one from the count of what it named.
-    fn remove_name(&mut self, alloc: Global, directory: u16, name: &[u8]) -> Result<(), NoMemory>
-        requires { live_directory ((tree_of self.old).nodes directory) ≡ true }
-        ensures { MatchResult result (λ _. tree_of self.new ≡ removed (tree_of self.old) (with_name (Some directory) name.now)) (λ _. self.new ≡ self.old) }
-    {
-        let Some(number) = self.look(directory, name) else {
-            return Ok(());
-        };
-        let number_at = usize::from(number);
-        if number_at >= self.ninodes() {
-            return Err(NoMemory);
-        }
-        let lowers = self.is_directory(number);
-        self.clear(alloc, usize::from(directory), name, lowers);
-        self.lower(alloc, number_at);
-        Ok(())
-    }
-
-    fn write_part(&mut self, alloc: Global, hart: u8, fd: u32, bytes: &[u8]) -> Result<(), NoMemory>
+    fn write_part(&mut self, alloc: Global, hart: u8, fd: u32, bytes: &[u8]) -> Attempt
         ensures { MatchResult result (λ _. tree_of self.new ≡ wrote (tree_of self.old) hart fd bytes.now) (λ _. self.new ≡ self.old) }
     {
         if bytes.is_empty() {
@@ -266,7 +200,7 @@ impl Tree {
         Ok(())
     }
 
-    fn truncate(&mut self, alloc: Global, hart: u8, fd: u32) -> Result<(), NoMemory>
+    fn truncate(&mut self, alloc: Global, hart: u8, fd: u32) -> Attempt
         ensures { MatchResult result (λ _. tree_of self.new ≡ truncated (tree_of self.old) (file_at (tree_of self.old) hart fd)) (λ _. self.new ≡ self.old) }
     {
         let Some(file) = self.file_at(hart, fd) else {
@@ -280,13 +214,8 @@ impl Tree {
         Ok(())
     }
 
-    fn mkdir(
-        &mut self,
-        alloc: Global,
-        parent: Option<u16>,
-        name: &[u8],
-        number: u16,
-    ) -> Result<(), NoMemory>
+    /// Makes a directory under a name that isn't there.
+    fn mkdir(&mut self, alloc: Global, parent: Option<u16>, name: &[u8], number: u16) -> Attempt
         requires live { IfSome parent (λ d. live_directory ((tree_of self.old).nodes d) ≡ true) }
         requires none { mkdir_refusal (tree_of self.old) (with_name parent name.now) ≡ None }
         requires new { IsNewNode (tree_of self.old) number }
@@ -295,17 +224,32 @@ impl Tree {
         let Some(directory) = parent else {
             return Ok(());
         };
-        self.make_directory(alloc, directory, name, number)
+        let name = Bytes::new(Vec::from_slice(alloc, name)?);
+        let node = new_directory(alloc, number, directory)?;
+        self.add_node(alloc, directory, name, number, node)?;
+        self.raise(alloc, usize::from(directory));
+        Ok(())
     }
 
-    fn unlink(&mut self, alloc: Global, parent: Option<u16>, name: &[u8]) -> Result<(), NoMemory>
+    /// Takes the name out of the directory, and one from the count of what it named.
+    fn unlink(&mut self, alloc: Global, parent: Option<u16>, name: &[u8]) -> Attempt
         requires { IfSome parent (λ d. live_directory ((tree_of self.old).nodes d) ≡ true) }
         ensures { MatchResult result (λ _. tree_of self.new ≡ removed (tree_of self.old) (with_name parent name.now)) (λ _. self.new ≡ self.old) }
     {
         let Some(directory) = parent else {
             return Ok(());
         };
-        self.remove_name(alloc, directory, name)
+        let Some(number) = self.look(directory, name) else {
+            return Ok(());
+        };
+        let number_at = usize::from(number);
+        if number_at >= self.ninodes() {
+            return Err(NoMemory);
+        }
+        let lowers = self.is_directory(number);
+        self.clear(alloc, usize::from(directory), name, lowers);
+        self.lower(alloc, number_at);
+        Ok(())
     }
 
     fn find(&mut self, hart: u8, found: Option<u16>)
@@ -323,7 +267,7 @@ impl Tree {
         }
     }
 
-    fn bump(&mut self, alloc: Global, hart: u8) -> Result<(), NoMemory>
+    fn bump(&mut self, alloc: Global, hart: u8) -> Attempt
         requires hart { hart < 8 }
         requires none { bump_refusal (tree_of self.old) ((tree_of self.old).holds hart) ≡ None }
         ensures { MatchResult result (λ _. tree_of self.new ≡ record (at_hold (tree_of self.old) ((tree_of self.old).holds hart) raised) { holds = put (tree_of self.old).holds hart (raise_hold ((tree_of self.old).holds hart)) }) (λ _. self.new ≡ self.old) }
@@ -347,13 +291,7 @@ impl Tree {
         Ok(())
     }
 
-    fn enter_held(
-        &mut self,
-        alloc: Global,
-        hart: u8,
-        parent: Option<u16>,
-        name: &[u8],
-    ) -> Result<(), NoMemory>
+    fn enter_held(&mut self, alloc: Global, hart: u8, parent: Option<u16>, name: &[u8]) -> Attempt
         requires hart { hart < 8 }
         requires live { IfSome parent (λ d. live_directory ((tree_of self.old).nodes d) ≡ true) }
         ensures { MatchResult result (λ _. tree_of self.new ≡ drop_hold (enter_hold (tree_of self.old) (with_name parent name.now) ((tree_of self.old).holds hart)) hart) (λ _. self.new ≡ self.old) }
@@ -368,7 +306,7 @@ impl Tree {
         Ok(())
     }
 
-    fn unbump(&mut self, alloc: Global, hart: u8) -> Result<(), NoMemory>
+    fn unbump(&mut self, alloc: Global, hart: u8) -> Attempt
         requires { hart < 8 }
         ensures { MatchResult result (λ _. tree_of self.new ≡ drop_hold (at_hold (tree_of self.old) ((tree_of self.old).holds hart) lowered) hart) (λ _. self.new ≡ self.old) }
     {
@@ -411,7 +349,7 @@ impl Tree {
         self.close_orphans();
     }
 
-    fn read(&mut self, hart: u8, fd: u32, count: u64) -> Result<(), NoMemory>
+    fn read(&mut self, hart: u8, fd: u32, count: u64) -> Attempt
         ensures { MatchResult result (λ _. tree_of self.new ≡ moved (tree_of self.old) ((tree_of self.old).fds hart fd) count) (λ _. self.new ≡ self.old) }
     {
         let id = self.descriptor(hart, fd as usize);
@@ -433,7 +371,7 @@ impl Tree {
         number: u16,
         id: usize,
         answer: &StepAnswer,
-    ) -> Result<(), NoMemory>
+    ) -> Attempt
         requires hart { hart < 8 }
         requires live { IfSome found.now.parent (λ d. live_directory ((tree_of self.old).nodes d) ≡ true) }
         requires none { refusal_with (tree_of self.old) hart action.now found.now.node (with_name found.now.parent found.now.name.now) ≡ None }

@@ -9,7 +9,7 @@ use crate::bytes::Bytes;
 use crate::look::Found;
 use crate::node::Kind;
 use crate::refusal::has_flag;
-use crate::refused::NoMemory;
+use crate::refused::Attempt;
 use crate::slots::entries;
 use crate::step::{Action, StepAnswer};
 use crate::tree::{OpenFile, Tree};
@@ -17,7 +17,7 @@ use crate::widths::{CREATE, DESCRIPTOR_COUNT, ENTRY_WIDTH, ROOT_DEVICE};
 use std::alloc::Global;
 
 /// So many bytes from the offset on, as far as there are.
-fn cut_out(alloc: Global, bytes: &[u8], offset: u64, count: usize) -> Result<Vec<u8>, NoMemory>
+fn cut_out(alloc: Global, bytes: &[u8], offset: u64, count: usize) -> Attempt<Vec<u8>>
     ensures { IfOk result (λ v. v.items ≡ take count (drop offset bytes.now)) }
 {
     let start = if offset < bytes.len() as u64 {
@@ -65,7 +65,7 @@ pub(crate) fn bytes_read(answer: &StepAnswer) -> u64
 }
 
 impl Tree {
-    fn part(&self, alloc: Global, file: Option<OpenFile>, count: usize) -> Result<Vec<u8>, NoMemory>
+    fn part(&self, alloc: Global, file: Option<OpenFile>, count: usize) -> Attempt<Vec<u8>>
         ensures { IfOk result (λ v. v.items ≡ part (tree_of self.now) file count) }
     {
         let Some(file) = file else {
@@ -149,7 +149,7 @@ impl Tree {
         action: &Action,
         found: &Found,
         id: usize,
-    ) -> Result<StepAnswer, NoMemory>
+    ) -> Attempt<StepAnswer>
         ensures { IfOk result (λ a. a ≡ answer_with (tree_of self.now) hart action.now found.now.node (with_name found.now.parent found.now.name.now) id) }
     {
         match action {

@@ -6,13 +6,13 @@ ghost use Rattle.plain_tree.specs.declared.node.Kind.TheVariants.{Directory, Fil
 
 use crate::bytes::Bytes;
 use crate::node::{Kind, Node, Slot, Slots};
-use crate::refused::NoMemory;
+use crate::refused::Attempt;
 use crate::slots::{clear_slot, enter_slot};
 use crate::tree::{Hold, Tree};
 use std::alloc::Global;
 
 /// These bytes, written at the offset.
-fn overwritten(alloc: Global, old: &[u8], offset: u64, bytes: &[u8]) -> Result<Vec<u8>, NoMemory>
+fn overwritten(alloc: Global, old: &[u8], offset: u64, bytes: &[u8]) -> Attempt<Vec<u8>>
     ensures { IfOk result (λ v. v.items ≡ take offset old.now ++ bytes.now ++ drop (offset + length bytes.now) old.now) }
 {
     let start = if offset < old.len() as u64 {
@@ -110,7 +110,7 @@ impl Tree {
         number: usize,
         offset: u64,
         bytes: &[u8],
-    ) -> Result<Option<Vec<u8>>, NoMemory>
+    ) -> Attempt<Option<Vec<u8>>>
         ensures { IfOk result (λ o. MatchOption o ((tree_of self.now).nodes number ≡ Some (record (node_at (tree_of self.now) number) { kind = written_kind (node_at (tree_of self.now) number).kind offset bytes.now })) (λ v. written_kind (node_at (tree_of self.now) number).kind offset bytes.now ≡ File v.items)) }
     {
         match self.node(number) {
@@ -135,7 +135,7 @@ impl Tree {
         number: usize,
         offset: u64,
         bytes: &[u8],
-    ) -> Result<(), NoMemory>
+    ) -> Attempt
         requires { number < (tree_of self.old).ninodes }
         ensures { MatchResult result (λ _. tree_of self.new ≡ at_node (tree_of self.old) number (λ v. record v { kind = written_kind v.kind offset bytes.now })) (λ _. self.new ≡ self.old) }
     {
@@ -157,7 +157,7 @@ impl Tree {
         directory: usize,
         name: Bytes,
         number: u16,
-    ) -> Result<(), NoMemory>
+    ) -> Attempt
         requires { live_directory ((tree_of self.old).nodes directory) ≡ true }
         ensures { MatchResult result (λ _. tree_of self.new ≡ entered (tree_of self.old) directory name number) (λ _. self.new ≡ self.old) }
     {

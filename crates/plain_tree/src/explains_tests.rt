@@ -1,6 +1,6 @@
 //! Worked runs, each with a list of steps that explains it, and what becomes of that list where one entry is another.
 //! What finds no memory is tried once more.
-use crate::story::{Change, Story, bytes, opened};
+use crate::story::{Change, Story, Told, bytes, opened};
 use crate::{Action, Answer, Call, Cause, Full, NoMemory, NodeType, Stat, StepAnswer};
 use std::alloc::Global;
 use std::test::Fail;
@@ -31,13 +31,13 @@ fn refused(cause: Cause) -> StepAnswer {
     StepAnswer::Failed { cause }
 }
 
-fn read(alloc: Global, text: &[u8]) -> Result<StepAnswer, NoMemory> {
+fn read(alloc: Global, text: &[u8]) -> Told<StepAnswer> {
     let bytes = bytes(alloc, text)?;
     Ok(StepAnswer::Bytes { bytes })
 }
 
 /// A piece that is written through descriptor 0.
-fn piece(alloc: Global, text: &[u8]) -> Result<Action, NoMemory> {
+fn piece(alloc: Global, text: &[u8]) -> Told<Action> {
     let bytes = bytes(alloc, text)?;
     Ok(Action::WritePart { fd: 0, bytes })
 }
@@ -53,39 +53,44 @@ fn stat(nlink: u16) -> Stat {
     }
 }
 
-fn mkdir(alloc: Global, path: &str) -> Result<Call, NoMemory> {
+fn open(alloc: Global, path: &str, flags: u32) -> Told<Call> {
+    let path = bytes(alloc, path.as_bytes())?;
+    Ok(Call::Open { path, flags })
+}
+
+fn mkdir(alloc: Global, path: &str) -> Told<Call> {
     let path = bytes(alloc, path.as_bytes())?;
     Ok(Call::Mkdir { path })
 }
 
-fn unlink(alloc: Global, path: &str) -> Result<Call, NoMemory> {
+fn unlink(alloc: Global, path: &str) -> Told<Call> {
     let path = bytes(alloc, path.as_bytes())?;
     Ok(Call::Unlink { path })
 }
 
 /// A link of "/f" as "/g".
-fn link(alloc: Global) -> Result<Call, NoMemory> {
+fn link(alloc: Global) -> Told<Call> {
     let old = bytes(alloc, b"/f")?;
     let new = bytes(alloc, b"/g")?;
     Ok(Call::Link { old, new })
 }
 
-fn enter(alloc: Global) -> Result<Action, NoMemory> {
+fn enter(alloc: Global) -> Told<Action> {
     let new = bytes(alloc, b"/g")?;
     Ok(Action::Enter { new })
 }
 
-fn buffer(alloc: Global, text: &[u8]) -> Result<Call, NoMemory> {
+fn buffer(alloc: Global, text: &[u8]) -> Told<Call> {
     let buf = bytes(alloc, text)?;
     Ok(Call::Read { fd: 0, buf })
 }
 
-fn write(alloc: Global, text: &[u8]) -> Result<Call, NoMemory> {
+fn write(alloc: Global, text: &[u8]) -> Told<Call> {
     let bytes = bytes(alloc, text)?;
     Ok(Call::Write { fd: 0, bytes })
 }
 
-fn pieces(alloc: Global) -> Result<Story, NoMemory> {
+fn pieces(alloc: Global) -> Told<Story> {
     let text = [7; 3073];
     let mut filled = [0; 4000];
     for i in 0..3072 {
@@ -94,118 +99,125 @@ fn pieces(alloc: Global) -> Result<Story, NoMemory> {
     let given = buffer(alloc, &[0; 4000])?;
     let handed = buffer(alloc, &filled)?;
     let mut story = Story::begin(alloc, 12);
-    story.open(0, 0, 2, "/f", 0x201, Answer::Fd(0))?;
-    story.open(1, 3, 5, "/f", 0, Answer::Fd(0))?;
-    story.call(0, 6, 11, write(alloc, &text)?, Answer::Count(3073))?;
-    story.call_back(1, 7, 11, given, Answer::Count(3072), handed)?;
-    story.acts(1, 0, 2, opened(0, 0))?;
-    story.acts(4, 1, 0, opened(0, 1))?;
-    story.step(8, 2, 0, piece(alloc, &text[..3072])?, DONE)?;
-    story.acts(9, 3, 0, read(alloc, &text[..3072])?)?;
-    story.step(10, 2, 0, piece(alloc, &text[3072..])?, DONE)?;
+    story.call(0, (0, 2), open(alloc, "/f", 0x201)?, Answer::Fd(0))?;
+    story.call(1, (3, 5), open(alloc, "/f", 0)?, Answer::Fd(0))?;
+    story.call(0, (6, 11), write(alloc, &text)?, Answer::Count(3073))?;
+    story.call(1, (7, 11), given, Answer::Count(3072))?;
+    story.hands(handed);
+    story.acts((1, 0, 2), opened(0, 0))?;
+    story.acts((4, 1, 0), opened(0, 1))?;
+    story.step((8, 2, 0), piece(alloc, &text[..3072])?, DONE)?;
+    story.acts((9, 3, 0), read(alloc, &text[..3072])?)?;
+    story.step((10, 2, 0), piece(alloc, &text[3072..])?, DONE)?;
     Ok(story)
 }
 
-fn made_anew(alloc: Global) -> Result<Story, NoMemory> {
+fn made_anew(alloc: Global) -> Told<Story> {
     let mut story = Story::begin(alloc, 24);
-    story.done(1, 0, 2, mkdir(alloc, "/d")?)?;
-    story.open(1, 3, 5, "/d/f", 0x200, Answer::Fd(0))?;
-    story.done(1, 6, 8, Call::Close { fd: 0 })?;
-    story.open(0, 9, 23, "/d/f", 0, Answer::Failed(Cause::NoEntry))?;
-    story.done(1, 10, 12, unlink(alloc, "/d/f")?)?;
-    story.done(1, 13, 15, unlink(alloc, "/d")?)?;
-    story.done(1, 16, 18, mkdir(alloc, "/d")?)?;
-    story.open(1, 19, 21, "/d/f", 0x200, Answer::Fd(0))?;
-    story.acts(1, 0, 2, DONE)?;
-    story.acts(4, 1, 3, opened(0, 0))?;
-    story.acts(7, 2, 0, DONE)?;
-    story.acts(11, 4, 0, DONE)?;
-    story.acts(14, 5, 0, DONE)?;
-    story.acts(15, 3, 0, refused(Cause::NoEntry))?;
-    story.acts(17, 6, 3, DONE)?;
-    story.acts(20, 7, 4, opened(0, 0))?;
+    story.done(1, (0, 2), mkdir(alloc, "/d")?)?;
+    story.call(1, (3, 5), open(alloc, "/d/f", 0x200)?, Answer::Fd(0))?;
+    story.done(1, (6, 8), Call::Close { fd: 0 })?;
+    story.call(
+        0,
+        (9, 23),
+        open(alloc, "/d/f", 0)?,
+        Answer::Failed(Cause::NoEntry),
+    )?;
+    story.done(1, (10, 12), unlink(alloc, "/d/f")?)?;
+    story.done(1, (13, 15), unlink(alloc, "/d")?)?;
+    story.done(1, (16, 18), mkdir(alloc, "/d")?)?;
+    story.call(1, (19, 21), open(alloc, "/d/f", 0x200)?, Answer::Fd(0))?;
+    story.acts((1, 0, 2), DONE)?;
+    story.acts((4, 1, 3), opened(0, 0))?;
+    story.acts((7, 2, 0), DONE)?;
+    story.acts((11, 4, 0), DONE)?;
+    story.acts((14, 5, 0), DONE)?;
+    story.acts((15, 3, 0), refused(Cause::NoEntry))?;
+    story.acts((17, 6, 3), DONE)?;
+    story.acts((20, 7, 4), opened(0, 0))?;
     Ok(story)
 }
 
-fn unlinked_while_linked(alloc: Global) -> Result<Story, NoMemory> {
+fn unlinked_while_linked(alloc: Global) -> Told<Story> {
     let given = buffer(alloc, b"....")?;
     let handed = buffer(alloc, b"A...")?;
     let mut story = Story::begin(alloc, 21);
-    story.open(1, 0, 2, "/f", 0x201, Answer::Fd(0))?;
-    story.call(1, 3, 5, write(alloc, b"A")?, Answer::Count(1))?;
-    story.done(0, 6, 14, link(alloc)?)?;
-    story.done(1, 7, 12, unlink(alloc, "/f")?)?;
-    story.open(0, 15, 17, "/g", 0, Answer::Fd(0))?;
-    story.call_back(0, 18, 20, given, Answer::Count(1), handed)?;
-    story.acts(1, 0, 2, opened(0, 0))?;
-    story.acts(4, 1, 0, DONE)?;
-    story.acts(8, 2, 0, DONE)?;
-    story.step(9, 2, 0, Action::Bump, DONE)?;
-    story.acts(10, 3, 0, DONE)?;
-    story.step(11, 2, 0, enter(alloc)?, DONE)?;
-    story.acts(16, 4, 0, opened(0, 1))?;
-    story.acts(19, 5, 0, read(alloc, b"A")?)?;
+    story.call(1, (0, 2), open(alloc, "/f", 0x201)?, Answer::Fd(0))?;
+    story.call(1, (3, 5), write(alloc, b"A")?, Answer::Count(1))?;
+    story.done(0, (6, 14), link(alloc)?)?;
+    story.done(1, (7, 12), unlink(alloc, "/f")?)?;
+    story.call(0, (15, 17), open(alloc, "/g", 0)?, Answer::Fd(0))?;
+    story.call(0, (18, 20), given, Answer::Count(1))?;
+    story.hands(handed);
+    story.acts((1, 0, 2), opened(0, 0))?;
+    story.acts((4, 1, 0), DONE)?;
+    story.acts((8, 2, 0), DONE)?;
+    story.step((9, 2, 0), Action::Bump, DONE)?;
+    story.acts((10, 3, 0), DONE)?;
+    story.step((11, 2, 0), enter(alloc)?, DONE)?;
+    story.acts((16, 4, 0), opened(0, 1))?;
+    story.acts((19, 5, 0), read(alloc, b"A")?)?;
     Ok(story)
 }
 
-fn refused_link(alloc: Global) -> Result<Story, NoMemory> {
+fn refused_link(alloc: Global) -> Told<Story> {
     let there = Cause::Exists;
     let mut story = Story::begin(alloc, 18);
-    story.open(1, 0, 2, "/f", 0x200, Answer::Fd(0))?;
-    story.open(1, 3, 5, "/g", 0x200, Answer::Fd(1))?;
-    story.call(0, 6, 14, link(alloc)?, Answer::Failed(there))?;
-    story.call(1, 7, 13, Call::Fstat { fd: 0 }, Answer::Stat(stat(2)))?;
-    story.call(1, 15, 17, Call::Fstat { fd: 0 }, Answer::Stat(stat(1)))?;
-    story.acts(1, 0, 2, opened(0, 0))?;
-    story.acts(4, 1, 3, opened(1, 1))?;
-    story.acts(8, 2, 0, DONE)?;
-    story.step(9, 2, 0, Action::Bump, DONE)?;
-    story.acts(10, 3, 0, StepAnswer::Stat { stat: stat(2) })?;
-    story.step(11, 2, 0, enter(alloc)?, refused(there))?;
-    story.step(12, 2, 0, Action::Unbump, DONE)?;
-    story.acts(16, 4, 0, StepAnswer::Stat { stat: stat(1) })?;
+    story.call(1, (0, 2), open(alloc, "/f", 0x200)?, Answer::Fd(0))?;
+    story.call(1, (3, 5), open(alloc, "/g", 0x200)?, Answer::Fd(1))?;
+    story.call(0, (6, 14), link(alloc)?, Answer::Failed(there))?;
+    story.call(1, (7, 13), Call::Fstat { fd: 0 }, Answer::Stat(stat(2)))?;
+    story.call(1, (15, 17), Call::Fstat { fd: 0 }, Answer::Stat(stat(1)))?;
+    story.acts((1, 0, 2), opened(0, 0))?;
+    story.acts((4, 1, 3), opened(1, 1))?;
+    story.acts((8, 2, 0), DONE)?;
+    story.step((9, 2, 0), Action::Bump, DONE)?;
+    story.acts((10, 3, 0), StepAnswer::Stat { stat: stat(2) })?;
+    story.step((11, 2, 0), enter(alloc)?, refused(there))?;
+    story.step((12, 2, 0), Action::Unbump, DONE)?;
+    story.acts((16, 4, 0), StepAnswer::Stat { stat: stat(1) })?;
     Ok(story)
 }
 
-fn two_at_once(alloc: Global) -> Result<Story, NoMemory> {
+fn two_at_once(alloc: Global) -> Told<Story> {
     let mut story = Story::begin(alloc, 9);
     for hart in 0..2 {
         let path = bytes(alloc, b"/")?;
         let at = u64::from(hart);
-        story.done(hart, at + 2, at + 6, Call::Chdir { path })?;
+        story.done(hart, (at + 2, at + 6), Call::Chdir { path })?;
     }
-    story.acts(4, 0, 0, DONE)?;
-    story.acts(5, 1, 0, DONE)?;
+    story.acts((4, 0, 0), DONE)?;
+    story.acts((5, 1, 0), DONE)?;
     Ok(story)
 }
 
-fn without_room(alloc: Global) -> Result<Story, NoMemory> {
+fn without_room(alloc: Global) -> Told<Story> {
     let full = Full::Descriptors;
     let is_file = false;
     let mut story = Story::begin(alloc, 100);
     for fd in 0..16 {
         let id = fd as usize;
-        story.open(0, 0, 99, "", 0, Answer::Fd(fd))?;
-        story.acts(1, id, 0, StepAnswer::Opened { fd, id, is_file })?;
+        story.call(0, (0, 99), open(alloc, "", 0)?, Answer::Fd(fd))?;
+        story.acts((1, id, 0), StepAnswer::Opened { fd, id, is_file })?;
     }
-    story.open(0, 0, 99, "/f", 0x200, Answer::Full(full))?;
-    story.acts(1, 16, 2, StepAnswer::Full { full })?;
+    story.call(0, (0, 99), open(alloc, "/f", 0x200)?, Answer::Full(full))?;
+    story.acts((1, 16, 2), StepAnswer::Full { full })?;
     Ok(story)
 }
 
-fn doubled(alloc: Global) -> Result<Story, NoMemory> {
+fn doubled(alloc: Global) -> Told<Story> {
     let mut story = Story::begin(alloc, 10);
-    story.open(0, 0, 3, "/f", 0x602, Answer::Fd(0))?;
-    story.call(0, 4, 6, Call::Dup { fd: 0 }, Answer::Fd(1))?;
-    story.done(0, 7, 9, Call::Inherit { child: 1 })?;
-    story.acts(1, 0, 2, opened(0, 0))?;
-    story.step(2, 0, 0, Action::Truncate { fd: 0 }, DONE)?;
-    story.acts(5, 1, 0, StepAnswer::Fd { fd: 1 })?;
-    story.acts(8, 2, 0, DONE)?;
+    story.call(0, (0, 3), open(alloc, "/f", 0x602)?, Answer::Fd(0))?;
+    story.call(0, (4, 6), Call::Dup { fd: 0 }, Answer::Fd(1))?;
+    story.done(0, (7, 9), Call::Inherit { child: 1 })?;
+    story.acts((1, 0, 2), opened(0, 0))?;
+    story.step((2, 0, 0), Action::Truncate { fd: 0 }, DONE)?;
+    story.acts((5, 1, 0), StepAnswer::Fd { fd: 1 })?;
+    story.acts((8, 2, 0), DONE)?;
     Ok(story)
 }
 
-fn told(alloc: Global, run: Run) -> Result<Story, NoMemory> {
+fn told(alloc: Global, run: Run) -> Told<Story> {
     match run {
         Run::Nothing => Ok(Story::begin(alloc, 0)),
         Run::Pieces => pieces(alloc),
@@ -218,17 +230,18 @@ fn told(alloc: Global, run: Run) -> Result<Story, NoMemory> {
     }
 }
 
-fn changed(alloc: Global, run: Run, one: Change, two: Change) -> Result<bool, NoMemory> {
+fn changed(alloc: Global, run: Run, one: Change, two: Change) -> Told<bool> {
     let mut story = told(alloc, run)?;
     story.change(one)?;
     story.change(two)?;
     story.is_explained()
 }
 
-fn is_explained(alloc: Global, run: Run, one: Change, two: Change) -> Option<bool> {
+/// It is found out whether the list explains the run with these changes.
+fn says(alloc: Global, run: Run, one: Change, two: Change, wanted: bool) -> bool {
     match changed(alloc, run, one, two) {
-        Ok(is) => Some(is),
-        Err(NoMemory) => changed(alloc, run, one, two).ok(),
+        Ok(is) => is == wanted,
+        Err(NoMemory) => changed(alloc, run, one, two).ok() == Some(wanted),
     }
 }
 
@@ -245,20 +258,14 @@ fn explains_the_worked_runs(rt: HostRuntime) -> Result<(), Fail> {
         (Run::TwoAtOnce, 2),
         (Run::Doubled, 4),
     ] {
-        assert_eq!(rt;
-            is_explained(alloc, run, Change::Nothing, Change::Nothing),
-            Some(true)
-        );
+        assert!(rt; says(alloc, run, Change::Nothing, Change::Nothing, true));
         for place in 0..entries {
             for change in [
                 Change::Dropped(place),
                 Change::Answered(place),
                 Change::Doubled(place),
             ] {
-                assert_eq!(rt;
-                    is_explained(alloc, run, change, Change::Nothing),
-                    Some(false)
-                );
+                assert!(rt; says(alloc, run, change, Change::Nothing, false));
             }
         }
     }
@@ -307,10 +314,7 @@ fn keeps_entries_in_their_places(rt: HostRuntime) -> Result<(), Fail> {
         (Run::WithoutRoom, Change::Nothing, false),
         (Run::WithoutRoom, Change::Unfinished(16), true),
     ] {
-        assert_eq!(rt;
-            is_explained(alloc, run, change, Change::Nothing),
-            Some(wanted)
-        );
+        assert!(rt; says(alloc, run, change, Change::Nothing, wanted));
     }
     Ok(())
 }
@@ -321,10 +325,7 @@ fn keeps_replies(rt: HostRuntime) -> Result<(), Fail> {
     for call in 0..5 {
         for run in [Run::RefusedLink, Run::UnlinkedWhileLinked] {
             for change in [Change::Given(call), Change::Handed(call)] {
-                assert_eq!(rt;
-                    is_explained(alloc, run, change, Change::Nothing),
-                    Some(false)
-                );
+                assert!(rt; says(alloc, run, change, Change::Nothing, false));
             }
         }
     }
@@ -346,7 +347,7 @@ fn takes_a_beginning_of_what_is_under_way(rt: HostRuntime) -> Result<(), Fail> {
         (Run::TwoAtOnce, chdir, Change::At(1, 8), true),
         (Run::TwoAtOnce, chdir, Change::At(1, 9), false),
     ] {
-        assert_eq!(rt; is_explained(alloc, run, unfinished, change), Some(wanted));
+        assert!(rt; says(alloc, run, unfinished, change, wanted));
     }
     Ok(())
 }

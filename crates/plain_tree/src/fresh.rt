@@ -4,13 +4,13 @@ ghost use Rattle.plain_tree.specs.Fresh.{fresh_hart, fresh_root};
 
 use crate::act::slot;
 use crate::node::{Kind, Node, Slots};
-use crate::refused::NoMemory;
+use crate::refused::Attempt;
 use crate::tree::Hart;
 use crate::widths::{DESCRIPTOR_COUNT, DOT, DOTDOT, FRESH_SLOTS, ROOT};
 use std::alloc::Global;
 
 /// Adds so many places with nothing in them.
-fn push_absent<T: Drop>(places: &mut Vec<Option<T>>, count: usize) -> Result<(), NoMemory>
+fn push_absent<T: Drop>(places: &mut Vec<Option<T>>, count: usize) -> Attempt
     ensures { IfOk result (λ _. places.new.items ≡ places.old.items ++ replicate count None) }
 {
     for _ in 0..count {
@@ -19,7 +19,7 @@ fn push_absent<T: Drop>(places: &mut Vec<Option<T>>, count: usize) -> Result<(),
     Ok(())
 }
 
-fn fresh_root(alloc: Global) -> Result<Node, NoMemory>
+fn fresh_root(alloc: Global) -> Attempt<Node>
     ensures { IfOk result (λ v. v ≡ fresh_root) }
 {
     let mut slots = Vec::new(alloc);
@@ -34,7 +34,7 @@ fn fresh_root(alloc: Global) -> Result<Node, NoMemory>
 }
 
 /// The nodes of a fresh tree: the root alone.
-pub(crate) fn fresh_nodes(alloc: Global, ninodes: u16) -> Result<Vec<Option<Node>>, NoMemory>
+pub(crate) fn fresh_nodes(alloc: Global, ninodes: u16) -> Attempt<Vec<Option<Node>>>
     ensures { IfOk result (λ v. v.items ≡ None ∷ Some fresh_root ∷ replicate (ninodes - 2) None) }
 {
     let mut nodes = Vec::new(alloc);

@@ -4,7 +4,7 @@ ghost use Rattle.plain_tree.specs.Checked.{Leads, LeadsOn};
 ghost use Rattle.plain_tree.specs.Steps.{IsInPlace};
 ghost use Rattle.plain_tree.specs.Tree.{tree_of};
 
-use crate::refused::{ApplyRefused, NoMemory};
+use crate::refused::{ApplyRefused, Attempt, NoMemory};
 use crate::step::{StepAnswer, TreeStep};
 use crate::trace::Placed;
 use crate::tree::Tree;
@@ -26,7 +26,7 @@ impl Tree {
     }
 
     /// Makes the step, and says whether it leads on with that answer. Where it doesn't, the tree is of no account.
-    fn lead_on(&mut self, alloc: Global, entry: &Placed) -> Result<bool, NoMemory>
+    fn lead_on(&mut self, alloc: Global, entry: &Placed) -> Attempt<bool>
         ensures { IfOk result (λ b. LeadsOn b (tree_of self.old) entry.now.step entry.now.answer (tree_of self.new)) }
     {
         if !self.is_in_place(&entry.step) {
@@ -42,7 +42,7 @@ impl Tree {
 
 /// Each step leads on from the tree that the one before it left. The error is that of the copy, or of the first step
 /// that `apply` refuses with `NoMemory`.
-pub(crate) fn leads(alloc: Global, base: &Tree, list: &[Placed]) -> Result<bool, NoMemory>
+pub(crate) fn leads(alloc: Global, base: &Tree, list: &[Placed]) -> Attempt<bool>
     ensures { IfOk result (λ b. IsTrue b ↔ Leads (tree_of base.now) list.now) }
 {
     let mut tree = base.try_clone(alloc)?;

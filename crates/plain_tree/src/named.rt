@@ -6,7 +6,7 @@ ghost use Rattle.plain_tree.specs.Tree.{tree_of};
 
 use crate::look::number_of;
 use crate::node::{Kind, Node, Slot};
-use crate::refused::NoMemory;
+use crate::refused::{Attempt, NoMemory};
 use crate::tree::Tree;
 use crate::widths::ROOT;
 use std::alloc::Global;
@@ -37,7 +37,7 @@ fn new_among(slots: &[Option<Slot>], marks: &[bool]) -> Option<u16>
 }
 
 /// No marks, for so many numbers.
-fn no_marks(alloc: Global, count: usize) -> Result<Vec<bool>, NoMemory>
+fn no_marks(alloc: Global, count: usize) -> Attempt<Vec<bool>>
     ensures { IfOk result (λ v. v.items ≡ replicate count false) }
 {
     let mut marks = Vec::new(alloc);
@@ -76,7 +76,7 @@ impl Tree {
     }
 
     /// Marks on the numbers that a path from the root leads to.
-    fn reached(&self, alloc: Global) -> Result<Vec<bool>, NoMemory>
+    fn reached(&self, alloc: Global) -> Attempt<Vec<bool>>
         ensures { IfOk result (λ v. MarksAll (tree_of self.now) v.items) }
     {
         let mut marks = no_marks(alloc, self.ninodes())?;
@@ -89,7 +89,7 @@ impl Tree {
         Ok(marks)
     }
 
-    fn node_copy(&self, alloc: Global, number: usize) -> Result<Option<Node>, NoMemory>
+    fn node_copy(&self, alloc: Global, number: usize) -> Attempt<Option<Node>>
         ensures { IfOk result (λ v. v ≡ (tree_of self.now).nodes number) }
     {
         match self.node(number) {

@@ -6,6 +6,9 @@ use std::alloc::{AllocError, AllocFailed};
 #[derive(Clone, Copy, PartialEq, Eq, Debug)]
 pub struct NoMemory;
 
+/// What memory may be short for.
+pub(crate) type Attempt<T = ()> = Result<T, NoMemory>;
+
 impl From<AllocError> for NoMemory {
     fn from(_error: AllocError) -> NoMemory {
         NoMemory

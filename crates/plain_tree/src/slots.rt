@@ -5,7 +5,7 @@ ghost use Rattle.plain_tree.specs.Steps.{cleared, entries, entry_bytes, first_fr
 
 use crate::node::Slot;
 use crate::paths::same;
-use crate::refused::NoMemory;
+use crate::refused::Attempt;
 use crate::widths::{ENTRY_WIDTH, NAME_WIDTH};
 use std::alloc::Global;
 
@@ -23,7 +23,7 @@ fn free_slot(slots: &[Option<Slot>]) -> Option<usize>
 }
 
 /// Puts the slot into the first free place, else at the end.
-pub(crate) fn enter_slot(slots: &mut Vec<Option<Slot>>, slot: Slot) -> Result<(), NoMemory>
+pub(crate) fn enter_slot(slots: &mut Vec<Option<Slot>>, slot: Slot) -> Attempt
     ensures { MatchResult result (λ _. slots.new.items ≡ first_free slots.old.items slot) (λ _. slots.new.items ≡ slots.old.items) }
 {
     match free_slot(slots.as_slice()) {
@@ -65,7 +65,7 @@ pub(crate) fn clear_slot(slots: &mut Vec<Option<Slot>>, name: &[u8])
 }
 
 /// Appends zeros.
-fn push_zeros(out: &mut Vec<u8>, count: usize) -> Result<(), NoMemory>
+fn push_zeros(out: &mut Vec<u8>, count: usize) -> Attempt
     ensures { IfOk result (λ _. out.new.items ≡ out.old.items ++ replicate count 0) }
 {
     for _ in 0..count {
@@ -75,7 +75,7 @@ fn push_zeros(out: &mut Vec<u8>, count: usize) -> Result<(), NoMemory>
 }
 
 /// Appends the bytes of a slot: the number, low byte first, then the name, with zeros up to its width.
-fn push_entry(out: &mut Vec<u8>, slot: &Option<Slot>) -> Result<(), NoMemory>
+fn push_entry(out: &mut Vec<u8>, slot: &Option<Slot>) -> Attempt
     ensures { IfOk result (λ _. out.new.items ≡ out.old.items ++ entry_bytes slot.now) }
 {
     match slot {
@@ -91,7 +91,7 @@ fn push_entry(out: &mut Vec<u8>, slot: &Option<Slot>) -> Result<(), NoMemory>
 }
 
 /// The bytes of the slots.
-pub(crate) fn entries(alloc: Global, slots: &[Option<Slot>]) -> Result<Vec<u8>, NoMemory>
+pub(crate) fn entries(alloc: Global, slots: &[Option<Slot>]) -> Attempt<Vec<u8>>
     ensures { IfOk result (λ v. v.items ≡ entries slots.now) }
 {
     let mut out = Vec::new(alloc);

@@ -40,8 +40,8 @@ pub(crate) struct Story {
     pub(crate) events: u64,
 }
 
-/// Nothing, where there is memory for it.
-pub(crate) type Told = Result<(), NoMemory>;
+/// What is told, where there is memory for it.
+pub(crate) type Told<T = ()> = Result<T, NoMemory>;
 
 /// The answer that nothing has in these runs.
 const OTHER: Cause = Cause::NotDirectory;
@@ -51,12 +51,12 @@ pub(crate) fn opened(fd: u32, id: usize) -> StepAnswer {
     StepAnswer::Opened { fd, id, is_file }
 }
 
-pub(crate) fn bytes(alloc: Global, text: &[u8]) -> Result<Bytes, NoMemory> {
+pub(crate) fn bytes(alloc: Global, text: &[u8]) -> Told<Bytes> {
     Ok(Bytes::new(Vec::from_slice(alloc, text)?))
 }
 
 /// The first step of the call; all bytes of a write.
-fn first_step(call: &Call) -> Result<Action, NoMemory> {
+fn first_step(call: &Call) -> Told<Action> {
     Ok(match call.clone()? {
         Call::Open { path, flags } => Action::Open { path, flags },
         Call::Read { fd, buf } => Action::Read {
@@ -85,19 +85,12 @@ impl Story {
         }
     }
 
-    /// The next call, which handed back another one than it was given.
-    pub(crate) fn call_back(
-        &mut self,
-        hart: u8,
-        start: u64,
-        end: u64,
-        call: Call,
-        answer: Answer,
-        handed: Call,
-    ) -> Told {
+    /// The next call of the hart, from one event to the other, with its answer.
+    pub(crate) fn call(&mut self, hart: u8, life: (u64, u64), call: Call, answer: Answer) -> Told {
+        let (start, end) = life;
         let reply = Reply {
             answer,
-            call: handed,
+            call: call.clone()?,
         };
         let finished = Some((end, reply));
         self.calls.push(TracedCall {
@@ -109,46 +102,28 @@ impl Story {
         Ok(())
     }
 
-    /// The next call, with its answer.
-    pub(crate) fn call(
-        &mut self,
-        hart: u8,
-        start: u64,
-        end: u64,
-        call: Call,
-        answer: Answer,
-    ) -> Told {
-        let handed = call.clone()?;
-        self.call_back(hart, start, end, call, answer, handed)
+    /// The next call, which was done.
+    pub(crate) fn done(&mut self, hart: u8, life: (u64, u64), call: Call) -> Told {
+        self.call(hart, life, call, Answer::Done)
     }
 
-    /// A call on a path, which was done.
-    pub(crate) fn done(&mut self, hart: u8, start: u64, end: u64, call: Call) -> Told {
-        self.call(hart, start, end, call, Answer::Done)
+    /// The last call handed back another than it was given.
+    pub(crate) fn hands(&mut self, handed: Call) {
+        if let Some(traced) = self.calls.last_mut() {
+            if let Some((_, reply)) = &mut traced.finished {
+                reply.call = handed;
+            }
+        }
     }
 
-    pub(crate) fn open(
-        &mut self,
-        hart: u8,
-        start: u64,
-        end: u64,
-        path: &str,
-        flags: u32,
-        answer: Answer,
-    ) -> Told {
-        let path = bytes(self.alloc, path.as_bytes())?;
-        self.call(hart, start, end, Call::Open { path, flags }, answer)
-    }
-
-    /// The next entry, a step of the call's hart. `new` is the number of a new node.
+    /// The next entry, a step of the call's hart: at an event, of a call, with the number of a new node.
     pub(crate) fn step(
         &mut self,
-        event: u64,
-        call: usize,
-        new: u16,
+        at: (u64, usize, u16),
         action: Action,
         answer: StepAnswer,
     ) -> Told {
+        let (event, call, new) = at;
         let hart = self.calls.get(call).map_or(0, |traced| traced.hart);
         let step = TreeStep { hart, new, action };
         self.list.push(Placed {
@@ -161,10 +136,10 @@ impl Story {
     }
 
     /// The next entry, the call's first step.
-    pub(crate) fn acts(&mut self, event: u64, call: usize, new: u16, answer: StepAnswer) -> Told {
-        if let Some(traced) = self.calls.get(call) {
+    pub(crate) fn acts(&mut self, at: (u64, usize, u16), answer: StepAnswer) -> Told {
+        if let Some(traced) = self.calls.get(at.1) {
             let action = first_step(&traced.call)?;
-            self.step(event, call, new, action, answer)?;
+            self.step(at, action, answer)?;
         }
         Ok(())
     }
@@ -231,7 +206,7 @@ impl Story {
     }
 
     /// From a fresh tree of 200 numbers the list explains what the calls were told.
-    pub(crate) fn is_explained(self) -> Result<bool, NoMemory> {
+    pub(crate) fn is_explained(self) -> Told<bool> {
         let Story {
             alloc,
             calls,

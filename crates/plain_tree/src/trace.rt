@@ -39,14 +39,6 @@ impl Calls {
         Calls { items }
     }
 
-    /// The calls, given back. It takes no memory.
-    pub fn into_vec(self) -> Vec<TracedCall>
-        ensures { result.items ≡ self }
-    {
-        let Calls { items } = self;
-        items
-    }
-
     pub fn as_slice(&self) -> &[TracedCall]
         ensures { result.now ≡ self.now }
     {

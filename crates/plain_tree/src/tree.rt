@@ -8,7 +8,7 @@ ghost use Rattle.plain_tree.specs.Tree.{file_in, hart_at, put, tree_of};
 use crate::bytes::Bytes;
 use crate::fresh::{fresh_hart, fresh_nodes};
 use crate::node::{Kind, Node};
-use crate::refused::NoMemory;
+use crate::refused::{Attempt, NoMemory};
 use crate::widths::{DESCRIPTOR_COUNT, HART_COUNT, ROOT};
 use std::alloc::Global;
 use std::marker::Model;
@@ -225,7 +225,7 @@ impl Tree {
         alloc: Global,
         id: usize,
         file: OpenFile,
-    ) -> Result<Vec<OpenFileEntry>, NoMemory>
+    ) -> Attempt<Vec<OpenFileEntry>>
         requires { (tree_of self.now).files id ≡ None }
         ensures { IfOk result (λ v. HasFiles v.items (put (tree_of self.now).files id (Some file))) }
     {
