@@ -17,3 +17,4 @@ pub mod FileCounts
 pub mod Settling
 pub mod RowLemmas
 pub mod SettledSteps
+pub mod RowsStay

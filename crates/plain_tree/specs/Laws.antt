@@ -1,12 +1,13 @@
 -- What the definitions say of one another.
-use Rattle.std.specs.Prelude.{◌≡◌, ℕ, true, ◌⊎◌, Option, Some}
+use Rattle.std.specs.Prelude.{◌≡◌, ℕ, true, ◌⊎◌, ◌<◌, ◌≢◌, Option, Some, None}
 use Rattle.plain_tree.specs.declared.step.Action.{Action}
+use Rattle.plain_tree.specs.declared.step.Action.TheVariants.{Inherit}
 use Rattle.plain_tree.specs.declared.step.TreeStep.{TreeStep}
 use Rattle.plain_tree.specs.declared.step.StepAnswer.{StepAnswer}
 use Rattle.plain_tree.specs.Tree.{Name, Tree, any_below, is_named, look, settle}
 use Rattle.plain_tree.specs.Steps.{IsInPlace, IsLeastUnused, Step, StepWith, opens_one}
 use Rattle.plain_tree.specs.HartRow.{row_of, row_names}
-use Rattle.plain_tree.specs.Widths.{hart_count}
+use Rattle.plain_tree.specs.Widths.{hart_count, descriptor_count}
 use Rattle.plain_tree.specs.Applied.{applied, IsApplied, IsBadChoice}
 
 -- A step in its place, with a right number for a new node and the least unused id for a file that it opens, goes as it is applied.
@@ -24,6 +25,14 @@ SettlesOnce = (t : Tree) → settle (settle t) ≡ settle t
 -- A node is named where a hart's row names it.
 abbrev pub RowsName : Type 0
 RowsName = (t : Tree) (n : ℕ) → is_named t n ≡ any_below hart_count (λ h. row_names (row_of t h) n)
+
+-- each descriptor of the hart has its open file
+abbrev pub HasFiles : Tree → ℕ → Type 0
+HasFiles t g = (i id : ℕ) → g < hart_count → i < descriptor_count → t.fds g i ≡ Some id → t.files id ≢ None
+
+-- A step of one hart leaves the rows of the others, but that of an inherit's child.
+abbrev pub RowsStay : Type 0
+RowsStay = (t : Tree) (s : TreeStep) (a : StepAnswer) (t' : Tree) (g : ℕ) → Step t s a t' → g ≢ s.hart → (s.action ≡ Inherit g → ⊥) → HasFiles t g → row_of t' g ≡ row_of t g
 
 -- the node of that number stays where the tree settles
 abbrev pub Stays : Tree → ℕ → Type 0

@@ -1,5 +1,5 @@
 //! What the definitions say of one another.
-ghost use Rattle.plain_tree.specs.Laws.{AnswersAreSteps, AppliedIsAStep, RowsName, SettledSteps, SettlesOnce};
+ghost use Rattle.plain_tree.specs.Laws.{AnswersAreSteps, AppliedIsAStep, RowsName, RowsStay, SettledSteps, SettlesOnce};
 
 /// What is applied in its place, with a right choice and the least unused id for a file that it opens, is a tree step.
 pub fn applied_is_a_step()
@@ -24,4 +24,10 @@ pub fn rows_name()
 /// A step does to a settled tree what it does to the tree before it settled, where what the step asks for stays.
 pub fn settled_steps()
     ensures { SettledSteps }
+{}
+
+/// A step of one hart leaves the current directory, the hold and the descriptors of every other, with what they stand
+/// for; but an inherit's child takes over those of its hart.
+pub fn rows_stay()
+    ensures { RowsStay }
 {}
