@@ -82,6 +82,7 @@ impl Buffers {
         requires held { IsHeld self.old guard.old }
         requires unread { guard.old.value.content ≡ None }
         requires within { guard.old.value.block < length (D.contents device.old) }
+        ensures called { D.Called device.old device.new }
         ensures ok { OnOk result (guard.new ≡ record guard.old {
           value = record {
             block = guard.old.value.block;
@@ -240,6 +241,7 @@ fn fill_in<D: Device>(
     requires held { IsHeld seats.old.items guard.old }
     requires unread { guard.old.value.content ≡ None }
     requires within { guard.old.value.block < length (D.contents device.old) }
+    ensures called { D.Called device.old device.new }
     ensures ok { OnOk result (guard.new ≡ record guard.old {
       value = record {
         block = guard.old.value.block;

@@ -99,12 +99,13 @@ impl<D: Device> Cache<D> {
         self.buffers.get(hart, b)
     }
 
-    /// Reads the guard's block from the device into its buffer, which isn't valid. After a fault the guard and the
-    /// buffers are as they were.
+    /// Reads the guard's block from the device into its buffer, which isn't valid, by one call. After a fault the guard
+    /// and the buffers are as they were.
     pub fn fill(&mut self, guard: &mut Guard<Buffer>) -> Result<(), Fault>
         requires held { IsHeld self.old.seats guard.old }
         requires unread { guard.old.value.content ≡ None }
         requires within { guard.old.value.block < length (D.contents self.old.device) }
+        ensures called { D.Called self.old.device self.new.device }
         ensures filled { OnOk result (guard.new ≡ record guard.old {
           value = record {
             block = guard.old.value.block;
@@ -190,13 +191,14 @@ impl<D: Device> Cache<D> {
         self.buffers.set_pinned(b, false);
     }
 
-    /// Writes a guard's bytes, as they are seen, to its block on the device. A write that fails leaves the old block
-    /// there or the new one.
+    /// Writes a guard's bytes, as they are seen, to its block on the device, by one call. A write that fails leaves the
+    /// old block there or the new one.
     pub fn write_home(&mut self, guard: &Guard<Buffer>) -> Result<(), Fault>
         requires held { IsHeld self.old.seats guard.now }
         requires valid { IsSome guard.now.value.content }
         requires unchanged { IfSome guard.now.value.content (λ bytes. bytes ≡ seen D.contents self.old guard.now.value.block) }
         requires within { guard.now.value.block < length (D.contents self.old.device) }
+        ensures called { D.Called self.old.device self.new.device }
         ensures ok { OnOk result (D.contents self.new.device
             ≡ slice_set (D.contents self.old.device) guard.now.value.block (seen D.contents self.old guard.now.value.block)) }
         ensures err { OnErr result ((D.contents self.new.device ≡ D.contents self.old.device)
@@ -211,10 +213,11 @@ impl<D: Device> Cache<D> {
         self.device.write(buffer.block(), buffer.bytes())
     }
 
-    /// Writes a block that no buffer has. A write that fails leaves the old block there or the new one.
+    /// Writes a block that no buffer has, by one call. A write that fails leaves the old block there or the new one.
     pub fn write_uncached(&mut self, b: u32, bytes: &[u8; BLOCK_SIZE]) -> Result<(), Fault>
         requires uncached { seat_of b self.old.seats ≡ None }
         requires within { b < length (D.contents self.old.device) }
+        ensures called { D.Called self.old.device self.new.device }
         ensures ok { OnOk result (D.contents self.new.device ≡ slice_set (D.contents self.old.device) b bytes.now) }
         ensures err { OnErr result ((D.contents self.new.device ≡ D.contents self.old.device)
             ⊎ (D.contents self.new.device ≡ slice_set (D.contents self.old.device) b bytes.now)) }

@@ -122,6 +122,7 @@ impl Seat {
     pub fn read<D: Device>(&mut self, device: &mut D, b: u32) -> Result<(), Fault>
         requires unread { self.old.content ≡ None }
         requires within { b < length (D.contents device.old) }
+        ensures called { D.Called device.old device.new }
         ensures ok { OnOk result (self.new ≡ with_content (block_at (D.contents device.old) b) self.old) }
         ensures err { OnErr result (self.new ≡ self.old) }
         ensures contents { D.contents device.new ≡ D.contents device.old }

@@ -1,5 +1,5 @@
 // The steps of a commit.
-ghost use Rattle.std.specs.Prelude.{◌≡◌, ◌↔◌, ◌<◌, ◌≤◌, ℕ, List, length, IsTrue};
+ghost use Rattle.std.specs.Prelude.{◌≡◌, ◌≢◌, ◌↔◌, ◌<◌, ◌≤◌, ℕ, List, length, IsTrue};
 ghost use Rattle.buffer_cache.specs.Lists.{count_of};
 ghost use Rattle.buffer_cache.specs.Seats.{is_held_by, has_block, seen, KeepsHeld};
 ghost use Rattle.fs_layout.specs.Recovered.{IsOutsideLog};
@@ -41,6 +41,7 @@ pub(crate) fn write_next<D: Device>(
     requires ready { CanWrite (D.contents cache.old.device) cache.old.seats sizes.now group.now phase }
     ensures waits { (result ≡ Written.Waits) ↔ IsTrue (turn_is_out cache.old.seats group.now phase) }
     ensures same { (result ≡ Written.Waits) → cache.new ≡ cache.old }
+    ensures called { (result ≢ Written.Waits) → D.Called cache.old.device cache.new.device }
     ensures writes { Writes (D.contents cache.old.device) (write_to sizes.now group.now phase)
         (write_of (seen D.contents cache.old) group.now phase) result (D.contents cache.new.device) }
     ensures faults { D.failures cache.new.device ≡ faults_of result (D.failures cache.old.device) }

@@ -42,6 +42,7 @@ pub(crate) fn copy_to_log<D: Device>(cache: &mut Cache<D>, hart: u8, b: u32, at:
     requires within { at < length (D.contents cache.old.device) }
     ensures waits { (result ≡ Written.Waits) ↔ IsSome (holder_of b cache.old.seats) }
     ensures same { (result ≡ Written.Waits) → cache.new ≡ cache.old }
+    ensures called { (result ≢ Written.Waits) → D.Called cache.old.device cache.new.device }
     ensures writes { Writes (D.contents cache.old.device) at (seen D.contents cache.old b) result (D.contents cache.new.device) }
     ensures faults { D.failures cache.new.device ≡ faults_of result (D.failures cache.old.device) }
     ensures seats { cache.new.seats ≡ by_outcome result cache.old.seats (given_back b cache.old.seats) (given_back b cache.old.seats) }
@@ -63,6 +64,7 @@ fn write_copy<D: Device>(cache: &mut Cache<D>, guard: &Guard<Buffer>, at: u32) -
     requires valid { IsSome guard.now.value.content }
     requires uncached { seat_of at cache.old.seats ≡ None }
     requires within { at < length (D.contents cache.old.device) }
+    ensures called { D.Called cache.old.device cache.new.device }
     ensures ok { OnOk result (D.contents cache.new.device
         ≡ slice_set (D.contents cache.old.device) at (unwrap_or guard.now.value.content [])) }
     ensures err { OnErr result ((D.contents cache.new.device ≡ D.contents cache.old.device)
@@ -82,6 +84,7 @@ pub(crate) fn copy_home<D: Device>(cache: &mut Cache<D>, hart: u8, b: u32) -> Wr
     requires within { b < length (D.contents cache.old.device) }
     ensures waits { (result ≡ Written.Waits) ↔ IsSome (holder_of b cache.old.seats) }
     ensures same { (result ≡ Written.Waits) → cache.new ≡ cache.old }
+    ensures called { (result ≢ Written.Waits) → D.Called cache.old.device cache.new.device }
     ensures writes { Writes (D.contents cache.old.device) b (seen D.contents cache.old b) result (D.contents cache.new.device) }
     ensures faults { D.failures cache.new.device ≡ faults_of result (D.failures cache.old.device) }
     ensures seats { cache.new.seats
@@ -111,6 +114,7 @@ pub(crate) fn write_head<D: Device>(cache: &mut Cache<D>, start: u32, blocks: &[
     requires uncached { seat_of start cache.old.seats ≡ None }
     requires within { start < length (D.contents cache.old.device) }
     ensures ran { result ≢ Written.Waits }
+    ensures called { D.Called cache.old.device cache.new.device }
     ensures writes { Writes (D.contents cache.old.device) start (head_block blocks.now) result (D.contents cache.new.device) }
     ensures faults { D.failures cache.new.device ≡ faults_of result (D.failures cache.old.device) }
     ensures seats { cache.new.seats ≡ cache.old.seats }

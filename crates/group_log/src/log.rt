@@ -55,7 +55,7 @@ impl<D: Device> Model for Log<D> {
 
 impl<D: Device> Log<D> {
     ghost use Rattle.buffer_cache.specs.Getting.{get_of, IfHeld};
-    ghost use Rattle.buffer_cache.specs.Seats.{seen};
+    ghost use Rattle.buffer_cache.specs.Seats.{seen, IsSound};
     ghost use Rattle.group_log.specs.Group.{joined, has, with_block, HasRoom, IsMember, members_with};
     ghost use Rattle.group_log.specs.Phases.{write_to, write_of, next_phase, group_in, is_point, phase_at_leave};
     ghost use Rattle.group_log.specs.Soundness.{IsPlaced, IsHome, IsSoundLog, limit_of};
@@ -85,7 +85,10 @@ impl<D: Device> Log<D> {
     /// The device.
     pub fn device(&self) -> &D
         ensures device { result.now ≡ self.now.cache.device }
+
+        // What always holds of the log and of its cache.
         ensures sound { IsSoundLog (D.contents self.now.cache.device) self.now.cache.seats self.now.sizes self.now.group self.now.members self.now.phase }
+        ensures cache { IsSound (D.contents self.now.cache.device) self.now.cache.seats }
     {
         self.cache.device()
     }
@@ -193,14 +196,15 @@ impl<D: Device> Log<D> {
         requires room { has self.old.group guard.value.block ≡ false → HasRoom self.old.members txn.old }
         ensures txn { txn.new ≡ txn.old }
         ensures open { (self.old.phase ≡ Open) × (self.new.phase ≡ Open) }
-        ensures group { self.new.group ≡ with_block self.old.group guard.value.block }
-        ensures members { self.new.members ≡ members_with self.old.group guard.value.block self.old.members txn.old }
-        ensures sizes { self.new.sizes ≡ self.old.sizes }
-        ensures seats { IfSome guard.value.content (λ bytes. self.new.cache.seats
-            ≡ given_back guard.value.block (with_seat guard.value.block (with_content bytes)
-            (with_seat guard.value.block (with_pin true) self.old.cache.seats))) }
+        ensures records { IfSome guard.value.content (λ bytes. self.new ≡ record self.old {
+          cache = record self.old.cache {
+            seats = given_back guard.value.block (with_seat guard.value.block (with_content bytes)
+                (with_seat guard.value.block (with_pin true) self.old.cache.seats));
+          };
+          group = with_block self.old.group guard.value.block;
+          members = members_with self.old.group guard.value.block self.old.members txn.old;
+        }) }
         ensures others { KeepsOthers guard.value.block self.old.cache.seats self.new.cache.seats }
-        ensures device { self.new.cache.device ≡ self.old.cache.device }
         ensures seen { (k : ℕ) → seen D.contents self.new.cache k
             ≡ (if k == guard.value.block then unwrap_or guard.value.content [] else seen D.contents self.old.cache k) }
         ensures moves { IsMove D.contents false false self.old self.new }
@@ -246,6 +250,7 @@ impl<D: Device> Log<D> {
         requires begun { (self.old.phase ≢ Open) × (self.old.phase ≢ Halted) }
         ensures waits { (result ≡ Progress.Waits) ↔ IsTrue (turn_is_out self.old.cache.seats self.old.group self.old.phase) }
         ensures same { IfWaits result (self.new ≡ self.old) }
+        ensures called { (result ≢ Progress.Waits) → D.Called self.old.cache.device self.new.cache.device }
 
         // The write, and what follows it.
         ensures write { IfMade result (D.contents self.new.cache.device
@@ -264,6 +269,11 @@ impl<D: Device> Log<D> {
 
         // After a fault.
         ensures halted { IfFailed result (self.new.phase ≡ Halted) }
+        ensures stays { IfFailed result (self.new.group ≡ self.old.group) }
+        ensures torn { IfFailed result ((D.contents self.new.cache.device ≡ D.contents self.old.cache.device)
+            ⊎ (D.contents self.new.cache.device
+            ≡ slice_set (D.contents self.old.cache.device) (write_to self.old.sizes self.old.group self.old.phase)
+            (write_of (seen D.contents self.old.cache) self.old.group self.old.phase))) }
         ensures left { IfFailed result (self.new.cache.seats ≡ seats_at_fault self.old.group self.old.phase self.old.cache.seats) }
         ensures kept { IfFailed result (StaysOrBecomes self.old.sizes (recovered (D.contents self.old.cache.device))
             (λ b. if is_point (length self.old.group) self.old.phase then seen D.contents self.old.cache b
@@ -301,6 +311,7 @@ impl<D: Device> Log<D> {
         requires outside { IsOutsideLog self.old.sizes b }
         ensures gives { (self.new.cache.seats, result) ≡ get_of hart b self.old.cache.seats }
         ensures waits { (result ≡ Got.Waits) ↔ IsSome (holder_of b self.old.cache.seats) }
+        ensures same { (result ≡ Got.Waits) → self.new ≡ self.old }
         ensures held { IfHeld result (λ guard. (guard.hart ≡ hart) × (guard.value.block ≡ b) × IsHeld self.new.cache.seats guard) }
         ensures bytes { IfHeld result (λ guard. IfSome guard.value.content (λ bytes. bytes ≡ seen D.contents self.old.cache b)) }
         ensures others { KeepsHeld self.old.cache.seats self.new.cache.seats }
@@ -311,12 +322,13 @@ impl<D: Device> Log<D> {
         self.cache.get(hart, b)
     }
 
-    /// Reads the guard's block into its buffer (`Cache::fill`).
+    /// Reads the guard's block into its buffer, by one call of the device (`Cache::fill`).
     pub fn fill(&mut self, guard: &mut Guard<Buffer>) -> Result<(), Fault>
         requires held { IsHeld self.old.cache.seats guard.old }
         requires unread { guard.old.value.content ≡ None }
         requires within { guard.old.value.block < length (D.contents self.old.cache.device) }
         requires outside { IsOutsideLog self.old.sizes guard.old.value.block }
+        ensures called { D.Called self.old.cache.device self.new.cache.device }
         ensures filled { OnOk result (guard.new ≡ record guard.old {
           value = record {
             block = guard.old.value.block;

@@ -1,5 +1,5 @@
 //! A log over disks in memory: who waits, what a commit writes, and what a recovery makes of a fault.
-ghost use Rattle.std.specs.Prelude.{◌≡◌, [], IfOk};
+ghost use Rattle.std.specs.Prelude.{◌≡◌, ◌-◌, [], IfOk};
 ghost use Rattle.fs_layout.specs.Recovered.{logged};
 ghost use Rattle.group_log.specs.Soundness.{IsPlaced};
 
@@ -7,7 +7,7 @@ use arrayvec::ArrayVec;
 use block_device::{BLOCK_SIZE, Device, Fault, Fused, MemoryDisk};
 use buffer_cache::{BUFFERS_OF_A_HART, Buffers, Cache, Got, HARTS};
 use fs_layout::{Super, write_super};
-use group_log::{Left, Log, Phase, Progress, Txn};
+use group_log::{Left, Log, Marks, Phase, Progress, Txn};
 use image_tree::{MountFault, find_layout, recover};
 use std::alloc::{AllocError, Global};
 use std::process::Abort;
@@ -50,6 +50,8 @@ impl Device for Watched {
     ghost contents = { λ d. blocks_of d.disk.bytes };
 
     ghost failures = { λ d. d.disk.faults };
+
+    ghost Called = { λ old new. new.disk.left ≡ old.disk.left - 1 };
 
     ghost whole = { λ d. blocks_of-whole d.disk.bytes };
 
@@ -138,13 +140,17 @@ fn change<D: Device>(
     }
 }
 
+// One step of a commit.
+fn step<D: Device>(rt: &impl Abort, log: &mut Log<D>, hart: u8) -> Progress {
+    assert!(rt; hart < HARTS && log.held_by(hart) < BUFFERS_OF_A_HART);
+    assert!(rt; log.phase() != Phase::Open && log.phase() != Phase::Halted);
+    log.commit_step(hart)
+}
+
 // Makes the commit's steps to its end or to a fault, and counts the writes.
 fn commit<D: Device>(rt: &impl Abort, log: &mut Log<D>, hart: u8) -> (u64, Progress) {
-    assert!(rt; hart < HARTS);
     for made in 0..100u64 {
-        assert!(rt; log.phase() != Phase::Open && log.phase() != Phase::Halted);
-        assert!(rt; log.held_by(hart) < BUFFERS_OF_A_HART);
-        match log.commit_step(hart) {
+        match step(rt, log, hart) {
             Progress::Wrote => {}
             Progress::Ended => return (made + 1, Progress::Ended),
             Progress::Failed => return (made, Progress::Failed),
@@ -259,6 +265,51 @@ fn a_group_is_there_whole_or_not_at_all(rt: HostRuntime) -> Result<(), Fail> {
                 "block {b} after {writes} writes"
             );
         }
+    }
+    Ok(())
+}
+
+// The first commit begins with event 9, of ten, and ends. The second begins with event 19, and the device fails at each
+// of its four writes in turn: a copy, the head, the copy home, the empty head. Before that there were seven calls: the
+// superblock and the head were read, block 48, and the first commit's four writes.
+#[test]
+fn marks_say_which_commit_stands(rt: HostRuntime) -> Result<(), Fail> {
+    for (writes, cut, doubt) in [
+        (0u8, 10, None),
+        (1, 10, Some(20)),
+        (2, 20, None),
+        (3, 20, None),
+        (4, 20, None),
+    ] {
+        let disk = Fused::new(disk(&rt, rt.alloc(), &FRESH)?, 7 + u64::from(writes));
+        let mut log = open(&rt, rt.alloc(), disk)?;
+        let mut marks = Marks {
+            begun: 0,
+            cut: 0,
+            doubt: None,
+        };
+        for before in [9u8, 19] {
+            let mut txn = join(&rt, &mut log, 5).expect(&rt, "there is room");
+            assert_eq!(rt; change(&rt, &mut log, &mut txn, 48, before), Ok(()));
+            marks = marks.after_leave(u64::from(before), leave(&rt, &mut log, txn));
+            assert_eq!(rt; marks.begun, u64::from(before) + 1);
+            for _ in 0..4 {
+                if log.phase() != Phase::Halted {
+                    let at_point = log.is_at_point();
+                    marks = marks.after_write(at_point, step(&rt, &mut log, 5));
+                }
+            }
+        }
+        assert_eq!(rt; (marks.begun, marks.cut, marks.doubt), (20, cut, doubt));
+        let (_ended, _slots, disk) = log.retire();
+        let mut disk = disk.into_disk();
+        assert_eq!(rt; recover(&mut disk), Ok(()));
+        let byte = if writes < 2 { 9 } else { 19 };
+        assert_eq!(rt;
+            disk.into_bytes().get(48 * BLOCK_SIZE).copied(),
+            Some(byte),
+            "after {writes} writes"
+        );
     }
     Ok(())
 }

@@ -1,13 +1,14 @@
-use Rattle.std.proofs.Common.{◌≡◌, ◌≢◌, ◌⊎◌, ◌∙◌, ◌<◌, ap, sym, subst, ℕ, Some, true, false, arith}
+use Rattle.std.proofs.Common.{◌≡◌, ◌≢◌, ◌⊎◌, ◌∙◌, ◌<◌, ap, sym, subst, ℕ, List, Option, Some, None, IfSome, true, false, arith}
 use Rattle.std.specs.Option.{option_map}
 use Rattle.buffer_cache.specs.Buffers.{BufferState}
 use Rattle.buffer_cache.specs.Lists.{count_of}
-use Rattle.buffer_cache.specs.Seats.{is_pinned, seat_of, IsHeld}
+use Rattle.buffer_cache.specs.Seats.{SeatState, CacheState, is_pinned, seat_of, with_seat, with_content, with_pin, given_back, IsHeld}
 use Rattle.group_log.specs.declared.phase.Phase.{Phase}
 use Rattle.group_log.specs.declared.phase.Phase.TheVariants.{Open, Halted}
-use Rattle.group_log.specs.Group.{has, HasRoom, IsMember}
-use Rattle.group_log.specs.Soundness.{IsHome, IsSoundLog}
+use Rattle.group_log.specs.Group.{has, with_block, members_with, HasRoom, IsMember}
+use Rattle.group_log.specs.Soundness.{LogState, IsHome, IsSoundLog}
 use Rattle.group_log.proofs.Rooms.{member_below}
+use Rattle.group_log.proofs.Getting.{same_cache}
 use Rattle.group_log.proofs.Steps.{open_of}
 use Rattle.group_log.proofs.Recorded.{room_to_add, room_to_pin, pinned_by_pin, recorded_all}
 use Rattle.group_log.proofs.Moving.{open_move}
@@ -90,3 +91,36 @@ returns-clause-moves g c =
     open_move g.D.Device.contents c.args.self.now _ (ap (λ v. v.sizes) c.self.view_is)
     (ap g.D.Device.contents (c.release_changed.ensures.device ∙ c.pin.ensures.device) ∙ ap (λ v. g.D.Device.contents v.cache.device) c.self.view_is)
     (ap (λ v. v.phase) (sym c.self.view_is) ∙ is_open) is_open
+
+records_as : {D : Type 0} (v : LogState D) (z : CacheState D) (mid : List SeatState) (ks : List ℕ) (ms : List (Option ℕ)) (k b h hart : ℕ) (content : Option (List ℕ)) → k ≡ b → h ≡ hart
+    → z.device ≡ v.cache.device → mid ≡ with_seat k (with_pin true) v.cache.seats → IfSome content (λ bytes. z.seats ≡ given_back b (with_seat b (with_content bytes) mid))
+    → ks ≡ with_block v.group k → ms ≡ members_with v.group k v.members h
+    → IfSome content (λ bytes. record v { cache = z; group = ks; members = ms } ≡ record v {
+      cache = record v.cache { seats = given_back b (with_seat b (with_content bytes) (with_seat b (with_pin true) v.cache.seats)) };
+      group = with_block v.group b;
+      members = members_with v.group b v.members hart;
+    })
+records_as v z mid ks ms k b h hart None at own device pin seats group members = tt
+records_as v z mid ks ms k b h hart (Some bytes) at own device pin seats group members =
+    let after : List SeatState = given_back b (with_seat b (with_content bytes) (with_seat b (with_pin true) v.cache.seats)) in
+    let cache : z ≡ record v.cache { seats = after } =
+    same_cache z (record v.cache { seats = after }) device (seats ∙ ap (λ (ss : List SeatState). given_back b (with_seat b (with_content bytes) ss)) (pin ∙ ap (λ (j : ℕ). with_seat j (with_pin true) v.cache.seats) at)) in
+    let grown : ks ≡ with_block v.group b = group ∙ ap (λ (j : ℕ). with_block v.group j) at in
+    let counted : ms ≡ members_with v.group b v.members hart = members ∙ ap (λ (j : ℕ). members_with v.group j v.members h) at ∙ ap (λ (x : ℕ). members_with v.group b v.members x) own in
+    λ i. record v { cache = cache i; group = grown i; members = counted i }
+
+pub returns-clause-records : goal.returns-clause-records
+returns-clause-records g c =
+    let l = c.self.inside in
+    let b : c.block-b.result ≡ c.args.guard.value.block = c.block-b.ensures ∙ ap (λ (x : BufferState). x.block) c.value.ensures in
+    let z = c.release_changed.new.self in
+    let old : LogState g.row.D.Denot = record { cache = l.cache; sizes = l.sizes; group = l.group.items; members = l.members; phase = l.phase } in
+    let new : LogState g.row.D.Denot = record old { cache = z; group = c.add.new.group.items; members = c.add.new.members } in
+    subst (λ (v : LogState g.row.D.Denot). IfSome c.args.guard.value.content (λ bytes. new ≡ record v {
+      cache = record v.cache { seats = given_back c.args.guard.value.block (with_seat c.args.guard.value.block (with_content bytes) (with_seat c.args.guard.value.block (with_pin true) v.cache.seats)) };
+      group = with_block v.group c.args.guard.value.block;
+      members = members_with v.group c.args.guard.value.block v.members c.args.txn.now;
+    }))
+    c.self.view_is
+    (records_as old z c.pin.new.self.seats c.add.new.group.items c.add.new.members c.block-b.result c.args.guard.value.block c.hart.result c.args.txn.now c.args.guard.value.content
+    b c.hart.ensures (c.release_changed.ensures.device ∙ c.pin.ensures.device) c.pin.ensures.seats c.release_changed.ensures.seats c.add.ensures.group c.add.ensures.members)
