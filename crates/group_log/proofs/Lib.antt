@@ -12,4 +12,6 @@ pub mod Recorded
 pub mod Cuts
 pub mod Moving
 pub mod Stories
+pub mod Marked
+pub mod Whole
 pub mod Fresh

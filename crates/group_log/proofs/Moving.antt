@@ -15,7 +15,7 @@ use Rattle.group_log.specs.Phases.{is_point, next_phase, phase_at_leave}
 use Rattle.group_log.specs.Soundness.{LogState}
 use Rattle.group_log.specs.Waiting.{left_at, progress_at, IfWaits, IfMade, IfFailed, StaysOrBecomes}
 use Rattle.group_log.specs.CrashLaw.{Blocks, AgreeOutside, commit_cut, IsLoggedRun}
-use Rattle.group_log.specs.Moves.{recovered_of, seen_of, is_under_way, is_settled, is_running, IsMove, begins_at, Stands, IsCommitMove, IsRunOfLog, LogsStopAtACut}
+use Rattle.group_log.specs.Moves.{recovered_of, seen_of, is_under_way, is_settled, is_running, IsMove, begins_at, Stands, IsCommitMove, IsRunOfLog, LogsAreLoggedRuns, LogsStopAtACut, MovesCompose}
 use Rattle.group_log.proofs.Seats.{pick}
 use Rattle.group_log.proofs.Cuts.{stops_at_a_cut}
 
@@ -174,6 +174,9 @@ module _ {D : Type 0} (contents : D → List (List ℕ)) (n : ℕ) (states : ℕ
   stops : AgreeOutside (states 0).sizes (seen_of contents (states (commit_cut begins stands n))) (recovered_of contents (states n))
   stops = stops_at_a_cut (states 0).sizes n (λ i. seen_of contents (states i)) (λ i. recovered_of contents (states i)) (λ i. is_under_way (states i).phase) begins stands logged_run
 
+pub logs_are_logged_runs : {D : Type 0} (contents : D → List (List ℕ)) → LogsAreLoggedRuns contents
+logs_are_logged_runs contents n states begins stands run = logged_run contents n states begins stands run
+
 pub logs_stop_at_a_cut : {D : Type 0} (contents : D → List (List ℕ)) → LogsStopAtACut contents
 logs_stop_at_a_cut contents n states begins stands run = stops contents n states begins stands run
 
@@ -208,7 +211,7 @@ done_move contents old new p r sizes begun answer phase see becomes = record {
 }
 
 -- an event may make further calls before one
-pub then_move : {D : Type 0} (contents : D → List (List ℕ)) (stands : Bool) (first mid last : LogState D) → IsMove contents false false first mid → IsMove contents false stands mid last → IsMove contents false stands first last
+pub then_move : {D : Type 0} (contents : D → List (List ℕ)) → MovesCompose contents
 then_move contents stands first mid last a b = record {
   sizes = b.sizes ∙ a.sizes;
   becomes = λ k out.

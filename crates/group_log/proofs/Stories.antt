@@ -1,11 +1,10 @@
 -- What each call keeps of a history.
-use Rattle.std.proofs.Common.{◌≡◌, ◌⊎◌, inl, inr, ℕ, ◌+◌, ◌≤◌, ◌<◌, nat_lt, Bool, true, false, cond, if◌then◌else◌, List, [], ◌∷◌, ◌++◌, filter, Option, Some, None, refl, sym, ◌∙◌, ap, subst, arith, add-one, add-zero, zero, suc, length}
+use Rattle.std.proofs.Common.{◌≡◌, ◌⊎◌, inl, inr, ℕ, ◌+◌, ◌≤◌, ◌<◌, nat_lt, Bool, true, false, cond, if◌then◌else◌, List, [], ◌∷◌, ◌++◌, Option, Some, None, refl, sym, ◌∙◌, ap, subst, arith, add-one, add-zero, zero, suc, length}
 use Rattle.std.specs.List.{AllByRecursion}
 use Rattle.std.proofs.lemmas.Bool.{lt-ltb, le-ltb, ltb-false}
 use Rattle.std.proofs.lemmas.List.{append-nil}
 use Rattle.std.proofs.lemmas.List.Elements.{filter-append}
 use Rattle.fs_layout.specs.declared.superblock.Super.{Super}
-use Rattle.fs_layout.specs.Recovered.{IsOutsideLog}
 use Rattle.group_log.specs.declared.marks.Marks.{Marks}
 use Rattle.group_log.specs.declared.log.Left.{Left}
 use Rattle.group_log.specs.declared.log.Left.TheVariants.{Free, Commits}
@@ -16,16 +15,16 @@ use Rattle.group_log.specs.declared.commit.Progress.TheVariants.{Waits, Wrote, E
 use Rattle.group_log.specs.Phases.{is_point}
 use Rattle.group_log.specs.Soundness.{LogState}
 use Rattle.group_log.specs.CrashLaw.{Blocks, AgreeOutside}
-use Rattle.group_log.specs.Moves.{recovered_of, seen_of, is_under_way, is_settled, is_running, IsMove, begins_at, Stands, IsCommitMove}
-use Rattle.group_log.specs.Stories.{no_marks, after_leave, after_write, before, RisesBy, IsMarked, IsKept, Span, IsApart, AreWhole, Does, IsStory, Turns, IsSpanned}
+use Rattle.group_log.specs.Moves.{recovered_of, seen_of, is_under_way, is_settled, is_running, IsMove, begins_at, IsCommitMove}
+use Rattle.group_log.specs.Stories.{no_marks, after_leave, after_write, before, RisesBy, IsMarked, IsKept, Span, IsApart, AreWhole, IsStory, Turns, IsSpanned}
 use Rattle.group_log.proofs.Seats.{pick}
 use Rattle.group_log.proofs.Moving.{never}
 
-all_map : {X : Type 0} (P Q : X → Type 0) (xs : List X) → ((x : X) → P x → Q x) → AllByRecursion P xs → AllByRecursion Q xs
+pub all_map : {X : Type 0} (P Q : X → Type 0) (xs : List X) → ((x : X) → P x → Q x) → AllByRecursion P xs → AllByRecursion Q xs
 all_map P Q [] f h = tt
 all_map P Q (x ∷ xs) f h = (f x h.0, all_map P Q xs f h.1)
 
-all_join : {X : Type 0} (P : X → Type 0) (xs ys : List X) → AllByRecursion P xs → AllByRecursion P ys → AllByRecursion P (xs ++ ys)
+pub all_join : {X : Type 0} (P : X → Type 0) (xs ys : List X) → AllByRecursion P xs → AllByRecursion P ys → AllByRecursion P (xs ++ ys)
 all_join P [] ys h k = k
 all_join P (x ∷ xs) ys h k = (h.0, all_join P xs ys h.1 k)
 
@@ -202,19 +201,13 @@ module _ {D E : Type 0} (contents : D → List (List ℕ)) (number : E → ℕ) 
 
 -- ---- transactions
 
-marks_order : {D E : Type 0} (contents : D → List (List ℕ)) (number : E → ℕ) (sizes : Super) (Image : List E → Blocks → Type 0) (n : ℕ) (list : List E) (l : LogState D) (m : Marks) → IsKept contents number sizes Image n list l m → m.cut ≤ m.begun
-marks_order contents number sizes Image n list l m kept = kept.order
-
 module _ (n : ℕ) (m : Marks) (since : ℕ → Option ℕ) (ended : List Span) (whole : AreWhole n m since ended) where
   older : AllByRecursion (λ (s : Span). s.to < n + 1) ended
   older = all_map (λ (s : Span). s.to < n) (λ (s : Span). s.to < n + 1) ended (λ s lt. omega (arith, lt)) whole.past
 
-  pub whole_plain : AreWhole (n + 1) m since ended
-  whole_plain = record { running = whole.running; past = older; at_begun = whole.at_begun; at_cut = whole.at_cut; at_doubt = whole.at_doubt }
-
-  -- a hart joins in event n, or leaves and begins nothing, or leaves and begins a commit
-  pub whole_join : (hart : ℕ) (since' : ℕ → Option ℕ) → m.begun ≤ n → ((h from : ℕ) → since' h ≡ Some from → (from ≡ n) ⊎ (since h ≡ Some from)) → AreWhole (n + 1) m since' ended
-  whole_join hart since' le joins = record {
+  -- a transaction begins in event n, or none does
+  pub whole_join : (since' : ℕ → Option ℕ) → m.begun ≤ n → ((h from : ℕ) → since' h ≡ Some from → (from ≡ n) ⊎ (since h ≡ Some from)) → AreWhole (n + 1) m since' ended
+  whole_join since' le joins = record {
     running = λ h from is. elim (joins h from is) [ inl e ↦ omega (arith, e, le) | inr e ↦ whole.running h from e ];
     past = older;
     at_begun = whole.at_begun;
@@ -222,6 +215,7 @@ module _ (n : ℕ) (m : Marks) (since : ℕ → Option ℕ) (ended : List Span) 
     at_doubt = whole.at_doubt;
   }
 
+  -- one ends with it
   pub whole_leave : (hart from : ℕ) (since' : ℕ → Option ℕ) → m.cut ≤ m.begun → since hart ≡ Some from → ((h k : ℕ) → since' h ≡ Some k → since h ≡ Some k) → AreWhole (n + 1) m since' (record { from = from; to = n } ∷ ended)
   whole_leave hart from since' order was leaves = record {
     running = λ h k is. whole.running h k (leaves h k is);
@@ -230,25 +224,6 @@ module _ (n : ℕ) (m : Marks) (since : ℕ → Option ℕ) (ended : List Span) 
     at_cut = (inr (let a = whole.running hart from was in omega (arith, a, order)), whole.at_cut);
     at_doubt = whole.at_doubt;
   }
-
-  pub whole_begins : (hart from : ℕ) (since' : ℕ → Option ℕ) → m.cut ≤ m.begun → since hart ≡ Some from → m.doubt ≡ None → ((h k : ℕ) → since' h ≡ Some k → ⊥)
-      → AreWhole (n + 1) (record m { begun = n + 1 }) since' (record { from = from; to = n } ∷ ended)
-  whole_begins hart from since' order was none alone = record {
-    running = λ h k is. absurd (alone h k is);
-    past = (omega arith, older);
-    at_begun = (inl (omega arith), all_map (λ (s : Span). s.to < n) (λ (s : Span). IsApart (n + 1) s) ended (λ s lt. inl (omega (arith, lt))) whole.past);
-    at_cut = (inr (let a = whole.running hart from was in omega (arith, a, order)), whole.at_cut);
-    at_doubt = λ k is. absurd (cc (sym is ∙ none));
-  }
-
-  pub whole_write : (point : Bool) (r : Progress) → m.doubt ≡ None → AreWhole (n + 1) (after_write point r m) since ended
-  whole_write point Waits none = whole_plain
-  whole_write true Wrote none = record { running = whole.running; past = older; at_begun = whole.at_begun; at_cut = whole.at_begun; at_doubt = whole.at_doubt }
-  whole_write false Wrote none = whole_plain
-  whole_write true Ended none = record { running = whole.running; past = older; at_begun = whole.at_begun; at_cut = whole.at_begun; at_doubt = whole.at_doubt }
-  whole_write false Ended none = whole_plain
-  whole_write true Failed none = record { running = whole.running; past = older; at_begun = whole.at_begun; at_cut = whole.at_cut; at_doubt = λ k is. let e : m.begun ≡ k = cc is in sym e }
-  whole_write false Failed none = whole_plain
 
   -- so no mark stands within a transaction
   pub apart_at : (k : ℕ) → IsMarked m k → AllByRecursion (IsApart k) ended
@@ -392,7 +367,7 @@ module _ (n : ℕ) (m : Marks) (since : ℕ → Option ℕ) (ended : List Span) 
 
 turned : (n : ℕ) (m : Marks) (since since' : ℕ → Option ℕ) (ended ended' : List Span) → m.cut ≤ m.begun → m.begun ≤ n → AreWhole n m since ended → Turns n since since' ended ended' → AreWhole (n + 1) m since' ended'
 turned n m since since' ended ended' order past whole turns = elim turns [
-  | inl t ↦ subst (λ (l : List Span). AreWhole (n + 1) m since' l) (sym t.0) (whole_join n m since ended whole 0 since' past t.1)
+  | inl t ↦ subst (λ (l : List Span). AreWhole (n + 1) m since' l) (sym t.0) (whole_join n m since ended whole since' past t.1)
   | inr t ↦ subst (λ (l : List Span). AreWhole (n + 1) m since' l) (sym t.3) (whole_leave n m since ended whole t.0 t.1 since' order t.2 t.4)
 ]
 

@@ -8,3 +8,4 @@ pub mod Waiting
 pub mod CrashLaw
 pub mod Moves
 pub mod Stories
+pub mod Whole

@@ -12,7 +12,7 @@ use Rattle.group_log.specs.Group.{joined}
 use Rattle.group_log.specs.Phases.{is_point}
 use Rattle.group_log.specs.Soundness.{LogState}
 use Rattle.group_log.specs.Waiting.{IfFailed}
-use Rattle.group_log.specs.CrashLaw.{Blocks, AgreeOutside, commit_cut}
+use Rattle.group_log.specs.CrashLaw.{Blocks, AgreeOutside, commit_cut, IsLoggedRun}
 
 -- what recovery would make of a log's disk, and what is seen
 abbrev pub recovered_of : {D : Type 0} → (D → List (List ℕ)) → LogState D → Blocks
@@ -83,7 +83,17 @@ pub record IsRunOfLog {D : Type 0} (contents : D → List (List ℕ)) (n : ℕ) 
   pub idle : (states 0).phase ≡ Open
   pub calls : (i : ℕ) → i < n → IsMove contents (begins i) (stands i) (states i) (states (i + 1))
 
+-- these are a run that the crash law speaks of
+abbrev pub LogsAreLoggedRuns : {D : Type 0} → (D → List (List ℕ)) → Type 0
+LogsAreLoggedRuns {D} contents = (n : ℕ) (states : ℕ → LogState D) (begins stands : ℕ → Bool) → IsRunOfLog contents n states begins stands
+    → IsLoggedRun (states 0).sizes n (λ i. seen_of contents (states i)) (λ i. recovered_of contents (states i)) (λ i. is_under_way (states i).phase) begins stands
+
 -- after any calls recovery makes what was seen at the leave that began the last commit whose head has stood
 abbrev pub LogsStopAtACut : {D : Type 0} → (D → List (List ℕ)) → Type 0
 LogsStopAtACut {D} contents = (n : ℕ) (states : ℕ → LogState D) (begins stands : ℕ → Bool) → IsRunOfLog contents n states begins stands
     → AgreeOutside (states 0).sizes (seen_of contents (states (commit_cut begins stands n))) (recovered_of contents (states n))
+
+-- calls that neither begin a commit nor write, and then one that may write, are together as one
+abbrev pub MovesCompose : {D : Type 0} → (D → List (List ℕ)) → Type 0
+MovesCompose {D} contents = (stands : Bool) (first mid last : LogState D) → IsMove contents false false first mid → IsMove contents false stands mid last
+    → IsMove contents false stands first last

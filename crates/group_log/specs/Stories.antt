@@ -11,7 +11,7 @@ use Rattle.group_log.specs.declared.phase.Phase.TheVariants.{Open}
 use Rattle.group_log.specs.Group.{joined}
 use Rattle.group_log.specs.Phases.{is_point}
 use Rattle.group_log.specs.Soundness.{LogState}
-use Rattle.group_log.specs.CrashLaw.{Blocks}
+use Rattle.group_log.specs.CrashLaw.{Blocks, AgreeOutside}
 use Rattle.group_log.specs.Moves.{recovered_of, seen_of, is_under_way, is_settled, is_running, IsMove, begins_at, IsCommitMove}
 
 -- before the first event
@@ -110,3 +110,36 @@ pub record IsSpanned {D : Type 0} (n : ℕ) (logs : ℕ → LogState D) (since :
   pub turns : (i : ℕ) → i < n → Turns i (since i) (since (i + 1)) (ended i) (ended (i + 1))
   -- where one runs, a hart is in a transaction of the log
   pub joins : (i : ℕ) → i ≤ n → (h from : ℕ) → since i h ≡ Some from → 0 < joined (logs i).members
+
+-- ---- what marks tell
+
+-- The states of a machine over a log, after 0 events and on, up to n, and the marks that it keeps.
+pub record IsMarkedRun {D : Type 0} (contents : D → List (List ℕ)) (n : ℕ) (logs : ℕ → LogState D) (marks : ℕ → Marks) : Type 0 where
+  pub fresh : AgreeOutside (logs 0).sizes (seen_of contents (logs 0)) (recovered_of contents (logs 0))
+  pub idle : (logs 0).phase ≡ Open
+  pub unmarked : marks 0 ≡ no_marks
+  pub does : (i : ℕ) → i < n → Does contents i (logs i) (logs (i + 1)) (marks i) (marks (i + 1))
+
+-- After any event recovery makes what was seen after the first k of them, where a mark says k; and as long as the log isn't halted it is the cut.
+pub record IsMarkedStop {D : Type 0} (contents : D → List (List ℕ)) (logs : ℕ → LogState D) (i : ℕ) (m : Marks) : Type 0 where
+  pub k : ℕ
+  pub marked : IsMarked m k
+  pub past : k ≤ i
+  pub seen : AgreeOutside (logs 0).sizes (seen_of contents (logs k)) (recovered_of contents (logs i))
+  pub certain : is_running (logs i).phase ≡ true → k ≡ m.cut
+
+abbrev pub MarksTellStops : {D : Type 0} → (D → List (List ℕ)) → Type 0
+MarksTellStops {D} contents = (n : ℕ) (logs : ℕ → LogState D) (marks : ℕ → Marks) → IsMarkedRun contents n logs marks
+    → (i : ℕ) → i ≤ n → IsMarkedStop contents logs i (marks i)
+
+-- Event i is a leave that began a commit. Once the log has come to a settled phase behind it, the cut has that leave, then and later: so it is
+-- when its hart replies.
+abbrev pub CutsHaveReplies : {D : Type 0} → (D → List (List ℕ)) → Type 0
+CutsHaveReplies {D} contents = (n : ℕ) (logs : ℕ → LogState D) (marks : ℕ → Marks) → IsMarkedRun contents n logs marks
+    → (i later more : ℕ) → (marks (i + 1)).begun ≡ i + 1 → i + 1 + later + more ≤ n → is_settled (logs (i + 1 + later)).phase ≡ true → i < (marks (i + 1 + later + more)).cut
+
+-- a mark stands within no transaction that has ended, and those that run began behind it
+abbrev pub NoneIsMarkedInPart : {D : Type 0} → (D → List (List ℕ)) → Type 0
+NoneIsMarkedInPart {D} contents = (n : ℕ) (logs : ℕ → LogState D) (marks : ℕ → Marks) (since : ℕ → ℕ → Option ℕ) (ended : ℕ → List Span)
+    → IsMarkedRun contents n logs marks → IsSpanned n logs since ended → (i : ℕ) → i ≤ n → (k : ℕ) → IsMarked (marks i) k
+    → AllByRecursion (IsApart k) (ended i) × ((h from : ℕ) → since i h ≡ Some from → k ≤ from)

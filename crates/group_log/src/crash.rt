@@ -1,6 +1,8 @@
 // A stop at any event.
 ghost use Rattle.group_log.specs.CrashLaw.{StopsAtACut};
-ghost use Rattle.group_log.specs.Moves.{LogsStopAtACut};
+ghost use Rattle.group_log.specs.Moves.{LogsAreLoggedRuns, LogsStopAtACut, MovesCompose};
+ghost use Rattle.group_log.specs.Stories.{CutsHaveReplies, MarksTellStops, NoneIsMarkedInPart};
+ghost use Rattle.group_log.specs.Whole.{CallsKeepWhole};
 
 use block_device::Device;
 
@@ -11,7 +13,28 @@ pub fn stops_at_a_cut()
     ensures { StopsAtACut }
 {}
 
-/// The same of the states of a log over any device, where each call led from one to the next.
+/// The same of the states of a log over any device from `Log::new` on, where each call led from one to the next: they
+/// are such a run.
 pub fn logs_stop_at_a_cut<D: Device>()
-    ensures { LogsStopAtACut D.contents }
+    ensures runs { LogsAreLoggedRuns D.contents }
+    ensures stops { LogsStopAtACut D.contents }
+{}
+
+/// An event of a machine over a log may make several calls of it.
+pub fn moves_compose<D: Device>()
+    ensures { MovesCompose D.contents }
+{}
+
+/// After any events of a machine over a log that keeps marks, recovery makes what was seen after as many events as a
+/// mark says; what a hart committed is below the cut when it replies; and no transaction is there in part.
+pub fn marks_tell_stops<D: Device>()
+    ensures stops { MarksTellStops D.contents }
+    ensures replies { CutsHaveReplies D.contents }
+    ensures whole { NoneIsMarkedInPart D.contents }
+{}
+
+/// Every call of the log keeps, where it may be made, what always holds of the log and of its cache, also where the
+/// device fails.
+pub fn calls_keep_whole()
+    ensures { CallsKeepWhole }
 {}

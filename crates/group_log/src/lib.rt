@@ -17,7 +17,9 @@ mod phase;
 mod txn;
 
 pub use commit::Progress;
-pub use crash::{logs_stop_at_a_cut, stops_at_a_cut};
+pub use crash::{
+    calls_keep_whole, logs_stop_at_a_cut, marks_tell_stops, moves_compose, stops_at_a_cut,
+};
 pub use limits::{BLOCKS_OF_A_TRANSACTION, MOST_LOGGED};
 pub use log::{Left, Log};
 pub use marks::Marks;

@@ -1,0 +1,5 @@
+use Rattle.group_log.proofs.Whole.{calls_keep_whole}
+use Rattle.group_log.proofs.crash.calls_keep_whole.Goals as goal
+
+pub returns : goal.returns
+returns c = calls_keep_whole
