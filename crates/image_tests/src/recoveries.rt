@@ -1,7 +1,8 @@
 //! Recovery that is stopped at each call of the device in turn.
 use crate::images::{examine, fresh};
-use block_device::{Fused, MemoryDisk};
-use image_tree::{Damage, MountFault, Shape, recover};
+use block_device::{Device, Fused, MemoryDisk};
+use image_tree::{Damage, MountFault, Shape, recover, recovered_tree};
+use plain_tree::{Kind, Tree};
 use std::alloc::{AllocError, Global};
 use std::test::Fail;
 
@@ -75,6 +76,40 @@ fn recovery_goes_on_where_it_stopped(rt: HostRuntime) -> Result<(), Fail> {
                 "byte {at} after {calls} calls"
             );
         }
+    }
+    Ok(())
+}
+
+// Recovers, and makes the tree, once more where memory was refused.
+fn tree_after<D: Device>(alloc: Global, device: &mut D) -> Result<Tree, MountFault> {
+    match recovered_tree(alloc, device) {
+        Err(MountFault::NoMemory) => recovered_tree(alloc, device),
+        tree => tree,
+    }
+}
+
+// Recovery makes nine calls; a tree is asked for after a stop at each of them.
+#[test]
+fn the_tree_is_there_after_any_stop(rt: HostRuntime) -> Result<(), Fail> {
+    for calls in 0..10u64 {
+        let mut disk = Fused::new(logged(rt.alloc())?, calls);
+        match tree_after(rt.alloc(), &mut disk) {
+            Err(fault) => assert_eq!(rt; fault, MountFault::DeviceFault, "after {calls} calls"),
+            Ok(_) => return Err(Fail::new("the device failed")),
+        }
+        let mut disk = disk.into_disk();
+        let Ok(tree) = tree_after(rt.alloc(), &mut disk) else {
+            return Err(Fail::new("no tree"));
+        };
+        let Some(root) = tree.node(1) else {
+            return Err(Fail::new("no root"));
+        };
+        assert_eq!(rt; root.count, 1);
+        let Kind::Directory { slots } = &root.kind else {
+            return Err(Fail::new("the root is no directory"));
+        };
+        assert_eq!(rt; slots.as_slice().len(), 64);
+        assert_eq!(rt; byte_at(&disk.into_bytes(), HEAD), Some(0));
     }
     Ok(())
 }

@@ -1,7 +1,7 @@
 -- The checks see the recovered blocks outside the log alone.
-use Rattle.std.proofs.Common.{◌≡◌, ◌≢◌, ◌⊎◌, inl, inr, ℕ, zero, suc, ◌+◌, ◌-◌, ◌/◌, ◌%◌, ◌*◌, ◌<◌, ◌≤◌, ◌==◌, nat_lt, ◌&&◌, not, ℤ, pos, negsuc, ◌<ℤ◌, Bool, true, false, if◌then◌else◌, List, [], ◌∷◌, ◌++◌, length, get_or, slice_index, slice_index_or, take, drop, filter, Option, Some, None, map, replicate, refl, sym, ◌∙◌, ap, subst, arith, length-append}
+use Rattle.std.proofs.Common.{◌≡◌, ◌≢◌, inl, inr, ℕ, zero, suc, ◌+◌, ◌-◌, ◌/◌, ◌%◌, ◌<◌, ◌≤◌, ◌==◌, nat_lt, ◌&&◌, not, ℤ, pos, negsuc, ◌<ℤ◌, Bool, true, false, if◌then◌else◌, List, [], ◌∷◌, ◌++◌, length, slice_index, slice_index_or, take, drop, filter, Option, Some, None, map, replicate, refl, sym, ◌∙◌, ap, subst, arith, length-append}
 use Rattle.std.specs.List.{All}
-use Rattle.std.proofs.lemmas.Bool.{cases_eq, cases_lt, and_parts, eqb-true, ltb-true, lt-ltb}
+use Rattle.std.proofs.lemmas.Bool.{cases_eq, cases_lt, and_parts, eqb-true, ltb-true}
 use Rattle.std.proofs.lemmas.List.{get_or_append_left, get_or_past}
 use Rattle.fs_layout.specs.declared.superblock.Super.{Super}
 use Rattle.fs_layout.specs.declared.inode.Dinode.{Dinode}
@@ -10,11 +10,11 @@ use Rattle.fs_layout.specs.Bits.{bit_of}
 use Rattle.fs_layout.specs.Indirect.{numbers_in}
 use Rattle.fs_layout.specs.Inode.{dinode_at}
 use Rattle.fs_layout.specs.Entry.{dirent_at}
-use Rattle.fs_layout.specs.Widths.{inodes_per_block, dirents_per_block, dirent_len, block_len}
+use Rattle.fs_layout.specs.Widths.{inodes_per_block, dirents_per_block, dirent_len}
 use Rattle.fs_layout.specs.Recovered.{recovered, sizes_of, IsOutsideLog}
 use Rattle.image_tree.specs.Lists.{IsOnce, gathered, times}
-use Rattle.image_tree.specs.Inodes.{inode_of, last, is_number, is_free, is_directory, is_live, is_node, is_live_directory, direct, numbers_of, block_number, content_block, numbers_by, named_by, is_block, front_blocks, content_of, blocks_for, slot_at, first_slots, slots_of}
-use Rattle.image_tree.specs.Links.{slots_in, slot_numbers, number_in, up, further_in, proper_in, parent_of, named_in, names_of, further_names_of, proper_names_of, children_of, Reaches}
+use Rattle.image_tree.specs.Inodes.{inode_of, is_number, is_free, is_directory, is_live, is_node, is_live_directory, direct, numbers_of, block_number, content_block, numbers_by, named_by, is_block, front_blocks, content_of, blocks_for, slot_at, first_slots, slots_of}
+use Rattle.image_tree.specs.Links.{slots_in, slot_numbers, number_in, up, names_of, further_names_of, proper_names_of, children_of, Reaches}
 use Rattle.image_tree.specs.Checks.{IsGoodType, IsData, is_marked, IsGoodSize, AreGoodSlots, IsOneTree, IsGoodCount, HasMarks, HasGoodTypes, HasRoot, HasGoodNumbers, NamesOnce, HasGoodSizes, HasGoodSlots, HasGoodCounts}
 use Rattle.image_tree.specs.Damage.{IsWellFormed, UpToLog}
 use Rattle.image_tree.specs.Views.{IsViewOf, ChecksSeeRecovered, TreesSeeRecovered}

@@ -270,8 +270,8 @@ fn a_group_is_there_whole_or_not_at_all(rt: HostRuntime) -> Result<(), Fail> {
 }
 
 // The first commit begins with event 9, of ten, and ends. The second begins with event 19, and the device fails at each
-// of its four writes in turn: a copy, the head, the copy home, the empty head. Before that there were seven calls: the
-// superblock and the head were read, block 48, and the first commit's four writes.
+// of its four writes in turn: a copy, the head, the copy home, the empty head. Before that there were nine calls: four read
+// the superblock and the head, one block 48, and four are the first commit's writes.
 #[test]
 fn marks_say_which_commit_stands(rt: HostRuntime) -> Result<(), Fail> {
     for (writes, cut, doubt) in [
@@ -281,7 +281,7 @@ fn marks_say_which_commit_stands(rt: HostRuntime) -> Result<(), Fail> {
         (3, 20, None),
         (4, 20, None),
     ] {
-        let disk = Fused::new(disk(&rt, rt.alloc(), &FRESH)?, 7 + u64::from(writes));
+        let disk = Fused::new(disk(&rt, rt.alloc(), &FRESH)?, 9 + u64::from(writes));
         let mut log = open(&rt, rt.alloc(), disk)?;
         let mut marks = Marks {
             begun: 0,

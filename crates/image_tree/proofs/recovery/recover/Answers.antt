@@ -1,6 +1,4 @@
 use Rattle.std.proofs.Common.{◌≡◌, subst, ℕ, List}
-use Rattle.image_tree.specs.Damage.{IsWellFormed}
-use Rattle.image_tree.specs.Trees.{tree_in}
 use Rattle.image_tree.specs.Views.{IsViewOf}
 use Rattle.image_tree.proofs.Views.{checks_see_recovered, trees_see_recovered}
 use Rattle.image_tree.proofs.recovery.recover.Goals as goal
