@@ -1,0 +1,18 @@
+-- The superblock and the log's head of a log's disk.
+use Rattle.std.specs.Prelude.{ℕ, ◌<◌, ◌^◌, List, Option, length}
+use Rattle.fs_layout.specs.declared.superblock.Super.{Super}
+use Rattle.fs_layout.specs.Recovered.{sizes_of}
+use Rattle.buffer_cache.specs.Seats.{SeatState}
+use Rattle.group_log.specs.declared.phase.Phase.{Phase}
+use Rattle.group_log.specs.Soundness.{IsPlaced, IsSoundLog}
+use Rattle.image_tree.specs.Checks.{IsGoodSuper}
+use Rattle.image_tree.specs.Damage.{UpToLog}
+
+-- whatever it was doing, the disk of a log passes the checks up to the log's, where its sizes are those of a good superblock
+abbrev pub LogsLeaveGoodHeads : Type 0
+LogsLeaveGoodHeads = (disk : List (List ℕ)) (seats : List SeatState) (sizes : Super) (group : List ℕ) (members : List (Option ℕ)) (phase : Phase)
+    → IsSoundLog disk seats sizes group members phase → IsGoodSuper sizes → UpToLog disk
+
+-- a disk that passes them is one that a log may stand on
+abbrev pub LogsMayBegin : Type 0
+LogsMayBegin = (disk : List (List ℕ)) → UpToLog disk → length disk < 2 ^ 32 → IsPlaced disk (sizes_of disk)
