@@ -1,9 +1,9 @@
 -- What a start reserves is reserved in both worlds, and its call is a run of its operations above.
-use Rattle.std.proofs.Common.{◌≡◌, ◌≢◌, ◌<◌, ◌+◌, ◌⊎◌, inl, inr, ℕ, Bool, true, false, Option, Some, None, List, [], refl, sym, ◌∙◌, ap, subst, arith}
+use Rattle.std.proofs.Common.{◌≡◌, ◌≢◌, ◌<◌, ◌+◌, ◌⊎◌, inl, inr, ℕ, Bool, true, false, Option, Some, None, List, [], ◌∷◌, refl, sym, ◌∙◌, ap, subst, arith}
 use Rattle.std.specs.Prelude.{nat_eq}
-use Rattle.std.proofs.lemmas.Bool.{eqb-false, ne_eqb}
+use Rattle.std.proofs.lemmas.Bool.{eqb-false, eq-eqb, ne_eqb}
 use Rattle.atomic_programs.specs.Prog.{Ret, once, unmarked, Stops, did_in}
-use Rattle.atomic_programs.specs.Logic.{Machine, Fine, Wp, Safe, Laws}
+use Rattle.atomic_programs.specs.Logic.{onto, own, Machine, Fine, Wp, Safe, Laws}
 use Rattle.atomic_programs.specs.Calls.{Began, Begins, Begun, Ends, Right, Lawful, Event, AllHonest, run, fresh}
 use Rattle.atomic_programs.specs.Explained.{Explained}
 use Rattle.atomic_programs.specs.Operations.{IsCore, operations}
@@ -365,6 +365,43 @@ module _ (h : ℕ) where
   atomic : (op : Op) (m : Answer op → Option (Unit {0})) → Atomic U low handler h op m
   atomic (Give j) m = give_atomic j m
   atomic (Free j) m = free_atomic j m
+
+-- A gift's program below places the gift, and nothing else, between its first step and its last.
+module _ (h j : ℕ) (m : Unit {0} → Option (Unit {0})) where
+  abbrev Gift : E h → Type 0
+  Gift fs = fs ≡ (Give j, tt) ∷ []
+
+  own_gift : ◌≡◌ {A = E h} (own h ((h, (Give j, tt)) ∷ [])) ((Give j, tt) ∷ [])
+  own_gift = rw (eq-eqb h h refl) refl
+
+  no_gift : (g : ℕ) → g ≢ h → ◌≡◌ {A = E h} (own g ((h, (Give j, tt)) ∷ [])) []
+  no_gift g ne = rw (ne_eqb h g (λ q. ne (sym q))) refl
+
+  gift_fine : (v : World) → v.ward j ≡ Some h → Fine (U h) h ((h, (Give j, tt)) ∷ []) 1 2 Gift [] v (record v { purse = given h j v.purse }) (λ l. Gift (onto (own h ((h, (Give j, tt)) ∷ [])) []))
+  gift_fine v ward =
+      record {
+        inv = tt;
+        kept = λ g ne. (no_gift g ne, ([], (refl, did_mine h j v (record v { purse = given h j v.purse }) (did_fill h j (v.purse h) v ward) g ne)));
+        goes = λ y. (given h j v.purse, (tt, tt, tt, refl), refl);
+        clean = λ y. tt;
+        begun = λ y. inr (ap (λ (zs : E h). onto zs []) own_gift);
+        left = 0;
+        falls = omega arith;
+        next = ap (λ (zs : E h). onto zs []) own_gift;
+      }
+
+  pub gives_once : (w : W h) → w.seen.ward j ≡ Some h → w.seen.ward h ≡ None → Base h w.real w.seen → Wp (D h) h Gift (λ a fs u. Gift fs × Base h u.real u.seen) (handler (Give j) m) 2 [] w
+  gives_once w ward self base =
+      give_atomic h j m Gift (λ a fs u. Gift fs) [] w
+      (λ a fs xs v u o i c. ((λ y. inl o.0), subst (λ (zs : E h). Gift (onto zs fs)) (sym o.0) c))
+      (λ v xs o i.
+      let is = ward_stays h j w.seen v o.1.1.1 ward in (
+        (λ y. inl o.0),
+        (is.0, (o.1.1.1.self self).0),
+        (λ x t. subst (λ (zs : E h). Fine (U h) h ((h, (Give j, tt)) ∷ []) 1 2 Gift (onto zs []) v (record v { purse = given h j v.purse }) (λ l. Gift (onto (own h ((h, (Give j, tt)) ∷ [])) (onto zs [])))) (sym o.0) (gift_fine v is.0)),
+        omega arith,
+      ))
+      base
 
 pub gifts_refined : (purse : ℕ → ℕ) (events : List (Event ℕ (Unit {0}))) → AllHonest gifts_above events (fresh gifts_above (rest purse)) → Explained gifts_above purse (run gifts_above events (fresh gifts_above (rest purse)))
 gifts_refined purse events honest =

@@ -1,9 +1,12 @@
 //! The theorems, at the examples.
 
-ghost use Rattle.std.specs.Prelude.{◌≡◌, ℕ, ◌∷◌, [], List, Some, true, false};
+ghost use Rattle.std.specs.Prelude.{◌≡◌, ℕ, ◌∷◌, [], List, Option, Some, None, true, false};
 ghost use Rattle.atomic_programs.specs.Calls.{Event, Start, Step, Started, Refused, DidWait, DidRun, DidEnd, State, next, run, outcomes, fresh, hart_of, IsHonest, AllHonest, Sound};
 ghost use Rattle.atomic_programs.specs.Explained.{Explained, Led, history};
 ghost use Rattle.atomic_programs.specs.Plain.{IsCode};
+ghost use Rattle.atomic_programs.specs.Logic.{Wp};
+ghost use Rattle.atomic_programs.specs.Joined.{Both, joined};
+ghost use Rattle.atomic_programs.specs.Operations.{operations};
 ghost use Rattle.atomic_programs.specs.Prog.{plain};
 ghost use Rattle.atomic_examples.specs.Desk as desk;
 ghost use Rattle.atomic_examples.specs.Whole as whole;
@@ -98,4 +101,9 @@ pub fn gifts_refined()
 pub fn gifts_reserve()
     ensures outcomes { outcomes gifts_above (Start 0 1 ∷ Start 1 0 ∷ Start 2 1 ∷ Step 0 tt ∷ Step 0 tt ∷ Step 0 tt ∷ Start 1 0 ∷ []) (fresh gifts_above (purses (λ h. h))) ≡ Started ∷ Refused wards.Reserved ∷ Refused wards.Reserved ∷ DidRun (wards.Peek, 0) ∷ DidRun (wards.Fill 1 0, tt) ∷ DidEnd tt ∷ Started ∷ [] }
     ensures history { history gifts_above (run gifts_above (Start 0 1 ∷ Start 1 0 ∷ Start 2 1 ∷ Step 0 tt ∷ Step 0 tt ∷ Step 0 tt ∷ []) (fresh gifts_above (purses (λ h. h)))) ≡ record { number = 3; hart = 0; call = 0; step = (wards.Give 1, tt) } ∷ record { number = 5; hart = 0; call = 0; step = (wards.Free 1, tt) } ∷ [] }
+{}
+
+/// The program of a gift below places the gift, and nothing else, between its first step and its last, whatever the others do.
+pub fn gifts_act_once()
+    ensures { (h j : ℕ) (m : Unit {0} → Option (Unit {0})) (w : Both wards.World wards.World) → w.seen.ward j ≡ Some h → w.seen.ward h ≡ None → wards.Base h w.real w.seen → Wp (joined (operations wards.machine wards.core) wards.low) h (λ fs. fs ≡ (wards.Give j, tt) ∷ []) (λ a fs u. (fs ≡ (wards.Give j, tt) ∷ []) × wards.Base h u.real u.seen) (wards.handler (wards.Give j) m) 2 [] w }
 {}
