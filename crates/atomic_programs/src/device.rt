@@ -1,5 +1,5 @@
 //! What the example's device is.
-ghost use Rattle.std.specs.Prelude.{◌≡◌, ◌<◌, ◌⊎◌, ℕ, IfOk, OnOk, OnErr};
+ghost use Rattle.std.specs.Prelude.{◌≡◌, ◌≢◌, ◌<◌, ◌⊎◌, ℕ, IfOk, OnOk, OnErr};
 ghost use Rattle.atomic_programs.specs.Faults.{faults_after};
 
 /// The device failed at this call.
@@ -41,7 +41,14 @@ impl Device for Fused {
 
     ghost failures = { λ d. d.faults };
 
-    fn get(&mut self) -> Result<u32, Fault> {
+    /// Fails where a call has failed before.
+    fn get(&mut self) -> Result<u32, Fault>
+        ensures ok { IfOk result (λ n. n ≡ self.old.number) }
+        ensures same { self.new.number ≡ self.old.number }
+        ensures faults { self.new.faults ≡ faults_after result self.old.faults }
+        ensures passes { OnOk result (self.old.faults ≡ 0) }
+        ensures fails { OnErr result (self.old.faults ≢ 0) }
+    {
         if self.faults > 0 {
             self.faults = self.faults.saturating_add(1);
             return Err(Fault);
