@@ -4,7 +4,7 @@ use Rattle.std.specs.Option.{MatchOption, option_map, option_and_then, unwrap_or
 use Rattle.sleep_lock.specs.SleepLock.{GuardState}
 use Rattle.block_device.specs.Blocks.{block_at}
 use Rattle.buffer_cache.specs.Buffers.{BufferState}
-use Rattle.buffer_cache.specs.declared.limits.TheConstants.{BUFFERS, MOST_PINNED, HARTS, BUFFERS_OF_A_HART}
+use Rattle.buffer_cache.specs.Limits.{buffer_count, most_pinned, hart_count, buffers_of_a_hart}
 use Rattle.buffer_cache.specs.Lists.{first_of, change_first, change_to_end, count_of}
 
 -- what the cache keeps of a buffer: its number, which is its slot's; the block that it is for, if any; that block's bytes
@@ -163,10 +163,10 @@ UnusedFirst (s ∷ ss) = (is_settled s ≡ true → count_of is_unused ss ≡ 0)
 -- what holds of every cache: 46 buffers, at most 30 of them pinned, and at most two in the hands of each of eight harts;
 -- a block has at most one; and what isn't pinned is as on the disk
 pub record IsSound (disk : List (List ℕ)) (seats : List SeatState) : Type 0 where
-  pub count : length seats ≡ BUFFERS
-  pub few_pinned : count_of is_pinned seats ≤ MOST_PINNED
-  pub few_out : (hart : ℕ) → count_of (is_held_by hart) seats ≤ BUFFERS_OF_A_HART
-  pub harts : HoldersBelow HARTS seats
+  pub count : length seats ≡ buffer_count
+  pub few_pinned : count_of is_pinned seats ≤ most_pinned
+  pub few_out : (hart : ℕ) → count_of (is_held_by hart) seats ≤ buffers_of_a_hart
+  pub harts : HoldersBelow hart_count seats
   pub once : (b : ℕ) → count_of (has_block b) seats ≤ 1
   pub clean : AllClean disk seats
   pub unused : UnusedFirst seats

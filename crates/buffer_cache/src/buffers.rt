@@ -7,6 +7,7 @@ ghost use Rattle.buffer_cache.specs.Lists.{first_of, count_of};
 ghost use Rattle.buffer_cache.specs.Seats.{has_block, is_free, is_held_by, is_pinned, seat_of, kept, IsHeld, with_seat, with_content, with_pin, given_back, without_holder, unused_from};
 ghost use Rattle.buffer_cache.specs.Rows.{IsSeated};
 ghost use Rattle.buffer_cache.specs.Getting.{get_of};
+ghost use Rattle.buffer_cache.specs.Limits.{buffer_count};
 
 use crate::buffer::Buffer;
 use crate::got::Got;
@@ -40,7 +41,7 @@ impl Model for Buffers {
 impl Buffers {
     /// Forty-six buffers that were never used. An error is want of memory.
     pub fn new(alloc: Global) -> Result<Buffers, AllocError>
-        ensures { IfOk result (λ buffers. buffers ≡ unused_from 0 BUFFERS) }
+        ensures { IfOk result (λ buffers. buffers ≡ unused_from 0 buffer_count) }
     {
         let seats = new_seats(alloc)?;
         let slots = new_slots(alloc)?;
@@ -136,7 +137,7 @@ impl Buffers {
 }
 
 fn new_seats(alloc: Global) -> Result<Vec<Seat>, AllocError>
-    ensures { IfOk result (λ seats. seats.items ≡ unused_from 0 BUFFERS) }
+    ensures { IfOk result (λ seats. seats.items ≡ unused_from 0 buffer_count) }
 {
     let mut seats = Vec::with_capacity(alloc, BUFFERS)?;
     for number in 0..BUFFERS {
@@ -146,7 +147,7 @@ fn new_seats(alloc: Global) -> Result<Vec<Seat>, AllocError>
 }
 
 fn new_slots(alloc: Global) -> Result<Slots<Buffer>, AllocError>
-    ensures { IfOk result (λ slots. IsSeated slots (unused_from 0 BUFFERS)) }
+    ensures { IfOk result (λ slots. IsSeated slots (unused_from 0 buffer_count)) }
 {
     let mut buffers = Vec::with_capacity(alloc, BUFFERS)?;
     for _ in 0..BUFFERS {

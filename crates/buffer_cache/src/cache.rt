@@ -4,13 +4,13 @@ ghost use Rattle.std.specs.Option.{unwrap_or, option_map};
 ghost use Rattle.sleep_lock.specs.SleepLock.{GuardState};
 ghost use Rattle.block_device.specs.Blocks.{block_at, faults_after};
 ghost use Rattle.buffer_cache.specs.Buffers.{BufferState};
+ghost use Rattle.buffer_cache.specs.Limits.{buffer_count, hart_count, most_pinned};
 ghost use Rattle.buffer_cache.specs.Lists.{count_of};
 ghost use Rattle.buffer_cache.specs.Seats.{is_any, is_held_by, is_pinned, is_recorded, is_unused, IsPinned, IsRecorded, Keeps, seat_of, holder_of, kept, IsHeld, KeepsHeld, KeepsOthers, with_seat, with_content, with_pin, given_back, unused_from};
 
 use crate::buffer::Buffer;
 use crate::buffers::Buffers;
 use crate::got::Got;
-use crate::limits::{BUFFERS, HARTS, MOST_PINNED};
 use block_device::{BLOCK_SIZE, Device, Fault};
 use sleep_lock::{Guard, RetiredSlots};
 use std::marker::Model;
@@ -38,8 +38,8 @@ impl<D: Device> Cache<D> {
 
     /// A cache with nothing in it.
     pub fn new(buffers: Buffers, device: D) -> Cache<D>
-        requires { buffers ≡ unused_from 0 BUFFERS }
-        ensures { result ≡ record { device = device; seats = unused_from 0 BUFFERS } }
+        requires { buffers ≡ unused_from 0 buffer_count }
+        ensures { result ≡ record { device = device; seats = unused_from 0 buffer_count } }
     {
         Cache { device, buffers }
     }
@@ -77,7 +77,7 @@ impl<D: Device> Cache<D> {
     /// neither out nor pinned, the least recently given back (one that was never used before any other). It waits
     /// exactly where the block's buffer is out, and then nothing changes.
     pub fn get(&mut self, hart: u8, b: u32) -> Got
-        requires hart { hart < HARTS }
+        requires hart { hart < hart_count }
         requires few { count_of (is_held_by hart) self.old.seats ≤ 1 }
         ensures gives { (self.new.seats, result) ≡ get_of hart b self.old.seats }
         ensures waits { (result ≡ Got.Waits) ↔ IsSome (holder_of b self.old.seats) }
@@ -165,7 +165,7 @@ impl<D: Device> Cache<D> {
     /// Pins a block's buffer: until its pin is given back it isn't taken for another block.
     pub fn pin(&mut self, b: u32)
         requires cached { IsSome (seat_of b self.old.seats) }
-        requires room { IsPinned b self.old.seats ⊎ (count_of is_pinned self.old.seats < MOST_PINNED) }
+        requires room { IsPinned b self.old.seats ⊎ (count_of is_pinned self.old.seats < most_pinned) }
         ensures seats { self.new.seats ≡ with_seat b (with_pin true) self.old.seats }
         ensures pinned { IsPinned b self.new.seats }
         ensures others { KeepsHeld self.old.seats self.new.seats }

@@ -11,9 +11,17 @@ number_len = 4
 abbrev pub numbers_per_block : ℕ
 numbers_per_block = 256
 
+-- how many bits a bitmap block has
+abbrev pub bits_per_block : ℕ
+bits_per_block = 8192
+
 -- the number that a superblock begins with
 abbrev pub magic : ℕ
 magic = 0x10203040
+
+-- a superblock's magic number and fields
+abbrev pub super_len : ℕ
+super_len = 32
 
 abbrev pub super_magic_at : ℕ
 super_magic_at = 0

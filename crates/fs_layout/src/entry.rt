@@ -5,10 +5,11 @@ ghost use Rattle.fs_layout.specs.Bytes.{overwrite, IsBytes};
 ghost use Rattle.fs_layout.specs.Entry.{dirent_at, dirent_of, spell_dirent, used_of, free_of, IsDirent};
 ghost use Rattle.fs_layout.specs.declared.entry.Dirent.{Dirent};
 ghost use Rattle.fs_layout.specs.Name.{is_zero};
+ghost use Rattle.fs_layout.specs.Widths.{dirent_len, dirents_per_block};
 
 use crate::bytes::{put_bytes, put_u16, put_zeros, u16_in};
 use crate::name::Name;
-use crate::widths::{Block, DIRENT_LEN, DIRENT_NAME_AT, DIRENTS_PER_BLOCK, NAME_LEN};
+use crate::widths::{Block, DIRENT_LEN, DIRENT_NAME_AT, NAME_LEN};
 
 /// A slot of a directory: free, or the number of an inode and its name.
 #[derive(Drop)]
@@ -61,7 +62,7 @@ fn used_in(number: u16, field: &[u8]) -> Option<Dirent>
 /// The slot at a place of a directory's block, counted in slots. `None` where its bytes are no entry:
 /// a number 0 with bytes that aren't 0, an empty name, a '/' in it, or a byte other than 0 behind a 0.
 pub fn read_dirent(block: &Block, place: usize) -> Option<Dirent>
-    requires { place < DIRENTS_PER_BLOCK }
+    requires { place < dirents_per_block }
     ensures { result ≡ dirent_at place block.now }
 {
     let at = DIRENT_LEN * place;
@@ -77,11 +78,11 @@ pub fn read_dirent(block: &Block, place: usize) -> Option<Dirent>
 /// Writes a slot at a place of a directory's block, counted in slots. A name is padded with zeros;
 /// one of 14 bytes has none behind it.
 pub fn write_dirent(block: &mut Block, place: usize, entry: &Dirent)
-    requires place { place < DIRENTS_PER_BLOCK }
+    requires place { place < dirents_per_block }
     requires entry { IsDirent entry.now }
-    ensures bytes { block.new ≡ overwrite block.old (DIRENT_LEN * place) (spell_dirent entry.now) }
+    ensures bytes { block.new ≡ overwrite block.old (dirent_len * place) (spell_dirent entry.now) }
     ensures reads_back { dirent_at place block.new ≡ Some entry.now }
-    ensures others { (q : ℕ) → q < DIRENTS_PER_BLOCK → q ≢ place → dirent_at q block.new ≡ dirent_at q block.old }
+    ensures others { (q : ℕ) → q < dirents_per_block → q ≢ place → dirent_at q block.new ≡ dirent_at q block.old }
 {
     let at = DIRENT_LEN * place;
     match entry {
@@ -99,6 +100,6 @@ pub fn write_dirent(block: &mut Block, place: usize, entry: &Dirent)
 /// An entry and its bytes determine each other, and other bytes are none.
 pub fn dirent_spelling()
     ensures reads_back { (d : Dirent) → IsDirent d → dirent_of (spell_dirent d) ≡ Some d }
-    ensures only { (bytes : List ℕ) (d : Dirent) → length bytes ≡ DIRENT_LEN → IsBytes bytes
+    ensures only { (bytes : List ℕ) (d : Dirent) → length bytes ≡ dirent_len → IsBytes bytes
         → dirent_of bytes ≡ Some d → spell_dirent d ≡ bytes }
 {}

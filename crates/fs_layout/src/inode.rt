@@ -3,11 +3,12 @@ ghost use Rattle.std.specs.Prelude.{◌≡◌, ◌+◌, ◌*◌, ◌≤◌, ◌<
 ghost use Rattle.fs_layout.specs.Bytes.{overwrite, IsBytes};
 ghost use Rattle.fs_layout.specs.Inode.{dinode_at, dinode_of, spell_dinode, IsDinode};
 ghost use Rattle.fs_layout.specs.declared.inode.Dinode.{Dinode};
+ghost use Rattle.fs_layout.specs.Widths.{inode_len, inodes_per_block};
 
 use crate::bytes::{i16_in, put_i16, put_u32, put_u32s, u32_in, u32s_in};
 use crate::widths::{
     ADDRESSES, Block, INODE_ADDRESSES_AT, INODE_LEN, INODE_MAJOR_AT, INODE_MINOR_AT,
-    INODE_NLINK_AT, INODE_SIZE_AT, INODES_PER_BLOCK,
+    INODE_NLINK_AT, INODE_SIZE_AT,
 };
 
 /// An inode as it stands on the disk. Any 64 bytes are one: whether its fields are right, as a well-formed image has
@@ -30,7 +31,7 @@ pub struct Dinode {
 
 /// The inode at a place of an inode block, counted in inodes.
 pub fn read_dinode(block: &Block, place: usize) -> Dinode
-    requires { place < INODES_PER_BLOCK }
+    requires { place < inodes_per_block }
     ensures { result ≡ dinode_at place block.now }
 {
     let at = INODE_LEN * place;
@@ -48,10 +49,10 @@ pub fn read_dinode(block: &Block, place: usize) -> Dinode
 
 /// Writes an inode at a place of an inode block, counted in inodes.
 pub fn write_dinode(block: &mut Block, place: usize, inode: &Dinode)
-    requires { place < INODES_PER_BLOCK }
-    ensures bytes { block.new ≡ overwrite block.old (INODE_LEN * place) (spell_dinode inode.now) }
+    requires { place < inodes_per_block }
+    ensures bytes { block.new ≡ overwrite block.old (inode_len * place) (spell_dinode inode.now) }
     ensures reads_back { dinode_at place block.new ≡ inode.now }
-    ensures others { (q : ℕ) → q < INODES_PER_BLOCK → q ≢ place → dinode_at q block.new ≡ dinode_at q block.old }
+    ensures others { (q : ℕ) → q < inodes_per_block → q ≢ place → dinode_at q block.new ≡ dinode_at q block.old }
 {
     let at = INODE_LEN * place;
     put_i16(block, at, inode.kind);
@@ -65,5 +66,5 @@ pub fn write_dinode(block: &mut Block, place: usize, inode: &Dinode)
 /// An inode and its bytes determine each other.
 pub fn dinode_spelling()
     ensures reads_back { (d : Dinode) → IsDinode d → dinode_of (spell_dinode d) ≡ d }
-    ensures only { (bytes : List ℕ) → length bytes ≡ INODE_LEN → IsBytes bytes → spell_dinode (dinode_of bytes) ≡ bytes }
+    ensures only { (bytes : List ℕ) → length bytes ≡ inode_len → IsBytes bytes → spell_dinode (dinode_of bytes) ≡ bytes }
 {}

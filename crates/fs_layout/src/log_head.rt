@@ -4,6 +4,7 @@ ghost use Rattle.std.specs.Prelude.{◌≡◌, ◌+◌, ◌*◌, ◌≤◌, ◌<
 ghost use Rattle.std.specs.List.{AllByRecursion};
 ghost use Rattle.fs_layout.specs.Bytes.{overwrite, u32s_at, IsBytes};
 ghost use Rattle.fs_layout.specs.LogHead.{log_head, log_head_of, spell_log_head};
+ghost use Rattle.fs_layout.specs.Widths.{log_head_count_at, log_head_len, log_head_numbers_at, number_len};
 
 use crate::bytes::{put_u32, put_u32s, u32_in};
 use crate::widths::{Block, LOG_HEAD_COUNT_AT, LOG_HEAD_LEN, LOG_HEAD_NUMBERS_AT, NUMBER_LEN};
@@ -33,8 +34,8 @@ pub fn read_log_head(block: &Block) -> Option<LogHead>
 /// Writes the log's head with these home blocks; with none of them the log is empty. What stands
 /// behind the head stays.
 pub fn write_log_head(block: &mut Block, blocks: &[u32])
-    requires { length blocks.now ≤ LOG_HEAD_LEN }
-    ensures bytes { block.new ≡ overwrite block.old LOG_HEAD_COUNT_AT (spell_log_head blocks.now) }
+    requires { length blocks.now ≤ log_head_len }
+    ensures bytes { block.new ≡ overwrite block.old log_head_count_at (spell_log_head blocks.now) }
     ensures reads_back { log_head_of block.new ≡ Some (log_head blocks.now) }
 {
     put_u32(block, LOG_HEAD_COUNT_AT, blocks.len() as u32);
@@ -43,15 +44,15 @@ pub fn write_log_head(block: &mut Block, blocks: &[u32])
 
 /// A head and its bytes determine each other, and other bytes are none.
 pub fn log_head_spelling()
-    ensures reads_back { (blocks : List ℕ) → length blocks ≤ LOG_HEAD_LEN → AllByRecursion (λ n. n < 2 ^ 32) blocks
+    ensures reads_back { (blocks : List ℕ) → length blocks ≤ log_head_len → AllByRecursion (λ n. n < 2 ^ 32) blocks
         → log_head_of (spell_log_head blocks) ≡ Some (log_head blocks) }
-    ensures only { (bytes blocks : List ℕ) → length bytes ≡ LOG_HEAD_NUMBERS_AT + NUMBER_LEN * length blocks → IsBytes bytes
+    ensures only { (bytes blocks : List ℕ) → length bytes ≡ log_head_numbers_at + number_len * length blocks → IsBytes bytes
         → log_head_of bytes ≡ Some (log_head blocks) → spell_log_head blocks ≡ bytes }
 {}
 
 fn first_numbers(block: &Block, n: usize) -> ArrayVec<u32, LOG_HEAD_LEN>
-    requires { n ≤ LOG_HEAD_LEN }
-    ensures { result.items ≡ u32s_at n block.now LOG_HEAD_NUMBERS_AT }
+    requires { n ≤ log_head_len }
+    ensures { result.items ≡ u32s_at n block.now log_head_numbers_at }
 {
     let mut numbers = ArrayVec::new();
     for i in 0..n {

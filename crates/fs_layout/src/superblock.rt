@@ -3,11 +3,12 @@ ghost use Rattle.std.specs.Prelude.{◌≡◌, ℕ, List, Some, length};
 ghost use Rattle.fs_layout.specs.Bytes.{overwrite, IsBytes};
 ghost use Rattle.fs_layout.specs.Super.{spell_super, super_of, IsSuper};
 ghost use Rattle.fs_layout.specs.declared.superblock.Super.{Super};
+ghost use Rattle.fs_layout.specs.Widths.{super_len, super_magic_at};
 
 use crate::bytes::{put_u32s, u32_in};
 use crate::widths::{
-    Block, MAGIC, SUPER_BMAPSTART_AT, SUPER_INODESTART_AT, SUPER_LEN, SUPER_LOGSTART_AT,
-    SUPER_MAGIC_AT, SUPER_NBLOCKS_AT, SUPER_NINODES_AT, SUPER_NLOG_AT, SUPER_SIZE_AT,
+    Block, MAGIC, SUPER_BMAPSTART_AT, SUPER_INODESTART_AT, SUPER_LOGSTART_AT, SUPER_MAGIC_AT,
+    SUPER_NBLOCKS_AT, SUPER_NINODES_AT, SUPER_NLOG_AT, SUPER_SIZE_AT,
 };
 
 /// Where the parts of a disk lie, by block numbers, and how many inodes it has. Any values are one: whether they fit
@@ -51,7 +52,7 @@ pub fn read_super(block: &Block) -> Option<Super>
 /// Writes the magic number and the fields. What stands behind them stays: begin with a block of
 /// zeros where it is to be zero.
 pub fn write_super(block: &mut Block, superblock: &Super)
-    ensures bytes { block.new ≡ overwrite block.old SUPER_MAGIC_AT (spell_super superblock.now) }
+    ensures bytes { block.new ≡ overwrite block.old super_magic_at (spell_super superblock.now) }
     ensures reads_back { super_of block.new ≡ Some superblock.now }
 {
     let numbers = [
@@ -70,6 +71,6 @@ pub fn write_super(block: &mut Block, superblock: &Super)
 /// A superblock and its bytes determine each other, and other bytes are none.
 pub fn super_spelling()
     ensures reads_back { (s : Super) → IsSuper s → super_of (spell_super s) ≡ Some s }
-    ensures only { (bytes : List ℕ) (s : Super) → length bytes ≡ SUPER_LEN → IsBytes bytes
+    ensures only { (bytes : List ℕ) (s : Super) → length bytes ≡ super_len → IsBytes bytes
         → super_of bytes ≡ Some s → spell_super s ≡ bytes }
 {}
