@@ -1,0 +1,44 @@
+-- What a call of the tables comes to, in the whole.
+use Rattle.std.proofs.Common.{◌≡◌, ◌∙◌, ℕ, ap, Option, Some, None}
+use Rattle.std.specs.Prelude.{IfNone, IfSome}
+use Rattle.sleep_lock.specs.SleepLock.{GuardState}
+use Rattle.group_log.specs.Soundness.{LogState}
+use Rattle.fs_tables.specs.declared.inodes.Inode.{Inode}
+use Rattle.fs_tables.specs.declared.inodes.Dropped.{Dropped}
+use Rattle.fs_tables.specs.declared.inodes.Dropped.TheVariants as dropped
+use Rattle.atomic_programs.specs.Prog.{Ran}
+use Rattle.fs_tables.specs.declared.files.OpenFile.{OpenFile}
+use Rattle.fs_tables.specs.declared.files.Want.{Want}
+use Rattle.fs_tables.specs.declared.files.Refused.{Refused}
+use Rattle.fs_tables.specs.Tables.{TablesState, file_named}
+use Rattle.fs_tables.specs.Inodes.{lock_file, lock_unless, with_file, lock_inode, refusal_of, Refuses}
+use Rattle.fs_tables.specs.Locks.{IsLocked}
+use Rattle.fs_tables.specs.Results.{IfDying}
+use Rattle.fs_machine.specs.declared.shared.Core.{Core}
+use Rattle.fs_machine.specs.LogPart.{LogPart}
+use Rattle.fs_machine.specs.Steps.{State}
+use Rattle.fs_machine.specs.Tied.{IsOwnInode}
+
+pub still-in : {D : Type 0} (l : LogState D) (old new : TablesState) (r : Option (GuardState Inode)) → IfNone r (new ≡ old)
+    → IfNone r (◌≡◌ {A = Core D} (record { log = l; tables = new }) (record { log = l; tables = old }))
+still-in {D} l old new None same = ap (λ (t : TablesState). record { log = l; tables = t }) same
+still-in l old new (Some guard) same = tt
+
+pub own-in : (h n : ℕ) (l : LogPart) (t : TablesState) (r : Option (GuardState Inode)) → IfSome r (λ guard. (guard.hart ≡ h) × (guard.value.number ≡ n) × IsLocked guard t)
+    → IfSome r (λ guard. IsOwnInode h n guard (record { log = l; tables = t }))
+own-in h n l t None own = tt
+own-in h n l t (Some guard) own = record { hand = own.0; number = own.1; locked = own.2 }
+
+pub dying-in : (h n : ℕ) (l : LogPart) (t : TablesState) (r : Dropped) → IfDying r (λ m guard. (m ≡ n) × (guard.hart ≡ h) × (guard.value.number ≡ n) × IsLocked guard t)
+    → IfDying r (λ m guard. (m ≡ n) × IsOwnInode h n guard (record { log = l; tables = t }))
+dying-in h n l t dropped.Counted own = tt
+dying-in h n l t (dropped.Dying m guard) own = (own.0, record { hand = own.1; number = own.2; locked = own.3 })
+
+-- the lock of what a descriptor names
+pub file_refused : (h fd : ℕ) (w : Want) (t : TablesState) (why : Refused) → refusal_of w (file_named h fd t) ≡ Some why → lock_file h w fd t ≡ Ran (Refuses why) t
+unfolding lock_file
+file_refused h fd w t why e = ap (lock_unless h t (file_named h fd t)) e
+
+pub file_tried : (h fd : ℕ) (w : Want) (t : TablesState) (f : OpenFile) → refusal_of w (file_named h fd t) ≡ None → file_named h fd t ≡ Some f → lock_file h w fd t ≡ with_file f (lock_inode h f.number t)
+unfolding lock_file
+file_tried h fd w t f e is = ap (lock_unless h t (file_named h fd t)) e ∙ ap (λ o. lock_unless h t o None) is

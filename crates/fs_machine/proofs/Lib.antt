@@ -1,0 +1,5 @@
+pub mod Ran
+pub mod Parts
+pub mod Held
+pub mod Commits
+pub mod Keeping

@@ -1,0 +1,13 @@
+use Rattle.std.proofs.Common.{ap, sym}
+use Rattle.atomic_programs.specs.Prog.{Ran}
+use Rattle.fs_machine.specs.Steps.{exec, state_of}
+use Rattle.fs_machine.specs.Premises.{May}
+use Rattle.fs_machine.proofs.shared.Core.check_file.Goals as goal
+
+pub check-requires : goal.check-requires
+unfolding May
+check-requires g c = c.requires.may
+
+pub returns : goal.returns
+unfolding exec
+returns g c x = ap (λ o. Ran o (state_of g.D.Device.contents g.D.Device.failures c.args.self.now)) (sym c.check.ensures)

@@ -1,0 +1,19 @@
+use Rattle.std.proofs.Common.{ap, subst, sym}
+use Rattle.group_log.specs.Group.{IsMember}
+use Rattle.atomic_programs.specs.Prog.{did_in}
+use Rattle.fs_machine.specs.LogPart.{LogPart}
+use Rattle.fs_machine.specs.Steps.{State, exec}
+use Rattle.fs_machine.specs.Premises.{May}
+use Rattle.fs_machine.proofs.Ran.{leave_ran}
+use Rattle.fs_machine.proofs.shared.Core.leave.Goals as goal
+
+pub leave-requires-clause-member : goal.leave-requires-clause-member
+unfolding May
+leave-requires-clause-member g c = subst (λ h. IsMember c.args.self.now.log.members h) (sym c.requires.own) c.requires.may.0
+
+pub returns-clause-ran : goal.returns-clause-ran
+unfolding exec
+returns-clause-ran g c x =
+    let old = c.args.self.now in
+    let into : LogPart → State = λ l. record { log = l; tables = old.tables } in
+    ap (did_in into) (leave_ran g.D.Device.contents g.D.Device.failures c.args.hart old.log c.leave.new.self c.args.txn c.leave.result c.requires.own c.leave.ensures.leaves c.leave.ensures.left)

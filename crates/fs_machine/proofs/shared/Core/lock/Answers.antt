@@ -1,0 +1,32 @@
+use Rattle.std.proofs.Common.{◌≡◌, ap, ◌∙◌, subst, Option, Some, None}
+use Rattle.std.specs.Prelude.{IfNone, IfSome}
+use Rattle.sleep_lock.specs.SleepLock.{GuardState}
+use Rattle.atomic_programs.specs.Prog.{did_in}
+use Rattle.fs_tables.specs.declared.inodes.Inode.{Inode}
+use Rattle.fs_tables.specs.Tables.{TablesState}
+use Rattle.fs_tables.specs.Inodes.{lock_inode}
+use Rattle.fs_tables.specs.Results.{locked_as}
+use Rattle.fs_machine.specs.Tied.{IsOwnInode}
+use Rattle.fs_machine.specs.LogPart.{part_of}
+use Rattle.fs_machine.specs.Steps.{State, exec}
+use Rattle.fs_machine.proofs.Parts.{locked-in}
+use Rattle.fs_machine.proofs.Held.{still-in, own-in}
+use Rattle.fs_machine.proofs.shared.Core.lock.Goals as goal
+
+pub returns-clause-ran : goal.returns-clause-ran
+unfolding exec
+returns-clause-ran g c x =
+    let old = c.args.self.now in
+    let into : TablesState → State = λ t. record { log = part_of g.D.Device.contents g.D.Device.failures old.log; tables = t } in
+    subst (λ n. did_in into (lock_inode c.args.hart n old.tables) ≡ did_in into (locked_as c.lock.result c.lock.new.self)) c.number.ensures (ap (did_in into) c.lock.ensures.ran) ∙ locked-in into c.lock.new.self c.lock.result
+
+pub returns-clause-still : goal.returns-clause-still
+returns-clause-still g c = still-in c.args.self.now.log c.args.self.now.tables c.lock.new.self c.lock.result c.lock.ensures.still
+
+pub returns-clause-own : goal.returns-clause-own
+returns-clause-own g c =
+    let l = part_of g.D.Device.contents g.D.Device.failures c.args.self.now.log in
+    subst (λ n. IfSome c.lock.result (λ guard. IsOwnInode c.args.hart n guard (record { log = l; tables = c.lock.new.self }))) c.number.ensures (own-in c.args.hart c.number.result l c.lock.new.self c.lock.result c.lock.ensures.own)
+
+pub returns-clause-others : goal.returns-clause-others
+returns-clause-others g c = record { buffers = λ guard ne tied. tied; inodes = c.lock.ensures.others }

@@ -1,0 +1,10 @@
+pub mod LogPart
+pub mod Steps
+pub mod Premises
+pub mod Tied
+pub mod Did
+pub mod Machines
+pub mod Programs
+pub mod Fetching
+pub mod Whole
+pub mod Locked

@@ -1,0 +1,24 @@
+-- What the lock of a descriptor's inode stands for.
+use Rattle.std.specs.Prelude.{ℕ}
+use Rattle.sleep_lock.specs.SleepLock.{GuardState}
+use Rattle.atomic_programs.specs.Prog.{Did, Waits as ItWaits, Ran}
+use Rattle.fs_tables.specs.declared.inodes.Inode.{Inode}
+use Rattle.fs_tables.specs.declared.files.OpenFile.{OpenFile}
+use Rattle.fs_tables.specs.Inodes.{LockedState, Refuses, Locks}
+use Rattle.fs_machine.specs.declared.inodes.LockedFile.{LockedFile}
+use Rattle.fs_machine.specs.declared.inodes.LockedFile.TheVariants.{Waits, Refused, Locked}
+
+abbrev pub file_locked_as : {S : Type 0} → LockedFile → S → Did LockedState S
+file_locked_as Waits s = ItWaits
+file_locked_as (Refused why) s = Ran (Refuses why) s
+file_locked_as (Locked file guard) s = Ran (Locks file guard.value.content) s
+
+abbrev pub IfFileWaits : LockedFile → Type 0 → Type 0
+IfFileWaits Waits P = P
+IfFileWaits (Refused why) P = Unit {0}
+IfFileWaits (Locked file guard) P = Unit {0}
+
+abbrev pub IfFileLocked : LockedFile → (OpenFile → GuardState Inode → Type 0) → Type 0
+IfFileLocked Waits P = Unit {0}
+IfFileLocked (Refused why) P = Unit {0}
+IfFileLocked (Locked file guard) P = P file guard

@@ -1,0 +1,256 @@
+-- The operations that calls are made of, and what each makes of the state that all harts share.
+use Rattle.std.specs.Prelude.{◌≡◌, ◌≢◌, ℕ, ◌+◌, ◌^◌, ◌==◌, ◌<◌, ◌≤◌, List, [], ◌∷◌, length, Bool, true, false, Option, Some, None, IsSome, IsTrue, IfSome, slice_get}
+use Rattle.std.specs.Option.{MatchOption}
+use Rattle.fs_layout.specs.declared.inode.Dinode.{Dinode}
+use Rattle.fs_layout.specs.Recovered.{IsOutsideLog}
+use Rattle.buffer_cache.specs.Lists.{count_of, first_of}
+use Rattle.buffer_cache.specs.Seats.{is_held_by, holder_of, kept}
+use Rattle.buffer_cache.specs.declared.limits.TheConstants.{HARTS}
+use Rattle.group_log.specs.declared.phase.Phase.TheVariants.{Open, Halted}
+use Rattle.group_log.specs.declared.log.Left.{Left}
+use Rattle.group_log.specs.Group.{joined, has, HasRoom, IsMember}
+use Rattle.group_log.specs.Turns.{turn_is_out}
+use Rattle.group_log.specs.Waiting.{join_waits}
+use Rattle.atomic_programs.specs.Prog.{Did, Waits, Ran, Stops, did_in}
+use Rattle.fs_tables.specs.declared.inodes.Inode.{Inode}
+use Rattle.fs_tables.specs.declared.files.NewFile.{NewFile}
+use Rattle.fs_tables.specs.declared.files.Want.{Want}
+use Rattle.fs_tables.specs.declared.files.Want.TheVariants as want
+use Rattle.fs_tables.specs.declared.files.Refused.{Refused}
+use Rattle.fs_tables.specs.declared.slots.Doubled.{Doubled}
+use Rattle.fs_tables.specs.declared.slots.Doubled.TheVariants as doubled
+use Rattle.fs_tables.specs.declared.slots.Shut.{Shut}
+use Rattle.fs_tables.specs.declared.slots.Shut.TheVariants as shut
+use Rattle.fs_tables.specs.declared.slots.Given.{Given}
+use Rattle.fs_tables.specs.declared.slots.Given.TheVariants as given
+use Rattle.fs_tables.specs.Tables.{TablesState, references_of, owed, holder_of as lock_holder, file_named}
+use Rattle.fs_tables.specs.Inodes.{LockedState, Refuses, Locks, DroppedState, Counts, Keeps, Dies, refusal_of, lock_inode, lock_file, unlock_inode, settle_inode, up_inode, up_directory, drop_inode, drop_walked, first_free}
+use Rattle.fs_tables.specs.Files.{take_place, open_file, double_descriptor, shut_descriptor, give_next, hand_of}
+use Rattle.fs_machine.specs.LogPart.{LogPart, part_of, Outside, Passes, Fails, join_log, leave_log, get_block, read_block, put_block, commit_log, written, LeavesIt, LeavesOne}
+use Rattle.fs_machine.specs.declared.shared.Core.{Core}
+use Rattle.fs_machine.specs.declared.kind.Kind.{Kind}
+use Rattle.fs_machine.specs.declared.kind.Kind.TheVariants as kind
+
+-- all that harts share: the log, and the tables of inodes in memory, open files and descriptors
+pub record State : Type 0 where
+  pub log : LogPart
+  pub tables : TablesState
+
+-- what that is of the code's, over a device
+abbrev pub state_of : {D : Type 0} → (D → List (List ℕ)) → (D → ℕ) → Core D → State
+state_of contents failures c = record { log = part_of contents failures c.log; tables = c.tables }
+
+-- to what a reference is wanted
+pub data Whom : Type 0 where
+  Number : ℕ → Whom
+  -- the hart's current directory
+  Directory : Whom
+
+-- which reference is dropped
+pub data Drop : Type 0 where
+  -- one in hand
+  Held : ℕ → Drop
+  -- one in hand, within a walk
+  Walked : ℕ → Drop
+
+pub data Op : Type 0 where
+  -- joins a transaction
+  Join : Op
+  -- the same where this descriptor may be written
+  JoinToWrite : ℕ → Op
+  -- leaves it
+  Leave : Op
+  -- takes a block's buffer
+  Get : ℕ → Op
+  -- reads the block from the device into the held buffer
+  Read : ℕ → Op
+  -- gives the buffer back: recorded with these bytes, or as it was
+  Put : ℕ → Option (List ℕ) → Op
+  -- one write of the commit
+  Commit : Op
+  -- takes an inode's lock; or that of what a descriptor names, where it may be had for this
+  Lock : ℕ → Op
+  LockFile : Want → ℕ → Op
+  -- gives a lock back with this inode; and the file of this descriptor has this offset from now on
+  Unlock : Inode → Option (ℕ × ℕ) → Op
+  -- the same, and the inode is the hart's current directory from now on
+  Settle : Inode → Op
+  -- one reference more
+  Up : Whom → Op
+  -- one to the first of these inodes to which none stands; where there is no such one this block's buffer is given back
+  Claim : ℕ → List ℕ → Op
+  -- one reference less
+  Down : Drop → Op
+  -- whether a descriptor may be had for this
+  CheckFile : Want → ℕ → Op
+  -- takes a place for an open file
+  TakePlace : Op
+  -- opens a file there, for this inode, by the lowest free descriptor
+  TakeDescriptor : ℕ → NewFile → Op
+  -- one descriptor more for what this one names
+  Double : ℕ → Op
+  -- a descriptor goes
+  Close : ℕ → Op
+  -- to this child the next descriptor from this one on; where there is none the directory
+  Give : ℕ → ℕ → Op
+  -- gives the reply
+  Reply : Op
+
+pub data Joined : Type 0 where
+  RefusesJoin : Refused → Joined
+  Joins : Joined
+
+pub data Claimed : Type 0 where
+  Claims : ℕ → Claimed
+  -- each of the fifty places is referred to
+  NoPlace : Claimed
+  -- none of them, and the buffer was given back
+  NoInode : Claimed
+
+abbrev pub Answer : Op → Type 0
+Answer Join = Unit {0}
+Answer (JoinToWrite fd) = Joined
+-- whether a commit begins
+Answer Leave = Left
+-- the bytes where the buffer is valid
+Answer (Get b) = Option (List ℕ)
+Answer (Read b) = List ℕ
+Answer (Put b change) = Unit {0}
+-- whether it ended
+Answer Commit = Bool
+-- the inode where it is loaded
+Answer (Lock n) = Option Dinode
+Answer (LockFile w fd) = LockedState
+Answer (Unlock v moved) = Unit {0}
+-- the old directory, to which the reference is in hand now
+Answer (Settle v) = ℕ
+-- the inode's number; None where each of the fifty places is referred to
+Answer (Up whom) = Option ℕ
+Answer (Claim b candidates) = Claimed
+Answer (Down drop) = DroppedState
+-- why not
+Answer (CheckFile w fd) = Option Refused
+-- whether there was one
+Answer TakePlace = Bool
+-- the descriptor; None where all are open, and then the place was given back
+Answer (TakeDescriptor n file) = Option ℕ
+Answer (Double fd) = Doubled
+Answer (Close fd) = Shut
+Answer (Give child from) = Given
+Answer Reply = Unit {0}
+
+abbrev pub in_log : {A : Type 0} → State → Did A LogPart → Did A State
+in_log s d = did_in (λ l. record s { log = l }) d
+
+abbrev pub in_tables : {A : Type 0} → State → Did A TablesState → Did A State
+in_tables s d = did_in (λ t. record s { tables = t }) d
+
+abbrev pub joins : Did (Unit {0}) State → Did Joined State
+joins Waits = Waits
+joins (Ran a s) = Ran Joins s
+joins (Stops s) = Stops s
+
+abbrev pub join_unless : ℕ → State → Option Refused → Did Joined State
+join_unless h s (Some why) = Ran (RefusesJoin why) s
+join_unless h s None = joins (in_log s (join_log h s.log))
+
+abbrev pub up_whom : ℕ → Whom → TablesState → Did (Option ℕ) TablesState
+up_whom h (Number n) t = up_inode n t
+up_whom h Directory t = up_directory h t
+
+abbrev pub claims : Did (Option ℕ) State → Did Claimed State
+claims Waits = Waits
+claims (Ran None s) = Ran NoPlace s
+claims (Ran (Some n) s) = Ran (Claims n) s
+claims (Stops s) = Stops s
+
+abbrev pub claim_first : ℕ → ℕ → State → Option ℕ → Did Claimed State
+claim_first h b s None = Ran NoInode (record s { log = put_block h b None s.log })
+claim_first h b s (Some n) = claims (in_tables s (up_inode n s.tables))
+
+abbrev pub drop_which : ℕ → Drop → TablesState → Did DroppedState TablesState
+drop_which h (Held n) t = drop_inode h n t
+drop_which h (Walked n) t = drop_walked n t
+
+-- what an operation makes of the state in hart h's hand, where the device answers x
+unfoldable pub exec : ℕ → Outside → (op : Op) → State → Did (Answer op) State
+exec h x Join s = in_log s (join_log h s.log)
+exec h x (JoinToWrite fd) s = join_unless h s (refusal_of want.Write (file_named h fd s.tables))
+exec h x Leave s = in_log s (leave_log h s.log)
+exec h x (Get b) s = in_log s (get_block h b s.log)
+exec h x (Read b) s = in_log s (read_block b x s.log)
+exec h x (Put b change) s = Ran tt (record s { log = put_block h b change s.log })
+exec h x Commit s = in_log s (commit_log x s.log)
+exec h x (Lock n) s = in_tables s (lock_inode h n s.tables)
+exec h x (LockFile w fd) s = in_tables s (lock_file h w fd s.tables)
+exec h x (Unlock v moved) s = Ran tt (record s { tables = unlock_inode h v moved s.tables })
+exec h x (Settle v) s = in_tables s (settle_inode h v s.tables)
+exec h x (Up whom) s = in_tables s (up_whom h whom s.tables)
+exec h x (Claim b candidates) s = claim_first h b s (first_free s.tables.entries candidates)
+exec h x (Down drop) s = in_tables s (drop_which h drop s.tables)
+exec h x (CheckFile w fd) s = Ran (refusal_of w (file_named h fd s.tables)) s
+exec h x TakePlace s = in_tables s (take_place h s.tables)
+exec h x (TakeDescriptor n file) s = in_tables s (open_file h n file s.tables)
+exec h x (Double fd) s = in_tables s (double_descriptor h fd s.tables)
+exec h x (Close fd) s = in_tables s (shut_descriptor h fd s.tables)
+exec h x (Give child from) s = in_tables s (give_next h child from s.tables)
+exec h x Reply s = Ran tt s
+
+-- ---- of which kind an operation with its answer is
+
+-- what is refused by its descriptor is a reply and nothing else
+abbrev pub kind_joined : Joined → Kind
+kind_joined (RefusesJoin why) = kind.Reply
+kind_joined Joins = kind.Join
+
+abbrev pub kind_locked : LockedState → Kind
+kind_locked (Refuses why) = kind.Reply
+kind_locked (Locks file content) = kind.Lock
+
+abbrev pub kind_claimed : Claimed → Kind
+kind_claimed (Claims n) = kind.Up
+kind_claimed NoPlace = kind.Up
+kind_claimed NoInode = kind.Put
+
+-- the last reference to a dead inode isn't counted down: its lock is taken, but within a walk
+abbrev pub kind_dropped : DroppedState → Kind
+kind_dropped Counts = kind.Down
+kind_dropped Keeps = kind.Down
+kind_dropped (Dies n inode) = kind.Lock
+
+abbrev pub kind_doubled : Doubled → Kind
+kind_doubled doubled.BadDescriptor = kind.Reply
+kind_doubled doubled.Full = kind.Slot
+kind_doubled (doubled.Gave fd) = kind.Slot
+
+abbrev pub kind_shut : Shut → Kind
+kind_shut shut.BadDescriptor = kind.Reply
+kind_shut shut.Closed = kind.Slot
+kind_shut (shut.Last n) = kind.Slot
+
+abbrev pub kind_given : Given → Kind
+kind_given (given.Descriptor fd more) = kind.Slot
+kind_given (given.Directory n) = kind.Up
+
+abbrev pub kind_of : (op : Op) → Answer op → Kind
+kind_of Join a = kind.Join
+kind_of (JoinToWrite fd) a = kind_joined a
+kind_of Leave a = kind.Leave
+kind_of (Get b) a = kind.Get
+kind_of (Read b) a = kind.Read
+kind_of (Put b change) a = kind.Put
+kind_of Commit a = kind.Commit
+kind_of (Lock n) a = kind.Lock
+kind_of (LockFile w fd) a = kind_locked a
+kind_of (Unlock v moved) a = kind.Unlock
+kind_of (Settle v) a = kind.Unlock
+kind_of (Up whom) a = kind.Up
+kind_of (Claim b candidates) a = kind_claimed a
+kind_of (Down drop) a = kind_dropped a
+kind_of (CheckFile w fd) a = kind.Reply
+kind_of TakePlace a = kind.Slot
+kind_of (TakeDescriptor n file) a = kind.Slot
+kind_of (Double fd) a = kind_doubled a
+kind_of (Close fd) a = kind_shut a
+kind_of (Give child from) a = kind_given a
+kind_of Reply a = kind.Reply

@@ -1,0 +1,64 @@
+// One function for each operation on descriptors and open files.
+ghost use Rattle.std.specs.Prelude.{◌≡◌, IfErr};
+ghost use Rattle.atomic_programs.specs.Prog.{Ran as ItRan};
+ghost use Rattle.fs_tables.specs.Results.{opened_as};
+ghost use Rattle.fs_machine.specs.LogPart.{Outside};
+ghost use Rattle.fs_machine.specs.Steps.{state_of, exec, CheckFile, TakePlace, TakeDescriptor, Double, Close};
+ghost use Rattle.fs_machine.specs.Premises.{May};
+ghost use Rattle.fs_machine.specs.Tied.{LeavesTied};
+
+use crate::shared::Core;
+use block_device::Device;
+use fs_tables::{Doubled, NewFile, Reference, Refused, Shut, Want};
+
+impl<D: Device> Core<D> {
+    /// Why a descriptor may not be had for this.
+    pub fn check_file(&self, hart: u8, want: Want, fd: u32) -> Option<Refused>
+        requires may { May hart (CheckFile want fd) (state_of D.contents D.failures self.now) }
+        ensures { (x : Outside) → exec hart x (CheckFile want fd) (state_of D.contents D.failures self.now) ≡ ItRan result (state_of D.contents D.failures self.now) }
+    {
+        self.tables.check(hart, want, fd)
+    }
+
+    /// Takes a place for an open file. False where each of the hundred is taken.
+    pub fn take_place(&mut self, hart: u8) -> bool
+        requires may { May hart TakePlace (state_of D.contents D.failures self.old) }
+        ensures ran { (x : Outside) → exec hart x TakePlace (state_of D.contents D.failures self.old) ≡ ItRan result (state_of D.contents D.failures self.new) }
+        ensures others { LeavesTied hart (state_of D.contents D.failures self.old) (state_of D.contents D.failures self.new) }
+    {
+        self.tables.take_place(hart)
+    }
+
+    /// Opens a file at that place, by the lowest free descriptor. Where all are open the place is given back, and the reference.
+    pub fn take_descriptor(
+        &mut self,
+        hart: u8,
+        reference: Reference,
+        file: NewFile,
+    ) -> Result<u8, Reference>
+        requires may { May hart (TakeDescriptor reference file) (state_of D.contents D.failures self.old) }
+        ensures ran { (x : Outside) → exec hart x (TakeDescriptor reference file) (state_of D.contents D.failures self.old) ≡ ItRan (opened_as result) (state_of D.contents D.failures self.new) }
+        ensures back { IfErr result (λ back. back ≡ reference) }
+        ensures others { LeavesTied hart (state_of D.contents D.failures self.old) (state_of D.contents D.failures self.new) }
+    {
+        self.tables.open(hart, reference, file)
+    }
+
+    /// One descriptor more for what this one names, the lowest that is free.
+    pub fn double(&mut self, hart: u8, fd: u32) -> Doubled
+        requires may { May hart (Double fd) (state_of D.contents D.failures self.old) }
+        ensures ran { (x : Outside) → exec hart x (Double fd) (state_of D.contents D.failures self.old) ≡ ItRan result (state_of D.contents D.failures self.new) }
+        ensures others { LeavesTied hart (state_of D.contents D.failures self.old) (state_of D.contents D.failures self.new) }
+    {
+        self.tables.double(hart, fd)
+    }
+
+    /// A descriptor goes, and with the last one that names it the open file, whose reference is handed out.
+    pub fn close(&mut self, hart: u8, fd: u32) -> Shut
+        requires may { May hart (Close fd) (state_of D.contents D.failures self.old) }
+        ensures ran { (x : Outside) → exec hart x (Close fd) (state_of D.contents D.failures self.old) ≡ ItRan result (state_of D.contents D.failures self.new) }
+        ensures others { LeavesTied hart (state_of D.contents D.failures self.old) (state_of D.contents D.failures self.new) }
+    {
+        self.tables.shut(hart, fd)
+    }
+}

@@ -1,0 +1,136 @@
+// One function for each operation on inodes in memory.
+ghost use Rattle.std.specs.Prelude.{◌≡◌, ◌<◌, Some, None, IfSome, IfNone};
+ghost use Rattle.atomic_programs.specs.Prog.{Ran as ItRan};
+ghost use Rattle.fs_tables.specs.Results.{locked_as, dropped_as, kept_as, IfDying};
+ghost use Rattle.fs_machine.specs.LogPart.{Outside};
+ghost use Rattle.fs_machine.specs.Steps.{state_of, exec, Lock, LockFile, Unlock, Settle, Up, Down, Number, Directory, Held, Walked};
+ghost use Rattle.fs_machine.specs.Premises.{May};
+ghost use Rattle.fs_machine.specs.Tied.{IsOwnInode, LeavesTied};
+ghost use Rattle.fs_machine.specs.Locked.{file_locked_as, IfFileWaits, IfFileLocked};
+
+use crate::shared::Core;
+use block_device::Device;
+use buffer_cache::HARTS;
+use fs_tables::{Dropped, Inode, OpenFile, Reference, Refused, Want};
+use sleep_lock::Guard;
+
+impl<D: Device> Core<D> {
+    /// Takes the lock of an inode. None where it waits.
+    pub fn lock(&mut self, hart: u8, reference: &Reference) -> Option<Guard<Inode>>
+        requires may { May hart (Lock reference.now) (state_of D.contents D.failures self.old) }
+        ensures ran { (x : Outside) → exec hart x (Lock reference.now) (state_of D.contents D.failures self.old) ≡ locked_as result (state_of D.contents D.failures self.new) }
+        ensures still { IfNone result (self.new ≡ self.old) }
+        ensures own { IfSome result (λ guard. IsOwnInode hart reference.now guard (state_of D.contents D.failures self.new)) }
+        ensures others { LeavesTied hart (state_of D.contents D.failures self.old) (state_of D.contents D.failures self.new) }
+    {
+        self.tables.lock(hart, reference.number())
+    }
+
+    /// Gives a lock back, with the inode as the guard has it.
+    pub fn unlock(&mut self, hart: u8, guard: Guard<Inode>)
+        requires own { IsOwnInode hart guard.value.number guard (state_of D.contents D.failures self.old) }
+        requires may { May hart (Unlock guard.value None) (state_of D.contents D.failures self.old) }
+        ensures ran { (x : Outside) → exec hart x (Unlock guard.value None) (state_of D.contents D.failures self.old) ≡ ItRan tt (state_of D.contents D.failures self.new) }
+        ensures others { LeavesTied hart (state_of D.contents D.failures self.old) (state_of D.contents D.failures self.new) }
+    {
+        self.tables.unlock(hart, guard);
+    }
+
+    /// One reference more to an inode. None where each of the fifty places is referred to.
+    #[tactic(auto, unfolding(crate::specs::Premises::May))]
+    pub fn up(&mut self, hart: u8, number: u32) -> Option<Reference>
+        requires may { May hart (Up (Number number)) (state_of D.contents D.failures self.old) }
+        ensures ran { (x : Outside) → exec hart x (Up (Number number)) (state_of D.contents D.failures self.old) ≡ ItRan result (state_of D.contents D.failures self.new) }
+        ensures others { LeavesTied hart (state_of D.contents D.failures self.old) (state_of D.contents D.failures self.new) }
+    {
+        self.tables.up(number)
+    }
+
+    /// Drops a reference. Where it is the last one to a dead inode the inode's lock is taken in its place.
+    pub fn drop_reference(&mut self, hart: u8, reference: Reference) -> Dropped
+        requires may { May hart (Down (Held reference)) (state_of D.contents D.failures self.old) }
+        ensures ran { (x : Outside) → exec hart x (Down (Held reference)) (state_of D.contents D.failures self.old) ≡ dropped_as result (state_of D.contents D.failures self.new) }
+        ensures own { IfDying result (λ n guard. (n ≡ reference) × IsOwnInode hart reference guard (state_of D.contents D.failures self.new)) }
+        ensures others { LeavesTied hart (state_of D.contents D.failures self.old) (state_of D.contents D.failures self.new) }
+    {
+        self.tables.drop_reference(hart, reference)
+    }
+
+    /// Takes the lock of the inode that a descriptor names, where it may be had for this.
+    #[tactic(auto, unfolding(crate::specs::Premises::May))]
+    pub fn lock_file(&mut self, hart: u8, want: Want, fd: u32) -> LockedFile
+        requires may { May hart (LockFile want fd) (state_of D.contents D.failures self.old) }
+        ensures ran { (x : Outside) → exec hart x (LockFile want fd) (state_of D.contents D.failures self.old) ≡ file_locked_as result (state_of D.contents D.failures self.new) }
+        ensures still { IfFileWaits result (self.new ≡ self.old) }
+        ensures own { IfFileLocked result (λ file guard. IsOwnInode hart file.number guard (state_of D.contents D.failures self.new)) }
+        ensures others { LeavesTied hart (state_of D.contents D.failures self.old) (state_of D.contents D.failures self.new) }
+    {
+        match self.tables.check(hart, want, fd) {
+            Some(why) => LockedFile::Refused(why),
+            None => match self.tables.file(hart, fd) {
+                None => LockedFile::Waits,
+                Some(file) => match self.tables.lock(hart, file.number) {
+                    None => LockedFile::Waits,
+                    Some(guard) => LockedFile::Locked(file, guard),
+                },
+            },
+        }
+    }
+
+    /// Gives a lock back, and the file of this descriptor has this offset from now on.
+    #[tactic(auto, unfolding(crate::specs::Premises::May))]
+    pub fn unlock_moving(&mut self, hart: u8, guard: Guard<Inode>, fd: u32, offset: u32)
+        requires hart { hart < HARTS }
+        requires own { IsOwnInode hart guard.value.number guard (state_of D.contents D.failures self.old) }
+        requires may { May hart (Unlock guard.value (Some (fd, offset))) (state_of D.contents D.failures self.old) }
+        ensures ran { (x : Outside) → exec hart x (Unlock guard.value (Some (fd, offset))) (state_of D.contents D.failures self.old) ≡ ItRan tt (state_of D.contents D.failures self.new) }
+        ensures others { LeavesTied hart (state_of D.contents D.failures self.old) (state_of D.contents D.failures self.new) }
+    {
+        self.tables.move_offset(hart, fd, offset);
+        self.tables.unlock(hart, guard);
+    }
+
+    /// Gives a lock back, and the inode, to which the reference is, is the hart's current directory from now on. The reference
+    /// to the old one is handed out.
+    #[tactic(auto, unfolding(crate::specs::Premises::May))]
+    pub fn settle(&mut self, hart: u8, guard: Guard<Inode>, reference: Reference) -> Reference
+        requires own { IsOwnInode hart guard.value.number guard (state_of D.contents D.failures self.old) }
+        requires reference { reference ≡ guard.value.number }
+        requires may { May hart (Settle guard.value) (state_of D.contents D.failures self.old) }
+        ensures ran { (x : Outside) → exec hart x (Settle guard.value) (state_of D.contents D.failures self.old) ≡ ItRan result (state_of D.contents D.failures self.new) }
+        ensures others { LeavesTied hart (state_of D.contents D.failures self.old) (state_of D.contents D.failures self.new) }
+    {
+        self.tables.unlock(hart, guard);
+        self.tables.set_directory(hart, reference)
+    }
+
+    /// One reference more to the hart's current directory. It is never None, since one stands to it.
+    #[tactic(auto, unfolding(crate::specs::Premises::May))]
+    pub fn up_directory(&mut self, hart: u8) -> Option<Reference>
+        requires may { May hart (Up Directory) (state_of D.contents D.failures self.old) }
+        ensures ran { (x : Outside) → exec hart x (Up Directory) (state_of D.contents D.failures self.old) ≡ ItRan result (state_of D.contents D.failures self.new) }
+        ensures others { LeavesTied hart (state_of D.contents D.failures self.old) (state_of D.contents D.failures self.new) }
+    {
+        let number = self.tables.directory(hart);
+        self.tables.up(number)
+    }
+
+    /// Drops a reference within a walk. Where it is the last one to a dead inode it is kept, to be freed later.
+    #[tactic(auto, unfolding(crate::specs::Premises::May))]
+    pub fn drop_walked(&mut self, hart: u8, reference: Reference) -> Option<Reference>
+        requires may { May hart (Down (Walked reference)) (state_of D.contents D.failures self.old) }
+        ensures ran { (x : Outside) → exec hart x (Down (Walked reference)) (state_of D.contents D.failures self.old) ≡ ItRan (kept_as result) (state_of D.contents D.failures self.new) }
+        ensures kept { IfSome result (λ kept. kept ≡ reference) }
+        ensures others { LeavesTied hart (state_of D.contents D.failures self.old) (state_of D.contents D.failures self.new) }
+    {
+        self.tables.drop_walked(reference)
+    }
+}
+
+/// The lock of what a descriptor names.
+pub enum LockedFile {
+    Waits,
+    Refused(Refused),
+    /// The file, and its inode.
+    Locked(OpenFile, Guard<Inode>),
+}

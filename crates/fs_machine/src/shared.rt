@@ -1,0 +1,116 @@
+// What all harts share, and one function for each operation on blocks.
+ghost use Rattle.std.specs.Prelude.{◌≡◌, ◌≢◌, ◌<◌, ℕ, List, Some, None, IsSome, IfSome, IfNone};
+ghost use Rattle.buffer_cache.specs.Getting.{IfHeld};
+ghost use Rattle.buffer_cache.specs.Seats.{IsHeld};
+ghost use Rattle.group_log.specs.Waiting.{IfWaits};
+ghost use Rattle.atomic_programs.specs.Prog.{Ran as ItRan};
+ghost use Rattle.fs_machine.specs.LogPart.{Outside};
+ghost use Rattle.fs_machine.specs.Steps.{state_of, exec, Join, Leave as LeaveOp, Get, Read, Put, Commit};
+ghost use Rattle.fs_machine.specs.Premises.{May, Honest};
+ghost use Rattle.fs_machine.specs.Tied.{IsOwn, LeavesTied, bytes_of};
+ghost use Rattle.fs_machine.specs.Did.{joined_as, got_as, read_as, committed_as, said_read, said_written, IfGotNone, IfReadOk};
+
+use block_device::{Device, Fault};
+use buffer_cache::{Buffer, Got};
+use fs_tables::Tables;
+use group_log::{Left, Log, Progress, Txn};
+use sleep_lock::Guard;
+
+/// All that harts share: the log, and the tables of inodes in memory, open files and descriptors. After its parts were made
+/// nothing of it takes memory.
+pub struct Core<D: Device> {
+    pub log: Log<D>,
+    pub tables: Tables,
+}
+
+impl<D: Device> Core<D> {
+    /// Joins a transaction. None where it waits.
+    #[tactic(auto, unfolding(crate::specs::Premises::May, crate::specs::Premises::Honest))]
+    pub fn join(&mut self, hart: u8) -> Option<Txn>
+        requires may { May hart Join (state_of D.contents D.failures self.old) }
+        ensures ran { (x : Outside) → exec hart x Join (state_of D.contents D.failures self.old) ≡ joined_as result (state_of D.contents D.failures self.new) }
+        ensures still { IfNone result (self.new ≡ self.old) }
+        ensures txn { IfSome result (λ txn. txn ≡ hart) }
+        ensures others { LeavesTied hart (state_of D.contents D.failures self.old) (state_of D.contents D.failures self.new) }
+    {
+        self.log.join(hart)
+    }
+
+    /// Leaves a transaction, and says whether a commit begins.
+    #[tactic(auto, unfolding(crate::specs::Premises::May, crate::specs::Premises::Honest))]
+    pub fn leave(&mut self, hart: u8, txn: Txn) -> Left
+        requires own { txn ≡ hart }
+        requires may { May hart LeaveOp (state_of D.contents D.failures self.old) }
+        ensures ran { (x : Outside) → exec hart x LeaveOp (state_of D.contents D.failures self.old) ≡ ItRan result (state_of D.contents D.failures self.new) }
+        ensures others { LeavesTied hart (state_of D.contents D.failures self.old) (state_of D.contents D.failures self.new) }
+    {
+        self.log.leave(txn)
+    }
+
+    /// Takes a block's buffer.
+    #[tactic(auto, unfolding(crate::specs::Premises::May, crate::specs::Premises::Honest))]
+    pub fn get(&mut self, hart: u8, b: u32) -> Got
+        requires may { May hart (Get b) (state_of D.contents D.failures self.old) }
+        ensures ran { (x : Outside) → exec hart x (Get b) (state_of D.contents D.failures self.old) ≡ got_as result (state_of D.contents D.failures self.new) }
+        ensures still { IfGotNone result (self.new ≡ self.old) }
+        ensures own { IfHeld result (λ guard. IsOwn hart b guard (state_of D.contents D.failures self.new)) }
+        ensures others { LeavesTied hart (state_of D.contents D.failures self.old) (state_of D.contents D.failures self.new) }
+    {
+        self.log.get(hart, b)
+    }
+
+    /// Reads the block from the device into its buffer. An error is the device's.
+    #[tactic(auto, unfolding(crate::specs::Premises::May, crate::specs::Premises::Honest))]
+    pub fn read(&mut self, hart: u8, guard: &mut Guard<Buffer>) -> Result<(), Fault>
+        requires own { IsOwn hart guard.old.value.block guard.old (state_of D.contents D.failures self.old) }
+        requires unread { guard.old.value.content ≡ None }
+        requires may { May hart (Read guard.old.value.block) (state_of D.contents D.failures self.old) }
+        ensures ran { exec hart (said_read result (D.contents self.new.log.cache.device)) (Read guard.old.value.block) (state_of D.contents D.failures self.old)
+            ≡ read_as result guard.new (state_of D.contents D.failures self.new) }
+        ensures own { IsOwn hart guard.old.value.block guard.new (state_of D.contents D.failures self.new) }
+        ensures valid { IfReadOk result (IsSome guard.new.value.content) (guard.new ≡ guard.old) }
+        ensures honest { Honest hart (Read guard.old.value.block) (state_of D.contents D.failures self.old) (said_read result (D.contents self.new.log.cache.device)) }
+        ensures others { LeavesTied hart (state_of D.contents D.failures self.old) (state_of D.contents D.failures self.new) }
+    {
+        self.log.fill(guard)
+    }
+
+    /// Gives a buffer back as it was.
+    #[tactic(auto, unfolding(crate::specs::Premises::May, crate::specs::Premises::Honest))]
+    pub fn put_back(&mut self, hart: u8, guard: Guard<Buffer>)
+        requires own { IsOwn hart guard.value.block guard (state_of D.contents D.failures self.old) }
+        requires may { May hart (Put guard.value.block None) (state_of D.contents D.failures self.old) }
+        ensures ran { (x : Outside) → exec hart x (Put guard.value.block None) (state_of D.contents D.failures self.old) ≡ ItRan tt (state_of D.contents D.failures self.new) }
+        ensures others { LeavesTied hart (state_of D.contents D.failures self.old) (state_of D.contents D.failures self.new) }
+    {
+        self.log.release(guard);
+    }
+
+    /// Gives a buffer back, recorded with the bytes that it holds.
+    #[tactic(auto, unfolding(crate::specs::Premises::May, crate::specs::Premises::Honest))]
+    pub fn put_changed(&mut self, hart: u8, txn: &mut Txn, guard: Guard<Buffer>)
+        requires txn { txn.old ≡ hart }
+        requires hand { guard.hart ≡ hart }
+        requires held { IsHeld self.old.log.cache.seats guard }
+        requires valid { IsSome guard.value.content }
+        requires may { May hart (Put guard.value.block (Some (bytes_of guard))) (state_of D.contents D.failures self.old) }
+        ensures ran { (x : Outside) → exec hart x (Put guard.value.block (Some (bytes_of guard))) (state_of D.contents D.failures self.old) ≡ ItRan tt (state_of D.contents D.failures self.new) }
+        ensures kept { txn.new ≡ txn.old }
+        ensures others { LeavesTied hart (state_of D.contents D.failures self.old) (state_of D.contents D.failures self.new) }
+    {
+        self.log.record(txn, guard);
+    }
+
+    /// Makes one write of the commit.
+    #[tactic(auto, unfolding(crate::specs::Premises::May, crate::specs::Premises::Honest))]
+    pub fn commit(&mut self, hart: u8) -> Progress
+        requires may { May hart Commit (state_of D.contents D.failures self.old) }
+        ensures ran { exec hart (said_written result (D.contents self.new.log.cache.device)) Commit (state_of D.contents D.failures self.old)
+            ≡ committed_as result (state_of D.contents D.failures self.new) }
+        ensures still { IfWaits result (self.new ≡ self.old) }
+        ensures honest { Honest hart Commit (state_of D.contents D.failures self.old) (said_written result (D.contents self.new.log.cache.device)) }
+        ensures others { LeavesTied hart (state_of D.contents D.failures self.old) (state_of D.contents D.failures self.new) }
+    {
+        self.log.commit_step(hart)
+    }
+}

@@ -1,0 +1,6 @@
+pub mod Places
+pub mod Locking
+pub mod Counting
+pub mod Beginning
+pub mod Dying
+pub mod Opening

@@ -1,0 +1,178 @@
+-- What the lock of an inode tried, or given back, makes of the tables.
+use Rattle.std.proofs.Common.{◌≡◌, ◌≢◌, ℕ, ◌<◌, List, length, length-set, get_or, refl, sym, ◌∙◌, ap, subst, arith, Option, Some, None}
+use Rattle.std.specs.Prelude.{IfSome, IfNone, IsSome, slice_get, slice_set}
+use Rattle.std.proofs.lemmas.Option.{slice_get_within, slice_get-get_or, same_Some, none-some}
+use Rattle.sleep_lock.specs.SleepLock.{SlotState, GuardState, guard_of, taken, filled, emptied}
+use Rattle.sleep_lock.specs.Row.{lock_at as lock_row_at, lock_of, unlocked, IsOut, IsNumbered}
+use Rattle.sleep_lock.proofs.Lists.{set_same, slice_get-set_same}
+use Rattle.sleep_lock.proofs.Locks.{lock_laws}
+use Rattle.fs_tables.specs.Lists.{change_at}
+use Rattle.atomic_programs.specs.Prog.{Ran}
+use Rattle.fs_tables.specs.declared.inodes.Entry.{Entry}
+use Rattle.fs_tables.specs.declared.inodes.Inode.{Inode}
+use Rattle.fs_tables.specs.Tables.{TablesState, place_of}
+use Rattle.fs_tables.specs.Locks.{IsLocked}
+use Rattle.fs_tables.specs.Inodes.{lock_inode, lock_at, got_by, unlock_inode, unlock_at}
+use Rattle.fs_tables.specs.Results.{locked_as}
+use Rattle.fs_tables.specs.Soundness.{IsSoundInodes, AllPlaced, PlaceFits}
+use Rattle.fs_tables.proofs.Places.{Found, placed, change_set, all_placed_set}
+
+pub lock_ran : (h n k : ℕ) (t : TablesState) (new : List (SlotState Inode)) (r : Option (GuardState Inode)) → place_of n t.entries ≡ Some k → (new, r) ≡ lock_of t.locks k h
+    → lock_inode h n t ≡ locked_as r (record t { locks = new })
+unfolding lock_inode
+lock_ran h n k t new r e gives = ap (lock_at h t) e ∙ (ap (got_by t) (sym gives) ∙ at r)
+  where
+    at : (r : Option (GuardState Inode)) → got_by t (new, r) ≡ locked_as r (record t { locks = new })
+    at None = refl
+    at (Some guard) = refl
+
+pub lock_waits : (h n : ℕ) (t : TablesState) → place_of n t.entries ≡ None → lock_inode h n t ≡ locked_as None t
+unfolding lock_inode
+lock_waits h n t e = ap (lock_at h t) e
+
+-- the lock's slot
+pub slot_at : (entries : List Entry) (locks : List (SlotState Inode)) (k : ℕ) (e : Entry) → IsSoundInodes entries locks → slice_get entries k ≡ Some e
+    → (s : SlotState Inode) × (slice_get locks k ≡ Some s) × PlaceFits k e s
+unfolding AllPlaced
+slot_at entries locks k e sound there =
+    let within : k < length locks = let a = slice_get_within entries k e there in let b = sound.places in let c = sound.same in omega (arith, a, b, c) in
+    let d : SlotState Inode = record { number = 0; inside = None; holder = None } in
+    let at = slice_get-get_or locks k d within in
+    (get_or locks k d, at, sound.placed k e (get_or locks k d) there at)
+
+-- a guard's place
+pub found_locked : (g : GuardState Inode) (t : TablesState) → IsLocked g t → Found g.value.number t.entries g.number
+found_locked g t l = record { entry = l.entry; there = l.there; number = l.number; referenced = l.referenced }
+
+-- ---- the lock tried
+
+pub lock_is : (locks new : List (SlotState Inode)) (k h : ℕ) (s : SlotState Inode) (r : Option (GuardState Inode)) → slice_get locks k ≡ Some s → (new, r) ≡ lock_of locks k h
+    → (new ≡ slice_set locks k (taken s h)) × (r ≡ guard_of s h)
+unfolding lock_of
+lock_is locks new k h s r e gives =
+    let Pair : Type 0 = List (SlotState Inode) × Option (GuardState Inode) in
+    let all = gives ∙ ap (lock_row_at locks k h) e in
+    (ap (λ (p : Pair). p.0) all, ap (λ (p : Pair). p.1) all)
+
+taken_fits : (k h : ℕ) (e : Entry) (n : ℕ) (inside : Option Inode) (holder : Option ℕ) → 0 < e.references → PlaceFits k e (record { number = n; inside = inside; holder = holder })
+    → PlaceFits k e (taken (record { number = n; inside = inside; holder = holder }) h)
+taken_fits k h e n None holder lt fits = (fits.0, fits.1)
+taken_fits k h e n (Some v) holder lt fits = (fits.0, (refl, lt))
+
+pub lock_good : (h n k : ℕ) (entries : List Entry) (locks new : List (SlotState Inode)) (r : Option (GuardState Inode)) → Found n entries k → IsSoundInodes entries locks
+    → (new, r) ≡ lock_of locks k h → IsSoundInodes entries new
+lock_good h n k entries locks new r f sound gives =
+    let at = slot_at entries locks k f.entry sound f.there in
+    let s = at.0 in
+    let is = lock_is locks new k h s r at.1 gives in
+    let fits = taken_fits k h f.entry s.number s.inside s.holder f.referenced at.2 in
+    record {
+      places = sound.places;
+      same = ap (λ (l : List (SlotState Inode)). length l) is.0 ∙ (length-set locks k (taken s h) ∙ sound.same);
+      placed = subst (λ (l : List (SlotState Inode)). AllPlaced entries l) (sym is.0) (all_placed_set entries locks k f.entry (taken s h) f.there fits sound.placed);
+      once = sound.once;
+    }
+
+still_slot : (h n : ℕ) (inside : Option Inode) (holder : Option ℕ) → guard_of (record { number = n; inside = inside; holder = holder }) h ≡ None
+    → ◌≡◌ {A = SlotState Inode} (taken (record { number = n; inside = inside; holder = holder }) h) (record { number = n; inside = inside; holder = holder })
+still_slot h n None holder e = refl
+still_slot h n (Some v) holder e = absurd (none-some _ (sym e))
+
+-- where it is out nothing changes
+pub lock_still : (h n k : ℕ) (entries : List Entry) (locks new : List (SlotState Inode)) → Found n entries k → IsSoundInodes entries locks
+    → (r : Option (GuardState Inode)) → (new, r) ≡ lock_of locks k h → r ≡ None → new ≡ locks
+lock_still h n k entries locks new f sound r gives none =
+    let at = slot_at entries locks k f.entry sound f.there in
+    let s = at.0 in
+    let is = lock_is locks new k h s r at.1 gives in
+    is.0 ∙ (ap (slice_set locks k) (still_slot h s.number s.inside s.holder (sym is.1 ∙ none)) ∙ set_same locks k s at.1)
+
+own_slot : (h n k : ℕ) (t : TablesState) (f : Found n t.entries k) (m : ℕ) (inside : Option Inode) (holder : Option ℕ) → slice_get t.locks k ≡ Some (record { number = m; inside = inside; holder = holder })
+    → PlaceFits k f.entry (record { number = m; inside = inside; holder = holder })
+    → IfSome (guard_of (record { number = m; inside = inside; holder = holder }) h)
+    (λ (g : GuardState Inode). (g.hart ≡ h) × (g.value.number ≡ n) × IsLocked g (record t { locks = slice_set t.locks k (taken (record { number = m; inside = inside; holder = holder }) h) }))
+unfolding IsOut
+own_slot h n k t f m None holder at fits = tt
+own_slot h n k t f m (Some v) holder at fits =
+    let new : SlotState Inode = record { number = m; inside = None; holder = Some h } in (
+      refl,
+      fits.1.1 f.referenced ∙ f.number,
+      record {
+        out = ap (slice_get (slice_set t.locks k new)) fits.0 ∙ slice_get-set_same t.locks k new (slice_get_within t.locks k _ at);
+        entry = f.entry;
+        there = ap (slice_get t.entries) fits.0 ∙ f.there;
+        number = sym (fits.1.1 f.referenced);
+        referenced = f.referenced;
+      },
+    )
+
+pub lock_own : (h n k : ℕ) (t : TablesState) (new : List (SlotState Inode)) (r : Option (GuardState Inode)) → Found n t.entries k → IsSoundInodes t.entries t.locks → (new, r) ≡ lock_of t.locks k h
+    → IfSome r (λ g. (g.hart ≡ h) × (g.value.number ≡ n) × IsLocked g (record t { locks = new }))
+lock_own h n k t new r f sound gives =
+    let at = slot_at t.entries t.locks k f.entry sound f.there in
+    let s = at.0 in
+    let is = lock_is t.locks new k h s r at.1 gives in
+    let all = own_slot h n k t f s.number s.inside s.holder at.1 at.2 in
+    let P : List (SlotState Inode) → Option (GuardState Inode) → Type 0 = λ l o. IfSome o (λ g. (g.hart ≡ h) × (g.value.number ≡ n) × IsLocked g (record t { locks = l })) in
+    subst (λ l. P l r) (sym is.0) (subst (λ o. P (slice_set t.locks k (taken s h)) o) (sym is.1) all)
+
+-- ---- the lock given back
+
+pub unlock_ran : (h : ℕ) (g : GuardState Inode) (t : TablesState) (new : List (SlotState Inode)) → IsSoundInodes t.entries t.locks → IsLocked g t → new ≡ unlocked t.locks g
+    → ◌≡◌ {A = TablesState} (record t { locks = new }) (unlock_inode h g.value None t)
+unfolding unlock_inode unlocked
+unlock_ran h g t new sound l is =
+    ap (λ (z : List (SlotState Inode)). record t { locks = z }) is ∙ ap (unlock_at g.value t) (sym (placed g.value.number t.entries g.number sound.once (found_locked g t l)))
+
+pub unlock_good : (g : GuardState Inode) (t : TablesState) (new : List (SlotState Inode)) → IsSoundInodes t.entries t.locks → IsLocked g t → new ≡ unlocked t.locks g → IsSoundInodes t.entries new
+unfolding unlocked
+unlock_good g t new sound l is =
+    let back : SlotState Inode = filled g.number g.value in
+    record {
+      places = sound.places;
+      same = ap (λ (z : List (SlotState Inode)). length z) is ∙ (length-set t.locks g.number back ∙ sound.same);
+      placed = subst (λ (z : List (SlotState Inode)). AllPlaced t.entries z) (sym is)
+          (all_placed_set t.entries t.locks g.number l.entry back l.there (refl, (refl, λ _. sym l.number)) sound.placed);
+      once = sound.once;
+    }
+
+-- each lock has its place as number
+pub numbered : (entries : List Entry) (locks : List (SlotState Inode)) → IsSoundInodes entries locks → IsNumbered locks
+unfolding IsNumbered AllPlaced
+numbered entries locks sound k s there =
+    let within : k < length entries = let a = slice_get_within locks k s there in let b = sound.places in let c = sound.same in omega (arith, a, b, c) in
+    let d : Entry = record { number = 0; references = 0 } in
+    (sound.placed k (get_or entries k d) s (slice_get-get_or entries k d within) there).0
+
+-- what is out in other harts' hands stays so
+pub lock_others : (h k : ℕ) (t : TablesState) (new : List (SlotState Inode)) (r : Option (GuardState Inode)) → (new, r) ≡ lock_of t.locks k h → (g : GuardState Inode) → g.hart ≢ h
+    → IsLocked g t → IsLocked g (record t { locks = new })
+lock_others h k t new r gives g ne l =
+    let Pair : Type 0 = List (SlotState Inode) × Option (GuardState Inode) in
+    let laws = lock_laws t.locks k h in
+    let out : IsOut new g = subst (λ (z : List (SlotState Inode)). IsOut z g) (sym (ap (λ (p : Pair). p.0) gives)) (laws.others g ne l.out) in
+    record { out = out; entry = l.entry; there = l.there; number = l.number; referenced = l.referenced }
+
+-- the row after a lock that was had
+pub lock_had : (h k : ℕ) (entries : List Entry) (locks new : List (SlotState Inode)) (e : Entry) (r : Option (GuardState Inode)) → IsSoundInodes entries locks → slice_get entries k ≡ Some e
+    → (new, r) ≡ lock_of locks k h → new ≡ change_at k (λ s. taken s h) locks
+lock_had h k entries locks new e r sound there gives =
+    let at = slot_at entries locks k e sound there in
+    (lock_is locks new k h at.0 r at.1 gives).0 ∙ sym (change_set k (λ s. taken s h) locks at.0 at.1)
+
+-- the same of any place
+pub lock_still_at : (h k : ℕ) (entries : List Entry) (locks new : List (SlotState Inode)) (e : Entry) → slice_get entries k ≡ Some e → IsSoundInodes entries locks
+    → (r : Option (GuardState Inode)) → (new, r) ≡ lock_of locks k h → r ≡ None → new ≡ locks
+lock_still_at h k entries locks new e there sound r gives none =
+    let at = slot_at entries locks k e sound there in
+    let s = at.0 in
+    let is = lock_is locks new k h s r at.1 gives in
+    is.0 ∙ (ap (slice_set locks k) (still_slot h s.number s.inside s.holder (sym is.1 ∙ none)) ∙ set_same locks k s at.1)
+
+-- a guard that was had is out
+pub had_out : (h k : ℕ) (entries : List Entry) (locks new : List (SlotState Inode)) (g : GuardState Inode) → IsSoundInodes entries locks → (new, Some g) ≡ lock_of locks k h → IsOut new g
+had_out h k entries locks new g sound gives =
+    let Pair : Type 0 = List (SlotState Inode) × Option (GuardState Inode) in
+    let laws = lock_laws locks k h in
+    let out = laws.out (numbered entries locks sound) g (sym (ap (λ (p : Pair). p.1) gives)) in
+    subst (λ (z : List (SlotState Inode)). IsOut z g) (sym (ap (λ (p : Pair). p.0) gives)) out.2

@@ -1,0 +1,18 @@
+//! The tables that all harts share: the inodes in memory with their locks and references, the open files, and for each hart
+//! its descriptors and its current directory.
+#![tactic(auto)]
+
+mod descriptors;
+mod desk;
+mod files;
+mod inodes;
+mod limits;
+mod slots;
+mod tables;
+
+pub use desk::Desk;
+pub use files::{FilePlace, NewFile, OpenFile, Refused, Want};
+pub use inodes::{Dropped, Entry, Inode, Reference};
+pub use limits::{DESCRIPTORS, MEMORY_INODES, OPEN_FILES, ROOT};
+pub use slots::{Doubled, Given, Shut};
+pub use tables::Tables;

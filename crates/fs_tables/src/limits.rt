@@ -1,0 +1,19 @@
+// The numbers of the tables.
+
+/// How many inodes there may be in memory.
+pub const MEMORY_INODES: usize = 50;
+
+/// How many files may be open.
+pub const OPEN_FILES: usize = 100;
+
+/// How many descriptors a hart has.
+pub const DESCRIPTORS: usize = 16;
+
+/// One desk for each hart.
+pub(crate) const DESKS: usize = 8;
+
+/// The inode of the root, every hart's directory at first.
+pub const ROOT: u32 = 1;
+
+/// The type of a device.
+pub(crate) const DEVICE: i16 = 3;
