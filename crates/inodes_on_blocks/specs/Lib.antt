@@ -1,0 +1,2 @@
+pub mod OnBlocks
+pub mod Laws

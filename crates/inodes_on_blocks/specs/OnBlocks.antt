@@ -1,0 +1,28 @@
+-- The nodes of a running file system on the blocks that its log shows.
+use Rattle.std.specs.Prelude.{ℕ, Bool, List, length, slice_index_or, Option, None, is_some}
+use Rattle.fs_layout.specs.declared.superblock.Super.{Super}
+use Rattle.buffer_cache.specs.Seats.{SeatState, seen_in}
+use Rattle.image_laws.specs.Holds.{Nodes}
+use Rattle.image_laws.specs.Running.{IsRunning}
+use Rattle.image_laws.specs.Seen.{AreSeen, seen_blocks}
+
+-- hart h is in a transaction
+abbrev pub is_joined : List (Option ℕ) → ℕ → Bool
+is_joined members h = is_some (slice_index_or members h None)
+
+-- What is known beside the code's state: the nodes; whose each block is; the bits that the mounted image had set for nothing; which hart is
+-- changing an inode, if one is.
+pub record Ghost : Type 0 where
+  pub nodes : Nodes
+  pub owner : ℕ → ℕ
+  pub left : ℕ → Bool
+  pub changing : ℕ → Option ℕ
+
+-- the disk as the log and its cache show it
+abbrev pub shown : List (List ℕ) → List SeatState → Super → List (List ℕ)
+shown contents seats sizes = seen_blocks sizes (seen_in contents seats) (length contents)
+
+-- The nodes are on the seen blocks, but for those that a hart in a transaction is changing.
+pub record AreOnBlocks (contents : List (List ℕ)) (seats : List SeatState) (sizes : Super) (members : List (Option ℕ)) (g : Ghost) : Type 0 where
+  pub seen : AreSeen sizes (seen_in contents seats) (length contents)
+  pub running : IsRunning (shown contents seats sizes) g.nodes g.owner g.left g.changing (is_joined members)

@@ -1,0 +1,47 @@
+//! The nodes of a running file system on the blocks that its log shows: what always holds of them, which puts and calls of
+//! the log keep it, and that they are a well-formed image of the tree whenever no transaction is outstanding. The functions
+//! do nothing: each carries a law.
+#![tactic(auto)]
+
+ghost use Rattle.inodes_on_blocks.specs.Laws.{ChangesMayBegin, ChangesMayEnd, JoinsKeepThem, LeavesKeepThem, MountedNodesAreOnBlocks, QuietBlocksAreImages, RecordsKeepThem, UnseenChangesKeepThem};
+
+/// Whenever no transaction is outstanding, the seen blocks are a well-formed image of the tree, and so is each disk that
+/// recovery would leave so.
+pub fn quiet_blocks_are_images()
+    ensures { QuietBlocksAreImages }
+{}
+
+/// A block that is recorded for an inode that is being changed leaves all others on the blocks.
+pub fn records_keep_them()
+    ensures { RecordsKeepThem }
+{}
+
+/// What changes nothing that is seen outside the log keeps them: a buffer that is got, read or given back, a step of a commit.
+pub fn unseen_changes_keep_them()
+    ensures { UnseenChangesKeepThem }
+{}
+
+/// A hart that joins, or records one more block, changes nothing of it.
+pub fn joins_keep_them()
+    ensures { JoinsKeepThem }
+{}
+
+/// A hart that is changing no inode may leave its transaction.
+pub fn leaves_keep_them()
+    ensures { LeavesKeepThem }
+{}
+
+/// A hart in a transaction may begin to change an inode.
+pub fn changes_may_begin()
+    ensures { ChangesMayBegin }
+{}
+
+/// A change ends where the inode holds a node, which is then its node.
+pub fn changes_may_end()
+    ensures { ChangesMayEnd }
+{}
+
+/// The nodes of a well-formed image are on the blocks of a log over it that is fresh.
+pub fn mounted_nodes_are_on_blocks()
+    ensures { MountedNodesAreOnBlocks }
+{}
