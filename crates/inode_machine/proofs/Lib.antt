@@ -16,3 +16,4 @@ pub mod Drops
 pub mod Rest
 pub mod Calls
 pub mod Looks
+pub mod Listing
