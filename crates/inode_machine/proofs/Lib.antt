@@ -14,6 +14,9 @@ pub mod Stats
 pub mod Readings
 pub mod Drops
 pub mod Rest
+pub mod Opened
 pub mod Calls
 pub mod Looks
 pub mod Listing
+pub mod Walks
+pub mod Beginnings

@@ -162,14 +162,16 @@ module _ (h : ℕ) (B : List Step → Type 0) (Q : Reply → List Step → World
       → Safe machine h B Q (free_all ns (Do Say unmarked (λ _. Ret r))) n es w
   unfolding times
   frees base es O0 ends [] n w O owns free row desk few l refs walk pending =
-      s-say owns free lt (omega (arith, few)) (listed_free O base [] l) (ap (λ (d : Desk). d.joined) desk) (λ l1 u1 q1 spoilt own1. record { wp = ends O u1 (record {
-        inodes = λ z i. none i z;
-        refs = λ i. let e = refs i in omega (arith, e);
-        walk = walk;
-        pending = pending;
-        row = row;
-        desk = desk;
-      }) spoilt own1 })
+      s-say owns free lt (omega (arith, few)) (listed_free O base [] l) (ap (λ (d : Desk). d.joined) desk) (λ l1 u1 q1 spoilt own1. record {
+        wp = ends O u1 (record {
+          inodes = λ z i. none i z;
+          refs = λ i. let e = refs i in omega (arith, e);
+          walk = walk;
+          pending = pending;
+          row = row;
+          desk = desk;
+        }) spoilt own1;
+      })
     where
       none : (i : ℕ) → O.inodes i ≡ None
       none i = go (O.inodes i) refl

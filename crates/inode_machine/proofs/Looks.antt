@@ -1,5 +1,5 @@
 -- The moves of a walk: it begins, looks on, is refused at its last lookup, is given up; and a call that finds no room.
-use Rattle.std.proofs.Common.{◌≡◌, ◌≢◌, ◌⊎◌, inl, inr, ℕ, ◌+◌, ◌-◌, ◌<◌, Bool, true, false, List, [], ◌∷◌, Option, Some, None, refl, sym, ◌∙◌, ap, subst, arith, if◌then◌else◌}
+use Rattle.std.proofs.Common.{◌≡◌, ◌≢◌, ◌⊎◌, inl, inr, ℕ, ◌+◌, ◌-◌, ◌<◌, Bool, true, false, List, [], ◌∷◌, Option, Some, None, refl, sym, ◌∙◌, ap, subst, arith, if◌then◌else◌, nat_lt, ◌&&◌}
 use Rattle.atomic_programs.specs.Prog.{Do}
 use Rattle.atomic_programs.specs.Logic.{P, own, onto, Good, Fine, Safe, Wp}
 use Rattle.plain_tree.specs.declared.node.Node.{Node}
@@ -22,15 +22,16 @@ use Rattle.tree_moves.specs.Moves.Move.{Begin, Look, Quit}
 use Rattle.inode_machine.specs.World.{Mine, Desk, Note, World, Mark, stage_of}
 use Rattle.inode_machine.specs.World.Mark.{Makes, Frees, Fills, Mends, Spoils}
 use Rattle.inode_machine.specs.World.Op.{Take, UpStart}
-use Rattle.inode_machine.specs.Inodes.{Looking, Seen, Face, sort_of, seen_in, face_of, is_live_face}
+use Rattle.inode_machine.specs.Inodes.{Looking, Seen, Face, sort_of, seen_in, face_of, is_live_face, is_directory_face}
 use Rattle.inode_machine.specs.Exec.{locked, lock_if, with_walk, counted_up, start_if, start_number, has_place}
 use Rattle.inode_machine.specs.Marks.{Made, marked, with_mark, with_made, with_noted, mended, made_by, look_made, looked, begun, acts, found_by, act_left, left_by, places, new_id, unopened, unmoved, unheld}
-use Rattle.inode_machine.specs.Rules.{Own, Held, Row, row_of, own_of, Found, Inv, IsOut, looking_cost, machine}
+use Rattle.inode_machine.specs.Rules.{Own, Held, Row, row_of, own_of, Found, Inv, IsOut, looking_cost, machine, own_names}
 use Rattle.inode_machine.proofs.Frame.{Did, Fair, fair, fair_then, fair_same, has_inode}
 use Rattle.inode_machine.proofs.Rules.{s-owned, quiet, acted, others, fine_after, Locking, locking, is_out, locks_not, locks_none, UnlocksAll, locked_held, my_refs, has_node, MayRefer, NotesOwn, Ups, ups}
 use Rattle.inode_machine.proofs.Settling.{settle_live, settle_dead, settled_row}
-use Rattle.inode_machine.proofs.Walking.{refs_walk, walk_did, own_walk, stage_walk, moves_good}
+use Rattle.inode_machine.proofs.Walking.{walk_named_did, refs_walk, walk_did, own_walk, stage_walk, moves_good}
 use Rattle.inode_machine.proofs.Dups.{SameTable, with_new, Flagging, flagging}
+use Rattle.inode_machine.proofs.Shops.{names_less}
 
 -- a face says whether anything may be found
 pub live_face : (v : Option Node) → is_live_face (face_of v) ≡ live_directory v
@@ -41,6 +42,24 @@ live_face (Some v) = by_kind v.kind
     by_kind (Directory slots) = refl
     by_kind (File bytes) = refl
     by_kind (Device major minor size) = refl
+
+-- what is no directory finds nothing
+pub no_directory : (v : Option Node) → is_directory_face (face_of v) ≡ false → live_directory v ≡ false
+no_directory None e = refl
+no_directory (Some v) e = by_kind v.kind e
+  where
+    by_kind : (k : Kind) → is_directory_face (face_of (Some (record { count = v.count; kind = k }))) ≡ false → live_directory (Some (record { count = v.count; kind = k })) ≡ false
+    by_kind (Directory slots) q = absurd cc
+    by_kind (File bytes) q = none (nat_lt 0 v.count)
+      where
+        none : (b : Bool) → (b && false) ≡ false
+        none true = refl
+        none false = refl
+    by_kind (Device major minor size) q = none (nat_lt 0 v.count)
+      where
+        none : (b : Bool) → (b && false) ≡ false
+        none true = refl
+        none false = refl
 
 places_locked : (h d i : ℕ) (looking : Looking) (a : Seen) (o : Option Mark) (v : World) → places h (Take d looking) a o (locked h i v) ≡ places h (Take d looking) a o v
 places_locked h d i looking a None v = refl
@@ -247,8 +266,8 @@ pub record MendingOf (h : ℕ) (v : World) (O : Own) (u : World) : Type 0 where
   pub bad : u.clean ≡ false
   pub owned : own_of h u ≡ record O { desk = record (O.desk) { opening = None; left = None; full = true }; mine = record { refs = O.mine.refs; walk = None; pending = None } }
 
-pub mends : (h : ℕ) (v : World) (O : Own) → own_of h v ≡ O → O.desk.lender ≡ None → h < hart_count → Inv v → O.desk.opening ≡ None → O.desk.left ≡ None → KeepsHold O.row.hold → O.mine.pending ≡ None → MendingOf h v O (mended h v)
-mends h v O ov free lt inv opening left hold none = subst (λ (z : World). MendingOf h v O z) (sym is) (record { bad = refl; fair = fair_then f.fair (fair f.fair.inv (walk_did h None None u1 (ap (λ (o : Own). o.desk.lender) f.owned ∙ free) lt f.fair.inv (ap (λ (o : Own). o.mine.pending) ov ∙ none) (λ m q e. absurd cc) (λ z q. absurd cc) (λ i q. absurd cc))); owned = own_walk h None None u1 (record O { desk = record (O.desk) { opening = None; left = None; full = true } }) f.owned })
+pub mends : (h : ℕ) (v : World) (O : Own) → own_of h v ≡ O → O.desk.lender ≡ None → h < hart_count → Inv v → O.desk.opening ≡ None → O.desk.left ≡ None → KeepsHold O.row.hold → ((i : ℕ) → own_names O.row O.desk i ≡ true → 0 < O.mine.refs i) → MendingOf h v O (mended h v)
+mends h v O ov free lt inv opening left hold names = subst (λ (z : World). MendingOf h v O z) (sym is) (record { bad = refl; fair = fair_then f.fair (fair f.fair.inv (walk_named_did h None None u1 (ap (λ (o : Own). o.desk.lender) f.owned ∙ free) lt f.fair.inv names_own (λ m q e. absurd cc) (λ z q. absurd cc) (λ i q. absurd cc))); owned = own_walk h None None u1 (record O { desk = record (O.desk) { opening = None; left = None; full = true } }) f.owned })
   where
     new : Desk
     new = record (v.desks h) { opening = None; left = None; full = true }
@@ -260,6 +279,13 @@ mends h v O ov free lt inv opening left hold none = subst (λ (z : World). Mendi
 
     u1 : World
     u1 = with_new v h new false
+
+    names_own : (j : ℕ) → own_names (row_of v.all h) (u1.desks h) j ≡ true → 0 < (v.harts h).refs j
+    names_own j is =
+        let r = my_refs h v O j ov in
+        let d : u1.desks h ≡ record (O.desk) { opening = None; left = None; full = true } = ap (λ (o : Own). o.desk) f.owned in
+        let a = names j (sym (names_less (row_of v.all h) O.row (u1.desks h) O.desk j (ap (λ (o : Own). o.row.cwd) ov) (ap (λ (o : Own). o.row.hold) ov) (ap (λ (z : Desk). z.opening) d) opening (ap (λ (z : Desk). z.left) d ∙ sym left)) ∙ is) in
+        omega (arith, r, a)
 
     is : mended h v ≡ record u1 { harts = with_walk v.harts h None None }
     is = λ z. record u1 { harts = with_walk v.harts h None None; all = tree z }

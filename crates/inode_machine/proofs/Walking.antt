@@ -1,5 +1,5 @@
 -- A move: what it leaves of the world, and its step of the tree.
-use Rattle.std.proofs.Common.{◌≡◌, ◌⊎◌, inl, inr, ℕ, ◌+◌, ◌<◌, List, [], ◌∷◌, Option, Some, None, refl, sym, ◌∙◌, ap, subst, arith}
+use Rattle.std.proofs.Common.{◌≡◌, ◌⊎◌, inl, inr, ℕ, ◌+◌, ◌<◌, List, [], ◌∷◌, Option, Some, None, refl, sym, ◌∙◌, ap, subst, arith, true}
 use Rattle.atomic_programs.specs.Logic.{P, own, onto, Fine, Wp}
 use Rattle.plain_tree.specs.Widths.{hart_count}
 use Rattle.plain_tree.specs.Tree.{put, settle}
@@ -9,7 +9,7 @@ use Rattle.tree_moves.specs.Moves.{Walk, Step, Move, Takes}
 use Rattle.inode_machine.specs.World.{Mine, World, stage_of, Note}
 use Rattle.inode_machine.specs.Marks.{Made, with_made}
 use Rattle.inode_machine.specs.Exec.{with_walk}
-use Rattle.inode_machine.specs.Rules.{Own, shop_of, own_of, Found, Pinned, Inv, machine}
+use Rattle.inode_machine.specs.Rules.{Own, shop_of, own_of, Found, Pinned, Inv, machine, own_names, row_of}
 use Rattle.inode_machine.proofs.Frame.{shop_same, put_elim, is_put, Did, Fair}
 use Rattle.inode_machine.proofs.Rules.{acted}
 use Rattle.inode_machine.specs.Inodes.{sort_of}
@@ -24,9 +24,9 @@ mine_walk h k p v = record { refs = (v.harts h).refs; walk = k; pending = p }
 pub refs_walk : (harts : ℕ → Mine) (h : ℕ) (k : Option Walk) (p : Option ℕ) (g j : ℕ) → (with_walk harts h k p g).refs j ≡ (harts g).refs j
 refs_walk harts h k p g j = put_elim harts h (record { refs = (harts h).refs; walk = k; pending = p }) g (λ m. m.refs j ≡ (harts g).refs j) (λ e. ap (λ (z : ℕ). (harts z).refs j) (sym e)) (λ q. refl)
 
-pub walk_did : (h : ℕ) (k : Option Walk) (p : Option ℕ) (v : World) → (v.desks h).lender ≡ None → h < hart_count → Inv v → (v.harts h).pending ≡ None → ((m : Note) → (v.desks h).noted ≡ Some m → p ≡ Some m.number → sort_of (v.all.nodes m.number) ≡ m.sort) → ((x : Walk) → k ≡ Some x → (0 < (v.harts h).refs x.at) ⊎ (p ≡ Some x.at))
+pub walk_named_did : (h : ℕ) (k : Option Walk) (p : Option ℕ) (v : World) → (v.desks h).lender ≡ None → h < hart_count → Inv v → ((j : ℕ) → own_names (row_of v.all h) (v.desks h) j ≡ true → 0 < (v.harts h).refs j) → ((m : Note) → (v.desks h).noted ≡ Some m → p ≡ Some m.number → sort_of (v.all.nodes m.number) ≡ m.sort) → ((x : Walk) → k ≡ Some x → (0 < (v.harts h).refs x.at) ⊎ (p ≡ Some x.at))
     → ((i : ℕ) → p ≡ Some i → Found v.keeper v.all.nodes h i) → Did h v (record v { harts = with_walk v.harts h k p })
-walk_did h k p v free lt inv none notes lands finds =
+walk_named_did h k p v free lt inv names notes lands finds =
     record {
       hart = lt;
       inodes = λ j. inl (record { lock = refl; keeper = refl; disk = refl; node = refl; alone = refl });
@@ -49,7 +49,7 @@ walk_did h k p v free lt inv none notes lands finds =
       alone = λ j is. let a = inv.alone j is in record { hart = a.hart; kept = a.kept; dead = a.dead; counts = a.counts ∙ sym (refs_walk v.harts h k p a.hart j) };
       kept = λ j is. pin j (inv.kept j h is).1;
       held = λ j is. inv.held j h is;
-      named = λ j is. inl (elim (inv.named h j lt is) [ inl a ↦ grow j a | inr a ↦ absurd (cc (a, none)) ]);
+      named = λ j is. inl (grow j (names j is));
       pending = λ j is. finds j (sym (ap (λ (m : Mine). m.pending) (put_same v.harts h new)) ∙ is);
       walks = λ x is. elim (lands x (sym (ap (λ (m : Mine). m.walk) (put_same v.harts h new)) ∙ is)) [
         | inl a ↦ inl (grow x.at a)
@@ -66,6 +66,11 @@ walk_did h k p v free lt inv none notes lands finds =
     pin : (j : ℕ) → Pinned v.desks v.files v.harts h j → Pinned v.desks v.files (with_walk v.harts h k p) h j
     pin j (inl a) = inl a
     pin j (inr a) = inr (grow j a)
+
+-- the same, where nothing that was found is left to be counted up
+pub walk_did : (h : ℕ) (k : Option Walk) (p : Option ℕ) (v : World) → (v.desks h).lender ≡ None → h < hart_count → Inv v → (v.harts h).pending ≡ None → ((m : Note) → (v.desks h).noted ≡ Some m → p ≡ Some m.number → sort_of (v.all.nodes m.number) ≡ m.sort) → ((x : Walk) → k ≡ Some x → (0 < (v.harts h).refs x.at) ⊎ (p ≡ Some x.at))
+    → ((i : ℕ) → p ≡ Some i → Found v.keeper v.all.nodes h i) → Did h v (record v { harts = with_walk v.harts h k p })
+walk_did h k p v free lt inv none notes lands finds = walk_named_did h k p v free lt inv (λ j is. elim (inv.named h j lt is) [ inl a ↦ a | inr a ↦ absurd (cc (a, none)) ]) notes lands finds
 
 pub stage_walk : (h : ℕ) (k : Option Walk) (p : Option ℕ) (v : World) → stage_of (record v { harts = with_walk v.harts h k p }) ≡ record { tree = settle v.all; walk = put (λ g. (v.harts g).walk) h k }
 stage_walk h k p v = λ r. record {

@@ -1,15 +1,18 @@
 -- The calls on descriptors that change no content, as a theory: what every list of events makes of them.
-use Rattle.std.specs.Prelude.{◌≡◌, ℕ, Bool, true, false, ◌&&◌, nat_lt, ◌==◌, List, None}
+use Rattle.std.specs.Prelude.{◌≡◌, ◌≢◌, ◌⊎◌, ◌+◌, Option, Some, ℕ, Bool, true, false, ◌&&◌, nat_lt, ◌==◌, List, None}
 use Rattle.plain_tree.specs.declared.answer.Reply.{Reply}
 use Rattle.plain_tree.specs.declared.call.Call.{Call}
 use Rattle.plain_tree.specs.declared.call.Call.TheVariants.{Open, Read, Write, Link, Unlink, Mkdir, Chdir, Dup, Fstat, Close, Inherit}
-use Rattle.plain_tree.specs.Tree.{Tree}
+use Rattle.plain_tree.specs.Tree.{Tree, put}
 use Rattle.plain_tree.specs.Widths.{hart_count}
 use Rattle.tree_laws.specs.WellFormed.{one_if, sum_below, IsWellFormed}
 use Rattle.atomic_programs.specs.Calls.{Theory, Began, Refuses, Begins, Event, AllHonest, run, fresh}
 use Rattle.atomic_programs.specs.Explained.{Explained}
 use Rattle.tree_moves.specs.Moves.{Written}
 use Rattle.inode_machine.specs.World.{Mine, World, Outside, stage_of}
+use Rattle.plain_tree.specs.declared.tree.OpenFile.{OpenFile}
+use Rattle.plain_tree.specs.declared.node.Node.{Node}
+use Rattle.inode_machine.specs.Inodes.{Sort, sort_of_kind}
 use Rattle.inode_machine.specs.Exec.{is_nothing}
 use Rattle.inode_machine.specs.Rules.{Inv, Idle, machine}
 use Rattle.inode_machine.specs.Programs.{program, limit}
@@ -78,3 +81,26 @@ at_rest t = record {
 
 abbrev pub WorldsRest : Type 0
 WorldsRest = (t : Tree) → IsWellFormed t → ((id : ℕ) → t.files id ≡ None) → ((h : ℕ) → t.holds h ≡ None) → ((h i : ℕ) → t.fds h i ≡ None) → Inv (at_rest t) × ((h : ℕ) → Idle h (at_rest t))
+
+-- The same, with one open file: hart 0's descriptor 0 has it.
+
+abbrev pub open_at_rest : Tree → OpenFile → Sort → World
+open_at_rest t f sort = record (at_rest t) {
+  files = put (λ k. None) 0 (Some (record { file = f; sort = sort; references = 1 }));
+  desks = put (at_rest t).desks 0 (record ((at_rest t).desks 0) { fds = put (λ i. None) 0 (Some 0) });
+  slots = λ n. one_if (f.number == n);
+  refs = λ i. one_if (f.number == i) + (at_rest t).refs i;
+  next = 1;
+}
+
+-- a tree whose one open file, with id 0, is behind hart 0's descriptor 0
+pub record HasOneOpen (t : Tree) (f : OpenFile) (v : Node) : Type 0 where
+  pub file : t.files 0 ≡ Some f
+  pub files : (id : ℕ) → id ≢ 0 → t.files id ≡ None
+  pub fd : t.fds 0 0 ≡ Some 0
+  pub fds : (h i : ℕ) → (h ≢ 0) ⊎ (i ≢ 0) → t.fds h i ≡ None
+  pub holds : (h : ℕ) → t.holds h ≡ None
+  pub node : t.nodes f.number ≡ Some v
+
+abbrev pub WorldsWithAFileRest : Type 0
+WorldsWithAFileRest = (t : Tree) (f : OpenFile) (v : Node) → IsWellFormed t → HasOneOpen t f v → Inv (open_at_rest t f (sort_of_kind v.kind)) × ((h : ℕ) → Idle h (open_at_rest t f (sort_of_kind v.kind)))

@@ -2,7 +2,7 @@
 //! call is right whatever the other harts do. The functions do nothing: each carries a law.
 #![tactic(auto)]
 
-ghost use Rattle.inode_machine.specs.Theory.{DescriptorCallsAreExplained, WorldsRest};
+ghost use Rattle.inode_machine.specs.Theory.{DescriptorCallsAreExplained, WorldsRest, WorldsWithAFileRest};
 
 /// For every list of events of any harts, the replies of dup, close, fstat and read are those of one list of tree steps,
 /// each placed between its call's start and return, as long as no step found no room. At every moment each hart's next
@@ -16,4 +16,9 @@ pub fn descriptor_calls_are_explained()
 /// There are such beginnings: a well-formed tree without open files, orphans included, with every hart at rest.
 pub fn worlds_rest()
     ensures { WorldsRest }
+{}
+
+/// And such with an open file: hart 0 has it behind its first descriptor, at any offset, of any node.
+pub fn worlds_with_a_file_rest()
+    ensures { WorldsWithAFileRest }
 {}

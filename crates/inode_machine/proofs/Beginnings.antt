@@ -1,0 +1,138 @@
+-- A walk begins at its path's start, to which a reference is counted.
+use Rattle.std.proofs.Common.{◌≡◌, ◌≢◌, ◌⊎◌, inl, inr, ℕ, ◌+◌, ◌*◌, ◌<◌, ◌≤◌, Bool, true, false, ◌==◌, ◌||◌, List, [], ◌∷◌, length, Option, Some, None, refl, sym, ◌∙◌, ap, subst, arith, if◌then◌else◌}
+use Rattle.atomic_programs.specs.Prog.{Do}
+use Rattle.atomic_programs.specs.Logic.{own, onto, Good, Safe, Wp}
+use Rattle.plain_tree.specs.declared.answer.Reply.{Reply}
+use Rattle.plain_tree.specs.declared.node.Node.{Node}
+use Rattle.plain_tree.specs.declared.step.Action.{Action}
+use Rattle.plain_tree.specs.Widths.{hart_count, root}
+use Rattle.plain_tree.specs.Tree.{Name, Tree, is_live, put, elements, start_of, is_absolute, settle, hold_names}
+use Rattle.plain_tree.specs.Steps.{path_of, follows_path, IsInPlace}
+use Rattle.tree_laws.specs.WellFormed.{one_if}
+use Rattle.tree_laws.proofs.Maps.{eq_self, same_or, put_same, put_other}
+use Rattle.tree_moves.specs.Moves.{Walk, Stage, Step, Begins}
+use Rattle.tree_moves.specs.Moves.Move.{Begin}
+use Rattle.inode_machine.specs.World.{Desk, Note, World, stage_of}
+use Rattle.inode_machine.specs.World.Op.{UpStart}
+use Rattle.inode_machine.specs.Exec.{counted_up, start_if, start_number, has_place, is_at, with_walk}
+use Rattle.inode_machine.specs.Marks.{begun, mended, new_id, places, with_mark}
+use Rattle.inode_machine.specs.Rules.{Own, Held, Row, key_names, key_in, left_or, own_names, row_of, own_of, Inv, machine}
+use Rattle.inode_machine.specs.Parts.{P, Stop, NoMemory, begins_unless_full, start_on}
+use Rattle.inode_machine.proofs.Frame.{fair, fair_then}
+use Rattle.inode_machine.proofs.Rules.{has_node, root_live, s-owned, locks_none, MayRefer, NotesOwn, Ups, ups}
+use Rattle.inode_machine.proofs.Settling.{settled_row}
+use Rattle.inode_machine.proofs.Walking.{walk_did, own_walk, stage_walk, moves_good}
+use Rattle.inode_machine.proofs.Looks.{spoilt, KeepsHold, mends}
+use Rattle.inode_machine.proofs.Listing.{IsListed, listed_held, times, one_at, one_else, Listed, listed_free, listed_on}
+use Rattle.inode_machine.proofs.Walks.{Stays, names_stay, On, Gone, Ready}
+
+pub s-start : (h : ℕ) (s : Action) (B : List Step → Type 0) (Q : Reply → List Step → World → Type 0) (base : ℕ → ℕ) (O0 : Own) (e : Name) (r : List Name) (ns : List ℕ) (n : ℕ) (es : List Step) (w : World) (O : Own) (go : ℕ → P Reply) (lost : Stop → List ℕ → P Reply)
+    → h < hart_count → Ready base O0 → Gone h base ns O0 O w → 0 < n → follows_path s ≡ true → elements (path_of s) ≡ e ∷ r → ((t : Tree) → row_of t h ≡ O0.row → IsInPlace t h s) → ((m : Note) → O.desk.noted ≡ Some m → 0 < O.mine.refs m.number)
+    → B (record { move = Begin s 0; told = None } ∷ es)
+    → ((d l : ℕ) (u : World) (R : Own) → l + 1 ≡ n → On h s d e r base ns O0 R u → Safe machine h B Q (go d) l (record { move = Begin s 0; told = None } ∷ es) u)
+    → ((l : ℕ) (u : World) (R : Own) → l + 1 ≡ n → Gone h base ns O0 R u → R.desk.full ≡ true → Safe machine h B Q (lost NoMemory ns) l es u)
+    → Safe machine h B Q (Do (UpStart (is_absolute (path_of s))) (begins_unless_full s) (start_on go lost ns)) n es w
+s-start h s B Q base O0 e r ns n es w O go lost lt ready at pos follows path place notes b then_ full = s-owned at.owns free pos (λ v inv ov. (locks_none h v O inv ov (listed_free O base ns at.listed), (λ _ _. tried v inv ov (has_place v (start_number (v.desks h) (is_absolute (path_of s)))))))
+  where
+    free : O.desk.lender ≡ None
+    free = at.stays.lender ∙ ready.free
+
+    tried : (v : World) → Inv v → own_of h v ≡ O → (p : Bool)
+        → Good machine (Option ℕ) h (λ a. places h (UpStart (is_absolute (path_of s))) a (begins_unless_full s a) v) 0 n B es v ⊥ (with_mark h (begins_unless_full s) (start_if h (start_number (v.desks h) (is_absolute (path_of s))) v p)) (λ l a u. Wp machine h B Q (start_on go lost ns a) l (onto (own h (places h (UpStart (is_absolute (path_of s))) a (begins_unless_full s a) v)) es) u)
+    tried v inv ov false =
+        let m = mends h v O ov free lt inv (at.stays.opening ∙ ready.opening) (at.stays.left ∙ ready.left) (subst (λ (z : Row). KeepsHold z.hold) (sym at.stays.row) ready.hold) (λ i q. let c = ready.spare i (sym (names_stay O O0 at.stays i) ∙ q) in let f = at.refs i in omega (arith, c, f)) in
+        spoilt m.fair m.bad pos (λ l q. (full l (mended h v) _ q (record {
+          owns = m.owned;
+          stays = record { row = at.stays.row; ninodes = at.stays.ninodes; fds = at.stays.fds; hand = at.stays.hand; joined = at.stays.joined; directory = at.stays.directory; lent = at.stays.lent; lender = at.stays.lender; opening = sym ready.opening; left = sym ready.left };
+          walk = refl;
+          pending = refl;
+          refs = at.refs;
+          listed = listed_on O (record O { desk = record (O.desk) { opening = None; left = None; full = true }; mine = record { refs = O.mine.refs; walk = None; pending = None } }) base ns at.listed (λ i. refl) (λ i t. refl) (λ i q. (λ z. (O.row.cwd == i) || (hold_names O.row.hold i || (key_names (key_in O.row.keys (sym (at.stays.opening ∙ ready.opening) z)) i || is_at (sym (at.stays.left ∙ ready.left) z) i))) ∙ q);
+        }) refl).wp)
+    tried v inv ov true =
+        moves_good h 0 n B Q es v u1 (Begin s 0) (go i) (begun v.all h s (elements (path_of s)) 0 (new_id v)) (record { all = v.all; walk = Some to; found = None; opened = None; entered = None; left = None; told = None })
+        begun_at
+        (fair_then up.fair (fair up.fair.inv (walk_did h (Some to) None u1 (ap (λ (o : Own). o.desk.lender) up.owned ∙ free) lt up.fair.inv (ap (λ (o : Own). o.mine.pending) up.owned) (λ m q x. absurd cc) (λ z q. inl (let c : to ≡ z = cc in subst (λ (o : Walk). 0 < (u1.harts h).refs o.at) c refs1)) (λ z q. absurd cc))))
+        (record { follows = follows; rests = ap (λ (o : Own). o.mine.walk) ov ∙ at.walk; place = place (settle v.all) (settled_row v.all h ∙ row); begins = plays })
+        b pos
+        (λ l q. (then_ i l u _ q (record {
+          owns = own_walk h (Some to) None u1 (record O { mine = record { refs = put O.mine.refs i (O.mine.refs i + 1); walk = O.mine.walk; pending = None } }) up.owned;
+          stays = record { row = at.stays.row; ninodes = at.stays.ninodes; fds = at.stays.fds; hand = at.stays.hand; joined = at.stays.joined; directory = at.stays.directory; lent = at.stays.lent; lender = at.stays.lender; opening = at.stays.opening; left = at.stays.left };
+          walk = refl;
+          pending = refl;
+          refs = λ j. more_refs j;
+          listed = listed_on O (record O { mine = record { refs = put O.mine.refs i (O.mine.refs i + 1); walk = Some to; pending = None } }) base ns at.listed (λ j. refl) (λ j t. put_other O.mine.refs i (O.mine.refs i + 1) j (not_listed j t)) (λ j q. q);
+          out = out;
+        })).wp)
+      where
+        i : ℕ
+        i = start_number (v.desks h) (is_absolute (path_of s))
+
+        row : row_of v.all h ≡ O0.row
+        row = ap (λ (o : Own). o.row) ov ∙ at.stays.row
+
+        cwd_is : (v.desks h).directory ≡ v.all.cwd h
+        cwd_is = inv.directory h lt ∙ (λ z. left_or ((ap (λ (o : Own). o.desk.left) ov ∙ at.stays.left ∙ ready.left) z) (v.all.cwd h))
+
+        to : Walk
+        to = record { step = s; at = i; next = e; rest = r }
+
+        number_is : (c : Bool) → (t : Tree) → t.cwd h ≡ v.all.cwd h → (if c then root else t.cwd h) ≡ start_number (v.desks h) c
+        number_is true t q = refl
+        number_is false t q = q ∙ sym cwd_is
+
+        named : own_names O.row O.desk (v.desks h).directory ≡ true
+        named =
+            let q : (v.desks h).directory ≡ O.row.cwd = cwd_is ∙ ap (λ (o : Own). o.row.cwd) ov in
+            (λ z. (O.row.cwd == q z) || (hold_names O.row.hold (v.desks h).directory || (key_names (key_in O.row.keys O.desk.opening) (v.desks h).directory || is_at O.desk.left (v.desks h).directory))) ∙ rw (eq_self O.row.cwd) refl
+
+        -- what is listed is dead, and named by nothing
+        not_start : (c : Bool) (j : ℕ) → IsListed O j → j ≡ start_number (v.desks h) c → ⊥
+        not_start true j a q =
+            let l : is_live (v.all.nodes j) ≡ true = ap (λ (z : ℕ). is_live (v.all.nodes z)) q ∙ root_live v.all inv.well in
+            let n : is_live (v.all.nodes j) ≡ false = ap (λ (z : Option Node). is_live z) (has_node h j v O (listed_held a.node) ov a.is) ∙ a.dead in
+            cc (l, n)
+        not_start false j a q = let x : own_names O.row O.desk j ≡ true = ap (own_names O.row O.desk) q ∙ named in let y = a.unnamed in cc (x, y)
+
+        mine : (c : Bool) → MayRefer O (start_number (v.desks h) c)
+        mine true = inr (inl refl)
+        mine false = inl (
+            let c = ready.spare (v.desks h).directory (sym (names_stay O O0 at.stays (v.desks h).directory) ∙ named) in
+            let f = at.refs (v.desks h).directory in
+            omega (arith, c, f))
+
+        up : Ups h i O v
+        up = ups h i O v inv ov free lt (mine (is_absolute (path_of s))) (inl at.pending) (λ m q x. inl (let c = notes m q in let f : O.mine.refs m.number ≡ O.mine.refs i = ap O.mine.refs x in omega (arith, c, f)))
+
+        u1 : World
+        u1 = counted_up h i v
+
+        u : World
+        u = record u1 { harts = with_walk u1.harts h (Some to) None }
+
+        begun_at : begun v.all h s (elements (path_of s)) 0 (new_id v) ≡ record { all = v.all; walk = Some to; found = None; opened = None; entered = None; left = None; told = None }
+        begun_at = ap (λ (z : List Name). begun v.all h s z 0 (new_id v)) path ∙ (λ z. record { all = v.all; walk = Some (record { step = s; at = number_is (is_absolute (path_of s)) v.all refl z; next = e; rest = r }); found = None; opened = None; entered = None; left = None; told = None })
+
+        refs1 : 0 < (u1.harts h).refs i
+        refs1 = let a : (u1.harts h).refs i ≡ put O.mine.refs i (O.mine.refs i + 1) i = ap (λ (o : Own). o.mine.refs i) up.owned in let c = put_same O.mine.refs i (O.mine.refs i + 1) in omega (arith, a, c)
+
+        plays : Begins (stage_of v) h s (elements (path_of s)) 0 None (stage_of u)
+        plays = subst (λ (z : List Name). Begins (stage_of v) h s z 0 None (stage_of u)) (sym path)
+            (refl, stage_walk h (Some to) None u1 ∙ ap (λ (m : Stage). record { tree = m.tree; walk = put m.walk h (Some to) }) up.stage ∙ (λ z. record { tree = settle v.all; walk = put (λ g. (v.harts g).walk) h (Some (record { step = s; at = sym (number_is (is_absolute (path_of s)) (settle v.all) (ap (λ (x : Row). x.cwd) (settled_row v.all h))) z; next = e; rest = r })) }))
+
+        -- what is listed isn't referred to from anywhere else
+        not_listed : (j : ℕ) → 0 < times j ns → j ≢ i
+        not_listed j t q = not_start (is_absolute (path_of s)) j (at.listed.all j t) q
+
+        more_refs : (j : ℕ) → put O.mine.refs i (O.mine.refs i + 1) j ≡ base j + times j ns + one_if (i == j)
+        more_refs j = let f = at.refs j in elim (same_or j i) [
+          | inl q ↦ (let a : put O.mine.refs i (O.mine.refs i + 1) j ≡ O.mine.refs i + 1 = ap (put O.mine.refs i (O.mine.refs i + 1)) q ∙ put_same O.mine.refs i (O.mine.refs i + 1) in let o : one_if (i == j) ≡ 1 = ap (λ (z : ℕ). one_if (i == z)) q ∙ one_at i in let g : O.mine.refs j ≡ O.mine.refs i = ap O.mine.refs q in omega (arith, f, a, o, g))
+          | inr ne ↦ (let a = put_other O.mine.refs i (O.mine.refs i + 1) j ne in let o = one_else i j ne in omega (arith, f, a, o))
+        ]
+
+        out : O.inodes i ≡ None
+        out = kept_not (O.inodes i) refl
+          where
+            kept_not : (o : Option Held) → O.inodes i ≡ o → o ≡ None
+            kept_not None q = refl
+            kept_not (Some x) q = absurd (not_start (is_absolute (path_of s)) i (at.listed.all i (at.listed.only i x q)) refl)
