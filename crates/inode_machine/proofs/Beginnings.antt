@@ -8,6 +8,8 @@ use Rattle.plain_tree.specs.declared.step.Action.{Action}
 use Rattle.plain_tree.specs.Widths.{hart_count, root}
 use Rattle.plain_tree.specs.Tree.{Name, Tree, is_live, put, elements, start_of, is_absolute, settle, hold_names}
 use Rattle.plain_tree.specs.Steps.{path_of, follows_path, IsInPlace}
+use Rattle.plain_tree.specs.HartRow.{Row, key_names, row_of}
+use Rattle.plain_tree.proofs.Settling.{settled_row}
 use Rattle.tree_laws.specs.WellFormed.{one_if}
 use Rattle.tree_laws.proofs.Maps.{eq_self, same_or, put_same, put_other}
 use Rattle.tree_moves.specs.Moves.{Walk, Stage, Step, Begins}
@@ -16,11 +18,10 @@ use Rattle.inode_machine.specs.World.{Desk, Note, World, stage_of}
 use Rattle.inode_machine.specs.World.Op.{UpStart}
 use Rattle.inode_machine.specs.Exec.{counted_up, start_if, start_number, has_place, is_at, with_walk}
 use Rattle.inode_machine.specs.Marks.{begun, mended, new_id, places, with_mark}
-use Rattle.inode_machine.specs.Rules.{Own, Held, Row, key_names, key_in, left_or, own_names, row_of, own_of, Inv, machine}
+use Rattle.inode_machine.specs.Rules.{Own, Held, key_in, left_or, own_names, own_of, Inv, machine}
 use Rattle.inode_machine.specs.Parts.{P, Stop, NoMemory, begins_unless_full, start_on}
 use Rattle.inode_machine.proofs.Frame.{fair, fair_then}
 use Rattle.inode_machine.proofs.Rules.{has_node, root_live, s-owned, locks_none, MayRefer, NotesOwn, Ups, ups}
-use Rattle.inode_machine.proofs.Settling.{settled_row}
 use Rattle.inode_machine.proofs.Walking.{walk_did, own_walk, stage_walk, moves_good}
 use Rattle.inode_machine.proofs.Looks.{spoilt, KeepsHold, mends}
 use Rattle.inode_machine.proofs.Listing.{IsListed, listed_held, times, one_at, one_else, Listed, listed_free, listed_on}

@@ -14,13 +14,14 @@ use Rattle.plain_tree.specs.declared.node.Node.{Node}
 use Rattle.plain_tree.specs.Widths.{hart_count}
 use Rattle.plain_tree.specs.Tree.{put}
 use Rattle.plain_tree.specs.Calls.{next_of, reply_of, had_room}
+use Rattle.plain_tree.specs.HartRow.{Row}
 use Rattle.tree_laws.specs.WellFormed.{one_if}
 use Rattle.tree_laws.proofs.Maps.{and_true, put_same, put_other, same_or}
 use Rattle.tree_moves.specs.Moves.{Written}
 use Rattle.inode_machine.specs.World.{Desk, World, stage_of}
 use Rattle.inode_machine.specs.Inodes.{face_or, face_of}
 use Rattle.inode_machine.specs.Exec.{is_nothing}
-use Rattle.inode_machine.specs.Rules.{Held, Row, Own, Others, Rests, own_of, nothing, Idle, Inv, machine}
+use Rattle.inode_machine.specs.Rules.{Held, Own, Others, Rests, own_of, nothing, Idle, Inv, machine}
 use Rattle.inode_machine.specs.Parts.{say}
 use Rattle.inode_machine.specs.Parts as parts
 use Rattle.inode_machine.specs.Descriptors.{dup_program, close_program, stat_program, stat_reply, read_program, read_reply}

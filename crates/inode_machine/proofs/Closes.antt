@@ -9,6 +9,8 @@ use Rattle.plain_tree.specs.declared.step.StepAnswer.TheVariants.{Done}
 use Rattle.plain_tree.specs.Widths.{hart_count, descriptor_count}
 use Rattle.plain_tree.specs.Tree.{Name, Tree, put, fd_names, file_names, settle, resolve, parent}
 use Rattle.plain_tree.specs.Steps.{file_at, refusal_with, effect_with, answer_with, place_of, IsInPlace, has_fd, closed}
+use Rattle.plain_tree.specs.HartRow.{Row, key_at, key_of, row_of}
+use Rattle.plain_tree.proofs.Settling.{with_open, NamesLess, settle_less, file_settled}
 use Rattle.tree_laws.specs.WellFormed.{sum_below, one_if}
 use Rattle.tree_laws.proofs.Maps.{eq_self, eq_is, eq_isnt, either, same_or, put_same, put_other}
 use Rattle.tree_laws.proofs.Sums.{sum_same, sum_changed, one_no, one_yes}
@@ -19,14 +21,14 @@ use Rattle.inode_machine.specs.Exec.{is_at, file_count, with_refs, with_walk, sl
 use Rattle.inode_machine.specs.World.{Mine, Entry, Desk, World, stage_of}
 use Rattle.inode_machine.specs.Marks.{places, with_mark, made_by, new_id}
 use Rattle.inode_machine.specs.World.Op.{Shut}
-use Rattle.inode_machine.specs.Rules.{Own, shop_of, number_is, users, own_names, Row, key_at, key_of, row_of, own_of, IsAlone, Inv, machine, left_or, nothing}
+use Rattle.inode_machine.specs.Rules.{Own, shop_of, number_is, users, own_names, own_of, IsAlone, Inv, machine, left_or, nothing}
 use Rattle.inode_machine.proofs.Frame.{put_elim, Fair, fair, has_none, one_refs}
 use Rattle.inode_machine.proofs.Rules.{s-owned, my_refs, each_refs, here_refs, walks_refs, total_same, total_changed, opens_slots, locks_none}
 use Rattle.inode_machine.proofs.Rows.{below_is}
 use Rattle.inode_machine.proofs.Walking.{refs_walk, stage_walk, moves_good}
 use Rattle.inode_machine.proofs.Tables.{with_fd, users_put, users_fd, Changes, changes, changed_shop, tied_closed, kept_open}
-use Rattle.inode_machine.proofs.Shops.{sells_did, own_takes, with_open, NamesLess, settle_less, names_less}
-use Rattle.inode_machine.proofs.Dups.{Behind, behind, behind_none, file_settled, Refused, fails, refused_good, renewed, renewed_slots, renewed_at, SameRow, SameDesk, less_is, not_one, renewed_sorts, same_desk}
+use Rattle.inode_machine.proofs.Shops.{sells_did, own_takes, names_less}
+use Rattle.inode_machine.proofs.Dups.{Behind, behind, behind_none, Refused, fails, refused_good, renewed, renewed_slots, renewed_at, SameRow, SameDesk, less_is, not_one, renewed_sorts, same_desk}
 use Rattle.inode_machine.specs.Inodes.{sort_of}
 use Rattle.inode_machine.specs.Parts.{own_step}
 

@@ -6,6 +6,7 @@ use Rattle.atomic_programs.specs.Logic.{P, Good, Fine, Safe, Wp}
 use Rattle.plain_tree.specs.declared.node.Node.{Node}
 use Rattle.plain_tree.specs.Widths.{hart_count}
 use Rattle.plain_tree.specs.Tree.{put, is_live, settle}
+use Rattle.plain_tree.specs.HartRow.{row_of}
 use Rattle.tree_laws.specs.WellFormed.{sum_below}
 use Rattle.tree_laws.proofs.Maps.{eq_is, either, same_or, put_same, put_other, and_true}
 use Rattle.tree_moves.specs.Moves.{Walk, Step}
@@ -13,7 +14,7 @@ use Rattle.inode_machine.specs.World.{Mine, World, stage_of}
 use Rattle.inode_machine.specs.Marks.{with_mark}
 use Rattle.inode_machine.specs.Exec.{unlocked, counted_down, down_if, is_dead, is_last, reserved, walk_down_if}
 use Rattle.inode_machine.specs.World.Op.{Down, Give, WalkDown}
-use Rattle.inode_machine.specs.Rules.{Own, shop_of, own_names, Held, view, is_hart, if_kept, row_of, own_of, Pinned, Inv, machine, Reached}
+use Rattle.inode_machine.specs.Rules.{Own, shop_of, own_names, Held, view, is_hart, if_kept, own_of, Pinned, Inv, machine, Reached}
 use Rattle.inode_machine.proofs.Frame.{shop_same, put_elim, ours_none, ours_some, kept_here, Did, Fair, fair, own_inodes, has_inode, has_none, one_refs, two_refs}
 use Rattle.inode_machine.proofs.Rules.{opens_slots, s-owned, quiet, each_refs, here_refs, walks_refs, total_same, total_changed, my_refs, not_alone, has_disk, has_node, is_me, is_mine, locks_it, locks_not}
 

@@ -12,6 +12,8 @@ use Rattle.plain_tree.specs.declared.step.StepAnswer.TheVariants.{Fd as NewFd, F
 use Rattle.plain_tree.specs.Widths.{hart_count, descriptor_count}
 use Rattle.plain_tree.specs.Tree.{Name, Tree, put, fd_names, and_then, settle, resolve, parent, hold_names}
 use Rattle.plain_tree.specs.Steps.{is_nothing, path_of, follows_path, file_at, lowest, has_room, refusal_with, effect_with, answer_with, makes_node, place_of, refused, IsInPlace}
+use Rattle.plain_tree.specs.HartRow.{Key, key_of, Row, key_at, row_of, key_names}
+use Rattle.plain_tree.proofs.Settling.{with_open, NamesLess, settle_less, file_settled}
 use Rattle.tree_laws.specs.WellFormed.{sum_below, one_if, IsWellFormed}
 use Rattle.tree_laws.proofs.Maps.{eq_self, eq_not, same_or, put_same, put_other}
 use Rattle.tree_laws.proofs.Sums.{sum_same, one_no, one_yes}
@@ -23,13 +25,13 @@ use Rattle.inode_machine.specs.Marks.{places, with_mark, with_made, made_by, fou
 use Rattle.inode_machine.specs.World.{Mine, Entry, Desk, World, Note}
 use Rattle.inode_machine.specs.Descriptors.{dups}
 use Rattle.inode_machine.specs.World.Op.{Double, Join, Leave, Say}
-use Rattle.inode_machine.specs.Rules.{Own, Key, key_of, shop_of, Shop, Tied, id_at, number_is, users, own_names, Row, key_at, row_of, own_of, Inv, machine, Held, key_in, key_names, left_or, view, Reached}
+use Rattle.inode_machine.specs.Rules.{Own, shop_of, Shop, Tied, id_at, number_is, users, own_names, own_of, Inv, machine, Held, key_in, left_or, view, Reached}
 use Rattle.inode_machine.proofs.Frame.{put_elim, Fair, fair, fair_same, kept_here}
 use Rattle.inode_machine.proofs.Rules.{s-owned, quiet, UnlocksAll, locks_none}
 use Rattle.inode_machine.proofs.Rows.{below_is}
 use Rattle.inode_machine.proofs.Walking.{refs_walk, walk_did, own_walk, stage_walk, moves_good}
 use Rattle.inode_machine.proofs.Tables.{with_fd, users_put, lowest_same, lowest_free, changes}
-use Rattle.inode_machine.proofs.Shops.{Sells, sells_did, own_takes, with_open, NamesLess, settle_less, names_less}
+use Rattle.inode_machine.proofs.Shops.{Sells, sells_did, own_takes, names_less}
 use Rattle.inode_machine.specs.Inodes.{Sort, sort_of}
 
 -- What stands behind a descriptor.
@@ -63,10 +65,6 @@ behind_none h fd v inv lt idle is = go (nat_lt fd descriptor_count) refl is
     go : (b : Bool) → nat_lt fd descriptor_count ≡ b → (if b then (v.desks h).fds fd else None) ≡ None → (if b then and_then (v.all.fds h fd) (λ id. v.all.files id) else None) ≡ None
     go false q e = refl
     go true q e = ap (λ (o : Option ℕ). and_then o (λ id. v.all.files id)) (inv.tied.fds h fd lt (less_is fd descriptor_count q) (not_at v h fd idle) ∙ ap (λ (z : Option ℕ). id_at v.ids z) e)
-
-pub file_settled : (t : Tree) (h fd : ℕ) → file_at (settle t) h fd ≡ file_at t h fd
-unfolding settle
-file_settled t h fd = refl
 
 -- A step of the call's own that is refused.
 pub record Refused (h : ℕ) (s : Action) (c : Cause) (v : World) : Type 0 where
@@ -516,10 +514,3 @@ s-double {A} {h} fd {k} {B} {Q} {n} {es} {w} {O} owns free lt pos walks none idl
         let b = behind h fd s v inv lt (opening_none v ov) q in
         subst (λ (z : Option Entry). Good machine (Option (Option ℕ)) h (λ a. places h (Double fd) a (dups fd a) v) 0 n B es v ⊥ (with_mark h (dups fd) (double_at h v (Some s) z)) (λ l a u. Wp machine h B Q (k a) l (onto (own h (places h (Double fd) a (dups fd a) v)) es) u)) (sym b.1.at)
         (rest v inv ov s b.0 b.1 (has_room (v.desks h).fds) refl)
-
--- A key of an open file.
-abbrev pub key_is : OpenFile → Key
-key_is f = record { number = f.number; readable = f.readable; writable = f.writable }
-
-pub key_from : (t : Tree) (h fd id : ℕ) (f : OpenFile) → h < hart_count → fd < descriptor_count → t.fds h fd ≡ Some id → t.files id ≡ Some f → (row_of t h).keys fd ≡ Some (key_is f)
-key_from t h fd id f lt low e q = rw (below_is h hart_count lt, below_is fd descriptor_count low) (ap (λ (z : Option ℕ). key_at t.files z) e ∙ ap (λ (z : Option OpenFile). key_of z) q)

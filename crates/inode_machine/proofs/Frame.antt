@@ -2,6 +2,7 @@
 use Rattle.std.proofs.Common.{◌≡◌, ◌≢◌, ◌⊎◌, inl, inr, ℕ, ◌+◌, ◌<◌, ◌≤◌, Bool, true, false, ◌==◌, Option, Some, None, refl, sym, ◌∙◌, ap, subst, arith, if◌then◌else◌}
 use Rattle.plain_tree.specs.Widths.{hart_count, descriptor_count}
 use Rattle.plain_tree.specs.Tree.{put}
+use Rattle.plain_tree.specs.HartRow.{row_of}
 use Rattle.tree_laws.specs.WellFormed.{sum_below, IsWellFormed}
 use Rattle.tree_laws.proofs.Maps.{either, eq_self, eq_is, eq_not, same_or, put_same, put_other}
 use Rattle.tree_laws.proofs.Walks.{look_same}
@@ -10,7 +11,7 @@ use Rattle.tree_laws.proofs.Sums.{sum_part, sum_two}
 use Rattle.inode_machine.specs.Inodes.{sort_of}
 use Rattle.tree_moves.specs.Moves.{Walk}
 use Rattle.inode_machine.specs.World.{Mine, Entry, Note, Desk, World}
-use Rattle.inode_machine.specs.Rules.{Own, Rests, left_or, shop_of, Shop, Tied, own_names, Held, view, is_hart, if_kept, row_of, own_of, Found, Pinned, Reached, IsAlone, Inv}
+use Rattle.inode_machine.specs.Rules.{Own, Rests, left_or, shop_of, Shop, Tied, own_names, Held, view, is_hart, if_kept, own_of, Found, Pinned, Reached, IsAlone, Inv}
 
 -- Functions changed at one place, and what is kept.
 

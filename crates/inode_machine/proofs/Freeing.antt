@@ -5,6 +5,8 @@ use Rattle.atomic_programs.specs.Logic.{P, Good, Fine, Safe, Wp}
 use Rattle.plain_tree.specs.declared.node.Node.{Node}
 use Rattle.plain_tree.specs.Widths.{hart_count}
 use Rattle.plain_tree.specs.Tree.{Tree, put, is_live, is_named, settle}
+use Rattle.plain_tree.specs.HartRow.{row_of}
+use Rattle.plain_tree.proofs.Settling.{settle_nodes}
 use Rattle.tree_laws.specs.WellFormed.{sum_below, folder, links_of, folders_of, links_in, raises, Folders, IsForest, IsWellFormed}
 use Rattle.tree_laws.proofs.Maps.{either, same_or, put_same, put_other, none_any}
 use Rattle.tree_laws.proofs.Nodes.{folder_dead, dead_links, no_node, cwd_named, hold_named, file_named, folders_put, put_self, map_put}
@@ -15,7 +17,7 @@ use Rattle.inode_machine.specs.Marks.{with_mark}
 use Rattle.inode_machine.specs.Exec.{lock_if, blank, counted_down, down_if, file_count, is_dead, locked, unlocked}
 use Rattle.inode_machine.specs.World.Mark.{Frees}
 use Rattle.inode_machine.specs.World.Op.{Take, Give, Down, Free}
-use Rattle.inode_machine.specs.Rules.{shop_of, own_names, Held, view, is_hart, if_kept, row_of, own_of, Pinned, Reached, IsAlone, Inv, IsOut, machine, looking_cost, number_is}
+use Rattle.inode_machine.specs.Rules.{shop_of, own_names, Held, view, is_hart, if_kept, own_of, Pinned, Reached, IsAlone, Inv, IsOut, machine, looking_cost, number_is}
 use Rattle.tree_laws.proofs.Sums.{sum_part, one_yes}
 use Rattle.tree_laws.specs.WellFormed.{one_if}
 use Rattle.tree_laws.proofs.Maps.{eq_self}
@@ -23,7 +25,6 @@ use Rattle.inode_machine.specs.Rules.{Own}
 use Rattle.inode_machine.proofs.Frame.{shop_same, put_elim, ours_none, ours_some, kept_here, Did, fair, fair_then, own_inodes, has_inode, found_more, one_refs, two_refs}
 use Rattle.inode_machine.proofs.Rules.{s-owned, quiet, each_refs, here_refs, walks_refs, total_same, total_changed, my_refs, is_me, has_disk, has_node, locks_it}
 use Rattle.inode_machine.proofs.Counting.{Writes, writes}
-use Rattle.inode_machine.proofs.Settling.{settle_nodes}
 use Rattle.inode_machine.proofs.Rows.{hart_not}
 use Rattle.inode_machine.specs.Inodes.{Looking, Seen, seen_in, sort_of}
 

@@ -2,8 +2,6 @@ pub mod Frame
 pub mod Rules
 pub mod Rows
 pub mod Tables
-pub mod Binds
-pub mod Settling
 pub mod Counting
 pub mod Walking
 pub mod Freeing

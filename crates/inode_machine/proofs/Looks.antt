@@ -13,6 +13,8 @@ use Rattle.plain_tree.specs.declared.step.StepAnswer.TheVariants.{Failed}
 use Rattle.plain_tree.specs.Widths.{hart_count}
 use Rattle.plain_tree.specs.Tree.{Name, Tree, put, look, is_live, live_directory, elements, start_of, settle, hold_names}
 use Rattle.plain_tree.specs.Steps.{path_of, follows_path, refusal_with, refused, IsInPlace}
+use Rattle.plain_tree.specs.HartRow.{Row, row_of}
+use Rattle.plain_tree.proofs.Settling.{settle_live, settle_dead, settled_row}
 use Rattle.tree_laws.proofs.Maps.{either, eq_self, same_or, put_same, put_other}
 use Rattle.tree_laws.proofs.Facts.{look_live}
 use Rattle.tree_laws.proofs.Nodes.{settle_at}
@@ -25,10 +27,9 @@ use Rattle.inode_machine.specs.World.Op.{Take, UpStart}
 use Rattle.inode_machine.specs.Inodes.{Looking, Seen, Face, sort_of, seen_in, face_of, is_live_face, is_directory_face}
 use Rattle.inode_machine.specs.Exec.{locked, lock_if, with_walk, counted_up, start_if, start_number, has_place}
 use Rattle.inode_machine.specs.Marks.{Made, marked, with_mark, with_made, with_noted, mended, made_by, look_made, looked, begun, acts, found_by, act_left, left_by, places, new_id, unopened, unmoved, unheld}
-use Rattle.inode_machine.specs.Rules.{Own, Held, Row, row_of, own_of, Found, Inv, IsOut, looking_cost, machine, own_names}
+use Rattle.inode_machine.specs.Rules.{Own, Held, own_of, Found, Inv, IsOut, looking_cost, machine, own_names}
 use Rattle.inode_machine.proofs.Frame.{Did, Fair, fair, fair_then, fair_same, has_inode}
 use Rattle.inode_machine.proofs.Rules.{s-owned, quiet, acted, others, fine_after, Locking, locking, is_out, locks_not, locks_none, UnlocksAll, locked_held, my_refs, has_node, MayRefer, NotesOwn, Ups, ups}
-use Rattle.inode_machine.proofs.Settling.{settle_live, settle_dead, settled_row}
 use Rattle.inode_machine.proofs.Walking.{walk_named_did, refs_walk, walk_did, own_walk, stage_walk, moves_good}
 use Rattle.inode_machine.proofs.Dups.{SameTable, with_new, Flagging, flagging}
 use Rattle.inode_machine.proofs.Shops.{names_less}

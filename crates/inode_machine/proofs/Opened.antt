@@ -4,6 +4,7 @@ use Rattle.plain_tree.specs.declared.node.Node.{Node}
 use Rattle.plain_tree.specs.declared.tree.OpenFile.{OpenFile}
 use Rattle.plain_tree.specs.Widths.{hart_count, descriptor_count}
 use Rattle.plain_tree.specs.Tree.{Tree, put, hold_names}
+use Rattle.plain_tree.specs.HartRow.{key_names, row_of}
 use Rattle.tree_laws.specs.WellFormed.{sum_below, one_if, IsWellFormed}
 use Rattle.tree_laws.proofs.Maps.{either, same_or, put_same, put_other}
 use Rattle.tree_laws.proofs.Sums.{sum_none, sum_changed, one_yes, one_no}
@@ -11,7 +12,7 @@ use Rattle.inode_machine.specs.World.{Desk, Entry, World}
 use Rattle.inode_machine.specs.Inodes.{Sort, sort_of, sort_of_kind}
 use Rattle.inode_machine.specs.Exec.{file_count, is_at}
 use Rattle.inode_machine.specs.Theory.{at_rest, open_at_rest, HasOneOpen}
-use Rattle.inode_machine.specs.Rules.{number_is, users, id_at, key_names, key_in, left_or, own_names, row_of, Inv, Idle}
+use Rattle.inode_machine.specs.Rules.{number_is, users, id_at, key_in, left_or, own_names, Inv, Idle}
 use Rattle.inode_machine.proofs.Frame.{put_elim}
 use Rattle.inode_machine.proofs.Tables.{users_put}
 

@@ -15,6 +15,8 @@ use Rattle.plain_tree.specs.declared.step.StepAnswer.TheVariants.{Bytes}
 use Rattle.plain_tree.specs.Widths.{hart_count, descriptor_count}
 use Rattle.plain_tree.specs.Tree.{Name, Tree, put, fd_names, file_names, and_then, settle, resolve, parent}
 use Rattle.plain_tree.specs.Steps.{node_or, node_at, content, part, moved, no_driver, file_at, refusal_with, effect_with, answer_with, place_of, IsInPlace}
+use Rattle.plain_tree.specs.HartRow.{Key, key_of, Row, key_at, row_of, key_is}
+use Rattle.plain_tree.proofs.Settling.{with_open, NamesLess, settle_less, file_settled}
 use Rattle.tree_laws.specs.WellFormed.{IsWellFormed}
 use Rattle.tree_laws.proofs.Maps.{same_or, put_same, put_other}
 use Rattle.tree_laws.proofs.Sums.{sum_same}
@@ -24,13 +26,13 @@ use Rattle.tree_moves.specs.Moves.Move.{Own as OwnMove}
 use Rattle.inode_machine.specs.World.{Mine, Entry, World, Part as PartOf, NotRead, Readout}
 use Rattle.inode_machine.specs.Marks.{places, with_mark, made_by, new_id, with_made}
 use Rattle.inode_machine.specs.Exec.{with_walk, slot_at, entry_at, entry_moved, part_of, entry_of, lock_if, locked, mode_refusal, read_at, read_refused, with_offset}
-use Rattle.inode_machine.specs.Rules.{Own, Key, key_of, own_names, Held, Row, key_at, row_of, own_of, Inv, machine, EntryOut}
+use Rattle.inode_machine.specs.Rules.{Own, own_names, Held, own_of, Inv, machine, EntryOut}
 use Rattle.inode_machine.proofs.Frame.{put_elim, fair}
 use Rattle.inode_machine.proofs.Rules.{s-owned, has_disk, has_node, Locking, fine_after, is_out, locked_held, locking, locks_none}
 use Rattle.inode_machine.proofs.Rows.{below_is}
 use Rattle.inode_machine.proofs.Walking.{refs_walk, stage_walk, moves_good}
-use Rattle.inode_machine.proofs.Shops.{Sells, sells_did, own_takes, with_open, NamesLess, settle_less}
-use Rattle.inode_machine.proofs.Dups.{Behind, behind, behind_none, file_settled, Refused, renewed_slots, renewed_at, key_is, fails, refused_good, renewed_sorts}
+use Rattle.inode_machine.proofs.Shops.{Sells, sells_did, own_takes}
+use Rattle.inode_machine.proofs.Dups.{Behind, behind, behind_none, Refused, renewed_slots, renewed_at, fails, refused_good, renewed_sorts}
 use Rattle.inode_machine.proofs.Stats.{behind_opens, entry_is, node_settled}
 use Rattle.inode_machine.specs.World.Op.{ReadFile}
 

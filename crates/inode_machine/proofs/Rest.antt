@@ -2,12 +2,13 @@
 use Rattle.std.proofs.Common.{◌≡◌, inl, inr, ℕ, ◌<◌, true, false, ◌==◌, ◌||◌, None, refl, sym, arith}
 use Rattle.plain_tree.specs.Widths.{hart_count}
 use Rattle.plain_tree.specs.Tree.{Tree, hold_names}
+use Rattle.plain_tree.specs.HartRow.{row_of}
 use Rattle.tree_laws.specs.WellFormed.{one_if, IsWellFormed}
 use Rattle.tree_laws.proofs.Maps.{either}
 use Rattle.tree_laws.proofs.Sums.{sum_none, one_yes}
 use Rattle.inode_machine.specs.Exec.{file_count}
 use Rattle.inode_machine.specs.Theory.{at_rest}
-use Rattle.inode_machine.specs.Rules.{number_is, own_names, row_of, Inv, Idle}
+use Rattle.inode_machine.specs.Rules.{number_is, own_names, Inv, Idle}
 
 pub rests : (t : Tree) → IsWellFormed t → ((id : ℕ) → t.files id ≡ None) → ((h : ℕ) → t.holds h ≡ None) → ((h i : ℕ) → t.fds h i ≡ None) → Inv (at_rest t)
 rests t well files holds fds =

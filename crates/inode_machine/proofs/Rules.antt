@@ -20,9 +20,6 @@ use Rattle.inode_machine.specs.Rules.{Own, shop_of, Opens, number_is, Held, view
 use Rattle.inode_machine.proofs.Frame.{shop_same, put_elim, ours_none, ours_some, kept_here, Did, Fair, fair, own_inodes, has_inode, has_none, found_more, two_refs}
 use Rattle.inode_machine.specs.Inodes.{Looking, Seen, seen_in}
 
-abbrev pub Post : Type 0 → Type 1
-Post A = A → List Step → World → Type 0
-
 -- an operation: what the hart owns stays until it runs
 pub s-owned : {A : Type 0} {h : ℕ} {op : Op} {m : Answer op → Option Mark} {k : Answer op → P machine A} {B : List Step → Type 0} {Q : A → List Step → World → Type 0} {n : ℕ} {es : List Step} {w : World} {O : Own}
     → own_of h w ≡ O → O.desk.lender ≡ None → more op < n

@@ -8,14 +8,15 @@ use Rattle.plain_tree.specs.declared.step.StepAnswer.{StepAnswer}
 use Rattle.plain_tree.specs.Widths.{hart_count, descriptor_count}
 use Rattle.plain_tree.specs.Tree.{Name, Tree, put, any_below, hold_names, fd_names, is_live, is_named, settle, resolve, parent}
 use Rattle.plain_tree.specs.Steps.{path_of, follows_path, with_nodes, makes_node, StepWith}
+use Rattle.plain_tree.specs.HartRow.{row_of, Row, key_names}
+use Rattle.plain_tree.proofs.Settling.{settle_nodes, settle_or}
 use Rattle.tree_laws.specs.WellFormed.{sum_below, IsWellFormed}
 use Rattle.tree_laws.proofs.Maps.{any_none, none_any, or_none}
 use Rattle.tree_moves.specs.Moves.{Takes}
 use Rattle.tree_moves.specs.Moves.Move.{Own as OwnMove}
 use Rattle.inode_machine.specs.World.{Mine, Entry, Desk, World, stage_of, Note}
-use Rattle.inode_machine.specs.Rules.{shop_of, Opens, own_names, row_of, Pinned, IsAlone, Inv, Row, key_in, key_names, left_or}
+use Rattle.inode_machine.specs.Rules.{shop_of, Opens, own_names, Pinned, IsAlone, Inv, key_in, left_or}
 use Rattle.inode_machine.proofs.Frame.{Kin, Did}
-use Rattle.inode_machine.proofs.Settling.{settle_nodes, settle_or}
 use Rattle.inode_machine.specs.Marks.{new_id}
 use Rattle.inode_machine.specs.Inodes.{sort_of}
 use Rattle.inode_machine.specs.Exec.{is_at}
@@ -86,35 +87,6 @@ own_takes h v u s a follows path walk makes inherits step walks = record {
     idle = λ g l q. absurd (inherits g q);
   };
 }
-
--- Fewer descriptors, or other open files, of which none names more: the tree settles as it would have.
-abbrev pub with_open : Tree → (ℕ → ℕ → Option ℕ) → (ℕ → Option OpenFile) → Tree
-with_open t X F = record t { fds = X; files = F }
-
-abbrev pub NamesLess : Tree → (ℕ → ℕ → Option ℕ) → (ℕ → Option OpenFile) → Type 0
-NamesLess t X F = (n g i : ℕ) → g < hart_count → i < descriptor_count → ((k j : ℕ) → k < hart_count → j < descriptor_count → fd_names t (t.fds k j) n ≡ false) → fd_names (with_open t X F) (X g i) n ≡ false
-
-named_less : (t : Tree) (X : ℕ → ℕ → Option ℕ) (F : ℕ → Option OpenFile) → NamesLess t X F → (n : ℕ) → is_named t n ≡ false → is_named (with_open t X F) n ≡ false
-unfolding is_named
-named_less t X F less n none = none_any hart_count _ (λ g lg.
-    let a = any_none hart_count (λ h. (t.cwd h == n) || (hold_names (t.holds h) n || any_below descriptor_count (λ i. fd_names t (t.fds h i) n))) none in
-    let one = or_none (t.cwd g == n) (hold_names (t.holds g) n || any_below descriptor_count (λ i. fd_names t (t.fds g i) n)) (a g lg) in
-    let two = or_none (hold_names (t.holds g) n) (any_below descriptor_count (λ i. fd_names t (t.fds g i) n)) one.1 in
-    let three : any_below descriptor_count (λ i. fd_names (with_open t X F) (X g i) n) ≡ false = none_any descriptor_count _ (λ i li. less n g i lg li (λ k j lk lj.
-    let b = or_none (t.cwd k == n) (hold_names (t.holds k) n || any_below descriptor_count (λ i. fd_names t (t.fds k i) n)) (a k lk) in
-    let c = or_none (hold_names (t.holds k) n) (any_below descriptor_count (λ i. fd_names t (t.fds k i) n)) b.1 in
-    any_none descriptor_count (λ i. fd_names t (t.fds k i) n) c.1 j lj)) in
-    rw (one.0, two.0, three) refl)
-
-as_open : (t : Tree) (X : ℕ → ℕ → Option ℕ) (F : ℕ → Option OpenFile) → with_open (settle t) X F ≡ with_nodes (with_open t X F) (settle t).nodes
-unfolding settle
-as_open t X F = refl
-
-pub settle_less : (t : Tree) (X : ℕ → ℕ → Option ℕ) (F : ℕ → Option OpenFile) → NamesLess t X F → settle (with_open t X F) ≡ settle (with_open (settle t) X F)
-settle_less t X F less = sym (ap (λ (z : Tree). settle z) (as_open t X F) ∙ settle_nodes (with_open t X F) (settle t).nodes t.nodes (λ n. elim (settle_or t n) [
-  | inl e ↦ inl e
-  | inr e ↦ inr (e.0, e.1, named_less t X F less n e.2)
-]))
 
 -- what a hart names itself, where what it is opening is nothing
 pub names_less : (r s : Row) (d e : Desk) (n : ℕ) → r.cwd ≡ s.cwd → r.hold ≡ s.hold → d.opening ≡ None → e.opening ≡ None → d.left ≡ e.left → own_names r d n ≡ own_names s e n

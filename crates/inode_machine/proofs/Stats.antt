@@ -13,6 +13,7 @@ use Rattle.plain_tree.specs.declared.step.StepAnswer.TheVariants.{Stat as Status
 use Rattle.plain_tree.specs.Widths.{hart_count}
 use Rattle.plain_tree.specs.Tree.{Name, Tree, put, settle, resolve, parent}
 use Rattle.plain_tree.specs.Steps.{node_or, node_at, stat_of, with_nodes, file_at, refusal_with, effect_with, answer_with, place_of, IsInPlace}
+use Rattle.plain_tree.proofs.Settling.{file_settled, settle_nodes, settle_or, settle_again}
 use Rattle.tree_laws.proofs.Nodes.{file_named}
 use Rattle.tree_moves.specs.Moves.{Deed, Stage, Step}
 use Rattle.tree_moves.specs.Moves.Move.{Own as OwnMove}
@@ -24,9 +25,8 @@ use Rattle.inode_machine.proofs.Rules.{Locking, fine_after, is_out, locked_held,
 use Rattle.inode_machine.specs.Exec.{entry_at, entry_of, lock_if, locked, slot_at, stat_at, with_walk}
 use Rattle.inode_machine.proofs.Walking.{moves_good, own_walk, stage_walk, walk_did}
 use Rattle.inode_machine.specs.Marks.{made_by, new_id, places, with_mark}
-use Rattle.inode_machine.proofs.Dups.{Behind, behind, behind_none, fails, file_settled, refused_good, Refused}
+use Rattle.inode_machine.proofs.Dups.{Behind, behind, behind_none, fails, refused_good, Refused}
 use Rattle.inode_machine.proofs.Frame.{fair}
-use Rattle.inode_machine.proofs.Settling.{settle_nodes, settle_or}
 use Rattle.inode_machine.specs.World.Op.{StatFile}
 
 -- an open file of the hart keeps its node where the tree settles
@@ -51,13 +51,6 @@ stat_is t h fd id n f v res par e q r = rw e ((λ i. Status (stat_of (q i) (node
 stat_place : (t : Tree) (h fd : ℕ) → h < hart_count → IsInPlace t h (Fstat fd)
 unfolding place_of
 stat_place t h fd lt = grind (arith, nat_tests)
-
-as_nodes : (t : Tree) → settle (settle t) ≡ settle (with_nodes t (settle t).nodes)
-unfolding settle
-as_nodes t = refl
-
-pub settle_again : (t : Tree) → settle t ≡ settle (settle t)
-settle_again t = sym (as_nodes t ∙ settle_nodes t (settle t).nodes t.nodes (λ n. settle_or t n))
 
 stat_none : (t : Tree) (h fd : ℕ) (res : Option ℕ) (par : Option (ℕ × Name)) → file_at t h fd ≡ None → refusal_with t h (Fstat fd) res par ≡ Some BadDescriptor
 unfolding refusal_with

@@ -3,13 +3,14 @@ use Rattle.std.proofs.Common.{◌≡◌, ◌⊎◌, inl, inr, ℕ, ◌+◌, ◌<
 use Rattle.atomic_programs.specs.Logic.{P, own, onto, Fine, Wp}
 use Rattle.plain_tree.specs.Widths.{hart_count}
 use Rattle.plain_tree.specs.Tree.{put, settle}
+use Rattle.plain_tree.specs.HartRow.{row_of}
 use Rattle.tree_laws.proofs.Maps.{eq_self, put_same, put_other}
 use Rattle.tree_laws.proofs.Sums.{sum_same}
 use Rattle.tree_moves.specs.Moves.{Walk, Step, Move, Takes}
 use Rattle.inode_machine.specs.World.{Mine, World, stage_of, Note}
 use Rattle.inode_machine.specs.Marks.{Made, with_made}
 use Rattle.inode_machine.specs.Exec.{with_walk}
-use Rattle.inode_machine.specs.Rules.{Own, shop_of, own_of, Found, Pinned, Inv, machine, own_names, row_of}
+use Rattle.inode_machine.specs.Rules.{Own, shop_of, own_of, Found, Pinned, Inv, machine, own_names}
 use Rattle.inode_machine.proofs.Frame.{shop_same, put_elim, is_put, Did, Fair}
 use Rattle.inode_machine.proofs.Rules.{acted}
 use Rattle.inode_machine.specs.Inodes.{sort_of}

@@ -10,6 +10,8 @@ use Rattle.plain_tree.specs.declared.step.Action.TheVariants.{Inherit}
 use Rattle.plain_tree.specs.Widths.{hart_count, root}
 use Rattle.plain_tree.specs.Tree.{Name, Tree, put, look, is_live, live_directory, elements, start_of, is_absolute, hold_names, settle}
 use Rattle.plain_tree.specs.Steps.{path_of, follows_path, refusal_with, refused, IsInPlace}
+use Rattle.plain_tree.specs.HartRow.{Row, key_names, row_of}
+use Rattle.plain_tree.proofs.Settling.{settled_row}
 use Rattle.tree_laws.specs.WellFormed.{one_if}
 use Rattle.tree_laws.proofs.Maps.{eq_self, either, same_or, put_same, put_other}
 use Rattle.tree_moves.specs.Moves.{Walk, Stage, Step, Begins, fail}
@@ -20,12 +22,11 @@ use Rattle.inode_machine.specs.World.Op.{Take, Give, UpStart, Up, WalkDown}
 use Rattle.inode_machine.specs.Inodes.{Seen, AtName, AtNothing, seen_in, face_of, is_live_face, is_directory_face}
 use Rattle.inode_machine.specs.Exec.{counted_up, start_if, start_number, has_place, is_at, with_walk}
 use Rattle.inode_machine.specs.Marks.{begun, found_by, marked, with_mark, mended, places, new_id}
-use Rattle.inode_machine.specs.Rules.{Own, Held, Row, key_names, key_in, own_names, row_of, own_of, Inv, machine}
+use Rattle.inode_machine.specs.Rules.{Own, Held, key_in, own_names, own_of, Inv, machine}
 use Rattle.inode_machine.specs.Parts.{P, Stop, NotThere, NoMemory, with_last, leave_directory, looks_or_quits, walk_step, walk_parent, see_parent, quits_unless, mends_if_full, begins_unless_full, start, start_on, makes}
 use Rattle.inode_machine.proofs.Frame.{fair, fair_then, fair_same}
 use Rattle.inode_machine.proofs.Rules.{quiet, s-owned, locks_none, locked_held, s-up, MayRefer, NotesOwn, Ups, ups, my_refs}
 use Rattle.inode_machine.proofs.Counting.{s-give, s-walk-down, MayDrop}
-use Rattle.inode_machine.proofs.Settling.{settled_row}
 use Rattle.inode_machine.proofs.Walking.{walk_did, own_walk, stage_walk, moves_good}
 use Rattle.inode_machine.proofs.Looks.{live_face, no_directory, s-take-then, quit_good, look_on_good, look_refused_good, spoilt, KeepsHold, mends}
 use Rattle.inode_machine.proofs.Listing.{times, times_last, length_last, one_at, one_else, IsListed, Listed, listed_held, listed_on, listed_more, listed_free}

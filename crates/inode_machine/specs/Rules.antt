@@ -5,6 +5,7 @@ use Rattle.plain_tree.specs.declared.tree.OpenFile.{OpenFile}
 use Rattle.plain_tree.specs.declared.tree.Hold.{Hold}
 use Rattle.plain_tree.specs.Widths.{hart_count, descriptor_count}
 use Rattle.plain_tree.specs.Tree.{Name, Tree, any_below, hold_names, is_live, look}
+use Rattle.plain_tree.specs.HartRow.{Key, Row, row_of, key_names}
 use Rattle.tree_laws.specs.WellFormed.{sum_below, one_if, IsWellFormed}
 use Rattle.tree_moves.specs.Moves.{Walk}
 use Rattle.atomic_programs.specs.Logic.{Machine}
@@ -30,37 +31,6 @@ is_hart (Some g) h = g == h
 
 abbrev pub view : World → ℕ → ℕ → Held
 view w h i = record { disk = w.disk i; node = w.all.nodes i; alone = w.alone i; locked = is_hart (w.lock i) h }
-
--- an open file without its offset, which harts may share
-pub record Key : Type 0 where
-  pub number : ℕ
-  pub readable : Bool
-  pub writable : Bool
-
-abbrev pub key_of : Option OpenFile → Option Key
-key_of None = None
-key_of (Some f) = Some (record { number = f.number; readable = f.readable; writable = f.writable })
-
-abbrev pub key_at : (ℕ → Option OpenFile) → Option ℕ → Option Key
-key_at files None = None
-key_at files (Some id) = key_of (files id)
-
--- what the tree has of a hart
-pub record Row : Type 0 where
-  pub cwd : ℕ
-  pub hold : Option Hold
-  pub fds : ℕ → Option ℕ
-  pub keys : ℕ → Option Key
-
-abbrev pub row_of : Tree → ℕ → Row
-row_of t h = record { cwd = t.cwd h; hold = t.holds h; fds = t.fds h; keys = λ i. if nat_lt h hart_count && nat_lt i descriptor_count then key_at t.files (t.fds h i) else None }
-
-abbrev pub key_names : Option Key → ℕ → Bool
-key_names None n = false
-key_names (Some k) n = k.number == n
-
-abbrev pub row_names : Row → ℕ → Bool
-row_names r n = (r.cwd == n) || (hold_names r.hold n || any_below descriptor_count (λ i. key_names (r.keys i) n))
 
 abbrev pub key_in : (ℕ → Option Key) → Option ℕ → Option Key
 key_in keys None = None
