@@ -104,6 +104,13 @@ pub record SameTable (d c : Desk) : Type 0 where
   pub left : d.left ≡ c.left
   pub directory : d.directory ≡ c.directory
 
+-- of these what its open files are
+pub record SameFiles (d c : Desk) : Type 0 where
+  pub fds : d.fds ≡ c.fds
+  pub hand : d.hand ≡ c.hand
+  pub lent : d.lent ≡ c.lent
+  pub opening : d.opening ≡ c.opening
+
 abbrev pub with_new : World → ℕ → Desk → Bool → World
 with_new v h new c = record v { clean = c; desks = put v.desks h new }
 
@@ -111,12 +118,13 @@ pub record Flagging (h : ℕ) (v : World) (O : Own) (new d : Desk) (c : Bool) : 
   pub fair : Fair h v (with_new v h new c)
   pub owned : own_of h (with_new v h new c) ≡ record O { desk = d }
 
--- A desk changes, but not what the table knows of it.
-pub flagging : (h : ℕ) (v : World) (O : Own) (new d : Desk) (c : Bool) → own_of h v ≡ O → O.desk.lender ≡ None → h < hart_count → Inv v → new ≡ d → SameTable new (v.desks h) → new.lender ≡ None
+-- A desk changes, but not what the table knows of it, nor what the hart names.
+pub desk_changes : (h : ℕ) (v : World) (O : Own) (new d : Desk) (c : Bool) → own_of h v ≡ O → O.desk.lender ≡ None → h < hart_count → Inv v → new ≡ d → SameFiles new (v.desks h)
+    → ((j : ℕ) → own_names (row_of v.all h) new j ≡ true → own_names (row_of v.all h) (v.desks h) j ≡ true) → new.directory ≡ left_or new.left (v.all.cwd h) → new.lender ≡ None
     → (new.joined ≡ false → (j : ℕ) → v.keeper j ≡ Some h → v.disk j ≡ v.all.nodes j)
     → ((m : Note) → new.noted ≡ Some m → Reached v h m.number → v.alone m.number ≡ false → sort_of (v.all.nodes m.number) ≡ m.sort)
     → (new.full ≡ true → c ≡ false) → (v.clean ≡ false → c ≡ false) → (c ≡ true → v.clean ≡ true) → Flagging h v O new d c
-flagging h v O new d c ov free lt inv is same unlent quiet notes mine his back = record {
+desk_changes h v O new d c ov free lt inv is same names stands unlent quiet notes mine his back = record {
   fair = fair inv (record {
     hart = lt;
     inodes = λ j. inl (record { lock = refl; keeper = refl; disk = refl; node = refl; alone = refl });
@@ -130,13 +138,13 @@ flagging h v O new d c ov free lt inv is same unlent quiet notes mine his back =
     sort = λ j. inl refl;
     sorts = inv.sorts;
     noted = λ m is r s. notes m (sym (ap (λ (z : Desk). z.noted) here) ∙ is) r s;
-    directory = ap (λ (z : Desk). z.directory) here ∙ same.directory ∙ inv.directory h lt ∙ (λ z. left_or (sym same.left z) (v.all.cwd h)) ∙ (λ z. left_or (sym here z).left (v.all.cwd h));
+    directory = ap (λ (z : Desk). z.directory) here ∙ stands ∙ (λ z. left_or (sym here z).left (v.all.cwd h));
     well = inv.well;
     counts = inv.counts;
     alone = inv.alone;
     kept = λ j is. elim (inv.kept j h is).1 [ inl o ↦ inl (record { fd = o.fd; below = o.below; slot = o.slot; is = fds_is h o.fd ∙ o.is; entry = o.entry; at = o.at; number = o.number }) | inr p ↦ inr p ];
     held = λ j is. inv.held j h is;
-    named = λ j is. inv.named h j lt ((λ z. (v.all.cwd h == j) || (hold_names (v.all.holds h) j || (key_names (key_in (row_of v.all h).keys (sym same.opening z)) j || is_at (sym same.left z) j))) ∙ (λ z. own_names (row_of v.all h) (sym here z) j) ∙ is);
+    named = λ j is. inv.named h j lt (names j ((λ z. own_names (row_of v.all h) (sym here z) j) ∙ is));
     pending = λ j is. inv.pending h j lt is;
     walks = λ x is. inv.walks h x lt is;
   });
@@ -189,8 +197,14 @@ flagging h v O new d c ov free lt inv is same unlent quiet notes mine his back =
       ];
     }
 
-same_table : (d : Desk) → SameTable d d
-same_table d = record { fds = refl; hand = refl; lent = refl; opening = refl; left = refl; directory = refl }
+-- the same, where it leaves no directory and opens nothing else
+pub flagging : (h : ℕ) (v : World) (O : Own) (new d : Desk) (c : Bool) → own_of h v ≡ O → O.desk.lender ≡ None → h < hart_count → Inv v → new ≡ d → SameTable new (v.desks h) → new.lender ≡ None
+    → (new.joined ≡ false → (j : ℕ) → v.keeper j ≡ Some h → v.disk j ≡ v.all.nodes j)
+    → ((m : Note) → new.noted ≡ Some m → Reached v h m.number → v.alone m.number ≡ false → sort_of (v.all.nodes m.number) ≡ m.sort)
+    → (new.full ≡ true → c ≡ false) → (v.clean ≡ false → c ≡ false) → (c ≡ true → v.clean ≡ true) → Flagging h v O new d c
+flagging h v O new d c ov free lt inv is same unlent quiet notes mine his back = desk_changes h v O new d c ov free lt inv is (record { fds = same.fds; hand = same.hand; lent = same.lent; opening = same.opening })
+    (λ j q. (λ z. (v.all.cwd h == j) || (hold_names (v.all.holds h) j || (key_names (key_in (row_of v.all h).keys (sym same.opening z)) j || is_at (sym same.left z) j))) ∙ q)
+    (same.directory ∙ inv.directory h lt ∙ (λ z. left_or (sym same.left z) (v.all.cwd h))) unlent quiet notes mine his back
 
 pub filling : (h : ℕ) (v : World) (O : Own) → own_of h v ≡ O → O.desk.lender ≡ None → h < hart_count → Inv v → Flagging h v O (record (v.desks h) { full = true }) (record (O.desk) { full = true }) false
 filling h v O ov free lt inv = flagging h v O (record (v.desks h) { full = true }) (record (O.desk) { full = true }) false ov free lt inv (ap (λ (o : Own). record (o.desk) { full = true }) ov)
