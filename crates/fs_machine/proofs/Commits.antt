@@ -4,7 +4,6 @@ use Rattle.atomic_programs.specs.Prog.{Ret, Waits, Ran, Stops, StillWaits, WentO
 use Rattle.fs_machine.specs.declared.kind.Kind.TheVariants as kind
 use Rattle.fs_machine.specs.LogPart.{Outside}
 use Rattle.fs_machine.specs.Steps.{State, Commit, exec, kind_of}
-use Rattle.fs_machine.specs.Machines.{P}
 use Rattle.fs_machine.specs.Programs.{commits, commit_unless}
 
 module _ (h : ℕ) (x : Outside) (s t : State) where

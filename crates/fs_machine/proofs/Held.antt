@@ -1,6 +1,7 @@
 -- What a call of the tables comes to, in the whole.
-use Rattle.std.proofs.Common.{◌≡◌, ◌∙◌, ℕ, ap, Option, Some, None}
-use Rattle.std.specs.Prelude.{IfNone, IfSome}
+use Rattle.std.proofs.Common.{◌≡◌, ◌∙◌, ℕ, List, [], ◌∷◌, Bool, true, false, cond, refl, sym, ap, Option, Some, None}
+use Rattle.std.proofs.lemmas.Option.{same_Some, none-some}
+use Rattle.std.specs.Prelude.{IfNone, IfSome, find, is_none}
 use Rattle.sleep_lock.specs.SleepLock.{GuardState}
 use Rattle.group_log.specs.Soundness.{LogState}
 use Rattle.fs_tables.specs.declared.inodes.Inode.{Inode}
@@ -10,13 +11,12 @@ use Rattle.atomic_programs.specs.Prog.{Ran}
 use Rattle.fs_tables.specs.declared.files.OpenFile.{OpenFile}
 use Rattle.fs_tables.specs.declared.files.Want.{Want}
 use Rattle.fs_tables.specs.declared.files.Refused.{Refused}
-use Rattle.fs_tables.specs.Tables.{TablesState, file_named}
-use Rattle.fs_tables.specs.Inodes.{lock_file, lock_unless, with_file, lock_inode, refusal_of, Refuses}
+use Rattle.fs_tables.specs.Tables.{TablesState, file_named, place_of, references_of, references_in}
+use Rattle.fs_tables.specs.Inodes.{lock_file, lock_unless, with_file, lock_inode, refusal_of, Refuses, first_free, is_unreferenced}
 use Rattle.fs_tables.specs.Locks.{IsLocked}
 use Rattle.fs_tables.specs.Results.{IfDying}
 use Rattle.fs_machine.specs.declared.shared.Core.{Core}
 use Rattle.fs_machine.specs.LogPart.{LogPart}
-use Rattle.fs_machine.specs.Steps.{State}
 use Rattle.fs_machine.specs.Tied.{IsOwnInode}
 
 pub still-in : {D : Type 0} (l : LogState D) (old new : TablesState) (r : Option (GuardState Inode)) → IfNone r (new ≡ old)
@@ -42,3 +42,19 @@ file_refused h fd w t why e = ap (lock_unless h t (file_named h fd t)) e
 pub file_tried : (h fd : ℕ) (w : Want) (t : TablesState) (f : OpenFile) → refusal_of w (file_named h fd t) ≡ None → file_named h fd t ≡ Some f → lock_file h w fd t ≡ with_file f (lock_inode h f.number t)
 unfolding lock_file
 file_tried h fd w t f e is = ap (lock_unless h t (file_named h fd t)) e ∙ ap (λ o. lock_unless h t o None) is
+
+-- to what is found no reference stands
+found_passes : {X : Type 0} (p : X → Bool) (xs : List X) (x : X) → find p xs ≡ Some x → p x ≡ true
+found_passes p [] x e = absurd (none-some x e)
+found_passes {X} p (y ∷ ys) x e = at (p y) refl e (λ f. found_passes p ys x f)
+  where
+    at : (b : Bool) → p y ≡ b → cond b (Some y) (find p ys) ≡ Some x → (find p ys ≡ Some x → p x ≡ true) → p x ≡ true
+    at true is e more = ap p (sym (same_Some _ _ e)) ∙ is
+    at false is e more = more e
+
+none_there : (o : Option ℕ) → is_none o ≡ true → o ≡ None
+none_there None e = refl
+none_there (Some k) e = absurd (cc e)
+
+pub unreferenced : (t : TablesState) (candidates : List ℕ) (n : ℕ) → first_free t.entries candidates ≡ Some n → references_of n t ≡ 0
+unreferenced t candidates n e = ap (references_in t.entries) (none_there (place_of n t.entries) (found_passes (is_unreferenced t.entries) candidates n e))

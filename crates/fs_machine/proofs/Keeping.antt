@@ -1,5 +1,5 @@
 -- Each operation keeps the log whole.
-use Rattle.std.proofs.Common.{◌≡◌, ◌⊎◌, inl, inr, ℕ, Bool, true, false, List, Option, Some, None, length, refl, sym, subst, ap}
+use Rattle.std.proofs.Common.{◌≡◌, ℕ, Bool, true, false, List, Option, Some, None, length, refl, sym, subst}
 use Rattle.fs_layout.specs.Recovered.{IsOutsideLog}
 use Rattle.buffer_cache.specs.Getting.{get_of}
 use Rattle.buffer_cache.specs.Seats.{SeatState, holder_of, kept}
@@ -18,9 +18,9 @@ use Rattle.fs_tables.specs.declared.files.Want.TheVariants as want
 use Rattle.fs_tables.specs.Tables.{TablesState, file_named}
 use Rattle.fs_tables.specs.Inodes.{refusal_of, lock_inode, lock_file, settle_inode, up_inode, first_free}
 use Rattle.fs_tables.specs.Files.{take_place, open_file, double_descriptor, shut_descriptor, give_next}
-use Rattle.fs_machine.specs.LogPart.{LogPart, Outside, Passes, Fails, join_if, got_by, read_block, put_block, write_log, commit_if, written, LeavesIt, LeavesOne}
-use Rattle.fs_machine.specs.Steps.{State, Op, Join, JoinToWrite, Leave, Get, Read, Put, Commit, Lock, LockFile, Unlock, Settle, Up, Claim, Down, CheckFile, TakePlace, TakeDescriptor, Double, Close, Give, Reply, exec, in_log, in_tables, joins, join_unless, claims, claim_first, up_whom, drop_which}
-use Rattle.fs_machine.specs.Premises.{May, Honest, MayPut, MayRecord, MayJoin}
+use Rattle.fs_machine.specs.LogPart.{Outside, Passes, Fails, join_if, got_by, read_block, put_block, commit_if, written, LeavesIt, LeavesOne}
+use Rattle.fs_machine.specs.Steps.{State, Join, JoinToWrite, Leave, Get, Read, Put, Commit, Lock, LockFile, Unlock, Settle, Up, Claim, Down, CheckFile, TakePlace, TakeDescriptor, Double, Close, Give, Reply, exec, in_log, in_tables, joins, join_unless, claims, claim_first, up_whom, drop_which}
+use Rattle.fs_machine.specs.Premises.{May, Honest, MayPut, MayJoin}
 use Rattle.fs_machine.specs.Whole.{IsWholeLog, After, KeepsWhole}
 
 abbrev Kept : {A : Type 0} → Did A State → Type 0

@@ -1,8 +1,8 @@
 -- What each call of the log makes is what its operation makes.
 use Rattle.std.proofs.Common.{◌≡◌, ◌≢◌, ℕ, Bool, true, false, List, [], Option, Some, None, Result, Ok, Err, length, refl, sym, subst, ap, ◌∙◌}
-use Rattle.std.specs.Prelude.{◌↔◌, ◌⊎◌, ◌+◌, min, slice_set, IsTrue, IsNone, IsSome, IfSome, OnOk, OnErr}
+use Rattle.std.specs.Prelude.{◌↔◌, ◌⊎◌, slice_set, IsTrue, IsNone, IsSome, IfSome, OnOk, OnErr}
 use Rattle.std.specs.Option.{unwrap_or}
-use Rattle.block_device.specs.Blocks.{block_at, most_faults, faults_after}
+use Rattle.block_device.specs.Blocks.{block_at, faults_after}
 use Rattle.sleep_lock.specs.SleepLock.{GuardState}
 use Rattle.buffer_cache.specs.Buffers.{BufferState}
 use Rattle.buffer_cache.specs.Getting.{get_of, IfHeld}
@@ -23,9 +23,9 @@ use Rattle.group_log.proofs.Getting.{waits_same}
 use Rattle.atomic_programs.specs.Prog.{Ran, Stops}
 use Rattle.fs_tables.specs.Tables.{TablesState}
 use Rattle.fs_machine.specs.declared.shared.Core.{Core}
-use Rattle.fs_machine.specs.LogPart.{LogPart, part_of, Outside, Passes, Fails, join_if, got_by, with_seats, commit_if, is_open, join_log, leave_log, get_block, read_block, put_block, commit_log, LeavesIt, LeavesOne, written}
+use Rattle.fs_machine.specs.LogPart.{part_of, Passes, Fails, join_if, got_by, with_seats, commit_if, is_open, join_log, leave_log, get_block, read_block, put_block, commit_log, LeavesIt, LeavesOne, written}
 use Rattle.fs_layout.specs.Recovered.{IsOutsideLog}
-use Rattle.fs_machine.specs.Tied.{IsTied, bytes_of, IsOwn, LeavesTied}
+use Rattle.fs_machine.specs.Tied.{bytes_of, IsOwn}
 use Rattle.fs_machine.specs.Did.{joined_as, got_as, IfGotNone, read_as, committed_as, said_read, said_written}
 
 untrue : (b : Bool) → (b ≡ true → true ≡ false) → b ≡ false

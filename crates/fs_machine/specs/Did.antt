@@ -8,7 +8,6 @@ use Rattle.group_log.specs.declared.commit.Progress.{Progress}
 use Rattle.group_log.specs.declared.commit.Progress.TheVariants as progress
 use Rattle.atomic_programs.specs.Prog.{Did, Waits, Ran, Stops}
 use Rattle.fs_machine.specs.LogPart.{Outside, Passes, Fails}
-use Rattle.fs_machine.specs.Steps.{State}
 use Rattle.fs_machine.specs.Tied.{bytes_of}
 
 abbrev pub joined_as : {S : Type 0} → Option ℕ → S → Did (Unit {0}) S

@@ -8,3 +8,5 @@ pub mod Programs
 pub mod Fetching
 pub mod Whole
 pub mod Locked
+pub mod Joining
+pub mod Claiming

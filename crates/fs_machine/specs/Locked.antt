@@ -1,5 +1,4 @@
 -- What the lock of a descriptor's inode stands for.
-use Rattle.std.specs.Prelude.{ℕ}
 use Rattle.sleep_lock.specs.SleepLock.{GuardState}
 use Rattle.atomic_programs.specs.Prog.{Did, Waits as ItWaits, Ran}
 use Rattle.fs_tables.specs.declared.inodes.Inode.{Inode}

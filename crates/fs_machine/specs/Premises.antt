@@ -1,16 +1,15 @@
 -- Where an operation may be made, what the device may answer to it, and where it may wait.
-use Rattle.std.specs.Prelude.{◌≡◌, ◌≢◌, ℕ, ◌+◌, ◌^◌, ◌<◌, ◌≤◌, List, [], length, false, Option, Some, None, IsSome, IsTrue, IfSome, slice_get}
+use Rattle.std.specs.Prelude.{◌≡◌, ◌≢◌, ℕ, ◌+◌, ◌^◌, ◌<◌, ◌≤◌, List, length, false, Option, Some, None, IsSome, IsTrue, IfSome, slice_get}
 use Rattle.std.specs.Option.{MatchOption}
 use Rattle.fs_layout.specs.Recovered.{IsOutsideLog}
 use Rattle.buffer_cache.specs.Lists.{count_of}
 use Rattle.buffer_cache.specs.Seats.{is_held_by, holder_of, kept}
-use Rattle.buffer_cache.specs.declared.limits.TheConstants.{HARTS}
+use Rattle.buffer_cache.specs.Limits.{hart_count}
 use Rattle.group_log.specs.declared.phase.Phase.TheVariants.{Open, Halted}
 use Rattle.group_log.specs.Group.{joined, has, HasRoom, IsMember}
 use Rattle.group_log.specs.Soundness.{IsHome, limit_of}
 use Rattle.group_log.specs.Turns.{turn_is_out}
 use Rattle.group_log.specs.Waiting.{join_waits}
-use Rattle.fs_tables.specs.declared.inodes.Inode.{Inode}
 use Rattle.fs_tables.specs.Lists.{next_full}
 use Rattle.fs_tables.specs.Tables.{TablesState, references_of, owed, holder_of as lock_holder, file_named}
 use Rattle.fs_tables.specs.Inodes.{directory_of}
@@ -21,7 +20,7 @@ use Rattle.fs_machine.specs.Steps.{State, Op, Join, JoinToWrite, Leave, Get, Rea
 -- ---- what an operation asks
 
 abbrev pub MayJoin : ℕ → LogPart → Type 0
-MayJoin h l = (h < HARTS) × (slice_get l.members h ≡ Some None)
+MayJoin h l = (h < hart_count) × (slice_get l.members h ≡ Some None)
 
 -- what a hart may change of a block's buffer in its hand
 abbrev pub MayRecord : ℕ → ℕ → LogPart → Option (List ℕ) → Type 0
@@ -56,32 +55,32 @@ MayDown h (Walked n) t = HasReference n t × MayDrop n t
 
 -- the child is another hart, without descriptors from here on
 abbrev pub MayGive : ℕ → ℕ → ℕ → TablesState → Type 0
-MayGive h child from t = (h < HARTS) × (child < HARTS) × (child ≢ h) × (next_full from (descriptors_of (slice_get t.desks child)) ≡ None) × MayUp (directory_of (slice_get t.desks h)) t
+MayGive h child from t = (h < hart_count) × (child < hart_count) × (child ≢ h) × (next_full from (descriptors_of (slice_get t.desks child)) ≡ None) × MayUp (directory_of (slice_get t.desks h)) t
 
 abbrev pub MayUpWhom : ℕ → Whom → TablesState → Type 0
 MayUpWhom h (Number n) t = MayUp n t
-MayUpWhom h Directory t = (h < HARTS) × MayUp (directory_of (slice_get t.desks h)) t
+MayUpWhom h Directory t = (h < hart_count) × MayUp (directory_of (slice_get t.desks h)) t
 
 unfoldable pub May : ℕ → Op → State → Type 0
 May h Join s = MayJoin h s.log
 May h (JoinToWrite fd) s = MayJoin h s.log
 May h Leave s = IsMember s.log.members h × (s.log.phase ≢ Halted)
-May h (Get b) s = (h < HARTS) × (count_of (is_held_by h) s.log.seats ≤ 1) × IsOutsideLog s.log.sizes b × (holder_of b s.log.seats ≢ Some h)
+May h (Get b) s = (h < hart_count) × (count_of (is_held_by h) s.log.seats ≤ 1) × IsOutsideLog s.log.sizes b × (holder_of b s.log.seats ≢ Some h)
 May h (Read b) s = (holder_of b s.log.seats ≡ Some h) × IsOutsideLog s.log.sizes b × (kept b s.log.seats ≡ None) × (b < length s.log.contents)
 May h (Put b change) s = MayPut h b change s.log
-May h Commit s = (h < HARTS) × (count_of (is_held_by h) s.log.seats ≡ 0) × (s.log.phase ≢ Open) × (s.log.phase ≢ Halted)
+May h Commit s = (h < hart_count) × (count_of (is_held_by h) s.log.seats ≡ 0) × (s.log.phase ≢ Open) × (s.log.phase ≢ Halted)
 May h (Lock n) s = MayLock h n s.tables
-May h (LockFile want fd) s = (h < HARTS) × IfSome (file_named h fd s.tables) (λ f. lock_holder f.number s.tables ≢ Some h)
+May h (LockFile want fd) s = (h < hart_count) × IfSome (file_named h fd s.tables) (λ f. lock_holder f.number s.tables ≢ Some h)
 May h (Unlock v moved) s = (lock_holder v.number s.tables ≡ Some h) × MayMove h v.number moved s.tables
-May h (Settle v) s = (h < HARTS) × (lock_holder v.number s.tables ≡ Some h) × HasReference v.number s.tables
+May h (Settle v) s = (h < hart_count) × (lock_holder v.number s.tables ≡ Some h) × HasReference v.number s.tables
 May h (Up whom) s = MayUpWhom h whom s.tables
 May h (Claim b candidates) s = MayPut h b None s.log
 May h (Down drop) s = MayDown h drop s.tables
-May h (CheckFile want fd) s = h < HARTS
-May h TakePlace s = (h < HARTS) × (hand_of (slice_get s.tables.desks h) ≡ None)
-May h (TakeDescriptor n file) s = (h < HARTS) × IsSome (hand_of (slice_get s.tables.desks h)) × HasReference n s.tables
-May h (Double fd) s = h < HARTS
-May h (Close fd) s = h < HARTS
+May h (CheckFile want fd) s = h < hart_count
+May h TakePlace s = (h < hart_count) × (hand_of (slice_get s.tables.desks h) ≡ None)
+May h (TakeDescriptor n file) s = (h < hart_count) × IsSome (hand_of (slice_get s.tables.desks h)) × HasReference n s.tables
+May h (Double fd) s = h < hart_count
+May h (Close fd) s = h < hart_count
 May h (Give child from) s = MayGive h child from s.tables
 May h Reply s = Unit {0}
 

@@ -1,16 +1,7 @@
 -- The operations that calls are made of, and what each makes of the state that all harts share.
-use Rattle.std.specs.Prelude.{◌≡◌, ◌≢◌, ℕ, ◌+◌, ◌^◌, ◌==◌, ◌<◌, ◌≤◌, List, [], ◌∷◌, length, Bool, true, false, Option, Some, None, IsSome, IsTrue, IfSome, slice_get}
-use Rattle.std.specs.Option.{MatchOption}
+use Rattle.std.specs.Prelude.{ℕ, List, Bool, Option, Some, None}
 use Rattle.fs_layout.specs.declared.inode.Dinode.{Dinode}
-use Rattle.fs_layout.specs.Recovered.{IsOutsideLog}
-use Rattle.buffer_cache.specs.Lists.{count_of, first_of}
-use Rattle.buffer_cache.specs.Seats.{is_held_by, holder_of, kept}
-use Rattle.buffer_cache.specs.declared.limits.TheConstants.{HARTS}
-use Rattle.group_log.specs.declared.phase.Phase.TheVariants.{Open, Halted}
 use Rattle.group_log.specs.declared.log.Left.{Left}
-use Rattle.group_log.specs.Group.{joined, has, HasRoom, IsMember}
-use Rattle.group_log.specs.Turns.{turn_is_out}
-use Rattle.group_log.specs.Waiting.{join_waits}
 use Rattle.atomic_programs.specs.Prog.{Did, Waits, Ran, Stops, did_in}
 use Rattle.fs_tables.specs.declared.inodes.Inode.{Inode}
 use Rattle.fs_tables.specs.declared.files.NewFile.{NewFile}
@@ -23,10 +14,10 @@ use Rattle.fs_tables.specs.declared.slots.Shut.{Shut}
 use Rattle.fs_tables.specs.declared.slots.Shut.TheVariants as shut
 use Rattle.fs_tables.specs.declared.slots.Given.{Given}
 use Rattle.fs_tables.specs.declared.slots.Given.TheVariants as given
-use Rattle.fs_tables.specs.Tables.{TablesState, references_of, owed, holder_of as lock_holder, file_named}
+use Rattle.fs_tables.specs.Tables.{TablesState, file_named}
 use Rattle.fs_tables.specs.Inodes.{LockedState, Refuses, Locks, DroppedState, Counts, Keeps, Dies, refusal_of, lock_inode, lock_file, unlock_inode, settle_inode, up_inode, up_directory, drop_inode, drop_walked, first_free}
-use Rattle.fs_tables.specs.Files.{take_place, open_file, double_descriptor, shut_descriptor, give_next, hand_of}
-use Rattle.fs_machine.specs.LogPart.{LogPart, part_of, Outside, Passes, Fails, join_log, leave_log, get_block, read_block, put_block, commit_log, written, LeavesIt, LeavesOne}
+use Rattle.fs_tables.specs.Files.{take_place, open_file, double_descriptor, shut_descriptor, give_next}
+use Rattle.fs_machine.specs.LogPart.{LogPart, part_of, Outside, join_log, leave_log, get_block, read_block, put_block, commit_log}
 use Rattle.fs_machine.specs.declared.shared.Core.{Core}
 use Rattle.fs_machine.specs.declared.kind.Kind.{Kind}
 use Rattle.fs_machine.specs.declared.kind.Kind.TheVariants as kind

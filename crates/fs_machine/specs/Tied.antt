@@ -1,5 +1,5 @@
 -- How the guards in a hart's hand go with the state.
-use Rattle.std.specs.Prelude.{◌≡◌, ◌≢◌, ◌<◌, ℕ, List, [], Option, Some, IfSome, slice_get}
+use Rattle.std.specs.Prelude.{◌≡◌, ◌≢◌, ℕ, List, [], IfSome}
 use Rattle.std.specs.Option.{unwrap_or}
 use Rattle.fs_layout.specs.Recovered.{IsOutsideLog}
 use Rattle.sleep_lock.specs.SleepLock.{GuardState}

@@ -3,14 +3,15 @@ ghost use Rattle.std.specs.Prelude.{◌≡◌, ◌<◌, Some, None, IfSome, IfNo
 ghost use Rattle.atomic_programs.specs.Prog.{Ran as ItRan};
 ghost use Rattle.fs_tables.specs.Results.{locked_as, dropped_as, kept_as, IfDying};
 ghost use Rattle.fs_machine.specs.LogPart.{Outside};
-ghost use Rattle.fs_machine.specs.Steps.{state_of, exec, Lock, LockFile, Unlock, Settle, Up, Down, Number, Directory, Held, Walked};
+ghost use Rattle.fs_machine.specs.Steps.{state_of, exec, Claim as ClaimOp, Lock, LockFile, Unlock, Settle, Up, Down, Number, Directory, Held, Walked};
 ghost use Rattle.fs_machine.specs.Premises.{May};
-ghost use Rattle.fs_machine.specs.Tied.{IsOwnInode, LeavesTied};
+ghost use Rattle.fs_machine.specs.Tied.{IsOwn, IsOwnInode, LeavesTied};
+ghost use Rattle.fs_machine.specs.Claiming.{claimed_as, IfKept};
 ghost use Rattle.fs_machine.specs.Locked.{file_locked_as, IfFileWaits, IfFileLocked};
 
 use crate::shared::Core;
 use block_device::Device;
-use buffer_cache::HARTS;
+use buffer_cache::{Buffer, HARTS};
 use fs_tables::{Dropped, Inode, OpenFile, Reference, Refused, Want};
 use sleep_lock::Guard;
 
@@ -44,6 +45,28 @@ impl<D: Device> Core<D> {
         ensures others { LeavesTied hart (state_of D.contents D.failures self.old) (state_of D.contents D.failures self.new) }
     {
         self.tables.up(number)
+    }
+
+    /// A reference to the first of these inodes to which none stands. Where there is no such one the buffer is given back as
+    /// it was, and else kept.
+    #[tactic(auto, unfolding(crate::specs::Premises::May))]
+    pub fn claim(&mut self, hart: u8, guard: Guard<Buffer>, candidates: &[u32]) -> Claim
+        requires own { IsOwn hart guard.value.block guard (state_of D.contents D.failures self.old) }
+        requires may { May hart (ClaimOp guard.value.block candidates.now) (state_of D.contents D.failures self.old) }
+        ensures ran { (x : Outside) → exec hart x (ClaimOp guard.value.block candidates.now) (state_of D.contents D.failures self.old) ≡ claimed_as result (state_of D.contents D.failures self.new) }
+        ensures kept { IfKept result (λ kept. (kept ≡ guard) × IsOwn hart guard.value.block kept (state_of D.contents D.failures self.new)) }
+        ensures others { LeavesTied hart (state_of D.contents D.failures self.old) (state_of D.contents D.failures self.new) }
+    {
+        match self.tables.first_free(candidates) {
+            None => {
+                self.log.release(guard);
+                Claim::NoInode
+            }
+            Some(number) => match self.tables.up(number) {
+                None => Claim::NoPlace(guard),
+                Some(reference) => Claim::Claimed(reference, guard),
+            },
+        }
     }
 
     /// Drops a reference. Where it is the last one to a dead inode the inode's lock is taken in its place.
@@ -125,6 +148,15 @@ impl<D: Device> Core<D> {
     {
         self.tables.drop_walked(reference)
     }
+}
+
+/// A new inode claimed.
+pub enum Claim {
+    Claimed(Reference, Guard<Buffer>),
+    /// Each of the fifty places is referred to.
+    NoPlace(Guard<Buffer>),
+    /// To each of them a reference stands, and the buffer was given back.
+    NoInode,
 }
 
 /// The lock of what a descriptor names.

@@ -14,6 +14,6 @@ mod shared;
 
 pub use fetch::Fetch;
 pub use finish::Finish;
-pub use inodes::LockedFile;
+pub use inodes::{Claim, LockedFile};
 pub use kind::Kind;
-pub use shared::Core;
+pub use shared::{Core, JoinedToWrite};

@@ -5,14 +5,15 @@ ghost use Rattle.buffer_cache.specs.Seats.{IsHeld};
 ghost use Rattle.group_log.specs.Waiting.{IfWaits};
 ghost use Rattle.atomic_programs.specs.Prog.{Ran as ItRan};
 ghost use Rattle.fs_machine.specs.LogPart.{Outside};
-ghost use Rattle.fs_machine.specs.Steps.{state_of, exec, Join, Leave as LeaveOp, Get, Read, Put, Commit};
+ghost use Rattle.fs_machine.specs.Steps.{state_of, exec, Join, JoinToWrite, Leave as LeaveOp, Get, Read, Put, Commit};
 ghost use Rattle.fs_machine.specs.Premises.{May, Honest};
 ghost use Rattle.fs_machine.specs.Tied.{IsOwn, LeavesTied, bytes_of};
+ghost use Rattle.fs_machine.specs.Joining.{joined_to_write_as, IfJoinWaits, IfJoined};
 ghost use Rattle.fs_machine.specs.Did.{joined_as, got_as, read_as, committed_as, said_read, said_written, IfGotNone, IfReadOk};
 
 use block_device::{Device, Fault};
 use buffer_cache::{Buffer, Got};
-use fs_tables::Tables;
+use fs_tables::{Refused, Tables, Want};
 use group_log::{Left, Log, Progress, Txn};
 use sleep_lock::Guard;
 
@@ -21,6 +22,13 @@ use sleep_lock::Guard;
 pub struct Core<D: Device> {
     pub log: Log<D>,
     pub tables: Tables,
+}
+
+/// A transaction to write what a descriptor names.
+pub enum JoinedToWrite {
+    Waits,
+    Refused(Refused),
+    Joined(Txn),
 }
 
 impl<D: Device> Core<D> {
@@ -34,6 +42,24 @@ impl<D: Device> Core<D> {
         ensures others { LeavesTied hart (state_of D.contents D.failures self.old) (state_of D.contents D.failures self.new) }
     {
         self.log.join(hart)
+    }
+
+    /// Joins a transaction, where this descriptor may be written.
+    #[tactic(auto, unfolding(crate::specs::Premises::May))]
+    pub fn join_to_write(&mut self, hart: u8, fd: u32) -> JoinedToWrite
+        requires may { May hart (JoinToWrite fd) (state_of D.contents D.failures self.old) }
+        ensures ran { (x : Outside) → exec hart x (JoinToWrite fd) (state_of D.contents D.failures self.old) ≡ joined_to_write_as result (state_of D.contents D.failures self.new) }
+        ensures still { IfJoinWaits result (self.new ≡ self.old) }
+        ensures txn { IfJoined result (λ txn. txn ≡ hart) }
+        ensures others { LeavesTied hart (state_of D.contents D.failures self.old) (state_of D.contents D.failures self.new) }
+    {
+        match self.tables.check(hart, Want::Write, fd) {
+            Some(why) => JoinedToWrite::Refused(why),
+            None => match self.log.join(hart) {
+                None => JoinedToWrite::Waits,
+                Some(txn) => JoinedToWrite::Joined(txn),
+            },
+        }
     }
 
     /// Leaves a transaction, and says whether a commit begins.

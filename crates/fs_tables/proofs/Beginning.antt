@@ -1,5 +1,5 @@
 -- A free place that becomes an inode's, and what counting up answers.
-use Rattle.std.proofs.Common.{◌≡◌, ◌≢◌, ◌⊎◌, ℕ, ◌+◌, ◌==◌, ◌<◌, List, length, length-set, get_or, Bool, true, false, refl, sym, ◌∙◌, ap, subst, arith, Option, Some, None, inl, inr}
+use Rattle.std.proofs.Common.{◌≡◌, ◌≢◌, ℕ, ◌==◌, ◌<◌, List, length, length-set, get_or, true, refl, sym, ◌∙◌, ap, subst, arith, Option, Some, None, inl, inr}
 use Rattle.std.specs.Prelude.{slice_get, slice_set, IfSome}
 use Rattle.std.specs.List.{position}
 use Rattle.std.proofs.lemmas.List.{set-set}
@@ -14,7 +14,7 @@ use Rattle.fs_tables.specs.declared.inodes.Entry.{Entry}
 use Rattle.fs_tables.specs.declared.inodes.Inode.{Inode}
 use Rattle.fs_tables.specs.Tables.{TablesState, place_of, is_for, is_unused}
 use Rattle.fs_tables.specs.Inodes.{up_inode, up_by, up_new, counted_at, begun_at}
-use Rattle.fs_tables.specs.Locks.{IsLocked, LeavesLocked}
+use Rattle.fs_tables.specs.Locks.{LeavesLocked}
 use Rattle.fs_tables.specs.Soundness.{IsSoundInodes, AllPlaced, PlaceFits, IsOnce}
 use Rattle.fs_tables.proofs.Places.{position_none, none_passes, fails}
 use Rattle.fs_tables.proofs.Locking.{slot_at, lock_is}

@@ -1,19 +1,18 @@
 -- What counting a reference makes of the inodes in memory.
-use Rattle.std.proofs.Common.{◌≡◌, ◌≢◌, ◌⊎◌, ℕ, zero, suc, ◌+◌, ◌-◌, ◌<◌, List, length, length-set, Bool, true, false, refl, sym, ◌∙◌, ap, subst, arith, Option, Some, None, inl, inr}
+use Rattle.std.proofs.Common.{◌≡◌, ◌≢◌, ◌⊎◌, ℕ, ◌-◌, ◌<◌, List, length, length-set, refl, sym, ◌∙◌, ap, subst, arith, Option, Some, None, inl, inr}
 use Rattle.std.specs.Prelude.{slice_get, slice_set}
-use Rattle.std.specs.List.{position}
 use Rattle.std.proofs.lemmas.Bool.{cases_eq}
 use Rattle.std.proofs.lemmas.Option.{slice_get_within, same_Some, none-some}
-use Rattle.sleep_lock.specs.SleepLock.{SlotState, GuardState, filled, emptied}
+use Rattle.sleep_lock.specs.SleepLock.{SlotState, GuardState, emptied}
 use Rattle.sleep_lock.specs.Row.{IsOut}
 use Rattle.sleep_lock.proofs.Lists.{slice_get-set_same, slice_get-set_other}
 use Rattle.fs_tables.specs.declared.inodes.Entry.{Entry}
 use Rattle.fs_tables.specs.declared.inodes.Inode.{Inode}
-use Rattle.fs_tables.specs.Tables.{TablesState, place_of, is_for, references_of, references_in, references_at, holder_of, holder_in, holder_at, one_more, one_less}
+use Rattle.fs_tables.specs.Tables.{TablesState, place_of, references_of, references_in, references_at, holder_of, holder_in, holder_at, one_more, one_less}
 use Rattle.fs_tables.specs.Lists.{change_at}
 use Rattle.fs_tables.specs.Locks.{IsLocked, LeavesLocked}
-use Rattle.fs_tables.specs.Soundness.{IsSoundInodes, AllPlaced, PlaceFits, InsideFits, IsOnce}
-use Rattle.fs_tables.proofs.Places.{Found, change_set, position_none, none_passes}
+use Rattle.fs_tables.specs.Soundness.{IsSoundInodes, AllPlaced, PlaceFits, IsOnce}
+use Rattle.fs_tables.proofs.Places.{Found, change_set}
 
 -- what is at a place of a list that was written
 pub at_set : {X : Type 0} (xs : List X) (k j : ℕ) (y x : X) → slice_get (slice_set xs k y) j ≡ Some x → ((j ≡ k) × (x ≡ y)) ⊎ ((j ≢ k) × (slice_get xs j ≡ Some x))

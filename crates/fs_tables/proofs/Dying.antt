@@ -1,9 +1,9 @@
 -- The last reference to a dead inode.
-use Rattle.std.proofs.Common.{◌≡◌, ◌≢◌, ◌⊎◌, ℕ, ◌==◌, ◌<◌, if◌then◌else◌, List, length, get_or, Bool, true, false, refl, sym, ◌∙◌, ap, subst, arith, Option, Some, None, inl, inr}
+use Rattle.std.proofs.Common.{◌≡◌, ℕ, ◌==◌, if◌then◌else◌, List, Bool, true, false, refl, sym, ◌∙◌, ap, arith, Option, Some, None}
 use Rattle.std.specs.Prelude.{slice_get, slice_set, IsSome, is_some}
 use Rattle.std.proofs.lemmas.Bool.Decides.{nat_tests}
 use Rattle.std.proofs.lemmas.List.{set-set}
-use Rattle.std.proofs.lemmas.Option.{slice_get-get_or, same_Some, none-some}
+use Rattle.std.proofs.lemmas.Option.{same_Some, none-some}
 use Rattle.fs_layout.specs.declared.inode.Dinode.{Dinode}
 use Rattle.sleep_lock.specs.SleepLock.{SlotState, GuardState, guard_of, taken, filled}
 use Rattle.sleep_lock.specs.Row.{lock_of, unlocked}

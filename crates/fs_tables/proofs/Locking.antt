@@ -1,13 +1,12 @@
 -- What the lock of an inode tried, or given back, makes of the tables.
 use Rattle.std.proofs.Common.{◌≡◌, ◌≢◌, ℕ, ◌<◌, List, length, length-set, get_or, refl, sym, ◌∙◌, ap, subst, arith, Option, Some, None}
-use Rattle.std.specs.Prelude.{IfSome, IfNone, IsSome, slice_get, slice_set}
-use Rattle.std.proofs.lemmas.Option.{slice_get_within, slice_get-get_or, same_Some, none-some}
-use Rattle.sleep_lock.specs.SleepLock.{SlotState, GuardState, guard_of, taken, filled, emptied}
+use Rattle.std.specs.Prelude.{IfSome, slice_get, slice_set}
+use Rattle.std.proofs.lemmas.Option.{slice_get_within, slice_get-get_or, none-some}
+use Rattle.sleep_lock.specs.SleepLock.{SlotState, GuardState, guard_of, taken, filled}
 use Rattle.sleep_lock.specs.Row.{lock_at as lock_row_at, lock_of, unlocked, IsOut, IsNumbered}
 use Rattle.sleep_lock.proofs.Lists.{set_same, slice_get-set_same}
 use Rattle.sleep_lock.proofs.Locks.{lock_laws}
 use Rattle.fs_tables.specs.Lists.{change_at}
-use Rattle.atomic_programs.specs.Prog.{Ran}
 use Rattle.fs_tables.specs.declared.inodes.Entry.{Entry}
 use Rattle.fs_tables.specs.declared.inodes.Inode.{Inode}
 use Rattle.fs_tables.specs.Tables.{TablesState, place_of}

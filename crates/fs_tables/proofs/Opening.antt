@@ -1,5 +1,5 @@
 -- What the steps on descriptors and open files answer, and what they leave.
-use Rattle.std.proofs.Common.{◌≡◌, ℕ, zero, suc, Bool, true, false, List, [], ◌∷◌, length, length-set, refl, ap, sym, ◌∙◌, Option, Some, None}
+use Rattle.std.proofs.Common.{◌≡◌, ℕ, zero, suc, true, false, List, [], ◌∷◌, length, length-set, refl, ap, sym, ◌∙◌, Option, Some, None}
 use Rattle.std.specs.Prelude.{slice_get, slice_set}
 use Rattle.std.specs.List.{position, list_any}
 use Rattle.atomic_programs.specs.Prog.{Ran}
@@ -13,8 +13,7 @@ use Rattle.fs_tables.specs.declared.slots.Shut.TheVariants as shut
 use Rattle.fs_tables.specs.Lists.{change_at, first_empty}
 use Rattle.fs_tables.specs.Tables.{TablesState, place_named, file_named, file_in, open_at}
 use Rattle.fs_tables.specs.Inodes.{with_offset, moved_at}
-use Rattle.fs_tables.specs.Locks.{LeavesLocked}
-use Rattle.fs_tables.specs.Files.{is_free, hand_of, descriptors_of, with_hand, with_descriptor, with_place, opened, names, take_place, take_at, open_file, open_in, open_by, double_descriptor, double_at, double_to, shut_descriptor, shut_at, freed_at, freed_if, is_named}
+use Rattle.fs_tables.specs.Files.{is_free, hand_of, descriptors_of, with_hand, with_descriptor, opened, names, take_place, take_at, open_file, open_in, open_by, double_descriptor, double_at, double_to, shut_descriptor, shut_at, freed_at, freed_if}
 use Rattle.fs_tables.proofs.Places.{length-change_at}
 
 -- lengths stay

@@ -1,7 +1,7 @@
 -- What a step makes of descriptors and open files.
-use Rattle.std.specs.Prelude.{ℕ, ◌+◌, ◌-◌, ◌==◌, if◌then◌else◌, List, [], Bool, true, false, Option, Some, None, position, is_some, slice_get, slice_set}
+use Rattle.std.specs.Prelude.{ℕ, ◌+◌, ◌==◌, List, [], Bool, true, false, Option, Some, None, position, is_some, slice_get, slice_set}
 use Rattle.std.specs.List.{list_any}
-use Rattle.atomic_programs.specs.Prog.{Did, Waits, Ran}
+use Rattle.atomic_programs.specs.Prog.{Did, Ran}
 use Rattle.fs_tables.specs.declared.files.OpenFile.{OpenFile}
 use Rattle.fs_tables.specs.declared.files.NewFile.{NewFile}
 use Rattle.fs_tables.specs.declared.files.FilePlace.{FilePlace}
@@ -12,7 +12,7 @@ use Rattle.fs_tables.specs.declared.slots.Shut.{Shut}
 use Rattle.fs_tables.specs.declared.slots.Shut.TheVariants as shut
 use Rattle.fs_tables.specs.declared.slots.Given.{Given}
 use Rattle.fs_tables.specs.declared.slots.Given.TheVariants as given
-use Rattle.fs_tables.specs.Lists.{change_at, first_empty, next_full}
+use Rattle.fs_tables.specs.Lists.{first_empty, next_full}
 use Rattle.fs_tables.specs.declared.desk.Desk.{Desk}
 use Rattle.fs_tables.specs.Tables.{TablesState, place_of, place_named, open_at, with_desk}
 use Rattle.fs_tables.specs.Inodes.{directory_of, counted_at}

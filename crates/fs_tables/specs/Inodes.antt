@@ -1,5 +1,5 @@
 -- What a step makes of the inodes in memory.
-use Rattle.std.specs.Prelude.{ℕ, ◌+◌, ◌-◌, ◌==◌, if◌then◌else◌, nat_lt, ℤ, pos, negsuc, List, [], ◌∷◌, ◌++◌, Bool, true, false, Option, Some, None, is_none, find, position, slice_get, slice_set}
+use Rattle.std.specs.Prelude.{ℕ, ◌==◌, if◌then◌else◌, nat_lt, ℤ, pos, negsuc, List, Bool, true, false, Option, Some, None, is_none, find, position, slice_get, slice_set}
 use Rattle.fs_layout.specs.declared.inode.Dinode.{Dinode}
 use Rattle.sleep_lock.specs.SleepLock.{SlotState, GuardState, filled, taken}
 use Rattle.sleep_lock.specs.Row.{lock_of}
@@ -15,7 +15,7 @@ use Rattle.fs_tables.specs.declared.files.FilePlace.{FilePlace}
 use Rattle.fs_tables.specs.declared.files.FilePlace.TheVariants.{Open}
 use Rattle.fs_tables.specs.Lists.{change_at}
 use Rattle.fs_tables.specs.declared.desk.Desk.{Desk}
-use Rattle.fs_tables.specs.Tables.{TablesState, is_for, is_unused, place_of, one_more, one_less, file_named, place_named, with_desk}
+use Rattle.fs_tables.specs.Tables.{TablesState, is_unused, place_of, one_more, one_less, file_named, place_named, with_desk}
 
 -- ---- locks
 

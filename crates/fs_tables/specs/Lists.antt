@@ -1,5 +1,5 @@
 -- Lists of places.
-use Rattle.std.specs.Prelude.{ℕ, zero, suc, ◌+◌, ◌==◌, List, [], ◌∷◌, drop, Bool, Option, Some, None, position, is_some, is_none}
+use Rattle.std.specs.Prelude.{ℕ, zero, suc, ◌+◌, List, [], ◌∷◌, drop, Option, position, is_some, is_none}
 use Rattle.std.specs.Option.{option_map}
 
 -- the list with what stands at a place changed

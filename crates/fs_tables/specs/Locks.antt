@@ -1,5 +1,5 @@
 -- How a guard of an inode goes with the tables.
-use Rattle.std.specs.Prelude.{◌≡◌, ◌<◌, ℕ, Some, slice_get}
+use Rattle.std.specs.Prelude.{◌≡◌, ◌<◌, Some, slice_get}
 use Rattle.sleep_lock.specs.SleepLock.{GuardState}
 use Rattle.sleep_lock.specs.Row.{IsOut}
 use Rattle.fs_tables.specs.declared.inodes.Inode.{Inode}

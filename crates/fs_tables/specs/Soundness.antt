@@ -1,10 +1,10 @@
 -- What always holds of the tables.
-use Rattle.std.specs.Prelude.{◌≡◌, ℕ, ◌<◌, ◌≤◌, List, length, Option, Some, None, IsSome, slice_get, count_by}
+use Rattle.std.specs.Prelude.{◌≡◌, ℕ, ◌<◌, List, length, Option, Some, None, IsSome, slice_get}
 use Rattle.sleep_lock.specs.SleepLock.{SlotState}
-use Rattle.fs_tables.specs.declared.limits.TheConstants.{MEMORY_INODES, OPEN_FILES, DESKS}
+use Rattle.fs_tables.specs.Limits.{inode_places, file_places, desk_count}
 use Rattle.fs_tables.specs.declared.inodes.Inode.{Inode}
 use Rattle.fs_tables.specs.declared.inodes.Entry.{Entry}
-use Rattle.fs_tables.specs.Tables.{TablesState, is_for}
+use Rattle.fs_tables.specs.Tables.{TablesState}
 
 -- by what is in a slot: it is out in a hart's hand, and the place referred to; or in, and what is in it the place's inode
 abbrev pub InsideFits : Entry → Option ℕ → Option Inode → Type 0
@@ -23,12 +23,12 @@ unfoldable pub IsOnce : List Entry → Type 0
 IsOnce entries = (j k : ℕ) (e f : Entry) → slice_get entries j ≡ Some e → slice_get entries k ≡ Some f → 0 < e.references → 0 < f.references → e.number ≡ f.number → j ≡ k
 
 pub record IsSoundInodes (entries : List Entry) (locks : List (SlotState Inode)) : Type 0 where
-  pub places : length entries ≡ MEMORY_INODES
-  pub same : length locks ≡ MEMORY_INODES
+  pub places : length entries ≡ inode_places
+  pub same : length locks ≡ inode_places
   pub placed : AllPlaced entries locks
   pub once : IsOnce entries
 
 pub record IsSoundTables (t : TablesState) : Type 0 where
   pub inodes : IsSoundInodes t.entries t.locks
-  pub files : length t.files ≡ OPEN_FILES
-  pub desks : length t.desks ≡ DESKS
+  pub files : length t.files ≡ file_places
+  pub desks : length t.desks ≡ desk_count

@@ -1,8 +1,8 @@
-use Rattle.std.proofs.Common.{◌∙◌, sym, ap, subst, Some, None, Option, List}
+use Rattle.std.proofs.Common.{◌∙◌, sym, ap, None, Option}
 use Rattle.fs_tables.proofs.Locking.{numbered}
 use Rattle.fs_tables.proofs.Beginning.{free_from, free_in, out_replaced, begun_locks}
 use Rattle.fs_tables.specs.declared.inodes.Inode.{Inode}
-use Rattle.sleep_lock.specs.SleepLock.{SlotState, GuardState}
+use Rattle.sleep_lock.specs.SleepLock.{GuardState}
 use Rattle.fs_tables.proofs.tables.begin.Goals as goal
 
 pub unreachable-requires : goal.unreachable-requires

@@ -1,4 +1,4 @@
-use Rattle.std.proofs.Common.{◌≡◌, ◌∙◌, ap, sym, subst, get_or, Option, Some, None, true}
+use Rattle.std.proofs.Common.{◌≡◌, ◌∙◌, ap, sym, get_or, Option, true}
 use Rattle.std.specs.Prelude.{is_some, IsSome}
 use Rattle.std.proofs.lemmas.Option.{slice_get-get_or}
 use Rattle.fs_layout.specs.declared.inode.Dinode.{Dinode}

@@ -1,7 +1,7 @@
-use Rattle.std.proofs.Common.{◌≡◌, ◌∙◌, ◌<◌, length, get_or, sym, ap, subst, List, Option, Some, None, true, false}
-use Rattle.std.specs.Prelude.{slice_get, IsSome, IsTrue}
+use Rattle.std.proofs.Common.{◌∙◌, get_or, sym, ap, subst, Option}
+use Rattle.std.specs.Prelude.{IsSome}
 use Rattle.std.proofs.lemmas.Option.{slice_get-get_or}
-use Rattle.sleep_lock.specs.SleepLock.{SlotState, GuardState}
+use Rattle.sleep_lock.specs.SleepLock.{GuardState}
 use Rattle.fs_tables.specs.declared.inodes.Entry.{Entry}
 use Rattle.fs_tables.specs.declared.inodes.Inode.{Inode}
 use Rattle.fs_tables.specs.Inodes.{dead_of}

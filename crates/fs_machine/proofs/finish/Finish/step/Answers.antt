@@ -1,5 +1,5 @@
 use Rattle.std.proofs.Common.{◌<◌, subst}
-use Rattle.fs_machine.specs.LogPart.{Outside, Passes, Fails}
+use Rattle.fs_machine.specs.LogPart.{Passes, Fails}
 use Rattle.fs_machine.specs.Steps.{state_of}
 use Rattle.fs_machine.specs.Fetching.{finish_of, FinishFits}
 use Rattle.fs_machine.proofs.Commits.{commits-waits, commits-wrote, commits-ended, commits-failed}

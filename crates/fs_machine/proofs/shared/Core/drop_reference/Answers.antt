@@ -1,4 +1,4 @@
-use Rattle.std.proofs.Common.{◌<◌, ap, ◌∙◌, arith}
+use Rattle.std.proofs.Common.{ap, ◌∙◌, arith}
 use Rattle.atomic_programs.specs.Prog.{did_in}
 use Rattle.fs_tables.specs.Tables.{TablesState}
 use Rattle.fs_machine.specs.LogPart.{part_of}

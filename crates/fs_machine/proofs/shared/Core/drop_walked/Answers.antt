@@ -3,7 +3,6 @@ use Rattle.atomic_programs.specs.Prog.{did_in}
 use Rattle.fs_tables.specs.Tables.{TablesState}
 use Rattle.fs_machine.specs.LogPart.{part_of}
 use Rattle.fs_machine.specs.Steps.{State, exec}
-use Rattle.fs_machine.specs.Premises.{May}
 use Rattle.fs_machine.proofs.shared.Core.drop_walked.Goals as goal
 
 pub returns-clause-ran : goal.returns-clause-ran

@@ -1,5 +1,4 @@
 use Rattle.std.proofs.Common.{ap, ◌∙◌}
-use Rattle.buffer_cache.specs.declared.got.Got.{Got}
 use Rattle.atomic_programs.specs.Prog.{did_in}
 use Rattle.fs_machine.specs.LogPart.{LogPart, part_of}
 use Rattle.fs_machine.specs.Steps.{State, exec}

@@ -1,8 +1,6 @@
-use Rattle.std.proofs.Common.{◌≡◌, ap, ◌∙◌, subst, Option, Some, None}
-use Rattle.std.specs.Prelude.{IfNone, IfSome}
-use Rattle.sleep_lock.specs.SleepLock.{GuardState}
+use Rattle.std.proofs.Common.{◌≡◌, ap, ◌∙◌, subst}
+use Rattle.std.specs.Prelude.{IfSome}
 use Rattle.atomic_programs.specs.Prog.{did_in}
-use Rattle.fs_tables.specs.declared.inodes.Inode.{Inode}
 use Rattle.fs_tables.specs.Tables.{TablesState}
 use Rattle.fs_tables.specs.Inodes.{lock_inode}
 use Rattle.fs_tables.specs.Results.{locked_as}

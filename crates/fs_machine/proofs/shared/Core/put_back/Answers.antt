@@ -1,7 +1,7 @@
 use Rattle.std.proofs.Common.{ap}
 use Rattle.atomic_programs.specs.Prog.{Ran}
 use Rattle.fs_machine.specs.LogPart.{LogPart}
-use Rattle.fs_machine.specs.Steps.{State, exec}
+use Rattle.fs_machine.specs.Steps.{exec}
 use Rattle.fs_machine.proofs.Ran.{put_back_ran}
 use Rattle.fs_machine.proofs.shared.Core.put_back.Goals as goal
 

@@ -1,14 +1,13 @@
-use Rattle.std.proofs.Common.{◌≡◌, ◌≢◌, ◌∙◌, ap, sym, subst, refl, List, Some, None}
-use Rattle.std.specs.Prelude.{slice_get}
-use Rattle.sleep_lock.specs.SleepLock.{SlotState, GuardState}
+use Rattle.std.proofs.Common.{◌≡◌, ◌∙◌, ap, sym, subst, refl, List, Some, None}
+use Rattle.sleep_lock.specs.SleepLock.{SlotState}
 use Rattle.atomic_programs.specs.Prog.{Ran}
 use Rattle.fs_tables.specs.declared.inodes.Entry.{Entry}
 use Rattle.fs_tables.specs.declared.inodes.Inode.{Inode}
-use Rattle.fs_tables.specs.Tables.{TablesState, place_of, references_of, holder_of, one_less}
+use Rattle.fs_tables.specs.Tables.{TablesState, place_of, references_of, holder_of}
 use Rattle.fs_tables.specs.Inodes.{drop_inode, uncounted_at, Counts, Dies}
 use Rattle.fs_tables.specs.Locks.{IsLocked, LeavesLocked}
 use Rattle.fs_tables.specs.Soundness.{IsSoundInodes}
-use Rattle.fs_tables.proofs.Places.{Found, found}
+use Rattle.fs_tables.proofs.Places.{found}
 use Rattle.fs_tables.proofs.Locking.{lock_good, lock_own, lock_others, lock_had}
 use Rattle.fs_tables.proofs.Counting.{uncounted_good, uncounted_locked, last_free}
 use Rattle.fs_tables.proofs.Dying.{drop_counted, drop_dies}

@@ -1,9 +1,8 @@
 use Rattle.std.proofs.Common.{◌≡◌, ◌∙◌, ap, refl, sym, subst, List, Option, Some, None}
-use Rattle.std.specs.Prelude.{IfNone, IfSome}
+use Rattle.std.specs.Prelude.{IfNone}
 use Rattle.sleep_lock.specs.SleepLock.{SlotState, GuardState}
 use Rattle.fs_tables.specs.declared.inodes.Inode.{Inode}
 use Rattle.fs_tables.specs.Tables.{TablesState, place_of}
-use Rattle.fs_tables.specs.Locks.{IsLocked}
 use Rattle.fs_tables.specs.Inodes.{lock_inode}
 use Rattle.fs_tables.specs.Results.{locked_as}
 use Rattle.fs_tables.proofs.Places.{found}

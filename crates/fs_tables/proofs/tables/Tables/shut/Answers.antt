@@ -1,4 +1,4 @@
-use Rattle.std.proofs.Common.{◌≡◌, ◌∙◌, ap, sym, subst, Some, None, true, false}
+use Rattle.std.proofs.Common.{◌≡◌, ◌∙◌, ap, sym, subst, None}
 use Rattle.atomic_programs.specs.Prog.{Ran}
 use Rattle.fs_tables.specs.declared.files.FilePlace.TheVariants.{Free}
 use Rattle.fs_tables.specs.declared.slots.Shut.TheVariants as shut

@@ -1,4 +1,4 @@
-use Rattle.std.proofs.Common.{◌≡◌, ◌∙◌, sym, subst, Some, None, true, false}
+use Rattle.std.proofs.Common.{◌≡◌, ◌∙◌, sym, subst, Some, true, false}
 use Rattle.atomic_programs.specs.Prog.{Ran}
 use Rattle.fs_tables.specs.declared.files.FilePlace.TheVariants.{Taken}
 use Rattle.fs_tables.specs.Tables.{TablesState}

@@ -1,4 +1,4 @@
-use Rattle.std.proofs.Common.{◌≡◌, ◌∙◌, ap, sym, subst, None}
+use Rattle.std.proofs.Common.{◌≡◌, sym, subst, None}
 use Rattle.fs_tables.specs.Tables.{TablesState}
 use Rattle.fs_tables.specs.Locks.{IsLocked}
 use Rattle.fs_tables.specs.Inodes.{unlock_inode}

@@ -4,8 +4,8 @@ use Rattle.sleep_lock.specs.SleepLock.{SlotState}
 use Rattle.atomic_programs.specs.Prog.{Ran}
 use Rattle.fs_tables.specs.declared.inodes.Entry.{Entry}
 use Rattle.fs_tables.specs.declared.inodes.Inode.{Inode}
-use Rattle.fs_tables.specs.Tables.{TablesState, place_of, one_more}
-use Rattle.fs_tables.specs.Inodes.{up_inode, counted_at, begun_at}
+use Rattle.fs_tables.specs.Tables.{TablesState}
+use Rattle.fs_tables.specs.Inodes.{up_inode, begun_at}
 use Rattle.fs_tables.specs.Locks.{LeavesLocked}
 use Rattle.fs_tables.specs.Soundness.{IsSoundInodes}
 use Rattle.fs_tables.proofs.Places.{found}

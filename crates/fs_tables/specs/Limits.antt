@@ -1,0 +1,12 @@
+-- The numbers of the tables, said here once more: a wrong one in the code is refused.
+use Rattle.std.specs.Prelude.{ℕ}
+
+-- places for inodes in memory, for open files, and desks
+abbrev pub inode_places : ℕ
+inode_places = 50
+
+abbrev pub file_places : ℕ
+file_places = 100
+
+abbrev pub desk_count : ℕ
+desk_count = 8
