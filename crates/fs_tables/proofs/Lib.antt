@@ -4,3 +4,4 @@ pub mod Counting
 pub mod Beginning
 pub mod Dying
 pub mod Opening
+pub mod Making

@@ -6,3 +6,4 @@ pub mod Locks
 pub mod Inodes
 pub mod Files
 pub mod Results
+pub mod Fresh

@@ -10,3 +10,10 @@ file_places = 100
 
 abbrev pub desk_count : ℕ
 desk_count = 8
+
+abbrev pub descriptor_count : ℕ
+descriptor_count = 16
+
+-- the root's inode
+abbrev pub root : ℕ
+root = 1

@@ -5,7 +5,7 @@ ghost use Rattle.fs_tables.specs.Lists.{change_at};
 ghost use Rattle.fs_tables.specs.Inodes.{dead_of};
 
 use fs_layout::Dinode;
-use sleep_lock::Guard;
+use sleep_lock::{Guard, RetiredSlots};
 use std::marker::Model;
 
 /// An inode in memory, as the holder of its lock has it: its number, and what stands on the disk once it was loaded.
@@ -61,6 +61,11 @@ impl Reference {
         ensures { result ≡ self.now }
     {
         self.number
+    }
+
+    /// Ends a reference once its table has ended.
+    pub fn retire(self, _tables: &RetiredSlots) {
+        let Reference { number: _ } = self;
     }
 
     pub(crate) fn end(self) -> u32

@@ -1,5 +1,5 @@
 // The tables, and the steps on inodes in memory.
-ghost use Rattle.std.specs.Prelude.{◌≡◌, ◌≢◌, ◌+◌, ◌<◌, ◌^◌, ℕ, Some, None, IsSome, IfSome, IfNone, is_some, length, slice_get, slice_set};
+ghost use Rattle.std.specs.Prelude.{◌≡◌, ◌≢◌, ◌+◌, ◌<◌, ◌^◌, ℕ, Some, None, IsSome, IfSome, IfNone, IfOk, is_some, length, slice_get, slice_set};
 ghost use Rattle.sleep_lock.specs.SleepLock.{GuardState, filled};
 ghost use Rattle.sleep_lock.specs.Row.{lock_of};
 ghost use Rattle.atomic_programs.specs.Prog.{Ran};
@@ -9,8 +9,9 @@ ghost use Rattle.fs_tables.specs.Soundness.{IsSoundInodes};
 use crate::desk::Desk;
 use crate::files::FilePlace;
 use crate::inodes::{Dropped, Entry, Inode, Reference, count_down, count_up, free_place, place_of};
-use crate::limits::{DESKS, MEMORY_INODES, OPEN_FILES};
-use sleep_lock::{Guard, Slots};
+use crate::limits::{DESKS, MEMORY_INODES, OPEN_FILES, ROOT};
+use sleep_lock::{Guard, RetiredSlots, Slots};
+use std::alloc::{AllocError, Global};
 use std::marker::Model;
 
 /// The tables. A contract sees the places of inodes in memory with their locks, the open files, and each hart's desk.
@@ -35,9 +36,45 @@ impl Model for Tables {
 
 impl Tables {
     ghost use Rattle.fs_tables.specs.Tables.{references_of, holder_of};
+    ghost use Rattle.fs_tables.specs.Fresh.{fresh};
     ghost use Rattle.fs_tables.specs.Locks.{IsLocked, LeavesLocked};
     ghost use Rattle.fs_tables.specs.Inodes.{lock_inode, unlock_inode, up_inode, drop_inode, drop_walked};
     ghost use Rattle.fs_tables.specs.Results.{locked_as, dropped_as, kept_as, IfDying};
+
+    /// Only the root is referred to, which is every hart's directory, and nothing is open. An error is want of memory.
+    pub fn new(alloc: Global) -> Result<Tables, AllocError>
+        ensures { IfOk result (λ tables. tables ≡ fresh) }
+    {
+        let root = Inode {
+            number: ROOT,
+            content: None,
+        };
+        let locks = Slots::new(alloc, Vec::from_slice(alloc, &[root; MEMORY_INODES])?)?;
+        let mut entries = [Entry {
+            number: ROOT,
+            references: 0,
+        }; MEMORY_INODES];
+        entries[0].references = DESKS as u32;
+        Ok(Tables {
+            entries,
+            locks,
+            files: [FilePlace::Free; OPEN_FILES],
+            desks: [Desk::new(); DESKS],
+        })
+    }
+
+    /// Ends the tables. The guards and references that are out may then be ended.
+    pub fn retire(self) -> RetiredSlots
+        ensures { (guard : GuardState Inode) → IsLocked guard self → guard.number < result }
+    {
+        let Tables {
+            entries: _,
+            locks,
+            files: _,
+            desks: _,
+        } = self;
+        locks.retire()
+    }
 
     /// Takes the lock of an inode. None where it waits.
     pub fn lock(&mut self, hart: u8, number: u32) -> Option<Guard<Inode>>
