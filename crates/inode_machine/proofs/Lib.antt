@@ -10,6 +10,8 @@ pub mod Dups
 pub mod Closes
 pub mod Stats
 pub mod Readings
+pub mod Pieces
+pub mod Writings
 pub mod Drops
 pub mod Rest
 pub mod Opened

@@ -98,10 +98,10 @@ moved_keys : (files : ℕ → Option OpenFile) (id : ℕ) (f g : OpenFile) (o : 
 moved_keys files id f g None e q = refl
 moved_keys files id f g (Some j) e q = put_elim files id (Some g) j (λ z. key_of z ≡ key_of (files j)) (λ r. ap (λ (z : Key). Some z) q ∙ sym (ap (λ (z : Option OpenFile). key_of z) (ap files r ∙ e))) (λ ne. refl)
 
-moved_row : (t : Tree) (h id : ℕ) (f g : OpenFile) → t.files id ≡ Some f → key_is g ≡ key_is f → row_of (with_open t t.fds (put t.files id (Some g))) h ≡ row_of t h
+pub moved_row : (t : Tree) (h id : ℕ) (f g : OpenFile) → t.files id ≡ Some f → key_is g ≡ key_is f → row_of (with_open t t.fds (put t.files id (Some g))) h ≡ row_of t h
 moved_row t h id f g e q = λ r. record { cwd = t.cwd h; hold = t.holds h; fds = t.fds h; keys = λ i. if nat_lt h hart_count && nat_lt i descriptor_count then moved_keys t.files id f g (t.fds h i) e q r else None }
 
-moved_names : (t : Tree) (id : ℕ) (f g : OpenFile) → t.files id ≡ Some f → g.number ≡ f.number → NamesLess t t.fds (put t.files id (Some g))
+pub moved_names : (t : Tree) (id : ℕ) (f g : OpenFile) → t.files id ≡ Some f → g.number ≡ f.number → NamesLess t t.fds (put t.files id (Some g))
 moved_names t id f g e q n k i lk li out = at (t.fds k i) refl
   where
     at : (o : Option ℕ) → t.fds k i ≡ o → fd_names (with_open t t.fds (put t.files id (Some g))) (t.fds k i) n ≡ false
