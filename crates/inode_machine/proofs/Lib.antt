@@ -12,6 +12,7 @@ pub mod Stats
 pub mod Readings
 pub mod Pieces
 pub mod Writings
+pub mod WriteCalls
 pub mod Drops
 pub mod Rest
 pub mod Opened
