@@ -33,6 +33,7 @@ use Rattle.inode_machine.proofs.Dups.{fails, dupped, s-double, s-join, s-leave, 
 use Rattle.inode_machine.proofs.Closes.{shut_step, s-shut}
 use Rattle.inode_machine.proofs.Stats.{stat_step, stat_face, s-stat-file}
 use Rattle.inode_machine.proofs.Readings.{read_step, s-read-file}
+use Rattle.inode_machine.proofs.WriteCalls.{write_begins, write_ok}
 use Rattle.inode_machine.proofs.Drops.{s-drop}
 
 -- The machine's laws.
@@ -246,7 +247,7 @@ lawful = record {
     call_ok h (calls.Fstat fd) busy w u lt here out idle free is = right h (calls.Fstat fd) busy w u idle free is (fails (steps.Fstat fd) BadDescriptor ∷ [], parts.failed (calls.Fstat fd) BadDescriptor, stat_failed fd) (λ i. stat_ok h fd u out lt i)
     call_ok h (calls.Read fd buffer) busy w u lt here out idle free is = right h (calls.Read fd buffer) busy w u idle free is (fails (steps.Read fd (length buffer)) BadDescriptor ∷ [], parts.failed (calls.Read fd buffer) BadDescriptor, read_failed fd buffer BadDescriptor) (λ i. read_ok h fd buffer u out lt i)
     call_ok h (calls.Open path flags) busy w u lt here out idle free is = absurd cc
-    call_ok h (calls.Write fd bytes) busy w u lt here out idle free is = absurd cc
+    call_ok h (calls.Write fd bytes) busy w u lt here out idle free is = right h (calls.Write fd bytes) busy w u idle free is (write_begins fd bytes) (λ i. write_ok h fd bytes u out lt i)
     call_ok h (calls.Link old new) busy w u lt here out idle free is = absurd cc
     call_ok h (calls.Unlink path) busy w u lt here out idle free is = absurd cc
     call_ok h (calls.Mkdir path) busy w u lt here out idle free is = absurd cc

@@ -23,9 +23,8 @@ use Rattle.inode_machine.specs.Exec.{mode_refusal, with_bytes, write_refused}
 use Rattle.inode_machine.specs.World.{Entry, World}
 use Rattle.inode_machine.proofs.Frame.{put_elim}
 use Rattle.inode_machine.proofs.Rows.{below_is}
-use Rattle.inode_machine.proofs.Settling.{settle_nodes, settle_or}
-use Rattle.inode_machine.proofs.Shops.{with_open, NamesLess, named_less}
-use Rattle.inode_machine.proofs.Dups.{file_settled, Refused}
+use Rattle.plain_tree.proofs.Settling.{with_open, NamesLess, named_less, settle_nodes, settle_or, file_settled}
+use Rattle.inode_machine.proofs.Dups.{Refused}
 use Rattle.inode_machine.proofs.Readings.{offset_on}
 
 -- Refusals.

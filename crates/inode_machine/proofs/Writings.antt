@@ -22,16 +22,19 @@ use Rattle.inode_machine.specs.World.Op.{CheckFile, JoinFile, WriteFile}
 use Rattle.inode_machine.specs.Inodes.{Sort, sort_of}
 use Rattle.inode_machine.specs.Marks.{Made, places, with_mark, made_by, new_id, with_made, spoiled}
 use Rattle.inode_machine.specs.Exec.{with_walk, slot_at, entry_at, entry_moved, entry_of, lock_if, locked, join_at, with_joined, with_bytes, mode_refusal, write_in, write_at, write_if, write_refused}
-use Rattle.inode_machine.specs.Rules.{Own, Key, own_names, Held, Row, view, is_hart, key_at, row_of, own_of, shop_of, Inv, machine, IsOut, HonestPiece}
+use Rattle.plain_tree.specs.HartRow.{Key, Row, row_of, key_is}
+use Rattle.plain_tree.proofs.RowLemmas.{key_from}
+use Rattle.plain_tree.proofs.Settling.{with_open, file_settled, settle_again}
+use Rattle.inode_machine.specs.Rules.{Own, own_names, Held, view, is_hart, own_of, shop_of, Inv, machine, IsOut, HonestPiece}
 use Rattle.inode_machine.specs.Parts.{own_step}
 use Rattle.inode_machine.specs.Descriptors.{refused_to, writes}
 use Rattle.inode_machine.proofs.Frame.{put_elim, is_put, shop_same, ours_some, kept_here, Did, Fair, fair, fair_then, own_inodes, has_inode}
 use Rattle.inode_machine.proofs.Rules.{s-owned, quiet, fine_after, others, has_disk, has_node, Locking, locking, locked_held, is_out, locks_none, UnlocksAll}
 use Rattle.inode_machine.proofs.Rows.{below_is}
 use Rattle.inode_machine.proofs.Walking.{refs_walk, stage_walk, moves_good, own_walk, walk_did}
-use Rattle.inode_machine.proofs.Shops.{Sells, sells_did, own_takes, with_open}
-use Rattle.inode_machine.proofs.Dups.{Behind, behind, behind_none, file_settled, Flagging, flagging, filling, with_new, renewed_slots, renewed_at, renewed_sorts, key_is, key_from, fails, refused_good, Refused as RefusedStep}
-use Rattle.inode_machine.proofs.Stats.{behind_opens, node_settled, node_there, settle_again}
+use Rattle.inode_machine.proofs.Shops.{Sells, sells_did, own_takes}
+use Rattle.inode_machine.proofs.Dups.{Behind, behind, behind_none, Flagging, flagging, filling, with_new, renewed_slots, renewed_at, renewed_sorts, fails, refused_good, Refused as RefusedStep}
+use Rattle.inode_machine.proofs.Stats.{behind_opens, node_settled, node_there}
 use Rattle.inode_machine.proofs.Readings.{offset_on, moved_row, moved_names}
 use Rattle.inode_machine.proofs.Pieces.{write_by_kind, write_place, write_refused_at, write_refused_none, write_stops, empty_piece_goes, fewer_go, with_written, wrote_is, write_effect, write_answer, settle_wrote, well_wrote, written_type}
 

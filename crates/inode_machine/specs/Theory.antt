@@ -1,4 +1,4 @@
--- The calls on descriptors that change no content, as a theory: what every list of events makes of them.
+-- The calls on descriptors, as a theory: what every list of events makes of them.
 use Rattle.std.specs.Prelude.{◌≡◌, ◌≢◌, ◌⊎◌, ◌+◌, Option, Some, ℕ, Bool, true, false, ◌&&◌, nat_lt, ◌==◌, List, None}
 use Rattle.plain_tree.specs.declared.answer.Reply.{Reply}
 use Rattle.plain_tree.specs.declared.call.Call.{Call}
@@ -25,7 +25,7 @@ pub data Refusal : Type 0 where
 abbrev pub on_descriptors : Call → Bool
 on_descriptors (Open path flags) = false
 on_descriptors (Read fd buffer) = true
-on_descriptors (Write fd bytes) = false
+on_descriptors (Write fd bytes) = true
 on_descriptors (Link old new) = false
 on_descriptors (Unlink path) = false
 on_descriptors (Mkdir path) = false

@@ -4,11 +4,11 @@
 
 ghost use Rattle.inode_machine.specs.Theory.{DescriptorCallsAreExplained, WorldsRest, WorldsWithAFileRest};
 
-/// For every list of events of any harts, the replies of dup, close, fstat and read are those of one list of tree steps,
-/// each placed between its call's start and return, as long as no step found no room. At every moment each hart's next
-/// operation may be made, an operation waits only for a lock that another hart has, no call takes more steps than its
-/// bound, and a hart without a call has no lock, no transaction, and the references of its descriptors and current
-/// directory alone.
+/// For every list of events of any harts, the replies of dup, close, fstat, read and write, of any number of pieces, are
+/// those of one list of tree steps, each placed between its call's start and return, as long as no step found no room. At
+/// every moment each hart's next operation may be made, an operation waits only for a lock that another hart has, no call
+/// takes more steps than its bound, and a hart without a call has no lock, no transaction, and the references of its
+/// descriptors and current directory alone.
 pub fn descriptor_calls_are_explained()
     ensures { DescriptorCallsAreExplained }
 {}
