@@ -6,7 +6,6 @@ use Rattle.atomic_programs.specs.Calls.{Begun, Ends, IsBeginning}
 use Rattle.atomic_programs.proofs.Beginnings.{append_nil, onto_is}
 use Rattle.plain_tree.specs.declared.answer.Cause.{Cause}
 use Rattle.plain_tree.specs.declared.answer.Cause.TheVariants.{BadDescriptor}
-use Rattle.plain_tree.specs.declared.answer.Full.TheVariants.{Blocks}
 use Rattle.plain_tree.specs.declared.answer.Reply.{Reply}
 use Rattle.plain_tree.specs.declared.call.Call.TheVariants as calls
 use Rattle.plain_tree.specs.declared.step.Action.TheVariants.{WritePart}
@@ -23,10 +22,10 @@ use Rattle.tree_laws.proofs.Maps.{either, eq_isnt, same_or, put_same, put_other}
 use Rattle.inode_machine.specs.World.Op.{Give, Leave}
 use Rattle.inode_machine.proofs.Frame.{is_put}
 use Rattle.tree_moves.specs.Moves.{Step, Played, Written}
-use Rattle.inode_machine.specs.World.{World, Wrote, Whole, Refused as Stopped, Short}
+use Rattle.inode_machine.specs.World.{World}
 use Rattle.inode_machine.specs.Rules.{Held, Own, Rests, own_of, nothing, Idle, machine}
-use Rattle.inode_machine.specs.Parts.{failed, full}
-use Rattle.inode_machine.specs.Descriptors.{write_reply, write_piece, write_from, write_program, checked_reply}
+use Rattle.inode_machine.specs.Parts.{failed}
+use Rattle.inode_machine.specs.Descriptors.{write_reply, write_piece, write_from, write_program}
 use Rattle.inode_machine.specs.Programs.{piece_cost}
 use Rattle.inode_machine.specs.Theory.{descriptor_calls}
 use Rattle.inode_machine.proofs.Rules.{locked_held}

@@ -1,5 +1,5 @@
 -- Write: a descriptor is looked up, its inode locked, a piece written at the offset, and the offset moves.
-use Rattle.std.proofs.Common.{◌≡◌, ◌≢◌, inl, inr, ℕ, ◌+◌, ◌-◌, ◌<◌, Bool, true, false, ◌==◌, ◌&&◌, nat_lt, List, [], ◌∷◌, take, length, Option, Some, None, refl, sym, ◌∙◌, ap, subst, arith, if◌then◌else◌}
+use Rattle.std.proofs.Common.{◌≡◌, inl, inr, ℕ, ◌+◌, ◌-◌, ◌<◌, Bool, true, false, List, [], ◌∷◌, take, length, Option, Some, None, refl, sym, ◌∙◌, ap, subst, arith}
 use Rattle.atomic_programs.specs.Prog.{Do, Ran, Did as Came}
 use Rattle.atomic_programs.specs.Logic.{P, own, onto, Good, Fine, Safe, Wp}
 use Rattle.plain_tree.specs.declared.answer.Cause.{Cause}
@@ -10,33 +10,33 @@ use Rattle.plain_tree.specs.declared.step.Action.TheVariants.{WritePart}
 use Rattle.plain_tree.specs.declared.step.StepAnswer.TheVariants.{Done}
 use Rattle.plain_tree.specs.Widths.{hart_count, descriptor_count}
 use Rattle.plain_tree.specs.Tree.{Name, Tree, put, and_then, is_live, settle, resolve, parent}
-use Rattle.plain_tree.specs.Steps.{node_or, file_at, refusal_with, effect_with, answer_with, with_nodes, write_kind, wrote}
+use Rattle.plain_tree.specs.Steps.{node_or, refusal_with, with_nodes, write_kind}
 use Rattle.tree_laws.specs.WellFormed.{IsWellFormed}
-use Rattle.tree_laws.proofs.Maps.{either, same_or, put_same, put_other}
+use Rattle.tree_laws.proofs.Maps.{same_or, put_same, put_other}
 use Rattle.tree_laws.proofs.Sums.{sum_same}
 use Rattle.tree_laws.proofs.Opened.{well_moved}
 use Rattle.tree_moves.specs.Moves.{Stage, Step, Takes}
 use Rattle.tree_moves.specs.Moves.Move.{Own as OwnMove}
-use Rattle.inode_machine.specs.World.{Mine, Entry, Desk, World, Note, stage_of, Outside, Room, RoomFor, Picks, Joining, NotJoined, Joined, Wrote, Whole, Refused as Stopped, Short}
+use Rattle.inode_machine.specs.World.{Mine, Entry, Desk, World, stage_of, Outside, Room, RoomFor, Picks, Joining, NotJoined, Joined, Wrote, Whole, Refused as Stopped, Short}
 use Rattle.inode_machine.specs.World.Op.{CheckFile, JoinFile, WriteFile}
 use Rattle.inode_machine.specs.Inodes.{Sort, sort_of}
 use Rattle.inode_machine.specs.Marks.{Made, places, with_mark, made_by, new_id, with_made, spoiled}
-use Rattle.inode_machine.specs.Exec.{with_walk, slot_at, entry_at, entry_moved, entry_of, lock_if, locked, join_at, with_joined, with_bytes, mode_refusal, write_in, write_at, write_if, write_refused}
-use Rattle.plain_tree.specs.HartRow.{Key, Row, row_of, key_is}
+use Rattle.inode_machine.specs.Exec.{with_walk, slot_at, entry_at, entry_moved, entry_of, lock_if, locked, join_at, with_joined, with_bytes, mode_refusal, write_at, write_if, write_refused}
+use Rattle.plain_tree.specs.HartRow.{Key, Row, key_is}
 use Rattle.plain_tree.proofs.RowLemmas.{key_from}
 use Rattle.plain_tree.proofs.Settling.{with_open, file_settled, settle_again}
 use Rattle.inode_machine.specs.Rules.{Own, own_names, Held, view, is_hart, own_of, shop_of, Inv, machine, IsOut, HonestPiece}
 use Rattle.inode_machine.specs.Parts.{own_step}
 use Rattle.inode_machine.specs.Descriptors.{refused_to, writes}
 use Rattle.inode_machine.proofs.Frame.{put_elim, is_put, shop_same, ours_some, kept_here, Did, Fair, fair, fair_then, own_inodes, has_inode}
-use Rattle.inode_machine.proofs.Rules.{s-owned, quiet, fine_after, others, has_disk, has_node, Locking, locking, locked_held, is_out, locks_none, UnlocksAll}
+use Rattle.inode_machine.proofs.Rules.{s-owned, quiet, fine_after, others, Locking, locking, locked_held, is_out, locks_none, UnlocksAll}
 use Rattle.inode_machine.proofs.Rows.{below_is}
 use Rattle.inode_machine.proofs.Walking.{refs_walk, stage_walk, moves_good, own_walk, walk_did}
 use Rattle.inode_machine.proofs.Shops.{Sells, sells_did, own_takes}
-use Rattle.inode_machine.proofs.Dups.{Behind, behind, behind_none, Flagging, flagging, filling, with_new, renewed_slots, renewed_at, renewed_sorts, fails, refused_good, Refused as RefusedStep}
-use Rattle.inode_machine.proofs.Stats.{behind_opens, node_settled, node_there}
+use Rattle.inode_machine.proofs.Dups.{Behind, behind, behind_none, Flagging, flagging, filling, renewed_slots, renewed_at, renewed_sorts, fails, refused_good, Refused as RefusedStep}
+use Rattle.inode_machine.proofs.Stats.{node_settled, node_there}
 use Rattle.inode_machine.proofs.Readings.{offset_on, moved_row, moved_names}
-use Rattle.inode_machine.proofs.Pieces.{write_by_kind, write_place, write_refused_at, write_refused_none, write_stops, empty_piece_goes, fewer_go, with_written, wrote_is, write_effect, write_answer, settle_wrote, well_wrote, written_type}
+use Rattle.inode_machine.proofs.Pieces.{write_by_kind, write_place, write_refused_at, write_refused_none, write_stops, empty_piece_goes, fewer_go, wrote_is, write_effect, write_answer, settle_wrote, well_wrote, written_type}
 
 abbrev pub wrote_step : ℕ → List ℕ → Step
 wrote_step fd b = record { move = OwnMove (WritePart fd b) 0; told = Some (record { act = record { step = WritePart fd b; answer = Done }; new = 0 }) }
@@ -247,7 +247,7 @@ writing h fd i s e x b v O ov free lt inv walks none hit num out unlocked node w
         settle_wrote v.all h fd (v.ids s) i b e.file x hit.tree opened hit.file num settled (moved_names v.all (v.ids s) e.file (offset_on e.file (length b)) opened refl) ∙ ap (λ (z : Tree). settle z) (sym (write_effect (settle v.all) h fd 0 (new_id v) b (resolve (settle v.all) h []) (parent (settle v.all) h []))),
         write_place (settle v.all) h fd b lt,
       )
-      (ap (λ (z : Stage). z.walk) (stage_walk h None None v));
+          (ap (λ (z : Stage). z.walk) (stage_walk h None None v));
     }
   where
     y : Node
@@ -376,7 +376,7 @@ s-check-file {A} {h} fd {k} {B} {Q} {n} {es} {w} {O} owns free lt pos walks none
     by_cause v inv ov s e hit None goes =
         moves_good h 0 n B Q es v v (OwnMove (WritePart fd []) 0) (k None) (made_by v.all h (new_id v) (v.harts h).walk (OwnMove (WritePart fd []) 0)) (record { all = v.all; walk = None; found = None; opened = None; entered = None; left = None; told = (wrote_step fd []).told })
         (rw (empty_piece_goes v.all h fd e (resolve v.all h []) (parent v.all h []) hit.file (inv.sorts s e hit.at) goes)
-            (λ r. record { all = write_effect v.all h fd 0 (new_id v) [] (resolve v.all h []) (parent v.all h []) r; walk = None; found = None; opened = None; entered = None; left = None; told = Some (record { act = record { step = WritePart fd []; answer = write_answer v.all h fd (new_id v) [] (resolve v.all h []) (parent v.all h []) r }; new = 0 }) }))
+        (λ r. record { all = write_effect v.all h fd 0 (new_id v) [] (resolve v.all h []) (parent v.all h []) r; walk = None; found = None; opened = None; entered = None; left = None; told = Some (record { act = record { step = WritePart fd []; answer = write_answer v.all h fd (new_id v) [] (resolve v.all h []) (parent v.all h []) r }; new = 0 }) }))
         (fair inv (walk_did h None None v (ap (λ (o : Own). o.desk.lender) ov ∙ free) lt inv (ap (λ (o : Own). o.mine.pending) ov ∙ none) (λ m q p. absurd cc) (λ z p. absurd cc) (λ j p. absurd cc)))
         (own_takes h v (record v { harts = with_walk v.harts h None None }) (WritePart fd []) Done refl refl (ap (λ (o : Own). o.mine.walk) ov ∙ walks) (λ z. refl) (λ g z. absurd cc) (
           empty_piece_goes (settle v.all) h fd e (resolve (settle v.all) h []) (parent (settle v.all) h []) (file_settled v.all h fd ∙ hit.file) (ap (λ (z : Option Node). sort_of z) (node_settled h fd v e s inv lt hit) ∙ inv.sorts s e hit.at) goes,
