@@ -9,7 +9,7 @@ ghost use Rattle.fs_tables.specs.Soundness.{IsSoundInodes};
 use crate::desk::Desk;
 use crate::files::FilePlace;
 use crate::inodes::{Dropped, Entry, Inode, Reference, count_down, count_up, free_place, place_of};
-use crate::limits::{DESKS, MEMORY_INODES, OPEN_FILES, ROOT};
+use crate::limits::{DESKS, LAST_REFERENCE, MEMORY_INODES, OPEN_FILES, ROOT};
 use sleep_lock::{Guard, RetiredSlots, Slots};
 use std::alloc::{AllocError, Global};
 use std::marker::Model;
@@ -240,7 +240,7 @@ fn take_dying(
     ensures alive { IfNone result (dying (slice_get entries.now place) (slice_get locks.old place) ≡ None) }
     ensures same { IfNone result (locks.new ≡ locks.old) }
 {
-    if entries[place].references != 1 {
+    if entries[place].references != LAST_REFERENCE {
         return None;
     }
     match locks.lock(hart, place as u32) {

@@ -16,7 +16,7 @@ pub returns-in-None-clause-alive : goal.returns-in-None-clause-alive
 returns-in-None-clause-alive c =
     let d : Entry = record { number = 0; references = 0 } in
     let e = get_or c.args.entries.now c.args.place d in
-    out_alive c.args.hart c.args.place c.args.entries.now c.args.locks.now c.lock.new.self e c.requires.sound (slice_get-get_or c.args.entries.now c.args.place d c.requires.within) c.if-entries-place-ne1.false
+    out_alive c.args.hart c.args.place c.args.entries.now c.args.locks.now c.lock.new.self e c.requires.sound (slice_get-get_or c.args.entries.now c.args.place d c.requires.within) c.if-entries-place-ne-LAST_REFERENCE.false
     (ap (λ (r : Option (GuardState Inode)). (c.lock.new.self, r)) (sym c.in-None.is) ∙ c.lock.ensures.gives)
 
 pub returns-in-None-clause-same : goal.returns-in-None-clause-same
@@ -30,7 +30,7 @@ returns-then-is_dead-clause-dying c =
     let d : Entry = record { number = 0; references = 0 } in
     let e = get_or c.args.entries.now c.args.place d in
     let dead : IsSome (dead_of c.in-Some.guard.value.content) = subst (λ (v : Inode). IsSome (dead_of v.content)) c.value.ensures (c.is_dead.ensures.0 c.if-is_dead.true) in
-    had_dead c.args.hart c.args.place c.args.entries.now c.args.locks.now c.lock.new.self e c.requires.sound (slice_get-get_or c.args.entries.now c.args.place d c.requires.within) c.if-entries-place-ne1.false
+    had_dead c.args.hart c.args.place c.args.entries.now c.args.locks.now c.lock.new.self e c.requires.sound (slice_get-get_or c.args.entries.now c.args.place d c.requires.within) c.if-entries-place-ne-LAST_REFERENCE.false
     c.in-Some.guard (ap (λ (r : Option (GuardState Inode)). (c.lock.new.self, r)) (sym c.in-Some.is) ∙ c.lock.ensures.gives) dead
 
 pub returns-then-is_dead-clause-dead : goal.returns-then-is_dead-clause-dead
@@ -45,7 +45,7 @@ returns-else-is_dead-clause-alive c =
     let d : Entry = record { number = 0; references = 0 } in
     let e = get_or c.args.entries.now c.args.place d in
     let isnt : IsSome (dead_of c.in-Some.guard.value.content) → ⊥ = λ some. let yes_ = c.is_dead.ensures.1 (subst (λ (v : Inode). IsSome (dead_of v.content)) (sym c.value.ensures) some) in let no_ = c.if-is_dead.false in absurd (cc (yes_, no_)) in
-    had_alive c.args.hart c.args.place c.args.entries.now c.args.locks.now c.lock.new.self e c.requires.sound (slice_get-get_or c.args.entries.now c.args.place d c.requires.within) c.if-entries-place-ne1.false
+    had_alive c.args.hart c.args.place c.args.entries.now c.args.locks.now c.lock.new.self e c.requires.sound (slice_get-get_or c.args.entries.now c.args.place d c.requires.within) c.if-entries-place-ne-LAST_REFERENCE.false
     c.in-Some.guard (ap (λ (r : Option (GuardState Inode)). (c.lock.new.self, r)) (sym c.in-Some.is) ∙ c.lock.ensures.gives) isnt
 
 pub returns-else-is_dead-clause-same : goal.returns-else-is_dead-clause-same
