@@ -14,8 +14,9 @@ use Rattle.atomic_examples.specs.Whole.{whole}
 use Rattle.atomic_examples.specs.Blocks.{Op, Outside, Shows, Base, blocks, handler}
 use Rattle.atomic_examples.specs.OfWhole.{theory, begins_at_once, core}
 use Rattle.atomic_examples.specs.Swap.{Step, Swap, Nothing, labels, calls, swaps, swaps_above, code, code_above, rest}
+use Rattle.atomic_examples.specs.Within.{swaps_noted}
 use Rattle.atomic_examples.proofs.Swap.{lawful, keeps}
-use Rattle.atomic_examples.proofs.OfWhole.{calls_lawful, calls_refined}
+use Rattle.atomic_examples.proofs.OfWhole.{calls_lawful, calls_refined, calls_within}
 
 rest_shows : Shows rest.real rest.seen
 rest_shows = record { locks = λ i. refl; dinos = λ i. refl; txns = λ h. refl; loaded = λ i d e q. absurd cc; parts = λ i e. refl }
@@ -46,6 +47,9 @@ swaps_lead = leads swaps swaps_lawful (joined_places_one (whole labels) blocks p
 
 pub swaps_refined : (events : List (Event Swap Outside)) → AllHonest swaps_above events (fresh swaps_above rest) → Explained swaps_above rest.seen (run swaps_above events (fresh swaps_above rest))
 swaps_refined events honest = calls_refined labels calls lawful keeps rest rest_shows tt rest_base rest_idle events honest
+
+pub swaps_within : (events : List (Event Swap Outside)) → AllHonest swaps_noted events (fresh swaps_noted rest) → Explained swaps_noted rest.seen (run swaps_noted events (fresh swaps_noted rest))
+swaps_within events honest = calls_within labels calls lawful keeps rest rest_shows tt rest_base rest_idle events honest
 
 -- what the code makes is what both histories are of
 pub swaps_are_code : IsCode swaps code

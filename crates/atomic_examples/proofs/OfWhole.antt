@@ -1,15 +1,18 @@
 -- Every call over the machine of whole inodes, run on blocks.
-use Rattle.std.proofs.Common.{◌≡◌, ℕ, Option, None, Some, List, refl, subst}
-use Rattle.atomic_programs.specs.Prog.{Did, Waits, Ran, Stops, did_in}
-use Rattle.atomic_programs.specs.Calls.{Lawful, Event, AllHonest, run, fresh}
+use Rattle.std.proofs.Common.{◌≡◌, ℕ, Option, None, Some, true, List, [], ◌∷◌, refl, subst}
+use Rattle.atomic_programs.specs.Prog.{Did, Waits, Ran, Stops, did_in, asks}
+use Rattle.atomic_programs.specs.Calls.{Lawful, Event, AllHonest, run, fresh, is_some}
 use Rattle.atomic_programs.specs.Explained.{Explained}
 use Rattle.atomic_programs.specs.Joined.{Both, Atomic}
 use Rattle.atomic_programs.specs.Lowered.{BeginsBoth, StartsBoth, lowered_calls}
 use Rattle.atomic_programs.specs.Operations.{IsCore, operations, operations_of}
+use Rattle.atomic_programs.specs.Noted.{noted_calls}
 use Rattle.atomic_programs.proofs.Operations.{operations_laws}
 use Rattle.atomic_programs.proofs.Lowered.{lowered_lawful, refined}
+use Rattle.atomic_programs.proofs.Noted.{refined_within}
 use Rattle.atomic_examples.specs.Whole as above
 use Rattle.atomic_examples.specs.Whole.{Labels, Keeps, whole, take_if}
+use Rattle.atomic_examples.specs.Blocks as low
 use Rattle.atomic_examples.specs.Blocks.{World, Outside, Shows, Base, blocks, handler}
 use Rattle.atomic_examples.specs.OfWhole.{Calls, theory, begins_at_once, core, operation_labels}
 use Rattle.atomic_examples.proofs.Steps.{blocks_laws}
@@ -23,6 +26,28 @@ some above.Enter = tt
 some above.Exit = tt
 some (above.Look i k) = 0
 some (above.Write i k z zs) = tt
+
+some_below : (op : low.Op) → low.Answer op
+some_below (low.Lock i) = None
+some_below (low.Unlock i d) = tt
+some_below (low.Get b) = None
+some_below (low.Read b) = λ k. record { kind = 0; size = 0 }
+some_below (low.Put b z) = tt
+some_below low.Join = tt
+some_below low.Leave = tt
+some_below (low.PutPart i k z) = tt
+some_below (low.GetPart i k) = 0
+
+-- each operation's program has a step
+steps : (M : Type 0) (op : above.Op) (m : above.Answer op → Option M) → is_some (asks (handler M op m)) ≡ true
+steps M (above.Take i) m = refl
+steps M (above.Store i d) m = refl
+steps M (above.Give i d) m = refl
+steps M above.Enter m = refl
+steps M above.Exit m = refl
+steps M (above.Look i k) m = refl
+steps M (above.Write i k z []) m = refl
+steps M (above.Write i k z (y ∷ ys)) m = refl
 
 -- no operation above stops the world
 never : (h : ℕ) (op : above.Op) (v u : above.World) → above.exec h op v ≡ Stops u → ⊥
@@ -81,3 +106,10 @@ module _ (l : Labels) (c : Calls l) (lawful : Lawful (theory l c)) (keeps : Keep
       → Explained (lowered_calls (operations_of (theory l c) (core l)) blocks (handler l.Mark) (begins_at_once l c)) w.seen (run (lowered_calls (operations_of (theory l c) (core l)) blocks (handler l.Mark) (begins_at_once l c)) events (fresh (lowered_calls (operations_of (theory l c) (core l)) blocks (handler l.Mark) (begins_at_once l c)) w))
   calls_refined w shows inv base idle events honest =
       refined (theory l c) (core l) blocks (handler l.Mark) (begins_at_once l c) lawful (blocks_laws l keeps) is_core starts_both operations_atomic w events shows inv base idle honest
+
+  -- and each operation above acts within its own program
+  pub calls_within : (w : Both World above.World) → Shows w.real w.seen → l.Inv w.seen → ((h : ℕ) → Base h w.real w.seen) → ((h : ℕ) → l.Idle h w.seen) → (events : List (Event c.Call Outside))
+      → AllHonest (noted_calls (theory l c) (core l) blocks (handler l.Mark) (begins_at_once l c)) events (fresh (noted_calls (theory l c) (core l) blocks (handler l.Mark) (begins_at_once l c)) w)
+      → Explained (noted_calls (theory l c) (core l) blocks (handler l.Mark) (begins_at_once l c)) w.seen (run (noted_calls (theory l c) (core l) blocks (handler l.Mark) (begins_at_once l c)) events (fresh (noted_calls (theory l c) (core l) blocks (handler l.Mark) (begins_at_once l c)) w))
+  calls_within w shows inv base idle events honest =
+      refined_within (theory l c) (core l) blocks (handler l.Mark) (begins_at_once l c) lawful (blocks_laws l keeps) is_core starts_both operations_atomic some_below (λ op m. steps l.Mark op m) w events shows inv base idle honest

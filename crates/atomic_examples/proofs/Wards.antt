@@ -2,9 +2,9 @@
 use Rattle.std.proofs.Common.{◌≡◌, ◌≢◌, ◌<◌, ◌+◌, ◌⊎◌, inl, inr, ℕ, Bool, true, false, Option, Some, None, List, [], ◌∷◌, refl, sym, ◌∙◌, ap, subst, arith}
 use Rattle.std.specs.Prelude.{nat_eq}
 use Rattle.std.proofs.lemmas.Bool.{eqb-false, eq-eqb, ne_eqb}
-use Rattle.atomic_programs.specs.Prog.{Ret, once, unmarked, Stops, did_in}
+use Rattle.atomic_programs.specs.Prog.{Ret, once, unmarked, Stops, did_in, asks}
 use Rattle.atomic_programs.specs.Logic.{onto, own, Machine, Fine, Wp, Safe, Laws}
-use Rattle.atomic_programs.specs.Calls.{Began, Begins, Begun, Ends, Right, Lawful, Event, AllHonest, run, fresh}
+use Rattle.atomic_programs.specs.Calls.{Began, Begins, Begun, Ends, Right, Lawful, Event, AllHonest, run, fresh, is_some}
 use Rattle.atomic_programs.specs.Explained.{Explained}
 use Rattle.atomic_programs.specs.Operations.{IsCore, operations}
 use Rattle.atomic_programs.specs.Joined.{Both, joined, LowerLaws, Below, Atomic}
@@ -13,8 +13,10 @@ use Rattle.atomic_programs.proofs.Sound.{s-op}
 use Rattle.atomic_programs.proofs.Operations.{operations_laws}
 use Rattle.atomic_programs.proofs.Joined.{s-silent, acted, s-act}
 use Rattle.atomic_programs.proofs.Lowered.{operations_below, refined}
+use Rattle.atomic_programs.proofs.Noted.{refined_within}
 use Rattle.atomic_examples.specs.Whole.{put, if_held}
-use Rattle.atomic_examples.specs.Wards.{World, Op, Give, Free, Answer, given, exec, Mine, machine, Refusal, unless, unless_ward, reserved, start, gifts, core, Peek, Fill, Release, Shows, Base, low, handler, gifts_above, rest}
+use Rattle.atomic_examples.specs.Wards.{World, Op, Give, Free, Answer, given, exec, Mine, machine, Refusal, unless, unless_ward, reserved, start, gifts, core, Peek, Fill, Release, Shows, Base, low, LowOp, LowAnswer, handler, gifts_above, rest}
+use Rattle.atomic_examples.specs.Within.{gifts_noted}
 use Rattle.atomic_examples.proofs.Maps.{put_same, put_other, same_or, put_elim, Ours, not_held, held_is, held_here}
 use Rattle.atomic_examples.proofs.Steps.{ours_is}
 
@@ -406,3 +408,17 @@ module _ (h j : ℕ) (m : Unit {0} → Option (Unit {0})) where
 pub gifts_refined : (purse : ℕ → ℕ) (events : List (Event ℕ (Unit {0}))) → AllHonest gifts_above events (fresh gifts_above (rest purse)) → Explained gifts_above purse (run gifts_above events (fresh gifts_above (rest purse)))
 gifts_refined purse events honest =
     refined gifts core low handler start lawful low_laws is_core starts_both atomic (rest purse) events (record { wards = λ k. refl; purses = λ k e. refl }) tt (λ h k e. absurd (let c : ◌≡◌ {A = Option ℕ} None (Some h) = e in cc)) (λ h k e. (let c : ◌≡◌ {A = Option ℕ} None (Some h) = e in cc)) honest
+
+some_below : (op : LowOp) → LowAnswer op
+some_below Peek = 0
+some_below (Fill j x) = tt
+some_below (Release j) = tt
+
+-- each operation's program has a step
+steps : (op : Op) (m : Answer op → Option (Unit {0})) → is_some (asks (handler op m)) ≡ true
+steps (Give j) m = refl
+steps (Free j) m = refl
+
+pub gifts_within : (purse : ℕ → ℕ) (events : List (Event ℕ (Unit {0}))) → AllHonest gifts_noted events (fresh gifts_noted (rest purse)) → Explained gifts_noted purse (run gifts_noted events (fresh gifts_noted (rest purse)))
+gifts_within purse events honest =
+    refined_within gifts core low handler start lawful low_laws is_core starts_both atomic some_below steps (rest purse) events (record { wards = λ k. refl; purses = λ k e. refl }) tt (λ h k e. absurd (let c : ◌≡◌ {A = Option ℕ} None (Some h) = e in cc)) (λ h k e. (let c : ◌≡◌ {A = Option ℕ} None (Some h) = e in cc)) honest

@@ -5,3 +5,4 @@ pub mod Grab
 pub mod Swap
 pub mod Wards
 pub mod Desk
+pub mod Within

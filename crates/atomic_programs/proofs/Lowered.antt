@@ -18,7 +18,7 @@ pub operations_below : (U : Machine) (K : Core U) (R : Lower U.World) → LowerL
 operations_below U K R below = record { same = below.same; trans = below.trans; kept = λ h g u xs o. below.kept h g u o.1.0 o.1.1; base = below.base }
 
 -- a start below that begins the call
-begun_both : {Refusal S G : Type 0} (g : G) (x : Began Refusal S) (u : Both S G) → began_both g x ≡ Begins u → (x ≡ Begins u.real) × (u.seen ≡ g)
+pub begun_both : {Refusal S G : Type 0} (g : G) (x : Began Refusal S) (u : Both S G) → began_both g x ≡ Begins u → (x ≡ Begins u.real) × (u.seen ≡ g)
 begun_both g (Refuses why) u e = absurd cc
 begun_both {Refusal} {S} {G} g (Begins r) u e = (ap (λ (z : Both S G). begins z.real) is, ap (λ (z : Both S G). z.seen) (sym is))
   where

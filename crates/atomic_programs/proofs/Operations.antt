@@ -22,11 +22,11 @@ some_run : (L : Machine) → ((op : L.Op) → L.Answer op) → {A : Type 0} (p :
 some_run L some (Ret a) = ([], a, refl)
 some_run L some (Do op m k) = let x = some_run L some (k (some op)) in ((op, some op) ∷ x.0, x.1, (some op, refl, x.2))
 
-onto_rest : {A : Type 0} (xs es rest : List A) → onto xs (es ++ rest) ≡ onto xs es ++ rest
+pub onto_rest : {A : Type 0} (xs es rest : List A) → onto xs (es ++ rest) ≡ onto xs es ++ rest
 onto_rest [] es rest = refl
 onto_rest (x ∷ xs) es rest = onto_rest xs (x ∷ es) rest
 
-own_one : {A : Type 0} (h : ℕ) (e : A) → own h ((h, e) ∷ []) ≡ e ∷ []
+pub own_one : {A : Type 0} (h : ℕ) (e : A) → own h ((h, e) ∷ []) ≡ e ∷ []
 own_one h e = rw (eq-eqb h h refl) refl
 
 own_none : {A : Type 0} (g h : ℕ) (e : A) → g ≢ h → own g ((h, e) ∷ []) ≡ []
