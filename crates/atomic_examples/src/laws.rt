@@ -13,8 +13,8 @@ ghost use Rattle.atomic_examples.specs.Whole as whole;
 ghost use Rattle.atomic_examples.specs.Blocks as blocks;
 ghost use Rattle.atomic_examples.specs.Wards as wards;
 ghost use Rattle.atomic_examples.specs.Wards.{gifts_above, rest as purses};
-ghost use Rattle.atomic_examples.specs.Within.{swaps_noted, gifts_noted};
-ghost use Rattle.atomic_programs.specs.Noted.{Runs, Places};
+ghost use Rattle.atomic_examples.specs.Within.{SwapIsWhole, swaps_noted, GiftIsWhole, gifts_noted};
+ghost use Rattle.atomic_programs.specs.Noted.{Runs, Places, SameRuns};
 ghost use Rattle.atomic_examples.specs.Grab as grab;
 ghost use Rattle.atomic_examples.specs.Grab.{grabs_above};
 ghost use Rattle.atomic_examples.specs.Swap.{Swap, Swapped, swaps, swaps_above, code, code_above, rest};
@@ -110,14 +110,16 @@ pub fn gifts_act_once()
     ensures { (h j : ℕ) (m : Unit {0} → Option (Unit {0})) (w : Both wards.World wards.World) → w.seen.ward j ≡ Some h → w.seen.ward h ≡ None → wards.Base h w.real w.seen → Wp (joined (operations wards.machine wards.core) wards.low) h (λ fs. fs ≡ (wards.Give j, tt) ∷ []) (λ a fs u. (fs ≡ (wards.Give j, tt) ∷ []) × wards.Base h u.real u.seen) (wards.handler (wards.Give j) m) 2 [] w }
 {}
 
-/// In each run of swaps on blocks every operation above acts within the run of its own program below, once: at an event of its
-/// hart that isn't before that program's first step, nor after its last.
+/// In each run of swaps on blocks every operation above acts within the run of its own program below, once: it is placed at an
+/// event of its hart that isn't before that program's first step, nor after its last.
 pub fn swaps_act_within()
-    ensures { (events : List (Event Swap blocks.Outside)) → AllHonest swaps_noted events (fresh swaps_noted rest) → Explained swaps_noted rest.seen (run swaps_noted events (fresh swaps_noted rest)) }
+    ensures same { SameRuns swaps_above SwapIsWhole rest }
+    ensures explained { (events : List (Event Swap blocks.Outside)) → AllHonest swaps_above events (fresh swaps_above rest) → Explained swaps_noted rest.seen (run swaps_noted events (fresh swaps_noted rest)) }
 {}
 
-/// The same of gifts, whose starts reserve a hart.
+/// The same of gifts, whose starts reserve a hart; and what is noted of one.
 pub fn gifts_act_within()
-    ensures explained { (purse : ℕ → ℕ) (events : List (Event ℕ (Unit {0}))) → AllHonest gifts_noted events (fresh gifts_noted (purses purse)) → Explained gifts_noted purse (run gifts_noted events (fresh gifts_noted (purses purse))) }
+    ensures same { (purse : ℕ → ℕ) → SameRuns gifts_above GiftIsWhole (purses purse) }
+    ensures explained { (purse : ℕ → ℕ) (events : List (Event ℕ (Unit {0}))) → AllHonest gifts_above events (fresh gifts_above (purses purse)) → Explained gifts_noted purse (run gifts_noted events (fresh gifts_noted (purses purse))) }
     ensures history { history gifts_noted (run gifts_noted (Start 0 1 ∷ Step 0 tt ∷ Step 0 tt ∷ Step 0 tt ∷ []) (fresh gifts_noted (purses (λ h. h)))) ≡ record { number = 1; hart = 0; call = 0; step = Runs (wards.Peek, 0) } ∷ record { number = 1; hart = 0; call = 0; step = Places (wards.Give 1, tt) } ∷ record { number = 2; hart = 0; call = 0; step = Runs (wards.Fill 1 0, tt) } ∷ record { number = 3; hart = 0; call = 0; step = Runs (wards.Release 1, tt) } ∷ record { number = 3; hart = 0; call = 0; step = Places (wards.Free 1, tt) } ∷ [] }
 {}
