@@ -1,0 +1,3 @@
+pub mod First
+mod FirstClear
+mod Takes

@@ -1,0 +1,4 @@
+pub mod First
+pub mod Bytes
+pub mod Programs
+pub mod Machines

@@ -1,0 +1,14 @@
+//! Blocks taken and given back, by the bits of the bitmap block.
+//!
+//! `specs/Programs` says what is done, operation by operation; `TakeBlock` and `FreeBlock` are machines that do it.
+#![tactic(auto)]
+
+mod bits;
+mod free_block;
+mod search;
+mod take_block;
+
+pub use crate::bits::{clear, set};
+pub use crate::free_block::FreeBlock;
+pub use crate::search::first_clear;
+pub use crate::take_block::TakeBlock;
