@@ -1,3 +1,5 @@
 pub mod First
 mod FirstClear
 mod Takes
+mod Runs
+mod OneBit

@@ -5,6 +5,7 @@
 
 mod bits;
 mod free_block;
+pub mod laws;
 mod search;
 mod take_block;
 
