@@ -1,0 +1,5 @@
+use Rattle.inode_table.proofs.Stored.{stores_one}
+use Rattle.inode_table.proofs.laws.stores_one_inode.Goals as goal
+
+pub returns : goal.returns
+returns c = stores_one

@@ -1,0 +1,42 @@
+-- Inodes loaded from their blocks and stored into them: programs over what all harts share. Nothing is marked in them.
+use Rattle.std.specs.Prelude.{ℕ, ◌+◌, ◌*◌, ◌/◌, ◌%◌, List, Option, Some, None}
+use Rattle.fs_layout.specs.declared.inode.Dinode.{Dinode}
+use Rattle.fs_layout.specs.Bytes.{overwrite}
+use Rattle.fs_layout.specs.Inode.{dinode_at, spell_dinode}
+use Rattle.fs_layout.specs.Widths.{inode_len, inodes_per_block}
+use Rattle.atomic_programs.specs.Prog.{Prog, Ret, Do, bind, unmarked}
+use Rattle.fs_machine.specs.Steps.{Op, Answer, Put}
+use Rattle.fs_machine.specs.Programs.{fetch}
+
+-- the block of an inode, where the inode blocks begin at this one
+abbrev pub inode_block : ℕ → ℕ → ℕ
+inode_block inodestart n = inodestart + n / inodes_per_block
+
+-- where it stands there, counted in inodes
+abbrev pub place_of : ℕ → ℕ
+place_of n = n % inodes_per_block
+
+-- an inode block with inode n so, and the others as they were
+unfoldable pub with_dinode : ℕ → Dinode → List ℕ → List ℕ
+with_dinode n d block = overwrite block (inode_len * place_of n) (spell_dinode d)
+
+-- the buffer is given back as it was, and the inode is what stands there
+abbrev pub give_back : {M : Type 0} → (b n : ℕ) → List ℕ → Prog Op Answer M Dinode
+give_back b n block = Do (Put b None) unmarked (λ _. Ret (dinode_at (place_of n) block))
+
+-- inode n, read from its block
+abbrev pub load : {M : Type 0} → (inodestart n : ℕ) → Prog Op Answer M Dinode
+load inodestart n = bind (fetch (inode_block inodestart n)) (give_back (inode_block inodestart n) n)
+
+-- the same where it isn't loaded yet
+abbrev pub load_unless : {M : Type 0} → (inodestart n : ℕ) → Option Dinode → Prog Op Answer M Dinode
+load_unless inodestart n (Some d) = Ret d
+load_unless inodestart n None = load inodestart n
+
+-- the buffer is given back with the inode in it
+abbrev pub put_inode : {M : Type 0} → (b n : ℕ) → Dinode → List ℕ → Prog Op Answer M (Unit {0})
+put_inode b n d block = Do (Put b (Some (with_dinode n d block))) unmarked (λ _. Ret tt)
+
+-- inode n goes into its block
+abbrev pub store : {M : Type 0} → (inodestart n : ℕ) → Dinode → Prog Op Answer M (Unit {0})
+store inodestart n d = bind (fetch (inode_block inodestart n)) (put_inode (inode_block inodestart n) n d)
