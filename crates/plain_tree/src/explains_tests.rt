@@ -90,43 +90,54 @@ fn write(alloc: Global, text: &[u8]) -> Told<Call> {
     Ok(Call::Write { fd: 0, bytes })
 }
 
-fn pieces(alloc: Global) -> Told<Story> {
-    let text = [7; 3073];
+/// What the reader of `pieces` hands back: the first piece, in its buffer.
+fn first_piece_read(alloc: Global) -> Told<Call> {
     let mut filled = [0; 4000];
     for i in 0..3072 {
         filled[i] = 7;
     }
-    let given = buffer(alloc, &[0; 4000])?;
-    let handed = buffer(alloc, &filled)?;
-    let mut story = Story::begin(alloc, 12);
+    buffer(alloc, &filled)
+}
+
+fn pieces_calls(alloc: Global, story: &mut Story) -> Told {
     story.call(0, (0, 2), open(alloc, "/f", 0x201)?, Answer::Fd(0))?;
     story.call(1, (3, 5), open(alloc, "/f", 0)?, Answer::Fd(0))?;
-    story.call(0, (6, 11), write(alloc, &text)?, Answer::Count(3073))?;
+    let text = write(alloc, &[7; 3073])?;
+    story.call(0, (6, 11), text, Answer::Count(3073))?;
+    let given = buffer(alloc, &[0; 4000])?;
     story.call(1, (7, 11), given, Answer::Count(3072))?;
-    story.hands(handed);
+    story.hands(first_piece_read(alloc)?);
+    Ok(())
+}
+
+fn pieces_list(alloc: Global, story: &mut Story) -> Told {
     story.acts((1, 0, 2), opened(0, 0))?;
     story.acts((4, 1, 0), opened(0, 1))?;
-    story.step((8, 2, 0), piece(alloc, &text[..3072])?, DONE)?;
-    story.acts((9, 3, 0), read(alloc, &text[..3072])?)?;
-    story.step((10, 2, 0), piece(alloc, &text[3072..])?, DONE)?;
+    story.step((8, 2, 0), piece(alloc, &[7; 3072])?, DONE)?;
+    story.acts((9, 3, 0), read(alloc, &[7; 3072])?)?;
+    story.step((10, 2, 0), piece(alloc, &[7; 1])?, DONE)
+}
+
+fn pieces(alloc: Global) -> Told<Story> {
+    let mut story = Story::begin(alloc, 12);
+    pieces_calls(alloc, &mut story)?;
+    pieces_list(alloc, &mut story)?;
     Ok(story)
 }
 
-fn made_anew(alloc: Global) -> Told<Story> {
-    let mut story = Story::begin(alloc, 24);
+fn made_anew_calls(alloc: Global, story: &mut Story) -> Told {
+    let nothing = Answer::Failed(Cause::NoEntry);
     story.done(1, (0, 2), mkdir(alloc, "/d")?)?;
     story.call(1, (3, 5), open(alloc, "/d/f", 0x200)?, Answer::Fd(0))?;
     story.done(1, (6, 8), Call::Close { fd: 0 })?;
-    story.call(
-        0,
-        (9, 23),
-        open(alloc, "/d/f", 0)?,
-        Answer::Failed(Cause::NoEntry),
-    )?;
+    story.call(0, (9, 23), open(alloc, "/d/f", 0)?, nothing)?;
     story.done(1, (10, 12), unlink(alloc, "/d/f")?)?;
     story.done(1, (13, 15), unlink(alloc, "/d")?)?;
     story.done(1, (16, 18), mkdir(alloc, "/d")?)?;
-    story.call(1, (19, 21), open(alloc, "/d/f", 0x200)?, Answer::Fd(0))?;
+    story.call(1, (19, 21), open(alloc, "/d/f", 0x200)?, Answer::Fd(0))
+}
+
+fn made_anew_list(story: &mut Story) -> Told {
     story.acts((1, 0, 2), DONE)?;
     story.acts((4, 1, 3), opened(0, 0))?;
     story.acts((7, 2, 0), DONE)?;
@@ -134,21 +145,28 @@ fn made_anew(alloc: Global) -> Told<Story> {
     story.acts((14, 5, 0), DONE)?;
     story.acts((15, 3, 0), refused(Cause::NoEntry))?;
     story.acts((17, 6, 3), DONE)?;
-    story.acts((20, 7, 4), opened(0, 0))?;
+    story.acts((20, 7, 4), opened(0, 0))
+}
+
+fn made_anew(alloc: Global) -> Told<Story> {
+    let mut story = Story::begin(alloc, 24);
+    made_anew_calls(alloc, &mut story)?;
+    made_anew_list(&mut story)?;
     Ok(story)
 }
 
-fn unlinked_while_linked(alloc: Global) -> Told<Story> {
-    let given = buffer(alloc, b"....")?;
-    let handed = buffer(alloc, b"A...")?;
-    let mut story = Story::begin(alloc, 21);
+fn unlinked_while_linked_calls(alloc: Global, story: &mut Story) -> Told {
     story.call(1, (0, 2), open(alloc, "/f", 0x201)?, Answer::Fd(0))?;
     story.call(1, (3, 5), write(alloc, b"A")?, Answer::Count(1))?;
     story.done(0, (6, 14), link(alloc)?)?;
     story.done(1, (7, 12), unlink(alloc, "/f")?)?;
     story.call(0, (15, 17), open(alloc, "/g", 0)?, Answer::Fd(0))?;
-    story.call(0, (18, 20), given, Answer::Count(1))?;
-    story.hands(handed);
+    story.call(0, (18, 20), buffer(alloc, b"....")?, Answer::Count(1))?;
+    story.hands(buffer(alloc, b"A...")?);
+    Ok(())
+}
+
+fn unlinked_while_linked_list(alloc: Global, story: &mut Story) -> Told {
     story.acts((1, 0, 2), opened(0, 0))?;
     story.acts((4, 1, 0), DONE)?;
     story.acts((8, 2, 0), DONE)?;
@@ -156,26 +174,40 @@ fn unlinked_while_linked(alloc: Global) -> Told<Story> {
     story.acts((10, 3, 0), DONE)?;
     story.step((11, 2, 0), enter(alloc)?, DONE)?;
     story.acts((16, 4, 0), opened(0, 1))?;
-    story.acts((19, 5, 0), read(alloc, b"A")?)?;
+    story.acts((19, 5, 0), read(alloc, b"A")?)
+}
+
+fn unlinked_while_linked(alloc: Global) -> Told<Story> {
+    let mut story = Story::begin(alloc, 21);
+    unlinked_while_linked_calls(alloc, &mut story)?;
+    unlinked_while_linked_list(alloc, &mut story)?;
     Ok(story)
 }
 
-fn refused_link(alloc: Global) -> Told<Story> {
-    let there = Cause::Exists;
-    let mut story = Story::begin(alloc, 18);
+fn refused_link_calls(alloc: Global, story: &mut Story) -> Told {
+    let there = Answer::Failed(Cause::Exists);
     story.call(1, (0, 2), open(alloc, "/f", 0x200)?, Answer::Fd(0))?;
     story.call(1, (3, 5), open(alloc, "/g", 0x200)?, Answer::Fd(1))?;
-    story.call(0, (6, 14), link(alloc)?, Answer::Failed(there))?;
+    story.call(0, (6, 14), link(alloc)?, there)?;
     story.call(1, (7, 13), Call::Fstat { fd: 0 }, Answer::Stat(stat(2)))?;
-    story.call(1, (15, 17), Call::Fstat { fd: 0 }, Answer::Stat(stat(1)))?;
+    story.call(1, (15, 17), Call::Fstat { fd: 0 }, Answer::Stat(stat(1)))
+}
+
+fn refused_link_list(alloc: Global, story: &mut Story) -> Told {
     story.acts((1, 0, 2), opened(0, 0))?;
     story.acts((4, 1, 3), opened(1, 1))?;
     story.acts((8, 2, 0), DONE)?;
     story.step((9, 2, 0), Action::Bump, DONE)?;
     story.acts((10, 3, 0), StepAnswer::Stat { stat: stat(2) })?;
-    story.step((11, 2, 0), enter(alloc)?, refused(there))?;
+    story.step((11, 2, 0), enter(alloc)?, refused(Cause::Exists))?;
     story.step((12, 2, 0), Action::Unbump, DONE)?;
-    story.acts((16, 4, 0), StepAnswer::Stat { stat: stat(1) })?;
+    story.acts((16, 4, 0), StepAnswer::Stat { stat: stat(1) })
+}
+
+fn refused_link(alloc: Global) -> Told<Story> {
+    let mut story = Story::begin(alloc, 18);
+    refused_link_calls(alloc, &mut story)?;
+    refused_link_list(alloc, &mut story)?;
     Ok(story)
 }
 

@@ -57,14 +57,15 @@ pub(crate) fn bytes(alloc: Global, text: &[u8]) -> Told<Bytes> {
 
 /// The first step of the call; all bytes of a write.
 fn first_step(call: &Call) -> Told<Action> {
-    Ok(match call.clone()? {
+    let call = call.clone()?;
+    Ok(match call {
         Call::Open { path, flags } => Action::Open { path, flags },
-        Call::Read { fd, buf } => Action::Read {
-            fd,
-            count: buf.as_slice().len(),
-        },
+        Call::Read { fd, buf } => {
+            let count = buf.as_slice().len();
+            Action::Read { fd, count }
+        }
         Call::Write { fd, bytes } => Action::WritePart { fd, bytes },
-        Call::Link { old, .. } => Action::Find { old },
+        Call::Link { old, new: _new } => Action::Find { old },
         Call::Unlink { path } => Action::Unlink { path },
         Call::Mkdir { path } => Action::Mkdir { path },
         Call::Chdir { path } => Action::Chdir { path },
