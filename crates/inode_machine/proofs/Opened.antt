@@ -23,24 +23,24 @@ module _ (t : Tree) (f : OpenFile) (v : Node) (well : IsWellFormed t) (has : Has
   abbrev pub w : World
   w = open_at_rest t f (sort_of_kind v.kind)
 
-  abbrev D0 : ℕ → Desk
-  D0 = (at_rest t).desks
+  abbrev resting : ℕ → Desk
+  resting = (at_rest t).desks
 
   abbrev new : Desk
-  new = record (D0 0) { fds = put (λ i. None) 0 (Some 0) }
+  new = record (resting 0) { fds = put (λ i. None) 0 (Some 0) }
 
   abbrev D : ℕ → Desk
-  D = put D0 0 new
+  D = put resting 0 new
 
   abbrev F : ℕ → Option Entry
   F = put (λ k. None) 0 (Some entry)
 
   fd_here : (D 0).fds 0 ≡ Some 0
-  fd_here = ap (λ (d : Desk). d.fds 0) (put_same D0 0 new) ∙ put_same (λ (i : ℕ). None) 0 (Some 0)
+  fd_here = ap (λ (d : Desk). d.fds 0) (put_same resting 0 new) ∙ put_same (λ (i : ℕ). None) 0 (Some 0)
 
   fd_there : (g i : ℕ) → (g ≢ 0) ⊎ (i ≢ 0) → (D g).fds i ≡ None
-  fd_there g i (inl ne) = ap (λ (d : Desk). d.fds i) (put_other D0 0 new g ne)
-  fd_there g i (inr ne) = put_elim D0 0 new g (λ d. d.fds i ≡ None) (λ e. put_other (λ (i : ℕ). None) 0 (Some 0) i ne) (λ q. refl)
+  fd_there g i (inl ne) = ap (λ (d : Desk). d.fds i) (put_other resting 0 new g ne)
+  fd_there g i (inr ne) = put_elim resting 0 new g (λ d. d.fds i ≡ None) (λ e. put_other (λ (i : ℕ). None) 0 (Some 0) i ne) (λ q. refl)
 
   file_here : F 0 ≡ Some entry
   file_here = put_same (λ (k : ℕ). None) 0 (Some entry)
@@ -52,37 +52,37 @@ module _ (t : Tree) (f : OpenFile) (v : Node) (well : IsWellFormed t) (has : Has
   ]
 
   opening : (g : ℕ) → (D g).opening ≡ None
-  opening g = put_elim D0 0 new g (λ d. d.opening ≡ None) (λ e. refl) (λ q. refl)
+  opening g = put_elim resting 0 new g (λ d. d.opening ≡ None) (λ e. refl) (λ q. refl)
 
   left : (g : ℕ) → (D g).left ≡ None
-  left g = put_elim D0 0 new g (λ d. d.left ≡ None) (λ e. refl) (λ q. refl)
+  left g = put_elim resting 0 new g (λ d. d.left ≡ None) (λ e. refl) (λ q. refl)
 
   hand : (g : ℕ) → (D g).hand ≡ None
-  hand g = put_elim D0 0 new g (λ d. d.hand ≡ None) (λ e. refl) (λ q. refl)
+  hand g = put_elim resting 0 new g (λ d. d.hand ≡ None) (λ e. refl) (λ q. refl)
 
   lent : (g : ℕ) → (D g).lent ≡ λ i. None
-  lent g = put_elim D0 0 new g (λ d. d.lent ≡ λ i. None) (λ e. refl) (λ q. refl)
+  lent g = put_elim resting 0 new g (λ d. d.lent ≡ λ i. None) (λ e. refl) (λ q. refl)
 
   lender : (g : ℕ) → (D g).lender ≡ None
-  lender g = put_elim D0 0 new g (λ d. d.lender ≡ None) (λ e. refl) (λ q. refl)
+  lender g = put_elim resting 0 new g (λ d. d.lender ≡ None) (λ e. refl) (λ q. refl)
 
   noted : (g : ℕ) → (D g).noted ≡ None
-  noted g = put_elim D0 0 new g (λ d. d.noted ≡ None) (λ e. refl) (λ q. refl)
+  noted g = put_elim resting 0 new g (λ d. d.noted ≡ None) (λ e. refl) (λ q. refl)
 
   full : (g : ℕ) → (D g).full ≡ false
-  full g = put_elim D0 0 new g (λ d. d.full ≡ false) (λ e. refl) (λ q. refl)
+  full g = put_elim resting 0 new g (λ d. d.full ≡ false) (λ e. refl) (λ q. refl)
 
   joined : (g : ℕ) → (D g).joined ≡ false
-  joined g = put_elim D0 0 new g (λ d. d.joined ≡ false) (λ e. refl) (λ q. refl)
+  joined g = put_elim resting 0 new g (λ d. d.joined ≡ false) (λ e. refl) (λ q. refl)
 
   directory : (g : ℕ) → (D g).directory ≡ t.cwd g
-  directory g = put_elim D0 0 new g (λ d. d.directory ≡ t.cwd g) (λ e. ap t.cwd (sym e)) (λ q. refl)
+  directory g = put_elim resting 0 new g (λ d. d.directory ≡ t.cwd g) (λ e. ap t.cwd (sym e)) (λ q. refl)
 
-  nobody : (k : ℕ) → users D0 k ≡ 0
+  nobody : (k : ℕ) → users resting k ≡ 0
   nobody k = sum_none hart_count _ (λ g lg. let a : sum_below descriptor_count (λ i. one_if (is_at None k)) ≡ 0 = sum_none descriptor_count _ (λ i li. one_no false refl) in omega (arith, a))
 
   once : users D 0 ≡ 1
-  once = let a = users_put D0 0 0 0 (Some 0) (omega arith) (omega arith) in let b = nobody 0 in let c : one_if (is_at None 0) ≡ 0 = one_no false refl in let d : one_if (is_at (Some 0) 0) ≡ 1 = one_yes true refl in omega (arith, a, b, c, d)
+  once = let a = users_put resting 0 0 0 (Some 0) (omega arith) (omega arith) in let b = nobody 0 in let c : one_if (is_at None 0) ≡ 0 = one_no false refl in let d : one_if (is_at (Some 0) 0) ≡ 1 = one_yes true refl in omega (arith, a, b, c, d)
 
   pub inv : Inv w
   inv = record {
