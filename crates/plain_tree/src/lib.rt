@@ -11,8 +11,6 @@ mod bytes;
 mod call;
 mod change;
 mod explains;
-#[cfg(test)]
-mod explains_tests;
 mod fresh;
 mod handed;
 pub mod laws;
@@ -31,12 +29,8 @@ pub mod rows;
 mod settle;
 mod slots;
 mod step;
-#[cfg(test)]
-mod story;
 mod trace;
 mod tree;
-#[cfg(test)]
-mod tree_tests;
 mod widths;
 mod written;
 

@@ -1,7 +1,7 @@
 //! The largest file, the named part of a tree that keeps nodes without names, and steps past the table.
 //! What finds no memory is tried once more.
 use crate::story::bytes;
-use crate::{
+use plain_tree::{
     Action, ApplyRefused, Cause, Kind, NoMemory, Node, Slot, Slots, StepAnswer, Tree, TreeStep,
 };
 use std::alloc::Global;

@@ -1,7 +1,7 @@
 //! Worked runs, each with a list of steps that explains it, and what becomes of that list where one entry is another.
 //! What finds no memory is tried once more.
 use crate::story::{Change, Story, Told, bytes, opened};
-use crate::{Action, Answer, Call, Cause, Full, NoMemory, NodeType, Stat, StepAnswer};
+use plain_tree::{Action, Answer, Call, Cause, Full, NoMemory, NodeType, Stat, StepAnswer};
 use std::alloc::Global;
 use std::test::Fail;
 

@@ -1,5 +1,5 @@
 //! A run told for a test: its calls, and a list of steps with their answers.
-use crate::{
+use plain_tree::{
     Action, Answer, Bytes, Call, Calls, Cause, NoMemory, Placed, Reply, StepAnswer, Trace,
     TracedCall, Tree, TreeStep, check,
 };
