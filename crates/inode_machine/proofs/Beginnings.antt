@@ -73,7 +73,7 @@ s-start h s B Q base O0 e r ns n es w O go lost lt ready at pos follows path pla
         row = ap (λ (o : Own). o.row) ov ∙ at.stays.row
 
         cwd_is : (v.desks h).directory ≡ v.all.cwd h
-        cwd_is = inv.directory h lt ∙ (λ z. left_or ((ap (λ (o : Own). o.desk.left) ov ∙ at.stays.left ∙ ready.left) z) (v.all.cwd h))
+        cwd_is = (inv.directory h lt).at ∙ (λ z. left_or ((ap (λ (o : Own). o.desk.left) ov ∙ at.stays.left ∙ ready.left) z) (v.all.cwd h))
 
         to : Walk
         to = record { step = s; at = i; next = e; rest = r }

@@ -21,8 +21,8 @@ use Rattle.inode_machine.specs.Exec.{is_at, file_count, with_refs, with_walk, sl
 use Rattle.inode_machine.specs.World.{Mine, Entry, Desk, World, stage_of}
 use Rattle.inode_machine.specs.Marks.{places, with_mark, made_by, new_id}
 use Rattle.inode_machine.specs.World.Op.{Shut}
-use Rattle.inode_machine.specs.Rules.{Own, shop_of, number_is, users, own_names, own_of, IsAlone, Inv, machine, left_or, nothing}
-use Rattle.inode_machine.proofs.Frame.{put_elim, Fair, fair, has_none, one_refs}
+use Rattle.inode_machine.specs.Rules.{Own, shop_of, number_is, users, own_names, own_of, IsAlone, Inv, machine, nothing}
+use Rattle.inode_machine.proofs.Frame.{put_elim, stands_on, Fair, fair, has_none, one_refs}
 use Rattle.inode_machine.proofs.Rules.{s-owned, my_refs, each_refs, here_refs, walks_refs, total_same, total_changed, opens_slots, locks_none}
 use Rattle.inode_machine.proofs.Rows.{below_is}
 use Rattle.inode_machine.proofs.Walking.{refs_walk, stage_walk, moves_good}
@@ -164,7 +164,7 @@ shuts h fd s e v O F S H inv ov free lt walk still idle empty unnoted hit c = re
     joined = ap (λ (z : Desk). z.joined) desk_is;
     sorts = c.sorts;
     noted = λ m q. absurd (let a = same.noted in cc (a, q, unnoted));
-    directory = ap (λ (z : Desk). z.directory) desk_is ∙ inv.directory h lt ∙ (λ z. left_or (sym desk_is z).left (v.all.cwd h));
+    directory = stands_on (v.desks h) (D h) (v.all.cwd h) v.all.nodes (ap (λ (z : Desk). z.directory) desk_is) (ap (λ (z : Desk). z.left) desk_is) (inv.directory h lt);
     well = well_closed v.all h fd inv.well;
     nodes = refl;
     size = refl;

@@ -25,8 +25,8 @@ use Rattle.inode_machine.specs.Marks.{places, with_mark, with_made, made_by, fou
 use Rattle.inode_machine.specs.World.{Mine, Entry, Desk, World, Note}
 use Rattle.inode_machine.specs.Descriptors.{dups}
 use Rattle.inode_machine.specs.World.Op.{Double, Join, Leave, Say}
-use Rattle.inode_machine.specs.Rules.{Own, shop_of, Shop, Tied, id_at, number_is, users, own_names, own_of, Inv, machine, Held, key_in, left_or, view, Reached}
-use Rattle.inode_machine.proofs.Frame.{put_elim, Fair, fair, fair_same, kept_here}
+use Rattle.inode_machine.specs.Rules.{Own, shop_of, Shop, Tied, id_at, number_is, users, own_names, own_of, Inv, machine, Held, key_in, Stands, view, Reached}
+use Rattle.inode_machine.proofs.Frame.{put_elim, stands_on, Fair, fair, fair_same, kept_here}
 use Rattle.inode_machine.proofs.Rules.{s-owned, quiet, UnlocksAll, locks_none}
 use Rattle.inode_machine.proofs.Rows.{below_is}
 use Rattle.inode_machine.proofs.Walking.{refs_walk, walk_did, own_walk, stage_walk, moves_good}
@@ -120,7 +120,7 @@ pub record Flagging (h : ℕ) (v : World) (O : Own) (new d : Desk) (c : Bool) : 
 
 -- A desk changes, but not what the table knows of it, nor what the hart names.
 pub desk_changes : (h : ℕ) (v : World) (O : Own) (new d : Desk) (c : Bool) → own_of h v ≡ O → O.desk.lender ≡ None → h < hart_count → Inv v → new ≡ d → SameFiles new (v.desks h)
-    → ((j : ℕ) → own_names (row_of v.all h) new j ≡ true → own_names (row_of v.all h) (v.desks h) j ≡ true) → new.directory ≡ left_or new.left (v.all.cwd h) → new.lender ≡ None
+    → ((j : ℕ) → own_names (row_of v.all h) new j ≡ true → own_names (row_of v.all h) (v.desks h) j ≡ true) → Stands new (v.all.cwd h) v.all.nodes → new.lender ≡ None
     → (new.joined ≡ false → (j : ℕ) → v.keeper j ≡ Some h → v.disk j ≡ v.all.nodes j)
     → ((m : Note) → new.noted ≡ Some m → Reached v h m.number → v.alone m.number ≡ false → sort_of (v.all.nodes m.number) ≡ m.sort)
     → (new.full ≡ true → c ≡ false) → (v.clean ≡ false → c ≡ false) → (c ≡ true → v.clean ≡ true) → Flagging h v O new d c
@@ -138,7 +138,7 @@ desk_changes h v O new d c ov free lt inv is same names stands unlent quiet note
     sort = λ j. inl refl;
     sorts = inv.sorts;
     noted = λ m is r s. notes m (sym (ap (λ (z : Desk). z.noted) here) ∙ is) r s;
-    directory = ap (λ (z : Desk). z.directory) here ∙ stands ∙ (λ z. left_or (sym here z).left (v.all.cwd h));
+    directory = subst (λ (z : Desk). Stands z (v.all.cwd h) v.all.nodes) (sym here) stands;
     well = inv.well;
     counts = inv.counts;
     alone = inv.alone;
@@ -204,7 +204,7 @@ pub flagging : (h : ℕ) (v : World) (O : Own) (new d : Desk) (c : Bool) → own
     → (new.full ≡ true → c ≡ false) → (v.clean ≡ false → c ≡ false) → (c ≡ true → v.clean ≡ true) → Flagging h v O new d c
 flagging h v O new d c ov free lt inv is same unlent quiet notes mine his back = desk_changes h v O new d c ov free lt inv is (record { fds = same.fds; hand = same.hand; lent = same.lent; opening = same.opening })
     (λ j q. (λ z. (v.all.cwd h == j) || (hold_names (v.all.holds h) j || (key_names (key_in (row_of v.all h).keys (sym same.opening z)) j || is_at (sym same.left z) j))) ∙ q)
-    (same.directory ∙ inv.directory h lt ∙ (λ z. left_or (sym same.left z) (v.all.cwd h))) unlent quiet notes mine his back
+    (stands_on (v.desks h) new (v.all.cwd h) v.all.nodes same.directory same.left (inv.directory h lt)) unlent quiet notes mine his back
 
 pub filling : (h : ℕ) (v : World) (O : Own) → own_of h v ≡ O → O.desk.lender ≡ None → h < hart_count → Inv v → Flagging h v O (record (v.desks h) { full = true }) (record (O.desk) { full = true }) false
 filling h v O ov free lt inv = flagging h v O (record (v.desks h) { full = true }) (record (O.desk) { full = true }) false ov free lt inv (ap (λ (o : Own). record (o.desk) { full = true }) ov)
@@ -486,7 +486,7 @@ s-double {A} {h} fd {k} {B} {Q} {n} {es} {w} {O} owns free lt pos walks none idl
           joined = ap (λ (z : Desk). z.joined) desk_is;
           sorts = λ k x q. renewed_sorts v s e (record { file = e.file; sort = e.sort; references = e.references + 1 }) inv hit.at refl refl k x q;
           noted = λ m q. (sym (ap (λ (z : Desk). z.noted) desk_is) ∙ q, (λ p. let r = refs_walk v.harts h None None h m.number in omega (arith, r, p)));
-          directory = ap (λ (z : Desk). z.directory) desk_is ∙ inv.directory h lt ∙ (λ z. left_or (sym desk_is z).left (v.all.cwd h));
+          directory = stands_on (v.desks h) (D h) (v.all.cwd h) v.all.nodes (ap (λ (z : Desk). z.directory) desk_is) (ap (λ (z : Desk). z.left) desk_is) (inv.directory h lt);
           well = subst (λ (z : Tree). IsWellFormed z) (λ i. record (v.all) { fds = put v.all.fds h (put (v.all.fds h) (low i) (hit.tree i)) }) (well_dup v.all h fd e.file inv.well lt hit.file);
           nodes = refl;
           size = refl;

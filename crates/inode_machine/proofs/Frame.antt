@@ -1,17 +1,19 @@
 -- One lemma for all operations: what a step of one hart leaves to the others, and what still holds.
-use Rattle.std.proofs.Common.{◌≡◌, ◌≢◌, ◌⊎◌, inl, inr, ℕ, ◌+◌, ◌<◌, ◌≤◌, Bool, true, false, ◌==◌, Option, Some, None, refl, sym, ◌∙◌, ap, subst, arith, if◌then◌else◌}
+use Rattle.std.proofs.Common.{◌≡◌, ◌≢◌, ◌⊎◌, inl, inr, ℕ, ◌+◌, ◌<◌, ◌≤◌, Bool, true, false, ◌==◌, ◌||◌, Option, Some, None, refl, sym, ◌∙◌, ap, subst, arith, if◌then◌else◌}
 use Rattle.plain_tree.specs.Widths.{hart_count, descriptor_count}
-use Rattle.plain_tree.specs.Tree.{put}
-use Rattle.plain_tree.specs.HartRow.{row_of}
+use Rattle.plain_tree.specs.declared.node.Node.{Node}
+use Rattle.plain_tree.specs.Tree.{put, hold_names}
+use Rattle.plain_tree.specs.HartRow.{Row, key_names, row_of}
 use Rattle.tree_laws.specs.WellFormed.{sum_below, IsWellFormed}
-use Rattle.tree_laws.proofs.Maps.{either, eq_self, eq_is, eq_not, same_or, put_same, put_other}
+use Rattle.tree_laws.proofs.Maps.{either, or_left, or_right, eq_self, eq_is, eq_not, same_or, put_same, put_other}
 use Rattle.tree_laws.proofs.Walks.{look_same}
 use Rattle.tree_laws.proofs.Facts.{look_live}
 use Rattle.tree_laws.proofs.Sums.{sum_part, sum_two}
 use Rattle.inode_machine.specs.Inodes.{sort_of}
 use Rattle.tree_moves.specs.Moves.{Walk}
 use Rattle.inode_machine.specs.World.{Mine, Entry, Note, Desk, World}
-use Rattle.inode_machine.specs.Rules.{Own, Rests, left_or, shop_of, Shop, Tied, own_names, Held, view, is_hart, if_kept, own_of, Found, Pinned, Reached, IsAlone, Inv}
+use Rattle.inode_machine.specs.Exec.{is_at}
+use Rattle.inode_machine.specs.Rules.{key_in, Own, Rests, left_or, Stands, shop_of, Shop, Tied, own_names, Held, view, is_hart, if_kept, own_of, Found, Pinned, Reached, IsAlone, Inv}
 
 -- Functions changed at one place, and what is kept.
 
@@ -102,7 +104,7 @@ pub record Did (h : ℕ) (v u : World) : Type 0 where
   pub sort : (j : ℕ) → (sort_of (u.all.nodes j) ≡ sort_of (v.all.nodes j)) ⊎ ((v.keeper j ≡ Some h) × (v.alone j ≡ true))
   pub sorts : (k : ℕ) (e : Entry) → u.files k ≡ Some e → sort_of (u.all.nodes e.file.number) ≡ Some e.sort
   pub noted : (n : Note) → (u.desks h).noted ≡ Some n → Reached u h n.number → u.alone n.number ≡ false → sort_of (u.all.nodes n.number) ≡ n.sort
-  pub directory : (u.desks h).directory ≡ left_or (u.desks h).left (u.all.cwd h)
+  pub directory : Stands (u.desks h) (u.all.cwd h) u.all.nodes
   pub well : IsWellFormed u.all
   pub counts : (i : ℕ) → u.refs i ≡ u.slots i + sum_below hart_count (λ g. (u.harts g).refs i)
   pub alone : (i : ℕ) → u.alone i ≡ true → IsAlone u.keeper u.all.nodes u.refs u.harts i
@@ -152,6 +154,24 @@ lone_not h g i v inv lg ne keeps is reaches =
       | inl p ↦ omega (arith, c, two, p)
       | inr p ↦ (let f = inv.pending g i lg p in let l = look_live v.all f.directory i f.name inv.well f.finds in let d = a.dead in cc (l, d))
     ]
+
+-- The directory that a hart refers to.
+
+-- it names it
+pub directory_named : (r : Row) (d : Desk) → d.directory ≡ left_or d.left r.cwd → own_names r d d.directory ≡ true
+directory_named r d e = at d.left e
+  where
+    at : (o : Option ℕ) → d.directory ≡ left_or o r.cwd → ((r.cwd == d.directory) || (hold_names r.hold d.directory || (key_names (key_in r.keys d.opening) d.directory || is_at o d.directory))) ≡ true
+    at None q = or_left (r.cwd == d.directory) _ (ap (λ (z : ℕ). r.cwd == z) q ∙ eq_self r.cwd)
+    at (Some k) q = or_right (r.cwd == d.directory) _ (or_right (hold_names r.hold d.directory) _ (or_right (key_names (key_in r.keys d.opening) d.directory) _ (ap (λ (z : ℕ). k == z) q ∙ eq_self k)))
+
+-- it stays where the desk's other things change
+pub stands_on : (d e : Desk) (cwd : ℕ) (nodes : ℕ → Option Node) → e.directory ≡ d.directory → e.left ≡ d.left → Stands d cwd nodes → Stands e cwd nodes
+stands_on d e cwd nodes same left s = record { at = same ∙ s.at ∙ (λ z. left_or (sym left z) cwd); sort = ap (λ (n : ℕ). sort_of (nodes n)) same ∙ s.sort }
+
+-- and where its type does
+pub stands_in : (d : Desk) (cwd : ℕ) (nodes ns : ℕ → Option Node) → sort_of (ns d.directory) ≡ sort_of (nodes d.directory) → Stands d cwd nodes → Stands d cwd ns
+stands_in d cwd nodes ns same s = record { at = s.at; sort = same ∙ s.sort }
 
 pub did_others : (h : ℕ) (v u : World) → Did h v u → (g : ℕ) → g ≢ h → own_of g u ≡ own_of g v
 did_others h v u did g ne = λ i. record { inodes = λ j. inode j (did.inodes j) i; mine = did.mine g ne i; row = did.rows g ne i; ninodes = did.size i; desk = did.shop.desks g ne i }
@@ -205,8 +225,14 @@ did_inv h v u inv did =
         ])
       ];
       directory = λ g lt. elim (same_or g h) [
-        | inl e ↦ subst (λ (z : ℕ). (u.desks z).directory ≡ left_or (u.desks z).left (u.all.cwd z)) (sym e) did.directory
-        | inr ne ↦ ap (λ (d : Desk). d.directory) (did.shop.desks g ne) ∙ inv.directory g lt ∙ (λ z. left_or (sym (did.shop.desks g ne) z).left (sym (did.rows g ne) z).cwd)
+        | inl e ↦ subst (λ (z : ℕ). Stands (u.desks z) (u.all.cwd z) u.all.nodes) (sym e) did.directory
+        | inr ne ↦ subst (λ (d : Desk). Stands d (u.all.cwd g) u.all.nodes) (sym (did.shop.desks g ne)) (let s = inv.directory g lt in record {
+          at = s.at ∙ (λ z. left_or (v.desks g).left (sym (did.rows g ne) z).cwd);
+          sort = elim (did.sort (v.desks g).directory) [
+            | inl e ↦ e ∙ s.sort
+            | inr a ↦ absurd (lone_not h g (v.desks g).directory v inv lt ne a.0 a.1 (inv.named g (v.desks g).directory lt (directory_named (row_of v.all g) (v.desks g) s.at)))
+          ];
+        })
       ];
       lent = λ g lt has. elim (same_or g h) [
         | inl e ↦ absurd (has (ap (λ (z : ℕ). (u.desks z).lender) e ∙ did.free))

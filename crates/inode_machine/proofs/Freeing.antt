@@ -22,7 +22,7 @@ use Rattle.tree_laws.proofs.Sums.{sum_part, one_yes}
 use Rattle.tree_laws.specs.WellFormed.{one_if}
 use Rattle.tree_laws.proofs.Maps.{eq_self}
 use Rattle.inode_machine.specs.Rules.{Own}
-use Rattle.inode_machine.proofs.Frame.{shop_same, put_elim, ours_none, ours_some, kept_here, Did, fair, fair_then, own_inodes, has_inode, found_more, one_refs, two_refs}
+use Rattle.inode_machine.proofs.Frame.{shop_same, put_elim, ours_none, ours_some, kept_here, Did, fair, fair_then, own_inodes, has_inode, found_more, one_refs, two_refs, stands_in, directory_named}
 use Rattle.inode_machine.proofs.Rules.{s-owned, quiet, each_refs, here_refs, walks_refs, total_same, total_changed, my_refs, is_me, has_disk, has_node, locks_it}
 use Rattle.inode_machine.proofs.Counting.{Writes, writes}
 use Rattle.inode_machine.proofs.Rows.{hart_not}
@@ -194,6 +194,9 @@ s-free {A} {h} {i} {x} {k} {B} {Q} {n} {es} {w} {O} owns free lt pos joined isi 
         out : is_named v.all i ≡ false
         out = unnamed h i v inv lt lone_at kept (ap (λ (o : Own). own_names o.row o.desk i) ov ∙ mine)
 
+        not_directory : (v.desks h).directory ≢ i
+        not_directory q = let a = directory_named (row_of v.all h) (v.desks h) (inv.directory h lt).at in let b : own_names (row_of v.all h) (v.desks h) (v.desks h).directory ≡ own_names O.row O.desk i = ap (λ (o : Own). own_names o.row o.desk (v.desks h).directory) ov ∙ ap (own_names O.row O.desk) q in cc (a, b, mine)
+
         tree : settle (record (v.all) { nodes = put v.all.nodes i None }) ≡ settle v.all
         tree = settle_nodes v.all (put v.all.nodes i None) v.all.nodes (λ j. elim (same_or j i) [
           | inl q ↦ inr (ap (put v.all.nodes i None) q ∙ put_same v.all.nodes i None, subst (λ (z : ℕ). is_live (v.all.nodes z) ≡ false) (sym q) dead, subst (λ (z : ℕ). is_named v.all z ≡ false) (sym q) out)
@@ -229,7 +232,7 @@ s-free {A} {h} {i} {x} {k} {B} {Q} {n} {es} {w} {O} owns free lt pos joined isi 
                 | inl q ↦ absurd (let a : v.alone n.number ≡ true = ap v.alone q ∙ lone_at in cc (a, s))
                 | inr ne ↦ ap (λ (z : Option Node). sort_of z) (put_other v.all.nodes i None n.number ne) ∙ inv.noted h n lt is r s
               ];
-              directory = inv.directory h lt;
+              directory = stands_in (v.desks h) (v.all.cwd h) v.all.nodes (put v.all.nodes i None) (ap (λ (z : Option Node). sort_of z) (put_other v.all.nodes i None (v.desks h).directory not_directory)) (inv.directory h lt);
               well = well_gone v.all i inv.well dead out;
               counts = inv.counts;
               alone = λ j is. let a = inv.alone j is in record { hart = a.hart; kept = a.kept; dead = put_elim v.all.nodes i None j (λ z. is_live z ≡ false) (λ q. refl) (λ q. a.dead); counts = a.counts };

@@ -14,6 +14,7 @@ use Rattle.inode_machine.specs.Exec.{file_count, is_at}
 use Rattle.inode_machine.specs.Theory.{at_rest, open_at_rest, HasOneOpen}
 use Rattle.inode_machine.specs.Rules.{number_is, users, id_at, key_in, left_or, own_names, Inv, Idle}
 use Rattle.inode_machine.proofs.Frame.{put_elim}
+use Rattle.inode_machine.proofs.Rest.{directory_sort}
 use Rattle.inode_machine.proofs.Tables.{users_put}
 
 module _ (t : Tree) (f : OpenFile) (v : Node) (well : IsWellFormed t) (has : HasOneOpen t f v) where
@@ -133,7 +134,7 @@ module _ (t : Tree) (f : OpenFile) (v : Node) (well : IsWellFormed t) (has : Has
     pending = λ g i lt e. absurd cc;
     walks = λ g k lt e. absurd cc;
     noted = λ g n lt e. absurd (let a = noted g in cc (a, e));
-    directory = λ g lt. directory g ∙ (λ z. left_or (sym (left g) z) (t.cwd g));
+    directory = λ g lt. record { at = directory g ∙ (λ z. left_or (sym (left g) z) (t.cwd g)); sort = ap (λ (z : ℕ). sort_of (t.nodes z)) (directory g) ∙ directory_sort t g well lt };
     lent = λ g lt there. absurd (there (lender g));
   }
     where

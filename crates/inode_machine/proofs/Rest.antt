@@ -1,14 +1,27 @@
 -- A world at rest meets the invariant, also one with orphans.
-use Rattle.std.proofs.Common.{◌≡◌, inl, inr, ℕ, ◌<◌, true, false, ◌==◌, ◌||◌, None, refl, sym, arith}
+use Rattle.std.proofs.Common.{◌≡◌, inl, inr, ℕ, ◌<◌, true, false, ◌==◌, ◌||◌, Option, Some, None, refl, sym, ◌∙◌, ap, arith}
 use Rattle.plain_tree.specs.Widths.{hart_count}
-use Rattle.plain_tree.specs.Tree.{Tree, hold_names}
+use Rattle.plain_tree.specs.declared.node.Node.{Node}
+use Rattle.plain_tree.specs.declared.node.Kind.{Kind}
+use Rattle.plain_tree.specs.declared.node.Kind.TheVariants.{Directory, File, Device}
+use Rattle.plain_tree.specs.Tree.{Tree, is_directory, hold_names}
 use Rattle.plain_tree.specs.HartRow.{row_of}
 use Rattle.tree_laws.specs.WellFormed.{one_if, IsWellFormed}
 use Rattle.tree_laws.proofs.Maps.{either}
 use Rattle.tree_laws.proofs.Sums.{sum_none, one_yes}
+use Rattle.inode_machine.specs.Inodes.{OfDirectory, sort_of, sort_of_kind}
 use Rattle.inode_machine.specs.Exec.{file_count}
 use Rattle.inode_machine.specs.Theory.{at_rest}
 use Rattle.inode_machine.specs.Rules.{number_is, own_names, Inv, Idle}
+
+-- a current directory is one
+pub directory_sort : (t : Tree) (g : ℕ) → IsWellFormed t → g < hart_count → sort_of (t.nodes (t.cwd g)) ≡ Some OfDirectory
+directory_sort t g well lt = let d = well.directories g lt in ap (λ (z : Option Node). sort_of z) d.is ∙ directory_of d.node.kind d.sort
+  where
+    directory_of : (k : Kind) → is_directory k ≡ true → Some (sort_of_kind k) ≡ Some OfDirectory
+    directory_of (Directory slots) e = refl
+    directory_of (File bytes) e = absurd cc
+    directory_of (Device major minor size) e = absurd cc
 
 pub rests : (t : Tree) → IsWellFormed t → ((id : ℕ) → t.files id ≡ None) → ((h : ℕ) → t.holds h ≡ None) → ((h i : ℕ) → t.fds h i ≡ None) → Inv (at_rest t)
 rests t well files holds fds =
@@ -41,7 +54,7 @@ rests t well files holds fds =
       pending = λ g i lt e. absurd cc;
       walks = λ g k lt e. absurd cc;
       noted = λ g n lt e. absurd cc;
-      directory = λ g lt. refl;
+      directory = λ g lt. record { at = refl; sort = directory_sort t g well lt };
       lent = λ g lt has. absurd (has refl);
     }
   where

@@ -15,8 +15,8 @@ use Rattle.tree_laws.proofs.Maps.{any_none, none_any, or_none}
 use Rattle.tree_moves.specs.Moves.{Takes}
 use Rattle.tree_moves.specs.Moves.Move.{Own as OwnMove}
 use Rattle.inode_machine.specs.World.{Mine, Entry, Desk, World, stage_of, Note}
-use Rattle.inode_machine.specs.Rules.{shop_of, Opens, own_names, Pinned, IsAlone, Inv, key_in, left_or}
-use Rattle.inode_machine.proofs.Frame.{Kin, Did}
+use Rattle.inode_machine.specs.Rules.{shop_of, Opens, own_names, Pinned, IsAlone, Inv, key_in, Stands}
+use Rattle.inode_machine.proofs.Frame.{Kin, Did, stands_in}
 use Rattle.inode_machine.specs.Marks.{new_id}
 use Rattle.inode_machine.specs.Inodes.{sort_of}
 use Rattle.inode_machine.specs.Exec.{is_at}
@@ -28,7 +28,7 @@ pub record Sells (h : ℕ) (v : World) (F : ℕ → Option Entry) (D : ℕ → D
   pub joined : (D h).joined ≡ (v.desks h).joined
   pub sorts : (k : ℕ) (e : Entry) → F k ≡ Some e → sort_of (v.all.nodes e.file.number) ≡ Some e.sort
   pub noted : (m : Note) → (D h).noted ≡ Some m → ((v.desks h).noted ≡ Some m) × (0 < (H h).refs m.number → 0 < (v.harts h).refs m.number)
-  pub directory : (D h).directory ≡ left_or (D h).left (T.cwd h)
+  pub directory : Stands (D h) (T.cwd h) v.all.nodes
   pub well : IsWellFormed T
   pub nodes : T.nodes ≡ v.all.nodes
   pub size : T.ninodes ≡ v.all.ninodes
@@ -59,7 +59,7 @@ sells_did h v F D S T H lt inv s =
       sort = λ j. inl (ap (λ (f : ℕ → Option Node). sort_of (f j)) s.nodes);
       sorts = λ k e is. ap (λ (f : ℕ → Option Node). sort_of (f e.file.number)) s.nodes ∙ s.sorts k e is;
       noted = λ m is r t. let a = s.noted m is in ap (λ (f : ℕ → Option Node). sort_of (f m.number)) s.nodes ∙ inv.noted h m lt a.0 (elim r [ inl p ↦ inl (a.1 p) | inr p ↦ absurd (let e = s.found in cc (e, p)) ]) t;
-      directory = s.directory;
+      directory = stands_in (D h) (T.cwd h) v.all.nodes T.nodes (ap (λ (f : ℕ → Option Node). sort_of (f (D h).directory)) s.nodes) s.directory;
       well = s.well;
       counts = s.counts;
       alone = λ j is. let a = inv.alone j is in record { hart = a.hart; kept = a.kept; dead = ap (λ (f : ℕ → Option Node). is_live (f j)) s.nodes ∙ a.dead; counts = s.lone j a };

@@ -28,7 +28,7 @@ use Rattle.plain_tree.proofs.Settling.{with_open, file_settled, settle_again}
 use Rattle.inode_machine.specs.Rules.{Own, own_names, Held, view, is_hart, own_of, shop_of, Inv, machine, IsOut, HonestPiece}
 use Rattle.inode_machine.specs.Parts.{own_step}
 use Rattle.inode_machine.specs.Descriptors.{refused_to, writes}
-use Rattle.inode_machine.proofs.Frame.{put_elim, is_put, shop_same, ours_some, kept_here, Did, Fair, fair, fair_then, own_inodes, has_inode}
+use Rattle.inode_machine.proofs.Frame.{put_elim, is_put, shop_same, ours_some, kept_here, Did, Fair, fair, fair_then, own_inodes, has_inode, stands_in}
 use Rattle.inode_machine.proofs.Rules.{s-owned, quiet, fine_after, others, Locking, locking, locked_held, is_out, locks_none, UnlocksAll}
 use Rattle.inode_machine.proofs.Rows.{below_is}
 use Rattle.inode_machine.proofs.Walking.{refs_walk, stage_walk, moves_good, own_walk, walk_did}
@@ -194,7 +194,7 @@ changing h i y x v O ov free lt inv none isi sort live well = record { fair = fa
           sort = λ j. inl (sorts j);
           sorts = λ k e is. sorts e.file.number ∙ inv.sorts k e is;
           noted = λ n is r s. sorts n.number ∙ inv.noted h n lt is r s;
-          directory = inv.directory h lt;
+          directory = stands_in (v.desks h) (v.all.cwd h) v.all.nodes (put v.all.nodes i (Some y)) (sorts (v.desks h).directory) (inv.directory h lt);
           well = well;
           counts = inv.counts;
           alone = λ j is. let a = inv.alone j is in record { hart = a.hart; kept = a.kept; dead = lives j ∙ a.dead; counts = a.counts };

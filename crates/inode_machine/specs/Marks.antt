@@ -91,8 +91,9 @@ acts b h s res par new id = record {
   told = Some (record { act = record { step = s; answer = act_answer (refusal_with b h s res par) b h s res par id }; new = new });
 }
 
+-- what a path's start is, is counted already, so nothing is left to be
 abbrev pub begun : Tree → ℕ → Action → List Name → ℕ → ℕ → Made
-begun b h s [] new id = acts b h s (Some (start_of b h (path_of s))) None new id
+begun b h s [] new id = record (acts b h s (Some (start_of b h (path_of s))) None new id) { found = None }
 begun b h s (e ∷ es) new id = record { all = b; walk = Some (record { step = s; at = start_of b h (path_of s); next = e; rest = es }); found = None; opened = None; entered = None; left = None; told = None }
 
 abbrev pub looked : Tree → ℕ → Walk → List Name → Option ℕ → ℕ → ℕ → Made

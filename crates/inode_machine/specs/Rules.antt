@@ -10,7 +10,7 @@ use Rattle.tree_laws.specs.WellFormed.{sum_below, one_if, IsWellFormed}
 use Rattle.tree_moves.specs.Moves.{Walk}
 use Rattle.atomic_programs.specs.Logic.{Machine}
 use Rattle.tree_moves.specs.Moves.{Stage, Step, Takes}
-use Rattle.inode_machine.specs.Inodes.{sort_of, Looking}
+use Rattle.inode_machine.specs.Inodes.{OfDirectory, sort_of, Looking}
 use Rattle.inode_machine.specs.Inodes.Looking.{AtNothing, AtName, AtEntries}
 use Rattle.inode_machine.specs.World.{Mine, Entry, Note, Desk, World, Op, Answer, Mark, Outside, stage_of}
 use Rattle.inode_machine.specs.World.Op.{Take, Give, UpStart, Up, WalkDown, Down, Free, Claim, Store, Fill, Enter, Clear, Empty, Slot, Install, StatFile, ReadFile, CheckFile, JoinFile, WriteFile, Double, Shut, Settle, Lend, LendDirectory, Release, Join, Leave, Say}
@@ -171,10 +171,14 @@ pub record IsAlone (keeper : ℕ → Option ℕ) (nodes : ℕ → Option Node) (
   pub dead : is_live (nodes i) ≡ false
   pub counts : refs i ≡ (harts hart).refs i
 
--- the directory that the hart refers to is the tree's, or the one that it leaves
 abbrev pub left_or : Option ℕ → ℕ → ℕ
 left_or None d = d
 left_or (Some k) d = k
+
+-- The directory that the hart refers to is the tree's, or the one that it leaves; and is one.
+pub record Stands (d : Desk) (cwd : ℕ) (nodes : ℕ → Option Node) : Type 0 where
+  pub at : d.directory ≡ left_or d.left cwd
+  pub sort : sort_of (nodes d.directory) ≡ Some OfDirectory
 
 pub record Inv (w : World) : Type 0 where
   -- the tree before it settles is well formed
@@ -202,7 +206,7 @@ pub record Inv (w : World) : Type 0 where
   pub walks : (g : ℕ) (k : Walk) → g < hart_count → (w.harts g).walk ≡ Some k → Reached w g k.at
   -- while it refers to what it found, and doesn't free it, that has the type that it had
   pub noted : (g : ℕ) (n : Note) → g < hart_count → (w.desks g).noted ≡ Some n → Reached w g n.number → w.alone n.number ≡ false → sort_of (w.all.nodes n.number) ≡ n.sort
-  pub directory : (g : ℕ) → g < hart_count → (w.desks g).directory ≡ left_or (w.desks g).left (w.all.cwd g)
+  pub directory : (g : ℕ) → g < hart_count → Stands (w.desks g) (w.all.cwd g) w.all.nodes
   -- a hart that gets another's descriptors rests
   pub lent : (g : ℕ) → g < hart_count → (w.desks g).lender ≢ None → Idle g w
 
