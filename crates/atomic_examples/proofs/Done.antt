@@ -21,8 +21,8 @@ use Rattle.atomic_examples.proofs.OfWhole.{calls_lawful, calls_refined, calls_wi
 rest_shows : Shows rest.real rest.seen
 rest_shows = record { locks = λ i. refl; dinos = λ i. refl; txns = λ h. refl; loaded = λ i d e q. absurd cc; parts = λ i e. refl }
 
-rest_base : (h : ℕ) → Base h rest.real rest.seen
-rest_base h = record { free = λ b e. cc; tied = λ i e. absurd cc }
+rest_base : (h : ℕ) → Base h rest.real rest.seen blocks.none
+rest_base h = record { free = λ b e. cc; tied = λ i e. absurd cc; in_hand = λ i e. absurd cc }
 
 rest_idle : (h : ℕ) → Nothing h false rest.seen
 rest_idle h = record { none = λ i e. cc; txn = refl }

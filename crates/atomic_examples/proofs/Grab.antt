@@ -12,7 +12,7 @@ use Rattle.atomic_programs.proofs.Lowered.{operations_below, refined}
 use Rattle.atomic_programs.specs.Joined.{Lasts, Both, joined, LowerLaws, Below, Atomic}
 use Rattle.atomic_examples.specs.Whole.{put, if_held}
 use Rattle.atomic_examples.specs.Grab.{Above, Op, Hold, Grab, Drop, Answer, Picks, hold_if, grabbed, exec_above, Kept, machine, grabs, core, World, Lock, Unlock, GetBits, PutBits, Zero, lock_if, bits_if, lock_of, holder, IsOut, Shows, Same, TiedAt, Base, low, first, grab_at, handler, grabs_above, rest}
-use Rattle.atomic_programs.proofs.Joined.{Here, Silent, s-silent, ToAct, to_act, acted, Acting, s-act}
+use Rattle.atomic_programs.proofs.Joined.{Wp-holding, Here, Silent, s-silent, ToAct, to_act, acted, Acting, s-act}
 use Rattle.atomic_examples.proofs.Maps.{put_same, put_other, put_elim, same_or, Ours, ours_none, ours_some, not_held, held_is, held_here, none_is}
 use Rattle.atomic_examples.proofs.Steps.{not_mine, ours_is, ours_put, put_like}
 
@@ -52,7 +52,8 @@ low_laws =
       same = λ h w. record { locks = λ i. refl; bits = refl; blocks = λ c. refl };
       trans = λ h u v w p q. record { locks = λ i. q.locks i ∙ p.locks i; bits = q.bits ∙ p.bits; blocks = λ c. q.blocks c ∙ p.blocks c };
       kept = λ h g u xs o. o.2;
-      base = λ h v w g u s k b. record { free = free_stays h v w s b.free; tied = λ c e. let q = held_before h c v w s e in tied_at h c v w g u s k (b.tied c q) q };
+      base = λ h v w g u hand s k b. record { free = free_stays h v w s b.free; tied = λ c e. let q = held_before h c v w s e in tied_at h c v w g u s k (b.tied c q) q };
+      idle = λ h w g hand inv i b. b;
     }
 
 -- a step of hart h that leaves all locks
@@ -103,7 +104,7 @@ above = operations_laws machine core laws
 abbrev below : LowerLaws U low
 below = operations_below machine core low low_laws
 
-module _ (h i : ℕ) (m : Option ℕ → Option (Unit {0})) (B : List U.Step → Type 0) (C : Option ℕ → List U.Step → Above → Type 0) (lasts : Lasts U h B C) where
+module _ (h i : ℕ) (m : Option ℕ → Option (Unit {0})) (hand : Unit {0}) (B : List U.Step → Type 0) (C : Option ℕ → List U.Step → Above → Type 0) (lasts : Lasts U h B C) where
   abbrev D : Machine
   D = joined U low
 
@@ -116,6 +117,9 @@ module _ (h i : ℕ) (m : Option ℕ → Option (Unit {0})) (B : List U.Step →
   abbrev Todo : E → Above → Type 0
   Todo = ToAct U low above below h B (Grab i) m C lasts
 
+  abbrev Done : Option ℕ → E → W → Type 0
+  Done a = Below U low h C (record { answer = a; carry = hand })
+
   -- between the act and the put of the block: c is the inode's, zero above, and below whatever it was
   record Zeroing (c : ℕ) (r : World) (g : Above) : Type 0 where
     pub free : r.bits_out ≢ Some h
@@ -126,9 +130,9 @@ module _ (h i : ℕ) (m : Option ℕ → Option (Unit {0})) (B : List U.Step →
     pub lock : g.lock i ≡ Some h
     pub zeroed : g.bytes c ≡ 0
 
-  zero_ok : (c : ℕ) (es : E) (w : W) → Zeroing c w.real w.seen → C (Some c) es w.seen → Wp D h B (Below U low h C) (Do (Zero c) unmarked (λ _. Ret (Some c))) 1 es w
+  zero_ok : (c : ℕ) (es : E) (w : W) → Zeroing c w.real w.seen → C (Some c) es w.seen → Wp D h B Done (Do (Zero c) unmarked (λ _. Ret (Some c))) 1 es w
   zero_ok c es w p done =
-      s-silent U low above below h B (Zero c) (λ _. Ret (Some c)) (Below U low h C) (C (Some c)) 0 es w (acted U low above below h B (Grab i) m C lasts (Some c)) done
+      s-silent U low above below h B (Zero c) (λ _. Ret (Some c)) Done (C (Some c)) 0 es w (acted U low above below h B (Grab i) m C lasts (Some c)) done
       (λ v fs here.
       let x : Option ℕ × ℕ = (w.real.owner c, w.real.block c) in
       let y : Option ℕ × ℕ = (v.real.owner c, v.real.block c) in
@@ -187,9 +191,9 @@ module _ (h i : ℕ) (m : Option ℕ → Option (Unit {0})) (B : List U.Step →
       let q = still h v.real.bits_out w.real.bits_out v.real.bits w.real.bits s.bits p.mine in
       record { mine = q.0; bits = q.1 ∙ p.bits; tied = λ d e. let b = held_before h d v.real w.real s e in tied_at h d v.real w.real v.seen w.seen s k (p.tied d b) b }
 
-  pick_ok : (z : ℕ → Bool) (es : E) (w : W) (x : Option ℕ) → first z 0 8 ≡ x → Got z w.real w.seen → Todo es w.seen → Wp D h B (Below U low h C) (grab_at i m x) 2 es w
+  pick_ok : (z : ℕ → Bool) (es : E) (w : W) (x : Option ℕ) → first z 0 8 ≡ x → Got z w.real w.seen → Todo es w.seen → Wp D h B Done (grab_at i m x) 2 es w
   pick_ok z es w None e p todo =
-      s-act U low above below h B (Grab i) m C lasts None (PutBits None) (λ _. Ret None) (Below U low h C) 1 es w todo
+      s-act U low above below h B (Grab i) m C lasts None (PutBits None) (λ _. Ret None) Done 1 es w todo
       (λ v fs here may.
       let q = got_stays z w v here.same here.kept p in (
         q.mine,
@@ -205,7 +209,7 @@ module _ (h i : ℕ) (m : Option ℕ → Option (Unit {0})) (B : List U.Step →
         ),
       ))
   pick_ok z es w (Some c) e p todo =
-      s-act U low above below h B (Grab i) m C lasts (Some c) (PutBits (Some (c, i))) (λ _. Do (Zero c) unmarked (λ _. Ret (Some c))) (Below U low h C) 1 es w todo
+      s-act U low above below h B (Grab i) m C lasts (Some c) (PutBits (Some (c, i))) (λ _. Do (Zero c) unmarked (λ _. Ret (Some c))) Done 1 es w todo
       (λ v fs here may.
       let q = got_stays z w v here.same here.kept p in
       let none : v.real.owner c ≡ None = here.shows.free c (ap (λ (f : ℕ → Bool). f c) q.bits ∙ first_is z 0 8 c e) in
@@ -265,24 +269,25 @@ module _ (h i : ℕ) (m : Option ℕ → Option (Unit {0})) (B : List U.Step →
         ),
       ))
 
-  grab_ok : (es : E) (w : W) → Base h w.real w.seen → Todo es w.seen → Wp D h B (Below U low h C) (handler (Grab i) m) 3 es w
+  grab_ok : (es : E) (w : W) → Base h w.real w.seen → Todo es w.seen → Wp D h B Done (Do GetBits unmarked (λ z. grab_at i m (first z 0 8))) 3 es w
   grab_ok es w base todo =
-      s-silent U low above below h B GetBits (λ z. grab_at i m (first z 0 8)) (Below U low h C) Todo 2 es w (to_act U low above below h B (Grab i) m C lasts) todo
+      s-silent U low above below h B GetBits (λ z. grab_at i m (first z 0 8)) Done Todo 2 es w (to_act U low above below h B (Grab i) m C lasts) todo
       (λ v fs here. (free_stays h w.real v.real here.same base.free, λ t u. got v fs here (v.real.bits_out) refl))
     where
       got : (v : W) (fs : E) → Here U low above below h B Todo w v fs → (o : Option ℕ) → v.real.bits_out ≡ o
-          → Silent U low above below h B v (IsOut h v.real.bits_out) (bits_if h v.real o) (λ z r. Wp D h B (Below U low h C) (grab_at i m (first z 0 8)) 2 fs (record { real = r; seen = v.seen }))
+          → Silent U low above below h B v (IsOut h v.real.bits_out) (bits_if h v.real o) (λ z r. Wp D h B Done (grab_at i m (first z 0 8)) 2 fs (record { real = r; seen = v.seen }))
       got v fs here (Some g) e = (g, (λ q. free_stays h w.real v.real here.same base.free (e ∙ ap (λ (z : ℕ). Some z) q)), e)
       got v fs here None e = (
         record { locks = here.shows.locks; owners = here.shows.owners; free = here.shows.free; used = here.shows.used; datas = here.shows.datas },
         did_same h v.real _ (record { locks = refl; bits = inr (ours_is h v.real.bits_out (inl e), ours_some h); blocks = λ c. inl (refl, refl) }),
         pick_ok v.real.bits fs (record { real = record (v.real) { bits_out = Some h }; seen = v.seen }) (first v.real.bits 0 8) refl
-            (record { mine = refl; bits = refl; tied = (low_laws.base h w.real v.real w.seen v.seen here.same here.kept base).tied })
+            (record { mine = refl; bits = refl; tied = (low_laws.base h w.real v.real w.seen v.seen hand here.same here.kept base).tied })
             here.stage,
       )
 
 pub grab_atomic : (h i : ℕ) (m : Option ℕ → Option (Unit {0})) → Atomic U low handler h (Grab i) m
-grab_atomic h i m B C es w lasts todo base = grab_ok h i m B C lasts es w base todo
+grab_atomic h i m hand B C es w lasts todo base =
+    Wp-holding (joined U low) h hand (Do GetBits unmarked (λ z. grab_at i m (first z 0 8))) B (Below U low h C) 3 es w (grab_ok h i m hand B C lasts es w base todo)
 
 -- A lock comes into the hart's hand, or goes from it.
 did_lock : (h i : ℕ) (y : Option ℕ) (v : World) → Ours h (v.lock i) → Ours h y → (g : ℕ) → g ≢ h → Same g v (record v { lock = put v.lock i y })
@@ -308,12 +313,12 @@ lock_of_put lock i y (Some k) h e = elim (same_or k i) [
 
 module _ (h i : ℕ) (m : Unit {0} → Option (Unit {0})) where
   hold_atomic : Atomic U low handler h (Hold i) m
-  hold_atomic B C es w lasts todo base =
-      s-act U low above below h B (Hold i) m C lasts None (Lock i) (λ a. Ret a) (Below U low h C) 0 es w todo
-      (λ v fs here may. ((λ e. may (here.shows.locks i ∙ e)), λ x t. at v here.shows (low_laws.base h w.real v.real w.seen v.seen here.same here.kept base) may (v.real.lock i) refl))
+  hold_atomic hand B C es w lasts todo base =
+      s-act U low above below h B (Hold i) m C lasts None (Lock i) (λ a. Ret (record { answer = a; carry = hand })) (Below U low h C) 0 es w todo
+      (λ v fs here may. ((λ e. may (here.shows.locks i ∙ e)), λ x t. at v here.shows (low_laws.base h w.real v.real w.seen v.seen hand here.same here.kept base) may (v.real.lock i) refl))
     where
       at : (v : Both World Above) → Shows v.real v.seen → Base h v.real v.seen → v.seen.lock i ≢ Some h → (o : Option ℕ) → v.real.lock i ≡ o
-          → Acting U low above below h B (Hold i) m C lasts None v (IsOut h (v.real.lock i)) (lock_if h i v.real o) (λ a b u g. (gs : List U.Step) → Unit {0} → C b gs g → Below U low h C a gs (record { real = u; seen = g }))
+          → Acting U low above below h B (Hold i) m C lasts None v (IsOut h (v.real.lock i)) (lock_if h i v.real o) (λ a b u g. (gs : List U.Step) → Unit {0} → C b gs g → Below U low h C (record { answer = a; carry = hand }) gs (record { real = u; seen = g }))
       at v shows base may (Some g) e = (g, (λ q. may (shows.locks i ∙ e ∙ ap (λ (z : ℕ). Some z) q)), e)
       at v shows base may None e = (
         tt,
@@ -347,11 +352,11 @@ module _ (h i : ℕ) (m : Unit {0} → Option (Unit {0})) where
           held_put v k e = put_elim v.seen.lock i (Some h) k (λ z. z ≡ Some h) (λ q. refl) (λ ne. e)
 
   drop_atomic : Atomic U low handler h (Drop i) m
-  drop_atomic B C es w lasts todo base =
-      s-act U low above below h B (Drop i) m C lasts None (Unlock i) (λ a. Ret a) (Below U low h C) 0 es w todo
+  drop_atomic hand B C es w lasts todo base =
+      s-act U low above below h B (Drop i) m C lasts None (Unlock i) (λ a. Ret (record { answer = a; carry = hand })) (Below U low h C) 0 es w todo
       (λ v fs here may.
       let lock : v.real.lock i ≡ Some h = sym (here.shows.locks i) ∙ may in
-      let based = low_laws.base h w.real v.real w.seen v.seen here.same here.kept base in (
+      let based = low_laws.base h w.real v.real w.seen v.seen hand here.same here.kept base in (
         lock,
         λ x t. (
           tt,

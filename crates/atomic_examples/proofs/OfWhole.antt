@@ -21,7 +21,7 @@ use Rattle.atomic_examples.proofs.Handlers.{atomic}
 some : (op : above.Op) → above.Answer op
 some (above.Take i) = record { kind = 0; size = 0 }
 some (above.Store i d) = tt
-some (above.Give i d) = tt
+some (above.Give i) = tt
 some above.Enter = tt
 some above.Exit = tt
 some (above.Look i k) = 0
@@ -39,15 +39,15 @@ some_below (low.PutPart i k z) = tt
 some_below (low.GetPart i k) = 0
 
 -- each operation's program has a step
-steps : (M : Type 0) (op : above.Op) (m : above.Answer op → Option M) → is_some (asks (handler M op m)) ≡ true
-steps M (above.Take i) m = refl
-steps M (above.Store i d) m = refl
-steps M (above.Give i d) m = refl
-steps M above.Enter m = refl
-steps M above.Exit m = refl
-steps M (above.Look i k) m = refl
-steps M (above.Write i k z []) m = refl
-steps M (above.Write i k z (y ∷ ys)) m = refl
+steps : (M : Type 0) (hand : low.Carry) (op : above.Op) (m : above.Answer op → Option M) → is_some (asks (handler M hand op m)) ≡ true
+steps M hand (above.Take i) m = refl
+steps M hand (above.Store i d) m = refl
+steps M hand (above.Give i) m = refl
+steps M hand above.Enter m = refl
+steps M hand above.Exit m = refl
+steps M hand (above.Look i k) m = refl
+steps M hand (above.Write i k z []) m = refl
+steps M hand (above.Write i k z (y ∷ ys)) m = refl
 
 -- no operation above stops the world
 never : (h : ℕ) (op : above.Op) (v u : above.World) → above.exec h op v ≡ Stops u → ⊥
@@ -57,7 +57,7 @@ never h (above.Take i) v u e = at (v.lock i) e
     at None e = cc
     at (Some g) e = cc
 never h (above.Store i d) v u e = cc
-never h (above.Give i d) v u e = cc
+never h (above.Give i) v u e = cc
 never h above.Enter v u e = cc
 never h above.Exit v u e = cc
 never h (above.Look i k) v u e = cc
@@ -98,18 +98,18 @@ module _ (l : Labels) (c : Calls l) (lawful : Lawful (theory l c)) (keeps : Keep
   calls_lawful = lowered_lawful (theory l c) blocks (handler l.Mark) (begins_at_once l c) lawful (blocks_laws l keeps) starts_both (λ h op m. atomic l lawful.laws keeps h op m)
 
   pub operations_atomic : (h : ℕ) (op : above.Op) (m : above.Answer op → Option l.Mark) → Atomic (operations (whole l) (core l)) blocks (handler l.Mark) h op m
-  operations_atomic h op m = atomic (operation_labels l) (operations_laws (whole l) (core l) lawful.laws) (λ h v w xs o. keeps h v w o.1.0 o.1.1) h op m
+  operations_atomic h op m = atomic (operation_labels l) (operations_laws (whole l) (core l) lawful.laws) (record { kept = λ h v w xs o. keeps.kept h v w o.1.0 o.1.1; idle = keeps.idle }) h op m
 
   -- each run on blocks is one of whole inodes, whatever the history is
-  pub calls_refined : (w : Both World above.World) → Shows w.real w.seen → l.Inv w.seen → ((h : ℕ) → Base h w.real w.seen) → ((h : ℕ) → l.Idle h w.seen) → (events : List (Event c.Call Outside))
+  pub calls_refined : (w : Both World above.World) → Shows w.real w.seen → l.Inv w.seen → ((h : ℕ) → Base h w.real w.seen blocks.none) → ((h : ℕ) → l.Idle h w.seen) → (events : List (Event c.Call Outside))
       → AllHonest (lowered_calls (operations_of (theory l c) (core l)) blocks (handler l.Mark) (begins_at_once l c)) events (fresh (lowered_calls (operations_of (theory l c) (core l)) blocks (handler l.Mark) (begins_at_once l c)) w)
       → Explained (lowered_calls (operations_of (theory l c) (core l)) blocks (handler l.Mark) (begins_at_once l c)) w.seen (run (lowered_calls (operations_of (theory l c) (core l)) blocks (handler l.Mark) (begins_at_once l c)) events (fresh (lowered_calls (operations_of (theory l c) (core l)) blocks (handler l.Mark) (begins_at_once l c)) w))
   calls_refined w shows inv base idle events honest =
       refined (theory l c) (core l) blocks (handler l.Mark) (begins_at_once l c) lawful (blocks_laws l keeps) is_core starts_both operations_atomic w events shows inv base idle honest
 
   -- and each operation above acts within its own program
-  pub calls_within : (w : Both World above.World) → Shows w.real w.seen → l.Inv w.seen → ((h : ℕ) → Base h w.real w.seen) → ((h : ℕ) → l.Idle h w.seen) → (events : List (Event c.Call Outside))
+  pub calls_within : (w : Both World above.World) → Shows w.real w.seen → l.Inv w.seen → ((h : ℕ) → Base h w.real w.seen blocks.none) → ((h : ℕ) → l.Idle h w.seen) → (events : List (Event c.Call Outside))
       → AllHonest (noted_calls (theory l c) (core l) blocks (handler l.Mark) (begins_at_once l c)) events (fresh (noted_calls (theory l c) (core l) blocks (handler l.Mark) (begins_at_once l c)) w)
       → Explained (noted_calls (theory l c) (core l) blocks (handler l.Mark) (begins_at_once l c)) w.seen (run (noted_calls (theory l c) (core l) blocks (handler l.Mark) (begins_at_once l c)) events (fresh (noted_calls (theory l c) (core l) blocks (handler l.Mark) (begins_at_once l c)) w))
   calls_within w shows inv base idle events honest =
-      refined_within (theory l c) (core l) blocks (handler l.Mark) (begins_at_once l c) lawful (blocks_laws l keeps) is_core starts_both operations_atomic some_below (λ op m. steps l.Mark op m) w events shows inv base idle honest
+      refined_within (theory l c) (core l) blocks (handler l.Mark) (begins_at_once l c) lawful (blocks_laws l keeps) is_core starts_both operations_atomic some_below (λ hand op m. steps l.Mark hand op m) w events shows inv base idle honest

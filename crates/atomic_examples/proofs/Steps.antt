@@ -4,7 +4,7 @@ use Rattle.std.proofs.lemmas.Bool.{ne_eqb}
 use Rattle.atomic_programs.specs.Joined.{LowerLaws}
 use Rattle.atomic_examples.specs.Whole as above
 use Rattle.atomic_examples.specs.Whole.{put, if_held, Dinode, Labels, Keeps, whole}
-use Rattle.atomic_examples.specs.Blocks.{Block, World, Shows, Same, Tied, at, blocks}
+use Rattle.atomic_examples.specs.Blocks.{Block, World, Shows, Same, Tied, Carry, InHand, at, blocks}
 use Rattle.atomic_examples.proofs.Maps.{put_same, put_other, same_or, put_elim, Ours, ours_none, ours_some, not_held, held_is, held_here, none_is}
 
 pub not_mine : {A : Type 0} (h : ℕ) (o : Option ℕ) (x : A) → o ≢ Some h → if_held o h x ≡ None
@@ -39,13 +39,18 @@ tied_stays h v w g u s kept tied i e =
     let k = kept.node i t.0 in
     (k.0, k.1 ∙ t.1 ∙ p.1)
 
+-- and what it has in hand is still the records of its inodes
+pub hand_stays : (h : ℕ) (v w : World) (hand : Carry) → ((i : ℕ) → if_held (w.lock i) h (at w.cell i) ≡ if_held (v.lock i) h (at v.cell i)) → InHand h v hand → InHand h w hand
+hand_stays h v w hand s has i e = let p = has_lock h i w v (sym (s i)) e in has i p.0 ∙ ap (λ (d : Dinode). Some d) p.1
+
 pub blocks_laws : (l : Labels) → Keeps l → LowerLaws (whole l) blocks
 blocks_laws l keeps =
     record {
       same = λ h w. record { inodes = λ i. refl; buffers = λ b. refl; txn = refl; parts = λ i. refl };
       trans = λ h u v w p q. record { inodes = λ i. q.inodes i ∙ p.inodes i; buffers = λ b. q.buffers b ∙ p.buffers b; txn = q.txn ∙ p.txn; parts = λ i. q.parts i ∙ p.parts i };
-      kept = keeps;
-      base = λ h v w g u s k b. record { free = λ c. has_none h c v w s (b.free c); tied = tied_stays h v w g u s.parts k b.tied };
+      kept = keeps.kept;
+      base = λ h v w g u hand s k b. record { free = λ c. has_none h c v w s (b.free c); tied = tied_stays h v w g u s.parts k b.tied; in_hand = hand_stays h v w hand s.inodes b.in_hand };
+      idle = λ h w g hand inv i b. record { free = b.free; tied = b.tied; in_hand = λ j e. absurd (keeps.idle h g i j (b.tied j e).0) };
     }
 
 -- a step of hart h

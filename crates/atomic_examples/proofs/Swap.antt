@@ -26,7 +26,7 @@ has_not h i v w m ne =
     none_is h (w.lock i) y (m.inodes i ∙ not_mine h (v.lock i) x ne)
 
 pub keeps : Keeps labels
-keeps h v w xs o = record { node = λ i e. let q = has h i v w o.1 e in (q.0, q.2) }
+keeps = record { kept = λ h v w xs o. record { node = λ i e. let q = has h i v w o.1 e in (q.0, q.2) }; idle = λ h w i. i.none }
 
 abbrev M : Machine
 M = whole labels
@@ -93,14 +93,14 @@ module _ (h : ℕ) (c : Swap) where
       s-op (omega arith) (λ v xs y. y.0) (λ v y i. y.1.txn ∙ p.txn)
       (λ v x y i t. quiet 0 (omega arith) (mine_txn h false v) refl ((λ z. refl), record { none = (nothing_stays h true w v y.1 p).none; txn = put_same v.txn h false }))
 
-  give_ok : (o : Dinode) (w : World) → Held h c.inode c.to w → Safe M h (Begun T c) (Ends T h c) (Do (Give c.inode c.to) unmarked (λ _. Do Exit unmarked (λ _. Ret o))) 2 (Swapped c.inode c.to o ∷ []) w
+  give_ok : (o : Dinode) (w : World) → Held h c.inode c.to w → Safe M h (Begun T c) (Ends T h c) (Do (Give c.inode) unmarked (λ _. Do Exit unmarked (λ _. Ret o))) 2 (Swapped c.inode c.to o ∷ []) w
   give_ok o w p =
-      s-op (omega arith) (λ v xs y. y.0) (λ v y i. let q = held_stays h c.inode c.to w v y.1 p in (q.lock, q.dino))
+      s-op (omega arith) (λ v xs y. y.0) (λ v y i. (held_stays h c.inode c.to w v y.1 p).lock)
       (λ v x y i t. let q = held_stays h c.inode c.to w v y.1 p in
       quiet 1 (omega arith) (mine_lock h c.inode None v (ours_is h (v.lock c.inode) (inr q.lock)) (ours_none h)) refl
       (exit_ok o _ (record { none = λ j. put_elim v.lock c.inode None j (λ z. z ≢ Some h) (λ e n. cc) (λ ne. q.only j ne); txn = q.txn })).wp)
 
-  store_ok : (o : Dinode) (w : World) → Held h c.inode o w → Safe M h (Begun T c) (Ends T h c) (Do (Store c.inode c.to) (λ _. Some (Swapped c.inode c.to o)) (λ _. Do (Give c.inode c.to) unmarked (λ _. Do Exit unmarked (λ _. Ret o)))) 5 [] w
+  store_ok : (o : Dinode) (w : World) → Held h c.inode o w → Safe M h (Begun T c) (Ends T h c) (Do (Store c.inode c.to) (λ _. Some (Swapped c.inode c.to o)) (λ _. Do (Give c.inode) unmarked (λ _. Do Exit unmarked (λ _. Ret o)))) 5 [] w
   store_ok o w p =
       s-op (omega arith) (λ v xs y. y.0) (λ v y i. let q = held_stays h c.inode o w v y.1 p in (q.lock, q.txn))
       (λ v x y i t. let q = held_stays h c.inode o w v y.1 p in record {
@@ -111,19 +111,19 @@ module _ (h : ℕ) (c : Swap) where
         begun = λ z. inr (subst (λ (zs : List Step). Begun T c (onto zs [])) (sym (one o)) ([], o, refl));
         left = 2;
         falls = omega arith;
-        next = subst (λ (zs : List Step). Wp M h (Begun T c) (Ends T h c) (Do (Give c.inode c.to) unmarked (λ _. Do Exit unmarked (λ _. Ret o))) 2 (onto zs []) (record v { dino = put v.dino c.inode c.to })) (sym (one o))
+        next = subst (λ (zs : List Step). Wp M h (Begun T c) (Ends T h c) (Do (Give c.inode) unmarked (λ _. Do Exit unmarked (λ _. Ret o))) 2 (onto zs []) (record v { dino = put v.dino c.inode c.to })) (sym (one o))
             (give_ok o _ (record { lock = q.lock; dino = put_same v.dino c.inode c.to; only = q.only; txn = q.txn })).wp;
       })
     where
       one : (o : Dinode) → own h ((h, Swapped c.inode c.to o) ∷ []) ≡ Swapped c.inode c.to o ∷ []
       one o = rw (eq-eqb h h refl) refl
 
-  take_ok : (w : World) → Nothing h true w → Safe M h (Begun T c) (Ends T h c) (Do (Take c.inode) unmarked (λ o. Do (Store c.inode c.to) (λ _. Some (Swapped c.inode c.to o)) (λ _. Do (Give c.inode c.to) unmarked (λ _. Do Exit unmarked (λ _. Ret o))))) 9 [] w
+  take_ok : (w : World) → Nothing h true w → Safe M h (Begun T c) (Ends T h c) (Do (Take c.inode) unmarked (λ o. Do (Store c.inode c.to) (λ _. Some (Swapped c.inode c.to o)) (λ _. Do (Give c.inode) unmarked (λ _. Do Exit unmarked (λ _. Ret o))))) 9 [] w
   take_ok w p =
       s-op (omega arith) (λ v xs y. y.0) (λ v y i. (nothing_stays h true w v y.1 p).none c.inode) (λ v x y i t. at v (nothing_stays h true w v y.1 p) (v.lock c.inode) refl)
     where
       at : (v : World) → Nothing h true v → (o : Option ℕ) → v.lock c.inode ≡ o
-          → Good M Dinode h (λ a. []) 3 9 (Begun T c) [] v (IsOut h (v.lock c.inode)) (take_if h c.inode v o) (λ l o u. Wp M h (Begun T c) (Ends T h c) (Do (Store c.inode c.to) (λ _. Some (Swapped c.inode c.to o)) (λ _. Do (Give c.inode c.to) unmarked (λ _. Do Exit unmarked (λ _. Ret o)))) l [] u)
+          → Good M Dinode h (λ a. []) 3 9 (Begun T c) [] v (IsOut h (v.lock c.inode)) (take_if h c.inode v o) (λ l o u. Wp M h (Begun T c) (Ends T h c) (Do (Store c.inode c.to) (λ _. Some (Swapped c.inode c.to o)) (λ _. Do (Give c.inode) unmarked (λ _. Do Exit unmarked (λ _. Ret o)))) l [] u)
       at v q (Some g) e = (g, (λ n. q.none c.inode (e ∙ ap (λ (z : ℕ). Some z) n)), e)
       at v q None e =
           quiet 5 (omega arith) (mine_lock h c.inode (Some h) v (ours_is h (v.lock c.inode) (inl e)) (ours_is h (Some h) (inr refl))) refl

@@ -7,7 +7,7 @@ use Rattle.atomic_programs.specs.Logic.{onto, own, Machine, Fine, Wp, Safe, Laws
 use Rattle.atomic_programs.specs.Calls.{Began, Begins, Begun, Ends, Right, Lawful, Event, AllHonest, run, fresh, is_some}
 use Rattle.atomic_programs.specs.Explained.{Explained}
 use Rattle.atomic_programs.specs.Operations.{IsCore, operations}
-use Rattle.atomic_programs.specs.Joined.{Both, joined, LowerLaws, Below, Atomic}
+use Rattle.atomic_programs.specs.Joined.{Both, joined, LowerLaws, holding, Below, Atomic}
 use Rattle.atomic_programs.specs.Lowered.{BeginsBoth, StartsBoth}
 use Rattle.atomic_programs.proofs.Sound.{s-op}
 use Rattle.atomic_programs.proofs.Operations.{operations_laws}
@@ -49,11 +49,12 @@ low_laws =
       same = mine_same;
       trans = mine_trans;
       kept = λ h g u xs o. o.1;
-      base = λ h v w g u s k b j e.
+      base = λ h v w g u hand s k b j e.
           let was = ward_was h j v w s e in
           let x = b j was in
           let y = ward_stays h j g u k x.0 in
           (y.0, y.1 ∙ x.1 ∙ sym (ward_stays h j v w s was).1);
+      idle = λ h w g hand inv i b. b;
     }
 
 -- a step of hart h that changes nothing but one of its wards, or that a hart becomes or was one
@@ -283,8 +284,8 @@ module _ (h : ℕ) where
   E = List U.Step
 
   give_atomic : (j : ℕ) (m : Unit {0} → Option (Unit {0})) → Atomic U low handler h (Give j) m
-  give_atomic j m B C es w lasts todo base =
-      s-act U low above below h B (Give j) m C lasts tt Peek (λ x. once (Fill j x) unmarked) (Below U low h C) 1 es w todo
+  give_atomic j m hand B C es w lasts todo base =
+      s-act U low above below h B (Give j) m C lasts tt Peek (λ x. holding hand (once (Fill j x) unmarked)) (Below U low h C) 1 es w todo
       (λ v fs here may. (
         sym (here.shows.wards h) ∙ may.1,
         λ x t. (
@@ -298,15 +299,15 @@ module _ (h : ℕ) where
           }),
           (λ other ne. mine_same other v.real),
           λ gs inv c.
-              fill v (sym (here.shows.wards j) ∙ may.0) may.0 (here.shows.purses h (sym (here.shows.wards h) ∙ may.1)) (low_laws.base h w.real v.real w.seen v.seen here.same here.kept base) gs c,
+              fill v (sym (here.shows.wards j) ∙ may.0) may.0 (here.shows.purses h (sym (here.shows.wards h) ∙ may.1)) (low_laws.base h w.real v.real w.seen v.seen hand here.same here.kept base) gs c,
         ),
       ))
     where
       -- the ward's purse is filled below, as it was above
       fill : (v : W) → v.real.ward j ≡ Some h → v.seen.ward j ≡ Some h → v.seen.purse h ≡ v.real.purse h → Base h v.real v.seen → (gs : E) → C tt gs (record (v.seen) { purse = given h j v.seen.purse })
-          → Wp D h B (Below U low h C) (once (Fill j (v.real.purse h)) unmarked) 1 gs (record { real = v.real; seen = record (v.seen) { purse = given h j v.seen.purse } })
+          → Wp D h B (Below U low h C) (holding hand (once (Fill j (v.real.purse h)) unmarked)) 1 gs (record { real = v.real; seen = record (v.seen) { purse = given h j v.seen.purse } })
       fill v ward ward_above mine base gs c =
-          s-silent U low above below h B (Fill j (v.real.purse h)) (λ a. Ret a) (Below U low h C) (C tt) 0 gs (record { real = v.real; seen = record (v.seen) { purse = given h j v.seen.purse } }) (acted U low above below h B (Give j) m C lasts tt) c
+          s-silent U low above below h B (Fill j (v.real.purse h)) (λ a. Ret (record { answer = a; carry = hand })) (Below U low h C) (C tt) 0 gs (record { real = v.real; seen = record (v.seen) { purse = given h j v.seen.purse } }) (acted U low above below h B (Give j) m C lasts tt) c
           (λ u hs here. let is = ward_stays h j v.real u.real here.same ward in (
             is.0,
             λ x t. (
@@ -332,11 +333,11 @@ module _ (h : ℕ) where
           ))
 
   free_atomic : (j : ℕ) (m : Unit {0} → Option (Unit {0})) → Atomic U low handler h (Free j) m
-  free_atomic j m B C es w lasts todo base =
-      s-act U low above below h B (Free j) m C lasts tt (Release j) (λ a. Ret a) (Below U low h C) 0 es w todo
+  free_atomic j m hand B C es w lasts todo base =
+      s-act U low above below h B (Free j) m C lasts tt (Release j) (λ a. Ret (record { answer = a; carry = hand })) (Below U low h C) 0 es w todo
       (λ v fs here may.
       let ward : v.real.ward j ≡ Some h = sym (here.shows.wards j) ∙ may in
-      let b = low_laws.base h w.real v.real w.seen v.seen here.same here.kept base in (
+      let b = low_laws.base h w.real v.real w.seen v.seen hand here.same here.kept base in (
         ward,
         λ x t. (
           tt,
@@ -392,9 +393,9 @@ module _ (h j : ℕ) (m : Unit {0} → Option (Unit {0})) where
         next = ap (λ (zs : E h). onto zs []) own_gift;
       }
 
-  pub gives_once : (w : W h) → w.seen.ward j ≡ Some h → w.seen.ward h ≡ None → Base h w.real w.seen → Wp (D h) h Gift (λ a fs u. Gift fs × Base h u.real u.seen) (handler (Give j) m) 2 [] w
+  pub gives_once : (w : W h) → w.seen.ward j ≡ Some h → w.seen.ward h ≡ None → Base h w.real w.seen → Wp (D h) h Gift (λ a fs u. Gift fs × Base h u.real u.seen) (handler tt (Give j) m) 2 [] w
   gives_once w ward self base =
-      give_atomic h j m Gift (λ a fs u. Gift fs) [] w
+      give_atomic h j m tt Gift (λ a fs u. Gift fs) [] w
       (λ a fs xs v u o i c. ((λ y. inl o.0), subst (λ (zs : E h). Gift (onto zs fs)) (sym o.0) c))
       (λ v xs o i.
       let is = ward_stays h j w.seen v o.1.1.1 ward in (
@@ -415,9 +416,9 @@ some_below (Fill j x) = tt
 some_below (Release j) = tt
 
 -- each operation's program has a step
-steps : (op : Op) (m : Answer op → Option (Unit {0})) → is_some (asks (handler op m)) ≡ true
-steps (Give j) m = refl
-steps (Free j) m = refl
+steps : (hand : Unit {0}) (op : Op) (m : Answer op → Option (Unit {0})) → is_some (asks (handler hand op m)) ≡ true
+steps hand (Give j) m = refl
+steps hand (Free j) m = refl
 
 pub gifts_within : (purse : ℕ → ℕ) (events : List (Event ℕ (Unit {0}))) → AllHonest gifts_noted events (fresh gifts_noted (rest purse)) → Explained gifts_noted purse (run gifts_noted events (fresh gifts_noted (rest purse)))
 gifts_within purse events honest =

@@ -1,7 +1,8 @@
--- The machine below: locks of inodes, records in memory, and buffers of blocks that hold 16 records each.
+-- The machine below: locks of inodes, records in memory, and buffers of blocks that hold 16 records each. An inode is unlocked
+-- with its record, which the program of the operation that took or stored it hands on.
 use Rattle.std.specs.Prelude.{◌≡◌, ◌≢◌, ◌/◌, ◌%◌, ℕ, Bool, true, false, Option, Some, None, suc, List, [], ◌∷◌}
 use Rattle.atomic_programs.specs.Prog.{Prog, Ret, Do, bind, once, unmarked, Did, Waits, Ran, Stops}
-use Rattle.atomic_programs.specs.Joined.{Act, Lower}
+use Rattle.atomic_programs.specs.Joined.{Act, Lower, Handed, holding}
 use Rattle.atomic_examples.specs.Whole as above
 use Rattle.atomic_examples.specs.Whole.{put, if_held, Dinode}
 
@@ -130,13 +131,22 @@ pub record Same (h : ℕ) (v w : World) : Type 0 where
   pub txn : w.txn h ≡ v.txn h
   pub parts : (i : ℕ) → if_held (w.lock i) h (w.part i) ≡ if_held (v.lock i) h (v.part i)
 
--- between two operations above the hart has no buffer, and the content of its inodes is as above
+-- between two operations above the content of the hart's inodes is as above
 abbrev pub Tied : ℕ → World → above.World → Type 0
 Tied h r g = (i : ℕ) → r.lock i ≡ Some h → (g.lock i ≡ Some h) × (g.node i ≡ r.part i)
 
-pub record Base (h : ℕ) (r : World) (g : above.World) : Type 0 where
+-- what a hart has in hand: the record of each inode of its own
+abbrev pub Carry : Type 0
+Carry = ℕ → Option Dinode
+
+abbrev pub InHand : ℕ → World → Carry → Type 0
+InHand h r hand = (i : ℕ) → r.lock i ≡ Some h → hand i ≡ Some (at r.cell i)
+
+-- Between two operations above the hart has no buffer. Of inodes that aren't its own, nothing is said of what is in hand.
+pub record Base (h : ℕ) (r : World) (g : above.World) (hand : Carry) : Type 0 where
   pub free : (b : ℕ) → r.out b ≢ Some h
   pub tied : Tied h r g
+  pub in_hand : InHand h r hand
 
 abbrev pub blocks : Lower above.World
 blocks =
@@ -153,6 +163,8 @@ blocks =
       Halted = Shows;
       Same = Same;
       Kept = above.Kept;
+      Carry = Carry;
+      none = λ i. None;
       Base = Base;
     }
 
@@ -187,11 +199,20 @@ module _ (M : Type 0) where
   write_parts i t k z [] = once (PutPart i k z) (λ _. t)
   write_parts i t k z (y ∷ ys) = Do (PutPart i k z) unmarked (λ _. write_parts i t (suc k) y ys)
 
-  abbrev pub handler : (op : above.Op) → (above.Answer op → Option M) → P (above.Answer op)
-  handler (above.Take i) m = Do (Lock i) (λ _. act (above.Take i) m) (load_or i)
-  handler (above.Store i d) m = bind (fetch (i / 16)) (λ z. once (Put (i / 16) (Some (put z (i % 16) d))) (λ _. act (above.Store i d) m))
-  handler (above.Give i d) m = once (Unlock i d) (λ _. act (above.Give i d) m)
-  handler above.Enter m = once Join (λ _. act above.Enter m)
-  handler above.Exit m = once Leave (λ _. act above.Exit m)
-  handler (above.Look i k) m = once (GetPart i k) (λ _. act (above.Look i k) m)
-  handler (above.Write i k z zs) m = write_parts i (act (above.Write i k z zs) m) k z zs
+  -- this record is in hand from here on
+  abbrev pub with_record : Carry → ℕ → Dinode → Handed Dinode Carry
+  with_record hand i d = record { answer = d; carry = put hand i (Some d) }
+
+  -- the record in hand; where there is none, the hart hasn't the inode
+  abbrev pub record_of : Option Dinode → Dinode
+  record_of (Some d) = d
+  record_of None = record { kind = 0; size = 0 }
+
+  abbrev pub handler : Carry → (op : above.Op) → (above.Answer op → Option M) → P (Handed (above.Answer op) Carry)
+  handler hand (above.Take i) m = Do (Lock i) (λ _. act (above.Take i) m) (λ r. bind (load_or i r) (λ d. Ret (with_record hand i d)))
+  handler hand (above.Store i d) m = bind (fetch (i / 16)) (λ z. holding (put hand i (Some d)) (once (Put (i / 16) (Some (put z (i % 16) d))) (λ _. act (above.Store i d) m)))
+  handler hand (above.Give i) m = holding (put hand i None) (once (Unlock i (record_of (hand i))) (λ _. act (above.Give i) m))
+  handler hand above.Enter m = holding hand (once Join (λ _. act above.Enter m))
+  handler hand above.Exit m = holding hand (once Leave (λ _. act above.Exit m))
+  handler hand (above.Look i k) m = holding hand (once (GetPart i k) (λ _. act (above.Look i k) m))
+  handler hand (above.Write i k z zs) m = holding hand (write_parts i (act (above.Write i k z zs) m) k z zs)

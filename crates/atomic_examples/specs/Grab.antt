@@ -4,7 +4,7 @@ use Rattle.atomic_programs.specs.Prog.{Prog, Ret, Do, once, unmarked, Did, Waits
 use Rattle.atomic_programs.specs.Logic.{Machine}
 use Rattle.atomic_programs.specs.Calls.{Theory, Begins}
 use Rattle.atomic_programs.specs.Operations.{Core, all_of, operations_of}
-use Rattle.atomic_programs.specs.Joined.{Act, Lower, Both}
+use Rattle.atomic_programs.specs.Joined.{Act, Lower, Handed, holding, Both}
 use Rattle.atomic_programs.specs.Lowered.{lowered_calls}
 use Rattle.atomic_examples.specs.Whole.{put, if_held}
 
@@ -192,7 +192,7 @@ pub record Base (h : ℕ) (r : World) (g : Above) : Type 0 where
   pub tied : (c : ℕ) → holder r c ≡ Some h → TiedAt h c r g
 
 abbrev pub low : Lower Above
-low = record { Op = LowOp; Answer = LowAnswer; World = World; Outside = Unit {0}; Honest = λ h op w x. Unit {0}; May = low_may; exec = exec; MayWait = waits; Shows = Shows; Halted = Shows; Same = Same; Kept = Kept; Base = Base }
+low = record { Op = LowOp; Answer = LowAnswer; World = World; Outside = Unit {0}; Honest = λ h op w x. Unit {0}; May = low_may; exec = exec; MayWait = waits; Shows = Shows; Halted = Shows; Same = Same; Kept = Kept; Carry = Unit {0}; none = tt; Base = λ h r g hand. Base h r g }
 
 abbrev pub first : (ℕ → Bool) → ℕ → ℕ → Option ℕ
 first z k zero = None
@@ -209,10 +209,11 @@ abbrev pub grab_at : ℕ → (Option ℕ → Option (Unit {0})) → Option ℕ �
 grab_at i m None = Do (PutBits None) (λ _. act (Grab i) m None) (λ _. Ret None)
 grab_at i m (Some c) = Do (PutBits (Some (c, i))) (λ _. act (Grab i) m (Some c)) (λ _. Do (Zero c) unmarked (λ _. Ret (Some c)))
 
-abbrev pub handler : (op : Op) → (Answer op → Option (Unit {0})) → P (Answer op)
-handler (Hold i) m = once (Lock i) (λ _. act (Hold i) m None)
-handler (Grab i) m = Do GetBits unmarked (λ z. grab_at i m (first z 0 8))
-handler (Drop i) m = once (Unlock i) (λ _. act (Drop i) m None)
+-- nothing is handed on: whose a block is, the world tells
+abbrev pub handler : Unit {0} → (op : Op) → (Answer op → Option (Unit {0})) → P (Handed (Answer op) (Unit {0}))
+handler hand (Hold i) m = holding hand (once (Lock i) (λ _. act (Hold i) m None))
+handler hand (Grab i) m = holding hand (Do GetBits unmarked (λ z. grab_at i m (first z 0 8)))
+handler hand (Drop i) m = holding hand (once (Unlock i) (λ _. act (Drop i) m None))
 
 -- the calls below, explained by their operations above
 abbrev pub grabs_above : Theory

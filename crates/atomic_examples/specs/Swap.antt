@@ -5,8 +5,9 @@ use Rattle.atomic_programs.specs.Calls.{Theory}
 use Rattle.atomic_programs.specs.Lowered.{lowered_calls, code_below}
 use Rattle.atomic_programs.specs.Plain.{Code}
 use Rattle.atomic_programs.specs.Operations.{operations_of}
-use Rattle.atomic_examples.specs.Whole.{put, if_held, Dinode, World, Op, Take, Store, Give, Enter, Exit, Look, Write, Answer, Labels}
-use Rattle.atomic_programs.specs.Joined.{Both}
+use Rattle.atomic_examples.specs.Whole.{put, if_held, Dinode, World, Op, Take, Store, Give, Enter, Exit, Look, Write, Answer, Labels, whole}
+use Rattle.atomic_programs.specs.Logic.{Machine, P}
+use Rattle.atomic_programs.specs.Joined.{Both, joined, lowered}
 use Rattle.atomic_examples.specs.Blocks as low
 use Rattle.atomic_examples.specs.Blocks.{IsOut}
 use Rattle.atomic_examples.specs.OfWhole.{Calls, theory, begins_at_once, core}
@@ -29,7 +30,7 @@ pub record Mine (h : ℕ) (v w : World) : Type 0 where
 abbrev pub MayWait : ℕ → Op → World → Type 0
 MayWait h (Take i) w = IsOut h (w.lock i)
 MayWait h (Store i d) w = ⊥
-MayWait h (Give i d) w = ⊥
+MayWait h (Give i) w = ⊥
 MayWait h Enter w = ⊥
 MayWait h Exit w = ⊥
 MayWait h (Look i k) w = ⊥
@@ -46,7 +47,7 @@ pub record Swap : Type 0 where
   pub to : Dinode
 
 abbrev pub program : Swap → Prog Op Answer Step Dinode
-program c = Do Enter unmarked (λ _. Do (Take c.inode) unmarked (λ o. Do (Store c.inode c.to) (λ _. Some (Swapped c.inode c.to o)) (λ _. Do (Give c.inode c.to) unmarked (λ _. Do Exit unmarked (λ _. Ret o)))))
+program c = Do Enter unmarked (λ _. Do (Take c.inode) unmarked (λ o. Do (Store c.inode c.to) (λ _. Some (Swapped c.inode c.to o)) (λ _. Do (Give c.inode) unmarked (λ _. Do Exit unmarked (λ _. Ret o)))))
 
 abbrev pub labels : Labels
 labels =
@@ -82,6 +83,13 @@ swaps = lowered_calls (theory labels calls) low.blocks (low.handler Step) (begin
 
 abbrev pub swaps_above : Theory
 swaps_above = lowered_calls (operations_of (theory labels calls) (core labels)) low.blocks (low.handler Step) (begins_at_once labels calls)
+
+-- An inode is taken and given back, by a hart with nothing in hand.
+abbrev pub blocks_below : Machine
+blocks_below = joined (whole labels) low.blocks
+
+abbrev pub look : ℕ → P blocks_below Dinode
+look i = lowered (whole labels) low.blocks (low.handler Step) low.blocks.none (Do (Take i) unmarked (λ o. Do (Give i) unmarked (λ _. Ret o)))
 
 -- what the code has of both: the blocks
 abbrev pub code : Code swaps

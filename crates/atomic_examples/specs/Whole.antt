@@ -27,7 +27,7 @@ pub record World : Type 0 where
 pub data Op : Type 0 where
   Take : ℕ → Op
   Store : ℕ → Dinode → Op
-  Give : ℕ → Dinode → Op
+  Give : ℕ → Op
   Enter : Op
   Exit : Op
   -- a part of inode i; the parts of inode i from k on, one and then the others
@@ -42,17 +42,16 @@ written n k (z ∷ zs) = written (put n k z) (suc k) zs
 abbrev pub Answer : Op → Type 0
 Answer (Take i) = Dinode
 Answer (Store i d) = Unit {0}
-Answer (Give i d) = Unit {0}
+Answer (Give i) = Unit {0}
 Answer Enter = Unit {0}
 Answer Exit = Unit {0}
 Answer (Look i k) = ℕ
 Answer (Write i k z zs) = Unit {0}
 
--- what an inode is given back with is its record
 abbrev pub May : ℕ → Op → World → Type 0
 May h (Take i) w = w.lock i ≢ Some h
 May h (Store i d) w = (w.lock i ≡ Some h) × (w.txn h ≡ true)
-May h (Give i d) w = (w.lock i ≡ Some h) × (w.dino i ≡ d)
+May h (Give i) w = w.lock i ≡ Some h
 May h Enter w = w.txn h ≡ false
 May h Exit w = w.txn h ≡ true
 May h (Look i k) w = w.lock i ≡ Some h
@@ -65,7 +64,7 @@ take_if h i w (Some g) = Waits
 abbrev pub exec : ℕ → (op : Op) → World → Did (Answer op) World
 exec h (Take i) w = take_if h i w (w.lock i)
 exec h (Store i d) w = Ran tt (record w { dino = put w.dino i d })
-exec h (Give i d) w = Ran tt (record w { lock = put w.lock i None })
+exec h (Give i) w = Ran tt (record w { lock = put w.lock i None })
 exec h Enter w = Ran tt (record w { txn = put w.txn h true })
 exec h Exit w = Ran tt (record w { txn = put w.txn h false })
 exec h (Look i k) w = Ran (w.node i k) w
@@ -75,7 +74,7 @@ exec h (Write i k z zs) w = Ran tt (record w { node = put w.node i (written (w.n
 abbrev pub more : Op → ℕ
 more (Take i) = 3
 more (Store i d) = 2
-more (Give i d) = 0
+more (Give i) = 0
 more Enter = 0
 more Exit = 0
 more (Look i k) = 0
@@ -124,6 +123,8 @@ whole l =
       Clean = l.Clean;
     }
 
--- what the history says the others leave has in it what the operations' programs need
-abbrev pub Keeps : Labels → Type 0
-Keeps l = (h : ℕ) (v w : World) (xs : List l.Step) → l.Others h v xs w → Kept h v w
+-- what the history says of a hart has in it what the operations' programs need
+pub record Keeps (l : Labels) : Type 0 where
+  pub kept : (h : ℕ) (v w : World) (xs : List l.Step) → l.Others h v xs w → Kept h v w
+  -- an idle hart has no inode
+  pub idle : (h : ℕ) (w : World) → l.Idle h w → (i : ℕ) → w.lock i ≢ Some h

@@ -10,13 +10,13 @@ use Rattle.atomic_examples.specs.Wards.{gifts, gifts_above}
 
 -- a swap's notes: whole runs of its operations' programs, and each operation within its own
 abbrev pub SwapIsWhole : Swap → Notes swaps_above.M → Dinode → Type 0
-SwapIsWhole c es o = IsWhole (whole labels) (core labels) low.blocks (low.handler Step) (program c) es o
+SwapIsWhole c es o = IsWhole (whole labels) (core labels) low.blocks (low.handler Step) low.blocks.none (program c) es o
 
 abbrev pub swaps_noted : Theory
 swaps_noted = with_notes swaps_above SwapIsWhole
 
 abbrev pub GiftIsWhole : gifts_above.Call → Notes gifts_above.M → gifts_above.Reply → Type 0
-GiftIsWhole j es r = IsWhole wards.machine wards.core wards.low wards.handler (gifts.program j) es r
+GiftIsWhole j es r = IsWhole wards.machine wards.core wards.low wards.handler tt (gifts.program j) es r
 
 abbrev pub gifts_noted : Theory
 gifts_noted = with_notes gifts_above GiftIsWhole

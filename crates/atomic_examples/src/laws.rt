@@ -6,7 +6,7 @@ ghost use Rattle.atomic_programs.specs.Explained.{Explained, Led, history};
 ghost use Rattle.atomic_programs.specs.Plain.{IsCode};
 ghost use Rattle.atomic_programs.specs.Logic.{Wp};
 ghost use Rattle.atomic_programs.specs.Joined.{Both, joined};
-ghost use Rattle.atomic_programs.specs.Operations.{operations};
+ghost use Rattle.atomic_programs.specs.Operations.{operations, IsRun};
 ghost use Rattle.atomic_programs.specs.Prog.{plain};
 ghost use Rattle.atomic_examples.specs.Desk as desk;
 ghost use Rattle.atomic_examples.specs.Whole as whole;
@@ -17,7 +17,7 @@ ghost use Rattle.atomic_examples.specs.Within.{SwapIsWhole, swaps_noted, GiftIsW
 ghost use Rattle.atomic_programs.specs.Noted.{Runs, Places, SameRuns};
 ghost use Rattle.atomic_examples.specs.Grab as grab;
 ghost use Rattle.atomic_examples.specs.Grab.{grabs_above};
-ghost use Rattle.atomic_examples.specs.Swap.{Swap, Swapped, swaps, swaps_above, code, code_above, rest};
+ghost use Rattle.atomic_examples.specs.Swap.{Swap, Swapped, swaps, swaps_above, blocks_below, look, code, code_above, rest};
 
 /// Over every list of events the replies at the desk are explained, where a hart's step may be placed by another hart, and a start may reserve an idle one.
 pub fn desk_explained()
@@ -78,6 +78,19 @@ pub fn swaps_act()
     ensures { history swaps (run swaps (Start 0 (record { inode = 17; to = record { kind = 7; size = 7 } }) ∷ Step 0 blocks.Passes ∷ Step 0 blocks.Passes ∷ Step 0 blocks.Passes ∷ Step 0 blocks.Passes ∷ Step 0 blocks.Passes ∷ Step 0 blocks.Passes ∷ Step 0 blocks.Passes ∷ Step 0 blocks.Passes ∷ []) (fresh swaps rest)) ≡ record { number = 7; hart = 0; call = 0; step = Swapped 17 (record { kind = 7; size = 7 }) (record { kind = 1; size = 1 }) } ∷ [] }
 {}
 
+/// A swap gives its inode back with the record that it stored, which is in memory from then on.
+pub fn swaps_leave_in_memory()
+    ensures { (run swaps (Start 0 (record { inode = 17; to = record { kind = 7; size = 7 } }) ∷ Step 0 blocks.Passes ∷ Step 0 blocks.Passes ∷ Step 0 blocks.Passes ∷ Step 0 blocks.Passes ∷ Step 0 blocks.Passes ∷ Step 0 blocks.Passes ∷ Step 0 blocks.Passes ∷ Step 0 blocks.Passes ∷ Step 0 blocks.Passes ∷ []) (fresh swaps rest)).world.real.mem 17 ≡ Some (record { kind = 7; size = 7 }) }
+{}
+
+/// An inode that is taken and given back is unlocked with the record that was loaded, and no other: what the program of the one
+/// operation has loaded is handed on to that of the other.
+pub fn looks_hand_on()
+    ensures runs { (z : blocks.Block) → IsRun blocks_below (look 17) ((blocks.Lock 17, None) ∷ (blocks.Get 1, None) ∷ (blocks.Read 1, z) ∷ (blocks.Put 1 None, tt) ∷ (blocks.Unlock 17 (z 1), tt) ∷ []) (z 1) }
+    ensures in_memory { (d : whole.Dinode) → IsRun blocks_below (look 17) ((blocks.Lock 17, Some d) ∷ (blocks.Unlock 17 d, tt) ∷ []) d }
+    ensures alone { (z : blocks.Block) (d o : whole.Dinode) → IsRun blocks_below (look 17) ((blocks.Lock 17, None) ∷ (blocks.Get 1, None) ∷ (blocks.Read 1, z) ∷ (blocks.Put 1 None, tt) ∷ (blocks.Unlock 17 d, tt) ∷ []) o → (d ≡ z 1) × (o ≡ z 1) }
+{}
+
 /// The device fails in the load: above, the inode was taken before.
 pub fn swaps_stop()
     ensures { history swaps_above (run swaps_above (Start 0 (record { inode = 17; to = record { kind = 7; size = 7 } }) ∷ Step 0 blocks.Passes ∷ Step 0 blocks.Passes ∷ Step 0 blocks.Passes ∷ Step 0 blocks.Fails ∷ []) (fresh swaps_above rest)) ≡ record { number = 1; hart = 0; call = 0; step = (whole.Enter, tt) } ∷ record { number = 2; hart = 0; call = 0; step = (whole.Take 17, record { kind = 1; size = 1 }) } ∷ [] }
@@ -107,7 +120,7 @@ pub fn gifts_reserve()
 
 /// The program of a gift below places the gift, and nothing else, between its first step and its last, whatever the others do.
 pub fn gifts_act_once()
-    ensures { (h j : ℕ) (m : Unit {0} → Option (Unit {0})) (w : Both wards.World wards.World) → w.seen.ward j ≡ Some h → w.seen.ward h ≡ None → wards.Base h w.real w.seen → Wp (joined (operations wards.machine wards.core) wards.low) h (λ fs. fs ≡ (wards.Give j, tt) ∷ []) (λ a fs u. (fs ≡ (wards.Give j, tt) ∷ []) × wards.Base h u.real u.seen) (wards.handler (wards.Give j) m) 2 [] w }
+    ensures { (h j : ℕ) (m : Unit {0} → Option (Unit {0})) (w : Both wards.World wards.World) → w.seen.ward j ≡ Some h → w.seen.ward h ≡ None → wards.Base h w.real w.seen → Wp (joined (operations wards.machine wards.core) wards.low) h (λ fs. fs ≡ (wards.Give j, tt) ∷ []) (λ a fs u. (fs ≡ (wards.Give j, tt) ∷ []) × wards.Base h u.real u.seen) (wards.handler tt (wards.Give j) m) 2 [] w }
 {}
 
 /// In each run of swaps on blocks every operation above acts within the run of its own program below, once: it is placed at an

@@ -3,7 +3,7 @@ use Rattle.std.proofs.Common.{◌≤◌, length, None, ◌≡◌, ◌≢◌, ◌
 use Rattle.atomic_programs.specs.Prog.{Ret, Do, bind, once, unmarked, Did, Waits, Ran, Stops}
 use Rattle.atomic_programs.specs.Logic.{Machine, P, PlacesOne, own, onto, Goes, placed_with, Grown, Fine, Good, Wp, Laws}
 use Rattle.atomic_programs.proofs.Sound.{Wp-weaker, Wp-more, Wp-bind, Wp-others}
-use Rattle.atomic_programs.specs.Joined.{Lasts, ActOf, Lower, Both, ran_to, placed_at, both, joined, LowerLaws, Handlers, lowered, Below, Atomic}
+use Rattle.atomic_programs.specs.Joined.{Lasts, ActOf, Lower, Both, ran_to, placed_at, both, joined, LowerLaws, Handed, holding, Handlers, lowered, Below, AtEnd, Atomic}
 
 pub joined_laws : (U : Machine) (R : Lower U.World) → Laws U → LowerLaws U R → Laws (joined U R)
 joined_laws U R above below =
@@ -11,7 +11,7 @@ joined_laws U R above below =
       same = λ h w. (below.same h w.real, above.same h w.seen);
       trans = λ h u v w xs ys a b. (below.trans h u.real v.real w.real a.0 b.0, above.trans h u.seen v.seen w.seen xs ys a.1 b.1);
       idle_none = λ h v w xs o i. above.idle_none h v.seen w.seen xs o.1 i.1;
-      idle_stays = λ h v w xs o i. (below.base h v.real w.real v.seen w.seen o.0 (below.kept h v.seen w.seen xs o.1) i.0, above.idle_stays h v.seen w.seen xs o.1 i.1);
+      idle_stays = λ h v w xs o i. (below.base h v.real w.real v.seen w.seen R.none o.0 (below.kept h v.seen w.seen xs o.1) i.0, above.idle_stays h v.seen w.seen xs o.1 i.1);
       clean_before = λ h v w xs o y. above.clean_before h v.seen w.seen xs o.1 y;
     }
 
@@ -38,18 +38,21 @@ grows L h (Do op m k) B Q n fs xs v u lasts o i g y = (g u xs o i).0 y
 -- what holds of a program above holds of the lowered one, in as many steps
 pub lift : (U : Machine) (R : Lower U.World) (handler : Handlers U R) (laws : Laws U) (h : ℕ) (atomic : (op : U.Op) (m : U.Answer op → Option U.Mark) → Atomic U R handler h op m) {A : Type 0} (p : P U A)
     (B : List U.Step → Type 0) (Q : A → List U.Step → U.World → Type 0) → Lasts U h B Q
-    → (n : ℕ) (es : List U.Step) (w : Both R.World U.World) → Wp U h B Q p n es w.seen → R.Base h w.real w.seen → U.Inv w.seen → Wp (joined U R) h B (Below U R h Q) (lowered U R handler p) n es w
-lift U R handler laws h atomic (Ret a) B Q lasts n es w g b inv = (g, b)
-lift U R handler laws h atomic {A} (Do op m k) B Q lasts n es w g b inv =
-    Wp-more (joined U R) h (bind (handler op m) (λ a. lowered U R handler (k a))) B (Below U R h Q) (suc (U.more op) + (n - suc (U.more op))) n es w (omega (arith, enough))
-    (Wp-bind (joined U R) h (handler op m) (λ a. lowered U R handler (k a)) B (Below U R h Q) (suc (U.more op)) (n - suc (U.more op)) es w
-    (Wp-weaker (joined U R) h (handler op m) B B (Below U R h C) (λ a. Wp (joined U R) h B (Below U R h Q) (lowered U R handler (k a)) (n - suc (U.more op))) (suc (U.more op)) es w (λ fs c. c)
-    (λ a fs u c. lift U R handler laws h atomic (k a) B Q lasts (n - suc (U.more op)) fs u c.0.0 c.1 c.0.1)
-    (atomic op m B C es w
-    (λ a fs xs v u o i c.
-    (grows U h (k a) B Q (n - suc (U.more op)) fs xs v u lasts o i c.0, (Wp-others U laws h (k a) B Q (n - suc (U.more op)) fs xs v u (λ x e. (lasts x fs xs v u o i e).1) o c.0, i)))
+    → (c : R.Carry) (n : ℕ) (es : List U.Step) (w : Both R.World U.World) → Wp U h B Q p n es w.seen → R.Base h w.real w.seen c → U.Inv w.seen → Wp (joined U R) h B (AtEnd U R h Q) (lowered U R handler c p) n es w
+lift U R handler laws h atomic (Ret a) B Q lasts c n es w g b inv = (g, inv, (c, b))
+lift U R handler laws h atomic {A} (Do op m k) B Q lasts c n es w g b inv =
+    Wp-more (joined U R) h (bind (handler c op m) rest) B (AtEnd U R h Q) (suc (U.more op) + (n - suc (U.more op))) n es w (omega (arith, enough))
+    (Wp-bind (joined U R) h (handler c op m) rest B (AtEnd U R h Q) (suc (U.more op)) (n - suc (U.more op)) es w
+    (Wp-weaker (joined U R) h (handler c op m) B B (Below U R h C) (λ r. Wp (joined U R) h B (AtEnd U R h Q) (rest r) (n - suc (U.more op))) (suc (U.more op)) es w (λ fs e. e)
+    (λ r fs u e. lift U R handler laws h atomic (k r.answer) B Q lasts r.carry (n - suc (U.more op)) fs u e.0.0 e.1 e.0.1)
+    (atomic op m c B C es w
+    (λ a fs xs v u o i e.
+    (grows U h (k a) B Q (n - suc (U.more op)) fs xs v u lasts o i e.0, (Wp-others U laws h (k a) B Q (n - suc (U.more op)) fs xs v u (λ x d. (lasts x fs xs v u o i d).1) o e.0, i)))
     (λ v xs o i. ((g v xs o i).0, (g v xs o i).1, λ x t. one v (onto xs es) (U.go h x op m v) ((g v xs o i).2 x t), omega arith)) b)))
   where
+    rest : Handed (U.Answer op) R.Carry → P (joined U R) A
+    rest r = lowered U R handler r.carry (k r.answer)
+
     C : U.Answer op → List U.Step → U.World → Type 0
     C a fs u = Wp U h B Q (k a) (n - suc (U.more op)) fs u × U.Inv u
 
@@ -72,6 +75,12 @@ lift U R handler laws h atomic {A} (Do op m k) B Q lasts n es w g b inv =
           next = (Wp-more U h (k a) B Q q.left (n - suc (U.more op)) (onto (own h (U.places h op a (m a) v)) fs) u (let c : q.left + U.more op < n = q.falls in omega arith) q.next, q.inv);
         }
     one v fs (Stops u) q = q
+
+-- a program that hands on what it was handed
+pub Wp-holding : (L : Machine) {A C : Type 0} (h : ℕ) (c : C) (p : P L A) (B : List L.Step → Type 0) (Q : Handed A C → List L.Step → L.World → Type 0) (n : ℕ) (es : List L.Step) (w : L.World)
+    → Wp L h B (λ a. Q (record { answer = a; carry = c })) p n es w → Wp L h B Q (holding c p) n es w
+Wp-holding L {A} {C} h c p B Q n es w g =
+    Wp-more L h (holding c p) B Q (n + 0) n es w (omega arith) (Wp-bind L h p (λ a. Ret (record { answer = a; carry = c })) B Q n 0 es w g)
 
 module _ (U : Machine) (R : Lower U.World) (above : Laws U) (below : LowerLaws U R) (h : ℕ) (B : List U.Step → Type 0) where
   -- what lasts while the others step

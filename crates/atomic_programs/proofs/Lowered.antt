@@ -6,7 +6,7 @@ use Rattle.atomic_programs.specs.Calls.{Theory, Began, Refuses, Begins, Begun, E
 use Rattle.atomic_programs.specs.Explained.{Explained}
 use Rattle.atomic_programs.specs.Plain as plain
 use Rattle.atomic_programs.specs.Plain.{IsCode}
-use Rattle.atomic_programs.specs.Joined.{ActOf, both, Lower, Both, joined, LowerLaws, Handlers, lowered, Below, Atomic}
+use Rattle.atomic_programs.specs.Joined.{ActOf, both, Lower, Both, joined, LowerLaws, Handlers, lowered, AtEnd, Atomic}
 use Rattle.atomic_programs.specs.Lowered.{Starts, began_to, began_both, lowered_calls, BeginsBoth, StartsBoth, code_below}
 use Rattle.atomic_programs.specs.Operations.{Core, IsCore, operations, operations_of}
 use Rattle.atomic_programs.proofs.Sound.{Wp-weaker}
@@ -15,7 +15,7 @@ use Rattle.atomic_programs.proofs.Joined.{joined_laws, lift}
 use Rattle.atomic_programs.proofs.Operations.{operations_lawful}
 
 pub operations_below : (U : Machine) (K : Core U) (R : Lower U.World) → LowerLaws U R → LowerLaws (operations U K) R
-operations_below U K R below = record { same = below.same; trans = below.trans; kept = λ h g u xs o. below.kept h g u o.1.0 o.1.1; base = below.base }
+operations_below U K R below = record { same = below.same; trans = below.trans; kept = λ h g u xs o. below.kept h g u o.1.0 o.1.1; base = below.base; idle = below.idle }
 
 -- a start below that begins the call
 pub begun_both : {Refusal S G : Type 0} (g : G) (x : Began Refusal S) (u : Both S G) → began_both g x ≡ Begins u → (x ≡ Begins u.real) × (u.seen ≡ g)
@@ -46,7 +46,7 @@ module _ (T : Theory) (R : Lower T.M.World) (handler : Handlers T.M R) (begin : 
       shows_of w (inl p) = inl p.0
       shows_of w (inr p) = inr p.0
 
-      begun : (h : ℕ) (call : T.Call) (busy : ℕ → Bool) (w : Both R.World T.M.World) (s : R.World) → ((other : ℕ) → busy other ≡ false → R.Base other w.real w.seen × T.M.Idle other w.seen) → busy h ≡ false → T.M.Inv w.seen
+      begun : (h : ℕ) (call : T.Call) (busy : ℕ → Bool) (w : Both R.World T.M.World) (s : R.World) → ((other : ℕ) → busy other ≡ false → R.Base other w.real w.seen R.none × T.M.Idle other w.seen) → busy h ≡ false → T.M.Inv w.seen
           → (b : BeginsBoth T R h call busy w.real s w.seen) → Right (lowered_calls T R handler begin) h call busy w (record { real = s; seen = b.above })
       begun h call busy w s idle free inv b =
           let r = lawful.calls h call busy w.seen b.above (inl inv) (λ j n. (idle j n).1) free b.begins in
@@ -59,13 +59,13 @@ module _ (T : Theory) (R : Lower T.M.World) (handler : Handlers T.M R) (begin : 
             clean = r.clean;
             none = r.none;
             runs = λ i.
-                Wp-weaker (joined T.M R) h (lowered T.M R handler (T.program call)) (Begun T call) (Begun (lowered_calls T R handler begin) call) (Below T.M R h (Ends T h call)) (Ends (lowered_calls T R handler begin) h call) (T.limit call) [] (record { real = s; seen = b.above })
-                (λ fs c. c) (λ a fs v c. (c.0.0, (c.1, c.0.1)))
+                Wp-weaker (joined T.M R) h (lowered T.M R handler R.none (T.program call)) (Begun T call) (Begun (lowered_calls T R handler begin) call) (AtEnd T.M R h (Ends T h call)) (Ends (lowered_calls T R handler begin) h call) (T.limit call) [] (record { real = s; seen = b.above })
+                (λ fs c. c) (λ a fs v c. (c.0.0, (below.idle h v.real v.seen c.2.0 c.1 c.0.1 c.2.1, c.0.1)))
                 (lift T.M R handler lawful.laws h (atomic h) (T.program call) (Begun T call) (Ends T h call)
-                (λ a fs xs v y o j c. (λ z. inl (lawful.laws.idle_none h v y xs o c.1), ends_last T lawful h call a fs xs v y o c)) (T.limit call) [] (record { real = s; seen = b.above }) (r.runs i.1) (b.rests h free) i.1);
+                (λ a fs xs v y o j c. (λ z. inl (lawful.laws.idle_none h v y xs o c.1), ends_last T lawful h call a fs xs v y o c)) R.none (T.limit call) [] (record { real = s; seen = b.above }) (r.runs i.1) (b.rests h free) i.1);
           }
 
-      right : (h : ℕ) (call : T.Call) (busy : ℕ → Bool) (w : Both R.World T.M.World) (s : R.World) → ((other : ℕ) → busy other ≡ false → R.Base other w.real w.seen × T.M.Idle other w.seen) → busy h ≡ false → T.M.Inv w.seen
+      right : (h : ℕ) (call : T.Call) (busy : ℕ → Bool) (w : Both R.World T.M.World) (s : R.World) → ((other : ℕ) → busy other ≡ false → R.Base other w.real w.seen R.none × T.M.Idle other w.seen) → busy h ≡ false → T.M.Inv w.seen
           → BeginsBoth T R h call busy w.real s w.seen → (g : T.M.World) → g ≡ began_to w.seen (T.start h call busy w.seen) → Right (lowered_calls T R handler begin) h call busy w (record { real = s; seen = g })
       right h call busy w s idle free inv b g is =
           subst (λ (z : T.M.World). Right (lowered_calls T R handler begin) h call busy w (record { real = s; seen = z })) (sym (is ∙ ap (began_to w.seen) b.begins)) (begun h call busy w s idle free inv b)
@@ -75,7 +75,7 @@ module _ (T : Theory) (R : Lower T.M.World) (handler : Handlers T.M R) (begin : 
 -- of one where it is under way.
 pub refined : (T : Theory) (K : Core T.M) (R : Lower T.M.World) (handler : Handlers T.M R) (begin : Starts T R) (lawful : Lawful T) (below : LowerLaws T.M R) (core : IsCore T K) (starts : StartsBoth T R begin)
     → ((h : ℕ) (op : T.M.Op) (m : T.M.Answer op → Option T.M.Mark) → Atomic (operations T.M K) R handler h op m)
-    → (w : Both R.World T.M.World) (events : List (Event T.Call R.Outside)) → R.Shows w.real w.seen → T.M.Inv w.seen → ((h : ℕ) → R.Base h w.real w.seen) → ((h : ℕ) → T.M.Idle h w.seen)
+    → (w : Both R.World T.M.World) (events : List (Event T.Call R.Outside)) → R.Shows w.real w.seen → T.M.Inv w.seen → ((h : ℕ) → R.Base h w.real w.seen R.none) → ((h : ℕ) → T.M.Idle h w.seen)
     → AllHonest (lowered_calls (operations_of T K) R handler begin) events (fresh (lowered_calls (operations_of T K) R handler begin) w)
     → Explained (lowered_calls (operations_of T K) R handler begin) (K.of w.seen) (run (lowered_calls (operations_of T K) R handler begin) events (fresh (lowered_calls (operations_of T K) R handler begin) w))
 refined T K R handler begin lawful below core starts atomic w events shows inv base idle honest =

@@ -6,7 +6,7 @@ use Rattle.atomic_programs.specs.Prog.{Ret, Do, bind, Did, Waits, Ran, Stops, as
 use Rattle.atomic_programs.specs.Logic.{Machine, P, Answered, own, onto, oldest_first, Goes, placed_with, Grown, Good, Wp, Laws}
 use Rattle.atomic_programs.specs.Calls.{Theory, Begins, Begun, Ends, Lawful, Event, AllHonest, run, fresh, is_some}
 use Rattle.atomic_programs.specs.Explained.{Explained}
-use Rattle.atomic_programs.specs.Joined.{Lower, Both, joined, LowerLaws, Handlers, lowered, Lasts, Below, Atomic}
+use Rattle.atomic_programs.specs.Joined.{Lower, Both, joined, LowerLaws, Handed, Handlers, lowered, Lasts, Below, Atomic}
 use Rattle.atomic_programs.specs.Lowered.{Starts, began_to, lowered_calls, StartsBoth}
 use Rattle.atomic_programs.specs.Operations.{Core, IsCore, operations, operations_of}
 use Rattle.atomic_programs.specs.Noted.{Noted, Runs, Places, Notes, noted_steps, noted, After, Within, IsWhole, noted_calls}
@@ -58,58 +58,56 @@ tail_is : {A : Type 0} (x y : A) (xs ys : List A) → x ∷ xs ≡ y ∷ ys → 
 tail_is x y xs ys e = cc
 
 -- some operations that a program makes
-some_after : (L : Machine) → ((op : L.Op) → L.Answer op) → {A : Type 0} (q : P L A) (Then : Notes L → Type 0) (rest : Notes L) → Then rest → (es : Notes L) × After L q es Then
-some_after L some (Ret a) Then rest t = (rest, t)
-some_after L some (Do op m k) Then rest t = let x = some_after L some (k (some op)) Then rest t in (Runs (op, some op) ∷ x.0, (some op, refl, x.1))
+some_after : (L : Machine) → ((op : L.Op) → L.Answer op) → {A : Type 0} (q : P L A) (Then : A → Notes L → Type 0) → ((a : A) → (rest : Notes L) × Then a rest) → (es : Notes L) × After L q es Then
+some_after L some (Ret a) Then tail = tail a
+some_after L some (Do op m k) Then tail = let x = some_after L some (k (some op)) Then tail in (Runs (op, some op) ∷ x.0, (some op, refl, x.1))
 
 -- One program in which one step of the form `entry` is placed: its operations are noted, and that step within them. Tail is of
--- what comes after the program, Whole of all.
-module _ (L : Machine) (alone : Alone L) (clean : (w : L.World) → L.Clean w) (some : (op : L.Op) → L.Answer op) (h : ℕ) {A : Type 0} (answer : A) (entry : A → L.Step) {Reply : Type 0} (Tail : A → Notes L → Reply → Type 0)
-    (Whole : Notes L → Reply → Type 0) (tail : (b : A) → (rest : Notes L) × (r : Reply) × Tail b rest r) where
+-- what comes after the step's answer and the program's end, Whole of all; the program's end tells that answer.
+module _ (L : Machine) (alone : Alone L) (clean : (w : L.World) → L.Clean w) (some : (op : L.Op) → L.Answer op) (h : ℕ) {A X : Type 0} (told : A → X) (answer : X) (entry : X → L.Step) {Reply : Type 0} (Tail : X → A → Notes L → Reply → Type 0)
+    (Whole : Notes L → Reply → Type 0) (reply : X → Reply) (tail : (b : X) (a : A) → (rest : Notes L) × Tail b a rest (reply b)) where
   -- nothing is placed yet
   abbrev ToAct : P L A → Notes L → Type 0
-  ToAct q fs = (rest : Notes L) (r : Reply) → Within L entry q rest (λ b es. Tail b es r) → Whole (onto fs rest) r
+  ToAct q fs = (rest : Notes L) (r : Reply) → Within L entry q rest (λ b a es. Tail b a es r) → Whole (onto fs rest) r
 
   -- e is placed
   abbrev HasActed : P L A → L.Step → Notes L → Type 0
-  HasActed q e fs = (b : A) (rest : Notes L) (r : Reply) → e ≡ entry b → After L q rest (λ es. Tail b es r) → Whole (onto fs rest) r
+  HasActed q e fs = (b : X) (rest : Notes L) (r : Reply) → e ≡ entry b → After L q rest (λ a es. Tail b a es r) → Whole (onto fs rest) r
 
   abbrev Stage : P L A → List L.Step → Notes L → Type 0
-  Stage q gs fs = ((gs ≡ []) × ToAct q fs) ⊎ ((e : L.Step) × (gs ≡ e ∷ []) × ((b : A) × (e ≡ entry b)) × HasActed q e fs)
+  Stage q gs fs = ((gs ≡ []) × ToAct q fs) ⊎ ((e : L.Step) × (gs ≡ e ∷ []) × ((b : X) × (e ≡ entry b)) × HasActed q e fs)
 
   abbrev Seam : A → Notes L → Type 0
-  Seam b fs = (rest : Notes L) (r : Reply) → Tail b rest r → Whole (onto fs rest) r
+  Seam a fs = (rest : Notes L) (r : Reply) → Tail (told a) a rest r → Whole (onto fs rest) r
 
   abbrev pub BegunWhole : Notes L → Type 0
   BegunWhole fs = (rest : Notes L) × (r : Reply) × Whole (oldest_first fs ++ rest) r
 
   abbrev pub OneEntry : List L.Step → Type 0
-  OneEntry gs = (b : A) × (gs ≡ entry b ∷ [])
+  OneEntry gs = (b : X) × (gs ≡ entry b ∷ [])
 
   turned : (fs rest : Notes L) (r : Reply) → Whole (onto fs rest) r → Whole (oldest_first fs ++ rest) r
   turned fs rest r w = subst (λ (zs : Notes L). Whole zs r) (onto_rest fs [] rest) w
 
-  begun_acted : (q : P L A) (e : L.Step) (fs : Notes L) (b : A) → e ≡ entry b → HasActed q e fs → BegunWhole fs
+  begun_acted : (q : P L A) (e : L.Step) (fs : Notes L) (b : X) → e ≡ entry b → HasActed q e fs → BegunWhole fs
   begun_acted q e fs b is way =
-      let t = tail b in
-      let x = some_after L some q (λ es. Tail b es t.1) t.0 t.2 in
-      (x.0, t.1, turned fs x.0 t.1 (way b x.0 t.1 is x.1))
+      let x = some_after L some q (λ a es. Tail b a es (reply b)) (tail b) in
+      (x.0, reply b, turned fs x.0 (reply b) (way b x.0 (reply b) is x.1))
 
   begun_to_act : (op : L.Op) (m : L.Answer op → Option L.Mark) (k : L.Answer op → P L A) (fs : Notes L) → ToAct (Do op m k) fs → BegunWhole fs
   begun_to_act op m k fs way =
-      let t = tail answer in
-      let x = some_after L some (k (some op)) (λ es. Tail answer es t.1) t.0 t.2 in
+      let x = some_after L some (k (some op)) (λ a es. Tail answer a es (reply answer)) (tail answer) in
       let rest : Notes L = Runs (op, some op) ∷ Places (entry answer) ∷ x.0 in
-      (rest, t.1, turned fs rest t.1 (way rest t.1 (some op, refl, inr (answer, refl, x.1))))
+      (rest, reply answer, turned fs rest (reply answer) (way rest (reply answer) (some op, refl, inr (answer, refl, x.1))))
 
-  module _ (C : A → List L.Step → L.World → Type 0) (ends : (b : A) (gs : List L.Step) (w : L.World) → C b gs w → gs ≡ entry b ∷ []) where
+  module _ (C : A → List L.Step → L.World → Type 0) (ends : (a : A) (gs : List L.Step) (w : L.World) → C a gs w → gs ≡ entry (told a) ∷ []) where
     -- the program has ended, and its step is placed
     abbrev Q : A → Notes L → L.World → Type 0
     Q b es u = Seam b es × ((ys : List L.Step) × C b ys u)
 
     begun_stage : (q : P L A) (n : ℕ) (gs : List L.Step) (w : L.World) (fs : Notes L) → Stage q gs fs → Wp L h OneEntry C q n gs w → BegunWhole fs
     begun_stage q n gs w fs (inr s) g = begun_acted q s.0 fs s.2.0 s.2.1 s.3
-    begun_stage (Ret b) n gs w fs (inl s) g = absurd (let e : [] ≡ entry b ∷ [] = sym s.0 ∙ ends b gs w g in cc)
+    begun_stage (Ret b) n gs w fs (inl s) g = absurd (let e : [] ≡ entry (told b) ∷ [] = sym s.0 ∙ ends b gs w g in cc)
     begun_stage (Do op m k) n gs w fs (inl s) g = begun_to_act op m k fs s.1
 
     -- one operation more, at which zs were placed
@@ -128,8 +126,8 @@ module _ (L : Machine) (alone : Alone L) (clean : (w : L.World) → L.Clean w) (
 
     inside : (q : P L A) (n : ℕ) (gs : List L.Step) (w : L.World) (fs : Notes L) → Stage q gs fs → Wp L h OneEntry C q n gs w
         → Wp (noted L) h BegunWhole Q q n fs w
-    inside (Ret b) n gs w fs (inl s) g = absurd (let e : [] ≡ entry b ∷ [] = sym s.0 ∙ ends b gs w g in cc)
-    inside (Ret b) n gs w fs (inr s) g = (λ rest r t. s.3 b rest r (head_is s.0 (entry b) [] [] (sym s.1 ∙ ends b gs w g)) t, (gs, g))
+    inside (Ret b) n gs w fs (inl s) g = absurd (let e : [] ≡ entry (told b) ∷ [] = sym s.0 ∙ ends b gs w g in cc)
+    inside (Ret b) n gs w fs (inr s) g = (λ rest r t. s.3 (told b) rest r (head_is s.0 (entry (told b)) [] [] (sym s.1 ∙ ends b gs w g)) t, (gs, g))
     inside (Do op m k) n gs w fs s g =
         λ v xs o i. let q = g v [] o.1 i in (
           λ y. inl o.0,
@@ -170,46 +168,49 @@ module _ (L : Machine) (alone : Alone L) (clean : (w : L.World) → L.Clean w) (
         made v ih (Stops u) f = record { halted = f.halted; kept = λ other ne. (refl, f.kept other ne); tree = f.tree; clean = f.clean }
 
 -- The lowered program: at each seam between two operations above the notes so far are whole runs of handlers.
-module _ (U : Machine) (K : Core U) (R : Lower U.World) (handler : Handlers U R) (some : (op : U.Op) → U.Answer op) (some_below : (op : R.Op) → R.Answer op) (steps : (op : U.Op) (m : U.Answer op → Option U.Mark) → is_some (asks (handler op m)) ≡ true) where
+module _ (U : Machine) (K : Core U) (R : Lower U.World) (handler : Handlers U R) (some : (op : U.Op) → U.Answer op) (some_below : (op : R.Op) → R.Answer op) (steps : (c : R.Carry) (op : U.Op) (m : U.Answer op → Option U.Mark) → is_some (asks (handler c op m)) ≡ true) where
   abbrev J : Machine
   J = joined (operations U K) R
 
-  some_within : {A B : Type 0} (entry : B → Answered U) (q : P J A) (b : B) (Then : B → Notes J → Type 0) (rest : Notes J) → is_some (asks q) ≡ true → Then b rest → (es : Notes J) × Within J entry q es Then
-  some_within entry (Ret a) b Then rest e t = absurd cc
-  some_within entry (Do op m k) b Then rest e t =
-      let x = some_after J some_below (k (some_below op)) (Then b) rest t in
+  some_within : {A B : Type 0} (entry : B → Answered U) (q : P J A) (b : B) (Then : B → A → Notes J → Type 0) → is_some (asks q) ≡ true → ((a : A) → (rest : Notes J) × Then b a rest) → (es : Notes J) × Within J entry q es Then
+  some_within entry (Ret a) b Then e tail = absurd cc
+  some_within entry (Do op m k) b Then e tail =
+      let x = some_after J some_below (k (some_below op)) (Then b) tail in
       (Runs (op, some_below op) ∷ Places (entry b) ∷ x.0, (some_below op, refl, inr (b, refl, x.1)))
 
-  some_whole : {A : Type 0} (p : P U A) → (rest : Notes J) × (r : A) × IsWhole U K R handler p rest r
-  some_whole (Ret a) = ([], a, refl)
-  some_whole (Do op m k) =
-      let x = some_whole (k (some op)) in
-      let y = some_within (λ b. (op, b)) (handler op m) (some op) (λ b es. IsWhole U K R handler (k b) es x.1) x.0 (steps op m) x.2 in
-      (y.0, x.1, y.1)
+  -- what a program comes to by some answers, whatever is in hand
+  abbrev some_reply : {A : Type 0} → P U A → A
+  some_reply (Ret a) = a
+  some_reply (Do op m k) = some_reply (k (some op))
+
+  some_whole : {A : Type 0} (c : R.Carry) (p : P U A) → (rest : Notes J) × IsWhole U K R handler c p rest (some_reply p)
+  some_whole c (Ret a) = ([], refl)
+  some_whole c (Do op m k) =
+      some_within (λ b. (op, b)) (handler c op m) (some op) (λ b x es. IsWhole U K R handler x.carry (k b) es (some_reply (k (some op)))) (steps c op m) (λ x. some_whole x.carry (k (some op)))
 
   module _ (above : Laws U) (below : LowerLaws U R) (h : ℕ) (atomic : (op : U.Op) (m : U.Answer op → Option U.Mark) → Atomic (operations U K) R handler h op m) {A : Type 0} (whole : P U A)
       (B : List (Answered U) → Type 0) (Q : A → List (Answered U) → U.World → Type 0) (lasts : Lasts (operations U K) h B Q) (idle : (a : A) (es : List (Answered U)) (w : U.World) → Q a es w → U.Idle h w) where
     abbrev pub Noted_so_far : Notes J → Type 0
-    Noted_so_far fs = (rest : Notes J) × (r : A) × IsWhole U K R handler whole (oldest_first fs ++ rest) r
+    Noted_so_far fs = (rest : Notes J) × (r : A) × IsWhole U K R handler R.none whole (oldest_first fs ++ rest) r
 
     abbrev pub Noted_whole : A → Notes J → Both R.World U.World → Type 0
-    Noted_whole r fs w = IsWhole U K R handler whole (oldest_first fs) r × J.Idle h w
+    Noted_whole r fs w = IsWhole U K R handler R.none whole (oldest_first fs) r × J.Idle h w
 
-    pub handles : (p : P U A) (n : ℕ) (es : List (Answered U)) (fs : Notes J) (w : Both R.World U.World) → ((rest : Notes J) (r : A) → IsWhole U K R handler p rest r → IsWhole U K R handler whole (onto fs rest) r)
-        → Wp (operations U K) h B Q p n es w.seen → R.Base h w.real w.seen → U.Inv w.seen → Wp (noted J) h Noted_so_far Noted_whole (lowered (operations U K) R handler p) n fs w
-    handles (Ret a) n es fs w way g b inv = (way [] a refl, (b, idle a es w.seen g))
-    handles (Do op m k) n es fs w way g b inv =
-        Wp-more (noted J) h (bind (handler op m) (λ a. lowered (operations U K) R handler (k a))) Noted_so_far Noted_whole (suc (U.more op) + (n - suc (U.more op))) n fs w (omega (arith, enough))
-        (Wp-bind (noted J) h (handler op m) (λ a. lowered (operations U K) R handler (k a)) Noted_so_far Noted_whole (suc (U.more op)) (n - suc (U.more op)) fs w
-        (Wp-weaker (noted J) h (handler op m) Noted_so_far Noted_so_far (λ a ys u. Sm a ys × ((zs : List (Answered U)) × Below (operations U K) R h C a zs u)) (λ a. Wp (noted J) h Noted_so_far Noted_whole (lowered (operations U K) R handler (k a)) (n - suc (U.more op))) (suc (U.more op)) fs w (λ ys c. c)
-        (λ a ys u c. let d = c.1.1 in handles (k a) (n - suc (U.more op)) d.0.1.0 ys u c.0 d.0.1.1 d.1 d.0.2)
-        (inside J (λ j v u xs o. o.1.0) (λ v. tt) some_below h (some op) (λ a. (op, a)) (λ a ys r. IsWhole U K R handler (k a) ys r) (λ ys r. IsWhole U K R handler whole ys r) (λ a. some_whole (k a)) (Below (operations U K) R h C) (λ a zs u c. c.0.0) (handler op m) (suc (U.more op)) [] w fs (inl (refl, way))
-        (atomic op m One C [] w
-        (λ a gs xs v u o i c. (
+    pub handles : (p : P U A) (c : R.Carry) (n : ℕ) (es : List (Answered U)) (fs : Notes J) (w : Both R.World U.World) → ((rest : Notes J) (r : A) → IsWhole U K R handler c p rest r → IsWhole U K R handler R.none whole (onto fs rest) r)
+        → Wp (operations U K) h B Q p n es w.seen → R.Base h w.real w.seen c → U.Inv w.seen → Wp (noted J) h Noted_so_far Noted_whole (lowered (operations U K) R handler c p) n fs w
+    handles (Ret a) c n es fs w way g b inv = (way [] a refl, (below.idle h w.real w.seen c inv (idle a es w.seen g) b, idle a es w.seen g))
+    handles (Do op m k) c n es fs w way g b inv =
+        Wp-more (noted J) h (bind (handler c op m) rest) Noted_so_far Noted_whole (suc (U.more op) + (n - suc (U.more op))) n fs w (omega (arith, enough))
+        (Wp-bind (noted J) h (handler c op m) rest Noted_so_far Noted_whole (suc (U.more op)) (n - suc (U.more op)) fs w
+        (Wp-weaker (noted J) h (handler c op m) Noted_so_far Noted_so_far (λ x ys u. Sm x ys × ((zs : List (Answered U)) × Below (operations U K) R h C x zs u)) (λ x. Wp (noted J) h Noted_so_far Noted_whole (rest x) (n - suc (U.more op))) (suc (U.more op)) fs w (λ ys e. e)
+        (λ x ys u e. let d = e.1.1 in handles (k x.answer) x.carry (n - suc (U.more op)) d.0.1.0 ys u e.0 d.0.1.1 d.1 d.0.2)
+        (inside J (λ j v u xs o. o.1.0) (λ v. tt) some_below h (λ x. x.answer) (some op) (λ a. (op, a)) (λ a x ys r. IsWhole U K R handler x.carry (k a) ys r) (λ ys r. IsWhole U K R handler R.none whole ys r) (λ a. some_reply (k a)) (λ a x. some_whole x.carry (k a)) (Below (operations U K) R h C) (λ x zs u e. e.0.0) (handler c op m) (suc (U.more op)) [] w fs (inl (refl, way))
+        (atomic op m c One C [] w
+        (λ a gs xs v u o i e. (
           λ y. inl o.0,
           (
-            subst (λ (zs : List (Answered U)). onto zs gs ≡ (op, a) ∷ []) (sym o.0) c.0,
-            (onto xs c.1.0, Wp-others (operations U K) (operations_laws U K above) h (k a) B Q (n - suc (U.more op)) c.1.0 xs v u (λ x e. (lasts x c.1.0 xs v u o i e).1) o c.1.1),
+            subst (λ (zs : List (Answered U)). onto zs gs ≡ (op, a) ∷ []) (sym o.0) e.0,
+            (onto xs e.1.0, Wp-others (operations U K) (operations_laws U K above) h (k a) B Q (n - suc (U.more op)) e.1.0 xs v u (λ x d. (lasts x e.1.0 xs v u o i d).1) o e.1.1),
             i,
           ),
         ))
@@ -221,8 +222,11 @@ module _ (U : Machine) (K : Core U) (R : Lower U.World) (handler : Handlers U R)
         C : U.Answer op → List (Answered U) → U.World → Type 0
         C a gs u = (gs ≡ (op, a) ∷ []) × ((ys : List (Answered U)) × Wp (operations U K) h B Q (k a) (n - suc (U.more op)) ys u) × U.Inv u
 
-        Sm : U.Answer op → Notes J → Type 0
-        Sm a ys = (rest : Notes J) (r : A) → IsWhole U K R handler (k a) rest r → IsWhole U K R handler whole (onto ys rest) r
+        rest : Handed (U.Answer op) R.Carry → P J A
+        rest x = lowered (operations U K) R handler x.carry (k x.answer)
+
+        Sm : Handed (U.Answer op) R.Carry → Notes J → Type 0
+        Sm x ys = (rest : Notes J) (r : A) → IsWhole U K R handler x.carry (k x.answer) rest r → IsWhole U K R handler R.none whole (onto ys rest) r
 
         enough : U.more op < n
         enough = (g w.seen [] (refl, ([], above.same h w.seen)) inv).3
@@ -251,7 +255,7 @@ module _ (U : Machine) (K : Core U) (R : Lower U.World) (handler : Handlers U R)
         one v ys gs e (Stops u) q = q
 
 module _ (T : Theory) (K : Core T.M) (R : Lower T.M.World) (handler : Handlers T.M R) (begin : Starts T R) (lawful : Lawful T) (below : LowerLaws T.M R) (core : IsCore T K) (starts : StartsBoth T R begin)
-    (atomic : (h : ℕ) (op : T.M.Op) (m : T.M.Answer op → Option T.M.Mark) → Atomic (operations T.M K) R handler h op m) (some_below : (op : R.Op) → R.Answer op) (steps : (op : T.M.Op) (m : T.M.Answer op → Option T.M.Mark) → is_some (asks (handler op m)) ≡ true) where
+    (atomic : (h : ℕ) (op : T.M.Op) (m : T.M.Answer op → Option T.M.Mark) → Atomic (operations T.M K) R handler h op m) (some_below : (op : R.Op) → R.Answer op) (steps : (c : R.Carry) (op : T.M.Op) (m : T.M.Answer op → Option T.M.Mark) → is_some (asks (handler c op m)) ≡ true) where
   abbrev N : Theory
   N = noted_calls T K R handler begin
 
@@ -275,7 +279,7 @@ module _ (T : Theory) (K : Core T.M) (R : Lower T.M.World) (handler : Handlers T
         laws = noted_laws L.M lawful_below.laws;
         calls = λ h call busy w u holds idle free e.
             let r = lawful_below.calls h call busy w u holds idle free e in
-            let x = some_whole T.M K R handler core.some some_below steps (T.program call) in
+            let x = some_whole T.M K R handler core.some some_below steps R.none (T.program call) in
             record {
               inv = r.inv;
               halted = r.halted;
@@ -283,7 +287,7 @@ module _ (T : Theory) (K : Core T.M) (R : Lower T.M.World) (handler : Handlers T
               rests = r.rests;
               tree = r.tree;
               clean = r.clean;
-              none = λ y. (x.0, x.1, x.2);
+              none = λ y. (x.0, some_reply T.M K R handler core.some some_below steps (T.program call), x.1);
               runs = λ i. runs h call busy w u holds idle free e i;
             };
       }
@@ -305,8 +309,8 @@ module _ (T : Theory) (K : Core T.M) (R : Lower T.M.World) (handler : Handlers T
           let r = lawful_above.calls h call busy w.seen b.above (inl (inv_of w holds)) (λ j n. (idle j n).1) free b.begins in
           Wp-weaker N.M h (N.program call) (Noted_so_far T.M K R handler core.some some_below steps lawful.laws below h (atomic h) (T.program call) (Begun (operations_of T K) call) (Ends (operations_of T K) h call) lasts ends_idle) (Begun N call)
           (Noted_whole T.M K R handler core.some some_below steps lawful.laws below h (atomic h) (T.program call) (Begun (operations_of T K) call) (Ends (operations_of T K) h call) lasts ends_idle) (Ends N h call) (T.limit call) [] u (λ ys c. c) (λ a ys v c. (λ y. c.0, c.1))
-          (handles T.M K R handler core.some some_below steps lawful.laws below h (atomic h) (T.program call) (Begun (operations_of T K) call) (Ends (operations_of T K) h call) lasts ends_idle (T.program call) (T.limit call) [] [] u (λ rest a t. t)
-          (subst (λ (g : T.M.World). Wp (operations T.M K) h (Begun (operations_of T K) call) (Ends (operations_of T K) h call) (T.program call) (T.limit call) [] g) (sym is) (r.runs (subst T.M.Inv is i.1))) (subst (λ (g : T.M.World). R.Base h u.real g) (sym is) (b.rests h free)) i.1)
+          (handles T.M K R handler core.some some_below steps lawful.laws below h (atomic h) (T.program call) (Begun (operations_of T K) call) (Ends (operations_of T K) h call) lasts ends_idle (T.program call) R.none (T.limit call) [] [] u (λ rest a t. t)
+          (subst (λ (g : T.M.World). Wp (operations T.M K) h (Begun (operations_of T K) call) (Ends (operations_of T K) h call) (T.program call) (T.limit call) [] g) (sym is) (r.runs (subst T.M.Inv is i.1))) (subst (λ (g : T.M.World). R.Base h u.real g R.none) (sym is) (b.rests h free)) i.1)
         where
           lasts : Lasts (operations T.M K) h (Begun (operations_of T K) call) (Ends (operations_of T K) h call)
           lasts a fs xs v y o j c = (λ z. inl (lawful_above.laws.idle_none h v y xs o c.1), ends_last (operations_of T K) lawful_above h call a fs xs v y o c)
@@ -315,6 +319,6 @@ module _ (T : Theory) (K : Core T.M) (R : Lower T.M.World) (handler : Handlers T
           ends_idle a es v c = c.1
 
   -- each run of lowered calls, event by event
-  pub refined_within : (w : Both R.World T.M.World) (events : List (Event T.Call R.Outside)) → R.Shows w.real w.seen → T.M.Inv w.seen → ((h : ℕ) → R.Base h w.real w.seen) → ((h : ℕ) → T.M.Idle h w.seen) → AllHonest N events (fresh N w)
+  pub refined_within : (w : Both R.World T.M.World) (events : List (Event T.Call R.Outside)) → R.Shows w.real w.seen → T.M.Inv w.seen → ((h : ℕ) → R.Base h w.real w.seen R.none) → ((h : ℕ) → T.M.Idle h w.seen) → AllHonest N events (fresh N w)
       → Explained N (K.of w.seen) (run N events (fresh N w))
   refined_within w events shows inv base idle honest = explains N noted_lawful w events (shows, inv) (λ h. (base h, idle h)) honest

@@ -31,8 +31,12 @@ pub record Lower (Above : Type 0) : Type 1 where
   pub Same : ℕ → World → World → Type 0
   -- what the others leave to the hart of the world above
   pub Kept : ℕ → Above → Above → Type 0
-  -- what the hart has below between two operations above
-  pub Base : ℕ → World → Above → Type 0
+  -- what a hart may have in hand between two operations above, for the programs of the next ones to know
+  pub Carry : Type 0
+  -- nothing, as a call begins
+  pub none : Carry
+  -- what the hart has below between two operations above, with this in hand
+  pub Base : ℕ → World → Above → Carry → Type 0
 
 -- the world of the code, and the one that the proof sees in it
 pub record Both (R S : Type 0) : Type 0 where
@@ -87,7 +91,7 @@ joined U R =
       Inv = λ w. R.Shows w.real w.seen × U.Inv w.seen;
       Halted = λ w. R.Halted w.real w.seen × U.Inv w.seen;
       Others = λ h v xs w. R.Same h v.real w.real × U.Others h v.seen xs w.seen;
-      Idle = λ h w. R.Base h w.real w.seen × U.Idle h w.seen;
+      Idle = λ h w. R.Base h w.real w.seen R.none × U.Idle h w.seen;
       MayWait = λ h op w. R.MayWait h op w.real;
       Clean = λ w. U.Clean w.seen;
     }
@@ -97,19 +101,35 @@ pub record LowerLaws (U : Machine) (R : Lower U.World) : Type 0 where
   pub same : (h : ℕ) (w : R.World) → R.Same h w w
   pub trans : (h : ℕ) (u v w : R.World) → R.Same h u v → R.Same h v w → R.Same h u w
   pub kept : (h : ℕ) (g u : U.World) (xs : List U.Step) → U.Others h g xs u → R.Kept h g u
-  pub base : (h : ℕ) (v w : R.World) (g u : U.World) → R.Same h v w → R.Kept h g u → R.Base h v g → R.Base h w u
+  pub base : (h : ℕ) (v w : R.World) (g u : U.World) (c : R.Carry) → R.Same h v w → R.Kept h g u → R.Base h v g c → R.Base h w u c
+  -- a hart that owns nothing above has nothing in hand
+  pub idle : (h : ℕ) (w : R.World) (g : U.World) (c : R.Carry) → U.Inv g → U.Idle h g → R.Base h w g c → R.Base h w g R.none
 
--- each operation above as a program below
+-- what an operation's program below ends with: the answer above, and what the hart has in hand after it
+pub record Handed (A C : Type 0) : Type 0 where
+  pub answer : A
+  pub carry : C
+
+-- a program that ends with this in hand
+abbrev pub holding : {Op : Type 0} {Answer : Op → Type 0} {M A C : Type 0} → C → Prog Op Answer M A → Prog Op Answer M (Handed A C)
+holding c p = bind p (λ a. Ret (record { answer = a; carry = c }))
+
+-- each operation above as a program below, for a hart with this in hand
 abbrev pub Handlers : (U : Machine) → Lower U.World → Type 0
-Handlers U R = (op : U.Op) → (U.Answer op → Option U.Mark) → Prog R.Op R.Answer (ActOf U) (U.Answer op)
+Handlers U R = R.Carry → (op : U.Op) → (U.Answer op → Option U.Mark) → Prog R.Op R.Answer (ActOf U) (Handed (U.Answer op) R.Carry)
 
-abbrev pub lowered : (U : Machine) (R : Lower U.World) → Handlers U R → {A : Type 0} → P U A → Prog R.Op R.Answer (ActOf U) A
-lowered U R handler (Ret a) = Ret a
-lowered U R handler (Do op m k) = bind (handler op m) (λ a. lowered U R handler (k a))
+-- each operation's program hands on to the next one's what is in hand
+abbrev pub lowered : (U : Machine) (R : Lower U.World) → Handlers U R → {A : Type 0} → R.Carry → P U A → Prog R.Op R.Answer (ActOf U) A
+lowered U R handler c (Ret a) = Ret a
+lowered U R handler c (Do op m k) = bind (handler c op m) (λ r. lowered U R handler r.carry (k r.answer))
 
--- C holds above, and the hart has below what it has between two operations
-abbrev pub Below : (U : Machine) (R : Lower U.World) → {A : Type 0} → ℕ → (A → List U.Step → U.World → Type 0) → A → List U.Step → Both R.World U.World → Type 0
-Below U R h C a es w = C a es w.seen × R.Base h w.real w.seen
+-- C holds above, and the hart has below what it has between two operations, with what the program hands on
+abbrev pub Below : (U : Machine) (R : Lower U.World) → {A : Type 0} → ℕ → (A → List U.Step → U.World → Type 0) → Handed A R.Carry → List U.Step → Both R.World U.World → Type 0
+Below U R h C r es w = C r.answer es w.seen × R.Base h w.real w.seen r.carry
+
+-- the same at the end of a whole program, whatever it leaves in hand, in a world above that holds
+abbrev pub AtEnd : (U : Machine) (R : Lower U.World) → {A : Type 0} → ℕ → (A → List U.Step → U.World → Type 0) → A → List U.Step → Both R.World U.World → Type 0
+AtEnd U R h C a es w = C a es w.seen × U.Inv w.seen × ((c : R.Carry) × R.Base h w.real w.seen c)
 
 -- C lasts while the others step
 abbrev pub Lasts : (L : Machine) {A : Type 0} → ℕ → (List L.Step → Type 0) → (A → List L.Step → L.World → Type 0) → Type 0
@@ -117,9 +137,10 @@ Lasts L {A} h B C =
     (a : A) (fs xs : List L.Step) (v u : L.World) → L.Others h v xs u → L.Inv u → C a fs v → (L.Clean u → Grown B xs fs) × C a (onto xs fs) u
 
 -- An operation's program below acts at one moment: whatever the operation alone is shown to do above, its program does
--- below, though others step before and after that moment, and in as many steps as it counts for.
+-- below, though others step before and after that moment, and in as many steps as it counts for. It does so whatever the
+-- hart has in hand, and what it hands on is again what Base is of.
 abbrev pub Atomic : (U : Machine) (R : Lower U.World) → Handlers U R → ℕ → (op : U.Op) → (U.Answer op → Option U.Mark) → Type 1
 Atomic U R handler h op m =
-    (B : List U.Step → Type 0) (C : U.Answer op → List U.Step → U.World → Type 0) (es : List U.Step) (w : Both R.World U.World)
-    → Lasts U h B C → Wp U h B C (once op m) (suc (U.more op)) es w.seen → R.Base h w.real w.seen
-    → Wp (joined U R) h B (Below U R h C) (handler op m) (suc (U.more op)) es w
+    (c : R.Carry) (B : List U.Step → Type 0) (C : U.Answer op → List U.Step → U.World → Type 0) (es : List U.Step) (w : Both R.World U.World)
+    → Lasts U h B C → Wp U h B C (once op m) (suc (U.more op)) es w.seen → R.Base h w.real w.seen c
+    → Wp (joined U R) h B (Below U R h C) (handler c op m) (suc (U.more op)) es w

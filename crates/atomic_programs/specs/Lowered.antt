@@ -27,7 +27,7 @@ lowered_calls T R handler begin =
       Refusal = T.Refusal;
       start = λ h call busy w. began_both (began_to w.seen (T.start h call busy w.seen)) (begin h call busy w.real);
       busy = T.busy;
-      program = λ call. lowered T.M R handler (T.program call);
+      program = λ call. lowered T.M R handler R.none (T.program call);
       Written = T.Written;
       limit = T.limit;
     }
@@ -40,13 +40,13 @@ pub record BeginsBoth (T : Theory) (R : Lower T.M.World) (h : ℕ) (call : T.Cal
   pub halted : R.Halted r g → R.Halted s above
   -- it takes nothing from a call under way
   pub kept : (other : ℕ) → other ≢ h → busy other ≡ true → R.Same other r s
-  -- a hart without a call has what a hart has between two operations
-  pub rests : (other : ℕ) → busy other ≡ false → R.Base other s above
+  -- a hart without a call has what a hart has between two operations, and nothing in hand
+  pub rests : (other : ℕ) → busy other ≡ false → R.Base other s above R.none
 
 -- what a project shows of the starts below
 abbrev pub StartsBoth : (T : Theory) (R : Lower T.M.World) → Starts T R → Type 0
 StartsBoth T R begin =
-    (h : ℕ) (call : T.Call) (busy : ℕ → Bool) (r s : R.World) (g : T.M.World) → R.Shows r g ⊎ R.Halted r g → T.M.Inv g → ((other : ℕ) → busy other ≡ false → R.Base other r g × T.M.Idle other g) → busy h ≡ false
+    (h : ℕ) (call : T.Call) (busy : ℕ → Bool) (r s : R.World) (g : T.M.World) → R.Shows r g ⊎ R.Halted r g → T.M.Inv g → ((other : ℕ) → busy other ≡ false → R.Base other r g R.none × T.M.Idle other g) → busy h ≡ false
     → begin h call busy r ≡ Begins s → BeginsBoth T R h call busy r s g
 
 -- What the code has: the world below alone. The kind of a step is told by the operation below, with its answer.

@@ -52,31 +52,32 @@ noted L =
       Clean = L.Clean;
     }
 
--- first the program's operations, and nothing else; then what is Then
-abbrev pub After : (L : Machine) → {A : Type 0} → P L A → Notes L → (Notes L → Type 0) → Type 0
-After L (Ret a) es Then = Then es
+-- first the program's operations, and nothing else; then what is Then, of what the program ends with
+abbrev pub After : (L : Machine) → {A : Type 0} → P L A → Notes L → (A → Notes L → Type 0) → Type 0
+After L (Ret a) es Then = Then a es
 After L (Do op m k) [] Then = ⊥
 After L (Do op m k) (e ∷ es) Then = (a : L.Answer op) × (e ≡ Runs (op, a)) × After L (k a) es Then
 
 -- first a step of the form `entry`, then the program's operations; then what is Then
-abbrev pub Now : (L : Machine) → {A B : Type 0} → (B → L.Step) → P L A → Notes L → (B → Notes L → Type 0) → Type 0
+abbrev pub Now : (L : Machine) → {A B : Type 0} → (B → L.Step) → P L A → Notes L → (B → A → Notes L → Type 0) → Type 0
 Now L {A} {B} entry p [] Then = ⊥
 Now L {A} {B} entry p (e ∷ es) Then = (b : B) × (e ≡ Places (entry b)) × After L p es (Then b)
 
 -- First the program's operations, and right after one of them one step of the form `entry`: it is placed at that operation's
 -- event, so neither before the first one nor after the last. Then what is Then.
-abbrev pub Within : (L : Machine) → {A B : Type 0} → (B → L.Step) → P L A → Notes L → (B → Notes L → Type 0) → Type 0
+abbrev pub Within : (L : Machine) → {A B : Type 0} → (B → L.Step) → P L A → Notes L → (B → A → Notes L → Type 0) → Type 0
 Within L entry (Ret a) es Then = ⊥
 Within L entry (Do op m k) [] Then = ⊥
 Within L entry (Do op m k) (e ∷ es) Then = (a : L.Answer op) × (e ≡ Runs (op, a)) × (Within L entry (k a) es Then ⊎ Now L entry (k a) es Then)
 
 -- The notes, the oldest first, of a run of the program above that ends with r: for each of its operations, one after the
 -- other, a whole run of the operation's program below, and within it the operation with its answer, once. By that answer the
--- program above goes on; the one that the program below ends with isn't compared.
-abbrev pub IsWhole : (U : Machine) (K : Core U) (R : Lower U.World) → Handlers U R → {A : Type 0} → P U A → Notes (joined (operations U K) R) → A → Type 0
-IsWhole U K R handler (Ret a) [] r = a ≡ r
-IsWhole U K R handler (Ret a) (e ∷ es) r = ⊥
-IsWhole U K R handler (Do op m k) es r = Within (joined (operations U K) R) (λ b. (op, b)) (handler op m) es (λ b rest. IsWhole U K R handler (k b) rest r)
+-- program above goes on; the one that the program below ends with isn't compared. What it ends with in hand is what the next
+-- operation's program has in hand: c, for the first one.
+abbrev pub IsWhole : (U : Machine) (K : Core U) (R : Lower U.World) → Handlers U R → {A : Type 0} → R.Carry → P U A → Notes (joined (operations U K) R) → A → Type 0
+IsWhole U K R handler c (Ret a) [] r = a ≡ r
+IsWhole U K R handler c (Ret a) (e ∷ es) r = ⊥
+IsWhole U K R handler c (Do op m k) es r = Within (joined (operations U K) R) (λ b. (op, b)) (handler c op m) es (λ b x rest. IsWhole U K R handler x.carry (k b) rest r)
 
 -- The same calls, each explained by all that is noted of it.
 abbrev pub with_notes : (L : Theory) → (L.Call → Notes L.M → L.Reply → Type 0) → Theory
@@ -84,7 +85,7 @@ with_notes L Written = record L { M = noted L.M; Written = Written }
 
 -- the lowered calls, each explained by the operations below that it ran, and those above within them
 abbrev pub noted_calls : (T : Theory) (K : Core T.M) (R : Lower T.M.World) → Handlers T.M R → Starts T R → Theory
-noted_calls T K R handler begin = with_notes (lowered_calls (operations_of T K) R handler begin) (λ call es r. IsWhole T.M K R handler (T.program call) es r)
+noted_calls T K R handler begin = with_notes (lowered_calls (operations_of T K) R handler begin) (λ call es r. IsWhole T.M K R handler R.none (T.program call) es r)
 
 -- an entry, where it is of a step that was placed
 abbrev pub entry_of : (L : Theory) → ℕ → ℕ → ℕ → Noted (Answered L.M) L.M.Step → List (Placed L) → List (Placed L)
