@@ -7,11 +7,12 @@ ghost use Rattle.fs_machine.specs.LogPart.{Outside};
 ghost use Rattle.fs_machine.specs.Steps.{State, state_of, exec, Put};
 ghost use Rattle.fs_machine.specs.Premises.{May};
 ghost use Rattle.fs_machine.specs.Machines.{MayNext, Moves, Answers};
-ghost use Rattle.fs_machine.specs.Tied.{LeavesTied, bytes_of};
+ghost use Rattle.fs_machine.specs.Tied.{IsOwn, LeavesTied, bytes_of};
+ghost use Rattle.fs_machine.specs.Stays.{LeavesApart, LeavesAllBut};
 ghost use Rattle.fs_machine.specs.Fetching.{IsFetched};
 ghost use Rattle.bitmap_alloc.specs.Bytes.{without_bit};
 ghost use Rattle.bitmap_alloc.specs.Programs.{free_block};
-ghost use Rattle.bitmap_alloc.specs.Machines.{free_of, FreeFits, in_freeing};
+ghost use Rattle.bitmap_alloc.specs.Machines.{free_of, FreeFits, FreeApart, in_freeing};
 
 use crate::bits::clear_in;
 use atomic_programs::machines::Stepped;
@@ -31,17 +32,18 @@ pub enum FreeBlock {
 
 impl FreeBlock {
     /// Block `b` of a disk whose bitmap is block `bmapstart`.
-    #[tactic(auto, unfolding(crate::specs::Machines::free_of, crate::specs::Machines::FreeFits, fs_machine::specs::Fetching::fetch_of, fs_machine::specs::Fetching::FetchFits))]
+    #[tactic(auto, unfolding(crate::specs::Machines::free_of, crate::specs::Machines::FreeFits, crate::specs::Machines::FreeApart, fs_machine::specs::Fetching::fetch_of, fs_machine::specs::Fetching::FetchFits, fs_machine::specs::Fetching::FetchApart))]
     pub fn new(bmapstart: u32, b: u32) -> FreeBlock
         requires { b < bits_per_block }
         ensures program { free_of result ≡ free_block bmapstart b }
         ensures fits { (hart : ℕ) (s : State) → FreeFits hart s result }
+        ensures apart { (b : ℕ) → FreeApart b result }
     {
         FreeBlock::Look(b, Fetch::Get(bmapstart))
     }
 
     /// One operation.
-    #[tactic(auto, unfolding(crate::specs::Machines::free_of, crate::specs::Machines::FreeFits, fs_machine::specs::Premises::Honest))]
+    #[tactic(auto, unfolding(crate::specs::Machines::free_of, crate::specs::Machines::FreeFits, crate::specs::Machines::FreeApart, fs_machine::specs::Premises::Honest))]
     pub fn step<D: Device>(
         self,
         hart: u8,
@@ -57,6 +59,8 @@ impl FreeBlock {
         ensures kept { txn.new ≡ txn.old }
         ensures fits { LeftOf (FreeFits hart (state_of D.contents D.failures core.new)) (λ _. Unit {0}) result }
         ensures others { LeavesTied hart (state_of D.contents D.failures core.old) (state_of D.contents D.failures core.new) }
+        ensures tables { core.new.tables ≡ core.old.tables }
+        ensures rest { LeavesApart FreeApart (λ _ _. Unit {0}) (IsOwn hart) self result (state_of D.contents D.failures core.old) (state_of D.contents D.failures core.new) }
     {
         match self {
             FreeBlock::Look(b, fetch) => looking(b, fetch.step(hart, core)),
@@ -90,6 +94,8 @@ fn unmark<D: Device>(b: u32, guard: Guard<Buffer>, hart: u8, txn: &mut Txn, core
         ≡ ItRan tt (state_of D.contents D.failures core.new) }
     ensures kept { txn.new ≡ txn.old }
     ensures others { LeavesTied hart (state_of D.contents D.failures core.old) (state_of D.contents D.failures core.new) }
+    ensures tables { core.new.tables ≡ core.old.tables }
+    ensures rest { LeavesAllBut guard.value.block (IsOwn hart) (state_of D.contents D.failures core.old) (state_of D.contents D.failures core.new) }
 {
     let mut guard = guard;
     clear_in(&mut guard, b as usize);

@@ -7,12 +7,13 @@ ghost use Rattle.fs_machine.specs.LogPart.{Outside};
 ghost use Rattle.fs_machine.specs.Steps.{State, state_of, exec, Put};
 ghost use Rattle.fs_machine.specs.Premises.{May};
 ghost use Rattle.fs_machine.specs.Machines.{MayNext, Moves, Answers};
-ghost use Rattle.fs_machine.specs.Tied.{LeavesTied, bytes_of};
+ghost use Rattle.fs_machine.specs.Tied.{IsOwn, LeavesTied, bytes_of};
+ghost use Rattle.fs_machine.specs.Stays.{LeavesApart, LeavesAllBut};
 ghost use Rattle.fs_machine.specs.Fetching.{IsFetched};
 ghost use Rattle.bitmap_alloc.specs.First.{first_clear_below};
 ghost use Rattle.bitmap_alloc.specs.Bytes.{marked_by, zeros};
 ghost use Rattle.bitmap_alloc.specs.Programs.{take_block};
-ghost use Rattle.bitmap_alloc.specs.Machines.{take_of, TakeFits, in_look, in_zeroing};
+ghost use Rattle.bitmap_alloc.specs.Machines.{take_of, TakeFits, TakeApart, in_look, in_zeroing};
 
 use crate::bits::{set_in, zero_in};
 use crate::search::first_clear;
@@ -37,17 +38,18 @@ pub enum TakeBlock {
 
 impl TakeBlock {
     /// A block of a disk of `size` blocks, whose bitmap is block `bmapstart`.
-    #[tactic(auto, unfolding(crate::specs::Machines::take_of, crate::specs::Machines::TakeFits, fs_machine::specs::Fetching::fetch_of, fs_machine::specs::Fetching::FetchFits))]
+    #[tactic(auto, unfolding(crate::specs::Machines::take_of, crate::specs::Machines::TakeFits, crate::specs::Machines::TakeApart, fs_machine::specs::Fetching::fetch_of, fs_machine::specs::Fetching::FetchFits, fs_machine::specs::Fetching::FetchApart))]
     pub fn new(bmapstart: u32, size: u32) -> TakeBlock
         requires { size ≤ bits_per_block }
         ensures program { take_of result ≡ take_block bmapstart size }
         ensures fits { (hart : ℕ) (s : State) → TakeFits hart s result }
+        ensures apart { (b : ℕ) → TakeApart b result }
     {
         TakeBlock::Look(size, Fetch::Get(bmapstart))
     }
 
     /// One operation.
-    #[tactic(auto, unfolding(crate::specs::Machines::take_of, crate::specs::Machines::TakeFits, fs_machine::specs::Premises::Honest))]
+    #[tactic(auto, unfolding(crate::specs::Machines::take_of, crate::specs::Machines::TakeFits, crate::specs::Machines::TakeApart, fs_machine::specs::Premises::Honest))]
     pub fn step<D: Device>(
         self,
         hart: u8,
@@ -63,6 +65,8 @@ impl TakeBlock {
         ensures kept { txn.new ≡ txn.old }
         ensures fits { LeftOf (TakeFits hart (state_of D.contents D.failures core.new)) (λ _. Unit {0}) result }
         ensures others { LeavesTied hart (state_of D.contents D.failures core.old) (state_of D.contents D.failures core.new) }
+        ensures tables { core.new.tables ≡ core.old.tables }
+        ensures rest { LeavesApart TakeApart (λ _ _. Unit {0}) (IsOwn hart) self result (state_of D.contents D.failures core.old) (state_of D.contents D.failures core.new) }
     {
         match self {
             TakeBlock::Look(size, fetch) => looking(size, fetch.step(hart, core)),
@@ -124,6 +128,8 @@ fn take_bit<D: Device>(
         ≡ ItRan tt (state_of D.contents D.failures core.new) }
     ensures kept { txn.new ≡ txn.old }
     ensures others { LeavesTied hart (state_of D.contents D.failures core.old) (state_of D.contents D.failures core.new) }
+    ensures tables { core.new.tables ≡ core.old.tables }
+    ensures rest { LeavesAllBut guard.value.block (IsOwn hart) (state_of D.contents D.failures core.old) (state_of D.contents D.failures core.new) }
 {
     let mut guard = guard;
     match first_clear(guard.value().bytes(), size as usize) {
@@ -148,6 +154,8 @@ fn zero<D: Device>(guard: Guard<Buffer>, hart: u8, txn: &mut Txn, core: &mut Cor
         ≡ ItRan tt (state_of D.contents D.failures core.new) }
     ensures kept { txn.new ≡ txn.old }
     ensures others { LeavesTied hart (state_of D.contents D.failures core.old) (state_of D.contents D.failures core.new) }
+    ensures tables { core.new.tables ≡ core.old.tables }
+    ensures rest { LeavesAllBut guard.value.block (IsOwn hart) (state_of D.contents D.failures core.old) (state_of D.contents D.failures core.new) }
 {
     let mut guard = guard;
     zero_in(&mut guard);

@@ -1,5 +1,5 @@
 -- What a call of the tables comes to, in the whole.
-use Rattle.std.proofs.Common.{◌≡◌, ◌∙◌, ℕ, List, [], ◌∷◌, Bool, true, false, cond, refl, sym, ap, Option, Some, None}
+use Rattle.std.proofs.Common.{◌≡◌, ◌≢◌, ◌∙◌, ℕ, List, [], ◌∷◌, Bool, true, false, cond, refl, sym, ap, Option, Some, None}
 use Rattle.std.proofs.lemmas.Option.{same_Some, none-some}
 use Rattle.std.specs.Prelude.{IfNone, IfSome, find, is_none}
 use Rattle.sleep_lock.specs.SleepLock.{GuardState}
@@ -18,6 +18,7 @@ use Rattle.fs_tables.specs.Results.{IfDying}
 use Rattle.fs_machine.specs.declared.shared.Core.{Core}
 use Rattle.fs_machine.specs.LogPart.{LogPart}
 use Rattle.fs_machine.specs.Tied.{IsOwnInode}
+use Rattle.fs_machine.specs.Stays.{HasNone}
 
 pub still-in : {D : Type 0} (l : LogState D) (old new : TablesState) (r : Option (GuardState Inode)) → IfNone r (new ≡ old)
     → IfNone r (◌≡◌ {A = Core D} (record { log = l; tables = new }) (record { log = l; tables = old }))
@@ -33,6 +34,20 @@ pub dying-in : (h n : ℕ) (l : LogPart) (t : TablesState) (r : Dropped) → IfD
     → IfDying r (λ m guard. (m ≡ n) × IsOwnInode h n guard (record { log = l; tables = t }))
 dying-in h n l t dropped.Counted own = tt
 dying-in h n l t (dropped.Dying m guard) own = (own.0, record { hand = own.1; number = own.2; locked = own.3 })
+
+-- a lock that was had was in nobody's hand
+none-own : (h n : ℕ) (l : LogPart) (t : TablesState) → ((guard : GuardState Inode) → IsLocked guard t → guard.value.number ≢ n) → HasNone n (IsOwnInode h) (record { log = l; tables = t })
+none-own h n l t apart k held own e = apart held own.locked (own.number ∙ e)
+
+pub lock-apart : (h n : ℕ) (l : LogPart) (t : TablesState) (r : Option (GuardState Inode)) → IfSome r (λ _. (guard : GuardState Inode) → IsLocked guard t → guard.value.number ≢ n)
+    → IfSome r (λ _. HasNone n (IsOwnInode h) (record { log = l; tables = t }))
+lock-apart h n l t None apart = tt
+lock-apart h n l t (Some guard) apart = none-own h n l t apart
+
+pub dying-apart : (h n : ℕ) (l : LogPart) (t : TablesState) (r : Dropped) → IfDying r (λ _ _. (guard : GuardState Inode) → IsLocked guard t → guard.value.number ≢ n)
+    → IfDying r (λ _ _. HasNone n (IsOwnInode h) (record { log = l; tables = t }))
+dying-apart h n l t dropped.Counted apart = tt
+dying-apart h n l t (dropped.Dying m guard) apart = none-own h n l t apart
 
 -- the lock of what a descriptor names
 pub file_refused : (h fd : ℕ) (w : Want) (t : TablesState) (why : Refused) → refusal_of w (file_named h fd t) ≡ Some why → lock_file h w fd t ≡ Ran (Refuses why) t

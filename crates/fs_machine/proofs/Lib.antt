@@ -3,3 +3,4 @@ pub mod Parts
 pub mod Held
 pub mod Commits
 pub mod Keeping
+pub mod Nested

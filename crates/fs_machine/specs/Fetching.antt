@@ -1,5 +1,5 @@
 -- The programs that are left of a fetch and of a finish.
-use Rattle.std.specs.Prelude.{◌≡◌, ◌<◌, ℕ, List, None, IsSome}
+use Rattle.std.specs.Prelude.{◌≡◌, ◌≢◌, ◌<◌, ℕ, List, None, IsSome}
 use Rattle.sleep_lock.specs.SleepLock.{GuardState}
 use Rattle.buffer_cache.specs.Buffers.{BufferState}
 use Rattle.atomic_programs.specs.Prog.{once, unmarked}
@@ -25,6 +25,11 @@ fetch_of (fetching.Read guard) = once (Read guard.value.block) unmarked
 unfoldable pub FetchFits : ℕ → State → Fetch → Type 0
 FetchFits hart s (fetching.Get b) = Unit {0}
 FetchFits hart s (fetching.Read guard) = IsOwn hart guard.value.block guard s × (guard.value.content ≡ None)
+
+-- the machine hasn't got this block's buffer
+unfoldable pub FetchApart : ℕ → Fetch → Type 0
+FetchApart b (fetching.Get c) = Unit {0}
+FetchApart b (fetching.Read guard) = b ≢ guard.value.block
 
 -- a valid guard of this block
 pub record IsFetched (hart b : ℕ) (guard : GuardState BufferState) (s : State) : Type 0 where

@@ -2,6 +2,7 @@ pub mod LogPart
 pub mod Steps
 pub mod Premises
 pub mod Tied
+pub mod Stays
 pub mod Did
 pub mod Machines
 pub mod Programs

@@ -5,7 +5,8 @@ ghost use Rattle.fs_tables.specs.Results.{opened_as};
 ghost use Rattle.fs_machine.specs.LogPart.{Outside};
 ghost use Rattle.fs_machine.specs.Steps.{state_of, exec, CheckFile, TakePlace, TakeDescriptor, Double, Close};
 ghost use Rattle.fs_machine.specs.Premises.{May};
-ghost use Rattle.fs_machine.specs.Tied.{LeavesTied};
+ghost use Rattle.fs_machine.specs.Tied.{IsOwnInode, LeavesTied};
+ghost use Rattle.fs_machine.specs.Stays.{LeavesAll};
 
 use crate::shared::Core;
 use block_device::Device;
@@ -25,6 +26,8 @@ impl<D: Device> Core<D> {
         requires may { May hart TakePlace (state_of D.contents D.failures self.old) }
         ensures ran { (x : Outside) → exec hart x TakePlace (state_of D.contents D.failures self.old) ≡ ItRan result (state_of D.contents D.failures self.new) }
         ensures others { LeavesTied hart (state_of D.contents D.failures self.old) (state_of D.contents D.failures self.new) }
+        ensures log { self.new.log ≡ self.old.log }
+        ensures rest { LeavesAll (IsOwnInode hart) (state_of D.contents D.failures self.old) (state_of D.contents D.failures self.new) }
     {
         self.tables.take_place(hart)
     }
@@ -40,6 +43,8 @@ impl<D: Device> Core<D> {
         ensures ran { (x : Outside) → exec hart x (TakeDescriptor reference file) (state_of D.contents D.failures self.old) ≡ ItRan (opened_as result) (state_of D.contents D.failures self.new) }
         ensures back { IfErr result (λ back. back ≡ reference) }
         ensures others { LeavesTied hart (state_of D.contents D.failures self.old) (state_of D.contents D.failures self.new) }
+        ensures log { self.new.log ≡ self.old.log }
+        ensures rest { LeavesAll (IsOwnInode hart) (state_of D.contents D.failures self.old) (state_of D.contents D.failures self.new) }
     {
         self.tables.open(hart, reference, file)
     }
@@ -49,6 +54,8 @@ impl<D: Device> Core<D> {
         requires may { May hart (Double fd) (state_of D.contents D.failures self.old) }
         ensures ran { (x : Outside) → exec hart x (Double fd) (state_of D.contents D.failures self.old) ≡ ItRan result (state_of D.contents D.failures self.new) }
         ensures others { LeavesTied hart (state_of D.contents D.failures self.old) (state_of D.contents D.failures self.new) }
+        ensures log { self.new.log ≡ self.old.log }
+        ensures rest { LeavesAll (IsOwnInode hart) (state_of D.contents D.failures self.old) (state_of D.contents D.failures self.new) }
     {
         self.tables.double(hart, fd)
     }
@@ -58,6 +65,8 @@ impl<D: Device> Core<D> {
         requires may { May hart (Close fd) (state_of D.contents D.failures self.old) }
         ensures ran { (x : Outside) → exec hart x (Close fd) (state_of D.contents D.failures self.old) ≡ ItRan result (state_of D.contents D.failures self.new) }
         ensures others { LeavesTied hart (state_of D.contents D.failures self.old) (state_of D.contents D.failures self.new) }
+        ensures log { self.new.log ≡ self.old.log }
+        ensures rest { LeavesAll (IsOwnInode hart) (state_of D.contents D.failures self.old) (state_of D.contents D.failures self.new) }
     {
         self.tables.shut(hart, fd)
     }

@@ -1,10 +1,11 @@
 // A block's buffer, taken and valid.
-ghost use Rattle.std.specs.Prelude.{◌≡◌};
+ghost use Rattle.std.specs.Prelude.{◌≡◌, ◌≢◌};
 ghost use Rattle.atomic_programs.specs.Machines.{Still, Left as LeftOf};
 ghost use Rattle.fs_machine.specs.Steps.{state_of};
 ghost use Rattle.fs_machine.specs.Machines.{MayNext, Moves, Answers};
-ghost use Rattle.fs_machine.specs.Tied.{LeavesTied, bytes_of};
-ghost use Rattle.fs_machine.specs.Fetching.{fetch_of, block_of, FetchFits, IsFetched};
+ghost use Rattle.fs_machine.specs.Tied.{IsOwn, LeavesTied, bytes_of};
+ghost use Rattle.fs_machine.specs.Stays.{LeavesApart};
+ghost use Rattle.fs_machine.specs.Fetching.{fetch_of, block_of, FetchFits, FetchApart, IsFetched};
 
 use crate::kind::Kind;
 use crate::shared::Core;
@@ -21,7 +22,7 @@ pub enum Fetch {
 
 impl Fetch {
     /// One operation.
-    #[tactic(auto, unfolding(crate::specs::Fetching::fetch_of, crate::specs::Fetching::FetchFits, crate::specs::Premises::Honest))]
+    #[tactic(auto, unfolding(crate::specs::Fetching::fetch_of, crate::specs::Fetching::FetchFits, crate::specs::Fetching::FetchApart, crate::specs::Premises::Honest))]
     pub fn step<D: Device>(
         self,
         hart: u8,
@@ -35,6 +36,8 @@ impl Fetch {
         ensures block { LeftOf (λ m. block_of m ≡ block_of self) (λ guard. guard.value.block ≡ block_of self) result }
         ensures fits { LeftOf (FetchFits hart (state_of D.contents D.failures core.new)) (λ guard. IsFetched hart guard.value.block guard (state_of D.contents D.failures core.new)) result }
         ensures others { LeavesTied hart (state_of D.contents D.failures core.old) (state_of D.contents D.failures core.new) }
+        ensures tables { core.new.tables ≡ core.old.tables }
+        ensures rest { LeavesApart FetchApart (λ b guard. b ≢ guard.value.block) (IsOwn hart) self result (state_of D.contents D.failures core.old) (state_of D.contents D.failures core.new) }
     {
         match self {
             Fetch::Get(b) => match core.get(hart, b) {

@@ -6,6 +6,7 @@ ghost use Rattle.fs_machine.specs.LogPart.{Outside};
 ghost use Rattle.fs_machine.specs.Steps.{state_of, exec, Claim as ClaimOp, Lock, LockFile, Unlock, Settle, Up, Down, Number, Directory, Held, Walked};
 ghost use Rattle.fs_machine.specs.Premises.{May};
 ghost use Rattle.fs_machine.specs.Tied.{IsOwn, IsOwnInode, LeavesTied};
+ghost use Rattle.fs_machine.specs.Stays.{LeavesAll, LeavesAllBut, HasNone};
 ghost use Rattle.fs_machine.specs.Claiming.{claimed_as, IfKept};
 ghost use Rattle.fs_machine.specs.Locked.{file_locked_as, IfFileWaits, IfFileLocked};
 
@@ -23,6 +24,9 @@ impl<D: Device> Core<D> {
         ensures still { IfNone result (self.new ≡ self.old) }
         ensures own { IfSome result (λ guard. IsOwnInode hart reference.now guard (state_of D.contents D.failures self.new)) }
         ensures others { LeavesTied hart (state_of D.contents D.failures self.old) (state_of D.contents D.failures self.new) }
+        ensures log { self.new.log ≡ self.old.log }
+        ensures rest { LeavesAll (IsOwnInode hart) (state_of D.contents D.failures self.old) (state_of D.contents D.failures self.new) }
+        ensures apart { IfSome result (λ _. HasNone reference.now (IsOwnInode hart) (state_of D.contents D.failures self.old)) }
     {
         self.tables.lock(hart, reference.number())
     }
@@ -33,6 +37,8 @@ impl<D: Device> Core<D> {
         requires may { May hart (Unlock guard.value None) (state_of D.contents D.failures self.old) }
         ensures ran { (x : Outside) → exec hart x (Unlock guard.value None) (state_of D.contents D.failures self.old) ≡ ItRan tt (state_of D.contents D.failures self.new) }
         ensures others { LeavesTied hart (state_of D.contents D.failures self.old) (state_of D.contents D.failures self.new) }
+        ensures log { self.new.log ≡ self.old.log }
+        ensures rest { LeavesAllBut guard.value.number (IsOwnInode hart) (state_of D.contents D.failures self.old) (state_of D.contents D.failures self.new) }
     {
         self.tables.unlock(hart, guard);
     }
@@ -43,6 +49,8 @@ impl<D: Device> Core<D> {
         requires may { May hart (Up (Number number)) (state_of D.contents D.failures self.old) }
         ensures ran { (x : Outside) → exec hart x (Up (Number number)) (state_of D.contents D.failures self.old) ≡ ItRan result (state_of D.contents D.failures self.new) }
         ensures others { LeavesTied hart (state_of D.contents D.failures self.old) (state_of D.contents D.failures self.new) }
+        ensures log { self.new.log ≡ self.old.log }
+        ensures rest { LeavesAll (IsOwnInode hart) (state_of D.contents D.failures self.old) (state_of D.contents D.failures self.new) }
     {
         self.tables.up(number)
     }
@@ -56,6 +64,7 @@ impl<D: Device> Core<D> {
         ensures ran { (x : Outside) → exec hart x (ClaimOp guard.value.block candidates.now) (state_of D.contents D.failures self.old) ≡ claimed_as result (state_of D.contents D.failures self.new) }
         ensures kept { IfKept result (λ kept. (kept ≡ guard) × IsOwn hart guard.value.block kept (state_of D.contents D.failures self.new)) }
         ensures others { LeavesTied hart (state_of D.contents D.failures self.old) (state_of D.contents D.failures self.new) }
+        ensures rest { LeavesAll (IsOwnInode hart) (state_of D.contents D.failures self.old) (state_of D.contents D.failures self.new) }
     {
         match self.tables.first_free(candidates) {
             None => {
@@ -75,6 +84,9 @@ impl<D: Device> Core<D> {
         ensures ran { (x : Outside) → exec hart x (Down (Held reference)) (state_of D.contents D.failures self.old) ≡ dropped_as result (state_of D.contents D.failures self.new) }
         ensures own { IfDying result (λ n guard. (n ≡ reference) × IsOwnInode hart reference guard (state_of D.contents D.failures self.new)) }
         ensures others { LeavesTied hart (state_of D.contents D.failures self.old) (state_of D.contents D.failures self.new) }
+        ensures log { self.new.log ≡ self.old.log }
+        ensures rest { LeavesAll (IsOwnInode hart) (state_of D.contents D.failures self.old) (state_of D.contents D.failures self.new) }
+        ensures apart { IfDying result (λ _ _. HasNone reference (IsOwnInode hart) (state_of D.contents D.failures self.old)) }
     {
         self.tables.drop_reference(hart, reference)
     }
@@ -87,6 +99,9 @@ impl<D: Device> Core<D> {
         ensures still { IfFileWaits result (self.new ≡ self.old) }
         ensures own { IfFileLocked result (λ file guard. IsOwnInode hart file.number guard (state_of D.contents D.failures self.new)) }
         ensures others { LeavesTied hart (state_of D.contents D.failures self.old) (state_of D.contents D.failures self.new) }
+        ensures log { self.new.log ≡ self.old.log }
+        ensures rest { LeavesAll (IsOwnInode hart) (state_of D.contents D.failures self.old) (state_of D.contents D.failures self.new) }
+        ensures apart { IfFileLocked result (λ file _. HasNone file.number (IsOwnInode hart) (state_of D.contents D.failures self.old)) }
     {
         match self.tables.check(hart, want, fd) {
             Some(why) => LockedFile::Refused(why),
@@ -108,6 +123,8 @@ impl<D: Device> Core<D> {
         requires may { May hart (Unlock guard.value (Some (fd, offset))) (state_of D.contents D.failures self.old) }
         ensures ran { (x : Outside) → exec hart x (Unlock guard.value (Some (fd, offset))) (state_of D.contents D.failures self.old) ≡ ItRan tt (state_of D.contents D.failures self.new) }
         ensures others { LeavesTied hart (state_of D.contents D.failures self.old) (state_of D.contents D.failures self.new) }
+        ensures log { self.new.log ≡ self.old.log }
+        ensures rest { LeavesAllBut guard.value.number (IsOwnInode hart) (state_of D.contents D.failures self.old) (state_of D.contents D.failures self.new) }
     {
         self.tables.move_offset(hart, fd, offset);
         self.tables.unlock(hart, guard);
@@ -122,6 +139,8 @@ impl<D: Device> Core<D> {
         requires may { May hart (Settle guard.value) (state_of D.contents D.failures self.old) }
         ensures ran { (x : Outside) → exec hart x (Settle guard.value) (state_of D.contents D.failures self.old) ≡ ItRan result (state_of D.contents D.failures self.new) }
         ensures others { LeavesTied hart (state_of D.contents D.failures self.old) (state_of D.contents D.failures self.new) }
+        ensures log { self.new.log ≡ self.old.log }
+        ensures rest { LeavesAllBut guard.value.number (IsOwnInode hart) (state_of D.contents D.failures self.old) (state_of D.contents D.failures self.new) }
     {
         self.tables.unlock(hart, guard);
         self.tables.set_directory(hart, reference)
@@ -133,6 +152,8 @@ impl<D: Device> Core<D> {
         requires may { May hart (Up Directory) (state_of D.contents D.failures self.old) }
         ensures ran { (x : Outside) → exec hart x (Up Directory) (state_of D.contents D.failures self.old) ≡ ItRan result (state_of D.contents D.failures self.new) }
         ensures others { LeavesTied hart (state_of D.contents D.failures self.old) (state_of D.contents D.failures self.new) }
+        ensures log { self.new.log ≡ self.old.log }
+        ensures rest { LeavesAll (IsOwnInode hart) (state_of D.contents D.failures self.old) (state_of D.contents D.failures self.new) }
     {
         let number = self.tables.directory(hart);
         self.tables.up(number)
@@ -145,6 +166,8 @@ impl<D: Device> Core<D> {
         ensures ran { (x : Outside) → exec hart x (Down (Walked reference)) (state_of D.contents D.failures self.old) ≡ ItRan (kept_as result) (state_of D.contents D.failures self.new) }
         ensures kept { IfSome result (λ kept. kept ≡ reference) }
         ensures others { LeavesTied hart (state_of D.contents D.failures self.old) (state_of D.contents D.failures self.new) }
+        ensures log { self.new.log ≡ self.old.log }
+        ensures rest { LeavesAll (IsOwnInode hart) (state_of D.contents D.failures self.old) (state_of D.contents D.failures self.new) }
     {
         self.tables.drop_walked(reference)
     }

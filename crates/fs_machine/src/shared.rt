@@ -8,6 +8,7 @@ ghost use Rattle.fs_machine.specs.LogPart.{Outside};
 ghost use Rattle.fs_machine.specs.Steps.{state_of, exec, Join, JoinToWrite, Leave as LeaveOp, Get, Read, Put, Commit};
 ghost use Rattle.fs_machine.specs.Premises.{May, Honest};
 ghost use Rattle.fs_machine.specs.Tied.{IsOwn, LeavesTied, bytes_of};
+ghost use Rattle.fs_machine.specs.Stays.{LeavesAll, LeavesAllBut, HasNone};
 ghost use Rattle.fs_machine.specs.Joining.{joined_to_write_as, IfJoinWaits, IfJoined};
 ghost use Rattle.fs_machine.specs.Did.{joined_as, got_as, read_as, committed_as, said_read, said_written, IfGotNone, IfReadOk};
 
@@ -40,6 +41,8 @@ impl<D: Device> Core<D> {
         ensures still { IfNone result (self.new ≡ self.old) }
         ensures txn { IfSome result (λ txn. txn ≡ hart) }
         ensures others { LeavesTied hart (state_of D.contents D.failures self.old) (state_of D.contents D.failures self.new) }
+        ensures tables { self.new.tables ≡ self.old.tables }
+        ensures rest { LeavesAll (IsOwn hart) (state_of D.contents D.failures self.old) (state_of D.contents D.failures self.new) }
     {
         self.log.join(hart)
     }
@@ -52,6 +55,8 @@ impl<D: Device> Core<D> {
         ensures still { IfJoinWaits result (self.new ≡ self.old) }
         ensures txn { IfJoined result (λ txn. txn ≡ hart) }
         ensures others { LeavesTied hart (state_of D.contents D.failures self.old) (state_of D.contents D.failures self.new) }
+        ensures tables { self.new.tables ≡ self.old.tables }
+        ensures rest { LeavesAll (IsOwn hart) (state_of D.contents D.failures self.old) (state_of D.contents D.failures self.new) }
     {
         match self.tables.check(hart, Want::Write, fd) {
             Some(why) => JoinedToWrite::Refused(why),
@@ -69,6 +74,8 @@ impl<D: Device> Core<D> {
         requires may { May hart LeaveOp (state_of D.contents D.failures self.old) }
         ensures ran { (x : Outside) → exec hart x LeaveOp (state_of D.contents D.failures self.old) ≡ ItRan result (state_of D.contents D.failures self.new) }
         ensures others { LeavesTied hart (state_of D.contents D.failures self.old) (state_of D.contents D.failures self.new) }
+        ensures tables { self.new.tables ≡ self.old.tables }
+        ensures rest { LeavesAll (IsOwn hart) (state_of D.contents D.failures self.old) (state_of D.contents D.failures self.new) }
     {
         self.log.leave(txn)
     }
@@ -81,6 +88,9 @@ impl<D: Device> Core<D> {
         ensures still { IfGotNone result (self.new ≡ self.old) }
         ensures own { IfHeld result (λ guard. IsOwn hart b guard (state_of D.contents D.failures self.new)) }
         ensures others { LeavesTied hart (state_of D.contents D.failures self.old) (state_of D.contents D.failures self.new) }
+        ensures tables { self.new.tables ≡ self.old.tables }
+        ensures rest { LeavesAll (IsOwn hart) (state_of D.contents D.failures self.old) (state_of D.contents D.failures self.new) }
+        ensures apart { HasNone b (IsOwn hart) (state_of D.contents D.failures self.old) }
     {
         self.log.get(hart, b)
     }
@@ -97,6 +107,8 @@ impl<D: Device> Core<D> {
         ensures valid { IfReadOk result (IsSome guard.new.value.content) (guard.new ≡ guard.old) }
         ensures honest { Honest hart (Read guard.old.value.block) (state_of D.contents D.failures self.old) (said_read result (D.contents self.new.log.cache.device)) }
         ensures others { LeavesTied hart (state_of D.contents D.failures self.old) (state_of D.contents D.failures self.new) }
+        ensures tables { self.new.tables ≡ self.old.tables }
+        ensures rest { LeavesAllBut guard.old.value.block (IsOwn hart) (state_of D.contents D.failures self.old) (state_of D.contents D.failures self.new) }
     {
         self.log.fill(guard)
     }
@@ -108,6 +120,8 @@ impl<D: Device> Core<D> {
         requires may { May hart (Put guard.value.block None) (state_of D.contents D.failures self.old) }
         ensures ran { (x : Outside) → exec hart x (Put guard.value.block None) (state_of D.contents D.failures self.old) ≡ ItRan tt (state_of D.contents D.failures self.new) }
         ensures others { LeavesTied hart (state_of D.contents D.failures self.old) (state_of D.contents D.failures self.new) }
+        ensures tables { self.new.tables ≡ self.old.tables }
+        ensures rest { LeavesAllBut guard.value.block (IsOwn hart) (state_of D.contents D.failures self.old) (state_of D.contents D.failures self.new) }
     {
         self.log.release(guard);
     }
@@ -123,6 +137,8 @@ impl<D: Device> Core<D> {
         ensures ran { (x : Outside) → exec hart x (Put guard.value.block (Some (bytes_of guard))) (state_of D.contents D.failures self.old) ≡ ItRan tt (state_of D.contents D.failures self.new) }
         ensures kept { txn.new ≡ txn.old }
         ensures others { LeavesTied hart (state_of D.contents D.failures self.old) (state_of D.contents D.failures self.new) }
+        ensures tables { self.new.tables ≡ self.old.tables }
+        ensures rest { LeavesAllBut guard.value.block (IsOwn hart) (state_of D.contents D.failures self.old) (state_of D.contents D.failures self.new) }
     {
         self.log.record(txn, guard);
     }
@@ -136,6 +152,8 @@ impl<D: Device> Core<D> {
         ensures still { IfWaits result (self.new ≡ self.old) }
         ensures honest { Honest hart Commit (state_of D.contents D.failures self.old) (said_written result (D.contents self.new.log.cache.device)) }
         ensures others { LeavesTied hart (state_of D.contents D.failures self.old) (state_of D.contents D.failures self.new) }
+        ensures tables { self.new.tables ≡ self.old.tables }
+        ensures rest { LeavesAll (IsOwn hart) (state_of D.contents D.failures self.old) (state_of D.contents D.failures self.new) }
     {
         self.log.commit_step(hart)
     }

@@ -1,19 +1,20 @@
 -- What the lock of an inode tried, or given back, makes of the tables.
-use Rattle.std.proofs.Common.{◌≡◌, ◌≢◌, ℕ, ◌<◌, List, length, length-set, get_or, refl, sym, ◌∙◌, ap, subst, arith, Option, Some, None}
+use Rattle.std.proofs.Common.{◌≡◌, ◌≢◌, ℕ, ◌<◌, List, length, length-set, get_or, refl, sym, ◌∙◌, ap, subst, arith, Option, Some, None, inl, inr}
 use Rattle.std.specs.Prelude.{IfSome, slice_get, slice_set}
-use Rattle.std.proofs.lemmas.Option.{slice_get_within, slice_get-get_or, none-some}
-use Rattle.sleep_lock.specs.SleepLock.{SlotState, GuardState, guard_of, taken, filled}
+use Rattle.std.proofs.lemmas.Bool.{cases_eq}
+use Rattle.std.proofs.lemmas.Option.{slice_get_within, slice_get-get_or, same_Some, none-some}
+use Rattle.sleep_lock.specs.SleepLock.{SlotState, GuardState, guard_of, taken, filled, emptied}
 use Rattle.sleep_lock.specs.Row.{lock_at as lock_row_at, lock_of, unlocked, IsOut, IsNumbered}
-use Rattle.sleep_lock.proofs.Lists.{set_same, slice_get-set_same}
+use Rattle.sleep_lock.proofs.Lists.{set_same, slice_get-set_same, slice_get-set_other}
 use Rattle.sleep_lock.proofs.Locks.{lock_laws}
 use Rattle.fs_tables.specs.Lists.{change_at}
 use Rattle.fs_tables.specs.declared.inodes.Entry.{Entry}
 use Rattle.fs_tables.specs.declared.inodes.Inode.{Inode}
 use Rattle.fs_tables.specs.Tables.{TablesState, place_of}
-use Rattle.fs_tables.specs.Locks.{IsLocked}
+use Rattle.fs_tables.specs.Locks.{IsLocked, LeavesLocked}
 use Rattle.fs_tables.specs.Inodes.{lock_inode, lock_at, got_by, unlock_inode, unlock_at}
 use Rattle.fs_tables.specs.Results.{locked_as}
-use Rattle.fs_tables.specs.Soundness.{IsSoundInodes, AllPlaced, PlaceFits}
+use Rattle.fs_tables.specs.Soundness.{IsSoundInodes, AllPlaced, IsOnce, PlaceFits}
 use Rattle.fs_tables.proofs.Places.{Found, placed, change_set, all_placed_set}
 
 pub lock_ran : (h n k : ℕ) (t : TablesState) (new : List (SlotState Inode)) (r : Option (GuardState Inode)) → place_of n t.entries ≡ Some k → (new, r) ≡ lock_of t.locks k h
@@ -42,6 +43,11 @@ slot_at entries locks k e sound there =
 -- a guard's place
 pub found_locked : (g : GuardState Inode) (t : TablesState) → IsLocked g t → Found g.value.number t.entries g.number
 found_locked g t l = record { entry = l.entry; there = l.there; number = l.number; referenced = l.referenced }
+
+-- the slot of a lock that is out
+emptied_at : (g : GuardState Inode) (t : TablesState) (k : ℕ) (s : SlotState Inode) → g.number ≡ k → IsLocked g t → slice_get t.locks k ≡ Some s → s ≡ emptied g
+unfolding IsOut
+emptied_at g t k s here l at = same_Some _ _ (sym at ∙ (ap (slice_get t.locks) (sym here) ∙ l.out))
 
 -- ---- the lock tried
 
@@ -143,14 +149,47 @@ numbered entries locks sound k s there =
     let d : Entry = record { number = 0; references = 0 } in
     (sound.placed k (get_or entries k d) s (slice_get-get_or entries k d within) there).0
 
--- what is out in other harts' hands stays so
-pub lock_others : (h k : ℕ) (t : TablesState) (new : List (SlotState Inode)) (r : Option (GuardState Inode)) → (new, r) ≡ lock_of t.locks k h → (g : GuardState Inode) → g.hart ≢ h
-    → IsLocked g t → IsLocked g (record t { locks = new })
-lock_others h k t new r gives g ne l =
-    let Pair : Type 0 = List (SlotState Inode) × Option (GuardState Inode) in
-    let laws = lock_laws t.locks k h in
-    let out : IsOut new g = subst (λ (z : List (SlotState Inode)). IsOut z g) (sym (ap (λ (p : Pair). p.0) gives)) (laws.others g ne l.out) in
-    record { out = out; entry = l.entry; there = l.there; number = l.number; referenced = l.referenced }
+-- a lock that is out stays so
+pub lock_leaves : (h k : ℕ) (t : TablesState) (new : List (SlotState Inode)) (e : Entry) (r : Option (GuardState Inode)) → IsSoundInodes t.entries t.locks → slice_get t.entries k ≡ Some e
+    → (new, r) ≡ lock_of t.locks k h → LeavesLocked t (record t { locks = new })
+unfolding IsOut
+lock_leaves h k t new e r sound there gives g l =
+    let at = slot_at t.entries t.locks k e sound there in
+    let s = at.0 in
+    let is = lock_is t.locks new k h s r at.1 gives in
+    let out : slice_get (slice_set t.locks k (taken s h)) g.number ≡ Some (emptied g) =
+    elim (cases_eq g.number k) [
+      | inl here ↦
+          ap (slice_get (slice_set t.locks k (taken s h))) here ∙ slice_get-set_same t.locks k (taken s h) (slice_get_within t.locks k s at.1)
+          ∙ ap (λ (v : SlotState Inode). Some (taken v h)) (emptied_at g t k s here l at.1)
+      | inr other ↦ slice_get-set_other t.locks k g.number (taken s h) other ∙ l.out
+    ] in
+    record { out = ap (λ (z : List (SlotState Inode)). slice_get z g.number) is.0 ∙ out; entry = l.entry; there = l.there; number = l.number; referenced = l.referenced }
+
+-- one that was had was out in nobody's hand
+pub lock_apart : (h n k : ℕ) (t : TablesState) (new : List (SlotState Inode)) (r : Option (GuardState Inode)) → Found n t.entries k → IsSoundInodes t.entries t.locks → (new, r) ≡ lock_of t.locks k h
+    → IfSome r (λ _. (g : GuardState Inode) → IsLocked g t → g.value.number ≢ n)
+unfolding IsOnce
+lock_apart h n k t new None f sound gives = tt
+lock_apart h n k t new (Some guard) f sound gives = λ g l same.
+    let at = slot_at t.entries t.locks k f.entry sound f.there in
+    let is = lock_is t.locks new k h at.0 (Some guard) at.1 gives in
+    let here : g.number ≡ k = sound.once g.number k l.entry f.entry l.there f.there l.referenced f.referenced (l.number ∙ (same ∙ sym f.number)) in
+    none-some guard (sym (is.1 ∙ ap (λ (v : SlotState Inode). guard_of v h) (emptied_at g t k at.0 here l at.1)))
+
+-- what is out of other inodes stays so where a lock is given back
+pub unlock_leaves : (g : GuardState Inode) (t : TablesState) (new : List (SlotState Inode)) → IsLocked g t → new ≡ unlocked t.locks g
+    → (o : GuardState Inode) → o.value.number ≢ g.value.number → IsLocked o t → IsLocked o (record t { locks = new })
+unfolding unlocked IsOut
+unlock_leaves g t new l is o ne m =
+    let out : slice_get (slice_set t.locks g.number (filled g.number g.value)) o.number ≡ Some (emptied o) =
+    elim (cases_eq o.number g.number) [
+      | inl here ↦
+          let entries : m.entry ≡ l.entry = same_Some _ _ (sym m.there ∙ (ap (slice_get t.entries) here ∙ l.there)) in
+          absurd (ne (sym m.number ∙ (ap (λ (v : Entry). v.number) entries ∙ l.number)))
+      | inr other ↦ slice_get-set_other t.locks g.number o.number (filled g.number g.value) other ∙ m.out
+    ] in
+    record { out = ap (λ (z : List (SlotState Inode)). slice_get z o.number) is ∙ out; entry = m.entry; there = m.there; number = m.number; referenced = m.referenced }
 
 -- the row after a lock that was had
 pub lock_had : (h k : ℕ) (entries : List Entry) (locks new : List (SlotState Inode)) (e : Entry) (r : Option (GuardState Inode)) → IsSoundInodes entries locks → slice_get entries k ≡ Some e

@@ -81,7 +81,8 @@ impl Tables {
         ensures ran { lock_inode hart number self.old ≡ locked_as result self.new }
         ensures still { IfNone result (self.new ≡ self.old) }
         ensures own { IfSome result (λ guard. (guard.hart ≡ hart) × (guard.value.number ≡ number) × IsLocked guard self.new) }
-        ensures others { (guard : GuardState Inode) → guard.hart ≢ hart → IsLocked guard self.old → IsLocked guard self.new }
+        ensures others { LeavesLocked self.old self.new }
+        ensures apart { IfSome result (λ _. (guard : GuardState Inode) → IsLocked guard self.old → guard.value.number ≢ number) }
     {
         match place_of(&self.entries, number) {
             None => None,
@@ -94,7 +95,8 @@ impl Tables {
         requires own { guard.hart ≡ hart }
         requires locked { IsLocked guard self.old }
         ensures ran { self.new ≡ unlock_inode hart guard.value None self.old }
-        ensures others { (guard : GuardState Inode) → guard.hart ≢ hart → IsLocked guard self.old → IsLocked guard self.new }
+        ensures others { (other : GuardState Inode) → other.hart ≢ hart → IsLocked other self.old → IsLocked other self.new }
+        ensures rest { (other : GuardState Inode) → other.value.number ≢ guard.value.number → IsLocked other self.old → IsLocked other self.new }
     {
         self.locks.unlock(guard);
     }
@@ -126,7 +128,8 @@ impl Tables {
         requires last { references_of reference self.old ≡ 1 → holder_of reference self.old ≡ None }
         ensures ran { drop_inode hart reference self.old ≡ dropped_as result self.new }
         ensures own { IfDying result (λ n guard. (n ≡ reference) × (guard.hart ≡ hart) × (guard.value.number ≡ reference) × IsLocked guard self.new) }
-        ensures others { (guard : GuardState Inode) → guard.hart ≢ hart → IsLocked guard self.old → IsLocked guard self.new }
+        ensures others { LeavesLocked self.old self.new }
+        ensures apart { IfDying result (λ _ _. (guard : GuardState Inode) → IsLocked guard self.old → guard.value.number ≢ reference) }
     {
         match place_of(&self.entries, reference.number()) {
             None => {

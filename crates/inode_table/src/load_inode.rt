@@ -44,6 +44,7 @@ impl LoadInode {
         ensures still { Still load_of result self core.old core.new }
         ensures fits { LeftOf (LoadFits hart (state_of D.contents D.failures core.new)) (λ _. Unit {0}) result }
         ensures others { LeavesTied hart (state_of D.contents D.failures core.old) (state_of D.contents D.failures core.new) }
+        ensures tables { core.new.tables ≡ core.old.tables }
     {
         match self {
             LoadInode::Fetching(number, fetch) => loading(number, fetch.step(hart, core)),

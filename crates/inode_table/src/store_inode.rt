@@ -56,6 +56,7 @@ impl StoreInode {
         ensures kept { txn.new ≡ txn.old }
         ensures fits { LeftOf (StoreFits hart (state_of D.contents D.failures core.new)) (λ _. Unit {0}) result }
         ensures others { LeavesTied hart (state_of D.contents D.failures core.old) (state_of D.contents D.failures core.new) }
+        ensures tables { core.new.tables ≡ core.old.tables }
     {
         match self {
             StoreInode::Fetching(number, inode, fetch) => storing(
@@ -103,6 +104,7 @@ fn write<D: Device>(
         ≡ ItRan tt (state_of D.contents D.failures core.new) }
     ensures kept { txn.new ≡ txn.old }
     ensures others { LeavesTied hart (state_of D.contents D.failures core.old) (state_of D.contents D.failures core.new) }
+    ensures tables { core.new.tables ≡ core.old.tables }
 {
     let mut guard = guard;
     write_in(&mut guard, number, &inode);

@@ -5,7 +5,7 @@ use Rattle.fs_machine.specs.LogPart.{part_of}
 use Rattle.fs_machine.specs.Steps.{State, exec}
 use Rattle.fs_machine.specs.Premises.{May}
 use Rattle.fs_machine.proofs.Parts.{dropped-in}
-use Rattle.fs_machine.proofs.Held.{dying-in}
+use Rattle.fs_machine.proofs.Held.{dying-in, dying-apart}
 use Rattle.fs_machine.proofs.shared.Core.drop_reference.Goals as goal
 
 pub drop_reference-requires-clause-some : goal.drop_reference-requires-clause-some
@@ -28,4 +28,8 @@ returns-clause-own g c =
     dying-in c.args.hart c.args.reference (part_of g.D.Device.contents g.D.Device.failures c.args.self.now.log) c.drop_reference.new.self c.drop_reference.result c.drop_reference.ensures.own
 
 pub returns-clause-others : goal.returns-clause-others
-returns-clause-others g c = record { buffers = λ guard ne tied. tied; inodes = c.drop_reference.ensures.others }
+returns-clause-others g c = record { buffers = λ guard ne tied. tied; inodes = λ guard ne locked. c.drop_reference.ensures.others guard locked }
+
+pub returns-clause-apart : goal.returns-clause-apart
+returns-clause-apart g c =
+    dying-apart c.args.hart c.args.reference (part_of g.D.Device.contents g.D.Device.failures c.args.self.now.log) c.args.self.now.tables c.drop_reference.result c.drop_reference.ensures.apart

@@ -8,7 +8,8 @@ use Rattle.fs_machine.specs.Tied.{IsOwnInode}
 use Rattle.fs_machine.specs.LogPart.{part_of}
 use Rattle.fs_machine.specs.Steps.{State, exec}
 use Rattle.fs_machine.proofs.Parts.{locked-in}
-use Rattle.fs_machine.proofs.Held.{still-in, own-in}
+use Rattle.fs_machine.specs.Stays.{HasNone}
+use Rattle.fs_machine.proofs.Held.{still-in, own-in, lock-apart}
 use Rattle.fs_machine.proofs.shared.Core.lock.Goals as goal
 
 pub returns-clause-ran : goal.returns-clause-ran
@@ -27,4 +28,10 @@ returns-clause-own g c =
     subst (λ n. IfSome c.lock.result (λ guard. IsOwnInode c.args.hart n guard (record { log = l; tables = c.lock.new.self }))) c.number.ensures (own-in c.args.hart c.number.result l c.lock.new.self c.lock.result c.lock.ensures.own)
 
 pub returns-clause-others : goal.returns-clause-others
-returns-clause-others g c = record { buffers = λ guard ne tied. tied; inodes = c.lock.ensures.others }
+returns-clause-others g c = record { buffers = λ guard ne tied. tied; inodes = λ guard ne locked. c.lock.ensures.others guard locked }
+
+pub returns-clause-apart : goal.returns-clause-apart
+returns-clause-apart g c =
+    let l = part_of g.D.Device.contents g.D.Device.failures c.args.self.now.log in
+    subst (λ n. IfSome c.lock.result (λ _. HasNone n (IsOwnInode c.args.hart) (record { log = l; tables = c.args.self.now.tables }))) c.number.ensures
+    (lock-apart c.args.hart c.number.result l c.args.self.now.tables c.lock.result c.lock.ensures.apart)

@@ -8,7 +8,7 @@ use Rattle.fs_tables.specs.Inodes.{drop_inode, uncounted_at, Counts, Dies}
 use Rattle.fs_tables.specs.Locks.{IsLocked, LeavesLocked}
 use Rattle.fs_tables.specs.Soundness.{IsSoundInodes}
 use Rattle.fs_tables.proofs.Places.{found}
-use Rattle.fs_tables.proofs.Locking.{lock_good, lock_own, lock_others, lock_had}
+use Rattle.fs_tables.proofs.Locking.{lock_good, lock_own, lock_leaves, lock_apart, lock_had}
 use Rattle.fs_tables.proofs.Counting.{uncounted_good, uncounted_locked, last_free}
 use Rattle.fs_tables.proofs.Dying.{drop_counted, drop_dies}
 use Rattle.fs_tables.proofs.tables.Tables.drop_reference.Goals as goal
@@ -55,9 +55,19 @@ returns-in-Some-take_dying-clause-own c =
     (refl, own.0, own.1, own.2)
 
 pub returns-in-Some-take_dying-clause-others : goal.returns-in-Some-take_dying-clause-others
-returns-in-Some-take_dying-clause-others c g ne locked =
+returns-in-Some-take_dying-clause-others c g locked =
     let t : TablesState = record { entries = c.self.inside.entries; locks = c.self.inside.locks; files = c.self.inside.files; desks = c.self.inside.desks } in
-    lock_others c.args.hart c.in-Some.place t c.take_dying.new.locks (Some c.in-Some-take_dying.guard) c.in-Some-take_dying.ensures.lock g ne (subst (λ v. IsLocked g v) (sym c.self.view_is) locked)
+    let f = found c.number.result t.entries c.in-Some.place (sym c.place_of.ensures ∙ c.in-Some.is) in
+    lock_leaves c.args.hart c.in-Some.place t c.take_dying.new.locks f.entry (Some c.in-Some-take_dying.guard) c.self.invariant.inodes f.there c.in-Some-take_dying.ensures.lock g
+    (subst (λ v. IsLocked g v) (sym c.self.view_is) locked)
+
+pub returns-in-Some-take_dying-clause-apart : goal.returns-in-Some-take_dying-clause-apart
+returns-in-Some-take_dying-clause-apart c g locked =
+    let t : TablesState = record { entries = c.self.inside.entries; locks = c.self.inside.locks; files = c.self.inside.files; desks = c.self.inside.desks } in
+    let e : place_of c.args.reference t.entries ≡ Some c.in-Some.place = subst (λ n. place_of n t.entries ≡ Some c.in-Some.place) c.number.ensures (sym c.place_of.ensures ∙ c.in-Some.is) in
+    let f = found c.args.reference t.entries c.in-Some.place e in
+    lock_apart c.args.hart c.args.reference c.in-Some.place t c.take_dying.new.locks (Some c.in-Some-take_dying.guard) f c.self.invariant.inodes c.in-Some-take_dying.ensures.lock g
+    (subst (λ v. IsLocked g v) (sym c.self.view_is) locked)
 
 pub returns-in-None-take_dying-clause-ran : goal.returns-in-None-take_dying-clause-ran
 returns-in-None-take_dying-clause-ran c =
@@ -69,7 +79,7 @@ returns-in-None-take_dying-clause-ran c =
     (drop_counted c.args.hart c.args.reference c.in-Some.place t e c.in-None-take_dying.ensures.alive ∙ ap (λ (v : TablesState). Ran Counts v) is)
 
 pub returns-in-None-take_dying-clause-others : goal.returns-in-None-take_dying-clause-others
-returns-in-None-take_dying-clause-others c g ne locked =
+returns-in-None-take_dying-clause-others c g locked =
     let t : TablesState = record { entries = c.self.inside.entries; locks = c.self.inside.locks; files = c.self.inside.files; desks = c.self.inside.desks } in
     let e : place_of c.args.reference t.entries ≡ Some c.in-Some.place = subst (λ n. place_of n t.entries ≡ Some c.in-Some.place) c.number.ensures (sym c.place_of.ensures ∙ c.in-Some.is) in
     let f = found c.args.reference t.entries c.in-Some.place e in

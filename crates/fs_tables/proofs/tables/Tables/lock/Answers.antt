@@ -1,12 +1,13 @@
-use Rattle.std.proofs.Common.{◌≡◌, ◌∙◌, ap, refl, sym, subst, List, Option, Some, None}
-use Rattle.std.specs.Prelude.{IfNone}
+use Rattle.std.proofs.Common.{◌≡◌, ◌≢◌, ◌∙◌, ap, refl, sym, subst, List, Option, Some, None}
+use Rattle.std.specs.Prelude.{IfNone, IfSome}
 use Rattle.sleep_lock.specs.SleepLock.{SlotState, GuardState}
 use Rattle.fs_tables.specs.declared.inodes.Inode.{Inode}
 use Rattle.fs_tables.specs.Tables.{TablesState, place_of}
+use Rattle.fs_tables.specs.Locks.{IsLocked}
 use Rattle.fs_tables.specs.Inodes.{lock_inode}
 use Rattle.fs_tables.specs.Results.{locked_as}
 use Rattle.fs_tables.proofs.Places.{found}
-use Rattle.fs_tables.proofs.Locking.{lock_ran, lock_waits, lock_good, lock_still, lock_own}
+use Rattle.fs_tables.proofs.Locking.{lock_ran, lock_waits, lock_good, lock_still, lock_own, lock_leaves, lock_apart}
 use Rattle.fs_tables.proofs.tables.Tables.lock.Goals as goal
 
 pub invariant_of-self : goal.invariant_of-self
@@ -51,3 +52,16 @@ returns-in-Some-clause-own c =
     let t : TablesState = record { entries = c.self.inside.entries; locks = c.self.inside.locks; files = c.self.inside.files; desks = c.self.inside.desks } in
     let f = found c.args.number t.entries c.in-Some.place (sym c.place_of.ensures ∙ c.in-Some.is) in
     (lock_own c.args.hart c.args.number c.in-Some.place t c.lock.new.self c.lock.result f c.self.invariant.inodes c.lock.ensures.gives)
+
+pub returns-in-Some-clause-others : goal.returns-in-Some-clause-others
+returns-in-Some-clause-others c g locked =
+    let t : TablesState = record { entries = c.self.inside.entries; locks = c.self.inside.locks; files = c.self.inside.files; desks = c.self.inside.desks } in
+    let f = found c.args.number t.entries c.in-Some.place (sym c.place_of.ensures ∙ c.in-Some.is) in
+    lock_leaves c.args.hart c.in-Some.place t c.lock.new.self f.entry c.lock.result c.self.invariant.inodes f.there c.lock.ensures.gives g (subst (λ v. IsLocked g v) (sym c.self.view_is) locked)
+
+pub returns-in-Some-clause-apart : goal.returns-in-Some-clause-apart
+returns-in-Some-clause-apart c =
+    let t : TablesState = record { entries = c.self.inside.entries; locks = c.self.inside.locks; files = c.self.inside.files; desks = c.self.inside.desks } in
+    let f = found c.args.number t.entries c.in-Some.place (sym c.place_of.ensures ∙ c.in-Some.is) in
+    subst (λ (v : TablesState). IfSome c.lock.result (λ _. (g : GuardState Inode) → IsLocked g v → g.value.number ≢ c.args.number)) c.self.view_is
+    (lock_apart c.args.hart c.args.number c.in-Some.place t c.lock.new.self c.lock.result f c.self.invariant.inodes c.lock.ensures.gives)

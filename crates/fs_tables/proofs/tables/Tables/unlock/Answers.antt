@@ -2,7 +2,7 @@ use Rattle.std.proofs.Common.{◌≡◌, sym, subst, None}
 use Rattle.fs_tables.specs.Tables.{TablesState}
 use Rattle.fs_tables.specs.Locks.{IsLocked}
 use Rattle.fs_tables.specs.Inodes.{unlock_inode}
-use Rattle.fs_tables.proofs.Locking.{unlock_ran, unlock_good}
+use Rattle.fs_tables.proofs.Locking.{unlock_ran, unlock_good, unlock_leaves}
 use Rattle.fs_tables.proofs.tables.Tables.unlock.Goals as goal
 
 pub invariant_of-self : goal.invariant_of-self
@@ -22,3 +22,9 @@ returns-clause-ran c =
     let after : TablesState = record t { locks = c.unlock.new.self } in
     subst (λ (v : TablesState). after ≡ unlock_inode c.args.hart c.args.guard.value None v) c.self.view_is
     (unlock_ran c.args.hart c.args.guard t c.unlock.new.self c.self.invariant.inodes l c.unlock.ensures.slots)
+
+pub returns-clause-rest : goal.returns-clause-rest
+returns-clause-rest c o ne locked =
+    let t : TablesState = record { entries = c.self.inside.entries; locks = c.self.inside.locks; files = c.self.inside.files; desks = c.self.inside.desks } in
+    let l : IsLocked c.args.guard t = subst (λ v. IsLocked c.args.guard v) (sym c.self.view_is) c.requires.locked in
+    unlock_leaves c.args.guard t c.unlock.new.self l c.unlock.ensures.slots o ne (subst (λ v. IsLocked o v) (sym c.self.view_is) locked)
