@@ -7,6 +7,7 @@ mod desk;
 mod files;
 mod inodes;
 mod limits;
+mod listed;
 mod slots;
 mod tables;
 
@@ -14,5 +15,6 @@ pub use desk::Desk;
 pub use files::{FilePlace, NewFile, OpenFile, Refused, Want};
 pub use inodes::{Dropped, Entry, Inode, Reference};
 pub use limits::{DESCRIPTORS, MEMORY_INODES, OPEN_FILES, ROOT};
+pub use listed::Listed;
 pub use slots::{Doubled, Given, Shut};
 pub use tables::Tables;

@@ -1,0 +1,66 @@
+// References that a call keeps to its end.
+ghost use Rattle.std.specs.Prelude.{◌≡◌, ◌<◌, List, [], ◌∷◌, ◌++◌, length, MatchOption};
+
+use crate::inodes::Reference;
+use crate::limits::MEMORY_INODES;
+use arrayvec::ArrayVec;
+use sleep_lock::RetiredSlots;
+use std::marker::Model;
+
+/// References that a call keeps: each is the last one to a dead inode, and the call frees the inode at its end. There is room for
+/// one to each inode in memory. A contract sees the inodes' numbers.
+///
+/// Code that lets a list go doesn't compile: an empty one is ended, or any after the tables have ended.
+pub struct Listed {
+    numbers: ArrayVec<u32, MEMORY_INODES>,
+}
+
+impl Model for Listed {
+    ghost use Rattle.std.specs.Prelude.{ℕ, List};
+
+    ghost Value = { List ℕ };
+
+    ghost view = { λ l. l.numbers.items };
+}
+
+impl Listed {
+    /// None yet.
+    pub fn new() -> Listed
+        ensures { result ≡ [] }
+    {
+        Listed {
+            numbers: ArrayVec::new(),
+        }
+    }
+
+    /// One more, behind the others.
+    pub fn push(&mut self, reference: Reference)
+        requires { length self.old < MEMORY_INODES }
+        ensures { self.new ≡ self.old ++ reference ∷ [] }
+    {
+        self.numbers.push(reference.end());
+    }
+
+    /// Takes the first one out.
+    pub fn take_first(&mut self) -> Option<Reference>
+        ensures { MatchOption result ((self.old ≡ []) × (self.new ≡ [])) (λ first. self.old ≡ first ∷ self.new) }
+    {
+        if self.numbers.is_empty() {
+            None
+        } else {
+            Some(Reference::new(self.numbers.remove(0)))
+        }
+    }
+
+    /// Ends an empty list.
+    pub fn end(self)
+        requires { self ≡ [] }
+    {
+        let Listed { numbers: _ } = self;
+    }
+
+    /// Ends a list once its table has ended.
+    pub fn retire(self, _tables: &RetiredSlots) {
+        let Listed { numbers: _ } = self;
+    }
+}
