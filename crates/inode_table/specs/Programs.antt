@@ -1,12 +1,22 @@
 -- Inodes loaded from their blocks and stored into them: programs over what all harts share. Nothing is marked in them.
-use Rattle.std.specs.Prelude.{ℕ, ◌+◌, ◌*◌, ◌/◌, ◌%◌, List, Option, Some, None}
+use Rattle.std.specs.Prelude.{ℕ, ◌+◌, ◌*◌, ◌/◌, ◌%◌, pos, List, [], Option, Some, None}
+use Rattle.std.specs.Option.{unwrap_or}
 use Rattle.fs_layout.specs.declared.inode.Dinode.{Dinode}
 use Rattle.fs_layout.specs.Bytes.{overwrite}
 use Rattle.fs_layout.specs.Inode.{dinode_at, spell_dinode}
 use Rattle.fs_layout.specs.Widths.{inode_len, inodes_per_block}
 use Rattle.atomic_programs.specs.Prog.{Prog, Ret, Do, bind, unmarked}
+use Rattle.fs_tables.specs.declared.inodes.Inode.{Inode}
 use Rattle.fs_machine.specs.Steps.{Op, Answer, Put}
 use Rattle.fs_machine.specs.Programs.{fetch}
+
+-- an inode that isn't loaded has no record
+abbrev pub no_record : Dinode
+no_record = record { kind = pos 0; major = pos 0; minor = pos 0; nlink = pos 0; size = 0; addrs = [] }
+
+-- what stands on the disk of an inode in memory, where it is loaded
+abbrev pub record_of : Inode → Dinode
+record_of inode = unwrap_or inode.content no_record
 
 -- the block of an inode, where the inode blocks begin at this one
 abbrev pub inode_block : ℕ → ℕ → ℕ

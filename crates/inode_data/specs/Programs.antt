@@ -1,0 +1,72 @@
+-- Contents read: programs over what all harts share. Nothing is marked in them.
+use Rattle.std.specs.Prelude.{ℕ, zero, suc, ◌+◌, ◌-◌, ◌*◌, ◌/◌, ◌%◌, List, [], ◌++◌, min, nat_lt, if◌then◌else◌, None, take, drop, slice_index}
+use Rattle.fs_layout.specs.declared.inode.Dinode.{Dinode}
+use Rattle.fs_layout.specs.Indirect.{numbers_in}
+use Rattle.fs_layout.specs.Widths.{block_len}
+use Rattle.atomic_programs.specs.Prog.{Prog, Ret, Do, bind, unmarked}
+use Rattle.fs_machine.specs.Steps.{Op, Answer, Put}
+use Rattle.fs_machine.specs.Programs.{fetch}
+use Rattle.inode_data.specs.declared.addresses.Address.{Address}
+use Rattle.inode_data.specs.declared.addresses.Address.TheVariants.{Direct, InTable}
+use Rattle.inode_data.specs.Addresses.{address, table_of}
+
+-- ---- a block of a content
+
+-- a block whose buffer is in hand, and valid
+pub record Fetched : Type 0 where
+  pub number : ℕ
+  pub bytes : List ℕ
+
+abbrev pub give_fetched : {M : Type 0} → ℕ → List ℕ → Prog Op Answer M Fetched
+give_fetched b bytes = Ret (record { number = b; bytes = bytes })
+
+-- a block's buffer is taken, and valid
+abbrev pub fetch_number : {M : Type 0} → ℕ → Prog Op Answer M Fetched
+fetch_number b = bind (fetch b) (give_fetched b)
+
+-- the indirect block is given back as it was, and the block whose number stands there at this place is taken
+abbrev pub fetch_named : {M : Type 0} → (table i : ℕ) → List ℕ → Prog Op Answer M Fetched
+fetch_named table i bytes = Do (Put table None) unmarked (λ _. fetch_number (slice_index (numbers_in bytes) i))
+
+abbrev pub fetch_at : {M : Type 0} → Dinode → Address → Prog Op Answer M Fetched
+fetch_at d (Direct i) = fetch_number (slice_index d.addrs i)
+fetch_at d (InTable i) = bind (fetch (table_of d)) (fetch_named (table_of d) i)
+
+-- block k of a content is taken, after a touch of the indirect block where its number stands there
+abbrev pub fetch_block : {M : Type 0} → Dinode → ℕ → Prog Op Answer M Fetched
+fetch_block d k = fetch_at d (address k)
+
+-- ---- reading
+
+-- where the next block of the content begins
+abbrev pub next_block : ℕ → ℕ
+next_block from = block_len * (from / block_len + 1)
+
+-- how many blocks have bytes from one offset up to another
+abbrev pub blocks_between : (from upto : ℕ) → ℕ
+blocks_between from upto = if nat_lt from upto then ((upto - 1) / block_len + 1) - from / block_len else 0
+
+-- what a block has of the bytes from one offset of the content up to another
+abbrev pub part_of : (from upto : ℕ) → List ℕ → List ℕ
+part_of from upto block = take (upto - from) (drop (from % block_len) block)
+
+-- the block is given back as it was, and its part follows what was read before
+abbrev pub read_part : {M : Type 0} → (List ℕ → Prog Op Answer M (List ℕ)) → (from upto : ℕ) → List ℕ → Fetched → Prog Op Answer M (List ℕ)
+read_part more from upto before f = Do (Put f.number None) unmarked (λ _. more (before ++ part_of from upto f.bytes))
+
+-- the parts of so many blocks, one after the other
+unfoldable pub read_blocks : {M : Type 0} → ℕ → Dinode → (from upto : ℕ) → List ℕ → Prog Op Answer M (List ℕ)
+read_blocks zero d from upto before = Ret before
+read_blocks (suc n) d from upto before = bind (fetch_block d (from / block_len)) (read_part (read_blocks n d (next_block from) upto) from upto before)
+
+-- the bytes from one offset up to another
+abbrev pub read_between : {M : Type 0} → Dinode → (from upto : ℕ) → List ℕ → Prog Op Answer M (List ℕ)
+read_between d from upto before = read_blocks (blocks_between from upto) d from upto before
+
+-- where a read of so many bytes ends: at most at the size
+abbrev pub end_of : Dinode → (offset n : ℕ) → ℕ
+end_of d offset n = min (offset + n) d.size
+
+-- so many bytes from an offset on, at most to the size
+abbrev pub read_from : {M : Type 0} → Dinode → (offset n : ℕ) → Prog Op Answer M (List ℕ)
+read_from d offset n = read_between d offset (end_of d offset n) []

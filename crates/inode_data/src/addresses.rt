@@ -1,0 +1,34 @@
+//! Where the blocks of a content stand.
+ghost use Rattle.std.specs.Prelude.{◌≡◌, ◌<◌};
+ghost use Rattle.inode_data.specs.Addresses.{address, IsPlace};
+ghost use Rattle.inode_data.specs.Widths.{most_blocks};
+
+use fs_layout::widths::{ADDRESSES, NUMBERS_PER_BLOCK};
+
+/// How many block numbers stand in the inode itself; that of the indirect block comes behind them.
+pub const DIRECT: usize = ADDRESSES - 1;
+
+/// How many blocks a content has at most.
+pub const MOST_BLOCKS: usize = DIRECT + NUMBERS_PER_BLOCK;
+
+/// Where the number of a block stands.
+#[derive(Clone, Copy, PartialEq, Eq, Debug)]
+pub enum Address {
+    /// At this place of the inode.
+    Direct(usize),
+    /// At this place of its indirect block.
+    InTable(usize),
+}
+
+/// Where the number of block `k` of a content stands.
+pub fn address_of(k: usize) -> Address
+    requires { k < most_blocks }
+    ensures there { result ≡ address k }
+    ensures place { IsPlace result }
+{
+    if k < DIRECT {
+        Address::Direct(k)
+    } else {
+        Address::InTable(k - DIRECT)
+    }
+}

@@ -1,0 +1,14 @@
+//! Contents of inodes: read, written and given back.
+//!
+//! `specs/Programs` says what is done, operation by operation; the types with a `step` are machines that do it.
+#![tactic(auto)]
+
+mod addresses;
+mod begun;
+mod fetch_block;
+mod read_part;
+
+pub use crate::addresses::{Address, DIRECT, MOST_BLOCKS, address_of};
+pub use crate::begun::Begun;
+pub use crate::fetch_block::FetchBlock;
+pub use crate::read_part::{ReadPart, Reading};
