@@ -7,11 +7,12 @@
 
 use clap::ArgMatches;
 use clap::error::ErrorKind;
-use mkfs::widths::{INODE_START, LOG_BLOCKS};
+use image_files::{SaveRefused, read_at_most, save};
+use mkfs::widths::{INODE_START, LARGEST_SIZE, LOG_BLOCKS};
 use mkfs::{FILES, IMAGE, INODES, MakeRefused, SIZE, data_start, make, number, options};
 use std::alloc::{AllocError, Global};
 use std::process::ExitCode;
-use std::{env, fs, io};
+use std::{env, io};
 use thiserror::Error;
 
 /// Why no image was written.
@@ -23,9 +24,12 @@ enum Fault<'a> {
     /// The image can't be made, or memory was refused.
     #[error("refused {} {}", .0.number(), .0.name())]
     Refused(MakeRefused),
-    /// What can't be read or written, and why.
+    /// What can't be read, and why.
     #[error("{0}: {1}")]
     File(&'a str, io::Error),
+    /// The image can't be written.
+    #[error("{0}")]
+    Save(SaveRefused),
 }
 
 impl<'a> From<AllocError> for Fault<'a> {
@@ -40,8 +44,17 @@ impl<'a> From<MakeRefused> for Fault<'a> {
     }
 }
 
+impl<'a> From<SaveRefused> for Fault<'a> {
+    fn from(refused: SaveRefused) -> Fault<'a> {
+        match refused {
+            SaveRefused::NoMemory => Fault::Refused(MakeRefused::NoMemory),
+            refused => Fault::Save(refused),
+        }
+    }
+}
+
 impl<'a> Fault<'a> {
-    // What came of reading or writing a file.
+    // What came of reading a file.
     fn of_file(path: &'a str, error: io::Error) -> Fault<'a> {
         if error.kind() == io::ErrorKind::OutOfMemory {
             return Fault::Refused(MakeRefused::NoMemory);
@@ -61,7 +74,7 @@ impl<'a> Fault<'a> {
     fn status(&self) -> u8 {
         match self {
             Fault::Words(_) => 2,
-            Fault::Refused(_) | Fault::File(..) => 1,
+            Fault::Refused(_) | Fault::File(..) | Fault::Save(_) => 1,
         }
     }
 }
@@ -74,30 +87,17 @@ fn last_element(path: &str) -> &str {
     }
 }
 
-// The names and contents of the FILEs, in their order.
+// The names and contents of the FILEs, in their order. Of one that is too long for an image only so much is read that it is seen.
 fn load<'a>(rt: &HostRuntime, paths: &[&'a str]) -> Result<Vec<(Vec<u8>, Vec<u8>)>, Fault<'a>> {
     let mut files = Vec::new(rt.alloc());
     for &path in paths {
         let name = Vec::from_slice(rt.alloc(), last_element(path).as_bytes())?;
-        let content = fs::read(rt, path).map_err(|error| Fault::of_file(path, error))?;
+        let content = read_at_most(rt, path, LARGEST_SIZE).map_err(|error| Fault::of_file(
+            path, error,
+        ))?;
         files.push((name, content)).map_err(AllocError::from)?;
     }
     Ok(files)
-}
-
-// Writes the image beside its place and then moves it there, so that no file with its name is ever
-// half written. After a fault nothing of it is left.
-fn save(rt: &HostRuntime, path: &str, bytes: &[u8]) -> io::Result<()> {
-    let beside = format!(in rt.alloc(); "{path}.part")?;
-    let written = fs::write(rt, beside.as_str(), bytes);
-    let saved = match written {
-        Ok(()) => fs::rename(rt, beside.as_str(), path),
-        Err(fault) => Err(fault),
-    };
-    if saved.is_err() {
-        let _ = fs::remove_file(rt, beside.as_str());
-    }
-    saved
 }
 
 // The line about an image that was made.
@@ -122,7 +122,7 @@ fn run<'a>(
     let line = summary(rt.alloc(), size, ninodes)?;
     let image = matches.get_str(IMAGE).unwrap_or("");
     let bytes = disk.into_bytes();
-    save(rt, image, bytes.as_slice()).map_err(|error| Fault::of_file(image, error))?;
+    save(rt, image, bytes.as_slice())?;
     Ok(line)
 }
 
