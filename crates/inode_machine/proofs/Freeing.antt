@@ -98,7 +98,7 @@ s-take-kept {A} {h} {i} {x} {looking} {k} {B} {Q} {n} {es} {w} {O} owns free lt 
         }
 
 -- an open file isn't of an inode that one hart keeps alone
-lone_file : (h i k : ℕ) (e : Entry) (v : World) → Inv v → h < hart_count → v.alone i ≡ true → v.keeper i ≡ Some h → v.files k ≡ Some e → e.file.number ≢ i
+pub lone_file : (h i k : ℕ) (e : Entry) (v : World) → Inv v → h < hart_count → v.alone i ≡ true → v.keeper i ≡ Some h → v.files k ≡ Some e → e.file.number ≢ i
 lone_file h i k e v inv lt lone kept is q =
     let a = inv.alone i lone in
     let s : Some a.hart ≡ Some h = sym a.kept ∙ kept in

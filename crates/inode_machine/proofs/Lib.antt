@@ -21,3 +21,7 @@ pub mod Looks
 pub mod Listing
 pub mod Walks
 pub mod Beginnings
+pub mod Claiming
+pub mod Acting
+pub mod Removes
+pub mod Enters
