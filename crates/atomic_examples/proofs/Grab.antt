@@ -528,4 +528,4 @@ rest_shows = record { locks = λ i. refl; owners = λ c. refl; free = λ c e. re
 
 pub grabs_refined : (events : List (Event ℕ (Unit {0}))) → AllHonest grabs_above events (fresh grabs_above rest) → Explained grabs_above rest.seen (run grabs_above events (fresh grabs_above rest))
 grabs_refined events honest =
-    refined grabs core low handler (λ h i busy r. Begins r) lawful low_laws is_core starts_both atomic rest events rest_shows tt (λ h. record { free = λ e. cc; tied = λ c e. absurd cc }) (λ h i. refl) honest
+    refined grabs core low handler (λ h i busy r. Begins r) lawful low_laws is_core starts_both (λ h can. atomic h) rest events rest_shows tt (λ h. record { free = λ e. cc; tied = λ c e. absurd cc }) (λ h i. refl) honest

@@ -1,5 +1,5 @@
 -- Each operation above acts at one moment of its program below.
-use Rattle.std.proofs.Common.{◌≡◌, ◌≢◌, ◌⊎◌, inl, inr, ◌/◌, ◌%◌, ℕ, suc, Bool, true, false, Option, Some, None, List, [], ◌∷◌, length, refl, sym, ◌∙◌, ap, subst, arith}
+use Rattle.std.proofs.Common.{◌≡◌, ◌≢◌, ◌<◌, ◌⊎◌, inl, inr, ◌/◌, ◌%◌, ℕ, suc, Bool, true, false, Option, Some, None, List, [], ◌∷◌, length, refl, sym, ◌∙◌, ap, subst, arith}
 use Rattle.atomic_programs.specs.Prog.{Ret, Do, bind, unmarked}
 use Rattle.atomic_programs.specs.Logic.{Machine, P, Wp, Laws}
 use Rattle.atomic_programs.proofs.Prog.{bind-assoc}
@@ -7,7 +7,7 @@ use Rattle.atomic_programs.proofs.Sound.{Wp-more}
 use Rattle.atomic_programs.specs.Joined.{Lasts, Both, joined, Handed, Below, Atomic}
 use Rattle.atomic_examples.specs.Whole as above
 use Rattle.atomic_examples.specs.Whole.{put, if_held, written, Dinode, Labels, Keeps, whole, take_if}
-use Rattle.atomic_examples.specs.Blocks.{Block, World, Lock, Unlock, Get, Read, Put, Join, Leave, PutPart, GetPart, Outside, Passes, Fails, lock_if, bytes_if, get_if, read_if, IsOut, Shows, Same, Tied, Carry, InHand, Base, at, blocks, act, write_parts, read_or, fetch, look_back, load_or, with_record, record_of, handler}
+use Rattle.atomic_examples.specs.Blocks.{hart_count, Block, World, Lock, Unlock, Get, Read, Put, Join, Leave, PutPart, GetPart, Outside, Passes, Fails, lock_if, bytes_if, get_if, read_if, IsOut, Shows, Same, Tied, Carry, InHand, Base, at, blocks, act, write_parts, read_or, fetch, look_back, load_or, with_record, record_of, handler}
 use Rattle.atomic_programs.proofs.Joined.{Wp-holding, Stable, Here, Silent, s-silent, ToAct, to_act, may_act, acted, Acting, s-act}
 use Rattle.atomic_examples.proofs.Maps.{Ours, put_same, put_other, same_or, put_elim, ours_none, ours_some}
 use Rattle.atomic_examples.proofs.Steps.{has_lock, has_buffer, has_none, has_part, tied_stays, hand_stays, blocks_laws, did_same, ours_is, did_lock, did_buffer, did_hand, did_read, did_txn, shows_same, shows_locked, shows_given, slot_new, slot_other, shows_stored, shows_txn, did_part, shows_part}
@@ -112,10 +112,10 @@ module _ (l : Labels) (laws : Laws (whole l)) (keeps : Keeps l) (h : ℕ) where
         | inr ne ↦ put_other hand i (Some d) j ne ∙ has j (sym (put_other v.lock i (Some h) j ne) ∙ p.0) ∙ ap (λ (x : Dinode). Some x) p.1
       ]
 
-  take_atomic : (i : ℕ) (m : Dinode → Option l.Mark) → Atomic (whole l) blocks (handler l.Mark) h (above.Take i) m
-  take_atomic i m hand B C es w lasts todo base =
+  take_atomic : h < hart_count → (i : ℕ) (m : Dinode → Option l.Mark) → Atomic (whole l) blocks (handler l.Mark) h (above.Take i) m
+  take_atomic small i m hand B C es w lasts todo base =
       s-act (whole l) blocks laws (blocks_laws l keeps) h B (above.Take i) m C lasts tt (Lock i) rest Done 3 es w todo
-      (λ v fs here may. ((λ e. may (here.shows.locks i ∙ e)), λ x t. locked v (base_at hand w v here.same here.kept base) here.shows may (v.real.lock i) refl))
+      (λ v fs here may. (((λ e. may (here.shows.locks i ∙ e)), small), λ x t. locked v (base_at hand w v here.same here.kept base) here.shows may (v.real.lock i) refl))
     where
       Done : Handed Dinode Carry → E → W → Type 0
       Done = Below (whole l) blocks h C
@@ -355,11 +355,11 @@ module _ (l : Labels) (laws : Laws (whole l)) (keeps : Keeps l) (h : ℕ) where
       record { free = b.free; tied = λ j ne e. b.tied j e; below = lock; above = may.0; in_hand = b.in_hand; leads = ap (λ (f : ℕ → ℕ). written f k (z ∷ zs)) (sym (b.tied i lock).1) })
       todo)
 
-  pub atomic : (op : above.Op) (m : above.Answer op → Option l.Mark) → Atomic (whole l) blocks (handler l.Mark) h op m
-  atomic (above.Take i) m = take_atomic i m
-  atomic (above.Store i d) m = store_atomic i d m
-  atomic (above.Give i) m = give_atomic i m
-  atomic above.Enter m = enter_atomic m
-  atomic above.Exit m = exit_atomic m
-  atomic (above.Look i k) m = look_atomic i k m
-  atomic (above.Write i k z zs) m = write_atomic i k z zs m
+  pub atomic : h < hart_count → (op : above.Op) (m : above.Answer op → Option l.Mark) → Atomic (whole l) blocks (handler l.Mark) h op m
+  atomic small (above.Take i) m = take_atomic small i m
+  atomic small (above.Store i d) m = store_atomic i d m
+  atomic small (above.Give i) m = give_atomic i m
+  atomic small above.Enter m = enter_atomic m
+  atomic small above.Exit m = exit_atomic m
+  atomic small (above.Look i k) m = look_atomic i k m
+  atomic small (above.Write i k z zs) m = write_atomic i k z zs m

@@ -1,11 +1,13 @@
 -- Every call over the machine of whole inodes, run on blocks.
-use Rattle.std.proofs.Common.{◌≡◌, ℕ, Option, None, Some, true, List, [], ◌∷◌, refl, subst}
+use Rattle.std.proofs.Common.{◌≡◌, ◌<◌, ℕ, Bool, true, false, if◌then◌else◌, Option, None, Some, List, [], ◌∷◌, refl, subst}
+use Rattle.std.specs.Prelude.{nat_lt}
+use Rattle.std.proofs.lemmas.Bool.{ltb-true}
 use Rattle.atomic_programs.specs.Prog.{Did, Waits, Ran, Stops, did_in, asks}
-use Rattle.atomic_programs.specs.Calls.{Lawful, Event, AllHonest, run, fresh, is_some}
+use Rattle.atomic_programs.specs.Calls.{Began, Refuses, Begins, Lawful, Event, AllHonest, run, fresh, is_some}
 use Rattle.atomic_programs.specs.Explained.{Explained}
-use Rattle.atomic_programs.specs.Joined.{Both, Atomic}
-use Rattle.atomic_programs.specs.Lowered.{BeginsBoth, StartsBoth, lowered_calls}
-use Rattle.atomic_programs.specs.Operations.{IsCore, operations, operations_of}
+use Rattle.atomic_programs.specs.Joined.{Both}
+use Rattle.atomic_programs.specs.Lowered.{BeginsBoth, StartsBoth, CanBegin, AllAtomic, lowered_calls}
+use Rattle.atomic_programs.specs.Operations.{IsCore, operations_of}
 use Rattle.atomic_programs.specs.Noted.{noted_calls}
 use Rattle.atomic_programs.proofs.Operations.{operations_laws}
 use Rattle.atomic_programs.proofs.Lowered.{lowered_lawful, refined}
@@ -13,7 +15,7 @@ use Rattle.atomic_programs.proofs.Noted.{refined_within}
 use Rattle.atomic_examples.specs.Whole as above
 use Rattle.atomic_examples.specs.Whole.{Labels, Keeps, whole, take_if}
 use Rattle.atomic_examples.specs.Blocks as low
-use Rattle.atomic_examples.specs.Blocks.{World, Outside, Shows, Base, blocks, handler}
+use Rattle.atomic_examples.specs.Blocks.{hart_count, World, Outside, Shows, Base, blocks, handler}
 use Rattle.atomic_examples.specs.OfWhole.{Calls, theory, begins_at_once, core, operation_labels}
 use Rattle.atomic_examples.proofs.Steps.{blocks_laws}
 use Rattle.atomic_examples.proofs.Handlers.{atomic}
@@ -80,9 +82,17 @@ module _ (l : Labels) (c : Calls l) (lawful : Lawful (theory l c)) (keeps : Keep
         some = some;
       }
 
+  -- a start that begins: it changes nothing, and is one of the eight harts'
+  begun_same : (h : ℕ) (call : c.Call) (busy : ℕ → Bool) (r s : World) → begins_at_once l c h call busy r ≡ Begins s → (r ≡ s) × (h < hart_count)
+  begun_same h call busy r s e = at (nat_lt h hart_count) refl e
+    where
+      at : (b : Bool) → nat_lt h hart_count ≡ b → ◌≡◌ {A = Began c.Refusal World} (if b then Begins r else Refuses c.no_hart) (Begins s) → (r ≡ s) × (h < hart_count)
+      at true t e = (cc, ltb-true h hart_count t)
+      at false t e = absurd cc
+
   starts_both : StartsBoth (theory l c) blocks (begins_at_once l c)
   starts_both h call busy r s g holds inv idle free e =
-      let is : r ≡ s = cc in
+      let is : r ≡ s = (begun_same h call busy r s e).0 in
       subst (λ (z : World). BeginsBoth (theory l c) blocks h call busy r z g) is
       (record {
         above = g;
@@ -93,12 +103,15 @@ module _ (l : Labels) (c : Calls l) (lawful : Lawful (theory l c)) (keeps : Keep
         rests = λ other b. (idle other b).0;
       })
 
+  small : (h : ℕ) → CanBegin (theory l c) blocks (begins_at_once l c) h → h < hart_count
+  small h can = (begun_same h can.0 can.1 can.2 can.3 can.4).1
+
   -- the calls on blocks, with the history that they were shown to have over whole inodes, and with the operations there
   pub calls_lawful : Lawful (lowered_calls (theory l c) blocks (handler l.Mark) (begins_at_once l c))
-  calls_lawful = lowered_lawful (theory l c) blocks (handler l.Mark) (begins_at_once l c) lawful (blocks_laws l keeps) starts_both (λ h op m. atomic l lawful.laws keeps h op m)
+  calls_lawful = lowered_lawful (theory l c) blocks (handler l.Mark) (begins_at_once l c) lawful (blocks_laws l keeps) starts_both (λ h can op m. atomic l lawful.laws keeps h (small h can) op m)
 
-  pub operations_atomic : (h : ℕ) (op : above.Op) (m : above.Answer op → Option l.Mark) → Atomic (operations (whole l) (core l)) blocks (handler l.Mark) h op m
-  operations_atomic h op m = atomic (operation_labels l) (operations_laws (whole l) (core l) lawful.laws) (record { kept = λ h v w xs o. keeps.kept h v w o.1.0 o.1.1; idle = keeps.idle }) h op m
+  pub operations_atomic : AllAtomic (operations_of (theory l c) (core l)) blocks (handler l.Mark) (begins_at_once l c)
+  operations_atomic h can op m = atomic (operation_labels l) (operations_laws (whole l) (core l) lawful.laws) (record { kept = λ h v w xs o. keeps.kept h v w o.1.0 o.1.1; idle = keeps.idle }) h (small h can) op m
 
   -- each run on blocks is one of whole inodes, whatever the history is
   pub calls_refined : (w : Both World above.World) → Shows w.real w.seen → l.Inv w.seen → ((h : ℕ) → Base h w.real w.seen blocks.none) → ((h : ℕ) → l.Idle h w.seen) → (events : List (Event c.Call Outside))

@@ -408,7 +408,7 @@ module _ (h j : ℕ) (m : Unit {0} → Option (Unit {0})) where
 
 pub gifts_refined : (purse : ℕ → ℕ) (events : List (Event ℕ (Unit {0}))) → AllHonest gifts_above events (fresh gifts_above (rest purse)) → Explained gifts_above purse (run gifts_above events (fresh gifts_above (rest purse)))
 gifts_refined purse events honest =
-    refined gifts core low handler start lawful low_laws is_core starts_both atomic (rest purse) events (record { wards = λ k. refl; purses = λ k e. refl }) tt (λ h k e. absurd (let c : ◌≡◌ {A = Option ℕ} None (Some h) = e in cc)) (λ h k e. (let c : ◌≡◌ {A = Option ℕ} None (Some h) = e in cc)) honest
+    refined gifts core low handler start lawful low_laws is_core starts_both (λ h can. atomic h) (rest purse) events (record { wards = λ k. refl; purses = λ k e. refl }) tt (λ h k e. absurd (let c : ◌≡◌ {A = Option ℕ} None (Some h) = e in cc)) (λ h k e. (let c : ◌≡◌ {A = Option ℕ} None (Some h) = e in cc)) honest
 
 some_below : (op : LowOp) → LowAnswer op
 some_below Peek = 0
@@ -422,4 +422,4 @@ steps hand (Free j) m = refl
 
 pub gifts_within : (purse : ℕ → ℕ) (events : List (Event ℕ (Unit {0}))) → AllHonest gifts_noted events (fresh gifts_noted (rest purse)) → Explained gifts_noted purse (run gifts_noted events (fresh gifts_noted (rest purse)))
 gifts_within purse events honest =
-    refined_within gifts core low handler start lawful low_laws is_core starts_both atomic some_below steps (rest purse) events (record { wards = λ k. refl; purses = λ k e. refl }) tt (λ h k e. absurd (let c : ◌≡◌ {A = Option ℕ} None (Some h) = e in cc)) (λ h k e. (let c : ◌≡◌ {A = Option ℕ} None (Some h) = e in cc)) honest
+    refined_within gifts core low handler start lawful low_laws is_core starts_both (λ h can. atomic h) some_below steps (rest purse) events (record { wards = λ k. refl; purses = λ k e. refl }) tt (λ h k e. absurd (let c : ◌≡◌ {A = Option ℕ} None (Some h) = e in cc)) (λ h k e. (let c : ◌≡◌ {A = Option ℕ} None (Some h) = e in cc)) honest

@@ -1,10 +1,14 @@
 -- The machine below: locks of inodes, records in memory, and buffers of blocks that hold 16 records each. An inode is unlocked
 -- with its record, which the program of the operation that took or stored it hands on.
-use Rattle.std.specs.Prelude.{◌≡◌, ◌≢◌, ◌/◌, ◌%◌, ℕ, Bool, true, false, Option, Some, None, suc, List, [], ◌∷◌}
+use Rattle.std.specs.Prelude.{◌≡◌, ◌≢◌, ◌<◌, ◌/◌, ◌%◌, ℕ, Bool, true, false, Option, Some, None, suc, List, [], ◌∷◌}
 use Rattle.atomic_programs.specs.Prog.{Prog, Ret, Do, bind, once, unmarked, Did, Waits, Ran, Stops}
 use Rattle.atomic_programs.specs.Joined.{Act, Lower, Handed, holding}
 use Rattle.atomic_examples.specs.Whole as above
 use Rattle.atomic_examples.specs.Whole.{put, if_held, Dinode}
+
+-- no other hart starts a call
+abbrev pub hart_count : ℕ
+hart_count = 8
 
 abbrev pub Block : Type 0
 Block = ℕ → Dinode
@@ -85,7 +89,7 @@ MayPut h b None w = w.out b ≡ Some h
 MayPut h b (Some z) w = (w.out b ≡ Some h) × (w.valid b ≡ true) × (w.txn h ≡ true)
 
 abbrev pub May : ℕ → Op → World → Type 0
-May h (Lock i) w = w.lock i ≢ Some h
+May h (Lock i) w = (w.lock i ≢ Some h) × (h < hart_count)
 May h (Unlock i d) w = w.lock i ≡ Some h
 May h (Get b) w = w.out b ≢ Some h
 May h (Read b) w = w.out b ≡ Some h

@@ -1,11 +1,11 @@
 -- Calls over the machine of whole inodes, with any history; and the history that is the machine's own operations.
-use Rattle.std.specs.Prelude.{◌≡◌, ℕ, List, [], ◌∷◌}
+use Rattle.std.specs.Prelude.{◌≡◌, ℕ, nat_lt, if◌then◌else◌, List, [], ◌∷◌}
 use Rattle.atomic_programs.specs.Prog.{Prog}
-use Rattle.atomic_programs.specs.Calls.{Theory, Begins}
+use Rattle.atomic_programs.specs.Calls.{Theory, Refuses, Begins}
 use Rattle.atomic_programs.specs.Logic.{Answered}
 use Rattle.atomic_programs.specs.Operations.{Core, Makes, all_of}
 use Rattle.atomic_programs.specs.Lowered.{Starts}
-use Rattle.atomic_examples.specs.Blocks.{blocks}
+use Rattle.atomic_examples.specs.Blocks.{hart_count, blocks}
 use Rattle.atomic_examples.specs.Whole.{World, Op, Answer, exec, Labels, whole}
 
 -- calls over the machine with these labels
@@ -14,6 +14,7 @@ pub record Calls (l : Labels) : Type 1 where
   pub Reply : Type 0
   pub Refusal : Type 0
   pub busy : Refusal
+  pub no_hart : Refusal
   pub program : Call → Prog Op Answer l.Mark Reply
   pub Written : Call → List l.Step → Reply → Type 0
   pub limit : Call → ℕ
@@ -32,9 +33,9 @@ theory l c =
       limit = c.limit;
     }
 
--- a start reserves nothing
+-- a start reserves nothing; below only the harts that there are start calls
 abbrev pub begins_at_once : (l : Labels) (c : Calls l) → Starts (theory l c) blocks
-begins_at_once l c h call busy r = Begins r
+begins_at_once l c h call busy r = if nat_lt h hart_count then Begins r else Refuses c.no_hart
 
 -- an operation knows of nothing but the world
 abbrev pub core : (l : Labels) → Core (whole l)

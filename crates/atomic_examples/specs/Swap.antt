@@ -72,6 +72,7 @@ calls =
       Reply = Dinode;
       Refusal = Unit {0};
       busy = tt;
+      no_hart = tt;
       program = program;
       Written = λ c es o. es ≡ Swapped c.inode c.to o ∷ [];
       limit = λ c. 10;

@@ -83,6 +83,11 @@ pub fn swaps_leave_in_memory()
     ensures { (run swaps (Start 0 (record { inode = 17; to = record { kind = 7; size = 7 } }) ∷ Step 0 blocks.Passes ∷ Step 0 blocks.Passes ∷ Step 0 blocks.Passes ∷ Step 0 blocks.Passes ∷ Step 0 blocks.Passes ∷ Step 0 blocks.Passes ∷ Step 0 blocks.Passes ∷ Step 0 blocks.Passes ∷ Step 0 blocks.Passes ∷ []) (fresh swaps rest)).world.real.mem 17 ≡ Some (record { kind = 7; size = 7 }) }
 {}
 
+/// There are eight harts: a start by another one is refused below, though above it would begin.
+pub fn swaps_are_of_eight()
+    ensures { outcomes swaps (Start 7 (record { inode = 17; to = record { kind = 7; size = 7 } }) ∷ Start 8 (record { inode = 17; to = record { kind = 7; size = 7 } }) ∷ []) (fresh swaps rest) ≡ Started ∷ Refused tt ∷ [] }
+{}
+
 /// An inode that is taken and given back is unlocked with the record that was loaded, and no other: what the program of the one
 /// operation has loaded is handed on to that of the other.
 pub fn looks_hand_on()

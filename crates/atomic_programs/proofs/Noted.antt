@@ -7,7 +7,7 @@ use Rattle.atomic_programs.specs.Logic.{Machine, P, Answered, own, onto, oldest_
 use Rattle.atomic_programs.specs.Calls.{Theory, Begins, Begun, Ends, Lawful, Event, AllHonest, run, fresh, is_some}
 use Rattle.atomic_programs.specs.Explained.{Explained}
 use Rattle.atomic_programs.specs.Joined.{Lower, Both, joined, LowerLaws, Handed, Handlers, lowered, Lasts, Below, Atomic}
-use Rattle.atomic_programs.specs.Lowered.{Starts, began_to, lowered_calls, StartsBoth}
+use Rattle.atomic_programs.specs.Lowered.{Starts, began_to, lowered_calls, StartsBoth, CanBegin, AllAtomic}
 use Rattle.atomic_programs.specs.Operations.{Core, IsCore, operations, operations_of}
 use Rattle.atomic_programs.specs.Noted.{Noted, Runs, Places, Notes, noted_steps, noted, After, Within, IsWhole, noted_calls}
 use Rattle.atomic_programs.proofs.Sound.{Wp-weaker, Wp-more, Wp-bind, Wp-others}
@@ -255,7 +255,7 @@ module _ (U : Machine) (K : Core U) (R : Lower U.World) (handler : Handlers U R)
         one v ys gs e (Stops u) q = q
 
 module _ (T : Theory) (K : Core T.M) (R : Lower T.M.World) (handler : Handlers T.M R) (begin : Starts T R) (lawful : Lawful T) (below : LowerLaws T.M R) (core : IsCore T K) (starts : StartsBoth T R begin)
-    (atomic : (h : ℕ) (op : T.M.Op) (m : T.M.Answer op → Option T.M.Mark) → Atomic (operations T.M K) R handler h op m) (some_below : (op : R.Op) → R.Answer op) (steps : (c : R.Carry) (op : T.M.Op) (m : T.M.Answer op → Option T.M.Mark) → is_some (asks (handler c op m)) ≡ true) where
+    (atomic : AllAtomic (operations_of T K) R handler begin) (some_below : (op : R.Op) → R.Answer op) (steps : (c : R.Carry) (op : T.M.Op) (m : T.M.Answer op → Option T.M.Mark) → is_some (asks (handler c op m)) ≡ true) where
   abbrev N : Theory
   N = noted_calls T K R handler begin
 
@@ -304,12 +304,13 @@ module _ (T : Theory) (K : Core T.M) (R : Lower T.M.World) (handler : Handlers T
           → Wp N.M h (Begun N call) (Ends N h call) (N.program call) (T.limit call) [] u
       runs h call busy w u holds idle free e i =
           let d = begun_both (began_to w.seen (T.start h call busy w.seen)) (begin h call busy w.real) u e in
+          let can : CanBegin (operations_of T K) R begin h = (call, busy, w.real, u.real, d.0) in
           let b = starts h call busy w.real u.real w.seen (shows_of w holds) (inv_of w holds) idle free d.0 in
           let is : u.seen ≡ b.above = d.1 ∙ ap (began_to w.seen) b.begins in
           let r = lawful_above.calls h call busy w.seen b.above (inl (inv_of w holds)) (λ j n. (idle j n).1) free b.begins in
-          Wp-weaker N.M h (N.program call) (Noted_so_far T.M K R handler core.some some_below steps lawful.laws below h (atomic h) (T.program call) (Begun (operations_of T K) call) (Ends (operations_of T K) h call) lasts ends_idle) (Begun N call)
-          (Noted_whole T.M K R handler core.some some_below steps lawful.laws below h (atomic h) (T.program call) (Begun (operations_of T K) call) (Ends (operations_of T K) h call) lasts ends_idle) (Ends N h call) (T.limit call) [] u (λ ys c. c) (λ a ys v c. (λ y. c.0, c.1))
-          (handles T.M K R handler core.some some_below steps lawful.laws below h (atomic h) (T.program call) (Begun (operations_of T K) call) (Ends (operations_of T K) h call) lasts ends_idle (T.program call) R.none (T.limit call) [] [] u (λ rest a t. t)
+          Wp-weaker N.M h (N.program call) (Noted_so_far T.M K R handler core.some some_below steps lawful.laws below h (atomic h can) (T.program call) (Begun (operations_of T K) call) (Ends (operations_of T K) h call) lasts ends_idle) (Begun N call)
+          (Noted_whole T.M K R handler core.some some_below steps lawful.laws below h (atomic h can) (T.program call) (Begun (operations_of T K) call) (Ends (operations_of T K) h call) lasts ends_idle) (Ends N h call) (T.limit call) [] u (λ ys c. c) (λ a ys v c. (λ y. c.0, c.1))
+          (handles T.M K R handler core.some some_below steps lawful.laws below h (atomic h can) (T.program call) (Begun (operations_of T K) call) (Ends (operations_of T K) h call) lasts ends_idle (T.program call) R.none (T.limit call) [] [] u (λ rest a t. t)
           (subst (λ (g : T.M.World). Wp (operations T.M K) h (Begun (operations_of T K) call) (Ends (operations_of T K) h call) (T.program call) (T.limit call) [] g) (sym is) (r.runs (subst T.M.Inv is i.1))) (subst (λ (g : T.M.World). R.Base h u.real g R.none) (sym is) (b.rests h free)) i.1)
         where
           lasts : Lasts (operations T.M K) h (Begun (operations_of T K) call) (Ends (operations_of T K) h call)

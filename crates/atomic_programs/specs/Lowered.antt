@@ -1,8 +1,8 @@
 -- Calls over a machine above, run below.
-use Rattle.std.specs.Prelude.{◌≡◌, ◌≢◌, ◌⊎◌, ℕ, Bool, true, false}
+use Rattle.std.specs.Prelude.{◌≡◌, ◌≢◌, ◌⊎◌, ℕ, Bool, true, false, Option}
 use Rattle.atomic_programs.specs.Calls.{Theory, Began, Refuses, Begins}
 use Rattle.atomic_programs.specs.Plain.{Code}
-use Rattle.atomic_programs.specs.Joined.{Lower, Both, joined, Handlers, lowered}
+use Rattle.atomic_programs.specs.Joined.{Lower, Both, joined, Handlers, lowered, Atomic}
 
 -- A start below: it decides, on what the code has, whether the call is begun, and may reserve something for it.
 abbrev pub Starts : (T : Theory) → Lower T.M.World → Type 0
@@ -48,6 +48,14 @@ abbrev pub StartsBoth : (T : Theory) (R : Lower T.M.World) → Starts T R → Ty
 StartsBoth T R begin =
     (h : ℕ) (call : T.Call) (busy : ℕ → Bool) (r s : R.World) (g : T.M.World) → R.Shows r g ⊎ R.Halted r g → T.M.Inv g → ((other : ℕ) → busy other ≡ false → R.Base other r g R.none × T.M.Idle other g) → busy h ≡ false
     → begin h call busy r ≡ Begins s → BeginsBoth T R h call busy r s g
+
+-- in some world, whichever harts have calls, a start by this one begins its call
+abbrev pub CanBegin : (T : Theory) (R : Lower T.M.World) → Starts T R → ℕ → Type 0
+CanBegin T R begin h = (call : T.Call) × (busy : ℕ → Bool) × (r : R.World) × (s : R.World) × (begin h call busy r ≡ Begins s)
+
+-- the program of each operation, of each hart that can have a call, acts at one moment
+abbrev pub AllAtomic : (T : Theory) (R : Lower T.M.World) → Handlers T.M R → Starts T R → Type 1
+AllAtomic T R handler begin = (h : ℕ) → CanBegin T R begin h → (op : T.M.Op) (m : T.M.Answer op → Option T.M.Mark) → Atomic T.M R handler h op m
 
 -- What the code has: the world below alone. The kind of a step is told by the operation below, with its answer.
 abbrev pub code_below : (T : Theory) (R : Lower T.M.World) (handler : Handlers T.M R) (begin : Starts T R) (Kind : Type 0) → ((op : R.Op) → R.Answer op → Kind) → Code (lowered_calls T R handler begin)
