@@ -4,14 +4,15 @@ use Rattle.atomic_programs.specs.Prog.{Ret, Do, unmarked, Did, Waits, Ran, Stops
 use Rattle.atomic_programs.specs.Logic.{Machine, Fine, Good, Wp, Safe, Laws}
 use Rattle.atomic_programs.specs.Calls.{Began, Begins, Begun, Ends, Right, Lawful, Event, AllHonest, run, fresh}
 use Rattle.atomic_programs.specs.Explained.{Explained}
-use Rattle.atomic_programs.specs.Operations.{IsCore, operations}
+use Rattle.atomic_programs.specs.Operations.{IsCore, operations, operations_of}
+use Rattle.atomic_programs.specs.Plain.{IsCode}
 use Rattle.atomic_programs.specs.Lowered.{BeginsBoth, StartsBoth}
 use Rattle.atomic_programs.proofs.Sound.{s-op}
 use Rattle.atomic_programs.proofs.Operations.{operations_laws}
-use Rattle.atomic_programs.proofs.Lowered.{operations_below, refined}
+use Rattle.atomic_programs.proofs.Lowered.{operations_below, refined, is_code_part}
 use Rattle.atomic_programs.specs.Joined.{Lasts, Both, joined, LowerLaws, Below, Atomic}
 use Rattle.atomic_examples.specs.Whole.{put, if_held}
-use Rattle.atomic_examples.specs.Grab.{Above, Op, Hold, Grab, Drop, Answer, Picks, hold_if, grabbed, exec_above, Kept, machine, grabs, core, World, Lock, Unlock, GetBits, PutBits, Zero, lock_if, bits_if, lock_of, holder, IsOut, Shows, Same, TiedAt, Base, low, first, grab_at, handler, grabs_above, rest}
+use Rattle.atomic_examples.specs.Grab.{Above, Op, Hold, Grab, Drop, Answer, Picks, hold_if, grabbed, exec_above, Kept, machine, grabs, core, World, Lock, Unlock, GetBits, PutBits, Zero, lock_if, bits_if, lock_of, holder, IsOut, Shows, Same, TiedAt, Base, low, first, grab_at, handler, LowOp, low_may, exec, grabs_above, rest, shared_of, lock_in, bits_in, exec_code, may_code, grabs_part, grabs_code}
 use Rattle.atomic_programs.proofs.Joined.{Wp-holding, Here, Silent, s-silent, ToAct, to_act, acted, Acting, s-act}
 use Rattle.atomic_examples.proofs.Maps.{put_same, put_other, put_elim, same_or, Ours, ours_none, ours_some, not_held, held_is, held_here, none_is}
 use Rattle.atomic_examples.proofs.Steps.{not_mine, ours_is, ours_put, put_like}
@@ -529,3 +530,32 @@ rest_shows = record { locks = λ i. refl; owners = λ c. refl; free = λ c e. re
 pub grabs_refined : (events : List (Event ℕ (Unit {0}))) → AllHonest grabs_above events (fresh grabs_above rest) → Explained grabs_above rest.seen (run grabs_above events (fresh grabs_above rest))
 grabs_refined events honest =
     refined grabs core low handler (λ h i busy r. Begins r) lawful low_laws is_core starts_both (λ h can. atomic h) rest events rest_shows tt (λ h. record { free = λ e. cc; tied = λ c e. absurd cc }) (λ h i. refl) honest
+
+-- what the code has takes no notice of the rest
+pub grabs_are_code : IsCode grabs_above grabs_code
+grabs_are_code =
+    is_code_part (operations_of grabs core) low handler (λ h i busy r. Begins r) grabs_part LowOp (λ op a. op)
+    (record { goes = goes; may = may; honest = λ h op w x y. tt; starts = λ h i busy w. refl })
+  where
+    goes : (h : ℕ) (x : Unit {0}) (op : LowOp) (w : World) → exec_code h x op (shared_of w) ≡ did_in shared_of (exec h x op w)
+    goes h x (Lock i) w = at (w.lock i)
+      where
+        at : (o : Option ℕ) → lock_in h i (shared_of w) o ≡ did_in shared_of (lock_if h i w o)
+        at None = refl
+        at (Some g) = refl
+    goes h x (Unlock i) w = refl
+    goes h x GetBits w = at w.bits_out
+      where
+        at : (o : Option ℕ) → bits_in h (shared_of w) o ≡ did_in shared_of (bits_if h w o)
+        at None = refl
+        at (Some g) = refl
+    goes h x (PutBits None) w = refl
+    goes h x (PutBits (Some p)) w = refl
+    goes h x (Zero c) w = refl
+
+    may : (h : ℕ) (op : LowOp) (w : World) → low_may h op w → may_code h op (shared_of w)
+    may h (Lock i) w y = y
+    may h (Unlock i) w y = y
+    may h GetBits w y = y
+    may h (PutBits p) w y = y
+    may h (Zero c) w y = tt

@@ -5,7 +5,8 @@ use Rattle.atomic_programs.specs.Logic.{Machine}
 use Rattle.atomic_programs.specs.Calls.{Theory, Begins}
 use Rattle.atomic_programs.specs.Operations.{Core, all_of, operations_of}
 use Rattle.atomic_programs.specs.Joined.{Act, Lower, Handed, holding, Both}
-use Rattle.atomic_programs.specs.Lowered.{lowered_calls}
+use Rattle.atomic_programs.specs.Lowered.{lowered_calls, Part, code_part}
+use Rattle.atomic_programs.specs.Plain.{Code}
 use Rattle.atomic_examples.specs.Whole.{put, if_held}
 
 -- above: locks of inodes, and blocks with the inode that has each
@@ -222,3 +223,46 @@ grabs_above = lowered_calls (operations_of grabs core) low handler (λ h i busy 
 -- all blocks are free
 abbrev pub rest : Both World Above
 rest = record { real = record { lock = λ i. None; bits = λ c. false; bits_out = None; block = λ c. c; owner = λ c. None }; seen = record { lock = λ i. None; owner = λ c. None; bytes = λ c. c } }
+
+-- What the code has of the world below: all but which inode has a block.
+pub record Shared : Type 0 where
+  pub lock : ℕ → Option ℕ
+  pub bits : ℕ → Bool
+  pub bits_out : Option ℕ
+  pub block : ℕ → ℕ
+
+abbrev pub shared_of : World → Shared
+shared_of w = record { lock = w.lock; bits = w.bits; bits_out = w.bits_out; block = w.block }
+
+abbrev pub lock_in : ℕ → ℕ → Shared → Option ℕ → Did (Unit {0}) Shared
+lock_in h i s None = Ran tt (record s { lock = put s.lock i (Some h) })
+lock_in h i s (Some g) = Waits
+
+abbrev pub bits_in : ℕ → Shared → Option ℕ → Did (ℕ → Bool) Shared
+bits_in h s None = Ran s.bits (record s { bits_out = Some h })
+bits_in h s (Some g) = Waits
+
+abbrev pub put_in : Shared → Option (ℕ × ℕ) → Shared
+put_in s None = record s { bits_out = None }
+put_in s (Some p) = record s { bits_out = None; bits = put s.bits p.0 true }
+
+abbrev pub exec_code : ℕ → Unit {0} → (op : LowOp) → Shared → Did (LowAnswer op) Shared
+exec_code h x (Lock i) s = lock_in h i s (s.lock i)
+exec_code h x (Unlock i) s = Ran tt (record s { lock = put s.lock i None })
+exec_code h x GetBits s = bits_in h s s.bits_out
+exec_code h x (PutBits p) s = Ran tt (put_in s p)
+exec_code h x (Zero c) s = Ran tt (record s { block = put s.block c 0 })
+
+-- whose a block is, it can't ask
+abbrev pub may_code : ℕ → LowOp → Shared → Type 0
+may_code h (Lock i) s = s.lock i ≢ Some h
+may_code h (Unlock i) s = s.lock i ≡ Some h
+may_code h GetBits s = s.bits_out ≢ Some h
+may_code h (PutBits p) s = s.bits_out ≡ Some h
+may_code h (Zero c) s = Unit {0}
+
+abbrev pub grabs_part : Part (operations_of grabs core) low
+grabs_part = record { Shared = Shared; of = shared_of; exec = exec_code; may = may_code; honest = λ h op s x. Unit {0}; begin = λ h i busy s. Begins s }
+
+abbrev pub grabs_code : Code grabs_above
+grabs_code = code_part (operations_of grabs core) low handler (λ h i busy r. Begins r) grabs_part LowOp (λ op a. op)

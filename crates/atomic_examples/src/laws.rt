@@ -16,7 +16,7 @@ ghost use Rattle.atomic_examples.specs.Wards.{gifts_above, rest as purses};
 ghost use Rattle.atomic_examples.specs.Within.{SwapIsWhole, swaps_noted, GiftIsWhole, gifts_noted};
 ghost use Rattle.atomic_programs.specs.Noted.{Runs, Places, SameRuns};
 ghost use Rattle.atomic_examples.specs.Grab as grab;
-ghost use Rattle.atomic_examples.specs.Grab.{grabs_above};
+ghost use Rattle.atomic_examples.specs.Grab.{grabs_above, grabs_code};
 ghost use Rattle.atomic_examples.specs.Swap.{Swap, Swapped, swaps, swaps_above, blocks_below, look, code, code_above, rest};
 
 /// Over every list of events the replies at the desk are explained, where a hart's step may be placed by another hart, and a start may reserve an idle one.
@@ -109,6 +109,11 @@ pub fn grabs_refined()
 /// It acts at the bitmap's put, which is the call's third step.
 pub fn grabs_act()
     ensures { history grabs_above (run grabs_above (Start 0 3 ∷ Step 0 tt ∷ Step 0 tt ∷ Step 0 tt ∷ Step 0 tt ∷ Step 0 tt ∷ []) (fresh grabs_above grab.rest)) ≡ record { number = 1; hart = 0; call = 0; step = (grab.Hold 3, tt) } ∷ record { number = 3; hart = 0; call = 0; step = (grab.Grab 3, Some 0) } ∷ record { number = 5; hart = 0; call = 0; step = (grab.Drop 3, tt) } ∷ [] }
+{}
+
+/// Which inode has a block stands below for the proof alone: the code has the locks, the bitmap and the blocks, and runs the same.
+pub fn grabs_are_code()
+    ensures { IsCode grabs_above grabs_code }
 {}
 
 /// A start may reserve an idle hart for its call, in both worlds: each run below shows a run of whole operations above, which

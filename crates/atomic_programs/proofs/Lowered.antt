@@ -4,10 +4,9 @@ use Rattle.atomic_programs.specs.Prog.{Did, Waits, Ran, Stops, did_in}
 use Rattle.atomic_programs.specs.Logic.{Machine}
 use Rattle.atomic_programs.specs.Calls.{Theory, Began, Refuses, Begins, Begun, Ends, Right, Lawful, Event, AllHonest, run, fresh}
 use Rattle.atomic_programs.specs.Explained.{Explained}
-use Rattle.atomic_programs.specs.Plain as plain
-use Rattle.atomic_programs.specs.Plain.{IsCode}
+use Rattle.atomic_programs.specs.Plain.{IsCode, began_in}
 use Rattle.atomic_programs.specs.Joined.{ActOf, both, Lower, Both, joined, LowerLaws, Handlers, lowered, AtEnd}
-use Rattle.atomic_programs.specs.Lowered.{Starts, began_to, began_both, lowered_calls, BeginsBoth, StartsBoth, CanBegin, AllAtomic, code_below}
+use Rattle.atomic_programs.specs.Lowered.{Starts, began_to, began_both, lowered_calls, BeginsBoth, StartsBoth, CanBegin, AllAtomic, Part, IsPart, code_part, all_below, code_below}
 use Rattle.atomic_programs.specs.Operations.{Core, IsCore, operations, operations_of}
 use Rattle.atomic_programs.proofs.Sound.{Wp-weaker}
 use Rattle.atomic_programs.proofs.Explains.{ends_last, explains}
@@ -87,15 +86,34 @@ refined T K R handler begin lawful below core starts atomic w events shows inv b
         record { above = b.above; begins = b.begins; shows = b.shows; halted = b.halted; kept = b.kept; rests = b.rests }
 
 -- The code runs the lowered calls, whichever history is kept beside: its outcomes are those of both.
-both_real : (U : Machine) {A R : Type 0} (h : ℕ) (m : A → Option (ActOf U)) (g : U.World) (d : Did A R) → d ≡ did_in (λ (w : Both R U.World). w.real) (both U h m g d)
-both_real U h m g Waits = refl
-both_real U h m g (Ran a r) = refl
-both_real U h m g (Stops r) = refl
+part_real : (U : Machine) {A R V : Type 0} (of : R → V) (h : ℕ) (m : A → Option (ActOf U)) (g : U.World) (d : Did A R) → did_in of d ≡ did_in (λ (w : Both R U.World). of w.real) (both U h m g d)
+part_real U of h m g Waits = refl
+part_real U of h m g (Ran a r) = refl
+part_real U of h m g (Stops r) = refl
+
+pub is_code_part : (T : Theory) (R : Lower T.M.World) (handler : Handlers T.M R) (begin : Starts T R) (part : Part T R) (Kind : Type 0) (kind : (op : R.Op) → R.Answer op → Kind) → IsPart T R begin part → IsCode (lowered_calls T R handler begin) (code_part T R handler begin part Kind kind)
+is_code_part T R handler begin part Kind kind is =
+    record {
+      goes = λ h x op m w. is.goes h x op w.real ∙ part_real T.M part.of h m w.seen (R.exec h x op w.real);
+      may = λ h op w y. is.may h op w.real y;
+      honest = λ h op w x y. is.honest h op w.real x y;
+      starts = λ h call busy w. is.starts h call busy w.real ∙ same part.of (began_to w.seen (T.start h call busy w.seen)) (begin h call busy w.real);
+    }
+  where
+    same : {Refusal S V G : Type 0} (of : S → V) (g : G) (x : Began Refusal S) → began_in of x ≡ began_in (λ (v : Both S G). of v.real) (began_both g x)
+    same of g (Refuses why) = refl
+    same of g (Begins r) = refl
 
 pub is_code_below : (T : Theory) (R : Lower T.M.World) (handler : Handlers T.M R) (begin : Starts T R) (Kind : Type 0) (kind : (op : R.Op) → R.Answer op → Kind) → IsCode (lowered_calls T R handler begin) (code_below T R handler begin Kind kind)
 is_code_below T R handler begin Kind kind =
-    record { goes = λ h x op m w. both_real T.M h m w.seen (R.exec h x op w.real); may = λ h op w y. y; honest = λ h op w x y. y; starts = λ h call busy w. same (began_to w.seen (T.start h call busy w.seen)) (begin h call busy w.real) }
+    is_code_part T R handler begin (all_below T R begin) Kind kind
+    (record { goes = λ h x op w. goes (R.exec h x op w); may = λ h op w y. y; honest = λ h op w x y. y; starts = λ h call busy w. starts (begin h call busy w) })
   where
-    same : {Refusal S G : Type 0} (g : G) (x : Began Refusal S) → x ≡ plain.began_in (λ (v : Both S G). v.real) (began_both g x)
-    same g (Refuses why) = refl
-    same g (Begins r) = refl
+    goes : {A S : Type 0} (d : Did A S) → d ≡ did_in (λ (w : S). w) d
+    goes Waits = refl
+    goes (Ran a r) = refl
+    goes (Stops r) = refl
+
+    starts : {Refusal S : Type 0} (x : Began Refusal S) → x ≡ began_in (λ (w : S). w) x
+    starts (Refuses why) = refl
+    starts (Begins r) = refl

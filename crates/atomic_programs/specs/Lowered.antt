@@ -1,7 +1,8 @@
 -- Calls over a machine above, run below.
 use Rattle.std.specs.Prelude.{◌≡◌, ◌≢◌, ◌⊎◌, ℕ, Bool, true, false, Option}
+use Rattle.atomic_programs.specs.Prog.{Did, did_in}
 use Rattle.atomic_programs.specs.Calls.{Theory, Began, Refuses, Begins}
-use Rattle.atomic_programs.specs.Plain.{Code}
+use Rattle.atomic_programs.specs.Plain.{Code, began_in}
 use Rattle.atomic_programs.specs.Joined.{Lower, Both, joined, Handlers, lowered, Atomic}
 
 -- A start below: it decides, on what the code has, whether the call is begun, and may reserve something for it.
@@ -57,7 +58,31 @@ CanBegin T R begin h = (call : T.Call) × (busy : ℕ → Bool) × (r : R.World)
 abbrev pub AllAtomic : (T : Theory) (R : Lower T.M.World) → Handlers T.M R → Starts T R → Type 1
 AllAtomic T R handler begin = (h : ℕ) → CanBegin T R begin h → (op : T.M.Op) (m : T.M.Answer op → Option T.M.Mark) → Atomic T.M R handler h op m
 
--- What the code has: the world below alone. The kind of a step is told by the operation below, with its answer.
+-- What the code has of the world below, where that has parts for the proof alone besides; and what operations and starts make
+-- of it.
+pub record Part (T : Theory) (R : Lower T.M.World) : Type 1 where
+  pub Shared : Type 0
+  pub of : R.World → Shared
+  pub exec : ℕ → R.Outside → (op : R.Op) → Shared → Did (R.Answer op) Shared
+  pub may : ℕ → R.Op → Shared → Type 0
+  pub honest : ℕ → R.Op → Shared → R.Outside → Type 0
+  pub begin : ℕ → T.Call → (ℕ → Bool) → Shared → Began T.Refusal Shared
+
+-- what the other parts are changes nothing of it
+pub record IsPart (T : Theory) (R : Lower T.M.World) (begin : Starts T R) (part : Part T R) : Type 0 where
+  pub goes : (h : ℕ) (x : R.Outside) (op : R.Op) (w : R.World) → part.exec h x op (part.of w) ≡ did_in part.of (R.exec h x op w)
+  pub may : (h : ℕ) (op : R.Op) (w : R.World) → R.May h op w → part.may h op (part.of w)
+  pub honest : (h : ℕ) (op : R.Op) (w : R.World) (x : R.Outside) → part.honest h op (part.of w) x → R.Honest h op w x
+  pub starts : (h : ℕ) (call : T.Call) (busy : ℕ → Bool) (w : R.World) → part.begin h call busy (part.of w) ≡ began_in part.of (begin h call busy w)
+
+-- the code of the lowered calls; the kind of a step is told by the operation below, with its answer
+abbrev pub code_part : (T : Theory) (R : Lower T.M.World) (handler : Handlers T.M R) (begin : Starts T R) (part : Part T R) (Kind : Type 0) → ((op : R.Op) → R.Answer op → Kind) → Code (lowered_calls T R handler begin)
+code_part T R handler begin part Kind kind =
+    record { Shared = part.Shared; Kind = Kind; shared = λ w. part.of w.real; kind = kind; exec = part.exec; may = part.may; honest = part.honest; begin = part.begin }
+
+-- the world below alone, all of it
+abbrev pub all_below : (T : Theory) (R : Lower T.M.World) → Starts T R → Part T R
+all_below T R begin = record { Shared = R.World; of = λ w. w; exec = R.exec; may = R.May; honest = R.Honest; begin = begin }
+
 abbrev pub code_below : (T : Theory) (R : Lower T.M.World) (handler : Handlers T.M R) (begin : Starts T R) (Kind : Type 0) → ((op : R.Op) → R.Answer op → Kind) → Code (lowered_calls T R handler begin)
-code_below T R handler begin Kind kind =
-    record { Shared = R.World; Kind = Kind; shared = λ w. w.real; kind = kind; exec = R.exec; may = R.May; honest = λ h op w x. R.Honest h op w x; begin = begin }
+code_below T R handler begin Kind kind = code_part T R handler begin (all_below T R begin) Kind kind
