@@ -3,14 +3,14 @@ ghost use Rattle.std.specs.Prelude.{◌≡◌, IfErr};
 ghost use Rattle.atomic_programs.specs.Prog.{Ran as ItRan};
 ghost use Rattle.fs_tables.specs.Results.{opened_as};
 ghost use Rattle.fs_machine.specs.LogPart.{Outside};
-ghost use Rattle.fs_machine.specs.Steps.{state_of, exec, CheckFile, TakePlace, TakeDescriptor, Double, Close};
+ghost use Rattle.fs_machine.specs.Steps.{state_of, exec, CheckFile, TakePlace, TakeDescriptor, Double, Close, Give};
 ghost use Rattle.fs_machine.specs.Premises.{May};
 ghost use Rattle.fs_machine.specs.Tied.{IsOwnInode, LeavesTied};
 ghost use Rattle.fs_machine.specs.Stays.{LeavesAll};
 
 use crate::shared::Core;
 use block_device::Device;
-use fs_tables::{Doubled, NewFile, Reference, Refused, Shut, Want};
+use fs_tables::{Doubled, Given, NewFile, Reference, Refused, Shut, Want};
 
 impl<D: Device> Core<D> {
     /// Why a descriptor may not be had for this.
@@ -69,5 +69,17 @@ impl<D: Device> Core<D> {
         ensures rest { LeavesAll (IsOwnInode hart) (state_of D.contents D.failures self.old) (state_of D.contents D.failures self.new) }
     {
         self.tables.shut(hart, fd)
+    }
+
+    /// To the child the hart's next descriptor from this one on, and whether there are more. Where there is none the child's
+    /// directory becomes the hart's, and the reference to its old one is handed out.
+    pub fn give(&mut self, hart: u8, child: u8, from: u32) -> Given
+        requires may { May hart (Give child from) (state_of D.contents D.failures self.old) }
+        ensures ran { (x : Outside) → exec hart x (Give child from) (state_of D.contents D.failures self.old) ≡ ItRan result (state_of D.contents D.failures self.new) }
+        ensures others { LeavesTied hart (state_of D.contents D.failures self.old) (state_of D.contents D.failures self.new) }
+        ensures log { self.new.log ≡ self.old.log }
+        ensures rest { LeavesAll (IsOwnInode hart) (state_of D.contents D.failures self.old) (state_of D.contents D.failures self.new) }
+    {
+        self.tables.give(hart, child, from)
     }
 }

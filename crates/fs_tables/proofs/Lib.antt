@@ -4,4 +4,5 @@ pub mod Counting
 pub mod Beginning
 pub mod Dying
 pub mod Opening
+pub mod GivenDirectory
 pub mod Making

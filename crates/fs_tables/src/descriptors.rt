@@ -163,7 +163,7 @@ impl Tables {
 }
 
 // The place that a hart's descriptor names.
-fn place_at(desks: &[Desk; DESKS], hart: u8, fd: u32) -> Option<u8>
+pub(crate) fn place_at(desks: &[Desk; DESKS], hart: u8, fd: u32) -> Option<u8>
     requires { hart < DESKS }
     ensures place { result ≡ at_descriptor fd (slice_get desks.now hart) }
     ensures within { IfSome result (λ _. fd < DESCRIPTORS) }
@@ -189,21 +189,21 @@ fn hand_of(desks: &[Desk; DESKS], hart: u8) -> Option<u8>
 }
 
 // The number of a hart's current directory.
-fn directory_at(desks: &[Desk; DESKS], hart: u8) -> u32
+pub(crate) fn directory_at(desks: &[Desk; DESKS], hart: u8) -> u32
     requires { hart < DESKS }
     ensures { result ≡ directory_of (slice_get desks.now hart) }
 {
     desks[hart as usize].directory
 }
 
-fn set_directory(desks: &mut [Desk], hart: u8, number: u32)
+pub(crate) fn set_directory(desks: &mut [Desk], hart: u8, number: u32)
     requires { hart < length desks.old }
     ensures { desks.new ≡ change_at hart (with_directory number) desks.old }
 {
     desks[hart as usize].directory = number;
 }
 
-fn set_descriptor(desks: &mut [Desk], hart: u8, fd: usize, place: Option<u8>)
+pub(crate) fn set_descriptor(desks: &mut [Desk], hart: u8, fd: usize, place: Option<u8>)
     requires hart { hart < length desks.old }
     requires fd { fd < DESCRIPTORS }
     ensures { desks.new ≡ change_at hart (with_descriptor fd place) desks.old }

@@ -1,7 +1,7 @@
 // What each hart has of the tables.
-ghost use Rattle.std.specs.Prelude.{◌≡◌, ◌<◌, None, IfSome, replicate, slice_get};
+ghost use Rattle.std.specs.Prelude.{◌≡◌, ◌<◌, None, IfSome, is_some, length, position, replicate, slice_get};
 ghost use Rattle.std.specs.List.{list_any};
-ghost use Rattle.fs_tables.specs.Lists.{first_empty};
+ghost use Rattle.fs_tables.specs.Lists.{first_empty, next_full};
 ghost use Rattle.fs_tables.specs.Tables.{if_there};
 ghost use Rattle.fs_tables.specs.Files.{is_at};
 
@@ -47,10 +47,33 @@ impl Desk {
         self.descriptors.iter().position(|place| place.is_none())
     }
 
+    /// The first descriptor from this one on that is open.
+    pub(crate) fn next(&self, from: u32) -> Option<usize>
+        ensures next { result ≡ next_full from self.now.descriptors }
+        ensures within { IfSome result (λ fd. fd < DESCRIPTORS) }
+    {
+        let from = from as usize;
+        if from > DESCRIPTORS {
+            return None;
+        }
+        match first_named(&self.descriptors[from..]) {
+            None => None,
+            Some(after) => Some(from + after),
+        }
+    }
+
     /// Whether a descriptor names this place.
     pub(crate) fn names(&self, place: u8) -> bool
         ensures { result ≡ list_any (is_at place) self.now.descriptors }
     {
         self.descriptors.iter().any(|at| *at == Some(place))
     }
+}
+
+// The first of these descriptors that is open.
+fn first_named(descriptors: &[Option<u8>]) -> Option<usize>
+    ensures first { result ≡ position is_some descriptors.now }
+    ensures within { IfSome result (λ k. k < length descriptors.now) }
+{
+    descriptors.iter().position(|place| place.is_some())
 }

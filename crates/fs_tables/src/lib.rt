@@ -5,6 +5,7 @@
 mod descriptors;
 mod desk;
 mod files;
+mod giving;
 mod inodes;
 mod limits;
 mod listed;
