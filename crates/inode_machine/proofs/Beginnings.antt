@@ -1,39 +1,68 @@
 -- A walk begins at its path's start, to which a reference is counted.
-use Rattle.std.proofs.Common.{◌≡◌, ◌≢◌, ◌⊎◌, inl, inr, ℕ, ◌+◌, ◌*◌, ◌<◌, ◌≤◌, Bool, true, false, ◌==◌, ◌||◌, List, [], ◌∷◌, length, Option, Some, None, refl, sym, ◌∙◌, ap, subst, arith, if◌then◌else◌}
+use Rattle.std.proofs.Common.{◌≡◌, ◌≢◌, inl, inr, ℕ, ◌+◌, ◌<◌, Bool, true, false, nat_lt, ◌==◌, ◌||◌, List, ◌∷◌, Option, Some, None, refl, sym, ◌∙◌, ap, subst, arith, if◌then◌else◌}
 use Rattle.atomic_programs.specs.Prog.{Do}
-use Rattle.atomic_programs.specs.Logic.{own, onto, Good, Safe, Wp}
+use Rattle.atomic_programs.specs.Logic.{own, onto, Fine, Good, Safe, Wp}
 use Rattle.plain_tree.specs.declared.answer.Reply.{Reply}
 use Rattle.plain_tree.specs.declared.node.Node.{Node}
+use Rattle.plain_tree.specs.declared.node.Kind.{Kind}
+use Rattle.plain_tree.specs.declared.node.Kind.TheVariants.{Directory, File, Device}
 use Rattle.plain_tree.specs.declared.step.Action.{Action}
 use Rattle.plain_tree.specs.Widths.{hart_count, root}
-use Rattle.plain_tree.specs.Tree.{Name, Tree, is_live, put, elements, start_of, is_absolute, settle, hold_names}
+use Rattle.plain_tree.specs.Tree.{Name, Tree, is_directory, is_live, live_directory, put, elements, start_of, is_absolute, settle, hold_names}
 use Rattle.plain_tree.specs.Steps.{path_of, follows_path, IsInPlace}
 use Rattle.plain_tree.specs.HartRow.{Row, key_names, row_of}
 use Rattle.plain_tree.proofs.Settling.{settled_row}
-use Rattle.tree_laws.specs.WellFormed.{one_if}
-use Rattle.tree_laws.proofs.Maps.{eq_self, same_or, put_same, put_other}
+use Rattle.tree_laws.specs.WellFormed.{one_if, IsWellFormed}
+use Rattle.tree_laws.proofs.Nodes.{folder_dead}
+use Rattle.tree_laws.proofs.Maps.{either, and_true, eq_self, same_or, put_same, put_other}
 use Rattle.tree_moves.specs.Moves.{Walk, Stage, Step, Begins}
 use Rattle.tree_moves.specs.Moves.Move.{Begin}
-use Rattle.inode_machine.specs.World.{Desk, Note, World, stage_of}
+use Rattle.inode_machine.specs.World.{Note, World, stage_of}
 use Rattle.inode_machine.specs.World.Op.{UpStart}
+use Rattle.inode_machine.specs.Inodes.{OfDirectory, sort_of, sort_of_kind}
 use Rattle.inode_machine.specs.Exec.{counted_up, start_if, start_number, has_place, is_at, with_walk}
-use Rattle.inode_machine.specs.Marks.{begun, mended, new_id, places, with_mark}
+use Rattle.inode_machine.specs.Marks.{begun as begun_by, marked, mended, new_id, places, with_mark}
 use Rattle.inode_machine.specs.Rules.{Own, Held, key_in, left_or, own_names, own_of, Inv, machine}
-use Rattle.inode_machine.specs.Parts.{P, Stop, NoMemory, begins_unless_full, start_on}
+use Rattle.inode_machine.specs.Parts.{P, Stop, NoMemory, begins_unless_full, makes, start_on}
 use Rattle.inode_machine.proofs.Frame.{fair, fair_then}
-use Rattle.inode_machine.proofs.Rules.{has_node, root_live, s-owned, locks_none, MayRefer, NotesOwn, Ups, ups}
+use Rattle.inode_machine.proofs.Rules.{has_node, root_live, s-owned, locks_none, MayRefer, Ups, ups}
 use Rattle.inode_machine.proofs.Walking.{walk_did, own_walk, stage_walk, moves_good}
 use Rattle.inode_machine.proofs.Looks.{spoilt, KeepsHold, mends}
-use Rattle.inode_machine.proofs.Listing.{IsListed, listed_held, times, one_at, one_else, Listed, listed_free, listed_on}
-use Rattle.inode_machine.proofs.Walks.{Stays, names_stay, On, Gone, Ready}
+use Rattle.inode_machine.proofs.Listing.{IsListed, listed_held, times, one_at, one_else, listed_free, listed_on}
+use Rattle.inode_machine.proofs.Walks.{stays_same, names_stay, On, Gone, Ready}
 
-pub s-start : (h : ℕ) (s : Action) (B : List Step → Type 0) (Q : Reply → List Step → World → Type 0) (base : ℕ → ℕ) (O0 : Own) (e : Name) (r : List Name) (ns : List ℕ) (n : ℕ) (es : List Step) (w : World) (O : Own) (go : ℕ → P Reply) (lost : Stop → List ℕ → P Reply)
-    → h < hart_count → Ready base O0 → Gone h base ns O0 O w → 0 < n → follows_path s ≡ true → elements (path_of s) ≡ e ∷ r → ((t : Tree) → row_of t h ≡ O0.row → IsInPlace t h s) → ((m : Note) → O.desk.noted ≡ Some m → 0 < O.mine.refs m.number)
-    → B (record { move = Begin s 0; told = None } ∷ es)
-    → ((d l : ℕ) (u : World) (R : Own) → l + 1 ≡ n → On h s d e r base ns O0 R u → Safe machine h B Q (go d) l (record { move = Begin s 0; told = None } ∷ es) u)
+-- a live directory is one
+live_sort : (o : Option Node) → live_directory o ≡ true → sort_of o ≡ Some OfDirectory
+live_sort None e = absurd cc
+live_sort (Some v) e = at v.kind (and_true (nat_lt 0 v.count) (is_directory v.kind) e).1
+  where
+    at : (k : Kind) → is_directory k ≡ true → Some (sort_of_kind k) ≡ Some OfDirectory
+    at (Directory slots) q = refl
+    at (File bytes) q = absurd cc
+    at (Device major minor size) q = absurd cc
+
+root_sort : (t : Tree) → IsWellFormed t → sort_of (t.nodes root) ≡ Some OfDirectory
+root_sort t well = elim (either (live_directory (t.nodes root))) [
+  | inl y ↦ live_sort (t.nodes root) y
+  | inr y ↦ absurd (well.forest.rooted (folder_dead (t.nodes root) y))
+]
+
+-- Where a reference was counted to the start, i. O: what the hart had before.
+pub record Begun (h i : ℕ) (s : Action) (base : ℕ → ℕ) (ns : List ℕ) (O : Own) (v : World) : Type 0 where
+  pub up : Ups h i O v
+  pub start : i ≡ start_of v.all h (path_of s)
+  pub sort : sort_of (v.all.nodes i) ≡ Some OfDirectory
+  pub refs : (j : ℕ) → put O.mine.refs i (O.mine.refs i + 1) j ≡ base j + times j ns + one_if (i == j)
+  pub apart : (j : ℕ) → 0 < times j ns → j ≢ i
+  pub out : O.inodes i ≡ None
+
+pub s-begin : (h : ℕ) (s : Action) (B : List Step → Type 0) (Q : Reply → List Step → World → Type 0) (base : ℕ → ℕ) (O0 : Own) (ns : List ℕ) (n : ℕ) (es : List Step) (w : World) (O : Own) (go : ℕ → P Reply) (lost : Stop → List ℕ → P Reply)
+    → h < hart_count → Ready base O0 → Gone h base ns O0 O w → 0 < n → ((m : Note) → O.desk.noted ≡ Some m → 0 < O.mine.refs m.number)
+    → ((i : ℕ) (v : World) → Inv v → own_of h v ≡ O → Begun h i s base ns O v
+    → Fine machine h (places h (UpStart (is_absolute (path_of s))) (Some i) (makes (Begin s 0)) v) 0 n B es v (marked h (makes (Begin s 0)) (counted_up h i v)) (λ l. Wp machine h B Q (go i) l (onto (own h (places h (UpStart (is_absolute (path_of s))) (Some i) (makes (Begin s 0)) v)) es) (marked h (makes (Begin s 0)) (counted_up h i v))))
     → ((l : ℕ) (u : World) (R : Own) → l + 1 ≡ n → Gone h base ns O0 R u → R.desk.full ≡ true → Safe machine h B Q (lost NoMemory ns) l es u)
     → Safe machine h B Q (Do (UpStart (is_absolute (path_of s))) (begins_unless_full s) (start_on go lost ns)) n es w
-s-start h s B Q base O0 e r ns n es w O go lost lt ready at pos follows path place notes b then_ full = s-owned at.owns free pos (λ v inv ov. (locks_none h v O inv ov (listed_free O base ns at.listed), (λ _ _. tried v inv ov (has_place v (start_number (v.desks h) (is_absolute (path_of s)))))))
+s-begin h s B Q base O0 ns n es w O go lost lt ready at pos notes then_ full = s-owned at.owns free pos (λ v inv ov. (locks_none h v O inv ov (listed_free O base ns at.listed), (λ _ _. tried v inv ov (has_place v (start_number (v.desks h) (is_absolute (path_of s)))))))
   where
     free : O.desk.lender ≡ None
     free = at.stays.lender ∙ ready.free
@@ -50,33 +79,13 @@ s-start h s B Q base O0 e r ns n es w O go lost lt ready at pos follows path pla
           refs = at.refs;
           listed = listed_on O (record O { desk = record (O.desk) { opening = None; left = None; full = true }; mine = record { refs = O.mine.refs; walk = None; pending = None } }) base ns at.listed (λ i. refl) (λ i t. refl) (λ i q. (λ z. (O.row.cwd == i) || (hold_names O.row.hold i || (key_names (key_in O.row.keys (sym (at.stays.opening ∙ ready.opening) z)) i || is_at (sym (at.stays.left ∙ ready.left) z) i))) ∙ q);
         }) refl).wp)
-    tried v inv ov true =
-        moves_good h 0 n B Q es v u1 (Begin s 0) (go i) (begun v.all h s (elements (path_of s)) 0 (new_id v)) (record { all = v.all; walk = Some to; found = None; opened = None; entered = None; left = None; told = None })
-        begun_at
-        (fair_then up.fair (fair up.fair.inv (walk_did h (Some to) None u1 (ap (λ (o : Own). o.desk.lender) up.owned ∙ free) lt up.fair.inv (ap (λ (o : Own). o.mine.pending) up.owned) (λ m q x. absurd cc) (λ z q. inl (let c : to ≡ z = cc in subst (λ (o : Walk). 0 < (u1.harts h).refs o.at) c refs1)) (λ z q. absurd cc))))
-        (record { follows = follows; rests = ap (λ (o : Own). o.mine.walk) ov ∙ at.walk; place = place (settle v.all) (settled_row v.all h ∙ row); begins = plays })
-        b pos
-        (λ l q. (then_ i l u _ q (record {
-          owns = own_walk h (Some to) None u1 (record O { mine = record { refs = put O.mine.refs i (O.mine.refs i + 1); walk = O.mine.walk; pending = None } }) up.owned;
-          stays = record { row = at.stays.row; ninodes = at.stays.ninodes; fds = at.stays.fds; hand = at.stays.hand; joined = at.stays.joined; directory = at.stays.directory; lent = at.stays.lent; lender = at.stays.lender; opening = at.stays.opening; left = at.stays.left };
-          walk = refl;
-          pending = refl;
-          refs = λ j. more_refs j;
-          listed = listed_on O (record O { mine = record { refs = put O.mine.refs i (O.mine.refs i + 1); walk = Some to; pending = None } }) base ns at.listed (λ j. refl) (λ j t. put_other O.mine.refs i (O.mine.refs i + 1) j (not_listed j t)) (λ j q. q);
-          out = out;
-        })).wp)
+    tried v inv ov true = then_ i v inv ov (record { up = up; start = sym (number_is (is_absolute (path_of s)) v.all refl); sort = sort (is_absolute (path_of s)); refs = more_refs; apart = not_listed; out = out })
       where
         i : ℕ
         i = start_number (v.desks h) (is_absolute (path_of s))
 
-        row : row_of v.all h ≡ O0.row
-        row = ap (λ (o : Own). o.row) ov ∙ at.stays.row
-
         cwd_is : (v.desks h).directory ≡ v.all.cwd h
         cwd_is = (inv.directory h lt).at ∙ (λ z. left_or ((ap (λ (o : Own). o.desk.left) ov ∙ at.stays.left ∙ ready.left) z) (v.all.cwd h))
-
-        to : Walk
-        to = record { step = s; at = i; next = e; rest = r }
 
         number_is : (c : Bool) → (t : Tree) → t.cwd h ≡ v.all.cwd h → (if c then root else t.cwd h) ≡ start_number (v.desks h) c
         number_is true t q = refl
@@ -102,24 +111,12 @@ s-start h s B Q base O0 e r ns n es w O go lost lt ready at pos follows path pla
             let f = at.refs (v.desks h).directory in
             omega (arith, c, f))
 
+        sort : (c : Bool) → sort_of (v.all.nodes (start_number (v.desks h) c)) ≡ Some OfDirectory
+        sort true = root_sort v.all inv.well
+        sort false = (inv.directory h lt).sort
+
         up : Ups h i O v
         up = ups h i O v inv ov free lt (mine (is_absolute (path_of s))) (inl at.pending) (λ m q x. inl (let c = notes m q in let f : O.mine.refs m.number ≡ O.mine.refs i = ap O.mine.refs x in omega (arith, c, f)))
-
-        u1 : World
-        u1 = counted_up h i v
-
-        u : World
-        u = record u1 { harts = with_walk u1.harts h (Some to) None }
-
-        begun_at : begun v.all h s (elements (path_of s)) 0 (new_id v) ≡ record { all = v.all; walk = Some to; found = None; opened = None; entered = None; left = None; told = None }
-        begun_at = ap (λ (z : List Name). begun v.all h s z 0 (new_id v)) path ∙ (λ z. record { all = v.all; walk = Some (record { step = s; at = number_is (is_absolute (path_of s)) v.all refl z; next = e; rest = r }); found = None; opened = None; entered = None; left = None; told = None })
-
-        refs1 : 0 < (u1.harts h).refs i
-        refs1 = let a : (u1.harts h).refs i ≡ put O.mine.refs i (O.mine.refs i + 1) i = ap (λ (o : Own). o.mine.refs i) up.owned in let c = put_same O.mine.refs i (O.mine.refs i + 1) in omega (arith, a, c)
-
-        plays : Begins (stage_of v) h s (elements (path_of s)) 0 None (stage_of u)
-        plays = subst (λ (z : List Name). Begins (stage_of v) h s z 0 None (stage_of u)) (sym path)
-            (refl, stage_walk h (Some to) None u1 ∙ ap (λ (m : Stage). record { tree = m.tree; walk = put m.walk h (Some to) }) up.stage ∙ (λ z. record { tree = settle v.all; walk = put (λ g. (v.harts g).walk) h (Some (record { step = s; at = sym (number_is (is_absolute (path_of s)) (settle v.all) (ap (λ (x : Row). x.cwd) (settled_row v.all h))) z; next = e; rest = r })) }))
 
         -- what is listed isn't referred to from anywhere else
         not_listed : (j : ℕ) → 0 < times j ns → j ≢ i
@@ -137,3 +134,59 @@ s-start h s B Q base O0 e r ns n es w O go lost lt ready at pos follows path pla
             kept_not : (o : Option Held) → O.inodes i ≡ o → o ≡ None
             kept_not None q = refl
             kept_not (Some x) q = absurd (not_start (is_absolute (path_of s)) i (at.listed.all i (at.listed.only i x q)) refl)
+
+-- The start of a path with elements is looked into next.
+pub s-start : (h : ℕ) (s : Action) (B : List Step → Type 0) (Q : Reply → List Step → World → Type 0) (base : ℕ → ℕ) (O0 : Own) (e : Name) (r : List Name) (ns : List ℕ) (n : ℕ) (es : List Step) (w : World) (O : Own) (go : ℕ → P Reply) (lost : Stop → List ℕ → P Reply)
+    → h < hart_count → Ready base O0 → Gone h base ns O0 O w → 0 < n → follows_path s ≡ true → elements (path_of s) ≡ e ∷ r → ((t : Tree) → row_of t h ≡ O0.row → IsInPlace t h s) → ((m : Note) → O.desk.noted ≡ Some m → 0 < O.mine.refs m.number)
+    → B (record { move = Begin s 0; told = None } ∷ es)
+    → ((d l : ℕ) (u : World) (R : Own) → l + 1 ≡ n → On h s d e r base ns O0 R u → Safe machine h B Q (go d) l (record { move = Begin s 0; told = None } ∷ es) u)
+    → ((l : ℕ) (u : World) (R : Own) → l + 1 ≡ n → Gone h base ns O0 R u → R.desk.full ≡ true → Safe machine h B Q (lost NoMemory ns) l es u)
+    → Safe machine h B Q (Do (UpStart (is_absolute (path_of s))) (begins_unless_full s) (start_on go lost ns)) n es w
+s-start h s B Q base O0 e r ns n es w O go lost lt ready at pos follows path place notes b then_ full = s-begin h s B Q base O0 ns n es w O go lost lt ready at pos notes (λ i v inv ov begun. walks i v inv ov begun) full
+  where
+    walks : (i : ℕ) (v : World) → Inv v → own_of h v ≡ O → Begun h i s base ns O v
+        → Fine machine h (places h (UpStart (is_absolute (path_of s))) (Some i) (makes (Begin s 0)) v) 0 n B es v (marked h (makes (Begin s 0)) (counted_up h i v)) (λ l. Wp machine h B Q (go i) l (onto (own h (places h (UpStart (is_absolute (path_of s))) (Some i) (makes (Begin s 0)) v)) es) (marked h (makes (Begin s 0)) (counted_up h i v)))
+    walks i v inv ov begun =
+        moves_good h 0 n B Q es v u1 (Begin s 0) (go i) (begun_by v.all h s (elements (path_of s)) 0 (new_id v)) (record { all = v.all; walk = Some to; found = None; opened = None; entered = None; left = None; told = None })
+        begun_at
+        (fair_then up.fair (fair up.fair.inv (walk_did h (Some to) None u1 (ap (λ (o : Own). o.desk.lender) up.owned ∙ at.stays.lender ∙ ready.free) lt up.fair.inv (ap (λ (o : Own). o.mine.pending) up.owned) (λ m q x. absurd cc) (λ z q. inl (let c : to ≡ z = cc in subst (λ (o : Walk). 0 < (u1.harts h).refs o.at) c refs1)) (λ z q. absurd cc))))
+        (record { follows = follows; rests = ap (λ (o : Own). o.mine.walk) ov ∙ at.walk; place = place (settle v.all) (settled_row v.all h ∙ ap (λ (o : Own). o.row) ov ∙ at.stays.row); begins = plays })
+        b pos
+        (λ l q. (then_ i l u _ q (record {
+          owns = own_walk h (Some to) None u1 (record O { mine = record { refs = put O.mine.refs i (O.mine.refs i + 1); walk = O.mine.walk; pending = None } }) up.owned;
+          stays = stays_same (record O { mine = record { refs = put O.mine.refs i (O.mine.refs i + 1); walk = Some to; pending = None } }) O O0 refl refl refl at.stays;
+          walk = refl;
+          pending = refl;
+          refs = begun.refs;
+          listed = listed_on O (record O { mine = record { refs = put O.mine.refs i (O.mine.refs i + 1); walk = Some to; pending = None } }) base ns at.listed (λ j. refl) (λ j t. put_other O.mine.refs i (O.mine.refs i + 1) j (begun.apart j t)) (λ j q. q);
+          out = begun.out;
+          notes = λ m q. let c = notes m q in elim (same_or m.number i) [
+            | inl e ↦ (let r : put O.mine.refs i (O.mine.refs i + 1) m.number ≡ O.mine.refs i + 1 = ap (put O.mine.refs i (O.mine.refs i + 1)) e ∙ put_same O.mine.refs i (O.mine.refs i + 1) in omega (arith, r))
+            | inr ne ↦ (let r = put_other O.mine.refs i (O.mine.refs i + 1) m.number ne in omega (arith, r, c))
+          ];
+        })).wp)
+      where
+        up : Ups h i O v
+        up = begun.up
+
+        to : Walk
+        to = record { step = s; at = i; next = e; rest = r }
+
+        u1 : World
+        u1 = counted_up h i v
+
+        u : World
+        u = record u1 { harts = with_walk u1.harts h (Some to) None }
+
+        begun_at : begun_by v.all h s (elements (path_of s)) 0 (new_id v) ≡ record { all = v.all; walk = Some to; found = None; opened = None; entered = None; left = None; told = None }
+        begun_at = ap (λ (z : List Name). begun_by v.all h s z 0 (new_id v)) path ∙ (λ z. record { all = v.all; walk = Some (record { step = s; at = sym begun.start z; next = e; rest = r }); found = None; opened = None; entered = None; left = None; told = None })
+
+        refs1 : 0 < (u1.harts h).refs i
+        refs1 = let a : (u1.harts h).refs i ≡ put O.mine.refs i (O.mine.refs i + 1) i = ap (λ (o : Own). o.mine.refs i) up.owned in let c = put_same O.mine.refs i (O.mine.refs i + 1) in omega (arith, a, c)
+
+        start_settled : i ≡ start_of (settle v.all) h (path_of s)
+        start_settled = begun.start ∙ (λ z. if is_absolute (path_of s) then root else (ap (λ (x : Row). x.cwd) (sym (settled_row v.all h)) z))
+
+        plays : Begins (stage_of v) h s (elements (path_of s)) 0 None (stage_of u)
+        plays = subst (λ (z : List Name). Begins (stage_of v) h s z 0 None (stage_of u)) (sym path)
+            (refl, stage_walk h (Some to) None u1 ∙ ap (λ (m : Stage). record { tree = m.tree; walk = put m.walk h (Some to) }) up.stage ∙ (λ z. record { tree = settle v.all; walk = put (λ g. (v.harts g).walk) h (Some (record { step = s; at = start_settled z; next = e; rest = r })) }))

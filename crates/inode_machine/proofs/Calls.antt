@@ -3,7 +3,6 @@ use Rattle.std.proofs.Common.{◌≡◌, inl, inr, ℕ, ◌+◌, ◌-◌, ◌<�
 use Rattle.std.proofs.lemmas.Bool.Decides.{nat_tests}
 use Rattle.atomic_programs.specs.Logic.{Safe, Laws}
 use Rattle.atomic_programs.specs.Calls.{Began, Begins, Begun, Ends, IsBeginning, Right, Lawful}
-use Rattle.atomic_programs.proofs.Explains.{explains}
 use Rattle.plain_tree.specs.declared.answer.Cause.{Cause}
 use Rattle.plain_tree.specs.declared.answer.Cause.TheVariants.{BadDescriptor}
 use Rattle.plain_tree.specs.declared.answer.Answer.TheVariants as answers
@@ -26,7 +25,7 @@ use Rattle.inode_machine.specs.Parts.{say}
 use Rattle.inode_machine.specs.Parts as parts
 use Rattle.inode_machine.specs.Descriptors.{dup_program, close_program, stat_program, stat_reply, read_program, read_reply}
 use Rattle.inode_machine.specs.Programs.{program, limit, rest_cost}
-use Rattle.inode_machine.specs.Theory.{descriptor_calls, on_descriptors, begin_if, Refusal, DescriptorCallsAreExplained}
+use Rattle.inode_machine.specs.Theory.{descriptor_calls, calls_that, on_descriptors, begin_if, Refusal}
 use Rattle.inode_machine.proofs.Rules.{locked_held}
 use Rattle.inode_machine.proofs.Counting.{s-give}
 use Rattle.inode_machine.proofs.Dups.{fails, dupped, s-double, s-join, s-leave, s-say, SameRow, SameDesk}
@@ -206,9 +205,9 @@ read_ok h fd buffer w free lt idle =
     })))
 
 -- A start changes nothing.
-pub right : (h : ℕ) (call : Call) (busy : ℕ → Bool) (w u : World) → ((other : ℕ) → busy other ≡ false → Idle other w) → busy h ≡ false → w ≡ u
-    → IsBeginning descriptor_calls call [] → (Idle h u → Safe machine h (Begun descriptor_calls call) (Ends descriptor_calls h call) (program call) (limit call) [] u) → Right descriptor_calls h call busy w u
-right h call busy w u idle free is first runs =
+pub right : (kind : Call → Bool) (h : ℕ) (call : Call) (busy : ℕ → Bool) (w u : World) → ((other : ℕ) → busy other ≡ false → Idle other w) → busy h ≡ false → w ≡ u
+    → IsBeginning (calls_that kind) call [] → (Inv u → Idle h u → Safe machine h (Begun (calls_that kind) call) (Ends (calls_that kind) h call) (program call) (limit call) [] u) → Right (calls_that kind) h call busy w u
+right kind h call busy w u idle free is first runs =
     record {
       inv = λ i. subst Inv is i;
       halted = λ i. subst Inv is i;
@@ -217,7 +216,7 @@ right h call busy w u idle free is first runs =
       tree = ap stage_of (sym is);
       clean = λ c. ap (λ (x : World). x.clean) is ∙ c;
       none = λ c. first;
-      runs = λ i. (runs (subst (λ (x : World). Idle h x) is (idle h free))).wp;
+      runs = λ i. (runs i (subst (λ (x : World). Idle h x) is (idle h free))).wp;
     }
 
 begun_same : (b : Bool) (w u : World) → ◌≡◌ {A = Began Refusal World} (begin_if b w) (Begins u) → (b ≡ true) × (w ≡ u)
@@ -231,29 +230,30 @@ unlent : (o : Option ℕ) → is_nothing o ≡ true → o ≡ None
 unlent None e = refl
 unlent (Some g) e = absurd cc
 
-pub lawful : Lawful descriptor_calls
-lawful = record {
+-- What a start finds: the hart is one, the call is of this kind, and no hart hands the hart its descriptors.
+abbrev pub IsRight : (Call → Bool) → (Call → Bool) → Type 0
+IsRight kind these = (h : ℕ) (call : Call) (busy : ℕ → Bool) (w u : World) → h < hart_count → these call ≡ true → (u.desks h).lender ≡ None → ((other : ℕ) → busy other ≡ false → Idle other w) → busy h ≡ false → w ≡ u → Right (calls_that kind) h call busy w u
+
+-- where each call of the kind is right, all of them are
+pub lawful_that : (kind : Call → Bool) → IsRight kind kind → Lawful (calls_that kind)
+lawful_that kind calls = record {
   laws = laws;
   calls = λ h call busy w u holds idle free e.
-      let b = begun_same (nat_lt h hart_count && (on_descriptors call && is_nothing (w.desks h).lender)) w u e in
-      let c = and_true (nat_lt h hart_count) (on_descriptors call && is_nothing (w.desks h).lender) b.0 in
-      let d = and_true (on_descriptors call) (is_nothing (w.desks h).lender) c.1 in
-      call_ok h call busy w u (below h c.0) d.0 (ap (λ (x : World). (x.desks h).lender) (sym b.1) ∙ unlent (w.desks h).lender d.1) idle free b.1;
+      let b = begun_same (nat_lt h hart_count && (kind call && is_nothing (w.desks h).lender)) w u e in
+      let c = and_true (nat_lt h hart_count) (kind call && is_nothing (w.desks h).lender) b.0 in
+      let d = and_true (kind call) (is_nothing (w.desks h).lender) c.1 in
+      calls h call busy w u (below h c.0) d.0 (ap (λ (x : World). (x.desks h).lender) (sym b.1) ∙ unlent (w.desks h).lender d.1) idle free b.1;
 }
-  where
-    call_ok : (h : ℕ) (call : Call) (busy : ℕ → Bool) (w u : World) → h < hart_count → on_descriptors call ≡ true → (u.desks h).lender ≡ None → ((other : ℕ) → busy other ≡ false → Idle other w) → busy h ≡ false → w ≡ u → Right descriptor_calls h call busy w u
-    call_ok h (calls.Dup fd) busy w u lt here out idle free is = right h (calls.Dup fd) busy w u idle free is (fails (steps.Dup fd) BadDescriptor ∷ [], parts.failed (calls.Dup fd) BadDescriptor, dup_failed fd) (λ i. dup_ok h fd u out lt i)
-    call_ok h (calls.Close fd) busy w u lt here out idle free is = right h (calls.Close fd) busy w u idle free is (fails (steps.Close fd) BadDescriptor ∷ [], parts.failed (calls.Close fd) BadDescriptor, close_failed fd) (λ i. close_ok h fd u out lt i)
-    call_ok h (calls.Fstat fd) busy w u lt here out idle free is = right h (calls.Fstat fd) busy w u idle free is (fails (steps.Fstat fd) BadDescriptor ∷ [], parts.failed (calls.Fstat fd) BadDescriptor, stat_failed fd) (λ i. stat_ok h fd u out lt i)
-    call_ok h (calls.Read fd buffer) busy w u lt here out idle free is = right h (calls.Read fd buffer) busy w u idle free is (fails (steps.Read fd (length buffer)) BadDescriptor ∷ [], parts.failed (calls.Read fd buffer) BadDescriptor, read_failed fd buffer BadDescriptor) (λ i. read_ok h fd buffer u out lt i)
-    call_ok h (calls.Open path flags) busy w u lt here out idle free is = absurd cc
-    call_ok h (calls.Write fd bytes) busy w u lt here out idle free is = right h (calls.Write fd bytes) busy w u idle free is (write_begins fd bytes) (λ i. write_ok h fd bytes u out lt i)
-    call_ok h (calls.Link old new) busy w u lt here out idle free is = absurd cc
-    call_ok h (calls.Unlink path) busy w u lt here out idle free is = absurd cc
-    call_ok h (calls.Mkdir path) busy w u lt here out idle free is = absurd cc
-    call_ok h (calls.Chdir path) busy w u lt here out idle free is = absurd cc
-    call_ok h (calls.Inherit child) busy w u lt here out idle free is = absurd cc
 
--- Every interleaving of these calls is explained by one list of steps.
-pub explained : DescriptorCallsAreExplained
-explained w events inv idle honest = explains descriptor_calls lawful w events inv idle honest
+pub descriptors_right : (kind : Call → Bool) → IsRight kind on_descriptors
+descriptors_right kind h (calls.Dup fd) busy w u lt here out idle free is = right kind h (calls.Dup fd) busy w u idle free is (fails (steps.Dup fd) BadDescriptor ∷ [], parts.failed (calls.Dup fd) BadDescriptor, dup_failed fd) (λ _ i. dup_ok h fd u out lt i)
+descriptors_right kind h (calls.Close fd) busy w u lt here out idle free is = right kind h (calls.Close fd) busy w u idle free is (fails (steps.Close fd) BadDescriptor ∷ [], parts.failed (calls.Close fd) BadDescriptor, close_failed fd) (λ _ i. close_ok h fd u out lt i)
+descriptors_right kind h (calls.Fstat fd) busy w u lt here out idle free is = right kind h (calls.Fstat fd) busy w u idle free is (fails (steps.Fstat fd) BadDescriptor ∷ [], parts.failed (calls.Fstat fd) BadDescriptor, stat_failed fd) (λ _ i. stat_ok h fd u out lt i)
+descriptors_right kind h (calls.Read fd buffer) busy w u lt here out idle free is = right kind h (calls.Read fd buffer) busy w u idle free is (fails (steps.Read fd (length buffer)) BadDescriptor ∷ [], parts.failed (calls.Read fd buffer) BadDescriptor, read_failed fd buffer BadDescriptor) (λ _ i. read_ok h fd buffer u out lt i)
+descriptors_right kind h (calls.Open path flags) busy w u lt here out idle free is = absurd cc
+descriptors_right kind h (calls.Write fd bytes) busy w u lt here out idle free is = right kind h (calls.Write fd bytes) busy w u idle free is (write_begins fd bytes) (λ _ i. write_ok h fd bytes u out lt i)
+descriptors_right kind h (calls.Link old new) busy w u lt here out idle free is = absurd cc
+descriptors_right kind h (calls.Unlink path) busy w u lt here out idle free is = absurd cc
+descriptors_right kind h (calls.Mkdir path) busy w u lt here out idle free is = absurd cc
+descriptors_right kind h (calls.Chdir path) busy w u lt here out idle free is = absurd cc
+descriptors_right kind h (calls.Inherit child) busy w u lt here out idle free is = absurd cc

@@ -22,28 +22,23 @@ abbrev pub after_unlock : ℕ → World → World
 after_unlock i v = record v { lock = put v.lock i None; keeper = put v.keeper i None }
 
 -- a whole inode is given up
-pub s-give : {A : Type 0} {h i : ℕ} {x : Held} {k : Unit {0} → P machine A} {B : List Step → Type 0} {Q : A → List Step → World → Type 0} {n : ℕ} {es : List Step} {w : World} {O : Own}
-    → own_of h w ≡ O → O.desk.lender ≡ None → h < hart_count → 0 < n → O.inodes i ≡ Some x → x.locked ≡ true → x.alone ≡ false → x.disk ≡ x.node → O.mine.pending ≡ None
-    → ((l : ℕ) (u : World) → l + 1 ≡ n → own_of h u ≡ record O { inodes = put O.inodes i None } → Safe machine h B Q (k tt) l es u)
-    → Safe machine h B Q (Do (Give i) unmarked k) n es w
-s-give {A} {h} {i} {x} {k} {B} {Q} {n} {es} {w} {O} owns free lt pos isi has shared whole none rest = s-owned owns free pos (λ v inv ov. (
-  locks_it h i v O x ov isi has,
-  (λ _ _.
-      let a : v.alone i ≡ false = ap (λ (y : Held). y.alone) (has_inode h i v O x ov isi).1 ∙ shared in
-      subst (λ (b : Bool). Fine machine h [] 0 n B es v (unlocked i v b) (λ l. Wp machine h B Q (k tt) l es (unlocked i v b))) (sym a)
-      (quiet (fair inv (did v inv ov)) refl pos (λ l q. (rest l (after_unlock i v) q (owned v ov)).wp))),
-))
-  where
-    kept : (v : World) → own_of h v ≡ O → v.keeper i ≡ Some h
-    kept v ov = (has_inode h i v O x ov isi).0
+pub record Gives (h i : ℕ) (O : Own) (v : World) : Type 0 where
+  pub fair : Fair h v (after_unlock i v)
+  pub owned : own_of h (after_unlock i v) ≡ record O { inodes = put O.inodes i None }
 
-    did : (v : World) → Inv v → own_of h v ≡ O → Did h v (after_unlock i v)
-    did v inv ov =
+pub gives : (h i : ℕ) (x : Held) (O : Own) (v : World) → O.desk.lender ≡ None → h < hart_count → Inv v → own_of h v ≡ O → O.inodes i ≡ Some x → x.alone ≡ false → x.disk ≡ x.node → O.mine.pending ≡ None → Gives h i O v
+gives h i x O v free lt inv ov isi shared whole none = record { fair = fair inv did; owned = owned }
+  where
+    kept : v.keeper i ≡ Some h
+    kept = (has_inode h i v O x ov isi).0
+
+    did : Did h v (after_unlock i v)
+    did =
         record {
           hart = lt;
           inodes = λ j. elim (same_or j i) [
             | inl q ↦ inr (record {
-              before = ours_some h (v.keeper j) (ap v.keeper q ∙ kept v ov);
+              before = ours_some h (v.keeper j) (ap v.keeper q ∙ kept);
               after = ours_none h (put v.keeper i None j) (ap (put v.keeper i None) q ∙ put_same v.keeper i None);
               whole = λ f. ap v.disk q ∙ has_disk h i v O x ov isi ∙ whole ∙ sym (has_node h i v O x ov isi) ∙ ap v.all.nodes (sym q);
               keeps = λ g is. absurd (let s : put v.lock i None j ≡ None = ap (put v.lock i None) q ∙ put_same v.lock i None in cc);
@@ -79,14 +74,27 @@ s-give {A} {h} {i} {x} {k} {B} {Q} {n} {es} {w} {O} owns free lt pos isi has sha
           walks = λ y is. inv.walks h y lt is;
         }
 
-    owned : (v : World) → own_of h v ≡ O → own_of h (after_unlock i v) ≡ record O { inodes = put O.inodes i None }
-    owned v ov = λ z. record {
+    owned : own_of h (after_unlock i v) ≡ record O { inodes = put O.inodes i None }
+    owned = λ z. record {
       inodes = own_inodes h i v (after_unlock i v) O None ov (rw (put_same v.keeper i None) refl) (λ j ne. (put_other v.keeper i None j ne, (λ r. record { disk = v.disk j; node = v.all.nodes j; alone = v.alone j; locked = is_hart (put_other v.lock i None j ne r) h }))) z;
       mine = ap (λ (o : Own). o.mine) ov z;
       row = ap (λ (o : Own). o.row) ov z;
       ninodes = ap (λ (o : Own). o.ninodes) ov z;
       desk = ap (λ (o : Own). o.desk) ov z;
     }
+
+pub s-give : {A : Type 0} {h i : ℕ} {x : Held} {k : Unit {0} → P machine A} {B : List Step → Type 0} {Q : A → List Step → World → Type 0} {n : ℕ} {es : List Step} {w : World} {O : Own}
+    → own_of h w ≡ O → O.desk.lender ≡ None → h < hart_count → 0 < n → O.inodes i ≡ Some x → x.locked ≡ true → x.alone ≡ false → x.disk ≡ x.node → O.mine.pending ≡ None
+    → ((l : ℕ) (u : World) → l + 1 ≡ n → own_of h u ≡ record O { inodes = put O.inodes i None } → Safe machine h B Q (k tt) l es u)
+    → Safe machine h B Q (Do (Give i) unmarked k) n es w
+s-give {A} {h} {i} {x} {k} {B} {Q} {n} {es} {w} {O} owns free lt pos isi has shared whole none rest = s-owned owns free pos (λ v inv ov. (
+  locks_it h i v O x ov isi has,
+  (λ _ _.
+      let a : v.alone i ≡ false = ap (λ (y : Held). y.alone) (has_inode h i v O x ov isi).1 ∙ shared in
+      let g = gives h i x O v free lt inv ov isi shared whole none in
+      subst (λ (b : Bool). Fine machine h [] 0 n B es v (unlocked i v b) (λ l. Wp machine h B Q (k tt) l es (unlocked i v b))) (sym a)
+      (quiet g.fair refl pos (λ l q. (rest l (after_unlock i v) q g.owned).wp))),
+))
 
 -- a record is written, of an inode that the hart keeps
 pub record Writes (h i : ℕ) (y : Option Node) (x : Held) (O : Own) (v : World) : Type 0 where

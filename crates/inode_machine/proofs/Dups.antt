@@ -12,7 +12,7 @@ use Rattle.plain_tree.specs.declared.step.StepAnswer.TheVariants.{Fd as NewFd, F
 use Rattle.plain_tree.specs.Widths.{hart_count, descriptor_count}
 use Rattle.plain_tree.specs.Tree.{Name, Tree, put, fd_names, and_then, settle, resolve, parent, hold_names}
 use Rattle.plain_tree.specs.Steps.{is_nothing, path_of, follows_path, file_at, lowest, has_room, refusal_with, effect_with, answer_with, makes_node, place_of, refused, IsInPlace}
-use Rattle.plain_tree.specs.HartRow.{Key, key_of, Row, key_at, row_of, key_names}
+use Rattle.plain_tree.specs.HartRow.{Row, key_at, row_of, key_names}
 use Rattle.plain_tree.proofs.Settling.{with_open, NamesLess, settle_less, file_settled}
 use Rattle.tree_laws.specs.WellFormed.{sum_below, one_if, IsWellFormed}
 use Rattle.tree_laws.proofs.Maps.{eq_self, eq_not, same_or, put_same, put_other}

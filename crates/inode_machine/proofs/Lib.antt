@@ -25,3 +25,8 @@ pub mod Claiming
 pub mod Acting
 pub mod Removes
 pub mod Enters
+pub mod Acts
+pub mod Chdirs
+pub mod Endings
+pub mod ChdirCalls
+pub mod Covered

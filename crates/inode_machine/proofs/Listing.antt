@@ -7,14 +7,13 @@ use Rattle.plain_tree.specs.declared.node.Node.{Node}
 use Rattle.plain_tree.specs.Widths.{hart_count}
 use Rattle.plain_tree.specs.Tree.{put, is_live}
 use Rattle.tree_laws.specs.WellFormed.{one_if}
-use Rattle.tree_laws.proofs.Maps.{eq_self, eq_not, either, same_or, put_same, put_other}
+use Rattle.tree_laws.proofs.Maps.{eq_self, eq_not, same_or, put_same, put_other}
 use Rattle.tree_laws.proofs.Sums.{one_no, one_yes}
 use Rattle.tree_moves.specs.Moves.{Step}
 use Rattle.inode_machine.specs.World.{Desk, World}
 use Rattle.inode_machine.specs.World.Op.{Say}
-use Rattle.inode_machine.specs.Inodes.{AtNothing}
 use Rattle.inode_machine.specs.Rules.{Own, Held, own_names, own_of, nothing, machine}
-use Rattle.inode_machine.specs.Parts.{P, free_listed, free_all, tail, with_last}
+use Rattle.inode_machine.specs.Parts.{P, free_listed, free_all, tail}
 use Rattle.inode_machine.proofs.Rules.{UnlocksAll}
 use Rattle.inode_machine.proofs.Freeing.{s-take-kept, s-free-all}
 use Rattle.inode_machine.proofs.Dups.{s-join, s-leave, s-say}
@@ -63,12 +62,19 @@ pub listed_free : (O : Own) (base : ℕ → ℕ) (ns : List ℕ) → Listed O ba
 listed_free O base ns l i x is = let a = l.all i (l.only i x is) in let q : Some (listed_held a.node) ≡ Some x = sym a.is ∙ is in let e : listed_held a.node ≡ x = cc in ap (λ (z : Held). z.locked) (sym e)
 
 -- the same, where the rest changed
-pub listed_on : (O P : Own) (base : ℕ → ℕ) (ns : List ℕ) → Listed O base ns → ((i : ℕ) → P.inodes i ≡ O.inodes i) → ((i : ℕ) → 0 < times i ns → P.mine.refs i ≡ O.mine.refs i) → ((i : ℕ) → own_names O.row O.desk i ≡ false → own_names P.row P.desk i ≡ false) → Listed P base ns
-listed_on O P base ns l inodes refs names = record {
-  all = λ i t. let a = l.all i t in record { node = a.node; is = inodes i ∙ a.is; dead = a.dead; one = refs i t ∙ a.one; unnamed = names i a.unnamed };
+pub listed_among : (O P : Own) (base : ℕ → ℕ) (ns : List ℕ) → Listed O base ns → ((i : ℕ) → P.inodes i ≡ O.inodes i) → ((i : ℕ) → 0 < times i ns → P.mine.refs i ≡ O.mine.refs i) → ((i : ℕ) → 0 < times i ns → own_names O.row O.desk i ≡ false → own_names P.row P.desk i ≡ false) → Listed P base ns
+listed_among O P base ns l inodes refs names = record {
+  all = λ i t. let a = l.all i t in record { node = a.node; is = inodes i ∙ a.is; dead = a.dead; one = refs i t ∙ a.one; unnamed = names i t a.unnamed };
   only = λ i x is. l.only i x (sym (inodes i) ∙ is);
   once = l.once;
 }
+
+pub listed_on : (O P : Own) (base : ℕ → ℕ) (ns : List ℕ) → Listed O base ns → ((i : ℕ) → P.inodes i ≡ O.inodes i) → ((i : ℕ) → 0 < times i ns → P.mine.refs i ≡ O.mine.refs i) → ((i : ℕ) → own_names O.row O.desk i ≡ false → own_names P.row P.desk i ≡ false) → Listed P base ns
+listed_on O P base ns l inodes refs names = listed_among O P base ns l inodes refs (λ i t q. names i q)
+
+-- the same, beside other references
+pub listed_beside : (O : Own) (base base2 : ℕ → ℕ) (ns : List ℕ) → Listed O base ns → Listed O base2 ns
+listed_beside O base base2 ns l = record { all = l.all; only = l.only; once = l.once }
 
 -- one more at its end
 pub listed_more : (O P : Own) (base : ℕ → ℕ) (ns : List ℕ) (d : ℕ) → Listed O base ns → O.inodes d ≡ None → IsListed P d → ((i : ℕ) → i ≢ d → P.inodes i ≡ O.inodes i) → ((i : ℕ) → 0 < times i ns → P.mine.refs i ≡ O.mine.refs i) → ((i : ℕ) → own_names O.row O.desk i ≡ false → own_names P.row P.desk i ≡ false)

@@ -1,5 +1,5 @@
 -- The moves of a walk: it begins, looks on, is refused at its last lookup, is given up; and a call that finds no room.
-use Rattle.std.proofs.Common.{◌≡◌, ◌≢◌, ◌⊎◌, inl, inr, ℕ, ◌+◌, ◌-◌, ◌<◌, Bool, true, false, List, [], ◌∷◌, Option, Some, None, refl, sym, ◌∙◌, ap, subst, arith, if◌then◌else◌, nat_lt, ◌&&◌}
+use Rattle.std.proofs.Common.{◌≡◌, inl, inr, ℕ, ◌+◌, ◌-◌, ◌<◌, Bool, true, false, List, [], ◌∷◌, Option, Some, None, refl, sym, ◌∙◌, ap, subst, arith, nat_lt, ◌&&◌}
 use Rattle.atomic_programs.specs.Prog.{Do}
 use Rattle.atomic_programs.specs.Logic.{P, own, onto, Good, Fine, Safe, Wp}
 use Rattle.plain_tree.specs.declared.node.Node.{Node}
@@ -11,27 +11,27 @@ use Rattle.plain_tree.specs.declared.step.Action.TheVariants.{Inherit}
 use Rattle.plain_tree.specs.declared.answer.Cause.{Cause}
 use Rattle.plain_tree.specs.declared.step.StepAnswer.TheVariants.{Failed}
 use Rattle.plain_tree.specs.Widths.{hart_count}
-use Rattle.plain_tree.specs.Tree.{Name, Tree, put, look, is_live, live_directory, elements, start_of, settle, hold_names}
-use Rattle.plain_tree.specs.Steps.{path_of, follows_path, refusal_with, refused, IsInPlace}
-use Rattle.plain_tree.specs.HartRow.{Row, row_of}
+use Rattle.plain_tree.specs.Tree.{Name, Tree, put, look, is_live, live_directory, settle}
+use Rattle.plain_tree.specs.Steps.{refusal_with, refused, IsInPlace}
+use Rattle.plain_tree.specs.HartRow.{row_of}
 use Rattle.plain_tree.proofs.Settling.{settle_live, settle_dead, settled_row}
-use Rattle.tree_laws.proofs.Maps.{either, eq_self, same_or, put_same, put_other}
+use Rattle.tree_laws.proofs.Maps.{put_same}
 use Rattle.tree_laws.proofs.Facts.{look_live}
 use Rattle.tree_laws.proofs.Nodes.{settle_at}
 use Rattle.tree_laws.proofs.Walks.{look_same}
-use Rattle.tree_moves.specs.Moves.{Walk, Deed, Stage, Step, Move, Acts, Looks, Begins, fail}
-use Rattle.tree_moves.specs.Moves.Move.{Begin, Look, Quit}
-use Rattle.inode_machine.specs.World.{Mine, Desk, Note, World, Mark, stage_of}
+use Rattle.tree_moves.specs.Moves.{Walk, Deed, Stage, Step, Move, Acts, Looks, fail}
+use Rattle.tree_moves.specs.Moves.Move.{Look, Quit}
+use Rattle.inode_machine.specs.World.{Desk, Note, World, Mark, stage_of}
 use Rattle.inode_machine.specs.World.Mark.{Makes, Frees, Fills, Mends, Spoils}
-use Rattle.inode_machine.specs.World.Op.{Take, UpStart}
-use Rattle.inode_machine.specs.Inodes.{Looking, Seen, Face, sort_of, seen_in, face_of, is_live_face, is_directory_face}
-use Rattle.inode_machine.specs.Exec.{locked, lock_if, with_walk, counted_up, start_if, start_number, has_place}
-use Rattle.inode_machine.specs.Marks.{Made, marked, with_mark, with_made, with_noted, mended, made_by, look_made, looked, begun, acts, found_by, act_left, left_by, places, new_id, unopened, unmoved, unheld}
-use Rattle.inode_machine.specs.Rules.{Own, Held, own_of, Found, Inv, IsOut, looking_cost, machine, own_names}
-use Rattle.inode_machine.proofs.Frame.{Did, Fair, fair, fair_then, fair_same, has_inode}
-use Rattle.inode_machine.proofs.Rules.{s-owned, quiet, acted, others, fine_after, Locking, locking, is_out, locks_not, locks_none, UnlocksAll, locked_held, my_refs, has_node, MayRefer, NotesOwn, Ups, ups}
-use Rattle.inode_machine.proofs.Walking.{walk_named_did, refs_walk, walk_did, own_walk, stage_walk, moves_good}
-use Rattle.inode_machine.proofs.Dups.{SameTable, with_new, Flagging, flagging}
+use Rattle.inode_machine.specs.World.Op.{Take}
+use Rattle.inode_machine.specs.Inodes.{Looking, Seen, sort_of, seen_in, face_of, is_live_face, is_directory_face}
+use Rattle.inode_machine.specs.Exec.{locked, lock_if, with_walk}
+use Rattle.inode_machine.specs.Marks.{marked, with_mark, with_made, mended, made_by, look_made, looked, acts, found_by, places, new_id, unopened, unmoved, unheld}
+use Rattle.inode_machine.specs.Rules.{Own, Held, own_of, Inv, IsOut, looking_cost, machine, own_names}
+use Rattle.inode_machine.proofs.Frame.{Fair, fair, fair_then, has_inode}
+use Rattle.inode_machine.proofs.Rules.{s-owned, others, fine_after, locking, is_out, locks_not, locked_held, my_refs, has_node}
+use Rattle.inode_machine.proofs.Walking.{walk_named_did, walk_did, own_walk, stage_walk, moves_good}
+use Rattle.inode_machine.proofs.Dups.{with_new, Flagging, flagging}
 use Rattle.inode_machine.proofs.Shops.{names_less}
 
 -- a face says whether anything may be found
@@ -258,7 +258,7 @@ abbrev pub KeepsHold : Option Hold → Type 0
 KeepsHold None = Unit {0}
 KeepsHold (Some o) = o.raised ≡ true
 
-unheld_is : (t : Tree) (h : ℕ) (o : Option Hold) → KeepsHold o → unheld t h o ≡ t
+pub unheld_is : (t : Tree) (h : ℕ) (o : Option Hold) → KeepsHold o → unheld t h o ≡ t
 unheld_is t h None k = refl
 unheld_is t h (Some o) k = rw k refl
 

@@ -1,5 +1,5 @@
 -- A world at rest with one open file meets the invariant.
-use Rattle.std.proofs.Common.{◌≡◌, ◌≢◌, ◌⊎◌, inl, inr, ℕ, ◌+◌, ◌<◌, ◌≤◌, true, false, ◌==◌, ◌||◌, Option, Some, None, refl, sym, ◌∙◌, ap, subst, arith}
+use Rattle.std.proofs.Common.{◌≡◌, ◌≢◌, ◌⊎◌, inl, inr, ℕ, ◌<◌, true, false, ◌==◌, ◌||◌, Option, Some, None, refl, sym, ◌∙◌, ap, subst, arith}
 use Rattle.plain_tree.specs.declared.node.Node.{Node}
 use Rattle.plain_tree.specs.declared.tree.OpenFile.{OpenFile}
 use Rattle.plain_tree.specs.Widths.{hart_count, descriptor_count}
@@ -9,7 +9,7 @@ use Rattle.tree_laws.specs.WellFormed.{sum_below, one_if, IsWellFormed}
 use Rattle.tree_laws.proofs.Maps.{either, same_or, put_same, put_other}
 use Rattle.tree_laws.proofs.Sums.{sum_none, sum_changed, one_yes, one_no}
 use Rattle.inode_machine.specs.World.{Desk, Entry, World}
-use Rattle.inode_machine.specs.Inodes.{Sort, sort_of, sort_of_kind}
+use Rattle.inode_machine.specs.Inodes.{sort_of, sort_of_kind}
 use Rattle.inode_machine.specs.Exec.{file_count, is_at}
 use Rattle.inode_machine.specs.Theory.{at_rest, open_at_rest, HasOneOpen}
 use Rattle.inode_machine.specs.Rules.{number_is, users, id_at, key_in, left_or, own_names, Inv, Idle}

@@ -1,17 +1,14 @@
 -- Steps on the open-file table: what they leave, and the steps of the tree that they make.
 use Rattle.std.proofs.Common.{◌≡◌, ◌≢◌, inl, inr, ℕ, ◌+◌, ◌<◌, ◌≤◌, true, false, ◌==◌, ◌||◌, [], Option, Some, None, refl, sym, ◌∙◌, ap, arith}
 use Rattle.plain_tree.specs.declared.node.Node.{Node}
-use Rattle.plain_tree.specs.declared.tree.OpenFile.{OpenFile}
 use Rattle.plain_tree.specs.declared.step.Action.{Action}
 use Rattle.plain_tree.specs.declared.step.Action.TheVariants.{Inherit}
 use Rattle.plain_tree.specs.declared.step.StepAnswer.{StepAnswer}
-use Rattle.plain_tree.specs.Widths.{hart_count, descriptor_count}
-use Rattle.plain_tree.specs.Tree.{Name, Tree, put, any_below, hold_names, fd_names, is_live, is_named, settle, resolve, parent}
-use Rattle.plain_tree.specs.Steps.{path_of, follows_path, with_nodes, makes_node, StepWith}
+use Rattle.plain_tree.specs.Widths.{hart_count}
+use Rattle.plain_tree.specs.Tree.{Name, Tree, put, hold_names, is_live, settle, resolve, parent}
+use Rattle.plain_tree.specs.Steps.{path_of, follows_path, makes_node, StepWith}
 use Rattle.plain_tree.specs.HartRow.{row_of, Row, key_names}
-use Rattle.plain_tree.proofs.Settling.{settle_nodes, settle_or}
 use Rattle.tree_laws.specs.WellFormed.{sum_below, IsWellFormed}
-use Rattle.tree_laws.proofs.Maps.{any_none, none_any, or_none}
 use Rattle.tree_moves.specs.Moves.{Takes}
 use Rattle.tree_moves.specs.Moves.Move.{Own as OwnMove}
 use Rattle.inode_machine.specs.World.{Mine, Entry, Desk, World, stage_of, Note}

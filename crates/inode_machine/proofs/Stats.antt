@@ -12,8 +12,8 @@ use Rattle.plain_tree.specs.declared.step.Action.TheVariants.{Fstat}
 use Rattle.plain_tree.specs.declared.step.StepAnswer.TheVariants.{Stat as Status}
 use Rattle.plain_tree.specs.Widths.{hart_count}
 use Rattle.plain_tree.specs.Tree.{Name, Tree, put, settle, resolve, parent}
-use Rattle.plain_tree.specs.Steps.{node_or, node_at, stat_of, with_nodes, file_at, refusal_with, effect_with, answer_with, place_of, IsInPlace}
-use Rattle.plain_tree.proofs.Settling.{file_settled, settle_nodes, settle_or, settle_again}
+use Rattle.plain_tree.specs.Steps.{node_or, node_at, stat_of, file_at, refusal_with, effect_with, answer_with, place_of, IsInPlace}
+use Rattle.plain_tree.proofs.Settling.{file_settled, settle_or, settle_again}
 use Rattle.tree_laws.proofs.Nodes.{file_named}
 use Rattle.tree_moves.specs.Moves.{Deed, Stage, Step}
 use Rattle.tree_moves.specs.Moves.Move.{Own as OwnMove}

@@ -1,35 +1,32 @@
 -- A walk: it begins, goes on from directory to directory, and is lost; what it drops last goes on the call's list.
-use Rattle.std.proofs.Common.{◌≡◌, ◌≢◌, ◌⊎◌, inl, inr, ℕ, zero, suc, ◌+◌, ◌-◌, ◌*◌, ◌<◌, ◌≤◌, Bool, true, false, ◌==◌, ◌||◌, List, [], ◌∷◌, ◌++◌, length, Option, Some, None, refl, sym, ◌∙◌, ap, subst, arith, if◌then◌else◌}
+use Rattle.std.proofs.Common.{◌≡◌, ◌≢◌, ◌⊎◌, inl, inr, ℕ, ◌+◌, ◌-◌, ◌*◌, ◌<◌, ◌≤◌, Bool, true, false, ◌==◌, ◌||◌, List, [], ◌∷◌, ◌++◌, length, Option, Some, None, refl, sym, ◌∙◌, ap, subst, arith, if◌then◌else◌}
 use Rattle.atomic_programs.specs.Prog.{Do, unmarked}
-use Rattle.atomic_programs.specs.Logic.{own, onto, Good, Fine, Safe, Wp}
+use Rattle.atomic_programs.specs.Logic.{own, onto, Fine, Safe, Wp}
 use Rattle.plain_tree.specs.declared.answer.Cause.TheVariants.{NoEntry}
 use Rattle.plain_tree.specs.declared.answer.Reply.{Reply}
 use Rattle.plain_tree.specs.declared.node.Node.{Node}
 use Rattle.plain_tree.specs.declared.step.Action.{Action}
 use Rattle.plain_tree.specs.declared.step.Action.TheVariants.{Inherit}
-use Rattle.plain_tree.specs.Widths.{hart_count, root}
-use Rattle.plain_tree.specs.Tree.{Name, Tree, put, look, is_live, live_directory, elements, start_of, is_absolute, hold_names, settle}
-use Rattle.plain_tree.specs.Steps.{path_of, follows_path, refusal_with, refused, IsInPlace}
+use Rattle.plain_tree.specs.Widths.{hart_count}
+use Rattle.plain_tree.specs.Tree.{Name, Tree, put, look, is_live, live_directory, hold_names}
+use Rattle.plain_tree.specs.Steps.{refusal_with, refused, IsInPlace}
 use Rattle.plain_tree.specs.HartRow.{Row, key_names, row_of}
-use Rattle.plain_tree.proofs.Settling.{settled_row}
 use Rattle.tree_laws.specs.WellFormed.{one_if}
-use Rattle.tree_laws.proofs.Maps.{eq_self, either, same_or, put_same, put_other}
-use Rattle.tree_moves.specs.Moves.{Walk, Stage, Step, Begins, fail}
-use Rattle.tree_moves.specs.Moves.Move.{Begin, Look, Quit}
-use Rattle.inode_machine.specs.World.{Desk, Note, World, Mark, stage_of}
-use Rattle.inode_machine.specs.World.Mark.{Makes, Mends}
-use Rattle.inode_machine.specs.World.Op.{Take, Give, UpStart, Up, WalkDown}
-use Rattle.inode_machine.specs.Inodes.{Seen, AtName, AtNothing, seen_in, face_of, is_live_face, is_directory_face}
-use Rattle.inode_machine.specs.Exec.{counted_up, start_if, start_number, has_place, is_at, with_walk}
-use Rattle.inode_machine.specs.Marks.{begun, found_by, marked, with_mark, mended, places, new_id}
+use Rattle.tree_laws.proofs.Maps.{either, same_or, put_same, put_other}
+use Rattle.tree_moves.specs.Moves.{Walk, Deed, Stage, Step, Acts, Looks, fail}
+use Rattle.tree_moves.specs.Moves.Move.{Look, Quit}
+use Rattle.inode_machine.specs.World.{Desk, Note, World, Mark}
+use Rattle.inode_machine.specs.World.Op.{Take, Give}
+use Rattle.inode_machine.specs.Inodes.{AtName, AtNothing, seen_in, face_of, is_directory_face}
+use Rattle.inode_machine.specs.Exec.{is_at}
+use Rattle.inode_machine.specs.Marks.{looked, acts, found_by, marked, mended, places}
 use Rattle.inode_machine.specs.Rules.{Own, Held, key_in, own_names, own_of, Inv, machine}
-use Rattle.inode_machine.specs.Parts.{P, Stop, NotThere, NoMemory, with_last, leave_directory, looks_or_quits, walk_step, walk_parent, see_parent, quits_unless, mends_if_full, begins_unless_full, start, start_on, makes}
-use Rattle.inode_machine.proofs.Frame.{fair, fair_then, fair_same}
-use Rattle.inode_machine.proofs.Rules.{quiet, s-owned, locks_none, locked_held, s-up, MayRefer, NotesOwn, Ups, ups, my_refs}
+use Rattle.inode_machine.specs.Parts.{P, Stop, NotThere, NoMemory, leave_directory, looks_or_quits, walk, walk_step, walk_parent, see_parent, quits_unless, makes}
+use Rattle.inode_machine.proofs.Frame.{Fair, fair_same}
+use Rattle.inode_machine.proofs.Rules.{quiet, locked_held, s-up}
 use Rattle.inode_machine.proofs.Counting.{s-give, s-walk-down, MayDrop}
-use Rattle.inode_machine.proofs.Walking.{walk_did, own_walk, stage_walk, moves_good}
-use Rattle.inode_machine.proofs.Looks.{live_face, no_directory, s-take-then, quit_good, look_on_good, look_refused_good, spoilt, KeepsHold, mends}
-use Rattle.inode_machine.proofs.Listing.{times, times_last, length_last, one_at, one_else, IsListed, Listed, listed_held, listed_on, listed_more, listed_free}
+use Rattle.inode_machine.proofs.Looks.{live_face, no_directory, s-take-then, MoveFine, quit_good, look_on_good, look_refused_good, spoilt, KeepsHold, mends}
+use Rattle.inode_machine.proofs.Listing.{times, times_last, length_last, one_at, one_else, Listed, listed_held, listed_among, listed_on, listed_more}
 
 -- what a hart has of its own stays, but for the inodes that it keeps, its references, and what it noted
 pub record Stays (O O0 : Own) : Type 0 where
@@ -101,6 +98,58 @@ pub record On (h : ℕ) (s : Action) (d : ℕ) (e : Name) (r : List Name) (base 
   pub refs : (i : ℕ) → O.mine.refs i ≡ base i + times i ns + one_if (d == i)
   pub listed : Listed O base ns
   pub out : O.inodes d ≡ None
+  -- what it noted it refers to
+  pub notes : (m : Note) → O.desk.noted ≡ Some m → 0 < O.mine.refs m.number
+
+-- Where it has come to j: its walk goes on from there, or has led there; t: what it noted.
+pub record At (h j : ℕ) (base : ℕ → ℕ) (ns : List ℕ) (k : Option Walk) (t : Option Note) (O0 O : Own) (w : World) : Type 0 where
+  pub owns : own_of h w ≡ O
+  pub stays : Stays O O0
+  pub noted : O.desk.noted ≡ t
+  pub walk : O.mine.walk ≡ k
+  pub pending : O.mine.pending ≡ None
+  pub refs : (i : ℕ) → O.mine.refs i ≡ base i + times i ns + one_if (j == i)
+  pub listed : Listed O base ns
+  pub out : O.inodes j ≡ None
+
+-- What a lookup in directory d, whose lock the hart has taken, leaves where it found j. O: what the hart had before the lock.
+pub record Finds (d j : ℕ) (c : Option Node) (k : Option Walk) (O O2 : Own) : Type 0 where
+  pub inodes : O2.inodes ≡ put O.inodes d (Some (locked_held c))
+  pub refs : O2.mine.refs ≡ O.mine.refs
+  pub walk : O2.mine.walk ≡ k
+  pub lands : (y : Walk) → k ≡ Some y → y.at ≡ j
+  pub pending : O2.mine.pending ≡ Some j
+  pub lives : (z : Held) → O.inodes j ≡ Some z → is_live z.node ≡ true
+  pub names : (i : ℕ) → own_names O2.row O2.desk i ≡ true → (i ≡ j) ⊎ (own_names O.row O.desk i ≡ true)
+
+-- The call finds no room: what its step took in the tree is given back.
+pub record Mending (h : ℕ) (v u : World) (M : Own) : Type 0 where
+  pub fair : Fair h v u
+  pub bad : u.clean ≡ false
+  pub owned : own_of h u ≡ M
+
+-- What the hart has then.
+pub record Back (O0 O2 M : Own) : Type 0 where
+  pub stays : Stays M O0
+  pub inodes : M.inodes ≡ O2.inodes
+  pub refs : M.mine.refs ≡ O2.mine.refs
+  pub walk : M.mine.walk ≡ None
+  pub pending : M.mine.pending ≡ None
+  pub full : M.desk.full ≡ true
+
+pub stays_same : (R O1 O0 : Own) → R.row ≡ O1.row → R.ninodes ≡ O1.ninodes → R.desk ≡ O1.desk → Stays O1 O0 → Stays R O0
+stays_same R O1 O0 row ninodes desk s = record {
+  row = row ∙ s.row;
+  ninodes = ninodes ∙ s.ninodes;
+  fds = ap (λ (z : Desk). z.fds) desk ∙ s.fds;
+  hand = ap (λ (z : Desk). z.hand) desk ∙ s.hand;
+  joined = ap (λ (z : Desk). z.joined) desk ∙ s.joined;
+  directory = ap (λ (z : Desk). z.directory) desk ∙ s.directory;
+  lent = ap (λ (z : Desk). z.lent) desk ∙ s.lent;
+  lender = ap (λ (z : Desk). z.lender) desk ∙ s.lender;
+  opening = ap (λ (z : Desk). z.opening) desk ∙ s.opening;
+  left = ap (λ (z : Desk). z.left) desk ∙ s.left;
+}
 
 -- Where its walk was lost.
 pub record Gone (h : ℕ) (base : ℕ → ℕ) (ns : List ℕ) (O0 O : Own) (w : World) : Type 0 where
@@ -136,7 +185,7 @@ module _ (h : ℕ) (s : Action) (B : List Step → Type 0) (Q : Reply → List S
     (quit_lost : (es : List Step) → W es → V (record { move = Quit s; told = Some (fail s) } ∷ es) × B (record { move = Quit s; told = Some (fail s) } ∷ es))
     (none_refused : (b : Tree) → refusal_with b h s None None ≡ Some NoEntry) (stays : (b : Tree) → refused b h s ≡ b) (place : (t : Tree) → row_of t h ≡ O0.row → IsInPlace t h s) (other : (g : ℕ) → s ≡ Inherit g → ⊥) (finds_none : found_by s None ≡ None) where
   -- the directory where it was lost is given up
-  s-lose : (why : Stop) (d : ℕ) (ns : List ℕ) (c : Option Node) (n : ℕ) (es : List Step) (w : World) (O O1 : Own) → own_of h w ≡ O1 → Stays O1 O0 → Stays O O0 → 973 + 971 * length ns + K ≤ n → O1.inodes ≡ put O.inodes d (Some (locked_held c)) → O.inodes d ≡ None → Listed O base ns → O1.mine.pending ≡ None → O1.mine.walk ≡ None
+  pub s-lose : (why : Stop) (d : ℕ) (ns : List ℕ) (c : Option Node) (n : ℕ) (es : List Step) (w : World) (O O1 : Own) → own_of h w ≡ O1 → Stays O1 O0 → Stays O O0 → 973 + 971 * length ns + K ≤ n → O1.inodes ≡ put O.inodes d (Some (locked_held c)) → O.inodes d ≡ None → Listed O base ns → O1.mine.pending ≡ None → O1.mine.walk ≡ None
       → ((i : ℕ) → O1.mine.refs i ≡ base i + times i ns + one_if (d == i)) → ((i : ℕ) → 0 < times i ns → O1.mine.refs i ≡ O.mine.refs i) → Lost V why es O1
       → Safe machine h B Q (leave_directory d ns (lost why)) n es w
   s-lose why d ns c n es w O O1 owns st st0 few inodes out l pending walk refs same told =
@@ -144,7 +193,7 @@ module _ (h : ℕ) (s : Action) (B : List Step → Type 0) (Q : Reply → List S
       (λ l2 ms R u q len own refs2 walk2 pending2 row desk ninodes listed there here. loses why ms l2 es u R (omega (arith, q, len, few))
       (record {
         owns = own;
-        stays = record { row = row ∙ st.row; ninodes = ninodes ∙ st.ninodes; fds = ap (λ (z : Desk). z.fds) desk ∙ st.fds; hand = ap (λ (z : Desk). z.hand) desk ∙ st.hand; joined = ap (λ (z : Desk). z.joined) desk ∙ st.joined; directory = ap (λ (z : Desk). z.directory) desk ∙ st.directory; lent = ap (λ (z : Desk). z.lent) desk ∙ st.lent; lender = ap (λ (z : Desk). z.lender) desk ∙ st.lender; opening = ap (λ (z : Desk). z.opening) desk ∙ st.opening; left = ap (λ (z : Desk). z.left) desk ∙ st.left };
+        stays = stays_same R O1 O0 row ninodes desk st;
         walk = walk2 ∙ walk;
         pending = pending2 ∙ pending;
         refs = λ i. let a = refs2 i in omega (arith, a);
@@ -158,15 +207,17 @@ module _ (h : ℕ) (s : Action) (B : List Step → Type 0) (Q : Reply → List S
       told_on NotThere R e t = t
       told_on NoMemory R e t = ap (λ (z : Desk). z.full) e ∙ t
 
-  -- One element: the walk goes on to what is found, or is lost here.
-  s-walk-one : (C : ℕ) (a : Name) (r : List Name) (d : ℕ) (e : Name) (ns : List ℕ) (n : ℕ) (es : List Step) (w : World) (O : Own) (go : ℕ → List ℕ → P Reply) → 2600 + C + 971 * length ns + K ≤ n → On h s d e (a ∷ r) base ns O0 O w → W es
-      → ((j : ℕ) (ms : List ℕ) (l : ℕ) (fs : List Step) (u : World) (R : Own) → C + 971 * length ms + K ≤ l → On h s j a r base ms O0 R u → W fs → Safe machine h B Q (go j ms) l fs u)
+  -- A name is looked up, of which these elements come after: the walk is lost here, or the name is found.
+  s-look : (r : List Name) (par : Option (ℕ × Name)) (d : ℕ) (e : Name) (ns : List ℕ) (n : ℕ) (es : List Step) (w : World) (O : Own) (go : ℕ → List ℕ → P Reply) → 2600 + 971 * length ns + K ≤ n → On h s d e r base ns O0 O w → W es
+      → ((b : Tree) (id : ℕ) → looked b h (record { step = s; at = d; next = e; rest = r }) r None 0 id ≡ acts b h s None par 0 id)
+      → ((m m' : Stage) (t : Option Deed) → Acts m h s None par 0 t m' → Looks m h (record { step = s; at = d; next = e; rest = r }) r None 0 t m') → ((b : Tree) → refusal_with b h s None par ≡ Some NoEntry)
+      → ((u : World) (c : Option Node) (j : ℕ) → Inv u → own_of h u ≡ record O { inodes = put O.inodes d (Some (locked_held c)) } → live_directory c ≡ true → look (λ i. c) d e ≡ Some j → MoveFine h 1611 n B Q es u (Look 0) (walk_step d ns go lost (Some j)))
       → Safe machine h B Q (Do (Take d (AtName e)) (looks_or_quits s) (λ x. walk_step d ns go lost x.found)) n es w
-  s-walk-one C a r d e ns n es w O go few on told again =
+  s-look r par d e ns n es w O go few on told same plays refusal finds =
       s-take-then on.owns free_o lt (omega (arith, few)) on.out (let f = on.refs d in let o = one_at d in omega (arith, f, o)) (λ u c inv own1. seen u c inv own1 (live_directory c) refl)
     where
       y : Walk
-      y = record { step = s; at = d; next = e; rest = a ∷ r }
+      y = record { step = s; at = d; next = e; rest = r }
 
       free_o : O.desk.lender ≡ None
       free_o = on.stays.lender ∙ ready.free
@@ -183,60 +234,8 @@ module _ (h : ℕ) (s : Action) (B : List Step → Type 0) (Q : Reply → List S
       mark_is : (c : Option Node) (b : Bool) → live_directory c ≡ b → looks_or_quits s (seen_in d (AtName e) c) ≡ (if b then makes (Look 0) else makes (Quit s))
       mark_is c b q = λ z. if (live_face c ∙ q) z then makes (Look 0) else makes (Quit s)
 
-      goes : (c : Option Node) (j : ℕ) → ((z : Held) → (O1 c).inodes j ≡ Some z → is_live z.node ≡ true) → (t : Option Note) → ((m : Note) → t ≡ Some m → m.number ≡ j) → (l2 : ℕ) (u2 : World) → l2 + 1612 ≡ n
-          → own_of h u2 ≡ record (O1 c) { mine = record { refs = O.mine.refs; walk = Some (record { step = s; at = j; next = a; rest = r }); pending = Some j }; desk = record (O.desk) { noted = t } }
-          → Safe machine h B Q (walk_step d ns go lost (Some j)) l2 (record { move = Look 0; told = None } ∷ es) u2
-      goes c j lives t notes l2 u2 q2 own2 =
-          s-up own2 free_o lt (omega (arith, q2, few)) refl (inr (inr (inl refl))) (inr refl) (λ m q e. inr refl)
-          (λ l3 u3 q3 own3.
-          s-leave-directory d ns c x base {O = O} own3 free_o lt (omega (arith, q2, q3, few)) refl on.out on.listed refl refs3 (λ i p. put_other O.mine.refs j (O.mine.refs j + 1) i (not_j i p)) (λ i. refl) may
-          (λ l4 ms R u4 q4 len own4 refs4 walk4 pending4 row4 desk4 ninodes4 listed4 there here. again j ms l4 (record { move = Look 0; told = None } ∷ es) u4 R (omega (arith, q2, q3, q4, len, few)) (record {
-            owns = own4;
-            stays = record { row = row4 ∙ on.stays.row; ninodes = ninodes4 ∙ on.stays.ninodes; fds = ap (λ (z : Desk). z.fds) desk4 ∙ on.stays.fds; hand = ap (λ (z : Desk). z.hand) desk4 ∙ on.stays.hand; joined = ap (λ (z : Desk). z.joined) desk4 ∙ on.stays.joined; directory = ap (λ (z : Desk). z.directory) desk4 ∙ on.stays.directory; lent = ap (λ (z : Desk). z.lent) desk4 ∙ on.stays.lent; lender = ap (λ (z : Desk). z.lender) desk4 ∙ on.stays.lender; opening = ap (λ (z : Desk). z.opening) desk4 ∙ on.stays.opening; left = ap (λ (z : Desk). z.left) desk4 ∙ on.stays.left };
-            walk = walk4;
-            pending = pending4;
-            refs = λ i. let b = refs4 i in omega (arith, b);
-            listed = listed4;
-            out = elim (same_or j d) [ inl q ↦ ap R.inodes q ∙ here (let o : one_if (j == d) ≡ 1 = ap (λ (z : ℕ). one_if (z == d)) q ∙ one_at d in omega (arith, o)) | inr ne ↦ there j ne ∙ out_j (O.inodes j) refl ];
-          }) (look_more es told).0))
-          (λ v inv ov. let m = mends h v _ ov free_o lt inv (on.stays.opening ∙ ready.opening) (on.stays.left ∙ ready.left) (subst (λ (z : Row). KeepsHold z.hold) (sym on.stays.row) ready.hold) (λ i q. let b = ready.spare i (sym (names_stay O O0 on.stays i) ∙ q) in let f = on.refs i in omega (arith, b, f)) in
-          spoilt m.fair m.bad (omega (arith, q2, few)) (λ l3 q3.
-          (s-lose NoMemory d ns c l3 (record { move = Look 0; told = None } ∷ es) (mended h v) O _ m.owned (record { row = on.stays.row; ninodes = on.stays.ninodes; fds = on.stays.fds; hand = on.stays.hand; joined = on.stays.joined; directory = on.stays.directory; lent = on.stays.lent; lender = on.stays.lender; opening = sym ready.opening; left = sym ready.left }) on.stays (omega (arith, q2, q3, few)) refl on.out on.listed refl refl on.refs (λ i t. refl) refl).wp))
-        where
-          x : ℕ → ℕ
-          x i = base i + times i ns + one_if (j == i)
-
-          lives_not : (o : Option Held) → O.inodes j ≡ o → o ≡ None
-          lives_not None q = refl
-          lives_not (Some z) q = absurd (
-              let ne : j ≢ d = (λ k. absurd (let m : O.inodes j ≡ None = ap O.inodes k ∙ on.out in cc (m, q))) in
-              let i = lives z (put_other O.inodes d (Some (locked_held c)) j ne ∙ q) in
-              let b = on.listed.all j (on.listed.only j z q) in
-              let p : Some (listed_held b.node) ≡ Some z = sym b.is ∙ q in
-              let g : listed_held b.node ≡ z = cc in
-              let k : is_live z.node ≡ false = ap (λ (y : Held). is_live y.node) (sym g) ∙ b.dead in
-              cc (i, k))
-
-          out_j : (o : Option Held) → O.inodes j ≡ o → O.inodes j ≡ None
-          out_j o q = q ∙ lives_not o q
-
-          not_j : (i : ℕ) → 0 < times i ns → i ≢ j
-          not_j i p q = absurd (let b = (on.listed.all i p).is in let k : O.inodes i ≡ None = ap O.inodes q ∙ out_j (O.inodes j) refl in cc (b, k))
-
-          refs3 : (i : ℕ) → put O.mine.refs j (O.mine.refs j + 1) i ≡ x i + one_if (d == i)
-          refs3 i = let f = on.refs i in elim (same_or i j) [
-            | inl q ↦ (let b : put O.mine.refs j (O.mine.refs j + 1) i ≡ O.mine.refs j + 1 = ap (put O.mine.refs j (O.mine.refs j + 1)) q ∙ put_same O.mine.refs j (O.mine.refs j + 1) in let o : one_if (j == i) ≡ 1 = ap (λ (z : ℕ). one_if (j == z)) q ∙ one_at j in let g : O.mine.refs i ≡ O.mine.refs j = ap O.mine.refs q in omega (arith, f, b, o, g))
-            | inr ne ↦ (let b = put_other O.mine.refs j (O.mine.refs j + 1) i ne in let o = one_else j i ne in omega (arith, f, b, o))
-          ]
-
-          may : (0 < x d) ⊎ ((own_names O.row (record (O.desk) { noted = t }) d ≡ false) × ((z : Walk) → Some (record { step = s; at = j; next = a; rest = r }) ≡ Some z → z.at ≢ d))
-          may = elim (same_or j d) [
-            | inl q ↦ inl (let o : one_if (j == d) ≡ 1 = ap (λ (z : ℕ). one_if (z == d)) q ∙ one_at d in omega (arith, o))
-            | inr ne ↦ elim (either (own_names O.row O.desk d)) [
-              | inl y ↦ inl (let b = ready.spare d (sym (names_stay O O0 on.stays d) ∙ y) in omega (arith, b))
-              | inr y ↦ inr (y, λ z is q. absurd (ne (let g : record { step = s; at = j; next = a; rest = r } ≡ z = cc in ap (λ (k : Walk). k.at) g ∙ q)))
-            ]
-          ]
+      stays_on : (c : Option Node) → Stays (record (O1 c) { mine = record { refs = O.mine.refs; walk = None; pending = None } }) O0
+      stays_on c = stays_same (record (O1 c) { mine = record { refs = O.mine.refs; walk = None; pending = None } }) O O0 refl refl refl on.stays
 
       seen : (u : World) (c : Option Node) → Inv u → own_of h u ≡ O1 c → (b : Bool) → live_directory c ≡ b → Goal u c (looks_or_quits s (seen_in d (AtName e) c)) (look (λ j. c) d e)
       seen u c inv own1 false dead =
@@ -244,20 +243,128 @@ module _ (h : ℕ) (s : Action) (B : List Step → Type 0) (Q : Reply → List S
           (subst (λ (f : Option ℕ). Goal u c (makes (Quit s)) f) (sym (dead_look c d e dead))
           (quit_good h 1611 n d B Q es u (O1 c) (locked_held c) y (leave_directory d ns (lost NotThere)) own1 free_o lt inv on.walk on.pending refl (isd c) dead (quit_lost es told).1 (omega (arith, few)) (λ l2 u2 q2 own2.
           s-lose NotThere d ns c l2 (record { move = Quit s; told = Some (fail s) } ∷ es) u2 O _ own2 (stays_on c) on.stays (omega (arith, q2, few)) refl on.out on.listed refl refl on.refs (λ i t. refl) (quit_lost es told).0)))
-        where
-          stays_on : (c : Option Node) → Stays (record (O1 c) { mine = record { refs = O.mine.refs; walk = None; pending = None } }) O0
-          stays_on c = record { row = on.stays.row; ninodes = on.stays.ninodes; fds = on.stays.fds; hand = on.stays.hand; joined = on.stays.joined; directory = on.stays.directory; lent = on.stays.lent; lender = on.stays.lender; opening = on.stays.opening; left = on.stays.left }
       seen u c inv own1 true live =
           subst (λ (m : Option Mark). Goal u c m (look (λ j. c) d e)) (sym (mark_is c true live)) (found u c inv own1 live (look (λ j. c) d e) refl)
         where
           found : (u : World) (c : Option Node) → Inv u → own_of h u ≡ O1 c → live_directory c ≡ true → (f : Option ℕ) → look (λ j. c) d e ≡ f → Goal u c (makes (Look 0)) f
           found u c inv own1 live None is =
-              look_refused_good h 1611 n d B Q es u (O1 c) (locked_held c) y None NoEntry None None (leave_directory d ns (lost NotThere)) own1 free_o lt inv on.walk on.pending refl (isd c) live is (λ b i. refl) (λ m m' t q. q)
-              (λ b q. none_refused b) stays (λ t q. place t (q ∙ on.stays.row)) other finds_none (look_lost es told).1 (omega (arith, few)) (λ l2 u2 q2 own2.
-              s-lose NotThere d ns c l2 (record { move = Look 0; told = Some (fail s) } ∷ es) u2 O _ own2 (record { row = on.stays.row; ninodes = on.stays.ninodes; fds = on.stays.fds; hand = on.stays.hand; joined = on.stays.joined; directory = on.stays.directory; lent = on.stays.lent; lender = on.stays.lender; opening = on.stays.opening; left = on.stays.left }) on.stays (omega (arith, q2, few)) refl on.out on.listed refl refl on.refs (λ i t. refl) (look_lost es told).0)
-          found u c inv own1 live (Some j) is =
-              look_on_good h 1611 n d B Q es u (O1 c) (locked_held c) y a r j (walk_step d ns go lost (Some j)) own1 free_o lt inv on.walk on.pending refl (isd c) live refl is (look_more es told).1 (omega (arith, few)) (λ l2 t u2 q2 lives own2 notes.
-              goes c j lives t notes l2 u2 q2 own2)
+              look_refused_good h 1611 n d B Q es u (O1 c) (locked_held c) y None NoEntry None par (leave_directory d ns (lost NotThere)) own1 free_o lt inv on.walk on.pending refl (isd c) live is same plays
+              (λ b q. refusal b) stays (λ t q. place t (q ∙ on.stays.row)) other finds_none (look_lost es told).1 (omega (arith, few)) (λ l2 u2 q2 own2.
+              s-lose NotThere d ns c l2 (record { move = Look 0; told = Some (fail s) } ∷ es) u2 O _ own2 (stays_on c) on.stays (omega (arith, q2, few)) refl on.out on.listed refl refl on.refs (λ i t. refl) (look_lost es told).0)
+          found u c inv own1 live (Some j) is = finds u c j inv own1 live is
+
+  -- What was found is referred to, and the directory let go. P0: what the hart has since the lookup; M: where there is no room for the reference.
+  pub s-arrive : (C d j : ℕ) (c : Option Node) (k : Option Walk) (ns : List ℕ) (n : ℕ) (es : List Step) (u : World) (O O2 P0 M : Own) (go : ℕ → List ℕ → P Reply) → own_of h u ≡ O2 → 980 + C + 971 * length ns + K ≤ n
+      → Stays O O0 → Listed O base ns → O.inodes d ≡ None → ((i : ℕ) → O.mine.refs i ≡ base i + times i ns + one_if (d == i)) → Finds d j c k O O2 → Stays O2 P0 → P0.desk.lender ≡ None
+      → ((v : World) → Inv v → own_of h v ≡ O2 → Mending h v (mended h v) M) → Back O0 O2 M
+      → ((ms : List ℕ) (l : ℕ) (u : World) (R : Own) → C + 971 * length ms + K ≤ l → At h j base ms k O2.desk.noted P0 R u → Safe machine h B Q (go j ms) l es u)
+      → Safe machine h B Q (walk_step d ns go lost (Some j)) n es u
+  s-arrive C d j c k ns n es u O O2 P0 M go own2 few st0 listed out refs f st free0 full back arrives =
+      s-up own2 free lt (omega (arith, few)) refl (inr (inr (inl f.pending))) (inr f.pending) (λ m q e. inr f.pending)
+      (λ l3 u3 q3 own3.
+      s-leave-directory d ns c x base {O = record O2 { inodes = O.inodes }} own3 free lt (omega (arith, q3, few)) f.inodes out listed2 refl refs3 (λ i p. put_other O2.mine.refs j (O2.mine.refs j + 1) i (not_j i p)) (λ i. refl) may
+      (λ l4 ms R u4 q4 len own4 refs4 walk4 pending4 row4 desk4 ninodes4 listed4 there here. arrives ms l4 u4 R (omega (arith, q3, q4, len, few)) (record {
+        owns = own4;
+        stays = stays_same R O2 P0 row4 ninodes4 desk4 st;
+        noted = ap (λ (z : Desk). z.noted) desk4;
+        walk = walk4 ∙ f.walk;
+        pending = pending4;
+        refs = λ i. let b = refs4 i in omega (arith, b);
+        listed = listed4;
+        out = elim (same_or j d) [ inl q ↦ ap R.inodes q ∙ here (let o : one_if (j == d) ≡ 1 = ap (λ (z : ℕ). one_if (z == d)) q ∙ one_at d in omega (arith, o)) | inr ne ↦ there j ne ∙ out_j (O.inodes j) refl ];
+      })))
+      (λ v inv ov. let m = full v inv ov in
+      spoilt m.fair m.bad (omega (arith, few)) (λ l3 q3.
+      (s-lose NoMemory d ns c l3 es (mended h v) O M m.owned back.stays st0 (omega (arith, q3, few)) (back.inodes ∙ f.inodes) out listed back.pending back.walk (λ i. ap (λ (z : ℕ → ℕ). z i) (back.refs ∙ f.refs) ∙ refs i) (λ i t. ap (λ (z : ℕ → ℕ). z i) (back.refs ∙ f.refs)) back.full).wp))
+    where
+      free : O2.desk.lender ≡ None
+      free = st.lender ∙ free0
+
+      x : ℕ → ℕ
+      x i = base i + times i ns + one_if (j == i)
+
+      lives_not : (o : Option Held) → O.inodes j ≡ o → o ≡ None
+      lives_not None q = refl
+      lives_not (Some z) q = absurd (
+          let i = f.lives z q in
+          let b = listed.all j (listed.only j z q) in
+          let p : Some (listed_held b.node) ≡ Some z = sym b.is ∙ q in
+          let g : listed_held b.node ≡ z = cc in
+          let l : is_live z.node ≡ false = ap (λ (y : Held). is_live y.node) (sym g) ∙ b.dead in
+          cc (i, l))
+
+      out_j : (o : Option Held) → O.inodes j ≡ o → O.inodes j ≡ None
+      out_j o q = q ∙ lives_not o q
+
+      not_j : (i : ℕ) → 0 < times i ns → i ≢ j
+      not_j i p q = absurd (let b = (listed.all i p).is in let l : O.inodes i ≡ None = ap O.inodes q ∙ out_j (O.inodes j) refl in cc (b, l))
+
+      listed2 : Listed (record O2 { inodes = O.inodes }) base ns
+      listed2 = listed_among O (record O2 { inodes = O.inodes }) base ns listed (λ i. refl) (λ i t. ap (λ (z : ℕ → ℕ). z i) f.refs) (λ i t q. elim (either (own_names O2.row O2.desk i)) [
+        | inr y ↦ y
+        | inl y ↦ elim (f.names i y) [ inl e ↦ absurd (not_j i t e) | inr a ↦ absurd (cc (a, q)) ]
+      ])
+
+      refs3 : (i : ℕ) → put O2.mine.refs j (O2.mine.refs j + 1) i ≡ x i + one_if (d == i)
+      refs3 i = let g = refs i in let y = ap (λ (z : ℕ → ℕ). z i) f.refs in elim (same_or i j) [
+        | inl q ↦ (let b : put O2.mine.refs j (O2.mine.refs j + 1) i ≡ O2.mine.refs j + 1 = ap (put O2.mine.refs j (O2.mine.refs j + 1)) q ∙ put_same O2.mine.refs j (O2.mine.refs j + 1) in let o : one_if (j == i) ≡ 1 = ap (λ (z : ℕ). one_if (j == z)) q ∙ one_at j in let l : O2.mine.refs i ≡ O2.mine.refs j = ap O2.mine.refs q in omega (arith, g, y, b, o, l))
+        | inr ne ↦ (let b = put_other O2.mine.refs j (O2.mine.refs j + 1) i ne in let o = one_else j i ne in omega (arith, g, y, b, o))
+      ]
+
+      may : (0 < x d) ⊎ ((own_names O2.row O2.desk d ≡ false) × ((z : Walk) → O2.mine.walk ≡ Some z → z.at ≢ d))
+      may = elim (same_or j d) [
+        | inl q ↦ inl (let o : one_if (j == d) ≡ 1 = ap (λ (z : ℕ). one_if (z == d)) q ∙ one_at d in omega (arith, o))
+        | inr ne ↦ elim (either (own_names O2.row O2.desk d)) [
+          | inl y ↦ inl (elim (f.names d y) [ inl e ↦ absurd (ne (sym e)) | inr a ↦ (let b = ready.spare d (sym (names_stay O O0 st0 d) ∙ a) in omega (arith, b)) ])
+          | inr y ↦ inr (y, λ z is q. absurd (ne (sym (f.lands z (sym f.walk ∙ is)) ∙ q)))
+        ]
+      ]
+
+  -- One element: the walk goes on to what is found, or is lost here.
+  s-walk-one : (C : ℕ) (a : Name) (r : List Name) (d : ℕ) (e : Name) (ns : List ℕ) (n : ℕ) (es : List Step) (w : World) (O : Own) (go : ℕ → List ℕ → P Reply) → 2600 + C + 971 * length ns + K ≤ n → On h s d e (a ∷ r) base ns O0 O w → W es
+      → ((j : ℕ) (ms : List ℕ) (l : ℕ) (fs : List Step) (u : World) (R : Own) → C + 971 * length ms + K ≤ l → On h s j a r base ms O0 R u → W fs → Safe machine h B Q (go j ms) l fs u)
+      → Safe machine h B Q (Do (Take d (AtName e)) (looks_or_quits s) (λ x. walk_step d ns go lost x.found)) n es w
+  s-walk-one C a r d e ns n es w O go few on told again =
+      s-look (a ∷ r) None d e ns n es w O go (omega (arith, few)) on told (λ b i. refl) (λ m m' t q. q) none_refused (λ u c j inv own1 live is.
+      look_on_good h 1611 n d B Q es u (O1 c) (locked_held c) (record { step = s; at = d; next = e; rest = a ∷ r }) a r j (walk_step d ns go lost (Some j)) own1 free_o lt inv on.walk on.pending refl (put_same O.inodes d (Some (locked_held c))) live refl is (look_more es told).1 (omega (arith, few)) (λ l2 t u2 q2 lives own2 notes.
+      s-arrive C d j c (Some (record { step = s; at = j; next = a; rest = r })) ns l2 (record { move = Look 0; told = None } ∷ es) u2 O (O2 c j t) O0 (M c j t) go own2 (omega (arith, q2, few)) on.stays on.listed on.out on.refs
+      (record {
+        inodes = refl;
+        refs = refl;
+        walk = refl;
+        lands = λ y q. let g : record { step = s; at = j; next = a; rest = r } ≡ y = cc in ap (λ (k : Walk). k.at) (sym g);
+        pending = refl;
+        lives = λ z q. lives z (put_other O.inodes d (Some (locked_held c)) j (λ k. absurd (let m : O.inodes j ≡ None = ap O.inodes k ∙ on.out in cc (m, q))) ∙ q);
+        names = λ i q. inr q;
+      })
+      (stays_on c j t) ready.free
+      (λ v inv2 ov. let m = mends h v (O2 c j t) ov free_o lt inv2 (on.stays.opening ∙ ready.opening) (on.stays.left ∙ ready.left) (subst (λ (z : Row). KeepsHold z.hold) (sym on.stays.row) ready.hold) (λ i q. let b = ready.spare i (sym (names_stay O O0 on.stays i) ∙ q) in let f = on.refs i in omega (arith, b, f)) in record { fair = m.fair; bad = m.bad; owned = m.owned })
+      (record { stays = record { row = on.stays.row; ninodes = on.stays.ninodes; fds = on.stays.fds; hand = on.stays.hand; joined = on.stays.joined; directory = on.stays.directory; lent = on.stays.lent; lender = on.stays.lender; opening = sym ready.opening; left = sym ready.left }; inodes = refl; refs = refl; walk = refl; pending = refl; full = refl })
+      (λ ms l4 u4 R few4 at4. again j ms l4 (record { move = Look 0; told = None } ∷ es) u4 R few4 (record { owns = at4.owns; stays = at4.stays; walk = at4.walk; pending = at4.pending; refs = at4.refs; listed = at4.listed; out = at4.out; notes = λ m q. let i : m.number ≡ j = notes m (sym at4.noted ∙ q) in let f = at4.refs m.number in let o : one_if (j == m.number) ≡ 1 = (λ z. one_if (j == i z)) ∙ one_at j in omega (arith, f, o) }) (look_more es told).0)))
+    where
+      free_o : O.desk.lender ≡ None
+      free_o = on.stays.lender ∙ ready.free
+
+      O1 : Option Node → Own
+      O1 c = record O { inodes = put O.inodes d (Some (locked_held c)) }
+
+      O2 : Option Node → ℕ → Option Note → Own
+      O2 c j t = record (O1 c) { mine = record { refs = O.mine.refs; walk = Some (record { step = s; at = j; next = a; rest = r }); pending = Some j }; desk = record (O.desk) { noted = t } }
+
+      M : Option Node → ℕ → Option Note → Own
+      M c j t = record (O2 c j t) { desk = record (O.desk) { noted = t; opening = None; left = None; full = true }; mine = record { refs = O.mine.refs; walk = None; pending = None } }
+
+      stays_on : (c : Option Node) (j : ℕ) (t : Option Note) → Stays (O2 c j t) O0
+      stays_on c j t = record { row = on.stays.row; ninodes = on.stays.ninodes; fds = on.stays.fds; hand = on.stays.hand; joined = on.stays.joined; directory = on.stays.directory; lent = on.stays.lent; lender = on.stays.lender; opening = on.stays.opening; left = on.stays.left }
+
+  -- A walk through all its elements. The step acts at the last one, where that is found.
+  pub s-walk : (r : List Name) (d : ℕ) (e : Name) (ns : List ℕ) (n : ℕ) (es : List Step) (w : World) (O : Own) (found : ℕ → List ℕ → P Reply) → 2600 * length r + 2600 + 971 * length ns + K ≤ n → On h s d e r base ns O0 O w → W es → ((b : Tree) (q : ℕ × Name) → refusal_with b h s None (Some q) ≡ Some NoEntry)
+      → ((d : ℕ) (e : Name) (ns : List ℕ) (n : ℕ) (es : List Step) (w : World) (O : Own) → 2600 + 971 * length ns + K ≤ n → On h s d e [] base ns O0 O w → W es
+      → (u : World) (c : Option Node) (j : ℕ) → Inv u → own_of h u ≡ record O { inodes = put O.inodes d (Some (locked_held c)) } → live_directory c ≡ true → look (λ i. c) d e ≡ Some j → MoveFine h 1611 n B Q es u (Look 0) (walk_step d ns found lost (Some j)))
+      → Safe machine h B Q (walk s d (e ∷ r) ns found lost) n es w
+  s-walk [] d e ns n es w O found few on told missing act = s-look [] (Some (d, e)) d e ns n es w O found (omega (arith, few)) on told (λ b i. refl) (λ m m' t q. q) (λ b. missing b (d, e)) (act d e ns n es w O (omega (arith, few)) on told)
+  s-walk (a ∷ r) d e ns n es w O found few on told missing act =
+      s-walk-one (2600 * length r + 2600) a r d e ns n es w O (λ j ms. walk s j (a ∷ r) ms found lost) (omega (arith, few)) on told (λ j ms l fs u R few2 on2 told2. s-walk r j a ms l fs u R found (omega (arith, few2)) on2 told2 missing act)
 
   -- The last element's directory is seen to be one, and let go.
   s-see-parent : (d : ℕ) (e : Name) (ns : List ℕ) (n : ℕ) (es : List Step) (w : World) (O : Own) (found : List ℕ → P Reply) → 2600 + 971 * length ns + K ≤ n → On h s d e [] base ns O0 O w → W es
@@ -284,7 +391,7 @@ module _ (h : ℕ) (s : Action) (B : List Step → Type 0) (Q : Reply → List S
       seen : (u : World) (c : Option Node) → Inv u → own_of h u ≡ O1 c → (b : Bool) → is_directory_face (face_of c) ≡ b → Goal u c (is_directory_face (face_of c))
       seen u c inv own1 false isnt = subst (λ (b : Bool). Goal u c b) (sym isnt)
           (quit_good h 3 n d B Q es u (O1 c) (locked_held c) y (leave_directory d ns (lost NotThere)) own1 free_o lt inv on.walk on.pending refl (isd c) (no_directory c isnt) (quit_lost es told).1 (omega (arith, few)) (λ l2 u2 q2 own2.
-          s-lose NotThere d ns c l2 (record { move = Quit s; told = Some (fail s) } ∷ es) u2 O _ own2 (record { row = on.stays.row; ninodes = on.stays.ninodes; fds = on.stays.fds; hand = on.stays.hand; joined = on.stays.joined; directory = on.stays.directory; lent = on.stays.lent; lender = on.stays.lender; opening = on.stays.opening; left = on.stays.left }) on.stays (omega (arith, q2, few)) refl on.out on.listed refl refl on.refs (λ i t. refl) (quit_lost es told).0))
+          s-lose NotThere d ns c l2 (record { move = Quit s; told = Some (fail s) } ∷ es) u2 O _ own2 (stays_same (record (O1 c) { mine = record { refs = O.mine.refs; walk = None; pending = None } }) O O0 refl refl refl on.stays) on.stays (omega (arith, q2, few)) refl on.out on.listed refl refl on.refs (λ i t. refl) (quit_lost es told).0))
       seen u c inv own1 true holds = subst (λ (b : Bool). Goal u c b) (sym holds)
           (quiet (fair_same inv) refl (omega (arith, few)) (λ l q.
           (s-give {k = λ (_ : Unit {0}). found ns} own1 free_o lt (omega (arith, q, few)) (isd c) refl refl refl on.pending (λ l2 u2 q2 own2. arrives l2 u2 _ (omega (arith, q, q2)) (record {
@@ -295,6 +402,7 @@ module _ (h : ℕ) (s : Action) (B : List Step → Type 0) (Q : Reply → List S
             refs = on.refs;
             listed = listed_on O (record (O1 c) { inodes = put (O1 c).inodes d None }) base ns on.listed (λ i. back c i) (λ i t. refl) (λ i q. q);
             out = put_same (O1 c).inodes d None;
+            notes = on.notes;
           }))).wp))
         where
           back : (c : Option Node) (i : ℕ) → put (put O.inodes d (Some (locked_held c))) d None i ≡ O.inodes i

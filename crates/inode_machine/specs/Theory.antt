@@ -1,5 +1,5 @@
--- The calls on descriptors, as a theory: what every list of events makes of them.
-use Rattle.std.specs.Prelude.{◌≡◌, ◌≢◌, ◌⊎◌, ◌+◌, Option, Some, ℕ, Bool, true, false, ◌&&◌, nat_lt, ◌==◌, List, None}
+-- The calls that are shown right, as a theory: what every list of events makes of them.
+use Rattle.std.specs.Prelude.{◌≡◌, ◌≢◌, ◌⊎◌, ◌+◌, Some, ℕ, Bool, true, false, ◌&&◌, nat_lt, ◌==◌, List, None}
 use Rattle.plain_tree.specs.declared.answer.Reply.{Reply}
 use Rattle.plain_tree.specs.declared.call.Call.{Call}
 use Rattle.plain_tree.specs.declared.call.Call.TheVariants.{Open, Read, Write, Link, Unlink, Mkdir, Chdir, Dup, Fstat, Close, Inherit}
@@ -39,14 +39,15 @@ abbrev pub begin_if : Bool → World → Began Refusal World
 begin_if true w = Begins w
 begin_if false w = Refuses NotNow
 
-abbrev pub descriptor_calls : Theory
-descriptor_calls =
+-- the machine with those calls alone that are of this kind
+abbrev pub calls_that : (Call → Bool) → Theory
+calls_that kind =
     record {
       M = machine;
       Call = Call;
       Reply = Reply;
       Refusal = Refusal;
-      start = λ h call busy w. begin_if (nat_lt h hart_count && (on_descriptors call && is_nothing (w.desks h).lender)) w;
+      start = λ h call busy w. begin_if (nat_lt h hart_count && (kind call && is_nothing (w.desks h).lender)) w;
       busy = Busy;
       program = program;
       Written = Written;
@@ -54,8 +55,31 @@ descriptor_calls =
     }
 
 -- Every list of events, of any harts, from a world that holds and where every hart rests, is explained by one list of tree steps.
-abbrev pub DescriptorCallsAreExplained : Type 0
-DescriptorCallsAreExplained = (w : World) (events : List (Event Call Outside)) → Inv w → ((h : ℕ) → Idle h w) → AllHonest descriptor_calls events (fresh descriptor_calls w) → Explained descriptor_calls (stage_of w) (run descriptor_calls events (fresh descriptor_calls w))
+abbrev pub AreExplained : (Call → Bool) → Type 0
+AreExplained kind = (w : World) (events : List (Event Call Outside)) → Inv w → ((h : ℕ) → Idle h w) → AllHonest (calls_that kind) events (fresh (calls_that kind) w) → Explained (calls_that kind) (stage_of w) (run (calls_that kind) events (fresh (calls_that kind) w))
+
+abbrev pub descriptor_calls : Theory
+descriptor_calls = calls_that on_descriptors
+
+-- these, and those on paths that are shown right
+abbrev pub is_covered : Call → Bool
+is_covered (Open path flags) = false
+is_covered (Read fd buffer) = true
+is_covered (Write fd bytes) = true
+is_covered (Link old new) = false
+is_covered (Unlink path) = false
+is_covered (Mkdir path) = false
+is_covered (Chdir path) = true
+is_covered (Dup fd) = true
+is_covered (Fstat fd) = true
+is_covered (Close fd) = true
+is_covered (Inherit child) = false
+
+abbrev pub covered_calls : Theory
+covered_calls = calls_that is_covered
+
+abbrev pub CallsAreExplained : Type 0
+CallsAreExplained = AreExplained is_covered
 
 -- A world at rest on a tree without open files, orphans included.
 

@@ -2,15 +2,16 @@
 //! call is right whatever the other harts do. The functions do nothing: each carries a law.
 #![tactic(auto)]
 
-ghost use Rattle.inode_machine.specs.Theory.{DescriptorCallsAreExplained, WorldsRest, WorldsWithAFileRest};
+ghost use Rattle.inode_machine.specs.Theory.{CallsAreExplained, WorldsRest, WorldsWithAFileRest};
 
-/// For every list of events of any harts, the replies of dup, close, fstat, read and write, of any number of pieces, are
-/// those of one list of tree steps, each placed between its call's start and return, as long as no step found no room. At
-/// every moment each hart's next operation may be made, an operation waits only for a lock that another hart has, no call
-/// takes more steps than its bound, and a hart without a call has no lock, no transaction, and the references of its
-/// descriptors and current directory alone.
-pub fn descriptor_calls_are_explained()
-    ensures { DescriptorCallsAreExplained }
+/// For every list of events of any harts, the replies of dup, close, fstat, read, write and chdir, of pieces and paths of
+/// any length, are those of one list of moves on the tree, each made between its call's start and return, as long as no
+/// step found no room. A move of a call on descriptors is a tree step; those of a path are its walk's beginning, its
+/// lookups and the step that acts at the last one, as in the crate tree_moves. At every moment each hart's next operation
+/// may be made, an operation waits only for a lock that another hart has, no call takes more steps than its bound, and a
+/// hart without a call has no lock, no transaction, and the references of its descriptors and current directory alone.
+pub fn calls_are_explained()
+    ensures { CallsAreExplained }
 {}
 
 /// There are such beginnings: a well-formed tree without open files, orphans included, with every hart at rest.

@@ -1,0 +1,249 @@
+-- A change of directory: the tree's step, what is taken back of it, and the hart's own.
+use Rattle.std.proofs.Common.{◌≡◌, inl, inr, ℕ, ◌+◌, ◌<◌, Bool, true, false, ◌==◌, ◌||◌, List, [], Option, Some, None, refl, sym, ◌∙◌, ap, subst, arith}
+use Rattle.atomic_programs.specs.Prog.{Do, unmarked}
+use Rattle.atomic_programs.specs.Logic.{P, Fine, Safe, Wp}
+use Rattle.plain_tree.specs.declared.answer.Cause.TheVariants.{NotDirectory}
+use Rattle.plain_tree.specs.declared.node.Node.{Node}
+use Rattle.plain_tree.specs.declared.node.Kind.{Kind}
+use Rattle.plain_tree.specs.declared.node.Kind.TheVariants.{Directory, File, Device}
+use Rattle.plain_tree.specs.declared.step.Action.TheVariants.{Chdir}
+use Rattle.plain_tree.specs.declared.step.StepAnswer.TheVariants.{Done, Failed}
+use Rattle.plain_tree.specs.Widths.{hart_count}
+use Rattle.plain_tree.specs.Tree.{Name, Tree, put, is_directory, hold_names, settle}
+use Rattle.plain_tree.specs.Steps.{node_at, node_or, answer_with, effect_with, place_of, refusal_with, StepWith}
+use Rattle.plain_tree.specs.HartRow.{key_names, row_of}
+use Rattle.tree_laws.proofs.Maps.{either, eq_is, or_right, put_same, put_other}
+use Rattle.tree_laws.proofs.Opened.{well_chdir}
+use Rattle.tree_moves.specs.Moves.{Step}
+use Rattle.inode_machine.specs.World.{Desk, World}
+use Rattle.inode_machine.specs.World.Op.{Settle}
+use Rattle.inode_machine.specs.Inodes.{OfDirectory, sort_of, sort_of_kind}
+use Rattle.inode_machine.specs.Exec.{is_at, unlocked, with_directory, with_walk}
+use Rattle.inode_machine.specs.Marks.{acts, mended, unheld, unmoved, unopened}
+use Rattle.inode_machine.specs.Rules.{Own, Held, key_in, left_or, own_names, own_of, shop_of, Inv, Reached, machine}
+use Rattle.inode_machine.proofs.Frame.{shop_same, directory_named, Did, Fair, fair, fair_then, has_inode}
+use Rattle.inode_machine.proofs.Rules.{s-owned, quiet, locks_it, my_refs}
+use Rattle.inode_machine.proofs.Rows.{below_is}
+use Rattle.inode_machine.proofs.Counting.{gives}
+use Rattle.inode_machine.proofs.Walking.{walk_named_did, own_walk}
+use Rattle.inode_machine.proofs.Dups.{with_new, Flagging, desk_changes}
+use Rattle.inode_machine.proofs.Shops.{names_less}
+use Rattle.inode_machine.proofs.Looks.{KeepsHold, unheld_is}
+use Rattle.inode_machine.proofs.Rest.{directory_sort}
+use Rattle.inode_machine.proofs.Walks.{Mending}
+
+-- The tree's step.
+
+chdir_goes : (t : Tree) (h j : ℕ) (path : List ℕ) (par : Option (ℕ × Name)) → is_directory (node_at t j).kind ≡ true → refusal_with t h (Chdir path) (Some j) par ≡ None
+unfolding refusal_with
+chdir_goes t h j path par e = rw e refl
+
+chdir_refused : (t : Tree) (h j : ℕ) (path : List ℕ) (par : Option (ℕ × Name)) → is_directory (node_at t j).kind ≡ false → refusal_with t h (Chdir path) (Some j) par ≡ Some NotDirectory
+unfolding refusal_with
+chdir_refused t h j path par e = rw e refl
+
+pub chdir_made : (t : Tree) (h j new id : ℕ) (path : List ℕ) (par : Option (ℕ × Name)) → is_directory (node_at t j).kind ≡ true
+    → acts t h (Chdir path) (Some j) par new id ≡ record { all = record t { cwd = put t.cwd h j }; walk = None; found = Some j; opened = None; entered = None; left = Some (t.cwd h); told = Some (record { act = record { step = Chdir path; answer = Done }; new = new }) }
+unfolding effect_with answer_with
+chdir_made t h j new id path par e = rw (chdir_goes t h j path par e) refl
+
+pub chdir_step : (t : Tree) (h j id : ℕ) (path : List ℕ) (par : Option (ℕ × Name)) → h < hart_count → is_directory (node_at t j).kind ≡ true → StepWith t h (Chdir path) (Some j) par Done 0 id (settle (record t { cwd = put t.cwd h j }))
+unfolding effect_with answer_with place_of
+chdir_step t h j id path par lt e = (chdir_goes t h j path par e, refl, record { node = λ z. absurd cc; file = λ z. absurd cc }, refl, rw (below_is h hart_count lt) refl)
+
+pub chdir_refused_step : (t : Tree) (h j id : ℕ) (path : List ℕ) (par : Option (ℕ × Name)) → h < hart_count → is_directory (node_at t j).kind ≡ false → (refusal_with t h (Chdir path) (Some j) par ≡ Some NotDirectory) × StepWith t h (Chdir path) (Some j) par (Failed NotDirectory) 0 id t
+unfolding place_of
+chdir_refused_step t h j id path par lt e = (chdir_refused t h j path par e, (chdir_refused t h j path par e, refl, rw (below_is h hart_count lt) refl))
+
+pub kind_directory : (o : Option Node) → sort_of o ≡ Some OfDirectory → is_directory (node_or o).kind ≡ true
+kind_directory None e = absurd cc
+kind_directory (Some v) e = at v.kind e
+  where
+    at : (k : Kind) → Some (sort_of_kind k) ≡ Some OfDirectory → is_directory k ≡ true
+    at (Directory slots) q = refl
+    at (File bytes) q = absurd cc
+    at (Device major minor size) q = absurd cc
+
+-- The tree's current directory changes, where the one that the hart refers to is the one that it leaves.
+cwd_did : (h x k : ℕ) (v : World) → (v.desks h).lender ≡ None → h < hart_count → Inv v → (v.desks h).left ≡ Some k → sort_of (v.all.nodes x) ≡ Some OfDirectory → Reached v h x → Did h v (record v { all = record (v.all) { cwd = put v.all.cwd h x } })
+cwd_did h x k v free lt inv left sort reached = record {
+  hart = lt;
+  inodes = λ j. inl (record { lock = refl; keeper = refl; disk = refl; node = refl; alone = refl });
+  mine = λ g ne. refl;
+  rows = λ g ne. λ i. record { cwd = put_other v.all.cwd h x g ne i; hold = v.all.holds g; fds = v.all.fds g; keys = (row_of v.all g).keys };
+  size = refl;
+  ids = inv.ids;
+  shop = shop_same h (shop_of v) inv.tied;
+  free = free;
+  quiet = λ j is f. inv.quiet j h is f;
+  sort = λ j. inl refl;
+  sorts = inv.sorts;
+  noted = λ m is r s. inv.noted h m lt is r s;
+  directory = let s = inv.directory h lt in record { at = s.at ∙ (λ z. left_or (left z) (v.all.cwd h)) ∙ sym (λ z. left_or (left z) (put v.all.cwd h x h)); sort = s.sort };
+  well = well_chdir v.all h x inv.well (kind_directory (v.all.nodes x) sort);
+  counts = inv.counts;
+  alone = inv.alone;
+  kept = λ j is. (inv.kept j h is).1;
+  held = λ j is. inv.held j h is;
+  named = λ j is. named j ((λ z. (sym (put_same v.all.cwd h x) z == j) || (hold_names (v.all.holds h) j || (key_names (key_in (row_of v.all h).keys (v.desks h).opening) j || is_at (v.desks h).left j))) ∙ is);
+  pending = λ j is. inv.pending h j lt is;
+  walks = λ y is. inv.walks h y lt is;
+}
+  where
+    named : (j : ℕ) → ((x == j) || (hold_names (v.all.holds h) j || (key_names (key_in (row_of v.all h).keys (v.desks h).opening) j || is_at (v.desks h).left j))) ≡ true → Reached v h j
+    named j is = elim (either (x == j)) [
+      | inl y ↦ subst (λ (z : ℕ). Reached v h z) (eq_is x j y) reached
+      | inr y ↦ inv.named h j lt (or_right (v.all.cwd h == j) (hold_names (v.all.holds h) j || (key_names (key_in (row_of v.all h).keys (v.desks h).opening) j || is_at (v.desks h).left j)) ((λ z. sym y z || (hold_names (v.all.holds h) j || (key_names (key_in (row_of v.all h).keys (v.desks h).opening) j || is_at (v.desks h).left j))) ∙ is))
+    ]
+
+own_cwd : (h x : ℕ) (v : World) (O : Own) → own_of h v ≡ O → own_of h (record v { all = record (v.all) { cwd = put v.all.cwd h x } }) ≡ record O { row = record (O.row) { cwd = x } }
+own_cwd h x v O ov = λ z. record {
+  inodes = ap (λ (o : Own). o.inodes) ov z;
+  mine = ap (λ (o : Own). o.mine) ov z;
+  row = record { cwd = put_same v.all.cwd h x z; hold = ap (λ (o : Own). o.row.hold) ov z; fds = ap (λ (o : Own). o.row.fds) ov z; keys = ap (λ (o : Own). o.row.keys) ov z };
+  ninodes = ap (λ (o : Own). o.ninodes) ov z;
+  desk = ap (λ (o : Own). o.desk) ov z;
+}
+
+-- without a directory that it leaves a hart names less
+left_more : (a b c d : Bool) → (a || (b || (c || false))) ≡ true → (a || (b || (c || d))) ≡ true
+left_more true b c d e = refl
+left_more false true c d e = refl
+left_more false false true d e = refl
+left_more false false false d e = absurd cc
+
+-- The hart leaves its current directory for a directory that it has reached.
+
+abbrev pub left_world : ℕ → ℕ → World → World
+left_world h j v = record v { desks = put v.desks h (record (v.desks h) { left = Some (v.all.cwd h) }); all = record (v.all) { cwd = put v.all.cwd h j } }
+
+pub record Leaving (h j : ℕ) (v : World) (O : Own) : Type 0 where
+  pub fair : Fair h v (left_world h j v)
+  pub owned : own_of h (left_world h j v) ≡ record O { row = record (O.row) { cwd = j }; desk = record (O.desk) { left = Some (O.row.cwd) } }
+
+pub leaving : (h j : ℕ) (v : World) (O : Own) → own_of h v ≡ O → O.desk.lender ≡ None → h < hart_count → Inv v → O.desk.left ≡ None → sort_of (v.all.nodes j) ≡ Some OfDirectory → Reached v h j → Leaving h j v O
+leaving h j v O ov free lt inv none sort reached = record {
+  fair = fair_then f.fair (fair f.fair.inv (cwd_did h j (v.all.cwd h) u (ap (λ (o : Own). o.desk.lender) f.owned ∙ free) lt f.fair.inv (ap (λ (z : Desk). z.left) (put_same v.desks h new)) sort reached));
+  owned = own_cwd h j u (record O { desk = record (O.desk) { left = Some (O.row.cwd) } }) f.owned;
+}
+  where
+    new : Desk
+    new = record (v.desks h) { left = Some (v.all.cwd h) }
+
+    u : World
+    u = with_new v h new v.clean
+
+    was : (v.desks h).left ≡ None
+    was = ap (λ (o : Own). o.desk.left) ov ∙ none
+
+    f : Flagging h v O new (record (O.desk) { left = Some (O.row.cwd) }) v.clean
+    f = desk_changes h v O new (record (O.desk) { left = Some (O.row.cwd) }) v.clean ov free lt inv (ap (λ (o : Own). record (o.desk) { left = Some (o.row.cwd) }) ov) (record { fds = refl; hand = refl; lent = refl; opening = refl })
+        (λ i q. names i q)
+        (let s = inv.directory h lt in record { at = s.at ∙ (λ z. left_or (was z) (v.all.cwd h)); sort = s.sort })
+        (ap (λ (o : Own). o.desk.lender) ov ∙ free) (λ q i is. inv.quiet i h is q) (λ m q r s. inv.noted h m lt q r s) (λ q. inv.tied.spoiled h q) (λ q. q) (λ q. q)
+      where
+        names : (i : ℕ) → own_names (row_of v.all h) new i ≡ true → own_names (row_of v.all h) (v.desks h) i ≡ true
+        names i q = elim (either (v.all.cwd h == i)) [
+          | inl y ↦ (λ z. y z || (hold_names (v.all.holds h) i || (key_names (key_in (row_of v.all h).keys (v.desks h).opening) i || is_at (v.desks h).left i)))
+          | inr y ↦ (λ z. (v.all.cwd h == i) || (hold_names (v.all.holds h) i || (key_names (key_in (row_of v.all h).keys (v.desks h).opening) i || is_at (was z) i)))
+              ∙ sym (λ z. (v.all.cwd h == i) || (hold_names (v.all.holds h) i || (key_names (key_in (row_of v.all h).keys (v.desks h).opening) i || y z))) ∙ q
+        ]
+
+-- Where the call finds no room after that, the hart is in its old directory again. k: that directory.
+pub mends_left : (h k : ℕ) (v : World) (O : Own) → own_of h v ≡ O → O.desk.lender ≡ None → h < hart_count → Inv v → O.desk.opening ≡ None → O.desk.left ≡ Some k → KeepsHold O.row.hold → ((i : ℕ) → own_names (record (O.row) { cwd = k }) (record (O.desk) { left = None }) i ≡ true → 0 < O.mine.refs i)
+    → Mending h v (mended h v) (record O { row = record (O.row) { cwd = k }; desk = record (O.desk) { opening = None; left = None; full = true }; mine = record { refs = O.mine.refs; walk = None; pending = None } })
+mends_left h k v O ov free lt inv opening left hold names = subst (λ (z : World). Mending h v z M) (sym is) (record {
+  fair = fair_then back (fair_then f.fair (fair f.fair.inv (walk_named_did h None None u2 (ap (λ (o : Own). o.desk.lender) f.owned ∙ free) lt f.fair.inv named (λ m q e. absurd cc) (λ z q. absurd cc) (λ i q. absurd cc))));
+  bad = refl;
+  owned = own_walk h None None u2 O2 f.owned;
+})
+  where
+    M : Own
+    M = record O { row = record (O.row) { cwd = k }; desk = record (O.desk) { opening = None; left = None; full = true }; mine = record { refs = O.mine.refs; walk = None; pending = None } }
+
+    left_v : (v.desks h).left ≡ Some k
+    left_v = ap (λ (o : Own). o.desk.left) ov ∙ left
+
+    stands : (v.desks h).directory ≡ k
+    stands = (inv.directory h lt).at ∙ (λ z. left_or (left_v z) (v.all.cwd h))
+
+    u1 : World
+    u1 = record v { all = record (v.all) { cwd = put v.all.cwd h k } }
+
+    O1 : Own
+    O1 = record O { row = record (O.row) { cwd = k } }
+
+    sort : sort_of (v.all.nodes k) ≡ Some OfDirectory
+    sort = ap (λ (z : ℕ). sort_of (v.all.nodes z)) (sym stands) ∙ (inv.directory h lt).sort
+
+    reached : Reached v h k
+    reached = subst (λ (z : ℕ). Reached v h z) stands (inv.named h (v.desks h).directory lt (directory_named (row_of v.all h) (v.desks h) (inv.directory h lt).at))
+
+    back : Fair h v u1
+    back = fair inv (cwd_did h k k v (ap (λ (o : Own). o.desk.lender) ov ∙ free) lt inv left_v sort reached)
+
+    ov1 : own_of h u1 ≡ O1
+    ov1 = own_cwd h k v O ov
+
+    new : Desk
+    new = record (v.desks h) { opening = None; left = None; full = true }
+
+    O2 : Own
+    O2 = record O1 { desk = record (O.desk) { opening = None; left = None; full = true } }
+
+    u2 : World
+    u2 = with_new u1 h new false
+
+    f : Flagging h u1 O1 new (record (O.desk) { opening = None; left = None; full = true }) false
+    f = desk_changes h u1 O1 new (record (O.desk) { opening = None; left = None; full = true }) false ov1 free lt back.inv (ap (λ (o : Own). record (o.desk) { opening = None; left = None; full = true }) ov)
+        (record { fds = refl; hand = refl; lent = refl; opening = sym (ap (λ (o : Own). o.desk.opening) ov ∙ opening) })
+        (λ i q. fewer i q)
+        (record { at = stands ∙ sym (put_same v.all.cwd h k); sort = (inv.directory h lt).sort })
+        (ap (λ (o : Own). o.desk.lender) ov ∙ free) (λ q i is. inv.quiet i h is q) (λ m q r s. inv.noted h m lt q r s) (λ q. refl) (λ q. refl) (λ q. absurd cc)
+      where
+        fewer : (i : ℕ) → own_names (row_of u1.all h) new i ≡ true → own_names (row_of u1.all h) (v.desks h) i ≡ true
+        fewer i q = elim (either (put v.all.cwd h k h == i)) [
+          | inl y ↦ (λ z. y z || (hold_names (v.all.holds h) i || (key_names (key_in (row_of v.all h).keys (v.desks h).opening) i || is_at (v.desks h).left i)))
+          | inr y ↦
+              let at : (k == i) ≡ false = (λ z. sym (put_same v.all.cwd h k) z == i) ∙ y in
+              (λ z. (put v.all.cwd h k h == i) || (hold_names (v.all.holds h) i || (key_names (key_in (row_of v.all h).keys ((ap (λ (o : Own). o.desk.opening) ov ∙ opening) z)) i || is_at (left_v z) i)))
+              ∙ (λ z. (put v.all.cwd h k h == i) || (hold_names (v.all.holds h) i || (key_names (key_in (row_of v.all h).keys None) i || at z))) ∙ q
+        ]
+
+    -- what it names has its own references
+    named : (i : ℕ) → own_names (row_of u2.all h) (u2.desks h) i ≡ true → 0 < (v.harts h).refs i
+    named i q =
+        let r = my_refs h v O i ov in
+        let d : u2.desks h ≡ record (O.desk) { opening = None; left = None; full = true } = ap (λ (o : Own). o.desk) f.owned in
+        let a = names i (sym (names_less (row_of u2.all h) (record (O.row) { cwd = k }) (u2.desks h) (record (O.desk) { left = None }) i (put_same v.all.cwd h k) (ap (λ (o : Own). o.row.hold) ov) (ap (λ (z : Desk). z.opening) d) opening (ap (λ (z : Desk). z.left) d)) ∙ q) in
+        omega (arith, r, a)
+
+    is : mended h v ≡ record u2 { harts = with_walk v.harts h None None }
+    is = λ z. record u2 { harts = with_walk v.harts h None None; all = tree z }
+      where
+        tree : unheld (unmoved (unopened v.all h (v.desks h).opening) h (v.desks h).left) h (v.all.holds h) ≡ record (v.all) { cwd = put v.all.cwd h k }
+        tree = (λ z. unheld (unmoved (unopened v.all h ((ap (λ (o : Own). o.desk.opening) ov ∙ opening) z)) h (left_v z)) h (v.all.holds h)) ∙ unheld_is (record (v.all) { cwd = put v.all.cwd h k }) h (v.all.holds h) (subst KeepsHold (sym (ap (λ (o : Own). o.row.hold) ov)) hold)
+
+-- The lock is given up, and the tree's current directory is the hart's.
+pub s-settle : {A : Type 0} {h i : ℕ} {x : Held} {k : ℕ → P machine A} {B : List Step → Type 0} {Q : A → List Step → World → Type 0} {n : ℕ} {es : List Step} {w : World} {O : Own}
+    → own_of h w ≡ O → O.desk.lender ≡ None → h < hart_count → 0 < n → O.inodes i ≡ Some x → x.locked ≡ true → x.alone ≡ false → x.disk ≡ x.node → O.mine.pending ≡ None → O.row.cwd ≡ i
+    → ((l : ℕ) (u : World) → l + 1 ≡ n → own_of h u ≡ record O { inodes = put O.inodes i None; desk = record (O.desk) { directory = i; left = None } } → Safe machine h B Q (k O.desk.directory) l es u)
+    → Safe machine h B Q (Do (Settle i) unmarked k) n es w
+s-settle {A} {h} {i} {x} {k} {B} {Q} {n} {es} {w} {O} owns free lt pos isi has shared whole none stands rest = s-owned owns free pos (λ v inv ov. (
+  locks_it h i v O x ov isi has,
+  (λ _ _.
+      let a : v.alone i ≡ false = ap (λ (y : Held). y.alone) (has_inode h i v O x ov isi).1 ∙ shared in
+      let f = settles v inv ov in
+      let g = gives h i x (record O { desk = record (O.desk) { directory = i; left = None } }) (with_new v h (record (v.desks h) { directory = i; left = None }) v.clean) free lt f.fair.inv f.owned isi shared whole none in
+      subst (λ (b : Bool). Fine machine h [] 0 n B es v (with_directory (unlocked i v b) h i) (λ l. Wp machine h B Q (k (v.desks h).directory) l es (with_directory (unlocked i v b) h i))) (sym a)
+      (quiet (fair_then f.fair g.fair) refl pos (λ l q. subst (λ (z : ℕ). Wp machine h B Q (k z) l es (with_directory (unlocked i v false) h i)) (sym (ap (λ (o : Own). o.desk.directory) ov)) (rest l (with_directory (unlocked i v false) h i) q g.owned).wp))),
+))
+  where
+    settles : (v : World) → Inv v → own_of h v ≡ O → Flagging h v O (record (v.desks h) { directory = i; left = None }) (record (O.desk) { directory = i; left = None }) v.clean
+    settles v inv ov = desk_changes h v O (record (v.desks h) { directory = i; left = None }) (record (O.desk) { directory = i; left = None }) v.clean ov free lt inv (ap (λ (o : Own). record (o.desk) { directory = i; left = None }) ov) (record { fds = refl; hand = refl; lent = refl; opening = refl })
+        (λ j q. fewer j q)
+        (let c : v.all.cwd h ≡ i = ap (λ (o : Own). o.row.cwd) ov ∙ stands in record { at = sym c; sort = ap (λ (z : ℕ). sort_of (v.all.nodes z)) (sym c) ∙ directory_sort v.all h inv.well lt })
+        (ap (λ (o : Own). o.desk.lender) ov ∙ free) (λ q j is. inv.quiet j h is q) (λ m q r s. inv.noted h m lt q r s) (λ q. inv.tied.spoiled h q) (λ q. q) (λ q. q)
+      where
+        fewer : (j : ℕ) → own_names (row_of v.all h) (record (v.desks h) { left = None }) j ≡ true → own_names (row_of v.all h) (v.desks h) j ≡ true
+        fewer j q = left_more (v.all.cwd h == j) (hold_names (v.all.holds h) j) (key_names (key_in (row_of v.all h).keys (v.desks h).opening) j) (is_at (v.desks h).left j) q

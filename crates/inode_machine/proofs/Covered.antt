@@ -1,0 +1,24 @@
+-- The calls that are shown right, together.
+use Rattle.std.proofs.Common.{refl}
+use Rattle.atomic_programs.proofs.Explains.{explains}
+use Rattle.plain_tree.specs.declared.call.Call.TheVariants as calls
+use Rattle.inode_machine.specs.Theory.{covered_calls, is_covered, CallsAreExplained}
+use Rattle.inode_machine.proofs.Calls.{IsRight, descriptors_right, lawful_that, right}
+use Rattle.inode_machine.proofs.ChdirCalls.{chdir_begins, chdir_ok}
+
+covered_right : IsRight is_covered is_covered
+covered_right h (calls.Open path flags) busy w u lt here out idle free is = absurd cc
+covered_right h (calls.Read fd buffer) busy w u lt here out idle free is = descriptors_right is_covered h (calls.Read fd buffer) busy w u lt refl out idle free is
+covered_right h (calls.Write fd bytes) busy w u lt here out idle free is = descriptors_right is_covered h (calls.Write fd bytes) busy w u lt refl out idle free is
+covered_right h (calls.Link old new) busy w u lt here out idle free is = absurd cc
+covered_right h (calls.Unlink path) busy w u lt here out idle free is = absurd cc
+covered_right h (calls.Mkdir path) busy w u lt here out idle free is = absurd cc
+covered_right h (calls.Chdir path) busy w u lt here out idle free is = right is_covered h (calls.Chdir path) busy w u idle free is (chdir_begins path) (λ holds i. chdir_ok h path u out lt holds i)
+covered_right h (calls.Dup fd) busy w u lt here out idle free is = descriptors_right is_covered h (calls.Dup fd) busy w u lt refl out idle free is
+covered_right h (calls.Fstat fd) busy w u lt here out idle free is = descriptors_right is_covered h (calls.Fstat fd) busy w u lt refl out idle free is
+covered_right h (calls.Close fd) busy w u lt here out idle free is = descriptors_right is_covered h (calls.Close fd) busy w u lt refl out idle free is
+covered_right h (calls.Inherit child) busy w u lt here out idle free is = absurd cc
+
+-- Every interleaving of these calls is explained by one list of steps.
+pub explained : CallsAreExplained
+explained w events inv idle honest = explains covered_calls (lawful_that is_covered covered_right) w events inv idle honest

@@ -1,6 +1,0 @@
--- Each call is right alone, so every run is explained.
-use Rattle.inode_machine.proofs.Calls.{explained}
-use Rattle.inode_machine.proofs.descriptor_calls_are_explained.Goals as goal
-
-pub returns : goal.returns
-returns c = explained
