@@ -6,7 +6,7 @@ ghost use Rattle.atomic_programs.specs.Machines.{Still, Left as LeftOf};
 ghost use Rattle.fs_machine.specs.LogPart.{Outside};
 ghost use Rattle.fs_machine.specs.Steps.{State, state_of, exec, Put};
 ghost use Rattle.fs_machine.specs.Premises.{May};
-ghost use Rattle.fs_machine.specs.Machines.{MayNext, Moves, Answers};
+ghost use Rattle.fs_machine.specs.Machines.{MayNext, Moves, Answers, CallsOnce};
 ghost use Rattle.fs_machine.specs.Tied.{IsOwn, LeavesTied, bytes_of};
 ghost use Rattle.fs_machine.specs.Stays.{LeavesApart, LeavesAllBut};
 ghost use Rattle.fs_machine.specs.Fetching.{IsFetched};
@@ -59,6 +59,7 @@ impl FreeBlock {
         ensures kept { txn.new ≡ txn.old }
         ensures fits { LeftOf (FreeFits hart (state_of D.contents D.failures core.new)) (λ _. Unit {0}) result }
         ensures others { LeavesTied hart (state_of D.contents D.failures core.old) (state_of D.contents D.failures core.new) }
+        ensures called { CallsOnce D.Called core.old.log.cache.device core.new.log.cache.device }
         ensures tables { core.new.tables ≡ core.old.tables }
         ensures rest { LeavesApart FreeApart (λ _ _. Unit {0}) (IsOwn hart) self result (state_of D.contents D.failures core.old) (state_of D.contents D.failures core.new) }
     {
@@ -94,6 +95,7 @@ fn unmark<D: Device>(b: u32, guard: Guard<Buffer>, hart: u8, txn: &mut Txn, core
         ≡ ItRan tt (state_of D.contents D.failures core.new) }
     ensures kept { txn.new ≡ txn.old }
     ensures others { LeavesTied hart (state_of D.contents D.failures core.old) (state_of D.contents D.failures core.new) }
+    ensures device { core.new.log.cache.device ≡ core.old.log.cache.device }
     ensures tables { core.new.tables ≡ core.old.tables }
     ensures rest { LeavesAllBut guard.value.block (IsOwn hart) (state_of D.contents D.failures core.old) (state_of D.contents D.failures core.new) }
 {

@@ -1,5 +1,5 @@
 -- Machines over the operations: what a step of one says.
-use Rattle.std.specs.Prelude.{◌≡◌, ℕ}
+use Rattle.std.specs.Prelude.{◌≡◌, ◌⊎◌, ℕ}
 use Rattle.atomic_programs.specs.Prog.{Prog, advance, asks, OfNext}
 use Rattle.atomic_programs.specs.Machines.{moved_to, answered}
 use Rattle.atomic_programs.specs.declared.machines.Stepped.{Stepped}
@@ -28,6 +28,10 @@ Moves program value hart self result old new = advance kind_of (exec hart (said_
 -- and what the device answered to it is possible
 abbrev pub Answers : {M R A : Type 0} → (M → P A) → ℕ → M → Stepped M R Kind → State → State → Type 0
 Answers program hart self result old new = OfNext (λ op s. Honest hart op s (said_in result new)) (asks (program self)) old
+
+-- at most one call of the device was made
+abbrev pub CallsOnce : {D : Type 0} → (D → D → Type 0) → D → D → Type 0
+CallsOnce Called old new = (new ≡ old) ⊎ Called old new
 
 -- a nested machine's step, as one of the machine that it stands in: by its states there, and where it is done
 abbrev pub within : {M R N S K : Type 0} → (M → N) → (R → N) → Stepped M R K → Stepped N S K

@@ -2,7 +2,7 @@
 ghost use Rattle.std.specs.Prelude.{◌≡◌, ◌≢◌};
 ghost use Rattle.atomic_programs.specs.Machines.{Still, Left as LeftOf};
 ghost use Rattle.fs_machine.specs.Steps.{state_of};
-ghost use Rattle.fs_machine.specs.Machines.{MayNext, Moves, Answers};
+ghost use Rattle.fs_machine.specs.Machines.{MayNext, Moves, Answers, CallsOnce};
 ghost use Rattle.fs_machine.specs.Tied.{IsOwn, LeavesTied, bytes_of};
 ghost use Rattle.fs_machine.specs.Stays.{LeavesApart};
 ghost use Rattle.fs_machine.specs.Fetching.{fetch_of, block_of, FetchFits, FetchApart, IsFetched};
@@ -36,6 +36,7 @@ impl Fetch {
         ensures block { LeftOf (λ m. block_of m ≡ block_of self) (λ guard. guard.value.block ≡ block_of self) result }
         ensures fits { LeftOf (FetchFits hart (state_of D.contents D.failures core.new)) (λ guard. IsFetched hart guard.value.block guard (state_of D.contents D.failures core.new)) result }
         ensures others { LeavesTied hart (state_of D.contents D.failures core.old) (state_of D.contents D.failures core.new) }
+        ensures called { CallsOnce D.Called core.old.log.cache.device core.new.log.cache.device }
         ensures tables { core.new.tables ≡ core.old.tables }
         ensures rest { LeavesApart FetchApart (λ b guard. b ≢ guard.value.block) (IsOwn hart) self result (state_of D.contents D.failures core.old) (state_of D.contents D.failures core.new) }
     {

@@ -2,7 +2,7 @@
 ghost use Rattle.std.specs.Prelude.{◌≡◌, ◌<◌};
 ghost use Rattle.atomic_programs.specs.Machines.{Still, Left as LeftOf};
 ghost use Rattle.fs_machine.specs.Steps.{state_of};
-ghost use Rattle.fs_machine.specs.Machines.{MayNext, Moves, Answers};
+ghost use Rattle.fs_machine.specs.Machines.{MayNext, Moves, Answers, CallsOnce};
 ghost use Rattle.fs_machine.specs.Tied.{IsOwn, LeavesTied};
 ghost use Rattle.fs_machine.specs.Stays.{LeavesAll};
 ghost use Rattle.fs_machine.specs.Fetching.{finish_of, FinishFits};
@@ -34,6 +34,7 @@ impl Finish {
         ensures still { Still finish_of result self core.old core.new }
         ensures fits { LeftOf (FinishFits hart) (λ _. Unit {0}) result }
         ensures others { LeavesTied hart (state_of D.contents D.failures core.old) (state_of D.contents D.failures core.new) }
+        ensures called { CallsOnce D.Called core.old.log.cache.device core.new.log.cache.device }
         ensures tables { core.new.tables ≡ core.old.tables }
         ensures rest { LeavesAll (IsOwn hart) (state_of D.contents D.failures core.old) (state_of D.contents D.failures core.new) }
     {

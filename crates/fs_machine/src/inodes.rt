@@ -64,6 +64,7 @@ impl<D: Device> Core<D> {
         ensures ran { (x : Outside) → exec hart x (ClaimOp guard.value.block candidates.now) (state_of D.contents D.failures self.old) ≡ claimed_as result (state_of D.contents D.failures self.new) }
         ensures kept { IfKept result (λ kept. (kept ≡ guard) × IsOwn hart guard.value.block kept (state_of D.contents D.failures self.new)) }
         ensures others { LeavesTied hart (state_of D.contents D.failures self.old) (state_of D.contents D.failures self.new) }
+        ensures device { self.new.log.cache.device ≡ self.old.log.cache.device }
         ensures rest { LeavesAll (IsOwnInode hart) (state_of D.contents D.failures self.old) (state_of D.contents D.failures self.new) }
     {
         match self.tables.first_free(candidates) {

@@ -41,6 +41,7 @@ impl<D: Device> Core<D> {
         ensures still { IfNone result (self.new ≡ self.old) }
         ensures txn { IfSome result (λ txn. txn ≡ hart) }
         ensures others { LeavesTied hart (state_of D.contents D.failures self.old) (state_of D.contents D.failures self.new) }
+        ensures device { self.new.log.cache.device ≡ self.old.log.cache.device }
         ensures tables { self.new.tables ≡ self.old.tables }
         ensures rest { LeavesAll (IsOwn hart) (state_of D.contents D.failures self.old) (state_of D.contents D.failures self.new) }
     {
@@ -55,6 +56,7 @@ impl<D: Device> Core<D> {
         ensures still { IfJoinWaits result (self.new ≡ self.old) }
         ensures txn { IfJoined result (λ txn. txn ≡ hart) }
         ensures others { LeavesTied hart (state_of D.contents D.failures self.old) (state_of D.contents D.failures self.new) }
+        ensures device { self.new.log.cache.device ≡ self.old.log.cache.device }
         ensures tables { self.new.tables ≡ self.old.tables }
         ensures rest { LeavesAll (IsOwn hart) (state_of D.contents D.failures self.old) (state_of D.contents D.failures self.new) }
     {
@@ -74,6 +76,7 @@ impl<D: Device> Core<D> {
         requires may { May hart LeaveOp (state_of D.contents D.failures self.old) }
         ensures ran { (x : Outside) → exec hart x LeaveOp (state_of D.contents D.failures self.old) ≡ ItRan result (state_of D.contents D.failures self.new) }
         ensures others { LeavesTied hart (state_of D.contents D.failures self.old) (state_of D.contents D.failures self.new) }
+        ensures device { self.new.log.cache.device ≡ self.old.log.cache.device }
         ensures tables { self.new.tables ≡ self.old.tables }
         ensures rest { LeavesAll (IsOwn hart) (state_of D.contents D.failures self.old) (state_of D.contents D.failures self.new) }
     {
@@ -88,6 +91,7 @@ impl<D: Device> Core<D> {
         ensures still { IfGotNone result (self.new ≡ self.old) }
         ensures own { IfHeld result (λ guard. IsOwn hart b guard (state_of D.contents D.failures self.new)) }
         ensures others { LeavesTied hart (state_of D.contents D.failures self.old) (state_of D.contents D.failures self.new) }
+        ensures device { self.new.log.cache.device ≡ self.old.log.cache.device }
         ensures tables { self.new.tables ≡ self.old.tables }
         ensures rest { LeavesAll (IsOwn hart) (state_of D.contents D.failures self.old) (state_of D.contents D.failures self.new) }
         ensures apart { HasNone b (IsOwn hart) (state_of D.contents D.failures self.old) }
@@ -107,6 +111,7 @@ impl<D: Device> Core<D> {
         ensures valid { IfReadOk result (IsSome guard.new.value.content) (guard.new ≡ guard.old) }
         ensures honest { Honest hart (Read guard.old.value.block) (state_of D.contents D.failures self.old) (said_read result (D.contents self.new.log.cache.device)) }
         ensures others { LeavesTied hart (state_of D.contents D.failures self.old) (state_of D.contents D.failures self.new) }
+        ensures called { D.Called self.old.log.cache.device self.new.log.cache.device }
         ensures tables { self.new.tables ≡ self.old.tables }
         ensures rest { LeavesAllBut guard.old.value.block (IsOwn hart) (state_of D.contents D.failures self.old) (state_of D.contents D.failures self.new) }
     {
@@ -120,6 +125,7 @@ impl<D: Device> Core<D> {
         requires may { May hart (Put guard.value.block None) (state_of D.contents D.failures self.old) }
         ensures ran { (x : Outside) → exec hart x (Put guard.value.block None) (state_of D.contents D.failures self.old) ≡ ItRan tt (state_of D.contents D.failures self.new) }
         ensures others { LeavesTied hart (state_of D.contents D.failures self.old) (state_of D.contents D.failures self.new) }
+        ensures device { self.new.log.cache.device ≡ self.old.log.cache.device }
         ensures tables { self.new.tables ≡ self.old.tables }
         ensures rest { LeavesAllBut guard.value.block (IsOwn hart) (state_of D.contents D.failures self.old) (state_of D.contents D.failures self.new) }
     {
@@ -137,6 +143,7 @@ impl<D: Device> Core<D> {
         ensures ran { (x : Outside) → exec hart x (Put guard.value.block (Some (bytes_of guard))) (state_of D.contents D.failures self.old) ≡ ItRan tt (state_of D.contents D.failures self.new) }
         ensures kept { txn.new ≡ txn.old }
         ensures others { LeavesTied hart (state_of D.contents D.failures self.old) (state_of D.contents D.failures self.new) }
+        ensures device { self.new.log.cache.device ≡ self.old.log.cache.device }
         ensures tables { self.new.tables ≡ self.old.tables }
         ensures rest { LeavesAllBut guard.value.block (IsOwn hart) (state_of D.contents D.failures self.old) (state_of D.contents D.failures self.new) }
     {
@@ -152,6 +159,7 @@ impl<D: Device> Core<D> {
         ensures still { IfWaits result (self.new ≡ self.old) }
         ensures honest { Honest hart Commit (state_of D.contents D.failures self.old) (said_written result (D.contents self.new.log.cache.device)) }
         ensures others { LeavesTied hart (state_of D.contents D.failures self.old) (state_of D.contents D.failures self.new) }
+        ensures called { (result ≢ Progress.Waits) → D.Called self.old.log.cache.device self.new.log.cache.device }
         ensures tables { self.new.tables ≡ self.old.tables }
         ensures rest { LeavesAll (IsOwn hart) (state_of D.contents D.failures self.old) (state_of D.contents D.failures self.new) }
     {

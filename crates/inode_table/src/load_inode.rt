@@ -2,7 +2,7 @@
 ghost use Rattle.std.specs.Prelude.{◌≡◌, ◌<◌, ◌^◌, ℕ};
 ghost use Rattle.atomic_programs.specs.Machines.{Still, Left as LeftOf};
 ghost use Rattle.fs_machine.specs.Steps.{State, state_of};
-ghost use Rattle.fs_machine.specs.Machines.{MayNext, Moves, Answers};
+ghost use Rattle.fs_machine.specs.Machines.{MayNext, Moves, Answers, CallsOnce};
 ghost use Rattle.fs_machine.specs.Tied.{LeavesTied};
 ghost use Rattle.inode_table.specs.Programs.{inode_block, load};
 ghost use Rattle.inode_table.specs.Machines.{load_of, LoadFits, in_loading};
@@ -44,6 +44,7 @@ impl LoadInode {
         ensures still { Still load_of result self core.old core.new }
         ensures fits { LeftOf (LoadFits hart (state_of D.contents D.failures core.new)) (λ _. Unit {0}) result }
         ensures others { LeavesTied hart (state_of D.contents D.failures core.old) (state_of D.contents D.failures core.new) }
+        ensures called { CallsOnce D.Called core.old.log.cache.device core.new.log.cache.device }
         ensures tables { core.new.tables ≡ core.old.tables }
     {
         match self {

@@ -1,4 +1,4 @@
-use Rattle.std.proofs.Common.{◌≢◌, ℕ, subst}
+use Rattle.std.proofs.Common.{◌≢◌, subst}
 use Rattle.fs_machine.specs.Fetching.{FetchApart}
 use Rattle.fs_machine.specs.Steps.{state_of}
 use Rattle.fs_machine.specs.Tied.{IsOwn}
