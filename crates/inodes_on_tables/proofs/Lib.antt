@@ -1,0 +1,9 @@
+pub mod Places
+pub mod Counts
+pub mod Locks
+pub mod References
+pub mod Drops
+pub mod Desks
+pub mod Slots
+pub mod Named
+pub mod Shuts
