@@ -30,3 +30,7 @@ pub mod Chdirs
 pub mod Endings
 pub mod ChdirCalls
 pub mod Covered
+pub mod Holdings
+pub mod Paths
+pub mod Namings
+pub mod Unlinks

@@ -1,0 +1,118 @@
+-- Calls that follow a path to its last name: what their walks write, and what is seen at the name's directory.
+use Rattle.std.proofs.Common.{◌≡◌, ℕ, ◌+◌, ◌<◌, Bool, true, false, List, [], ◌∷◌, ◌++◌, Option, Some, None, refl, sym, ◌∙◌, subst, arith, if◌then◌else◌}
+use Rattle.atomic_programs.specs.Prog.{Do}
+use Rattle.atomic_programs.specs.Logic.{P, own, onto, oldest_first, Fine, Safe, Wp}
+use Rattle.atomic_programs.specs.Calls.{Begun}
+use Rattle.atomic_programs.proofs.Beginnings.{onto_is}
+use Rattle.plain_tree.specs.declared.answer.Cause.{Cause}
+use Rattle.plain_tree.specs.declared.answer.Cause.TheVariants.{NoEntry}
+use Rattle.plain_tree.specs.declared.answer.Reply.{Reply}
+use Rattle.plain_tree.specs.declared.call.Call.{Call}
+use Rattle.plain_tree.specs.declared.node.Node.{Node}
+use Rattle.plain_tree.specs.declared.step.Action.{Action}
+use Rattle.plain_tree.specs.declared.step.Action.TheVariants.{Inherit}
+use Rattle.plain_tree.specs.declared.step.StepAnswer.{StepAnswer}
+use Rattle.plain_tree.specs.declared.step.StepAnswer.TheVariants.{Failed}
+use Rattle.plain_tree.specs.Widths.{hart_count}
+use Rattle.plain_tree.specs.Tree.{Name, Tree, put, look, live_directory}
+use Rattle.plain_tree.specs.Steps.{refusal_with, refused, IsInPlace}
+use Rattle.plain_tree.specs.Calls.{Act, next_of}
+use Rattle.plain_tree.specs.HartRow.{row_of}
+use Rattle.tree_laws.proofs.Maps.{put_same}
+use Rattle.tree_laws.proofs.Nodes.{live_is}
+use Rattle.tree_laws.proofs.Walks.{look_same}
+use Rattle.tree_moves.specs.Moves.{Walk, Step, MayEnd, Played, Written, fail}
+use Rattle.tree_moves.specs.Moves.Move.{Begin, Look, Quit}
+use Rattle.inode_machine.specs.World.{World, Mark}
+use Rattle.inode_machine.specs.World.Op.{Take}
+use Rattle.inode_machine.specs.Inodes.{Looking, Seen, seen_in}
+use Rattle.inode_machine.specs.Marks.{found_by, marked, places}
+use Rattle.inode_machine.specs.Rules.{Own, own_of, Inv, looking_cost, machine}
+use Rattle.inode_machine.specs.Parts.{looks_if, looks_where, makes}
+use Rattle.inode_machine.specs.Theory.{covered_calls}
+use Rattle.inode_machine.proofs.Frame.{fair_same}
+use Rattle.inode_machine.proofs.Rules.{quiet, locked_held}
+use Rattle.inode_machine.proofs.Looks.{live_face, s-take-then, quit_good, look_refused_good, Agrees}
+use Rattle.inode_machine.proofs.Listing.{one_at}
+use Rattle.inode_machine.proofs.Walks.{On, Ready}
+use Rattle.inode_machine.proofs.Acting.{told_step}
+use Rattle.inode_machine.proofs.Endings.{Walked}
+
+pub begun_by : (c : Call) (acts : List Act) (es rest : List Step) (r : Reply) → Walked c acts es → Played c acts rest r → Begun covered_calls c es
+begun_by c acts es rest r w p = (rest, r, subst (λ (z : List Step). Played c [] z r) (onto_is es rest) (w rest r p))
+
+pub written_by : (c : Call) (acts : List Act) (es : List Step) (r : Reply) → Walked c acts es → MayEnd c acts r → Written c (oldest_first es) r
+written_by c acts es r w m = w [] r m
+
+-- The step that comes next in the call, and how the call may go on where it is refused.
+pub record Follows (c : Call) (acts : List Act) (s : Action) : Type 0 where
+  pub next : next_of c acts ≡ Some s
+  pub rest : Cause → List Step
+  pub reply : Cause → Reply
+  pub fails : (k : Cause) → Played c (acts ++ record { step = s; answer = Failed k } ∷ []) (rest k) (reply k)
+
+-- the walk begins
+pub walking_begun : (c : Call) (acts : List Act) (s : Action) (es : List Step) → Follows c acts s → Walked c acts es → Walked c acts (record { move = Begin s 0; told = None } ∷ es)
+walking_begun c acts s es f w rest r p = w (record { move = Begin s 0; told = None } ∷ rest) r (f.next, p)
+
+pub walking_on : (c : Call) (acts : List Act) (es : List Step) → Walked c acts es → Walked c acts (record { move = Look 0; told = None } ∷ es)
+walking_on c acts es w rest r p = w (record { move = Look 0; told = None } ∷ rest) r (tt, p)
+
+-- its step is told
+pub walking_told : (c : Call) (acts : List Act) (s : Action) (a : StepAnswer) (new : ℕ) (es : List Step) → Walked c acts es → Walked c (acts ++ record { step = s; answer = a } ∷ []) (told_step new s a ∷ es)
+walking_told c acts s a new es w rest r p = w (told_step new s a ∷ rest) r (tt, p)
+
+abbrev pub quit_step : Action → Step
+quit_step s = record { move = Quit s; told = Some (fail s) }
+
+pub walking_quit : (c : Call) (acts : List Act) (s : Action) (es : List Step) → Walked c acts es → Walked c (acts ++ record { step = s; answer = Failed NoEntry } ∷ []) (quit_step s ∷ es)
+walking_quit c acts s es w rest r p = w (quit_step s ∷ rest) r (tt, p)
+
+-- the steps so far begin the call
+pub begun_refused : (c : Call) (acts : List Act) (s : Action) (k : Cause) (es : List Step) → Follows c acts s → Walked c (acts ++ record { step = s; answer = Failed k } ∷ []) es → Begun covered_calls c es
+begun_refused c acts s k es f w = begun_by c (acts ++ record { step = s; answer = Failed k } ∷ []) es (f.rest k) (f.reply k) w (f.fails k)
+
+pub begun_walking : (c : Call) (acts : List Act) (s : Action) (es : List Step) → Follows c acts s → Walked c acts es → Begun covered_calls c es
+begun_walking c acts s es f w = begun_by c acts es (told_step 0 s (Failed NoEntry) ∷ f.rest NoEntry) (f.reply NoEntry) w (tt, f.fails NoEntry)
+
+-- what a tree that agrees with the hart finds in a directory that the hart keeps
+pub agrees_look : (b : Tree) (d : ℕ) (e : Name) (x : Option Node) (O : Own) → live_directory x ≡ true → Agrees (record O { inodes = put O.inodes d (Some (locked_held x)) }) b → (b.nodes d ≡ x) × (look b.nodes d e ≡ look (λ j. x) d e)
+agrees_look b d e x O live agrees = let q = agrees d (locked_held x) (put_same O.inodes d (Some (locked_held x))) (live_is x live) in (q, look_same (λ j. x) b.nodes d e q)
+
+-- The lock of the last name's directory is taken, and what is seen decides: its walk is lost where it has no links, its step is refused, or nothing is told yet.
+pub s-see : {h : ℕ} (c : Call) (acts : List Act) (s : Action) {looking : Looking} (refuses : Seen → Bool) {k : Seen → P machine Reply} {Q : Reply → List Step → World → Type 0} {base : ℕ → ℕ} {O0 : Own} (d : ℕ) (e : Name) {ns : List ℕ} {n : ℕ} {es : List Step} {w : World} {O : Own}
+    → h < hart_count → Ready base O0 → On h s d e [] base ns O0 O w → looking_cost looking < n → Follows c acts s → Walked c acts es
+    → ((t : Tree) → row_of t h ≡ O.row → IsInPlace t h s) → ((b : Tree) → refused b h s ≡ b) → ((g : ℕ) → s ≡ Inherit g → ⊥) → ((f : Option ℕ) → found_by s f ≡ None)
+    → ((x : Option Node) (l : ℕ) (u : World) → live_directory x ≡ false → l + (looking_cost looking + 1) ≡ n → own_of h u ≡ record O { inodes = put O.inodes d (Some (locked_held x)); mine = record { refs = O.mine.refs; walk = None; pending = None } }
+    → Safe machine h (Begun covered_calls c) Q (k (seen_in d looking x)) l (quit_step s ∷ es) u)
+    → ((x : Option Node) → live_directory x ≡ true → refuses (seen_in d looking x) ≡ true → (why : Cause) × ((b : Tree) → Agrees (record O { inodes = put O.inodes d (Some (locked_held x)) }) b → refusal_with b h s (look (λ j. x) d e) (Some (d, e)) ≡ Some why)
+    × ((l : ℕ) (u : World) → l + (looking_cost looking + 1) ≡ n → own_of h u ≡ record O { inodes = put O.inodes d (Some (locked_held x)); mine = record { refs = O.mine.refs; walk = None; pending = None } }
+    → Safe machine h (Begun covered_calls c) Q (k (seen_in d looking x)) l (told_step 0 s (Failed why) ∷ es) u))
+    → ((x : Option Node) (l : ℕ) (u : World) → Inv u → live_directory x ≡ true → refuses (seen_in d looking x) ≡ false → l + (looking_cost looking + 1) ≡ n → own_of h u ≡ record O { inodes = put O.inodes d (Some (locked_held x)) }
+    → Safe machine h (Begun covered_calls c) Q (k (seen_in d looking x)) l es u)
+    → Safe machine h (Begun covered_calls c) Q (Do (Take d looking) (looks_where s refuses) k) n es w
+s-see {h} c acts s {looking} refuses {k} {Q} {base} {O0} d e {ns} {n} {es} {w} {O} lt ready on pos follows walking place still other found dead refd goes =
+    s-take-then on.owns free lt pos on.out (let f = on.refs d in let o = one_at d in omega (arith, f, o)) (λ u x inv own1. seen u x inv own1 (live_directory x) refl (refuses (seen_in d looking x)) refl)
+  where
+    free : O.desk.lender ≡ None
+    free = on.stays.lender ∙ ready.free
+
+    y : Walk
+    y = record { step = s; at = d; next = e; rest = [] }
+
+    Goal : World → Option Node → Option Mark → Type 0
+    Goal u x m = Fine machine h (places h (Take d looking) (seen_in d looking x) m u) (looking_cost looking) n (Begun covered_calls c) es u (marked h m u) (λ l. Wp machine h (Begun covered_calls c) Q (k (seen_in d looking x)) l (onto (own h (places h (Take d looking) (seen_in d looking x) m u)) es) (marked h m u))
+
+    mark_is : (x : Option Node) (a b : Bool) → live_directory x ≡ a → refuses (seen_in d looking x) ≡ b → looks_where s refuses (seen_in d looking x) ≡ (if a then looks_if b else makes (Quit s))
+    mark_is x a b q r = λ z. if (live_face x ∙ q) z then looks_if (r z) else makes (Quit s)
+
+    seen : (u : World) (x : Option Node) → Inv u → own_of h u ≡ record O { inodes = put O.inodes d (Some (locked_held x)) } → (a : Bool) → live_directory x ≡ a → (b : Bool) → refuses (seen_in d looking x) ≡ b → Goal u x (looks_where s refuses (seen_in d looking x))
+    seen u x inv own1 false q b r = subst (λ (m : Option Mark). Goal u x m) (sym (mark_is x false b q r))
+        (quit_good h (looking_cost looking) n d (Begun covered_calls c) Q es u (record O { inodes = put O.inodes d (Some (locked_held x)) }) (locked_held x) y (k (seen_in d looking x)) own1 free lt inv on.walk on.pending refl (put_same O.inodes d (Some (locked_held x))) q
+        (begun_refused c acts s NoEntry (quit_step s ∷ es) follows (walking_quit c acts s es walking)) pos (λ l u2 p own2. dead x l u2 q p own2))
+    seen u x inv own1 true q true r = subst (λ (m : Option Mark). Goal u x m) (sym (mark_is x true true q r)) (
+        let z = refd x q r in
+        look_refused_good h (looking_cost looking) n d (Begun covered_calls c) Q es u (record O { inodes = put O.inodes d (Some (locked_held x)) }) (locked_held x) y (look (λ j. x) d e) z.0 (look (λ j. x) d e) (Some (d, e)) (k (seen_in d looking x)) own1 free lt inv on.walk on.pending refl (put_same O.inodes d (Some (locked_held x))) q refl
+        (λ b i. refl) (λ m m' t p. p) z.1 still (λ t p. place t p) other (found (look (λ j. x) d e))
+        (begun_refused c acts s z.0 (told_step 0 s (Failed z.0) ∷ es) follows (walking_told c acts s (Failed z.0) 0 es walking)) pos z.2)
+    seen u x inv own1 true q false r = subst (λ (m : Option Mark). Goal u x m) (sym (mark_is x true false q r)) (quiet (fair_same inv) refl pos (λ l p. (goes x l u inv q r p own1).wp))
