@@ -34,3 +34,7 @@ pub mod Holdings
 pub mod Paths
 pub mod Namings
 pub mod Unlinks
+pub mod Openings
+pub mod Unopens
+pub mod Installs
+pub mod Slots
