@@ -4,3 +4,6 @@ pub mod Held
 pub mod Commits
 pub mod Keeping
 pub mod Nested
+pub mod Owning
+pub mod Owned
+pub mod Showing

@@ -11,3 +11,5 @@ pub mod Whole
 pub mod Locked
 pub mod Joining
 pub mod Claiming
+pub mod Own
+pub mod Shown

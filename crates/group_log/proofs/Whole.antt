@@ -36,7 +36,7 @@ use Rattle.group_log.proofs.Committed.{failed_good, done_good}
 use Rattle.group_log.specs.Whole.{IsWhole, LeadsToWhole, CallsKeepWhole, written}
 
 -- a disk and seats, after which all blocks outside the log are seen as before
-record Stands (d : List (List ℕ)) (ss : List SeatState) (sizes : Super) (e : List (List ℕ)) (zs : List SeatState) : Type 0 where
+pub record Stands (d : List (List ℕ)) (ss : List SeatState) (sizes : Super) (e : List (List ℕ)) (zs : List SeatState) : Type 0 where
   pub sound : IsSound e zs
   pub seen : (b : ℕ) → IsOutsideLog sizes b → seen_in e zs b ≡ seen_in d ss b
 
@@ -72,7 +72,7 @@ home_stands d ss sizes b sound pin within = record {
 
 module _ (d : List (List ℕ)) (ss : List SeatState) (sizes : Super) (ks : List ℕ) (ms : List (Option ℕ)) where
   -- the commit's next write, before its buffer is given back
-  write_stands : (p : Phase) → IsSound d ss → IsSoundLog d ss sizes ks ms p → IsUnderWay (length ks) p → Stands d ss sizes (slice_set d (write_to sizes ks p) (write_of (seen_in d ss) ks p)) ss
+  pub write_stands : (p : Phase) → IsSound d ss → IsSoundLog d ss sizes ks ms p → IsUnderWay (length ks) p → Stands d ss sizes (slice_set d (write_to sizes ks p) (write_of (seen_in d ss) ks p)) ss
   write_stands Open sound log on = absurd on
   write_stands (Staging i) sound log on =
       let w = can_write d ss sizes ks ms (Staging i) log in
@@ -87,13 +87,13 @@ module _ (d : List (List ℕ)) (ss : List SeatState) (sizes : Super) (ks : List 
       refl
   write_stands Halted sound log on = absurd on
 
-  fault_stands : (p : Phase) (e : List (List ℕ)) → Stands d ss sizes e ss → Stands d ss sizes e (seats_at_fault ks p ss)
+  pub fault_stands : (p : Phase) (e : List (List ℕ)) → Stands d ss sizes e ss → Stands d ss sizes e (seats_at_fault ks p ss)
   fault_stands Open e st = st
   fault_stands (Staging i) e st = pick (i == length ks) (λ t. Stands d ss sizes e (if t then ss else given_back (slice_index ks i) ss)) (λ _. st) (λ _. back_stands d e ss ss sizes (slice_index ks i) st)
   fault_stands (Installing i) e st = pick (i == length ks) (λ t. Stands d ss sizes e (if t then ss else given_back (slice_index ks i) ss)) (λ _. st) (λ _. back_stands d e ss ss sizes (slice_index ks i) st)
   fault_stands Halted e st = st
 
-  after_stands : (p : Phase) → IsSound d ss → IsSoundLog d ss sizes ks ms p → IsUnderWay (length ks) p
+  pub after_stands : (p : Phase) → IsSound d ss → IsSoundLog d ss sizes ks ms p → IsUnderWay (length ks) p
       → Stands d ss sizes (slice_set d (write_to sizes ks p) (write_of (seen_in d ss) ks p)) (seats_after ks p ss)
   after_stands Open sound log on = absurd on
   after_stands (Staging i) sound log on =
@@ -118,14 +118,14 @@ module _ (d : List (List ℕ)) (ss : List SeatState) (sizes : Super) (ks : List 
       refl
   after_stands Halted sound log on = absurd on
 
-eqb-isnt : (i n : ℕ) → i ≢ n → (i == n) ≡ false
+pub eqb-isnt : (i n : ℕ) → i ≢ n → (i == n) ≡ false
 eqb-isnt i n ne = grind (arith, nat_tests)
 
 -- the guard of a buffer that is out
-abbrev guard_in : ℕ → ℕ → SeatState → Option (List ℕ) → GuardState BufferState
+abbrev pub guard_in : ℕ → ℕ → SeatState → Option (List ℕ) → GuardState BufferState
 guard_in h b s content = record { number = s.number; hart = h; value = record { block = b; content = content } }
 
-seat_in : (h b : ℕ) (ss : List SeatState) (o : Option SeatState) → seat_of b ss ≡ o → holder_of b ss ≡ Some h
+pub seat_in : (h b : ℕ) (ss : List SeatState) (o : Option SeatState) → seat_of b ss ≡ o → holder_of b ss ≡ Some h
     → (s : SeatState) × (seat_of b ss ≡ Some s) × ((content : Option (List ℕ)) → is_some s.content ≡ is_some content → IsHeld ss (guard_in h b s content))
 seat_in h b ss None at out =
     let clash : None ≡ Some h = sym (ap (option_and_then (λ (s : SeatState). s.holder)) at) ∙ out in absurd (cc clash)
@@ -133,7 +133,7 @@ seat_in h b ss (Some s) at out =
     let is : s.holder ≡ Some h = sym (ap (option_and_then (λ (s : SeatState). s.holder)) at) ∙ out in
     (s, at, λ content valid. subst (λ o. MatchOption o ⊥ (IsGuardOf (guard_in h b s content))) (sym at) (record { number = refl; holder = is; valid = valid }))
 
-kept_in : (b : ℕ) (ss : List SeatState) (s : SeatState) → seat_of b ss ≡ Some s → kept b ss ≡ s.content
+pub kept_in : (b : ℕ) (ss : List SeatState) (s : SeatState) → seat_of b ss ≡ Some s → kept b ss ≡ s.content
 kept_in b ss s at = ap (option_and_then (λ (s : SeatState). s.content)) at
 
 module _ (d : List (List ℕ)) (ss : List SeatState) (sizes : Super) (ks : List ℕ) (ms : List (Option ℕ)) where
