@@ -6,6 +6,7 @@ use Rattle.inode_machine.specs.Theory.{covered_calls, is_covered, CallsAreExplai
 use Rattle.inode_machine.proofs.Calls.{IsRight, descriptors_right, lawful_that, right}
 use Rattle.inode_machine.proofs.ChdirCalls.{chdir_begins, chdir_ok}
 use Rattle.inode_machine.proofs.Unlinks.{unlink_begins, unlink_ok}
+use Rattle.inode_machine.proofs.Mkdirs.{mkdir_begins, mkdir_ok}
 
 covered_right : IsRight is_covered is_covered
 covered_right h (calls.Open path flags) busy w u lt here out idle free is = absurd cc
@@ -13,7 +14,7 @@ covered_right h (calls.Read fd buffer) busy w u lt here out idle free is = descr
 covered_right h (calls.Write fd bytes) busy w u lt here out idle free is = descriptors_right is_covered h (calls.Write fd bytes) busy w u lt refl out idle free is
 covered_right h (calls.Link old new) busy w u lt here out idle free is = absurd cc
 covered_right h (calls.Unlink path) busy w u lt here out idle free is = right is_covered h (calls.Unlink path) busy w u idle free is (unlink_begins path) (λ holds i. unlink_ok h path u holds out lt i)
-covered_right h (calls.Mkdir path) busy w u lt here out idle free is = absurd cc
+covered_right h (calls.Mkdir path) busy w u lt here out idle free is = right is_covered h (calls.Mkdir path) busy w u idle free is (mkdir_begins path) (λ holds i. mkdir_ok h path u holds out lt i)
 covered_right h (calls.Chdir path) busy w u lt here out idle free is = right is_covered h (calls.Chdir path) busy w u idle free is (chdir_begins path) (λ holds i. chdir_ok h path u out lt holds i)
 covered_right h (calls.Dup fd) busy w u lt here out idle free is = descriptors_right is_covered h (calls.Dup fd) busy w u lt refl out idle free is
 covered_right h (calls.Fstat fd) busy w u lt here out idle free is = descriptors_right is_covered h (calls.Fstat fd) busy w u lt refl out idle free is

@@ -22,80 +22,94 @@ use Rattle.tree_laws.proofs.Sums.{sum_part, one_yes}
 use Rattle.tree_laws.specs.WellFormed.{one_if}
 use Rattle.tree_laws.proofs.Maps.{eq_self}
 use Rattle.inode_machine.specs.Rules.{Own}
-use Rattle.inode_machine.proofs.Frame.{shop_same, put_elim, ours_none, ours_some, kept_here, Did, fair, fair_then, own_inodes, has_inode, found_more, one_refs, two_refs, stands_in, directory_named}
+use Rattle.inode_machine.proofs.Frame.{shop_same, put_elim, ours_none, ours_some, kept_here, Did, Fair, fair, fair_then, own_inodes, has_inode, found_more, one_refs, two_refs, stands_in, directory_named}
 use Rattle.inode_machine.proofs.Rules.{s-owned, quiet, each_refs, here_refs, walks_refs, total_same, total_changed, my_refs, is_me, has_disk, has_node, locks_it}
 use Rattle.inode_machine.proofs.Counting.{Writes, writes}
 use Rattle.inode_machine.proofs.Rows.{hart_not}
 use Rattle.inode_machine.specs.Inodes.{Looking, Seen, seen_in, sort_of}
 
 -- The lock of an inode that the hart keeps already is free.
+pub record LockingKept (h i : ℕ) (x : Held) (v : World) (O : Own) : Type 0 where
+  pub unlocked : v.lock i ≡ None
+  pub fair : Fair h v (locked h i v)
+  pub owned : own_of h (locked h i v) ≡ record O { inodes = put O.inodes i (Some (record x { locked = true })) }
+
+pub locking_kept : (h i : ℕ) (x : Held) (v : World) (O : Own) → own_of h v ≡ O → O.desk.lender ≡ None → h < hart_count → Inv v → O.inodes i ≡ Some x → x.locked ≡ false → LockingKept h i x v O
+locking_kept h i x v O ov free lt inv isi out = record { unlocked = none (v.lock i) refl; fair = fair inv did; owned = owned }
+  where
+    none : (r : Option ℕ) → v.lock i ≡ r → r ≡ None
+    none None e = refl
+    none (Some g) e = absurd (let a = inv.keeps i g e in let b = (has_inode h i v O x ov isi).0 in let s : Some g ≡ Some h = sym a ∙ b in let c : g ≡ h = cc in
+        let m = is_me h (v.lock i) (e ∙ ap (λ (z : ℕ). Some z) c) in let l : is_hart (v.lock i) h ≡ false = ap (λ (y : Held). y.locked) (has_inode h i v O x ov isi).1 ∙ out in cc (m, l))
+
+    u : World
+    u = locked h i v
+
+    kept : v.keeper i ≡ Some h
+    kept = (has_inode h i v O x ov isi).0
+
+    same : (j : ℕ) → put v.keeper i (Some h) j ≡ v.keeper j
+    same j = put_elim v.keeper i (Some h) j (λ z. z ≡ v.keeper j) (λ q. sym (ap v.keeper q ∙ kept)) (λ q. refl)
+
+    did : Did h v u
+    did =
+        record {
+          hart = lt;
+          inodes = λ j. elim (same_or j i) [
+            | inl q ↦ inr (record {
+              before = ours_some h (v.keeper j) (ap v.keeper q ∙ kept);
+              after = ours_some h (u.keeper j) (ap u.keeper q ∙ put_same v.keeper i (Some h));
+              whole = λ f. absurd (let s : u.keeper j ≡ Some h = ap u.keeper q ∙ put_same v.keeper i (Some h) in cc);
+              keeps = λ g is. let a : u.lock j ≡ Some h = ap u.lock q ∙ put_same v.lock i (Some h) in let s : u.keeper j ≡ Some h = ap u.keeper q ∙ put_same v.keeper i (Some h) in s ∙ sym a ∙ is;
+            })
+            | inr ne ↦ inl (record { lock = put_other v.lock i (Some h) j ne; keeper = put_other v.keeper i (Some h) j ne; disk = refl; node = refl; alone = refl })
+          ];
+          mine = λ g ne. refl;
+          rows = λ g ne. refl;
+          size = refl;
+          ids = inv.ids;
+          shop = shop_same h (shop_of v) inv.tied;
+          free = ap (λ (o : Own). o.desk.lender) ov ∙ free;
+          quiet = λ j is f. inv.quiet j h (sym (same j) ∙ is) f;
+          sort = λ j. inl refl;
+          sorts = inv.sorts;
+          noted = λ n is r s. inv.noted h n lt is r s;
+          directory = inv.directory h lt;
+          well = inv.well;
+          counts = inv.counts;
+          alone = λ j is. let a = inv.alone j is in record { hart = a.hart; kept = same j ∙ a.kept; dead = a.dead; counts = a.counts };
+          kept = λ j is. (inv.kept j h (sym (same j) ∙ is)).1;
+          held = λ j is. put_elim v.lock i (Some h) j (λ z. (z ≡ Some h) ⊎ (v.alone j ≡ true)) (λ q. inl refl) (λ q. inv.held j h (sym (same j) ∙ is));
+          named = λ j is. inv.named h j lt is;
+          pending = λ j is. found_more h v u j (λ d q. (same d ∙ q, refl)) (inv.pending h j lt is);
+          walks = λ y is. inv.walks h y lt is;
+        }
+
+    owned : own_of h u ≡ record O { inodes = put O.inodes i (Some (record x { locked = true })) }
+    owned = λ z. record {
+      inodes = own_inodes h i v u O (Some (record x { locked = true })) ov
+          (kept_here h (u.keeper i) (view u h i) (put_same v.keeper i (Some h)) ∙ (λ r. Some (record (view v h i) { locked = is_me h (u.lock i) (put_same v.lock i (Some h)) r })) ∙ ap (λ (y : Held). Some (record y { locked = true })) (has_inode h i v O x ov isi).1)
+          (λ j ne. (put_other v.keeper i (Some h) j ne, (λ r. record { disk = v.disk j; node = v.all.nodes j; alone = v.alone j; locked = is_hart (put_other v.lock i (Some h) j ne r) h }))) z;
+      mine = ap (λ (o : Own). o.mine) ov z;
+      row = ap (λ (o : Own). o.row) ov z;
+      ninodes = ap (λ (o : Own). o.ninodes) ov z;
+      desk = ap (λ (o : Own). o.desk) ov z;
+    }
+
 pub s-take-kept : {A : Type 0} {h i : ℕ} {x : Held} {looking : Looking} {k : Seen → P machine A} {B : List Step → Type 0} {Q : A → List Step → World → Type 0} {n : ℕ} {es : List Step} {w : World} {O : Own}
     → own_of h w ≡ O → O.desk.lender ≡ None → h < hart_count → looking_cost looking < n → O.inodes i ≡ Some x → x.locked ≡ false → 0 < O.mine.refs i
     → ((l : ℕ) (u : World) → l + (looking_cost looking + 1) ≡ n → own_of h u ≡ record O { inodes = put O.inodes i (Some (record x { locked = true })) } → Safe machine h B Q (k (seen_in i looking x.disk)) l es u)
     → Safe machine h B Q (Do (Take i looking) unmarked k) n es w
-s-take-kept {A} {h} {i} {x} {looking} {k} {B} {Q} {n} {es} {w} {O} owns free lt pos isi out refers rest = s-owned owns free pos (λ v inv ov. ((let r = my_refs h v O i ov in omega (arith, r, refers), not_out v ov), (λ _ _. at v inv ov (v.lock i) refl)))
+s-take-kept {A} {h} {i} {x} {looking} {k} {B} {Q} {n} {es} {w} {O} owns free lt pos isi out refers rest = s-owned owns free pos (λ v inv ov. (
+  (let r = my_refs h v O i ov in omega (arith, r, refers), (λ e. let a = locking_kept h i x v O ov free lt inv isi out in let b = a.unlocked in cc (b, e))),
+  (λ _ _. at v inv ov (v.lock i) refl),
+))
   where
-    not_out : (v : World) → own_of h v ≡ O → v.lock i ≢ Some h
-    not_out v ov e = let m = is_me h (v.lock i) e in let l : is_hart (v.lock i) h ≡ false = ap (λ (y : Held). y.locked) (has_inode h i v O x ov isi).1 ∙ out in cc (m, l)
-
     at : (v : World) → Inv v → own_of h v ≡ O → (r : Option ℕ) → v.lock i ≡ r → Good machine Seen h (λ a. []) (looking_cost looking) n B es v (IsOut h (v.lock i)) (with_mark h unmarked (lock_if h i (seen_in i looking (v.disk i)) v (locked h i v) r)) (λ l a u. Wp machine h B Q (k a) l es u)
-    at v inv ov (Some g) e = absurd (let a = inv.keeps i g e in let b = (has_inode h i v O x ov isi).0 in let s : Some g ≡ Some h = sym a ∙ b in let c : g ≡ h = cc in
-        let m = is_me h (v.lock i) (e ∙ ap (λ (z : ℕ). Some z) c) in let l : is_hart (v.lock i) h ≡ false = ap (λ (y : Held). y.locked) (has_inode h i v O x ov isi).1 ∙ out in cc (m, l))
-    at v inv ov None e = quiet (fair inv did) refl pos (λ l q. subst (λ (z : Option Node). Wp machine h B Q (k (seen_in i looking z)) l es u) (sym (has_disk h i v O x ov isi)) (rest l u q owned).wp)
-      where
-        u : World
-        u = locked h i v
-
-        kept : v.keeper i ≡ Some h
-        kept = (has_inode h i v O x ov isi).0
-
-        same : (j : ℕ) → put v.keeper i (Some h) j ≡ v.keeper j
-        same j = put_elim v.keeper i (Some h) j (λ z. z ≡ v.keeper j) (λ q. sym (ap v.keeper q ∙ kept)) (λ q. refl)
-
-        did : Did h v u
-        did =
-            record {
-              hart = lt;
-              inodes = λ j. elim (same_or j i) [
-                | inl q ↦ inr (record {
-                  before = ours_some h (v.keeper j) (ap v.keeper q ∙ kept);
-                  after = ours_some h (u.keeper j) (ap u.keeper q ∙ put_same v.keeper i (Some h));
-                  whole = λ f. absurd (let s : u.keeper j ≡ Some h = ap u.keeper q ∙ put_same v.keeper i (Some h) in cc);
-                  keeps = λ g is. let a : u.lock j ≡ Some h = ap u.lock q ∙ put_same v.lock i (Some h) in let s : u.keeper j ≡ Some h = ap u.keeper q ∙ put_same v.keeper i (Some h) in s ∙ sym a ∙ is;
-                })
-                | inr ne ↦ inl (record { lock = put_other v.lock i (Some h) j ne; keeper = put_other v.keeper i (Some h) j ne; disk = refl; node = refl; alone = refl })
-              ];
-              mine = λ g ne. refl;
-              rows = λ g ne. refl;
-              size = refl;
-              ids = inv.ids;
-              shop = shop_same h (shop_of v) inv.tied;
-              free = ap (λ (o : Own). o.desk.lender) ov ∙ free;
-              quiet = λ j is f. inv.quiet j h (sym (same j) ∙ is) f;
-              sort = λ j. inl refl;
-              sorts = inv.sorts;
-              noted = λ n is r s. inv.noted h n lt is r s;
-              directory = inv.directory h lt;
-              well = inv.well;
-              counts = inv.counts;
-              alone = λ j is. let a = inv.alone j is in record { hart = a.hart; kept = same j ∙ a.kept; dead = a.dead; counts = a.counts };
-              kept = λ j is. (inv.kept j h (sym (same j) ∙ is)).1;
-              held = λ j is. put_elim v.lock i (Some h) j (λ z. (z ≡ Some h) ⊎ (v.alone j ≡ true)) (λ q. inl refl) (λ q. inv.held j h (sym (same j) ∙ is));
-              named = λ j is. inv.named h j lt is;
-              pending = λ j is. found_more h v u j (λ d q. (same d ∙ q, refl)) (inv.pending h j lt is);
-              walks = λ y is. inv.walks h y lt is;
-            }
-
-        owned : own_of h u ≡ record O { inodes = put O.inodes i (Some (record x { locked = true })) }
-        owned = λ z. record {
-          inodes = own_inodes h i v u O (Some (record x { locked = true })) ov
-              (kept_here h (u.keeper i) (view u h i) (put_same v.keeper i (Some h)) ∙ (λ r. Some (record (view v h i) { locked = is_me h (u.lock i) (put_same v.lock i (Some h)) r })) ∙ ap (λ (y : Held). Some (record y { locked = true })) (has_inode h i v O x ov isi).1)
-              (λ j ne. (put_other v.keeper i (Some h) j ne, (λ r. record { disk = v.disk j; node = v.all.nodes j; alone = v.alone j; locked = is_hart (put_other v.lock i (Some h) j ne r) h }))) z;
-          mine = ap (λ (o : Own). o.mine) ov z;
-          row = ap (λ (o : Own). o.row) ov z;
-          ninodes = ap (λ (o : Own). o.ninodes) ov z;
-          desk = ap (λ (o : Own). o.desk) ov z;
-        }
+    at v inv ov (Some g) e = absurd (let a = locking_kept h i x v O ov free lt inv isi out in let b = a.unlocked in cc (b, e))
+    at v inv ov None e =
+        let a = locking_kept h i x v O ov free lt inv isi out in
+        quiet a.fair refl pos (λ l q. subst (λ (z : Option Node). Wp machine h B Q (k (seen_in i looking z)) l es (locked h i v)) (sym (has_disk h i v O x ov isi)) (rest l (locked h i v) q a.owned).wp)
 
 -- an open file isn't of an inode that one hart keeps alone
 pub lone_file : (h i k : ℕ) (e : Entry) (v : World) → Inv v → h < hart_count → v.alone i ≡ true → v.keeper i ≡ Some h → v.files k ≡ Some e → e.file.number ≢ i

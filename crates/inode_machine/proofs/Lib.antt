@@ -38,3 +38,5 @@ pub mod Openings
 pub mod Unopens
 pub mod Installs
 pub mod Slots
+pub mod Pairs
+pub mod Mkdirs
