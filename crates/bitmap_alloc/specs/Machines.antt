@@ -1,5 +1,5 @@
 -- The programs that are left of a block's taking and of its giving back.
-use Rattle.std.specs.Prelude.{◌≢◌, ◌<◌, ◌≤◌, ℕ, Option}
+use Rattle.std.specs.Prelude.{◌≢◌, ◌≤◌, ℕ, Option}
 use Rattle.sleep_lock.specs.SleepLock.{GuardState}
 use Rattle.buffer_cache.specs.Buffers.{BufferState}
 use Rattle.fs_layout.specs.Widths.{bits_per_block}
@@ -42,8 +42,8 @@ free_of (freeing.Look b f) = bind (fetch_of f) (clear_bit (block_of f) b)
 free_of (freeing.Unmark b guard) = clear_bit guard.value.block b (bytes_of guard)
 
 unfoldable pub FreeFits : ℕ → State → FreeBlock → Type 0
-FreeFits hart s (freeing.Look b f) = (b < bits_per_block) × FetchFits hart s f
-FreeFits hart s (freeing.Unmark b guard) = (b < bits_per_block) × IsFetched hart guard.value.block guard s
+FreeFits hart s (freeing.Look b f) = FetchFits hart s f
+FreeFits hart s (freeing.Unmark b guard) = IsFetched hart guard.value.block guard s
 
 unfoldable pub FreeApart : ℕ → FreeBlock → Type 0
 FreeApart k (freeing.Look b f) = FetchApart k f

@@ -1,6 +1,5 @@
 //! A block given back.
-ghost use Rattle.std.specs.Prelude.{◌≡◌, ◌<◌, ℕ, Some};
-ghost use Rattle.fs_layout.specs.Widths.{bits_per_block};
+ghost use Rattle.std.specs.Prelude.{◌≡◌, ℕ, Some};
 ghost use Rattle.atomic_programs.specs.Prog.{Ran as ItRan};
 ghost use Rattle.atomic_programs.specs.Machines.{Still, Left as LeftOf};
 ghost use Rattle.fs_machine.specs.LogPart.{Outside};
@@ -31,10 +30,9 @@ pub enum FreeBlock {
 }
 
 impl FreeBlock {
-    /// Block `b` of a disk whose bitmap is block `bmapstart`.
+    /// Block `b` of a disk whose bitmap is block `bmapstart`. A number past the bitmap has no bit, and changes none.
     #[tactic(auto, unfolding(crate::specs::Machines::free_of, crate::specs::Machines::FreeFits, crate::specs::Machines::FreeApart, fs_machine::specs::Fetching::fetch_of, fs_machine::specs::Fetching::FetchFits, fs_machine::specs::Fetching::FetchApart))]
     pub fn new(bmapstart: u32, b: u32) -> FreeBlock
-        requires { b < bits_per_block }
         ensures program { free_of result ≡ free_block bmapstart b }
         ensures fits { (hart : ℕ) (s : State) → FreeFits hart s result }
         ensures apart { (b : ℕ) → FreeApart b result }
@@ -87,7 +85,6 @@ fn looking(b: u32, stepped: Stepped<Fetch, Guard<Buffer>, Kind>) -> Stepped<Free
 
 // Clears the bit, and gives the bitmap back.
 fn unmark<D: Device>(b: u32, guard: Guard<Buffer>, hart: u8, txn: &mut Txn, core: &mut Core<D>)
-    requires bit { b < bits_per_block }
     requires txn { txn.old ≡ hart }
     requires fetched { IsFetched hart guard.value.block guard (state_of D.contents D.failures core.old) }
     requires may { May hart (Put guard.value.block (Some (without_bit b (bytes_of guard)))) (state_of D.contents D.failures core.old) }

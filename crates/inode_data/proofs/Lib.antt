@@ -1,2 +1,5 @@
-mod Beginnings
+pub mod Beginnings
 mod NextRead
+pub mod Nested
+mod NextFree
+mod Truncations

@@ -1,6 +1,9 @@
 pub mod Widths
 pub mod Addresses
+pub mod Records
 pub mod Programs
 pub mod Machines
 pub mod Beginnings
 pub mod Reading
+pub mod Freeing
+pub mod Truncating

@@ -35,11 +35,12 @@ BlockFetchFits hart s (fetching.Block f) = FetchFits hart s f
 abbrev pub in_table_fetch : ℕ → Stepped Fetch (GuardState BufferState) Kind → Stepped FetchBlock (GuardState BufferState) Kind
 in_table_fetch i stepped = within (λ f. fetching.Table i f) (λ guard. fetching.Number i guard) stepped
 
-abbrev pub over_step : {M N R K : Type 0} → (M → N) → Stepped M R K → Stepped N R K
-over_step f (Waits m) = Waits (f m)
-over_step f (Ran m kind) = Ran (f m) kind
-over_step f (Done r kind) = Done r kind
-over_step f (Stopped m) = Stopped (f m)
+-- the same, where the machine that it stands in ends with it
+abbrev pub ends_within : {M R N S K : Type 0} → (M → N) → (R → S) → Stepped M R K → Stepped N S K
+ends_within f g (Waits m) = Waits (f m)
+ends_within f g (Ran m kind) = Ran (f m) kind
+ends_within f g (Done r kind) = Done (g r) kind
+ends_within f g (Stopped m) = Stopped (f m)
 
 abbrev pub in_block_fetch : Stepped Fetch (GuardState BufferState) Kind → Stepped FetchBlock (GuardState BufferState) Kind
-in_block_fetch stepped = over_step (λ f. fetching.Block f) stepped
+in_block_fetch stepped = ends_within (λ f. fetching.Block f) (λ guard. guard) stepped

@@ -1,6 +1,7 @@
 -- Contents read: programs over what all harts share. Nothing is marked in them.
-use Rattle.std.specs.Prelude.{ℕ, zero, suc, ◌+◌, ◌-◌, ◌*◌, ◌/◌, ◌%◌, List, [], ◌++◌, min, nat_lt, if◌then◌else◌, None, take, drop, slice_index}
+use Rattle.std.specs.Prelude.{ℕ, zero, suc, ◌+◌, ◌-◌, ◌*◌, ◌/◌, ◌%◌, List, length, min, nat_lt, if◌then◌else◌, None, take, drop, slice_index}
 use Rattle.fs_layout.specs.declared.inode.Dinode.{Dinode}
+use Rattle.fs_layout.specs.Bytes.{overwrite}
 use Rattle.fs_layout.specs.Indirect.{numbers_in}
 use Rattle.fs_layout.specs.Widths.{block_len}
 use Rattle.atomic_programs.specs.Prog.{Prog, Ret, Do, bind, unmarked}
@@ -8,6 +9,7 @@ use Rattle.fs_machine.specs.Steps.{Op, Answer, Put}
 use Rattle.fs_machine.specs.Programs.{fetch}
 use Rattle.inode_data.specs.declared.addresses.Address.{Address}
 use Rattle.inode_data.specs.declared.addresses.Address.TheVariants.{Direct, InTable}
+use Rattle.inode_data.specs.Widths.{most_bytes}
 use Rattle.inode_data.specs.Addresses.{address, table_of}
 
 -- ---- a block of a content
@@ -50,23 +52,28 @@ blocks_between from upto = if nat_lt from upto then ((upto - 1) / block_len + 1)
 abbrev pub part_of : (from upto : ℕ) → List ℕ → List ℕ
 part_of from upto block = take (upto - from) (drop (from % block_len) block)
 
--- the block is given back as it was, and its part follows what was read before
-abbrev pub read_part : {M : Type 0} → (List ℕ → Prog Op Answer M (List ℕ)) → (from upto : ℕ) → List ℕ → Fetched → Prog Op Answer M (List ℕ)
-read_part more from upto before f = Do (Put f.number None) unmarked (λ _. more (before ++ part_of from upto f.bytes))
+-- memory of a call, so many bytes of which were read into, from its first one on
+pub record Filled : Type 0 where
+  pub count : ℕ
+  pub bytes : List ℕ
+
+-- with these bytes behind those
+abbrev pub filled_with : Filled → List ℕ → Filled
+filled_with m part = record { count = m.count + length part; bytes = overwrite m.bytes m.count part }
+
+-- the block is given back as it was, and its part was read
+abbrev pub read_part : {M : Type 0} → (Filled → Prog Op Answer M Filled) → (from upto : ℕ) → Filled → Fetched → Prog Op Answer M Filled
+read_part more from upto m f = Do (Put f.number None) unmarked (λ _. more (filled_with m (part_of from upto f.bytes)))
 
 -- the parts of so many blocks, one after the other
-unfoldable pub read_blocks : {M : Type 0} → ℕ → Dinode → (from upto : ℕ) → List ℕ → Prog Op Answer M (List ℕ)
-read_blocks zero d from upto before = Ret before
-read_blocks (suc n) d from upto before = bind (fetch_block d (from / block_len)) (read_part (read_blocks n d (next_block from) upto) from upto before)
+unfoldable pub read_blocks : {M : Type 0} → ℕ → Dinode → (from upto : ℕ) → Filled → Prog Op Answer M Filled
+read_blocks zero d from upto m = Ret m
+read_blocks (suc n) d from upto m = bind (fetch_block d (from / block_len)) (read_part (read_blocks n d (next_block from) upto) from upto m)
 
--- the bytes from one offset up to another
-abbrev pub read_between : {M : Type 0} → Dinode → (from upto : ℕ) → List ℕ → Prog Op Answer M (List ℕ)
-read_between d from upto before = read_blocks (blocks_between from upto) d from upto before
-
--- where a read of so many bytes ends: at most at the size
+-- where a read of so many bytes ends: at the size at most
 abbrev pub end_of : Dinode → (offset n : ℕ) → ℕ
-end_of d offset n = min (offset + n) d.size
+end_of d offset n = min (offset + n) (min d.size most_bytes)
 
--- so many bytes from an offset on, at most to the size
-abbrev pub read_from : {M : Type 0} → Dinode → (offset n : ℕ) → Prog Op Answer M (List ℕ)
-read_from d offset n = read_between d offset (end_of d offset n) []
+-- So many bytes from an offset on, at most to the size, are read into this memory.
+abbrev pub read_from : {M : Type 0} → Dinode → (offset n : ℕ) → List ℕ → Prog Op Answer M Filled
+read_from d offset n bytes = read_blocks (blocks_between offset (end_of d offset n)) d offset (end_of d offset n) (record { count = 0; bytes = bytes })

@@ -1,5 +1,5 @@
 -- The programs that are left of a read.
-use Rattle.std.specs.Prelude.{◌≡◌, ℕ, ◌+◌, ◌-◌, ◌≤◌, List, ◌++◌, length, take, IsSome}
+use Rattle.std.specs.Prelude.{◌≡◌, ℕ, ◌+◌, ◌-◌, ◌≤◌, List, length, IsSome}
 use Rattle.sleep_lock.specs.SleepLock.{GuardState}
 use Rattle.buffer_cache.specs.Buffers.{BufferState}
 use Rattle.atomic_programs.specs.Prog.{bind}
@@ -9,26 +9,26 @@ use Rattle.fs_machine.specs.declared.kind.Kind.{Kind}
 use Rattle.fs_machine.specs.Steps.{State}
 use Rattle.fs_machine.specs.Machines.{P, within}
 use Rattle.fs_machine.specs.Fetching.{IsFetched}
-use Rattle.inode_table.specs.Programs.{record_of}
+use Rattle.inode_data.specs.Records.{record_in}
 use Rattle.inode_data.specs.Widths.{most_bytes}
-use Rattle.inode_data.specs.Programs.{next_block, blocks_between, part_of, read_part, read_blocks}
+use Rattle.inode_data.specs.Programs.{Filled, filled_with, next_block, blocks_between, part_of, read_part, read_blocks}
 use Rattle.inode_data.specs.Machines.{fetched_in, block_fetch_of, BlockFetchFits}
 use Rattle.inode_data.specs.declared.fetch_block.FetchBlock.{FetchBlock}
 use Rattle.inode_data.specs.declared.read_part.Reading.{Reading}
 use Rattle.inode_data.specs.declared.read_part.ReadPart.{ReadPart}
 use Rattle.inode_data.specs.declared.read_part.ReadPart.TheVariants as reading
 
--- what was read so far
-abbrev pub bytes_read : Reading → List ℕ
-bytes_read r = take r.filled r.bytes.items
+-- the memory with what was read so far
+abbrev pub filled_in : Reading → Filled
+filled_in r = record { count = r.filled; bytes = r.bytes.items }
 
 -- the blocks behind the one that is read next
-abbrev pub read_rest : Reading → List ℕ → P (List ℕ)
-read_rest r = read_blocks r.left (record_of r.inode.value) (next_block r.from) r.upto
+abbrev pub read_rest : Reading → Filled → P Filled
+read_rest r = read_blocks r.left (record_in r.inode) (next_block r.from) r.upto
 
-unfoldable pub read_of : ReadPart → P (List ℕ)
-read_of (reading.Fetching r m) = bind (block_fetch_of m) (read_part (read_rest r) r.from r.upto (bytes_read r))
-read_of (reading.There r guard) = read_part (read_rest r) r.from r.upto (bytes_read r) (fetched_in guard)
+unfoldable pub read_of : ReadPart → P Filled
+read_of (reading.Fetching r m) = bind (block_fetch_of m) (read_part (read_rest r) r.from r.upto (filled_in r))
+read_of (reading.There r guard) = read_part (read_rest r) r.from r.upto (filled_in r) (fetched_in guard)
 
 -- a read that has so many blocks before it, the next one too; there is room for their bytes
 pub record IsReading (count : ℕ) (r : Reading) : Type 0 where
@@ -43,7 +43,7 @@ ReadFits hart s (reading.There r guard) = IsReading (r.left + 1) r × IsFetched 
 
 -- the block's part was read, and the next block is to come
 pub record IsAfter (r : Reading) (block : List ℕ) (next : Reading) : Type 0 where
-  pub read : bytes_read next ≡ bytes_read r ++ part_of r.from r.upto block
+  pub read : filled_in next ≡ filled_with (filled_in r) (part_of r.from r.upto block)
   pub inode : next.inode ≡ r.inode
   pub from : next.from ≡ next_block r.from
   pub upto : next.upto ≡ r.upto

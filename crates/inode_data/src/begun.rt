@@ -12,8 +12,8 @@ pub enum Begun<M, R> {
     Is(R),
 }
 
-// What a step comes to whose machine goes on so.
-pub(crate) fn went_on<M, R, K>(begun: Begun<M, R>, kind: K) -> Stepped<M, R, K>
+/// What a step of this kind comes to whose machine goes on so.
+pub fn went_on<M, R, K>(begun: Begun<M, R>, kind: K) -> Stepped<M, R, K>
     ensures { result ≡ went_on_as begun kind }
 {
     match begun {

@@ -58,6 +58,7 @@ impl FetchBlock {
         ensures still { Still block_fetch_of result self core.old core.new }
         ensures fits { LeftOf (BlockFetchFits hart (state_of D.contents D.failures core.new)) (λ guard. IsFetched hart guard.value.block guard (state_of D.contents D.failures core.new)) result }
         ensures others { LeavesTied hart (state_of D.contents D.failures core.old) (state_of D.contents D.failures core.new) }
+        ensures tables { core.new.tables ≡ core.old.tables }
     {
         match self {
             FetchBlock::Table(i, fetch) => in_table(i, fetch.step(hart, core)),

@@ -6,19 +6,20 @@ ghost use Rattle.atomic_programs.specs.Machines.{Still, Left as LeftOf};
 ghost use Rattle.fs_machine.specs.Steps.{State, state_of};
 ghost use Rattle.fs_machine.specs.Machines.{MayNext, Moves, Answers};
 ghost use Rattle.fs_machine.specs.Tied.{LeavesTied};
-ghost use Rattle.inode_table.specs.Programs.{record_of};
-ghost use Rattle.inode_data.specs.Widths.{most_bytes};
+ghost use Rattle.inode_data.specs.Records.{record_in};
+ghost use Rattle.fs_layout.specs.Bytes.{overwrite};
 ghost use Rattle.inode_data.specs.Programs.{blocks_between, read_blocks, read_from};
 ghost use Rattle.inode_data.specs.Machines.{BlockFetchFits};
 ghost use Rattle.inode_data.specs.Beginnings.{begun_of, IfBegun};
-ghost use Rattle.inode_data.specs.Reading.{bytes_read, read_of, reader_of, ReadFits, in_read_fetch, IsReading, IsAfter};
+ghost use Rattle.inode_data.specs.Reading.{filled_in, read_of, reader_of, ReadFits, in_read_fetch, IsReading, IsAfter};
 
+use crate::addresses::MOST_BLOCKS;
 use crate::begun::{Begun, went_on};
 use crate::fetch_block::FetchBlock;
+use crate::records::record;
 use atomic_programs::machines::Stepped;
 use block_device::Device;
 use buffer_cache::Buffer;
-use fs_layout::Dinode;
 use fs_layout::widths::{BLOCK_LEN, Block};
 use fs_machine::{Core, Kind};
 use fs_tables::Inode;
@@ -56,14 +57,15 @@ impl ReadPart {
         count: u32,
     ) -> Begun<ReadPart, Reading>
         requires loaded { IsSome inode.value.content }
-        requires size { (record_of inode.value).size ≤ most_bytes }
         requires room { count ≤ length bytes.items }
-        ensures program { begun_of read_of bytes_read result ≡ read_from (record_of inode.value) offset count }
+        ensures program { begun_of read_of filled_in result ≡ read_from (record_in inode) offset count bytes.items }
         ensures inode { IfBegun (λ m. reader_of m ≡ inode) (λ r. r.inode ≡ inode) result }
         ensures fits { (hart : ℕ) (s : State) → IfBegun (ReadFits hart s) (λ _. Unit {0}) result }
     {
         let from = offset as usize;
-        let upto = (from + count as usize).min(record(&inode).size as usize);
+        let upto = (from + count as usize).min(
+            (record(&inode).size as usize).min(BLOCK_LEN * MOST_BLOCKS),
+        );
         next(Reading {
             inode,
             bytes,
@@ -79,12 +81,13 @@ impl ReadPart {
     pub fn step<D: Device>(self, hart: u8, core: &mut Core<D>) -> Stepped<ReadPart, Reading, Kind>
         requires may { MayNext hart (read_of self) (state_of D.contents D.failures core.old) }
         requires fits { ReadFits hart (state_of D.contents D.failures core.old) self }
-        ensures moves { Moves read_of bytes_read hart self result (state_of D.contents D.failures core.old) (state_of D.contents D.failures core.new) }
+        ensures moves { Moves read_of filled_in hart self result (state_of D.contents D.failures core.old) (state_of D.contents D.failures core.new) }
         ensures honest { Answers read_of hart self result (state_of D.contents D.failures core.old) (state_of D.contents D.failures core.new) }
         ensures still { Still read_of result self core.old core.new }
         ensures inode { LeftOf (λ m. reader_of m ≡ reader_of self) (λ r. r.inode ≡ reader_of self) result }
         ensures fits { LeftOf (ReadFits hart (state_of D.contents D.failures core.new)) (λ _. Unit {0}) result }
         ensures others { LeavesTied hart (state_of D.contents D.failures core.old) (state_of D.contents D.failures core.new) }
+        ensures tables { core.new.tables ≡ core.old.tables }
     {
         match self {
             ReadPart::Fetching(reading, fetch) => fetching(reading, fetch.step(hart, core)),
@@ -94,17 +97,6 @@ impl ReadPart {
                 went_on(next(reading), Kind::Put)
             }
         }
-    }
-}
-
-// The record of an inode that is loaded.
-fn record(guard: &Guard<Inode>) -> Dinode
-    requires { IsSome guard.now.value.content }
-    ensures { result ≡ record_of guard.now.value }
-{
-    match guard.value().content {
-        Some(inode) => inode,
-        None => unreachable!(),
     }
 }
 
@@ -123,7 +115,7 @@ fn blocks(from: usize, upto: usize) -> usize
 #[tactic(auto, unfolding(crate::specs::Reading::read_of, crate::specs::Reading::ReadFits, crate::specs::Programs::read_blocks))]
 fn next(reading: Reading) -> Begun<ReadPart, Reading>
     requires { IsReading reading.left reading }
-    ensures program { begun_of read_of bytes_read result ≡ read_blocks reading.left (record_of reading.inode.value) reading.from reading.upto (bytes_read reading) }
+    ensures program { begun_of read_of filled_in result ≡ read_blocks reading.left (record_in reading.inode) reading.from reading.upto (filled_in reading) }
     ensures inode { IfBegun (λ m. reader_of m ≡ reading.inode) (λ r. r.inode ≡ reading.inode) result }
     ensures fits { (hart : ℕ) (s : State) → IfBegun (ReadFits hart s) (λ _. Unit {0}) result }
 {
@@ -136,6 +128,14 @@ fn next(reading: Reading) -> Begun<ReadPart, Reading>
     Begun::Runs(ReadPart::Fetching(reading, fetch))
 }
 
+// Copies these bytes to a place.
+fn copy_into(bytes: &mut [u8], at: usize, from: &[u8])
+    requires { at + length from.now ≤ length bytes.old }
+    ensures { bytes.new ≡ overwrite bytes.old at from.now }
+{
+    bytes[at..at + from.len()].copy_from_slice(from);
+}
+
 // Copies the block's part behind what was read before.
 fn after(reading: Reading, block: &Block) -> Reading
     requires { IsReading (reading.left + 1) reading }
@@ -145,7 +145,11 @@ fn after(reading: Reading, block: &Block) -> Reading
     let start = reading.from % BLOCK_LEN;
     let count = (reading.upto - reading.from).min(BLOCK_LEN - start);
     let end = reading.filled + count;
-    reading.bytes[reading.filled..end].copy_from_slice(&block[start..start + count]);
+    copy_into(
+        &mut reading.bytes,
+        reading.filled,
+        &block[start..start + count],
+    );
     reading.filled = end;
     reading.from += BLOCK_LEN - start;
     reading

@@ -1,0 +1,45 @@
+-- Contents emptied: programs over what all harts share. Nothing is marked in them.
+use Rattle.std.specs.Prelude.{ℕ, ◌==◌, if◌then◌else◌, pos, List, [], ◌∷◌, None, replicate, take}
+use Rattle.fs_layout.specs.declared.inode.Dinode.{Dinode}
+use Rattle.fs_layout.specs.declared.superblock.Super.{Super}
+use Rattle.fs_layout.specs.Indirect.{numbers_in}
+use Rattle.fs_layout.specs.Widths.{addresses}
+use Rattle.atomic_programs.specs.Prog.{Prog, Ret, Do, bind, unmarked}
+use Rattle.fs_machine.specs.Steps.{Op, Answer, Put}
+use Rattle.fs_machine.specs.Programs.{fetch}
+use Rattle.bitmap_alloc.specs.Programs.{free_block}
+use Rattle.inode_table.specs.Programs.{store}
+use Rattle.inode_data.specs.Widths.{direct}
+use Rattle.inode_data.specs.Addresses.{table_of}
+
+-- each of these numbers that isn't 0 is that of a block, which is given back, the first one first
+abbrev pub free_numbers : {M A : Type 0} → (bitmap : ℕ) → List ℕ → Prog Op Answer M A → Prog Op Answer M A
+free_numbers bitmap [] after = after
+free_numbers bitmap (b ∷ bs) after = if b == 0 then free_numbers bitmap bs after else bind (free_block bitmap b) (λ _. free_numbers bitmap bs after)
+
+-- the indirect block goes back as it was, and is given back itself
+abbrev pub free_table : {M A : Type 0} → (bitmap table : ℕ) → Prog Op Answer M A → Prog Op Answer M A
+free_table bitmap table after = Do (Put table None) unmarked (λ _. bind (free_block bitmap table) (λ _. after))
+
+-- while its buffer is in hand, the blocks are given back whose numbers stand in it
+abbrev pub free_in_table : {M A : Type 0} → (bitmap table : ℕ) → Prog Op Answer M A → List ℕ → Prog Op Answer M A
+free_in_table bitmap table after bytes = free_numbers bitmap (numbers_in bytes) (free_table bitmap table after)
+
+-- the same where there is one
+abbrev pub free_indirect : {M A : Type 0} → (bitmap table : ℕ) → Prog Op Answer M A → Prog Op Answer M A
+free_indirect bitmap table after = if table == 0 then after else bind (fetch table) (free_in_table bitmap table after)
+
+-- an inode without content
+abbrev pub without_content : Dinode → Dinode
+without_content d = record d { size = 0; addrs = replicate addresses 0 }
+
+-- and one that may be taken again: of its record the device numbers stay, and its count, which is 0
+abbrev pub freed : Dinode → Dinode
+freed d = record d { kind = pos 0 }
+
+abbrev pub store_record : {M : Type 0} → Super → ℕ → Dinode → Prog Op Answer M Dinode
+store_record sizes n d = bind (store sizes.inodestart n d) (λ _. Ret d)
+
+-- All blocks of inode n are given back, and its record is stored without them: what stands on the disk then.
+abbrev pub truncate : {M : Type 0} → Super → ℕ → Dinode → Prog Op Answer M Dinode
+truncate sizes n d = free_numbers sizes.bmapstart (take direct d.addrs) (free_indirect sizes.bmapstart (table_of d) (store_record sizes n (without_content d)))
