@@ -259,9 +259,17 @@ has_node h i v O x ov is = ap (λ (y : Held). y.node) (has_inode h i v O x ov is
 pub root_live : (t : Tree) → IsWellFormed t → is_live (t.nodes root) ≡ true
 root_live t k = linked_live (t.nodes root) (folder_linked (folders_of t.nodes) (links_in t.nodes) (raises t.holds) t.ninodes k.depth root k.forest k.forest.rooted)
 
+-- what the hart has found in a directory that it keeps
+abbrev pub HasFound : Own → ℕ → Type 0
+HasFound O i = (O.mine.pending ≡ Some i) ⊎ ((d : ℕ) × (x : Held) × (e : List ℕ) × (O.inodes d ≡ Some x) × (look (λ j. x.node) d e ≡ Some i))
+
+pub found_at : (h i : ℕ) (v : World) (O : Own) → Inv v → own_of h v ≡ O → h < hart_count → HasFound O i → Found v.keeper v.all.nodes h i
+found_at h i v O inv ov lt (inl p) = inv.pending h i lt (ap (λ (o : Own). o.mine.pending) ov ∙ p)
+found_at h i v O inv ov lt (inr (d, x, e, is, f)) = record { directory = d; name = e; keeps = (has_inode h d v O x ov is).0; finds = look_same (λ j. x.node) v.all.nodes d e (has_node h d v O x ov is) ∙ f }
+
 -- a reference more, where one's own stands, or something was found
 abbrev pub MayRefer : Own → ℕ → Type 0
-MayRefer O i = (0 < O.mine.refs i) ⊎ ((i ≡ root) ⊎ ((O.mine.pending ≡ Some i) ⊎ ((d : ℕ) × (x : Held) × (e : List ℕ) × (O.inodes d ≡ Some x) × (look (λ j. x.node) d e ≡ Some i))))
+MayRefer O i = (0 < O.mine.refs i) ⊎ ((i ≡ root) ⊎ HasFound O i)
 
 pub one_up : (r : ℕ) → 0 < r + 1
 one_up r = omega arith
@@ -402,15 +410,15 @@ ups h i O v0 inv0 ov0 free0 lt may only notes = record { fair = fair inv0 (did v
 
 -- a reference more, where there is a place in memory
 pub s-up : {A : Type 0} {h i : ℕ} {m : Bool → Option Mark} {k : Bool → P machine A} {B : List Step → Type 0} {Q : A → List Step → World → Type 0} {n : ℕ} {es : List Step} {w : World} {O : Own}
-    → own_of h w ≡ O → O.desk.lender ≡ None → h < hart_count → 0 < n → m true ≡ None → MayRefer O i → ((O.mine.pending ≡ None) ⊎ (O.mine.pending ≡ Some i)) → NotesOwn O i
+    → own_of h w ≡ O → O.desk.lender ≡ None → h < hart_count → 0 < n → m true ≡ None → HasFound O i → ((O.mine.pending ≡ None) ⊎ (O.mine.pending ≡ Some i)) → NotesOwn O i
     → ((l : ℕ) (u : World) → l + 1 ≡ n → own_of h u ≡ record O { mine = record { refs = put O.mine.refs i (O.mine.refs i + 1); walk = O.mine.walk; pending = None } } → Safe machine h B Q (k true) l es u)
     → ((v : World) → Inv v → own_of h v ≡ O → Fine machine h (places h (Up i) false (m false) v) 0 n B es v (marked h (m false) v) (λ l. Wp machine h B Q (k false) l (onto (own h (places h (Up i) false (m false) v)) es) (marked h (m false) v)))
     → Safe machine h B Q (Do (Up i) m k) n es w
-s-up {A} {h} {i} {m} {k} {B} {Q} {n} {es} {w} {O} owns free lt pos quietly may only notes rest full = s-owned owns free pos (λ v inv ov. (tt, (λ x honest. at v inv ov (has_place v i))))
+s-up {A} {h} {i} {m} {k} {B} {Q} {n} {es} {w} {O} owns free lt pos quietly found only notes rest full = s-owned owns free pos (λ v inv ov. (found_at h i v O inv ov lt found, (λ x honest. at v inv ov (has_place v i))))
   where
     at : (v : World) → Inv v → own_of h v ≡ O → (b : Bool) → Good machine Bool h (λ a. places h (Up i) a (m a) v) 0 n B es v ⊥ (with_mark h m (up_if h i v b)) (λ l a u. Wp machine h B Q (k a) l (onto (own h (places h (Up i) a (m a) v)) es) u)
     at v inv ov false = full v inv ov
     at v inv ov true =
-        let x = ups h i O v inv ov free lt may only notes in
+        let x = ups h i O v inv ov free lt (inr (inr found)) only notes in
         subst (λ (z : Option Mark). Fine machine h (places h (Up i) true z v) 0 n B es v (marked h z (counted_up h i v)) (λ l. Wp machine h B Q (k true) l (onto (own h (places h (Up i) true z v)) es) (marked h z (counted_up h i v)))) (sym quietly)
         (quiet x.fair x.stage pos (λ l q. (rest l (counted_up h i v) q x.owned).wp))

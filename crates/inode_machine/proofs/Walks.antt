@@ -260,7 +260,7 @@ module _ (h : ℕ) (s : Action) (B : List Step → Type 0) (Q : Reply → List S
       → ((ms : List ℕ) (l : ℕ) (u : World) (R : Own) → C + 971 * length ms + K ≤ l → At h j base ms k O2.desk.noted P0 R u → Safe machine h B Q (go j ms) l es u)
       → Safe machine h B Q (walk_step d ns go lost (Some j)) n es u
   s-arrive C d j c k ns n es u O O2 P0 M go own2 few st0 listed out refs f st free0 full back arrives =
-      s-up own2 free lt (omega (arith, few)) refl (inr (inr (inl f.pending))) (inr f.pending) (λ m q e. inr f.pending)
+      s-up own2 free lt (omega (arith, few)) refl (inl f.pending) (inr f.pending) (λ m q e. inr f.pending)
       (λ l3 u3 q3 own3.
       s-leave-directory d ns c x base {O = record O2 { inodes = O.inodes }} own3 free lt (omega (arith, q3, few)) f.inodes out listed2 refl refs3 (λ i p. put_other O2.mine.refs j (O2.mine.refs j + 1) i (not_j i p)) (λ i. refl) may
       (λ l4 ms R u4 q4 len own4 refs4 walk4 pending4 row4 desk4 ninodes4 listed4 there here. arrives ms l4 u4 R (omega (arith, q3, q4, len, few)) (record {

@@ -226,8 +226,8 @@ MayWait h (ReadFile fd n) w = EntryOut h w (entry_of w h fd)
 MayWait h (WriteFile fd n bytes) w = IsOut h (w.lock n)
 MayWait h op w = ⊥
 
--- What an operation asks. Who locks an inode refers to it, and hasn't locked it; who changes one has its lock and has joined; who joins, leaves, opens by a
--- descriptor or replies has no lock.
+-- What an operation asks. Who locks an inode refers to it, and hasn't locked it; who refers to one more has found it in a directory that it keeps; who changes
+-- one has its lock and has joined; who joins, leaves, opens by a descriptor or replies has no lock.
 
 abbrev pub Locks : ℕ → ℕ → World → Type 0
 Locks h n w = w.lock n ≡ Some h
@@ -245,7 +245,7 @@ abbrev pub May : ℕ → Op → World → Type 0
 May h (Take n looking) w = Refers h n w
 May h (Give n) w = Locks h n w
 May h (UpStart absolute) w = LocksNone h w
-May h (Up n) w = Unit {0}
+May h (Up n) w = Found w.keeper w.all.nodes h n
 May h (WalkDown n) w = Refers h n w
 May h (Down n) w = Refers h n w
 May h (Free n) w = Changes h n w
