@@ -150,7 +150,7 @@ module _ (h : ℕ) (path : List ℕ) (w : World) (free : (w.desks h).lender ≡ 
       (λ v inv ov. let q : v.all.cwd h ≡ j = ap (λ (o : Own). o.row.cwd) ov ∙ ap (λ (r : Row). r.cwd) at.stays.row in ap (λ (z : ℕ). sort_of (v.all.nodes z)) (sym q) ∙ directory_sort v.all h inv.well lt)
       (λ l1 x u1 q1 sort own1.
       subst (λ (b : Bool). Safe machine h B Q (if b then Do (Settle j) unmarked (λ old. drop old (tail ns (done c))) else give_up j (tail ns (failed c NotDirectory))) l1 es u1) (sym (face_sort x OfDirectory sort))
-      (s-settle own1 (at.stays.lender ∙ free) lt (omega (arith, q1, few)) (put_same R.inodes j (Some (locked_held x))) refl refl refl at.pending (ap (λ (r : Row). r.cwd) at.stays.row) (λ l2 u2 q2 own2.
+      (s-settle own1 (at.stays.lender ∙ free) lt (omega (arith, q1, few)) (put_same R.inodes j (Some (locked_held x))) refl refl refl at.pending (ap (λ (r : Row). r.cwd) at.stays.row) spare (λ l2 u2 q2 own2.
       subst (λ (z : ℕ). Safe machine h B Q (drop z (tail ns (done c))) l2 es u2) (sym (at.stays.directory))
       (s-drop d own2 (at.stays.lender ∙ free) lt (omega (arith, q1, q2, few)) (at.stays.joined) (back_at R.inodes j (Some (locked_held x)) at.out d ∙ out_d (R.inodes d) refl) here at.pending at.walk twice (λ l3 u3 q3 own3.
       s-ends h c (done c) (λ i. one_if (j == i)) ns l3 es u3 _ own3 (at.stays.lender ∙ free) lt (omega (arith, q1, q2, q3, few)) at.stays.joined
@@ -160,6 +160,10 @@ module _ (h : ℕ) (path : List ℕ) (w : World) (free : (w.desks h).lender ≡ 
     where
       d : ℕ
       d = (w.desks h).directory
+
+      -- the new directory's reference is one more
+      spare : one_if (R.desk.directory == j) < R.mine.refs j
+      spare = let r = at.refs j in let o = one_at j in let b : one_if (R.desk.directory == j) ≡ one_if (d == j) = (λ z. one_if (at.stays.directory z == j)) in omega (arith, r, o, b)
 
       after : Option Node → Own
       after x = record R {

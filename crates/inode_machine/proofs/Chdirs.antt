@@ -12,6 +12,7 @@ use Rattle.plain_tree.specs.Widths.{hart_count}
 use Rattle.plain_tree.specs.Tree.{Name, Tree, put, is_directory, hold_names, settle}
 use Rattle.plain_tree.specs.Steps.{node_at, node_or, answer_with, effect_with, place_of, refusal_with, StepWith}
 use Rattle.plain_tree.specs.HartRow.{key_names, row_of}
+use Rattle.tree_laws.specs.WellFormed.{one_if}
 use Rattle.tree_laws.proofs.Maps.{either, eq_is, or_right, put_same, put_other}
 use Rattle.tree_laws.proofs.Opened.{well_chdir}
 use Rattle.tree_moves.specs.Moves.{Step}
@@ -226,11 +227,11 @@ mends_left h k v O ov free lt inv opening left hold names = subst (λ (z : World
 
 -- The lock is given up, and the tree's current directory is the hart's.
 pub s-settle : {A : Type 0} {h i : ℕ} {x : Held} {k : ℕ → P machine A} {B : List Step → Type 0} {Q : A → List Step → World → Type 0} {n : ℕ} {es : List Step} {w : World} {O : Own}
-    → own_of h w ≡ O → O.desk.lender ≡ None → h < hart_count → 0 < n → O.inodes i ≡ Some x → x.locked ≡ true → x.alone ≡ false → x.disk ≡ x.node → O.mine.pending ≡ None → O.row.cwd ≡ i
+    → own_of h w ≡ O → O.desk.lender ≡ None → h < hart_count → 0 < n → O.inodes i ≡ Some x → x.locked ≡ true → x.alone ≡ false → x.disk ≡ x.node → O.mine.pending ≡ None → O.row.cwd ≡ i → one_if (O.desk.directory == i) < O.mine.refs i
     → ((l : ℕ) (u : World) → l + 1 ≡ n → own_of h u ≡ record O { inodes = put O.inodes i None; desk = record (O.desk) { directory = i; left = None } } → Safe machine h B Q (k O.desk.directory) l es u)
     → Safe machine h B Q (Do (Settle i) unmarked k) n es w
-s-settle {A} {h} {i} {x} {k} {B} {Q} {n} {es} {w} {O} owns free lt pos isi has shared whole none stands rest = s-owned owns free pos (λ v inv ov. (
-  locks_it h i v O x ov isi has,
+s-settle {A} {h} {i} {x} {k} {B} {Q} {n} {es} {w} {O} owns free lt pos isi has shared whole none stands spare rest = s-owned owns free pos (λ v inv ov. (
+  (locks_it h i v O x ov isi has, subst (λ (o : Own). one_if (o.desk.directory == i) < o.mine.refs i) (sym ov) spare),
   (λ _ _.
       let a : v.alone i ≡ false = ap (λ (y : Held). y.alone) (has_inode h i v O x ov isi).1 ∙ shared in
       let f = settles v inv ov in

@@ -1,5 +1,5 @@
 -- Unlocking, writing, counting down, and claiming a free number.
-use Rattle.std.proofs.Common.{◌≡◌, ◌≢◌, ◌⊎◌, inl, inr, ℕ, ◌+◌, ◌-◌, ◌<◌, Bool, true, false, ◌==◌, List, [], Option, Some, None, refl, sym, ◌∙◌, ap, subst, arith}
+use Rattle.std.proofs.Common.{◌≡◌, ◌≢◌, ◌⊎◌, inl, inr, ℕ, ◌+◌, ◌-◌, ◌<◌, ◌≤◌, Bool, true, false, ◌==◌, List, [], Option, Some, None, refl, sym, ◌∙◌, ap, subst, arith}
 use Rattle.std.proofs.lemmas.Bool.Decides.{nat_tests}
 use Rattle.atomic_programs.specs.Prog.{Do, unmarked}
 use Rattle.atomic_programs.specs.Logic.{P, Good, Fine, Safe, Wp}
@@ -7,15 +7,16 @@ use Rattle.plain_tree.specs.declared.node.Node.{Node}
 use Rattle.plain_tree.specs.Widths.{hart_count}
 use Rattle.plain_tree.specs.Tree.{put, is_live, settle}
 use Rattle.plain_tree.specs.HartRow.{row_of}
-use Rattle.tree_laws.specs.WellFormed.{sum_below}
-use Rattle.tree_laws.proofs.Maps.{eq_is, either, same_or, put_same, put_other, and_true}
+use Rattle.tree_laws.specs.WellFormed.{sum_below, one_if}
+use Rattle.tree_laws.proofs.Maps.{eq_is, eq_not, either, same_or, put_same, put_other, and_true}
+use Rattle.tree_laws.proofs.Sums.{one_no}
 use Rattle.tree_moves.specs.Moves.{Walk, Step}
 use Rattle.inode_machine.specs.World.{Mine, World, stage_of}
 use Rattle.inode_machine.specs.Marks.{with_mark}
 use Rattle.inode_machine.specs.Exec.{unlocked, counted_down, down_if, is_dead, is_last, reserved, walk_down_if}
 use Rattle.inode_machine.specs.World.Op.{Down, Give, WalkDown}
-use Rattle.inode_machine.specs.Rules.{Own, shop_of, own_names, Held, view, is_hart, if_kept, own_of, Pinned, Inv, machine, Reached}
-use Rattle.inode_machine.proofs.Frame.{shop_same, put_elim, ours_none, ours_some, kept_here, Did, Fair, fair, own_inodes, has_inode, has_none, one_refs, two_refs}
+use Rattle.inode_machine.specs.Rules.{Own, shop_of, own_names, Held, view, is_hart, if_kept, own_of, Pinned, Inv, machine, Reached, Spares, left_or}
+use Rattle.inode_machine.proofs.Frame.{shop_same, put_elim, ours_none, ours_some, kept_here, Did, Fair, fair, own_inodes, has_inode, has_none, directory_named, one_refs, two_refs}
 use Rattle.inode_machine.proofs.Rules.{opens_slots, s-owned, quiet, each_refs, here_refs, walks_refs, total_same, total_changed, my_refs, not_alone, has_disk, has_node, is_me, is_mine, locks_it, locks_not}
 
 abbrev pub after_unlock : ℕ → World → World
@@ -270,6 +271,25 @@ pub record Counting (h i : ℕ) (v : World) (O : Own) : Type 0 where
 abbrev pub MayDrop : Own → ℕ → Type 0
 MayDrop O i = (1 < O.mine.refs i) ⊎ ((own_names O.row O.desk i ≡ false) × ((y : Walk) → O.mine.walk ≡ Some y → y.at ≢ i))
 
+pub one_most : (b : Bool) → one_if b ≤ 1
+unfolding one_if
+one_most true = omega arith
+one_most false = omega arith
+
+-- What the hart doesn't name isn't its current directory, whatever it is opening.
+pub not_home : (h i : ℕ) (v : World) (O : Own) (o : Option ℕ) → Inv v → own_of h v ≡ O → h < hart_count → own_names O.row (record (O.desk) { opening = o }) i ≡ false → O.desk.directory ≢ i
+not_home h i v O o inv ov lt unnamed q =
+    let at : O.desk.directory ≡ left_or O.desk.left O.row.cwd = subst (λ (p : Own). p.desk.directory ≡ left_or p.desk.left p.row.cwd) ov (inv.directory h lt).at in
+    let a : own_names O.row (record (O.desk) { opening = o }) i ≡ true = ap (own_names O.row (record (O.desk) { opening = o })) (sym q) ∙ directory_named O.row (record (O.desk) { opening = o }) at in
+    absurd (cc (a, unnamed))
+
+pub spares : (h i : ℕ) (v : World) (O : Own) → own_of h v ≡ O → 0 < O.mine.refs i → ((1 < O.mine.refs i) ⊎ (O.desk.directory ≢ i)) → Spares h i v
+spares h i v O ov refers may = subst (λ (o : Own). one_if (o.desk.directory == i) < o.mine.refs i) (sym ov) (at may)
+  where
+    at : ((1 < O.mine.refs i) ⊎ (O.desk.directory ≢ i)) → one_if (O.desk.directory == i) < O.mine.refs i
+    at (inl m) = let o = one_most (O.desk.directory == i) in omega (arith, m, o)
+    at (inr ne) = let o = one_no (O.desk.directory == i) (eq_not O.desk.directory i ne) in omega (arith, refers, o)
+
 pub counting : (h i : ℕ) (v : World) (O : Own) → own_of h v ≡ O → O.desk.lender ≡ None → h < hart_count → Inv v → O.inodes i ≡ None → 0 < O.mine.refs i → O.mine.pending ≡ None → MayDrop O i → Counting h i v O
 counting h i v O ov free lt inv out refers none still = record { fair = fair inv did; stage = (λ z. record { tree = settle v.all; walk = walks_refs v.harts h i ((v.harts h).refs i - 1) z }); owned = owned }
   where
@@ -382,7 +402,7 @@ pub s-down : {A : Type 0} {h i : ℕ} {k : Bool → P machine A} {B : List Step 
     → ((l : ℕ) (s : Option Node) (u : World) → l + 1 ≡ n → is_live s ≡ false → O.mine.refs i ≡ 1 → own_of h u ≡ record O { inodes = put O.inodes i (Some (record { disk = s; node = s; alone = true; locked = true })) } → Safe machine h B Q (k true) l es u)
     → ((l : ℕ) (u : World) → l + 1 ≡ n → own_of h u ≡ record O { mine = record { refs = put O.mine.refs i (O.mine.refs i - 1); walk = O.mine.walk; pending = O.mine.pending } } → Safe machine h B Q (k false) l es u)
     → Safe machine h B Q (Do (Down i) unmarked k) n es w
-s-down {A} {h} {i} {k} {B} {Q} {n} {es} {w} {O} owns free lt pos out refers none still last rest = s-owned owns free pos (λ v inv ov. ((let r = my_refs h v O i ov in omega (arith, r, refers), locks_not h i v O inv ov out), (λ x honest. at v inv ov (is_last v i) refl)))
+s-down {A} {h} {i} {k} {B} {Q} {n} {es} {w} {O} owns free lt pos out refers none still last rest = s-owned owns free pos (λ v inv ov. ((spares h i v O ov refers (elim still [ inl m ↦ inl m | inr m ↦ inr (not_home h i v O O.desk.opening inv ov lt m.0) ]), locks_not h i v O inv ov out), (λ x honest. at v inv ov (is_last v i) refl)))
   where
     at : (v : World) → Inv v → own_of h v ≡ O → (b : Bool) → is_last v i ≡ b → Good machine Bool h (λ a. []) 0 n B es v ⊥ (with_mark h unmarked (down_if h i v b)) (λ l a u. Wp machine h B Q (k a) l es u)
     at v inv ov true e =
@@ -397,7 +417,7 @@ pub s-walk-down : {A : Type 0} {h i : ℕ} {k : Bool → P machine A} {B : List 
     → ((l : ℕ) (s : Option Node) (u : World) → l + 1 ≡ n → is_live s ≡ false → O.mine.refs i ≡ 1 → own_of h u ≡ record O { inodes = put O.inodes i (Some (record { disk = s; node = s; alone = true; locked = false })) } → Safe machine h B Q (k true) l es u)
     → ((l : ℕ) (u : World) → l + 1 ≡ n → own_of h u ≡ record O { mine = record { refs = put O.mine.refs i (O.mine.refs i - 1); walk = O.mine.walk; pending = O.mine.pending } } → Safe machine h B Q (k false) l es u)
     → Safe machine h B Q (Do (WalkDown i) unmarked k) n es w
-s-walk-down {A} {h} {i} {k} {B} {Q} {n} {es} {w} {O} owns free lt pos out refers none still last rest = s-owned owns free pos (λ v inv ov. ((let r = my_refs h v O i ov in omega (arith, r, refers), locks_not h i v O inv ov out), (λ x honest. at v inv ov (is_last v i) refl)))
+s-walk-down {A} {h} {i} {k} {B} {Q} {n} {es} {w} {O} owns free lt pos out refers none still last rest = s-owned owns free pos (λ v inv ov. ((spares h i v O ov refers (elim still [ inl m ↦ inl m | inr m ↦ inr (not_home h i v O O.desk.opening inv ov lt m.0) ]), locks_not h i v O inv ov out), (λ x honest. at v inv ov (is_last v i) refl)))
   where
     at : (v : World) → Inv v → own_of h v ≡ O → (b : Bool) → is_last v i ≡ b → Good machine Bool h (λ a. []) 0 n B es v ⊥ (with_mark h unmarked (walk_down_if h i v b)) (λ l a u. Wp machine h B Q (k a) l es u)
     at v inv ov true e =

@@ -24,7 +24,7 @@ use Rattle.tree_laws.proofs.Maps.{eq_self}
 use Rattle.inode_machine.specs.Rules.{Own}
 use Rattle.inode_machine.proofs.Frame.{shop_same, put_elim, ours_none, ours_some, kept_here, Did, Fair, fair, fair_then, own_inodes, has_inode, found_more, one_refs, two_refs, stands_in, directory_named}
 use Rattle.inode_machine.proofs.Rules.{s-owned, quiet, each_refs, here_refs, walks_refs, total_same, total_changed, my_refs, is_me, has_disk, has_node, locks_it}
-use Rattle.inode_machine.proofs.Counting.{Writes, writes}
+use Rattle.inode_machine.proofs.Counting.{Writes, writes, spares, not_home}
 use Rattle.inode_machine.proofs.Rows.{hart_not}
 use Rattle.inode_machine.specs.Inodes.{Looking, Seen, seen_in, sort_of}
 
@@ -346,7 +346,7 @@ pub s-down-freed : {A : Type 0} {h i : ℕ} {x : Held} {k : Bool → P machine A
     → ((l : ℕ) (u : World) → l + 1 ≡ n → own_of h u ≡ record O { inodes = put O.inodes i None; mine = record { refs = put O.mine.refs i (O.mine.refs i - 1); walk = O.mine.walk; pending = O.mine.pending } } → Safe machine h B Q (k false) l es u)
     → Safe machine h B Q (Do (Down i) unmarked k) n es w
 s-down-freed {A} {h} {i} {x} {k} {B} {Q} {n} {es} {w} {O} owns free lt pos isi lone out blank gone one none unnamed unwalked rest = s-owned owns free pos (λ v inv ov. (
-  (let r = my_refs h v O i ov in omega (arith, r, one), not_out v ov),
+  (spares h i v O ov (omega (arith, one)) (inr (not_home h i v O O.desk.opening inv ov lt unnamed)), not_out v ov),
   (λ _ _.
       subst (λ (b : Bool). Good machine Bool h (λ a. []) 0 n B es v ⊥ (with_mark h unmarked (down_if h i v b)) (λ l a u. Wp machine h B Q (k a) l es u)) (sym (and_none (v.refs i == 1) (v.disk i) (has_disk h i v O x ov isi ∙ blank)))
       (good v inv ov)),

@@ -21,6 +21,7 @@ use Rattle.inode_machine.specs.Marks.{marked, places, with_mark}
 use Rattle.inode_machine.specs.Rules.{id_at, key_in, number_is, own_names, own_of, shop_of, uses, users, Held, IsOpening, Own, Inv, Opens, Reached, Shop, Tied, machine}
 use Rattle.inode_machine.proofs.Frame.{put_elim, stands_on, has_inode, one_refs, Did, fair}
 use Rattle.inode_machine.proofs.Rules.{s-owned, quiet, each_refs, has_node, here_refs, my_refs, total_changed, total_same, walks_refs}
+use Rattle.inode_machine.proofs.Counting.{not_home, spares}
 use Rattle.inode_machine.proofs.Rows.{is_at_some}
 use Rattle.inode_machine.proofs.Tables.{less_is, less_not, users_put, users_some, with_fd}
 use Rattle.inode_machine.proofs.Dups.{not_one}
@@ -201,7 +202,7 @@ s-install {A} {h} {x} fd s f sort {m} {k} {B} {Q} {n} {es} {w} {O} owns free lt 
     let a : (v.desks h).hand ≡ Some s = ap (λ (o : Own). o.desk.hand) ov ∙ hand in
     let b : has_room (v.desks h).fds ≡ true = ap (λ (o : Own). has_room o.desk.fds) ov ∙ room in
     let c : lowest (v.desks h).fds ≡ fd = ap (λ (o : Own). lowest o.desk.fds) ov ∙ low in (
-      (λ q. cc (a, q)),
+      ((λ q. cc (a, q)), start, spares h f.number v O ov refers (elim may [ inl y ↦ inl y | inr y ↦ inr (not_home h f.number v O None inv ov lt y) ])),
       (λ _ _. subst (λ (z : Came (Option ℕ) World). Good machine (Option ℕ) h (λ a. places h (Install f sort) a (m a) v) 0 n B es v ⊥ (with_mark h m z) (λ l a u. Wp machine h B Q (k a) l (onto (own h (places h (Install f sort) a (m a) v)) es) u))
           (sym ((λ i. install_if h v f sort (a i) (b i)) ∙ (λ i. Ran (Some (c i)) (installed h v f sort s (c i))))) (good v inv ov)),
     ))

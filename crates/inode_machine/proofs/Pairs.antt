@@ -22,6 +22,7 @@ use Rattle.inode_machine.specs.Opening.{unmake}
 use Rattle.inode_machine.specs.Theory.{covered_calls}
 use Rattle.inode_machine.proofs.Frame.{has_inode}
 use Rattle.inode_machine.proofs.Rules.{s-owned, quiet, my_refs, has_disk}
+use Rattle.inode_machine.proofs.Counting.{not_home, spares}
 use Rattle.inode_machine.proofs.Freeing.{locking_kept, s-free, s-give-alone, s-down-freed}
 use Rattle.inode_machine.proofs.Listing.{times, one_at, one_else}
 use Rattle.inode_machine.proofs.Walks.{Stays, names_stay, stays_same}
@@ -108,11 +109,11 @@ s-end-pair-back h c r {base} {ns} {O0} {d} {i} {x} {z} n es w O lt joins owns fe
 
 -- the last reference to a dead inode that the hart keeps alone takes its lock
 pub s-down-kept : {A : Type 0} {h i : ℕ} {x : Held} (y : Node) {k : Bool → P A} {B : List Step → Type 0} {Q : A → List Step → World → Type 0} {n : ℕ} {es : List Step} {w : World} {O : Own}
-    → own_of h w ≡ O → O.desk.lender ≡ None → h < hart_count → 0 < n → O.inodes i ≡ Some x → x.alone ≡ true → x.locked ≡ false → x.disk ≡ Some y → y.count ≡ 0 → O.mine.refs i ≡ 1
+    → own_of h w ≡ O → O.desk.lender ≡ None → h < hart_count → 0 < n → O.inodes i ≡ Some x → x.alone ≡ true → x.locked ≡ false → x.disk ≡ Some y → y.count ≡ 0 → O.mine.refs i ≡ 1 → own_names O.row O.desk i ≡ false
     → ((l : ℕ) (u : World) → l + 1 ≡ n → own_of h u ≡ record O { inodes = put O.inodes i (Some (record x { locked = true })) } → Safe machine h B Q (k true) l es u)
     → Safe machine h B Q (Do (Down i) unmarked k) n es w
-s-down-kept {A} {h} {i} {x} y {k} {B} {Q} {n} {es} {w} {O} owns free lt pos isi lone out disk dead one rest = s-owned owns free pos (λ v inv ov. (
-  (let r = my_refs h v O i ov in omega (arith, r, one), (λ e. let a = locking_kept h i x v O ov free lt inv isi out in let b = a.unlocked in cc (b, e))),
+s-down-kept {A} {h} {i} {x} y {k} {B} {Q} {n} {es} {w} {O} owns free lt pos isi lone out disk dead one unnamed rest = s-owned owns free pos (λ v inv ov. (
+  (spares h i v O ov (omega (arith, one)) (inr (not_home h i v O O.desk.opening inv ov lt unnamed)), (λ e. let a = locking_kept h i x v O ov free lt inv isi out in let b = a.unlocked in cc (b, e))),
   (λ _ _. subst (λ (b : Bool). Good machine Bool h (λ a. []) 0 n B es v ⊥ (with_mark h unmarked (down_if h i v b)) (λ l a u. Wp machine h B Q (k a) l es u)) (sym (last v inv ov)) (good v inv ov)),
 ))
   where
@@ -141,7 +142,7 @@ pub s-unmake : (h : ℕ) (c : Call) (r : Reply) {base : ℕ → ℕ} {ns : List 
 s-unmake h c r {base} {ns} {O0} {d} {i} {x} {z} y n es w O lt joins owns few p whole disk node lone has zero walk none told =
     s-store i 0 y owns free lt (omega (arith, few)) joined (p.hold.has i z p.at_i) has disk (λ l1 u1 q1 own1.
     s-give-alone own1 free lt (omega (arith, few, q1)) (put_same O.inodes i (Some y1)) has lone (λ l2 u2 q2 own2.
-    s-down-kept (with_count 0 y) own2 free lt (omega (arith, few, q1, q2)) (put_same (put O.inodes i (Some y1)) i (Some y2)) lone refl refl refl one (λ l3 u3 q3 own3.
+    s-down-kept (with_count 0 y) own2 free lt (omega (arith, few, q1, q2)) (put_same (put O.inodes i (Some y1)) i (Some y2)) lone refl refl refl one unnamed (λ l3 u3 q3 own3.
     s-free own3 free lt (omega (arith, few, q1, q2, q3)) joined (put_same (put (put O.inodes i (Some y1)) i (Some y2)) i (Some y3)) refl lone unnamed none (λ l4 u4 q4 own4.
     s-give-alone own4 free lt (omega (arith, few, q1, q2, q3, q4)) (put_same _ i (Some y4)) refl lone (λ l5 u5 q5 own5.
     s-down-freed own5 free lt (omega (arith, few, q1, q2, q3, q4, q5)) (put_same _ i (Some y5)) lone refl refl refl one none unnamed (λ k is. absurd (cc (is, walk))) (λ l6 u6 q6 own6.

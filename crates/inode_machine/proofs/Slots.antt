@@ -1,5 +1,5 @@
 -- A slot of the open-file table is taken in hand, and given back.
-use Rattle.std.proofs.Common.{◌≡◌, ◌≢◌, ◌⊎◌, inl, inr, ℕ, ◌+◌, ◌<◌, Bool, true, false, not, List, Option, Some, None, refl, sym, ◌∙◌, ap, subst, arith}
+use Rattle.std.proofs.Common.{◌≡◌, ◌≢◌, ◌⊎◌, inl, inr, ℕ, ◌+◌, ◌<◌, Bool, true, false, ◌==◌, not, List, Option, Some, None, refl, sym, ◌∙◌, ap, subst, arith}
 use Rattle.atomic_programs.specs.Prog.{Do, Did as Came}
 use Rattle.atomic_programs.specs.Logic.{P, own, onto, Good, Fine, Safe, Wp}
 use Rattle.plain_tree.specs.declared.tree.OpenFile.{OpenFile}
@@ -159,14 +159,14 @@ s-slot {A} {h} {m} {k} {B} {Q} {n} {es} {w} {O} M owns free lt pos none unmarked
 
 -- No descriptor is free: the slot is given back.
 pub s-install-full : {A : Type 0} {h : ℕ} (s : ℕ) (f : OpenFile) (sort : Sort) {m : Option ℕ → Option Mark} {k : Option ℕ → P machine A} {B : List Step → Type 0} {Q : A → List Step → World → Type 0} {n : ℕ} {es : List Step} {w : World} {O : Own} (M : Own)
-    → own_of h w ≡ O → O.desk.lender ≡ None → h < hart_count → 0 < n → O.desk.hand ≡ Some s → has_room O.desk.fds ≡ false → m None ≡ Some Mends
+    → own_of h w ≡ O → O.desk.lender ≡ None → h < hart_count → 0 < n → O.desk.hand ≡ Some s → has_room O.desk.fds ≡ false → f.offset ≡ 0 → one_if (O.desk.directory == f.number) < O.mine.refs f.number → m None ≡ Some Mends
     → ((v : World) → Inv v → own_of h v ≡ record O { desk = record (O.desk) { hand = None } } → Mending h v (mended h v) M)
     → ((l : ℕ) (u : World) → l + 1 ≡ n → own_of h u ≡ M → Safe machine h B Q (k None) l es u)
     → Safe machine h B Q (Do (Install f sort) m k) n es w
-s-install-full {A} {h} s f sort {m} {k} {B} {Q} {n} {es} {w} {O} M owns free lt pos hand room mark mends rest = s-owned owns free pos (λ v inv ov.
+s-install-full {A} {h} s f sort {m} {k} {B} {Q} {n} {es} {w} {O} M owns free lt pos hand room start spare mark mends rest = s-owned owns free pos (λ v inv ov.
     let a : (v.desks h).hand ≡ Some s = ap (λ (o : Own). o.desk.hand) ov ∙ hand in
     let b : has_room (v.desks h).fds ≡ false = ap (λ (o : Own). has_room o.desk.fds) ov ∙ room in (
-      (λ q. cc (a, q)),
+      ((λ q. cc (a, q)), start, subst (λ (o : Own). one_if (o.desk.directory == f.number) < o.mine.refs f.number) (sym ov) spare),
       (λ _ _. subst (λ (z : Came (Option ℕ) World). Good machine (Option ℕ) h (λ a. places h (Install f sort) a (m a) v) 0 n B es v ⊥ (with_mark h m z) (λ l a u. Wp machine h B Q (k a) l (onto (own h (places h (Install f sort) a (m a) v)) es) u))
           (sym (λ i. install_if h v f sort (a i) (b i))) (good v inv ov)),
     ))

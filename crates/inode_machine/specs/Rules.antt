@@ -226,8 +226,9 @@ MayWait h (ReadFile fd n) w = EntryOut h w (entry_of w h fd)
 MayWait h (WriteFile fd n bytes) w = IsOut h (w.lock n)
 MayWait h op w = ⊥
 
--- What an operation asks. Who locks an inode refers to it, and hasn't locked it; who refers to one more has found it in a directory that it keeps; who changes
--- one has its lock and has joined; who joins, leaves, opens by a descriptor or replies has no lock.
+-- What an operation asks. Who locks an inode refers to it, and hasn't locked it; who refers to one more has found it in a directory that it keeps; who gives a
+-- reference up, to none or to a table, has one besides its current directory's; who changes an inode has its lock and has joined; who joins, leaves, opens by a
+-- descriptor or replies has no lock.
 
 abbrev pub Locks : ℕ → ℕ → World → Type 0
 Locks h n w = w.lock n ≡ Some h
@@ -241,13 +242,17 @@ Changes h n w = (w.lock n ≡ Some h) × ((w.desks h).joined ≡ true)
 abbrev pub Refers : ℕ → ℕ → World → Type 0
 Refers h n w = (0 < (w.harts h).refs n) × (w.lock n ≢ Some h)
 
+-- a reference in hand, which no table has
+abbrev pub Spares : ℕ → ℕ → World → Type 0
+Spares h n w = one_if ((w.desks h).directory == n) < (w.harts h).refs n
+
 abbrev pub May : ℕ → Op → World → Type 0
 May h (Take n looking) w = Refers h n w
 May h (Give n) w = Locks h n w
 May h (UpStart absolute) w = LocksNone h w
 May h (Up n) w = Found w.keeper w.all.nodes h n
-May h (WalkDown n) w = Refers h n w
-May h (Down n) w = Refers h n w
+May h (WalkDown n) w = Spares h n w × (w.lock n ≢ Some h)
+May h (Down n) w = Spares h n w × (w.lock n ≢ Some h)
 May h (Free n) w = Changes h n w
 May h (Claim sort) w = (w.desks h).joined ≡ true
 May h (Store n count) w = Changes h n w
@@ -256,7 +261,7 @@ May h (Enter d e n) w = Changes h d w
 May h (Clear d e) w = Changes h d w
 May h (Empty n) w = Changes h n w
 May h Slot w = (w.desks h).hand ≡ None
-May h (Install f sort) w = (w.desks h).hand ≢ None
+May h (Install f sort) w = ((w.desks h).hand ≢ None) × (f.offset ≡ 0) × Spares h f.number w
 May h (StatFile fd) w = LocksNone h w
 May h (ReadFile fd n) w = LocksNone h w
 May h (CheckFile fd) w = Unit {0}
@@ -264,7 +269,7 @@ May h (JoinFile fd) w = LocksNone h w × ((w.desks h).joined ≡ false)
 May h (WriteFile fd n bytes) w = LocksNone h w × ((w.desks h).joined ≡ true)
 May h (Double fd) w = Unit {0}
 May h (Shut fd) w = LocksNone h w
-May h (Settle n) w = Locks h n w
+May h (Settle n) w = Locks h n w × Spares h n w
 May h (Lend child from) w = (w.desks child).lender ≡ Some h
 May h (LendDirectory child) w = (w.desks child).lender ≡ Some h
 May h (Release child) w = (w.desks child).lender ≡ Some h
