@@ -10,6 +10,7 @@ use Rattle.group_log.specs.Group.{joined, has, HasRoom, IsMember}
 use Rattle.group_log.specs.Soundness.{IsHome, limit_of}
 use Rattle.group_log.specs.Turns.{turn_is_out}
 use Rattle.group_log.specs.Waiting.{join_waits}
+use Rattle.fs_tables.specs.declared.files.OpenFile.{OpenFile}
 use Rattle.fs_tables.specs.Lists.{next_full}
 use Rattle.fs_tables.specs.Tables.{TablesState, references_of, owed, holder_of as lock_holder, file_named}
 use Rattle.fs_tables.specs.Inodes.{directory_of}
@@ -33,6 +34,10 @@ MayPut h b change l = (holder_of b l.seats ≡ Some h) × IsOutsideLog l.sizes b
 -- an inode's lock may be tried by a hart that hasn't got it, where a reference stands
 abbrev pub MayLock : ℕ → ℕ → TablesState → Type 0
 MayLock h n t = (0 < references_of n t) × (lock_holder n t ≢ Some h)
+
+-- the same of an open file's, which has a number that a directory's entry can say
+abbrev pub MayLockFile : ℕ → Option OpenFile → TablesState → Type 0
+MayLockFile h file t = IfSome file (λ f. (f.number < 2 ^ 16) × (lock_holder f.number t ≢ Some h))
 
 -- the file that a descriptor names is this inode's
 abbrev pub MayMove : ℕ → ℕ → Option (ℕ × ℕ) → TablesState → Type 0
@@ -70,7 +75,7 @@ May h (Read b) s = (holder_of b s.log.seats ≡ Some h) × IsOutsideLog s.log.si
 May h (Put b change) s = MayPut h b change s.log
 May h Commit s = (h < hart_count) × (count_of (is_held_by h) s.log.seats ≡ 0) × (s.log.phase ≢ Open) × (s.log.phase ≢ Halted)
 May h (Lock n) s = MayLock h n s.tables
-May h (LockFile want fd) s = (h < hart_count) × IfSome (file_named h fd s.tables) (λ f. lock_holder f.number s.tables ≢ Some h)
+May h (LockFile want fd) s = (h < hart_count) × MayLockFile h (file_named h fd s.tables) s.tables
 May h (Unlock v moved) s = (lock_holder v.number s.tables ≡ Some h) × MayMove h v.number moved s.tables
 May h (Settle v) s = (h < hart_count) × (lock_holder v.number s.tables ≡ Some h) × HasReference v.number s.tables
 May h (Up whom) s = MayUpWhom h whom s.tables

@@ -3,7 +3,7 @@ ghost use Rattle.std.specs.Prelude.{◌≡◌, IfErr};
 ghost use Rattle.atomic_programs.specs.Prog.{Ran as ItRan};
 ghost use Rattle.fs_tables.specs.Results.{opened_as};
 ghost use Rattle.fs_machine.specs.LogPart.{Outside};
-ghost use Rattle.fs_machine.specs.Steps.{state_of, exec, CheckFile, TakePlace, TakeDescriptor, Double, Close, Give};
+ghost use Rattle.fs_machine.specs.Steps.{state_of, exec, CheckFile, TakePlace, TakeDescriptor, Double, Close, Give, Reply};
 ghost use Rattle.fs_machine.specs.Premises.{May};
 ghost use Rattle.fs_machine.specs.Tied.{IsOwnInode, LeavesTied};
 ghost use Rattle.fs_machine.specs.Stays.{LeavesAll};
@@ -82,4 +82,10 @@ impl<D: Device> Core<D> {
     {
         self.tables.give(hart, child, from)
     }
+
+    /// Gives the reply, which changes nothing.
+    #[tactic(auto, unfolding(crate::specs::Steps::exec))]
+    pub fn reply(&self, hart: u8)
+        ensures { (x : Outside) → exec hart x Reply (state_of D.contents D.failures self.now) ≡ ItRan tt (state_of D.contents D.failures self.now) }
+    {}
 }

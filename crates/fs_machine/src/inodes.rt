@@ -1,5 +1,5 @@
 // One function for each operation on inodes in memory.
-ghost use Rattle.std.specs.Prelude.{◌≡◌, ◌<◌, Some, None, IfSome, IfNone};
+ghost use Rattle.std.specs.Prelude.{◌≡◌, ◌<◌, ◌^◌, Some, None, IfSome, IfNone};
 ghost use Rattle.atomic_programs.specs.Prog.{Ran as ItRan};
 ghost use Rattle.fs_tables.specs.Results.{locked_as, dropped_as, kept_as, IfDying};
 ghost use Rattle.fs_machine.specs.LogPart.{Outside};
@@ -98,6 +98,7 @@ impl<D: Device> Core<D> {
         requires may { May hart (LockFile want fd) (state_of D.contents D.failures self.old) }
         ensures ran { (x : Outside) → exec hart x (LockFile want fd) (state_of D.contents D.failures self.old) ≡ file_locked_as result (state_of D.contents D.failures self.new) }
         ensures still { IfFileWaits result (self.new ≡ self.old) }
+        ensures number { IfFileLocked result (λ file _. file.number < 2 ^ 16) }
         ensures own { IfFileLocked result (λ file guard. IsOwnInode hart file.number guard (state_of D.contents D.failures self.new)) }
         ensures others { LeavesTied hart (state_of D.contents D.failures self.old) (state_of D.contents D.failures self.new) }
         ensures log { self.new.log ≡ self.old.log }
