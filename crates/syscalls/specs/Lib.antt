@@ -1,0 +1,4 @@
+pub mod Replies
+pub mod Programs
+pub mod Nesting
+pub mod Machines

@@ -1,0 +1,48 @@
+-- The programs that are left of the calls.
+use Rattle.std.specs.Prelude.{ℕ, None}
+use Rattle.plain_tree.specs.declared.answer.Answer.TheVariants as answers
+use Rattle.plain_tree.specs.declared.answer.Cause.TheVariants as causes
+use Rattle.plain_tree.specs.declared.answer.Full.TheVariants as fulls
+use Rattle.plain_tree.specs.declared.answer.Reply.{Reply}
+use Rattle.plain_tree.specs.declared.call.Call.TheVariants as calls
+use Rattle.atomic_programs.specs.Prog.{Do, bind, unmarked}
+use Rattle.atomic_programs.specs.declared.machines.Stepped.{Stepped}
+use Rattle.atomic_programs.specs.declared.machines.Stepped.TheVariants.{Ran, Done}
+use Rattle.fs_tables.specs.declared.slots.Doubled.{Doubled}
+use Rattle.fs_tables.specs.declared.slots.Doubled.TheVariants as doubled
+use Rattle.fs_machine.specs.declared.kind.Kind.{Kind}
+use Rattle.fs_machine.specs.declared.kind.Kind.TheVariants as kind
+use Rattle.fs_machine.specs.Steps.{State, Unlock}
+use Rattle.fs_machine.specs.Machines.{P}
+use Rattle.file_table.specs.Machines.{file_of, FileFits, IsLoaded}
+use Rattle.syscalls.specs.Replies.{failed, full}
+use Rattle.syscalls.specs.Programs.{say, dup_program, stat_reply, stat_on}
+use Rattle.syscalls.specs.declared.dup.Dup.{Dup}
+use Rattle.syscalls.specs.declared.dup.Dup.TheVariants as dup
+use Rattle.syscalls.specs.declared.fstat.Fstat.{Fstat}
+use Rattle.syscalls.specs.declared.fstat.Fstat.TheVariants as fstat
+
+-- ---- dup
+
+unfoldable pub dup_of : Dup → P Reply
+dup_of (dup.Double fd) = dup_program fd
+dup_of (dup.Say reply) = say reply
+
+-- what a doubling came to
+abbrev pub dup_came : ℕ → Doubled → Stepped Dup Reply Kind
+dup_came fd doubled.BadDescriptor = Done (failed (calls.Dup fd) causes.BadDescriptor) kind.Reply
+dup_came fd doubled.Full = Ran (dup.Say (full (calls.Dup fd) fulls.Descriptors)) kind.Slot
+dup_came fd (doubled.Gave other) = Ran (dup.Say (record { answer = answers.Fd other; call = calls.Dup fd })) kind.Slot
+
+-- ---- fstat
+
+unfoldable pub fstat_of : Fstat → P Reply
+fstat_of (fstat.Loading fd load) = bind (file_of load) (stat_on fd)
+fstat_of (fstat.Give fd guard) = Do (Unlock guard.value None) unmarked (λ _. say (stat_reply fd guard.value))
+fstat_of (fstat.Say reply) = say reply
+
+-- its guards go with the state
+unfoldable pub FstatFits : ℕ → State → Fstat → Type 0
+FstatFits hart s (fstat.Loading fd load) = FileFits hart s load
+FstatFits hart s (fstat.Give fd guard) = IsLoaded hart guard.value.number guard s
+FstatFits hart s (fstat.Say reply) = Unit {0}

@@ -1,0 +1,43 @@
+-- The calls as programs over what all harts share. Nothing is marked in them.
+use Rattle.std.specs.Prelude.{ℕ, None}
+use Rattle.plain_tree.specs.declared.answer.Answer.TheVariants as answers
+use Rattle.plain_tree.specs.declared.answer.Cause.TheVariants as causes
+use Rattle.plain_tree.specs.declared.answer.Full.TheVariants as fulls
+use Rattle.plain_tree.specs.declared.answer.Reply.{Reply}
+use Rattle.plain_tree.specs.declared.call.Call.TheVariants as calls
+use Rattle.atomic_programs.specs.Prog.{Ret, Do, bind, unmarked}
+use Rattle.fs_tables.specs.declared.inodes.Inode.{Inode}
+use Rattle.fs_tables.specs.declared.slots.Doubled.{Doubled}
+use Rattle.fs_tables.specs.declared.slots.Doubled.TheVariants as doubled
+use Rattle.fs_tables.specs.declared.files.Want.TheVariants as want
+use Rattle.fs_machine.specs.Steps.{Double, Unlock, Reply as ReplyOp}
+use Rattle.fs_machine.specs.Machines.{P}
+use Rattle.inode_table.specs.Programs.{record_of}
+use Rattle.file_table.specs.Programs.{FileState, Denies, Loads, load_file}
+use Rattle.syscalls.specs.Replies.{failed, full, cause_of, stat_of}
+
+-- the reply is given
+abbrev pub say : Reply → P Reply
+say reply = Do ReplyOp unmarked (λ _. Ret reply)
+
+-- ---- dup
+
+abbrev pub dup_on : ℕ → Doubled → P Reply
+dup_on fd doubled.BadDescriptor = Ret (failed (calls.Dup fd) causes.BadDescriptor)
+dup_on fd doubled.Full = say (full (calls.Dup fd) fulls.Descriptors)
+dup_on fd (doubled.Gave other) = say (record { answer = answers.Fd other; call = calls.Dup fd })
+
+abbrev pub dup_program : ℕ → P Reply
+dup_program fd = Do (Double fd) unmarked (dup_on fd)
+
+-- ---- fstat
+
+abbrev pub stat_reply : ℕ → Inode → Reply
+stat_reply fd inode = record { answer = answers.Stat (stat_of inode.number (record_of inode)); call = calls.Fstat fd }
+
+abbrev pub stat_on : ℕ → FileState → P Reply
+stat_on fd (Denies why) = Ret (failed (calls.Fstat fd) (cause_of why))
+stat_on fd (Loads file inode) = Do (Unlock inode None) unmarked (λ _. say (stat_reply fd inode))
+
+abbrev pub stat_program : (inodestart fd : ℕ) → P Reply
+stat_program inodestart fd = bind (load_file inodestart want.Stat fd) (stat_on fd)

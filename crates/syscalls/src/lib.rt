@@ -1,0 +1,12 @@
+//! The calls, one machine each.
+//!
+//! `specs/Programs` says what a call does, operation by operation; its machine is a value whose `step` makes the next one. A call
+//! under way takes no memory, and is handed back in its reply.
+#![tactic(auto)]
+
+mod dup;
+mod fstat;
+mod replies;
+
+pub use crate::dup::Dup;
+pub use crate::fstat::Fstat;
