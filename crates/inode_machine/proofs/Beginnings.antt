@@ -41,7 +41,7 @@ live_sort (Some v) e = at v.kind (and_true (nat_lt 0 v.count) (is_directory v.ki
     at (File bytes) q = absurd cc
     at (Device major minor size) q = absurd cc
 
-root_sort : (t : Tree) → IsWellFormed t → sort_of (t.nodes root) ≡ Some OfDirectory
+pub root_sort : (t : Tree) → IsWellFormed t → sort_of (t.nodes root) ≡ Some OfDirectory
 root_sort t well = elim (either (live_directory (t.nodes root))) [
   | inl y ↦ live_sort (t.nodes root) y
   | inr y ↦ absurd (well.forest.rooted (folder_dead (t.nodes root) y))

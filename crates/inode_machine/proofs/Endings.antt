@@ -183,6 +183,21 @@ s-give-up {A} {h} j c base ns {k} {B} {Q} {n} {es} {w} {O} owns free lt few join
       | inr ne ↦ (let a = put_other O.mine.refs j (O.mine.refs j - 1) i ne in let o = one_else j i ne in omega (arith, r, a, o))
     ]
 
+-- It is given up, and the call ends: it found no room, or was refused.
+pub s-refuse : (h : ℕ) (c : Call) (r : Reply) (j : ℕ) (x : Option Node) (base : ℕ → ℕ) (ns : List ℕ) (n : ℕ) (es : List Step) (w : World) (O : Own) → own_of h w ≡ record O { inodes = put O.inodes j (Some (locked_held x)) } → O.desk.lender ≡ None → h < hart_count → 971 * length ns + 970 ≤ n → O.desk.joined ≡ true
+    → Listed O base ns → O.inodes j ≡ None → ((i : ℕ) → O.mine.refs i ≡ base i + times i ns + one_if (j == i)) → O.mine.walk ≡ None → O.mine.pending ≡ None → (own_names O.row O.desk j ≡ true → 0 < base j) → MayRest O base → ((O.desk.full ≡ true) ⊎ Written c (oldest_first es) r)
+    → Safe machine h (Begun covered_calls c) (Ends covered_calls h c) (give_up j (tail ns r)) n es w
+s-refuse h c r j x base ns n es w O own free lt few joined listed out refs walk pending spare may told =
+    s-give-up j x base ns own free lt (omega (arith, few)) joined listed out refs walk pending spare (λ l M u q own2 g.
+    s-ends h c r base ns l es u M own2 (ap (λ (z : Desk). z.lender) g.desk ∙ free) lt (omega (arith, q, few)) (ap (λ (z : Desk). z.joined) g.desk ∙ joined) g.listed g.refs g.walk g.pending (record {
+      hold = ap (λ (z : Row). z.hold) g.row ∙ may.hold;
+      hand = ap (λ (z : Desk). z.hand) g.desk ∙ may.hand;
+      lent = ap (λ (z : Desk). z.lent) g.desk ∙ may.lent;
+      opening = ap (λ (z : Desk). z.opening) g.desk ∙ may.opening;
+      left = ap (λ (z : Desk). z.left) g.desk ∙ may.left;
+      counts = λ i. may.counts i ∙ (λ z. one_if ((sym g.desk z).directory == i));
+    }) (elim told [ inl f ↦ inl (ap (λ (z : Desk). z.full) g.desk ∙ f) | inr y ↦ inr y ]))
+
 -- What was found has the type that it had then.
 pub noted_sort : (h j : ℕ) (R : Own) (m : Note) → R.desk.noted ≡ Some m → m.number ≡ j → R.inodes j ≡ None → 0 < R.mine.refs j → h < hart_count → (v : World) → Inv v → own_of h v ≡ R → sort_of (v.all.nodes j) ≡ m.sort
 noted_sort h j R m is number out refers lt v inv ov =

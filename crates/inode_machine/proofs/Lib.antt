@@ -40,3 +40,6 @@ pub mod Installs
 pub mod Slots
 pub mod Pairs
 pub mod Mkdirs
+pub mod Opens
+pub mod OpenEnds
+pub mod OpenCalls

@@ -1,0 +1,466 @@
+-- An open without CREATE is right, whatever the other harts do.
+use Rattle.std.proofs.Common.{◌≡◌, ◌⊎◌, inl, inr, ℕ, ◌+◌, ◌*◌, ◌<◌, ◌≤◌, Bool, true, false, ◌&&◌, ◌==◌, ◌||◌, nat_lt, List, [], ◌∷◌, length, Option, Some, None, refl, sym, ◌∙◌, ap, subst, arith, if◌then◌else◌}
+use Rattle.atomic_programs.specs.Logic.{own, onto, Fine, Safe, Wp}
+use Rattle.atomic_programs.specs.Calls.{Begun, Ends}
+use Rattle.plain_tree.specs.declared.answer.Cause.{Cause}
+use Rattle.plain_tree.specs.declared.answer.Full.TheVariants.{Descriptors}
+use Rattle.plain_tree.specs.declared.answer.Reply.{Reply}
+use Rattle.plain_tree.specs.declared.call.Call.{Call}
+use Rattle.plain_tree.specs.declared.call.Call.TheVariants as calls
+use Rattle.plain_tree.specs.declared.node.Node.{Node}
+use Rattle.plain_tree.specs.declared.step.Action.{Action}
+use Rattle.plain_tree.specs.declared.step.Action.TheVariants as steps
+use Rattle.plain_tree.specs.declared.step.StepAnswer.{StepAnswer}
+use Rattle.plain_tree.specs.declared.step.StepAnswer.TheVariants.{Failed, Opened, Full as NoRoom}
+use Rattle.plain_tree.specs.Widths.{hart_count, descriptor_count, root}
+use Rattle.plain_tree.specs.Tree.{Name, Tree, put, elements, hold_names, is_absolute, is_live, live_directory, look, settle, start_of}
+use Rattle.plain_tree.specs.Steps.{creates, empty_it, has, has_room, is_file, lowest, node_at, node_or, open_kind, IsInPlace}
+use Rattle.plain_tree.specs.HartRow.{Key, Row, key_is, key_names, row_of}
+use Rattle.plain_tree.proofs.Settling.{settle_again}
+use Rattle.tree_laws.proofs.Facts.{look_live}
+use Rattle.tree_laws.proofs.Maps.{either, eq_is, put_same, put_other}
+use Rattle.tree_laws.proofs.Nodes.{live_some}
+use Rattle.tree_laws.proofs.Walks.{look_same}
+use Rattle.tree_moves.specs.Moves.{Deed, Walk, Move, Stage, Step, IsNext, begins}
+use Rattle.tree_moves.specs.Moves.Move.{Begin, Look}
+use Rattle.inode_machine.specs.World.{Desk, Note, World, stage_of}
+use Rattle.inode_machine.specs.World.Op.{UpStart}
+use Rattle.inode_machine.specs.Inodes.{Sort, OfDirectory, open_refusal, sort_of, sort_of_kind}
+use Rattle.inode_machine.specs.Exec.{counted_up, is_at, with_walk}
+use Rattle.inode_machine.specs.Marks.{Made, acts, begun, made_by, marked, new_id, places}
+use Rattle.inode_machine.specs.Rules.{Held, Own, key_in, own_names, own_of, Idle, Inv, machine}
+use Rattle.inode_machine.specs.Parts.{P, Stop, NoMemory, failed, makes, start, stopped, tail, walk, walk_step}
+use Rattle.inode_machine.specs.Opening.{file_for, open_at, open_new, open_old, open_program, opened_reply}
+use Rattle.inode_machine.specs.Programs.{limit}
+use Rattle.inode_machine.specs.Theory.{covered_calls}
+use Rattle.inode_machine.proofs.Frame.{Fair, fair, fair_then, has_inode}
+use Rattle.inode_machine.proofs.Rules.{has_node, locked_held, my_refs}
+use Rattle.inode_machine.proofs.Walking.{moves_good, own_walk, stage_walk, walk_did}
+use Rattle.inode_machine.proofs.Tables.{lowest_same}
+use Rattle.inode_machine.proofs.Dups.{Flagging, not_at, s-join}
+use Rattle.inode_machine.proofs.Looks.{KeepsHold, MoveFine, mends, note_of, noting}
+use Rattle.inode_machine.proofs.Listing.{one_at, listed_among}
+use Rattle.inode_machine.proofs.Rest.{directory_sort}
+use Rattle.inode_machine.proofs.Walks.{At, Gone, Lost, On, Ready, Stays, names_stay, stays_same, s-arrive, s-walk}
+use Rattle.inode_machine.proofs.Beginnings.{Begun as StartsAt, root_sort, s-begin, s-start}
+use Rattle.inode_machine.proofs.Acts.{Finding, finding, found_world, last_made, last_takes, refused_made, start_made, start_takes}
+use Rattle.inode_machine.proofs.Endings.{MayRest, Walked, follows_begin, follows_look, follows_lost, follows_quit, gone_at, home, joined_own, looks, may_rest, missed, noted_sort, ready_at, s-lost, tells, times_none, walked_begun, walked_tells}
+use Rattle.inode_machine.proofs.Openings.{Opening, fresh_id, opened_row, opened_tree, opened_world, opening, row_back, unopened_row}
+use Rattle.inode_machine.proofs.Unopens.{mends_opened}
+use Rattle.inode_machine.proofs.Opens.{dirties, moves_full, open_finder, open_full, open_kind_is, open_made, open_missing, open_place, open_refused_step, open_step, refusal_by_sort}
+use Rattle.inode_machine.proofs.OpenEnds.{open_done, open_follows, open_refused, opened_act, s-open-full, s-open-refused, s-opened}
+
+-- what it names with a new descriptor it named, or has opened
+names_opened : (r : Row) (d : Desk) (fd id : ℕ) (key : Key) (i : ℕ) → d.opening ≡ None → own_names (opened_row r fd id key) (record d { opening = Some fd }) i ≡ true → (i ≡ key.number) ⊎ (own_names r d i ≡ true)
+names_opened r d fd id key i none q = elim (either (key.number == i)) [
+  | inl y ↦ inl (sym (eq_is key.number i y))
+  | inr y ↦ inr ((λ z. (r.cwd == i) || (hold_names r.hold i || (key_names (key_in r.keys (none z)) i || is_at d.left i)))
+      ∙ sym ((λ z. (r.cwd == i) || (hold_names r.hold i || (key_names (put_same r.keys fd (Some key) z) i || is_at d.left i))) ∙ (λ z. (r.cwd == i) || (hold_names r.hold i || (y z || is_at d.left i)))) ∙ q)
+]
+
+module _ (h : ℕ) (path : List ℕ) (flags : ℕ) (w : World) (free : (w.desks h).lender ≡ None) (lt : h < hart_count) (holds : Inv w) (idle : Idle h w) (plain : creates flags ≡ false) (keeps : has flags empty_it ≡ false) where
+  abbrev c : Call
+  c = calls.Open path flags
+
+  abbrev s : Action
+  s = steps.Open path flags
+
+  abbrev B : List Step → Type 0
+  B = Begun covered_calls c
+
+  abbrev Q : Reply → List Step → World → Type 0
+  Q = Ends covered_calls h c
+
+  abbrev O0 : Own
+  O0 = joined_own (own_of h w)
+
+  abbrev base : ℕ → ℕ
+  base = home (own_of h w)
+
+  ready : Ready base O0
+  ready = ready_at h w free lt holds idle
+
+  may : MayRest O0 base
+  may = may_rest h w idle
+
+  abbrev deed_of : StepAnswer → Deed
+  deed_of a = record { act = record { step = s; answer = a }; new = 0 }
+
+  begun_refused : (v : Move) (k : Cause) (es : List Step) → IsNext c [] (begins v) → Walked c [] es → Walked c (record { step = s; answer = Failed k } ∷ []) (tells v (deed_of (Failed k)) ∷ es) × B (tells v (deed_of (Failed k)) ∷ es)
+  begun_refused v k es next told = let a = walked_tells c [] v (deed_of (Failed k)) es next told in (a, walked_begun c (record { step = s; answer = Failed k } ∷ []) (tells v (deed_of (Failed k)) ∷ es) [] (failed c k) a (open_refused path flags k))
+
+  no_empty : (b : Bool) → (has flags empty_it && b) ≡ false
+  no_empty b = (λ z. keeps z && b)
+
+  begun_opened : (v : Move) (fd id : ℕ) (b : Bool) (es : List Step) → IsNext c [] (begins v) → Walked c [] es → Walked c (opened_act path flags fd id b ∷ []) (tells v (deed_of (Opened fd id b)) ∷ es) × B (tells v (deed_of (Opened fd id b)) ∷ es)
+  begun_opened v fd id b es next told = let a = walked_tells c [] v (deed_of (Opened fd id b)) es next told in (a, walked_begun c (opened_act path flags fd id b ∷ []) (tells v (deed_of (Opened fd id b)) ∷ es) [] (opened_reply path flags fd) a (open_done path flags fd id b (no_empty b)))
+
+  abbrev lost : Stop → List ℕ → P Reply
+  lost why ns = tail ns (stopped c why)
+
+  loses : (why : Stop) (ms : List ℕ) (l : ℕ) (es : List Step) (u : World) (R : Own) → 971 * length ms + 2000 ≤ l → Gone h base ms O0 R u → Lost (Walked c (missed s ∷ [])) why es R → Safe machine h B Q (lost why ms) l es u
+  loses why ms l es u R few gone told = s-lost h c s 2000 base O0 lt ready may (open_follows path flags) (omega arith) why ms l es u R few gone told
+
+  place : (t : Tree) → row_of t h ≡ O0.row → IsInPlace t h s
+  place t e = open_place t h path flags lt
+
+  other : (g : ℕ) → s ≡ steps.Inherit g → ⊥
+  other g e = absurd cc
+
+  -- the table's lowest descriptor is the tree's
+  low_is : (v : World) (O : Own) → Inv v → own_of h v ≡ O → O.desk.opening ≡ None → lowest (v.all.fds h) ≡ lowest O.desk.fds
+  low_is v O inv ov none = lowest_same (v.desks h).fds (v.all.fds h) v.ids (λ i l. inv.tied.fds h i lt l (not_at v h i (ap (λ (o : Own). o.desk.opening) ov ∙ none))) ∙ ap (λ (o : Own). lowest o.desk.fds) ov
+
+  -- The last element is found.
+  act : (d : ℕ) (e : Name) (ns : List ℕ) (n : ℕ) (es : List Step) (w0 : World) (O : Own) → 2600 + 971 * length ns + 2000 ≤ n → On h s d e [] base ns O0 O w0 → Walked c [] es
+      → (u : World) (x : Option Node) (j : ℕ) → Inv u → own_of h u ≡ record O { inodes = put O.inodes d (Some (locked_held x)) } → live_directory x ≡ true → look (λ i. x) d e ≡ Some j → MoveFine h 1611 n B Q es u (Look 0) (walk_step d ns (open_at path flags) lost (Some j))
+  act d e ns n es w0 O few on told u x j inv own1 live finds = at (open_kind flags (node_at u.all j).kind) refl (has_room (u.all.fds h)) refl
+    where
+      free_o : O.desk.lender ≡ None
+      free_o = on.stays.lender ∙ free
+
+      y : Walk
+      y = record { step = s; at = d; next = e; rest = [] }
+
+      O1 : Own
+      O1 = record O { inodes = put O.inodes d (Some (locked_held x)) }
+
+      isd : O1.inodes d ≡ Some (locked_held x)
+      isd = put_same O.inodes d (Some (locked_held x))
+
+      found : look u.all.nodes d e ≡ Some j
+      found = look_same (λ i. x) u.all.nodes d e (has_node h d u O1 (locked_held x) own1 isd) ∙ finds
+
+      live_j : is_live (u.all.nodes j) ≡ true
+      live_j = look_live u.all d j e inv.well found
+
+      lives : (z : Held) → O.inodes j ≡ Some z → is_live z.node ≡ true
+      lives z q = ap (λ (o : Option Node). is_live o) (sym (has_node h j u O1 z own1 (put_other O.inodes d (Some (locked_held x)) j (λ k. absurd (let m : O.inodes j ≡ None = ap O.inodes k ∙ on.out in cc (m, q))) ∙ q))) ∙ live_j
+
+      there : u.all.nodes j ≡ Some (node_or (u.all.nodes j))
+      there = live_some (u.all.nodes j) live_j
+
+      sort : Sort
+      sort = sort_of_kind (node_at u.all j).kind
+
+      sort_is : sort_of (u.all.nodes j) ≡ Some sort
+      sort_is = ap (λ (o : Option Node). sort_of o) there
+
+      refusal : open_refusal (flags == 0) sort ≡ open_kind flags (node_at u.all j).kind
+      refusal = sym (refusal_by_sort (u.all.nodes j) flags sort sort_is)
+
+      f : Finding h j u O1
+      f = finding h d j e u O1 own1 free_o lt inv on.pending (has_inode h d u O1 (locked_held x) own1 isd).0 found
+
+      O2 : Own
+      O2 = record O1 { mine = record { refs = O.mine.refs; walk = None; pending = Some j }; desk = record (O.desk) { noted = Some (note_of u.all j) } }
+
+      made : (m : Made) → acts u.all h s (Some j) (Some (d, e)) 0 (new_id u) ≡ m → made_by u.all h (new_id u) (u.harts h).walk (Look 0) ≡ m
+      made m q = last_made u.all h (u.harts h).walk y 0 (new_id u) j (ap (λ (o : Own). o.mine.walk) own1 ∙ on.walk) refl found ∙ q
+
+      walks_are : (stage_of (record u { harts = with_walk u.harts h None (Some j) })).walk ≡ put (λ g. (u.harts g).walk) h None
+      walks_are = ap (λ (m : Stage). m.walk) (stage_walk h None (Some j) u)
+
+      names0 : (i : ℕ) → own_names O.row O.desk i ≡ true → 0 < O.mine.refs i
+      names0 i q = let b = ready.spare i (sym (names_stay O O0 on.stays i) ∙ q) in let r = on.refs i in omega (arith, b, r)
+
+      keeps_hold : KeepsHold O.row.hold
+      keeps_hold = subst (λ (r : Row). KeepsHold r.hold) (sym on.stays.row) ready.hold
+
+      -- its type is what it was at the lookup
+      typed : (P0 R : Own) (ms : List ℕ) (u2 : World) → At h j base ms None (Some (note_of u.all j)) P0 R u2 → (v : World) → Inv v → own_of h v ≡ R → sort_of (v.all.nodes j) ≡ Some sort
+      typed P0 R ms u2 at v inv2 ov = noted_sort h j R (note_of u.all j) at.noted refl at.out (let r = at.refs j in let o = one_at j in omega (arith, r, o)) lt v inv2 ov ∙ sort_is
+
+      noted_stays : (R : Own) → R.row ≡ O.row → R.ninodes ≡ O.ninodes → R.desk ≡ record (O.desk) { noted = Some (note_of u.all j) } → Stays R O0
+      noted_stays R row size desk = stays_same R (record O { desk = record (O.desk) { noted = Some (note_of u.all j) } }) O0 row size desk (record { row = on.stays.row; ninodes = on.stays.ninodes; fds = on.stays.fds; hand = on.stays.hand; joined = on.stays.joined; directory = on.stays.directory; lent = on.stays.lent; lender = on.stays.lender; opening = on.stays.opening; left = on.stays.left })
+
+      -- The step changes nothing of the tree.
+      M : Own
+      M = record O2 { desk = record (O2.desk) { opening = None; left = None; full = true }; mine = record { refs = O.mine.refs; walk = None; pending = None } }
+
+      arrives_same : (l : ℕ) (fs : List Step) (v : World) → 980 + 971 * length ns + 2000 ≤ l → own_of h v ≡ O2
+          → ((ms : List ℕ) (l2 : ℕ) (u2 : World) (R : Own) → 971 * length ms + 2000 ≤ l2 → At h j base ms None (Some (note_of u.all j)) O0 R u2 → Safe machine h B Q (open_at path flags j ms) l2 fs u2)
+          → Safe machine h B Q (walk_step d ns (open_at path flags) lost (Some j)) l fs v
+      arrives_same l fs v few2 ov goes =
+          s-arrive h s B Q (Walked c []) (Walked c (missed s ∷ [])) base O0 2000 lt ready lost loses (follows_look c s (open_follows path flags)) (follows_lost c s (open_follows path flags)) (follows_quit c s (open_follows path flags)) (λ t. open_missing t h path flags None plain) (λ t. refl) place other refl
+          0 d j x None ns l fs v O O2 O0 M (open_at path flags) ov (omega (arith, few2)) on.stays on.listed on.out on.refs
+          (record { inodes = refl; refs = refl; walk = refl; lands = λ z p. absurd cc; pending = refl; lives = lives; names = λ i p. inr p })
+          (noted_stays O2 refl refl refl) free
+          (λ v2 inv2 ov2. let m = mends h v2 O2 ov2 free_o lt inv2 (on.stays.opening ∙ ready.opening) (on.stays.left ∙ ready.left) keeps_hold names0 in record { fair = m.fair; bad = m.bad; owned = m.owned })
+          (record { stays = record { row = on.stays.row; ninodes = on.stays.ninodes; fds = on.stays.fds; hand = on.stays.hand; joined = on.stays.joined; directory = on.stays.directory; lent = on.stays.lent; lender = on.stays.lender; opening = sym ready.opening; left = sym ready.left }; inodes = refl; refs = refl; walk = refl; pending = refl; full = refl })
+          (λ ms l2 u2 R few3 at2. goes ms l2 u2 R (omega (arith, few3)) at2)
+
+      refused_at : (k : Cause) → open_kind flags (node_at u.all j).kind ≡ Some k → MoveFine h 1611 n B Q es u (Look 0) (walk_step d ns (open_at path flags) lost (Some j))
+      refused_at k why =
+          let b = begun_refused (Look 0) k es tt told in
+          moves_good h 1611 n B Q es u u (Look 0) (walk_step d ns (open_at path flags) lost (Some j)) (made_by u.all h (new_id u) (u.harts h).walk (Look 0)) (record { all = u.all; walk = None; found = Some j; opened = None; entered = None; left = None; told = Some (deed_of (Failed k)) })
+          (made _ (refused_made u.all h s (Some j) (Some (d, e)) 0 (new_id u) k (open_kind_is u.all h j path flags (Some (d, e)) plain ∙ why)))
+          f.fair
+          (last_takes h d u (found_world h j u) O1 (locked_held x) y j (Failed k) (new_id u) u.all (open_finder path flags plain) own1 inv on.walk refl isd live refl found (open_refused_step u.all h j (new_id u) path flags (Some (d, e)) k lt plain why) refl walks_are)
+          b.1 (omega (arith, few))
+          (λ l q. (arrives_same l (tells (Look 0) (deed_of (Failed k)) ∷ es) (found_world h j u) (omega (arith, q, few)) f.owned (λ ms l2 u2 R few2 at2.
+          s-open-refused h path flags w free lt holds idle j ms (Some (note_of u.all j)) sort k l2 (tells (Look 0) (deed_of (Failed k)) ∷ es) u2 R (omega (arith, few2)) at2 (typed O0 R ms u2 at2) (refusal ∙ why) b.0)).wp)
+
+      full_at : open_kind flags (node_at u.all j).kind ≡ None → has_room (u.all.fds h) ≡ false → MoveFine h 1611 n B Q es u (Look 0) (walk_step d ns (open_at path flags) lost (Some j))
+      full_at goes room =
+          let dirty = dirties h (found_world h j u) (ap (λ (o : Own). o.desk.lender) f.owned ∙ free_o) lt f.fair.inv in
+          moves_full h 1611 n B Q es u u (Look 0) (walk_step d ns (open_at path flags) lost (Some j)) (made_by u.all h (new_id u) (u.harts h).walk (Look 0)) (record { all = u.all; walk = None; found = Some j; opened = None; entered = None; left = None; told = Some (deed_of (NoRoom Descriptors)) })
+          (made _ (open_full u.all h j 0 (new_id u) path flags (Some (d, e)) plain goes room))
+          (fair_then f.fair dirty) refl (omega (arith, few))
+          (λ l q. (arrives_same l (tells (Look 0) (deed_of (NoRoom Descriptors)) ∷ es) (record (found_world h j u) { clean = false }) (omega (arith, q, few)) f.owned (λ ms l2 u2 R few2 at2.
+          s-open-full h path flags w free lt holds idle j ms (Some (note_of u.all j)) sort l2 (tells (Look 0) (deed_of (NoRoom Descriptors)) ∷ es) u2 R (omega (arith, few2)) at2 (typed O0 R ms u2 at2) (refusal ∙ goes)
+          ((λ z. has_room (at2.stays.fds z)) ∙ sym (λ z. has_room (on.stays.fds z)) ∙ ap (λ (z : ℕ). nat_lt z descriptor_count) (sym (low_is u O1 inv own1 (on.stays.opening ∙ ready.opening))) ∙ room))).wp)
+
+      goes_at : open_kind flags (node_at u.all j).kind ≡ None → has_room (u.all.fds h) ≡ true → MoveFine h 1611 n B Q es u (Look 0) (walk_step d ns (open_at path flags) lost (Some j))
+      goes_at goes room =
+          moves_good h 1611 n B Q es u u (Look 0) (walk_step d ns (open_at path flags) lost (Some j)) (made_by u.all h (new_id u) (u.harts h).walk (Look 0)) (record { all = T; walk = None; found = Some j; opened = Some (new_id u); entered = None; left = None; told = Some (deed_of (Opened fd (new_id u) isf)) })
+          (made _ (open_made u.all h j 0 (new_id u) path flags (Some (d, e)) plain goes room))
+          (fair_then fair_a (fair_then fair_b note.fair))
+          (last_takes h d u uc O1 (locked_held x) y j (Opened fd (new_id u) isf) (new_id u) (settle T) (open_finder path flags plain) own1 inv on.walk refl isd live refl found (open_step u.all h j (new_id u) path flags (Some (d, e)) lt plain goes room (fresh_id u inv).least) (sym (settle_again T)) walks_are)
+          b.1 (omega (arith, few))
+          (λ l q. (s-arrive h s B Q (Walked c []) (Walked c (missed s ∷ [])) base O0 2000 lt ready lost loses (follows_look c s (open_follows path flags)) (follows_lost c s (open_follows path flags)) (follows_quit c s (open_follows path flags)) (λ t. open_missing t h path flags None plain) (λ t. refl) place other refl
+          0 d j x None ns l (tells (Look 0) (deed_of (Opened fd (new_id u) isf)) ∷ es) uc O O3 P0 M3 (open_at path flags) note.owned (omega (arith, q, few)) on.stays on.listed on.out on.refs
+          (record { inodes = refl; refs = refl; walk = refl; lands = λ z p. absurd cc; pending = refl; lives = lives; names = λ i p. names_opened O.row O.desk fd (new_id u) key i (on.stays.opening ∙ ready.opening) p })
+          (record { row = ap (λ (r : Row). opened_row r fd (new_id u) key) on.stays.row; ninodes = on.stays.ninodes; fds = on.stays.fds; hand = on.stays.hand; joined = on.stays.joined; directory = on.stays.directory; lent = on.stays.lent; lender = on.stays.lender; opening = refl; left = on.stays.left }) free
+          (λ v inv2 ov. mends_opened h fd v O3 ov free_o lt inv2 refl (on.stays.left ∙ ready.left) keeps_hold (λ i p. names0 i (bare i p)))
+          (record { stays = record { row = row_back O.row fd (new_id u) key none_fd none_key ∙ on.stays.row; ninodes = on.stays.ninodes; fds = on.stays.fds; hand = on.stays.hand; joined = on.stays.joined; directory = on.stays.directory; lent = on.stays.lent; lender = on.stays.lender; opening = sym ready.opening; left = sym ready.left }; inodes = refl; refs = refl; walk = refl; pending = refl; full = refl })
+          (λ ms l2 u2 R few2 at2. s-opened h path flags w free lt holds idle j fd (new_id u) ms (Some (note_of u.all j)) sort l2 (tells (Look 0) (deed_of (Opened fd (new_id u) isf)) ∷ es) u2 R (omega (arith, few2)) at2 (typed P0 R ms u2 at2) (refusal ∙ goes)
+          ((λ z. has_room (at2.stays.fds z)) ∙ sym (λ z. has_room (on.stays.fds z)) ∙ ap (λ (z : ℕ). nat_lt z descriptor_count) (sym low) ∙ room)
+          ((λ z. lowest (at2.stays.fds z)) ∙ sym (λ z. lowest (on.stays.fds z)) ∙ sym low) (no_empty _) (b.0 [] (opened_reply path flags fd) (open_done path flags fd (new_id u) isf (no_empty isf))))).wp)
+        where
+          fd : ℕ
+          fd = lowest (u.all.fds h)
+
+          isf : Bool
+          isf = is_file (node_at u.all j).kind
+
+          key : Key
+          key = key_is (file_for j flags)
+
+          T : Tree
+          T = opened_tree u.all h fd (new_id u) j flags
+
+          b : Walked c (opened_act path flags fd (new_id u) isf ∷ []) (tells (Look 0) (deed_of (Opened fd (new_id u) isf)) ∷ es) × B (tells (Look 0) (deed_of (Opened fd (new_id u) isf)) ∷ es)
+          b = begun_opened (Look 0) fd (new_id u) isf es tt told
+
+          low : lowest (u.all.fds h) ≡ lowest O.desk.fds
+          low = low_is u O1 inv own1 (on.stays.opening ∙ ready.opening)
+
+          -- what was noted before has the type that it had
+          notes : (m : Note) → (u.desks h).noted ≡ Some m → Some j ≡ Some m.number → sort_of (u.all.nodes m.number) ≡ m.sort
+          notes m is q =
+              let g : j ≡ m.number = cc in
+              let r = my_refs h u O1 m.number own1 in
+              let k = on.notes m (ap (λ (o : Own). o.desk.noted) (sym own1) ∙ is) in
+              inv.noted h m lt is (inl (omega (arith, r, k))) (elim (either (u.alone m.number)) [ inr z ↦ z | inl z ↦ absurd (let a = (inv.alone m.number z).dead in let l : is_live (u.all.nodes m.number) ≡ true = ap (λ (i : ℕ). is_live (u.all.nodes i)) (sym g) ∙ live_j in cc (a, l)) ])
+
+          ua : World
+          ua = record u { harts = with_walk u.harts h None (Some j) }
+
+          fair_a : Fair h u ua
+          fair_a = fair inv (walk_did h None (Some j) u (ap (λ (o : Own). o.desk.lender) own1 ∙ free_o) lt inv (ap (λ (o : Own). o.mine.pending) own1 ∙ on.pending) notes (λ z q. absurd cc)
+              (λ i q. let g : j ≡ i = cc in record { directory = d; name = e; keeps = (has_inode h d u O1 (locked_held x) own1 isd).0; finds = found ∙ ap (λ (z : ℕ). Some z) g }))
+
+          Oa : Own
+          Oa = record O1 { mine = record { refs = O.mine.refs; walk = None; pending = Some j } }
+
+          own_a : own_of h ua ≡ Oa
+          own_a = own_walk h None (Some j) u O1 own1
+
+          o : Opening h fd j flags ua Oa
+          o = opening h fd j flags (node_at u.all j) ua Oa own_a free_o lt fair_a.inv (on.stays.opening ∙ ready.opening) refl room there (inr (ap (λ (z : Own). z.mine.pending) own_a))
+
+          ub : World
+          ub = opened_world h fd j flags ua
+
+          fair_b : Fair h ua ub
+          fair_b = fair fair_a.inv o.did
+
+          Ob : Own
+          Ob = record Oa { row = opened_row O.row fd (new_id u) key; desk = record (O.desk) { opening = Some fd } }
+
+          note : Flagging h ub Ob (record (ub.desks h) { noted = Some (note_of ub.all j) }) (record (Ob.desk) { noted = Some (note_of ub.all j) }) ub.clean
+          note = noting h j ub Ob o.owned free_o lt fair_b.inv
+
+          uc : World
+          uc = record ub { desks = put ub.desks h (record (ub.desks h) { noted = Some (note_of ub.all j) }) }
+
+          O3 : Own
+          O3 = record Ob { desk = record (Ob.desk) { noted = Some (note_of u.all j) } }
+
+          P0 : Own
+          P0 = record O0 { row = opened_row O0.row fd (new_id u) key; desk = record (O0.desk) { opening = Some fd } }
+
+          M3 : Own
+          M3 = record O3 { row = unopened_row O3.row fd; desk = record (O3.desk) { opening = None; left = None; full = true }; mine = record { refs = O.mine.refs; walk = None; pending = None } }
+
+          none_fd : O.row.fds fd ≡ None
+          none_fd = ap (λ (z : Own). z.row.fds fd) (sym own_a) ∙ o.none
+
+          none_key : O.row.keys fd ≡ None
+          none_key = ap (λ (z : Own). z.row.keys fd) (sym own_a) ∙ o.unkeyed
+
+          bare : (i : ℕ) → own_names O3.row (record (O3.desk) { opening = None }) i ≡ true → own_names O.row O.desk i ≡ true
+          bare i p = (λ z. own_names O.row (record (O.desk) { opening = (on.stays.opening ∙ ready.opening) z }) i) ∙ p
+
+      at : (o : Option Cause) → open_kind flags (node_at u.all j).kind ≡ o → (r : Bool) → has_room (u.all.fds h) ≡ r → MoveFine h 1611 n B Q es u (Look 0) (walk_step d ns (open_at path flags) lost (Some j))
+      at (Some k) q r p = refused_at k q
+      at None q true p = goes_at q p
+      at None q false p = full_at q p
+
+  -- A path without elements leads to its start, which is a directory.
+  starts : (i n : ℕ) (v : World) (O : Own) (w1 : World) → 3000 ≤ n → elements path ≡ [] → Gone h base [] O0 O w1 → Inv v → own_of h v ≡ O → StartsAt h i s base [] O v
+      → Fine machine h (places h (UpStart (is_absolute path)) (Some i) (makes (Begin s 0)) v) 0 n B [] v (marked h (makes (Begin s 0)) (counted_up h i v)) (λ l. Wp machine h B Q (open_at path flags i []) l (onto (own h (places h (UpStart (is_absolute path)) (Some i) (makes (Begin s 0)) v)) []) (marked h (makes (Begin s 0)) (counted_up h i v)))
+  starts i n v O w1 few none gone inv ov at = by (open_kind flags (node_at v.all p0).kind) refl (has_room (v.all.fds h)) refl
+    where
+      p0 : ℕ
+      p0 = start_of v.all h path
+
+      u1 : World
+      u1 = counted_up h i v
+
+      u2 : World
+      u2 = record u1 { harts = with_walk u1.harts h None None }
+
+      O2 : Own
+      O2 = record O { mine = record { refs = put O.mine.refs i (O.mine.refs i + 1); walk = None; pending = None } }
+
+      sort_is : sort_of (v.all.nodes i) ≡ Some OfDirectory
+      sort_is = at.sort
+
+      refusal : open_refusal (flags == 0) OfDirectory ≡ open_kind flags (node_at v.all p0).kind
+      refusal = sym (refusal_by_sort (v.all.nodes p0) flags OfDirectory (ap (λ (z : ℕ). sort_of (v.all.nodes z)) (sym at.start) ∙ at.sort))
+
+      stills : Fair h u1 u2
+      stills = fair at.up.fair.inv (walk_did h None None u1 (ap (λ (o : Own). o.desk.lender) at.up.owned ∙ gone.stays.lender ∙ free) lt at.up.fair.inv (ap (λ (o : Own). o.mine.pending) at.up.owned) (λ m q x. absurd cc) (λ z q. absurd cc) (λ z q. absurd cc))
+
+      own2 : own_of h u2 ≡ O2
+      own2 = own_walk h None None u1 (record O { mine = record { refs = put O.mine.refs i (O.mine.refs i + 1); walk = O.mine.walk; pending = None } }) at.up.owned
+
+      walks_are : (stage_of u2).walk ≡ put (λ g. (v.harts g).walk) h None
+      walks_are = ap (λ (m : Stage). m.walk) (stage_walk h None None u1) ∙ ap (λ (m : Stage). put m.walk h None) at.up.stage
+
+      made : (m : Made) → acts v.all h s (Some p0) None 0 (new_id v) ≡ m → begun v.all h s (elements path) 0 (new_id v) ≡ record m { found = None }
+      made m q = start_made v.all h s 0 (new_id v) none ∙ ap (λ (z : Made). record z { found = None }) q
+
+      -- the start is a directory still
+      typed : (P0 R : Own) (v2 : World) → P0.row.cwd ≡ O0.row.cwd → R.row ≡ P0.row → Inv v2 → own_of h v2 ≡ R → sort_of (v2.all.nodes i) ≡ Some OfDirectory
+      typed P0 R v2 same row inv2 ov2 = by_start (is_absolute path) (at.start)
+        where
+          by_start : (b : Bool) → i ≡ (if b then root else v.all.cwd h) → sort_of (v2.all.nodes i) ≡ Some OfDirectory
+          by_start true q = ap (λ (z : ℕ). sort_of (v2.all.nodes z)) q ∙ root_sort v2.all inv2.well
+          by_start false q =
+              let r : i ≡ v2.all.cwd h = q ∙ ap (λ (o : Own). o.row.cwd) ov ∙ ap (λ (r : Row). r.cwd) gone.stays.row ∙ sym same ∙ sym (ap (λ (r : Row). r.cwd) row) ∙ sym (ap (λ (o : Own). o.row.cwd) ov2) in
+              ap (λ (z : ℕ). sort_of (v2.all.nodes z)) r ∙ directory_sort v2.all h inv2.well lt
+
+      low : lowest (v.all.fds h) ≡ lowest O.desk.fds
+      low = low_is v O inv ov (gone.stays.opening ∙ ready.opening)
+
+      same_at : (u : World) → own_of h u ≡ O2 → At h i base [] None O.desk.noted O0 O2 u
+      same_at u own = record {
+        owns = own;
+        stays = stays_same O2 O O0 refl refl refl gone.stays;
+        noted = refl;
+        walk = refl;
+        pending = refl;
+        refs = at.refs;
+        listed = listed_among O O2 base [] gone.listed (λ j. refl) (λ j t. put_other O.mine.refs i (O.mine.refs i + 1) j (at.apart j t)) (λ j t p. p);
+        out = at.out;
+      }
+
+      refused_at : (k : Cause) → open_kind flags (node_at v.all p0).kind ≡ Some k
+          → Fine machine h (places h (UpStart (is_absolute path)) (Some i) (makes (Begin s 0)) v) 0 n B [] v (marked h (makes (Begin s 0)) (counted_up h i v)) (λ l. Wp machine h B Q (open_at path flags i []) l (onto (own h (places h (UpStart (is_absolute path)) (Some i) (makes (Begin s 0)) v)) []) (marked h (makes (Begin s 0)) (counted_up h i v)))
+      refused_at k why =
+          let b = begun_refused (Begin s 0) k [] (open_follows path flags).first (λ xs r p. p) in
+          moves_good h 0 n B Q [] v u1 (Begin s 0) (open_at path flags i []) (begun v.all h s (elements path) 0 (new_id v)) (record { all = v.all; walk = None; found = None; opened = None; entered = None; left = None; told = Some (deed_of (Failed k)) })
+          (made _ (refused_made v.all h s (Some p0) None 0 (new_id v) k (open_kind_is v.all h p0 path flags None plain ∙ why)))
+          (fair_then at.up.fair stills)
+          (start_takes h v u2 s (Failed k) (new_id v) v.all (open_finder path flags plain) lt inv (ap (λ (o : Own). o.mine.walk) ov ∙ gone.walk) none (open_place (settle v.all) h path flags lt) (open_refused_step v.all h p0 (new_id v) path flags None k lt plain why) refl walks_are)
+          b.1 (omega (arith, few))
+          (λ l q. (s-open-refused h path flags w free lt holds idle i [] O.desk.noted OfDirectory k l (tells (Begin s 0) (deed_of (Failed k)) ∷ []) u2 O2 (omega (arith, q, few)) (same_at u2 own2) (λ v2 inv2 ov2. typed O0 O2 v2 refl gone.stays.row inv2 ov2) (refusal ∙ why) b.0).wp)
+
+      full_at : open_kind flags (node_at v.all p0).kind ≡ None → has_room (v.all.fds h) ≡ false
+          → Fine machine h (places h (UpStart (is_absolute path)) (Some i) (makes (Begin s 0)) v) 0 n B [] v (marked h (makes (Begin s 0)) (counted_up h i v)) (λ l. Wp machine h B Q (open_at path flags i []) l (onto (own h (places h (UpStart (is_absolute path)) (Some i) (makes (Begin s 0)) v)) []) (marked h (makes (Begin s 0)) (counted_up h i v)))
+      full_at goes room =
+          let dirty = dirties h u2 (ap (λ (o : Own). o.desk.lender) own2 ∙ gone.stays.lender ∙ free) lt stills.inv in
+          moves_full h 0 n B Q [] v u1 (Begin s 0) (open_at path flags i []) (begun v.all h s (elements path) 0 (new_id v)) (record { all = v.all; walk = None; found = None; opened = None; entered = None; left = None; told = Some (deed_of (NoRoom Descriptors)) })
+          (made _ (open_full v.all h p0 0 (new_id v) path flags None plain goes room))
+          (fair_then at.up.fair (fair_then stills dirty)) refl (omega (arith, few))
+          (λ l q. (s-open-full h path flags w free lt holds idle i [] O.desk.noted OfDirectory l (tells (Begin s 0) (deed_of (NoRoom Descriptors)) ∷ []) (record u2 { clean = false }) O2 (omega (arith, q, few)) (same_at (record u2 { clean = false }) own2) (λ v2 inv2 ov2. typed O0 O2 v2 refl gone.stays.row inv2 ov2) (refusal ∙ goes)
+          (ap (λ (z : ℕ). nat_lt z descriptor_count) (sym low) ∙ room)).wp)
+
+      goes_at : open_kind flags (node_at v.all p0).kind ≡ None → has_room (v.all.fds h) ≡ true
+          → Fine machine h (places h (UpStart (is_absolute path)) (Some i) (makes (Begin s 0)) v) 0 n B [] v (marked h (makes (Begin s 0)) (counted_up h i v)) (λ l. Wp machine h B Q (open_at path flags i []) l (onto (own h (places h (UpStart (is_absolute path)) (Some i) (makes (Begin s 0)) v)) []) (marked h (makes (Begin s 0)) (counted_up h i v)))
+      goes_at goes room =
+          moves_good h 0 n B Q [] v u1 (Begin s 0) (open_at path flags i []) (begun v.all h s (elements path) 0 (new_id v)) (record { all = opened_tree v.all h fd (new_id v) i flags; walk = None; found = None; opened = Some (new_id v); entered = None; left = None; told = Some (deed_of (Opened fd (new_id v) isf)) })
+          (made _ (open_made v.all h p0 0 (new_id v) path flags None plain goes room) ∙ (λ z. record { all = opened_tree v.all h fd (new_id v) (sym at.start z) flags; walk = None; found = None; opened = Some (new_id v); entered = None; left = None; told = Some (deed_of (Opened fd (new_id v) isf)) }))
+          (fair_then at.up.fair (fair_then stills (fair stills.inv o.did)))
+          (start_takes h v u3 s (Opened fd (new_id v) isf) (new_id v) (settle (opened_tree v.all h fd (new_id v) p0 flags)) (open_finder path flags plain) lt inv (ap (λ (z : Own). z.mine.walk) ov ∙ gone.walk) none (open_place (settle v.all) h path flags lt) (open_step v.all h p0 (new_id v) path flags None lt plain goes room (fresh_id v inv).least)
+          (sym (settle_again (opened_tree v.all h fd (new_id v) p0 flags)) ∙ (λ z. settle (opened_tree v.all h fd (new_id v) (sym at.start z) flags))) walks_are)
+          b.1 (omega (arith, few))
+          (λ l q. (s-opened h path flags w free lt holds idle i fd (new_id v) [] O.desk.noted OfDirectory l (tells (Begin s 0) (deed_of (Opened fd (new_id v) isf)) ∷ []) u3 O3 (omega (arith, q, few)) (record {
+            owns = o.owned;
+            stays = record { row = ap (λ (r : Row). opened_row r fd (new_id v) key) gone.stays.row; ninodes = gone.stays.ninodes; fds = gone.stays.fds; hand = gone.stays.hand; joined = gone.stays.joined; directory = gone.stays.directory; lent = gone.stays.lent; lender = gone.stays.lender; opening = refl; left = gone.stays.left };
+            noted = refl;
+            walk = refl;
+            pending = refl;
+            refs = at.refs;
+            listed = listed_among O O3 base [] gone.listed (λ j. refl) (λ j t. put_other O.mine.refs i (O.mine.refs i + 1) j (at.apart j t)) (λ j t p. absurd (let z = times_none j in omega (arith, z, t)));
+            out = at.out;
+          }) (λ v2 inv2 ov2. typed (record O0 { row = opened_row O0.row fd (new_id v) key }) O3 v2 refl (ap (λ (r : Row). opened_row r fd (new_id v) key) gone.stays.row) inv2 ov2) (refusal ∙ goes)
+          (ap (λ (z : ℕ). nat_lt z descriptor_count) (sym low) ∙ room) (sym low) (no_empty _) (b.0 [] (opened_reply path flags fd) (open_done path flags fd (new_id v) isf (no_empty isf)))).wp)
+        where
+          fd : ℕ
+          fd = lowest (v.all.fds h)
+
+          isf : Bool
+          isf = is_file (node_at v.all p0).kind
+
+          key : Key
+          key = key_is (file_for i flags)
+
+          b : Walked c (opened_act path flags fd (new_id v) isf ∷ []) (tells (Begin s 0) (deed_of (Opened fd (new_id v) isf)) ∷ []) × B (tells (Begin s 0) (deed_of (Opened fd (new_id v) isf)) ∷ [])
+          b = begun_opened (Begin s 0) fd (new_id v) isf [] (open_follows path flags).first (λ xs r p. p)
+
+          refers : 0 < (u2.harts h).refs i
+          refers = let a = my_refs h u2 O2 i own2 in let p = put_same O.mine.refs i (O.mine.refs i + 1) in omega (arith, a, p)
+
+          there : v.all.nodes i ≡ Some (node_or (v.all.nodes i))
+          there = some_there (v.all.nodes i) at.sort
+            where
+              some_there : (o : Option Node) → sort_of o ≡ Some OfDirectory → o ≡ Some (node_or o)
+              some_there None q = absurd cc
+              some_there (Some x) q = refl
+
+          o : Opening h fd i flags u2 O2
+          o = opening h fd i flags (node_at v.all i) u2 O2 own2 (gone.stays.lender ∙ free) lt stills.inv (gone.stays.opening ∙ ready.opening) refl room there (inl refers)
+
+          u3 : World
+          u3 = opened_world h fd i flags u2
+
+          O3 : Own
+          O3 = record O2 { row = opened_row O.row fd (new_id v) key; desk = record (O.desk) { opening = Some fd } }
+
+      by : (o : Option Cause) → open_kind flags (node_at v.all p0).kind ≡ o → (r : Bool) → has_room (v.all.fds h) ≡ r
+          → Fine machine h (places h (UpStart (is_absolute path)) (Some i) (makes (Begin s 0)) v) 0 n B [] v (marked h (makes (Begin s 0)) (counted_up h i v)) (λ l. Wp machine h B Q (open_at path flags i []) l (onto (own h (places h (UpStart (is_absolute path)) (Some i) (makes (Begin s 0)) v)) []) (marked h (makes (Begin s 0)) (counted_up h i v)))
+      by (Some k) q r p = refused_at k q
+      by None q true p = goes_at q p
+      by None q false p = full_at q p
+
+  notes : (m : Note) → O0.desk.noted ≡ Some m → 0 < O0.mine.refs m.number
+  notes m q = absurd (let a = idle.noted in cc (a, q))
+
+  walks : (es : List Name) → elements path ≡ es → (n : ℕ) → 2600 * length es + 20000 ≤ n → (u : World) → own_of h u ≡ O0 → Safe machine h B Q (start s path [] (λ d. walk s d es [] (open_at path flags) lost) lost) n [] u
+  walks [] none n few u own = s-begin h s B Q base O0 [] n [] u O0 (λ d. open_at path flags d []) lost lt ready (gone_at h w u idle own) (omega (arith, few)) notes (λ i v inv ov at. starts i n v O0 u (omega (arith, few)) none (gone_at h w u idle own) inv ov at)
+      (λ l u2 R q g full. loses NoMemory [] l [] u2 R (omega (arith, q, few)) g full)
+  walks (e ∷ r) path_is n few u own = s-start h s B Q base O0 e r [] n [] u O0 (λ d. walk s d (e ∷ r) [] (open_at path flags) lost) lost lt ready (gone_at h w u idle own) (omega (arith, few)) refl path_is place notes (follows_begin c s (open_follows path flags)).1
+      (λ d l u2 R q on. s-walk h s B Q (Walked c []) (Walked c (missed s ∷ [])) base O0 2000 lt ready lost loses (follows_look c s (open_follows path flags)) (follows_lost c s (open_follows path flags)) (follows_quit c s (open_follows path flags)) (λ t. open_missing t h path flags None plain) (λ t. refl) place other refl
+      r d e [] l (looks (Begin s 0) ∷ []) u2 R (open_at path flags) (omega (arith, q, few)) on (follows_begin c s (open_follows path flags)).0 (λ t q. open_missing t h path flags (Some q) plain) act)
+      (λ l u2 R q g full. loses NoMemory [] l [] u2 R (omega (arith, q, few)) g full)
+
+  pub open_ok : Safe machine h B Q (open_program path flags) (limit c) [] w
+  open_ok = subst (λ (b : Bool). Safe machine h B Q (if b then open_new path flags (elements path) else open_old path flags) (limit c) [] w) (sym plain)
+      (s-join refl free lt (omega arith) (λ i x q. absurd (let a = ap (λ (f : ℕ → Option Held). f i) idle.inodes in cc (a, q))) idle.joined (λ l u q own. walks (elements path) refl l (enough l (length (elements path)) q) u own))
+    where
+      enough : (l k : ℕ) → l + 1 ≡ 2600 * (k + 1) + 24000 → 2600 * k + 20000 ≤ l
+      enough l k q = omega (arith, q)

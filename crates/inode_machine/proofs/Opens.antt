@@ -1,0 +1,154 @@
+-- The tree's step of an open without CREATE, and what it leaves where it acts.
+use Rattle.std.proofs.Common.{◌≡◌, inl, ℕ, ◌+◌, ◌-◌, ◌<◌, true, false, ◌==◌, List, [], ◌∷◌, Option, Some, None, refl, sym, ◌∙◌, ap, subst, arith}
+use Rattle.atomic_programs.specs.Logic.{P, own, onto, Fine, Wp}
+use Rattle.plain_tree.specs.declared.answer.Cause.{Cause}
+use Rattle.plain_tree.specs.declared.answer.Cause.TheVariants.{NoEntry}
+use Rattle.plain_tree.specs.declared.answer.Full.TheVariants.{Descriptors}
+use Rattle.plain_tree.specs.declared.node.Node.{Node}
+use Rattle.plain_tree.specs.declared.node.Kind.{Kind}
+use Rattle.plain_tree.specs.declared.node.Kind.TheVariants.{Directory, File, Device}
+use Rattle.plain_tree.specs.declared.step.Action.TheVariants.{Open}
+use Rattle.plain_tree.specs.declared.step.StepAnswer.TheVariants.{Failed, Opened, Full as NoRoom}
+use Rattle.plain_tree.specs.Widths.{hart_count}
+use Rattle.plain_tree.specs.Tree.{Name, Tree, settle}
+use Rattle.plain_tree.specs.Steps.{IsLeastUnused, answer_with, creates, effect_with, has_room, is_file, lowest, makes_node, node_at, node_or, open_kind, place_of, refusal_with, IsInPlace, StepWith}
+use Rattle.tree_laws.proofs.Maps.{eq_not, eq_self}
+use Rattle.tree_moves.specs.Moves.{Step, Move}
+use Rattle.inode_machine.specs.World.{World}
+use Rattle.inode_machine.specs.Inodes.{Sort, face_of, face_or, is_file_sort, open_refusal, sort_of, sort_of_kind}
+use Rattle.inode_machine.specs.Marks.{Made, acts, with_made}
+use Rattle.inode_machine.specs.Rules.{Inv, Others, Tied, shop_of, machine}
+use Rattle.inode_machine.proofs.Frame.{Fair, fair}
+use Rattle.inode_machine.proofs.Rules.{others}
+use Rattle.inode_machine.proofs.Rows.{below_is}
+use Rattle.inode_machine.proofs.Acts.{Finder}
+use Rattle.inode_machine.proofs.Openings.{opened_tree}
+
+pub open_finder : (path : List ℕ) (flags : ℕ) → creates flags ≡ false → Finder (Open path flags)
+open_finder path flags plain = record { follows = refl; makes = λ t q. rw plain refl; inherits = λ g q. absurd cc }
+
+pub open_place : (t : Tree) (h : ℕ) (path : List ℕ) (flags : ℕ) → h < hart_count → IsInPlace t h (Open path flags)
+unfolding place_of
+open_place t h path flags lt = rw (below_is h hart_count lt) refl
+
+pub open_missing : (t : Tree) (h : ℕ) (path : List ℕ) (flags : ℕ) (par : Option (ℕ × Name)) → creates flags ≡ false → refusal_with t h (Open path flags) None par ≡ Some NoEntry
+unfolding refusal_with
+open_missing t h path flags par plain = rw plain refl
+
+pub open_kind_is : (t : Tree) (h j : ℕ) (path : List ℕ) (flags : ℕ) (par : Option (ℕ × Name)) → creates flags ≡ false → refusal_with t h (Open path flags) (Some j) par ≡ open_kind flags (node_at t j).kind
+unfolding refusal_with
+open_kind_is t h j path flags par plain = rw plain refl
+
+pub open_refused_step : (t : Tree) (h j id : ℕ) (path : List ℕ) (flags : ℕ) (par : Option (ℕ × Name)) (k : Cause) → h < hart_count → creates flags ≡ false → open_kind flags (node_at t j).kind ≡ Some k → StepWith t h (Open path flags) (Some j) par (Failed k) 0 id t
+open_refused_step t h j id path flags par k lt plain e = (open_kind_is t h j path flags par plain ∙ e, refl, open_place t h path flags lt)
+
+-- With a descriptor free.
+
+pub open_made : (t : Tree) (h j new id : ℕ) (path : List ℕ) (flags : ℕ) (par : Option (ℕ × Name)) → creates flags ≡ false → open_kind flags (node_at t j).kind ≡ None → has_room (t.fds h) ≡ true
+    → acts t h (Open path flags) (Some j) par new id ≡ record {
+      all = opened_tree t h (lowest (t.fds h)) id j flags;
+      walk = None;
+      found = Some j;
+      opened = Some id;
+      entered = None;
+      left = None;
+      told = Some (record { act = record { step = Open path flags; answer = Opened (lowest (t.fds h)) id (is_file (node_at t j).kind) }; new = new });
+    }
+unfolding effect_with answer_with
+open_made t h j new id path flags par plain goes room = rw (open_kind_is t h j path flags par plain ∙ goes) (rw (plain, room) refl)
+
+pub open_step : (t : Tree) (h j id : ℕ) (path : List ℕ) (flags : ℕ) (par : Option (ℕ × Name)) → h < hart_count → creates flags ≡ false → open_kind flags (node_at t j).kind ≡ None → has_room (t.fds h) ≡ true → IsLeastUnused t id
+    → StepWith t h (Open path flags) (Some j) par (Opened (lowest (t.fds h)) id (is_file (node_at t j).kind)) 0 id (settle (opened_tree t h (lowest (t.fds h)) id j flags))
+unfolding effect_with answer_with
+open_step t h j id path flags par lt plain goes room least = (
+  open_kind_is t h j path flags par plain ∙ goes,
+  rw (plain, room) refl,
+  record { node = λ z. absurd (let a : makes_node t (Open path flags) par ≡ false = rw plain refl in cc (a, z)); file = λ _. least },
+  rw (plain, room) refl,
+  open_place t h path flags lt,
+)
+
+-- With none it finds no room, and nothing changes.
+pub open_full : (t : Tree) (h j new id : ℕ) (path : List ℕ) (flags : ℕ) (par : Option (ℕ × Name)) → creates flags ≡ false → open_kind flags (node_at t j).kind ≡ None → has_room (t.fds h) ≡ false
+    → acts t h (Open path flags) (Some j) par new id ≡ record { all = t; walk = None; found = Some j; opened = None; entered = None; left = None; told = Some (record { act = record { step = Open path flags; answer = NoRoom Descriptors }; new = new }) }
+unfolding effect_with answer_with
+open_full t h j new id path flags par plain goes room = rw (open_kind_is t h j path flags par plain ∙ goes) (rw (plain, room) refl)
+
+-- The type tells the cause.
+
+pub refusal_by_sort : (o : Option Node) (flags : ℕ) (sort : Sort) → sort_of o ≡ Some sort → open_kind flags (node_or o).kind ≡ open_refusal (flags == 0) sort
+refusal_by_sort None flags sort e = absurd cc
+refusal_by_sort (Some v) flags sort e = at v.kind ∙ ap (λ (z : Sort). open_refusal (flags == 0) z) (some_is e)
+  where
+    some_is : {a b : Sort} → ◌≡◌ {A = Option Sort} (Some a) (Some b) → a ≡ b
+    some_is q = cc
+
+    at : (k : Kind) → open_kind flags k ≡ open_refusal (flags == 0) (sort_of_kind k)
+    at (Directory slots) = refl
+    at (File bytes) = refl
+    at (Device major minor size) = refl
+
+pub file_by_sort : (o : Option Node) (sort : Sort) → sort_of o ≡ Some sort → is_file (node_or o).kind ≡ is_file_sort sort
+file_by_sort None sort e = absurd cc
+file_by_sort (Some v) sort e = at v.kind ∙ ap (λ (z : Sort). is_file_sort z) (some_is e)
+  where
+    some_is : {a b : Sort} → ◌≡◌ {A = Option Sort} (Some a) (Some b) → a ≡ b
+    some_is q = cc
+
+    at : (k : Kind) → is_file k ≡ is_file_sort (sort_of_kind k)
+    at (Directory slots) = refl
+    at (File bytes) = refl
+    at (Device major minor size) = refl
+
+pub face_or_sort : (o : Option Node) (sort : Sort) → sort_of o ≡ Some sort → (face_or (face_of o)).sort ≡ sort
+face_or_sort None sort e = absurd cc
+face_or_sort (Some v) sort e = cc
+
+pub sort_there : (o : Option Node) → o ≡ Some (node_or o) → sort_of o ≡ Some (sort_of_kind (node_or o).kind)
+sort_there o e = ap (λ (z : Option Node). sort_of z) e
+
+-- The step found no room: no list explains the run from here.
+
+pub dirties : (h : ℕ) (v : World) → (v.desks h).lender ≡ None → h < hart_count → Inv v → Fair h v (record v { clean = false })
+dirties h v free lt inv = fair inv (record {
+  hart = lt;
+  inodes = λ j. inl (record { lock = refl; keeper = refl; disk = refl; node = refl; alone = refl });
+  mine = λ g ne. refl;
+  rows = λ g ne. refl;
+  size = refl;
+  ids = inv.ids;
+  shop = record { tied = record { fds = t.fds; fresh = λ g i lg o. let f = t.fresh g i lg o in record { below = f.below; free = f.free; id = f.id; is = f.is; file = f.file; at = f.at; offset = f.offset; only = f.only }; used = t.used; lends = t.lends; hand = t.hand; hands = t.hands; within = t.within; files = t.files; apart = t.apart; counted = t.counted; slots = t.slots; spoiled = λ g q. refl }; desks = λ g ne. refl; numbers = λ g i k e lg ne li q a. (e, a, refl); clean = λ c. absurd cc };
+  free = free;
+  quiet = λ j is f. inv.quiet j h is f;
+  sort = λ j. inl refl;
+  sorts = inv.sorts;
+  noted = λ m q r s. inv.noted h m lt q r s;
+  directory = inv.directory h lt;
+  well = inv.well;
+  counts = inv.counts;
+  alone = inv.alone;
+  kept = λ j is. (inv.kept j h is).1;
+  held = λ j is. inv.held j h is;
+  named = λ j is. inv.named h j lt is;
+  pending = λ j is. inv.pending h j lt is;
+  walks = λ x is. inv.walks h x lt is;
+})
+  where
+    t : Tied (shop_of v)
+    t = inv.tied
+
+pub moves_full : {A : Type 0} (h more n : ℕ) (B : List Step → Type 0) (Q : A → List Step → World → Type 0) (es : List Step) (v u : World) (mv : Move) (p : P machine A) (made x : Made)
+    → made ≡ x → Fair h v (with_made h x u) → (with_made h x u).clean ≡ false → more < n → ((l : ℕ) → l + (more + 1) ≡ n → Wp machine h B Q p l (record { move = mv; told = x.told } ∷ es) (with_made h x u))
+    → Fine machine h ((h, record { move = mv; told = made.told }) ∷ []) more n B es v (with_made h made u) (λ l. Wp machine h B Q p l (onto (own h ((h, record { move = mv; told = made.told }) ∷ [])) es) (with_made h made u))
+moves_full {A} h more n B Q es v u mv p made x is f bad pos next =
+    subst (λ (z : Made). Fine machine h ((h, record { move = mv; told = z.told }) ∷ []) more n B es v (with_made h z u) (λ l. Wp machine h B Q p l (onto (own h ((h, record { move = mv; told = z.told }) ∷ [])) es) (with_made h z u))) (sym is)
+    (record {
+      inv = f.inv;
+      kept = λ g ne. subst (λ (zs : List Step). Others g v zs (with_made h x u)) (sym (rw (eq_not h g (λ q. ne (sym q))) refl)) (others f g ne);
+      goes = λ c. absurd (cc (c, bad));
+      clean = f.clean;
+      begun = λ c. absurd (cc (c, bad));
+      left = n - (more + 1);
+      falls = omega (arith, pos);
+      next = rw (eq_self h) (next (n - (more + 1)) (omega (arith, pos)));
+    })
