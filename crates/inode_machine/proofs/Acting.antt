@@ -24,7 +24,7 @@ use Rattle.inode_machine.specs.Inodes.{sort_of}
 use Rattle.inode_machine.specs.Exec.{with_walk}
 use Rattle.inode_machine.specs.Marks.{Made, acts, act_entered, act_left, found_by, look_made, looked, made_by, new_id, with_made}
 use Rattle.inode_machine.specs.Rules.{own_names, Stands, shop_of, Found, Pinned, Reached, IsAlone, Inv, machine}
-use Rattle.inode_machine.proofs.Frame.{ours_some, Kin, Did, Fair, two_refs}
+use Rattle.inode_machine.proofs.Frame.{ours_some, Kin, Did, Fair, two_refs, refers_on}
 use Rattle.inode_machine.proofs.Freeing.{lone_file}
 use Rattle.inode_machine.proofs.Walking.{refs_walk, moves_good}
 
@@ -36,6 +36,7 @@ pub record Fits (h : ℕ) (v : World) (all : Tree) (p : Option ℕ) (alone : ℕ
   pub free : (D h).lender ≡ None
   pub joined : (D h).joined ≡ true
   pub directory : Stands (D h) (all.cwd h) all.nodes
+  pub home : (D h).directory ≡ (v.desks h).directory
   pub well : IsWellFormed all
   pub size : all.ninodes ≡ v.all.ninodes
   pub rows : (g : ℕ) → g ≢ h → row_of all g ≡ row_of v.all g
@@ -71,6 +72,7 @@ acts_did h v all p alone next D c lt inv none fits =
         | inr a ↦ inr (sym (ap (λ (z : Mine). z.pending) (put_same v.harts h new)) ∙ a)
       ]) s;
       directory = fits.directory;
+      refers = refers_on (v.harts h) (with_walk v.harts h None p h) (v.desks h) (D h) (λ j. refs_walk v.harts h None p h j) fits.home (inv.refers h lt);
       well = fits.well;
       counts = λ j. inv.counts j ∙ ap (λ (z : ℕ). v.slots j + z) (sym (sum_same hart_count (λ g. (v.harts g).refs j) (λ g. (with_walk v.harts h None p g).refs j) (λ g l. refs_walk v.harts h None p g j)));
       alone = λ j is. let q = fits.lone j is in let a = inv.alone j q.0 in record { hart = a.hart; kept = a.kept; dead = q.1; counts = a.counts ∙ sym (refs_walk v.harts h None p a.hart j) };

@@ -29,7 +29,7 @@ use Rattle.inode_machine.proofs.Rules.{has_node, root_live, s-owned, locks_none,
 use Rattle.inode_machine.proofs.Walking.{walk_did, own_walk, stage_walk, moves_good}
 use Rattle.inode_machine.proofs.Looks.{spoilt, KeepsHold, mends}
 use Rattle.inode_machine.proofs.Listing.{IsListed, listed_held, times, one_at, one_else, listed_free, listed_on}
-use Rattle.inode_machine.proofs.Walks.{stays_same, names_stay, On, Gone, Ready}
+use Rattle.inode_machine.proofs.Walks.{stays_same, names_stay, On, Gone, Ready, few_listed}
 
 -- a live directory is one
 live_sort : (o : Option Node) → live_directory o ≡ true → sort_of o ≡ Some OfDirectory
@@ -116,7 +116,7 @@ s-begin h s B Q base O0 ns n es w O go lost lt ready at pos notes then_ full = s
         sort false = (inv.directory h lt).sort
 
         up : Ups h i O v
-        up = ups h i O v inv ov free lt (mine (is_absolute (path_of s))) (inl at.pending) (λ m q x. inl (let c = notes m q in let f : O.mine.refs m.number ≡ O.mine.refs i = ap O.mine.refs x in omega (arith, c, f)))
+        up = ups h i O v inv ov free lt (mine (is_absolute (path_of s))) (inl at.pending) (λ m q x. inl (let c = notes m q in let f : O.mine.refs m.number ≡ O.mine.refs i = ap O.mine.refs x in omega (arith, c, f))) (let f = at.refs i in let c = few_listed ready at.listed i i in omega (arith, f, c))
 
         -- what is listed isn't referred to from anywhere else
         not_listed : (j : ℕ) → 0 < times j ns → j ≢ i

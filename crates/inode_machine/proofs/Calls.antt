@@ -27,7 +27,7 @@ use Rattle.inode_machine.specs.Descriptors.{dup_program, close_program, stat_pro
 use Rattle.inode_machine.specs.Programs.{program, limit, rest_cost}
 use Rattle.inode_machine.specs.Theory.{descriptor_calls, calls_that, on_descriptors, begin_if, Refusal}
 use Rattle.inode_machine.proofs.Rules.{locked_held}
-use Rattle.inode_machine.proofs.Counting.{s-give}
+use Rattle.inode_machine.proofs.Counting.{s-give, one_most}
 use Rattle.inode_machine.proofs.Dups.{fails, dupped, s-double, s-join, s-leave, s-say, SameRow, SameDesk}
 use Rattle.inode_machine.proofs.Closes.{shut_step, s-shut}
 use Rattle.inode_machine.proofs.Stats.{stat_step, stat_face, s-stat-file}
@@ -132,7 +132,7 @@ refs_back r m = λ z n. each n z
 
 pub close_ok : (h fd : ℕ) (w : World) → (w.desks h).lender ≡ None → h < hart_count → Idle h w → Safe machine h (Begun descriptor_calls (calls.Close fd)) (Ends descriptor_calls h (calls.Close fd)) (close_program fd) rest_cost [] w
 close_ok h fd w free lt idle =
-    s-shut fd refl free lt (omega arith) idle.walk idle.pending idle.opening (λ j. ap (λ (f : ℕ → Option Held). f j) idle.inodes) idle.noted idle.lent ([], parts.failed (calls.Close fd) BadDescriptor, close_failed fd) ([], parts.done (calls.Close fd), close_written fd)
+    s-shut fd refl free lt (omega arith) idle.walk idle.pending idle.opening (λ j. ap (λ (f : ℕ → Option Held). f j) idle.inodes) idle.noted idle.lent (λ j. let r = idle.refs j in let o = one_most ((w.desks h).directory == j) in omega (arith, r, o)) ([], parts.failed (calls.Close fd) BadDescriptor, close_failed fd) ([], parts.done (calls.Close fd), close_written fd)
     (λ l u q own. record { wp = (λ c. close_failed fd, idle_as h u _ own (rests_as (own_of h w) (own_of h w).row (own_of h w).desk idle refl refl refl refl refl refl refl refl)) })
     (λ l r d u q row desk own. s-say own (desk.lender ∙ free) lt (omega (arith, q)) none (desk.joined ∙ idle.joined)
     (λ l2 u2 q2 _ own2. record { wp = (λ c. close_written fd, idle_as h u2 _ own2 (rests_same (own_of h w) r d idle row desk)) }))

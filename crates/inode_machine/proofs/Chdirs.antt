@@ -81,6 +81,7 @@ cwd_did h x k v free lt inv left sort reached = record {
   sorts = inv.sorts;
   noted = λ m is r s. inv.noted h m lt is r s;
   directory = let s = inv.directory h lt in record { at = s.at ∙ (λ z. left_or (left z) (v.all.cwd h)) ∙ sym (λ z. left_or (left z) (put v.all.cwd h x h)); sort = s.sort };
+  refers = inv.refers h lt;
   well = well_chdir v.all h x inv.well (kind_directory (v.all.nodes x) sort);
   counts = inv.counts;
   alone = inv.alone;
@@ -141,6 +142,7 @@ leaving h j v O ov free lt inv none sort reached = record {
     f = desk_changes h v O new (record (O.desk) { left = Some (O.row.cwd) }) v.clean ov free lt inv (ap (λ (o : Own). record (o.desk) { left = Some (o.row.cwd) }) ov) (record { fds = refl; hand = refl; lent = refl; opening = refl })
         (λ i q. names i q)
         (let s = inv.directory h lt in record { at = s.at ∙ (λ z. left_or (was z) (v.all.cwd h)); sort = s.sort })
+        (inv.refers h lt).home
         (ap (λ (o : Own). o.desk.lender) ov ∙ free) (λ q i is. inv.quiet i h is q) (λ m q r s. inv.noted h m lt q r s) (λ q. inv.tied.spoiled h q) (λ q. q) (λ q. q)
       where
         names : (i : ℕ) → own_names (row_of v.all h) new i ≡ true → own_names (row_of v.all h) (v.desks h) i ≡ true
@@ -200,6 +202,7 @@ mends_left h k v O ov free lt inv opening left hold names = subst (λ (z : World
         (record { fds = refl; hand = refl; lent = refl; opening = sym (ap (λ (o : Own). o.desk.opening) ov ∙ opening) })
         (λ i q. fewer i q)
         (record { at = stands ∙ sym (put_same v.all.cwd h k); sort = (inv.directory h lt).sort })
+        (inv.refers h lt).home
         (ap (λ (o : Own). o.desk.lender) ov ∙ free) (λ q i is. inv.quiet i h is q) (λ m q r s. inv.noted h m lt q r s) (λ q. refl) (λ q. refl) (λ q. absurd cc)
       where
         fewer : (i : ℕ) → own_names (row_of u1.all h) new i ≡ true → own_names (row_of u1.all h) (v.desks h) i ≡ true
@@ -244,6 +247,7 @@ s-settle {A} {h} {i} {x} {k} {B} {Q} {n} {es} {w} {O} owns free lt pos isi has s
     settles v inv ov = desk_changes h v O (record (v.desks h) { directory = i; left = None }) (record (O.desk) { directory = i; left = None }) v.clean ov free lt inv (ap (λ (o : Own). record (o.desk) { directory = i; left = None }) ov) (record { fds = refl; hand = refl; lent = refl; opening = refl })
         (λ j q. fewer j q)
         (let c : v.all.cwd h ≡ i = ap (λ (o : Own). o.row.cwd) ov ∙ stands in record { at = sym c; sort = ap (λ (z : ℕ). sort_of (v.all.nodes z)) (sym c) ∙ directory_sort v.all h inv.well lt })
+        (let r = my_refs h v O i ov in omega (arith, r, spare))
         (ap (λ (o : Own). o.desk.lender) ov ∙ free) (λ q j is. inv.quiet j h is q) (λ m q r s. inv.noted h m lt q r s) (λ q. inv.tied.spoiled h q) (λ q. q) (λ q. q)
       where
         fewer : (j : ℕ) → own_names (row_of v.all h) (record (v.desks h) { left = None }) j ≡ true → own_names (row_of v.all h) (v.desks h) j ≡ true

@@ -17,7 +17,7 @@ use Rattle.inode_machine.specs.Marks.{with_mark, mended, places}
 use Rattle.inode_machine.specs.Rules.{Own, shop_of, own_names, Held, view, is_hart, own_of, Pinned, Inv, machine, Reached, HonestClaim}
 use Rattle.inode_machine.specs.Parts.{mends_if_full}
 use Rattle.inode_machine.specs.Opening.{mends_unless_new}
-use Rattle.inode_machine.proofs.Frame.{shop_same, put_elim, ours_none, ours_some, kept_here, Did, Fair, fair, own_inodes, has_inode, found_more, one_refs}
+use Rattle.inode_machine.proofs.Frame.{shop_same, put_elim, ours_none, ours_some, kept_here, Did, Fair, fair, own_inodes, has_inode, found_more, one_refs, refers_put}
 use Rattle.inode_machine.proofs.Rules.{opens_slots, s-owned, quiet, each_refs, here_refs, walks_refs, total_same, total_changed, my_refs, has_disk, locks_it}
 use Rattle.inode_machine.proofs.Counting.{writes}
 use Rattle.inode_machine.proofs.Rows.{unlive}
@@ -141,6 +141,7 @@ claiming h i sort v O ov free lt inv joined is_free_i = record { fair = fair inv
             | inr ne ↦ inv.noted h n lt is (back n.number ne r) (sym (put_other v.alone i true n.number ne) ∙ s)
           ];
           directory = inv.directory h lt;
+          refers = refers_put (v.harts h) (u.harts h) (v.desks h) (v.desks h) i ((v.harts h).refs i + 1) (ap (λ (m : Mine). m.refs) (put_same v.harts h new)) refl (omega (arith, zero)) (λ q. omega arith) (inv.refers h lt);
           well = inv.well;
           counts = λ j. elim (same_or j i) [
             | inl q ↦ subst (λ (z : ℕ). u.refs z ≡ v.slots z + sum_below hart_count (λ g. (u.harts g).refs z)) (sym q)

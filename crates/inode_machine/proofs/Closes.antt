@@ -21,7 +21,7 @@ use Rattle.inode_machine.specs.Exec.{is_at, file_count, with_refs, with_walk, sl
 use Rattle.inode_machine.specs.World.{Mine, Entry, Desk, World, stage_of}
 use Rattle.inode_machine.specs.Marks.{places, with_mark, made_by, new_id}
 use Rattle.inode_machine.specs.World.Op.{Shut}
-use Rattle.inode_machine.specs.Rules.{Own, shop_of, number_is, users, own_names, own_of, IsAlone, Inv, machine, nothing}
+use Rattle.inode_machine.specs.Rules.{Own, shop_of, number_is, users, own_names, own_of, IsAlone, Inv, machine, nothing, reference_limit}
 use Rattle.inode_machine.proofs.Frame.{put_elim, stands_on, Fair, fair, has_none, one_refs}
 use Rattle.inode_machine.proofs.Rules.{s-owned, my_refs, each_refs, here_refs, walks_refs, total_same, total_changed, opens_slots, locks_none}
 use Rattle.inode_machine.proofs.Rows.{below_is}
@@ -128,6 +128,7 @@ pub record Closing (h fd : ℕ) (v : World) (F : ℕ → Option Entry) (S : ℕ 
   pub changes : Changes (shop_of v) h fd None None F S
   pub others : (g : ℕ) → g ≢ h → H g ≡ v.harts g
   pub refs : (j : ℕ) → (v.harts h).refs j ≤ (H h).refs j
+  pub few : (j : ℕ) → (H h).refs j ≤ reference_limit
   pub counts : (j : ℕ) → v.refs j ≡ S j + sum_below hart_count (λ g. (H g).refs j)
   pub lone : (i : ℕ) (a : IsAlone v.keeper v.all.nodes v.refs v.harts i) → v.refs i ≡ (H a.hart).refs i
   pub sorts : (k : ℕ) (x : Entry) → F k ≡ Some x → sort_of (v.all.nodes x.file.number) ≡ Some x.sort
@@ -171,6 +172,8 @@ shuts h fd s e v O F S H inv ov free lt walk still idle empty unnoted hit c = re
     rows = λ g ne. rows_stay v.all h fd g ne;
     ids = λ k le. elim (closed_or (record (v.all) { fds = fewer v.all h fd }) k) [ inl q ↦ q ∙ inv.ids k le | inr q ↦ q ];
     others = c.others;
+    home = ap (λ (z : Desk). z.directory) desk_is;
+    few = c.few;
     refs = c.refs;
     counts = c.counts;
     pinned = λ j kept o. absurd (has_none h j v O ov (empty j) kept);
@@ -240,6 +243,7 @@ closing_less h fd s e v inv lt idle unlent hit many = record {
   sorts = λ k x q. renewed_sorts v s e f inv hit.at refl refl k x q;
   others = λ g ne. put_other v.harts h new g ne;
   refs = λ j. let r = refs_walk v.harts h None None h j in omega (arith, r);
+  few = λ j. let r = refs_walk v.harts h None None h j in let a = (inv.refers h lt).few j in omega (arith, r, a);
   counts = λ j. inv.counts j ∙ ap (λ (z : ℕ). v.slots j + z) (sym (sum_same hart_count (λ g. (v.harts g).refs j) (λ g. (with_walk v.harts h None None g).refs j) (λ g l. refs_walk v.harts h None None g j)));
   lone = λ i a. a.counts ∙ sym (refs_walk v.harts h None None a.hart i);
   found = ap (λ (m : Mine). m.pending) (put_same v.harts h new);
@@ -260,8 +264,8 @@ abbrev pub last_refs : ℕ → World → ℕ → ℕ → Mine
 last_refs h v n = with_walk (with_refs v.harts h n ((v.harts h).refs n + 1)) h None None
 
 -- It was the last one.
-closing_last : (h fd s : ℕ) (e : Entry) (v : World) → Inv v → h < hart_count → (v.desks h).opening ≡ None → (v.desks h).lent ≡ nothing → Behind h fd s e v → e.references ≡ 1 → Closing h fd v (put v.files s None) (put v.slots e.file.number (v.slots e.file.number - 1)) (last_refs h v e.file.number)
-closing_last h fd s e v inv lt idle unlent hit one = record {
+closing_last : (h fd s : ℕ) (e : Entry) (v : World) → Inv v → h < hart_count → (v.desks h).opening ≡ None → (v.desks h).lent ≡ nothing → Behind h fd s e v → e.references ≡ 1 → (v.harts h).refs e.file.number < reference_limit → Closing h fd v (put v.files s None) (put v.slots e.file.number (v.slots e.file.number - 1)) (last_refs h v e.file.number)
+closing_last h fd s e v inv lt idle unlent hit one room = record {
   changes = record {
     hart = lt;
     below = hit.below;
@@ -284,6 +288,10 @@ closing_last h fd s e v inv lt idle unlent hit one = record {
   refs = λ j. let r = refs_walk W h None None h j in elim (same_or j n) [
     | inl q ↦ (let a = subst (λ (z : ℕ). (W h).refs z ≡ (v.harts h).refs z + 1) (sym q) (here_refs v.harts h n ((v.harts h).refs n + 1)) in omega (arith, r, a))
     | inr ne ↦ (let a = each_refs v.harts h n ((v.harts h).refs n + 1) h j (inr ne) in omega (arith, r, a))
+  ];
+  few = λ j. let r = refs_walk W h None None h j in elim (same_or j n) [
+    | inl q ↦ (let a = subst (λ (z : ℕ). (W h).refs z ≡ (v.harts h).refs n + 1) (sym q) (here_refs v.harts h n ((v.harts h).refs n + 1)) in omega (arith, r, a, room))
+    | inr ne ↦ (let a = each_refs v.harts h n ((v.harts h).refs n + 1) h j (inr ne) in let b = (inv.refers h lt).few j in omega (arith, r, a, b))
   ];
   counts = λ j. let t = sum_same hart_count (λ g. (W g).refs j) (λ g. (last_refs h v n g).refs j) (λ g l. refs_walk W h None None g j) in elim (same_or j n) [
     | inl q ↦ subst (λ (z : ℕ). v.refs z ≡ put v.slots n (v.slots n - 1) z + sum_below hart_count (λ g. (last_refs h v n g).refs z)) (sym q)
@@ -329,13 +337,13 @@ closing_last h fd s e v inv lt idle unlent hit one = record {
         ]
 
 pub s-shut : {A : Type 0} {h : ℕ} (fd : ℕ) {k : Option (Option ℕ) → P machine A} {B : List Step → Type 0} {Q : A → List Step → World → Type 0} {n : ℕ} {es : List Step} {w : World} {O : Own}
-    → own_of h w ≡ O → O.desk.lender ≡ None → h < hart_count → 0 < n → O.mine.walk ≡ None → O.mine.pending ≡ None → O.desk.opening ≡ None → ((j : ℕ) → O.inodes j ≡ None) → O.desk.noted ≡ None → O.desk.lent ≡ nothing
+    → own_of h w ≡ O → O.desk.lender ≡ None → h < hart_count → 0 < n → O.mine.walk ≡ None → O.mine.pending ≡ None → O.desk.opening ≡ None → ((j : ℕ) → O.inodes j ≡ None) → O.desk.noted ≡ None → O.desk.lent ≡ nothing → ((j : ℕ) → O.mine.refs j < reference_limit)
     → B (fails (Close fd) BadDescriptor ∷ es) → B (shut_step fd ∷ es)
     → ((l : ℕ) (u : World) → l + 1 ≡ n → own_of h u ≡ record O { mine = record { refs = O.mine.refs; walk = None; pending = None } } → Safe machine h B Q (k None) l (fails (Close fd) BadDescriptor ∷ es) u)
     → ((l : ℕ) (r : Row) (d : Desk) (u : World) → l + 1 ≡ n → SameRow r O.row → SameDesk d O.desk → own_of h u ≡ record O { row = r; desk = d; mine = record { refs = O.mine.refs; walk = None; pending = None } } → Safe machine h B Q (k (Some None)) l (shut_step fd ∷ es) u)
     → ((l m : ℕ) (r : Row) (d : Desk) (u : World) → l + 1 ≡ n → SameRow r O.row → SameDesk d O.desk → ((0 < O.mine.refs m) ⊎ (own_names r d m ≡ false)) → own_of h u ≡ record O { row = r; desk = d; mine = record { refs = put O.mine.refs m (O.mine.refs m + 1); walk = None; pending = None } } → Safe machine h B Q (k (Some (Some m))) l (shut_step fd ∷ es) u)
     → Safe machine h B Q (Do (Shut fd) (λ (_ : Option (Option ℕ)). own_step (Close fd)) k) n es w
-s-shut {A} {h} fd {k} {B} {Q} {n} {es} {w} {O} owns free lt pos walks none idle empty unnoted unlent bf bd bad less last = s-owned owns free pos (λ v inv ov. (locks_none h v O inv ov (λ i x q. absurd (let a = empty i in cc (a, q))), (λ _ _. at v inv ov (slot_at v h fd) refl)))
+s-shut {A} {h} fd {k} {B} {Q} {n} {es} {w} {O} owns free lt pos walks none idle empty unnoted unlent room bf bd bad less last = s-owned owns free pos (λ v inv ov. (locks_none h v O inv ov (λ i x q. absurd (let a = empty i in cc (a, q))), (λ _ _. at v inv ov (slot_at v h fd) refl)))
   where
     opening_none : (v : World) → own_of h v ≡ O → (v.desks h).opening ≡ None
     opening_none v ov = ap (λ (o : Own). o.desk.opening) ov ∙ idle
@@ -372,7 +380,7 @@ s-shut {A} {h} fd {k} {B} {Q} {n} {es} {w} {O} owns free lt pos walks none idle 
           desk = with_fd v.desks h fd None h;
         })).wp)
     rest v inv ov s e hit true q =
-        let c = closing_last h fd s e v inv lt (opening_none v ov) (ap (λ (o : Own). o.desk.lent) ov ∙ unlent) hit (eq_is e.references 1 q) in
+        let c = closing_last h fd s e v inv lt (opening_none v ov) (ap (λ (o : Own). o.desk.lent) ov ∙ unlent) hit (eq_is e.references 1 q) (let r = my_refs h v O e.file.number ov in let a = room e.file.number in omega (arith, r, a)) in
         let x = shuts h fd s e v O _ _ _ inv ov free lt (walk v ov) (still v ov) (opening_none v ov) empty unnoted hit c in
         moves_good h 0 n B Q es v (close_last h v fd s e) (OwnMove (Close fd) 0) (k (Some (Some e.file.number))) (made_by v.all h (new_id v) (v.harts h).walk (OwnMove (Close fd) 0)) (record { all = without_fd v.all h fd; walk = None; found = None; opened = None; entered = None; left = None; told = (shut_step fd).told })
         (made_is v s e hit) x.fair x.takes bd pos

@@ -16,7 +16,7 @@ use Rattle.inode_machine.specs.Marks.{with_mark}
 use Rattle.inode_machine.specs.Exec.{unlocked, counted_down, down_if, is_dead, is_last, reserved, walk_down_if}
 use Rattle.inode_machine.specs.World.Op.{Down, Give, WalkDown}
 use Rattle.inode_machine.specs.Rules.{Own, shop_of, own_names, Held, view, is_hart, if_kept, own_of, Pinned, Inv, machine, Reached, Spares, left_or}
-use Rattle.inode_machine.proofs.Frame.{shop_same, put_elim, ours_none, ours_some, kept_here, Did, Fair, fair, own_inodes, has_inode, has_none, directory_named, one_refs, two_refs}
+use Rattle.inode_machine.proofs.Frame.{shop_same, put_elim, ours_none, ours_some, kept_here, Did, Fair, fair, own_inodes, has_inode, has_none, directory_named, one_refs, two_refs, refers_put}
 use Rattle.inode_machine.proofs.Rules.{opens_slots, s-owned, quiet, each_refs, here_refs, walks_refs, total_same, total_changed, my_refs, not_alone, has_disk, has_node, is_me, is_mine, locks_it, locks_not}
 
 abbrev pub after_unlock : ℕ → World → World
@@ -57,6 +57,7 @@ gives h i x O v free lt inv ov isi shared whole none = record { fair = fair inv 
           sorts = inv.sorts;
           noted = λ n is r s. inv.noted h n lt is r s;
           directory = inv.directory h lt;
+          refers = inv.refers h lt;
           well = inv.well;
           counts = inv.counts;
           alone = λ j is. let a = inv.alone j is in record {
@@ -132,6 +133,7 @@ writes h i y x O v free lt joined inv ov isi = record { fair = fair inv did; own
           sorts = inv.sorts;
           noted = λ n is r s. inv.noted h n lt is r s;
           directory = inv.directory h lt;
+          refers = inv.refers h lt;
           well = inv.well;
           counts = inv.counts;
           alone = inv.alone;
@@ -230,6 +232,7 @@ lasting h i v O L b ov free lt inv out refers none e there here mine = record { 
           sorts = inv.sorts;
           noted = λ n is r s. inv.noted h n lt is r (put_elim v.alone i true n.number (λ z. z ≡ false → v.alone n.number ≡ false) (λ q e. absurd cc) (λ q e. e) s);
           directory = inv.directory h lt;
+          refers = inv.refers h lt;
           well = inv.well;
           counts = inv.counts;
           alone = λ j is. elim (same_or j i) [
@@ -340,6 +343,12 @@ counting h i v O ov free lt inv out refers none still = record { fair = fair inv
     row_is : row_of v.all h ≡ O.row
     row_is = ap (λ (o : Own). o.row) ov
 
+    home : (v.desks h).directory ≡ i → 0 < (v.harts h).refs i - 1
+    home q = elim still [
+      | inl m ↦ (let a = many m in omega (arith, a))
+      | inr s ↦ absurd (not_home h i v O O.desk.opening inv ov lt s.0 (ap (λ (o : Own). o.desk.directory) (sym ov) ∙ q))
+    ]
+
     did : Did h v u
     did =
         record {
@@ -356,6 +365,7 @@ counting h i v O ov free lt inv out refers none still = record { fair = fair inv
           sorts = inv.sorts;
           noted = λ n is r s. inv.noted h n lt is (shrink n.number r) (sym (alone_same n.number) ∙ s);
           directory = inv.directory h lt;
+          refers = refers_put (v.harts h) (u.harts h) (v.desks h) (v.desks h) i ((v.harts h).refs i - 1) (ap (λ (m : Mine). m.refs) (put_same v.harts h new)) refl (let a = (inv.refers h lt).few i in omega (arith, a)) (λ q. home q) (inv.refers h lt);
           well = inv.well;
           counts = λ j. elim (same_or j i) [
             | inl q ↦ subst (λ (z : ℕ). u.refs z ≡ v.slots z + sum_below hart_count (λ g. (u.harts g).refs z)) (sym q)

@@ -120,11 +120,11 @@ pub record Flagging (h : ℕ) (v : World) (O : Own) (new d : Desk) (c : Bool) : 
 
 -- A desk changes, but not what the table knows of it, nor what the hart names.
 pub desk_changes : (h : ℕ) (v : World) (O : Own) (new d : Desk) (c : Bool) → own_of h v ≡ O → O.desk.lender ≡ None → h < hart_count → Inv v → new ≡ d → SameFiles new (v.desks h)
-    → ((j : ℕ) → own_names (row_of v.all h) new j ≡ true → own_names (row_of v.all h) (v.desks h) j ≡ true) → Stands new (v.all.cwd h) v.all.nodes → new.lender ≡ None
+    → ((j : ℕ) → own_names (row_of v.all h) new j ≡ true → own_names (row_of v.all h) (v.desks h) j ≡ true) → Stands new (v.all.cwd h) v.all.nodes → 0 < (v.harts h).refs new.directory → new.lender ≡ None
     → (new.joined ≡ false → (j : ℕ) → v.keeper j ≡ Some h → v.disk j ≡ v.all.nodes j)
     → ((m : Note) → new.noted ≡ Some m → Reached v h m.number → v.alone m.number ≡ false → sort_of (v.all.nodes m.number) ≡ m.sort)
     → (new.full ≡ true → c ≡ false) → (v.clean ≡ false → c ≡ false) → (c ≡ true → v.clean ≡ true) → Flagging h v O new d c
-desk_changes h v O new d c ov free lt inv is same names stands unlent quiet notes mine his back = record {
+desk_changes h v O new d c ov free lt inv is same names stands home unlent quiet notes mine his back = record {
   fair = fair inv (record {
     hart = lt;
     inodes = λ j. inl (record { lock = refl; keeper = refl; disk = refl; node = refl; alone = refl });
@@ -139,6 +139,7 @@ desk_changes h v O new d c ov free lt inv is same names stands unlent quiet note
     sorts = inv.sorts;
     noted = λ m is r s. notes m (sym (ap (λ (z : Desk). z.noted) here) ∙ is) r s;
     directory = subst (λ (z : Desk). Stands z (v.all.cwd h) v.all.nodes) (sym here) stands;
+    refers = record { few = (inv.refers h lt).few; home = subst (λ (z : Desk). 0 < (v.harts h).refs z.directory) (sym here) home };
     well = inv.well;
     counts = inv.counts;
     alone = inv.alone;
@@ -204,7 +205,7 @@ pub flagging : (h : ℕ) (v : World) (O : Own) (new d : Desk) (c : Bool) → own
     → (new.full ≡ true → c ≡ false) → (v.clean ≡ false → c ≡ false) → (c ≡ true → v.clean ≡ true) → Flagging h v O new d c
 flagging h v O new d c ov free lt inv is same unlent quiet notes mine his back = desk_changes h v O new d c ov free lt inv is (record { fds = same.fds; hand = same.hand; lent = same.lent; opening = same.opening })
     (λ j q. (λ z. (v.all.cwd h == j) || (hold_names (v.all.holds h) j || (key_names (key_in (row_of v.all h).keys (sym same.opening z)) j || is_at (sym same.left z) j))) ∙ q)
-    (stands_on (v.desks h) new (v.all.cwd h) v.all.nodes same.directory same.left (inv.directory h lt)) unlent quiet notes mine his back
+    (stands_on (v.desks h) new (v.all.cwd h) v.all.nodes same.directory same.left (inv.directory h lt)) (subst (λ (z : ℕ). 0 < (v.harts h).refs z) (sym same.directory) (inv.refers h lt).home) unlent quiet notes mine his back
 
 pub filling : (h : ℕ) (v : World) (O : Own) → own_of h v ≡ O → O.desk.lender ≡ None → h < hart_count → Inv v → Flagging h v O (record (v.desks h) { full = true }) (record (O.desk) { full = true }) false
 filling h v O ov free lt inv = flagging h v O (record (v.desks h) { full = true }) (record (O.desk) { full = true }) false ov free lt inv (ap (λ (o : Own). record (o.desk) { full = true }) ov)
@@ -487,6 +488,8 @@ s-double {A} {h} fd {k} {B} {Q} {n} {es} {w} {O} owns free lt pos walks none idl
           sorts = λ k x q. renewed_sorts v s e (record { file = e.file; sort = e.sort; references = e.references + 1 }) inv hit.at refl refl k x q;
           noted = λ m q. (sym (ap (λ (z : Desk). z.noted) desk_is) ∙ q, (λ p. let r = refs_walk v.harts h None None h m.number in omega (arith, r, p)));
           directory = stands_on (v.desks h) (D h) (v.all.cwd h) v.all.nodes (ap (λ (z : Desk). z.directory) desk_is) (ap (λ (z : Desk). z.left) desk_is) (inv.directory h lt);
+          home = ap (λ (z : Desk). z.directory) desk_is;
+          few = λ j. let r = refs_walk v.harts h None None h j in let a = (inv.refers h lt).few j in omega (arith, r, a);
           well = subst (λ (z : Tree). IsWellFormed z) (λ i. record (v.all) { fds = put v.all.fds h (put (v.all.fds h) (low i) (hit.tree i)) }) (well_dup v.all h fd e.file inv.well lt hit.file);
           nodes = refl;
           size = refl;

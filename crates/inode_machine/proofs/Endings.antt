@@ -26,7 +26,7 @@ use Rattle.inode_machine.specs.Parts.{P, Stop, NotThere, NoMemory, failed, give_
 use Rattle.inode_machine.specs.Theory.{covered_calls}
 use Rattle.inode_machine.proofs.Frame.{has_none}
 use Rattle.inode_machine.proofs.Rules.{locked_held, my_refs, not_alone}
-use Rattle.inode_machine.proofs.Counting.{s-give}
+use Rattle.inode_machine.proofs.Counting.{s-give, one_most}
 use Rattle.inode_machine.proofs.Drops.{s-drop}
 use Rattle.inode_machine.proofs.Listing.{times, one_at, one_else, Listed, listed_among, Through, s-tail}
 use Rattle.inode_machine.proofs.Looks.{KeepsHold}
@@ -246,6 +246,7 @@ ready_at h w free lt inv idle = record {
   opening = idle.opening;
   left = idle.left;
   hold = subst KeepsHold (sym idle.hold) tt;
+  few = λ i. let o = one_most ((w.desks h).directory == i) in omega (arith, o);
   spare = λ i q. spare i (sym (names_plain (own_of h w).row (w.desks h) i idle.hold idle.opening) ∙ q);
 }
   where

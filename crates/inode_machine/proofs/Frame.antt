@@ -13,7 +13,7 @@ use Rattle.inode_machine.specs.Inodes.{sort_of}
 use Rattle.tree_moves.specs.Moves.{Walk}
 use Rattle.inode_machine.specs.World.{Mine, Entry, Note, Desk, World}
 use Rattle.inode_machine.specs.Exec.{is_at}
-use Rattle.inode_machine.specs.Rules.{key_in, Own, Rests, left_or, Stands, shop_of, Shop, Tied, own_names, Held, view, is_hart, if_kept, own_of, Found, Pinned, Reached, IsAlone, Inv}
+use Rattle.inode_machine.specs.Rules.{key_in, Own, Rests, left_or, Stands, shop_of, Shop, Tied, own_names, Held, view, is_hart, if_kept, own_of, Found, Pinned, Reached, reference_limit, References, IsAlone, Inv}
 
 -- Functions changed at one place, and what is kept.
 
@@ -107,6 +107,7 @@ pub record Did (h : ℕ) (v u : World) : Type 0 where
   pub directory : Stands (u.desks h) (u.all.cwd h) u.all.nodes
   pub well : IsWellFormed u.all
   pub counts : (i : ℕ) → u.refs i ≡ u.slots i + sum_below hart_count (λ g. (u.harts g).refs i)
+  pub refers : References (u.harts h) (u.desks h)
   pub alone : (i : ℕ) → u.alone i ≡ true → IsAlone u.keeper u.all.nodes u.refs u.harts i
   pub kept : (j : ℕ) → u.keeper j ≡ Some h → Pinned u.desks u.files u.harts h j
   pub held : (j : ℕ) → u.keeper j ≡ Some h → (u.lock j ≡ Some h) ⊎ (u.alone j ≡ true)
@@ -173,6 +174,20 @@ stands_on d e cwd nodes same left s = record { at = same ∙ s.at ∙ (λ z. lef
 pub stands_in : (d : Desk) (cwd : ℕ) (nodes ns : ℕ → Option Node) → sort_of (ns d.directory) ≡ sort_of (nodes d.directory) → Stands d cwd nodes → Stands d cwd ns
 stands_in d cwd nodes ns same s = record { at = s.at; sort = same ∙ s.sort }
 
+-- the same references
+pub refers_on : (m n : Mine) (d e : Desk) → ((i : ℕ) → n.refs i ≡ m.refs i) → e.directory ≡ d.directory → References m d → References n e
+refers_on m n d e same at r = record {
+  few = λ i. let a = r.few i in let b = same i in omega (arith, a, b);
+  home = let a = r.home in let b : n.refs e.directory ≡ m.refs d.directory = same e.directory ∙ ap m.refs at in omega (arith, a, b);
+}
+
+-- of one inode so many
+pub refers_put : (m n : Mine) (d e : Desk) (i r : ℕ) → n.refs ≡ put m.refs i r → e.directory ≡ d.directory → r ≤ reference_limit → (d.directory ≡ i → 0 < r) → References m d → References n e
+refers_put m n d e i r is at little home a = record {
+  few = λ j. subst (λ (f : ℕ → ℕ). f j ≤ reference_limit) (sym is) (put_elim m.refs i r j (λ z. z ≤ reference_limit) (λ q. little) (λ ne. a.few j));
+  home = subst (λ (f : ℕ → ℕ). 0 < f e.directory) (sym is) (subst (λ (z : ℕ). 0 < put m.refs i r z) (sym at) (put_elim m.refs i r d.directory (λ z. 0 < z) (λ q. home q) (λ ne. a.home)));
+}
+
 pub did_others : (h : ℕ) (v u : World) → Did h v u → (g : ℕ) → g ≢ h → own_of g u ≡ own_of g v
 did_others h v u did g ne = λ i. record { inodes = λ j. inode j (did.inodes j) i; mine = did.mine g ne i; row = did.rows g ne i; ninodes = did.size i; desk = did.shop.desks g ne i }
   where
@@ -203,6 +218,10 @@ did_inv h v u inv did =
       ];
       alone = did.alone;
       counts = did.counts;
+      refers = λ g lt. elim (same_or g h) [
+        | inl e ↦ subst (λ (z : ℕ). References (u.harts z) (u.desks z)) (sym e) did.refers
+        | inr ne ↦ subst (λ (m : Mine). References m (u.desks g)) (sym (did.mine g ne)) (subst (λ (d : Desk). References (v.harts g) d) (sym (did.shop.desks g ne)) (inv.refers g lt))
+      ];
       tied = did.shop.tied;
       sorts = did.sorts;
       named = λ g i lt is. elim (same_or g h) [
@@ -230,7 +249,7 @@ did_inv h v u inv did =
           at = s.at ∙ (λ z. left_or (v.desks g).left (sym (did.rows g ne) z).cwd);
           sort = elim (did.sort (v.desks g).directory) [
             | inl e ↦ e ∙ s.sort
-            | inr a ↦ absurd (lone_not h g (v.desks g).directory v inv lt ne a.0 a.1 (inv.named g (v.desks g).directory lt (directory_named (row_of v.all g) (v.desks g) s.at)))
+            | inr a ↦ absurd (lone_not h g (v.desks g).directory v inv lt ne a.0 a.1 (inl (inv.refers g lt).home))
           ];
         })
       ];

@@ -22,7 +22,7 @@ use Rattle.tree_laws.proofs.Sums.{sum_part, one_yes}
 use Rattle.tree_laws.specs.WellFormed.{one_if}
 use Rattle.tree_laws.proofs.Maps.{eq_self}
 use Rattle.inode_machine.specs.Rules.{Own}
-use Rattle.inode_machine.proofs.Frame.{shop_same, put_elim, ours_none, ours_some, kept_here, Did, Fair, fair, fair_then, own_inodes, has_inode, found_more, one_refs, two_refs, stands_in, directory_named}
+use Rattle.inode_machine.proofs.Frame.{shop_same, put_elim, ours_none, ours_some, kept_here, Did, Fair, fair, fair_then, own_inodes, has_inode, found_more, one_refs, two_refs, stands_in, directory_named, refers_put}
 use Rattle.inode_machine.proofs.Rules.{s-owned, quiet, each_refs, here_refs, walks_refs, total_same, total_changed, my_refs, is_me, has_disk, has_node, locks_it}
 use Rattle.inode_machine.proofs.Counting.{Writes, writes, spares, not_home}
 use Rattle.inode_machine.proofs.Rows.{hart_not}
@@ -75,6 +75,7 @@ locking_kept h i x v O ov free lt inv isi out = record { unlocked = none (v.lock
           sorts = inv.sorts;
           noted = λ n is r s. inv.noted h n lt is r s;
           directory = inv.directory h lt;
+          refers = inv.refers h lt;
           well = inv.well;
           counts = inv.counts;
           alone = λ j is. let a = inv.alone j is in record { hart = a.hart; kept = same j ∙ a.kept; dead = a.dead; counts = a.counts };
@@ -247,6 +248,7 @@ s-free {A} {h} {i} {x} {k} {B} {Q} {n} {es} {w} {O} owns free lt pos joined isi 
                 | inr ne ↦ ap (λ (z : Option Node). sort_of z) (put_other v.all.nodes i None n.number ne) ∙ inv.noted h n lt is r s
               ];
               directory = stands_in (v.desks h) (v.all.cwd h) v.all.nodes (put v.all.nodes i None) (ap (λ (z : Option Node). sort_of z) (put_other v.all.nodes i None (v.desks h).directory not_directory)) (inv.directory h lt);
+              refers = inv.refers h lt;
               well = well_gone v.all i inv.well dead out;
               counts = inv.counts;
               alone = λ j is. let a = inv.alone j is in record { hart = a.hart; kept = a.kept; dead = put_elim v.all.nodes i None j (λ z. is_live z ≡ false) (λ q. refl) (λ q. a.dead); counts = a.counts };
@@ -311,6 +313,7 @@ s-give-alone {A} {h} {i} {x} {k} {B} {Q} {n} {es} {w} {O} owns free lt pos isi h
           sorts = inv.sorts;
           noted = λ n is r s. inv.noted h n lt is r s;
           directory = inv.directory h lt;
+          refers = inv.refers h lt;
           well = inv.well;
           counts = inv.counts;
           alone = inv.alone;
@@ -441,6 +444,7 @@ s-down-freed {A} {h} {i} {x} {k} {B} {Q} {n} {es} {w} {O} owns free lt pos isi l
                 | inr ne ↦ inv.noted h n lt is (shrink n.number r) (sym (put_other v.alone i false n.number ne) ∙ s)
               ];
               directory = inv.directory h lt;
+              refers = refers_put (v.harts h) (u.harts h) (v.desks h) (v.desks h) i ((v.harts h).refs i - 1) (ap (λ (m : Mine). m.refs) (put_same v.harts h new)) refl (let a = (inv.refers h lt).few i in omega (arith, a)) (λ q. absurd (not_home h i v O O.desk.opening inv ov lt unnamed (ap (λ (o : Own). o.desk.directory) (sym ov) ∙ q))) (inv.refers h lt);
               well = inv.well;
               counts = λ j. elim (same_or j i) [
                 | inl q ↦ subst (λ (z : ℕ). u.refs z ≡ v.slots z + sum_below hart_count (λ g. (u.harts g).refs z)) (sym q)

@@ -19,7 +19,7 @@ use Rattle.inode_machine.specs.Inodes.{Sort, sort_of}
 use Rattle.inode_machine.specs.Exec.{file_count, install_if, installed, is_at, opening_id, or_zero}
 use Rattle.inode_machine.specs.Marks.{marked, places, with_mark}
 use Rattle.inode_machine.specs.Rules.{id_at, key_in, number_is, own_names, own_of, shop_of, uses, users, Held, IsOpening, Own, Inv, Opens, Reached, Shop, Tied, machine}
-use Rattle.inode_machine.proofs.Frame.{put_elim, stands_on, has_inode, one_refs, Did, fair}
+use Rattle.inode_machine.proofs.Frame.{put_elim, stands_on, has_inode, one_refs, Did, fair, refers_put}
 use Rattle.inode_machine.proofs.Rules.{s-owned, quiet, each_refs, has_node, here_refs, my_refs, total_changed, total_same, walks_refs}
 use Rattle.inode_machine.proofs.Counting.{not_home, spares}
 use Rattle.inode_machine.proofs.Rows.{is_at_some}
@@ -282,6 +282,12 @@ s-install {A} {h} {x} fd s f sort {m} {k} {B} {Q} {n} {es} {w} {O} owns free lt 
         stays : (j : ℕ) (e : Entry) → v.files j ≡ Some e → u.files j ≡ Some e
         stays j e a = put_other v.files s (Some (record { file = f; sort = sort; references = 1 })) j (λ q. absurd (let x = (inv.tied.hand h s lt (ap (λ (p : Own). p.desk.hand) ov ∙ hand)).1 in let y : v.files j ≡ v.files s = ap v.files q in cc (a, x, y))) ∙ a
 
+        home : (v.desks h).directory ≡ i0 → 0 < (v.harts h).refs i0 - 1
+        home q = elim may [
+          | inl m ↦ (let r = my_refs h v O i0 ov in omega (arith, r, m))
+          | inr m ↦ absurd (not_home h i0 v O None inv ov lt m (ap (λ (p : Own). p.desk.directory) (sym ov) ∙ q))
+        ]
+
         did : Did h v u
         did = record {
           hart = lt;
@@ -300,6 +306,7 @@ s-install {A} {h} {x} fd s f sort {m} {k} {B} {Q} {n} {es} {w} {O} owns free lt 
           ];
           noted = λ m q r g. inv.noted h m lt (sym (ap (λ (d : Desk). d.noted) desk_is) ∙ q) (shrink m.number r) g;
           directory = stands_on (v.desks h) (u.desks h) (v.all.cwd h) v.all.nodes (ap (λ (d : Desk). d.directory) desk_is) (ap (λ (d : Desk). d.left) desk_is) (inv.directory h lt);
+          refers = refers_put (v.harts h) (u.harts h) (v.desks h) (u.desks h) i0 ((v.harts h).refs i0 - 1) (ap (λ (m : Mine). m.refs) (put_same v.harts h new)) (ap (λ (d : Desk). d.directory) desk_is) (let a = (inv.refers h lt).few i0 in omega (arith, a)) (λ q. home q) (inv.refers h lt);
           well = inv.well;
           counts = λ j. elim (same_or j i0) [
             | inl q ↦ subst (λ (z : ℕ). v.refs z ≡ put v.slots i0 (v.slots i0 + 1) z + sum_below hart_count (λ g. (u.harts g).refs z)) (sym q)

@@ -6,7 +6,7 @@ use Rattle.plain_tree.specs.Widths.{hart_count, descriptor_count}
 use Rattle.plain_tree.specs.Tree.{Tree, put, hold_names}
 use Rattle.plain_tree.specs.HartRow.{key_names, row_of}
 use Rattle.tree_laws.specs.WellFormed.{sum_below, one_if, IsWellFormed}
-use Rattle.tree_laws.proofs.Maps.{either, same_or, put_same, put_other}
+use Rattle.tree_laws.proofs.Maps.{eq_self, either, same_or, put_same, put_other}
 use Rattle.tree_laws.proofs.Sums.{sum_none, sum_changed, one_yes, one_no}
 use Rattle.inode_machine.specs.World.{Desk, Entry, World}
 use Rattle.inode_machine.specs.Inodes.{sort_of, sort_of_kind}
@@ -16,6 +16,7 @@ use Rattle.inode_machine.specs.Rules.{number_is, users, id_at, key_in, left_or, 
 use Rattle.inode_machine.proofs.Frame.{put_elim}
 use Rattle.inode_machine.proofs.Rest.{directory_sort}
 use Rattle.inode_machine.proofs.Tables.{users_put}
+use Rattle.inode_machine.proofs.Counting.{one_most}
 
 module _ (t : Tree) (f : OpenFile) (v : Node) (well : IsWellFormed t) (has : HasOneOpen t f v) where
   abbrev entry : Entry
@@ -134,6 +135,7 @@ module _ (t : Tree) (f : OpenFile) (v : Node) (well : IsWellFormed t) (has : Has
     pending = λ g i lt e. absurd cc;
     walks = λ g k lt e. absurd cc;
     noted = λ g n lt e. absurd (let a = noted g in cc (a, e));
+    refers = λ g lt. record { few = λ i. let a = one_most (t.cwd g == i) in omega (arith, a); home = here g (D g).directory ((λ z. t.cwd g == directory g z) ∙ eq_self (t.cwd g)) };
     directory = λ g lt. record { at = directory g ∙ (λ z. left_or (sym (left g) z) (t.cwd g)); sort = ap (λ (z : ℕ). sort_of (t.nodes z)) (directory g) ∙ directory_sort t g well lt };
     lent = λ g lt there. absurd (there (lender g));
   }

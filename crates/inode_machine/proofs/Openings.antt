@@ -16,7 +16,7 @@ use Rattle.inode_machine.specs.Exec.{first_from, is_at, is_nothing, or_zero}
 use Rattle.inode_machine.specs.Marks.{new_id}
 use Rattle.inode_machine.specs.Opening.{file_for}
 use Rattle.inode_machine.specs.Rules.{id_at, key_in, own_names, own_of, shop_of, users, Own, Inv, Reached, Shop, Tied}
-use Rattle.inode_machine.proofs.Frame.{put_elim, is_put, stands_on, Did}
+use Rattle.inode_machine.proofs.Frame.{put_elim, is_put, stands_on, Did, refers_on}
 use Rattle.inode_machine.proofs.Tables.{less_is, lowest_free, lowest_same}
 use Rattle.inode_machine.proofs.Dups.{not_at}
 
@@ -232,6 +232,7 @@ opening h fd j flags x v O ov free lt inv idle low room is reached = record {
     sorts = inv.sorts;
     noted = λ m q r s. inv.noted h m lt (sym (ap (λ (d : Desk). d.noted) here) ∙ q) r s;
     directory = stands_on (v.desks h) (put v.desks h new h) (v.all.cwd h) v.all.nodes (ap (λ (d : Desk). d.directory) here) (ap (λ (d : Desk). d.left) here) (inv.directory h lt);
+    refers = refers_on (v.harts h) (v.harts h) (v.desks h) (put v.desks h new h) (λ j. refl) (ap (λ (d : Desk). d.directory) here) (inv.refers h lt);
     well = well;
     counts = inv.counts;
     alone = inv.alone;

@@ -124,6 +124,7 @@ dirties h v free lt inv = fair inv (record {
   sorts = inv.sorts;
   noted = λ m q r s. inv.noted h m lt q r s;
   directory = inv.directory h lt;
+  refers = inv.refers h lt;
   well = inv.well;
   counts = inv.counts;
   alone = inv.alone;

@@ -224,6 +224,8 @@ part_good {A} h more n i B Q es v O x fd count s e b p ov free lt inv walks none
       sorts = λ j d q. renewed_sorts v s e (entry_moved e (length b)) inv hit.at refl refl j d q;
       noted = λ m q. (q, (λ z. let r = refs_walk v.harts h None None h m.number in omega (arith, r, z)));
       directory = inv.directory h lt;
+      home = refl;
+      few = λ j. let r = refs_walk v.harts h None None h j in let a = (inv.refers h lt).few j in omega (arith, r, a);
       well = subst (λ (z : Tree). IsWellFormed z) (λ r. record (v.all) { files = put v.all.files (v.ids s) (and_then (opened r) (λ g. Some (record g { offset = g.offset + length b }))) }) (well_moved v.all (Some (v.ids s)) (length b) inv.well);
       nodes = refl;
       size = refl;

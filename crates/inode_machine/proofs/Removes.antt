@@ -177,6 +177,7 @@ s-clear {A} {h} d c {x} {z} X Z e path {k} {B} {Q} {n} {es} {w} {O} owns free lt
           free = ap (λ (o : Own). o.desk.lender) ov ∙ free;
           joined = ap (λ (o : Own). o.desk.joined) ov ∙ joined;
           directory = stands_in (v.desks h) (v.all.cwd h) v.all.nodes all.nodes (sorts (v.desks h).directory) (inv.directory h lt);
+          home = refl;
           well = subst (λ (t : Tree). IsWellFormed t) effect (effect_well v.all h (Unlink path) (Some c) (Some (d, e)) 0 (new_id v) inv.well lt (unlink_placed v.all h path)
               (λ j q. let s : c ≡ j = cc in subst (λ (i : ℕ). v.all.nodes i ≡ Some (node_or (v.all.nodes i))) s (live_some (v.all.nodes c) child_live))
               (λ p q. let s : (d, e) ≡ p = cc in subst (λ (o : ℕ × Name). live_directory (v.all.nodes o.0) ≡ true) s live_at)

@@ -7,12 +7,13 @@ use Rattle.plain_tree.specs.declared.node.Kind.TheVariants.{Directory, File, Dev
 use Rattle.plain_tree.specs.Tree.{Tree, is_directory, hold_names}
 use Rattle.plain_tree.specs.HartRow.{row_of}
 use Rattle.tree_laws.specs.WellFormed.{one_if, IsWellFormed}
-use Rattle.tree_laws.proofs.Maps.{either}
+use Rattle.tree_laws.proofs.Maps.{eq_self, either}
 use Rattle.tree_laws.proofs.Sums.{sum_none, one_yes}
 use Rattle.inode_machine.specs.Inodes.{OfDirectory, sort_of, sort_of_kind}
 use Rattle.inode_machine.specs.Exec.{file_count}
 use Rattle.inode_machine.specs.Theory.{at_rest}
 use Rattle.inode_machine.specs.Rules.{number_is, own_names, Inv, Idle}
+use Rattle.inode_machine.proofs.Counting.{one_most}
 
 -- a current directory is one
 pub directory_sort : (t : Tree) (g : ℕ) → IsWellFormed t → g < hart_count → sort_of (t.nodes (t.cwd g)) ≡ Some OfDirectory
@@ -54,6 +55,7 @@ rests t well files holds fds =
       pending = λ g i lt e. absurd cc;
       walks = λ g k lt e. absurd cc;
       noted = λ g n lt e. absurd cc;
+      refers = λ g lt. record { few = λ i. let a = one_most (t.cwd g == i) in omega (arith, a); home = here g (t.cwd g) (eq_self (t.cwd g)) };
       directory = λ g lt. record { at = refl; sort = directory_sort t g well lt };
       lent = λ g lt has. absurd (has refl);
     }

@@ -16,8 +16,8 @@ use Rattle.inode_machine.specs.World.{Mine, Entry, World, Op, Answer, Mark, stag
 use Rattle.inode_machine.specs.Exec.{file_count, with_refs, lock_if, counted_up, locked, up_if, has_place}
 use Rattle.inode_machine.specs.Marks.{marked, go, places, with_mark}
 use Rattle.inode_machine.specs.World.Op.{Up}
-use Rattle.inode_machine.specs.Rules.{Own, shop_of, Opens, number_is, Held, view, is_hart, own_of, Found, Pinned, Reached, IsAlone, Inv, IsOut, MayWait, machine, more, Others, LocksNone, May, Rests, looking_cost, Honest}
-use Rattle.inode_machine.proofs.Frame.{shop_same, put_elim, ours_none, ours_some, kept_here, Did, Fair, fair, own_inodes, has_inode, has_none, found_more, two_refs}
+use Rattle.inode_machine.specs.Rules.{Own, shop_of, Opens, number_is, Held, view, is_hart, own_of, Found, Pinned, Reached, IsAlone, reference_limit, Inv, IsOut, MayWait, machine, more, Others, LocksNone, May, Rests, looking_cost, Honest}
+use Rattle.inode_machine.proofs.Frame.{shop_same, put_elim, ours_none, ours_some, kept_here, Did, Fair, fair, own_inodes, has_inode, has_none, found_more, two_refs, refers_put}
 use Rattle.inode_machine.specs.Inodes.{Looking, Seen, seen_in}
 
 -- an operation: what the hart owns stays until it runs
@@ -201,6 +201,7 @@ locking h i v O ov free lt inv out mine e = record { fair = fair inv did; whole 
           sorts = inv.sorts;
           noted = λ n is r s. inv.noted h n lt is r s;
           directory = inv.directory h lt;
+          refers = inv.refers h lt;
           well = inv.well;
           counts = inv.counts;
           alone = λ j is. let a = inv.alone j is in record {
@@ -283,8 +284,8 @@ pub record Ups (h i : ℕ) (O : Own) (v : World) : Type 0 where
   pub stage : stage_of (counted_up h i v) ≡ stage_of v
   pub owned : own_of h (counted_up h i v) ≡ record O { mine = record { refs = put O.mine.refs i (O.mine.refs i + 1); walk = O.mine.walk; pending = None } }
 
-pub ups : (h i : ℕ) (O : Own) (v : World) → Inv v → own_of h v ≡ O → O.desk.lender ≡ None → h < hart_count → MayRefer O i → ((O.mine.pending ≡ None) ⊎ (O.mine.pending ≡ Some i)) → NotesOwn O i → Ups h i O v
-ups h i O v0 inv0 ov0 free0 lt may only notes = record { fair = fair inv0 (did v0 inv0 ov0); stage = stage v0; owned = owned v0 ov0 }
+pub ups : (h i : ℕ) (O : Own) (v : World) → Inv v → own_of h v ≡ O → O.desk.lender ≡ None → h < hart_count → MayRefer O i → ((O.mine.pending ≡ None) ⊎ (O.mine.pending ≡ Some i)) → NotesOwn O i → O.mine.refs i < reference_limit → Ups h i O v
+ups h i O v0 inv0 ov0 free0 lt may only notes room = record { fair = fair inv0 (did v0 inv0 ov0); stage = stage v0; owned = owned v0 ov0 }
   where
     after : World → World
     after v = counted_up h i v
@@ -373,6 +374,7 @@ ups h i O v0 inv0 ov0 free0 lt may only notes = record { fair = fair inv0 (did v
           sorts = inv.sorts;
           noted = λ n is r s. inv.noted h n lt is (back v n is ov r) s;
           directory = inv.directory h lt;
+          refers = refers_put (v.harts h) (put v.harts h (new v) h) (v.desks h) (v.desks h) i ((v.harts h).refs i + 1) (ap (λ (m : Mine). m.refs) (put_same v.harts h (new v))) refl (let r = my_refs h v O i ov in omega (arith, r, room)) (λ q. omega arith) (inv.refers h lt);
           well = inv.well;
           counts = λ j. elim (same_or j i) [
             | inl e ↦ subst (λ (z : ℕ). (after v).refs z ≡ v.slots z + sum_below hart_count (λ g. (put v.harts h (new v) g).refs z)) (sym e)
@@ -410,15 +412,15 @@ ups h i O v0 inv0 ov0 free0 lt may only notes = record { fair = fair inv0 (did v
 
 -- a reference more, where there is a place in memory
 pub s-up : {A : Type 0} {h i : ℕ} {m : Bool → Option Mark} {k : Bool → P machine A} {B : List Step → Type 0} {Q : A → List Step → World → Type 0} {n : ℕ} {es : List Step} {w : World} {O : Own}
-    → own_of h w ≡ O → O.desk.lender ≡ None → h < hart_count → 0 < n → m true ≡ None → HasFound O i → ((O.mine.pending ≡ None) ⊎ (O.mine.pending ≡ Some i)) → NotesOwn O i
+    → own_of h w ≡ O → O.desk.lender ≡ None → h < hart_count → 0 < n → m true ≡ None → HasFound O i → ((O.mine.pending ≡ None) ⊎ (O.mine.pending ≡ Some i)) → NotesOwn O i → O.mine.refs i < reference_limit
     → ((l : ℕ) (u : World) → l + 1 ≡ n → own_of h u ≡ record O { mine = record { refs = put O.mine.refs i (O.mine.refs i + 1); walk = O.mine.walk; pending = None } } → Safe machine h B Q (k true) l es u)
     → ((v : World) → Inv v → own_of h v ≡ O → Fine machine h (places h (Up i) false (m false) v) 0 n B es v (marked h (m false) v) (λ l. Wp machine h B Q (k false) l (onto (own h (places h (Up i) false (m false) v)) es) (marked h (m false) v)))
     → Safe machine h B Q (Do (Up i) m k) n es w
-s-up {A} {h} {i} {m} {k} {B} {Q} {n} {es} {w} {O} owns free lt pos quietly found only notes rest full = s-owned owns free pos (λ v inv ov. (found_at h i v O inv ov lt found, (λ x honest. at v inv ov (has_place v i))))
+s-up {A} {h} {i} {m} {k} {B} {Q} {n} {es} {w} {O} owns free lt pos quietly found only notes room rest full = s-owned owns free pos (λ v inv ov. (found_at h i v O inv ov lt found, (λ x honest. at v inv ov (has_place v i))))
   where
     at : (v : World) → Inv v → own_of h v ≡ O → (b : Bool) → Good machine Bool h (λ a. places h (Up i) a (m a) v) 0 n B es v ⊥ (with_mark h m (up_if h i v b)) (λ l a u. Wp machine h B Q (k a) l (onto (own h (places h (Up i) a (m a) v)) es) u)
     at v inv ov false = full v inv ov
     at v inv ov true =
-        let x = ups h i O v inv ov free lt (inr (inr found)) only notes in
+        let x = ups h i O v inv ov free lt (inr (inr found)) only notes room in
         subst (λ (z : Option Mark). Fine machine h (places h (Up i) true z v) 0 n B es v (marked h z (counted_up h i v)) (λ l. Wp machine h B Q (k true) l (onto (own h (places h (Up i) true z v)) es) (marked h z (counted_up h i v)))) (sym quietly)
         (quiet x.fair x.stage pos (λ l q. (rest l (counted_up h i v) q x.owned).wp))

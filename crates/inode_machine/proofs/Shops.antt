@@ -1,5 +1,5 @@
 -- Steps on the open-file table: what they leave, and the steps of the tree that they make.
-use Rattle.std.proofs.Common.{◌≡◌, ◌≢◌, inl, inr, ℕ, ◌+◌, ◌<◌, ◌≤◌, true, false, ◌==◌, ◌||◌, [], Option, Some, None, refl, sym, ◌∙◌, ap, arith}
+use Rattle.std.proofs.Common.{◌≡◌, ◌≢◌, inl, inr, ℕ, ◌+◌, ◌<◌, ◌≤◌, true, false, ◌==◌, ◌||◌, [], Option, Some, None, refl, sym, ◌∙◌, ap, subst, arith}
 use Rattle.plain_tree.specs.declared.node.Node.{Node}
 use Rattle.plain_tree.specs.declared.step.Action.{Action}
 use Rattle.plain_tree.specs.declared.step.Action.TheVariants.{Inherit}
@@ -12,7 +12,7 @@ use Rattle.tree_laws.specs.WellFormed.{sum_below, IsWellFormed}
 use Rattle.tree_moves.specs.Moves.{Takes}
 use Rattle.tree_moves.specs.Moves.Move.{Own as OwnMove}
 use Rattle.inode_machine.specs.World.{Mine, Entry, Desk, World, stage_of, Note}
-use Rattle.inode_machine.specs.Rules.{shop_of, Opens, own_names, Pinned, IsAlone, Inv, key_in, Stands}
+use Rattle.inode_machine.specs.Rules.{shop_of, Opens, own_names, Pinned, IsAlone, reference_limit, Inv, key_in, Stands}
 use Rattle.inode_machine.proofs.Frame.{Kin, Did, stands_in}
 use Rattle.inode_machine.specs.Marks.{new_id}
 use Rattle.inode_machine.specs.Inodes.{sort_of}
@@ -26,6 +26,8 @@ pub record Sells (h : ℕ) (v : World) (F : ℕ → Option Entry) (D : ℕ → D
   pub sorts : (k : ℕ) (e : Entry) → F k ≡ Some e → sort_of (v.all.nodes e.file.number) ≡ Some e.sort
   pub noted : (m : Note) → (D h).noted ≡ Some m → ((v.desks h).noted ≡ Some m) × (0 < (H h).refs m.number → 0 < (v.harts h).refs m.number)
   pub directory : Stands (D h) (T.cwd h) v.all.nodes
+  pub home : (D h).directory ≡ (v.desks h).directory
+  pub few : (j : ℕ) → (H h).refs j ≤ reference_limit
   pub well : IsWellFormed T
   pub nodes : T.nodes ≡ v.all.nodes
   pub size : T.ninodes ≡ v.all.ninodes
@@ -57,6 +59,7 @@ sells_did h v F D S T H lt inv s =
       sorts = λ k e is. ap (λ (f : ℕ → Option Node). sort_of (f e.file.number)) s.nodes ∙ s.sorts k e is;
       noted = λ m is r t. let a = s.noted m is in ap (λ (f : ℕ → Option Node). sort_of (f m.number)) s.nodes ∙ inv.noted h m lt a.0 (elim r [ inl p ↦ inl (a.1 p) | inr p ↦ absurd (let e = s.found in cc (e, p)) ]) t;
       directory = stands_in (D h) (T.cwd h) v.all.nodes T.nodes (ap (λ (f : ℕ → Option Node). sort_of (f (D h).directory)) s.nodes) s.directory;
+      refers = record { few = s.few; home = subst (λ (z : ℕ). 0 < (H h).refs z) (sym s.home) (let a = (inv.refers h lt).home in let r = s.refs (v.desks h).directory in omega (arith, a, r)) };
       well = s.well;
       counts = s.counts;
       alone = λ j is. let a = inv.alone j is in record { hart = a.hart; kept = a.kept; dead = ap (λ (f : ℕ → Option Node). is_live (f j)) s.nodes ∙ a.dead; counts = s.lone j a };

@@ -18,7 +18,7 @@ use Rattle.inode_machine.specs.Inodes.{Sort}
 use Rattle.inode_machine.specs.Exec.{file_count, first_from, install_if, is_at, is_empty_slot, is_nothing, slot_if}
 use Rattle.inode_machine.specs.Marks.{marked, mended, places, with_mark}
 use Rattle.inode_machine.specs.Rules.{id_at, own_names, own_of, shop_of, users, Own, Inv, Tied, machine}
-use Rattle.inode_machine.proofs.Frame.{put_elim, stands_on, Fair, fair}
+use Rattle.inode_machine.proofs.Frame.{put_elim, stands_on, Fair, fair, refers_on}
 use Rattle.inode_machine.proofs.Rules.{s-owned, fine_after, quiet}
 use Rattle.inode_machine.proofs.Dups.{with_new}
 use Rattle.inode_machine.proofs.Looks.{spoilt}
@@ -55,6 +55,7 @@ handing h o v O ov free lt inv empty = record {
     sorts = inv.sorts;
     noted = λ m q r s. inv.noted h m lt (sym (ap (λ (d : Desk). d.noted) here) ∙ q) r s;
     directory = stands_on (v.desks h) (D h) (v.all.cwd h) v.all.nodes (ap (λ (d : Desk). d.directory) here) (ap (λ (d : Desk). d.left) here) (inv.directory h lt);
+    refers = refers_on (v.harts h) (v.harts h) (v.desks h) (D h) (λ j. refl) (ap (λ (d : Desk). d.directory) here) (inv.refers h lt);
     well = inv.well;
     counts = inv.counts;
     alone = inv.alone;

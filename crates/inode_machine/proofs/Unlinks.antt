@@ -37,7 +37,7 @@ use Rattle.inode_machine.proofs.Frame.{fair_same}
 use Rattle.inode_machine.proofs.Rules.{quiet, locked_held, has_node, s-up}
 use Rattle.inode_machine.proofs.Looks.{live_face, s-take-then, look_refused_good}
 use Rattle.inode_machine.proofs.Listing.{listed_held, times, one_at, one_else}
-use Rattle.inode_machine.proofs.Walks.{On, stays_same}
+use Rattle.inode_machine.proofs.Walks.{On, stays_same, few_listed}
 use Rattle.inode_machine.proofs.Endings.{Walked, joined_own}
 use Rattle.inode_machine.proofs.Claiming.{mend_fine, mended_own, s-store}
 use Rattle.inode_machine.proofs.Acting.{told_step}
@@ -319,7 +319,7 @@ module _ (h : ℕ) (path : List ℕ) (lt : h < hart_count) {base : ℕ → ℕ} 
       there None l u j inv live is p held = absurd cc
       there (Some X) l u j inv live is p held =
           subst (λ (f : Option ℕ). Goes h path (unlink_found path d e ns (face_or (face_of (Some X))) f) l fs u) (sym is)
-          (s-up held free lt (omega (arith, p, few)) refl (inr (d, locked_held (Some X), e, put_same O.inodes d (Some (locked_held (Some X))), is)) (inl on.pending) (λ m q r. inl (let a = on.notes m q in let b : O.mine.refs m.number ≡ O.mine.refs j = ap O.mine.refs r in omega (arith, a, b)))
+          (s-up held free lt (omega (arith, p, few)) refl (inr (d, locked_held (Some X), e, put_same O.inodes d (Some (locked_held (Some X))), is)) (inl on.pending) (λ m q r. inl (let a = on.notes m q in let b : O.mine.refs m.number ≡ O.mine.refs j = ap O.mine.refs r in omega (arith, a, b))) (let a = on.refs j in let b = few_listed joins.ready on.listed d j in omega (arith, a, b))
           (λ l2 u2 q2 held2. child X j l2 fs u2 O1 ne (omega (arith, p, q2, few)) k out held2 on.walk live is plain walking)
           (λ v inv2 ov. mend_fine h 0 l (Begun covered_calls (calls.Unlink path)) (Ends covered_calls h (calls.Unlink path)) fs v O1 (give_up d (tail ns (full (calls.Unlink path) MemInodes))) ov free lt inv2 (mendable joins.ready k) (omega (arith, p, few)) (λ l2 u2 q2 held2.
           ends_one (full (calls.Unlink path) MemInodes) (Some X) l2 fs u2 (mended_own O1) (omega (arith, p, q2, few)) held2 (holding_same (mended_own O1) k refl (stays_mended (mended_own O1) joins.ready k.stays refl refl refl) refl) refl refl (inl refl))))

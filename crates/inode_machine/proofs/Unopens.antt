@@ -13,7 +13,7 @@ use Rattle.inode_machine.specs.World.{Desk, World}
 use Rattle.inode_machine.specs.Exec.{is_at, with_walk}
 use Rattle.inode_machine.specs.Marks.{mended, unheld, unmoved, unopened}
 use Rattle.inode_machine.specs.Rules.{id_at, key_in, own_names, own_of, shop_of, users, IsOpening, Own, Inv, Shop, Tied}
-use Rattle.inode_machine.proofs.Frame.{put_elim, is_put, stands_on, Fair, fair, fair_then}
+use Rattle.inode_machine.proofs.Frame.{put_elim, is_put, stands_on, Fair, fair, fair_then, refers_on}
 use Rattle.inode_machine.proofs.Rules.{my_refs}
 use Rattle.inode_machine.proofs.Walking.{walk_named_did, own_walk}
 use Rattle.inode_machine.proofs.Tables.{less_is, closed_shop, kept_open, tied_closed}
@@ -163,6 +163,7 @@ mends_opened h fd v O ov free lt inv opens left hold names = subst (λ (z : Worl
       sorts = inv.sorts;
       noted = λ m q r s. inv.noted h m lt (sym (ap (λ (d : Desk). d.noted) here) ∙ q) r s;
       directory = stands_on (v.desks h) (D h) (v.all.cwd h) v.all.nodes (ap (λ (d : Desk). d.directory) here) (ap (λ (d : Desk). d.left) here ∙ sym left_v) (inv.directory h lt);
+      refers = refers_on (v.harts h) (v.harts h) (v.desks h) (D h) (λ j. refl) (ap (λ (d : Desk). d.directory) here) (inv.refers h lt);
       well = well_closed v.all h fd inv.well;
       counts = inv.counts;
       alone = inv.alone;

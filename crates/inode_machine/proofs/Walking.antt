@@ -11,7 +11,7 @@ use Rattle.inode_machine.specs.World.{Mine, World, stage_of, Note}
 use Rattle.inode_machine.specs.Marks.{Made, with_made}
 use Rattle.inode_machine.specs.Exec.{with_walk}
 use Rattle.inode_machine.specs.Rules.{Own, shop_of, own_of, Found, Pinned, Inv, machine, own_names}
-use Rattle.inode_machine.proofs.Frame.{shop_same, put_elim, is_put, Did, Fair}
+use Rattle.inode_machine.proofs.Frame.{shop_same, put_elim, is_put, Did, Fair, refers_on}
 use Rattle.inode_machine.proofs.Rules.{acted}
 use Rattle.inode_machine.specs.Inodes.{sort_of}
 
@@ -45,6 +45,7 @@ walk_named_did h k p v free lt inv names notes lands finds =
         | inr a ↦ notes m is (sym (ap (λ (x : Mine). x.pending) (put_same v.harts h new)) ∙ a)
       ];
       directory = inv.directory h lt;
+      refers = refers_on (v.harts h) (with_walk v.harts h k p h) (v.desks h) (v.desks h) (λ j. refs_walk v.harts h k p h j) refl (inv.refers h lt);
       well = inv.well;
       counts = λ j. inv.counts j ∙ ap (λ (z : ℕ). v.slots j + z) (sym (sum_same hart_count (λ g. (v.harts g).refs j) (λ g. (with_walk v.harts h k p g).refs j) (λ g l. refs_walk v.harts h k p g j)));
       alone = λ j is. let a = inv.alone j is in record { hart = a.hart; kept = a.kept; dead = a.dead; counts = a.counts ∙ sym (refs_walk v.harts h k p a.hart j) };

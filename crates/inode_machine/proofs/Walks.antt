@@ -20,11 +20,11 @@ use Rattle.inode_machine.specs.World.Op.{Take, Give}
 use Rattle.inode_machine.specs.Inodes.{AtName, AtNothing, seen_in, face_of, is_directory_face}
 use Rattle.inode_machine.specs.Exec.{is_at}
 use Rattle.inode_machine.specs.Marks.{looked, acts, found_by, marked, mended, places}
-use Rattle.inode_machine.specs.Rules.{Own, Held, key_in, own_names, own_of, Inv, machine}
+use Rattle.inode_machine.specs.Rules.{Own, Held, key_in, own_names, own_of, Inv, machine, reference_limit}
 use Rattle.inode_machine.specs.Parts.{P, Stop, NotThere, NoMemory, leave_directory, looks_or_quits, walk, walk_step, walk_parent, see_parent, quits_unless, makes}
 use Rattle.inode_machine.proofs.Frame.{Fair, fair_same}
 use Rattle.inode_machine.proofs.Rules.{quiet, locked_held, s-up}
-use Rattle.inode_machine.proofs.Counting.{s-give, s-walk-down, MayDrop}
+use Rattle.inode_machine.proofs.Counting.{s-give, s-walk-down, MayDrop, one_most}
 use Rattle.inode_machine.proofs.Looks.{live_face, no_directory, s-take-then, MoveFine, quit_good, look_on_good, look_refused_good, spoilt, KeepsHold, mends}
 use Rattle.inode_machine.proofs.Listing.{times, times_last, length_last, one_at, one_else, Listed, listed_held, listed_among, listed_on, listed_more}
 
@@ -168,6 +168,11 @@ pub record Ready (base : ℕ → ℕ) (O0 : Own) : Type 0 where
   pub left : O0.desk.left ≡ None
   pub hold : KeepsHold O0.row.hold
   pub spare : (i : ℕ) → own_names O0.row O0.desk i ≡ true → 0 < base i
+  pub few : (i : ℕ) → base i ≤ 2
+
+-- with the reference of one directory these are few
+pub few_listed : {base : ℕ → ℕ} {ns : List ℕ} {O0 O : Own} → Ready base O0 → Listed O base ns → (d i : ℕ) → base i + times i ns + one_if (d == i) < reference_limit
+few_listed ready l d i = let a = ready.few i in let b = l.once i in let c = one_most (d == i) in omega (arith, a, b, c)
 
 -- a walk was lost by its step, or no place was left in memory
 abbrev pub Lost : (List Step → Type 0) → Stop → List Step → Own → Type 0
@@ -260,7 +265,7 @@ module _ (h : ℕ) (s : Action) (B : List Step → Type 0) (Q : Reply → List S
       → ((ms : List ℕ) (l : ℕ) (u : World) (R : Own) → C + 971 * length ms + K ≤ l → At h j base ms k O2.desk.noted P0 R u → Safe machine h B Q (go j ms) l es u)
       → Safe machine h B Q (walk_step d ns go lost (Some j)) n es u
   s-arrive C d j c k ns n es u O O2 P0 M go own2 few st0 listed out refs f st free0 full back arrives =
-      s-up own2 free lt (omega (arith, few)) refl (inl f.pending) (inr f.pending) (λ m q e. inr f.pending)
+      s-up own2 free lt (omega (arith, few)) refl (inl f.pending) (inr f.pending) (λ m q e. inr f.pending) (let a = ap (λ (z : ℕ → ℕ). z j) f.refs in let b = refs j in let c = few_listed ready listed d j in omega (arith, a, b, c))
       (λ l3 u3 q3 own3.
       s-leave-directory d ns c x base {O = record O2 { inodes = O.inodes }} own3 free lt (omega (arith, q3, few)) f.inodes out listed2 refl refs3 (λ i p. put_other O2.mine.refs j (O2.mine.refs j + 1) i (not_j i p)) (λ i. refl) may
       (λ l4 ms R u4 q4 len own4 refs4 walk4 pending4 row4 desk4 ninodes4 listed4 there here. arrives ms l4 u4 R (omega (arith, q3, q4, len, few)) (record {

@@ -118,6 +118,8 @@ moving h fd s by e v O ov free lt inv none hit = record { fair = fair inv (sells
       sorts = λ j d q. renewed_sorts v s e (entry_moved e by) inv hit.at refl refl j d q;
       noted = λ m q. (q, (λ z. let r = refs_walk v.harts h None None h m.number in omega (arith, r, z)));
       directory = inv.directory h lt;
+      home = refl;
+      few = λ j. let r = refs_walk v.harts h None None h j in let a = (inv.refers h lt).few j in omega (arith, r, a);
       well = subst (λ (z : Tree). IsWellFormed z) (λ r. record (v.all) { files = put v.all.files (v.ids s) (and_then (opened r) (λ g. Some (record g { offset = g.offset + by }))) }) (well_moved v.all (Some (v.ids s)) by inv.well);
       nodes = refl;
       size = refl;
@@ -195,6 +197,7 @@ changing h i y x v O ov free lt inv none isi sort live well = record { fair = fa
           sorts = λ k e is. sorts e.file.number ∙ inv.sorts k e is;
           noted = λ n is r s. sorts n.number ∙ inv.noted h n lt is r s;
           directory = stands_in (v.desks h) (v.all.cwd h) v.all.nodes (put v.all.nodes i (Some y)) (sorts (v.desks h).directory) (inv.directory h lt);
+          refers = inv.refers h lt;
           well = well;
           counts = inv.counts;
           alone = λ j is. let a = inv.alone j is in record { hart = a.hart; kept = a.kept; dead = lives j ∙ a.dead; counts = a.counts };

@@ -179,6 +179,15 @@ pub record Stands (d : Desk) (cwd : ℕ) (nodes : ℕ → Option Node) : Type 0 
   pub at : d.directory ≡ left_or d.left cwd
   pub sort : sort_of (nodes d.directory) ≡ Some OfDirectory
 
+-- how often a hart refers to an inode at most: for its current directory, its walk, its list, and what its call has found or claimed
+abbrev pub reference_limit : ℕ
+reference_limit = 8
+
+-- A hart refers to no inode more often, and to its current directory.
+pub record References (m : Mine) (d : Desk) : Type 0 where
+  pub few : (i : ℕ) → m.refs i ≤ reference_limit
+  pub home : 0 < m.refs d.directory
+
 pub record Inv (w : World) : Type 0 where
   -- the tree before it settles is well formed
   pub well : IsWellFormed w.all
@@ -196,6 +205,7 @@ pub record Inv (w : World) : Type 0 where
   pub alone : (i : ℕ) → w.alone i ≡ true → IsAlone w.keeper w.all.nodes w.refs w.harts i
   -- each reference is of a hart or of an open file
   pub counts : (i : ℕ) → w.refs i ≡ w.slots i + sum_below hart_count (λ g. (w.harts g).refs i)
+  pub refers : (g : ℕ) → g < hart_count → References (w.harts g) (w.desks g)
   pub tied : Tied (shop_of w)
   -- an open file has its inode's type
   pub sorts : (k : ℕ) (e : Entry) → w.files k ≡ Some e → sort_of (w.all.nodes e.file.number) ≡ Some e.sort
