@@ -1,6 +1,6 @@
 -- The calls that are shown right, together.
-use Rattle.std.proofs.Common.{◌≡◌, Bool, true, false, ◌||◌, not, refl}
-use Rattle.plain_tree.specs.Steps.{creates, empty_it, has}
+use Rattle.std.proofs.Common.{◌≡◌, Bool, true, false, not, refl}
+use Rattle.plain_tree.specs.Steps.{creates}
 use Rattle.atomic_programs.proofs.Explains.{explains}
 use Rattle.plain_tree.specs.declared.call.Call.TheVariants as calls
 use Rattle.inode_machine.specs.Theory.{covered_calls, is_covered, CallsAreExplained}
@@ -11,13 +11,12 @@ use Rattle.inode_machine.proofs.OpenCalls.{open_ok}
 use Rattle.inode_machine.proofs.Unlinks.{unlink_begins, unlink_ok}
 use Rattle.inode_machine.proofs.Mkdirs.{mkdir_begins, mkdir_ok}
 
-neither : (a b : Bool) → not (a || b) ≡ true → (a ≡ false) × (b ≡ false)
-neither true b e = absurd cc
-neither false true e = absurd cc
-neither false false e = (refl, refl)
+isnt : (b : Bool) → not b ≡ true → b ≡ false
+isnt true e = absurd cc
+isnt false e = refl
 
 covered_right : IsRight is_covered is_covered
-covered_right h (calls.Open path flags) busy w u lt here out idle free is = let f = neither (creates flags) (has flags empty_it) here in right is_covered h (calls.Open path flags) busy w u idle free is (open_begins path flags) (λ holds i. open_ok h path flags u out lt holds i f.0 f.1)
+covered_right h (calls.Open path flags) busy w u lt here out idle free is = right is_covered h (calls.Open path flags) busy w u idle free is (open_begins path flags) (λ holds i. open_ok h path flags u out lt holds i (isnt (creates flags) here))
 covered_right h (calls.Read fd buffer) busy w u lt here out idle free is = descriptors_right is_covered h (calls.Read fd buffer) busy w u lt refl out idle free is
 covered_right h (calls.Write fd bytes) busy w u lt here out idle free is = descriptors_right is_covered h (calls.Write fd bytes) busy w u lt refl out idle free is
 covered_right h (calls.Link old new) busy w u lt here out idle free is = absurd cc

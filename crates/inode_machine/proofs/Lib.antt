@@ -43,3 +43,4 @@ pub mod Mkdirs
 pub mod Opens
 pub mod OpenEnds
 pub mod OpenCalls
+pub mod Empties

@@ -1,5 +1,5 @@
 -- An open without CREATE is right, whatever the other harts do.
-use Rattle.std.proofs.Common.{◌≡◌, ◌⊎◌, inl, inr, ℕ, ◌+◌, ◌*◌, ◌<◌, ◌≤◌, Bool, true, false, ◌&&◌, ◌==◌, ◌||◌, nat_lt, List, [], ◌∷◌, length, Option, Some, None, refl, sym, ◌∙◌, ap, subst, arith, if◌then◌else◌}
+use Rattle.std.proofs.Common.{◌≡◌, ◌⊎◌, inl, inr, ℕ, ◌+◌, ◌*◌, ◌<◌, ◌≤◌, Bool, true, false, ◌==◌, ◌||◌, nat_lt, List, [], ◌∷◌, length, Option, Some, None, refl, sym, ◌∙◌, ap, subst, arith, if◌then◌else◌}
 use Rattle.atomic_programs.specs.Logic.{own, onto, Fine, Safe, Wp}
 use Rattle.atomic_programs.specs.Calls.{Begun, Ends}
 use Rattle.plain_tree.specs.declared.answer.Cause.{Cause}
@@ -14,7 +14,7 @@ use Rattle.plain_tree.specs.declared.step.StepAnswer.{StepAnswer}
 use Rattle.plain_tree.specs.declared.step.StepAnswer.TheVariants.{Failed, Opened, Full as NoRoom}
 use Rattle.plain_tree.specs.Widths.{hart_count, descriptor_count, root}
 use Rattle.plain_tree.specs.Tree.{Name, Tree, put, elements, hold_names, is_absolute, is_live, live_directory, look, settle, start_of}
-use Rattle.plain_tree.specs.Steps.{creates, empty_it, has, has_room, is_file, lowest, node_at, node_or, open_kind, IsInPlace}
+use Rattle.plain_tree.specs.Steps.{creates, has_room, is_file, lowest, node_at, node_or, open_kind, IsInPlace}
 use Rattle.plain_tree.specs.HartRow.{Key, Row, key_is, key_names, row_of}
 use Rattle.plain_tree.proofs.Settling.{settle_again}
 use Rattle.tree_laws.proofs.Facts.{look_live}
@@ -30,7 +30,7 @@ use Rattle.inode_machine.specs.Exec.{counted_up, is_at, with_walk}
 use Rattle.inode_machine.specs.Marks.{Made, acts, begun, made_by, marked, new_id, places}
 use Rattle.inode_machine.specs.Rules.{Held, Own, key_in, own_names, own_of, Idle, Inv, machine}
 use Rattle.inode_machine.specs.Parts.{P, Stop, NoMemory, failed, makes, start, stopped, tail, walk, walk_step}
-use Rattle.inode_machine.specs.Opening.{file_for, open_at, open_new, open_old, open_program, opened_reply}
+use Rattle.inode_machine.specs.Opening.{file_for, open_at, open_new, open_old, open_program}
 use Rattle.inode_machine.specs.Programs.{limit}
 use Rattle.inode_machine.specs.Theory.{covered_calls}
 use Rattle.inode_machine.proofs.Frame.{Fair, fair, fair_then, has_inode}
@@ -47,8 +47,8 @@ use Rattle.inode_machine.proofs.Acts.{Finding, finding, found_world, last_made, 
 use Rattle.inode_machine.proofs.Endings.{MayRest, Walked, follows_begin, follows_look, follows_lost, follows_quit, gone_at, home, joined_own, looks, may_rest, missed, noted_sort, ready_at, s-lost, tells, times_none, walked_begun, walked_tells}
 use Rattle.inode_machine.proofs.Openings.{Opening, fresh_id, opened_row, opened_tree, opened_world, opening, row_back, unopened_row}
 use Rattle.inode_machine.proofs.Unopens.{mends_opened}
-use Rattle.inode_machine.proofs.Opens.{dirties, moves_full, open_finder, open_full, open_kind_is, open_made, open_missing, open_place, open_refused_step, open_step, refusal_by_sort}
-use Rattle.inode_machine.proofs.OpenEnds.{open_done, open_follows, open_refused, opened_act, s-open-full, s-open-refused, s-opened}
+use Rattle.inode_machine.proofs.Opens.{dirties, moves_full, open_finder, open_full, open_kind_is, open_made, open_missing, open_place, open_refused_step, open_step, refusal_by_sort, file_by_sort}
+use Rattle.inode_machine.proofs.OpenEnds.{open_follows, opened_begins, open_refused, opened_act, s-open-full, s-open-refused, s-opened}
 
 -- what it names with a new descriptor it named, or has opened
 names_opened : (r : Row) (d : Desk) (fd id : ℕ) (key : Key) (i : ℕ) → d.opening ≡ None → own_names (opened_row r fd id key) (record d { opening = Some fd }) i ≡ true → (i ≡ key.number) ⊎ (own_names r d i ≡ true)
@@ -58,7 +58,7 @@ names_opened r d fd id key i none q = elim (either (key.number == i)) [
       ∙ sym ((λ z. (r.cwd == i) || (hold_names r.hold i || (key_names (put_same r.keys fd (Some key) z) i || is_at d.left i))) ∙ (λ z. (r.cwd == i) || (hold_names r.hold i || (y z || is_at d.left i)))) ∙ q)
 ]
 
-module _ (h : ℕ) (path : List ℕ) (flags : ℕ) (w : World) (free : (w.desks h).lender ≡ None) (lt : h < hart_count) (holds : Inv w) (idle : Idle h w) (plain : creates flags ≡ false) (keeps : has flags empty_it ≡ false) where
+module _ (h : ℕ) (path : List ℕ) (flags : ℕ) (w : World) (free : (w.desks h).lender ≡ None) (lt : h < hart_count) (holds : Inv w) (idle : Idle h w) (plain : creates flags ≡ false) where
   abbrev c : Call
   c = calls.Open path flags
 
@@ -89,11 +89,8 @@ module _ (h : ℕ) (path : List ℕ) (flags : ℕ) (w : World) (free : (w.desks 
   begun_refused : (v : Move) (k : Cause) (es : List Step) → IsNext c [] (begins v) → Walked c [] es → Walked c (record { step = s; answer = Failed k } ∷ []) (tells v (deed_of (Failed k)) ∷ es) × B (tells v (deed_of (Failed k)) ∷ es)
   begun_refused v k es next told = let a = walked_tells c [] v (deed_of (Failed k)) es next told in (a, walked_begun c (record { step = s; answer = Failed k } ∷ []) (tells v (deed_of (Failed k)) ∷ es) [] (failed c k) a (open_refused path flags k))
 
-  no_empty : (b : Bool) → (has flags empty_it && b) ≡ false
-  no_empty b = (λ z. keeps z && b)
-
   begun_opened : (v : Move) (fd id : ℕ) (b : Bool) (es : List Step) → IsNext c [] (begins v) → Walked c [] es → Walked c (opened_act path flags fd id b ∷ []) (tells v (deed_of (Opened fd id b)) ∷ es) × B (tells v (deed_of (Opened fd id b)) ∷ es)
-  begun_opened v fd id b es next told = let a = walked_tells c [] v (deed_of (Opened fd id b)) es next told in (a, walked_begun c (opened_act path flags fd id b ∷ []) (tells v (deed_of (Opened fd id b)) ∷ es) [] (opened_reply path flags fd) a (open_done path flags fd id b (no_empty b)))
+  begun_opened v fd id b es next told = let a = walked_tells c [] v (deed_of (Opened fd id b)) es next told in (a, opened_begins path flags fd id b (tells v (deed_of (Opened fd id b)) ∷ es) a)
 
   abbrev lost : Stop → List ℕ → P Reply
   lost why ns = tail ns (stopped c why)
@@ -224,9 +221,9 @@ module _ (h : ℕ) (path : List ℕ) (flags : ℕ) (w : World) (free : (w.desks 
           (record { row = ap (λ (r : Row). opened_row r fd (new_id u) key) on.stays.row; ninodes = on.stays.ninodes; fds = on.stays.fds; hand = on.stays.hand; joined = on.stays.joined; directory = on.stays.directory; lent = on.stays.lent; lender = on.stays.lender; opening = refl; left = on.stays.left }) free
           (λ v inv2 ov. mends_opened h fd v O3 ov free_o lt inv2 refl (on.stays.left ∙ ready.left) keeps_hold (λ i p. names0 i (bare i p)))
           (record { stays = record { row = row_back O.row fd (new_id u) key none_fd none_key ∙ on.stays.row; ninodes = on.stays.ninodes; fds = on.stays.fds; hand = on.stays.hand; joined = on.stays.joined; directory = on.stays.directory; lent = on.stays.lent; lender = on.stays.lender; opening = sym ready.opening; left = sym ready.left }; inodes = refl; refs = refl; walk = refl; pending = refl; full = refl })
-          (λ ms l2 u2 R few2 at2. s-opened h path flags w free lt holds idle j fd (new_id u) ms (Some (note_of u.all j)) sort l2 (tells (Look 0) (deed_of (Opened fd (new_id u) isf)) ∷ es) u2 R (omega (arith, few2)) at2 (typed P0 R ms u2 at2) (refusal ∙ goes)
+          (λ ms l2 u2 R few2 at2. s-opened h path flags w free lt holds idle j fd (new_id u) isf ms (Some (note_of u.all j)) sort l2 (tells (Look 0) (deed_of (Opened fd (new_id u) isf)) ∷ es) u2 R (omega (arith, few2)) at2 (typed P0 R ms u2 at2) (refusal ∙ goes)
           ((λ z. has_room (at2.stays.fds z)) ∙ sym (λ z. has_room (on.stays.fds z)) ∙ ap (λ (z : ℕ). nat_lt z descriptor_count) (sym low) ∙ room)
-          ((λ z. lowest (at2.stays.fds z)) ∙ sym (λ z. lowest (on.stays.fds z)) ∙ sym low) (no_empty _) (b.0 [] (opened_reply path flags fd) (open_done path flags fd (new_id u) isf (no_empty isf))))).wp)
+          ((λ z. lowest (at2.stays.fds z)) ∙ sym (λ z. lowest (on.stays.fds z)) ∙ sym low) (file_by_sort (u.all.nodes j) sort sort_is) b.0)).wp)
         where
           fd : ℕ
           fd = lowest (u.all.fds h)
@@ -398,7 +395,7 @@ module _ (h : ℕ) (path : List ℕ) (flags : ℕ) (w : World) (free : (w.desks 
           (start_takes h v u3 s (Opened fd (new_id v) isf) (new_id v) (settle (opened_tree v.all h fd (new_id v) p0 flags)) (open_finder path flags plain) lt inv (ap (λ (z : Own). z.mine.walk) ov ∙ gone.walk) none (open_place (settle v.all) h path flags lt) (open_step v.all h p0 (new_id v) path flags None lt plain goes room (fresh_id v inv).least)
           (sym (settle_again (opened_tree v.all h fd (new_id v) p0 flags)) ∙ (λ z. settle (opened_tree v.all h fd (new_id v) (sym at.start z) flags))) walks_are)
           b.1 (omega (arith, few))
-          (λ l q. (s-opened h path flags w free lt holds idle i fd (new_id v) [] O.desk.noted OfDirectory l (tells (Begin s 0) (deed_of (Opened fd (new_id v) isf)) ∷ []) u3 O3 (omega (arith, q, few)) (record {
+          (λ l q. (s-opened h path flags w free lt holds idle i fd (new_id v) isf [] O.desk.noted OfDirectory l (tells (Begin s 0) (deed_of (Opened fd (new_id v) isf)) ∷ []) u3 O3 (omega (arith, q, few)) (record {
             owns = o.owned;
             stays = record { row = ap (λ (r : Row). opened_row r fd (new_id v) key) gone.stays.row; ninodes = gone.stays.ninodes; fds = gone.stays.fds; hand = gone.stays.hand; joined = gone.stays.joined; directory = gone.stays.directory; lent = gone.stays.lent; lender = gone.stays.lender; opening = refl; left = gone.stays.left };
             noted = refl;
@@ -408,7 +405,7 @@ module _ (h : ℕ) (path : List ℕ) (flags : ℕ) (w : World) (free : (w.desks 
             listed = listed_among O O3 base [] gone.listed (λ j. refl) (λ j t. put_other O.mine.refs i (O.mine.refs i + 1) j (at.apart j t)) (λ j t p. absurd (let z = times_none j in omega (arith, z, t)));
             out = at.out;
           }) (λ v2 inv2 ov2. typed (record O0 { row = opened_row O0.row fd (new_id v) key }) O3 v2 refl (ap (λ (r : Row). opened_row r fd (new_id v) key) gone.stays.row) inv2 ov2) (refusal ∙ goes)
-          (ap (λ (z : ℕ). nat_lt z descriptor_count) (sym low) ∙ room) (sym low) (no_empty _) (b.0 [] (opened_reply path flags fd) (open_done path flags fd (new_id v) isf (no_empty isf)))).wp)
+          (ap (λ (z : ℕ). nat_lt z descriptor_count) (sym low) ∙ room) (sym low) (file_by_sort (v.all.nodes p0) OfDirectory (ap (λ (z : ℕ). sort_of (v.all.nodes z)) (sym at.start) ∙ at.sort)) b.0).wp)
         where
           fd : ℕ
           fd = lowest (v.all.fds h)

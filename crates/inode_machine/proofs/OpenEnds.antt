@@ -11,19 +11,19 @@ use Rattle.plain_tree.specs.declared.call.Call.{Call}
 use Rattle.plain_tree.specs.declared.call.Call.TheVariants as calls
 use Rattle.plain_tree.specs.declared.node.Node.{Node}
 use Rattle.plain_tree.specs.declared.step.Action.TheVariants as steps
-use Rattle.plain_tree.specs.declared.step.StepAnswer.TheVariants.{Failed, Opened}
+use Rattle.plain_tree.specs.declared.step.StepAnswer.TheVariants.{Done, Failed, Opened}
 use Rattle.plain_tree.specs.Calls.{Act, next_of, reply_of, had_room}
 use Rattle.plain_tree.specs.Widths.{hart_count}
 use Rattle.plain_tree.specs.Tree.{put, hold_names}
-use Rattle.plain_tree.specs.Steps.{empty_it, has, has_room, lowest}
+use Rattle.plain_tree.specs.Steps.{empty_it, has, has_room, lowest, node_or}
 use Rattle.plain_tree.specs.HartRow.{Key, Row, key_is, key_names}
 use Rattle.tree_laws.specs.WellFormed.{one_if}
-use Rattle.tree_laws.proofs.Maps.{either, or_none, same_or, put_same, put_other}
+use Rattle.tree_laws.proofs.Maps.{and_true, either, or_none, same_or, put_same, put_other}
 use Rattle.tree_moves.specs.Moves.{Step, MayEnd, Written}
-use Rattle.tree_moves.specs.Moves.Move.{Begin}
+use Rattle.tree_moves.specs.Moves.Move.{Begin, Own as OwnMove}
 use Rattle.inode_machine.specs.World.{Desk, Note, World}
 use Rattle.inode_machine.specs.World.Op.{Empty}
-use Rattle.inode_machine.specs.Inodes.{Sort, open_refusal, sort_of}
+use Rattle.inode_machine.specs.Inodes.{is_file_sort, Sort, open_refusal, sort_of}
 use Rattle.inode_machine.specs.Exec.{is_at}
 use Rattle.inode_machine.specs.Rules.{Own, key_in, own_names, own_of, Idle, Inv, machine}
 use Rattle.inode_machine.specs.Parts.{failed, full, own_step}
@@ -34,12 +34,14 @@ use Rattle.inode_machine.proofs.Counting.{s-give}
 use Rattle.inode_machine.proofs.Looks.{KeepsHold, mends}
 use Rattle.inode_machine.proofs.Listing.{times, one_at, one_else, Listed, listed_among}
 use Rattle.inode_machine.proofs.Walks.{At, Ready}
-use Rattle.inode_machine.proofs.Endings.{Follows, MayRest, Walked, back_at, home, joined_own, missed, names_plain, ready_at, s-ends, s-refuse, tells, walked_begun}
+use Rattle.inode_machine.proofs.Endings.{Follows, MayRest, Walked, back_at, home, joined_own, missed, names_plain, ready_at, s-ends, s-refuse, tells, walked_begun, walked_tells}
 use Rattle.inode_machine.proofs.Openings.{opened_row, unopened_row}
 use Rattle.inode_machine.proofs.Unopens.{mends_opened}
 use Rattle.inode_machine.proofs.Installs.{s-install}
 use Rattle.inode_machine.proofs.Slots.{s-slot, s-install-full}
-use Rattle.inode_machine.proofs.Opens.{face_or_sort}
+use Rattle.inode_machine.proofs.Opens.{face_or_sort, file_by_sort}
+use Rattle.inode_machine.proofs.Writings.{put_twice}
+use Rattle.inode_machine.proofs.Empties.{empty_step, emptied_node, s-empty}
 
 -- What the call is told.
 
@@ -60,6 +62,22 @@ opened_act path flags fd id is_file = record { step = steps.Open path flags; ans
 pub open_done : (path : List ℕ) (flags fd id : ℕ) (is_file : Bool) → (has flags empty_it && is_file) ≡ false → MayEnd (calls.Open path flags) (opened_act path flags fd id is_file ∷ []) (opened_reply path flags fd)
 unfolding next_of reply_of had_room
 open_done path flags fd id is_file e = record { through = rw e refl; reply = refl; room = refl }
+
+-- a file is to be emptied then
+trunc_next : (path : List ℕ) (flags fd id : ℕ) (is_file : Bool) → (has flags empty_it && is_file) ≡ true → next_of (calls.Open path flags) (opened_act path flags fd id is_file ∷ []) ≡ Some (steps.Truncate fd)
+unfolding next_of
+trunc_next path flags fd id is_file e = rw e refl
+
+trunc_done : (path : List ℕ) (flags fd id : ℕ) (is_file : Bool) → MayEnd (calls.Open path flags) (opened_act path flags fd id is_file ∷ record { step = steps.Truncate fd; answer = Done } ∷ []) (opened_reply path flags fd)
+unfolding next_of reply_of had_room
+trunc_done path flags fd id is_file = record { through = refl; reply = refl; room = refl }
+
+pub opened_begins : (path : List ℕ) (flags fd id : ℕ) (is_file : Bool) (es : List Step) → Walked (calls.Open path flags) (opened_act path flags fd id is_file ∷ []) es → Begun covered_calls (calls.Open path flags) es
+opened_begins path flags fd id is_file es told = by (has flags empty_it && is_file) refl
+  where
+    by : (b : Bool) → (has flags empty_it && is_file) ≡ b → Begun covered_calls (calls.Open path flags) es
+    by false e = walked_begun (calls.Open path flags) (opened_act path flags fd id is_file ∷ []) es [] (opened_reply path flags fd) told (open_done path flags fd id is_file e)
+    by true e = walked_begun (calls.Open path flags) (opened_act path flags fd id is_file ∷ []) es (empty_step fd ∷ []) (opened_reply path flags fd) told (trunc_next path flags fd id is_file e, trunc_done path flags fd id is_file)
 
 -- What a hart names by its directory alone.
 names_home : (r : Row) (d : Desk) (i : ℕ) → r.hold ≡ None → d.opening ≡ None → d.left ≡ None → own_names r d i ≡ ((r.cwd == i) || false)
@@ -195,10 +213,49 @@ module _ (h : ℕ) (path : List ℕ) (flags : ℕ) (w : World) (free : (w.desks 
         | inr ne ↦ (let a = put_other R.mine.refs j (R.mine.refs j - 1) i ne in let o = one_else j i ne in omega (arith, r, a, o))
       ]
 
+  -- A file is emptied, where that is asked for.
+  s-open-then : (j fd s id : ℕ) (is_file : Bool) (ns : List ℕ) (t : Option Note) (sort : Sort) (x : Option Node) (n : ℕ) (es : List Step) (u u0 : World) (R : Own) → 1950 + 971 * length ns ≤ n → At h j base ns None t (went fd id (key_is (file_for j flags))) R u0 → sort_of x ≡ Some sort
+      → own_of h u ≡ record (installed_own R j fd s) { inodes = put R.inodes j (Some (locked_held x)) } → is_file ≡ is_file_sort sort → Walked c (opened_act path flags fd id is_file ∷ []) es
+      → Safe machine h B Q (if empties flags sort then Do (Empty j) (λ _. own_step (steps.Truncate fd)) (λ _. open_end path flags j ns fd) else open_end path flags j ns fd) n es u
+  s-open-then j fd s id is_file ns t sort x n es u u0 R few at typed own kind told = by (empties flags sort) refl
+    where
+      key : Key
+      key = key_is (file_for j flags)
+
+      keyed : R.row.keys fd ≡ Some key
+      keyed = ap (λ (r : Row). r.keys fd) at.stays.row ∙ put_same (own_of h w).row.keys fd (Some key)
+
+      asked : (b : Bool) → empties flags sort ≡ b → (has flags empty_it && is_file) ≡ b
+      asked b e = (λ z. has flags empty_it && kind z) ∙ e
+
+      some : (o : Option Node) → sort_of o ≡ Some sort → o ≡ Some (node_or o)
+      some None q = absurd cc
+      some (Some v) q = refl
+
+      file : empties flags sort ≡ true → is_file_sort sort ≡ true
+      file e = (and_true (has flags empty_it) (is_file_sort sort) e).1
+
+      y : Node
+      y = emptied_node (node_or x)
+
+      by : (b : Bool) → empties flags sort ≡ b → Safe machine h B Q (if empties flags sort then Do (Empty j) (λ _. own_step (steps.Truncate fd)) (λ _. open_end path flags j ns fd) else open_end path flags j ns fd) n es u
+      by false e = subst (λ (b : Bool). Safe machine h B Q (if b then Do (Empty j) (λ _. own_step (steps.Truncate fd)) (λ _. open_end path flags j ns fd) else open_end path flags j ns fd) n es u) (sym e)
+          (s-open-end j fd s id key ns t x n es u u0 R (omega (arith, few)) at own (told [] (opened_reply path flags fd) (open_done path flags fd id is_file (asked false e))))
+      by true e = subst (λ (b : Bool). Safe machine h B Q (if b then Do (Empty j) (λ _. own_step (steps.Truncate fd)) (λ _. open_end path flags j ns fd) else open_end path flags j ns fd) n es u) (sym e)
+          (s-empty j fd key (node_or x) own (at.stays.lender ∙ free) lt (omega (arith, few)) at.stays.joined (put_same R.inodes j (Some (locked_held x)) ∙ (λ z. Some (locked_held (some x typed z)))) (file_by_sort x sort typed ∙ file e) keyed refl at.walk at.pending
+          (walked_begun c (opened_act path flags fd id is_file ∷ record { step = steps.Truncate fd; answer = Done } ∷ []) (empty_step fd ∷ es) [] (opened_reply path flags fd) (emptied_told e) (trunc_done path flags fd id is_file))
+          (λ l2 u2 q2 own2. s-open-end j fd s id key ns t (Some y) l2 (empty_step fd ∷ es) u2 u0 R (omega (arith, q2, few)) at (own2 ∙ (λ z. record (installed_own R j fd s) {
+            inodes = put_twice R.inodes j (Some (locked_held x)) (Some (locked_held (Some y))) z;
+            mine = record { refs = put R.mine.refs j (R.mine.refs j - 1); walk = sym at.walk z; pending = sym at.pending z };
+          })) (emptied_told e [] (opened_reply path flags fd) (trunc_done path flags fd id is_file))))
+        where
+          emptied_told : empties flags sort ≡ true → Walked c (opened_act path flags fd id is_file ∷ record { step = steps.Truncate fd; answer = Done } ∷ []) (empty_step fd ∷ es)
+          emptied_told e = walked_tells c (opened_act path flags fd id is_file ∷ []) (OwnMove (steps.Truncate fd) 0) (record { act = record { step = steps.Truncate fd; answer = Done }; new = 0 }) es (trunc_next path flags fd id is_file (asked true e)) told
+
   -- What was found is opened: a slot, a descriptor.
-  pub s-opened : (j fd id : ℕ) (ns : List ℕ) (t : Option Note) (sort : Sort) (n : ℕ) (es : List Step) (u : World) (R : Own) → 2000 + 971 * length ns ≤ n → At h j base ns None t (went fd id (key_is (file_for j flags))) R u → ((v : World) → Inv v → own_of h v ≡ R → sort_of (v.all.nodes j) ≡ Some sort) → open_refusal (flags == 0) sort ≡ None
-      → has_room R.desk.fds ≡ true → lowest R.desk.fds ≡ fd → empties flags sort ≡ false → Written c (oldest_first es) (opened_reply path flags fd) → Safe machine h B Q (open_at path flags j ns) n es u
-  s-opened j fd id ns t sort n es u R few at typed refusal room low plain told =
+  pub s-opened : (j fd id : ℕ) (is_file : Bool) (ns : List ℕ) (t : Option Note) (sort : Sort) (n : ℕ) (es : List Step) (u : World) (R : Own) → 2000 + 971 * length ns ≤ n → At h j base ns None t (went fd id (key_is (file_for j flags))) R u → ((v : World) → Inv v → own_of h v ≡ R → sort_of (v.all.nodes j) ≡ Some sort) → open_refusal (flags == 0) sort ≡ None
+      → has_room R.desk.fds ≡ true → lowest R.desk.fds ≡ fd → is_file ≡ is_file_sort sort → Walked c (opened_act path flags fd id is_file ∷ []) es → Safe machine h B Q (open_at path flags j ns) n es u
+  s-opened j fd id is_file ns t sort n es u R few at typed refusal room low kind told =
       s-take (λ o. sort_of o ≡ Some sort) at.owns (at.stays.lender ∙ free) lt (omega (arith, few)) at.out here typed
       (λ l1 x u1 q1 is own1.
       subst (λ (z : Sort). Safe machine h B Q (open_face path flags j ns z (open_refusal (flags == 0) z)) l1 es u1) (sym (face_or_sort x sort is))
@@ -207,9 +264,7 @@ module _ (h : ℕ) (path : List ℕ) (flags : ℕ) (w : World) (free : (w.desks 
       (λ v inv ov. mends_opened h fd v (record R { inodes = put R.inodes j (Some (locked_held x)) }) ov (at.stays.lender ∙ free) lt inv at.stays.opening left (subst KeepsHold (sym hold) tt) (λ i q. refers i q))
       (λ l2 u2 q2 own2. s-refuse h c (full c OpenFiles) j x base ns l2 es u2 (M R.desk.hand) own2 (at.stays.lender ∙ free) lt (omega (arith, q1, q2, few)) at.stays.joined listed at.out at.refs refl refl (λ q. spare j ((λ z. (sym (ap (λ (r : Row). r.cwd) at.stays.row) z == j) || false) ∙ sym (names_home (M R.desk.hand).row (M R.desk.hand).desk j hold refl refl) ∙ q)) may (inl refl))
       (λ l2 s u2 q2 own2.
-      s-install fd s (file_for j flags) sort own2 (at.stays.lender ∙ free) lt (omega (arith, q1, q2, few)) at.stays.opening refl room low keyed refl refl at.walk at.pending (put_same R.inodes j (Some (locked_held x))) refl is here twice (λ l3 u3 q3 own3.
-      subst (λ (b : Bool). Safe machine h B Q (if b then Do (Empty j) (λ _. own_step (steps.Truncate fd)) (λ _. open_end path flags j ns fd) else open_end path flags j ns fd) l3 es u3) (sym plain)
-      (s-open-end j fd s id (key_is (file_for j flags)) ns t x l3 es u3 u R (omega (arith, q1, q2, q3, few)) at own3 told))))))
+      s-install fd s (file_for j flags) sort own2 (at.stays.lender ∙ free) lt (omega (arith, q1, q2, few)) at.stays.opening refl room low keyed refl refl at.walk at.pending (put_same R.inodes j (Some (locked_held x))) refl is here twice (λ l3 u3 q3 own3. s-open-then j fd s id is_file ns t sort x l3 es u3 u R (omega (arith, q1, q2, q3, few)) at is own3 kind told)))))
     where
       here : 0 < R.mine.refs j
       here = let r = at.refs j in let o = one_at j in omega (arith, r, o)
