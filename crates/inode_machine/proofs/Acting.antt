@@ -34,6 +34,7 @@ pub record Fits (h : ℕ) (v : World) (all : Tree) (p : Option ℕ) (alone : ℕ
   pub shop : Kin h (shop_of v) (record { files = v.files; desks = D; ids = v.ids; slots = v.slots; clean = c; tree_fds = all.fds; tree_files = all.files })
   pub fds : (D h).fds ≡ (v.desks h).fds
   pub free : (D h).lender ≡ None
+  pub unlent : (v.desks h).lender ≡ None
   pub joined : (D h).joined ≡ true
   pub directory : Stands (D h) (all.cwd h) all.nodes
   pub home : (D h).directory ≡ (v.desks h).directory
@@ -79,7 +80,7 @@ acts_did h v all p alone next D c lt inv none fits =
       kept = λ j is. pin j (inv.kept j h is).1;
       held = λ j is. fits.held j is;
       named = λ j is. elim (fits.named j is) [
-        | inl a ↦ elim (inv.named h j lt a) [ inl b ↦ inl (grow j b) | inr b ↦ absurd (cc (b, none)) ]
+        | inl a ↦ elim (inv.named h j lt fits.unlent a) [ inl b ↦ inl (grow j b) | inr b ↦ absurd (cc (b, none)) ]
         | inr (inl a) ↦ inl (grow j a)
         | inr (inr a) ↦ inr (ap (λ (m : Mine). m.pending) (put_same v.harts h new) ∙ a)
       ];

@@ -85,7 +85,7 @@ s-begin h s B Q base O0 ns n es w O go lost lt ready at pos notes then_ full = s
         i = start_number (v.desks h) (is_absolute (path_of s))
 
         cwd_is : (v.desks h).directory ≡ v.all.cwd h
-        cwd_is = (inv.directory h lt).at ∙ (λ z. left_or ((ap (λ (o : Own). o.desk.left) ov ∙ at.stays.left ∙ ready.left) z) (v.all.cwd h))
+        cwd_is = (inv.directory h lt).at (ap (λ (o : Own). o.desk.lender) ov ∙ free) ∙ (λ z. left_or ((ap (λ (o : Own). o.desk.left) ov ∙ at.stays.left ∙ ready.left) z) (v.all.cwd h))
 
         number_is : (c : Bool) → (t : Tree) → t.cwd h ≡ v.all.cwd h → (if c then root else t.cwd h) ≡ start_number (v.desks h) c
         number_is true t q = refl

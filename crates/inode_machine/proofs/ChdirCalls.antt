@@ -15,7 +15,7 @@ use Rattle.plain_tree.specs.declared.step.Action.TheVariants.{Chdir, Inherit}
 use Rattle.plain_tree.specs.declared.step.StepAnswer.{StepAnswer}
 use Rattle.plain_tree.specs.declared.step.StepAnswer.TheVariants.{Done, Failed}
 use Rattle.plain_tree.specs.Calls.{next_of, reply_of, had_room}
-use Rattle.plain_tree.specs.Widths.{hart_count}
+use Rattle.plain_tree.specs.Widths.{hart_count, descriptor_count}
 use Rattle.plain_tree.specs.Tree.{Name, Tree, put, elements, is_absolute, is_directory, is_live, live_directory, look, settle, start_of}
 use Rattle.plain_tree.specs.Steps.{node_at, node_or, place_of, refusal_with, IsInPlace}
 use Rattle.plain_tree.specs.HartRow.{Row, row_of}
@@ -150,7 +150,7 @@ module _ (h : ℕ) (path : List ℕ) (w : World) (free : (w.desks h).lender ≡ 
       (λ v inv ov. let q : v.all.cwd h ≡ j = ap (λ (o : Own). o.row.cwd) ov ∙ ap (λ (r : Row). r.cwd) at.stays.row in ap (λ (z : ℕ). sort_of (v.all.nodes z)) (sym q) ∙ directory_sort v.all h inv.well lt)
       (λ l1 x u1 q1 sort own1.
       subst (λ (b : Bool). Safe machine h B Q (if b then Do (Settle j) unmarked (λ old. drop old (tail ns (done c))) else give_up j (tail ns (failed c NotDirectory))) l1 es u1) (sym (face_sort x OfDirectory sort))
-      (s-settle own1 (at.stays.lender ∙ free) lt (omega (arith, q1, few)) (put_same R.inodes j (Some (locked_held x))) refl refl refl at.pending (ap (λ (r : Row). r.cwd) at.stays.row) spare (λ l2 u2 q2 own2.
+      (s-settle own1 (at.stays.lender ∙ free) lt (omega (arith, q1, few)) (put_same R.inodes j (Some (locked_held x))) refl refl refl at.pending (ap (λ (r : Row). r.cwd) at.stays.row) spare (ap (λ (f : ℕ → Option ℕ). f descriptor_count) (at.stays.lent ∙ idle.lent)) (λ l2 u2 q2 own2.
       subst (λ (z : ℕ). Safe machine h B Q (drop z (tail ns (done c))) l2 es u2) (sym (at.stays.directory))
       (s-drop d own2 (at.stays.lender ∙ free) lt (omega (arith, q1, q2, few)) (at.stays.joined) (back_at R.inodes j (Some (locked_held x)) at.out d ∙ out_d (R.inodes d) refl) here at.pending at.walk twice (λ l3 u3 q3 own3.
       s-ends h c (done c) (λ i. one_if (j == i)) ns l3 es u3 _ own3 (at.stays.lender ∙ free) lt (omega (arith, q1, q2, q3, few)) at.stays.joined
@@ -180,7 +180,7 @@ module _ (h : ℕ) (path : List ℕ) (w : World) (free : (w.desks h).lender ≡ 
 
       -- the old directory is the one that it leaves
       named : own_names R.row R.desk d ≡ true
-      named = names_plain R.row R.desk d hold opening ∙ (λ z. (R.row.cwd == d) || is_at (at.stays.left z) d) ∙ (λ z. (R.row.cwd == d) || (sym (home_is h w lt holds idle) z == d)) ∙ any_true (R.row.cwd == d) (d == d) (eq_self d)
+      named = names_plain R.row R.desk d hold opening ∙ (λ z. (R.row.cwd == d) || is_at (at.stays.left z) d) ∙ (λ z. (R.row.cwd == d) || (sym (home_is h w free lt holds idle) z == d)) ∙ any_true (R.row.cwd == d) (d == d) (eq_self d)
         where
           any_true : (a b : Bool) → b ≡ true → (a || b) ≡ true
           any_true true b e = refl

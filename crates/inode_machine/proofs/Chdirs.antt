@@ -19,7 +19,7 @@ use Rattle.tree_moves.specs.Moves.{Step}
 use Rattle.inode_machine.specs.World.{Desk, World}
 use Rattle.inode_machine.specs.World.Op.{Settle}
 use Rattle.inode_machine.specs.Inodes.{OfDirectory, sort_of, sort_of_kind}
-use Rattle.inode_machine.specs.Exec.{is_at, unlocked, with_directory, with_walk}
+use Rattle.inode_machine.specs.Exec.{is_at, unlocked, with_directory, with_walk, child_of}
 use Rattle.inode_machine.specs.Marks.{acts, mended, unheld, unmoved, unopened}
 use Rattle.inode_machine.specs.Rules.{Own, Held, key_in, left_or, own_names, own_of, shop_of, Inv, Reached, machine}
 use Rattle.inode_machine.proofs.Frame.{shop_same, directory_named, Did, Fair, fair, fair_then, has_inode}
@@ -80,7 +80,7 @@ cwd_did h x k v free lt inv left sort reached = record {
   sort = λ j. inl refl;
   sorts = inv.sorts;
   noted = λ m is r s. inv.noted h m lt is r s;
-  directory = let s = inv.directory h lt in record { at = s.at ∙ (λ z. left_or (left z) (v.all.cwd h)) ∙ sym (λ z. left_or (left z) (put v.all.cwd h x h)); sort = s.sort };
+  directory = let s = inv.directory h lt in record { at = λ _. s.at free ∙ (λ z. left_or (left z) (v.all.cwd h)) ∙ sym (λ z. left_or (left z) (put v.all.cwd h x h)); sort = s.sort };
   refers = inv.refers h lt;
   well = well_chdir v.all h x inv.well (kind_directory (v.all.nodes x) sort);
   counts = inv.counts;
@@ -95,7 +95,7 @@ cwd_did h x k v free lt inv left sort reached = record {
     named : (j : ℕ) → ((x == j) || (hold_names (v.all.holds h) j || (key_names (key_in (row_of v.all h).keys (v.desks h).opening) j || is_at (v.desks h).left j))) ≡ true → Reached v h j
     named j is = elim (either (x == j)) [
       | inl y ↦ subst (λ (z : ℕ). Reached v h z) (eq_is x j y) reached
-      | inr y ↦ inv.named h j lt (or_right (v.all.cwd h == j) (hold_names (v.all.holds h) j || (key_names (key_in (row_of v.all h).keys (v.desks h).opening) j || is_at (v.desks h).left j)) ((λ z. sym y z || (hold_names (v.all.holds h) j || (key_names (key_in (row_of v.all h).keys (v.desks h).opening) j || is_at (v.desks h).left j))) ∙ is))
+      | inr y ↦ inv.named h j lt free (or_right (v.all.cwd h == j) (hold_names (v.all.holds h) j || (key_names (key_in (row_of v.all h).keys (v.desks h).opening) j || is_at (v.desks h).left j)) ((λ z. sym y z || (hold_names (v.all.holds h) j || (key_names (key_in (row_of v.all h).keys (v.desks h).opening) j || is_at (v.desks h).left j))) ∙ is))
     ]
 
 own_cwd : (h x : ℕ) (v : World) (O : Own) → own_of h v ≡ O → own_of h (record v { all = record (v.all) { cwd = put v.all.cwd h x } }) ≡ record O { row = record (O.row) { cwd = x } }
@@ -141,8 +141,8 @@ leaving h j v O ov free lt inv none sort reached = record {
     f : Flagging h v O new (record (O.desk) { left = Some (O.row.cwd) }) v.clean
     f = desk_changes h v O new (record (O.desk) { left = Some (O.row.cwd) }) v.clean ov free lt inv (ap (λ (o : Own). record (o.desk) { left = Some (o.row.cwd) }) ov) (record { fds = refl; hand = refl; lent = refl; opening = refl })
         (λ i q. names i q)
-        (let s = inv.directory h lt in record { at = s.at ∙ (λ z. left_or (was z) (v.all.cwd h)); sort = s.sort })
-        (inv.refers h lt).home
+        (let s = inv.directory h lt in record { at = λ _. s.at (ap (λ (o : Own). o.desk.lender) ov ∙ free) ∙ (λ z. left_or (was z) (v.all.cwd h)); sort = s.sort })
+        (inv.refers h lt).home (inl refl)
         (ap (λ (o : Own). o.desk.lender) ov ∙ free) (λ q i is. inv.quiet i h is q) (λ m q r s. inv.noted h m lt q r s) (λ q. inv.tied.spoiled h q) (λ q. q) (λ q. q)
       where
         names : (i : ℕ) → own_names (row_of v.all h) new i ≡ true → own_names (row_of v.all h) (v.desks h) i ≡ true
@@ -168,7 +168,7 @@ mends_left h k v O ov free lt inv opening left hold names = subst (λ (z : World
     left_v = ap (λ (o : Own). o.desk.left) ov ∙ left
 
     stands : (v.desks h).directory ≡ k
-    stands = (inv.directory h lt).at ∙ (λ z. left_or (left_v z) (v.all.cwd h))
+    stands = (inv.directory h lt).at (ap (λ (o : Own). o.desk.lender) ov ∙ free) ∙ (λ z. left_or (left_v z) (v.all.cwd h))
 
     u1 : World
     u1 = record v { all = record (v.all) { cwd = put v.all.cwd h k } }
@@ -180,7 +180,7 @@ mends_left h k v O ov free lt inv opening left hold names = subst (λ (z : World
     sort = ap (λ (z : ℕ). sort_of (v.all.nodes z)) (sym stands) ∙ (inv.directory h lt).sort
 
     reached : Reached v h k
-    reached = subst (λ (z : ℕ). Reached v h z) stands (inv.named h (v.desks h).directory lt (directory_named (row_of v.all h) (v.desks h) (inv.directory h lt).at))
+    reached = subst (λ (z : ℕ). Reached v h z) stands (inv.named h (v.desks h).directory lt (ap (λ (o : Own). o.desk.lender) ov ∙ free) (directory_named (row_of v.all h) (v.desks h) ((inv.directory h lt).at (ap (λ (o : Own). o.desk.lender) ov ∙ free))))
 
     back : Fair h v u1
     back = fair inv (cwd_did h k k v (ap (λ (o : Own). o.desk.lender) ov ∙ free) lt inv left_v sort reached)
@@ -201,8 +201,8 @@ mends_left h k v O ov free lt inv opening left hold names = subst (λ (z : World
     f = desk_changes h u1 O1 new (record (O.desk) { opening = None; left = None; full = true }) false ov1 free lt back.inv (ap (λ (o : Own). record (o.desk) { opening = None; left = None; full = true }) ov)
         (record { fds = refl; hand = refl; lent = refl; opening = sym (ap (λ (o : Own). o.desk.opening) ov ∙ opening) })
         (λ i q. fewer i q)
-        (record { at = stands ∙ sym (put_same v.all.cwd h k); sort = (inv.directory h lt).sort })
-        (inv.refers h lt).home
+        (record { at = λ _. stands ∙ sym (put_same v.all.cwd h k); sort = (inv.directory h lt).sort })
+        (inv.refers h lt).home (inl refl)
         (ap (λ (o : Own). o.desk.lender) ov ∙ free) (λ q i is. inv.quiet i h is q) (λ m q r s. inv.noted h m lt q r s) (λ q. refl) (λ q. refl) (λ q. absurd cc)
       where
         fewer : (i : ℕ) → own_names (row_of u1.all h) new i ≡ true → own_names (row_of u1.all h) (v.desks h) i ≡ true
@@ -230,10 +230,10 @@ mends_left h k v O ov free lt inv opening left hold names = subst (λ (z : World
 
 -- The lock is given up, and the tree's current directory is the hart's.
 pub s-settle : {A : Type 0} {h i : ℕ} {x : Held} {k : ℕ → P machine A} {B : List Step → Type 0} {Q : A → List Step → World → Type 0} {n : ℕ} {es : List Step} {w : World} {O : Own}
-    → own_of h w ≡ O → O.desk.lender ≡ None → h < hart_count → 0 < n → O.inodes i ≡ Some x → x.locked ≡ true → x.alone ≡ false → x.disk ≡ x.node → O.mine.pending ≡ None → O.row.cwd ≡ i → one_if (O.desk.directory == i) < O.mine.refs i
+    → own_of h w ≡ O → O.desk.lender ≡ None → h < hart_count → 0 < n → O.inodes i ≡ Some x → x.locked ≡ true → x.alone ≡ false → x.disk ≡ x.node → O.mine.pending ≡ None → O.row.cwd ≡ i → one_if (O.desk.directory == i) < O.mine.refs i → child_of O.desk ≡ None
     → ((l : ℕ) (u : World) → l + 1 ≡ n → own_of h u ≡ record O { inodes = put O.inodes i None; desk = record (O.desk) { directory = i; left = None } } → Safe machine h B Q (k O.desk.directory) l es u)
     → Safe machine h B Q (Do (Settle i) unmarked k) n es w
-s-settle {A} {h} {i} {x} {k} {B} {Q} {n} {es} {w} {O} owns free lt pos isi has shared whole none stands spare rest = s-owned owns free pos (λ v inv ov. (
+s-settle {A} {h} {i} {x} {k} {B} {Q} {n} {es} {w} {O} owns free lt pos isi has shared whole none stands spare childless rest = s-owned owns free pos (λ v inv ov. (
   (locks_it h i v O x ov isi has, subst (λ (o : Own). one_if (o.desk.directory == i) < o.mine.refs i) (sym ov) spare),
   (λ _ _.
       let a : v.alone i ≡ false = ap (λ (y : Held). y.alone) (has_inode h i v O x ov isi).1 ∙ shared in
@@ -246,8 +246,8 @@ s-settle {A} {h} {i} {x} {k} {B} {Q} {n} {es} {w} {O} owns free lt pos isi has s
     settles : (v : World) → Inv v → own_of h v ≡ O → Flagging h v O (record (v.desks h) { directory = i; left = None }) (record (O.desk) { directory = i; left = None }) v.clean
     settles v inv ov = desk_changes h v O (record (v.desks h) { directory = i; left = None }) (record (O.desk) { directory = i; left = None }) v.clean ov free lt inv (ap (λ (o : Own). record (o.desk) { directory = i; left = None }) ov) (record { fds = refl; hand = refl; lent = refl; opening = refl })
         (λ j q. fewer j q)
-        (let c : v.all.cwd h ≡ i = ap (λ (o : Own). o.row.cwd) ov ∙ stands in record { at = sym c; sort = ap (λ (z : ℕ). sort_of (v.all.nodes z)) (sym c) ∙ directory_sort v.all h inv.well lt })
-        (let r = my_refs h v O i ov in omega (arith, r, spare))
+        (let c : v.all.cwd h ≡ i = ap (λ (o : Own). o.row.cwd) ov ∙ stands in record { at = λ _. sym c; sort = ap (λ (z : ℕ). sort_of (v.all.nodes z)) (sym c) ∙ directory_sort v.all h inv.well lt })
+        (let r = my_refs h v O i ov in omega (arith, r, spare)) (inr (ap (λ (o : Own). child_of o.desk) ov ∙ childless))
         (ap (λ (o : Own). o.desk.lender) ov ∙ free) (λ q j is. inv.quiet j h is q) (λ m q r s. inv.noted h m lt q r s) (λ q. inv.tied.spoiled h q) (λ q. q) (λ q. q)
       where
         fewer : (j : ℕ) → own_names (row_of v.all h) (record (v.desks h) { left = None }) j ≡ true → own_names (row_of v.all h) (v.desks h) j ≡ true

@@ -170,7 +170,7 @@ claiming h i sort v O ov free lt inv joined is_free_i = record { fair = fair inv
             | inl q ↦ inr (ap u.alone q ∙ put_same v.alone i true)
             | inr ne ↦ elim (inv.held j h (sym (put_other v.keeper i (Some h) j ne) ∙ is)) [ inl a ↦ inl a | inr a ↦ inr (put_other v.alone i true j ne ∙ a) ]
           ];
-          named = λ j is. reach j (inv.named h j lt is);
+          named = λ j is. reach j (inv.named h j lt (ap (λ (o : Own). o.desk.lender) ov ∙ free) is);
           pending = λ j is. found_more h v u j (λ d q. (put_elim v.keeper i (Some h) d (λ z. z ≡ Some h) (λ y. refl) (λ y. q), refl)) (inv.pending h j lt (sym (ap (λ (m : Mine). m.pending) (put_same v.harts h new)) ∙ is));
           walks = λ x is. reach x.at (inv.walks h x lt (sym (ap (λ (m : Mine). m.walk) (put_same v.harts h new)) ∙ is));
         }

@@ -17,7 +17,7 @@ use Rattle.tree_laws.proofs.Sums.{sum_same, sum_changed, one_no, one_yes}
 use Rattle.tree_laws.proofs.Opened.{well_closed}
 use Rattle.tree_moves.specs.Moves.{Walk, Stage, Step, Takes}
 use Rattle.tree_moves.specs.Moves.Move.{Own as OwnMove}
-use Rattle.inode_machine.specs.Exec.{is_at, file_count, with_refs, with_walk, slot_at, entry_at, close_at, close_if, close_less, close_last}
+use Rattle.inode_machine.specs.Exec.{is_at, file_count, with_refs, with_walk, slot_at, entry_at, close_at, close_if, close_less, close_last, child_of}
 use Rattle.inode_machine.specs.World.{Mine, Entry, Desk, World, stage_of}
 use Rattle.inode_machine.specs.Marks.{places, with_mark, made_by, new_id}
 use Rattle.inode_machine.specs.World.Op.{Shut}
@@ -160,12 +160,15 @@ shuts h fd s e v O F S H inv ov free lt walk still idle empty unnoted hit c = re
           let y = c.changes.keep j x.0 x.1 in
           (x.0, x.1, ap (λ (z : OpenFile). z.number) y.2 ∙ (let r : Some y.0 ≡ Some d = sym y.1 ∙ a in let t : y.0 ≡ d = cc in ap (λ (z : Entry). z.file.number) t));
       clean = λ q. q;
+      child = ap (λ (z : Desk). child_of z) desk_is;
+      stays = inl (ap (λ (z : Desk). z.directory) desk_is);
     };
     free = same.lender ∙ free;
+    unlent = (ap (λ (o : Own). o.desk.lender) ov ∙ free);
     joined = ap (λ (z : Desk). z.joined) desk_is;
     sorts = c.sorts;
     noted = λ m q. absurd (let a = same.noted in cc (a, q, unnoted));
-    directory = stands_on (v.desks h) (D h) (v.all.cwd h) v.all.nodes (ap (λ (z : Desk). z.directory) desk_is) (ap (λ (z : Desk). z.left) desk_is) (inv.directory h lt);
+    directory = stands_on (v.desks h) (D h) (v.all.cwd h) v.all.nodes (ap (λ (o : Own). o.desk.lender) ov ∙ free) (ap (λ (z : Desk). z.directory) desk_is) (ap (λ (z : Desk). z.left) desk_is) (inv.directory h lt);
     well = well_closed v.all h fd inv.well;
     nodes = refl;
     size = refl;
@@ -356,7 +359,7 @@ s-shut {A} {h} fd {k} {B} {Q} {n} {es} {w} {O} owns free lt pos walks none idle 
 
     named : (v : World) → Inv v → own_of h v ≡ O → (m : ℕ) → (with_fd v.desks h fd None h).opening ≡ O.desk.opening → (0 < O.mine.refs m) ⊎ (own_names (row_of (without_fd v.all h fd) h) (with_fd v.desks h fd None h) m ≡ false)
     named v inv ov m same = elim (either (own_names (row_of v.all h) (v.desks h) m)) [
-      | inl y ↦ inl (elim (inv.named h m lt y) [ inl p ↦ (let r = my_refs h v O m ov in omega (arith, r, p)) | inr p ↦ absurd (let e = still v ov in cc (e, p)) ])
+      | inl y ↦ inl (elim (inv.named h m lt (ap (λ (o : Own). o.desk.lender) ov ∙ free) y) [ inl p ↦ (let r = my_refs h v O m ov in omega (arith, r, p)) | inr p ↦ absurd (let e = still v ov in cc (e, p)) ])
       | inr y ↦ inr (names_less (row_of (without_fd v.all h fd) h) (row_of v.all h) (with_fd v.desks h fd None h) (v.desks h) m refl refl (same ∙ idle) (opening_none v ov) (ap (λ (z : Desk). z.left) (put_same v.desks h (record (v.desks h) { fds = put (v.desks h).fds fd None }))) ∙ y)
     ]
 

@@ -71,7 +71,7 @@ gives h i x O v free lt inv ov isi shared whole none = record { fair = fair inv 
             | inl q ↦ absurd (let s : put v.keeper i None j ≡ None = ap (put v.keeper i None) q ∙ put_same v.keeper i None in cc)
             | inr ne ↦ elim (inv.held j h (sym (put_other v.keeper i None j ne) ∙ is)) [ inl a ↦ inl (put_other v.lock i None j ne ∙ a) | inr a ↦ inr a ]
           ];
-          named = λ j is. inv.named h j lt is;
+          named = λ j is. inv.named h j lt (ap (λ (o : Own). o.desk.lender) ov ∙ free) is;
           pending = λ j is. absurd (let p : (v.harts h).pending ≡ None = ap (λ (o : Own). o.mine.pending) ov ∙ none in cc);
           walks = λ y is. inv.walks h y lt is;
         }
@@ -139,7 +139,7 @@ writes h i y x O v free lt joined inv ov isi = record { fair = fair inv did; own
           alone = inv.alone;
           kept = λ j is. (inv.kept j h is).1;
           held = λ j is. inv.held j h is;
-          named = λ j is. inv.named h j lt is;
+          named = λ j is. inv.named h j lt (ap (λ (o : Own). o.desk.lender) ov ∙ free) is;
           pending = λ j is. inv.pending h j lt is;
           walks = λ z is. inv.walks h z lt is;
         }
@@ -249,7 +249,7 @@ lasting h i v O L b ov free lt inv out refers none e there here mine = record { 
             | inl q ↦ inr (ap u.alone q ∙ put_same v.alone i true)
             | inr ne ↦ elim (inv.held j h (sym (put_other v.keeper i (Some h) j ne) ∙ is)) [ inl a ↦ inl (there j ne ∙ a) | inr a ↦ inr (put_other v.alone i true j ne ∙ a) ]
           ];
-          named = λ j is. inv.named h j lt is;
+          named = λ j is. inv.named h j lt (ap (λ (o : Own). o.desk.lender) ov ∙ free) is;
           pending = λ j is. absurd (let p : (v.harts h).pending ≡ None = ap (λ (o : Own). o.mine.pending) ov ∙ none in cc);
           walks = λ y is. inv.walks h y lt is;
         }
@@ -280,9 +280,9 @@ one_most true = omega arith
 one_most false = omega arith
 
 -- What the hart doesn't name isn't its current directory, whatever it is opening.
-pub not_home : (h i : ℕ) (v : World) (O : Own) (o : Option ℕ) → Inv v → own_of h v ≡ O → h < hart_count → own_names O.row (record (O.desk) { opening = o }) i ≡ false → O.desk.directory ≢ i
-not_home h i v O o inv ov lt unnamed q =
-    let at : O.desk.directory ≡ left_or O.desk.left O.row.cwd = subst (λ (p : Own). p.desk.directory ≡ left_or p.desk.left p.row.cwd) ov (inv.directory h lt).at in
+pub not_home : (h i : ℕ) (v : World) (O : Own) (o : Option ℕ) → Inv v → own_of h v ≡ O → O.desk.lender ≡ None → h < hart_count → own_names O.row (record (O.desk) { opening = o }) i ≡ false → O.desk.directory ≢ i
+not_home h i v O o inv ov free lt unnamed q =
+    let at : O.desk.directory ≡ left_or O.desk.left O.row.cwd = subst (λ (p : Own). p.desk.directory ≡ left_or p.desk.left p.row.cwd) ov ((inv.directory h lt).at (ap (λ (o : Own). o.desk.lender) ov ∙ free)) in
     let a : own_names O.row (record (O.desk) { opening = o }) i ≡ true = ap (own_names O.row (record (O.desk) { opening = o })) (sym q) ∙ directory_named O.row (record (O.desk) { opening = o }) at in
     absurd (cc (a, unnamed))
 
@@ -346,7 +346,7 @@ counting h i v O ov free lt inv out refers none still = record { fair = fair inv
     home : (v.desks h).directory ≡ i → 0 < (v.harts h).refs i - 1
     home q = elim still [
       | inl m ↦ (let a = many m in omega (arith, a))
-      | inr s ↦ absurd (not_home h i v O O.desk.opening inv ov lt s.0 (ap (λ (o : Own). o.desk.directory) (sym ov) ∙ q))
+      | inr s ↦ absurd (not_home h i v O O.desk.opening inv ov free lt s.0 (ap (λ (o : Own). o.desk.directory) (sym ov) ∙ q))
     ]
 
     did : Did h v u
@@ -382,7 +382,7 @@ counting h i v O ov free lt inv out refers none still = record { fair = fair inv
               };
           kept = λ j is. pin j (λ q. absurd (has_none h i v O ov out (ap v.keeper (sym q) ∙ sym (keeper_same j) ∙ is))) (inv.kept j h (sym (keeper_same j) ∙ is)).1;
           held = λ j is. elim (inv.held j h (sym (keeper_same j) ∙ is)) [ inl a ↦ inl a | inr a ↦ inr (alone_same j ∙ a) ];
-          named = λ j is. elim (inv.named h j lt is) [
+          named = λ j is. elim (inv.named h j lt (ap (λ (o : Own). o.desk.lender) ov ∙ free) is) [
             | inl a ↦ inl (grow j (λ q. elim still [ inl m ↦ many m | inr s ↦ absurd (let f : own_names O.row O.desk i ≡ true = ap (λ (o : Own). own_names o.row o.desk i) (sym ov) ∙ ap (λ (z : ℕ). own_names (row_of v.all h) (v.desks h) z) (sym q) ∙ is in let g = s.0 in cc (f, g)) ]) a)
             | inr a ↦ absurd (cc (a, pend))
           ];
@@ -412,7 +412,7 @@ pub s-down : {A : Type 0} {h i : ℕ} {k : Bool → P machine A} {B : List Step 
     → ((l : ℕ) (s : Option Node) (u : World) → l + 1 ≡ n → is_live s ≡ false → O.mine.refs i ≡ 1 → own_of h u ≡ record O { inodes = put O.inodes i (Some (record { disk = s; node = s; alone = true; locked = true })) } → Safe machine h B Q (k true) l es u)
     → ((l : ℕ) (u : World) → l + 1 ≡ n → own_of h u ≡ record O { mine = record { refs = put O.mine.refs i (O.mine.refs i - 1); walk = O.mine.walk; pending = O.mine.pending } } → Safe machine h B Q (k false) l es u)
     → Safe machine h B Q (Do (Down i) unmarked k) n es w
-s-down {A} {h} {i} {k} {B} {Q} {n} {es} {w} {O} owns free lt pos out refers none still last rest = s-owned owns free pos (λ v inv ov. ((spares h i v O ov refers (elim still [ inl m ↦ inl m | inr m ↦ inr (not_home h i v O O.desk.opening inv ov lt m.0) ]), locks_not h i v O inv ov out), (λ x honest. at v inv ov (is_last v i) refl)))
+s-down {A} {h} {i} {k} {B} {Q} {n} {es} {w} {O} owns free lt pos out refers none still last rest = s-owned owns free pos (λ v inv ov. ((spares h i v O ov refers (elim still [ inl m ↦ inl m | inr m ↦ inr (not_home h i v O O.desk.opening inv ov free lt m.0) ]), locks_not h i v O inv ov out), (λ x honest. at v inv ov (is_last v i) refl)))
   where
     at : (v : World) → Inv v → own_of h v ≡ O → (b : Bool) → is_last v i ≡ b → Good machine Bool h (λ a. []) 0 n B es v ⊥ (with_mark h unmarked (down_if h i v b)) (λ l a u. Wp machine h B Q (k a) l es u)
     at v inv ov true e =
@@ -427,7 +427,7 @@ pub s-walk-down : {A : Type 0} {h i : ℕ} {k : Bool → P machine A} {B : List 
     → ((l : ℕ) (s : Option Node) (u : World) → l + 1 ≡ n → is_live s ≡ false → O.mine.refs i ≡ 1 → own_of h u ≡ record O { inodes = put O.inodes i (Some (record { disk = s; node = s; alone = true; locked = false })) } → Safe machine h B Q (k true) l es u)
     → ((l : ℕ) (u : World) → l + 1 ≡ n → own_of h u ≡ record O { mine = record { refs = put O.mine.refs i (O.mine.refs i - 1); walk = O.mine.walk; pending = O.mine.pending } } → Safe machine h B Q (k false) l es u)
     → Safe machine h B Q (Do (WalkDown i) unmarked k) n es w
-s-walk-down {A} {h} {i} {k} {B} {Q} {n} {es} {w} {O} owns free lt pos out refers none still last rest = s-owned owns free pos (λ v inv ov. ((spares h i v O ov refers (elim still [ inl m ↦ inl m | inr m ↦ inr (not_home h i v O O.desk.opening inv ov lt m.0) ]), locks_not h i v O inv ov out), (λ x honest. at v inv ov (is_last v i) refl)))
+s-walk-down {A} {h} {i} {k} {B} {Q} {n} {es} {w} {O} owns free lt pos out refers none still last rest = s-owned owns free pos (λ v inv ov. ((spares h i v O ov refers (elim still [ inl m ↦ inl m | inr m ↦ inr (not_home h i v O O.desk.opening inv ov free lt m.0) ]), locks_not h i v O inv ov out), (λ x honest. at v inv ov (is_last v i) refl)))
   where
     at : (v : World) → Inv v → own_of h v ≡ O → (b : Bool) → is_last v i ≡ b → Good machine Bool h (λ a. []) 0 n B es v ⊥ (with_mark h unmarked (walk_down_if h i v b)) (λ l a u. Wp machine h B Q (k a) l es u)
     at v inv ov true e =

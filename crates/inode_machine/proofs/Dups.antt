@@ -20,7 +20,7 @@ use Rattle.tree_laws.proofs.Sums.{sum_same, one_no, one_yes}
 use Rattle.tree_laws.proofs.Opened.{well_dup}
 use Rattle.tree_moves.specs.Moves.{Stage, Step}
 use Rattle.tree_moves.specs.Moves.Move.{Own as OwnMove}
-use Rattle.inode_machine.specs.Exec.{is_at, file_count, with_walk, slot_at, entry_at, doubled, double_at, double_if, with_joined}
+use Rattle.inode_machine.specs.Exec.{is_at, file_count, with_walk, slot_at, entry_at, doubled, double_at, double_if, with_joined, child_of}
 use Rattle.inode_machine.specs.Marks.{places, with_mark, with_made, made_by, found_by, new_id}
 use Rattle.inode_machine.specs.World.{Mine, Entry, Desk, World, Note}
 use Rattle.inode_machine.specs.Descriptors.{dups}
@@ -120,11 +120,11 @@ pub record Flagging (h : ℕ) (v : World) (O : Own) (new d : Desk) (c : Bool) : 
 
 -- A desk changes, but not what the table knows of it, nor what the hart names.
 pub desk_changes : (h : ℕ) (v : World) (O : Own) (new d : Desk) (c : Bool) → own_of h v ≡ O → O.desk.lender ≡ None → h < hart_count → Inv v → new ≡ d → SameFiles new (v.desks h)
-    → ((j : ℕ) → own_names (row_of v.all h) new j ≡ true → own_names (row_of v.all h) (v.desks h) j ≡ true) → Stands new (v.all.cwd h) v.all.nodes → 0 < (v.harts h).refs new.directory → new.lender ≡ None
+    → ((j : ℕ) → own_names (row_of v.all h) new j ≡ true → own_names (row_of v.all h) (v.desks h) j ≡ true) → Stands new (v.all.cwd h) v.all.nodes → 0 < (v.harts h).refs new.directory → ((new.directory ≡ (v.desks h).directory) ⊎ (child_of (v.desks h) ≡ None)) → new.lender ≡ None
     → (new.joined ≡ false → (j : ℕ) → v.keeper j ≡ Some h → v.disk j ≡ v.all.nodes j)
     → ((m : Note) → new.noted ≡ Some m → Reached v h m.number → v.alone m.number ≡ false → sort_of (v.all.nodes m.number) ≡ m.sort)
     → (new.full ≡ true → c ≡ false) → (v.clean ≡ false → c ≡ false) → (c ≡ true → v.clean ≡ true) → Flagging h v O new d c
-desk_changes h v O new d c ov free lt inv is same names stands home unlent quiet notes mine his back = record {
+desk_changes h v O new d c ov free lt inv is same names stands home stays unlent quiet notes mine his back = record {
   fair = fair inv (record {
     hart = lt;
     inodes = λ j. inl (record { lock = refl; keeper = refl; disk = refl; node = refl; alone = refl });
@@ -132,7 +132,7 @@ desk_changes h v O new d c ov free lt inv is same names stands home unlent quiet
     rows = λ g ne. refl;
     size = refl;
     ids = inv.ids;
-    shop = record { tied = tied; desks = λ g ne. put_other v.desks h new g ne; numbers = λ g i k e lg ne li q a. (e, a, refl); clean = back };
+    shop = record { tied = tied; desks = λ g ne. put_other v.desks h new g ne; numbers = λ g i k e lg ne li q a. (e, a, refl); clean = back; child = ap (λ (z : Desk). child_of z) here ∙ ap (λ (f : ℕ → Option ℕ). f descriptor_count) same.lent; stays = elim stays [ inl q ↦ inl (ap (λ (z : Desk). z.directory) here ∙ q) | inr q ↦ inr q ] };
     free = ap (λ (z : Desk). z.lender) here ∙ unlent;
     quiet = λ j is f. quiet (sym (ap (λ (z : Desk). z.joined) here) ∙ f) j is;
     sort = λ j. inl refl;
@@ -145,7 +145,7 @@ desk_changes h v O new d c ov free lt inv is same names stands home unlent quiet
     alone = inv.alone;
     kept = λ j is. elim (inv.kept j h is).1 [ inl o ↦ inl (record { fd = o.fd; below = o.below; slot = o.slot; is = fds_is h o.fd ∙ o.is; entry = o.entry; at = o.at; number = o.number }) | inr p ↦ inr p ];
     held = λ j is. inv.held j h is;
-    named = λ j is. inv.named h j lt (names j ((λ z. own_names (row_of v.all h) (sym here z) j) ∙ is));
+    named = λ j is. inv.named h j lt (ap (λ (o : Own). o.desk.lender) ov ∙ free) (names j ((λ z. own_names (row_of v.all h) (sym here z) j) ∙ is));
     pending = λ j is. inv.pending h j lt is;
     walks = λ x is. inv.walks h x lt is;
   });
@@ -205,7 +205,7 @@ pub flagging : (h : ℕ) (v : World) (O : Own) (new d : Desk) (c : Bool) → own
     → (new.full ≡ true → c ≡ false) → (v.clean ≡ false → c ≡ false) → (c ≡ true → v.clean ≡ true) → Flagging h v O new d c
 flagging h v O new d c ov free lt inv is same unlent quiet notes mine his back = desk_changes h v O new d c ov free lt inv is (record { fds = same.fds; hand = same.hand; lent = same.lent; opening = same.opening })
     (λ j q. (λ z. (v.all.cwd h == j) || (hold_names (v.all.holds h) j || (key_names (key_in (row_of v.all h).keys (sym same.opening z)) j || is_at (sym same.left z) j))) ∙ q)
-    (stands_on (v.desks h) new (v.all.cwd h) v.all.nodes same.directory same.left (inv.directory h lt)) (subst (λ (z : ℕ). 0 < (v.harts h).refs z) (sym same.directory) (inv.refers h lt).home) unlent quiet notes mine his back
+    (stands_on (v.desks h) new (v.all.cwd h) v.all.nodes (ap (λ (o : Own). o.desk.lender) ov ∙ free) same.directory same.left (inv.directory h lt)) (subst (λ (z : ℕ). 0 < (v.harts h).refs z) (sym same.directory) (inv.refers h lt).home) (inl same.directory) unlent quiet notes mine his back
 
 pub filling : (h : ℕ) (v : World) (O : Own) → own_of h v ≡ O → O.desk.lender ≡ None → h < hart_count → Inv v → Flagging h v O (record (v.desks h) { full = true }) (record (O.desk) { full = true }) false
 filling h v O ov free lt inv = flagging h v O (record (v.desks h) { full = true }) (record (O.desk) { full = true }) false ov free lt inv (ap (λ (o : Own). record (o.desk) { full = true }) ov)
@@ -482,12 +482,15 @@ s-double {A} {h} fd {k} {B} {Q} {n} {es} {w} {O} owns free lt pos walks none idl
             desks = λ g ne. put_other v.desks h (record (v.desks h) { fds = put (v.desks h).fds f (Some s) }) g ne;
             numbers = λ g i j d lg ne li z a. renewed_at v.files s e (record { file = e.file; sort = e.sort; references = e.references + 1 }) j d hit.at refl a;
             clean = λ c. c;
+            child = ap (λ (z : Desk). child_of z) desk_is;
+            stays = inl (ap (λ (z : Desk). z.directory) desk_is);
           };
           free = same.lender ∙ free;
+          unlent = (ap (λ (o : Own). o.desk.lender) ov ∙ free);
           joined = ap (λ (z : Desk). z.joined) desk_is;
           sorts = λ k x q. renewed_sorts v s e (record { file = e.file; sort = e.sort; references = e.references + 1 }) inv hit.at refl refl k x q;
           noted = λ m q. (sym (ap (λ (z : Desk). z.noted) desk_is) ∙ q, (λ p. let r = refs_walk v.harts h None None h m.number in omega (arith, r, p)));
-          directory = stands_on (v.desks h) (D h) (v.all.cwd h) v.all.nodes (ap (λ (z : Desk). z.directory) desk_is) (ap (λ (z : Desk). z.left) desk_is) (inv.directory h lt);
+          directory = stands_on (v.desks h) (D h) (v.all.cwd h) v.all.nodes (ap (λ (o : Own). o.desk.lender) ov ∙ free) (ap (λ (z : Desk). z.directory) desk_is) (ap (λ (z : Desk). z.left) desk_is) (inv.directory h lt);
           home = ap (λ (z : Desk). z.directory) desk_is;
           few = λ j. let r = refs_walk v.harts h None None h j in let a = (inv.refers h lt).few j in omega (arith, r, a);
           well = subst (λ (z : Tree). IsWellFormed z) (λ i. record (v.all) { fds = put v.all.fds h (put (v.all.fds h) (low i) (hit.tree i)) }) (well_dup v.all h fd e.file inv.well lt hit.file);

@@ -236,8 +236,8 @@ home O i = one_if (O.desk.directory == i)
 pub names_plain : (r : Row) (d : Desk) (i : ℕ) → r.hold ≡ None → d.opening ≡ None → own_names r d i ≡ ((r.cwd == i) || is_at d.left i)
 names_plain r d i hold opening = λ z. (r.cwd == i) || (hold_names (hold z) i || (key_names (key_in r.keys (opening z)) i || is_at d.left i))
 
-pub home_is : (h : ℕ) (w : World) → h < hart_count → Inv w → Idle h w → (own_of h w).desk.directory ≡ (own_of h w).row.cwd
-home_is h w lt inv idle = (inv.directory h lt).at ∙ (λ z. left_or (idle.left z) (w.all.cwd h))
+pub home_is : (h : ℕ) (w : World) → (w.desks h).lender ≡ None → h < hart_count → Inv w → Idle h w → (own_of h w).desk.directory ≡ (own_of h w).row.cwd
+home_is h w free lt inv idle = (inv.directory h lt).at free ∙ (λ z. left_or (idle.left z) (w.all.cwd h))
 
 pub ready_at : (h : ℕ) (w : World) → (w.desks h).lender ≡ None → h < hart_count → Inv w → Idle h w → Ready (home (own_of h w)) (joined_own (own_of h w))
 ready_at h w free lt inv idle = record {
@@ -253,7 +253,7 @@ ready_at h w free lt inv idle = record {
     spare : (i : ℕ) → ((w.all.cwd h == i) || is_at (w.desks h).left i) ≡ true → 0 < one_if ((w.desks h).directory == i)
     spare i q =
         let e : (w.all.cwd h == i) ≡ true = or_false (w.all.cwd h == i) (is_at (w.desks h).left i) (ap (λ (z : Option ℕ). is_at z i) idle.left) q in
-        let o : one_if ((w.desks h).directory == i) ≡ 1 = one_yes ((w.desks h).directory == i) ((λ z. home_is h w lt inv idle z == i) ∙ e) in
+        let o : one_if ((w.desks h).directory == i) ≡ 1 = one_yes ((w.desks h).directory == i) ((λ z. home_is h w free lt inv idle z == i) ∙ e) in
         omega (arith, o)
       where
         or_false : (a b : Bool) → b ≡ false → (a || b) ≡ true → a ≡ true

@@ -205,6 +205,7 @@ s-enter-directory {A} {h} d i {x} {z} X e path {m} {k} {B} {Q} {n} {es} {w} {O} 
           shop = shop_same h (shop_of v) inv.tied;
           fds = refl;
           free = ap (λ (o : Own). o.desk.lender) ov ∙ free;
+          unlent = ap (λ (o : Own). o.desk.lender) ov ∙ free;
           joined = ap (λ (o : Own). o.desk.joined) ov ∙ joined;
           directory = stands_in (v.desks h) (v.all.cwd h) v.all.nodes all.nodes (sorts (v.desks h).directory (λ q. absurd (let a = (inv.directory h lt).sort in let b : sort_of (v.all.nodes (v.desks h).directory) ≡ None = ap (λ (c : ℕ). sort_of (v.all.nodes c)) q ∙ ap (λ (p : Option Node). sort_of p) ni in cc (a, b)))) (inv.directory h lt);
           home = refl;

@@ -12,8 +12,8 @@ use Rattle.tree_laws.proofs.Sums.{sum_part, sum_two}
 use Rattle.inode_machine.specs.Inodes.{sort_of}
 use Rattle.tree_moves.specs.Moves.{Walk}
 use Rattle.inode_machine.specs.World.{Mine, Entry, Note, Desk, World}
-use Rattle.inode_machine.specs.Exec.{is_at}
-use Rattle.inode_machine.specs.Rules.{key_in, Own, Rests, left_or, Stands, shop_of, Shop, Tied, own_names, Held, view, is_hart, if_kept, own_of, Found, Pinned, Reached, reference_limit, References, IsAlone, Inv}
+use Rattle.inode_machine.specs.Exec.{is_at, child_of}
+use Rattle.inode_machine.specs.Rules.{key_in, Own, Rests, left_or, Stands, shop_of, Shop, Tied, own_names, Held, view, is_hart, if_kept, own_of, Found, Pinned, Reached, reference_limit, References, IsAlone, Lends, Inv}
 
 -- Functions changed at one place, and what is kept.
 
@@ -85,9 +85,12 @@ pub record Kin (h : ℕ) (v u : Shop) : Type 0 where
   -- what another hart's descriptor has keeps its number
   pub numbers : (g i k : ℕ) (e : Entry) → g < hart_count → g ≢ h → i < descriptor_count → (v.desks g).fds i ≡ Some k → v.files k ≡ Some e → (f : Entry) × (u.files k ≡ Some f) × (f.file.number ≡ e.file.number)
   pub clean : u.clean ≡ true → v.clean ≡ true
+  -- it has the child that it had, and meanwhile its directory
+  pub child : child_of (u.desks h) ≡ child_of (v.desks h)
+  pub stays : ((u.desks h).directory ≡ (v.desks h).directory) ⊎ (child_of (v.desks h) ≡ None)
 
 pub shop_same : (h : ℕ) (s : Shop) → Tied s → Kin h s s
-shop_same h s tied = record { tied = tied; desks = λ g ne. refl; numbers = λ g i k e lt ne li is at. (e, at, refl); clean = λ c. c }
+shop_same h s tied = record { tied = tied; desks = λ g ne. refl; numbers = λ g i k e lt ne li is at. (e, at, refl); clean = λ c. c; child = refl; stays = inl refl }
 
 -- a step of hart h: of the invariant's parts only what isn't the others'
 pub record Did (h : ℕ) (v u : World) : Type 0 where
@@ -166,9 +169,17 @@ directory_named r d e = at d.left e
     at None q = or_left (r.cwd == d.directory) _ (ap (λ (z : ℕ). r.cwd == z) q ∙ eq_self r.cwd)
     at (Some k) q = or_right (r.cwd == d.directory) _ (or_right (hold_names r.hold d.directory) _ (or_right (key_names (key_in r.keys d.opening) d.directory) _ (ap (λ (z : ℕ). k == z) q ∙ eq_self k)))
 
+-- what a hart that rests names is its current directory in the tree
+pub resting_names : (r : Row) (d : Desk) (n : ℕ) → r.hold ≡ None → d.opening ≡ None → d.left ≡ None → own_names r d n ≡ true → r.cwd ≡ n
+resting_names r d n hold opening left q = eq_is r.cwd n (at (r.cwd == n) refl)
+  where
+    at : (b : Bool) → (r.cwd == n) ≡ b → (r.cwd == n) ≡ true
+    at true e = e
+    at false e = absurd (let a : own_names r d n ≡ false = (λ z. e z || (hold_names (hold z) n || (key_names (key_in r.keys (opening z)) n || is_at (left z) n))) in cc (a, q))
+
 -- it stays where the desk's other things change
-pub stands_on : (d e : Desk) (cwd : ℕ) (nodes : ℕ → Option Node) → e.directory ≡ d.directory → e.left ≡ d.left → Stands d cwd nodes → Stands e cwd nodes
-stands_on d e cwd nodes same left s = record { at = same ∙ s.at ∙ (λ z. left_or (sym left z) cwd); sort = ap (λ (n : ℕ). sort_of (nodes n)) same ∙ s.sort }
+pub stands_on : (d e : Desk) (cwd : ℕ) (nodes : ℕ → Option Node) → d.lender ≡ None → e.directory ≡ d.directory → e.left ≡ d.left → Stands d cwd nodes → Stands e cwd nodes
+stands_on d e cwd nodes free same left s = record { at = λ _. same ∙ s.at free ∙ (λ z. left_or (sym left z) cwd); sort = ap (λ (n : ℕ). sort_of (nodes n)) same ∙ s.sort }
 
 -- and where its type does
 pub stands_in : (d : Desk) (cwd : ℕ) (nodes ns : ℕ → Option Node) → sort_of (ns d.directory) ≡ sort_of (nodes d.directory) → Stands d cwd nodes → Stands d cwd ns
@@ -224,9 +235,9 @@ did_inv h v u inv did =
       ];
       tied = did.shop.tied;
       sorts = did.sorts;
-      named = λ g i lt is. elim (same_or g h) [
+      named = λ g i lt free is. elim (same_or g h) [
         | inl e ↦ subst (λ (z : ℕ). Reached u z i) (sym e) (did.named i (subst (λ (z : ℕ). own_names (row_of u.all z) (u.desks z) i ≡ true) e is))
-        | inr ne ↦ reached_on h v u g i did ne (inv.named g i lt ((λ z. own_names (sym (did.rows g ne) z) (sym (did.shop.desks g ne) z) i) ∙ is))
+        | inr ne ↦ reached_on h v u g i did ne (inv.named g i lt (ap (λ (d : Desk). d.lender) (sym (did.shop.desks g ne)) ∙ free) ((λ z. own_names (sym (did.rows g ne) z) (sym (did.shop.desks g ne) z) i) ∙ is))
       ];
       pending = λ g i lt is. elim (same_or g h) [
         | inl e ↦ subst (λ (z : ℕ). Found u.keeper u.all.nodes z i) (sym e) (did.pending i (subst (λ (z : ℕ). (u.harts z).pending ≡ Some i) e is))
@@ -246,16 +257,16 @@ did_inv h v u inv did =
       directory = λ g lt. elim (same_or g h) [
         | inl e ↦ subst (λ (z : ℕ). Stands (u.desks z) (u.all.cwd z) u.all.nodes) (sym e) did.directory
         | inr ne ↦ subst (λ (d : Desk). Stands d (u.all.cwd g) u.all.nodes) (sym (did.shop.desks g ne)) (let s = inv.directory g lt in record {
-          at = s.at ∙ (λ z. left_or (v.desks g).left (sym (did.rows g ne) z).cwd);
+          at = λ free. s.at free ∙ (λ z. left_or (v.desks g).left (sym (did.rows g ne) z).cwd);
           sort = elim (did.sort (v.desks g).directory) [
             | inl e ↦ e ∙ s.sort
             | inr a ↦ absurd (lone_not h g (v.desks g).directory v inv lt ne a.0 a.1 (inl (inv.refers g lt).home))
           ];
         })
       ];
-      lent = λ g lt has. elim (same_or g h) [
-        | inl e ↦ absurd (has (ap (λ (z : ℕ). (u.desks z).lender) e ∙ did.free))
-        | inr ne ↦ subst (λ (o : Own). Rests o) (sym (did_others h v u did g ne)) (inv.lent g lt (λ q. has (ap (λ (d : Desk). d.lender) (did.shop.desks g ne) ∙ q)))
+      lent = λ g c lt is. elim (same_or g h) [
+        | inl e ↦ absurd (let a = ap (λ (z : ℕ). (u.desks z).lender) (sym e) ∙ is in let b = did.free in cc (a, b))
+        | inr ne ↦ lent g c ne (inv.lent g c lt (ap (λ (d : Desk). d.lender) (sym (did.shop.desks g ne)) ∙ is))
       ];
     }
   where
@@ -266,6 +277,32 @@ did_inv h v u inv did =
     quiet : (j g : ℕ) → g ≢ h → u.keeper j ≡ Some g → (u.desks g).joined ≡ false → Kept j v u ⊎ Changed h j v u → u.disk j ≡ u.all.nodes j
     quiet j g ne is free (inl k) = k.disk ∙ inv.quiet j g (sym k.keeper ∙ is) (ap (λ (d : Desk). d.joined) (sym (did.shop.desks g ne)) ∙ free) ∙ sym k.node
     quiet j g ne is free (inr c) = not_ours h g (u.keeper j) c.after ne is
+
+    lent : (g c : ℕ) → g ≢ h → Lends v c g → Lends u c g
+    lent g c ne l = record {
+      hart = l.hart;
+      free = elim (same_or c h) [ inl e ↦ ap (λ (z : ℕ). (u.desks z).lender) e ∙ did.free | inr nc ↦ ap (λ (d : Desk). d.lender) (did.shop.desks c nc) ∙ l.free ];
+      child = child (same_or c h);
+      rests = subst (λ (o : Own). Rests o) (sym (did_others h v u did g ne)) l.rests;
+      directory = elim l.directory [
+        | inl e ↦ inl (cwd ∙ e ∙ ap (λ (d : Desk). d.directory) (sym (did.shop.desks g ne)))
+        | inr e ↦ inr (cwd ∙ e ∙ stays (same_or c h))
+      ];
+    }
+      where
+        cwd : u.all.cwd g ≡ v.all.cwd g
+        cwd = ap (λ (r : Row). r.cwd) (did.rows g ne)
+
+        child : ((c ≡ h) ⊎ (c ≢ h)) → child_of (u.desks c) ≡ Some g
+        child (inl e) = ap (λ (z : ℕ). child_of (u.desks z)) e ∙ did.shop.child ∙ ap (λ (z : ℕ). child_of (v.desks z)) (sym e) ∙ l.child
+        child (inr nc) = ap (λ (d : Desk). child_of d) (did.shop.desks c nc) ∙ l.child
+
+        stays : ((c ≡ h) ⊎ (c ≢ h)) → (v.desks c).directory ≡ (u.desks c).directory
+        stays (inr nc) = ap (λ (d : Desk). d.directory) (sym (did.shop.desks c nc))
+        stays (inl e) = elim did.shop.stays [
+          | inl q ↦ ap (λ (z : ℕ). (v.desks z).directory) e ∙ sym q ∙ ap (λ (z : ℕ). (u.desks z).directory) (sym e)
+          | inr q ↦ absurd (let a = l.child in let b : child_of (v.desks c) ≡ None = ap (λ (z : ℕ). child_of (v.desks z)) e ∙ q in cc (a, b))
+        ]
 
     -- what another hart reaches wasn't this one's alone
     still_shared : (g j : ℕ) → g < hart_count → g ≢ h → Reached v g j → u.alone j ≡ false → Kept j v u ⊎ Changed h j v u → v.alone j ≡ false

@@ -22,7 +22,7 @@ use Rattle.tree_laws.proofs.Sums.{sum_part, one_yes}
 use Rattle.tree_laws.specs.WellFormed.{one_if}
 use Rattle.tree_laws.proofs.Maps.{eq_self}
 use Rattle.inode_machine.specs.Rules.{Own}
-use Rattle.inode_machine.proofs.Frame.{shop_same, put_elim, ours_none, ours_some, kept_here, Did, Fair, fair, fair_then, own_inodes, has_inode, found_more, one_refs, two_refs, stands_in, directory_named, refers_put}
+use Rattle.inode_machine.proofs.Frame.{shop_same, put_elim, ours_none, ours_some, kept_here, Did, Fair, fair, fair_then, own_inodes, has_inode, found_more, one_refs, two_refs, stands_in, directory_named, refers_put, resting_names}
 use Rattle.inode_machine.proofs.Rules.{s-owned, quiet, each_refs, here_refs, walks_refs, total_same, total_changed, my_refs, is_me, has_disk, has_node, locks_it}
 use Rattle.inode_machine.proofs.Counting.{Writes, writes, spares, not_home}
 use Rattle.inode_machine.proofs.Rows.{hart_not}
@@ -81,7 +81,7 @@ locking_kept h i x v O ov free lt inv isi out = record { unlocked = none (v.lock
           alone = λ j is. let a = inv.alone j is in record { hart = a.hart; kept = same j ∙ a.kept; dead = a.dead; counts = a.counts };
           kept = λ j is. (inv.kept j h (sym (same j) ∙ is)).1;
           held = λ j is. put_elim v.lock i (Some h) j (λ z. (z ≡ Some h) ⊎ (v.alone j ≡ true)) (λ q. inl refl) (λ q. inv.held j h (sym (same j) ∙ is));
-          named = λ j is. inv.named h j lt is;
+          named = λ j is. inv.named h j lt (ap (λ (o : Own). o.desk.lender) ov ∙ free) is;
           pending = λ j is. found_more h v u j (λ d q. (same d ∙ q, refl)) (inv.pending h j lt is);
           walks = λ y is. inv.walks h y lt is;
         }
@@ -165,7 +165,7 @@ unnamed : (h i : ℕ) (v : World) → Inv v → h < hart_count → v.alone i ≡
 unfolding is_named
 unnamed h i v inv lt lone kept mine = none_any hart_count _ (λ g lg. hart_not g i v inv lg (let o = one_refs v h i inv lt in let c = counts in omega (arith, o, c)) (elim (same_or g h) [
   | inl e ↦ ap (λ (z : ℕ). own_names (row_of v.all z) (v.desks z) i) e ∙ mine
-  | inr ne ↦ elim (either (own_names (row_of v.all g) (v.desks g) i)) [ inr y ↦ y | inl y ↦ absurd (reached g lg ne (inv.named g i lg y)) ]
+  | inr ne ↦ elim (either (own_names (row_of v.all g) (v.desks g) i)) [ inr y ↦ y | inl y ↦ absurd (names_not g lg ne (v.desks g).lender refl y) ]
 ]))
   where
     a : IsAlone v.keeper v.all.nodes v.refs v.harts i
@@ -177,6 +177,24 @@ unnamed h i v inv lt lone kept mine = none_any hart_count _ (λ g lg. hart_not g
     reached : (g : ℕ) → g < hart_count → g ≢ h → Reached v g i → ⊥
     reached g lg ne (inl p) = let o = two_refs v g h i inv lg lt ne in let c = counts in omega (arith, o, c, p)
     reached g lg ne (inr p) = let f = inv.pending g i lg p in let l = look_live v.all f.directory i f.name inv.well f.finds in let u = a.dead in absurd (cc (l, u))
+
+    -- nor does a hart that gets another's directory
+    names_not : (g : ℕ) → g < hart_count → g ≢ h → (o : Option ℕ) → (v.desks g).lender ≡ o → own_names (row_of v.all g) (v.desks g) i ≡ true → ⊥
+    names_not g lg ne None q y = reached g lg ne (inv.named g i lg q y)
+    names_not g lg ne (Some c) q y =
+        let l = inv.lent g c lg q in
+        let at = resting_names (row_of v.all g) (v.desks g) i l.rests.hold l.rests.opening l.rests.left y in
+        elim l.directory [
+          | inl e ↦ reached g lg ne (inl (let p = (inv.refers g lg).home in let r : (v.harts g).refs (v.desks g).directory ≡ (v.harts g).refs i = ap (v.harts g).refs (sym e ∙ at) in omega (arith, p, r)))
+          | inr e ↦ elim (same_or c h) [
+            | inr nc ↦ reached c l.hart nc (inl (let p = (inv.refers c l.hart).home in let r : (v.harts c).refs (v.desks c).directory ≡ (v.harts c).refs i = ap (v.harts c).refs (sym e ∙ at) in omega (arith, p, r)))
+            | inl s ↦ (
+                let d : own_names (row_of v.all c) (v.desks c) i ≡ true = ap (own_names (row_of v.all c) (v.desks c)) (sym (sym e ∙ at)) ∙ directory_named (row_of v.all c) (v.desks c) ((inv.directory c l.hart).at l.free) in
+                let b : own_names (row_of v.all c) (v.desks c) i ≡ false = ap (λ (z : ℕ). own_names (row_of v.all z) (v.desks z) i) s ∙ mine in
+                absurd (cc (d, b))
+                )
+          ]
+        ]
 
 -- The type of a dead inode is cleared on the disk.
 pub s-free : {A : Type 0} {h i : ℕ} {x : Held} {k : Unit {0} → P machine A} {B : List Step → Type 0} {Q : A → List Step → World → Type 0} {n : ℕ} {es : List Step} {w : World} {O : Own}
@@ -210,7 +228,7 @@ s-free {A} {h} {i} {x} {k} {B} {Q} {n} {es} {w} {O} owns free lt pos joined isi 
         out = unnamed h i v inv lt lone_at kept (ap (λ (o : Own). own_names o.row o.desk i) ov ∙ mine)
 
         not_directory : (v.desks h).directory ≢ i
-        not_directory q = let a = directory_named (row_of v.all h) (v.desks h) (inv.directory h lt).at in let b : own_names (row_of v.all h) (v.desks h) (v.desks h).directory ≡ own_names O.row O.desk i = ap (λ (o : Own). own_names o.row o.desk (v.desks h).directory) ov ∙ ap (own_names O.row O.desk) q in cc (a, b, mine)
+        not_directory q = let a = directory_named (row_of v.all h) (v.desks h) ((inv.directory h lt).at (ap (λ (o : Own). o.desk.lender) ov ∙ free)) in let b : own_names (row_of v.all h) (v.desks h) (v.desks h).directory ≡ own_names O.row O.desk i = ap (λ (o : Own). own_names o.row o.desk (v.desks h).directory) ov ∙ ap (own_names O.row O.desk) q in cc (a, b, mine)
 
         tree : settle (record (v.all) { nodes = put v.all.nodes i None }) ≡ settle v.all
         tree = settle_nodes v.all (put v.all.nodes i None) v.all.nodes (λ j. elim (same_or j i) [
@@ -254,7 +272,7 @@ s-free {A} {h} {i} {x} {k} {B} {Q} {n} {es} {w} {O} owns free lt pos joined isi 
               alone = λ j is. let a = inv.alone j is in record { hart = a.hart; kept = a.kept; dead = put_elim v.all.nodes i None j (λ z. is_live z ≡ false) (λ q. refl) (λ q. a.dead); counts = a.counts };
               kept = λ j is. (inv.kept j h is).1;
               held = λ j is. inv.held j h is;
-              named = λ j is. inv.named h j lt is;
+              named = λ j is. inv.named h j lt (ap (λ (o : Own). o.desk.lender) ov ∙ free) is;
               pending = λ j is. absurd (let p : (v.harts h).pending ≡ None = ap (λ (o : Own). o.mine.pending) ov ∙ none in cc (p, is));
               walks = λ y is. inv.walks h y lt is;
             }
@@ -322,7 +340,7 @@ s-give-alone {A} {h} {i} {x} {k} {B} {Q} {n} {es} {w} {O} owns free lt pos isi h
             | inl q ↦ inr (ap v.alone q ∙ ap (λ (y : Held). y.alone) (has_inode h i v O x ov isi).1 ∙ lone)
             | inr ne ↦ elim (inv.held j h is) [ inl a ↦ inl (put_other v.lock i None j ne ∙ a) | inr a ↦ inr a ]
           ];
-          named = λ j is. inv.named h j lt is;
+          named = λ j is. inv.named h j lt (ap (λ (o : Own). o.desk.lender) ov ∙ free) is;
           pending = λ j is. inv.pending h j lt is;
           walks = λ y is. inv.walks h y lt is;
         }
@@ -349,7 +367,7 @@ pub s-down-freed : {A : Type 0} {h i : ℕ} {x : Held} {k : Bool → P machine A
     → ((l : ℕ) (u : World) → l + 1 ≡ n → own_of h u ≡ record O { inodes = put O.inodes i None; mine = record { refs = put O.mine.refs i (O.mine.refs i - 1); walk = O.mine.walk; pending = O.mine.pending } } → Safe machine h B Q (k false) l es u)
     → Safe machine h B Q (Do (Down i) unmarked k) n es w
 s-down-freed {A} {h} {i} {x} {k} {B} {Q} {n} {es} {w} {O} owns free lt pos isi lone out blank gone one none unnamed unwalked rest = s-owned owns free pos (λ v inv ov. (
-  (spares h i v O ov (omega (arith, one)) (inr (not_home h i v O O.desk.opening inv ov lt unnamed)), not_out v ov),
+  (spares h i v O ov (omega (arith, one)) (inr (not_home h i v O O.desk.opening inv ov free lt unnamed)), not_out v ov),
   (λ _ _.
       subst (λ (b : Bool). Good machine Bool h (λ a. []) 0 n B es v ⊥ (with_mark h unmarked (down_if h i v b)) (λ l a u. Wp machine h B Q (k a) l es u)) (sym (and_none (v.refs i == 1) (v.disk i) (has_disk h i v O x ov isi ∙ blank)))
       (good v inv ov)),
@@ -444,7 +462,7 @@ s-down-freed {A} {h} {i} {x} {k} {B} {Q} {n} {es} {w} {O} owns free lt pos isi l
                 | inr ne ↦ inv.noted h n lt is (shrink n.number r) (sym (put_other v.alone i false n.number ne) ∙ s)
               ];
               directory = inv.directory h lt;
-              refers = refers_put (v.harts h) (u.harts h) (v.desks h) (v.desks h) i ((v.harts h).refs i - 1) (ap (λ (m : Mine). m.refs) (put_same v.harts h new)) refl (let a = (inv.refers h lt).few i in omega (arith, a)) (λ q. absurd (not_home h i v O O.desk.opening inv ov lt unnamed (ap (λ (o : Own). o.desk.directory) (sym ov) ∙ q))) (inv.refers h lt);
+              refers = refers_put (v.harts h) (u.harts h) (v.desks h) (v.desks h) i ((v.harts h).refs i - 1) (ap (λ (m : Mine). m.refs) (put_same v.harts h new)) refl (let a = (inv.refers h lt).few i in omega (arith, a)) (λ q. absurd (not_home h i v O O.desk.opening inv ov free lt unnamed (ap (λ (o : Own). o.desk.directory) (sym ov) ∙ q))) (inv.refers h lt);
               well = inv.well;
               counts = λ j. elim (same_or j i) [
                 | inl q ↦ subst (λ (z : ℕ). u.refs z ≡ v.slots z + sum_below hart_count (λ g. (u.harts g).refs z)) (sym q)
@@ -462,7 +480,7 @@ s-down-freed {A} {h} {i} {x} {k} {B} {Q} {n} {es} {w} {O} owns free lt pos isi l
               ];
               kept = λ j is. pin j (not_i j is) (inv.kept j h (was j is)).1;
               held = λ j is. elim (inv.held j h (was j is)) [ inl a ↦ inl a | inr a ↦ inr (put_other v.alone i false j (not_i j is) ∙ a) ];
-              named = λ j is. elim (inv.named h j lt is) [
+              named = λ j is. elim (inv.named h j lt (ap (λ (o : Own). o.desk.lender) ov ∙ free) is) [
                 | inl a ↦ inl (grow j (λ q. absurd (let f : own_names O.row O.desk j ≡ true = ap (λ (o : Own). own_names o.row o.desk j) (sym ov) ∙ is in let g : own_names O.row O.desk j ≡ false = ap (own_names O.row O.desk) q ∙ unnamed in cc (f, g))) a)
                 | inr a ↦ absurd (cc (a, pend))
               ];

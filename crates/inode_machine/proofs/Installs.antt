@@ -16,7 +16,7 @@ use Rattle.tree_moves.specs.Moves.{Step}
 use Rattle.inode_machine.specs.World.{Mine, Entry, Desk, Mark, World}
 use Rattle.inode_machine.specs.World.Op.{Install}
 use Rattle.inode_machine.specs.Inodes.{Sort, sort_of}
-use Rattle.inode_machine.specs.Exec.{file_count, install_if, installed, is_at, opening_id, or_zero}
+use Rattle.inode_machine.specs.Exec.{file_count, install_if, installed, is_at, opening_id, or_zero, child_of}
 use Rattle.inode_machine.specs.Marks.{marked, places, with_mark}
 use Rattle.inode_machine.specs.Rules.{id_at, key_in, number_is, own_names, own_of, shop_of, uses, users, Held, IsOpening, Own, Inv, Opens, Reached, Shop, Tied, machine}
 use Rattle.inode_machine.proofs.Frame.{put_elim, stands_on, has_inode, one_refs, Did, fair, refers_put}
@@ -202,7 +202,7 @@ s-install {A} {h} {x} fd s f sort {m} {k} {B} {Q} {n} {es} {w} {O} owns free lt 
     let a : (v.desks h).hand ≡ Some s = ap (λ (o : Own). o.desk.hand) ov ∙ hand in
     let b : has_room (v.desks h).fds ≡ true = ap (λ (o : Own). has_room o.desk.fds) ov ∙ room in
     let c : lowest (v.desks h).fds ≡ fd = ap (λ (o : Own). lowest o.desk.fds) ov ∙ low in (
-      ((λ q. cc (a, q)), start, spares h f.number v O ov refers (elim may [ inl y ↦ inl y | inr y ↦ inr (not_home h f.number v O None inv ov lt y) ])),
+      ((λ q. cc (a, q)), start, spares h f.number v O ov refers (elim may [ inl y ↦ inl y | inr y ↦ inr (not_home h f.number v O None inv ov free lt y) ])),
       (λ _ _. subst (λ (z : Came (Option ℕ) World). Good machine (Option ℕ) h (λ a. places h (Install f sort) a (m a) v) 0 n B es v ⊥ (with_mark h m z) (λ l a u. Wp machine h B Q (k a) l (onto (own h (places h (Install f sort) a (m a) v)) es) u))
           (sym ((λ i. install_if h v f sort (a i) (b i)) ∙ (λ i. Ran (Some (c i)) (installed h v f sort s (c i))))) (good v inv ov)),
     ))
@@ -263,7 +263,7 @@ s-install {A} {h} {x} fd s f sort {m} {k} {B} {Q} {n} {es} {w} {O} owns free lt 
         named : (j : ℕ) → own_names (row_of v.all h) (u.desks h) j ≡ true → Reached u h j
         named j is =
             let bare : own_names (row_of v.all h) (record (v.desks h) { opening = None }) j ≡ true = (λ z. own_names (row_of v.all h) (sym (put_same v.desks h desk) z) j) ∙ is in
-            elim (inv.named h j lt (key_more (v.all.cwd h == j) (hold_names (v.all.holds h) j) (key_names (key_in (row_of v.all h).keys (v.desks h).opening) j) (is_at (v.desks h).left j) bare)) [
+            elim (inv.named h j lt (ap (λ (o : Own). o.desk.lender) ov ∙ free) (key_more (v.all.cwd h == j) (hold_names (v.all.holds h) j) (key_names (key_in (row_of v.all h).keys (v.desks h).opening) j) (is_at (v.desks h).left j) bare)) [
               | inr p ↦ absurd (cc (p, pend))
               | inl p ↦ inl (grow j (λ q. elim may [
                 | inl m ↦ (let r = my_refs h v O i0 ov in omega (arith, r, m))
@@ -285,7 +285,7 @@ s-install {A} {h} {x} fd s f sort {m} {k} {B} {Q} {n} {es} {w} {O} owns free lt 
         home : (v.desks h).directory ≡ i0 → 0 < (v.harts h).refs i0 - 1
         home q = elim may [
           | inl m ↦ (let r = my_refs h v O i0 ov in omega (arith, r, m))
-          | inr m ↦ absurd (not_home h i0 v O None inv ov lt m (ap (λ (p : Own). p.desk.directory) (sym ov) ∙ q))
+          | inr m ↦ absurd (not_home h i0 v O None inv ov free lt m (ap (λ (p : Own). p.desk.directory) (sym ov) ∙ q))
         ]
 
         did : Did h v u
@@ -296,7 +296,7 @@ s-install {A} {h} {x} fd s f sort {m} {k} {B} {Q} {n} {es} {w} {O} owns free lt 
           rows = λ g ne. refl;
           size = refl;
           ids = inv.ids;
-          shop = record { tied = tied; desks = λ g ne. put_other v.desks h desk g ne; numbers = λ g i j e lg ne li r a. (e, stays j e a, refl); clean = λ c. c };
+          shop = record { tied = tied; desks = λ g ne. put_other v.desks h desk g ne; numbers = λ g i j e lg ne li r a. (e, stays j e a, refl); clean = λ c. c; child = ap (λ (d : Desk). child_of d) desk_is; stays = inl (ap (λ (d : Desk). d.directory) desk_is) };
           free = ap (λ (d : Desk). d.lender) desk_is ∙ ap (λ (p : Own). p.desk.lender) ov ∙ free;
           quiet = λ j is g. inv.quiet j h is (sym (ap (λ (d : Desk). d.joined) desk_is) ∙ g);
           sort = λ j. inl refl;
@@ -305,7 +305,7 @@ s-install {A} {h} {x} fd s f sort {m} {k} {B} {Q} {n} {es} {w} {O} owns free lt 
             | inr ne ↦ inv.sorts k e (sym (put_other v.files s (Some (record { file = f; sort = sort; references = 1 })) k ne) ∙ is)
           ];
           noted = λ m q r g. inv.noted h m lt (sym (ap (λ (d : Desk). d.noted) desk_is) ∙ q) (shrink m.number r) g;
-          directory = stands_on (v.desks h) (u.desks h) (v.all.cwd h) v.all.nodes (ap (λ (d : Desk). d.directory) desk_is) (ap (λ (d : Desk). d.left) desk_is) (inv.directory h lt);
+          directory = stands_on (v.desks h) (u.desks h) (v.all.cwd h) v.all.nodes (ap (λ (o : Own). o.desk.lender) ov ∙ free) (ap (λ (d : Desk). d.directory) desk_is) (ap (λ (d : Desk). d.left) desk_is) (inv.directory h lt);
           refers = refers_put (v.harts h) (u.harts h) (v.desks h) (u.desks h) i0 ((v.harts h).refs i0 - 1) (ap (λ (m : Mine). m.refs) (put_same v.harts h new)) (ap (λ (d : Desk). d.directory) desk_is) (let a = (inv.refers h lt).few i0 in omega (arith, a)) (λ q. home q) (inv.refers h lt);
           well = inv.well;
           counts = λ j. elim (same_or j i0) [

@@ -131,13 +131,13 @@ module _ (t : Tree) (f : OpenFile) (v : Node) (well : IsWellFormed t) (has : Has
       spoiled = λ g q. absurd (let a = full g in cc (a, q));
     };
     sorts = λ k e q. subst (λ (z : Entry). sort_of (t.nodes z.file.number) ≡ Some z.sort) (file_at k e q).1 (ap (λ (z : Option Node). sort_of z) has.node);
-    named = λ g i lt is. inl (here g i (cwd g i is));
+    named = λ g i lt free is. inl (here g i (cwd g i is));
     pending = λ g i lt e. absurd cc;
     walks = λ g k lt e. absurd cc;
     noted = λ g n lt e. absurd (let a = noted g in cc (a, e));
     refers = λ g lt. record { few = λ i. let a = one_most (t.cwd g == i) in omega (arith, a); home = here g (D g).directory ((λ z. t.cwd g == directory g z) ∙ eq_self (t.cwd g)) };
-    directory = λ g lt. record { at = directory g ∙ (λ z. left_or (sym (left g) z) (t.cwd g)); sort = ap (λ (z : ℕ). sort_of (t.nodes z)) (directory g) ∙ directory_sort t g well lt };
-    lent = λ g lt there. absurd (there (lender g));
+    directory = λ g lt. record { at = λ _. directory g ∙ (λ z. left_or (sym (left g) z) (t.cwd g)); sort = ap (λ (z : ℕ). sort_of (t.nodes z)) (directory g) ∙ directory_sort t g well lt };
+    lent = λ g c lt is. absurd (let a = lender g in cc (a, is));
   }
     where
       here : (g i : ℕ) → (t.cwd g == i) ≡ true → 0 < one_if (t.cwd g == i)

@@ -12,7 +12,7 @@ use Rattle.tree_laws.proofs.Maps.{either, eq_self, eq_is, same_or, put_same, put
 use Rattle.tree_laws.proofs.Sums.{sum_same}
 use Rattle.tree_laws.proofs.Opened.{well_opened}
 use Rattle.inode_machine.specs.World.{Desk, World}
-use Rattle.inode_machine.specs.Exec.{first_from, is_at, is_nothing, or_zero}
+use Rattle.inode_machine.specs.Exec.{first_from, is_at, is_nothing, or_zero, child_of}
 use Rattle.inode_machine.specs.Marks.{new_id}
 use Rattle.inode_machine.specs.Opening.{file_for}
 use Rattle.inode_machine.specs.Rules.{id_at, key_in, own_names, own_of, shop_of, users, Own, Inv, Reached, Shop, Tied}
@@ -225,13 +225,13 @@ opening h fd j flags x v O ov free lt inv idle low room is reached = record {
     rows = λ g ne. λ z. record { cwd = v.all.cwd g; hold = v.all.holds g; fds = put_other v.all.fds h (put (v.all.fds h) fd (Some id)) g ne z; keys = λ i. keys g ne i z };
     size = refl;
     ids = λ k le. put_other v.all.files id (Some (file_for j flags)) k (λ e. absurd (let b = fresh.below in omega (arith, b, le, e))) ∙ inv.ids k (omega (arith, le));
-    shop = record { tied = opens_tied (shop_of v) h fd id (file_for j flags) inv.tied (record { hart = lt; below = below; idle = opening_v; free = free_fd; unused = fresh.least.unused; stands = λ g l k lg ll q e. absurd (let o = inv.well.descriptors g l k lg ll q in let a = o.is in cc (a, e)); offset = refl }); desks = λ g ne. put_other v.desks h new g ne; numbers = λ g i k e lg ne li q a. (e, a, refl); clean = λ c. c };
+    shop = record { tied = opens_tied (shop_of v) h fd id (file_for j flags) inv.tied (record { hart = lt; below = below; idle = opening_v; free = free_fd; unused = fresh.least.unused; stands = λ g l k lg ll q e. absurd (let o = inv.well.descriptors g l k lg ll q in let a = o.is in cc (a, e)); offset = refl }); desks = λ g ne. put_other v.desks h new g ne; numbers = λ g i k e lg ne li q a. (e, a, refl); clean = λ c. c; child = ap (λ (d : Desk). child_of d) here; stays = inl (ap (λ (d : Desk). d.directory) here) };
     free = ap (λ (d : Desk). d.lender) here ∙ ap (λ (o : Own). o.desk.lender) ov ∙ free;
     quiet = λ i is2 f. inv.quiet i h is2 (sym (ap (λ (d : Desk). d.joined) here) ∙ f);
     sort = λ i. inl refl;
     sorts = inv.sorts;
     noted = λ m q r s. inv.noted h m lt (sym (ap (λ (d : Desk). d.noted) here) ∙ q) r s;
-    directory = stands_on (v.desks h) (put v.desks h new h) (v.all.cwd h) v.all.nodes (ap (λ (d : Desk). d.directory) here) (ap (λ (d : Desk). d.left) here) (inv.directory h lt);
+    directory = stands_on (v.desks h) (put v.desks h new h) (v.all.cwd h) v.all.nodes (ap (λ (o : Own). o.desk.lender) ov ∙ free) (ap (λ (d : Desk). d.directory) here) (ap (λ (d : Desk). d.left) here) (inv.directory h lt);
     refers = refers_on (v.harts h) (v.harts h) (v.desks h) (put v.desks h new h) (λ j. refl) (ap (λ (d : Desk). d.directory) here) (inv.refers h lt);
     well = well;
     counts = inv.counts;
@@ -335,7 +335,7 @@ opening h fd j flags x v O ov free lt inv idle low room is reached = record {
     named : (i : ℕ) → own_names (row_of T h) (put v.desks h new h) i ≡ true → Reached v h i
     named i q = elim (either (j == i)) [
       | inl y ↦ subst (λ (z : ℕ). Reached v h z) (eq_is j i y) reached
-      | inr y ↦ inv.named h i lt ((λ z. (v.all.cwd h == i) || (hold_names (v.all.holds h) i || (key_names (key_in (row_of v.all h).keys (opening_v z)) i || is_at (v.desks h).left i)))
+      | inr y ↦ inv.named h i lt (ap (λ (o : Own). o.desk.lender) ov ∙ free) ((λ z. (v.all.cwd h == i) || (hold_names (v.all.holds h) i || (key_names (key_in (row_of v.all h).keys (opening_v z)) i || is_at (v.desks h).left i)))
           ∙ sym ((λ z. (v.all.cwd h == i) || (hold_names (v.all.holds h) i || (key_names (keyed z) i || is_at (v.desks h).left i))) ∙ (λ z. (v.all.cwd h == i) || (hold_names (v.all.holds h) i || (y z || is_at (v.desks h).left i))))
           ∙ (λ z. own_names (row_of T h) (sym here z) i) ∙ q)
     ]

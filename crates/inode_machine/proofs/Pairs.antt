@@ -113,7 +113,7 @@ pub s-down-kept : {A : Type 0} {h i : ℕ} {x : Held} (y : Node) {k : Bool → P
     → ((l : ℕ) (u : World) → l + 1 ≡ n → own_of h u ≡ record O { inodes = put O.inodes i (Some (record x { locked = true })) } → Safe machine h B Q (k true) l es u)
     → Safe machine h B Q (Do (Down i) unmarked k) n es w
 s-down-kept {A} {h} {i} {x} y {k} {B} {Q} {n} {es} {w} {O} owns free lt pos isi lone out disk dead one unnamed rest = s-owned owns free pos (λ v inv ov. (
-  (spares h i v O ov (omega (arith, one)) (inr (not_home h i v O O.desk.opening inv ov lt unnamed)), (λ e. let a = locking_kept h i x v O ov free lt inv isi out in let b = a.unlocked in cc (b, e))),
+  (spares h i v O ov (omega (arith, one)) (inr (not_home h i v O O.desk.opening inv ov free lt unnamed)), (λ e. let a = locking_kept h i x v O ov free lt inv isi out in let b = a.unlocked in cc (b, e))),
   (λ _ _. subst (λ (b : Bool). Good machine Bool h (λ a. []) 0 n B es v ⊥ (with_mark h unmarked (down_if h i v b)) (λ l a u. Wp machine h B Q (k a) l es u)) (sym (last v inv ov)) (good v inv ov)),
 ))
   where

@@ -218,8 +218,11 @@ part_good {A} h more n i B Q es v O x fd count s e b p ov free lt inv walks none
         desks = λ g ne. refl;
         numbers = λ g j c d lg ne lj q a. on c d a;
         clean = λ c. c;
+        child = refl;
+        stays = inl refl;
       };
       free = ap (λ (o : Own). o.desk.lender) ov ∙ free;
+      unlent = ap (λ (o : Own). o.desk.lender) ov ∙ free;
       joined = refl;
       sorts = λ j d q. renewed_sorts v s e (entry_moved e (length b)) inv hit.at refl refl j d q;
       noted = λ m q. (q, (λ z. let r = refs_walk v.harts h None None h m.number in omega (arith, r, z)));

@@ -175,6 +175,7 @@ s-clear {A} {h} d c {x} {z} X Z e path {k} {B} {Q} {n} {es} {w} {O} owns free lt
           shop = shop_same h (shop_of v) inv.tied;
           fds = refl;
           free = ap (λ (o : Own). o.desk.lender) ov ∙ free;
+          unlent = ap (λ (o : Own). o.desk.lender) ov ∙ free;
           joined = ap (λ (o : Own). o.desk.joined) ov ∙ joined;
           directory = stands_in (v.desks h) (v.all.cwd h) v.all.nodes all.nodes (sorts (v.desks h).directory) (inv.directory h lt);
           home = refl;

@@ -51,13 +51,13 @@ rests t well files holds fds =
         spoiled = λ g q. absurd cc;
       };
       sorts = λ k e q. absurd cc;
-      named = λ g i lt is. inl (here g i (cwd g i lt is));
+      named = λ g i lt free is. inl (here g i (cwd g i lt is));
       pending = λ g i lt e. absurd cc;
       walks = λ g k lt e. absurd cc;
       noted = λ g n lt e. absurd cc;
       refers = λ g lt. record { few = λ i. let a = one_most (t.cwd g == i) in omega (arith, a); home = here g (t.cwd g) (eq_self (t.cwd g)) };
-      directory = λ g lt. record { at = refl; sort = directory_sort t g well lt };
-      lent = λ g lt has. absurd (has refl);
+      directory = λ g lt. record { at = λ _. refl; sort = directory_sort t g well lt };
+      lent = λ g c lt is. absurd cc;
     }
   where
     here : (g i : ℕ) → (t.cwd g == i) ≡ true → 0 < one_if (t.cwd g == i)

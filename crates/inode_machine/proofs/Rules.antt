@@ -212,7 +212,7 @@ locking h i v O ov free lt inv out mine e = record { fair = fair inv did; whole 
           };
           kept = λ j. put_elim v.keeper i (Some h) j (λ z. z ≡ Some h → Pinned v.desks v.files v.harts h j) (λ q is. subst (λ (z : ℕ). Pinned v.desks v.files v.harts h z) (sym q) mine) (λ q is. (inv.kept j h is).1);
           held = λ j is. put_elim v.lock i (Some h) j (λ z. (z ≡ Some h) ⊎ (v.alone j ≡ true)) (λ q. inl refl) (λ q. inv.held j h (sym (put_other v.keeper i (Some h) j q) ∙ is));
-          named = λ j is. inv.named h j lt is;
+          named = λ j is. inv.named h j lt (ap (λ (o : Own). o.desk.lender) ov ∙ free) is;
           pending = λ j is. found_more h v u j more_kept (inv.pending h j lt is);
           walks = λ x is. inv.walks h x lt is;
         }
@@ -396,7 +396,7 @@ ups h i O v0 inv0 ov0 free0 lt may only notes room = record { fair = fair inv0 (
           };
           kept = λ j is. pin v j (inv.kept j h is).1;
           held = λ j is. inv.held j h is;
-          named = λ j is. reach v j ov (inv.named h j lt is);
+          named = λ j is. reach v j ov (inv.named h j lt (ap (λ (o : Own). o.desk.lender) ov ∙ free0) is);
           pending = λ j is. absurd (let a : (put v.harts h (new v) h).pending ≡ None = ap (λ (m : Mine). m.pending) (put_same v.harts h (new v)) in cc (a, is));
           walks = λ x is. reach v x.at ov (inv.walks h x lt (sym (ap (λ (m : Mine). m.walk) (put_same v.harts h (new v))) ∙ is));
         }

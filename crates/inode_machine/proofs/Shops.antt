@@ -22,6 +22,7 @@ use Rattle.inode_machine.specs.Exec.{is_at}
 pub record Sells (h : ℕ) (v : World) (F : ℕ → Option Entry) (D : ℕ → Desk) (S : ℕ → ℕ) (T : Tree) (H : ℕ → Mine) : Type 0 where
   pub kin : Kin h (shop_of v) (record { files = F; desks = D; ids = v.ids; slots = S; clean = v.clean; tree_fds = T.fds; tree_files = T.files })
   pub free : (D h).lender ≡ None
+  pub unlent : (v.desks h).lender ≡ None
   pub joined : (D h).joined ≡ (v.desks h).joined
   pub sorts : (k : ℕ) (e : Entry) → F k ≡ Some e → sort_of (v.all.nodes e.file.number) ≡ Some e.sort
   pub noted : (m : Note) → (D h).noted ≡ Some m → ((v.desks h).noted ≡ Some m) × (0 < (H h).refs m.number → 0 < (v.harts h).refs m.number)
@@ -65,7 +66,7 @@ sells_did h v F D S T H lt inv s =
       alone = λ j is. let a = inv.alone j is in record { hart = a.hart; kept = a.kept; dead = ap (λ (f : ℕ → Option Node). is_live (f j)) s.nodes ∙ a.dead; counts = s.lone j a };
       kept = λ j is. elim (inv.kept j h is).1 [ inl o ↦ s.pinned j is o | inr p ↦ inr (let r = s.refs j in omega (arith, r, p)) ];
       held = λ j is. inv.held j h is;
-      named = λ j is. elim (inv.named h j lt (s.names j is)) [ inl p ↦ inl (let r = s.refs j in omega (arith, r, p)) | inr p ↦ absurd (let e = s.still in cc (e, p)) ];
+      named = λ j is. elim (inv.named h j lt s.unlent (s.names j is)) [ inl p ↦ inl (let r = s.refs j in omega (arith, r, p)) | inr p ↦ absurd (let e = s.still in cc (e, p)) ];
       pending = λ j is. absurd (let e = s.found in cc (e, is));
       walks = λ x is. absurd (let e = s.walk in cc (e, is));
     }

@@ -15,7 +15,7 @@ use Rattle.inode_machine.specs.World.{Desk, Mark, World}
 use Rattle.inode_machine.specs.World.Op.{Slot, Install}
 use Rattle.inode_machine.specs.World.Mark.{Mends}
 use Rattle.inode_machine.specs.Inodes.{Sort}
-use Rattle.inode_machine.specs.Exec.{file_count, first_from, install_if, is_at, is_empty_slot, is_nothing, slot_if}
+use Rattle.inode_machine.specs.Exec.{file_count, first_from, install_if, is_at, is_empty_slot, is_nothing, slot_if, child_of}
 use Rattle.inode_machine.specs.Marks.{marked, mended, places, with_mark}
 use Rattle.inode_machine.specs.Rules.{id_at, own_names, own_of, shop_of, users, Own, Inv, Tied, machine}
 use Rattle.inode_machine.proofs.Frame.{put_elim, stands_on, Fair, fair, refers_on}
@@ -48,20 +48,20 @@ handing h o v O ov free lt inv empty = record {
     rows = λ g ne. refl;
     size = refl;
     ids = inv.ids;
-    shop = record { tied = tied; desks = λ g ne. put_other v.desks h new g ne; numbers = λ g i j e lg ne li r a. (e, a, refl); clean = λ c. c };
+    shop = record { tied = tied; desks = λ g ne. put_other v.desks h new g ne; numbers = λ g i j e lg ne li r a. (e, a, refl); clean = λ c. c; child = ap (λ (d : Desk). child_of d) here; stays = inl (ap (λ (d : Desk). d.directory) here) };
     free = ap (λ (d : Desk). d.lender) here ∙ ap (λ (p : Own). p.desk.lender) ov ∙ free;
     quiet = λ j is f. inv.quiet j h is (sym (ap (λ (d : Desk). d.joined) here) ∙ f);
     sort = λ j. inl refl;
     sorts = inv.sorts;
     noted = λ m q r s. inv.noted h m lt (sym (ap (λ (d : Desk). d.noted) here) ∙ q) r s;
-    directory = stands_on (v.desks h) (D h) (v.all.cwd h) v.all.nodes (ap (λ (d : Desk). d.directory) here) (ap (λ (d : Desk). d.left) here) (inv.directory h lt);
+    directory = stands_on (v.desks h) (D h) (v.all.cwd h) v.all.nodes (ap (λ (o : Own). o.desk.lender) ov ∙ free) (ap (λ (d : Desk). d.directory) here) (ap (λ (d : Desk). d.left) here) (inv.directory h lt);
     refers = refers_on (v.harts h) (v.harts h) (v.desks h) (D h) (λ j. refl) (ap (λ (d : Desk). d.directory) here) (inv.refers h lt);
     well = inv.well;
     counts = inv.counts;
     alone = inv.alone;
     kept = λ j is. elim (inv.kept j h is).1 [ inl x ↦ inl (record { fd = x.fd; below = x.below; slot = x.slot; is = fds_is h x.fd ∙ x.is; entry = x.entry; at = x.at; number = x.number }) | inr p ↦ inr p ];
     held = λ j is. inv.held j h is;
-    named = λ j is. inv.named h j lt ((λ z. own_names (row_of v.all h) (sym here z) j) ∙ is);
+    named = λ j is. inv.named h j lt (ap (λ (o : Own). o.desk.lender) ov ∙ free) ((λ z. own_names (row_of v.all h) (sym here z) j) ∙ is);
     pending = λ j is. inv.pending h j lt is;
     walks = λ x is. inv.walks h x lt is;
   });

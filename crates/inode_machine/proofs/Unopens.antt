@@ -10,7 +10,7 @@ use Rattle.tree_laws.proofs.Maps.{eq_not, same_or, put_same, put_other}
 use Rattle.tree_laws.proofs.Sums.{sum_same}
 use Rattle.tree_laws.proofs.Opened.{well_closed}
 use Rattle.inode_machine.specs.World.{Desk, World}
-use Rattle.inode_machine.specs.Exec.{is_at, with_walk}
+use Rattle.inode_machine.specs.Exec.{is_at, with_walk, child_of}
 use Rattle.inode_machine.specs.Marks.{mended, unheld, unmoved, unopened}
 use Rattle.inode_machine.specs.Rules.{id_at, key_in, own_names, own_of, shop_of, users, IsOpening, Own, Inv, Shop, Tied}
 use Rattle.inode_machine.proofs.Frame.{put_elim, is_put, stands_on, Fair, fair, fair_then, refers_on}
@@ -156,20 +156,20 @@ mends_opened h fd v O ov free lt inv opens left hold names = subst (λ (z : Worl
       rows = λ g ne. rows_stay v.all h fd g ne;
       size = refl;
       ids = λ k le. elim (closed_or (record (v.all) { fds = fewer v.all h fd }) k) [ inl q ↦ q ∙ inv.ids k le | inr q ↦ q ];
-      shop = record { tied = tied; desks = λ g ne. put_other v.desks h new g ne; numbers = λ g i k e lg ne li q a. (e, a, refl); clean = λ c. absurd cc };
+      shop = record { tied = tied; desks = λ g ne. put_other v.desks h new g ne; numbers = λ g i k e lg ne li q a. (e, a, refl); clean = λ c. absurd cc; child = ap (λ (d : Desk). child_of d) here; stays = inl (ap (λ (d : Desk). d.directory) here) };
       free = ap (λ (d : Desk). d.lender) here ∙ ap (λ (o : Own). o.desk.lender) ov ∙ free;
       quiet = λ j is2 f. inv.quiet j h is2 (sym (ap (λ (d : Desk). d.joined) here) ∙ f);
       sort = λ j. inl refl;
       sorts = inv.sorts;
       noted = λ m q r s. inv.noted h m lt (sym (ap (λ (d : Desk). d.noted) here) ∙ q) r s;
-      directory = stands_on (v.desks h) (D h) (v.all.cwd h) v.all.nodes (ap (λ (d : Desk). d.directory) here) (ap (λ (d : Desk). d.left) here ∙ sym left_v) (inv.directory h lt);
+      directory = stands_on (v.desks h) (D h) (v.all.cwd h) v.all.nodes (ap (λ (o : Own). o.desk.lender) ov ∙ free) (ap (λ (d : Desk). d.directory) here) (ap (λ (d : Desk). d.left) here ∙ sym left_v) (inv.directory h lt);
       refers = refers_on (v.harts h) (v.harts h) (v.desks h) (D h) (λ j. refl) (ap (λ (d : Desk). d.directory) here) (inv.refers h lt);
       well = well_closed v.all h fd inv.well;
       counts = inv.counts;
       alone = inv.alone;
       kept = λ j is2. elim (inv.kept j h is2).1 [ inl x ↦ inl (record { fd = x.fd; below = x.below; slot = x.slot; is = fds_is h x.fd ∙ x.is; entry = x.entry; at = x.at; number = x.number }) | inr p ↦ inr p ];
       held = λ j is2. inv.held j h is2;
-      named = λ j is2. inv.named h j lt (fewer_names j is2);
+      named = λ j is2. inv.named h j lt (ap (λ (o : Own). o.desk.lender) ov ∙ free) (fewer_names j is2);
       pending = λ j is2. inv.pending h j lt is2;
       walks = λ x is2. inv.walks h x lt is2;
     })

@@ -72,7 +72,7 @@ walk_named_did h k p v free lt inv names notes lands finds =
 -- the same, where nothing that was found is left to be counted up
 pub walk_did : (h : ℕ) (k : Option Walk) (p : Option ℕ) (v : World) → (v.desks h).lender ≡ None → h < hart_count → Inv v → (v.harts h).pending ≡ None → ((m : Note) → (v.desks h).noted ≡ Some m → p ≡ Some m.number → sort_of (v.all.nodes m.number) ≡ m.sort) → ((x : Walk) → k ≡ Some x → (0 < (v.harts h).refs x.at) ⊎ (p ≡ Some x.at))
     → ((i : ℕ) → p ≡ Some i → Found v.keeper v.all.nodes h i) → Did h v (record v { harts = with_walk v.harts h k p })
-walk_did h k p v free lt inv none notes lands finds = walk_named_did h k p v free lt inv (λ j is. elim (inv.named h j lt is) [ inl a ↦ a | inr a ↦ absurd (cc (a, none)) ]) notes lands finds
+walk_did h k p v free lt inv none notes lands finds = walk_named_did h k p v free lt inv (λ j is. elim (inv.named h j lt free is) [ inl a ↦ a | inr a ↦ absurd (cc (a, none)) ]) notes lands finds
 
 pub stage_walk : (h : ℕ) (k : Option Walk) (p : Option ℕ) (v : World) → stage_of (record v { harts = with_walk v.harts h k p }) ≡ record { tree = settle v.all; walk = put (λ g. (v.harts g).walk) h k }
 stage_walk h k p v = λ r. record {

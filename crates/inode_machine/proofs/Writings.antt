@@ -112,8 +112,11 @@ moving h fd s by e v O ov free lt inv none hit = record { fair = fair inv (sells
         desks = λ g ne. refl;
         numbers = λ g j c d lg ne lj q a. on c d a;
         clean = λ c. c;
+        child = refl;
+        stays = inl refl;
       };
       free = ap (λ (o : Own). o.desk.lender) ov ∙ free;
+      unlent = ap (λ (o : Own). o.desk.lender) ov ∙ free;
       joined = refl;
       sorts = λ j d q. renewed_sorts v s e (entry_moved e by) inv hit.at refl refl j d q;
       noted = λ m q. (q, (λ z. let r = refs_walk v.harts h None None h m.number in omega (arith, r, z)));
@@ -203,7 +206,7 @@ changing h i y x v O ov free lt inv none isi sort live well = record { fair = fa
           alone = λ j is. let a = inv.alone j is in record { hart = a.hart; kept = a.kept; dead = lives j ∙ a.dead; counts = a.counts };
           kept = λ j is. (inv.kept j h is).1;
           held = λ j is. inv.held j h is;
-          named = λ j is. inv.named h j lt is;
+          named = λ j is. inv.named h j lt (ap (λ (o : Own). o.desk.lender) ov ∙ free) is;
           pending = λ j is. absurd (let p : (v.harts h).pending ≡ None = ap (λ (o : Own). o.mine.pending) ov ∙ none in cc);
           walks = λ z is. inv.walks h z lt is;
         }

@@ -347,38 +347,43 @@ abbrev pub slot_or : Option ℕ → ℕ
 slot_or None = 0
 slot_or (Some s) = s
 
+-- the hart to which it hands them
+abbrev pub child_of : Desk → Option ℕ
+child_of d = d.lent descriptor_count
+
 abbrev pub with_lent : World → ℕ → ℕ → World
 with_lent w h i = record w {
   files = put w.files (slot_or ((w.desks h).fds i)) (more_users (w.files (slot_or ((w.desks h).fds i))));
   desks = put w.desks h (record (w.desks h) { lent = put (w.desks h).lent i ((w.desks h).fds i) });
 }
 
--- the child has a reference to the caller's directory, for its own, which it has at the step that counts it
+-- the child has all the descriptors that were handed on
 abbrev pub handed : World → ℕ → ℕ → World
-handed w h child =
-    let raised : World = record w { refs = put w.refs (w.desks h).directory (w.refs (w.desks h).directory + 1); harts = with_refs w.harts child (w.desks h).directory ((w.harts child).refs (w.desks h).directory + 1) } in
-    record raised {
-      desks = put (put w.desks h (record (w.desks h) { lent = λ i. None })) child (record (w.desks child) { fds = (w.desks h).lent });
-    }
-
--- the child's old directory is the caller's to drop
-abbrev pub moved_in : World → ℕ → ℕ → World
-moved_in w h child = record w {
-  harts = with_refs (with_refs w.harts child (w.desks child).directory ((w.harts child).refs (w.desks child).directory - 1)) h (w.desks child).directory ((w.harts h).refs (w.desks child).directory + 1);
-  desks = put w.desks child (record (w.desks child) { directory = (w.desks h).directory; left = None });
+handed w h child = record w {
+  desks = put (put w.desks h (record (w.desks h) { lent = put (λ i. None) descriptor_count (child_of (w.desks h)) })) child (record (w.desks child) { fds = put (w.desks h).lent descriptor_count None });
 }
+
+-- a reference is counted to the caller's directory, which is the child's now; the child's old one is the caller's to drop
+abbrev pub moved_in : World → ℕ → ℕ → World
+moved_in w h child =
+    let raised : World = record w { refs = put w.refs (w.desks h).directory (w.refs (w.desks h).directory + 1); harts = with_refs w.harts child (w.desks h).directory ((w.harts child).refs (w.desks h).directory + 1) } in
+    let dropped : World = record raised { harts = with_refs raised.harts child (w.desks child).directory ((raised.harts child).refs (w.desks child).directory - 1) } in
+    record dropped {
+      harts = with_refs dropped.harts h (w.desks child).directory ((w.harts h).refs (w.desks child).directory + 1);
+      desks = put w.desks child (record (w.desks child) { directory = (w.desks h).directory; left = None });
+    }
 
 abbrev pub lend_last : World → ℕ → ℕ → Option ℕ → World
 lend_last w h child None = handed w h child
 lend_last w h child (Some j) = w
 
 abbrev pub lend_if : ℕ → World → ℕ → Option ℕ → Did Lending World
-lend_if h w child None = Ran (Moved (w.desks child).directory) (moved_in (handed w h child) h child)
+lend_if h w child None = Ran (Moved (w.desks child).directory) (moved_in w h child)
 lend_if h w child (Some i) =
     Ran (Lent i (not (is_nothing (next_used (i + 1) (w.desks h).fds)))) (lend_last (with_lent w h i) h child (next_used (i + 1) (w.desks h).fds))
 
-abbrev pub with_lender : World → ℕ → Option ℕ → World
-with_lender w child o = record w { desks = put w.desks child (record (w.desks child) { lender = o }) }
+abbrev pub released : World → ℕ → ℕ → World
+released w h child = record w { desks = put (put w.desks h (record (w.desks h) { lent = λ i. None })) child (record (w.desks child) { lender = None }) }
 
 abbrev pub exec : ℕ → Outside → (op : Op) → World → Did (Answer op) World
 exec h x (Take n looking) w = lock_if h n (seen_in n looking (w.disk n)) w (locked h n w) (w.lock n)
@@ -406,7 +411,7 @@ exec h x (Shut fd) w = close_at h w fd (slot_at w h fd) (entry_of w h fd)
 exec h x (Settle n) w = Ran (w.desks h).directory (with_directory (unlocked n w (w.alone n)) h n)
 exec h x (Lend child from) w = lend_if h w child (next_used from (w.desks h).fds)
 exec h x (LendDirectory child) w = Ran (w.desks child).directory (moved_in w h child)
-exec h x (Release child) w = Ran tt (with_lender w child None)
+exec h x (Release child) w = Ran tt (released w h child)
 exec h x Join w = Ran tt (with_joined w h true)
 exec h x Leave w = Ran tt (record w { desks = put w.desks h (record (w.desks h) { joined = false; noted = None }) })
 exec h x Say w = Ran tt w

@@ -14,7 +14,7 @@ use Rattle.inode_machine.specs.Inodes.Looking.{AtNothing, AtName, AtEntries}
 use Rattle.inode_machine.specs.World.{Mine, Entry, Note, Desk, World, Op, Answer, Mark, Outside, stage_of}
 use Rattle.inode_machine.specs.World.Op.{Take, Give, UpStart, Up, WalkDown, Down, Free, Claim, Store, Fill, Enter, Clear, Empty, Slot, Install, StatFile, ReadFile, CheckFile, JoinFile, WriteFile, Double, Shut, Settle, Lend, LendDirectory, Release, Join, Leave, Say}
 use Rattle.inode_machine.specs.World.Outside.{Room, RoomFor, Picks}
-use Rattle.inode_machine.specs.Exec.{file_count, is_at, is_free, entry_of}
+use Rattle.inode_machine.specs.Exec.{file_count, is_at, is_free, entry_of, child_of}
 use Rattle.inode_machine.specs.Marks.{go, places}
 
 -- all that is an inode's
@@ -174,9 +174,9 @@ abbrev pub left_or : Option ℕ → ℕ → ℕ
 left_or None d = d
 left_or (Some k) d = k
 
--- The directory that the hart refers to is the tree's, or the one that it leaves; and is one.
+-- The directory that the hart refers to is the tree's, or the one that it leaves, unless it gets another's; and is one.
 pub record Stands (d : Desk) (cwd : ℕ) (nodes : ℕ → Option Node) : Type 0 where
-  pub at : d.directory ≡ left_or d.left cwd
+  pub at : d.lender ≡ None → d.directory ≡ left_or d.left cwd
   pub sort : sort_of (nodes d.directory) ≡ Some OfDirectory
 
 -- how often a hart refers to an inode at most: for its current directory, its walk, its list, and what its call has found or claimed
@@ -187,6 +187,14 @@ reference_limit = 8
 pub record References (m : Mine) (d : Desk) : Type 0 where
   pub few : (i : ℕ) → m.refs i ≤ reference_limit
   pub home : 0 < m.refs d.directory
+
+-- Hart g gets the descriptors and the directory of hart c, and rests. Its directory in the tree is its own, or by then the other's, to which that refers.
+pub record Lends (w : World) (c g : ℕ) : Type 0 where
+  pub hart : c < hart_count
+  pub free : (w.desks c).lender ≡ None
+  pub child : child_of (w.desks c) ≡ Some g
+  pub rests : Idle g w
+  pub directory : (w.all.cwd g ≡ (w.desks g).directory) ⊎ (w.all.cwd g ≡ (w.desks c).directory)
 
 pub record Inv (w : World) : Type 0 where
   -- the tree before it settles is well formed
@@ -209,15 +217,14 @@ pub record Inv (w : World) : Type 0 where
   pub tied : Tied (shop_of w)
   -- an open file has its inode's type
   pub sorts : (k : ℕ) (e : Entry) → w.files k ≡ Some e → sort_of (w.all.nodes e.file.number) ≡ Some e.sort
-  -- what a hart itself names it refers to, or it stands in a directory that the hart keeps
-  pub named : (g i : ℕ) → g < hart_count → own_names (row_of w.all g) (w.desks g) i ≡ true → Reached w g i
+  -- what a hart itself names it refers to, or it stands in a directory that the hart keeps; unless it gets another's
+  pub named : (g i : ℕ) → g < hart_count → (w.desks g).lender ≡ None → own_names (row_of w.all g) (w.desks g) i ≡ true → Reached w g i
   pub pending : (g i : ℕ) → g < hart_count → (w.harts g).pending ≡ Some i → Found w.keeper w.all.nodes g i
   pub walks : (g : ℕ) (k : Walk) → g < hart_count → (w.harts g).walk ≡ Some k → Reached w g k.at
   -- while it refers to what it found, and doesn't free it, that has the type that it had
   pub noted : (g : ℕ) (n : Note) → g < hart_count → (w.desks g).noted ≡ Some n → Reached w g n.number → w.alone n.number ≡ false → sort_of (w.all.nodes n.number) ≡ n.sort
   pub directory : (g : ℕ) → g < hart_count → Stands (w.desks g) (w.all.cwd g) w.all.nodes
-  -- a hart that gets another's descriptors rests
-  pub lent : (g : ℕ) → g < hart_count → (w.desks g).lender ≢ None → Idle g w
+  pub lent : (g c : ℕ) → g < hart_count → (w.desks g).lender ≡ Some c → Lends w c g
 
 -- in another hart's hand
 abbrev pub IsOut : ℕ → Option ℕ → Type 0
@@ -238,7 +245,7 @@ MayWait h op w = ⊥
 
 -- What an operation asks. Who locks an inode refers to it, and hasn't locked it; who refers to one more has found it in a directory that it keeps; who gives a
 -- reference up, to none or to a table, has one besides its current directory's; who changes an inode has its lock and has joined; who joins, leaves, opens by a
--- descriptor or replies has no lock.
+-- descriptor or replies has no lock; who hands a descriptor on has handed on none from there.
 
 abbrev pub Locks : ℕ → ℕ → World → Type 0
 Locks h n w = w.lock n ≡ Some h
@@ -255,6 +262,10 @@ Refers h n w = (0 < (w.harts h).refs n) × (w.lock n ≢ Some h)
 -- a reference in hand, which no table has
 abbrev pub Spares : ℕ → ℕ → World → Type 0
 Spares h n w = one_if ((w.desks h).directory == n) < (w.harts h).refs n
+
+-- it hands its own to this child
+abbrev pub Serves : ℕ → ℕ → World → Type 0
+Serves h child w = (child < hart_count) × ((w.desks child).lender ≡ Some h)
 
 abbrev pub May : ℕ → Op → World → Type 0
 May h (Take n looking) w = Refers h n w
@@ -280,9 +291,9 @@ May h (WriteFile fd n bytes) w = LocksNone h w × ((w.desks h).joined ≡ true)
 May h (Double fd) w = Unit {0}
 May h (Shut fd) w = LocksNone h w
 May h (Settle n) w = Locks h n w × Spares h n w
-May h (Lend child from) w = (w.desks child).lender ≡ Some h
-May h (LendDirectory child) w = (w.desks child).lender ≡ Some h
-May h (Release child) w = (w.desks child).lender ≡ Some h
+May h (Lend child from) w = Serves h child w × ((i : ℕ) → from ≤ i → i < descriptor_count → ((w.desks h).lent i ≡ None) × ((w.desks child).fds i ≡ None))
+May h (LendDirectory child) w = Serves h child w
+May h (Release child) w = Serves h child w
 May h Join w = LocksNone h w × ((w.desks h).joined ≡ false)
 May h Leave w = LocksNone h w × ((w.desks h).joined ≡ true)
 May h Say w = LocksNone h w × ((w.desks h).joined ≡ false)
