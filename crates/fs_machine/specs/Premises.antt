@@ -16,7 +16,7 @@ use Rattle.fs_tables.specs.Tables.{TablesState, references_of, owed, holder_of a
 use Rattle.fs_tables.specs.Inodes.{directory_of}
 use Rattle.fs_tables.specs.Files.{hand_of, descriptors_of}
 use Rattle.fs_machine.specs.LogPart.{LogPart, Outside, written, LeavesIt, LeavesOne}
-use Rattle.fs_machine.specs.Steps.{State, Op, Join, JoinToWrite, Leave, Get, Read, Put, Commit, Lock, LockFile, Unlock, Settle, Up, Claim, Down, CheckFile, TakePlace, TakeDescriptor, Double, Close, Give, Reply, Whom, Number, Directory, Drop, Held, Walked}
+use Rattle.fs_machine.specs.Steps.{State, Op, Join, JoinToWrite, Leave, Get, Read, Put, Commit, Lock, LockFile, Unlock, Settle, Up, Claim, Down, CheckFile, TakePlace, TakeDescriptor, Double, Close, Give, Reply, Whom, Number, Directory, Drop, Held, Walked, Freed}
 
 -- ---- what an operation asks
 
@@ -57,6 +57,7 @@ MayDrop n t = references_of n t ≡ 1 → lock_holder n t ≡ None
 abbrev pub MayDown : ℕ → Drop → TablesState → Type 0
 MayDown h (Held n) t = HasReference n t × MayDrop n t
 MayDown h (Walked n) t = HasReference n t × MayDrop n t
+MayDown h (Freed n) t = HasReference n t × MayDrop n t
 
 -- the child is another hart, without descriptors from here on
 abbrev pub MayGive : ℕ → ℕ → ℕ → TablesState → Type 0

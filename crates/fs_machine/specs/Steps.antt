@@ -15,7 +15,7 @@ use Rattle.fs_tables.specs.declared.slots.Shut.TheVariants as shut
 use Rattle.fs_tables.specs.declared.slots.Given.{Given}
 use Rattle.fs_tables.specs.declared.slots.Given.TheVariants as given
 use Rattle.fs_tables.specs.Tables.{TablesState, file_named}
-use Rattle.fs_tables.specs.Inodes.{LockedState, Refuses, Locks, DroppedState, Counts, Keeps, Dies, refusal_of, lock_inode, lock_file, unlock_inode, settle_inode, up_inode, up_directory, drop_inode, drop_walked, first_free}
+use Rattle.fs_tables.specs.Inodes.{LockedState, Refuses, Locks, DroppedState, Counts, Keeps, Dies, refusal_of, lock_inode, lock_file, unlock_inode, settle_inode, up_inode, up_directory, drop_inode, drop_walked, drop_freed, first_free}
 use Rattle.fs_tables.specs.Files.{take_place, open_file, double_descriptor, shut_descriptor, give_next}
 use Rattle.fs_machine.specs.LogPart.{LogPart, part_of, Outside, join_log, leave_log, get_block, read_block, put_block, commit_log}
 use Rattle.fs_machine.specs.declared.shared.Core.{Core}
@@ -43,6 +43,8 @@ pub data Drop : Type 0 where
   Held : ℕ → Drop
   -- one in hand, within a walk
   Walked : ℕ → Drop
+  -- the one that is left to an inode that this hart has freed
+  Freed : ℕ → Drop
 
 pub data Op : Type 0 where
   -- joins a transaction
@@ -162,6 +164,7 @@ claim_first h b s (Some n) = claims (in_tables s (up_inode n s.tables))
 abbrev pub drop_which : ℕ → Drop → TablesState → Did DroppedState TablesState
 drop_which h (Held n) t = drop_inode h n t
 drop_which h (Walked n) t = drop_walked n t
+drop_which h (Freed n) t = drop_freed n t
 
 -- what an operation makes of the state in hart h's hand, where the device answers x
 unfoldable pub exec : ℕ → Outside → (op : Op) → State → Did (Answer op) State

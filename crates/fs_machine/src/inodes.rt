@@ -1,9 +1,10 @@
 // One function for each operation on inodes in memory.
 ghost use Rattle.std.specs.Prelude.{◌≡◌, ◌<◌, ◌^◌, Some, None, IfSome, IfNone};
 ghost use Rattle.atomic_programs.specs.Prog.{Ran as ItRan};
+ghost use Rattle.fs_tables.specs.Inodes.{Counts};
 ghost use Rattle.fs_tables.specs.Results.{locked_as, dropped_as, kept_as, IfDying};
 ghost use Rattle.fs_machine.specs.LogPart.{Outside};
-ghost use Rattle.fs_machine.specs.Steps.{state_of, exec, Claim as ClaimOp, Lock, LockFile, Unlock, Settle, Up, Down, Number, Directory, Held, Walked};
+ghost use Rattle.fs_machine.specs.Steps.{state_of, exec, Claim as ClaimOp, Lock, LockFile, Unlock, Settle, Up, Down, Number, Directory, Held, Walked, Freed};
 ghost use Rattle.fs_machine.specs.Premises.{May};
 ghost use Rattle.fs_machine.specs.Tied.{IsOwn, IsOwnInode, LeavesTied};
 ghost use Rattle.fs_machine.specs.Stays.{LeavesAll, LeavesAllBut, HasNone};
@@ -172,6 +173,18 @@ impl<D: Device> Core<D> {
         ensures rest { LeavesAll (IsOwnInode hart) (state_of D.contents D.failures self.old) (state_of D.contents D.failures self.new) }
     {
         self.tables.drop_walked(reference)
+    }
+
+    /// Drops the reference that is left to an inode that this hart has freed.
+    #[tactic(auto, unfolding(crate::specs::Premises::May))]
+    pub fn drop_freed(&mut self, hart: u8, reference: Reference)
+        requires may { May hart (Down (Freed reference)) (state_of D.contents D.failures self.old) }
+        ensures ran { (x : Outside) → exec hart x (Down (Freed reference)) (state_of D.contents D.failures self.old) ≡ ItRan Counts (state_of D.contents D.failures self.new) }
+        ensures others { LeavesTied hart (state_of D.contents D.failures self.old) (state_of D.contents D.failures self.new) }
+        ensures log { self.new.log ≡ self.old.log }
+        ensures rest { LeavesAll (IsOwnInode hart) (state_of D.contents D.failures self.old) (state_of D.contents D.failures self.new) }
+    {
+        self.tables.drop_freed(reference);
     }
 }
 

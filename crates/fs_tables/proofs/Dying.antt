@@ -13,7 +13,7 @@ use Rattle.fs_tables.specs.declared.inodes.Entry.{Entry}
 use Rattle.fs_tables.specs.declared.inodes.Inode.{Inode}
 use Rattle.fs_tables.specs.Lists.{change_at}
 use Rattle.fs_tables.specs.Tables.{TablesState, place_of}
-use Rattle.fs_tables.specs.Inodes.{dying, dead_in, dead_of, drop_inode, drop_at, drop_dying, drop_walked, walked_at, walked_dying, uncounted_at, Counts, Keeps, Dies, is_positive}
+use Rattle.fs_tables.specs.Inodes.{dying, dead_in, dead_of, drop_inode, drop_at, drop_dying, drop_walked, walked_at, walked_dying, uncounted_at, Counts, Keeps, Dies, is_positive, freed_at, drop_freed}
 use Rattle.fs_tables.specs.Soundness.{IsSoundInodes, PlaceFits}
 use Rattle.fs_tables.proofs.Locking.{slot_at, lock_is}
 
@@ -129,3 +129,13 @@ walked_kept n k t e is = ap (walked_at t) e ∙ at (dying (slice_get t.entries k
     at : (o : Option Dinode) → true ≡ is_some o → walked_dying k t o ≡ Ran Keeps t
     at None is = absurd (cc is)
     at (Some d) is = refl
+
+-- ---- after the inode was freed
+
+pub freed_nowhere : (n : ℕ) (t : TablesState) → place_of n t.entries ≡ None → drop_freed n t ≡ Ran Counts t
+unfolding drop_freed
+freed_nowhere n t e = ap (freed_at t) e
+
+pub freed_counted : (n k : ℕ) (t : TablesState) → place_of n t.entries ≡ Some k → drop_freed n t ≡ Ran Counts (uncounted_at k t)
+unfolding drop_freed
+freed_counted n k t e = ap (freed_at t) e

@@ -175,6 +175,14 @@ walked_at t (Some k) = walked_dying k t (dying (slice_get t.entries k) (slice_ge
 unfoldable pub drop_walked : ℕ → TablesState → Did DroppedState TablesState
 drop_walked n t = walked_at t (place_of n t.entries)
 
+abbrev pub freed_at : TablesState → Option ℕ → Did DroppedState TablesState
+freed_at t None = Ran Counts t
+freed_at t (Some k) = Ran Counts (uncounted_at k t)
+
+-- the reference that is left to an inode that was freed: it is counted down
+unfoldable pub drop_freed : ℕ → TablesState → Did DroppedState TablesState
+drop_freed n t = freed_at t (place_of n t.entries)
+
 -- the lock is given back with this inode, which becomes the hart's current directory; the old one is answered
 abbrev pub with_directory : ℕ → Desk → Desk
 with_directory n d = record d { directory = n }

@@ -38,7 +38,7 @@ impl Tables {
     ghost use Rattle.fs_tables.specs.Tables.{references_of, holder_of};
     ghost use Rattle.fs_tables.specs.Fresh.{fresh};
     ghost use Rattle.fs_tables.specs.Locks.{IsLocked, LeavesLocked};
-    ghost use Rattle.fs_tables.specs.Inodes.{lock_inode, unlock_inode, up_inode, drop_inode, drop_walked};
+    ghost use Rattle.fs_tables.specs.Inodes.{lock_inode, unlock_inode, up_inode, drop_inode, drop_walked, drop_freed, Counts};
     ghost use Rattle.fs_tables.specs.Results.{locked_as, dropped_as, kept_as, IfDying};
 
     /// Only the root is referred to, which is every hart's directory, and nothing is open. An error is want of memory.
@@ -166,6 +166,23 @@ impl Tables {
                 count_down(&mut self.entries, place);
                 let _ = reference.end();
                 None
+            }
+        }
+    }
+
+    /// Drops the reference that is left to an inode that was freed: it is counted down.
+    pub fn drop_freed(&mut self, reference: Reference)
+        requires { references_of reference self.old ≡ 1 → holder_of reference self.old ≡ None }
+        ensures ran { drop_freed reference self.old ≡ Ran Counts self.new }
+        ensures others { LeavesLocked self.old self.new }
+    {
+        match place_of(&self.entries, reference.number()) {
+            None => {
+                let _ = reference.end();
+            }
+            Some(place) => {
+                count_down(&mut self.entries, place);
+                let _ = reference.end();
             }
         }
     }

@@ -3,3 +3,4 @@ mod NextRead
 pub mod Nested
 mod NextFree
 mod Truncations
+mod Freed

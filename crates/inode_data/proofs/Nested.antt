@@ -1,13 +1,13 @@
 -- A nested machine's step, as one of the machine that it stands in.
 use Rattle.std.proofs.Common.{◌≡◌, ℕ, ap, refl, ◌∙◌, sym}
-use Rattle.atomic_programs.specs.Prog.{Prog, Ret, Do, bind, Did, Waits, Ran, Stops, Moved, Ended, StillWaits, WentOn, Broke, went, advance}
+use Rattle.atomic_programs.specs.Prog.{Ret, Do, bind, Did, Waits, Ran, Stops, Moved, Ended, WentOn, went, advance}
 use Rattle.atomic_programs.specs.Machines.{moved_to, Left}
 use Rattle.atomic_programs.specs.declared.machines.Stepped.{Stepped}
 use Rattle.atomic_programs.specs.declared.machines.Stepped.TheVariants as stepped
 use Rattle.atomic_programs.proofs.Prog.{moved_bind}
 use Rattle.fs_machine.specs.declared.kind.Kind.{Kind}
 use Rattle.fs_machine.specs.LogPart.{Outside}
-use Rattle.fs_machine.specs.Steps.{State, Op, Answer, exec, kind_of}
+use Rattle.fs_machine.specs.Steps.{State, Answer, exec, kind_of}
 use Rattle.fs_machine.specs.Machines.{P, Moves, said_in, within}
 use Rattle.inode_data.specs.Machines.{ends_within}
 

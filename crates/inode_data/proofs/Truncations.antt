@@ -1,10 +1,8 @@
 -- The steps of an emptying.
-use Rattle.std.proofs.Common.{◌≡◌, ℕ, ◌+◌, ◌<◌, List, refl, ap, ◌∙◌}
+use Rattle.std.proofs.Common.{◌≡◌, ℕ, ◌+◌, List, refl, ap, ◌∙◌}
 use Rattle.sleep_lock.specs.SleepLock.{GuardState}
 use Rattle.buffer_cache.specs.Buffers.{BufferState}
 use Rattle.fs_layout.specs.declared.inode.Dinode.{Dinode}
-use Rattle.fs_layout.specs.Indirect.{numbers_in}
-use Rattle.fs_layout.specs.Widths.{numbers_per_block}
 use Rattle.atomic_programs.specs.Prog.{Ret, bind, advance}
 use Rattle.atomic_programs.specs.Machines.{Still, Left, moved_to}
 use Rattle.atomic_programs.specs.declared.machines.Stepped.{Stepped}
@@ -21,14 +19,12 @@ use Rattle.bitmap_alloc.specs.Machines.{free_of, FreeFits, FreeApart}
 use Rattle.bitmap_alloc.specs.declared.free_block.FreeBlock.{FreeBlock}
 use Rattle.inode_table.specs.Machines.{store_of, StoreFits}
 use Rattle.inode_table.specs.declared.store_inode.StoreInode.{StoreInode}
-use Rattle.inode_data.specs.Widths.{direct}
 use Rattle.inode_data.specs.Records.{record_in, with_record}
 use Rattle.inode_data.specs.Freeing.{free_in_table, without_content}
 use Rattle.inode_data.specs.Truncating.{IsEmptying, own_rest, listed_rest, record_rest, clearing_of, truncate_of, ClearingFits, TruncateFits, IsReady, StillRuns, in_own_freeing, in_indirect_fetch, in_listed_freeing, in_table_freeing, in_record_storing}
 use Rattle.inode_data.specs.declared.truncation.Emptying.{Emptying}
 use Rattle.inode_data.specs.declared.truncation.Truncate.{Truncate}
 use Rattle.inode_data.specs.declared.truncation.Truncate.TheVariants as emptying
-use Rattle.inode_data.specs.declared.truncation.Running.{Running}
 use Rattle.inode_data.specs.declared.truncation.Clearing.{Clearing}
 use Rattle.inode_data.specs.declared.truncation.Clearing.TheVariants as clearing
 use Rattle.inode_data.proofs.Nested.{nested_moves, ending_moves, nested_left, ending_left, left_all, left_map, left_both}

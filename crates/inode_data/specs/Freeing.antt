@@ -5,10 +5,11 @@ use Rattle.fs_layout.specs.declared.superblock.Super.{Super}
 use Rattle.fs_layout.specs.Indirect.{numbers_in}
 use Rattle.fs_layout.specs.Widths.{addresses}
 use Rattle.atomic_programs.specs.Prog.{Prog, Ret, Do, bind, unmarked}
-use Rattle.fs_machine.specs.Steps.{Op, Answer, Put}
+use Rattle.fs_tables.specs.Inodes.{DroppedState, Counts, Keeps, Dies}
+use Rattle.fs_machine.specs.Steps.{Op, Answer, Put, Unlock, Down, Held, Freed}
 use Rattle.fs_machine.specs.Programs.{fetch}
 use Rattle.bitmap_alloc.specs.Programs.{free_block}
-use Rattle.inode_table.specs.Programs.{store}
+use Rattle.inode_table.specs.Programs.{store, record_of}
 use Rattle.inode_data.specs.Widths.{direct}
 use Rattle.inode_data.specs.Addresses.{table_of}
 
@@ -43,3 +44,26 @@ store_record sizes n d = bind (store sizes.inodestart n d) (λ _. Ret d)
 -- All blocks of inode n are given back, and its record is stored without them: what stands on the disk then.
 abbrev pub truncate : {M : Type 0} → Super → ℕ → Dinode → Prog Op Answer M Dinode
 truncate sizes n d = free_numbers sizes.bmapstart (take direct d.addrs) (free_indirect sizes.bmapstart (table_of d) (store_record sizes n (without_content d)))
+
+-- ---- an inode freed
+
+-- The inode whose lock is in hand is emptied and stored so that it may be taken again, its lock is given back with nothing loaded,
+-- and the reference goes.
+abbrev pub unlock_freed : {M : Type 0} → ℕ → Prog Op Answer M (Unit {0})
+unlock_freed n = Do (Unlock (record { number = n; content = None }) None) unmarked (λ _. Do (Down (Freed n)) unmarked (λ _. Ret tt))
+
+abbrev pub store_freed : {M : Type 0} → (inodestart n : ℕ) → Dinode → Prog Op Answer M (Unit {0})
+store_freed inodestart n d = bind (store inodestart n (freed d)) (λ _. unlock_freed n)
+
+abbrev pub free_inode : {M : Type 0} → Super → ℕ → Dinode → Prog Op Answer M (Unit {0})
+free_inode sizes n d = bind (truncate sizes n d) (store_freed sizes.inodestart n)
+
+-- what a drop came to
+abbrev pub after_drop : {M : Type 0} → Super → DroppedState → Prog Op Answer M (Unit {0})
+after_drop sizes Counts = Ret tt
+after_drop sizes Keeps = Ret tt
+after_drop sizes (Dies n content) = free_inode sizes n (record_of (record { number = n; content = content }))
+
+-- A reference is dropped outside a walk. Where it is the last one to a dead inode, the inode's lock is taken in its place, and the inode is freed.
+abbrev pub drop_reference : {M : Type 0} → Super → ℕ → Prog Op Answer M (Unit {0})
+drop_reference sizes n = Do (Down (Held n)) unmarked (after_drop sizes)

@@ -7,3 +7,4 @@ pub mod Beginnings
 pub mod Reading
 pub mod Freeing
 pub mod Truncating
+pub mod Dropping

@@ -4,7 +4,7 @@ ghost use Rattle.fs_layout.specs.Indirect.{numbers_in};
 ghost use Rattle.fs_layout.specs.Widths.{numbers_per_block};
 ghost use Rattle.atomic_programs.specs.Machines.{Still, Left as LeftOf};
 ghost use Rattle.fs_machine.specs.Steps.{State, state_of};
-ghost use Rattle.fs_machine.specs.Machines.{MayNext, Moves, Answers};
+ghost use Rattle.fs_machine.specs.Machines.{MayNext, Moves, Answers, CallsOnce};
 ghost use Rattle.fs_machine.specs.Tied.{LeavesTied, bytes_of};
 ghost use Rattle.fs_machine.specs.Fetching.{IsFetched};
 ghost use Rattle.inode_data.specs.Widths.{most_blocks};
@@ -58,6 +58,7 @@ impl FetchBlock {
         ensures still { Still block_fetch_of result self core.old core.new }
         ensures fits { LeftOf (BlockFetchFits hart (state_of D.contents D.failures core.new)) (λ guard. IsFetched hart guard.value.block guard (state_of D.contents D.failures core.new)) result }
         ensures others { LeavesTied hart (state_of D.contents D.failures core.old) (state_of D.contents D.failures core.new) }
+        ensures called { CallsOnce D.Called core.old.log.cache.device core.new.log.cache.device }
         ensures tables { core.new.tables ≡ core.old.tables }
     {
         match self {

@@ -5,14 +5,18 @@
 
 mod addresses;
 mod begun;
+mod dropping;
 mod fetch_block;
+mod freeing;
 mod read_part;
 mod records;
 mod truncation;
 
 pub use crate::addresses::{Address, DIRECT, MOST_BLOCKS, address_of};
 pub use crate::begun::{Begun, went_on};
+pub use crate::dropping::DropReference;
 pub use crate::fetch_block::FetchBlock;
+pub use crate::freeing::FreeInode;
 pub use crate::read_part::{ReadPart, Reading};
 pub use crate::records::record;
 pub use crate::truncation::{Clearing, Emptying, Running, Truncate};

@@ -4,7 +4,7 @@ ghost use Rattle.fs_layout.specs.Widths.{block_len};
 ghost use Rattle.atomic_programs.specs.Prog.{Moved, WentOn, Ret};
 ghost use Rattle.atomic_programs.specs.Machines.{Still, Left as LeftOf};
 ghost use Rattle.fs_machine.specs.Steps.{State, state_of};
-ghost use Rattle.fs_machine.specs.Machines.{MayNext, Moves, Answers};
+ghost use Rattle.fs_machine.specs.Machines.{MayNext, Moves, Answers, CallsOnce};
 ghost use Rattle.fs_machine.specs.Tied.{LeavesTied};
 ghost use Rattle.inode_data.specs.Records.{record_in};
 ghost use Rattle.fs_layout.specs.Bytes.{overwrite};
@@ -87,6 +87,7 @@ impl ReadPart {
         ensures inode { LeftOf (λ m. reader_of m ≡ reader_of self) (λ r. r.inode ≡ reader_of self) result }
         ensures fits { LeftOf (ReadFits hart (state_of D.contents D.failures core.new)) (λ _. Unit {0}) result }
         ensures others { LeavesTied hart (state_of D.contents D.failures core.old) (state_of D.contents D.failures core.new) }
+        ensures called { CallsOnce D.Called core.old.log.cache.device core.new.log.cache.device }
         ensures tables { core.new.tables ≡ core.old.tables }
     {
         match self {

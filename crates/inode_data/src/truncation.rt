@@ -6,7 +6,7 @@ ghost use Rattle.atomic_programs.specs.Machines.{Still, Left as LeftOf, moved_to
 ghost use Rattle.atomic_programs.specs.Prog.{advance, asks, bind, OfNext};
 ghost use Rattle.fs_machine.specs.Steps.{State, state_of, exec, kind_of};
 ghost use Rattle.fs_machine.specs.Premises.{Honest};
-ghost use Rattle.fs_machine.specs.Machines.{MayNext, Moves, Answers, said_in};
+ghost use Rattle.fs_machine.specs.Machines.{MayNext, Moves, Answers, CallsOnce, said_in};
 ghost use Rattle.fs_machine.specs.Tied.{LeavesTied, bytes_of};
 ghost use Rattle.fs_machine.specs.Fetching.{IsFetched};
 ghost use Rattle.bitmap_alloc.specs.Programs.{free_block};
@@ -107,6 +107,7 @@ impl Truncate {
         ensures inode { LeftOf (λ m. emptied_of m ≡ emptied_of self) (λ guard. guard ≡ with_record (record_in guard) (emptied_of self)) result }
         ensures fits { LeftOf (TruncateFits hart (state_of D.contents D.failures core.new)) (λ _. Unit {0}) result }
         ensures others { LeavesTied hart (state_of D.contents D.failures core.old) (state_of D.contents D.failures core.new) }
+        ensures called { CallsOnce D.Called core.old.log.cache.device core.new.log.cache.device }
         ensures tables { core.new.tables ≡ core.old.tables }
     {
         self.ready().step(hart, txn, core)
@@ -149,6 +150,7 @@ impl Running {
         ensures inode { LeftOf (λ m. emptied_of m ≡ self.emptying.inode) (λ guard. guard ≡ with_record (record_in guard) self.emptying.inode) result }
         ensures fits { LeftOf (TruncateFits hart (state_of D.contents D.failures core.new)) (λ _. Unit {0}) result }
         ensures others { LeavesTied hart (state_of D.contents D.failures core.old) (state_of D.contents D.failures core.new) }
+        ensures called { CallsOnce D.Called core.old.log.cache.device core.new.log.cache.device }
         ensures tables { core.new.tables ≡ core.old.tables }
     {
         let Running { emptying, clearing } = self;

@@ -1,4 +1,4 @@
-use Rattle.std.proofs.Common.{◌+◌, ◌∙◌, take, drop, sym, ap, get_or, Some, None, List, ℕ, subst, ◌<◌}
+use Rattle.std.proofs.Common.{◌+◌, ◌∙◌, take, sym, ap, get_or, Some, None, List, ℕ, subst, ◌<◌}
 use Rattle.std.proofs.lemmas.List.{get_or-take}
 use Rattle.fs_layout.specs.declared.inode.Dinode.{Dinode}
 use Rattle.atomic_programs.specs.Prog.{bind}
@@ -6,7 +6,6 @@ use Rattle.fs_machine.specs.Machines.{P}
 use Rattle.bitmap_alloc.specs.Programs.{free_block}
 use Rattle.inode_data.specs.Records.{record_in}
 use Rattle.inode_data.specs.Widths.{direct}
-use Rattle.inode_data.specs.Freeing.{free_numbers}
 use Rattle.inode_data.specs.Truncating.{IsNext, own_rest, indirect_rest, clearing_of}
 use Rattle.inode_data.proofs.NextFree.{none_next, some_next}
 use Rattle.inode_data.proofs.truncation.free_own.Goals as goal

@@ -1,4 +1,4 @@
-use Rattle.std.proofs.Common.{◌≡◌, ℕ, ◌<◌, ◌≤◌, take, get_or}
+use Rattle.std.proofs.Common.{◌≡◌, ℕ, ◌<◌, ◌≤◌, get_or}
 use Rattle.fs_layout.specs.Indirect.{numbers_in}
 use Rattle.inode_data.proofs.truncation.next_listed.Given as goal
 

@@ -1,6 +1,4 @@
 use Rattle.inode_data.proofs.truncation.Truncate.ready.Goals as goal
-use Rattle.std.proofs.Common.{ℕ}
-use Rattle.fs_machine.specs.Steps.{State}
 use Rattle.inode_data.specs.Truncating.{TruncateFits}
 
 pub returns-in-Own-clause-fits : goal.returns-in-Own-clause-fits

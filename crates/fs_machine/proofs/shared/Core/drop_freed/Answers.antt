@@ -1,0 +1,16 @@
+use Rattle.std.proofs.Common.{ap}
+use Rattle.atomic_programs.specs.Prog.{did_in}
+use Rattle.fs_tables.specs.Tables.{TablesState}
+use Rattle.fs_machine.specs.LogPart.{part_of}
+use Rattle.fs_machine.specs.Steps.{State, exec}
+use Rattle.fs_machine.proofs.shared.Core.drop_freed.Goals as goal
+
+pub returns-clause-ran : goal.returns-clause-ran
+unfolding exec
+returns-clause-ran g c x =
+    let old = c.args.self.now in
+    let into : TablesState → State = λ t. record { log = part_of g.D.Device.contents g.D.Device.failures old.log; tables = t } in
+    ap (did_in into) c.drop_freed.ensures.ran
+
+pub returns-clause-others : goal.returns-clause-others
+returns-clause-others g c = record { buffers = λ guard ne tied. tied; inodes = λ guard ne locked. c.drop_freed.ensures.others guard locked }
