@@ -1,0 +1,53 @@
+-- The number in a slot is that of its entry.
+use Rattle.std.proofs.Common.{◌≡◌, ℕ, ◌*◌, ◌&&◌, true, false, eqb, List, drop, Option, Some, None, sym, ◌∙◌, refl, nat_le, ⊎_elim}
+use Rattle.std.proofs.lemmas.Bool.{and_parts, eqb-true}
+use Rattle.std.specs.List.{list_all, position_or_len}
+use Rattle.fs_layout.specs.declared.entry.Dirent.{Dirent}
+use Rattle.fs_layout.specs.declared.entry.Dirent.TheVariants.{Free, Used}
+use Rattle.fs_layout.specs.Bytes.{u16_at, record_at}
+use Rattle.fs_layout.specs.Name.{is_name, is_zero}
+use Rattle.fs_layout.specs.Entry.{dirent_of, dirent_at, name_of, used_of, free_of}
+use Rattle.fs_layout.proofs.Branches.{which_branch}
+use Rattle.fs_layout.proofs.Entries.{number-part}
+use Rattle.directory.specs.Programs.{Aim, Named, Unused, Entry}
+use Rattle.directory.specs.Laws.{is_sought, number_of}
+use Rattle.directory.proofs.Named.{free_not_used}
+
+used_not_free : (number : ℕ) (field : List ℕ) → used_of number field ≡ Some Free → ⊥
+used_not_free number field e =
+    ⊎_elim
+    (λ (t : ((is_name (name_of field) && list_all is_zero (drop (position_or_len is_zero field) field)) ≡ true) × (Some (Used number (name_of field)) ≡ Some Free)). let q = t.1 in cc)
+    (λ (f : ((is_name (name_of field) && list_all is_zero (drop (position_or_len is_zero field) field)) ≡ false) × (None ≡ Some Free)). let q = f.1 in cc)
+    (which_branch (is_name (name_of field) && list_all is_zero (drop (position_or_len is_zero field) field)) (Some (Used number (name_of field))) None (Some Free) e)
+
+used_has : (number n : ℕ) (field name : List ℕ) → used_of number field ≡ Some (Used n name) → number ≡ n
+used_has number n field name e =
+    ⊎_elim
+    (λ (t : ((is_name (name_of field) && list_all is_zero (drop (position_or_len is_zero field) field)) ≡ true) × (Some (Used number (name_of field)) ≡ Some (Used n name))). let q = t.1 in cc)
+    (λ (f : ((is_name (name_of field) && list_all is_zero (drop (position_or_len is_zero field) field)) ≡ false) × (None ≡ Some (Used n name))). let q = f.1 in cc)
+    (which_branch (is_name (name_of field) && list_all is_zero (drop (position_or_len is_zero field) field)) (Some (Used number (name_of field))) None (Some (Used n name)) e)
+
+entry_number : (bytes : List ℕ) (entry : Dirent) → dirent_of bytes ≡ Some entry → u16_at bytes 0 ≡ number_of (Some entry)
+entry_number bytes Free e =
+    ⊎_elim
+    (λ (t : (eqb (u16_at bytes 0) 0 ≡ true) × (free_of (drop 2 bytes) ≡ Some Free)). eqb-true (u16_at bytes 0) 0 t.0)
+    (λ (f : (eqb (u16_at bytes 0) 0 ≡ false) × (used_of (u16_at bytes 0) (drop 2 bytes) ≡ Some Free)). absurd (used_not_free (u16_at bytes 0) (drop 2 bytes) f.1))
+    (which_branch (eqb (u16_at bytes 0) 0) (free_of (drop 2 bytes)) (used_of (u16_at bytes 0) (drop 2 bytes)) (Some Free) e)
+entry_number bytes (Used n name) e =
+    ⊎_elim
+    (λ (t : (eqb (u16_at bytes 0) 0 ≡ true) × (free_of (drop 2 bytes) ≡ Some (Used n name))). absurd (free_not_used (drop 2 bytes) n name t.1))
+    (λ (f : (eqb (u16_at bytes 0) 0 ≡ false) × (used_of (u16_at bytes 0) (drop 2 bytes) ≡ Some (Used n name))). used_has (u16_at bytes 0) n (drop 2 bytes) name f.1)
+    (which_branch (eqb (u16_at bytes 0) 0) (free_of (drop 2 bytes)) (used_of (u16_at bytes 0) (drop 2 bytes)) (Some (Used n name)) e)
+
+-- what is no entry isn't sought
+no_entry : (aim : Aim) (s : ℕ) → is_sought aim s None ≡ true → ⊥
+no_entry (Named name) s e = cc
+no_entry Unused s e = cc
+no_entry Entry s e = let p = and_parts (nat_le 2 s) false e in let q = p.1 in cc
+
+some_number : (bytes : List ℕ) (aim : Aim) (s : ℕ) (o : Option Dirent) → dirent_of bytes ≡ o → is_sought aim s o ≡ true → u16_at bytes 0 ≡ number_of o
+some_number bytes aim s None e h = absurd (no_entry aim s h)
+some_number bytes aim s (Some entry) e h = entry_number bytes entry e
+
+pub sought-number : (block : List ℕ) (p : ℕ) (aim : Aim) (s : ℕ) → is_sought aim s (dirent_at p block) ≡ true → u16_at block (16 * p) ≡ number_of (dirent_at p block)
+sought-number block p aim s h = sym (number-part block p) ∙ some_number (record_at 16 p block) aim s (dirent_at p block) refl h

@@ -1,0 +1,7 @@
+mod Words
+mod Slot
+pub mod Named
+mod Cleared
+mod Used
+mod EntryNumbers
+mod Searches

@@ -1,0 +1,114 @@
+-- A slot compared where it stands is compared by what it is.
+use Rattle.std.proofs.Common.{◌≡◌, ◌≢◌, ℕ, ◌+◌, ◌-◌, ◌*◌, ◌<◌, ◌≤◌, true, false, not, eqb, ◌==◌, ◌&&◌, List, ◌++◌, length, drop, replicate, Option, Some, None, refl, sym, ap, ◌∙◌, arith, ⊎_elim, length-append, length-drop}
+use Rattle.std.proofs.lemmas.Bool.{and_parts, cases_lt, eq-eqb, eqb-true, ne_eqb, eqb-false, not-true}
+use Rattle.std.proofs.lemmas.Bool.Decides.{same_from_decides}
+use Rattle.std.proofs.lemmas.Slice.Eq.{bytes_eq-Decides}
+use Rattle.std.proofs.lemmas.List.{drop_at, length-replicate, get_or_append_left, get_or-append_right}
+use Rattle.fs_layout.specs.declared.entry.Dirent.{Dirent}
+use Rattle.fs_layout.specs.declared.entry.Dirent.TheVariants.{Free, Used}
+use Rattle.fs_layout.specs.Bytes.{u16_bytes, u16_at, record_at, IsBytes}
+use Rattle.std.specs.List.{list_all}
+use Rattle.fs_layout.specs.Name.{is_zero, IsName}
+use Rattle.fs_layout.specs.Entry.{spell_dirent, dirent_of, used_of, free_of, dirent_at}
+use Rattle.fs_layout.proofs.Branches.{which_branch}
+use Rattle.fs_layout.proofs.Entries.{dirent_of-spell, spell-dirent_of, number-part, name_parts}
+use Rattle.fs_layout.proofs.Numbers.{u16_at-lt, u16_bytes-at, length-u16_bytes}
+use Rattle.directory.specs.Slots.{is_named, field_of, has_words, u64_at}
+use Rattle.directory.proofs.Slot.{IsSlot, slot_in, field_fits, zeros_at}
+use Rattle.directory.proofs.Words.{same_row, u64_at-part, u64_at-drop}
+
+pub free_not_used : (field : List ℕ) (n : ℕ) (name : List ℕ) → free_of field ≡ Some (Used n name) → ⊥
+free_not_used field n name e =
+    ⊎_elim
+    (λ (t : (list_all is_zero field ≡ true) × (Some Free ≡ Some (Used n name))). let q = t.1 in cc)
+    (λ (f : (list_all is_zero field ≡ false) × (None ≡ Some (Used n name))). let q = f.1 in cc)
+    (which_branch (list_all is_zero field) (Some Free) None (Some (Used n name)) e)
+
+-- a used slot has a number
+used_number : (bytes : List ℕ) (n : ℕ) (name : List ℕ) → dirent_of bytes ≡ Some (Used n name) → u16_at bytes 0 ≢ 0
+used_number bytes n name e z =
+    ⊎_elim
+    (λ (t : (eqb (u16_at bytes 0) 0 ≡ true) × (free_of (drop 2 bytes) ≡ Some (Used n name))). free_not_used (drop 2 bytes) n name t.1)
+    (λ (f : (eqb (u16_at bytes 0) 0 ≡ false) × (used_of (u16_at bytes 0) (drop 2 bytes) ≡ Some (Used n name))). eqb-false (u16_at bytes 0) 0 f.0 z)
+    (which_branch (eqb (u16_at bytes 0) 0) (free_of (drop 2 bytes)) (used_of (u16_at bytes 0) (drop 2 bytes)) (Some (Used n name)) e)
+
+-- a name's field
+length-field : (name : List ℕ) → length name ≤ 14 → length (field_of name) ≡ 14
+unfolding field_of
+length-field name h = simp (length-append, length-replicate) (omega arith)
+
+-- where the number isn't 0 and the name's field stands behind it, the slot is used by that name
+named_there : (bytes name : List ℕ) → IsSlot bytes → IsName name → u16_at bytes 0 ≢ 0 → drop 2 bytes ≡ field_of name → dirent_of bytes ≡ Some (Used (u16_at bytes 0) name)
+unfolding field_of
+named_there bytes name s is some field =
+    let spelled : spell_dirent (Used (u16_at bytes 0) name) ≡ bytes =
+    ap (λ (xs : List ℕ). u16_bytes (u16_at bytes 0) ++ xs) (sym field) ∙ u16_bytes-at bytes 0 (omega (arith, s.long)) s.fits in
+    ap dirent_of (sym spelled) ∙ dirent_of-spell (Used (u16_at bytes 0) name) (some, u16_at-lt bytes 0 s.fits, is)
+
+-- and where it is used by that name, the field stands there
+field_there : (bytes name : List ℕ) (n : ℕ) → IsSlot bytes → dirent_of bytes ≡ Some (Used n name) → drop 2 bytes ≡ field_of name
+unfolding field_of
+field_there bytes name n s e =
+    ap (drop 2) (sym (spell-dirent_of bytes (Used n name) s.long s.fits e)) ∙ drop_at (u16_bytes n) (name ++ replicate (14 - length name) 0) 2 (length-u16_bytes n)
+
+-- what the words of a slot are
+same_words : (block name : List ℕ) (p : ℕ) → drop 2 (record_at 16 p block) ≡ field_of name
+    → (u64_at block (16 * p + 2) ≡ u64_at (field_of name) 0) × (u64_at block (16 * p + 8) ≡ u64_at (field_of name) 6)
+same_words block name p e = (
+  sym (u64_at-part block (16 * p) 16 2 (omega arith)) ∙ sym (u64_at-drop (record_at 16 p block) 2 0) ∙ ap (λ (xs : List ℕ). u64_at xs 0) e,
+  sym (u64_at-part block (16 * p) 16 8 (omega arith)) ∙ sym (u64_at-drop (record_at 16 p block) 2 6) ∙ ap (λ (xs : List ℕ). u64_at xs 6) e,
+)
+
+same_as_name : (block name : List ℕ) (p : ℕ) → IsSlot (record_at 16 p block) → IsBytes (field_of name) → length name ≤ 14
+    → u64_at block (16 * p + 2) ≡ u64_at (field_of name) 0 → u64_at block (16 * p + 8) ≡ u64_at (field_of name) 6
+    → drop 2 (record_at 16 p block) ≡ field_of name
+same_as_name block name p s fits h front back =
+    let slot : List ℕ = record_at 16 p block in
+    same_row 6 (drop 2 slot) (field_of name) (omega arith) (omega (arith, length-drop 2 slot, s.long)) (length-field name h) (field_fits slot s) fits
+    (u64_at-drop slot 2 0 ∙ u64_at-part block (16 * p) 16 2 (omega arith) ∙ front)
+    (u64_at-drop slot 2 6 ∙ u64_at-part block (16 * p) 16 8 (omega arith) ∙ back)
+
+field_of-fits : (name : List ℕ) → IsBytes name → IsBytes (field_of name)
+unfolding field_of
+field_of-fits name fits i =
+    ⊎_elim
+    (λ (low : i < length name). omega (arith, get_or_append_left name (replicate (14 - length name) 0) 0 i low, fits i))
+    (λ (high : length name ≤ i).
+    omega (arith, get_or-append_right name (replicate (14 - length name) 0) (length name) i 0 refl high, zeros_at (14 - length name) (i - length name)))
+    (cases_lt i (length name))
+
+module _ (block name : List ℕ) (p : ℕ) (long : length block ≡ 1024) (fits : IsBytes block) (name_fits : IsBytes name) (within : p < 64) (is : IsName name) where
+  short : length name ≤ 14
+  short = (name_parts name is).high
+
+  by_words : has_words (u64_at (field_of name) 0) (u64_at (field_of name) 6) p block ≡ true → is_named name (dirent_at p block) ≡ true
+  unfolding has_words
+  by_words h =
+      let slot : List ℕ = record_at 16 p block in
+      let s = slot_in block p long fits within in
+      let both = and_parts (not (u16_at block (16 * p) == 0) && (u64_at block (16 * p + 2) == u64_at (field_of name) 0)) (u64_at block (16 * p + 8) == u64_at (field_of name) 6) h in
+      let front = and_parts (not (u16_at block (16 * p) == 0)) (u64_at block (16 * p + 2) == u64_at (field_of name) 0) both.0 in
+      let some : u16_at slot 0 ≢ 0 = λ z. eqb-false (u16_at block (16 * p)) 0 (not-true (u16_at block (16 * p) == 0) front.0) (sym (number-part block p) ∙ z) in
+      let field = same_as_name block name p s (field_of-fits name name_fits) short
+      (eqb-true (u64_at block (16 * p + 2)) (u64_at (field_of name) 0) front.1) (eqb-true (u64_at block (16 * p + 8)) (u64_at (field_of name) 6) both.1) in
+      ap (is_named name) (named_there slot name s is some field) ∙ (bytes_eq-Decides name name).1 refl
+
+  words_there : (n : ℕ) → dirent_at p block ≡ Some (Used n name) → has_words (u64_at (field_of name) 0) (u64_at (field_of name) 6) p block ≡ true
+  unfolding has_words
+  words_there n e =
+      let slot : List ℕ = record_at 16 p block in
+      let s = slot_in block p long fits within in
+      let words = same_words block name p (field_there slot name n s e) in
+      let some : u16_at block (16 * p) ≢ 0 = λ z. used_number slot n name e (number-part block p ∙ z) in
+      rw (words.0, words.1, ne_eqb (u16_at block (16 * p)) 0 some, eq-eqb (u64_at (field_of name) 0) (u64_at (field_of name) 0) refl, eq-eqb (u64_at (field_of name) 6) (u64_at (field_of name) 6) refl) refl
+
+  by_name : (o : Option Dirent) → dirent_at p block ≡ o → is_named name o ≡ true → has_words (u64_at (field_of name) 0) (u64_at (field_of name) 6) p block ≡ true
+  by_name None e h = cc
+  by_name (Some Free) e h = cc
+  by_name (Some (Used n other)) e h =
+      words_there n (e ∙ ap (λ (xs : List ℕ). Some (Used n xs)) ((bytes_eq-Decides other name).0 h))
+
+  -- compared by the words of its name, a slot is used by this name exactly where it is
+  pub words_name : (front back : ℕ) → front ≡ u64_at (field_of name) 0 → back ≡ u64_at (field_of name) 6 → has_words front back p block ≡ is_named name (dirent_at p block)
+  words_name front back f b =
+      rw (f, b) (same_from_decides {P = is_named name (dirent_at p block) ≡ true} _ _ (by_words, by_name (dirent_at p block) refl) (λ h. h, λ h. h))

@@ -1,0 +1,180 @@
+-- What a search finds.
+use Rattle.std.proofs.Common.{◌≡◌, ℕ, zero, suc, ◌+◌, ◌-◌, ◌*◌, ◌/◌, ◌%◌, ◌<◌, ◌≤◌, nat_le, ◌&&◌, Bool, true, false, List, [], ◌++◌, Option, Some, None, refl, sym, ap, ◌∙◌, arith, ⊎_elim, append_assoc, subst, zero-add}
+use Rattle.std.proofs.lemmas.Bool.{cases_lt, le-leb, lt-leb}
+use Rattle.std.specs.Prelude.{slice_index}
+use Rattle.std.specs.Option.{option_map}
+use Rattle.fs_layout.specs.Indirect.{numbers_in}
+use Rattle.fs_layout.specs.declared.inode.Dinode.{Dinode}
+use Rattle.fs_layout.specs.Entry.{dirent_at}
+use Rattle.atomic_programs.specs.Prog.{Ret, Do, bind}
+use Rattle.fs_machine.specs.Machines.{P}
+use Rattle.fs_machine.specs.Programs.{fetch, read_unless}
+use Rattle.fs_machine.specs.Steps.{Get}
+use Rattle.bitmap_alloc.specs.First.{first_below}
+use Rattle.bitmap_alloc.specs.Laws.{Answering, outcome, recorded, recording}
+use Rattle.bitmap_alloc.proofs.First.{FirstIs, first_is}
+use Rattle.inode_data.specs.declared.addresses.Address.{Address}
+use Rattle.inode_data.specs.declared.addresses.Address.TheVariants.{Direct, InTable}
+use Rattle.inode_data.specs.Addresses.{address, table_of}
+use Rattle.inode_data.specs.Programs.{Fetched, fetch_at, fetch_block, fetch_named, fetch_number, give_fetched}
+use Rattle.directory.specs.declared.found.Found.{Found}
+use Rattle.directory.specs.Slots.{is_used, first_named, first_free, first_used}
+use Rattle.directory.specs.Programs.{Aim, Named, Unused, Entry, block_count, slot_count, slots_in, first_in, found_at, found_in, look_at, or_next, search, search_from}
+use Rattle.directory.specs.Laws.{Shows, slot_at, is_sought, number_of, IsFirst, FindsTheFirst, FindsNothingInTheDead}
+use Rattle.directory.proofs.EntryNumbers.{sought-number}
+
+-- ---- one program after the other
+
+module _ (answer : Answering) where
+  record Later {A B : Type 0} (n : ℕ) (p : P A) (f : A → P B) : Type 0 where
+    at : ℕ
+    ends : outcome answer n (bind p f) ≡ outcome answer at (f (outcome answer n p))
+    records : recorded answer n (bind p f) ≡ recorded answer n p ++ recorded answer at (f (outcome answer n p))
+
+  later : {A B : Type 0} (n : ℕ) (p : P A) (f : A → P B) → Later n p f
+  later n (Ret a) f = record { at = n; ends = refl; records = refl }
+  later n (Do op m k) f =
+      let r = later (n + 1) (k (answer n op)) f in
+      record {
+        at = r.at;
+        ends = r.ends;
+        records = ap (λ xs. recording op ++ xs) r.records ∙ sym (append_assoc (recording op) (recorded answer (n + 1) (k (answer n op))) (recorded answer r.at (f (outcome answer (n + 1) (k (answer n op))))));
+      }
+
+  silent : {A B : Type 0} (n : ℕ) (p : P A) (f : A → P B) → recorded answer n p ≡ [] → ((m : ℕ) (a : A) → recorded answer m (f a) ≡ []) → recorded answer n (bind p f) ≡ []
+  silent n p f none each =
+      let r = later n p f in
+      r.records ∙ rw (none, each r.at (outcome answer n p)) refl
+
+  fetch-silent : (n b : ℕ) → let p : P (List ℕ) = fetch b in recorded answer n p ≡ []
+  fetch-silent n b = at (answer n (Get b))
+    where
+      at : (o : Option (List ℕ)) → let p : P (List ℕ) = read_unless b o in recorded answer (n + 1) p ≡ []
+      at (Some bytes) = refl
+      at None = refl
+
+  number-silent : (n b : ℕ) → let p : P Fetched = fetch_number b in recorded answer n p ≡ []
+  number-silent n b = silent n (fetch b) (give_fetched b) (fetch-silent n b) (λ m bytes. refl)
+
+  at-silent : (n : ℕ) (d : Dinode) (a : Address) → let p : P Fetched = fetch_at d a in recorded answer n p ≡ []
+  at-silent n d (Direct i) = number-silent n (slice_index d.addrs i)
+  at-silent n d (InTable i) =
+      silent n (fetch (table_of d)) (fetch_named (table_of d) i) (fetch-silent n (table_of d)) (λ m bytes. number-silent (m + 1) (slice_index (numbers_in bytes) i))
+
+-- ---- the slots of a block
+
+first-same : (p q : ℕ → Bool) (n : ℕ) (o : Option ℕ) → ((k : ℕ) → p k ≡ q k) → FirstIs p n o → FirstIs q n o
+first-same p q n None same f = λ k h. sym (same k) ∙ f k h
+first-same p q n (Some b) same f = (f.0, sym (same b) ∙ f.1, λ k h. sym (same k) ∙ f.2 k h)
+
+past_two : (k p : ℕ) → nat_le (2 - 64 * k) p ≡ nat_le 2 (64 * k + p)
+past_two k p =
+    ⊎_elim
+    (λ (low : p < 2 - 64 * k). lt-leb (2 - 64 * k) p low ∙ sym (lt-leb 2 (64 * k + p) (omega arith)))
+    (λ (high : 2 - 64 * k ≤ p). le-leb (2 - 64 * k) p high ∙ sym (le-leb 2 (64 * k + p) (omega arith)))
+    (cases_lt p (2 - 64 * k))
+
+-- the first slot of block k that is sought
+first-in : (aim : Aim) (k limit : ℕ) (block : List ℕ) → FirstIs (λ p. is_sought aim (64 * k + p) (dirent_at p block)) limit (first_in aim k limit block)
+unfolding first_named first_free first_used
+first-in (Named name) k limit block = first_is (λ p. is_sought (Named name) (64 * k + p) (dirent_at p block)) limit
+first-in Unused k limit block = first_is (λ p. is_sought Unused (64 * k + p) (dirent_at p block)) limit
+first-in Entry k limit block =
+    first-same (λ p. nat_le (2 - 64 * k) p && is_used (dirent_at p block)) (λ p. is_sought Entry (64 * k + p) (dirent_at p block)) limit
+    (first_below (λ p. nat_le (2 - 64 * k) p && is_used (dirent_at p block)) limit) (λ p. ap (λ b. b && is_used (dirent_at p block)) (past_two k p))
+    (first_is (λ p. nat_le (2 - 64 * k) p && is_used (dirent_at p block)) limit)
+
+-- ---- a search
+
+module _ (content : ℕ → List ℕ) (aim : Aim) where
+  abbrev is_at : ℕ → Bool
+  is_at s = is_sought aim s (slot_at content s)
+
+  -- of the slots from lo up to hi none is sought, or this is the first one
+  abbrev IsBetween : (lo hi : ℕ) → Option Found → Type 0
+  IsBetween lo hi None = (s : ℕ) → lo ≤ s → s < hi → is_at s ≡ false
+  IsBetween lo hi (Some f) =
+      (lo ≤ f.slot) × (f.slot < hi) × (is_at f.slot ≡ true) × (f.number ≡ number_of (slot_at content f.slot)) × ((s : ℕ) → lo ≤ s → s < f.slot → is_at s ≡ false)
+
+  slot-is : (k p : ℕ) → p < 64 → slot_at content (64 * k + p) ≡ dirent_at p (content k)
+  slot-is k p h =
+      let q : (64 * k + p) / 64 ≡ k = omega arith in
+      let r : (64 * k + p) % 64 ≡ p = omega arith in
+      rw (q, r) refl
+
+  -- of block k
+  module _ (k limit : ℕ) (few : limit ≤ 64) where
+    tested : (s : ℕ) → 64 * k ≤ s → s < 64 * k + limit → is_at s ≡ is_sought aim (64 * k + (s - 64 * k)) (dirent_at (s - 64 * k) (content k))
+    tested s l h =
+        let e : s ≡ 64 * k + (s - 64 * k) = omega arith in
+        ap is_at e ∙ ap (is_sought aim (64 * k + (s - 64 * k))) (slot-is k (s - 64 * k) (omega arith))
+
+    block-finds : (o : Option ℕ) → FirstIs (λ p. is_sought aim (64 * k + p) (dirent_at p (content k))) limit o → IsBetween (64 * k) (64 * k + limit) (option_map (found_at k (content k)) o)
+    block-finds None f = λ s l h. tested s l h ∙ f (s - 64 * k) (omega arith)
+    block-finds (Some p) f =
+        let there : slot_at content (64 * k + p) ≡ dirent_at p (content k) = slot-is k p (omega (arith, f.0)) in (
+          omega arith,
+          omega (arith, f.0),
+          ap (is_sought aim (64 * k + p)) there ∙ f.1,
+          sought-number (content k) p aim (64 * k + p) f.1 ∙ ap number_of (sym there),
+          λ s l h. tested s l (omega (arith, f.0)) ∙ f.2 (s - 64 * k) (omega arith),
+        )
+
+  -- what a block has, else what the blocks behind it have
+  or-behind : (answer : Answering) (m lo mid hi : ℕ) (o : Option Found) (next : P (Option Found)) → lo ≤ mid → mid ≤ hi
+      → IsBetween lo mid o → ((n : ℕ) → IsBetween mid hi (outcome answer n next)) → ((n : ℕ) → recorded answer n next ≡ [])
+      → IsBetween lo hi (outcome answer m (or_next o next)) × (recorded answer m (or_next o next) ≡ [])
+  or-behind answer m lo mid hi (Some f) next l h here rest quiet = ((here.0, omega (arith, here.1), here.2, here.3, here.4), refl)
+  or-behind answer m lo mid hi None next l h here rest quiet = (joins (outcome answer m next) (rest m), quiet m)
+    where
+      below : (s : ℕ) → lo ≤ s → (s < mid → is_at s ≡ false) → (mid ≤ s → is_at s ≡ false) → is_at s ≡ false
+      below s a low high = ⊎_elim low high (cases_lt s mid)
+
+      joins : (o : Option Found) → IsBetween mid hi o → IsBetween lo hi o
+      joins None f = λ s a b. below s a (λ c. here s a c) (λ c. f s c b)
+      joins (Some f) g = (omega (arith, g.0), g.1, g.2, g.3, λ s a b. below s a (λ c. here s a c) (λ c. g.4 s c b))
+
+  -- where nothing stands between
+  widen : (lo mid hi : ℕ) (o : Option Found) → lo ≤ mid → ((s : ℕ) → lo ≤ s → s < mid → s < hi → ⊥) → IsBetween mid hi o → IsBetween lo hi o
+  widen lo mid hi None l gap f = λ s a b. ⊎_elim (λ (c : s < mid). absurd (gap s a c b)) (λ (c : mid ≤ s). f s c b) (cases_lt s mid)
+  widen lo mid hi (Some f) l gap g =
+      (omega (arith, g.0), g.1, g.2, g.3, λ s a b. ⊎_elim (λ (c : s < mid). absurd (gap s a c (omega (arith, g.1)))) (λ (c : mid ≤ s). g.4 s c b) (cases_lt s mid))
+
+  module _ (answer : Answering) (d : Dinode) (shows : Shows answer d content) where
+    abbrev Finds : ℕ → ℕ → P (Option Found) → Type 0
+    Finds lo m p = IsBetween lo (slot_count d) (outcome answer m p) × (recorded answer m p ≡ [])
+
+    -- block k, and then those behind it
+    one_block : (k m : ℕ) (next : P (Option Found)) → k < block_count d → ((n : ℕ) → Finds (64 * (k + 1)) n next) → Finds (64 * k) m (bind (fetch_block d k) (look_at aim d k next))
+    unfolding found_in
+    one_block k m next lt behind =
+        let p : P Fetched = fetch_block d k in
+        let r = later answer m p (look_at aim d k next) in
+        let mid : ℕ = 64 * k + slots_in d k in
+        let here : IsBetween (64 * k) mid (found_in aim d k (content k)) =
+        block-finds k (slots_in d k) (omega arith) (first_in aim k (slots_in d k) (content k)) (first-in aim k (slots_in d k) (content k)) in
+        let rest = or-behind answer (r.at + 1) (64 * k) mid (slot_count d) (found_in aim d k (content k)) next (omega arith) (omega arith) here
+        (λ n. widen mid (64 * (k + 1)) (slot_count d) (outcome answer n next) (omega arith) (λ s a b c. omega arith) (behind n).0) (λ n. (behind n).1) in
+        let same : (outcome answer m p).bytes ≡ content k = shows m k lt in (
+          subst (IsBetween (64 * k) (slot_count d)) (sym (r.ends ∙ ap (λ (bytes : List ℕ). outcome answer (r.at + 1) (or_next (found_in aim d k bytes) next)) same)) rest.0,
+          r.records ∙ ap (λ xs. xs ++ recorded answer r.at (look_at aim d k next (outcome answer m p))) (at-silent answer m d (address k))
+              ∙ ap (λ (bytes : List ℕ). recorded answer (r.at + 1) (or_next (found_in aim d k bytes) next)) same ∙ rest.1,
+        )
+
+    from : (n k : ℕ) → k + n ≡ block_count d → (m : ℕ) → Finds (64 * k) m (search_from n aim d k)
+    unfolding search_from
+    from zero k e m = (λ s l h. absurd (omega arith), refl)
+    from (suc n) k e m = one_block k m (search_from n aim d (k + 1)) (omega arith) (λ i. from n (k + 1) (omega arith) i)
+
+  first-of : (count : ℕ) (o : Option Found) → IsBetween (64 * 0) count o → IsFirst aim (slot_at content) count o
+  first-of count None f = λ s h. f s (omega arith) h
+  first-of count (Some f) g = (g.1, g.2, g.3, λ s h. g.4 s (omega arith) h)
+
+pub dead_finds : FindsNothingInTheDead
+dead_finds name d dead = rw dead refl
+
+pub finds_first : FindsTheFirst
+finds_first answer d content aim shows =
+    let p : P (Option Found) = search aim d in
+    let found = from content aim answer d shows (block_count d) 0 (zero-add (block_count d)) 0 in
+    (first-of content aim (slot_count d) (outcome answer 0 p) found.0, found.1)

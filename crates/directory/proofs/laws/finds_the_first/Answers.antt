@@ -1,0 +1,5 @@
+use Rattle.directory.proofs.Searches.{finds_first}
+use Rattle.directory.proofs.laws.finds_the_first.Goals as goal
+
+pub returns : goal.returns
+returns c = finds_first

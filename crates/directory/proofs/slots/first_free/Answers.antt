@@ -1,0 +1,21 @@
+use Rattle.std.proofs.Common.{sym, ◌∙◌, below_more, arith}
+use Rattle.fs_layout.specs.Entry.{dirent_at}
+use Rattle.directory.specs.Slots.{first_free, is_free}
+use Rattle.bitmap_alloc.proofs.First.{this_below, none_below}
+use Rattle.directory.proofs.Cleared.{clear_free}
+use Rattle.directory.proofs.slots.first_free.Goals as goal
+
+pub returns-then-is_clear-clause-first : goal.returns-then-is_clear-clause-first
+unfolding first_free
+returns-then-is_clear-clause-first c =
+    let e = clear_free c.args.block.now c.loop-place.place c.told-block c.fits-block (omega arith) in
+    sym (this_below (λ p. is_free (dirent_at p c.args.block.now)) c.args.limit c.loop-place.place c.loop-place-test.true (sym e ∙ sym c.is_clear.ensures ∙ c.if-is_clear.true) c.loop-place.invariant)
+
+pub loop-place-preserved : goal.loop-place-preserved
+loop-place-preserved c =
+    let e = clear_free c.args.block.now c.loop-place.place c.told-block c.fits-block (omega arith) in
+    below_more _ _ c.loop-place.invariant (sym e ∙ sym c.is_clear.ensures ∙ c.if-is_clear.false)
+
+pub returns-clause-first : goal.returns-clause-first
+unfolding first_free
+returns-clause-first c = sym (none_below (λ p. is_free (dirent_at p c.args.block.now)) c.args.limit (λ k h. c.loop-place.invariant k (omega arith)))

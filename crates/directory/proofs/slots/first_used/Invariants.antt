@@ -1,0 +1,7 @@
+use Rattle.std.proofs.Common.{◌≡◌, ℕ, ◌<◌, ◌≤◌, false}
+use Rattle.fs_layout.specs.Entry.{dirent_at}
+use Rattle.directory.specs.Slots.{is_used}
+use Rattle.directory.proofs.slots.first_used.Given as goal
+
+abbrev pub invariant-loop-place : goal.invariant-loop-place
+invariant-loop-place l = (k : ℕ) → l.from ≤ k → k < l.place → is_used (dirent_at k l.block) ≡ false

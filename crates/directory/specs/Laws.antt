@@ -1,0 +1,51 @@
+-- What a search finds, whatever its operations answer.
+use Rattle.std.specs.Prelude.{◌≡◌, ℕ, ◌/◌, ◌%◌, ◌<◌, nat_le, ◌&&◌, List, [], Bool, true, false, Option, Some, None}
+use Rattle.fs_layout.specs.declared.inode.Dinode.{Dinode}
+use Rattle.fs_layout.specs.declared.entry.Dirent.{Dirent}
+use Rattle.fs_layout.specs.declared.entry.Dirent.TheVariants.{Free, Used}
+use Rattle.fs_layout.specs.Entry.{dirent_at}
+use Rattle.fs_layout.specs.Widths.{dirents_per_block}
+use Rattle.atomic_programs.specs.Prog.{Ret}
+use Rattle.fs_machine.specs.Machines.{P}
+use Rattle.bitmap_alloc.specs.Laws.{Answering, outcome, recorded}
+use Rattle.inode_data.specs.Programs.{Fetched, fetch_block}
+use Rattle.directory.specs.declared.found.Found.{Found}
+use Rattle.directory.specs.Slots.{is_named, is_free, is_used}
+use Rattle.directory.specs.Programs.{Aim, Named, Unused, Entry, block_count, slot_count, is_live_directory, lookup, search}
+
+-- the operations show these blocks as the directory's, at any time
+abbrev pub Shows : Answering → Dinode → (ℕ → List ℕ) → Type 0
+Shows answer d content = (n k : ℕ) → k < block_count d → (let p : P Fetched = fetch_block d k in (outcome answer n p).bytes ≡ content k)
+
+-- slot s of a directory with these blocks: None where its bytes are no entry
+abbrev pub slot_at : (ℕ → List ℕ) → ℕ → Option Dirent
+slot_at content s = dirent_at (s % dirents_per_block) (content (s / dirents_per_block))
+
+-- slot s is what is sought
+abbrev pub is_sought : Aim → ℕ → Option Dirent → Bool
+is_sought (Named name) s entry = is_named name entry
+is_sought Unused s entry = is_free entry
+is_sought Entry s entry = nat_le 2 s && is_used entry
+
+-- the number in an entry; a free slot has none
+abbrev pub number_of : Option Dirent → ℕ
+number_of None = 0
+number_of (Some Free) = 0
+number_of (Some (Used number name)) = number
+
+-- of so many slots none is sought; or the first one that is was found, with its number
+abbrev pub IsFirst : Aim → (ℕ → Option Dirent) → ℕ → Option Found → Type 0
+IsFirst aim slots count None = (s : ℕ) → s < count → is_sought aim s (slots s) ≡ false
+IsFirst aim slots count (Some f) =
+    (f.slot < count) × (is_sought aim f.slot (slots f.slot) ≡ true) × (f.number ≡ number_of (slots f.slot))
+    × ((s : ℕ) → s < f.slot → is_sought aim s (slots s) ≡ false)
+
+-- a search finds the first of the directory's slots that is sought, and records nothing
+abbrev pub FindsTheFirst : Type 0
+FindsTheFirst = (answer : Answering) (d : Dinode) (content : ℕ → List ℕ) (aim : Aim) → Shows answer d content
+    → let p : P (Option Found) = search aim d in
+    IsFirst aim (slot_at content) (slot_count d) (outcome answer 0 p) × (recorded answer 0 p ≡ [])
+
+-- in a directory without links, and in what is no directory, nothing is found, without an operation
+abbrev pub FindsNothingInTheDead : Type 0
+FindsNothingInTheDead = (name : List ℕ) (d : Dinode) → is_live_directory d ≡ false → let p : P (Option Found) = lookup name d in p ≡ Ret None

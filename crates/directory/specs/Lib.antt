@@ -1,0 +1,4 @@
+pub mod Slots
+pub mod Programs
+pub mod Machines
+pub mod Laws

@@ -1,0 +1,12 @@
+//! What holds of the programs, whatever their operations answer. The functions do nothing: they carry the laws.
+ghost use Rattle.directory.specs.Laws.{FindsTheFirst, FindsNothingInTheDead};
+
+/// As long as the operations show a directory's blocks as they are, a search finds the first slot that is sought, and records nothing.
+pub fn finds_the_first()
+    ensures { FindsTheFirst }
+{}
+
+/// In a directory without links, and in what is no directory, a lookup finds nothing, without an operation.
+pub fn finds_nothing_in_the_dead()
+    ensures { FindsNothingInTheDead }
+{}

@@ -1,0 +1,14 @@
+//! The names of a directory.
+//!
+//! `specs/Programs` says what is done, operation by operation; `Search` is a machine that does it. A block's 64 slots are compared
+//! where they stand, in the buffer.
+#![tactic(auto)]
+
+mod found;
+pub mod laws;
+mod search;
+mod slots;
+
+pub use crate::found::{Found, MOST_SLOTS, Sought};
+pub use crate::search::{Search, Searched, Searching, is_directory, is_live_directory};
+pub use crate::slots::{first_free, first_named, first_used, number_at};

@@ -1,0 +1,131 @@
+//! The slots of a directory's block, looked at where they stand: no name is built for one.
+ghost use Rattle.std.specs.Prelude.{◌≡◌, ◌+◌, ◌*◌, ◌<◌, ◌≤◌, length, IfSome};
+ghost use Rattle.fs_layout.specs.Bytes.{u16_at};
+ghost use Rattle.fs_layout.specs.Entry.{dirent_at};
+ghost use Rattle.fs_layout.specs.Name.{IsName};
+ghost use Rattle.fs_layout.specs.Widths.{dirent_len, dirents_per_block, name_len};
+ghost use Rattle.directory.specs.Slots.{field_of, first_free, first_named, first_used, has_words, is_clear, is_used, u64_at};
+
+use byteorder::{ByteOrder, LittleEndian};
+use fs_layout::widths::{Block, DIRENT_LEN, DIRENT_NAME_AT, NAME_LEN};
+use fs_layout::{Dirent, read_dirent};
+
+// How many bytes a word has.
+const WORD_LEN: usize = 8;
+
+// The field of a name as two words that overlap: its first eight bytes, and its last eight.
+#[derive(Clone, Copy)]
+struct Words {
+    front: u64,
+    back: u64,
+}
+
+// The word at a place.
+#[tactic(auto, unfolding(crate::specs::Slots::u64_at))]
+fn word_at(bytes: &[u8], at: usize) -> u64
+    requires { at + 8 ≤ length bytes.now }
+    ensures { result ≡ u64_at bytes.now at }
+{
+    LittleEndian::read_u64(&bytes[at..])
+}
+
+// The words of a name.
+#[tactic(auto, unfolding(crate::specs::Slots::field_of))]
+fn words_of(name: &[u8]) -> Words
+    requires { length name.now ≤ name_len }
+    ensures front { result.front ≡ u64_at (field_of name.now) 0 }
+    ensures back { result.back ≡ u64_at (field_of name.now) 6 }
+{
+    let mut field = [0; NAME_LEN];
+    field[..name.len()].copy_from_slice(name);
+    Words {
+        front: word_at(&field, 0),
+        back: word_at(&field, NAME_LEN - WORD_LEN),
+    }
+}
+
+/// The number in a slot.
+#[tactic(auto, unfolding(fs_layout::specs::Bytes::u16_at))]
+pub fn number_at(block: &Block, place: usize) -> u16
+    requires { place < dirents_per_block }
+    ensures { result ≡ u16_at block.now (dirent_len * place) }
+{
+    LittleEndian::read_u16(&block[DIRENT_LEN * place..])
+}
+
+// Whether a slot is used, with these words.
+#[tactic(auto, unfolding(crate::specs::Slots::has_words))]
+fn has_words(block: &Block, place: usize, words: Words) -> bool
+    requires { place < dirents_per_block }
+    ensures { result ≡ has_words words.front words.back place block.now }
+{
+    let at = DIRENT_LEN * place;
+    number_at(block, place) != 0
+        && word_at(block, at + DIRENT_NAME_AT) == words.front
+        && word_at(block, at + WORD_LEN) == words.back
+}
+
+// Whether a slot is all zeros.
+#[tactic(auto, unfolding(crate::specs::Slots::is_clear))]
+fn is_clear(block: &Block, place: usize) -> bool
+    requires { place < dirents_per_block }
+    ensures { result ≡ is_clear place block.now }
+{
+    let at = DIRENT_LEN * place;
+    word_at(block, at) == 0 && word_at(block, at + WORD_LEN) == 0
+}
+
+// Whether it is used.
+fn is_used(block: &Block, place: usize) -> bool
+    requires { place < dirents_per_block }
+    ensures { result ≡ is_used (dirent_at place block.now) }
+{
+    matches!(read_dirent(block, place), Some(Dirent::Used { .. }))
+}
+
+/// The first slot of this name among the first so many.
+#[tactic(auto, unfolding(crate::specs::Slots::first_named))]
+pub fn first_named(block: &Block, limit: usize, name: &[u8]) -> Option<usize>
+    requires limit { limit ≤ dirents_per_block }
+    requires name { IsName name.now }
+    ensures first { result ≡ first_named name.now limit block.now }
+    ensures below { IfSome result (λ place. place < limit) }
+{
+    let words = words_of(name);
+    for place in 0..limit {
+        if has_words(block, place, words) {
+            return Some(place);
+        }
+    }
+    None
+}
+
+/// The first free slot among the first so many.
+#[tactic(auto, unfolding(crate::specs::Slots::first_free))]
+pub fn first_free(block: &Block, limit: usize) -> Option<usize>
+    requires { limit ≤ dirents_per_block }
+    ensures first { result ≡ first_free limit block.now }
+    ensures below { IfSome result (λ place. place < limit) }
+{
+    for place in 0..limit {
+        if is_clear(block, place) {
+            return Some(place);
+        }
+    }
+    None
+}
+
+/// The first used slot from a place on, among the first so many.
+#[tactic(auto, unfolding(crate::specs::Slots::first_used))]
+pub fn first_used(block: &Block, from: usize, limit: usize) -> Option<usize>
+    requires { limit ≤ dirents_per_block }
+    ensures first { result ≡ first_used from limit block.now }
+    ensures below { IfSome result (λ place. place < limit) }
+{
+    for place in from..limit {
+        if is_used(block, place) {
+            return Some(place);
+        }
+    }
+    None
+}
