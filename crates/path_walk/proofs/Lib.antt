@@ -1,0 +1,4 @@
+mod ElementLemmas
+mod Visits
+mod Nested
+mod Steps

@@ -1,0 +1,118 @@
+-- The programs that are left of a walk.
+use Rattle.std.specs.Prelude.{◌≡◌, ℕ, ◌^◌, ◌<◌, List, [], ◌∷◌, ◌++◌, drop, Option, Some, None}
+use Rattle.sleep_lock.specs.SleepLock.{GuardState}
+use Rattle.fs_layout.specs.declared.inode.Dinode.{Dinode}
+use Rattle.atomic_programs.specs.Prog.{Ret, Do, bind, unmarked}
+use Rattle.atomic_programs.specs.declared.machines.Stepped.{Stepped}
+use Rattle.atomic_programs.specs.declared.machines.Stepped.TheVariants as stepped
+use Rattle.fs_tables.specs.declared.inodes.Inode.{Inode}
+use Rattle.fs_machine.specs.declared.kind.Kind.{Kind}
+use Rattle.fs_machine.specs.Steps.{State, Unlock, Up, Number}
+use Rattle.fs_machine.specs.Machines.{P, within}
+use Rattle.fs_machine.specs.Tied.{IsOwnInode}
+use Rattle.inode_table.specs.Machines.{load_of, LoadFits}
+use Rattle.directory.specs.declared.found.Found.{Found}
+use Rattle.directory.specs.declared.search.Search.{Search}
+use Rattle.directory.specs.declared.search.Searched.{Searched}
+use Rattle.directory.specs.Programs.{Named}
+use Rattle.directory.specs.Machines.{search_of, inode_of, SearchFits}
+use Rattle.plain_tree.specs.Tree.{elements}
+use Rattle.path_walk.specs.Elements.{name_in, names_of, IsElement}
+use Rattle.path_walk.specs.Programs.{WalkedState, Reaches, Loses, lost, loaded, lock_loaded, drop_directory, leave_directory, go_on, walk_step, visit, walk, walk_path}
+use Rattle.path_walk.specs.declared.walked.Stop.TheVariants.{NotThere, NoMemory}
+use Rattle.path_walk.specs.declared.walked.Walked.{Walked}
+use Rattle.path_walk.specs.declared.walked.Walked.TheVariants as walked
+use Rattle.path_walk.specs.declared.walk.Way.{Way}
+use Rattle.path_walk.specs.declared.walk.Next.{Next}
+use Rattle.path_walk.specs.declared.walk.Next.TheVariants as next
+use Rattle.path_walk.specs.declared.walk.Walk.{Walk}
+use Rattle.path_walk.specs.declared.walk.Walk.TheVariants as walking
+
+-- what a result stands for, of this path
+abbrev pub walked_as : List ℕ → Walked → WalkedState
+walked_as path (walked.Reached d last list) = Reaches d (names_of path last) list
+walked_as path (walked.Lost why list) = Loses why list
+
+-- through the elements behind this one
+abbrev pub rest_of : List ℕ → Way → ℕ → List ℕ → P WalkedState
+rest_of path way = walk way.goal way.inodestart (elements (drop way.element.rest path))
+
+-- in the directory in which it is looked up
+abbrev pub visit_of : List ℕ → Way → ℕ → Inode → P WalkedState
+visit_of path way d v = visit way.goal (name_in path way.element) (elements (drop way.element.rest path)) d way.list (rest_of path way) v
+
+-- after the directory was left
+abbrev pub next_of : List ℕ → Way → Next → List ℕ → P WalkedState
+next_of path way (next.To n) ns = rest_of path way n ns
+next_of path way (next.Lost why) ns = lost why ns
+
+unfoldable pub walk_of : List ℕ → Walk → P WalkedState
+walk_of path (walking.Start inodestart goal list) = walk_path goal inodestart path list
+walk_of path (walking.Lock way d) = lock_loaded way.inodestart d (visit_of path way d)
+walk_of path (walking.Load way d guard m) = bind (load_of m) (λ i. visit_of path way d (loaded d i))
+walk_of path (walking.Lookup way d m) = bind (search_of (Named (name_in path way.element)) m) (walk_step d (inode_of m).value way.list (rest_of path way))
+walk_of path (walking.Up way d guard n) = Do (Up (Number n)) unmarked (λ up. leave_directory d guard.value way.list (go_on (rest_of path way) up))
+walk_of path (walking.Unlock way d guard then) = leave_directory d guard.value way.list (next_of path way then)
+walk_of path (walking.Down way d then) = drop_directory d way.list (next_of path way then)
+walk_of path (walking.Leave way d guard) = Do (Unlock guard.value None) unmarked (λ _. Ret (Reaches d (name_in path way.element ∷ []) way.list))
+
+-- the element stands in the path, and each inode has its block
+pub record IsWay (path : List ℕ) (way : Way) : Type 0 where
+  pub element : IsElement path way.element
+  pub start : way.inodestart < 2 ^ 31
+
+-- its guards go with the state
+unfoldable pub WalkFits : List ℕ → ℕ → State → Walk → Type 0
+WalkFits path hart s (walking.Start inodestart goal list) = inodestart < 2 ^ 31
+WalkFits path hart s (walking.Lock way d) = IsWay path way
+WalkFits path hart s (walking.Load way d guard m) = IsWay path way × IsOwnInode hart d guard s × LoadFits hart s m
+WalkFits path hart s (walking.Lookup way d m) = IsWay path way × IsOwnInode hart d (inode_of m) s × SearchFits hart s m
+WalkFits path hart s (walking.Up way d guard n) = IsWay path way × IsOwnInode hart d guard s
+WalkFits path hart s (walking.Unlock way d guard then) = IsWay path way × IsOwnInode hart d guard s
+WalkFits path hart s (walking.Down way d then) = IsWay path way
+WalkFits path hart s (walking.Leave way d guard) = IsWay path way × IsOwnInode hart d guard s
+
+-- the call's list
+abbrev pub list_of : Walk → List ℕ
+list_of (walking.Start inodestart goal list) = list
+list_of (walking.Lock way d) = way.list
+list_of (walking.Load way d guard m) = way.list
+list_of (walking.Lookup way d m) = way.list
+list_of (walking.Up way d guard n) = way.list
+list_of (walking.Unlock way d guard then) = way.list
+list_of (walking.Down way d then) = way.list
+list_of (walking.Leave way d guard) = way.list
+
+-- a nested machine's step, as one of the walk that it stands in; where it is done, the walk goes on with a state of which this holds
+abbrev pub GoesOn : {M R : Type 0} → (M → Walk) → (R → Walk → Type 0) → Stepped M R Kind → Stepped Walk Walked Kind → Type 0
+GoesOn f After (stepped.Waits m) result = result ≡ stepped.Waits (f m)
+GoesOn f After (stepped.Ran m kind) result = result ≡ stepped.Ran (f m) kind
+GoesOn f After (stepped.Done r kind) result = (w : Walk) × (result ≡ stepped.Ran w kind) × After r w
+GoesOn f After (stepped.Stopped m) result = result ≡ stepped.Stopped (f m)
+
+-- what a load that is done goes on with
+abbrev pub LoadedTo : List ℕ → Way → ℕ → GuardState Inode → Dinode → Walk → Type 0
+LoadedTo path way d guard i w =
+    (walk_of path w ≡ visit_of path way d (loaded d i))
+    × ((hart : ℕ) (s : State) → IsOwnInode hart d guard s → WalkFits path hart s w)
+
+-- and a lookup that is
+abbrev pub found_as : Way → ℕ → GuardState Inode → Option Found → Walk
+found_as way d guard None = walking.Unlock way d guard (next.Lost NotThere)
+found_as way d guard (Some found) = walking.Up way d guard found.number
+
+abbrev pub found_state : Way → ℕ → Searched → Walk
+found_state way d r = found_as way d r.inode r.found
+
+abbrev pub in_lookup : Way → ℕ → Stepped Search Searched Kind → Stepped Walk Walked Kind
+in_lookup way d s = within (λ m. walking.Lookup way d m) (found_state way d) s
+
+-- what comes after the directory, where a reference was wanted
+abbrev pub next_as : Option ℕ → Next
+next_as None = next.Lost NoMemory
+next_as (Some n) = next.To n
+
+-- the list with what was kept
+abbrev pub keep : List ℕ → Option ℕ → List ℕ
+keep ns None = ns
+keep ns (Some n) = ns ++ n ∷ []

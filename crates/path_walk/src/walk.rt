@@ -1,0 +1,370 @@
+//! A path walked.
+ghost use Rattle.std.specs.Prelude.{◌≡◌, ◌≢◌, ◌^◌, ◌<◌, ◌≤◌, ℕ, List, drop, length, All, IsSome};
+ghost use Rattle.atomic_programs.specs.Prog.{bind, Ran as ItRan};
+ghost use Rattle.atomic_programs.specs.Machines.{Still, Left as LeftOf};
+ghost use Rattle.fs_machine.specs.LogPart.{Outside};
+ghost use Rattle.fs_machine.specs.Steps.{State, state_of, exec, Up};
+ghost use Rattle.fs_machine.specs.Premises.{May};
+ghost use Rattle.fs_machine.specs.Machines.{MayNext, Moves, Answers};
+ghost use Rattle.fs_machine.specs.Tied.{IsOwnInode, LeavesTied};
+ghost use Rattle.inode_table.specs.Programs.{load_unless};
+ghost use Rattle.inode_data.specs.Beginnings.{begun_of, IfBegun};
+ghost use Rattle.plain_tree.specs.Tree.{elements};
+ghost use Rattle.path_walk.specs.Elements.{name_in};
+ghost use Rattle.path_walk.specs.Programs.{go_on, is_last, loaded, see_parent, start_of, walk, walk_path};
+ghost use Rattle.path_walk.specs.Machines.{found_state, in_lookup, keep, list_of, next_as, next_of, visit_of, walk_of, walked_as, GoesOn, IsWay, LoadedTo, WalkFits};
+ghost use Rattle.path_walk.specs.declared.walk.Walk.TheVariants as walking;
+
+use crate::elements::{Element, is_absolute, next_element};
+use crate::walked::{Goal, Stop, Walked};
+use atomic_programs::machines::Stepped;
+use block_device::Device;
+use directory::{Search, Searched, Sought, is_directory};
+use fs_layout::Dinode;
+use fs_machine::{Core, Kind};
+use fs_tables::{Inode, Listed, MEMORY_INODES, ROOT, Reference};
+use inode_data::{Begun, record, went_on};
+use inode_table::LoadInode;
+use sleep_lock::Guard;
+
+/// What a walk has in hand beside its directory.
+pub struct Way {
+    /// The first inode block of the disk.
+    pub inodestart: u32,
+    pub goal: Goal,
+    /// The element that is looked up in the directory.
+    pub element: Element,
+    /// The call's references to inodes that it frees at its end.
+    pub list: Listed,
+}
+
+/// What comes after a directory was left.
+pub enum Next {
+    /// What was found in it.
+    To(Reference),
+    /// Nothing: the walk is lost.
+    Lost(Stop),
+}
+
+/// Walks a path, which is told with each step. The lock of one directory is had at a time, and a reference to what is found taken
+/// before that directory is left.
+pub enum Walk {
+    /// A reference to the path's start is taken.
+    Start(u32, Goal, Listed),
+    /// The lock of this directory is taken.
+    Lock(Way, Reference),
+    /// The directory is loaded.
+    Load(Way, Reference, Guard<Inode>, LoadInode),
+    /// The element is looked up in it.
+    Lookup(Way, Reference, Search),
+    /// A reference to what was found is taken.
+    Up(Way, Reference, Guard<Inode>, u32),
+    /// The directory's lock is given back ..
+    Unlock(Way, Reference, Guard<Inode>, Next),
+    /// .. and the reference to it dropped.
+    Down(Way, Reference, Next),
+    /// The lock of the parent that was reached is given back.
+    Leave(Way, Reference, Guard<Inode>),
+}
+
+impl Walk {
+    /// From a path's start, on a disk whose inode blocks begin at block `inodestart`.
+    #[tactic(auto, unfolding(crate::specs::Machines::walk_of, crate::specs::Machines::WalkFits))]
+    pub fn new(inodestart: u32, goal: Goal, list: Listed) -> Walk
+        requires { inodestart < 2 ^ 31 }
+        ensures program { (path : List ℕ) → walk_of path result ≡ walk_path goal inodestart path list }
+        ensures list { list_of result ≡ list }
+        ensures fits { (path : List ℕ) (hart : ℕ) (s : State) → WalkFits path hart s result }
+    {
+        Walk::Start(inodestart, goal, list)
+    }
+
+    /// One operation.
+    #[tactic(auto, unfolding(crate::specs::Machines::walk_of, crate::specs::Machines::WalkFits, fs_machine::specs::Premises::Honest))]
+    pub fn step<D: Device>(
+        self,
+        hart: u8,
+        path: &[u8],
+        core: &mut Core<D>,
+    ) -> Stepped<Walk, Walked, Kind>
+        requires nonzero { All (λ b. b ≢ 0) path.now }
+        requires room { length (list_of self) < MEMORY_INODES }
+        requires may { MayNext hart (walk_of path.now self) (state_of D.contents D.failures core.old) }
+        requires fits { WalkFits path.now hart (state_of D.contents D.failures core.old) self }
+        ensures moves { Moves (walk_of path.now) (walked_as path.now) hart self result (state_of D.contents D.failures core.old) (state_of D.contents D.failures core.new) }
+        ensures honest { Answers (walk_of path.now) hart self result (state_of D.contents D.failures core.old) (state_of D.contents D.failures core.new) }
+        ensures still { Still (walk_of path.now) result self core.old core.new }
+        ensures fits { LeftOf (WalkFits path.now hart (state_of D.contents D.failures core.new)) (λ _. Unit {0}) result }
+        ensures others { LeavesTied hart (state_of D.contents D.failures core.old) (state_of D.contents D.failures core.new) }
+    {
+        match self {
+            Walk::Start(inodestart, goal, list) => {
+                let start = up_start(hart, path, core);
+                went_on(started(path, inodestart, goal, list, start), Kind::Up)
+            }
+            Walk::Lock(way, directory) => match core.lock(hart, &directory) {
+                None => Stepped::Waits(Walk::Lock(way, directory)),
+                Some(guard) => Stepped::Ran(locked(path, way, directory, guard), Kind::Lock),
+            },
+            Walk::Load(way, directory, guard, load) => {
+                loading(path, way, directory, guard, load.step(hart, core))
+            }
+            Walk::Lookup(way, directory, search) => {
+                let name = Sought::Name(&path[way.element.start..way.element.end]);
+                looking(way, directory, search.step(hart, name, core))
+            }
+            Walk::Up(way, directory, guard, number) => {
+                let next = next_to(core.up(hart, number));
+                Stepped::Ran(Walk::Unlock(way, directory, guard, next), Kind::Up)
+            }
+            Walk::Unlock(way, directory, guard, next) => {
+                core.unlock(hart, guard);
+                Stepped::Ran(Walk::Down(way, directory, next), Kind::Unlock)
+            }
+            Walk::Down(way, directory, next) => {
+                let way = with_kept(way, core.drop_walked(hart, directory));
+                went_on(after(path, way, next), Kind::Down)
+            }
+            Walk::Leave(way, directory, guard) => {
+                core.unlock(hart, guard);
+                let Way {
+                    inodestart: _,
+                    goal: _,
+                    element,
+                    list,
+                } = way;
+                Stepped::Done(
+                    Walked::Reached(directory, Some(element), list),
+                    Kind::Unlock,
+                )
+            }
+        }
+    }
+}
+
+// A reference to the path's start.
+fn up_start<D: Device>(hart: u8, path: &[u8], core: &mut Core<D>) -> Option<Reference>
+    requires { May hart (Up (start_of path.now)) (state_of D.contents D.failures core.old) }
+    ensures ran { (x : Outside) → exec hart x (Up (start_of path.now)) (state_of D.contents D.failures core.old) ≡ ItRan result (state_of D.contents D.failures core.new) }
+    ensures others { LeavesTied hart (state_of D.contents D.failures core.old) (state_of D.contents D.failures core.new) }
+{
+    if is_absolute(path) {
+        core.up(hart, ROOT)
+    } else {
+        core.up_directory(hart)
+    }
+}
+
+// In this directory, to which the path before a place leads.
+#[tactic(auto, unfolding(crate::specs::Machines::walk_of, crate::specs::Machines::WalkFits, crate::specs::Programs::walk))]
+fn arrive(
+    path: &[u8],
+    from: usize,
+    inodestart: u32,
+    goal: Goal,
+    list: Listed,
+    directory: Reference,
+) -> Begun<Walk, Walked>
+    requires from { from ≤ length path.now }
+    requires nonzero { All (λ b. b ≢ 0) path.now }
+    requires start { inodestart < 2 ^ 31 }
+    ensures program { begun_of (walk_of path.now) (walked_as path.now) result ≡ walk goal inodestart (elements (drop from path.now)) directory list }
+    ensures fits { (hart : ℕ) (s : State) → IfBegun (WalkFits path.now hart s) (λ _. Unit {0}) result }
+{
+    match next_element(path, from) {
+        None => Begun::Is(Walked::Reached(directory, None, list)),
+        Some(element) => {
+            let way = Way {
+                inodestart,
+                goal,
+                element,
+                list,
+            };
+            Begun::Runs(Walk::Lock(way, directory))
+        }
+    }
+}
+
+// After a reference to the start was taken, if there was a place for one.
+fn started(
+    path: &[u8],
+    inodestart: u32,
+    goal: Goal,
+    list: Listed,
+    start: Option<Reference>,
+) -> Begun<Walk, Walked>
+    requires nonzero { All (λ b. b ≢ 0) path.now }
+    requires start { inodestart < 2 ^ 31 }
+    ensures program { begun_of (walk_of path.now) (walked_as path.now) result ≡ go_on (walk goal inodestart (elements path.now)) start list }
+    ensures fits { (hart : ℕ) (s : State) → IfBegun (WalkFits path.now hart s) (λ _. Unit {0}) result }
+{
+    match start {
+        None => Begun::Is(Walked::Lost(Stop::NoMemory, list)),
+        Some(directory) => arrive(path, 0, inodestart, goal, list, directory),
+    }
+}
+
+// What comes after the directory is left, where a reference to what was found was wanted.
+fn next_to(up: Option<Reference>) -> Next
+    ensures { result ≡ next_as up }
+{
+    match up {
+        None => Next::Lost(Stop::NoMemory),
+        Some(reference) => Next::To(reference),
+    }
+}
+
+// After a directory was left.
+fn after(path: &[u8], way: Way, next: Next) -> Begun<Walk, Walked>
+    requires nonzero { All (λ b. b ≢ 0) path.now }
+    requires way { IsWay path.now way }
+    ensures program { begun_of (walk_of path.now) (walked_as path.now) result ≡ next_of path.now way next way.list }
+    ensures fits { (hart : ℕ) (s : State) → IfBegun (WalkFits path.now hart s) (λ _. Unit {0}) result }
+{
+    let Way {
+        inodestart,
+        goal,
+        element,
+        list,
+    } = way;
+    match next {
+        Next::To(reference) => arrive(path, element.rest, inodestart, goal, list, reference),
+        Next::Lost(why) => Begun::Is(Walked::Lost(why, list)),
+    }
+}
+
+// The call's list has the reference that was kept, if one was.
+fn with_kept(way: Way, kept: Option<Reference>) -> Way
+    requires { length way.list < MEMORY_INODES }
+    ensures { result ≡ record way { list = keep way.list kept } }
+{
+    let mut way = way;
+    match kept {
+        None => {}
+        Some(reference) => way.list.push(reference),
+    }
+    way
+}
+
+// In a directory whose lock was taken.
+#[tactic(auto, unfolding(crate::specs::Machines::walk_of, crate::specs::Machines::WalkFits))]
+fn locked(path: &[u8], way: Way, directory: Reference, guard: Guard<Inode>) -> Walk
+    requires nonzero { All (λ b. b ≢ 0) path.now }
+    requires way { IsWay path.now way }
+    requires number { guard.value.number ≡ directory }
+    ensures program { walk_of path.now result ≡ bind (load_unless way.inodestart directory guard.value.content) (λ i. visit_of path.now way directory (loaded directory i)) }
+    ensures fits { (hart : ℕ) (s : State) → IsOwnInode hart directory guard s → WalkFits path.now hart s result }
+{
+    if guard.value().content.is_some() {
+        visit(path, way, directory, guard)
+    } else {
+        let load = LoadInode::new(way.inodestart, directory.number());
+        Walk::Load(way, directory, guard, load)
+    }
+}
+
+// In a directory that is loaded.
+#[tactic(auto, unfolding(crate::specs::Machines::walk_of, crate::specs::Machines::WalkFits))]
+fn visit(path: &[u8], way: Way, directory: Reference, guard: Guard<Inode>) -> Walk
+    requires nonzero { All (λ b. b ≢ 0) path.now }
+    requires way { IsWay path.now way }
+    requires loaded { IsSome guard.value.content }
+    ensures program { walk_of path.now result ≡ visit_of path.now way directory guard.value }
+    ensures fits { (hart : ℕ) (s : State) → IsOwnInode hart directory guard s → WalkFits path.now hart s result }
+{
+    if is_last(path, &way) {
+        return see(way, directory, guard);
+    }
+    match Search::lookup(guard) {
+        Begun::Runs(search) => Walk::Lookup(way, directory, search),
+        Begun::Is(searched) => found(way, directory, searched),
+    }
+}
+
+// Whether the element is the last one of a walk to the parent.
+fn is_last(path: &[u8], way: &Way) -> bool
+    requires nonzero { All (λ b. b ≢ 0) path.now }
+    requires way { IsWay path.now way.now }
+    ensures { result ≡ is_last way.now.goal (elements (drop way.now.element.rest path.now)) }
+{
+    match way.goal {
+        Goal::Node => false,
+        Goal::Parent => next_element(path, way.element.rest).is_none(),
+    }
+}
+
+// The last element's directory is seen to be one.
+#[tactic(auto, unfolding(crate::specs::Machines::walk_of, crate::specs::Machines::WalkFits))]
+fn see(way: Way, directory: Reference, guard: Guard<Inode>) -> Walk
+    requires loaded { IsSome guard.value.content }
+    ensures program { (path : List ℕ) → walk_of path result ≡ see_parent (name_in path way.element) directory guard.value way.list }
+    ensures fits { (path : List ℕ) (hart : ℕ) (s : State) → IsWay path way → IsOwnInode hart directory guard s → WalkFits path hart s result }
+{
+    if is_directory(&record(&guard)) {
+        Walk::Leave(way, directory, guard)
+    } else {
+        Walk::Unlock(way, directory, guard, Next::Lost(Stop::NotThere))
+    }
+}
+
+// After the element was looked up.
+fn found(way: Way, directory: Reference, searched: Searched) -> Walk
+    ensures { result ≡ found_state way directory searched }
+{
+    let Searched { inode, found } = searched;
+    match found {
+        None => Walk::Unlock(way, directory, inode, Next::Lost(Stop::NotThere)),
+        Some(found) => Walk::Up(way, directory, inode, found.number),
+    }
+}
+
+// A load's step, while the directory is loaded.
+fn loading(
+    path: &[u8],
+    way: Way,
+    directory: Reference,
+    guard: Guard<Inode>,
+    stepped: Stepped<LoadInode, Dinode, Kind>,
+) -> Stepped<Walk, Walked, Kind>
+    requires nonzero { All (λ b. b ≢ 0) path.now }
+    requires way { IsWay path.now way }
+    ensures { GoesOn (λ m. walking.Load way directory guard m) (LoadedTo path.now way directory guard) stepped result }
+{
+    match stepped {
+        Stepped::Waits(load) => Stepped::Waits(Walk::Load(way, directory, guard, load)),
+        Stepped::Ran(load, kind) => Stepped::Ran(Walk::Load(way, directory, guard, load), kind),
+        Stepped::Done(inode, kind) => {
+            let guard = with_record(guard, directory.number(), inode);
+            Stepped::Ran(visit(path, way, directory, guard), kind)
+        }
+        Stepped::Stopped(load) => Stepped::Stopped(Walk::Load(way, directory, guard, load)),
+    }
+}
+
+// The inode, loaded.
+fn with_record(guard: Guard<Inode>, number: u32, inode: Dinode) -> Guard<Inode>
+    ensures { result ≡ record guard { value = loaded number inode } }
+{
+    let mut guard = guard;
+    let _ = guard.replace(Inode {
+        number,
+        content: Some(inode),
+    });
+    guard
+}
+
+// A search's step, while the element is looked up.
+fn looking(
+    way: Way,
+    directory: Reference,
+    stepped: Stepped<Search, Searched, Kind>,
+) -> Stepped<Walk, Walked, Kind>
+    ensures { result ≡ in_lookup way directory stepped }
+{
+    match stepped {
+        Stepped::Waits(search) => Stepped::Waits(Walk::Lookup(way, directory, search)),
+        Stepped::Ran(search, kind) => Stepped::Ran(Walk::Lookup(way, directory, search), kind),
+        Stepped::Done(searched, kind) => Stepped::Ran(found(way, directory, searched), kind),
+        Stepped::Stopped(search) => Stepped::Stopped(Walk::Lookup(way, directory, search)),
+    }
+}
