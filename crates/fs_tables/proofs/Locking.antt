@@ -10,7 +10,7 @@ use Rattle.sleep_lock.proofs.Locks.{lock_laws}
 use Rattle.fs_tables.specs.Lists.{change_at}
 use Rattle.fs_tables.specs.declared.inodes.Entry.{Entry}
 use Rattle.fs_tables.specs.declared.inodes.Inode.{Inode}
-use Rattle.fs_tables.specs.Tables.{TablesState, place_of}
+use Rattle.fs_tables.specs.Tables.{TablesState, place_of, holder_of, holder_in, holder_at}
 use Rattle.fs_tables.specs.Locks.{IsLocked, LeavesLocked}
 use Rattle.fs_tables.specs.Inodes.{lock_inode, lock_at, got_by, unlock_inode, unlock_at}
 use Rattle.fs_tables.specs.Results.{locked_as}
@@ -176,6 +176,16 @@ lock_apart h n k t new (Some guard) f sound gives = λ g l same.
     let is = lock_is t.locks new k h at.0 (Some guard) at.1 gives in
     let here : g.number ≡ k = sound.once g.number k l.entry f.entry l.there f.there l.referenced f.referenced (l.number ∙ (same ∙ sym f.number)) in
     none-some guard (sym (is.1 ∙ ap (λ (v : SlotState Inode). guard_of v h) (emptied_at g t k at.0 here l at.1)))
+
+-- nobody has a lock that was given back
+pub unlock_frees : (g : GuardState Inode) (t : TablesState) (new : List (SlotState Inode)) → IsSoundInodes t.entries t.locks → IsLocked g t → new ≡ unlocked t.locks g
+    → holder_of g.value.number (record t { locks = new }) ≡ None
+unfolding unlocked IsOut
+unlock_frees g t new sound l is =
+    let back : SlotState Inode = filled g.number g.value in
+    let there : slice_get (slice_set t.locks g.number back) g.number ≡ Some back = slice_get-set_same t.locks g.number back (slice_get_within t.locks g.number _ l.out) in
+    ap (holder_in new) (placed g.value.number t.entries g.number sound.once (found_locked g t l))
+    ∙ (ap (λ (z : List (SlotState Inode)). holder_at (slice_get z g.number)) is ∙ ap holder_at there)
 
 -- what is out of other inodes stays so where a lock is given back
 pub unlock_leaves : (g : GuardState Inode) (t : TablesState) (new : List (SlotState Inode)) → IsLocked g t → new ≡ unlocked t.locks g

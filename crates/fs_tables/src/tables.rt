@@ -97,8 +97,19 @@ impl Tables {
         ensures ran { self.new ≡ unlock_inode hart guard.value None self.old }
         ensures others { (other : GuardState Inode) → other.hart ≢ hart → IsLocked other self.old → IsLocked other self.new }
         ensures rest { (other : GuardState Inode) → other.value.number ≢ guard.value.number → IsLocked other self.old → IsLocked other self.new }
+        ensures free { holder_of guard.value.number self.new ≡ None }
     {
         self.locks.unlock(guard);
+    }
+
+    /// How many references stand to an inode.
+    pub fn references(&self, number: u32) -> u32
+        ensures { result ≡ references_of number self.now }
+    {
+        match place_of(&self.entries, number) {
+            None => 0,
+            Some(place) => self.entries[place].references,
+        }
     }
 
     /// One reference more to an inode. None where each place is referred to, and then nothing changes.

@@ -12,3 +12,5 @@ mod locks;
 mod logs;
 #[cfg(test)]
 mod records;
+#[cfg(test)]
+mod tables;

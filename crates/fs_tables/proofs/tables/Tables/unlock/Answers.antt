@@ -2,7 +2,7 @@ use Rattle.std.proofs.Common.{◌≡◌, sym, subst, None}
 use Rattle.fs_tables.specs.Tables.{TablesState}
 use Rattle.fs_tables.specs.Locks.{IsLocked}
 use Rattle.fs_tables.specs.Inodes.{unlock_inode}
-use Rattle.fs_tables.proofs.Locking.{unlock_ran, unlock_good, unlock_leaves}
+use Rattle.fs_tables.proofs.Locking.{unlock_ran, unlock_good, unlock_frees, unlock_leaves}
 use Rattle.fs_tables.proofs.tables.Tables.unlock.Goals as goal
 
 pub invariant_of-self : goal.invariant_of-self
@@ -28,3 +28,9 @@ returns-clause-rest c o ne locked =
     let t : TablesState = record { entries = c.self.inside.entries; locks = c.self.inside.locks; files = c.self.inside.files; desks = c.self.inside.desks } in
     let l : IsLocked c.args.guard t = subst (λ v. IsLocked c.args.guard v) (sym c.self.view_is) c.requires.locked in
     unlock_leaves c.args.guard t c.unlock.new.self l c.unlock.ensures.slots o ne (subst (λ v. IsLocked o v) (sym c.self.view_is) locked)
+
+pub returns-clause-free : goal.returns-clause-free
+returns-clause-free c =
+    let t : TablesState = record { entries = c.self.inside.entries; locks = c.self.inside.locks; files = c.self.inside.files; desks = c.self.inside.desks } in
+    let l : IsLocked c.args.guard t = subst (λ v. IsLocked c.args.guard v) (sym c.self.view_is) c.requires.locked in
+    unlock_frees c.args.guard t c.unlock.new.self c.self.invariant.inodes l c.unlock.ensures.slots
