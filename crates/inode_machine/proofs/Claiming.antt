@@ -227,7 +227,7 @@ pub s-store : {A : Type 0} {h : ℕ} (i c : ℕ) {x : Held} (y : Node) {k : Unit
     → ((l : ℕ) (u : World) → l + 3 ≡ n → own_of h u ≡ record O { inodes = put O.inodes i (Some (record x { disk = Some (with_count c y) })) } → Safe machine h B Q (k tt) l es u)
     → Safe machine h B Q (Do (Store i c) unmarked k) n es w
 s-store {A} {h} i c {x} y {k} {B} {Q} {n} {es} {w} {O} owns free lt pos joined isi has disk rest = s-owned owns free pos (λ v inv ov. (
-  (locks_it h i v O x ov isi has, ap (λ (o : Own). o.desk.joined) ov ∙ joined),
+  ((locks_it h i v O x ov isi has, ap (λ (o : Own). o.desk.joined) ov ∙ joined), record { node = y; is = has_disk h i v O x ov isi ∙ disk; fits = tt }),
   (λ _ _.
       let wr = writes h i (Some (with_count c y)) x O v free lt joined inv ov isi in
       subst (λ (z : Option Node). Fine machine h [] 2 n B es v (record v { disk = put v.disk i (Some (with_count c (node_or z))) }) (λ l. Wp machine h B Q (k tt) l es (record v { disk = put v.disk i (Some (with_count c (node_or z))) }))) (sym (has_disk h i v O x ov isi ∙ disk))

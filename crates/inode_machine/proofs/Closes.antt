@@ -346,7 +346,7 @@ pub s-shut : {A : Type 0} {h : ℕ} (fd : ℕ) {k : Option (Option ℕ) → P ma
     → ((l : ℕ) (r : Row) (d : Desk) (u : World) → l + 1 ≡ n → SameRow r O.row → SameDesk d O.desk → own_of h u ≡ record O { row = r; desk = d; mine = record { refs = O.mine.refs; walk = None; pending = None } } → Safe machine h B Q (k (Some None)) l (shut_step fd ∷ es) u)
     → ((l m : ℕ) (r : Row) (d : Desk) (u : World) → l + 1 ≡ n → SameRow r O.row → SameDesk d O.desk → ((0 < O.mine.refs m) ⊎ (own_names r d m ≡ false)) → own_of h u ≡ record O { row = r; desk = d; mine = record { refs = put O.mine.refs m (O.mine.refs m + 1); walk = None; pending = None } } → Safe machine h B Q (k (Some (Some m))) l (shut_step fd ∷ es) u)
     → Safe machine h B Q (Do (Shut fd) (λ (_ : Option (Option ℕ)). own_step (Close fd)) k) n es w
-s-shut {A} {h} fd {k} {B} {Q} {n} {es} {w} {O} owns free lt pos walks none idle empty unnoted unlent room bf bd bad less last = s-owned owns free pos (λ v inv ov. (locks_none h v O inv ov (λ i x q. absurd (let a = empty i in cc (a, q))), (λ _ _. at v inv ov (slot_at v h fd) refl)))
+s-shut {A} {h} fd {k} {B} {Q} {n} {es} {w} {O} owns free lt pos walks none idle empty unnoted unlent room bf bd bad less last = s-owned owns free pos (λ v inv ov. ((locks_none h v O inv ov (λ i x q. absurd (let a = empty i in cc (a, q))), ap (λ (o : Own). o.desk.lent) ov ∙ unlent), (λ _ _. at v inv ov (slot_at v h fd) refl)))
   where
     opening_none : (v : World) → own_of h v ≡ O → (v.desks h).opening ≡ None
     opening_none v ov = ap (λ (o : Own). o.desk.opening) ov ∙ idle

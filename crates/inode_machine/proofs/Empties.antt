@@ -70,7 +70,7 @@ pub s-empty : {A : Type 0} {h : ℕ} (j fd : ℕ) (key : Key) (v : Node) {k : Un
     → ((l : ℕ) (u : World) → l + 901 ≡ n → own_of h u ≡ record O { inodes = put O.inodes j (Some (locked_held (Some (emptied_node v)))); mine = record { refs = O.mine.refs; walk = None; pending = None } } → Safe machine h B Q (k tt) l (empty_step fd ∷ es) u)
     → Safe machine h B Q (Do (Empty j) (λ _. own_step (Truncate fd)) k) n es w
 s-empty {A} {h} j fd key v {k} {B} {Q} {n} {es} {w} {O} owns free lt pos joined isj isf keyed number walks none b rest = s-owned owns free pos (λ v0 inv ov. (
-  (locks_it h j v0 O (locked_held (Some v)) ov isj refl, ap (λ (o : Own). o.desk.joined) ov ∙ joined),
+  ((locks_it h j v0 O (locked_held (Some v)) ov isj refl, ap (λ (o : Own). o.desk.joined) ov ∙ joined), record { node = v; is = has_disk h j v0 O (locked_held (Some v)) ov isj; fits = isf }),
   (λ _ _. good v0 inv ov),
 ))
   where

@@ -1,5 +1,5 @@
 -- Unlink's act: a name is cleared, and what it named loses a link.
-use Rattle.std.proofs.Common.{◌≡◌, ◌≢◌, inl, inr, ℕ, ◌+◌, ◌-◌, ◌<◌, true, false, List, [], ◌∷◌, Option, Some, None, refl, sym, ◌∙◌, ap, subst, arith, if◌then◌else◌}
+use Rattle.std.proofs.Common.{◌≡◌, ◌≢◌, inl, inr, ℕ, ◌+◌, ◌-◌, ◌<◌, true, false, List, [], ◌∷◌, Option, Some, None, IsSome, refl, sym, ◌∙◌, ap, subst, arith, if◌then◌else◌}
 use Rattle.std.proofs.lemmas.Bool.Decides.{nat_tests}
 use Rattle.atomic_programs.specs.Prog.{Do}
 use Rattle.atomic_programs.specs.Logic.{P, own, onto, Fine, Safe, Wp}
@@ -72,6 +72,9 @@ directory_sort x live = by_kind x.kind (and_true _ _ live).1
     by_kind (Device major minor size) q = absurd cc
 
 -- The slot is cleared on the disk; at this moment the name goes, and the counts go down in the tree.
+some_of : {o : Option ℕ} (c : ℕ) → o ≡ Some c → IsSome o
+some_of c e = rw e refl
+
 pub s-clear : {A : Type 0} {h : ℕ} (d c : ℕ) {x z : Held} (X Z : Node) (e : Name) (path : List ℕ) {k : Unit {0} → P machine A} {B : List Step → Type 0} {Q : A → List Step → World → Type 0} {n : ℕ} {es : List Step} {w : World} {O : Own}
     → own_of h w ≡ O → O.desk.lender ≡ None → h < hart_count → 12 < n → O.desk.joined ≡ true → O.mine.walk ≡ Some (record { step = Unlink path; at = d; next = e; rest = [] }) → O.mine.pending ≡ None
     → O.inodes d ≡ Some x → x.disk ≡ Some X → x.node ≡ Some X → x.alone ≡ false → x.locked ≡ true → live_directory (Some X) ≡ true → O.inodes c ≡ Some z → z.node ≡ Some Z → z.alone ≡ false → look (λ j. Some X) d e ≡ Some c
@@ -82,7 +85,7 @@ pub s-clear : {A : Type 0} {h : ℕ} (d c : ℕ) {x z : Held} (X Z : Node) (e : 
     → Safe machine h B Q (k tt) l (told_step 0 (Unlink path) Done ∷ es) u)
     → Safe machine h B Q (Do (Clear d e) (λ _. makes (Look 0)) k) n es w
 s-clear {A} {h} d c {x} {z} X Z e path {k} {B} {Q} {n} {es} {w} {O} owns free lt pos joined walks none isd xd xn shared locked live isc zn shared2 finds nodot nodotdot empty b then_ = s-owned owns free pos (λ v inv ov. (
-  (locks_it h d v O x ov isd locked, ap (λ (o : Own). o.desk.joined) ov ∙ joined),
+  ((locks_it h d v O x ov isd locked, ap (λ (o : Own). o.desk.joined) ov ∙ joined), record { node = X; is = has_disk h d v O x ov isd ∙ xd; fits = some_of c finds }),
   (λ _ _. subst (λ (o : Option Node). Goal v (record v { disk = put v.disk d (Some (without_entry e (node_or o))) })) (sym (has_disk h d v O x ov isd ∙ xd)) (good v inv ov)),
 ))
   where

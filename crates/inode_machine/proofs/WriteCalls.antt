@@ -1,6 +1,7 @@
 -- Write is right, whatever the other harts do, in any number of pieces.
-use Rattle.std.proofs.Common.{◌≡◌, inl, inr, ℕ, zero, suc, ◌+◌, ◌-◌, ◌*◌, ◌/◌, ◌<◌, ◌≤◌, Bool, true, false, ◌==◌, nat_lt, List, [], ◌∷◌, ◌++◌, length, Option, Some, None, refl, sym, ◌∙◌, ap, subst, arith, length-append, if◌then◌else◌}
+use Rattle.std.proofs.Common.{◌≡◌, inl, inr, ℕ, zero, suc, ◌+◌, ◌-◌, ◌*◌, ◌/◌, ◌<◌, ◌≤◌, Bool, true, false, ◌==◌, nat_lt, List, [], ◌∷◌, ◌++◌, drop, length, Option, Some, None, refl, sym, ◌∙◌, ap, subst, arith, length-append, if◌then◌else◌}
 use Rattle.std.proofs.lemmas.Bool.Decides.{nat_tests}
+use Rattle.std.proofs.lemmas.List.{length-take}
 use Rattle.atomic_programs.specs.Logic.{P, onto, oldest_first, Safe}
 use Rattle.atomic_programs.specs.Calls.{Begun, Ends, IsBeginning}
 use Rattle.atomic_programs.proofs.Beginnings.{append_nil, onto_is}
@@ -11,7 +12,7 @@ use Rattle.plain_tree.specs.declared.call.Call.TheVariants as calls
 use Rattle.plain_tree.specs.declared.step.Action.TheVariants.{WritePart}
 use Rattle.plain_tree.specs.declared.step.StepAnswer.{StepAnswer}
 use Rattle.plain_tree.specs.declared.step.StepAnswer.TheVariants.{Opened, Bytes, Stat as Status, Fd as NewFd, Done, Failed, Full as NoRoom}
-use Rattle.plain_tree.specs.Widths.{hart_count}
+use Rattle.plain_tree.specs.Widths.{hart_count, piece_width}
 use Rattle.plain_tree.specs.Tree.{put}
 use Rattle.plain_tree.specs.Calls.{Act, cause_of, last_cause, first_cause, had_room, counted, next_of, next_piece, reply_of, piece, piece_count}
 use Rattle.std.proofs.Math.Nat.{le-div_iff_mul-le}
@@ -216,13 +217,16 @@ s-release O i x own free lt pos empty joined rest =
     s-leave (own2 ∙ (λ r. record O { inodes = given_is O.inodes i (Some (locked_held x)) empty r; mine = record { refs = O.mine.refs; walk = None; pending = None } })) free lt (omega (arith, pos, q)) (unlocks_nothing nothing refl) joined
     (λ j y is. absurd (let a : ◌≡◌ {A = Option Held} None (Some y) = is in cc)) (λ l2 u2 q2 own3. rest l2 u2 (omega (arith, q, q2)) own3))
 
+piece_short : (bytes : List ℕ) (i : ℕ) → length (piece bytes i) ≤ piece_width
+piece_short bytes i = let a = length-take piece_width (drop (piece_width * i) bytes) in omega (arith, a)
+
 -- One piece: the call ends with it, or goes on.
 s-piece : {h : ℕ} (fd n : ℕ) (bytes : List ℕ) (i : ℕ) (O : Own) {more : P machine Reply} {N : ℕ} {w : World}
     → own_of h w ≡ O → O.desk.lender ≡ None → h < hart_count → 165 < N → O.desk.joined ≡ true → Rests (unjoined O) → IsWritable O fd n → i < piece_count bytes
     → ((l : ℕ) (u : World) → l + 165 ≡ N → own_of h u ≡ unjoined (given O) → Safe machine h (Begun descriptor_calls (calls.Write fd bytes)) (Ends descriptor_calls h (calls.Write fd bytes)) more l (wrote_steps fd bytes (suc i)) u)
     → Safe machine h (Begun descriptor_calls (calls.Write fd bytes)) (Ends descriptor_calls h (calls.Write fd bytes)) (write_piece fd n bytes i more) N (wrote_steps fd bytes i) w
 s-piece {h} fd n bytes i O own free lt pos joined rests key below rest =
-    s-write-file fd n (piece bytes i) own free lt (omega (arith, pos)) rests.walk rests.pending rests.opening (λ j. ap (λ (f : ℕ → Option Held). f j) rests.inodes) joined key (λ c. begun_failed fd bytes i c below) (begun_wrote fd bytes i below)
+    s-write-file fd n (piece bytes i) own free lt (omega (arith, pos)) rests.walk rests.pending rests.opening (λ j. ap (λ (f : ℕ → Option Held). f j) rests.inodes) joined key (piece_short bytes i) (λ c. begun_failed fd bytes i c below) (begun_wrote fd bytes i below)
     (λ l c x u q own2. s-release O n x own2 free lt (omega (arith, pos, q)) rests.inodes joined (λ l2 u2 q2 own3.
     s-say own3 free lt (omega (arith, pos, q, q2)) (unlocks_nothing nothing refl) refl (λ l3 u3 q3 _ own4. record { wp = (λ _. failed_written fd bytes i c below, idle_own h u3 _ own4 (rests_again O rests)) })))
     (λ l j x u q dirty own2. s-release (filled O) n x own2 free lt (omega (arith, pos, q)) rests.inodes joined (λ l2 u2 q2 own3.

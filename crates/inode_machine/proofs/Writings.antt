@@ -1,5 +1,5 @@
 -- Write: a descriptor is looked up, its inode locked, a piece written at the offset, and the offset moves.
-use Rattle.std.proofs.Common.{◌≡◌, inl, inr, ℕ, ◌+◌, ◌-◌, ◌<◌, Bool, true, false, List, [], ◌∷◌, take, length, Option, Some, None, refl, sym, ◌∙◌, ap, subst, arith}
+use Rattle.std.proofs.Common.{◌≡◌, inl, inr, ℕ, ◌+◌, ◌-◌, ◌<◌, ◌≤◌, Bool, true, false, List, [], ◌∷◌, take, length, Option, Some, None, refl, sym, ◌∙◌, ap, subst, arith}
 use Rattle.atomic_programs.specs.Prog.{Do, Ran, Did as Came}
 use Rattle.atomic_programs.specs.Logic.{P, own, onto, Good, Fine, Safe, Wp}
 use Rattle.plain_tree.specs.declared.answer.Cause.{Cause}
@@ -8,7 +8,7 @@ use Rattle.plain_tree.specs.declared.node.Node.{Node}
 use Rattle.plain_tree.specs.declared.tree.OpenFile.{OpenFile}
 use Rattle.plain_tree.specs.declared.step.Action.TheVariants.{WritePart}
 use Rattle.plain_tree.specs.declared.step.StepAnswer.TheVariants.{Done}
-use Rattle.plain_tree.specs.Widths.{hart_count, descriptor_count}
+use Rattle.plain_tree.specs.Widths.{hart_count, descriptor_count, piece_width}
 use Rattle.plain_tree.specs.Tree.{Name, Tree, put, and_then, is_live, settle, resolve, parent}
 use Rattle.plain_tree.specs.Steps.{node_or, refusal_with, with_nodes, write_kind}
 use Rattle.tree_laws.specs.WellFormed.{IsWellFormed}
@@ -403,13 +403,22 @@ s-check-file {A} {h} fd {k} {B} {Q} {n} {es} {w} {O} owns free lt pos walks none
 
 -- A piece: all of it, refused, or as much as there are blocks for.
 pub s-write-file : {A : Type 0} {h : ℕ} (fd i : ℕ) (b : List ℕ) {k : Wrote → P machine A} {B : List Step → Type 0} {Q : A → List Step → World → Type 0} {n : ℕ} {es : List Step} {w : World} {O : Own}
-    → own_of h w ≡ O → O.desk.lender ≡ None → h < hart_count → 100 < n → O.mine.walk ≡ None → O.mine.pending ≡ None → O.desk.opening ≡ None → ((j : ℕ) → O.inodes j ≡ None) → O.desk.joined ≡ true → IsWritable O fd i
+    → own_of h w ≡ O → O.desk.lender ≡ None → h < hart_count → 100 < n → O.mine.walk ≡ None → O.mine.pending ≡ None → O.desk.opening ≡ None → ((j : ℕ) → O.inodes j ≡ None) → O.desk.joined ≡ true → IsWritable O fd i → length b ≤ piece_width
     → ((c : Cause) → B (fails (WritePart fd b) c ∷ es)) → B (wrote_step fd b ∷ es)
     → ((l : ℕ) (c : Cause) (x : Option Node) (u : World) → l + 101 ≡ n → own_of h u ≡ record O { inodes = put O.inodes i (Some (locked_held x)); mine = record { refs = O.mine.refs; walk = None; pending = None } } → Safe machine h B Q (k (Stopped c)) l (fails (WritePart fd b) c ∷ es) u)
     → ((l j : ℕ) (x : Option Node) (u : World) → l + 101 ≡ n → u.clean ≡ false → own_of h u ≡ record O { inodes = put O.inodes i (Some (locked_held x)); mine = record { refs = O.mine.refs; walk = None; pending = None }; desk = record (O.desk) { full = true } } → Safe machine h B Q (k (Short j)) l es u)
     → ((l : ℕ) (x : Option Node) (u : World) → l + 101 ≡ n → own_of h u ≡ record O { inodes = put O.inodes i (Some (locked_held x)); mine = record { refs = O.mine.refs; walk = None; pending = None } } → Safe machine h B Q (k Whole) l (wrote_step fd b ∷ es) u)
     → Safe machine h B Q (Do (WriteFile fd i b) (writes fd b) k) n es w
-s-write-file {A} {h} fd i b {k} {B} {Q} {n} {es} {w} {O} owns free lt pos walks none idle empty joined key bf bd bad short then_ = s-owned owns free pos (λ v inv ov. ((locks_none h v O inv ov (λ j x q. absurd (let a = empty j in cc (a, q))), ap (λ (o : Own). o.desk.joined) ov ∙ joined), (λ x honest. at v inv ov x honest)))
+s-write-file {A} {h} fd i b {k} {B} {Q} {n} {es} {w} {O} owns free lt pos walks none idle empty joined key short_piece bf bd bad short then_ = s-owned owns free pos (λ v inv ov.
+    let z = writable_here h fd i v O key inv ov lt idle in (
+      (
+        locks_none h v O inv ov (λ j x q. absurd (let a = empty j in cc (a, q))),
+        ap (λ (o : Own). o.desk.joined) ov ∙ joined,
+        record { entry = z.0; at = (λ r. entry_at v.files (slot_is h fd i v O key ov r)) ∙ z.1.at; number = z.2; writable = z.3 },
+        short_piece,
+      ),
+      (λ x honest. at v inv ov x honest),
+    ))
   where
     Goal : World → Came Wrote World → Type 0
     Goal v z = Good machine Wrote h (λ a. places h (WriteFile fd i b) a (writes fd b a) v) 100 n B es v (IsOut h (v.lock i)) (with_mark h (writes fd b) z) (λ l a u. Wp machine h B Q (k a) l (onto (own h (places h (WriteFile fd i b) a (writes fd b a) v)) es) u)

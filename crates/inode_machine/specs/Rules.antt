@@ -1,8 +1,9 @@
 -- What a hart has, what always holds, and the machine.
-use Rattle.std.specs.Prelude.{◌≡◌, ◌≢◌, ◌⊎◌, ℕ, ◌+◌, ◌<◌, ◌≤◌, Bool, true, false, ◌||◌, List, [], length, ◌==◌, if◌then◌else◌, Option, Some, None}
+use Rattle.std.specs.Prelude.{◌≡◌, ◌≢◌, ◌⊎◌, ℕ, ◌+◌, ◌<◌, ◌≤◌, Bool, true, false, ◌||◌, List, [], length, ◌==◌, if◌then◌else◌, Option, Some, None, IsSome}
 use Rattle.plain_tree.specs.declared.node.Node.{Node}
 use Rattle.plain_tree.specs.declared.tree.OpenFile.{OpenFile}
-use Rattle.plain_tree.specs.Widths.{hart_count, descriptor_count}
+use Rattle.plain_tree.specs.Widths.{hart_count, descriptor_count, piece_width}
+use Rattle.plain_tree.specs.Steps.{is_file}
 use Rattle.plain_tree.specs.Tree.{Name, hold_names, is_live, look}
 use Rattle.plain_tree.specs.HartRow.{Key, Row, row_of, key_names}
 use Rattle.tree_laws.specs.WellFormed.{sum_below, one_if, IsWellFormed}
@@ -246,6 +247,7 @@ MayWait h op w = ⊥
 -- What an operation asks. Who locks an inode refers to it, and hasn't locked it; who refers to one more has found it in a directory that it keeps; who gives a
 -- reference up, to none or to a table, has one besides its current directory's; who changes an inode has its lock and has joined; who joins, leaves, opens by a
 -- descriptor or replies has no lock; who hands a descriptor on has handed on none from there.
+-- A record is changed that is there, and of the operation's kind; a piece is written to the inode that its descriptor has; who shuts a descriptor hands none on.
 
 abbrev pub Locks : ℕ → ℕ → World → Type 0
 Locks h n w = w.lock n ≡ Some h
@@ -267,36 +269,53 @@ Spares h n w = one_if ((w.desks h).directory == n) < (w.harts h).refs n
 abbrev pub Serves : ℕ → ℕ → World → Type 0
 Serves h child w = (child < hart_count) × ((w.desks child).lender ≡ Some h)
 
+-- an inode has a record, of this kind
+pub record HasRecord (n : ℕ) (w : World) (P : Node → Type 0) : Type 0 where
+  pub node : Node
+  pub is : w.disk n ≡ Some node
+  pub fits : P node
+
+-- a descriptor is open to write, of this inode
+pub record Writes (h fd n : ℕ) (w : World) : Type 0 where
+  pub entry : Entry
+  pub at : entry_of w h fd ≡ Some entry
+  pub number : entry.file.number ≡ n
+  pub writable : entry.file.writable ≡ true
+
+abbrev pub Asks : ℕ → Op → World → Type 0
+Asks h (Take n looking) w = Refers h n w
+Asks h (Give n) w = Locks h n w
+Asks h (UpStart absolute) w = LocksNone h w
+Asks h (Up n) w = Found w.keeper w.all.nodes h n
+Asks h (WalkDown n) w = Spares h n w × (w.lock n ≢ Some h)
+Asks h (Down n) w = Spares h n w × (w.lock n ≢ Some h)
+Asks h (Free n) w = Changes h n w
+Asks h (Claim sort) w = (w.desks h).joined ≡ true
+Asks h (Store n count) w = Changes h n w × HasRecord n w (λ v. Unit {0})
+Asks h (Fill n d) w = Changes h n w
+Asks h (Enter d e n) w = Changes h d w
+Asks h (Clear d e) w = Changes h d w × HasRecord d w (λ v. IsSome (look (λ i. Some v) d e))
+Asks h (Empty n) w = Changes h n w × HasRecord n w (λ v. is_file v.kind ≡ true)
+Asks h Slot w = (w.desks h).hand ≡ None
+Asks h (Install f sort) w = ((w.desks h).hand ≢ None) × (f.offset ≡ 0) × Spares h f.number w
+Asks h (StatFile fd) w = LocksNone h w
+Asks h (ReadFile fd n) w = LocksNone h w
+Asks h (CheckFile fd) w = Unit {0}
+Asks h (JoinFile fd) w = LocksNone h w × ((w.desks h).joined ≡ false)
+Asks h (WriteFile fd n bytes) w = LocksNone h w × ((w.desks h).joined ≡ true) × Writes h fd n w × (length bytes ≤ piece_width)
+Asks h (Double fd) w = Unit {0}
+Asks h (Shut fd) w = LocksNone h w × ((w.desks h).lent ≡ nothing)
+Asks h (Settle n) w = Locks h n w × Spares h n w
+Asks h (Lend child from) w = Serves h child w × ((i : ℕ) → from ≤ i → i < descriptor_count → ((w.desks h).lent i ≡ None) × ((w.desks child).fds i ≡ None))
+Asks h (LendDirectory child) w = Serves h child w
+Asks h (Release child) w = Serves h child w
+Asks h Join w = LocksNone h w × ((w.desks h).joined ≡ false)
+Asks h Leave w = LocksNone h w × ((w.desks h).joined ≡ true)
+Asks h Say w = LocksNone h w × ((w.desks h).joined ≡ false)
+
+-- and that the hart gets nothing from another one
 abbrev pub May : ℕ → Op → World → Type 0
-May h (Take n looking) w = Refers h n w
-May h (Give n) w = Locks h n w
-May h (UpStart absolute) w = LocksNone h w
-May h (Up n) w = Found w.keeper w.all.nodes h n
-May h (WalkDown n) w = Spares h n w × (w.lock n ≢ Some h)
-May h (Down n) w = Spares h n w × (w.lock n ≢ Some h)
-May h (Free n) w = Changes h n w
-May h (Claim sort) w = (w.desks h).joined ≡ true
-May h (Store n count) w = Changes h n w
-May h (Fill n d) w = Changes h n w
-May h (Enter d e n) w = Changes h d w
-May h (Clear d e) w = Changes h d w
-May h (Empty n) w = Changes h n w
-May h Slot w = (w.desks h).hand ≡ None
-May h (Install f sort) w = ((w.desks h).hand ≢ None) × (f.offset ≡ 0) × Spares h f.number w
-May h (StatFile fd) w = LocksNone h w
-May h (ReadFile fd n) w = LocksNone h w
-May h (CheckFile fd) w = Unit {0}
-May h (JoinFile fd) w = LocksNone h w × ((w.desks h).joined ≡ false)
-May h (WriteFile fd n bytes) w = LocksNone h w × ((w.desks h).joined ≡ true)
-May h (Double fd) w = Unit {0}
-May h (Shut fd) w = LocksNone h w
-May h (Settle n) w = Locks h n w × Spares h n w
-May h (Lend child from) w = Serves h child w × ((i : ℕ) → from ≤ i → i < descriptor_count → ((w.desks h).lent i ≡ None) × ((w.desks child).fds i ≡ None))
-May h (LendDirectory child) w = Serves h child w
-May h (Release child) w = Serves h child w
-May h Join w = LocksNone h w × ((w.desks h).joined ≡ false)
-May h Leave w = LocksNone h w × ((w.desks h).joined ≡ true)
-May h Say w = LocksNone h w × ((w.desks h).joined ≡ false)
+May h op w = ((w.desks h).lender ≡ None) × Asks h op w
 
 -- What may lie outside: an inode that is found is free; of a piece a part is left over; all else may be short of room at any time.
 
