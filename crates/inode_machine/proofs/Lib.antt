@@ -3,6 +3,7 @@ pub mod Rules
 pub mod Rows
 pub mod Tables
 pub mod Counting
+pub mod Numbers
 pub mod Walking
 pub mod Freeing
 pub mod Shops
