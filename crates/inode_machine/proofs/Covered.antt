@@ -1,6 +1,7 @@
 -- The calls that are shown right, together.
 use Rattle.std.proofs.Common.{◌≡◌, Bool, true, false, not, refl}
 use Rattle.plain_tree.specs.Steps.{creates}
+use Rattle.atomic_programs.specs.Calls.{Lawful}
 use Rattle.atomic_programs.proofs.Explains.{explains}
 use Rattle.plain_tree.specs.declared.call.Call.TheVariants as calls
 use Rattle.inode_machine.specs.Theory.{covered_calls, is_covered, CallsAreExplained}
@@ -28,6 +29,9 @@ covered_right h (calls.Fstat fd) busy w u lt here out idle free is = descriptors
 covered_right h (calls.Close fd) busy w u lt here out idle free is = descriptors_right is_covered h (calls.Close fd) busy w u lt refl out idle free is
 covered_right h (calls.Inherit child) busy w u lt here out idle free is = absurd cc
 
+pub lawful : Lawful covered_calls
+lawful = lawful_that is_covered covered_right
+
 -- Every interleaving of these calls is explained by one list of steps.
 pub explained : CallsAreExplained
-explained w events inv idle honest = explains covered_calls (lawful_that is_covered covered_right) w events inv idle honest
+explained w events inv idle honest = explains covered_calls lawful w events inv idle honest

@@ -45,3 +45,4 @@ pub mod Opens
 pub mod OpenEnds
 pub mod OpenCalls
 pub mod Empties
+pub mod Histories

@@ -10,3 +10,4 @@ pub mod Naming
 pub mod Moving
 pub mod Programs
 pub mod Theory
+pub mod Histories

@@ -2,6 +2,7 @@
 //! call is right whatever the other harts do. The functions do nothing: each carries a law.
 #![tactic(auto)]
 
+ghost use Rattle.inode_machine.specs.Histories.{CallsHaveOneHistory, OneHartHasOneHistory};
 ghost use Rattle.inode_machine.specs.Theory.{CallsAreExplained, WorldsRest, WorldsWithAFileRest};
 
 /// For every list of events of any harts, the replies of dup, close, fstat, read, write, chdir, unlink, mkdir, and of an
@@ -13,6 +14,19 @@ ghost use Rattle.inode_machine.specs.Theory.{CallsAreExplained, WorldsRest, Worl
 /// references of its descriptors and current directory alone.
 pub fn calls_are_explained()
     ensures { CallsAreExplained }
+{}
+
+/// For every list of events of any harts one list of tree steps explains all calls that were started: each finished call's
+/// entries are its written sequence and make its reply, each is placed between its call's start and return, and the list
+/// leads from the tree at the beginning to the tree as the world has it at the end; as long as no step found no room and
+/// no path has the element "..".
+pub fn calls_have_one_history()
+    ensures { CallsHaveOneHistory }
+{}
+
+/// Where one hart alone makes calls the same holds for any paths.
+pub fn one_hart_has_one_history()
+    ensures { OneHartHasOneHistory }
 {}
 
 /// There are such beginnings: a well-formed tree without open files, orphans included, with every hart at rest.
