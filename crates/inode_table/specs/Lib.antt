@@ -1,3 +1,5 @@
 pub mod Programs
 pub mod Machines
 pub mod Laws
+pub mod NewInodes
+pub mod NewMachines
