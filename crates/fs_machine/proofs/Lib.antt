@@ -7,3 +7,4 @@ pub mod Nested
 pub mod Owning
 pub mod Owned
 pub mod Showing
+pub mod Waits

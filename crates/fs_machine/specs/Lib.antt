@@ -13,3 +13,4 @@ pub mod Joining
 pub mod Claiming
 pub mod Own
 pub mod Shown
+pub mod Waiting
