@@ -13,3 +13,4 @@ pub mod Changed
 pub mod Frames
 pub mod FreshTree
 pub mod Reached
+pub mod Actions

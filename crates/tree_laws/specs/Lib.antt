@@ -1,3 +1,4 @@
 pub mod WellFormed
 pub mod Leaves
+pub mod Actions
 pub mod Laws

@@ -2,6 +2,7 @@
 //! directories and of the paths that other harts follow. The functions do nothing: each carries a law.
 #![tactic(auto)]
 
+ghost use Rattle.tree_laws.specs.Actions.{ActionsAreTold};
 ghost use Rattle.tree_laws.specs.Laws.{StepsKeepWellFormed, EffectsKeepWellFormed, StepsLeaveFinding, StepsLeavePaths, PathsLeadToWhatIsFound, DeadNodesMayLeave, NewNumbersAreNobodys, FreshTreesAreWellFormed, LiveNodesAreReached};
 
 /// Each of the fifteen tree steps, refused or not, keeps a tree well formed, for any node that is there and any live
@@ -49,4 +50,9 @@ pub fn fresh_trees_are_well_formed()
 /// Going down from the root reaches each live node, but one that a link has raised and not yet named.
 pub fn live_nodes_are_reached()
     ensures { LiveNodesAreReached }
+{}
+
+/// What each of the fifteen actions makes of a tree before it settles, and what it answers, where it isn't refused.
+pub fn actions_are_told()
+    ensures { ActionsAreTold }
 {}

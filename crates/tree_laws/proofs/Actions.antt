@@ -1,0 +1,27 @@
+-- What each action makes of a tree: by its definition.
+use Rattle.std.specs.Prelude.{◌≡◌}
+use Rattle.plain_tree.specs.Steps.{effect_with, answer_with}
+use Rattle.tree_laws.specs.Actions.{ActionsAreTold}
+
+it : {A : Type 0} {x : A} → x ≡ x
+it {A} {x} = λ _. x
+
+pub told : ActionsAreTold
+unfolding effect_with answer_with
+told = record {
+  opens = λ path flags t h res par new id. (it, it);
+  truncate = λ fd t h res par new id. (it, it);
+  read = λ fd n t h res par new id. (it, it);
+  write = λ fd bytes t h res par new id. (it, it);
+  find = λ old t h res par new id. (it, it);
+  bump = λ t h res par new id. (it, it);
+  enter = λ name t h res par new id. (it, it);
+  unbump = λ t h res par new id. (it, it);
+  unlink = λ path t h res par new id. (it, it);
+  mkdir = λ path t h res par new id. (it, it);
+  chdir = λ path t h res par new id. (it, it);
+  dup = λ fd t h res par new id. (it, it);
+  close = λ fd t h res par new id. (it, it);
+  fstat = λ fd t h res par new id. (it, it);
+  inherit = λ child t h res par new id. (it, it);
+}
