@@ -20,7 +20,7 @@ use Rattle.tree_moves.specs.Moves.{Written}
 use Rattle.inode_machine.specs.World.{Desk, World, stage_of}
 use Rattle.inode_machine.specs.Inodes.{face_or, face_of}
 use Rattle.inode_machine.specs.Exec.{is_nothing}
-use Rattle.inode_machine.specs.Rules.{Held, Own, Others, Rests, own_of, nothing, Idle, Inv, machine}
+use Rattle.inode_machine.specs.Rules.{Held, Own, Others, Rests, own_of, Idle, Inv, machine}
 use Rattle.inode_machine.specs.Parts.{say}
 use Rattle.inode_machine.specs.Parts as parts
 use Rattle.inode_machine.specs.Descriptors.{dup_program, close_program, stat_program, stat_reply, read_program, read_reply}
@@ -32,6 +32,7 @@ use Rattle.inode_machine.proofs.Dups.{fails, dupped, s-double, s-join, s-leave, 
 use Rattle.inode_machine.proofs.Closes.{shut_step, s-shut}
 use Rattle.inode_machine.proofs.Stats.{stat_step, stat_face, s-stat-file}
 use Rattle.inode_machine.proofs.Readings.{read_step, s-read-file}
+use Rattle.inode_machine.proofs.Resting.{given_is, idle_as, unlocks_nothing}
 use Rattle.inode_machine.proofs.WriteCalls.{write_begins, write_ok}
 use Rattle.inode_machine.proofs.Drops.{s-drop}
 
@@ -54,9 +55,6 @@ laws =
 
 -- What a hart has at a call's end.
 
-pub idle_as : (h : ℕ) (u : World) (O : Own) → own_of h u ≡ O → Rests O → Idle h u
-idle_as h u O e r = subst (λ (o : Own). Rests o) (sym e) r
-
 abbrev pub ended : Own → Row → Desk → Own
 ended O r d = record O { row = r; desk = d; mine = record { refs = O.mine.refs; walk = None; pending = None } }
 
@@ -78,19 +76,6 @@ rests_as O r d i hold directory hand joined lent opening left noted = record {
 rests_same : (O : Own) (r : Row) (d : Desk) → Rests O → SameRow r O.row → SameDesk d O.desk → Rests (ended O r d)
 rests_same O r d i row desk = rests_as O r d i row.hold desk.directory desk.hand desk.joined desk.lent desk.opening desk.left desk.noted
 
--- a resting hart has no lock
-pub rests_free : (O : Own) (I : ℕ → Option Held) → I ≡ nothing → (i : ℕ) (x : Held) → I i ≡ Some x → x.locked ≡ false
-rests_free O I e i x is = absurd (let a = ap (λ (f : ℕ → Option Held). f i) e in cc (a, is))
-
-pub none_left : (I : ℕ → Option Held) (i : ℕ) (x : Option Held) → I ≡ nothing → put (put I i x) i None ≡ nothing
-none_left I i x e = λ r j. each j r
-  where
-    each : (j : ℕ) → put (put I i x) i None j ≡ None
-    each j = elim (same_or j i) [
-      | inl q ↦ ap (put (put I i x) i None) q ∙ put_same (put I i x) i None
-      | inr ne ↦ put_other (put I i x) i None j ne ∙ put_other I i x j ne ∙ ap (λ (f : ℕ → Option Held). f j) e
-    ]
-
 -- Dup.
 
 dup_failed : (fd : ℕ) → Written (calls.Dup fd) (fails (steps.Dup fd) BadDescriptor ∷ []) (parts.failed (calls.Dup fd) BadDescriptor)
@@ -105,9 +90,9 @@ pub dup_ok : (h fd : ℕ) (w : World) → (w.desks h).lender ≡ None → h < ha
 dup_ok h fd w free lt idle =
     s-double fd refl free lt (omega arith) idle.walk idle.pending idle.opening ([], parts.failed (calls.Dup fd) BadDescriptor, dup_failed fd) (λ f. ([], record { answer = answers.Fd f; call = calls.Dup fd }, dup_written fd f))
     (λ l u q own. record { wp = (λ c. dup_failed fd, idle_as h u _ own (rests_as (own_of h w) (own_of h w).row (own_of h w).desk idle refl refl refl refl refl refl refl refl)) })
-    (λ l u q bad own. s-say own free lt (omega (arith, q)) (rests_free (own_of h w) (own_of h w).inodes idle.inodes) idle.joined
+    (λ l u q bad own. s-say own free lt (omega (arith, q)) (unlocks_nothing (own_of h w).inodes idle.inodes) idle.joined
     (λ l2 u2 q2 spoilt own2. record { wp = (λ c. absurd (let a = spoilt refl in cc (a, c)), idle_as h u2 _ own2 (record { inodes = idle.inodes; refs = idle.refs; walk = idle.walk; pending = idle.pending; hold = idle.hold; hand = idle.hand; joined = idle.joined; lent = idle.lent; opening = idle.opening; left = idle.left; noted = idle.noted })) }))
-    (λ l f r d u q row desk own. s-say own (desk.lender ∙ free) lt (omega (arith, q)) (rests_free (own_of h w) (own_of h w).inodes idle.inodes) (desk.joined ∙ idle.joined)
+    (λ l f r d u q row desk own. s-say own (desk.lender ∙ free) lt (omega (arith, q)) (unlocks_nothing (own_of h w).inodes idle.inodes) (desk.joined ∙ idle.joined)
     (λ l2 u2 q2 _ own2. record { wp = (λ c. dup_written fd f, idle_as h u2 _ own2 (rests_same (own_of h w) r d idle row desk)) }))
 
 -- Close.
@@ -152,7 +137,7 @@ close_ok h fd w free lt idle =
     })))))
   where
     none : (i : ℕ) (x : Held) → (own_of h w).inodes i ≡ Some x → x.locked ≡ false
-    none = rests_free (own_of h w) (own_of h w).inodes idle.inodes
+    none = unlocks_nothing (own_of h w).inodes idle.inodes
 
 -- Fstat.
 
@@ -170,11 +155,11 @@ stat_ok h fd w free lt idle =
     (λ l u q own. record { wp = (λ c. stat_failed fd, idle_as h u _ own (rests_as (own_of h w) (own_of h w).row (own_of h w).desk idle refl refl refl refl refl refl refl refl)) })
     (λ l i v u q own.
     s-give own free lt (omega (arith, q)) (put_same (own_of h w).inodes i (Some (locked_held (Some v)))) refl refl refl refl (λ l2 u2 q2 own2.
-    s-say own2 free lt (omega (arith, q, q2)) (rests_free (own_of h w) _ (none_left (own_of h w).inodes i (Some (locked_held (Some v))) idle.inodes)) idle.joined (λ l3 u3 q3 _ own3.
+    s-say own2 free lt (omega (arith, q, q2)) (unlocks_nothing _ (given_is (own_of h w).inodes i (Some (locked_held (Some v))) idle.inodes)) idle.joined (λ l3 u3 q3 _ own3.
     record {
       wp = (
         λ c. stat_written fd i v,
-        idle_as h u3 _ own3 (subst (λ (f : ℕ → Option Held). Rests (record (own_of h w) { inodes = f; mine = record { refs = (own_of h w).mine.refs; walk = None; pending = None } })) (idle.inodes ∙ sym (none_left (own_of h w).inodes i (Some (locked_held (Some v))) idle.inodes))
+        idle_as h u3 _ own3 (subst (λ (f : ℕ → Option Held). Rests (record (own_of h w) { inodes = f; mine = record { refs = (own_of h w).mine.refs; walk = None; pending = None } })) (idle.inodes ∙ sym (given_is (own_of h w).inodes i (Some (locked_held (Some v))) idle.inodes))
             (rests_as (own_of h w) (own_of h w).row (own_of h w).desk idle refl refl refl refl refl refl refl refl)),
       );
     })))
@@ -195,11 +180,11 @@ read_ok h fd buffer w free lt idle =
     (λ l c u q own. record { wp = (λ y. read_failed fd buffer c, idle_as h u _ own (rests_as (own_of h w) (own_of h w).row (own_of h w).desk idle refl refl refl refl refl refl refl refl)) })
     (λ l i b x u q own.
     s-give own free lt (omega (arith, q)) (put_same (own_of h w).inodes i (Some (locked_held x))) refl refl refl refl (λ l2 u2 q2 own2.
-    s-say own2 free lt (omega (arith, q, q2)) (rests_free (own_of h w) _ (none_left (own_of h w).inodes i (Some (locked_held x)) idle.inodes)) idle.joined (λ l3 u3 q3 _ own3.
+    s-say own2 free lt (omega (arith, q, q2)) (unlocks_nothing _ (given_is (own_of h w).inodes i (Some (locked_held x)) idle.inodes)) idle.joined (λ l3 u3 q3 _ own3.
     record {
       wp = (
         λ c. read_written fd buffer b,
-        idle_as h u3 _ own3 (subst (λ (f : ℕ → Option Held). Rests (record (own_of h w) { inodes = f; mine = record { refs = (own_of h w).mine.refs; walk = None; pending = None } })) (idle.inodes ∙ sym (none_left (own_of h w).inodes i (Some (locked_held x)) idle.inodes))
+        idle_as h u3 _ own3 (subst (λ (f : ℕ → Option Held). Rests (record (own_of h w) { inodes = f; mine = record { refs = (own_of h w).mine.refs; walk = None; pending = None } })) (idle.inodes ∙ sym (given_is (own_of h w).inodes i (Some (locked_held x)) idle.inodes))
             (rests_as (own_of h w) (own_of h w).row (own_of h w).desk idle refl refl refl refl refl refl refl refl)),
       );
     })))

@@ -46,3 +46,4 @@ pub mod OpenEnds
 pub mod OpenCalls
 pub mod Empties
 pub mod Histories
+pub mod Resting

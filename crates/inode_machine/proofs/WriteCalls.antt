@@ -19,9 +19,9 @@ use Rattle.std.proofs.Math.Nat.{le-div_iff_mul-le}
 use Rattle.std.proofs.Math.Numerals.{add-one}
 use Rattle.atomic_programs.specs.Prog.{Do, unmarked}
 use Rattle.plain_tree.specs.declared.node.Node.{Node}
-use Rattle.tree_laws.proofs.Maps.{either, eq_isnt, same_or, put_same, put_other}
+use Rattle.tree_laws.proofs.Maps.{either, eq_isnt, same_or, put_same}
 use Rattle.inode_machine.specs.World.Op.{Give, Leave}
-use Rattle.inode_machine.proofs.Frame.{is_put}
+use Rattle.inode_machine.proofs.Resting.{given_is, idle_as, unlocks_nothing}
 use Rattle.tree_moves.specs.Moves.{Step, Played, Written}
 use Rattle.inode_machine.specs.World.{World}
 use Rattle.inode_machine.specs.Rules.{Held, Own, Rests, own_of, nothing, Idle, machine}
@@ -179,9 +179,6 @@ given O = record O { inodes = nothing; mine = record { refs = O.mine.refs; walk 
 abbrev pub again : Own → Own
 again O = record (unjoined (given O)) { desk = record (O.desk) { joined = true; noted = None } }
 
-given_is : (I : ℕ → Option Held) (i : ℕ) (x : Option Held) → I ≡ nothing → put (put I i x) i None ≡ nothing
-given_is I i x e = sym (is_put (put I i x) nothing i None refl (λ n ne. sym (put_other I i x n ne ∙ ap (λ (f : ℕ → Option Held). f n) e)))
-
 rests_again : (O : Own) → Rests (unjoined O) → Rests (unjoined (given O))
 rests_again O r = record { inodes = refl; refs = r.refs; walk = refl; pending = refl; hold = r.hold; hand = r.hand; joined = refl; lent = r.lent; opening = r.opening; left = r.left; noted = refl }
 
@@ -200,12 +197,6 @@ rests_joins O r = record { inodes = r.inodes; refs = r.refs; walk = r.walk; pend
 
 rests_still : (O : Own) → Rests O → Rests (record O { mine = record { refs = O.mine.refs; walk = None; pending = None } })
 rests_still O r = record { inodes = r.inodes; refs = r.refs; walk = refl; pending = refl; hold = r.hold; hand = r.hand; joined = r.joined; lent = r.lent; opening = r.opening; left = r.left; noted = r.noted }
-
-idle_own : (h : ℕ) (u : World) (O : Own) → own_of h u ≡ O → Rests O → Idle h u
-idle_own h u O e r = subst (λ (o : Own). Rests o) (sym e) r
-
-unlocks_nothing : (I : ℕ → Option Held) → I ≡ nothing → (i : ℕ) (x : Held) → I i ≡ Some x → x.locked ≡ false
-unlocks_nothing I e i x is = absurd (let a : I i ≡ None = ap (λ (f : ℕ → Option Held). f i) e in cc (a, is))
 
 -- the inode is given up, and the transaction left
 s-release : {A : Type 0} {h : ℕ} (O : Own) (i : ℕ) (x : Option Node) {p : P machine A} {B : List Step → Type 0} {Q : A → List Step → World → Type 0} {n : ℕ} {es : List Step} {w : World}
@@ -228,9 +219,9 @@ s-piece : {h : ℕ} (fd n : ℕ) (bytes : List ℕ) (i : ℕ) (O : Own) {more : 
 s-piece {h} fd n bytes i O own free lt pos joined rests key below rest =
     s-write-file fd n (piece bytes i) own free lt (omega (arith, pos)) rests.walk rests.pending rests.opening (λ j. ap (λ (f : ℕ → Option Held). f j) rests.inodes) joined key (piece_short bytes i) (λ c. begun_failed fd bytes i c below) (begun_wrote fd bytes i below)
     (λ l c x u q own2. s-release O n x own2 free lt (omega (arith, pos, q)) rests.inodes joined (λ l2 u2 q2 own3.
-    s-say own3 free lt (omega (arith, pos, q, q2)) (unlocks_nothing nothing refl) refl (λ l3 u3 q3 _ own4. record { wp = (λ _. failed_written fd bytes i c below, idle_own h u3 _ own4 (rests_again O rests)) })))
+    s-say own3 free lt (omega (arith, pos, q, q2)) (unlocks_nothing nothing refl) refl (λ l3 u3 q3 _ own4. record { wp = (λ _. failed_written fd bytes i c below, idle_as h u3 _ own4 (rests_again O rests)) })))
     (λ l j x u q dirty own2. s-release (filled O) n x own2 free lt (omega (arith, pos, q)) rests.inodes joined (λ l2 u2 q2 own3.
-    s-say own3 free lt (omega (arith, pos, q, q2)) (unlocks_nothing nothing refl) refl (λ l3 u3 q3 spoilt own4. record { wp = (λ c. absurd (let a = spoilt refl in cc (a, c)), idle_own h u3 _ own4 (rests_filled O rests)) })))
+    s-say own3 free lt (omega (arith, pos, q, q2)) (unlocks_nothing nothing refl) refl (λ l3 u3 q3 spoilt own4. record { wp = (λ c. absurd (let a = spoilt refl in cc (a, c)), idle_as h u3 _ own4 (rests_filled O rests)) })))
     (λ l x u q own2. s-release O n x own2 free lt (omega (arith, pos, q)) rests.inodes joined (λ l2 u2 q2 own3. rest l2 u2 (omega (arith, q, q2)) own3))
 
 -- The pieces from one on.
@@ -238,7 +229,7 @@ from_ok : (h fd n : ℕ) (bytes : List ℕ) (left i N : ℕ) (O : Own) (w : Worl
     → Safe machine h (Begun descriptor_calls (calls.Write fd bytes)) (Ends descriptor_calls h (calls.Write fd bytes)) (write_from fd n bytes left i) N (wrote_steps fd bytes i) w
 from_ok h fd n bytes zero i N O w own free lt joined rests key count enough =
     s-piece fd n bytes i O own free lt (omega (arith, enough)) joined rests key (omega (arith, count)) (λ l u q own2.
-    s-say own2 free lt (omega (arith, enough, q)) (unlocks_nothing nothing refl) refl (λ l2 u2 q2 _ own3. record { wp = (λ _. whole_written fd bytes (suc i) (omega (arith, count)), idle_own h u2 _ own3 (rests_again O rests)) }))
+    s-say own2 free lt (omega (arith, enough, q)) (unlocks_nothing nothing refl) refl (λ l2 u2 q2 _ own3. record { wp = (λ _. whole_written fd bytes (suc i) (omega (arith, count)), idle_as h u2 _ own3 (rests_again O rests)) }))
 from_ok h fd n bytes (suc left) i N O w own free lt joined rests key count enough =
     s-piece fd n bytes i O own free lt (omega (arith, enough)) joined rests key (omega (arith, count)) (λ l u q own2.
     s-join own2 free lt (omega (arith, enough, q)) (unlocks_nothing nothing refl) refl (λ l2 u2 q2 own3.
@@ -263,12 +254,12 @@ enough_left count l n pos q e = omega (arith, pos, q, e)
 pub write_ok : (h fd : ℕ) (bytes : List ℕ) (w : World) → (w.desks h).lender ≡ None → h < hart_count → Idle h w → Safe machine h (Begun descriptor_calls (calls.Write fd bytes)) (Ends descriptor_calls h (calls.Write fd bytes)) (write_program fd bytes) (piece_cost * (piece_count bytes + 1)) [] w
 write_ok h fd [] w free lt idle =
     s-check-file fd refl free lt (omega arith) idle.walk idle.pending idle.opening (λ c. begun_failed fd [] 0 c (some_pieces [])) (begun_wrote fd [] 0 (some_pieces []))
-    (λ l c u q own. record { wp = (λ _. failed_written fd [] 0 c (some_pieces []), idle_own h u _ own (rests_still (own_of h w) idle)) })
-    (λ l u q own. record { wp = (λ _. whole_written fd [] 1 refl, idle_own h u _ own (rests_still (own_of h w) idle)) })
+    (λ l c u q own. record { wp = (λ _. failed_written fd [] 0 c (some_pieces []), idle_as h u _ own (rests_still (own_of h w) idle)) })
+    (λ l u q own. record { wp = (λ _. whole_written fd [] 1 refl, idle_as h u _ own (rests_still (own_of h w) idle)) })
 write_ok h fd (b ∷ bs) w free lt idle =
     let some = some_pieces (b ∷ bs) in
     s-join-file fd (piece (b ∷ bs) 0) refl free lt (omega (arith, some)) idle.walk idle.pending idle.opening (unlocks_nothing (own_of h w).inodes idle.inodes) idle.joined (λ c. begun_failed fd (b ∷ bs) 0 c some)
-    (λ l c u q own. record { wp = (λ _. failed_written fd (b ∷ bs) 0 c some, idle_own h u _ own (rests_still (own_of h w) idle)) })
+    (λ l c u q own. record { wp = (λ _. failed_written fd (b ∷ bs) 0 c some, idle_as h u _ own (rests_still (own_of h w) idle)) })
     (λ l i u q key own.
     from_ok h fd i (b ∷ bs) (piece_count (b ∷ bs) - 1) 0 l (joins (own_of h w)) u own free lt refl (rests_joins (own_of h w) idle) (record { slot = key.slot; below = key.below; is = key.is; key = key.key; at = key.at; number = key.number; writable = key.writable })
     (omega (arith, some)) (enough_left (piece_count (b ∷ bs)) l _ some q refl))
