@@ -1,10 +1,11 @@
 -- The calls that are shown right, together.
-use Rattle.std.proofs.Common.{◌≡◌, Bool, true, false, not, refl}
+use Rattle.std.proofs.Common.{◌≡◌, ◌⊎◌, inl, inr, Bool, true, false, not, refl}
 use Rattle.plain_tree.specs.Steps.{creates}
-use Rattle.atomic_programs.specs.Calls.{Lawful}
-use Rattle.atomic_programs.proofs.Explains.{explains}
+use Rattle.atomic_programs.specs.Calls.{Lawful, State, fresh, run}
+use Rattle.atomic_programs.proofs.Explains.{explains, holds_of}
 use Rattle.plain_tree.specs.declared.call.Call.TheVariants as calls
-use Rattle.inode_machine.specs.Theory.{covered_calls, is_covered, CallsAreExplained}
+use Rattle.inode_machine.specs.Theory.{covered_calls, is_covered, CallsAreExplained, StaysInOrder, WorldsStayInOrder}
+use Rattle.inode_machine.specs.Rules.{Inv}
 use Rattle.inode_machine.proofs.Calls.{IsRight, descriptors_right, lawful_that, right}
 use Rattle.inode_machine.proofs.ChdirCalls.{chdir_begins, chdir_ok}
 use Rattle.inode_machine.proofs.OpenEnds.{open_begins}
@@ -35,3 +36,14 @@ lawful = lawful_that is_covered covered_right
 -- Every interleaving of these calls is explained by one list of steps.
 pub explained : CallsAreExplained
 explained w events inv idle honest = explains covered_calls lawful w events inv idle honest
+
+-- The invariant says so.
+pub in_order : WorldsStayInOrder
+in_order w events inv idle honest = by (holds_of covered_calls s.stopped s.world (explained w events inv idle honest).holds)
+  where
+    s : State covered_calls
+    s = run covered_calls events (fresh covered_calls w)
+
+    by : Inv s.world ⊎ Inv s.world → StaysInOrder s.world
+    by (inl i) = record { well = i.well; whole = i.whole; quiet = i.quiet }
+    by (inr i) = record { well = i.well; whole = i.whole; quiet = i.quiet }

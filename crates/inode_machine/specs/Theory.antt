@@ -82,6 +82,16 @@ covered_calls = calls_that is_covered
 abbrev pub CallsAreExplained : Type 0
 CallsAreExplained = AreExplained is_covered
 
+-- Whatever has happened, also where a step found no room: the tree before it settles is well formed, what no hart keeps is on disk as the tree has it, and so
+-- is what is kept by a hart in no transaction.
+pub record StaysInOrder (w : World) : Type 0 where
+  pub well : IsWellFormed w.all
+  pub whole : (i : ℕ) → w.keeper i ≡ None → w.disk i ≡ w.all.nodes i
+  pub quiet : (i h : ℕ) → w.keeper i ≡ Some h → (w.desks h).joined ≡ false → w.disk i ≡ w.all.nodes i
+
+abbrev pub WorldsStayInOrder : Type 0
+WorldsStayInOrder = (w : World) (events : List (Event Call Outside)) → Inv w → ((h : ℕ) → Idle h w) → AllHonest covered_calls events (fresh covered_calls w) → StaysInOrder (run covered_calls events (fresh covered_calls w)).world
+
 -- A world at rest on a tree without open files, orphans included.
 
 abbrev pub resting : Tree → ℕ → Mine

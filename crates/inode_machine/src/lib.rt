@@ -3,7 +3,7 @@
 #![tactic(auto)]
 
 ghost use Rattle.inode_machine.specs.Histories.{CallsHaveOneHistory, OneHartHasOneHistory};
-ghost use Rattle.inode_machine.specs.Theory.{CallsAreExplained, WorldsRest, WorldsWithAFileRest};
+ghost use Rattle.inode_machine.specs.Theory.{CallsAreExplained, WorldsRest, WorldsStayInOrder, WorldsWithAFileRest};
 
 /// For every list of events of any harts, the replies of dup, close, fstat, read, write, chdir, unlink, mkdir, and of an
 /// open that makes no file, of pieces and paths of any length, are those of one list of moves on the tree, each made
@@ -27,6 +27,12 @@ pub fn calls_have_one_history()
 /// Where one hart alone makes calls the same holds for any paths.
 pub fn one_hart_has_one_history()
     ensures { OneHartHasOneHistory }
+{}
+
+/// Also once a step found no room, and where paths climb: the tree before it settles stays well formed, and what no hart
+/// keeps, or one in no transaction does, is on disk as that tree has it.
+pub fn worlds_stay_in_order()
+    ensures { WorldsStayInOrder }
 {}
 
 /// There are such beginnings: a well-formed tree without open files, orphans included, with every hart at rest.
