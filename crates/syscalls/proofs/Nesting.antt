@@ -1,7 +1,7 @@
 -- A machine in another one moves as it does alone.
 use Rattle.std.proofs.Common.{◌≡◌, ◌∙◌, ℕ, refl, sym, ap, subst}
 use Rattle.atomic_programs.specs.Prog.{Ret, Do, bind, advance, asks, went, OfNext, Did, Waits as ItWaits, Ran as ItRan, Stops, Moved, Ended, StillWaits, WentOn, Broke}
-use Rattle.atomic_programs.specs.Machines.{moved_to, Still}
+use Rattle.atomic_programs.specs.Machines.{moved_to, Still, Left}
 use Rattle.atomic_programs.specs.declared.machines.Stepped.{Stepped}
 use Rattle.atomic_programs.specs.declared.machines.Stepped.TheVariants.{Waits, Ran, Done, Stopped}
 use Rattle.fs_machine.specs.declared.kind.Kind.{Kind}
@@ -111,3 +111,17 @@ module _ {M R A N T B : Type 0} (inner : M → P A) (value : R → A) (outer : N
   nested_still m n (Stopped m') (Ran n' k) old new is f still = absurd f
   nested_still m n (Stopped m') (Done r k) old new is f still = absurd f
   nested_still m n (Stopped m') (Stopped n') old new is f still = f ∙ ap (λ p. bind p more) still ∙ sym is
+
+-- what holds of the machine that is left, or of its result, from two such facts
+pub left_zip : {M R K : Type 0} (P P' P'' : M → Type 0) (Q Q' Q'' : R → Type 0) → ((m : M) → P m → P' m → P'' m) → ((r : R) → Q r → Q' r → Q'' r) → (stepped : Stepped M R K) → Left P Q stepped → Left P' Q' stepped
+    → Left P'' Q'' stepped
+left_zip P P' P'' Q Q' Q'' f g (Waits m) a b = f m a b
+left_zip P P' P'' Q Q' Q'' f g (Ran m kind) a b = f m a b
+left_zip P P' P'' Q Q' Q'' f g (Done r kind) a b = g r a b
+left_zip P P' P'' Q Q' Q'' f g (Stopped m) a b = f m a b
+
+pub left_map : {M R K : Type 0} (P P' : M → Type 0) (Q Q' : R → Type 0) → ((m : M) → P m → P' m) → ((r : R) → Q r → Q' r) → (stepped : Stepped M R K) → Left P Q stepped → Left P' Q' stepped
+left_map P P' Q Q' f g (Waits m) a = f m a
+left_map P P' Q Q' f g (Ran m kind) a = f m a
+left_map P P' Q Q' f g (Done r kind) a = g r a
+left_map P P' Q Q' f g (Stopped m) a = f m a

@@ -1,5 +1,5 @@
 -- The programs that are left of the calls.
-use Rattle.std.specs.Prelude.{ℕ, None}
+use Rattle.std.specs.Prelude.{◌<◌, ◌^◌, ℕ, length, None}
 use Rattle.plain_tree.specs.declared.answer.Answer.TheVariants as answers
 use Rattle.plain_tree.specs.declared.answer.Cause.TheVariants as causes
 use Rattle.plain_tree.specs.declared.answer.Full.TheVariants as fulls
@@ -14,9 +14,13 @@ use Rattle.fs_machine.specs.declared.kind.Kind.{Kind}
 use Rattle.fs_machine.specs.declared.kind.Kind.TheVariants as kind
 use Rattle.fs_machine.specs.Steps.{State, Unlock}
 use Rattle.fs_machine.specs.Machines.{P}
+use Rattle.fs_machine.specs.Tied.{IsOwnInode}
 use Rattle.file_table.specs.Machines.{file_of, FileFits, IsLoaded}
+use Rattle.inode_data.specs.Reading.{filled_in, read_of, reader_of, ReadFits}
+use Rattle.syscalls.specs.declared.read.Read.{Read}
+use Rattle.syscalls.specs.declared.read.Read.TheVariants as read
 use Rattle.syscalls.specs.Replies.{failed, full}
-use Rattle.syscalls.specs.Programs.{say, dup_program, stat_reply, stat_on}
+use Rattle.syscalls.specs.Programs.{say, dup_program, stat_reply, stat_on, give_read, read_on}
 use Rattle.syscalls.specs.declared.dup.Dup.{Dup}
 use Rattle.syscalls.specs.declared.dup.Dup.TheVariants as dup
 use Rattle.syscalls.specs.declared.fstat.Fstat.{Fstat}
@@ -46,3 +50,18 @@ unfoldable pub FstatFits : ℕ → State → Fstat → Type 0
 FstatFits hart s (fstat.Loading fd load) = FileFits hart s load
 FstatFits hart s (fstat.Give fd guard) = IsLoaded hart guard.value.number guard s
 FstatFits hart s (fstat.Say reply) = Unit {0}
+
+-- ---- read
+
+unfoldable pub read_call_of : Read → P Reply
+read_call_of (read.Loading fd buffer load) = bind (file_of load) (read_on fd buffer)
+read_call_of (read.Reading fd offset m) = bind (read_of m) (give_read fd offset (reader_of m).value)
+read_call_of (read.Give fd offset r) = give_read fd offset r.inode.value (filled_in r)
+read_call_of (read.Say reply) = say reply
+
+-- its guards go with the state
+unfoldable pub ReadCallFits : ℕ → State → Read → Type 0
+ReadCallFits hart s (read.Loading fd buffer load) = (length buffer < 2 ^ 32) × FileFits hart s load
+ReadCallFits hart s (read.Reading fd offset m) = IsOwnInode hart (reader_of m).value.number (reader_of m) s × ReadFits hart s m
+ReadCallFits hart s (read.Give fd offset r) = IsOwnInode hart r.inode.value.number r.inode s
+ReadCallFits hart s (read.Say reply) = Unit {0}

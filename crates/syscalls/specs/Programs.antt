@@ -1,5 +1,5 @@
 -- The calls as programs over what all harts share. Nothing is marked in them.
-use Rattle.std.specs.Prelude.{ℕ, None}
+use Rattle.std.specs.Prelude.{ℕ, ◌+◌, List, length, Some, None}
 use Rattle.plain_tree.specs.declared.answer.Answer.TheVariants as answers
 use Rattle.plain_tree.specs.declared.answer.Cause.TheVariants as causes
 use Rattle.plain_tree.specs.declared.answer.Full.TheVariants as fulls
@@ -13,6 +13,7 @@ use Rattle.fs_tables.specs.declared.files.Want.TheVariants as want
 use Rattle.fs_machine.specs.Steps.{Double, Unlock, Reply as ReplyOp}
 use Rattle.fs_machine.specs.Machines.{P}
 use Rattle.inode_table.specs.Programs.{record_of}
+use Rattle.inode_data.specs.Programs.{Filled, read_from}
 use Rattle.file_table.specs.Programs.{FileState, Denies, Loads, load_file}
 use Rattle.syscalls.specs.Replies.{failed, full, cause_of, stat_of}
 
@@ -41,3 +42,19 @@ stat_on fd (Loads file inode) = Do (Unlock inode None) unmarked (λ _. say (stat
 
 abbrev pub stat_program : (inodestart fd : ℕ) → P Reply
 stat_program inodestart fd = bind (load_file inodestart want.Stat fd) (stat_on fd)
+
+-- ---- read
+
+abbrev pub read_reply : ℕ → Filled → Reply
+read_reply fd m = record { answer = answers.Count m.count; call = calls.Read fd m.bytes }
+
+-- the lock is given up, and the offset moves by what was read
+abbrev pub give_read : (fd offset : ℕ) → Inode → Filled → P Reply
+give_read fd offset inode m = Do (Unlock inode (Some (fd, offset + m.count))) unmarked (λ _. say (read_reply fd m))
+
+abbrev pub read_on : ℕ → List ℕ → FileState → P Reply
+read_on fd buffer (Denies why) = Ret (failed (calls.Read fd buffer) (cause_of why))
+read_on fd buffer (Loads file inode) = bind (read_from (record_of inode) file.offset (length buffer) buffer) (give_read fd file.offset inode)
+
+abbrev pub read_program : (inodestart fd : ℕ) → List ℕ → P Reply
+read_program inodestart fd buffer = bind (load_file inodestart want.Read fd) (read_on fd buffer)

@@ -6,7 +6,9 @@
 
 mod dup;
 mod fstat;
+mod read;
 mod replies;
 
 pub use crate::dup::Dup;
 pub use crate::fstat::Fstat;
+pub use crate::read::Read;
