@@ -1,2 +1,3 @@
 pub mod Nesting
 pub mod Reading
+pub mod Closing

@@ -5,17 +5,22 @@ use Rattle.plain_tree.specs.declared.answer.Cause.TheVariants as causes
 use Rattle.plain_tree.specs.declared.answer.Full.TheVariants as fulls
 use Rattle.plain_tree.specs.declared.answer.Reply.{Reply}
 use Rattle.plain_tree.specs.declared.call.Call.TheVariants as calls
+use Rattle.fs_layout.specs.declared.superblock.Super.{Super}
 use Rattle.atomic_programs.specs.Prog.{Ret, Do, bind, unmarked}
 use Rattle.fs_tables.specs.declared.inodes.Inode.{Inode}
 use Rattle.fs_tables.specs.declared.slots.Doubled.{Doubled}
 use Rattle.fs_tables.specs.declared.slots.Doubled.TheVariants as doubled
+use Rattle.fs_tables.specs.declared.slots.Shut.{Shut}
+use Rattle.fs_tables.specs.declared.slots.Shut.TheVariants as shut
 use Rattle.fs_tables.specs.declared.files.Want.TheVariants as want
-use Rattle.fs_machine.specs.Steps.{Double, Unlock, Reply as ReplyOp}
+use Rattle.fs_machine.specs.Steps.{Join, Double, Close, Unlock, Reply as ReplyOp}
+use Rattle.fs_machine.specs.Programs.{finish}
 use Rattle.fs_machine.specs.Machines.{P}
 use Rattle.inode_table.specs.Programs.{record_of}
+use Rattle.inode_data.specs.Freeing.{drop_reference}
 use Rattle.inode_data.specs.Programs.{Filled, read_from}
 use Rattle.file_table.specs.Programs.{FileState, Denies, Loads, load_file}
-use Rattle.syscalls.specs.Replies.{failed, full, cause_of, stat_of}
+use Rattle.syscalls.specs.Replies.{failed, full, done, cause_of, stat_of}
 
 -- the reply is given
 abbrev pub say : Reply → P Reply
@@ -30,6 +35,24 @@ dup_on fd (doubled.Gave other) = say (record { answer = answers.Fd other; call =
 
 abbrev pub dup_program : ℕ → P Reply
 dup_program fd = Do (Double fd) unmarked (dup_on fd)
+
+-- ---- close
+
+-- the transaction is left, with its commit
+abbrev pub leave_closed : ℕ → P Reply
+leave_closed fd = bind finish (λ _. say (done (calls.Close fd)))
+
+-- the reference that the open file had is dropped, in a transaction of its own
+abbrev pub drop_closed : Super → (fd n : ℕ) → P Reply
+drop_closed sizes fd n = Do Join unmarked (λ _. bind (drop_reference sizes n) (λ _. leave_closed fd))
+
+abbrev pub close_on : Super → ℕ → Shut → P Reply
+close_on sizes fd shut.BadDescriptor = Ret (failed (calls.Close fd) causes.BadDescriptor)
+close_on sizes fd shut.Closed = say (done (calls.Close fd))
+close_on sizes fd (shut.Last n) = drop_closed sizes fd n
+
+abbrev pub close_program : Super → ℕ → P Reply
+close_program sizes fd = Do (Close fd) unmarked (close_on sizes fd)
 
 -- ---- fstat
 

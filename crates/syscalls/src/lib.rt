@@ -4,11 +4,15 @@
 //! under way takes no memory, and is handed back in its reply.
 #![tactic(auto)]
 
+mod close;
 mod dup;
 mod fstat;
 mod read;
 mod replies;
+mod running;
 
+pub use crate::close::Close;
 pub use crate::dup::Dup;
 pub use crate::fstat::Fstat;
 pub use crate::read::Read;
+pub use crate::running::Running;

@@ -6,7 +6,7 @@ ghost use Rattle.fs_machine.specs.Premises.{May};
 ghost use Rattle.atomic_programs.specs.Machines.{Still, Left as LeftOf};
 ghost use Rattle.fs_tables.specs.declared.inodes.Inode.{Inode as InodeState};
 ghost use Rattle.fs_machine.specs.Steps.{State, state_of, exec, Unlock};
-ghost use Rattle.fs_machine.specs.Machines.{MayNext, Moves, Answers};
+ghost use Rattle.fs_machine.specs.Machines.{MayNext, Moves, Answers, CallsOnce};
 ghost use Rattle.fs_machine.specs.Tied.{IsOwnInode, LeavesTied};
 ghost use Rattle.inode_data.specs.Reading.{filled_in, read_of, reader_of, ReadFits};
 ghost use Rattle.file_table.specs.Programs.{Loads};
@@ -61,6 +61,7 @@ impl Read {
         ensures still { Still read_call_of result self core.old core.new }
         ensures fits { LeftOf (ReadCallFits hart (state_of D.contents D.failures core.new)) (λ _. Unit {0}) result }
         ensures others { LeavesTied hart (state_of D.contents D.failures core.old) (state_of D.contents D.failures core.new) }
+        ensures called { CallsOnce D.Called core.old.log.cache.device core.new.log.cache.device }
     {
         match self {
             Read::Loading(fd, buf, load) => loading(fd, buf, load.step(hart, core)),
@@ -144,6 +145,7 @@ fn give<D: Device>(fd: u32, offset: u32, reading: Reading, hart: u8, core: &mut 
     requires may { May hart (Unlock reading.inode.value (Some (fd, offset + reading.filled))) (state_of D.contents D.failures core.old) }
     ensures ran { (x : Outside) → exec hart x (Unlock reading.inode.value (Some (fd, offset + reading.filled))) (state_of D.contents D.failures core.old) ≡ ItRan tt (state_of D.contents D.failures core.new) }
     ensures reply { result ≡ read_reply fd (filled_in reading) }
+    ensures log { core.new.log ≡ core.old.log }
     ensures others { LeavesTied hart (state_of D.contents D.failures core.old) (state_of D.contents D.failures core.new) }
 {
     let Reading {

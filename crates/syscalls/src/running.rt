@@ -1,0 +1,94 @@
+//! A call under way, whichever it is.
+ghost use Rattle.std.specs.Prelude.{◌≡◌, ◌<◌};
+ghost use Rattle.atomic_programs.specs.Machines.{Still, Left as LeftOf};
+ghost use Rattle.fs_machine.specs.Steps.{state_of};
+ghost use Rattle.fs_machine.specs.Machines.{MayNext, Moves, Answers, CallsOnce};
+ghost use Rattle.fs_machine.specs.Tied.{LeavesTied};
+ghost use Rattle.inode_data.specs.Machines.{ends_within};
+ghost use Rattle.syscalls.specs.Machines.{running_of, RunningFits};
+ghost use Rattle.syscalls.specs.declared.running.Running.TheVariants as running;
+
+use crate::close::Close;
+use crate::dup::Dup;
+use crate::fstat::Fstat;
+use crate::read::Read;
+use atomic_programs::machines::Stepped;
+use block_device::Device;
+use buffer_cache::HARTS;
+use fs_machine::{Core, Kind};
+use plain_tree::Reply;
+
+/// A call under way.
+pub enum Running {
+    Dup(Dup),
+    Close(Close),
+    Fstat(Fstat),
+    Read(Read),
+}
+
+impl Running {
+    /// One operation.
+    #[tactic(auto, unfolding(crate::specs::Machines::running_of, crate::specs::Machines::RunningFits))]
+    pub fn step<D: Device>(self, hart: u8, core: &mut Core<D>) -> Stepped<Running, Reply, Kind>
+        requires hart { hart < HARTS }
+        requires may { MayNext hart (running_of self) (state_of D.contents D.failures core.old) }
+        requires fits { RunningFits hart (state_of D.contents D.failures core.old) self }
+        ensures moves { Moves running_of (λ reply. reply) hart self result (state_of D.contents D.failures core.old) (state_of D.contents D.failures core.new) }
+        ensures honest { Answers running_of hart self result (state_of D.contents D.failures core.old) (state_of D.contents D.failures core.new) }
+        ensures still { Still running_of result self core.old core.new }
+        ensures fits { LeftOf (RunningFits hart (state_of D.contents D.failures core.new)) (λ _. Unit {0}) result }
+        ensures others { LeavesTied hart (state_of D.contents D.failures core.old) (state_of D.contents D.failures core.new) }
+        ensures called { CallsOnce D.Called core.old.log.cache.device core.new.log.cache.device }
+    {
+        match self {
+            Running::Dup(m) => in_dup(m.step(hart, core)),
+            Running::Close(m) => in_close(m.step(hart, core)),
+            Running::Fstat(m) => in_fstat(m.step(hart, core)),
+            Running::Read(m) => in_read(m.step(hart, core)),
+        }
+    }
+}
+
+fn in_dup(stepped: Stepped<Dup, Reply, Kind>) -> Stepped<Running, Reply, Kind>
+    ensures { result ≡ ends_within (λ m. running.Dup m) (λ reply. reply) stepped }
+{
+    match stepped {
+        Stepped::Waits(m) => Stepped::Waits(Running::Dup(m)),
+        Stepped::Ran(m, kind) => Stepped::Ran(Running::Dup(m), kind),
+        Stepped::Done(reply, kind) => Stepped::Done(reply, kind),
+        Stepped::Stopped(m) => Stepped::Stopped(Running::Dup(m)),
+    }
+}
+
+fn in_close(stepped: Stepped<Close, Reply, Kind>) -> Stepped<Running, Reply, Kind>
+    ensures { result ≡ ends_within (λ m. running.Close m) (λ reply. reply) stepped }
+{
+    match stepped {
+        Stepped::Waits(m) => Stepped::Waits(Running::Close(m)),
+        Stepped::Ran(m, kind) => Stepped::Ran(Running::Close(m), kind),
+        Stepped::Done(reply, kind) => Stepped::Done(reply, kind),
+        Stepped::Stopped(m) => Stepped::Stopped(Running::Close(m)),
+    }
+}
+
+fn in_fstat(stepped: Stepped<Fstat, Reply, Kind>) -> Stepped<Running, Reply, Kind>
+    ensures { result ≡ ends_within (λ m. running.Fstat m) (λ reply. reply) stepped }
+{
+    match stepped {
+        Stepped::Waits(m) => Stepped::Waits(Running::Fstat(m)),
+        Stepped::Ran(m, kind) => Stepped::Ran(Running::Fstat(m), kind),
+        Stepped::Done(reply, kind) => Stepped::Done(reply, kind),
+        Stepped::Stopped(m) => Stepped::Stopped(Running::Fstat(m)),
+    }
+}
+
+fn in_read(stepped: Stepped<Read, Reply, Kind>) -> Stepped<Running, Reply, Kind>
+    ensures { result ≡ ends_within (λ m. running.Read m) (λ reply. reply) stepped }
+{
+    match stepped {
+        Stepped::Waits(m) => Stepped::Waits(Running::Read(m)),
+        Stepped::Ran(m, kind) => Stepped::Ran(Running::Read(m), kind),
+        Stepped::Done(reply, kind) => Stepped::Done(reply, kind),
+        Stepped::Stopped(m) => Stepped::Stopped(Running::Read(m)),
+    }
+}
