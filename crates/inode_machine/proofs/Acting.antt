@@ -122,17 +122,17 @@ asks t d e f well live is = record {
   child = λ q n r l. let s : (d, e) ≡ q = cc in settle_alive t n (look_live t d n e well (subst (λ (p : ℕ × Name). look t.nodes p.0 p.1 ≡ Some n) (sym s) l));
 }
 
--- The step acts at the last lookup, where the walk stands at d. u: the world once the disk is changed; x: what the move makes.
-pub act_good : {A : Type 0} (h more n : ℕ) (B : List Step → Type 0) (Q : A → List Step → World → Type 0) (es : List Step) (v u : World) (s : Action) (d new : ℕ) (e : Name) (f : Option ℕ) (a : StepAnswer) (x : Made) (p : P machine A)
+-- The step acts at the last lookup, where the walk stands at d. u: the world once the disk is changed; x: what the move makes; T: the tree after the step.
+pub act_good_to : {A : Type 0} (h more n : ℕ) (B : List Step → Type 0) (Q : A → List Step → World → Type 0) (es : List Step) (v u : World) (s : Action) (d new : ℕ) (e : Name) (f : Option ℕ) (a : StepAnswer) (x : Made) (T : Tree) (p : P machine A)
     → h < hart_count → Inv v → (v.harts h).walk ≡ Some (record { step = s; at = d; next = e; rest = [] }) → live_directory (v.all.nodes d) ≡ true → look v.all.nodes d e ≡ f → ((g : ℕ) → s ≡ Inherit g → ⊥)
-    → acts v.all h s f (Some (d, e)) new (new_id v) ≡ x → x.told ≡ Some (record { act = record { step = s; answer = a }; new = new }) → refusal_with v.all h s f (Some (d, e)) ≡ None
-    → StepWith v.all h s f (Some (d, e)) a new (new_id v) (settle x.all)
+    → acts v.all h s f (Some (d, e)) new (new_id v) ≡ x → x.told ≡ Some (record { act = record { step = s; answer = a }; new = new })
+    → StepWith v.all h s f (Some (d, e)) a new (new_id v) T → settle T ≡ settle x.all
     → (makes_node v.all s (Some (d, e)) ≡ true → (g : ℕ) → g < hart_count → g ≢ h → walks_at (v.harts g).walk new → ⊥)
     → Fair h v (with_made h x u) → stage_of (with_made h x u) ≡ record { tree = settle x.all; walk = put (λ g. (v.harts g).walk) h None } → B (told_step new s a ∷ es) → more < n
     → ((l : ℕ) → l + (more + 1) ≡ n → Wp machine h B Q p l (told_step new s a ∷ es) (with_made h x u))
     → Fine machine h ((h, record { move = Look new; told = (made_by v.all h (new_id v) (v.harts h).walk (Look new)).told }) ∷ []) more n B es v (with_made h (made_by v.all h (new_id v) (v.harts h).walk (Look new)) u)
     (λ l. Wp machine h B Q p l (onto (own h ((h, record { move = Look new; told = (made_by v.all h (new_id v) (v.harts h).walk (Look new)).told }) ∷ [])) es) (with_made h (made_by v.all h (new_id v) (v.harts h).walk (Look new)) u))
-act_good {A} h more n B Q es v u s d new e f a x p lt inv mine live is inherits made told goes step alone f2 stage b pos next =
+act_good_to {A} h more n B Q es v u s d new e f a x T p lt inv mine live is inherits made told step same alone f2 stage b pos next =
     moves_good h more n B Q es v u (Look new) p (made_by v.all h (new_id v) (v.harts h).walk (Look new)) x
     (ap (λ (o : Option Walk). look_made v.all h o new (new_id v)) mine ∙ (λ i. looked v.all h y [] (is i) new (new_id v)) ∙ made)
     f2
@@ -145,7 +145,7 @@ act_good {A} h more n B Q es v u s d new e f a x p lt inv mine live is inherits 
         id = new_id v;
         deed = told;
         step = subst (λ (g : Option ℕ). StepWith (settle v.all) h s g (Some (d, e)) a new (new_id v) (stage_of (with_made h x u)).tree) (sym look_is)
-            (subst (λ (t : Tree). StepWith (settle v.all) h s f (Some (d, e)) a new (new_id v) t) (sym (settle_again x.all) ∙ sym (ap (λ (m : Stage). m.tree) stage)) (settled_step v.all h s f (Some (d, e)) a new (new_id v) (settle x.all) (asks v.all d e f inv.well live is) step));
+            (subst (λ (t : Tree). StepWith (settle v.all) h s f (Some (d, e)) a new (new_id v) t) (same ∙ sym (ap (λ (m : Stage). m.tree) stage)) (settled_step v.all h s f (Some (d, e)) a new (new_id v) T (asks v.all d e f inv.well live is) step));
         walk = ap (λ (m : Stage). m.walk) stage;
         alone = λ ok q. alone (sym (settled_makes v.all h s f (Some (d, e)) lt (asks v.all d e f inv.well live is)) ∙ q);
         idle = λ g l q. absurd (inherits g q);
@@ -162,6 +162,18 @@ act_good {A} h more n B Q es v u s d new e f a x p lt inv mine live is inherits 
 
     look_is : look (settle v.all).nodes d e ≡ f
     look_is = look_same v.all.nodes (settle v.all).nodes d e settled ∙ is
+
+-- the same of a step that isn't refused
+pub act_good : {A : Type 0} (h more n : ℕ) (B : List Step → Type 0) (Q : A → List Step → World → Type 0) (es : List Step) (v u : World) (s : Action) (d new : ℕ) (e : Name) (f : Option ℕ) (a : StepAnswer) (x : Made) (p : P machine A)
+    → h < hart_count → Inv v → (v.harts h).walk ≡ Some (record { step = s; at = d; next = e; rest = [] }) → live_directory (v.all.nodes d) ≡ true → look v.all.nodes d e ≡ f → ((g : ℕ) → s ≡ Inherit g → ⊥)
+    → acts v.all h s f (Some (d, e)) new (new_id v) ≡ x → x.told ≡ Some (record { act = record { step = s; answer = a }; new = new }) → refusal_with v.all h s f (Some (d, e)) ≡ None
+    → StepWith v.all h s f (Some (d, e)) a new (new_id v) (settle x.all)
+    → (makes_node v.all s (Some (d, e)) ≡ true → (g : ℕ) → g < hart_count → g ≢ h → walks_at (v.harts g).walk new → ⊥)
+    → Fair h v (with_made h x u) → stage_of (with_made h x u) ≡ record { tree = settle x.all; walk = put (λ g. (v.harts g).walk) h None } → B (told_step new s a ∷ es) → more < n
+    → ((l : ℕ) → l + (more + 1) ≡ n → Wp machine h B Q p l (told_step new s a ∷ es) (with_made h x u))
+    → Fine machine h ((h, record { move = Look new; told = (made_by v.all h (new_id v) (v.harts h).walk (Look new)).told }) ∷ []) more n B es v (with_made h (made_by v.all h (new_id v) (v.harts h).walk (Look new)) u)
+    (λ l. Wp machine h B Q p l (onto (own h ((h, record { move = Look new; told = (made_by v.all h (new_id v) (v.harts h).walk (Look new)).told }) ∷ [])) es) (with_made h (made_by v.all h (new_id v) (v.harts h).walk (Look new)) u))
+act_good h more n B Q es v u s d new e f a x p lt inv mine live is inherits made told goes step alone f2 stage b pos next = act_good_to h more n B Q es v u s d new e f a x (settle x.all) p lt inv mine live is inherits made told step (sym (settle_again x.all)) alone f2 stage b pos next
 
 -- nobody's walk is at an inode that one hart keeps alone
 pub no_walk : (h i g : ℕ) (v : World) → Inv v → h < hart_count → v.alone i ≡ true → v.keeper i ≡ Some h → g < hart_count → g ≢ h → walks_at (v.harts g).walk i → ⊥

@@ -1,15 +1,19 @@
 -- The calls that are shown right, together.
-use Rattle.std.proofs.Common.{◌≡◌, ◌⊎◌, inl, inr, Bool, true, false, not, refl}
-use Rattle.plain_tree.specs.Steps.{creates}
-use Rattle.atomic_programs.specs.Calls.{Lawful, State, fresh, run}
+use Rattle.std.proofs.Common.{◌≡◌, ◌⊎◌, inl, inr, Bool, true, false, ◌&&◌, not, [], refl}
+use Rattle.atomic_programs.specs.Logic.{Safe}
+use Rattle.plain_tree.specs.Steps.{creates, empty_it, has}
+use Rattle.atomic_programs.specs.Calls.{Begun, Ends, Lawful, State, fresh, run}
 use Rattle.atomic_programs.proofs.Explains.{explains, holds_of}
 use Rattle.plain_tree.specs.declared.call.Call.TheVariants as calls
+use Rattle.inode_machine.specs.Opening.{open_program}
+use Rattle.inode_machine.specs.Programs.{limit}
+use Rattle.inode_machine.specs.Rules.{Idle, Inv, machine}
 use Rattle.inode_machine.specs.Theory.{covered_calls, is_covered, CallsAreExplained, StaysInOrder, WorldsStayInOrder}
-use Rattle.inode_machine.specs.Rules.{Inv}
 use Rattle.inode_machine.proofs.Calls.{IsRight, descriptors_right, lawful_that, right}
 use Rattle.inode_machine.proofs.ChdirCalls.{chdir_begins, chdir_ok}
 use Rattle.inode_machine.proofs.OpenEnds.{open_begins}
 use Rattle.inode_machine.proofs.OpenCalls.{open_ok}
+use Rattle.inode_machine.proofs.CreateCalls.{create_ok}
 use Rattle.inode_machine.proofs.Unlinks.{unlink_begins, unlink_ok}
 use Rattle.inode_machine.proofs.Mkdirs.{mkdir_begins, mkdir_ok}
 
@@ -18,7 +22,11 @@ isnt true e = absurd cc
 isnt false e = refl
 
 covered_right : IsRight is_covered is_covered
-covered_right h (calls.Open path flags) busy w u lt here out idle free is = right is_covered h (calls.Open path flags) busy w u idle free is (open_begins path flags) (λ holds i. open_ok h path flags u out lt holds i (isnt (creates flags) here))
+covered_right h (calls.Open path flags) busy w u lt here out idle free is = right is_covered h (calls.Open path flags) busy w u idle free is (open_begins path flags) (λ holds i. by_flag (creates flags) refl here holds i)
+  where
+    by_flag : (b : Bool) → creates flags ≡ b → not (b && has flags empty_it) ≡ true → Inv u → Idle h u → Safe machine h (Begun covered_calls (calls.Open path flags)) (Ends covered_calls h (calls.Open path flags)) (open_program path flags) (limit (calls.Open path flags)) [] u
+    by_flag false q e holds i = open_ok h path flags u out lt holds i q
+    by_flag true q e holds i = create_ok h path flags u holds out lt i q (isnt (has flags empty_it) e)
 covered_right h (calls.Read fd buffer) busy w u lt here out idle free is = descriptors_right is_covered h (calls.Read fd buffer) busy w u lt refl out idle free is
 covered_right h (calls.Write fd bytes) busy w u lt here out idle free is = descriptors_right is_covered h (calls.Write fd bytes) busy w u lt refl out idle free is
 covered_right h (calls.Link old new) busy w u lt here out idle free is = absurd cc

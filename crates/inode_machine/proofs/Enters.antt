@@ -1,5 +1,5 @@
 -- A name is entered: without room for it nothing is; and mkdir's act, which is at that moment.
-use Rattle.std.proofs.Common.{◌≡◌, ◌≢◌, inl, inr, ℕ, ◌+◌, ◌<◌, ◌≤◌, Bool, true, false, nat_lt, List, [], ◌∷◌, Option, Some, None, refl, sym, ◌∙◌, ap, subst, arith}
+use Rattle.std.proofs.Common.{◌≡◌, ◌≢◌, ℕ, ◌+◌, ◌<◌, ◌≤◌, Bool, true, false, nat_lt, List, [], ◌∷◌, Option, Some, None, refl, sym, ◌∙◌, ap, subst, arith}
 use Rattle.std.proofs.lemmas.Bool.Decides.{nat_tests}
 use Rattle.atomic_programs.specs.Prog.{Do, Ran, Did as Came}
 use Rattle.atomic_programs.specs.Logic.{P, own, onto, Good, Fine, Safe, Wp}
@@ -7,10 +7,10 @@ use Rattle.plain_tree.specs.declared.node.Node.{Node}
 use Rattle.plain_tree.specs.declared.step.Action.TheVariants.{Mkdir}
 use Rattle.plain_tree.specs.declared.step.StepAnswer.TheVariants.{Done}
 use Rattle.plain_tree.specs.Widths.{hart_count, count_limit}
-use Rattle.plain_tree.specs.Tree.{Name, Tree, put, look, is_live, live_directory, settle}
+use Rattle.plain_tree.specs.Tree.{Name, Tree, put, look, live_directory, settle}
 use Rattle.plain_tree.specs.Steps.{node_or, node_at, with_nodes, raised, new_directory, IsNewNode, refusal_with, effect_with, answer_with, place_of, IsInPlace}
 use Rattle.tree_laws.specs.WellFormed.{IsWellFormed}
-use Rattle.tree_laws.proofs.Maps.{same_or, put_same, put_other}
+use Rattle.tree_laws.proofs.Maps.{put_same, put_other}
 use Rattle.tree_laws.proofs.Walks.{look_same}
 use Rattle.tree_laws.proofs.Kept.{effect_well}
 use Rattle.tree_moves.specs.Moves.{Step}
@@ -18,18 +18,15 @@ use Rattle.tree_moves.specs.Moves.Move.{Look}
 use Rattle.inode_machine.specs.World.{Note, World, Mark, Outside, Room, RoomFor, Picks, Entered, InPlace, NoBlock, NoSlot}
 use Rattle.inode_machine.specs.World.Op.{Enter}
 use Rattle.inode_machine.specs.World.Mark.{Mends}
-use Rattle.inode_machine.specs.Inodes.{Sort, sort_of}
-use Rattle.inode_machine.specs.Exec.{with_walk, with_entry, enter_if, enter_in, is_full_directory}
+use Rattle.inode_machine.specs.Exec.{with_entry, enter_if, enter_in, is_full_directory}
 use Rattle.inode_machine.specs.Marks.{Made, new_id, marked, places, with_mark}
-use Rattle.inode_machine.specs.Rules.{Own, Held, view, is_hart, if_kept, own_of, shop_of, Inv, machine}
+use Rattle.inode_machine.specs.Rules.{Own, Held, own_of, Inv, machine}
 use Rattle.inode_machine.specs.Parts.{makes}
-use Rattle.inode_machine.proofs.Frame.{shop_same, stands_in, kept_here, fair, fair_then, has_inode}
 use Rattle.inode_machine.proofs.Rules.{s-owned, locks_it, has_disk, has_node}
-use Rattle.inode_machine.proofs.Counting.{Writes, writes}
 use Rattle.inode_machine.proofs.Walking.{stage_walk}
 use Rattle.inode_machine.proofs.Claiming.{Mendable, mended_own, mend_fine}
-use Rattle.inode_machine.proofs.Acting.{Fits, acts_did, acts_gone, act_good, no_walk, told_step, two_put}
-use Rattle.inode_machine.proofs.Removes.{directory_sort}
+use Rattle.inode_machine.proofs.Acting.{acts_gone, act_good, no_walk, told_step, two_put}
+use Rattle.inode_machine.proofs.Addings.{Adding, added_world, adding}
 
 -- an entry's put, with its mark
 abbrev pub EnterFine : {A : Type 0} → ℕ → ℕ → Name → ℕ → Option Mark → ℕ → (List Step → Type 0) → (A → List Step → World → Type 0) → List Step → World → World → P machine A → Type 0
@@ -125,14 +122,11 @@ s-enter-directory {A} {h} d i {x} {z} X e path {m} {k} {B} {Q} {n} {es} {w} {O} 
         (acts_gone v.all h (Mkdir path) None (Some (d, e)) i (new_id v) goes ∙ (λ r. record made { all = effect r; told = Some (record { act = record { step = Mkdir path; answer = mkdir_answer v.all h (new_id v) path None (Some (d, e)) r }; new = i }) }))
         refl goes
         (goes, sym (mkdir_answer v.all h (new_id v) path None (Some (d, e))), record { node = λ q. fresh; file = λ q. absurd cc }, ap (λ (t : Tree). settle t) (sym effect), mkdir_place v.all h path lt)
-        (λ q g lg ne at. no_walk h i g v inv lt lone_at kept_i lg ne at)
-        (fair_then wr.fair (fair wr.fair.inv (acts_did h u1 all None (put v.alone i false) v.next v.desks v.clean lt wr.fair.inv idle fits)))
+        (λ q g lg ne at. no_walk h i g v inv lt a.lone a.kept lg ne at)
+        a.fair
         (stage_walk h None None (record u1 { all = all })) b pos
-        (λ l q. (then_ l u q owned).wp)
+        (λ l q. (then_ l (added_world h d i (Some (with_entry e i X)) (raised (with_entry e i X)) (new_directory i d) v) q a.owned).wp)
       where
-        wr : Writes h d (Some (with_entry e i X)) x O v
-        wr = writes h d (Some (with_entry e i X)) x O v free lt joined inv ov isd
-
         u1 : World
         u1 = record v { disk = put v.disk d (Some (with_entry e i X)) }
 
@@ -142,26 +136,14 @@ s-enter-directory {A} {h} d i {x} {z} X e path {m} {k} {B} {Q} {n} {es} {w} {O} 
         made : Made
         made = record { all = all; walk = None; found = None; opened = None; entered = Some i; left = None; told = Some (record { act = record { step = Mkdir path; answer = Done }; new = i }) }
 
-        u : World
-        u = record u1 { all = all; alone = put v.alone i false; harts = with_walk v.harts h None None }
-
         mine : (v.harts h).walk ≡ Some (record { step = Mkdir path; at = d; next = e; rest = [] })
         mine = ap (λ (o : Own). o.mine.walk) ov ∙ walks
-
-        idle : (v.harts h).pending ≡ None
-        idle = ap (λ (o : Own). o.mine.pending) ov ∙ none
 
         nd : v.all.nodes d ≡ Some X
         nd = has_node h d v O x ov isd ∙ xn
 
         ni : v.all.nodes i ≡ None
         ni = has_node h i v O z ov isi ∙ blank
-
-        lone_at : v.alone i ≡ true
-        lone_at = ap (λ (o : Held). o.alone) (has_inode h i v O z ov isi).1 ∙ lone
-
-        kept_i : v.keeper i ≡ Some h
-        kept_i = (has_inode h i v O z ov isi).0
 
         fresh : IsNewNode v.all i
         fresh = record { from = from; below = (let q = ap (λ (o : Own). o.ninodes) ov in omega (arith, q, below)); unused = ni }
@@ -173,7 +155,7 @@ s-enter-directory {A} {h} d i {x} {z} X e path {m} {k} {B} {Q} {n} {es} {w} {O} 
         look_is = look_same (λ j. Some X) v.all.nodes d e nd ∙ finds
 
         apart : i ≢ d
-        apart q = absurd (let a : v.all.nodes d ≡ None = ap v.all.nodes (sym q) ∙ ni in let c : live_directory (v.all.nodes d) ≡ false = ap (λ (o : Option Node). live_directory o) a in cc (c, live_at))
+        apart q = absurd (let c : v.all.nodes d ≡ None = ap v.all.nodes (sym q) ∙ ni in cc (c, nd))
 
         goes : refusal_with v.all h (Mkdir path) None (Some (d, e)) ≡ None
         goes = mkdir_goes v.all h d e path look_is (ap (λ (o : Option Node). nat_lt (node_or o).count count_limit) nd ∙ few)
@@ -181,72 +163,11 @@ s-enter-directory {A} {h} d i {x} {z} X e path {m} {k} {B} {Q} {n} {es} {w} {O} 
         effect : effect_with v.all h (Mkdir path) None (Some (d, e)) i (new_id v) ≡ all
         effect = mkdir_effect v.all h d i (new_id v) e path apart ∙ (λ r. with_nodes v.all (made_nodes v.all.nodes (node_or (nd r)) d e i))
 
-        node_else : (j : ℕ) → j ≢ d → j ≢ i → all.nodes j ≡ v.all.nodes j
-        node_else j a q = put_other (put v.all.nodes d (Some (raised (with_entry e i X)))) i (Some (new_directory i d)) j q ∙ put_other v.all.nodes d (Some (raised (with_entry e i X))) j a
+        well : IsWellFormed all
+        well = subst (λ (t : Tree). IsWellFormed t) effect (effect_well v.all h (Mkdir path) None (Some (d, e)) i (new_id v) inv.well lt (mkdir_placed v.all h path)
+            (λ j q. absurd cc)
+            (λ p q. let s : (d, e) ≡ p = cc in subst (λ (o : ℕ × Name). live_directory (v.all.nodes o.0) ≡ true) s live_at)
+            goes (record { node = λ q. fresh; file = λ q. absurd cc }))
 
-        put_d : all.nodes d ≡ Some (raised (with_entry e i X))
-        put_d = put_other (put v.all.nodes d (Some (raised (with_entry e i X)))) i (Some (new_directory i d)) d (λ q. apart (sym q)) ∙ put_same v.all.nodes d (Some (raised (with_entry e i X)))
-
-        put_i : all.nodes i ≡ Some (new_directory i d)
-        put_i = put_same (put v.all.nodes d (Some (raised (with_entry e i X)))) i (Some (new_directory i d))
-
-        sorts : (j : ℕ) → j ≢ i → sort_of (all.nodes j) ≡ sort_of (v.all.nodes j)
-        sorts j o = elim (same_or j d) [
-          | inl q ↦ ap (λ (c : ℕ). sort_of (all.nodes c)) q ∙ ap (λ (p : Option Node). sort_of p) put_d ∙ sym (ap (λ (c : ℕ). sort_of (v.all.nodes c)) q ∙ ap (λ (p : Option Node). sort_of p) nd ∙ ap (λ (s : Sort). Some s) (directory_sort X live))
-          | inr a ↦ ap (λ (p : Option Node). sort_of p) (node_else j a o)
-        ]
-
-        not_d : (j : ℕ) → v.alone j ≡ true → j ≢ d
-        not_d j is q = absurd (let a = ap (λ (o : Held). o.alone) (has_inode h d v O x ov isd).1 in let r : v.alone j ≡ v.alone d = ap v.alone q in cc (a, r, shared, is))
-
-        fits : Fits h u1 all None (put v.alone i false) v.next v.desks v.clean
-        fits = record {
-          ids = inv.ids;
-          shop = shop_same h (shop_of v) inv.tied;
-          fds = refl;
-          free = ap (λ (o : Own). o.desk.lender) ov ∙ free;
-          unlent = ap (λ (o : Own). o.desk.lender) ov ∙ free;
-          joined = ap (λ (o : Own). o.desk.joined) ov ∙ joined;
-          directory = stands_in (v.desks h) (v.all.cwd h) v.all.nodes all.nodes (sorts (v.desks h).directory (λ q. absurd (let a = (inv.directory h lt).sort in let b : sort_of (v.all.nodes (v.desks h).directory) ≡ None = ap (λ (c : ℕ). sort_of (v.all.nodes c)) q ∙ ap (λ (p : Option Node). sort_of p) ni in cc (a, b)))) (inv.directory h lt);
-          home = refl;
-          well = subst (λ (t : Tree). IsWellFormed t) effect (effect_well v.all h (Mkdir path) None (Some (d, e)) i (new_id v) inv.well lt (mkdir_placed v.all h path)
-              (λ j q. absurd cc)
-              (λ p q. let s : (d, e) ≡ p = cc in subst (λ (o : ℕ × Name). live_directory (v.all.nodes o.0) ≡ true) s live_at)
-              goes (record { node = λ q. fresh; file = λ q. absurd cc }));
-          size = refl;
-          rows = λ g ne. refl;
-          nodes = λ j. elim (same_or j d) [
-            | inl q ↦ inr (ap v.keeper q ∙ (has_inode h d v O x ov isd).0)
-            | inr a ↦ elim (same_or j i) [ inl q ↦ inr (ap v.keeper q ∙ kept_i) | inr o ↦ inl (node_else j a o, put_other v.alone i false j o) ]
-          ];
-          sort = λ j. elim (same_or j i) [ inl q ↦ inr (ap v.keeper q ∙ kept_i, ap v.alone q ∙ lone_at) | inr o ↦ inl (sorts j o) ];
-          noted = λ t is r s.
-              let o : t.number ≢ i = notes t (ap (λ (p : Own). p.desk.noted) (sym ov) ∙ is) in
-              sorts t.number o ∙ inv.noted h t lt is (elim r [ inl a ↦ inl a | inr a ↦ absurd cc ]) (sym (put_other v.alone i false t.number o) ∙ s);
-          lone = λ j is. elim (same_or j i) [
-            | inl q ↦ absurd (let s : put v.alone i false j ≡ false = ap (put v.alone i false) q ∙ put_same v.alone i false in cc (s, is))
-            | inr o ↦ (let was : v.alone j ≡ true = sym (put_other v.alone i false j o) ∙ is in (was, ap (λ (p : Option Node). is_live p) (node_else j (not_d j was) o) ∙ (inv.alone j was).dead))
-          ];
-          held = λ j is. elim (same_or j i) [
-            | inl q ↦ inl (ap v.lock q ∙ locks_it h i v O z ov isi locked2)
-            | inr o ↦ elim (inv.held j h is) [ inl a ↦ inl a | inr a ↦ inr (put_other v.alone i false j o ∙ a) ]
-          ];
-          named = λ j is. inl is;
-          found = λ j q. absurd cc;
-        }
-
-        owned : own_of h u ≡ record O { inodes = put (put O.inodes d (Some (record x { disk = Some (with_entry e i X); node = Some (raised (with_entry e i X)) }))) i (Some (record z { node = Some (new_directory i d); alone = false })); mine = record { refs = O.mine.refs; walk = None; pending = None } }
-        owned = λ r. record {
-          inodes = two_put O.inodes (own_of h u).inodes d i (Some (record x { disk = Some (with_entry e i X); node = Some (raised (with_entry e i X)) })) (Some (record z { node = Some (new_directory i d); alone = false }))
-              (kept_here h (v.keeper d) (view u h d) (has_inode h d v O x ov isd).0
-              ∙ (λ s. Some (record { disk = put_same v.disk d (Some (with_entry e i X)) s; node = put_d s; alone = put_other v.alone i false d (λ q. apart (sym q)) s; locked = is_hart (v.lock d) h }))
-              ∙ ap (λ (q : Held). Some (record q { disk = Some (with_entry e i X); node = Some (raised (with_entry e i X)) })) (has_inode h d v O x ov isd).1)
-              (kept_here h (v.keeper i) (view u h i) kept_i
-              ∙ (λ s. Some (record { disk = put_other v.disk d (Some (with_entry e i X)) i apart s; node = put_i s; alone = put_same v.alone i false s; locked = is_hart (v.lock i) h }))
-              ∙ ap (λ (q : Held). Some (record q { node = Some (new_directory i d); alone = false })) (has_inode h i v O z ov isi).1)
-              (λ j a q. (λ s. if_kept (v.keeper j) h (record { disk = put_other v.disk d (Some (with_entry e i X)) j a s; node = node_else j a q s; alone = put_other v.alone i false j q s; locked = is_hart (v.lock j) h })) ∙ ap (λ (o : Own). o.inodes j) ov) r;
-          mine = (put_same v.harts h (record { refs = (v.harts h).refs; walk = None; pending = None }) ∙ ap (λ (o : Own). record { refs = o.mine.refs; walk = None; pending = None }) ov) r;
-          row = ap (λ (o : Own). o.row) ov r;
-          ninodes = ap (λ (o : Own). o.ninodes) ov r;
-          desk = ap (λ (o : Own). o.desk) ov r;
-        }
+        a : Adding h d i (Some (with_entry e i X)) X (raised (with_entry e i X)) (new_directory i d) x z v O
+        a = adding h d i (Some (with_entry e i X)) X (raised (with_entry e i X)) (new_directory i d) x z v O ov free lt inv joined none isd xn shared live refl isi lone locked2 blank notes (λ _ _. well)

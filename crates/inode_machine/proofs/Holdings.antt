@@ -84,6 +84,23 @@ holding_same {O0 = O0} {O = O} R k inodes stays refs = record {
   only = λ i x q. k.only i x (sym (ap (λ (f : ℕ → Option Held). f i) inodes) ∙ q);
 }
 
+-- The same beside another beginning, where what is listed is named no more than before.
+pub holding_to : {base : ℕ → ℕ} {ns : List ℕ} {O0 O : Own} {E : ℕ → Option Held} {more : ℕ → ℕ} (O1 R : Own) → Holding base ns O0 O E more → R.inodes ≡ O.inodes → Stays R O1 → R.mine.refs ≡ O.mine.refs → ((i : ℕ) → 0 < times i ns → own_names O.row O.desk i ≡ false → own_names R.row R.desk i ≡ false) → Holding base ns O1 R E more
+holding_to {O0 = O0} {O = O} O1 R k inodes stays refs names = record {
+  stays = stays;
+  refs = λ i. ap (λ (f : ℕ → ℕ). f i) refs ∙ k.refs i;
+  all = λ i t. let a = k.all i t in record {
+    node = a.node;
+    is = ap (λ (f : ℕ → Option Held). f i) inodes ∙ a.is;
+    dead = a.dead;
+    one = ap (λ (f : ℕ → ℕ). f i) refs ∙ a.one;
+    unnamed = names i t a.unnamed;
+  };
+  once = k.once;
+  has = λ i x q. ap (λ (f : ℕ → Option Held). f i) inodes ∙ k.has i x q;
+  only = λ i x q. k.only i x (sym (ap (λ (f : ℕ → Option Held). f i) inodes) ∙ q);
+}
+
 -- a locked inode that is as its node says
 pub record IsWhole (x : Held) : Type 0 where
   pub locked : x.locked ≡ true
@@ -91,25 +108,32 @@ pub record IsWhole (x : Held) : Type 0 where
   pub same : x.disk ≡ x.node
 
 -- An inode is given up, and the reference to it dropped.
-pub s-give-up : {A : Type 0} {h : ℕ} (d : ℕ) {x : Held} {base : ℕ → ℕ} {ns : List ℕ} {O0 : Own} {E : ℕ → Option Held} {more : ℕ → ℕ} {k : P A} {B : List Step → Type 0} {Q : A → List Step → World → Type 0} {n : ℕ} {es : List Step} {w : World} {O : Own}
-    → own_of h w ≡ O → h < hart_count → Ready base O0 → 904 < n → Holding base ns O0 O E (λ i. more i + one_if (d == i)) → O.mine.walk ≡ None → O.mine.pending ≡ None → E d ≡ Some x → IsWhole x
+pub s-give-up-in : {A : Type 0} {h : ℕ} (d : ℕ) {x : Held} {base : ℕ → ℕ} {ns : List ℕ} {O0 : Own} {E : ℕ → Option Held} {more : ℕ → ℕ} {k : P A} {B : List Step → Type 0} {Q : A → List Step → World → Type 0} {n : ℕ} {es : List Step} {w : World} {O : Own}
+    → own_of h w ≡ O → h < hart_count → O0.desk.lender ≡ None → O0.desk.joined ≡ true → (own_names O0.row O0.desk d ≡ true → 0 < base d + more d) → 904 < n → Holding base ns O0 O E (λ i. more i + one_if (d == i)) → O.mine.walk ≡ None → O.mine.pending ≡ None → E d ≡ Some x → IsWhole x
     → ((l : ℕ) (u : World) (R : Own) → n ≤ l + 905 → own_of h u ≡ R → R.desk ≡ O.desk → R.mine.walk ≡ None → R.mine.pending ≡ None → Holding base ns O0 R (put E d None) more → Safe machine h B Q k l es u)
     → Safe machine h B Q (give_up d k) n es w
-s-give-up d {x} {base} {ns} {O0} {E} {more} {O = O} owns lt ready few k walk none isd whole rest =
-    s-give owns (k.stays.lender ∙ ready.free) lt (omega (arith, few)) (k.has d x isd) whole.locked whole.shared whole.same none (λ l1 u1 q1 own1.
-    s-drop d own1 (k.stays.lender ∙ ready.free) lt (omega (arith, few, q1)) (k.stays.joined ∙ ready.joined) (put_same O.inodes d None) (let r = k.refs d in let o = one_at d in omega (arith, r, o)) none walk may (λ l2 u2 q2 own2.
+s-give-up-in d {x} {base} {ns} {O0} {E} {more} {O = O} owns lt free joined spare few k walk none isd whole rest =
+    s-give owns (k.stays.lender ∙ free) lt (omega (arith, few)) (k.has d x isd) whole.locked whole.shared whole.same none (λ l1 u1 q1 own1.
+    s-drop d own1 (k.stays.lender ∙ free) lt (omega (arith, few, q1)) (k.stays.joined ∙ joined) (put_same O.inodes d None) (let r = k.refs d in let o = one_at d in omega (arith, r, o)) none walk may (λ l2 u2 q2 own2.
     rest l2 u2 _ (omega (arith, q1, q2)) own2 refl walk none
     (holding_set (record O { inodes = put O.inodes d None; mine = record { refs = put O.mine.refs d (O.mine.refs d - 1); walk = O.mine.walk; pending = O.mine.pending } }) d None more k
     (unlisted_refs k d (let o = one_at d in omega (arith, o))) refl (stays_same _ O O0 refl refl refl k.stays) (λ i ne. put_other O.mine.refs d (O.mine.refs d - 1) i ne) (λ i. fewer i))))
   where
     may : (1 < O.mine.refs d) ⊎ (own_names O.row O.desk d ≡ false)
-    may = elim (either (own_names O.row O.desk d)) [ inl y ↦ inl (let a = ready.spare d (sym (names_stay O O0 k.stays d) ∙ y) in let r = k.refs d in let o = one_at d in omega (arith, a, r, o)) | inr y ↦ inr y ]
+    may = elim (either (own_names O.row O.desk d)) [ inl y ↦ inl (let a = spare (sym (names_stay O O0 k.stays d) ∙ y) in let r = k.refs d in let o = one_at d in omega (arith, a, r, o)) | inr y ↦ inr y ]
 
     fewer : (i : ℕ) → put O.mine.refs d (O.mine.refs d - 1) i ≡ base i + times i ns + more i
     fewer i = let r = k.refs i in elim (same_or i d) [
       | inl q ↦ (let a : put O.mine.refs d (O.mine.refs d - 1) i ≡ O.mine.refs d - 1 = ap (put O.mine.refs d (O.mine.refs d - 1)) q ∙ put_same O.mine.refs d (O.mine.refs d - 1) in let b : O.mine.refs i ≡ O.mine.refs d = ap O.mine.refs q in let o : one_if (d == i) ≡ 1 = ap (λ (z : ℕ). one_if (d == z)) q ∙ one_at d in omega (arith, a, b, o, r))
       | inr ne ↦ (let a = put_other O.mine.refs d (O.mine.refs d - 1) i ne in let o = one_else d i ne in omega (arith, a, o, r))
     ]
+
+-- the same in a call that has just joined
+pub s-give-up : {A : Type 0} {h : ℕ} (d : ℕ) {x : Held} {base : ℕ → ℕ} {ns : List ℕ} {O0 : Own} {E : ℕ → Option Held} {more : ℕ → ℕ} {k : P A} {B : List Step → Type 0} {Q : A → List Step → World → Type 0} {n : ℕ} {es : List Step} {w : World} {O : Own}
+    → own_of h w ≡ O → h < hart_count → Ready base O0 → 904 < n → Holding base ns O0 O E (λ i. more i + one_if (d == i)) → O.mine.walk ≡ None → O.mine.pending ≡ None → E d ≡ Some x → IsWhole x
+    → ((l : ℕ) (u : World) (R : Own) → n ≤ l + 905 → own_of h u ≡ R → R.desk ≡ O.desk → R.mine.walk ≡ None → R.mine.pending ≡ None → Holding base ns O0 R (put E d None) more → Safe machine h B Q k l es u)
+    → Safe machine h B Q (give_up d k) n es w
+s-give-up d owns lt ready few k walk none isd whole rest = s-give-up-in d owns lt ready.free ready.joined (λ q. let a = ready.spare d q in omega (arith, a)) few k walk none isd whole rest
 
 -- What a hart that rests has once it has joined.
 pub record Joins (base : ℕ → ℕ) (O0 : Own) : Type 0 where

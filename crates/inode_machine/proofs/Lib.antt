@@ -47,3 +47,7 @@ pub mod OpenCalls
 pub mod Empties
 pub mod Histories
 pub mod Resting
+pub mod Addings
+pub mod Creates
+pub mod Makings
+pub mod CreateCalls

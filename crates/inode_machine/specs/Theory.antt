@@ -4,7 +4,7 @@ use Rattle.plain_tree.specs.declared.answer.Reply.{Reply}
 use Rattle.plain_tree.specs.declared.call.Call.{Call}
 use Rattle.plain_tree.specs.declared.call.Call.TheVariants.{Open, Read, Write, Link, Unlink, Mkdir, Chdir, Dup, Fstat, Close, Inherit}
 use Rattle.plain_tree.specs.Tree.{Tree, put}
-use Rattle.plain_tree.specs.Steps.{creates}
+use Rattle.plain_tree.specs.Steps.{creates, empty_it, has}
 use Rattle.plain_tree.specs.Widths.{hart_count}
 use Rattle.tree_laws.specs.WellFormed.{one_if, sum_below, IsWellFormed}
 use Rattle.atomic_programs.specs.Calls.{Theory, Began, Refuses, Begins, Event, AllHonest, run, fresh}
@@ -62,9 +62,9 @@ AreExplained kind = (w : World) (events : List (Event Call Outside)) → Inv w �
 abbrev pub descriptor_calls : Theory
 descriptor_calls = calls_that on_descriptors
 
--- these, and those on paths that are shown right: of open those that make no file
+-- these, and those on paths that are shown right: of open all but those with CREATE and TRUNC both
 abbrev pub is_covered : Call → Bool
-is_covered (Open path flags) = not (creates flags)
+is_covered (Open path flags) = not (creates flags && has flags empty_it)
 is_covered (Read fd buffer) = true
 is_covered (Write fd bytes) = true
 is_covered (Link old new) = false
