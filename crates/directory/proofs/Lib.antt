@@ -1,7 +1,8 @@
 mod Words
 mod Slot
-pub mod Named
+mod Named
 mod Cleared
 mod Used
 mod EntryNumbers
 mod Searches
+mod Puts

@@ -1,17 +1,17 @@
--- What a search finds, whatever its operations answer.
-use Rattle.std.specs.Prelude.{◌≡◌, ℕ, ◌/◌, ◌%◌, ◌<◌, nat_le, ◌&&◌, List, [], Bool, true, false, Option, Some, None}
+-- What a search finds, whatever its operations answer, and what a block has after a slot was written.
+use Rattle.std.specs.Prelude.{◌≡◌, ◌≢◌, ℕ, ◌/◌, ◌%◌, ◌<◌, nat_le, ◌&&◌, List, [], length, Bool, true, false, Option, Some, None}
 use Rattle.fs_layout.specs.declared.inode.Dinode.{Dinode}
 use Rattle.fs_layout.specs.declared.entry.Dirent.{Dirent}
 use Rattle.fs_layout.specs.declared.entry.Dirent.TheVariants.{Free, Used}
-use Rattle.fs_layout.specs.Entry.{dirent_at}
-use Rattle.fs_layout.specs.Widths.{dirents_per_block}
+use Rattle.fs_layout.specs.Entry.{dirent_at, IsDirent}
+use Rattle.fs_layout.specs.Widths.{block_len, dirents_per_block}
 use Rattle.atomic_programs.specs.Prog.{Ret}
 use Rattle.fs_machine.specs.Machines.{P}
 use Rattle.bitmap_alloc.specs.Laws.{Answering, outcome, recorded}
 use Rattle.inode_data.specs.Programs.{Fetched, fetch_block}
 use Rattle.directory.specs.declared.found.Found.{Found}
 use Rattle.directory.specs.Slots.{is_named, is_free, is_used}
-use Rattle.directory.specs.Programs.{Aim, Named, Unused, Entry, block_count, slot_count, is_live_directory, lookup, search}
+use Rattle.directory.specs.Programs.{Aim, Named, Unused, Entry, block_count, slot_count, is_live_directory, lookup, search, with_dirent}
 
 -- the operations show these blocks as the directory's, at any time
 abbrev pub Shows : Answering → Dinode → (ℕ → List ℕ) → Type 0
@@ -49,3 +49,9 @@ FindsTheFirst = (answer : Answering) (d : Dinode) (content : ℕ → List ℕ) (
 -- in a directory without links, and in what is no directory, nothing is found, without an operation
 abbrev pub FindsNothingInTheDead : Type 0
 FindsNothingInTheDead = (name : List ℕ) (d : Dinode) → is_live_directory d ≡ false → let p : P (Option Found) = lookup name d in p ≡ Ret None
+
+-- a block into which an entry was written has it, and its other slots are as they were
+abbrev pub PutsOneEntry : Type 0
+PutsOneEntry = (place : ℕ) (entry : Dirent) (block : List ℕ) → place < dirents_per_block → IsDirent entry → length block ≡ block_len
+    → (dirent_at place (with_dirent place entry block) ≡ Some entry)
+    × ((q : ℕ) → q < dirents_per_block → q ≢ place → dirent_at q (with_dirent place entry block) ≡ dirent_at q block)

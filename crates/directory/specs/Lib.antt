@@ -1,4 +1,5 @@
 pub mod Slots
 pub mod Programs
 pub mod Machines
+pub mod Putting
 pub mod Laws

@@ -1,11 +1,14 @@
 -- A directory searched: programs over what all harts share. Nothing is marked in them.
-use Rattle.std.specs.Prelude.{ℕ, zero, suc, ◌+◌, ◌-◌, ◌*◌, ◌/◌, ◌==◌, ◌&&◌, if◌then◌else◌, nat_lt, ℤ, pos, negsuc, min, List, Bool, false, Option, Some, None}
+use Rattle.std.specs.Prelude.{ℕ, zero, suc, ◌+◌, ◌-◌, ◌*◌, ◌/◌, ◌%◌, max, ◌==◌, ◌&&◌, if◌then◌else◌, nat_lt, ℤ, pos, negsuc, min, List, Bool, false, Option, Some, None}
 use Rattle.std.specs.Option.{option_map}
 use Rattle.fs_layout.specs.declared.inode.Dinode.{Dinode}
-use Rattle.fs_layout.specs.Bytes.{u16_at}
+use Rattle.fs_layout.specs.declared.entry.Dirent.{Dirent}
+use Rattle.fs_layout.specs.Bytes.{overwrite, u16_at}
+use Rattle.fs_layout.specs.Entry.{spell_dirent}
 use Rattle.fs_layout.specs.Widths.{dirent_len, dirents_per_block}
 use Rattle.atomic_programs.specs.Prog.{Prog, Ret, Do, bind, unmarked}
 use Rattle.fs_machine.specs.Steps.{Op, Answer, Put}
+use Rattle.inode_table.specs.Programs.{store}
 use Rattle.inode_data.specs.Programs.{Fetched, fetch_block}
 use Rattle.inode_data.specs.Widths.{most_blocks}
 use Rattle.directory.specs.Slots.{first_named, first_free, first_used}
@@ -91,3 +94,29 @@ is_live_directory d = is_directory d && is_positive d.nlink
 -- What a directory has under a name. Where it has no link, or is no directory, nothing is found and no block touched.
 abbrev pub lookup : {M : Type 0} → List ℕ → Dinode → Prog Op Answer M (Option Found)
 lookup name d = if is_live_directory d then search (Named name) d else Ret None
+
+-- ---- a slot written
+
+-- the block with this entry at a place, and the others as they were
+unfoldable pub with_dirent : ℕ → Dirent → List ℕ → List ℕ
+with_dirent place entry block = overwrite block (dirent_len * place) (spell_dirent entry)
+
+-- slot s is one of the directory's
+abbrev pub with_slot : ℕ → Dinode → Dinode
+with_slot s d = record d { size = max d.size (dirent_len * (s + 1)) }
+
+abbrev pub give_record : {M : Type 0} → Dinode → Unit {0} → Prog Op Answer M Dinode
+give_record d _ = Ret d
+
+-- the inode is stored, also where it is as it was
+abbrev pub store_slot : {M : Type 0} → (inodestart n : ℕ) → Dinode → Prog Op Answer M Dinode
+store_slot inodestart n d = bind (store inodestart n d) (give_record d)
+
+-- the block goes back with the entry in it
+abbrev pub put_dirent : {M : Type 0} → (inodestart n : ℕ) → Dinode → (s : ℕ) → Dirent → Fetched → Prog Op Answer M Dinode
+put_dirent inodestart n d s entry f =
+    Do (Put f.number (Some (with_dirent (s % dirents_per_block) entry f.bytes))) unmarked (λ _. store_slot inodestart n (with_slot s d))
+
+-- An entry goes into slot s of the directory n, whose block is there: a name is entered so, and cleared. The directory's new record is answered.
+abbrev pub put_entry : {M : Type 0} → (inodestart n : ℕ) → Dinode → (s : ℕ) → Dirent → Prog Op Answer M Dinode
+put_entry inodestart n d s entry = bind (fetch_block d (s / dirents_per_block)) (put_dirent inodestart n d s entry)

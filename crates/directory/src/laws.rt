@@ -1,5 +1,5 @@
 //! What holds of the programs, whatever their operations answer. The functions do nothing: they carry the laws.
-ghost use Rattle.directory.specs.Laws.{FindsTheFirst, FindsNothingInTheDead};
+ghost use Rattle.directory.specs.Laws.{FindsTheFirst, FindsNothingInTheDead, PutsOneEntry};
 
 /// As long as the operations show a directory's blocks as they are, a search finds the first slot that is sought, and records nothing.
 pub fn finds_the_first()
@@ -9,4 +9,9 @@ pub fn finds_the_first()
 /// In a directory without links, and in what is no directory, a lookup finds nothing, without an operation.
 pub fn finds_nothing_in_the_dead()
     ensures { FindsNothingInTheDead }
+{}
+
+/// A block into which an entry was written has it, and its other slots are as they were.
+pub fn puts_one_entry()
+    ensures { PutsOneEntry }
 {}

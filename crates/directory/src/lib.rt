@@ -6,9 +6,11 @@
 
 mod found;
 pub mod laws;
+mod put_entry;
 mod search;
 mod slots;
 
 pub use crate::found::{Found, MOST_SLOTS, Sought};
+pub use crate::put_entry::{Change, PutEntry, Putting};
 pub use crate::search::{Search, Searched, Searching, is_directory, is_live_directory};
 pub use crate::slots::{first_free, first_named, first_used, number_at};

@@ -1,0 +1,5 @@
+use Rattle.directory.proofs.Puts.{puts_one}
+use Rattle.directory.proofs.laws.puts_one_entry.Goals as goal
+
+pub returns : goal.returns
+returns c = puts_one

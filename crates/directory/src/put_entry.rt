@@ -1,0 +1,228 @@
+//! A slot of a directory written.
+ghost use Rattle.std.specs.Prelude.{◌≡◌, ◌<◌, ◌^◌, ℕ, Some, IsSome};
+ghost use Rattle.fs_layout.specs.Entry.{IsDirent};
+ghost use Rattle.fs_layout.specs.Widths.{dirents_per_block};
+ghost use Rattle.atomic_programs.specs.Prog.{Ran as ItRan};
+ghost use Rattle.atomic_programs.specs.Machines.{Still, Left as LeftOf};
+ghost use Rattle.fs_machine.specs.LogPart.{Outside};
+ghost use Rattle.fs_machine.specs.Steps.{State, state_of, exec, Put};
+ghost use Rattle.fs_machine.specs.Premises.{May};
+ghost use Rattle.fs_machine.specs.Machines.{MayNext, Moves, Answers};
+ghost use Rattle.fs_machine.specs.Tied.{LeavesTied, bytes_of};
+ghost use Rattle.fs_machine.specs.Fetching.{IsFetched};
+ghost use Rattle.fs_layout.specs.declared.entry.Dirent.{Dirent};
+ghost use Rattle.inode_table.specs.Programs.{inode_block};
+ghost use Rattle.inode_data.specs.Records.{record_in, with_record};
+ghost use Rattle.directory.specs.Programs.{most_slots, put_entry, with_dirent};
+ghost use Rattle.directory.specs.Putting.{entry_of, in_put_fetch, in_put_store, put_of, putter_of, slotted, IsPutting, PutFits};
+
+use atomic_programs::machines::Stepped;
+use block_device::Device;
+use buffer_cache::Buffer;
+use fs_layout::widths::{DIRENT_LEN, DIRENTS_PER_BLOCK};
+use fs_layout::{Dinode, Dirent, Name, write_dirent};
+use fs_machine::{Core, Kind};
+use fs_tables::Inode;
+use group_log::Txn;
+use inode_data::{FetchBlock, record};
+use inode_table::StoreInode;
+use sleep_lock::Guard;
+
+/// What a slot is to have.
+#[derive(Clone, Copy)]
+pub enum Change<'a> {
+    /// Nothing: its name is cleared.
+    Clear,
+    /// This inode's number, by this name.
+    Enter(u16, &'a [u8]),
+}
+
+/// What a writing has in hand: the directory, whose lock its hart has, and the slot.
+pub struct Putting {
+    pub inode: Guard<Inode>,
+    pub inodestart: u32,
+    pub slot: usize,
+}
+
+/// Writes a slot whose block is there, and then stores the inode: a name is entered so, and cleared. What the slot is to have is told
+/// with each step.
+pub enum PutEntry {
+    /// The slot's block is fetched.
+    Fetching(Putting, FetchBlock),
+    /// It is there.
+    There(Putting, Guard<Buffer>),
+    /// The inode is stored.
+    Storing(Putting, StoreInode),
+}
+
+impl PutEntry {
+    /// A slot of the directory of this guard, on a disk whose inode blocks begin at block `inodestart`.
+    #[tactic(auto, unfolding(crate::specs::Putting::put_of, crate::specs::Putting::PutFits))]
+    pub fn new(inode: Guard<Inode>, inodestart: u32, slot: usize) -> PutEntry
+        requires loaded { IsSome inode.value.content }
+        requires slot { slot < most_slots }
+        requires block { inode_block inodestart inode.value.number < 2 ^ 32 }
+        ensures program { (entry : Dirent) → put_of entry result ≡ put_entry inodestart inode.value.number (record_in inode) slot entry }
+        ensures inode { putter_of result ≡ inode }
+        ensures fits { (hart : ℕ) (s : State) → PutFits hart s result }
+    {
+        let fetch = FetchBlock::new(&record(&inode), slot / DIRENTS_PER_BLOCK);
+        let at = Putting {
+            inode,
+            inodestart,
+            slot,
+        };
+        PutEntry::Fetching(at, fetch)
+    }
+
+    /// One operation.
+    #[tactic(auto, unfolding(crate::specs::Putting::put_of, crate::specs::Putting::PutFits, fs_machine::specs::Premises::Honest))]
+    pub fn step<D: Device>(
+        self,
+        hart: u8,
+        txn: &mut Txn,
+        change: Change,
+        core: &mut Core<D>,
+    ) -> Stepped<PutEntry, Guard<Inode>, Kind>
+        requires txn { txn.old ≡ hart }
+        requires entry { IsDirent (entry_of change) }
+        requires may { MayNext hart (put_of (entry_of change) self) (state_of D.contents D.failures core.old) }
+        requires fits { PutFits hart (state_of D.contents D.failures core.old) self }
+        ensures moves { Moves (put_of (entry_of change.entry)) record_in hart self result (state_of D.contents D.failures core.old) (state_of D.contents D.failures core.new) }
+        ensures honest { Answers (put_of (entry_of change.entry)) hart self result (state_of D.contents D.failures core.old) (state_of D.contents D.failures core.new) }
+        ensures still { Still (put_of (entry_of change.entry)) result self core.old core.new }
+        ensures kept { txn.new ≡ txn.old }
+        ensures inode { LeftOf (λ m. putter_of m ≡ putter_of self) (λ guard. guard ≡ with_record (record_in guard) (putter_of self)) result }
+        ensures fits { LeftOf (PutFits hart (state_of D.contents D.failures core.new)) (λ _. Unit {0}) result }
+        ensures others { LeavesTied hart (state_of D.contents D.failures core.old) (state_of D.contents D.failures core.new) }
+        ensures tables { core.new.tables ≡ core.old.tables }
+    {
+        match self {
+            PutEntry::Fetching(at, fetch) => fetching(at, fetch.step(hart, core)),
+            PutEntry::There(at, guard) => {
+                put(at.slot % DIRENTS_PER_BLOCK, change, guard, hart, txn, core);
+                let store = StoreInode::new(at.inodestart, at.inode.value().number, slotted(&at));
+                Stepped::Ran(PutEntry::Storing(at, store), Kind::Put)
+            }
+            PutEntry::Storing(at, store) => storing(at, store.step(hart, txn, core)),
+        }
+    }
+}
+
+// The directory's record with the slot.
+fn slotted(at: &Putting) -> Dinode
+    requires { IsPutting at.now }
+    ensures { result ≡ slotted at.now }
+{
+    let inode = record(&at.inode);
+    let end = (DIRENT_LEN * (at.slot + 1)) as u32;
+    Dinode {
+        size: inode.size.max(end),
+        ..inode
+    }
+}
+
+// A fetch's step, while the slot's block is fetched.
+fn fetching(
+    at: Putting,
+    stepped: Stepped<FetchBlock, Guard<Buffer>, Kind>,
+) -> Stepped<PutEntry, Guard<Inode>, Kind>
+    ensures { result ≡ in_put_fetch at stepped }
+{
+    match stepped {
+        Stepped::Waits(fetch) => Stepped::Waits(PutEntry::Fetching(at, fetch)),
+        Stepped::Ran(fetch, kind) => Stepped::Ran(PutEntry::Fetching(at, fetch), kind),
+        Stepped::Done(guard, kind) => Stepped::Ran(PutEntry::There(at, guard), kind),
+        Stepped::Stopped(fetch) => Stepped::Stopped(PutEntry::Fetching(at, fetch)),
+    }
+}
+
+// A store's step, at whose end the guard has the record too.
+fn storing(
+    at: Putting,
+    stepped: Stepped<StoreInode, (), Kind>,
+) -> Stepped<PutEntry, Guard<Inode>, Kind>
+    requires { IsPutting at }
+    ensures { result ≡ in_put_store at stepped }
+{
+    match stepped {
+        Stepped::Waits(store) => Stepped::Waits(PutEntry::Storing(at, store)),
+        Stepped::Ran(store, kind) => Stepped::Ran(PutEntry::Storing(at, store), kind),
+        Stepped::Done(_, kind) => {
+            let record = slotted(&at);
+            let Putting {
+                inode,
+                inodestart: _,
+                slot: _,
+            } = at;
+            Stepped::Done(with_record(inode, record), kind)
+        }
+        Stepped::Stopped(store) => Stepped::Stopped(PutEntry::Storing(at, store)),
+    }
+}
+
+// The guard with another record.
+fn with_record(guard: Guard<Inode>, inode: Dinode) -> Guard<Inode>
+    ensures { result ≡ with_record inode guard }
+{
+    let mut guard = guard;
+    let number = guard.value().number;
+    let _ = guard.replace(Inode {
+        number,
+        content: Some(inode),
+    });
+    guard
+}
+
+// The entry that a change makes.
+fn entry_of(change: Change) -> Dirent
+    requires { IsDirent (entry_of change) }
+    ensures { result ≡ entry_of change.entry }
+{
+    match change {
+        Change::Clear => Dirent::Free,
+        Change::Enter(number, name) => match Name::new(name) {
+            Some(name) => Dirent::Used { number, name },
+            None => unreachable!(),
+        },
+    }
+}
+
+// Writes an entry into its block's buffer.
+#[tactic(auto, unfolding(crate::specs::Programs::with_dirent))]
+fn write_in(guard: &mut Guard<Buffer>, place: usize, entry: &Dirent)
+    requires place { place < dirents_per_block }
+    requires entry { IsDirent entry.now }
+    requires valid { IsSome guard.old.value.content }
+    ensures { guard.new ≡ record guard.old {
+      value = record { block = guard.old.value.block; content = Some (with_dirent place entry.now (bytes_of guard.old)) };
+    } }
+{
+    write_dirent(guard.value_mut().bytes_mut(), place, entry);
+}
+
+// Writes the entry into the block, and gives that back.
+fn put<D: Device>(
+    place: usize,
+    change: Change,
+    guard: Guard<Buffer>,
+    hart: u8,
+    txn: &mut Txn,
+    core: &mut Core<D>,
+)
+    requires place { place < dirents_per_block }
+    requires entry { IsDirent (entry_of change) }
+    requires txn { txn.old ≡ hart }
+    requires fetched { IsFetched hart guard.value.block guard (state_of D.contents D.failures core.old) }
+    requires may { May hart (Put guard.value.block (Some (with_dirent place (entry_of change) (bytes_of guard)))) (state_of D.contents D.failures core.old) }
+    ensures ran { (x : Outside) → exec hart x (Put guard.value.block (Some (with_dirent place (entry_of change.entry) (bytes_of guard)))) (state_of D.contents D.failures core.old)
+        ≡ ItRan tt (state_of D.contents D.failures core.new) }
+    ensures kept { txn.new ≡ txn.old }
+    ensures others { LeavesTied hart (state_of D.contents D.failures core.old) (state_of D.contents D.failures core.new) }
+    ensures tables { core.new.tables ≡ core.old.tables }
+{
+    let entry = entry_of(change);
+    let mut guard = guard;
+    write_in(&mut guard, place, &entry);
+    core.put_changed(hart, txn, guard);
+}
