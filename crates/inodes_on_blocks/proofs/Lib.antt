@@ -1,1 +1,10 @@
 pub mod Quiet
+pub mod Marked
+pub mod Layer
+pub mod Stepping
+pub mod Tables
+pub mod TableSteps
+pub mod SlotSteps
+pub mod Owed
+pub mod CountSteps
+pub mod Alone

@@ -1,2 +1,7 @@
 pub mod OnBlocks
 pub mod Laws
+pub mod Below
+pub mod Shown
+pub mod Lowering
+pub mod Handlers
+pub mod Acting

@@ -5,6 +5,8 @@
 
 ghost use Rattle.inodes_on_blocks.specs.Laws.{ChangesMayBegin, ChangesMayEnd, JoinsKeepThem, LeavesKeepThem, MountedNodesAreOnBlocks, QuietBlocksAreImages, RecordsKeepThem, UnseenChangesKeepThem};
 
+pub mod acting;
+
 /// Whenever no transaction is outstanding, the seen blocks are a well-formed image of the tree, and so is each disk that
 /// recovery would leave so.
 pub fn quiet_blocks_are_images()

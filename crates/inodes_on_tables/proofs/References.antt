@@ -160,7 +160,7 @@ module _ (h n : ℕ) (t : TablesState) (w : World) (load : ℕ → Option Dinode
         ap (λ (z : ℕ). nat_lt 0 z || nat_lt (referenced w) above.place_count) c ∙ ap (nat_lt (referenced w)) (sym sound.places) ∙ sym (room_is w.all.ninodes t.entries w.refs sound.once below shows.places.counts)
 
     -- by what there is
-    by_place : (P : Type 0) → ((u : TablesState) → up_inode n t ≡ Ran (Some n) u → has_place w n ≡ true → Shows u (counted_up h n w) load → P) → (up_inode n t ≡ Ran None t → has_place w n ≡ false → P) → P
+    pub by_place : (P : Type 0) → ((u : TablesState) → up_inode n t ≡ Ran (Some n) u → has_place w n ≡ true → Shows u (counted_up h n w) load → P) → (up_inode n t ≡ Ran None t → has_place w n ≡ false → P) → P
     by_place P some none = at (place_of n t.entries) refl
       where
         new_at : place_of n t.entries ≡ None → (o : Option ℕ) → position is_unused t.entries ≡ o → P

@@ -1,0 +1,37 @@
+-- With the history that is the operations themselves.
+use Rattle.std.proofs.Common.{◌<◌, ◌≡◌, inl, ℕ, List, [], ◌∷◌, ◌++◌, Option, refl, sym, ◌∙◌, ap, subst}
+use Rattle.plain_tree.specs.Widths.{hart_count}
+use Rattle.atomic_programs.specs.Logic.{Laws, onto}
+use Rattle.atomic_programs.specs.Joined.{Lasts}
+use Rattle.inode_machine.specs.World as above
+use Rattle.inode_machine.specs.Rules.{Own}
+use Rattle.inodes_on_blocks.specs.Lowering.{Kept, Keeps}
+use Rattle.inodes_on_blocks.specs.Handlers.{Handler}
+use Rattle.inodes_on_blocks.specs.Acting.{ActsOnce, alone, Done, whole, IsDone, Answers, DoesIt}
+
+kept_then : (h : ℕ) (u v w : above.World) → Kept h u v → Kept h v w → Kept h u w
+kept_then h u v w a b = record {
+  same = λ free. b.same (ap (λ (o : Own). o.desk.lender) (a.same free) ∙ free) ∙ a.same free;
+  rests = λ i. b.rests (a.rests i);
+}
+
+both_none : {A : Type 0} (xs ys : List A) → xs ≡ [] → ys ≡ [] → xs ++ ys ≡ []
+both_none xs ys p q = λ i. p i ++ q i
+
+pub alone_laws : Laws whole
+alone_laws = record {
+  same = λ h w. (refl, record { same = λ free. refl; rests = λ i. i });
+  trans = λ h u v w xs ys a b. (both_none xs ys a.0 b.0, kept_then h u v w a.1 b.1);
+  idle_none = λ h v w xs o i. o.0;
+  idle_stays = λ h v w xs o i. o.1.rests i;
+  clean_before = λ h v w xs o y. tt;
+}
+
+pub alone_keeps : Keeps alone
+alone_keeps h v w xs o = o.1
+
+lasts_done : (op : above.Op) (h : ℕ) → Lasts whole h (IsDone op) (Answers op)
+lasts_done op h a fs xs v u o i c = ((λ y. inl o.0), subst (λ (ys : List Done). onto ys fs ≡ (op, a) ∷ []) (sym o.0) c)
+
+pub does_it : (op : above.Op) (p : Handler op) → ((h : ℕ) → h < hart_count → (m : above.Answer op → Option above.Mark) → ActsOnce alone h op m p) → DoesIt op p
+does_it op p acts h m c w lt todo base = acts h lt m c (IsDone op) (Answers op) [] w (lasts_done op h) todo base

@@ -1,0 +1,114 @@
+-- What the others leave to a hart below, and what a step on the tables leaves to them.
+use Rattle.std.proofs.Common.{◌≡◌, ◌≢◌, ◌⊎◌, inl, inr, ℕ, Option, Some, None, refl, sym, ◌∙◌, ap, subst}
+use Rattle.std.proofs.lemmas.Option.{none-some}
+use Rattle.fs_layout.specs.declared.inode.Dinode.{Dinode}
+use Rattle.plain_tree.specs.declared.node.Node.{Node}
+use Rattle.image_laws.specs.Holds.{HoldsAt}
+use Rattle.atomic_programs.specs.Joined.{LowerLaws}
+use Rattle.fs_tables.specs.Tables.{TablesState, holder_of as lock_holder}
+use Rattle.inode_machine.specs.World as above
+use Rattle.inode_machine.specs.Rules.{Own, Held, if_kept, own_of, view, Idle}
+use Rattle.inode_machine.proofs.Frame.{Ours, not_ours, kept_is, kept_here, has_inode}
+use Rattle.inodes_on_tables.specs.Shown as tables
+use Rattle.inodes_on_blocks.specs.Below.{World, log_of, tables_of, disk_of, inode_in}
+use Rattle.inodes_on_blocks.specs.Lowering.{Same, Kept, Carry, IsLoaded, Base, below, Labels, labelled, Keeps}
+use Rattle.inodes_on_blocks.proofs.Marked.{SameCode}
+
+-- what is held at one end is held at the other
+pub held_back : {A : Type 0} (o p : Option ℕ) (h : ℕ) (x y : A) → if_kept o h x ≡ if_kept p h y → o ≡ Some h → (p ≡ Some h) × (y ≡ x)
+held_back o p h x y e is = kept_is h p y x (sym e ∙ kept_here h o x is)
+
+-- a hart that rests keeps nothing
+keeps_none : (h i : ℕ) (g : above.World) → Idle h g → g.keeper i ≡ Some h → ⊥
+keeps_none h i g idle is = none-some (view g h i) (sym (λ z. idle.inodes z i) ∙ kept_here h (g.keeper i) (view g h i) is)
+
+-- an inode that it keeps is as it was
+kept_disk : (h i : ℕ) (g u : above.World) → Kept h g u → (((g.desks h).lender ≡ None → ⊥) → Idle h g) → g.keeper i ≡ Some h → (u.keeper i ≡ Some h) × (u.disk i ≡ g.disk i)
+kept_disk h i g u kept lent is = by (g.desks h).lender refl
+  where
+    by : (o : Option ℕ) → (g.desks h).lender ≡ o → (u.keeper i ≡ Some h) × (u.disk i ≡ g.disk i)
+    by None e =
+        let q = has_inode h i u (own_of h g) (view g h i) (kept.same e) (kept_here h (g.keeper i) (view g h i) is) in
+        (q.0, ap (λ (x : Held). x.disk) q.1)
+    by (Some l) e = absurd (keeps_none h i g (lent (λ z. none-some l (sym z ∙ e))) is)
+
+pub below_laws : (l : Labels) → Keeps l → LowerLaws (labelled l) below
+below_laws l keeps =
+    record {
+      same = λ h w. record { inodes = λ i e. record { lock = e; same = refl; holds = λ n x. x }; no_more = λ i e. e; buffers = λ b. refl; held = refl; member = refl; commit = refl };
+      trans = λ h u v w p q. record {
+        inodes = λ i e. let a = p.inodes i e in let b = q.inodes i a.lock in record { lock = b.lock; same = b.same ∙ a.same; holds = λ n x. b.holds n (a.holds n x) };
+        no_more = λ i e. p.no_more i (q.no_more i e);
+        buffers = λ b. q.buffers b ∙ p.buffers b;
+        held = q.held ∙ p.held;
+        member = q.member ∙ p.member;
+        commit = q.commit ∙ p.commit;
+      };
+      kept = keeps;
+      base = λ h v w g u c same kept b. record {
+        free = same.held ∙ b.free;
+        rests = λ e. b.rests (held_back w.commits v.commits h (log_of w).phase (log_of v).phase same.commit e).0;
+        inodes = λ i e.
+            let before = same.no_more i e in
+            let k = same.inodes i before in
+            let was = b.inodes i before in
+            let now = kept_disk h i g u kept b.lent was.keeps in
+            record {
+              keeps = now.0;
+              loaded_is = still_loaded (c i) (g.disk i) (u.disk i) (inode_in (log_of v) i) (inode_in (log_of w) i) now.1 k.same was.loaded_is;
+              holds = subst (λ (n : Option Node). HoldsIn w i n) (sym now.1) (k.holds (g.disk i) was.holds);
+            };
+        lent = λ some. lent_then h g u kept b.lent some;
+      };
+      idle = λ h w g c inv idle b. record { free = b.free; rests = b.rests; inodes = λ i e. absurd (keeps_none h i g idle (b.inodes i e).keeps); lent = b.lent };
+    }
+  where
+    HoldsIn : World → ℕ → Option Node → Type 0
+    HoldsIn w i n = HoldsAt (disk_of (log_of w)) w.owner i n
+
+    still_loaded : (o : Option Dinode) (m n : Option Node) (d e : Dinode) → n ≡ m → e ≡ d → IsLoaded o m d → IsLoaded o n e
+    still_loaded None m n d e q p x = q ∙ x
+    still_loaded (Some f) m n d e q p x = (x.0 ∙ sym p, λ z. x.1 (sym q ∙ z))
+
+    lent_then : (h : ℕ) (g u : above.World) → Kept h g u → (((g.desks h).lender ≡ None → ⊥) → Idle h g) → ((u.desks h).lender ≡ None → ⊥) → Idle h u
+    lent_then h g u kept lent some = by (g.desks h).lender refl
+      where
+        by : (o : Option ℕ) → (g.desks h).lender ≡ o → Idle h u
+        by None e = absurd (some (ap (λ (o : Own). o.desk.lender) (kept.same e) ∙ e))
+        by (Some l) e = kept.rests (lent (λ z. none-some l (sym z ∙ e)))
+
+-- ---- a step on the tables
+
+-- another hart has its locks still, where only this hart's changed
+pub tables_left : (h : ℕ) (v : World) (t : TablesState) (g u : above.World) (load load_then : ℕ → Option Dinode) → tables.Shows (tables_of v) g load → tables.Shows t u load_then
+    → ((i : ℕ) → (u.lock i ≡ g.lock i) ⊎ (Ours h (g.lock i) × Ours h (u.lock i))) → (other : ℕ) → other ≢ h → Same other v (record v { state = record (v.state) { tables = t } })
+tables_left h v t g u load load_then shows after change other ne =
+    record {
+      inodes = λ i e. record { lock = forth i (change i) e; same = refl; holds = λ n x. x };
+      no_more = λ i e. back i (change i) e;
+      buffers = λ b. refl;
+      held = refl;
+      member = refl;
+      commit = refl;
+    }
+  where
+    forth : (i : ℕ) → (u.lock i ≡ g.lock i) ⊎ (Ours h (g.lock i) × Ours h (u.lock i)) → lock_holder i (tables_of v) ≡ Some other → lock_holder i t ≡ Some other
+    forth i (inl same) e = sym (after.places.holders i) ∙ same ∙ shows.places.holders i ∙ e
+    forth i (inr ours) e = not_ours h other (g.lock i) ours.0 ne (shows.places.holders i ∙ e)
+
+    back : (i : ℕ) → (u.lock i ≡ g.lock i) ⊎ (Ours h (g.lock i) × Ours h (u.lock i)) → lock_holder i t ≡ Some other → lock_holder i (tables_of v) ≡ Some other
+    back i (inl same) e = sym (shows.places.holders i) ∙ sym same ∙ after.places.holders i ∙ e
+    back i (inr ours) e = not_ours h other (u.lock i) ours.1 ne (after.places.holders i ∙ e)
+
+-- what a hart has is the same in a world above that differs for the proof alone
+pub base_marked : (h : ℕ) (r : World) (g u : above.World) (c : Carry) → SameCode g u → (g.desks h).lender ≡ None → Base h r g c → Base h r u c
+base_marked h r g u c s free b = record {
+  free = b.free;
+  rests = b.rests;
+  inodes = λ i e. let x = b.inodes i e in record {
+    keeps = (λ z. s.keeper z i) ∙ x.keeps;
+    loaded_is = subst (λ (n : Option Node). IsLoaded (c i) n (inode_in (log_of r) i)) (λ z. sym s.disk z i) x.loaded_is;
+    holds = subst (λ (n : Option Node). HoldsAt (disk_of (log_of r)) r.owner i n) (λ z. sym s.disk z i) x.holds;
+  };
+  lent = λ some. absurd (some ((s.desks h).lender ∙ free));
+}

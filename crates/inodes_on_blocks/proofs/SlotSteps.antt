@@ -1,0 +1,310 @@
+-- The operations on descriptors and open files act at their one step.
+use Rattle.std.proofs.Common.{◌≡◌, inl, ℕ, ◌<◌, ◌==◌, Bool, true, false, Option, Some, None, refl, sym, ◌∙◌, ap, subst}
+use Rattle.std.specs.Prelude.{IsSome}
+use Rattle.std.specs.Option.{option_map}
+use Rattle.std.proofs.lemmas.Option.{none-some, same_Some}
+use Rattle.plain_tree.specs.declared.answer.Cause.{Cause}
+use Rattle.plain_tree.specs.declared.tree.OpenFile.{OpenFile}
+use Rattle.plain_tree.specs.Tree.{put}
+use Rattle.plain_tree.specs.Steps.{lowest, has_room}
+use Rattle.plain_tree.specs.Widths.{hart_count}
+use Rattle.atomic_programs.specs.Prog.{Did, Waits, Ran, Stops, did_in}
+use Rattle.atomic_programs.specs.Logic.{Laws}
+use Rattle.atomic_programs.specs.Joined.{Both}
+use Rattle.fs_tables.specs.declared.files.Want.TheVariants as want
+use Rattle.fs_tables.specs.declared.slots.Doubled.{Doubled}
+use Rattle.fs_tables.specs.declared.slots.Shut as shuts
+use Rattle.fs_tables.specs.Tables.{TablesState, file_named}
+use Rattle.fs_tables.specs.Inodes.{refusal_of}
+use Rattle.fs_tables.specs.Files.{take_place, open_file, double_descriptor, shut_descriptor}
+use Rattle.fs_machine.specs.Steps as steps
+use Rattle.fs_machine.specs.Premises as premises
+use Rattle.inode_machine.specs.World as above
+use Rattle.inode_machine.specs.World.{Entry}
+use Rattle.inode_machine.specs.World.Op.{Slot, Install, CheckFile, Double, Shut, Say}
+use Rattle.inode_machine.specs.Exec as above_exec
+use Rattle.inode_machine.specs.Exec.{slot_if, install_if, first_from, file_count, is_empty_slot, double_at, double_if, slot_at, entry_of, close_at, close_if, mode_refusal, write_refused}
+use Rattle.inode_machine.specs.Inodes.{Sort, OfDirectory, OfFile, OfDevice}
+use Rattle.inodes_on_tables.specs.Shown as tables
+use Rattle.inodes_on_tables.specs.Shown.{loaded, new_file, Runs, BothCame, doubled_as, shut_as, refused_as}
+use Rattle.inodes_on_tables.proofs.Desks.{part_same}
+use Rattle.inodes_on_tables.proofs.Slots.{places_are_taken, files_are_opened, hand_here}
+use Rattle.inodes_on_tables.proofs.Named.{descriptors_are_doubled, descriptors_name_files}
+use Rattle.inodes_on_tables.proofs.Shuts.{descriptors_are_shut}
+use Rattle.inodes_on_blocks.specs.Below.{World, tables_of, came_to, commits_after}
+use Rattle.inodes_on_blocks.specs.Shown.{Shows}
+use Rattle.inodes_on_blocks.specs.Lowering.{Carry, Base, Labels, labelled, Keeps}
+use Rattle.inodes_on_blocks.specs.Handlers.{doubled_to, shut_to, cause_if, slot, install, double, close, check_file, say}
+use Rattle.inodes_on_blocks.specs.Acting.{ActsOnce}
+use Rattle.inodes_on_blocks.proofs.Layer.{tables_left}
+use Rattle.inodes_on_blocks.proofs.Owed.{fewer_owed}
+use Rattle.inodes_on_blocks.proofs.Stepping.{Came, CameTo, one_step}
+use Rattle.inodes_on_blocks.proofs.Tables.{with_tables, shows_then, base_then}
+
+-- an operation that leaves the inodes as they were
+pub record SameInodes (h : ℕ) (g u : above.World) : Type 0 where
+  pub disk : u.disk ≡ g.disk
+  pub lock : u.lock ≡ g.lock
+  pub refs : u.refs ≡ g.refs
+  pub keeper : u.keeper ≡ g.keeper
+  pub size : u.all.ninodes ≡ g.all.ninodes
+  pub joined : (j : ℕ) → (u.desks j).joined ≡ (g.desks j).joined
+  pub lender : (u.desks h).lender ≡ (g.desks h).lender
+
+pub all_same : (h : ℕ) (g : above.World) → SameInodes h g g
+all_same h g = record { disk = refl; lock = refl; refs = refl; keeper = refl; size = refl; joined = λ j. refl; lender = refl }
+
+-- where an operation ran so
+ran_same : {A : Type 0} (h : ℕ) (g w u : above.World) (a b : A) → ◌≡◌ {A = Did A above.World} (Ran a w) (Ran b u) → SameInodes h g w → SameInodes h g u
+ran_same {A} h g w u a b e s = subst (SameInodes h g) world s
+  where
+    world_of : Did A above.World → above.World
+    world_of Waits = w
+    world_of (Ran c x) = x
+    world_of (Stops x) = x
+
+    world : w ≡ u
+    world = ap world_of e
+
+no_wait : {A S : Type 0} (a : A) (s : S) → ◌≡◌ {A = Did A S} (Ran a s) Waits → ⊥
+no_wait a s e = cc
+
+-- a step on the tables, as a step on all
+pub in_tables_is : (h : ℕ) (lop : steps.Op) (v : World) → ((a : steps.Answer lop) (o : Option ℕ) → commits_after h lop a o ≡ o) → (d : Did (steps.Answer lop) TablesState)
+    → came_to h lop v (steps.in_tables v.state d) ≡ did_in (with_tables v) d
+in_tables_is h lop v quiet Waits = refl
+in_tables_is h lop v quiet (Ran a t) = λ i. Ran a (record v { state = record (v.state) { tables = t }; commits = quiet a v.commits i })
+in_tables_is h lop v quiet (Stops t) = refl
+
+module _ (l : Labels) (laws : Laws (labelled l)) (keeps : Keeps l) (h : ℕ) (lt : h < hart_count) where
+  abbrev W : Type 0
+  W = Both World above.World
+
+  pub came_quiet : (op : above.Op) (v : W) (b : above.Answer op) (t : TablesState) (u : above.World) (c : Carry) → Shows v.real v.seen → Base h v.real v.seen c → (v.seen.desks h).lender ≡ None
+      → above_exec.exec h above.Room op v.seen ≡ Ran b u → tables.Shows t u (loaded (tables_of v.real)) → SameInodes h v.seen u → Came l laws keeps h op v b (with_tables v.real t) c
+  came_quiet op v b t u c shows base free ran after s = record {
+    then_ = u;
+    ran = ran;
+    free = s.lender ∙ free;
+    shows = shows_then h lt v.real v.seen shows t u (loaded (tables_of v.real)) after s.disk s.size s.joined (λ i. inl (λ z. s.lock z i))
+        (record {
+          seen = shows.loads.seen;
+          dead = λ n some unlocked dead. shows.loads.dead n (subst (λ (z : ℕ). 0 < z) (λ z. s.refs z n) some) ((λ z. sym s.lock z n) ∙ unlocked) ((λ z. above_exec.is_dead (sym s.disk z n)) ∙ dead);
+          typed = λ n e. shows.loads.typed n ((λ z. sym s.disk z n) ∙ e);
+        });
+    same = tables_left h v.real t v.seen u (loaded (tables_of v.real)) (loaded (tables_of v.real)) shows.tables after (λ i. inl (λ z. s.lock z i));
+    base = base_then h lt v.real v.seen shows c c t u (loaded (tables_of v.real)) base after (s.lender ∙ free)
+        (λ i e.
+        let was : v.seen.lock i ≡ Some h = (λ z. sym s.lock z i) ∙ e in
+        inl (was, (λ z. s.keeper z i) ∙ (base.inodes i (sym (shows.tables.places.holders i) ∙ was)).keeps, (λ z. s.disk z i), refl));
+  }
+
+  -- by what came of both
+  from_both : (op : above.Op) {A : Type 0} (v : W) (wait : Type 0) (answer : A → above.Answer op) (Fits : A → above.Answer op → Type 0) (c : Carry) (d : Did A TablesState) (e : Did (above.Answer op) above.World)
+      → above_exec.exec h above.Room op v.seen ≡ e → BothCame Fits (λ a. loaded (tables_of v.real)) d e → (e ≡ Waits → ⊥) → ((a : A) (b : above.Answer op) → Fits a b → answer a ≡ b)
+      → ((b : above.Answer op) (u : above.World) → e ≡ Ran b u → SameInodes h v.seen u) → Shows v.real v.seen → Base h v.real v.seen c → (v.seen.desks h).lender ≡ None
+      → CameTo l laws keeps h op v wait (did_in (with_tables v.real) d) answer (λ a. c)
+  from_both op v wait answer Fits c Waits Waits is both no_waits fits same shows base free = absurd (no_waits refl)
+  from_both op v wait answer Fits c Waits (Ran b u) is both no_waits fits same shows base free = absurd both
+  from_both op v wait answer Fits c Waits (Stops u) is both no_waits fits same shows base free = absurd both
+  from_both op v wait answer Fits c (Ran a t) Waits is both no_waits fits same shows base free = absurd both
+  from_both op v wait answer Fits c (Ran a t) (Ran b u) is both no_waits fits same shows base free =
+      came_quiet op v (answer a) t u c shows base free (is ∙ ap (λ (x : above.Answer op). Ran x u) (sym (fits a b both.0))) both.1 (same b u refl)
+  from_both op v wait answer Fits c (Ran a t) (Stops u) is both no_waits fits same shows base free = absurd both
+  from_both op v wait answer Fits c (Stops t) Waits is both no_waits fits same shows base free = absurd both
+  from_both op v wait answer Fits c (Stops t) (Ran b u) is both no_waits fits same shows base free = absurd both
+  from_both op v wait answer Fits c (Stops t) (Stops u) is both no_waits fits same shows base free = absurd both
+
+  runs_here : (v : W) → (v.seen.desks h).lender ≡ None → Runs h v.seen
+  runs_here v free = record { below = lt; free = free }
+
+  -- ---- a place for an open file
+
+  -- the hart's desk changed, but not whether it is in a transaction, nor who hands it descriptors
+  desk_same : (w u : above.World) (new : above.Desk) → u.disk ≡ w.disk → u.lock ≡ w.lock → u.refs ≡ w.refs → u.keeper ≡ w.keeper → u.all.ninodes ≡ w.all.ninodes → u.desks ≡ put w.desks h new
+      → new.joined ≡ (w.desks h).joined → new.lender ≡ (w.desks h).lender → SameInodes h w u
+  desk_same w u new disk lock refs keeper size desks joined lender = record {
+    disk = disk;
+    lock = lock;
+    refs = refs;
+    keeper = keeper;
+    size = size;
+    joined = λ j. (λ z. (desks z j).joined) ∙ part_same (λ d. d.joined) w.desks h new j joined;
+    lender = (λ z. (desks z h).lender) ∙ part_same (λ d. d.lender) w.desks h new h lender;
+  }
+
+  slot_same : (w : above.World) (o : Option ℕ) (b : Bool) (u : above.World) → slot_if h w o ≡ Ran b u → SameInodes h w u
+  slot_same w None b u e = ran_same h w w u false b e (all_same h w)
+  slot_same w (Some s) b u e =
+      let w' : above.World = record w { desks = put w.desks h (record (w.desks h) { hand = Some s }) } in
+      ran_same h w w' u true b e (desk_same w w' (record (w.desks h) { hand = Some s }) refl refl refl refl refl refl refl refl)
+
+  slot_runs : (w : above.World) (o : Option ℕ) → slot_if h w o ≡ Waits → ⊥
+  slot_runs w None e = no_wait false w e
+  slot_runs w (Some s) e = no_wait true _ e
+
+  pub slot_acts : (m : Bool → Option above.Mark) → ActsOnce l h Slot m slot
+  unfolding steps.exec premises.May premises.MayWait
+  slot_acts m =
+      one_step l laws keeps h Slot m (λ c. steps.TakePlace) (λ c a. a) (λ c a. c) (λ v. tt)
+      (λ v c shows inv base may. (
+        (lt, hand_here h (tables_of v.real) v.seen (loaded (tables_of v.real)) shows.tables (runs_here v may.0) ∙ may.1),
+        λ x t.
+            subst (λ (d : Did Bool World). CameTo l laws keeps h Slot v ⊥ d (λ a. a) (λ a. c)) (sym (in_tables_is h steps.TakePlace v.real (λ a o. refl) (take_place h (tables_of v.real))))
+            (from_both Slot v ⊥ (λ a. a) (λ a b. a ≡ b) c (take_place h (tables_of v.real)) (above_exec.exec h above.Room Slot v.seen) refl
+            (places_are_taken h (tables_of v.real) v.seen (loaded (tables_of v.real)) shows.tables (runs_here v may.0) may.1)
+            (slot_runs v.seen (first_from file_count 0 (is_empty_slot v.seen))) (λ a b e. e) (slot_same v.seen (first_from file_count 0 (is_empty_slot v.seen))) shows base may.0),
+      ))
+
+  -- ---- a file opened
+
+  opened_same : (w : above.World) (f : OpenFile) (sort : Sort) (o : Option ℕ) (b : Bool) (a : Option ℕ) (u : above.World) → install_if h w f sort o b ≡ Ran a u → SameInodes h w u
+  opened_same w f sort None b a u q = ran_same h w w u None a q (all_same h w)
+  opened_same w f sort (Some s) true a u q =
+      ran_same h w (above_exec.installed h w f sort s (lowest (w.desks h).fds)) u _ a q
+      (desk_same w (above_exec.installed h w f sort s (lowest (w.desks h).fds)) (record (w.desks h) { fds = put (w.desks h).fds (lowest (w.desks h).fds) (Some s); hand = None; opening = None }) refl refl refl refl refl refl refl refl)
+  opened_same w f sort (Some s) false a u q =
+      let w' : above.World = record w { desks = put w.desks h (record (w.desks h) { hand = None }) } in
+      ran_same h w w' u None a q (desk_same w w' (record (w.desks h) { hand = None }) refl refl refl refl refl refl refl refl)
+
+  opened_runs : (w : above.World) (f : OpenFile) (sort : Sort) (o : Option ℕ) (b : Bool) → install_if h w f sort o b ≡ Waits → ⊥
+  opened_runs w f sort None b q = no_wait None w q
+  opened_runs w f sort (Some s) true q = no_wait _ _ q
+  opened_runs w f sort (Some s) false q = no_wait None _ q
+
+  some_hand : (o p : Option ℕ) → o ≡ p → (p ≡ None → ⊥) → IsSome o
+  some_hand None p e ne = absurd (ne (sym e))
+  some_hand (Some k) p e ne = refl
+
+  pub install_acts : (f : OpenFile) (sort : Sort) (m : Option ℕ → Option above.Mark) → ActsOnce l h (Install f sort) m (install f sort)
+  unfolding steps.exec premises.May premises.MayWait
+  install_acts f sort m =
+      one_step l laws keeps h (Install f sort) m (λ c. steps.TakeDescriptor f.number (new_file f sort)) (λ c a. a) (λ c a. c) (λ v. tt)
+      (λ v c shows inv base may. (
+        (
+          lt,
+          some_hand _ (v.seen.desks h).hand (hand_here h (tables_of v.real) v.seen (loaded (tables_of v.real)) shows.tables (runs_here v may.0)) may.1.0,
+          fewer_owed f.number (tables_of v.real) v.seen (loaded (tables_of v.real)) shows.tables inv h lt may.1.2,
+        ),
+        λ x t.
+            subst (λ (d : Did (Option ℕ) World). CameTo l laws keeps h (Install f sort) v ⊥ d (λ a. a) (λ a. c)) (sym (in_tables_is h (steps.TakeDescriptor f.number (new_file f sort)) v.real (λ a o. refl) (open_file h f.number (new_file f sort) (tables_of v.real))))
+            (from_both (Install f sort) v ⊥ (λ a. a) (λ a b. a ≡ b) c (open_file h f.number (new_file f sort) (tables_of v.real)) (above_exec.exec h above.Room (Install f sort) v.seen) refl
+            (files_are_opened h f sort (tables_of v.real) v.seen (loaded (tables_of v.real)) shows.tables inv (runs_here v may.0) may.1.0 may.1.1)
+            (opened_runs v.seen f sort (v.seen.desks h).hand (has_room (v.seen.desks h).fds)) (λ a b e. e) (opened_same v.seen f sort (v.seen.desks h).hand (has_room (v.seen.desks h).fds)) shows base may.0),
+      ))
+
+  -- ---- doubled
+
+  double_same : (w : above.World) (s : ℕ) (e : Entry) (b : Bool) (a : Option (Option ℕ)) (u : above.World) → double_if h w s e b ≡ Ran a u → SameInodes h w u
+  double_same w s e true a u q =
+      ran_same h w (above_exec.doubled h w s e (lowest (w.desks h).fds)) u _ a q
+      (desk_same w (above_exec.doubled h w s e (lowest (w.desks h).fds)) (record (w.desks h) { fds = put (w.desks h).fds (lowest (w.desks h).fds) (Some s) }) refl refl refl refl refl refl refl refl)
+  double_same w s e false a u q = ran_same h w w u (Some None) a q (all_same h w)
+
+  doubled_same : (w : above.World) (o : Option ℕ) (e : Option Entry) (a : Option (Option ℕ)) (u : above.World) → double_at h w o e ≡ Ran a u → SameInodes h w u
+  doubled_same w None e a u q = ran_same h w w u None a q (all_same h w)
+  doubled_same w (Some s) None a u q = ran_same h w w u None a q (all_same h w)
+  doubled_same w (Some s) (Some e) a u q = double_same w s e (has_room (w.desks h).fds) a u q
+
+  doubled_runs : (w : above.World) (o : Option ℕ) (e : Option Entry) → double_at h w o e ≡ Waits → ⊥
+  doubled_runs w None e q = no_wait None w q
+  doubled_runs w (Some s) None q = no_wait None w q
+  doubled_runs w (Some s) (Some e) q = by (has_room (w.desks h).fds) q
+    where
+      by : (b : Bool) → double_if h w s e b ≡ Waits → ⊥
+      by true q = no_wait _ _ q
+      by false q = no_wait _ _ q
+
+  doubled_back : (b : Option (Option ℕ)) → doubled_to (doubled_as b) ≡ b
+  doubled_back None = refl
+  doubled_back (Some None) = refl
+  doubled_back (Some (Some fd)) = refl
+
+  pub double_acts : (fd : ℕ) (m : Option (Option ℕ) → Option above.Mark) → ActsOnce l h (Double fd) m (double fd)
+  unfolding steps.exec premises.May premises.MayWait
+  double_acts fd m =
+      one_step l laws keeps h (Double fd) m (λ c. steps.Double fd) (λ c. doubled_to) (λ c a. c) (λ v. tt)
+      (λ v c shows inv base may. (
+        lt,
+        λ x t.
+            subst (λ (d : Did Doubled World). CameTo l laws keeps h (Double fd) v ⊥ d doubled_to (λ a. c)) (sym (in_tables_is h (steps.Double fd) v.real (λ a o. refl) (double_descriptor h fd (tables_of v.real))))
+            (from_both (Double fd) v ⊥ doubled_to (λ a b. a ≡ doubled_as b) c (double_descriptor h fd (tables_of v.real)) (above_exec.exec h above.Room (Double fd) v.seen) refl
+            (descriptors_are_doubled h fd (tables_of v.real) v.seen (loaded (tables_of v.real)) shows.tables inv (runs_here v may.0))
+            (doubled_runs v.seen (slot_at v.seen h fd) (entry_of v.seen h fd)) (λ a b e. ap doubled_to e ∙ doubled_back b) (doubled_same v.seen (slot_at v.seen h fd) (entry_of v.seen h fd)) shows base may.0),
+      ))
+
+  -- ---- shut
+
+  close_same : (w : above.World) (fd s : ℕ) (e : Entry) (b : Bool) (a : Option (Option ℕ)) (u : above.World) → close_if h w fd s e b ≡ Ran a u → SameInodes h w u
+  close_same w fd s e true a u q =
+      ran_same h w (above_exec.close_last h w fd s e) u _ a q
+      (desk_same w (above_exec.close_last h w fd s e) (record (w.desks h) { fds = put (w.desks h).fds fd None }) refl refl refl refl refl refl refl refl)
+  close_same w fd s e false a u q =
+      ran_same h w (above_exec.close_less h w fd s e) u _ a q
+      (desk_same w (above_exec.close_less h w fd s e) (record (w.desks h) { fds = put (w.desks h).fds fd None }) refl refl refl refl refl refl refl refl)
+
+  closed_same : (w : above.World) (fd : ℕ) (o : Option ℕ) (e : Option Entry) (a : Option (Option ℕ)) (u : above.World) → close_at h w fd o e ≡ Ran a u → SameInodes h w u
+  closed_same w fd None e a u q = ran_same h w w u None a q (all_same h w)
+  closed_same w fd (Some s) None a u q = ran_same h w w u None a q (all_same h w)
+  closed_same w fd (Some s) (Some e) a u q = close_same w fd s e (e.references == 1) a u q
+
+  closed_runs : (w : above.World) (fd : ℕ) (o : Option ℕ) (e : Option Entry) → close_at h w fd o e ≡ Waits → ⊥
+  closed_runs w fd None e q = no_wait None w q
+  closed_runs w fd (Some s) None q = no_wait None w q
+  closed_runs w fd (Some s) (Some e) q = by (e.references == 1) q
+    where
+      by : (b : Bool) → close_if h w fd s e b ≡ Waits → ⊥
+      by true q = no_wait _ _ q
+      by false q = no_wait _ _ q
+
+  shut_back : (b : Option (Option ℕ)) → shut_to (shut_as b) ≡ b
+  shut_back None = refl
+  shut_back (Some None) = refl
+  shut_back (Some (Some n)) = refl
+
+  pub close_acts : (fd : ℕ) (m : Option (Option ℕ) → Option above.Mark) → ActsOnce l h (Shut fd) m (close fd)
+  unfolding steps.exec premises.May premises.MayWait
+  close_acts fd m =
+      one_step l laws keeps h (Shut fd) m (λ c. steps.Close fd) (λ c. shut_to) (λ c a. c) (λ v. tt)
+      (λ v c shows inv base may. (
+        lt,
+        λ x t.
+            subst (λ (d : Did shuts.Shut World). CameTo l laws keeps h (Shut fd) v ⊥ d shut_to (λ a. c)) (sym (in_tables_is h (steps.Close fd) v.real (λ a o. refl) (shut_descriptor h fd (tables_of v.real))))
+            (from_both (Shut fd) v ⊥ shut_to (λ a b. a ≡ shut_as b) c (shut_descriptor h fd (tables_of v.real)) (above_exec.exec h above.Room (Shut fd) v.seen) refl
+            (descriptors_are_shut h fd (tables_of v.real) v.seen (loaded (tables_of v.real)) shows.tables inv (runs_here v may.0) (λ i z. may.1.1 z i))
+            (closed_runs v.seen fd (slot_at v.seen h fd) (entry_of v.seen h fd)) (λ a b e. ap shut_to e ∙ shut_back b) (closed_same v.seen fd (slot_at v.seen h fd) (entry_of v.seen h fd)) shows base may.0),
+      ))
+
+  -- ---- what changes nothing
+
+  same_back : (o : Option Cause) (e : Option Entry) → write_refused e ≡ o → cause_if (option_map refused_as o) ≡ o
+  same_back None e q = refl
+  same_back (Some k) e q = by e k q
+    where
+      by : (e : Option Entry) (k : Cause) → write_refused e ≡ Some k → cause_if (Some (refused_as k)) ≡ Some k
+      by None k q = subst (λ (z : Cause). cause_if (Some (refused_as z)) ≡ Some z) (same_Some _ k q) refl
+      by (Some e) k q = mode e.file.writable e.sort k q
+        where
+          mode : (b : Bool) (sort : Sort) (k : Cause) → mode_refusal b sort ≡ Some k → cause_if (Some (refused_as k)) ≡ Some k
+          mode true OfDirectory k q = absurd (none-some k q)
+          mode true OfFile k q = absurd (none-some k q)
+          mode true (OfDevice major) k q = subst (λ (z : Cause). cause_if (Some (refused_as z)) ≡ Some z) (same_Some _ k q) refl
+          mode false sort k q = subst (λ (z : Cause). cause_if (Some (refused_as z)) ≡ Some z) (same_Some _ k q) refl
+
+  pub check_acts : (fd : ℕ) (m : Option Cause → Option above.Mark) → ActsOnce l h (CheckFile fd) m (check_file fd)
+  unfolding steps.exec premises.May premises.MayWait
+  check_acts fd m =
+      one_step l laws keeps h (CheckFile fd) m (λ c. steps.CheckFile want.Write fd) (λ c. cause_if) (λ c a. c) (λ v. tt)
+      (λ v c shows inv base may. (
+        lt,
+        λ x t.
+            let e = (descriptors_name_files h fd (tables_of v.real) v.seen (loaded (tables_of v.real)) shows.tables inv (runs_here v may.0)).2 in
+            came_quiet (CheckFile fd) v (cause_if (refusal_of want.Write (file_named h fd (tables_of v.real)))) (tables_of v.real) v.seen c shows base may.0
+            (ap (λ (o : Option Cause). Ran o v.seen) (sym (ap cause_if e ∙ same_back (write_refused (entry_of v.seen h fd)) (entry_of v.seen h fd) refl))) shows.tables (all_same h v.seen),
+      ))
+
+  pub say_acts : (m : Unit {0} → Option above.Mark) → ActsOnce l h Say m say
+  unfolding steps.exec premises.May premises.MayWait
+  say_acts m =
+      one_step l laws keeps h Say m (λ c. steps.Reply) (λ c a. a) (λ c a. c) (λ v. tt)
+      (λ v c shows inv base may. (tt, λ x t. came_quiet Say v tt (tables_of v.real) v.seen c shows base may.0 refl shows.tables (all_same h v.seen)))

@@ -1,0 +1,153 @@
+-- Each operation of one step on the tables acts at it.
+use Rattle.std.proofs.Common.{◌≡◌, ◌≢◌, inl, inr, ℕ, ◌<◌, Bool, true, false, Option, Some, None, refl, sym, ◌∙◌, ap, subst}
+use Rattle.std.specs.Prelude.{IsSome}
+use Rattle.std.proofs.lemmas.Option.{none-some, same_Some}
+use Rattle.fs_layout.specs.declared.inode.Dinode.{Dinode}
+use Rattle.plain_tree.specs.declared.node.Node.{Node}
+use Rattle.plain_tree.specs.Tree.{put}
+use Rattle.plain_tree.specs.Widths.{hart_count}
+use Rattle.tree_laws.proofs.Maps.{same_or, put_same, put_other}
+use Rattle.image_laws.specs.Holds.{HoldsAt}
+use Rattle.atomic_programs.specs.Prog.{Ran}
+use Rattle.atomic_programs.specs.Logic.{Laws}
+use Rattle.atomic_programs.specs.Joined.{Both}
+use Rattle.fs_tables.specs.Tables.{TablesState}
+use Rattle.fs_tables.specs.Inodes.{unlock_inode, settle_inode}
+use Rattle.fs_machine.specs.Steps as steps
+use Rattle.fs_machine.specs.Premises as premises
+use Rattle.inode_machine.specs.World as above
+use Rattle.inode_machine.specs.World.Op.{Give, UpStart, Up, WalkDown, Down, Slot, Install, CheckFile, Double, Shut, Settle, Say}
+use Rattle.inode_machine.specs.Exec as above_exec
+use Rattle.inode_machine.specs.Exec.{unlocked}
+use Rattle.inode_machine.proofs.Frame.{ours_none, ours_some}
+use Rattle.inodes_on_tables.specs.Shown as tables
+use Rattle.inodes_on_tables.specs.Shown.{loaded}
+use Rattle.inodes_on_tables.proofs.Desks.{part_same}
+use Rattle.inodes_on_tables.proofs.Locks.{locks_are_given}
+use Rattle.inodes_on_tables.proofs.Named.{directories_are_settled}
+use Rattle.inodes_on_blocks.specs.Below.{World, log_of, tables_of, disk_of, inode_in}
+use Rattle.inodes_on_blocks.specs.Shown.{Shows}
+use Rattle.inodes_on_blocks.specs.Lowering.{Carry, IsLoaded, InHand, Base, Labels, labelled, Keeps}
+use Rattle.inodes_on_blocks.specs.Handlers.{give, settle}
+use Rattle.inodes_on_blocks.specs.Acting.{ActsOnce}
+use Rattle.inodes_on_blocks.proofs.Layer.{tables_left}
+use Rattle.inodes_on_blocks.proofs.Owed.{fewer_owed}
+use Rattle.inodes_on_blocks.proofs.Stepping.{Came, one_step}
+use Rattle.inodes_on_blocks.proofs.Tables.{with_tables, shows_then, base_then}
+
+-- what is loaded of an inode in hand is as it is seen
+loaded_seen : (o : Option Dinode) (n : Option Node) (d e : Dinode) → IsLoaded o n d → o ≡ Some e → e ≡ d
+loaded_seen None n d e is q = absurd (none-some e q)
+loaded_seen (Some f) n d e is q = same_Some e f (sym q) ∙ is.0
+
+some_loaded : (o : Option Dinode) (n : Option Node) (d : Dinode) → IsLoaded o n d → above_exec.is_dead n ≡ true → IsSome o
+some_loaded None n d is dead = absurd (let q : false ≡ true = sym (ap above_exec.is_dead is) ∙ dead in cc)
+some_loaded (Some f) n d is dead = refl
+
+untyped : (o : Option Dinode) (n : Option Node) (d : Dinode) → IsLoaded o n d → n ≡ None → o ≡ None
+untyped None n d is e = refl
+untyped (Some f) n d is e = absurd (is.1 e)
+
+module _ (l : Labels) (laws : Laws (labelled l)) (keeps : Keeps l) (h : ℕ) (lt : h < hart_count) where
+  abbrev W : Type 0
+  W = Both World above.World
+
+  -- ---- a lock given back
+
+  -- the world above then
+  pub record GivesBack (n : ℕ) (g u : above.World) : Type 0 where
+    pub disk : u.disk ≡ g.disk
+    pub lock : u.lock ≡ put g.lock n None
+    pub refs : u.refs ≡ g.refs
+    pub keeper : (i : ℕ) → i ≢ n → u.keeper i ≡ g.keeper i
+    pub size : u.all.ninodes ≡ g.all.ninodes
+    pub joined : (j : ℕ) → (u.desks j).joined ≡ (g.desks j).joined
+    pub lender : (u.desks h).lender ≡ (g.desks h).lender
+
+  pub given_came : (op : above.Op) (n : ℕ) (v : W) (c : Carry) (b : above.Answer op) (t : TablesState) (u : above.World) → Shows v.real v.seen → Base h v.real v.seen c → v.seen.lock n ≡ Some h → (v.seen.desks h).lender ≡ None
+      → above_exec.exec h above.Room op v.seen ≡ Ran b u → tables.Shows t u (put (loaded (tables_of v.real)) n (c n)) → GivesBack n v.seen u → Came l laws keeps h op v b (with_tables v.real t) (put c n None)
+  given_came op n v c b t u shows base mine free ran after s = record {
+    then_ = u;
+    ran = ran;
+    free = s.lender ∙ free;
+    shows = shows_then h lt v.real v.seen shows t u (put load n (c n)) after s.disk s.size s.joined
+        (λ i. elim (same_or i n) [
+          | inl q ↦ inr (inr (freed i q, subst (λ (z : ℕ). HoldsAt (disk_of (log_of v.real)) v.real.owner z (v.seen.disk z)) (sym q) hand.holds))
+          | inr ne ↦ inl (unfreed i ne)
+        ])
+        (record {
+          seen = λ i d e. elim (same_or i n) [
+            | inl q ↦ loaded_seen (c n) (v.seen.disk n) (inode_in (log_of v.real) n) d hand.loaded_is (sym (ap (put load n (c n)) q ∙ put_same load n (c n)) ∙ e) ∙ ap (inode_in (log_of v.real)) (sym q)
+            | inr ne ↦ shows.loads.seen i d (sym (put_other load n (c n) i ne) ∙ e)
+          ];
+          dead = λ i some unlocked dead. elim (same_or i n) [
+            | inl q ↦ subst IsSome (sym (ap (put load n (c n)) q ∙ put_same load n (c n))) (some_loaded (c n) (v.seen.disk n) (inode_in (log_of v.real) n) hand.loaded_is ((λ z. above_exec.is_dead (sym s.disk z (sym q z))) ∙ dead))
+            | inr ne ↦ subst IsSome (sym (put_other load n (c n) i ne)) (shows.loads.dead i (subst (λ (z : ℕ). 0 < z) (λ z. s.refs z i) some) (sym (unfreed i ne) ∙ unlocked) ((λ z. above_exec.is_dead (sym s.disk z i)) ∙ dead))
+          ];
+          typed = λ i e. elim (same_or i n) [
+            | inl q ↦ ap (put load n (c n)) q ∙ put_same load n (c n) ∙ untyped (c n) (v.seen.disk n) (inode_in (log_of v.real) n) hand.loaded_is ((λ z. sym s.disk z (sym q z)) ∙ e)
+            | inr ne ↦ put_other load n (c n) i ne ∙ shows.loads.typed i ((λ z. sym s.disk z i) ∙ e)
+          ];
+        });
+    same = tables_left h v.real t v.seen u load (put load n (c n)) shows.tables after
+        (λ i. elim (same_or i n) [
+          | inl q ↦ inr (ours_some h (v.seen.lock i) (ap v.seen.lock q ∙ mine), ours_none h (u.lock i) (freed i q))
+          | inr ne ↦ inl (unfreed i ne)
+        ]);
+    base = base_then h lt v.real v.seen shows c (put c n None) t u (put load n (c n)) base after (s.lender ∙ free)
+        (λ i e. elim (same_or i n) [
+          | inl q ↦ absurd (none-some h (sym (freed i q) ∙ e))
+          | inr ne ↦
+              let was : v.seen.lock i ≡ Some h = sym (unfreed i ne) ∙ e in
+              inl (was, s.keeper i ne ∙ (base.inodes i (sym (shows.tables.places.holders i) ∙ was)).keeps, (λ z. s.disk z i), put_other c n None i ne)
+        ]);
+  }
+    where
+      load : ℕ → Option Dinode
+      load = loaded (tables_of v.real)
+
+      hand : InHand h n (c n) v.real v.seen
+      hand = base.inodes n (sym (shows.tables.places.holders n) ∙ mine)
+
+      freed : (i : ℕ) → i ≡ n → u.lock i ≡ None
+      freed i q = (λ z. s.lock z i) ∙ ap (put v.seen.lock n None) q ∙ put_same v.seen.lock n None
+
+      unfreed : (i : ℕ) → i ≢ n → u.lock i ≡ v.seen.lock i
+      unfreed i ne = (λ z. s.lock z i) ∙ put_other v.seen.lock n None i ne
+
+  unlocked_back : (n : ℕ) (g : above.World) (b : Bool) → GivesBack n g (unlocked n g b)
+  unlocked_back n g true = record { disk = refl; lock = refl; refs = refl; keeper = λ i ne. refl; size = refl; joined = λ j. refl; lender = refl }
+  unlocked_back n g false = record { disk = refl; lock = refl; refs = refl; keeper = λ i ne. put_other g.keeper n None i ne; size = refl; joined = λ j. refl; lender = refl }
+
+  unlocked_shows : (t : TablesState) (n : ℕ) (g : above.World) (load : ℕ → Option Dinode) (b : Bool) → tables.Shows t (record g { lock = put g.lock n None }) load → tables.Shows t (unlocked n g b) load
+  unlocked_shows t n g load true s = record { sound = s.sound; places = s.places; files = s.files; desks = s.desks; lenders = s.lenders; range = s.range }
+  unlocked_shows t n g load false s = record { sound = s.sound; places = s.places; files = s.files; desks = s.desks; lenders = s.lenders; range = s.range }
+
+  pub give_acts : (n : ℕ) (m : Unit {0} → Option above.Mark) → ActsOnce l h (Give n) m (give n)
+  unfolding steps.exec premises.May
+  give_acts n m =
+      one_step l laws keeps h (Give n) m (λ c. steps.Unlock (record { number = n; content = c n }) None) (λ c a. tt) (λ c a. put c n None) (λ v. tt)
+      (λ v c shows inv base may. (
+        (sym (shows.tables.places.holders n) ∙ may.1, tt),
+        λ x t.
+            given_came (Give n) n v c tt (unlock_inode h (record { number = n; content = c n }) None (tables_of v.real)) (unlocked n v.seen (v.seen.alone n)) shows base may.1 may.0 refl
+            (unlocked_shows _ n v.seen _ (v.seen.alone n) (locks_are_given h (record { number = n; content = c n }) (tables_of v.real) v.seen (loaded (tables_of v.real)) shows.tables may.1))
+            (unlocked_back n v.seen (v.seen.alone n)),
+      ))
+
+  -- and the inode is the directory
+  settled_back : (n : ℕ) (g : above.World) (b : Bool) → GivesBack n g (above_exec.with_directory (unlocked n g b) h n)
+  settled_back n g true = record { disk = refl; lock = refl; refs = refl; keeper = λ i ne. refl; size = refl; joined = λ j. part_same (λ d. d.joined) g.desks h (record (g.desks h) { directory = n; left = None }) j refl; lender = part_same (λ d. d.lender) g.desks h (record (g.desks h) { directory = n; left = None }) h refl }
+  settled_back n g false = record { disk = refl; lock = refl; refs = refl; keeper = λ i ne. put_other g.keeper n None i ne; size = refl; joined = λ j. part_same (λ d. d.joined) g.desks h (record (g.desks h) { directory = n; left = None }) j refl; lender = part_same (λ d. d.lender) g.desks h (record (g.desks h) { directory = n; left = None }) h refl }
+
+  pub settle_acts : (n : ℕ) (m : ℕ → Option above.Mark) → ActsOnce l h (Settle n) m (settle n)
+  unfolding steps.exec premises.May settle_inode
+  settle_acts n m =
+      one_step l laws keeps h (Settle n) m (λ c. steps.Settle (record { number = n; content = c n })) (λ c a. a) (λ c a. put c n None) (λ v. tt)
+      (λ v c shows inv base may.
+      let both = directories_are_settled h (record { number = n; content = c n }) (tables_of v.real) v.seen (loaded (tables_of v.real)) shows.tables (record { below = lt; free = may.0 }) may.1.0 in (
+        (lt, sym (shows.tables.places.holders n) ∙ may.1.0, fewer_owed n (tables_of v.real) v.seen (loaded (tables_of v.real)) shows.tables inv h lt may.1.1),
+        λ x t.
+            given_came (Settle n) n v c _ _ (above_exec.with_directory (unlocked n v.seen (v.seen.alone n)) h n) shows base may.1.0 may.0 (ap (λ (d : ℕ). Ran d (above_exec.with_directory (unlocked n v.seen (v.seen.alone n)) h n)) (sym both.0)) both.1
+            (settled_back n v.seen (v.seen.alone n)),
+      ))

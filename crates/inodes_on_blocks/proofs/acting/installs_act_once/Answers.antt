@@ -1,0 +1,9 @@
+use Rattle.inode_machine.specs.World.Op.{Install}
+use Rattle.inodes_on_blocks.specs.Handlers.{install}
+use Rattle.inodes_on_blocks.specs.Acting.{alone}
+use Rattle.inodes_on_blocks.proofs.SlotSteps.{install_acts}
+use Rattle.inodes_on_blocks.proofs.Alone.{alone_laws, alone_keeps, does_it}
+use Rattle.inodes_on_blocks.proofs.acting.installs_act_once.Goals as goal
+
+pub returns : goal.returns
+returns c = λ f sort. does_it (Install f sort) (install f sort) (λ h lt m. install_acts alone alone_laws alone_keeps h lt f sort m)

@@ -1,0 +1,9 @@
+use Rattle.inode_machine.specs.World.Op.{WalkDown}
+use Rattle.inodes_on_blocks.specs.Handlers.{walk_down}
+use Rattle.inodes_on_blocks.specs.Acting.{alone}
+use Rattle.inodes_on_blocks.proofs.CountSteps.{walk_down_acts}
+use Rattle.inodes_on_blocks.proofs.Alone.{alone_laws, alone_keeps, does_it}
+use Rattle.inodes_on_blocks.proofs.acting.walk_downs_act_once.Goals as goal
+
+pub returns : goal.returns
+returns c = λ n. does_it (WalkDown n) (walk_down n) (λ h lt m. walk_down_acts alone alone_laws alone_keeps h lt n m)

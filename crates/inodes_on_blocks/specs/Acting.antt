@@ -1,0 +1,53 @@
+-- An operation's program below acts at one moment, alone of all operations' programs.
+use Rattle.std.specs.Prelude.{◌≡◌, ℕ, suc, ◌<◌, List, [], ◌∷◌, Option}
+use Rattle.plain_tree.specs.Widths.{hart_count}
+use Rattle.atomic_programs.specs.Logic.{Machine, Wp}
+use Rattle.atomic_programs.specs.Prog.{once}
+use Rattle.atomic_programs.specs.Joined.{Both, joined, Below, Lasts}
+use Rattle.inode_machine.specs.World as above
+use Rattle.inode_machine.specs.Rules.{more}
+use Rattle.inodes_on_blocks.specs.Below.{World}
+use Rattle.inodes_on_blocks.specs.Lowering.{Carry, Kept, Base, below, Labels, labelled}
+use Rattle.inodes_on_blocks.specs.Handlers.{Handler}
+
+-- whatever the operation alone is shown to do above, under any history, this program does below
+abbrev pub ActsOnce : (l : Labels) → ℕ → (op : above.Op) → (above.Answer op → Option above.Mark) → Handler op → Type 1
+ActsOnce l h op m p =
+    (c : Carry) (B : List l.Step → Type 0) (C : above.Answer op → List l.Step → above.World → Type 0) (es : List l.Step) (w : Both World above.World)
+    → Lasts (labelled l) h B C → Wp (labelled l) h B C (once op m) (suc (more op)) es w.seen → Base h w.real w.seen c
+    → Wp (joined (labelled l) below) h B (Below (labelled l) below h C) (p c m) (suc (more op)) es w
+
+-- ---- the same with the history that is the operations themselves
+
+abbrev pub Done : Type 0
+Done = (op : above.Op) × above.Answer op
+
+abbrev pub alone : Labels
+alone =
+    record {
+      Step = Done;
+      Tree = Unit {0};
+      places = λ h op a m w. (h, (op, a)) ∷ [];
+      tree = λ w. tt;
+      Takes = λ t h s u. Unit {0};
+      Others = λ h v xs w. (xs ≡ []) × Kept h v w;
+      Clean = λ w. Unit {0};
+    }
+
+abbrev pub whole : Machine
+whole = labelled alone
+
+-- this operation was done, once, and nothing else
+abbrev pub IsDone : (op : above.Op) → List Done → Type 0
+IsDone op es = (a : above.Answer op) × (es ≡ (op, a) ∷ [])
+
+abbrev pub Answers : (op : above.Op) → above.Answer op → List Done → above.World → Type 0
+Answers op a es w = es ≡ (op, a) ∷ []
+
+-- Where the operation alone may be made and keeps what always holds, its program below does it: once, whatever the other harts do,
+-- with the answer that it itself gives; each of its steps may be made, and the hart has no more than its locks' records after it.
+abbrev pub DoesIt : (op : above.Op) → Handler op → Type 0
+DoesIt op p =
+    (h : ℕ) (m : above.Answer op → Option above.Mark) (c : Carry) (w : Both World above.World) → h < hart_count
+    → Wp whole h (IsDone op) (Answers op) (once op m) (suc (more op)) [] w.seen → Base h w.real w.seen c
+    → Wp (joined whole below) h (IsDone op) (Below whole below h (Answers op)) (p c m) (suc (more op)) [] w

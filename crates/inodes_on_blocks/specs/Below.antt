@@ -1,0 +1,47 @@
+-- The machine below: what all harts share, and beside it, for the proof alone, whose each block is and which hart commits.
+use Rattle.std.specs.Prelude.{ℕ, List, Bool, true, false, Option, Some, None}
+use Rattle.fs_layout.specs.declared.inode.Dinode.{Dinode}
+use Rattle.image_tree.specs.Inodes.{inode_of}
+use Rattle.group_log.specs.declared.log.Left.TheVariants.{Free, Commits}
+use Rattle.atomic_programs.specs.Prog.{Did, Waits, Ran, Stops}
+use Rattle.fs_tables.specs.Tables.{TablesState}
+use Rattle.fs_machine.specs.LogPart.{LogPart, Outside}
+use Rattle.fs_machine.specs.Steps as steps
+use Rattle.fs_machine.specs.Steps.{State, Op, Answer, Leave, Commit}
+use Rattle.inodes_on_blocks.specs.OnBlocks.{shown}
+
+pub record World : Type 0 where
+  pub state : State
+  -- for the proof
+  pub owner : ℕ → ℕ  -- the inode whose a block is, 0 where it is nobody's
+  pub left : ℕ → Bool  -- a bit that the mounted image had set and that nothing named
+  pub commits : Option ℕ  -- the hart that makes the commit which is under way
+
+abbrev pub log_of : World → LogPart
+log_of w = w.state.log
+
+abbrev pub tables_of : World → TablesState
+tables_of w = w.state.tables
+
+-- the disk as it is seen, and an inode on it
+abbrev pub disk_of : LogPart → List (List ℕ)
+disk_of l = shown l.contents l.seats l.sizes
+
+abbrev pub inode_in : LogPart → ℕ → Dinode
+inode_in l i = inode_of (disk_of l) i
+
+-- the hart that left last commits, until the last write is made
+abbrev pub commits_after : ℕ → (op : Op) → Answer op → Option ℕ → Option ℕ
+commits_after h Leave Commits was = Some h
+commits_after h Leave Free was = was
+commits_after h Commit true was = None
+commits_after h Commit false was = was
+commits_after h op a was = was
+
+abbrev pub came_to : ℕ → (op : Op) → World → Did (Answer op) State → Did (Answer op) World
+came_to h op w Waits = Waits
+came_to h op w (Ran a s) = Ran a (record w { state = s; commits = commits_after h op a w.commits })
+came_to h op w (Stops s) = Stops (record w { state = s })
+
+abbrev pub exec : ℕ → Outside → (op : Op) → World → Did (Answer op) World
+exec h x op w = came_to h op w (steps.exec h x op w.state)

@@ -1,0 +1,116 @@
+-- The programs below of operations on whole inodes. c: the records of the inodes whose locks the hart has.
+use Rattle.std.specs.Prelude.{ℕ, Bool, true, false, Option, Some, None, is_some}
+use Rattle.atomic_programs.specs.Prog.{Prog, Ret, Do}
+use Rattle.atomic_programs.specs.Joined.{Act, Handed}
+use Rattle.plain_tree.specs.declared.answer.Cause.{Cause}
+use Rattle.plain_tree.specs.declared.answer.Cause.TheVariants as causes
+use Rattle.plain_tree.specs.declared.tree.OpenFile.{OpenFile}
+use Rattle.plain_tree.specs.Tree.{put}
+use Rattle.plain_tree.specs.Widths.{root}
+use Rattle.fs_tables.specs.declared.files.Refused.{Refused}
+use Rattle.fs_tables.specs.declared.files.Refused.TheVariants as refused
+use Rattle.fs_tables.specs.declared.files.Want.TheVariants as want
+use Rattle.fs_tables.specs.declared.slots.Doubled.{Doubled}
+use Rattle.fs_tables.specs.declared.slots.Doubled.TheVariants as doubled
+use Rattle.fs_tables.specs.declared.slots.Shut as shuts
+use Rattle.fs_tables.specs.declared.slots.Shut.TheVariants as shut
+use Rattle.fs_tables.specs.Inodes.{DroppedState, Counts, Keeps, Dies}
+use Rattle.fs_machine.specs.Steps as steps
+use Rattle.fs_machine.specs.Steps.{Whom, Number, Directory, Held, Walked}
+use Rattle.inode_machine.specs.Inodes.{Sort}
+use Rattle.inode_machine.specs.World as above
+use Rattle.inode_machine.specs.World.Op.{Give, UpStart, Up, WalkDown, Down, Slot, Install, CheckFile, Double, Shut, Settle, Say}
+use Rattle.inodes_on_tables.specs.Shown.{new_file}
+use Rattle.inodes_on_blocks.specs.Lowering.{Carry}
+
+abbrev pub Acts : Type 0
+Acts = Act above.Op above.Answer above.Mark above.Outside
+
+abbrev pub P : Type 0 → Type 0
+P A = Prog steps.Op steps.Answer Acts A
+
+abbrev pub Handler : above.Op → Type 0
+Handler op = Carry → (above.Answer op → Option above.Mark) → P (Handed (above.Answer op) Carry)
+
+-- this operation acts at the step so marked
+abbrev pub acts : (op : above.Op) → above.Outside → (above.Answer op → Option above.Mark) → Option Acts
+acts op y m = Some (record { op = op; outside = y; mark = m })
+
+-- a program of one step: its answer above, and what the hart has in hand after it
+abbrev pub one : (op : above.Op) (m : above.Answer op → Option above.Mark) (lop : steps.Op) → (steps.Answer lop → above.Answer op) → (steps.Answer lop → Carry) → P (Handed (above.Answer op) Carry)
+one op m lop answer carry = Do lop (λ a. acts op above.Room m) (λ a. Ret (record { answer = answer a; carry = carry a }))
+
+-- ---- answers
+
+abbrev pub is_kept : DroppedState → Bool
+is_kept Counts = false
+is_kept Keeps = true
+is_kept (Dies n d) = true
+
+-- the lock of an inode that is to be freed came into hand
+abbrev pub with_dying : Carry → DroppedState → Carry
+with_dying c Counts = c
+with_dying c Keeps = c
+with_dying c (Dies n d) = put c n d
+
+abbrev pub doubled_to : Doubled → Option (Option ℕ)
+doubled_to doubled.BadDescriptor = None
+doubled_to doubled.Full = Some None
+doubled_to (doubled.Gave fd) = Some (Some fd)
+
+abbrev pub shut_to : shuts.Shut → Option (Option ℕ)
+shut_to shut.BadDescriptor = None
+shut_to shut.Closed = Some None
+shut_to (shut.Last n) = Some (Some n)
+
+abbrev pub cause_of : Refused → Cause
+cause_of refused.BadDescriptor = causes.BadDescriptor
+cause_of refused.BadMode = causes.BadMode
+cause_of refused.NoDriver = causes.NoDriver
+
+abbrev pub cause_if : Option Refused → Option Cause
+cause_if None = None
+cause_if (Some why) = Some (cause_of why)
+
+-- ---- programs
+
+-- the lock goes back with the inode's record
+abbrev pub give : (n : ℕ) → Handler (Give n)
+give n c m = one (Give n) m (steps.Unlock (record { number = n; content = c n }) None) (λ a. tt) (λ a. put c n None)
+
+abbrev pub settle : (n : ℕ) → Handler (Settle n)
+settle n c m = one (Settle n) m (steps.Settle (record { number = n; content = c n })) (λ a. a) (λ a. put c n None)
+
+abbrev pub whom : Bool → Whom
+whom true = Number root
+whom false = Directory
+
+abbrev pub up_start : (absolute : Bool) → Handler (UpStart absolute)
+up_start absolute c m = one (UpStart absolute) m (steps.Up (whom absolute)) (λ a. a) (λ a. c)
+
+abbrev pub up : (n : ℕ) → Handler (Up n)
+up n c m = one (Up n) m (steps.Up (Number n)) is_some (λ a. c)
+
+abbrev pub walk_down : (n : ℕ) → Handler (WalkDown n)
+walk_down n c m = one (WalkDown n) m (steps.Down (Walked n)) is_kept (λ a. c)
+
+abbrev pub down : (n : ℕ) → Handler (Down n)
+down n c m = one (Down n) m (steps.Down (Held n)) is_kept (with_dying c)
+
+abbrev pub slot : Handler Slot
+slot c m = one Slot m steps.TakePlace (λ a. a) (λ a. c)
+
+abbrev pub install : (f : OpenFile) (sort : Sort) → Handler (Install f sort)
+install f sort c m = one (Install f sort) m (steps.TakeDescriptor f.number (new_file f sort)) (λ a. a) (λ a. c)
+
+abbrev pub double : (fd : ℕ) → Handler (Double fd)
+double fd c m = one (Double fd) m (steps.Double fd) doubled_to (λ a. c)
+
+abbrev pub close : (fd : ℕ) → Handler (Shut fd)
+close fd c m = one (Shut fd) m (steps.Close fd) shut_to (λ a. c)
+
+abbrev pub check_file : (fd : ℕ) → Handler (CheckFile fd)
+check_file fd c m = one (CheckFile fd) m (steps.CheckFile want.Write fd) cause_if (λ a. c)
+
+abbrev pub say : Handler Say
+say c m = one Say m steps.Reply (λ a. a) (λ a. c)

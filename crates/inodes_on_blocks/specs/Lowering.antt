@@ -1,0 +1,140 @@
+-- The machine below as a layer under the machine of whole inodes: what a hart has in it, and what the others leave of that.
+use Rattle.std.specs.Prelude.{◌≡◌, ◌≢◌, ℕ, List, Bool, Option, Some, None, is_some, slice_get}
+use Rattle.fs_layout.specs.declared.inode.Dinode.{Dinode}
+use Rattle.buffer_cache.specs.Lists.{count_of}
+use Rattle.buffer_cache.specs.Seats.{is_held_by, holder_of, kept, seen_in}
+use Rattle.plain_tree.specs.declared.node.Node.{Node}
+use Rattle.image_laws.specs.Holds.{HoldsAt}
+use Rattle.atomic_programs.specs.Logic.{Machine}
+use Rattle.atomic_programs.specs.Joined.{Lower}
+use Rattle.fs_tables.specs.Tables.{holder_of as lock_holder}
+use Rattle.fs_machine.specs.LogPart.{LogPart, Outside}
+use Rattle.fs_machine.specs.Steps as steps
+use Rattle.fs_machine.specs.Premises as premises
+use Rattle.inode_machine.specs.World as above
+use Rattle.inode_machine.specs.World.Op.{Take, Give, UpStart, Up, WalkDown, Down, Free, Claim, Store, Fill, Enter, Clear, Empty, Slot, Install, StatFile, ReadFile, CheckFile, JoinFile, WriteFile, Double, Shut, Settle, Lend, LendDirectory, Release, Join, Leave, Say}
+use Rattle.inode_machine.specs.Marks.{go}
+use Rattle.inode_machine.specs.Rules as rules
+use Rattle.inode_machine.specs.Rules.{if_kept, own_of, Idle, Inv}
+use Rattle.inodes_on_tables.specs.Shown as tables
+use Rattle.inodes_on_tables.specs.Shown.{loaded}
+use Rattle.inodes_on_blocks.specs.Below.{World, log_of, tables_of, disk_of, inode_in, exec}
+use Rattle.inodes_on_blocks.specs.Shown.{Shows}
+
+-- ---- what the others leave
+
+-- an inode whose lock hart h has stays as it is seen: its record, and whatever it holds
+pub record KeepsInode (h i : ℕ) (v w : World) : Type 0 where
+  pub lock : lock_holder i (tables_of w) ≡ Some h
+  pub same : inode_in (log_of w) i ≡ inode_in (log_of v) i
+  pub holds : (n : Option Node) → HoldsAt (disk_of (log_of v)) v.owner i n → HoldsAt (disk_of (log_of w)) w.owner i n
+
+-- a block as it is seen, and whether its buffer is valid
+abbrev pub buffer_in : LogPart → ℕ → List ℕ × Bool
+buffer_in l b = (seen_in l.contents l.seats b, is_some (kept b l.seats))
+
+-- nothing of hart h's changed: its locks, its buffers, its transaction, its commit
+pub record Same (h : ℕ) (v w : World) : Type 0 where
+  pub inodes : (i : ℕ) → lock_holder i (tables_of v) ≡ Some h → KeepsInode h i v w
+  pub no_more : (i : ℕ) → lock_holder i (tables_of w) ≡ Some h → lock_holder i (tables_of v) ≡ Some h
+  pub buffers : (b : ℕ) → if_kept (holder_of b (log_of w).seats) h (buffer_in (log_of w) b) ≡ if_kept (holder_of b (log_of v).seats) h (buffer_in (log_of v) b)
+  pub held : count_of (is_held_by h) (log_of w).seats ≡ count_of (is_held_by h) (log_of v).seats
+  pub member : slice_get (log_of w).members h ≡ slice_get (log_of v).members h
+  pub commit : if_kept w.commits h (log_of w).phase ≡ if_kept v.commits h (log_of v).phase
+
+-- the same of what is a hart's in the world above
+pub record Kept (h : ℕ) (v w : above.World) : Type 0 where
+  pub same : (v.desks h).lender ≡ None → own_of h w ≡ own_of h v
+  pub rests : Idle h v → Idle h w
+
+-- ---- what a hart has between two operations above
+
+-- the records of the inodes whose locks it has; None of one that it has freed
+abbrev pub Carry : Type 0
+Carry = ℕ → Option Dinode
+
+abbrev pub nothing : Carry
+nothing i = None
+
+abbrev pub IsLoaded : Option Dinode → Option Node → Dinode → Type 0
+IsLoaded None v d = v ≡ None
+IsLoaded (Some e) v d = (e ≡ d) × (v ≢ None)
+
+-- an inode whose lock it has: it keeps that above, and the blocks hold what that is above
+pub record InHand (h i : ℕ) (loaded : Option Dinode) (r : World) (w : above.World) : Type 0 where
+  pub keeps : w.keeper i ≡ Some h
+  pub loaded_is : IsLoaded loaded (w.disk i) (inode_in (log_of r) i)
+  pub holds : HoldsAt (disk_of (log_of r)) r.owner i (w.disk i)
+
+pub record Base (h : ℕ) (r : World) (w : above.World) (c : Carry) : Type 0 where
+  -- no buffer, and no commit
+  pub free : count_of (is_held_by h) (log_of r).seats ≡ 0
+  pub rests : (r.commits ≡ Some h → ⊥)
+  pub inodes : (i : ℕ) → lock_holder i (tables_of r) ≡ Some h → InHand h i (c i) r w
+  -- a hart that gets another's descriptors has nothing
+  pub lent : ((w.desks h).lender ≡ None → ⊥) → Idle h w
+
+-- what is shown of the tables, once the world has stopped
+abbrev pub Stopped : World → above.World → Type 0
+Stopped r w = tables.Shows (tables_of r) w (loaded (tables_of r))
+
+abbrev pub below : Lower above.World
+below =
+    record {
+      Op = steps.Op;
+      Answer = steps.Answer;
+      World = World;
+      Outside = Outside;
+      Honest = λ h op w x. premises.Honest h op w.state x;
+      May = λ h op w. premises.May h op w.state;
+      exec = exec;
+      MayWait = λ h op w. premises.MayWait h op w.state;
+      Shows = Shows;
+      Halted = Stopped;
+      Same = Same;
+      Kept = Kept;
+      Carry = Carry;
+      none = nothing;
+      Base = Base;
+    }
+
+-- ---- the machine above, with any history
+
+-- what a history of the calls adds to the machine; no program below knows of it
+pub record Labels : Type 1 where
+  pub Step : Type 0
+  pub Tree : Type 0
+  pub places : ℕ → (op : above.Op) → above.Answer op → Option above.Mark → above.World → List (ℕ × Step)
+  pub tree : above.World → Tree
+  pub Takes : Tree → ℕ → Step → Tree → Type 0
+  pub Others : ℕ → above.World → List Step → above.World → Type 0
+  pub Clean : above.World → Type 0
+
+abbrev pub labelled : Labels → Machine
+labelled l =
+    record {
+      Op = above.Op;
+      Answer = above.Answer;
+      Mark = above.Mark;
+      Step = l.Step;
+      World = above.World;
+      Tree = l.Tree;
+      more = rules.more;
+      Outside = above.Outside;
+      Honest = rules.Honest;
+      May = rules.May;
+      go = go;
+      places = l.places;
+      tree = l.tree;
+      Takes = l.Takes;
+      Inv = Inv;
+      Halted = Inv;
+      Others = l.Others;
+      Idle = Idle;
+      MayWait = rules.MayWait;
+      Clean = l.Clean;
+    }
+
+-- what a history says the others leave has in it what the programs below need
+abbrev pub Keeps : Labels → Type 0
+Keeps l = (h : ℕ) (v w : above.World) (xs : List l.Step) → l.Others h v xs w → Kept h v w

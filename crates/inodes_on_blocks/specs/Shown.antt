@@ -1,0 +1,48 @@
+-- What the machine below shows of the world of whole inodes, each part over the fields that it speaks of.
+use Rattle.std.specs.Prelude.{◌≡◌, ◌≢◌, ℕ, ◌<◌, List, Bool, true, Option, Some, None, IsSome, if◌then◌else◌}
+use Rattle.fs_layout.specs.declared.inode.Dinode.{Dinode}
+use Rattle.group_log.specs.declared.phase.Phase.TheVariants.{Halted}
+use Rattle.plain_tree.specs.declared.node.Node.{Node}
+use Rattle.plain_tree.specs.Widths.{hart_count}
+use Rattle.fs_machine.specs.LogPart.{LogPart}
+use Rattle.fs_machine.specs.Whole.{IsWholeLog}
+use Rattle.inode_machine.specs.World as above
+use Rattle.inode_machine.specs.World.{Desk}
+use Rattle.inode_machine.specs.Exec.{is_dead}
+use Rattle.inodes_on_tables.specs.Shown as tables
+use Rattle.inodes_on_tables.specs.Shown.{loaded}
+use Rattle.inodes_on_blocks.specs.OnBlocks.{is_joined, Ghost, AreOnBlocks}
+use Rattle.inodes_on_blocks.specs.Below.{World, log_of, tables_of, inode_in}
+
+-- ---- transactions
+
+abbrev pub MembersShow : List (Option ℕ) → (ℕ → Desk) → Type 0
+MembersShow members desks = (g : ℕ) → g < hart_count → (desks g).joined ≡ is_joined members g
+
+-- ---- inodes on the blocks
+
+-- the hart that may be changing an inode: it has the lock, and is in a transaction
+abbrev pub if_joined : (ℕ → Desk) → Option ℕ → Option ℕ
+if_joined desks None = None
+if_joined desks (Some g) = if (desks g).joined then Some g else None
+
+abbrev pub ghost_of : (ℕ → ℕ) → (ℕ → Bool) → (ℕ → Option Node) → (ℕ → Option ℕ) → (ℕ → Desk) → Ghost
+ghost_of owner left nodes lock desks = record { nodes = nodes; owner = owner; left = left; changing = λ i. if_joined desks (lock i) }
+
+-- What is loaded of an inode is as it is seen. One without links, to which a reference stands, is loaded; of one without a type
+-- nothing is.
+pub record LoadsShow (load : ℕ → Option Dinode) (l : LogPart) (refs : ℕ → ℕ) (lock : ℕ → Option ℕ) (nodes : ℕ → Option Node) : Type 0 where
+  pub seen : (n : ℕ) (d : Dinode) → load n ≡ Some d → d ≡ inode_in l n
+  pub dead : (n : ℕ) → 0 < refs n → lock n ≡ None → is_dead (nodes n) ≡ true → IsSome (load n)
+  pub typed : (n : ℕ) → nodes n ≡ None → load n ≡ None
+
+-- ---- all of it
+
+pub record Shows (r : World) (w : above.World) : Type 0 where
+  pub whole : IsWholeLog (log_of r)
+  pub runs : (log_of r).phase ≢ Halted
+  pub size : w.all.ninodes ≡ (log_of r).sizes.ninodes
+  pub tables : tables.Shows (tables_of r) w (loaded (tables_of r))
+  pub members : MembersShow (log_of r).members w.desks
+  pub blocks : AreOnBlocks (log_of r).contents (log_of r).seats (log_of r).sizes (log_of r).members (ghost_of r.owner r.left w.disk w.lock w.desks)
+  pub loads : LoadsShow (loaded (tables_of r)) (log_of r) w.refs w.lock w.disk

@@ -1,0 +1,68 @@
+//! Operations on whole inodes as programs below: each acts at one moment, whatever the other harts do.
+
+ghost use Rattle.std.specs.Prelude.{ℕ, Bool};
+ghost use Rattle.plain_tree.specs.declared.tree.OpenFile.{OpenFile};
+ghost use Rattle.inode_machine.specs.Inodes.{Sort};
+ghost use Rattle.inode_machine.specs.World.Op.{Give, UpStart, Up, WalkDown, Down, Slot, Install, CheckFile, Double, Shut, Settle, Say};
+ghost use Rattle.inodes_on_blocks.specs.Handlers.{give, settle, up_start, up, walk_down, down, slot, install, double, close, check_file, say};
+ghost use Rattle.inodes_on_blocks.specs.Acting.{DoesIt};
+
+/// A lock given back is one step, with the record that the hart has of the inode.
+pub fn gives_act_once()
+    ensures { (n : ℕ) → DoesIt (Give n) (give n) }
+{}
+
+/// And so where the inode becomes the hart's directory.
+pub fn settles_act_once()
+    ensures { (n : ℕ) → DoesIt (Settle n) (settle n) }
+{}
+
+/// A reference more to a path's start is one step.
+pub fn starts_act_once()
+    ensures { (absolute : Bool) → DoesIt (UpStart absolute) (up_start absolute) }
+{}
+
+/// A reference more to what was found is one step.
+pub fn ups_act_once()
+    ensures { (n : ℕ) → DoesIt (Up n) (up n) }
+{}
+
+/// A reference less within a walk is one step, which keeps the last one to an inode without links.
+pub fn walk_downs_act_once()
+    ensures { (n : ℕ) → DoesIt (WalkDown n) (walk_down n) }
+{}
+
+/// A reference less elsewhere is one step, which takes the lock in place of the last one.
+pub fn downs_act_once()
+    ensures { (n : ℕ) → DoesIt (Down n) (down n) }
+{}
+
+/// A place taken for an open file is one step.
+pub fn slots_act_once()
+    ensures { DoesIt Slot slot }
+{}
+
+/// A file opened by the lowest free descriptor is one step.
+pub fn installs_act_once()
+    ensures { (f : OpenFile) (sort : Sort) → DoesIt (Install f sort) (install f sort) }
+{}
+
+/// A descriptor doubled is one step.
+pub fn doubles_act_once()
+    ensures { (fd : ℕ) → DoesIt (Double fd) (double fd) }
+{}
+
+/// A descriptor shut is one step.
+pub fn closes_act_once()
+    ensures { (fd : ℕ) → DoesIt (Shut fd) (close fd) }
+{}
+
+/// Whether a descriptor may be written is one step.
+pub fn checks_act_once()
+    ensures { (fd : ℕ) → DoesIt (CheckFile fd) (check_file fd) }
+{}
+
+/// A reply is one step.
+pub fn replies_act_once()
+    ensures { DoesIt Say say }
+{}
