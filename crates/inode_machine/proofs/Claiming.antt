@@ -1,9 +1,10 @@
 -- A new inode: claimed, and its count and its entries stored; and what a call takes back where it finds no room.
-use Rattle.std.proofs.Common.{◌≡◌, ◌≢◌, inl, inr, ℕ, ◌+◌, ◌<◌, ◌≤◌, Bool, true, false, ◌==◌, nat_lt, List, [], Option, Some, None, refl, sym, ◌∙◌, ap, subst, arith, if◌then◌else◌}
+use Rattle.std.proofs.Common.{◌≡◌, ◌≢◌, ◌⊎◌, inl, inr, ℕ, ◌+◌, ◌<◌, ◌≤◌, Bool, true, false, ◌==◌, nat_lt, List, [], Option, Some, None, refl, sym, ◌∙◌, ap, subst, arith, if◌then◌else◌}
 use Rattle.atomic_programs.specs.Prog.{Do, Ran, unmarked}
 use Rattle.atomic_programs.specs.Logic.{P, own, onto, Good, Fine, Safe, Wp}
 use Rattle.plain_tree.specs.declared.node.Node.{Node}
-use Rattle.plain_tree.specs.Widths.{hart_count}
+use Rattle.plain_tree.specs.declared.node.Kind.TheVariants.{Directory}
+use Rattle.plain_tree.specs.Widths.{count_limit, hart_count}
 use Rattle.plain_tree.specs.Tree.{put, settle}
 use Rattle.plain_tree.specs.Steps.{node_or}
 use Rattle.tree_laws.specs.WellFormed.{sum_below}
@@ -18,7 +19,7 @@ use Rattle.inode_machine.specs.Rules.{Own, shop_of, own_names, Held, view, is_ha
 use Rattle.inode_machine.specs.Parts.{mends_if_full}
 use Rattle.inode_machine.specs.Opening.{mends_unless_new}
 use Rattle.inode_machine.proofs.Frame.{shop_same, put_elim, ours_none, ours_some, kept_here, Did, Fair, fair, own_inodes, has_inode, found_more, one_refs, refers_put}
-use Rattle.inode_machine.proofs.Rules.{opens_slots, s-owned, quiet, each_refs, here_refs, walks_refs, total_same, total_changed, my_refs, has_disk, locks_it}
+use Rattle.inode_machine.proofs.Rules.{opens_slots, s-owned, quiet, each_refs, here_refs, walks_refs, total_same, total_changed, my_refs, has_disk, locks_it, has_node}
 use Rattle.inode_machine.proofs.Counting.{writes}
 use Rattle.inode_machine.proofs.Rows.{unlive}
 use Rattle.inode_machine.proofs.Looks.{spoilt, KeepsHold, mends}
@@ -223,11 +224,11 @@ s-claim {A} {h} sort {k} {B} {Q} {n} {es} {w} {O} owns free lt pos joined can th
 -- A record of an inode that the hart has locked.
 
 pub s-store : {A : Type 0} {h : ℕ} (i c : ℕ) {x : Held} (y : Node) {k : Unit {0} → P machine A} {B : List Step → Type 0} {Q : A → List Step → World → Type 0} {n : ℕ} {es : List Step} {w : World} {O : Own}
-    → own_of h w ≡ O → O.desk.lender ≡ None → h < hart_count → 2 < n → O.desk.joined ≡ true → O.inodes i ≡ Some x → x.locked ≡ true → x.disk ≡ Some y
+    → own_of h w ≡ O → O.desk.lender ≡ None → h < hart_count → 2 < n → O.desk.joined ≡ true → O.inodes i ≡ Some x → x.locked ≡ true → x.disk ≡ Some y → ((c ≤ count_limit) ⊎ (c ≤ y.count))
     → ((l : ℕ) (u : World) → l + 3 ≡ n → own_of h u ≡ record O { inodes = put O.inodes i (Some (record x { disk = Some (with_count c y) })) } → Safe machine h B Q (k tt) l es u)
     → Safe machine h B Q (Do (Store i c) unmarked k) n es w
-s-store {A} {h} i c {x} y {k} {B} {Q} {n} {es} {w} {O} owns free lt pos joined isi has disk rest = s-owned owns free pos (λ v inv ov. (
-  ((locks_it h i v O x ov isi has, ap (λ (o : Own). o.desk.joined) ov ∙ joined), record { node = y; is = has_disk h i v O x ov isi ∙ disk; fits = tt }),
+s-store {A} {h} i c {x} y {k} {B} {Q} {n} {es} {w} {O} owns free lt pos joined isi has disk count rest = s-owned owns free pos (λ v inv ov. (
+  ((locks_it h i v O x ov isi has, ap (λ (o : Own). o.desk.joined) ov ∙ joined), record { node = y; is = has_disk h i v O x ov isi ∙ disk; fits = count }),
   (λ _ _.
       let wr = writes h i (Some (with_count c y)) x O v free lt joined inv ov isi in
       subst (λ (z : Option Node). Fine machine h [] 2 n B es v (record v { disk = put v.disk i (Some (with_count c (node_or z))) }) (λ l. Wp machine h B Q (k tt) l es (record v { disk = put v.disk i (Some (with_count c (node_or z))) }))) (sym (has_disk h i v O x ov isi ∙ disk))
@@ -235,12 +236,12 @@ s-store {A} {h} i c {x} y {k} {B} {Q} {n} {es} {w} {O} owns free lt pos joined i
 ))
 
 pub s-fill : {A : Type 0} {h : ℕ} (i d : ℕ) {x : Held} (y : Node) {k : Bool → P machine A} {B : List Step → Type 0} {Q : A → List Step → World → Type 0} {n : ℕ} {es : List Step} {w : World} {O : Own}
-    → own_of h w ≡ O → O.desk.lender ≡ None → h < hart_count → 12 < n → O.desk.joined ≡ true → O.inodes i ≡ Some x → x.locked ≡ true → x.disk ≡ Some y → Mendable O
+    → own_of h w ≡ O → O.desk.lender ≡ None → h < hart_count → 12 < n → O.desk.joined ≡ true → O.inodes i ≡ Some x → x.locked ≡ true → x.disk ≡ Some y → y.kind ≡ Directory [] → (z : Held) (Z : Node) → O.inodes d ≡ Some z → z.node ≡ Some Z → Mendable O
     → ((l : ℕ) (u : World) → l + 13 ≡ n → own_of h u ≡ record O { inodes = put O.inodes i (Some (record x { disk = Some (with_dots i d y) })) } → Safe machine h B Q (k true) l es u)
     → ((l : ℕ) (u : World) → l + 13 ≡ n → own_of h u ≡ mended_own O → Safe machine h B Q (k false) l es u)
     → Safe machine h B Q (Do (Fill i d) mends_if_full k) n es w
-s-fill {A} {h} i d {x} y {k} {B} {Q} {n} {es} {w} {O} owns free lt pos joined isi has disk can rest full = s-owned owns free pos (λ v inv ov. (
-  (locks_it h i v O x ov isi has, ap (λ (o : Own). o.desk.joined) ov ∙ joined),
+s-fill {A} {h} i d {x} y {k} {B} {Q} {n} {es} {w} {O} owns free lt pos joined isi has disk empty z Z isd node can rest full = s-owned owns free pos (λ v inv ov. (
+  ((locks_it h i v O x ov isi has, ap (λ (o : Own). o.desk.joined) ov ∙ joined), record { node = y; is = has_disk h i v O x ov isi ∙ disk; fits = empty }, inv.well.range d Z (has_node h d v O z ov isd ∙ node)),
   (λ o _. at v inv ov o),
 ))
   where

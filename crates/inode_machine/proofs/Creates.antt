@@ -8,13 +8,14 @@ use Rattle.plain_tree.specs.declared.node.Node.{Node}
 use Rattle.plain_tree.specs.declared.step.Action.TheVariants.{Open}
 use Rattle.plain_tree.specs.declared.step.StepAnswer.TheVariants.{Opened, Full as NoRoom}
 use Rattle.plain_tree.specs.Widths.{hart_count, descriptor_count}
-use Rattle.plain_tree.specs.Tree.{Name, Tree, put, look, live_directory, settle}
+use Rattle.plain_tree.specs.Tree.{Name, Tree, put, look, live_directory, settle, is_directory}
 use Rattle.plain_tree.specs.Steps.{node_or, with_nodes, new_file, IsNewNode, creates, has_room, lowest, refusal_with, effect_with, answer_with, is_absent, place_of, IsInPlace}
 use Rattle.plain_tree.specs.HartRow.{key_is}
 use Rattle.tree_laws.specs.WellFormed.{IsWellFormed}
 use Rattle.tree_laws.proofs.Walks.{look_same}
 use Rattle.tree_laws.proofs.Formed.{well_file}
 use Rattle.tree_laws.proofs.Kept.{absent_slot}
+use Rattle.tree_laws.proofs.Maps.{and_true}
 use Rattle.tree_moves.specs.Moves.{Walk, Step}
 use Rattle.tree_moves.specs.Moves.Move.{Look}
 use Rattle.inode_machine.specs.World.{Note, World, Mark, Entered, InPlace, NoBlock, NoSlot}
@@ -85,7 +86,7 @@ pub s-enter-file : {A : Type 0} {h : ℕ} (d i : ℕ) {x z : Held} (X : Node) (e
     → ((l : ℕ) (u : World) → l + 1641 ≡ n → own_of h u ≡ mended_own O → Safe machine h B Q (k NoSlot) l es u)
     → Safe machine h B Q (Do (Enter d e i) m k) n es w
 s-enter-file {A} {h} d i {x} {z} X e path flags {m} {k} {B} {Q} {n} {es} {w} {O} owns free lt pos joined walks none can flag in_place block slot isd xd xn shared locked live finds isi lone locked2 blank refers from below notes b then_ full no_block no_slot =
-    s-enter-with d i X e owns free lt pos joined isd xd locked can block slot (λ v inv ov. subst (λ (o : Option Mark). EnterFine h d e i o n B Q es v (record v { disk = put v.disk d (Some (with_entry e i X)) }) (k InPlace)) (sym in_place) (by_room v inv ov (has_room (v.all.fds h)) refl)) no_block no_slot
+    s-enter-with d i X e owns free lt pos joined isd xd locked (and_true (nat_lt 0 X.count) (is_directory X.kind) live).1 from below can block slot (λ v inv ov. subst (λ (o : Option Mark). EnterFine h d e i o n B Q es v (record v { disk = put v.disk d (Some (with_entry e i X)) }) (k InPlace)) (sym in_place) (by_room v inv ov (has_room (v.all.fds h)) refl)) no_block no_slot
   where
     u1 : World → World
     u1 v = record v { disk = put v.disk d (Some (with_entry e i X)) }

@@ -7,10 +7,10 @@ use Rattle.plain_tree.specs.declared.node.Node.{Node}
 use Rattle.plain_tree.specs.declared.step.Action.TheVariants.{Mkdir}
 use Rattle.plain_tree.specs.declared.step.StepAnswer.TheVariants.{Done}
 use Rattle.plain_tree.specs.Widths.{hart_count, count_limit}
-use Rattle.plain_tree.specs.Tree.{Name, Tree, put, look, live_directory, settle}
+use Rattle.plain_tree.specs.Tree.{Name, Tree, put, look, is_directory, live_directory, settle}
 use Rattle.plain_tree.specs.Steps.{node_or, node_at, with_nodes, raised, new_directory, IsNewNode, refusal_with, effect_with, answer_with, place_of, IsInPlace}
 use Rattle.tree_laws.specs.WellFormed.{IsWellFormed}
-use Rattle.tree_laws.proofs.Maps.{put_same, put_other}
+use Rattle.tree_laws.proofs.Maps.{and_true, put_same, put_other}
 use Rattle.tree_laws.proofs.Walks.{look_same}
 use Rattle.tree_laws.proofs.Kept.{effect_well}
 use Rattle.tree_moves.specs.Moves.{Step}
@@ -33,13 +33,13 @@ abbrev pub EnterFine : {A : Type 0} → ℕ → ℕ → Name → ℕ → Option 
 EnterFine h d e i m n B Q es v u p = Fine machine h (places h (Enter d e i) InPlace m v) 1640 n B es v (marked h m u) (λ l. Wp machine h B Q p l (onto (own h (places h (Enter d e i) InPlace m v)) es) (marked h m u))
 
 pub s-enter-with : {A : Type 0} {h : ℕ} (d i : ℕ) {x : Held} (X : Node) (e : Name) {m : Entered → Option Mark} {k : Entered → P machine A} {B : List Step → Type 0} {Q : A → List Step → World → Type 0} {n : ℕ} {es : List Step} {w : World} {O : Own}
-    → own_of h w ≡ O → O.desk.lender ≡ None → h < hart_count → 1640 < n → O.desk.joined ≡ true → O.inodes d ≡ Some x → x.disk ≡ Some X → x.locked ≡ true → Mendable O → m NoBlock ≡ Some Mends → m NoSlot ≡ Some Mends
+    → own_of h w ≡ O → O.desk.lender ≡ None → h < hart_count → 1640 < n → O.desk.joined ≡ true → O.inodes d ≡ Some x → x.disk ≡ Some X → x.locked ≡ true → is_directory X.kind ≡ true → 1 ≤ i → i < O.ninodes → Mendable O → m NoBlock ≡ Some Mends → m NoSlot ≡ Some Mends
     → ((v : World) → Inv v → own_of h v ≡ O → EnterFine h d e i (m InPlace) n B Q es v (record v { disk = put v.disk d (Some (with_entry e i X)) }) (k InPlace))
     → ((l : ℕ) (u : World) → l + 1641 ≡ n → own_of h u ≡ mended_own O → Safe machine h B Q (k NoBlock) l es u)
     → ((l : ℕ) (u : World) → l + 1641 ≡ n → own_of h u ≡ mended_own O → Safe machine h B Q (k NoSlot) l es u)
     → Safe machine h B Q (Do (Enter d e i) m k) n es w
-s-enter-with {A} {h} d i {x} X e {m} {k} {B} {Q} {n} {es} {w} {O} owns free lt pos joined isd xd locked can block slot good no_block no_slot = s-owned owns free pos (λ v inv ov. (
-  (locks_it h d v O x ov isd locked, ap (λ (o : Own). o.desk.joined) ov ∙ joined),
+s-enter-with {A} {h} d i {x} X e {m} {k} {B} {Q} {n} {es} {w} {O} owns free lt pos joined isd xd locked kind from below can block slot good no_block no_slot = s-owned owns free pos (λ v inv ov. (
+  ((locks_it h d v O x ov isd locked, ap (λ (o : Own). o.desk.joined) ov ∙ joined), record { node = X; is = has_disk h d v O x ov isd ∙ xd; fits = kind }, (from, (let s : v.all.ninodes ≡ O.ninodes = ap (λ (o : Own). o.ninodes) ov in omega (arith, s, below)))),
   (λ o _. by_slots v inv ov o (is_full_directory (v.disk d))),
 ))
   where
@@ -114,7 +114,7 @@ pub s-enter-directory : {A : Type 0} {h : ℕ} (d i : ℕ) {x z : Held} (X : Nod
     → ((l : ℕ) (u : World) → l + 1641 ≡ n → own_of h u ≡ mended_own O → Safe machine h B Q (k NoSlot) l es u)
     → Safe machine h B Q (Do (Enter d e i) m k) n es w
 s-enter-directory {A} {h} d i {x} {z} X e path {m} {k} {B} {Q} {n} {es} {w} {O} owns free lt pos joined walks none can in_place block slot isd xd xn shared locked live finds few isi lone locked2 blank from below notes b then_ no_block no_slot =
-    s-enter-with d i X e owns free lt pos joined isd xd locked can block slot (λ v inv ov. subst (λ (o : Option Mark). EnterFine h d e i o n B Q es v (record v { disk = put v.disk d (Some (with_entry e i X)) }) (k InPlace)) (sym in_place) (good v inv ov)) no_block no_slot
+    s-enter-with d i X e owns free lt pos joined isd xd locked (and_true (nat_lt 0 X.count) (is_directory X.kind) live).1 from below can block slot (λ v inv ov. subst (λ (o : Option Mark). EnterFine h d e i o n B Q es v (record v { disk = put v.disk d (Some (with_entry e i X)) }) (k InPlace)) (sym in_place) (good v inv ov)) no_block no_slot
   where
     good : (v : World) → Inv v → own_of h v ≡ O → EnterFine h d e i (makes (Look i)) n B Q es v (record v { disk = put v.disk d (Some (with_entry e i X)) }) (k InPlace)
     good v inv ov =

@@ -241,7 +241,7 @@ module _ (h : ℕ) (path : List ℕ) (flags : ℕ) (lt : h < hart_count) (plain 
       → live_directory (Some X) ≡ true → look (λ j. Some X) d e ≡ None → 1 ≤ i → i < R.ninodes → ((t : Note) → R.desk.noted ≡ Some t → t.number ≢ i) → Walked (calls.Open path flags) [] fs → Goes h path flags (make_with path flags d e ns (New i)) l fs u
   makes_file d e X i l fs u R flag few held p zero walk none live absent from below notes walking =
       s-take-kept held free lt (omega (arith, few)) (p.hold.has i (claimed_held OfFile) p.at_i) refl refers (λ l1 u1 q1 held1.
-      s-store i 1 (blank OfFile) held1 free lt (omega (arith, few, q1)) joined (put_same R.inodes i (Some (fresh_held (blank OfFile)))) refl refl (λ l2 u2 q2 held2.
+      s-store i 1 (blank OfFile) held1 free lt (omega (arith, few, q1)) joined (put_same R.inodes i (Some (fresh_held (blank OfFile)))) refl refl (inl (omega arith)) (λ l2 u2 q2 held2.
       s-enter-file d i X e path flags held2 free lt (omega (arith, few, q1, q2)) joined walk none (mendable joins.ready p2.hold) flag refl refl refl
       (p2.hold.has d (locked_held (Some X)) p2.at_d) refl refl refl refl live absent (p2.hold.has i (fresh_held new_file) p2.at_i) refl refl refl refers from below notes
       (λ fd id. begun_by (calls.Open path flags) (act fd id ∷ []) (told_step i (steps.Open path flags) (Opened fd id true) ∷ fs) [] (opened_reply path flags fd) (told fd id) (opened_ends path flags fd id plain))

@@ -33,6 +33,7 @@ use Rattle.inode_machine.proofs.Looks.{live_face, Agrees}
 use Rattle.inode_machine.proofs.Freeing.{s-take-kept}
 use Rattle.inode_machine.proofs.Listing.{one_at}
 use Rattle.inode_machine.proofs.Walks.{On, stays_same}
+use Rattle.inode_machine.proofs.Tables.{less_is}
 use Rattle.inode_machine.proofs.Claiming.{claimed_held, mended_own, s-claim, s-fill, s-store}
 use Rattle.inode_machine.proofs.Acting.{told_step}
 use Rattle.inode_machine.proofs.Enters.{mkdir_place, s-enter-directory}
@@ -119,10 +120,10 @@ module _ (h : ℕ) (path : List ℕ) (lt : h < hart_count) {base : ℕ → ℕ} 
       s-give-end h (calls.Mkdir path) r ns (put nothing d (Some (locked_held x))) d n es w R lt joins held few k (put_same nothing d (Some (locked_held x))) (record { locked = refl; shared = refl; same = refl }) (λ i ne. put_other nothing d (Some (locked_held x)) i ne) walk none told
 
   -- The name is there: the parent's count is stored, and both are given up.
-  named : (X : Node) (i l : ℕ) (es : List Step) (u : World) (R : Own) → 971 * length ns + 1890 < l → own_of h u ≡ R → Pair base ns O0 R d i (record (locked_held (Some X)) { disk = Some (with_entry e i X); node = Some (raised (with_entry e i X)) }) (locked_held (Some (new_directory i d))) → R.mine.walk ≡ None → R.mine.pending ≡ None → Told (calls.Mkdir path) (done (calls.Mkdir path)) es R
+  named : (X : Node) (i l : ℕ) (es : List Step) (u : World) (R : Own) → 971 * length ns + 1890 < l → own_of h u ≡ R → Pair base ns O0 R d i (record (locked_held (Some X)) { disk = Some (with_entry e i X); node = Some (raised (with_entry e i X)) }) (locked_held (Some (new_directory i d))) → nat_lt X.count count_limit ≡ true → R.mine.walk ≡ None → R.mine.pending ≡ None → Told (calls.Mkdir path) (done (calls.Mkdir path)) es R
       → Goes h path (name_directory path d (face_or (face_of (Some X))) i ns InPlace) l es u
-  named X i l es u R few held p walk none told =
-      s-store d (X.count + 1) (with_entry e i X) held (p.hold.stays.lender ∙ joins.ready.free) lt (omega (arith, few)) (p.hold.stays.joined ∙ joins.ready.joined) (p.hold.has d _ p.at_d) refl refl (λ l2 u2 q2 held2.
+  named X i l es u R few held p room walk none told =
+      s-store d (X.count + 1) (with_entry e i X) held (p.hold.stays.lender ∙ joins.ready.free) lt (omega (arith, few)) (p.hold.stays.joined ∙ joins.ready.joined) (p.hold.has d _ p.at_d) refl refl (inl (let a = less_is X.count count_limit room in omega (arith, a))) (λ l2 u2 q2 held2.
       s-end-pair h (calls.Mkdir path) (done (calls.Mkdir path)) l2 es u2 _ lt joins held2 (omega (arith, few, q2))
       (pair_set_first (record R { inodes = put R.inodes d (Some (locked_held (Some (raised (with_entry e i X))))) }) (locked_held (Some (raised (with_entry e i X)))) p refl refl refl refl refl)
       (record { locked = refl; shared = refl; same = refl }) (record { locked = refl; shared = refl; same = refl }) walk none told)
@@ -138,7 +139,7 @@ module _ (h : ℕ) (path : List ℕ) (lt : h < hart_count) {base : ℕ → ℕ} 
       (λ l2 u2 q2 held2. named X i l2 (told_step i (Mkdir path) Done ∷ fs) u2 _ (omega (arith, few, q2)) held2
       (pair_set (record R { inodes = put (put R.inodes d (Some D)) i (Some (locked_held (Some (new_directory i d)))); mine = record { refs = R.mine.refs; walk = None; pending = None } }) (locked_held (Some (new_directory i d)))
       (pair_set_first (record R { inodes = put R.inodes d (Some D) }) D p refl refl refl refl refl) refl refl refl refl refl)
-      refl refl (inr (written_by (calls.Mkdir path) (act ∷ []) (told_step i (Mkdir path) Done ∷ fs) (done (calls.Mkdir path)) told (done_ends path))))
+      room refl refl (inr (written_by (calls.Mkdir path) (act ∷ []) (told_step i (Mkdir path) Done ∷ fs) (done (calls.Mkdir path)) told (done_ends path))))
       (λ l2 u2 q2 held2. unmade (full (calls.Mkdir path) Blocks) l2 u2 (omega (arith, few, q2)) held2)
       (λ l2 u2 q2 held2. unmade (full (calls.Mkdir path) DirectoryFull) l2 u2 (omega (arith, few, q2)) held2)
     where
@@ -161,8 +162,8 @@ module _ (h : ℕ) (path : List ℕ) (lt : h < hart_count) {base : ℕ → ℕ} 
       → Goes h path (mkdir_with path d e ns (face_or (face_of (Some X))) (New i)) l fs u
   makes X i l fs u R few held p zero walk none live absent room from below notes walking =
       s-take-kept held free lt (omega (arith, few)) (p.hold.has i (claimed_held OfDirectory) p.at_i) refl (let f = p.hold.refs i in let o = one_at i in omega (arith, f, o)) (λ l1 u1 q1 held1.
-      s-store i 1 (blank OfDirectory) held1 free lt (omega (arith, few, q1)) joined (put_same R.inodes i (Some (fresh_held (blank OfDirectory)))) refl refl (λ l2 u2 q2 held2.
-      s-fill i d (with_count 1 (blank OfDirectory)) held2 free lt (omega (arith, few, q1, q2)) joined (put_same (put R.inodes i (Some (fresh_held (blank OfDirectory)))) i (Some (fresh_held (with_count 1 (blank OfDirectory))))) refl refl (mendable joins.ready p2.hold)
+      s-store i 1 (blank OfDirectory) held1 free lt (omega (arith, few, q1)) joined (put_same R.inodes i (Some (fresh_held (blank OfDirectory)))) refl refl (inl (omega arith)) (λ l2 u2 q2 held2.
+      s-fill i d (with_count 1 (blank OfDirectory)) held2 free lt (omega (arith, few, q1, q2)) joined (put_same (put R.inodes i (Some (fresh_held (blank OfDirectory)))) i (Some (fresh_held (with_count 1 (blank OfDirectory))))) refl refl refl (locked_held (Some X)) X (p2.hold.has d (locked_held (Some X)) p2.at_d) refl (mendable joins.ready p2.hold)
       (λ l3 u3 q3 held3. enters X i l3 fs u3 _ (omega (arith, few, q1, q2, q3)) held3 (pair_set _ (fresh_held (with_dots i d (with_count 1 (blank OfDirectory)))) p2 refl refl refl refl refl) zero walk none live absent room from below notes walking)
       (λ l3 u3 q3 held3. s-unmake h (calls.Mkdir path) (full (calls.Mkdir path) Blocks) (with_count 1 (blank OfDirectory)) l3 fs u3 _ lt joins held3 (omega (arith, few, q1, q2, q3)) (pair_same (mended_own R2) p2 refl refl (stays_mended (mended_own R2) joins.ready p2.hold.stays refl refl refl)) (record { locked = refl; shared = refl; same = refl }) refl refl refl refl zero refl refl (inl refl))))
     where

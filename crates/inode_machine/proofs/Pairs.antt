@@ -140,7 +140,7 @@ pub s-unmake : (h : ℕ) (c : Call) (r : Reply) {base : ℕ → ℕ} {ns : List 
     → O.mine.walk ≡ None → O.mine.pending ≡ None → Told c r es O
     → Safe machine h (Begun covered_calls c) (Ends covered_calls h c) (unmake i d ns r) n es w
 s-unmake h c r {base} {ns} {O0} {d} {i} {x} {z} y n es w O lt joins owns few p whole disk node lone has zero walk none told =
-    s-store i 0 y owns free lt (omega (arith, few)) joined (p.hold.has i z p.at_i) has disk (λ l1 u1 q1 own1.
+    s-store i 0 y owns free lt (omega (arith, few)) joined (p.hold.has i z p.at_i) has disk (inl (omega arith)) (λ l1 u1 q1 own1.
     s-give-alone own1 free lt (omega (arith, few, q1)) (put_same O.inodes i (Some y1)) has lone (λ l2 u2 q2 own2.
     s-down-kept (with_count 0 y) own2 free lt (omega (arith, few, q1, q2)) (put_same (put O.inodes i (Some y1)) i (Some y2)) lone refl refl refl one unnamed (λ l3 u3 q3 own3.
     s-free own3 free lt (omega (arith, few, q1, q2, q3)) joined (put_same (put (put O.inodes i (Some y1)) i (Some y2)) i (Some y3)) refl lone unnamed none (λ l4 u4 q4 own4.

@@ -189,7 +189,7 @@ module _ (h : ℕ) (path : List ℕ) (lt : h < hart_count) {base : ℕ → ℕ} 
           → Goes h path (give_up d (Do (Store n (Z.count - 1)) unmarked (λ _. give_up n (tail ns (done (calls.Unlink path)))))) l2 es u
       given G l2 u R2 few2 own2 desk2 walk2 none2 k2 isd whole isn rest =
           s-give-up d {more = λ i. 0 + one_if (n == i)} own2 lt joins.ready (omega (arith, few2)) k2 walk2 none2 isd whole (λ l3 u3 R3 q3 own3 desk3 walk3 none3 k3.
-          s-store n (Z.count - 1) Z own3 (k3.stays.lender ∙ joins.ready.free) lt (omega (arith, few2, q3)) (k3.stays.joined ∙ joins.ready.joined) (k3.has n (record (locked_held (Some Z)) { node = Some (lowered Z) }) (put_other G d None n ne ∙ isn)) refl refl (λ l4 u4 q4 own4.
+          s-store n (Z.count - 1) Z own3 (k3.stays.lender ∙ joins.ready.free) lt (omega (arith, few2, q3)) (k3.stays.joined ∙ joins.ready.joined) (k3.has n (record (locked_held (Some Z)) { node = Some (lowered Z) }) (put_other G d None n ne ∙ isn)) refl refl (inr (omega arith)) (λ l4 u4 q4 own4.
           s-give-end h (calls.Unlink path) (done (calls.Unlink path)) ns (put (put G d None) n (Some (locked_held (Some (lowered Z))))) n l4 es u4 _ lt joins own4 (omega (arith, few2, q3, q4))
           (holding_set (record R3 { inodes = put R3.inodes n (Some (locked_held (Some (lowered Z)))) }) n (Some (locked_held (Some (lowered Z)))) (λ i. 0 + one_if (n == i)) k3 (unlisted_refs k3 n (let o = one_at n in omega (arith, o))) refl (stays_same _ R3 O0 refl refl refl k3.stays) (λ i q. refl) (λ i. k3.refs i))
           (put_same (put G d None) n (Some (locked_held (Some (lowered Z))))) (record { locked = refl; shared = refl; same = refl })
@@ -199,7 +199,7 @@ module _ (h : ℕ) (path : List ℕ) (lt : h < hart_count) {base : ℕ → ℕ} 
       by_sort : (b : Bool) → b ≡ is_directory Z.kind → Goes h path (if b then Do (Store d (X.count - 1)) unmarked (λ _. give_up d (Do (Store n (Z.count - 1)) unmarked (λ _. give_up n (tail ns (done (calls.Unlink path)))))) else give_up d (Do (Store n (Z.count - 1)) unmarked (λ _. give_up n (tail ns (done (calls.Unlink path)))))) l es w
       by_sort false q = given F l w R (omega (arith, few)) held refl walk none k at_d (record { locked = refl; shared = refl; same = λ z. Some (record { kind = (without_entry e X).kind; count = if q z then X.count - 1 else X.count }) }) at_n others
       by_sort true q =
-          s-store d (X.count - 1) (without_entry e X) held (k.stays.lender ∙ joins.ready.free) lt (omega (arith, few)) (k.stays.joined ∙ joins.ready.joined) (k.has d _ at_d) refl refl (λ l2 u2 q2 own2.
+          s-store d (X.count - 1) (without_entry e X) held (k.stays.lender ∙ joins.ready.free) lt (omega (arith, few)) (k.stays.joined ∙ joins.ready.joined) (k.has d _ at_d) refl refl (inr (omega arith)) (λ l2 u2 q2 own2.
           given (put F d (Some (record (locked_held (Some X)) { disk = Some (with_count (X.count - 1) (without_entry e X)); node = Some (less X Z e) }))) l2 u2 _ (omega (arith, few, q2)) own2 refl walk none
           (holding_set (record R { inodes = put R.inodes d (Some (record (locked_held (Some X)) { disk = Some (with_count (X.count - 1) (without_entry e X)); node = Some (less X Z e) })) }) d (Some (record (locked_held (Some X)) { disk = Some (with_count (X.count - 1) (without_entry e X)); node = Some (less X Z e) })) (λ i. (0 + one_if (n == i)) + one_if (d == i)) k
           (unlisted_refs k d (let o = one_at d in omega (arith, o))) refl (stays_same _ R O0 refl refl refl k.stays) (λ i z. refl) (λ i. k.refs i))

@@ -2,9 +2,10 @@
 use Rattle.std.specs.Prelude.{◌≡◌, ◌≢◌, ◌⊎◌, ℕ, ◌+◌, ◌<◌, ◌≤◌, Bool, true, false, ◌||◌, List, [], length, ◌==◌, if◌then◌else◌, Option, Some, None, IsSome}
 use Rattle.plain_tree.specs.declared.node.Node.{Node}
 use Rattle.plain_tree.specs.declared.tree.OpenFile.{OpenFile}
-use Rattle.plain_tree.specs.Widths.{hart_count, descriptor_count, piece_width}
+use Rattle.plain_tree.specs.declared.node.Kind.TheVariants.{Directory}
+use Rattle.plain_tree.specs.Widths.{hart_count, descriptor_count, piece_width, count_limit}
 use Rattle.plain_tree.specs.Steps.{is_file}
-use Rattle.plain_tree.specs.Tree.{Name, hold_names, is_live, look}
+use Rattle.plain_tree.specs.Tree.{Name, hold_names, is_directory, is_live, look}
 use Rattle.plain_tree.specs.HartRow.{Key, Row, row_of, key_names}
 use Rattle.tree_laws.specs.WellFormed.{sum_below, one_if, IsWellFormed}
 use Rattle.tree_moves.specs.Moves.{Walk}
@@ -275,6 +276,10 @@ pub record HasRecord (n : ℕ) (w : World) (P : Node → Type 0) : Type 0 where
   pub is : w.disk n ≡ Some node
   pub fits : P node
 
+-- an inode's number
+abbrev pub IsNumber : ℕ → World → Type 0
+IsNumber n w = (1 ≤ n) × (n < w.all.ninodes)
+
 -- a descriptor is open to write, of this inode
 pub record Writes (h fd n : ℕ) (w : World) : Type 0 where
   pub entry : Entry
@@ -291,9 +296,9 @@ Asks h (WalkDown n) w = Spares h n w × (w.lock n ≢ Some h)
 Asks h (Down n) w = Spares h n w × (w.lock n ≢ Some h)
 Asks h (Free n) w = Changes h n w
 Asks h (Claim sort) w = (w.desks h).joined ≡ true
-Asks h (Store n count) w = Changes h n w × HasRecord n w (λ v. Unit {0})
-Asks h (Fill n d) w = Changes h n w
-Asks h (Enter d e n) w = Changes h d w
+Asks h (Store n count) w = Changes h n w × HasRecord n w (λ v. (count ≤ count_limit) ⊎ (count ≤ v.count))
+Asks h (Fill n d) w = Changes h n w × HasRecord n w (λ v. v.kind ≡ Directory []) × IsNumber d w
+Asks h (Enter d e n) w = Changes h d w × HasRecord d w (λ v. is_directory v.kind ≡ true) × IsNumber n w
 Asks h (Clear d e) w = Changes h d w × HasRecord d w (λ v. IsSome (look (λ i. Some v) d e))
 Asks h (Empty n) w = Changes h n w × HasRecord n w (λ v. is_file v.kind ≡ true)
 Asks h Slot w = (w.desks h).hand ≡ None
