@@ -9,6 +9,7 @@ mod images;
 mod locks;
 mod logs;
 mod records;
+mod tables;
 mod trees;
 mod workload;
 

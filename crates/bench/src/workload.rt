@@ -1,5 +1,5 @@
 //! What is measured.
-use crate::{buffers, checks, devices, images, locks, logs, records, trees};
+use crate::{buffers, checks, devices, images, locks, logs, records, tables, trees};
 use block_device::Fault;
 use std::alloc::{AllocError, Global};
 use thiserror::Error;
@@ -31,6 +31,8 @@ pub enum Workload {
     BitSet,
     BitTest,
     LockUnlock,
+    InodeLock,
+    ReferenceUp,
     BufferGet,
     BufferGetMostRecent,
     CommitThree,
@@ -42,7 +44,7 @@ pub enum Workload {
 }
 
 /// All of them, in the order in which they run.
-pub const ALL: [Workload; 16] = [
+pub const ALL: [Workload; 18] = [
     Workload::DeviceRead,
     Workload::InodeRead,
     Workload::InodeWrite,
@@ -51,6 +53,8 @@ pub const ALL: [Workload; 16] = [
     Workload::BitSet,
     Workload::BitTest,
     Workload::LockUnlock,
+    Workload::InodeLock,
+    Workload::ReferenceUp,
     Workload::BufferGet,
     Workload::BufferGetMostRecent,
     Workload::CommitThree,
@@ -72,6 +76,8 @@ impl Workload {
             Workload::BitSet => "bit_set",
             Workload::BitTest => "bit_test",
             Workload::LockUnlock => "lock_and_unlock",
+            Workload::InodeLock => "inode_lock_and_unlock",
+            Workload::ReferenceUp => "reference_up_and_down",
             Workload::BufferGet => "buffer_get_and_release",
             Workload::BufferGetMostRecent => "buffer_get_most_recent",
             Workload::CommitThree => "commit_three_blocks",
@@ -94,6 +100,8 @@ impl Workload {
             Workload::BitSet => records::set_bits(),
             Workload::BitTest => records::test_bits(),
             Workload::LockUnlock => locks::lock_and_unlock(alloc),
+            Workload::InodeLock => tables::lock_and_unlock(alloc),
+            Workload::ReferenceUp => tables::up_and_down(alloc),
             Workload::BufferGet => buffers::get_and_release(alloc),
             Workload::BufferGetMostRecent => buffers::get_most_recent(alloc),
             Workload::CommitThree => logs::commit_three_blocks(alloc),
