@@ -10,10 +10,12 @@ mod finish;
 mod inodes;
 mod kind;
 pub mod laws;
+mod retired;
 mod shared;
 
 pub use fetch::Fetch;
 pub use finish::Finish;
 pub use inodes::{Claim, LockedFile};
 pub use kind::Kind;
+pub use retired::RetiredCore;
 pub use shared::{Core, JoinedToWrite};
