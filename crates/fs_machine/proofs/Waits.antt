@@ -29,14 +29,14 @@ use Rattle.fs_tables.specs.declared.files.Want.{Want}
 use Rattle.fs_tables.specs.declared.files.Want.TheVariants as want
 use Rattle.fs_tables.specs.Soundness.{IsSoundInodes, InsideFits}
 use Rattle.fs_tables.specs.Tables.{TablesState, is_unused, place_of, place_named, references_of, references_in, file_named, file_in, open_at, is_file_of, holder_of as lock_holder}
-use Rattle.fs_tables.specs.Inodes.{refusal_of, lock_inode, lock_at, got_by, lock_file, lock_unless, with_file, settle_inode, up_inode, up_by, up_new, up_directory, drop_inode, drop_at, drop_dying, dying, drop_walked, walked_at, walked_dying, first_free}
+use Rattle.fs_tables.specs.Inodes.{refusal_of, lock_inode, lock_at, got_by, lock_file, lock_unless, with_file, settle_inode, up_inode, up_by, up_new, up_directory, drop_inode, drop_at, drop_dying, dying, drop_walked, walked_at, walked_dying, drop_freed, freed_at as uncounted_freed, first_free}
 use Rattle.fs_tables.specs.Files.{take_place, take_at, open_file, open_in, open_by, double_descriptor, double_at, double_to, shut_descriptor, shut_at, freed_if, give_next, give_by, give_at, given_directory, is_free, hand_of, descriptors_of}
 use Rattle.fs_tables.specs.Lists.{first_empty, next_full}
 use Rattle.fs_tables.proofs.Places.{found}
 use Rattle.fs_tables.proofs.Locking.{slot_at, lock_is}
 use Rattle.fs_tables.proofs.Counting.{holder_there}
 use Rattle.fs_machine.specs.LogPart.{LogPart, Outside, Passes, Fails, join_if, got_by as block_got, read_block, commit_if, write_log}
-use Rattle.fs_machine.specs.Steps.{State, Join, JoinToWrite, Leave, Get, Read, Put, Commit, Lock, LockFile, Unlock, Settle, Up, Claim, Down, CheckFile, TakePlace, TakeDescriptor, Double, Close, Give, Reply, Whom, Number, Directory, Drop, Held, Walked, exec, in_log, in_tables, joins, join_unless, claims, claim_first, up_whom, drop_which}
+use Rattle.fs_machine.specs.Steps.{State, Join, JoinToWrite, Leave, Get, Read, Put, Commit, Lock, LockFile, Unlock, Settle, Up, Claim, Down, CheckFile, TakePlace, TakeDescriptor, Double, Close, Give, Reply, Whom, Number, Directory, Drop, Held, Walked, Freed, exec, in_log, in_tables, joins, join_unless, claims, claim_first, up_whom, drop_which}
 use Rattle.fs_machine.specs.Premises.{May, MayLockFile, MayWait, IsElsewhere, JoinWaits}
 use Rattle.fs_machine.specs.Waiting.{IsCounted, WaitsWhereItMay}
 
@@ -73,7 +73,7 @@ up_whom_never h (Number n) t = up_never n t
 up_whom_never h Directory t = up_never _ t
 
 drop_never : (h : ℕ) (which : Drop) (t : TablesState) → Never (drop_which h which t)
-unfolding drop_inode drop_walked
+unfolding drop_inode drop_walked drop_freed
 drop_never h (Held n) t = at (place_of n t.entries)
   where
     dies : (k : ℕ) (o : Option Dinode) → Never (drop_dying h n k t o)
@@ -92,6 +92,12 @@ drop_never h (Walked n) t = at (place_of n t.entries)
     at : (o : Option ℕ) → Never (walked_at t o)
     at None e = cc e
     at (Some k) e = dies k (dying (slice_get t.entries k) (slice_get t.locks k)) e
+
+drop_never h (Freed n) t = at (place_of n t.entries)
+  where
+    at : (o : Option ℕ) → Never (uncounted_freed t o)
+    at None e = cc e
+    at (Some k) e = cc e
 
 place_never : (h : ℕ) (t : TablesState) → Never (take_place h t)
 unfolding take_place
