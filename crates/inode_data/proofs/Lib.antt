@@ -4,3 +4,4 @@ pub mod Nested
 mod NextFree
 mod Truncations
 mod Freed
+mod Locations

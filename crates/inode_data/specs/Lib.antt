@@ -8,3 +8,5 @@ pub mod Reading
 pub mod Freeing
 pub mod Truncating
 pub mod Dropping
+pub mod Writing
+pub mod Locating
