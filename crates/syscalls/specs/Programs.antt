@@ -1,10 +1,11 @@
 -- The calls as programs over what all harts share. Nothing is marked in them.
-use Rattle.std.specs.Prelude.{ℕ, ◌+◌, List, length, Some, None}
+use Rattle.std.specs.Prelude.{ℕ, ◌+◌, List, [], ◌∷◌, length, Option, Some, None}
 use Rattle.plain_tree.specs.declared.answer.Answer.TheVariants as answers
 use Rattle.plain_tree.specs.declared.answer.Cause.TheVariants as causes
 use Rattle.plain_tree.specs.declared.answer.Full.TheVariants as fulls
 use Rattle.plain_tree.specs.declared.answer.Reply.{Reply}
 use Rattle.plain_tree.specs.declared.call.Call.TheVariants as calls
+use Rattle.fs_layout.specs.declared.inode.Dinode.{Dinode}
 use Rattle.fs_layout.specs.declared.superblock.Super.{Super}
 use Rattle.atomic_programs.specs.Prog.{Ret, Do, bind, unmarked}
 use Rattle.fs_tables.specs.declared.inodes.Inode.{Inode}
@@ -13,11 +14,11 @@ use Rattle.fs_tables.specs.declared.slots.Doubled.TheVariants as doubled
 use Rattle.fs_tables.specs.declared.slots.Shut.{Shut}
 use Rattle.fs_tables.specs.declared.slots.Shut.TheVariants as shut
 use Rattle.fs_tables.specs.declared.files.Want.TheVariants as want
-use Rattle.fs_machine.specs.Steps.{Join, Double, Close, Unlock, Reply as ReplyOp}
+use Rattle.fs_machine.specs.Steps.{Join, Lock, Double, Close, Unlock, Reply as ReplyOp}
 use Rattle.fs_machine.specs.Programs.{finish}
 use Rattle.fs_machine.specs.Machines.{P}
-use Rattle.inode_table.specs.Programs.{record_of}
-use Rattle.inode_data.specs.Freeing.{drop_reference}
+use Rattle.inode_table.specs.Programs.{record_of, load_unless}
+use Rattle.inode_data.specs.Freeing.{drop_reference, free_inode}
 use Rattle.inode_data.specs.Programs.{Filled, read_from}
 use Rattle.file_table.specs.Programs.{FileState, Denies, Loads, load_file}
 use Rattle.syscalls.specs.Replies.{failed, full, done, cause_of, stat_of}
@@ -25,6 +26,24 @@ use Rattle.syscalls.specs.Replies.{failed, full, done, cause_of, stat_of}
 -- the reply is given
 abbrev pub say : Reply → P Reply
 say reply = Do ReplyOp unmarked (λ _. Ret reply)
+
+-- ---- how a call with a transaction ends
+
+-- an inode whose lock was taken is loaded where it isn't, and freed
+abbrev pub free_locked : Super → ℕ → P Reply → Option Dinode → P Reply
+free_locked sizes n more content = bind (load_unless sizes.inodestart n content) (λ d. bind (free_inode sizes n d) (λ _. bind finish (λ _. more)))
+
+-- an inode to which the call has the last reference is freed, in a transaction of its own
+abbrev pub free_listed : Super → ℕ → P Reply → P Reply
+free_listed sizes n more = Do Join unmarked (λ _. Do (Lock n) unmarked (free_locked sizes n more))
+
+abbrev pub free_all : Super → List ℕ → P Reply → P Reply
+free_all sizes [] more = more
+free_all sizes (n ∷ ns) more = free_listed sizes n (free_all sizes ns more)
+
+-- The transaction is left, then each inode of the call's list is freed, in the list's order, and then comes the reply.
+abbrev pub tail : Super → List ℕ → Reply → P Reply
+tail sizes ns reply = bind finish (λ _. free_all sizes ns (say reply))
 
 -- ---- dup
 

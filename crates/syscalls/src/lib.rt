@@ -10,9 +10,11 @@ mod fstat;
 mod read;
 mod replies;
 mod running;
+mod tail;
 
 pub use crate::close::Close;
 pub use crate::dup::Dup;
 pub use crate::fstat::Fstat;
 pub use crate::read::Read;
 pub use crate::running::Running;
+pub use crate::tail::{Ending, Tail};
