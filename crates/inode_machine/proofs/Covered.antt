@@ -1,7 +1,7 @@
 -- The calls that are shown right, together.
-use Rattle.std.proofs.Common.{◌≡◌, ◌⊎◌, inl, inr, Bool, true, false, ◌&&◌, not, [], refl}
+use Rattle.std.proofs.Common.{◌≡◌, ◌⊎◌, inl, inr, Bool, true, false, [], refl}
 use Rattle.atomic_programs.specs.Logic.{Safe}
-use Rattle.plain_tree.specs.Steps.{creates, empty_it, has}
+use Rattle.plain_tree.specs.Steps.{creates}
 use Rattle.atomic_programs.specs.Calls.{Begun, Ends, Lawful, State, fresh, run}
 use Rattle.atomic_programs.proofs.Explains.{explains, holds_of}
 use Rattle.plain_tree.specs.declared.call.Call.TheVariants as calls
@@ -17,16 +17,12 @@ use Rattle.inode_machine.proofs.CreateCalls.{create_ok}
 use Rattle.inode_machine.proofs.Unlinks.{unlink_begins, unlink_ok}
 use Rattle.inode_machine.proofs.Mkdirs.{mkdir_begins, mkdir_ok}
 
-isnt : (b : Bool) → not b ≡ true → b ≡ false
-isnt true e = absurd cc
-isnt false e = refl
-
 covered_right : IsRight is_covered is_covered
-covered_right h (calls.Open path flags) busy w u lt here out idle free is = right is_covered h (calls.Open path flags) busy w u idle free is (open_begins path flags) (λ holds i. by_flag (creates flags) refl here holds i)
+covered_right h (calls.Open path flags) busy w u lt here out idle free is = right is_covered h (calls.Open path flags) busy w u idle free is (open_begins path flags) (λ holds i. by_flag (creates flags) refl holds i)
   where
-    by_flag : (b : Bool) → creates flags ≡ b → not (b && has flags empty_it) ≡ true → Inv u → Idle h u → Safe machine h (Begun covered_calls (calls.Open path flags)) (Ends covered_calls h (calls.Open path flags)) (open_program path flags) (limit (calls.Open path flags)) [] u
-    by_flag false q e holds i = open_ok h path flags u out lt holds i q
-    by_flag true q e holds i = create_ok h path flags u holds out lt i q (isnt (has flags empty_it) e)
+    by_flag : (b : Bool) → creates flags ≡ b → Inv u → Idle h u → Safe machine h (Begun covered_calls (calls.Open path flags)) (Ends covered_calls h (calls.Open path flags)) (open_program path flags) (limit (calls.Open path flags)) [] u
+    by_flag false q holds i = open_ok h path flags u out lt holds i q
+    by_flag true q holds i = create_ok h path flags u holds out lt i q
 covered_right h (calls.Read fd buffer) busy w u lt here out idle free is = descriptors_right is_covered h (calls.Read fd buffer) busy w u lt refl out idle free is
 covered_right h (calls.Write fd bytes) busy w u lt here out idle free is = descriptors_right is_covered h (calls.Write fd bytes) busy w u lt refl out idle free is
 covered_right h (calls.Link old new) busy w u lt here out idle free is = absurd cc

@@ -1,5 +1,5 @@
 -- An open that may make its file is right, whatever the other harts do: what is there is opened, what isn't is made.
-use Rattle.std.proofs.Common.{◌≡◌, ◌≢◌, ◌⊎◌, inl, inr, ℕ, ◌+◌, ◌*◌, ◌<◌, ◌≤◌, Bool, true, false, ◌&&◌, ◌==◌, nat_lt, List, [], ◌∷◌, length, Option, Some, None, refl, sym, ◌∙◌, ap, subst, arith, if◌then◌else◌}
+use Rattle.std.proofs.Common.{◌≡◌, ◌≢◌, ◌⊎◌, inl, inr, ℕ, ◌+◌, ◌*◌, ◌<◌, ◌≤◌, Bool, true, false, ◌==◌, nat_lt, List, [], ◌∷◌, length, Option, Some, None, refl, sym, ◌∙◌, ap, subst, arith, if◌then◌else◌}
 use Rattle.atomic_programs.specs.Logic.{own, onto, Fine, Safe, Wp}
 use Rattle.atomic_programs.specs.Calls.{Begun, Ends}
 use Rattle.plain_tree.specs.declared.answer.Cause.{Cause}
@@ -13,9 +13,9 @@ use Rattle.plain_tree.specs.declared.node.Node.{Node}
 use Rattle.plain_tree.specs.declared.step.Action.{Action}
 use Rattle.plain_tree.specs.declared.step.Action.TheVariants as steps
 use Rattle.plain_tree.specs.declared.step.StepAnswer.TheVariants.{Opened, Failed, Full as NoRoom}
-use Rattle.plain_tree.specs.Calls.{next_of, reply_of, had_room}
+use Rattle.plain_tree.specs.Calls.{next_of}
 use Rattle.plain_tree.specs.HartRow.{Key, Row, key_is}
-use Rattle.plain_tree.specs.Steps.{IsLeastUnused, creates, empty_it, has, has_room, is_file, lowest, makes_node, node_at, node_or, open_kind, refusal_with, effect_with, answer_with, StepWith}
+use Rattle.plain_tree.specs.Steps.{IsLeastUnused, creates, has_room, is_file, lowest, makes_node, node_at, node_or, open_kind, refusal_with, effect_with, answer_with, StepWith}
 use Rattle.plain_tree.specs.Tree.{Name, Tree, put, look, elements, is_live, live_directory, settle}
 use Rattle.plain_tree.specs.Widths.{hart_count, descriptor_count}
 use Rattle.plain_tree.proofs.Settling.{settle_again}
@@ -24,7 +24,7 @@ use Rattle.tree_laws.proofs.Facts.{look_live}
 use Rattle.tree_laws.proofs.Maps.{either, eq_not, same_or, put_same, put_other}
 use Rattle.tree_laws.proofs.Nodes.{live_some}
 use Rattle.tree_laws.proofs.Walks.{look_same}
-use Rattle.tree_moves.specs.Moves.{Walk, Stage, Step, MayEnd}
+use Rattle.tree_moves.specs.Moves.{Walk, Stage, Step}
 use Rattle.tree_moves.specs.Moves.Move.{Look, Quit}
 use Rattle.inode_machine.specs.World.{Desk, Mark, Note, World, stage_of}
 use Rattle.inode_machine.specs.World.Op.{Take}
@@ -33,7 +33,7 @@ use Rattle.inode_machine.specs.Exec.{with_walk}
 use Rattle.inode_machine.specs.Marks.{acts, look_made, looked, made_by, marked, mended, new_id, places}
 use Rattle.inode_machine.specs.Rules.{Held, Own, own_names, own_of, nothing, Idle, Inv, machine}
 use Rattle.inode_machine.specs.Parts.{P, failed, full, give_up, is_some, is_there, looks_if, looks_where, makes, tail}
-use Rattle.inode_machine.specs.Opening.{create_found, create_in, file_for, open_at, open_new, open_old, open_program, opened_reply}
+use Rattle.inode_machine.specs.Opening.{create_found, create_in, file_for, open_at, open_new, open_old, open_program}
 use Rattle.inode_machine.specs.Naming.{in_parent}
 use Rattle.inode_machine.specs.Programs.{path_cost, rest_cost}
 use Rattle.inode_machine.specs.Theory.{covered_calls}
@@ -51,13 +51,13 @@ use Rattle.inode_machine.proofs.Endings.{Walked, home, joined_own, may_rest, not
 use Rattle.inode_machine.proofs.Openings.{Opening, fresh_id, opened_row, opened_tree, opened_world, opening, row_back, unopened_row}
 use Rattle.inode_machine.proofs.Unopens.{mends_opened}
 use Rattle.inode_machine.proofs.Opens.{dirties, moves_full, open_place, refusal_by_sort, file_by_sort}
-use Rattle.inode_machine.proofs.OpenEnds.{open_refused, opened_act, s-open-full, s-open-refused, s-opened}
+use Rattle.inode_machine.proofs.OpenEnds.{open_refused, opened_act, opened_begins, s-open-full, s-open-refused, s-opened}
 use Rattle.inode_machine.proofs.Claiming.{claimed_held, mended_own, s-claim}
 use Rattle.inode_machine.proofs.Acting.{act_good_to, told_step}
 use Rattle.inode_machine.proofs.Holdings.{Holding, Joins, holding_on, holding_same, holding_set, holding_to, mendable, stays_mended, unlisted, s-give-end, s-give-up-in}
 use Rattle.inode_machine.proofs.Pairs.{pair_new}
 use Rattle.inode_machine.proofs.Makings.{makes_file, names_opened}
-use Rattle.inode_machine.proofs.Paths.{Follows, begun_by, begun_refused, quit_step, walking_quit, walking_told, written_by}
+use Rattle.inode_machine.proofs.Paths.{Follows, begun_refused, quit_step, walking_quit, walking_told, written_by}
 use Rattle.inode_machine.proofs.Namings.{s-naming}
 
 -- What the step asks of its tree, where the name is there.
@@ -109,12 +109,7 @@ comes_first path flags = refl
 follows : (path : List ℕ) (flags : ℕ) → Follows (calls.Open path flags) [] (steps.Open path flags)
 follows path flags = record { next = comes_first path flags; rest = λ k. []; reply = λ k. failed (calls.Open path flags) k; fails = λ k. open_refused path flags k }
 
--- what may come after it was opened
-opened_goes : (path : List ℕ) (flags fd id : ℕ) (b : Bool) → (has flags empty_it && b) ≡ false → MayEnd (calls.Open path flags) (opened_act path flags fd id b ∷ []) (opened_reply path flags fd)
-unfolding next_of reply_of had_room
-opened_goes path flags fd id b e = record { through = rw e refl; reply = refl; room = refl }
-
-module _ (h : ℕ) (path : List ℕ) (flags : ℕ) (w : World) (free : (w.desks h).lender ≡ None) (lt : h < hart_count) (holds : Inv w) (idle : Idle h w) (flag : creates flags ≡ true) (plain : has flags empty_it ≡ false) where
+module _ (h : ℕ) (path : List ℕ) (flags : ℕ) (w : World) (free : (w.desks h).lender ≡ None) (lt : h < hart_count) (holds : Inv w) (idle : Idle h w) (flag : creates flags ≡ true) where
   abbrev c : Call
   c = calls.Open path flags
 
@@ -318,7 +313,7 @@ module _ (h : ℕ) (path : List ℕ) (flags : ℕ) (w : World) (free : (w.desks 
           (there_made u.all h j (new_id u) path flags d e flag found goes room) refl
           (there_step u.all h j (new_id u) path flags d e lt flag found goes room (fresh_id u inv).least) (sym (settle_again T)) (λ q. absurd (let a = there_makes u.all path flags d j e flag found in cc (a, q)))
           (fair_then fair_a (fair_then fair_b note.fair)) (λ z. record { tree = settle T; walk = walks_are z })
-          (begun_by c (opened_act path flags fd (new_id u) isf ∷ []) (told_step 0 s (Opened fd (new_id u) isf) ∷ es) [] (opened_reply path flags fd) written (opened_goes path flags fd (new_id u) isf (λ z. plain z && isf))) (omega (arith, few))
+          (opened_begins path flags fd (new_id u) isf (told_step 0 s (Opened fd (new_id u) isf) ∷ es) written) (omega (arith, few))
           (λ l q. (reaches d j e ns x (note_of u.all j) l (told_step 0 s (Opened fd (new_id u) isf) ∷ es) uc P0 O3 M3 (omega (arith, q, few)) note.owned free refl spare k3 refl refl refl fresh
           (λ v inv2 ov. mends_opened h fd v O3 ov free_o lt inv2 refl (on.stays.left ∙ ready.left) keeps_hold (λ i p. names0 i (bare i p)))
           (holding_to O0 M3 k3 refl back refl (λ i p q2. names_stay M3 O0 back i ∙ sym (names_stay O1 O0 k1.stays i) ∙ (k1.all i p).unnamed)) refl refl refl
@@ -419,7 +414,7 @@ module _ (h : ℕ) (path : List ℕ) (flags : ℕ) (w : World) (free : (w.desks 
       → Safe machine h B Q (create_found path flags d e ns None) n fs u
   makes_new d e ns X n fs u w0 O few on held live absent told =
       s-claim OfFile held (on.stays.lender ∙ free) lt (omega (arith, few)) on.stays.joined (mendable ready k)
-      (λ l2 i u2 q2 from below out zero held2. makes_file h path flags lt plain joins ns d e X i l2 fs u2 _ flag (omega (arith, q2, few)) held2
+      (λ l2 i u2 q2 from below out zero held2. makes_file h path flags lt joins ns d e X i l2 fs u2 _ flag (omega (arith, q2, few)) held2
       (pair_new _ d i (claimed_held OfFile) k (put_same nothing d (Some (locked_held (Some X)))) (λ j ne. put_other nothing d (Some (locked_held (Some X))) j ne) out refl refl refl refl refl)
       (let f = k.refs i in omega (arith, f, zero)) on.walk on.pending live absent from below
       (λ t q r. absurd (let a = on.notes t q in let b : O.mine.refs t.number ≡ O.mine.refs i = ap O.mine.refs r in omega (arith, a, b, zero))) told)
@@ -464,14 +459,14 @@ module _ (h : ℕ) (path : List ℕ) (flags : ℕ) (w : World) (free : (w.desks 
       seen u None inv own1 true q None r = absurd cc
       seen u (Some X) inv own1 true q None r = as_seen u (Some X) true None q r (quiet (fair_same inv) refl (omega (arith, few)) (λ l p. (makes_new d e ns X l es u w0 O (omega (arith, few, p)) on own1 q r told).wp))
 
-pub create_ok : (h : ℕ) (path : List ℕ) (flags : ℕ) (w : World) → Inv w → (w.desks h).lender ≡ None → h < hart_count → Idle h w → creates flags ≡ true → has flags empty_it ≡ false
+pub create_ok : (h : ℕ) (path : List ℕ) (flags : ℕ) (w : World) → Inv w → (w.desks h).lender ≡ None → h < hart_count → Idle h w → creates flags ≡ true
     → Safe machine h (Begun covered_calls (calls.Open path flags)) (Ends covered_calls h (calls.Open path flags)) (open_program path flags) (path_cost path + rest_cost) [] w
-create_ok h path flags w inv free lt idle flag plain =
+create_ok h path flags w inv free lt idle flag =
     subst (λ (b : Bool). Safe machine h (Begun covered_calls (calls.Open path flags)) (Ends covered_calls h (calls.Open path flags)) (if b then open_new path flags (elements path) else open_old path flags) (path_cost path + rest_cost) [] w) (sym flag)
     (same_program (elements path) refl
     (s-naming h (calls.Open path flags) (steps.Open path flags) (create_in path flags) (path_cost path + rest_cost) w inv free lt idle (record { follows = follows path flags; ends = open_refused path flags NoEntry })
     (record { follows = refl; missing = λ b res. no_parent b h path flags res flag; stays = λ b. refl; place = λ t q. open_place t h path flags lt; other = λ g q. absurd cc; finds = refl }) (omega arith)
-    (λ d e ms l fs u R few _ on walking. sees h path flags w free lt inv idle flag plain d e ms l fs u R few on walking)))
+    (λ d e ms l fs u R few _ on walking. sees h path flags w free lt inv idle flag d e ms l fs u R few on walking)))
   where
     same_program : (p : List Name) → elements path ≡ p
         → Safe machine h (Begun covered_calls (calls.Open path flags)) (Ends covered_calls h (calls.Open path flags)) (in_parent (calls.Open path flags) (steps.Open path flags) path (create_in path flags) (elements path)) (path_cost path + rest_cost) [] w

@@ -41,16 +41,16 @@ empty_step fd = record { move = OwnMove (Truncate fd) 0; told = Some (record { a
 
 -- The tree's step.
 
-trunc_effect : (t : Tree) (h fd new id j : ℕ) (f : OpenFile) (v : Node) (res : Option ℕ) (par : Option (ℕ × Name)) → file_at t h fd ≡ Some f → f.number ≡ j → t.nodes j ≡ Some v → effect_with t h (Truncate fd) res par new id ≡ with_nodes t (put t.nodes j (Some (emptied_node v)))
+pub trunc_effect : (t : Tree) (h fd new id j : ℕ) (f : OpenFile) (v : Node) (res : Option ℕ) (par : Option (ℕ × Name)) → file_at t h fd ≡ Some f → f.number ≡ j → t.nodes j ≡ Some v → effect_with t h (Truncate fd) res par new id ≡ with_nodes t (put t.nodes j (Some (emptied_node v)))
 unfolding effect_with
 trunc_effect t h fd new id j f v res par is number there = rw is ((λ z. with_nodes t (put t.nodes (number z) (Some (emptied_node (node_at t (number z)))))) ∙ (λ z. with_nodes t (put t.nodes j (Some (emptied_node (node_or (there z)))))))
 
-trunc_made : (t : Tree) (h fd new id j : ℕ) (f : OpenFile) (v : Node) (res : Option ℕ) (par : Option (ℕ × Name)) → file_at t h fd ≡ Some f → f.number ≡ j → t.nodes j ≡ Some v
+pub trunc_made : (t : Tree) (h fd new id j : ℕ) (f : OpenFile) (v : Node) (res : Option ℕ) (par : Option (ℕ × Name)) → file_at t h fd ≡ Some f → f.number ≡ j → t.nodes j ≡ Some v
     → acts t h (Truncate fd) res par new id ≡ record { all = with_nodes t (put t.nodes j (Some (emptied_node v))); walk = None; found = None; opened = None; entered = None; left = None; told = Some (record { act = record { step = Truncate fd; answer = Done }; new = new }) }
 unfolding refusal_with answer_with
 trunc_made t h fd new id j f v res par is number there = λ z. record { all = trunc_effect t h fd new id j f v res par is number there z; walk = None; found = None; opened = None; entered = None; left = None; told = Some (record { act = record { step = Truncate fd; answer = Done }; new = new }) }
 
-trunc_place : (t : Tree) (h fd j : ℕ) (f : OpenFile) (v : Node) → h < hart_count → file_at t h fd ≡ Some f → f.number ≡ j → t.nodes j ≡ Some v → is_file v.kind ≡ true → place_of t h (Truncate fd) ≡ true
+pub trunc_place : (t : Tree) (h fd j : ℕ) (f : OpenFile) (v : Node) → h < hart_count → file_at t h fd ≡ Some f → f.number ≡ j → t.nodes j ≡ Some v → is_file v.kind ≡ true → place_of t h (Truncate fd) ≡ true
 unfolding place_of
 trunc_place t h fd j f v lt is number there isf = rw is ((λ z. is_file (node_or (t.nodes (number z))).kind) ∙ (λ z. is_file (node_or (there z)).kind) ∙ isf)
 
@@ -59,7 +59,7 @@ unfolding refusal_with
 trunc_goes t h fd res par = refl
 
 -- It asks for nothing that a path leads to.
-trunc_settled : (t T : Tree) (h fd id : ℕ) (res : Option ℕ) (par : Option (ℕ × Name)) → settle T ≡ settle (effect_with t h (Truncate fd) None None 0 id) → IsInPlace t h (Truncate fd) → StepWith (settle t) h (Truncate fd) res par Done 0 id (settle (settle T))
+pub trunc_settled : (t T : Tree) (h fd id : ℕ) (res : Option ℕ) (par : Option (ℕ × Name)) → settle T ≡ settle (effect_with t h (Truncate fd) None None 0 id) → IsInPlace t h (Truncate fd) → StepWith (settle t) h (Truncate fd) res par Done 0 id (settle (settle T))
 unfolding refusal_with effect_with answer_with
 trunc_settled t T h fd id res par same place =
     let y = settled_step t h (Truncate fd) None None Done 0 id (settle T) (record { node = λ n q. absurd cc; directory = λ q e. absurd cc; child = λ q n e r. absurd cc }) (refl, refl, record { node = λ z. absurd cc; file = λ z. absurd cc }, same, place) in

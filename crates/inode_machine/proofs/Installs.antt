@@ -19,7 +19,7 @@ use Rattle.inode_machine.specs.Inodes.{Sort, sort_of}
 use Rattle.inode_machine.specs.Exec.{file_count, install_if, installed, is_at, opening_id, or_zero, child_of}
 use Rattle.inode_machine.specs.Marks.{marked, places, with_mark}
 use Rattle.inode_machine.specs.Rules.{id_at, key_in, number_is, own_names, own_of, shop_of, uses, users, Held, IsOpening, Own, Inv, Opens, Reached, Shop, Tied, machine}
-use Rattle.inode_machine.proofs.Frame.{put_elim, stands_on, has_inode, one_refs, Did, fair, refers_put}
+use Rattle.inode_machine.proofs.Frame.{put_elim, stands_on, has_inode, one_refs, Did, Fair, fair, refers_put}
 use Rattle.inode_machine.proofs.Rules.{s-owned, quiet, each_refs, has_node, here_refs, my_refs, total_changed, total_same, walks_refs}
 use Rattle.inode_machine.proofs.Counting.{not_home, spares}
 use Rattle.inode_machine.proofs.Rows.{is_at_some}
@@ -190,12 +190,149 @@ takes_tied s h fd k f sort o tied t =
 same_file : (a b : OpenFile) → key_is a ≡ key_is b → a.offset ≡ b.offset → a ≡ b
 same_file a b k o = λ i. record { number = (k i).number; offset = o i; readable = (k i).readable; writable = (k i).writable }
 
+-- what the hart has then
+abbrev pub own_installed : Own → ℕ → ℕ → ℕ → Own
+own_installed O j fd s = record O { mine = record { refs = put O.mine.refs j (O.mine.refs j - 1); walk = O.mine.walk; pending = O.mine.pending }; desk = record (O.desk) { fds = put O.desk.fds fd (Some s); hand = None; opening = None } }
+
+pub record Installing (h fd s : ℕ) (f : OpenFile) (sort : Sort) (O : Own) (v : World) : Type 0 where
+  pub lands : Fair h v (installed h v f sort s fd)
+  pub owned : own_of h (installed h v f sort s fd) ≡ own_installed O f.number fd s
+
 -- The descriptor is taken: the open file stands in the slot, and has the hart's reference.
+pub installing : (h fd s : ℕ) (f : OpenFile) (sort : Sort) (x : Held) (v : World) (O : Own) → own_of h v ≡ O → O.desk.lender ≡ None → h < hart_count → Inv v → O.desk.opening ≡ Some fd → O.desk.hand ≡ Some s → O.row.keys fd ≡ Some (key_is f) → f.offset ≡ 0
+    → O.mine.walk ≡ None → O.mine.pending ≡ None → O.inodes f.number ≡ Some x → x.alone ≡ false → sort_of x.node ≡ Some sort → 0 < O.mine.refs f.number → ((1 < O.mine.refs f.number) ⊎ (own_names O.row (record (O.desk) { opening = None }) f.number ≡ false))
+    → Installing h fd s f sort O v
+installing h fd s f sort x v O ov free lt inv opens hand keyed start walks none isi shared typed refers may = record { lands = fair inv did; owned = owned }
+  where
+    i0 : ℕ
+    i0 = f.number
+
+    u : World
+    u = installed h v f sort s fd
+
+    opened : (v.desks h).opening ≡ Some fd
+    opened = ap (λ (o : Own). o.desk.opening) ov ∙ opens
+
+    o : IsOpening (shop_of v) h fd
+    o = inv.tied.fresh h fd lt opened
+
+    file : o.file ≡ f
+    file = same_file o.file f (let a : Some (key_is o.file) ≡ Some (key_is f) = sym (key_from v.all h fd o.id o.file lt o.below o.is o.at) ∙ ap (λ (p : Own). p.row.keys fd) ov ∙ keyed in cc) (o.offset ∙ sym start)
+
+    id_is : opening_id v h ≡ o.id
+    id_is = ap (λ (z : Option ℕ). or_zero (v.all.fds h (or_zero z))) opened ∙ ap (λ (z : Option ℕ). or_zero z) o.is
+
+    tied : Tied (shop_of u)
+    tied = subst (λ (z : ℕ). Tied (took_shop (shop_of v) h fd s f sort z)) (sym id_is) (takes_tied (shop_of v) h fd s f sort o inv.tied (record { hart = lt; opening = opened; hand = ap (λ (p : Own). p.desk.hand) ov ∙ hand; file = file }))
+
+    new : Mine
+    new = record { refs = put (v.harts h).refs i0 ((v.harts h).refs i0 - 1); walk = (v.harts h).walk; pending = (v.harts h).pending }
+
+    desk : Desk
+    desk = record (v.desks h) { fds = put (v.desks h).fds fd (Some s); hand = None; opening = None }
+
+    desk_is : u.desks h ≡ desk
+    desk_is = put_same v.desks h desk
+
+    more : 0 < (v.harts h).refs i0
+    more = let r = my_refs h v O i0 ov in omega (arith, r, refers)
+
+    here : u.files s ≡ Some (record { file = f; sort = sort; references = 1 })
+    here = put_same v.files s (Some (record { file = f; sort = sort; references = 1 }))
+
+    grow : (j : ℕ) → ((j ≡ i0) → 1 < (v.harts h).refs i0) → 0 < (v.harts h).refs j → 0 < (u.harts h).refs j
+    grow j ok a = elim (same_or j i0) [
+      | inl q ↦ subst (λ (z : ℕ). 0 < (u.harts h).refs z) (sym q) (let r = here_refs v.harts h i0 ((v.harts h).refs i0 - 1) in let x = ok q in omega (arith, r, x))
+      | inr ne ↦ (let r = each_refs v.harts h i0 ((v.harts h).refs i0 - 1) h j (inr ne) in omega (arith, r, a))
+    ]
+
+    new_pin : Opens (u.desks h).fds u.files i0
+    new_pin = record { fd = fd; below = o.below; slot = s; is = ap (λ (d : Desk). d.fds fd) (put_same v.desks h desk) ∙ put_same (v.desks h).fds fd (Some s); entry = record { file = f; sort = sort; references = 1 }; at = here; number = refl }
+
+    pend : (v.harts h).pending ≡ None
+    pend = ap (λ (p : Own). p.mine.pending) ov ∙ none
+
+    named : (j : ℕ) → own_names (row_of v.all h) (u.desks h) j ≡ true → Reached u h j
+    named j is =
+        let bare : own_names (row_of v.all h) (record (v.desks h) { opening = None }) j ≡ true = (λ z. own_names (row_of v.all h) (sym (put_same v.desks h desk) z) j) ∙ is in
+        elim (inv.named h j lt (ap (λ (o : Own). o.desk.lender) ov ∙ free) (key_more (v.all.cwd h == j) (hold_names (v.all.holds h) j) (key_names (key_in (row_of v.all h).keys (v.desks h).opening) j) (is_at (v.desks h).left j) bare)) [
+          | inr p ↦ absurd (cc (p, pend))
+          | inl p ↦ inl (grow j (λ q. elim may [
+            | inl m ↦ (let r = my_refs h v O i0 ov in omega (arith, r, m))
+            | inr m ↦ absurd (let a : own_names O.row (record (O.desk) { opening = None }) i0 ≡ true = ap (λ (p : Own). own_names p.row (record (p.desk) { opening = None }) i0) (sym ov) ∙ ap (own_names (row_of v.all h) (record (v.desks h) { opening = None })) (sym q) ∙ bare in cc (a, m))
+          ]) p)
+        ]
+
+    -- what it reaches now it did before
+    shrink : (j : ℕ) → Reached u h j → Reached v h j
+    shrink j (inr p) = inr (sym (ap (λ (m : Mine). m.pending) (put_same v.harts h new)) ∙ p)
+    shrink j (inl p) = elim (same_or j i0) [
+      | inl q ↦ inl (subst (λ (z : ℕ). 0 < (v.harts h).refs z) (sym q) more)
+      | inr ne ↦ inl (let r = each_refs v.harts h i0 ((v.harts h).refs i0 - 1) h j (inr ne) in omega (arith, r, p))
+    ]
+
+    stays : (j : ℕ) (e : Entry) → v.files j ≡ Some e → u.files j ≡ Some e
+    stays j e a = put_other v.files s (Some (record { file = f; sort = sort; references = 1 })) j (λ q. absurd (let x = (inv.tied.hand h s lt (ap (λ (p : Own). p.desk.hand) ov ∙ hand)).1 in let y : v.files j ≡ v.files s = ap v.files q in cc (a, x, y))) ∙ a
+
+    home : (v.desks h).directory ≡ i0 → 0 < (v.harts h).refs i0 - 1
+    home q = elim may [
+      | inl m ↦ (let r = my_refs h v O i0 ov in omega (arith, r, m))
+      | inr m ↦ absurd (not_home h i0 v O None inv ov free lt m (ap (λ (p : Own). p.desk.directory) (sym ov) ∙ q))
+    ]
+
+    did : Did h v u
+    did = record {
+      hart = lt;
+      inodes = λ j. inl (record { lock = refl; keeper = refl; disk = refl; node = refl; alone = refl });
+      mine = λ g ne. put_other v.harts h new g ne;
+      rows = λ g ne. refl;
+      size = refl;
+      ids = inv.ids;
+      shop = record { tied = tied; desks = λ g ne. put_other v.desks h desk g ne; numbers = λ g i j e lg ne li r a. (e, stays j e a, refl); clean = λ c. c; child = ap (λ (d : Desk). child_of d) desk_is; stays = inl (ap (λ (d : Desk). d.directory) desk_is) };
+      free = ap (λ (d : Desk). d.lender) desk_is ∙ ap (λ (p : Own). p.desk.lender) ov ∙ free;
+      quiet = λ j is g. inv.quiet j h is (sym (ap (λ (d : Desk). d.joined) desk_is) ∙ g);
+      sort = λ j. inl refl;
+      sorts = λ k e is. elim (same_or k s) [
+        | inl q ↦ (let a : Some (record { file = f; sort = sort; references = 1 }) ≡ Some e = sym here ∙ ap u.files (sym q) ∙ is in let b : record { file = f; sort = sort; references = 1 } ≡ e = cc in subst (λ (z : Entry). sort_of (v.all.nodes z.file.number) ≡ Some z.sort) b (ap (λ (z : Option Node). sort_of z) (has_node h i0 v O x ov isi) ∙ typed))
+        | inr ne ↦ inv.sorts k e (sym (put_other v.files s (Some (record { file = f; sort = sort; references = 1 })) k ne) ∙ is)
+      ];
+      noted = λ m q r g. inv.noted h m lt (sym (ap (λ (d : Desk). d.noted) desk_is) ∙ q) (shrink m.number r) g;
+      directory = stands_on (v.desks h) (u.desks h) (v.all.cwd h) v.all.nodes (ap (λ (o : Own). o.desk.lender) ov ∙ free) (ap (λ (d : Desk). d.directory) desk_is) (ap (λ (d : Desk). d.left) desk_is) (inv.directory h lt);
+      refers = refers_put (v.harts h) (u.harts h) (v.desks h) (u.desks h) i0 ((v.harts h).refs i0 - 1) (ap (λ (m : Mine). m.refs) (put_same v.harts h new)) (ap (λ (d : Desk). d.directory) desk_is) (let a = (inv.refers h lt).few i0 in omega (arith, a)) (λ q. home q) (inv.refers h lt);
+      well = inv.well;
+      counts = λ j. elim (same_or j i0) [
+        | inl q ↦ subst (λ (z : ℕ). v.refs z ≡ put v.slots i0 (v.slots i0 + 1) z + sum_below hart_count (λ g. (u.harts g).refs z)) (sym q)
+            (let t = total_changed v.harts h i0 ((v.harts h).refs i0 - 1) lt in let c = inv.counts i0 in let p = put_same v.slots i0 (v.slots i0 + 1) in let m = more in let x = one_refs v h i0 inv lt in omega (arith, t, c, p, m, x))
+        | inr ne ↦ (let t = total_same v.harts h i0 ((v.harts h).refs i0 - 1) j ne in let c = inv.counts j in let p = put_other v.slots i0 (v.slots i0 + 1) j ne in omega (arith, t, c, p))
+      ];
+      alone = λ j is.
+          let ne : j ≢ i0 = (λ q. absurd (let a : v.alone i0 ≡ false = ap (λ (y : Held). y.alone) (has_inode h i0 v O x ov isi).1 ∙ shared in let b : v.alone j ≡ v.alone i0 = ap v.alone q in cc (a, b, is))) in
+          let a = inv.alone j is in
+          record { hart = a.hart; kept = a.kept; dead = a.dead; counts = a.counts ∙ sym (each_refs v.harts h i0 ((v.harts h).refs i0 - 1) a.hart j (inr ne)) };
+      kept = λ j is. elim (inv.kept j h is).1 [
+        | inl x ↦ inl (record { fd = x.fd; below = x.below; slot = x.slot; is = ap (λ (d : Desk). d.fds x.fd) (put_same v.desks h desk) ∙ put_other (v.desks h).fds fd (Some s) x.fd (λ q. absurd (let y : (v.desks h).fds x.fd ≡ None = ap (v.desks h).fds q ∙ o.free in let z = x.is in cc (y, z))) ∙ x.is; entry = x.entry; at = stays x.slot x.entry x.at; number = x.number })
+        | inr p ↦ elim (same_or j i0) [ inl q ↦ inl (subst (λ (z : ℕ). Opens (u.desks h).fds u.files z) (sym q) new_pin) | inr ne ↦ inr (grow j (λ q. absurd (ne q)) p) ]
+      ];
+      held = λ j is. inv.held j h is;
+      named = λ j is. named j is;
+      pending = λ j is. absurd (let p : (u.harts h).pending ≡ (v.harts h).pending = ap (λ (m : Mine). m.pending) (put_same v.harts h new) in cc (p, is, pend));
+      walks = λ y is. absurd (let p : (u.harts h).walk ≡ (v.harts h).walk = ap (λ (m : Mine). m.walk) (put_same v.harts h new) in let q : (v.harts h).walk ≡ None = ap (λ (p : Own). p.mine.walk) ov ∙ walks in cc (p, is, q));
+    }
+
+    owned : own_of h u ≡ own_installed O f.number fd s
+    owned = λ z. record {
+      inodes = ap (λ (p : Own). p.inodes) ov z;
+      mine = (put_same v.harts h new ∙ ap (λ (p : Own). record { refs = put p.mine.refs f.number (p.mine.refs f.number - 1); walk = p.mine.walk; pending = p.mine.pending }) ov) z;
+      row = ap (λ (p : Own). p.row) ov z;
+      ninodes = ap (λ (p : Own). p.ninodes) ov z;
+      desk = (put_same v.desks h desk ∙ ap (λ (p : Own). record (p.desk) { fds = put p.desk.fds fd (Some s); hand = None; opening = None }) ov) z;
+    }
+
 pub s-install : {A : Type 0} {h : ℕ} {x : Held} (fd s : ℕ) (f : OpenFile) (sort : Sort) {m : Option ℕ → Option Mark} {k : Option ℕ → P machine A} {B : List Step → Type 0} {Q : A → List Step → World → Type 0} {n : ℕ} {es : List Step} {w : World} {O : Own}
     → own_of h w ≡ O → O.desk.lender ≡ None → h < hart_count → 0 < n → O.desk.opening ≡ Some fd → O.desk.hand ≡ Some s → has_room O.desk.fds ≡ true → lowest O.desk.fds ≡ fd → O.row.keys fd ≡ Some (key_is f) → f.offset ≡ 0 → m (Some fd) ≡ None
     → O.mine.walk ≡ None → O.mine.pending ≡ None → O.inodes f.number ≡ Some x → x.alone ≡ false → sort_of x.node ≡ Some sort → 0 < O.mine.refs f.number → ((1 < O.mine.refs f.number) ⊎ (own_names O.row (record (O.desk) { opening = None }) f.number ≡ false))
     → ((l : ℕ) (u : World) → l + 1 ≡ n
-    → own_of h u ≡ record O { mine = record { refs = put O.mine.refs f.number (O.mine.refs f.number - 1); walk = O.mine.walk; pending = O.mine.pending }; desk = record (O.desk) { fds = put O.desk.fds fd (Some s); hand = None; opening = None } }
+    → own_of h u ≡ own_installed O f.number fd s
     → Safe machine h B Q (k (Some fd)) l es u)
     → Safe machine h B Q (Do (Install f sort) m k) n es w
 s-install {A} {h} {x} fd s f sort {m} {k} {B} {Q} {n} {es} {w} {O} owns free lt pos opens hand room low keyed start unmarked walks none isi shared typed refers may rest = s-owned owns free pos (λ v inv ov.
@@ -204,134 +341,8 @@ s-install {A} {h} {x} fd s f sort {m} {k} {B} {Q} {n} {es} {w} {O} owns free lt 
     let c : lowest (v.desks h).fds ≡ fd = ap (λ (o : Own). lowest o.desk.fds) ov ∙ low in (
       ((λ q. cc (a, q)), start, spares h f.number v O ov refers (elim may [ inl y ↦ inl y | inr y ↦ inr (not_home h f.number v O None inv ov free lt y) ])),
       (λ _ _. subst (λ (z : Came (Option ℕ) World). Good machine (Option ℕ) h (λ a. places h (Install f sort) a (m a) v) 0 n B es v ⊥ (with_mark h m z) (λ l a u. Wp machine h B Q (k a) l (onto (own h (places h (Install f sort) a (m a) v)) es) u))
-          (sym ((λ i. install_if h v f sort (a i) (b i)) ∙ (λ i. Ran (Some (c i)) (installed h v f sort s (c i))))) (good v inv ov)),
+          (sym ((λ i. install_if h v f sort (a i) (b i)) ∙ (λ i. Ran (Some (c i)) (installed h v f sort s (c i))))) (
+          let at = installing h fd s f sort x v O ov free lt inv opens hand keyed start walks none isi shared typed refers may in
+          subst (λ (z : Option Mark). Fine machine h (places h (Install f sort) (Some fd) z v) 0 n B es v (marked h z (installed h v f sort s fd)) (λ l. Wp machine h B Q (k (Some fd)) l (onto (own h (places h (Install f sort) (Some fd) z v)) es) (marked h z (installed h v f sort s fd)))) (sym unmarked)
+          (quiet at.lands (λ z. record { tree = settle v.all; walk = walks_refs v.harts h f.number ((v.harts h).refs f.number - 1) z }) pos (λ l q. (rest l (installed h v f sort s fd) q at.owned).wp)))),
     ))
-  where
-    i0 : ℕ
-    i0 = f.number
-
-    good : (v : World) → Inv v → own_of h v ≡ O → Fine machine h (places h (Install f sort) (Some fd) (m (Some fd)) v) 0 n B es v (marked h (m (Some fd)) (installed h v f sort s fd)) (λ l. Wp machine h B Q (k (Some fd)) l (onto (own h (places h (Install f sort) (Some fd) (m (Some fd)) v)) es) (marked h (m (Some fd)) (installed h v f sort s fd)))
-    good v inv ov =
-        subst (λ (z : Option Mark). Fine machine h (places h (Install f sort) (Some fd) z v) 0 n B es v (marked h z (installed h v f sort s fd)) (λ l. Wp machine h B Q (k (Some fd)) l (onto (own h (places h (Install f sort) (Some fd) z v)) es) (marked h z (installed h v f sort s fd)))) (sym unmarked)
-        (quiet (fair inv did) (λ z. record { tree = settle v.all; walk = walks_refs v.harts h i0 ((v.harts h).refs i0 - 1) z }) pos (λ l q. (rest l u q owned).wp))
-      where
-        u : World
-        u = installed h v f sort s fd
-
-        opened : (v.desks h).opening ≡ Some fd
-        opened = ap (λ (o : Own). o.desk.opening) ov ∙ opens
-
-        o : IsOpening (shop_of v) h fd
-        o = inv.tied.fresh h fd lt opened
-
-        file : o.file ≡ f
-        file = same_file o.file f (let a : Some (key_is o.file) ≡ Some (key_is f) = sym (key_from v.all h fd o.id o.file lt o.below o.is o.at) ∙ ap (λ (p : Own). p.row.keys fd) ov ∙ keyed in cc) (o.offset ∙ sym start)
-
-        id_is : opening_id v h ≡ o.id
-        id_is = ap (λ (z : Option ℕ). or_zero (v.all.fds h (or_zero z))) opened ∙ ap (λ (z : Option ℕ). or_zero z) o.is
-
-        tied : Tied (shop_of u)
-        tied = subst (λ (z : ℕ). Tied (took_shop (shop_of v) h fd s f sort z)) (sym id_is) (takes_tied (shop_of v) h fd s f sort o inv.tied (record { hart = lt; opening = opened; hand = ap (λ (p : Own). p.desk.hand) ov ∙ hand; file = file }))
-
-        new : Mine
-        new = record { refs = put (v.harts h).refs i0 ((v.harts h).refs i0 - 1); walk = (v.harts h).walk; pending = (v.harts h).pending }
-
-        desk : Desk
-        desk = record (v.desks h) { fds = put (v.desks h).fds fd (Some s); hand = None; opening = None }
-
-        desk_is : u.desks h ≡ desk
-        desk_is = put_same v.desks h desk
-
-        more : 0 < (v.harts h).refs i0
-        more = let r = my_refs h v O i0 ov in omega (arith, r, refers)
-
-        here : u.files s ≡ Some (record { file = f; sort = sort; references = 1 })
-        here = put_same v.files s (Some (record { file = f; sort = sort; references = 1 }))
-
-        grow : (j : ℕ) → ((j ≡ i0) → 1 < (v.harts h).refs i0) → 0 < (v.harts h).refs j → 0 < (u.harts h).refs j
-        grow j ok a = elim (same_or j i0) [
-          | inl q ↦ subst (λ (z : ℕ). 0 < (u.harts h).refs z) (sym q) (let r = here_refs v.harts h i0 ((v.harts h).refs i0 - 1) in let x = ok q in omega (arith, r, x))
-          | inr ne ↦ (let r = each_refs v.harts h i0 ((v.harts h).refs i0 - 1) h j (inr ne) in omega (arith, r, a))
-        ]
-
-        new_pin : Opens (u.desks h).fds u.files i0
-        new_pin = record { fd = fd; below = o.below; slot = s; is = ap (λ (d : Desk). d.fds fd) (put_same v.desks h desk) ∙ put_same (v.desks h).fds fd (Some s); entry = record { file = f; sort = sort; references = 1 }; at = here; number = refl }
-
-        pend : (v.harts h).pending ≡ None
-        pend = ap (λ (p : Own). p.mine.pending) ov ∙ none
-
-        named : (j : ℕ) → own_names (row_of v.all h) (u.desks h) j ≡ true → Reached u h j
-        named j is =
-            let bare : own_names (row_of v.all h) (record (v.desks h) { opening = None }) j ≡ true = (λ z. own_names (row_of v.all h) (sym (put_same v.desks h desk) z) j) ∙ is in
-            elim (inv.named h j lt (ap (λ (o : Own). o.desk.lender) ov ∙ free) (key_more (v.all.cwd h == j) (hold_names (v.all.holds h) j) (key_names (key_in (row_of v.all h).keys (v.desks h).opening) j) (is_at (v.desks h).left j) bare)) [
-              | inr p ↦ absurd (cc (p, pend))
-              | inl p ↦ inl (grow j (λ q. elim may [
-                | inl m ↦ (let r = my_refs h v O i0 ov in omega (arith, r, m))
-                | inr m ↦ absurd (let a : own_names O.row (record (O.desk) { opening = None }) i0 ≡ true = ap (λ (p : Own). own_names p.row (record (p.desk) { opening = None }) i0) (sym ov) ∙ ap (own_names (row_of v.all h) (record (v.desks h) { opening = None })) (sym q) ∙ bare in cc (a, m))
-              ]) p)
-            ]
-
-        -- what it reaches now it did before
-        shrink : (j : ℕ) → Reached u h j → Reached v h j
-        shrink j (inr p) = inr (sym (ap (λ (m : Mine). m.pending) (put_same v.harts h new)) ∙ p)
-        shrink j (inl p) = elim (same_or j i0) [
-          | inl q ↦ inl (subst (λ (z : ℕ). 0 < (v.harts h).refs z) (sym q) more)
-          | inr ne ↦ inl (let r = each_refs v.harts h i0 ((v.harts h).refs i0 - 1) h j (inr ne) in omega (arith, r, p))
-        ]
-
-        stays : (j : ℕ) (e : Entry) → v.files j ≡ Some e → u.files j ≡ Some e
-        stays j e a = put_other v.files s (Some (record { file = f; sort = sort; references = 1 })) j (λ q. absurd (let x = (inv.tied.hand h s lt (ap (λ (p : Own). p.desk.hand) ov ∙ hand)).1 in let y : v.files j ≡ v.files s = ap v.files q in cc (a, x, y))) ∙ a
-
-        home : (v.desks h).directory ≡ i0 → 0 < (v.harts h).refs i0 - 1
-        home q = elim may [
-          | inl m ↦ (let r = my_refs h v O i0 ov in omega (arith, r, m))
-          | inr m ↦ absurd (not_home h i0 v O None inv ov free lt m (ap (λ (p : Own). p.desk.directory) (sym ov) ∙ q))
-        ]
-
-        did : Did h v u
-        did = record {
-          hart = lt;
-          inodes = λ j. inl (record { lock = refl; keeper = refl; disk = refl; node = refl; alone = refl });
-          mine = λ g ne. put_other v.harts h new g ne;
-          rows = λ g ne. refl;
-          size = refl;
-          ids = inv.ids;
-          shop = record { tied = tied; desks = λ g ne. put_other v.desks h desk g ne; numbers = λ g i j e lg ne li r a. (e, stays j e a, refl); clean = λ c. c; child = ap (λ (d : Desk). child_of d) desk_is; stays = inl (ap (λ (d : Desk). d.directory) desk_is) };
-          free = ap (λ (d : Desk). d.lender) desk_is ∙ ap (λ (p : Own). p.desk.lender) ov ∙ free;
-          quiet = λ j is g. inv.quiet j h is (sym (ap (λ (d : Desk). d.joined) desk_is) ∙ g);
-          sort = λ j. inl refl;
-          sorts = λ k e is. elim (same_or k s) [
-            | inl q ↦ (let a : Some (record { file = f; sort = sort; references = 1 }) ≡ Some e = sym here ∙ ap u.files (sym q) ∙ is in let b : record { file = f; sort = sort; references = 1 } ≡ e = cc in subst (λ (z : Entry). sort_of (v.all.nodes z.file.number) ≡ Some z.sort) b (ap (λ (z : Option Node). sort_of z) (has_node h i0 v O x ov isi) ∙ typed))
-            | inr ne ↦ inv.sorts k e (sym (put_other v.files s (Some (record { file = f; sort = sort; references = 1 })) k ne) ∙ is)
-          ];
-          noted = λ m q r g. inv.noted h m lt (sym (ap (λ (d : Desk). d.noted) desk_is) ∙ q) (shrink m.number r) g;
-          directory = stands_on (v.desks h) (u.desks h) (v.all.cwd h) v.all.nodes (ap (λ (o : Own). o.desk.lender) ov ∙ free) (ap (λ (d : Desk). d.directory) desk_is) (ap (λ (d : Desk). d.left) desk_is) (inv.directory h lt);
-          refers = refers_put (v.harts h) (u.harts h) (v.desks h) (u.desks h) i0 ((v.harts h).refs i0 - 1) (ap (λ (m : Mine). m.refs) (put_same v.harts h new)) (ap (λ (d : Desk). d.directory) desk_is) (let a = (inv.refers h lt).few i0 in omega (arith, a)) (λ q. home q) (inv.refers h lt);
-          well = inv.well;
-          counts = λ j. elim (same_or j i0) [
-            | inl q ↦ subst (λ (z : ℕ). v.refs z ≡ put v.slots i0 (v.slots i0 + 1) z + sum_below hart_count (λ g. (u.harts g).refs z)) (sym q)
-                (let t = total_changed v.harts h i0 ((v.harts h).refs i0 - 1) lt in let c = inv.counts i0 in let p = put_same v.slots i0 (v.slots i0 + 1) in let m = more in let x = one_refs v h i0 inv lt in omega (arith, t, c, p, m, x))
-            | inr ne ↦ (let t = total_same v.harts h i0 ((v.harts h).refs i0 - 1) j ne in let c = inv.counts j in let p = put_other v.slots i0 (v.slots i0 + 1) j ne in omega (arith, t, c, p))
-          ];
-          alone = λ j is.
-              let ne : j ≢ i0 = (λ q. absurd (let a : v.alone i0 ≡ false = ap (λ (y : Held). y.alone) (has_inode h i0 v O x ov isi).1 ∙ shared in let b : v.alone j ≡ v.alone i0 = ap v.alone q in cc (a, b, is))) in
-              let a = inv.alone j is in
-              record { hart = a.hart; kept = a.kept; dead = a.dead; counts = a.counts ∙ sym (each_refs v.harts h i0 ((v.harts h).refs i0 - 1) a.hart j (inr ne)) };
-          kept = λ j is. elim (inv.kept j h is).1 [
-            | inl x ↦ inl (record { fd = x.fd; below = x.below; slot = x.slot; is = ap (λ (d : Desk). d.fds x.fd) (put_same v.desks h desk) ∙ put_other (v.desks h).fds fd (Some s) x.fd (λ q. absurd (let y : (v.desks h).fds x.fd ≡ None = ap (v.desks h).fds q ∙ o.free in let z = x.is in cc (y, z))) ∙ x.is; entry = x.entry; at = stays x.slot x.entry x.at; number = x.number })
-            | inr p ↦ elim (same_or j i0) [ inl q ↦ inl (subst (λ (z : ℕ). Opens (u.desks h).fds u.files z) (sym q) new_pin) | inr ne ↦ inr (grow j (λ q. absurd (ne q)) p) ]
-          ];
-          held = λ j is. inv.held j h is;
-          named = λ j is. named j is;
-          pending = λ j is. absurd (let p : (u.harts h).pending ≡ (v.harts h).pending = ap (λ (m : Mine). m.pending) (put_same v.harts h new) in cc (p, is, pend));
-          walks = λ y is. absurd (let p : (u.harts h).walk ≡ (v.harts h).walk = ap (λ (m : Mine). m.walk) (put_same v.harts h new) in let q : (v.harts h).walk ≡ None = ap (λ (p : Own). p.mine.walk) ov ∙ walks in cc (p, is, q));
-        }
-
-        owned : own_of h u ≡ record O { mine = record { refs = put O.mine.refs f.number (O.mine.refs f.number - 1); walk = O.mine.walk; pending = O.mine.pending }; desk = record (O.desk) { fds = put O.desk.fds fd (Some s); hand = None; opening = None } }
-        owned = λ z. record {
-          inodes = ap (λ (p : Own). p.inodes) ov z;
-          mine = (put_same v.harts h new ∙ ap (λ (p : Own). record { refs = put p.mine.refs f.number (p.mine.refs f.number - 1); walk = p.mine.walk; pending = p.mine.pending }) ov) z;
-          row = ap (λ (p : Own). p.row) ov z;
-          ninodes = ap (λ (p : Own). p.ninodes) ov z;
-          desk = (put_same v.desks h desk ∙ ap (λ (p : Own). record (p.desk) { fds = put p.desk.fds fd (Some s); hand = None; opening = None }) ov) z;
-        }

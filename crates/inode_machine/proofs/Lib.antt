@@ -48,6 +48,7 @@ pub mod Empties
 pub mod Histories
 pub mod Resting
 pub mod Addings
+pub mod EmptyInstalls
 pub mod Creates
 pub mod Makings
 pub mod CreateCalls

@@ -1,5 +1,6 @@
 -- A file that an open makes: from the claim of its number to the call's end.
-use Rattle.std.proofs.Common.{◌≡◌, ◌≢◌, ◌⊎◌, inl, inr, ℕ, ◌+◌, ◌-◌, ◌*◌, ◌<◌, ◌≤◌, true, false, ◌==◌, ◌||◌, List, [], ◌∷◌, length, Option, Some, None, refl, sym, ◌∙◌, ap, subst, arith, if◌then◌else◌}
+use Rattle.std.proofs.Common.{◌≡◌, ◌≢◌, ◌⊎◌, inl, inr, ℕ, ◌+◌, ◌-◌, ◌*◌, ◌<◌, ◌≤◌, Bool, true, false, ◌==◌, ◌&&◌, ◌||◌, List, [], ◌∷◌, length, Option, Some, None, refl, sym, ◌∙◌, ap, subst, arith, if◌then◌else◌}
+use Rattle.atomic_programs.specs.Prog.{Do}
 use Rattle.atomic_programs.specs.Logic.{oldest_first, Safe}
 use Rattle.atomic_programs.specs.Calls.{Begun, Ends}
 use Rattle.plain_tree.specs.declared.answer.Full.{Full}
@@ -8,21 +9,23 @@ use Rattle.plain_tree.specs.declared.answer.Reply.{Reply}
 use Rattle.plain_tree.specs.declared.call.Call.TheVariants as calls
 use Rattle.plain_tree.specs.declared.node.Node.{Node}
 use Rattle.plain_tree.specs.declared.step.Action.TheVariants as steps
-use Rattle.plain_tree.specs.declared.step.StepAnswer.TheVariants.{Opened, Full as NoRoom}
-use Rattle.plain_tree.specs.Calls.{Act, next_of, reply_of, had_room}
+use Rattle.plain_tree.specs.declared.step.StepAnswer.TheVariants.{Opened, Done, Full as NoRoom}
+use Rattle.plain_tree.specs.Calls.{Act}
 use Rattle.plain_tree.specs.HartRow.{Key, Row, key_is, key_names}
 use Rattle.plain_tree.specs.Steps.{creates, empty_it, has, has_room, lowest, new_file}
 use Rattle.plain_tree.specs.Tree.{Name, put, look, hold_names, live_directory}
 use Rattle.plain_tree.specs.Widths.{hart_count}
 use Rattle.tree_laws.specs.WellFormed.{one_if}
 use Rattle.tree_laws.proofs.Maps.{either, eq_not, or_none, same_or, put_same, put_other}
-use Rattle.tree_moves.specs.Moves.{Step, MayEnd, Written}
+use Rattle.tree_moves.specs.Moves.{Step, Written}
+use Rattle.tree_moves.specs.Moves.Move.{Own as OwnMove}
 use Rattle.inode_machine.specs.World.{Desk, Note, World, New}
+use Rattle.inode_machine.specs.World.Op.{Install}
 use Rattle.inode_machine.specs.Inodes.{OfFile}
 use Rattle.inode_machine.specs.Exec.{blank, is_at, with_entry}
 use Rattle.inode_machine.specs.Rules.{Held, Own, key_in, own_names, own_of, machine}
 use Rattle.inode_machine.specs.Parts.{P, full, give_up, own_step, tail}
-use Rattle.inode_machine.specs.Opening.{file_for, make_with, open_made, opened_reply, unmake}
+use Rattle.inode_machine.specs.Opening.{file_for, installed_on, installs, make_with, open_end, open_made, opened_reply, truncates, unmake}
 use Rattle.inode_machine.specs.Theory.{covered_calls}
 use Rattle.inode_machine.proofs.Rules.{locked_held}
 use Rattle.inode_machine.proofs.Counting.{s-give}
@@ -30,7 +33,7 @@ use Rattle.inode_machine.proofs.Freeing.{s-take-kept}
 use Rattle.inode_machine.proofs.Looks.{KeepsHold, mends}
 use Rattle.inode_machine.proofs.Listing.{times, one_at, one_else, Listed}
 use Rattle.inode_machine.proofs.Walks.{Stays, names_stay}
-use Rattle.inode_machine.proofs.Endings.{Walked, names_plain, s-ends}
+use Rattle.inode_machine.proofs.Endings.{Walked, names_plain, s-ends, walked_tells}
 use Rattle.inode_machine.proofs.Claiming.{Mendable, claimed_held, mended_own, s-store}
 use Rattle.inode_machine.proofs.Acting.{told_step}
 use Rattle.inode_machine.proofs.Creates.{created_inodes, s-enter-file}
@@ -39,13 +42,11 @@ use Rattle.inode_machine.proofs.Pairs.{Pair, pair_same, pair_set, pair_set_first
 use Rattle.inode_machine.proofs.Paths.{begun_by, walking_told, written_by}
 use Rattle.inode_machine.proofs.Openings.{opened_row, row_back, unopened_row}
 use Rattle.inode_machine.proofs.Unopens.{mends_opened}
-use Rattle.inode_machine.proofs.Installs.{s-install}
+use Rattle.inode_machine.proofs.Installs.{own_installed, s-install}
 use Rattle.inode_machine.proofs.Slots.{s-install-full, s-slot}
-
--- What is written: an open that empties nothing.
-opened_ends : (path : List ℕ) (flags fd id : ℕ) → has flags empty_it ≡ false → MayEnd (calls.Open path flags) (record { step = steps.Open path flags; answer = Opened fd id true } ∷ []) (opened_reply path flags fd)
-unfolding next_of reply_of had_room
-opened_ends path flags fd id plain = record { through = rw plain refl; reply = refl; room = refl }
+use Rattle.inode_machine.proofs.Empties.{empty_step}
+use Rattle.inode_machine.proofs.EmptyInstalls.{s-install-empty}
+use Rattle.inode_machine.proofs.OpenEnds.{open_done, opened_act, opened_begins, trunc_done, trunc_next}
 
 -- a new descriptor names its own inode alone
 pub names_opened : (r : Row) (d : Desk) (fd id : ℕ) (k : Key) (j : ℕ) → d.opening ≡ None → (k.number == j) ≡ false → own_names (opened_row r fd id k) (record d { opening = Some fd }) j ≡ own_names r d j
@@ -65,7 +66,7 @@ went_own O0 i flags fd id = record O0 { row = opened_row O0.row fd id (key_is (f
 abbrev fresh_held : Node → Held
 fresh_held y = record { disk = Some y; node = None; alone = true; locked = true }
 
-module _ (h : ℕ) (path : List ℕ) (flags : ℕ) (lt : h < hart_count) (plain : has flags empty_it ≡ false) {base : ℕ → ℕ} {O0 : Own} (joins : Joins base O0) (ns : List ℕ) where
+module _ (h : ℕ) (path : List ℕ) (flags : ℕ) (lt : h < hart_count) {base : ℕ → ℕ} {O0 : Own} (joins : Joins base O0) (ns : List ℕ) where
   -- What it names without its new descriptor it named at the beginning.
   names_home : (i fd id : ℕ) (R : Own) → Stays R (went_own O0 i flags fd id) → (j : ℕ) → own_names R.row (record (R.desk) { opening = None }) j ≡ own_names O0.row O0.desk j
   names_home i fd id R s j =
@@ -82,17 +83,13 @@ module _ (h : ℕ) (path : List ℕ) (flags : ℕ) (lt : h < hart_count) (plain 
 
   -- A slot and a descriptor are taken for it, its lock is given up, and the call ends.
   opens : (i fd id l : ℕ) (E : ℕ → Option Held) (es : List Step) (u : World) (R : Own) → 971 * length ns + 1000 < l → own_of h u ≡ R → Holding base ns (went_own O0 i flags fd id) R E (λ j. 0 + one_if (i == j)) → E i ≡ Some (locked_held (Some new_file)) → ((j : ℕ) → j ≢ i → E j ≡ None) → R.mine.walk ≡ None → R.mine.pending ≡ None
-      → has_room R.desk.fds ≡ true → lowest R.desk.fds ≡ fd → O0.row.fds fd ≡ None → O0.row.keys fd ≡ None → Written (calls.Open path flags) (oldest_first es) (opened_reply path flags fd) → Goes h path flags (open_made path flags i ns) l es u
-  opens i fd id l E es u R few held k isi rest walk none room low nofd nokey written =
+      → has_room R.desk.fds ≡ true → lowest R.desk.fds ≡ fd → O0.row.fds fd ≡ None → O0.row.keys fd ≡ None → Walked (calls.Open path flags) (opened_act path flags fd id true ∷ []) es → Goes h path flags (open_made path flags i ns) l es u
+  opens i fd id l E es u R few held k isi rest walk none room low nofd nokey told =
       s-slot M held free lt (omega (arith, few)) (k.stays.hand ∙ joins.may.hand) refl refl
       (λ v inv ov. mends_opened h fd v R ov free lt inv k.stays.opening left (subst KeepsHold (sym hold) tt) (λ j q. refers j q))
       (λ l2 u2 q2 held2. s-give-end h (calls.Open path flags) (full (calls.Open path flags) OpenFiles) ns E i l2 es u2 M lt joins held2 (omega (arith, few, q2))
       (holding_to O0 M k refl stays_back refl (λ j t q. names_stay M O0 stays_back j ∙ unnamed_home i fd id R k.stays j q)) isi (record { locked = refl; shared = refl; same = refl }) rest refl refl (inl refl))
-      (λ l2 s u2 q2 held2.
-      s-install fd s (file_for i flags) OfFile held2 free lt (omega (arith, few, q2)) k.stays.opening refl room low keyed refl (λ z. if plain z then own_step (steps.Truncate fd) else None) walk none (k.has i (locked_held (Some new_file)) isi) refl refl here twice (λ l3 u3 q3 held3.
-      s-give held3 free lt (omega (arith, few, q2, q3)) (k.has i (locked_held (Some new_file)) isi) refl refl refl none (λ l4 u4 q4 held4.
-      s-ends h (calls.Open path flags) (opened_reply path flags fd) base ns l4 es u4 _ held4 free lt (omega (arith, few, q2, q3, q4)) (k.stays.joined ∙ joins.ready.joined) (listed s) fewer walk none
-      (record { hold = hold; hand = refl; lent = k.stays.lent ∙ joins.may.lent; opening = refl; left = left; counts = λ j. joins.may.counts j ∙ (λ z. one_if (sym k.stays.directory z == j)) }) (inr written))))
+      (λ l2 s u2 q2 held2. install (has flags empty_it) refl s l2 u2 (omega (arith, few, q2)) held2)
     where
       free : R.desk.lender ≡ None
       free = k.stays.lender ∙ joins.ready.free
@@ -167,6 +164,31 @@ module _ (h : ℕ) (path : List ℕ) (flags : ℕ) (lt : h < hart_count) (plain 
         | inr ne ↦ (let a = put_other R.mine.refs i (R.mine.refs i - 1) j ne in let o = one_else i j ne in omega (arith, a, o, r))
       ]
 
+      R_in : ℕ → Own
+      R_in s = record R { desk = record (R.desk) { hand = Some s } }
+
+      -- its lock is given up, and the call ends
+      ends : (s l3 : ℕ) (fs : List Step) (u3 : World) → 971 * length ns + 980 < l3 → own_of h u3 ≡ own_installed (R_in s) i fd s → Written (calls.Open path flags) (oldest_first fs) (opened_reply path flags fd) → Goes h path flags (open_end path flags i ns fd) l3 fs u3
+      ends s l3 fs u3 few3 held3 written =
+          s-give held3 free lt (omega (arith, few3)) (k.has i (locked_held (Some new_file)) isi) refl refl refl none (λ l4 u4 q4 held4.
+          s-ends h (calls.Open path flags) (opened_reply path flags fd) base ns l4 fs u4 _ held4 free lt (omega (arith, few3, q4)) (k.stays.joined ∙ joins.ready.joined) (listed s) fewer walk none
+          (record { hold = hold; hand = refl; lent = k.stays.lent ∙ joins.may.lent; opening = refl; left = left; counts = λ j. joins.may.counts j ∙ (λ z. one_if (sym k.stays.directory z == j)) }) (inr written))
+
+      install : (b : Bool) → has flags empty_it ≡ b → (s l2 : ℕ) (u2 : World) → 971 * length ns + 985 < l2 → own_of h u2 ≡ R_in s → Goes h path flags (Do (Install (file_for i flags) OfFile) (installs (truncates flags)) (installed_on path flags i ns (open_end path flags i ns))) l2 es u2
+      install false e s l2 u2 few2 held2 =
+          s-install fd s (file_for i flags) OfFile held2 free lt (omega (arith, few2)) k.stays.opening refl room low keyed refl (λ z. if e z then own_step (steps.Truncate fd) else None) walk none (k.has i (locked_held (Some new_file)) isi) refl refl here twice
+          (λ l3 u3 q3 held3. ends s l3 es u3 (omega (arith, few2, q3)) held3 (written_by (calls.Open path flags) (opened_act path flags fd id true ∷ []) es (opened_reply path flags fd) told (open_done path flags fd id true (λ z. e z && true))))
+      install true e s l2 u2 few2 held2 =
+          s-install-empty fd s (file_for i flags) OfFile new_file held2 free lt (omega (arith, few2)) k.stays.opening refl room low keyed refl (λ z. if e z then own_step (steps.Truncate fd) else None) walk none (k.has i (locked_held (Some new_file)) isi) refl refl refl here twice
+          (begun_by (calls.Open path flags) (opened_act path flags fd id true ∷ emptied ∷ []) (empty_step fd ∷ es) [] (opened_reply path flags fd) (both e) (trunc_done path flags fd id true))
+          (λ l3 u3 q3 held3. ends s l3 (empty_step fd ∷ es) u3 (omega (arith, few2, q3)) held3 (written_by (calls.Open path flags) (opened_act path flags fd id true ∷ emptied ∷ []) (empty_step fd ∷ es) (opened_reply path flags fd) (both e) (trunc_done path flags fd id true)))
+        where
+          emptied : Act
+          emptied = record { step = steps.Truncate fd; answer = Done }
+
+          both : has flags empty_it ≡ true → Walked (calls.Open path flags) (opened_act path flags fd id true ∷ emptied ∷ []) (empty_step fd ∷ es)
+          both q = walked_tells (calls.Open path flags) (opened_act path flags fd id true ∷ []) (OwnMove (steps.Truncate fd) 0) (record { act = emptied; new = 0 }) es (trunc_next path flags fd id true (λ z. q z && true)) told
+
   -- The hart has no descriptor left.
   lacks : (i l : ℕ) (E : ℕ → Option Held) (es : List Step) (u : World) (R : Own) → 971 * length ns + 1000 < l → own_of h u ≡ R → Holding base ns O0 R E (λ j. 0 + one_if (i == j)) → E i ≡ Some (locked_held (Some new_file)) → ((j : ℕ) → j ≢ i → E j ≡ None) → R.mine.walk ≡ None → R.mine.pending ≡ None → has_room R.desk.fds ≡ false
       → Goes h path flags (open_made path flags i ns) l es u
@@ -201,13 +223,13 @@ module _ (h : ℕ) (path : List ℕ) (flags : ℕ) (lt : h < hart_count) (plain 
 
   -- The name is entered: the parent is given up first.
   named : (d i fd id l : ℕ) {x : Held} (es : List Step) (u : World) (R O : Own) → 971 * length ns + 1910 < l → own_of h u ≡ R → Pair base ns O0 O d i x (locked_held (Some new_file)) → IsWhole x → R.inodes ≡ O.inodes → R.mine.refs ≡ O.mine.refs → R.ninodes ≡ O.ninodes → R.row ≡ opened_row O.row fd id (key_is (file_for i flags)) → R.desk ≡ record (O.desk) { opening = Some fd } → R.mine.walk ≡ None → R.mine.pending ≡ None
-      → has_room O.desk.fds ≡ true → lowest O.desk.fds ≡ fd → O.row.fds fd ≡ None → O.row.keys fd ≡ None → Written (calls.Open path flags) (oldest_first es) (opened_reply path flags fd) → Goes h path flags (give_up d (open_made path flags i ns)) l es u
-  named d i fd id l {x} es u R O few held p whole inodes refs ninodes row desk walk none room low nofd nokey written =
+      → has_room O.desk.fds ≡ true → lowest O.desk.fds ≡ fd → O.row.fds fd ≡ None → O.row.keys fd ≡ None → Walked (calls.Open path flags) (opened_act path flags fd id true ∷ []) es → Goes h path flags (give_up d (open_made path flags i ns)) l es u
+  named d i fd id l {x} es u R O few held p whole inodes refs ninodes row desk walk none room low nofd nokey told =
       s-give-up-in d {O0 = went_own O0 i flags fd id} {more = λ j. 0 + one_if (i == j)} held lt joins.ready.free joins.ready.joined (λ q. let b = joins.ready.spare d (sym (names_opened O0.row O0.desk fd id (key_is (file_for i flags)) d joins.ready.opening (eq_not i d p.apart)) ∙ q) in omega (arith, b)) (omega (arith, few))
       (record { stays = k.stays; refs = λ j. (let a = k.refs j in omega (arith, a)); all = k.all; once = k.once; has = k.has; only = k.only }) walk none p.at_d whole (λ l2 u2 R2 q2 held2 desk2 walk2 none2 k2.
       opens i fd id l2 (put p.extra d None) es u2 R2 (omega (arith, few, q2)) held2 k2 (put_other p.extra d None i p.apart ∙ p.at_i)
       (λ j ni. elim (same_or j d) [ inl e ↦ ap (put p.extra d None) e ∙ put_same p.extra d None | inr nd ↦ put_other p.extra d None j nd ∙ p.others j nd ni ]) walk2 none2
-      (ap (λ (z : Desk). has_room z.fds) (desk2 ∙ desk) ∙ room) (ap (λ (z : Desk). lowest z.fds) (desk2 ∙ desk) ∙ low) (ap (λ (z : Row). z.fds fd) (sym p.hold.stays.row) ∙ nofd) (ap (λ (z : Row). z.keys fd) (sym p.hold.stays.row) ∙ nokey) written)
+      (ap (λ (z : Desk). has_room z.fds) (desk2 ∙ desk) ∙ room) (ap (λ (z : Desk). lowest z.fds) (desk2 ∙ desk) ∙ low) (ap (λ (z : Row). z.fds fd) (sym p.hold.stays.row) ∙ nofd) (ap (λ (z : Row). z.keys fd) (sym p.hold.stays.row) ∙ nokey) told)
     where
       not_i : (j : ℕ) → 0 < times j ns → i ≢ j
       not_i j t q = absurd (let z = unlisted_refs p.hold i (let o = one_at i in omega (arith, o)) in let a : times i ns ≡ times j ns = ap (λ (m : ℕ). times m ns) q in omega (arith, z, a, t))
@@ -244,9 +266,9 @@ module _ (h : ℕ) (path : List ℕ) (flags : ℕ) (lt : h < hart_count) (plain 
       s-store i 1 (blank OfFile) held1 free lt (omega (arith, few, q1)) joined (put_same R.inodes i (Some (fresh_held (blank OfFile)))) refl refl (inl (omega arith)) (λ l2 u2 q2 held2.
       s-enter-file d i X e path flags held2 free lt (omega (arith, few, q1, q2)) joined walk none (mendable joins.ready p2.hold) flag refl refl refl
       (p2.hold.has d (locked_held (Some X)) p2.at_d) refl refl refl refl live absent (p2.hold.has i (fresh_held new_file) p2.at_i) refl refl refl refers from below notes
-      (λ fd id. begun_by (calls.Open path flags) (act fd id ∷ []) (told_step i (steps.Open path flags) (Opened fd id true) ∷ fs) [] (opened_reply path flags fd) (told fd id) (opened_ends path flags fd id plain))
+      (λ fd id. opened_begins path flags fd id true (told_step i (steps.Open path flags) (Opened fd id true) ∷ fs) (told fd id))
       (λ l3 fd id u3 q3 room low nofd nokey held3. named d i fd id l3 (told_step i (steps.Open path flags) (Opened fd id true) ∷ fs) u3 _ R3 (omega (arith, few, q1, q2, q3)) held3 p3 (record { locked = refl; shared = refl; same = refl }) refl refl refl refl refl refl refl room low nofd nokey
-      (written_by (calls.Open path flags) (act fd id ∷ []) (told_step i (steps.Open path flags) (Opened fd id true) ∷ fs) (opened_reply path flags fd) (told fd id) (opened_ends path flags fd id plain)))
+      (told fd id))
       (λ l3 u3 q3 room held3. named_full d i l3 (told_step i (steps.Open path flags) (NoRoom Descriptors) ∷ fs) u3 R3 (omega (arith, few, q1, q2, q3)) held3 p3 (record { locked = refl; shared = refl; same = refl }) refl refl room)
       (λ l3 u3 q3 held3. unmade (full (calls.Open path flags) Blocks) l3 u3 (omega (arith, few, q1, q2, q3)) held3)
       (λ l3 u3 q3 held3. unmade (full (calls.Open path flags) DirectoryFull) l3 u3 (omega (arith, few, q1, q2, q3)) held3)))
@@ -260,10 +282,7 @@ module _ (h : ℕ) (path : List ℕ) (flags : ℕ) (lt : h < hart_count) (plain 
       refers : 0 < R.mine.refs i
       refers = let f = p.hold.refs i in let o = one_at i in omega (arith, f, o)
 
-      act : ℕ → ℕ → Act
-      act fd id = record { step = steps.Open path flags; answer = Opened fd id true }
-
-      told : (fd id : ℕ) → Walked (calls.Open path flags) (act fd id ∷ []) (told_step i (steps.Open path flags) (Opened fd id true) ∷ fs)
+      told : (fd id : ℕ) → Walked (calls.Open path flags) (opened_act path flags fd id true ∷ []) (told_step i (steps.Open path flags) (Opened fd id true) ∷ fs)
       told fd id = walking_told (calls.Open path flags) [] (steps.Open path flags) (Opened fd id true) i fs walking
 
       R1 : Own

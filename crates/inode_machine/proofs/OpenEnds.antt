@@ -37,7 +37,7 @@ use Rattle.inode_machine.proofs.Walks.{At, Ready}
 use Rattle.inode_machine.proofs.Endings.{Follows, MayRest, Walked, back_at, home, joined_own, missed, names_plain, ready_at, s-ends, s-refuse, tells, walked_begun, walked_tells}
 use Rattle.inode_machine.proofs.Openings.{opened_row, unopened_row}
 use Rattle.inode_machine.proofs.Unopens.{mends_opened}
-use Rattle.inode_machine.proofs.Installs.{s-install}
+use Rattle.inode_machine.proofs.Installs.{own_installed, s-install}
 use Rattle.inode_machine.proofs.Slots.{s-slot, s-install-full}
 use Rattle.inode_machine.proofs.Opens.{face_or_sort, file_by_sort}
 use Rattle.inode_machine.proofs.Writings.{put_twice}
@@ -64,11 +64,11 @@ unfolding next_of reply_of had_room
 open_done path flags fd id is_file e = record { through = rw e refl; reply = refl; room = refl }
 
 -- a file is to be emptied then
-trunc_next : (path : List ℕ) (flags fd id : ℕ) (is_file : Bool) → (has flags empty_it && is_file) ≡ true → next_of (calls.Open path flags) (opened_act path flags fd id is_file ∷ []) ≡ Some (steps.Truncate fd)
+pub trunc_next : (path : List ℕ) (flags fd id : ℕ) (is_file : Bool) → (has flags empty_it && is_file) ≡ true → next_of (calls.Open path flags) (opened_act path flags fd id is_file ∷ []) ≡ Some (steps.Truncate fd)
 unfolding next_of
 trunc_next path flags fd id is_file e = rw e refl
 
-trunc_done : (path : List ℕ) (flags fd id : ℕ) (is_file : Bool) → MayEnd (calls.Open path flags) (opened_act path flags fd id is_file ∷ record { step = steps.Truncate fd; answer = Done } ∷ []) (opened_reply path flags fd)
+pub trunc_done : (path : List ℕ) (flags fd id : ℕ) (is_file : Bool) → MayEnd (calls.Open path flags) (opened_act path flags fd id is_file ∷ record { step = steps.Truncate fd; answer = Done } ∷ []) (opened_reply path flags fd)
 unfolding next_of reply_of had_room
 trunc_done path flags fd id is_file = record { through = refl; reply = refl; room = refl }
 
@@ -87,13 +87,6 @@ names_home r d i hold opening left = names_plain r d i hold opening ∙ (λ z. (
 names_fewer : (r r2 : Row) (d d2 : Desk) (i : ℕ) → r2.cwd ≡ r.cwd → r2.hold ≡ None → d2.opening ≡ None → d2.left ≡ None → own_names r d i ≡ false → own_names r2 d2 i ≡ false
 names_fewer r r2 d d2 i cwd hold opening left q =
     names_home r2 d2 i hold opening left ∙ (λ z. (cwd z == i) || false) ∙ (λ z. (or_none (r.cwd == i) (hold_names r.hold i || (key_names (key_in r.keys d.opening) i || is_at d.left i)) q).0 z || false)
-
--- What it has once a descriptor is its.
-abbrev installed_own : Own → ℕ → ℕ → ℕ → Own
-installed_own R j fd s = record R {
-  mine = record { refs = put R.mine.refs j (R.mine.refs j - 1); walk = R.mine.walk; pending = R.mine.pending };
-  desk = record (R.desk) { fds = put R.desk.fds fd (Some s); hand = None; opening = None };
-}
 
 module _ (h : ℕ) (path : List ℕ) (flags : ℕ) (w : World) (free : (w.desks h).lender ≡ None) (lt : h < hart_count) (holds : Inv w) (idle : Idle h w) where
   abbrev c : Call
@@ -190,12 +183,12 @@ module _ (h : ℕ) (path : List ℕ) (flags : ℕ) (w : World) (free : (w.desks 
   went fd id key = record O0 { row = opened_row O0.row fd id key; desk = record (O0.desk) { opening = Some fd } }
 
   -- The inode's lock is given up, and the call ends.
-  s-open-end : (j fd s id : ℕ) (key : Key) (ns : List ℕ) (t : Option Note) (x : Option Node) (n : ℕ) (es : List Step) (u u0 : World) (R : Own) → 1000 + 971 * length ns ≤ n → At h j base ns None t (went fd id key) R u0 → own_of h u ≡ record (installed_own R j fd s) { inodes = put R.inodes j (Some (locked_held x)) }
+  s-open-end : (j fd s id : ℕ) (key : Key) (ns : List ℕ) (t : Option Note) (x : Option Node) (n : ℕ) (es : List Step) (u u0 : World) (R : Own) → 1000 + 971 * length ns ≤ n → At h j base ns None t (went fd id key) R u0 → own_of h u ≡ record (own_installed R j fd s) { inodes = put R.inodes j (Some (locked_held x)) }
       → Written c (oldest_first es) (opened_reply path flags fd) → Safe machine h B Q (open_end path flags j ns fd) n es u
   s-open-end j fd s id key ns t x n es u u0 R few at own told =
       s-give own (at.stays.lender ∙ free) lt (omega (arith, few)) (put_same R.inodes j (Some (locked_held x))) refl refl refl at.pending (λ l u2 q own2.
       s-ends h c (opened_reply path flags fd) base ns l es u2 _ own2 (at.stays.lender ∙ free) lt (omega (arith, few, q)) at.stays.joined
-      (listed_among R (record (installed_own R j fd s) { inodes = put (put R.inodes j (Some (locked_held x))) j None }) base ns at.listed (λ i. back_at R.inodes j (Some (locked_held x)) at.out i) (λ i p. put_other R.mine.refs j (R.mine.refs j - 1) i (not_j i p)) (λ i p q. names_fewer R.row R.row R.desk (installed_own R j fd s).desk i refl hold refl left q))
+      (listed_among R (record (own_installed R j fd s) { inodes = put (put R.inodes j (Some (locked_held x))) j None }) base ns at.listed (λ i. back_at R.inodes j (Some (locked_held x)) at.out i) (λ i p. put_other R.mine.refs j (R.mine.refs j - 1) i (not_j i p)) (λ i p q. names_fewer R.row R.row R.desk (own_installed R j fd s).desk i refl hold refl left q))
       (λ i. fewer i) at.walk at.pending (record { hold = hold; hand = refl; lent = at.stays.lent ∙ idle.lent; opening = refl; left = left; counts = λ i. λ z. one_if (sym at.stays.directory z == i) }) (inr told))
     where
       hold : R.row.hold ≡ None
@@ -215,7 +208,7 @@ module _ (h : ℕ) (path : List ℕ) (flags : ℕ) (w : World) (free : (w.desks 
 
   -- A file is emptied, where that is asked for.
   s-open-then : (j fd s id : ℕ) (is_file : Bool) (ns : List ℕ) (t : Option Note) (sort : Sort) (x : Option Node) (n : ℕ) (es : List Step) (u u0 : World) (R : Own) → 1950 + 971 * length ns ≤ n → At h j base ns None t (went fd id (key_is (file_for j flags))) R u0 → sort_of x ≡ Some sort
-      → own_of h u ≡ record (installed_own R j fd s) { inodes = put R.inodes j (Some (locked_held x)) } → is_file ≡ is_file_sort sort → Walked c (opened_act path flags fd id is_file ∷ []) es
+      → own_of h u ≡ record (own_installed R j fd s) { inodes = put R.inodes j (Some (locked_held x)) } → is_file ≡ is_file_sort sort → Walked c (opened_act path flags fd id is_file ∷ []) es
       → Safe machine h B Q (if empties flags sort then Do (Empty j) (λ _. own_step (steps.Truncate fd)) (λ _. open_end path flags j ns fd) else open_end path flags j ns fd) n es u
   s-open-then j fd s id is_file ns t sort x n es u u0 R few at typed own kind told = by (empties flags sort) refl
     where
@@ -244,7 +237,7 @@ module _ (h : ℕ) (path : List ℕ) (flags : ℕ) (w : World) (free : (w.desks 
       by true e = subst (λ (b : Bool). Safe machine h B Q (if b then Do (Empty j) (λ _. own_step (steps.Truncate fd)) (λ _. open_end path flags j ns fd) else open_end path flags j ns fd) n es u) (sym e)
           (s-empty j fd key (node_or x) own (at.stays.lender ∙ free) lt (omega (arith, few)) at.stays.joined (put_same R.inodes j (Some (locked_held x)) ∙ (λ z. Some (locked_held (some x typed z)))) (file_by_sort x sort typed ∙ file e) keyed refl at.walk at.pending
           (walked_begun c (opened_act path flags fd id is_file ∷ record { step = steps.Truncate fd; answer = Done } ∷ []) (empty_step fd ∷ es) [] (opened_reply path flags fd) (emptied_told e) (trunc_done path flags fd id is_file))
-          (λ l2 u2 q2 own2. s-open-end j fd s id key ns t (Some y) l2 (empty_step fd ∷ es) u2 u0 R (omega (arith, q2, few)) at (own2 ∙ (λ z. record (installed_own R j fd s) {
+          (λ l2 u2 q2 own2. s-open-end j fd s id key ns t (Some y) l2 (empty_step fd ∷ es) u2 u0 R (omega (arith, q2, few)) at (own2 ∙ (λ z. record (own_installed R j fd s) {
             inodes = put_twice R.inodes j (Some (locked_held x)) (Some (locked_held (Some y))) z;
             mine = record { refs = put R.mine.refs j (R.mine.refs j - 1); walk = sym at.walk z; pending = sym at.pending z };
           })) (emptied_told e [] (opened_reply path flags fd) (trunc_done path flags fd id is_file))))

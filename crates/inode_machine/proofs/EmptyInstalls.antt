@@ -1,0 +1,90 @@
+-- The descriptor of a file that an open made: where the file is to be emptied, it is empty.
+use Rattle.std.proofs.Common.{◌≡◌, ◌⊎◌, inl, inr, ℕ, ◌+◌, ◌-◌, ◌<◌, true, false, List, [], ◌∷◌, Option, Some, None, refl, sym, ◌∙◌, ap, subst}
+use Rattle.atomic_programs.specs.Prog.{Do, Did as Came, Ran}
+use Rattle.atomic_programs.specs.Logic.{P, own, onto, Good, Fine, Safe, Wp}
+use Rattle.plain_tree.specs.declared.node.Node.{Node}
+use Rattle.plain_tree.specs.declared.tree.OpenFile.{OpenFile}
+use Rattle.plain_tree.specs.declared.step.Action.TheVariants.{Truncate}
+use Rattle.plain_tree.specs.declared.step.StepAnswer.TheVariants.{Done}
+use Rattle.plain_tree.specs.Widths.{hart_count}
+use Rattle.plain_tree.specs.Tree.{Tree, put, settle, resolve, parent}
+use Rattle.plain_tree.specs.Steps.{effect_with, is_file, lowest, has_room, place_of, with_nodes, StepWith}
+use Rattle.plain_tree.specs.HartRow.{Key, key_is}
+use Rattle.plain_tree.proofs.RowLemmas.{Behind, behind}
+use Rattle.plain_tree.proofs.Settling.{settle_again}
+use Rattle.tree_laws.proofs.Nodes.{put_self}
+use Rattle.tree_moves.specs.Moves.{Stage, Step}
+use Rattle.tree_moves.specs.Moves.Move.{Own as OwnMove}
+use Rattle.inode_machine.specs.World.{Mark, World}
+use Rattle.inode_machine.specs.World.Op.{Install}
+use Rattle.inode_machine.specs.Inodes.{Sort, sort_of}
+use Rattle.inode_machine.specs.Exec.{install_if, installed, with_walk}
+use Rattle.inode_machine.specs.Marks.{made_by, marked, new_id, places, with_mark}
+use Rattle.inode_machine.specs.Rules.{own_names, own_of, Own, Inv, machine}
+use Rattle.inode_machine.specs.Parts.{own_step}
+use Rattle.inode_machine.proofs.Frame.{fair, fair_then}
+use Rattle.inode_machine.proofs.Rules.{s-owned, has_node, locked_held, walks_refs}
+use Rattle.inode_machine.proofs.Counting.{not_home, spares}
+use Rattle.inode_machine.proofs.Rows.{below_is}
+use Rattle.inode_machine.proofs.Walking.{moves_good, own_walk, stage_walk, walk_did}
+use Rattle.inode_machine.proofs.Shops.{own_takes}
+use Rattle.inode_machine.proofs.Empties.{empty_step, emptied_node, trunc_effect, trunc_made, trunc_place, trunc_settled}
+use Rattle.inode_machine.proofs.Installs.{own_installed, installing, Installing}
+
+pub s-install-empty : {A : Type 0} {h : ℕ} (fd s : ℕ) (f : OpenFile) (sort : Sort) (y : Node) {m : Option ℕ → Option Mark} {k : Option ℕ → P machine A} {B : List Step → Type 0} {Q : A → List Step → World → Type 0} {n : ℕ} {es : List Step} {w : World} {O : Own}
+    → own_of h w ≡ O → O.desk.lender ≡ None → h < hart_count → 0 < n → O.desk.opening ≡ Some fd → O.desk.hand ≡ Some s → has_room O.desk.fds ≡ true → lowest O.desk.fds ≡ fd → O.row.keys fd ≡ Some (key_is f) → f.offset ≡ 0 → m (Some fd) ≡ own_step (Truncate fd)
+    → O.mine.walk ≡ None → O.mine.pending ≡ None → O.inodes f.number ≡ Some (locked_held (Some y)) → sort_of (Some y) ≡ Some sort → is_file y.kind ≡ true → emptied_node y ≡ y → 0 < O.mine.refs f.number → ((1 < O.mine.refs f.number) ⊎ (own_names O.row (record (O.desk) { opening = None }) f.number ≡ false)) → B (empty_step fd ∷ es)
+    → ((l : ℕ) (u : World) → l + 1 ≡ n → own_of h u ≡ own_installed O f.number fd s → Safe machine h B Q (k (Some fd)) l (empty_step fd ∷ es) u)
+    → Safe machine h B Q (Do (Install f sort) m k) n es w
+s-install-empty {A} {h} fd s f sort y {m} {k} {B} {Q} {n} {es} {w} {O} owns free lt pos opens hand room low keyed start marks walks none isi typed isf empty refers may b rest = s-owned owns free pos (λ v inv ov.
+    let p : (v.desks h).hand ≡ Some s = ap (λ (o : Own). o.desk.hand) ov ∙ hand in
+    let q : has_room (v.desks h).fds ≡ true = ap (λ (o : Own). has_room o.desk.fds) ov ∙ room in
+    let c : lowest (v.desks h).fds ≡ fd = ap (λ (o : Own). lowest o.desk.fds) ov ∙ low in (
+      ((λ z. cc (p, z)), start, spares h f.number v O ov refers (elim may [ inl x ↦ inl x | inr x ↦ inr (not_home h f.number v O None inv ov free lt x) ])),
+      (λ _ _. subst (λ (z : Came (Option ℕ) World). Good machine (Option ℕ) h (λ a. places h (Install f sort) a (m a) v) 0 n B es v ⊥ (with_mark h m z) (λ l a u. Wp machine h B Q (k a) l (onto (own h (places h (Install f sort) a (m a) v)) es) u))
+          (sym ((λ i. install_if h v f sort (p i) (q i)) ∙ (λ i. Ran (Some (c i)) (installed h v f sort s (c i)))))
+          (subst (λ (z : Option Mark). Fine machine h (places h (Install f sort) (Some fd) z v) 0 n B es v (marked h z (installed h v f sort s fd)) (λ l. Wp machine h B Q (k (Some fd)) l (onto (own h (places h (Install f sort) (Some fd) z v)) es) (marked h z (installed h v f sort s fd)))) (sym marks) (good v inv ov))),
+    ))
+  where
+    good : (v : World) → Inv v → own_of h v ≡ O
+        → Fine machine h (places h (Install f sort) (Some fd) (own_step (Truncate fd)) v) 0 n B es v (marked h (own_step (Truncate fd)) (installed h v f sort s fd)) (λ l. Wp machine h B Q (k (Some fd)) l (onto (own h (places h (Install f sort) (Some fd) (own_step (Truncate fd)) v)) es) (marked h (own_step (Truncate fd)) (installed h v f sort s fd)))
+    good v inv ov =
+        moves_good h 0 n B Q es v u (OwnMove (Truncate fd) 0) (k (Some fd)) (made_by v.all h (new_id v) (v.harts h).walk (OwnMove (Truncate fd) 0)) (record { all = v.all; walk = None; found = None; opened = None; entered = None; left = None; told = (empty_step fd).told })
+        (trunc_made v.all h fd 0 (new_id v) f.number at.file y (resolve v.all h []) (parent v.all h []) at.at file_is there ∙ (λ z. record { all = stays z; walk = None; found = None; opened = None; entered = None; left = None; told = (empty_step fd).told }))
+        (fair_then c.lands (fair c.lands.inv (walk_did h None None u (ap (λ (o : Own). o.desk.lender) c.owned ∙ free) lt c.lands.inv (ap (λ (o : Own). o.mine.pending) c.owned ∙ none) (λ m q e. absurd cc) (λ z q. absurd cc) (λ i q. absurd cc))))
+        (own_takes h v u1 (Truncate fd) Done refl refl (ap (λ (o : Own). o.mine.walk) ov ∙ walks) (λ q. refl) (λ g q. absurd cc)
+        (subst (λ (z : Tree). StepWith (settle v.all) h (Truncate fd) (resolve (settle v.all) h []) (parent (settle v.all) h []) Done 0 (new_id v) z) (sym (settle_again v.all))
+        (trunc_settled v.all v.all h fd (new_id v) (resolve (settle v.all) h []) (parent (settle v.all) h []) (ap settle (sym effect_is)) (rw (below_is h hart_count lt) placed)))
+        (ap (λ (m : Stage). m.walk) (stage_walk h None None u) ∙ (λ z. put (walks_refs v.harts h f.number ((v.harts h).refs f.number - 1) z) h None)))
+        b pos
+        (λ l q. (rest l u1 q (own_walk h None None u (own_installed O f.number fd s) c.owned ∙ kept)).wp)
+      where
+        u : World
+        u = installed h v f sort s fd
+
+        u1 : World
+        u1 = record u { harts = with_walk u.harts h None None }
+
+        c : Installing h fd s f sort O v
+        c = installing h fd s f sort (locked_held (Some y)) v O ov free lt inv opens hand keyed start walks none isi refl typed refers may
+
+        at : Behind v.all h fd (key_is f)
+        at = behind v.all h fd (key_is f) (ap (λ (o : Own). o.row.keys fd) ov ∙ keyed)
+
+        file_is : at.file.number ≡ f.number
+        file_is = ap (λ (z : Key). z.number) at.same
+
+        there : v.all.nodes f.number ≡ Some y
+        there = has_node h f.number v O (locked_held (Some y)) ov isi
+
+        placed : place_of v.all h (Truncate fd) ≡ true
+        placed = trunc_place v.all h fd f.number at.file y lt at.at file_is there isf
+
+        stays : with_nodes v.all (put v.all.nodes f.number (Some (emptied_node y))) ≡ v.all
+        stays = λ z. with_nodes v.all (put_self v.all.nodes f.number (Some (emptied_node y)) (there ∙ (λ j. Some (sym empty j))) z)
+
+        effect_is : effect_with v.all h (Truncate fd) None None 0 (new_id v) ≡ v.all
+        effect_is = trunc_effect v.all h fd 0 (new_id v) f.number at.file y None None at.at file_is there ∙ stays
+
+        kept : record (own_installed O f.number fd s) { mine = record { refs = put O.mine.refs f.number (O.mine.refs f.number - 1); walk = None; pending = None } } ≡ own_installed O f.number fd s
+        kept = λ z. record (own_installed O f.number fd s) { mine = record { refs = put O.mine.refs f.number (O.mine.refs f.number - 1); walk = sym walks z; pending = sym none z } }
