@@ -52,3 +52,4 @@ pub mod EmptyInstalls
 pub mod Creates
 pub mod Makings
 pub mod CreateCalls
+pub mod Examples

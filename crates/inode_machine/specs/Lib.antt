@@ -11,3 +11,4 @@ pub mod Moving
 pub mod Programs
 pub mod Theory
 pub mod Histories
+pub mod Examples

@@ -2,6 +2,7 @@
 //! call is right whatever the other harts do. The functions do nothing: each carries a law.
 #![tactic(auto)]
 
+ghost use Rattle.inode_machine.specs.Examples.{ChdirFinishes, CloseFinishes, CreateFinishes, DupFinishes, MkdirFinishes, NoBlockLeft, NoInodeLeft, OpenFinishes, ReadFinishes, StatFinishes, UnlinkFinishes, WalkerFails, WriteFinishes};
 ghost use Rattle.inode_machine.specs.Histories.{CallsHaveOneHistory, OneHartHasOneHistory};
 ghost use Rattle.inode_machine.specs.Theory.{CallsAreExplained, WorldsRest, WorldsStayInOrder, WorldsWithAFileRest};
 
@@ -43,4 +44,22 @@ pub fn worlds_rest()
 /// And such with an open file: hart 0 has it behind its first descriptor, at any offset, of any node.
 pub fn worlds_with_a_file_rest()
     ensures { WorldsWithAFileRest }
+{}
+
+/// There are runs, computed from a fresh tree, in which calls finish; one in which a hart's directory is removed under it
+/// and it frees that itself; and some in which no room is found.
+pub fn calls_finish()
+    ensures open { OpenFinishes }
+    ensures stat { StatFinishes }
+    ensures read { ReadFinishes }
+    ensures dup { DupFinishes }
+    ensures close { CloseFinishes }
+    ensures mkdir { MkdirFinishes }
+    ensures chdir { ChdirFinishes }
+    ensures unlink { UnlinkFinishes }
+    ensures create { CreateFinishes }
+    ensures write { WriteFinishes }
+    ensures removed { WalkerFails }
+    ensures inodes { NoInodeLeft }
+    ensures blocks { NoBlockLeft }
 {}

@@ -1,0 +1,59 @@
+-- Computed runs.
+use Rattle.std.proofs.Common.{refl}
+use Rattle.plain_tree.specs.Tree.{pieces, put, any_below, same_name, first_slot, look, follow, parent_from, parent_of, file_in, is_named, settle}
+use Rattle.plain_tree.specs.Steps.{entries, any_used, lowest_from, refusal_with, place_of, first_free, cleared, has_fd, effect_with, answer_with}
+use Rattle.tree_laws.specs.WellFormed.{sum_below, one_if}
+use Rattle.inode_machine.specs.Exec.{all_used, first_from}
+use Rattle.inode_machine.specs.Examples.{steps, OpenFinishes, StatFinishes, ReadFinishes, DupFinishes, CloseFinishes, MkdirFinishes, ChdirFinishes, UnlinkFinishes, CreateFinishes, WriteFinishes, WalkerFails, NoInodeLeft, NoBlockLeft}
+
+pub open_finishes : OpenFinishes
+unfolding pieces put any_below same_name first_slot look follow parent_from parent_of file_in is_named settle entries any_used lowest_from refusal_with place_of first_free cleared has_fd effect_with answer_with sum_below one_if all_used first_from steps
+open_finishes = (refl, refl)
+
+pub stat_finishes : StatFinishes
+unfolding pieces put any_below same_name first_slot look follow parent_from parent_of file_in is_named settle entries any_used lowest_from refusal_with place_of first_free cleared has_fd effect_with answer_with sum_below one_if all_used first_from steps
+stat_finishes = (refl, refl)
+
+pub read_finishes : ReadFinishes
+unfolding pieces put any_below same_name first_slot look follow parent_from parent_of file_in is_named settle entries any_used lowest_from refusal_with place_of first_free cleared has_fd effect_with answer_with sum_below one_if all_used first_from steps
+read_finishes = (refl, refl)
+
+pub dup_finishes : DupFinishes
+unfolding pieces put any_below same_name first_slot look follow parent_from parent_of file_in is_named settle entries any_used lowest_from refusal_with place_of first_free cleared has_fd effect_with answer_with sum_below one_if all_used first_from steps
+dup_finishes = (refl, refl)
+
+pub close_finishes : CloseFinishes
+unfolding pieces put any_below same_name first_slot look follow parent_from parent_of file_in is_named settle entries any_used lowest_from refusal_with place_of first_free cleared has_fd effect_with answer_with sum_below one_if all_used first_from steps
+close_finishes = (refl, refl)
+
+pub mkdir_finishes : MkdirFinishes
+unfolding pieces put any_below same_name first_slot look follow parent_from parent_of file_in is_named settle entries any_used lowest_from refusal_with place_of first_free cleared has_fd effect_with answer_with sum_below one_if all_used first_from steps
+mkdir_finishes = (refl, refl)
+
+pub chdir_finishes : ChdirFinishes
+unfolding pieces put any_below same_name first_slot look follow parent_from parent_of file_in is_named settle entries any_used lowest_from refusal_with place_of first_free cleared has_fd effect_with answer_with sum_below one_if all_used first_from steps
+chdir_finishes = (refl, refl)
+
+pub unlink_finishes : UnlinkFinishes
+unfolding pieces put any_below same_name first_slot look follow parent_from parent_of file_in is_named settle entries any_used lowest_from refusal_with place_of first_free cleared has_fd effect_with answer_with sum_below one_if all_used first_from steps
+unlink_finishes = (refl, refl)
+
+pub walker_fails : WalkerFails
+unfolding pieces put any_below same_name first_slot look follow parent_from parent_of file_in is_named settle entries any_used lowest_from refusal_with place_of first_free cleared has_fd effect_with answer_with sum_below one_if all_used first_from steps
+walker_fails = (refl, refl)
+
+pub no_inode_left : NoInodeLeft
+unfolding pieces put any_below same_name first_slot look follow parent_from parent_of file_in is_named settle entries any_used lowest_from refusal_with place_of first_free cleared has_fd effect_with answer_with sum_below one_if all_used first_from steps
+no_inode_left = (refl, refl)
+
+pub no_block_left : NoBlockLeft
+unfolding pieces put any_below same_name first_slot look follow parent_from parent_of file_in is_named settle entries any_used lowest_from refusal_with place_of first_free cleared has_fd effect_with answer_with sum_below one_if all_used first_from steps
+no_block_left = (refl, refl)
+
+pub create_finishes : CreateFinishes
+unfolding pieces put any_below same_name first_slot look follow parent_from parent_of file_in is_named settle entries any_used lowest_from refusal_with place_of first_free cleared has_fd effect_with answer_with sum_below one_if all_used first_from steps
+create_finishes = (refl, refl)
+
+pub write_finishes : WriteFinishes
+unfolding pieces put any_below same_name first_slot look follow parent_from parent_of file_in is_named settle entries any_used lowest_from refusal_with place_of first_free cleared has_fd effect_with answer_with sum_below one_if all_used first_from steps
+write_finishes = (refl, refl)

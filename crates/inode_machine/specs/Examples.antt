@@ -1,0 +1,125 @@
+-- Runs in which calls finish, from a fresh tree.
+use Rattle.std.specs.Prelude.{◌≡◌, ℕ, zero, suc, true, false, List, [], ◌∷◌, ◌++◌, codes}
+use Rattle.plain_tree.specs.declared.answer.Answer.TheVariants as answers
+use Rattle.plain_tree.specs.declared.answer.Cause.TheVariants.{NoEntry}
+use Rattle.plain_tree.specs.declared.answer.Full.TheVariants.{Blocks, DiskInodes}
+use Rattle.plain_tree.specs.declared.answer.NodeType.TheVariants as types
+use Rattle.plain_tree.specs.declared.answer.Reply.{Reply}
+use Rattle.plain_tree.specs.declared.call.Call.{Call}
+use Rattle.plain_tree.specs.declared.call.Call.TheVariants as calls
+use Rattle.plain_tree.specs.Tree.{tree_of}
+use Rattle.plain_tree.specs.Fresh.{fresh as fresh_tree}
+use Rattle.atomic_programs.specs.Calls.{Event, Start, Step, Finished, State, fresh, run}
+use Rattle.inode_machine.specs.World.{Outside, Room, RoomFor, Picks}
+use Rattle.inode_machine.specs.Theory.{at_rest, covered_calls}
+
+abbrev pub first : State covered_calls
+first = fresh covered_calls (at_rest (tree_of (fresh_tree 10)))
+
+-- so many steps of a hart, with room for all
+unfoldable pub steps : ℕ → ℕ → List (Event Call Outside)
+steps h zero = []
+steps h (suc n) = Step h Room ∷ steps h n
+
+-- a call, and so many steps of its hart
+abbrev pub makes : ℕ → Call → ℕ → List (Event Call Outside)
+makes h call n = Start h call ∷ steps h n
+
+abbrev pub replies : List (Finished covered_calls) → List Reply
+replies [] = []
+replies (f ∷ fs) = f.reply ∷ replies fs
+
+-- these replies were given, the newest first, and no step found no room
+abbrev pub Finishes : List (Event Call Outside) → List Reply → Type 0
+Finishes events rs = (replies (run covered_calls events first).finished ≡ rs) × ((run covered_calls events first).world.clean ≡ true)
+
+abbrev pub done : Call → Reply
+done c = record { answer = answers.Done; call = c }
+
+-- The root is opened for reading.
+
+abbrev pub open_root : Call
+open_root = calls.Open (codes "/") 0
+
+abbrev pub opened_root : Reply
+opened_root = record { answer = answers.Fd 0; call = open_root }
+
+abbrev pub opens : List (Event Call Outside)
+opens = makes 0 open_root 8
+
+abbrev pub OpenFinishes : Type 0
+OpenFinishes = Finishes opens (opened_root ∷ [])
+
+abbrev pub StatFinishes : Type 0
+StatFinishes = Finishes (opens ++ makes 0 (calls.Fstat 0) 3) (record { answer = answers.Stat (record { device = 1; inode = 1; kind = types.Directory; nlink = 1; size = 1024 }); call = calls.Fstat 0 } ∷ opened_root ∷ [])
+
+-- the first entry's number
+abbrev pub ReadFinishes : Type 0
+ReadFinishes = Finishes (opens ++ makes 0 (calls.Read 0 (7 ∷ 7 ∷ [])) 3) (record { answer = answers.Count 2; call = calls.Read 0 (1 ∷ 0 ∷ []) } ∷ opened_root ∷ [])
+
+abbrev pub doubled : Reply
+doubled = record { answer = answers.Fd 1; call = calls.Dup 0 }
+
+abbrev pub DupFinishes : Type 0
+DupFinishes = Finishes (opens ++ makes 0 (calls.Dup 0) 2) (doubled ∷ opened_root ∷ [])
+
+-- one of two descriptors, and the last one, with which the open file goes
+abbrev pub CloseFinishes : Type 0
+CloseFinishes = Finishes (opens ++ makes 0 (calls.Dup 0) 2 ++ makes 0 (calls.Close 0) 2 ++ makes 0 (calls.Close 1) 5) (done (calls.Close 1) ∷ done (calls.Close 0) ∷ doubled ∷ opened_root ∷ [])
+
+-- A directory is made, as inode 2.
+
+abbrev pub make_d : Call
+make_d = calls.Mkdir (codes "/d")
+
+abbrev pub makes_d : List (Event Call Outside)
+makes_d = makes 0 make_d 5 ++ Step 0 (Picks 2) ∷ steps 0 11
+
+abbrev pub MkdirFinishes : Type 0
+MkdirFinishes = Finishes makes_d (done make_d ∷ [])
+
+abbrev pub ChdirFinishes : Type 0
+ChdirFinishes = Finishes (makes_d ++ makes 0 (calls.Chdir (codes "/d")) 11) (done (calls.Chdir (codes "/d")) ∷ done make_d ∷ [])
+
+-- it is freed with its last reference
+abbrev pub UnlinkFinishes : Type 0
+UnlinkFinishes = Finishes (makes_d ++ makes 0 (calls.Unlink (codes "/d")) 19) (done (calls.Unlink (codes "/d")) ∷ done make_d ∷ [])
+
+-- A file is made, as inode 2, for reading and writing, and written to.
+
+abbrev pub make_a : Call
+make_a = calls.Open (codes "/a") 514
+
+abbrev pub made_a : Reply
+made_a = record { answer = answers.Fd 0; call = make_a }
+
+abbrev pub makes_a : List (Event Call Outside)
+makes_a = makes 0 make_a 5 ++ Step 0 (Picks 2) ∷ steps 0 10
+
+abbrev pub CreateFinishes : Type 0
+CreateFinishes = Finishes makes_a (made_a ∷ [])
+
+abbrev pub WriteFinishes : Type 0
+WriteFinishes = Finishes (makes_a ++ makes 0 (calls.Write 0 (codes "A")) 5) (record { answer = answers.Count 1; call = calls.Write 0 (codes "A") } ∷ made_a ∷ [])
+
+-- Two harts: hart 1 walks to the directory, hart 0 removes it under it, and hart 1 frees it at its call's end.
+
+abbrev pub walk_on : Call
+walk_on = calls.Chdir (codes "/d/x")
+
+abbrev pub removed_under : List (Event Call Outside)
+removed_under = makes_d ++ makes 1 walk_on 6 ++ makes 0 (calls.Unlink (codes "/d")) 16 ++ steps 1 11
+
+abbrev pub WalkerFails : Type 0
+WalkerFails = Finishes removed_under (record { answer = answers.Failed NoEntry; call = walk_on } ∷ done (calls.Unlink (codes "/d")) ∷ done make_d ∷ [])
+
+-- No room is found: no inode is free; no block is left for a new directory's entries, and its inode is freed again.
+
+abbrev pub NoRoom : List (Event Call Outside) → List Reply → Type 0
+NoRoom events rs = (replies (run covered_calls events first).finished ≡ rs) × ((run covered_calls events first).world.clean ≡ false)
+
+abbrev pub NoInodeLeft : Type 0
+NoInodeLeft = NoRoom (makes 0 make_d 10) (record { answer = answers.Full DiskInodes; call = make_d } ∷ [])
+
+abbrev pub NoBlockLeft : Type 0
+NoBlockLeft = NoRoom (makes 0 make_d 5 ++ Step 0 (Picks 2) ∷ steps 0 2 ++ Step 0 (RoomFor 0) ∷ steps 0 10) (record { answer = answers.Full Blocks; call = make_d } ∷ [])
