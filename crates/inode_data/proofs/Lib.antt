@@ -5,3 +5,4 @@ mod NextFree
 mod Truncations
 mod Freed
 mod Locations
+mod ReadLaw

@@ -10,3 +10,4 @@ pub mod Truncating
 pub mod Dropping
 pub mod Writing
 pub mod Locating
+pub mod Laws

@@ -8,6 +8,7 @@ mod begun;
 mod dropping;
 mod fetch_block;
 mod freeing;
+pub mod laws;
 mod location;
 mod read_part;
 mod records;

@@ -1,0 +1,5 @@
+use Rattle.inode_data.proofs.ReadLaw.{reads_content}
+use Rattle.inode_data.proofs.laws.reads_the_content.Goals as goal
+
+pub returns : goal.returns
+returns c = reads_content
