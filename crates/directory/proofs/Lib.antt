@@ -4,5 +4,5 @@ mod Named
 mod Cleared
 mod Used
 mod EntryNumbers
-mod Searches
+pub mod Searches
 mod Puts

@@ -2,3 +2,4 @@ mod ElementLemmas
 mod Visits
 mod Nested
 mod Steps
+mod Lookups

@@ -1,3 +1,4 @@
 pub mod Elements
 pub mod Programs
 pub mod Machines
+pub mod Laws

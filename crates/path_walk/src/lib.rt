@@ -5,6 +5,7 @@
 #![tactic(auto)]
 
 mod elements;
+pub mod laws;
 mod walk;
 mod walked;
 
