@@ -7,4 +7,5 @@ pub mod TableSteps
 pub mod SlotSteps
 pub mod Owed
 pub mod CountSteps
+pub mod JoinSteps
 pub mod Alone

@@ -19,7 +19,7 @@ use Rattle.fs_machine.specs.Steps as steps
 use Rattle.fs_machine.specs.Steps.{Whom, Number, Directory, Held, Walked}
 use Rattle.inode_machine.specs.Inodes.{Sort}
 use Rattle.inode_machine.specs.World as above
-use Rattle.inode_machine.specs.World.Op.{Give, UpStart, Up, WalkDown, Down, Slot, Install, CheckFile, Double, Shut, Settle, Say}
+use Rattle.inode_machine.specs.World.Op.{Give, UpStart, Up, WalkDown, Down, Slot, Install, CheckFile, Double, Shut, Settle, Join, Say}
 use Rattle.inodes_on_tables.specs.Shown.{new_file}
 use Rattle.inodes_on_blocks.specs.Lowering.{Carry}
 
@@ -114,3 +114,7 @@ check_file fd c m = one (CheckFile fd) m (steps.CheckFile want.Write fd) cause_i
 
 abbrev pub say : Handler Say
 say c m = one Say m steps.Reply (λ a. a) (λ a. c)
+
+-- a transaction is joined, where the log has room for it
+abbrev pub join : Handler Join
+join c m = one Join m steps.Join (λ a. a) (λ a. c)

@@ -1,0 +1,143 @@
+-- A transaction is joined in one step, which may wait below.
+use Rattle.std.proofs.Common.{◌≡◌, inl, inr, ℕ, ◌<◌, Bool, true, false, length, get_or, get_or-set_other, is_some, Option, Some, None, refl, sym, ◌∙◌, ap, subst, if◌then◌else◌}
+use Rattle.std.specs.Prelude.{slice_get, slice_set}
+use Rattle.std.proofs.lemmas.Option.{slice_get-get_or}
+use Rattle.std.proofs.lemmas.List.{get_or-set_same}
+use Rattle.sleep_lock.proofs.Lists.{slice_get-set_other}
+use Rattle.fs_layout.specs.declared.inode.Dinode.{Dinode}
+use Rattle.plain_tree.specs.Tree.{put}
+use Rattle.plain_tree.specs.Widths.{hart_count}
+use Rattle.tree_laws.proofs.Maps.{same_or, put_same, put_other}
+use Rattle.group_log.specs.Group.{joined}
+use Rattle.group_log.specs.Soundness.{limit_of}
+use Rattle.group_log.specs.Waiting.{join_waits}
+use Rattle.atomic_programs.specs.Logic.{Laws}
+use Rattle.atomic_programs.specs.Joined.{Both}
+use Rattle.fs_tables.specs.Tables.{TablesState}
+use Rattle.fs_machine.specs.LogPart.{join_if}
+use Rattle.fs_machine.specs.Steps as steps
+use Rattle.fs_machine.specs.Premises as premises
+use Rattle.fs_machine.specs.Whole.{IsWholeLog, After}
+use Rattle.fs_machine.proofs.Keeping.{keeps_whole}
+use Rattle.inode_machine.specs.World as above
+use Rattle.inode_machine.specs.World.{Desk}
+use Rattle.inode_machine.specs.World.Op.{Join}
+use Rattle.inode_machine.specs.Exec as above_exec
+use Rattle.inode_machine.specs.Exec.{is_at}
+use Rattle.inode_machine.specs.Rules as rules
+use Rattle.inode_machine.specs.Rules.{Inv, LocksNone}
+use Rattle.inodes_on_tables.specs.Shown as tables
+use Rattle.inodes_on_tables.specs.Shown.{loaded, descriptor, first, lent_by, place_with}
+use Rattle.inodes_on_tables.proofs.Desks.{part_same, taken_same, lenders_set}
+use Rattle.inodes_on_blocks.specs.OnBlocks.{is_joined, Ghost, AreOnBlocks}
+use Rattle.inodes_on_blocks.specs.Below.{World, log_of, tables_of, came_to}
+use Rattle.inodes_on_blocks.specs.Shown.{Shows, if_joined, ghost_of}
+use Rattle.inodes_on_blocks.specs.Lowering.{Carry, Base, Labels, labelled, Keeps}
+use Rattle.inodes_on_blocks.specs.Handlers.{join}
+use Rattle.inodes_on_blocks.specs.Acting.{ActsOnce}
+use Rattle.inodes_on_blocks.proofs.Quiet.{join_keeps}
+use Rattle.inodes_on_blocks.proofs.Stepping.{Came, CameTo, one_step}
+
+-- a desk that differs in whether its hart has joined
+tables_joined : (h : ℕ) (b : Bool) (t : TablesState) (w : above.World) (load : ℕ → Option Dinode) → tables.Shows t w load → tables.Shows t (above_exec.with_joined w h b) load
+tables_joined h b t w load shows = record {
+  sound = shows.sound;
+  places = shows.places;
+  files = λ k lt. shows.files k lt ∙ ap (λ (c : Bool). Some (place_with c (w.files k))) (sym (taken_same w.desks h (record (w.desks h) { joined = b }) k refl));
+  desks = λ g lt. let d = shows.desks g lt in (
+    d.0,
+    d.1,
+    record {
+      long = d.2.long;
+      descriptors = λ i l. d.2.descriptors i l ∙ ap (λ (o : Option ℕ). Some o) (sym (named g i));
+      directory = d.2.directory ∙ sym (part_same (λ d. d.directory) w.desks h (record (w.desks h) { joined = b }) g refl);
+      hand = d.2.hand ∙ sym (part_same (λ d. d.hand) w.desks h (record (w.desks h) { joined = b }) g refl);
+    },
+  );
+  lenders = lenders_set w.desks h (record (w.desks h) { joined = b }) refl shows.lenders;
+  range = shows.range;
+}
+  where
+    lent : (i : ℕ) (o : Option ℕ) → lent_by (put w.desks h (record (w.desks h) { joined = b })) o i ≡ lent_by w.desks o i
+    lent i None = refl
+    lent i (Some l) = part_same (λ d. d.lent i) w.desks h (record (w.desks h) { joined = b }) l refl
+
+    named : (g i : ℕ) → descriptor (put w.desks h (record (w.desks h) { joined = b })) g i ≡ descriptor w.desks g i
+    named g i =
+        (λ z. first (part_same (λ d. d.fds i) w.desks h (record (w.desks h) { joined = b }) g refl z) (lent_by (put w.desks h (record (w.desks h) { joined = b })) (part_same (λ d. d.lender) w.desks h (record (w.desks h) { joined = b }) g refl z) i))
+        ∙ ap (first ((w.desks g).fds i)) (lent i (w.desks g).lender)
+
+module _ (l : Labels) (laws : Laws (labelled l)) (keeps : Keeps l) (h : ℕ) (lt : h < hart_count) where
+  abbrev W : Type 0
+  W = Both World above.World
+
+  -- the log with the hart in a transaction
+  abbrev with_member : World → World
+  with_member r = record r { state = record (r.state) { log = record (r.state.log) { members = slice_set r.state.log.members h (Some 0) } } }
+
+  within : (v : W) → Shows v.real v.seen → h < length (log_of v.real).members
+  within v shows = subst (λ (n : ℕ). h < n) (sym shows.whole.log.eight) lt
+
+  alone : (v : W) → Shows v.real v.seen → (v.seen.desks h).joined ≡ false → slice_get (log_of v.real).members h ≡ Some None
+  alone v shows out = slice_get-get_or (log_of v.real).members h None (within v shows) ∙ ap (λ (o : Option ℕ). Some o) (none (get_or (log_of v.real).members h None) (sym (shows.members h lt) ∙ out))
+    where
+      none : (o : Option ℕ) → is_some o ≡ false → o ≡ None
+      none None e = refl
+      none (Some k) e = absurd (let q : true ≡ false = e in cc)
+
+  joined_shows : (v : W) → Shows v.real v.seen → LocksNone h v.seen → IsWholeLog (log_of (with_member v.real)) → Shows (with_member v.real) (above_exec.with_joined v.seen h true)
+  joined_shows v shows none whole = record {
+    whole = whole;
+    runs = shows.runs;
+    size = shows.size;
+    tables = tables_joined h true (tables_of v.real) v.seen (loaded (tables_of v.real)) shows.tables;
+    members = λ g lg. elim (same_or g h) [
+      | inl q ↦ ap (λ (z : ℕ). (put v.seen.desks h (record (v.seen.desks h) { joined = true }) z).joined) q ∙ ap (λ (d : Desk). d.joined) (put_same v.seen.desks h (record (v.seen.desks h) { joined = true }))
+          ∙ sym (ap is_some (get_or-set_same (log_of v.real).members h (Some 0) None (within v shows))) ∙ ap (is_joined (slice_set (log_of v.real).members h (Some 0))) (sym q)
+      | inr ne ↦ ap (λ (d : Desk). d.joined) (put_other v.seen.desks h (record (v.seen.desks h) { joined = true }) g ne) ∙ shows.members g lg ∙ sym (ap is_some (get_or-set_other (log_of v.real).members h g (Some 0) None ne))
+    ];
+    blocks = subst (λ (x : Ghost). AreOnBlocks (log_of v.real).contents (log_of v.real).seats (log_of v.real).sizes (slice_set (log_of v.real).members h (Some 0)) x) (sym ghost)
+        (join_keeps (log_of v.real).contents (log_of v.real).seats (log_of v.real).sizes (log_of v.real).members (ghost_of v.real.owner v.real.left v.seen.disk v.seen.lock v.seen.desks) shows.blocks h 0);
+    loads = record { seen = shows.loads.seen; dead = shows.loads.dead; typed = shows.loads.typed };
+  }
+    where
+      change : (o : Option ℕ) → (o ≡ Some h → ⊥) → if_joined (put v.seen.desks h (record (v.seen.desks h) { joined = true })) o ≡ if_joined v.seen.desks o
+      change None ne = refl
+      change (Some g) ne = ap (λ (d : Desk). if d.joined then Some g else None) (put_other v.seen.desks h (record (v.seen.desks h) { joined = true }) g (λ q. ne (ap (λ (z : ℕ). Some z) q)))
+
+      ghost : ghost_of v.real.owner v.real.left v.seen.disk v.seen.lock (put v.seen.desks h (record (v.seen.desks h) { joined = true })) ≡ ghost_of v.real.owner v.real.left v.seen.disk v.seen.lock v.seen.desks
+      ghost = λ z. record { nodes = v.seen.disk; owner = v.real.owner; left = v.real.left; changing = λ i. change (v.seen.lock i) (none i) z }
+
+  join_came : (v : W) (c : Carry) → Shows v.real v.seen → Base h v.real v.seen c → (v.seen.desks h).lender ≡ None → LocksNone h v.seen → IsWholeLog (log_of (with_member v.real)) → Came l laws keeps h Join v tt (with_member v.real) c
+  join_came v c shows base free none whole = record {
+    then_ = above_exec.with_joined v.seen h true;
+    ran = refl;
+    free = part_same (λ d. d.lender) v.seen.desks h (record (v.seen.desks h) { joined = true }) h refl ∙ free;
+    shows = joined_shows v shows none whole;
+    same = λ other ne. record {
+      inodes = λ i e. record { lock = e; same = refl; holds = λ n x. x };
+      no_more = λ i e. e;
+      buffers = λ b. refl;
+      held = refl;
+      member = slice_get-set_other (log_of v.real).members h other (Some 0) ne;
+      commit = refl;
+    };
+    base = record {
+      free = base.free;
+      rests = base.rests;
+      inodes = λ i e. absurd (none i (shows.tables.places.holders i ∙ e));
+      lent = λ some. absurd (some (part_same (λ d. d.lender) v.seen.desks h (record (v.seen.desks h) { joined = true }) h refl ∙ free));
+    };
+  }
+
+  pub join_acts : (m : Unit {0} → Option above.Mark) → ActsOnce l h Join m join
+  unfolding steps.exec premises.May premises.MayWait premises.Honest
+  join_acts m =
+      one_step l laws keeps h Join m (λ c. steps.Join) (λ c a. a) (λ c a. c) (λ v. tt)
+      (λ v c shows inv base may. ((lt, alone v shows may.1.1), λ x t. by v c shows base may (join_waits (log_of v.real).phase (length (log_of v.real).group) (joined (log_of v.real).members) (limit_of (log_of v.real).sizes)) refl (keeps_whole h x steps.Join v.real.state shows.whole (lt, alone v shows may.1.1) tt)))
+    where
+      by : (v : W) (c : Carry) → Shows v.real v.seen → Base h v.real v.seen c → rules.May h Join v.seen → (b : Bool) → join_waits (log_of v.real).phase (length (log_of v.real).group) (joined (log_of v.real).members) (limit_of (log_of v.real).sizes) ≡ b
+          → After (λ t. IsWholeLog t.log) (steps.in_log v.real.state (join_if h (log_of v.real) b))
+          → CameTo l laws keeps h Join v (join_waits (log_of v.real).phase (length (log_of v.real).group) (joined (log_of v.real).members) (limit_of (log_of v.real).sizes) ≡ true) (came_to h steps.Join v.real (steps.in_log v.real.state (join_if h (log_of v.real) b))) (λ a. a) (λ a. c)
+      by v c shows base may true e whole = e
+      by v c shows base may false e whole = join_came v c shows base may.0 may.1.0 whole
