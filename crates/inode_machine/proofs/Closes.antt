@@ -77,6 +77,7 @@ close_is_refused h fd v lt e = record {
   stays = refl;
   place = close_place (settle v.all) h fd lt;
   makes = λ q. refl;
+  keeps = refl;
   inherits = λ g q. absurd cc;
 }
 

@@ -21,7 +21,7 @@ use Rattle.tree_laws.proofs.Opened.{well_dup}
 use Rattle.tree_moves.specs.Moves.{Stage, Step}
 use Rattle.tree_moves.specs.Moves.Move.{Own as OwnMove}
 use Rattle.inode_machine.specs.Exec.{is_at, file_count, with_walk, slot_at, entry_at, doubled, double_at, double_if, with_joined, child_of}
-use Rattle.inode_machine.specs.Marks.{places, with_mark, with_made, made_by, found_by, new_id}
+use Rattle.inode_machine.specs.Marks.{places, with_mark, with_made, made_by, found_by, refused_all, new_id}
 use Rattle.inode_machine.specs.World.{Mine, Entry, Desk, World, Note}
 use Rattle.inode_machine.specs.Descriptors.{dups}
 use Rattle.inode_machine.specs.World.Op.{Double, Join, Leave, Say}
@@ -74,6 +74,7 @@ pub record Refused (h : ℕ) (s : Action) (c : Cause) (v : World) : Type 0 where
   pub then_ : (res : Option ℕ) (par : Option (ℕ × Name)) → refusal_with (settle v.all) h s res par ≡ Some c
   pub found : (res : Option ℕ) → found_by s res ≡ None
   pub stays : refused (settle v.all) h s ≡ settle v.all
+  pub keeps : refused_all v.all h s ≡ v.all
   pub place : IsInPlace (settle v.all) h s
   pub makes : (q : Option (ℕ × Name)) → makes_node (settle v.all) s q ≡ false
   pub inherits : (g : ℕ) → s ≡ Inherit g → ⊥
@@ -86,7 +87,7 @@ pub refused_good : {A : Type 0} (h more n : ℕ) (B : List Step → Type 0) (Q :
     → Fine machine h ((h, record { move = OwnMove s 0; told = (made_by v.all h (new_id v) (v.harts h).walk (OwnMove s 0)).told }) ∷ []) more n B es v (with_made h (made_by v.all h (new_id v) (v.harts h).walk (OwnMove s 0)) v) (λ l. Wp machine h B Q p l (onto (own h ((h, record { move = OwnMove s 0; told = (made_by v.all h (new_id v) (v.harts h).walk (OwnMove s 0)).told }) ∷ [])) es) (with_made h (made_by v.all h (new_id v) (v.harts h).walk (OwnMove s 0)) v))
 refused_good h more n B Q es v O s c p ov free lt inv walks none r b pos next =
     moves_good h more n B Q es v v (OwnMove s 0) p (made_by v.all h (new_id v) (v.harts h).walk (OwnMove s 0)) (record { all = v.all; walk = None; found = None; opened = None; entered = None; left = None; told = (fails s c).told })
-    (rw (r.now (resolve v.all h (path_of s)) (parent v.all h (path_of s))) (λ i. record { all = v.all; walk = None; found = r.found (resolve v.all h (path_of s)) i; opened = None; entered = None; left = None; told = (fails s c).told }))
+    (rw (r.now (resolve v.all h (path_of s)) (parent v.all h (path_of s))) (λ i. record { all = r.keeps i; walk = None; found = r.found (resolve v.all h (path_of s)) i; opened = None; entered = None; left = None; told = (fails s c).told }))
     (fair inv (walk_did h None None v (ap (λ (o : Own). o.desk.lender) ov ∙ free) lt inv (ap (λ (o : Own). o.mine.pending) ov ∙ none) (λ m q e. absurd cc) (λ z q. absurd cc) (λ j q. absurd cc)))
     (own_takes h v (record v { harts = with_walk v.harts h None None }) s (Failed c) r.follows r.path (ap (λ (o : Own). o.mine.walk) ov ∙ walks) r.makes r.inherits
     (r.then_ (resolve (settle v.all) h (path_of s)) (parent (settle v.all) h (path_of s)), sym r.stays, r.place) (ap (λ (m : Stage). m.walk) (stage_walk h None None v)))
@@ -369,6 +370,7 @@ dup_is_refused h fd v lt e = record {
   stays = refl;
   place = dup_place v.all h fd lt (inl e);
   makes = λ q. refl;
+  keeps = refl;
   inherits = λ g q. absurd cc;
 }
 

@@ -23,7 +23,7 @@ use Rattle.inode_machine.specs.World.{World}
 use Rattle.inode_machine.specs.World.Op.{Empty}
 use Rattle.inode_machine.specs.Inodes.{sort_of, sort_of_kind}
 use Rattle.inode_machine.specs.Exec.{changed_record, with_no_bytes, with_walk}
-use Rattle.inode_machine.specs.Marks.{acts, made_by, marked, new_id, places}
+use Rattle.inode_machine.specs.Marks.{acts, made_by, own_made, marked, new_id, places}
 use Rattle.inode_machine.specs.Rules.{Own, own_of, Inv, machine}
 use Rattle.inode_machine.specs.Parts.{own_step}
 use Rattle.inode_machine.proofs.Frame.{fair, fair_then}
@@ -46,7 +46,7 @@ unfolding effect_with
 trunc_effect t h fd new id j f v res par is number there = rw is ((λ z. with_nodes t (put t.nodes (number z) (Some (emptied_node (node_at t (number z)))))) ∙ (λ z. with_nodes t (put t.nodes j (Some (emptied_node (node_or (there z)))))))
 
 pub trunc_made : (t : Tree) (h fd new id j : ℕ) (f : OpenFile) (v : Node) (res : Option ℕ) (par : Option (ℕ × Name)) → file_at t h fd ≡ Some f → f.number ≡ j → t.nodes j ≡ Some v
-    → acts t h (Truncate fd) res par new id ≡ record { all = with_nodes t (put t.nodes j (Some (emptied_node v))); walk = None; found = None; opened = None; entered = None; left = None; told = Some (record { act = record { step = Truncate fd; answer = Done }; new = new }) }
+    → own_made (refusal_with t h (Truncate fd) res par) t h (Truncate fd) (acts t h (Truncate fd) res par new id) ≡ record { all = with_nodes t (put t.nodes j (Some (emptied_node v))); walk = None; found = None; opened = None; entered = None; left = None; told = Some (record { act = record { step = Truncate fd; answer = Done }; new = new }) }
 unfolding refusal_with answer_with
 trunc_made t h fd new id j f v res par is number there = λ z. record { all = trunc_effect t h fd new id j f v res par is number there z; walk = None; found = None; opened = None; entered = None; left = None; told = Some (record { act = record { step = Truncate fd; answer = Done }; new = new }) }
 

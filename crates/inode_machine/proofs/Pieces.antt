@@ -54,6 +54,7 @@ write_refused_at h fd b c v lt now then_ = record {
   stays = refl;
   place = write_place (settle v.all) h fd b lt;
   makes = λ q. refl;
+  keeps = refl;
   inherits = λ g q. absurd cc;
 }
 

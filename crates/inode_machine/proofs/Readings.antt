@@ -64,6 +64,7 @@ read_refused_at h fd n c v lt now then_ = record {
   stays = refl;
   place = read_place (settle v.all) h fd n lt;
   makes = λ q. refl;
+  keeps = refl;
   inherits = λ g q. absurd cc;
 }
 

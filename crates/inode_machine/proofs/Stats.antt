@@ -66,6 +66,7 @@ stat_is_refused h fd v lt e = record {
   stays = refl;
   place = stat_place (settle v.all) h fd lt;
   makes = λ q. refl;
+  keeps = refl;
   inherits = λ g q. absurd cc;
 }
 

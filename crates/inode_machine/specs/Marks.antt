@@ -7,7 +7,7 @@ use Rattle.plain_tree.specs.declared.step.StepAnswer.{StepAnswer}
 use Rattle.plain_tree.specs.declared.step.StepAnswer.TheVariants.{Opened, Bytes, Stat as Status, Fd as NewFd, Done, Failed, Full as NoRoom}
 use Rattle.plain_tree.specs.declared.tree.Hold.{Hold}
 use Rattle.plain_tree.specs.Tree.{Name, Tree, put, elements, look, start_of, resolve, parent}
-use Rattle.plain_tree.specs.Steps.{path_of, refusal_with, effect_with, answer_with, makes_node, opens_one, lowest, closed, drop_hold}
+use Rattle.plain_tree.specs.Steps.{path_of, refusal, refusal_with, effect_with, answer_with, makes_node, opens_one, lowest, closed, drop_hold}
 use Rattle.atomic_programs.specs.Prog.{Did, Waits, Ran, Stops}
 use Rattle.inode_machine.specs.Inodes.{sort_of}
 use Rattle.tree_moves.specs.Moves.{Walk, fail, Deed, Move, Step}
@@ -105,11 +105,34 @@ abbrev pub look_made : Tree → ℕ → Option Walk → ℕ → ℕ → Made
 look_made b h None new id = record { all = b; walk = None; found = None; opened = None; entered = None; left = None; told = None }
 look_made b h (Some w) new id = looked b h w w.rest (look b.nodes w.at w.next) new id
 
+-- what a refused step changes: a refused bump drops its hold
+abbrev pub refused_all : Tree → ℕ → Action → Tree
+refused_all b h Bump = drop_hold b h
+refused_all b h (Open path flags) = b
+refused_all b h (Truncate fd) = b
+refused_all b h (Read fd n) = b
+refused_all b h (WritePart fd c) = b
+refused_all b h (Find old) = b
+refused_all b h (Enter new) = b
+refused_all b h Unbump = b
+refused_all b h (Unlink path) = b
+refused_all b h (Mkdir path) = b
+refused_all b h (Chdir path) = b
+refused_all b h (Dup fd) = b
+refused_all b h (Close fd) = b
+refused_all b h (Fstat fd) = b
+refused_all b h (Inherit child) = b
+
+-- the hart's own step, where it is refused
+abbrev pub own_made : Option Cause → Tree → ℕ → Action → Made → Made
+own_made (Some k) b h s m = record m { all = refused_all b h s }
+own_made None b h s m = m
+
 abbrev pub made_by : Tree → ℕ → ℕ → Option Walk → Move → Made
 made_by b h id k (Begin s new) = begun b h s (elements (path_of s)) new id
 made_by b h id k (Look new) = look_made b h k new id
 made_by b h id k (Quit s) = record { all = b; walk = None; found = None; opened = None; entered = None; left = None; told = Some (fail s) }
-made_by b h id k (Own s new) = acts b h s (resolve b h (path_of s)) (parent b h (path_of s)) new id
+made_by b h id k (Own s new) = own_made (refusal b h s) b h s (acts b h s (resolve b h (path_of s)) (parent b h (path_of s)) new id)
 
 -- the least id that no open file has
 abbrev pub new_id : World → ℕ
