@@ -92,7 +92,6 @@ drop_never h (Walked n) t = at (place_of n t.entries)
     at : (o : Option ℕ) → Never (walked_at t o)
     at None e = cc e
     at (Some k) e = dies k (dying (slice_get t.entries k) (slice_get t.locks k)) e
-
 drop_never h (Freed n) t = at (place_of n t.entries)
   where
     at : (o : Option ℕ) → Never (uncounted_freed t o)
