@@ -9,7 +9,7 @@ use Rattle.plain_tree.specs.declared.tree.Hold.{Hold}
 use Rattle.plain_tree.specs.declared.tree.OpenFile.{OpenFile}
 use Rattle.plain_tree.specs.Tree.{Name, Tree, put, look, elements, resolve, parent}
 use Rattle.plain_tree.specs.Steps as plain
-use Rattle.plain_tree.specs.Steps.{creates, has_room, lowest, file_at, effect_with, refusal_with, path_of}
+use Rattle.plain_tree.specs.Steps.{creates, has_room, lowest, file_at, effect_with, refusal, refusal_with, path_of}
 use Rattle.plain_tree.specs.Widths.{hart_count}
 use Rattle.tree_laws.proofs.Maps.{any_same, either}
 use Rattle.tree_moves.specs.Moves.{Walk, Move}
@@ -125,12 +125,33 @@ looked_size b h k [] r new id = acts_size b h k.step r (Some (k.at, k.next)) new
 looked_size b h k (e ∷ es) None new id = acts_size b h k.step None None new id
 looked_size b h k (e ∷ es) (Some n) new id = refl
 
+refused_size : (b : Tree) (h : ℕ) (s : Action) → (marks.refused_all b h s).ninodes ≡ b.ninodes
+refused_size b h Bump = refl
+refused_size b h (Open path flags) = refl
+refused_size b h (Truncate fd) = refl
+refused_size b h (Read fd n) = refl
+refused_size b h (WritePart fd c) = refl
+refused_size b h (Find old) = refl
+refused_size b h (Enter name) = refl
+refused_size b h Unbump = refl
+refused_size b h (Unlink path) = refl
+refused_size b h (Mkdir path) = refl
+refused_size b h (Chdir path) = refl
+refused_size b h (Dup fd) = refl
+refused_size b h (Close fd) = refl
+refused_size b h (Fstat fd) = refl
+refused_size b h (Inherit child) = refl
+
+own_size : (k : Option Cause) (b : Tree) (h : ℕ) (s : Action) (m : marks.Made) → m.all.ninodes ≡ b.ninodes → (marks.own_made k b h s m).all.ninodes ≡ b.ninodes
+own_size (Some k) b h s m same = refused_size b h s
+own_size None b h s m same = same
+
 made_by_size : (b : Tree) (h id : ℕ) (k : Option Walk) (m : Move) → (made_by b h id k m).all.ninodes ≡ b.ninodes
 made_by_size b h id k (Begin s new) = begun_size b h s (elements (path_of s)) new id
 made_by_size b h id None (Look new) = refl
 made_by_size b h id (Some k) (Look new) = looked_size b h k k.rest (look b.nodes k.at k.next) new id
 made_by_size b h id k (Quit s) = refl
-made_by_size b h id k (Own s new) = acts_size b h s (resolve b h (path_of s)) (parent b h (path_of s)) new id
+made_by_size b h id k (Own s new) = own_size (refusal b h s) b h s (marks.acts b h s (resolve b h (path_of s)) (parent b h (path_of s)) new id) (acts_size b h s (resolve b h (path_of s)) (parent b h (path_of s)) new id)
 
 unopened_size : (t : Tree) (h : ℕ) (o : Option ℕ) → (unopened t h o).ninodes ≡ t.ninodes
 unopened_size t h None = refl
