@@ -197,9 +197,9 @@ module _ (h : ℕ) (path : List ℕ) (flags : ℕ) (lt : h < hart_count) {base :
       (λ v inv ov. let m = mends h v R ov free lt inv can.opening can.left can.hold can.names in record { fair = m.fair; bad = m.bad; owned = m.owned })
       (λ l2 u2 q2 held2. ended OpenFiles (mended_own R) l2 u2 (omega (arith, few, q2)) held2 (stays_mended (mended_own R) joins.ready k.stays refl refl refl) refl refl refl refl refl)
       (λ l2 s u2 q2 held2.
-      s-install-full s (file_for i flags) OfFile (mended_own R2) held2 free lt (omega (arith, few, q2)) refl room refl in_hand refl
-      (λ v inv ov. let m = mends h v R2 ov free lt inv can.opening can.left can.hold can.names in record { fair = m.fair; bad = m.bad; owned = m.owned })
-      (λ l3 u3 q3 held3. ended Descriptors (mended_own R2) l3 u3 (omega (arith, few, q2, q3)) held3
+      s-install-full s (file_for i flags) OfFile (mended_own Owned2) held2 free lt (omega (arith, few, q2)) refl room refl in_hand refl
+      (λ v inv ov. let m = mends h v Owned2 ov free lt inv can.opening can.left can.hold can.names in record { fair = m.fair; bad = m.bad; owned = m.owned })
+      (λ l3 u3 q3 held3. ended Descriptors (mended_own Owned2) l3 u3 (omega (arith, few, q2, q3)) held3
       (record { row = k.stays.row; ninodes = k.stays.ninodes; fds = k.stays.fds; hand = sym joins.may.hand; joined = k.stays.joined; directory = k.stays.directory; lent = k.stays.lent; lender = k.stays.lender; opening = sym joins.ready.opening; left = sym joins.ready.left }) refl refl refl refl refl))
     where
       free : R.desk.lender ≡ None
@@ -211,8 +211,8 @@ module _ (h : ℕ) (path : List ℕ) (flags : ℕ) (lt : h < hart_count) {base :
       can : Mendable R
       can = mendable joins.ready k
 
-      R2 : Own
-      R2 = record R { desk = record (R.desk) { hand = None } }
+      Owned2 : Own
+      Owned2 = record R { desk = record (R.desk) { hand = None } }
 
       in_hand : one_if (R.desk.directory == i) < R.mine.refs i
       in_hand = let c = joins.may.counts i ∙ (λ z. one_if (sym k.stays.directory z == i)) in let r = k.refs i in let o = one_at i in omega (arith, c, r, o)
@@ -226,8 +226,8 @@ module _ (h : ℕ) (path : List ℕ) (flags : ℕ) (lt : h < hart_count) {base :
       → has_room O.desk.fds ≡ true → lowest O.desk.fds ≡ fd → O.row.fds fd ≡ None → O.row.keys fd ≡ None → Walked (calls.Open path flags) (opened_act path flags fd id true ∷ []) es → Goes h path flags (give_up d (open_made path flags i ns)) l es u
   named d i fd id l {x} es u R O few held p whole inodes refs ninodes row desk walk none room low nofd nokey told =
       s-give-up-in d {O0 = went_own O0 i flags fd id} {more = λ j. 0 + one_if (i == j)} held lt joins.ready.free joins.ready.joined (λ q. let b = joins.ready.spare d (sym (names_opened O0.row O0.desk fd id (key_is (file_for i flags)) d joins.ready.opening (eq_not i d p.apart)) ∙ q) in omega (arith, b)) (omega (arith, few))
-      (record { stays = k.stays; refs = λ j. (let a = k.refs j in omega (arith, a)); all = k.all; once = k.once; has = k.has; only = k.only }) walk none p.at_d whole (λ l2 u2 R2 q2 held2 desk2 walk2 none2 k2.
-      opens i fd id l2 (put p.extra d None) es u2 R2 (omega (arith, few, q2)) held2 k2 (put_other p.extra d None i p.apart ∙ p.at_i)
+      (record { stays = k.stays; refs = λ j. (let a = k.refs j in omega (arith, a)); all = k.all; once = k.once; has = k.has; only = k.only }) walk none p.at_d whole (λ l2 u2 Owned2 q2 held2 desk2 walk2 none2 k2.
+      opens i fd id l2 (put p.extra d None) es u2 Owned2 (omega (arith, few, q2)) held2 k2 (put_other p.extra d None i p.apart ∙ p.at_i)
       (λ j ni. elim (same_or j d) [ inl e ↦ ap (put p.extra d None) e ∙ put_same p.extra d None | inr nd ↦ put_other p.extra d None j nd ∙ p.others j nd ni ]) walk2 none2
       (ap (λ (z : Desk). has_room z.fds) (desk2 ∙ desk) ∙ room) (ap (λ (z : Desk). lowest z.fds) (desk2 ∙ desk) ∙ low) (ap (λ (z : Row). z.fds fd) (sym p.hold.stays.row) ∙ nofd) (ap (λ (z : Row). z.keys fd) (sym p.hold.stays.row) ∙ nokey) told)
     where
@@ -254,8 +254,8 @@ module _ (h : ℕ) (path : List ℕ) (flags : ℕ) (lt : h < hart_count) {base :
   named_full : (d i l : ℕ) {x : Held} (es : List Step) (u : World) (R : Own) → 971 * length ns + 1910 < l → own_of h u ≡ R → Pair base ns O0 R d i x (locked_held (Some new_file)) → IsWhole x → R.mine.walk ≡ None → R.mine.pending ≡ None → has_room R.desk.fds ≡ false → Goes h path flags (give_up d (open_made path flags i ns)) l es u
   named_full d i l {x} es u R few held p whole walk none room =
       s-give-up-in d {more = λ j. 0 + one_if (i == j)} held lt joins.ready.free joins.ready.joined (λ q. let b = joins.ready.spare d q in omega (arith, b)) (omega (arith, few))
-      (record { stays = p.hold.stays; refs = λ j. (let a = p.hold.refs j in omega (arith, a)); all = p.hold.all; once = p.hold.once; has = p.hold.has; only = p.hold.only }) walk none p.at_d whole (λ l2 u2 R2 q2 held2 desk2 walk2 none2 k2.
-      lacks i l2 (put p.extra d None) es u2 R2 (omega (arith, few, q2)) held2 k2 (put_other p.extra d None i p.apart ∙ p.at_i)
+      (record { stays = p.hold.stays; refs = λ j. (let a = p.hold.refs j in omega (arith, a)); all = p.hold.all; once = p.hold.once; has = p.hold.has; only = p.hold.only }) walk none p.at_d whole (λ l2 u2 Owned2 q2 held2 desk2 walk2 none2 k2.
+      lacks i l2 (put p.extra d None) es u2 Owned2 (omega (arith, few, q2)) held2 k2 (put_other p.extra d None i p.apart ∙ p.at_i)
       (λ j ni. elim (same_or j d) [ inl e ↦ ap (put p.extra d None) e ∙ put_same p.extra d None | inr nd ↦ put_other p.extra d None j nd ∙ p.others j nd ni ]) walk2 none2 (ap (λ (z : Desk). has_room z.fds) desk2 ∙ room))
 
   -- A number is claimed: its lock is taken, its count stored, its name entered.
@@ -267,9 +267,9 @@ module _ (h : ℕ) (path : List ℕ) (flags : ℕ) (lt : h < hart_count) {base :
       s-enter-file d i X e path flags held2 free lt (omega (arith, few, q1, q2)) joined walk none (mendable joins.ready p2.hold) flag refl refl refl
       (p2.hold.has d (locked_held (Some X)) p2.at_d) refl refl refl refl live absent (p2.hold.has i (fresh_held new_file) p2.at_i) refl refl refl refers from below notes
       (λ fd id. opened_begins path flags fd id true (told_step i (steps.Open path flags) (Opened fd id true) ∷ fs) (told fd id))
-      (λ l3 fd id u3 q3 room low nofd nokey held3. named d i fd id l3 (told_step i (steps.Open path flags) (Opened fd id true) ∷ fs) u3 _ R3 (omega (arith, few, q1, q2, q3)) held3 p3 (record { locked = refl; shared = refl; same = refl }) refl refl refl refl refl refl refl room low nofd nokey
+      (λ l3 fd id u3 q3 room low nofd nokey held3. named d i fd id l3 (told_step i (steps.Open path flags) (Opened fd id true) ∷ fs) u3 _ Owned3 (omega (arith, few, q1, q2, q3)) held3 p3 (record { locked = refl; shared = refl; same = refl }) refl refl refl refl refl refl refl room low nofd nokey
       (told fd id))
-      (λ l3 u3 q3 room held3. named_full d i l3 (told_step i (steps.Open path flags) (NoRoom Descriptors) ∷ fs) u3 R3 (omega (arith, few, q1, q2, q3)) held3 p3 (record { locked = refl; shared = refl; same = refl }) refl refl room)
+      (λ l3 u3 q3 room held3. named_full d i l3 (told_step i (steps.Open path flags) (NoRoom Descriptors) ∷ fs) u3 Owned3 (omega (arith, few, q1, q2, q3)) held3 p3 (record { locked = refl; shared = refl; same = refl }) refl refl room)
       (λ l3 u3 q3 held3. unmade (full (calls.Open path flags) Blocks) l3 u3 (omega (arith, few, q1, q2, q3)) held3)
       (λ l3 u3 q3 held3. unmade (full (calls.Open path flags) DirectoryFull) l3 u3 (omega (arith, few, q1, q2, q3)) held3)))
     where
@@ -285,24 +285,24 @@ module _ (h : ℕ) (path : List ℕ) (flags : ℕ) (lt : h < hart_count) {base :
       told : (fd id : ℕ) → Walked (calls.Open path flags) (opened_act path flags fd id true ∷ []) (told_step i (steps.Open path flags) (Opened fd id true) ∷ fs)
       told fd id = walking_told (calls.Open path flags) [] (steps.Open path flags) (Opened fd id true) i fs walking
 
-      R1 : Own
-      R1 = record R { inodes = put R.inodes i (Some (fresh_held (blank OfFile))) }
+      Owned1 : Own
+      Owned1 = record R { inodes = put R.inodes i (Some (fresh_held (blank OfFile))) }
 
-      R2 : Own
-      R2 = record R { inodes = put R1.inodes i (Some (fresh_held new_file)) }
+      Owned2 : Own
+      Owned2 = record R { inodes = put Owned1.inodes i (Some (fresh_held new_file)) }
 
-      p2 : Pair base ns O0 R2 d i (locked_held (Some X)) (fresh_held new_file)
-      p2 = pair_set R2 (fresh_held new_file) (pair_set R1 (fresh_held (blank OfFile)) p refl refl refl refl refl) refl refl refl refl refl
+      p2 : Pair base ns O0 Owned2 d i (locked_held (Some X)) (fresh_held new_file)
+      p2 = pair_set Owned2 (fresh_held new_file) (pair_set Owned1 (fresh_held (blank OfFile)) p refl refl refl refl refl) refl refl refl refl refl
 
       D : Held
       D = locked_held (Some (with_entry e i X))
 
-      R3 : Own
-      R3 = record R2 { inodes = created_inodes R2 d i e X (locked_held (Some X)) (fresh_held new_file); mine = record { refs = R2.mine.refs; walk = None; pending = None } }
+      Owned3 : Own
+      Owned3 = record Owned2 { inodes = created_inodes Owned2 d i e X (locked_held (Some X)) (fresh_held new_file); mine = record { refs = Owned2.mine.refs; walk = None; pending = None } }
 
-      p3 : Pair base ns O0 R3 d i D (locked_held (Some new_file))
-      p3 = pair_set R3 (locked_held (Some new_file)) (pair_set_first (record R2 { inodes = put R2.inodes d (Some D) }) D p2 refl refl refl refl refl) refl refl refl refl refl
+      p3 : Pair base ns O0 Owned3 d i D (locked_held (Some new_file))
+      p3 = pair_set Owned3 (locked_held (Some new_file)) (pair_set_first (record Owned2 { inodes = put Owned2.inodes d (Some D) }) D p2 refl refl refl refl refl) refl refl refl refl refl
 
-      unmade : (r : Reply) (l3 : ℕ) (u3 : World) → 971 * length ns + 1890 < l3 → own_of h u3 ≡ mended_own R2 → Goes h path flags (unmake i d ns r) l3 fs u3
+      unmade : (r : Reply) (l3 : ℕ) (u3 : World) → 971 * length ns + 1890 < l3 → own_of h u3 ≡ mended_own Owned2 → Goes h path flags (unmake i d ns r) l3 fs u3
       unmade r l3 u3 few3 held3 =
-          s-unmake h (calls.Open path flags) r new_file l3 fs u3 (mended_own R2) lt joins held3 few3 (pair_same (mended_own R2) p2 refl refl (stays_mended (mended_own R2) joins.ready p2.hold.stays refl refl refl)) (record { locked = refl; shared = refl; same = refl }) refl refl refl refl zero refl refl (inl refl)
+          s-unmake h (calls.Open path flags) r new_file l3 fs u3 (mended_own Owned2) lt joins held3 few3 (pair_same (mended_own Owned2) p2 refl refl (stays_mended (mended_own Owned2) joins.ready p2.hold.stays refl refl refl)) (record { locked = refl; shared = refl; same = refl }) refl refl refl refl zero refl refl (inl refl)

@@ -165,7 +165,7 @@ module _ (h : ℕ) (path : List ℕ) (lt : h < hart_count) {base : ℕ → ℕ} 
       s-store i 1 (blank OfDirectory) held1 free lt (omega (arith, few, q1)) joined (put_same R.inodes i (Some (fresh_held (blank OfDirectory)))) refl refl (inl (omega arith)) (λ l2 u2 q2 held2.
       s-fill i d (with_count 1 (blank OfDirectory)) held2 free lt (omega (arith, few, q1, q2)) joined (put_same (put R.inodes i (Some (fresh_held (blank OfDirectory)))) i (Some (fresh_held (with_count 1 (blank OfDirectory))))) refl refl refl (locked_held (Some X)) X (p2.hold.has d (locked_held (Some X)) p2.at_d) refl (mendable joins.ready p2.hold)
       (λ l3 u3 q3 held3. enters X i l3 fs u3 _ (omega (arith, few, q1, q2, q3)) held3 (pair_set _ (fresh_held (with_dots i d (with_count 1 (blank OfDirectory)))) p2 refl refl refl refl refl) zero walk none live absent room from below notes walking)
-      (λ l3 u3 q3 held3. s-unmake h (calls.Mkdir path) (full (calls.Mkdir path) Blocks) (with_count 1 (blank OfDirectory)) l3 fs u3 _ lt joins held3 (omega (arith, few, q1, q2, q3)) (pair_same (mended_own R2) p2 refl refl (stays_mended (mended_own R2) joins.ready p2.hold.stays refl refl refl)) (record { locked = refl; shared = refl; same = refl }) refl refl refl refl zero refl refl (inl refl))))
+      (λ l3 u3 q3 held3. s-unmake h (calls.Mkdir path) (full (calls.Mkdir path) Blocks) (with_count 1 (blank OfDirectory)) l3 fs u3 _ lt joins held3 (omega (arith, few, q1, q2, q3)) (pair_same (mended_own Owned2) p2 refl refl (stays_mended (mended_own Owned2) joins.ready p2.hold.stays refl refl refl)) (record { locked = refl; shared = refl; same = refl }) refl refl refl refl zero refl refl (inl refl))))
     where
       free : R.desk.lender ≡ None
       free = p.hold.stays.lender ∙ joins.ready.free
@@ -173,14 +173,14 @@ module _ (h : ℕ) (path : List ℕ) (lt : h < hart_count) {base : ℕ → ℕ} 
       joined : R.desk.joined ≡ true
       joined = p.hold.stays.joined ∙ joins.ready.joined
 
-      R1 : Own
-      R1 = record R { inodes = put R.inodes i (Some (fresh_held (blank OfDirectory))) }
+      Owned1 : Own
+      Owned1 = record R { inodes = put R.inodes i (Some (fresh_held (blank OfDirectory))) }
 
-      R2 : Own
-      R2 = record R { inodes = put R1.inodes i (Some (fresh_held (with_count 1 (blank OfDirectory)))) }
+      Owned2 : Own
+      Owned2 = record R { inodes = put Owned1.inodes i (Some (fresh_held (with_count 1 (blank OfDirectory)))) }
 
-      p2 : Pair base ns O0 R2 d i (locked_held (Some X)) (fresh_held (with_count 1 (blank OfDirectory)))
-      p2 = pair_set R2 (fresh_held (with_count 1 (blank OfDirectory))) (pair_set R1 (fresh_held (blank OfDirectory)) p refl refl refl refl refl) refl refl refl refl refl
+      p2 : Pair base ns O0 Owned2 d i (locked_held (Some X)) (fresh_held (with_count 1 (blank OfDirectory)))
+      p2 = pair_set Owned2 (fresh_held (with_count 1 (blank OfDirectory))) (pair_set Owned1 (fresh_held (blank OfDirectory)) p refl refl refl refl refl) refl refl refl refl refl
 
   -- The parent is seen.
   sees : (n : ℕ) (fs : List Step) (w : World) (O : Own) → 971 * length ns + 24000 ≤ n → On h (Mkdir path) d e [] base ns O0 O w → Walked (calls.Mkdir path) [] fs → Goes h path (mkdir_in path d e ns) n fs w

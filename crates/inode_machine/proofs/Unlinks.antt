@@ -154,8 +154,8 @@ module _ (h : ℕ) (path : List ℕ) (lt : h < hart_count) {base : ℕ → ℕ} 
   -- both are given up, the child first
   ends_both : (r : Reply) (X Z : Node) (n l : ℕ) (es : List Step) (w : World) (R : Own) → n ≢ d → 971 * length ns + 1880 < l → own_of h w ≡ R → Holding base ns O0 R (both d X Z n) (λ i. (0 + one_if (d == i)) + one_if (n == i)) → R.mine.walk ≡ None → R.mine.pending ≡ None → Told (calls.Unlink path) r es R → Goes h path (give_up n (give_up d (tail ns r))) l es w
   ends_both r X Z n l es w R ne few held k walk none told =
-      s-give-up n {more = λ i. 0 + one_if (d == i)} held lt joins.ready (omega (arith, few)) k walk none (put_same (put nothing d (Some (locked_held (Some X)))) n (Some (locked_held (Some Z)))) (record { locked = refl; shared = refl; same = refl }) (λ l2 u2 R2 q2 own2 desk walk2 none2 k2.
-      s-give-end h (calls.Unlink path) r ns (put (both d X Z n) n None) d l2 es u2 R2 lt joins own2 (omega (arith, few, q2)) k2
+      s-give-up n {more = λ i. 0 + one_if (d == i)} held lt joins.ready (omega (arith, few)) k walk none (put_same (put nothing d (Some (locked_held (Some X)))) n (Some (locked_held (Some Z)))) (record { locked = refl; shared = refl; same = refl }) (λ l2 u2 Owned2 q2 own2 desk walk2 none2 k2.
+      s-give-end h (calls.Unlink path) r ns (put (both d X Z n) n None) d l2 es u2 Owned2 lt joins own2 (omega (arith, few, q2)) k2
       (put_other (both d X Z n) n None d (λ q. ne (sym q)) ∙ put_other (put nothing d (Some (locked_held (Some X)))) n (Some (locked_held (Some Z))) d (λ q. ne (sym q)) ∙ put_same nothing d (Some (locked_held (Some X)))) (record { locked = refl; shared = refl; same = refl })
       (λ i nd. elim (same_or i n) [ inl q ↦ ap (put (both d X Z n) n None) q ∙ put_same (both d X Z n) n None | inr nn ↦ put_other (both d X Z n) n None i nn ∙ put_other (put nothing d (Some (locked_held (Some X)))) n (Some (locked_held (Some Z))) i nn ∙ else_one (Some (locked_held (Some X))) i nd ]) walk2 none2
       (elim told [ inl f ↦ inl (ap (λ (z : Desk). z.full) desk ∙ f) | inr a ↦ inr a ]))
@@ -185,13 +185,13 @@ module _ (h : ℕ) (path : List ℕ) (lt : h < hart_count) {base : ℕ → ℕ} 
           ∙ put_other (both d X Z n) d (Some (record (locked_held (Some X)) { disk = Some (without_entry e X); node = Some (less X Z e) })) i nd ∙ put_other (put nothing d (Some (locked_held (Some X)))) n (Some (locked_held (Some Z))) i nn ∙ else_one (Some (locked_held (Some X))) i nd
 
       -- the directory is given up, then the child's count is stored
-      given : (G : ℕ → Option Held) {y : Held} (l2 : ℕ) (u : World) (R2 : Own) → 971 * length ns + 1890 < l2 → own_of h u ≡ R2 → R2.desk ≡ R.desk → R2.mine.walk ≡ None → R2.mine.pending ≡ None → Holding base ns O0 R2 G (λ i. (0 + one_if (n == i)) + one_if (d == i)) → G d ≡ Some y → IsWhole y → G n ≡ Some (record (locked_held (Some Z)) { node = Some (lowered Z) }) → ((i : ℕ) → i ≢ d → i ≢ n → G i ≡ None)
+      given : (G : ℕ → Option Held) {y : Held} (l2 : ℕ) (u : World) (Owned2 : Own) → 971 * length ns + 1890 < l2 → own_of h u ≡ Owned2 → Owned2.desk ≡ R.desk → Owned2.mine.walk ≡ None → Owned2.mine.pending ≡ None → Holding base ns O0 Owned2 G (λ i. (0 + one_if (n == i)) + one_if (d == i)) → G d ≡ Some y → IsWhole y → G n ≡ Some (record (locked_held (Some Z)) { node = Some (lowered Z) }) → ((i : ℕ) → i ≢ d → i ≢ n → G i ≡ None)
           → Goes h path (give_up d (Do (Store n (Z.count - 1)) unmarked (λ _. give_up n (tail ns (done (calls.Unlink path)))))) l2 es u
-      given G l2 u R2 few2 own2 desk2 walk2 none2 k2 isd whole isn rest =
-          s-give-up d {more = λ i. 0 + one_if (n == i)} own2 lt joins.ready (omega (arith, few2)) k2 walk2 none2 isd whole (λ l3 u3 R3 q3 own3 desk3 walk3 none3 k3.
+      given G l2 u Owned2 few2 own2 desk2 walk2 none2 k2 isd whole isn rest =
+          s-give-up d {more = λ i. 0 + one_if (n == i)} own2 lt joins.ready (omega (arith, few2)) k2 walk2 none2 isd whole (λ l3 u3 Owned3 q3 own3 desk3 walk3 none3 k3.
           s-store n (Z.count - 1) Z own3 (k3.stays.lender ∙ joins.ready.free) lt (omega (arith, few2, q3)) (k3.stays.joined ∙ joins.ready.joined) (k3.has n (record (locked_held (Some Z)) { node = Some (lowered Z) }) (put_other G d None n ne ∙ isn)) refl refl (inr (omega arith)) (λ l4 u4 q4 own4.
           s-give-end h (calls.Unlink path) (done (calls.Unlink path)) ns (put (put G d None) n (Some (locked_held (Some (lowered Z))))) n l4 es u4 _ lt joins own4 (omega (arith, few2, q3, q4))
-          (holding_set (record R3 { inodes = put R3.inodes n (Some (locked_held (Some (lowered Z)))) }) n (Some (locked_held (Some (lowered Z)))) (λ i. 0 + one_if (n == i)) k3 (unlisted_refs k3 n (let o = one_at n in omega (arith, o))) refl (stays_same _ R3 O0 refl refl refl k3.stays) (λ i q. refl) (λ i. k3.refs i))
+          (holding_set (record Owned3 { inodes = put Owned3.inodes n (Some (locked_held (Some (lowered Z)))) }) n (Some (locked_held (Some (lowered Z)))) (λ i. 0 + one_if (n == i)) k3 (unlisted_refs k3 n (let o = one_at n in omega (arith, o))) refl (stays_same _ Owned3 O0 refl refl refl k3.stays) (λ i q. refl) (λ i. k3.refs i))
           (put_same (put G d None) n (Some (locked_held (Some (lowered Z))))) (record { locked = refl; shared = refl; same = refl })
           (λ i nn. put_other (put G d None) n (Some (locked_held (Some (lowered Z)))) i nn ∙ elim (same_or i d) [ inl q ↦ ap (put G d None) q ∙ put_same G d None | inr nd ↦ put_other G d None i nd ∙ rest i nd nn ]) walk3 none3
           (elim told [ inl f ↦ inl (ap (λ (z : Desk). z.full) (desk3 ∙ desk2) ∙ f) | inr a ↦ inr a ])))
