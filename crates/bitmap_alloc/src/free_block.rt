@@ -17,7 +17,7 @@ use crate::bits::clear_in;
 use atomic_programs::machines::Stepped;
 use block_device::Device;
 use buffer_cache::Buffer;
-use fs_machine::{Core, Fetch, Kind};
+use fs_machine::{Core, Fetch, Kind, RetiredCore};
 use group_log::Txn;
 use sleep_lock::Guard;
 
@@ -67,6 +67,14 @@ impl FreeBlock {
                 unmark(b, guard, hart, txn, core);
                 Stepped::Done((), Kind::Put)
             }
+        }
+    }
+
+    /// Ends it in mid-call, after all that harts share has ended.
+    pub fn retire(self, retired: &RetiredCore) {
+        match self {
+            FreeBlock::Look(_, fetch) => fetch.retire(retired),
+            FreeBlock::Unmark(_, guard) => guard.retire_in_row(&retired.buffers),
         }
     }
 }

@@ -20,7 +20,7 @@ use crate::search::first_clear;
 use atomic_programs::machines::Stepped;
 use block_device::Device;
 use buffer_cache::Buffer;
-use fs_machine::{Core, Fetch, Kind};
+use fs_machine::{Core, Fetch, Kind, RetiredCore};
 use group_log::Txn;
 use sleep_lock::Guard;
 
@@ -81,6 +81,16 @@ impl TakeBlock {
                 zero(guard, hart, txn, core);
                 Stepped::Done(Some(b), Kind::Put)
             }
+        }
+    }
+
+    /// Ends it in mid-call, after all that harts share has ended.
+    pub fn retire(self, retired: &RetiredCore) {
+        match self {
+            TakeBlock::Look(_, fetch) => fetch.retire(retired),
+            TakeBlock::Mark(_, guard) => guard.retire_in_row(&retired.buffers),
+            TakeBlock::Fetching(fetch) => fetch.retire(retired),
+            TakeBlock::Zero(guard) => guard.retire_in_row(&retired.buffers),
         }
     }
 }

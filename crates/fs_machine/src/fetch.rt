@@ -8,6 +8,7 @@ ghost use Rattle.fs_machine.specs.Stays.{LeavesApart};
 ghost use Rattle.fs_machine.specs.Fetching.{fetch_of, block_of, FetchFits, FetchApart, IsFetched};
 
 use crate::kind::Kind;
+use crate::retired::RetiredCore;
 use crate::shared::Core;
 use atomic_programs::machines::Stepped;
 use block_device::{Device, Fault};
@@ -53,6 +54,14 @@ impl Fetch {
                 Ok(()) => Stepped::Done(guard, Kind::Read),
                 Err(Fault) => Stepped::Stopped(Fetch::Read(guard)),
             },
+        }
+    }
+
+    /// Ends it in mid-call, after all that harts share has ended.
+    pub fn retire(self, retired: &RetiredCore) {
+        match self {
+            Fetch::Get(_) => {}
+            Fetch::Read(guard) => guard.retire_in_row(&retired.buffers),
         }
     }
 }

@@ -8,6 +8,7 @@ ghost use Rattle.fs_machine.specs.Stays.{LeavesAll};
 ghost use Rattle.fs_machine.specs.Fetching.{finish_of, FinishFits};
 
 use crate::kind::Kind;
+use crate::retired::RetiredCore;
 use crate::shared::Core;
 use atomic_programs::machines::Stepped;
 use block_device::Device;
@@ -53,6 +54,14 @@ impl Finish {
                 Progress::Ended => Stepped::Done((), Kind::Commit),
                 Progress::Failed => Stepped::Stopped(Finish::Commit(left)),
             },
+        }
+    }
+
+    /// Ends it in mid-call, after all that harts share has ended.
+    pub fn retire(self, retired: &RetiredCore) {
+        match self {
+            Finish::Leave(txn) => txn.retire(&retired.log),
+            Finish::Commit(_) => {}
         }
     }
 }

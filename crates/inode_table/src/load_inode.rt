@@ -12,7 +12,7 @@ use atomic_programs::machines::Stepped;
 use block_device::Device;
 use buffer_cache::Buffer;
 use fs_layout::Dinode;
-use fs_machine::{Core, Fetch, Kind};
+use fs_machine::{Core, Fetch, Kind, RetiredCore};
 use sleep_lock::Guard;
 
 /// Reads an inode from its block. It is for the holder of the inode's lock, to whom the inode wasn't loaded yet.
@@ -54,6 +54,14 @@ impl LoadInode {
                 core.put_back(hart, guard);
                 Stepped::Done(inode, Kind::Put)
             }
+        }
+    }
+
+    /// Ends it in mid-call, after all that harts share has ended.
+    pub fn retire(self, retired: &RetiredCore) {
+        match self {
+            LoadInode::Fetching(_, fetch) => fetch.retire(retired),
+            LoadInode::Read(_, guard) => guard.retire_in_row(&retired.buffers),
         }
     }
 }

@@ -20,7 +20,7 @@ use block_device::Device;
 use buffer_cache::Buffer;
 use fs_layout::widths::{ADDRESSES, Block, INODES_PER_BLOCK};
 use fs_layout::{Dinode, Super, read_dinode};
-use fs_machine::{Claim, Core, Fetch, Kind};
+use fs_machine::{Claim, Core, Fetch, Kind, RetiredCore};
 use fs_tables::Reference;
 use group_log::Txn;
 use sleep_lock::Guard;
@@ -128,6 +128,19 @@ impl NewInode {
                 core.put_back(hart, guard);
                 Stepped::Done(Made::NoPlace, Kind::Put)
             }
+        }
+    }
+
+    /// Ends it in mid-call, after all that harts share has ended.
+    pub fn retire(self, retired: &RetiredCore) {
+        match self {
+            NewInode::Fetching(_, fetch) => fetch.retire(retired),
+            NewInode::Look(_, guard) => guard.retire_in_row(&retired.buffers),
+            NewInode::Record(_, reference, guard) => {
+                reference.retire(&retired.inodes);
+                guard.retire_in_row(&retired.buffers);
+            }
+            NewInode::GiveBack(_, guard) => guard.retire_in_row(&retired.buffers),
         }
     }
 }

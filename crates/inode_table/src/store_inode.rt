@@ -16,7 +16,7 @@ use atomic_programs::machines::Stepped;
 use block_device::Device;
 use buffer_cache::Buffer;
 use fs_layout::Dinode;
-use fs_machine::{Core, Fetch, Kind};
+use fs_machine::{Core, Fetch, Kind, RetiredCore};
 use group_log::Txn;
 use sleep_lock::Guard;
 
@@ -69,6 +69,14 @@ impl StoreInode {
                 write(number, inode, guard, hart, txn, core);
                 Stepped::Done((), Kind::Put)
             }
+        }
+    }
+
+    /// Ends it in mid-call, after all that harts share has ended.
+    pub fn retire(self, retired: &RetiredCore) {
+        match self {
+            StoreInode::Fetching(_, _, fetch) => fetch.retire(retired),
+            StoreInode::Write(_, _, guard) => guard.retire_in_row(&retired.buffers),
         }
     }
 }
