@@ -10,13 +10,15 @@ use Rattle.fs_tables.specs.declared.inodes.Dropped.TheVariants as dropped
 use Rattle.atomic_programs.specs.Prog.{Ran}
 use Rattle.fs_tables.specs.declared.files.OpenFile.{OpenFile}
 use Rattle.fs_tables.specs.declared.files.Want.{Want}
+use Rattle.fs_tables.specs.declared.files.Want.TheVariants as want
 use Rattle.fs_tables.specs.declared.files.Refused.{Refused}
 use Rattle.fs_tables.specs.Tables.{TablesState, file_named, place_of, references_of, references_in}
 use Rattle.fs_tables.specs.Inodes.{lock_file, lock_unless, with_file, lock_inode, refusal_of, Refuses, first_free, is_unreferenced}
 use Rattle.fs_tables.specs.Locks.{IsLocked}
 use Rattle.fs_tables.specs.Results.{IfDying}
 use Rattle.fs_machine.specs.declared.shared.Core.{Core}
-use Rattle.fs_machine.specs.LogPart.{LogPart}
+use Rattle.fs_machine.specs.LogPart.{LogPart, join_log}
+use Rattle.fs_machine.specs.Steps.{State, RefusesJoin, in_log, joins, join_unless, with_open, lock_open}
 use Rattle.fs_machine.specs.Tied.{IsOwnInode}
 use Rattle.fs_machine.specs.Stays.{HasNone}
 
@@ -57,6 +59,20 @@ file_refused h fd w t why e = ap (lock_unless h t (file_named h fd t)) e
 pub file_tried : (h fd : ℕ) (w : Want) (t : TablesState) (f : OpenFile) → refusal_of w (file_named h fd t) ≡ None → file_named h fd t ≡ Some f → lock_file h w fd t ≡ with_file f (lock_inode h f.number t)
 unfolding lock_file
 file_tried h fd w t f e is = ap (lock_unless h t (file_named h fd t)) e ∙ ap (λ o. lock_unless h t o None) is
+
+pub open_tried : (h fd : ℕ) (t : TablesState) (f : OpenFile) → file_named h fd t ≡ Some f → lock_open h t (file_named h fd t) ≡ with_open f (lock_inode h f.number t)
+open_tried h fd t f is = ap (lock_open h t) is
+
+-- a join to write what a descriptor names
+pub join_refused : (h : ℕ) (s : State) (o : Option OpenFile) (why : Refused) → refusal_of want.Write o ≡ Some why → join_unless h s o (refusal_of want.Write o) ≡ Ran (RefusesJoin why) s
+join_refused h s o why e = ap (join_unless h s o) e ∙ at o
+  where
+    at : (o : Option OpenFile) → join_unless h s o (Some why) ≡ Ran (RefusesJoin why) s
+    at None = refl
+    at (Some f) = refl
+
+pub join_tried : (h : ℕ) (s : State) (o : Option OpenFile) (f : OpenFile) → refusal_of want.Write o ≡ None → o ≡ Some f → join_unless h s o (refusal_of want.Write o) ≡ joins f (in_log s (join_log h s.log))
+join_tried h s o f e is = ap (join_unless h s o) e ∙ ap (λ (q : Option OpenFile). join_unless h s q None) is
 
 -- to what is found no reference stands
 found_passes : {X : Type 0} (p : X → Bool) (xs : List X) (x : X) → find p xs ≡ Some x → p x ≡ true

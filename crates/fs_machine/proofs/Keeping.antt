@@ -13,13 +13,14 @@ use Rattle.group_log.specs.Whole.{IsWhole, LeadsToWhole}
 use Rattle.group_log.specs.declared.phase.Phase.TheVariants.{Open, Halted}
 use Rattle.group_log.proofs.Whole.{calls_keep_whole}
 use Rattle.atomic_programs.specs.Prog.{Did, Waits, Ran, Stops}
+use Rattle.fs_tables.specs.declared.files.OpenFile.{OpenFile}
 use Rattle.fs_tables.specs.declared.files.Refused.{Refused}
 use Rattle.fs_tables.specs.declared.files.Want.TheVariants as want
 use Rattle.fs_tables.specs.Tables.{TablesState, file_named}
 use Rattle.fs_tables.specs.Inodes.{refusal_of, lock_inode, lock_file, settle_inode, up_inode, first_free}
 use Rattle.fs_tables.specs.Files.{take_place, open_file, double_descriptor, shut_descriptor, give_next}
 use Rattle.fs_machine.specs.LogPart.{Outside, Passes, Fails, join_if, got_by, read_block, put_block, commit_if, written, LeavesIt, LeavesOne}
-use Rattle.fs_machine.specs.Steps.{State, Join, JoinToWrite, Leave, Get, Read, Put, Commit, Lock, LockFile, Unlock, Settle, Up, Claim, Down, CheckFile, TakePlace, TakeDescriptor, Double, Close, Give, Reply, exec, in_log, in_tables, joins, join_unless, claims, claim_first, up_whom, drop_which}
+use Rattle.fs_machine.specs.Steps.{State, Join, JoinToWrite, Leave, Get, Read, Put, Commit, Lock, LockFile, LockOpen, Unlock, Settle, Up, Claim, Down, CheckFile, TakePlace, TakeDescriptor, Double, Close, Give, Reply, exec, in_log, in_tables, joins, join_unless, lock_open, claims, claim_first, up_whom, drop_which}
 use Rattle.fs_machine.specs.Premises.{May, Honest, MayPut, MayJoin}
 use Rattle.fs_machine.specs.Whole.{IsWholeLog, After, KeepsWhole}
 
@@ -40,13 +41,15 @@ module _ (h : ℕ) (s : State) (whole : IsWholeLog s.log) where
   join_keeps may true e = tt
   join_keeps may false e = leads.join h may.1 e
 
-  joins_keeps : MayJoin h s.log → (b : Bool) → join_waits s.log.phase (length s.log.group) (joined s.log.members) (limit_of s.log.sizes) ≡ b → Kept (joins (in_log s (join_if h s.log b)))
-  joins_keeps may true e = tt
-  joins_keeps may false e = leads.join h may.1 e
+  joins_keeps : MayJoin h s.log → (f : OpenFile) (b : Bool) → join_waits s.log.phase (length s.log.group) (joined s.log.members) (limit_of s.log.sizes) ≡ b → Kept (joins f (in_log s (join_if h s.log b)))
+  joins_keeps may f true e = tt
+  joins_keeps may f false e = leads.join h may.1 e
 
-  unless_keeps : MayJoin h s.log → (why : Option Refused) → Kept (join_unless h s why)
-  unless_keeps may (Some why) = whole
-  unless_keeps may None = joins_keeps may (join_waits s.log.phase (length s.log.group) (joined s.log.members) (limit_of s.log.sizes)) refl
+  unless_keeps : MayJoin h s.log → (f : Option OpenFile) (why : Option Refused) → Kept (join_unless h s f why)
+  unless_keeps may None (Some why) = whole
+  unless_keeps may (Some f) (Some why) = whole
+  unless_keeps may None None = tt
+  unless_keeps may (Some f) None = joins_keeps may f (join_waits s.log.phase (length s.log.group) (joined s.log.members) (limit_of s.log.sizes)) refl
 
   get_keeps : (r : List SeatState × Got) → IsWhole s.log.contents r.0 s.log.sizes s.log.group s.log.members s.log.phase → Kept (in_log s (got_by s.log r))
   get_keeps (seats, got.Held guard) after = after
@@ -78,7 +81,7 @@ module _ (h : ℕ) (s : State) (whole : IsWholeLog s.log) where
 pub keeps_whole : KeepsWhole
 unfolding exec May Honest
 keeps_whole h x Join s whole may honest = join_keeps h s whole may (join_waits s.log.phase (length s.log.group) (joined s.log.members) (limit_of s.log.sizes)) refl
-keeps_whole h x (JoinToWrite fd) s whole may honest = unless_keeps h s whole may (refusal_of want.Write (file_named h fd s.tables))
+keeps_whole h x (JoinToWrite fd) s whole may honest = unless_keeps h s whole may (file_named h fd s.tables) (refusal_of want.Write (file_named h fd s.tables))
 keeps_whole h x Leave s whole may honest = (leads h s whole).leave h may.0 may.1
 keeps_whole h x (Get b) s whole may honest = get_keeps h s whole (get_of h b s.log.seats) ((leads h s whole).get h b may.0 may.1 may.2)
 keeps_whole h x (Read b) s whole may honest = read_keeps h s whole b x honest may.0 may.2 may.1
@@ -86,6 +89,7 @@ keeps_whole h x (Put b change) s whole may honest = put_keeps h s whole b change
 keeps_whole h x Commit s whole may honest = commit_keeps h s whole x honest may.2 may.3 (turn_is_out s.log.seats s.log.group s.log.phase)
 keeps_whole h x (Lock n) s whole may honest = tables_keep s whole (lock_inode h n s.tables)
 keeps_whole h x (LockFile w fd) s whole may honest = tables_keep s whole (lock_file h w fd s.tables)
+keeps_whole h x (LockOpen fd) s whole may honest = tables_keep s whole (lock_open h s.tables (file_named h fd s.tables))
 keeps_whole h x (Unlock v moved) s whole may honest = whole
 keeps_whole h x (Settle v) s whole may honest = tables_keep s whole (settle_inode h v s.tables)
 keeps_whole h x (Up whom) s whole may honest = tables_keep s whole (up_whom h whom s.tables)

@@ -16,13 +16,14 @@ use Rattle.group_log.specs.declared.phase.Phase.TheVariants.{Halted}
 use Rattle.group_log.specs.Waiting.{join_waits}
 use Rattle.group_log.proofs.Seats.{pick}
 use Rattle.atomic_programs.specs.Prog.{Did, Waits, Ran, Stops}
+use Rattle.fs_tables.specs.declared.files.OpenFile.{OpenFile}
 use Rattle.fs_tables.specs.declared.files.Refused.{Refused}
 use Rattle.fs_tables.specs.declared.files.Want.TheVariants as want
 use Rattle.fs_tables.specs.Tables.{TablesState, file_named}
 use Rattle.fs_tables.specs.Inodes.{refusal_of, lock_inode, lock_file, settle_inode, up_inode, first_free}
 use Rattle.fs_tables.specs.Files.{take_place, open_file, double_descriptor, shut_descriptor, give_next}
 use Rattle.fs_machine.specs.LogPart.{LogPart, Outside, Passes, Fails, with_seats, join_if, got_by, read_block, put_block, commit_if, write_log, written, failed, LeavesOne, LeavesIt}
-use Rattle.fs_machine.specs.Steps.{State, Join, JoinToWrite, Leave, Get, Read, Put, Commit, Lock, LockFile, Unlock, Settle, Up, Claim, Down, CheckFile, TakePlace, TakeDescriptor, Double, Close, Give, Reply, exec, in_log, in_tables, joins, join_unless, claims, claim_first, up_whom, drop_which}
+use Rattle.fs_machine.specs.Steps.{State, Join, JoinToWrite, Leave, Get, Read, Put, Commit, Lock, LockFile, LockOpen, Unlock, Settle, Up, Claim, Down, CheckFile, TakePlace, TakeDescriptor, Double, Close, Give, Reply, exec, in_log, in_tables, joins, join_unless, lock_open, claims, claim_first, up_whom, drop_which}
 use Rattle.fs_machine.specs.Premises.{May, Honest}
 use Rattle.fs_machine.specs.Whole.{IsWholeLog, After}
 use Rattle.fs_machine.specs.Own.{own_of, LeavesOwn}
@@ -61,13 +62,15 @@ module _ (h g : ℕ) (s : State) (ne : g ≢ h) (whole : IsWholeLog s.log) where
   join_owns true = tt
   join_owns false = join_own
 
-  joins_owns : (b : Bool) → Same (joins (in_log s (join_if h l b)))
-  joins_owns true = tt
-  joins_owns false = join_own
+  joins_owns : (f : OpenFile) (b : Bool) → Same (joins f (in_log s (join_if h l b)))
+  joins_owns f true = tt
+  joins_owns f false = join_own
 
-  unless_owns : (why : Option Refused) → Same (join_unless h s why)
-  unless_owns (Some why) = refl
-  unless_owns None = joins_owns (join_waits l.phase (length l.group) (joined l.members) (limit_of l.sizes))
+  unless_owns : (f : Option OpenFile) (why : Option Refused) → Same (join_unless h s f why)
+  unless_owns None (Some why) = refl
+  unless_owns (Some f) (Some why) = refl
+  unless_owns None None = tt
+  unless_owns (Some f) None = joins_owns f (join_waits l.phase (length l.group) (joined l.members) (limit_of l.sizes))
 
   get_owns : (b : ℕ) (r : List SeatState × Got) → r ≡ get_of h b l.seats → Same (in_log s (got_by l r))
   get_owns b (zs, got.Held guard) e =
@@ -119,7 +122,7 @@ module _ (h g : ℕ) (s : State) (ne : g ≢ h) (whole : IsWholeLog s.log) where
 pub leaves_own : LeavesOwn
 unfolding exec May Honest
 leaves_own h g x Join s ne whole may honest = join_owns h g s ne whole (join_waits s.log.phase (length s.log.group) (joined s.log.members) (limit_of s.log.sizes))
-leaves_own h g x (JoinToWrite fd) s ne whole may honest = unless_owns h g s ne whole (refusal_of want.Write (file_named h fd s.tables))
+leaves_own h g x (JoinToWrite fd) s ne whole may honest = unless_owns h g s ne whole (file_named h fd s.tables) (refusal_of want.Write (file_named h fd s.tables))
 leaves_own h g x Leave s ne whole may honest =
     owns g s.log (record s.log { members = slice_set s.log.members h None; phase = phase_at_leave (joined (slice_set s.log.members h None)) s.log.group })
     (slice_get-set_other s.log.members h g None ne) (same_for g s.log.seats) refl refl
@@ -129,6 +132,7 @@ leaves_own h g x (Put b change) s ne whole may honest = put_owns h g s ne whole 
 leaves_own h g x Commit s ne whole may honest = commit_owns h g s ne whole x honest (turn_is_out s.log.seats s.log.group s.log.phase) refl
 leaves_own h g x (Lock n) s ne whole may honest = tables_own h g s ne whole (lock_inode h n s.tables)
 leaves_own h g x (LockFile w fd) s ne whole may honest = tables_own h g s ne whole (lock_file h w fd s.tables)
+leaves_own h g x (LockOpen fd) s ne whole may honest = tables_own h g s ne whole (lock_open h s.tables (file_named h fd s.tables))
 leaves_own h g x (Unlock v moved) s ne whole may honest = refl
 leaves_own h g x (Settle v) s ne whole may honest = tables_own h g s ne whole (settle_inode h v s.tables)
 leaves_own h g x (Up whom) s ne whole may honest = tables_own h g s ne whole (up_whom h whom s.tables)

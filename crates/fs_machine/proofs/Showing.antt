@@ -20,13 +20,14 @@ use Rattle.group_log.proofs.Recorded.{room_to_pin, pinned_by_pin}
 use Rattle.group_log.proofs.Steps.{open_of, under_way}
 use Rattle.group_log.proofs.Whole.{Stands, write_stands, fault_stands, after_stands, guard_in, seat_in, kept_in}
 use Rattle.atomic_programs.specs.Prog.{Did, Waits, Ran, Stops}
+use Rattle.fs_tables.specs.declared.files.OpenFile.{OpenFile}
 use Rattle.fs_tables.specs.declared.files.Refused.{Refused}
 use Rattle.fs_tables.specs.declared.files.Want.TheVariants as want
 use Rattle.fs_tables.specs.Tables.{TablesState, file_named}
 use Rattle.fs_tables.specs.Inodes.{refusal_of, lock_inode, lock_file, settle_inode, up_inode, first_free}
 use Rattle.fs_tables.specs.Files.{take_place, open_file, double_descriptor, shut_descriptor, give_next}
 use Rattle.fs_machine.specs.LogPart.{LogPart, Outside, Passes, Fails, join_if, got_by, read_block, put_block, commit_if, written, LeavesIt, LeavesOne}
-use Rattle.fs_machine.specs.Steps.{State, Join, JoinToWrite, Leave, Get, Read, Put, Commit, Lock, LockFile, Unlock, Settle, Up, Claim, Down, CheckFile, TakePlace, TakeDescriptor, Double, Close, Give, Reply, exec, in_log, in_tables, joins, join_unless, claims, claim_first, up_whom, drop_which}
+use Rattle.fs_machine.specs.Steps.{State, Join, JoinToWrite, Leave, Get, Read, Put, Commit, Lock, LockFile, LockOpen, Unlock, Settle, Up, Claim, Down, CheckFile, TakePlace, TakeDescriptor, Double, Close, Give, Reply, exec, in_log, in_tables, joins, join_unless, lock_open, claims, claim_first, up_whom, drop_which}
 use Rattle.fs_machine.specs.Premises.{May, Honest, MayPut}
 use Rattle.fs_machine.specs.Shown.{seen_of, seen_with, ShowsItsPuts}
 use Rattle.fs_machine.specs.Whole.{IsWholeLog, After}
@@ -47,13 +48,15 @@ module _ (h : ℕ) (s : State) (whole : IsWholeLog s.log) where
   join_shows true = tt
   join_shows false = λ k out. refl
 
-  joins_show : (b : Bool) → Still (joins (in_log s (join_if h l b)))
-  joins_show true = tt
-  joins_show false = λ k out. refl
+  joins_show : (f : OpenFile) (b : Bool) → Still (joins f (in_log s (join_if h l b)))
+  joins_show f true = tt
+  joins_show f false = λ k out. refl
 
-  unless_shows : (why : Option Refused) → Still (join_unless h s why)
-  unless_shows (Some why) = λ k out. refl
-  unless_shows None = joins_show (join_waits l.phase (length l.group) (joined l.members) (limit_of l.sizes))
+  unless_shows : (f : Option OpenFile) (why : Option Refused) → Still (join_unless h s f why)
+  unless_shows None (Some why) = λ k out. refl
+  unless_shows (Some f) (Some why) = λ k out. refl
+  unless_shows None None = tt
+  unless_shows (Some f) None = joins_show f (join_waits l.phase (length l.group) (joined l.members) (limit_of l.sizes))
 
   get_shows : (b : ℕ) → h < hart_count → count_of (is_held_by h) l.seats ≤ 1 → (r : List SeatState × Got) → r ≡ get_of h b l.seats → Still (in_log s (got_by l r))
   get_shows b lt few (zs, got.Held guard) e =
@@ -112,7 +115,7 @@ module _ (h : ℕ) (s : State) (whole : IsWholeLog s.log) where
 pub shows_its_puts : ShowsItsPuts
 unfolding exec May Honest
 shows_its_puts h x Join s whole may honest = join_shows h s whole (join_waits s.log.phase (length s.log.group) (joined s.log.members) (limit_of s.log.sizes))
-shows_its_puts h x (JoinToWrite fd) s whole may honest = unless_shows h s whole (refusal_of want.Write (file_named h fd s.tables))
+shows_its_puts h x (JoinToWrite fd) s whole may honest = unless_shows h s whole (file_named h fd s.tables) (refusal_of want.Write (file_named h fd s.tables))
 shows_its_puts h x Leave s whole may honest = λ k out. refl
 shows_its_puts h x (Get b) s whole may honest = get_shows h s whole b may.0 may.1 (get_of h b s.log.seats) refl
 shows_its_puts h x (Read b) s whole may honest = read_shows h s whole b x may.0 may.2 honest
@@ -120,6 +123,7 @@ shows_its_puts h x (Put b change) s whole may honest = λ k out. put_shows h s w
 shows_its_puts h x Commit s whole may honest = commit_shows h s whole x honest may.2 may.3 (turn_is_out s.log.seats s.log.group s.log.phase)
 shows_its_puts h x (Lock n) s whole may honest = tables_show h s whole (lock_inode h n s.tables)
 shows_its_puts h x (LockFile w fd) s whole may honest = tables_show h s whole (lock_file h w fd s.tables)
+shows_its_puts h x (LockOpen fd) s whole may honest = tables_show h s whole (lock_open h s.tables (file_named h fd s.tables))
 shows_its_puts h x (Unlock v moved) s whole may honest = λ k out. refl
 shows_its_puts h x (Settle v) s whole may honest = tables_show h s whole (settle_inode h v s.tables)
 shows_its_puts h x (Up whom) s whole may honest = tables_show h s whole (up_whom h whom s.tables)

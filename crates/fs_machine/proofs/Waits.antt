@@ -36,8 +36,8 @@ use Rattle.fs_tables.proofs.Places.{found}
 use Rattle.fs_tables.proofs.Locking.{slot_at, lock_is}
 use Rattle.fs_tables.proofs.Counting.{holder_there}
 use Rattle.fs_machine.specs.LogPart.{LogPart, Outside, Passes, Fails, join_if, got_by as block_got, read_block, commit_if, write_log}
-use Rattle.fs_machine.specs.Steps.{State, Join, JoinToWrite, Leave, Get, Read, Put, Commit, Lock, LockFile, Unlock, Settle, Up, Claim, Down, CheckFile, TakePlace, TakeDescriptor, Double, Close, Give, Reply, Whom, Number, Directory, Drop, Held, Walked, Freed, exec, in_log, in_tables, joins, join_unless, claims, claim_first, up_whom, drop_which}
-use Rattle.fs_machine.specs.Premises.{May, MayLockFile, MayWait, IsElsewhere, JoinWaits}
+use Rattle.fs_machine.specs.Steps.{State, Join, JoinToWrite, Leave, Get, Read, Put, Commit, Lock, LockFile, LockOpen, Unlock, Settle, Up, Claim, Down, CheckFile, TakePlace, TakeDescriptor, Double, Close, Give, Reply, Whom, Number, Directory, Drop, Held, Walked, Freed, exec, in_log, in_tables, joins, join_unless, with_open, lock_open, claims, claim_first, up_whom, drop_which}
+use Rattle.fs_machine.specs.Premises.{May, MayLockFile, MayLockOpen, MayWait, IsElsewhere, JoinWaits}
 use Rattle.fs_machine.specs.Waiting.{IsCounted, WaitsWhereItMay}
 
 elsewhere : (h : ℕ) (o : Option ℕ) → IsSome o → o ≢ Some h → IsElsewhere h o
@@ -240,6 +240,19 @@ file_counted h fd t f all_counted is = at (place_named h fd t) is
         let all = all_counted f.number in
         omega (arith, one, all)
 
+open_waits : (f : OpenFile) (d : Did (Option Dinode) TablesState) → with_open f d ≡ Waits → d ≡ Waits
+open_waits f Waits e = refl
+open_waits f (Ran a t) e = absurd (cc e)
+open_waits f (Stops t) e = absurd (cc e)
+
+opens_wait : (h fd : ℕ) (t : TablesState) → IsSoundInodes t.entries t.locks → IsCounted t → MayLockOpen h (file_named h fd t) t → lock_open h t (file_named h fd t) ≡ Waits
+    → MatchOption (file_named h fd t) ⊥ (λ f. IsElsewhere h (lock_holder f.number t))
+opens_wait h fd t sound counted may e = at (file_named h fd t) refl may e
+  where
+    at : (o : Option OpenFile) → file_named h fd t ≡ o → MayLockOpen h o t → lock_open h t o ≡ Waits → MatchOption o ⊥ (λ f. IsElsewhere h (lock_holder f.number t))
+    at None is ne z = ne
+    at (Some f) is ne z = elsewhere h (lock_holder f.number t) (lock_is_out h f.number t sound (file_counted h fd t f counted is) (open_waits f (lock_inode h f.number t) z)) ne.1
+
 with_waits : (f : OpenFile) (d : Did (Option Dinode) TablesState) → with_file f d ≡ Waits → d ≡ Waits
 with_waits f Waits e = refl
 with_waits f (Ran a t) e = absurd (cc e)
@@ -264,16 +277,20 @@ join_waits_for : (h : ℕ) (l : LogPart) (b : Bool) → join_if h l b ≡ Waits 
 join_waits_for h l true e = refl
 join_waits_for h l false e = absurd (cc e)
 
-joins_waits : (d : Did (Unit {0}) State) → joins d ≡ Waits → d ≡ Waits
-joins_waits Waits e = refl
-joins_waits (Ran a s) e = absurd (cc e)
-joins_waits (Stops s) e = absurd (cc e)
+joins_waits : (f : OpenFile) (d : Did (Unit {0}) State) → joins f d ≡ Waits → d ≡ Waits
+joins_waits f Waits e = refl
+joins_waits f (Ran a s) e = absurd (cc e)
+joins_waits f (Stops s) e = absurd (cc e)
 
-unless_waits : (h : ℕ) (s : State) (why : Option Refused) → join_unless h s why ≡ Waits → JoinWaits s.log
-unless_waits h s (Some why) e = absurd (cc e)
-unless_waits h s None e =
-    let b = join_waits s.log.phase (length s.log.group) (joined s.log.members) (limit_of s.log.sizes) in
-    join_waits_for h s.log b (within_waits (λ l. record s { log = l }) (join_if h s.log b) (joins_waits (in_log s (join_if h s.log b)) e))
+unless_waits : (h : ℕ) (s : State) (f : Option OpenFile) → join_unless h s f (refusal_of want.Write f) ≡ Waits → JoinWaits s.log
+unless_waits h s None e = absurd (cc e)
+unless_waits h s (Some f) e = by (refusal_of want.Write (Some f)) e
+  where
+    by : (why : Option Refused) → join_unless h s (Some f) why ≡ Waits → JoinWaits s.log
+    by (Some why) z = absurd (cc z)
+    by None z =
+        let b = join_waits s.log.phase (length s.log.group) (joined s.log.members) (limit_of s.log.sizes) in
+        join_waits_for h s.log b (within_waits (λ l. record s { log = l }) (join_if h s.log b) (joins_waits f (in_log s (join_if h s.log b)) z))
 
 got_waits_of : (l : LogPart) (r : List SeatState × Got) → block_got l r ≡ Waits → r.1 ≡ got.Waits
 got_waits_of l (zs, got.Held guard) e = absurd (cc e)
@@ -311,7 +328,7 @@ module _ (s : State) where
 pub waits_where_it_may : WaitsWhereItMay
 unfolding exec May MayWait
 waits_where_it_may h x Join s whole sound counted may e = join_waits_for h s.log (join_waits s.log.phase (length s.log.group) (joined s.log.members) (limit_of s.log.sizes)) (of_log s _ e)
-waits_where_it_may h x (JoinToWrite fd) s whole sound counted may e = unless_waits h s (refusal_of want.Write (file_named h fd s.tables)) e
+waits_where_it_may h x (JoinToWrite fd) s whole sound counted may e = unless_waits h s (file_named h fd s.tables) e
 waits_where_it_may h x Leave s whole sound counted may e = cc e
 waits_where_it_may h x (Get b) s whole sound counted may e =
     let laws = get_laws s.log.contents h b s.log.seats may.0 may.1 whole.cache in
@@ -321,6 +338,7 @@ waits_where_it_may h x (Put b change) s whole sound counted may e = cc e
 waits_where_it_may h x Commit s whole sound counted may e = commit_waits_for x s.log (turn_is_out s.log.seats s.log.group s.log.phase) (of_log s _ e)
 waits_where_it_may h x (Lock n) s whole sound counted may e = elsewhere h (lock_holder n s.tables) (lock_is_out h n s.tables sound.inodes may.0 (of_tables s (lock_inode h n s.tables) e)) may.1
 waits_where_it_may h x (LockFile w fd) s whole sound counted may e = file_waits h fd w s.tables sound.inodes counted may.1 (of_tables s (lock_file h w fd s.tables) e)
+waits_where_it_may h x (LockOpen fd) s whole sound counted may e = opens_wait h fd s.tables sound.inodes counted may.1 (of_tables s (lock_open h s.tables (file_named h fd s.tables)) e)
 waits_where_it_may h x (Unlock v moved) s whole sound counted may e = cc e
 waits_where_it_may h x (Settle v) s whole sound counted may e = settle_never h v s.tables (of_tables s (settle_inode h v s.tables) e)
 waits_where_it_may h x (Up whom) s whole sound counted may e = up_whom_never h whom s.tables (of_tables s (up_whom h whom s.tables) e)

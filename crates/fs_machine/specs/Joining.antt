@@ -8,14 +8,14 @@ use Rattle.fs_machine.specs.declared.shared.JoinedToWrite.TheVariants.{Waits, Re
 abbrev pub joined_to_write_as : {S : Type 0} → JoinedToWrite → S → Did JoinedState S
 joined_to_write_as Waits s = ItWaits
 joined_to_write_as (Refused why) s = Ran (RefusesJoin why) s
-joined_to_write_as (Joined txn) s = Ran Joins s
+joined_to_write_as (Joined txn number) s = Ran (Joins number) s
 
 abbrev pub IfJoinWaits : JoinedToWrite → Type 0 → Type 0
 IfJoinWaits Waits P = P
 IfJoinWaits (Refused why) P = Unit {0}
-IfJoinWaits (Joined txn) P = Unit {0}
+IfJoinWaits (Joined txn number) P = Unit {0}
 
 abbrev pub IfJoined : JoinedToWrite → (ℕ → Type 0) → Type 0
 IfJoined Waits P = Unit {0}
 IfJoined (Refused why) P = Unit {0}
-IfJoined (Joined txn) P = P txn
+IfJoined (Joined txn number) P = P txn

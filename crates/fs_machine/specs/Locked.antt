@@ -1,4 +1,6 @@
 -- What the lock of a descriptor's inode stands for.
+use Rattle.std.specs.Prelude.{Option, Some, None}
+use Rattle.fs_layout.specs.declared.inode.Dinode.{Dinode}
 use Rattle.sleep_lock.specs.SleepLock.{GuardState}
 use Rattle.atomic_programs.specs.Prog.{Did, Waits as ItWaits, Ran}
 use Rattle.fs_tables.specs.declared.inodes.Inode.{Inode}
@@ -11,6 +13,10 @@ abbrev pub file_locked_as : {S : Type 0} → LockedFile → S → Did LockedStat
 file_locked_as Waits s = ItWaits
 file_locked_as (Refused why) s = Ran (Refuses why) s
 file_locked_as (Locked file guard) s = Ran (Locks file guard.value.content) s
+
+abbrev pub open_locked_as : {S : Type 0} → Option (OpenFile × GuardState Inode) → S → Did (OpenFile × Option Dinode) S
+open_locked_as None s = ItWaits
+open_locked_as (Some (file, guard)) s = Ran (file, guard.value.content) s
 
 abbrev pub IfFileWaits : LockedFile → Type 0 → Type 0
 IfFileWaits Waits P = P

@@ -16,7 +16,7 @@ use Rattle.fs_tables.specs.Tables.{TablesState, references_of, owed, holder_of a
 use Rattle.fs_tables.specs.Inodes.{directory_of}
 use Rattle.fs_tables.specs.Files.{hand_of, descriptors_of}
 use Rattle.fs_machine.specs.LogPart.{LogPart, Outside, written, LeavesIt, LeavesOne}
-use Rattle.fs_machine.specs.Steps.{State, Op, Join, JoinToWrite, Leave, Get, Read, Put, Commit, Lock, LockFile, Unlock, Settle, Up, Claim, Down, CheckFile, TakePlace, TakeDescriptor, Double, Close, Give, Reply, Whom, Number, Directory, Drop, Held, Walked, Freed}
+use Rattle.fs_machine.specs.Steps.{State, Op, Join, JoinToWrite, Leave, Get, Read, Put, Commit, Lock, LockFile, LockOpen, Unlock, Settle, Up, Claim, Down, CheckFile, TakePlace, TakeDescriptor, Double, Close, Give, Reply, Whom, Number, Directory, Drop, Held, Walked, Freed}
 
 -- ---- what an operation asks
 
@@ -38,6 +38,10 @@ MayLock h n t = (0 < references_of n t) × (lock_holder n t ≢ Some h)
 -- the same of an open file's, which has a number that a directory's entry can say
 abbrev pub MayLockFile : ℕ → Option OpenFile → TablesState → Type 0
 MayLockFile h file t = IfSome file (λ f. (f.number < 2 ^ 16) × (lock_holder f.number t ≢ Some h))
+
+-- the same of one that is known to be open
+abbrev pub MayLockOpen : ℕ → Option OpenFile → TablesState → Type 0
+MayLockOpen h file t = MatchOption file ⊥ (λ f. (f.number < 2 ^ 16) × (lock_holder f.number t ≢ Some h))
 
 -- the file that a descriptor names is this inode's
 abbrev pub MayMove : ℕ → ℕ → Option (ℕ × ℕ) → TablesState → Type 0
@@ -77,6 +81,7 @@ May h (Put b change) s = MayPut h b change s.log
 May h Commit s = (h < hart_count) × (count_of (is_held_by h) s.log.seats ≡ 0) × (s.log.phase ≢ Open) × (s.log.phase ≢ Halted)
 May h (Lock n) s = MayLock h n s.tables
 May h (LockFile want fd) s = (h < hart_count) × MayLockFile h (file_named h fd s.tables) s.tables
+May h (LockOpen fd) s = (h < hart_count) × MayLockOpen h (file_named h fd s.tables) s.tables
 May h (Unlock v moved) s = (lock_holder v.number s.tables ≡ Some h) × MayMove h v.number moved s.tables
 May h (Settle v) s = (h < hart_count) × (lock_holder v.number s.tables ≡ Some h) × HasReference v.number s.tables
 May h (Up whom) s = MayUpWhom h whom s.tables
@@ -102,6 +107,7 @@ Honest h (Put b change) s x = Unit {0}
 Honest h Commit s x = LeavesOne s.log.contents (written s.log) x
 Honest h (Lock n) s x = Unit {0}
 Honest h (LockFile want fd) s x = Unit {0}
+Honest h (LockOpen fd) s x = Unit {0}
 Honest h (Unlock v moved) s x = Unit {0}
 Honest h (Settle v) s x = Unit {0}
 Honest h (Up whom) s x = Unit {0}
@@ -133,6 +139,7 @@ MayWait h (Put b change) s = ⊥
 MayWait h Commit s = IsTrue (turn_is_out s.log.seats s.log.group s.log.phase)
 MayWait h (Lock n) s = IsElsewhere h (lock_holder n s.tables)
 MayWait h (LockFile want fd) s = MatchOption (file_named h fd s.tables) ⊥ (λ f. IsElsewhere h (lock_holder f.number s.tables))
+MayWait h (LockOpen fd) s = MatchOption (file_named h fd s.tables) ⊥ (λ f. IsElsewhere h (lock_holder f.number s.tables))
 MayWait h (Unlock v moved) s = ⊥
 MayWait h (Settle v) s = ⊥
 MayWait h (Up whom) s = ⊥

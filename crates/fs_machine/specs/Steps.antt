@@ -5,6 +5,7 @@ use Rattle.group_log.specs.declared.log.Left.{Left}
 use Rattle.atomic_programs.specs.Prog.{Did, Waits, Ran, Stops, did_in}
 use Rattle.fs_tables.specs.declared.inodes.Inode.{Inode}
 use Rattle.fs_tables.specs.declared.files.NewFile.{NewFile}
+use Rattle.fs_tables.specs.declared.files.OpenFile.{OpenFile}
 use Rattle.fs_tables.specs.declared.files.Want.{Want}
 use Rattle.fs_tables.specs.declared.files.Want.TheVariants as want
 use Rattle.fs_tables.specs.declared.files.Refused.{Refused}
@@ -64,6 +65,8 @@ pub data Op : Type 0 where
   -- takes an inode's lock; or that of what a descriptor names, where it may be had for this
   Lock : ℕ → Op
   LockFile : Want → ℕ → Op
+  -- that of what a descriptor names that is known to be open
+  LockOpen : ℕ → Op
   -- gives a lock back with this inode; and the file of this descriptor has this offset from now on
   Unlock : Inode → Option (ℕ × ℕ) → Op
   -- the same, and the inode is the hart's current directory from now on
@@ -91,7 +94,8 @@ pub data Op : Type 0 where
 
 pub data Joined : Type 0 where
   RefusesJoin : Refused → Joined
-  Joins : Joined
+  -- for the inode of this number
+  Joins : ℕ → Joined
 
 pub data Claimed : Type 0 where
   Claims : ℕ → Claimed
@@ -114,6 +118,7 @@ Answer Commit = Bool
 -- the inode where it is loaded
 Answer (Lock n) = Option Dinode
 Answer (LockFile w fd) = LockedState
+Answer (LockOpen fd) = OpenFile × Option Dinode
 Answer (Unlock v moved) = Unit {0}
 -- the old directory, to which the reference is in hand now
 Answer (Settle v) = ℕ
@@ -138,14 +143,24 @@ in_log s d = did_in (λ l. record s { log = l }) d
 abbrev pub in_tables : {A : Type 0} → State → Did A TablesState → Did A State
 in_tables s d = did_in (λ t. record s { tables = t }) d
 
-abbrev pub joins : Did (Unit {0}) State → Did Joined State
-joins Waits = Waits
-joins (Ran a s) = Ran Joins s
-joins (Stops s) = Stops s
+abbrev pub joins : OpenFile → Did (Unit {0}) State → Did Joined State
+joins f Waits = Waits
+joins f (Ran a s) = Ran (Joins f.number) s
+joins f (Stops s) = Stops s
 
-abbrev pub join_unless : ℕ → State → Option Refused → Did Joined State
-join_unless h s (Some why) = Ran (RefusesJoin why) s
-join_unless h s None = joins (in_log s (join_log h s.log))
+abbrev pub join_unless : ℕ → State → Option OpenFile → Option Refused → Did Joined State
+join_unless h s f (Some why) = Ran (RefusesJoin why) s
+join_unless h s None None = Waits
+join_unless h s (Some f) None = joins f (in_log s (join_log h s.log))
+
+abbrev pub with_open : OpenFile → Did (Option Dinode) TablesState → Did (OpenFile × Option Dinode) TablesState
+with_open f Waits = Waits
+with_open f (Ran content t) = Ran (f, content) t
+with_open f (Stops t) = Stops t
+
+abbrev pub lock_open : ℕ → TablesState → Option OpenFile → Did (OpenFile × Option Dinode) TablesState
+lock_open h t None = Waits
+lock_open h t (Some f) = with_open f (lock_inode h f.number t)
 
 abbrev pub up_whom : ℕ → Whom → TablesState → Did (Option ℕ) TablesState
 up_whom h (Number n) t = up_inode n t
@@ -169,7 +184,7 @@ drop_which h (Freed n) t = drop_freed n t
 -- what an operation makes of the state in hart h's hand, where the device answers x
 unfoldable pub exec : ℕ → Outside → (op : Op) → State → Did (Answer op) State
 exec h x Join s = in_log s (join_log h s.log)
-exec h x (JoinToWrite fd) s = join_unless h s (refusal_of want.Write (file_named h fd s.tables))
+exec h x (JoinToWrite fd) s = join_unless h s (file_named h fd s.tables) (refusal_of want.Write (file_named h fd s.tables))
 exec h x Leave s = in_log s (leave_log h s.log)
 exec h x (Get b) s = in_log s (get_block h b s.log)
 exec h x (Read b) s = in_log s (read_block b x s.log)
@@ -177,6 +192,7 @@ exec h x (Put b change) s = Ran tt (record s { log = put_block h b change s.log 
 exec h x Commit s = in_log s (commit_log x s.log)
 exec h x (Lock n) s = in_tables s (lock_inode h n s.tables)
 exec h x (LockFile w fd) s = in_tables s (lock_file h w fd s.tables)
+exec h x (LockOpen fd) s = in_tables s (lock_open h s.tables (file_named h fd s.tables))
 exec h x (Unlock v moved) s = Ran tt (record s { tables = unlock_inode h v moved s.tables })
 exec h x (Settle v) s = in_tables s (settle_inode h v s.tables)
 exec h x (Up whom) s = in_tables s (up_whom h whom s.tables)
@@ -195,7 +211,7 @@ exec h x Reply s = Ran tt s
 -- what is refused by its descriptor is a reply and nothing else
 abbrev pub kind_joined : Joined → Kind
 kind_joined (RefusesJoin why) = kind.Reply
-kind_joined Joins = kind.Join
+kind_joined (Joins n) = kind.Join
 
 abbrev pub kind_locked : LockedState → Kind
 kind_locked (Refuses why) = kind.Reply
@@ -236,6 +252,7 @@ kind_of (Put b change) a = kind.Put
 kind_of Commit a = kind.Commit
 kind_of (Lock n) a = kind.Lock
 kind_of (LockFile w fd) a = kind_locked a
+kind_of (LockOpen fd) a = kind.Lock
 kind_of (Unlock v moved) a = kind.Unlock
 kind_of (Settle v) a = kind.Unlock
 kind_of (Up whom) a = kind.Up

@@ -4,12 +4,12 @@ ghost use Rattle.atomic_programs.specs.Prog.{Ran as ItRan};
 ghost use Rattle.fs_tables.specs.Inodes.{Counts};
 ghost use Rattle.fs_tables.specs.Results.{locked_as, dropped_as, kept_as, IfDying};
 ghost use Rattle.fs_machine.specs.LogPart.{Outside};
-ghost use Rattle.fs_machine.specs.Steps.{state_of, exec, Claim as ClaimOp, Lock, LockFile, Unlock, Settle, Up, Down, Number, Directory, Held, Walked, Freed};
+ghost use Rattle.fs_machine.specs.Steps.{state_of, exec, Claim as ClaimOp, Lock, LockFile, LockOpen, Unlock, Settle, Up, Down, Number, Directory, Held, Walked, Freed};
 ghost use Rattle.fs_machine.specs.Premises.{May};
 ghost use Rattle.fs_machine.specs.Tied.{IsOwn, IsOwnInode, LeavesTied};
 ghost use Rattle.fs_machine.specs.Stays.{LeavesAll, LeavesAllBut, HasNone};
 ghost use Rattle.fs_machine.specs.Claiming.{claimed_as, IfKept};
-ghost use Rattle.fs_machine.specs.Locked.{file_locked_as, IfFileWaits, IfFileLocked};
+ghost use Rattle.fs_machine.specs.Locked.{file_locked_as, open_locked_as, IfFileWaits, IfFileLocked};
 
 use crate::shared::Core;
 use block_device::Device;
@@ -114,6 +114,28 @@ impl<D: Device> Core<D> {
                     None => LockedFile::Waits,
                     Some(guard) => LockedFile::Locked(file, guard),
                 },
+            },
+        }
+    }
+
+    /// Takes the lock of the inode that a descriptor names which is known to be open. None where it waits.
+    #[tactic(auto, unfolding(crate::specs::Premises::May))]
+    pub fn lock_open(&mut self, hart: u8, fd: u32) -> Option<(OpenFile, Guard<Inode>)>
+        requires may { May hart (LockOpen fd) (state_of D.contents D.failures self.old) }
+        ensures ran { (x : Outside) → exec hart x (LockOpen fd) (state_of D.contents D.failures self.old) ≡ open_locked_as result (state_of D.contents D.failures self.new) }
+        ensures still { IfNone result (self.new ≡ self.old) }
+        ensures number { IfSome result (λ locked. locked.0.number < 2 ^ 16) }
+        ensures own { IfSome result (λ locked. IsOwnInode hart locked.0.number locked.1 (state_of D.contents D.failures self.new)) }
+        ensures others { LeavesTied hart (state_of D.contents D.failures self.old) (state_of D.contents D.failures self.new) }
+        ensures log { self.new.log ≡ self.old.log }
+        ensures rest { LeavesAll (IsOwnInode hart) (state_of D.contents D.failures self.old) (state_of D.contents D.failures self.new) }
+        ensures apart { IfSome result (λ locked. HasNone locked.0.number (IsOwnInode hart) (state_of D.contents D.failures self.old)) }
+    {
+        match self.tables.file(hart, fd) {
+            None => None,
+            Some(file) => match self.tables.lock(hart, file.number) {
+                None => None,
+                Some(guard) => Some((file, guard)),
             },
         }
     }

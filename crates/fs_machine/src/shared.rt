@@ -29,7 +29,8 @@ pub struct Core<D: Device> {
 pub enum JoinedToWrite {
     Waits,
     Refused(Refused),
-    Joined(Txn),
+    /// To write the inode of this number.
+    Joined(Txn, u32),
 }
 
 impl<D: Device> Core<D> {
@@ -62,9 +63,12 @@ impl<D: Device> Core<D> {
     {
         match self.tables.check(hart, Want::Write, fd) {
             Some(why) => JoinedToWrite::Refused(why),
-            None => match self.log.join(hart) {
+            None => match self.tables.file(hart, fd) {
                 None => JoinedToWrite::Waits,
-                Some(txn) => JoinedToWrite::Joined(txn),
+                Some(file) => match self.log.join(hart) {
+                    None => JoinedToWrite::Waits,
+                    Some(txn) => JoinedToWrite::Joined(txn, file.number),
+                },
             },
         }
     }
