@@ -10,7 +10,7 @@ ghost use Rattle.file_table.specs.Machines.{IsEarly, file_of, FileFits, loaded_a
 use atomic_programs::machines::Stepped;
 use block_device::Device;
 use fs_layout::Dinode;
-use fs_machine::{Core, Kind, LockedFile};
+use fs_machine::{Core, Kind, LockedFile, RetiredCore};
 use fs_tables::{Inode, OpenFile, Refused, Want};
 use inode_table::LoadInode;
 use sleep_lock::Guard;
@@ -69,6 +69,17 @@ impl LoadFile {
                 },
             },
             LoadFile::Loading(file, guard, load) => loading(file, guard, load.step(hart, core)),
+        }
+    }
+
+    /// Ends it in mid-call, after all that harts share has ended.
+    pub fn retire(self, retired: &RetiredCore) {
+        match self {
+            LoadFile::Lock(_, _, _) => {}
+            LoadFile::Loading(_, guard, load) => {
+                guard.retire_in_row(&retired.inodes);
+                load.retire(retired);
+            }
         }
     }
 }

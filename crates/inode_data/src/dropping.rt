@@ -12,7 +12,7 @@ use crate::freeing::FreeInode;
 use atomic_programs::machines::Stepped;
 use block_device::Device;
 use fs_layout::Super;
-use fs_machine::{Core, Kind};
+use fs_machine::{Core, Kind, RetiredCore};
 use fs_tables::{Dropped, Reference};
 use group_log::Txn;
 
@@ -64,6 +64,14 @@ impl DropReference {
                 ),
             },
             DropReference::Freeing(m) => freeing(m.step(hart, txn, core)),
+        }
+    }
+
+    /// Ends it in mid-call, after all that harts share has ended.
+    pub fn retire(self, retired: &RetiredCore) {
+        match self {
+            DropReference::Down(_, reference) => reference.retire(&retired.inodes),
+            DropReference::Freeing(m) => m.retire(retired),
         }
     }
 }

@@ -16,7 +16,7 @@ use atomic_programs::machines::Stepped;
 use block_device::Device;
 use buffer_cache::Buffer;
 use fs_layout::{Dinode, read_number};
-use fs_machine::{Core, Fetch, Kind};
+use fs_machine::{Core, Fetch, Kind, RetiredCore};
 use sleep_lock::Guard;
 
 /// Takes the buffer of a block of a content, valid, after a touch of the indirect block where the block's number stands there.
@@ -69,6 +69,15 @@ impl FetchBlock {
                 Stepped::Ran(fetch_numbered(number), Kind::Put)
             }
             FetchBlock::Block(fetch) => in_block(fetch.step(hart, core)),
+        }
+    }
+
+    /// Ends it in mid-call, after all that harts share has ended.
+    pub fn retire(self, retired: &RetiredCore) {
+        match self {
+            FetchBlock::Table(_, fetch) => fetch.retire(retired),
+            FetchBlock::Number(_, guard) => guard.retire_in_row(&retired.buffers),
+            FetchBlock::Block(fetch) => fetch.retire(retired),
         }
     }
 }

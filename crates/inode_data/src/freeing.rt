@@ -14,7 +14,7 @@ use crate::truncation::Truncate;
 use atomic_programs::machines::Stepped;
 use block_device::Device;
 use fs_layout::{Dinode, Super};
-use fs_machine::{Core, Kind};
+use fs_machine::{Core, Kind, RetiredCore};
 use fs_tables::{Inode, Reference};
 use group_log::Txn;
 use inode_table::StoreInode;
@@ -91,6 +91,30 @@ impl FreeInode {
                 core.drop_freed(hart, reference);
                 Stepped::Done((), Kind::Down)
             }
+        }
+    }
+
+    /// Ends it in mid-call, after all that harts share has ended.
+    pub fn retire(self, retired: &RetiredCore) {
+        match self {
+            FreeInode::Truncating(reference, _, truncate) => {
+                reference.retire(&retired.inodes);
+                truncate.retire(retired);
+            }
+            FreeInode::Emptied(reference, _, guard) => {
+                reference.retire(&retired.inodes);
+                guard.retire_in_row(&retired.inodes);
+            }
+            FreeInode::Storing(reference, guard, store) => {
+                reference.retire(&retired.inodes);
+                guard.retire_in_row(&retired.inodes);
+                store.retire(retired);
+            }
+            FreeInode::Unlocking(reference, guard) => {
+                reference.retire(&retired.inodes);
+                guard.retire_in_row(&retired.inodes);
+            }
+            FreeInode::Dropping(reference) => reference.retire(&retired.inodes),
         }
     }
 }

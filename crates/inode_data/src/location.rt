@@ -22,7 +22,7 @@ use bitmap_alloc::TakeBlock;
 use block_device::Device;
 use buffer_cache::Buffer;
 use fs_layout::{Dinode, Super, read_number, write_number};
-use fs_machine::{Core, Fetch, Kind};
+use fs_machine::{Core, Fetch, Kind, RetiredCore};
 use group_log::Txn;
 use sleep_lock::Guard;
 
@@ -162,6 +162,21 @@ impl Locate {
                     Kind::Put,
                 )
             }
+        }
+    }
+
+    /// Ends it in mid-call, after all that harts share has ended.
+    pub fn retire(self, retired: &RetiredCore) {
+        match self {
+            Locate::Direct(_, _, take) => take.retire(retired),
+            Locate::NewTable(_, _, take) => take.retire(retired),
+            Locate::Table(_, _, fetch) => fetch.retire(retired),
+            Locate::Entry(_, _, table) => table.retire_in_row(&retired.buffers),
+            Locate::NewEntry(_, _, table, take) => {
+                table.retire_in_row(&retired.buffers);
+                take.retire(retired);
+            }
+            Locate::Name(_, _, table, _) => table.retire_in_row(&retired.buffers),
         }
     }
 }

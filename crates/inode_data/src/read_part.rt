@@ -21,7 +21,7 @@ use atomic_programs::machines::Stepped;
 use block_device::Device;
 use buffer_cache::Buffer;
 use fs_layout::widths::{BLOCK_LEN, Block};
-use fs_machine::{Core, Kind};
+use fs_machine::{Core, Kind, RetiredCore};
 use fs_tables::Inode;
 use sleep_lock::Guard;
 
@@ -37,6 +37,21 @@ pub struct Reading {
     pub upto: usize,
     /// So many blocks are to be read after the next one.
     pub left: usize,
+}
+
+impl Reading {
+    /// Ends it in mid-call, after all that harts share has ended.
+    pub fn retire(self, retired: &RetiredCore) {
+        let Reading {
+            inode,
+            bytes: _,
+            filled: _,
+            from: _,
+            upto: _,
+            left: _,
+        } = self;
+        inode.retire_in_row(&retired.inodes);
+    }
 }
 
 /// Reads bytes of a content into memory of the call.
@@ -96,6 +111,20 @@ impl ReadPart {
                 let reading = after(reading, guard.value().bytes());
                 core.put_back(hart, guard);
                 went_on(next(reading), Kind::Put)
+            }
+        }
+    }
+
+    /// Ends it in mid-call, after all that harts share has ended.
+    pub fn retire(self, retired: &RetiredCore) {
+        match self {
+            ReadPart::Fetching(reading, fetch) => {
+                reading.retire(retired);
+                fetch.retire(retired);
+            }
+            ReadPart::There(reading, guard) => {
+                reading.retire(retired);
+                guard.retire_in_row(&retired.buffers);
             }
         }
     }

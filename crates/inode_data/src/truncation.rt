@@ -24,7 +24,7 @@ use block_device::Device;
 use buffer_cache::Buffer;
 use fs_layout::widths::{ADDRESSES, Block, NUMBERS_PER_BLOCK};
 use fs_layout::{Dinode, Super, read_number};
-use fs_machine::{Core, Fetch, Kind};
+use fs_machine::{Core, Fetch, Kind, RetiredCore};
 use fs_tables::Inode;
 use group_log::Txn;
 use inode_table::StoreInode;
@@ -34,6 +34,14 @@ use sleep_lock::Guard;
 pub struct Emptying {
     pub inode: Guard<Inode>,
     pub sizes: Super,
+}
+
+impl Emptying {
+    /// Ends it in mid-call, after all that harts share has ended.
+    pub(crate) fn retire(self, retired: &RetiredCore) {
+        let Emptying { inode, sizes: _ } = self;
+        inode.retire_in_row(&retired.inodes);
+    }
 }
 
 /// Gives back all blocks of an inode, the bitmap touched once for each, and then stores its record without them.
@@ -68,6 +76,23 @@ pub enum Clearing {
     Table(FreeBlock),
     /// The record is stored.
     Record(StoreInode),
+}
+
+impl Clearing {
+    /// Ends it in mid-call, after all that harts share has ended.
+    pub(crate) fn retire(self, retired: &RetiredCore) {
+        match self {
+            Clearing::Own(_, free) => free.retire(retired),
+            Clearing::Indirect(fetch) => fetch.retire(retired),
+            Clearing::Listed(table, _, free) => {
+                table.retire_in_row(&retired.buffers);
+                free.retire(retired);
+            }
+            Clearing::GiveBack(table) => table.retire_in_row(&retired.buffers),
+            Clearing::Table(free) => free.retire(retired),
+            Clearing::Record(store) => store.retire(retired),
+        }
+    }
 }
 
 impl Truncate {
@@ -126,6 +151,22 @@ impl Truncate {
             Truncate::Listed(emptying, table, from) => free_listed(emptying, table, from),
             Truncate::Record(emptying) => store_record(emptying),
             Truncate::Runs(running) => running,
+        }
+    }
+
+    /// Ends it in mid-call, after all that harts share has ended.
+    pub fn retire(self, retired: &RetiredCore) {
+        match self {
+            Truncate::Own(emptying, _) => emptying.retire(retired),
+            Truncate::Listed(emptying, table, _) => {
+                emptying.retire(retired);
+                table.retire_in_row(&retired.buffers);
+            }
+            Truncate::Record(emptying) => emptying.retire(retired),
+            Truncate::Runs(Running { emptying, clearing }) => {
+                emptying.retire(retired);
+                clearing.retire(retired);
+            }
         }
     }
 }
