@@ -25,13 +25,14 @@ use Rattle.inode_machine.specs.Parts.{say}
 use Rattle.inode_machine.specs.Parts as parts
 use Rattle.inode_machine.specs.Descriptors.{dup_program, close_program, stat_program, stat_reply, read_program, read_reply}
 use Rattle.inode_machine.specs.Programs.{program, limit, rest_cost}
-use Rattle.inode_machine.specs.Theory.{descriptor_calls, calls_that, on_descriptors, begin_if, Refusal}
+use Rattle.inode_machine.specs.Theory.{descriptor_calls, calls_that, on_descriptors, begin_call, Refusal}
 use Rattle.inode_machine.proofs.Rules.{locked_held}
 use Rattle.inode_machine.proofs.Counting.{s-give, one_most}
 use Rattle.inode_machine.proofs.Dups.{fails, dupped, s-double, s-join, s-leave, s-say, SameRow, SameDesk}
 use Rattle.inode_machine.proofs.Closes.{shut_step, s-shut}
 use Rattle.inode_machine.proofs.Stats.{stat_step, stat_face, s-stat-file}
 use Rattle.inode_machine.proofs.Readings.{read_step, s-read-file}
+use Rattle.inode_machine.proofs.Starts.{begun_same, start_is}
 use Rattle.inode_machine.proofs.Resting.{given_is, idle_as, unlocks_nothing}
 use Rattle.inode_machine.proofs.WriteCalls.{write_begins, write_ok}
 use Rattle.inode_machine.proofs.Drops.{s-drop}
@@ -189,10 +190,11 @@ read_ok h fd buffer w free lt idle =
       );
     })))
 
--- A start changes nothing.
-pub right : (kind : Call → Bool) (h : ℕ) (call : Call) (busy : ℕ → Bool) (w u : World) → ((other : ℕ) → busy other ≡ false → Idle other w) → busy h ≡ false → w ≡ u
+-- A start that changes nothing.
+pub right : (kind : Call → Bool) (h : ℕ) (call : Call) (busy : ℕ → Bool) (w u : World) → ((other : ℕ) → busy other ≡ false → Idle other w) → busy h ≡ false → ◌≡◌ {A = Began Refusal World} (Begins w) (Begins u)
     → IsBeginning (calls_that kind) call [] → (Inv u → Idle h u → Safe machine h (Begun (calls_that kind) call) (Ends (calls_that kind) h call) (program call) (limit call) [] u) → Right (calls_that kind) h call busy w u
-right kind h call busy w u idle free is first runs =
+right kind h call busy w u idle free begins first runs =
+    let is = begun_same w u begins in
     record {
       inv = λ i. subst Inv is i;
       halted = λ i. subst Inv is i;
@@ -204,30 +206,15 @@ right kind h call busy w u idle free is first runs =
       runs = λ i. (runs i (subst (λ (x : World). Idle h x) is (idle h free))).wp;
     }
 
-begun_same : (b : Bool) (w u : World) → ◌≡◌ {A = Began Refusal World} (begin_if b w) (Begins u) → (b ≡ true) × (w ≡ u)
-begun_same true w u e = (refl, cc)
-begun_same false w u e = absurd cc
-
-below : (h : ℕ) → nat_lt h hart_count ≡ true → h < hart_count
-below h e = grind (arith, nat_tests)
-
-unlent : (o : Option ℕ) → is_nothing o ≡ true → o ≡ None
-unlent None e = refl
-unlent (Some g) e = absurd cc
-
--- What a start finds: the hart is one, the call is of this kind, and no hart hands the hart its descriptors.
+-- Where each call of some is right.
 abbrev pub IsRight : (Call → Bool) → (Call → Bool) → Type 0
-IsRight kind these = (h : ℕ) (call : Call) (busy : ℕ → Bool) (w u : World) → h < hart_count → these call ≡ true → (u.desks h).lender ≡ None → ((other : ℕ) → busy other ≡ false → Idle other w) → busy h ≡ false → w ≡ u → Right (calls_that kind) h call busy w u
+IsRight kind these = (h : ℕ) (call : Call) (busy : ℕ → Bool) (w u : World) → h < hart_count → these call ≡ true → (u.desks h).lender ≡ None → ((other : ℕ) → busy other ≡ false → Idle other w) → busy h ≡ false → begin_call h call busy w ≡ Begins u → Right (calls_that kind) h call busy w u
 
 -- where each call of the kind is right, all of them are
 pub lawful_that : (kind : Call → Bool) → IsRight kind kind → Lawful (calls_that kind)
 lawful_that kind calls = record {
   laws = laws;
-  calls = λ h call busy w u holds idle free e.
-      let b = begun_same (nat_lt h hart_count && (kind call && is_nothing (w.desks h).lender)) w u e in
-      let c = and_true (nat_lt h hart_count) (kind call && is_nothing (w.desks h).lender) b.0 in
-      let d = and_true (kind call) (is_nothing (w.desks h).lender) c.1 in
-      calls h call busy w u (below h c.0) d.0 (ap (λ (x : World). (x.desks h).lender) (sym b.1) ∙ unlent (w.desks h).lender d.1) idle free b.1;
+  calls = λ h call busy w u holds idle free e. let s = start_is kind h call busy w u e in calls h call busy w u s.hart s.covered s.free idle free s.begins;
 }
 
 pub descriptors_right : (kind : Call → Bool) → IsRight kind on_descriptors

@@ -17,12 +17,12 @@ use Rattle.tree_laws.proofs.Sums.{sum_same, sum_changed, one_no, one_yes}
 use Rattle.tree_laws.proofs.Opened.{well_closed}
 use Rattle.tree_moves.specs.Moves.{Walk, Stage, Step, Takes}
 use Rattle.tree_moves.specs.Moves.Move.{Own as OwnMove}
-use Rattle.inode_machine.specs.Exec.{is_at, file_count, with_refs, with_walk, slot_at, entry_at, close_at, close_if, close_less, close_last, child_of}
+use Rattle.inode_machine.specs.Exec.{is_at, file_count, with_refs, with_walk, slot_at, entry_at, close_at, close_if, close_less, close_last}
 use Rattle.inode_machine.specs.World.{Mine, Entry, Desk, World, stage_of}
 use Rattle.inode_machine.specs.Marks.{places, with_mark, made_by, new_id}
 use Rattle.inode_machine.specs.World.Op.{Shut}
 use Rattle.inode_machine.specs.Rules.{Own, shop_of, number_is, users, own_names, own_of, IsAlone, Inv, machine, nothing, reference_limit}
-use Rattle.inode_machine.proofs.Frame.{put_elim, stands_on, Fair, fair, has_none, one_refs}
+use Rattle.inode_machine.proofs.Frame.{bond_of, put_elim, stands_on, Fair, fair, has_none, one_refs}
 use Rattle.inode_machine.proofs.Rules.{s-owned, my_refs, each_refs, here_refs, walks_refs, total_same, total_changed, opens_slots, locks_none}
 use Rattle.inode_machine.proofs.Rows.{below_is}
 use Rattle.inode_machine.proofs.Walking.{refs_walk, stage_walk, moves_good}
@@ -161,7 +161,7 @@ shuts h fd s e v O F S H inv ov free lt walk still idle empty unnoted hit c = re
           let y = c.changes.keep j x.0 x.1 in
           (x.0, x.1, ap (λ (z : OpenFile). z.number) y.2 ∙ (let r : Some y.0 ≡ Some d = sym y.1 ∙ a in let t : y.0 ≡ d = cc in ap (λ (z : Entry). z.file.number) t));
       clean = λ q. q;
-      child = ap (λ (z : Desk). child_of z) desk_is;
+      bond = ap (λ (z : Desk). bond_of z) desk_is;
       stays = inl (ap (λ (z : Desk). z.directory) desk_is);
     };
     free = same.lender ∙ free;

@@ -26,7 +26,7 @@ use Rattle.inode_machine.specs.World.{Mine, Entry, Desk, World, Note}
 use Rattle.inode_machine.specs.Descriptors.{dups}
 use Rattle.inode_machine.specs.World.Op.{Double, Join, Leave, Say}
 use Rattle.inode_machine.specs.Rules.{Own, shop_of, Shop, Tied, id_at, number_is, users, own_names, own_of, Inv, machine, Held, key_in, Stands, view, Reached}
-use Rattle.inode_machine.proofs.Frame.{put_elim, stands_on, Fair, fair, fair_same, kept_here}
+use Rattle.inode_machine.proofs.Frame.{bond_of, put_elim, stands_on, Fair, fair, fair_same, kept_here}
 use Rattle.inode_machine.proofs.Rules.{s-owned, quiet, UnlocksAll, locks_none}
 use Rattle.inode_machine.proofs.Rows.{below_is}
 use Rattle.inode_machine.proofs.Walking.{refs_walk, walk_did, own_walk, stage_walk, moves_good}
@@ -133,7 +133,7 @@ desk_changes h v O new d c ov free lt inv is same names stands home stays unlent
     rows = λ g ne. refl;
     size = refl;
     ids = inv.ids;
-    shop = record { tied = tied; desks = λ g ne. put_other v.desks h new g ne; numbers = λ g i k e lg ne li q a. (e, a, refl); clean = back; child = ap (λ (z : Desk). child_of z) here ∙ ap (λ (f : ℕ → Option ℕ). f descriptor_count) same.lent; stays = elim stays [ inl q ↦ inl (ap (λ (z : Desk). z.directory) here ∙ q) | inr q ↦ inr q ] };
+    shop = record { tied = tied; desks = λ g ne. put_other v.desks h new g ne; numbers = λ g i k e lg ne li q a. (e, a, refl); clean = back; bond = ap (λ (z : Desk). bond_of z) here ∙ (λ z. record { child = same.lent z descriptor_count; given = same.lent z (descriptor_count + 1); lender = (unlent ∙ sym (ap (λ (o : Own). o.desk.lender) ov ∙ free)) z }); stays = elim stays [ inl q ↦ inl (ap (λ (z : Desk). z.directory) here ∙ q) | inr q ↦ inr q ] };
     free = ap (λ (z : Desk). z.lender) here ∙ unlent;
     quiet = λ j is f. quiet (sym (ap (λ (z : Desk). z.joined) here) ∙ f) j is;
     sort = λ j. inl refl;
@@ -484,7 +484,7 @@ s-double {A} {h} fd {k} {B} {Q} {n} {es} {w} {O} owns free lt pos walks none idl
             desks = λ g ne. put_other v.desks h (record (v.desks h) { fds = put (v.desks h).fds f (Some s) }) g ne;
             numbers = λ g i j d lg ne li z a. renewed_at v.files s e (record { file = e.file; sort = e.sort; references = e.references + 1 }) j d hit.at refl a;
             clean = λ c. c;
-            child = ap (λ (z : Desk). child_of z) desk_is;
+            bond = ap (λ (z : Desk). bond_of z) desk_is;
             stays = inl (ap (λ (z : Desk). z.directory) desk_is);
           };
           free = same.lender ∙ free;

@@ -1,5 +1,5 @@
 -- One lemma for all operations: what a step of one hart leaves to the others, and what still holds.
-use Rattle.std.proofs.Common.{◌≡◌, ◌≢◌, ◌⊎◌, inl, inr, ℕ, ◌+◌, ◌<◌, ◌≤◌, Bool, true, false, ◌==◌, ◌||◌, Option, Some, None, refl, sym, ◌∙◌, ap, subst, arith, if◌then◌else◌}
+use Rattle.std.proofs.Common.{◌≡◌, ◌≢◌, ◌⊎◌, inl, inr, ℕ, zero, suc, ◌+◌, ◌<◌, ◌≤◌, Bool, true, false, ◌==◌, ◌||◌, Option, Some, None, refl, sym, ◌∙◌, ap, subst, arith, if◌then◌else◌}
 use Rattle.plain_tree.specs.Widths.{hart_count, descriptor_count}
 use Rattle.plain_tree.specs.declared.node.Node.{Node}
 use Rattle.plain_tree.specs.Tree.{put, hold_names}
@@ -12,8 +12,8 @@ use Rattle.tree_laws.proofs.Sums.{sum_part, sum_two}
 use Rattle.inode_machine.specs.Inodes.{sort_of}
 use Rattle.tree_moves.specs.Moves.{Walk}
 use Rattle.inode_machine.specs.World.{Mine, Entry, Note, Desk, World}
-use Rattle.inode_machine.specs.Exec.{is_at, child_of}
-use Rattle.inode_machine.specs.Rules.{key_in, Own, Rests, left_or, Stands, shop_of, Shop, Tied, own_names, Held, view, is_hart, if_kept, own_of, Found, Pinned, Reached, reference_limit, References, IsAlone, Lends, Inv}
+use Rattle.inode_machine.specs.Exec.{is_at, child_of, given_of}
+use Rattle.inode_machine.specs.Rules.{key_in, Own, Rests, left_or, Stands, shop_of, Shop, Tied, own_names, Held, view, is_hart, if_kept, own_of, Found, Pinned, Reached, reference_limit, References, IsAlone, Has, Lends, Inv}
 
 -- Functions changed at one place, and what is kept.
 
@@ -78,6 +78,15 @@ pub record Changed (h j : ℕ) (v u : World) : Type 0 where
   pub whole : u.keeper j ≡ None → u.disk j ≡ u.all.nodes j
   pub keeps : (g : ℕ) → u.lock j ≡ Some g → u.keeper j ≡ Some g
 
+-- whom a hart serves, how much that has, and which hart serves it
+pub record Bond : Type 0 where
+  pub child : Option ℕ
+  pub given : Option ℕ
+  pub lender : Option ℕ
+
+abbrev pub bond_of : Desk → Bond
+bond_of d = record { child = child_of d; given = given_of d; lender = d.lender }
+
 -- what a step does to open files
 pub record Kin (h : ℕ) (v u : Shop) : Type 0 where
   pub tied : Tied u
@@ -85,12 +94,12 @@ pub record Kin (h : ℕ) (v u : Shop) : Type 0 where
   -- what another hart's descriptor has keeps its number
   pub numbers : (g i k : ℕ) (e : Entry) → g < hart_count → g ≢ h → i < descriptor_count → (v.desks g).fds i ≡ Some k → v.files k ≡ Some e → (f : Entry) × (u.files k ≡ Some f) × (f.file.number ≡ e.file.number)
   pub clean : u.clean ≡ true → v.clean ≡ true
-  -- it has the child that it had, and meanwhile its directory
-  pub child : child_of (u.desks h) ≡ child_of (v.desks h)
+  -- it serves whom it served, and has meanwhile its directory
+  pub bond : bond_of (u.desks h) ≡ bond_of (v.desks h)
   pub stays : ((u.desks h).directory ≡ (v.desks h).directory) ⊎ (child_of (v.desks h) ≡ None)
 
 pub shop_same : (h : ℕ) (s : Shop) → Tied s → Kin h s s
-shop_same h s tied = record { tied = tied; desks = λ g ne. refl; numbers = λ g i k e lt ne li is at. (e, at, refl); clean = λ c. c; child = refl; stays = inl refl }
+shop_same h s tied = record { tied = tied; desks = λ g ne. refl; numbers = λ g i k e lt ne li is at. (e, at, refl); clean = λ c. c; bond = refl; stays = inl refl }
 
 -- a step of hart h: of the invariant's parts only what isn't the others'
 pub record Did (h : ℕ) (v u : World) : Type 0 where
@@ -208,6 +217,20 @@ did_others h v u did g ne = λ i. record { inodes = λ j. inode j (did.inodes j)
         λ i. if_kept (k.keeper i) g (same i)
     inode j (inr c) = not_kept h g (u.keeper j) (view u g j) c.after ne ∙ sym (not_kept h g (v.keeper j) (view v g j) c.before ne)
 
+-- what a hart has of its lender's stays where nothing of it changes
+has_on : (a b : Option ℕ) (fds : ℕ → Option ℕ) (cwd there mine lenders his : ℕ) → a ≡ b → cwd ≡ there → lenders ≡ his → Has a fds cwd mine lenders → Has b fds there mine his
+has_on a b fds cwd there mine lenders his ab c l x =
+    subst (λ (z : ℕ). Has b fds there mine z) l (subst (λ (z : ℕ). Has b fds z mine lenders) c (subst (λ (z : Option ℕ). Has z fds cwd mine lenders) ab x))
+
+-- Its directory in the tree is its own, or by then its lender's.
+pub child_directory : (w : World) (c g : ℕ) → Lends w c g → (w.all.cwd g ≡ (w.desks g).directory) ⊎ (w.all.cwd g ≡ (w.desks c).directory)
+child_directory w c g l = at (given_of (w.desks c)) l.has
+  where
+    at : (o : Option ℕ) → Has o (w.desks g).fds (w.all.cwd g) (w.desks g).directory (w.desks c).directory → (w.all.cwd g ≡ (w.desks g).directory) ⊎ (w.all.cwd g ≡ (w.desks c).directory)
+    at None x = inl x.1
+    at (Some zero) x = inr x
+    at (Some (suc k)) x = inl x
+
 pub did_inv : (h : ℕ) (v u : World) → Inv v → Did h v u → Inv u
 did_inv h v u inv did =
     record {
@@ -268,6 +291,14 @@ did_inv h v u inv did =
         | inl e ↦ absurd (let a = ap (λ (z : ℕ). (u.desks z).lender) (sym e) ∙ is in let b = did.free in cc (a, b))
         | inr ne ↦ lent g c ne (inv.lent g c lt (ap (λ (d : Desk). d.lender) (sym (did.shop.desks g ne)) ∙ is))
       ];
+      serves = λ c g lt is.
+          let s = inv.serves c g lt (child_was c (same_or c h) ∙ is) in (
+            s.0,
+            elim (same_or g h) [
+              | inl e ↦ absurd (let a : (v.desks h).lender ≡ Some c = ap (λ (z : ℕ). (v.desks z).lender) (sym e) ∙ s.1 in let b : (v.desks h).lender ≡ None = ap (λ (z : Bond). z.lender) (sym did.shop.bond) ∙ did.free in cc (a, b))
+              | inr ne ↦ ap (λ (d : Desk). d.lender) (did.shop.desks g ne) ∙ s.1
+            ],
+          );
     }
   where
     whole : (j : ℕ) → Kept j v u ⊎ Changed h j v u → u.keeper j ≡ None → u.disk j ≡ u.all.nodes j
@@ -278,24 +309,26 @@ did_inv h v u inv did =
     quiet j g ne is free (inl k) = k.disk ∙ inv.quiet j g (sym k.keeper ∙ is) (ap (λ (d : Desk). d.joined) (sym (did.shop.desks g ne)) ∙ free) ∙ sym k.node
     quiet j g ne is free (inr c) = not_ours h g (u.keeper j) c.after ne is
 
+    child_was : (c : ℕ) → ((c ≡ h) ⊎ (c ≢ h)) → child_of (v.desks c) ≡ child_of (u.desks c)
+    child_was c (inl e) = ap (λ (z : ℕ). child_of (v.desks z)) e ∙ sym (ap (λ (z : Bond). z.child) did.shop.bond) ∙ ap (λ (z : ℕ). child_of (u.desks z)) (sym e)
+    child_was c (inr nc) = ap (λ (d : Desk). child_of d) (sym (did.shop.desks c nc))
+
+    given_was : (c : ℕ) → ((c ≡ h) ⊎ (c ≢ h)) → given_of (v.desks c) ≡ given_of (u.desks c)
+    given_was c (inl e) = ap (λ (z : ℕ). given_of (v.desks z)) e ∙ sym (ap (λ (z : Bond). z.given) did.shop.bond) ∙ ap (λ (z : ℕ). given_of (u.desks z)) (sym e)
+    given_was c (inr nc) = ap (λ (d : Desk). given_of d) (sym (did.shop.desks c nc))
+
     lent : (g c : ℕ) → g ≢ h → Lends v c g → Lends u c g
     lent g c ne l = record {
       hart = l.hart;
       free = elim (same_or c h) [ inl e ↦ ap (λ (z : ℕ). (u.desks z).lender) e ∙ did.free | inr nc ↦ ap (λ (d : Desk). d.lender) (did.shop.desks c nc) ∙ l.free ];
-      child = child (same_or c h);
+      child = sym (child_was c (same_or c h)) ∙ l.child;
       rests = subst (λ (o : Own). Rests o) (sym (did_others h v u did g ne)) l.rests;
-      directory = elim l.directory [
-        | inl e ↦ inl (cwd ∙ e ∙ ap (λ (d : Desk). d.directory) (sym (did.shop.desks g ne)))
-        | inr e ↦ inr (cwd ∙ e ∙ stays (same_or c h))
-      ];
+      has = subst (λ (d : Desk). Has (given_of (u.desks c)) d.fds (u.all.cwd g) d.directory (u.desks c).directory) (sym (did.shop.desks g ne))
+          (has_on (given_of (v.desks c)) (given_of (u.desks c)) (v.desks g).fds (v.all.cwd g) (u.all.cwd g) (v.desks g).directory (v.desks c).directory (u.desks c).directory (given_was c (same_or c h)) (sym cwd) (stays (same_or c h)) l.has);
     }
       where
         cwd : u.all.cwd g ≡ v.all.cwd g
         cwd = ap (λ (r : Row). r.cwd) (did.rows g ne)
-
-        child : ((c ≡ h) ⊎ (c ≢ h)) → child_of (u.desks c) ≡ Some g
-        child (inl e) = ap (λ (z : ℕ). child_of (u.desks z)) e ∙ did.shop.child ∙ ap (λ (z : ℕ). child_of (v.desks z)) (sym e) ∙ l.child
-        child (inr nc) = ap (λ (d : Desk). child_of d) (did.shop.desks c nc) ∙ l.child
 
         stays : ((c ≡ h) ⊎ (c ≢ h)) → (v.desks c).directory ≡ (u.desks c).directory
         stays (inr nc) = ap (λ (d : Desk). d.directory) (sym (did.shop.desks c nc))

@@ -22,7 +22,7 @@ use Rattle.tree_laws.proofs.Sums.{sum_part, one_yes}
 use Rattle.tree_laws.specs.WellFormed.{one_if}
 use Rattle.tree_laws.proofs.Maps.{eq_self}
 use Rattle.inode_machine.specs.Rules.{Own}
-use Rattle.inode_machine.proofs.Frame.{shop_same, put_elim, ours_none, ours_some, kept_here, Did, Fair, fair, fair_then, own_inodes, has_inode, found_more, one_refs, two_refs, stands_in, directory_named, refers_put, resting_names}
+use Rattle.inode_machine.proofs.Frame.{child_directory, shop_same, put_elim, ours_none, ours_some, kept_here, Did, Fair, fair, fair_then, own_inodes, has_inode, found_more, one_refs, two_refs, stands_in, directory_named, refers_put, resting_names}
 use Rattle.inode_machine.proofs.Rules.{s-owned, quiet, each_refs, here_refs, walks_refs, total_same, total_changed, my_refs, is_me, has_disk, has_node, locks_it}
 use Rattle.inode_machine.proofs.Counting.{Writes, writes, spares, not_home}
 use Rattle.inode_machine.proofs.Rows.{hart_not}
@@ -184,7 +184,7 @@ unnamed h i v inv lt lone kept mine = none_any hart_count _ (λ g lg. hart_not g
     names_not g lg ne (Some c) q y =
         let l = inv.lent g c lg q in
         let at = resting_names (row_of v.all g) (v.desks g) i l.rests.hold l.rests.opening l.rests.left y in
-        elim l.directory [
+        elim (child_directory v c g l) [
           | inl e ↦ reached g lg ne (inl (let p = (inv.refers g lg).home in let r : (v.harts g).refs (v.desks g).directory ≡ (v.harts g).refs i = ap (v.harts g).refs (sym e ∙ at) in omega (arith, p, r)))
           | inr e ↦ elim (same_or c h) [
             | inr nc ↦ reached c l.hart nc (inl (let p = (inv.refers c l.hart).home in let r : (v.harts c).refs (v.desks c).directory ≡ (v.harts c).refs i = ap (v.harts c).refs (sym e ∙ at) in omega (arith, p, r)))

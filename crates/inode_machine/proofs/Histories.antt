@@ -1,6 +1,5 @@
 -- All calls of a run as one list of tree steps: each event is one of moves on the tree.
-use Rattle.std.proofs.Common.{◌≡◌, ◌≢◌, ◌⊎◌, inl, inr, ℕ, suc, ◌<◌, ◌≤◌, Bool, true, false, ◌&&◌, nat_lt, List, [], ◌∷◌, ◌++◌, map, length, Option, Some, None, refl, sym, ◌∙◌, ap, subst, arith, append_assoc}
-use Rattle.std.proofs.lemmas.Bool.Decides.{nat_tests}
+use Rattle.std.proofs.Common.{◌≡◌, ◌≢◌, ◌⊎◌, inl, inr, ℕ, suc, ◌<◌, ◌≤◌, Bool, true, false, List, [], ◌∷◌, ◌++◌, map, length, Option, Some, None, refl, sym, ◌∙◌, ap, subst, arith, append_assoc}
 use Rattle.plain_tree.specs.declared.answer.Reply.{Reply}
 use Rattle.plain_tree.specs.declared.call.Call.{Call}
 use Rattle.plain_tree.specs.Calls.{Act}
@@ -9,7 +8,7 @@ use Rattle.plain_tree.specs.TreeData.{TreeData}
 use Rattle.plain_tree.specs.Tree.{Tree, put, tree_of}
 use Rattle.plain_tree.specs.Widths.{hart_count}
 use Rattle.tree_laws.specs.WellFormed.{IsWellFormed}
-use Rattle.tree_laws.proofs.Maps.{and_true, eq_self, eq_not, put_same, put_other}
+use Rattle.tree_laws.proofs.Maps.{eq_self, eq_not, put_same, put_other}
 use Rattle.tree_laws.proofs.Nodes.{settled_well}
 use Rattle.tree_moves.specs.Moves.{Deed, Move, Stage, Step as MoveStep, IsNext, MayEnd, Takes, Written, after, begins, told_by}
 use Rattle.tree_moves.specs.History.{starts, passes}
@@ -22,21 +21,21 @@ use Rattle.tree_moves.proofs.History.{NeverClimbs, IsHart, apart_alone, apart_ca
 use Rattle.tree_moves.proofs.Told.{event_tells, played_end, played_next, told_more}
 use Rattle.atomic_programs.specs.Prog.{Ret, Do, Did, Waits, Ran, Stops, asks, OfNext}
 use Rattle.atomic_programs.specs.Logic.{Answered, Goes, Good, Grown, PlacesOne, Wp, onto, oldest_first, own}
-use Rattle.atomic_programs.specs.Calls.{Begun, Came, Ends, Event, Start, Step, HonestStep, IsHonest, Run, Sound, State, AllHonest, all_told, begun, fresh, makes, moved, next, run, start_run, step_prog, step_run, step_unless, told, tried, unchanged}
+use Rattle.atomic_programs.specs.Calls.{Began, Begins, Begun, Came, Refuses, busy_in, Ends, Event, Start, Step, HonestStep, IsHonest, Run, Sound, State, AllHonest, all_told, begun, fresh, makes, moved, next, run, start_run, step_prog, step_run, step_unless, told, tried, unchanged}
 use Rattle.atomic_programs.proofs.Beginnings.{append_nil, oldest_first_more}
 use Rattle.atomic_programs.proofs.Explains.{Keeps, changed_tells, inv_of, sound_keeps}
 use Rattle.atomic_programs.proofs.Leading.{leads}
 use Rattle.atomic_programs.proofs.Reached.{sound_fresh, sound_run}
 use Rattle.inode_machine.specs.World.{Op, Answer, Mark, Outside, World, stage_of}
 use Rattle.inode_machine.specs.World.Mark.{Makes, Frees, Fills, Mends, Spoils}
-use Rattle.inode_machine.specs.Exec.{is_nothing}
 use Rattle.inode_machine.specs.Marks.{places}
 use Rattle.inode_machine.specs.Parts.{P}
 use Rattle.inode_machine.specs.Rules.{Inv, machine}
 use Rattle.inode_machine.specs.Programs.{program}
-use Rattle.inode_machine.specs.Theory.{begin_if, covered_calls, is_covered}
+use Rattle.inode_machine.specs.Theory.{covered_calls, is_covered, Refusal}
 use Rattle.inode_machine.specs.Histories.{Alone, CallsHaveOneHistory, NoneClimbs, OneHartHasOneHistory, OneHistory, Runs, StartsBy, climbs_at, shown_by, shows}
 use Rattle.inode_machine.proofs.Covered.{lawful}
+use Rattle.inode_machine.proofs.Starts.{start_is, Starts as Begin}
 
 -- The calls of a state as they stand beside a history of moves.
 record Beside (s : State covered_calls) (t : Told) : Type 0 where
@@ -73,31 +72,28 @@ nothing_turns e came s s2 t b same stage shown = record {
 
 -- Starts.
 
-below : (h : ℕ) → nat_lt h hart_count ≡ true → h < hart_count
-below h e = grind (arith, nat_tests)
-
-begun_turns : (h : ℕ) (call : Call) (s : State covered_calls) (t : Told) → Beside s t → s.running h ≡ None → (b : Bool) → (nat_lt h hart_count && (is_covered call && is_nothing (s.world.desks h).lender)) ≡ b → Turns (Start h call) (begun covered_calls h call s (begin_if b s.world)).came (begun covered_calls h call s (begin_if b s.world)).after t
-begun_turns h call s t b none false q = nothing_turns (Start h call) _ s (unchanged covered_calls s) t b refl refl refl
-begun_turns h call s t b none true q = record {
+begun_turns : (h : ℕ) (call : Call) (s : State covered_calls) (t : Told) → Beside s t → s.running h ≡ None → (o : Began Refusal World) → covered_calls.start h call (busy_in covered_calls s) s.world ≡ o → Turns (Start h call) (begun covered_calls h call s o).came (begun covered_calls h call s o).after t
+begun_turns h call s t b none (Refuses why) q = nothing_turns (Start h call) _ s (unchanged covered_calls s) t b refl refl refl
+begun_turns h call s t b none (Begins u) q = record {
   event = Starts h call;
   then_ = record { stage = t.stage; history = starts t.history h call };
-  happens = record { hart = lt; free = b.free h none; world = refl };
+  happens = record { hart = begins.hart; free = b.free h none; world = refl };
   beside = record {
-    stage = b.stage;
+    stage = b.stage ∙ sym begins.stage;
     free = λ j e. elim (changed_tells s.running h (Some new) j None e) [ inl x ↦ absurd (let a = x.1 in cc (a)) | inr x ↦ put_other t.history.calls h (Busy (length t.history.trace.calls) call []) j x.0 ∙ b.free j x.1 ];
     busy = λ j r e. elim (changed_tells s.running h (Some new) j (Some r) e) [
       | inl x ↦ (let a : new ≡ r = run_is new r x.1 in subst (λ (z : Run covered_calls). (id : ℕ) × (put t.history.calls h (Busy (length t.history.trace.calls) call []) j ≡ Busy id z.call (told_by [] (oldest_first z.done)))) a (length t.history.trace.calls, ap (put t.history.calls h (Busy (length t.history.trace.calls) call [])) x.0 ∙ put_same t.history.calls h (Busy (length t.history.trace.calls) call [])))
       | inr x ↦ (let a = b.busy j r x.1 in (a.0, put_other t.history.calls h (Busy (length t.history.trace.calls) call []) j x.0 ∙ a.1))
     ];
-    harts = λ j r e. elim (changed_tells s.running h (Some new) j (Some r) e) [ inl x ↦ subst (λ (z : ℕ). z < hart_count) (sym x.0) lt | inr x ↦ b.harts j r x.1 ];
+    harts = λ j r e. elim (changed_tells s.running h (Some new) j (Some r) e) [ inl x ↦ subst (λ (z : ℕ). z < hart_count) (sym x.0) begins.hart | inr x ↦ b.harts j r x.1 ];
   };
   shown = refl;
   calm = λ z. z;
   alone = λ j z. z;
 }
   where
-    lt : h < hart_count
-    lt = below h (and_true (nat_lt h hart_count) (is_covered call && is_nothing (s.world.desks h).lender) q).0
+    begins : Begin is_covered h call (busy_in covered_calls s) s.world u
+    begins = start_is is_covered h call (busy_in covered_calls s) s.world u q
 
     new : Run covered_calls
     new = record { call = call; start = s.now; prog = program call; count = 0; done = [] }
@@ -107,7 +103,7 @@ begun_turns h call s t b none true q = record {
 
 start_turns : (h : ℕ) (call : Call) (s : State covered_calls) (t : Told) → Beside s t → (x : Option (Run covered_calls)) → s.running h ≡ x → Turns (Start h call) (start_run covered_calls h call s x).came (start_run covered_calls h call s x).after t
 start_turns h call s t b (Some r) q = nothing_turns (Start h call) _ s (unchanged covered_calls s) t b refl refl refl
-start_turns h call s t b None q = begun_turns h call s t b q (nat_lt h hart_count && (is_covered call && is_nothing (s.world.desks h).lender)) refl
+start_turns h call s t b None q = begun_turns h call s t b q (covered_calls.start h call (busy_in covered_calls s) s.world) refl
 
 -- Steps.
 

@@ -16,10 +16,10 @@ use Rattle.tree_moves.specs.Moves.{Step}
 use Rattle.inode_machine.specs.World.{Mine, Entry, Desk, Mark, World}
 use Rattle.inode_machine.specs.World.Op.{Install}
 use Rattle.inode_machine.specs.Inodes.{Sort, sort_of}
-use Rattle.inode_machine.specs.Exec.{file_count, install_if, installed, is_at, opening_id, or_zero, child_of}
+use Rattle.inode_machine.specs.Exec.{file_count, install_if, installed, is_at, opening_id, or_zero}
 use Rattle.inode_machine.specs.Marks.{marked, places, with_mark}
 use Rattle.inode_machine.specs.Rules.{id_at, key_in, number_is, own_names, own_of, shop_of, uses, users, Held, IsOpening, Own, Inv, Opens, Reached, Shop, Tied, machine}
-use Rattle.inode_machine.proofs.Frame.{put_elim, stands_on, has_inode, one_refs, Did, Fair, fair, refers_put}
+use Rattle.inode_machine.proofs.Frame.{bond_of, put_elim, stands_on, has_inode, one_refs, Did, Fair, fair, refers_put}
 use Rattle.inode_machine.proofs.Rules.{s-owned, quiet, each_refs, has_node, here_refs, my_refs, total_changed, total_same, walks_refs}
 use Rattle.inode_machine.proofs.Counting.{not_home, spares}
 use Rattle.inode_machine.proofs.Rows.{is_at_some}
@@ -288,7 +288,7 @@ installing h fd s f sort x v O ov free lt inv opens hand keyed start walks none 
       rows = λ g ne. refl;
       size = refl;
       ids = inv.ids;
-      shop = record { tied = tied; desks = λ g ne. put_other v.desks h desk g ne; numbers = λ g i j e lg ne li r a. (e, stays j e a, refl); clean = λ c. c; child = ap (λ (d : Desk). child_of d) desk_is; stays = inl (ap (λ (d : Desk). d.directory) desk_is) };
+      shop = record { tied = tied; desks = λ g ne. put_other v.desks h desk g ne; numbers = λ g i j e lg ne li r a. (e, stays j e a, refl); clean = λ c. c; bond = ap (λ (d : Desk). bond_of d) desk_is; stays = inl (ap (λ (d : Desk). d.directory) desk_is) };
       free = ap (λ (d : Desk). d.lender) desk_is ∙ ap (λ (p : Own). p.desk.lender) ov ∙ free;
       quiet = λ j is g. inv.quiet j h is (sym (ap (λ (d : Desk). d.joined) desk_is) ∙ g);
       sort = λ j. inl refl;

@@ -17,6 +17,7 @@ pub mod WriteCalls
 pub mod Drops
 pub mod Rest
 pub mod Opened
+pub mod Starts
 pub mod Calls
 pub mod Looks
 pub mod Listing

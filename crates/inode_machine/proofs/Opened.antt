@@ -138,6 +138,7 @@ module _ (t : Tree) (f : OpenFile) (v : Node) (well : IsWellFormed t) (has : Has
     refers = λ g lt. record { few = λ i. let a = one_most (t.cwd g == i) in omega (arith, a); home = here g (D g).directory ((λ z. t.cwd g == directory g z) ∙ eq_self (t.cwd g)) };
     directory = λ g lt. record { at = λ _. directory g ∙ (λ z. left_or (sym (left g) z) (t.cwd g)); sort = ap (λ (z : ℕ). sort_of (t.nodes z)) (directory g) ∙ directory_sort t g well lt };
     lent = λ g c lt is. absurd (let a = lender g in cc (a, is));
+    serves = λ c g lt is. absurd (let a = ap (λ (f : ℕ → Option ℕ). f descriptor_count) (lent c) in cc (a, is));
   }
     where
       here : (g i : ℕ) → (t.cwd g == i) ≡ true → 0 < one_if (t.cwd g == i)

@@ -219,7 +219,7 @@ part_good {A} h more n i B Q es v O x fd count s e b p ov free lt inv walks none
         desks = λ g ne. refl;
         numbers = λ g j c d lg ne lj q a. on c d a;
         clean = λ c. c;
-        child = refl;
+        bond = refl;
         stays = inl refl;
       };
       free = ap (λ (o : Own). o.desk.lender) ov ∙ free;

@@ -58,6 +58,7 @@ rests t well files holds fds =
       refers = λ g lt. record { few = λ i. let a = one_most (t.cwd g == i) in omega (arith, a); home = here g (t.cwd g) (eq_self (t.cwd g)) };
       directory = λ g lt. record { at = λ _. refl; sort = directory_sort t g well lt };
       lent = λ g c lt is. absurd cc;
+      serves = λ c g lt is. absurd cc;
     }
   where
     here : (g i : ℕ) → (t.cwd g == i) ≡ true → 0 < one_if (t.cwd g == i)

@@ -15,10 +15,10 @@ use Rattle.inode_machine.specs.World.{Desk, Mark, World}
 use Rattle.inode_machine.specs.World.Op.{Slot, Install}
 use Rattle.inode_machine.specs.World.Mark.{Mends}
 use Rattle.inode_machine.specs.Inodes.{Sort}
-use Rattle.inode_machine.specs.Exec.{file_count, first_from, install_if, is_at, is_empty_slot, is_nothing, slot_if, child_of}
+use Rattle.inode_machine.specs.Exec.{file_count, first_from, install_if, is_at, is_empty_slot, is_nothing, slot_if}
 use Rattle.inode_machine.specs.Marks.{marked, mended, places, with_mark}
 use Rattle.inode_machine.specs.Rules.{id_at, own_names, own_of, shop_of, users, Own, Inv, Tied, machine}
-use Rattle.inode_machine.proofs.Frame.{put_elim, stands_on, Fair, fair, refers_on}
+use Rattle.inode_machine.proofs.Frame.{bond_of, put_elim, stands_on, Fair, fair, refers_on}
 use Rattle.inode_machine.proofs.Rules.{s-owned, fine_after, quiet}
 use Rattle.inode_machine.proofs.Dups.{with_new}
 use Rattle.inode_machine.proofs.Looks.{spoilt}
@@ -48,7 +48,7 @@ handing h o v O ov free lt inv empty = record {
     rows = λ g ne. refl;
     size = refl;
     ids = inv.ids;
-    shop = record { tied = tied; desks = λ g ne. put_other v.desks h new g ne; numbers = λ g i j e lg ne li r a. (e, a, refl); clean = λ c. c; child = ap (λ (d : Desk). child_of d) here; stays = inl (ap (λ (d : Desk). d.directory) here) };
+    shop = record { tied = tied; desks = λ g ne. put_other v.desks h new g ne; numbers = λ g i j e lg ne li r a. (e, a, refl); clean = λ c. c; bond = ap (λ (d : Desk). bond_of d) here; stays = inl (ap (λ (d : Desk). d.directory) here) };
     free = ap (λ (d : Desk). d.lender) here ∙ ap (λ (p : Own). p.desk.lender) ov ∙ free;
     quiet = λ j is f. inv.quiet j h is (sym (ap (λ (d : Desk). d.joined) here) ∙ f);
     sort = λ j. inl refl;

@@ -10,10 +10,10 @@ use Rattle.tree_laws.proofs.Maps.{eq_not, same_or, put_same, put_other}
 use Rattle.tree_laws.proofs.Sums.{sum_same}
 use Rattle.tree_laws.proofs.Opened.{well_closed}
 use Rattle.inode_machine.specs.World.{Desk, World}
-use Rattle.inode_machine.specs.Exec.{is_at, with_walk, child_of}
+use Rattle.inode_machine.specs.Exec.{is_at, with_walk}
 use Rattle.inode_machine.specs.Marks.{mended, unheld, unmoved, unopened}
 use Rattle.inode_machine.specs.Rules.{id_at, key_in, own_names, own_of, shop_of, users, IsOpening, Own, Inv, Shop, Tied}
-use Rattle.inode_machine.proofs.Frame.{put_elim, is_put, stands_on, Fair, fair, fair_then, refers_on}
+use Rattle.inode_machine.proofs.Frame.{bond_of, put_elim, is_put, stands_on, Fair, fair, fair_then, refers_on}
 use Rattle.inode_machine.proofs.Rules.{my_refs}
 use Rattle.inode_machine.proofs.Walking.{walk_named_did, own_walk}
 use Rattle.inode_machine.proofs.Tables.{less_is, closed_shop, kept_open, tied_closed}
@@ -156,7 +156,7 @@ mends_opened h fd v O ov free lt inv opens left hold names = subst (λ (z : Worl
       rows = λ g ne. rows_stay v.all h fd g ne;
       size = refl;
       ids = λ k le. elim (closed_or (record (v.all) { fds = fewer v.all h fd }) k) [ inl q ↦ q ∙ inv.ids k le | inr q ↦ q ];
-      shop = record { tied = tied; desks = λ g ne. put_other v.desks h new g ne; numbers = λ g i k e lg ne li q a. (e, a, refl); clean = λ c. absurd cc; child = ap (λ (d : Desk). child_of d) here; stays = inl (ap (λ (d : Desk). d.directory) here) };
+      shop = record { tied = tied; desks = λ g ne. put_other v.desks h new g ne; numbers = λ g i k e lg ne li q a. (e, a, refl); clean = λ c. absurd cc; bond = ap (λ (d : Desk). bond_of d) here; stays = inl (ap (λ (d : Desk). d.directory) here) };
       free = ap (λ (d : Desk). d.lender) here ∙ ap (λ (o : Own). o.desk.lender) ov ∙ free;
       quiet = λ j is2 f. inv.quiet j h is2 (sym (ap (λ (d : Desk). d.joined) here) ∙ f);
       sort = λ j. inl refl;

@@ -112,7 +112,7 @@ moving h fd s by e v O ov free lt inv none hit = record { fair = fair inv (sells
         desks = λ g ne. refl;
         numbers = λ g j c d lg ne lj q a. on c d a;
         clean = λ c. c;
-        child = refl;
+        bond = refl;
         stays = inl refl;
       };
       free = ap (λ (o : Own). o.desk.lender) ov ∙ free;

@@ -351,6 +351,14 @@ slot_or (Some s) = s
 abbrev pub child_of : Desk → Option ℕ
 child_of d = d.lent descriptor_count
 
+-- how much that has: nothing yet, the descriptors (0), or the directory too (1)
+abbrev pub given_of : Desk → Option ℕ
+given_of d = d.lent (descriptor_count + 1)
+
+-- no descriptor is on its way to the child
+abbrev pub serving : ℕ → Option ℕ → ℕ → Option ℕ
+serving child given = put (put (λ i. None) descriptor_count (Some child)) (descriptor_count + 1) given
+
 abbrev pub with_lent : World → ℕ → ℕ → World
 with_lent w h i = record w {
   files = put w.files (slot_or ((w.desks h).fds i)) (more_users (w.files (slot_or ((w.desks h).fds i))));
@@ -360,7 +368,7 @@ with_lent w h i = record w {
 -- the child has all the descriptors that were handed on
 abbrev pub handed : World → ℕ → ℕ → World
 handed w h child = record w {
-  desks = put (put w.desks h (record (w.desks h) { lent = put (λ i. None) descriptor_count (child_of (w.desks h)) })) child (record (w.desks child) { fds = put (w.desks h).lent descriptor_count None });
+  desks = put (put w.desks h (record (w.desks h) { lent = serving child (Some 0) })) child (record (w.desks child) { fds = put (w.desks h).lent descriptor_count None });
 }
 
 -- a reference is counted to the caller's directory, which is the child's now; the child's old one is the caller's to drop
@@ -370,7 +378,7 @@ moved_in w h child =
     let dropped : World = record raised { harts = with_refs raised.harts child (w.desks child).directory ((raised.harts child).refs (w.desks child).directory - 1) } in
     record dropped {
       harts = with_refs dropped.harts h (w.desks child).directory ((w.harts h).refs (w.desks child).directory + 1);
-      desks = put w.desks child (record (w.desks child) { directory = (w.desks h).directory; left = None });
+      desks = put (put w.desks h (record (w.desks h) { lent = serving child (Some 1) })) child (record (w.desks child) { directory = (w.desks h).directory; left = None });
     }
 
 abbrev pub lend_last : World → ℕ → ℕ → Option ℕ → World

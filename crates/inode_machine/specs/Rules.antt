@@ -1,5 +1,5 @@
 -- What a hart has, what always holds, and the machine.
-use Rattle.std.specs.Prelude.{◌≡◌, ◌≢◌, ◌⊎◌, ℕ, ◌+◌, ◌<◌, ◌≤◌, Bool, true, false, ◌||◌, List, [], length, ◌==◌, if◌then◌else◌, Option, Some, None, IsSome}
+use Rattle.std.specs.Prelude.{◌≡◌, ◌≢◌, ◌⊎◌, ℕ, zero, suc, ◌+◌, ◌<◌, ◌≤◌, Bool, true, false, ◌||◌, List, [], length, ◌==◌, if◌then◌else◌, Option, Some, None, IsSome}
 use Rattle.plain_tree.specs.declared.node.Node.{Node}
 use Rattle.plain_tree.specs.declared.tree.OpenFile.{OpenFile}
 use Rattle.plain_tree.specs.declared.node.Kind.TheVariants.{Directory}
@@ -16,7 +16,7 @@ use Rattle.inode_machine.specs.Inodes.Looking.{AtNothing, AtName, AtEntries}
 use Rattle.inode_machine.specs.World.{Mine, Entry, Note, Desk, World, Op, Answer, Mark, Outside, stage_of}
 use Rattle.inode_machine.specs.World.Op.{Take, Give, UpStart, Up, WalkDown, Down, Free, Claim, Store, Fill, Enter, Clear, Empty, Slot, Install, StatFile, ReadFile, CheckFile, JoinFile, WriteFile, Double, Shut, Settle, Lend, LendDirectory, Release, Join, Leave, Say}
 use Rattle.inode_machine.specs.World.Outside.{Room, RoomFor, Picks}
-use Rattle.inode_machine.specs.Exec.{file_count, is_at, is_free, entry_of, child_of}
+use Rattle.inode_machine.specs.Exec.{file_count, is_at, is_free, entry_of, child_of, given_of}
 use Rattle.inode_machine.specs.Marks.{go, places}
 
 -- all that is an inode's
@@ -190,13 +190,20 @@ pub record References (m : Mine) (d : Desk) : Type 0 where
   pub few : (i : ℕ) → m.refs i ≤ reference_limit
   pub home : 0 < m.refs d.directory
 
--- Hart g gets the descriptors and the directory of hart c, and rests. Its directory in the tree is its own, or by then the other's, to which that refers.
+-- What a hart has of its lender's by now: no descriptor yet, and its own directory; or the descriptors, and in the tree the lender's directory, to which only
+-- that refers; or its directory too.
+abbrev pub Has : (given : Option ℕ) (fds : ℕ → Option ℕ) (cwd mine lenders : ℕ) → Type 0
+Has None fds cwd mine lenders = ((i : ℕ) → i < descriptor_count → fds i ≡ None) × (cwd ≡ mine)
+Has (Some zero) fds cwd mine lenders = cwd ≡ lenders
+Has (Some (suc k)) fds cwd mine lenders = cwd ≡ mine
+
+-- Hart g gets the descriptors and the directory of hart c, and rests.
 pub record Lends (w : World) (c g : ℕ) : Type 0 where
   pub hart : c < hart_count
   pub free : (w.desks c).lender ≡ None
   pub child : child_of (w.desks c) ≡ Some g
   pub rests : Idle g w
-  pub directory : (w.all.cwd g ≡ (w.desks g).directory) ⊎ (w.all.cwd g ≡ (w.desks c).directory)
+  pub has : Has (given_of (w.desks c)) (w.desks g).fds (w.all.cwd g) (w.desks g).directory (w.desks c).directory
 
 pub record Inv (w : World) : Type 0 where
   -- the tree before it settles is well formed
@@ -227,6 +234,7 @@ pub record Inv (w : World) : Type 0 where
   pub noted : (g : ℕ) (n : Note) → g < hart_count → (w.desks g).noted ≡ Some n → Reached w g n.number → w.alone n.number ≡ false → sort_of (w.all.nodes n.number) ≡ n.sort
   pub directory : (g : ℕ) → g < hart_count → Stands (w.desks g) (w.all.cwd g) w.all.nodes
   pub lent : (g c : ℕ) → g < hart_count → (w.desks g).lender ≡ Some c → Lends w c g
+  pub serves : (c g : ℕ) → c < hart_count → child_of (w.desks c) ≡ Some g → (g < hart_count) × ((w.desks g).lender ≡ Some c)
 
 -- in another hart's hand
 abbrev pub IsOut : ℕ → Option ℕ → Type 0

@@ -1,26 +1,28 @@
 -- The calls that are shown right, as a theory: what every list of events makes of them.
-use Rattle.std.specs.Prelude.{◌≡◌, ◌≢◌, ◌⊎◌, ◌+◌, Some, ℕ, Bool, true, false, ◌&&◌, nat_lt, ◌==◌, List, None}
+use Rattle.std.specs.Prelude.{◌≡◌, ◌≢◌, ◌⊎◌, ◌+◌, Some, ℕ, Bool, true, false, ◌&&◌, not, nat_lt, ◌==◌, List, None}
 use Rattle.plain_tree.specs.declared.answer.Reply.{Reply}
 use Rattle.plain_tree.specs.declared.call.Call.{Call}
 use Rattle.plain_tree.specs.declared.call.Call.TheVariants.{Open, Read, Write, Link, Unlink, Mkdir, Chdir, Dup, Fstat, Close, Inherit}
-use Rattle.plain_tree.specs.Tree.{Tree, put}
-use Rattle.plain_tree.specs.Widths.{hart_count}
+use Rattle.plain_tree.specs.Tree.{Tree, put, any_below}
+use Rattle.plain_tree.specs.Widths.{hart_count, descriptor_count}
 use Rattle.tree_laws.specs.WellFormed.{one_if, sum_below, IsWellFormed}
 use Rattle.atomic_programs.specs.Calls.{Theory, Began, Refuses, Begins, Event, AllHonest, run, fresh}
 use Rattle.atomic_programs.specs.Explained.{Explained}
 use Rattle.tree_moves.specs.Moves.{Written}
-use Rattle.inode_machine.specs.World.{Mine, World, Outside, stage_of}
+use Rattle.inode_machine.specs.World.{Mine, Desk, World, Outside, stage_of}
 use Rattle.plain_tree.specs.declared.tree.OpenFile.{OpenFile}
 use Rattle.plain_tree.specs.declared.node.Node.{Node}
 use Rattle.inode_machine.specs.Inodes.{Sort, sort_of_kind}
-use Rattle.inode_machine.specs.Exec.{is_nothing}
+use Rattle.inode_machine.specs.Exec.{is_nothing, serving}
 use Rattle.inode_machine.specs.Rules.{Inv, Idle, machine}
 use Rattle.inode_machine.specs.Programs.{program, limit}
 
--- why a start is refused: there is no such hart, it has a call or waits for another's, or the call is none of these
+-- why a start is refused: there is no such hart; it has a call, or takes part in another's; a child has descriptors; or the call is none of these
 pub data Refusal : Type 0 where
-  NotNow : Refusal
+  NoSuchHart : Refusal
   Busy : Refusal
+  NotEmptyHart : Refusal
+  NotCovered : Refusal
 
 abbrev pub on_descriptors : Call → Bool
 on_descriptors (Open path flags) = false
@@ -35,9 +37,40 @@ on_descriptors (Fstat fd) = true
 on_descriptors (Close fd) = true
 on_descriptors (Inherit child) = false
 
-abbrev pub begin_if : Bool → World → Began Refusal World
-begin_if true w = Begins w
-begin_if false w = Refuses NotNow
+abbrev pub only_if : Bool → Refusal → Began Refusal World → Began Refusal World
+only_if true why b = b
+only_if false why b = Refuses why
+
+-- from now on this hart gets the descriptors of the other, and starts nothing
+abbrev pub serving_world : World → ℕ → ℕ → World
+serving_world w h child = record w { desks = put (put w.desks h (record (w.desks h) { lent = serving child None })) child (record (w.desks child) { lender = Some h }) }
+
+abbrev pub has_descriptor : Desk → Bool
+has_descriptor d = any_below descriptor_count (λ i. not (is_nothing (d.fds i)))
+
+-- a child is another hart that has no call, no lender, and no descriptors
+abbrev pub begin_inherit : ℕ → ℕ → (ℕ → Bool) → World → Began Refusal World
+begin_inherit h child busy w =
+    only_if (nat_lt child hart_count) NoSuchHart
+    (only_if (not (child == h) && (not (busy child) && is_nothing (w.desks child).lender)) Busy
+    (only_if (not (has_descriptor (w.desks child))) NotEmptyHart
+    (Begins (serving_world w h child))))
+
+abbrev pub begin_call : ℕ → Call → (ℕ → Bool) → World → Began Refusal World
+begin_call h (Open path flags) busy w = Begins w
+begin_call h (Read fd buffer) busy w = Begins w
+begin_call h (Write fd bytes) busy w = Begins w
+begin_call h (Link old new) busy w = Begins w
+begin_call h (Unlink path) busy w = Begins w
+begin_call h (Mkdir path) busy w = Begins w
+begin_call h (Chdir path) busy w = Begins w
+begin_call h (Dup fd) busy w = Begins w
+begin_call h (Fstat fd) busy w = Begins w
+begin_call h (Close fd) busy w = Begins w
+begin_call h (Inherit child) busy w = begin_inherit h child busy w
+
+abbrev pub begin_if : Bool → ℕ → Call → (ℕ → Bool) → World → Began Refusal World
+begin_if covered h call busy w = only_if (nat_lt h hart_count) NoSuchHart (only_if (is_nothing (w.desks h).lender) Busy (only_if covered NotCovered (begin_call h call busy w)))
 
 -- the machine with those calls alone that are of this kind
 abbrev pub calls_that : (Call → Bool) → Theory
@@ -47,7 +80,7 @@ calls_that kind =
       Call = Call;
       Reply = Reply;
       Refusal = Refusal;
-      start = λ h call busy w. begin_if (nat_lt h hart_count && (kind call && is_nothing (w.desks h).lender)) w;
+      start = λ h call busy w. begin_if (kind call) h call busy w;
       busy = Busy;
       program = program;
       Written = Written;

@@ -32,8 +32,8 @@ pub record Desk : Type 0 where
   pub hand : Option ℕ
   pub joined : Bool
   pub directory : ℕ
-  -- descriptors that it is about to hand to a hart, and past them all which hart that is; and the hart that hands its own to this one, which starts nothing until
-  -- then
+  -- descriptors that it is about to hand to a hart, and past them all which hart that is, and how much it has; and the hart that hands its own to this one,
+  -- which starts nothing until then
   pub lent : ℕ → Option ℕ
   pub lender : Option ℕ
   -- for the proof: the descriptor that the tree has and the table has not yet, the directory that the tree has left and the hart has not yet, the type of what it found last, and whether its call found no room
