@@ -16,6 +16,7 @@ use Rattle.inode_machine.proofs.OpenCalls.{open_ok}
 use Rattle.inode_machine.proofs.CreateCalls.{create_ok}
 use Rattle.inode_machine.proofs.Unlinks.{unlink_begins, unlink_ok}
 use Rattle.inode_machine.proofs.Mkdirs.{mkdir_begins, mkdir_ok}
+use Rattle.inode_machine.proofs.LinkCalls.{link_begins, link_ok}
 
 covered_right : IsRight is_covered is_covered
 covered_right h (calls.Open path flags) busy w u lt here out idle free is = right is_covered h (calls.Open path flags) busy w u idle free is (open_begins path flags) (λ holds i. by_flag (creates flags) refl holds i)
@@ -25,7 +26,7 @@ covered_right h (calls.Open path flags) busy w u lt here out idle free is = righ
     by_flag true q holds i = create_ok h path flags u holds out lt i q
 covered_right h (calls.Read fd buffer) busy w u lt here out idle free is = descriptors_right is_covered h (calls.Read fd buffer) busy w u lt refl out idle free is
 covered_right h (calls.Write fd bytes) busy w u lt here out idle free is = descriptors_right is_covered h (calls.Write fd bytes) busy w u lt refl out idle free is
-covered_right h (calls.Link old new) busy w u lt here out idle free is = absurd cc
+covered_right h (calls.Link old new) busy w u lt here out idle free is = right is_covered h (calls.Link old new) busy w u idle free is (link_begins old new) (λ holds i. link_ok h old new u out lt holds i)
 covered_right h (calls.Unlink path) busy w u lt here out idle free is = right is_covered h (calls.Unlink path) busy w u idle free is (unlink_begins path) (λ holds i. unlink_ok h path u holds out lt i)
 covered_right h (calls.Mkdir path) busy w u lt here out idle free is = right is_covered h (calls.Mkdir path) busy w u idle free is (mkdir_begins path) (λ holds i. mkdir_ok h path u holds out lt i)
 covered_right h (calls.Chdir path) busy w u lt here out idle free is = right is_covered h (calls.Chdir path) busy w u idle free is (chdir_begins path) (λ holds i. chdir_ok h path u out lt holds i)

@@ -4,7 +4,7 @@ use Rattle.plain_tree.specs.Tree.{pieces, put, any_below, same_name, first_slot,
 use Rattle.plain_tree.specs.Steps.{entries, any_used, lowest_from, refusal_with, place_of, first_free, cleared, has_fd, effect_with, answer_with}
 use Rattle.tree_laws.specs.WellFormed.{sum_below, one_if}
 use Rattle.inode_machine.specs.Exec.{all_used, first_from}
-use Rattle.inode_machine.specs.Examples.{steps, OpenFinishes, StatFinishes, ReadFinishes, DupFinishes, CloseFinishes, MkdirFinishes, ChdirFinishes, UnlinkFinishes, CreateFinishes, WriteFinishes, WalkerFails, NoInodeLeft, NoBlockLeft}
+use Rattle.inode_machine.specs.Examples.{steps, OpenFinishes, StatFinishes, ReadFinishes, DupFinishes, CloseFinishes, MkdirFinishes, ChdirFinishes, UnlinkFinishes, CreateFinishes, WriteFinishes, WalkerFails, NoInodeLeft, NoBlockLeft, LinkFinishes, LinkToTaken, LinkBelowNothing, LinkToNoName, LinkOfNothing, LinkOfDirectory, NoBlockForName}
 
 pub open_finishes : OpenFinishes
 unfolding pieces put any_below same_name first_slot look follow parent_from parent_of file_in is_named settle entries any_used lowest_from refusal_with place_of first_free cleared has_fd effect_with answer_with sum_below one_if all_used first_from steps
@@ -57,3 +57,31 @@ create_finishes = (refl, refl)
 pub write_finishes : WriteFinishes
 unfolding pieces put any_below same_name first_slot look follow parent_from parent_of file_in is_named settle entries any_used lowest_from refusal_with place_of first_free cleared has_fd effect_with answer_with sum_below one_if all_used first_from steps
 write_finishes = (refl, refl)
+
+pub link_finishes : LinkFinishes
+unfolding pieces put any_below same_name first_slot look follow parent_from parent_of file_in is_named settle entries any_used lowest_from refusal_with place_of first_free cleared has_fd effect_with answer_with sum_below one_if all_used first_from steps
+link_finishes = (refl, refl)
+
+pub link_to_taken : LinkToTaken
+unfolding pieces put any_below same_name first_slot look follow parent_from parent_of file_in is_named settle entries any_used lowest_from refusal_with place_of first_free cleared has_fd effect_with answer_with sum_below one_if all_used first_from steps
+link_to_taken = (refl, refl)
+
+pub link_below_nothing : LinkBelowNothing
+unfolding pieces put any_below same_name first_slot look follow parent_from parent_of file_in is_named settle entries any_used lowest_from refusal_with place_of first_free cleared has_fd effect_with answer_with sum_below one_if all_used first_from steps
+link_below_nothing = (refl, refl)
+
+pub link_to_no_name : LinkToNoName
+unfolding pieces put any_below same_name first_slot look follow parent_from parent_of file_in is_named settle entries any_used lowest_from refusal_with place_of first_free cleared has_fd effect_with answer_with sum_below one_if all_used first_from steps
+link_to_no_name = (refl, refl)
+
+pub link_of_nothing : LinkOfNothing
+unfolding pieces put any_below same_name first_slot look follow parent_from parent_of file_in is_named settle entries any_used lowest_from refusal_with place_of first_free cleared has_fd effect_with answer_with sum_below one_if all_used first_from steps
+link_of_nothing = (refl, refl)
+
+pub link_of_directory : LinkOfDirectory
+unfolding pieces put any_below same_name first_slot look follow parent_from parent_of file_in is_named settle entries any_used lowest_from refusal_with place_of first_free cleared has_fd effect_with answer_with sum_below one_if all_used first_from steps
+link_of_directory = (refl, refl)
+
+pub no_block_for_name : NoBlockForName
+unfolding pieces put any_below same_name first_slot look follow parent_from parent_of file_in is_named settle entries any_used lowest_from refusal_with place_of first_free cleared has_fd effect_with answer_with sum_below one_if all_used first_from steps
+no_block_for_name = (refl, refl)

@@ -54,3 +54,9 @@ pub mod Creates
 pub mod Makings
 pub mod CreateCalls
 pub mod Examples
+pub mod Holds
+pub mod Finds
+pub mod Raises
+pub mod LinkEnters
+pub mod LinkNames
+pub mod LinkCalls

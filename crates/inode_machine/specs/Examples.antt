@@ -1,7 +1,8 @@
 -- Runs in which calls finish, from a fresh tree.
 use Rattle.std.specs.Prelude.{◌≡◌, ℕ, zero, suc, true, false, List, [], ◌∷◌, ◌++◌, codes}
 use Rattle.plain_tree.specs.declared.answer.Answer.TheVariants as answers
-use Rattle.plain_tree.specs.declared.answer.Cause.TheVariants.{NoEntry}
+use Rattle.plain_tree.specs.declared.answer.Cause.{Cause}
+use Rattle.plain_tree.specs.declared.answer.Cause.TheVariants.{NoEntry, Exists, IsDirectory}
 use Rattle.plain_tree.specs.declared.answer.Full.TheVariants.{Blocks, DiskInodes}
 use Rattle.plain_tree.specs.declared.answer.NodeType.TheVariants as types
 use Rattle.plain_tree.specs.declared.answer.Reply.{Reply}
@@ -102,6 +103,45 @@ CreateFinishes = Finishes makes_a (made_a ∷ [])
 abbrev pub WriteFinishes : Type 0
 WriteFinishes = Finishes (makes_a ++ makes 0 (calls.Write 0 (codes "A")) 5) (record { answer = answers.Count 1; call = calls.Write 0 (codes "A") } ∷ made_a ∷ [])
 
+-- A file is linked: it has two names then.
+
+abbrev pub link_ab : Call
+link_ab = calls.Link (codes "/a") (codes "/b")
+
+abbrev pub links_ab : List (Event Call Outside)
+links_ab = makes_a ++ makes 0 link_ab 19
+
+abbrev pub LinkFinishes : Type 0
+LinkFinishes = Finishes (links_ab ++ makes 0 (calls.Fstat 0) 3) (record { answer = answers.Stat (record { device = 1; inode = 2; kind = types.File; nlink = 2; size = 0 }); call = calls.Fstat 0 } ∷ done link_ab ∷ made_a ∷ [])
+
+abbrev pub refused : Call → Cause → Reply
+refused c k = record { answer = answers.Failed k; call = c }
+
+-- the file has one link again
+abbrev pub one_link : Reply
+one_link = record { answer = answers.Stat (record { device = 1; inode = 2; kind = types.File; nlink = 1; size = 0 }); call = calls.Fstat 0 }
+
+-- a call that is refused once the count is raised, of so many steps
+abbrev pub LinkRefused : List ℕ → Cause → ℕ → Type 0
+LinkRefused new k n = Finishes (makes_a ++ makes 0 (calls.Link (codes "/a") new) n ++ makes 0 (calls.Fstat 0) 3) (one_link ∷ refused (calls.Link (codes "/a") new) k ∷ made_a ∷ [])
+
+-- the new name is there already; its directory isn't; its path has no last name
+abbrev pub LinkToTaken : Type 0
+LinkToTaken = LinkRefused (codes "/a") Exists 21
+
+abbrev pub LinkBelowNothing : Type 0
+LinkBelowNothing = LinkRefused (codes "/x/b") NoEntry 19
+
+abbrev pub LinkToNoName : Type 0
+LinkToNoName = LinkRefused (codes "/") NoEntry 15
+
+-- what isn't there, and what is a directory
+abbrev pub LinkOfNothing : Type 0
+LinkOfNothing = Finishes (makes 0 (calls.Link (codes "/x") (codes "/b")) 7) (refused (calls.Link (codes "/x") (codes "/b")) NoEntry ∷ [])
+
+abbrev pub LinkOfDirectory : Type 0
+LinkOfDirectory = Finishes (makes 0 (calls.Link (codes "/") (codes "/b")) 7) (refused (calls.Link (codes "/") (codes "/b")) IsDirectory ∷ [])
+
 -- Two harts: hart 1 walks to the directory, hart 0 removes it under it, and hart 1 frees it at its call's end.
 
 abbrev pub walk_on : Call
@@ -123,3 +163,8 @@ NoInodeLeft = NoRoom (makes 0 make_d 10) (record { answer = answers.Full DiskIno
 
 abbrev pub NoBlockLeft : Type 0
 NoBlockLeft = NoRoom (makes 0 make_d 5 ++ Step 0 (Picks 2) ∷ steps 0 2 ++ Step 0 (RoomFor 0) ∷ steps 0 10) (record { answer = answers.Full Blocks; call = make_d } ∷ [])
+
+-- No block is left for the new name of a file, which keeps its one link.
+
+abbrev pub NoBlockForName : Type 0
+NoBlockForName = NoRoom (makes_a ++ makes 0 link_ab 13 ++ Step 0 (RoomFor 0) ∷ steps 0 8 ++ makes 0 (calls.Fstat 0) 3) (one_link ∷ record { answer = answers.Full Blocks; call = link_ab } ∷ made_a ∷ [])

@@ -99,7 +99,7 @@ abbrev pub is_covered : Call → Bool
 is_covered (Open path flags) = true
 is_covered (Read fd buffer) = true
 is_covered (Write fd bytes) = true
-is_covered (Link old new) = false
+is_covered (Link old new) = true
 is_covered (Unlink path) = true
 is_covered (Mkdir path) = true
 is_covered (Chdir path) = true

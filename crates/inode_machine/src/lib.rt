@@ -2,17 +2,17 @@
 //! call is right whatever the other harts do. The functions do nothing: each carries a law.
 #![tactic(auto)]
 
-ghost use Rattle.inode_machine.specs.Examples.{ChdirFinishes, CloseFinishes, CreateFinishes, DupFinishes, MkdirFinishes, NoBlockLeft, NoInodeLeft, OpenFinishes, ReadFinishes, StatFinishes, UnlinkFinishes, WalkerFails, WriteFinishes};
+ghost use Rattle.inode_machine.specs.Examples.{ChdirFinishes, CloseFinishes, CreateFinishes, DupFinishes, LinkBelowNothing, LinkFinishes, LinkOfDirectory, LinkOfNothing, LinkToNoName, LinkToTaken, MkdirFinishes, NoBlockLeft, NoBlockForName, NoInodeLeft, OpenFinishes, ReadFinishes, StatFinishes, UnlinkFinishes, WalkerFails, WriteFinishes};
 ghost use Rattle.inode_machine.specs.Histories.{CallsHaveOneHistory, OneHartHasOneHistory};
 ghost use Rattle.inode_machine.specs.Theory.{CallsAreExplained, WorldsRest, WorldsStayInOrder, WorldsWithAFileRest};
 
-/// For every list of events of any harts, the replies of dup, close, fstat, read, write, chdir, unlink, mkdir and open,
-/// with any flags, of pieces and paths of any length, are those of one list of moves on the tree, each made between its
-/// call's start and return, as long as no step found no room. A move of a call on descriptors is a tree step; those of a
-/// path are its walk's beginning, its lookups and the step that acts at the last one, as in the crate tree_moves. At every
-/// moment each hart's next operation may be made, an operation waits only for a lock that another hart has, no call takes
-/// more steps than its bound, and a hart without a call has no lock, no transaction, and the references of its descriptors
-/// and current directory alone.
+/// For every list of events of any harts, the replies of dup, close, fstat, read, write, chdir, unlink, mkdir, link and
+/// open, with any flags, of pieces and paths of any length, are those of one list of moves on the tree, each made
+/// between its call's start and return, as long as no step found no room. A move of a call on descriptors is a tree
+/// step; those of a path are its walk's beginning, its lookups and the step that acts at the last one, as in the crate
+/// tree_moves. At every moment each hart's next operation may be made, an operation waits only for a lock that another
+/// hart has, no call takes more steps than its bound, and a hart without a call has no lock, no transaction, and the
+/// references of its descriptors and current directory alone.
 pub fn calls_are_explained()
     ensures { CallsAreExplained }
 {}
@@ -62,4 +62,11 @@ pub fn calls_finish()
     ensures removed { WalkerFails }
     ensures inodes { NoInodeLeft }
     ensures blocks { NoBlockLeft }
+    ensures link { LinkFinishes }
+    ensures taken { LinkToTaken }
+    ensures below { LinkBelowNothing }
+    ensures nameless { LinkToNoName }
+    ensures unfound { LinkOfNothing }
+    ensures directory { LinkOfDirectory }
+    ensures name { NoBlockForName }
 {}

@@ -1,5 +1,5 @@
 -- Computed runs.
-use Rattle.inode_machine.proofs.Examples.{chdir_finishes, close_finishes, create_finishes, dup_finishes, mkdir_finishes, no_block_left, no_inode_left, open_finishes, read_finishes, stat_finishes, unlink_finishes, walker_fails, write_finishes}
+use Rattle.inode_machine.proofs.Examples.{chdir_finishes, close_finishes, create_finishes, dup_finishes, mkdir_finishes, no_block_left, no_inode_left, open_finishes, read_finishes, stat_finishes, unlink_finishes, walker_fails, write_finishes, link_finishes, link_to_taken, link_below_nothing, link_to_no_name, link_of_nothing, link_of_directory, no_block_for_name}
 use Rattle.inode_machine.proofs.calls_finish.Goals as goal
 
 pub returns-clause-open : goal.returns-clause-open
@@ -40,3 +40,24 @@ returns-clause-create c = create_finishes
 
 pub returns-clause-write : goal.returns-clause-write
 returns-clause-write c = write_finishes
+
+pub returns-clause-link : goal.returns-clause-link
+returns-clause-link c = link_finishes
+
+pub returns-clause-taken : goal.returns-clause-taken
+returns-clause-taken c = link_to_taken
+
+pub returns-clause-below : goal.returns-clause-below
+returns-clause-below c = link_below_nothing
+
+pub returns-clause-nameless : goal.returns-clause-nameless
+returns-clause-nameless c = link_to_no_name
+
+pub returns-clause-unfound : goal.returns-clause-unfound
+returns-clause-unfound c = link_of_nothing
+
+pub returns-clause-directory : goal.returns-clause-directory
+returns-clause-directory c = link_of_directory
+
+pub returns-clause-name : goal.returns-clause-name
+returns-clause-name c = no_block_for_name

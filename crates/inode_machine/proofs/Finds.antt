@@ -1,0 +1,89 @@
+-- Link's first step: what its old path leads to is found and held; and what is taken back of that where the call finds no room.
+use Rattle.std.proofs.Common.{◌≡◌, ℕ, ◌<◌, true, false, not, Option, Some, None, List, refl, sym, ◌∙◌, ap, subst}
+use Rattle.plain_tree.specs.declared.answer.Cause.TheVariants.{IsDirectory, NoEntry}
+use Rattle.plain_tree.specs.declared.tree.Hold.{Hold}
+use Rattle.plain_tree.specs.declared.step.Action.TheVariants.{Find}
+use Rattle.plain_tree.specs.declared.step.StepAnswer.TheVariants.{Done, Failed}
+use Rattle.plain_tree.specs.Widths.{hart_count}
+use Rattle.plain_tree.specs.Tree.{Name, Tree, is_directory, settle}
+use Rattle.plain_tree.specs.Steps.{answer_with, effect_with, holds_raised, node_at, place_of, refusal_with, IsInPlace, StepWith}
+use Rattle.tree_laws.specs.WellFormed.{raised_at}
+use Rattle.tree_laws.proofs.Maps.{put_same}
+use Rattle.tree_laws.proofs.Formed.{not_raised}
+use Rattle.tree_laws.proofs.Opened.{well_hold}
+use Rattle.inode_machine.specs.World.{World}
+use Rattle.inode_machine.specs.Marks.{acts, mended, unheld, unmoved, unopened}
+use Rattle.inode_machine.specs.Rules.{Own, own_names, own_of, Inv}
+use Rattle.inode_machine.proofs.Frame.{fair_then}
+use Rattle.inode_machine.proofs.Rows.{below_is}
+use Rattle.inode_machine.proofs.Looks.{MendingOf, mends}
+use Rattle.inode_machine.proofs.Walks.{Mending}
+use Rattle.inode_machine.proofs.Acts.{Finder}
+use Rattle.inode_machine.proofs.Holds.{Rehold, held_tree, held_world, low, reholds}
+
+pub find_goes : (t : Tree) (h j : ℕ) (path : List ℕ) (par : Option (ℕ × Name)) → is_directory (node_at t j).kind ≡ false → refusal_with t h (Find path) (Some j) par ≡ None
+unfolding refusal_with
+find_goes t h j path par e = rw e refl
+
+pub find_refused : (t : Tree) (h j : ℕ) (path : List ℕ) (par : Option (ℕ × Name)) → is_directory (node_at t j).kind ≡ true → refusal_with t h (Find path) (Some j) par ≡ Some IsDirectory
+unfolding refusal_with
+find_refused t h j path par e = rw e refl
+
+pub find_missing : (t : Tree) (h : ℕ) (path : List ℕ) (par : Option (ℕ × Name)) → refusal_with t h (Find path) None par ≡ Some NoEntry
+unfolding refusal_with
+find_missing t h path par = refl
+
+pub find_finder : (path : List ℕ) → Finder (Find path)
+find_finder path = record { follows = refl; makes = λ t q. refl; inherits = λ g q. absurd cc }
+
+pub find_place : (t : Tree) (h : ℕ) (path : List ℕ) → h < hart_count → t.holds h ≡ None → IsInPlace t h (Find path)
+unfolding place_of
+find_place t h path lt none = rw (below_is h hart_count lt) (λ z. not (holds_raised true (none z)))
+
+pub find_made : (t : Tree) (h j id : ℕ) (path : List ℕ) (par : Option (ℕ × Name)) → is_directory (node_at t j).kind ≡ false
+    → acts t h (Find path) (Some j) par 0 id ≡ record { all = held_tree t t.nodes h (Some (low j)); walk = None; found = Some j; opened = None; entered = None; left = None; told = Some (record { act = record { step = Find path; answer = Done }; new = 0 }) }
+unfolding effect_with answer_with
+find_made t h j id path par e = rw (find_goes t h j path par e) refl
+
+pub find_step : (t : Tree) (h j id : ℕ) (path : List ℕ) (par : Option (ℕ × Name)) → h < hart_count → t.holds h ≡ None → is_directory (node_at t j).kind ≡ false → StepWith t h (Find path) (Some j) par Done 0 id (settle (held_tree t t.nodes h (Some (low j))))
+unfolding effect_with answer_with
+find_step t h j id path par lt none e = (find_goes t h j path par e, refl, record { node = λ z. absurd cc; file = λ z. absurd cc }, refl, find_place t h path lt none)
+
+pub find_refused_step : (t : Tree) (h j id : ℕ) (path : List ℕ) (par : Option (ℕ × Name)) → h < hart_count → t.holds h ≡ None → is_directory (node_at t j).kind ≡ true → StepWith t h (Find path) (Some j) par (Failed IsDirectory) 0 id t
+find_refused_step t h j id path par lt none e = (find_refused t h j path par e, refl, find_place t h path lt none)
+
+-- Where the call finds no room after that, the hart holds nothing.
+pub mends_held : (h j : ℕ) (v : World) (O : Own) → own_of h v ≡ O → O.desk.lender ≡ None → O.desk.joined ≡ true → h < hart_count → Inv v → O.desk.opening ≡ None → O.desk.left ≡ None → O.row.hold ≡ Some (low j) → ((i : ℕ) → own_names (record (O.row) { hold = None }) O.desk i ≡ true → 0 < O.mine.refs i)
+    → Mending h v (mended h v) (record O { row = record (O.row) { hold = None }; desk = record (O.desk) { opening = None; left = None; full = true }; mine = record { refs = O.mine.refs; walk = None; pending = None } })
+mends_held h j v O ov free joined lt inv opening left holds names = subst (λ (z : World). Mending h v z M) (sym is) (record { fair = fair_then r.fair m.fair; bad = m.bad; owned = m.owned })
+  where
+    M : Own
+    M = record O { row = record (O.row) { hold = None }; desk = record (O.desk) { opening = None; left = None; full = true }; mine = record { refs = O.mine.refs; walk = None; pending = None } }
+
+    O1 : Own
+    O1 = record O { row = record (O.row) { hold = None } }
+
+    u : World
+    u = held_world v.all.nodes h None v
+
+    held_v : v.all.holds h ≡ Some (low j)
+    held_v = ap (λ (o : Own). o.row.hold) ov ∙ holds
+
+    r : Rehold h None v O
+    r = reholds h None v O ov free joined lt inv (λ i q. absurd cc) (well_hold v.all h None inv.well lt (λ n. refl) (λ n. ap (λ (z : Option Hold). raised_at z n) held_v ∙ not_raised (low j) n refl) (λ q e. absurd cc))
+
+    m : MendingOf h u O1 (mended h u)
+    m = mends h u O1 r.owned free lt r.fair.inv opening left tt names
+
+    is : mended h v ≡ mended h u
+    is = λ z. record (mended h v) { all = tree z }
+      where
+        opening_v : (v.desks h).opening ≡ None
+        opening_v = ap (λ (o : Own). o.desk.opening) ov ∙ opening
+
+        left_v : (v.desks h).left ≡ None
+        left_v = ap (λ (o : Own). o.desk.left) ov ∙ left
+
+        tree : unheld (unmoved (unopened v.all h (v.desks h).opening) h (v.desks h).left) h (v.all.holds h) ≡ unheld (unmoved (unopened u.all h (v.desks h).opening) h (v.desks h).left) h (u.all.holds h)
+        tree = (λ z. unheld (unmoved (unopened v.all h (opening_v z)) h (left_v z)) h (held_v z))
+            ∙ sym (λ z. unheld (unmoved (unopened u.all h (opening_v z)) h (left_v z)) h (put_same v.all.holds h None z))

@@ -1,0 +1,509 @@
+-- Link is right, whatever the other harts do.
+use Rattle.std.proofs.Common.{◌≡◌, ◌⊎◌, inl, inr, ℕ, ◌+◌, ◌*◌, ◌<◌, ◌≤◌, Bool, true, false, ◌==◌, ◌||◌, nat_lt, List, [], ◌∷◌, length, Option, Some, None, refl, sym, ◌∙◌, ap, subst, arith, if◌then◌else◌}
+use Rattle.atomic_programs.specs.Logic.{own, onto, Fine, Safe, Wp}
+use Rattle.atomic_programs.specs.Calls.{Begun, Ends, IsBeginning}
+use Rattle.plain_tree.specs.declared.answer.Cause.TheVariants.{IsDirectory, NoEntry, TooManyLinks}
+use Rattle.plain_tree.specs.declared.answer.Reply.{Reply}
+use Rattle.plain_tree.specs.declared.call.Call.{Call}
+use Rattle.plain_tree.specs.declared.call.Call.TheVariants as calls
+use Rattle.plain_tree.specs.declared.node.Node.{Node}
+use Rattle.plain_tree.specs.declared.node.Kind.{Kind}
+use Rattle.plain_tree.specs.declared.node.Kind.TheVariants.{Directory, File, Device}
+use Rattle.plain_tree.specs.declared.tree.Hold.{Hold}
+use Rattle.plain_tree.specs.declared.step.Action.{Action}
+use Rattle.plain_tree.specs.declared.step.Action.TheVariants as steps
+use Rattle.plain_tree.specs.declared.step.Action.TheVariants.{Inherit}
+use Rattle.plain_tree.specs.declared.step.StepAnswer.{StepAnswer}
+use Rattle.plain_tree.specs.declared.step.StepAnswer.TheVariants.{Done, Failed}
+use Rattle.plain_tree.specs.Calls.{Act, next_of, reply_of, had_room, first_cause}
+use Rattle.plain_tree.specs.Widths.{count_limit, hart_count, root}
+use Rattle.plain_tree.specs.Tree.{Name, Tree, put, elements, hold_names, is_absolute, is_directory, is_live, live_directory, look, settle, start_of}
+use Rattle.plain_tree.specs.Steps.{IsInPlace, node_at, node_or, raised}
+use Rattle.plain_tree.specs.HartRow.{Row, key_names, row_of}
+use Rattle.plain_tree.proofs.Settling.{settle_again, settled_row}
+use Rattle.tree_laws.specs.WellFormed.{IsThere, raised_at}
+use Rattle.tree_laws.proofs.Maps.{either, eq_is, same_or, put_same, put_other}
+use Rattle.tree_laws.proofs.Facts.{look_live}
+use Rattle.tree_laws.proofs.Formed.{not_raised}
+use Rattle.tree_laws.proofs.Nodes.{live_some}
+use Rattle.tree_laws.proofs.Opened.{well_hold}
+use Rattle.tree_laws.proofs.Walks.{look_same}
+use Rattle.tree_moves.specs.Moves.{Deed, Walk, Stage, Step, MayEnd}
+use Rattle.tree_moves.specs.Moves.Move.{Begin, Look}
+use Rattle.inode_machine.specs.World.{Desk, Mark, Note, World, stage_of}
+use Rattle.inode_machine.specs.World.Op.{Take, UpStart}
+use Rattle.inode_machine.specs.Inodes.{OfDirectory, AtNothing, face_of, face_or, is_directory_sort, seen_in, sort_of, sort_of_kind}
+use Rattle.inode_machine.specs.Exec.{counted_up, is_at, with_walk}
+use Rattle.inode_machine.specs.Marks.{Made, acts, begun, made_by, marked, new_id, places}
+use Rattle.inode_machine.specs.Rules.{Held, Own, key_in, own_names, own_of, Idle, Inv, machine}
+use Rattle.inode_machine.specs.Parts.{P, Stop, NoMemory, failed, give_up, makes, own_step, start, stopped, tail, walk, walk_step}
+use Rattle.inode_machine.specs.Naming.{bump_refused, bumps_if, is_refused, link_at, link_program, link_raise}
+use Rattle.inode_machine.specs.Programs.{limit}
+use Rattle.inode_machine.specs.Theory.{covered_calls}
+use Rattle.inode_machine.proofs.Frame.{Fair, fair, fair_same, fair_then, has_inode}
+use Rattle.inode_machine.proofs.Rules.{quiet, has_node, locked_held, my_refs}
+use Rattle.inode_machine.proofs.Walking.{moves_good, own_walk, stage_walk, walk_did}
+use Rattle.inode_machine.proofs.Dups.{fails, less_is, s-join}
+use Rattle.inode_machine.proofs.Looks.{KeepsHold, MoveFine, mends, note_of, s-take-then}
+use Rattle.inode_machine.proofs.Listing.{one_at, listed_among, listed_beside}
+use Rattle.inode_machine.proofs.Rest.{directory_sort}
+use Rattle.inode_machine.proofs.Walks.{At, Gone, Lost, On, Ready, Stays, names_stay, stays_same, s-arrive, s-walk}
+use Rattle.inode_machine.proofs.Beginnings.{Begun as StartsAt, root_sort, s-begin, s-start}
+use Rattle.inode_machine.proofs.Acts.{Finding, finding, found_world, last_made, last_takes, refused_made, start_made, start_takes}
+use Rattle.inode_machine.proofs.Chdirs.{kind_directory}
+use Rattle.inode_machine.proofs.Endings.{Follows, MayRest, Walked, follows_begin, follows_look, follows_lost, follows_quit, gone_at, home, joined_own, looks, may_rest, may_stay, missed, ready_at, s-lost, s-refuse, tells, walked_begun, walked_tells}
+use Rattle.inode_machine.proofs.Holdings.{Joins}
+use Rattle.inode_machine.proofs.Paths.{begun_walking, written_by}
+use Rattle.inode_machine.proofs.Holds.{Rehold, bumps, held_tree, held_world, high, low, reholds}
+use Rattle.inode_machine.proofs.Finds.{find_finder, find_made, find_missing, find_place, find_refused, find_refused_step, find_step, mends_held}
+use Rattle.inode_machine.proofs.Raises.{Plain, bump_stopped, done_step, s-store-move}
+use Rattle.inode_machine.proofs.LinkNames.{bumped, enter_follows, follows, found, more_base, names_but, names_fewer}
+
+-- What the call is told.
+
+link_follows : (old new : List ℕ) → Follows (calls.Link old new) (steps.Find old)
+unfolding next_of reply_of had_room first_cause
+link_follows old new = record { first = refl; missing = record { through = refl; reply = refl; room = refl } }
+
+abbrev not_found : List ℕ → Act
+not_found old = record { step = steps.Find old; answer = Failed IsDirectory }
+
+abbrev not_bumped : Act
+not_bumped = record { step = steps.Bump; answer = Failed TooManyLinks }
+
+link_not : (old new : List ℕ) → MayEnd (calls.Link old new) (not_found old ∷ []) (failed (calls.Link old new) IsDirectory)
+unfolding next_of reply_of had_room first_cause
+link_not old new = record { through = refl; reply = refl; room = refl }
+
+link_stopped : (old new : List ℕ) → MayEnd (calls.Link old new) (found old ∷ not_bumped ∷ []) (failed (calls.Link old new) TooManyLinks)
+unfolding next_of reply_of had_room first_cause
+link_stopped old new = record { through = refl; reply = refl; room = refl }
+
+bumps_next : (old new : List ℕ) → next_of (calls.Link old new) (found old ∷ []) ≡ Some steps.Bump
+unfolding next_of
+bumps_next old new = refl
+
+pub link_begins : (old new : List ℕ) → IsBeginning covered_calls (calls.Link old new) []
+link_begins old new = let f = link_follows old new in walked_begun (calls.Link old new) [] [] (tells (Begin (steps.Find old) 0) (record { act = missed (steps.Find old); new = 0 }) ∷ []) (failed (calls.Link old new) NoEntry) (λ xs r p. p) (f.first, f.missing)
+
+plain_bump : Plain steps.Bump
+plain_bump = record { follows = refl; path = refl; makes = λ t q. refl; inherits = λ g q. absurd cc }
+
+-- Types.
+
+sort_is : (k : Kind) → is_directory_sort (sort_of_kind k) ≡ is_directory k
+sort_is (Directory slots) = refl
+sort_is (File bytes) = refl
+sort_is (Device major minor size) = refl
+
+sort_directory : (o : Option Node) → is_directory (node_or o).kind ≡ true → sort_of o ≡ Some OfDirectory
+sort_directory None e = absurd cc
+sort_directory (Some v) e = at v.kind e
+  where
+    at : (k : Kind) → is_directory k ≡ true → Some (sort_of_kind k) ≡ Some OfDirectory
+    at (Directory slots) q = refl
+    at (File bytes) q = absurd cc
+    at (Device major minor size) q = absurd cc
+
+-- what the call has once its hold stands, which isn't raised
+abbrev low_own : ℕ → Own → Own
+low_own j O = record O { row = record (O.row) { hold = Some (low j) } }
+
+module _ (h : ℕ) (old new : List ℕ) (w : World) (free : (w.desks h).lender ≡ None) (lt : h < hart_count) (holds : Inv w) (idle : Idle h w) where
+  abbrev c : Call
+  c = calls.Link old new
+
+  abbrev s : Action
+  s = steps.Find old
+
+  abbrev B : List Step → Type 0
+  B = Begun covered_calls c
+
+  abbrev Q : Reply → List Step → World → Type 0
+  Q = Ends covered_calls h c
+
+  abbrev O0 : Own
+  O0 = joined_own (own_of h w)
+
+  abbrev base : ℕ → ℕ
+  base = home (own_of h w)
+
+  -- what is left for the new name
+  abbrev K : ℕ
+  K = 2600 * (length (elements new) + 1) + 20000
+
+  ready : Ready base O0
+  ready = ready_at h w free lt holds idle
+
+  may : MayRest O0 base
+  may = may_rest h w idle
+
+  joins : Joins base O0
+  joins = record { ready = ready; may = may }
+
+  -- it holds nothing again
+  stays_bare : (R R2 : Own) (o : Option Hold) → Stays R (record O0 { row = record (O0.row) { hold = o } }) → R2.row ≡ record (R.row) { hold = None } → R2.ninodes ≡ R.ninodes → R2.desk ≡ R.desk → Stays R2 O0
+  stays_bare R R2 o st row size desk = record {
+    row = row ∙ (λ z. record (st.row z) { hold = None }) ∙ (λ z. record (O0.row) { hold = sym idle.hold z });
+    ninodes = size ∙ st.ninodes;
+    fds = ap (λ (z : Desk). z.fds) desk ∙ st.fds;
+    hand = ap (λ (z : Desk). z.hand) desk ∙ st.hand;
+    joined = ap (λ (z : Desk). z.joined) desk ∙ st.joined;
+    directory = ap (λ (z : Desk). z.directory) desk ∙ st.directory;
+    lent = ap (λ (z : Desk). z.lent) desk ∙ st.lent;
+    lender = ap (λ (z : Desk). z.lender) desk ∙ st.lender;
+    opening = ap (λ (z : Desk). z.opening) desk ∙ st.opening;
+    left = ap (λ (z : Desk). z.left) desk ∙ st.left;
+  }
+
+  -- What is done where the inode is seen: of a directory (b), or of one that may have a link more (m).
+  abbrev mark : Bool → Bool → Option Mark
+  mark b m = if b then None else (if is_refused (if m then None else Some TooManyLinks) then own_step steps.Bump else None)
+
+  abbrev goes_on : ℕ → List ℕ → Node → Bool → Bool → P Reply
+  goes_on j ns X b m = if b then give_up j (tail ns (failed c IsDirectory)) else link_raise old new j ns (face_or (face_of (Some X))) (if m then None else Some TooManyLinks)
+
+  abbrev Seen : ℕ → List ℕ → ℕ → List Step → World → Node → Bool → Bool → Type 0
+  Seen j ns n es u X b m = Fine machine h (places h (Take j AtNothing) (seen_in j AtNothing (Some X)) (mark b m) u) 3 n B es u (marked h (mark b m) u) (λ l. Wp machine h B Q (goes_on j ns X b m) l (onto (own h (places h (Take j AtNothing) (seen_in j AtNothing (Some X)) (mark b m) u)) es) (marked h (mark b m) u))
+
+  -- What was found is a file or a device: its count is raised.
+  s-file : (j : ℕ) (ns : List ℕ) (t : Option Note) (n : ℕ) (es : List Step) (u : World) (R : Own) → 971 * length ns + K ≤ n → At h j base ns None t (low_own j O0) R u → ((m : Note) → t ≡ Some m → m.number ≡ j) → Walked c (found old ∷ []) es → Safe machine h B Q (link_at old new j ns) n es u
+  s-file j ns t n es u R few at number told = s-take-then at.owns free_r lt (omega (arith, few)) at.out refers (λ u1 x inv own1. by u1 x inv own1)
+    where
+      free_r : R.desk.lender ≡ None
+      free_r = at.stays.lender ∙ free
+
+      refers : 0 < R.mine.refs j
+      refers = let r = at.refs j in let o = one_at j in omega (arith, r, o)
+
+      holds_r : R.row.hold ≡ Some (low j)
+      holds_r = ap (λ (r : Row). r.hold) at.stays.row
+
+      O1 : Option Node → Own
+      O1 x = record R { inodes = put R.inodes j (Some (locked_held x)) }
+
+      isj : (x : Option Node) → (O1 x).inodes j ≡ Some (locked_held x)
+      isj x = put_same R.inodes j (Some (locked_held x))
+
+      -- it has all its links
+      stopped_at : (u1 : World) (X : Node) → Inv u1 → own_of h u1 ≡ O1 (Some X) → nat_lt X.count count_limit ≡ false → Seen j ns n es u1 X false false
+      stopped_at u1 X inv own1 most =
+          bump_stopped h j 3 n B Q es u1 (O1 (Some X)) X (give_up j (tail ns (failed c TooManyLinks))) own1 free_r at.stays.joined lt inv at.walk at.pending holds_r (has_node h j u1 (O1 (Some X)) (locked_held (Some X)) own1 (isj (Some X))) most
+          (walked_begun c (found old ∷ not_bumped ∷ []) (fails steps.Bump TooManyLinks ∷ es) [] (failed c TooManyLinks) written (link_stopped old new)) (omega (arith, few))
+          (λ l u2 q held2. s-refuse h c (failed c TooManyLinks) j (Some X) base ns l (fails steps.Bump TooManyLinks ∷ es) u2 M held2 free_r lt (omega (arith, few, q)) at.stays.joined
+          (listed_among R M base ns at.listed (λ i. refl) (λ i p. refl) (λ i p y. names_fewer R.row R.desk i y)) at.out at.refs refl refl (λ y. ready.spare j (sym (names_stay M O0 bare j) ∙ y)) (may_stay M O0 base bare may)
+          (inr (written_by c (found old ∷ not_bumped ∷ []) (fails steps.Bump TooManyLinks ∷ es) (failed c TooManyLinks) written (link_stopped old new))))
+        where
+          M : Own
+          M = record R { row = record (R.row) { hold = None }; mine = record { refs = R.mine.refs; walk = None; pending = None } }
+
+          bare : Stays M O0
+          bare = stays_bare R M (Some (low j)) at.stays refl refl refl
+
+          written : Walked c (found old ∷ not_bumped ∷ []) (fails steps.Bump TooManyLinks ∷ es)
+          written rest r p = told (fails steps.Bump TooManyLinks ∷ rest) r (bumps_next old new, p)
+
+      -- its count is stored
+      raised_at_store : (u1 : World) (X : Node) (l : ℕ) → Inv u1 → own_of h u1 ≡ O1 (Some X) → nat_lt X.count count_limit ≡ true → l + 4 ≡ n → Safe machine h B Q (link_raise old new j ns (face_or (face_of (Some X))) None) l es u1
+      raised_at_store u1 X l inv own1 fewer q =
+          s-store-move j (X.count + 1) steps.Bump (Some (high j)) X own1 free_r lt (omega (arith, few, q)) at.stays.joined at.walk at.pending (isj (Some X)) refl refl refl refl (inl (let a = less_is X.count count_limit fewer in omega (arith, a))) plain_bump
+          (λ v inv2 ov. bumps h j X v lt inv2 (ap (λ (o : Own). o.row.hold) ov ∙ holds_r) (has_node h j v (O1 (Some X)) (locked_held (Some X)) ov (isj (Some X))) fewer)
+          (λ i y. let e : j ≡ i = eq_is j i y in subst (λ (z : ℕ). 0 < R.mine.refs z) e refers) (inr begins)
+          (λ l2 u2 q2 held2. follows h old new lt joins j ns l2 (done_step steps.Bump ∷ es) u2 R2 range.0 (let z = range.1 in let a = ap (λ (o : Own). o.ninodes) own1 in let b = at.stays.ninodes in omega (arith, z, a, b)) (omega (arith, few, q, q2)) held2
+          (put_same (O1 (Some X)).inodes j (Some (locked_held (Some (raised X))))) refl refl refl refl refl
+          (record { row = ap (λ (r : Row). record r { hold = Some (high j) }) at.stays.row; ninodes = at.stays.ninodes; fds = at.stays.fds; hand = at.stays.hand; joined = at.stays.joined; directory = at.stays.directory; lent = at.stays.lent; lender = at.stays.lender; opening = at.stays.opening; left = at.stays.left })
+          (λ m y. let e = number m (sym at.noted ∙ y) in subst (λ (z : ℕ). 0 < R.mine.refs z) (sym e) refers) (λ i. let r = at.refs i in omega (arith, r))
+          (listed_beside R3 base (more_base base j) ns (listed_among R R3 base ns at.listed back (λ i p. refl) (λ i p y. named i ∙ y))) written)
+        where
+          range : (1 ≤ j) × (j < u1.all.ninodes)
+          range = inv.well.range j X (has_node h j u1 (O1 (Some X)) (locked_held (Some X)) own1 (isj (Some X)))
+
+          R2 : Own
+          R2 = record R { inodes = put (O1 (Some X)).inodes j (Some (locked_held (Some (raised X)))); row = record (R.row) { hold = Some (high j) }; mine = record { refs = R.mine.refs; walk = None; pending = None } }
+
+          R3 : Own
+          R3 = record R2 { inodes = put R2.inodes j None }
+
+          back : (i : ℕ) → R3.inodes i ≡ R.inodes i
+          back i = elim (same_or i j) [
+            | inl e ↦ ap R3.inodes e ∙ put_same R2.inodes j None ∙ sym at.out ∙ ap R.inodes (sym e)
+            | inr ne ↦ put_other R2.inodes j None i ne ∙ put_other (O1 (Some X)).inodes j (Some (locked_held (Some (raised X)))) i ne ∙ put_other R.inodes j (Some (locked_held (Some X))) i ne
+          ]
+
+          named : (i : ℕ) → own_names R3.row R3.desk i ≡ own_names R.row R.desk i
+          named i = λ z. (R.row.cwd == i) || (hold_names (sym holds_r z) i || (key_names (key_in R.row.keys R.desk.opening) i || is_at R.desk.left i))
+
+          written : Walked c (found old ∷ bumped ∷ []) (done_step steps.Bump ∷ es)
+          written rest r p = told (done_step steps.Bump ∷ rest) r (bumps_next old new, p)
+
+          begins : Begun covered_calls c (done_step steps.Bump ∷ es)
+          begins = begun_walking c (found old ∷ bumped ∷ []) (steps.Enter new) (done_step steps.Bump ∷ es) (enter_follows old new) written
+
+      by_count : (u1 : World) (X : Node) → Inv u1 → own_of h u1 ≡ O1 (Some X) → (m : Bool) → nat_lt X.count count_limit ≡ m → Seen j ns n es u1 X false m
+      by_count u1 X inv own1 false q = stopped_at u1 X inv own1 q
+      by_count u1 X inv own1 true q = quiet (fair_same inv) refl (omega (arith, few)) (λ l q2. (raised_at_store u1 X l inv own1 q q2).wp)
+
+      by : (u1 : World) (x : Option Node) → Inv u1 → own_of h u1 ≡ O1 x
+          → Fine machine h (places h (Take j AtNothing) (seen_in j AtNothing x) (bumps_if (face_or (face_of x))) u1) 3 n B es u1 (marked h (bumps_if (face_or (face_of x))) u1)
+          (λ l. Wp machine h B Q (if is_directory_sort (face_or (face_of x)).sort then give_up j (tail ns (failed c IsDirectory)) else link_raise old new j ns (face_or (face_of x)) (bump_refused (face_or (face_of x)))) l (onto (own h (places h (Take j AtNothing) (seen_in j AtNothing x) (bumps_if (face_or (face_of x))) u1)) es) (marked h (bumps_if (face_or (face_of x))) u1))
+      by u1 None inv own1 = absurd (
+          let a : IsThere u1.all.nodes j false = inv.well.holds h (low j) lt (ap (λ (o : Own). o.row.hold) own1 ∙ holds_r) in
+          let b = a.is in
+          let d = has_node h j u1 (O1 None) (locked_held None) own1 (isj None) in
+          cc (b, d))
+      by u1 (Some X) inv own1 =
+          subst (λ (b : Bool). Seen j ns n es u1 X b (nat_lt X.count count_limit)) (sym (sort_is X.kind ∙ plain)) (by_count u1 X inv own1 (nat_lt X.count count_limit) refl)
+        where
+          there : IsThere u1.all.nodes j false
+          there = inv.well.holds h (low j) lt (ap (λ (o : Own). o.row.hold) own1 ∙ holds_r)
+
+          plain : is_directory X.kind ≡ false
+          plain = ap (λ (o : Option Node). is_directory (node_or o).kind) (sym (has_node h j u1 (O1 (Some X)) (locked_held (Some X)) own1 (isj (Some X))) ∙ there.is) ∙ there.sort
+
+  -- What was found is a directory, and is given up.
+  s-directory : (j : ℕ) (ns : List ℕ) (t : Option Note) (n : ℕ) (es : List Step) (u : World) (R : Own) → 971 * length ns + 2000 ≤ n → At h j base ns None t O0 R u → ((v : World) (x : Option Node) → Inv v → own_of h v ≡ record R { inodes = put R.inodes j (Some (locked_held x)) } → sort_of (v.all.nodes j) ≡ Some OfDirectory) → Walked c (not_found old ∷ []) es
+      → Safe machine h B Q (link_at old new j ns) n es u
+  s-directory j ns t n es u R few at typed told = s-take-then at.owns free_r lt (omega (arith, few)) at.out refers (λ u1 x inv own1. by u1 x inv own1 (sort_at u1 x inv own1))
+    where
+      free_r : R.desk.lender ≡ None
+      free_r = at.stays.lender ∙ free
+
+      refers : 0 < R.mine.refs j
+      refers = let r = at.refs j in let o = one_at j in omega (arith, r, o)
+
+      O1 : Option Node → Own
+      O1 x = record R { inodes = put R.inodes j (Some (locked_held x)) }
+
+      sort_at : (u1 : World) (x : Option Node) → Inv u1 → own_of h u1 ≡ O1 x → sort_of x ≡ Some OfDirectory
+      sort_at u1 x inv own1 = ap (λ (o : Option Node). sort_of o) (sym (has_node h j u1 (O1 x) (locked_held x) own1 (put_same R.inodes j (Some (locked_held x))))) ∙ typed u1 x inv own1
+
+      ends : (u1 : World) (x : Option Node) (l : ℕ) → own_of h u1 ≡ O1 x → l + 4 ≡ n → Safe machine h B Q (give_up j (tail ns (failed c IsDirectory))) l es u1
+      ends u1 x l own1 q = s-refuse h c (failed c IsDirectory) j x base ns l es u1 R own1 free_r lt (omega (arith, few, q)) at.stays.joined at.listed at.out at.refs at.walk at.pending (λ y. ready.spare j (sym (names_stay R O0 at.stays j) ∙ y)) (may_stay R O0 base at.stays may)
+          (inr (written_by c (not_found old ∷ []) es (failed c IsDirectory) told (link_not old new)))
+
+      by : (u1 : World) (x : Option Node) → Inv u1 → own_of h u1 ≡ O1 x → sort_of x ≡ Some OfDirectory
+          → Fine machine h (places h (Take j AtNothing) (seen_in j AtNothing x) (bumps_if (face_or (face_of x))) u1) 3 n B es u1 (marked h (bumps_if (face_or (face_of x))) u1)
+          (λ l. Wp machine h B Q (if is_directory_sort (face_or (face_of x)).sort then give_up j (tail ns (failed c IsDirectory)) else link_raise old new j ns (face_or (face_of x)) (bump_refused (face_or (face_of x)))) l (onto (own h (places h (Take j AtNothing) (seen_in j AtNothing x) (bumps_if (face_or (face_of x))) u1)) es) (marked h (bumps_if (face_or (face_of x))) u1))
+      by u1 None inv own1 q = absurd cc
+      by u1 (Some X) inv own1 q =
+          subst (λ (b : Bool). Seen j ns n es u1 X b (nat_lt X.count count_limit)) (sym (sort_is X.kind ∙ kind_directory (Some X) q)) (quiet (fair_same inv) refl (omega (arith, few)) (λ l q2. (ends u1 (Some X) l own1 q2).wp))
+
+  -- The last element is found.
+
+  abbrev deed_of : StepAnswer → Deed
+  deed_of a = record { act = record { step = s; answer = a }; new = 0 }
+
+  abbrev lost : Stop → List ℕ → P Reply
+  lost why ns = tail ns (stopped c why)
+
+  loses : (why : Stop) (ms : List ℕ) (l : ℕ) (es : List Step) (u : World) (R : Own) → 971 * length ms + K ≤ l → Gone h base ms O0 R u → Lost (Walked c (missed s ∷ [])) why es R → Safe machine h B Q (lost why ms) l es u
+  loses why ms l es u R few gone told = s-lost h c s K base O0 lt ready may (link_follows old new) (omega arith) why ms l es u R few gone told
+
+  place : (t : Tree) → row_of t h ≡ O0.row → IsInPlace t h s
+  place t e = find_place t h old lt (ap (λ (r : Row). r.hold) e ∙ idle.hold)
+
+  other : (g : ℕ) → s ≡ Inherit g → ⊥
+  other g e = absurd cc
+
+  act : (d : ℕ) (e : Name) (ns : List ℕ) (n : ℕ) (es : List Step) (w0 : World) (O : Own) → 2600 + 971 * length ns + K ≤ n → On h s d e [] base ns O0 O w0 → Walked c [] es
+      → (u : World) (x : Option Node) (j : ℕ) → Inv u → own_of h u ≡ record O { inodes = put O.inodes d (Some (locked_held x)) } → live_directory x ≡ true → look (λ i. x) d e ≡ Some j → MoveFine h 1611 n B Q es u (Look 0) (walk_step d ns (link_at old new) lost (Some j))
+  act d e ns n es w0 O few on told u x j inv own1 live finds = at (is_directory (node_at u.all j).kind) refl
+    where
+      free_o : O.desk.lender ≡ None
+      free_o = on.stays.lender ∙ free
+
+      y : Walk
+      y = record { step = s; at = d; next = e; rest = [] }
+
+      O1 : Own
+      O1 = record O { inodes = put O.inodes d (Some (locked_held x)) }
+
+      isd : O1.inodes d ≡ Some (locked_held x)
+      isd = put_same O.inodes d (Some (locked_held x))
+
+      reached : look u.all.nodes d e ≡ Some j
+      reached = look_same (λ i. x) u.all.nodes d e (has_node h d u O1 (locked_held x) own1 isd) ∙ finds
+
+      live_j : is_live (u.all.nodes j) ≡ true
+      live_j = look_live u.all d j e inv.well reached
+
+      there : u.all.nodes j ≡ Some (node_or (u.all.nodes j))
+      there = live_some (u.all.nodes j) live_j
+
+      lives : (z : Held) → O.inodes j ≡ Some z → is_live z.node ≡ true
+      lives z q = ap (λ (o : Option Node). is_live o) (sym (has_node h j u O1 z own1 (put_other O.inodes d (Some (locked_held x)) j (λ k. absurd (let m : O.inodes j ≡ None = ap O.inodes k ∙ on.out in cc (m, q))) ∙ q))) ∙ live_j
+
+      none : O.row.hold ≡ None
+      none = ap (λ (r : Row). r.hold) on.stays.row ∙ idle.hold
+
+      unheld : u.all.holds h ≡ None
+      unheld = ap (λ (o : Own). o.row.hold) own1 ∙ none
+
+      f : Finding h j u O1
+      f = finding h d j e u O1 own1 free_o lt inv on.pending (has_inode h d u O1 (locked_held x) own1 isd).0 reached
+
+      O2 : Own
+      O2 = record O1 { mine = record { refs = O.mine.refs; walk = None; pending = Some j }; desk = record (O.desk) { noted = Some (note_of u.all j) } }
+
+      made : (m : Made) → acts u.all h s (Some j) (Some (d, e)) 0 (new_id u) ≡ m → made_by u.all h (new_id u) (u.harts h).walk (Look 0) ≡ m
+      made m q = last_made u.all h (u.harts h).walk y 0 (new_id u) j (ap (λ (o : Own). o.mine.walk) own1 ∙ on.walk) refl reached ∙ q
+
+      walks_are : (u1 : World) (harts : u1.harts ≡ with_walk u.harts h None (Some j)) → (stage_of u1).walk ≡ put (λ g. (u.harts g).walk) h None
+      walks_are u1 harts = (λ z. λ g. (harts z g).walk) ∙ ap (λ (m : Stage). m.walk) (stage_walk h None (Some j) u)
+
+      names0 : (i : ℕ) → own_names O.row O.desk i ≡ true → 0 < O.mine.refs i
+      names0 i q = let b = ready.spare i (sym (names_stay O O0 on.stays i) ∙ q) in let r = on.refs i in omega (arith, b, r)
+
+      refused_at : is_directory (node_at u.all j).kind ≡ true → MoveFine h 1611 n B Q es u (Look 0) (walk_step d ns (link_at old new) lost (Some j))
+      refused_at isa =
+          moves_good h 1611 n B Q es u u (Look 0) (walk_step d ns (link_at old new) lost (Some j)) (made_by u.all h (new_id u) (u.harts h).walk (Look 0)) (record { all = u.all; walk = None; found = Some j; opened = None; entered = None; left = None; told = Some (deed_of (Failed IsDirectory)) })
+          (made _ (refused_made u.all h s (Some j) (Some (d, e)) 0 (new_id u) IsDirectory (find_refused u.all h j old (Some (d, e)) isa)))
+          f.fair
+          (last_takes h d u (found_world h j u) O1 (locked_held x) y j (Failed IsDirectory) (new_id u) u.all (find_finder old) own1 inv on.walk refl isd live refl reached (find_refused_step u.all h j (new_id u) old (Some (d, e)) lt unheld isa) refl (walks_are (found_world h j u) refl))
+          (walked_begun c (not_found old ∷ []) (tells (Look 0) (deed_of (Failed IsDirectory)) ∷ es) [] (failed c IsDirectory) written (link_not old new)) (omega (arith, few))
+          (λ l q. (s-arrive h s B Q (Walked c []) (Walked c (missed s ∷ [])) base O0 K lt ready lost loses (follows_look c s (link_follows old new)) (follows_lost c s (link_follows old new)) (follows_quit c s (link_follows old new)) (λ t. find_missing t h old None) (λ t. refl) place other refl
+          0 d j x None ns l (tells (Look 0) (deed_of (Failed IsDirectory)) ∷ es) (found_world h j u) O O2 O0 M (link_at old new) f.owned (omega (arith, q, few)) on.stays on.listed on.out on.refs
+          (record { inodes = refl; refs = refl; walk = refl; lands = λ z p. absurd cc; pending = refl; lives = lives; names = λ i p. inr p })
+          (noted_stays O2 refl refl refl) free
+          (λ v inv2 ov. let m = mends h v O2 ov free_o lt inv2 (on.stays.opening ∙ ready.opening) (on.stays.left ∙ ready.left) (subst (λ (r : Row). KeepsHold r.hold) (sym on.stays.row) ready.hold) names0 in record { fair = m.fair; bad = m.bad; owned = m.owned })
+          (record { stays = mended_stays; inodes = refl; refs = refl; walk = refl; pending = refl; full = refl })
+          (λ ms l2 u2 R few2 at2. s-directory j ms (Some (note_of u.all j)) l2 (tells (Look 0) (deed_of (Failed IsDirectory)) ∷ es) u2 R (omega (arith, few2)) at2 (λ v x2 inv2 ov. typed v x2 R u2 ms at2 inv2 ov) written)).wp)
+        where
+          written : Walked c (not_found old ∷ []) (tells (Look 0) (deed_of (Failed IsDirectory)) ∷ es)
+          written = walked_tells c [] (Look 0) (deed_of (Failed IsDirectory)) es tt told
+
+          noted_stays : (R : Own) → R.row ≡ O.row → R.desk ≡ record (O.desk) { noted = Some (note_of u.all j) } → R.ninodes ≡ O.ninodes → Stays R O0
+          noted_stays R row desk size = stays_same R (record O { desk = record (O.desk) { noted = Some (note_of u.all j) } }) O0 row size desk (record { row = on.stays.row; ninodes = on.stays.ninodes; fds = on.stays.fds; hand = on.stays.hand; joined = on.stays.joined; directory = on.stays.directory; lent = on.stays.lent; lender = on.stays.lender; opening = on.stays.opening; left = on.stays.left })
+
+          M : Own
+          M = record O2 { desk = record (O2.desk) { opening = None; left = None; full = true }; mine = record { refs = O.mine.refs; walk = None; pending = None } }
+
+          mended_stays : Stays M O0
+          mended_stays = record { row = on.stays.row; ninodes = on.stays.ninodes; fds = on.stays.fds; hand = on.stays.hand; joined = on.stays.joined; directory = on.stays.directory; lent = on.stays.lent; lender = on.stays.lender; opening = sym ready.opening; left = sym ready.left }
+
+          typed : (v : World) (x2 : Option Node) (R : Own) (u2 : World) (ms : List ℕ) → At h j base ms None (Some (note_of u.all j)) O0 R u2 → Inv v → own_of h v ≡ record R { inodes = put R.inodes j (Some (locked_held x2)) } → sort_of (v.all.nodes j) ≡ Some OfDirectory
+          typed v x2 R u2 ms at2 inv2 ov =
+              inv2.noted h (note_of u.all j) lt (ap (λ (o : Own). o.desk.noted) ov ∙ at2.noted) (inl (let a = my_refs h v (record R { inodes = put R.inodes j (Some (locked_held x2)) }) j ov in let r = at2.refs j in let o = one_at j in omega (arith, a, r, o)))
+              (ap (λ (z : Held). z.alone) (has_inode h j v (record R { inodes = put R.inodes j (Some (locked_held x2)) }) (locked_held x2) ov (put_same R.inodes j (Some (locked_held x2)))).1)
+              ∙ sort_directory (u.all.nodes j) isa
+
+      goes_at : is_directory (node_at u.all j).kind ≡ false → MoveFine h 1611 n B Q es u (Look 0) (walk_step d ns (link_at old new) lost (Some j))
+      goes_at isnt =
+          moves_good h 1611 n B Q es u u (Look 0) (walk_step d ns (link_at old new) lost (Some j)) (made_by u.all h (new_id u) (u.harts h).walk (Look 0)) (record { all = held_tree u.all u.all.nodes h (Some (low j)); walk = None; found = Some j; opened = None; entered = None; left = None; told = Some (deed_of Done) })
+          (made _ (find_made u.all h j (new_id u) old (Some (d, e)) isnt))
+          (fair_then f.fair r.fair)
+          (last_takes h d u u3 O1 (locked_held x) y j Done (new_id u) (settle (held_tree u.all u.all.nodes h (Some (low j)))) (find_finder old) own1 inv on.walk refl isd live refl reached (find_step u.all h j (new_id u) old (Some (d, e)) lt unheld isnt) (sym (settle_again (held_tree u.all u.all.nodes h (Some (low j))))) (walks_are u3 refl))
+          (walked_begun c (found old ∷ []) (tells (Look 0) (deed_of Done) ∷ es) (fails steps.Bump TooManyLinks ∷ []) (failed c TooManyLinks) written (bumps_next old new, link_stopped old new)) (omega (arith, few))
+          (λ l q. (s-arrive h s B Q (Walked c []) (Walked c (missed s ∷ [])) base O0 K lt ready lost loses (follows_look c s (link_follows old new)) (follows_lost c s (link_follows old new)) (follows_quit c s (link_follows old new)) (λ t. find_missing t h old None) (λ t. refl) place other refl
+          0 d j x None ns l (tells (Look 0) (deed_of Done) ∷ es) u3 O O3 (low_own j O0) M (link_at old new) r.owned (omega (arith, q, few)) on.stays on.listed on.out on.refs
+          (record { inodes = refl; refs = refl; walk = refl; lands = λ z p. absurd cc; pending = refl; lives = lives; names = names })
+          (record { row = ap (λ (z : Row). record z { hold = Some (low j) }) on.stays.row; ninodes = on.stays.ninodes; fds = on.stays.fds; hand = on.stays.hand; joined = on.stays.joined; directory = on.stays.directory; lent = on.stays.lent; lender = on.stays.lender; opening = on.stays.opening; left = on.stays.left }) free
+          (λ v inv2 ov. mends_held h j v O3 ov free_o on.stays.joined lt inv2 (on.stays.opening ∙ ready.opening) (on.stays.left ∙ ready.left) refl (λ i p. names0 i (sym (names_but O.row O.desk None i none refl) ∙ p)))
+          (record { stays = record { row = ap (λ (z : Row). record z { hold = None }) on.stays.row ∙ (λ z. record (O0.row) { hold = sym idle.hold z }); ninodes = on.stays.ninodes; fds = on.stays.fds; hand = on.stays.hand; joined = on.stays.joined; directory = on.stays.directory; lent = on.stays.lent; lender = on.stays.lender; opening = sym ready.opening; left = sym ready.left }; inodes = refl; refs = refl; walk = refl; pending = refl; full = refl })
+          (λ ms l2 u2 R few2 at2. s-file j ms (Some (note_of u.all j)) l2 (tells (Look 0) (deed_of Done) ∷ es) u2 R (omega (arith, few2)) at2 (λ m p. let a : note_of u.all j ≡ m = some_is p in ap (λ (z : Note). z.number) (sym a)) written)).wp)
+        where
+          some_is : {m k : Note} → ◌≡◌ {A = Option Note} (Some m) (Some k) → m ≡ k
+          some_is q = cc
+
+          written : Walked c (found old ∷ []) (tells (Look 0) (deed_of Done) ∷ es)
+          written = walked_tells c [] (Look 0) (deed_of Done) es tt told
+
+          r : Rehold h (Some (low j)) (found_world h j u) O2
+          r = reholds h (Some (low j)) (found_world h j u) O2 f.owned free_o on.stays.joined lt f.fair.inv
+              (λ i q. inr (ap (λ (o : Own). o.mine.pending) f.owned ∙ ap (λ (z : ℕ). Some z) (eq_is j i q)))
+              (well_hold u.all h (Some (low j)) inv.well lt (λ i. not_raised (low j) i refl) (λ i. ap (λ (z : Option Hold). raised_at z i) unheld)
+              (λ q p. let a : low j ≡ q = hold_is p in subst (λ (z : Hold). IsThere u.all.nodes z.number false) a (record { node = node_or (u.all.nodes j); is = there; sort = isnt })))
+            where
+              hold_is : {m k : Hold} → ◌≡◌ {A = Option Hold} (Some m) (Some k) → m ≡ k
+              hold_is q = cc
+
+          u3 : World
+          u3 = held_world u.all.nodes h (Some (low j)) (found_world h j u)
+
+          O3 : Own
+          O3 = record O2 { row = record (O.row) { hold = Some (low j) } }
+
+          M : Own
+          M = record O3 { row = record (O.row) { hold = None }; desk = record (O3.desk) { opening = None; left = None; full = true }; mine = record { refs = O.mine.refs; walk = None; pending = None } }
+
+          names : (i : ℕ) → own_names O3.row O3.desk i ≡ true → (i ≡ j) ⊎ (own_names O.row O.desk i ≡ true)
+          names i q = elim (either (j == i)) [ inl p ↦ inl (sym (eq_is j i p)) | inr p ↦ inr (sym (names_but O.row O.desk (Some (low j)) i none p) ∙ q) ]
+
+      at : (b : Bool) → is_directory (node_at u.all j).kind ≡ b → MoveFine h 1611 n B Q es u (Look 0) (walk_step d ns (link_at old new) lost (Some j))
+      at true q = refused_at q
+      at false q = goes_at q
+
+  -- A path without elements leads to its start, which is a directory.
+  starts : (i n : ℕ) (v : World) (O : Own) (w1 : World) → 3000 ≤ n → elements old ≡ [] → Gone h base [] O0 O w1 → Inv v → own_of h v ≡ O → StartsAt h i s base [] O v
+      → Fine machine h (places h (UpStart (is_absolute old)) (Some i) (makes (Begin s 0)) v) 0 n B [] v (marked h (makes (Begin s 0)) (counted_up h i v)) (λ l. Wp machine h B Q (link_at old new i []) l (onto (own h (places h (UpStart (is_absolute old)) (Some i) (makes (Begin s 0)) v)) []) (marked h (makes (Begin s 0)) (counted_up h i v)))
+  starts i n v O w1 few none gone inv ov at =
+      moves_good h 0 n B Q [] v u1 (Begin s 0) (link_at old new i []) (begun v.all h s (elements old) 0 (new_id v)) (record { all = v.all; walk = None; found = None; opened = None; entered = None; left = None; told = Some (deed_of (Failed IsDirectory)) })
+      (start_made v.all h s 0 (new_id v) none ∙ ap (λ (m : Made). record m { found = None }) (refused_made v.all h s (Some p0) None 0 (new_id v) IsDirectory (find_refused v.all h p0 old None isa)))
+      (fair_then at.up.fair stills)
+      (start_takes h v u2 s (Failed IsDirectory) (new_id v) v.all (find_finder old) lt inv (ap (λ (o : Own). o.mine.walk) ov ∙ gone.walk) none (find_place (settle v.all) h old lt (ap (λ (r : Row). r.hold) (settled_row v.all h) ∙ unheld)) (find_refused_step v.all h p0 (new_id v) old None lt unheld isa) refl
+      (ap (λ (m : Stage). m.walk) (stage_walk h None None u1) ∙ ap (λ (m : Stage). put m.walk h None) at.up.stage))
+      (walked_begun c (not_found old ∷ []) (tells (Begin s 0) (deed_of (Failed IsDirectory)) ∷ []) [] (failed c IsDirectory) written (link_not old new)) (omega (arith, few))
+      (λ l q. (s-directory i [] O.desk.noted l (tells (Begin s 0) (deed_of (Failed IsDirectory)) ∷ []) u2 O2 (omega (arith, q, few)) (record {
+        owns = own2;
+        stays = stays_same O2 O O0 refl refl refl gone.stays;
+        noted = refl;
+        walk = refl;
+        pending = refl;
+        refs = at.refs;
+        listed = listed_among O O2 base [] gone.listed (λ j. refl) (λ j t. put_other O.mine.refs i (O.mine.refs i + 1) j (at.apart j t)) (λ j t p. p);
+        out = at.out;
+      }) (λ v2 x inv2 ov2. typed v2 x inv2 ov2) written).wp)
+    where
+      p0 : ℕ
+      p0 = start_of v.all h old
+
+      u1 : World
+      u1 = counted_up h i v
+
+      u2 : World
+      u2 = record u1 { harts = with_walk u1.harts h None None }
+
+      O2 : Own
+      O2 = record O { mine = record { refs = put O.mine.refs i (O.mine.refs i + 1); walk = None; pending = None } }
+
+      unheld : v.all.holds h ≡ None
+      unheld = ap (λ (o : Own). o.row.hold) ov ∙ ap (λ (r : Row). r.hold) gone.stays.row ∙ idle.hold
+
+      isa : is_directory (node_at v.all p0).kind ≡ true
+      isa = kind_directory (v.all.nodes p0) (ap (λ (z : ℕ). sort_of (v.all.nodes z)) (sym at.start) ∙ at.sort)
+
+      written : Walked c (not_found old ∷ []) (tells (Begin s 0) (deed_of (Failed IsDirectory)) ∷ [])
+      written rest r p = ((link_follows old new).first, p)
+
+      stills : Fair h u1 u2
+      stills = fair at.up.fair.inv (walk_did h None None u1 (ap (λ (o : Own). o.desk.lender) at.up.owned ∙ gone.stays.lender ∙ free) lt at.up.fair.inv (ap (λ (o : Own). o.mine.pending) at.up.owned) (λ m q x. absurd cc) (λ z q. absurd cc) (λ z q. absurd cc))
+
+      own2 : own_of h u2 ≡ O2
+      own2 = own_walk h None None u1 (record O { mine = record { refs = put O.mine.refs i (O.mine.refs i + 1); walk = O.mine.walk; pending = None } }) at.up.owned
+
+      -- the start is a directory still
+      typed : (v2 : World) (x : Option Node) → Inv v2 → own_of h v2 ≡ record O2 { inodes = put O2.inodes i (Some (locked_held x)) } → sort_of (v2.all.nodes i) ≡ Some OfDirectory
+      typed v2 x inv2 ov2 = by_start (is_absolute old) at.start
+        where
+          by_start : (b : Bool) → i ≡ (if b then root else v.all.cwd h) → sort_of (v2.all.nodes i) ≡ Some OfDirectory
+          by_start true q = ap (λ (z : ℕ). sort_of (v2.all.nodes z)) q ∙ root_sort v2.all inv2.well
+          by_start false q =
+              let r : i ≡ v2.all.cwd h = q ∙ ap (λ (o : Own). o.row.cwd) ov ∙ sym (ap (λ (o : Own). o.row.cwd) ov2) in
+              ap (λ (z : ℕ). sort_of (v2.all.nodes z)) r ∙ directory_sort v2.all h inv2.well lt
+
+  notes : (m : Note) → O0.desk.noted ≡ Some m → 0 < O0.mine.refs m.number
+  notes m q = absurd (let a = idle.noted in cc (a, q))
+
+  walks : (es : List Name) → elements old ≡ es → (n : ℕ) → 2600 * length es + 1 + K ≤ n → (u : World) → own_of h u ≡ O0 → Safe machine h B Q (start s old [] (λ d. walk s d es [] (link_at old new) lost) lost) n [] u
+  walks [] none n few u own = s-begin h s B Q base O0 [] n [] u O0 (λ d. link_at old new d []) lost lt ready (gone_at h w u idle own) (omega (arith, few)) notes (λ i v inv ov at. starts i n v O0 u (omega (arith, few)) none (gone_at h w u idle own) inv ov at)
+      (λ l u2 R q g full. loses NoMemory [] l [] u2 R (omega (arith, q, few)) g full)
+  walks (e ∷ r) path_is n few u own = s-start h s B Q base O0 e r [] n [] u O0 (λ d. walk s d (e ∷ r) [] (link_at old new) lost) lost lt ready (gone_at h w u idle own) (omega (arith, few)) refl path_is place notes (follows_begin c s (link_follows old new)).1
+      (λ d l u2 R q on. s-walk h s B Q (Walked c []) (Walked c (missed s ∷ [])) base O0 K lt ready lost loses (follows_look c s (link_follows old new)) (follows_lost c s (link_follows old new)) (follows_quit c s (link_follows old new)) (λ t. find_missing t h old None) (λ t. refl) place other refl
+      r d e [] l (looks (Begin s 0) ∷ []) u2 R (link_at old new) (omega (arith, q, few)) on (follows_begin c s (link_follows old new)).0 (λ t q. find_missing t h old (Some q)) act)
+      (λ l u2 R q g full. loses NoMemory [] l [] u2 R (omega (arith, q, few)) g full)
+
+  pub link_ok : Safe machine h B Q (link_program old new) (limit c) [] w
+  link_ok = s-join refl free lt (omega arith) (λ i x q. absurd (let a = ap (λ (f : ℕ → Option Held). f i) idle.inodes in cc (a, q))) idle.joined (λ l u q own. walks (elements old) refl l (enough l (length (elements old)) (length (elements new)) q) u own)
+    where
+      enough : (l k m : ℕ) → l + 1 ≡ 2600 * (k + 1) + 2600 * (m + 1) + 24000 → 2600 * k + 1 + (2600 * (m + 1) + 20000) ≤ l
+      enough l k m q = omega (arith, q)

@@ -1,0 +1,155 @@
+-- Link's name is entered: at this moment its hold goes, and the link stands.
+use Rattle.std.proofs.Common.{◌≡◌, ℕ, ◌+◌, ◌<◌, ◌≤◌, true, false, List, [], ◌∷◌, Option, Some, None, refl, sym, ◌∙◌, ap, subst}
+use Rattle.atomic_programs.specs.Prog.{Do}
+use Rattle.atomic_programs.specs.Logic.{P, Safe}
+use Rattle.plain_tree.specs.declared.answer.Cause.TheVariants.{Exists, NoEntry}
+use Rattle.plain_tree.specs.declared.node.Node.{Node}
+use Rattle.plain_tree.specs.declared.step.Action.TheVariants.{Enter as EnterStep}
+use Rattle.plain_tree.specs.declared.step.StepAnswer.TheVariants.{Done}
+use Rattle.plain_tree.specs.Widths.{hart_count}
+use Rattle.plain_tree.specs.Tree.{Name, Tree, put, is_directory, live_directory, look, settle}
+use Rattle.plain_tree.specs.Steps.{answer_with, drop_hold, effect_with, enter_hold, holds_raised, name_taken, node_or, place_of, refusal_with, IsInPlace}
+use Rattle.plain_tree.specs.HartRow.{Row}
+use Rattle.tree_laws.specs.WellFormed.{IsWellFormed}
+use Rattle.tree_laws.proofs.Maps.{and_true, put_same}
+use Rattle.tree_laws.proofs.Walks.{look_same}
+use Rattle.tree_laws.proofs.Kept.{effect_well}
+use Rattle.tree_moves.specs.Moves.{Step}
+use Rattle.tree_moves.specs.Moves.Move.{Look}
+use Rattle.inode_machine.specs.World.{World, Entered, InPlace, NoBlock, NoSlot}
+use Rattle.inode_machine.specs.World.Op.{Enter}
+use Rattle.inode_machine.specs.Inodes.{Sort, sort_of}
+use Rattle.inode_machine.specs.Exec.{with_entry, with_walk}
+use Rattle.inode_machine.specs.Marks.{Made, new_id}
+use Rattle.inode_machine.specs.Rules.{Own, Held, own_of, Inv, machine}
+use Rattle.inode_machine.specs.Parts.{makes}
+use Rattle.inode_machine.specs.Naming.{enters}
+use Rattle.inode_machine.proofs.Frame.{Fair, fair, fair_then}
+use Rattle.inode_machine.proofs.Rules.{has_node}
+use Rattle.inode_machine.proofs.Rows.{below_is}
+use Rattle.inode_machine.proofs.Counting.{Writes, writes}
+use Rattle.inode_machine.proofs.Walking.{own_walk, stage_walk, walk_did}
+use Rattle.inode_machine.proofs.Writings.{put_twice}
+use Rattle.inode_machine.proofs.Claiming.{Mendable, mended_own}
+use Rattle.inode_machine.proofs.Acting.{act_good, told_step}
+use Rattle.inode_machine.proofs.Removes.{directory_sort}
+use Rattle.inode_machine.proofs.Enters.{EnterFine, s-enter-with}
+use Rattle.inode_machine.proofs.Namings.{Leads}
+use Rattle.inode_machine.proofs.Holds.{Turned, gone_made, held_tree, held_world, high, turned}
+
+enter_goes : (t : Tree) (h d : ℕ) (e : Name) (path : List ℕ) (res : Option ℕ) → look t.nodes d e ≡ None → refusal_with t h (EnterStep path) res (Some (d, e)) ≡ None
+unfolding refusal_with
+enter_goes t h d e path res absent = λ z. name_taken (absent z)
+
+pub enter_taken : (t : Tree) (h d n : ℕ) (e : Name) (path : List ℕ) (res : Option ℕ) → look t.nodes d e ≡ Some n → refusal_with t h (EnterStep path) res (Some (d, e)) ≡ Some Exists
+unfolding refusal_with
+enter_taken t h d n e path res there = λ z. name_taken (there z)
+
+enter_missing : (t : Tree) (h : ℕ) (path : List ℕ) (res : Option ℕ) → refusal_with t h (EnterStep path) res None ≡ Some NoEntry
+unfolding refusal_with
+enter_missing t h path res = refl
+
+enter_effect : (t : Tree) (h d j id : ℕ) (X : Node) (e : Name) (path : List ℕ) (res : Option ℕ) → t.holds h ≡ Some (high j) → t.nodes d ≡ Some X → effect_with t h (EnterStep path) res (Some (d, e)) 0 id ≡ held_tree t (put t.nodes d (Some (with_entry e j X))) h None
+unfolding effect_with
+enter_effect t h d j id X e path res held there = (λ z. drop_hold (enter_hold t (Some (d, e)) (held z)) h) ∙ (λ z. held_tree t (put t.nodes d (Some (with_entry e j (node_or (there z))))) h None)
+
+enter_answer : (t : Tree) (h id : ℕ) (path : List ℕ) (res : Option ℕ) (par : Option (ℕ × Name)) → answer_with t h (EnterStep path) res par id ≡ Done
+unfolding answer_with
+enter_answer t h id path res par = refl
+
+enter_placed : (t : Tree) (h j : ℕ) (path : List ℕ) → t.holds h ≡ Some (high j) → place_of t h (EnterStep path) ≡ true
+unfolding place_of
+enter_placed t h j path held = λ z. holds_raised true (held z)
+
+pub enter_place : (t : Tree) (h j : ℕ) (path : List ℕ) → h < hart_count → t.holds h ≡ Some (high j) → IsInPlace t h (EnterStep path)
+enter_place t h j path lt held = rw (below_is h hart_count lt) (enter_placed t h j path held)
+
+pub enter_leads : (h j : ℕ) (path : List ℕ) (O0 : Own) → h < hart_count → O0.row.hold ≡ Some (high j) → Leads h (EnterStep path) O0
+enter_leads h j path O0 lt holds = record {
+  follows = refl;
+  missing = λ b res. enter_missing b h path res;
+  stays = λ b. refl;
+  place = λ t q. enter_place t h j path lt (ap (λ (r : Row). r.hold) q ∙ holds);
+  other = λ g q. absurd cc;
+  finds = refl;
+}
+
+-- The entry is put.
+pub s-enter-name : {A : Type 0} {h : ℕ} (d j : ℕ) {x : Held} (X : Node) (e : Name) (path : List ℕ) {k : Entered → P machine A} {B : List Step → Type 0} {Q : A → List Step → World → Type 0} {n : ℕ} {es : List Step} {w : World} {O : Own}
+    → own_of h w ≡ O → O.desk.lender ≡ None → h < hart_count → 1640 < n → O.desk.joined ≡ true → O.mine.walk ≡ Some (record { step = EnterStep path; at = d; next = e; rest = [] }) → O.mine.pending ≡ None → Mendable O → O.row.hold ≡ Some (high j)
+    → O.inodes d ≡ Some x → x.disk ≡ Some X → x.node ≡ Some X → x.alone ≡ false → x.locked ≡ true → live_directory (Some X) ≡ true → look (λ i. Some X) d e ≡ None → 1 ≤ j → j < O.ninodes → B (told_step 0 (EnterStep path) Done ∷ es)
+    → ((l : ℕ) (u : World) → l + 1641 ≡ n
+    → own_of h u ≡ record O { inodes = put O.inodes d (Some (record x { disk = Some (with_entry e j X); node = Some (with_entry e j X) })); row = record (O.row) { hold = None }; mine = record { refs = O.mine.refs; walk = None; pending = None } }
+    → Safe machine h B Q (k InPlace) l (told_step 0 (EnterStep path) Done ∷ es) u)
+    → ((l : ℕ) (u : World) → l + 1641 ≡ n → own_of h u ≡ mended_own O → Safe machine h B Q (k NoBlock) l es u)
+    → ((l : ℕ) (u : World) → l + 1641 ≡ n → own_of h u ≡ mended_own O → Safe machine h B Q (k NoSlot) l es u)
+    → Safe machine h B Q (Do (Enter d e j) enters k) n es w
+s-enter-name {A} {h} d j {x} X e path {k} {B} {Q} {n} {es} {w} {O} owns free lt pos joined walks none can holds isd xd xn shared locked live finds from below b then_ no_block no_slot =
+    s-enter-with d j X e owns free lt pos joined isd xd locked (and_true _ (is_directory X.kind) live).1 from below can refl refl good no_block no_slot
+  where
+    good : (v : World) → Inv v → own_of h v ≡ O → EnterFine h d e j (makes (Look 0)) n B Q es v (record v { disk = put v.disk d (Some (with_entry e j X)) }) (k InPlace)
+    good v inv ov =
+        act_good h 1640 n B Q es v u1 (EnterStep path) d 0 e None Done made (k InPlace) lt inv mine live_at look_is (λ g q. absurd cc)
+        (gone_made v.all h (EnterStep path) None (Some (d, e)) (new_id v) T goes effect (enter_answer v.all h (new_id v) path None (Some (d, e))) refl refl refl refl) refl goes
+        (goes, sym (enter_answer v.all h (new_id v) path None (Some (d, e))), record { node = λ q. absurd cc; file = λ q. absurd cc }, ap (λ (t : Tree). settle t) (sym effect), enter_place v.all h j path lt held)
+        (λ q. absurd cc) ends (stage_walk h None None u2) b pos (λ l q. (then_ l u3 q owned).wp)
+      where
+        E : Node
+        E = with_entry e j X
+
+        u1 : World
+        u1 = record v { disk = put v.disk d (Some E) }
+
+        T : Tree
+        T = held_tree v.all (put v.all.nodes d (Some E)) h None
+
+        made : Made
+        made = record { all = T; walk = None; found = None; opened = None; entered = None; left = None; told = Some (record { act = record { step = EnterStep path; answer = Done }; new = 0 }) }
+
+        mine : (v.harts h).walk ≡ Some (record { step = EnterStep path; at = d; next = e; rest = [] })
+        mine = ap (λ (o : Own). o.mine.walk) ov ∙ walks
+
+        held : v.all.holds h ≡ Some (high j)
+        held = ap (λ (o : Own). o.row.hold) ov ∙ holds
+
+        nd : v.all.nodes d ≡ Some X
+        nd = has_node h d v O x ov isd ∙ xn
+
+        live_at : live_directory (v.all.nodes d) ≡ true
+        live_at = ap (λ (o : Option Node). live_directory o) nd ∙ live
+
+        look_is : look v.all.nodes d e ≡ None
+        look_is = look_same (λ i. Some X) v.all.nodes d e nd ∙ finds
+
+        goes : refusal_with v.all h (EnterStep path) None (Some (d, e)) ≡ None
+        goes = enter_goes v.all h d e path None look_is
+
+        effect : effect_with v.all h (EnterStep path) None (Some (d, e)) 0 (new_id v) ≡ T
+        effect = enter_effect v.all h d j (new_id v) X e path None held nd
+
+        well : IsWellFormed T
+        well = subst (λ (t : Tree). IsWellFormed t) effect (effect_well v.all h (EnterStep path) None (Some (d, e)) 0 (new_id v) inv.well lt (enter_placed v.all h j path held) (λ i q. absurd cc)
+            (λ p q. let s : (d, e) ≡ p = cc in subst (λ (o : ℕ × Name). live_directory (v.all.nodes o.0) ≡ true) s live_at) goes (record { node = λ q. absurd cc; file = λ q. absurd cc }))
+
+        wr : Writes h d (Some E) x O v
+        wr = writes h d (Some E) x O v free lt joined inv ov isd
+
+        O1 : Own
+        O1 = record O { inodes = put O.inodes d (Some (record x { disk = Some E })) }
+
+        t : Turned h d E None (record x { disk = Some E }) u1 O1
+        t = turned h d E None (record x { disk = Some E }) u1 O1 wr.owned free joined lt wr.fair.inv none (put_same O.inodes d (Some (record x { disk = Some E }))) shared
+            (sym (ap (λ (z : Option Node). sort_of z) nd ∙ ap (λ (s : Sort). Some s) (directory_sort X live))) (λ i q. absurd cc) well
+
+        u2 : World
+        u2 = held_world (put v.all.nodes d (Some E)) h None u1
+
+        u3 : World
+        u3 = record u2 { harts = with_walk v.harts h None None }
+
+        ends : Fair h v u3
+        ends = fair_then wr.fair (fair_then t.fair (fair t.fair.inv (walk_did h None None u2 (ap (λ (z : Own). z.desk.lender) t.owned ∙ free) lt t.fair.inv (ap (λ (z : Own). z.mine.pending) t.owned ∙ none) (λ q r e. absurd cc) (λ q r. absurd cc) (λ q r. absurd cc))))
+
+        owned : own_of h u3 ≡ record O { inodes = put O.inodes d (Some (record x { disk = Some E; node = Some E })); row = record (O.row) { hold = None }; mine = record { refs = O.mine.refs; walk = None; pending = None } }
+        owned = own_walk h None None u2 (record O1 { inodes = put O1.inodes d (Some (record x { disk = Some E; node = Some E })); row = record (O.row) { hold = None } }) t.owned
+            ∙ (λ z. record O { inodes = put_twice O.inodes d (Some (record x { disk = Some E })) (Some (record x { disk = Some E; node = Some E })) z; row = record (O.row) { hold = None }; mine = record { refs = O.mine.refs; walk = None; pending = None } })
