@@ -4,7 +4,7 @@ use Rattle.plain_tree.specs.Tree.{pieces, put, any_below, same_name, first_slot,
 use Rattle.plain_tree.specs.Steps.{entries, any_used, lowest_from, refusal_with, place_of, first_free, cleared, has_fd, effect_with, answer_with}
 use Rattle.tree_laws.specs.WellFormed.{sum_below, one_if}
 use Rattle.inode_machine.specs.Exec.{all_used, first_from}
-use Rattle.inode_machine.specs.Examples.{steps, OpenFinishes, StatFinishes, ReadFinishes, DupFinishes, CloseFinishes, MkdirFinishes, ChdirFinishes, UnlinkFinishes, CreateFinishes, WriteFinishes, WalkerFails, NoInodeLeft, NoBlockLeft, LinkFinishes, LinkToTaken, LinkBelowNothing, LinkToNoName, LinkOfNothing, LinkOfDirectory, NoBlockForName}
+use Rattle.inode_machine.specs.Examples.{doubled_to, doubles, steps, OpenFinishes, StatFinishes, ReadFinishes, DupFinishes, CloseFinishes, MkdirFinishes, ChdirFinishes, UnlinkFinishes, CreateFinishes, WriteFinishes, WalkerFails, NoInodeLeft, NoBlockLeft, LinkFinishes, LinkToTaken, LinkBelowNothing, LinkToNoName, LinkOfNothing, LinkOfDirectory, NoBlockForName, NoInodeForFile, NoBlockForFile, NoBlockForDirectory, NoBlockForPart, NoDescriptorToDouble, NoDescriptorToOpen, LinkOfMany}
 
 pub open_finishes : OpenFinishes
 unfolding pieces put any_below same_name first_slot look follow parent_from parent_of file_in is_named settle entries any_used lowest_from refusal_with place_of first_free cleared has_fd effect_with answer_with sum_below one_if all_used first_from steps
@@ -85,3 +85,31 @@ link_of_directory = (refl, refl)
 pub no_block_for_name : NoBlockForName
 unfolding pieces put any_below same_name first_slot look follow parent_from parent_of file_in is_named settle entries any_used lowest_from refusal_with place_of first_free cleared has_fd effect_with answer_with sum_below one_if all_used first_from steps
 no_block_for_name = (refl, refl)
+
+pub no_inode_for_file : NoInodeForFile
+unfolding pieces put any_below same_name first_slot look follow parent_from parent_of file_in is_named settle entries any_used lowest_from refusal_with place_of first_free cleared has_fd effect_with answer_with sum_below one_if all_used first_from steps
+no_inode_for_file = (refl, refl)
+
+pub no_block_for_file : NoBlockForFile
+unfolding pieces put any_below same_name first_slot look follow parent_from parent_of file_in is_named settle entries any_used lowest_from refusal_with place_of first_free cleared has_fd effect_with answer_with sum_below one_if all_used first_from steps
+no_block_for_file = (refl, refl)
+
+pub no_block_for_directory : NoBlockForDirectory
+unfolding pieces put any_below same_name first_slot look follow parent_from parent_of file_in is_named settle entries any_used lowest_from refusal_with place_of first_free cleared has_fd effect_with answer_with sum_below one_if all_used first_from steps
+no_block_for_directory = (refl, refl)
+
+pub no_block_for_part : NoBlockForPart
+unfolding pieces put any_below same_name first_slot look follow parent_from parent_of file_in is_named settle entries any_used lowest_from refusal_with place_of first_free cleared has_fd effect_with answer_with sum_below one_if all_used first_from steps
+no_block_for_part = (refl, refl)
+
+pub no_descriptor_to_double : NoDescriptorToDouble
+unfolding pieces put any_below same_name first_slot look follow parent_from parent_of file_in is_named settle entries any_used lowest_from refusal_with place_of first_free cleared has_fd effect_with answer_with sum_below one_if all_used first_from steps doubles doubled_to
+no_descriptor_to_double = (refl, refl)
+
+pub no_descriptor_to_open : NoDescriptorToOpen
+unfolding pieces put any_below same_name first_slot look follow parent_from parent_of file_in is_named settle entries any_used lowest_from refusal_with place_of first_free cleared has_fd effect_with answer_with sum_below one_if all_used first_from steps doubles doubled_to
+no_descriptor_to_open = (refl, refl)
+
+pub link_of_many : LinkOfMany
+unfolding pieces put any_below same_name first_slot look follow parent_from parent_of file_in is_named settle entries any_used lowest_from refusal_with place_of first_free cleared has_fd effect_with answer_with sum_below one_if all_used first_from steps
+link_of_many = refl

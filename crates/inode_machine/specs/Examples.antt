@@ -1,17 +1,21 @@
 -- Runs in which calls finish, from a fresh tree.
-use Rattle.std.specs.Prelude.{◌≡◌, ℕ, zero, suc, true, false, List, [], ◌∷◌, ◌++◌, codes}
+use Rattle.std.specs.Prelude.{◌≡◌, ℕ, zero, suc, true, false, List, [], ◌∷◌, ◌++◌, Some, codes}
 use Rattle.plain_tree.specs.declared.answer.Answer.TheVariants as answers
 use Rattle.plain_tree.specs.declared.answer.Cause.{Cause}
-use Rattle.plain_tree.specs.declared.answer.Cause.TheVariants.{NoEntry, Exists, IsDirectory}
-use Rattle.plain_tree.specs.declared.answer.Full.TheVariants.{Blocks, DiskInodes}
+use Rattle.plain_tree.specs.declared.answer.Cause.TheVariants.{NoEntry, Exists, IsDirectory, TooManyLinks}
+use Rattle.plain_tree.specs.declared.answer.Full.TheVariants.{Blocks, Descriptors, DiskInodes}
 use Rattle.plain_tree.specs.declared.answer.NodeType.TheVariants as types
 use Rattle.plain_tree.specs.declared.answer.Reply.{Reply}
 use Rattle.plain_tree.specs.declared.call.Call.{Call}
 use Rattle.plain_tree.specs.declared.call.Call.TheVariants as calls
-use Rattle.plain_tree.specs.Tree.{tree_of}
+use Rattle.plain_tree.specs.declared.node.Kind.TheVariants.{File}
+use Rattle.plain_tree.specs.Steps.{node_or, with_nodes}
+use Rattle.plain_tree.specs.Tree.{Tree, put, tree_of}
+use Rattle.plain_tree.specs.Widths.{count_limit}
 use Rattle.plain_tree.specs.Fresh.{fresh as fresh_tree}
 use Rattle.atomic_programs.specs.Calls.{Event, Start, Step, Finished, State, fresh, run}
 use Rattle.inode_machine.specs.World.{Outside, Room, RoomFor, Picks}
+use Rattle.inode_machine.specs.Exec.{with_entry}
 use Rattle.inode_machine.specs.Theory.{at_rest, covered_calls}
 
 abbrev pub first : State covered_calls
@@ -168,3 +172,45 @@ NoBlockLeft = NoRoom (makes 0 make_d 5 ++ Step 0 (Picks 2) ∷ steps 0 2 ++ Step
 
 abbrev pub NoBlockForName : Type 0
 NoBlockForName = NoRoom (makes_a ++ makes 0 link_ab 13 ++ Step 0 (RoomFor 0) ∷ steps 0 8 ++ makes 0 (calls.Fstat 0) 3) (one_link ∷ record { answer = answers.Full Blocks; call = link_ab } ∷ made_a ∷ [])
+
+-- So of a file that an open makes, and for its name; for a new directory's name; for a part of a write past its first byte.
+
+abbrev pub NoInodeForFile : Type 0
+NoInodeForFile = NoRoom (makes 0 make_a 10) (record { answer = answers.Full DiskInodes; call = make_a } ∷ [])
+
+abbrev pub NoBlockForFile : Type 0
+NoBlockForFile = NoRoom (makes 0 make_a 5 ++ Step 0 (Picks 2) ∷ steps 0 2 ++ Step 0 (RoomFor 0) ∷ steps 0 10) (record { answer = answers.Full Blocks; call = make_a } ∷ [])
+
+abbrev pub NoBlockForDirectory : Type 0
+NoBlockForDirectory = NoRoom (makes 0 make_d 5 ++ Step 0 (Picks 2) ∷ steps 0 3 ++ Step 0 (RoomFor 0) ∷ steps 0 10) (record { answer = answers.Full Blocks; call = make_d } ∷ [])
+
+abbrev pub write_ab : Call
+write_ab = calls.Write 0 (codes "AB")
+
+abbrev pub NoBlockForPart : Type 0
+NoBlockForPart = NoRoom (makes_a ++ makes 0 write_ab 1 ++ Step 0 (RoomFor 1) ∷ steps 0 3 ++ makes 0 (calls.Fstat 0) 3)
+    (record { answer = answers.Stat (record { device = 1; inode = 2; kind = types.File; nlink = 1; size = 1 }); call = calls.Fstat 0 } ∷ record { answer = answers.Full Blocks; call = write_ab } ∷ made_a ∷ [])
+
+-- All sixteen descriptors are of the root: there is none for one more, nor to open it again.
+
+unfoldable pub doubles : ℕ → List (Event Call Outside)
+doubles zero = []
+doubles (suc n) = makes 0 (calls.Dup 0) 2 ++ doubles n
+
+unfoldable pub doubled_to : ℕ → List Reply
+doubled_to zero = opened_root ∷ []
+doubled_to (suc n) = record { answer = answers.Fd (suc n); call = calls.Dup 0 } ∷ doubled_to n
+
+abbrev pub NoDescriptorToDouble : Type 0
+NoDescriptorToDouble = NoRoom (opens ++ doubles 15 ++ makes 0 (calls.Dup 0) 2) (record { answer = answers.Full Descriptors; call = calls.Dup 0 } ∷ doubled_to 15)
+
+abbrev pub NoDescriptorToOpen : Type 0
+NoDescriptorToOpen = NoRoom (opens ++ doubles 15 ++ makes 0 open_root 9) (record { answer = answers.Full Descriptors; call = open_root } ∷ doubled_to 15)
+
+-- A file has all the links that it may have. Of these names the tree has one, so it is none that a run comes to: the program alone is seen here.
+
+abbrev pub much_linked : Tree
+much_linked = let t : Tree = tree_of (fresh_tree 10) in with_nodes t (put (put t.nodes 1 (Some (with_entry (codes "a") 2 (node_or (t.nodes 1))))) 2 (Some (record { count = count_limit; kind = File [] })))
+
+abbrev pub LinkOfMany : Type 0
+LinkOfMany = replies (run covered_calls (makes 0 link_ab 11) (fresh covered_calls (at_rest much_linked))).finished ≡ refused link_ab TooManyLinks ∷ []

@@ -2,7 +2,7 @@
 //! call is right whatever the other harts do. The functions do nothing: each carries a law.
 #![tactic(auto)]
 
-ghost use Rattle.inode_machine.specs.Examples.{ChdirFinishes, CloseFinishes, CreateFinishes, DupFinishes, LinkBelowNothing, LinkFinishes, LinkOfDirectory, LinkOfNothing, LinkToNoName, LinkToTaken, MkdirFinishes, NoBlockLeft, NoBlockForName, NoInodeLeft, OpenFinishes, ReadFinishes, StatFinishes, UnlinkFinishes, WalkerFails, WriteFinishes};
+ghost use Rattle.inode_machine.specs.Examples.{ChdirFinishes, CloseFinishes, CreateFinishes, DupFinishes, LinkBelowNothing, LinkFinishes, LinkOfDirectory, LinkOfMany, LinkOfNothing, LinkToNoName, LinkToTaken, MkdirFinishes, NoBlockForDirectory, NoBlockForFile, NoBlockForName, NoBlockForPart, NoBlockLeft, NoDescriptorToDouble, NoDescriptorToOpen, NoInodeForFile, NoInodeLeft, OpenFinishes, ReadFinishes, StatFinishes, UnlinkFinishes, WalkerFails, WriteFinishes};
 ghost use Rattle.inode_machine.specs.Histories.{CallsHaveOneHistory, OneHartHasOneHistory};
 ghost use Rattle.inode_machine.specs.Theory.{CallsAreExplained, WorldsRest, WorldsStayInOrder, WorldsWithAFileRest};
 
@@ -69,4 +69,11 @@ pub fn calls_finish()
     ensures unfound { LinkOfNothing }
     ensures directory { LinkOfDirectory }
     ensures name { NoBlockForName }
+    ensures file_inode { NoInodeForFile }
+    ensures file_block { NoBlockForFile }
+    ensures directory_block { NoBlockForDirectory }
+    ensures part_block { NoBlockForPart }
+    ensures doubled { NoDescriptorToDouble }
+    ensures opened { NoDescriptorToOpen }
+    ensures many { LinkOfMany }
 {}

@@ -1,5 +1,5 @@
 -- Computed runs.
-use Rattle.inode_machine.proofs.Examples.{chdir_finishes, close_finishes, create_finishes, dup_finishes, mkdir_finishes, no_block_left, no_inode_left, open_finishes, read_finishes, stat_finishes, unlink_finishes, walker_fails, write_finishes, link_finishes, link_to_taken, link_below_nothing, link_to_no_name, link_of_nothing, link_of_directory, no_block_for_name}
+use Rattle.inode_machine.proofs.Examples.{chdir_finishes, close_finishes, create_finishes, dup_finishes, mkdir_finishes, no_block_left, no_inode_left, open_finishes, read_finishes, stat_finishes, unlink_finishes, walker_fails, write_finishes, link_finishes, link_to_taken, link_below_nothing, link_to_no_name, link_of_nothing, link_of_directory, no_block_for_name, no_inode_for_file, no_block_for_file, no_block_for_directory, no_block_for_part, no_descriptor_to_double, no_descriptor_to_open, link_of_many}
 use Rattle.inode_machine.proofs.calls_finish.Goals as goal
 
 pub returns-clause-open : goal.returns-clause-open
@@ -61,3 +61,24 @@ returns-clause-directory c = link_of_directory
 
 pub returns-clause-name : goal.returns-clause-name
 returns-clause-name c = no_block_for_name
+
+pub returns-clause-file_inode : goal.returns-clause-file_inode
+returns-clause-file_inode c = no_inode_for_file
+
+pub returns-clause-file_block : goal.returns-clause-file_block
+returns-clause-file_block c = no_block_for_file
+
+pub returns-clause-directory_block : goal.returns-clause-directory_block
+returns-clause-directory_block c = no_block_for_directory
+
+pub returns-clause-part_block : goal.returns-clause-part_block
+returns-clause-part_block c = no_block_for_part
+
+pub returns-clause-doubled : goal.returns-clause-doubled
+returns-clause-doubled c = no_descriptor_to_double
+
+pub returns-clause-opened : goal.returns-clause-opened
+returns-clause-opened c = no_descriptor_to_open
+
+pub returns-clause-many : goal.returns-clause-many
+returns-clause-many c = link_of_many
