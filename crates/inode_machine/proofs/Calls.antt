@@ -1,6 +1,5 @@
 -- The calls on descriptors are right, whatever the other harts do.
-use Rattle.std.proofs.Common.{◌≡◌, inl, inr, ℕ, ◌+◌, ◌-◌, ◌<◌, Bool, true, false, ◌&&◌, ◌==◌, nat_lt, List, [], ◌∷◌, ◌++◌, length, Option, Some, None, refl, sym, ◌∙◌, ap, subst, arith}
-use Rattle.std.proofs.lemmas.Bool.Decides.{nat_tests}
+use Rattle.std.proofs.Common.{◌≡◌, inl, inr, ℕ, ◌+◌, ◌-◌, ◌<◌, Bool, true, false, ◌==◌, List, [], ◌∷◌, ◌++◌, length, Option, Some, None, refl, sym, ◌∙◌, ap, subst, arith}
 use Rattle.atomic_programs.specs.Logic.{Safe, Laws}
 use Rattle.atomic_programs.specs.Calls.{Began, Begins, Begun, Ends, IsBeginning, Right, Lawful}
 use Rattle.plain_tree.specs.declared.answer.Cause.{Cause}
@@ -15,11 +14,10 @@ use Rattle.plain_tree.specs.Tree.{put}
 use Rattle.plain_tree.specs.Calls.{next_of, reply_of, had_room}
 use Rattle.plain_tree.specs.HartRow.{Row}
 use Rattle.tree_laws.specs.WellFormed.{one_if}
-use Rattle.tree_laws.proofs.Maps.{and_true, put_same, put_other, same_or}
+use Rattle.tree_laws.proofs.Maps.{put_same, put_other, same_or}
 use Rattle.tree_moves.specs.Moves.{Written}
 use Rattle.inode_machine.specs.World.{Desk, World, stage_of}
 use Rattle.inode_machine.specs.Inodes.{face_or, face_of}
-use Rattle.inode_machine.specs.Exec.{is_nothing}
 use Rattle.inode_machine.specs.Rules.{Held, Own, Others, Rests, own_of, Idle, Inv, machine}
 use Rattle.inode_machine.specs.Parts.{say}
 use Rattle.inode_machine.specs.Parts as parts

@@ -17,6 +17,7 @@ use Rattle.inode_machine.proofs.CreateCalls.{create_ok}
 use Rattle.inode_machine.proofs.Unlinks.{unlink_begins, unlink_ok}
 use Rattle.inode_machine.proofs.Mkdirs.{mkdir_begins, mkdir_ok}
 use Rattle.inode_machine.proofs.LinkCalls.{link_begins, link_ok}
+use Rattle.inode_machine.proofs.InheritStarts.{inherit_right}
 
 covered_right : IsRight is_covered is_covered
 covered_right h (calls.Open path flags) busy w u lt here out idle free is = right is_covered h (calls.Open path flags) busy w u idle free is (open_begins path flags) (λ holds i. by_flag (creates flags) refl holds i)
@@ -33,7 +34,7 @@ covered_right h (calls.Chdir path) busy w u lt here out idle free is = right is_
 covered_right h (calls.Dup fd) busy w u lt here out idle free is = descriptors_right is_covered h (calls.Dup fd) busy w u lt refl out idle free is
 covered_right h (calls.Fstat fd) busy w u lt here out idle free is = descriptors_right is_covered h (calls.Fstat fd) busy w u lt refl out idle free is
 covered_right h (calls.Close fd) busy w u lt here out idle free is = descriptors_right is_covered h (calls.Close fd) busy w u lt refl out idle free is
-covered_right h (calls.Inherit child) busy w u lt here out idle free is = absurd cc
+covered_right h (calls.Inherit child) busy w u lt here out idle free is = inherit_right h child busy w u lt out idle free is
 
 pub lawful : Lawful covered_calls
 lawful = lawful_that is_covered covered_right

@@ -3,6 +3,7 @@ pub mod Rules
 pub mod Rows
 pub mod Tables
 pub mod Counting
+pub mod Both
 pub mod Numbers
 pub mod Walking
 pub mod Freeing
@@ -37,6 +38,13 @@ pub mod Paths
 pub mod Namings
 pub mod Unlinks
 pub mod Openings
+pub mod Handings
+pub mod Turnings
+pub mod Lendings
+pub mod Movings
+pub mod Releases
+pub mod Inherits
+pub mod InheritStarts
 pub mod Unopens
 pub mod Installs
 pub mod Slots

@@ -149,7 +149,7 @@ first_is (suc more) from p i e = at (p from) refl e (first_is more (from + 1) p 
     }
 
 -- one is found where there is one
-first_some : (more from : ℕ) (p : ℕ → Bool) (k : ℕ) → from ≤ k → k < from + more → p k ≡ true → (i : ℕ) × (first_from more from p ≡ Some i)
+pub first_some : (more from : ℕ) (p : ℕ → Bool) (k : ℕ) → from ≤ k → k < from + more → p k ≡ true → (i : ℕ) × (first_from more from p ≡ Some i)
 unfolding first_from
 first_some zero from p k a b q = absurd (omega (arith, a, b))
 first_some (suc more) from p k a b q = at (p from) refl (λ ne. first_some more (from + 1) p k (omega (arith, a, ne)) (omega (arith, b)) q)

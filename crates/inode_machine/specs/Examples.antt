@@ -13,10 +13,10 @@ use Rattle.plain_tree.specs.Steps.{node_or, with_nodes}
 use Rattle.plain_tree.specs.Tree.{Tree, put, tree_of}
 use Rattle.plain_tree.specs.Widths.{count_limit}
 use Rattle.plain_tree.specs.Fresh.{fresh as fresh_tree}
-use Rattle.atomic_programs.specs.Calls.{Event, Start, Step, Finished, State, fresh, run}
+use Rattle.atomic_programs.specs.Calls.{Came, Event, Start, Step, Started, Refused, WasIdle, DidWait, DidRun, DidEnd, DidStop, WasStopped, Finished, State, fresh, outcomes, run}
 use Rattle.inode_machine.specs.World.{Outside, Room, RoomFor, Picks}
 use Rattle.inode_machine.specs.Exec.{with_entry}
-use Rattle.inode_machine.specs.Theory.{at_rest, covered_calls}
+use Rattle.inode_machine.specs.Theory.{at_rest, covered_calls, Refusal, NoSuchHart, Busy, NotEmptyHart}
 
 abbrev pub first : State covered_calls
 first = fresh covered_calls (at_rest (tree_of (fresh_tree 10)))
@@ -145,6 +145,50 @@ LinkOfNothing = Finishes (makes 0 (calls.Link (codes "/x") (codes "/b")) 7) (ref
 
 abbrev pub LinkOfDirectory : Type 0
 LinkOfDirectory = Finishes (makes 0 (calls.Link (codes "/") (codes "/b")) 7) (refused (calls.Link (codes "/") (codes "/b")) IsDirectory ∷ [])
+
+-- Hart 0 hands the open root on: both read on from one offset, and the child starts calls again.
+abbrev pub inherits : List (Event Call Outside)
+inherits = opens ++ makes 0 (calls.Inherit 1) 6
+
+abbrev pub read_by : List ℕ → Reply
+read_by bytes = record { answer = answers.Count 2; call = calls.Read 0 bytes }
+
+abbrev pub InheritFinishes : Type 0
+InheritFinishes = Finishes (inherits ++ makes 0 (calls.Read 0 (7 ∷ 7 ∷ [])) 3 ++ makes 1 (calls.Read 0 (7 ∷ 7 ∷ [])) 3) (read_by (46 ∷ 0 ∷ []) ∷ read_by (1 ∷ 0 ∷ []) ∷ done (calls.Inherit 1) ∷ opened_root ∷ [])
+
+-- Without descriptors the directory alone is handed on: the child opens it.
+abbrev pub open_here : Call
+open_here = calls.Open [] 0
+
+abbrev pub InheritMoves : Type 0
+InheritMoves =
+    Finishes (makes_d ++ makes 0 (calls.Chdir (codes "/d")) 11 ++ makes 0 (calls.Inherit 1) 5 ++ makes 1 open_here 8 ++ makes 1 (calls.Fstat 0) 3)
+    (record { answer = answers.Stat (record { device = 1; inode = 2; kind = types.Directory; nlink = 1; size = 32 }); call = calls.Fstat 0 } ∷ record { answer = answers.Fd 0; call = open_here } ∷ done (calls.Inherit 1) ∷ done (calls.Chdir (codes "/d")) ∷ done make_d ∷ [])
+
+-- Where the child was the last one in a removed directory, that is freed.
+abbrev pub InheritFrees : Type 0
+InheritFrees =
+    Finishes (makes_d ++ makes 1 (calls.Chdir (codes "/d")) 11 ++ makes 0 (calls.Unlink (codes "/d")) 16 ++ makes 0 (calls.Inherit 1) 8)
+    (done (calls.Inherit 1) ∷ done (calls.Unlink (codes "/d")) ∷ done (calls.Chdir (codes "/d")) ∷ done make_d ∷ [])
+
+-- Starts that are refused: of no hart; of a child that is none, or is the caller, or has descriptors; of a child while another hands its own to it, and of it
+-- by a third one; of a child that has a call.
+abbrev pub refusals : List (Came covered_calls) → List Refusal
+refusals [] = []
+refusals (Refused why ∷ cs) = why ∷ refusals cs
+refusals (Started ∷ cs) = refusals cs
+refusals (WasIdle ∷ cs) = refusals cs
+refusals (DidWait ∷ cs) = refusals cs
+refusals (DidRun did ∷ cs) = refusals cs
+refusals (DidEnd reply ∷ cs) = refusals cs
+refusals (DidStop ∷ cs) = refusals cs
+refusals (WasStopped ∷ cs) = refusals cs
+
+abbrev pub refused_starts : List (Event Call Outside)
+refused_starts = Start 8 (calls.Dup 0) ∷ Start 1 (calls.Inherit 8) ∷ Start 1 (calls.Inherit 1) ∷ Start 1 (calls.Inherit 0) ∷ Start 0 (calls.Inherit 1) ∷ Start 1 (calls.Dup 0) ∷ Start 2 (calls.Inherit 1) ∷ Start 2 (calls.Inherit 0) ∷ []
+
+abbrev pub StartsRefused : Type 0
+StartsRefused = refusals (outcomes covered_calls (opens ++ refused_starts) first) ≡ NoSuchHart ∷ NoSuchHart ∷ Busy ∷ NotEmptyHart ∷ Busy ∷ Busy ∷ Busy ∷ []
 
 -- Two harts: hart 1 walks to the directory, hart 0 removes it under it, and hart 1 frees it at its call's end.
 

@@ -2,17 +2,17 @@
 //! call is right whatever the other harts do. The functions do nothing: each carries a law.
 #![tactic(auto)]
 
-ghost use Rattle.inode_machine.specs.Examples.{ChdirFinishes, CloseFinishes, CreateFinishes, DupFinishes, LinkBelowNothing, LinkFinishes, LinkOfDirectory, LinkOfMany, LinkOfNothing, LinkToNoName, LinkToTaken, MkdirFinishes, NoBlockForDirectory, NoBlockForFile, NoBlockForName, NoBlockForPart, NoBlockLeft, NoDescriptorToDouble, NoDescriptorToOpen, NoInodeForFile, NoInodeLeft, OpenFinishes, ReadFinishes, StatFinishes, UnlinkFinishes, WalkerFails, WriteFinishes};
+ghost use Rattle.inode_machine.specs.Examples.{ChdirFinishes, CloseFinishes, CreateFinishes, DupFinishes, InheritFinishes, InheritFrees, InheritMoves, LinkBelowNothing, LinkFinishes, LinkOfDirectory, LinkOfMany, LinkOfNothing, LinkToNoName, LinkToTaken, MkdirFinishes, NoBlockForDirectory, NoBlockForFile, NoBlockForName, NoBlockForPart, NoBlockLeft, NoDescriptorToDouble, NoDescriptorToOpen, NoInodeForFile, NoInodeLeft, OpenFinishes, ReadFinishes, StartsRefused, StatFinishes, UnlinkFinishes, WalkerFails, WriteFinishes};
 ghost use Rattle.inode_machine.specs.Histories.{CallsHaveOneHistory, OneHartHasOneHistory};
 ghost use Rattle.inode_machine.specs.Theory.{CallsAreExplained, WorldsRest, WorldsStayInOrder, WorldsWithAFileRest};
 
-/// For every list of events of any harts, the replies of dup, close, fstat, read, write, chdir, unlink, mkdir, link and
-/// open, with any flags, of pieces and paths of any length, are those of one list of moves on the tree, each made
-/// between its call's start and return, as long as no step found no room. A move of a call on descriptors is a tree
-/// step; those of a path are its walk's beginning, its lookups and the step that acts at the last one, as in the crate
-/// tree_moves. At every moment each hart's next operation may be made, an operation waits only for a lock that another
-/// hart has, no call takes more steps than its bound, and a hart without a call has no lock, no transaction, and the
-/// references of its descriptors and current directory alone.
+/// For every list of events of any harts, the replies of all eleven calls, with any flags, of pieces and paths of any length,
+/// are those of one list of moves on the tree, each made between its call's start and return, as long as no step found no
+/// room. A move of a call on descriptors, or of an inherit, is a tree step; those of a path are its walk's beginning, its
+/// lookups and the step that acts at the last one, as in the crate tree_moves. At every moment each hart's next operation may
+/// be made, an operation waits only for a lock that another hart has, no call takes more steps than its bound, and a hart
+/// without a call has no lock, no transaction, and the references of its descriptors and current directory alone. A hart that
+/// gets another's descriptors starts nothing until it has them all and the directory.
 pub fn calls_are_explained()
     ensures { CallsAreExplained }
 {}
@@ -47,7 +47,7 @@ pub fn worlds_with_a_file_rest()
 {}
 
 /// There are runs, computed from a fresh tree, in which calls finish; one in which a hart's directory is removed under it
-/// and it frees that itself; and some in which no room is found.
+/// and it frees that itself; some in which no room is found; and starts that are refused.
 pub fn calls_finish()
     ensures open { OpenFinishes }
     ensures stat { StatFinishes }
@@ -59,6 +59,10 @@ pub fn calls_finish()
     ensures unlink { UnlinkFinishes }
     ensures create { CreateFinishes }
     ensures write { WriteFinishes }
+    ensures inherit { InheritFinishes }
+    ensures moves { InheritMoves }
+    ensures frees { InheritFrees }
+    ensures refused { StartsRefused }
     ensures removed { WalkerFails }
     ensures inodes { NoInodeLeft }
     ensures blocks { NoBlockLeft }

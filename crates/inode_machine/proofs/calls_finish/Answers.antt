@@ -1,5 +1,5 @@
 -- Computed runs.
-use Rattle.inode_machine.proofs.Examples.{chdir_finishes, close_finishes, create_finishes, dup_finishes, mkdir_finishes, no_block_left, no_inode_left, open_finishes, read_finishes, stat_finishes, unlink_finishes, walker_fails, write_finishes, link_finishes, link_to_taken, link_below_nothing, link_to_no_name, link_of_nothing, link_of_directory, no_block_for_name, no_inode_for_file, no_block_for_file, no_block_for_directory, no_block_for_part, no_descriptor_to_double, no_descriptor_to_open, link_of_many}
+use Rattle.inode_machine.proofs.Examples.{chdir_finishes, close_finishes, create_finishes, dup_finishes, mkdir_finishes, no_block_left, no_inode_left, open_finishes, read_finishes, stat_finishes, unlink_finishes, walker_fails, write_finishes, link_finishes, link_to_taken, link_below_nothing, link_to_no_name, link_of_nothing, link_of_directory, no_block_for_name, no_inode_for_file, no_block_for_file, no_block_for_directory, no_block_for_part, no_descriptor_to_double, no_descriptor_to_open, link_of_many, inherit_finishes, inherit_frees, inherit_moves, starts_refused}
 use Rattle.inode_machine.proofs.calls_finish.Goals as goal
 
 pub returns-clause-open : goal.returns-clause-open
@@ -82,3 +82,15 @@ returns-clause-opened c = no_descriptor_to_open
 
 pub returns-clause-many : goal.returns-clause-many
 returns-clause-many c = link_of_many
+
+pub returns-clause-inherit : goal.returns-clause-inherit
+returns-clause-inherit c = inherit_finishes
+
+pub returns-clause-moves : goal.returns-clause-moves
+returns-clause-moves c = inherit_moves
+
+pub returns-clause-frees : goal.returns-clause-frees
+returns-clause-frees c = inherit_frees
+
+pub returns-clause-refused : goal.returns-clause-refused
+returns-clause-refused c = starts_refused
