@@ -107,5 +107,11 @@ found_in n v AtNothing = None
 found_in n v (AtName e) = look (λ j. v) n e
 found_in n v AtEntries = None
 
+-- told where it was looked for, and taken for empty elsewhere
+abbrev pub empty_in : Option Node → Looking → Bool
+empty_in v AtNothing = true
+empty_in v (AtName e) = true
+empty_in v AtEntries = is_empty_node v
+
 abbrev pub seen_in : ℕ → Looking → Option Node → Seen
-seen_in n looking v = record { face = face_of v; found = found_in n v looking; empty = is_empty_node v }
+seen_in n looking v = record { face = face_of v; found = found_in n v looking; empty = empty_in v looking }
