@@ -1,5 +1,6 @@
 -- With the history that is the operations themselves.
 use Rattle.std.proofs.Common.{◌<◌, ◌≡◌, inl, ℕ, List, [], ◌∷◌, ◌++◌, Option, refl, sym, ◌∙◌, ap, subst}
+use Rattle.fs_layout.specs.declared.superblock.Super.{Super}
 use Rattle.plain_tree.specs.Widths.{hart_count}
 use Rattle.atomic_programs.specs.Logic.{Laws, onto}
 use Rattle.atomic_programs.specs.Joined.{Lasts}
@@ -7,9 +8,9 @@ use Rattle.inode_machine.specs.World as above
 use Rattle.inode_machine.specs.Rules.{Own}
 use Rattle.inodes_on_blocks.specs.Lowering.{Kept, Keeps}
 use Rattle.inodes_on_blocks.specs.Handlers.{Handler}
-use Rattle.inodes_on_blocks.specs.Acting.{ActsOnce, alone, Done, whole, IsDone, Answers, DoesIt}
+use Rattle.inodes_on_blocks.specs.Acting.{ActsOnceAt, ActsOnce, alone, Done, whole, IsDone, Answers, DoesItAt, DoesIt}
 
-kept_then : (h : ℕ) (u v w : above.World) → Kept h u v → Kept h v w → Kept h u w
+pub kept_then : (h : ℕ) (u v w : above.World) → Kept h u v → Kept h v w → Kept h u w
 kept_then h u v w a b = record {
   same = λ free. b.same (ap (λ (o : Own). o.desk.lender) (a.same free) ∙ free) ∙ a.same free;
   rests = λ i. b.rests (a.rests i);
@@ -34,4 +35,7 @@ lasts_done : (op : above.Op) (h : ℕ) → Lasts whole h (IsDone op) (Answers op
 lasts_done op h a fs xs v u o i c = ((λ y. inl o.0), subst (λ (ys : List Done). onto ys fs ≡ (op, a) ∷ []) (sym o.0) c)
 
 pub does_it : (op : above.Op) (p : Handler op) → ((h : ℕ) → h < hart_count → (m : above.Answer op → Option above.Mark) → ActsOnce alone h op m p) → DoesIt op p
-does_it op p acts h m c w lt todo base = acts h lt m c (IsDone op) (Answers op) [] w (lasts_done op h) todo base
+does_it op p acts sizes h m c w lt todo stands = acts h lt m sizes c (IsDone op) (Answers op) [] w (lasts_done op h) todo stands
+
+pub does_it_at : (sizes : Super) (op : above.Op) (p : Handler op) → ((h : ℕ) → h < hart_count → (m : above.Answer op → Option above.Mark) → ActsOnceAt sizes alone h op m p) → DoesItAt sizes op p
+does_it_at sizes op p acts h m c w lt todo stands = acts h lt m c (IsDone op) (Answers op) [] w (lasts_done op h) todo stands

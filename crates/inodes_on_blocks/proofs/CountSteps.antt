@@ -96,7 +96,7 @@ module _ (l : Labels) (laws : Laws (labelled l)) (keeps : Keeps l) (h : ℕ) (lt
       let range = found_number h n v.seen inv may.1 in (
         (in_word n v shows range.size, subst (λ (k : ℕ). k + 1 < 2 ^ 32) (shows.tables.places.counts n) range.room),
         λ x t.
-            subst (λ (d : Did (Option ℕ) World). CameTo l laws keeps h (Up n) v ⊥ d is_some (λ a. c)) (sym (in_tables_is h (steps.Up (Number n)) v.real (λ a o. refl) (up_inode n (tables_of v.real))))
+            subst (λ (d : Did (Option ℕ) World). CameTo l laws keeps h (Up n) v ⊥ d is_some (λ a. c)) (sym (in_tables_is h (steps.Up (Number n)) v.real (λ a o. refl) (λ s. refl) (up_inode n (tables_of v.real))))
             (up_to (Up n) n v c is_some true false refl refl shows base may.0 range (λ e. ap (up_if h n v.seen) e) (λ e. ap (up_if h n v.seen) e)),
       ))
 
@@ -108,7 +108,7 @@ module _ (l : Labels) (laws : Laws (labelled l)) (keeps : Keeps l) (h : ℕ) (lt
       let range = start_is_number h true v.seen lt inv in (
         (in_word root v shows range.size, subst (λ (k : ℕ). k + 1 < 2 ^ 32) (shows.tables.places.counts root) range.room),
         λ x t.
-            subst (λ (d : Did (Option ℕ) World). CameTo l laws keeps h (UpStart true) v ⊥ d (λ a. a) (λ a. c)) (sym (in_tables_is h (steps.Up (Number root)) v.real (λ a o. refl) (up_inode root (tables_of v.real))))
+            subst (λ (d : Did (Option ℕ) World). CameTo l laws keeps h (UpStart true) v ⊥ d (λ a. a) (λ a. c)) (sym (in_tables_is h (steps.Up (Number root)) v.real (λ a o. refl) (λ s. refl) (up_inode root (tables_of v.real))))
             (up_to (UpStart true) root v c (λ a. a) (Some root) None refl refl shows base may.0 range (λ e. ap (start_if h root v.seen) e) (λ e. ap (start_if h root v.seen) e)),
       ))
   up_start_acts false m =
@@ -126,7 +126,7 @@ module _ (l : Labels) (laws : Laws (labelled l)) (keeps : Keeps l) (h : ℕ) (lt
         ),
         λ x t.
             subst (λ (d : Did (Option ℕ) World). CameTo l laws keeps h (UpStart false) v ⊥ d (λ a. a) (λ a. c))
-            (sym (in_tables_is h (steps.Up Directory) v.real (λ a o. refl) (up_directory h (tables_of v.real)) ∙ ap (did_in (with_tables v.real)) (directories_are_starts h (tables_of v.real) v.seen (loaded (tables_of v.real)) shows.tables lt)))
+            (sym (in_tables_is h (steps.Up Directory) v.real (λ a o. refl) (λ s. refl) (up_directory h (tables_of v.real)) ∙ ap (did_in (with_tables v.real)) (directories_are_starts h (tables_of v.real) v.seen (loaded (tables_of v.real)) shows.tables lt)))
             (up_to (UpStart false) (v.seen.desks h).directory v c (λ a. a) (Some (v.seen.desks h).directory) None refl refl shows base may.0 range (λ e. ap (start_if h (v.seen.desks h).directory v.seen) e) (λ e. ap (start_if h (v.seen.desks h).directory v.seen) e)),
       ))
 
@@ -301,7 +301,7 @@ module _ (l : Labels) (laws : Laws (labelled l)) (keeps : Keeps l) (h : ℕ) (lt
       (λ v c shows inv base may. (
         (fewer_owed n (tables_of v.real) v.seen (loaded (tables_of v.real)) shows.tables inv h lt may.1.0, λ one. sym (shows.tables.places.holders n) ∙ last_free n v.seen inv (some_here n v.seen may.1.0) may.1.1 (shows.tables.places.counts n ∙ one)),
         λ x t.
-            subst (λ (d : Did DroppedState World). CameTo l laws keeps h (WalkDown n) v ⊥ d is_kept (λ a. c)) (sym (in_tables_is h (steps.Down (Walked n)) v.real (λ a o. refl) (drop_walked n (tables_of v.real))))
+            subst (λ (d : Did DroppedState World). CameTo l laws keeps h (WalkDown n) v ⊥ d is_kept (λ a. c)) (sym (in_tables_is h (steps.Down (Walked n)) v.real (λ a o. refl) (λ s. refl) (drop_walked n (tables_of v.real))))
             (by v c shows base may.0 may.1.1 (is_last v.seen n) refl (drop_walked n (tables_of v.real)) (walks_drop_references h n (tables_of v.real) v.seen (loaded (tables_of v.real)) shows.tables (may_die n v shows inv may.1))),
       ))
     where
@@ -329,7 +329,7 @@ module _ (l : Labels) (laws : Laws (labelled l)) (keeps : Keeps l) (h : ℕ) (lt
       (λ v c shows inv base may. (
         (fewer_owed n (tables_of v.real) v.seen (loaded (tables_of v.real)) shows.tables inv h lt may.1.0, λ one. sym (shows.tables.places.holders n) ∙ last_free n v.seen inv (some_here n v.seen may.1.0) may.1.1 (shows.tables.places.counts n ∙ one)),
         λ x t.
-            subst (λ (d : Did DroppedState World). CameTo l laws keeps h (Down n) v ⊥ d is_kept (with_dying c)) (sym (in_tables_is h (steps.Down (Held n)) v.real (λ a o. refl) (drop_inode h n (tables_of v.real))))
+            subst (λ (d : Did DroppedState World). CameTo l laws keeps h (Down n) v ⊥ d is_kept (with_dying c)) (sym (in_tables_is h (steps.Down (Held n)) v.real (λ a o. refl) (λ s. refl) (drop_inode h n (tables_of v.real))))
             (by v c shows base may.0 (may_die n v shows inv may.1) may.1.1 (is_last v.seen n) refl (drop_inode h n (tables_of v.real)) (references_are_dropped h n (tables_of v.real) v.seen (loaded (tables_of v.real)) shows.tables (may_die n v shows inv may.1))),
       ))
     where

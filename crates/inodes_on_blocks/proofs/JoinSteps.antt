@@ -30,12 +30,13 @@ use Rattle.inodes_on_tables.specs.Shown as tables
 use Rattle.inodes_on_tables.specs.Shown.{loaded, descriptor, first, lent_by, place_with}
 use Rattle.inodes_on_tables.proofs.Desks.{part_same, taken_same, lenders_set}
 use Rattle.inodes_on_blocks.specs.OnBlocks.{is_joined, Ghost, AreOnBlocks}
-use Rattle.inodes_on_blocks.specs.Below.{World, log_of, tables_of, came_to}
+use Rattle.inodes_on_blocks.specs.Below.{World, log_of, tables_of, disk_of, came_to}
 use Rattle.inodes_on_blocks.specs.Shown.{Shows, if_joined, ghost_of}
 use Rattle.inodes_on_blocks.specs.Lowering.{Carry, Base, Labels, labelled, Keeps}
 use Rattle.inodes_on_blocks.specs.Handlers.{join}
 use Rattle.inodes_on_blocks.specs.Acting.{ActsOnce}
 use Rattle.inodes_on_blocks.proofs.Quiet.{join_keeps}
+use Rattle.inodes_on_blocks.proofs.Layer.{untouched_same}
 use Rattle.inodes_on_blocks.proofs.Stepping.{Came, CameTo, one_step}
 
 -- a desk that differs in whether its hart has joined
@@ -98,6 +99,8 @@ module _ (l : Labels) (laws : Laws (labelled l)) (keeps : Keeps l) (h : ℕ) (lt
     ];
     blocks = subst (λ (x : Ghost). AreOnBlocks (log_of v.real).contents (log_of v.real).seats (log_of v.real).sizes (slice_set (log_of v.real).members h (Some 0)) x) (sym ghost)
         (join_keeps (log_of v.real).contents (log_of v.real).seats (log_of v.real).sizes (log_of v.real).members (ghost_of v.real.owner v.real.left v.seen.disk v.seen.lock v.seen.desks) shows.blocks h 0);
+    bytes = shows.bytes;
+    taken = shows.taken;
     loads = record { seen = shows.loads.seen; dead = shows.loads.dead; typed = shows.loads.typed };
   }
     where
@@ -115,15 +118,18 @@ module _ (l : Labels) (laws : Laws (labelled l)) (keeps : Keeps l) (h : ℕ) (lt
     free = part_same (λ d. d.lender) v.seen.desks h (record (v.seen.desks h) { joined = true }) h refl ∙ free;
     shows = joined_shows v shows none whole;
     same = λ other ne. record {
-      inodes = λ i e. record { lock = e; same = refl; holds = λ n x. x };
+      inodes = λ i e. record { lock = e; untouched = untouched_same (disk_of (log_of v.real)) v.real.owner i };
       no_more = λ i e. e;
       buffers = λ b. refl;
       held = refl;
+      sizes = refl;
+      taken = λ b. refl;
       member = slice_get-set_other (log_of v.real).members h other (Some 0) ne;
       commit = refl;
     };
     base = record {
       free = base.free;
+      taken = base.taken;
       rests = base.rests;
       inodes = λ i e. absurd (none i (shows.tables.places.holders i ∙ e));
       lent = λ some. absurd (some (part_same (λ d. d.lender) v.seen.desks h (record (v.seen.desks h) { joined = true }) h refl ∙ free));

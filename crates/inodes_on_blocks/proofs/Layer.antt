@@ -1,17 +1,22 @@
 -- What the others leave to a hart below, and what a step on the tables leaves to them.
-use Rattle.std.proofs.Common.{◌≡◌, ◌≢◌, ◌⊎◌, inl, inr, ℕ, Option, Some, None, refl, sym, ◌∙◌, ap, subst}
+use Rattle.std.proofs.Common.{◌≡◌, ◌≢◌, ◌⊎◌, inl, inr, ℕ, List, Option, Some, None, refl, sym, ◌∙◌, ap, subst}
 use Rattle.std.proofs.lemmas.Option.{none-some}
 use Rattle.fs_layout.specs.declared.inode.Dinode.{Dinode}
+use Rattle.fs_layout.specs.declared.superblock.Super.{Super}
+use Rattle.image_tree.specs.Checks.{IsData}
 use Rattle.plain_tree.specs.declared.node.Node.{Node}
 use Rattle.image_laws.specs.Holds.{HoldsAt}
+use Rattle.image_laws.specs.Puts.{IsUntouched}
+use Rattle.image_laws.proofs.HeldFrames.{untouched}
 use Rattle.atomic_programs.specs.Joined.{LowerLaws}
 use Rattle.fs_tables.specs.Tables.{TablesState, holder_of as lock_holder}
+use Rattle.fs_machine.specs.Shown.{seen_of}
 use Rattle.inode_machine.specs.World as above
 use Rattle.inode_machine.specs.Rules.{Own, Held, if_kept, own_of, view, Idle}
 use Rattle.inode_machine.proofs.Frame.{Ours, not_ours, kept_is, kept_here, has_inode}
 use Rattle.inodes_on_tables.specs.Shown as tables
 use Rattle.inodes_on_blocks.specs.Below.{World, log_of, tables_of, disk_of, inode_in}
-use Rattle.inodes_on_blocks.specs.Lowering.{Same, Kept, Carry, IsLoaded, Base, below, Labels, labelled, Keeps}
+use Rattle.inodes_on_blocks.specs.Lowering.{KeepsInode, Same, Kept, Carry, IsLoaded, InHand, Base, below, Labels, labelled, Keeps}
 use Rattle.inodes_on_blocks.proofs.Marked.{SameCode}
 
 -- what is held at one end is held at the other
@@ -32,50 +37,91 @@ kept_disk h i g u kept lent is = by (g.desks h).lender refl
         (q.0, ap (λ (x : Held). x.disk) q.1)
     by (Some l) e = absurd (keeps_none h i g (lent (λ z. none-some l (sym z ∙ e))) is)
 
-pub below_laws : (l : Labels) → Keeps l → LowerLaws (labelled l) below
-below_laws l keeps =
+-- ---- an inode that is left as it is
+
+-- by a step that changes no seen block
+pub untouched_same : (disk : List (List ℕ)) (owner : ℕ → ℕ) (i : ℕ) → IsUntouched disk disk owner owner i
+untouched_same disk owner i = record { sizes = refl; inode = refl; blocks = λ b block own. (refl, own); alone = λ b block own. own }
+
+pub untouched_then : (old mid new : List (List ℕ)) (o p q : ℕ → ℕ) (i : ℕ) → IsUntouched old mid o p i → IsUntouched mid new p q i → IsUntouched old new o q i
+untouched_then old mid new o p q i a b = record {
+  sizes = b.sizes ∙ a.sizes;
+  inode = b.inode ∙ a.inode;
+  blocks = λ c block own.
+      let x = a.blocks c block own in
+      let y = b.blocks c (subst (λ (s : Super). IsData s c) (sym a.sizes) block) x.1 in
+      (y.0 ∙ x.0, y.1);
+  alone = λ c block own. a.alone c block (b.alone c (subst (λ (s : Super). IsData s c) (sym a.sizes) block) own);
+}
+
+-- where the seen disk is as it was, and whose the blocks are
+pub kept_alike : (h i : ℕ) (v w : World) → lock_holder i (tables_of w) ≡ Some h → disk_of (log_of w) ≡ disk_of (log_of v) → w.owner ≡ v.owner → KeepsInode h i v w
+kept_alike h i v w lock disk owner = record {
+  lock = lock;
+  untouched =
+      subst (λ (d : List (List ℕ)). IsUntouched (disk_of (log_of v)) d v.owner w.owner i) (sym disk)
+      (subst (λ (o : ℕ → ℕ). IsUntouched (disk_of (log_of v)) (disk_of (log_of v)) v.owner o i) (sym owner) (untouched_same (disk_of (log_of v)) v.owner i));
+}
+
+-- ---- what a hart has in hand
+
+still_loaded : (o : Option Dinode) (m n : Option Node) (d e : Dinode) → n ≡ m → e ≡ d → IsLoaded o m d → IsLoaded o n e
+still_loaded None m n d e q p x = q ∙ x
+still_loaded (Some f) m n d e q p x = (x.0 ∙ sym p, λ z. x.1 (sym q ∙ z))
+
+-- of each inode whose lock it has
+abbrev pub AllInHand : ℕ → Carry → World → above.World → Type 0
+AllInHand h c r g = (i : ℕ) → lock_holder i (tables_of r) ≡ Some h → InHand h i (c i) r g
+
+pub in_hand_then : (h : ℕ) (c : Carry) (v w : World) (g u : above.World) → ((i : ℕ) → lock_holder i (tables_of v) ≡ Some h → KeepsInode h i v w)
+    → ((i : ℕ) → lock_holder i (tables_of w) ≡ Some h → lock_holder i (tables_of v) ≡ Some h) → Kept h g u → (((g.desks h).lender ≡ None → ⊥) → Idle h g) → AllInHand h c v g → AllInHand h c w u
+in_hand_then h c v w g u inodes no_more kept lent all i e =
+    let before = no_more i e in
+    let k = inodes i before in
+    let was = all i before in
+    let now = kept_disk h i g u kept lent was.keeps in
     record {
-      same = λ h w. record { inodes = λ i e. record { lock = e; same = refl; holds = λ n x. x }; no_more = λ i e. e; buffers = λ b. refl; held = refl; member = refl; commit = refl };
+      keeps = now.0;
+      loaded_is = still_loaded (c i) (g.disk i) (u.disk i) (inode_in (log_of v) i) (inode_in (log_of w) i) now.1 k.untouched.inode was.loaded_is;
+      holds =
+          subst (λ (n : Option Node). HoldsAt (disk_of (log_of w)) w.owner i n) (sym now.1)
+          (untouched (disk_of (log_of v)) (disk_of (log_of w)) v.owner w.owner i (g.disk i) k.untouched was.holds);
+    }
+
+pub lent_then : (h : ℕ) (g u : above.World) → Kept h g u → (((g.desks h).lender ≡ None → ⊥) → Idle h g) → ((u.desks h).lender ≡ None → ⊥) → Idle h u
+lent_then h g u kept lent some = by (g.desks h).lender refl
+  where
+    by : (o : Option ℕ) → (g.desks h).lender ≡ o → Idle h u
+    by None e = absurd (some (ap (λ (o : Own). o.desk.lender) (kept.same e) ∙ e))
+    by (Some l) e = kept.rests (lent (λ z. none-some l (sym z ∙ e)))
+
+pub below_laws : (sizes : Super) (l : Labels) → Keeps l → LowerLaws (labelled l) (below sizes)
+below_laws sizes l keeps =
+    record {
+      same = λ h w. record { inodes = λ i e. record { lock = e; untouched = untouched_same (disk_of (log_of w)) w.owner i }; no_more = λ i e. e; buffers = λ b. refl; held = refl; member = refl; sizes = refl; taken = λ b. refl; commit = refl };
       trans = λ h u v w p q. record {
-        inodes = λ i e. let a = p.inodes i e in let b = q.inodes i a.lock in record { lock = b.lock; same = b.same ∙ a.same; holds = λ n x. b.holds n (a.holds n x) };
+        inodes = λ i e. let a = p.inodes i e in let b = q.inodes i a.lock in record { lock = b.lock; untouched = untouched_then (disk_of (log_of u)) (disk_of (log_of v)) (disk_of (log_of w)) u.owner v.owner w.owner i a.untouched b.untouched };
         no_more = λ i e. p.no_more i (q.no_more i e);
         buffers = λ b. q.buffers b ∙ p.buffers b;
         held = q.held ∙ p.held;
         member = q.member ∙ p.member;
+        sizes = q.sizes ∙ p.sizes;
+        taken = λ b. q.taken b ∙ p.taken b;
         commit = q.commit ∙ p.commit;
       };
       kept = keeps;
-      base = λ h v w g u c same kept b. record {
-        free = same.held ∙ b.free;
-        rests = λ e. b.rests (held_back w.commits v.commits h (log_of w).phase (log_of v).phase same.commit e).0;
-        inodes = λ i e.
-            let before = same.no_more i e in
-            let k = same.inodes i before in
-            let was = b.inodes i before in
-            let now = kept_disk h i g u kept b.lent was.keeps in
-            record {
-              keeps = now.0;
-              loaded_is = still_loaded (c i) (g.disk i) (u.disk i) (inode_in (log_of v) i) (inode_in (log_of w) i) now.1 k.same was.loaded_is;
-              holds = subst (λ (n : Option Node). HoldsIn w i n) (sym now.1) (k.holds (g.disk i) was.holds);
-            };
-        lent = λ some. lent_then h g u kept b.lent some;
-      };
-      idle = λ h w g c inv idle b. record { free = b.free; rests = b.rests; inodes = λ i e. absurd (keeps_none h i g idle (b.inodes i e).keeps); lent = b.lent };
+      base = λ h v w g u c same kept stands. let b = stands.0 in (
+        record {
+          free = same.held ∙ b.free;
+          taken = λ n e. b.taken n (held_back (w.taken n) (v.taken n) h (seen_of (log_of w) n) (seen_of (log_of v) n) (same.taken n) e).0;
+          rests = λ e. b.rests (held_back w.commits v.commits h (log_of w).phase (log_of v).phase same.commit e).0;
+          inodes = in_hand_then h c v w g u same.inodes same.no_more kept b.lent b.inodes;
+          lent = λ some. lent_then h g u kept b.lent some;
+        },
+        same.sizes ∙ stands.1,
+      );
+      idle = λ h w g c inv idle stands. let b = stands.0 in (record { free = b.free; taken = b.taken; rests = b.rests; inodes = λ i e. absurd (keeps_none h i g idle (b.inodes i e).keeps); lent = b.lent }, stands.1);
     }
-  where
-    HoldsIn : World → ℕ → Option Node → Type 0
-    HoldsIn w i n = HoldsAt (disk_of (log_of w)) w.owner i n
-
-    still_loaded : (o : Option Dinode) (m n : Option Node) (d e : Dinode) → n ≡ m → e ≡ d → IsLoaded o m d → IsLoaded o n e
-    still_loaded None m n d e q p x = q ∙ x
-    still_loaded (Some f) m n d e q p x = (x.0 ∙ sym p, λ z. x.1 (sym q ∙ z))
-
-    lent_then : (h : ℕ) (g u : above.World) → Kept h g u → (((g.desks h).lender ≡ None → ⊥) → Idle h g) → ((u.desks h).lender ≡ None → ⊥) → Idle h u
-    lent_then h g u kept lent some = by (g.desks h).lender refl
-      where
-        by : (o : Option ℕ) → (g.desks h).lender ≡ o → Idle h u
-        by None e = absurd (some (ap (λ (o : Own). o.desk.lender) (kept.same e) ∙ e))
-        by (Some l) e = kept.rests (lent (λ z. none-some l (sym z ∙ e)))
 
 -- ---- a step on the tables
 
@@ -84,11 +130,13 @@ pub tables_left : (h : ℕ) (v : World) (t : TablesState) (g u : above.World) (l
     → ((i : ℕ) → (u.lock i ≡ g.lock i) ⊎ (Ours h (g.lock i) × Ours h (u.lock i))) → (other : ℕ) → other ≢ h → Same other v (record v { state = record (v.state) { tables = t } })
 tables_left h v t g u load load_then shows after change other ne =
     record {
-      inodes = λ i e. record { lock = forth i (change i) e; same = refl; holds = λ n x. x };
+      inodes = λ i e. record { lock = forth i (change i) e; untouched = untouched_same (disk_of (log_of v)) v.owner i };
       no_more = λ i e. back i (change i) e;
       buffers = λ b. refl;
       held = refl;
       member = refl;
+      sizes = refl;
+      taken = λ b. refl;
       commit = refl;
     }
   where
@@ -104,6 +152,7 @@ tables_left h v t g u load load_then shows after change other ne =
 pub base_marked : (h : ℕ) (r : World) (g u : above.World) (c : Carry) → SameCode g u → (g.desks h).lender ≡ None → Base h r g c → Base h r u c
 base_marked h r g u c s free b = record {
   free = b.free;
+  taken = b.taken;
   rests = b.rests;
   inodes = λ i e. let x = b.inodes i e in record {
     keeps = (λ z. s.keeper z i) ∙ x.keeps;

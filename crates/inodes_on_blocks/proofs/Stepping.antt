@@ -1,5 +1,5 @@
 -- A program of one step on the tables acts at it.
-use Rattle.std.proofs.Common.{◌≡◌, ◌≢◌, ℕ, List, Option, None, ap}
+use Rattle.std.proofs.Common.{◌≡◌, ◌≢◌, ℕ, suc, List, Option, None, ap, ◌∙◌, arith}
 use Rattle.atomic_programs.specs.Prog.{Ret, Did, Waits, Ran, Stops}
 use Rattle.atomic_programs.specs.Logic.{Laws, Wp}
 use Rattle.atomic_programs.specs.Joined.{Both, joined, Below}
@@ -7,19 +7,31 @@ use Rattle.atomic_programs.proofs.Joined.{Acting, s-act}
 use Rattle.fs_machine.specs.LogPart.{Outside}
 use Rattle.fs_machine.specs.Steps as steps
 use Rattle.fs_machine.specs.Premises as premises
+use Rattle.fs_machine.specs.Own.{Own, own_of}
+use Rattle.fs_machine.specs.Whole.{IsWholeLog, After}
+use Rattle.fs_machine.proofs.Owned.{leaves_own}
 use Rattle.inode_machine.specs.World as above
 use Rattle.inode_machine.specs.World.{Desk}
 use Rattle.inode_machine.specs.Exec as above_exec
 use Rattle.inode_machine.specs.Marks.{marked, with_mark}
 use Rattle.inode_machine.specs.Rules as rules
 use Rattle.inode_machine.specs.Rules.{Inv, Idle, more}
-use Rattle.inodes_on_blocks.specs.Below.{World, exec}
+use Rattle.inodes_on_blocks.specs.Below.{World, log_of, owners_after, commits_after, came_to, exec}
 use Rattle.inodes_on_blocks.specs.Shown.{Shows}
 use Rattle.inodes_on_blocks.specs.Lowering.{Same, Carry, Base, below, Labels, labelled, Keeps}
 use Rattle.inodes_on_blocks.specs.Handlers.{one}
 use Rattle.inodes_on_blocks.specs.Acting.{ActsOnce}
 use Rattle.inodes_on_blocks.proofs.Marked.{marked_same, shows_marked}
 use Rattle.inodes_on_blocks.proofs.Layer.{below_laws, base_marked}
+
+-- the sizes stay
+pub same_sizes : (h : ℕ) (x : Outside) (op : steps.Op) (s : steps.State) → IsWholeLog s.log → premises.May h op s → premises.Honest h op s x → After (λ t. t.log.sizes ≡ s.log.sizes) (steps.exec h x op s)
+same_sizes h x op s whole may honest = of_own (steps.exec h x op s) (leaves_own h (suc h) x op s (λ e. absurd (omega (arith, e))) whole may honest)
+  where
+    of_own : {A : Type 0} (d : Did A steps.State) → After (λ t. own_of (suc h) t.log ≡ own_of (suc h) s.log) d → After (λ t. t.log.sizes ≡ s.log.sizes) d
+    of_own Waits e = tt
+    of_own (Ran a t) e = ap (λ (o : Own). o.sizes) e
+    of_own (Stops t) e = ap (λ (o : Own). o.sizes) e
 
 module _ (l : Labels) (laws : Laws (labelled l)) (keeps : Keeps l) (h : ℕ) where
   abbrev W : Type 0
@@ -44,25 +56,27 @@ module _ (l : Labels) (laws : Laws (labelled l)) (keeps : Keeps l) (h : ℕ) whe
       → ((v : W) (c : Carry) → Shows v.real v.seen → Inv v.seen → Base h v.real v.seen c → rules.May h op v.seen
       → premises.May h (lop c) v.real.state × ((x : Outside) → premises.Honest h (lop c) v.real.state x → CameTo op v (premises.MayWait h (lop c) v.real.state) (exec h x (lop c) v.real) (answer c) (carry c)))
       → ActsOnce l h op m (λ c m. one op m (lop c) (answer c) (carry c))
-  one_step op m lop answer carry honest rule c B C es w lasts todo base =
-      s-act (labelled l) below laws (below_laws l keeps) h B op m C lasts above.Room (lop c) (λ a. Ret (record { answer = answer c a; carry = carry c a })) (Below (labelled l) below h C) (more op) es w todo
+  one_step op m lop answer carry honest rule sizes c B C es w lasts todo stands =
+      s-act (labelled l) (below sizes) laws (below_laws sizes l keeps) h B op m C lasts above.Room (lop c) (λ a. Ret (record { answer = answer c a; carry = carry c a })) (Below (labelled l) (below sizes) h C) (more op) es w todo
       (λ v fs here may.
-      let b = (below_laws l keeps).base h w.real v.real w.seen v.seen c here.same here.kept base in
-      let r = rule v c here.shows here.inv b may in
-      (r.0, λ x t. by v (exec h x (lop c) v.real) (r.1 x t)))
+      let b = (below_laws sizes l keeps).base h w.real v.real w.seen v.seen c here.same here.kept stands in
+      let r = rule v c here.shows here.inv b.0 may in
+      (r.0, λ x t. by v (steps.exec h x (lop c) v.real.state) (same_sizes h x (lop c) v.real.state here.shows.whole r.0 t) b.1 (r.1 x t)))
     where
-      by : (v : W) (d : Did (steps.Answer (lop c)) World) → CameTo op v (premises.MayWait h (lop c) v.real.state) d (answer c) (carry c)
-          → Acting (labelled l) below laws (below_laws l keeps) h B op m C lasts above.Room v (premises.MayWait h (lop c) v.real.state) d
-          (λ a b u g. (gs : List l.Step) → Inv g → C b gs g → Wp (joined (labelled l) below) h B (Below (labelled l) below h C) (Ret (record { answer = answer c a; carry = carry c a })) (more op) gs (record { real = u; seen = g }))
-      by v Waits came = came
-      by v (Stops r) came = absurd came
-      by v (Ran a r) came =
-          let s = marked_same h (m (answer c a)) came.then_ in (
+      by : (v : W) (d : Did (steps.Answer (lop c)) steps.State) → After (λ s. s.log.sizes ≡ v.real.state.log.sizes) d → (log_of v.real).sizes ≡ sizes → CameTo op v (premises.MayWait h (lop c) v.real.state) (came_to h (lop c) v.real d) (answer c) (carry c)
+          → Acting (labelled l) (below sizes) laws (below_laws sizes l keeps) h B op m C lasts above.Room v (premises.MayWait h (lop c) v.real.state) (came_to h (lop c) v.real d)
+          (λ a b u g. (gs : List l.Step) → Inv g → C b gs g → Wp (joined (labelled l) (below sizes)) h B (Below (labelled l) (below sizes) h C) (Ret (record { answer = answer c a; carry = carry c a })) (more op) gs (record { real = u; seen = g }))
+      by v Waits kept at came = came
+      by v (Stops s) kept at came = absurd came
+      by v (Ran a s) kept at came =
+          let o = owners_after h (lop c) v.real s in
+          let r : World = record { state = s; owner = o.owner; left = o.left; taken = o.taken; commits = commits_after h (lop c) a v.real.commits } in
+          let m' = marked_same h (m (answer c a)) came.then_ in (
             answer c a,
             marked h (m (answer c a)) came.then_,
             ap (with_mark h m) came.ran,
             honest v,
-            (λ inv. shows_marked r came.then_ (marked h (m (answer c a)) came.then_) s came.shows),
+            (λ inv. shows_marked r came.then_ (marked h (m (answer c a)) came.then_) m' came.shows),
             came.same,
-            λ gs inv done. (done, base_marked h r came.then_ (marked h (m (answer c a)) came.then_) (carry c a) s came.free came.base),
+            λ gs inv done. (done, (base_marked h r came.then_ (marked h (m (answer c a)) came.then_) (carry c a) m' came.free came.base, kept ∙ at)),
           )

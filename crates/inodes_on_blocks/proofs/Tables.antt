@@ -64,6 +64,8 @@ module _ (h : ℕ) (lt : h < hart_count) (v : World) (g : above.World) (shows : 
             changes = λ i k e. changes i k (locks i) e;
           };
         };
+        bytes = shows.bytes;
+        taken = shows.taken;
         loads = record { seen = λ n d e. loads.seen n d (after.places.loads n ∙ e); dead = λ n some free dead. subst IsSome (after.places.loads n) (loads.dead n some free dead); typed = λ n e. sym (after.places.loads n) ∙ loads.typed n e };
       }
     where
@@ -100,6 +102,7 @@ module _ (h : ℕ) (lt : h < hart_count) (v : World) (g : above.World) (shows : 
       → ((i : ℕ) → u.lock i ≡ Some h → ((g.lock i ≡ Some h) × (u.keeper i ≡ Some h) × (u.disk i ≡ g.disk i) × (d i ≡ c i)) ⊎ InHand h i (d i) v u) → Base h (with_tables v t) u d
   base_then c d t u load base after free each = record {
     free = base.free;
+    taken = base.taken;
     rests = base.rests;
     inodes = λ i e. by i (each i (after.places.holders i ∙ e));
     lent = λ some. absurd (some free);

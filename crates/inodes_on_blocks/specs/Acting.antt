@@ -1,5 +1,6 @@
 -- An operation's program below acts at one moment, alone of all operations' programs.
 use Rattle.std.specs.Prelude.{◌≡◌, ℕ, suc, ◌<◌, List, [], ◌∷◌, Option}
+use Rattle.fs_layout.specs.declared.superblock.Super.{Super}
 use Rattle.plain_tree.specs.Widths.{hart_count}
 use Rattle.atomic_programs.specs.Logic.{Machine, Wp}
 use Rattle.atomic_programs.specs.Prog.{once}
@@ -7,15 +8,19 @@ use Rattle.atomic_programs.specs.Joined.{Both, joined, Below, Lasts}
 use Rattle.inode_machine.specs.World as above
 use Rattle.inode_machine.specs.Rules.{more}
 use Rattle.inodes_on_blocks.specs.Below.{World}
-use Rattle.inodes_on_blocks.specs.Lowering.{Carry, Kept, Base, below, Labels, labelled}
+use Rattle.inodes_on_blocks.specs.Lowering.{Carry, Kept, Stands, below, Labels, labelled}
 use Rattle.inodes_on_blocks.specs.Handlers.{Handler}
 
--- whatever the operation alone is shown to do above, under any history, this program does below
-abbrev pub ActsOnce : (l : Labels) → ℕ → (op : above.Op) → (above.Answer op → Option above.Mark) → Handler op → Type 1
-ActsOnce l h op m p =
+-- whatever the operation alone is shown to do above, under any history, this program does below, on a disk of these sizes
+abbrev pub ActsOnceAt : Super → (l : Labels) → ℕ → (op : above.Op) → (above.Answer op → Option above.Mark) → Handler op → Type 1
+ActsOnceAt sizes l h op m p =
     (c : Carry) (B : List l.Step → Type 0) (C : above.Answer op → List l.Step → above.World → Type 0) (es : List l.Step) (w : Both World above.World)
-    → Lasts (labelled l) h B C → Wp (labelled l) h B C (once op m) (suc (more op)) es w.seen → Base h w.real w.seen c
-    → Wp (joined (labelled l) below) h B (Below (labelled l) below h C) (p c m) (suc (more op)) es w
+    → Lasts (labelled l) h B C → Wp (labelled l) h B C (once op m) (suc (more op)) es w.seen → Stands sizes h w.real w.seen c
+    → Wp (joined (labelled l) (below sizes)) h B (Below (labelled l) (below sizes) h C) (p c m) (suc (more op)) es w
+
+-- the same of a program that needs no sizes
+abbrev pub ActsOnce : (l : Labels) → ℕ → (op : above.Op) → (above.Answer op → Option above.Mark) → Handler op → Type 1
+ActsOnce l h op m p = (sizes : Super) → ActsOnceAt sizes l h op m p
 
 -- ---- the same with the history that is the operations themselves
 
@@ -46,8 +51,11 @@ Answers op a es w = es ≡ (op, a) ∷ []
 
 -- Where the operation alone may be made and keeps what always holds, its program below does it: once, whatever the other harts do,
 -- with the answer that it itself gives; each of its steps may be made, and the hart has no more than its locks' records after it.
-abbrev pub DoesIt : (op : above.Op) → Handler op → Type 0
-DoesIt op p =
+abbrev pub DoesItAt : Super → (op : above.Op) → Handler op → Type 0
+DoesItAt sizes op p =
     (h : ℕ) (m : above.Answer op → Option above.Mark) (c : Carry) (w : Both World above.World) → h < hart_count
-    → Wp whole h (IsDone op) (Answers op) (once op m) (suc (more op)) [] w.seen → Base h w.real w.seen c
-    → Wp (joined whole below) h (IsDone op) (Below whole below h (Answers op)) (p c m) (suc (more op)) [] w
+    → Wp whole h (IsDone op) (Answers op) (once op m) (suc (more op)) [] w.seen → Stands sizes h w.real w.seen c
+    → Wp (joined whole (below sizes)) h (IsDone op) (Below whole (below sizes) h (Answers op)) (p c m) (suc (more op)) [] w
+
+abbrev pub DoesIt : (op : above.Op) → Handler op → Type 0
+DoesIt op p = (sizes : Super) → DoesItAt sizes op p

@@ -4,17 +4,19 @@ use Rattle.fs_layout.specs.declared.inode.Dinode.{Dinode}
 use Rattle.image_tree.specs.Inodes.{inode_of}
 use Rattle.group_log.specs.declared.log.Left.TheVariants.{Free, Commits}
 use Rattle.atomic_programs.specs.Prog.{Did, Waits, Ran, Stops}
-use Rattle.fs_tables.specs.Tables.{TablesState}
+use Rattle.fs_tables.specs.Tables.{TablesState, holder_of as lock_holder}
 use Rattle.fs_machine.specs.LogPart.{LogPart, Outside}
 use Rattle.fs_machine.specs.Steps as steps
-use Rattle.fs_machine.specs.Steps.{State, Op, Answer, Leave, Commit}
+use Rattle.fs_machine.specs.Steps.{State, Op, Answer, Leave, Put, Commit}
 use Rattle.inodes_on_blocks.specs.OnBlocks.{shown}
+use Rattle.inodes_on_blocks.specs.Owners.{Owners, owners_put}
 
 pub record World : Type 0 where
   pub state : State
   -- for the proof
   pub owner : ℕ → ℕ  -- the inode whose a block is, 0 where it is nobody's
-  pub left : ℕ → Bool  -- a bit that the mounted image had set and that nothing named
+  pub left : ℕ → Bool  -- a bit that is set though the block is no inode's: left over of the mounted image, or of a block that a hart has taken
+  pub taken : ℕ → Option ℕ  -- the hart that has set a block's bit, until an inode names the block
   pub commits : Option ℕ  -- the hart that makes the commit which is under way
 
 abbrev pub log_of : World → LogPart
@@ -38,9 +40,20 @@ commits_after h Commit true was = None
 commits_after h Commit false was = was
 commits_after h op a was = was
 
+-- whose the blocks are
+abbrev pub owners_of : World → Owners
+owners_of w = record { owner = w.owner; left = w.left; taken = w.taken }
+
+-- whose they are once hart h has put a block, before which the world was `was`; no other operation changes that
+abbrev pub owners_after : ℕ → Op → (was : World) → State → Owners
+owners_after h (Put b (Some bytes)) was s =
+    owners_put (λ i. lock_holder i s.tables) h s.log.sizes.bmapstart b (disk_of was.state.log) (disk_of s.log) (owners_of was)
+owners_after h op was s = owners_of was
+
 abbrev pub came_to : ℕ → (op : Op) → World → Did (Answer op) State → Did (Answer op) World
 came_to h op w Waits = Waits
-came_to h op w (Ran a s) = Ran a (record w { state = s; commits = commits_after h op a w.commits })
+came_to h op w (Ran a s) =
+    let o = owners_after h op w s in Ran a (record { state = s; owner = o.owner; left = o.left; taken = o.taken; commits = commits_after h op a w.commits })
 came_to h op w (Stops s) = Stops (record w { state = s })
 
 abbrev pub exec : ℕ → Outside → (op : Op) → World → Did (Answer op) World

@@ -1,5 +1,6 @@
 pub mod OnBlocks
 pub mod Laws
+pub mod Owners
 pub mod Below
 pub mod Shown
 pub mod Lowering

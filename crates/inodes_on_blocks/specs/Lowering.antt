@@ -1,16 +1,19 @@
 -- The machine below as a layer under the machine of whole inodes: what a hart has in it, and what the others leave of that.
 use Rattle.std.specs.Prelude.{◌≡◌, ◌≢◌, ℕ, List, Bool, Option, Some, None, is_some, slice_get}
 use Rattle.fs_layout.specs.declared.inode.Dinode.{Dinode}
+use Rattle.fs_layout.specs.declared.superblock.Super.{Super}
 use Rattle.buffer_cache.specs.Lists.{count_of}
-use Rattle.buffer_cache.specs.Seats.{is_held_by, holder_of, kept, seen_in}
+use Rattle.buffer_cache.specs.Seats.{is_held_by, holder_of, kept}
 use Rattle.plain_tree.specs.declared.node.Node.{Node}
 use Rattle.image_laws.specs.Holds.{HoldsAt}
+use Rattle.image_laws.specs.Puts.{IsUntouched}
 use Rattle.atomic_programs.specs.Logic.{Machine}
 use Rattle.atomic_programs.specs.Joined.{Lower}
 use Rattle.fs_tables.specs.Tables.{holder_of as lock_holder}
 use Rattle.fs_machine.specs.LogPart.{LogPart, Outside}
 use Rattle.fs_machine.specs.Steps as steps
 use Rattle.fs_machine.specs.Premises as premises
+use Rattle.fs_machine.specs.Shown.{seen_of}
 use Rattle.inode_machine.specs.World as above
 use Rattle.inode_machine.specs.World.Op.{Take, Give, UpStart, Up, WalkDown, Down, Free, Claim, Store, Fill, Enter, Clear, Empty, Slot, Install, StatFile, ReadFile, CheckFile, JoinFile, WriteFile, Double, Shut, Settle, Lend, LendDirectory, Release, Join, Leave, Say}
 use Rattle.inode_machine.specs.Marks.{go}
@@ -23,15 +26,14 @@ use Rattle.inodes_on_blocks.specs.Shown.{Shows}
 
 -- ---- what the others leave
 
--- an inode whose lock hart h has stays as it is seen: its record, and whatever it holds
+-- an inode whose lock hart h has stays as it is seen: its record, and the blocks that are its own
 pub record KeepsInode (h i : ℕ) (v w : World) : Type 0 where
   pub lock : lock_holder i (tables_of w) ≡ Some h
-  pub same : inode_in (log_of w) i ≡ inode_in (log_of v) i
-  pub holds : (n : Option Node) → HoldsAt (disk_of (log_of v)) v.owner i n → HoldsAt (disk_of (log_of w)) w.owner i n
+  pub untouched : IsUntouched (disk_of (log_of v)) (disk_of (log_of w)) v.owner w.owner i
 
 -- a block as it is seen, and whether its buffer is valid
 abbrev pub buffer_in : LogPart → ℕ → List ℕ × Bool
-buffer_in l b = (seen_in l.contents l.seats b, is_some (kept b l.seats))
+buffer_in l b = (seen_of l b, is_some (kept b l.seats))
 
 -- nothing of hart h's changed: its locks, its buffers, its transaction, its commit
 pub record Same (h : ℕ) (v w : World) : Type 0 where
@@ -40,6 +42,9 @@ pub record Same (h : ℕ) (v w : World) : Type 0 where
   pub buffers : (b : ℕ) → if_kept (holder_of b (log_of w).seats) h (buffer_in (log_of w) b) ≡ if_kept (holder_of b (log_of v).seats) h (buffer_in (log_of v) b)
   pub held : count_of (is_held_by h) (log_of w).seats ≡ count_of (is_held_by h) (log_of v).seats
   pub member : slice_get (log_of w).members h ≡ slice_get (log_of v).members h
+  pub sizes : (log_of w).sizes ≡ (log_of v).sizes
+  -- what it has taken
+  pub taken : (b : ℕ) → if_kept (w.taken b) h (seen_of (log_of w) b) ≡ if_kept (v.taken b) h (seen_of (log_of v) b)
   pub commit : if_kept w.commits h (log_of w).phase ≡ if_kept v.commits h (log_of v).phase
 
 -- the same of what is a hart's in the world above
@@ -67,19 +72,24 @@ pub record InHand (h i : ℕ) (loaded : Option Dinode) (r : World) (w : above.Wo
   pub holds : HoldsAt (disk_of (log_of r)) r.owner i (w.disk i)
 
 pub record Base (h : ℕ) (r : World) (w : above.World) (c : Carry) : Type 0 where
-  -- no buffer, and no commit
+  -- no buffer, no block that no inode names, and no commit
   pub free : count_of (is_held_by h) (log_of r).seats ≡ 0
+  pub taken : (b : ℕ) → r.taken b ≢ Some h
   pub rests : (r.commits ≡ Some h → ⊥)
   pub inodes : (i : ℕ) → lock_holder i (tables_of r) ≡ Some h → InHand h i (c i) r w
   -- a hart that gets another's descriptors has nothing
   pub lent : ((w.desks h).lender ≡ None → ⊥) → Idle h w
 
+-- the same on a disk of these sizes, by which the programs below find blocks
+abbrev pub Stands : Super → ℕ → World → above.World → Carry → Type 0
+Stands sizes h r w c = Base h r w c × ((log_of r).sizes ≡ sizes)
+
 -- what is shown of the tables, once the world has stopped
 abbrev pub Stopped : World → above.World → Type 0
 Stopped r w = tables.Shows (tables_of r) w (loaded (tables_of r))
 
-abbrev pub below : Lower above.World
-below =
+abbrev pub below : Super → Lower above.World
+below sizes =
     record {
       Op = steps.Op;
       Answer = steps.Answer;
@@ -95,7 +105,7 @@ below =
       Kept = Kept;
       Carry = Carry;
       none = nothing;
-      Base = Base;
+      Base = Stands sizes;
     }
 
 -- ---- the machine above, with any history

@@ -1,10 +1,15 @@
 -- What the machine below shows of the world of whole inodes, each part over the fields that it speaks of.
-use Rattle.std.specs.Prelude.{◌≡◌, ◌≢◌, ℕ, ◌<◌, List, Bool, true, Option, Some, None, IsSome, if◌then◌else◌}
+use Rattle.std.specs.Prelude.{◌≡◌, ◌≢◌, ℕ, ◌<◌, List, length, Bool, true, Option, Some, None, IsSome, if◌then◌else◌}
 use Rattle.fs_layout.specs.declared.inode.Dinode.{Dinode}
+use Rattle.fs_layout.specs.declared.superblock.Super.{Super}
+use Rattle.fs_layout.specs.Bytes.{IsBytes}
+use Rattle.fs_layout.specs.Recovered.{IsOutsideLog}
 use Rattle.group_log.specs.declared.phase.Phase.TheVariants.{Halted}
+use Rattle.image_tree.specs.Checks.{IsData}
 use Rattle.plain_tree.specs.declared.node.Node.{Node}
 use Rattle.plain_tree.specs.Widths.{hart_count}
 use Rattle.fs_machine.specs.LogPart.{LogPart}
+use Rattle.fs_machine.specs.Shown.{seen_of}
 use Rattle.fs_machine.specs.Whole.{IsWholeLog}
 use Rattle.inode_machine.specs.World as above
 use Rattle.inode_machine.specs.World.{Desk}
@@ -36,6 +41,14 @@ pub record LoadsShow (load : ℕ → Option Dinode) (l : LogPart) (refs : ℕ �
   pub dead : (n : ℕ) → 0 < refs n → lock n ≡ None → is_dead (nodes n) ≡ true → IsSome (load n)
   pub typed : (n : ℕ) → nodes n ≡ None → load n ≡ None
 
+-- what is seen are bytes
+abbrev pub AreBytes : LogPart → Type 0
+AreBytes l = (b : ℕ) → b < length l.contents → IsOutsideLog l.sizes b → IsBytes (seen_of l b)
+
+-- a block that a hart has taken is a data block that is no inode's, and its bit is set
+abbrev pub TakenShow : Super → (owner : ℕ → ℕ) (left : ℕ → Bool) (taken : ℕ → Option ℕ) → Type 0
+TakenShow sizes owner left taken = (b h : ℕ) → taken b ≡ Some h → (owner b ≡ 0) × (left b ≡ true) × IsOutsideLog sizes b × IsData sizes b
+
 -- ---- all of it
 
 pub record Shows (r : World) (w : above.World) : Type 0 where
@@ -45,4 +58,6 @@ pub record Shows (r : World) (w : above.World) : Type 0 where
   pub tables : tables.Shows (tables_of r) w (loaded (tables_of r))
   pub members : MembersShow (log_of r).members w.desks
   pub blocks : AreOnBlocks (log_of r).contents (log_of r).seats (log_of r).sizes (log_of r).members (ghost_of r.owner r.left w.disk w.lock w.desks)
+  pub bytes : AreBytes (log_of r)
+  pub taken : TakenShow (log_of r).sizes r.owner r.left r.taken
   pub loads : LoadsShow (loaded (tables_of r)) (log_of r) w.refs w.lock w.disk
