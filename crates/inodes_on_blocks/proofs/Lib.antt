@@ -9,3 +9,5 @@ pub mod Owed
 pub mod CountSteps
 pub mod JoinSteps
 pub mod Alone
+pub mod Hands
+pub mod Fetching

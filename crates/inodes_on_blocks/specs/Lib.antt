@@ -6,3 +6,4 @@ pub mod Shown
 pub mod Lowering
 pub mod Handlers
 pub mod Acting
+pub mod Holding

@@ -1,0 +1,51 @@
+-- What a hart has while buffers are in its hand.
+use Rattle.std.specs.Prelude.{◌≡◌, ◌≢◌, ℕ, suc, List, Option, Some, slice_get}
+use Rattle.buffer_cache.specs.Lists.{count_of}
+use Rattle.buffer_cache.specs.Seats.{is_held_by, holder_of, kept}
+use Rattle.fs_tables.specs.Tables.{holder_of as lock_holder}
+use Rattle.atomic_programs.specs.Joined.{Both}
+use Rattle.fs_machine.specs.Shown.{seen_of}
+use Rattle.inode_machine.specs.World as above
+use Rattle.inode_machine.specs.Rules.{if_kept, Inv}
+use Rattle.inodes_on_blocks.specs.Below.{World, log_of, tables_of}
+use Rattle.inodes_on_blocks.specs.Shown.{Shows}
+use Rattle.inodes_on_blocks.specs.Lowering.{KeepsInode, Kept, buffer_in}
+
+-- how many it has
+abbrev pub in_hand : ℕ → World → ℕ
+in_hand h w = count_of (is_held_by h) (log_of w).seats
+
+-- block b's buffer is in its hand, valid, with these bytes
+pub record HasBuffer (h b : ℕ) (bytes : List ℕ) (w : World) : Type 0 where
+  pub holder : holder_of b (log_of w).seats ≡ Some h
+  pub has : kept b (log_of w).seats ≡ Some bytes
+
+-- Nothing of the hart's changed but block b's buffer: its locks and what those inodes hold, its other buffers, its transaction, its commit.
+pub record SameBut (h b : ℕ) (v w : World) : Type 0 where
+  pub inodes : (i : ℕ) → lock_holder i (tables_of v) ≡ Some h → KeepsInode h i v w
+  pub no_more : (i : ℕ) → lock_holder i (tables_of w) ≡ Some h → lock_holder i (tables_of v) ≡ Some h
+  pub buffers : (k : ℕ) → k ≢ b → if_kept (holder_of k (log_of w).seats) h (buffer_in (log_of w) k) ≡ if_kept (holder_of k (log_of v).seats) h (buffer_in (log_of v) k)
+  pub member : slice_get (log_of w).members h ≡ slice_get (log_of v).members h
+  pub taken : (k : ℕ) → if_kept (w.taken k) h (seen_of (log_of w) k) ≡ if_kept (v.taken k) h (seen_of (log_of v) k)
+  pub commit : if_kept w.commits h (log_of w).phase ≡ if_kept v.commits h (log_of v).phase
+  pub sizes : (log_of w).sizes ≡ (log_of v).sizes
+
+-- Where a hart goes on after a block's buffer came into its hand, from w: what it knows of v.
+pub record Fetched (h b : ℕ) (Stage : above.World → Type 0) (w v : Both World above.World) : Type 0 where
+  pub since : SameBut h b w.real v.real
+  pub kept : Kept h w.seen v.seen
+  pub shows : Shows v.real v.seen
+  pub inv : Inv v.seen
+  pub stage : Stage v.seen
+  pub count : in_hand h v.real ≡ suc (in_hand h w.real)
+  -- its bytes are those that are seen of the block
+  pub buffer : HasBuffer h b (seen_of (log_of v.real) b) v.real
+
+-- the same where it was given back as it was
+pub record PutBack (h b : ℕ) (Stage : above.World → Type 0) (w v : Both World above.World) : Type 0 where
+  pub since : SameBut h b w.real v.real
+  pub kept : Kept h w.seen v.seen
+  pub shows : Shows v.real v.seen
+  pub inv : Inv v.seen
+  pub stage : Stage v.seen
+  pub count : in_hand h w.real ≡ suc (in_hand h v.real)
