@@ -62,6 +62,7 @@ pub mod Creates
 pub mod Makings
 pub mod CreateCalls
 pub mod Examples
+pub mod Stories
 pub mod Holds
 pub mod Finds
 pub mod Raises

@@ -12,3 +12,4 @@ pub mod Programs
 pub mod Theory
 pub mod Histories
 pub mod Examples
+pub mod Stories

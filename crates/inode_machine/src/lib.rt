@@ -4,6 +4,7 @@
 
 ghost use Rattle.inode_machine.specs.Examples.{ChdirFinishes, CloseFinishes, CreateFinishes, DupFinishes, InheritFinishes, InheritFrees, InheritMoves, LinkBelowNothing, LinkFinishes, LinkOfDirectory, LinkOfMany, LinkOfNothing, LinkToNoName, LinkToTaken, MkdirFinishes, NoBlockForDirectory, NoBlockForFile, NoBlockForName, NoBlockForPart, NoBlockLeft, NoDescriptorToDouble, NoDescriptorToOpen, NoInodeForFile, NoInodeLeft, OpenFinishes, ReadFinishes, StartsRefused, StatFinishes, UnlinkFinishes, WalkerFails, WriteFinishes};
 ghost use Rattle.inode_machine.specs.Histories.{CallsHaveOneHistory, OneHartHasOneHistory};
+ghost use Rattle.inode_machine.specs.Stories.{ClimbsAcross, LinksWhileUnlinked, OffsetIsShared, RaiseIsSeen, StaysInTheRemoved, WalkFails, WalkFailsStill};
 ghost use Rattle.inode_machine.specs.Theory.{CallsAreExplained, WorldsRest, WorldsStayInOrder, WorldsWithAFileRest};
 
 /// For every list of events of any harts, the replies of all eleven calls, with any flags, of pieces and paths of any length,
@@ -80,4 +81,18 @@ pub fn calls_finish()
     ensures doubled { NoDescriptorToDouble }
     ensures opened { NoDescriptorToOpen }
     ensures many { LinkOfMany }
+{}
+
+/// And runs in which two harts meet, event by event: a walk to a directory that is removed under it, also where both names
+/// are made anew; a hart that stays in its removed directory; a link whose old name is unlinked meanwhile; a raise that is
+/// seen before it is taken back; an offset that a child shares; and a path that climbs, which resolves to a file that it
+/// names at no moment.
+pub fn harts_meet()
+    ensures on_the_way { WalkFails }
+    ensures made_anew { WalkFailsStill }
+    ensures removed { StaysInTheRemoved }
+    ensures linked { LinksWhileUnlinked }
+    ensures raised { RaiseIsSeen }
+    ensures shared { OffsetIsShared }
+    ensures climbed { ClimbsAcross }
 {}
