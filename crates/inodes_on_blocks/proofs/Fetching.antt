@@ -12,7 +12,6 @@ use Rattle.buffer_cache.specs.declared.got.Got.{Got}
 use Rattle.buffer_cache.specs.declared.got.Got.TheVariants as got
 use Rattle.buffer_cache.proofs.Laws.{GetLaws, get_laws}
 use Rattle.plain_tree.specs.Widths.{hart_count}
-use Rattle.image_laws.specs.Holds.{HoldsAt}
 use Rattle.image_laws.proofs.SeenDisks.{seen_stays}
 use Rattle.image_tree.specs.Inodes.{inode_of}
 use Rattle.atomic_programs.specs.Prog.{Do, bind, unmarked, Did}

@@ -11,3 +11,5 @@ pub mod JoinSteps
 pub mod Alone
 pub mod Hands
 pub mod Fetching
+pub mod Loading
+pub mod StatSteps

@@ -1,5 +1,5 @@
 -- What a hart has while buffers are in its hand.
-use Rattle.std.specs.Prelude.{◌≡◌, ◌≢◌, ℕ, suc, List, Option, Some, slice_get}
+use Rattle.std.specs.Prelude.{◌≡◌, ◌≢◌, ℕ, suc, List, Some, slice_get}
 use Rattle.buffer_cache.specs.Lists.{count_of}
 use Rattle.buffer_cache.specs.Seats.{is_held_by, holder_of, kept}
 use Rattle.fs_tables.specs.Tables.{holder_of as lock_holder}

@@ -7,3 +7,4 @@ pub mod Lowering
 pub mod Handlers
 pub mod Acting
 pub mod Holding
+pub mod Reading

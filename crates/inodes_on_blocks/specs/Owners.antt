@@ -1,5 +1,5 @@
 -- Whose each block becomes where one is put: for the proof alone.
-use Rattle.std.specs.Prelude.{ℕ, List, [], Bool, true, false, ◌&&◌, ◌||◌, not, ◌==◌, nat_lt, if◌then◌else◌, Option, Some, None}
+use Rattle.std.specs.Prelude.{ℕ, List, [], Bool, false, ◌&&◌, ◌||◌, not, ◌==◌, nat_lt, if◌then◌else◌, Option, Some, None}
 use Rattle.image_tree.specs.Checks.{is_marked}
 use Rattle.image_tree.specs.Inodes.{named_by, last}
 use Rattle.image_laws.specs.Holds.{owner_upto}

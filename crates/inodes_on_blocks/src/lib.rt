@@ -6,6 +6,7 @@
 ghost use Rattle.inodes_on_blocks.specs.Laws.{ChangesMayBegin, ChangesMayEnd, JoinsKeepThem, LeavesKeepThem, MountedNodesAreOnBlocks, QuietBlocksAreImages, RecordsKeepThem, UnseenChangesKeepThem};
 
 pub mod acting;
+pub mod reading;
 
 /// Whenever no transaction is outstanding, the seen blocks are a well-formed image of the tree, and so is each disk that
 /// recovery would leave so.

@@ -1,0 +1,317 @@
+-- The operations that lock an inode and load it act where the lock is had.
+use Rattle.std.proofs.Common.{◌≡◌, ◌≢◌, inl, inr, ℕ, pos, ◌<◌, Bool, true, false, List, Option, Some, None, refl, sym, ◌∙◌, ap, subst, arith, if◌then◌else◌}
+use Rattle.std.specs.Prelude.{IsSome}
+use Rattle.std.specs.Option.{option_map, MatchOption}
+use Rattle.std.proofs.lemmas.Option.{none-some}
+use Rattle.fs_layout.specs.declared.inode.Dinode.{Dinode}
+use Rattle.fs_layout.specs.declared.superblock.Super.{Super}
+use Rattle.plain_tree.specs.declared.node.Node.{Node}
+use Rattle.plain_tree.specs.declared.node.Kind.{Kind}
+use Rattle.plain_tree.specs.declared.node.Kind.TheVariants.{Directory, File, Device}
+use Rattle.plain_tree.specs.Tree.{put}
+use Rattle.plain_tree.specs.Widths.{hart_count}
+use Rattle.tree_laws.proofs.Maps.{same_or, put_same, put_other}
+use Rattle.image_tree.specs.Inodes.{is_number, is_free}
+use Rattle.image_laws.specs.Holds.{IsInode, IsRecord, type_in}
+use Rattle.atomic_programs.specs.Prog.{bind, Did, Waits, Ran, did_in}
+use Rattle.atomic_programs.specs.Logic.{Laws, Wp}
+use Rattle.atomic_programs.specs.Joined.{Both, joined, Below, Lasts}
+use Rattle.atomic_programs.proofs.Joined.{Acting, acted, s-act}
+use Rattle.fs_tables.specs.declared.files.Want.TheVariants as want
+use Rattle.fs_tables.specs.declared.files.OpenFile as files
+use Rattle.fs_tables.specs.Tables.{TablesState, file_named, holder_of as lock_holder}
+use Rattle.fs_tables.specs.Inodes.{LockedState, Refuses, Locks, refusal_of, lock_file, lock_unless, lock_inode, with_file}
+use Rattle.fs_tables.specs.declared.files.Refused.TheVariants as refused
+use Rattle.fs_machine.specs.LogPart.{Outside}
+use Rattle.fs_machine.specs.Steps as steps
+use Rattle.fs_machine.specs.Steps.{Lock, LockFile}
+use Rattle.fs_machine.specs.Premises as premises
+use Rattle.fs_machine.specs.Premises.{MayLockFile, IsElsewhere}
+use Rattle.inode_machine.specs.Inodes.{Face, Seen, AtNothing, face_of, face_or, seen_in}
+use Rattle.inode_machine.specs.World as above
+use Rattle.inode_machine.specs.World.{Entry}
+use Rattle.inode_machine.specs.World.Op.{Take, StatFile}
+use Rattle.inode_machine.specs.Exec as above_exec
+use Rattle.inode_machine.specs.Exec.{entry_at, entry_of, slot_at, lock_if, locked, stat_at}
+use Rattle.inode_machine.specs.Marks.{marked, with_mark}
+use Rattle.inode_machine.specs.Rules as rules
+use Rattle.inode_machine.specs.Rules.{Inv, Refers}
+use Rattle.inode_machine.proofs.Frame.{one_refs, ours_none, ours_some}
+use Rattle.inode_machine.proofs.Freeing.{lone_file}
+use Rattle.inode_machine.proofs.Rules.{opens_slots}
+use Rattle.inode_machine.proofs.Stats.{node_there}
+use Rattle.inodes_on_tables.specs.Shown as tables
+use Rattle.inodes_on_tables.specs.Shown.{loaded, file_of}
+use Rattle.inodes_on_tables.proofs.Locks.{by_lock, place_there}
+use Rattle.inodes_on_tables.proofs.Named.{names_at, file_is}
+use Rattle.inodes_on_blocks.specs.Below.{World, log_of, tables_of, inode_in, exec}
+use Rattle.inodes_on_blocks.specs.Shown.{Shows}
+use Rattle.inodes_on_blocks.specs.Lowering.{Carry, IsLoaded, InHand, Base, Stands, below, Labels, labelled, Keeps}
+use Rattle.inodes_on_blocks.specs.Acting.{ActsOnceAt}
+use Rattle.inodes_on_blocks.specs.Reading.{face_in, sort_at, natural, stat_file, stat_locked, stat_loaded, take, taken_record}
+use Rattle.inode_table.specs.Programs.{load_unless}
+use Rattle.inodes_on_blocks.proofs.Layer.{below_laws, base_marked, tables_left}
+use Rattle.inodes_on_blocks.proofs.Loading.{s-load}
+use Rattle.inodes_on_blocks.proofs.Marked.{marked_same, shows_marked}
+use Rattle.inodes_on_blocks.proofs.SlotSteps.{in_tables_is, came_quiet, all_same}
+use Rattle.inodes_on_blocks.proofs.Stepping.{Came}
+use Rattle.inodes_on_blocks.proofs.Tables.{with_tables, unlocked_holds, shows_then, base_then}
+
+-- ---- a record shows its node's face
+
+pub face_is : (d : Dinode) (v : Node) → IsInode d v → face_in d ≡ face_or (face_of (Some v))
+face_is d v is = by_kind v.kind v.count is
+  where
+    by_kind : (k : Kind) (count : ℕ) → IsInode d (record { count = count; kind = k }) → face_in d ≡ face_or (face_of (Some (record { count = count; kind = k })))
+    by_kind (Directory slots) count is = λ i. record { sort = sort_at (is.kind i) d.major; count = natural (is.count i); size = is.size i }
+    by_kind (File bytes) count is = λ i. record { sort = sort_at (is.kind i) d.major; count = natural (is.count i); size = is.size i }
+    by_kind (Device major minor size) count is = λ i. record { sort = sort_at (is.kind i) (is.device.0 i); count = natural (is.count i); size = is.size i }
+
+-- so it does of an inode that has a type
+pub face_held : (d : Dinode) (o : Option Node) → IsRecord d o → o ≢ None → face_in d ≡ face_or (face_of o)
+face_held d None is typed = absurd (typed refl)
+face_held d (Some v) is typed = face_is d v is
+
+-- an inode that has a type isn't free
+in_use : (d : Dinode) (v : Node) → IsInode d v → is_free d ≡ false
+in_use d v is = ap (is_number 0) is.kind ∙ by_kind v.kind
+  where
+    by_kind : (k : Kind) → is_number 0 (pos (type_in k)) ≡ false
+    by_kind (Directory slots) = refl
+    by_kind (File bytes) = refl
+    by_kind (Device major minor size) = refl
+
+pub face_seen : (d : Dinode) (o : Option Node) → IsRecord d o → o ≢ None → (if is_free d then None else Some (face_in d)) ≡ face_of o
+face_seen d None is typed = absurd (typed refl)
+face_seen d (Some v) is typed = ap (λ (b : Bool). if b then None else Some (face_in d)) (in_use d v is) ∙ ap (λ (f : Face). Some f) (face_is d v is)
+
+-- ---- what an open file is of
+
+-- has a type, where nobody has its lock
+file_typed : (v : above.World) (s : ℕ) (e : Entry) → Inv v → v.files s ≡ Some e → v.lock e.file.number ≡ None → v.disk e.file.number ≢ None
+file_typed v s e inv at free none = by (v.keeper n) refl
+  where
+    n : ℕ
+    n = e.file.number
+
+    by : (o : Option ℕ) → v.keeper n ≡ o → ⊥
+    by None kept = let x = node_there v s e inv at in none-some x.0 (sym none ∙ inv.whole n kept ∙ x.1)
+    by (Some g) kept = elim (inv.held n g kept) [
+      | inl mine ↦ none-some g (sym free ∙ mine)
+      | inr lone ↦ absurd (lone_file g n s e v inv (inv.kept n g kept).0 lone kept at refl)
+    ]
+
+-- is referred to
+file_referred : (h fd : ℕ) (v : above.World) (e : Entry) → Inv v → h < hart_count → entry_of v h fd ≡ Some e → (s : ℕ) × (v.files s ≡ Some e) × (0 < v.refs e.file.number)
+file_referred h fd v e inv lt is = by_slot (slot_at v h fd) refl
+  where
+    by_slot : (o : Option ℕ) → slot_at v h fd ≡ o → (s : ℕ) × (v.files s ≡ Some e) × (0 < v.refs e.file.number)
+    by_slot None q = absurd (none-some e (sym (ap (entry_at v.files) q) ∙ is))
+    by_slot (Some s) q =
+        let m = names_at h fd s v inv lt q in
+        let there : v.files s ≡ Some e = sym (ap (entry_at v.files) q) ∙ is in
+        let a = opens_slots v h e.file.number inv (record { fd = fd; below = m.below; slot = s; is = m.is; entry = e; at = there; number = refl }) in
+        let c = inv.counts e.file.number in
+        (s, there, omega (arith, a, c))
+
+module _ (l : Labels) (laws : Laws (labelled l)) (keeps : Keeps l) (h : ℕ) (lt : h < hart_count) where
+  abbrev W : Type 0
+  W = Both World above.World
+
+  -- ---- a lock that was had
+
+  -- of an inode that has a type: its record is in hand from there on, though it may have to be read yet
+  pub lock_came : (op : above.Op) (n : ℕ) (v : W) (c : Carry) (b : above.Answer op) (t : TablesState) → Shows v.real v.seen → Base h v.real v.seen c → (v.seen.desks h).lender ≡ None → 0 < v.seen.refs n
+      → v.seen.lock n ≡ None → v.seen.disk n ≢ None → above_exec.exec h above.Room op v.seen ≡ Ran b (locked h n v.seen) → tables.Shows t (locked h n v.seen) (put (loaded (tables_of v.real)) n None)
+      → Came l laws keeps h op v b (with_tables v.real t) (put c n (Some (inode_in (log_of v.real) n)))
+  lock_came op n v c b t shows base free some unlocked typed ran after = record {
+    then_ = locked h n v.seen;
+    ran = ran;
+    free = free;
+    shows = shows_then h lt v.real v.seen shows t (locked h n v.seen) (put load n None) after refl refl (λ j. refl)
+        (λ i. elim (same_or i n) [
+          | inl q ↦ inr (inl (ap v.seen.lock q ∙ unlocked, ap (put v.seen.lock n (Some h)) q ∙ put_same v.seen.lock n (Some h)))
+          | inr ne ↦ inl (put_other v.seen.lock n (Some h) i ne)
+        ])
+        (record {
+          seen = λ i d e. elim (same_or i n) [
+            | inl q ↦ absurd (none-some d (sym (ap (put load n None) q ∙ put_same load n None) ∙ e))
+            | inr ne ↦ shows.loads.seen i d (sym (put_other load n None i ne) ∙ e)
+          ];
+          dead = λ i referred none dead. elim (same_or i n) [
+            | inl q ↦ absurd (none-some h (sym none ∙ ap (put v.seen.lock n (Some h)) q ∙ put_same v.seen.lock n (Some h)))
+            | inr ne ↦ subst IsSome (sym (put_other load n None i ne)) (shows.loads.dead i referred (sym (put_other v.seen.lock n (Some h) i ne) ∙ none) dead)
+          ];
+          typed = λ i e. elim (same_or i n) [
+            | inl q ↦ ap (put load n None) q ∙ put_same load n None
+            | inr ne ↦ put_other load n None i ne ∙ shows.loads.typed i e
+          ];
+        });
+    same = tables_left h v.real t v.seen (locked h n v.seen) load (put load n None) shows.tables after
+        (λ i. elim (same_or i n) [
+          | inl q ↦ inr (ours_none h (v.seen.lock i) (ap v.seen.lock q ∙ unlocked), ours_some h (put v.seen.lock n (Some h) i) (ap (put v.seen.lock n (Some h)) q ∙ put_same v.seen.lock n (Some h)))
+          | inr ne ↦ inl (put_other v.seen.lock n (Some h) i ne)
+        ]);
+    base = base_then h lt v.real v.seen shows c (put c n (Some d)) t (locked h n v.seen) (put load n None) base after free
+        (λ i e. elim (same_or i n) [
+          | inl q ↦ inr (subst (λ (k : ℕ). InHand h k (put c n (Some d) k) v.real (locked h n v.seen)) (sym q) hand)
+          | inr ne ↦
+              let was : v.seen.lock i ≡ Some h = sym (put_other v.seen.lock n (Some h) i ne) ∙ e in
+              inl (was, put_other v.seen.keeper n (Some h) i ne ∙ (base.inodes i (sym (shows.tables.places.holders i) ∙ was)).keeps, refl, put_other c n (Some d) i ne)
+        ]);
+  }
+    where
+      load : ℕ → Option Dinode
+      load = loaded (tables_of v.real)
+
+      d : Dinode
+      d = inode_in (log_of v.real) n
+
+      hand : InHand h n (put c n (Some d) n) v.real (locked h n v.seen)
+      hand = record {
+        keeps = put_same v.seen.keeper n (Some h);
+        loaded_is = subst (λ (o : Option Dinode). IsLoaded o (v.seen.disk n) d) (sym (put_same c n (Some d))) (refl, typed);
+        holds = let range = shows.tables.range n some in unlocked_holds h lt v.real v.seen shows n unlocked range.0 range.1;
+      }
+
+  -- ---- an operation acts where its step came so
+
+  module _ (sizes : Super) (op : above.Op) (m : above.Answer op → Option above.Mark) (B : List l.Step → Type 0) (C : above.Answer op → List l.Step → above.World → Type 0) (lasts : Lasts (labelled l) h B C) where
+    came_acting : {A : Type 0} (v : W) (wait : Type 0) (a : A) (r : World) (b : above.Answer op) (c : Carry) (N : A → above.Answer op → World → above.World → Type 0) → rules.Honest h op v.seen above.Room → (log_of r).sizes ≡ sizes
+        → Came l laws keeps h op v b r c → ((g : above.World) → Stands sizes h r g c → N a b r g)
+        → Acting (labelled l) (below sizes) laws (below_laws sizes l keeps) h B op m C lasts above.Room v wait (Ran a r) N
+    came_acting v wait a r b c N honest at came next =
+        let s = marked_same h (m b) came.then_ in (
+          b,
+          marked h (m b) came.then_,
+          ap (with_mark h m) came.ran,
+          honest,
+          (λ inv. shows_marked r came.then_ (marked h (m b) came.then_) s came.shows),
+          came.same,
+          next (marked h (m b) came.then_) (base_marked h r came.then_ (marked h (m b) came.then_) c s came.free came.base, at),
+        )
+
+  -- ---- the state of what a descriptor names
+
+  module _ (sizes : Super) (fd : ℕ) (m : Option (ℕ × Face) → Option above.Mark) where
+    pub stat_acts : ActsOnceAt sizes l h (StatFile fd) m (stat_file sizes fd)
+    unfolding steps.exec premises.May premises.MayWait lock_file
+    stat_acts c B C es w lasts todo stands =
+        s-act (labelled l) (below sizes) laws (below_laws sizes l keeps) h B (StatFile fd) m C lasts above.Room (LockFile want.Stat fd) (stat_locked sizes c) (Below (labelled l) (below sizes) h C) 3 es w todo
+        (λ v fs here may. by v here.shows here.inv ((below_laws sizes l keeps).base h w.real v.real w.seen v.seen c here.same here.kept stands) may (entry_of v.seen h fd) refl)
+      where
+        Next : LockedState → Option (ℕ × Face) → World → above.World → Type 0
+        Next a b u g = (gs : List l.Step) → Inv g → C b gs g → Wp (joined (labelled l) (below sizes)) h B (Below (labelled l) (below sizes) h C) (stat_locked sizes c a) 3 gs (record { real = u; seen = g })
+
+        IsActing : W → Did LockedState World → Type 0
+        IsActing v d = Acting (labelled l) (below sizes) laws (below_laws sizes l keeps) h B (StatFile fd) m C lasts above.Room v (premises.MayWait h (LockFile want.Stat fd) v.real.state) d Next
+
+        -- by what the tables come to
+        on_tables : (v : W) (x : Outside) (d : Did LockedState TablesState) → lock_file h want.Stat fd (tables_of v.real) ≡ d → IsActing v (did_in (with_tables v.real) d) → IsActing v (exec h x (LockFile want.Stat fd) v.real)
+        on_tables v x d is acting =
+            subst (λ (z : Did LockedState World). IsActing v z) (sym (in_tables_is h (LockFile want.Stat fd) v.real (λ a o. refl) (λ s. refl) (lock_file h want.Stat fd (tables_of v.real)) ∙ ap (did_in (with_tables v.real)) is)) acting
+
+        by : (v : W) → Shows v.real v.seen → Inv v.seen → Stands sizes h v.real v.seen c → rules.May h (StatFile fd) v.seen → (o : Option Entry) → entry_of v.seen h fd ≡ o
+            → premises.May h (LockFile want.Stat fd) v.real.state × ((x : Outside) → premises.Honest h (LockFile want.Stat fd) v.real.state x → IsActing v (exec h x (LockFile want.Stat fd) v.real))
+        by v shows inv stands_v may None e =
+            let named : file_named h fd (tables_of v.real) ≡ None = file_is h fd (tables_of v.real) v.seen (loaded (tables_of v.real)) shows.tables inv (record { below = lt; free = may.0 }) ∙ ap (option_map file_of) e in (
+              (lt, subst (λ (z : Option files.OpenFile). MayLockFile h z (tables_of v.real)) (sym named) tt),
+              λ x t.
+                  on_tables v x (Ran (Refuses refused.BadDescriptor) (tables_of v.real)) (ap (λ (z : Option files.OpenFile). lock_unless h (tables_of v.real) z (refusal_of want.Stat z)) named)
+                  (came_acting sizes (StatFile fd) m B C lasts v (premises.MayWait h (LockFile want.Stat fd) v.real.state) (Refuses refused.BadDescriptor) (with_tables v.real (tables_of v.real)) None c Next tt stands_v.1
+                  (came_quiet l laws keeps h lt (StatFile fd) v None (tables_of v.real) v.seen c shows stands_v.0 may.0 (ap (stat_at h v.seen) e) shows.tables (all_same h v.seen))
+                  (λ g stands_g gs inv_g done. (done, stands_g))),
+            )
+        by v shows inv stands_v may (Some e) is =
+            let n = e.file.number in
+            let named : file_named h fd (tables_of v.real) ≡ Some (file_of e) = file_is h fd (tables_of v.real) v.seen (loaded (tables_of v.real)) shows.tables inv (record { below = lt; free = may.0 }) ∙ ap (option_map file_of) is in
+            let referred = file_referred h fd v.seen e inv lt is in
+            let range = shows.tables.range n referred.2 in
+            let many = shows.blocks.seen.good.many_inodes in
+            let size = shows.size in
+            let lower : lock_file h want.Stat fd (tables_of v.real) ≡ with_file (file_of e) (lock_inode h n (tables_of v.real)) = ap (λ (z : Option files.OpenFile). lock_unless h (tables_of v.real) z (refusal_of want.Stat z)) named in
+            let p = place_there n (tables_of v.real) v.seen (loaded (tables_of v.real)) shows.tables referred.2 in (
+              (lt, subst (λ (z : Option files.OpenFile). MayLockFile h z (tables_of v.real)) (sym named) (let top = range.1 in omega (arith, top, size, many), λ q. may.1 n (shows.tables.places.holders n ∙ q))),
+              λ x t.
+                  by_lock h n p.0 (tables_of v.real) v.seen (loaded (tables_of v.real)) shows.tables p.1 (IsActing v (exec h x (LockFile want.Stat fd) v.real))
+                  (λ waits g out.
+                  on_tables v x Waits (lower ∙ ap (with_file (file_of e)) waits)
+                  (subst (λ (z : Option files.OpenFile). MatchOption z ⊥ (λ f. IsElsewhere h (lock_holder f.number (tables_of v.real)))) (sym named)
+                  (g, (λ q. may.1 n (out ∙ ap (λ (z : ℕ). Some z) q)), sym (shows.tables.places.holders n) ∙ out)))
+                  (λ u ran free after.
+                  on_tables v x (Ran (Locks (file_of e) (loaded (tables_of v.real) n)) u) (lower ∙ ap (with_file (file_of e)) ran)
+                  (came_acting sizes (StatFile fd) m B C lasts v (premises.MayWait h (LockFile want.Stat fd) v.real.state) (Locks (file_of e) (loaded (tables_of v.real) n)) (with_tables v.real u) (Some (n, face_or (face_of (v.seen.disk n)))) (put c n (Some (inode_in (log_of v.real) n))) Next tt stands_v.1
+                  (lock_came (StatFile fd) n v c (Some (n, face_or (face_of (v.seen.disk n)))) u shows stands_v.0 may.0 referred.2 free (file_typed v.seen referred.0 e inv referred.1 free)
+                  (ap (stat_at h v.seen) is ∙ ap (lock_if h n (Some (n, face_or (face_of (v.seen.disk n)))) v.seen (locked h n v.seen)) free) after)
+                  (λ g stands_g gs inv_g done. loads v e shows free referred.2 (file_typed v.seen referred.0 e inv referred.1 free) u g after stands_g gs done))),
+            )
+          where
+            loads : (v : W) (e : Entry) → Shows v.real v.seen → v.seen.lock e.file.number ≡ None → 0 < v.seen.refs e.file.number → v.seen.disk e.file.number ≢ None → (u : TablesState) (g : above.World)
+                → tables.Shows u (locked h e.file.number v.seen) (put (loaded (tables_of v.real)) e.file.number None)
+                → Stands sizes h (with_tables v.real u) g (put c e.file.number (Some (inode_in (log_of v.real) e.file.number))) → (gs : List l.Step) → C (Some (e.file.number, face_or (face_of (v.seen.disk e.file.number)))) gs g
+                → Wp (joined (labelled l) (below sizes)) h B (Below (labelled l) (below sizes) h C) (stat_locked sizes c (Locks (file_of e) (loaded (tables_of v.real) e.file.number))) 3 gs (record { real = with_tables v.real u; seen = g })
+            loads v e shows free some typed u g after stands_g gs done =
+                let n = e.file.number in
+                let d = inode_in (log_of v.real) n in
+                let range = shows.tables.range n some in
+                let b : Option (ℕ × Face) = Some (n, face_or (face_of (v.seen.disk n))) in
+                let holds = unlocked_holds h lt v.real v.seen shows n free range.0 range.1 in
+                let answer : ◌≡◌ {A = Option (ℕ × Face)} (Some (n, face_in d)) b = ap (λ (f : Face). Some (n, f)) (face_held d (v.seen.disk n) holds.inode typed) in
+                s-load sizes l laws keeps h lt B (Below (labelled l) (below sizes) h C) (C b) (acted (labelled l) (below sizes) laws (below_laws sizes l keeps) h B (StatFile fd) m C lasts b)
+                n (loaded (tables_of v.real) n) (put c n (Some d)) (stat_loaded c n) 0 gs (record { real = with_tables v.real u; seen = g }) done stands_g
+                (sym (after.places.holders n) ∙ put_same v.seen.lock n (Some h)) (let top = range.1 in let size = shows.size in subst (λ (s : Super). n < s.ninodes) stands_g.1 (omega (arith, top, size)))
+                (λ x e. shows.loads.seen n x e)
+                (λ z fs stage stands_z. (subst (λ (a : Option (ℕ × Face)). C a fs z.seen) (sym answer) stage, stands_z))
+
+  -- ---- an inode's lock and its record
+
+  -- who takes a lock that is free refers to an inode that has a type
+  module _ (sizes : Super) (n : ℕ) (m : Seen → Option above.Mark) (refers : (v : above.World) → rules.May h (Take n AtNothing) v → Refers h n v) (typed : (v : above.World) → rules.May h (Take n AtNothing) v → v.lock n ≡ None → v.disk n ≢ None) where
+    pub take_acts : ActsOnceAt sizes l h (Take n AtNothing) m (take sizes n)
+    unfolding steps.exec premises.May premises.MayWait
+    take_acts c B C es w lasts todo stands =
+        s-act (labelled l) (below sizes) laws (below_laws sizes l keeps) h B (Take n AtNothing) m C lasts above.Room (Lock n) (λ content. bind (load_unless sizes.inodestart n content) (taken_record c n)) (Below (labelled l) (below sizes) h C) 3 es w todo
+        (λ v fs here may.
+        let stands_v = (below_laws sizes l keeps).base h w.real v.real w.seen v.seen c here.same here.kept stands in
+        let shows = here.shows in
+        let r = refers v.seen may in
+        let some : 0 < v.seen.refs n = let all = one_refs v.seen h n here.inv lt in let own = r.0 in omega (arith, all, own) in
+        let p = place_there n (tables_of v.real) v.seen (loaded (tables_of v.real)) shows.tables some in (
+          (subst (λ (k : ℕ). 0 < k) (shows.tables.places.counts n) some, λ q. r.1 (shows.tables.places.holders n ∙ q)),
+          λ x t.
+              by_lock h n p.0 (tables_of v.real) v.seen (loaded (tables_of v.real)) shows.tables p.1 (IsActing v (exec h x (Lock n) v.real))
+              (λ waits g out. on_tables v x Waits waits (g, (λ q. r.1 (out ∙ ap (λ (z : ℕ). Some z) q)), sym (shows.tables.places.holders n) ∙ out))
+              (λ u ran free after.
+              on_tables v x (Ran (loaded (tables_of v.real) n) u) ran
+              (came_acting sizes (Take n AtNothing) m B C lasts v (premises.MayWait h (Lock n) v.real.state) (loaded (tables_of v.real) n) (with_tables v.real u) (seen_in n AtNothing (v.seen.disk n)) (put c n (Some (inode_in (log_of v.real) n))) Next tt stands_v.1
+              (lock_came (Take n AtNothing) n v c (seen_in n AtNothing (v.seen.disk n)) u shows stands_v.0 may.0 some free (typed v.seen may free) (ap (lock_if h n (seen_in n AtNothing (v.seen.disk n)) v.seen (locked h n v.seen)) free) after)
+              (λ g stands_g gs inv_g done. loads v shows free some (typed v.seen may free) u g after stands_g gs done))),
+        ))
+      where
+        Next : Option Dinode → Seen → World → above.World → Type 0
+        Next a b u g = (gs : List l.Step) → Inv g → C b gs g
+            → Wp (joined (labelled l) (below sizes)) h B (Below (labelled l) (below sizes) h C) (bind (load_unless sizes.inodestart n a) (taken_record c n)) 3 gs (record { real = u; seen = g })
+
+        IsActing : W → Did (Option Dinode) World → Type 0
+        IsActing v d = Acting (labelled l) (below sizes) laws (below_laws sizes l keeps) h B (Take n AtNothing) m C lasts above.Room v (premises.MayWait h (Lock n) v.real.state) d Next
+
+        on_tables : (v : W) (x : Outside) (d : Did (Option Dinode) TablesState) → lock_inode h n (tables_of v.real) ≡ d → IsActing v (did_in (with_tables v.real) d) → IsActing v (exec h x (Lock n) v.real)
+        on_tables v x d is acting =
+            subst (λ (z : Did (Option Dinode) World). IsActing v z) (sym (in_tables_is h (Lock n) v.real (λ a o. refl) (λ s. refl) (lock_inode h n (tables_of v.real)) ∙ ap (did_in (with_tables v.real)) is)) acting
+
+        loads : (v : W) → Shows v.real v.seen → v.seen.lock n ≡ None → 0 < v.seen.refs n → v.seen.disk n ≢ None → (u : TablesState) (g : above.World)
+            → tables.Shows u (locked h n v.seen) (put (loaded (tables_of v.real)) n None)
+            → Stands sizes h (with_tables v.real u) g (put c n (Some (inode_in (log_of v.real) n))) → (gs : List l.Step) → C (seen_in n AtNothing (v.seen.disk n)) gs g
+            → Wp (joined (labelled l) (below sizes)) h B (Below (labelled l) (below sizes) h C) (bind (load_unless sizes.inodestart n (loaded (tables_of v.real) n)) (taken_record c n)) 3 gs (record { real = with_tables v.real u; seen = g })
+        loads v shows free some there u g after stands_g gs done =
+            let d = inode_in (log_of v.real) n in
+            let range = shows.tables.range n some in
+            let b = seen_in n AtNothing (v.seen.disk n) in
+            let holds = unlocked_holds h lt v.real v.seen shows n free range.0 range.1 in
+            let answer : ◌≡◌ {A = Seen} (record { face = if is_free d then None else Some (face_in d); found = None; empty = true }) b =
+            ap (λ (f : Option Face). record { face = f; found = None; empty = true }) (face_seen d (v.seen.disk n) holds.inode there) in
+            s-load sizes l laws keeps h lt B (Below (labelled l) (below sizes) h C) (C b) (acted (labelled l) (below sizes) laws (below_laws sizes l keeps) h B (Take n AtNothing) m C lasts b)
+            n (loaded (tables_of v.real) n) (put c n (Some d)) (taken_record c n) 0 gs (record { real = with_tables v.real u; seen = g }) done stands_g
+            (sym (after.places.holders n) ∙ put_same v.seen.lock n (Some h)) (let top = range.1 in let size = shows.size in subst (λ (s : Super). n < s.ninodes) stands_g.1 (omega (arith, top, size)))
+            (λ x e. shows.loads.seen n x e)
+            (λ z fs stage stands_z. (subst (λ (a : Seen). C a fs z.seen) (sym answer) stage, stands_z))

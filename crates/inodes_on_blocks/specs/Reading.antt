@@ -1,0 +1,52 @@
+-- The programs below of the operations that lock an inode and read it. sizes: of the mounted image.
+use Rattle.std.specs.Prelude.{ℕ, ℤ, pos, negsuc, true, Option, Some, None, if◌then◌else◌}
+use Rattle.atomic_programs.specs.Prog.{Ret, Do, bind}
+use Rattle.atomic_programs.specs.Joined.{Handed}
+use Rattle.fs_layout.specs.declared.inode.Dinode.{Dinode}
+use Rattle.fs_layout.specs.declared.superblock.Super.{Super}
+use Rattle.fs_machine.specs.Steps.{Lock, LockFile}
+use Rattle.fs_tables.specs.Inodes.{LockedState, Refuses, Locks}
+use Rattle.fs_tables.specs.declared.files.Want.TheVariants as want
+use Rattle.image_tree.specs.Inodes.{is_number, is_free}
+use Rattle.inode_machine.specs.Inodes.{Sort, OfDirectory, OfFile, OfDevice, Face, Seen, AtNothing}
+use Rattle.inode_machine.specs.World as above
+use Rattle.inode_machine.specs.World.Op.{Take, StatFile}
+use Rattle.inode_table.specs.Programs.{load_unless}
+use Rattle.inodes_on_blocks.specs.Handlers.{P, Handler, acts}
+use Rattle.inodes_on_blocks.specs.Lowering.{Carry}
+use Rattle.plain_tree.specs.Tree.{put}
+
+-- ---- what a record tells
+
+-- its type, by the number that stands for it; a device's with the major
+abbrev pub sort_at : (kind major : ℤ) → Sort
+sort_at kind major = if is_number 1 kind then OfDirectory else (if is_number 3 kind then OfDevice major else OfFile)
+
+abbrev pub natural : ℤ → ℕ
+natural (pos n) = n
+natural (negsuc n) = 0
+
+abbrev pub face_in : Dinode → Face
+face_in d = record { sort = sort_at d.kind d.major; count = natural d.nlink; size = d.size }
+
+-- ---- a descriptor's inode, locked to tell its state
+
+-- the record in hand, and the answer by it
+abbrev pub stat_loaded : Carry → (n : ℕ) → Dinode → P (Handed (Option (ℕ × Face)) Carry)
+stat_loaded c n d = Ret (record { answer = Some (n, face_in d); carry = put c n (Some d) })
+
+abbrev pub stat_locked : Super → Carry → LockedState → P (Handed (Option (ℕ × Face)) Carry)
+stat_locked sizes c (Refuses why) = Ret (record { answer = None; carry = c })
+stat_locked sizes c (Locks f content) = bind (load_unless sizes.inodestart f.number content) (stat_loaded c f.number)
+
+-- It acts where the lock is had: the inode that was seen then nobody else changes.
+abbrev pub stat_file : Super → (fd : ℕ) → Handler (StatFile fd)
+stat_file sizes fd c m = Do (LockFile want.Stat fd) (λ a. acts (StatFile fd) above.Room m) (stat_locked sizes c)
+
+-- ---- an inode, locked and loaded
+
+abbrev pub taken_record : Carry → (n : ℕ) → Dinode → P (Handed Seen Carry)
+taken_record c n d = Ret (record { answer = record { face = if is_free d then None else Some (face_in d); found = None; empty = true }; carry = put c n (Some d) })
+
+abbrev pub take : Super → (n : ℕ) → Handler (Take n AtNothing)
+take sizes n c m = Do (Lock n) (λ a. acts (Take n AtNothing) above.Room m) (λ content. bind (load_unless sizes.inodestart n content) (taken_record c n))
