@@ -29,7 +29,7 @@ use Rattle.inode_machine.proofs.Rules.{has_node, root_live, s-owned, locks_none,
 use Rattle.inode_machine.proofs.Walking.{walk_did, own_walk, stage_walk, moves_good}
 use Rattle.inode_machine.proofs.Looks.{spoilt, KeepsHold, mends}
 use Rattle.inode_machine.proofs.Listing.{IsListed, listed_held, times, one_at, one_else, listed_free, listed_on}
-use Rattle.inode_machine.proofs.Walks.{stays_same, names_stay, On, Gone, Ready, few_listed}
+use Rattle.inode_machine.proofs.Walks.{stays_same, names_stay, On, Gone, Ready, few_listed, Known}
 
 -- a live directory is one
 live_sort : (o : Option Node) → live_directory o ≡ true → sort_of o ≡ Some OfDirectory
@@ -164,8 +164,13 @@ s-start h s B Q base O0 e r ns n es w O go lost lt ready at pos follows path pla
             | inl e ↦ (let r : put O.mine.refs i (O.mine.refs i + 1) m.number ≡ O.mine.refs i + 1 = ap (put O.mine.refs i (O.mine.refs i + 1)) e ∙ put_same O.mine.refs i (O.mine.refs i + 1) in omega (arith, r))
             | inr ne ↦ (let r = put_other O.mine.refs i (O.mine.refs i + 1) m.number ne in omega (arith, r, c))
           ];
+          known = known (is_absolute (path_of s)) begun.start;
         })).wp)
       where
+        known : (b : Bool) → i ≡ (if b then root else v.all.cwd h) → Known O i
+        known true q = inl q
+        known false q = inr (inl (q ∙ ap (λ (o : Own). o.row.cwd) ov))
+
         up : Ups h i O v
         up = begun.up
 

@@ -37,7 +37,7 @@ use Rattle.inode_machine.specs.Moving.{chdir_at, chdir_program}
 use Rattle.inode_machine.specs.Programs.{limit}
 use Rattle.inode_machine.specs.Theory.{covered_calls}
 use Rattle.inode_machine.proofs.Frame.{Fair, fair, fair_then, has_inode}
-use Rattle.inode_machine.proofs.Rules.{has_node, locked_held, my_refs, s-take}
+use Rattle.inode_machine.proofs.Rules.{has_node, live_typed, locked_held, my_refs, noted_sort, s-take, sort_there}
 use Rattle.inode_machine.proofs.Rows.{below_is}
 use Rattle.inode_machine.proofs.Walking.{moves_good, own_walk, stage_walk, walk_did}
 use Rattle.inode_machine.proofs.Dups.{s-join}
@@ -49,7 +49,7 @@ use Rattle.inode_machine.proofs.Walks.{At, Gone, Lost, On, Ready, Stays, names_s
 use Rattle.inode_machine.proofs.Beginnings.{Begun as StartsAt, s-begin, s-start}
 use Rattle.inode_machine.proofs.Acts.{Finder, Finding, finding, found_world, last_made, last_takes, refused_made, start_made, start_takes}
 use Rattle.inode_machine.proofs.Chdirs.{Leaving, kind_directory, chdir_made, chdir_refused_step, chdir_step, leaving, left_world, mends_left, s-settle}
-use Rattle.inode_machine.proofs.Endings.{Follows, MayRest, Walked, back_at, face_sort, follows_begin, follows_look, follows_lost, follows_quit, gone_at, home, home_is, joined_own, looks, may_rest, may_stay, missed, names_plain, noted_sort, ready_at, times_none, s-ends, s-give-up, s-lost, tells, walked_begun, walked_tells}
+use Rattle.inode_machine.proofs.Endings.{Follows, MayRest, Walked, back_at, face_sort, follows_begin, follows_look, follows_lost, follows_quit, gone_at, home, home_is, joined_own, looks, may_rest, may_stay, missed, names_plain, ready_at, times_none, s-ends, s-give-up, s-lost, tells, walked_begun, walked_tells}
 
 -- What the call is told.
 
@@ -146,7 +146,7 @@ module _ (h : ℕ) (path : List ℕ) (w : World) (free : (w.desks h).lender ≡ 
   s-moved : (j : ℕ) (ns : List ℕ) (t : Option Note) (n : ℕ) (es : List Step) (u : World) (R : Own) → 2000 + 971 * length ns ≤ n → At h j base ns None t (went j O0) R u → Walked c (record { step = s; answer = Done } ∷ []) es
       → Safe machine h B Q (chdir_at path j ns) n es u
   s-moved j ns t n es u R few at told =
-      s-take (λ o. sort_of o ≡ Some OfDirectory) at.owns (at.stays.lender ∙ free) lt (omega (arith, few)) at.out (let r = at.refs j in let o = one_at j in omega (arith, r, o))
+      s-take (λ o. sort_of o ≡ Some OfDirectory) (λ o q. sort_there o OfDirectory q) at.owns (at.stays.lender ∙ free) lt (omega (arith, few)) at.out (let r = at.refs j in let o = one_at j in omega (arith, r, o))
       (λ v inv ov. let q : v.all.cwd h ≡ j = ap (λ (o : Own). o.row.cwd) ov ∙ ap (λ (r : Row). r.cwd) at.stays.row in ap (λ (z : ℕ). sort_of (v.all.nodes z)) (sym q) ∙ directory_sort v.all h inv.well lt)
       (λ l1 x u1 q1 sort own1.
       subst (λ (b : Bool). Safe machine h B Q (if b then Do (Settle j) unmarked (λ old. drop old (tail ns (done c))) else give_up j (tail ns (failed c NotDirectory))) l1 es u1) (sym (face_sort x OfDirectory sort))
@@ -220,7 +220,7 @@ module _ (h : ℕ) (path : List ℕ) (w : World) (free : (w.desks h).lender ≡ 
   s-not-moved : (j : ℕ) (ns : List ℕ) (x : Option Node) (n : ℕ) (es : List Step) (u : World) (R : Own) → 2000 + 971 * length ns ≤ n → At h j base ns None (Some (record { number = j; sort = sort_of x })) O0 R u → is_live x ≡ true → is_directory (node_or x).kind ≡ false → Walked c (record { step = s; answer = Failed NotDirectory } ∷ []) es
       → Safe machine h B Q (chdir_at path j ns) n es u
   s-not-moved j ns x n es u R few at live isnt told =
-      s-take (λ o. sort_of o ≡ sort_of x) at.owns (at.stays.lender ∙ free) lt (omega (arith, few)) at.out refers
+      s-take (λ o. sort_of o ≡ sort_of x) (λ o q e. live_typed x live (sym q ∙ ap (λ (z : Option Node). sort_of z) e)) at.owns (at.stays.lender ∙ free) lt (omega (arith, few)) at.out refers
       (λ v inv ov. noted_sort h j R (record { number = j; sort = sort_of x }) at.noted refl at.out refers lt v inv ov)
       (λ l1 y u1 q1 sort own1.
       subst (λ (b : Bool). Safe machine h B Q (if b then Do (Settle j) unmarked (λ old. drop old (tail ns (done c))) else give_up j (tail ns (failed c NotDirectory))) l1 es u1) (sym (sort_not x y live isnt sort))

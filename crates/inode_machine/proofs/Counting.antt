@@ -424,7 +424,7 @@ s-down {A} {h} {i} {k} {B} {Q} {n} {es} {w} {O} owns free lt pos out refers none
 -- in a walk: what was the last one is kept for later, without its lock
 pub s-walk-down : {A : Type 0} {h i : ℕ} {k : Bool → P machine A} {B : List Step → Type 0} {Q : A → List Step → World → Type 0} {n : ℕ} {es : List Step} {w : World} {O : Own}
     → own_of h w ≡ O → O.desk.lender ≡ None → h < hart_count → 0 < n → O.inodes i ≡ None → 0 < O.mine.refs i → O.mine.pending ≡ None → MayDrop O i
-    → ((l : ℕ) (s : Option Node) (u : World) → l + 1 ≡ n → is_live s ≡ false → O.mine.refs i ≡ 1 → own_of h u ≡ record O { inodes = put O.inodes i (Some (record { disk = s; node = s; alone = true; locked = false })) } → Safe machine h B Q (k true) l es u)
+    → ((l : ℕ) (s : Option Node) (u : World) → l + 1 ≡ n → is_live s ≡ false → s ≢ None → O.mine.refs i ≡ 1 → own_of h u ≡ record O { inodes = put O.inodes i (Some (record { disk = s; node = s; alone = true; locked = false })) } → Safe machine h B Q (k true) l es u)
     → ((l : ℕ) (u : World) → l + 1 ≡ n → own_of h u ≡ record O { mine = record { refs = put O.mine.refs i (O.mine.refs i - 1); walk = O.mine.walk; pending = O.mine.pending } } → Safe machine h B Q (k false) l es u)
     → Safe machine h B Q (Do (WalkDown i) unmarked k) n es w
 s-walk-down {A} {h} {i} {k} {B} {Q} {n} {es} {w} {O} owns free lt pos out refers none still last rest = s-owned owns free pos (λ v inv ov. ((spares h i v O ov refers (elim still [ inl m ↦ inl m | inr m ↦ inr (not_home h i v O O.desk.opening inv ov free lt m.0) ]), locks_not h i v O inv ov out), (λ x honest. at v inv ov (is_last v i) refl)))
@@ -433,8 +433,16 @@ s-walk-down {A} {h} {i} {k} {B} {Q} {n} {es} {w} {O} owns free lt pos out refers
     at v inv ov true e =
         let a = lasting h i v O v.lock false ov free lt inv out refers none e (λ j ne. refl) (lock_free h i v O inv ov out)
         (λ g q. absurd (let c : is_last v i ≡ true = e in elim (same_or g h) [ inl s ↦ locks_not h i v O inv ov out (q ∙ ap (λ (z : ℕ). Some z) s) | inr ne ↦ held_not g v inv ov ne q c ])) in
-        quiet a.fair refl pos (λ l q. (last l (v.all.nodes i) (reserved h i v) q a.dead a.only a.owned).wp)
+        quiet a.fair refl pos (λ l q. (last l (v.all.nodes i) (reserved h i v) q a.dead (there a.owned) a.only a.owned).wp)
       where
+        -- what has no links has a record
+        there : own_of h (reserved h i v) ≡ record O { inodes = put O.inodes i (Some (record { disk = v.all.nodes i; node = v.all.nodes i; alone = true; locked = false })) } → v.all.nodes i ≢ None
+        there owned z =
+            let d = has_disk h i (reserved h i v) (record O { inodes = put O.inodes i (Some (record { disk = v.all.nodes i; node = v.all.nodes i; alone = true; locked = false })) }) (record { disk = v.all.nodes i; node = v.all.nodes i; alone = true; locked = false }) owned (put_same O.inodes i (Some (record { disk = v.all.nodes i; node = v.all.nodes i; alone = true; locked = false }))) in
+            let c = (and_true (v.refs i == 1) (is_dead (v.disk i)) e).1 in
+            let f : is_dead (v.disk i) ≡ false = ap (λ (o : Option Node). is_dead o) (d ∙ z) in
+            cc (c, f)
+
         -- another hart's lock has a reference of its own
         held_not : (g : ℕ) (v : World) → Inv v → own_of h v ≡ O → g ≢ h → v.lock i ≡ Some g → is_last v i ≡ true → ⊥
         held_not g v inv ov ne q c =

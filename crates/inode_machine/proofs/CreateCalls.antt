@@ -38,16 +38,16 @@ use Rattle.inode_machine.specs.Naming.{in_parent}
 use Rattle.inode_machine.specs.Programs.{path_cost, rest_cost}
 use Rattle.inode_machine.specs.Theory.{covered_calls}
 use Rattle.inode_machine.proofs.Frame.{Fair, fair, fair_same, fair_then, has_inode}
-use Rattle.inode_machine.proofs.Rules.{quiet, locked_held, has_node, my_refs, s-up}
+use Rattle.inode_machine.proofs.Rules.{has_node, locked_held, my_refs, noted_sort, quiet, s-up}
 use Rattle.inode_machine.proofs.Counting.{one_most}
 use Rattle.inode_machine.proofs.Walking.{own_walk, stage_walk, walk_did}
 use Rattle.inode_machine.proofs.Tables.{lowest_same}
 use Rattle.inode_machine.proofs.Dups.{Flagging, not_at}
 use Rattle.inode_machine.proofs.Looks.{KeepsHold, MoveFine, live_face, mends, note_of, noting, quit_good, s-take-then, spoilt}
 use Rattle.inode_machine.proofs.Listing.{times, one_at, one_else, listed_held}
-use Rattle.inode_machine.proofs.Walks.{At, Mending, On, Ready, Stays, names_stay, stays_same}
+use Rattle.inode_machine.proofs.Walks.{At, Mending, On, Ready, Stays, names_stay, stays_same, known_there, on_refers}
 use Rattle.inode_machine.proofs.Acts.{Finding, finding, found_world, refused_made}
-use Rattle.inode_machine.proofs.Endings.{Walked, home, joined_own, may_rest, noted_sort, ready_at}
+use Rattle.inode_machine.proofs.Endings.{Walked, home, joined_own, may_rest, ready_at}
 use Rattle.inode_machine.proofs.Openings.{Opening, fresh_id, opened_row, opened_tree, opened_world, opening, row_back, unopened_row}
 use Rattle.inode_machine.proofs.Unopens.{mends_opened}
 use Rattle.inode_machine.proofs.Opens.{dirties, moves_full, open_place, refusal_by_sort, file_by_sort}
@@ -178,7 +178,7 @@ module _ (h : ℕ) (path : List ℕ) (flags : ℕ) (w : World) (free : (w.desks 
       k2 = record {
         stays = stays_same O4 O2 P0 refl refl refl k.stays;
         refs = more;
-        all = λ i p. let a = k.all i p in record { node = a.node; is = a.is; dead = a.dead; one = put_other O2.mine.refs j (O2.mine.refs j + 1) i (not_j i p) ∙ a.one; unnamed = a.unnamed };
+        all = λ i p. let a = k.all i p in record { node = a.node; there = a.there; is = a.is; dead = a.dead; one = put_other O2.mine.refs j (O2.mine.refs j + 1) i (not_j i p) ∙ a.one; unnamed = a.unnamed };
         once = k.once;
         has = k.has;
         only = k.only;
@@ -434,7 +434,7 @@ module _ (h : ℕ) (path : List ℕ) (flags : ℕ) (w : World) (free : (w.desks 
   -- The parent is seen.
   sees : (d : ℕ) (e : Name) (ns : List ℕ) (n : ℕ) (es : List Step) (w0 : World) (O : Own) → 971 * length ns + 24000 ≤ n → On h s d e [] base ns O0 O w0 → Walked c [] es → Safe machine h B Q (create_in path flags d e ns) n es w0
   sees d e ns n es w0 O few on told =
-      s-take-then on.owns (on.stays.lender ∙ free) lt (omega (arith, few)) on.out (let f = on.refs d in let o = one_at d in omega (arith, f, o)) (λ u x inv own1. seen u x inv own1 (live_directory x) refl (look (λ j. x) d e) refl)
+      s-take-then on.owns (on.stays.lender ∙ free) lt (omega (arith, few)) on.out (on_refers on) (λ v inv ov. known_there h d v O inv ov lt on.out (on_refers on) on.known) (λ u x inv own1. seen u x inv own1 (live_directory x) refl (look (λ j. x) d e) refl)
     where
       Goal : World → Option Node → Option Mark → P Reply → Type 0
       Goal u x m p = Fine machine h (places h (Take d (AtName e)) (seen_in d (AtName e) x) m u) 1611 n B es u (marked h m u) (λ l. Wp machine h B Q p l (onto (own h (places h (Take d (AtName e)) (seen_in d (AtName e) x) m u)) es) (marked h m u))

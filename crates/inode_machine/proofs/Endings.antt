@@ -18,14 +18,13 @@ use Rattle.tree_laws.proofs.Sums.{one_yes}
 use Rattle.tree_laws.proofs.Maps.{either, same_or, put_same, put_other}
 use Rattle.tree_moves.specs.Moves.{Deed, Step, Move, begins, fail, IsNext, MayEnd, Played, Written}
 use Rattle.tree_moves.specs.Moves.Move.{Begin, Look, Quit}
-use Rattle.inode_machine.specs.World.{Desk, Note, World}
+use Rattle.inode_machine.specs.World.{Desk, World}
 use Rattle.inode_machine.specs.Inodes.{Sort, sort_of, face_of, is_directory_face, is_directory_sort}
 use Rattle.inode_machine.specs.Exec.{is_at}
 use Rattle.inode_machine.specs.Rules.{Own, Held, key_in, nothing, own_names, own_of, Idle, Inv, Rests, left_or, machine}
 use Rattle.inode_machine.specs.Parts.{P, Stop, NotThere, NoMemory, failed, give_up, stopped, tail}
 use Rattle.inode_machine.specs.Theory.{covered_calls}
-use Rattle.inode_machine.proofs.Frame.{has_none}
-use Rattle.inode_machine.proofs.Rules.{locked_held, my_refs, not_alone}
+use Rattle.inode_machine.proofs.Rules.{locked_held}
 use Rattle.inode_machine.proofs.Counting.{s-give, one_most}
 use Rattle.inode_machine.proofs.Drops.{s-drop}
 use Rattle.inode_machine.proofs.Listing.{times, one_at, one_else, Listed, listed_among, Through, s-tail}
@@ -197,24 +196,6 @@ s-refuse h c r j x base ns n es w O own free lt few joined listed out refs walk 
       left = ap (λ (z : Desk). z.left) g.desk ∙ may.left;
       counts = λ i. may.counts i ∙ (λ z. one_if ((sym g.desk z).directory == i));
     }) (elim told [ inl f ↦ inl (ap (λ (z : Desk). z.full) g.desk ∙ f) | inr y ↦ inr y ]))
-
--- What was found has the type that it had then.
-pub noted_sort : (h j : ℕ) (R : Own) (m : Note) → R.desk.noted ≡ Some m → m.number ≡ j → R.inodes j ≡ None → 0 < R.mine.refs j → h < hart_count → (v : World) → Inv v → own_of h v ≡ R → sort_of (v.all.nodes j) ≡ m.sort
-noted_sort h j R m is number out refers lt v inv ov =
-    ap (λ (z : ℕ). sort_of (v.all.nodes z)) (sym number)
-    ∙ inv.noted h m lt (ap (λ (o : Own). o.desk.noted) ov ∙ is) (inl (let r = my_refs h v R j ov in let e : (v.harts h).refs m.number ≡ (v.harts h).refs j = ap (v.harts h).refs number in omega (arith, r, e, refers))) (ap v.alone number ∙ shared)
-  where
-    mine : 0 < (v.harts h).refs j
-    mine = let r = my_refs h v R j ov in omega (arith, r, refers)
-
-    shared : v.alone j ≡ false
-    shared = elim (either (v.alone j)) [
-      | inr y ↦ y
-      | inl y ↦ (let a = inv.alone j y in elim (same_or a.hart h) [
-        | inl e ↦ absurd (has_none h j v R ov out (a.kept ∙ ap (λ (z : ℕ). Some z) e))
-        | inr ne ↦ absurd (not_alone h a.hart j v inv lt ne (inr mine) y a.kept)
-      ])
-    ]
 
 -- a face tells the type
 pub face_sort : (v : Option Node) (s : Sort) → sort_of v ≡ Some s → is_directory_face (face_of v) ≡ is_directory_sort s

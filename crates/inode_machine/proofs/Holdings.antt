@@ -48,6 +48,7 @@ holding_set {base} {ns} {O0} {O} {E} {more} R d y more2 k zero inodes stays same
   refs = refs;
   all = λ i t. let a = k.all i t in let ne = not_d i t in record {
     node = a.node;
+    there = a.there;
     is = ap (λ (f : ℕ → Option Held). f i) inodes ∙ put_other O.inodes d y i ne ∙ a.is;
     dead = a.dead;
     one = same i ne ∙ a.one;
@@ -74,6 +75,7 @@ holding_same {O0 = O0} {O = O} R k inodes stays refs = record {
   refs = λ i. ap (λ (f : ℕ → ℕ). f i) refs ∙ k.refs i;
   all = λ i t. let a = k.all i t in record {
     node = a.node;
+    there = a.there;
     is = ap (λ (f : ℕ → Option Held). f i) inodes ∙ a.is;
     dead = a.dead;
     one = ap (λ (f : ℕ → ℕ). f i) refs ∙ a.one;
@@ -91,6 +93,7 @@ holding_to {O0 = O0} {O = O} O1 R k inodes stays refs names = record {
   refs = λ i. ap (λ (f : ℕ → ℕ). f i) refs ∙ k.refs i;
   all = λ i t. let a = k.all i t in record {
     node = a.node;
+    there = a.there;
     is = ap (λ (f : ℕ → Option Held). f i) inodes ∙ a.is;
     dead = a.dead;
     one = ap (λ (f : ℕ → ℕ). f i) refs ∙ a.one;

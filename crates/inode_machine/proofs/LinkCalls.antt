@@ -1,5 +1,5 @@
 -- Link is right, whatever the other harts do.
-use Rattle.std.proofs.Common.{◌≡◌, ◌⊎◌, inl, inr, ℕ, ◌+◌, ◌*◌, ◌<◌, ◌≤◌, Bool, true, false, ◌==◌, ◌||◌, nat_lt, List, [], ◌∷◌, length, Option, Some, None, refl, sym, ◌∙◌, ap, subst, arith, if◌then◌else◌}
+use Rattle.std.proofs.Common.{◌≡◌, ◌≢◌, ◌⊎◌, inl, inr, ℕ, ◌+◌, ◌*◌, ◌<◌, ◌≤◌, Bool, true, false, ◌==◌, ◌||◌, nat_lt, List, [], ◌∷◌, length, Option, Some, None, refl, sym, ◌∙◌, ap, subst, arith, if◌then◌else◌}
 use Rattle.atomic_programs.specs.Logic.{own, onto, Fine, Safe, Wp}
 use Rattle.atomic_programs.specs.Calls.{Begun, Ends, IsBeginning}
 use Rattle.plain_tree.specs.declared.answer.Cause.TheVariants.{IsDirectory, NoEntry, TooManyLinks}
@@ -41,7 +41,7 @@ use Rattle.inode_machine.specs.Naming.{bump_refused, bumps_if, is_refused, link_
 use Rattle.inode_machine.specs.Programs.{limit}
 use Rattle.inode_machine.specs.Theory.{covered_calls}
 use Rattle.inode_machine.proofs.Frame.{Fair, fair, fair_same, fair_then, has_inode}
-use Rattle.inode_machine.proofs.Rules.{quiet, has_node, locked_held, my_refs}
+use Rattle.inode_machine.proofs.Rules.{quiet, has_node, locked_held, my_refs, noted_sort, sort_there}
 use Rattle.inode_machine.proofs.Walking.{moves_good, own_walk, stage_walk, walk_did}
 use Rattle.inode_machine.proofs.Dups.{fails, less_is, s-join}
 use Rattle.inode_machine.proofs.Looks.{KeepsHold, MoveFine, mends, note_of, s-take-then}
@@ -168,7 +168,7 @@ module _ (h : ℕ) (old new : List ℕ) (w : World) (free : (w.desks h).lender �
 
   -- What was found is a file or a device: its count is raised.
   s-file : (j : ℕ) (ns : List ℕ) (t : Option Note) (n : ℕ) (es : List Step) (u : World) (R : Own) → 971 * length ns + K ≤ n → At h j base ns None t (low_own j O0) R u → ((m : Note) → t ≡ Some m → m.number ≡ j) → Walked c (found old ∷ []) es → Safe machine h B Q (link_at old new j ns) n es u
-  s-file j ns t n es u R few at number told = s-take-then at.owns free_r lt (omega (arith, few)) at.out refers (λ u1 x inv own1. by u1 x inv own1)
+  s-file j ns t n es u R few at number told = s-take-then at.owns free_r lt (omega (arith, few)) at.out refers (λ v inv ov e. let a : IsThere v.all.nodes j false = inv.well.holds h (low j) lt (ap (λ (o : Own). o.row.hold) ov ∙ holds_r) in let b = a.is in cc (b, e)) (λ u1 x inv own1. by u1 x inv own1)
     where
       free_r : R.desk.lender ≡ None
       free_r = at.stays.lender ∙ free
@@ -261,9 +261,9 @@ module _ (h : ℕ) (old new : List ℕ) (w : World) (free : (w.desks h).lender �
           plain = ap (λ (o : Option Node). is_directory (node_or o).kind) (sym (has_node h j u1 (O1 (Some X)) (locked_held (Some X)) own1 (isj (Some X))) ∙ there.is) ∙ there.sort
 
   -- What was found is a directory, and is given up.
-  s-directory : (j : ℕ) (ns : List ℕ) (t : Option Note) (n : ℕ) (es : List Step) (u : World) (R : Own) → 971 * length ns + 2000 ≤ n → At h j base ns None t O0 R u → ((v : World) (x : Option Node) → Inv v → own_of h v ≡ record R { inodes = put R.inodes j (Some (locked_held x)) } → sort_of (v.all.nodes j) ≡ Some OfDirectory) → Walked c (not_found old ∷ []) es
+  s-directory : (j : ℕ) (ns : List ℕ) (t : Option Note) (n : ℕ) (es : List Step) (u : World) (R : Own) → 971 * length ns + 2000 ≤ n → At h j base ns None t O0 R u → ((v : World) → Inv v → own_of h v ≡ R → v.all.nodes j ≢ None) → ((v : World) (x : Option Node) → Inv v → own_of h v ≡ record R { inodes = put R.inodes j (Some (locked_held x)) } → sort_of (v.all.nodes j) ≡ Some OfDirectory) → Walked c (not_found old ∷ []) es
       → Safe machine h B Q (link_at old new j ns) n es u
-  s-directory j ns t n es u R few at typed told = s-take-then at.owns free_r lt (omega (arith, few)) at.out refers (λ u1 x inv own1. by u1 x inv own1 (sort_at u1 x inv own1))
+  s-directory j ns t n es u R few at there typed told = s-take-then at.owns free_r lt (omega (arith, few)) at.out refers there (λ u1 x inv own1. by u1 x inv own1 (sort_at u1 x inv own1))
     where
       free_r : R.desk.lender ≡ None
       free_r = at.stays.lender ∙ free
@@ -367,7 +367,9 @@ module _ (h : ℕ) (old new : List ℕ) (w : World) (free : (w.desks h).lender �
           (noted_stays O2 refl refl refl) free
           (λ v inv2 ov. let m = mends h v O2 ov free_o lt inv2 (on.stays.opening ∙ ready.opening) (on.stays.left ∙ ready.left) (subst (λ (r : Row). KeepsHold r.hold) (sym on.stays.row) ready.hold) names0 in record { fair = m.fair; bad = m.bad; owned = m.owned })
           (record { stays = mended_stays; inodes = refl; refs = refl; walk = refl; pending = refl; full = refl })
-          (λ ms l2 u2 R few2 at2. s-directory j ms (Some (note_of u.all j)) l2 (tells (Look 0) (deed_of (Failed IsDirectory)) ∷ es) u2 R (omega (arith, few2)) at2 (λ v x2 inv2 ov. typed v x2 R u2 ms at2 inv2 ov) written)).wp)
+          (λ ms l2 u2 R few2 at2. s-directory j ms (Some (note_of u.all j)) l2 (tells (Look 0) (deed_of (Failed IsDirectory)) ∷ es) u2 R (omega (arith, few2)) at2
+          (λ v inv2 ov. sort_there (v.all.nodes j) OfDirectory (noted_sort h j R (note_of u.all j) at2.noted refl at2.out (let r = at2.refs j in let o = one_at j in omega (arith, r, o)) lt v inv2 ov ∙ sort_directory (u.all.nodes j) isa))
+          (λ v x2 inv2 ov. typed v x2 R u2 ms at2 inv2 ov) written)).wp)
         where
           written : Walked c (not_found old ∷ []) (tells (Look 0) (deed_of (Failed IsDirectory)) ∷ es)
           written = walked_tells c [] (Look 0) (deed_of (Failed IsDirectory)) es tt told
@@ -452,7 +454,7 @@ module _ (h : ℕ) (old new : List ℕ) (w : World) (free : (w.desks h).lender �
         refs = at.refs;
         listed = listed_among O O2 base [] gone.listed (λ j. refl) (λ j t. put_other O.mine.refs i (O.mine.refs i + 1) j (at.apart j t)) (λ j t p. p);
         out = at.out;
-      }) (λ v2 x inv2 ov2. typed v2 x inv2 ov2) written).wp)
+      }) (λ v2 inv2 ov2. sort_there (v2.all.nodes i) OfDirectory (typed v2 inv2 (ap (λ (o : Own). o.row.cwd) ov2))) (λ v2 x inv2 ov2. typed v2 inv2 (ap (λ (o : Own). o.row.cwd) ov2)) written).wp)
     where
       p0 : ℕ
       p0 = start_of v.all h old
@@ -482,13 +484,13 @@ module _ (h : ℕ) (old new : List ℕ) (w : World) (free : (w.desks h).lender �
       own2 = own_walk h None None u1 (record O { mine = record { refs = put O.mine.refs i (O.mine.refs i + 1); walk = O.mine.walk; pending = None } }) at.up.owned
 
       -- the start is a directory still
-      typed : (v2 : World) (x : Option Node) → Inv v2 → own_of h v2 ≡ record O2 { inodes = put O2.inodes i (Some (locked_held x)) } → sort_of (v2.all.nodes i) ≡ Some OfDirectory
-      typed v2 x inv2 ov2 = by_start (is_absolute old) at.start
+      typed : (v2 : World) → Inv v2 → v2.all.cwd h ≡ O.row.cwd → sort_of (v2.all.nodes i) ≡ Some OfDirectory
+      typed v2 inv2 same = by_start (is_absolute old) at.start
         where
           by_start : (b : Bool) → i ≡ (if b then root else v.all.cwd h) → sort_of (v2.all.nodes i) ≡ Some OfDirectory
           by_start true q = ap (λ (z : ℕ). sort_of (v2.all.nodes z)) q ∙ root_sort v2.all inv2.well
           by_start false q =
-              let r : i ≡ v2.all.cwd h = q ∙ ap (λ (o : Own). o.row.cwd) ov ∙ sym (ap (λ (o : Own). o.row.cwd) ov2) in
+              let r : i ≡ v2.all.cwd h = q ∙ ap (λ (o : Own). o.row.cwd) ov ∙ sym same in
               ap (λ (z : ℕ). sort_of (v2.all.nodes z)) r ∙ directory_sort v2.all h inv2.well lt
 
   notes : (m : Note) → O0.desk.noted ≡ Some m → 0 < O0.mine.refs m.number

@@ -189,7 +189,7 @@ module _ (h : ℕ) (old new : List ℕ) (lt : h < hart_count) {base : ℕ → �
   lowers : (r : Reply) (ms : List ℕ) (n : ℕ) (es : List Step) (u : World) (R : Own) (E : ℕ → Option Held) → 971 * length ms + 2000 ≤ n → own_of h u ≡ R → Holding (more_base base j) ms (high_own j O0) R E (λ i. 0) → ((i : ℕ) → E i ≡ None) → R.mine.walk ≡ None → R.mine.pending ≡ None → Lowers old new r es R
       → Goes h old new (lower old new j r ms) n es u
   lowers r ms n es u R E few held k empty walk none told =
-      s-take (λ o. (X : Node) × (o ≡ Some X)) held free lt (omega (arith, few)) (out_of k (empty j)).1 (let a = k.refs j in let o = one_at j in omega (arith, a, o))
+      s-take (λ o. (X : Node) × (o ≡ Some X)) (λ o f e. let a = f.1 in cc (a, e)) held free lt (omega (arith, few)) (out_of k (empty j)).1 (let a = k.refs j in let o = one_at j in omega (arith, a, o))
       (λ v inv ov. let t = held_there v inv ov in (t.node, t.is)) (λ l x u1 q f held1. by l x u1 q f held1)
     where
       free : R.desk.lender ≡ None
@@ -297,7 +297,7 @@ module _ (h : ℕ) (old new : List ℕ) (lt : h < hart_count) {base : ℕ → �
               | inl q ↦ (let a : put M.mine.refs j (M.mine.refs j - 1) i ≡ M.mine.refs j - 1 = ap (put M.mine.refs j (M.mine.refs j - 1)) q ∙ put_same M.mine.refs j (M.mine.refs j - 1) in let b : M.mine.refs i ≡ M.mine.refs j = ap M.mine.refs q in let o : one_if (j == i) ≡ 1 = ap (λ (z : ℕ). one_if (j == z)) q ∙ one_at j in omega (arith, a, b, o, r))
               | inr ne ↦ (let a = put_other M.mine.refs j (M.mine.refs j - 1) i ne in let o = one_else j i ne in omega (arith, a, o, r))
             ];
-            all = λ i t. let a = k2.all i t in record { node = a.node; is = a.is; dead = a.dead; one = put_other M.mine.refs j (M.mine.refs j - 1) i (not_j i t) ∙ a.one; unnamed = a.unnamed };
+            all = λ i t. let a = k2.all i t in record { node = a.node; there = a.there; is = a.is; dead = a.dead; one = put_other M.mine.refs j (M.mine.refs j - 1) i (not_j i t) ∙ a.one; unnamed = a.unnamed };
             once = k2.once;
             has = k2.has;
             only = k2.only;
@@ -409,7 +409,7 @@ module _ (h : ℕ) (old new : List ℕ) (lt : h < hart_count) {base : ℕ → �
           (λ l u q2 held2. lowers (failed (calls.Link old new) NoEntry) ns l (begin_refused (steps.Enter new) ∷ es) u _ nothing (omega (arith, few2, q2)) held2 (record {
             stays = stays_same _ R (high_own j O0) refl refl refl stays;
             refs = λ i. let r = refs i in omega (arith, r);
-            all = λ i t. let a = listed.all i t in record { node = a.node; is = a.is; dead = a.dead; one = a.one; unnamed = a.unnamed };
+            all = λ i t. let a = listed.all i t in record { node = a.node; there = a.there; is = a.is; dead = a.dead; one = a.one; unnamed = a.unnamed };
             once = listed.once;
             has = λ i y e. absurd cc;
             only = λ i y e. inl (listed.only i y e);

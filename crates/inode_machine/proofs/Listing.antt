@@ -44,6 +44,7 @@ listed_held v = record { disk = v; node = v; alone = true; locked = false }
 -- dead, kept alone, with one reference, and named by nothing
 pub record IsListed (O : Own) (i : ℕ) : Type 0 where
   pub node : Option Node
+  pub there : node ≢ None
   pub is : O.inodes i ≡ Some (listed_held node)
   pub dead : is_live node ≡ false
   pub one : O.mine.refs i ≡ 1
@@ -64,7 +65,7 @@ listed_free O base ns l i x is = let a = l.all i (l.only i x is) in let q : Some
 -- the same, where the rest changed
 pub listed_among : (O P : Own) (base : ℕ → ℕ) (ns : List ℕ) → Listed O base ns → ((i : ℕ) → P.inodes i ≡ O.inodes i) → ((i : ℕ) → 0 < times i ns → P.mine.refs i ≡ O.mine.refs i) → ((i : ℕ) → 0 < times i ns → own_names O.row O.desk i ≡ false → own_names P.row P.desk i ≡ false) → Listed P base ns
 listed_among O P base ns l inodes refs names = record {
-  all = λ i t. let a = l.all i t in record { node = a.node; is = inodes i ∙ a.is; dead = a.dead; one = refs i t ∙ a.one; unnamed = names i t a.unnamed };
+  all = λ i t. let a = l.all i t in record { node = a.node; there = a.there; is = inodes i ∙ a.is; dead = a.dead; one = refs i t ∙ a.one; unnamed = names i t a.unnamed };
   only = λ i x is. l.only i x (sym (inodes i) ∙ is);
   once = l.once;
 }
@@ -82,7 +83,7 @@ pub listed_more : (O P : Own) (base : ℕ → ℕ) (ns : List ℕ) (d : ℕ) →
 listed_more O P base ns d l out new inodes refs names = record {
   all = λ i t. elim (same_or i d) [
     | inl q ↦ subst (IsListed P) (sym q) new
-    | inr ne ↦ (let a = l.all i (let x = times_last i d ns in let y = one_else d i ne in omega (arith, x, y, t)) in record { node = a.node; is = inodes i ne ∙ a.is; dead = a.dead; one = refs i (let x = times_last i d ns in let y = one_else d i ne in omega (arith, x, y, t)) ∙ a.one; unnamed = names i a.unnamed })
+    | inr ne ↦ (let a = l.all i (let x = times_last i d ns in let y = one_else d i ne in omega (arith, x, y, t)) in record { node = a.node; there = a.there; is = inodes i ne ∙ a.is; dead = a.dead; one = refs i (let x = times_last i d ns in let y = one_else d i ne in omega (arith, x, y, t)) ∙ a.one; unnamed = names i a.unnamed })
   ];
   only = λ i x is. let y = times_last i d ns in elim (same_or i d) [
     | inl q ↦ (let z : one_if (d == i) ≡ 1 = ap (λ (k : ℕ). one_if (d == k)) q ∙ one_at d in omega (arith, y, z))
@@ -117,12 +118,12 @@ other_four f n i a b c y ne = put_other (put (put (put f n a) n b) n c) n y i ne
 
 -- An inode of the list is freed in a transaction of its own.
 pub s-free-listed : {A : Type 0} {h : ℕ} (n : ℕ) {k : P A} {B : List Step → Type 0} {Q : A → List Step → World → Type 0} {c : ℕ} {es : List Step} {w : World} {O : Own} (v : Option Node)
-    → own_of h w ≡ O → O.desk.lender ≡ None → h < hart_count → 971 < c → UnlocksAll O → ((i : ℕ) (x : Held) → O.inodes i ≡ Some x → x.disk ≡ x.node) → O.desk.joined ≡ false → O.inodes n ≡ Some (listed_held v) → O.mine.refs n ≡ 1 → own_names O.row O.desk n ≡ false → O.mine.walk ≡ None → O.mine.pending ≡ None
+    → own_of h w ≡ O → O.desk.lender ≡ None → h < hart_count → 971 < c → UnlocksAll O → ((i : ℕ) (x : Held) → O.inodes i ≡ Some x → x.disk ≡ x.node) → O.desk.joined ≡ false → O.inodes n ≡ Some (listed_held v) → v ≢ None → O.mine.refs n ≡ 1 → own_names O.row O.desk n ≡ false → O.mine.walk ≡ None → O.mine.pending ≡ None
     → ((l : ℕ) (P : Own) (u : World) → l + 971 ≡ c → FreedOne O P n → own_of h u ≡ P → Safe machine h B Q k l es u)
     → Safe machine h B Q (free_listed n k) c es w
-s-free-listed {h = h} n {O = O} v owns free lt few locks whole out is one unnamed walk pending rest =
+s-free-listed {h = h} n {O = O} v owns free lt few locks whole out is there one unnamed walk pending rest =
     s-join owns free lt (omega arith) locks out (λ l1 u1 q1 own1.
-    s-take-kept own1 free lt (omega (arith, q1, few)) is refl (omega (arith, one)) (λ l2 u2 q2 own2.
+    s-take-kept own1 free lt (omega (arith, q1, few)) is refl there (omega (arith, one)) (λ l2 u2 q2 own2.
     s-free-all v own2 free lt (omega (arith, q1, q2, few)) refl (put_same O.inodes n (Some (record { disk = v; node = v; alone = true; locked = true }))) one pending unnamed walk (λ l3 u3 q3 own3.
     s-leave own3 free lt (omega (arith, q1, q2, q3, few)) left_free refl left_whole (λ l4 u4 q4 own4.
     rest l4 _ u4 (omega (arith, q1, q2, q3, q4))
@@ -186,7 +187,7 @@ module _ (h : ℕ) (B : List Step → Type 0) (Q : Reply → List Step → World
           go None q = refl
           go (Some x) q = absurd (let t = l.only i x q in omega (arith, t))
   frees base es O0 ends (m ∷ ns) n w O owns free row desk few l refs walk pending =
-      s-free-listed m here.node owns free lt (omega (arith, few)) (listed_free O base (m ∷ ns) l) (listed_whole O base (m ∷ ns) l) (ap (λ (d : Desk). d.joined) desk) here.is here.one here.unnamed walk pending (λ l1 P u1 q1 f own1.
+      s-free-listed m here.node owns free lt (omega (arith, few)) (listed_free O base (m ∷ ns) l) (listed_whole O base (m ∷ ns) l) (ap (λ (d : Desk). d.joined) desk) here.is here.there here.one here.unnamed walk pending (λ l1 P u1 q1 f own1.
       again l1 P u1 q1 f own1 (frees base es O0 ends ns l1 u1 P own1))
     where
       once_m : times m ns ≡ 0
@@ -200,7 +201,7 @@ module _ (h : ℕ) (B : List Step → Type 0) (Q : Reply → List Step → World
           → Safe machine h B Q (free_all ns (Do Say unmarked (λ _. Ret r))) l1 es u1
       again l1 P u1 q1 f own1 next = next (ap (λ (d : Desk). d.lender) f.desk ∙ free) (f.row ∙ row) (f.desk ∙ (λ z. record (desk z) { joined = false; noted = None })) (omega (arith, few, q1)) (record {
         all = λ i t. let ne : i ≢ m = (λ q. let e : times i ns ≡ 0 = ap (λ (k : ℕ). times k ns) q ∙ once_m in omega (arith, e, t)) in let a = l.all i (omega (arith, t)) in
-            record { node = a.node; is = f.inodes i ne ∙ a.is; dead = a.dead; one = f.refs i ne ∙ a.one; unnamed = (λ z. own_names (f.row z) (f.desk z) i) ∙ a.unnamed };
+            record { node = a.node; there = a.there; is = f.inodes i ne ∙ a.is; dead = a.dead; one = f.refs i ne ∙ a.one; unnamed = (λ z. own_names (f.row z) (f.desk z) i) ∙ a.unnamed };
         only = λ i x q. elim (same_or i m) [
           | inl e ↦ absurd (let g : P.inodes i ≡ None = ap P.inodes e ∙ f.gone in cc (g, q))
           | inr ne ↦ (let t = l.only i x (sym (f.inodes i ne) ∙ q) in let z = one_else m i ne in omega (arith, t, z))

@@ -1,5 +1,5 @@
 -- The moves of a walk: it begins, looks on, is refused at its last lookup, is given up; and a call that finds no room.
-use Rattle.std.proofs.Common.{◌≡◌, inl, inr, ℕ, ◌+◌, ◌-◌, ◌<◌, Bool, true, false, List, [], ◌∷◌, Option, Some, None, refl, sym, ◌∙◌, ap, subst, arith, nat_lt, ◌&&◌}
+use Rattle.std.proofs.Common.{◌≡◌, ◌≢◌, inl, inr, ℕ, ◌+◌, ◌-◌, ◌<◌, Bool, true, false, List, [], ◌∷◌, Option, Some, None, refl, sym, ◌∙◌, ap, subst, arith, nat_lt, ◌&&◌}
 use Rattle.atomic_programs.specs.Prog.{Do}
 use Rattle.atomic_programs.specs.Logic.{P, own, onto, Good, Fine, Safe, Wp}
 use Rattle.plain_tree.specs.declared.node.Node.{Node}
@@ -29,7 +29,7 @@ use Rattle.inode_machine.specs.Exec.{locked, lock_if, with_walk}
 use Rattle.inode_machine.specs.Marks.{marked, with_mark, with_made, mended, made_by, look_made, looked, acts, found_by, places, new_id, unopened, unmoved, unheld}
 use Rattle.inode_machine.specs.Rules.{Own, Held, own_of, Inv, IsOut, looking_cost, machine, own_names}
 use Rattle.inode_machine.proofs.Frame.{Fair, fair, fair_then, has_inode}
-use Rattle.inode_machine.proofs.Rules.{s-owned, others, fine_after, locking, is_out, locks_not, locked_held, my_refs, has_node}
+use Rattle.inode_machine.proofs.Rules.{s-owned, others, fine_after, locking, is_out, live_typed, locks_not, locked_held, my_refs, has_node}
 use Rattle.inode_machine.proofs.Walking.{walk_named_did, walk_did, own_walk, stage_walk, moves_good}
 use Rattle.inode_machine.proofs.Dups.{with_new, Flagging, flagging}
 use Rattle.inode_machine.proofs.Shops.{names_less}
@@ -72,12 +72,15 @@ places_locked h d i looking a (Some (Spoils s)) v = refl
 
 -- The lock is had, and then what is seen decides the move. u: the world in which the hart has it.
 pub s-take-then : {A : Type 0} {h d : ℕ} {looking : Looking} {m : Seen → Option Mark} {k : Seen → P machine A} {B : List Step → Type 0} {Q : A → List Step → World → Type 0} {n : ℕ} {es : List Step} {w : World} {O : Own}
-    → own_of h w ≡ O → O.desk.lender ≡ None → h < hart_count → looking_cost looking < n → O.inodes d ≡ None → 0 < O.mine.refs d
+    → own_of h w ≡ O → O.desk.lender ≡ None → h < hart_count → looking_cost looking < n → O.inodes d ≡ None → 0 < O.mine.refs d → ((v : World) → Inv v → own_of h v ≡ O → v.all.nodes d ≢ None)
     → ((u : World) (c : Option Node) → Inv u → own_of h u ≡ record O { inodes = put O.inodes d (Some (locked_held c)) }
     → Fine machine h (places h (Take d looking) (seen_in d looking c) (m (seen_in d looking c)) u) (looking_cost looking) n B es u (marked h (m (seen_in d looking c)) u)
     (λ l. Wp machine h B Q (k (seen_in d looking c)) l (onto (own h (places h (Take d looking) (seen_in d looking c) (m (seen_in d looking c)) u)) es) (marked h (m (seen_in d looking c)) u)))
     → Safe machine h B Q (Do (Take d looking) m k) n es w
-s-take-then {A} {h} {d} {looking} {m} {k} {B} {Q} {n} {es} {w} {O} owns free lt pos out refers good = s-owned owns free pos (λ v inv ov. ((let r = my_refs h v O d ov in omega (arith, r, refers), locks_not h d v O inv ov out), (λ _ _. at v inv ov (v.lock d) refl)))
+s-take-then {A} {h} {d} {looking} {m} {k} {B} {Q} {n} {es} {w} {O} owns free lt pos out refers there good = s-owned owns free pos (λ v inv ov. (
+  ((let r = my_refs h v O d ov in omega (arith, r, refers), locks_not h d v O inv ov out), (λ e z. there v inv ov (sym (locking h d v O ov free lt inv out (inr (let r = my_refs h v O d ov in omega (arith, r, refers))) e).whole ∙ z))),
+  (λ _ _. at v inv ov (v.lock d) refl),
+))
   where
     at : (v : World) → Inv v → own_of h v ≡ O → (r : Option ℕ) → v.lock d ≡ r
         → Good machine Seen h (λ a. places h (Take d looking) a (m a) v) (looking_cost looking) n B es v (IsOut h (v.lock d)) (with_mark h m (lock_if h d (seen_in d looking (v.disk d)) v (locked h d v) r)) (λ l a u. Wp machine h B Q (k a) l (onto (own h (places h (Take d looking) a (m a) v)) es) u)
@@ -128,7 +131,7 @@ noting h j v O ov free lt inv = flagging h v O (record (v.desks h) { noted = Som
 pub look_on_good : {A : Type 0} (h more n d : ℕ) (B : List Step → Type 0) (Q : A → List Step → World → Type 0) (es : List Step) (v : World) (O : Own) (x : Held) (y : Walk) (e : Name) (r : List Name) (j : ℕ) (p : P machine A)
     → own_of h v ≡ O → O.desk.lender ≡ None → h < hart_count → Inv v → O.mine.walk ≡ Some y → O.mine.pending ≡ None → y.at ≡ d → O.inodes d ≡ Some x → live_directory x.node ≡ true → y.rest ≡ e ∷ r → look (λ z. x.node) d y.next ≡ Some j
     → B (record { move = Look 0; told = None } ∷ es) → more < n
-    → ((l : ℕ) (t : Option Note) (u : World) → l + (more + 1) ≡ n → ((z : Held) → O.inodes j ≡ Some z → is_live z.node ≡ true) → own_of h u ≡ record O { mine = record { refs = O.mine.refs; walk = Some (record { step = y.step; at = j; next = e; rest = r }); pending = Some j }; desk = record (O.desk) { noted = t } } → ((m : Note) → t ≡ Some m → m.number ≡ j)
+    → ((l : ℕ) (t : Option Note) (u : World) → l + (more + 1) ≡ n → ((z : Held) → O.inodes j ≡ Some z → is_live z.node ≡ true) → own_of h u ≡ record O { mine = record { refs = O.mine.refs; walk = Some (record { step = y.step; at = j; next = e; rest = r }); pending = Some j }; desk = record (O.desk) { noted = t } } → ((m : Note) → t ≡ Some m → m.number ≡ j) → ((m : Note) × (t ≡ Some m) × (m.number ≡ j) × (m.sort ≢ None))
     → Safe machine h B Q p l (record { move = Look 0; told = None } ∷ es) u)
     → MoveFine h more n B Q es v (Look 0) p
 look_on_good {A} h more n d B Q es v O x y e r j p ov free lt inv walks none at isd live rest finds b pos then_ =
@@ -141,7 +144,7 @@ look_on_good {A} h more n d B Q es v O x y e r j p ov free lt inv walks none at 
     (record { walk = y; is = mine; live = ap (λ (z : Option Node). live_directory z) settled ∙ live_at; looks = plays })
     b pos
     (λ l q. (then_ l (Some (note_of v.all j)) (record u1 { harts = with_walk v.harts h (Some to) (Some j) }) q (λ z q. ap (λ (o : Option Node). is_live o) (sym (has_node h j v O z ov q)) ∙ look_live v.all y.at j y.next inv.well look_is)
-    (own_walk h (Some to) (Some j) u1 (record O { desk = record (O.desk) { noted = Some (note_of v.all j) } }) note.owned) (λ m q. let a : note_of v.all j ≡ m = some_is q in ap (λ (z : Note). z.number) (sym a))).wp)
+    (own_walk h (Some to) (Some j) u1 (record O { desk = record (O.desk) { noted = Some (note_of v.all j) } }) note.owned) (λ m q. let a : note_of v.all j ≡ m = some_is q in ap (λ (z : Note). z.number) (sym a)) (note_of v.all j, refl, refl, live_typed (v.all.nodes j) (look_live v.all y.at j y.next inv.well look_is))).wp)
   where
     some_is : {m k : Note} → ◌≡◌ {A = Option Note} (Some m) (Some k) → m ≡ k
     some_is q = cc

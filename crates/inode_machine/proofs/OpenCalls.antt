@@ -34,7 +34,7 @@ use Rattle.inode_machine.specs.Opening.{file_for, open_at, open_new, open_old, o
 use Rattle.inode_machine.specs.Programs.{limit}
 use Rattle.inode_machine.specs.Theory.{covered_calls}
 use Rattle.inode_machine.proofs.Frame.{Fair, fair, fair_then, has_inode}
-use Rattle.inode_machine.proofs.Rules.{has_node, locked_held, my_refs}
+use Rattle.inode_machine.proofs.Rules.{has_node, locked_held, my_refs, noted_sort}
 use Rattle.inode_machine.proofs.Walking.{moves_good, own_walk, stage_walk, walk_did}
 use Rattle.inode_machine.proofs.Tables.{lowest_same}
 use Rattle.inode_machine.proofs.Dups.{Flagging, not_at, s-join}
@@ -44,7 +44,7 @@ use Rattle.inode_machine.proofs.Rest.{directory_sort}
 use Rattle.inode_machine.proofs.Walks.{At, Gone, Lost, On, Ready, Stays, names_stay, stays_same, s-arrive, s-walk}
 use Rattle.inode_machine.proofs.Beginnings.{Begun as StartsAt, root_sort, s-begin, s-start}
 use Rattle.inode_machine.proofs.Acts.{Finding, finding, found_world, last_made, last_takes, refused_made, start_made, start_takes}
-use Rattle.inode_machine.proofs.Endings.{MayRest, Walked, follows_begin, follows_look, follows_lost, follows_quit, gone_at, home, joined_own, looks, may_rest, missed, noted_sort, ready_at, s-lost, tells, times_none, walked_begun, walked_tells}
+use Rattle.inode_machine.proofs.Endings.{MayRest, Walked, follows_begin, follows_look, follows_lost, follows_quit, gone_at, home, joined_own, looks, may_rest, missed, ready_at, s-lost, tells, times_none, walked_begun, walked_tells}
 use Rattle.inode_machine.proofs.Openings.{Opening, fresh_id, opened_row, opened_tree, opened_world, opening, row_back, unopened_row}
 use Rattle.inode_machine.proofs.Unopens.{mends_opened}
 use Rattle.inode_machine.proofs.Opens.{dirties, moves_full, open_finder, open_full, open_kind_is, open_made, open_missing, open_place, open_refused_step, open_step, refusal_by_sort, file_by_sort}

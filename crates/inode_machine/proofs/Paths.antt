@@ -1,5 +1,5 @@
 -- Calls that follow a path to its last name: what their walks write, and what is seen at the name's directory.
-use Rattle.std.proofs.Common.{◌≡◌, ℕ, ◌+◌, ◌<◌, Bool, true, false, List, [], ◌∷◌, ◌++◌, Option, Some, None, refl, sym, ◌∙◌, subst, arith, if◌then◌else◌}
+use Rattle.std.proofs.Common.{◌≡◌, ℕ, ◌+◌, ◌<◌, Bool, true, false, List, [], ◌∷◌, ◌++◌, Option, Some, None, refl, sym, ◌∙◌, subst, if◌then◌else◌}
 use Rattle.atomic_programs.specs.Prog.{Do}
 use Rattle.atomic_programs.specs.Logic.{P, own, onto, oldest_first, Fine, Safe, Wp}
 use Rattle.atomic_programs.specs.Calls.{Begun}
@@ -33,8 +33,7 @@ use Rattle.inode_machine.specs.Theory.{covered_calls}
 use Rattle.inode_machine.proofs.Frame.{fair_same}
 use Rattle.inode_machine.proofs.Rules.{quiet, locked_held}
 use Rattle.inode_machine.proofs.Looks.{live_face, s-take-then, quit_good, look_refused_good, Agrees}
-use Rattle.inode_machine.proofs.Listing.{one_at}
-use Rattle.inode_machine.proofs.Walks.{On, Ready}
+use Rattle.inode_machine.proofs.Walks.{On, Ready, known_there, on_refers}
 use Rattle.inode_machine.proofs.Acting.{told_step}
 use Rattle.inode_machine.proofs.Endings.{Walked}
 
@@ -92,7 +91,7 @@ pub s-see : {h : ℕ} (c : Call) (acts : List Act) (s : Action) {looking : Looki
     → Safe machine h (Begun covered_calls c) Q (k (seen_in d looking x)) l es u)
     → Safe machine h (Begun covered_calls c) Q (Do (Take d looking) (looks_where s refuses) k) n es w
 s-see {h} c acts s {looking} refuses {k} {Q} {base} {O0} d e {ns} {n} {es} {w} {O} lt ready on pos follows walking place still other found dead refd goes =
-    s-take-then on.owns free lt pos on.out (let f = on.refs d in let o = one_at d in omega (arith, f, o)) (λ u x inv own1. seen u x inv own1 (live_directory x) refl (refuses (seen_in d looking x)) refl)
+    s-take-then on.owns free lt pos on.out (on_refers on) (λ v inv ov. known_there h d v O inv ov lt on.out (on_refers on) on.known) (λ u x inv own1. seen u x inv own1 (live_directory x) refl (refuses (seen_in d looking x)) refl)
   where
     free : O.desk.lender ≡ None
     free = on.stays.lender ∙ ready.free

@@ -18,7 +18,7 @@ use Rattle.inode_machine.specs.Marks.{marked, go, places, with_mark}
 use Rattle.inode_machine.specs.World.Op.{Up}
 use Rattle.inode_machine.specs.Rules.{Own, shop_of, Opens, number_is, Held, view, is_hart, own_of, Found, Pinned, Reached, IsAlone, reference_limit, Inv, IsOut, MayWait, machine, more, Others, LocksNone, Asks, Rests, looking_cost, Honest}
 use Rattle.inode_machine.proofs.Frame.{shop_same, put_elim, ours_none, ours_some, kept_here, Did, Fair, fair, own_inodes, has_inode, has_none, found_more, two_refs, refers_put}
-use Rattle.inode_machine.specs.Inodes.{Looking, Seen, seen_in}
+use Rattle.inode_machine.specs.Inodes.{Looking, Seen, Sort, seen_in, sort_of}
 
 -- an operation: what the hart owns stays until it runs
 pub s-owned : {A : Type 0} {h : ℕ} {op : Op} {m : Answer op → Option Mark} {k : Answer op → P machine A} {B : List Step → Type 0} {Q : A → List Step → World → Type 0} {n : ℕ} {es : List Step} {w : World} {O : Own}
@@ -149,6 +149,33 @@ not_alone h g i v inv lt ne pos is kept =
     let two = two_refs v g h i inv (inv.kept i g kept).0 lt ne in
     elim pos [ inl o ↦ (let p = opens_slots v h i inv o in omega (arith, c, two, p)) | inr p ↦ omega (arith, c, two, p) ]
 
+-- what has a type is there
+pub sort_there : (o : Option Node) (s : Sort) → sort_of o ≡ Some s → o ≢ None
+sort_there o s q e = let a : sort_of o ≡ None = ap (λ (z : Option Node). sort_of z) e in cc (a, q)
+
+-- and what is live has one
+pub live_typed : (o : Option Node) → is_live o ≡ true → sort_of o ≢ None
+live_typed None q e = cc
+live_typed (Some v) q e = cc
+
+-- What was found has the type that it had then.
+pub noted_sort : (h j : ℕ) (R : Own) (m : Note) → R.desk.noted ≡ Some m → m.number ≡ j → R.inodes j ≡ None → 0 < R.mine.refs j → h < hart_count → (v : World) → Inv v → own_of h v ≡ R → sort_of (v.all.nodes j) ≡ m.sort
+noted_sort h j R m is number out refers lt v inv ov =
+    ap (λ (z : ℕ). sort_of (v.all.nodes z)) (sym number)
+    ∙ inv.noted h m lt (ap (λ (o : Own). o.desk.noted) ov ∙ is) (inl (let r = my_refs h v R j ov in let e : (v.harts h).refs m.number ≡ (v.harts h).refs j = ap (v.harts h).refs number in omega (arith, r, e, refers))) (ap v.alone number ∙ shared)
+  where
+    mine : 0 < (v.harts h).refs j
+    mine = let r = my_refs h v R j ov in omega (arith, r, refers)
+
+    shared : v.alone j ≡ false
+    shared = elim (either (v.alone j)) [
+      | inr y ↦ y
+      | inl y ↦ (let a = inv.alone j y in elim (same_or a.hart h) [
+        | inl e ↦ absurd (has_none h j v R ov out (a.kept ∙ ap (λ (z : ℕ). Some z) e))
+        | inr ne ↦ absurd (not_alone h a.hart j v inv lt ne (inr mine) y a.kept)
+      ])
+    ]
+
 abbrev pub locked_held : Option Node → Held
 locked_held s = record { disk = s; node = s; alone = false; locked = true }
 
@@ -237,12 +264,15 @@ locking h i v O ov free lt inv out mine e = record { fair = fair inv did; whole 
 pub is_out : (h i g : ℕ) (v : World) (O : Own) → Inv v → own_of h v ≡ O → O.inodes i ≡ None → v.lock i ≡ Some g → IsOut h (v.lock i)
 is_out h i g v O inv ov out e = (g, (λ q. has_none h i v O ov out (inv.keeps i h (e ∙ ap (λ (z : ℕ). Some z) q))), e)
 
--- The lock is taken and the inode seen; F: what the invariant says of it.
-pub s-take : {A : Type 0} {h i : ℕ} {looking : Looking} {k : Seen → P machine A} {B : List Step → Type 0} {Q : A → List Step → World → Type 0} {n : ℕ} {es : List Step} {w : World} {O : Own} (F : Option Node → Type 0)
+-- The lock is taken and the inode seen; F: what the invariant says of it, and that it has a type.
+pub s-take : {A : Type 0} {h i : ℕ} {looking : Looking} {k : Seen → P machine A} {B : List Step → Type 0} {Q : A → List Step → World → Type 0} {n : ℕ} {es : List Step} {w : World} {O : Own} (F : Option Node → Type 0) (there : (o : Option Node) → F o → o ≢ None)
     → own_of h w ≡ O → O.desk.lender ≡ None → h < hart_count → looking_cost looking < n → O.inodes i ≡ None → 0 < O.mine.refs i → ((v : World) → Inv v → own_of h v ≡ O → F (v.all.nodes i))
     → ((l : ℕ) (s : Option Node) (u : World) → l + (looking_cost looking + 1) ≡ n → F s → own_of h u ≡ record O { inodes = put O.inodes i (Some (locked_held s)) } → Safe machine h B Q (k (seen_in i looking s)) l es u)
     → Safe machine h B Q (Do (Take i looking) unmarked k) n es w
-s-take {A} {h} {i} {looking} {k} {B} {Q} {n} {es} {w} {O} F owns free lt pos out refers fact rest = s-owned owns free pos (λ v inv ov. ((let r = my_refs h v O i ov in omega (arith, r, refers), locks_not h i v O inv ov out), (λ x honest. at v inv ov (v.lock i) refl)))
+s-take {A} {h} {i} {looking} {k} {B} {Q} {n} {es} {w} {O} F there owns free lt pos out refers fact rest = s-owned owns free pos (λ v inv ov. (
+  ((let r = my_refs h v O i ov in omega (arith, r, refers), locks_not h i v O inv ov out), (λ e z. there (v.all.nodes i) (fact v inv ov) (sym (locking h i v O ov free lt inv out (inr (let r = my_refs h v O i ov in omega (arith, r, refers))) e).whole ∙ z))),
+  (λ x honest. at v inv ov (v.lock i) refl),
+))
   where
     at : (v : World) → Inv v → own_of h v ≡ O → (r : Option ℕ) → v.lock i ≡ r
         → Good machine Seen h (λ a. []) (looking_cost looking) n B es v (IsOut h (v.lock i)) (with_mark h unmarked (lock_if h i (seen_in i looking (v.disk i)) v (locked h i v) r)) (λ l a u. Wp machine h B Q (k a) l es u)

@@ -244,8 +244,15 @@ module _ (h : ℕ) (path : List ℕ) (lt : h < hart_count) {base : ℕ → ℕ} 
       → own_of h u ≡ record O { mine = record { refs = put O.mine.refs n (O.mine.refs n + 1); walk = O.mine.walk; pending = None } } → O.mine.walk ≡ Some (record { step = Unlink path; at = d; next = e; rest = [] }) → live_directory (Some X) ≡ true → look (λ j. Some X) d e ≡ Some n → (same_name e dot || same_name e dotdot) ≡ false
       → Walked (calls.Unlink path) [] fs → Goes h path (unlink_child path d e ns (face_or (face_of (Some X))) n) l fs u
   child X n l fs u O ne few k out held walk live finds plain walking =
-      s-take-then held (k.stays.lender ∙ joins.ready.free) lt (omega (arith, few)) out (let a = put_same O.mine.refs n (O.mine.refs n + 1) in omega (arith, a)) (λ u2 z inv held2. there u2 z inv held2 (is_live z) refl)
+      s-take-then held (k.stays.lender ∙ joins.ready.free) lt (omega (arith, few)) out (let a = put_same O.mine.refs n (O.mine.refs n + 1) in omega (arith, a)) (λ v inv ov y. found_there v inv ov y) (λ u2 z inv held2. there u2 z inv held2 (is_live z) refl)
     where
+      found_there : (v : World) → Inv v → own_of h v ≡ record O { mine = record { refs = put O.mine.refs n (O.mine.refs n + 1); walk = O.mine.walk; pending = None } } → v.all.nodes n ≢ None
+      found_there v inv ov y =
+          let nd = has_node h d v (record O { mine = record { refs = put O.mine.refs n (O.mine.refs n + 1); walk = O.mine.walk; pending = None } }) (locked_held (Some X)) ov (k.has d (locked_held (Some X)) (put_same nothing d (Some (locked_held (Some X))))) in
+          let l = look_live v.all d n e inv.well (look_same (λ j. Some X) v.all.nodes d e nd ∙ finds) in
+          let f : is_live (v.all.nodes n) ≡ false = ap (λ (o : Option Node). is_live o) y in
+          cc (l, f)
+
       O3 : Option Node → Own
       O3 z = record O { inodes = put O.inodes n (Some (locked_held z)); mine = record { refs = put O.mine.refs n (O.mine.refs n + 1); walk = O.mine.walk; pending = None } }
 

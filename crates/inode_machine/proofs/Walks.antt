@@ -7,7 +7,7 @@ use Rattle.plain_tree.specs.declared.answer.Reply.{Reply}
 use Rattle.plain_tree.specs.declared.node.Node.{Node}
 use Rattle.plain_tree.specs.declared.step.Action.{Action}
 use Rattle.plain_tree.specs.declared.step.Action.TheVariants.{Inherit}
-use Rattle.plain_tree.specs.Widths.{hart_count}
+use Rattle.plain_tree.specs.Widths.{hart_count, root}
 use Rattle.plain_tree.specs.Tree.{Name, Tree, put, look, is_live, live_directory, hold_names}
 use Rattle.plain_tree.specs.Steps.{refusal_with, refused, IsInPlace}
 use Rattle.plain_tree.specs.HartRow.{Row, key_names, row_of}
@@ -17,13 +17,13 @@ use Rattle.tree_moves.specs.Moves.{Walk, Deed, Stage, Step, Acts, Looks, fail}
 use Rattle.tree_moves.specs.Moves.Move.{Look, Quit}
 use Rattle.inode_machine.specs.World.{Desk, Note, World, Mark}
 use Rattle.inode_machine.specs.World.Op.{Take, Give}
-use Rattle.inode_machine.specs.Inodes.{AtName, AtNothing, seen_in, face_of, is_directory_face}
+use Rattle.inode_machine.specs.Inodes.{AtName, AtNothing, seen_in, face_of, is_directory_face, sort_of}
 use Rattle.inode_machine.specs.Exec.{is_at}
 use Rattle.inode_machine.specs.Marks.{looked, acts, found_by, marked, mended, places}
 use Rattle.inode_machine.specs.Rules.{Own, Held, key_in, own_names, own_of, Inv, machine, reference_limit}
 use Rattle.inode_machine.specs.Parts.{P, Stop, NotThere, NoMemory, leave_directory, looks_or_quits, walk, walk_step, walk_parent, see_parent, quits_unless, makes}
 use Rattle.inode_machine.proofs.Frame.{Fair, fair_same}
-use Rattle.inode_machine.proofs.Rules.{quiet, locked_held, s-up}
+use Rattle.inode_machine.proofs.Rules.{quiet, locked_held, s-up, noted_sort, root_live}
 use Rattle.inode_machine.proofs.Counting.{s-give, s-walk-down, MayDrop, one_most}
 use Rattle.inode_machine.proofs.Looks.{live_face, no_directory, s-take-then, MoveFine, quit_good, look_on_good, look_refused_good, spoilt, KeepsHold, mends}
 use Rattle.inode_machine.proofs.Listing.{times, times_last, length_last, one_at, one_else, Listed, listed_held, listed_among, listed_on, listed_more}
@@ -55,8 +55,8 @@ pub s-leave-directory : {A : Type 0} {h : ℕ} (d : ℕ) (ns : List ℕ) (c : Op
 s-leave-directory {A} {h} d ns c x base {k} {B} {Q} {n} {es} {w} {O} {O1} owns free lt few inodes out l pending refs same names may rest =
     s-give owns free lt (omega arith) (ap (λ (f : ℕ → Option Held). f d) inodes ∙ put_same O.inodes d (Some (locked_held c))) refl refl refl pending (λ l1 u1 q1 own1.
     s-walk-down own1 free lt (omega (arith, q1, few)) (put_same O1.inodes d None) (let r = refs d in let o = one_at d in omega (arith, r, o)) pending may_drop
-    (λ l2 s u2 q2 dead one own2. rest l2 (ns ++ d ∷ []) _ u2 (omega (arith, q1, q2)) (let e = length_last d ns in omega (arith, e)) own2 (λ i. let t = times_last i d ns in let r = refs i in omega (arith, t, r)) refl refl refl refl refl
-    (listed_more O (kept s) base ns d l out (record { node = s; is = put_same (put O1.inodes d None) d (Some (listed_held s)); dead = dead; one = one; unnamed = unnamed one }) (λ i ne. put_other (put O1.inodes d None) d (Some (listed_held s)) i ne ∙ gone i ne) same (λ i q. names i ∙ q))
+    (λ l2 s u2 q2 dead has one own2. rest l2 (ns ++ d ∷ []) _ u2 (omega (arith, q1, q2)) (let e = length_last d ns in omega (arith, e)) own2 (λ i. let t = times_last i d ns in let r = refs i in omega (arith, t, r)) refl refl refl refl refl
+    (listed_more O (kept s) base ns d l out (record { node = s; there = has; is = put_same (put O1.inodes d None) d (Some (listed_held s)); dead = dead; one = one; unnamed = unnamed one }) (λ i ne. put_other (put O1.inodes d None) d (Some (listed_held s)) i ne ∙ gone i ne) same (λ i q. names i ∙ q))
     (λ i ne. put_other (put O1.inodes d None) d (Some (listed_held s)) i ne ∙ gone i ne) (λ p. absurd (let r = refs d in let o = one_at d in omega (arith, r, o, one, p))))
     (λ l2 u2 q2 own2. rest l2 ns _ u2 (omega (arith, q1, q2)) (omega arith) own2 (λ i. fewer i) refl refl refl refl refl
     (listed_on O counted base ns l (λ i. back i) (λ i t. put_other O1.mine.refs d (O1.mine.refs d - 1) i (not_d i t) ∙ same i t) (λ i q. names i ∙ q))
@@ -89,6 +89,19 @@ s-leave-directory {A} {h} d ns c x base {k} {B} {Q} {n} {es} {w} {O} {O1} owns f
       | inr ne ↦ (let a = put_other O1.mine.refs d (O1.mine.refs d - 1) i ne in let r = refs i in let o = one_else d i ne in omega (arith, a, r, o))
     ]
 
+-- why an inode is known to be there: it is the root, the current directory, or what was noted
+abbrev pub Known : Own → ℕ → Type 0
+Known O d = (d ≡ root) ⊎ ((d ≡ O.row.cwd) ⊎ ((m : Note) × (O.desk.noted ≡ Some m) × (m.number ≡ d) × (m.sort ≢ None)))
+
+pub known_there : (h d : ℕ) (v : World) (O : Own) → Inv v → own_of h v ≡ O → h < hart_count → O.inodes d ≡ None → 0 < O.mine.refs d → Known O d → v.all.nodes d ≢ None
+known_there h d v O inv ov lt out refers (inl q) e = let l = root_live v.all inv.well in let f : is_live (v.all.nodes root) ≡ false = ap (λ (z : Option Node). is_live z) (ap v.all.nodes (sym q) ∙ e) in cc (l, f)
+known_there h d v O inv ov lt out refers (inr (inl q)) e =
+    let t = inv.well.directories h lt in
+    let a = t.is in
+    let c : v.all.nodes (v.all.cwd h) ≡ None = ap v.all.nodes (sym (q ∙ ap (λ (o : Own). o.row.cwd) (sym ov))) ∙ e in
+    cc (a, c)
+known_there h d v O inv ov lt out refers (inr (inr p)) e = p.3 (sym (noted_sort h d O p.0 p.1 p.2 out refers lt v inv ov) ∙ ap (λ (z : Option Node). sort_of z) e)
+
 -- Where a call walks. O0: what it had of its own at the beginning; base: its references then.
 pub record On (h : ℕ) (s : Action) (d : ℕ) (e : Name) (r : List Name) (base : ℕ → ℕ) (ns : List ℕ) (O0 O : Own) (w : World) : Type 0 where
   pub owns : own_of h w ≡ O
@@ -100,6 +113,10 @@ pub record On (h : ℕ) (s : Action) (d : ℕ) (e : Name) (r : List Name) (base 
   pub out : O.inodes d ≡ None
   -- what it noted it refers to
   pub notes : (m : Note) → O.desk.noted ≡ Some m → 0 < O.mine.refs m.number
+  pub known : Known O d
+
+pub on_refers : {h : ℕ} {s : Action} {d : ℕ} {e : Name} {r : List Name} {base : ℕ → ℕ} {ns : List ℕ} {O0 O : Own} {w : World} → On h s d e r base ns O0 O w → 0 < O.mine.refs d
+on_refers {d = d} on = let f = on.refs d in let o = one_at d in omega (arith, f, o)
 
 -- Where it has come to j: its walk goes on from there, or has led there; t: what it noted.
 pub record At (h j : ℕ) (base : ℕ → ℕ) (ns : List ℕ) (k : Option Walk) (t : Option Note) (O0 O : Own) (w : World) : Type 0 where
@@ -219,7 +236,7 @@ module _ (h : ℕ) (s : Action) (B : List Step → Type 0) (Q : Reply → List S
       → ((u : World) (c : Option Node) (j : ℕ) → Inv u → own_of h u ≡ record O { inodes = put O.inodes d (Some (locked_held c)) } → live_directory c ≡ true → look (λ i. c) d e ≡ Some j → MoveFine h 1611 n B Q es u (Look 0) (walk_step d ns go lost (Some j)))
       → Safe machine h B Q (Do (Take d (AtName e)) (looks_or_quits s) (λ x. walk_step d ns go lost x.found)) n es w
   s-look r par d e ns n es w O go few on told same plays refusal finds =
-      s-take-then on.owns free_o lt (omega (arith, few)) on.out (let f = on.refs d in let o = one_at d in omega (arith, f, o)) (λ u c inv own1. seen u c inv own1 (live_directory c) refl)
+      s-take-then on.owns free_o lt (omega (arith, few)) on.out (on_refers on) (λ v inv ov. known_there h d v O inv ov lt on.out (on_refers on) on.known) (λ u c inv own1. seen u c inv own1 (live_directory c) refl)
     where
       y : Walk
       y = record { step = s; at = d; next = e; rest = r }
@@ -331,7 +348,7 @@ module _ (h : ℕ) (s : Action) (B : List Step → Type 0) (Q : Reply → List S
       → Safe machine h B Q (Do (Take d (AtName e)) (looks_or_quits s) (λ x. walk_step d ns go lost x.found)) n es w
   s-walk-one C a r d e ns n es w O go few on told again =
       s-look (a ∷ r) None d e ns n es w O go (omega (arith, few)) on told (λ b i. refl) (λ m m' t q. q) none_refused (λ u c j inv own1 live is.
-      look_on_good h 1611 n d B Q es u (O1 c) (locked_held c) (record { step = s; at = d; next = e; rest = a ∷ r }) a r j (walk_step d ns go lost (Some j)) own1 free_o lt inv on.walk on.pending refl (put_same O.inodes d (Some (locked_held c))) live refl is (look_more es told).1 (omega (arith, few)) (λ l2 t u2 q2 lives own2 notes.
+      look_on_good h 1611 n d B Q es u (O1 c) (locked_held c) (record { step = s; at = d; next = e; rest = a ∷ r }) a r j (walk_step d ns go lost (Some j)) own1 free_o lt inv on.walk on.pending refl (put_same O.inodes d (Some (locked_held c))) live refl is (look_more es told).1 (omega (arith, few)) (λ l2 t u2 q2 lives own2 notes what.
       s-arrive C d j c (Some (record { step = s; at = j; next = a; rest = r })) ns l2 (record { move = Look 0; told = None } ∷ es) u2 O (O2 c j t) O0 (M c j t) go own2 (omega (arith, q2, few)) on.stays on.listed on.out on.refs
       (record {
         inodes = refl;
@@ -345,7 +362,7 @@ module _ (h : ℕ) (s : Action) (B : List Step → Type 0) (Q : Reply → List S
       (stays_on c j t) ready.free
       (λ v inv2 ov. let m = mends h v (O2 c j t) ov free_o lt inv2 (on.stays.opening ∙ ready.opening) (on.stays.left ∙ ready.left) (subst (λ (z : Row). KeepsHold z.hold) (sym on.stays.row) ready.hold) (λ i q. let b = ready.spare i (sym (names_stay O O0 on.stays i) ∙ q) in let f = on.refs i in omega (arith, b, f)) in record { fair = m.fair; bad = m.bad; owned = m.owned })
       (record { stays = record { row = on.stays.row; ninodes = on.stays.ninodes; fds = on.stays.fds; hand = on.stays.hand; joined = on.stays.joined; directory = on.stays.directory; lent = on.stays.lent; lender = on.stays.lender; opening = sym ready.opening; left = sym ready.left }; inodes = refl; refs = refl; walk = refl; pending = refl; full = refl })
-      (λ ms l4 u4 R few4 at4. again j ms l4 (record { move = Look 0; told = None } ∷ es) u4 R few4 (record { owns = at4.owns; stays = at4.stays; walk = at4.walk; pending = at4.pending; refs = at4.refs; listed = at4.listed; out = at4.out; notes = λ m q. let i : m.number ≡ j = notes m (sym at4.noted ∙ q) in let f = at4.refs m.number in let o : one_if (j == m.number) ≡ 1 = (λ z. one_if (j == i z)) ∙ one_at j in omega (arith, f, o) }) (look_more es told).0)))
+      (λ ms l4 u4 R few4 at4. again j ms l4 (record { move = Look 0; told = None } ∷ es) u4 R few4 (record { owns = at4.owns; stays = at4.stays; walk = at4.walk; pending = at4.pending; refs = at4.refs; listed = at4.listed; out = at4.out; notes = λ m q. let i : m.number ≡ j = notes m (sym at4.noted ∙ q) in let f = at4.refs m.number in let o : one_if (j == m.number) ≡ 1 = (λ z. one_if (j == i z)) ∙ one_at j in omega (arith, f, o); known = inr (inr (what.0, at4.noted ∙ what.1, what.2, what.3)) }) (look_more es told).0)))
     where
       free_o : O.desk.lender ≡ None
       free_o = on.stays.lender ∙ ready.free
@@ -376,7 +393,7 @@ module _ (h : ℕ) (s : Action) (B : List Step → Type 0) (Q : Reply → List S
       → ((l : ℕ) (u : World) (R : Own) → l + 5 ≡ n → On h s d e [] base ns O0 R u → Safe machine h B Q (found ns) l es u)
       → Safe machine h B Q (see_parent s d ns found lost) n es w
   s-see-parent d e ns n es w O found few on told arrives =
-      s-take-then on.owns free_o lt (omega (arith, few)) on.out (let f = on.refs d in let o = one_at d in omega (arith, f, o)) (λ u c inv own1. seen u c inv own1 (is_directory_face (face_of c)) refl)
+      s-take-then on.owns free_o lt (omega (arith, few)) on.out (on_refers on) (λ v inv ov. known_there h d v O inv ov lt on.out (on_refers on) on.known) (λ u c inv own1. seen u c inv own1 (is_directory_face (face_of c)) refl)
     where
       y : Walk
       y = record { step = s; at = d; next = e; rest = [] }
@@ -408,6 +425,7 @@ module _ (h : ℕ) (s : Action) (B : List Step → Type 0) (Q : Reply → List S
             listed = listed_on O (record (O1 c) { inodes = put (O1 c).inodes d None }) base ns on.listed (λ i. back c i) (λ i t. refl) (λ i q. q);
             out = put_same (O1 c).inodes d None;
             notes = on.notes;
+            known = on.known;
           }))).wp))
         where
           back : (c : Option Node) (i : ℕ) → put (put O.inodes d (Some (locked_held c))) d None i ≡ O.inodes i
