@@ -135,6 +135,7 @@ module _ (h : ℕ) (v : World) (g : above.World) (shows : Shows v g) (ss : List 
     blocks = unseen_keeps (log_of v).contents (log_of v).seats (log_of v).sizes (log_of v).members (ghost_of v.owner v.left g.disk g.lock g.desks) shows.blocks (log_of v).contents ss refl (λ k l out. quiet.alike k out);
     bytes = λ b within out. subst IsBytes (sym (quiet.alike b out)) (shows.bytes b within out);
     taken = shows.taken;
+    commit = shows.commit;
     loads = record { seen = λ n d e. shows.loads.seen n d e ∙ sym (ap (λ (x : List (List ℕ)). inode_of x n) quiet_disk); dead = shows.loads.dead; typed = shows.loads.typed };
   }
 

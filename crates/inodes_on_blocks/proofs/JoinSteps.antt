@@ -101,6 +101,7 @@ module _ (l : Labels) (laws : Laws (labelled l)) (keeps : Keeps l) (h : ℕ) (lt
         (join_keeps (log_of v.real).contents (log_of v.real).seats (log_of v.real).sizes (log_of v.real).members (ghost_of v.real.owner v.real.left v.seen.disk v.seen.lock v.seen.desks) shows.blocks h 0);
     bytes = shows.bytes;
     taken = shows.taken;
+    commit = shows.commit;
     loads = record { seen = shows.loads.seen; dead = shows.loads.dead; typed = shows.loads.typed };
   }
     where

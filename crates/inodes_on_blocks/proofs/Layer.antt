@@ -16,7 +16,7 @@ use Rattle.inode_machine.specs.Rules.{Own, Held, if_kept, own_of, view, Idle}
 use Rattle.inode_machine.proofs.Frame.{Ours, not_ours, kept_is, kept_here, has_inode}
 use Rattle.inodes_on_tables.specs.Shown as tables
 use Rattle.inodes_on_blocks.specs.Below.{World, log_of, tables_of, disk_of, inode_in}
-use Rattle.inodes_on_blocks.specs.Lowering.{KeepsInode, Same, Kept, Carry, IsLoaded, InHand, Base, below, Labels, labelled, Keeps}
+use Rattle.inodes_on_blocks.specs.Lowering.{KeepsInode, commit_in, Same, Kept, Carry, IsLoaded, InHand, Base, below, Labels, labelled, Keeps}
 use Rattle.inodes_on_blocks.proofs.Marked.{SameCode}
 
 -- what is held at one end is held at the other
@@ -114,7 +114,7 @@ below_laws sizes l keeps =
         record {
           free = same.held ∙ b.free;
           taken = λ n e. b.taken n (held_back (w.taken n) (v.taken n) h (seen_of (log_of w) n) (seen_of (log_of v) n) (same.taken n) e).0;
-          rests = λ e. b.rests (held_back w.commits v.commits h (log_of w).phase (log_of v).phase same.commit e).0;
+          rests = λ e. b.rests (held_back w.commits v.commits h (commit_in (log_of w)) (commit_in (log_of v)) same.commit e).0;
           inodes = in_hand_then h c v w g u same.inodes same.no_more kept b.lent b.inodes;
           lent = λ some. lent_then h g u kept b.lent some;
         },

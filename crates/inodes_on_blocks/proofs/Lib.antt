@@ -8,6 +8,8 @@ pub mod SlotSteps
 pub mod Owed
 pub mod CountSteps
 pub mod JoinSteps
+pub mod Committing
+pub mod LeaveSteps
 pub mod Alone
 pub mod Hands
 pub mod Fetching

@@ -291,6 +291,7 @@ shows_marked r v w s shows = record {
   blocks = subst (λ (x : Ghost). AreOnBlocks (log_of r).contents (log_of r).seats (log_of r).sizes (log_of r).members x) (sym ghost) shows.blocks;
   bytes = shows.bytes;
   taken = shows.taken;
+  commit = shows.commit;
   loads = record {
     seen = shows.loads.seen;
     dead = λ n lt free dead. shows.loads.dead n (subst (λ (z : ℕ). 0 < z) (λ z. s.refs z n) lt) ((λ z. sym s.lock z n) ∙ free) (ap (λ (f : ℕ → Option Node). is_dead (f n)) (sym s.disk) ∙ dead);

@@ -66,6 +66,7 @@ module _ (h : ℕ) (lt : h < hart_count) (v : World) (g : above.World) (shows : 
         };
         bytes = shows.bytes;
         taken = shows.taken;
+        commit = shows.commit;
         loads = record { seen = λ n d e. loads.seen n d (after.places.loads n ∙ e); dead = λ n some free dead. subst IsSome (after.places.loads n) (loads.dead n some free dead); typed = λ n e. sym (after.places.loads n) ∙ loads.typed n e };
       }
     where

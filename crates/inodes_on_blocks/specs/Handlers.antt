@@ -1,7 +1,7 @@
 -- The programs below of operations on whole inodes. c: the records of the inodes whose locks the hart has.
 use Rattle.std.specs.Prelude.{ℕ, Bool, true, false, Option, Some, None, is_some}
 use Rattle.atomic_programs.specs.Prog.{Prog, Ret, Do}
-use Rattle.atomic_programs.specs.Joined.{Act, Handed}
+use Rattle.atomic_programs.specs.Joined.{Act, Handed, holding}
 use Rattle.plain_tree.specs.declared.answer.Cause.{Cause}
 use Rattle.plain_tree.specs.declared.answer.Cause.TheVariants as causes
 use Rattle.plain_tree.specs.declared.tree.OpenFile.{OpenFile}
@@ -15,11 +15,12 @@ use Rattle.fs_tables.specs.declared.slots.Doubled.TheVariants as doubled
 use Rattle.fs_tables.specs.declared.slots.Shut as shuts
 use Rattle.fs_tables.specs.declared.slots.Shut.TheVariants as shut
 use Rattle.fs_tables.specs.Inodes.{DroppedState, Counts, Keeps, Dies}
+use Rattle.fs_machine.specs.Programs.{after_leave}
 use Rattle.fs_machine.specs.Steps as steps
 use Rattle.fs_machine.specs.Steps.{Whom, Number, Directory, Held, Walked}
 use Rattle.inode_machine.specs.Inodes.{Sort}
 use Rattle.inode_machine.specs.World as above
-use Rattle.inode_machine.specs.World.Op.{Give, UpStart, Up, WalkDown, Down, Slot, Install, CheckFile, Double, Shut, Settle, Join, Say}
+use Rattle.inode_machine.specs.World.Op.{Give, UpStart, Up, WalkDown, Down, Slot, Install, CheckFile, Double, Shut, Settle, Join, Leave, Say}
 use Rattle.inodes_on_tables.specs.Shown.{new_file}
 use Rattle.inodes_on_blocks.specs.Lowering.{Carry}
 
@@ -118,3 +119,7 @@ say c m = one Say m steps.Reply (λ a. a) (λ a. c)
 -- a transaction is joined, where the log has room for it
 abbrev pub join : Handler Join
 join c m = one Join m steps.Join (λ a. a) (λ a. c)
+
+-- it is left, with the commit where one begins
+abbrev pub leave : Handler Leave
+leave c m = Do steps.Leave (λ a. acts Leave above.Room m) (λ a. holding c (after_leave a))

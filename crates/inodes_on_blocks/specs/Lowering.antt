@@ -4,6 +4,7 @@ use Rattle.fs_layout.specs.declared.inode.Dinode.{Dinode}
 use Rattle.fs_layout.specs.declared.superblock.Super.{Super}
 use Rattle.buffer_cache.specs.Lists.{count_of}
 use Rattle.buffer_cache.specs.Seats.{is_held_by, holder_of, kept}
+use Rattle.group_log.specs.declared.phase.Phase.{Phase}
 use Rattle.plain_tree.specs.declared.node.Node.{Node}
 use Rattle.image_laws.specs.Holds.{HoldsAt}
 use Rattle.image_laws.specs.Puts.{IsUntouched}
@@ -35,6 +36,10 @@ pub record KeepsInode (h i : ℕ) (v w : World) : Type 0 where
 abbrev pub buffer_in : LogPart → ℕ → List ℕ × Bool
 buffer_in l b = (seen_of l b, is_some (kept b l.seats))
 
+-- how far a commit is, and of which blocks
+abbrev pub commit_in : LogPart → Phase × List ℕ
+commit_in l = (l.phase, l.group)
+
 -- nothing of hart h's changed: its locks, its buffers, its transaction, its commit
 pub record Same (h : ℕ) (v w : World) : Type 0 where
   pub inodes : (i : ℕ) → lock_holder i (tables_of v) ≡ Some h → KeepsInode h i v w
@@ -45,7 +50,7 @@ pub record Same (h : ℕ) (v w : World) : Type 0 where
   pub sizes : (log_of w).sizes ≡ (log_of v).sizes
   -- what it has taken
   pub taken : (b : ℕ) → if_kept (w.taken b) h (seen_of (log_of w) b) ≡ if_kept (v.taken b) h (seen_of (log_of v) b)
-  pub commit : if_kept w.commits h (log_of w).phase ≡ if_kept v.commits h (log_of v).phase
+  pub commit : if_kept w.commits h (commit_in (log_of w)) ≡ if_kept v.commits h (commit_in (log_of v))
 
 -- the same of what is a hart's in the world above
 pub record Kept (h : ℕ) (v w : above.World) : Type 0 where

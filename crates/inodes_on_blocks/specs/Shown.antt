@@ -4,7 +4,8 @@ use Rattle.fs_layout.specs.declared.inode.Dinode.{Dinode}
 use Rattle.fs_layout.specs.declared.superblock.Super.{Super}
 use Rattle.fs_layout.specs.Bytes.{IsBytes}
 use Rattle.fs_layout.specs.Recovered.{IsOutsideLog}
-use Rattle.group_log.specs.declared.phase.Phase.TheVariants.{Halted}
+use Rattle.group_log.specs.declared.phase.Phase.{Phase}
+use Rattle.group_log.specs.declared.phase.Phase.TheVariants.{Open, Halted}
 use Rattle.image_tree.specs.Checks.{IsData}
 use Rattle.plain_tree.specs.declared.node.Node.{Node}
 use Rattle.plain_tree.specs.Widths.{hart_count}
@@ -49,6 +50,11 @@ AreBytes l = (b : ℕ) → b < length l.contents → IsOutsideLog l.sizes b → 
 abbrev pub TakenShow : Super → (owner : ℕ → ℕ) (left : ℕ → Bool) (taken : ℕ → Option ℕ) → Type 0
 TakenShow sizes owner left taken = (b h : ℕ) → taken b ≡ Some h → (owner b ≡ 0) × (left b ≡ true) × IsOutsideLog sizes b × IsData sizes b
 
+-- a hart commits just while a commit is under way
+abbrev pub CommitShows : Option ℕ → Phase → Type 0
+CommitShows None phase = phase ≡ Open
+CommitShows (Some h) phase = phase ≢ Open
+
 -- ---- all of it
 
 pub record Shows (r : World) (w : above.World) : Type 0 where
@@ -60,4 +66,5 @@ pub record Shows (r : World) (w : above.World) : Type 0 where
   pub blocks : AreOnBlocks (log_of r).contents (log_of r).seats (log_of r).sizes (log_of r).members (ghost_of r.owner r.left w.disk w.lock w.desks)
   pub bytes : AreBytes (log_of r)
   pub taken : TakenShow (log_of r).sizes r.owner r.left r.taken
+  pub commit : CommitShows r.commits (log_of r).phase
   pub loads : LoadsShow (loaded (tables_of r)) (log_of r) w.refs w.lock w.disk

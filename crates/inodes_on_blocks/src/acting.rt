@@ -3,8 +3,8 @@
 ghost use Rattle.std.specs.Prelude.{ℕ, Bool};
 ghost use Rattle.plain_tree.specs.declared.tree.OpenFile.{OpenFile};
 ghost use Rattle.inode_machine.specs.Inodes.{Sort};
-ghost use Rattle.inode_machine.specs.World.Op.{Give, UpStart, Up, WalkDown, Down, Slot, Install, CheckFile, Double, Shut, Settle, Join, Say};
-ghost use Rattle.inodes_on_blocks.specs.Handlers.{give, settle, up_start, up, walk_down, down, slot, install, double, close, check_file, join, say};
+ghost use Rattle.inode_machine.specs.World.Op.{Give, UpStart, Up, WalkDown, Down, Slot, Install, CheckFile, Double, Shut, Settle, Join, Leave, Say};
+ghost use Rattle.inodes_on_blocks.specs.Handlers.{give, settle, up_start, up, walk_down, down, slot, install, double, close, check_file, join, leave, say};
 ghost use Rattle.inodes_on_blocks.specs.Acting.{DoesIt};
 
 /// A lock given back is one step, with the record that the hart has of the inode.
@@ -70,4 +70,9 @@ pub fn replies_act_once()
 /// A transaction joined is one step, which waits where the log has no room.
 pub fn joins_act_once()
     ensures { DoesIt Join join }
+{}
+
+/// A transaction is left in one step; the writes of the commit that it begins are further steps, of which nothing is seen.
+pub fn leaves_act_once()
+    ensures { DoesIt Leave leave }
 {}
