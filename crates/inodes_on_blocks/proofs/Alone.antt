@@ -31,7 +31,7 @@ alone_laws = record {
 pub alone_keeps : Keeps alone
 alone_keeps h v w xs o = o.1
 
-lasts_done : (op : above.Op) (h : ℕ) → Lasts whole h (IsDone op) (Answers op)
+pub lasts_done : (op : above.Op) (h : ℕ) → Lasts whole h (IsDone op) (Answers op)
 lasts_done op h a fs xs v u o i c = ((λ y. inl o.0), subst (λ (ys : List Done). onto ys fs ≡ (op, a) ∷ []) (sym o.0) c)
 
 pub does_it : (op : above.Op) (p : Handler op) → ((h : ℕ) → h < hart_count → (m : above.Answer op → Option above.Mark) → ActsOnce alone h op m p) → DoesIt op p

@@ -136,7 +136,7 @@ module _ (l : Labels) (laws : Laws (labelled l)) (keeps : Keeps l) (h : ℕ) (lt
   refers n w inv some = let c = inv.counts n in let p = sum_part hart_count h (λ g. (w.harts g).refs n) lt in omega (arith, c, p, some)
 
   -- nobody has the lock where the reference is the last one
-  last_free : (n : ℕ) (w : above.World) → Inv w → 0 < (w.harts h).refs n → w.lock n ≢ Some h → w.refs n ≡ 1 → w.lock n ≡ None
+  pub last_free : (n : ℕ) (w : above.World) → Inv w → 0 < (w.harts h).refs n → w.lock n ≢ Some h → w.refs n ≡ 1 → w.lock n ≡ None
   last_free n w inv some not_mine one = by (w.lock n) refl
     where
       by : (o : Option ℕ) → w.lock n ≡ o → w.lock n ≡ None
@@ -173,16 +173,16 @@ module _ (l : Labels) (laws : Laws (labelled l)) (keeps : Keeps l) (h : ℕ) (lt
           let link : d.nlink ≡ pos x.count = ap (λ (y : Dinode). y.nlink) (shows.loads.seen n d e) ∙ in_.count in
           (λ z. is_some (if is_positive (link z) then None else Some d)) ∙ count_is x.count d
 
-  some_here : (n : ℕ) (w : above.World) → rules.Spares h n w → 0 < (w.harts h).refs n
+  pub some_here : (n : ℕ) (w : above.World) → rules.Spares h n w → 0 < (w.harts h).refs n
   some_here n w spares = omega (arith, spares)
 
-  may_die : (n : ℕ) (v : W) → Shows v.real v.seen → Inv v.seen → rules.Spares h n v.seen × (v.seen.lock n ≢ Some h) → MayDie n v.seen (loaded (tables_of v.real))
+  pub may_die : (n : ℕ) (v : W) → Shows v.real v.seen → Inv v.seen → rules.Spares h n v.seen × (v.seen.lock n ≢ Some h) → MayDie n v.seen (loaded (tables_of v.real))
   may_die n v shows inv may =
       let mine = some_here n v.seen may.0 in
       let some = refers n v.seen inv mine in
       record { some = some; free = last_free n v.seen inv mine may.1; alike = λ one. dies_alike n v shows some (last_free n v.seen inv mine may.1 one) }
 
-  counted_down_came : (op : above.Op) (n : ℕ) (v : W) (c : Carry) (b : above.Answer op) (t : TablesState) → Shows v.real v.seen → Base h v.real v.seen c → (v.seen.desks h).lender ≡ None → v.seen.lock n ≢ Some h
+  pub counted_down_came : (op : above.Op) (n : ℕ) (v : W) (c : Carry) (b : above.Answer op) (t : TablesState) → Shows v.real v.seen → Base h v.real v.seen c → (v.seen.desks h).lender ≡ None → v.seen.lock n ≢ Some h
       → above_exec.exec h above.Room op v.seen ≡ Ran b (counted_down h n v.seen) → tables.Shows t (counted_down h n v.seen) (load_after n (v.seen.refs n) (loaded (tables_of v.real)) Counts) → Came l laws keeps h op v b (with_tables v.real t) c
   counted_down_came op n v c b t shows base free not_mine ran after = record {
     then_ = counted_down h n v.seen;

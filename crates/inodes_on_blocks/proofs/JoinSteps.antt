@@ -11,6 +11,7 @@ use Rattle.tree_laws.proofs.Maps.{same_or, put_same, put_other}
 use Rattle.group_log.specs.Group.{joined}
 use Rattle.group_log.specs.Soundness.{limit_of}
 use Rattle.group_log.specs.Waiting.{join_waits}
+use Rattle.atomic_programs.specs.Prog.{Ran}
 use Rattle.atomic_programs.specs.Logic.{Laws}
 use Rattle.atomic_programs.specs.Joined.{Both}
 use Rattle.fs_tables.specs.Tables.{TablesState}
@@ -73,13 +74,13 @@ module _ (l : Labels) (laws : Laws (labelled l)) (keeps : Keeps l) (h : ℕ) (lt
   W = Both World above.World
 
   -- the log with the hart in a transaction
-  abbrev with_member : World → World
+  abbrev pub with_member : World → World
   with_member r = record r { state = record (r.state) { log = record (r.state.log) { members = slice_set r.state.log.members h (Some 0) } } }
 
   within : (v : W) → Shows v.real v.seen → h < length (log_of v.real).members
   within v shows = subst (λ (n : ℕ). h < n) (sym shows.whole.log.eight) lt
 
-  alone : (v : W) → Shows v.real v.seen → (v.seen.desks h).joined ≡ false → slice_get (log_of v.real).members h ≡ Some None
+  pub alone : (v : W) → Shows v.real v.seen → (v.seen.desks h).joined ≡ false → slice_get (log_of v.real).members h ≡ Some None
   alone v shows out = slice_get-get_or (log_of v.real).members h None (within v shows) ∙ ap (λ (o : Option ℕ). Some o) (none (get_or (log_of v.real).members h None) (sym (shows.members h lt) ∙ out))
     where
       none : (o : Option ℕ) → is_some o ≡ false → o ≡ None
@@ -112,10 +113,12 @@ module _ (l : Labels) (laws : Laws (labelled l)) (keeps : Keeps l) (h : ℕ) (lt
       ghost : ghost_of v.real.owner v.real.left v.seen.disk v.seen.lock (put v.seen.desks h (record (v.seen.desks h) { joined = true })) ≡ ghost_of v.real.owner v.real.left v.seen.disk v.seen.lock v.seen.desks
       ghost = λ z. record { nodes = v.seen.disk; owner = v.real.owner; left = v.real.left; changing = λ i. change (v.seen.lock i) (none i) z }
 
-  join_came : (v : W) (c : Carry) → Shows v.real v.seen → Base h v.real v.seen c → (v.seen.desks h).lender ≡ None → LocksNone h v.seen → IsWholeLog (log_of (with_member v.real)) → Came l laws keeps h Join v tt (with_member v.real) c
-  join_came v c shows base free none whole = record {
+  -- an operation that joins, and has this answer
+  pub join_came : (op : above.Op) (a : above.Answer op) (v : W) (c : Carry) → above_exec.exec h above.Room op v.seen ≡ Ran a (above_exec.with_joined v.seen h true) → Shows v.real v.seen → Base h v.real v.seen c
+      → (v.seen.desks h).lender ≡ None → LocksNone h v.seen → IsWholeLog (log_of (with_member v.real)) → Came l laws keeps h op v a (with_member v.real) c
+  join_came op a v c ran shows base free none whole = record {
     then_ = above_exec.with_joined v.seen h true;
-    ran = refl;
+    ran = ran;
     free = part_same (λ d. d.lender) v.seen.desks h (record (v.seen.desks h) { joined = true }) h refl ∙ free;
     shows = joined_shows v shows none whole;
     same = λ other ne. record {
@@ -147,4 +150,4 @@ module _ (l : Labels) (laws : Laws (labelled l)) (keeps : Keeps l) (h : ℕ) (lt
           → After (λ t. IsWholeLog t.log) (steps.in_log v.real.state (join_if h (log_of v.real) b))
           → CameTo l laws keeps h Join v (join_waits (log_of v.real).phase (length (log_of v.real).group) (joined (log_of v.real).members) (limit_of (log_of v.real).sizes) ≡ true) (came_to h steps.Join v.real (steps.in_log v.real.state (join_if h (log_of v.real) b))) (λ a. a) (λ a. c)
       by v c shows base may true e whole = e
-      by v c shows base may false e whole = join_came v c shows base may.0 may.1.0 whole
+      by v c shows base may false e whole = join_came Join tt v c refl shows base may.0 may.1.0 whole

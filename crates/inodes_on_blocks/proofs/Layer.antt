@@ -24,7 +24,7 @@ pub held_back : {A : Type 0} (o p : Option ℕ) (h : ℕ) (x y : A) → if_kept 
 held_back o p h x y e is = kept_is h p y x (sym e ∙ kept_here h o x is)
 
 -- a hart that rests keeps nothing
-keeps_none : (h i : ℕ) (g : above.World) → Idle h g → g.keeper i ≡ Some h → ⊥
+pub keeps_none : (h i : ℕ) (g : above.World) → Idle h g → g.keeper i ≡ Some h → ⊥
 keeps_none h i g idle is = none-some (view g h i) (sym (λ z. idle.inodes z i) ∙ kept_here h (g.keeper i) (view g h i) is)
 
 -- an inode that it keeps is as it was

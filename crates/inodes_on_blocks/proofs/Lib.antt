@@ -7,7 +7,9 @@ pub mod TableSteps
 pub mod SlotSteps
 pub mod Owed
 pub mod CountSteps
+pub mod FreedSteps
 pub mod JoinSteps
+pub mod JoinFileSteps
 pub mod Committing
 pub mod LeaveSteps
 pub mod Alone

@@ -117,7 +117,7 @@ module _ (l : Labels) (laws : Laws (labelled l)) (keeps : Keeps l) (h : ℕ) (lt
   from_both op v wait answer Fits c (Stops t) (Ran b u) is both no_waits fits same shows base free = absurd both
   from_both op v wait answer Fits c (Stops t) (Stops u) is both no_waits fits same shows base free = absurd both
 
-  runs_here : (v : W) → (v.seen.desks h).lender ≡ None → Runs h v.seen
+  pub runs_here : (v : W) → (v.seen.desks h).lender ≡ None → Runs h v.seen
   runs_here v free = record { below = lt; free = free }
 
   -- ---- a place for an open file
@@ -279,7 +279,7 @@ module _ (l : Labels) (laws : Laws (labelled l)) (keeps : Keeps l) (h : ℕ) (lt
 
   -- ---- what changes nothing
 
-  same_back : (o : Option Cause) (e : Option Entry) → write_refused e ≡ o → cause_if (option_map refused_as o) ≡ o
+  pub same_back : (o : Option Cause) (e : Option Entry) → write_refused e ≡ o → cause_if (option_map refused_as o) ≡ o
   same_back None e q = refl
   same_back (Some k) e q = by e k q
     where

@@ -1,8 +1,9 @@
 -- A program of one step on the tables acts at it.
 use Rattle.std.proofs.Common.{◌≡◌, ◌≢◌, ℕ, suc, List, Option, None, ap, ◌∙◌, arith}
-use Rattle.atomic_programs.specs.Prog.{Ret, Did, Waits, Ran, Stops}
+use Rattle.fs_layout.specs.declared.superblock.Super.{Super}
+use Rattle.atomic_programs.specs.Prog.{Ret, once, Did, Waits, Ran, Stops}
 use Rattle.atomic_programs.specs.Logic.{Laws, Wp}
-use Rattle.atomic_programs.specs.Joined.{Both, joined, Below}
+use Rattle.atomic_programs.specs.Joined.{Both, joined, Below, Lasts}
 use Rattle.atomic_programs.proofs.Joined.{Acting, s-act}
 use Rattle.fs_machine.specs.LogPart.{Outside}
 use Rattle.fs_machine.specs.Steps as steps
@@ -18,7 +19,7 @@ use Rattle.inode_machine.specs.Rules as rules
 use Rattle.inode_machine.specs.Rules.{Inv, Idle, more}
 use Rattle.inodes_on_blocks.specs.Below.{World, log_of, owners_after, commits_after, came_to, exec}
 use Rattle.inodes_on_blocks.specs.Shown.{Shows}
-use Rattle.inodes_on_blocks.specs.Lowering.{Same, Carry, Base, below, Labels, labelled, Keeps}
+use Rattle.inodes_on_blocks.specs.Lowering.{Same, Kept, Carry, Base, Stands, below, Labels, labelled, Keeps}
 use Rattle.inodes_on_blocks.specs.Handlers.{one}
 use Rattle.inodes_on_blocks.specs.Acting.{ActsOnce}
 use Rattle.inodes_on_blocks.proofs.Marked.{marked_same, shows_marked}
@@ -51,32 +52,41 @@ module _ (l : Labels) (laws : Laws (labelled l)) (keeps : Keeps l) (h : ℕ) whe
   CameTo op v wait (Ran a r) answer carry = Came op v (answer a) r (carry a)
   CameTo op v wait (Stops r) answer carry = ⊥
 
+  -- from this world on, of which the hart's own stays above
+  pub one_step_from : (op : above.Op) (m : above.Answer op → Option above.Mark) (lop : steps.Op) (answer : steps.Answer lop → above.Answer op) (carry : steps.Answer lop → Carry) → ((v : W) → rules.Honest h op v.seen above.Room)
+      → (sizes : Super) (c : Carry) (B : List l.Step → Type 0) (C : above.Answer op → List l.Step → above.World → Type 0) (es : List l.Step) (w : W)
+      → ((v : W) → Kept h w.seen v.seen → Shows v.real v.seen → Inv v.seen → Base h v.real v.seen c → rules.May h op v.seen
+      → premises.May h lop v.real.state × ((x : Outside) → premises.Honest h lop v.real.state x → CameTo op v (premises.MayWait h lop v.real.state) (exec h x lop v.real) answer carry))
+      → Lasts (labelled l) h B C → Wp (labelled l) h B C (once op m) (suc (more op)) es w.seen → Stands sizes h w.real w.seen c
+      → Wp (joined (labelled l) (below sizes)) h B (Below (labelled l) (below sizes) h C) (one op m lop answer carry) (suc (more op)) es w
+  one_step_from op m lop answer carry honest sizes c B C es w rule lasts todo stands =
+      s-act (labelled l) (below sizes) laws (below_laws sizes l keeps) h B op m C lasts above.Room lop (λ a. Ret (record { answer = answer a; carry = carry a })) (Below (labelled l) (below sizes) h C) (more op) es w todo
+      (λ v fs here may.
+      let b = (below_laws sizes l keeps).base h w.real v.real w.seen v.seen c here.same here.kept stands in
+      let r = rule v here.kept here.shows here.inv b.0 may in
+      (r.0, λ x t. by v (steps.exec h x lop v.real.state) (same_sizes h x lop v.real.state here.shows.whole r.0 t) b.1 (r.1 x t)))
+    where
+      by : (v : W) (d : Did (steps.Answer lop) steps.State) → After (λ s. s.log.sizes ≡ v.real.state.log.sizes) d → (log_of v.real).sizes ≡ sizes → CameTo op v (premises.MayWait h lop v.real.state) (came_to h lop v.real d) answer carry
+          → Acting (labelled l) (below sizes) laws (below_laws sizes l keeps) h B op m C lasts above.Room v (premises.MayWait h lop v.real.state) (came_to h lop v.real d)
+          (λ a b u g. (gs : List l.Step) → Inv g → C b gs g → Wp (joined (labelled l) (below sizes)) h B (Below (labelled l) (below sizes) h C) (Ret (record { answer = answer a; carry = carry a })) (more op) gs (record { real = u; seen = g }))
+      by v Waits kept at came = came
+      by v (Stops s) kept at came = absurd came
+      by v (Ran a s) kept at came =
+          let o = owners_after h lop v.real s in
+          let r : World = record { state = s; owner = o.owner; left = o.left; taken = o.taken; commits = commits_after h lop a v.real.commits } in
+          let m' = marked_same h (m (answer a)) came.then_ in (
+            answer a,
+            marked h (m (answer a)) came.then_,
+            ap (with_mark h m) came.ran,
+            honest v,
+            (λ inv. shows_marked r came.then_ (marked h (m (answer a)) came.then_) m' came.shows),
+            came.same,
+            λ gs inv done. (done, (base_marked h r came.then_ (marked h (m (answer a)) came.then_) (carry a) m' came.free came.base, kept ∙ at)),
+          )
+
   pub one_step : (op : above.Op) (m : above.Answer op → Option above.Mark) (lop : Carry → steps.Op) (answer : (c : Carry) → steps.Answer (lop c) → above.Answer op) (carry : (c : Carry) → steps.Answer (lop c) → Carry)
       → ((v : W) → rules.Honest h op v.seen above.Room)
       → ((v : W) (c : Carry) → Shows v.real v.seen → Inv v.seen → Base h v.real v.seen c → rules.May h op v.seen
       → premises.May h (lop c) v.real.state × ((x : Outside) → premises.Honest h (lop c) v.real.state x → CameTo op v (premises.MayWait h (lop c) v.real.state) (exec h x (lop c) v.real) (answer c) (carry c)))
       → ActsOnce l h op m (λ c m. one op m (lop c) (answer c) (carry c))
-  one_step op m lop answer carry honest rule sizes c B C es w lasts todo stands =
-      s-act (labelled l) (below sizes) laws (below_laws sizes l keeps) h B op m C lasts above.Room (lop c) (λ a. Ret (record { answer = answer c a; carry = carry c a })) (Below (labelled l) (below sizes) h C) (more op) es w todo
-      (λ v fs here may.
-      let b = (below_laws sizes l keeps).base h w.real v.real w.seen v.seen c here.same here.kept stands in
-      let r = rule v c here.shows here.inv b.0 may in
-      (r.0, λ x t. by v (steps.exec h x (lop c) v.real.state) (same_sizes h x (lop c) v.real.state here.shows.whole r.0 t) b.1 (r.1 x t)))
-    where
-      by : (v : W) (d : Did (steps.Answer (lop c)) steps.State) → After (λ s. s.log.sizes ≡ v.real.state.log.sizes) d → (log_of v.real).sizes ≡ sizes → CameTo op v (premises.MayWait h (lop c) v.real.state) (came_to h (lop c) v.real d) (answer c) (carry c)
-          → Acting (labelled l) (below sizes) laws (below_laws sizes l keeps) h B op m C lasts above.Room v (premises.MayWait h (lop c) v.real.state) (came_to h (lop c) v.real d)
-          (λ a b u g. (gs : List l.Step) → Inv g → C b gs g → Wp (joined (labelled l) (below sizes)) h B (Below (labelled l) (below sizes) h C) (Ret (record { answer = answer c a; carry = carry c a })) (more op) gs (record { real = u; seen = g }))
-      by v Waits kept at came = came
-      by v (Stops s) kept at came = absurd came
-      by v (Ran a s) kept at came =
-          let o = owners_after h (lop c) v.real s in
-          let r : World = record { state = s; owner = o.owner; left = o.left; taken = o.taken; commits = commits_after h (lop c) a v.real.commits } in
-          let m' = marked_same h (m (answer c a)) came.then_ in (
-            answer c a,
-            marked h (m (answer c a)) came.then_,
-            ap (with_mark h m) came.ran,
-            honest v,
-            (λ inv. shows_marked r came.then_ (marked h (m (answer c a)) came.then_) m' came.shows),
-            came.same,
-            λ gs inv done. (done, (base_marked h r came.then_ (marked h (m (answer c a)) came.then_) (carry c a) m' came.free came.base, kept ∙ at)),
-          )
+  one_step op m lop answer carry honest rule sizes c B C es w lasts todo stands = one_step_from op m (lop c) (answer c) (carry c) honest sizes c B C es w (λ v kept shows inv base may. rule v c shows inv base may) lasts todo stands

@@ -17,10 +17,10 @@ use Rattle.fs_tables.specs.declared.slots.Shut.TheVariants as shut
 use Rattle.fs_tables.specs.Inodes.{DroppedState, Counts, Keeps, Dies}
 use Rattle.fs_machine.specs.Programs.{after_leave}
 use Rattle.fs_machine.specs.Steps as steps
-use Rattle.fs_machine.specs.Steps.{Whom, Number, Directory, Held, Walked}
+use Rattle.fs_machine.specs.Steps.{Whom, Number, Directory, Held, Walked, Freed}
 use Rattle.inode_machine.specs.Inodes.{Sort}
 use Rattle.inode_machine.specs.World as above
-use Rattle.inode_machine.specs.World.Op.{Give, UpStart, Up, WalkDown, Down, Slot, Install, CheckFile, Double, Shut, Settle, Join, Leave, Say}
+use Rattle.inode_machine.specs.World.Op.{Give, UpStart, Up, WalkDown, Down, Slot, Install, CheckFile, JoinFile, Double, Shut, Settle, Join, Leave, Say}
 use Rattle.inodes_on_tables.specs.Shown.{new_file}
 use Rattle.inodes_on_blocks.specs.Lowering.{Carry}
 
@@ -73,6 +73,11 @@ abbrev pub cause_if : Option Refused → Option Cause
 cause_if None = None
 cause_if (Some why) = Some (cause_of why)
 
+-- the transaction is for this inode
+abbrev pub joining_to : steps.Joined → above.Joining
+joining_to (steps.RefusesJoin why) = above.NotJoined (cause_of why)
+joining_to (steps.Joins n) = above.Joined n
+
 -- ---- programs
 
 -- the lock goes back with the inode's record
@@ -98,6 +103,10 @@ walk_down n c m = one (WalkDown n) m (steps.Down (Walked n)) is_kept (λ a. c)
 abbrev pub down : (n : ℕ) → Handler (Down n)
 down n c m = one (Down n) m (steps.Down (Held n)) is_kept (with_dying c)
 
+-- that to an inode that the hart has freed
+abbrev pub down_freed : (n : ℕ) → Handler (Down n)
+down_freed n c m = one (Down n) m (steps.Down (Freed n)) is_kept (λ a. c)
+
 abbrev pub slot : Handler Slot
 slot c m = one Slot m steps.TakePlace (λ a. a) (λ a. c)
 
@@ -119,6 +128,10 @@ say c m = one Say m steps.Reply (λ a. a) (λ a. c)
 -- a transaction is joined, where the log has room for it
 abbrev pub join : Handler Join
 join c m = one Join m steps.Join (λ a. a) (λ a. c)
+
+-- the same for the inode that a descriptor names, where that may be written
+abbrev pub join_file : (fd : ℕ) → Handler (JoinFile fd)
+join_file fd c m = one (JoinFile fd) m (steps.JoinToWrite fd) joining_to (λ a. c)
 
 -- it is left, with the commit where one begins
 abbrev pub leave : Handler Leave

@@ -3,9 +3,9 @@
 ghost use Rattle.std.specs.Prelude.{ℕ, Bool};
 ghost use Rattle.plain_tree.specs.declared.tree.OpenFile.{OpenFile};
 ghost use Rattle.inode_machine.specs.Inodes.{Sort};
-ghost use Rattle.inode_machine.specs.World.Op.{Give, UpStart, Up, WalkDown, Down, Slot, Install, CheckFile, Double, Shut, Settle, Join, Leave, Say};
-ghost use Rattle.inodes_on_blocks.specs.Handlers.{give, settle, up_start, up, walk_down, down, slot, install, double, close, check_file, join, leave, say};
-ghost use Rattle.inodes_on_blocks.specs.Acting.{DoesIt};
+ghost use Rattle.inode_machine.specs.World.Op.{Give, UpStart, Up, WalkDown, Down, Slot, Install, CheckFile, JoinFile, Double, Shut, Settle, Join, Leave, Say};
+ghost use Rattle.inodes_on_blocks.specs.Handlers.{give, settle, up_start, up, walk_down, down, down_freed, slot, install, double, close, check_file, join, join_file, leave, say};
+ghost use Rattle.inodes_on_blocks.specs.Acting.{DoesIt, DoesItWhere, HasFreed};
 
 /// A lock given back is one step, with the record that the hart has of the inode.
 pub fn gives_act_once()
@@ -35,6 +35,11 @@ pub fn walk_downs_act_once()
 /// A reference less elsewhere is one step, which takes the lock in place of the last one.
 pub fn downs_act_once()
     ensures { (n : ℕ) → DoesIt (Down n) (down n) }
+{}
+
+/// A reference less to an inode that the hart has freed is one step, which counts it down.
+pub fn freed_downs_act_once()
+    ensures { (n : ℕ) → DoesItWhere (HasFreed n) (Down n) (down_freed n) }
 {}
 
 /// A place taken for an open file is one step.
@@ -75,4 +80,9 @@ pub fn joins_act_once()
 /// A transaction is left in one step; the writes of the commit that it begins are further steps, of which nothing is seen.
 pub fn leaves_act_once()
     ensures { DoesIt Leave leave }
+{}
+
+/// A transaction joined for the inode that a descriptor names is one step, which refuses what may not be written.
+pub fn file_joins_act_once()
+    ensures { (fd : ℕ) → DoesIt (JoinFile fd) (join_file fd) }
 {}

@@ -1,0 +1,92 @@
+-- A transaction is joined for the inode that a descriptor names, in one step, where that may be written.
+use Rattle.std.proofs.Common.{◌≡◌, ℕ, ◌<◌, Bool, true, false, length, Option, Some, None, refl, sym, ◌∙◌, ap, subst}
+use Rattle.std.specs.Option.{option_map}
+use Rattle.std.proofs.lemmas.Option.{same_Some}
+use Rattle.group_log.specs.Group.{joined}
+use Rattle.group_log.specs.Soundness.{limit_of}
+use Rattle.group_log.specs.Waiting.{join_waits}
+use Rattle.plain_tree.specs.Widths.{hart_count}
+use Rattle.plain_tree.specs.declared.answer.Cause.{Cause}
+use Rattle.plain_tree.specs.declared.answer.Cause.TheVariants as causes
+use Rattle.atomic_programs.specs.Prog.{Ran}
+use Rattle.atomic_programs.specs.Logic.{Laws}
+use Rattle.atomic_programs.specs.Joined.{Both}
+use Rattle.fs_tables.specs.declared.files.OpenFile.{OpenFile}
+use Rattle.fs_tables.specs.declared.files.Refused.{Refused}
+use Rattle.fs_tables.specs.declared.files.Refused.TheVariants as refused_variants
+use Rattle.fs_tables.specs.declared.files.Want.TheVariants as want
+use Rattle.fs_tables.specs.Tables.{file_named}
+use Rattle.fs_tables.specs.Inodes.{refusal_of}
+use Rattle.fs_machine.specs.LogPart.{join_if}
+use Rattle.fs_machine.specs.Steps as steps
+use Rattle.fs_machine.specs.Premises as premises
+use Rattle.fs_machine.specs.Whole.{IsWholeLog, After}
+use Rattle.fs_machine.proofs.Keeping.{keeps_whole}
+use Rattle.inode_machine.specs.World as above
+use Rattle.inode_machine.specs.World.{Entry, Joining, NotJoined, Joined}
+use Rattle.inode_machine.specs.World.Op.{JoinFile}
+use Rattle.inode_machine.specs.Exec as above_exec
+use Rattle.inode_machine.specs.Exec.{entry_of, write_refused, join_at}
+use Rattle.inode_machine.specs.Rules as rules
+use Rattle.inode_machine.specs.Rules.{Inv}
+use Rattle.inodes_on_tables.specs.Shown.{loaded, file_of, refused_as}
+use Rattle.inodes_on_tables.proofs.Named.{descriptors_name_files}
+use Rattle.inodes_on_blocks.specs.Below.{World, log_of, tables_of, came_to}
+use Rattle.inodes_on_blocks.specs.Shown.{Shows}
+use Rattle.inodes_on_blocks.specs.Lowering.{Carry, Base, Labels, labelled, Keeps}
+use Rattle.inodes_on_blocks.specs.Handlers.{cause_of, joining_to, join_file}
+use Rattle.inodes_on_blocks.specs.Acting.{ActsOnce}
+use Rattle.inodes_on_blocks.proofs.JoinSteps.{alone, join_came}
+use Rattle.inodes_on_blocks.proofs.SlotSteps.{all_same, came_quiet, runs_here, same_back}
+use Rattle.inodes_on_blocks.proofs.Stepping.{Came, CameTo, one_step}
+
+module _ (l : Labels) (laws : Laws (labelled l)) (keeps : Keeps l) (h : ℕ) (lt : h < hart_count) where
+  abbrev W : Type 0
+  W = Both World above.World
+
+  module _ (fd : ℕ) (v : W) (c : Carry) (shows : Shows v.real v.seen) (base : Base h v.real v.seen c) (may : rules.May h (JoinFile fd) v.seen) where
+    abbrev Waiting : Bool
+    Waiting = join_waits (log_of v.real).phase (length (log_of v.real).group) (joined (log_of v.real).members) (limit_of (log_of v.real).sizes)
+
+    abbrev Leads : Option OpenFile → Option Refused → Type 0
+    Leads f why = CameTo l laws keeps h (JoinFile fd) v (Waiting ≡ true) (came_to h (steps.JoinToWrite fd) v.real (steps.join_unless h v.real.state f why)) joining_to (λ a. c)
+
+    refused : (why : Refused) (k : Cause) → cause_of why ≡ k → above_exec.exec h above.Room (JoinFile fd) v.seen ≡ Ran (NotJoined k) v.seen → Came l laws keeps h (JoinFile fd) v (NotJoined (cause_of why)) v.real c
+    refused why k e ran = came_quiet l laws keeps h lt (JoinFile fd) v (NotJoined (cause_of why)) (tables_of v.real) v.seen c shows base may.0 (ran ∙ ap (λ (z : Cause). Ran (NotJoined z) v.seen) (sym e)) shows.tables (all_same h v.seen)
+
+    abbrev LeadsOn : Entry → Bool → Type 0
+    LeadsOn e b = CameTo l laws keeps h (JoinFile fd) v (Waiting ≡ true) (came_to h (steps.JoinToWrite fd) v.real (steps.joins (file_of e) (steps.in_log v.real.state (join_if h (log_of v.real) b)))) joining_to (λ a. c)
+
+    goes_on : (e : Entry) → above_exec.exec h above.Room (JoinFile fd) v.seen ≡ Ran (Joined e.file.number) (above_exec.with_joined v.seen h true) → (b : Bool) → Waiting ≡ b
+        → After (λ t. IsWholeLog t.log) (steps.in_log v.real.state (join_if h (log_of v.real) b)) → LeadsOn e b
+    goes_on e ran true is whole = is
+    goes_on e ran false is whole = join_came l laws keeps h lt (JoinFile fd) (Joined e.file.number) v c ran shows base may.0 may.1.0 whole
+
+    by_refusal : (e : Entry) → entry_of v.seen h fd ≡ Some e → (o : Option Cause) → write_refused (Some e) ≡ o → ((b : Bool) → Waiting ≡ b → After (λ t. IsWholeLog t.log) (steps.in_log v.real.state (join_if h (log_of v.real) b)))
+        → Leads (Some (file_of e)) (option_map refused_as o)
+    by_refusal e is (Some k) why whole =
+        refused (refused_as k) k (same_Some _ _ (same_back l laws keeps h lt (Some k) (Some e) why))
+        (ap (λ (x : Option Entry). join_at h v.seen x (write_refused x)) is ∙ ap (join_at h v.seen (Some e)) why)
+    by_refusal e is None why whole =
+        goes_on e (ap (λ (x : Option Entry). join_at h v.seen x (write_refused x)) is ∙ ap (join_at h v.seen (Some e)) why) Waiting refl (whole Waiting refl)
+
+    by_entry : (o : Option Entry) → entry_of v.seen h fd ≡ o → ((b : Bool) → Waiting ≡ b → After (λ t. IsWholeLog t.log) (steps.in_log v.real.state (join_if h (log_of v.real) b)))
+        → Leads (option_map file_of o) (option_map refused_as (write_refused o))
+    by_entry None is whole = refused refused_variants.BadDescriptor causes.BadDescriptor refl (ap (λ (x : Option Entry). join_at h v.seen x (write_refused x)) is)
+    by_entry (Some e) is whole = by_refusal e is (write_refused (Some e)) refl whole
+
+  pub join_file_acts : (fd : ℕ) (m : Joining → Option above.Mark) → ActsOnce l h (JoinFile fd) m (join_file fd)
+  unfolding steps.exec premises.May premises.MayWait premises.Honest
+  join_file_acts fd m =
+      one_step l laws keeps h (JoinFile fd) m (λ c. steps.JoinToWrite fd) (λ c. joining_to) (λ c a. c) (λ v. tt)
+      (λ v c shows inv base may. ((lt, alone l laws keeps h lt v shows may.1.1), λ x t. by v c shows inv base may (keeps_whole h x steps.Join v.real.state shows.whole (lt, alone l laws keeps h lt v shows may.1.1) tt)))
+    where
+      by : (v : W) (c : Carry) → Shows v.real v.seen → Inv v.seen → Base h v.real v.seen c → rules.May h (JoinFile fd) v.seen
+          → After (λ t. IsWholeLog t.log) (steps.in_log v.real.state (join_if h (log_of v.real) (join_waits (log_of v.real).phase (length (log_of v.real).group) (joined (log_of v.real).members) (limit_of (log_of v.real).sizes))))
+          → CameTo l laws keeps h (JoinFile fd) v (join_waits (log_of v.real).phase (length (log_of v.real).group) (joined (log_of v.real).members) (limit_of (log_of v.real).sizes) ≡ true)
+          (came_to h (steps.JoinToWrite fd) v.real (steps.join_unless h v.real.state (file_named h fd (tables_of v.real)) (refusal_of want.Write (file_named h fd (tables_of v.real))))) joining_to (λ a. c)
+      by v c shows inv base may whole =
+          let e = descriptors_name_files h fd (tables_of v.real) v.seen (loaded (tables_of v.real)) shows.tables inv (runs_here l laws keeps h lt v may.0) in
+          subst (λ (f : Option OpenFile). Leads fd v c shows base may f (refusal_of want.Write (file_named h fd (tables_of v.real)))) (sym e.0)
+          (subst (λ (o : Option Refused). Leads fd v c shows base may (option_map file_of (entry_of v.seen h fd)) o) (sym e.2)
+          (by_entry fd v c shows base may (entry_of v.seen h fd) refl (λ b is. subst (λ (z : Bool). After (λ t. IsWholeLog t.log) (steps.in_log v.real.state (join_if h (log_of v.real) z))) is whole)))

@@ -1,0 +1,9 @@
+use Rattle.inode_machine.specs.World.Op.{JoinFile}
+use Rattle.inodes_on_blocks.specs.Handlers.{join_file}
+use Rattle.inodes_on_blocks.specs.Acting.{alone}
+use Rattle.inodes_on_blocks.proofs.JoinFileSteps.{join_file_acts}
+use Rattle.inodes_on_blocks.proofs.Alone.{alone_laws, alone_keeps, does_it}
+use Rattle.inodes_on_blocks.proofs.acting.file_joins_act_once.Goals as goal
+
+pub returns : goal.returns
+returns c = λ fd. does_it (JoinFile fd) (join_file fd) (λ h lt m. join_file_acts alone alone_laws alone_keeps h lt fd m)
