@@ -85,7 +85,7 @@ module _ (h : ℕ) (s : State) (whole : IsWholeLog s.log) where
       let laws = change_laws l.contents mid g bytes (pin_keeps l.seats b true g held) refl pinned (sound_pin l.contents l.seats b (room_to_pin l.contents l.seats l.sizes l.group l.members b h log room) whole.cache) in
       laws.seen k ∙ ap (λ (v : List ℕ). if k == b then bytes else v) (pin_seen l.contents l.seats b true k)
 
-  put_shows : (b : ℕ) (change : Option (List ℕ)) → MayPut h b change l → (k : ℕ) → seen_of (put_block h b change l) k ≡ seen_with b change (seen_of l) k
+  pub put_shows : (b : ℕ) (change : Option (List ℕ)) → MayPut h b change l → (k : ℕ) → seen_of (put_block h b change l) k ≡ seen_with b change (seen_of l) k
   put_shows b None may k = (back_laws l.contents l.seats b whole.cache).seen k
   put_shows b (Some bytes) may k = recorded_shows b bytes may.0 may.2.0 may.2.1 may.2.2 may.2.4 k
 
