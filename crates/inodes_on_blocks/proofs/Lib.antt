@@ -17,3 +17,8 @@ pub mod Hands
 pub mod Fetching
 pub mod Loading
 pub mod StatSteps
+pub mod Recorded
+pub mod Putting
+pub mod RecordPuts
+pub mod OwnerPuts
+pub mod PutLaws

@@ -8,3 +8,4 @@ pub mod Handlers
 pub mod Acting
 pub mod Holding
 pub mod Reading
+pub mod Recording

@@ -1,0 +1,64 @@
+-- The laws of recorded puts.
+use Rattle.std.proofs.Common.{◌≡◌, inl, inr, ℕ, ◌<◌, true, List, length, Option, refl, sym, subst, arith}
+use Rattle.std.specs.Prelude.{nat_lt}
+use Rattle.std.proofs.lemmas.Bool.Decides.{nat_tests}
+use Rattle.fs_layout.specs.declared.superblock.Super.{Super}
+use Rattle.tree_laws.proofs.Maps.{either, eq_self, eq_not}
+use Rattle.image_laws.proofs.SeenDisks.{good_seen}
+use Rattle.fs_tables.specs.Tables.{holder_of as lock_holder}
+use Rattle.fs_machine.specs.Shown.{seen_of}
+use Rattle.fs_machine.specs.Steps as steps
+use Rattle.inode_table.specs.Programs.{inode_block}
+use Rattle.inodes_on_blocks.specs.Owners.{Owners, owners_put}
+use Rattle.inodes_on_blocks.specs.Below.{log_of, tables_of, disk_of, owners_of}
+use Rattle.inodes_on_blocks.specs.Recording.{PutLeaves, log_with, owners_with, with_record, RecordedPutsKeep, DataPutsLeave, ClearedBitsLeave, SetBitsLeave, RecordPutsLeave}
+use Rattle.inodes_on_blocks.proofs.Recorded.{may_put}
+use Rattle.inodes_on_blocks.proofs.Putting.{same_put, shows_put, lock_range}
+use Rattle.inodes_on_blocks.proofs.RecordPuts.{quiet_owners, quiet_leaves}
+use Rattle.inodes_on_blocks.proofs.OwnerPuts.{give_leaves, take_leaves, taken_here, data_put_leaves}
+
+pub recorded_puts_keep : RecordedPutsKeep
+unfolding steps.exec
+recorded_puts_keep h b n bytes r g x shows is can leaves = (
+  may_put h b bytes r.state shows.whole shows.blocks.seen can,
+  (shows_put h b n bytes r g shows is.lock is.joined can (owners_with h b bytes r) leaves, same_put h b n bytes r g shows is.lock is.joined can (owners_with h b bytes r) leaves),
+)
+
+-- behind the bitmap nothing of it changes
+behind : (lock : ℕ → Option ℕ) (h bitmap b : ℕ) (old new : List (List ℕ)) (o : Owners) → bitmap < b → owners_put lock h bitmap b old new o ≡ o
+behind lock h bitmap b old new o past = elim (either (nat_lt b bitmap)) [
+  | inl low ↦ absurd (not_below b bitmap past low)
+  | inr high ↦ rw (eq_not b bitmap (λ e. absurd (omega (arith, e, past))), high) refl
+]
+  where
+    not_below : (a c : ℕ) → c < a → nat_lt a c ≡ true → ⊥
+    not_below a c past low = grind (arith, nat_tests)
+
+pub data_puts_leave : DataPutsLeave
+data_puts_leave h b n bytes r g shows is can block own =
+    let here = (good_seen (log_of r).sizes (seen_of (log_of r)) (length (log_of r).contents) shows.blocks.seen).sizes_are in
+    let past : (log_of r).sizes.bmapstart < b = (subst (λ (s : Super). s.bmapstart < b) here block.0) in
+    subst (λ (o : Owners). PutLeaves h n r (log_with h b bytes r) o)
+    (sym (behind (λ i. lock_holder i (tables_of r)) h (log_of r).sizes.bmapstart b (disk_of (log_of r)) (disk_of (log_with h b bytes r)) (owners_of r) past))
+    (data_put_leaves h n b r g shows bytes can block own (lock_range n h r g shows is.lock).0)
+
+pub cleared_bits_leave : ClearedBitsLeave
+cleared_bits_leave h b n bytes r g shows is can block own bit =
+    rw (eq_self (log_of r).sizes.bmapstart) (give_leaves h n r g shows bytes can b (lock_range n h r g shows is.lock).0 block own bit)
+
+pub set_bits_leave : SetBitsLeave
+set_bits_leave h b n bytes r g shows is can block clear bit =
+    let low = (lock_range n h r g shows is.lock).0 in (
+      rw (eq_self (log_of r).sizes.bmapstart) (take_leaves h n r g shows bytes can b block (λ e. absurd (omega (arith, e, low))) clear bit),
+      rw (eq_self (log_of r).sizes.bmapstart) (taken_here h n r g shows bytes can b block (λ e. absurd (omega (arith, e, low))) clear bit),
+    )
+
+pub record_puts_leave : RecordPutsLeave
+record_puts_leave h n d r g shows is fits none can =
+    let b = inode_block (log_of r).sizes.inodestart n in
+    let range = lock_range n h r g shows is.lock in
+    let inodes = shows.blocks.seen.good.inodes in
+    let bound = range.1 in
+    subst (λ (o : Owners). PutLeaves h n r (log_with h b (with_record n d r) r) o)
+    (sym (quiet_owners (λ i. lock_holder i (tables_of r)) h (disk_of (log_with h b (with_record n d r) r)) (owners_of r) none (log_of r).sizes.bmapstart b (disk_of (log_of r)) (λ e. absurd (omega (arith, inodes, bound, e)))))
+    (quiet_leaves h n d r g shows is.lock is.joined range.0 range.1 fits can (shows.blocks.seen.whole b can.home.within can.home.outside))

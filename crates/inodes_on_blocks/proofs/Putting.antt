@@ -1,0 +1,164 @@
+-- A block recorded for an inode that the hart is changing: the others have theirs, and what is shown stays.
+use Rattle.std.proofs.Common.{◌≡◌, ◌≢◌, ℕ, ◌<◌, ◌≤◌, Bool, true, List, length, Option, Some, None, refl, sym, ◌∙◌, ap, subst, inl, inr, if◌then◌else◌}
+use Rattle.std.specs.Prelude.{slice_get}
+use Rattle.std.proofs.lemmas.Option.{none-some, same_Some}
+use Rattle.fs_layout.specs.declared.superblock.Super.{Super}
+use Rattle.fs_layout.specs.declared.inode.Dinode.{Dinode}
+use Rattle.fs_layout.specs.Recovered.{sizes_of}
+use Rattle.tree_laws.proofs.Maps.{same_or}
+use Rattle.image_laws.specs.Running.{IsRunning}
+use Rattle.image_laws.proofs.SeenDisks.{good_seen}
+use Rattle.image_laws.proofs.HeldFrames.{untouched}
+use Rattle.fs_tables.specs.Tables.{TablesState, place_of, holder_of as lock_holder, holder_in, holder_at, references_in, references_at}
+use Rattle.fs_tables.proofs.Places.{Found, found}
+use Rattle.fs_tables.proofs.Locking.{slot_at}
+use Rattle.fs_tables.specs.Soundness.{InsideFits, PlaceFits}
+use Rattle.fs_tables.specs.declared.inodes.Inode.{Inode}
+use Rattle.sleep_lock.specs.SleepLock.{SlotState}
+use Rattle.fs_machine.specs.LogPart.{LogPart, put_block}
+use Rattle.fs_machine.specs.Own.{Own}
+use Rattle.fs_machine.specs.Shown.{seen_of}
+use Rattle.inode_machine.specs.World as above
+use Rattle.inode_machine.specs.World.{Desk}
+use Rattle.inodes_on_tables.specs.Shown as tables
+use Rattle.inodes_on_tables.specs.Shown.{loaded, loaded_in, loaded_at, loaded_of}
+use Rattle.inodes_on_blocks.specs.OnBlocks.{is_joined, AreOnBlocks}
+use Rattle.inodes_on_blocks.specs.Owners.{Owners}
+use Rattle.inodes_on_blocks.specs.Below.{World, log_of, tables_of, disk_of}
+use Rattle.inodes_on_blocks.specs.Shown.{Shows, if_joined, ghost_of}
+use Rattle.inodes_on_blocks.specs.Lowering.{Same, commit_in}
+use Rattle.inodes_on_blocks.specs.Recording.{CanPut, PutLeaves}
+use Rattle.inodes_on_blocks.proofs.Committing.{is_member, nobody_commits, commit_none}
+use Rattle.inodes_on_blocks.proofs.Hands.{same_view}
+use Rattle.inodes_on_blocks.proofs.Recorded.{whole_put, own_put, seen_then, good_then, bytes_then, members_joined}
+
+-- ---- inodes in memory
+
+referred_at : (n p : ℕ) (t : TablesState) → place_of n t.entries ≡ Some p → 0 < references_in t.entries (place_of n t.entries)
+referred_at n p t q =
+    let f = found n t.entries p q in
+    subst (λ (z : ℕ). 0 < z) (sym (ap (references_in t.entries) q ∙ ap references_at f.there)) f.referenced
+
+-- an inode whose lock is out is referred to
+lock_referred : (n k : ℕ) (t : TablesState) → lock_holder n t ≡ Some k → 0 < references_in t.entries (place_of n t.entries)
+lock_referred n k t e = at (place_of n t.entries) refl
+  where
+    at : (o : Option ℕ) → place_of n t.entries ≡ o → 0 < references_in t.entries (place_of n t.entries)
+    at None q = absurd (none-some k (sym (ap (holder_in t.locks) q) ∙ e))
+    at (Some p) q = referred_at n p t q
+
+-- one of which something is loaded is too
+load_referred : (n : ℕ) (d : Dinode) (t : TablesState) → loaded t n ≡ Some d → 0 < references_in t.entries (place_of n t.entries)
+load_referred n d t e = at (place_of n t.entries) refl
+  where
+    at : (o : Option ℕ) → place_of n t.entries ≡ o → 0 < references_in t.entries (place_of n t.entries)
+    at None q = absurd (none-some d (sym (ap (loaded_in t.locks) q) ∙ e))
+    at (Some p) q = referred_at n p t q
+
+-- of one whose lock is out nothing is
+pub not_loaded : (n k : ℕ) (t : TablesState) (g : above.World) → tables.Shows t g (loaded t) → lock_holder n t ≡ Some k → loaded t n ≡ None
+not_loaded n k t g shows e = at (place_of n t.entries) refl
+  where
+    at : (o : Option ℕ) → place_of n t.entries ≡ o → loaded t n ≡ None
+    at None q = ap (loaded_in t.locks) q
+    at (Some p) q = by_slot (slot_at t.entries t.locks p f.entry shows.sound.inodes f.there)
+      where
+        f : Found n t.entries p
+        f = found n t.entries p q
+
+        by_inside : (s : SlotState Inode) → slice_get t.locks p ≡ Some s → (x : Option Inode) → s.inside ≡ x → InsideFits f.entry s.holder x → loaded t n ≡ None
+        by_inside s there None z fits = ap (loaded_in t.locks) q ∙ ap loaded_at there ∙ ap loaded_of z
+        by_inside s there (Some v) z fits = absurd (none-some k (sym fits.0 ∙ sym (ap holder_at there) ∙ sym (ap (holder_in t.locks) q) ∙ e))
+
+        by_slot : (s : SlotState Inode) × (slice_get t.locks p ≡ Some s) × PlaceFits p f.entry s → loaded t n ≡ None
+        by_slot at = by_inside at.0 at.1 at.0.inside refl at.2.1
+
+referred_range : (n : ℕ) (r : World) (g : above.World) → Shows r g → 0 < references_in (tables_of r).entries (place_of n (tables_of r).entries) → (1 ≤ n) × (n < (log_of r).sizes.ninodes)
+referred_range n r g shows some =
+    let at = shows.tables.range n (subst (λ (z : ℕ). 0 < z) (sym (shows.tables.places.counts n)) some) in
+    (at.0, subst (λ (z : ℕ). n < z) shows.size at.1)
+
+-- who is locked is an inode
+pub lock_range : (n k : ℕ) (r : World) (g : above.World) → Shows r g → g.lock n ≡ Some k → (1 ≤ n) × (n < (log_of r).sizes.ninodes)
+lock_range n k r g shows e = referred_range n r g shows (lock_referred n k (tables_of r) (sym (shows.tables.places.holders n) ∙ e))
+
+-- ---- a put
+
+module _ (h b i : ℕ) (bytes : List ℕ) (r : World) (g : above.World) (shows : Shows r g) (mine : g.lock i ≡ Some h) (joined : (g.desks h).joined ≡ true) (can : CanPut h b bytes (log_of r)) (o : Owners) where
+  abbrev l : LogPart
+  l = log_of r
+
+  abbrev now : LogPart
+  now = put_block h b (Some bytes) l
+
+  -- the world after it
+  abbrev pub after : World
+  after = record { state = record (r.state) { log = now }; owner = o.owner; left = o.left; taken = o.taken; commits = r.commits }
+
+  range : (j : ℕ) → 0 < references_in (tables_of r).entries (place_of j (tables_of r).entries) → (1 ≤ j) × (j < (sizes_of (disk_of l)).ninodes)
+  range j some =
+      let at = referred_range j r g shows some in
+      (at.0, subst (λ (s : Super). j < s.ninodes) (sym (good_seen l.sizes (seen_of l) (length l.contents) shows.blocks.seen).sizes_are) at.1)
+
+  pub same_put : PutLeaves h i r now o → (k : ℕ) → k ≢ h → Same k r after
+  same_put leaves k ne =
+      let own = own_put h b bytes r.state shows.whole shows.blocks.seen can k ne in
+      record {
+        inodes = λ j e.
+            let at = range j (lock_referred j k (tables_of r) e) in
+            record { lock = e; untouched = leaves.inodes j at.0 at.1 (λ q. ne (same_Some k h (sym e ∙ ap (λ (n : ℕ). lock_holder n (tables_of r)) q ∙ sym (shows.tables.places.holders i) ∙ mine))) };
+        no_more = λ j e. e;
+        buffers = λ c. same_view k c l now (λ z. (own z).buffers c) refl;
+        held = ap (λ (x : Own). x.count) own;
+        member = ap (λ (x : Own). x.member) own;
+        sizes = refl;
+        taken = leaves.others k ne;
+        commit = commit_none k r.commits (commit_in now) (commit_in l) (nobody_commits h r g shows (is_member l.members h can.joined));
+      }
+
+  changes : if_joined g.desks (g.lock i) ≡ Some h
+  changes = ap (if_joined g.desks) mine ∙ ap (λ (t : Bool). if t then Some h else None) joined
+
+  blocks_then : PutLeaves h i r now o → AreOnBlocks now.contents now.seats now.sizes now.members (ghost_of o.owner o.left g.disk g.lock g.desks)
+  blocks_then leaves =
+      let good = good_then h b bytes r.state shows.whole shows.blocks.seen can in
+      let was = good_seen l.sizes (seen_of l) (length l.contents) shows.blocks.seen in
+      let old : IsRunning (disk_of l) g.disk r.owner r.left (λ j. if_joined g.desks (g.lock j)) (is_joined l.members) = shows.blocks.running in
+      record {
+        seen = seen_then h b bytes r.state shows.whole shows.blocks.seen can;
+        running = record {
+          front = good.good;
+          whole = good.whole;
+          range = λ j v node. subst (λ (s : Super). (1 ≤ j) × (j < s.ninodes)) (was.sizes_are ∙ sym good.sizes_are) (old.range j v node);
+          inodes = λ j low bound none.
+              let within : j < (sizes_of (disk_of l)).ninodes = subst (λ (s : Super). j < s.ninodes) (good.sizes_are ∙ sym was.sizes_are) bound in
+              untouched (disk_of l) (disk_of now) r.owner o.owner j (g.disk j)
+              (leaves.inodes j low within (λ q. none-some h (sym none ∙ ap (λ (n : ℕ). if_joined g.desks (g.lock n)) q ∙ changes))) (old.inodes j low within none);
+          bits = leaves.bits;
+          no_others = leaves.no_others;
+          owners = leaves.owners;
+          changes = λ j k is. members_joined l.group b l.members h k ∙ old.changes j k is;
+        };
+      }
+
+  -- what is shown, the inode being changed still
+  pub shows_put : PutLeaves h i r now o → Shows after g
+  shows_put leaves = record {
+    whole = whole_put h b bytes r.state shows.whole shows.blocks.seen can;
+    runs = shows.runs;
+    size = shows.size;
+    tables = shows.tables;
+    members = λ k lt. shows.members k lt ∙ sym (members_joined l.group b l.members h k);
+    blocks = blocks_then leaves;
+    bytes = bytes_then h b bytes r.state shows.whole shows.blocks.seen can shows.bytes;
+    taken = leaves.shown;
+    commit = shows.commit;
+    loads = record {
+      seen = λ n d e. elim (same_or n i) [
+        | inl q ↦ absurd (none-some d (sym (not_loaded n h (tables_of r) g shows.tables (ap (λ (m : ℕ). lock_holder m (tables_of r)) q ∙ sym (shows.tables.places.holders i) ∙ mine)) ∙ e))
+        | inr ne ↦ let at = range n (load_referred n d (tables_of r) e) in shows.loads.seen n d e ∙ sym (leaves.inodes n at.0 at.1 ne).inode
+      ];
+      dead = shows.loads.dead;
+      typed = shows.loads.typed;
+    };
+  }

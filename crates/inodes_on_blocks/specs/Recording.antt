@@ -1,0 +1,100 @@
+-- Blocks recorded by the hart that has an inode's lock, in its transaction: what it may record, and what such a put leaves.
+use Rattle.std.specs.Prelude.{◌≡◌, ◌≢◌, ◌⊎◌, ℕ, ◌<◌, ◌≤◌, List, length, true, false, Some, IsSome}
+use Rattle.fs_layout.specs.declared.inode.Dinode.{Dinode}
+use Rattle.fs_layout.specs.Bytes.{IsBytes}
+use Rattle.fs_layout.specs.Inode.{IsDinode}
+use Rattle.fs_layout.specs.Recovered.{sizes_of}
+use Rattle.fs_layout.specs.Widths.{block_len}
+use Rattle.buffer_cache.specs.Seats.{holder_of, kept}
+use Rattle.group_log.specs.Group.{has, HasRoom}
+use Rattle.group_log.specs.Soundness.{IsHome}
+use Rattle.group_log.specs.declared.phase.Phase.TheVariants.{Halted}
+use Rattle.image_tree.specs.Checks.{IsData, is_marked}
+use Rattle.image_laws.specs.Holds.{MarksBlocks, MarksNoOthers}
+use Rattle.image_laws.specs.Puts.{IsBitPut, IsUntouched}
+use Rattle.image_laws.specs.Running.{HasOwners}
+use Rattle.fs_machine.specs.LogPart.{LogPart, Outside, put_block}
+use Rattle.fs_machine.specs.Premises as premises
+use Rattle.fs_machine.specs.Shown.{seen_of}
+use Rattle.fs_machine.specs.Steps.{Put}
+use Rattle.fs_machine.specs.Whole.{After}
+use Rattle.inode_table.specs.Programs.{inode_block, with_dinode}
+use Rattle.inode_machine.specs.World as above
+use Rattle.inode_machine.specs.Rules.{if_kept}
+use Rattle.inodes_on_blocks.specs.OnBlocks.{is_joined}
+use Rattle.inodes_on_blocks.specs.Owners.{Owners}
+use Rattle.inodes_on_blocks.specs.Below.{World, log_of, disk_of, owners_after, exec}
+use Rattle.inodes_on_blocks.specs.Shown.{Shows, TakenShow}
+use Rattle.inodes_on_blocks.specs.Lowering.{Same}
+
+-- a block's buffer, in the hart's hand and valid, may be recorded with these bytes
+pub record CanPut (h b : ℕ) (bytes : List ℕ) (l : LogPart) : Type 0 where
+  pub holder : holder_of b l.seats ≡ Some h
+  pub valid : IsSome (kept b l.seats)
+  pub joined : is_joined l.members h ≡ true
+  pub runs : l.phase ≢ Halted
+  pub home : IsHome l.contents l.sizes b
+  pub room : has l.group b ≡ false → HasRoom l.members h
+  pub long : length bytes ≡ block_len
+  pub are : IsBytes bytes
+
+-- whose the blocks are after it, for inode i and hart h
+pub record PutLeaves (h i : ℕ) (r : World) (now : LogPart) (o : Owners) : Type 0 where
+  pub inodes : (j : ℕ) → 1 ≤ j → j < (sizes_of (disk_of (log_of r))).ninodes → j ≢ i → IsUntouched (disk_of (log_of r)) (disk_of now) r.owner o.owner j
+  pub bits : MarksBlocks (disk_of now) o.owner
+  pub no_others : MarksNoOthers (disk_of now) o.owner o.left
+  pub owners : HasOwners (disk_of now) o.owner
+  pub shown : TakenShow (log_of r).sizes o.owner o.left o.taken
+  pub others : (g : ℕ) → g ≢ h → (c : ℕ) → if_kept (o.taken c) g (seen_of now c) ≡ if_kept (r.taken c) g (seen_of (log_of r) c)
+
+-- the log after it, and whose the blocks are
+abbrev pub log_with : ℕ → ℕ → List ℕ → World → LogPart
+log_with h b bytes r = put_block h b (Some bytes) (log_of r)
+
+abbrev pub owners_with : ℕ → ℕ → List ℕ → World → Owners
+owners_with h b bytes r = owners_after h (Put b (Some bytes)) r (record (r.state) { log = log_with h b bytes r })
+
+-- the hart has the inode's lock, and is in a transaction
+pub record IsChanging (h n : ℕ) (g : above.World) : Type 0 where
+  pub lock : g.lock n ≡ Some h
+  pub joined : (g.desks h).joined ≡ true
+
+-- ---- the laws
+
+-- A put that leaves the others' inodes so may be made, shows the same world above, in which the inode is being changed, and keeps what is another hart's.
+abbrev pub RecordedPutsKeep : Type 0
+RecordedPutsKeep =
+    (h b n : ℕ) (bytes : List ℕ) (r : World) (g : above.World) (x : Outside) → Shows r g → IsChanging h n g → CanPut h b bytes (log_of r) → PutLeaves h n r (log_with h b bytes r) (owners_with h b bytes r)
+    → premises.May h (Put b (Some bytes)) r.state × After (λ u. Shows u g × ((k : ℕ) → k ≢ h → Same k r u)) (exec h x (Put b (Some bytes)) r)
+
+-- So does a put of a data block that is the inode's, or that the hart has taken.
+abbrev pub DataPutsLeave : Type 0
+DataPutsLeave =
+    (h b n : ℕ) (bytes : List ℕ) (r : World) (g : above.World) → Shows r g → IsChanging h n g → CanPut h b bytes (log_of r) → IsData (sizes_of (disk_of (log_of r))) b → (r.owner b ≡ n) ⊎ (r.taken b ≡ Some h)
+    → PutLeaves h n r (log_with h b bytes r) (owners_with h b bytes r)
+
+-- One of the bitmap that clears the bit of a block of the inode.
+abbrev pub ClearedBitsLeave : Type 0
+ClearedBitsLeave =
+    (h b n : ℕ) (bytes : List ℕ) (r : World) (g : above.World) → Shows r g → IsChanging h n g → CanPut h (log_of r).sizes.bmapstart bytes (log_of r) → IsData (sizes_of (disk_of (log_of r))) b → r.owner b ≡ n
+    → IsBitPut (disk_of (log_of r)) (disk_of (log_with h (log_of r).sizes.bmapstart bytes r)) b false
+    → PutLeaves h n r (log_with h (log_of r).sizes.bmapstart bytes r) (owners_with h (log_of r).sizes.bmapstart bytes r)
+
+-- One that sets a bit that is clear; and the block is in the hart's hand.
+abbrev pub SetBitsLeave : Type 0
+SetBitsLeave =
+    (h b n : ℕ) (bytes : List ℕ) (r : World) (g : above.World) → Shows r g → IsChanging h n g → CanPut h (log_of r).sizes.bmapstart bytes (log_of r) → IsData (sizes_of (disk_of (log_of r))) b
+    → is_marked (disk_of (log_of r)) b ≡ false → IsBitPut (disk_of (log_of r)) (disk_of (log_with h (log_of r).sizes.bmapstart bytes r)) b true
+    → PutLeaves h n r (log_with h (log_of r).sizes.bmapstart bytes r) (owners_with h (log_of r).sizes.bmapstart bytes r)
+    × ((owners_with h (log_of r).sizes.bmapstart bytes r).taken b ≡ Some h)
+
+-- the inode's block with this record in it
+abbrev pub with_record : ℕ → Dinode → World → List ℕ
+with_record n d r = with_dinode n d (seen_of (log_of r) (inode_block (log_of r).sizes.inodestart n))
+
+-- One of the inode's record, by a hart that has taken no block.
+abbrev pub RecordPutsLeave : Type 0
+RecordPutsLeave =
+    (h n : ℕ) (d : Dinode) (r : World) (g : above.World) → Shows r g → IsChanging h n g → IsDinode d → ((c : ℕ) → r.taken c ≢ Some h)
+    → CanPut h (inode_block (log_of r).sizes.inodestart n) (with_record n d r) (log_of r)
+    → PutLeaves h n r (log_with h (inode_block (log_of r).sizes.inodestart n) (with_record n d r) r) (owners_with h (inode_block (log_of r).sizes.inodestart n) (with_record n d r) r)

@@ -1,0 +1,30 @@
+//! Blocks recorded for an inode that a hart is changing: each such put may be made, leaves what is the other harts', and the
+//! world above stays as it is shown.
+
+ghost use Rattle.inodes_on_blocks.specs.Recording.{ClearedBitsLeave, DataPutsLeave, RecordPutsLeave, RecordedPutsKeep, SetBitsLeave};
+
+/// A block that is recorded for an inode, whose lock the hart has, in its transaction, leaves the others theirs and the world
+/// above as it is shown.
+pub fn recorded_puts_keep()
+    ensures { RecordedPutsKeep }
+{}
+
+/// So a data block that is the inode's, or that the hart has taken.
+pub fn data_puts_leave()
+    ensures { DataPutsLeave }
+{}
+
+/// And the bitmap with the bit of a block of the inode clear, which is nobody's then.
+pub fn cleared_bits_leave()
+    ensures { ClearedBitsLeave }
+{}
+
+/// And the bitmap with a bit set that was clear, whose block is in the hart's hand then.
+pub fn set_bits_leave()
+    ensures { SetBitsLeave }
+{}
+
+/// And the inode's block with its record, where the hart has taken no block.
+pub fn record_puts_leave()
+    ensures { RecordPutsLeave }
+{}
