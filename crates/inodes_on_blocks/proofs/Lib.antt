@@ -17,8 +17,11 @@ pub mod Hands
 pub mod Fetching
 pub mod Loading
 pub mod StatSteps
+pub mod Records
 pub mod Recorded
 pub mod Putting
 pub mod RecordPuts
 pub mod OwnerPuts
 pub mod PutLaws
+pub mod Rooms
+pub mod StoreSteps

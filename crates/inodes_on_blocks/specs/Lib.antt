@@ -9,3 +9,5 @@ pub mod Acting
 pub mod Holding
 pub mod Reading
 pub mod Recording
+pub mod Storing
+pub mod Room

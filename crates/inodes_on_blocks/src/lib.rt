@@ -8,6 +8,7 @@ ghost use Rattle.inodes_on_blocks.specs.Laws.{ChangesMayBegin, ChangesMayEnd, Jo
 pub mod acting;
 pub mod reading;
 pub mod recording;
+pub mod storing;
 
 /// Whenever no transaction is outstanding, the seen blocks are a well-formed image of the tree, and so is each disk that
 /// recovery would leave so.

@@ -1,0 +1,35 @@
+-- That a hart may record a block, where its transaction has room for it.
+use Rattle.std.specs.Prelude.{◌≡◌, ℕ, suc, ◌+◌, ◌<◌, ◌≤◌, false, [], Option, Some, slice_get}
+use Rattle.fs_layout.specs.declared.superblock.Super.{Super}
+use Rattle.group_log.specs.Group.{has, HasRoom}
+use Rattle.group_log.specs.declared.limits.TheConstants.{BLOCKS_OF_A_TRANSACTION}
+use Rattle.plain_tree.specs.Widths.{hart_count}
+use Rattle.atomic_programs.specs.Logic.{Wp}
+use Rattle.atomic_programs.specs.Prog.{once}
+use Rattle.atomic_programs.specs.Joined.{Both, joined, Below}
+use Rattle.inode_machine.specs.World as above
+use Rattle.inode_machine.specs.Rules.{more}
+use Rattle.inodes_on_blocks.specs.Below.{World, log_of}
+use Rattle.inodes_on_blocks.specs.Lowering.{Same, Carry, Stands, below}
+use Rattle.inodes_on_blocks.specs.Holding.{SameBut}
+use Rattle.inodes_on_blocks.specs.Handlers.{Handler}
+use Rattle.inodes_on_blocks.specs.Acting.{whole, IsDone, Answers}
+
+-- What a hart knows of its transaction lasts while the others step and while it takes buffers, and says that block b may be recorded.
+pub record GivesRoom (h b : ℕ) (Knows : World → Type 0) : Type 0 where
+  pub lasts : (v w : World) → Same h v w → Knows v → Knows w
+  pub fetched : (k : ℕ) (v w : World) → SameBut h k v w → Knows v → Knows w
+  pub room : (v : World) → Knows v → has (log_of v).group b ≡ false → HasRoom (log_of v).members h
+
+-- it may record so many blocks more, whichever they are
+pub record MayRecord (h more : ℕ) (w : World) : Type 0 where
+  pub recorded : ℕ
+  pub member : slice_get (log_of w).members h ≡ Some (Some recorded)
+  pub fits : recorded + more ≤ BLOCKS_OF_A_TRANSACTION
+
+-- An operation's program below does it, as DoesItAt says, where the hart's transaction may record so many blocks more.
+abbrev pub DoesItRecording : ℕ → Super → (op : above.Op) → Handler op → Type 0
+DoesItRecording blocks sizes op p =
+    (h : ℕ) (m : above.Answer op → Option above.Mark) (c : Carry) (w : Both World above.World) → h < hart_count
+    → Wp whole h (IsDone op) (Answers op) (once op m) (suc (more op)) [] w.seen → Stands sizes h w.real w.seen c → MayRecord h blocks w.real
+    → Wp (joined whole (below sizes)) h (IsDone op) (Below whole (below sizes) h (Answers op)) (p c m) (suc (more op)) [] w
