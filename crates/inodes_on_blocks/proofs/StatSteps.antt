@@ -35,7 +35,7 @@ use Rattle.inode_machine.specs.Exec as above_exec
 use Rattle.inode_machine.specs.Exec.{entry_at, entry_of, slot_at, lock_if, locked, stat_at}
 use Rattle.inode_machine.specs.Marks.{marked, with_mark}
 use Rattle.inode_machine.specs.Rules as rules
-use Rattle.inode_machine.specs.Rules.{Inv, Refers}
+use Rattle.inode_machine.specs.Rules.{Inv}
 use Rattle.inode_machine.proofs.Frame.{one_refs, ours_none, ours_some}
 use Rattle.inode_machine.proofs.Freeing.{lone_file}
 use Rattle.inode_machine.proofs.Rules.{opens_slots}
@@ -265,8 +265,7 @@ module _ (l : Labels) (laws : Laws (labelled l)) (keeps : Keeps l) (h : ℕ) (lt
 
   -- ---- an inode's lock and its record
 
-  -- who takes a lock that is free refers to an inode that has a type
-  module _ (sizes : Super) (n : ℕ) (m : Seen → Option above.Mark) (refers : (v : above.World) → rules.May h (Take n AtNothing) v → Refers h n v) (typed : (v : above.World) → rules.May h (Take n AtNothing) v → v.lock n ≡ None → v.disk n ≢ None) where
+  module _ (sizes : Super) (n : ℕ) (m : Seen → Option above.Mark) where
     pub take_acts : ActsOnceAt sizes l h (Take n AtNothing) m (take sizes n)
     unfolding steps.exec premises.May premises.MayWait
     take_acts c B C es w lasts todo stands =
@@ -274,7 +273,7 @@ module _ (l : Labels) (laws : Laws (labelled l)) (keeps : Keeps l) (h : ℕ) (lt
         (λ v fs here may.
         let stands_v = (below_laws sizes l keeps).base h w.real v.real w.seen v.seen c here.same here.kept stands in
         let shows = here.shows in
-        let r = refers v.seen may in
+        let r = may.1.0 in
         let some : 0 < v.seen.refs n = let all = one_refs v.seen h n here.inv lt in let own = r.0 in omega (arith, all, own) in
         let p = place_there n (tables_of v.real) v.seen (loaded (tables_of v.real)) shows.tables some in (
           (subst (λ (k : ℕ). 0 < k) (shows.tables.places.counts n) some, λ q. r.1 (shows.tables.places.holders n ∙ q)),
@@ -284,8 +283,8 @@ module _ (l : Labels) (laws : Laws (labelled l)) (keeps : Keeps l) (h : ℕ) (lt
               (λ u ran free after.
               on_tables v x (Ran (loaded (tables_of v.real) n) u) ran
               (came_acting sizes (Take n AtNothing) m B C lasts v (premises.MayWait h (Lock n) v.real.state) (loaded (tables_of v.real) n) (with_tables v.real u) (seen_in n AtNothing (v.seen.disk n)) (put c n (Some (inode_in (log_of v.real) n))) Next tt stands_v.1
-              (lock_came (Take n AtNothing) n v c (seen_in n AtNothing (v.seen.disk n)) u shows stands_v.0 may.0 some free (typed v.seen may free) (ap (lock_if h n (seen_in n AtNothing (v.seen.disk n)) v.seen (locked h n v.seen)) free) after)
-              (λ g stands_g gs inv_g done. loads v shows free some (typed v.seen may free) u g after stands_g gs done))),
+              (lock_came (Take n AtNothing) n v c (seen_in n AtNothing (v.seen.disk n)) u shows stands_v.0 may.0 some free (may.1.1 free) (ap (lock_if h n (seen_in n AtNothing (v.seen.disk n)) v.seen (locked h n v.seen)) free) after)
+              (λ g stands_g gs inv_g done. loads v shows free some (may.1.1 free) u g after stands_g gs done))),
         ))
       where
         Next : Option Dinode → Seen → World → above.World → Type 0

@@ -2,12 +2,18 @@
 
 ghost use Rattle.std.specs.Prelude.{ℕ};
 ghost use Rattle.fs_layout.specs.declared.superblock.Super.{Super};
-ghost use Rattle.inode_machine.specs.World.Op.{StatFile};
-ghost use Rattle.inodes_on_blocks.specs.Reading.{stat_file};
+ghost use Rattle.inode_machine.specs.Inodes.{AtNothing};
+ghost use Rattle.inode_machine.specs.World.Op.{Take, StatFile};
+ghost use Rattle.inodes_on_blocks.specs.Reading.{stat_file, take};
 ghost use Rattle.inodes_on_blocks.specs.Acting.{DoesItAt};
 
 /// What a descriptor names is locked, read from its block where it isn't loaded, and tells its state: of the moment at which the
 /// lock was had.
 pub fn stats_act_once()
     ensures { (sizes : Super) (fd : ℕ) → DoesItAt sizes (StatFile fd) (stat_file sizes fd) }
+{}
+
+/// An inode's lock is taken to change it, to free it, or for its record alone, which is read from its block where it isn't loaded.
+pub fn takes_act_once()
+    ensures { (sizes : Super) (n : ℕ) → DoesItAt sizes (Take n AtNothing) (take sizes n) }
 {}
