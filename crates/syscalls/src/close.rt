@@ -17,7 +17,7 @@ use crate::replies::{done, failed};
 use atomic_programs::machines::Stepped;
 use block_device::Device;
 use fs_layout::Super;
-use fs_machine::{Core, Finish, Kind};
+use fs_machine::{Core, Finish, Kind, RetiredCore};
 use fs_tables::{Reference, Shut};
 use group_log::Txn;
 use inode_data::DropReference;
@@ -79,6 +79,20 @@ impl Close {
                 core.reply(hart);
                 Stepped::Done(reply, Kind::Reply)
             }
+        }
+    }
+
+    /// Ends it in mid-call, after all that harts share has ended.
+    pub fn retire(self, retired: &RetiredCore) {
+        match self {
+            Close::Shut(_, _) => {}
+            Close::Join(_, _, reference) => reference.retire(&retired.inodes),
+            Close::Dropping(_, txn, drop) => {
+                txn.retire(&retired.log);
+                drop.retire(retired);
+            }
+            Close::Finishing(_, finish) => finish.retire(retired),
+            Close::Say(_) => {}
         }
     }
 }

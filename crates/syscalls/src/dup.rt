@@ -10,7 +10,7 @@ ghost use Rattle.syscalls.specs.Machines.{dup_of, dup_came};
 use crate::replies::{failed, full};
 use atomic_programs::machines::Stepped;
 use block_device::Device;
-use fs_machine::{Core, Kind};
+use fs_machine::{Core, Kind, RetiredCore};
 use fs_tables::Doubled;
 use plain_tree::{Answer, Call, Cause, Full, Reply};
 
@@ -46,6 +46,14 @@ impl Dup {
                 core.reply(hart);
                 Stepped::Done(reply, Kind::Reply)
             }
+        }
+    }
+
+    /// Ends it in mid-call, after all that harts share has ended.
+    pub fn retire(self, _retired: &RetiredCore) {
+        match self {
+            Dup::Double(_) => {}
+            Dup::Say(_) => {}
         }
     }
 }

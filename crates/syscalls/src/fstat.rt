@@ -13,7 +13,7 @@ use crate::replies::{cause_of, failed, record_in, stat_of};
 use atomic_programs::machines::Stepped;
 use block_device::Device;
 use file_table::{LoadFile, LoadedFile};
-use fs_machine::{Core, Kind};
+use fs_machine::{Core, Kind, RetiredCore};
 use fs_tables::{Inode, Want};
 use plain_tree::{Answer, Call, Reply};
 use sleep_lock::Guard;
@@ -62,6 +62,15 @@ impl Fstat {
                 core.reply(hart);
                 Stepped::Done(reply, Kind::Reply)
             }
+        }
+    }
+
+    /// Ends it in mid-call, after all that harts share has ended.
+    pub fn retire(self, retired: &RetiredCore) {
+        match self {
+            Fstat::Loading(_, load) => load.retire(retired),
+            Fstat::Give(_, guard) => guard.retire_in_row(&retired.inodes),
+            Fstat::Say(_) => {}
         }
     }
 }

@@ -20,7 +20,7 @@ use atomic_programs::machines::Stepped;
 use block_device::Device;
 use buffer_cache::HARTS;
 use file_table::{LoadFile, LoadedFile};
-use fs_machine::{Core, Kind};
+use fs_machine::{Core, Kind, RetiredCore};
 use fs_tables::{Inode, OpenFile, Want};
 use inode_data::{Begun, ReadPart, Reading};
 use plain_tree::{Answer, Bytes, Call, Reply};
@@ -74,6 +74,16 @@ impl Read {
                 core.reply(hart);
                 Stepped::Done(reply, Kind::Reply)
             }
+        }
+    }
+
+    /// Ends it in mid-call, after all that harts share has ended.
+    pub fn retire(self, retired: &RetiredCore) {
+        match self {
+            Read::Loading(_, _, load) => load.retire(retired),
+            Read::Reading(_, _, part) => part.retire(retired),
+            Read::Give(_, _, reading) => reading.retire(retired),
+            Read::Say(_) => {}
         }
     }
 }

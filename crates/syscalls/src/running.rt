@@ -15,7 +15,7 @@ use crate::read::Read;
 use atomic_programs::machines::Stepped;
 use block_device::Device;
 use buffer_cache::HARTS;
-use fs_machine::{Core, Kind};
+use fs_machine::{Core, Kind, RetiredCore};
 use plain_tree::Reply;
 
 /// A call under way.
@@ -45,6 +45,16 @@ impl Running {
             Running::Close(m) => in_close(m.step(hart, core)),
             Running::Fstat(m) => in_fstat(m.step(hart, core)),
             Running::Read(m) => in_read(m.step(hart, core)),
+        }
+    }
+
+    /// Ends it in mid-call, after all that harts share has ended.
+    pub fn retire(self, retired: &RetiredCore) {
+        match self {
+            Running::Dup(m) => m.retire(retired),
+            Running::Close(m) => m.retire(retired),
+            Running::Fstat(m) => m.retire(retired),
+            Running::Read(m) => m.retire(retired),
         }
     }
 }

@@ -16,7 +16,7 @@ ghost use Rattle.syscalls.specs.Tails.{tail_of, TailFits, rest_of, leave_freed, 
 use atomic_programs::machines::Stepped;
 use block_device::Device;
 use fs_layout::{Dinode, Super};
-use fs_machine::{Core, Finish, Kind};
+use fs_machine::{Core, Finish, Kind, RetiredCore};
 use fs_tables::{Inode, Listed, Reference};
 use group_log::Txn;
 use inode_data::FreeInode;
@@ -31,6 +31,18 @@ pub struct Ending {
     /// Its references to inodes that are to be freed.
     pub list: Listed,
     pub reply: Reply,
+}
+
+impl Ending {
+    /// Ends it in mid-call, after all that harts share has ended.
+    pub(crate) fn retire(self, retired: &RetiredCore) {
+        let Ending {
+            list,
+            sizes: _,
+            reply: _,
+        } = self;
+        list.retire(&retired.inodes);
+    }
 }
 
 /// Leaves a call's transaction, frees each inode of its list in a transaction of its own, and gives the reply.
@@ -94,6 +106,38 @@ impl Tail {
                 core.reply(hart);
                 Stepped::Done(reply, Kind::Reply)
             }
+        }
+    }
+
+    /// Ends it in mid-call, after all that harts share has ended.
+    pub fn retire(self, retired: &RetiredCore) {
+        match self {
+            Tail::Leaving(ending, finish) => {
+                ending.retire(retired);
+                finish.retire(retired);
+            }
+            Tail::Join(ending, reference) => {
+                ending.retire(retired);
+                reference.retire(&retired.inodes);
+            }
+            Tail::Lock(ending, reference, txn) => {
+                ending.retire(retired);
+                reference.retire(&retired.inodes);
+                txn.retire(&retired.log);
+            }
+            Tail::Loading(ending, reference, txn, guard, load) => {
+                ending.retire(retired);
+                reference.retire(&retired.inodes);
+                txn.retire(&retired.log);
+                guard.retire_in_row(&retired.inodes);
+                load.retire(retired);
+            }
+            Tail::Freeing(ending, txn, free) => {
+                ending.retire(retired);
+                txn.retire(&retired.log);
+                free.retire(retired);
+            }
+            Tail::Say(_) => {}
         }
     }
 }
