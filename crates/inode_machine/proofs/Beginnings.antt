@@ -17,6 +17,7 @@ use Rattle.tree_laws.proofs.Nodes.{folder_dead}
 use Rattle.tree_laws.proofs.Maps.{either, and_true, eq_self, same_or, put_same, put_other}
 use Rattle.tree_moves.specs.Moves.{Walk, Stage, Step, Begins}
 use Rattle.tree_moves.specs.Moves.Move.{Begin}
+use Rattle.inode_machine.proofs.Names.{AllNames}
 use Rattle.inode_machine.specs.World.{Note, World, stage_of}
 use Rattle.inode_machine.specs.World.Op.{UpStart}
 use Rattle.inode_machine.specs.Inodes.{OfDirectory, sort_of, sort_of_kind}
@@ -137,12 +138,12 @@ s-begin h s B Q base O0 ns n es w O go lost lt ready at pos notes then_ full = s
 
 -- The start of a path with elements is looked into next.
 pub s-start : (h : ℕ) (s : Action) (B : List Step → Type 0) (Q : Reply → List Step → World → Type 0) (base : ℕ → ℕ) (O0 : Own) (e : Name) (r : List Name) (ns : List ℕ) (n : ℕ) (es : List Step) (w : World) (O : Own) (go : ℕ → P Reply) (lost : Stop → List ℕ → P Reply)
-    → h < hart_count → Ready base O0 → Gone h base ns O0 O w → 0 < n → follows_path s ≡ true → elements (path_of s) ≡ e ∷ r → ((t : Tree) → row_of t h ≡ O0.row → IsInPlace t h s) → ((m : Note) → O.desk.noted ≡ Some m → 0 < O.mine.refs m.number)
+    → h < hart_count → Ready base O0 → Gone h base ns O0 O w → 0 < n → follows_path s ≡ true → elements (path_of s) ≡ e ∷ r → AllNames (elements (path_of s)) → ((t : Tree) → row_of t h ≡ O0.row → IsInPlace t h s) → ((m : Note) → O.desk.noted ≡ Some m → 0 < O.mine.refs m.number)
     → B (record { move = Begin s 0; told = None } ∷ es)
     → ((d l : ℕ) (u : World) (R : Own) → l + 1 ≡ n → On h s d e r base ns O0 R u → Safe machine h B Q (go d) l (record { move = Begin s 0; told = None } ∷ es) u)
     → ((l : ℕ) (u : World) (R : Own) → l + 1 ≡ n → Gone h base ns O0 R u → R.desk.full ≡ true → Safe machine h B Q (lost NoMemory ns) l es u)
     → Safe machine h B Q (Do (UpStart (is_absolute (path_of s))) (begins_unless_full s) (start_on go lost ns)) n es w
-s-start h s B Q base O0 e r ns n es w O go lost lt ready at pos follows path place notes b then_ full = s-begin h s B Q base O0 ns n es w O go lost lt ready at pos notes (λ i v inv ov begun. walks i v inv ov begun) full
+s-start h s B Q base O0 e r ns n es w O go lost lt ready at pos follows path named place notes b then_ full = s-begin h s B Q base O0 ns n es w O go lost lt ready at pos notes (λ i v inv ov begun. walks i v inv ov begun) full
   where
     walks : (i : ℕ) (v : World) → Inv v → own_of h v ≡ O → Begun h i s base ns O v
         → Fine machine h (places h (UpStart (is_absolute (path_of s))) (Some i) (makes (Begin s 0)) v) 0 n B es v (marked h (makes (Begin s 0)) (counted_up h i v)) (λ l. Wp machine h B Q (go i) l (onto (own h (places h (UpStart (is_absolute (path_of s))) (Some i) (makes (Begin s 0)) v)) es) (marked h (makes (Begin s 0)) (counted_up h i v)))
@@ -165,6 +166,7 @@ s-start h s B Q base O0 e r ns n es w O go lost lt ready at pos follows path pla
             | inr ne ↦ (let r = put_other O.mine.refs i (O.mine.refs i + 1) m.number ne in omega (arith, r, c))
           ];
           known = known (is_absolute (path_of s)) begun.start;
+          names = subst AllNames path named;
         })).wp)
       where
         known : (b : Bool) → i ≡ (if b then root else v.all.cwd h) → Known O i

@@ -26,6 +26,7 @@ use Rattle.tree_laws.proofs.Facts.{look_live}
 use Rattle.tree_laws.proofs.Walks.{look_same}
 use Rattle.tree_moves.specs.Moves.{Deed, Walk, Move, Stage, Step, IsNext, MayEnd, begins}
 use Rattle.tree_moves.specs.Moves.Move.{Begin, Look}
+use Rattle.inode_machine.proofs.Names.{AllNames}
 use Rattle.inode_machine.specs.World.{Desk, Note, World, stage_of}
 use Rattle.inode_machine.specs.World.Op.{UpStart, Settle}
 use Rattle.inode_machine.specs.Inodes.{OfDirectory, face_of, is_directory_face, is_directory_sort, sort_of, sort_of_kind}
@@ -117,7 +118,7 @@ names_left r d j i hold opening left q = elim (either (j == i)) [
 abbrev went : ℕ → Own → Own
 went j O = record O { row = record (O.row) { cwd = j }; desk = record (O.desk) { left = Some (O.row.cwd) } }
 
-module _ (h : ℕ) (path : List ℕ) (w : World) (free : (w.desks h).lender ≡ None) (lt : h < hart_count) (holds : Inv w) (idle : Idle h w) where
+module _ (h : ℕ) (path : List ℕ) (w : World) (free : (w.desks h).lender ≡ None) (lt : h < hart_count) (holds : Inv w) (idle : Idle h w) (spelled : AllNames (elements path)) where
   abbrev c : Call
   c = calls.Chdir path
 
@@ -414,7 +415,7 @@ module _ (h : ℕ) (path : List ℕ) (w : World) (free : (w.desks h).lender ≡ 
   walks : (es : List Name) → elements path ≡ es → (n : ℕ) → 2600 * length es + 20000 ≤ n → (u : World) → own_of h u ≡ O0 → Safe machine h B Q (start s path [] (λ d. walk s d es [] (chdir_at path) lost) lost) n [] u
   walks [] none n few u own = s-begin h s B Q base O0 [] n [] u O0 (λ d. chdir_at path d []) lost lt ready (gone_at h w u idle own) (omega (arith, few)) notes (λ i v inv ov at. starts i n v O0 u (omega (arith, few)) none (gone_at h w u idle own) inv ov at)
       (λ l u2 R q g full. loses NoMemory [] l [] u2 R (omega (arith, q, few)) g full)
-  walks (e ∷ r) path_is n few u own = s-start h s B Q base O0 e r [] n [] u O0 (λ d. walk s d (e ∷ r) [] (chdir_at path) lost) lost lt ready (gone_at h w u idle own) (omega (arith, few)) refl path_is place notes (follows_begin c s (chdir_follows path)).1
+  walks (e ∷ r) path_is n few u own = s-start h s B Q base O0 e r [] n [] u O0 (λ d. walk s d (e ∷ r) [] (chdir_at path) lost) lost lt ready (gone_at h w u idle own) (omega (arith, few)) refl path_is spelled place notes (follows_begin c s (chdir_follows path)).1
       (λ d l u2 R q on. s-walk h s B Q (Walked c []) (Walked c (missed s ∷ [])) base O0 2000 lt ready lost loses (follows_look c s (chdir_follows path)) (follows_lost c s (chdir_follows path)) (follows_quit c s (chdir_follows path)) (λ t. chdir_missing t h path None) (λ t. refl) place other refl
       r d e [] l (looks (Begin s 0) ∷ []) u2 R (chdir_at path) (omega (arith, q, few)) on (follows_begin c s (chdir_follows path)).0 (λ t q. chdir_missing t h path (Some q)) act)
       (λ l u2 R q g full. loses NoMemory [] l [] u2 R (omega (arith, q, few)) g full)

@@ -5,6 +5,7 @@ use Rattle.plain_tree.specs.Steps.{creates}
 use Rattle.atomic_programs.specs.Calls.{Begun, Ends, Lawful, State, fresh, run}
 use Rattle.atomic_programs.proofs.Explains.{explains, holds_of}
 use Rattle.plain_tree.specs.declared.call.Call.TheVariants as calls
+use Rattle.inode_machine.proofs.Names.{both_paths, path_names}
 use Rattle.inode_machine.specs.Opening.{open_program}
 use Rattle.inode_machine.specs.Programs.{limit}
 use Rattle.inode_machine.specs.Rules.{Idle, Inv, machine}
@@ -23,14 +24,14 @@ covered_right : IsRight is_covered is_covered
 covered_right h (calls.Open path flags) busy w u lt here out idle free is = right is_covered h (calls.Open path flags) busy w u idle free is (open_begins path flags) (λ holds i. by_flag (creates flags) refl holds i)
   where
     by_flag : (b : Bool) → creates flags ≡ b → Inv u → Idle h u → Safe machine h (Begun covered_calls (calls.Open path flags)) (Ends covered_calls h (calls.Open path flags)) (open_program path flags) (limit (calls.Open path flags)) [] u
-    by_flag false q holds i = open_ok h path flags u out lt holds i q
-    by_flag true q holds i = create_ok h path flags u holds out lt i q
+    by_flag false q holds i = open_ok h path flags u out lt holds i q (path_names path here)
+    by_flag true q holds i = create_ok h path flags u holds out lt i q (path_names path here)
 covered_right h (calls.Read fd buffer) busy w u lt here out idle free is = descriptors_right is_covered h (calls.Read fd buffer) busy w u lt refl out idle free is
 covered_right h (calls.Write fd bytes) busy w u lt here out idle free is = descriptors_right is_covered h (calls.Write fd bytes) busy w u lt refl out idle free is
-covered_right h (calls.Link old new) busy w u lt here out idle free is = right is_covered h (calls.Link old new) busy w u idle free is (link_begins old new) (λ holds i. link_ok h old new u out lt holds i)
-covered_right h (calls.Unlink path) busy w u lt here out idle free is = right is_covered h (calls.Unlink path) busy w u idle free is (unlink_begins path) (λ holds i. unlink_ok h path u holds out lt i)
-covered_right h (calls.Mkdir path) busy w u lt here out idle free is = right is_covered h (calls.Mkdir path) busy w u idle free is (mkdir_begins path) (λ holds i. mkdir_ok h path u holds out lt i)
-covered_right h (calls.Chdir path) busy w u lt here out idle free is = right is_covered h (calls.Chdir path) busy w u idle free is (chdir_begins path) (λ holds i. chdir_ok h path u out lt holds i)
+covered_right h (calls.Link old new) busy w u lt here out idle free is = right is_covered h (calls.Link old new) busy w u idle free is (link_begins old new) (λ holds i. let two = both_paths old new here in link_ok h old new u out lt holds i (path_names old two.0) (path_names new two.1))
+covered_right h (calls.Unlink path) busy w u lt here out idle free is = right is_covered h (calls.Unlink path) busy w u idle free is (unlink_begins path) (λ holds i. unlink_ok h path u holds out lt i (path_names path here))
+covered_right h (calls.Mkdir path) busy w u lt here out idle free is = right is_covered h (calls.Mkdir path) busy w u idle free is (mkdir_begins path) (λ holds i. mkdir_ok h path u holds out lt i (path_names path here))
+covered_right h (calls.Chdir path) busy w u lt here out idle free is = right is_covered h (calls.Chdir path) busy w u idle free is (chdir_begins path) (λ holds i. chdir_ok h path u out lt holds i (path_names path here))
 covered_right h (calls.Dup fd) busy w u lt here out idle free is = descriptors_right is_covered h (calls.Dup fd) busy w u lt refl out idle free is
 covered_right h (calls.Fstat fd) busy w u lt here out idle free is = descriptors_right is_covered h (calls.Fstat fd) busy w u lt refl out idle free is
 covered_right h (calls.Close fd) busy w u lt here out idle free is = descriptors_right is_covered h (calls.Close fd) busy w u lt refl out idle free is

@@ -26,6 +26,7 @@ use Rattle.tree_laws.proofs.Nodes.{live_some}
 use Rattle.tree_laws.proofs.Walks.{look_same}
 use Rattle.tree_moves.specs.Moves.{Walk, Stage, Step}
 use Rattle.tree_moves.specs.Moves.Move.{Look, Quit}
+use Rattle.inode_machine.proofs.Names.{AllNames}
 use Rattle.inode_machine.specs.World.{Desk, Mark, Note, World, stage_of}
 use Rattle.inode_machine.specs.World.Op.{Take}
 use Rattle.inode_machine.specs.Inodes.{OfFile, Sort, AtName, face_of, seen_in, is_live_face, open_refusal, sort_of, sort_of_kind}
@@ -416,7 +417,7 @@ module _ (h : ℕ) (path : List ℕ) (flags : ℕ) (w : World) (free : (w.desks 
       s-claim OfFile held (on.stays.lender ∙ free) lt (omega (arith, few)) on.stays.joined (mendable ready k)
       (λ l2 i u2 q2 from below out zero held2. makes_file h path flags lt joins ns d e X i l2 fs u2 _ flag (omega (arith, q2, few)) held2
       (pair_new _ d i (claimed_held OfFile) k (put_same nothing d (Some (locked_held (Some X)))) (λ j ne. put_other nothing d (Some (locked_held (Some X))) j ne) out refl refl refl refl refl)
-      (let f = k.refs i in omega (arith, f, zero)) on.walk on.pending live absent from below
+      (let f = k.refs i in omega (arith, f, zero)) on.walk on.pending live absent on.names.0 from below
       (λ t q r. absurd (let a = on.notes t q in let b : O.mine.refs t.number ≡ O.mine.refs i = ap O.mine.refs r in omega (arith, a, b, zero))) told)
       (λ l2 u2 q2 held2. ended DiskInodes l2 u2 (omega (arith, q2, few)) held2)
       (λ l2 u2 q2 held2. ended MemInodes l2 u2 (omega (arith, q2, few)) held2)
@@ -459,13 +460,13 @@ module _ (h : ℕ) (path : List ℕ) (flags : ℕ) (w : World) (free : (w.desks 
       seen u None inv own1 true q None r = absurd cc
       seen u (Some X) inv own1 true q None r = as_seen u (Some X) true None q r (quiet (fair_same inv) refl (omega (arith, few)) (λ l p. (makes_new d e ns X l es u w0 O (omega (arith, few, p)) on own1 q r told).wp))
 
-pub create_ok : (h : ℕ) (path : List ℕ) (flags : ℕ) (w : World) → Inv w → (w.desks h).lender ≡ None → h < hart_count → Idle h w → creates flags ≡ true
+pub create_ok : (h : ℕ) (path : List ℕ) (flags : ℕ) (w : World) → Inv w → (w.desks h).lender ≡ None → h < hart_count → Idle h w → creates flags ≡ true → AllNames (elements path)
     → Safe machine h (Begun covered_calls (calls.Open path flags)) (Ends covered_calls h (calls.Open path flags)) (open_program path flags) (path_cost path + rest_cost) [] w
-create_ok h path flags w inv free lt idle flag =
+create_ok h path flags w inv free lt idle flag named =
     subst (λ (b : Bool). Safe machine h (Begun covered_calls (calls.Open path flags)) (Ends covered_calls h (calls.Open path flags)) (if b then open_new path flags (elements path) else open_old path flags) (path_cost path + rest_cost) [] w) (sym flag)
     (same_program (elements path) refl
     (s-naming h (calls.Open path flags) (steps.Open path flags) (create_in path flags) (path_cost path + rest_cost) w inv free lt idle (record { follows = follows path flags; ends = open_refused path flags NoEntry })
-    (record { follows = refl; missing = λ b res. no_parent b h path flags res flag; stays = λ b. refl; place = λ t q. open_place t h path flags lt; other = λ g q. absurd cc; finds = refl }) (omega arith)
+    (record { follows = refl; missing = λ b res. no_parent b h path flags res flag; stays = λ b. refl; place = λ t q. open_place t h path flags lt; other = λ g q. absurd cc; finds = refl }) named (omega arith)
     (λ d e ms l fs u R few _ on walking. sees h path flags w free lt inv idle flag d e ms l fs u R few on walking)))
   where
     same_program : (p : List Name) → elements path ≡ p

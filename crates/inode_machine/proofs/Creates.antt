@@ -24,7 +24,7 @@ use Rattle.inode_machine.specs.World.Mark.{Mends}
 use Rattle.inode_machine.specs.Exec.{with_entry}
 use Rattle.inode_machine.specs.Marks.{Made, made_by, look_made, looked, new_id}
 use Rattle.inode_machine.specs.Opening.{file_for}
-use Rattle.inode_machine.specs.Rules.{Own, Held, own_of, Inv, machine}
+use Rattle.inode_machine.specs.Rules.{Own, Held, own_of, Inv, machine, IsName}
 use Rattle.inode_machine.specs.Parts.{makes}
 use Rattle.inode_machine.proofs.Frame.{fair, fair_then}
 use Rattle.inode_machine.proofs.Rules.{has_node, my_refs}
@@ -75,7 +75,7 @@ pub s-enter-file : {A : Type 0} {h : ℕ} (d i : ℕ) {x z : Held} (X : Node) (e
     → own_of h w ≡ O → O.desk.lender ≡ None → h < hart_count → 1640 < n → O.desk.joined ≡ true → O.mine.walk ≡ Some (record { step = Open path flags; at = d; next = e; rest = [] }) → O.mine.pending ≡ None → Mendable O → creates flags ≡ true
     → m InPlace ≡ makes (Look i) → m NoBlock ≡ Some Mends → m NoSlot ≡ Some Mends
     → O.inodes d ≡ Some x → x.disk ≡ Some X → x.node ≡ Some X → x.alone ≡ false → x.locked ≡ true → live_directory (Some X) ≡ true → look (λ j. Some X) d e ≡ None
-    → O.inodes i ≡ Some z → z.alone ≡ true → z.locked ≡ true → z.node ≡ None → 0 < O.mine.refs i → 1 ≤ i → i < O.ninodes → ((t : Note) → O.desk.noted ≡ Some t → t.number ≢ i)
+    → O.inodes i ≡ Some z → z.alone ≡ true → z.locked ≡ true → z.node ≡ None → 0 < O.mine.refs i → IsName e → 1 ≤ i → i < O.ninodes → ((t : Note) → O.desk.noted ≡ Some t → t.number ≢ i)
     → ((fd id : ℕ) → B (told_step i (Open path flags) (Opened fd id true) ∷ es))
     → ((l fd id : ℕ) (u : World) → l + 1641 ≡ n → has_room O.desk.fds ≡ true → lowest O.desk.fds ≡ fd → O.row.fds fd ≡ None → O.row.keys fd ≡ None
     → own_of h u ≡ record O { inodes = created_inodes O d i e X x z; mine = record { refs = O.mine.refs; walk = None; pending = None }; row = opened_row O.row fd id (key_is (file_for i flags)); desk = record (O.desk) { opening = Some fd } }
@@ -85,8 +85,8 @@ pub s-enter-file : {A : Type 0} {h : ℕ} (d i : ℕ) {x z : Held} (X : Node) (e
     → ((l : ℕ) (u : World) → l + 1641 ≡ n → own_of h u ≡ mended_own O → Safe machine h B Q (k NoBlock) l es u)
     → ((l : ℕ) (u : World) → l + 1641 ≡ n → own_of h u ≡ mended_own O → Safe machine h B Q (k NoSlot) l es u)
     → Safe machine h B Q (Do (Enter d e i) m k) n es w
-s-enter-file {A} {h} d i {x} {z} X e path flags {m} {k} {B} {Q} {n} {es} {w} {O} owns free lt pos joined walks none can flag in_place block slot isd xd xn shared locked live finds isi lone locked2 blank refers from below notes b then_ full no_block no_slot =
-    s-enter-with d i X e owns free lt pos joined isd xd locked (and_true (nat_lt 0 X.count) (is_directory X.kind) live).1 from below can block slot (λ v inv ov. subst (λ (o : Option Mark). EnterFine h d e i o n B Q es v (record v { disk = put v.disk d (Some (with_entry e i X)) }) (k InPlace)) (sym in_place) (by_room v inv ov (has_room (v.all.fds h)) refl)) no_block no_slot
+s-enter-file {A} {h} d i {x} {z} X e path flags {m} {k} {B} {Q} {n} {es} {w} {O} owns free lt pos joined walks none can flag in_place block slot isd xd xn shared locked live finds isi lone locked2 blank refers named from below notes b then_ full no_block no_slot =
+    s-enter-with d i X e owns free lt pos joined isd xd locked (and_true (nat_lt 0 X.count) (is_directory X.kind) live).1 named from below can block slot (λ v inv ov. subst (λ (o : Option Mark). EnterFine h d e i o n B Q es v (record v { disk = put v.disk d (Some (with_entry e i X)) }) (k InPlace)) (sym in_place) (by_room v inv ov (has_room (v.all.fds h)) refl)) no_block no_slot
   where
     u1 : World → World
     u1 v = record v { disk = put v.disk d (Some (with_entry e i X)) }

@@ -20,7 +20,7 @@ use Rattle.inode_machine.specs.World.Op.{Enter}
 use Rattle.inode_machine.specs.World.Mark.{Mends}
 use Rattle.inode_machine.specs.Exec.{with_entry, enter_if, enter_in, is_full_directory}
 use Rattle.inode_machine.specs.Marks.{Made, new_id, marked, places, with_mark}
-use Rattle.inode_machine.specs.Rules.{Own, Held, own_of, Inv, machine}
+use Rattle.inode_machine.specs.Rules.{Own, Held, own_of, Inv, machine, IsName}
 use Rattle.inode_machine.specs.Parts.{makes}
 use Rattle.inode_machine.proofs.Rules.{s-owned, locks_it, has_disk, has_node}
 use Rattle.inode_machine.proofs.Walking.{stage_walk}
@@ -33,13 +33,13 @@ abbrev pub EnterFine : {A : Type 0} → ℕ → ℕ → Name → ℕ → Option 
 EnterFine h d e i m n B Q es v u p = Fine machine h (places h (Enter d e i) InPlace m v) 1640 n B es v (marked h m u) (λ l. Wp machine h B Q p l (onto (own h (places h (Enter d e i) InPlace m v)) es) (marked h m u))
 
 pub s-enter-with : {A : Type 0} {h : ℕ} (d i : ℕ) {x : Held} (X : Node) (e : Name) {m : Entered → Option Mark} {k : Entered → P machine A} {B : List Step → Type 0} {Q : A → List Step → World → Type 0} {n : ℕ} {es : List Step} {w : World} {O : Own}
-    → own_of h w ≡ O → O.desk.lender ≡ None → h < hart_count → 1640 < n → O.desk.joined ≡ true → O.inodes d ≡ Some x → x.disk ≡ Some X → x.locked ≡ true → is_directory X.kind ≡ true → 1 ≤ i → i < O.ninodes → Mendable O → m NoBlock ≡ Some Mends → m NoSlot ≡ Some Mends
+    → own_of h w ≡ O → O.desk.lender ≡ None → h < hart_count → 1640 < n → O.desk.joined ≡ true → O.inodes d ≡ Some x → x.disk ≡ Some X → x.locked ≡ true → is_directory X.kind ≡ true → IsName e → 1 ≤ i → i < O.ninodes → Mendable O → m NoBlock ≡ Some Mends → m NoSlot ≡ Some Mends
     → ((v : World) → Inv v → own_of h v ≡ O → EnterFine h d e i (m InPlace) n B Q es v (record v { disk = put v.disk d (Some (with_entry e i X)) }) (k InPlace))
     → ((l : ℕ) (u : World) → l + 1641 ≡ n → own_of h u ≡ mended_own O → Safe machine h B Q (k NoBlock) l es u)
     → ((l : ℕ) (u : World) → l + 1641 ≡ n → own_of h u ≡ mended_own O → Safe machine h B Q (k NoSlot) l es u)
     → Safe machine h B Q (Do (Enter d e i) m k) n es w
-s-enter-with {A} {h} d i {x} X e {m} {k} {B} {Q} {n} {es} {w} {O} owns free lt pos joined isd xd locked kind from below can block slot good no_block no_slot = s-owned owns free pos (λ v inv ov. (
-  ((locks_it h d v O x ov isd locked, ap (λ (o : Own). o.desk.joined) ov ∙ joined), record { node = X; is = has_disk h d v O x ov isd ∙ xd; fits = kind }, (from, (let s : v.all.ninodes ≡ O.ninodes = ap (λ (o : Own). o.ninodes) ov in omega (arith, s, below)))),
+s-enter-with {A} {h} d i {x} X e {m} {k} {B} {Q} {n} {es} {w} {O} owns free lt pos joined isd xd locked kind named from below can block slot good no_block no_slot = s-owned owns free pos (λ v inv ov. (
+  ((locks_it h d v O x ov isd locked, ap (λ (o : Own). o.desk.joined) ov ∙ joined), record { node = X; is = has_disk h d v O x ov isd ∙ xd; fits = kind }, (from, (let s : v.all.ninodes ≡ O.ninodes = ap (λ (o : Own). o.ninodes) ov in omega (arith, s, below))), named),
   (λ o _. by_slots v inv ov o (is_full_directory (v.disk d))),
 ))
   where
@@ -105,7 +105,7 @@ pub s-enter-directory : {A : Type 0} {h : ℕ} (d i : ℕ) {x z : Held} (X : Nod
     → own_of h w ≡ O → O.desk.lender ≡ None → h < hart_count → 1640 < n → O.desk.joined ≡ true → O.mine.walk ≡ Some (record { step = Mkdir path; at = d; next = e; rest = [] }) → O.mine.pending ≡ None → Mendable O
     → m InPlace ≡ makes (Look i) → m NoBlock ≡ Some Mends → m NoSlot ≡ Some Mends
     → O.inodes d ≡ Some x → x.disk ≡ Some X → x.node ≡ Some X → x.alone ≡ false → x.locked ≡ true → live_directory (Some X) ≡ true → look (λ j. Some X) d e ≡ None → nat_lt X.count count_limit ≡ true
-    → O.inodes i ≡ Some z → z.alone ≡ true → z.locked ≡ true → z.node ≡ None → 1 ≤ i → i < O.ninodes → ((t : Note) → O.desk.noted ≡ Some t → t.number ≢ i)
+    → O.inodes i ≡ Some z → z.alone ≡ true → z.locked ≡ true → z.node ≡ None → IsName e → 1 ≤ i → i < O.ninodes → ((t : Note) → O.desk.noted ≡ Some t → t.number ≢ i)
     → B (told_step i (Mkdir path) Done ∷ es)
     → ((l : ℕ) (u : World) → l + 1641 ≡ n
     → own_of h u ≡ record O { inodes = put (put O.inodes d (Some (record x { disk = Some (with_entry e i X); node = Some (raised (with_entry e i X)) }))) i (Some (record z { node = Some (new_directory i d); alone = false })); mine = record { refs = O.mine.refs; walk = None; pending = None } }
@@ -113,8 +113,8 @@ pub s-enter-directory : {A : Type 0} {h : ℕ} (d i : ℕ) {x z : Held} (X : Nod
     → ((l : ℕ) (u : World) → l + 1641 ≡ n → own_of h u ≡ mended_own O → Safe machine h B Q (k NoBlock) l es u)
     → ((l : ℕ) (u : World) → l + 1641 ≡ n → own_of h u ≡ mended_own O → Safe machine h B Q (k NoSlot) l es u)
     → Safe machine h B Q (Do (Enter d e i) m k) n es w
-s-enter-directory {A} {h} d i {x} {z} X e path {m} {k} {B} {Q} {n} {es} {w} {O} owns free lt pos joined walks none can in_place block slot isd xd xn shared locked live finds few isi lone locked2 blank from below notes b then_ no_block no_slot =
-    s-enter-with d i X e owns free lt pos joined isd xd locked (and_true (nat_lt 0 X.count) (is_directory X.kind) live).1 from below can block slot (λ v inv ov. subst (λ (o : Option Mark). EnterFine h d e i o n B Q es v (record v { disk = put v.disk d (Some (with_entry e i X)) }) (k InPlace)) (sym in_place) (good v inv ov)) no_block no_slot
+s-enter-directory {A} {h} d i {x} {z} X e path {m} {k} {B} {Q} {n} {es} {w} {O} owns free lt pos joined walks none can in_place block slot isd xd xn shared locked live finds few isi lone locked2 blank named from below notes b then_ no_block no_slot =
+    s-enter-with d i X e owns free lt pos joined isd xd locked (and_true (nat_lt 0 X.count) (is_directory X.kind) live).1 named from below can block slot (λ v inv ov. subst (λ (o : Option Mark). EnterFine h d e i o n B Q es v (record v { disk = put v.disk d (Some (with_entry e i X)) }) (k InPlace)) (sym in_place) (good v inv ov)) no_block no_slot
   where
     good : (v : World) → Inv v → own_of h v ≡ O → EnterFine h d e i (makes (Look i)) n B Q es v (record v { disk = put v.disk d (Some (with_entry e i X)) }) (k InPlace)
     good v inv ov =

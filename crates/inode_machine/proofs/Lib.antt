@@ -69,3 +69,4 @@ pub mod Raises
 pub mod LinkEnters
 pub mod LinkNames
 pub mod LinkCalls
+pub mod Names

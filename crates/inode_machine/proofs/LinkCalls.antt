@@ -30,6 +30,7 @@ use Rattle.tree_laws.proofs.Opened.{well_hold}
 use Rattle.tree_laws.proofs.Walks.{look_same}
 use Rattle.tree_moves.specs.Moves.{Deed, Walk, Stage, Step, MayEnd}
 use Rattle.tree_moves.specs.Moves.Move.{Begin, Look}
+use Rattle.inode_machine.proofs.Names.{AllNames}
 use Rattle.inode_machine.specs.World.{Desk, Mark, Note, World, stage_of}
 use Rattle.inode_machine.specs.World.Op.{Take, UpStart}
 use Rattle.inode_machine.specs.Inodes.{OfDirectory, AtNothing, face_of, face_or, is_directory_sort, seen_in, sort_of, sort_of_kind}
@@ -109,7 +110,7 @@ sort_directory (Some v) e = at v.kind e
 abbrev low_own : ℕ → Own → Own
 low_own j O = record O { row = record (O.row) { hold = Some (low j) } }
 
-module _ (h : ℕ) (old new : List ℕ) (w : World) (free : (w.desks h).lender ≡ None) (lt : h < hart_count) (holds : Inv w) (idle : Idle h w) where
+module _ (h : ℕ) (old new : List ℕ) (w : World) (free : (w.desks h).lender ≡ None) (lt : h < hart_count) (holds : Inv w) (idle : Idle h w) (spelled : AllNames (elements old)) (fresh : AllNames (elements new)) where
   abbrev c : Call
   c = calls.Link old new
 
@@ -209,7 +210,7 @@ module _ (h : ℕ) (old new : List ℕ) (w : World) (free : (w.desks h).lender �
           s-store-move j (X.count + 1) steps.Bump (Some (high j)) X own1 free_r lt (omega (arith, few, q)) at.stays.joined at.walk at.pending (isj (Some X)) refl refl refl refl (inl (let a = less_is X.count count_limit fewer in omega (arith, a))) plain_bump
           (λ v inv2 ov. bumps h j X v lt inv2 (ap (λ (o : Own). o.row.hold) ov ∙ holds_r) (has_node h j v (O1 (Some X)) (locked_held (Some X)) ov (isj (Some X))) fewer)
           (λ i y. let e : j ≡ i = eq_is j i y in subst (λ (z : ℕ). 0 < R.mine.refs z) e refers) (inr begins)
-          (λ l2 u2 q2 held2. follows h old new lt joins j ns l2 (done_step steps.Bump ∷ es) u2 R2 range.0 (let z = range.1 in let a = ap (λ (o : Own). o.ninodes) own1 in let b = at.stays.ninodes in omega (arith, z, a, b)) (omega (arith, few, q, q2)) held2
+          (λ l2 u2 q2 held2. follows h old new lt joins j ns l2 (done_step steps.Bump ∷ es) u2 R2 range.0 (let z = range.1 in let a = ap (λ (o : Own). o.ninodes) own1 in let b = at.stays.ninodes in omega (arith, z, a, b)) fresh (omega (arith, few, q, q2)) held2
           (put_same (O1 (Some X)).inodes j (Some (locked_held (Some (raised X))))) refl refl refl refl refl
           (record { row = ap (λ (r : Row). record r { hold = Some (high j) }) at.stays.row; ninodes = at.stays.ninodes; fds = at.stays.fds; hand = at.stays.hand; joined = at.stays.joined; directory = at.stays.directory; lent = at.stays.lent; lender = at.stays.lender; opening = at.stays.opening; left = at.stays.left })
           (λ m y. let e = number m (sym at.noted ∙ y) in subst (λ (z : ℕ). 0 < R.mine.refs z) (sym e) refers) (λ i. let r = at.refs i in omega (arith, r))
@@ -499,7 +500,7 @@ module _ (h : ℕ) (old new : List ℕ) (w : World) (free : (w.desks h).lender �
   walks : (es : List Name) → elements old ≡ es → (n : ℕ) → 2600 * length es + 1 + K ≤ n → (u : World) → own_of h u ≡ O0 → Safe machine h B Q (start s old [] (λ d. walk s d es [] (link_at old new) lost) lost) n [] u
   walks [] none n few u own = s-begin h s B Q base O0 [] n [] u O0 (λ d. link_at old new d []) lost lt ready (gone_at h w u idle own) (omega (arith, few)) notes (λ i v inv ov at. starts i n v O0 u (omega (arith, few)) none (gone_at h w u idle own) inv ov at)
       (λ l u2 R q g full. loses NoMemory [] l [] u2 R (omega (arith, q, few)) g full)
-  walks (e ∷ r) path_is n few u own = s-start h s B Q base O0 e r [] n [] u O0 (λ d. walk s d (e ∷ r) [] (link_at old new) lost) lost lt ready (gone_at h w u idle own) (omega (arith, few)) refl path_is place notes (follows_begin c s (link_follows old new)).1
+  walks (e ∷ r) path_is n few u own = s-start h s B Q base O0 e r [] n [] u O0 (λ d. walk s d (e ∷ r) [] (link_at old new) lost) lost lt ready (gone_at h w u idle own) (omega (arith, few)) refl path_is spelled place notes (follows_begin c s (link_follows old new)).1
       (λ d l u2 R q on. s-walk h s B Q (Walked c []) (Walked c (missed s ∷ [])) base O0 K lt ready lost loses (follows_look c s (link_follows old new)) (follows_lost c s (link_follows old new)) (follows_quit c s (link_follows old new)) (λ t. find_missing t h old None) (λ t. refl) place other refl
       r d e [] l (looks (Begin s 0) ∷ []) u2 R (link_at old new) (omega (arith, q, few)) on (follows_begin c s (link_follows old new)).0 (λ t q. find_missing t h old (Some q)) act)
       (λ l u2 R q g full. loses NoMemory [] l [] u2 R (omega (arith, q, few)) g full)

@@ -21,7 +21,7 @@ use Rattle.inode_machine.specs.World.Op.{Enter}
 use Rattle.inode_machine.specs.Inodes.{Sort, sort_of}
 use Rattle.inode_machine.specs.Exec.{with_entry, with_walk}
 use Rattle.inode_machine.specs.Marks.{Made, new_id}
-use Rattle.inode_machine.specs.Rules.{Own, Held, own_of, Inv, machine}
+use Rattle.inode_machine.specs.Rules.{Own, Held, own_of, Inv, machine, IsName}
 use Rattle.inode_machine.specs.Parts.{makes}
 use Rattle.inode_machine.specs.Naming.{enters}
 use Rattle.inode_machine.proofs.Frame.{Fair, fair, fair_then}
@@ -77,15 +77,15 @@ enter_leads h j path O0 lt holds = record {
 -- The entry is put.
 pub s-enter-name : {A : Type 0} {h : ℕ} (d j : ℕ) {x : Held} (X : Node) (e : Name) (path : List ℕ) {k : Entered → P machine A} {B : List Step → Type 0} {Q : A → List Step → World → Type 0} {n : ℕ} {es : List Step} {w : World} {O : Own}
     → own_of h w ≡ O → O.desk.lender ≡ None → h < hart_count → 1640 < n → O.desk.joined ≡ true → O.mine.walk ≡ Some (record { step = EnterStep path; at = d; next = e; rest = [] }) → O.mine.pending ≡ None → Mendable O → O.row.hold ≡ Some (high j)
-    → O.inodes d ≡ Some x → x.disk ≡ Some X → x.node ≡ Some X → x.alone ≡ false → x.locked ≡ true → live_directory (Some X) ≡ true → look (λ i. Some X) d e ≡ None → 1 ≤ j → j < O.ninodes → B (told_step 0 (EnterStep path) Done ∷ es)
+    → O.inodes d ≡ Some x → x.disk ≡ Some X → x.node ≡ Some X → x.alone ≡ false → x.locked ≡ true → live_directory (Some X) ≡ true → look (λ i. Some X) d e ≡ None → IsName e → 1 ≤ j → j < O.ninodes → B (told_step 0 (EnterStep path) Done ∷ es)
     → ((l : ℕ) (u : World) → l + 1641 ≡ n
     → own_of h u ≡ record O { inodes = put O.inodes d (Some (record x { disk = Some (with_entry e j X); node = Some (with_entry e j X) })); row = record (O.row) { hold = None }; mine = record { refs = O.mine.refs; walk = None; pending = None } }
     → Safe machine h B Q (k InPlace) l (told_step 0 (EnterStep path) Done ∷ es) u)
     → ((l : ℕ) (u : World) → l + 1641 ≡ n → own_of h u ≡ mended_own O → Safe machine h B Q (k NoBlock) l es u)
     → ((l : ℕ) (u : World) → l + 1641 ≡ n → own_of h u ≡ mended_own O → Safe machine h B Q (k NoSlot) l es u)
     → Safe machine h B Q (Do (Enter d e j) enters k) n es w
-s-enter-name {A} {h} d j {x} X e path {k} {B} {Q} {n} {es} {w} {O} owns free lt pos joined walks none can holds isd xd xn shared locked live finds from below b then_ no_block no_slot =
-    s-enter-with d j X e owns free lt pos joined isd xd locked (and_true _ (is_directory X.kind) live).1 from below can refl refl good no_block no_slot
+s-enter-name {A} {h} d j {x} X e path {k} {B} {Q} {n} {es} {w} {O} owns free lt pos joined walks none can holds isd xd xn shared locked live finds named from below b then_ no_block no_slot =
+    s-enter-with d j X e owns free lt pos joined isd xd locked (and_true _ (is_directory X.kind) live).1 named from below can refl refl good no_block no_slot
   where
     good : (v : World) → Inv v → own_of h v ≡ O → EnterFine h d e j (makes (Look 0)) n B Q es v (record v { disk = put v.disk d (Some (with_entry e j X)) }) (k InPlace)
     good v inv ov =

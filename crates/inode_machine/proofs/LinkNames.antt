@@ -24,6 +24,7 @@ use Rattle.tree_laws.proofs.Maps.{either, same_or, put_same, put_other}
 use Rattle.tree_laws.proofs.Sums.{one_yes}
 use Rattle.tree_moves.specs.Moves.{Step, MayEnd, Written}
 use Rattle.tree_moves.specs.Moves.Move.{Begin}
+use Rattle.inode_machine.proofs.Names.{AllNames}
 use Rattle.inode_machine.specs.World.{Desk, Note, World}
 use Rattle.inode_machine.specs.World.Op.{Give, Store}
 use Rattle.inode_machine.specs.Inodes.{face_of, face_or}
@@ -350,7 +351,7 @@ module _ (h : ℕ) (old new : List ℕ) (lt : h < hart_count) {base : ℕ → �
       free_name None l u live none p held = absurd cc
       free_name (Some X) l u live none p held =
           s-enter-name d j X e new held free lt (omega (arith, p, few)) (on.stays.joined ∙ joins.ready.joined) on.walk on.pending (mendable ready_high k) (ap (λ (r : Row). r.hold) on.stays.row)
-          (put_same O.inodes d (Some (locked_held (Some X)))) refl refl refl refl live none from (let s = on.stays.ninodes in omega (arith, s, below))
+          (put_same O.inodes d (Some (locked_held (Some X)))) refl refl refl refl live none on.names.0 from (let s = on.stays.ninodes in omega (arith, s, below))
           (begun_by (calls.Link old new) (found old ∷ bumped ∷ act ∷ []) (told_step 0 (steps.Enter new) Done ∷ fs) [] (done (calls.Link old new)) told (entered_ends old new))
           (λ l2 u2 q2 held2. named d (Some E) ms l2 (told_step 0 (steps.Enter new) Done ∷ fs) u2 _ (omega (arith, p, q2, few)) held2 entered refl refl
           (written_by (calls.Link old new) (found old ∷ bumped ∷ act ∷ []) (told_step 0 (steps.Enter new) Done ∷ fs) (done (calls.Link old new)) told (entered_ends old new)))
@@ -383,10 +384,10 @@ module _ (h : ℕ) (old new : List ℕ) (lt : h < hart_count) {base : ℕ → �
               again = put_twice O.inodes d (Some (locked_held (Some X))) (Some (locked_held (Some E)))
 
   -- The count is raised: the lock is given up, and the new path followed.
-  pub follows : (ns : List ℕ) (n : ℕ) (es : List Step) (w : World) (R : Own) {x : Held} → 1 ≤ j → j < O0.ninodes → 2600 * (length (elements new) + 1) + 971 * length ns + 10000 ≤ n → own_of h w ≡ R → R.inodes j ≡ Some x → x.locked ≡ true → x.alone ≡ false → x.disk ≡ x.node → R.mine.walk ≡ None → R.mine.pending ≡ None
+  pub follows : (ns : List ℕ) (n : ℕ) (es : List Step) (w : World) (R : Own) {x : Held} → 1 ≤ j → j < O0.ninodes → AllNames (elements new) → 2600 * (length (elements new) + 1) + 971 * length ns + 10000 ≤ n → own_of h w ≡ R → R.inodes j ≡ Some x → x.locked ≡ true → x.alone ≡ false → x.disk ≡ x.node → R.mine.walk ≡ None → R.mine.pending ≡ None
       → Stays R (high_own j O0) → ((m : Note) → R.desk.noted ≡ Some m → 0 < R.mine.refs m.number) → ((i : ℕ) → R.mine.refs i ≡ more_base base j i + times i ns) → Listed (record R { inodes = put R.inodes j None }) (more_base base j) ns → Walked (calls.Link old new) (found old ∷ bumped ∷ []) es
       → Goes h old new (link_name old new j ns (elements new)) n es w
-  follows ns n es w R {x} from below few held isj locked shared whole walk none stays notes refs listed walking = by_path (elements new) refl few
+  follows ns n es w R {x} from below fresh few held isj locked shared whole walk none stays notes refs listed walking = by_path (elements new) refl few
     where
       free : R.desk.lender ≡ None
       free = stays.lender ∙ joins.ready.free
@@ -417,7 +418,7 @@ module _ (h : ℕ) (old new : List ℕ) (lt : h < hart_count) {base : ℕ → �
       by_path (e ∷ r) q few2 =
           s-give {k = λ _. start (steps.Enter new) new ns (λ d. walk_parent (steps.Enter new) d e r ns (link_in old new j) (λ why ms. lower old new j (stopped (calls.Link old new) why) ms)) (λ why ms. lower old new j (stopped (calls.Link old new) why) ms)}
           held free lt (omega (arith, few2)) isj locked shared whole none (λ l u q2 held2.
-          s-follow (calls.Link old new) (found old ∷ bumped ∷ []) (steps.Enter new) 10000 e r ns (link_in old new j) (λ why ms. lower old new j (stopped (calls.Link old new) why) ms) lt ready_high leads (enter_follows old new) walking q
+          s-follow (calls.Link old new) (found old ∷ bumped ∷ []) (steps.Enter new) 10000 e r ns (link_in old new j) (λ why ms. lower old new j (stopped (calls.Link old new) why) ms) lt ready_high leads (enter_follows old new) walking q fresh
           (record { owns = held2; stays = stays_same (record R { inodes = put R.inodes j None }) R (high_own j O0) refl refl refl stays; walk = walk; pending = none; refs = refs; listed = listed }) notes (omega (arith, few2, q2))
           (λ d e2 ms l2 fs u2 M few3 on walking2. sees d e2 ms l2 fs u2 M from below (omega (arith, few3)) on walking2)
           (λ why ms l2 fs u2 M few3 gone lost. lowers (stopped (calls.Link old new) why) ms l2 fs u2 M nothing (omega (arith, few3)) gone.owns (record {

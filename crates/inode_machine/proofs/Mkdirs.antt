@@ -12,17 +12,18 @@ use Rattle.plain_tree.specs.declared.node.Node.{Node}
 use Rattle.plain_tree.specs.declared.step.Action.TheVariants.{Mkdir}
 use Rattle.plain_tree.specs.declared.step.StepAnswer.TheVariants.{Done, Failed}
 use Rattle.plain_tree.specs.Widths.{hart_count, count_limit}
-use Rattle.plain_tree.specs.Tree.{Name, Tree, put, look, live_directory}
+use Rattle.plain_tree.specs.Tree.{Name, Tree, put, look, live_directory, elements}
 use Rattle.plain_tree.specs.Steps.{node_or, name_taken, new_directory, or_else, raised, refusal_with}
 use Rattle.plain_tree.specs.Calls.{Act, next_of, reply_of, had_room}
 use Rattle.tree_laws.specs.WellFormed.{one_if}
 use Rattle.tree_laws.proofs.Maps.{put_same, put_other}
 use Rattle.tree_moves.specs.Moves.{Step, MayEnd}
+use Rattle.inode_machine.proofs.Names.{AllNames}
 use Rattle.inode_machine.specs.World.{Note, World, New, InPlace}
 use Rattle.inode_machine.specs.World.Op.{Enter}
 use Rattle.inode_machine.specs.Inodes.{OfDirectory, Face, face_of, face_or}
 use Rattle.inode_machine.specs.Exec.{blank, with_count, with_dots, with_entry}
-use Rattle.inode_machine.specs.Rules.{Held, Own, own_of, nothing, Idle, Inv, machine}
+use Rattle.inode_machine.specs.Rules.{Held, Own, own_of, nothing, Idle, Inv, machine, IsName}
 use Rattle.inode_machine.specs.Parts.{P, done, failed, full, give_up, tail}
 use Rattle.inode_machine.specs.Opening.{entered_file, unmake}
 use Rattle.inode_machine.specs.Naming.{is_refused, mkdir_in, mkdir_on, mkdir_program, mkdir_refused, mkdir_with, name_directory}
@@ -130,11 +131,11 @@ module _ (h : ℕ) (path : List ℕ) (lt : h < hart_count) {base : ℕ → ℕ} 
 
   -- The new directory is there, with its two entries: its name is entered.
   enters : (X : Node) (i l : ℕ) (fs : List Step) (u : World) (R : Own) → 971 * length ns + 3540 < l → own_of h u ≡ R → Pair base ns O0 R d i (locked_held (Some X)) (fresh_held (with_dots i d (with_count 1 (blank OfDirectory)))) → base i ≡ 0 → R.mine.walk ≡ Some (record { step = Mkdir path; at = d; next = e; rest = [] }) → R.mine.pending ≡ None
-      → live_directory (Some X) ≡ true → look (λ j. Some X) d e ≡ None → nat_lt X.count count_limit ≡ true → 1 ≤ i → i < R.ninodes → ((t : Note) → R.desk.noted ≡ Some t → t.number ≢ i) → Walked (calls.Mkdir path) [] fs
+      → live_directory (Some X) ≡ true → look (λ j. Some X) d e ≡ None → nat_lt X.count count_limit ≡ true → IsName e → 1 ≤ i → i < R.ninodes → ((t : Note) → R.desk.noted ≡ Some t → t.number ≢ i) → Walked (calls.Mkdir path) [] fs
       → Goes h path (Do (Enter d e i) (entered_file i) (name_directory path d (face_or (face_of (Some X))) i ns)) l fs u
-  enters X i l fs u R few held p zero walk none live absent room from below notes walking =
+  enters X i l fs u R few held p zero walk none live absent room good from below notes walking =
       s-enter-directory d i X e path held (p.hold.stays.lender ∙ joins.ready.free) lt (omega (arith, few)) (p.hold.stays.joined ∙ joins.ready.joined) walk none (mendable joins.ready p.hold) refl refl refl
-      (p.hold.has d (locked_held (Some X)) p.at_d) refl refl refl refl live absent room (p.hold.has i (fresh_held (with_dots i d (with_count 1 (blank OfDirectory)))) p.at_i) refl refl refl from below notes
+      (p.hold.has d (locked_held (Some X)) p.at_d) refl refl refl refl live absent room (p.hold.has i (fresh_held (with_dots i d (with_count 1 (blank OfDirectory)))) p.at_i) refl refl refl good from below notes
       (begun_by (calls.Mkdir path) (act ∷ []) (told_step i (Mkdir path) Done ∷ fs) [] (done (calls.Mkdir path)) told (done_ends path))
       (λ l2 u2 q2 held2. named X i l2 (told_step i (Mkdir path) Done ∷ fs) u2 _ (omega (arith, few, q2)) held2
       (pair_set (record R { inodes = put (put R.inodes d (Some D)) i (Some (locked_held (Some (new_directory i d)))); mine = record { refs = R.mine.refs; walk = None; pending = None } }) (locked_held (Some (new_directory i d)))
@@ -158,13 +159,13 @@ module _ (h : ℕ) (path : List ℕ) (lt : h < hart_count) {base : ℕ → ℕ} 
 
   -- A number is claimed: its lock is taken, its count and its entries stored.
   makes : (X : Node) (i l : ℕ) (fs : List Step) (u : World) (R : Own) → 971 * length ns + 3570 < l → own_of h u ≡ R → Pair base ns O0 R d i (locked_held (Some X)) (claimed_held OfDirectory) → base i ≡ 0 → R.mine.walk ≡ Some (record { step = Mkdir path; at = d; next = e; rest = [] }) → R.mine.pending ≡ None
-      → live_directory (Some X) ≡ true → look (λ j. Some X) d e ≡ None → nat_lt X.count count_limit ≡ true → 1 ≤ i → i < R.ninodes → ((t : Note) → R.desk.noted ≡ Some t → t.number ≢ i) → Walked (calls.Mkdir path) [] fs
+      → live_directory (Some X) ≡ true → look (λ j. Some X) d e ≡ None → nat_lt X.count count_limit ≡ true → IsName e → 1 ≤ i → i < R.ninodes → ((t : Note) → R.desk.noted ≡ Some t → t.number ≢ i) → Walked (calls.Mkdir path) [] fs
       → Goes h path (mkdir_with path d e ns (face_or (face_of (Some X))) (New i)) l fs u
-  makes X i l fs u R few held p zero walk none live absent room from below notes walking =
+  makes X i l fs u R few held p zero walk none live absent room good from below notes walking =
       s-take-kept held free lt (omega (arith, few)) (p.hold.has i (claimed_held OfDirectory) p.at_i) refl (λ e. cc) (let f = p.hold.refs i in let o = one_at i in omega (arith, f, o)) (λ l1 u1 q1 held1.
       s-store i 1 (blank OfDirectory) held1 free lt (omega (arith, few, q1)) joined (put_same R.inodes i (Some (fresh_held (blank OfDirectory)))) refl refl (inl (omega arith)) (λ l2 u2 q2 held2.
       s-fill i d (with_count 1 (blank OfDirectory)) held2 free lt (omega (arith, few, q1, q2)) joined (put_same (put R.inodes i (Some (fresh_held (blank OfDirectory)))) i (Some (fresh_held (with_count 1 (blank OfDirectory))))) refl refl refl (locked_held (Some X)) X (p2.hold.has d (locked_held (Some X)) p2.at_d) refl (mendable joins.ready p2.hold)
-      (λ l3 u3 q3 held3. enters X i l3 fs u3 _ (omega (arith, few, q1, q2, q3)) held3 (pair_set _ (fresh_held (with_dots i d (with_count 1 (blank OfDirectory)))) p2 refl refl refl refl refl) zero walk none live absent room from below notes walking)
+      (λ l3 u3 q3 held3. enters X i l3 fs u3 _ (omega (arith, few, q1, q2, q3)) held3 (pair_set _ (fresh_held (with_dots i d (with_count 1 (blank OfDirectory)))) p2 refl refl refl refl refl) zero walk none live absent room good from below notes walking)
       (λ l3 u3 q3 held3. s-unmake h (calls.Mkdir path) (full (calls.Mkdir path) Blocks) (with_count 1 (blank OfDirectory)) l3 fs u3 _ lt joins held3 (omega (arith, few, q1, q2, q3)) (pair_same (mended_own Owned2) p2 refl refl (stays_mended (mended_own Owned2) joins.ready p2.hold.stays refl refl refl)) (record { locked = refl; shared = refl; same = refl }) refl refl refl refl zero refl refl (inl refl))))
     where
       free : R.desk.lender ≡ None
@@ -212,7 +213,7 @@ module _ (h : ℕ) (path : List ℕ) (lt : h < hart_count) {base : ℕ → ℕ} 
           (s-claim OfDirectory held free lt (omega (arith, p, few)) (on.stays.joined ∙ joins.ready.joined) (mendable joins.ready k)
           (λ l2 i u2 q2 from below out zero held2. makes X i l2 fs u2 _ (omega (arith, p, q2, few)) held2
           (pair_new _ d i (claimed_held OfDirectory) k (put_same nothing d (Some (locked_held (Some X)))) (λ j ne. put_other nothing d (Some (locked_held (Some X))) j ne) out refl refl refl refl refl)
-          (let f = k.refs i in omega (arith, f, zero)) on.walk on.pending live (goes_on (look (λ j. Some X) d e) (face_or (face_of (Some X))) goes).0 (goes_on (look (λ j. Some X) d e) (face_or (face_of (Some X))) goes).1 from below
+          (let f = k.refs i in omega (arith, f, zero)) on.walk on.pending live (goes_on (look (λ j. Some X) d e) (face_or (face_of (Some X))) goes).0 (goes_on (look (λ j. Some X) d e) (face_or (face_of (Some X))) goes).1 on.names.0 from below
           (λ t q r. absurd (let a = on.notes t q in let b : O.mine.refs t.number ≡ O.mine.refs i = ap O.mine.refs r in omega (arith, a, b, zero))) walking)
           (λ l2 u2 q2 held2. ends_one (full (calls.Mkdir path) DiskInodes) (Some X) l2 fs u2 (mended_own O1) (omega (arith, p, q2, few)) held2 (holding_same (mended_own O1) k refl (stays_mended (mended_own O1) joins.ready k.stays refl refl refl) refl) refl refl (inl refl))
           (λ l2 u2 q2 held2. ends_one (full (calls.Mkdir path) MemInodes) (Some X) l2 fs u2 (mended_own O1) (omega (arith, p, q2, few)) held2 (holding_same (mended_own O1) k refl (stays_mended (mended_own O1) joins.ready k.stays refl refl refl) refl) refl refl (inl refl)))
@@ -229,7 +230,7 @@ module _ (h : ℕ) (path : List ℕ) (lt : h < hart_count) {base : ℕ → ℕ} 
 pub mkdir_begins : (path : List ℕ) → IsBeginning covered_calls (calls.Mkdir path) []
 mkdir_begins path = (told_step 0 (Mkdir path) (Failed NoEntry) ∷ [], failed (calls.Mkdir path) NoEntry, (tt, fails_end path NoEntry))
 
-pub mkdir_ok : (h : ℕ) (path : List ℕ) (w : World) → Inv w → (w.desks h).lender ≡ None → h < hart_count → Idle h w → Safe machine h (Begun covered_calls (calls.Mkdir path)) (Ends covered_calls h (calls.Mkdir path)) (mkdir_program path) (path_cost path + rest_cost) [] w
-mkdir_ok h path w inv free lt idle =
-    s-naming h (calls.Mkdir path) (Mkdir path) (mkdir_in path) (path_cost path + rest_cost) w inv free lt idle (record { follows = follows path; ends = fails_end path NoEntry }) (leads h path (joined_own (own_of h w)) lt) (omega arith)
+pub mkdir_ok : (h : ℕ) (path : List ℕ) (w : World) → Inv w → (w.desks h).lender ≡ None → h < hart_count → Idle h w → AllNames (elements path) → Safe machine h (Begun covered_calls (calls.Mkdir path)) (Ends covered_calls h (calls.Mkdir path)) (mkdir_program path) (path_cost path + rest_cost) [] w
+mkdir_ok h path w inv free lt idle named =
+    s-naming h (calls.Mkdir path) (Mkdir path) (mkdir_in path) (path_cost path + rest_cost) w inv free lt idle (record { follows = follows path; ends = fails_end path NoEntry }) (leads h path (joined_own (own_of h w)) lt) named (omega arith)
     (λ d e ms l fs u R few joins on walking. sees h path lt joins d e ms l fs u R few on walking)

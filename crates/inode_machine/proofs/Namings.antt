@@ -18,6 +18,7 @@ use Rattle.plain_tree.specs.HartRow.{row_of}
 use Rattle.plain_tree.proofs.Settling.{settled_row}
 use Rattle.tree_moves.specs.Moves.{Stage, Step, Begins, MayEnd, fail}
 use Rattle.tree_moves.specs.Moves.Move.{Begin, Look}
+use Rattle.inode_machine.proofs.Names.{AllNames}
 use Rattle.inode_machine.specs.World.{Note, World, stage_of}
 use Rattle.inode_machine.specs.World.Op.{Join}
 use Rattle.inode_machine.specs.Exec.{with_joined, with_walk}
@@ -49,12 +50,12 @@ pub record Leads (h : ℕ) (s : Action) (O0 : Own) : Type 0 where
 
 -- A walk to the last name's directory.
 pub s-follow : {h : ℕ} (c : Call) (acts : List Act) (s : Action) {Q : Reply → List Step → World → Type 0} {base : ℕ → ℕ} {O0 : Own} (K : ℕ) (e : Name) (r : List Name) (ns : List ℕ) (found : ℕ → Name → List ℕ → P Reply) (lost : Stop → List ℕ → P Reply) {n : ℕ} {es : List Step} {w : World} {O : Own}
-    → h < hart_count → Ready base O0 → Leads h s O0 → Follows c acts s → Walked c acts es → elements (path_of s) ≡ e ∷ r → Gone h base ns O0 O w → ((m : Note) → O.desk.noted ≡ Some m → 0 < O.mine.refs m.number) → 2600 * length r + 2601 + 971 * length ns + K ≤ n
+    → h < hart_count → Ready base O0 → Leads h s O0 → Follows c acts s → Walked c acts es → elements (path_of s) ≡ e ∷ r → AllNames (elements (path_of s)) → Gone h base ns O0 O w → ((m : Note) → O.desk.noted ≡ Some m → 0 < O.mine.refs m.number) → 2600 * length r + 2601 + 971 * length ns + K ≤ n
     → ((d : ℕ) (e2 : Name) (ms : List ℕ) (l : ℕ) (fs : List Step) (u : World) (R : Own) → 971 * length ms + K ≤ l → On h s d e2 [] base ms O0 R u → Walked c acts fs → Safe machine h (Begun covered_calls c) Q (found d e2 ms) l fs u)
     → ((why : Stop) (ms : List ℕ) (l : ℕ) (fs : List Step) (u : World) (R : Own) → 971 * length ms + K ≤ l → Gone h base ms O0 R u → Lost (Walked c (acts ++ record { step = s; answer = Failed NoEntry } ∷ [])) why fs R → Safe machine h (Begun covered_calls c) Q (lost why ms) l fs u)
     → Safe machine h (Begun covered_calls c) Q (start s (path_of s) ns (λ d. walk_parent s d e r ns found lost) lost) n es w
-s-follow {h} c acts s {Q} {base} {O0} K e r ns found lost {n} {es} {w} {O} lt ready leads follows walking path gone notes few arrives loses =
-    s-start h s (Begun covered_calls c) Q base O0 e r ns n es w O (λ d. walk_parent s d e r ns found lost) lost lt ready gone (omega (arith, few)) leads.follows path leads.place notes
+s-follow {h} c acts s {Q} {base} {O0} K e r ns found lost {n} {es} {w} {O} lt ready leads follows walking path named gone notes few arrives loses =
+    s-start h s (Begun covered_calls c) Q base O0 e r ns n es w O (λ d. walk_parent s d e r ns found lost) lost lt ready gone (omega (arith, few)) leads.follows path named leads.place notes
     (begun_walking c acts s (record { move = Begin s 0; told = None } ∷ es) follows (walking_begun c acts s es follows walking))
     (λ d l u R q on. s-walk-parent h s (Begun covered_calls c) Q (Walked c acts) (Walked c (acts ++ record { step = s; answer = Failed NoEntry } ∷ [])) base O0 K lt ready lost loses
     (λ fs w. (walking_on c acts fs w, begun_walking c acts s (record { move = Look 0; told = None } ∷ fs) follows (walking_on c acts fs w)))
@@ -128,11 +129,11 @@ s-lost h c s {base} {O0} why ms l fs u R lt joins ends few gone lost =
     told NoMemory f = inl f
 
 -- A call that is made at its path's last name. k: what it does there.
-pub s-naming : (h : ℕ) (c : Call) (s : Action) (k : ℕ → Name → List ℕ → P Reply) (n : ℕ) (w : World) → Inv w → (w.desks h).lender ≡ None → h < hart_count → Idle h w → EndsAfter c s → Leads h s (joined_own (own_of h w)) → 2600 * (length (elements (path_of s)) + 1) + 24000 ≤ n
+pub s-naming : (h : ℕ) (c : Call) (s : Action) (k : ℕ → Name → List ℕ → P Reply) (n : ℕ) (w : World) → Inv w → (w.desks h).lender ≡ None → h < hart_count → Idle h w → EndsAfter c s → Leads h s (joined_own (own_of h w)) → AllNames (elements (path_of s)) → 2600 * (length (elements (path_of s)) + 1) + 24000 ≤ n
     → ((d : ℕ) (e : Name) (ms : List ℕ) (l : ℕ) (fs : List Step) (u : World) (R : Own) → 971 * length ms + 24000 ≤ l → Joins (home (own_of h w)) (joined_own (own_of h w)) → On h s d e [] (home (own_of h w)) ms (joined_own (own_of h w)) R u → Walked c [] fs
     → Safe machine h (Begun covered_calls c) (Ends covered_calls h c) (k d e ms) l fs u)
     → Safe machine h (Begun covered_calls c) (Ends covered_calls h c) (in_parent c s (path_of s) k (elements (path_of s))) n [] w
-s-naming h c s k n w inv free lt idle ends leads few arrives = by_path (elements (path_of s)) refl few
+s-naming h c s k n w inv free lt idle ends leads named few arrives = by_path (elements (path_of s)) refl few
   where
     O0 : Own
     O0 = joined_own (own_of h w)
@@ -150,5 +151,5 @@ s-naming h c s k n w inv free lt idle ends leads few arrives = by_path (elements
         s-lost h c s NotThere [] l (begin_refused s ∷ []) u O0 lt joins ends (omega (arith, few2, q2)) (gone_at h w u idle (own2 ∙ (λ z. record O0 { mine = record { refs = O0.mine.refs; walk = sym idle.walk z; pending = sym idle.pending z } }))) (λ rest r p. (ends.follows.next, p)))
     by_path (e ∷ r) q few2 =
         s-join refl free lt (omega (arith, few2)) unlocks idle.joined (λ l u q2 own2.
-        s-follow c [] s 24000 e r [] k (λ why ns. tail ns (stopped c why)) lt joins.ready leads ends.follows (λ rest r p. p) q (gone_at h w u idle own2) (λ m p. absurd (let a = idle.noted in cc (a, p))) (omega (arith, few2, q2)) (λ d e2 ms l2 fs u2 R few3 on walking. arrives d e2 ms l2 fs u2 R few3 joins on walking)
+        s-follow c [] s 24000 e r [] k (λ why ns. tail ns (stopped c why)) lt joins.ready leads ends.follows (λ rest r p. p) q named (gone_at h w u idle own2) (λ m p. absurd (let a = idle.noted in cc (a, p))) (omega (arith, few2, q2)) (λ d e2 ms l2 fs u2 R few3 on walking. arrives d e2 ms l2 fs u2 R few3 joins on walking)
         (λ why ms l2 fs u2 R few3 gone lost. s-lost h c s why ms l2 fs u2 R lt joins ends (omega (arith, few3)) gone lost))

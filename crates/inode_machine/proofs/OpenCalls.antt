@@ -23,6 +23,7 @@ use Rattle.tree_laws.proofs.Nodes.{live_some}
 use Rattle.tree_laws.proofs.Walks.{look_same}
 use Rattle.tree_moves.specs.Moves.{Deed, Walk, Move, Stage, Step, IsNext, begins}
 use Rattle.tree_moves.specs.Moves.Move.{Begin, Look}
+use Rattle.inode_machine.proofs.Names.{AllNames}
 use Rattle.inode_machine.specs.World.{Desk, Note, World, stage_of}
 use Rattle.inode_machine.specs.World.Op.{UpStart}
 use Rattle.inode_machine.specs.Inodes.{Sort, OfDirectory, open_refusal, sort_of, sort_of_kind}
@@ -58,7 +59,7 @@ names_opened r d fd id key i none q = elim (either (key.number == i)) [
       ∙ sym ((λ z. (r.cwd == i) || (hold_names r.hold i || (key_names (put_same r.keys fd (Some key) z) i || is_at d.left i))) ∙ (λ z. (r.cwd == i) || (hold_names r.hold i || (y z || is_at d.left i)))) ∙ q)
 ]
 
-module _ (h : ℕ) (path : List ℕ) (flags : ℕ) (w : World) (free : (w.desks h).lender ≡ None) (lt : h < hart_count) (holds : Inv w) (idle : Idle h w) (plain : creates flags ≡ false) where
+module _ (h : ℕ) (path : List ℕ) (flags : ℕ) (w : World) (free : (w.desks h).lender ≡ None) (lt : h < hart_count) (holds : Inv w) (idle : Idle h w) (plain : creates flags ≡ false) (spelled : AllNames (elements path)) where
   abbrev c : Call
   c = calls.Open path flags
 
@@ -450,7 +451,7 @@ module _ (h : ℕ) (path : List ℕ) (flags : ℕ) (w : World) (free : (w.desks 
   walks : (es : List Name) → elements path ≡ es → (n : ℕ) → 2600 * length es + 20000 ≤ n → (u : World) → own_of h u ≡ O0 → Safe machine h B Q (start s path [] (λ d. walk s d es [] (open_at path flags) lost) lost) n [] u
   walks [] none n few u own = s-begin h s B Q base O0 [] n [] u O0 (λ d. open_at path flags d []) lost lt ready (gone_at h w u idle own) (omega (arith, few)) notes (λ i v inv ov at. starts i n v O0 u (omega (arith, few)) none (gone_at h w u idle own) inv ov at)
       (λ l u2 R q g full. loses NoMemory [] l [] u2 R (omega (arith, q, few)) g full)
-  walks (e ∷ r) path_is n few u own = s-start h s B Q base O0 e r [] n [] u O0 (λ d. walk s d (e ∷ r) [] (open_at path flags) lost) lost lt ready (gone_at h w u idle own) (omega (arith, few)) refl path_is place notes (follows_begin c s (open_follows path flags)).1
+  walks (e ∷ r) path_is n few u own = s-start h s B Q base O0 e r [] n [] u O0 (λ d. walk s d (e ∷ r) [] (open_at path flags) lost) lost lt ready (gone_at h w u idle own) (omega (arith, few)) refl path_is spelled place notes (follows_begin c s (open_follows path flags)).1
       (λ d l u2 R q on. s-walk h s B Q (Walked c []) (Walked c (missed s ∷ [])) base O0 2000 lt ready lost loses (follows_look c s (open_follows path flags)) (follows_lost c s (open_follows path flags)) (follows_quit c s (open_follows path flags)) (λ t. open_missing t h path flags None plain) (λ t. refl) place other refl
       r d e [] l (looks (Begin s 0) ∷ []) u2 R (open_at path flags) (omega (arith, q, few)) on (follows_begin c s (open_follows path flags)).0 (λ t q. open_missing t h path flags (Some q) plain) act)
       (λ l u2 R q g full. loses NoMemory [] l [] u2 R (omega (arith, q, few)) g full)

@@ -14,7 +14,7 @@ use Rattle.plain_tree.specs.declared.node.Kind.TheVariants.{Directory, File, Dev
 use Rattle.plain_tree.specs.declared.step.Action.TheVariants.{Unlink}
 use Rattle.plain_tree.specs.declared.step.StepAnswer.TheVariants.{Done, Failed}
 use Rattle.plain_tree.specs.Widths.{hart_count}
-use Rattle.plain_tree.specs.Tree.{Name, Tree, put, look, same_name, dot, dotdot, is_directory, all_slots, is_live, live_directory}
+use Rattle.plain_tree.specs.Tree.{Name, Tree, put, look, same_name, dot, dotdot, is_directory, all_slots, is_live, live_directory, elements}
 use Rattle.plain_tree.specs.Steps.{node_or, node_at, lowered, not_empty, any_used, refusal_with}
 use Rattle.plain_tree.specs.Calls.{Act, next_of, reply_of, had_room}
 use Rattle.tree_laws.specs.WellFormed.{one_if, folders_of, links_in, raises, IsWellFormed}
@@ -23,6 +23,7 @@ use Rattle.tree_laws.proofs.Nodes.{live_is}
 use Rattle.tree_laws.proofs.Facts.{look_live, look_folder, entry_found, entry_apart}
 use Rattle.tree_laws.proofs.Walks.{look_bad, look_same}
 use Rattle.tree_moves.specs.Moves.{Step, MayEnd}
+use Rattle.inode_machine.proofs.Names.{AllNames}
 use Rattle.inode_machine.specs.World.{Desk, World}
 use Rattle.inode_machine.specs.World.Op.{Take, Store}
 use Rattle.inode_machine.specs.Inodes.{face_of, face_or, seen_in, AtEntries, is_directory_sort, is_live_face, sort_of_kind, is_empty_kind, is_empty_node}
@@ -362,7 +363,7 @@ module _ (h : ℕ) (path : List ℕ) (lt : h < hart_count) {base : ℕ → ℕ} 
 pub unlink_begins : (path : List ℕ) → IsBeginning covered_calls (calls.Unlink path) []
 unlink_begins path = (told_step 0 (Unlink path) (Failed NoEntry) ∷ [], failed (calls.Unlink path) NoEntry, (tt, fails_end path NoEntry))
 
-pub unlink_ok : (h : ℕ) (path : List ℕ) (w : World) → Inv w → (w.desks h).lender ≡ None → h < hart_count → Idle h w → Safe machine h (Begun covered_calls (calls.Unlink path)) (Ends covered_calls h (calls.Unlink path)) (unlink_program path) (path_cost path + rest_cost) [] w
-unlink_ok h path w inv free lt idle =
-    s-naming h (calls.Unlink path) (Unlink path) (unlink_in path) (path_cost path + rest_cost) w inv free lt idle (record { follows = follows path; ends = fails_end path NoEntry }) (leads h path (joined_own (own_of h w)) lt) (omega arith)
+pub unlink_ok : (h : ℕ) (path : List ℕ) (w : World) → Inv w → (w.desks h).lender ≡ None → h < hart_count → Idle h w → AllNames (elements path) → Safe machine h (Begun covered_calls (calls.Unlink path)) (Ends covered_calls h (calls.Unlink path)) (unlink_program path) (path_cost path + rest_cost) [] w
+unlink_ok h path w inv free lt idle named =
+    s-naming h (calls.Unlink path) (Unlink path) (unlink_in path) (path_cost path + rest_cost) w inv free lt idle (record { follows = follows path; ends = fails_end path NoEntry }) (leads h path (joined_own (own_of h w)) lt) named (omega arith)
     (λ d e ms l fs u R few joins on walking. removes h path lt joins d e ms l fs u R few on walking)

@@ -15,6 +15,7 @@ use Rattle.tree_laws.specs.WellFormed.{one_if}
 use Rattle.tree_laws.proofs.Maps.{either, same_or, put_same, put_other}
 use Rattle.tree_moves.specs.Moves.{Walk, Deed, Stage, Step, Acts, Looks, fail}
 use Rattle.tree_moves.specs.Moves.Move.{Look, Quit}
+use Rattle.inode_machine.proofs.Names.{AllNames}
 use Rattle.inode_machine.specs.World.{Desk, Note, World, Mark}
 use Rattle.inode_machine.specs.World.Op.{Take, Give}
 use Rattle.inode_machine.specs.Inodes.{AtName, AtNothing, seen_in, face_of, is_directory_face, sort_of}
@@ -114,6 +115,7 @@ pub record On (h : ℕ) (s : Action) (d : ℕ) (e : Name) (r : List Name) (base 
   -- what it noted it refers to
   pub notes : (m : Note) → O.desk.noted ≡ Some m → 0 < O.mine.refs m.number
   pub known : Known O d
+  pub names : AllNames (e ∷ r)
 
 pub on_refers : {h : ℕ} {s : Action} {d : ℕ} {e : Name} {r : List Name} {base : ℕ → ℕ} {ns : List ℕ} {O0 O : Own} {w : World} → On h s d e r base ns O0 O w → 0 < O.mine.refs d
 on_refers {d = d} on = let f = on.refs d in let o = one_at d in omega (arith, f, o)
@@ -362,7 +364,7 @@ module _ (h : ℕ) (s : Action) (B : List Step → Type 0) (Q : Reply → List S
       (stays_on c j t) ready.free
       (λ v inv2 ov. let m = mends h v (O2 c j t) ov free_o lt inv2 (on.stays.opening ∙ ready.opening) (on.stays.left ∙ ready.left) (subst (λ (z : Row). KeepsHold z.hold) (sym on.stays.row) ready.hold) (λ i q. let b = ready.spare i (sym (names_stay O O0 on.stays i) ∙ q) in let f = on.refs i in omega (arith, b, f)) in record { fair = m.fair; bad = m.bad; owned = m.owned })
       (record { stays = record { row = on.stays.row; ninodes = on.stays.ninodes; fds = on.stays.fds; hand = on.stays.hand; joined = on.stays.joined; directory = on.stays.directory; lent = on.stays.lent; lender = on.stays.lender; opening = sym ready.opening; left = sym ready.left }; inodes = refl; refs = refl; walk = refl; pending = refl; full = refl })
-      (λ ms l4 u4 R few4 at4. again j ms l4 (record { move = Look 0; told = None } ∷ es) u4 R few4 (record { owns = at4.owns; stays = at4.stays; walk = at4.walk; pending = at4.pending; refs = at4.refs; listed = at4.listed; out = at4.out; notes = λ m q. let i : m.number ≡ j = notes m (sym at4.noted ∙ q) in let f = at4.refs m.number in let o : one_if (j == m.number) ≡ 1 = (λ z. one_if (j == i z)) ∙ one_at j in omega (arith, f, o); known = inr (inr (what.0, at4.noted ∙ what.1, what.2, what.3)) }) (look_more es told).0)))
+      (λ ms l4 u4 R few4 at4. again j ms l4 (record { move = Look 0; told = None } ∷ es) u4 R few4 (record { owns = at4.owns; stays = at4.stays; walk = at4.walk; pending = at4.pending; refs = at4.refs; listed = at4.listed; out = at4.out; notes = λ m q. let i : m.number ≡ j = notes m (sym at4.noted ∙ q) in let f = at4.refs m.number in let o : one_if (j == m.number) ≡ 1 = (λ z. one_if (j == i z)) ∙ one_at j in omega (arith, f, o); known = inr (inr (what.0, at4.noted ∙ what.1, what.2, what.3)); names = on.names.1 }) (look_more es told).0)))
     where
       free_o : O.desk.lender ≡ None
       free_o = on.stays.lender ∙ ready.free
@@ -426,6 +428,7 @@ module _ (h : ℕ) (s : Action) (B : List Step → Type 0) (Q : Reply → List S
             out = put_same (O1 c).inodes d None;
             notes = on.notes;
             known = on.known;
+            names = on.names;
           }))).wp))
         where
           back : (c : Option Node) (i : ℕ) → put (put O.inodes d (Some (locked_held c))) d None i ≡ O.inodes i

@@ -16,7 +16,7 @@ use Rattle.plain_tree.specs.Fresh.{fresh as fresh_tree}
 use Rattle.atomic_programs.specs.Calls.{Came, Event, Start, Step, Started, Refused, WasIdle, DidWait, DidRun, DidEnd, DidStop, WasStopped, Finished, State, fresh, outcomes, run}
 use Rattle.inode_machine.specs.World.{Outside, Room, RoomFor, Picks}
 use Rattle.inode_machine.specs.Exec.{with_entry}
-use Rattle.inode_machine.specs.Theory.{at_rest, covered_calls, Refusal, NoSuchHart, Busy, NotEmptyHart}
+use Rattle.inode_machine.specs.Theory.{at_rest, covered_calls, Refusal, NoSuchHart, Busy, NotEmptyHart, PathTooLong, ZeroInPath}
 
 abbrev pub first : State covered_calls
 first = fresh covered_calls (at_rest (tree_of (fresh_tree 10)))
@@ -171,8 +171,8 @@ InheritFrees =
     Finishes (makes_d ++ makes 1 (calls.Chdir (codes "/d")) 11 ++ makes 0 (calls.Unlink (codes "/d")) 16 ++ makes 0 (calls.Inherit 1) 8)
     (done (calls.Inherit 1) ∷ done (calls.Unlink (codes "/d")) ∷ done (calls.Chdir (codes "/d")) ∷ done make_d ∷ [])
 
--- Starts that are refused: of no hart; of a child that is none, or is the caller, or has descriptors; of a child while another hands its own to it, and of it
--- by a third one; of a child that has a call.
+-- Starts that are refused: of no hart; of a child that is none, or is the caller, or has descriptors; of a path that is too long, or has a zero; of a child
+-- while another hands its own to it, and of it by a third one; of a child that has a call.
 abbrev pub refusals : List (Came covered_calls) → List Refusal
 refusals [] = []
 refusals (Refused why ∷ cs) = why ∷ refusals cs
@@ -184,11 +184,15 @@ refusals (DidEnd reply ∷ cs) = refusals cs
 refusals (DidStop ∷ cs) = refusals cs
 refusals (WasStopped ∷ cs) = refusals cs
 
+-- 128 bytes
+abbrev pub long_path : List ℕ
+long_path = codes "/aaaaaaaaaaaaaaaaaaaaaaaaaaaaaaaaaaaaaaaaaaaaaaaaaaaaaaaaaaaaaaaaaaaaaaaaaaaaaaaaaaaaaaaaaaaaaaaaaaaaaaaaaaaaaaaaaaaaaaaaaaaaaaa"
+
 abbrev pub refused_starts : List (Event Call Outside)
-refused_starts = Start 8 (calls.Dup 0) ∷ Start 1 (calls.Inherit 8) ∷ Start 1 (calls.Inherit 1) ∷ Start 1 (calls.Inherit 0) ∷ Start 0 (calls.Inherit 1) ∷ Start 1 (calls.Dup 0) ∷ Start 2 (calls.Inherit 1) ∷ Start 2 (calls.Inherit 0) ∷ []
+refused_starts = Start 8 (calls.Dup 0) ∷ Start 1 (calls.Inherit 8) ∷ Start 1 (calls.Inherit 1) ∷ Start 1 (calls.Inherit 0) ∷ Start 1 (calls.Chdir long_path) ∷ Start 1 (calls.Link (codes "/a") (47 ∷ 0 ∷ [])) ∷ Start 0 (calls.Inherit 1) ∷ Start 1 (calls.Dup 0) ∷ Start 2 (calls.Inherit 1) ∷ Start 2 (calls.Inherit 0) ∷ []
 
 abbrev pub StartsRefused : Type 0
-StartsRefused = refusals (outcomes covered_calls (opens ++ refused_starts) first) ≡ NoSuchHart ∷ NoSuchHart ∷ Busy ∷ NotEmptyHart ∷ Busy ∷ Busy ∷ Busy ∷ []
+StartsRefused = refusals (outcomes covered_calls (opens ++ refused_starts) first) ≡ NoSuchHart ∷ NoSuchHart ∷ Busy ∷ NotEmptyHart ∷ PathTooLong ∷ ZeroInPath ∷ Busy ∷ Busy ∷ Busy ∷ []
 
 -- Two harts: hart 1 walks to the directory, hart 0 removes it under it, and hart 1 frees it at its call's end.
 

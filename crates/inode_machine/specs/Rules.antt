@@ -1,9 +1,9 @@
 -- What a hart has, what always holds, and the machine.
-use Rattle.std.specs.Prelude.{◌≡◌, ◌≢◌, ◌⊎◌, ℕ, zero, suc, ◌+◌, ◌<◌, ◌≤◌, Bool, true, false, ◌||◌, List, [], length, ◌==◌, if◌then◌else◌, Option, Some, None, IsSome}
+use Rattle.std.specs.Prelude.{◌≡◌, ◌≢◌, ◌⊎◌, ℕ, zero, suc, ◌+◌, ◌<◌, ◌≤◌, Bool, true, false, ◌||◌, List, [], ◌∷◌, length, ◌==◌, if◌then◌else◌, Option, Some, None, IsSome}
 use Rattle.plain_tree.specs.declared.node.Node.{Node}
 use Rattle.plain_tree.specs.declared.tree.OpenFile.{OpenFile}
 use Rattle.plain_tree.specs.declared.node.Kind.TheVariants.{Directory}
-use Rattle.plain_tree.specs.Widths.{hart_count, descriptor_count, piece_width, count_limit}
+use Rattle.plain_tree.specs.Widths.{hart_count, descriptor_count, name_width, piece_width, count_limit}
 use Rattle.plain_tree.specs.Steps.{is_file}
 use Rattle.plain_tree.specs.Tree.{Name, hold_names, is_directory, is_live, look}
 use Rattle.plain_tree.specs.HartRow.{Key, Row, row_of, key_names}
@@ -253,6 +253,17 @@ MayWait h (ReadFile fd n) w = EntryOut h w (entry_of w h fd)
 MayWait h (WriteFile fd n bytes) w = IsOut h (w.lock n)
 MayWait h op w = ⊥
 
+-- bytes, none of them zero
+abbrev pub IsText : List ℕ → Type 0
+IsText [] = Unit {0}
+IsText (b ∷ bs) = (0 < b) × (b < 256) × IsText bs
+
+-- a name that an entry can have
+pub record IsName (e : Name) : Type 0 where
+  pub some : 0 < length e
+  pub fits : length e ≤ name_width
+  pub text : IsText e
+
 -- What an operation asks. Who locks an inode refers to it, and hasn't locked it, and where its lock is free it has a record; who refers to one more has found it in
 -- a directory that it keeps; who gives a reference up, to none or to a table, has one besides its current directory's; who changes an inode has its lock and has
 -- joined; who joins, leaves, opens by a descriptor or replies has no lock; who hands a descriptor on has handed on none from there.
@@ -306,7 +317,7 @@ Asks h (Free n) w = Changes h n w
 Asks h (Claim sort) w = (w.desks h).joined ≡ true
 Asks h (Store n count) w = Changes h n w × HasRecord n w (λ v. (count ≤ count_limit) ⊎ (count ≤ v.count))
 Asks h (Fill n d) w = Changes h n w × HasRecord n w (λ v. v.kind ≡ Directory []) × IsNumber d w
-Asks h (Enter d e n) w = Changes h d w × HasRecord d w (λ v. is_directory v.kind ≡ true) × IsNumber n w
+Asks h (Enter d e n) w = Changes h d w × HasRecord d w (λ v. is_directory v.kind ≡ true) × IsNumber n w × IsName e
 Asks h (Clear d e) w = Changes h d w × HasRecord d w (λ v. IsSome (look (λ i. Some v) d e))
 Asks h (Empty n) w = Changes h n w × HasRecord n w (λ v. is_file v.kind ≡ true)
 Asks h Slot w = (w.desks h).hand ≡ None

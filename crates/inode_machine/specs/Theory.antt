@@ -1,5 +1,5 @@
 -- The calls that are shown right, as a theory: what every list of events makes of them.
-use Rattle.std.specs.Prelude.{◌≡◌, ◌≢◌, ◌⊎◌, ◌+◌, Some, ℕ, Bool, true, false, ◌&&◌, not, nat_lt, ◌==◌, List, None}
+use Rattle.std.specs.Prelude.{◌≡◌, ◌≢◌, ◌⊎◌, ◌+◌, Option, Some, ℕ, Bool, true, false, ◌&&◌, ◌||◌, not, nat_lt, ◌==◌, List, [], ◌∷◌, length, if◌then◌else◌, None}
 use Rattle.plain_tree.specs.declared.answer.Reply.{Reply}
 use Rattle.plain_tree.specs.declared.call.Call.{Call}
 use Rattle.plain_tree.specs.declared.call.Call.TheVariants.{Open, Read, Write, Link, Unlink, Mkdir, Chdir, Dup, Fstat, Close, Inherit}
@@ -17,10 +17,14 @@ use Rattle.inode_machine.specs.Exec.{is_nothing, serving}
 use Rattle.inode_machine.specs.Rules.{Inv, Idle, machine}
 use Rattle.inode_machine.specs.Programs.{program, limit}
 
--- why a start is refused: there is no such hart; it has a call, or takes part in another's; a child has descriptors; or the call is none of these
+-- why a start is refused: there is no such hart; it has a call, or takes part in another's; a path is too long, or has a zero; too much is to be read or written;
+-- a child has descriptors; or the call is none of these
 pub data Refusal : Type 0 where
   NoSuchHart : Refusal
   Busy : Refusal
+  PathTooLong : Refusal
+  ZeroInPath : Refusal
+  TooLong : Refusal
   NotEmptyHart : Refusal
   NotCovered : Refusal
 
@@ -69,8 +73,51 @@ begin_call h (Fstat fd) busy w = Begins w
 begin_call h (Close fd) busy w = Begins w
 begin_call h (Inherit child) busy w = begin_inherit h child busy w
 
+abbrev pub path_limit : ℕ
+path_limit = 127
+
+abbrev pub asked_limit : ℕ
+asked_limit = 524288
+
+abbrev pub has_zero : List ℕ → Bool
+has_zero [] = false
+has_zero (b ∷ bs) = (b == 0) || has_zero bs
+
+abbrev pub are_bytes : List ℕ → Bool
+are_bytes [] = true
+are_bytes (b ∷ bs) = nat_lt b 256 && are_bytes bs
+
+-- what is wrong with a path; one that isn't of bytes is none that a call can have
+abbrev pub path_wrong : List ℕ → Option Refusal
+path_wrong path = if nat_lt path_limit (length path) then Some PathTooLong else (if has_zero path then Some ZeroInPath else (if are_bytes path then None else Some NotCovered))
+
+abbrev pub asks_wrong : ℕ → Option Refusal
+asks_wrong n = if nat_lt asked_limit n then Some TooLong else None
+
+abbrev pub first_wrong : Option Refusal → Option Refusal → Option Refusal
+first_wrong None b = b
+first_wrong (Some why) b = Some why
+
+-- what is wrong with a call, by itself: the first cause
+abbrev pub call_wrong : Call → Option Refusal
+call_wrong (Open path flags) = path_wrong path
+call_wrong (Read fd buffer) = asks_wrong (length buffer)
+call_wrong (Write fd bytes) = asks_wrong (length bytes)
+call_wrong (Link old new) = first_wrong (path_wrong old) (path_wrong new)
+call_wrong (Unlink path) = path_wrong path
+call_wrong (Mkdir path) = path_wrong path
+call_wrong (Chdir path) = path_wrong path
+call_wrong (Dup fd) = None
+call_wrong (Fstat fd) = None
+call_wrong (Close fd) = None
+call_wrong (Inherit child) = None
+
+abbrev pub why_not : Option Refusal → Refusal
+why_not None = NotCovered
+why_not (Some why) = why
+
 abbrev pub begin_if : Bool → ℕ → Call → (ℕ → Bool) → World → Began Refusal World
-begin_if covered h call busy w = only_if (nat_lt h hart_count) NoSuchHart (only_if (is_nothing (w.desks h).lender) Busy (only_if covered NotCovered (begin_call h call busy w)))
+begin_if covered h call busy w = only_if (nat_lt h hart_count) NoSuchHart (only_if (is_nothing (w.desks h).lender) Busy (only_if covered (why_not (call_wrong call)) (begin_call h call busy w)))
 
 -- the machine with those calls alone that are of this kind
 abbrev pub calls_that : (Call → Bool) → Theory
@@ -94,9 +141,9 @@ AreExplained kind = (w : World) (events : List (Event Call Outside)) → Inv w �
 abbrev pub descriptor_calls : Theory
 descriptor_calls = calls_that on_descriptors
 
--- all eleven
+-- all eleven, where nothing is wrong with the call itself
 abbrev pub is_covered : Call → Bool
-is_covered call = true
+is_covered call = is_nothing (call_wrong call)
 
 abbrev pub covered_calls : Theory
 covered_calls = calls_that is_covered
