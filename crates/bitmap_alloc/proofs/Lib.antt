@@ -2,4 +2,4 @@ pub mod First
 mod FirstClear
 mod Takes
 mod Runs
-mod OneBit
+pub mod OneBit
