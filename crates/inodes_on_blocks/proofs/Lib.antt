@@ -23,5 +23,6 @@ pub mod Putting
 pub mod RecordPuts
 pub mod OwnerPuts
 pub mod PutLaws
+pub mod BitmapPuts
 pub mod Rooms
 pub mod StoreSteps

@@ -1,10 +1,10 @@
 -- What a recorded put makes of the buffers in a hart's own hand, of the transactions, and of what is seen.
-use Rattle.std.proofs.Common.{◌≡◌, ◌≢◌, ℕ, zero, suc, true, false, List, [], ◌∷◌, length, Option, Some, None, refl, sym, ◌∙◌, ap, subst, inl, inr}
+use Rattle.std.proofs.Common.{◌≡◌, ◌≢◌, ℕ, zero, suc, true, List, [], ◌∷◌, length, Option, Some, None, refl, sym, ◌∙◌, ap, subst, inl, inr}
 use Rattle.std.specs.Option.{option_map, option_and_then}
 use Rattle.fs_layout.specs.Bytes.{IsBytes}
 use Rattle.fs_layout.specs.Recovered.{recovered}
 use Rattle.buffer_cache.specs.Seats.{SeatState, holder_of, has_block, is_held_by, with_seat, with_content, with_pin, given_back, seat_of}
-use Rattle.group_log.specs.Group.{has, one_more, members_with, IsMember}
+use Rattle.group_log.specs.Group.{has, one_more, members_with}
 use Rattle.group_log.proofs.Seats.{seat_changed, seat_of_others}
 use Rattle.group_log.proofs.Whole.{seat_in}
 use Rattle.tree_laws.proofs.Maps.{either, same_or, eq_self, eq_not}

@@ -1,6 +1,7 @@
 -- Blocks recorded by the hart that has an inode's lock, in its transaction: what it may record, and what such a put leaves.
 use Rattle.std.specs.Prelude.{◌≡◌, ◌≢◌, ◌⊎◌, ℕ, ◌<◌, ◌≤◌, List, length, true, false, Some, IsSome}
 use Rattle.fs_layout.specs.declared.inode.Dinode.{Dinode}
+use Rattle.fs_layout.specs.Bits.{bit_of}
 use Rattle.fs_layout.specs.Bytes.{IsBytes}
 use Rattle.fs_layout.specs.Inode.{IsDinode}
 use Rattle.fs_layout.specs.Recovered.{sizes_of}
@@ -18,6 +19,7 @@ use Rattle.fs_machine.specs.Premises as premises
 use Rattle.fs_machine.specs.Shown.{seen_of}
 use Rattle.fs_machine.specs.Steps.{Put}
 use Rattle.fs_machine.specs.Whole.{After}
+use Rattle.bitmap_alloc.specs.Bytes.{with_bit, without_bit}
 use Rattle.inode_table.specs.Programs.{inode_block, with_dinode}
 use Rattle.inode_machine.specs.World as above
 use Rattle.inode_machine.specs.Rules.{if_kept}
@@ -98,3 +100,16 @@ RecordPutsLeave =
     (h n : ℕ) (d : Dinode) (r : World) (g : above.World) → Shows r g → IsChanging h n g → IsDinode d → ((c : ℕ) → r.taken c ≢ Some h)
     → CanPut h (inode_block (log_of r).sizes.inodestart n) (with_record n d r) (log_of r)
     → PutLeaves h n r (log_with h (inode_block (log_of r).sizes.inodestart n) (with_record n d r) r) (owners_with h (inode_block (log_of r).sizes.inodestart n) (with_record n d r) r)
+
+-- A block is marked where its bit is set in the bitmap as it is seen.
+abbrev pub MarksAreBits : Type 0
+MarksAreBits = (r : World) (g : above.World) → Shows r g → (c : ℕ) → is_marked (disk_of (log_of r)) c ≡ bit_of (seen_of (log_of r) (log_of r).sizes.bmapstart) c
+
+-- The bitmap with one bit set, or clear, as the programs that take and give back a block put it.
+abbrev pub BitmapsPutBits : Type 0
+BitmapsPutBits =
+    (h b : ℕ) (r : World) (g : above.World) → Shows r g → b < (log_of r).sizes.size
+    → (CanPut h (log_of r).sizes.bmapstart (with_bit b (seen_of (log_of r) (log_of r).sizes.bmapstart)) (log_of r)
+    → IsBitPut (disk_of (log_of r)) (disk_of (log_with h (log_of r).sizes.bmapstart (with_bit b (seen_of (log_of r) (log_of r).sizes.bmapstart)) r)) b true)
+    × (CanPut h (log_of r).sizes.bmapstart (without_bit b (seen_of (log_of r) (log_of r).sizes.bmapstart)) (log_of r)
+    → IsBitPut (disk_of (log_of r)) (disk_of (log_with h (log_of r).sizes.bmapstart (without_bit b (seen_of (log_of r) (log_of r).sizes.bmapstart)) r)) b false)
