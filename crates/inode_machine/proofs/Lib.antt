@@ -70,3 +70,4 @@ pub mod LinkEnters
 pub mod LinkNames
 pub mod LinkCalls
 pub mod Names
+pub mod Budgets

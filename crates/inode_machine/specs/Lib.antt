@@ -9,6 +9,7 @@ pub mod Opening
 pub mod Naming
 pub mod Moving
 pub mod Programs
+pub mod Budget
 pub mod Theory
 pub mod Histories
 pub mod Examples
