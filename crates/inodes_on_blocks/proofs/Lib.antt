@@ -26,3 +26,5 @@ pub mod PutLaws
 pub mod BitmapPuts
 pub mod Rooms
 pub mod StoreSteps
+pub mod ContentBlocks
+pub mod ContentStays

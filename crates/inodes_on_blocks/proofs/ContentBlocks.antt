@@ -1,0 +1,113 @@
+-- The blocks of the content of an inode that holds its node: where the number of each stands, and what is seen of it.
+use Rattle.std.proofs.Common.{◌≡◌, ◌≢◌, inr, ℕ, zero, suc, ◌+◌, ◌-◌, ◌*◌, ◌<◌, ◌≤◌, ◌==◌, nat_lt, Bool, true, false, List, [], ◌++◌, All, length, refl, sym, ◌∙◌, ap, subst, arith, Option, slice_index, if◌then◌else◌}
+use Rattle.std.proofs.lemmas.Bool.Decides.{nat_tests}
+use Rattle.std.proofs.lemmas.List.{get_or_append_left, get_or-append_right, get_or_past}
+use Rattle.fs_layout.specs.declared.inode.Dinode.{Dinode}
+use Rattle.fs_layout.specs.declared.superblock.Super.{Super}
+use Rattle.fs_layout.specs.Bytes.{u32s_at}
+use Rattle.fs_layout.specs.Indirect.{numbers_in}
+use Rattle.fs_layout.specs.Recovered.{IsOutsideLog, recovered, sizes_of}
+use Rattle.fs_layout.specs.Widths.{block_len}
+use Rattle.image_tree.specs.Checks.{IsData}
+use Rattle.image_tree.specs.Inodes.{inode_of, is_free, numbers_of, numbers_by, indirect_numbers, block_number, content_block}
+use Rattle.image_tree.proofs.Nodes.{numbers_by_node}
+use Rattle.image_laws.specs.Holds.{HoldsAt, IsOwned}
+use Rattle.image_laws.proofs.ImageNodes.{at_index}
+use Rattle.image_laws.proofs.SeenDisks.{good_seen}
+use Rattle.buffer_cache.specs.Seats.{seen_in}
+use Rattle.plain_tree.specs.declared.node.Node.{Node}
+use Rattle.fs_machine.specs.Shown.{seen_of}
+use Rattle.inode_machine.specs.World as above
+use Rattle.inodes_on_blocks.specs.Below.{World, log_of, disk_of, inode_in}
+use Rattle.inodes_on_blocks.specs.Shown.{Shows}
+use Rattle.inodes_on_blocks.proofs.Loading.{block_shown}
+
+u32s_long : (n : ℕ) (bytes : List ℕ) (at : ℕ) → length (u32s_at n bytes at) ≡ n
+unfolding u32s_at
+u32s_long zero bytes at = refl
+u32s_long (suc n) bytes at = ap suc (u32s_long n bytes (at + 4))
+
+-- an inode has thirteen numbers
+long : (disk : List (List ℕ)) (i : ℕ) → length (inode_of disk i).addrs ≡ 13
+unfolding inode_of
+long disk i = u32s_long 13 _ 12
+
+front : (k : ℕ) → k < 12 → nat_lt k 12 ≡ true
+front k lt = grind (arith, nat_tests)
+
+behind : (k : ℕ) → 12 ≤ k → nat_lt k 12 ≡ false
+behind k le = grind (arith, nat_tests)
+
+-- the numbers of the first blocks stand in the inode itself
+pub direct_number : (disk : List (List ℕ)) (i k : ℕ) → k < 12 → block_number (numbers_of disk (inode_of disk i)) k ≡ slice_index (inode_of disk i).addrs k
+unfolding numbers_of
+direct_number disk i k lt =
+    let thirteen = long disk i in
+    ap (λ (b : Bool). slice_index ((inode_of disk i).addrs ++ indirect_numbers disk (inode_of disk i)) (if b then k else k + 1)) (front k lt)
+    ∙ get_or_append_left (inode_of disk i).addrs (indirect_numbers disk (inode_of disk i)) 0 k (omega (arith, lt, thirteen))
+
+module _ (v : World) (g : above.World) (shows : Shows v g) where
+  abbrev disk : List (List ℕ)
+  disk = disk_of (log_of v)
+
+  -- a data block is outside the log
+  pub data_place : (b : ℕ) → IsData (sizes_of disk) b → IsOutsideLog (log_of v).sizes b × (b < (log_of v).sizes.size)
+  data_place b is =
+      let at : IsData (log_of v).sizes b = subst (λ (s : Super). IsData s b) (good_seen (log_of v).sizes (seen_in (log_of v).contents (log_of v).seats) (length (log_of v).contents) shows.blocks.seen).sizes_are is in
+      let s = shows.blocks.seen.good in
+      let log = s.log in
+      let inodes = s.inodes in
+      let past = at.0 in
+      (inr (omega (arith, log, inodes, past)), at.1)
+
+  module _ (i : ℕ) (o : Option Node) (holds : HoldsAt disk v.owner i o) (used : is_free (inode_in (log_of v) i) ≡ false) where
+    abbrev d : Dinode
+    d = inode_in (log_of v) i
+
+    -- what it names are data blocks
+    pub named_data : (p : ℕ) → slice_index (numbers_of disk d) p ≢ 0 → IsData (sizes_of disk) (slice_index (numbers_of disk d) p)
+    named_data p ne = (at_index (λ b. IsOwned disk v.owner i b) (numbers_of disk d) p (subst (λ (ns : List ℕ). All (λ b. b ≢ 0 → IsOwned disk v.owner i b) ns) (numbers_by_node disk i used) holds.blocks.owned) ne).block
+
+    pub block_data : (k : ℕ) → block_len * k < d.size → IsData (sizes_of disk) (block_number (numbers_of disk d) k)
+    block_data k below = named_data (if nat_lt k 12 then k else k + 1) ((holds.room used).there k below)
+
+    -- block k of its content, as it is seen
+    pub block_seen : (k : ℕ) → block_len * k < d.size → seen_of (log_of v) (block_number (numbers_of disk d) k) ≡ content_block disk d k
+    unfolding content_block
+    block_seen k below =
+        let place = data_place (block_number (numbers_of disk d) k) (block_data k below) in
+        sym (block_shown v g shows (block_number (numbers_of disk d) k) place.1 place.0)
+
+    -- ---- where its number stands
+
+    -- the indirect block is one of those that it names
+    pub table_data : slice_index d.addrs 12 ≢ 0 → IsData (sizes_of disk) (slice_index d.addrs 12)
+    unfolding numbers_of
+    table_data ne =
+        let thirteen = long disk i in
+        let is : slice_index (numbers_of disk d) 12 ≡ slice_index d.addrs 12 = get_or_append_left d.addrs (indirect_numbers disk d) 0 12 (omega (arith, thirteen)) in
+        subst (λ (b : ℕ). IsData (sizes_of disk) b) is (named_data 12 (λ e. ne (sym is ∙ e)))
+
+    -- of all others in the indirect block, which is there
+    pub table_number : (k : ℕ) → 12 ≤ k → block_len * k < d.size
+        → (slice_index d.addrs 12 ≢ 0) × (block_number (numbers_of disk d) k ≡ slice_index (numbers_in (seen_of (log_of v) (slice_index d.addrs 12))) (k - 12))
+    unfolding numbers_of
+    table_number k le below = by (slice_index d.addrs 12 == 0) refl
+      where
+        number_is : block_number (numbers_of disk d) k ≡ slice_index (indirect_numbers disk d) (k - 12)
+        number_is =
+            let thirteen = long disk i in
+            ap (λ (b : Bool). slice_index (d.addrs ++ indirect_numbers disk d) (if b then k else k + 1)) (behind k le)
+            ∙ get_or-append_right d.addrs (indirect_numbers disk d) (length d.addrs) (k + 1) 0 refl (omega (arith, le, thirteen))
+            ∙ ap (slice_index (indirect_numbers disk d)) (omega (arith, le, thirteen))
+
+        by : (b : Bool) → (slice_index d.addrs 12 == 0) ≡ b → (slice_index d.addrs 12 ≢ 0) × (block_number (numbers_of disk d) k ≡ slice_index (numbers_in (seen_of (log_of v) (slice_index d.addrs 12))) (k - 12))
+        by true e =
+            absurd ((holds.room used).there k below (number_is ∙ ap (λ (b : Bool). slice_index (if b then [] else numbers_in (recovered disk (slice_index d.addrs 12))) (k - 12)) e ∙ get_or_past [] (k - 12) 0 (omega arith)))
+        by false e =
+            let ne : slice_index d.addrs 12 ≢ 0 = λ z. (let q : true ≡ false = sym (ap (λ (n : ℕ). n == 0) z) ∙ e in cc) in
+            let place = data_place (slice_index d.addrs 12) (table_data ne) in (
+              ne,
+              number_is ∙ ap (λ (b : Bool). slice_index (if b then [] else numbers_in (recovered disk (slice_index d.addrs 12))) (k - 12)) e
+                  ∙ ap (λ (bytes : List ℕ). slice_index (numbers_in bytes) (k - 12)) (block_shown v g shows (slice_index d.addrs 12) place.1 place.0),
+            )

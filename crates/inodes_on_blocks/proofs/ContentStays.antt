@@ -1,0 +1,88 @@
+-- A block of a locked inode's content stays, while others step: where it is, and what is seen of it.
+use Rattle.std.proofs.Common.{◌≡◌, ◌≢◌, ℕ, ◌+◌, ◌-◌, ◌*◌, ◌<◌, ◌≤◌, nat_lt, Bool, false, List, All, refl, sym, ◌∙◌, ap, subst, Option, slice_index, get_or, if◌then◌else◌}
+use Rattle.fs_layout.specs.declared.inode.Dinode.{Dinode}
+use Rattle.fs_layout.specs.declared.superblock.Super.{Super}
+use Rattle.fs_layout.specs.Indirect.{numbers_in}
+use Rattle.fs_layout.specs.Recovered.{IsOutsideLog, recovered}
+use Rattle.fs_layout.specs.Widths.{block_len}
+use Rattle.image_tree.specs.Inodes.{is_free, numbers_of, numbers_by, block_number, content_block}
+use Rattle.image_laws.specs.Holds.{HoldsAt, IsOwned}
+use Rattle.image_tree.proofs.Nodes.{numbers_by_node}
+use Rattle.image_laws.proofs.HeldFrames.{numbers_kept, untouched}
+use Rattle.image_laws.proofs.ImageNodes.{at_index}
+use Rattle.plain_tree.specs.declared.node.Node.{Node}
+use Rattle.fs_machine.specs.Shown.{seen_of}
+use Rattle.inode_machine.specs.World as above
+use Rattle.inodes_on_blocks.specs.Below.{World, log_of, disk_of, inode_in}
+use Rattle.inodes_on_blocks.specs.Shown.{Shows}
+use Rattle.inodes_on_blocks.specs.Lowering.{KeepsInode}
+use Rattle.inodes_on_blocks.proofs.ContentBlocks.{data_place, block_data, block_seen, table_data, table_number}
+
+-- where a block is, and another one outside the log
+abbrev pub IsThere : World → ℕ → Type 0
+IsThere v b = IsOutsideLog (log_of v).sizes b × (b < (log_of v).sizes.size)
+
+-- Block k of inode d's content as it was at w, in a later world: its number stands where it stood, and its bytes are seen as they were.
+pub record BlockStays (w v : World) (d : Dinode) (k : ℕ) : Type 0 where
+  pub place : IsThere v (block_number (numbers_of (disk_of (log_of w)) d) k)
+  pub seen : seen_of (log_of v) (block_number (numbers_of (disk_of (log_of w)) d) k) ≡ content_block (disk_of (log_of w)) d k
+  pub table : 12 ≤ k → IsThere v (slice_index d.addrs 12) × (block_number (numbers_of (disk_of (log_of w)) d) k ≡ slice_index (numbers_in (seen_of (log_of v) (slice_index d.addrs 12))) (k - 12))
+
+module _ (h i : ℕ) (w v : World) (g : above.World) (shows : Shows v g) (keeps : KeepsInode h i w v) (o : Option Node) (holds : HoldsAt (disk_of (log_of w)) w.owner i o) (used : is_free (inode_in (log_of w) i) ≡ false) where
+  abbrev d : Dinode
+  d = inode_in (log_of w) i
+
+  abbrev was : List (List ℕ)
+  was = disk_of (log_of w)
+
+  abbrev now : List (List ℕ)
+  now = disk_of (log_of v)
+
+  same_inode : inode_in (log_of v) i ≡ d
+  same_inode = keeps.untouched.inode
+
+  holds_now : HoldsAt now v.owner i o
+  holds_now = untouched was now w.owner v.owner i o keeps.untouched holds
+
+  used_now : is_free (inode_in (log_of v) i) ≡ false
+  used_now = ap is_free same_inode ∙ used
+
+  same_blocks : All (λ b. b ≢ 0 → recovered now b ≡ recovered was b) (numbers_of was d)
+  same_blocks =
+      subst (λ (ns : List ℕ). All (λ b. b ≢ 0 → recovered now b ≡ recovered was b) ns) (numbers_by_node was i used)
+      (λ p z l ne. let own = holds.blocks.owned p z l ne in (keeps.untouched.blocks (get_or (numbers_by was i) p z) own.block own.owner_is).0)
+
+  same_numbers : numbers_of now d ≡ numbers_of was d
+  same_numbers = numbers_kept was now d same_blocks
+
+  -- as code finds it now
+  record Found (x : Dinode) (k : ℕ) : Type 0 where
+    place : IsThere v (block_number (numbers_of now x) k)
+    seen : seen_of (log_of v) (block_number (numbers_of now x) k) ≡ content_block now x k
+    table : 12 ≤ k → IsThere v (slice_index x.addrs 12) × (block_number (numbers_of now x) k ≡ slice_index (numbers_in (seen_of (log_of v) (slice_index x.addrs 12))) (k - 12))
+
+  found : (k : ℕ) → block_len * k < d.size → Found d k
+  found k below =
+      let small : block_len * k < (inode_in (log_of v) i).size = subst (λ (x : Dinode). block_len * k < x.size) (sym same_inode) below in
+      subst (λ (x : Dinode). Found x k) same_inode (record {
+        place = data_place v g shows (block_number (numbers_of now (inode_in (log_of v) i)) k) (block_data v g shows i o holds_now used_now k small);
+        seen = block_seen v g shows i o holds_now used_now k small;
+        table = λ le.
+            let t = table_number v g shows i o holds_now used_now k le small in
+            (data_place v g shows (slice_index (inode_in (log_of v) i).addrs 12) (table_data v g shows i o holds_now used_now t.0), t.1);
+      })
+
+  same_content : (k : ℕ) → block_number (numbers_of was d) k ≢ 0 → content_block now d k ≡ content_block was d k
+  unfolding content_block
+  same_content k ne =
+      ap (λ (ns : List ℕ). recovered now (block_number ns k)) same_numbers ∙ at_index (λ b. recovered now b ≡ recovered was b) (numbers_of was d) (if nat_lt k 12 then k else k + 1) same_blocks ne
+
+  pub block_stays : (k : ℕ) → block_len * k < d.size → BlockStays w v d k
+  block_stays k below =
+      let f = found k below in
+      let e : block_number (numbers_of now d) k ≡ block_number (numbers_of was d) k = ap (λ (ns : List ℕ). block_number ns k) same_numbers in
+      record {
+        place = subst (IsThere v) e f.place;
+        seen = ap (seen_of (log_of v)) (sym e) ∙ f.seen ∙ same_content k ((holds.room used).there k below);
+        table = λ le. let t = f.table le in (t.0, sym e ∙ t.1);
+      }
