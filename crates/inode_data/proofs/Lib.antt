@@ -1,8 +1,10 @@
 pub mod Beginnings
 mod NextRead
 pub mod Nested
+pub mod Following
 mod NextFree
 mod Truncations
 mod Freed
 mod Locations
+mod PartWritings
 mod ReadLaw

@@ -3,6 +3,7 @@ pub mod Addresses
 pub mod Records
 pub mod Programs
 pub mod Machines
+pub mod Following
 pub mod Beginnings
 pub mod Reading
 pub mod Freeing
@@ -10,4 +11,5 @@ pub mod Truncating
 pub mod Dropping
 pub mod Writing
 pub mod Locating
+pub mod PartWriting
 pub mod Laws

@@ -5,6 +5,7 @@
 
 mod addresses;
 mod begun;
+mod copies;
 mod dropping;
 mod fetch_block;
 mod freeing;
@@ -13,6 +14,7 @@ mod location;
 mod read_part;
 mod records;
 mod truncation;
+mod write_part;
 
 pub use crate::addresses::{Address, DIRECT, MOST_BLOCKS, address_of};
 pub use crate::begun::{Begun, went_on};
@@ -21,5 +23,6 @@ pub use crate::fetch_block::FetchBlock;
 pub use crate::freeing::FreeInode;
 pub use crate::location::{Locate, Located, Locating};
 pub use crate::read_part::{ReadPart, Reading};
-pub use crate::records::record;
+pub use crate::records::{record, with_record};
 pub use crate::truncation::{Clearing, Emptying, Running, Truncate};
+pub use crate::write_part::{PartWritten, WritePart, Writing};

@@ -15,6 +15,7 @@ ghost use Rattle.inode_data.specs.Reading.{filled_in, read_of, reader_of, ReadFi
 
 use crate::addresses::MOST_BLOCKS;
 use crate::begun::{Begun, went_on};
+use crate::copies::copy_into;
 use crate::fetch_block::FetchBlock;
 use crate::records::record;
 use atomic_programs::machines::Stepped;
@@ -131,7 +132,7 @@ impl ReadPart {
 }
 
 // How many blocks have bytes from one offset up to another.
-fn blocks(from: usize, upto: usize) -> usize
+pub(crate) fn blocks(from: usize, upto: usize) -> usize
     ensures { result ≡ blocks_between from upto }
 {
     if from < upto {
@@ -156,14 +157,6 @@ fn next(reading: Reading) -> Begun<ReadPart, Reading>
     reading.left -= 1;
     let fetch = FetchBlock::new(&record(&reading.inode), reading.from / BLOCK_LEN);
     Begun::Runs(ReadPart::Fetching(reading, fetch))
-}
-
-// Copies these bytes to a place.
-fn copy_into(bytes: &mut [u8], at: usize, from: &[u8])
-    requires { at + length from.now ≤ length bytes.old }
-    ensures { bytes.new ≡ overwrite bytes.old at from.now }
-{
-    bytes[at..at + from.len()].copy_from_slice(from);
 }
 
 // Copies the block's part behind what was read before.

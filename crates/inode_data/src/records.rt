@@ -1,6 +1,6 @@
 //! The record of an inode in memory.
 ghost use Rattle.std.specs.Prelude.{◌≡◌, IsSome};
-ghost use Rattle.inode_data.specs.Records.{record_in};
+ghost use Rattle.inode_data.specs.Records.{record_in, with_record};
 
 use fs_layout::Dinode;
 use fs_tables::Inode;
@@ -15,4 +15,13 @@ pub fn record(guard: &Guard<Inode>) -> Dinode
         Some(inode) => inode,
         None => unreachable!(),
     }
+}
+
+/// The guard with another record.
+pub fn with_record(guard: Guard<Inode>, inode: Dinode) -> Guard<Inode>
+    ensures { result ≡ with_record inode guard }
+{
+    let mut guard = guard;
+    guard.value_mut().content = Some(inode);
+    guard
 }

@@ -1,0 +1,116 @@
+-- The steps of a writing.
+use Rattle.std.proofs.Common.{◌≡◌, ◌≢◌, ℕ, zero, suc, ◌+◌, ◌-◌, ◌/◌, List, Some, None, length, drop, refl, ap, sym, ◌∙◌, arith}
+use Rattle.std.proofs.lemmas.List.{drop-drop}
+use Rattle.sleep_lock.specs.SleepLock.{GuardState}
+use Rattle.buffer_cache.specs.Buffers.{BufferState}
+use Rattle.fs_layout.specs.Widths.{block_len}
+use Rattle.fs_layout.specs.declared.inode.Dinode.{Dinode}
+use Rattle.atomic_programs.specs.Prog.{Did, Ran, WentOn, advance, bind, went}
+use Rattle.atomic_programs.specs.Machines.{Left}
+use Rattle.atomic_programs.specs.declared.machines.Stepped.{Stepped}
+use Rattle.atomic_programs.proofs.Prog.{bind-assoc}
+use Rattle.fs_tables.specs.declared.inodes.Inode.{Inode}
+use Rattle.fs_machine.specs.declared.fetch.Fetch.{Fetch}
+use Rattle.fs_machine.specs.declared.kind.Kind.{Kind}
+use Rattle.fs_machine.specs.declared.kind.Kind.TheVariants as kind
+use Rattle.fs_machine.specs.LogPart.{Passes}
+use Rattle.fs_machine.specs.Steps.{State, Op, Put, exec, kind_of}
+use Rattle.fs_machine.specs.Machines.{P, Moves}
+use Rattle.fs_machine.specs.Tied.{bytes_of}
+use Rattle.fs_machine.specs.Fetching.{fetch_of, block_of}
+use Rattle.inode_table.specs.Machines.{store_of}
+use Rattle.inode_table.specs.declared.store_inode.StoreInode.{StoreInode}
+use Rattle.inode_data.specs.Records.{record_in, with_record}
+use Rattle.inode_data.specs.Writing.{Written, locate, with_part, write_located, write_blocks, write_part}
+use Rattle.inode_data.specs.Programs.{blocks_between}
+use Rattle.inode_data.specs.PartWriting.{IsPast, after_fetch, after_location, blocks_behind, bytes_left, finished, give_written, in_write_fetch, in_write_store, next_count, stored, write_of, write_rest, writer_of, written_of, written_so}
+use Rattle.inode_data.specs.declared.location.Located.{Located}
+use Rattle.inode_data.specs.declared.write_part.Writing.{Writing}
+use Rattle.inode_data.specs.declared.write_part.PartWritten.{PartWritten}
+use Rattle.inode_data.specs.declared.write_part.WritePart.{WritePart}
+use Rattle.inode_data.specs.declared.write_part.WritePart.TheVariants as writing
+use Rattle.inode_data.proofs.Nested.{nested_moves, ending_moves, left_all, left_map}
+
+-- ---- the next block
+
+none_left : (n : ℕ) (w : Writing) (bytes : List ℕ) → n ≡ 0 → bind (write_blocks n w.sizes w.at (bytes_left w bytes) w.so_far) (stored w) ≡ stored w (written_so w)
+unfolding write_blocks
+none_left n w bytes e = rw e refl
+
+pub ends_there : (w : Writing) (bytes : List ℕ) → w.left ≡ 0 → write_rest w bytes ≡ stored w (written_so w)
+ends_there w bytes e = none_left w.left w bytes e
+
+located_so : (n : ℕ) (w : Writing) (bytes : List ℕ) (p : P Located) → n ≢ 0 → p ≡ locate w.sizes w.so_far (w.at / block_len)
+    → bind p (after_location (record w { left = n - 1 }) bytes) ≡ bind (write_blocks n w.sizes w.at (bytes_left w bytes) w.so_far) (stored w)
+unfolding write_blocks
+located_so zero w bytes p some e = absurd (some refl)
+located_so (suc n) w bytes p some e =
+    let less : suc n - 1 ≡ n = omega arith in
+    rw less
+    (ap (λ (q : P Located). bind q (after_location (record w { left = n }) bytes)) e
+    ∙ sym (bind-assoc (locate w.sizes w.so_far (w.at / block_len)) (write_located (blocks_behind (record w { left = n }) bytes) w.at (bytes_left w bytes)) (stored w)))
+
+pub goes_on_so : (w : Writing) (bytes : List ℕ) (p : P Located) → w.left ≢ 0 → p ≡ locate w.sizes w.so_far (w.at / block_len)
+    → bind p (after_location (record w { left = w.left - 1 }) bytes) ≡ write_rest w bytes
+goes_on_so w bytes p some e = located_so w.left w bytes p some e
+
+-- where none was to be had the inode is stored
+pub none_so : (w : Writing) (l : Located) (bytes : List ℕ) → l.number ≡ None
+    → stored (record w { so_far = l.inode }) (written_so (record w { so_far = l.inode })) ≡ after_location w bytes l
+none_so w l bytes e = rw e refl
+
+-- the whole writing
+pub whole_so : (w : Writing) (bytes : List ℕ) (count : ℕ) (d : Dinode) → w.done ≡ 0 → w.so_far ≡ d → w.left ≡ blocks_between w.at (w.at + count) → length bytes ≡ count
+    → write_rest w bytes ≡ write_part w.sizes w.inode.value.number d w.at bytes
+whole_so w bytes count d done so_far left e = rw (done, so_far, left, e) refl
+
+-- and the one behind it
+pub past_so : (w next : Writing) (bytes : List ℕ) → IsPast w bytes next → write_rest next bytes ≡ bind (blocks_behind w bytes w.so_far) (stored w)
+past_so w next bytes past =
+    let rest : drop next.done bytes ≡ drop (next_count w bytes) (bytes_left w bytes) = ap (λ n. drop n bytes) past.done ∙ sym (drop-drop (next_count w bytes) w.done bytes) in
+    rw (past.inode, past.so_far, past.sizes, past.at, past.left, rest) refl
+
+-- ---- its steps
+
+module _ (h : ℕ) (bytes : List ℕ) (old new : State) (self : WritePart) (result : Stepped WritePart PartWritten Kind) (w : Writing) where
+  abbrev Steps : Type 0
+  Steps = Moves (write_of bytes) written_of h self result old new
+
+  module _ (f : Fetch) (s : Stepped Fetch (GuardState BufferState) Kind) (is : self ≡ writing.Fetching w f) (at : result ≡ in_write_fetch w s) where
+    pub fetch_moves : Left (λ m. block_of m ≡ block_of f) (λ guard. guard.value.block ≡ block_of f) s → Moves fetch_of bytes_of h f s old new → Steps
+    unfolding write_of
+    fetch_moves same moves =
+        rw (is, at) (nested_moves fetch_of bytes_of (write_of bytes) written_of (after_fetch w bytes (block_of f)) (λ f. writing.Fetching w f) (λ guard. writing.There w guard) h f s old new
+        (left_map _ _ _ _
+        (λ m q. ap (λ (b : ℕ). bind (fetch_of m) (after_fetch w bytes b)) q)
+        (λ guard q. ap (λ (b : ℕ). after_fetch w bytes b (bytes_of guard)) q) s same) moves)
+
+  module _ (m : StoreInode) (s : Stepped StoreInode (Unit {0}) Kind) (is : self ≡ writing.Storing w m) (at : result ≡ in_write_store w s) where
+    pub store_moves : Moves store_of (λ x. x) h m s old new → Steps
+    unfolding write_of
+    store_moves moves =
+        rw (is, at) (ending_moves store_of (λ x. x) (write_of bytes) written_of (give_written w) (λ m. writing.Storing w m) (λ _. finished w) h m s old new
+        (left_all _ _ (λ m. refl) (λ r. refl) s) moves)
+
+-- the guard of the writing's beginning is that of what is left of it
+pub same_writer : (guard kept : GuardState Inode) (result : Stepped WritePart PartWritten Kind) → guard ≡ kept → Left (λ m. writer_of m ≡ guard) (λ _. ⊥) result
+    → Left (λ m. writer_of m ≡ kept) (λ r. r.inode ≡ with_record (record_in r.inode) kept) result
+same_writer guard kept result e = left_map (λ m. writer_of m ≡ guard) (λ _. ⊥) (λ m. writer_of m ≡ kept) (λ r. r.inode ≡ with_record (record_in r.inode) kept) (λ m q. q ∙ e) (λ r f. absurd f) result
+
+-- its part of the bytes that are left
+pub rest_ran : (h : ℕ) (old new : State) (guard : GuardState BufferState) (w : Writing) (bytes rest : List ℕ) → rest ≡ drop w.done bytes
+    → exec h Passes (Put guard.value.block (Some (with_part w.at rest (bytes_of guard)))) old ≡ Ran tt new
+    → exec h Passes (Put guard.value.block (Some (with_part w.at (bytes_left w bytes) (bytes_of guard)))) old ≡ Ran tt new
+rest_ran h old new guard w bytes rest e ran = rw (← e) ran
+
+-- the next block was recorded
+pub there_moves : (h : ℕ) (bytes : List ℕ) (old new : State) (self next : WritePart) (w past : Writing) (guard : GuardState BufferState) → self ≡ writing.There w guard
+    → exec h Passes (Put guard.value.block (Some (with_part w.at (bytes_left w bytes) (bytes_of guard)))) old ≡ Ran tt new → IsPast w bytes past → write_of bytes next ≡ write_rest past bytes
+    → advance kind_of (exec h Passes) (write_of bytes self) old ≡ WentOn kind.Put (write_of bytes next) new
+unfolding write_of
+there_moves h bytes old new self next w past guard is ran ready program =
+    let op : Op = Put guard.value.block (Some (with_part w.at (bytes_left w bytes) (bytes_of guard))) in
+    let rest : P Written = bind (blocks_behind w bytes w.so_far) (stored w) in
+    ap (λ (m : WritePart). advance kind_of (exec h Passes) (write_of bytes m) old) is
+    ∙ ap (λ (d : Did (Unit {0}) State). went op (λ _. kind.Put) (λ _. rest) d) ran
+    ∙ ap (λ (p : P Written). WentOn kind.Put p new) (sym (program ∙ past_so w past bytes ready))

@@ -1,0 +1,114 @@
+-- The programs that are left of a writing.
+use Rattle.std.specs.Prelude.{◌≡◌, ℕ, ◌+◌, ◌*◌, ◌/◌, ◌^◌, ◌<◌, ◌≤◌, List, length, drop}
+use Rattle.sleep_lock.specs.SleepLock.{GuardState}
+use Rattle.buffer_cache.specs.Buffers.{BufferState}
+use Rattle.fs_layout.specs.Widths.{bits_per_block, block_len}
+use Rattle.fs_layout.specs.declared.inode.Dinode.{Dinode}
+use Rattle.atomic_programs.specs.Prog.{Ret, bind}
+use Rattle.atomic_programs.specs.declared.machines.Stepped.{Stepped}
+use Rattle.fs_tables.specs.declared.inodes.Inode.{Inode}
+use Rattle.fs_machine.specs.declared.fetch.Fetch.{Fetch}
+use Rattle.fs_machine.specs.declared.kind.Kind.{Kind}
+use Rattle.fs_machine.specs.Steps.{State}
+use Rattle.fs_machine.specs.Machines.{P, within}
+use Rattle.fs_machine.specs.Tied.{bytes_of}
+use Rattle.fs_machine.specs.Fetching.{fetch_of, block_of, FetchFits, IsFetched}
+use Rattle.inode_table.specs.Programs.{inode_block}
+use Rattle.inode_table.specs.Machines.{store_of, StoreFits}
+use Rattle.inode_table.specs.declared.store_inode.StoreInode.{StoreInode}
+use Rattle.inode_data.specs.Widths.{most_blocks}
+use Rattle.inode_data.specs.Records.{record_in, with_record}
+use Rattle.inode_data.specs.Machines.{ends_within}
+use Rattle.inode_data.specs.Writing.{Written, front_of, put_part, write_located, write_blocks, grown, store_written}
+use Rattle.inode_data.specs.Locating.{locate_of, LocateFits}
+use Rattle.inode_data.specs.declared.location.Located.{Located}
+use Rattle.inode_data.specs.declared.write_part.Writing.{Writing}
+use Rattle.inode_data.specs.declared.write_part.PartWritten.{PartWritten}
+use Rattle.inode_data.specs.declared.write_part.WritePart.{WritePart}
+use Rattle.inode_data.specs.declared.write_part.WritePart.TheVariants as writing
+
+-- the bytes that are left, and how many of them go into the next block
+abbrev pub bytes_left : Writing → List ℕ → List ℕ
+bytes_left w bytes = drop w.done bytes
+
+abbrev pub next_count : Writing → List ℕ → ℕ
+next_count w bytes = length (front_of w.at (bytes_left w bytes))
+
+-- what was written so far
+abbrev pub written_so : Writing → Written
+written_so w = record { inode = w.so_far; upto = w.at }
+
+-- the blocks behind the next one, where the inode is so
+abbrev pub blocks_behind : Writing → List ℕ → Dinode → P Written
+blocks_behind w bytes d = write_blocks w.left w.sizes (w.at + next_count w bytes) (drop (next_count w bytes) (bytes_left w bytes)) d
+
+-- the inode is stored after these
+abbrev pub stored : Writing → Written → P Written
+stored w written = store_written w.sizes w.inode.value.number written
+
+-- all that is left, where so many blocks are
+abbrev pub write_rest : Writing → List ℕ → P Written
+write_rest w bytes = bind (write_blocks w.left w.sizes w.at (bytes_left w bytes) w.so_far) (stored w)
+
+-- the next block was sought
+abbrev pub after_location : Writing → List ℕ → Located → P Written
+after_location w bytes l = bind (write_located (blocks_behind w bytes) w.at (bytes_left w bytes) l) (stored w)
+
+-- its buffer is there
+abbrev pub after_fetch : Writing → List ℕ → ℕ → List ℕ → P Written
+after_fetch w bytes b block = bind (put_part (blocks_behind w bytes w.so_far) b w.at (bytes_left w bytes) block) (stored w)
+
+abbrev pub give_written : Writing → Unit {0} → P Written
+give_written w _ = Ret (record { inode = grown (written_so w); upto = w.at })
+
+unfoldable pub write_of : List ℕ → WritePart → P Written
+write_of bytes (writing.Locating w m) = bind (locate_of m) (after_location w bytes)
+write_of bytes (writing.Fetching w f) = bind (fetch_of f) (after_fetch w bytes (block_of f))
+write_of bytes (writing.There w guard) = after_fetch w bytes guard.value.block (bytes_of guard)
+write_of bytes (writing.Storing w m) = bind (store_of m) (give_written w)
+
+-- what the result stands for
+abbrev pub written_of : PartWritten → Written
+written_of r = record { inode = record_in r.inode; upto = r.upto }
+
+-- a writing that has so many blocks before it, the next one too: each is one of a content, on a disk whose blocks have bits
+pub record IsWriting (count : ℕ) (w : Writing) : Type 0 where
+  pub within : w.at / block_len + count ≤ most_blocks
+  pub size : w.sizes.size ≤ bits_per_block
+  pub block : inode_block w.sizes.inodestart w.inode.value.number < 2 ^ 32
+
+-- its guards go with the state
+unfoldable pub WriteFits : ℕ → List ℕ → State → WritePart → Type 0
+WriteFits hart bytes s (writing.Locating w m) = IsWriting (w.left + 1) w × (w.done ≤ length bytes) × LocateFits hart s m
+WriteFits hart bytes s (writing.Fetching w f) = IsWriting (w.left + 1) w × (w.done ≤ length bytes) × FetchFits hart s f
+WriteFits hart bytes s (writing.There w guard) = IsWriting (w.left + 1) w × (w.done ≤ length bytes) × IsFetched hart guard.value.block guard s
+WriteFits hart bytes s (writing.Storing w m) = IsWriting 0 w × StoreFits hart s m
+
+-- the next block was written
+pub record IsPast (w : Writing) (bytes : List ℕ) (next : Writing) : Type 0 where
+  pub inode : next.inode ≡ w.inode
+  pub so_far : next.so_far ≡ w.so_far
+  pub sizes : next.sizes ≡ w.sizes
+  pub at : next.at ≡ w.at + next_count w bytes
+  pub done : next.done ≡ w.done + next_count w bytes
+  pub left : next.left ≡ w.left
+  pub ready : IsWriting w.left next
+  pub there : next.done ≤ length bytes
+
+-- the inode's guard
+abbrev pub writer_of : WritePart → GuardState Inode
+writer_of (writing.Locating w m) = w.inode
+writer_of (writing.Fetching w f) = w.inode
+writer_of (writing.There w guard) = w.inode
+writer_of (writing.Storing w m) = w.inode
+
+-- the writing's end
+abbrev pub finished : Writing → PartWritten
+finished w = record { inode = with_record (grown (written_so w)) w.inode; upto = w.at }
+
+-- a nested machine's step, as one of the writing
+abbrev pub in_write_fetch : Writing → Stepped Fetch (GuardState BufferState) Kind → Stepped WritePart PartWritten Kind
+in_write_fetch w s = within (λ f. writing.Fetching w f) (λ guard. writing.There w guard) s
+
+abbrev pub in_write_store : Writing → Stepped StoreInode (Unit {0}) Kind → Stepped WritePart PartWritten Kind
+in_write_store w s = ends_within (λ m. writing.Storing w m) (λ _. finished w) s

@@ -1,0 +1,358 @@
+//! Bytes of a content written.
+ghost use Rattle.std.specs.Prelude.{◌≡◌, ◌+◌, ◌/◌, ◌<◌, ◌≤◌, ◌^◌, ℕ, List, drop, length, Some, IsSome};
+ghost use Rattle.fs_layout.specs.Widths.{bits_per_block};
+ghost use Rattle.atomic_programs.specs.Prog.{Ran as ItRan, bind};
+ghost use Rattle.atomic_programs.specs.Machines.{Still, Left as LeftOf};
+ghost use Rattle.fs_machine.specs.LogPart.{Outside};
+ghost use Rattle.fs_machine.specs.Steps.{State, state_of, exec, Put};
+ghost use Rattle.fs_machine.specs.Premises.{May};
+ghost use Rattle.fs_machine.specs.Machines.{MayNext, Moves, Answers, CallsOnce};
+ghost use Rattle.fs_machine.specs.Tied.{LeavesTied, bytes_of};
+ghost use Rattle.fs_machine.specs.Fetching.{IsFetched};
+ghost use Rattle.inode_table.specs.Programs.{inode_block};
+ghost use Rattle.inode_data.specs.Widths.{most_bytes};
+ghost use Rattle.inode_data.specs.Records.{record_in, with_record};
+ghost use Rattle.inode_data.specs.Following.{Follows};
+ghost use Rattle.inode_data.specs.Locating.{locate_of, LocateFits};
+ghost use Rattle.inode_data.specs.Writing.{grown, with_part, write_part};
+ghost use Rattle.inode_data.specs.PartWriting.{IsWriting, IsPast, WriteFits, after_fetch, after_location, bytes_left, finished, in_write_fetch, in_write_store, stored, write_of, write_rest, writer_of, written_of, written_so};
+
+use crate::begun::Begun;
+use crate::copies::copy_into;
+use crate::location::{Locate, Located};
+use crate::read_part::blocks;
+use crate::records::{record, with_record};
+use atomic_programs::machines::Stepped;
+use block_device::Device;
+use buffer_cache::Buffer;
+use fs_layout::widths::BLOCK_LEN;
+use fs_layout::{Dinode, Super};
+use fs_machine::{Core, Fetch, Kind, RetiredCore};
+use fs_tables::Inode;
+use group_log::Txn;
+use inode_table::StoreInode;
+use sleep_lock::Guard;
+
+/// What a writing has in hand: the inode, whose lock its hart has, and how far it is.
+pub struct Writing {
+    pub inode: Guard<Inode>,
+    /// The inode's record so far, with the blocks that were taken.
+    pub so_far: Dinode,
+    /// The superblock of its disk.
+    pub sizes: Super,
+    /// At this offset of the content it goes on.
+    pub at: usize,
+    /// So many of the bytes were written.
+    pub done: usize,
+    /// So many blocks are to be written after the next one.
+    pub left: usize,
+}
+
+/// What a writing ends with: the inode, and up to which offset of its content the bytes were written. That is their end, or where a
+/// block is missing and none was free.
+pub struct PartWritten {
+    pub inode: Guard<Inode>,
+    pub upto: usize,
+}
+
+/// Writes bytes into a content, block by block, and then stores the inode. A block that is missing is taken; where none is free the
+/// bytes before it alone are written. The bytes are told with each step.
+pub enum WritePart {
+    /// The next block is sought, and taken where it is missing.
+    Locating(Writing, Locate),
+    /// It is fetched.
+    Fetching(Writing, Fetch),
+    /// It is there.
+    There(Writing, Guard<Buffer>),
+    /// The inode is stored.
+    Storing(Writing, StoreInode),
+}
+
+impl Writing {
+    // Ends it in mid-call.
+    fn retire(self, retired: &RetiredCore) {
+        let Writing {
+            inode,
+            so_far: _,
+            sizes: _,
+            at: _,
+            done: _,
+            left: _,
+        } = self;
+        inode.retire_in_row(&retired.inodes);
+    }
+}
+
+impl WritePart {
+    /// So many bytes from an offset on, into the content of the inode of this guard, on a disk with this superblock.
+    pub fn begin(inode: Guard<Inode>, sizes: &Super, offset: u32, count: usize) -> WritePart
+        requires loaded { IsSome inode.value.content }
+        requires within { offset + count ≤ most_bytes }
+        requires size { sizes.now.size ≤ bits_per_block }
+        requires block { inode_block sizes.now.inodestart inode.value.number < 2 ^ 32 }
+        ensures program { (bytes : List ℕ) → length bytes ≡ count → write_of bytes result ≡ write_part sizes.now inode.value.number (record_in inode) offset bytes }
+        ensures inode { writer_of result ≡ inode }
+        ensures fits { (hart : ℕ) (bytes : List ℕ) (s : State) → WriteFits hart bytes s result }
+    {
+        let so_far = record(&inode);
+        let at = offset as usize;
+        next(Writing {
+            inode,
+            so_far,
+            sizes: *sizes,
+            at,
+            done: 0,
+            left: blocks(at, at + count),
+        })
+    }
+
+    /// One operation.
+    #[tactic(auto, unfolding(crate::specs::PartWriting::write_of, crate::specs::PartWriting::WriteFits, fs_machine::specs::Premises::Honest))]
+    pub fn step<D: Device>(
+        self,
+        hart: u8,
+        txn: &mut Txn,
+        bytes: &[u8],
+        core: &mut Core<D>,
+    ) -> Stepped<WritePart, PartWritten, Kind>
+        requires txn { txn.old ≡ hart }
+        requires may { MayNext hart (write_of bytes.now self) (state_of D.contents D.failures core.old) }
+        requires fits { WriteFits hart bytes.now (state_of D.contents D.failures core.old) self }
+        ensures moves { Moves (write_of bytes.now) written_of hart self result (state_of D.contents D.failures core.old) (state_of D.contents D.failures core.new) }
+        ensures honest { Answers (write_of bytes.now) hart self result (state_of D.contents D.failures core.old) (state_of D.contents D.failures core.new) }
+        ensures still { Still (write_of bytes.now) result self core.old core.new }
+        ensures kept { txn.new ≡ txn.old }
+        ensures inode { LeftOf (λ m. writer_of m ≡ writer_of self) (λ r. r.inode ≡ with_record (record_in r.inode) (writer_of self)) result }
+        ensures fits { LeftOf (WriteFits hart bytes.now (state_of D.contents D.failures core.new)) (λ _. Unit {0}) result }
+        ensures others { LeavesTied hart (state_of D.contents D.failures core.old) (state_of D.contents D.failures core.new) }
+        ensures called { CallsOnce D.Called core.old.log.cache.device core.new.log.cache.device }
+        ensures tables { core.new.tables ≡ core.old.tables }
+    {
+        match self {
+            WritePart::Locating(writing, locate) => {
+                locating(writing, locate.step(hart, txn, core))
+            }
+            WritePart::Fetching(writing, fetch) => fetching(writing, fetch.step(hart, core)),
+            WritePart::There(writing, guard) => {
+                put(
+                    writing.at,
+                    rest(bytes, writing.done),
+                    guard,
+                    hart,
+                    txn,
+                    core,
+                );
+                Stepped::Ran(next(past(writing, bytes.len())), Kind::Put)
+            }
+            WritePart::Storing(writing, store) => storing(writing, store.step(hart, txn, core)),
+        }
+    }
+
+    /// Ends it in mid-call, after all that harts share has ended.
+    pub fn retire(self, retired: &RetiredCore) {
+        match self {
+            WritePart::Locating(writing, locate) => {
+                writing.retire(retired);
+                locate.retire(retired);
+            }
+            WritePart::Fetching(writing, fetch) => {
+                writing.retire(retired);
+                fetch.retire(retired);
+            }
+            WritePart::There(writing, guard) => {
+                writing.retire(retired);
+                guard.retire_in_row(&retired.buffers);
+            }
+            WritePart::Storing(writing, store) => {
+                writing.retire(retired);
+                store.retire(retired);
+            }
+        }
+    }
+}
+
+// Goes on with the next block, or with the store.
+#[tactic(auto, unfolding(crate::specs::PartWriting::write_of, crate::specs::PartWriting::WriteFits))]
+fn next(writing: Writing) -> WritePart
+    requires { IsWriting writing.left writing }
+    ensures program { (bytes : List ℕ) → write_of bytes result ≡ write_rest writing bytes }
+    ensures inode { writer_of result ≡ writing.inode }
+    ensures fits { (hart : ℕ) (bytes : List ℕ) (s : State) → writing.done ≤ length bytes → WriteFits hart bytes s result }
+{
+    if writing.left == 0 {
+        return store(writing);
+    }
+    let mut writing = writing;
+    writing.left -= 1;
+    match Locate::begin(&writing.so_far, &writing.sizes, writing.at / BLOCK_LEN) {
+        Begun::Runs(locate) => WritePart::Locating(writing, locate),
+        Begun::Is(located) => found(writing, located),
+    }
+}
+
+// Goes on where the next block was sought.
+#[tactic(auto, unfolding(crate::specs::PartWriting::write_of, crate::specs::PartWriting::WriteFits, fs_machine::specs::Fetching::fetch_of, fs_machine::specs::Fetching::FetchFits))]
+fn found(writing: Writing, located: Located) -> WritePart
+    requires { IsWriting (writing.left + 1) writing }
+    ensures program { (bytes : List ℕ) → write_of bytes result ≡ after_location writing bytes located }
+    ensures inode { writer_of result ≡ writing.inode }
+    ensures fits { (hart : ℕ) (bytes : List ℕ) (s : State) → writing.done ≤ length bytes → WriteFits hart bytes s result }
+{
+    let mut writing = writing;
+    writing.so_far = located.inode;
+    match located.number {
+        None => store(writing),
+        Some(b) => WritePart::Fetching(writing, Fetch::Get(b)),
+    }
+}
+
+// The record as it is to be stored.
+fn grown(writing: &Writing) -> Dinode
+    requires { IsWriting 0 writing.now }
+    ensures { result ≡ grown (written_so writing.now) }
+{
+    Dinode {
+        size: writing.so_far.size.max(writing.at as u32),
+        ..writing.so_far
+    }
+}
+
+// The inode is stored.
+#[tactic(auto, unfolding(crate::specs::PartWriting::write_of, crate::specs::PartWriting::WriteFits))]
+fn store(writing: Writing) -> WritePart
+    requires { IsWriting 0 writing }
+    ensures program { (bytes : List ℕ) → write_of bytes result ≡ stored writing (written_so writing) }
+    ensures inode { writer_of result ≡ writing.inode }
+    ensures fits { (hart : ℕ) (bytes : List ℕ) (s : State) → WriteFits hart bytes s result }
+{
+    let number = writing.inode.value().number;
+    let store = StoreInode::new(writing.sizes.inodestart, number, grown(&writing));
+    WritePart::Storing(writing, store)
+}
+
+// The writing after the next block was written, of so many bytes in all.
+fn past(writing: Writing, count: usize) -> Writing
+    requires ready { IsWriting (writing.left + 1) writing }
+    requires there { writing.done ≤ count }
+    ensures { (bytes : List ℕ) → length bytes ≡ count → IsPast writing bytes result }
+{
+    let mut writing = writing;
+    let part = (BLOCK_LEN - writing.at % BLOCK_LEN).min(count - writing.done);
+    writing.at += part;
+    writing.done += part;
+    writing
+}
+
+// A step while the next block is sought.
+#[tactic(auto, unfolding(crate::specs::PartWriting::write_of, crate::specs::PartWriting::WriteFits))]
+fn locating(
+    writing: Writing,
+    stepped: Stepped<Locate, Located, Kind>,
+) -> Stepped<WritePart, PartWritten, Kind>
+    requires { IsWriting (writing.left + 1) writing }
+    ensures follows { (bytes : List ℕ) → Follows locate_of (λ l. l) (write_of bytes) written_of (after_location writing bytes) stepped result }
+    ensures inode { LeftOf (λ m. writer_of m ≡ writing.inode) (λ _. ⊥) result }
+    ensures fits { (hart : ℕ) (bytes : List ℕ) (s : State) → writing.done ≤ length bytes → LeftOf (LocateFits hart s) (λ _. Unit {0}) stepped → LeftOf (WriteFits hart bytes s) (λ _. Unit {0}) result }
+{
+    match stepped {
+        Stepped::Waits(locate) => Stepped::Waits(WritePart::Locating(writing, locate)),
+        Stepped::Ran(locate, kind) => Stepped::Ran(WritePart::Locating(writing, locate), kind),
+        Stepped::Done(located, kind) => Stepped::Ran(found(writing, located), kind),
+        Stepped::Stopped(locate) => Stepped::Stopped(WritePart::Locating(writing, locate)),
+    }
+}
+
+// A step while the next block is fetched.
+fn fetching(
+    writing: Writing,
+    stepped: Stepped<Fetch, Guard<Buffer>, Kind>,
+) -> Stepped<WritePart, PartWritten, Kind>
+    ensures { result ≡ in_write_fetch writing stepped }
+{
+    match stepped {
+        Stepped::Waits(fetch) => Stepped::Waits(WritePart::Fetching(writing, fetch)),
+        Stepped::Ran(fetch, kind) => Stepped::Ran(WritePart::Fetching(writing, fetch), kind),
+        Stepped::Done(guard, kind) => Stepped::Ran(WritePart::There(writing, guard), kind),
+        Stepped::Stopped(fetch) => Stepped::Stopped(WritePart::Fetching(writing, fetch)),
+    }
+}
+
+// A step while the inode is stored.
+fn storing(
+    writing: Writing,
+    stepped: Stepped<StoreInode, (), Kind>,
+) -> Stepped<WritePart, PartWritten, Kind>
+    requires { IsWriting 0 writing }
+    ensures { result ≡ in_write_store writing stepped }
+{
+    match stepped {
+        Stepped::Waits(store) => Stepped::Waits(WritePart::Storing(writing, store)),
+        Stepped::Ran(store, kind) => Stepped::Ran(WritePart::Storing(writing, store), kind),
+        Stepped::Done((), kind) => Stepped::Done(finished(writing), kind),
+        Stepped::Stopped(store) => Stepped::Stopped(WritePart::Storing(writing, store)),
+    }
+}
+
+// The inode was stored.
+fn finished(writing: Writing) -> PartWritten
+    requires { IsWriting 0 writing }
+    ensures { result ≡ finished writing }
+{
+    let inode = grown(&writing);
+    let Writing {
+        inode: guard,
+        so_far: _,
+        sizes: _,
+        at,
+        done: _,
+        left: _,
+    } = writing;
+    PartWritten {
+        inode: with_record(guard, inode),
+        upto: at,
+    }
+}
+
+// The bytes behind so many.
+fn rest(bytes: &[u8], done: usize) -> &[u8]
+    requires { done ≤ length bytes.now }
+    ensures { result.now ≡ drop done bytes.now }
+{
+    &bytes[done..]
+}
+
+// Writes these bytes into the block of this offset, as many as are its own, and gives that back.
+fn put<D: Device>(
+    at: usize,
+    bytes: &[u8],
+    guard: Guard<Buffer>,
+    hart: u8,
+    txn: &mut Txn,
+    core: &mut Core<D>,
+)
+    requires txn { txn.old ≡ hart }
+    requires fetched { IsFetched hart guard.value.block guard (state_of D.contents D.failures core.old) }
+    requires may { May hart (Put guard.value.block (Some (with_part at bytes.now (bytes_of guard)))) (state_of D.contents D.failures core.old) }
+    ensures ran { (x : Outside) → exec hart x (Put guard.value.block (Some (with_part at bytes.now (bytes_of guard)))) (state_of D.contents D.failures core.old)
+        ≡ ItRan tt (state_of D.contents D.failures core.new) }
+    ensures kept { txn.new ≡ txn.old }
+    ensures others { LeavesTied hart (state_of D.contents D.failures core.old) (state_of D.contents D.failures core.new) }
+    ensures device { core.new.log.cache.device ≡ core.old.log.cache.device }
+    ensures tables { core.new.tables ≡ core.old.tables }
+{
+    let mut guard = guard;
+    write_in(&mut guard, at, bytes);
+    core.put_changed(hart, txn, guard);
+}
+
+// Writes these bytes into the buffer of the block of this offset, as many as are its own.
+fn write_in(guard: &mut Guard<Buffer>, at: usize, bytes: &[u8])
+    requires valid { IsSome guard.old.value.content }
+    ensures { guard.new ≡ record guard.old {
+      value = record { block = guard.old.value.block; content = Some (with_part at bytes.now (bytes_of guard.old)) };
+    } }
+{
+    let start = at % BLOCK_LEN;
+    let count = bytes.len().min(BLOCK_LEN - start);
+    copy_into(guard.value_mut().bytes_mut(), start, &bytes[..count]);
+}
