@@ -6,3 +6,5 @@ mod Used
 mod EntryNumbers
 pub mod Searches
 mod Puts
+mod Entrances
+mod Spelled

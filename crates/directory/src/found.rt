@@ -37,7 +37,7 @@ pub enum Sought<'a> {
 }
 
 // How many slots a directory has.
-fn slot_count(inode: &Dinode) -> usize
+pub(crate) fn slot_count(inode: &Dinode) -> usize
     ensures { result ≡ slot_count inode.now }
 {
     MOST_SLOTS.min(inode.size as usize / DIRENT_LEN)

@@ -4,12 +4,14 @@
 //! where they stand, in the buffer.
 #![tactic(auto)]
 
+mod enter;
 mod found;
 pub mod laws;
 mod put_entry;
 mod search;
 mod slots;
 
+pub use crate::enter::{Enter, Entered, Entering, Room};
 pub use crate::found::{Found, MOST_SLOTS, Sought};
 pub use crate::put_entry::{Change, PutEntry, Putting};
 pub use crate::search::{Search, Searched, Searching, is_directory, is_live_directory};

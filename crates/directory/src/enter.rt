@@ -1,0 +1,222 @@
+//! A name entered.
+ghost use Rattle.std.specs.Prelude.{◌≡◌, ◌<◌, ◌≤◌, ◌^◌, ℕ, IsSome, IsTrue};
+ghost use Rattle.fs_layout.specs.declared.entry.Dirent.TheVariants.{Used};
+ghost use Rattle.fs_layout.specs.Entry.{IsDirent, spell_dirent};
+ghost use Rattle.fs_layout.specs.Widths.{bits_per_block};
+ghost use Rattle.atomic_programs.specs.Machines.{Still, Left as LeftOf};
+ghost use Rattle.fs_tables.specs.declared.inodes.Inode.{Inode as InodeState};
+ghost use Rattle.sleep_lock.specs.SleepLock.{GuardState};
+ghost use Rattle.fs_machine.specs.Steps.{State, state_of};
+ghost use Rattle.fs_machine.specs.Machines.{MayNext, Moves, Answers, CallsOnce};
+ghost use Rattle.fs_machine.specs.Tied.{LeavesTied};
+ghost use Rattle.inode_table.specs.Programs.{inode_block};
+ghost use Rattle.inode_data.specs.Beginnings.{begun_of, IfBegun};
+ghost use Rattle.inode_data.specs.Following.{Follows};
+ghost use Rattle.inode_data.specs.PartWriting.{writer_of};
+ghost use Rattle.inode_data.specs.Records.{record_in, with_record};
+ghost use Rattle.directory.specs.Programs.{Unused, is_live_directory, most_slots};
+ghost use Rattle.directory.specs.Machines.{found_of, inode_of, search_of, SearchFits};
+ghost use Rattle.directory.specs.Entering.{enter, enter_at, enter_of, entered_of, enterer_of, in_entering, slot_for, slot_written, EnterFits, IsEntering};
+
+use crate::found::{Found, MOST_SLOTS, Sought, slot_count};
+use crate::search::{Search, Searched};
+use atomic_programs::machines::Stepped;
+use block_device::Device;
+use byteorder::{ByteOrder, LittleEndian};
+use fs_layout::widths::{DIRENT_LEN, DIRENT_NAME_AT};
+use fs_layout::{Dinode, Super};
+use fs_machine::{Core, Kind};
+use fs_tables::Inode;
+use group_log::Txn;
+use inode_data::{Begun, PartWritten, WritePart, record, went_on};
+use sleep_lock::Guard;
+
+/// What an entering has in hand: the bytes of the entry, and where its disk's parts lie.
+#[derive(Drop, Clone, Copy)]
+pub struct Entering {
+    pub entry: [u8; DIRENT_LEN],
+    /// The superblock of the directory's disk.
+    pub sizes: Super,
+}
+
+/// Whether there was room for a name.
+#[derive(Clone, Copy, PartialEq, Eq, Debug)]
+pub enum Room {
+    /// There was: it is entered.
+    There,
+    /// No block was free for a new last slot.
+    NoBlock,
+    /// The directory has all the slots that it may have.
+    NoSlot,
+}
+
+/// What an entering ends with.
+pub struct Entered {
+    pub inode: Guard<Inode>,
+    pub room: Room,
+}
+
+/// Enters a name into a directory: into its first free slot, or else into a new last one. The inode is stored also where no block was
+/// free for that.
+pub enum Enter {
+    /// A free slot is sought.
+    Searching(Entering, Search),
+    /// This slot is written.
+    Writing(Entering, usize, WritePart),
+}
+
+impl Enter {
+    /// Inode `number` by this name, into the directory of this guard, on a disk with this superblock. The directory has a link: into
+    /// one without links nothing is entered.
+    #[tactic(auto, unfolding(crate::specs::Entering::enter_of, crate::specs::Entering::EnterFits))]
+    pub fn begin(
+        inode: Guard<Inode>,
+        sizes: &Super,
+        number: u16,
+        name: &[u8],
+    ) -> Begun<Enter, Entered>
+        requires loaded { IsSome inode.value.content }
+        requires live { IsTrue (is_live_directory (record_in inode)) }
+        requires size { sizes.now.size ≤ bits_per_block }
+        requires block { inode_block sizes.now.inodestart inode.value.number < 2 ^ 32 }
+        requires entry { IsDirent (Used number name.now) }
+        ensures program { begun_of enter_of entered_of result ≡ enter sizes.now inode.value.number (record_in inode) number name.now }
+        ensures inode { IfBegun (λ m. enterer_of m ≡ inode) (λ r. r.inode ≡ inode) result }
+        ensures fits { (hart : ℕ) (s : State) → IfBegun (EnterFits hart s) (λ _. Unit {0}) result }
+    {
+        let entering = Entering {
+            entry: entry_bytes(number, name),
+            sizes: *sizes,
+        };
+        match Search::begin(inode) {
+            Begun::Runs(search) => Begun::Runs(Enter::Searching(entering, search)),
+            Begun::Is(searched) => place(entering, searched),
+        }
+    }
+
+    /// One operation.
+    #[tactic(auto, unfolding(crate::specs::Entering::enter_of, crate::specs::Entering::EnterFits))]
+    pub fn step<D: Device>(
+        self,
+        hart: u8,
+        txn: &mut Txn,
+        core: &mut Core<D>,
+    ) -> Stepped<Enter, Entered, Kind>
+        requires txn { txn.old ≡ hart }
+        requires may { MayNext hart (enter_of self) (state_of D.contents D.failures core.old) }
+        requires fits { EnterFits hart (state_of D.contents D.failures core.old) self }
+        ensures moves { Moves enter_of entered_of hart self result (state_of D.contents D.failures core.old) (state_of D.contents D.failures core.new) }
+        ensures honest { Answers enter_of hart self result (state_of D.contents D.failures core.old) (state_of D.contents D.failures core.new) }
+        ensures still { Still enter_of result self core.old core.new }
+        ensures kept { txn.new ≡ txn.old }
+        ensures inode { LeftOf (λ m. enterer_of m ≡ enterer_of self) (λ r. r.inode ≡ with_record (record_in r.inode) (enterer_of self)) result }
+        ensures fits { LeftOf (EnterFits hart (state_of D.contents D.failures core.new)) (λ _. Unit {0}) result }
+        ensures others { LeavesTied hart (state_of D.contents D.failures core.old) (state_of D.contents D.failures core.new) }
+        ensures called { CallsOnce D.Called core.old.log.cache.device core.new.log.cache.device }
+        ensures tables { core.new.tables ≡ core.old.tables }
+    {
+        match self {
+            Enter::Searching(entering, search) => {
+                searching(entering, search.step(hart, Sought::Free, core))
+            }
+            Enter::Writing(entering, slot, part) => {
+                let stepped = part.step(hart, txn, &entering.entry, core);
+                writing(entering, slot, stepped)
+            }
+        }
+    }
+}
+
+// The bytes of an entry.
+fn entry_bytes(number: u16, name: &[u8]) -> [u8; DIRENT_LEN]
+    requires { IsDirent (Used number name.now) }
+    ensures { result ≡ spell_dirent (Used number name.now) }
+{
+    let mut entry = [0; DIRENT_LEN];
+    LittleEndian::write_u16(&mut entry, number);
+    entry[DIRENT_NAME_AT..DIRENT_NAME_AT + name.len()].copy_from_slice(name);
+    entry
+}
+
+// The slot of a new name: the free one that was found, or a new last one.
+fn slot_for(inode: &Dinode, found: Option<Found>) -> usize
+    ensures { result ≡ slot_for inode.now found }
+{
+    match found {
+        Some(free) => free.slot as usize,
+        None => slot_count(inode),
+    }
+}
+
+// Goes on where a free slot was sought.
+#[tactic(auto, unfolding(crate::specs::Entering::enter_of, crate::specs::Entering::EnterFits))]
+fn place(entering: Entering, searched: Searched) -> Begun<Enter, Entered>
+    requires ready { IsEntering entering searched.inode.value.number }
+    requires loaded { IsSome searched.inode.value.content }
+    ensures program { begun_of enter_of entered_of result ≡ enter_at entering.sizes searched.inode.value.number (record_in searched.inode) entering.entry searched.found }
+    ensures inode { IfBegun (λ m. enterer_of m ≡ searched.inode) (λ r. r.inode ≡ searched.inode) result }
+    ensures fits { (hart : ℕ) (s : State) → IfBegun (EnterFits hart s) (λ _. Unit {0}) result }
+{
+    let Searched { inode, found } = searched;
+    let slot = slot_for(&record(&inode), found);
+    if slot >= MOST_SLOTS {
+        return Begun::Is(Entered {
+            inode,
+            room: Room::NoSlot,
+        });
+    }
+    let at = (DIRENT_LEN * slot) as u32;
+    let part = WritePart::begin(inode, &entering.sizes, at, DIRENT_LEN);
+    Begun::Runs(Enter::Writing(entering, slot, part))
+}
+
+// A step while a free slot is sought.
+#[tactic(auto, unfolding(crate::specs::Entering::enter_of, crate::specs::Entering::EnterFits))]
+fn searching(
+    entering: Entering,
+    stepped: Stepped<Search, Searched, Kind>,
+) -> Stepped<Enter, Entered, Kind>
+    requires { LeftOf (λ m. IsEntering entering (inode_of m).value.number × IsSome (inode_of m).value.content) (λ r. IsEntering entering r.inode.value.number × IsSome r.inode.value.content) stepped }
+    ensures follows { (guard : GuardState InodeState) → LeftOf (λ m. inode_of m ≡ guard) (λ r. r.inode ≡ guard) stepped
+        → Follows (search_of Unused) found_of enter_of entered_of (enter_at entering.sizes guard.value.number (record_in guard) entering.entry) stepped result }
+    ensures inode { (guard : GuardState InodeState) → LeftOf (λ m. inode_of m ≡ guard) (λ r. r.inode ≡ guard) stepped → LeftOf (λ m. enterer_of m ≡ guard) (λ r. r.inode ≡ guard) result }
+    ensures fits { (hart : ℕ) (s : State) → LeftOf (SearchFits hart s) (λ _. Unit {0}) stepped → LeftOf (EnterFits hart s) (λ _. Unit {0}) result }
+{
+    match stepped {
+        Stepped::Waits(search) => Stepped::Waits(Enter::Searching(entering, search)),
+        Stepped::Ran(search, kind) => Stepped::Ran(Enter::Searching(entering, search), kind),
+        Stepped::Done(searched, kind) => went_on(place(entering, searched), kind),
+        Stepped::Stopped(search) => Stepped::Stopped(Enter::Searching(entering, search)),
+    }
+}
+
+// A step while the slot is written.
+fn writing(
+    entering: Entering,
+    slot: usize,
+    stepped: Stepped<WritePart, PartWritten, Kind>,
+) -> Stepped<Enter, Entered, Kind>
+    requires { slot < most_slots }
+    ensures { result ≡ in_entering entering slot stepped }
+{
+    match stepped {
+        Stepped::Waits(part) => Stepped::Waits(Enter::Writing(entering, slot, part)),
+        Stepped::Ran(part, kind) => Stepped::Ran(Enter::Writing(entering, slot, part), kind),
+        Stepped::Done(written, kind) => Stepped::Done(slot_written(slot, written), kind),
+        Stepped::Stopped(part) => Stepped::Stopped(Enter::Writing(entering, slot, part)),
+    }
+}
+
+// What the writing of a slot came to.
+fn slot_written(slot: usize, written: PartWritten) -> Entered
+    requires { slot < most_slots }
+    ensures { result ≡ slot_written slot written }
+{
+    let PartWritten { inode, upto } = written;
+    let room = if upto == DIRENT_LEN * (slot + 1) {
+        Room::There
+    } else {
+        Room::NoBlock
+    };
+    Entered { inode, room }
+}
