@@ -1,12 +1,13 @@
 -- A nested machine's step is one of the walk that it stands in.
-use Rattle.std.proofs.Common.{◌≡◌, ℕ, refl, sym, ap, ◌∙◌}
-use Rattle.atomic_programs.specs.Prog.{Ret, Do, bind, Did, Waits as ItWaits, Ran as ItRan, Stops, Moved, Ended, StillWaits, WentOn, Broke, went, advance}
+use Rattle.std.proofs.Common.{◌≡◌, ℕ, refl, sym, ap, subst, ◌∙◌}
+use Rattle.atomic_programs.specs.Prog.{Ret, Do, bind, Did, Waits as ItWaits, Ran as ItRan, Stops, Moved, Ended, StillWaits, WentOn, Broke, went, advance, asks, OfNext}
 use Rattle.atomic_programs.specs.Machines.{moved_to, Left}
 use Rattle.atomic_programs.specs.declared.machines.Stepped.{Stepped}
 use Rattle.atomic_programs.specs.declared.machines.Stepped.TheVariants.{Waits, Ran, Done, Stopped}
 use Rattle.fs_machine.specs.declared.kind.Kind.{Kind}
 use Rattle.fs_machine.specs.LogPart.{Outside}
-use Rattle.fs_machine.specs.Machines.{P, within, said_in, Moves}
+use Rattle.fs_machine.specs.Machines.{P, within, said_in, Moves, Answers}
+use Rattle.fs_machine.specs.Premises.{Honest}
 use Rattle.fs_machine.specs.Steps.{State, Op, Answer, exec, kind_of}
 use Rattle.path_walk.specs.declared.walk.Walk.{Walk}
 use Rattle.path_walk.specs.declared.walked.Walked.{Walked}
@@ -63,14 +64,27 @@ module _ {M R A B : Type 0} (p : M → P A) (value : R → A) (k : A → P B) (q
       ∙ bound k (p m) hart x old (λ e. never_ends stepped new (sym moves ∙ e))
       ∙ ap (moved_by k) moves ∙ same_moved stepped result new goes left
 
+  honest_on : (hart : ℕ) (x : Outside) (r : P A) (s : State) → (advance kind_of (exec hart x) r s ≡ Ended → ⊥)
+      → OfNext (λ op t. Honest hart op t x) (asks r) s → OfNext (λ op t. Honest hart op t x) (asks (bind r k)) s
+  honest_on hart x (Ret a) s ne honest = absurd (ne refl)
+  honest_on hart x (Do op m g) s ne honest = honest
+
+  pub goes-honest : (m : M) (hart : ℕ) (stepped : Stepped M R Kind) (result : Stepped Walk Walked Kind) (old new : State)
+      → q (f m) ≡ bind (p m) k → GoesOn f After stepped result → Moves p value hart m stepped old new → Answers p hart m stepped old new → Answers q hart (f m) result old new
+  goes-honest m hart stepped result old new here goes moves honest =
+      let x : Outside = said_in stepped new in
+      subst (λ (y : Outside). OfNext (λ op t. Honest hart op t y) (asks (q (f m))) old) (sym (same_said stepped result new goes))
+      (subst (λ (r : P B). OfNext (λ op t. Honest hart op t x) (asks r) old) (sym here)
+      (honest_on hart x (p m) old (λ e. never_ends stepped new (sym moves ∙ e)) honest))
+
   -- what fits
-  pub goes-fits : (Fits : M → Type 0) (Ends : R → Type 0) (WalkFits : Walk → Type 0) (stepped : Stepped M R Kind) (result : Stepped Walk Walked Kind)
+  pub goes-fits : (Fits : M → Type 0) (Ends : R → Type 0) (WalkFits : Walk → Type 0) (WalkEnds : Walked → Type 0) (stepped : Stepped M R Kind) (result : Stepped Walk Walked Kind)
       → GoesOn f After stepped result → ((m : M) → Fits m → WalkFits (f m)) → ((r : R) (w : Walk) → After r w → WalkFits w)
-      → Left Fits Ends stepped → Left WalkFits (λ _. Unit {0}) result
-  goes-fits Fits Ends WalkFits (Waits m) result goes on done fits = rw goes (on m fits)
-  goes-fits Fits Ends WalkFits (Ran m kind) result goes on done fits = rw goes (on m fits)
-  goes-fits Fits Ends WalkFits (Done r kind) result goes on done fits = rw goes.1 (done r goes.0 goes.2)
-  goes-fits Fits Ends WalkFits (Stopped m) result goes on done fits = rw goes (on m fits)
+      → Left Fits Ends stepped → Left WalkFits WalkEnds result
+  goes-fits Fits Ends WalkFits WalkEnds (Waits m) result goes on done fits = rw goes (on m fits)
+  goes-fits Fits Ends WalkFits WalkEnds (Ran m kind) result goes on done fits = rw goes (on m fits)
+  goes-fits Fits Ends WalkFits WalkEnds (Done r kind) result goes on done fits = rw goes.1 (done r goes.0 goes.2)
+  goes-fits Fits Ends WalkFits WalkEnds (Stopped m) result goes on done fits = rw goes (on m fits)
 
 -- a step within goes on so
 pub within-goes : {M R : Type 0} (f : M → Walk) (g : R → Walk) (stepped : Stepped M R Kind) → GoesOn f (λ r w. w ≡ g r) stepped (within f g stepped)

@@ -11,7 +11,7 @@ use Rattle.fs_tables.specs.Locks.{IsLocked}
 use Rattle.fs_machine.specs.declared.kind.Kind.{Kind}
 use Rattle.fs_machine.specs.declared.kind.Kind.TheVariants as kind
 use Rattle.fs_machine.specs.LogPart.{Outside}
-use Rattle.fs_machine.specs.Machines.{P, Moves}
+use Rattle.fs_machine.specs.Machines.{P, Moves, Answers}
 use Rattle.fs_machine.specs.Steps.{State, Up, Number, exec, kind_of}
 use Rattle.fs_machine.specs.Tied.{IsOwnInode}
 use Rattle.inode_table.specs.declared.load_inode.LoadInode.{LoadInode}
@@ -28,8 +28,8 @@ use Rattle.path_walk.specs.declared.walk.Way.{Way}
 use Rattle.path_walk.specs.declared.walked.Walked.{Walked}
 use Rattle.path_walk.specs.Elements.{name_in}
 use Rattle.path_walk.specs.Programs.{WalkedState, go_on, leave_directory, loaded, walk_step}
-use Rattle.path_walk.specs.Machines.{found_state, in_lookup, next_as, next_of, rest_of, visit_of, walk_of, walked_as, GoesOn, IsWay, LoadedTo, WalkFits}
-use Rattle.path_walk.proofs.Nested.{goes-moves, goes-fits, within-goes}
+use Rattle.path_walk.specs.Machines.{found_state, in_lookup, next_as, next_of, rest_of, visit_of, walk_of, walked_as, EndsIn, GoesOn, IsWay, LoadedTo, WalkFits}
+use Rattle.path_walk.proofs.Nested.{goes-moves, goes-honest, goes-fits, within-goes}
 use Rattle.path_walk.proofs.Visits.{found-is, next-is}
 
 -- a guard of an inode stays its hart's where the tables do
@@ -58,11 +58,11 @@ module _ (path : List ℕ) (way : Way) (d : ℕ) where
 
   pub load-fits : (guard : GuardState Inode) (hart : ℕ) (stepped : Stepped LoadInode Dinode Kind) (result : Stepped Walk Walked Kind) (s : State)
       → GoesOn (λ m. walking.Load way d guard m) (LoadedTo path way d guard) stepped result → IsWay path way → IsOwnInode hart d guard s
-      → Left (LoadFits hart s) (λ _. Unit {0}) stepped → Left (WalkFits path hart s) (λ _. Unit {0}) result
+      → Left (LoadFits hart s) (λ _. Unit {0}) stepped → Left (WalkFits path hart s) (EndsIn path) result
   unfolding WalkFits
   load-fits guard hart stepped result s goes is own fits =
       goes-fits load_of (λ i. i) (λ i. visit_of path way d (loaded d i)) (walk_of path) (walked_as path) (λ m. walking.Load way d guard m) (LoadedTo path way d guard)
-      (LoadFits hart s) (λ _. Unit {0}) (WalkFits path hart s) stepped result goes (λ m f. (is, own, f)) (λ i w after. after.1 hart s own) fits
+      (LoadFits hart s) (λ _. Unit {0}) (WalkFits path hart s) (EndsIn path) stepped result goes (λ m f. (is, own, f)) (λ i w after. after.1 hart s own) fits
 
   -- ---- while the element is looked up
 
@@ -83,6 +83,15 @@ module _ (path : List ℕ) (way : Way) (d : ℕ) where
       goes-moves (search_of (Named (name_in path way.element))) found_of (walk_step d (inode_of m).value way.list (rest_of path way)) (walk_of path) (walked_as path)
       (λ n. walking.Lookup way d n) (λ r w. w ≡ found_state way d r) m hart stepped (in_lookup way d stepped) old new refl (look-left m stepped same)
       (within-goes (λ n. walking.Lookup way d n) (found_state way d) stepped) moves
+
+  pub look-honest : (m : Search) (hart : ℕ) (stepped : Stepped Search Searched Kind) (old new : State)
+      → Moves (search_of (Named (name_in path way.element))) found_of hart m stepped old new → Answers (search_of (Named (name_in path way.element))) hart m stepped old new
+      → Answers (walk_of path) hart (walking.Lookup way d m) (in_lookup way d stepped) old new
+  unfolding walk_of
+  look-honest m hart stepped old new moves honest =
+      goes-honest (search_of (Named (name_in path way.element))) found_of (walk_step d (inode_of m).value way.list (rest_of path way)) (walk_of path) (walked_as path)
+      (λ n. walking.Lookup way d n) (λ r w. w ≡ found_state way d r) m hart stepped (in_lookup way d stepped) old new refl
+      (within-goes (λ n. walking.Lookup way d n) (found_state way d) stepped) moves honest
 
   same-look : (n m : Search) → search_of (Named (name_in path way.element)) n ≡ search_of (Named (name_in path way.element)) m → inode_of n ≡ inode_of m
       → walk_of path (walking.Lookup way d n) ≡ walk_of path (walking.Lookup way d m)

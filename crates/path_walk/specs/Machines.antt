@@ -1,5 +1,5 @@
 -- The programs that are left of a walk.
-use Rattle.std.specs.Prelude.{◌≡◌, ℕ, ◌^◌, ◌<◌, List, [], ◌∷◌, ◌++◌, drop, Option, Some, None}
+use Rattle.std.specs.Prelude.{◌≡◌, ℕ, ◌^◌, ◌<◌, List, [], ◌∷◌, ◌++◌, drop, Option, Some, None, IfSome}
 use Rattle.sleep_lock.specs.SleepLock.{GuardState}
 use Rattle.fs_layout.specs.declared.inode.Dinode.{Dinode}
 use Rattle.atomic_programs.specs.Prog.{Ret, Do, bind, unmarked}
@@ -71,6 +71,11 @@ WalkFits path hart s (walking.Up way d guard n) = IsWay path way × IsOwnInode h
 WalkFits path hart s (walking.Unlock way d guard then) = IsWay path way × IsOwnInode hart d guard s
 WalkFits path hart s (walking.Down way d then) = IsWay path way
 WalkFits path hart s (walking.Leave way d guard) = IsWay path way × IsOwnInode hart d guard s
+
+-- the last element of what was reached stands in the path
+abbrev pub EndsIn : List ℕ → Walked → Type 0
+EndsIn path (walked.Reached d last list) = IfSome last (IsElement path)
+EndsIn path (walked.Lost why list) = Unit {0}
 
 -- the call's list
 abbrev pub list_of : Walk → List ℕ

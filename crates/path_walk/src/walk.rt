@@ -5,14 +5,14 @@ ghost use Rattle.atomic_programs.specs.Machines.{Still, Left as LeftOf};
 ghost use Rattle.fs_machine.specs.LogPart.{Outside};
 ghost use Rattle.fs_machine.specs.Steps.{State, state_of, exec, Up};
 ghost use Rattle.fs_machine.specs.Premises.{May};
-ghost use Rattle.fs_machine.specs.Machines.{MayNext, Moves, Answers};
+ghost use Rattle.fs_machine.specs.Machines.{MayNext, Moves, Answers, CallsOnce};
 ghost use Rattle.fs_machine.specs.Tied.{IsOwnInode, LeavesTied};
 ghost use Rattle.inode_table.specs.Programs.{load_unless};
 ghost use Rattle.inode_data.specs.Beginnings.{begun_of, IfBegun};
 ghost use Rattle.plain_tree.specs.Tree.{elements};
 ghost use Rattle.path_walk.specs.Elements.{name_in};
 ghost use Rattle.path_walk.specs.Programs.{go_on, is_last, loaded, see_parent, start_of, walk, walk_path};
-ghost use Rattle.path_walk.specs.Machines.{found_state, in_lookup, keep, list_of, next_as, next_of, visit_of, walk_of, walked_as, GoesOn, IsWay, LoadedTo, WalkFits};
+ghost use Rattle.path_walk.specs.Machines.{found_state, in_lookup, keep, list_of, next_as, next_of, visit_of, walk_of, walked_as, EndsIn, GoesOn, IsWay, LoadedTo, WalkFits};
 ghost use Rattle.path_walk.specs.declared.walk.Walk.TheVariants as walking;
 
 use crate::elements::{Element, is_absolute, next_element};
@@ -94,8 +94,9 @@ impl Walk {
         ensures moves { Moves (walk_of path.now) (walked_as path.now) hart self result (state_of D.contents D.failures core.old) (state_of D.contents D.failures core.new) }
         ensures honest { Answers (walk_of path.now) hart self result (state_of D.contents D.failures core.old) (state_of D.contents D.failures core.new) }
         ensures still { Still (walk_of path.now) result self core.old core.new }
-        ensures fits { LeftOf (WalkFits path.now hart (state_of D.contents D.failures core.new)) (λ _. Unit {0}) result }
+        ensures fits { LeftOf (WalkFits path.now hart (state_of D.contents D.failures core.new)) (EndsIn path.now) result }
         ensures others { LeavesTied hart (state_of D.contents D.failures core.old) (state_of D.contents D.failures core.new) }
+        ensures called { CallsOnce D.Called core.old.log.cache.device core.new.log.cache.device }
     {
         match self {
             Walk::Start(inodestart, goal, list) => {
@@ -147,6 +148,7 @@ fn up_start<D: Device>(hart: u8, path: &[u8], core: &mut Core<D>) -> Option<Refe
     requires { May hart (Up (start_of path.now)) (state_of D.contents D.failures core.old) }
     ensures ran { (x : Outside) → exec hart x (Up (start_of path.now)) (state_of D.contents D.failures core.old) ≡ ItRan result (state_of D.contents D.failures core.new) }
     ensures others { LeavesTied hart (state_of D.contents D.failures core.old) (state_of D.contents D.failures core.new) }
+    ensures log { core.new.log ≡ core.old.log }
 {
     if is_absolute(path) {
         core.up(hart, ROOT)
@@ -169,7 +171,7 @@ fn arrive(
     requires nonzero { All (λ b. b ≢ 0) path.now }
     requires start { inodestart < 2 ^ 31 }
     ensures program { begun_of (walk_of path.now) (walked_as path.now) result ≡ walk goal inodestart (elements (drop from path.now)) directory list }
-    ensures fits { (hart : ℕ) (s : State) → IfBegun (WalkFits path.now hart s) (λ _. Unit {0}) result }
+    ensures fits { (hart : ℕ) (s : State) → IfBegun (WalkFits path.now hart s) (EndsIn path.now) result }
 {
     match next_element(path, from) {
         None => Begun::Is(Walked::Reached(directory, None, list)),
@@ -196,7 +198,7 @@ fn started(
     requires nonzero { All (λ b. b ≢ 0) path.now }
     requires start { inodestart < 2 ^ 31 }
     ensures program { begun_of (walk_of path.now) (walked_as path.now) result ≡ go_on (walk goal inodestart (elements path.now)) start list }
-    ensures fits { (hart : ℕ) (s : State) → IfBegun (WalkFits path.now hart s) (λ _. Unit {0}) result }
+    ensures fits { (hart : ℕ) (s : State) → IfBegun (WalkFits path.now hart s) (EndsIn path.now) result }
 {
     match start {
         None => Begun::Is(Walked::Lost(Stop::NoMemory, list)),
@@ -219,7 +221,7 @@ fn after(path: &[u8], way: Way, next: Next) -> Begun<Walk, Walked>
     requires nonzero { All (λ b. b ≢ 0) path.now }
     requires way { IsWay path.now way }
     ensures program { begun_of (walk_of path.now) (walked_as path.now) result ≡ next_of path.now way next way.list }
-    ensures fits { (hart : ℕ) (s : State) → IfBegun (WalkFits path.now hart s) (λ _. Unit {0}) result }
+    ensures fits { (hart : ℕ) (s : State) → IfBegun (WalkFits path.now hart s) (EndsIn path.now) result }
 {
     let Way {
         inodestart,

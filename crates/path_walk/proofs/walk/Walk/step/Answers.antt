@@ -3,19 +3,19 @@ use Rattle.fs_machine.specs.declared.kind.Kind.TheVariants as kind
 use Rattle.fs_machine.specs.LogPart.{Passes}
 use Rattle.fs_machine.specs.Steps.{state_of}
 use Rattle.inode_data.proofs.Beginnings.{went_on_left}
-use Rattle.path_walk.specs.Machines.{WalkFits}
-use Rattle.path_walk.proofs.Steps.{load-moves, load-fits, look-moves, look-still, own-stays, up-moves}
+use Rattle.path_walk.specs.Machines.{EndsIn, WalkFits}
+use Rattle.path_walk.proofs.Steps.{load-moves, load-fits, look-moves, look-honest, look-still, own-stays, up-moves}
 use Rattle.path_walk.proofs.walk.Walk.step.Goals as goal
 
 pub returns-in-Start-clause-fits : goal.returns-in-Start-clause-fits
 returns-in-Start-clause-fits g c =
     let s = state_of g.D.Device.contents g.D.Device.failures c.up_start-start.new.core in
-    rw c.went_on.ensures (went_on_left (WalkFits c.args.path.now c.args.hart s) (λ _. Unit {0}) c.started.result kind.Up (c.started.ensures.fits c.args.hart s))
+    rw c.went_on.ensures (went_on_left (WalkFits c.args.path.now c.args.hart s) (EndsIn c.args.path.now) c.started.result kind.Up (c.started.ensures.fits c.args.hart s))
 
 pub returns-in-Down-clause-fits : goal.returns-in-Down-clause-fits
 returns-in-Down-clause-fits g c =
     let s = state_of g.D.Device.contents g.D.Device.failures c.drop_walked.new.self in
-    rw c.went_on-in-Down.ensures (went_on_left (WalkFits c.args.path.now c.args.hart s) (λ _. Unit {0}) c.after.result kind.Down (c.after.ensures.fits c.args.hart s))
+    rw c.went_on-in-Down.ensures (went_on_left (WalkFits c.args.path.now c.args.hart s) (EndsIn c.args.path.now) c.after.result kind.Down (c.after.ensures.fits c.args.hart s))
 
 pub returns-in-Some-clause-fits : goal.returns-in-Some-clause-fits
 returns-in-Some-clause-fits g c = c.locked.ensures.fits c.args.hart (state_of g.D.Device.contents g.D.Device.failures c.lock.new.self) c.in-Some.ensures.own
@@ -41,6 +41,13 @@ returns-in-Lookup-clause-moves g c =
     rw (c.in-Lookup.is, c.looking.ensures)
     (look-moves c.args.path.now c.in-Lookup.way c.in-Lookup.directory c.in-Lookup.search c.args.hart c.step-in-Lookup.result (s c.args.core.now) (s c.step-in-Lookup.new.core)
     c.step-in-Lookup.ensures.inode c.step-in-Lookup.ensures.moves)
+
+pub returns-in-Lookup-clause-honest : goal.returns-in-Lookup-clause-honest
+returns-in-Lookup-clause-honest g c =
+    let s = state_of g.D.Device.contents g.D.Device.failures in
+    rw (c.in-Lookup.is, c.looking.ensures)
+    (look-honest c.args.path.now c.in-Lookup.way c.in-Lookup.directory c.in-Lookup.search c.args.hart c.step-in-Lookup.result (s c.args.core.now) (s c.step-in-Lookup.new.core)
+    c.step-in-Lookup.ensures.moves c.step-in-Lookup.ensures.honest)
 
 pub returns-in-Lookup-clause-still : goal.returns-in-Lookup-clause-still
 returns-in-Lookup-clause-still g c =
