@@ -21,7 +21,7 @@ use block_device::Device;
 use buffer_cache::Buffer;
 use fs_layout::widths::{DIRENT_LEN, DIRENTS_PER_BLOCK};
 use fs_layout::{Dinode, Dirent, Name, write_dirent};
-use fs_machine::{Core, Kind};
+use fs_machine::{Core, Kind, RetiredCore};
 use fs_tables::Inode;
 use group_log::Txn;
 use inode_data::{FetchBlock, record};
@@ -42,6 +42,18 @@ pub struct Putting {
     pub inode: Guard<Inode>,
     pub inodestart: u32,
     pub slot: usize,
+}
+
+impl Putting {
+    /// Ends it in mid-call, after all that harts share has ended.
+    pub(crate) fn retire(self, retired: &RetiredCore) {
+        let Putting {
+            inode,
+            inodestart: _,
+            slot: _,
+        } = self;
+        inode.retire_in_row(&retired.inodes);
+    }
 }
 
 /// Writes a slot whose block is there, and then stores the inode: a name is entered so, and cleared. What the slot is to have is told
@@ -105,6 +117,24 @@ impl PutEntry {
                 Stepped::Ran(PutEntry::Storing(at, store), Kind::Put)
             }
             PutEntry::Storing(at, store) => storing(at, store.step(hart, txn, core)),
+        }
+    }
+
+    /// Ends it in mid-call, after all that harts share has ended.
+    pub fn retire(self, retired: &RetiredCore) {
+        match self {
+            PutEntry::Fetching(putting, fetch) => {
+                putting.retire(retired);
+                fetch.retire(retired);
+            }
+            PutEntry::There(putting, guard) => {
+                putting.retire(retired);
+                guard.retire_in_row(&retired.buffers);
+            }
+            PutEntry::Storing(putting, store) => {
+                putting.retire(retired);
+                store.retire(retired);
+            }
         }
     }
 }

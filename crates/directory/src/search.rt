@@ -15,7 +15,7 @@ use atomic_programs::machines::Stepped;
 use block_device::Device;
 use buffer_cache::Buffer;
 use fs_layout::Dinode;
-use fs_machine::{Core, Kind};
+use fs_machine::{Core, Kind, RetiredCore};
 use fs_tables::Inode;
 use inode_data::{Begun, FetchBlock, record, went_on};
 use sleep_lock::Guard;
@@ -30,6 +30,18 @@ pub struct Searching {
     pub block: usize,
     /// .. and so many behind it.
     pub left: usize,
+}
+
+impl Searching {
+    /// Ends it in mid-call, after all that harts share has ended.
+    pub(crate) fn retire(self, retired: &RetiredCore) {
+        let Searching {
+            inode,
+            block: _,
+            left: _,
+        } = self;
+        inode.retire_in_row(&retired.inodes);
+    }
 }
 
 /// What a search ends with.
@@ -108,6 +120,20 @@ impl Search {
                     ),
                     None => went_on(next(inode, block + 1, left), Kind::Put),
                 }
+            }
+        }
+    }
+
+    /// Ends it in mid-call, after all that harts share has ended.
+    pub fn retire(self, retired: &RetiredCore) {
+        match self {
+            Search::Fetching(searching, fetch) => {
+                searching.retire(retired);
+                fetch.retire(retired);
+            }
+            Search::There(searching, guard) => {
+                searching.retire(retired);
+                guard.retire_in_row(&retired.buffers);
             }
         }
     }

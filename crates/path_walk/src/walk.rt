@@ -21,7 +21,7 @@ use atomic_programs::machines::Stepped;
 use block_device::Device;
 use directory::{Search, Searched, Sought, is_directory};
 use fs_layout::Dinode;
-use fs_machine::{Core, Kind};
+use fs_machine::{Core, Kind, RetiredCore};
 use fs_tables::{Inode, Listed, MEMORY_INODES, ROOT, Reference};
 use inode_data::{Begun, record, went_on};
 use inode_table::LoadInode;
@@ -38,12 +38,35 @@ pub struct Way {
     pub list: Listed,
 }
 
+impl Way {
+    /// Ends it in mid-call, after all that harts share has ended.
+    pub(crate) fn retire(self, retired: &RetiredCore) {
+        let Way {
+            list,
+            inodestart: _,
+            goal: _,
+            element: _,
+        } = self;
+        list.retire(&retired.inodes);
+    }
+}
+
 /// What comes after a directory was left.
 pub enum Next {
     /// What was found in it.
     To(Reference),
     /// Nothing: the walk is lost.
     Lost(Stop),
+}
+
+impl Next {
+    /// Ends it in mid-call, after all that harts share has ended.
+    pub(crate) fn retire(self, retired: &RetiredCore) {
+        match self {
+            Next::To(reference) => reference.retire(&retired.inodes),
+            Next::Lost(_) => {}
+        }
+    }
 }
 
 /// Walks a path, which is told with each step. The lock of one directory is had at a time, and a reference to what is found taken
@@ -138,6 +161,49 @@ impl Walk {
                     Walked::Reached(directory, Some(element), list),
                     Kind::Unlock,
                 )
+            }
+        }
+    }
+
+    /// Ends it in mid-call, after all that harts share has ended.
+    pub fn retire(self, retired: &RetiredCore) {
+        match self {
+            Walk::Start(_, _, list) => list.retire(&retired.inodes),
+            Walk::Lock(way, directory) => {
+                way.retire(retired);
+                directory.retire(&retired.inodes);
+            }
+            Walk::Load(way, directory, guard, load) => {
+                way.retire(retired);
+                directory.retire(&retired.inodes);
+                guard.retire_in_row(&retired.inodes);
+                load.retire(retired);
+            }
+            Walk::Lookup(way, directory, search) => {
+                way.retire(retired);
+                directory.retire(&retired.inodes);
+                search.retire(retired);
+            }
+            Walk::Up(way, directory, guard, _) => {
+                way.retire(retired);
+                directory.retire(&retired.inodes);
+                guard.retire_in_row(&retired.inodes);
+            }
+            Walk::Unlock(way, directory, guard, next) => {
+                way.retire(retired);
+                directory.retire(&retired.inodes);
+                guard.retire_in_row(&retired.inodes);
+                next.retire(retired);
+            }
+            Walk::Down(way, directory, next) => {
+                way.retire(retired);
+                directory.retire(&retired.inodes);
+                next.retire(retired);
+            }
+            Walk::Leave(way, directory, guard) => {
+                way.retire(retired);
+                directory.retire(&retired.inodes);
+                guard.retire_in_row(&retired.inodes);
             }
         }
     }
