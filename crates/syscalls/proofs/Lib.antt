@@ -2,3 +2,7 @@ pub mod Nesting
 pub mod Reading
 pub mod Closing
 pub mod Tails
+pub mod Taken
+pub mod Emptying
+pub mod Installing
+pub mod Joining

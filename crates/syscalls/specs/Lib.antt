@@ -3,3 +3,10 @@ pub mod Programs
 pub mod Nesting
 pub mod Machines
 pub mod Tails
+pub mod Parts
+pub mod Opening
+pub mod Moving
+pub mod Taking
+pub mod Ends
+pub mod Opens
+pub mod Chdirs

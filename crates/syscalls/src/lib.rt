@@ -4,17 +4,33 @@
 //! under way takes no memory, and is handed back in its reply.
 #![tactic(auto)]
 
+mod chdir;
 mod close;
 mod dup;
 mod fstat;
+mod give;
+mod install;
+mod on_path;
+mod open_old;
+mod quit;
+mod reach;
 mod read;
 mod replies;
 mod running;
 mod tail;
+mod take;
 
+pub use crate::chdir::Chdir;
 pub use crate::close::Close;
 pub use crate::dup::Dup;
 pub use crate::fstat::Fstat;
+pub use crate::give::GiveUp;
+pub use crate::install::{Install, Opening, ToOpen};
+pub use crate::on_path::OnPath;
+pub use crate::open_old::OpenOld;
+pub use crate::quit::Quit;
+pub use crate::reach::{Reach, Reached};
 pub use crate::read::Read;
 pub use crate::running::Running;
 pub use crate::tail::{Ending, Tail};
+pub use crate::take::{Held, TakeInode};

@@ -5,12 +5,14 @@ ghost use Rattle.fs_machine.specs.Steps.{state_of};
 ghost use Rattle.fs_machine.specs.Machines.{MayNext, Moves, Answers, CallsOnce};
 ghost use Rattle.fs_machine.specs.Tied.{LeavesTied};
 ghost use Rattle.inode_data.specs.Machines.{ends_within};
-ghost use Rattle.syscalls.specs.Machines.{running_of, RunningFits};
+ghost use Rattle.syscalls.specs.Machines.{running_of, RunningFits, RunningRoom};
 ghost use Rattle.syscalls.specs.declared.running.Running.TheVariants as running;
 
+use crate::chdir::Chdir;
 use crate::close::Close;
 use crate::dup::Dup;
 use crate::fstat::Fstat;
+use crate::open_old::OpenOld;
 use crate::read::Read;
 use atomic_programs::machines::Stepped;
 use block_device::Device;
@@ -20,6 +22,8 @@ use plain_tree::Reply;
 
 /// A call under way.
 pub enum Running {
+    Open(OpenOld),
+    Chdir(Chdir),
     Dup(Dup),
     Close(Close),
     Fstat(Fstat),
@@ -28,9 +32,10 @@ pub enum Running {
 
 impl Running {
     /// One operation.
-    #[tactic(auto, unfolding(crate::specs::Machines::running_of, crate::specs::Machines::RunningFits))]
+    #[tactic(auto, unfolding(crate::specs::Machines::running_of, crate::specs::Machines::RunningFits, crate::specs::Machines::RunningRoom))]
     pub fn step<D: Device>(self, hart: u8, core: &mut Core<D>) -> Stepped<Running, Reply, Kind>
         requires hart { hart < HARTS }
+        requires room { RunningRoom self }
         requires may { MayNext hart (running_of self) (state_of D.contents D.failures core.old) }
         requires fits { RunningFits hart (state_of D.contents D.failures core.old) self }
         ensures moves { Moves running_of (λ reply. reply) hart self result (state_of D.contents D.failures core.old) (state_of D.contents D.failures core.new) }
@@ -41,6 +46,8 @@ impl Running {
         ensures called { CallsOnce D.Called core.old.log.cache.device core.new.log.cache.device }
     {
         match self {
+            Running::Open(m) => in_open(m.step(hart, core)),
+            Running::Chdir(m) => in_chdir(m.step(hart, core)),
             Running::Dup(m) => in_dup(m.step(hart, core)),
             Running::Close(m) => in_close(m.step(hart, core)),
             Running::Fstat(m) => in_fstat(m.step(hart, core)),
@@ -51,11 +58,35 @@ impl Running {
     /// Ends it in mid-call, after all that harts share has ended.
     pub fn retire(self, retired: &RetiredCore) {
         match self {
+            Running::Open(m) => m.retire(retired),
+            Running::Chdir(m) => m.retire(retired),
             Running::Dup(m) => m.retire(retired),
             Running::Close(m) => m.retire(retired),
             Running::Fstat(m) => m.retire(retired),
             Running::Read(m) => m.retire(retired),
         }
+    }
+}
+
+fn in_open(stepped: Stepped<OpenOld, Reply, Kind>) -> Stepped<Running, Reply, Kind>
+    ensures { result ≡ ends_within (λ m. running.Open m) (λ reply. reply) stepped }
+{
+    match stepped {
+        Stepped::Waits(m) => Stepped::Waits(Running::Open(m)),
+        Stepped::Ran(m, kind) => Stepped::Ran(Running::Open(m), kind),
+        Stepped::Done(reply, kind) => Stepped::Done(reply, kind),
+        Stepped::Stopped(m) => Stepped::Stopped(Running::Open(m)),
+    }
+}
+
+fn in_chdir(stepped: Stepped<Chdir, Reply, Kind>) -> Stepped<Running, Reply, Kind>
+    ensures { result ≡ ends_within (λ m. running.Chdir m) (λ reply. reply) stepped }
+{
+    match stepped {
+        Stepped::Waits(m) => Stepped::Waits(Running::Chdir(m)),
+        Stepped::Ran(m, kind) => Stepped::Ran(Running::Chdir(m), kind),
+        Stepped::Done(reply, kind) => Stepped::Done(reply, kind),
+        Stepped::Stopped(m) => Stepped::Stopped(Running::Chdir(m)),
     }
 }
 

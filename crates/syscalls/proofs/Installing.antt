@@ -1,0 +1,58 @@
+-- The steps of an open that gets a place and a descriptor.
+use Rattle.std.proofs.Common.{◌≡◌, ◌∙◌, ℕ, Option, sym, ap, subst}
+use Rattle.sleep_lock.specs.SleepLock.{GuardState}
+use Rattle.fs_layout.specs.declared.inode.Dinode.{Dinode}
+use Rattle.fs_layout.specs.declared.superblock.Super.{Super}
+use Rattle.plain_tree.specs.declared.answer.Reply.{Reply}
+use Rattle.atomic_programs.specs.Prog.{Ran as ItRan, WentOn, advance, bind, went}
+use Rattle.fs_tables.specs.declared.inodes.Inode.{Inode}
+use Rattle.fs_tables.specs.declared.files.NewFile.{NewFile}
+use Rattle.fs_machine.specs.declared.kind.Kind.TheVariants as kind
+use Rattle.fs_machine.specs.LogPart.{Outside, Passes}
+use Rattle.fs_machine.specs.Steps.{State, TakeDescriptor, exec, kind_of}
+use Rattle.fs_machine.specs.Machines.{P}
+use Rattle.fs_machine.specs.Stays.{LeavesAll}
+use Rattle.fs_machine.specs.Tied.{IsOwnInode}
+use Rattle.inode_data.specs.Freeing.{truncate}
+use Rattle.inode_data.specs.Records.{record_in}
+use Rattle.inode_data.specs.declared.truncation.Truncate.{Truncate}
+use Rattle.inode_data.specs.Truncating.{truncate_of, emptied_of}
+use Rattle.syscalls.specs.declared.take.Held.{Held}
+use Rattle.syscalls.specs.declared.tail.Ending.{Ending}
+use Rattle.syscalls.specs.declared.install.Opening.{Opening}
+use Rattle.syscalls.specs.declared.install.ToOpen.{ToOpen}
+use Rattle.syscalls.specs.declared.install.Install.{Install}
+use Rattle.syscalls.specs.declared.install.Install.TheVariants as installing
+use Rattle.syscalls.specs.Opening.{file_for, installed_on}
+use Rattle.syscalls.specs.Opens.{emptied, install_of}
+use Rattle.syscalls.specs.Taking.{inode_in, IsHeld}
+
+-- what is held stays so while an operation leaves the hart's locks
+pub held_on : (hart : ℕ) (held : Held) (old new : State) → LeavesAll (IsOwnInode hart) old new → IsHeld hart held old → IsHeld hart held new
+held_on hart held old new rest had = record { own = rest held.reference held.inode had.own; there = had.there }
+
+-- an emptying that begins
+pub emptying_is : (e end : Ending) (txn : ℕ) (m : Truncate) (guard : GuardState Inode) (sizes : Super) → truncate_of m ≡ truncate sizes guard.value.number (record_in guard) → emptied_of m ≡ guard → e ≡ end
+    → install_of (installing.Emptying e txn m) ≡ bind (truncate sizes guard.value.number (record_in guard)) (emptied end guard.value.number)
+unfolding install_of
+emptying_is e end txn m guard sizes program inode is =
+    ap (λ (g : GuardState Inode). bind (truncate_of m) (emptied e g.value.number)) inode
+    ∙ ap (λ (p : P Dinode). bind p (emptied e guard.value.number)) program
+    ∙ ap (λ (f : Ending). bind (truncate sizes guard.value.number (record_in guard)) (emptied f guard.value.number)) is
+
+-- a descriptor is taken
+pub descriptor_moves : (hart : ℕ) (o : Opening) (txn : ℕ) (it : ToOpen) (self next : Install) (n : ℕ) (file : NewFile) (fd : Option ℕ) (old new : State)
+    → self ≡ installing.Descriptor o txn it → n ≡ (inode_in it.held).number → file ≡ file_for (inode_in it.held) o.flags
+    → ((x : Outside) → exec hart x (TakeDescriptor n file) old ≡ ItRan fd new)
+    → install_of next ≡ installed_on o.sizes o.path o.flags it.empties (inode_in it.held) it.list fd
+    → advance kind_of (exec hart Passes) (install_of self) old ≡ WentOn kind.Slot (install_of next) new
+unfolding install_of
+descriptor_moves hart o txn it self next n file fd old new is number told ran then =
+    let v : Inode = inode_in it.held in
+    let k : Option ℕ → P Reply = installed_on o.sizes o.path o.flags it.empties v it.list in
+    let had : exec hart Passes (TakeDescriptor v.number (file_for v o.flags)) old ≡ ItRan fd new =
+    subst (λ (f : NewFile). exec hart Passes (TakeDescriptor v.number f) old ≡ ItRan fd new) told
+    (subst (λ (m : ℕ). exec hart Passes (TakeDescriptor m file) old ≡ ItRan fd new) number (ran Passes)) in
+    ap (λ (m : Install). advance kind_of (exec hart Passes) (install_of m) old) is
+    ∙ ap (went (TakeDescriptor v.number (file_for v o.flags)) (kind_of (TakeDescriptor v.number (file_for v o.flags))) k) had
+    ∙ ap (λ (p : P Reply). WentOn kind.Slot p new) (sym then)

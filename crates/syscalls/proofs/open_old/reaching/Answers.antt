@@ -1,0 +1,24 @@
+use Rattle.std.proofs.Common.{◌∙◌, refl, sym, ap, subst}
+use Rattle.std.specs.Prelude.{IfSome}
+use Rattle.atomic_programs.specs.Machines.{Left}
+use Rattle.atomic_programs.specs.declared.machines.Stepped.TheVariants.{Done, Ran}
+use Rattle.plain_tree.specs.declared.answer.Reply.{Reply}
+use Rattle.path_walk.specs.Elements.{IsElement}
+use Rattle.syscalls.specs.Nesting.{Follows}
+use Rattle.syscalls.specs.Opening.{open_found}
+use Rattle.syscalls.specs.Taking.{IsHeld, reach_of, ReachFits, reached_as, IsReached}
+use Rattle.syscalls.specs.Opens.{open_old_of}
+use Rattle.syscalls.proofs.open_old.reaching.Goals as goal
+
+pub returns-in-At-clause-fits : goal.returns-in-At-clause-fits
+returns-in-At-clause-fits c hart s txn left =
+    let path = c.args.opening.path in
+    let known : IfSome c.in-At.field-1 (IsElement path) × IsHeld hart c.in-At.held s =
+    subst (λ stepped. Left (ReachFits path hart s) (IsReached path hart s) stepped) (c.in-Done.is ∙ ap (λ reached. Done reached c.in-Done.kind) c.in-At.is) left in
+    c.at.ensures.fits hart s txn known.1
+
+pub returns-in-Lost-clause-follows : goal.returns-in-Lost-clause-follows
+returns-in-Lost-clause-follows c =
+    let path = c.args.opening.path in
+    subst (λ stepped. Follows {T = Reply} (reach_of path) (reached_as path) open_old_of (λ reply. reply) (open_found c.args.opening.sizes c.args.opening.path c.args.opening.flags) stepped (Ran c.lost.result c.in-Done.kind))
+    (sym (c.in-Done.is ∙ ap (λ reached. Done reached c.in-Done.kind) c.in-Lost.is)) (refl, c.lost.ensures.program)

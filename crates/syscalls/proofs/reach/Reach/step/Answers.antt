@@ -1,0 +1,61 @@
+use Rattle.std.proofs.Common.{ap, subst}
+use Rattle.std.specs.Prelude.{IfSome}
+use Rattle.fs_machine.specs.Steps.{state_of}
+use Rattle.path_walk.specs.Elements.{IsElement, names_of}
+use Rattle.path_walk.specs.Machines.{walk_of, walked_as}
+use Rattle.syscalls.specs.Parts.{reach_on, give_reached}
+use Rattle.syscalls.specs.Taking.{take_of, TakeFits, inode_in, reach_of, ReachFits, reached_as}
+use Rattle.syscalls.proofs.Nesting.{nested_moves, nested_honest, nested_still}
+use Rattle.syscalls.proofs.reach.Reach.step.Goals as goal
+
+pub returns-in-Walking-clause-moves : goal.returns-in-Walking-clause-moves
+unfolding reach_of
+returns-in-Walking-clause-moves g c =
+    let s = state_of g.D.Device.contents g.D.Device.failures in
+    let path = c.args.path.now in
+    nested_moves (walk_of path) (walked_as path) (reach_of path) (reached_as path) (reach_on c.in-Walking.inodestart) c.args.hart c.in-Walking.walk c.args.self c.step.result _ (s c.args.core.now) (s c.step.new.core) (ap (reach_of path) c.in-Walking.is) (c.walking.ensures.follows path) c.step.ensures.moves
+
+pub returns-in-Walking-clause-honest : goal.returns-in-Walking-clause-honest
+unfolding reach_of
+returns-in-Walking-clause-honest g c =
+    let s = state_of g.D.Device.contents g.D.Device.failures in
+    let path = c.args.path.now in
+    nested_honest (walk_of path) (walked_as path) (reach_of path) (reached_as path) (reach_on c.in-Walking.inodestart) c.args.hart c.in-Walking.walk c.args.self c.step.result _ (s c.args.core.now) (s c.step.new.core) (ap (reach_of path) c.in-Walking.is) (c.walking.ensures.follows path) c.step.ensures.moves c.step.ensures.honest
+
+pub returns-in-Walking-clause-still : goal.returns-in-Walking-clause-still
+unfolding reach_of
+returns-in-Walking-clause-still g c =
+    let path = c.args.path.now in
+    nested_still (walk_of path) (walked_as path) (reach_of path) (reached_as path) (reach_on c.in-Walking.inodestart) c.in-Walking.walk c.args.self c.step.result _ c.args.core.now c.step.new.core (ap (reach_of path) c.in-Walking.is) (c.walking.ensures.follows path) c.step.ensures.still
+
+pub returns-in-Walking-clause-fits : goal.returns-in-Walking-clause-fits
+returns-in-Walking-clause-fits g c = c.walking.ensures.fits c.args.path.now c.args.hart (state_of g.D.Device.contents g.D.Device.failures c.step.new.core) c.step.ensures.fits
+
+pub returns-in-Taking-clause-moves : goal.returns-in-Taking-clause-moves
+unfolding reach_of
+returns-in-Taking-clause-moves g c =
+    let s = state_of g.D.Device.contents g.D.Device.failures in
+    let path = c.args.path.now in
+    nested_moves take_of inode_in (reach_of path) (reached_as path) (give_reached (names_of path c.in-Taking.last) c.in-Taking.list) c.args.hart c.in-Taking.take c.args.self c.step-in-Taking.result _ (s c.args.core.now) (s c.step-in-Taking.new.core) (ap (reach_of path) c.in-Taking.is) (c.taking.ensures.follows path) c.step-in-Taking.ensures.moves
+
+pub returns-in-Taking-clause-honest : goal.returns-in-Taking-clause-honest
+unfolding reach_of
+returns-in-Taking-clause-honest g c =
+    let s = state_of g.D.Device.contents g.D.Device.failures in
+    let path = c.args.path.now in
+    nested_honest take_of inode_in (reach_of path) (reached_as path) (give_reached (names_of path c.in-Taking.last) c.in-Taking.list) c.args.hart c.in-Taking.take c.args.self c.step-in-Taking.result _ (s c.args.core.now) (s c.step-in-Taking.new.core) (ap (reach_of path) c.in-Taking.is) (c.taking.ensures.follows path) c.step-in-Taking.ensures.moves c.step-in-Taking.ensures.honest
+
+pub returns-in-Taking-clause-still : goal.returns-in-Taking-clause-still
+unfolding reach_of
+returns-in-Taking-clause-still g c =
+    let path = c.args.path.now in
+    nested_still take_of inode_in (reach_of path) (reached_as path) (give_reached (names_of path c.in-Taking.last) c.in-Taking.list) c.in-Taking.take c.args.self c.step-in-Taking.result _ c.args.core.now c.step-in-Taking.new.core (ap (reach_of path) c.in-Taking.is) (c.taking.ensures.follows path) c.step-in-Taking.ensures.still
+
+pub returns-in-Taking-clause-fits : goal.returns-in-Taking-clause-fits
+unfolding ReachFits
+returns-in-Taking-clause-fits g c =
+    let s = state_of g.D.Device.contents g.D.Device.failures in
+    let path = c.args.path.now in
+    let h = c.args.hart in
+    let held : IfSome c.in-Taking.last (IsElement path) × TakeFits h (s c.args.core.now) c.in-Taking.take = subst (λ m. ReachFits path h (s c.args.core.now) m) c.in-Taking.is c.requires.fits in
+    c.taking.ensures.fits path h (s c.step-in-Taking.new.core) held.0 c.step-in-Taking.ensures.fits

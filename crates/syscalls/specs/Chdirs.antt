@@ -1,0 +1,38 @@
+-- The programs that are left of a chdir.
+use Rattle.std.specs.Prelude.{◌≡◌, ◌≢◌, ℕ, All}
+use Rattle.atomic_programs.specs.Prog.{bind}
+use Rattle.plain_tree.specs.declared.answer.Reply.{Reply}
+use Rattle.fs_machine.specs.Steps.{State}
+use Rattle.fs_machine.specs.Machines.{P}
+use Rattle.file_table.specs.Machines.{IsEarly}
+use Rattle.syscalls.specs.Moving.{settle, chdir_found, chdir_program}
+use Rattle.syscalls.specs.Taking.{inode_in, IsHeld, reach_of, ReachFits, ReachRoom}
+use Rattle.syscalls.specs.Ends.{quit_of, QuitFits}
+use Rattle.syscalls.specs.declared.on_path.OnPath.{OnPath}
+use Rattle.syscalls.specs.declared.chdir.Chdir.{Chdir}
+use Rattle.syscalls.specs.declared.chdir.Chdir.TheVariants as chdir
+
+-- a path has no zero byte, and every inode's block has a number
+pub record IsOnPath (on : OnPath) : Type 0 where
+  pub early : IsEarly on.sizes.inodestart
+  pub nonzero : All (λ b. b ≢ 0) on.path
+
+unfoldable pub chdir_of : Chdir → P Reply
+chdir_of (chdir.Join on) = chdir_program on.sizes on.path
+chdir_of (chdir.Reaching on txn m) = bind (reach_of on.path m) (chdir_found on.sizes on.path)
+chdir_of (chdir.Settle on txn list held) = settle on.sizes on.path (inode_in held) list
+chdir_of (chdir.Ends m) = quit_of m
+
+-- its transaction and its guards go with the state
+unfoldable pub ChdirFits : ℕ → State → Chdir → Type 0
+ChdirFits hart s (chdir.Join on) = IsOnPath on
+ChdirFits hart s (chdir.Reaching on txn m) = IsOnPath on × (txn ≡ hart) × ReachFits on.path hart s m
+ChdirFits hart s (chdir.Settle on txn list held) = IsOnPath on × (txn ≡ hart) × IsHeld hart held s
+ChdirFits hart s (chdir.Ends m) = QuitFits hart s m
+
+-- while a path is walked the call's list has room for one more
+unfoldable pub ChdirRoom : Chdir → Type 0
+ChdirRoom (chdir.Join on) = Unit {0}
+ChdirRoom (chdir.Reaching on txn m) = ReachRoom m
+ChdirRoom (chdir.Settle on txn list held) = Unit {0}
+ChdirRoom (chdir.Ends m) = Unit {0}

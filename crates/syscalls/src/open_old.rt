@@ -1,0 +1,233 @@
+//! open without CREATE: of what is there.
+ghost use Rattle.std.specs.Prelude.{◌≡◌, ◌≢◌, ℕ, All, IsSome};
+ghost use Rattle.atomic_programs.specs.Machines.{Still, Left as LeftOf};
+ghost use Rattle.fs_machine.specs.Steps.{State, state_of};
+ghost use Rattle.fs_machine.specs.Machines.{MayNext, Moves, Answers, CallsOnce};
+ghost use Rattle.fs_machine.specs.Tied.{LeavesTied};
+ghost use Rattle.image_tree.specs.Trees.{is_file};
+ghost use Rattle.inode_data.specs.Machines.{ends_within};
+ghost use Rattle.file_table.specs.Machines.{IsEarly};
+ghost use Rattle.plain_tree.specs.Steps.{has_driver};
+ghost use Rattle.syscalls.specs.Nesting.{Follows};
+ghost use Rattle.syscalls.specs.Parts.{Misses};
+ghost use Rattle.syscalls.specs.Opening.{empties, open_at, open_found, open_old, open_refusal};
+ghost use Rattle.syscalls.specs.Taking.{inode_in, IsHeld, reach_of, ReachFits, reached_as, IsReached, IsThere};
+ghost use Rattle.syscalls.specs.Opens.{open_old_of, OpenOldFits, OpenOldRoom, IsOpening};
+ghost use Rattle.syscalls.specs.declared.open_old.OpenOld.TheVariants as old;
+
+use crate::install::{Install, Opening, ToOpen, has_flag};
+use crate::on_path::{ending, stopped};
+use crate::quit::Quit;
+use crate::reach::{Reach, Reached};
+use crate::take::Held;
+use atomic_programs::machines::Stepped;
+use block_device::Device;
+use directory::is_directory;
+use fs_layout::{Dinode, Super};
+use fs_machine::{Core, Kind, RetiredCore};
+use fs_tables::Listed;
+use group_log::Txn;
+use inode_data::record;
+use path_walk::{Goal, Stop};
+use plain_tree::{Answer, Bytes, Call, Cause, Reply};
+
+const TRUNCATE: u32 = 1024;
+
+// The type of a file.
+const FILE: i16 = 2;
+
+// The majors of devices that have a driver are below this one.
+const MAJOR_LIMIT: i16 = 10;
+
+/// An open without CREATE under way.
+pub enum OpenOld {
+    /// A transaction is joined.
+    Join(Opening),
+    /// What the path leads to is taken.
+    Reaching(Opening, Txn, Reach),
+    /// It gets a place and a descriptor.
+    Installing(Install),
+    /// The call ends.
+    Ends(Quit),
+}
+
+impl OpenOld {
+    /// On a disk with this superblock.
+    #[tactic(auto, unfolding(crate::specs::Opens::open_old_of, crate::specs::Opens::OpenOldFits))]
+    pub fn new(sizes: &Super, path: Bytes, flags: u32) -> OpenOld
+        requires early { IsEarly sizes.now.inodestart }
+        requires nonzero { All (λ b. b ≢ 0) path }
+        ensures program { open_old_of result ≡ open_old sizes.now path flags }
+        ensures fits { (hart : ℕ) (s : State) → OpenOldFits hart s result }
+    {
+        OpenOld::Join(Opening {
+            sizes: *sizes,
+            path,
+            flags,
+        })
+    }
+
+    /// One operation.
+    #[tactic(auto, unfolding(crate::specs::Opens::open_old_of, crate::specs::Opens::OpenOldFits, crate::specs::Opens::OpenOldRoom, fs_machine::specs::Premises::Honest))]
+    pub fn step<D: Device>(self, hart: u8, core: &mut Core<D>) -> Stepped<OpenOld, Reply, Kind>
+        requires room { OpenOldRoom self }
+        requires may { MayNext hart (open_old_of self) (state_of D.contents D.failures core.old) }
+        requires fits { OpenOldFits hart (state_of D.contents D.failures core.old) self }
+        ensures moves { Moves open_old_of (λ reply. reply) hart self result (state_of D.contents D.failures core.old) (state_of D.contents D.failures core.new) }
+        ensures honest { Answers open_old_of hart self result (state_of D.contents D.failures core.old) (state_of D.contents D.failures core.new) }
+        ensures still { Still open_old_of result self core.old core.new }
+        ensures fits { LeftOf (OpenOldFits hart (state_of D.contents D.failures core.new)) (λ _. Unit {0}) result }
+        ensures others { LeavesTied hart (state_of D.contents D.failures core.old) (state_of D.contents D.failures core.new) }
+        ensures called { CallsOnce D.Called core.old.log.cache.device core.new.log.cache.device }
+    {
+        match self {
+            OpenOld::Join(o) => match core.join(hart) {
+                None => Stepped::Waits(OpenOld::Join(o)),
+                Some(txn) => {
+                    let reach = Reach::new(o.sizes.inodestart, Goal::Node, Listed::new());
+                    Stepped::Ran(OpenOld::Reaching(o, txn, reach), Kind::Join)
+                }
+            },
+            OpenOld::Reaching(o, txn, reach) => {
+                let stepped = reach.step(hart, o.path.as_slice(), core);
+                reaching(o, txn, stepped)
+            }
+            OpenOld::Installing(install) => installing(install.step(hart, core)),
+            OpenOld::Ends(quit) => ends(quit.step(hart, core)),
+        }
+    }
+
+    /// Ends it in mid-call, after all that harts share has ended.
+    pub fn retire(self, retired: &RetiredCore) {
+        match self {
+            OpenOld::Join(_) => {}
+            OpenOld::Reaching(_, txn, reach) => {
+                txn.retire(&retired.log);
+                reach.retire(retired);
+            }
+            OpenOld::Installing(install) => install.retire(retired),
+            OpenOld::Ends(quit) => quit.retire(retired),
+        }
+    }
+}
+
+// The path leads nowhere.
+#[tactic(auto, unfolding(crate::specs::Opens::open_old_of, crate::specs::Opens::OpenOldFits))]
+fn lost(opening: Opening, txn: Txn, list: Listed, why: Stop) -> OpenOld
+    requires { IsEarly opening.sizes.inodestart }
+    ensures program { open_old_of result ≡ open_found opening.sizes opening.path opening.flags (Misses why list) }
+    ensures fits { (hart : ℕ) (s : State) → txn ≡ hart → OpenOldFits hart s result }
+{
+    let Opening { sizes, path, flags } = opening;
+    let ending = ending(&sizes, list, Call::Open { path, flags }, stopped(why));
+    OpenOld::Ends(Quit::with_nothing(ending, txn))
+}
+
+// Why an inode isn't opened with these flags, by its type.
+fn refusal(inode: &Dinode, flags: u32) -> Option<Cause>
+    ensures { result ≡ open_refusal flags inode.now }
+{
+    if is_directory(inode) {
+        if flags == 0 {
+            None
+        } else {
+            Some(Cause::IsDirectory)
+        }
+    } else if is_file(inode) || has_driver(inode.major) {
+        None
+    } else {
+        Some(Cause::NoDriver)
+    }
+}
+
+fn is_file(inode: &Dinode) -> bool
+    ensures { result ≡ is_file inode.now }
+{
+    inode.kind == FILE
+}
+
+// The device of this major has a driver.
+fn has_driver(major: i16) -> bool
+    ensures { result ≡ has_driver major }
+{
+    0 <= major && major < MAJOR_LIMIT
+}
+
+// At what the path leads to.
+#[tactic(auto, unfolding(crate::specs::Opens::open_old_of, crate::specs::Opens::OpenOldFits))]
+fn at(opening: Opening, txn: Txn, list: Listed, held: Held) -> OpenOld
+    requires early { IsEarly opening.sizes.inodestart }
+    requires there { IsSome held.inode.value.content }
+    ensures program { open_old_of result ≡ open_at opening.sizes opening.path opening.flags (inode_in held) list }
+    ensures fits { (hart : ℕ) (s : State) → txn ≡ hart → IsHeld hart held s → OpenOldFits hart s result }
+{
+    let inode = record(&held.inode);
+    match refusal(&inode, opening.flags) {
+        Some(why) => {
+            let Opening { sizes, path, flags } = opening;
+            let ending = ending(
+                &sizes,
+                list,
+                Call::Open { path, flags },
+                Answer::Failed(why),
+            );
+            OpenOld::Ends(Quit::with_inode(ending, txn, held))
+        }
+        None => {
+            let empties = has_flag(opening.flags, TRUNCATE) && is_file(&inode);
+            let inode = ToOpen {
+                held,
+                empties,
+                list,
+            };
+            OpenOld::Installing(Install::new(opening, txn, inode))
+        }
+    }
+}
+
+// A step while what the path leads to is taken.
+#[tactic(auto, unfolding(crate::specs::Opens::open_old_of, crate::specs::Opens::OpenOldFits))]
+fn reaching(
+    opening: Opening,
+    txn: Txn,
+    stepped: Stepped<Reach, Reached, Kind>,
+) -> Stepped<OpenOld, Reply, Kind>
+    requires opening { IsOpening opening }
+    requires there { LeftOf (λ _. Unit {0}) (IsThere opening.path) stepped }
+    ensures follows { Follows (reach_of opening.path) (reached_as opening.path) open_old_of (λ reply. reply) (open_found opening.sizes opening.path opening.flags) stepped result }
+    ensures fits { (hart : ℕ) (s : State) → txn ≡ hart → LeftOf (ReachFits opening.path hart s) (IsReached opening.path hart s) stepped → LeftOf (OpenOldFits hart s) (λ _. Unit {0}) result }
+{
+    match stepped {
+        Stepped::Waits(reach) => Stepped::Waits(OpenOld::Reaching(opening, txn, reach)),
+        Stepped::Ran(reach, kind) => { Stepped::Ran(OpenOld::Reaching(opening, txn, reach), kind) }
+        Stepped::Done(reached, kind) => match reached {
+            Reached::At(held, _, list) => Stepped::Ran(at(opening, txn, list, held), kind),
+            Reached::Lost(why, list) => Stepped::Ran(lost(opening, txn, list, why), kind),
+        },
+        Stepped::Stopped(reach) => Stepped::Stopped(OpenOld::Reaching(opening, txn, reach)),
+    }
+}
+
+// A step while the inode gets a place and a descriptor.
+fn installing(stepped: Stepped<Install, Reply, Kind>) -> Stepped<OpenOld, Reply, Kind>
+    ensures { result ≡ ends_within (λ m. old.Installing m) (λ reply. reply) stepped }
+{
+    match stepped {
+        Stepped::Waits(install) => Stepped::Waits(OpenOld::Installing(install)),
+        Stepped::Ran(install, kind) => Stepped::Ran(OpenOld::Installing(install), kind),
+        Stepped::Done(reply, kind) => Stepped::Done(reply, kind),
+        Stepped::Stopped(install) => Stepped::Stopped(OpenOld::Installing(install)),
+    }
+}
+
+// A step of the call's end.
+fn ends(stepped: Stepped<Quit, Reply, Kind>) -> Stepped<OpenOld, Reply, Kind>
+    ensures { result ≡ ends_within (λ m. old.Ends m) (λ reply. reply) stepped }
+{
+    match stepped {
+        Stepped::Waits(quit) => Stepped::Waits(OpenOld::Ends(quit)),
+        Stepped::Ran(quit, kind) => Stepped::Ran(OpenOld::Ends(quit), kind),
+        Stepped::Done(reply, kind) => Stepped::Done(reply, kind),
+        Stepped::Stopped(quit) => Stepped::Stopped(OpenOld::Ends(quit)),
+    }
+}
