@@ -28,3 +28,5 @@ pub mod Rooms
 pub mod StoreSteps
 pub mod ContentBlocks
 pub mod ContentStays
+pub mod Accounts
+pub mod Counted

@@ -75,17 +75,28 @@ module _ (n : ℕ) (t : TablesState) (w : World) (load : ℕ → Option Dinode) 
       (λ k x there. let d = shows.desks k (subst (λ (m : ℕ). k < m) shows.sound.desks (slice_get_within t.desks k x there)) in ap (λ (z : ℕ). one_if (z == n)) (ap (λ (y : cards.Desk). y.directory) (same_Some x d.0 (sym there ∙ d.1)) ∙ d.2.directory))
       ∙ ap (λ (m : ℕ). sum_below m (λ g. one_if ((w.desks g).directory == n))) shows.sound.desks
 
+  -- a hart refers to its directory
+  each_owed : (g : ℕ) → g < hart_count → one_if ((w.desks g).directory == n) ≤ (w.harts g).refs n
+  each_owed g lg = elim (same_or (w.desks g).directory n) [
+    | inl e ↦ let o = one_yes ((w.desks g).directory == n) (ap (λ (z : ℕ). z == n) e ∙ eq_self n) in let p = (inv.refers g lg).home in let q : (w.harts g).refs (w.desks g).directory ≡ (w.harts g).refs n = ap (w.harts g).refs e in omega (arith, o, p, q)
+    | inr ne ↦ let o = one_no ((w.desks g).directory == n) (eq_not (w.desks g).directory n ne) in omega (arith, o)
+  ]
+
+  -- all that the tables have is counted
+  pub all_owed : owed n t ≤ references_of n t
+  all_owed =
+      let a = files_owe in
+      let b = desks_owe in
+      let c = inv.counts n in
+      let d = shows.places.counts n in
+      let less = sum_less hart_count (λ g. one_if ((w.desks g).directory == n)) (λ g. (w.harts g).refs n) each_owed in
+      omega (arith, a, b, c, d, less)
+
   pub fewer_owed : (h : ℕ) → h < hart_count → Spares h n w → owed n t < references_of n t
   fewer_owed h lt has =
       let a = files_owe in
       let b = desks_owe in
       let c = inv.counts n in
       let d = shows.places.counts n in
-      let less = sum_fewer hart_count h (λ g. one_if ((w.desks g).directory == n)) (λ g. (w.harts g).refs n) lt has (λ g lg. each g lg) in
+      let less = sum_fewer hart_count h (λ g. one_if ((w.desks g).directory == n)) (λ g. (w.harts g).refs n) lt has each_owed in
       omega (arith, a, b, c, d, less)
-    where
-      each : (g : ℕ) → g < hart_count → one_if ((w.desks g).directory == n) ≤ (w.harts g).refs n
-      each g lg = elim (same_or (w.desks g).directory n) [
-        | inl e ↦ let o = one_yes ((w.desks g).directory == n) (ap (λ (z : ℕ). z == n) e ∙ eq_self n) in let p = (inv.refers g lg).home in let q : (w.harts g).refs (w.desks g).directory ≡ (w.harts g).refs n = ap (w.harts g).refs e in omega (arith, o, p, q)
-        | inr ne ↦ let o = one_no ((w.desks g).directory == n) (eq_not (w.desks g).directory n ne) in omega (arith, o)
-      ]

@@ -11,3 +11,5 @@ pub mod Reading
 pub mod Recording
 pub mod Storing
 pub mod Room
+pub mod Accounts
+pub mod Counted

@@ -3,6 +3,8 @@
 //! do nothing: each carries a law.
 #![tactic(auto)]
 
+ghost use Rattle.inodes_on_blocks.specs.Accounts.{TransactionsHaveRoom};
+ghost use Rattle.inodes_on_blocks.specs.Counted.{ReferencesAreCounted, WaitsForOthers};
 ghost use Rattle.inodes_on_blocks.specs.Laws.{ChangesMayBegin, ChangesMayEnd, JoinsKeepThem, LeavesKeepThem, MountedNodesAreOnBlocks, QuietBlocksAreImages, RecordsKeepThem, UnseenChangesKeepThem};
 
 pub mod acting;
@@ -49,4 +51,20 @@ pub fn changes_may_end()
 /// The nodes of a well-formed image are on the blocks of a log over it that is fresh.
 pub fn mounted_nodes_are_on_blocks()
     ensures { MountedNodesAreOnBlocks }
+{}
+
+/// What a call's program may spend is room for its recorded puts: while the transaction has added no more to the group, each
+/// block that it says may be recorded, and then it has added no more still.
+pub fn transactions_have_room()
+    ensures { TransactionsHaveRoom }
+{}
+
+/// Wherever the machine below shows a world that holds, each reference of an open file or a current directory is counted.
+pub fn references_are_counted()
+    ensures { ReferencesAreCounted }
+{}
+
+/// And there an operation that may be made waits only for what another hart has in its hand, or for the log.
+pub fn waits_for_others()
+    ensures { WaitsForOthers }
 {}

@@ -1,0 +1,5 @@
+use Rattle.inodes_on_blocks.proofs.Accounts.{transactions_have_room}
+use Rattle.inodes_on_blocks.proofs.transactions_have_room.Goals as goal
+
+pub returns : goal.returns
+returns c = transactions_have_room

@@ -1,0 +1,5 @@
+use Rattle.inodes_on_blocks.proofs.Counted.{waits_for_others}
+use Rattle.inodes_on_blocks.proofs.waits_for_others.Goals as goal
+
+pub returns : goal.returns
+returns c = waits_for_others
