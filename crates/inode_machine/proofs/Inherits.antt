@@ -69,7 +69,7 @@ pub s-lend : {A : Type 0} {h c from : ℕ} {k : Lending → P machine A} {B : Li
     → Safe machine h B Q (Do (Lend c from) (lends c) k) n es w
 s-lend {A} {h} {c} {from} {k} {B} {Q} {n} {es} {w} {O} owns pos srv way le first b none last more = s-owned owns srv.free pos (λ v inv ov.
     let kd = kid h c v O inv ov srv in (
-      ((kd.below, kd.lender), (λ i a l. (ap (λ (o : Own). o.desk.lent i) ov ∙ way.after i a l, empty_child h c v O inv ov srv way.given i l))),
+      ((kd.below, kd.lender), ap (λ (o : Own). given_of o.desk) ov ∙ way.given, (λ i a l. ap (λ (o : Own). o.desk.lent i) ov ∙ way.after i a l), (λ q. first (ap (λ (o : Own). next_used from o.desk.fds) (sym ov) ∙ q))),
       (λ _ _. by v inv ov (next_used from (v.desks h).fds) refl),
     ))
   where
@@ -150,7 +150,7 @@ s-lend-directory {h = h} {c = c} {O = O} owns pos srv lent rest = s-owned owns s
     let is : (v.desks h).lent ≡ serving c (Some 0) = ap (λ (o : Own). o.desk.lent) ov ∙ lent in
     let none : (j : ℕ) → j < descriptor_count → (v.desks h).lent j ≡ None = (λ j lj. ap (λ (f : ℕ → Option ℕ). f j) is ∙ serving_none c (Some 0) j lj) in
     let at : v.all.cwd c ≡ (v.desks h).directory = subst (λ (z : Option ℕ). Has z (v.desks c).fds (v.all.cwd c) (v.desks c).directory (v.desks h).directory) (ap (λ (f : ℕ → Option ℕ). f (descriptor_count + 1)) is ∙ serving_given c (Some 0)) kd.lends.has in
-    ((kd.below, kd.lender), (λ _ _. quiet_to (moved_fair h c v O inv ov srv none at) (moved_stage h c v O inv ov srv none at) pos (λ l q. (rest l (v.desks c).directory (moved_in v h c) q (moved_owns h c v O inv ov srv none at)).wp))))
+    (((kd.below, kd.lender), none), (λ _ _. quiet_to (moved_fair h c v O inv ov srv none at) (moved_stage h c v O inv ov srv none at) pos (λ l q. (rest l (v.desks c).directory (moved_in v h c) q (moved_owns h c v O inv ov srv none at)).wp))))
 
 -- The child may start again.
 pub s-release : {A : Type 0} {h c : ℕ} {k : Unit {0} → P machine A} {B : List Step → Type 0} {Q : A → List Step → World → Type 0} {n : ℕ} {es : List Step} {w : World} {O : Own}
@@ -158,7 +158,7 @@ pub s-release : {A : Type 0} {h c : ℕ} {k : Unit {0} → P machine A} {B : Lis
     → Safe machine h B Q (Do (Release c) unmarked k) n es w
 s-release {h = h} {c = c} {O = O} owns pos srv lent rest = s-owned owns srv.free pos (λ v inv ov.
     let kd = kid h c v O inv ov srv in
-    ((kd.below, kd.lender), (λ _ _. quiet_to (released_fair h c v O inv ov srv lent) refl pos (λ l q. (rest l (released v h c) q (released_owns h c v O inv ov srv lent)).wp))))
+    (((kd.below, kd.lender), (λ j lj. ap (λ (o : Own). o.desk.lent j) ov ∙ ap (λ (f : ℕ → Option ℕ). f j) lent ∙ serving_none c (Some 1) j lj)), (λ _ _. quiet_to (released_fair h c v O inv ov srv lent) refl pos (λ l q. (rest l (released v h c) q (released_owns h c v O inv ov srv lent)).wp))))
 
 -- The call.
 

@@ -16,7 +16,7 @@ use Rattle.inode_machine.specs.Inodes.Looking.{AtNothing, AtName, AtEntries}
 use Rattle.inode_machine.specs.World.{Mine, Entry, Note, Desk, World, Op, Answer, Mark, Outside, stage_of}
 use Rattle.inode_machine.specs.World.Op.{Take, Give, UpStart, Up, WalkDown, Down, Free, Claim, Store, Fill, Enter, Clear, Empty, Slot, Install, StatFile, ReadFile, CheckFile, JoinFile, WriteFile, Double, Shut, Settle, Lend, LendDirectory, Release, Join, Leave, Say}
 use Rattle.inode_machine.specs.World.Outside.{Room, RoomFor, Picks}
-use Rattle.inode_machine.specs.Exec.{file_count, is_at, is_free, entry_of, child_of, given_of}
+use Rattle.inode_machine.specs.Exec.{file_count, is_at, is_free, entry_of, next_used, child_of, given_of}
 use Rattle.inode_machine.specs.Marks.{go, places}
 
 -- all that is an inode's
@@ -266,7 +266,8 @@ pub record IsName (e : Name) : Type 0 where
 
 -- What an operation asks. Who locks an inode refers to it, and hasn't locked it, and where its lock is free it has a record; who refers to one more has found it in
 -- a directory that it keeps; who gives a reference up, to none or to a table, has one besides its current directory's; who changes an inode has its lock and has
--- joined; who joins, leaves, opens by a descriptor or replies has no lock; who hands a descriptor on has handed on none from there.
+-- joined; who joins, leaves, opens by a descriptor or replies has no lock; who hands a descriptor on has handed on none from there, and where it has none hands the
+-- directory on at once; who hands that on, or lets a child go, has no descriptor on its way.
 -- A record is changed that is there, and of the operation's kind; a piece is written to the inode that its descriptor has; who shuts a descriptor hands none on.
 
 abbrev pub Locks : ℕ → ℕ → World → Type 0
@@ -288,6 +289,10 @@ Spares h n w = one_if ((w.desks h).directory == n) < (w.harts h).refs n
 -- it hands its own to this child
 abbrev pub Serves : ℕ → ℕ → World → Type 0
 Serves h child w = (child < hart_count) × ((w.desks child).lender ≡ Some h)
+
+-- no descriptor is on its way
+abbrev pub LendsNone : ℕ → World → Type 0
+LendsNone h w = (i : ℕ) → i < descriptor_count → (w.desks h).lent i ≡ None
 
 -- an inode has a record, of this kind
 pub record HasRecord (n : ℕ) (w : World) (P : Node → Type 0) : Type 0 where
@@ -330,9 +335,9 @@ Asks h (WriteFile fd n bytes) w = LocksNone h w × ((w.desks h).joined ≡ true)
 Asks h (Double fd) w = Unit {0}
 Asks h (Shut fd) w = LocksNone h w × ((w.desks h).lent ≡ nothing)
 Asks h (Settle n) w = Locks h n w × Spares h n w
-Asks h (Lend child from) w = Serves h child w × ((i : ℕ) → from ≤ i → i < descriptor_count → ((w.desks h).lent i ≡ None) × ((w.desks child).fds i ≡ None))
-Asks h (LendDirectory child) w = Serves h child w
-Asks h (Release child) w = Serves h child w
+Asks h (Lend child from) w = Serves h child w × (given_of (w.desks h) ≡ None) × ((i : ℕ) → from ≤ i → i < descriptor_count → (w.desks h).lent i ≡ None) × (next_used from (w.desks h).fds ≡ None → from ≡ 0)
+Asks h (LendDirectory child) w = Serves h child w × LendsNone h w
+Asks h (Release child) w = Serves h child w × LendsNone h w
 Asks h Join w = LocksNone h w × ((w.desks h).joined ≡ false)
 Asks h Leave w = LocksNone h w × ((w.desks h).joined ≡ true)
 Asks h Say w = LocksNone h w × ((w.desks h).joined ≡ false)
