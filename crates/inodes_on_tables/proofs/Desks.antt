@@ -22,7 +22,7 @@ use Rattle.inodes_on_tables.specs.Shown.{Shows, Runs, DeskShows, DesksShow, desc
 -- ---- lists
 
 -- the first place that passes, as the first number that does
-first_place : {X : Type 0} (p : X → Bool) (q : ℕ → Bool) (xs : List X) (i : ℕ) → ((j : ℕ) (x : X) → slice_get xs j ≡ Some x → p x ≡ q (i + j)) → position_from p i xs ≡ first_from (length xs) i q
+pub first_place : {X : Type 0} (p : X → Bool) (q : ℕ → Bool) (xs : List X) (i : ℕ) → ((j : ℕ) (x : X) → slice_get xs j ≡ Some x → p x ≡ q (i + j)) → position_from p i xs ≡ first_from (length xs) i q
 unfolding first_from
 first_place p q [] i same = refl
 first_place {X} p q (x ∷ xs) i same = by_test (first_place p q xs (i + 1) (λ j z at. same (suc j) z at ∙ ap q (omega arith))) (p x) (same 0 x refl ∙ ap q (omega arith))

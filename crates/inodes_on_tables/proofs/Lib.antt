@@ -7,3 +7,4 @@ pub mod Desks
 pub mod Slots
 pub mod Named
 pub mod Shuts
+pub mod Gives

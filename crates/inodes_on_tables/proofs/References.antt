@@ -61,7 +61,7 @@ module _ (h n : ℕ) (t : TablesState) (w : World) (load : ℕ → Option Dinode
       | inr ne ↦ shows.range m (subst (λ (z : ℕ). 0 < z) (put_other w.refs n (w.refs n + 1) m ne) lt)
     ]
 
-    shown_counted : (k : ℕ) → place_of n t.entries ≡ Some k → Shows (counted_at k t) (counted_up h n w) load
+    pub shown_counted : (k : ℕ) → place_of n t.entries ≡ Some k → Shows (counted_at k t) (counted_up h n w) load
     shown_counted k e = record {
       sound = record { inodes = good; files = shows.sound.files; desks = shows.sound.desks };
       places = subst (λ (l : List Entry). PlacesShow l t.locks (put w.refs n (w.refs n + 1)) w.lock load) (sym changed) (load_same (slice_set t.entries k new) t.locks (put w.refs n (w.refs n + 1)) w.lock load n set_so);

@@ -5,18 +5,19 @@ use Rattle.fs_layout.specs.declared.inode.Dinode.{Dinode}
 use Rattle.plain_tree.specs.Tree.{put}
 use Rattle.fs_tables.specs.declared.inodes.Inode.{Inode}
 use Rattle.fs_tables.specs.Tables.{TablesState, file_named}
-use Rattle.plain_tree.specs.Widths.{hart_count}
+use Rattle.plain_tree.specs.Widths.{hart_count, descriptor_count}
+use Rattle.fs_tables.specs.declared.slots.Given.TheVariants as given
 use Rattle.fs_tables.specs.Inodes.{lock_inode, unlock_inode, up_inode, up_directory, dead_of, DroppedState, Counts, Keeps, Dies, drop_inode, drop_walked, settle_inode, refusal_of, LockedState, Refuses, Locks, lock_file}
 use Rattle.fs_tables.specs.declared.files.Refused.TheVariants as refused
-use Rattle.fs_tables.specs.Files.{take_place, open_file, double_descriptor, shut_descriptor}
+use Rattle.fs_tables.specs.Files.{take_place, open_file, double_descriptor, shut_descriptor, give_next}
 use Rattle.fs_tables.specs.declared.files.Want.TheVariants as want
 use Rattle.plain_tree.specs.declared.tree.OpenFile.{OpenFile}
 use Rattle.inode_machine.specs.Inodes.{Sort, Looking, seen_in}
 use Rattle.inode_machine.specs.World.{Entry, World, Room}
-use Rattle.inode_machine.specs.World.Op.{Take, Up, UpStart, WalkDown, Down, Slot, Install, Double, Shut, Settle, StatFile}
-use Rattle.inode_machine.specs.Exec.{exec, start_number, is_dead, entry_of, read_refused, write_refused}
-use Rattle.inode_machine.specs.Rules.{Inv}
-use Rattle.inodes_on_tables.specs.Shown.{Shows, BothCame, Runs, file_of, new_file, doubled_as, shut_as, refused_as}
+use Rattle.inode_machine.specs.World.Op.{Take, Up, UpStart, WalkDown, Down, Slot, Install, Double, Shut, Settle, StatFile, Lend, LendDirectory, Release}
+use Rattle.inode_machine.specs.Exec.{exec, start_number, is_dead, entry_of, read_refused, write_refused, released}
+use Rattle.inode_machine.specs.Rules.{Inv, Asks}
+use Rattle.inodes_on_tables.specs.Shown.{Shows, BothCame, Runs, file_of, new_file, doubled_as, shut_as, given_as, refused_as}
 
 -- a lock is tried of an inode to which a reference stands; it answers what is loaded
 abbrev pub LocksAreTaken : Type 0
@@ -119,3 +120,19 @@ abbrev pub FilesAreLocked : Type 0
 FilesAreLocked =
     (h fd : ℕ) (t : TablesState) (w : World) (load : ℕ → Option Dinode) → Shows t w load → Inv w → Runs h w
     → BothCame (λ a b. FitsStat load (entry_of w h fd) a) (load_locked load) (lock_file h want.Stat fd t) (exec h Room (StatFile fd) w)
+
+-- A hart's next descriptor is handed on to the child that it serves, or its directory where it has none.
+abbrev pub DescriptorsAreGiven : Type 0
+DescriptorsAreGiven =
+    (h child from : ℕ) (t : TablesState) (w : World) (load : ℕ → Option Dinode) → Shows t w load → Inv w → Runs h w → Asks h (Lend child from) w → from ≤ descriptor_count
+    → BothCame (λ a b. a ≡ given_as b) (λ a. load) (give_next h child from t) (exec h Room (Lend child from) w)
+
+-- The directory is, past the last descriptor.
+abbrev pub DirectoriesAreGiven : Type 0
+DirectoriesAreGiven =
+    (h child : ℕ) (t : TablesState) (w : World) (load : ℕ → Option Dinode) → Shows t w load → Inv w → Runs h w → Asks h (LendDirectory child) w
+    → BothCame (λ a b. a ≡ given.Directory b) (λ a. load) (give_next h child descriptor_count t) (exec h Room (LendDirectory child) w)
+
+-- Where the child is released the tables stay.
+abbrev pub ChildrenAreReleased : Type 0
+ChildrenAreReleased = (h child : ℕ) (t : TablesState) (w : World) (load : ℕ → Option Dinode) → Shows t w load → Inv w → Runs h w → Asks h (Release child) w → Shows t (released w h child) load

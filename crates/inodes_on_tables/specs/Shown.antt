@@ -20,11 +20,13 @@ use Rattle.fs_tables.specs.declared.slots.Doubled.{Doubled}
 use Rattle.fs_tables.specs.declared.slots.Doubled.TheVariants as doubled
 use Rattle.fs_tables.specs.declared.slots.Shut.{Shut}
 use Rattle.fs_tables.specs.declared.slots.Shut.TheVariants as shut
+use Rattle.fs_tables.specs.declared.slots.Given.{Given}
+use Rattle.fs_tables.specs.declared.slots.Given.TheVariants as given
 use Rattle.fs_tables.specs.declared.desk.Desk as cards
 use Rattle.fs_tables.specs.Tables.{TablesState, place_of, references_in, holder_in}
 use Rattle.fs_tables.specs.Soundness.{IsSoundTables}
 use Rattle.inode_machine.specs.Inodes.{Sort, OfDirectory, OfFile, OfDevice}
-use Rattle.inode_machine.specs.World.{Entry, Desk, World}
+use Rattle.inode_machine.specs.World.{Entry, Desk, World, Lending, Lent, Moved}
 use Rattle.inode_machine.specs.Exec.{file_count, is_at}
 
 -- ---- inodes in memory
@@ -117,6 +119,10 @@ abbrev pub shut_as : Option (Option ℕ) → Shut
 shut_as None = shut.BadDescriptor
 shut_as (Some None) = shut.Closed
 shut_as (Some (Some n)) = shut.Last n
+
+abbrev pub given_as : Lending → Given
+given_as (Lent fd more) = given.Descriptor fd more
+given_as (Moved n) = given.Directory n
 
 -- why a descriptor is refused; no other cause is one
 abbrev pub refused_as : Cause → Refused

@@ -2,7 +2,7 @@
 //! its operations. The functions do nothing: each carries a law.
 #![tactic(auto)]
 
-ghost use Rattle.inodes_on_tables.specs.Laws.{LocksAreTaken, LocksAreGiven, ReferencesAreCounted, StartsAreCounted, DirectoriesAreStarts, WalksDropReferences, ReferencesAreDropped, PlacesAreTaken, FilesAreOpened, DescriptorsAreDoubled, DescriptorsAreShut, DirectoriesAreSettled, DescriptorsNameFiles, FilesAreLocked};
+ghost use Rattle.inodes_on_tables.specs.Laws.{LocksAreTaken, LocksAreGiven, ReferencesAreCounted, StartsAreCounted, DirectoriesAreStarts, WalksDropReferences, ReferencesAreDropped, PlacesAreTaken, FilesAreOpened, DescriptorsAreDoubled, DescriptorsAreShut, DirectoriesAreSettled, DescriptorsNameFiles, FilesAreLocked, DescriptorsAreGiven, DirectoriesAreGiven, ChildrenAreReleased};
 
 /// The lock of a referenced inode is tried: it waits where the operation does, and else answers what is loaded.
 pub fn locks_are_taken()
@@ -72,4 +72,19 @@ pub fn descriptors_name_files()
 /// The lock of the inode that a descriptor names is tried.
 pub fn files_are_locked()
     ensures { FilesAreLocked }
+{}
+
+/// A hart's next descriptor is the child's too, or, where it has none, its directory; the child's old one is answered.
+pub fn descriptors_are_given()
+    ensures { DescriptorsAreGiven }
+{}
+
+/// Past the last descriptor the directory is.
+pub fn directories_are_given()
+    ensures { DirectoriesAreGiven }
+{}
+
+/// Where a child is released the tables show the world as before.
+pub fn children_are_released()
+    ensures { ChildrenAreReleased }
 {}
