@@ -1,17 +1,15 @@
 -- A step that changes what two harts have: a hart's, and those of the one that it serves, which rests.
-use Rattle.std.proofs.Common.{◌≡◌, ◌≢◌, inl, inr, ℕ, ◌+◌, ◌<◌, ◌≤◌, ◌-◌, true, ◌==◌, List, [], ◌∷◌, Option, Some, None, refl, sym, ◌∙◌, ap, subst, arith}
-use Rattle.atomic_programs.specs.Logic.{Fine, P, Wp, onto, own}
+use Rattle.std.proofs.Common.{◌≡◌, ◌≢◌, inl, inr, ℕ, ◌+◌, ◌<◌, ◌≤◌, true, ◌==◌, [], Option, Some, None, refl, sym, ◌∙◌, ap, subst, arith}
 use Rattle.plain_tree.specs.Widths.{hart_count, descriptor_count}
 use Rattle.plain_tree.specs.HartRow.{row_of}
 use Rattle.tree_laws.specs.WellFormed.{sum_below, IsWellFormed}
-use Rattle.tree_laws.proofs.Maps.{eq_not, eq_self, same_or}
+use Rattle.tree_laws.proofs.Maps.{eq_self, same_or}
 use Rattle.tree_laws.proofs.Sums.{one_yes}
-use Rattle.tree_moves.specs.Moves.{Move, Step, Takes}
-use Rattle.inode_machine.specs.World.{Mine, Entry, Desk, World, stage_of}
+use Rattle.inode_machine.specs.World.{Mine, Entry, Desk, World}
 use Rattle.inode_machine.specs.Exec.{child_of, given_of}
 use Rattle.inode_machine.specs.Inodes.{OfDirectory, sort_of}
-use Rattle.inode_machine.specs.Marks.{Made, with_made}
-use Rattle.inode_machine.specs.Rules.{Own, Held, Rests, Idle, Others, Stands, Tied, own_names, own_of, Found, Pinned, Reached, reference_limit, References, IsAlone, Has, Lends, Inv, left_or, machine}
+use Rattle.inode_machine.specs.Rules.{Own, Held, Rests, Idle, Others, Stands, Tied, own_names, own_of, Found, Pinned, Reached, reference_limit, References, IsAlone, Has, Lends, Inv, left_or}
+use Rattle.inode_machine.proofs.Rules.{FairTo}
 use Rattle.inode_machine.proofs.Frame.{has_none, resting_names}
 use Rattle.inode_machine.proofs.Counting.{one_most}
 
@@ -54,12 +52,6 @@ pub record Serves (h c : ℕ) (v : World) (F : ℕ → Option Entry) (D : ℕ �
   pub stands : (D c).lender ≡ None → C c ≡ (D c).directory
   pub lends : (g : ℕ) → (D c).lender ≡ Some g → (g ≡ h) × (child_of (D h) ≡ Some c) × Has (given_of (D h)) (D c).fds (C c) (D c).directory (D h).directory
   pub served : (g : ℕ) → child_of (D h) ≡ Some g → (g ≡ c) × ((D c).lender ≡ Some h)
-
--- all that such a step shows to the rest
-pub record FairTo (h : ℕ) (v u : World) : Type 0 where
-  pub inv : Inv u
-  pub kept : (g : ℕ) → g ≢ h → Others g v [] u
-  pub clean : u.clean ≡ true → v.clean ≡ true
 
 module _ (h c : ℕ) (v : World) (F : ℕ → Option Entry) (D : ℕ → Desk) (R : ℕ → ℕ) (H : ℕ → Mine) (X : ℕ → ℕ → Option ℕ) (C : ℕ → ℕ) (inv : Inv v) (s : Serves h c v F D R H X C) where
   abbrev u : World
@@ -216,26 +208,3 @@ module _ (h c : ℕ) (v : World) (F : ℕ → Option Entry) (D : ℕ → Desk) (
     ];
     clean = λ q. q;
   }
-
--- it placed nothing
-pub quiet_to : {h more n : ℕ} {B : List Step → Type 0} {es : List Step} {v u : World} {Next : ℕ → Type 0} → FairTo h v u → stage_of u ≡ stage_of v → more < n → ((l : ℕ) → l + (more + 1) ≡ n → Next l) → Fine machine h [] more n B es v u Next
-quiet_to {h} {more} {n} f same pos next =
-    record { inv = f.inv; kept = f.kept; goes = λ c. same; clean = f.clean; begun = λ c. inl refl; left = n - (more + 1); falls = omega (arith, pos); next = next (n - (more + 1)) (omega (arith, pos)) }
-
--- it made a move
-pub moves_to : {A : Type 0} (h more n : ℕ) (B : List Step → Type 0) (Q : A → List Step → World → Type 0) (es : List Step) (v u : World) (mv : Move) (p : P machine A) (made x : Made)
-    → made ≡ x → FairTo h v (with_made h x u) → Takes (stage_of v) h (record { move = mv; told = x.told }) (stage_of (with_made h x u)) → B (record { move = mv; told = x.told } ∷ es) → more < n
-    → ((l : ℕ) → l + (more + 1) ≡ n → Wp machine h B Q p l (record { move = mv; told = x.told } ∷ es) (with_made h x u))
-    → Fine machine h ((h, record { move = mv; told = made.told }) ∷ []) more n B es v (with_made h made u) (λ l. Wp machine h B Q p l (onto (own h ((h, record { move = mv; told = made.told }) ∷ [])) es) (with_made h made u))
-moves_to {A} h more n B Q es v u mv p made x is f takes b pos next =
-    subst (λ (z : Made). Fine machine h ((h, record { move = mv; told = z.told }) ∷ []) more n B es v (with_made h z u) (λ l. Wp machine h B Q p l (onto (own h ((h, record { move = mv; told = z.told }) ∷ [])) es) (with_made h z u))) (sym is)
-    (record {
-      inv = f.inv;
-      kept = λ g ne. subst (λ (zs : List Step). Others g v zs (with_made h x u)) (sym (rw (eq_not h g (λ q. ne (sym q))) refl)) (f.kept g ne);
-      goes = λ c. (stage_of (with_made h x u), takes, refl);
-      clean = f.clean;
-      begun = λ c. inr (rw (eq_self h) b);
-      left = n - (more + 1);
-      falls = omega (arith, pos);
-      next = rw (eq_self h) (next (n - (more + 1)) (omega (arith, pos)));
-    })

@@ -23,14 +23,14 @@ use Rattle.inode_machine.specs.Parts.{done}
 use Rattle.inode_machine.specs.Programs.{limit, rest_cost}
 use Rattle.inode_machine.specs.Rules.{Held, Own, Rests, own_names, own_of, Has, Inv, machine, nothing}
 use Rattle.inode_machine.specs.Theory.{covered_calls}
-use Rattle.inode_machine.proofs.Rules.{s-owned, quiet}
+use Rattle.inode_machine.proofs.Walking.{moves_to}
+use Rattle.inode_machine.proofs.Rules.{quiet_to, s-owned, quiet}
 use Rattle.inode_machine.proofs.Counting.{one_most}
 use Rattle.inode_machine.proofs.Dups.{less_is, s-join, s-leave}
 use Rattle.inode_machine.proofs.Drops.{s-drop}
 use Rattle.inode_machine.proofs.Resting.{idle_as, unlocks_nothing}
 use Rattle.inode_machine.proofs.Endings.{names_plain}
 use Rattle.inode_machine.proofs.Handings.{NextUsed, next_is, next_none, next_past}
-use Rattle.inode_machine.proofs.Both.{quiet_to, moves_to}
 use Rattle.inode_machine.proofs.Turnings.{Server, kid, serving_child, serving_given, serving_none}
 use Rattle.inode_machine.proofs.Lendings.{inherited, inherited_made, made_is, lent_world, lent_is, lends_one, all_lent, all_lent_fair, all_lent_own, all_lent_takes}
 use Rattle.inode_machine.proofs.Movings.{moved_own, moved_fair, moved_owns, moved_stage, given_world, given_fair, given_owns, given_takes}

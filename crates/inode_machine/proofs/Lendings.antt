@@ -19,13 +19,14 @@ use Rattle.inode_machine.specs.Exec.{is_at, with_walk, slot_or, more_users, with
 use Rattle.inode_machine.specs.Inodes.{sort_of}
 use Rattle.inode_machine.specs.Marks.{Made, made_by, new_id}
 use Rattle.inode_machine.specs.Rules.{Own, Rests, own_names, own_of, shop_of, id_at, Has, Inv, left_or}
+use Rattle.inode_machine.proofs.Rules.{FairTo}
 use Rattle.inode_machine.proofs.Frame.{bond_of, stands_on, Fair, fair, has_none}
 use Rattle.inode_machine.proofs.Rows.{below_is}
 use Rattle.inode_machine.proofs.Walking.{refs_walk, stage_walk}
 use Rattle.inode_machine.proofs.Shops.{sells_did}
 use Rattle.inode_machine.proofs.Dups.{renewed_at, renewed_sorts}
 use Rattle.inode_machine.proofs.Handings.{lent_desks, counted_more, tied_lent, HandsAll, tied_handed}
-use Rattle.inode_machine.proofs.Both.{both_world, FairTo}
+use Rattle.inode_machine.proofs.Both.{both_world}
 use Rattle.inode_machine.proofs.Turnings.{Server, Kid, kid, Turns, turned_fair, turned_own, serving_child, serving_given, serving_none}
 
 -- The step of the tree.

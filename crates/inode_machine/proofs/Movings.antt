@@ -10,11 +10,11 @@ use Rattle.inode_machine.specs.World.{Mine, Desk, World, stage_of}
 use Rattle.inode_machine.specs.Exec.{with_walk, moved_in, serving}
 use Rattle.inode_machine.specs.Rules.{Own, Rests, own_of, shop_of, Tied, Has, Inv}
 use Rattle.inode_machine.proofs.Frame.{put_elim, has_none}
-use Rattle.inode_machine.proofs.Rules.{my_refs}
+use Rattle.inode_machine.proofs.Rules.{FairTo, my_refs}
 use Rattle.inode_machine.proofs.Walking.{refs_walk, stage_walk}
 use Rattle.inode_machine.proofs.Counting.{one_most}
 use Rattle.inode_machine.proofs.Handings.{SameTied, same_tied, tied_as, HandsAll, tied_handed}
-use Rattle.inode_machine.proofs.Both.{both_world, FairTo}
+use Rattle.inode_machine.proofs.Both.{both_world}
 use Rattle.inode_machine.proofs.Turnings.{Server, Kid, kid, Turns, turned_fair, turned_own, moved_refs, moved_hart, moved_child, moved_child_walk, moved_child_pending, moved_mine, moved_others, moved_walks, moved_counts, moved_apart, serving_child, serving_given, serving_none}
 use Rattle.inode_machine.proofs.Lendings.{at_home, inherited, inherit_takes, tree_empty}
 

@@ -6,9 +6,9 @@ use Rattle.tree_laws.proofs.Maps.{put_same, put_other}
 use Rattle.inode_machine.specs.World.{Desk, World}
 use Rattle.inode_machine.specs.Exec.{released, serving}
 use Rattle.inode_machine.specs.Rules.{Own, own_of, shop_of, Has, Inv, nothing}
+use Rattle.inode_machine.proofs.Rules.{FairTo}
 use Rattle.inode_machine.proofs.Frame.{put_elim}
 use Rattle.inode_machine.proofs.Handings.{SameTied, same_tied, tied_as}
-use Rattle.inode_machine.proofs.Both.{FairTo}
 use Rattle.inode_machine.proofs.Turnings.{Server, Kid, kid, Turns, turned_fair, turned_own, serving_given, serving_none}
 
 -- The child starts again: its directory in the tree is its own.

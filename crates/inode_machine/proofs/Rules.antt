@@ -38,18 +38,30 @@ s-owned {A} {h} {op} {m} {k} {B} {Q} {n} {es} {w} {O} owns free pos rule =
 pub others : {h : ℕ} {v u : World} → Fair h v u → (g : ℕ) → g ≢ h → Others g v [] u
 others f g ne = record { none = refl; same = λ free. f.others g ne; rests = λ i. subst (λ (o : Own). Rests o) (sym (f.others g ne)) i; clean = f.clean }
 
+-- all that a step shows to the rest, also one that changes what a hart has that rests
+pub record FairTo (h : ℕ) (v u : World) : Type 0 where
+  pub inv : Inv u
+  pub kept : (g : ℕ) → g ≢ h → Others g v [] u
+  pub clean : u.clean ≡ true → v.clean ≡ true
+
+pub fair_to : {h : ℕ} {v u : World} → Fair h v u → FairTo h v u
+fair_to f = record { inv = f.inv; kept = others f; clean = f.clean }
+
 -- it placed nothing
+pub quiet_to : {h more n : ℕ} {B : List Step → Type 0} {es : List Step} {v u : World} {Next : ℕ → Type 0} → FairTo h v u → stage_of u ≡ stage_of v → more < n → ((l : ℕ) → l + (more + 1) ≡ n → Next l) → Fine machine h [] more n B es v u Next
+quiet_to {h} {more} {n} f same pos next =
+    record { inv = f.inv; kept = f.kept; goes = λ c. same; clean = f.clean; begun = λ c. inl refl; left = n - (more + 1); falls = omega (arith, pos); next = next (n - (more + 1)) (omega (arith, pos)) }
+
 pub quiet : {h more n : ℕ} {B : List Step → Type 0} {es : List Step} {v u : World} {Next : ℕ → Type 0} → Fair h v u → stage_of u ≡ stage_of v → more < n → ((l : ℕ) → l + (more + 1) ≡ n → Next l) → Fine machine h [] more n B es v u Next
-quiet {h} {more} {n} f same pos next =
-    record { inv = f.inv; kept = λ g ne. others f g ne; goes = λ c. same; clean = f.clean; begun = λ c. inl refl; left = n - (more + 1); falls = omega (arith, pos); next = next (n - (more + 1)) (omega (arith, pos)) }
+quiet f same pos next = quiet_to (fair_to f) same pos next
 
 -- it made a move
-pub acted : {h more n : ℕ} {B : List Step → Type 0} {es : List Step} {v u : World} {e : Step} {Next : ℕ → Type 0} → Fair h v u → Takes (stage_of v) h e (stage_of u) → B (e ∷ es) → more < n
+pub acted_to : {h more n : ℕ} {B : List Step → Type 0} {es : List Step} {v u : World} {e : Step} {Next : ℕ → Type 0} → FairTo h v u → Takes (stage_of v) h e (stage_of u) → B (e ∷ es) → more < n
     → ((l : ℕ) → l + (more + 1) ≡ n → Next l) → Fine machine h ((h, e) ∷ []) more n B es v u Next
-acted {h} {more} {n} {B} {es} {v} {u} {e} f takes b pos next =
+acted_to {h} {more} {n} {B} {es} {v} {u} {e} f takes b pos next =
     record {
       inv = f.inv;
-      kept = λ g ne. subst (λ (zs : List Step). Others g v zs u) (sym (rw (eq_not h g (λ q. ne (sym q))) refl)) (others f g ne);
+      kept = λ g ne. subst (λ (zs : List Step). Others g v zs u) (sym (rw (eq_not h g (λ q. ne (sym q))) refl)) (f.kept g ne);
       goes = λ c. (stage_of u, takes, refl);
       clean = f.clean;
       begun = λ c. inr (rw (eq_self h) b);
@@ -57,6 +69,10 @@ acted {h} {more} {n} {B} {es} {v} {u} {e} f takes b pos next =
       falls = omega (arith, pos);
       next = next (n - (more + 1)) (omega (arith, pos));
     }
+
+pub acted : {h more n : ℕ} {B : List Step → Type 0} {es : List Step} {v u : World} {e : Step} {Next : ℕ → Type 0} → Fair h v u → Takes (stage_of v) h e (stage_of u) → B (e ∷ es) → more < n
+    → ((l : ℕ) → l + (more + 1) ≡ n → Next l) → Fine machine h ((h, e) ∷ []) more n B es v u Next
+acted f takes b pos next = acted_to (fair_to f) takes b pos next
 
 -- after a change that no other hart sees
 pub fine_after : {h more n : ℕ} {B : List Step → Type 0} {es : List Step} {ps : List (ℕ × Step)} {v w u : World} {Next : ℕ → Type 0} → Fair h v w → stage_of w ≡ stage_of v → Fine machine h ps more n B es w u Next → Fine machine h ps more n B es v u Next

@@ -11,10 +11,10 @@ use Rattle.inode_machine.specs.Exec.{child_of, given_of, serving, with_refs}
 use Rattle.inode_machine.specs.Inodes.{OfDirectory, sort_of}
 use Rattle.inode_machine.specs.Rules.{Own, Held, Tied, own_of, reference_limit, Has, Inv, Lends, nothing}
 use Rattle.inode_machine.proofs.Frame.{put_elim, has_none, two_refs}
-use Rattle.inode_machine.proofs.Rules.{walks_refs}
+use Rattle.inode_machine.proofs.Rules.{FairTo, walks_refs}
 use Rattle.inode_machine.proofs.Dups.{not_one}
 use Rattle.inode_machine.proofs.Handings.{sum_twice}
-use Rattle.inode_machine.proofs.Both.{both_world, Serves, FairTo, both, row_same}
+use Rattle.inode_machine.proofs.Both.{both_world, Serves, both, row_same}
 
 -- What hart h owns while it serves hart c.
 pub record Server (h c : ℕ) (O : Own) : Type 0 where

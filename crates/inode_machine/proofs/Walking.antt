@@ -12,7 +12,7 @@ use Rattle.inode_machine.specs.Marks.{Made, with_made}
 use Rattle.inode_machine.specs.Exec.{with_walk}
 use Rattle.inode_machine.specs.Rules.{Own, shop_of, own_of, Found, Pinned, Inv, machine, own_names}
 use Rattle.inode_machine.proofs.Frame.{shop_same, put_elim, is_put, Did, Fair, refers_on}
-use Rattle.inode_machine.proofs.Rules.{acted}
+use Rattle.inode_machine.proofs.Rules.{FairTo, acted_to, fair_to}
 use Rattle.inode_machine.specs.Inodes.{sort_of}
 
 -- A hart's walk, and what it found, change.
@@ -93,10 +93,16 @@ own_walk h k p v O ov = λ z. record {
 }
 
 -- The move as the machine makes it is this one.
+pub moves_to : {A : Type 0} (h more n : ℕ) (B : List Step → Type 0) (Q : A → List Step → World → Type 0) (es : List Step) (v u : World) (mv : Move) (p : P machine A) (made x : Made)
+    → made ≡ x → FairTo h v (with_made h x u) → Takes (stage_of v) h (record { move = mv; told = x.told }) (stage_of (with_made h x u)) → B (record { move = mv; told = x.told } ∷ es) → more < n
+    → ((l : ℕ) → l + (more + 1) ≡ n → Wp machine h B Q p l (record { move = mv; told = x.told } ∷ es) (with_made h x u))
+    → Fine machine h ((h, record { move = mv; told = made.told }) ∷ []) more n B es v (with_made h made u) (λ l. Wp machine h B Q p l (onto (own h ((h, record { move = mv; told = made.told }) ∷ [])) es) (with_made h made u))
+moves_to {A} h more n B Q es v u mv p made x is f takes b pos next =
+    subst (λ (z : Made). Fine machine h ((h, record { move = mv; told = z.told }) ∷ []) more n B es v (with_made h z u) (λ l. Wp machine h B Q p l (onto (own h ((h, record { move = mv; told = z.told }) ∷ [])) es) (with_made h z u))) (sym is)
+    (acted_to f takes b pos (λ l q. rw (eq_self h) (next l q)))
+
 pub moves_good : {A : Type 0} (h more n : ℕ) (B : List Step → Type 0) (Q : A → List Step → World → Type 0) (es : List Step) (v u : World) (mv : Move) (p : P machine A) (made x : Made)
     → made ≡ x → Fair h v (with_made h x u) → Takes (stage_of v) h (record { move = mv; told = x.told }) (stage_of (with_made h x u)) → B (record { move = mv; told = x.told } ∷ es) → more < n
     → ((l : ℕ) → l + (more + 1) ≡ n → Wp machine h B Q p l (record { move = mv; told = x.told } ∷ es) (with_made h x u))
     → Fine machine h ((h, record { move = mv; told = made.told }) ∷ []) more n B es v (with_made h made u) (λ l. Wp machine h B Q p l (onto (own h ((h, record { move = mv; told = made.told }) ∷ [])) es) (with_made h made u))
-moves_good {A} h more n B Q es v u mv p made x is f takes b pos next =
-    subst (λ (z : Made). Fine machine h ((h, record { move = mv; told = z.told }) ∷ []) more n B es v (with_made h z u) (λ l. Wp machine h B Q p l (onto (own h ((h, record { move = mv; told = z.told }) ∷ [])) es) (with_made h z u))) (sym is)
-    (acted f takes b pos (λ l q. rw (eq_self h) (next l q)))
+moves_good h more n B Q es v u mv p made x is f takes b pos next = moves_to h more n B Q es v u mv p made x is (fair_to f) takes b pos next
