@@ -4,7 +4,6 @@ use Rattle.std.specs.Prelude.{slice_get, slice_set}
 use Rattle.std.proofs.lemmas.Option.{slice_get-get_or}
 use Rattle.std.proofs.lemmas.List.{get_or-set_same}
 use Rattle.sleep_lock.proofs.Lists.{slice_get-set_other}
-use Rattle.fs_layout.specs.declared.inode.Dinode.{Dinode}
 use Rattle.plain_tree.specs.Tree.{put}
 use Rattle.plain_tree.specs.Widths.{hart_count}
 use Rattle.tree_laws.proofs.Maps.{same_or, put_same, put_other}
@@ -14,7 +13,6 @@ use Rattle.group_log.specs.Waiting.{join_waits}
 use Rattle.atomic_programs.specs.Prog.{Ran}
 use Rattle.atomic_programs.specs.Logic.{Laws}
 use Rattle.atomic_programs.specs.Joined.{Both}
-use Rattle.fs_tables.specs.Tables.{TablesState}
 use Rattle.fs_machine.specs.LogPart.{join_if}
 use Rattle.fs_machine.specs.Steps as steps
 use Rattle.fs_machine.specs.Premises as premises
@@ -27,47 +25,18 @@ use Rattle.inode_machine.specs.Exec as above_exec
 use Rattle.inode_machine.specs.Exec.{is_at}
 use Rattle.inode_machine.specs.Rules as rules
 use Rattle.inode_machine.specs.Rules.{Inv, LocksNone}
-use Rattle.inodes_on_tables.specs.Shown as tables
-use Rattle.inodes_on_tables.specs.Shown.{loaded, descriptor, first, lent_by, place_with}
-use Rattle.inodes_on_tables.proofs.Desks.{part_same, taken_same, lenders_set}
+use Rattle.inodes_on_tables.specs.Shown.{loaded}
+use Rattle.inodes_on_tables.proofs.Desks.{part_same}
 use Rattle.inodes_on_blocks.specs.OnBlocks.{is_joined, Ghost, AreOnBlocks}
 use Rattle.inodes_on_blocks.specs.Below.{World, log_of, tables_of, disk_of, came_to}
 use Rattle.inodes_on_blocks.specs.Shown.{Shows, if_joined, ghost_of}
 use Rattle.inodes_on_blocks.specs.Lowering.{Carry, Base, Labels, labelled, Keeps}
 use Rattle.inodes_on_blocks.specs.Handlers.{join}
 use Rattle.inodes_on_blocks.specs.Acting.{ActsOnce}
+use Rattle.inodes_on_blocks.proofs.LeaveSteps.{tables_desk}
 use Rattle.inodes_on_blocks.proofs.Quiet.{join_keeps}
 use Rattle.inodes_on_blocks.proofs.Layer.{untouched_same}
 use Rattle.inodes_on_blocks.proofs.Stepping.{Came, CameTo, one_step}
-
--- a desk that differs in whether its hart has joined
-tables_joined : (h : ℕ) (b : Bool) (t : TablesState) (w : above.World) (load : ℕ → Option Dinode) → tables.Shows t w load → tables.Shows t (above_exec.with_joined w h b) load
-tables_joined h b t w load shows = record {
-  sound = shows.sound;
-  places = shows.places;
-  files = λ k lt. shows.files k lt ∙ ap (λ (c : Bool). Some (place_with c (w.files k))) (sym (taken_same w.desks h (record (w.desks h) { joined = b }) k refl));
-  desks = λ g lt. let d = shows.desks g lt in (
-    d.0,
-    d.1,
-    record {
-      long = d.2.long;
-      descriptors = λ i l. d.2.descriptors i l ∙ ap (λ (o : Option ℕ). Some o) (sym (named g i));
-      directory = d.2.directory ∙ sym (part_same (λ d. d.directory) w.desks h (record (w.desks h) { joined = b }) g refl);
-      hand = d.2.hand ∙ sym (part_same (λ d. d.hand) w.desks h (record (w.desks h) { joined = b }) g refl);
-    },
-  );
-  lenders = lenders_set w.desks h (record (w.desks h) { joined = b }) refl shows.lenders;
-  range = shows.range;
-}
-  where
-    lent : (i : ℕ) (o : Option ℕ) → lent_by (put w.desks h (record (w.desks h) { joined = b })) o i ≡ lent_by w.desks o i
-    lent i None = refl
-    lent i (Some l) = part_same (λ d. d.lent i) w.desks h (record (w.desks h) { joined = b }) l refl
-
-    named : (g i : ℕ) → descriptor (put w.desks h (record (w.desks h) { joined = b })) g i ≡ descriptor w.desks g i
-    named g i =
-        (λ z. first (part_same (λ d. d.fds i) w.desks h (record (w.desks h) { joined = b }) g refl z) (lent_by (put w.desks h (record (w.desks h) { joined = b })) (part_same (λ d. d.lender) w.desks h (record (w.desks h) { joined = b }) g refl z) i))
-        ∙ ap (first ((w.desks g).fds i)) (lent i (w.desks g).lender)
 
 module _ (l : Labels) (laws : Laws (labelled l)) (keeps : Keeps l) (h : ℕ) (lt : h < hart_count) where
   abbrev W : Type 0
@@ -92,7 +61,7 @@ module _ (l : Labels) (laws : Laws (labelled l)) (keeps : Keeps l) (h : ℕ) (lt
     whole = whole;
     runs = shows.runs;
     size = shows.size;
-    tables = tables_joined h true (tables_of v.real) v.seen (loaded (tables_of v.real)) shows.tables;
+    tables = tables_desk h (record (v.seen.desks h) { joined = true }) (tables_of v.real) v.seen (loaded (tables_of v.real)) refl refl refl refl refl shows.tables;
     members = λ g lg. elim (same_or g h) [
       | inl q ↦ ap (λ (z : ℕ). (put v.seen.desks h (record (v.seen.desks h) { joined = true }) z).joined) q ∙ ap (λ (d : Desk). d.joined) (put_same v.seen.desks h (record (v.seen.desks h) { joined = true }))
           ∙ sym (ap is_some (get_or-set_same (log_of v.real).members h (Some 0) None (within v shows))) ∙ ap (is_joined (slice_set (log_of v.real).members h (Some 0))) (sym q)

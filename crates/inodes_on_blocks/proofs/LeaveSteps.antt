@@ -124,7 +124,7 @@ leave_runs j (b ∷ ks) e = pick (j == 0) (λ t. (if t then Staging 0 else Open)
 
 -- ---- a desk that differs in what the tables don't have
 
-tables_desk : (h : ℕ) (new : Desk) (t : TablesState) (w : above.World) (load : ℕ → Option Dinode) → new.fds ≡ (w.desks h).fds → new.hand ≡ (w.desks h).hand → new.directory ≡ (w.desks h).directory → new.lent ≡ (w.desks h).lent → new.lender ≡ (w.desks h).lender
+pub tables_desk : (h : ℕ) (new : Desk) (t : TablesState) (w : above.World) (load : ℕ → Option Dinode) → new.fds ≡ (w.desks h).fds → new.hand ≡ (w.desks h).hand → new.directory ≡ (w.desks h).directory → new.lent ≡ (w.desks h).lent → new.lender ≡ (w.desks h).lender
     → tables.Shows t w load → tables.Shows t (record w { desks = put w.desks h new }) load
 tables_desk h new t w load fds hand directory lends lender shows = record {
   sound = shows.sound;
