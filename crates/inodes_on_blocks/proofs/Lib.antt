@@ -22,6 +22,7 @@ pub mod Recorded
 pub mod Putting
 pub mod RecordPuts
 pub mod OwnerPuts
+pub mod NamedPuts
 pub mod PutLaws
 pub mod BitmapPuts
 pub mod Rooms

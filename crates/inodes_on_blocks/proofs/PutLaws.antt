@@ -1,20 +1,24 @@
 -- The laws of recorded puts.
-use Rattle.std.proofs.Common.{◌≡◌, inl, inr, ℕ, ◌<◌, true, List, length, Option, refl, sym, subst, arith}
+use Rattle.std.proofs.Common.{◌≡◌, inl, inr, ℕ, ◌<◌, true, List, length, Option, refl, sym, subst, arith, ◌≢◌, false, Some, None, ◌∙◌}
 use Rattle.std.specs.Prelude.{nat_lt}
 use Rattle.std.proofs.lemmas.Bool.Decides.{nat_tests}
 use Rattle.fs_layout.specs.declared.superblock.Super.{Super}
 use Rattle.tree_laws.proofs.Maps.{either, eq_self, eq_not}
+use Rattle.std.specs.List.{Contains}
+use Rattle.image_tree.specs.Inodes.{numbers_by}
+use Rattle.image_laws.specs.Holds.{HoldsAt}
 use Rattle.image_laws.proofs.SeenDisks.{good_seen}
 use Rattle.fs_tables.specs.Tables.{holder_of as lock_holder}
 use Rattle.fs_machine.specs.Shown.{seen_of}
 use Rattle.fs_machine.specs.Steps as steps
 use Rattle.inode_table.specs.Programs.{inode_block}
-use Rattle.inodes_on_blocks.specs.Owners.{Owners, owners_put}
+use Rattle.inodes_on_blocks.specs.Owners.{Owners, inode_put, owners_put}
 use Rattle.inodes_on_blocks.specs.Below.{log_of, tables_of, disk_of, owners_of}
-use Rattle.inodes_on_blocks.specs.Recording.{PutLeaves, log_with, owners_with, with_record, RecordedPutsKeep, DataPutsLeave, ClearedBitsLeave, SetBitsLeave, RecordPutsLeave}
+use Rattle.inodes_on_blocks.specs.Recording.{PutLeaves, log_with, owners_with, with_record, RecordedPutsKeep, DataPutsLeave, ClearedBitsLeave, SetBitsLeave, RecordPutsLeave, NamingPutsLeave}
 use Rattle.inodes_on_blocks.proofs.Recorded.{may_put}
 use Rattle.inodes_on_blocks.proofs.Putting.{same_put, shows_put, lock_range}
 use Rattle.inodes_on_blocks.proofs.RecordPuts.{quiet_owners, quiet_leaves}
+use Rattle.inodes_on_blocks.proofs.NamedPuts.{named_leaves, named_here}
 use Rattle.inodes_on_blocks.proofs.OwnerPuts.{give_leaves, take_leaves, taken_here, data_put_leaves}
 
 pub recorded_puts_keep : RecordedPutsKeep
@@ -62,3 +66,27 @@ record_puts_leave h n d r g shows is fits none can =
     subst (λ (o : Owners). PutLeaves h n r (log_with h b (with_record n d r) r) o)
     (sym (quiet_owners (λ i. lock_holder i (tables_of r)) h (disk_of (log_with h b (with_record n d r) r)) (owners_of r) none (log_of r).sizes.bmapstart b (disk_of (log_of r)) (λ e. absurd (omega (arith, inodes, bound, e)))))
     (quiet_leaves h n d r g shows is.lock is.joined range.0 range.1 fits can (shows.blocks.seen.whole b can.home.within can.home.outside))
+
+-- before the bitmap it is a put of inodes
+before : (lock : ℕ → Option ℕ) (h bitmap b : ℕ) (old new : List (List ℕ)) (o : Owners) → b < bitmap → owners_put lock h bitmap b old new o ≡ inode_put lock h new o
+before lock h bitmap b old new o low = elim (either (nat_lt b bitmap)) [
+  | inl is ↦ rw (eq_not b bitmap (λ e. absurd (omega (arith, e, low))), is) refl
+  | inr isnt ↦ absurd (not_high b bitmap low isnt)
+]
+  where
+    not_high : (a c : ℕ) → a < c → nat_lt a c ≡ false → ⊥
+    not_high a c low isnt = grind (arith, nat_tests)
+
+pub naming_puts_leave : NamingPutsLeave
+naming_puts_leave h n d r g shows is fits others can =
+    let b = inode_block (log_of r).sizes.inodestart n in
+    let range = lock_range n h r g shows is.lock in
+    let inodes = shows.blocks.seen.good.inodes in
+    let bound = range.1 in
+    let long = shows.blocks.seen.whole b can.home.within can.home.outside in
+    let new = disk_of (log_with h b (with_record n d r) r) in
+    let lock : (ℕ → Option ℕ) = (λ i. lock_holder i (tables_of r)) in
+    let all : ((j : ℕ) → j ≢ n → lock_holder j (tables_of r) ≡ Some h → HoldsAt (disk_of (log_of r)) r.owner j (g.disk j)) = (λ j ne out. others j ne (shows.tables.places.holders j ∙ out)) in
+    subst (λ (o : Owners). PutLeaves h n r (log_with h b (with_record n d r) r) o × ((c : ℕ) → r.taken c ≡ Some h → Contains (numbers_by new n) c → (o.owner c ≡ n) × (o.taken c ≡ None)))
+    (sym (before lock h (log_of r).sizes.bmapstart b (disk_of (log_of r)) new (owners_of r) (omega (arith, inodes, bound))))
+    (named_leaves h n d r g shows is.lock is.joined range.0 range.1 fits can long all, named_here h n d r g shows is.lock is.joined range.0 range.1 fits can long all)

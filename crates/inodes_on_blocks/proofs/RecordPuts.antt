@@ -95,7 +95,7 @@ module _ (h n : ℕ) (d : Dinode) (r : World) (g : above.World) (shows : Shows r
     leaves_others = inode_leaves (disk_of l) (disk_of now) r.owner n d shows.blocks.running.front within record_put
 
     -- what a hart has taken is a data block
-    taken_stays : (k c : ℕ) → if_kept (r.taken c) k (seen_of now c) ≡ if_kept (r.taken c) k (seen_of l c)
+    pub taken_stays : (k c : ℕ) → if_kept (r.taken c) k (seen_of now c) ≡ if_kept (r.taken c) k (seen_of l c)
     taken_stays k c = by (r.taken c) refl
       where
         by : (t : Option ℕ) → r.taken c ≡ t → if_kept t k (seen_of now c) ≡ if_kept t k (seen_of l c)

@@ -1,5 +1,5 @@
 -- Blocks recorded by the hart that has an inode's lock, in its transaction: what it may record, and what such a put leaves.
-use Rattle.std.specs.Prelude.{◌≡◌, ◌≢◌, ◌⊎◌, ℕ, ◌<◌, ◌≤◌, List, length, true, false, Some, IsSome}
+use Rattle.std.specs.Prelude.{◌≡◌, ◌≢◌, ◌⊎◌, ℕ, ◌<◌, ◌≤◌, List, length, true, false, Some, IsSome, None, Contains}
 use Rattle.fs_layout.specs.declared.inode.Dinode.{Dinode}
 use Rattle.fs_layout.specs.Bits.{bit_of}
 use Rattle.fs_layout.specs.Bytes.{IsBytes}
@@ -11,7 +11,8 @@ use Rattle.group_log.specs.Group.{has, HasRoom}
 use Rattle.group_log.specs.Soundness.{IsHome}
 use Rattle.group_log.specs.declared.phase.Phase.TheVariants.{Halted}
 use Rattle.image_tree.specs.Checks.{IsData, is_marked}
-use Rattle.image_laws.specs.Holds.{MarksBlocks, MarksNoOthers}
+use Rattle.image_tree.specs.Inodes.{numbers_by}
+use Rattle.image_laws.specs.Holds.{HoldsAt, MarksBlocks, MarksNoOthers}
 use Rattle.image_laws.specs.Puts.{IsBitPut, IsUntouched}
 use Rattle.image_laws.specs.Running.{HasOwners}
 use Rattle.fs_machine.specs.LogPart.{LogPart, Outside, put_block}
@@ -100,6 +101,16 @@ RecordPutsLeave =
     (h n : ℕ) (d : Dinode) (r : World) (g : above.World) → Shows r g → IsChanging h n g → IsDinode d → ((c : ℕ) → r.taken c ≢ Some h)
     → CanPut h (inode_block (log_of r).sizes.inodestart n) (with_record n d r) (log_of r)
     → PutLeaves h n r (log_with h (inode_block (log_of r).sizes.inodestart n) (with_record n d r) r) (owners_with h (inode_block (log_of r).sizes.inodestart n) (with_record n d r) r)
+
+-- One of the inode's record, whichever blocks the hart has taken: those that the inode names then are the inode's.
+abbrev pub NamingPutsLeave : Type 0
+NamingPutsLeave =
+    (h n : ℕ) (d : Dinode) (r : World) (g : above.World) → Shows r g → IsChanging h n g → IsDinode d
+    -- each other inode whose lock it has holds its node
+    → ((j : ℕ) → j ≢ n → g.lock j ≡ Some h → HoldsAt (disk_of (log_of r)) r.owner j (g.disk j)) → CanPut h (inode_block (log_of r).sizes.inodestart n) (with_record n d r) (log_of r)
+    → PutLeaves h n r (log_with h (inode_block (log_of r).sizes.inodestart n) (with_record n d r) r) (owners_with h (inode_block (log_of r).sizes.inodestart n) (with_record n d r) r)
+    × ((c : ℕ) → r.taken c ≡ Some h → Contains (numbers_by (disk_of (log_with h (inode_block (log_of r).sizes.inodestart n) (with_record n d r) r)) n) c
+    → ((owners_with h (inode_block (log_of r).sizes.inodestart n) (with_record n d r) r).owner c ≡ n) × ((owners_with h (inode_block (log_of r).sizes.inodestart n) (with_record n d r) r).taken c ≡ None))
 
 -- A block is marked where its bit is set in the bitmap as it is seen.
 abbrev pub MarksAreBits : Type 0

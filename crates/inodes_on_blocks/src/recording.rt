@@ -1,7 +1,7 @@
 //! Blocks recorded for an inode that a hart is changing: each such put may be made, leaves what is the other harts', and the
 //! world above stays as it is shown.
 
-ghost use Rattle.inodes_on_blocks.specs.Recording.{BitmapsPutBits, ClearedBitsLeave, DataPutsLeave, MarksAreBits, RecordPutsLeave, RecordedPutsKeep, SetBitsLeave};
+ghost use Rattle.inodes_on_blocks.specs.Recording.{BitmapsPutBits, ClearedBitsLeave, DataPutsLeave, MarksAreBits, NamingPutsLeave, RecordPutsLeave, RecordedPutsKeep, SetBitsLeave};
 
 /// A block that is recorded for an inode, whose lock the hart has, in its transaction, leaves the others theirs and the world
 /// above as it is shown.
@@ -27,6 +27,11 @@ pub fn set_bits_leave()
 /// And the inode's block with its record, where the hart has taken no block.
 pub fn record_puts_leave()
     ensures { RecordPutsLeave }
+{}
+
+/// And the inode's block with its record, where this names blocks that the hart has taken: they are the inode's then.
+pub fn naming_puts_leave()
+    ensures { NamingPutsLeave }
 {}
 
 /// A block is marked on the seen disk where its bit is set in the bitmap as it is seen.
