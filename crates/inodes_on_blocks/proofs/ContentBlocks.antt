@@ -9,7 +9,7 @@ use Rattle.fs_layout.specs.Indirect.{numbers_in}
 use Rattle.fs_layout.specs.Recovered.{IsOutsideLog, recovered, sizes_of}
 use Rattle.fs_layout.specs.Widths.{block_len}
 use Rattle.image_tree.specs.Checks.{IsData}
-use Rattle.image_tree.specs.Inodes.{inode_of, is_free, numbers_of, numbers_by, indirect_numbers, block_number, content_block}
+use Rattle.image_tree.specs.Inodes.{inode_of, is_free, numbers_of, indirect_numbers, block_number, content_block}
 use Rattle.image_tree.proofs.Nodes.{numbers_by_node}
 use Rattle.image_laws.specs.Holds.{HoldsAt, IsOwned}
 use Rattle.image_laws.proofs.ImageNodes.{at_index}

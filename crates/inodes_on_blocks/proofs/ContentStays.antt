@@ -1,12 +1,11 @@
 -- A block of a locked inode's content stays, while others step: where it is, and what is seen of it.
-use Rattle.std.proofs.Common.{◌≡◌, ◌≢◌, ℕ, ◌+◌, ◌-◌, ◌*◌, ◌<◌, ◌≤◌, nat_lt, Bool, false, List, All, refl, sym, ◌∙◌, ap, subst, Option, slice_index, get_or, if◌then◌else◌}
+use Rattle.std.proofs.Common.{◌≡◌, ◌≢◌, ℕ, ◌+◌, ◌-◌, ◌*◌, ◌<◌, ◌≤◌, nat_lt, false, List, All, sym, ◌∙◌, ap, subst, Option, slice_index, get_or, if◌then◌else◌}
 use Rattle.fs_layout.specs.declared.inode.Dinode.{Dinode}
-use Rattle.fs_layout.specs.declared.superblock.Super.{Super}
 use Rattle.fs_layout.specs.Indirect.{numbers_in}
 use Rattle.fs_layout.specs.Recovered.{IsOutsideLog, recovered}
 use Rattle.fs_layout.specs.Widths.{block_len}
 use Rattle.image_tree.specs.Inodes.{is_free, numbers_of, numbers_by, block_number, content_block}
-use Rattle.image_laws.specs.Holds.{HoldsAt, IsOwned}
+use Rattle.image_laws.specs.Holds.{HoldsAt}
 use Rattle.image_tree.proofs.Nodes.{numbers_by_node}
 use Rattle.image_laws.proofs.HeldFrames.{numbers_kept, untouched}
 use Rattle.image_laws.proofs.ImageNodes.{at_index}
@@ -28,7 +27,7 @@ pub record BlockStays (w v : World) (d : Dinode) (k : ℕ) : Type 0 where
   pub seen : seen_of (log_of v) (block_number (numbers_of (disk_of (log_of w)) d) k) ≡ content_block (disk_of (log_of w)) d k
   pub table : 12 ≤ k → IsThere v (slice_index d.addrs 12) × (block_number (numbers_of (disk_of (log_of w)) d) k ≡ slice_index (numbers_in (seen_of (log_of v) (slice_index d.addrs 12))) (k - 12))
 
-module _ (h i : ℕ) (w v : World) (g : above.World) (shows : Shows v g) (keeps : KeepsInode h i w v) (o : Option Node) (holds : HoldsAt (disk_of (log_of w)) w.owner i o) (used : is_free (inode_in (log_of w) i) ≡ false) where
+module _ (h i : ℕ) (w v : World) (keeps : KeepsInode h i w v) (o : Option Node) (holds : HoldsAt (disk_of (log_of w)) w.owner i o) (used : is_free (inode_in (log_of w) i) ≡ false) where
   abbrev d : Dinode
   d = inode_in (log_of w) i
 
@@ -38,13 +37,13 @@ module _ (h i : ℕ) (w v : World) (g : above.World) (shows : Shows v g) (keeps 
   abbrev now : List (List ℕ)
   now = disk_of (log_of v)
 
-  same_inode : inode_in (log_of v) i ≡ d
+  pub same_inode : inode_in (log_of v) i ≡ d
   same_inode = keeps.untouched.inode
 
-  holds_now : HoldsAt now v.owner i o
+  pub holds_now : HoldsAt now v.owner i o
   holds_now = untouched was now w.owner v.owner i o keeps.untouched holds
 
-  used_now : is_free (inode_in (log_of v) i) ≡ false
+  pub used_now : is_free (inode_in (log_of v) i) ≡ false
   used_now = ap is_free same_inode ∙ used
 
   same_blocks : All (λ b. b ≢ 0 → recovered now b ≡ recovered was b) (numbers_of was d)
@@ -55,34 +54,37 @@ module _ (h i : ℕ) (w v : World) (g : above.World) (shows : Shows v g) (keeps 
   same_numbers : numbers_of now d ≡ numbers_of was d
   same_numbers = numbers_kept was now d same_blocks
 
-  -- as code finds it now
-  record Found (x : Dinode) (k : ℕ) : Type 0 where
-    place : IsThere v (block_number (numbers_of now x) k)
-    seen : seen_of (log_of v) (block_number (numbers_of now x) k) ≡ content_block now x k
-    table : 12 ≤ k → IsThere v (slice_index x.addrs 12) × (block_number (numbers_of now x) k ≡ slice_index (numbers_in (seen_of (log_of v) (slice_index x.addrs 12))) (k - 12))
-
-  found : (k : ℕ) → block_len * k < d.size → Found d k
-  found k below =
-      let small : block_len * k < (inode_in (log_of v) i).size = subst (λ (x : Dinode). block_len * k < x.size) (sym same_inode) below in
-      subst (λ (x : Dinode). Found x k) same_inode (record {
-        place = data_place v g shows (block_number (numbers_of now (inode_in (log_of v) i)) k) (block_data v g shows i o holds_now used_now k small);
-        seen = block_seen v g shows i o holds_now used_now k small;
-        table = λ le.
-            let t = table_number v g shows i o holds_now used_now k le small in
-            (data_place v g shows (slice_index (inode_in (log_of v) i).addrs 12) (table_data v g shows i o holds_now used_now t.0), t.1);
-      })
-
-  same_content : (k : ℕ) → block_number (numbers_of was d) k ≢ 0 → content_block now d k ≡ content_block was d k
+  -- block k of the content
+  pub content_stays : (k : ℕ) → block_len * k < d.size → content_block now d k ≡ content_block was d k
   unfolding content_block
-  same_content k ne =
-      ap (λ (ns : List ℕ). recovered now (block_number ns k)) same_numbers ∙ at_index (λ b. recovered now b ≡ recovered was b) (numbers_of was d) (if nat_lt k 12 then k else k + 1) same_blocks ne
+  content_stays k below =
+      ap (λ (ns : List ℕ). recovered now (block_number ns k)) same_numbers
+      ∙ at_index (λ b. recovered now b ≡ recovered was b) (numbers_of was d) (if nat_lt k 12 then k else k + 1) same_blocks ((holds.room used).there k below)
 
-  pub block_stays : (k : ℕ) → block_len * k < d.size → BlockStays w v d k
-  block_stays k below =
-      let f = found k below in
-      let e : block_number (numbers_of now d) k ≡ block_number (numbers_of was d) k = ap (λ (ns : List ℕ). block_number ns k) same_numbers in
-      record {
-        place = subst (IsThere v) e f.place;
-        seen = ap (seen_of (log_of v)) (sym e) ∙ f.seen ∙ same_content k ((holds.room used).there k below);
-        table = λ le. let t = f.table le in (t.0, sym e ∙ t.1);
-      }
+  module _ (g : above.World) (shows : Shows v g) where
+    -- as code finds it now
+    record Found (x : Dinode) (k : ℕ) : Type 0 where
+      place : IsThere v (block_number (numbers_of now x) k)
+      seen : seen_of (log_of v) (block_number (numbers_of now x) k) ≡ content_block now x k
+      table : 12 ≤ k → IsThere v (slice_index x.addrs 12) × (block_number (numbers_of now x) k ≡ slice_index (numbers_in (seen_of (log_of v) (slice_index x.addrs 12))) (k - 12))
+
+    found : (k : ℕ) → block_len * k < d.size → Found d k
+    found k below =
+        let small : block_len * k < (inode_in (log_of v) i).size = subst (λ (x : Dinode). block_len * k < x.size) (sym same_inode) below in
+        subst (λ (x : Dinode). Found x k) same_inode (record {
+          place = data_place v g shows (block_number (numbers_of now (inode_in (log_of v) i)) k) (block_data v g shows i o holds_now used_now k small);
+          seen = block_seen v g shows i o holds_now used_now k small;
+          table = λ le.
+              let t = table_number v g shows i o holds_now used_now k le small in
+              (data_place v g shows (slice_index (inode_in (log_of v) i).addrs 12) (table_data v g shows i o holds_now used_now t.0), t.1);
+        })
+
+    pub block_stays : (k : ℕ) → block_len * k < d.size → BlockStays w v d k
+    block_stays k below =
+        let f = found k below in
+        let e : block_number (numbers_of now d) k ≡ block_number (numbers_of was d) k = ap (λ (ns : List ℕ). block_number ns k) same_numbers in
+        record {
+          place = subst (IsThere v) e f.place;
+          seen = ap (seen_of (log_of v)) (sym e) ∙ f.seen ∙ content_stays k below;
+          table = λ le. let t = f.table le in (t.0, sym e ∙ t.1);
+        }

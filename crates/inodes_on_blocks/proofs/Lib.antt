@@ -31,3 +31,5 @@ pub mod ContentBlocks
 pub mod ContentStays
 pub mod Accounts
 pub mod Counted
+pub mod ContentFetch
+pub mod ContentReads
