@@ -147,7 +147,7 @@ module _ (h : ℕ) (path : List ℕ) (w : World) (free : (w.desks h).lender ≡ 
   s-moved : (j : ℕ) (ns : List ℕ) (t : Option Note) (n : ℕ) (es : List Step) (u : World) (R : Own) → 2000 + 971 * length ns ≤ n → At h j base ns None t (went j O0) R u → Walked c (record { step = s; answer = Done } ∷ []) es
       → Safe machine h B Q (chdir_at path j ns) n es u
   s-moved j ns t n es u R few at told =
-      s-take (λ o. sort_of o ≡ Some OfDirectory) (λ o q. sort_there o OfDirectory q) at.owns (at.stays.lender ∙ free) lt (omega (arith, few)) at.out (let r = at.refs j in let o = one_at j in omega (arith, r, o))
+      s-take (λ o. sort_of o ≡ Some OfDirectory) (λ o q. sort_there o OfDirectory q) tt at.owns (at.stays.lender ∙ free) lt (omega (arith, few)) at.out (let r = at.refs j in let o = one_at j in omega (arith, r, o))
       (λ v inv ov. let q : v.all.cwd h ≡ j = ap (λ (o : Own). o.row.cwd) ov ∙ ap (λ (r : Row). r.cwd) at.stays.row in ap (λ (z : ℕ). sort_of (v.all.nodes z)) (sym q) ∙ directory_sort v.all h inv.well lt)
       (λ l1 x u1 q1 sort own1.
       subst (λ (b : Bool). Safe machine h B Q (if b then Do (Settle j) unmarked (λ old. drop old (tail ns (done c))) else give_up j (tail ns (failed c NotDirectory))) l1 es u1) (sym (face_sort x OfDirectory sort))
@@ -221,7 +221,7 @@ module _ (h : ℕ) (path : List ℕ) (w : World) (free : (w.desks h).lender ≡ 
   s-not-moved : (j : ℕ) (ns : List ℕ) (x : Option Node) (n : ℕ) (es : List Step) (u : World) (R : Own) → 2000 + 971 * length ns ≤ n → At h j base ns None (Some (record { number = j; sort = sort_of x })) O0 R u → is_live x ≡ true → is_directory (node_or x).kind ≡ false → Walked c (record { step = s; answer = Failed NotDirectory } ∷ []) es
       → Safe machine h B Q (chdir_at path j ns) n es u
   s-not-moved j ns x n es u R few at live isnt told =
-      s-take (λ o. sort_of o ≡ sort_of x) (λ o q e. live_typed x live (sym q ∙ ap (λ (z : Option Node). sort_of z) e)) at.owns (at.stays.lender ∙ free) lt (omega (arith, few)) at.out refers
+      s-take (λ o. sort_of o ≡ sort_of x) (λ o q e. live_typed x live (sym q ∙ ap (λ (z : Option Node). sort_of z) e)) tt at.owns (at.stays.lender ∙ free) lt (omega (arith, few)) at.out refers
       (λ v inv ov. noted_sort h j R (record { number = j; sort = sort_of x }) at.noted refl at.out refers lt v inv ov)
       (λ l1 y u1 q1 sort own1.
       subst (λ (b : Bool). Safe machine h B Q (if b then Do (Settle j) unmarked (λ old. drop old (tail ns (done c))) else give_up j (tail ns (failed c NotDirectory))) l1 es u1) (sym (sort_not x y live isnt sort))

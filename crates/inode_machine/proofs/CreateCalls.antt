@@ -435,7 +435,7 @@ module _ (h : ℕ) (path : List ℕ) (flags : ℕ) (w : World) (free : (w.desks 
   -- The parent is seen.
   sees : (d : ℕ) (e : Name) (ns : List ℕ) (n : ℕ) (es : List Step) (w0 : World) (O : Own) → 971 * length ns + 24000 ≤ n → On h s d e [] base ns O0 O w0 → Walked c [] es → Safe machine h B Q (create_in path flags d e ns) n es w0
   sees d e ns n es w0 O few on told =
-      s-take-then on.owns (on.stays.lender ∙ free) lt (omega (arith, few)) on.out (on_refers on) (λ v inv ov. known_there h d v O inv ov lt on.out (on_refers on) on.known) (λ u x inv own1. seen u x inv own1 (live_directory x) refl (look (λ j. x) d e) refl)
+      s-take-then on.owns (on.stays.lender ∙ free) lt (omega (arith, few)) on.out (on_refers on) (λ v inv ov. known_there h d v O inv ov lt on.out (on_refers on) on.known) on.names.0 (λ u x inv own1. seen u x inv own1 (live_directory x) refl (look (λ j. x) d e) refl)
     where
       Goal : World → Option Node → Option Mark → P Reply → Type 0
       Goal u x m p = Fine machine h (places h (Take d (AtName e)) (seen_in d (AtName e) x) m u) 1611 n B es u (marked h m u) (λ l. Wp machine h B Q p l (onto (own h (places h (Take d (AtName e)) (seen_in d (AtName e) x) m u)) es) (marked h m u))

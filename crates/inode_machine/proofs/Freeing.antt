@@ -17,7 +17,7 @@ use Rattle.inode_machine.specs.Marks.{with_mark}
 use Rattle.inode_machine.specs.Exec.{lock_if, blank, counted_down, down_if, file_count, is_dead, locked, unlocked}
 use Rattle.inode_machine.specs.World.Mark.{Frees}
 use Rattle.inode_machine.specs.World.Op.{Take, Give, Down, Free}
-use Rattle.inode_machine.specs.Rules.{shop_of, own_names, Held, view, is_hart, if_kept, own_of, Pinned, Reached, IsAlone, Inv, IsOut, machine, looking_cost, number_is}
+use Rattle.inode_machine.specs.Rules.{shop_of, own_names, Held, view, is_hart, if_kept, own_of, Pinned, Reached, IsAlone, Inv, IsOut, machine, looking_cost, number_is, Sought}
 use Rattle.tree_laws.proofs.Sums.{sum_part, one_yes}
 use Rattle.tree_laws.specs.WellFormed.{one_if}
 use Rattle.tree_laws.proofs.Maps.{eq_self}
@@ -98,11 +98,11 @@ locking_kept h i x v O ov free lt inv isi out = record { unlocked = none (v.lock
     }
 
 pub s-take-kept : {A : Type 0} {h i : ℕ} {x : Held} {looking : Looking} {k : Seen → P machine A} {B : List Step → Type 0} {Q : A → List Step → World → Type 0} {n : ℕ} {es : List Step} {w : World} {O : Own}
-    → own_of h w ≡ O → O.desk.lender ≡ None → h < hart_count → looking_cost looking < n → O.inodes i ≡ Some x → x.locked ≡ false → x.disk ≢ None → 0 < O.mine.refs i
+    → own_of h w ≡ O → O.desk.lender ≡ None → h < hart_count → looking_cost looking < n → O.inodes i ≡ Some x → x.locked ≡ false → x.disk ≢ None → Sought looking → 0 < O.mine.refs i
     → ((l : ℕ) (u : World) → l + (looking_cost looking + 1) ≡ n → own_of h u ≡ record O { inodes = put O.inodes i (Some (record x { locked = true })) } → Safe machine h B Q (k (seen_in i looking x.disk)) l es u)
     → Safe machine h B Q (Do (Take i looking) unmarked k) n es w
-s-take-kept {A} {h} {i} {x} {looking} {k} {B} {Q} {n} {es} {w} {O} owns free lt pos isi out there refers rest = s-owned owns free pos (λ v inv ov. (
-  ((let r = my_refs h v O i ov in omega (arith, r, refers), (λ e. let a = locking_kept h i x v O ov free lt inv isi out in let b = a.unlocked in cc (b, e))), (λ e z. there (sym (has_disk h i v O x ov isi) ∙ z))),
+s-take-kept {A} {h} {i} {x} {looking} {k} {B} {Q} {n} {es} {w} {O} owns free lt pos isi out there sought refers rest = s-owned owns free pos (λ v inv ov. (
+  ((let r = my_refs h v O i ov in omega (arith, r, refers), (λ e. let a = locking_kept h i x v O ov free lt inv isi out in let b = a.unlocked in cc (b, e))), (λ e z. there (sym (has_disk h i v O x ov isi) ∙ z)), sought),
   (λ _ _. at v inv ov (v.lock i) refl),
 ))
   where

@@ -169,7 +169,7 @@ module _ (h : ℕ) (old new : List ℕ) (w : World) (free : (w.desks h).lender �
 
   -- What was found is a file or a device: its count is raised.
   s-file : (j : ℕ) (ns : List ℕ) (t : Option Note) (n : ℕ) (es : List Step) (u : World) (R : Own) → 971 * length ns + K ≤ n → At h j base ns None t (low_own j O0) R u → ((m : Note) → t ≡ Some m → m.number ≡ j) → Walked c (found old ∷ []) es → Safe machine h B Q (link_at old new j ns) n es u
-  s-file j ns t n es u R few at number told = s-take-then at.owns free_r lt (omega (arith, few)) at.out refers (λ v inv ov e. let a : IsThere v.all.nodes j false = inv.well.holds h (low j) lt (ap (λ (o : Own). o.row.hold) ov ∙ holds_r) in let b = a.is in cc (b, e)) (λ u1 x inv own1. by u1 x inv own1)
+  s-file j ns t n es u R few at number told = s-take-then at.owns free_r lt (omega (arith, few)) at.out refers (λ v inv ov e. let a : IsThere v.all.nodes j false = inv.well.holds h (low j) lt (ap (λ (o : Own). o.row.hold) ov ∙ holds_r) in let b = a.is in cc (b, e)) tt (λ u1 x inv own1. by u1 x inv own1)
     where
       free_r : R.desk.lender ≡ None
       free_r = at.stays.lender ∙ free
@@ -264,7 +264,7 @@ module _ (h : ℕ) (old new : List ℕ) (w : World) (free : (w.desks h).lender �
   -- What was found is a directory, and is given up.
   s-directory : (j : ℕ) (ns : List ℕ) (t : Option Note) (n : ℕ) (es : List Step) (u : World) (R : Own) → 971 * length ns + 2000 ≤ n → At h j base ns None t O0 R u → ((v : World) → Inv v → own_of h v ≡ R → v.all.nodes j ≢ None) → ((v : World) (x : Option Node) → Inv v → own_of h v ≡ record R { inodes = put R.inodes j (Some (locked_held x)) } → sort_of (v.all.nodes j) ≡ Some OfDirectory) → Walked c (not_found old ∷ []) es
       → Safe machine h B Q (link_at old new j ns) n es u
-  s-directory j ns t n es u R few at there typed told = s-take-then at.owns free_r lt (omega (arith, few)) at.out refers there (λ u1 x inv own1. by u1 x inv own1 (sort_at u1 x inv own1))
+  s-directory j ns t n es u R few at there typed told = s-take-then at.owns free_r lt (omega (arith, few)) at.out refers there tt (λ u1 x inv own1. by u1 x inv own1 (sort_at u1 x inv own1))
     where
       free_r : R.desk.lender ≡ None
       free_r = at.stays.lender ∙ free

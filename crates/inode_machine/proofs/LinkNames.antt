@@ -190,7 +190,7 @@ module _ (h : ℕ) (old new : List ℕ) (lt : h < hart_count) {base : ℕ → �
   lowers : (r : Reply) (ms : List ℕ) (n : ℕ) (es : List Step) (u : World) (R : Own) (E : ℕ → Option Held) → 971 * length ms + 2000 ≤ n → own_of h u ≡ R → Holding (more_base base j) ms (high_own j O0) R E (λ i. 0) → ((i : ℕ) → E i ≡ None) → R.mine.walk ≡ None → R.mine.pending ≡ None → Lowers old new r es R
       → Goes h old new (lower old new j r ms) n es u
   lowers r ms n es u R E few held k empty walk none told =
-      s-take (λ o. (X : Node) × (o ≡ Some X)) (λ o f e. let a = f.1 in cc (a, e)) held free lt (omega (arith, few)) (out_of k (empty j)).1 (let a = k.refs j in let o = one_at j in omega (arith, a, o))
+      s-take (λ o. (X : Node) × (o ≡ Some X)) (λ o f e. let a = f.1 in cc (a, e)) tt held free lt (omega (arith, few)) (out_of k (empty j)).1 (let a = k.refs j in let o = one_at j in omega (arith, a, o))
       (λ v inv ov. let t = held_there v inv ov in (t.node, t.is)) (λ l x u1 q f held1. by l x u1 q f held1)
     where
       free : R.desk.lender ≡ None
@@ -319,7 +319,7 @@ module _ (h : ℕ) (old new : List ℕ) (lt : h < hart_count) {base : ℕ → �
   -- The new name's directory is seen.
   sees : (d : ℕ) (e : Name) (ms : List ℕ) (n : ℕ) (fs : List Step) (w : World) (O : Own) → 1 ≤ j → j < O0.ninodes → 971 * length ms + 8000 ≤ n → On h (steps.Enter new) d e [] (more_base base j) ms (high_own j O0) O w → Walked (calls.Link old new) (found old ∷ bumped ∷ []) fs → Goes h old new (link_in old new j d e ms) n fs w
   sees d e ms n fs w O from below few on walking =
-      s-see (calls.Link old new) (found old ∷ bumped ∷ []) (steps.Enter new) is_there d e lt ready_high on (omega (arith, few)) (enter_follows old new) walking (λ t q. enter_place t h j new lt (ap (λ (r : Row). r.hold) q ∙ ap (λ (r : Row). r.hold) on.stays.row)) (λ b. refl) (λ g q. absurd cc) (λ f. refl)
+      s-see (calls.Link old new) (found old ∷ bumped ∷ []) (steps.Enter new) is_there d e lt ready_high on (omega (arith, few)) on.names.0 (enter_follows old new) walking (λ t q. enter_place t h j new lt (ap (λ (r : Row). r.hold) q ∙ ap (λ (r : Row). r.hold) on.stays.row)) (λ b. refl) (λ g q. absurd cc) (λ f. refl)
       (λ x l u dead q held. subst (λ (b : Bool). Goes h old new (by_face d e ms x b) l (quit_step (steps.Enter new) ∷ fs) u) (sym (live_face x ∙ dead)) (refused NoEntry x l u q held (walking_quit (calls.Link old new) (found old ∷ bumped ∷ []) (steps.Enter new) fs walking)))
       (λ x live q. let z = some_found (look (λ i. x) d e) q in (
         Exists,

@@ -123,7 +123,7 @@ pub s-free-listed : {A : Type 0} {h : ℕ} (n : ℕ) {k : P A} {B : List Step �
     → Safe machine h B Q (free_listed n k) c es w
 s-free-listed {h = h} n {O = O} v owns free lt few locks whole out is there one unnamed walk pending rest =
     s-join owns free lt (omega arith) locks out (λ l1 u1 q1 own1.
-    s-take-kept own1 free lt (omega (arith, q1, few)) is refl there (omega (arith, one)) (λ l2 u2 q2 own2.
+    s-take-kept own1 free lt (omega (arith, q1, few)) is refl there tt (omega (arith, one)) (λ l2 u2 q2 own2.
     s-free-all v own2 free lt (omega (arith, q1, q2, few)) refl (put_same O.inodes n (Some (record { disk = v; node = v; alone = true; locked = true }))) one pending unnamed walk (λ l3 u3 q3 own3.
     s-leave own3 free lt (omega (arith, q1, q2, q3, few)) left_free refl left_whole (λ l4 u4 q4 own4.
     rest l4 _ u4 (omega (arith, q1, q2, q3, q4))

@@ -27,7 +27,7 @@ use Rattle.inode_machine.specs.World.Op.{Take}
 use Rattle.inode_machine.specs.Inodes.{Looking, Seen, sort_of, seen_in, face_of, is_live_face, is_directory_face}
 use Rattle.inode_machine.specs.Exec.{locked, lock_if, with_walk}
 use Rattle.inode_machine.specs.Marks.{marked, with_mark, with_made, mended, made_by, look_made, looked, acts, found_by, places, new_id, unopened, unmoved, unheld}
-use Rattle.inode_machine.specs.Rules.{Own, Held, own_of, Inv, IsOut, looking_cost, machine, own_names}
+use Rattle.inode_machine.specs.Rules.{Own, Held, own_of, Inv, IsOut, looking_cost, machine, own_names, Sought}
 use Rattle.inode_machine.proofs.Frame.{Fair, fair, fair_then, has_inode}
 use Rattle.inode_machine.proofs.Rules.{s-owned, others, fine_after, locking, is_out, live_typed, locks_not, locked_held, my_refs, has_node}
 use Rattle.inode_machine.proofs.Walking.{walk_named_did, walk_did, own_walk, stage_walk, moves_good}
@@ -72,13 +72,13 @@ places_locked h d i looking a (Some (Spoils s)) v = refl
 
 -- The lock is had, and then what is seen decides the move. u: the world in which the hart has it.
 pub s-take-then : {A : Type 0} {h d : ℕ} {looking : Looking} {m : Seen → Option Mark} {k : Seen → P machine A} {B : List Step → Type 0} {Q : A → List Step → World → Type 0} {n : ℕ} {es : List Step} {w : World} {O : Own}
-    → own_of h w ≡ O → O.desk.lender ≡ None → h < hart_count → looking_cost looking < n → O.inodes d ≡ None → 0 < O.mine.refs d → ((v : World) → Inv v → own_of h v ≡ O → v.all.nodes d ≢ None)
+    → own_of h w ≡ O → O.desk.lender ≡ None → h < hart_count → looking_cost looking < n → O.inodes d ≡ None → 0 < O.mine.refs d → ((v : World) → Inv v → own_of h v ≡ O → v.all.nodes d ≢ None) → Sought looking
     → ((u : World) (c : Option Node) → Inv u → own_of h u ≡ record O { inodes = put O.inodes d (Some (locked_held c)) }
     → Fine machine h (places h (Take d looking) (seen_in d looking c) (m (seen_in d looking c)) u) (looking_cost looking) n B es u (marked h (m (seen_in d looking c)) u)
     (λ l. Wp machine h B Q (k (seen_in d looking c)) l (onto (own h (places h (Take d looking) (seen_in d looking c) (m (seen_in d looking c)) u)) es) (marked h (m (seen_in d looking c)) u)))
     → Safe machine h B Q (Do (Take d looking) m k) n es w
-s-take-then {A} {h} {d} {looking} {m} {k} {B} {Q} {n} {es} {w} {O} owns free lt pos out refers there good = s-owned owns free pos (λ v inv ov. (
-  ((let r = my_refs h v O d ov in omega (arith, r, refers), locks_not h d v O inv ov out), (λ e z. there v inv ov (sym (locking h d v O ov free lt inv out (inr (let r = my_refs h v O d ov in omega (arith, r, refers))) e).whole ∙ z))),
+s-take-then {A} {h} {d} {looking} {m} {k} {B} {Q} {n} {es} {w} {O} owns free lt pos out refers there sought good = s-owned owns free pos (λ v inv ov. (
+  ((let r = my_refs h v O d ov in omega (arith, r, refers), locks_not h d v O inv ov out), (λ e z. there v inv ov (sym (locking h d v O ov free lt inv out (inr (let r = my_refs h v O d ov in omega (arith, r, refers))) e).whole ∙ z)), sought),
   (λ _ _. at v inv ov (v.lock d) refl),
 ))
   where

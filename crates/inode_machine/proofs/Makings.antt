@@ -263,7 +263,7 @@ module _ (h : ℕ) (path : List ℕ) (flags : ℕ) (lt : h < hart_count) {base :
   pub makes_file : (d : ℕ) (e : Name) (X : Node) (i l : ℕ) (fs : List Step) (u : World) (R : Own) → creates flags ≡ true → 971 * length ns + 3570 < l → own_of h u ≡ R → Pair base ns O0 R d i (locked_held (Some X)) (claimed_held OfFile) → base i ≡ 0 → R.mine.walk ≡ Some (record { step = steps.Open path flags; at = d; next = e; rest = [] }) → R.mine.pending ≡ None
       → live_directory (Some X) ≡ true → look (λ j. Some X) d e ≡ None → IsName e → 1 ≤ i → i < R.ninodes → ((t : Note) → R.desk.noted ≡ Some t → t.number ≢ i) → Walked (calls.Open path flags) [] fs → Goes h path flags (make_with path flags d e ns (New i)) l fs u
   makes_file d e X i l fs u R flag few held p zero walk none live absent good from below notes walking =
-      s-take-kept held free lt (omega (arith, few)) (p.hold.has i (claimed_held OfFile) p.at_i) refl (λ e. cc) refers (λ l1 u1 q1 held1.
+      s-take-kept held free lt (omega (arith, few)) (p.hold.has i (claimed_held OfFile) p.at_i) refl (λ e. cc) tt refers (λ l1 u1 q1 held1.
       s-store i 1 (blank OfFile) held1 free lt (omega (arith, few, q1)) joined (put_same R.inodes i (Some (fresh_held (blank OfFile)))) refl refl (inl (omega arith)) (λ l2 u2 q2 held2.
       s-enter-file d i X e path flags held2 free lt (omega (arith, few, q1, q2)) joined walk none (mendable joins.ready p2.hold) flag refl refl refl
       (p2.hold.has d (locked_held (Some X)) p2.at_d) refl refl refl refl live absent (p2.hold.has i (fresh_held new_file) p2.at_i) refl refl refl refers good from below notes

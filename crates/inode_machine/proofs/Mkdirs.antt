@@ -162,7 +162,7 @@ module _ (h : ℕ) (path : List ℕ) (lt : h < hart_count) {base : ℕ → ℕ} 
       → live_directory (Some X) ≡ true → look (λ j. Some X) d e ≡ None → nat_lt X.count count_limit ≡ true → IsName e → 1 ≤ i → i < R.ninodes → ((t : Note) → R.desk.noted ≡ Some t → t.number ≢ i) → Walked (calls.Mkdir path) [] fs
       → Goes h path (mkdir_with path d e ns (face_or (face_of (Some X))) (New i)) l fs u
   makes X i l fs u R few held p zero walk none live absent room good from below notes walking =
-      s-take-kept held free lt (omega (arith, few)) (p.hold.has i (claimed_held OfDirectory) p.at_i) refl (λ e. cc) (let f = p.hold.refs i in let o = one_at i in omega (arith, f, o)) (λ l1 u1 q1 held1.
+      s-take-kept held free lt (omega (arith, few)) (p.hold.has i (claimed_held OfDirectory) p.at_i) refl (λ e. cc) tt (let f = p.hold.refs i in let o = one_at i in omega (arith, f, o)) (λ l1 u1 q1 held1.
       s-store i 1 (blank OfDirectory) held1 free lt (omega (arith, few, q1)) joined (put_same R.inodes i (Some (fresh_held (blank OfDirectory)))) refl refl (inl (omega arith)) (λ l2 u2 q2 held2.
       s-fill i d (with_count 1 (blank OfDirectory)) held2 free lt (omega (arith, few, q1, q2)) joined (put_same (put R.inodes i (Some (fresh_held (blank OfDirectory)))) i (Some (fresh_held (with_count 1 (blank OfDirectory))))) refl refl refl (locked_held (Some X)) X (p2.hold.has d (locked_held (Some X)) p2.at_d) refl (mendable joins.ready p2.hold)
       (λ l3 u3 q3 held3. enters X i l3 fs u3 _ (omega (arith, few, q1, q2, q3)) held3 (pair_set _ (fresh_held (with_dots i d (with_count 1 (blank OfDirectory)))) p2 refl refl refl refl refl) zero walk none live absent room good from below notes walking)
@@ -186,7 +186,7 @@ module _ (h : ℕ) (path : List ℕ) (lt : h < hart_count) {base : ℕ → ℕ} 
   -- The parent is seen.
   sees : (n : ℕ) (fs : List Step) (w : World) (O : Own) → 971 * length ns + 24000 ≤ n → On h (Mkdir path) d e [] base ns O0 O w → Walked (calls.Mkdir path) [] fs → Goes h path (mkdir_in path d e ns) n fs w
   sees n fs w O few on walking =
-      s-see (calls.Mkdir path) [] (Mkdir path) (λ a. is_refused (mkdir_refused a.found (face_or a.face))) d e lt joins.ready on (omega (arith, few)) (follows path) walking (λ t q. mkdir_place t h path lt) (λ b. refl) (λ g q. absurd cc) (λ f. refl)
+      s-see (calls.Mkdir path) [] (Mkdir path) (λ a. is_refused (mkdir_refused a.found (face_or a.face))) d e lt joins.ready on (omega (arith, few)) on.names.0 (follows path) walking (λ t q. mkdir_place t h path lt) (λ b. refl) (λ g q. absurd cc) (λ f. refl)
       (λ x l u dead q held. subst (λ (b : Bool). Goes h path (by_face path d e ns x b) l (quit_step (Mkdir path) ∷ fs) u) (sym (live_face x ∙ dead)) (ended NoEntry x l u q held (walking_quit (calls.Mkdir path) [] (Mkdir path) fs walking)))
       (λ x live q. let z = refused_is (mkdir_refused (look (λ j. x) d e) (face_or (face_of x))) q in (
         z.0,

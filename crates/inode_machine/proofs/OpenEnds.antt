@@ -115,7 +115,7 @@ module _ (h : ℕ) (path : List ℕ) (flags : ℕ) (w : World) (free : (w.desks 
   pub s-open-refused : (j : ℕ) (ns : List ℕ) (t : Option Note) (sort : Sort) (k : Cause) (n : ℕ) (es : List Step) (u : World) (R : Own) → 2000 + 971 * length ns ≤ n → At h j base ns None t O0 R u → ((v : World) → Inv v → own_of h v ≡ R → sort_of (v.all.nodes j) ≡ Some sort) → open_refusal (flags == 0) sort ≡ Some k
       → Walked c (record { step = steps.Open path flags; answer = Failed k } ∷ []) es → Safe machine h B Q (open_at path flags j ns) n es u
   s-open-refused j ns t sort k n es u R few at typed refusal told =
-      s-take (λ o. sort_of o ≡ Some sort) (λ o q. sort_there o sort q) at.owns (at.stays.lender ∙ free) lt (omega (arith, few)) at.out (let r = at.refs j in let o = one_at j in omega (arith, r, o)) typed
+      s-take (λ o. sort_of o ≡ Some sort) (λ o q. sort_there o sort q) tt at.owns (at.stays.lender ∙ free) lt (omega (arith, few)) at.out (let r = at.refs j in let o = one_at j in omega (arith, r, o)) typed
       (λ l1 x u1 q1 is own1.
       subst (λ (z : Sort). Safe machine h B Q (open_face path flags j ns z (open_refusal (flags == 0) z)) l1 es u1) (sym (face_or_sort x sort is))
       (subst (λ (z : Option Cause). Safe machine h B Q (open_face path flags j ns sort z) l1 es u1) (sym refusal)
@@ -134,7 +134,7 @@ module _ (h : ℕ) (path : List ℕ) (flags : ℕ) (w : World) (free : (w.desks 
   pub s-open-full : (j : ℕ) (ns : List ℕ) (t : Option Note) (sort : Sort) (n : ℕ) (es : List Step) (u : World) (R : Own) → 2000 + 971 * length ns ≤ n → At h j base ns None t O0 R u → ((v : World) → Inv v → own_of h v ≡ R → sort_of (v.all.nodes j) ≡ Some sort) → open_refusal (flags == 0) sort ≡ None
       → has_room R.desk.fds ≡ false → Safe machine h B Q (open_at path flags j ns) n es u
   s-open-full j ns t sort n es u R few at typed refusal room =
-      s-take (λ o. sort_of o ≡ Some sort) (λ o q. sort_there o sort q) at.owns (at.stays.lender ∙ free) lt (omega (arith, few)) at.out (let r = at.refs j in let o = one_at j in omega (arith, r, o)) typed
+      s-take (λ o. sort_of o ≡ Some sort) (λ o q. sort_there o sort q) tt at.owns (at.stays.lender ∙ free) lt (omega (arith, few)) at.out (let r = at.refs j in let o = one_at j in omega (arith, r, o)) typed
       (λ l1 x u1 q1 is own1.
       subst (λ (z : Sort). Safe machine h B Q (open_face path flags j ns z (open_refusal (flags == 0) z)) l1 es u1) (sym (face_or_sort x sort is))
       (subst (λ (z : Option Cause). Safe machine h B Q (open_face path flags j ns sort z) l1 es u1) (sym refusal)
@@ -249,7 +249,7 @@ module _ (h : ℕ) (path : List ℕ) (flags : ℕ) (w : World) (free : (w.desks 
   pub s-opened : (j fd id : ℕ) (is_file : Bool) (ns : List ℕ) (t : Option Note) (sort : Sort) (n : ℕ) (es : List Step) (u : World) (R : Own) → 2000 + 971 * length ns ≤ n → At h j base ns None t (went fd id (key_is (file_for j flags))) R u → ((v : World) → Inv v → own_of h v ≡ R → sort_of (v.all.nodes j) ≡ Some sort) → open_refusal (flags == 0) sort ≡ None
       → has_room R.desk.fds ≡ true → lowest R.desk.fds ≡ fd → is_file ≡ is_file_sort sort → Walked c (opened_act path flags fd id is_file ∷ []) es → Safe machine h B Q (open_at path flags j ns) n es u
   s-opened j fd id is_file ns t sort n es u R few at typed refusal room low kind told =
-      s-take (λ o. sort_of o ≡ Some sort) (λ o q. sort_there o sort q) at.owns (at.stays.lender ∙ free) lt (omega (arith, few)) at.out here typed
+      s-take (λ o. sort_of o ≡ Some sort) (λ o q. sort_there o sort q) tt at.owns (at.stays.lender ∙ free) lt (omega (arith, few)) at.out here typed
       (λ l1 x u1 q1 is own1.
       subst (λ (z : Sort). Safe machine h B Q (open_face path flags j ns z (open_refusal (flags == 0) z)) l1 es u1) (sym (face_or_sort x sort is))
       (subst (λ (z : Option Cause). Safe machine h B Q (open_face path flags j ns sort z) l1 es u1) (sym refusal)

@@ -27,7 +27,7 @@ use Rattle.inode_machine.specs.World.{World, Mark}
 use Rattle.inode_machine.specs.World.Op.{Take}
 use Rattle.inode_machine.specs.Inodes.{Looking, Seen, seen_in}
 use Rattle.inode_machine.specs.Marks.{found_by, marked, places}
-use Rattle.inode_machine.specs.Rules.{Own, own_of, Inv, looking_cost, machine}
+use Rattle.inode_machine.specs.Rules.{Own, own_of, Inv, looking_cost, machine, Sought}
 use Rattle.inode_machine.specs.Parts.{looks_if, looks_where, makes}
 use Rattle.inode_machine.specs.Theory.{covered_calls}
 use Rattle.inode_machine.proofs.Frame.{fair_same}
@@ -80,7 +80,7 @@ agrees_look b d e x O live agrees = let q = agrees d (locked_held x) (put_same O
 
 -- The lock of the last name's directory is taken, and what is seen decides: its walk is lost where it has no links, its step is refused, or nothing is told yet.
 pub s-see : {h : ℕ} (c : Call) (acts : List Act) (s : Action) {looking : Looking} (refuses : Seen → Bool) {k : Seen → P machine Reply} {Q : Reply → List Step → World → Type 0} {base : ℕ → ℕ} {O0 : Own} (d : ℕ) (e : Name) {ns : List ℕ} {n : ℕ} {es : List Step} {w : World} {O : Own}
-    → h < hart_count → Ready base O0 → On h s d e [] base ns O0 O w → looking_cost looking < n → Follows c acts s → Walked c acts es
+    → h < hart_count → Ready base O0 → On h s d e [] base ns O0 O w → looking_cost looking < n → Sought looking → Follows c acts s → Walked c acts es
     → ((t : Tree) → row_of t h ≡ O.row → IsInPlace t h s) → ((b : Tree) → refused b h s ≡ b) → ((g : ℕ) → s ≡ Inherit g → ⊥) → ((f : Option ℕ) → found_by s f ≡ None)
     → ((x : Option Node) (l : ℕ) (u : World) → live_directory x ≡ false → l + (looking_cost looking + 1) ≡ n → own_of h u ≡ record O { inodes = put O.inodes d (Some (locked_held x)); mine = record { refs = O.mine.refs; walk = None; pending = None } }
     → Safe machine h (Begun covered_calls c) Q (k (seen_in d looking x)) l (quit_step s ∷ es) u)
@@ -90,8 +90,8 @@ pub s-see : {h : ℕ} (c : Call) (acts : List Act) (s : Action) {looking : Looki
     → ((x : Option Node) (l : ℕ) (u : World) → Inv u → live_directory x ≡ true → refuses (seen_in d looking x) ≡ false → l + (looking_cost looking + 1) ≡ n → own_of h u ≡ record O { inodes = put O.inodes d (Some (locked_held x)) }
     → Safe machine h (Begun covered_calls c) Q (k (seen_in d looking x)) l es u)
     → Safe machine h (Begun covered_calls c) Q (Do (Take d looking) (looks_where s refuses) k) n es w
-s-see {h} c acts s {looking} refuses {k} {Q} {base} {O0} d e {ns} {n} {es} {w} {O} lt ready on pos follows walking place still other found dead refd goes =
-    s-take-then on.owns free lt pos on.out (on_refers on) (λ v inv ov. known_there h d v O inv ov lt on.out (on_refers on) on.known) (λ u x inv own1. seen u x inv own1 (live_directory x) refl (refuses (seen_in d looking x)) refl)
+s-see {h} c acts s {looking} refuses {k} {Q} {base} {O0} d e {ns} {n} {es} {w} {O} lt ready on pos sought follows walking place still other found dead refd goes =
+    s-take-then on.owns free lt pos on.out (on_refers on) (λ v inv ov. known_there h d v O inv ov lt on.out (on_refers on) on.known) sought (λ u x inv own1. seen u x inv own1 (live_directory x) refl (refuses (seen_in d looking x)) refl)
   where
     free : O.desk.lender ≡ None
     free = on.stays.lender ∙ ready.free

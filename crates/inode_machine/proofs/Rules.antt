@@ -16,7 +16,7 @@ use Rattle.inode_machine.specs.World.{Mine, Entry, World, Op, Answer, Mark, stag
 use Rattle.inode_machine.specs.Exec.{file_count, with_refs, lock_if, counted_up, locked, up_if, has_place}
 use Rattle.inode_machine.specs.Marks.{marked, go, places, with_mark}
 use Rattle.inode_machine.specs.World.Op.{Up}
-use Rattle.inode_machine.specs.Rules.{Own, shop_of, Opens, number_is, Held, view, is_hart, own_of, Found, Pinned, Reached, IsAlone, reference_limit, Inv, IsOut, MayWait, machine, more, Others, LocksNone, Asks, Rests, looking_cost, Honest}
+use Rattle.inode_machine.specs.Rules.{Own, shop_of, Opens, number_is, Held, view, is_hart, own_of, Found, Pinned, Reached, IsAlone, reference_limit, Inv, IsOut, MayWait, machine, more, Others, LocksNone, Asks, Rests, looking_cost, Honest, Sought}
 use Rattle.inode_machine.proofs.Frame.{shop_same, put_elim, ours_none, ours_some, kept_here, Did, Fair, fair, own_inodes, has_inode, has_none, found_more, two_refs, refers_put}
 use Rattle.inode_machine.specs.Inodes.{Looking, Seen, Sort, seen_in, sort_of}
 
@@ -281,12 +281,12 @@ pub is_out : (h i g : ℕ) (v : World) (O : Own) → Inv v → own_of h v ≡ O 
 is_out h i g v O inv ov out e = (g, (λ q. has_none h i v O ov out (inv.keeps i h (e ∙ ap (λ (z : ℕ). Some z) q))), e)
 
 -- The lock is taken and the inode seen; F: what the invariant says of it, and that it has a type.
-pub s-take : {A : Type 0} {h i : ℕ} {looking : Looking} {k : Seen → P machine A} {B : List Step → Type 0} {Q : A → List Step → World → Type 0} {n : ℕ} {es : List Step} {w : World} {O : Own} (F : Option Node → Type 0) (there : (o : Option Node) → F o → o ≢ None)
+pub s-take : {A : Type 0} {h i : ℕ} {looking : Looking} {k : Seen → P machine A} {B : List Step → Type 0} {Q : A → List Step → World → Type 0} {n : ℕ} {es : List Step} {w : World} {O : Own} (F : Option Node → Type 0) (there : (o : Option Node) → F o → o ≢ None) (sought : Sought looking)
     → own_of h w ≡ O → O.desk.lender ≡ None → h < hart_count → looking_cost looking < n → O.inodes i ≡ None → 0 < O.mine.refs i → ((v : World) → Inv v → own_of h v ≡ O → F (v.all.nodes i))
     → ((l : ℕ) (s : Option Node) (u : World) → l + (looking_cost looking + 1) ≡ n → F s → own_of h u ≡ record O { inodes = put O.inodes i (Some (locked_held s)) } → Safe machine h B Q (k (seen_in i looking s)) l es u)
     → Safe machine h B Q (Do (Take i looking) unmarked k) n es w
-s-take {A} {h} {i} {looking} {k} {B} {Q} {n} {es} {w} {O} F there owns free lt pos out refers fact rest = s-owned owns free pos (λ v inv ov. (
-  ((let r = my_refs h v O i ov in omega (arith, r, refers), locks_not h i v O inv ov out), (λ e z. there (v.all.nodes i) (fact v inv ov) (sym (locking h i v O ov free lt inv out (inr (let r = my_refs h v O i ov in omega (arith, r, refers))) e).whole ∙ z))),
+s-take {A} {h} {i} {looking} {k} {B} {Q} {n} {es} {w} {O} F there sought owns free lt pos out refers fact rest = s-owned owns free pos (λ v inv ov. (
+  ((let r = my_refs h v O i ov in omega (arith, r, refers), locks_not h i v O inv ov out), (λ e z. there (v.all.nodes i) (fact v inv ov) (sym (locking h i v O ov free lt inv out (inr (let r = my_refs h v O i ov in omega (arith, r, refers))) e).whole ∙ z)), sought),
   (λ x honest. at v inv ov (v.lock i) refl),
 ))
   where

@@ -139,7 +139,7 @@ module _ (h : ℕ) (path : List ℕ) (lt : h < hart_count) {base : ℕ → ℕ} 
   -- "." and ".." are no names to remove
   dots : (n : ℕ) (fs : List Step) (w : World) (O : Own) → (same_name e dot || same_name e dotdot) ≡ true → 971 * length ns + 24000 ≤ n → On h (Unlink path) d e [] base ns O0 O w → Walked (calls.Unlink path) [] fs → Goes h path (unlink_dots path d ns) n fs w
   dots n fs w O is few on walking =
-      s-see (calls.Unlink path) [] (Unlink path) always d e lt joins.ready on (omega (arith, few)) (follows path) walking (λ t q. unlink_place t h path lt) (λ b. refl) (λ g q. absurd cc) (λ f. refl)
+      s-see (calls.Unlink path) [] (Unlink path) always d e lt joins.ready on (omega (arith, few)) tt (follows path) walking (λ t q. unlink_place t h path lt) (λ b. refl) (λ g q. absurd cc) (λ f. refl)
       (λ x l u dead q held. ended x false NoEntry l u (live_face x ∙ dead) refl q held (walking_quit (calls.Unlink path) [] (Unlink path) fs walking))
       (λ x live q. (DotName, (λ b a. dot_name b h path (look (λ j. x) d e) d e is), (λ l u q2 held. ended x true DotName l u (live_face x ∙ live) refl q2 held (walking_told (calls.Unlink path) [] (Unlink path) (Failed DotName) 0 fs walking))))
       (λ x l u inv live q. absurd cc)
@@ -245,7 +245,7 @@ module _ (h : ℕ) (path : List ℕ) (lt : h < hart_count) {base : ℕ → ℕ} 
       → own_of h u ≡ record O { mine = record { refs = put O.mine.refs n (O.mine.refs n + 1); walk = O.mine.walk; pending = None } } → O.mine.walk ≡ Some (record { step = Unlink path; at = d; next = e; rest = [] }) → live_directory (Some X) ≡ true → look (λ j. Some X) d e ≡ Some n → (same_name e dot || same_name e dotdot) ≡ false
       → Walked (calls.Unlink path) [] fs → Goes h path (unlink_child path d e ns (face_or (face_of (Some X))) n) l fs u
   child X n l fs u O ne few k out held walk live finds plain walking =
-      s-take-then held (k.stays.lender ∙ joins.ready.free) lt (omega (arith, few)) out (let a = put_same O.mine.refs n (O.mine.refs n + 1) in omega (arith, a)) (λ v inv ov y. found_there v inv ov y) (λ u2 z inv held2. there u2 z inv held2 (is_live z) refl)
+      s-take-then held (k.stays.lender ∙ joins.ready.free) lt (omega (arith, few)) out (let a = put_same O.mine.refs n (O.mine.refs n + 1) in omega (arith, a)) (λ v inv ov y. found_there v inv ov y) tt (λ u2 z inv held2. there u2 z inv held2 (is_live z) refl)
     where
       found_there : (v : World) → Inv v → own_of h v ≡ record O { mine = record { refs = put O.mine.refs n (O.mine.refs n + 1); walk = O.mine.walk; pending = None } } → v.all.nodes n ≢ None
       found_there v inv ov y =
@@ -312,7 +312,7 @@ module _ (h : ℕ) (path : List ℕ) (lt : h < hart_count) {base : ℕ → ℕ} 
   -- The name is looked up, and what it stands for referred to.
   named : (n : ℕ) (fs : List Step) (w : World) (O : Own) → (same_name e dot || same_name e dotdot) ≡ false → 971 * length ns + 24000 ≤ n → On h (Unlink path) d e [] base ns O0 O w → Walked (calls.Unlink path) [] fs → Goes h path (unlink_named path d e ns) n fs w
   named n fs w O plain few on walking =
-      s-see (calls.Unlink path) [] (Unlink path) is_missing d e lt joins.ready on (omega (arith, few)) (follows path) walking (λ t q. unlink_place t h path lt) (λ b. refl) (λ g q. absurd cc) (λ f. refl)
+      s-see (calls.Unlink path) [] (Unlink path) is_missing d e lt joins.ready on (omega (arith, few)) on.names.0 (follows path) walking (λ t q. unlink_place t h path lt) (λ b. refl) (λ g q. absurd cc) (λ f. refl)
       (λ x l u dead q held. missing x l u (look_bad (λ j. x) d e dead) q held (walking_quit (calls.Unlink path) [] (Unlink path) fs walking))
       (λ x live q. let none = none_found (look (λ j. x) d e) q in (NoEntry, (λ b a. is_absent b h path (look (λ j. x) d e) d e plain ((agrees_look b d e x O live a).1 ∙ none)), (λ l u q2 held. missing x l u none q2 held (walking_told (calls.Unlink path) [] (Unlink path) (Failed NoEntry) 0 fs walking))))
       (λ x l u inv live q q2 held. let s = some_found (look (λ j. x) d e) q in there x l u s.0 inv live s.1 q2 held)

@@ -238,7 +238,7 @@ module _ (h : ℕ) (s : Action) (B : List Step → Type 0) (Q : Reply → List S
       → ((u : World) (c : Option Node) (j : ℕ) → Inv u → own_of h u ≡ record O { inodes = put O.inodes d (Some (locked_held c)) } → live_directory c ≡ true → look (λ i. c) d e ≡ Some j → MoveFine h 1611 n B Q es u (Look 0) (walk_step d ns go lost (Some j)))
       → Safe machine h B Q (Do (Take d (AtName e)) (looks_or_quits s) (λ x. walk_step d ns go lost x.found)) n es w
   s-look r par d e ns n es w O go few on told same plays refusal finds =
-      s-take-then on.owns free_o lt (omega (arith, few)) on.out (on_refers on) (λ v inv ov. known_there h d v O inv ov lt on.out (on_refers on) on.known) (λ u c inv own1. seen u c inv own1 (live_directory c) refl)
+      s-take-then on.owns free_o lt (omega (arith, few)) on.out (on_refers on) (λ v inv ov. known_there h d v O inv ov lt on.out (on_refers on) on.known) on.names.0 (λ u c inv own1. seen u c inv own1 (live_directory c) refl)
     where
       y : Walk
       y = record { step = s; at = d; next = e; rest = r }
@@ -395,7 +395,7 @@ module _ (h : ℕ) (s : Action) (B : List Step → Type 0) (Q : Reply → List S
       → ((l : ℕ) (u : World) (R : Own) → l + 5 ≡ n → On h s d e [] base ns O0 R u → Safe machine h B Q (found ns) l es u)
       → Safe machine h B Q (see_parent s d ns found lost) n es w
   s-see-parent d e ns n es w O found few on told arrives =
-      s-take-then on.owns free_o lt (omega (arith, few)) on.out (on_refers on) (λ v inv ov. known_there h d v O inv ov lt on.out (on_refers on) on.known) (λ u c inv own1. seen u c inv own1 (is_directory_face (face_of c)) refl)
+      s-take-then on.owns free_o lt (omega (arith, few)) on.out (on_refers on) (λ v inv ov. known_there h d v O inv ov lt on.out (on_refers on) on.known) tt (λ u c inv own1. seen u c inv own1 (is_directory_face (face_of c)) refl)
     where
       y : Walk
       y = record { step = s; at = d; next = e; rest = [] }

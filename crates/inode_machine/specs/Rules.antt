@@ -264,10 +264,16 @@ pub record IsName (e : Name) : Type 0 where
   pub fits : length e ≤ name_width
   pub text : IsText e
 
--- What an operation asks. Who locks an inode refers to it, and hasn't locked it, and where its lock is free it has a record; who refers to one more has found it in
--- a directory that it keeps; who gives a reference up, to none or to a table, has one besides its current directory's; who changes an inode has its lock and has
--- joined; who joins, leaves, opens by a descriptor or replies has no lock; who hands a descriptor on has handed on none from there, and where it has none hands the
--- directory on at once; who hands that on, or lets a child go, has no descriptor on its way.
+-- what is looked for is a name
+abbrev pub Sought : Looking → Type 0
+Sought AtNothing = Unit {0}
+Sought (AtName e) = IsName e
+Sought AtEntries = Unit {0}
+
+-- What an operation asks. Who locks an inode refers to it, and hasn't locked it, and where its lock is free it has a record, and what is looked for in it is a
+-- name; who refers to one more has found it in a directory that it keeps; who gives a reference up, to none or to a table, has one besides its current directory's;
+-- who changes an inode has its lock and has joined; who joins, leaves, opens by a descriptor or replies has no lock; who hands a descriptor on has handed on none
+-- from there, and where it has none hands the directory on at once; who hands that on, or lets a child go, has no descriptor on its way.
 -- A record is changed that is there, and of the operation's kind; a piece is written to the inode that its descriptor has; who shuts a descriptor hands none on.
 
 abbrev pub Locks : ℕ → ℕ → World → Type 0
@@ -312,7 +318,7 @@ pub record Writes (h fd n : ℕ) (w : World) : Type 0 where
   pub writable : entry.file.writable ≡ true
 
 abbrev pub Asks : ℕ → Op → World → Type 0
-Asks h (Take n looking) w = Refers h n w × (w.lock n ≡ None → w.disk n ≢ None)
+Asks h (Take n looking) w = Refers h n w × (w.lock n ≡ None → w.disk n ≢ None) × Sought looking
 Asks h (Give n) w = Locks h n w
 Asks h (UpStart absolute) w = LocksNone h w
 Asks h (Up n) w = Found w.keeper w.all.nodes h n
