@@ -1,5 +1,6 @@
 -- The calls on descriptors are right, whatever the other harts do.
-use Rattle.std.proofs.Common.{◌≡◌, inl, inr, ℕ, ◌+◌, ◌-◌, ◌<◌, Bool, true, false, ◌==◌, List, [], ◌∷◌, ◌++◌, length, Option, Some, None, refl, sym, ◌∙◌, ap, subst, arith}
+use Rattle.std.proofs.Common.{◌≡◌, inl, inr, ℕ, ◌+◌, ◌-◌, ◌<◌, ◌≤◌, Bool, true, false, nat_lt, not, ◌==◌, List, [], ◌∷◌, ◌++◌, length, Option, Some, None, refl, sym, ◌∙◌, ap, subst, arith}
+use Rattle.std.proofs.lemmas.Bool.Decides.{nat_tests}
 use Rattle.atomic_programs.specs.Logic.{Safe, Laws}
 use Rattle.atomic_programs.specs.Calls.{Began, Begins, Begun, Ends, IsBeginning, Right, Lawful}
 use Rattle.plain_tree.specs.declared.answer.Cause.{Cause}
@@ -18,7 +19,7 @@ use Rattle.tree_laws.proofs.Maps.{put_same, put_other, same_or}
 use Rattle.tree_moves.specs.Moves.{Written}
 use Rattle.inode_machine.specs.World.{Desk, World, stage_of}
 use Rattle.inode_machine.specs.Inodes.{face_or, face_of}
-use Rattle.inode_machine.specs.Rules.{Held, Own, Others, Rests, own_of, Idle, Inv, machine}
+use Rattle.inode_machine.specs.Rules.{Held, Own, Others, Rests, own_of, Idle, Inv, machine, asked_limit}
 use Rattle.inode_machine.specs.Parts.{say}
 use Rattle.inode_machine.specs.Parts as parts
 use Rattle.inode_machine.specs.Descriptors.{dup_program, close_program, stat_program, stat_reply, read_program, read_reply}
@@ -173,9 +174,9 @@ read_written : (fd : ℕ) (buffer b : List ℕ) → Written (calls.Read fd buffe
 unfolding next_of reply_of had_room
 read_written fd buffer b = (refl, record { through = refl; reply = refl; room = refl })
 
-pub read_ok : (h fd : ℕ) (buffer : List ℕ) (w : World) → (w.desks h).lender ≡ None → h < hart_count → Idle h w → Safe machine h (Begun descriptor_calls (calls.Read fd buffer)) (Ends descriptor_calls h (calls.Read fd buffer)) (read_program fd buffer) rest_cost [] w
-read_ok h fd buffer w free lt idle =
-    s-read-file fd (length buffer) refl free lt (omega arith) idle.walk idle.pending idle.opening (λ j. ap (λ (f : ℕ → Option Held). f j) idle.inodes) (λ c. ([], parts.failed (calls.Read fd buffer) c, read_failed fd buffer c)) (λ b. ([], read_reply fd buffer b, read_written fd buffer b))
+pub read_ok : (h fd : ℕ) (buffer : List ℕ) (w : World) → (w.desks h).lender ≡ None → h < hart_count → Idle h w → length buffer ≤ asked_limit → Safe machine h (Begun descriptor_calls (calls.Read fd buffer)) (Ends descriptor_calls h (calls.Read fd buffer)) (read_program fd buffer) rest_cost [] w
+read_ok h fd buffer w free lt idle asked =
+    s-read-file fd (length buffer) refl free lt (omega arith) asked idle.walk idle.pending idle.opening (λ j. ap (λ (f : ℕ → Option Held). f j) idle.inodes) (λ c. ([], parts.failed (calls.Read fd buffer) c, read_failed fd buffer c)) (λ b. ([], read_reply fd buffer b, read_written fd buffer b))
     (λ l c u q own. record { wp = (λ y. read_failed fd buffer c, idle_as h u _ own (rests_as (own_of h w) (own_of h w).row (own_of h w).desk idle refl refl refl refl refl refl refl refl)) })
     (λ l i b x u q own.
     s-give own free lt (omega (arith, q)) (put_same (own_of h w).inodes i (Some (locked_held x))) refl refl refl refl (λ l2 u2 q2 own2.
@@ -215,11 +216,14 @@ lawful_that kind calls = record {
   calls = λ h call busy w u holds idle free e. let s = start_is kind h call busy w u e in calls h call busy w u s.hart s.covered s.free idle free s.begins;
 }
 
+asks_within : (n : ℕ) → not (nat_lt asked_limit n) ≡ true → n ≤ asked_limit
+asks_within n q = grind (arith, nat_tests)
+
 pub descriptors_right : (kind : Call → Bool) → IsRight kind on_descriptors
 descriptors_right kind h (calls.Dup fd) busy w u lt here out idle free is = right kind h (calls.Dup fd) busy w u idle free is (fails (steps.Dup fd) BadDescriptor ∷ [], parts.failed (calls.Dup fd) BadDescriptor, dup_failed fd) (λ _ i. dup_ok h fd u out lt i)
 descriptors_right kind h (calls.Close fd) busy w u lt here out idle free is = right kind h (calls.Close fd) busy w u idle free is (fails (steps.Close fd) BadDescriptor ∷ [], parts.failed (calls.Close fd) BadDescriptor, close_failed fd) (λ _ i. close_ok h fd u out lt i)
 descriptors_right kind h (calls.Fstat fd) busy w u lt here out idle free is = right kind h (calls.Fstat fd) busy w u idle free is (fails (steps.Fstat fd) BadDescriptor ∷ [], parts.failed (calls.Fstat fd) BadDescriptor, stat_failed fd) (λ _ i. stat_ok h fd u out lt i)
-descriptors_right kind h (calls.Read fd buffer) busy w u lt here out idle free is = right kind h (calls.Read fd buffer) busy w u idle free is (fails (steps.Read fd (length buffer)) BadDescriptor ∷ [], parts.failed (calls.Read fd buffer) BadDescriptor, read_failed fd buffer BadDescriptor) (λ _ i. read_ok h fd buffer u out lt i)
+descriptors_right kind h (calls.Read fd buffer) busy w u lt here out idle free is = right kind h (calls.Read fd buffer) busy w u idle free is (fails (steps.Read fd (length buffer)) BadDescriptor ∷ [], parts.failed (calls.Read fd buffer) BadDescriptor, read_failed fd buffer BadDescriptor) (λ _ i. read_ok h fd buffer u out lt i (asks_within (length buffer) here))
 descriptors_right kind h (calls.Open path flags) busy w u lt here out idle free is = absurd cc
 descriptors_right kind h (calls.Write fd bytes) busy w u lt here out idle free is = right kind h (calls.Write fd bytes) busy w u idle free is (write_begins fd bytes) (λ _ i. write_ok h fd bytes u out lt i)
 descriptors_right kind h (calls.Link old new) busy w u lt here out idle free is = absurd cc

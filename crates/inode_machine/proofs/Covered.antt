@@ -1,15 +1,16 @@
 -- The calls that are shown right, together.
-use Rattle.std.proofs.Common.{◌≡◌, ◌⊎◌, inl, inr, Bool, true, false, [], refl}
+use Rattle.std.proofs.Common.{◌≡◌, ◌⊎◌, inl, inr, Bool, true, false, [], refl, not, nat_lt, length, Option, Some, None, if◌then◌else◌}
 use Rattle.atomic_programs.specs.Logic.{Safe}
 use Rattle.plain_tree.specs.Steps.{creates}
 use Rattle.atomic_programs.specs.Calls.{Begun, Ends, Lawful, State, fresh, run}
 use Rattle.atomic_programs.proofs.Explains.{explains, holds_of}
 use Rattle.plain_tree.specs.declared.call.Call.TheVariants as calls
+use Rattle.inode_machine.specs.Exec.{is_nothing}
 use Rattle.inode_machine.proofs.Names.{both_paths, path_names}
 use Rattle.inode_machine.specs.Opening.{open_program}
 use Rattle.inode_machine.specs.Programs.{limit}
-use Rattle.inode_machine.specs.Rules.{Idle, Inv, machine}
-use Rattle.inode_machine.specs.Theory.{covered_calls, is_covered, CallsAreExplained, StaysInOrder, WorldsStayInOrder}
+use Rattle.inode_machine.specs.Rules.{Idle, Inv, machine, asked_limit}
+use Rattle.inode_machine.specs.Theory.{covered_calls, is_covered, CallsAreExplained, StaysInOrder, WorldsStayInOrder, TooLong}
 use Rattle.inode_machine.proofs.Calls.{IsRight, descriptors_right, lawful_that, right}
 use Rattle.inode_machine.proofs.ChdirCalls.{chdir_begins, chdir_ok}
 use Rattle.inode_machine.proofs.OpenEnds.{open_begins}
@@ -26,7 +27,11 @@ covered_right h (calls.Open path flags) busy w u lt here out idle free is = righ
     by_flag : (b : Bool) → creates flags ≡ b → Inv u → Idle h u → Safe machine h (Begun covered_calls (calls.Open path flags)) (Ends covered_calls h (calls.Open path flags)) (open_program path flags) (limit (calls.Open path flags)) [] u
     by_flag false q holds i = open_ok h path flags u out lt holds i q (path_names path here)
     by_flag true q holds i = create_ok h path flags u holds out lt i q (path_names path here)
-covered_right h (calls.Read fd buffer) busy w u lt here out idle free is = descriptors_right is_covered h (calls.Read fd buffer) busy w u lt refl out idle free is
+covered_right h (calls.Read fd buffer) busy w u lt here out idle free is = descriptors_right is_covered h (calls.Read fd buffer) busy w u lt (within (nat_lt asked_limit (length buffer)) here) out idle free is
+  where
+    within : (b : Bool) → is_nothing (if b then Some TooLong else None) ≡ true → not b ≡ true
+    within true q = absurd cc
+    within false q = refl
 covered_right h (calls.Write fd bytes) busy w u lt here out idle free is = descriptors_right is_covered h (calls.Write fd bytes) busy w u lt refl out idle free is
 covered_right h (calls.Link old new) busy w u lt here out idle free is = right is_covered h (calls.Link old new) busy w u idle free is (link_begins old new) (λ holds i. let two = both_paths old new here in link_ok h old new u out lt holds i (path_names old two.0) (path_names new two.1))
 covered_right h (calls.Unlink path) busy w u lt here out idle free is = right is_covered h (calls.Unlink path) busy w u idle free is (unlink_begins path) (λ holds i. unlink_ok h path u holds out lt i (path_names path here))

@@ -1,5 +1,5 @@
 -- Read: a descriptor's inode is locked, a part read at the offset, and the offset moves.
-use Rattle.std.proofs.Common.{◌≡◌, inl, inr, ℕ, ◌+◌, ◌<◌, true, false, ◌==◌, ◌&&◌, nat_lt, List, [], ◌∷◌, take, drop, length, Option, Some, None, refl, sym, ◌∙◌, ap, subst, arith, if◌then◌else◌, Bool}
+use Rattle.std.proofs.Common.{◌≡◌, inl, inr, ℕ, ◌+◌, ◌<◌, ◌≤◌, true, false, ◌==◌, ◌&&◌, nat_lt, List, [], ◌∷◌, take, drop, length, Option, Some, None, refl, sym, ◌∙◌, ap, subst, arith, if◌then◌else◌, Bool}
 use Rattle.atomic_programs.specs.Prog.{Do, Did as Came}
 use Rattle.atomic_programs.specs.Logic.{P, own, onto, Good, Fine, Safe, Wp}
 use Rattle.plain_tree.specs.declared.answer.Cause.{Cause}
@@ -26,7 +26,7 @@ use Rattle.tree_moves.specs.Moves.Move.{Own as OwnMove}
 use Rattle.inode_machine.specs.World.{Mine, Entry, World, Part as PartOf, NotRead, Readout}
 use Rattle.inode_machine.specs.Marks.{places, with_mark, made_by, new_id, with_made}
 use Rattle.inode_machine.specs.Exec.{with_walk, slot_at, entry_at, entry_moved, part_of, entry_of, lock_if, locked, mode_refusal, read_at, read_refused, with_offset}
-use Rattle.inode_machine.specs.Rules.{Own, own_names, Held, own_of, Inv, machine, EntryOut}
+use Rattle.inode_machine.specs.Rules.{Own, own_names, Held, own_of, Inv, machine, EntryOut, asked_limit}
 use Rattle.inode_machine.proofs.Frame.{put_elim, fair}
 use Rattle.inode_machine.proofs.Rules.{s-owned, has_disk, has_node, Locking, fine_after, is_out, locked_held, locking, locks_none}
 use Rattle.inode_machine.proofs.Rows.{below_is}
@@ -274,12 +274,12 @@ read_as_table t h fd n e res par file sort = go e.file.readable refl
     go true q = read_kind t h fd n e.file (no_driver_for e.sort) res par file q (sort_driver (t.nodes e.file.number) e.sort sort) ∙ (λ i. mode_refusal (sym q i) e.sort)
 
 pub s-read-file : {A : Type 0} {h : ℕ} (fd count : ℕ) {k : Readout → P machine A} {B : List Step → Type 0} {Q : A → List Step → World → Type 0} {n : ℕ} {es : List Step} {w : World} {O : Own}
-    → own_of h w ≡ O → O.desk.lender ≡ None → h < hart_count → 1611 < n → O.mine.walk ≡ None → O.mine.pending ≡ None → O.desk.opening ≡ None → ((j : ℕ) → O.inodes j ≡ None)
+    → own_of h w ≡ O → O.desk.lender ≡ None → h < hart_count → 1611 < n → count ≤ asked_limit → O.mine.walk ≡ None → O.mine.pending ≡ None → O.desk.opening ≡ None → ((j : ℕ) → O.inodes j ≡ None)
     → ((c : Cause) → B (fails (Read fd count) c ∷ es)) → ((b : List ℕ) → B (read_step fd count b ∷ es))
     → ((l : ℕ) (c : Cause) (u : World) → l + 1612 ≡ n → own_of h u ≡ record O { mine = record { refs = O.mine.refs; walk = None; pending = None } } → Safe machine h B Q (k (NotRead c)) l (fails (Read fd count) c ∷ es) u)
     → ((l i : ℕ) (b : List ℕ) (x : Option Node) (u : World) → l + 1612 ≡ n → own_of h u ≡ record O { inodes = put O.inodes i (Some (locked_held x)); mine = record { refs = O.mine.refs; walk = None; pending = None } } → Safe machine h B Q (k (PartOf i b)) l (read_step fd count b ∷ es) u)
     → Safe machine h B Q (Do (ReadFile fd count) (λ a. own_step (Read fd count)) k) n es w
-s-read-file {A} {h} fd count {k} {B} {Q} {n} {es} {w} {O} owns free lt pos walks none idle empty bf bd bad then_ = s-owned owns free pos (λ v inv ov. (locks_none h v O inv ov (λ i x q. absurd (let a = empty i in cc (a, q))), (λ _ _. at v inv ov (slot_at v h fd) refl)))
+s-read-file {A} {h} fd count {k} {B} {Q} {n} {es} {w} {O} owns free lt pos asked walks none idle empty bf bd bad then_ = s-owned owns free pos (λ v inv ov. ((locks_none h v O inv ov (λ i x q. absurd (let a = empty i in cc (a, q))), asked), (λ _ _. at v inv ov (slot_at v h fd) refl)))
   where
     Goal : World → Came Readout World → Type 0
     Goal v z = Good machine Readout h (λ a. places h (ReadFile fd count) a (own_step (Read fd count)) v) 1611 n B es v (EntryOut h v (entry_of v h fd)) (with_mark h (λ (_ : Readout). own_step (Read fd count)) z) (λ l a u. Wp machine h B Q (k a) l (onto (own h (places h (ReadFile fd count) a (own_step (Read fd count)) v)) es) u)

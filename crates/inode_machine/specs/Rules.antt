@@ -253,6 +253,10 @@ MayWait h (ReadFile fd n) w = EntryOut h w (entry_of w h fd)
 MayWait h (WriteFile fd n bytes) w = IsOut h (w.lock n)
 MayWait h op w = ⊥
 
+-- the most bytes that a call may ask for
+abbrev pub asked_limit : ℕ
+asked_limit = 524288
+
 -- bytes, none of them zero
 abbrev pub IsText : List ℕ → Type 0
 IsText [] = Unit {0}
@@ -274,7 +278,8 @@ Sought AtEntries = Unit {0}
 -- name; who refers to one more has found it in a directory that it keeps; who gives a reference up, to none or to a table, has one besides its current directory's;
 -- who changes an inode has its lock and has joined; who joins, leaves, opens by a descriptor or replies has no lock; who hands a descriptor on has handed on none
 -- from there, and where it has none hands the directory on at once; who hands that on, or lets a child go, has no descriptor on its way.
--- A record is changed that is there, and of the operation's kind; a piece is written to the inode that its descriptor has; who shuts a descriptor hands none on.
+-- A record is changed that is there, and of the operation's kind; as much is read as a call may ask for; a piece is written to the inode that its descriptor has;
+-- who shuts a descriptor hands none on.
 
 abbrev pub Locks : ℕ → ℕ → World → Type 0
 Locks h n w = w.lock n ≡ Some h
@@ -334,7 +339,7 @@ Asks h (Empty n) w = Changes h n w × HasRecord n w (λ v. is_file v.kind ≡ tr
 Asks h Slot w = (w.desks h).hand ≡ None
 Asks h (Install f sort) w = ((w.desks h).hand ≢ None) × (f.offset ≡ 0) × Spares h f.number w
 Asks h (StatFile fd) w = LocksNone h w
-Asks h (ReadFile fd n) w = LocksNone h w
+Asks h (ReadFile fd n) w = LocksNone h w × (n ≤ asked_limit)
 Asks h (CheckFile fd) w = Unit {0}
 Asks h (JoinFile fd) w = LocksNone h w × ((w.desks h).joined ≡ false)
 Asks h (WriteFile fd n bytes) w = LocksNone h w × ((w.desks h).joined ≡ true) × Writes h fd n w × (length bytes ≤ piece_width)

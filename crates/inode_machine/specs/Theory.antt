@@ -14,7 +14,7 @@ use Rattle.plain_tree.specs.declared.tree.OpenFile.{OpenFile}
 use Rattle.plain_tree.specs.declared.node.Node.{Node}
 use Rattle.inode_machine.specs.Inodes.{Sort, sort_of_kind}
 use Rattle.inode_machine.specs.Exec.{is_nothing, serving}
-use Rattle.inode_machine.specs.Rules.{Inv, Idle, machine}
+use Rattle.inode_machine.specs.Rules.{Inv, Idle, machine, asked_limit}
 use Rattle.inode_machine.specs.Programs.{program, limit}
 
 -- why a start is refused: there is no such hart; it has a call, or takes part in another's; a path is too long, or has a zero; too much is to be read or written;
@@ -30,7 +30,7 @@ pub data Refusal : Type 0 where
 
 abbrev pub on_descriptors : Call → Bool
 on_descriptors (Open path flags) = false
-on_descriptors (Read fd buffer) = true
+on_descriptors (Read fd buffer) = not (nat_lt asked_limit (length buffer))
 on_descriptors (Write fd bytes) = true
 on_descriptors (Link old new) = false
 on_descriptors (Unlink path) = false
@@ -75,9 +75,6 @@ begin_call h (Inherit child) busy w = begin_inherit h child busy w
 
 abbrev pub path_limit : ℕ
 path_limit = 127
-
-abbrev pub asked_limit : ℕ
-asked_limit = 524288
 
 abbrev pub has_zero : List ℕ → Bool
 has_zero [] = false
