@@ -1,5 +1,5 @@
 -- No transaction of a call records more than ten blocks.
-use Rattle.std.proofs.Common.{◌≡◌, ◌⊎◌, inl, inr, ℕ, zero, suc, ◌+◌, ◌-◌, ◌≤◌, ◌==◌, ◌||◌, List, [], ◌∷◌, length, Bool, true, false, Option, Some, None, refl, sym, ◌∙◌, ap, subst, arith, if◌then◌else◌}
+use Rattle.std.proofs.Common.{◌≡◌, ◌⊎◌, inl, inr, ℕ, zero, suc, ◌+◌, ◌-◌, ◌≤◌, ◌==◌, ◌||◌, List, [], ◌∷◌, length, Bool, true, false, Option, Some, None, refl, subst, arith, if◌then◌else◌}
 use Rattle.plain_tree.specs.declared.answer.Cause.{Cause}
 use Rattle.plain_tree.specs.declared.answer.Cause.TheVariants.{NoEntry}
 use Rattle.plain_tree.specs.declared.answer.Reply.{Reply}
@@ -12,18 +12,17 @@ use Rattle.plain_tree.specs.Steps.{creates}
 use Rattle.plain_tree.specs.Calls.{piece_count}
 use Rattle.plain_tree.specs.Widths.{descriptor_count}
 use Rattle.tree_laws.specs.WellFormed.{one_if}
-use Rattle.tree_laws.proofs.Maps.{either, eq_self, eq_is}
+use Rattle.tree_laws.proofs.Maps.{either, eq_self}
 use Rattle.atomic_programs.specs.Prog.{Do, unmarked}
-use Rattle.inode_machine.specs.Inodes.{Sort, Face, Seen, face_or, is_live_face, is_directory_face, is_directory_sort, open_refusal}
+use Rattle.inode_machine.specs.Inodes.{Sort, Face, face_or, is_live_face, is_directory_face, is_directory_sort}
 use Rattle.inode_machine.specs.World.{Mark, Claimed, New, NoInode, NoPlace, Entered, InPlace, NoBlock, NoSlot, Readout, NotRead, Part, Joining, NotJoined, Joined, Wrote, Whole, Refused, Short, Lending, Lent, Moved}
-use Rattle.inode_machine.specs.World.Op.{Free, Store, Fill, Enter, Clear}
-use Rattle.inode_machine.specs.Parts.{P, Stop, NotThere, NoMemory, done, failed, stopped, drop, give_up, free_all, tail, walk, walk_step, walk_parent, see_parent, leave_directory, with_last, start, start_on}
-use Rattle.inode_machine.specs.Descriptors.{joined_on, read_on, dup_on, stat_on, close_on, write_from, write_piece, wrote_on, dup_program, close_program, stat_program, read_program, write_program}
-use Rattle.inode_machine.specs.Opening.{installed_on, take_descriptor, open_end, open_face, open_at, open_old, open_new, open_made, make_on, make_with, create_found, create_in, unmake, empties, open_program}
-use Rattle.inode_machine.specs.Naming.{lower_parent, clear_name, unlink_child, unlink_found, unlink_in, unlink_named, unlink_dots, unlink_program, name_directory, mkdir_with, mkdir_on, mkdir_in, mkdir_program, mkdir_refused, lower, named_on, link_found, link_in, link_name, link_raise, link_at, link_program, bump_refused, in_parent}
-use Rattle.inode_machine.specs.Moving.{chdir_at, chdir_program, inherit_end, lent_directory, lend_on, lend_from, inherit_program}
-use Rattle.inode_machine.specs.Programs.{program}
-use Rattle.inode_machine.specs.Budget.{Spent, unspent, size, has, with_number, with_record, with_bitmap, with_contents, spent_after, most_recorded, HasRoom, TransactionsAreSmall}
+use Rattle.inode_machine.specs.World.Op.{Free, Store, Enter, Clear}
+use Rattle.inode_machine.specs.Parts.{P, Stop, NotThere, NoMemory, done, failed, stopped, drop, give_up, free_all, tail, walk, walk_step, walk_parent, leave_directory, with_last, start, start_on}
+use Rattle.inode_machine.specs.Descriptors.{joined_on, read_on, dup_on, stat_on, close_on, write_from, wrote_on, write_program}
+use Rattle.inode_machine.specs.Opening.{installed_on, take_descriptor, open_end, open_face, open_at, open_old, open_new, make_on, make_with, create_found, create_in, unmake, empties}
+use Rattle.inode_machine.specs.Naming.{lower_parent, clear_name, unlink_child, unlink_found, unlink_in, name_directory, mkdir_with, mkdir_on, mkdir_in, mkdir_refused, lower, named_on, link_found, link_in, link_name, link_raise, link_at, bump_refused, in_parent}
+use Rattle.inode_machine.specs.Moving.{chdir_at, inherit_end, lend_on, lend_from}
+use Rattle.inode_machine.specs.Budget.{Spent, unspent, size, has, with_record, with_bitmap, with_contents, spent_after, HasRoom, TransactionsAreSmall}
 
 -- ---- what may be spent on these inodes
 

@@ -1,5 +1,5 @@
 -- The calls that are shown right, together.
-use Rattle.std.proofs.Common.{◌≡◌, ◌⊎◌, inl, inr, Bool, true, false, [], refl, not, nat_lt, length, Option, Some, None, if◌then◌else◌}
+use Rattle.std.proofs.Common.{◌≡◌, ◌⊎◌, inl, inr, Bool, true, false, [], refl, not, nat_lt, length, Some, None, if◌then◌else◌}
 use Rattle.atomic_programs.specs.Logic.{Safe}
 use Rattle.plain_tree.specs.Steps.{creates}
 use Rattle.atomic_programs.specs.Calls.{Begun, Ends, Lawful, State, fresh, run}
