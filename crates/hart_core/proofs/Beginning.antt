@@ -1,0 +1,307 @@
+-- A call that is under way has an operation to make.
+use Rattle.std.proofs.Common.{◌<◌, ℕ, zero, suc, Bool, true, false, List, [], ◌∷◌, if◌then◌else◌, ◌==◌, arith}
+use Rattle.std.specs.Prelude.{drop, take}
+use Rattle.sleep_lock.specs.SleepLock.{GuardState}
+use Rattle.buffer_cache.specs.Buffers.{BufferState}
+use Rattle.atomic_programs.specs.Prog.{Ret, Do, bind}
+use Rattle.fs_machine.specs.Steps.{State}
+use Rattle.fs_machine.specs.Machines.{P}
+use Rattle.fs_machine.specs.Programs.{fetch, commits}
+use Rattle.fs_machine.specs.Tied.{bytes_of}
+use Rattle.fs_machine.specs.Fetching.{fetch_of, finish_of, FinishFits}
+use Rattle.fs_machine.specs.declared.fetch.Fetch.{Fetch}
+use Rattle.fs_machine.specs.declared.fetch.Fetch.TheVariants as fetching
+use Rattle.fs_machine.specs.declared.finish.Finish.{Finish}
+use Rattle.fs_machine.specs.declared.finish.Finish.TheVariants as finishing
+use Rattle.bitmap_alloc.specs.Programs.{free_block}
+use Rattle.bitmap_alloc.specs.Machines.{free_of}
+use Rattle.bitmap_alloc.specs.declared.free_block.FreeBlock.{FreeBlock}
+use Rattle.bitmap_alloc.specs.declared.free_block.FreeBlock.TheVariants as freeing
+use Rattle.inode_table.specs.Machines.{load_of, store_of}
+use Rattle.inode_table.specs.declared.load_inode.LoadInode.{LoadInode}
+use Rattle.inode_table.specs.declared.load_inode.LoadInode.TheVariants as loading
+use Rattle.inode_table.specs.declared.store_inode.StoreInode.{StoreInode}
+use Rattle.inode_table.specs.declared.store_inode.StoreInode.TheVariants as storing
+use Rattle.fs_layout.specs.Indirect.{numbers_in}
+use Rattle.inode_data.specs.Widths.{direct}
+use Rattle.inode_data.specs.Addresses.{table_of}
+use Rattle.inode_data.specs.Records.{record_in}
+use Rattle.inode_data.specs.Freeing.{free_numbers, free_in_table, free_indirect, free_table}
+use Rattle.inode_data.specs.Truncating.{own_rest, listed_rest, indirect_rest, record_rest, clearing_of, truncate_of}
+use Rattle.inode_data.specs.Dropping.{free_inode_of, drop_of}
+use Rattle.inode_data.specs.Machines.{block_fetch_of}
+use Rattle.inode_data.specs.Reading.{read_of}
+use Rattle.inode_data.specs.declared.fetch_block.FetchBlock.{FetchBlock}
+use Rattle.inode_data.specs.declared.fetch_block.FetchBlock.TheVariants as fetched
+use Rattle.inode_data.specs.declared.read_part.ReadPart.{ReadPart}
+use Rattle.inode_data.specs.declared.read_part.ReadPart.TheVariants as reading
+use Rattle.inode_data.specs.declared.truncation.Emptying.{Emptying}
+use Rattle.inode_data.specs.declared.truncation.Clearing.{Clearing}
+use Rattle.inode_data.specs.declared.truncation.Clearing.TheVariants as clearing
+use Rattle.inode_data.specs.declared.truncation.Truncate.{Truncate}
+use Rattle.inode_data.specs.declared.truncation.Truncate.TheVariants as emptying
+use Rattle.inode_data.specs.declared.freeing.FreeInode.{FreeInode}
+use Rattle.inode_data.specs.declared.freeing.FreeInode.TheVariants as freed
+use Rattle.inode_data.specs.declared.dropping.DropReference.{DropReference}
+use Rattle.inode_data.specs.declared.dropping.DropReference.TheVariants as dropping
+use Rattle.file_table.specs.Machines.{file_of}
+use Rattle.file_table.specs.declared.load_file.LoadFile.{LoadFile}
+use Rattle.file_table.specs.declared.load_file.LoadFile.TheVariants as file
+use Rattle.syscalls.specs.Machines.{dup_of, close_of, CloseFits, fstat_of, read_call_of, running_of, RunningFits}
+use Rattle.directory.specs.Programs.{Aim, Named}
+use Rattle.directory.specs.Machines.{search_of}
+use Rattle.path_walk.specs.Elements.{name_in}
+use Rattle.directory.specs.declared.search.Search.{Search}
+use Rattle.directory.specs.declared.search.Search.TheVariants as searching
+use Rattle.path_walk.specs.Machines.{walk_of}
+use Rattle.path_walk.specs.declared.walk.Walk.{Walk}
+use Rattle.path_walk.specs.declared.walk.Walk.TheVariants as walking
+use Rattle.syscalls.specs.Taking.{take_of, reach_of}
+use Rattle.syscalls.specs.declared.take.TakeInode.{TakeInode}
+use Rattle.syscalls.specs.declared.take.TakeInode.TheVariants as taking
+use Rattle.syscalls.specs.declared.reach.Reach.{Reach}
+use Rattle.syscalls.specs.declared.reach.Reach.TheVariants as reaching
+use Rattle.syscalls.specs.Tails.{tail_of, TailFits}
+use Rattle.syscalls.specs.declared.tail.Tail.{Tail}
+use Rattle.syscalls.specs.declared.tail.Tail.TheVariants as tail
+use Rattle.syscalls.specs.Ends.{give_of, quit_of, QuitFits}
+use Rattle.syscalls.specs.declared.give.GiveUp.{GiveUp}
+use Rattle.syscalls.specs.declared.give.GiveUp.TheVariants as giving
+use Rattle.syscalls.specs.declared.quit.Quit.{Quit}
+use Rattle.syscalls.specs.declared.quit.Quit.TheVariants as quitting
+use Rattle.syscalls.specs.Opens.{install_of, InstallFits, open_old_of, OpenOldFits}
+use Rattle.syscalls.specs.declared.install.Install.{Install}
+use Rattle.syscalls.specs.declared.install.Install.TheVariants as installing
+use Rattle.syscalls.specs.declared.open_old.OpenOld.{OpenOld}
+use Rattle.syscalls.specs.declared.open_old.OpenOld.TheVariants as opening
+use Rattle.syscalls.specs.Chdirs.{chdir_of, ChdirFits}
+use Rattle.syscalls.specs.declared.chdir.Chdir.{Chdir}
+use Rattle.syscalls.specs.declared.chdir.Chdir.TheVariants as chdir
+use Rattle.syscalls.specs.declared.dup.Dup.{Dup}
+use Rattle.syscalls.specs.declared.dup.Dup.TheVariants as dup
+use Rattle.syscalls.specs.declared.close.Close.{Close}
+use Rattle.syscalls.specs.declared.close.Close.TheVariants as close
+use Rattle.syscalls.specs.declared.fstat.Fstat.{Fstat}
+use Rattle.syscalls.specs.declared.fstat.Fstat.TheVariants as fstat
+use Rattle.syscalls.specs.declared.read.Read.{Read}
+use Rattle.syscalls.specs.declared.read.Read.TheVariants as read
+use Rattle.syscalls.specs.declared.running.Running.{Running}
+use Rattle.syscalls.specs.declared.running.Running.TheVariants as running
+
+-- the program has an operation to make
+abbrev pub HasOne : {A : Type 0} → P A → Type 0
+HasOne (Ret a) = ⊥
+HasOne (Do op m k) = Unit {0}
+
+first : {A B : Type 0} (p : P A) (f : A → P B) → HasOne p → HasOne (bind p f)
+first (Ret a) f has = absurd has
+first (Do op m k) f has = tt
+
+-- ---- what every layer uses
+
+has_fetch : (m : Fetch) → HasOne (fetch_of m)
+unfolding fetch_of
+has_fetch (fetching.Get b) = tt
+has_fetch (fetching.Read guard) = tt
+
+has_commits : (n : ℕ) → 0 < n → HasOne (commits n)
+has_commits zero lt = absurd (omega (arith, lt))
+has_commits (suc n) lt = tt
+
+has_finish : (h : ℕ) (m : Finish) → FinishFits h m → HasOne (finish_of m)
+unfolding finish_of FinishFits
+has_finish h (finishing.Leave txn) fits = tt
+has_finish h (finishing.Commit left) fits = has_commits left fits
+
+has_free : (m : FreeBlock) → HasOne (free_of m)
+unfolding free_of
+has_free (freeing.Look b f) = first (fetch_of f) _ (has_fetch f)
+has_free (freeing.Unmark b guard) = tt
+
+has_load : (m : LoadInode) → HasOne (load_of m)
+unfolding load_of
+has_load (loading.Fetching n f) = first (fetch_of f) _ (has_fetch f)
+has_load (loading.Read n guard) = tt
+
+has_store : (m : StoreInode) → HasOne (store_of m)
+unfolding store_of
+has_store (storing.Fetching n d f) = first (fetch_of f) _ (has_fetch f)
+has_store (storing.Write n d guard) = tt
+
+-- ---- contents
+
+has_block : (m : FetchBlock) → HasOne (block_fetch_of m)
+unfolding block_fetch_of
+has_block (fetched.Table i f) = first (fetch_of f) _ (has_fetch f)
+has_block (fetched.Number i guard) = tt
+has_block (fetched.Block f) = first (fetch_of f) _ (has_fetch f)
+
+has_read : (m : ReadPart) → HasOne (read_of m)
+unfolding read_of
+has_read (reading.Fetching r m) = first (block_fetch_of m) _ (has_block m)
+has_read (reading.There r guard) = tt
+
+has_numbers : {A : Type 0} (bitmap : ℕ) (bs : List ℕ) (after : P A) → HasOne after → HasOne (free_numbers bitmap bs after)
+has_numbers bitmap [] after has = has
+has_numbers {A} bitmap (b ∷ bs) after has = each (b == 0) (has_numbers bitmap bs after has)
+  where
+    each : (c : Bool) → HasOne (free_numbers bitmap bs after) → HasOne (if c then free_numbers bitmap bs after else bind (free_block bitmap b) (λ _. free_numbers bitmap bs after))
+    each true more = more
+    each false more = tt
+
+has_indirect : {A : Type 0} (bitmap table : ℕ) (after : P A) → HasOne after → HasOne (free_indirect bitmap table after)
+has_indirect bitmap table after has = each (table == 0)
+  where
+    each : (c : Bool) → HasOne (if c then after else bind (fetch table) (free_in_table bitmap table after))
+    each true = has
+    each false = tt
+
+has_own : (e : Emptying) (from : ℕ) → HasOne (own_rest e from)
+has_own e from =
+    has_numbers e.sizes.bmapstart (drop from (take direct (record_in e.inode).addrs)) (indirect_rest e)
+    (has_indirect e.sizes.bmapstart (table_of (record_in e.inode)) (record_rest e) tt)
+
+has_listed : (e : Emptying) (table : GuardState BufferState) (from : ℕ) → HasOne (listed_rest e table from)
+has_listed e table from = has_numbers e.sizes.bmapstart (drop from (numbers_in (bytes_of table))) (free_table e.sizes.bmapstart table.value.block (record_rest e)) tt
+
+has_clearing : (e : Emptying) (m : Clearing) → HasOne (clearing_of e m)
+unfolding clearing_of
+has_clearing e (clearing.Own i m) = first (free_of m) _ (has_free m)
+has_clearing e (clearing.Indirect f) = first (fetch_of f) _ (has_fetch f)
+has_clearing e (clearing.Listed table i m) = first (free_of m) _ (has_free m)
+has_clearing e (clearing.GiveBack table) = tt
+has_clearing e (clearing.Table m) = first (free_of m) _ (has_free m)
+has_clearing e (clearing.Record m) = first (store_of m) _ (has_store m)
+
+has_truncate : (m : Truncate) → HasOne (truncate_of m)
+unfolding truncate_of
+has_truncate (emptying.Own e from) = has_own e from
+has_truncate (emptying.Listed e table from) = has_listed e table from
+has_truncate (emptying.Record e) = tt
+has_truncate (emptying.Runs r) = has_clearing r.emptying r.clearing
+
+has_free_inode : (m : FreeInode) → HasOne (free_inode_of m)
+unfolding free_inode_of
+has_free_inode (freed.Truncating n inodestart m) = first (truncate_of m) _ (has_truncate m)
+has_free_inode (freed.Emptied n inodestart guard) = tt
+has_free_inode (freed.Storing n guard m) = first (store_of m) _ (has_store m)
+has_free_inode (freed.Unlocking n guard) = tt
+has_free_inode (freed.Dropping n) = tt
+
+has_drop : (m : DropReference) → HasOne (drop_of m)
+unfolding drop_of
+has_drop (dropping.Down sizes n) = tt
+has_drop (dropping.Freeing m) = has_free_inode m
+
+has_file : (m : LoadFile) → HasOne (file_of m)
+unfolding file_of
+has_file (file.Lock inodestart want fd) = tt
+has_file (file.Loading f guard m) = first (load_of m) _ (has_load m)
+
+-- ---- calls
+
+has_dup : (m : Dup) → HasOne (dup_of m)
+unfolding dup_of
+has_dup (dup.Double fd) = tt
+has_dup (dup.Say reply) = tt
+
+has_close : (h : ℕ) (s : State) (m : Close) → CloseFits h s m → HasOne (close_of m)
+unfolding close_of CloseFits
+has_close h s (close.Shut sizes fd) fits = tt
+has_close h s (close.Join sizes fd n) fits = tt
+has_close h s (close.Dropping fd txn m) fits = first (drop_of m) _ (has_drop m)
+has_close h s (close.Finishing fd m) fits = first (finish_of m) _ (has_finish h m fits)
+has_close h s (close.Say reply) fits = tt
+
+has_fstat : (m : Fstat) → HasOne (fstat_of m)
+unfolding fstat_of
+has_fstat (fstat.Loading fd m) = first (file_of m) _ (has_file m)
+has_fstat (fstat.Give fd guard) = tt
+has_fstat (fstat.Say reply) = tt
+
+has_read_call : (m : Read) → HasOne (read_call_of m)
+unfolding read_call_of
+has_read_call (read.Loading fd buffer m) = first (file_of m) _ (has_file m)
+has_read_call (read.Reading fd offset m) = first (read_of m) _ (has_read m)
+has_read_call (read.Give fd offset r) = tt
+has_read_call (read.Say reply) = tt
+
+-- ---- paths
+
+has_search : (aim : Aim) (m : Search) → HasOne (search_of aim m)
+unfolding search_of
+has_search aim (searching.Fetching at m) = first (block_fetch_of m) _ (has_block m)
+has_search aim (searching.There at guard) = tt
+
+has_walk : (path : List ℕ) (m : Walk) → HasOne (walk_of path m)
+unfolding walk_of
+has_walk path (walking.Start inodestart goal list) = tt
+has_walk path (walking.Lock way d) = tt
+has_walk path (walking.Load way d guard m) = first (load_of m) _ (has_load m)
+has_walk path (walking.Lookup way d m) = first (search_of (Named (name_in path way.element)) m) _ (has_search (Named (name_in path way.element)) m)
+has_walk path (walking.Up way d guard n) = tt
+has_walk path (walking.Unlock way d guard next) = tt
+has_walk path (walking.Down way d next) = tt
+has_walk path (walking.Leave way d guard) = tt
+
+has_take : (m : TakeInode) → HasOne (take_of m)
+unfolding take_of
+has_take (taking.Lock inodestart n) = tt
+has_take (taking.Loading n guard m) = first (load_of m) _ (has_load m)
+
+has_reach : (path : List ℕ) (m : Reach) → HasOne (reach_of path m)
+unfolding reach_of
+has_reach path (reaching.Walking inodestart m) = first (walk_of path m) _ (has_walk path m)
+has_reach path (reaching.Taking last list m) = first (take_of m) _ (has_take m)
+
+-- ---- how a call on a path ends
+
+has_tail : (h : ℕ) (s : State) (m : Tail) → TailFits h s m → HasOne (tail_of m)
+unfolding tail_of TailFits
+has_tail h s (tail.Leaving e m) fits = first (finish_of m) _ (has_finish h m fits.1)
+has_tail h s (tail.Join e n) fits = tt
+has_tail h s (tail.Lock e n txn) fits = tt
+has_tail h s (tail.Loading e n txn guard m) fits = first (load_of m) _ (has_load m)
+has_tail h s (tail.Freeing e txn m) fits = first (free_inode_of m) _ (has_free_inode m)
+has_tail h s (tail.Say reply) fits = tt
+
+has_give : (m : GiveUp) → HasOne (give_of m)
+unfolding give_of
+has_give (giving.Unlock sizes held) = tt
+has_give (giving.Dropping m) = has_drop m
+
+has_quit : (h : ℕ) (s : State) (m : Quit) → QuitFits h s m → HasOne (quit_of m)
+unfolding quit_of QuitFits
+has_quit h s (quitting.Unlock e txn inode) fits = tt
+has_quit h s (quitting.Giving e txn m) fits = first (give_of m) _ (has_give m)
+has_quit h s (quitting.Tail m) fits = has_tail h s m fits
+
+has_install : (h : ℕ) (s : State) (m : Install) → InstallFits h s m → HasOne (install_of m)
+unfolding install_of InstallFits
+has_install h s (installing.Place o txn it) fits = tt
+has_install h s (installing.Descriptor o txn it) fits = tt
+has_install h s (installing.Emptying e txn m) fits = first (truncate_of m) _ (has_truncate m)
+has_install h s (installing.Ends m) fits = has_quit h s m fits
+
+has_open : (h : ℕ) (s : State) (m : OpenOld) → OpenOldFits h s m → HasOne (open_old_of m)
+unfolding open_old_of OpenOldFits
+has_open h s (opening.Join o) fits = tt
+has_open h s (opening.Reaching o txn m) fits = first (reach_of o.path m) _ (has_reach o.path m)
+has_open h s (opening.Installing m) fits = has_install h s m fits
+has_open h s (opening.Ends m) fits = has_quit h s m fits
+
+has_chdir : (h : ℕ) (s : State) (m : Chdir) → ChdirFits h s m → HasOne (chdir_of m)
+unfolding chdir_of ChdirFits
+has_chdir h s (chdir.Join on) fits = tt
+has_chdir h s (chdir.Reaching on txn m) fits = first (reach_of on.path m) _ (has_reach on.path m)
+has_chdir h s (chdir.Settle on txn list held) fits = tt
+has_chdir h s (chdir.Ends m) fits = has_quit h s m fits
+
+pub has_running : (h : ℕ) (s : State) (m : Running) → RunningFits h s m → HasOne (running_of m)
+unfolding running_of RunningFits
+has_running h s (running.Open m) fits = has_open h s m fits
+has_running h s (running.Chdir m) fits = has_chdir h s m fits
+has_running h s (running.Dup m) fits = has_dup m
+has_running h s (running.Close m) fits = has_close h s m fits
+has_running h s (running.Fstat m) fits = has_fstat m
+has_running h s (running.Read m) fits = has_read_call m

@@ -1,0 +1,4 @@
+pub mod Staying
+pub mod Beginning
+pub mod Stepping
+pub mod Mounted

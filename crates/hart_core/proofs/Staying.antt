@@ -1,0 +1,261 @@
+-- What a call under way has in hand stays its hart's while another hart makes a step.
+use Rattle.std.proofs.Common.{List, ◌≢◌, ℕ, sym, ◌∙◌}
+use Rattle.sleep_lock.specs.SleepLock.{GuardState}
+use Rattle.buffer_cache.specs.Buffers.{BufferState}
+use Rattle.fs_tables.specs.declared.inodes.Inode.{Inode}
+use Rattle.fs_machine.specs.Steps.{State}
+use Rattle.fs_machine.specs.Tied.{IsOwn, IsOwnInode, LeavesTied}
+use Rattle.fs_machine.specs.Fetching.{FetchFits, IsFetched}
+use Rattle.fs_machine.specs.declared.fetch.Fetch.{Fetch}
+use Rattle.fs_machine.specs.declared.fetch.Fetch.TheVariants as fetching
+use Rattle.bitmap_alloc.specs.Machines.{FreeFits}
+use Rattle.bitmap_alloc.specs.declared.free_block.FreeBlock.{FreeBlock}
+use Rattle.bitmap_alloc.specs.declared.free_block.FreeBlock.TheVariants as freeing
+use Rattle.inode_table.specs.Machines.{LoadFits, StoreFits}
+use Rattle.inode_table.specs.declared.load_inode.LoadInode.{LoadInode}
+use Rattle.inode_table.specs.declared.load_inode.LoadInode.TheVariants as loading
+use Rattle.inode_table.specs.declared.store_inode.StoreInode.{StoreInode}
+use Rattle.inode_table.specs.declared.store_inode.StoreInode.TheVariants as storing
+use Rattle.inode_data.specs.Truncating.{ClearingFits, TruncateFits}
+use Rattle.inode_data.specs.Dropping.{FreeInodeFits, DropFits}
+use Rattle.inode_data.specs.Machines.{BlockFetchFits}
+use Rattle.inode_data.specs.Reading.{ReadFits}
+use Rattle.inode_data.specs.declared.fetch_block.FetchBlock.{FetchBlock}
+use Rattle.inode_data.specs.declared.fetch_block.FetchBlock.TheVariants as fetched
+use Rattle.inode_data.specs.declared.read_part.ReadPart.{ReadPart}
+use Rattle.inode_data.specs.declared.read_part.ReadPart.TheVariants as reading
+use Rattle.inode_data.specs.declared.truncation.Clearing.{Clearing}
+use Rattle.inode_data.specs.declared.truncation.Clearing.TheVariants as clearing
+use Rattle.inode_data.specs.declared.truncation.Truncate.{Truncate}
+use Rattle.inode_data.specs.declared.truncation.Truncate.TheVariants as emptying
+use Rattle.inode_data.specs.declared.freeing.FreeInode.{FreeInode}
+use Rattle.inode_data.specs.declared.freeing.FreeInode.TheVariants as freed
+use Rattle.inode_data.specs.declared.dropping.DropReference.{DropReference}
+use Rattle.inode_data.specs.declared.dropping.DropReference.TheVariants as dropping
+use Rattle.file_table.specs.Machines.{FileFits, IsLoaded}
+use Rattle.file_table.specs.declared.load_file.LoadFile.{LoadFile}
+use Rattle.file_table.specs.declared.load_file.LoadFile.TheVariants as file
+use Rattle.syscalls.specs.Machines.{CloseFits, FstatFits, ReadCallFits, RunningFits}
+use Rattle.directory.specs.Machines.{inode_of, SearchFits}
+use Rattle.directory.specs.declared.search.Search.{Search}
+use Rattle.directory.specs.declared.search.Search.TheVariants as searching
+use Rattle.path_walk.specs.Machines.{WalkFits}
+use Rattle.path_walk.specs.declared.walk.Walk.{Walk}
+use Rattle.path_walk.specs.declared.walk.Walk.TheVariants as walking
+use Rattle.syscalls.specs.Taking.{IsHeld, TakeFits, ReachFits}
+use Rattle.syscalls.specs.declared.take.Held.{Held}
+use Rattle.syscalls.specs.declared.take.TakeInode.{TakeInode}
+use Rattle.syscalls.specs.declared.take.TakeInode.TheVariants as taking
+use Rattle.syscalls.specs.declared.reach.Reach.{Reach}
+use Rattle.syscalls.specs.declared.reach.Reach.TheVariants as reaching
+use Rattle.syscalls.specs.Tails.{TailFits}
+use Rattle.syscalls.specs.declared.tail.Tail.{Tail}
+use Rattle.syscalls.specs.declared.tail.Tail.TheVariants as tail
+use Rattle.syscalls.specs.Ends.{GiveFits, QuitFits}
+use Rattle.syscalls.specs.declared.give.GiveUp.{GiveUp}
+use Rattle.syscalls.specs.declared.give.GiveUp.TheVariants as giving
+use Rattle.syscalls.specs.declared.quit.Quit.{Quit}
+use Rattle.syscalls.specs.declared.quit.Quit.TheVariants as quitting
+use Rattle.syscalls.specs.Opens.{InstallFits, OpenOldFits}
+use Rattle.syscalls.specs.declared.install.Install.{Install}
+use Rattle.syscalls.specs.declared.install.Install.TheVariants as installing
+use Rattle.syscalls.specs.declared.open_old.OpenOld.{OpenOld}
+use Rattle.syscalls.specs.declared.open_old.OpenOld.TheVariants as opening
+use Rattle.syscalls.specs.Chdirs.{ChdirFits}
+use Rattle.syscalls.specs.declared.chdir.Chdir.{Chdir}
+use Rattle.syscalls.specs.declared.chdir.Chdir.TheVariants as chdir
+use Rattle.syscalls.specs.declared.close.Close.{Close}
+use Rattle.syscalls.specs.declared.close.Close.TheVariants as close
+use Rattle.syscalls.specs.declared.fstat.Fstat.{Fstat}
+use Rattle.syscalls.specs.declared.fstat.Fstat.TheVariants as fstat
+use Rattle.syscalls.specs.declared.read.Read.{Read}
+use Rattle.syscalls.specs.declared.read.Read.TheVariants as read
+use Rattle.syscalls.specs.declared.running.Running.{Running}
+use Rattle.syscalls.specs.declared.running.Running.TheVariants as running
+
+-- hart g steps from s to t, and hart h is another one
+module _ (h g : ℕ) (s t : State) (other : h ≢ g) (leaves : LeavesTied g s t) where
+  own : (b : ℕ) (guard : GuardState BufferState) → IsOwn h b guard s → IsOwn h b guard t
+  own b guard o = record { hand = o.hand; block = o.block; tied = leaves.buffers guard (λ e. other (sym o.hand ∙ e)) o.tied }
+
+  own_inode : (n : ℕ) (guard : GuardState Inode) → IsOwnInode h n guard s → IsOwnInode h n guard t
+  own_inode n guard o = record { hand = o.hand; number = o.number; locked = leaves.inodes guard (λ e. other (sym o.hand ∙ e)) o.locked }
+
+  is_fetched : (b : ℕ) (guard : GuardState BufferState) → IsFetched h b guard s → IsFetched h b guard t
+  is_fetched b guard f = record { own = own b guard f.own; valid = f.valid }
+
+  is_loaded : (n : ℕ) (guard : GuardState Inode) → IsLoaded h n guard s → IsLoaded h n guard t
+  is_loaded n guard l = record { number = l.number; own = own_inode n guard l.own; there = l.there }
+
+  fetch : (m : Fetch) → FetchFits h s m → FetchFits h t m
+  unfolding FetchFits
+  fetch (fetching.Get b) fits = fits
+  fetch (fetching.Read guard) fits = (own _ guard fits.0, fits.1)
+
+  free : (m : FreeBlock) → FreeFits h s m → FreeFits h t m
+  unfolding FreeFits
+  free (freeing.Look b f) fits = fetch f fits
+  free (freeing.Unmark b guard) fits = is_fetched _ guard fits
+
+  load : (m : LoadInode) → LoadFits h s m → LoadFits h t m
+  unfolding LoadFits
+  load (loading.Fetching n f) fits = fetch f fits
+  load (loading.Read n guard) fits = is_fetched _ guard fits
+
+  store : (m : StoreInode) → StoreFits h s m → StoreFits h t m
+  unfolding StoreFits
+  store (storing.Fetching n d f) fits = fetch f fits
+  store (storing.Write n d guard) fits = is_fetched _ guard fits
+
+  -- ---- contents
+
+  block : (m : FetchBlock) → BlockFetchFits h s m → BlockFetchFits h t m
+  unfolding BlockFetchFits
+  block (fetched.Table i f) fits = (fits.0, fetch f fits.1)
+  block (fetched.Number i guard) fits = (fits.0, is_fetched _ guard fits.1)
+  block (fetched.Block f) fits = fetch f fits
+
+  reads : (m : ReadPart) → ReadFits h s m → ReadFits h t m
+  unfolding ReadFits
+  reads (reading.Fetching r m) fits = (fits.0, block m fits.1)
+  reads (reading.There r guard) fits = (fits.0, is_fetched _ guard fits.1)
+
+  clears : (m : Clearing) → ClearingFits h s m → ClearingFits h t m
+  unfolding ClearingFits
+  clears (clearing.Own i m) fits = (fits.0, free m fits.1)
+  clears (clearing.Indirect f) fits = fetch f fits
+  clears (clearing.Listed table i m) fits = (fits.0, is_fetched _ table fits.1, free m fits.2, fits.3)
+  clears (clearing.GiveBack table) fits = is_fetched _ table fits
+  clears (clearing.Table m) fits = free m fits
+  clears (clearing.Record m) fits = store m fits
+
+  truncates : (m : Truncate) → TruncateFits h s m → TruncateFits h t m
+  unfolding TruncateFits
+  truncates (emptying.Own e from) fits = fits
+  truncates (emptying.Listed e table from) fits = (fits.0, is_fetched _ table fits.1)
+  truncates (emptying.Record e) fits = fits
+  truncates (emptying.Runs r) fits = (fits.0, clears r.clearing fits.1)
+
+  frees : (m : FreeInode) → FreeInodeFits h s m → FreeInodeFits h t m
+  unfolding FreeInodeFits
+  frees (freed.Truncating n inodestart m) fits = (fits.0, own_inode n _ fits.1, truncates m fits.2)
+  frees (freed.Emptied n inodestart guard) fits = (fits.0, own_inode n guard fits.1, fits.2)
+  frees (freed.Storing n guard m) fits = (own_inode n guard fits.0, fits.1, store m fits.2)
+  frees (freed.Unlocking n guard) fits = (own_inode n guard fits.0, fits.1)
+  frees (freed.Dropping n) fits = fits
+
+  drops : (m : DropReference) → DropFits h s m → DropFits h t m
+  unfolding DropFits
+  drops (dropping.Down sizes n) fits = fits
+  drops (dropping.Freeing m) fits = frees m fits
+
+  files : (m : LoadFile) → FileFits h s m → FileFits h t m
+  unfolding FileFits
+  files (file.Lock inodestart want fd) fits = fits
+  files (file.Loading f guard m) fits = (fits.0, own_inode _ guard fits.1, load m fits.2)
+
+  -- ---- calls
+
+  closes : (m : Close) → CloseFits h s m → CloseFits h t m
+  unfolding CloseFits
+  closes (close.Shut sizes fd) fits = fits
+  closes (close.Join sizes fd n) fits = fits
+  closes (close.Dropping fd txn m) fits = (fits.0, drops m fits.1)
+  closes (close.Finishing fd m) fits = fits
+  closes (close.Say reply) fits = fits
+
+  stats : (m : Fstat) → FstatFits h s m → FstatFits h t m
+  unfolding FstatFits
+  stats (fstat.Loading fd m) fits = files m fits
+  stats (fstat.Give fd guard) fits = is_loaded _ guard fits
+  stats (fstat.Say reply) fits = fits
+
+  read_calls : (m : Read) → ReadCallFits h s m → ReadCallFits h t m
+  unfolding ReadCallFits
+  read_calls (read.Loading fd buffer m) fits = (fits.0, files m fits.1)
+  read_calls (read.Reading fd offset m) fits = (own_inode _ _ fits.0, reads m fits.1)
+  read_calls (read.Give fd offset r) fits = own_inode _ _ fits
+  read_calls (read.Say reply) fits = fits
+
+  -- ---- paths
+
+  searches : (m : Search) → SearchFits h s m → SearchFits h t m
+  unfolding SearchFits
+  searches (searching.Fetching at m) fits = (fits.0, block m fits.1)
+  searches (searching.There at guard) fits = (fits.0, is_fetched _ guard fits.1)
+
+  walks : (path : List ℕ) (m : Walk) → WalkFits path h s m → WalkFits path h t m
+  unfolding WalkFits
+  walks path (walking.Start inodestart goal list) fits = fits
+  walks path (walking.Lock way d) fits = fits
+  walks path (walking.Load way d guard m) fits = (fits.0, own_inode _ guard fits.1, load m fits.2)
+  walks path (walking.Lookup way d m) fits = (fits.0, own_inode _ _ fits.1, searches m fits.2)
+  walks path (walking.Up way d guard n) fits = (fits.0, own_inode _ guard fits.1)
+  walks path (walking.Unlock way d guard next) fits = (fits.0, own_inode _ guard fits.1)
+  walks path (walking.Down way d next) fits = fits
+  walks path (walking.Leave way d guard) fits = (fits.0, own_inode _ guard fits.1)
+
+  is_held : (held : Held) → IsHeld h held s → IsHeld h held t
+  is_held held f = record { own = own_inode _ _ f.own; there = f.there }
+
+  takes : (m : TakeInode) → TakeFits h s m → TakeFits h t m
+  unfolding TakeFits
+  takes (taking.Lock inodestart n) fits = fits
+  takes (taking.Loading n guard m) fits = (own_inode n guard fits.0, load m fits.1)
+
+  reaches : (path : List ℕ) (m : Reach) → ReachFits path h s m → ReachFits path h t m
+  unfolding ReachFits
+  reaches path (reaching.Walking inodestart m) fits = (fits.0, walks path m fits.1)
+  reaches path (reaching.Taking last list m) fits = (fits.0, takes m fits.1)
+
+  -- ---- how a call on a path ends
+
+  tails : (m : Tail) → TailFits h s m → TailFits h t m
+  unfolding TailFits
+  tails (tail.Leaving e m) fits = fits
+  tails (tail.Join e n) fits = fits
+  tails (tail.Lock e n txn) fits = fits
+  tails (tail.Loading e n txn guard m) fits = (fits.0, fits.1, own_inode n guard fits.2, load m fits.3)
+  tails (tail.Freeing e txn m) fits = (fits.0, fits.1, frees m fits.2)
+  tails (tail.Say reply) fits = fits
+
+  gives : (m : GiveUp) → GiveFits h s m → GiveFits h t m
+  unfolding GiveFits
+  gives (giving.Unlock sizes held) fits = (fits.0, is_held held fits.1)
+  gives (giving.Dropping m) fits = drops m fits
+
+  quits : (m : Quit) → QuitFits h s m → QuitFits h t m
+  unfolding QuitFits
+  quits (quitting.Unlock e txn inode) fits = (fits.0, fits.1, own_inode _ inode fits.2)
+  quits (quitting.Giving e txn m) fits = (fits.0, fits.1, gives m fits.2)
+  quits (quitting.Tail m) fits = tails m fits
+
+  installs : (m : Install) → InstallFits h s m → InstallFits h t m
+  unfolding InstallFits
+  installs (installing.Place o txn it) fits = (fits.0, fits.1, is_held _ fits.2)
+  installs (installing.Descriptor o txn it) fits = (fits.0, fits.1, is_held _ fits.2)
+  installs (installing.Emptying e txn m) fits = (fits.0, fits.1, own_inode _ _ fits.2, truncates m fits.3)
+  installs (installing.Ends m) fits = quits m fits
+
+  opens : (m : OpenOld) → OpenOldFits h s m → OpenOldFits h t m
+  unfolding OpenOldFits
+  opens (opening.Join o) fits = fits
+  opens (opening.Reaching o txn m) fits = (fits.0, fits.1, reaches o.path m fits.2)
+  opens (opening.Installing m) fits = installs m fits
+  opens (opening.Ends m) fits = quits m fits
+
+  chdirs : (m : Chdir) → ChdirFits h s m → ChdirFits h t m
+  unfolding ChdirFits
+  chdirs (chdir.Join on) fits = fits
+  chdirs (chdir.Reaching on txn m) fits = (fits.0, fits.1, reaches on.path m fits.2)
+  chdirs (chdir.Settle on txn list held) fits = (fits.0, fits.1, is_held held fits.2)
+  chdirs (chdir.Ends m) fits = quits m fits
+
+  pub stays : (m : Running) → RunningFits h s m → RunningFits h t m
+  unfolding RunningFits
+  stays (running.Open m) fits = opens m fits
+  stays (running.Chdir m) fits = chdirs m fits
+  stays (running.Dup m) fits = fits
+  stays (running.Close m) fits = closes m fits
+  stays (running.Fstat m) fits = stats m fits
+  stays (running.Read m) fits = read_calls m fits

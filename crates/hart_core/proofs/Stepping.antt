@@ -1,0 +1,142 @@
+-- A call's step in its hart's place.
+use Rattle.std.proofs.Common.{◌≡◌, ◌≢◌, ◌<◌, ◌≤◌, ℕ, zero, suc, Bool, true, false, List, Option, Some, None, refl, sym, ◌∙◌, ap, subst, length, get_or, set, replicate, length-set, get_or-set_same, get_or-set_other}
+use Rattle.std.specs.Prelude.{nat_eq, slice_get}
+use Rattle.std.proofs.lemmas.Bool.{eqb-true, eqb-false}
+use Rattle.std.proofs.lemmas.Option.{slice_get_within, get_or_from_slice_get}
+use Rattle.std.proofs.lemmas.List.{get_or_past, set-set}
+use Rattle.plain_tree.specs.declared.answer.Reply.{Reply}
+use Rattle.atomic_programs.specs.Prog.{Ret, Do, plain}
+use Rattle.atomic_programs.specs.Calls.{Start, Step, Started, WasIdle, DidWait, DidRun, DidEnd, DidStop}
+use Rattle.atomic_programs.specs.Plain.{HartMade, MayOf, PlainHonestStep, plain_makes, plain_step, hart_step, hart_moved, PlainHonest}
+use Rattle.atomic_programs.specs.Machines.{program_at}
+use Rattle.atomic_programs.specs.Tables.{plain_at}
+use Rattle.atomic_programs.specs.declared.machines.Stepped.{Stepped}
+use Rattle.atomic_programs.specs.declared.machines.Stepped.TheVariants.{Waits, Ran, Done, Stopped}
+use Rattle.atomic_programs.proofs.Advances.{hart_advances}
+use Rattle.atomic_programs.proofs.Tables.{start_gives}
+use Rattle.fs_machine.specs.declared.kind.Kind.{Kind}
+use Rattle.fs_machine.specs.LogPart.{Outside, Passes}
+use Rattle.fs_machine.specs.Steps.{State}
+use Rattle.fs_machine.specs.Machines.{P, Moves, said_in}
+use Rattle.fs_machine.specs.Tied.{LeavesTied}
+use Rattle.syscalls.specs.declared.running.Running.{Running}
+use Rattle.syscalls.specs.Machines.{running_of, RunningFits}
+use Rattle.hart_core.specs.Blocks.{blocks, code}
+use Rattle.hart_core.specs.Harts.{HartFits, AllFit, HasRoom, AreHarts}
+use Rattle.hart_core.proofs.Beginning.{HasOne, has_running}
+use Rattle.hart_core.proofs.Staying.{stays}
+
+-- ---- marks
+
+no_mark : (m : Option ⊥) → None ≡ m
+no_mark None = refl
+no_mark (Some x) = absurd x
+
+-- there are no marks to be left out
+plain_same : {A : Type 0} (p : P A) → plain p ≡ p
+plain_same (Ret a) = refl
+plain_same (Do op m k) = λ i. Do op (λ a. no_mark (m a) i) (λ a. plain_same (k a) i)
+
+-- ---- a step
+
+-- what a machine's step is to its hart
+abbrev pub made : Stepped Running Reply Kind → State → HartMade blocks code
+made (Waits m) t = record { came = DidWait; left = Some (running_of m); shared = t; stopped = false }
+made (Ran m kind) t = record { came = DidRun kind; left = Some (running_of m); shared = t; stopped = false }
+made (Done reply kind) t = record { came = DidEnd reply; left = None; shared = t; stopped = false }
+made (Stopped m) t = record { came = DidStop; left = Some (running_of m); shared = t; stopped = true }
+
+moved_on : (p : P Reply) (kind : Kind) (t : State) → HasOne p → hart_moved blocks code false kind p t ≡ record { came = DidRun kind; left = Some p; shared = t; stopped = false }
+moved_on (Ret a) kind t has = absurd has
+moved_on (Do op m k) kind t has = refl
+
+module _ (h : ℕ) (self : Running) (s t : State) where
+  pub waited : (m : Running) → Moves running_of (λ x. x) h self (Waits m) s t → running_of m ≡ running_of self → t ≡ s → hart_step blocks code h Passes s false (Some (running_of self)) ≡ made (Waits m) t
+  waited m moves is same = hart_advances blocks code h Passes s (running_of self) _ moves ∙ (λ i. record { came = DidWait; left = Some (sym is i); shared = sym same i; stopped = false })
+
+  pub ran : (m : Running) (kind : Kind) → Moves running_of (λ x. x) h self (Ran m kind) s t → RunningFits h t m → hart_step blocks code h Passes s false (Some (running_of self)) ≡ made (Ran m kind) t
+  ran m kind moves fits = hart_advances blocks code h Passes s (running_of self) _ moves ∙ moved_on (running_of m) kind t (has_running h t m fits)
+
+  pub ended : (reply : Reply) (kind : Kind) → Moves running_of (λ x. x) h self (Done reply kind) s t → hart_step blocks code h Passes s false (Some (running_of self)) ≡ made (Done reply kind) t
+  ended reply kind moves = hart_advances blocks code h Passes s (running_of self) _ moves
+
+  pub broke : (m : Running) → Moves running_of (λ x. x) h self (Stopped m) s t → running_of m ≡ running_of self → hart_step blocks code h (said_in {M = Running} {R = Reply} (Stopped m) t) s false (Some (running_of self)) ≡ made (Stopped m) t
+  broke m moves is = hart_advances blocks code h (said_in {M = Running} {R = Reply} (Stopped m) t) s (running_of self) _ moves ∙ (λ i. record { came = DidStop; left = Some (sym is i); shared = t; stopped = true })
+
+-- ---- the table
+
+place_stays : (k h : ℕ) (s t : State) (o : Option Running) → k ≢ h → LeavesTied h s t → HartFits s k o → HartFits t k o
+place_stays k h s t None other leaves fits = tt
+place_stays k h s t (Some m) other leaves fits = stays k h s t other leaves m fits
+
+-- hart h's place is filled in the state that its step led to
+pub all_set : (h : ℕ) (s t : State) (calls two : List (Option Running)) (left : Option Running) → h < length calls → two ≡ set calls h left → LeavesTied h s t → AreHarts s calls → HartFits t h left → AreHarts t two
+all_set h s t calls two left room is leaves all mine = record {
+  long = ap length is ∙ length-set calls h left ∙ all.long;
+  fits = λ k. subst (λ (z : List (Option Running)). HartFits t k (get_or z k None)) (sym is) (each k (nat_eq k h) refl);
+}
+  where
+    each : (k : ℕ) (d : Bool) → nat_eq k h ≡ d → HartFits t k (get_or (set calls h left) k None)
+    each k true e =
+        subst (λ (j : ℕ). HartFits t j (get_or (set calls h left) j None)) (sym (eqb-true k h e))
+        (subst (HartFits t h) (sym (get_or-set_same calls h left None room)) mine)
+    each k false e =
+        subst (HartFits t k) (sym (get_or-set_other calls h k left None (eqb-false k h e)))
+        (place_stays k h s t (get_or calls k None) (eqb-false k h e) leaves (all.fits k))
+
+-- it was emptied before
+pub all_back : (h : ℕ) (s t : State) (calls one two : List (Option Running)) (doing left : Option Running) → slice_get calls h ≡ Some doing → one ≡ set calls h None → two ≡ set one h left → LeavesTied h s t
+    → AreHarts s calls → HartFits t h left → AreHarts t two
+all_back h s t calls one two doing left at first second =
+    all_set h s t calls two left (slice_get_within calls h doing at) (second ∙ ap (λ (z : List (Option Running)). set z h left) first ∙ set-set calls h None left)
+
+-- idle harts have nothing in hand
+nones : (n h : ℕ) → ◌≡◌ {A = Option Running} (get_or (replicate n None) h None) None
+nones zero zero = refl
+nones zero (suc h) = refl
+nones (suc n) zero = refl
+nones (suc n) (suc h) = nones n h
+
+pub all_idle : (s : State) → AreHarts s (replicate 8 None)
+all_idle s = record { long = refl; fits = λ h. subst (HartFits s h) (sym (nones 8 h)) tt }
+
+-- a hart leaves what is another's where it changes nothing
+pub leaves_same : (h : ℕ) (s : State) → LeavesTied h s s
+leaves_same h s = record { buffers = λ guard other tied. tied; inodes = λ guard other locked. locked }
+
+-- what there is of a hart that does this
+module _ (h : ℕ) (s : State) (b : Bool) (calls : List (Option Running)) (doing : Option Running) (at : slice_get calls h ≡ Some doing) where
+  is_there : get_or calls h None ≡ doing
+  is_there = get_or_from_slice_get calls h doing None at
+
+  pub fits_there : AllFit s calls → HartFits s h doing
+  fits_there all = subst (HartFits s h) is_there (all h)
+
+  pub room_there : HasRoom (get_or calls h None) → HasRoom doing
+  room_there room = subst HasRoom is_there room
+
+  pub may_there : (b ≡ false → MayOf blocks code h s (program_at running_of (get_or calls h None))) → b ≡ false → MayOf blocks code h s (program_at running_of doing)
+  may_there may on = subst (λ (z : Option Running). MayOf blocks code h s (program_at running_of z)) is_there (may on)
+
+-- past the last hart
+module _ (h : ℕ) (x : Outside) (s : State) (b : Bool) (calls : List (Option Running)) (past : length calls ≤ h) where
+  nobody : get_or calls h None ≡ None
+  nobody = get_or_past calls h None past
+
+  pub idle_past : plain_makes blocks code (Step h x) (plain_at blocks code running_of s b calls) ≡ record { came = WasIdle; after = plain_at blocks code running_of s b calls }
+  idle_past = ap (λ (o : Option Running). plain_step blocks code h x (plain_at blocks code running_of s b calls) (program_at running_of o)) nobody
+
+  none_asked : (c : Bool) → PlainHonestStep blocks code h x s c None
+  none_asked true = tt
+  none_asked false = tt
+
+  pub honest_past : PlainHonest blocks code (Step h x) (plain_at blocks code running_of s b calls)
+  honest_past = subst (λ (o : Option Running). PlainHonestStep blocks code h x s b (program_at running_of o)) (sym nobody) (none_asked b)
+
+-- a call is begun
+pub begun : (h : ℕ) (s : State) (b : Bool) (calls two : List (Option Running)) (call : Running) → slice_get calls h ≡ Some None → two ≡ set calls h (Some call)
+    → plain_makes blocks code (Start h (running_of call)) (record { shared = s; stopped = b; running = λ k. program_at running_of (get_or calls k None) })
+    ≡ record { came = Started; after = record { shared = s; stopped = b; running = λ k. program_at running_of (get_or two k None) } }
+begun h s b calls two call at is =
+    start_gives blocks code running_of s b calls h None (Some call) (set calls h None) two at refl (is ∙ sym (set-set calls h None (Some call))) (running_of call) Started s b
+    (λ i. record { came = Started; left = Some (plain_same (running_of call) i); shared = s; stopped = b })

@@ -1,0 +1,65 @@
+-- What harts' machines over all that they share stand for.
+use Rattle.std.specs.Prelude.{◌≡◌, ℕ, Bool, List, length, Option, Some, None, get_or}
+use Rattle.buffer_cache.specs.Limits.{hart_count}
+use Rattle.plain_tree.specs.declared.answer.Reply.{Reply}
+use Rattle.atomic_programs.specs.Calls.{Outcome as OutcomeOf, WasIdle, DidWait, DidRun, DidEnd, DidStop, WasStopped}
+use Rattle.atomic_programs.specs.Tables.{PlaceFits, plain_at}
+use Rattle.fs_machine.specs.declared.kind.Kind.{Kind}
+use Rattle.fs_machine.specs.declared.shared.Core.{Core}
+use Rattle.fs_machine.specs.LogPart.{Outside, Passes, Fails}
+use Rattle.fs_machine.specs.Steps.{State, state_of}
+use Rattle.syscalls.specs.declared.running.Running.{Running}
+use Rattle.syscalls.specs.Machines.{running_of, RunningFits, RunningRoom}
+use Rattle.hart_core.specs.declared.outcome.Outcome.{Outcome}
+use Rattle.hart_core.specs.declared.outcome.Outcome.TheVariants as outcome
+use Rattle.hart_core.specs.declared.outcome.Stop.TheVariants as stop
+use Rattle.hart_core.specs.Blocks.{blocks, code, Programs}
+
+-- what a hart's step came to, in the words of the block machine
+abbrev pub outcome_of : Outcome → OutcomeOf Kind Reply (Unit {0})
+outcome_of outcome.Idle = WasIdle
+outcome_of outcome.Waits = DidWait
+outcome_of (outcome.Ran kind) = DidRun kind
+outcome_of (outcome.Done reply) = DidEnd reply
+outcome_of (outcome.Stopped stop.DeviceFault) = DidStop
+outcome_of (outcome.Stopped stop.Halted) = WasStopped
+
+-- what the device answered in a step with this outcome, which left this state
+abbrev pub said : Outcome → State → Outside
+said outcome.Idle s = Passes
+said outcome.Waits s = Passes
+said (outcome.Ran kind) s = Passes
+said (outcome.Done reply) s = Passes
+said (outcome.Stopped stop.DeviceFault) s = Fails s.log.contents
+said (outcome.Stopped stop.Halted) s = Passes
+
+-- what a hart's machine has in hand goes with the state
+abbrev pub HartFits : State → ℕ → Option Running → Type 0
+HartFits s = PlaceFits (λ h m. RunningFits h s m)
+
+abbrev pub AllFit : State → List (Option Running) → Type 0
+AllFit s calls = (h : ℕ) → HartFits s h (get_or calls h None)
+
+-- a call that walks has room on its list
+abbrev pub HasRoom : Option Running → Type 0
+HasRoom None = Unit {0}
+HasRoom (Some m) = RunningRoom m
+
+-- a place for each hart, and what the machines there have in hand goes with the state
+pub record AreHarts (s : State) (calls : List (Option Running)) : Type 0 where
+  pub long : length calls ≡ hart_count
+  pub fits : AllFit s calls
+
+-- all that harts share, whether a failure of the device has stopped them, and each hart's call
+pub record HartsOf (D : Type 0) : Type 0 where
+  pub core : Core D
+  pub stopped : Bool
+  pub calls : List (Option Running)
+
+module _ {D : Type 0} (contents : D → List (List ℕ)) (failures : D → ℕ) where
+  abbrev pub shared_of : HartsOf D → State
+  shared_of w = state_of contents failures w.core
+
+  -- the same as programs
+  abbrev pub programs_of : HartsOf D → Programs
+  programs_of w = plain_at blocks code running_of (shared_of w) w.stopped w.calls

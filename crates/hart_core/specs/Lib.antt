@@ -1,0 +1,4 @@
+pub mod Blocks
+pub mod Harts
+pub mod Mounting
+pub mod Starts

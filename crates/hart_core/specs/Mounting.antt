@@ -1,0 +1,45 @@
+-- What a mount comes to.
+use Rattle.std.specs.Prelude.{◌≡◌, ◌≢◌, ℕ, false, List, [], None, replicate}
+use Rattle.fs_layout.specs.Recovered.{block_at, logged, recovered, sizes_of, IsOutsideLog}
+use Rattle.buffer_cache.specs.Limits.{buffer_count, hart_count}
+use Rattle.buffer_cache.specs.Seats.{unused_from}
+use Rattle.group_log.specs.declared.phase.Phase.TheVariants.{Open}
+use Rattle.image_tree.specs.declared.fault.MountFault.{MountFault}
+use Rattle.image_tree.specs.declared.fault.MountFault.TheVariants.{DeviceFault}
+use Rattle.image_tree.specs.Damage.{IsWellFormed, JudgesFault, fault_count_of}
+use Rattle.image_tree.specs.Trees.{tree_in}
+use Rattle.fs_tables.specs.Fresh.{fresh}
+use Rattle.hart_core.specs.Harts.{HartsOf}
+
+-- A disk that a mount has recovered: each block is as recovery would leave it, the log is empty, and it is a well-formed image of the same tree.
+pub record IsRecovered (old new : List (List ℕ)) : Type 0 where
+  pub blocks : (b : ℕ) → IsOutsideLog (sizes_of old) b → block_at new b ≡ recovered old b
+  pub empty : logged new ≡ []
+  pub sizes : sizes_of new ≡ sizes_of old
+  pub well : IsWellFormed new
+  pub tree : tree_in new ≡ tree_in old
+
+module _ {D : Type 0} (contents : D → List (List ℕ)) (failures : D → ℕ) where
+  -- Over this device, which has failed at no call, eight harts are idle; nothing is cached, recorded or open, and no inode but the root, which is every hart's
+  -- directory, is referred to.
+  pub record Rests (device : D) (w : HartsOf D) : Type 0 where
+    pub disk : IsRecovered (contents device) (contents w.core.log.cache.device)
+    pub failures_are : failures w.core.log.cache.device ≡ failures device
+    pub log : w.core.log ≡ record {
+      cache = record { device = w.core.log.cache.device; seats = unused_from 0 buffer_count };
+      sizes = sizes_of (contents device);
+      group = [];
+      members = replicate hart_count None;
+      phase = Open;
+    }
+    pub tables : w.core.tables ≡ fresh
+    pub runs : w.stopped ≡ false
+    pub idle : w.calls ≡ replicate hart_count None
+
+  -- The device is handed back. It has failed only where that is the answer, and is as it was but for a recovery that it stopped.
+  pub record HandsBack (device back : D) (fault : MountFault) : Type 0 where
+    pub judges : JudgesFault (contents device) fault
+    pub unwritten : fault ≢ DeviceFault → contents back ≡ contents device
+    pub well : IsWellFormed (contents device) → IsWellFormed (contents back)
+    pub tree : IsWellFormed (contents device) → tree_in (contents back) ≡ tree_in (contents device)
+    pub failures_are : failures back ≡ fault_count_of fault (failures device)

@@ -1,0 +1,172 @@
+// Eight harts' machines over all that they share.
+ghost use Rattle.std.specs.Prelude.{◌≡◌, ◌<◌, false, Some, None, get_or, replicate, slice_get, slice_set};
+ghost use Rattle.atomic_programs.specs.Calls.{Start as StartOf, Step as StepOf, Started};
+ghost use Rattle.atomic_programs.specs.Plain.{plain_makes, PlainHonest, PlainHonestStep, MayOf, hart_step};
+ghost use Rattle.atomic_programs.specs.Machines.{program_at};
+ghost use Rattle.fs_machine.specs.Steps.{state_of};
+ghost use Rattle.fs_machine.specs.Machines.{CallsOnce};
+ghost use Rattle.fs_machine.specs.Tied.{LeavesTied};
+ghost use Rattle.syscalls.specs.Machines.{running_of, RunningFits};
+ghost use Rattle.hart_core.specs.Blocks.{blocks, code, MayStep};
+ghost use Rattle.hart_core.specs.Harts.{outcome_of, said, HartFits, HasRoom, shared_of, programs_of};
+
+use crate::outcome::{Outcome, Stop};
+use atomic_programs::machines::Stepped;
+use block_device::Device;
+use buffer_cache::HARTS;
+use fs_machine::{Core, RetiredCore};
+use std::marker::Model;
+use syscalls::Running;
+
+// Takes out what a hart does.
+fn take_out(calls: &mut [Option<Running>; 8], hart: u8) -> Option<Running>
+    requires { hart < HARTS }
+    ensures value { slice_get calls.old hart ≡ Some result }
+    ensures after { calls.new ≡ slice_set calls.old hart None }
+    ensures none { slice_get calls.new hart ≡ Some None }
+{
+    std::mem::replace(&mut calls[hart as usize], None)
+}
+
+// Puts back what a hart does.
+fn put_back(calls: &mut [Option<Running>; 8], hart: u8, call: Option<Running>)
+    requires { slice_get calls.old hart ≡ Some None }
+    ensures { calls.new ≡ slice_set calls.old hart call }
+{
+    match std::mem::replace(&mut calls[hart as usize], call) {
+        None => {}
+        Some(_other) => unreachable!(),
+    }
+}
+
+// A step of a hart that does this; and whether the world has stopped.
+fn step<D: Device>(
+    doing: Option<Running>,
+    hart: u8,
+    core: &mut Core<D>,
+    stopped: bool,
+) -> (Option<Running>, Outcome, bool)
+    requires eight { hart < HARTS }
+    requires may { stopped ≡ false → MayOf blocks code hart (state_of D.contents D.failures core.old) (program_at running_of doing) }
+    requires room { HasRoom doing }
+    requires fits { HartFits (state_of D.contents D.failures core.old) hart doing }
+    ensures makes { hart_step blocks code hart (said result.1 (state_of D.contents D.failures core.new)) (state_of D.contents D.failures core.old) stopped (program_at running_of doing)
+        ≡ record { came = outcome_of result.1; left = program_at running_of result.0; shared = state_of D.contents D.failures core.new; stopped = result.2 } }
+    ensures honest { PlainHonestStep blocks code hart (said result.1 (state_of D.contents D.failures core.new)) (state_of D.contents D.failures core.old) stopped (program_at running_of doing) }
+    ensures fits { HartFits (state_of D.contents D.failures core.new) hart result.0 }
+    ensures others { LeavesTied hart (state_of D.contents D.failures core.old) (state_of D.contents D.failures core.new) }
+    ensures called { CallsOnce D.Called core.old.log.cache.device core.new.log.cache.device }
+{
+    match doing {
+        None => (None, Outcome::Idle, stopped),
+        Some(call) => {
+            if stopped {
+                return (Some(call), Outcome::Stopped(Stop::Halted), true);
+            }
+            match call.step(hart, core) {
+                Stepped::Waits(call) => (Some(call), Outcome::Waits, false),
+                Stepped::Ran(call, kind) => (Some(call), Outcome::Ran(kind), false),
+                Stepped::Done(reply, _kind) => (None, Outcome::Done(reply), false),
+                Stepped::Stopped(call) => (Some(call), Outcome::Stopped(Stop::DeviceFault), true),
+            }
+        }
+    }
+}
+
+// Ends what a hart does.
+fn retire(doing: Option<Running>, retired: &RetiredCore) {
+    match doing {
+        None => {}
+        Some(call) => call.retire(retired),
+    }
+}
+
+fn retire_all(calls: [Option<Running>; 8], retired: &RetiredCore) {
+    let [a, b, c, d, e, f, g, h] = calls;
+    retire(a, retired);
+    retire(b, retired);
+    retire(c, retired);
+    retire(d, retired);
+    retire(e, retired);
+    retire(f, retired);
+    retire(g, retired);
+    retire(h, retired);
+}
+
+/// The machines of eight harts over all that they share. A contract sees what they share, the machines, and whether a failure of
+/// the device has stopped them.
+///
+/// After it was made it takes no memory. It must be unmounted.
+pub struct Harts<D: Device> {
+    core: Core<D>,
+    stopped: bool,
+    calls: [Option<Running>; 8],
+}
+
+impl<D: Device> Model for Harts<D> {
+    ghost use Rattle.fs_machine.specs.Steps.{state_of as shared_state};
+    ghost use Rattle.hart_core.specs.Harts.{HartsOf, AreHarts};
+
+    ghost Value = { HartsOf D };
+
+    ghost view = { λ w. record { core = w.core; stopped = w.stopped; calls = w.calls } };
+
+    ghost invariant = { λ w. AreHarts (shared_state D.contents D.failures w.core) w.calls };
+}
+
+impl<D: Device> Harts<D> {
+    /// Eight idle harts over this.
+    pub fn new(core: Core<D>) -> Harts<D>
+        ensures { result ≡ record { core = core; stopped = false; calls = replicate HARTS None } }
+    {
+        Harts {
+            core,
+            stopped: false,
+            calls: [None, None, None, None, None, None, None, None],
+        }
+    }
+
+    /// A hart without a call begins this one.
+    pub fn begin(&mut self, hart: u8, call: Running)
+        requires idle { slice_get self.old.calls hart ≡ Some None }
+        requires fits { RunningFits hart (shared_of D.contents D.failures self.old) call }
+        ensures makes { plain_makes blocks code (StartOf hart (running_of call)) (programs_of D.contents D.failures self.old) ≡ record { came = Started; after = programs_of D.contents D.failures self.new } }
+        ensures core { self.new.core ≡ self.old.core }
+    {
+        put_back(&mut self.calls, hart, Some(call));
+    }
+
+    /// One operation of a hart's call. It is idle where there is no such hart, or the hart has no call; and a call is stopped by the
+    /// device's failure in this very step, or since the device has failed before. At most one call of the device is made.
+    pub fn step(&mut self, hart: u8) -> Outcome
+        requires may { MayStep hart (programs_of D.contents D.failures self.old) }
+        requires room { HasRoom (get_or self.old.calls hart None) }
+        ensures makes { plain_makes blocks code (StepOf hart (said result (shared_of D.contents D.failures self.new))) (programs_of D.contents D.failures self.old) ≡ record { came = outcome_of result; after = programs_of D.contents D.failures self.new } }
+        ensures honest { PlainHonest blocks code (StepOf hart (said result (shared_of D.contents D.failures self.new))) (programs_of D.contents D.failures self.old) }
+        ensures called { CallsOnce D.Called self.old.core.log.cache.device self.new.core.log.cache.device }
+    {
+        let calls = &self.calls;
+        if hart as usize >= calls.len() {
+            return Outcome::Idle;
+        }
+        let doing = take_out(&mut self.calls, hart);
+        let (doing, outcome, stopped) = step(doing, hart, &mut self.core, self.stopped);
+        put_back(&mut self.calls, hart, doing);
+        self.stopped = stopped;
+        outcome
+    }
+
+    /// Ends it at any moment, in mid-call too, without a call of the device, and gives the device.
+    pub fn unmount(self) -> D
+        ensures { result ≡ self.core.log.cache.device }
+    {
+        let Harts {
+            core,
+            stopped: _,
+            calls,
+        } = self;
+        let (retired, device) = core.retire();
+        retire_all(calls, &retired);
+        device
+    }
+}

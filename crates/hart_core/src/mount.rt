@@ -1,0 +1,74 @@
+// How the harts come to be over a device.
+ghost use Rattle.std.specs.Prelude.{◌≡◌, ◌≢◌, ◌<◌, ◌^◌, Err, IfOk, IfErr, MatchResult, length};
+ghost use Rattle.fs_layout.specs.Recovered.{sizes_of};
+ghost use Rattle.buffer_cache.specs.Limits.{buffer_count};
+ghost use Rattle.buffer_cache.specs.Seats.{unused_from};
+ghost use Rattle.fs_tables.specs.Fresh.{fresh};
+ghost use Rattle.group_log.specs.Soundness.{IsPlaced};
+ghost use Rattle.image_tree.specs.Damage.{IsWellFormed, JudgesFault, faults_with};
+ghost use Rattle.hart_core.specs.Mounting.{IsRecovered, HandsBack, Rests};
+
+use crate::harts::Harts;
+use block_device::Device;
+use buffer_cache::{Buffers, Cache};
+use fs_layout::Super;
+use fs_machine::Core;
+use fs_tables::Tables;
+use group_log::Log;
+use image_tree::{MountFault, examine_layout, recover};
+use log_images::logs_may_begin;
+use std::alloc::Global;
+
+/// All memory that a file system takes, and the sizes of its disk.
+struct Ready {
+    sizes: Super,
+    buffers: Buffers,
+    tables: Tables,
+}
+
+// Examines the image, takes the memory, and recovers the disk.
+fn prepare<D: Device>(alloc: Global, device: &mut D) -> Result<Ready, MountFault>
+    ensures ready { IfOk result (λ r. (r.sizes ≡ sizes_of (D.contents device.old)) × (r.buffers ≡ unused_from 0 buffer_count) × (r.tables ≡ fresh)) }
+    ensures ok { IfOk result (λ _. IsWellFormed (D.contents device.old) × IsRecovered (D.contents device.old) (D.contents device.new)) }
+    ensures placed { IfOk result (λ r. IsPlaced (D.contents device.new) r.sizes) }
+    ensures faults { D.failures device.new ≡ faults_with result (D.failures device.old) }
+    ensures err { IfErr result (λ fault. HandsBack D.contents D.failures device.old device.new fault) }
+{
+    let layout = examine_layout(alloc, device)?;
+    let buffers = Buffers::new(alloc)?;
+    let tables = Tables::new(alloc)?;
+    match recover(device) {
+        Ok(()) => {}
+        Err(fault) => return Err(fault),
+    }
+    let _count = device.blocks();
+    logs_may_begin();
+    Ok(Ready {
+        sizes: layout.sizes,
+        buffers,
+        tables,
+    })
+}
+
+impl<D: Device> Harts<D> {
+    /// Examines the image on a device, takes all memory, and then recovers the disk. It answers the image's first damage, a failure of
+    /// the device, or want of memory, and hands the device back; nothing was written then, unless the device failed in the recovery.
+    pub fn mount(alloc: Global, device: D) -> Result<Harts<D>, (D, MountFault)>
+        ensures ok { IfOk result (λ harts. IsWellFormed (D.contents device) × Rests D.contents D.failures device harts) }
+        ensures err { IfErr result (λ e. HandsBack D.contents D.failures device e.0 e.1) }
+    {
+        let mut device = device;
+        match prepare(alloc, &mut device) {
+            Ok(ready) => {
+                let Ready {
+                    sizes,
+                    buffers,
+                    tables,
+                } = ready;
+                let log = Log::new(Cache::new(buffers, device), sizes);
+                Ok(Harts::new(Core { log, tables }))
+            }
+            Err(fault) => Err((device, fault)),
+        }
+    }
+}
