@@ -100,6 +100,16 @@ module _ (l : Labels) (laws : Laws (labelled l)) (keeps : Keeps l) (h : ℕ) (lt
             (up_to (Up n) n v c is_some true false refl refl shows base may.0 range (λ e. ap (up_if h n v.seen) e) (λ e. ap (up_if h n v.seen) e)),
       ))
 
+  -- there is room for one reference more to the hart's directory
+  pub may_up_directory : (v : W) → Shows v.real v.seen → Inv v.seen → premises.MayUp (directory_of (slice_get (tables_of v.real).desks h)) (tables_of v.real)
+  may_up_directory v shows inv =
+      let range = start_is_number h false v.seen lt inv in
+      let d = shows.tables.desks h lt in
+      let is : directory_of (slice_get (tables_of v.real).desks h) ≡ (v.seen.desks h).directory = ap directory_of d.1 ∙ d.2.directory in (
+        subst (λ (k : ℕ). k < 2 ^ 32) (sym is) (in_word (v.seen.desks h).directory v shows range.size),
+        subst (λ (k : ℕ). references_of k (tables_of v.real) + 1 < 2 ^ 32) (sym is) (subst (λ (k : ℕ). k + 1 < 2 ^ 32) (shows.tables.places.counts (v.seen.desks h).directory) range.room),
+      )
+
   pub up_start_acts : (absolute : Bool) (m : Option ℕ → Option above.Mark) → ActsOnce l h (UpStart absolute) m (up_start absolute)
   unfolding steps.exec premises.May premises.MayWait
   up_start_acts true m =
@@ -114,16 +124,8 @@ module _ (l : Labels) (laws : Laws (labelled l)) (keeps : Keeps l) (h : ℕ) (lt
   up_start_acts false m =
       one_step l laws keeps h (UpStart false) m (λ c. steps.Up Directory) (λ c a. a) (λ c a. c) (λ v. tt)
       (λ v c shows inv base may.
-      let range = start_is_number h false v.seen lt inv in
-      let d = shows.tables.desks h lt in
-      let is : directory_of (slice_get (tables_of v.real).desks h) ≡ (v.seen.desks h).directory = ap directory_of d.1 ∙ d.2.directory in (
-        (
-          lt,
-          (
-            subst (λ (k : ℕ). k < 2 ^ 32) (sym is) (in_word (v.seen.desks h).directory v shows range.size),
-            subst (λ (k : ℕ). references_of k (tables_of v.real) + 1 < 2 ^ 32) (sym is) (subst (λ (k : ℕ). k + 1 < 2 ^ 32) (shows.tables.places.counts (v.seen.desks h).directory) range.room),
-          ),
-        ),
+      let range = start_is_number h false v.seen lt inv in (
+        (lt, may_up_directory v shows inv),
         λ x t.
             subst (λ (d : Did (Option ℕ) World). CameTo l laws keeps h (UpStart false) v ⊥ d (λ a. a) (λ a. c))
             (sym (in_tables_is h (steps.Up Directory) v.real (λ a o. refl) (λ s. refl) (up_directory h (tables_of v.real)) ∙ ap (did_in (with_tables v.real)) (directories_are_starts h (tables_of v.real) v.seen (loaded (tables_of v.real)) shows.tables lt)))

@@ -8,6 +8,7 @@ pub mod SlotSteps
 pub mod Owed
 pub mod CountSteps
 pub mod FreedSteps
+pub mod LendSteps
 pub mod JoinSteps
 pub mod JoinFileSteps
 pub mod Committing

@@ -41,21 +41,21 @@ use Rattle.inodes_on_blocks.proofs.Owed.{fewer_owed}
 use Rattle.inodes_on_blocks.proofs.Stepping.{Came, CameTo, one_step}
 use Rattle.inodes_on_blocks.proofs.Tables.{with_tables, shows_then, base_then}
 
--- an operation that leaves the inodes as they were
+-- an operation that leaves the inodes as they were, and refers to no more of them
 pub record SameInodes (h : ℕ) (g u : above.World) : Type 0 where
   pub disk : u.disk ≡ g.disk
   pub lock : u.lock ≡ g.lock
-  pub refs : u.refs ≡ g.refs
+  pub refs : (n : ℕ) → 0 < u.refs n → 0 < g.refs n
   pub keeper : u.keeper ≡ g.keeper
   pub size : u.all.ninodes ≡ g.all.ninodes
   pub joined : (j : ℕ) → (u.desks j).joined ≡ (g.desks j).joined
   pub lender : (u.desks h).lender ≡ (g.desks h).lender
 
 pub all_same : (h : ℕ) (g : above.World) → SameInodes h g g
-all_same h g = record { disk = refl; lock = refl; refs = refl; keeper = refl; size = refl; joined = λ j. refl; lender = refl }
+all_same h g = record { disk = refl; lock = refl; refs = λ n some. some; keeper = refl; size = refl; joined = λ j. refl; lender = refl }
 
 -- where an operation ran so
-ran_same : {A : Type 0} (h : ℕ) (g w u : above.World) (a b : A) → ◌≡◌ {A = Did A above.World} (Ran a w) (Ran b u) → SameInodes h g w → SameInodes h g u
+pub ran_same : {A : Type 0} (h : ℕ) (g w u : above.World) (a b : A) → ◌≡◌ {A = Did A above.World} (Ran a w) (Ran b u) → SameInodes h g w → SameInodes h g u
 ran_same {A} h g w u a b e s = subst (SameInodes h g) world s
   where
     world_of : Did A above.World → above.World
@@ -66,7 +66,7 @@ ran_same {A} h g w u a b e s = subst (SameInodes h g) world s
     world : w ≡ u
     world = ap world_of e
 
-no_wait : {A S : Type 0} (a : A) (s : S) → ◌≡◌ {A = Did A S} (Ran a s) Waits → ⊥
+pub no_wait : {A S : Type 0} (a : A) (s : S) → ◌≡◌ {A = Did A S} (Ran a s) Waits → ⊥
 no_wait a s e = cc
 
 -- a step on the tables, as a step on all
@@ -91,7 +91,7 @@ module _ (l : Labels) (laws : Laws (labelled l)) (keeps : Keeps l) (h : ℕ) (lt
     shows = shows_then h lt v.real v.seen shows t u (loaded (tables_of v.real)) after s.disk s.size s.joined (λ i. inl (λ z. s.lock z i))
         (record {
           seen = shows.loads.seen;
-          dead = λ n some unlocked dead. shows.loads.dead n (subst (λ (z : ℕ). 0 < z) (λ z. s.refs z n) some) ((λ z. sym s.lock z n) ∙ unlocked) ((λ z. above_exec.is_dead (sym s.disk z n)) ∙ dead);
+          dead = λ n some unlocked dead. shows.loads.dead n (s.refs n some) ((λ z. sym s.lock z n) ∙ unlocked) ((λ z. above_exec.is_dead (sym s.disk z n)) ∙ dead);
           typed = λ n e. shows.loads.typed n ((λ z. sym s.disk z n) ∙ e);
         });
     same = tables_left h v.real t v.seen u (loaded (tables_of v.real)) (loaded (tables_of v.real)) shows.tables after (λ i. inl (λ z. s.lock z i));
@@ -102,7 +102,7 @@ module _ (l : Labels) (laws : Laws (labelled l)) (keeps : Keeps l) (h : ℕ) (lt
   }
 
   -- by what came of both
-  from_both : (op : above.Op) {A : Type 0} (v : W) (wait : Type 0) (answer : A → above.Answer op) (Fits : A → above.Answer op → Type 0) (c : Carry) (d : Did A TablesState) (e : Did (above.Answer op) above.World)
+  pub from_both : (op : above.Op) {A : Type 0} (v : W) (wait : Type 0) (answer : A → above.Answer op) (Fits : A → above.Answer op → Type 0) (c : Carry) (d : Did A TablesState) (e : Did (above.Answer op) above.World)
       → above_exec.exec h above.Room op v.seen ≡ e → BothCame Fits (λ a. loaded (tables_of v.real)) d e → (e ≡ Waits → ⊥) → ((a : A) (b : above.Answer op) → Fits a b → answer a ≡ b)
       → ((b : above.Answer op) (u : above.World) → e ≡ Ran b u → SameInodes h v.seen u) → Shows v.real v.seen → Base h v.real v.seen c → (v.seen.desks h).lender ≡ None
       → CameTo l laws keeps h op v wait (did_in (with_tables v.real) d) answer (λ a. c)
@@ -128,7 +128,7 @@ module _ (l : Labels) (laws : Laws (labelled l)) (keeps : Keeps l) (h : ℕ) (lt
   desk_same w u new disk lock refs keeper size desks joined lender = record {
     disk = disk;
     lock = lock;
-    refs = refs;
+    refs = λ n some. subst (λ (f : ℕ → ℕ). 0 < f n) refs some;
     keeper = keeper;
     size = size;
     joined = λ j. (λ z. (desks z j).joined) ∙ part_same (λ d. d.joined) w.desks h new j joined;

@@ -6,12 +6,14 @@ use Rattle.plain_tree.specs.declared.answer.Cause.{Cause}
 use Rattle.plain_tree.specs.declared.answer.Cause.TheVariants as causes
 use Rattle.plain_tree.specs.declared.tree.OpenFile.{OpenFile}
 use Rattle.plain_tree.specs.Tree.{put}
-use Rattle.plain_tree.specs.Widths.{root}
+use Rattle.plain_tree.specs.Widths.{root, descriptor_count}
 use Rattle.fs_tables.specs.declared.files.Refused.{Refused}
 use Rattle.fs_tables.specs.declared.files.Refused.TheVariants as refused
 use Rattle.fs_tables.specs.declared.files.Want.TheVariants as want
 use Rattle.fs_tables.specs.declared.slots.Doubled.{Doubled}
 use Rattle.fs_tables.specs.declared.slots.Doubled.TheVariants as doubled
+use Rattle.fs_tables.specs.declared.slots.Given.{Given}
+use Rattle.fs_tables.specs.declared.slots.Given.TheVariants as given
 use Rattle.fs_tables.specs.declared.slots.Shut as shuts
 use Rattle.fs_tables.specs.declared.slots.Shut.TheVariants as shut
 use Rattle.fs_tables.specs.Inodes.{DroppedState, Counts, Keeps, Dies}
@@ -20,7 +22,8 @@ use Rattle.fs_machine.specs.Steps as steps
 use Rattle.fs_machine.specs.Steps.{Whom, Number, Directory, Held, Walked, Freed}
 use Rattle.inode_machine.specs.Inodes.{Sort}
 use Rattle.inode_machine.specs.World as above
-use Rattle.inode_machine.specs.World.Op.{Give, UpStart, Up, WalkDown, Down, Slot, Install, CheckFile, JoinFile, Double, Shut, Settle, Join, Leave, Say}
+use Rattle.inode_machine.specs.World.{Lending, Lent, Moved}
+use Rattle.inode_machine.specs.World.Op.{Give, UpStart, Up, WalkDown, Down, Slot, Install, CheckFile, JoinFile, Double, Shut, Settle, Lend, LendDirectory, Release, Join, Leave, Say}
 use Rattle.inodes_on_tables.specs.Shown.{new_file}
 use Rattle.inodes_on_blocks.specs.Lowering.{Carry}
 
@@ -63,6 +66,15 @@ abbrev pub shut_to : shuts.Shut → Option (Option ℕ)
 shut_to shut.BadDescriptor = None
 shut_to shut.Closed = Some None
 shut_to (shut.Last n) = Some (Some n)
+
+abbrev pub lent_to : Given → Lending
+lent_to (given.Descriptor fd more) = Lent fd more
+lent_to (given.Directory n) = Moved n
+
+-- the child's old directory; past the last descriptor no descriptor is given
+abbrev pub old_directory : Given → ℕ
+old_directory (given.Descriptor fd more) = root
+old_directory (given.Directory n) = n
 
 abbrev pub cause_of : Refused → Cause
 cause_of refused.BadDescriptor = causes.BadDescriptor
@@ -124,6 +136,18 @@ check_file fd c m = one (CheckFile fd) m (steps.CheckFile want.Write fd) cause_i
 
 abbrev pub say : Handler Say
 say c m = one Say m steps.Reply (λ a. a) (λ a. c)
+
+-- the next descriptor from here on is the child's too, or, where there is none, the directory
+abbrev pub lend : (child from : ℕ) → Handler (Lend child from)
+lend child from c m = one (Lend child from) m (steps.Give child from) lent_to (λ a. c)
+
+-- the directory is, past the last descriptor
+abbrev pub lend_directory : (child : ℕ) → Handler (LendDirectory child)
+lend_directory child c m = one (LendDirectory child) m (steps.Give child descriptor_count) old_directory (λ a. c)
+
+-- the child runs again, of which the tables see nothing
+abbrev pub release : (child : ℕ) → Handler (Release child)
+release child c m = one (Release child) m steps.Reply (λ a. a) (λ a. c)
 
 -- a transaction is joined, where the log has room for it
 abbrev pub join : Handler Join

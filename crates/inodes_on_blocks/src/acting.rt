@@ -3,8 +3,8 @@
 ghost use Rattle.std.specs.Prelude.{ℕ, Bool};
 ghost use Rattle.plain_tree.specs.declared.tree.OpenFile.{OpenFile};
 ghost use Rattle.inode_machine.specs.Inodes.{Sort};
-ghost use Rattle.inode_machine.specs.World.Op.{Give, UpStart, Up, WalkDown, Down, Slot, Install, CheckFile, JoinFile, Double, Shut, Settle, Join, Leave, Say};
-ghost use Rattle.inodes_on_blocks.specs.Handlers.{give, settle, up_start, up, walk_down, down, down_freed, slot, install, double, close, check_file, join, join_file, leave, say};
+ghost use Rattle.inode_machine.specs.World.Op.{Give, UpStart, Up, WalkDown, Down, Slot, Install, CheckFile, JoinFile, Double, Shut, Settle, Lend, LendDirectory, Release, Join, Leave, Say};
+ghost use Rattle.inodes_on_blocks.specs.Handlers.{give, settle, up_start, up, walk_down, down, down_freed, slot, install, double, close, check_file, lend, lend_directory, release, join, join_file, leave, say};
 ghost use Rattle.inodes_on_blocks.specs.Acting.{DoesIt, DoesItWhere, HasFreed};
 
 /// A lock given back is one step, with the record that the hart has of the inode.
@@ -85,4 +85,19 @@ pub fn leaves_act_once()
 /// A transaction joined for the inode that a descriptor names is one step, which refuses what may not be written.
 pub fn file_joins_act_once()
     ensures { (fd : ℕ) → DoesIt (JoinFile fd) (join_file fd) }
+{}
+
+/// The next descriptor handed on to a child is one step, or the directory where there is no descriptor.
+pub fn lends_act_once()
+    ensures { (child from : ℕ) → DoesIt (Lend child from) (lend child from) }
+{}
+
+/// The directory handed on after the descriptors is one step.
+pub fn directory_lends_act_once()
+    ensures { (child : ℕ) → DoesIt (LendDirectory child) (lend_directory child) }
+{}
+
+/// A child let go is one step, which changes nothing below.
+pub fn releases_act_once()
+    ensures { (child : ℕ) → DoesIt (Release child) (release child) }
 {}

@@ -57,7 +57,7 @@ some_used (Some k) = refl
 get_some : {X : Type 0} (a b : X) → ◌≡◌ {A = Option X} (Some a) (Some b) → a ≡ b
 get_some a b e = cc
 
-next_full_is : (from : ℕ) (fds : ℕ → Option ℕ) (ds : List (Option ℕ)) → from ≤ descriptor_count → length ds ≡ descriptor_count → ((j : ℕ) → j < descriptor_count → slice_get ds j ≡ Some (fds j)) → next_full from ds ≡ next_used from fds
+pub next_full_is : (from : ℕ) (fds : ℕ → Option ℕ) (ds : List (Option ℕ)) → from ≤ descriptor_count → length ds ≡ descriptor_count → ((j : ℕ) → j < descriptor_count → slice_get ds j ≡ Some (fds j)) → next_full from ds ≡ next_used from fds
 next_full_is from fds ds le long same =
     ap (option_map (λ i. from + i)) (position_from-zero is_some (drop from ds)) ∙ shift is_some from 0 (drop from ds) ∙ ap (λ (z : ℕ). position_from is_some z (drop from ds)) zero_more
     ∙ first_place is_some (λ i. not (is_nothing (fds i))) (drop from ds) from (λ j x at.

@@ -1,0 +1,9 @@
+use Rattle.inode_machine.specs.World.Op.{LendDirectory}
+use Rattle.inodes_on_blocks.specs.Handlers.{lend_directory}
+use Rattle.inodes_on_blocks.specs.Acting.{alone}
+use Rattle.inodes_on_blocks.proofs.LendSteps.{lend_directory_acts}
+use Rattle.inodes_on_blocks.proofs.Alone.{alone_laws, alone_keeps, does_it}
+use Rattle.inodes_on_blocks.proofs.acting.directory_lends_act_once.Goals as goal
+
+pub returns : goal.returns
+returns c = λ child. does_it (LendDirectory child) (lend_directory child) (λ h lt m. lend_directory_acts alone alone_laws alone_keeps h lt child m)

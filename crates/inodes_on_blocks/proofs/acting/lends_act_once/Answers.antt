@@ -1,0 +1,9 @@
+use Rattle.inode_machine.specs.World.Op.{Lend}
+use Rattle.inodes_on_blocks.specs.Handlers.{lend}
+use Rattle.inodes_on_blocks.specs.Acting.{alone}
+use Rattle.inodes_on_blocks.proofs.LendSteps.{lend_acts}
+use Rattle.inodes_on_blocks.proofs.Alone.{alone_laws, alone_keeps, does_it}
+use Rattle.inodes_on_blocks.proofs.acting.lends_act_once.Goals as goal
+
+pub returns : goal.returns
+returns c = λ child from. does_it (Lend child from) (lend child from) (λ h lt m. lend_acts alone alone_laws alone_keeps h lt child from m)
