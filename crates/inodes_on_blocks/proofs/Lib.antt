@@ -27,6 +27,8 @@ pub mod NamedPuts
 pub mod PutLaws
 pub mod BitmapPuts
 pub mod Rooms
+pub mod PutSteps
+pub mod Given
 pub mod StoreSteps
 pub mod ContentBlocks
 pub mod ContentStays

@@ -47,7 +47,7 @@ module _ (h n : ℕ) (r : World) (g : above.World) (shows : Shows r g) (bytes : 
       let t = shows.taken c k e in shows.blocks.running.no_others.free c (subst (λ (s : Super). IsData s c) (sym here) t.3) t.0 ∙ t.1
 
   -- what was taken is seen as before
-  taken_seen : (k c : ℕ) → if_kept (r.taken c) k (seen_of now c) ≡ if_kept (r.taken c) k (seen_of l c)
+  pub taken_seen : (k c : ℕ) → if_kept (r.taken c) k (seen_of now c) ≡ if_kept (r.taken c) k (seen_of l c)
   taken_seen k c = by (r.taken c) refl
     where
       by : (t : Option ℕ) → r.taken c ≡ t → if_kept t k (seen_of now c) ≡ if_kept t k (seen_of l c)
@@ -78,7 +78,7 @@ module _ (h n : ℕ) (r : World) (g : above.World) (shows : Shows r g) (bytes : 
       | inr ne ↦ sym (as_before c ne) ∙ set
     ]
 
-    owner_given : (c : ℕ) → IsData (sizes_of (disk_of l)) c → then_.owner c ≡ put r.owner b 0 c
+    pub owner_given : (c : ℕ) → IsData (sizes_of (disk_of l)) c → then_.owner c ≡ put r.owner b 0 c
     owner_given c block = elim (same_or c b) [
       | inl e ↦ ap then_.owner e ∙ (rw cleared refl) ∙ sym (ap (put r.owner b 0) e ∙ put_same r.owner b 0)
       | inr ne ↦ elim (either (is_marked (disk_of now) c)) [
@@ -100,7 +100,7 @@ module _ (h n : ℕ) (r : World) (g : above.World) (shows : Shows r g) (bytes : 
         or_false true = refl
         or_false false = refl
 
-    taken_given : (c : ℕ) → then_.taken c ≡ r.taken c
+    pub taken_given : (c : ℕ) → then_.taken c ≡ r.taken c
     taken_given c = elim (either (is_marked (disk_of now) c)) [
       | inl set ↦ rw (set, was_set c set) refl
       | inr clear ↦ (rw clear refl) ∙ sym (none (r.taken c) refl clear)

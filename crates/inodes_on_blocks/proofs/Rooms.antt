@@ -5,7 +5,7 @@ use Rattle.group_log.specs.Group.{HasRoom}
 use Rattle.inodes_on_blocks.specs.Below.{log_of}
 use Rattle.inodes_on_blocks.specs.Room.{GivesRoom, MayRecord}
 
-room_of : (members : List (Option ℕ)) (h k : ℕ) → slice_get members h ≡ Some (Some k) → k < 10 → HasRoom members h
+pub room_of : (members : List (Option ℕ)) (h k : ℕ) → slice_get members h ≡ Some (Some k) → k < 10 → HasRoom members h
 room_of [] h k e lt = absurd (let q : None ≡ Some (Some k) = e in cc)
 room_of (None ∷ ms) zero k e lt = absurd (let q : Some None ≡ Some (Some k) = e in cc)
 room_of (Some j ∷ ms) zero k e lt = let q : Some (Some j) ≡ Some (Some k) = e in let same : j ≡ k = cc in omega (arith, same, lt)

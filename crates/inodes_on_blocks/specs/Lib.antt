@@ -11,5 +11,6 @@ pub mod Reading
 pub mod Recording
 pub mod Storing
 pub mod Room
+pub mod Giving
 pub mod Accounts
 pub mod Counted

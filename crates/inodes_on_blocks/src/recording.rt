@@ -2,6 +2,7 @@
 //! world above stays as it is shown.
 
 ghost use Rattle.inodes_on_blocks.specs.Recording.{BitmapsPutBits, ClearedBitsLeave, DataPutsLeave, MarksAreBits, NamingPutsLeave, RecordPutsLeave, RecordedPutsKeep, SetBitsLeave};
+ghost use Rattle.inodes_on_blocks.specs.Giving.{BlocksAreGivenBack};
 
 /// A block that is recorded for an inode, whose lock the hart has, in its transaction, leaves the others theirs and the world
 /// above as it is shown.
@@ -42,4 +43,9 @@ pub fn marks_are_bits()
 /// The bitmap as the programs put it that take a block or give one back sets or clears that bit alone.
 pub fn bitmaps_put_bits()
     ensures { BitmapsPutBits }
+{}
+
+/// A block of the inode is given back whatever the other harts do, while at most one other buffer is in the hart's hand.
+pub fn blocks_are_given_back()
+    ensures { BlocksAreGivenBack }
 {}

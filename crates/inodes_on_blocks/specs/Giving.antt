@@ -1,0 +1,70 @@
+-- Blocks recorded between two operations above, and blocks given back: where the hart that is changing their inode goes on.
+use Rattle.std.specs.Prelude.{◌≡◌, ◌≢◌, ℕ, suc, ◌<◌, ◌≤◌, List, [], ◌∷◌, Some, None}
+use Rattle.fs_layout.specs.declared.superblock.Super.{Super}
+use Rattle.buffer_cache.specs.Seats.{holder_of}
+use Rattle.image_tree.specs.Checks.{IsData}
+use Rattle.image_laws.specs.Holds.{NamesOwned}
+use Rattle.plain_tree.specs.Widths.{hart_count}
+use Rattle.bitmap_alloc.specs.Programs.{free_block}
+use Rattle.fs_tables.specs.Tables.{holder_of as lock_holder}
+use Rattle.fs_machine.specs.Shown.{seen_of}
+use Rattle.atomic_programs.specs.Logic.{Wp}
+use Rattle.atomic_programs.specs.Joined.{Both, joined}
+use Rattle.inode_machine.specs.World as above
+use Rattle.inode_machine.specs.Rules.{if_kept, Inv}
+use Rattle.inodes_on_blocks.specs.Below.{World, log_of, tables_of, disk_of, inode_in}
+use Rattle.inodes_on_blocks.specs.Shown.{Shows}
+use Rattle.inodes_on_blocks.specs.Lowering.{KeepsInode, Kept, buffer_in, commit_in, below}
+use Rattle.inodes_on_blocks.specs.Acting.{whole}
+use Rattle.inodes_on_blocks.specs.Holding.{in_hand}
+use Rattle.inodes_on_blocks.specs.Recording.{log_with, owners_with, IsChanging}
+use Rattle.inodes_on_blocks.specs.Room.{GivesRoom, MayRecord}
+
+-- the world after hart h put block b with these bytes
+abbrev pub world_with : ℕ → ℕ → List ℕ → World → World
+world_with h b bytes r = record {
+  state = record (r.state) { log = log_with h b bytes r };
+  owner = (owners_with h b bytes r).owner;
+  left = (owners_with h b bytes r).left;
+  taken = (owners_with h b bytes r).taken;
+  commits = r.commits;
+}
+
+-- What a hart knows of its transaction says that block b may be recorded; and this it knows when it was.
+pub record KeepsRoom (h b : ℕ) (Knows Then : World → Type 0) : Type 0 where
+  pub gives : GivesRoom h b Knows
+  pub put : (bytes : List ℕ) (r : World) → Knows r → Then (world_with h b bytes r)
+
+-- What changed of a hart's, from v to w, where it gave block b of inode n back: its other inodes and n's record stay, and n's other blocks.
+pub record GaveBlock (h n b : ℕ) (v w : World) : Type 0 where
+  pub inodes : (i : ℕ) → i ≢ n → lock_holder i (tables_of v) ≡ Some h → KeepsInode h i v w
+  pub lock : lock_holder n (tables_of w) ≡ Some h
+  pub no_more : (i : ℕ) → lock_holder i (tables_of w) ≡ Some h → lock_holder i (tables_of v) ≡ Some h
+  pub sizes : (log_of w).sizes ≡ (log_of v).sizes
+  pub inode : inode_in (log_of w) n ≡ inode_in (log_of v) n
+  -- b is nobody's, and what is n's beside it
+  pub free : w.owner b ≡ 0
+  pub owned : (c : ℕ) → c ≢ b → IsData (log_of v).sizes c → v.owner c ≡ n → w.owner c ≡ n
+  pub named : (numbers : List ℕ) → NamesOwned (disk_of (log_of v)) v.owner n (b ∷ numbers) → NamesOwned (disk_of (log_of w)) w.owner n numbers
+  pub buffers : (k : ℕ) → k ≢ (log_of v).sizes.bmapstart → if_kept (holder_of k (log_of w).seats) h (buffer_in (log_of w) k) ≡ if_kept (holder_of k (log_of v).seats) h (buffer_in (log_of v) k)
+  pub taken : (c : ℕ) → if_kept (w.taken c) h (seen_of (log_of w) c) ≡ if_kept (v.taken c) h (seen_of (log_of v) c)
+  pub commit : if_kept w.commits h (commit_in (log_of w)) ≡ if_kept v.commits h (commit_in (log_of v))
+
+-- Where it goes on, from w, with what it knows of v.
+pub record Gave (h n b : ℕ) (Stage : above.World → Type 0) (w v : Both World above.World) : Type 0 where
+  pub since : GaveBlock h n b w.real v.real
+  pub kept : Kept h w.seen v.seen
+  pub shows : Shows v.real v.seen
+  pub inv : Inv v.seen
+  pub stage : Stage v.seen
+  pub held : in_hand h v.real ≡ in_hand h w.real
+
+-- ---- the law
+
+-- The program that gives a block of an inode back does so, whatever the other harts do, where the hart that runs it is changing the inode: then the
+-- block's bit is clear and the block nobody's, the hart has all else that it had, and its transaction may record one block less. No operation acts above.
+abbrev pub BlocksAreGivenBack : Type 0
+BlocksAreGivenBack =
+    (sizes : Super) (h n b more : ℕ) (w : Both World above.World) → h < hart_count → (log_of w.real).sizes ≡ sizes → IsChanging h n w.seen → w.seen.keeper n ≡ Some h → (w.seen.desks h).lender ≡ None
+    → lock_holder n (tables_of w.real) ≡ Some h → IsData sizes b → w.real.owner b ≡ n → in_hand h w.real ≤ 1 → holder_of sizes.bmapstart (log_of w.real).seats ≢ Some h → MayRecord h (suc more) w.real
+    → Wp (joined whole (below sizes)) h (λ es. es ≡ []) (λ a es x. (es ≡ []) × Gave h n b (IsChanging h n) w x × MayRecord h more x.real) (free_block sizes.bmapstart b) 3 [] w
