@@ -63,6 +63,7 @@ pub mod Makings
 pub mod CreateCalls
 pub mod Examples
 pub mod Stories
+pub mod Shortages
 pub mod Holds
 pub mod Finds
 pub mod Raises

@@ -14,3 +14,4 @@ pub mod Theory
 pub mod Histories
 pub mod Examples
 pub mod Stories
+pub mod Shortages

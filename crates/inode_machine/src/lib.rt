@@ -5,6 +5,7 @@
 ghost use Rattle.inode_machine.specs.Examples.{ChdirFinishes, CloseFinishes, CreateFinishes, DupFinishes, InheritFinishes, InheritFrees, InheritMoves, LinkBelowNothing, LinkFinishes, LinkOfDirectory, LinkOfMany, LinkOfNothing, LinkToNoName, LinkToTaken, MkdirFinishes, NoBlockForDirectory, NoBlockForFile, NoBlockForName, NoBlockForPart, NoBlockLeft, NoDescriptorToDouble, NoDescriptorToOpen, NoInodeForFile, NoInodeLeft, OpenFinishes, ReadFinishes, StartsRefused, StatFinishes, UnlinkFinishes, WalkerFails, WriteFinishes};
 ghost use Rattle.inode_machine.specs.Budget.{TransactionsAreSmall};
 ghost use Rattle.inode_machine.specs.Histories.{CallsHaveOneHistory, OneHartHasOneHistory};
+ghost use Rattle.inode_machine.specs.Shortages.{NoOpenFileForNew, NoOpenFileLeft, NoPlaceLeft};
 ghost use Rattle.inode_machine.specs.Stories.{ClimbsAcross, LinksWhileUnlinked, OffsetIsShared, RaiseIsSeen, StaysInTheRemoved, WalkFails, WalkFailsStill};
 ghost use Rattle.inode_machine.specs.Theory.{CallsAreExplained, WorldsRest, WorldsStayInOrder, WorldsWithAFileRest};
 
@@ -55,7 +56,8 @@ pub fn worlds_with_a_file_rest()
 {}
 
 /// There are runs, computed from a fresh tree, in which calls finish; one in which a hart's directory is removed under it
-/// and it frees that itself; some in which no room is found; and starts that are refused.
+/// and it frees that itself; some in which no room is found; and starts that are refused. Where all hundred open files are
+/// taken, or all fifty places for inodes in memory are, calls change nothing.
 pub fn calls_finish()
     ensures open { OpenFinishes }
     ensures stat { StatFinishes }
@@ -88,6 +90,9 @@ pub fn calls_finish()
     ensures doubled { NoDescriptorToDouble }
     ensures opened { NoDescriptorToOpen }
     ensures many { LinkOfMany }
+    ensures files { NoOpenFileLeft }
+    ensures made { NoOpenFileForNew }
+    ensures places { NoPlaceLeft }
 {}
 
 /// And runs in which two harts meet, event by event: a walk to a directory that is removed under it, also where both names
