@@ -6,3 +6,4 @@ pub mod Taken
 pub mod Emptying
 pub mod Installing
 pub mod Joining
+mod Pieces

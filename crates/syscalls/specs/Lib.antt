@@ -10,3 +10,4 @@ pub mod Taking
 pub mod Ends
 pub mod Opens
 pub mod Chdirs
+pub mod Writing

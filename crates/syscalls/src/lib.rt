@@ -19,6 +19,7 @@ mod replies;
 mod running;
 mod tail;
 mod take;
+mod write;
 
 pub use crate::chdir::Chdir;
 pub use crate::close::Close;
@@ -34,3 +35,4 @@ pub use crate::read::Read;
 pub use crate::running::Running;
 pub use crate::tail::{Ending, Tail};
 pub use crate::take::{Held, TakeInode};
+pub use crate::write::{Ended, Write, Writes};
