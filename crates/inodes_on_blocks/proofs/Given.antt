@@ -1,26 +1,30 @@
 -- The law of blocks given back.
-use Rattle.std.proofs.Common.{◌≡◌, ℕ, zero, suc, ◌+◌, ◌≤◌, true, List, [], ◌∷◌, Option, Some, None, inl, inr, refl, sym, ◌∙◌, ap, subst, arith}
+use Rattle.std.proofs.Common.{◌≡◌, ℕ, zero, suc, ◌+◌, ◌≤◌, true, List, [], ◌∷◌, ◌++◌, length, ◌*◌, Option, Some, None, inl, inr, refl, sym, ◌∙◌, ap, subst, arith}
 use Rattle.std.specs.Prelude.{slice_get}
 use Rattle.fs_layout.specs.declared.superblock.Super.{Super}
-use Rattle.tree_laws.proofs.Maps.{either, eq_is, eq_self}
 use Rattle.group_log.specs.Group.{has, one_more, members_with}
+use Rattle.tree_laws.proofs.Maps.{either, eq_is, eq_self}
+use Rattle.image_laws.specs.Holds.{NamesOwned}
 use Rattle.atomic_programs.specs.Logic.{Machine, P, Wp, onto}
 use Rattle.atomic_programs.specs.Prog.{Prog, Ret, Do, bind}
 use Rattle.atomic_programs.specs.Joined.{Both, joined}
+use Rattle.atomic_programs.proofs.Sound.{Wp-more}
 use Rattle.bitmap_alloc.specs.Programs.{free_block}
+use Rattle.inode_data.specs.Freeing.{free_numbers}
 use Rattle.inode_machine.specs.World as above
 use Rattle.inode_machine.specs.World.{Desk}
 use Rattle.inode_machine.specs.Rules.{Own, Held, view, own_of, is_hart}
 use Rattle.inode_machine.proofs.Frame.{has_inode, kept_here}
-use Rattle.inodes_on_blocks.specs.Below.{World, log_of}
+use Rattle.inodes_on_blocks.specs.Below.{World, log_of, disk_of}
 use Rattle.inodes_on_blocks.specs.Lowering.{Kept, below}
 use Rattle.inodes_on_blocks.specs.Acting.{whole, alone, Done}
 use Rattle.inodes_on_blocks.specs.Recording.{IsChanging}
 use Rattle.inodes_on_blocks.specs.Room.{MayRecord}
-use Rattle.inodes_on_blocks.specs.Giving.{KeepsRoom, Gave, BlocksAreGivenBack}
+use Rattle.inodes_on_blocks.specs.Giving.{KeepsRoom, Gave, GaveBlocks, Owns, BlocksAreGivenBack, NumbersAreGivenBack}
 use Rattle.inodes_on_blocks.proofs.Alone.{alone_laws, alone_keeps}
 use Rattle.inodes_on_blocks.proofs.Rooms.{room_of}
 use Rattle.inodes_on_blocks.proofs.PutSteps.{s-give}
+use Rattle.inodes_on_blocks.proofs.Emptying.{none_yet, s-numbers}
 
 -- ---- the room of a transaction
 
@@ -100,3 +104,31 @@ blocks_are_given_back sizes h n b more w lt at is keeps free mine block own few 
     (s-give sizes alone alone_laws alone_keeps h lt (λ es. es ≡ []) (Ends h n b more w) (Changing h n) (λ fs xs g u o i c. (λ y. inl o.0, stays h n xs fs g u o c)) n (λ fs g c i. c.is) b block
     (MayRecord h (suc more)) (MayRecord h more) (one_block_less h sizes.bmapstart more) (λ a. Ret a) 0 [] w (record { none = refl; is = is; keeps = keeps; free = free }) few untouched at mine own may
     (λ x gs gave left. (gave.stage.none, record { since = gave.since; kept = gave.kept; shows = gave.shows; inv = gave.inv; stage = gave.stage.is; held = gave.held }, left)))
+
+fewer_blocks : (h more : ℕ) (v : World) → MayRecord h (suc more) v → MayRecord h more v
+fewer_blocks h more v may = record { recorded = may.recorded; member = may.member; fits = let f = may.fits in omega (arith, f) }
+
+abbrev AllGone : (h n : ℕ) → Both World above.World → Unit {0} → List Done → Both World above.World → Type 0
+AllGone h n w a es x = (es ≡ []) × IsChanging h n x.seen × Kept h w.seen x.seen × GaveBlocks h n w.real x.real × NamesOwned (disk_of (log_of x.real)) x.real.owner n []
+
+pub numbers_are_given_back : NumbersAreGivenBack
+numbers_are_given_back sizes h n numbers w lt at is keeps free mine owns named few untouched may =
+    Wp-more (M sizes) h (free_numbers sizes.bmapstart numbers (Ret (tt {0}))) (λ es. es ≡ []) (AllGone h n w) (3 * length numbers + 0) (3 * length numbers) [] w (omega arith)
+    (s-numbers sizes alone alone_laws alone_keeps h lt (λ es. es ≡ []) (AllGone h n w) (Changing h n) (λ fs xs g u o i c. (λ y. inl o.0, stays h n xs fs g u o c)) n (λ fs g c i. c.is)
+    (MayRecord h) (one_block_less h sizes.bmapstart) (fewer_blocks h) w numbers [] (Ret (tt {0})) 0 [] w
+    (record {
+      stage = record { none = refl; is = is; keeps = keeps; free = free };
+      since = none_yet h n w.real mine;
+      kept = record { same = λ z. refl; rests = λ i. i };
+      few = few;
+      free = untouched;
+      at = at;
+      owns = subst (Owns sizes w.real.owner n) (sym (no_more numbers)) owns;
+      named = subst (NamesOwned (disk_of (log_of w.real)) w.real.owner n) (sym (no_more numbers)) named;
+      knows = subst (λ (z : List ℕ). MayRecord h (length z) w.real) (sym (no_more numbers)) may;
+    })
+    (λ x gs left. (left.stage.none, left.stage.is, left.kept, left.since, left.named)))
+  where
+    no_more : (xs : List ℕ) → xs ++ [] ≡ xs
+    no_more [] = refl
+    no_more (x ∷ xs) = λ i. x ∷ no_more xs i

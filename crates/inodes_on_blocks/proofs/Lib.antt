@@ -28,6 +28,7 @@ pub mod PutLaws
 pub mod BitmapPuts
 pub mod Rooms
 pub mod PutSteps
+pub mod Emptying
 pub mod Given
 pub mod StoreSteps
 pub mod ContentBlocks

@@ -1,13 +1,16 @@
 -- A block put between two operations above, recorded, and a block of an inode given back: nothing of it is seen above.
-use Rattle.std.proofs.Common.{◌≡◌, ◌≢◌, ℕ, zero, suc, ◌-◌, ◌/◌, ◌%◌, ◌^◌, ◌<◌, ◌≤◌, true, false, List, [], ◌∷◌, length, length-set, Option, Some, bit_and, inr, refl, sym, ◌∙◌, ap, subst, arith, is_some}
+use Rattle.std.proofs.Common.{◌≡◌, ◌≢◌, ℕ, zero, suc, ◌-◌, ◌/◌, ◌%◌, ◌^◌, ◌<◌, ◌≤◌, true, false, List, [], ◌∷◌, length, length-set, Option, Some, None, bit_and, inr, refl, sym, ◌∙◌, ap, subst, arith, is_some}
 use Rattle.std.specs.Prelude.{slice_index, slice_set}
 use Rattle.std.proofs.lemmas.Nat.{and_le_l}
+use Rattle.std.specs.Option.{option_map, option_and_then}
 use Rattle.fs_layout.specs.declared.superblock.Super.{Super}
 use Rattle.fs_layout.specs.Bytes.{IsBytes}
 use Rattle.fs_layout.specs.Recovered.{sizes_of, IsOutsideLog}
-use Rattle.buffer_cache.specs.Seats.{holder_of, kept}
+use Rattle.buffer_cache.specs.Lists.{count_of}
+use Rattle.buffer_cache.specs.Seats.{SeatState, has_block, holder_of, kept, seat_of, with_seat, with_content, with_pin, without_holder, given_back as seats_given_back}
 use Rattle.group_log.specs.Group.{has, HasRoom}
 use Rattle.group_log.specs.Soundness.{IsHome}
+use Rattle.group_log.proofs.Seats.{seat_given_back}
 use Rattle.plain_tree.specs.Widths.{hart_count}
 use Rattle.plain_tree.specs.Tree.{put}
 use Rattle.tree_laws.proofs.Maps.{eq_self, put_same, put_other}
@@ -15,8 +18,6 @@ use Rattle.image_tree.specs.Checks.{IsData}
 use Rattle.image_laws.specs.Puts.{IsBitPut, IsGivenBack}
 use Rattle.image_laws.proofs.HeldPuts.{before_bits, other_inode, given_back}
 use Rattle.image_laws.proofs.SeenDisks.{good_seen}
-use Rattle.bitmap_alloc.specs.Bytes.{without_bit}
-use Rattle.bitmap_alloc.specs.Programs.{free_block, clear_bit}
 use Rattle.atomic_programs.specs.Prog.{Do, bind, unmarked}
 use Rattle.atomic_programs.specs.Logic.{Machine, Laws, P, Wp}
 use Rattle.atomic_programs.specs.Joined.{Both, joined}
@@ -29,6 +30,9 @@ use Rattle.fs_machine.specs.Shown.{seen_of}
 use Rattle.fs_machine.specs.Steps as steps
 use Rattle.fs_machine.specs.Steps.{Put}
 use Rattle.fs_machine.specs.Premises as premises
+use Rattle.fs_machine.proofs.Owning.{count_first}
+use Rattle.bitmap_alloc.specs.Bytes.{without_bit}
+use Rattle.bitmap_alloc.specs.Programs.{free_block, clear_bit}
 use Rattle.inode_machine.specs.World as above
 use Rattle.inode_machine.specs.Rules.{if_kept, Inv}
 use Rattle.inodes_on_blocks.specs.Below.{World, log_of, tables_of, disk_of}
@@ -67,6 +71,19 @@ without_bytes b block are =
 without_long : (b : ℕ) (block : List ℕ) → length (without_bit b block) ≡ length block
 unfolding without_bit
 without_long b block = length-set block (b / 8) (bit_and (slice_index block (b / 8)) (255 - 2 ^ (b % 8)))
+
+-- ---- a buffer that was put is in nobody's hand
+
+put_back : (b : ℕ) (bytes : List ℕ) (ss : List SeatState) → count_of (has_block b) ss ≤ 1 → holder_of b (seats_given_back b (with_seat b (with_content bytes) (with_seat b (with_pin true) ss))) ≡ None
+put_back b bytes ss once =
+    let pinned = with_seat b (with_pin true) ss in
+    let same = count_first (has_block b) (has_block b) (with_content bytes) pinned (λ x e. refl) ∙ count_first (has_block b) (has_block b) (with_pin true) ss (λ x e. refl) in
+    ap (λ (o : Option SeatState). option_and_then (λ (x : SeatState). x.holder) o) (seat_given_back b (with_seat b (with_content bytes) pinned) (subst (λ (z : ℕ). z ≤ 1) (sym same) once))
+    ∙ none (seat_of b (with_seat b (with_content bytes) pinned))
+  where
+    none : (o : Option SeatState) → option_and_then (λ (x : SeatState). x.holder) (option_map without_holder o) ≡ None
+    none None = refl
+    none (Some x) = refl
 
 -- ---- what a put of the bitmap leaves to the hart itself
 
@@ -116,11 +133,13 @@ module _ (h n b : ℕ) (r : World) (g : above.World) (shows : Shows r g) (is : I
       inode =
           let before = before_bits (disk_of (log_of r)) n shows.blocks.running.front (subst (λ (s : Super). n < s.ninodes) (sym here) range.1) in
           other_inode (disk_of (log_of r)) (disk_of (log_of then_)) (sizes_of (disk_of (log_of r))).bmapstart bit.block n (λ e. absurd (omega (arith, before, e)));
+      clear = bit.bits b ∙ (rw (eq_self b) refl);
       free = owner_then b data_block ∙ put_same r.owner b 0;
       owned = λ c ne is_data mine. owner_then c (subst (λ (s : Super). IsData s c) (sym here) is_data) ∙ put_other r.owner b 0 c ne ∙ mine;
       named = λ numbers named c is_data mine.
           given.named numbers named c is_data (sym (owner_then c (subst (λ (s : Super). IsData s c) bit.block.sizes is_data)) ∙ mine);
       buffers = λ k ne. same_view h k (log_of r) (log_of then_) ((put_hand h at bytes (log_of r).seats can.holder).others k ne) refl;
+      back = put_back at bytes (log_of r).seats (shows.whole.cache.once at);
       taken = λ c. ap (λ (t : Option ℕ). if_kept t h (seen_of (log_of then_) c)) (taken_then c) ∙ taken_seen h n r g shows bytes can h c;
       commit = commit_none h r.commits (commit_in (log_of then_)) (commit_in (log_of r)) (nobody_commits h r g shows (is_member (log_of r).members h can.joined));
     }
@@ -139,12 +158,14 @@ gave_then h n b v u w g shows mine p q =
       no_more = λ i e. p.no_more i (q.no_more i e);
       sizes = q.sizes ∙ p.sizes;
       inode = q.inode ∙ this.inode;
+      clear = q.clear;
       free = q.free;
       owned = λ c ne is_data own.
           q.owned c ne (subst (λ (s : Super). IsData s c) (sym p.sizes) is_data) (this.blocks c (subst (λ (s : Super). IsData s c) (sym old) is_data) own).1;
       named = λ numbers all.
           q.named numbers (λ c is_data own. let here = subst (λ (s : Super). IsData s c) this.sizes is_data in all c here (this.alone c here own));
       buffers = λ k ne. q.buffers k (λ e. ne (e ∙ ap (λ (s : Super). s.bmapstart) p.sizes)) ∙ p.buffers k ne;
+      back = ap (λ (s : Super). holder_of s.bmapstart (log_of w).seats) (sym p.sizes) ∙ q.back;
       taken = λ c. q.taken c ∙ p.taken c;
       commit = q.commit ∙ p.commit;
     }

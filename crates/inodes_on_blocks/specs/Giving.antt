@@ -1,15 +1,17 @@
 -- Blocks recorded between two operations above, and blocks given back: where the hart that is changing their inode goes on.
-use Rattle.std.specs.Prelude.{◌≡◌, ◌≢◌, ℕ, suc, ◌<◌, ◌≤◌, List, [], ◌∷◌, Some, None}
+use Rattle.std.specs.Prelude.{◌≡◌, ◌≢◌, ℕ, suc, false, ◌<◌, ◌≤◌, ◌*◌, List, [], ◌∷◌, length, Some, None}
 use Rattle.fs_layout.specs.declared.superblock.Super.{Super}
 use Rattle.buffer_cache.specs.Seats.{holder_of}
-use Rattle.image_tree.specs.Checks.{IsData}
-use Rattle.image_laws.specs.Holds.{NamesOwned}
 use Rattle.plain_tree.specs.Widths.{hart_count}
-use Rattle.bitmap_alloc.specs.Programs.{free_block}
-use Rattle.fs_tables.specs.Tables.{holder_of as lock_holder}
-use Rattle.fs_machine.specs.Shown.{seen_of}
+use Rattle.image_tree.specs.Checks.{IsData, is_marked}
+use Rattle.image_laws.specs.Holds.{NamesOwned}
+use Rattle.atomic_programs.specs.Prog.{Ret}
 use Rattle.atomic_programs.specs.Logic.{Wp}
 use Rattle.atomic_programs.specs.Joined.{Both, joined}
+use Rattle.fs_tables.specs.Tables.{holder_of as lock_holder}
+use Rattle.fs_machine.specs.Shown.{seen_of}
+use Rattle.bitmap_alloc.specs.Programs.{free_block}
+use Rattle.inode_data.specs.Freeing.{free_numbers}
 use Rattle.inode_machine.specs.World as above
 use Rattle.inode_machine.specs.Rules.{if_kept, Inv}
 use Rattle.inodes_on_blocks.specs.Below.{World, log_of, tables_of, disk_of, inode_in}
@@ -42,11 +44,13 @@ pub record GaveBlock (h n b : ℕ) (v w : World) : Type 0 where
   pub no_more : (i : ℕ) → lock_holder i (tables_of w) ≡ Some h → lock_holder i (tables_of v) ≡ Some h
   pub sizes : (log_of w).sizes ≡ (log_of v).sizes
   pub inode : inode_in (log_of w) n ≡ inode_in (log_of v) n
-  -- b is nobody's, and what is n's beside it
+  -- b's bit is clear and it is nobody's; and what is n's beside it
+  pub clear : is_marked (disk_of (log_of w)) b ≡ false
   pub free : w.owner b ≡ 0
   pub owned : (c : ℕ) → c ≢ b → IsData (log_of v).sizes c → v.owner c ≡ n → w.owner c ≡ n
   pub named : (numbers : List ℕ) → NamesOwned (disk_of (log_of v)) v.owner n (b ∷ numbers) → NamesOwned (disk_of (log_of w)) w.owner n numbers
   pub buffers : (k : ℕ) → k ≢ (log_of v).sizes.bmapstart → if_kept (holder_of k (log_of w).seats) h (buffer_in (log_of w) k) ≡ if_kept (holder_of k (log_of v).seats) h (buffer_in (log_of v) k)
+  pub back : holder_of (log_of v).sizes.bmapstart (log_of w).seats ≡ None
   pub taken : (c : ℕ) → if_kept (w.taken c) h (seen_of (log_of w) c) ≡ if_kept (v.taken c) h (seen_of (log_of v) c)
   pub commit : if_kept w.commits h (commit_in (log_of w)) ≡ if_kept v.commits h (commit_in (log_of v))
 
@@ -59,7 +63,31 @@ pub record Gave (h n b : ℕ) (Stage : above.World → Type 0) (w v : Both World
   pub stage : Stage v.seen
   pub held : in_hand h v.real ≡ in_hand h w.real
 
--- ---- the law
+-- ---- many blocks
+
+-- none of these is b
+abbrev pub Avoids : ℕ → List ℕ → Type 0
+Avoids b [] = Unit {0}
+Avoids b (c ∷ cs) = (c ≢ b) × Avoids b cs
+
+-- each of these that isn't 0 is a data block of inode n, and stands there once
+abbrev pub Owns : Super → (ℕ → ℕ) → ℕ → List ℕ → Type 0
+Owns sizes owner n [] = Unit {0}
+Owns sizes owner n (b ∷ bs) = (b ≢ 0 → IsData sizes b × (owner b ≡ n) × Avoids b bs) × Owns sizes owner n bs
+
+-- All that it had but blocks of inode n: its other inodes, n's record, its buffers but the bitmap's.
+pub record GaveBlocks (h n : ℕ) (v w : World) : Type 0 where
+  pub inodes : (i : ℕ) → i ≢ n → lock_holder i (tables_of v) ≡ Some h → KeepsInode h i v w
+  pub lock : lock_holder n (tables_of w) ≡ Some h
+  pub no_more : (i : ℕ) → lock_holder i (tables_of w) ≡ Some h → lock_holder i (tables_of v) ≡ Some h
+  pub sizes : (log_of w).sizes ≡ (log_of v).sizes
+  pub inode : inode_in (log_of w) n ≡ inode_in (log_of v) n
+  pub buffers : (k : ℕ) → k ≢ (log_of v).sizes.bmapstart → if_kept (holder_of k (log_of w).seats) h (buffer_in (log_of w) k) ≡ if_kept (holder_of k (log_of v).seats) h (buffer_in (log_of v) k)
+  pub held : in_hand h w ≡ in_hand h v
+  pub taken : (c : ℕ) → if_kept (w.taken c) h (seen_of (log_of w) c) ≡ if_kept (v.taken c) h (seen_of (log_of v) c)
+  pub commit : if_kept w.commits h (commit_in (log_of w)) ≡ if_kept v.commits h (commit_in (log_of v))
+
+-- ---- the laws
 
 -- The program that gives a block of an inode back does so, whatever the other harts do, where the hart that runs it is changing the inode: then the
 -- block's bit is clear and the block nobody's, the hart has all else that it had, and its transaction may record one block less. No operation acts above.
@@ -68,3 +96,13 @@ BlocksAreGivenBack =
     (sizes : Super) (h n b more : ℕ) (w : Both World above.World) → h < hart_count → (log_of w.real).sizes ≡ sizes → IsChanging h n w.seen → w.seen.keeper n ≡ Some h → (w.seen.desks h).lender ≡ None
     → lock_holder n (tables_of w.real) ≡ Some h → IsData sizes b → w.real.owner b ≡ n → in_hand h w.real ≤ 1 → holder_of sizes.bmapstart (log_of w.real).seats ≢ Some h → MayRecord h (suc more) w.real
     → Wp (joined whole (below sizes)) h (λ es. es ≡ []) (λ a es x. (es ≡ []) × Gave h n b (IsChanging h n) w x × MayRecord h more x.real) (free_block sizes.bmapstart b) 3 [] w
+
+-- So does the program that gives back the blocks with these numbers, which are all that the inode has: then it has none. Its transaction may record a
+-- block more for each.
+abbrev pub NumbersAreGivenBack : Type 0
+NumbersAreGivenBack =
+    (sizes : Super) (h n : ℕ) (numbers : List ℕ) (w : Both World above.World) → h < hart_count → (log_of w.real).sizes ≡ sizes → IsChanging h n w.seen → w.seen.keeper n ≡ Some h → (w.seen.desks h).lender ≡ None
+    → lock_holder n (tables_of w.real) ≡ Some h → Owns sizes w.real.owner n numbers → NamesOwned (disk_of (log_of w.real)) w.real.owner n numbers → in_hand h w.real ≤ 1 → holder_of sizes.bmapstart (log_of w.real).seats ≢ Some h
+    → MayRecord h (length numbers) w.real
+    → Wp (joined whole (below sizes)) h (λ es. es ≡ []) (λ a es x. (es ≡ []) × IsChanging h n x.seen × Kept h w.seen x.seen × GaveBlocks h n w.real x.real × NamesOwned (disk_of (log_of x.real)) x.real.owner n [])
+    (free_numbers sizes.bmapstart numbers (Ret (tt {0}))) (3 * length numbers) [] w

@@ -2,7 +2,7 @@
 //! world above stays as it is shown.
 
 ghost use Rattle.inodes_on_blocks.specs.Recording.{BitmapsPutBits, ClearedBitsLeave, DataPutsLeave, MarksAreBits, NamingPutsLeave, RecordPutsLeave, RecordedPutsKeep, SetBitsLeave};
-ghost use Rattle.inodes_on_blocks.specs.Giving.{BlocksAreGivenBack};
+ghost use Rattle.inodes_on_blocks.specs.Giving.{BlocksAreGivenBack, NumbersAreGivenBack};
 
 /// A block that is recorded for an inode, whose lock the hart has, in its transaction, leaves the others theirs and the world
 /// above as it is shown.
@@ -48,4 +48,9 @@ pub fn bitmaps_put_bits()
 /// A block of the inode is given back whatever the other harts do, while at most one other buffer is in the hart's hand.
 pub fn blocks_are_given_back()
     ensures { BlocksAreGivenBack }
+{}
+
+/// So are all its blocks, one after the other.
+pub fn numbers_are_given_back()
+    ensures { NumbersAreGivenBack }
 {}
