@@ -1,0 +1,5 @@
+mod Lines
+mod Numbers
+mod Pairs
+mod Saying
+mod Scripts

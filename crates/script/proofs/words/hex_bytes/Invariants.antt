@@ -1,0 +1,12 @@
+use Rattle.std.proofs.Common.{◌≡◌}
+use Rattle.std.specs.Slice.Iter.{chunks_rest, chunks_size}
+use Rattle.script.specs.Words.{pairs_in}
+use Rattle.script.proofs.Pairs.{with_front}
+use Rattle.script.proofs.words.hex_bytes.Given as goal
+
+abbrev pub invariant-loop-pair : goal.invariant-loop-pair
+invariant-loop-pair l =
+    (goal.iterator-loop-pair).can_next l.pair-iterator ×
+    (goal.iterator-loop-pair).is_finite l.pair-iterator ×
+    (chunks_size l.pair-iterator ≡ 2) ×
+    (with_front l.bytes.items (pairs_in (chunks_rest l.pair-iterator)) ≡ pairs_in l.digits)

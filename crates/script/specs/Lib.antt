@@ -1,0 +1,5 @@
+pub mod Gives
+pub mod Grammar
+pub mod Reading
+pub mod Said
+pub mod Words

@@ -1,0 +1,27 @@
+//! The commands of a script.
+use crate::call::CallLine;
+use fs_machine::Kind;
+
+/// What a line of a script says. A hart is any u8, also one that there isn't.
+#[derive(Debug, PartialEq, Drop)]
+pub enum Command {
+    /// The call is started.
+    Start { hart: u8, call: CallLine },
+    /// The call is started, and the hart steps until it ends.
+    Do { hart: u8, call: CallLine },
+    /// So many steps of a hart.
+    Step { hart: u8, steps: u32 },
+    /// Steps of a hart until its call has made so many steps of this kind.
+    Upto { hart: u8, kind: Kind, steps: u32 },
+    /// Steps of a hart until its call ends.
+    End { hart: u8 },
+    /// Steps of all harts in turn.
+    All,
+}
+
+/// Why a script isn't run: its first line that is no command, counted from 1, or want of memory.
+#[derive(Debug, Clone, Copy, PartialEq, Eq)]
+pub enum ScriptFault {
+    Line(u64),
+    Memory,
+}

@@ -1,0 +1,20 @@
+//! Why a line isn't read.
+use std::alloc::AllocError;
+
+/// It says nothing, or memory was refused.
+#[derive(Drop)]
+pub enum LineFault {
+    Bad,
+    Memory,
+}
+
+impl From<AllocError> for LineFault {
+    ghost use Rattle.std.specs.Prelude.{◌≡◌};
+    ghost use Rattle.script.specs.declared.fault.LineFault.TheVariants.{Memory};
+
+    ghost from_gives = { λ _ e. e ≡ Memory };
+
+    fn from(_error: AllocError) -> LineFault {
+        LineFault::Memory
+    }
+}

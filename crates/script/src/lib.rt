@@ -1,0 +1,16 @@
+//! Scripts of the console: what their lines say (docs/SCRIPT.md has the grammar).
+#![tactic(auto)]
+
+mod call;
+mod command;
+mod digits;
+mod fault;
+mod laws;
+mod line;
+mod text;
+mod words;
+
+pub use crate::call::CallLine;
+pub use crate::command::{Command, ScriptFault};
+pub use crate::laws::lines_are_read;
+pub use crate::text::parse;
