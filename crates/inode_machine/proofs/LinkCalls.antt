@@ -143,8 +143,8 @@ module _ (h : ℕ) (old new : List ℕ) (w : World) (free : (w.desks h).lender �
   joins = record { ready = ready; may = may }
 
   -- it holds nothing again
-  stays_bare : (R R2 : Own) (o : Option Hold) → Stays R (record O0 { row = record (O0.row) { hold = o } }) → R2.row ≡ record (R.row) { hold = None } → R2.ninodes ≡ R.ninodes → R2.desk ≡ R.desk → Stays R2 O0
-  stays_bare R R2 o st row size desk = record {
+  stays_bare : (R Lifted : Own) (o : Option Hold) → Stays R (record O0 { row = record (O0.row) { hold = o } }) → Lifted.row ≡ record (R.row) { hold = None } → Lifted.ninodes ≡ R.ninodes → Lifted.desk ≡ R.desk → Stays Lifted O0
+  stays_bare R Lifted o st row size desk = record {
     row = row ∙ (λ z. record (st.row z) { hold = None }) ∙ (λ z. record (O0.row) { hold = sym idle.hold z });
     ninodes = size ∙ st.ninodes;
     fds = ap (λ (z : Desk). z.fds) desk ∙ st.fds;
@@ -210,28 +210,28 @@ module _ (h : ℕ) (old new : List ℕ) (w : World) (free : (w.desks h).lender �
           s-store-move j (X.count + 1) steps.Bump (Some (high j)) X own1 free_r lt (omega (arith, few, q)) at.stays.joined at.walk at.pending (isj (Some X)) refl refl refl refl (inl (let a = less_is X.count count_limit fewer in omega (arith, a))) plain_bump
           (λ v inv2 ov. bumps h j X v lt inv2 (ap (λ (o : Own). o.row.hold) ov ∙ holds_r) (has_node h j v (O1 (Some X)) (locked_held (Some X)) ov (isj (Some X))) fewer)
           (λ i y. let e : j ≡ i = eq_is j i y in subst (λ (z : ℕ). 0 < R.mine.refs z) e refers) (inr begins)
-          (λ l2 u2 q2 held2. follows h old new lt joins j ns l2 (done_step steps.Bump ∷ es) u2 R2 range.0 (let z = range.1 in let a = ap (λ (o : Own). o.ninodes) own1 in let b = at.stays.ninodes in omega (arith, z, a, b)) fresh (omega (arith, few, q, q2)) held2
+          (λ l2 u2 q2 held2. follows h old new lt joins j ns l2 (done_step steps.Bump ∷ es) u2 Lifted range.0 (let z = range.1 in let a = ap (λ (o : Own). o.ninodes) own1 in let b = at.stays.ninodes in omega (arith, z, a, b)) fresh (omega (arith, few, q, q2)) held2
           (put_same (O1 (Some X)).inodes j (Some (locked_held (Some (raised X))))) refl refl refl refl refl
           (record { row = ap (λ (r : Row). record r { hold = Some (high j) }) at.stays.row; ninodes = at.stays.ninodes; fds = at.stays.fds; hand = at.stays.hand; joined = at.stays.joined; directory = at.stays.directory; lent = at.stays.lent; lender = at.stays.lender; opening = at.stays.opening; left = at.stays.left })
           (λ m y. let e = number m (sym at.noted ∙ y) in subst (λ (z : ℕ). 0 < R.mine.refs z) (sym e) refers) (λ i. let r = at.refs i in omega (arith, r))
-          (listed_beside R3 base (more_base base j) ns (listed_among R R3 base ns at.listed back (λ i p. refl) (λ i p y. named i ∙ y))) written)
+          (listed_beside Apart base (more_base base j) ns (listed_among R Apart base ns at.listed back (λ i p. refl) (λ i p y. named i ∙ y))) written)
         where
           range : (1 ≤ j) × (j < u1.all.ninodes)
           range = inv.well.range j X (has_node h j u1 (O1 (Some X)) (locked_held (Some X)) own1 (isj (Some X)))
 
-          R2 : Own
-          R2 = record R { inodes = put (O1 (Some X)).inodes j (Some (locked_held (Some (raised X)))); row = record (R.row) { hold = Some (high j) }; mine = record { refs = R.mine.refs; walk = None; pending = None } }
+          Lifted : Own
+          Lifted = record R { inodes = put (O1 (Some X)).inodes j (Some (locked_held (Some (raised X)))); row = record (R.row) { hold = Some (high j) }; mine = record { refs = R.mine.refs; walk = None; pending = None } }
 
-          R3 : Own
-          R3 = record R2 { inodes = put R2.inodes j None }
+          Apart : Own
+          Apart = record Lifted { inodes = put Lifted.inodes j None }
 
-          back : (i : ℕ) → R3.inodes i ≡ R.inodes i
+          back : (i : ℕ) → Apart.inodes i ≡ R.inodes i
           back i = elim (same_or i j) [
-            | inl e ↦ ap R3.inodes e ∙ put_same R2.inodes j None ∙ sym at.out ∙ ap R.inodes (sym e)
-            | inr ne ↦ put_other R2.inodes j None i ne ∙ put_other (O1 (Some X)).inodes j (Some (locked_held (Some (raised X)))) i ne ∙ put_other R.inodes j (Some (locked_held (Some X))) i ne
+            | inl e ↦ ap Apart.inodes e ∙ put_same Lifted.inodes j None ∙ sym at.out ∙ ap R.inodes (sym e)
+            | inr ne ↦ put_other Lifted.inodes j None i ne ∙ put_other (O1 (Some X)).inodes j (Some (locked_held (Some (raised X)))) i ne ∙ put_other R.inodes j (Some (locked_held (Some X))) i ne
           ]
 
-          named : (i : ℕ) → own_names R3.row R3.desk i ≡ own_names R.row R.desk i
+          named : (i : ℕ) → own_names Apart.row Apart.desk i ≡ own_names R.row R.desk i
           named i = λ z. (R.row.cwd == i) || (hold_names (sym holds_r z) i || (key_names (key_in R.row.keys R.desk.opening) i || is_at R.desk.left i))
 
           written : Walked c (found old ∷ bumped ∷ []) (done_step steps.Bump ∷ es)
