@@ -3,6 +3,7 @@ use Rattle.std.proofs.Common.{◌≤◌, length, None, ◌≡◌, ◌≢◌, ◌
 use Rattle.atomic_programs.specs.Prog.{Ret, Do, bind, once, unmarked, Did, Waits, Ran, Stops}
 use Rattle.atomic_programs.specs.Logic.{Machine, P, PlacesOne, own, onto, Goes, placed_with, Grown, Fine, Good, Wp, Laws}
 use Rattle.atomic_programs.proofs.Sound.{Wp-weaker, Wp-more, Wp-bind, Wp-others}
+use Rattle.atomic_programs.specs.Lifting.{Uses, Lifts}
 use Rattle.atomic_programs.specs.Joined.{Lasts, ActOf, Lower, Both, ran_to, placed_at, both, joined, LowerLaws, Handed, holding, Handlers, lowered, Below, AtEnd, Atomic}
 
 pub joined_laws : (U : Machine) (R : Lower U.World) → Laws U → LowerLaws U R → Laws (joined U R)
@@ -35,17 +36,15 @@ grows : (L : Machine) {A : Type 0} (h : ℕ) (p : P L A) (B : List L.Step → Ty
 grows L h (Ret a) B Q n fs xs v u lasts o i g y = (lasts a fs xs v u o i g).0 y
 grows L h (Do op m k) B Q n fs xs v u lasts o i g y = (g u xs o i).0 y
 
--- what holds of a program above holds of the lowered one, in as many steps
-pub lift : (U : Machine) (R : Lower U.World) (handler : Handlers U R) (laws : Laws U) (h : ℕ) (atomic : (op : U.Op) (m : U.Answer op → Option U.Mark) → Atomic U R handler h op m) {A : Type 0} (p : P U A)
-    (B : List U.Step → Type 0) (Q : A → List U.Step → U.World → Type 0) → Lasts U h B Q
-    → (c : R.Carry) (n : ℕ) (es : List U.Step) (w : Both R.World U.World) → Wp U h B Q p n es w.seen → R.Base h w.real w.seen c → U.Inv w.seen → Wp (joined U R) h B (AtEnd U R h Q) (lowered U R handler c p) n es w
-lift U R handler laws h atomic (Ret a) B Q lasts c n es w g b inv = (g, inv, (c, b))
-lift U R handler laws h atomic {A} (Do op m k) B Q lasts c n es w g b inv =
+-- What holds of a program above holds of the lowered one, in as many steps, where the program of each operation that it makes acts at one moment.
+pub lift_using : (U : Machine) (R : Lower U.World) (handler : Handlers U R) (laws : Laws U) (h : ℕ) {A : Type 0} (p : P U A) → Uses U (Atomic U R handler h) p → (c : R.Carry) → Lifts U R handler h c (λ w. Unit {0}) p
+lift_using U R handler laws h (Ret a) used c B Q lasts n es w from g b inv = (g, inv, (c, b))
+lift_using U R handler laws h {A} (Do op m k) used c B Q lasts n es w from g b inv =
     Wp-more (joined U R) h (bind (handler c op m) rest) B (AtEnd U R h Q) (suc (U.more op) + (n - suc (U.more op))) n es w (omega (arith, enough))
     (Wp-bind (joined U R) h (handler c op m) rest B (AtEnd U R h Q) (suc (U.more op)) (n - suc (U.more op)) es w
     (Wp-weaker (joined U R) h (handler c op m) B B (Below U R h C) (λ r. Wp (joined U R) h B (AtEnd U R h Q) (rest r) (n - suc (U.more op))) (suc (U.more op)) es w (λ fs e. e)
-    (λ r fs u e. lift U R handler laws h atomic (k r.answer) B Q lasts r.carry (n - suc (U.more op)) fs u e.0.0 e.1 e.0.1)
-    (atomic op m c B C es w
+    (λ r fs u e. lift_using U R handler laws h (k r.answer) (used.1 r.answer) r.carry B Q lasts (n - suc (U.more op)) fs u tt e.0.0 e.1 e.0.1)
+    (used.0 c B C es w
     (λ a fs xs v u o i e.
     (grows U h (k a) B Q (n - suc (U.more op)) fs xs v u lasts o i e.0, (Wp-others U laws h (k a) B Q (n - suc (U.more op)) fs xs v u (λ x d. (lasts x fs xs v u o i d).1) o e.0, i)))
     (λ v xs o i. ((g v xs o i).0, (g v xs o i).1, λ x t. one v (onto xs es) (U.go h x op m v) ((g v xs o i).2 x t), omega arith)) b)))
@@ -75,6 +74,15 @@ lift U R handler laws h atomic {A} (Do op m k) B Q lasts c n es w g b inv =
           next = (Wp-more U h (k a) B Q q.left (n - suc (U.more op)) (onto (own h (U.places h op a (m a) v)) fs) u (let c : q.left + U.more op < n = q.falls in omega arith) q.next, q.inv);
         }
     one v fs (Stops u) q = q
+
+-- a program's operations are so where all are
+pub uses_all : (U : Machine) (Is : (op : U.Op) → (U.Answer op → Option U.Mark) → Type 1) {A : Type 0} (p : P U A) → ((op : U.Op) (m : U.Answer op → Option U.Mark) → Is op m) → Uses U Is p
+uses_all U Is (Ret a) all = tt
+uses_all U Is (Do op m k) all = (all op m, λ a. uses_all U Is (k a) all)
+
+-- any program, where all operations' programs do
+pub lift : (U : Machine) (R : Lower U.World) (handler : Handlers U R) (laws : Laws U) (h : ℕ) (atomic : (op : U.Op) (m : U.Answer op → Option U.Mark) → Atomic U R handler h op m) {A : Type 0} (p : P U A) (c : R.Carry) → Lifts U R handler h c (λ w. Unit {0}) p
+lift U R handler laws h atomic p c = lift_using U R handler laws h p (uses_all U (Atomic U R handler h) p atomic) c
 
 -- a program that hands on what it was handed
 pub Wp-holding : (L : Machine) {A C : Type 0} (h : ℕ) (c : C) (p : P L A) (B : List L.Step → Type 0) (Q : Handed A C → List L.Step → L.World → Type 0) (n : ℕ) (es : List L.Step) (w : L.World)

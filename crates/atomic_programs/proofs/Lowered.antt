@@ -6,7 +6,8 @@ use Rattle.atomic_programs.specs.Calls.{Theory, Began, Refuses, Begins, Begun, E
 use Rattle.atomic_programs.specs.Explained.{Explained}
 use Rattle.atomic_programs.specs.Plain.{IsCode, began_in}
 use Rattle.atomic_programs.specs.Joined.{ActOf, both, Lower, Both, joined, LowerLaws, Handlers, lowered, AtEnd}
-use Rattle.atomic_programs.specs.Lowered.{Starts, began_to, began_both, lowered_calls, BeginsBoth, StartsBoth, CanBegin, AllAtomic, Part, IsPart, code_part, all_below, code_below}
+use Rattle.atomic_programs.specs.Lowered.{Starts, began_to, began_both, lowered_calls, BeginsBoth, StartsBoth, AllAtomic, Part, IsPart, code_part, all_below, code_below}
+use Rattle.atomic_programs.specs.Lifting.{BeginsSome, AllLift}
 use Rattle.atomic_programs.specs.Operations.{Core, IsCore, operations, operations_of}
 use Rattle.atomic_programs.proofs.Sound.{Wp-weaker}
 use Rattle.atomic_programs.proofs.Explains.{ends_last, explains}
@@ -28,13 +29,13 @@ begun_both {Refusal} {S} {G} g (Begins r) u e = (ap (λ (z : Both S G). begins z
     is = cc
 
 module _ (T : Theory) (R : Lower T.M.World) (handler : Handlers T.M R) (begin : Starts T R) (lawful : Lawful T) (below : LowerLaws T.M R) (starts : StartsBoth T R begin) where
-  pub lowered_lawful : AllAtomic T R handler begin → Lawful (lowered_calls T R handler begin)
-  lowered_lawful atomic =
+  pub lifted_lawful : AllLift T R handler begin → Lawful (lowered_calls T R handler begin)
+  lifted_lawful lifts =
       record {
         laws = joined_laws T.M R lawful.laws below;
         calls = λ h call busy w u holds idle free e.
             let b = begun_both (began_to w.seen (T.start h call busy w.seen)) (begin h call busy w.real) u e in
-            right h (call, busy, w.real, u.real, b.0) call busy w u.real idle free (inv_of w holds) (starts h call busy w.real u.real w.seen (shows_of w holds) (inv_of w holds) idle free b.0) u.seen b.1;
+            right h call (busy, w.real, u.real, b.0) busy w u.real idle free (inv_of w holds) (starts h call busy w.real u.real w.seen (shows_of w holds) (inv_of w holds) idle free b.0) u.seen b.1;
       }
     where
       inv_of : (w : Both R.World T.M.World) → (R.Shows w.real w.seen × T.M.Inv w.seen) ⊎ (R.Halted w.real w.seen × T.M.Inv w.seen) → T.M.Inv w.seen
@@ -45,9 +46,9 @@ module _ (T : Theory) (R : Lower T.M.World) (handler : Handlers T.M R) (begin : 
       shows_of w (inl p) = inl p.0
       shows_of w (inr p) = inr p.0
 
-      begun : (h : ℕ) → CanBegin T R begin h → (call : T.Call) (busy : ℕ → Bool) (w : Both R.World T.M.World) (s : R.World) → ((other : ℕ) → busy other ≡ false → R.Base other w.real w.seen R.none × T.M.Idle other w.seen) → busy h ≡ false → T.M.Inv w.seen
+      begun : (h : ℕ) (call : T.Call) → BeginsSome T R begin h call → (busy : ℕ → Bool) (w : Both R.World T.M.World) (s : R.World) → ((other : ℕ) → busy other ≡ false → R.Base other w.real w.seen R.none × T.M.Idle other w.seen) → busy h ≡ false → T.M.Inv w.seen
           → (b : BeginsBoth T R h call busy w.real s w.seen) → Right (lowered_calls T R handler begin) h call busy w (record { real = s; seen = b.above })
-      begun h can call busy w s idle free inv b =
+      begun h call can busy w s idle free inv b =
           let r = lawful.calls h call busy w.seen b.above (inl inv) (λ j n. (idle j n).1) free b.begins in
           record {
             inv = λ i. (b.shows i.0, r.inv i.1);
@@ -60,14 +61,17 @@ module _ (T : Theory) (R : Lower T.M.World) (handler : Handlers T.M R) (begin : 
             runs = λ i.
                 Wp-weaker (joined T.M R) h (lowered T.M R handler R.none (T.program call)) (Begun T call) (Begun (lowered_calls T R handler begin) call) (AtEnd T.M R h (Ends T h call)) (Ends (lowered_calls T R handler begin) h call) (T.limit call) [] (record { real = s; seen = b.above })
                 (λ fs c. c) (λ a fs v c. (c.0.0, (below.idle h v.real v.seen c.2.0 c.1 c.0.1 c.2.1, c.0.1)))
-                (lift T.M R handler lawful.laws h (atomic h can) (T.program call) (Begun T call) (Ends T h call)
-                (λ a fs xs v y o j c. (λ z. inl (lawful.laws.idle_none h v y xs o c.1), ends_last T lawful h call a fs xs v y o c)) R.none (T.limit call) [] (record { real = s; seen = b.above }) (r.runs i.1) (b.rests h free) i.1);
+                (lifts h call can (Begun T call) (Ends T h call)
+                (λ a fs xs v y o j c. (λ z. inl (lawful.laws.idle_none h v y xs o c.1), ends_last T lawful h call a fs xs v y o c)) (T.limit call) [] (record { real = s; seen = b.above }) (record { shows = i.0; busy = busy; before = w.seen; idle = (idle h free).1; begins = b.begins }) (r.runs i.1) (b.rests h free) i.1);
           }
 
-      right : (h : ℕ) → CanBegin T R begin h → (call : T.Call) (busy : ℕ → Bool) (w : Both R.World T.M.World) (s : R.World) → ((other : ℕ) → busy other ≡ false → R.Base other w.real w.seen R.none × T.M.Idle other w.seen) → busy h ≡ false → T.M.Inv w.seen
+      right : (h : ℕ) (call : T.Call) → BeginsSome T R begin h call → (busy : ℕ → Bool) (w : Both R.World T.M.World) (s : R.World) → ((other : ℕ) → busy other ≡ false → R.Base other w.real w.seen R.none × T.M.Idle other w.seen) → busy h ≡ false → T.M.Inv w.seen
           → BeginsBoth T R h call busy w.real s w.seen → (g : T.M.World) → g ≡ began_to w.seen (T.start h call busy w.seen) → Right (lowered_calls T R handler begin) h call busy w (record { real = s; seen = g })
-      right h can call busy w s idle free inv b g is =
-          subst (λ (z : T.M.World). Right (lowered_calls T R handler begin) h call busy w (record { real = s; seen = z })) (sym (is ∙ ap (began_to w.seen) b.begins)) (begun h can call busy w s idle free inv b)
+      right h call can busy w s idle free inv b g is =
+          subst (λ (z : T.M.World). Right (lowered_calls T R handler begin) h call busy w (record { real = s; seen = z })) (sym (is ∙ ap (began_to w.seen) b.begins)) (begun h call can busy w s idle free inv b)
+
+  pub lowered_lawful : AllAtomic T R handler begin → Lawful (lowered_calls T R handler begin)
+  lowered_lawful atomic = lifted_lawful (λ h call can B Q lasts n es w from. lift T.M R handler lawful.laws h (atomic h (call, can.0, can.1, can.2, can.3)) (T.program call) R.none B Q lasts n es w tt)
 
 -- Every run below shows a run of the machine above: whole operations one after the other, which lead from what was seen of
 -- the first world to what is seen of the last one; each call's own are a run of its program with its reply, or a beginning
