@@ -15,7 +15,7 @@ use Rattle.tree_laws.specs.WellFormed.{one_if}
 use Rattle.tree_laws.proofs.Maps.{either, eq_self}
 use Rattle.atomic_programs.specs.Prog.{Do, unmarked}
 use Rattle.inode_machine.specs.Inodes.{Sort, Face, face_or, is_live_face, is_directory_face, is_directory_sort}
-use Rattle.inode_machine.specs.World.{Mark, Claimed, New, NoInode, NoPlace, Entered, InPlace, NoBlock, NoSlot, Readout, NotRead, Part, Joining, NotJoined, Joined, Wrote, Whole, Refused, Short, Lending, Lent, Moved}
+use Rattle.inode_machine.specs.World.{Mark, Claimed, New, NoInode, NoPlace, Entered, InPlace, NoBlock, NoSlot, Locking, NotLocked, LocksIt, Joining, NotJoined, Joined, Wrote, Whole, Refused, Short, Lending, Lent, Moved}
 use Rattle.inode_machine.specs.World.Op.{Free, Store, Enter, Clear}
 use Rattle.inode_machine.specs.Parts.{P, Stop, NotThere, NoMemory, done, failed, stopped, drop, give_up, free_all, tail, walk, walk_step, walk_parent, leave_directory, with_last, start, start_on}
 use Rattle.inode_machine.specs.Descriptors.{joined_on, read_on, dup_on, stat_on, close_on, write_from, wrote_on, write_program}
@@ -475,8 +475,8 @@ module _ (fd n : ℕ) (bytes : List ℕ) where
   wrote s ok more rest (Short k) = (ok, λ _. tt)
 
   writes_from : (left i : ℕ) → HasRoom unspent (write_from fd n bytes left i)
-  writes_from zero i = (few_written n, λ a. (few_written n, λ _. (few_written n, λ _. wrote _ (few_written n) _ (few_written n, λ _. tt) a)))
-  writes_from (suc left) i = (few_written n, λ a. (few_written n, λ _. (few_written n, λ _. wrote _ (few_written n) _ (few, λ _. writes_from left (i + 1)) a)))
+  writes_from zero i = (few, λ _. (few_written n, λ a. (few_written n, λ _. wrote _ (few_written n) _ (few_written n, λ _. tt) a)))
+  writes_from (suc left) i = (few, λ _. (few_written n, λ a. (few_written n, λ _. wrote _ (few_written n) _ (few, λ _. writes_from left (i + 1)) a)))
 
 writes : (fd : ℕ) (bytes : List ℕ) → HasRoom unspent (write_program fd bytes)
 writes fd [] = (few, λ o. tt)
@@ -495,9 +495,9 @@ pub transactions_are_small : TransactionsAreSmall
 transactions_are_small (calls.Open path flags) = either_way unspent (creates flags) (open_new path flags (elements path)) (open_old path flags) (creates_new path flags (elements path)) (opens_old path flags)
 transactions_are_small (calls.Read fd buffer) = (few, λ a. by a)
   where
-    by : (a : Readout) → HasRoom unspent (read_on fd buffer a)
-    by (NotRead c) = tt
-    by (Part n b) = (few, λ _. (few, λ _. tt))
+    by : (a : Locking) → HasRoom unspent (read_on fd buffer a)
+    by (NotLocked c) = tt
+    by (LocksIt n) = (few, λ _. (few, λ _. tt))
 transactions_are_small (calls.Write fd bytes) = writes fd bytes
 transactions_are_small (calls.Link old new) = (few, λ _. walks_to unspent few (lost (calls.Link old new)) (is_lost (calls.Link old new)) (steps.Find old) old (link_at old new) (λ n ms. links_at old new n ms))
 transactions_are_small (calls.Unlink path) = on_parent unspent (calls.Unlink path) (steps.Unlink path) path (unlink_in path) (elements path) (λ d e ms. unlinks_in path d e ms)

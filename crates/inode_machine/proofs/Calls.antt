@@ -30,7 +30,7 @@ use Rattle.inode_machine.proofs.Counting.{s-give, one_most}
 use Rattle.inode_machine.proofs.Dups.{fails, dupped, s-double, s-join, s-leave, s-say, SameRow, SameDesk}
 use Rattle.inode_machine.proofs.Closes.{shut_step, s-shut}
 use Rattle.inode_machine.proofs.Stats.{stat_step, stat_face, s-stat-file}
-use Rattle.inode_machine.proofs.Readings.{read_step, s-read-file}
+use Rattle.inode_machine.proofs.Readings.{read_step, s-lock-file, s-read-file}
 use Rattle.inode_machine.proofs.Starts.{begun_same, start_is}
 use Rattle.inode_machine.proofs.Resting.{given_is, idle_as, unlocks_nothing}
 use Rattle.inode_machine.proofs.WriteCalls.{write_begins, write_ok}
@@ -176,10 +176,12 @@ read_written fd buffer b = (refl, record { through = refl; reply = refl; room = 
 
 pub read_ok : (h fd : ℕ) (buffer : List ℕ) (w : World) → (w.desks h).lender ≡ None → h < hart_count → Idle h w → length buffer ≤ asked_limit → Safe machine h (Begun descriptor_calls (calls.Read fd buffer)) (Ends descriptor_calls h (calls.Read fd buffer)) (read_program fd buffer) rest_cost [] w
 read_ok h fd buffer w free lt idle asked =
-    s-read-file fd (length buffer) refl free lt (omega arith) asked idle.walk idle.pending idle.opening (λ j. ap (λ (f : ℕ → Option Held). f j) idle.inodes) (λ c. ([], parts.failed (calls.Read fd buffer) c, read_failed fd buffer c)) (λ b. ([], read_reply fd buffer b, read_written fd buffer b))
+    s-lock-file fd (length buffer) refl free lt (omega arith) idle.walk idle.pending idle.opening (λ j. ap (λ (f : ℕ → Option Held). f j) idle.inodes) (λ c. ([], parts.failed (calls.Read fd buffer) c, read_failed fd buffer c))
     (λ l c u q own. record { wp = (λ y. read_failed fd buffer c, idle_as h u _ own (rests_as (own_of h w) (own_of h w).row (own_of h w).desk idle refl refl refl refl refl refl refl refl)) })
-    (λ l i b x u q own.
-    s-give own free lt (omega (arith, q)) (put_same (own_of h w).inodes i (Some (locked_held x))) refl refl refl refl (λ l2 u2 q2 own2.
+    (λ l i x u q key own.
+    s-read-file fd i (length buffer) x own free lt (omega (arith, q)) asked idle.walk idle.pending idle.opening (put_same (own_of h w).inodes i (Some (locked_held x)))
+    (record { opened = record { slot = key.opened.slot; below = key.opened.below; is = key.opened.is; key = key.opened.key; at = key.opened.at; number = key.opened.number }; readable = key.readable; read = key.read }) (λ b. ([], read_reply fd buffer b, read_written fd buffer b))
+    (λ l2 b u2 q2 own2.
     s-say own2 free lt (omega (arith, q, q2)) (unlocks_nothing _ (given_is (own_of h w).inodes i (Some (locked_held x)) idle.inodes)) idle.joined (λ l3 u3 q3 _ own3.
     record {
       wp = (

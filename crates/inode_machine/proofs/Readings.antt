@@ -1,6 +1,6 @@
--- Read: a descriptor's inode is locked, a part read at the offset, and the offset moves.
+-- Read: a descriptor's inode is locked, a part read at the offset, and the offset moves, with the lock given up.
 use Rattle.std.proofs.Common.{◌≡◌, inl, inr, ℕ, ◌+◌, ◌<◌, ◌≤◌, true, false, ◌==◌, ◌&&◌, nat_lt, List, [], ◌∷◌, take, drop, length, Option, Some, None, refl, sym, ◌∙◌, ap, subst, arith, if◌then◌else◌, Bool}
-use Rattle.atomic_programs.specs.Prog.{Do, Did as Came}
+use Rattle.atomic_programs.specs.Prog.{Do, Ran, Did as Came}
 use Rattle.atomic_programs.specs.Logic.{P, own, onto, Good, Fine, Safe, Wp}
 use Rattle.plain_tree.specs.declared.answer.Cause.{Cause}
 use Rattle.plain_tree.specs.declared.answer.Cause.TheVariants.{BadDescriptor, BadMode}
@@ -16,6 +16,7 @@ use Rattle.plain_tree.specs.Widths.{hart_count, descriptor_count}
 use Rattle.plain_tree.specs.Tree.{Name, Tree, put, fd_names, file_names, and_then, settle, resolve, parent}
 use Rattle.plain_tree.specs.Steps.{node_or, node_at, content, part, moved, no_driver, file_at, refusal_with, effect_with, answer_with, place_of, IsInPlace}
 use Rattle.plain_tree.specs.HartRow.{Key, key_of, Row, key_at, row_of, key_is}
+use Rattle.plain_tree.proofs.RowLemmas.{key_from}
 use Rattle.plain_tree.proofs.Settling.{with_open, NamesLess, settle_less, file_settled}
 use Rattle.tree_laws.specs.WellFormed.{IsWellFormed}
 use Rattle.tree_laws.proofs.Maps.{same_or, put_same, put_other}
@@ -23,18 +24,20 @@ use Rattle.tree_laws.proofs.Sums.{sum_same}
 use Rattle.tree_laws.proofs.Opened.{well_moved}
 use Rattle.tree_moves.specs.Moves.{Stage, Step}
 use Rattle.tree_moves.specs.Moves.Move.{Own as OwnMove}
-use Rattle.inode_machine.specs.World.{Mine, Entry, World, Part as PartOf, NotRead, Readout}
+use Rattle.inode_machine.specs.World.{Mine, Entry, World, Locking as Lockup, NotLocked, LocksIt}
 use Rattle.inode_machine.specs.Marks.{places, with_mark, made_by, new_id, with_made}
-use Rattle.inode_machine.specs.Exec.{with_walk, slot_at, entry_at, entry_moved, part_of, entry_of, lock_if, locked, mode_refusal, read_at, read_refused, with_offset}
+use Rattle.inode_machine.specs.Descriptors.{refused_read}
+use Rattle.inode_machine.specs.Exec.{with_walk, slot_at, entry_at, entry_moved, part_of, entry_of, lock_at, lock_if, locked, mode_refusal, read_at, read_refused, unlocked, with_offset}
 use Rattle.inode_machine.specs.Rules.{Own, own_names, Held, own_of, Inv, machine, EntryOut, asked_limit}
-use Rattle.inode_machine.proofs.Frame.{put_elim, fair}
-use Rattle.inode_machine.proofs.Rules.{s-owned, has_disk, has_node, Locking, fine_after, is_out, locked_held, locking, locks_none}
+use Rattle.inode_machine.proofs.Frame.{put_elim, Fair, fair, has_inode}
+use Rattle.inode_machine.proofs.Rules.{s-owned, quiet, has_disk, has_node, fine_after, is_out, locked_held, locking, locks_it, locks_none}
+use Rattle.inode_machine.proofs.Counting.{after_unlock, gives}
 use Rattle.inode_machine.proofs.Rows.{below_is}
 use Rattle.inode_machine.proofs.Walking.{refs_walk, stage_walk, moves_good}
 use Rattle.inode_machine.proofs.Shops.{Sells, sells_did, own_takes}
 use Rattle.inode_machine.proofs.Dups.{Behind, behind, behind_none, Refused, renewed_slots, renewed_at, fails, refused_good, renewed_sorts}
 use Rattle.inode_machine.proofs.Stats.{behind_opens, entry_is, node_settled}
-use Rattle.inode_machine.specs.World.Op.{ReadFile}
+use Rattle.inode_machine.specs.World.Op.{LockFile, ReadFile}
 
 -- Refusals.
 
@@ -115,71 +118,38 @@ moved_names t id f g e q n k i lk li out = at (t.fds k i) refl
 abbrev pub read_step : ℕ → ℕ → List ℕ → Step
 read_step fd n b = record { move = OwnMove (Read fd n) 0; told = Some (record { act = record { step = Read fd n; answer = Bytes b }; new = 0 }) }
 
--- The part is read in a world where the hart has the inode's lock.
-pub part_good : {A : Type 0} (h more n i : ℕ) (B : List Step → Type 0) (Q : A → List Step → World → Type 0) (es : List Step) (v : World) (O : Own) (x : Held) (fd count s : ℕ) (e : Entry) (b : List ℕ) (p : P machine A)
-    → own_of h v ≡ O → O.desk.lender ≡ None → h < hart_count → Inv v → O.mine.walk ≡ None → O.mine.pending ≡ None → Behind h fd s e v → e.file.number ≡ i → O.inodes i ≡ Some x → x.disk ≡ x.node → b ≡ part_of (v.disk i) e.file.offset count
-    → ((t : Tree) → file_at t h fd ≡ Some e.file → t.nodes e.file.number ≡ v.all.nodes e.file.number → (res : Option ℕ) (par : Option (ℕ × Name)) → refusal_with t h (Read fd count) res par ≡ None)
-    → B (read_step fd count b ∷ es) → more < n
-    → ((l : ℕ) (u : World) → l + (more + 1) ≡ n → own_of h u ≡ record O { mine = record { refs = O.mine.refs; walk = None; pending = None } } → Safe machine h B Q p l (read_step fd count b ∷ es) u)
-    → Fine machine h ((h, record { move = OwnMove (Read fd count) 0; told = (made_by v.all h (new_id v) (v.harts h).walk (OwnMove (Read fd count) 0)).told }) ∷ []) more n B es v (with_made h (made_by v.all h (new_id v) (v.harts h).walk (OwnMove (Read fd count) 0)) (record v { files = put v.files s (Some (entry_moved e (length b))) }))
-    (λ l. Wp machine h B Q p l (onto (own h ((h, record { move = OwnMove (Read fd count) 0; told = (made_by v.all h (new_id v) (v.harts h).walk (OwnMove (Read fd count) 0)).told }) ∷ [])) es) (with_made h (made_by v.all h (new_id v) (v.harts h).walk (OwnMove (Read fd count) 0)) (record v { files = put v.files s (Some (entry_moved e (length b))) })))
-part_good {A} h more n i B Q es v O x fd count s e b p ov free lt inv walks none hit at_i isi same b_is goes bd pos then_ =
-    moves_good h more n B Q es v (record v { files = F }) (OwnMove (Read fd count) 0) p (made_by v.all h (new_id v) (v.harts h).walk (OwnMove (Read fd count) 0)) (record { all = T; walk = None; found = None; opened = None; entered = None; left = None; told = (read_step fd count b).told })
-    made_is
-    (fair inv (sells_did h v F v.desks v.slots T (with_walk v.harts h None None) lt inv sells))
-    (own_takes h v u (Read fd count) (Bytes b) refl refl (ap (λ (o : Own). o.mine.walk) ov ∙ walks) (λ z. refl) (λ g z. absurd cc) (
-      goes (settle v.all) (file_settled v.all h fd ∙ hit.file) settled (resolve (settle v.all) h []) (parent (settle v.all) h []),
-      sym (read_answer (settle v.all) h fd count (new_id v) b (resolve (settle v.all) h []) (parent (settle v.all) h []) part_settled),
-      record { node = λ z. absurd cc; file = λ z. absurd cc },
-      settle_less v.all v.all.fds (put v.all.files (v.ids s) (Some f)) (moved_names v.all (v.ids s) e.file f opened refl) ∙ ap (λ (z : Tree). settle z) (sym (read_effect_settled v.all h fd count 0 (v.ids s) (new_id v) e.file b (resolve (settle v.all) h []) (parent (settle v.all) h []) hit.tree opened part_settled)),
-      read_place (settle v.all) h fd count lt,
-    )
-    (ap (λ (z : Stage). z.walk) (stage_walk h None None v)))
-    bd pos
-    (λ l r. (then_ l u r owned).wp)
+-- The offset of a slot's open file moves.
+
+abbrev pub moved_world : ℕ → ℕ → ℕ → Entry → World → World
+moved_world h s by e v = record v { files = put v.files s (Some (entry_moved e by)); all = with_open v.all v.all.fds (put v.all.files (v.ids s) (Some (offset_on e.file by))); harts = with_walk v.harts h None None }
+
+pub record Moving (h s by : ℕ) (e : Entry) (v : World) (O : Own) : Type 0 where
+  pub fair : Fair h v (moved_world h s by e v)
+  pub owned : own_of h (moved_world h s by e v) ≡ record O { mine = record { refs = O.mine.refs; walk = None; pending = None } }
+
+pub moving : (h fd s by : ℕ) (e : Entry) (v : World) (O : Own) → own_of h v ≡ O → O.desk.lender ≡ None → h < hart_count → Inv v → O.mine.pending ≡ None → Behind h fd s e v → Moving h s by e v O
+moving h fd s by e v O ov free lt inv none hit = record { fair = fair inv (sells_did h v F v.desks v.slots T (with_walk v.harts h None None) lt inv sells); owned = owned }
   where
     f : OpenFile
-    f = offset_on e.file (length b)
+    f = offset_on e.file by
 
     F : ℕ → Option Entry
-    F = put v.files s (Some (entry_moved e (length b)))
+    F = put v.files s (Some (entry_moved e by))
 
     T : Tree
     T = with_open v.all v.all.fds (put v.all.files (v.ids s) (Some f))
 
-    u : World
-    u = record v { files = F; all = T; harts = with_walk v.harts h None None }
-
     opened : v.all.files (v.ids s) ≡ Some e.file
     opened = inv.tied.files s e hit.at
-
-    node : v.all.nodes e.file.number ≡ x.node
-    node = ap v.all.nodes at_i ∙ has_node h i v O x ov isi
-
-    settled : (settle v.all).nodes e.file.number ≡ v.all.nodes e.file.number
-    settled = node_settled h fd v e s inv lt hit
-
-    disk : x.node ≡ v.disk i
-    disk = sym same ∙ sym (has_disk h i v O x ov isi)
-
-    part_now : part v.all (file_at v.all h fd) count ≡ b
-    part_now = part_is v.all h fd count e.file (v.disk i) hit.file (node ∙ disk) ∙ sym b_is
-
-    part_settled : part (settle v.all) (file_at (settle v.all) h fd) count ≡ b
-    part_settled = part_is (settle v.all) h fd count e.file (v.disk i) (file_settled v.all h fd ∙ hit.file) (settled ∙ node ∙ disk) ∙ sym b_is
-
-    made_is : made_by v.all h (new_id v) (v.harts h).walk (OwnMove (Read fd count) 0) ≡ record { all = T; walk = None; found = None; opened = None; entered = None; left = None; told = (read_step fd count b).told }
-    made_is = rw (goes v.all hit.file refl (resolve v.all h []) (parent v.all h []))
-        (λ r. record { all = read_effect v.all h fd count 0 (v.ids s) (new_id v) e.file b (resolve v.all h []) (parent v.all h []) hit.tree opened part_now r; walk = None; found = None; opened = None; entered = None; left = None; told = Some (record { act = record { step = Read fd count; answer = read_answer v.all h fd count (new_id v) b (resolve v.all h []) (parent v.all h []) part_now r }; new = 0 }) })
 
     back : (j : ℕ) (d : Entry) → F j ≡ Some d → (c : Entry) × (v.files j ≡ Some c) × (d.references ≡ c.references) × (put v.all.files (v.ids s) (Some f) (v.ids j) ≡ Some d.file)
     back j d q = elim (same_or j s) [
       | inl r ↦
-          let a : Some (entry_moved e (length b)) ≡ Some d = sym (put_same v.files s (Some (entry_moved e (length b)))) ∙ ap F (sym r) ∙ q in
-          let c : entry_moved e (length b) ≡ d = cc in
+          let a : Some (entry_moved e by) ≡ Some d = sym (put_same v.files s (Some (entry_moved e by))) ∙ ap F (sym r) ∙ q in
+          let c : entry_moved e by ≡ d = cc in
           (e, ap v.files r ∙ hit.at, ap (λ (z : Entry). z.references) (sym c), ap (λ (z : ℕ). put v.all.files (v.ids s) (Some f) (v.ids z)) r ∙ put_same v.all.files (v.ids s) (Some f) ∙ ap (λ (z : Entry). Some z.file) c)
       | inr ne ↦
-          let a : v.files j ≡ Some d = sym (put_other v.files s (Some (entry_moved e (length b))) j ne) ∙ q in
+          let a : v.files j ≡ Some d = sym (put_other v.files s (Some (entry_moved e by)) j ne) ∙ q in
           (d, a, refl, put_other v.all.files (v.ids s) (Some f) (v.ids j) (λ z. ne (inv.tied.apart j s d e a hit.at z)) ∙ inv.tied.files j d a)
     ]
 
@@ -188,7 +158,7 @@ part_good {A} h more n i B Q es v O x fd count s e b p ov free lt inv walks none
     empty j q (Some d) r = absurd (let a = (back j d r).1 in cc (a, q))
 
     on : (j : ℕ) (d : Entry) → v.files j ≡ Some d → (c : Entry) × (F j ≡ Some c) × (c.file.number ≡ d.file.number)
-    on j d q = renewed_at v.files s e (entry_moved e (length b)) j d hit.at refl q
+    on j d q = renewed_at v.files s e (entry_moved e by) j d hit.at refl q
 
     sells : Sells h v F v.desks v.slots T (with_walk v.harts h None None)
     sells = record {
@@ -213,7 +183,7 @@ part_good {A} h more n i B Q es v O x fd count s e b p ov free lt inv walks none
           files = λ j d q. (back j d q).3;
           apart = λ j l c d p q r. let a = back j c p in let z = back l d q in inv.tied.apart j l a.0 z.0 a.1 z.1 r;
           counted = λ j d q. let a = back j d q in let c = inv.tied.counted j a.0 a.1 in (a.2 ∙ c.0, (let z = a.2 in let y = c.1 in omega (arith, z, y)));
-          slots = λ j. inv.tied.slots j ∙ sym (renewed_slots v.files s e (entry_moved e (length b)) j hit.at refl);
+          slots = λ j. inv.tied.slots j ∙ sym (renewed_slots v.files s e (entry_moved e by) j hit.at refl);
           spoiled = inv.tied.spoiled;
         };
         desks = λ g ne. refl;
@@ -225,12 +195,12 @@ part_good {A} h more n i B Q es v O x fd count s e b p ov free lt inv walks none
       free = ap (λ (o : Own). o.desk.lender) ov ∙ free;
       unlent = ap (λ (o : Own). o.desk.lender) ov ∙ free;
       joined = refl;
-      sorts = λ j d q. renewed_sorts v s e (entry_moved e (length b)) inv hit.at refl refl j d q;
+      sorts = λ j d q. renewed_sorts v s e (entry_moved e by) inv hit.at refl refl j d q;
       noted = λ m q. (q, (λ z. let r = refs_walk v.harts h None None h m.number in omega (arith, r, z)));
       directory = inv.directory h lt;
       home = refl;
       few = λ j. let r = refs_walk v.harts h None None h j in let a = (inv.refers h lt).few j in omega (arith, r, a);
-      well = subst (λ (z : Tree). IsWellFormed z) (λ r. record (v.all) { files = put v.all.files (v.ids s) (and_then (opened r) (λ g. Some (record g { offset = g.offset + length b }))) }) (well_moved v.all (Some (v.ids s)) (length b) inv.well);
+      well = subst (λ (z : Tree). IsWellFormed z) (λ r. record (v.all) { files = put v.all.files (v.ids s) (and_then (opened r) (λ g. Some (record g { offset = g.offset + by }))) }) (well_moved v.all (Some (v.ids s)) by inv.well);
       nodes = refl;
       size = refl;
       rows = λ g ne. moved_row v.all g (v.ids s) e.file f opened refl;
@@ -246,7 +216,7 @@ part_good {A} h more n i B Q es v O x fd count s e b p ov free lt inv walks none
       lone = λ j a. a.counts ∙ sym (refs_walk v.harts h None None a.hart j);
     }
 
-    owned : own_of h u ≡ record O { mine = record { refs = O.mine.refs; walk = None; pending = None } }
+    owned : own_of h (moved_world h s by e v) ≡ record O { mine = record { refs = O.mine.refs; walk = None; pending = None } }
     owned = λ z. record {
       inodes = ap (λ (o : Own). o.inodes) ov z;
       mine = (put_same v.harts h (record { refs = (v.harts h).refs; walk = None; pending = None }) ∙ ap (λ (o : Own). record { refs = o.mine.refs; walk = None; pending = None }) ov) z;
@@ -254,6 +224,54 @@ part_good {A} h more n i B Q es v O x fd count s e b p ov free lt inv walks none
       ninodes = ap (λ (o : Own). o.ninodes) ov z;
       desk = ap (λ (o : Own). o.desk) ov z;
     }
+
+-- The part is read in a world where the inode's record is its node.
+pub part_good : {A : Type 0} (h more n : ℕ) (B : List Step → Type 0) (Q : A → List Step → World → Type 0) (es : List Step) (v : World) (O : Own) (fd count s : ℕ) (e : Entry) (b : List ℕ) (p : P machine A)
+    → own_of h v ≡ O → O.desk.lender ≡ None → h < hart_count → Inv v → O.mine.walk ≡ None → O.mine.pending ≡ None → Behind h fd s e v → v.disk e.file.number ≡ v.all.nodes e.file.number → b ≡ part_of (v.disk e.file.number) e.file.offset count
+    → ((t : Tree) → file_at t h fd ≡ Some e.file → t.nodes e.file.number ≡ v.all.nodes e.file.number → (res : Option ℕ) (par : Option (ℕ × Name)) → refusal_with t h (Read fd count) res par ≡ None)
+    → B (read_step fd count b ∷ es) → more < n
+    → ((l : ℕ) (u : World) → l + (more + 1) ≡ n → own_of h u ≡ record O { mine = record { refs = O.mine.refs; walk = None; pending = None } } → Safe machine h B Q p l (read_step fd count b ∷ es) u)
+    → Fine machine h ((h, record { move = OwnMove (Read fd count) 0; told = (made_by v.all h (new_id v) (v.harts h).walk (OwnMove (Read fd count) 0)).told }) ∷ []) more n B es v (with_made h (made_by v.all h (new_id v) (v.harts h).walk (OwnMove (Read fd count) 0)) (record v { files = put v.files s (Some (entry_moved e (length b))) }))
+    (λ l. Wp machine h B Q p l (onto (own h ((h, record { move = OwnMove (Read fd count) 0; told = (made_by v.all h (new_id v) (v.harts h).walk (OwnMove (Read fd count) 0)).told }) ∷ [])) es) (with_made h (made_by v.all h (new_id v) (v.harts h).walk (OwnMove (Read fd count) 0)) (record v { files = put v.files s (Some (entry_moved e (length b))) })))
+part_good {A} h more n B Q es v O fd count s e b p ov free lt inv walks none hit whole b_is goes bd pos then_ =
+    moves_good h more n B Q es v (record v { files = put v.files s (Some (entry_moved e (length b))) }) (OwnMove (Read fd count) 0) p (made_by v.all h (new_id v) (v.harts h).walk (OwnMove (Read fd count) 0)) (record { all = u.all; walk = None; found = None; opened = None; entered = None; left = None; told = (read_step fd count b).told })
+    made_is
+    m.fair
+    (own_takes h v u (Read fd count) (Bytes b) refl refl (ap (λ (o : Own). o.mine.walk) ov ∙ walks) (λ z. refl) (λ g z. absurd cc) (
+      goes (settle v.all) (file_settled v.all h fd ∙ hit.file) settled (resolve (settle v.all) h []) (parent (settle v.all) h []),
+      sym (read_answer (settle v.all) h fd count (new_id v) b (resolve (settle v.all) h []) (parent (settle v.all) h []) part_settled),
+      record { node = λ z. absurd cc; file = λ z. absurd cc },
+      settle_less v.all v.all.fds (put v.all.files (v.ids s) (Some f)) (moved_names v.all (v.ids s) e.file f opened refl) ∙ ap (λ (z : Tree). settle z) (sym (read_effect_settled v.all h fd count 0 (v.ids s) (new_id v) e.file b (resolve (settle v.all) h []) (parent (settle v.all) h []) hit.tree opened part_settled)),
+      read_place (settle v.all) h fd count lt,
+    )
+    (ap (λ (z : Stage). z.walk) (stage_walk h None None v)))
+    bd pos
+    (λ l r. (then_ l u r m.owned).wp)
+  where
+    f : OpenFile
+    f = offset_on e.file (length b)
+
+    u : World
+    u = moved_world h s (length b) e v
+
+    m : Moving h s (length b) e v O
+    m = moving h fd s (length b) e v O ov free lt inv none hit
+
+    opened : v.all.files (v.ids s) ≡ Some e.file
+    opened = inv.tied.files s e hit.at
+
+    settled : (settle v.all).nodes e.file.number ≡ v.all.nodes e.file.number
+    settled = node_settled h fd v e s inv lt hit
+
+    part_now : part v.all (file_at v.all h fd) count ≡ b
+    part_now = part_is v.all h fd count e.file (v.disk e.file.number) hit.file (sym whole) ∙ sym b_is
+
+    part_settled : part (settle v.all) (file_at (settle v.all) h fd) count ≡ b
+    part_settled = part_is (settle v.all) h fd count e.file (v.disk e.file.number) (file_settled v.all h fd ∙ hit.file) (settled ∙ sym whole) ∙ sym b_is
+
+    made_is : made_by v.all h (new_id v) (v.harts h).walk (OwnMove (Read fd count) 0) ≡ record { all = u.all; walk = None; found = None; opened = None; entered = None; left = None; told = (read_step fd count b).told }
+    made_is = rw (goes v.all hit.file refl (resolve v.all h []) (parent v.all h []))
+        (λ r. record { all = read_effect v.all h fd count 0 (v.ids s) (new_id v) e.file b (resolve v.all h []) (parent v.all h []) hit.tree opened part_now r; walk = None; found = None; opened = None; entered = None; left = None; told = Some (record { act = record { step = Read fd count; answer = read_answer v.all h fd count (new_id v) b (resolve v.all h []) (parent v.all h []) part_now r }; new = 0 }) })
 
 -- What the table says of a descriptor is what the tree does.
 
@@ -273,49 +291,127 @@ read_as_table t h fd n e res par file sort = go e.file.readable refl
     go false q = read_mode t h fd n e.file res par file q ∙ (λ i. mode_refusal (sym q i) e.sort)
     go true q = read_kind t h fd n e.file (no_driver_for e.sort) res par file q (sort_driver (t.nodes e.file.number) e.sort sort) ∙ (λ i. mode_refusal (sym q i) e.sort)
 
-pub s-read-file : {A : Type 0} {h : ℕ} (fd count : ℕ) {k : Readout → P machine A} {B : List Step → Type 0} {Q : A → List Step → World → Type 0} {n : ℕ} {es : List Step} {w : World} {O : Own}
-    → own_of h w ≡ O → O.desk.lender ≡ None → h < hart_count → 1611 < n → count ≤ asked_limit → O.mine.walk ≡ None → O.mine.pending ≡ None → O.desk.opening ≡ None → ((j : ℕ) → O.inodes j ≡ None)
-    → ((c : Cause) → B (fails (Read fd count) c ∷ es)) → ((b : List ℕ) → B (read_step fd count b ∷ es))
-    → ((l : ℕ) (c : Cause) (u : World) → l + 1612 ≡ n → own_of h u ≡ record O { mine = record { refs = O.mine.refs; walk = None; pending = None } } → Safe machine h B Q (k (NotRead c)) l (fails (Read fd count) c ∷ es) u)
-    → ((l i : ℕ) (b : List ℕ) (x : Option Node) (u : World) → l + 1612 ≡ n → own_of h u ≡ record O { inodes = put O.inodes i (Some (locked_held x)); mine = record { refs = O.mine.refs; walk = None; pending = None } } → Safe machine h B Q (k (PartOf i b)) l (read_step fd count b ∷ es) u)
-    → Safe machine h B Q (Do (ReadFile fd count) (λ a. own_step (Read fd count)) k) n es w
-s-read-file {A} {h} fd count {k} {B} {Q} {n} {es} {w} {O} owns free lt pos asked walks none idle empty bf bd bad then_ = s-owned owns free pos (λ v inv ov. ((locks_none h v O inv ov (λ i x q. absurd (let a = empty i in cc (a, q))), asked), (λ _ _. at v inv ov (slot_at v h fd) refl)))
+-- A descriptor of the hart's own, with its inode.
+pub record IsOpenAt (O : Own) (fd n : ℕ) : Type 0 where
+  pub slot : ℕ
+  pub below : fd < descriptor_count
+  pub is : O.desk.fds fd ≡ Some slot
+  pub key : Key
+  pub at : O.row.keys fd ≡ Some key
+  pub number : key.number ≡ n
+
+pub slot_is : (h fd n : ℕ) (v : World) (O : Own) (k : IsOpenAt O fd n) → own_of h v ≡ O → slot_at v h fd ≡ Some k.slot
+slot_is h fd n v O k ov = rw (below_is fd descriptor_count k.below) (ap (λ (o : Own). o.desk.fds fd) ov ∙ k.is)
+
+pub entry_here : (h fd n : ℕ) (v : World) (O : Own) (k : IsOpenAt O fd n) → Inv v → own_of h v ≡ O → h < hart_count → O.desk.opening ≡ None → (e : Entry) × Behind h fd k.slot e v × (key_is e.file ≡ k.key)
+entry_here h fd n v O k inv ov lt idle =
+    let b = behind h fd k.slot v inv lt (ap (λ (o : Own). o.desk.opening) ov ∙ idle) (slot_is h fd n v O k ov) in
+    let here = key_from v.all h fd (v.ids k.slot) b.0.file lt k.below b.1.tree (inv.tied.files k.slot b.0 b.1.at) in
+    let same : Some (key_is b.0.file) ≡ Some k.key = sym here ∙ ap (λ (o : Own). o.row.keys fd) ov ∙ k.at in
+    (b.0, b.1, cc)
+
+abbrev pub open_from : (h fd s : ℕ) (e : Entry) (v : World) (O : Own) → Inv v → own_of h v ≡ O → h < hart_count → Behind h fd s e v → IsOpenAt O fd e.file.number
+open_from h fd s e v O inv ov lt hit = record {
+  slot = s;
+  below = hit.below;
+  is = ap (λ (o : Own). o.desk.fds fd) (sym ov) ∙ hit.is;
+  key = key_is e.file;
+  at = ap (λ (o : Own). o.row.keys fd) (sym ov) ∙ key_from v.all h fd (v.ids s) e.file lt hit.below hit.tree (inv.tied.files s e hit.at);
+  number = refl;
+}
+
+-- That is open for reading, where its inode has this node.
+pub record IsReadable (O : Own) (fd n : ℕ) (x : Option Node) : Type 0 where
+  pub opened : IsOpenAt O fd n
+  pub readable : opened.key.readable ≡ true
+  pub read : (s : Sort) → sort_of x ≡ Some s → no_driver_for s ≡ None
+
+reads_from : (r : Bool) (s : Sort) → mode_refusal r s ≡ None → (r ≡ true) × (no_driver_for s ≡ None)
+reads_from true s e = (refl, e)
+reads_from false s e = absurd cc
+
+-- The lock of what a descriptor names is taken to read it; or the read is refused.
+pub s-lock-file : {A : Type 0} {h : ℕ} (fd count : ℕ) {k : Lockup → P machine A} {B : List Step → Type 0} {Q : A → List Step → World → Type 0} {n : ℕ} {es : List Step} {w : World} {O : Own}
+    → own_of h w ≡ O → O.desk.lender ≡ None → h < hart_count → 3 < n → O.mine.walk ≡ None → O.mine.pending ≡ None → O.desk.opening ≡ None → ((j : ℕ) → O.inodes j ≡ None)
+    → ((c : Cause) → B (fails (Read fd count) c ∷ es))
+    → ((l : ℕ) (c : Cause) (u : World) → l + 4 ≡ n → own_of h u ≡ record O { mine = record { refs = O.mine.refs; walk = None; pending = None } } → Safe machine h B Q (k (NotLocked c)) l (fails (Read fd count) c ∷ es) u)
+    → ((l i : ℕ) (x : Option Node) (u : World) → l + 4 ≡ n → IsReadable O fd i x → own_of h u ≡ record O { inodes = put O.inodes i (Some (locked_held x)) } → Safe machine h B Q (k (LocksIt i)) l es u)
+    → Safe machine h B Q (Do (LockFile fd) (refused_read fd count) k) n es w
+s-lock-file {A} {h} fd count {k} {B} {Q} {n} {es} {w} {O} owns free lt pos walks none idle empty bf bad then_ = s-owned owns free pos (λ v inv ov. (locks_none h v O inv ov (λ i x q. absurd (let a = empty i in cc (a, q))), (λ _ _. at v inv ov (slot_at v h fd) refl)))
   where
-    Goal : World → Came Readout World → Type 0
-    Goal v z = Good machine Readout h (λ a. places h (ReadFile fd count) a (own_step (Read fd count)) v) 1611 n B es v (EntryOut h v (entry_of v h fd)) (with_mark h (λ (_ : Readout). own_step (Read fd count)) z) (λ l a u. Wp machine h B Q (k a) l (onto (own h (places h (ReadFile fd count) a (own_step (Read fd count)) v)) es) u)
+    Goal : World → Came Lockup World → Type 0
+    Goal v z = Good machine Lockup h (λ a. places h (LockFile fd) a (refused_read fd count a) v) 3 n B es v (EntryOut h v (entry_of v h fd)) (with_mark h (refused_read fd count) z) (λ l a u. Wp machine h B Q (k a) l (onto (own h (places h (LockFile fd) a (refused_read fd count a) v)) es) u)
 
     opening_none : (v : World) → own_of h v ≡ O → (v.desks h).opening ≡ None
     opening_none v ov = ap (λ (o : Own). o.desk.opening) ov ∙ idle
 
-    told : (v : World) → Inv v → own_of h v ≡ O → (s : ℕ) (e : Entry) → slot_at v h fd ≡ Some s → Behind h fd s e v → read_refused (Some e) ≡ None → (r : Option ℕ) → v.lock e.file.number ≡ r
-        → Goal v (lock_if h e.file.number (PartOf e.file.number (part_of (v.disk e.file.number) e.file.offset count)) v (with_offset (locked h e.file.number v) (Some s) e (length (part_of (v.disk e.file.number) e.file.offset count))) r)
-    told v inv ov s e q hit goes (Some g) r = subst (λ (z : Option Entry). EntryOut h v z) (sym (entry_is h fd s e v q hit)) (is_out h e.file.number g v O inv ov (empty e.file.number) r)
-    told v inv ov s e q hit goes None r =
-        fine_after a.fair refl
-        (part_good h 1611 n e.file.number B Q es u (record O { inodes = put O.inodes e.file.number (Some (locked_held (v.all.nodes e.file.number))) }) (locked_held (v.all.nodes e.file.number)) fd count s e (part_of (v.disk e.file.number) e.file.offset count) (k (PartOf e.file.number (part_of (v.disk e.file.number) e.file.offset count)))
-        a.owned free lt a.fair.inv walks none
-        (record { below = hit.below; is = hit.is; at = hit.at; tree = hit.tree; file = hit.file }) refl (put_same O.inodes e.file.number (Some (locked_held (v.all.nodes e.file.number)))) refl refl
-        (λ t file nodes res par. read_as_table t h fd count e res par file (ap (λ (z : Option Node). sort_of z) nodes ∙ inv.sorts s e hit.at) ∙ goes)
-        (bd (part_of (v.disk e.file.number) e.file.offset count)) pos
-        (λ l w2 p own2. then_ l e.file.number (part_of (v.disk e.file.number) e.file.offset count) (v.all.nodes e.file.number) w2 p own2))
-      where
-        u : World
-        u = locked h e.file.number v
+    had : (v : World) → Inv v → own_of h v ≡ O → (s : ℕ) (e : Entry) → slot_at v h fd ≡ Some s → Behind h fd s e v → read_refused (Some e) ≡ None → (r : Option ℕ) → v.lock e.file.number ≡ r
+        → Goal v (lock_if h e.file.number (LocksIt e.file.number) v (locked h e.file.number v) r)
+    had v inv ov s e q hit goes (Some g) r = subst (λ (z : Option Entry). EntryOut h v z) (sym (entry_is h fd s e v q hit)) (is_out h e.file.number g v O inv ov (empty e.file.number) r)
+    had v inv ov s e q hit goes None r =
+        let a = locking h e.file.number v O ov free lt inv (empty e.file.number) (inl (behind_opens h fd s e v hit)) r in
+        let m = reads_from e.file.readable e.sort goes in
+        quiet a.fair refl pos (λ l p. (then_ l e.file.number (v.all.nodes e.file.number) (locked h e.file.number v) p
+        (record {
+          opened = open_from h fd s e v O inv ov lt hit;
+          readable = m.0;
+          read = λ z is. let same : Some z ≡ Some e.sort = sym is ∙ inv.sorts s e hit.at in let eq : z ≡ e.sort = cc in ap no_driver_for eq ∙ m.1;
+        })
+        a.owned).wp)
 
-        a : Locking h e.file.number v O
-        a = locking h e.file.number v O ov free lt inv (empty e.file.number) (inl (behind_opens h fd s e v hit)) r
-
-    by_cause : (v : World) → Inv v → own_of h v ≡ O → (s : ℕ) (e : Entry) → slot_at v h fd ≡ Some s → Behind h fd s e v → (o : Option Cause) → read_refused (Some e) ≡ o → Goal v (read_at h v count (Some s) (Some e) o)
-    by_cause v inv ov s e q hit None goes = told v inv ov s e q hit goes (v.lock e.file.number) refl
+    by_cause : (v : World) → Inv v → own_of h v ≡ O → (s : ℕ) (e : Entry) → slot_at v h fd ≡ Some s → Behind h fd s e v → (o : Option Cause) → read_refused (Some e) ≡ o → Goal v (lock_at h v (Some e) o)
+    by_cause v inv ov s e q hit None goes = had v inv ov s e q hit goes (v.lock e.file.number) refl
     by_cause v inv ov s e q hit (Some c) stops =
-        refused_good h 1611 n B Q es v O (Read fd count) c (k (NotRead c)) ov free lt inv walks none
+        refused_good h 3 n B Q es v O (Read fd count) c (k (NotLocked c)) ov free lt inv walks none
         (read_refused_at h fd count c v lt
         (λ res par. read_as_table v.all h fd count e res par hit.file (inv.sorts s e hit.at) ∙ stops)
         (λ res par. read_as_table (settle v.all) h fd count e res par (file_settled v.all h fd ∙ hit.file) (ap (λ (z : Option Node). sort_of z) (node_settled h fd v e s inv lt hit) ∙ inv.sorts s e hit.at) ∙ stops))
         (bf c) pos (λ l u p own2. bad l c u p own2)
 
-    at : (v : World) → Inv v → own_of h v ≡ O → (o : Option ℕ) → slot_at v h fd ≡ o → Goal v (read_at h v count o (entry_at v.files o) (read_refused (entry_at v.files o)))
-    at v inv ov None q = refused_good h 1611 n B Q es v O (Read fd count) BadDescriptor (k (NotRead BadDescriptor)) ov free lt inv walks none (refused_none h fd count v lt (behind_none h fd v inv lt (opening_none v ov) q)) (bf BadDescriptor) pos (λ l u p own2. bad l BadDescriptor u p own2)
+    at : (v : World) → Inv v → own_of h v ≡ O → (o : Option ℕ) → slot_at v h fd ≡ o → Goal v (lock_at h v (entry_at v.files o) (read_refused (entry_at v.files o)))
+    at v inv ov None q = refused_good h 3 n B Q es v O (Read fd count) BadDescriptor (k (NotLocked BadDescriptor)) ov free lt inv walks none (refused_none h fd count v lt (behind_none h fd v inv lt (opening_none v ov) q)) (bf BadDescriptor) pos (λ l u p own2. bad l BadDescriptor u p own2)
     at v inv ov (Some s) q =
         let b = behind h fd s v inv lt (opening_none v ov) q in
-        subst (λ (z : Option Entry). Goal v (read_at h v count (Some s) z (read_refused z))) (sym b.1.at) (by_cause v inv ov s b.0 q b.1 (read_refused (Some b.0)) refl)
+        subst (λ (z : Option Entry). Goal v (lock_at h v z (read_refused z))) (sym b.1.at) (by_cause v inv ov s b.0 q b.1 (read_refused (Some b.0)) refl)
+
+-- The part is read, the offset moves, and the lock is given up.
+pub s-read-file : {A : Type 0} {h : ℕ} (fd i count : ℕ) (x : Option Node) {k : List ℕ → P machine A} {B : List Step → Type 0} {Q : A → List Step → World → Type 0} {n : ℕ} {es : List Step} {w : World} {O : Own}
+    → own_of h w ≡ O → O.desk.lender ≡ None → h < hart_count → 1608 < n → count ≤ asked_limit → O.mine.walk ≡ None → O.mine.pending ≡ None → O.desk.opening ≡ None → O.inodes i ≡ Some (locked_held x) → IsReadable O fd i x
+    → ((b : List ℕ) → B (read_step fd count b ∷ es))
+    → ((l : ℕ) (b : List ℕ) (u : World) → l + 1609 ≡ n → own_of h u ≡ record O { inodes = put O.inodes i None; mine = record { refs = O.mine.refs; walk = None; pending = None } } → Safe machine h B Q (k b) l (read_step fd count b ∷ es) u)
+    → Safe machine h B Q (Do (ReadFile fd i count) (λ b. own_step (Read fd count)) k) n es w
+s-read-file {A} {h} fd i count x {k} {B} {Q} {n} {es} {w} {O} owns free lt pos asked walks none idle isi key bd then_ = s-owned owns free pos (λ v inv ov.
+    let z = entry_here h fd i v O key.opened inv ov lt idle in
+    let e : Entry = z.0 in
+    let number : e.file.number ≡ i = ap (λ (q : Key). q.number) z.2 ∙ key.opened.number in
+    let readable : e.file.readable ≡ true = ap (λ (q : Key). q.readable) z.2 ∙ key.readable in
+    let sort : sort_of (v.all.nodes e.file.number) ≡ Some e.sort = inv.sorts key.opened.slot e z.1.at in
+    let goes : read_refused (Some e) ≡ None = (λ r. mode_refusal (readable r) e.sort) ∙ key.read e.sort (ap (λ (o : Option Node). sort_of o) (sym (ap v.all.nodes number ∙ has_node h i v O (locked_held x) ov isi)) ∙ sort) in
+    ((locks_it h i v O (locked_held x) ov isi refl, record { entry = e; at = entry_is h fd key.opened.slot e v (slot_is h fd i v O key.opened ov) z.1; number = number; readable = goes }, asked), (λ _ _. at v inv ov e z.1 number goes)))
+  where
+    Goal : World → Came (List ℕ) World → Type 0
+    Goal v z = Good machine (List ℕ) h (λ a. places h (ReadFile fd i count) a (own_step (Read fd count)) v) 1608 n B es v ⊥ (with_mark h (λ (_ : List ℕ). own_step (Read fd count)) z) (λ l a u. Wp machine h B Q (k a) l (onto (own h (places h (ReadFile fd i count) a (own_step (Read fd count)) v)) es) u)
+
+    O1 : Own
+    O1 = record O { inodes = put O.inodes i None }
+
+    told : (v : World) → Inv v → own_of h v ≡ O → (e : Entry) → Behind h fd key.opened.slot e v → e.file.number ≡ i → read_refused (Some e) ≡ None
+        → Goal v (Ran (part_of (v.disk i) e.file.offset count) (with_offset (after_unlock i v) (Some key.opened.slot) e (length (part_of (v.disk i) e.file.offset count))))
+    told v inv ov e hit number goes =
+        let g = gives h i (locked_held x) O v free lt inv ov isi refl refl none in
+        let here : v.disk i ≡ v.all.nodes i = has_disk h i v O (locked_held x) ov isi ∙ sym (has_node h i v O (locked_held x) ov isi) in
+        fine_after g.fair refl
+        (part_good h 1608 n B Q es (after_unlock i v) O1 fd count key.opened.slot e (part_of (v.disk i) e.file.offset count) (k (part_of (v.disk i) e.file.offset count))
+        g.owned free lt g.fair.inv walks none
+        (record { below = hit.below; is = hit.is; at = hit.at; tree = hit.tree; file = hit.file }) (ap v.disk number ∙ here ∙ sym (ap v.all.nodes number)) (λ r. part_of (v.disk (sym number r)) e.file.offset count)
+        (λ t file nodes res par. read_as_table t h fd count e res par file (ap (λ (z : Option Node). sort_of z) nodes ∙ inv.sorts key.opened.slot e hit.at) ∙ goes)
+        (bd (part_of (v.disk i) e.file.offset count)) pos
+        (λ l u p own2. then_ l (part_of (v.disk i) e.file.offset count) u p own2))
+
+    at : (v : World) → Inv v → own_of h v ≡ O → (e : Entry) → Behind h fd key.opened.slot e v → e.file.number ≡ i → read_refused (Some e) ≡ None → Goal v (read_at v i count (slot_at v h fd) (entry_of v h fd))
+    at v inv ov e hit number goes =
+        let shared : v.alone i ≡ false = ap (λ (y : Held). y.alone) (has_inode h i v O (locked_held x) ov isi).1 in
+        subst (λ (o : Option ℕ). Goal v (read_at v i count o (entry_at v.files o))) (sym (slot_is h fd i v O key.opened ov))
+        (subst (λ (o : Option Entry). Goal v (read_at v i count (Some key.opened.slot) o)) (sym hit.at)
+        (subst (λ (b : Bool). Goal v (Ran (part_of (v.disk i) e.file.offset count) (with_offset (unlocked i v b) (Some key.opened.slot) e (length (part_of (v.disk i) e.file.offset count))))) (sym shared)
+        (told v inv ov e hit number goes)))

@@ -18,9 +18,8 @@ use Rattle.plain_tree.specs.Calls.{Act, cause_of, last_cause, first_cause, had_r
 use Rattle.std.proofs.Math.Nat.{le-div_iff_mul-le}
 use Rattle.std.proofs.Math.Numerals.{add-one}
 use Rattle.atomic_programs.specs.Prog.{Do, unmarked}
-use Rattle.plain_tree.specs.declared.node.Node.{Node}
 use Rattle.tree_laws.proofs.Maps.{either, eq_isnt, same_or, put_same}
-use Rattle.inode_machine.specs.World.Op.{Give, Leave}
+use Rattle.inode_machine.specs.World.Op.{Leave}
 use Rattle.inode_machine.proofs.Resting.{given_is, idle_as, unlocks_nothing}
 use Rattle.tree_moves.specs.Moves.{Step, Played, Written}
 use Rattle.inode_machine.specs.World.{World}
@@ -31,9 +30,8 @@ use Rattle.inode_machine.specs.Programs.{piece_cost}
 use Rattle.inode_machine.specs.Theory.{descriptor_calls}
 use Rattle.inode_machine.proofs.Rules.{locked_held}
 use Rattle.inode_machine.proofs.Rows.{below_is}
-use Rattle.inode_machine.proofs.Counting.{s-give}
 use Rattle.inode_machine.proofs.Dups.{fails, s-join, s-leave, s-say}
-use Rattle.inode_machine.proofs.Writings.{wrote_step, IsWritable, s-check-file, s-join-file, s-write-file}
+use Rattle.inode_machine.proofs.Writings.{wrote_step, IsWritable, s-check-file, s-join-file, s-lock-open, s-write-file}
 
 -- Lists of acts that grow at their end.
 
@@ -198,15 +196,14 @@ rests_joins O r = record { inodes = r.inodes; refs = r.refs; walk = r.walk; pend
 rests_still : (O : Own) → Rests O → Rests (record O { mine = record { refs = O.mine.refs; walk = None; pending = None } })
 rests_still O r = record { inodes = r.inodes; refs = r.refs; walk = refl; pending = refl; hold = r.hold; hand = r.hand; joined = r.joined; lent = r.lent; opening = r.opening; left = r.left; noted = r.noted }
 
--- the inode is given up, and the transaction left
-s-release : {A : Type 0} {h : ℕ} (O : Own) (i : ℕ) (x : Option Node) {p : P machine A} {B : List Step → Type 0} {Q : A → List Step → World → Type 0} {n : ℕ} {es : List Step} {w : World}
-    → own_of h w ≡ record O { inodes = put O.inodes i (Some (locked_held x)); mine = record { refs = O.mine.refs; walk = None; pending = None } } → O.desk.lender ≡ None → h < hart_count → 63 < n → O.inodes ≡ nothing → O.desk.joined ≡ true
-    → ((l : ℕ) (u : World) → l + 64 ≡ n → own_of h u ≡ unjoined (given O) → Safe machine h B Q p l es u)
-    → Safe machine h B Q (Do (Give i) unmarked (λ _. Do Leave unmarked (λ _. p))) n es w
-s-release O i x own free lt pos empty joined rest =
-    s-give own free lt (omega (arith, pos)) (put_same O.inodes i (Some (locked_held x))) refl refl refl refl (λ l u q own2.
-    s-leave (own2 ∙ (λ r. record O { inodes = given_is O.inodes i (Some (locked_held x)) empty r; mine = record { refs = O.mine.refs; walk = None; pending = None } })) free lt (omega (arith, pos, q)) (unlocks_nothing nothing refl) joined
-    (λ j y is. absurd (let a : ◌≡◌ {A = Option Held} None (Some y) = is in cc)) (λ l2 u2 q2 own3. rest l2 u2 (omega (arith, q, q2)) own3))
+-- once the inode is given up the transaction is left
+s-leaves : {A : Type 0} {h : ℕ} (O : Own) (i : ℕ) (x : Option Held) {p : P machine A} {B : List Step → Type 0} {Q : A → List Step → World → Type 0} {n : ℕ} {es : List Step} {w : World}
+    → own_of h w ≡ record O { inodes = put (put O.inodes i x) i None; mine = record { refs = O.mine.refs; walk = None; pending = None } } → O.desk.lender ≡ None → h < hart_count → 62 < n → O.inodes ≡ nothing → O.desk.joined ≡ true
+    → ((l : ℕ) (u : World) → l + 63 ≡ n → own_of h u ≡ unjoined (given O) → Safe machine h B Q p l es u)
+    → Safe machine h B Q (Do Leave unmarked (λ _. p)) n es w
+s-leaves O i x own free lt pos empty joined rest =
+    s-leave (own ∙ (λ r. record O { inodes = given_is O.inodes i x empty r; mine = record { refs = O.mine.refs; walk = None; pending = None } })) free lt pos (unlocks_nothing nothing refl) joined
+    (λ j y is. absurd (let a : ◌≡◌ {A = Option Held} None (Some y) = is in cc)) rest
 
 piece_short : (bytes : List ℕ) (i : ℕ) → length (piece bytes i) ≤ piece_width
 piece_short bytes i = let a = length-take piece_width (drop (piece_width * i) bytes) in omega (arith, a)
@@ -217,12 +214,14 @@ s-piece : {h : ℕ} (fd n : ℕ) (bytes : List ℕ) (i : ℕ) (O : Own) {more : 
     → ((l : ℕ) (u : World) → l + 165 ≡ N → own_of h u ≡ unjoined (given O) → Safe machine h (Begun descriptor_calls (calls.Write fd bytes)) (Ends descriptor_calls h (calls.Write fd bytes)) more l (wrote_steps fd bytes (suc i)) u)
     → Safe machine h (Begun descriptor_calls (calls.Write fd bytes)) (Ends descriptor_calls h (calls.Write fd bytes)) (write_piece fd n bytes i more) N (wrote_steps fd bytes i) w
 s-piece {h} fd n bytes i O own free lt pos joined rests key below rest =
-    s-write-file fd n (piece bytes i) own free lt (omega (arith, pos)) rests.walk rests.pending rests.opening (λ j. ap (λ (f : ℕ → Option Held). f j) rests.inodes) joined key (piece_short bytes i) (λ c. begun_failed fd bytes i c below) (begun_wrote fd bytes i below)
-    (λ l c x u q own2. s-release O n x own2 free lt (omega (arith, pos, q)) rests.inodes joined (λ l2 u2 q2 own3.
-    s-say own3 free lt (omega (arith, pos, q, q2)) (unlocks_nothing nothing refl) refl (λ l3 u3 q3 _ own4. record { wp = (λ _. failed_written fd bytes i c below, idle_as h u3 _ own4 (rests_again O rests)) })))
-    (λ l j x u q dirty own2. s-release (filled O) n x own2 free lt (omega (arith, pos, q)) rests.inodes joined (λ l2 u2 q2 own3.
-    s-say own3 free lt (omega (arith, pos, q, q2)) (unlocks_nothing nothing refl) refl (λ l3 u3 q3 spoilt own4. record { wp = (λ c. absurd (let a = spoilt refl in cc (a, c)), idle_as h u3 _ own4 (rests_filled O rests)) })))
-    (λ l x u q own2. s-release O n x own2 free lt (omega (arith, pos, q)) rests.inodes joined (λ l2 u2 q2 own3. rest l2 u2 (omega (arith, q, q2)) own3))
+    s-lock-open fd n own free lt (omega (arith, pos)) rests.opening (λ j. ap (λ (f : ℕ → Option Held). f j) rests.inodes) key (λ l0 x u0 q0 own0.
+    s-write-file fd n (piece bytes i) x own0 free lt (omega (arith, pos, q0)) rests.walk rests.pending rests.opening (put_same O.inodes n (Some (locked_held (Some x)))) joined
+    (record { opened = record { slot = key.opened.slot; below = key.opened.below; is = key.opened.is; key = key.opened.key; at = key.opened.at; number = key.opened.number }; writable = key.writable }) (piece_short bytes i) (λ c. begun_failed fd bytes i c below) (begun_wrote fd bytes i below)
+    (λ l c u q own2. s-leaves O n (Some (locked_held (Some x))) own2 free lt (omega (arith, pos, q0, q)) rests.inodes joined (λ l2 u2 q2 own3.
+    s-say own3 free lt (omega (arith, pos, q0, q, q2)) (unlocks_nothing nothing refl) refl (λ l3 u3 q3 _ own4. record { wp = (λ _. failed_written fd bytes i c below, idle_as h u3 _ own4 (rests_again O rests)) })))
+    (λ l j u q dirty own2. s-leaves (filled O) n (Some (locked_held (Some x))) own2 free lt (omega (arith, pos, q0, q)) rests.inodes joined (λ l2 u2 q2 own3.
+    s-say own3 free lt (omega (arith, pos, q0, q, q2)) (unlocks_nothing nothing refl) refl (λ l3 u3 q3 spoilt own4. record { wp = (λ c. absurd (let a = spoilt refl in cc (a, c)), idle_as h u3 _ own4 (rests_filled O rests)) })))
+    (λ l u q own2. s-leaves O n (Some (locked_held (Some x))) own2 free lt (omega (arith, pos, q0, q)) rests.inodes joined (λ l2 u2 q2 own3. rest l2 u2 (omega (arith, q0, q, q2)) own3)))
 
 -- The pieces from one on.
 from_ok : (h fd n : ℕ) (bytes : List ℕ) (left i N : ℕ) (O : Own) (w : World) → own_of h w ≡ O → O.desk.lender ≡ None → h < hart_count → O.desk.joined ≡ true → Rests (unjoined O) → IsWritable O fd n → i + left + 1 ≡ piece_count bytes → 200 * left + 200 ≤ N
@@ -234,7 +233,7 @@ from_ok h fd n bytes (suc left) i N O w own free lt joined rests key count enoug
     s-piece fd n bytes i O own free lt (omega (arith, enough)) joined rests key (omega (arith, count)) (λ l u q own2.
     s-join own2 free lt (omega (arith, enough, q)) (unlocks_nothing nothing refl) refl (λ l2 u2 q2 own3.
     subst (λ (k : ℕ). Safe machine h (Begun descriptor_calls (calls.Write fd bytes)) (Ends descriptor_calls h (calls.Write fd bytes)) (write_from fd n bytes left (i + 1)) l2 (wrote_steps fd bytes k) u2) (add-one i)
-    (from_ok h fd n bytes left (i + 1) l2 (again O) u2 own3 free lt refl (rests_again O rests) (record { slot = key.slot; below = key.below; is = key.is; key = key.key; at = key.at; number = key.number; writable = key.writable }) (omega (arith, count)) (omega (arith, enough, q, q2)))))
+    (from_ok h fd n bytes left (i + 1) l2 (again O) u2 own3 free lt refl (rests_again O rests) (record { opened = record { slot = key.opened.slot; below = key.opened.below; is = key.opened.is; key = key.opened.key; at = key.opened.at; number = key.opened.number }; writable = key.writable }) (omega (arith, count)) (omega (arith, enough, q, q2)))))
 
 some_pieces : (bytes : List ℕ) → 0 < piece_count bytes
 some_pieces bytes = go (length bytes)
@@ -261,5 +260,5 @@ write_ok h fd (b ∷ bs) w free lt idle =
     s-join-file fd (piece (b ∷ bs) 0) refl free lt (omega (arith, some)) idle.walk idle.pending idle.opening (unlocks_nothing (own_of h w).inodes idle.inodes) idle.joined (λ c. begun_failed fd (b ∷ bs) 0 c some)
     (λ l c u q own. record { wp = (λ _. failed_written fd (b ∷ bs) 0 c some, idle_as h u _ own (rests_still (own_of h w) idle)) })
     (λ l i u q key own.
-    from_ok h fd i (b ∷ bs) (piece_count (b ∷ bs) - 1) 0 l (joins (own_of h w)) u own free lt refl (rests_joins (own_of h w) idle) (record { slot = key.slot; below = key.below; is = key.is; key = key.key; at = key.at; number = key.number; writable = key.writable })
+    from_ok h fd i (b ∷ bs) (piece_count (b ∷ bs) - 1) 0 l (joins (own_of h w)) u own free lt refl (rests_joins (own_of h w) idle) (record { opened = record { slot = key.opened.slot; below = key.opened.below; is = key.opened.is; key = key.opened.key; at = key.opened.at; number = key.opened.number }; writable = key.writable })
     (omega (arith, some)) (enough_left (piece_count (b ∷ bs)) l _ some q refl))

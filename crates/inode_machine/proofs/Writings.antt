@@ -1,152 +1,41 @@
--- Write: a descriptor is looked up, its inode locked, a piece written at the offset, and the offset moves.
+-- Write: a descriptor is looked up, its inode locked, a piece written at the offset, and the offset moves, with the lock given up.
 use Rattle.std.proofs.Common.{◌≡◌, inl, inr, ℕ, ◌+◌, ◌-◌, ◌<◌, ◌≤◌, Bool, true, false, List, [], ◌∷◌, take, length, Option, Some, None, refl, sym, ◌∙◌, ap, subst, arith}
-use Rattle.atomic_programs.specs.Prog.{Do, Ran, Did as Came}
+use Rattle.atomic_programs.specs.Prog.{Do, Ran, unmarked, Did as Came}
 use Rattle.atomic_programs.specs.Logic.{P, own, onto, Good, Fine, Safe, Wp}
 use Rattle.plain_tree.specs.declared.answer.Cause.{Cause}
 use Rattle.plain_tree.specs.declared.answer.Cause.TheVariants.{BadDescriptor}
 use Rattle.plain_tree.specs.declared.node.Node.{Node}
-use Rattle.plain_tree.specs.declared.tree.OpenFile.{OpenFile}
 use Rattle.plain_tree.specs.declared.step.Action.TheVariants.{WritePart}
 use Rattle.plain_tree.specs.declared.step.StepAnswer.TheVariants.{Done}
-use Rattle.plain_tree.specs.Widths.{hart_count, descriptor_count, piece_width}
-use Rattle.plain_tree.specs.Tree.{Name, Tree, put, and_then, is_live, settle, resolve, parent}
+use Rattle.plain_tree.specs.Widths.{hart_count, piece_width}
+use Rattle.plain_tree.specs.Tree.{Name, Tree, put, is_live, settle, resolve, parent}
 use Rattle.plain_tree.specs.Steps.{node_or, refusal_with, with_nodes, write_kind}
 use Rattle.tree_laws.specs.WellFormed.{IsWellFormed}
 use Rattle.tree_laws.proofs.Maps.{same_or, put_same, put_other}
-use Rattle.tree_laws.proofs.Sums.{sum_same}
-use Rattle.tree_laws.proofs.Opened.{well_moved}
 use Rattle.tree_moves.specs.Moves.{Stage, Step, Takes}
 use Rattle.tree_moves.specs.Moves.Move.{Own as OwnMove}
-use Rattle.inode_machine.specs.World.{Mine, Entry, Desk, World, stage_of, Outside, Room, RoomFor, Picks, Joining, NotJoined, Joined, Wrote, Whole, Refused as Stopped, Short}
-use Rattle.inode_machine.specs.World.Op.{CheckFile, JoinFile, WriteFile}
+use Rattle.inode_machine.specs.World.{Entry, Desk, World, stage_of, Outside, Room, RoomFor, Picks, Joining, NotJoined, Joined, Wrote, Whole, Refused as Stopped, Short}
+use Rattle.inode_machine.specs.World.Op.{CheckFile, JoinFile, LockOpen, WriteFile}
 use Rattle.inode_machine.specs.Inodes.{Sort, sort_of}
 use Rattle.inode_machine.specs.Marks.{Made, places, with_mark, made_by, new_id, with_made, spoiled}
-use Rattle.inode_machine.specs.Exec.{with_walk, slot_at, entry_at, entry_moved, entry_of, lock_if, locked, join_at, with_joined, with_bytes, mode_refusal, write_at, write_if, write_refused}
-use Rattle.plain_tree.specs.HartRow.{Key, Row, key_is}
-use Rattle.plain_tree.proofs.RowLemmas.{key_from}
-use Rattle.plain_tree.proofs.Settling.{with_open, file_settled, settle_again}
-use Rattle.inode_machine.specs.Rules.{Own, own_names, Held, view, is_hart, own_of, shop_of, Inv, machine, IsOut, HonestPiece}
+use Rattle.inode_machine.specs.Exec.{slot_at, entry_at, entry_of, lock_if, locked, join_at, unlocked, with_joined, with_bytes, with_offset, with_record, with_walk, mode_refusal, write_at, write_if, write_refused}
+use Rattle.plain_tree.specs.HartRow.{Key}
+use Rattle.plain_tree.proofs.Settling.{file_settled, settle_again}
+use Rattle.inode_machine.specs.Rules.{Own, Held, view, is_hart, own_of, shop_of, Inv, machine, IsOut, HonestPiece}
 use Rattle.inode_machine.specs.Parts.{own_step}
 use Rattle.inode_machine.specs.Descriptors.{refused_to, writes}
 use Rattle.inode_machine.proofs.Frame.{put_elim, is_put, shop_same, ours_some, kept_here, Did, Fair, fair, fair_then, own_inodes, has_inode, stands_in}
-use Rattle.inode_machine.proofs.Rules.{s-owned, quiet, fine_after, others, Locking, locking, locked_held, is_out, locks_none, UnlocksAll}
-use Rattle.inode_machine.proofs.Rows.{below_is}
-use Rattle.inode_machine.proofs.Walking.{refs_walk, stage_walk, moves_good, own_walk, walk_did}
-use Rattle.inode_machine.proofs.Shops.{Sells, sells_did, own_takes}
-use Rattle.inode_machine.proofs.Dups.{Behind, behind, behind_none, Flagging, flagging, filling, renewed_slots, renewed_at, renewed_sorts, fails, refused_good, Refused as RefusedStep}
-use Rattle.inode_machine.proofs.Stats.{node_settled, node_there}
-use Rattle.inode_machine.proofs.Readings.{offset_on, moved_row, moved_names}
+use Rattle.inode_machine.proofs.Rules.{s-owned, quiet, fine_after, has_disk, has_node, others, locking, locked_held, is_out, locks_it, locks_none, UnlocksAll}
+use Rattle.inode_machine.proofs.Counting.{Gives, after_unlock, gives}
+use Rattle.inode_machine.proofs.Walking.{stage_walk, moves_good, own_walk, walk_did}
+use Rattle.inode_machine.proofs.Shops.{own_takes}
+use Rattle.inode_machine.proofs.Dups.{Behind, behind, behind_none, Flagging, flagging, filling, fails, refused_good, Refused as RefusedStep}
+use Rattle.inode_machine.proofs.Stats.{entry_is, node_settled, node_there}
+use Rattle.inode_machine.proofs.Readings.{IsOpenAt, Moving, entry_here, moved_names, moved_world, moving, offset_on, open_from, slot_is}
 use Rattle.inode_machine.proofs.Pieces.{write_by_kind, write_place, write_refused_at, write_refused_none, write_stops, empty_piece_goes, fewer_go, wrote_is, write_effect, write_answer, settle_wrote, well_wrote, written_type}
 
 abbrev pub wrote_step : ℕ → List ℕ → Step
 wrote_step fd b = record { move = OwnMove (WritePart fd b) 0; told = Some (record { act = record { step = WritePart fd b; answer = Done }; new = 0 }) }
-
--- The offset of a slot's open file moves.
-
-abbrev pub moved_world : ℕ → ℕ → ℕ → Entry → World → World
-moved_world h s by e v = record v { files = put v.files s (Some (entry_moved e by)); all = with_open v.all v.all.fds (put v.all.files (v.ids s) (Some (offset_on e.file by))); harts = with_walk v.harts h None None }
-
-pub record Moving (h s by : ℕ) (e : Entry) (v : World) (O : Own) : Type 0 where
-  pub fair : Fair h v (moved_world h s by e v)
-  pub owned : own_of h (moved_world h s by e v) ≡ record O { mine = record { refs = O.mine.refs; walk = None; pending = None } }
-
-pub moving : (h fd s by : ℕ) (e : Entry) (v : World) (O : Own) → own_of h v ≡ O → O.desk.lender ≡ None → h < hart_count → Inv v → O.mine.pending ≡ None → Behind h fd s e v → Moving h s by e v O
-moving h fd s by e v O ov free lt inv none hit = record { fair = fair inv (sells_did h v F v.desks v.slots T (with_walk v.harts h None None) lt inv sells); owned = owned }
-  where
-    f : OpenFile
-    f = offset_on e.file by
-
-    F : ℕ → Option Entry
-    F = put v.files s (Some (entry_moved e by))
-
-    T : Tree
-    T = with_open v.all v.all.fds (put v.all.files (v.ids s) (Some f))
-
-    opened : v.all.files (v.ids s) ≡ Some e.file
-    opened = inv.tied.files s e hit.at
-
-    back : (j : ℕ) (d : Entry) → F j ≡ Some d → (c : Entry) × (v.files j ≡ Some c) × (d.references ≡ c.references) × (put v.all.files (v.ids s) (Some f) (v.ids j) ≡ Some d.file)
-    back j d q = elim (same_or j s) [
-      | inl r ↦
-          let a : Some (entry_moved e by) ≡ Some d = sym (put_same v.files s (Some (entry_moved e by))) ∙ ap F (sym r) ∙ q in
-          let c : entry_moved e by ≡ d = cc in
-          (e, ap v.files r ∙ hit.at, ap (λ (z : Entry). z.references) (sym c), ap (λ (z : ℕ). put v.all.files (v.ids s) (Some f) (v.ids z)) r ∙ put_same v.all.files (v.ids s) (Some f) ∙ ap (λ (z : Entry). Some z.file) c)
-      | inr ne ↦
-          let a : v.files j ≡ Some d = sym (put_other v.files s (Some (entry_moved e by)) j ne) ∙ q in
-          (d, a, refl, put_other v.all.files (v.ids s) (Some f) (v.ids j) (λ z. ne (inv.tied.apart j s d e a hit.at z)) ∙ inv.tied.files j d a)
-    ]
-
-    empty : (j : ℕ) → v.files j ≡ None → (o : Option Entry) → F j ≡ o → F j ≡ None
-    empty j q None r = r
-    empty j q (Some d) r = absurd (let a = (back j d r).1 in cc (a, q))
-
-    on : (j : ℕ) (d : Entry) → v.files j ≡ Some d → (c : Entry) × (F j ≡ Some c) × (c.file.number ≡ d.file.number)
-    on j d q = renewed_at v.files s e (entry_moved e by) j d hit.at refl q
-
-    sells : Sells h v F v.desks v.slots T (with_walk v.harts h None None)
-    sells = record {
-      kin = record {
-        tied = record {
-          fds = inv.tied.fds;
-          fresh = λ g j lg o. let z = inv.tied.fresh g j lg o in record {
-            below = z.below;
-            free = z.free;
-            id = z.id;
-            is = z.is;
-            file = z.file;
-            at = put_other v.all.files (v.ids s) (Some f) z.id (λ q. absurd (let m = z.only h fd lt hit.below (hit.tree ∙ ap (λ (y : ℕ). Some y) (sym q)) in let a : (v.desks h).fds fd ≡ (v.desks g).fds j = (λ r. (v.desks (m.0 r)).fds (m.1 r)) in let b = z.free in let c = hit.is in cc (a, b, c))) ∙ z.at;
-            offset = z.offset;
-            only = z.only;
-          };
-          lends = inv.tied.lends;
-          used = λ g j c lg lj q. let a = inv.tied.used g j c lg lj q in let o = on c a.0 a.1 in (o.0, o.1);
-          hand = λ g c lg q. let a = inv.tied.hand g c lg q in (a.0, empty c a.1 (F c) refl);
-          hands = inv.tied.hands;
-          within = λ j d q. let a = back j d q in inv.tied.within j a.0 a.1;
-          files = λ j d q. (back j d q).3;
-          apart = λ j l c d p q r. let a = back j c p in let z = back l d q in inv.tied.apart j l a.0 z.0 a.1 z.1 r;
-          counted = λ j d q. let a = back j d q in let c = inv.tied.counted j a.0 a.1 in (a.2 ∙ c.0, (let z = a.2 in let y = c.1 in omega (arith, z, y)));
-          slots = λ j. inv.tied.slots j ∙ sym (renewed_slots v.files s e (entry_moved e by) j hit.at refl);
-          spoiled = inv.tied.spoiled;
-        };
-        desks = λ g ne. refl;
-        numbers = λ g j c d lg ne lj q a. on c d a;
-        clean = λ c. c;
-        bond = refl;
-        stays = inl refl;
-      };
-      free = ap (λ (o : Own). o.desk.lender) ov ∙ free;
-      unlent = ap (λ (o : Own). o.desk.lender) ov ∙ free;
-      joined = refl;
-      sorts = λ j d q. renewed_sorts v s e (entry_moved e by) inv hit.at refl refl j d q;
-      noted = λ m q. (q, (λ z. let r = refs_walk v.harts h None None h m.number in omega (arith, r, z)));
-      directory = inv.directory h lt;
-      home = refl;
-      few = λ j. let r = refs_walk v.harts h None None h j in let a = (inv.refers h lt).few j in omega (arith, r, a);
-      well = subst (λ (z : Tree). IsWellFormed z) (λ r. record (v.all) { files = put v.all.files (v.ids s) (and_then (opened r) (λ g. Some (record g { offset = g.offset + by }))) }) (well_moved v.all (Some (v.ids s)) by inv.well);
-      nodes = refl;
-      size = refl;
-      rows = λ g ne. moved_row v.all g (v.ids s) e.file f opened refl;
-      ids = λ j le. put_other v.all.files (v.ids s) (Some f) j (λ z. absurd (let a = inv.ids j le in let c : v.all.files j ≡ Some e.file = ap v.all.files z ∙ opened in cc (a, c))) ∙ inv.ids j le;
-      others = λ g ne. put_other v.harts h (record { refs = (v.harts h).refs; walk = None; pending = None }) g ne;
-      refs = λ j. let r = refs_walk v.harts h None None h j in omega (arith, r);
-      counts = λ j. inv.counts j ∙ ap (λ (z : ℕ). v.slots j + z) (sym (sum_same hart_count (λ g. (v.harts g).refs j) (λ g. (with_walk v.harts h None None g).refs j) (λ g l. refs_walk v.harts h None None g j)));
-      pinned = λ j kept o. let z = on o.slot o.entry o.at in inl (record { fd = o.fd; below = o.below; slot = o.slot; is = o.is; entry = z.0; at = z.1; number = z.2 ∙ o.number });
-      names = λ j is. ap (λ (r : Row). own_names r (v.desks h) j) (sym (moved_row v.all h (v.ids s) e.file f opened refl)) ∙ is;
-      still = ap (λ (o : Own). o.mine.pending) ov ∙ none;
-      found = ap (λ (z : Mine). z.pending) (put_same v.harts h (record { refs = (v.harts h).refs; walk = None; pending = None }));
-      walk = ap (λ (z : Mine). z.walk) (put_same v.harts h (record { refs = (v.harts h).refs; walk = None; pending = None }));
-      lone = λ j a. a.counts ∙ sym (refs_walk v.harts h None None a.hart j);
-    }
-
-    owned : own_of h (moved_world h s by e v) ≡ record O { mine = record { refs = O.mine.refs; walk = None; pending = None } }
-    owned = λ z. record {
-      inodes = ap (λ (o : Own). o.inodes) ov z;
-      mine = (put_same v.harts h (record { refs = (v.harts h).refs; walk = None; pending = None }) ∙ ap (λ (o : Own). record { refs = o.mine.refs; walk = None; pending = None }) ov) z;
-      row = (moved_row v.all h (v.ids s) e.file f opened refl ∙ ap (λ (o : Own). o.row) ov) z;
-      ninodes = ap (λ (o : Own). o.ninodes) ov z;
-      desk = ap (λ (o : Own). o.desk) ov z;
-    }
 
 -- A kept inode's record and its node change at once, but not its type, nor whether it is live.
 
@@ -227,23 +116,23 @@ changing h i y x v O ov free lt inv none isi sort live well = record { fair = fa
 pub put_twice : {A : Type 0} (f : ℕ → A) (i : ℕ) (x y : A) → put (put f i x) i y ≡ put f i y
 put_twice f i x y = is_put f (put (put f i x) i y) i y (put_same (put f i x) i y) (λ j ne. put_other (put f i x) i y j ne ∙ put_other f i x j ne)
 
--- The act: the lock, the piece, the offset.
+-- The act: the piece, the lock given up, the offset.
 
 abbrev pub after_piece : ℕ → ℕ → ℕ → Entry → Node → List ℕ → World → World
-after_piece h i s e y b v = moved_world h s (length b) e (changed_world i y (locked h i v))
+after_piece h i s e y b v = moved_world h s (length b) e (after_unlock i (changed_world i y v))
 
 pub record Writing (h fd i s : ℕ) (e : Entry) (x : Node) (b : List ℕ) (v : World) (O : Own) : Type 0 where
   pub fair : Fair h v (after_piece h i s e (with_bytes e.file.offset b x) b v)
-  pub owned : own_of h (after_piece h i s e (with_bytes e.file.offset b x) b v) ≡ record O { inodes = put O.inodes i (Some (locked_held (Some (with_bytes e.file.offset b x)))); mine = record { refs = O.mine.refs; walk = None; pending = None } }
+  pub owned : own_of h (after_piece h i s e (with_bytes e.file.offset b x) b v) ≡ record O { inodes = put O.inodes i None; mine = record { refs = O.mine.refs; walk = None; pending = None } }
   pub made : made_by v.all h (new_id v) (v.harts h).walk (OwnMove (WritePart fd b) 0) ≡ record { all = (after_piece h i s e (with_bytes e.file.offset b x) b v).all; walk = None; found = None; opened = None; entered = None; left = None; told = (wrote_step fd b).told }
   pub takes : Takes (stage_of v) h (wrote_step fd b) (stage_of (after_piece h i s e (with_bytes e.file.offset b x) b v))
 
 pub writing : (h fd i s : ℕ) (e : Entry) (x : Node) (b : List ℕ) (v : World) (O : Own) → own_of h v ≡ O → O.desk.lender ≡ None → h < hart_count → Inv v → O.mine.walk ≡ None → O.mine.pending ≡ None → Behind h fd s e v
-    → e.file.number ≡ i → O.inodes i ≡ None → v.lock i ≡ None → v.all.nodes i ≡ Some x → e.file.writable ≡ true → write_kind x.kind e.file.offset b ≡ None → Writing h fd i s e x b v O
-writing h fd i s e x b v O ov free lt inv walks none hit num out unlocked node writable goes =
+    → e.file.number ≡ i → O.inodes i ≡ Some (locked_held (Some x)) → e.file.writable ≡ true → write_kind x.kind e.file.offset b ≡ None → Writing h fd i s e x b v O
+writing h fd i s e x b v O ov free lt inv walks none hit num isi writable goes =
     record {
-      fair = fair_then a.fair (fair_then c.fair m.fair);
-      owned = m.owned ∙ (λ z. record O { inodes = put_twice O.inodes i (Some (locked_held (v.all.nodes i))) (Some (locked_held (Some y))) z; mine = record { refs = O.mine.refs; walk = None; pending = None } });
+      fair = fair_then c.fair (fair_then g.fair m.fair);
+      owned = m.owned ∙ (λ z. record O { inodes = put_twice O.inodes i (Some (locked_held (Some y))) None z; mine = record { refs = O.mine.refs; walk = None; pending = None } });
       made = rw (now (resolve v.all h []) (parent v.all h []))
           (λ r. record { all = (write_effect v.all h fd 0 (new_id v) b (resolve v.all h []) (parent v.all h []) ∙ wrote_is v.all h fd (v.ids s) i b e.file x hit.tree opened hit.file num node) r; walk = None; found = None; opened = None; entered = None; left = None; told = Some (record { act = record { step = WritePart fd b; answer = write_answer v.all h fd (new_id v) b (resolve v.all h []) (parent v.all h []) r }; new = 0 }) });
       takes = own_takes h v (after_piece h i s e y b v) (WritePart fd b) Done refl refl (ap (λ (o : Own). o.mine.walk) ov ∙ walks) (λ z. refl) (λ g z. absurd cc) (
@@ -259,6 +148,9 @@ writing h fd i s e x b v O ov free lt inv walks none hit num out unlocked node w
     y : Node
     y = with_bytes e.file.offset b x
 
+    node : v.all.nodes i ≡ Some x
+    node = has_node h i v O (locked_held (Some x)) ov isi
+
     opened : v.all.files (v.ids s) ≡ Some e.file
     opened = inv.tied.files s e hit.at
 
@@ -271,18 +163,18 @@ writing h fd i s e x b v O ov free lt inv walks none hit num out unlocked node w
     then_ : (res : Option ℕ) (par : Option (ℕ × Name)) → refusal_with (settle v.all) h (WritePart fd b) res par ≡ None
     then_ res par = write_by_kind (settle v.all) h fd b e.file None res par (file_settled v.all h fd ∙ hit.file) writable ((λ r. write_kind (node_or ((settle v.all).nodes (num r))).kind e.file.offset b) ∙ (λ r. write_kind (node_or (settled r)).kind e.file.offset b) ∙ goes)
 
-    a : Locking h i v O
-    a = locking h i v O ov free lt inv out (inl (record { fd = fd; below = hit.below; slot = s; is = hit.is; entry = e; at = hit.at; number = num })) unlocked
-
-    O1 : Own
-    O1 = record O { inodes = put O.inodes i (Some (locked_held (v.all.nodes i))) }
-
-    c : Changing h i y (locked_held (v.all.nodes i)) (locked h i v) O1
-    c = changing h i y (locked_held (v.all.nodes i)) (locked h i v) O1 a.owned free lt a.fair.inv none (put_same O.inodes i (Some (locked_held (v.all.nodes i))))
+    c : Changing h i y (locked_held (Some x)) v O
+    c = changing h i y (locked_held (Some x)) v O ov free lt inv none isi
         (ap (λ (z : Sort). Some z) (written_type x.kind e.file.offset b) ∙ ap (λ (z : Option Node). sort_of z) (sym node)) (ap (λ (z : Option Node). is_live z) (sym node)) (well_wrote v.all i e.file.offset b x inv.well node)
 
-    m : Moving h s (length b) e (changed_world i y (locked h i v)) (record O1 { inodes = put O1.inodes i (Some (locked_held (Some y))) })
-    m = moving h fd s (length b) e (changed_world i y (locked h i v)) (record O1 { inodes = put O1.inodes i (Some (locked_held (Some y))) }) c.owned free lt c.fair.inv none (record { below = hit.below; is = hit.is; at = hit.at; tree = hit.tree; file = hit.file })
+    O1 : Own
+    O1 = record O { inodes = put O.inodes i (Some (locked_held (Some y))) }
+
+    g : Gives h i O1 (changed_world i y v)
+    g = gives h i (locked_held (Some y)) O1 (changed_world i y v) free lt c.fair.inv c.owned (put_same O.inodes i (Some (locked_held (Some y)))) refl refl none
+
+    m : Moving h s (length b) e (after_unlock i (changed_world i y v)) (record O1 { inodes = put O1.inodes i None })
+    m = moving h fd s (length b) e (after_unlock i (changed_world i y v)) (record O1 { inodes = put O1.inodes i None }) g.owned free lt g.fair.inv none (record { below = hit.below; is = hit.is; at = hit.at; tree = hit.tree; file = hit.file })
 
 -- A step that finds no room, whatever it did to the tree.
 pub spoils_fine : {h more n : ℕ} {B : List Step → Type 0} {es : List Step} {v u : World} {Next : ℕ → Type 0} → Fair h v u → u.clean ≡ false → more < n → ((l : ℕ) → l + (more + 1) ≡ n → Next l) → Fine machine h [] more n B es v u Next
@@ -291,39 +183,20 @@ spoils_fine {h} {more} {n} f dirty pos next =
 
 -- A descriptor of the hart's own that is open for writing, with its inode.
 pub record IsWritable (O : Own) (fd n : ℕ) : Type 0 where
-  pub slot : ℕ
-  pub below : fd < descriptor_count
-  pub is : O.desk.fds fd ≡ Some slot
-  pub key : Key
-  pub at : O.row.keys fd ≡ Some key
-  pub number : key.number ≡ n
-  pub writable : key.writable ≡ true
+  pub opened : IsOpenAt O fd n
+  pub writable : opened.key.writable ≡ true
 
-slot_is : (h fd n : ℕ) (v : World) (O : Own) (k : IsWritable O fd n) → own_of h v ≡ O → slot_at v h fd ≡ Some k.slot
-slot_is h fd n v O k ov = rw (below_is fd descriptor_count k.below) (ap (λ (o : Own). o.desk.fds fd) ov ∙ k.is)
-
-pub writable_here : (h fd n : ℕ) (v : World) (O : Own) (k : IsWritable O fd n) → Inv v → own_of h v ≡ O → h < hart_count → O.desk.opening ≡ None → (e : Entry) × Behind h fd k.slot e v × (e.file.number ≡ n) × (e.file.writable ≡ true)
+pub writable_here : (h fd n : ℕ) (v : World) (O : Own) (k : IsWritable O fd n) → Inv v → own_of h v ≡ O → h < hart_count → O.desk.opening ≡ None → (e : Entry) × Behind h fd k.opened.slot e v × (e.file.number ≡ n) × (e.file.writable ≡ true)
 writable_here h fd n v O k inv ov lt idle =
-    let b = behind h fd k.slot v inv lt (ap (λ (o : Own). o.desk.opening) ov ∙ idle) (slot_is h fd n v O k ov) in
-    let here = key_from v.all h fd (v.ids k.slot) b.0.file lt k.below b.1.tree (inv.tied.files k.slot b.0 b.1.at) in
-    let same : Some (key_is b.0.file) ≡ Some k.key = sym here ∙ ap (λ (o : Own). o.row.keys fd) ov ∙ k.at in
-    let eq : key_is b.0.file ≡ k.key = cc in
-    (b.0, b.1, ap (λ (z : Key). z.number) eq ∙ k.number, ap (λ (z : Key). z.writable) eq ∙ k.writable)
+    let z = entry_here h fd n v O k.opened inv ov lt idle in
+    (z.0, z.1, ap (λ (q : Key). q.number) z.2 ∙ k.opened.number, ap (λ (q : Key). q.writable) z.2 ∙ k.writable)
 
 writes_to : (w : Bool) (s : Sort) → mode_refusal w s ≡ None → w ≡ true
 writes_to true s e = refl
 writes_to false s e = absurd cc
 
 pub writable_from : (h fd s : ℕ) (e : Entry) (v : World) (O : Own) → Inv v → own_of h v ≡ O → h < hart_count → Behind h fd s e v → write_refused (Some e) ≡ None → IsWritable O fd e.file.number
-writable_from h fd s e v O inv ov lt hit goes = record {
-  slot = s;
-  below = hit.below;
-  is = ap (λ (o : Own). o.desk.fds fd) (sym ov) ∙ hit.is;
-  key = key_is e.file;
-  at = ap (λ (o : Own). o.row.keys fd) (sym ov) ∙ key_from v.all h fd (v.ids s) e.file lt hit.below hit.tree (inv.tied.files s e hit.at);
-  number = refl;
-  writable = writes_to e.file.writable e.sort goes;
-}
+writable_from h fd s e v O inv ov lt hit goes = record { opened = open_from h fd s e v O inv ov lt hit; writable = writes_to e.file.writable e.sort goes }
 
 -- what the table refuses is refused in the tree
 pub table_refuses : (h fd s : ℕ) (e : Entry) (b : List ℕ) (c : Cause) (v : World) → Inv v → h < hart_count → Behind h fd s e v → write_refused (Some e) ≡ Some c → RefusedStep h (WritePart fd b) c v
@@ -401,101 +274,107 @@ s-check-file {A} {h} fd {k} {B} {Q} {n} {es} {w} {O} owns free lt pos walks none
         let z = behind h fd s v inv lt (opening_none v ov) q in
         subst (λ (o : Option Entry). Goal v (write_refused o)) (sym z.1.at) (by_cause v inv ov s z.0 z.1 (write_refused (Some z.0)) refl)
 
--- A piece: all of it, refused, or as much as there are blocks for.
-pub s-write-file : {A : Type 0} {h : ℕ} (fd i : ℕ) (b : List ℕ) {k : Wrote → P machine A} {B : List Step → Type 0} {Q : A → List Step → World → Type 0} {n : ℕ} {es : List Step} {w : World} {O : Own}
-    → own_of h w ≡ O → O.desk.lender ≡ None → h < hart_count → 100 < n → O.mine.walk ≡ None → O.mine.pending ≡ None → O.desk.opening ≡ None → ((j : ℕ) → O.inodes j ≡ None) → O.desk.joined ≡ true → IsWritable O fd i → length b ≤ piece_width
+-- The lock of what a descriptor to write to names is taken.
+pub s-lock-open : {A : Type 0} {h : ℕ} (fd i : ℕ) {k : Unit {0} → P machine A} {B : List Step → Type 0} {Q : A → List Step → World → Type 0} {n : ℕ} {es : List Step} {w : World} {O : Own}
+    → own_of h w ≡ O → O.desk.lender ≡ None → h < hart_count → 3 < n → O.desk.opening ≡ None → ((j : ℕ) → O.inodes j ≡ None) → IsWritable O fd i
+    → ((l : ℕ) (x : Node) (u : World) → l + 4 ≡ n → own_of h u ≡ record O { inodes = put O.inodes i (Some (locked_held (Some x))) } → Safe machine h B Q (k tt) l es u)
+    → Safe machine h B Q (Do (LockOpen fd i) unmarked k) n es w
+s-lock-open {A} {h} fd i {k} {B} {Q} {n} {es} {w} {O} owns free lt pos idle empty key then_ = s-owned owns free pos (λ v inv ov.
+    let z = writable_here h fd i v O key inv ov lt idle in
+    ((locks_none h v O inv ov (λ j x q. absurd (let a = empty j in cc (a, q))), record { entry = z.0; at = entry_is h fd key.opened.slot z.0 v (slot_is h fd i v O key.opened ov) z.1; number = z.2; writable = z.3 }), (λ _ _. at v inv ov z.0 z.1 z.2 (v.lock i) refl)))
+  where
+    at : (v : World) → Inv v → own_of h v ≡ O → (e : Entry) → Behind h fd key.opened.slot e v → e.file.number ≡ i → (r : Option ℕ) → v.lock i ≡ r
+        → Good machine (Unit {0}) h (λ a. []) 3 n B es v (IsOut h (v.lock i)) (with_mark h unmarked (lock_if h i tt v (locked h i v) r)) (λ l a u. Wp machine h B Q (k a) l es u)
+    at v inv ov e hit num (Some g) q = is_out h i g v O inv ov (empty i) q
+    at v inv ov e hit num None q =
+        let there = node_there v key.opened.slot e inv hit.at in
+        let node : v.all.nodes i ≡ Some there.0 = ap v.all.nodes (sym num) ∙ there.1 in
+        let a = locking h i v O ov free lt inv (empty i) (inl (record { fd = fd; below = hit.below; slot = key.opened.slot; is = hit.is; entry = e; at = hit.at; number = num })) q in
+        quiet a.fair refl pos (λ l p. (then_ l there.0 (locked h i v) p (a.owned ∙ (λ r. record O { inodes = put O.inodes i (Some (locked_held (node r))) }))).wp)
+
+-- A piece: all of it, refused, or as much as there are blocks for; and the lock is given up.
+pub s-write-file : {A : Type 0} {h : ℕ} (fd i : ℕ) (b : List ℕ) (x : Node) {k : Wrote → P machine A} {B : List Step → Type 0} {Q : A → List Step → World → Type 0} {n : ℕ} {es : List Step} {w : World} {O : Own}
+    → own_of h w ≡ O → O.desk.lender ≡ None → h < hart_count → 97 < n → O.mine.walk ≡ None → O.mine.pending ≡ None → O.desk.opening ≡ None → O.inodes i ≡ Some (locked_held (Some x)) → O.desk.joined ≡ true → IsWritable O fd i → length b ≤ piece_width
     → ((c : Cause) → B (fails (WritePart fd b) c ∷ es)) → B (wrote_step fd b ∷ es)
-    → ((l : ℕ) (c : Cause) (x : Option Node) (u : World) → l + 101 ≡ n → own_of h u ≡ record O { inodes = put O.inodes i (Some (locked_held x)); mine = record { refs = O.mine.refs; walk = None; pending = None } } → Safe machine h B Q (k (Stopped c)) l (fails (WritePart fd b) c ∷ es) u)
-    → ((l j : ℕ) (x : Option Node) (u : World) → l + 101 ≡ n → u.clean ≡ false → own_of h u ≡ record O { inodes = put O.inodes i (Some (locked_held x)); mine = record { refs = O.mine.refs; walk = None; pending = None }; desk = record (O.desk) { full = true } } → Safe machine h B Q (k (Short j)) l es u)
-    → ((l : ℕ) (x : Option Node) (u : World) → l + 101 ≡ n → own_of h u ≡ record O { inodes = put O.inodes i (Some (locked_held x)); mine = record { refs = O.mine.refs; walk = None; pending = None } } → Safe machine h B Q (k Whole) l (wrote_step fd b ∷ es) u)
+    → ((l : ℕ) (c : Cause) (u : World) → l + 98 ≡ n → own_of h u ≡ record O { inodes = put O.inodes i None; mine = record { refs = O.mine.refs; walk = None; pending = None } } → Safe machine h B Q (k (Stopped c)) l (fails (WritePart fd b) c ∷ es) u)
+    → ((l j : ℕ) (u : World) → l + 98 ≡ n → u.clean ≡ false → own_of h u ≡ record O { inodes = put O.inodes i None; mine = record { refs = O.mine.refs; walk = None; pending = None }; desk = record (O.desk) { full = true } } → Safe machine h B Q (k (Short j)) l es u)
+    → ((l : ℕ) (u : World) → l + 98 ≡ n → own_of h u ≡ record O { inodes = put O.inodes i None; mine = record { refs = O.mine.refs; walk = None; pending = None } } → Safe machine h B Q (k Whole) l (wrote_step fd b ∷ es) u)
     → Safe machine h B Q (Do (WriteFile fd i b) (writes fd b) k) n es w
-s-write-file {A} {h} fd i b {k} {B} {Q} {n} {es} {w} {O} owns free lt pos walks none idle empty joined key short_piece bf bd bad short then_ = s-owned owns free pos (λ v inv ov.
+s-write-file {A} {h} fd i b y {k} {B} {Q} {n} {es} {w} {O} owns free lt pos walks none idle isi joined key short_piece bf bd bad short then_ = s-owned owns free pos (λ v inv ov.
     let z = writable_here h fd i v O key inv ov lt idle in (
       (
-        locks_none h v O inv ov (λ j x q. absurd (let a = empty j in cc (a, q))),
-        ap (λ (o : Own). o.desk.joined) ov ∙ joined,
-        record { entry = z.0; at = (λ r. entry_at v.files (slot_is h fd i v O key ov r)) ∙ z.1.at; number = z.2; writable = z.3 },
+        (locks_it h i v O (locked_held (Some y)) ov isi refl, ap (λ (o : Own). o.desk.joined) ov ∙ joined),
+        record { entry = z.0; at = entry_is h fd key.opened.slot z.0 v (slot_is h fd i v O key.opened ov) z.1; number = z.2; writable = z.3 },
         short_piece,
       ),
-      (λ x honest. at v inv ov x honest),
+      (λ x honest. at v inv ov x honest z.0 z.1 z.2 z.3),
     ))
   where
     Goal : World → Came Wrote World → Type 0
-    Goal v z = Good machine Wrote h (λ a. places h (WriteFile fd i b) a (writes fd b a) v) 100 n B es v (IsOut h (v.lock i)) (with_mark h (writes fd b) z) (λ l a u. Wp machine h B Q (k a) l (onto (own h (places h (WriteFile fd i b) a (writes fd b a) v)) es) u)
+    Goal v z = Good machine Wrote h (λ a. places h (WriteFile fd i b) a (writes fd b a) v) 97 n B es v ⊥ (with_mark h (writes fd b) z) (λ l a u. Wp machine h B Q (k a) l (onto (own h (places h (WriteFile fd i b) a (writes fd b a) v)) es) u)
 
-    piece_world : World → ℕ → Entry → List ℕ → Option Node → World
-    piece_world v s e c d = record (locked h i v) { disk = put v.disk i (Some (with_bytes e.file.offset c (node_or d))); files = put v.files s (Some (entry_moved e (length c))) }
+    O1 : Own
+    O1 = record O { inodes = put O.inodes i None }
 
-    stopped : (v : World) → Inv v → own_of h v ≡ O → (s : ℕ) (e : Entry) → Behind h fd s e v → e.file.number ≡ i → e.file.writable ≡ true → (x : Node) → v.all.nodes i ≡ Some x → (c : Cause) → write_kind x.kind e.file.offset b ≡ Some c → v.lock i ≡ None → Goal v (Ran (Stopped c) (locked h i v))
-    stopped v inv ov s e hit num writable x node c stops r =
-        fine_after a.fair refl
-        (refused_good h 100 n B Q es (locked h i v) (record O { inodes = put O.inodes i (Some (locked_held (v.all.nodes i))) }) (WritePart fd b) c (k (Stopped c)) a.owned free lt a.fair.inv walks none
-        (write_refused_at h fd b c (locked h i v) lt
-        (λ res par. write_by_kind v.all h fd b e.file (Some c) res par hit.file writable ((λ z. write_kind (node_or (v.all.nodes (num z))).kind e.file.offset b) ∙ (λ z. write_kind (node_or (node z)).kind e.file.offset b) ∙ stops))
+    piece_at : World → ℕ → Entry → List ℕ → Option Node → Bool → World
+    piece_at v s e c d alone = with_offset (unlocked i (with_record v i (Some (with_bytes e.file.offset c (node_or d)))) alone) (Some s) e (length c)
+
+    node : (v : World) → own_of h v ≡ O → v.all.nodes i ≡ Some y
+    node v ov = has_node h i v O (locked_held (Some y)) ov isi
+
+    stopped : (v : World) → Inv v → own_of h v ≡ O → (s : ℕ) (e : Entry) → Behind h fd s e v → e.file.number ≡ i → e.file.writable ≡ true → (c : Cause) → write_kind y.kind e.file.offset b ≡ Some c → Goal v (Ran (Stopped c) (after_unlock i v))
+    stopped v inv ov s e hit num writable c stops =
+        fine_after g.fair refl
+        (refused_good h 97 n B Q es (after_unlock i v) O1 (WritePart fd b) c (k (Stopped c)) g.owned free lt g.fair.inv walks none
+        (write_refused_at h fd b c (after_unlock i v) lt
+        (λ res par. write_by_kind v.all h fd b e.file (Some c) res par hit.file writable ((λ z. write_kind (node_or (v.all.nodes (num z))).kind e.file.offset b) ∙ (λ z. write_kind (node_or (node v ov z)).kind e.file.offset b) ∙ stops))
         (λ res par. write_by_kind (settle v.all) h fd b e.file (Some c) res par (file_settled v.all h fd ∙ hit.file) writable ((λ z. write_kind (node_or ((settle v.all).nodes (num z))).kind e.file.offset b) ∙ (λ z. write_kind (node_or (settled z)).kind e.file.offset b) ∙ stops)))
-        (bf c) pos (λ l u p own2. bad l c (v.all.nodes i) u p own2))
+        (bf c) pos (λ l u p own2. bad l c u p own2))
       where
-        a : Locking h i v O
-        a = locking h i v O ov free lt inv (empty i) (inl (record { fd = fd; below = hit.below; slot = s; is = hit.is; entry = e; at = hit.at; number = num })) r
+        g : Gives h i O v
+        g = gives h i (locked_held (Some y)) O v free lt inv ov isi refl refl none
 
-        settled : (settle v.all).nodes i ≡ Some x
-        settled = subst (λ (z : ℕ). (settle v.all).nodes z ≡ v.all.nodes z) num (node_settled h fd v e s inv lt hit) ∙ node
+        settled : (settle v.all).nodes i ≡ Some y
+        settled = subst (λ (z : ℕ). (settle v.all).nodes z ≡ v.all.nodes z) num (node_settled h fd v e s inv lt hit) ∙ node v ov
 
-    whole : (v : World) → Inv v → own_of h v ≡ O → (s : ℕ) (e : Entry) → Behind h fd s e v → e.file.number ≡ i → e.file.writable ≡ true → (x : Node) → v.all.nodes i ≡ Some x → write_kind x.kind e.file.offset b ≡ None → v.lock i ≡ None → Goal v (Ran Whole (piece_world v s e b (Some x)))
-    whole v inv ov s e hit num writable x node goes r =
-        let a = writing h fd i s e x b v O ov free lt inv walks none hit num (empty i) r node writable goes in
-        moves_good h 100 n B Q es v (piece_world v s e b (Some x)) (OwnMove (WritePart fd b) 0) (k Whole) (made_by v.all h (new_id v) (v.harts h).walk (OwnMove (WritePart fd b) 0)) (record { all = (after_piece h i s e (with_bytes e.file.offset b x) b v).all; walk = None; found = None; opened = None; entered = None; left = None; told = (wrote_step fd b).told })
+    whole : (v : World) → Inv v → own_of h v ≡ O → (s : ℕ) (e : Entry) → Behind h fd s e v → e.file.number ≡ i → e.file.writable ≡ true → write_kind y.kind e.file.offset b ≡ None → Goal v (Ran Whole (piece_at v s e b (Some y) false))
+    whole v inv ov s e hit num writable goes =
+        let a = writing h fd i s e y b v O ov free lt inv walks none hit num isi writable goes in
+        moves_good h 97 n B Q es v (piece_at v s e b (Some y) false) (OwnMove (WritePart fd b) 0) (k Whole) (made_by v.all h (new_id v) (v.harts h).walk (OwnMove (WritePart fd b) 0)) (record { all = (after_piece h i s e (with_bytes e.file.offset b y) b v).all; walk = None; found = None; opened = None; entered = None; left = None; told = (wrote_step fd b).told })
         a.made a.fair a.takes bd pos
-        (λ l q. (then_ l (Some (with_bytes e.file.offset b x)) (after_piece h i s e (with_bytes e.file.offset b x) b v) q a.owned).wp)
+        (λ l q. (then_ l (after_piece h i s e (with_bytes e.file.offset b y) b v) q a.owned).wp)
 
-    part : (v : World) → Inv v → own_of h v ≡ O → (s : ℕ) (e : Entry) → Behind h fd s e v → e.file.number ≡ i → e.file.writable ≡ true → (x : Node) → v.all.nodes i ≡ Some x → (j : ℕ) → write_kind x.kind e.file.offset (take j b) ≡ None → v.lock i ≡ None → Goal v (Ran (Short j) (piece_world v s e (take j b) (Some x)))
-    part v inv ov s e hit num writable x node j goes r =
-        subst (λ (z : Made). Fine machine h [] 100 n B es v (spoiled h (with_made h z (piece_world v s e (take j b) (Some x)))) (λ l. Wp machine h B Q (k (Short j)) l es (spoiled h (with_made h z (piece_world v s e (take j b) (Some x)))))) (sym a.made)
-        (spoils_fine (fair_then a.fair f.fair) refl pos (λ l q. (short l j (Some (with_bytes e.file.offset (take j b) x)) (spoiled h u) q refl f.owned).wp))
+    part : (v : World) → Inv v → own_of h v ≡ O → (s : ℕ) (e : Entry) → Behind h fd s e v → e.file.number ≡ i → e.file.writable ≡ true → (j : ℕ) → write_kind y.kind e.file.offset (take j b) ≡ None → Goal v (Ran (Short j) (piece_at v s e (take j b) (Some y) false))
+    part v inv ov s e hit num writable j goes =
+        subst (λ (z : Made). Fine machine h [] 97 n B es v (spoiled h (with_made h z (piece_at v s e (take j b) (Some y) false))) (λ l. Wp machine h B Q (k (Short j)) l es (spoiled h (with_made h z (piece_at v s e (take j b) (Some y) false))))) (sym a.made)
+        (spoils_fine (fair_then a.fair f.fair) refl pos (λ l q. (short l j (spoiled h u) q refl f.owned).wp))
       where
         u : World
-        u = after_piece h i s e (with_bytes e.file.offset (take j b) x) (take j b) v
+        u = after_piece h i s e (with_bytes e.file.offset (take j b) y) (take j b) v
 
-        a : Writing h fd i s e x (take j b) v O
-        a = writing h fd i s e x (take j b) v O ov free lt inv walks none hit num (empty i) r node writable goes
+        a : Writing h fd i s e y (take j b) v O
+        a = writing h fd i s e y (take j b) v O ov free lt inv walks none hit num isi writable goes
 
         O2 : Own
-        O2 = record O { inodes = put O.inodes i (Some (locked_held (Some (with_bytes e.file.offset (take j b) x)))); mine = record { refs = O.mine.refs; walk = None; pending = None } }
+        O2 = record O1 { mine = record { refs = O.mine.refs; walk = None; pending = None } }
 
         f : Flagging h u O2 (record (u.desks h) { full = true }) (record (O2.desk) { full = true }) false
         f = filling h u O2 a.owned free lt a.fair.inv
 
-    -- the lock is another hart's, or is taken
-    waits : (v : World) → Inv v → own_of h v ≡ O → (g : ℕ) → v.lock i ≡ Some g → (a : Wrote) (u : World) → Goal v (lock_if h i a v u (v.lock i))
-    waits v inv ov g q a u = subst (λ (r : Option ℕ). Goal v (lock_if h i a v u r)) (sym q) (is_out h i g v O inv ov (empty i) q)
+    by_cause : (v : World) → Inv v → own_of h v ≡ O → v.disk i ≡ Some y → v.alone i ≡ false → (x : Outside) → HonestPiece b x → (s : ℕ) (e : Entry) → Behind h fd s e v → e.file.number ≡ i → e.file.writable ≡ true
+        → (o : Option Cause) → write_kind y.kind e.file.offset b ≡ o → Goal v (write_if v (Some s) e i b x o)
+    by_cause v inv ov disk shared x honest s e hit num writable (Some c) stops = subst (λ (a : Bool). Goal v (Ran (Stopped c) (unlocked i v a))) (sym shared) (stopped v inv ov s e hit num writable c stops)
+    by_cause v inv ov disk shared Room honest s e hit num writable None goes =
+        subst (λ (d : Option Node). Goal v (Ran Whole (piece_at v s e b d (v.alone i)))) (sym disk) (subst (λ (a : Bool). Goal v (Ran Whole (piece_at v s e b (Some y) a))) (sym shared) (whole v inv ov s e hit num writable goes))
+    by_cause v inv ov disk shared (RoomFor j) honest s e hit num writable None goes =
+        subst (λ (d : Option Node). Goal v (Ran (Short j) (piece_at v s e (take j b) d (v.alone i)))) (sym disk)
+        (subst (λ (a : Bool). Goal v (Ran (Short j) (piece_at v s e (take j b) (Some y) a))) (sym shared) (part v inv ov s e hit num writable j (fewer_go y.kind e.file.offset j b goes)))
+    by_cause v inv ov disk shared (Picks j) honest s e hit num writable None goes = absurd honest
 
-    takes : (v : World) → v.lock i ≡ None → (a : Wrote) (u : World) → Goal v (Ran a u) → Goal v (lock_if h i a v u (v.lock i))
-    takes v q a u good = subst (λ (r : Option ℕ). Goal v (lock_if h i a v u r)) (sym q) good
-
-    out : (v : World) → Inv v → own_of h v ≡ O → (g : ℕ) → v.lock i ≡ Some g → (x : Outside) → HonestPiece b x → (s : ℕ) (e : Entry) (o : Option Cause) → Goal v (write_if h v (Some s) e i b x o)
-    out v inv ov g q x honest s e (Some c) = waits v inv ov g q (Stopped c) (locked h i v)
-    out v inv ov g q Room honest s e None = waits v inv ov g q Whole (piece_world v s e b (v.disk i))
-    out v inv ov g q (RoomFor j) honest s e None = waits v inv ov g q (Short j) (piece_world v s e (take j b) (v.disk i))
-    out v inv ov g q (Picks j) honest s e None = absurd honest
-
-    by_cause : (v : World) → Inv v → own_of h v ≡ O → v.lock i ≡ None → (x : Outside) → HonestPiece b x → (s : ℕ) (e : Entry) → Behind h fd s e v → e.file.number ≡ i → e.file.writable ≡ true → (y : Node) → v.all.nodes i ≡ Some y → v.disk i ≡ Some y
-        → (o : Option Cause) → write_kind y.kind e.file.offset b ≡ o → Goal v (write_if h v (Some s) e i b x o)
-    by_cause v inv ov q x honest s e hit num writable y node disk (Some c) stops = takes v q (Stopped c) (locked h i v) (stopped v inv ov s e hit num writable y node c stops q)
-    by_cause v inv ov q Room honest s e hit num writable y node disk None goes = subst (λ (d : Option Node). Goal v (lock_if h i Whole v (piece_world v s e b d) (v.lock i))) (sym disk) (takes v q Whole (piece_world v s e b (Some y)) (whole v inv ov s e hit num writable y node goes q))
-    by_cause v inv ov q (RoomFor j) honest s e hit num writable y node disk None goes = subst (λ (d : Option Node). Goal v (lock_if h i (Short j) v (piece_world v s e (take j b) d) (v.lock i))) (sym disk) (takes v q (Short j) (piece_world v s e (take j b) (Some y)) (part v inv ov s e hit num writable y node j (fewer_go y.kind e.file.offset j b goes) q))
-    by_cause v inv ov q (Picks j) honest s e hit num writable y node disk None goes = absurd honest
-
-    by_lock : (v : World) → Inv v → own_of h v ≡ O → (x : Outside) → HonestPiece b x → (s : ℕ) (e : Entry) → Behind h fd s e v → e.file.number ≡ i → e.file.writable ≡ true → (r : Option ℕ) → v.lock i ≡ r → Goal v (write_if h v (Some s) e i b x (write_kind (node_or (v.disk i)).kind e.file.offset b))
-    by_lock v inv ov x honest s e hit num writable (Some g) q = out v inv ov g q x honest s e (write_kind (node_or (v.disk i)).kind e.file.offset b)
-    by_lock v inv ov x honest s e hit num writable None q =
-        let there = node_there v s e inv hit.at in
-        let node : v.all.nodes i ≡ Some there.0 = ap v.all.nodes (sym num) ∙ there.1 in
-        let a = locking h i v O ov free lt inv (empty i) (inl (record { fd = fd; below = hit.below; slot = s; is = hit.is; entry = e; at = hit.at; number = num })) q in
-        let disk : v.disk i ≡ Some there.0 = a.whole ∙ node in
-        by_cause v inv ov q x honest s e hit num writable there.0 node disk (write_kind (node_or (v.disk i)).kind e.file.offset b) (λ z. write_kind (node_or (sym disk z)).kind e.file.offset b)
-
-    at : (v : World) → Inv v → own_of h v ≡ O → (x : Outside) → HonestPiece b x → Goal v (write_at h v (slot_at v h fd) i b x (entry_of v h fd))
-    at v inv ov x honest =
-        let z = writable_here h fd i v O key inv ov lt idle in
-        subst (λ (o : Option ℕ). Goal v (write_at h v o i b x (entry_at v.files o))) (sym (slot_is h fd i v O key ov))
-        (subst (λ (o : Option Entry). Goal v (write_at h v (Some key.slot) i b x o)) (sym z.1.at) (by_lock v inv ov x honest key.slot z.0 z.1 z.2 z.3 (v.lock i) refl))
+    at : (v : World) → Inv v → own_of h v ≡ O → (x : Outside) → HonestPiece b x → (e : Entry) → Behind h fd key.opened.slot e v → e.file.number ≡ i → e.file.writable ≡ true → Goal v (write_at v (slot_at v h fd) i b x (entry_of v h fd))
+    at v inv ov x honest e hit num writable =
+        let disk = has_disk h i v O (locked_held (Some y)) ov isi in
+        let shared : v.alone i ≡ false = ap (λ (z : Held). z.alone) (has_inode h i v O (locked_held (Some y)) ov isi).1 in
+        subst (λ (o : Option ℕ). Goal v (write_at v o i b x (entry_at v.files o))) (sym (slot_is h fd i v O key.opened ov))
+        (subst (λ (o : Option Entry). Goal v (write_at v (Some key.opened.slot) i b x o)) (sym hit.at)
+        (by_cause v inv ov disk shared x honest key.opened.slot e hit num writable (write_kind (node_or (v.disk i)).kind e.file.offset b) (λ z. write_kind (node_or (sym disk z)).kind e.file.offset b)))

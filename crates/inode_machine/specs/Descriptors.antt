@@ -10,8 +10,8 @@ use Rattle.plain_tree.specs.declared.step.Action.TheVariants as steps
 use Rattle.plain_tree.specs.Calls.{piece, piece_count}
 use Rattle.atomic_programs.specs.Prog.{Ret, Do, unmarked}
 use Rattle.inode_machine.specs.Inodes.{Face, stat_of_face}
-use Rattle.inode_machine.specs.World.{Mark, Readout, NotRead, Part, Joining, NotJoined, Joined, Wrote, Whole, Refused, Short}
-use Rattle.inode_machine.specs.World.Op.{Give, StatFile, ReadFile, CheckFile, JoinFile, WriteFile, Double, Shut, Join, Leave}
+use Rattle.inode_machine.specs.World.{Mark, Locking, NotLocked, LocksIt, Joining, NotJoined, Joined, Wrote, Whole, Refused, Short}
+use Rattle.inode_machine.specs.World.Op.{Give, StatFile, LockFile, ReadFile, CheckFile, JoinFile, LockOpen, WriteFile, Double, Shut, Join, Leave}
 use Rattle.inode_machine.specs.World.Mark.{Fills, Spoils}
 use Rattle.inode_machine.specs.Parts.{P, own_step, failed, full, done, say, drop}
 
@@ -52,17 +52,21 @@ stat_on fd (Some p) = Do (Give p.0) unmarked (λ _. say (stat_reply fd p.0 p.1))
 abbrev pub stat_program : ℕ → P Reply
 stat_program fd = Do (StatFile fd) (λ a. own_step (steps.Fstat fd)) (stat_on fd)
 
--- read: the part and the offset under one lock
+-- read: the inode is locked, then a part read, and the offset moves, with the lock given up; or the descriptor isn't for that
 
 abbrev pub read_reply : ℕ → List ℕ → List ℕ → Reply
 read_reply fd buffer b = record { answer = answers.Count (length b); call = calls.Read fd (b ++ past (length b) buffer) }
 
-abbrev pub read_on : ℕ → List ℕ → Readout → P Reply
-read_on fd buffer (NotRead c) = Ret (failed (calls.Read fd buffer) c)
-read_on fd buffer (Part n b) = Do (Give n) unmarked (λ _. say (read_reply fd buffer b))
+abbrev pub refused_read : ℕ → ℕ → Locking → Option Mark
+refused_read fd count (NotLocked c) = own_step (steps.Read fd count)
+refused_read fd count (LocksIt n) = None
+
+abbrev pub read_on : ℕ → List ℕ → Locking → P Reply
+read_on fd buffer (NotLocked c) = Ret (failed (calls.Read fd buffer) c)
+read_on fd buffer (LocksIt n) = Do (ReadFile fd n (length buffer)) (λ b. own_step (steps.Read fd (length buffer))) (λ b. say (read_reply fd buffer b))
 
 abbrev pub read_program : ℕ → List ℕ → P Reply
-read_program fd buffer = Do (ReadFile fd (length buffer)) (λ a. own_step (steps.Read fd (length buffer))) (read_on fd buffer)
+read_program fd buffer = Do (LockFile fd) (refused_read fd (length buffer)) (read_on fd buffer)
 
 -- write: each piece in a transaction of its own; the first that is refused, or finds no block, ends the call
 
@@ -81,8 +85,8 @@ wrote_on fd bytes more (Short k) = say (full (calls.Write fd bytes) Blocks)
 
 abbrev pub write_piece : ℕ → ℕ → List ℕ → ℕ → P Reply → P Reply
 write_piece fd n bytes i more =
+    Do (LockOpen fd n) unmarked (λ _.
     Do (WriteFile fd n (piece bytes i)) (writes fd (piece bytes i)) (λ a.
-    Do (Give n) unmarked (λ _.
     Do Leave unmarked (λ _.
     wrote_on fd bytes more a)))
 

@@ -236,7 +236,7 @@ abbrev pub write_ab : Call
 write_ab = calls.Write 0 (codes "AB")
 
 abbrev pub NoBlockForPart : Type 0
-NoBlockForPart = NoRoom (makes_a ++ makes 0 write_ab 1 ++ Step 0 (RoomFor 1) ∷ steps 0 3 ++ makes 0 (calls.Fstat 0) 3)
+NoBlockForPart = NoRoom (makes_a ++ makes 0 write_ab 2 ++ Step 0 (RoomFor 1) ∷ steps 0 2 ++ makes 0 (calls.Fstat 0) 3)
     (record { answer = answers.Stat (record { device = 1; inode = 2; kind = types.File; nlink = 1; size = 1 }); call = calls.Fstat 0 } ∷ record { answer = answers.Full Blocks; call = write_ab } ∷ made_a ∷ [])
 
 -- All sixteen descriptors are of the root: there is none for one more, nor to open it again.

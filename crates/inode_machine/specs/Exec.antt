@@ -13,8 +13,8 @@ use Rattle.tree_laws.specs.WellFormed.{sum_below, one_if}
 use Rattle.atomic_programs.specs.Prog.{Did, Waits, Ran}
 use Rattle.inode_machine.specs.Inodes.{Sort, OfDirectory, OfFile, OfDevice, Face, face_of, face_or, seen_in, no_driver_for}
 use Rattle.tree_moves.specs.Moves.{Walk}
-use Rattle.inode_machine.specs.World.{Mine, Entry, Desk, World, Op, Answer, Claimed, New, NoInode, NoPlace, Entered, InPlace, NoBlock, NoSlot, Readout, NotRead, Part, Joining, NotJoined, Joined, Wrote, Whole, Refused, Short, Lending, Lent, Moved, Outside, Room, RoomFor, Picks}
-use Rattle.inode_machine.specs.World.Op.{Take, Give, UpStart, Up, WalkDown, Down, Free, Claim, Store, Fill, Enter, Clear, Empty, Slot, Install, StatFile, ReadFile, CheckFile, JoinFile, WriteFile, Double, Shut, Settle, Lend, LendDirectory, Release, Join, Leave, Say}
+use Rattle.inode_machine.specs.World.{Mine, Entry, Desk, World, Op, Answer, Claimed, New, NoInode, NoPlace, Entered, InPlace, NoBlock, NoSlot, Locking, NotLocked, LocksIt, Joining, NotJoined, Joined, Wrote, Whole, Refused, Short, Lending, Lent, Moved, Outside, Room, RoomFor, Picks}
+use Rattle.inode_machine.specs.World.Op.{Take, Give, UpStart, Up, WalkDown, Down, Free, Claim, Store, Fill, Enter, Clear, Empty, Slot, Install, StatFile, LockFile, ReadFile, CheckFile, JoinFile, LockOpen, WriteFile, Double, Shut, Settle, Lend, LendDirectory, Release, Join, Leave, Say}
 
 abbrev pub is_nothing : {A : Type 0} → Option A → Bool
 is_nothing None = true
@@ -292,15 +292,15 @@ abbrev pub with_offset : World → Option ℕ → Entry → ℕ → World
 with_offset w None e by = w
 with_offset w (Some s) e by = record w { files = put w.files s (Some (entry_moved e by)) }
 
-abbrev pub read_part : ℕ → World → Option ℕ → Entry → ℕ → Did Readout World
-read_part h w s e n =
-    lock_if h e.file.number (Part e.file.number (part_of (w.disk e.file.number) e.file.offset n)) w
-    (with_offset (locked h e.file.number w) s e (length (part_of (w.disk e.file.number) e.file.offset n))) (w.lock e.file.number)
+abbrev pub lock_at : ℕ → World → Option Entry → Option Cause → Did Locking World
+lock_at h w e (Some c) = Ran (NotLocked c) w
+lock_at h w None None = Ran (NotLocked BadDescriptor) w
+lock_at h w (Some e) None = lock_if h e.file.number (LocksIt e.file.number) w (locked h e.file.number w) (w.lock e.file.number)
 
-abbrev pub read_at : ℕ → World → ℕ → Option ℕ → Option Entry → Option Cause → Did Readout World
-read_at h w n s e (Some c) = Ran (NotRead c) w
-read_at h w n s None None = Ran (NotRead BadDescriptor) w
-read_at h w n s (Some e) None = read_part h w s e n
+abbrev pub read_at : World → ℕ → ℕ → Option ℕ → Option Entry → Did (List ℕ) World
+read_at w n count s None = Ran [] (unlocked n w (w.alone n))
+read_at w n count s (Some e) =
+    Ran (part_of (w.disk n) e.file.offset count) (with_offset (unlocked n w (w.alone n)) s e (length (part_of (w.disk n) e.file.offset count)))
 
 abbrev pub with_joined : World → ℕ → Bool → World
 with_joined w h b = record w { desks = put w.desks h (record (w.desks h) { joined = b }) }
@@ -313,22 +313,22 @@ join_at h w (Some e) None = Ran (Joined e.file.number) (with_joined w h true)
 abbrev pub with_bytes : ℕ → List ℕ → Node → Node
 with_bytes offset b v = record v { kind = written_kind v.kind offset b }
 
-abbrev pub wrote_in : ℕ → World → Option ℕ → Entry → ℕ → List ℕ → World
-wrote_in h w s e n b = with_offset (changed_record (locked h n w) n (with_bytes e.file.offset b)) s e (length b)
+abbrev pub wrote_in : World → Option ℕ → Entry → ℕ → List ℕ → World
+wrote_in w s e n b = with_offset (unlocked n (changed_record w n (with_bytes e.file.offset b)) (w.alone n)) s e (length b)
 
 -- as many bytes as there are blocks for
-abbrev pub write_in : ℕ → World → Option ℕ → Entry → ℕ → List ℕ → Outside → Did Wrote World
-write_in h w s e n b Room = lock_if h n Whole w (wrote_in h w s e n b) (w.lock n)
-write_in h w s e n b (RoomFor k) = lock_if h n (Short k) w (wrote_in h w s e n (take k b)) (w.lock n)
-write_in h w s e n b (Picks k) = lock_if h n (Short 0) w (wrote_in h w s e n []) (w.lock n)
+abbrev pub write_in : World → Option ℕ → Entry → ℕ → List ℕ → Outside → Did Wrote World
+write_in w s e n b Room = Ran Whole (wrote_in w s e n b)
+write_in w s e n b (RoomFor k) = Ran (Short k) (wrote_in w s e n (take k b))
+write_in w s e n b (Picks k) = Ran (Short 0) (wrote_in w s e n [])
 
-abbrev pub write_if : ℕ → World → Option ℕ → Entry → ℕ → List ℕ → Outside → Option Cause → Did Wrote World
-write_if h w s e n b x (Some c) = lock_if h n (Refused c) w (locked h n w) (w.lock n)
-write_if h w s e n b x None = write_in h w s e n b x
+abbrev pub write_if : World → Option ℕ → Entry → ℕ → List ℕ → Outside → Option Cause → Did Wrote World
+write_if w s e n b x (Some c) = Ran (Refused c) (unlocked n w (w.alone n))
+write_if w s e n b x None = write_in w s e n b x
 
-abbrev pub write_at : ℕ → World → Option ℕ → ℕ → List ℕ → Outside → Option Entry → Did Wrote World
-write_at h w s n b x None = Ran (Refused BadDescriptor) w
-write_at h w s n b x (Some e) = write_if h w s e n b x (write_kind (node_or (w.disk n)).kind e.file.offset b)
+abbrev pub write_at : World → Option ℕ → ℕ → List ℕ → Outside → Option Entry → Did Wrote World
+write_at w s n b x None = Ran (Refused BadDescriptor) (unlocked n w (w.alone n))
+write_at w s n b x (Some e) = write_if w s e n b x (write_kind (node_or (w.disk n)).kind e.file.offset b)
 
 -- Current directories, and what a hart hands on.
 
@@ -410,10 +410,12 @@ exec h x (Empty n) w = Ran tt (changed_record w n with_no_bytes)
 exec h x Slot w = slot_if h w (first_from file_count 0 (is_empty_slot w))
 exec h x (Install f sort) w = install_if h w f sort (w.desks h).hand (has_room (w.desks h).fds)
 exec h x (StatFile fd) w = stat_at h w (entry_of w h fd)
-exec h x (ReadFile fd n) w = read_at h w n (slot_at w h fd) (entry_of w h fd) (read_refused (entry_of w h fd))
+exec h x (LockFile fd) w = lock_at h w (entry_of w h fd) (read_refused (entry_of w h fd))
+exec h x (ReadFile fd n count) w = read_at w n count (slot_at w h fd) (entry_of w h fd)
 exec h x (CheckFile fd) w = Ran (write_refused (entry_of w h fd)) w
 exec h x (JoinFile fd) w = join_at h w (entry_of w h fd) (write_refused (entry_of w h fd))
-exec h x (WriteFile fd n bytes) w = write_at h w (slot_at w h fd) n bytes x (entry_of w h fd)
+exec h x (LockOpen fd n) w = lock_if h n tt w (locked h n w) (w.lock n)
+exec h x (WriteFile fd n bytes) w = write_at w (slot_at w h fd) n bytes x (entry_of w h fd)
 exec h x (Double fd) w = double_at h w (slot_at w h fd) (entry_of w h fd)
 exec h x (Shut fd) w = close_at h w fd (slot_at w h fd) (entry_of w h fd)
 exec h x (Settle n) w = Ran (w.desks h).directory (with_directory (unlocked n w (w.alone n)) h n)

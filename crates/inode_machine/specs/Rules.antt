@@ -14,9 +14,9 @@ use Rattle.tree_moves.specs.Moves.{Stage, Step, Takes}
 use Rattle.inode_machine.specs.Inodes.{OfDirectory, sort_of, Looking}
 use Rattle.inode_machine.specs.Inodes.Looking.{AtNothing, AtName, AtEntries}
 use Rattle.inode_machine.specs.World.{Mine, Entry, Note, Desk, World, Op, Answer, Mark, Outside, stage_of}
-use Rattle.inode_machine.specs.World.Op.{Take, Give, UpStart, Up, WalkDown, Down, Free, Claim, Store, Fill, Enter, Clear, Empty, Slot, Install, StatFile, ReadFile, CheckFile, JoinFile, WriteFile, Double, Shut, Settle, Lend, LendDirectory, Release, Join, Leave, Say}
+use Rattle.inode_machine.specs.World.Op.{Take, Give, UpStart, Up, WalkDown, Down, Free, Claim, Store, Fill, Enter, Clear, Empty, Slot, Install, StatFile, LockFile, ReadFile, CheckFile, JoinFile, LockOpen, WriteFile, Double, Shut, Settle, Lend, LendDirectory, Release, Join, Leave, Say}
 use Rattle.inode_machine.specs.World.Outside.{Room, RoomFor, Picks}
-use Rattle.inode_machine.specs.Exec.{file_count, is_at, is_free, entry_of, next_used, child_of, given_of}
+use Rattle.inode_machine.specs.Exec.{file_count, is_at, is_free, entry_of, read_refused, next_used, child_of, given_of}
 use Rattle.inode_machine.specs.Marks.{go, places}
 
 -- all that is an inode's
@@ -249,8 +249,8 @@ EntryOut h w (Some e) = IsOut h (w.lock e.file.number)
 abbrev pub MayWait : ℕ → Op → World → Type 0
 MayWait h (Take n looking) w = IsOut h (w.lock n)
 MayWait h (StatFile fd) w = EntryOut h w (entry_of w h fd)
-MayWait h (ReadFile fd n) w = EntryOut h w (entry_of w h fd)
-MayWait h (WriteFile fd n bytes) w = IsOut h (w.lock n)
+MayWait h (LockFile fd) w = EntryOut h w (entry_of w h fd)
+MayWait h (LockOpen fd n) w = IsOut h (w.lock n)
 MayWait h op w = ⊥
 
 -- the most bytes that a call may ask for
@@ -278,8 +278,8 @@ Sought AtEntries = Unit {0}
 -- name; who refers to one more has found it in a directory that it keeps; who gives a reference up, to none or to a table, has one besides its current directory's;
 -- who changes an inode has its lock and has joined; who joins, leaves, opens by a descriptor or replies has no lock; who hands a descriptor on has handed on none
 -- from there, and where it has none hands the directory on at once; who hands that on, or lets a child go, has no descriptor on its way.
--- A record is changed that is there, and of the operation's kind; as much is read as a call may ask for; a piece is written to the inode that its descriptor has;
--- who shuts a descriptor hands none on.
+-- A record is changed that is there, and of the operation's kind; as much is read as a call may ask for, of the inode that its descriptor has, and a piece is
+-- written to that; who shuts a descriptor hands none on.
 
 abbrev pub Locks : ℕ → ℕ → World → Type 0
 Locks h n w = w.lock n ≡ Some h
@@ -315,6 +315,13 @@ pub record HasRecord (n : ℕ) (w : World) (P : Node → Type 0) : Type 0 where
 abbrev pub IsNumber : ℕ → World → Type 0
 IsNumber n w = (1 ≤ n) × (n < w.all.ninodes)
 
+-- a descriptor is open to read, of this inode
+pub record Reads (h fd n : ℕ) (w : World) : Type 0 where
+  pub entry : Entry
+  pub at : entry_of w h fd ≡ Some entry
+  pub number : entry.file.number ≡ n
+  pub readable : read_refused (Some entry) ≡ None
+
 -- a descriptor is open to write, of this inode
 pub record Writes (h fd n : ℕ) (w : World) : Type 0 where
   pub entry : Entry
@@ -339,10 +346,12 @@ Asks h (Empty n) w = Changes h n w × HasRecord n w (λ v. is_file v.kind ≡ tr
 Asks h Slot w = (w.desks h).hand ≡ None
 Asks h (Install f sort) w = ((w.desks h).hand ≢ None) × (f.offset ≡ 0) × Spares h f.number w
 Asks h (StatFile fd) w = LocksNone h w
-Asks h (ReadFile fd n) w = LocksNone h w × (n ≤ asked_limit)
+Asks h (LockFile fd) w = LocksNone h w
+Asks h (ReadFile fd n count) w = Locks h n w × Reads h fd n w × (count ≤ asked_limit)
 Asks h (CheckFile fd) w = Unit {0}
 Asks h (JoinFile fd) w = LocksNone h w × ((w.desks h).joined ≡ false)
-Asks h (WriteFile fd n bytes) w = LocksNone h w × ((w.desks h).joined ≡ true) × Writes h fd n w × (length bytes ≤ piece_width)
+Asks h (LockOpen fd n) w = LocksNone h w × Writes h fd n w
+Asks h (WriteFile fd n bytes) w = Changes h n w × Writes h fd n w × (length bytes ≤ piece_width)
 Asks h (Double fd) w = Unit {0}
 Asks h (Shut fd) w = LocksNone h w × ((w.desks h).lent ≡ nothing)
 Asks h (Settle n) w = Locks h n w × Spares h n w
@@ -397,8 +406,10 @@ more (Enter d e n) = 1640
 more (Clear d e) = 12
 more (Empty n) = 900
 more (StatFile fd) = 3
-more (ReadFile fd n) = 1611
-more (WriteFile fd n bytes) = 100
+more (LockFile fd) = 3
+more (ReadFile fd n count) = 1608
+more (LockOpen fd n) = 3
+more (WriteFile fd n bytes) = 97
 more Leave = 62
 more op = 0
 

@@ -88,13 +88,16 @@ pub data Op : Type 0 where
   -- a slot of the table is taken; and the lowest descriptor for it, with this open file, of an inode of this type
   Slot : Op
   Install : OpenFile → Sort → Op
-  -- the lock of a descriptor's inode is taken, to tell its state, or to read a part, and the offset moves
+  -- the lock of a descriptor's inode is taken, to tell its state; or to read of it
   StatFile : ℕ → Op
-  ReadFile : ℕ → ℕ → Op
+  LockFile : ℕ → Op
+  -- of that inode so many bytes are read, the offset moves, and the lock is given up
+  ReadFile : ℕ → ℕ → ℕ → Op
   -- a descriptor to write to is looked up: for no bytes; to join a transaction
   CheckFile : ℕ → Op
   JoinFile : ℕ → Op
-  -- the lock of the inode behind a descriptor is taken, a piece written, and the offset moves
+  -- the lock of the inode behind it is taken; a piece is written, the offset moves, and the lock is given up
+  LockOpen : ℕ → ℕ → Op
   WriteFile : ℕ → ℕ → List ℕ → Op
   -- one more descriptor for a descriptor's open file; a descriptor is free
   Double : ℕ → Op
@@ -122,10 +125,10 @@ pub data Entered : Type 0 where
   NoBlock : Entered
   NoSlot : Entered
 
--- a part was read of this inode, or the descriptor isn't for that
-pub data Readout : Type 0 where
-  NotRead : Cause → Readout
-  Part : ℕ → List ℕ → Readout
+-- the lock was taken of this inode, or the descriptor isn't for that
+pub data Locking : Type 0 where
+  NotLocked : Cause → Locking
+  LocksIt : ℕ → Locking
 
 -- the transaction is joined for this inode
 pub data Joining : Type 0 where
@@ -160,9 +163,11 @@ Answer (Empty n) = Unit {0}
 Answer Slot = Bool
 Answer (Install f sort) = Option ℕ
 Answer (StatFile fd) = Option (ℕ × Face)
-Answer (ReadFile fd n) = Readout
+Answer (LockFile fd) = Locking
+Answer (ReadFile fd n count) = List ℕ
 Answer (CheckFile fd) = Option Cause
 Answer (JoinFile fd) = Joining
+Answer (LockOpen fd n) = Unit {0}
 Answer (WriteFile fd n bytes) = Wrote
 Answer (Double fd) = Option (Option ℕ)
 Answer (Shut fd) = Option (Option ℕ)
