@@ -19,7 +19,7 @@ use Rattle.inode_data.specs.Addresses.{address, table_of}
 use Rattle.inode_data.specs.Programs.{Fetched, fetch_at, fetch_block, fetch_named, fetch_number, give_fetched}
 use Rattle.directory.specs.declared.found.Found.{Found}
 use Rattle.directory.specs.Slots.{is_used, first_named, first_free, first_used}
-use Rattle.directory.specs.Programs.{Aim, Named, Unused, Entry, block_count, slot_count, slots_in, first_in, found_at, found_in, look_at, or_next, search, search_from}
+use Rattle.directory.specs.Programs.{Aim, Named, Unused, Entry, block_count, slot_count, slots_in, first_in, found_at, found_in, look_at, or_next, search_from}
 use Rattle.directory.specs.Laws.{Shows, slot_at, is_sought, number_of, IsFirst, FindsTheFirst, FindsNothingInTheDead}
 use Rattle.directory.proofs.EntryNumbers.{sought-number}
 
@@ -86,6 +86,16 @@ first-in Entry k limit block =
 
 -- ---- a search
 
+-- what was found first, else this
+abbrev pub else_found : Option Found → Option Found → Option Found
+else_found (Some f) behind = Some f
+else_found None behind = behind
+
+-- what is found in so many blocks from block k on
+unfoldable pub found_from : ℕ → Aim → Dinode → (ℕ → List ℕ) → ℕ → Option Found
+found_from zero aim d content k = None
+found_from (suc n) aim d content k = else_found (found_in aim d k (content k)) (found_from n aim d content (k + 1))
+
 module _ (content : ℕ → List ℕ) (aim : Aim) where
   abbrev is_at : ℕ → Bool
   is_at s = is_sought aim s (slot_at content s)
@@ -121,11 +131,9 @@ module _ (content : ℕ → List ℕ) (aim : Aim) where
         )
 
   -- what a block has, else what the blocks behind it have
-  or-behind : (answer : Answering) (m lo mid hi : ℕ) (o : Option Found) (next : P (Option Found)) → lo ≤ mid → mid ≤ hi
-      → IsBetween lo mid o → ((n : ℕ) → IsBetween mid hi (outcome answer n next)) → ((n : ℕ) → recorded answer n next ≡ [])
-      → IsBetween lo hi (outcome answer m (or_next o next)) × (recorded answer m (or_next o next) ≡ [])
-  or-behind answer m lo mid hi (Some f) next l h here rest quiet = ((here.0, omega (arith, here.1), here.2, here.3, here.4), refl)
-  or-behind answer m lo mid hi None next l h here rest quiet = (joins (outcome answer m next) (rest m), quiet m)
+  joined_finds : (lo mid hi : ℕ) (here behind : Option Found) → lo ≤ mid → mid ≤ hi → IsBetween lo mid here → IsBetween mid hi behind → IsBetween lo hi (else_found here behind)
+  joined_finds lo mid hi (Some f) behind l h here rest = (here.0, omega (arith, here.1), here.2, here.3, here.4)
+  joined_finds lo mid hi None behind l h here rest = joins behind rest
     where
       below : (s : ℕ) → lo ≤ s → (s < mid → is_at s ≡ false) → (mid ≤ s → is_at s ≡ false) → is_at s ≡ false
       below s a low high = ⊎_elim low high (cases_lt s mid)
@@ -140,41 +148,57 @@ module _ (content : ℕ → List ℕ) (aim : Aim) where
   widen lo mid hi (Some f) l gap g =
       (omega (arith, g.0), g.1, g.2, g.3, λ s a b. ⊎_elim (λ (c : s < mid). absurd (gap s a c (omega (arith, g.1)))) (λ (c : mid ≤ s). g.4 s c b) (cases_lt s mid))
 
-  module _ (answer : Answering) (d : Dinode) (shows : Shows answer d content) where
-    abbrev Finds : ℕ → ℕ → P (Option Found) → Type 0
-    Finds lo m p = IsBetween lo (slot_count d) (outcome answer m p) × (recorded answer m p ≡ [])
-
+  module _ (d : Dinode) where
     -- block k, and then those behind it
-    one_block : (k m : ℕ) (next : P (Option Found)) → k < block_count d → ((n : ℕ) → Finds (64 * (k + 1)) n next) → Finds (64 * k) m (bind (fetch_block d k) (look_at aim d k next))
+    one_block : (k : ℕ) (behind : Option Found) → k < block_count d → IsBetween (64 * (k + 1)) (slot_count d) behind
+        → IsBetween (64 * k) (slot_count d) (else_found (found_in aim d k (content k)) behind)
     unfolding found_in
-    one_block k m next lt behind =
-        let p : P Fetched = fetch_block d k in
-        let r = later answer m p (look_at aim d k next) in
+    one_block k behind lt rest =
         let mid : ℕ = 64 * k + slots_in d k in
-        let here : IsBetween (64 * k) mid (found_in aim d k (content k)) =
-        block-finds k (slots_in d k) (omega arith) (first_in aim k (slots_in d k) (content k)) (first-in aim k (slots_in d k) (content k)) in
-        let rest = or-behind answer (r.at + 1) (64 * k) mid (slot_count d) (found_in aim d k (content k)) next (omega arith) (omega arith) here
-        (λ n. widen mid (64 * (k + 1)) (slot_count d) (outcome answer n next) (omega arith) (λ s a b c. omega arith) (behind n).0) (λ n. (behind n).1) in
-        let same : (outcome answer m p).bytes ≡ content k = shows m k lt in (
-          subst (IsBetween (64 * k) (slot_count d)) (sym (r.ends ∙ ap (λ (bytes : List ℕ). outcome answer (r.at + 1) (or_next (found_in aim d k bytes) next)) same)) rest.0,
+        joined_finds (64 * k) mid (slot_count d) (found_in aim d k (content k)) behind (omega arith) (omega arith)
+        (block-finds k (slots_in d k) (omega arith) (first_in aim k (slots_in d k) (content k)) (first-in aim k (slots_in d k) (content k)))
+        (widen mid (64 * (k + 1)) (slot_count d) behind (omega arith) (λ s a b c. omega arith) rest)
+
+    finds_from : (n k : ℕ) → k + n ≡ block_count d → IsBetween (64 * k) (slot_count d) (found_from n aim d content k)
+    unfolding found_from
+    finds_from zero k e = λ s l h. absurd (omega arith)
+    finds_from (suc n) k e = one_block k (found_from n aim d content (k + 1)) (omega arith) (finds_from n (k + 1) (omega arith))
+
+    first-of : (o : Option Found) → IsBetween (64 * 0) (slot_count d) o → IsFirst aim (slot_at content) (slot_count d) o
+    first-of None f = λ s h. f s (omega arith) h
+    first-of (Some f) g = (g.1, g.2, g.3, λ s h. g.4 s (omega arith) h)
+
+    -- by its blocks, one after the other, the first of its slots is found
+    pub found_first : IsFirst aim (slot_at content) (slot_count d) (found_from (block_count d) aim d content 0)
+    found_first = first-of (found_from (block_count d) aim d content 0) (finds_from (block_count d) 0 (zero-add (block_count d)))
+
+  module _ (answer : Answering) (d : Dinode) (shows : Shows answer d content) where
+    -- a program finds this, and records nothing
+    abbrev Finds : ℕ → P (Option Found) → Option Found → Type 0
+    Finds m p o = (outcome answer m p ≡ o) × (recorded answer m p ≡ [])
+
+    or_behind : (m : ℕ) (here behind : Option Found) (next : P (Option Found)) → ((n : ℕ) → Finds n next behind) → Finds m (or_next here next) (else_found here behind)
+    or_behind m (Some f) behind next rest = (refl, refl)
+    or_behind m None behind next rest = rest m
+
+    from : (n k : ℕ) → k + n ≡ block_count d → (m : ℕ) → Finds m (search_from n aim d k) (found_from n aim d content k)
+    unfolding search_from found_from
+    from zero k e m = (refl, refl)
+    from (suc n) k e m =
+        let p : P Fetched = fetch_block d k in
+        let next : P (Option Found) = search_from n aim d (k + 1) in
+        let r = later answer m p (look_at aim d k next) in
+        let same : (outcome answer m p).bytes ≡ content k = shows m k (omega arith) in
+        let there = or_behind (r.at + 1) (found_in aim d k (content k)) (found_from n aim d content (k + 1)) next (λ i. from n (k + 1) (omega arith) i) in (
+          r.ends ∙ ap (λ (bytes : List ℕ). outcome answer (r.at + 1) (or_next (found_in aim d k bytes) next)) same ∙ there.0,
           r.records ∙ ap (λ xs. xs ++ recorded answer r.at (look_at aim d k next (outcome answer m p))) (at-silent answer m d (address k))
-              ∙ ap (λ (bytes : List ℕ). recorded answer (r.at + 1) (or_next (found_in aim d k bytes) next)) same ∙ rest.1,
+              ∙ ap (λ (bytes : List ℕ). recorded answer (r.at + 1) (or_next (found_in aim d k bytes) next)) same ∙ there.1,
         )
-
-    from : (n k : ℕ) → k + n ≡ block_count d → (m : ℕ) → Finds (64 * k) m (search_from n aim d k)
-    unfolding search_from
-    from zero k e m = (λ s l h. absurd (omega arith), refl)
-    from (suc n) k e m = one_block k m (search_from n aim d (k + 1)) (omega arith) (λ i. from n (k + 1) (omega arith) i)
-
-  first-of : (count : ℕ) (o : Option Found) → IsBetween (64 * 0) count o → IsFirst aim (slot_at content) count o
-  first-of count None f = λ s h. f s (omega arith) h
-  first-of count (Some f) g = (g.1, g.2, g.3, λ s h. g.4 s (omega arith) h)
 
 pub dead_finds : FindsNothingInTheDead
 dead_finds name d dead = rw dead refl
 
 pub finds_first : FindsTheFirst
 finds_first answer d content aim shows =
-    let p : P (Option Found) = search aim d in
     let found = from content aim answer d shows (block_count d) 0 (zero-add (block_count d)) 0 in
-    (first-of content aim (slot_count d) (outcome answer 0 p) found.0, found.1)
+    (subst (λ (o : Option Found). IsFirst aim (slot_at content) (slot_count d) o) (sym found.0) (found_first content aim d), found.1)

@@ -37,3 +37,6 @@ pub mod Accounts
 pub mod Counted
 pub mod ContentFetch
 pub mod ContentReads
+pub mod Looks
+pub mod DirectorySearches
+pub mod TakeSteps

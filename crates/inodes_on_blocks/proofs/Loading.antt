@@ -28,7 +28,7 @@ use Rattle.inode_machine.specs.Rules.{if_kept}
 use Rattle.inode_table.specs.Programs.{inode_block, place_of, give_back, load_unless}
 use Rattle.inodes_on_blocks.specs.Below.{World, log_of, tables_of, disk_of, inode_in}
 use Rattle.inodes_on_blocks.specs.Shown.{Shows}
-use Rattle.inodes_on_blocks.specs.Lowering.{Same, Carry, Stands, below, buffer_in, Labels, labelled, Keeps}
+use Rattle.inodes_on_blocks.specs.Lowering.{Same, Kept, Carry, Stands, below, buffer_in, Labels, labelled, Keeps}
 use Rattle.inodes_on_blocks.specs.Holding.{in_hand, SameBut}
 use Rattle.inodes_on_blocks.proofs.Alone.{kept_then}
 use Rattle.inodes_on_blocks.proofs.Fetching.{but_then, s-fetch, s-back}
@@ -105,10 +105,11 @@ module _ (sizes : Super) (l : Labels) (laws : Laws (labelled l)) (keeps : Keeps 
     -- A hart that has an inode's lock goes on with its record, whether that was loaded or isn't yet.
     pub s-load : (n : ℕ) (content : Option Dinode) (c : Carry) (k : Dinode → P M A) (j : ℕ) (es : List l.Step) (w : W) → G es w.seen → Stands sizes h w.real w.seen c → lock_holder n (tables_of w.real) ≡ Some h → n < sizes.ninodes
         → ((d : Dinode) → content ≡ Some d → d ≡ inode_in (log_of w.real) n)
-        → ((v : W) (fs : List l.Step) → G fs v.seen → Stands sizes h v.real v.seen c → Wp M h B Q (k (inode_in (log_of w.real) n)) j fs v)
+        → ((v : W) (fs : List l.Step) → Same h w.real v.real → Kept h w.seen v.seen → G fs v.seen → Stands sizes h v.real v.seen c → Wp M h B Q (k (inode_in (log_of w.real) n)) j fs v)
         → Wp M h B Q (bind (load_unless sizes.inodestart n content) k) (suc (suc (suc j))) es w
     s-load n (Some d) c k j es w stage stands mine low fits rest =
-        Wp-more M h (k d) B Q j (suc (suc (suc j))) es w (omega arith) (subst (λ (x : Dinode). Wp M h B Q (k x) j es w) (sym (fits d refl)) (rest w es stage stands))
+        Wp-more M h (k d) B Q j (suc (suc (suc j))) es w (omega arith)
+        (subst (λ (x : Dinode). Wp M h B Q (k x) j es w) (sym (fits d refl)) (rest w es ((below_laws sizes l keeps).same h w.real) (record { same = λ free. refl; rests = λ idle. idle }) stage stands))
     s-load n None c k j es w stage stands mine low fits rest =
         subst (λ (p : P M A). Wp M h B Q p (suc (suc (suc j))) es w) (sym (bind-assoc (fetch b) (give_back b n) k))
         (s-fetch sizes l laws keeps h lt B Q G stable b (λ bytes. bind (give_back b n bytes) k) (suc j) es w stage (let none = stands.0.free in omega (arith, none))
@@ -119,8 +120,9 @@ module _ (sizes : Super) (l : Labels) (laws : Laws (labelled l)) (keeps : Keeps 
         s-back sizes l laws keeps h lt B Q G stable b (λ _. k (dinode_at (place_of n) (seen_of (log_of u.real) b))) j gs u got.stage got.buffer.holder (place u.real u.seen got.shows at).0
         (λ v fs back.
         let same = same_again h b w.real v.real (but_then h b w.real u.real v.real got.since back.since) stands.0.free (let up = got.count in let down = back.count in let none = stands.0.free in omega (arith, up, down, none)) in
+        let kept = kept_then h w.seen u.seen v.seen got.kept back.kept in
         subst (λ (x : Dinode). Wp M h B Q (k x) j fs v) (sym record_is)
-        (rest v fs back.stage ((below_laws sizes l keeps).base h w.real v.real w.seen v.seen c same (kept_then h w.seen u.seen v.seen got.kept back.kept) stands)))))
+        (rest v fs same kept back.stage ((below_laws sizes l keeps).base h w.real v.real w.seen v.seen c same kept stands)))))
       where
         b : ℕ
         b = inode_block sizes.inodestart n

@@ -1,5 +1,5 @@
--- The operations that lock an inode and load it act where the lock is had.
-use Rattle.std.proofs.Common.{◌≡◌, ◌≢◌, inl, inr, ℕ, pos, ◌<◌, Bool, true, false, List, Option, Some, None, refl, sym, ◌∙◌, ap, subst, arith, if◌then◌else◌}
+-- An operation that locks an inode and loads it acts where the lock is had: so the one that tells a descriptor's state.
+use Rattle.std.proofs.Common.{◌≡◌, ◌≢◌, inl, inr, ℕ, pos, ◌<◌, Bool, false, List, Option, Some, None, refl, sym, ◌∙◌, ap, subst, arith, if◌then◌else◌}
 use Rattle.std.specs.Prelude.{IsSome}
 use Rattle.std.specs.Option.{option_map, MatchOption}
 use Rattle.std.proofs.lemmas.Option.{none-some}
@@ -13,7 +13,7 @@ use Rattle.plain_tree.specs.Widths.{hart_count}
 use Rattle.tree_laws.proofs.Maps.{same_or, put_same, put_other}
 use Rattle.image_tree.specs.Inodes.{is_number, is_free}
 use Rattle.image_laws.specs.Holds.{IsInode, IsRecord, type_in}
-use Rattle.atomic_programs.specs.Prog.{bind, Did, Waits, Ran, did_in}
+use Rattle.atomic_programs.specs.Prog.{Did, Waits, Ran, did_in}
 use Rattle.atomic_programs.specs.Logic.{Laws, Wp}
 use Rattle.atomic_programs.specs.Joined.{Both, joined, Below, Lasts}
 use Rattle.atomic_programs.proofs.Joined.{Acting, acted, s-act}
@@ -27,7 +27,7 @@ use Rattle.fs_machine.specs.Steps as steps
 use Rattle.fs_machine.specs.Steps.{Lock, LockFile}
 use Rattle.fs_machine.specs.Premises as premises
 use Rattle.fs_machine.specs.Premises.{MayLockFile, IsElsewhere}
-use Rattle.inode_machine.specs.Inodes.{Face, Seen, AtNothing, face_of, face_or, seen_in}
+use Rattle.inode_machine.specs.Inodes.{Face, face_of, face_or}
 use Rattle.inode_machine.specs.World as above
 use Rattle.inode_machine.specs.World.{Entry}
 use Rattle.inode_machine.specs.World.Op.{Take, StatFile}
@@ -36,7 +36,7 @@ use Rattle.inode_machine.specs.Exec.{entry_at, entry_of, slot_at, lock_if, locke
 use Rattle.inode_machine.specs.Marks.{marked, with_mark}
 use Rattle.inode_machine.specs.Rules as rules
 use Rattle.inode_machine.specs.Rules.{Inv}
-use Rattle.inode_machine.proofs.Frame.{one_refs, ours_none, ours_some}
+use Rattle.inode_machine.proofs.Frame.{ours_none, ours_some}
 use Rattle.inode_machine.proofs.Freeing.{lone_file}
 use Rattle.inode_machine.proofs.Rules.{opens_slots}
 use Rattle.inode_machine.proofs.Stats.{node_there}
@@ -48,8 +48,7 @@ use Rattle.inodes_on_blocks.specs.Below.{World, log_of, tables_of, inode_in, exe
 use Rattle.inodes_on_blocks.specs.Shown.{Shows}
 use Rattle.inodes_on_blocks.specs.Lowering.{Carry, IsLoaded, InHand, Base, Stands, below, Labels, labelled, Keeps}
 use Rattle.inodes_on_blocks.specs.Acting.{ActsOnceAt}
-use Rattle.inodes_on_blocks.specs.Reading.{face_in, sort_at, natural, stat_file, stat_locked, stat_loaded, take, taken_record}
-use Rattle.inode_table.specs.Programs.{load_unless}
+use Rattle.inodes_on_blocks.specs.Reading.{face_in, sort_at, natural, stat_file, stat_locked, stat_loaded}
 use Rattle.inodes_on_blocks.proofs.Layer.{below_laws, base_marked, tables_left}
 use Rattle.inodes_on_blocks.proofs.Loading.{s-load}
 use Rattle.inodes_on_blocks.proofs.Marked.{marked_same, shows_marked}
@@ -73,7 +72,7 @@ face_held d None is typed = absurd (typed refl)
 face_held d (Some v) is typed = face_is d v is
 
 -- an inode that has a type isn't free
-in_use : (d : Dinode) (v : Node) → IsInode d v → is_free d ≡ false
+pub in_use : (d : Dinode) (v : Node) → IsInode d v → is_free d ≡ false
 in_use d v is = ap (is_number 0) is.kind ∙ by_kind v.kind
   where
     by_kind : (k : Kind) → is_number 0 (pos (type_in k)) ≡ false
@@ -177,7 +176,7 @@ module _ (l : Labels) (laws : Laws (labelled l)) (keeps : Keeps l) (h : ℕ) (lt
   -- ---- an operation acts where its step came so
 
   module _ (sizes : Super) (op : above.Op) (m : above.Answer op → Option above.Mark) (B : List l.Step → Type 0) (C : above.Answer op → List l.Step → above.World → Type 0) (lasts : Lasts (labelled l) h B C) where
-    came_acting : {A : Type 0} (v : W) (wait : Type 0) (a : A) (r : World) (b : above.Answer op) (c : Carry) (N : A → above.Answer op → World → above.World → Type 0) → rules.Honest h op v.seen above.Room → (log_of r).sizes ≡ sizes
+    pub came_acting : {A : Type 0} (v : W) (wait : Type 0) (a : A) (r : World) (b : above.Answer op) (c : Carry) (N : A → above.Answer op → World → above.World → Type 0) → rules.Honest h op v.seen above.Room → (log_of r).sizes ≡ sizes
         → Came l laws keeps h op v b r c → ((g : above.World) → Stands sizes h r g c → N a b r g)
         → Acting (labelled l) (below sizes) laws (below_laws sizes l keeps) h B op m C lasts above.Room v wait (Ran a r) N
     came_acting v wait a r b c N honest at came next =
@@ -261,56 +260,4 @@ module _ (l : Labels) (laws : Laws (labelled l)) (keeps : Keeps l) (h : ℕ) (lt
                 n (loaded (tables_of v.real) n) (put c n (Some d)) (stat_loaded c n) 0 gs (record { real = with_tables v.real u; seen = g }) done stands_g
                 (sym (after.places.holders n) ∙ put_same v.seen.lock n (Some h)) (let top = range.1 in let size = shows.size in subst (λ (s : Super). n < s.ninodes) stands_g.1 (omega (arith, top, size)))
                 (λ x e. shows.loads.seen n x e)
-                (λ z fs stage stands_z. (subst (λ (a : Option (ℕ × Face)). C a fs z.seen) (sym answer) stage, stands_z))
-
-  -- ---- an inode's lock and its record
-
-  module _ (sizes : Super) (n : ℕ) (m : Seen → Option above.Mark) where
-    pub take_acts : ActsOnceAt sizes l h (Take n AtNothing) m (take sizes n)
-    unfolding steps.exec premises.May premises.MayWait
-    take_acts c B C es w lasts todo stands =
-        s-act (labelled l) (below sizes) laws (below_laws sizes l keeps) h B (Take n AtNothing) m C lasts above.Room (Lock n) (λ content. bind (load_unless sizes.inodestart n content) (taken_record c n)) (Below (labelled l) (below sizes) h C) 3 es w todo
-        (λ v fs here may.
-        let stands_v = (below_laws sizes l keeps).base h w.real v.real w.seen v.seen c here.same here.kept stands in
-        let shows = here.shows in
-        let r = may.1.0 in
-        let some : 0 < v.seen.refs n = let all = one_refs v.seen h n here.inv lt in let own = r.0 in omega (arith, all, own) in
-        let p = place_there n (tables_of v.real) v.seen (loaded (tables_of v.real)) shows.tables some in (
-          (subst (λ (k : ℕ). 0 < k) (shows.tables.places.counts n) some, λ q. r.1 (shows.tables.places.holders n ∙ q)),
-          λ x t.
-              by_lock h n p.0 (tables_of v.real) v.seen (loaded (tables_of v.real)) shows.tables p.1 (IsActing v (exec h x (Lock n) v.real))
-              (λ waits g out. on_tables v x Waits waits (g, (λ q. r.1 (out ∙ ap (λ (z : ℕ). Some z) q)), sym (shows.tables.places.holders n) ∙ out))
-              (λ u ran free after.
-              on_tables v x (Ran (loaded (tables_of v.real) n) u) ran
-              (came_acting sizes (Take n AtNothing) m B C lasts v (premises.MayWait h (Lock n) v.real.state) (loaded (tables_of v.real) n) (with_tables v.real u) (seen_in n AtNothing (v.seen.disk n)) (put c n (Some (inode_in (log_of v.real) n))) Next tt stands_v.1
-              (lock_came (Take n AtNothing) n v c (seen_in n AtNothing (v.seen.disk n)) u shows stands_v.0 may.0 some free (may.1.1 free) (ap (lock_if h n (seen_in n AtNothing (v.seen.disk n)) v.seen (locked h n v.seen)) free) after)
-              (λ g stands_g gs inv_g done. loads v shows free some (may.1.1 free) u g after stands_g gs done))),
-        ))
-      where
-        Next : Option Dinode → Seen → World → above.World → Type 0
-        Next a b u g = (gs : List l.Step) → Inv g → C b gs g
-            → Wp (joined (labelled l) (below sizes)) h B (Below (labelled l) (below sizes) h C) (bind (load_unless sizes.inodestart n a) (taken_record c n)) 3 gs (record { real = u; seen = g })
-
-        IsActing : W → Did (Option Dinode) World → Type 0
-        IsActing v d = Acting (labelled l) (below sizes) laws (below_laws sizes l keeps) h B (Take n AtNothing) m C lasts above.Room v (premises.MayWait h (Lock n) v.real.state) d Next
-
-        on_tables : (v : W) (x : Outside) (d : Did (Option Dinode) TablesState) → lock_inode h n (tables_of v.real) ≡ d → IsActing v (did_in (with_tables v.real) d) → IsActing v (exec h x (Lock n) v.real)
-        on_tables v x d is acting =
-            subst (λ (z : Did (Option Dinode) World). IsActing v z) (sym (in_tables_is h (Lock n) v.real (λ a o. refl) (λ s. refl) (lock_inode h n (tables_of v.real)) ∙ ap (did_in (with_tables v.real)) is)) acting
-
-        loads : (v : W) → Shows v.real v.seen → v.seen.lock n ≡ None → 0 < v.seen.refs n → v.seen.disk n ≢ None → (u : TablesState) (g : above.World)
-            → tables.Shows u (locked h n v.seen) (put (loaded (tables_of v.real)) n None)
-            → Stands sizes h (with_tables v.real u) g (put c n (Some (inode_in (log_of v.real) n))) → (gs : List l.Step) → C (seen_in n AtNothing (v.seen.disk n)) gs g
-            → Wp (joined (labelled l) (below sizes)) h B (Below (labelled l) (below sizes) h C) (bind (load_unless sizes.inodestart n (loaded (tables_of v.real) n)) (taken_record c n)) 3 gs (record { real = with_tables v.real u; seen = g })
-        loads v shows free some there u g after stands_g gs done =
-            let d = inode_in (log_of v.real) n in
-            let range = shows.tables.range n some in
-            let b = seen_in n AtNothing (v.seen.disk n) in
-            let holds = unlocked_holds h lt v.real v.seen shows n free range.0 range.1 in
-            let answer : ◌≡◌ {A = Seen} (record { face = if is_free d then None else Some (face_in d); found = None; empty = true }) b =
-            ap (λ (f : Option Face). record { face = f; found = None; empty = true }) (face_seen d (v.seen.disk n) holds.inode there) in
-            s-load sizes l laws keeps h lt B (Below (labelled l) (below sizes) h C) (C b) (acted (labelled l) (below sizes) laws (below_laws sizes l keeps) h B (Take n AtNothing) m C lasts b)
-            n (loaded (tables_of v.real) n) (put c n (Some d)) (taken_record c n) 0 gs (record { real = with_tables v.real u; seen = g }) done stands_g
-            (sym (after.places.holders n) ∙ put_same v.seen.lock n (Some h)) (let top = range.1 in let size = shows.size in subst (λ (s : Super). n < s.ninodes) stands_g.1 (omega (arith, top, size)))
-            (λ x e. shows.loads.seen n x e)
-            (λ z fs stage stands_z. (subst (λ (a : Seen). C a fs z.seen) (sym answer) stage, stands_z))
+                (λ z fs same_z kept_z stage stands_z. (subst (λ (a : Option (ℕ × Face)). C a fs z.seen) (sym answer) stage, stands_z))

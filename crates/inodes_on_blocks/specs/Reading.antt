@@ -1,14 +1,17 @@
 -- The programs below of the operations that lock an inode and read it. sizes: of the mounted image.
-use Rattle.std.specs.Prelude.{ℕ, ℤ, pos, negsuc, true, Option, Some, None, if◌then◌else◌}
+use Rattle.std.specs.Prelude.{ℕ, ℤ, pos, negsuc, Bool, true, not, Option, Some, None, is_some, if◌then◌else◌}
+use Rattle.std.specs.Option.{option_map}
 use Rattle.atomic_programs.specs.Prog.{Ret, Do, bind}
 use Rattle.atomic_programs.specs.Joined.{Handed}
 use Rattle.fs_layout.specs.declared.inode.Dinode.{Dinode}
 use Rattle.fs_layout.specs.declared.superblock.Super.{Super}
+use Rattle.directory.specs.declared.found.Found.{Found}
+use Rattle.directory.specs.Programs.{Entry, is_directory, lookup, search}
 use Rattle.fs_machine.specs.Steps.{Lock, LockFile}
 use Rattle.fs_tables.specs.Inodes.{LockedState, Refuses, Locks}
 use Rattle.fs_tables.specs.declared.files.Want.TheVariants as want
 use Rattle.image_tree.specs.Inodes.{is_number, is_free}
-use Rattle.inode_machine.specs.Inodes.{Sort, OfDirectory, OfFile, OfDevice, Face, Seen, AtNothing}
+use Rattle.inode_machine.specs.Inodes.{Sort, OfDirectory, OfFile, OfDevice, Face, Seen, Looking, AtNothing, AtName, AtEntries}
 use Rattle.inode_machine.specs.World as above
 use Rattle.inode_machine.specs.World.Op.{Take, StatFile}
 use Rattle.inode_table.specs.Programs.{load_unless}
@@ -43,10 +46,26 @@ stat_locked sizes c (Locks f content) = bind (load_unless sizes.inodestart f.num
 abbrev pub stat_file : Super → (fd : ℕ) → Handler (StatFile fd)
 stat_file sizes fd c m = Do (LockFile want.Stat fd) (λ a. acts (StatFile fd) above.Room m) (stat_locked sizes c)
 
--- ---- an inode, locked and loaded
+-- ---- an inode, locked, loaded and looked at
 
-abbrev pub taken_record : Carry → (n : ℕ) → Dinode → P (Handed Seen Carry)
-taken_record c n d = Ret (record { answer = record { face = if is_free d then None else Some (face_in d); found = None; empty = true }; carry = put c n (Some d) })
+-- the number in a slot that was found
+abbrev pub number_found : Option Found → Option ℕ
+number_found o = option_map (λ f. f.number) o
 
-abbrev pub take : Super → (n : ℕ) → Handler (Take n AtNothing)
-take sizes n c m = Do (Lock n) (λ a. acts (Take n AtNothing) above.Room m) (λ content. bind (load_unless sizes.inodestart n content) (taken_record c n))
+-- a slot that is used past the first two: where the inode is no directory there is none
+abbrev pub search_entries : Dinode → P (Option Found)
+search_entries d = if is_directory d then search Entry d else Ret None
+
+-- what was seen of it, by its record, which is in hand from there on
+abbrev pub seen_record : Carry → (n : ℕ) → Dinode → (found : Option ℕ) → (empty : Bool) → P (Handed Seen Carry)
+seen_record c n d found empty = Ret (record { answer = record { face = if is_free d then None else Some (face_in d); found = found; empty = empty }; carry = put c n (Some d) })
+
+-- what is looked for in it
+abbrev pub looked : Looking → Carry → (n : ℕ) → Dinode → P (Handed Seen Carry)
+looked AtNothing c n d = seen_record c n d None true
+looked (AtName e) c n d = bind (lookup e d) (λ o. seen_record c n d (number_found o) true)
+looked AtEntries c n d = bind (search_entries d) (λ o. seen_record c n d None (not (is_some o)))
+
+-- It acts where the lock is had, as the other one does.
+abbrev pub take : Super → (n : ℕ) → (looking : Looking) → Handler (Take n looking)
+take sizes n looking c m = Do (Lock n) (λ a. acts (Take n looking) above.Room m) (λ content. bind (load_unless sizes.inodestart n content) (looked looking c n))

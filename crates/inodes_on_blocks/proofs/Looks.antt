@@ -1,0 +1,228 @@
+-- What a search of a directory's blocks finds is what its node has: under a name, and past its first two entries.
+use Rattle.std.proofs.Common.{◌≡◌, ⊎_elim, ℕ, zero, suc, ◌-◌, ◌*◌, ◌/◌, ◌<◌, ◌≤◌, nat_lt, ◌&&◌, ◌||◌, not, ℤ, pos, Bool, true, false, List, [], ◌∷◌, length, drop, get_or, Option, Some, None, is_some, refl, sym, ◌∙◌, ap, subst, arith, if◌then◌else◌}
+use Rattle.std.proofs.lemmas.Bool.{cases_lt, le-leb}
+use Rattle.std.proofs.lemmas.List.{get_or_append_left, get_or-append_right, get_or-map}
+use Rattle.directory.specs.declared.found.Found.{Found}
+use Rattle.directory.specs.Laws.{slot_at, is_sought, number_of, IsFirst}
+use Rattle.directory.specs.Programs.{Aim, Named, Entry, block_count, slot_count, is_number, is_positive, is_directory, is_live_directory}
+use Rattle.directory.specs.Slots.{is_named, is_used}
+use Rattle.directory.proofs.Searches.{found_from, found_first}
+use Rattle.fs_layout.specs.declared.inode.Dinode.{Dinode}
+use Rattle.fs_layout.specs.declared.entry.Dirent.{Dirent}
+use Rattle.fs_layout.specs.Widths.{block_len}
+use Rattle.image_tree.specs.Inodes.{inode_of, is_free, content_block, slot_at as slot_on, first_slots}
+use Rattle.image_laws.specs.Holds.{HoldsAt, HasContent, entry_of, size_in, type_in}
+use Rattle.image_laws.proofs.ImageNodes.{length_slots}
+use Rattle.plain_tree.specs.declared.node.Slot.{Slot}
+use Rattle.plain_tree.specs.declared.node.Node.{Node}
+use Rattle.plain_tree.specs.declared.node.Kind.{Kind}
+use Rattle.plain_tree.specs.declared.node.Kind.TheVariants.{Directory, File, Device}
+use Rattle.plain_tree.specs.Steps as steps
+use Rattle.plain_tree.specs.Steps.{any_used}
+use Rattle.plain_tree.specs.Tree as tree
+use Rattle.plain_tree.specs.Tree.{Name, first_slot, live_directory, look, same_name, slots_of}
+use Rattle.plain_tree.proofs.PathLemmas.{same_pointwise}
+use Rattle.inode_machine.specs.Inodes.{is_empty_kind, is_empty_node}
+use Rattle.inodes_on_blocks.specs.Reading.{number_found}
+
+-- ---- slots as they are read
+
+-- these slots are read so, one by one
+abbrev pub AreRead : (ℕ → Option Dirent) → List (Option Slot) → Type 0
+AreRead read slots = (s : ℕ) → s < length slots → read s ≡ entry_of (get_or slots s None)
+
+behind : (read : ℕ → Option Dirent) (x : Option Slot) (slots : List (Option Slot)) → AreRead read (x ∷ slots) → AreRead (λ s. read (suc s)) slots
+behind read x slots are = λ s lt. are (suc s) (omega (arith, lt))
+
+first : (read : ℕ → Option Dirent) (x : Option Slot) (slots : List (Option Slot)) → AreRead read (x ∷ slots) → read 0 ≡ entry_of x
+first read x slots are = are 0 (omega arith)
+
+-- ---- under a name
+
+misses : (x : Option Slot) (slots : List (Option Slot)) (e : Name) → is_named e (entry_of x) ≡ false → first_slot (x ∷ slots) e ≡ first_slot slots e
+unfolding first_slot
+misses None slots e h = refl
+misses (Some s) slots e h = let same : same_name s.name e ≡ false = sym (same_pointwise s.name e) ∙ h in rw same refl
+
+hits : (x : Option Slot) (slots : List (Option Slot)) (e : Name) → is_named e (entry_of x) ≡ true → first_slot (x ∷ slots) e ≡ Some (number_of (entry_of x))
+unfolding first_slot
+hits None slots e h = cc
+hits (Some s) slots e h = let same : same_name s.name e ≡ true = sym (same_pointwise s.name e) ∙ h in rw same refl
+
+none_named : (slots : List (Option Slot)) (e : Name) (read : ℕ → Option Dirent) → AreRead read slots → ((s : ℕ) → s < length slots → is_named e (read s) ≡ false) → first_slot slots e ≡ None
+unfolding first_slot
+none_named [] e read are none = refl
+none_named (x ∷ slots) e read are none =
+    misses x slots e (ap (is_named e) (sym (first read x slots are)) ∙ none 0 (omega arith))
+    ∙ none_named slots e (λ s. read (suc s)) (behind read x slots are) (λ s lt. none (suc s) (omega (arith, lt)))
+
+first_named : (slots : List (Option Slot)) (e : Name) (read : ℕ → Option Dirent) (k : ℕ) → AreRead read slots → k < length slots → is_named e (read k) ≡ true → ((s : ℕ) → s < k → is_named e (read s) ≡ false)
+    → first_slot slots e ≡ Some (number_of (read k))
+first_named [] e read k are lt is none = absurd (omega (arith, lt))
+first_named (x ∷ slots) e read zero are lt is none =
+    hits x slots e (ap (is_named e) (sym (first read x slots are)) ∙ is) ∙ ap (λ (y : Option Dirent). Some (number_of y)) (sym (first read x slots are))
+first_named (x ∷ slots) e read (suc k) are lt is none =
+    misses x slots e (ap (is_named e) (sym (first read x slots are)) ∙ none 0 (omega arith))
+    ∙ first_named slots e (λ s. read (suc s)) k (behind read x slots are) (omega (arith, lt)) is (λ s l. none (suc s) (omega (arith, l)))
+
+-- the first slot of that name has the number that the node has
+pub found_is : (slots : List (Option Slot)) (e : Name) (read : ℕ → Option Dirent) (o : Option Found) → AreRead read slots → IsFirst (Named e) read (length slots) o → number_found o ≡ first_slot slots e
+found_is slots e read None are is = sym (none_named slots e read are is)
+found_is slots e read (Some f) are is = ap (λ (n : ℕ). Some n) is.2 ∙ sym (first_named slots e read f.slot are is.0 is.1 is.3)
+
+-- ---- used slots
+
+used_as : (x : Option Slot) → is_used (entry_of x) ≡ steps.is_used x
+used_as None = refl
+used_as (Some s) = refl
+
+none_used : (slots : List (Option Slot)) (read : ℕ → Option Dirent) → AreRead read slots → ((s : ℕ) → s < length slots → is_used (read s) ≡ false) → any_used slots ≡ false
+unfolding any_used
+none_used [] read are none = refl
+none_used (x ∷ slots) read are none =
+    let here : steps.is_used x ≡ false = sym (used_as x) ∙ ap is_used (sym (first read x slots are)) ∙ none 0 (omega arith) in
+    rw here (none_used slots (λ s. read (suc s)) (behind read x slots are) (λ s lt. none (suc s) (omega (arith, lt))))
+
+some_used : (slots : List (Option Slot)) (read : ℕ → Option Dirent) (k : ℕ) → AreRead read slots → k < length slots → is_used (read k) ≡ true → any_used slots ≡ true
+unfolding any_used
+some_used [] read k are lt is = absurd (omega (arith, lt))
+some_used (x ∷ slots) read zero are lt is =
+    let here : steps.is_used x ≡ true = sym (used_as x) ∙ ap is_used (sym (first read x slots are)) ∙ is in
+    rw here refl
+some_used (x ∷ slots) read (suc k) are lt is = either (steps.is_used x) (some_used slots (λ s. read (suc s)) k (behind read x slots are) (omega (arith, lt)) is)
+  where
+    either : (b : Bool) → any_used slots ≡ true → (b || any_used slots) ≡ true
+    either true h = refl
+    either false h = h
+
+-- past the first two
+past : (slots : List (Option Slot)) (read : ℕ → Option Dirent) (o : Option Found) → AreRead read slots → IsFirst Entry read (length slots) o → not (is_some o) ≡ not (any_used (drop 2 slots))
+unfolding any_used
+past [] read None are is = refl
+past [] read (Some f) are is = absurd (let lt = is.0 in omega (arith, lt))
+past (x ∷ []) read None are is = refl
+past (x ∷ []) read (Some f) are is = absurd (early read f.slot (is.0) is.1)
+  where
+    early : (read : ℕ → Option Dirent) (k : ℕ) → k < 1 → is_sought Entry k (read k) ≡ true → ⊥
+    early read zero lt is = cc
+    early read (suc k) lt is = absurd (omega (arith, lt))
+past (x ∷ y ∷ slots) read None are is =
+    ap not (sym (none_used slots (λ s. read (suc (suc s))) (behind (λ s. read (suc s)) y slots (behind read x (y ∷ slots) are))
+    (λ s lt. sym (ap (λ (b : Bool). b && is_used (read (suc (suc s)))) (le-leb 2 (suc (suc s)) (omega arith))) ∙ is (suc (suc s)) (omega (arith, lt)))))
+past (x ∷ y ∷ slots) read (Some f) are is = ap not (sym (by f.slot is.0 is.1))
+  where
+    by : (k : ℕ) → k < length (x ∷ y ∷ slots) → is_sought Entry k (read k) ≡ true → any_used slots ≡ true
+    by zero lt is = cc
+    by (suc zero) lt is = cc
+    by (suc (suc k)) lt is =
+        some_used slots (λ s. read (suc (suc s))) k (behind (λ s. read (suc s)) y slots (behind read x (y ∷ slots) are)) (omega (arith, lt))
+        (sym (ap (λ (b : Bool). b && is_used (read (suc (suc k)))) (le-leb 2 (suc (suc k)) (omega arith))) ∙ is)
+
+-- ---- an inode that holds a directory
+
+read_slots : (disk : List (List ℕ)) (d : Dinode) (n s : ℕ) (x : Option Dirent) → s < n → get_or (first_slots disk d n) s x ≡ slot_on disk d s
+unfolding first_slots
+read_slots disk d zero s x lt = absurd (omega (arith, lt))
+read_slots disk d (suc n) s x lt =
+    let long = length_slots disk d n in
+    ⊎_elim
+    (λ (low : s < n). get_or_append_left (first_slots disk d n) (slot_on disk d n ∷ []) x s (omega (arith, long, low)) ∙ read_slots disk d n s x low)
+    (λ (high : n ≤ s).
+    let last : s ≡ n = omega (arith, lt, high) in
+    let at : s - length (first_slots disk d n) ≡ 0 = omega (arith, long, last) in
+    get_or-append_right (first_slots disk d n) (slot_on disk d n ∷ []) (length (first_slots disk d n)) s x refl (omega (arith, long, last))
+    ∙ ap (λ (k : ℕ). get_or (slot_on disk d n ∷ []) k x) at ∙ ap (slot_on disk d) (sym last))
+    (cases_lt s n)
+
+and_swap : (a b : Bool) → (a && b) ≡ (b && a)
+and_swap true true = refl
+and_swap true false = refl
+and_swap false true = refl
+and_swap false false = refl
+
+no_directory : (count : ℕ) → (nat_lt 0 count && false) ≡ true → ⊥
+no_directory count h = by (nat_lt 0 count) h
+  where
+    by : (b : Bool) → (b && false) ≡ true → ⊥
+    by true h = cc
+    by false h = cc
+
+module _ (disk : List (List ℕ)) (owner : ℕ → ℕ) (i : ℕ) (v : Node) (holds : HoldsAt disk owner i (Some v)) (used : is_free (inode_of disk i) ≡ false) where
+  abbrev d : Dinode
+  d = inode_of disk i
+
+  abbrev content : ℕ → List ℕ
+  content k = content_block disk d k
+
+  -- a directory, as its record says
+  pub directory_is : is_directory d ≡ tree.is_directory v.kind
+  directory_is = ap (is_number 1) holds.inode.kind ∙ by v.kind
+    where
+      by : (k : Kind) → is_number 1 (pos (type_in k)) ≡ tree.is_directory k
+      by (Directory slots) = refl
+      by (File bytes) = refl
+      by (Device major minor size) = refl
+
+  -- and a live one
+  pub live_is : is_live_directory d ≡ live_directory (Some v)
+  live_is =
+      ap (λ (b : Bool). b && is_positive d.nlink) directory_is ∙ ap (λ (z : ℤ). tree.is_directory v.kind && is_positive z) holds.inode.count
+      ∙ and_swap (tree.is_directory v.kind) (nat_lt 0 v.count)
+
+  -- its blocks show its slots
+  shown : (slots : List (Option Slot)) → v.kind ≡ Directory slots → AreRead (slot_at content) slots × (slot_count d ≡ length slots)
+  unfolding slot_on
+  shown slots is =
+      let size : d.size ≡ 16 * length slots = holds.inode.size ∙ ap size_in is in
+      let has : HasContent disk d (Directory slots) = subst (HasContent disk d) is holds.content in
+      let limit = (holds.room used).limit in (
+        λ s lt.
+            sym (read_slots disk d (d.size / 16) s None (omega (arith, size, lt))) ∙ ap (λ (xs : List (Option Dirent)). get_or xs s None) has ∙ get_or-map entry_of slots s None None lt,
+        omega (arith, size, limit),
+      )
+
+  abbrev pub search_finds : Aim → Option Found
+  search_finds aim = found_from (block_count d) aim d content 0
+
+  is_first : (aim : Aim) (slots : List (Option Slot)) → v.kind ≡ Directory slots → IsFirst aim (slot_at content) (length slots) (search_finds aim)
+  is_first aim slots is = subst (λ (n : ℕ). IsFirst aim (slot_at content) n (search_finds aim)) (shown slots is).1 (found_first content aim d)
+
+  -- what a live directory finds
+  pub name_found : (e : Name) → live_directory (Some v) ≡ true → number_found (search_finds (Named e)) ≡ look (λ j. Some v) i e
+  unfolding look
+  name_found e live = by v.kind refl ∙ sym (ap (λ (b : Bool). if b then first_slot (slots_of v.kind) e else None) live)
+    where
+      by : (k : Kind) → v.kind ≡ k → number_found (search_finds (Named e)) ≡ first_slot (slots_of v.kind) e
+      by (Directory slots) is = found_is slots e (slot_at content) (search_finds (Named e)) (shown slots is).0 (is_first (Named e) slots is) ∙ ap (λ (k : Kind). first_slot (slots_of k) e) (sym is)
+      by (File bytes) is = absurd (no_directory v.count (ap (λ (k : Kind). nat_lt 0 v.count && tree.is_directory k) (sym is) ∙ live))
+      by (Device major minor size) is = absurd (no_directory v.count (ap (λ (k : Kind). nat_lt 0 v.count && tree.is_directory k) (sym is) ∙ live))
+
+  -- and another one
+  pub name_lost : (e : Name) → live_directory (Some v) ≡ false → None ≡ look (λ j. Some v) i e
+  unfolding look
+  name_lost e dead = sym (ap (λ (b : Bool). if b then first_slot (slots_of v.kind) e else None) dead)
+
+  -- whether a directory is empty
+  pub entries_found : tree.is_directory v.kind ≡ true → not (is_some (search_finds Entry)) ≡ is_empty_node (Some v)
+  entries_found directory = by v.kind refl
+    where
+      by : (k : Kind) → v.kind ≡ k → not (is_some (search_finds Entry)) ≡ is_empty_kind v.kind
+      by (Directory slots) is = past slots (slot_at content) (search_finds Entry) (shown slots is).0 (is_first Entry slots is) ∙ ap is_empty_kind (sym is)
+      by (File bytes) is = let no : false ≡ true = ap tree.is_directory (sym is) ∙ directory in cc
+      by (Device major minor size) is = let no : false ≡ true = ap tree.is_directory (sym is) ∙ directory in cc
+
+  pub no_entries : tree.is_directory v.kind ≡ false → true ≡ is_empty_node (Some v)
+  no_entries other = by v.kind refl
+    where
+      by : (k : Kind) → v.kind ≡ k → true ≡ is_empty_kind v.kind
+      by (Directory slots) is = let no : true ≡ false = ap tree.is_directory (sym is) ∙ other in cc
+      by (File bytes) is = ap is_empty_kind (sym is)
+      by (Device major minor size) is = ap is_empty_kind (sym is)
+
+  -- each block that is searched has a part of the content
+  pub block_within : (k : ℕ) → k < block_count d → block_len * k < d.size
+  block_within k lt = omega (arith, lt)
+
+-- a directory's blocks are at most as many as a content has
+pub few_blocks : (d : Dinode) → block_count d ≤ 268
+few_blocks d = omega arith

@@ -1,0 +1,195 @@
+-- The operation that locks an inode, loads it and looks at it acts where the lock is had.
+use Rattle.std.proofs.Common.{◌≡◌, ◌≢◌, ℕ, suc, ◌<◌, Bool, true, false, not, List, Option, Some, None, is_some, refl, sym, ◌∙◌, ap, subst, arith, if◌then◌else◌}
+use Rattle.std.proofs.lemmas.Option.{none-some}
+use Rattle.directory.specs.declared.found.Found.{Found}
+use Rattle.directory.specs.Programs.{Aim, Named, Entry, block_count, search}
+use Rattle.fs_layout.specs.declared.inode.Dinode.{Dinode}
+use Rattle.fs_layout.specs.declared.superblock.Super.{Super}
+use Rattle.plain_tree.specs.declared.node.Node.{Node}
+use Rattle.plain_tree.specs.Tree as tree
+use Rattle.plain_tree.specs.Tree.{Name, put, live_directory}
+use Rattle.plain_tree.specs.Widths.{hart_count}
+use Rattle.tree_laws.proofs.Maps.{put_same}
+use Rattle.image_tree.specs.Inodes.{is_free}
+use Rattle.image_laws.specs.Holds.{HoldsAt}
+use Rattle.atomic_programs.specs.Prog.{Ret, bind, Did, Waits, Ran, did_in}
+use Rattle.atomic_programs.specs.Logic.{Machine, Laws, P, Wp}
+use Rattle.atomic_programs.specs.Joined.{Both, Handed, joined, Below, Lasts}
+use Rattle.atomic_programs.proofs.Joined.{Acting, acted, s-act}
+use Rattle.atomic_programs.proofs.Sound.{Wp-more}
+use Rattle.fs_tables.specs.Tables.{TablesState, holder_of as lock_holder}
+use Rattle.fs_tables.specs.Inodes.{lock_inode}
+use Rattle.fs_machine.specs.LogPart.{Outside}
+use Rattle.fs_machine.specs.Steps as steps
+use Rattle.fs_machine.specs.Steps.{Lock}
+use Rattle.fs_machine.specs.Premises as premises
+use Rattle.inode_machine.specs.Inodes.{Seen, Looking, AtNothing, AtName, AtEntries, seen_in}
+use Rattle.inode_machine.specs.World as above
+use Rattle.inode_machine.specs.World.Op.{Take}
+use Rattle.inode_machine.specs.Exec.{lock_if, locked}
+use Rattle.inode_machine.specs.Rules.{Inv, looking_cost}
+use Rattle.inode_machine.proofs.Frame.{one_refs}
+use Rattle.inodes_on_tables.specs.Shown as tables
+use Rattle.inodes_on_tables.specs.Shown.{loaded}
+use Rattle.inodes_on_tables.proofs.Locks.{by_lock, place_there}
+use Rattle.inodes_on_blocks.specs.Below.{World, log_of, tables_of, disk_of, inode_in, exec}
+use Rattle.inodes_on_blocks.specs.Shown.{Shows}
+use Rattle.inodes_on_blocks.specs.Lowering.{Same, Kept, Carry, Stands, below, Labels, labelled, Keeps}
+use Rattle.inodes_on_blocks.specs.Acting.{ActsOnceAt}
+use Rattle.inodes_on_blocks.specs.Reading.{face_in, number_found, seen_record, looked, take}
+use Rattle.inode_table.specs.Programs.{load_unless}
+use Rattle.inodes_on_blocks.proofs.ContentReads.{touches, touches_are}
+use Rattle.inodes_on_blocks.proofs.DirectorySearches.{s-search}
+use Rattle.inodes_on_blocks.proofs.Layer.{below_laws}
+use Rattle.inodes_on_blocks.proofs.Loading.{s-load}
+use Rattle.inodes_on_blocks.proofs.Looks.{directory_is, live_is, search_finds, name_found, name_lost, entries_found, no_entries, block_within, few_blocks}
+use Rattle.inodes_on_blocks.proofs.SlotSteps.{in_tables_is}
+use Rattle.inodes_on_blocks.proofs.StatSteps.{in_use, face_seen, lock_came, came_acting}
+use Rattle.inodes_on_blocks.proofs.Tables.{with_tables, unlocked_holds}
+
+-- the steps after the load: six a block
+abbrev steps_of : Looking → ℕ
+steps_of AtNothing = 0
+steps_of (AtName e) = 1608
+steps_of AtEntries = 1608
+
+module _ (l : Labels) (laws : Laws (labelled l)) (keeps : Keeps l) (h : ℕ) (lt : h < hart_count) (sizes : Super) (n : ℕ) where
+  abbrev W : Type 0
+  W = Both World above.World
+
+  abbrev M : Machine
+  M = joined (labelled l) (below sizes)
+
+  -- ---- where the lock was had, in w, and the inode is loaded
+
+  module _ (m : Seen → Option above.Mark) (c : Carry) (B : List l.Step → Type 0) (C : Seen → List l.Step → above.World → Type 0) (lasts : Lasts (labelled l) h B C) (w : W) (node : Node)
+      (holds : HoldsAt (disk_of (log_of w.real)) w.real.owner n (Some node)) (mine : lock_holder n (tables_of w.real) ≡ Some h)
+      (stands : Stands sizes h w.real w.seen (put c n (Some (inode_in (log_of w.real) n)))) where
+    abbrev d : Dinode
+    d = inode_in (log_of w.real) n
+
+    abbrev Q : Handed Seen Carry → List l.Step → W → Type 0
+    Q = Below (labelled l) (below sizes) h C
+
+    abbrev Goes : P M (Handed Seen Carry) → ℕ → Looking → Type 0
+    Goes p j looking = (v : W) (fs : List l.Step) → Same h w.real v.real → Kept h w.seen v.seen → C (seen_in n looking (Some node)) fs v.seen → Wp M h B Q p j fs v
+
+    used : is_free d ≡ false
+    used = in_use d node holds.inode
+
+    -- what is answered is what is seen above
+    ends : (looking : Looking) (found : Option ℕ) (empty : Bool) → found ≡ (seen_in n looking (Some node)).found → empty ≡ (seen_in n looking (Some node)).empty → Goes (seen_record c n d found empty) 0 looking
+    ends looking found empty found_is empty_is v fs same kept stage =
+        let face_is = face_seen d (Some node) holds.inode (λ e. none-some node (sym e)) in
+        let answer : record { face = if is_free d then None else Some (face_in d); found = found; empty = empty } ≡ seen_in n looking (Some node) = λ i. record { face = face_is i; found = found_is i; empty = empty_is i } in
+        (subst (λ (a : Seen). C a fs v.seen) (sym answer) stage, (below_laws sizes l keeps).base h w.real v.real w.seen v.seen (put c n (Some d)) same kept stands)
+
+    -- a search, and what is answered by what it finds
+    searched : (looking : Looking) (aim : Aim) (found : Option Found → Option ℕ) (empty : Option Found → Bool)
+        → found (search_finds (disk_of (log_of w.real)) w.real.owner n node holds used aim) ≡ (seen_in n looking (Some node)).found
+        → empty (search_finds (disk_of (log_of w.real)) w.real.owner n node holds used aim) ≡ (seen_in n looking (Some node)).empty
+        → Goes (bind (search aim d) (λ o. seen_record c n d (found o) (empty o))) 1608 looking
+    searched looking aim found empty found_is empty_is v fs same kept stage =
+        let few = few_blocks d in
+        let steps = touches_are (block_count d) 0 in
+        Wp-more M h (bind (search aim d) (λ o. seen_record c n d (found o) (empty o))) B Q (touches (block_count d) 0) 1608 fs v (omega (arith, few, steps))
+        (s-search sizes l laws keeps h lt B Q (C (seen_in n looking (Some node))) (acted (labelled l) (below sizes) laws (below_laws sizes l keeps) h B (Take n looking) m C lasts (seen_in n looking (Some node)))
+        n (Some node) aim (λ o. seen_record c n d (found o) (empty o)) 0 w holds used mine stands.0.free (block_count d) 0 v fs same kept stage
+        (λ q low. let within = block_within (disk_of (log_of w.real)) w.real.owner n node holds used q low in omega (arith, within))
+        (ends looking (found (search_finds (disk_of (log_of w.real)) w.real.owner n node holds used aim)) (empty (search_finds (disk_of (log_of w.real)) w.real.owner n node holds used aim)) found_is empty_is))
+
+    s-looked : (looking : Looking) → Goes (looked looking c n d) (steps_of looking) looking
+    s-looked AtNothing = ends AtNothing None true refl refl
+    s-looked (AtName e) = by (live_directory (Some node)) refl
+      where
+        by : (b : Bool) → live_directory (Some node) ≡ b → Goes (looked (AtName e) c n d) 1608 (AtName e)
+        by true live v fs same kept stage =
+            subst (λ (b : Bool). Wp M h B Q (bind (if b then search (Named e) d else Ret None) (λ o. seen_record c n d (number_found o) true)) 1608 fs v)
+            (sym (live_is (disk_of (log_of w.real)) w.real.owner n node holds used ∙ live))
+            (searched (AtName e) (Named e) number_found (λ o. true) (name_found (disk_of (log_of w.real)) w.real.owner n node holds used e live) refl v fs same kept stage)
+        by false dead v fs same kept stage =
+            subst (λ (b : Bool). Wp M h B Q (bind (if b then search (Named e) d else Ret None) (λ o. seen_record c n d (number_found o) true)) 1608 fs v)
+            (sym (live_is (disk_of (log_of w.real)) w.real.owner n node holds used ∙ dead))
+            (ends (AtName e) None true (name_lost (disk_of (log_of w.real)) w.real.owner n node holds used e dead) refl v fs same kept stage)
+    s-looked AtEntries = by (tree.is_directory node.kind) refl
+      where
+        by : (b : Bool) → tree.is_directory node.kind ≡ b → Goes (looked AtEntries c n d) 1608 AtEntries
+        by true directory v fs same kept stage =
+            subst (λ (b : Bool). Wp M h B Q (bind (if b then search Entry d else Ret None) (λ o. seen_record c n d None (not (is_some o)))) 1608 fs v)
+            (sym (directory_is (disk_of (log_of w.real)) w.real.owner n node holds used ∙ directory))
+            (searched AtEntries Entry (λ o. None) (λ o. not (is_some o)) refl (entries_found (disk_of (log_of w.real)) w.real.owner n node holds used directory) v fs same kept stage)
+        by false other v fs same kept stage =
+            subst (λ (b : Bool). Wp M h B Q (bind (if b then search Entry d else Ret None) (λ o. seen_record c n d None (not (is_some o)))) 1608 fs v)
+            (sym (directory_is (disk_of (log_of w.real)) w.real.owner n node holds used ∙ other))
+            (ends AtEntries None true refl (no_entries (disk_of (log_of w.real)) w.real.owner n node holds used other) v fs same kept stage)
+
+  -- ---- the operation
+
+  module _ (looking : Looking) (m : Seen → Option above.Mark) (c : Carry) (B : List l.Step → Type 0) (C : Seen → List l.Step → above.World → Type 0) (lasts : Lasts (labelled l) h B C) where
+    abbrev rest : Option Dinode → P M (Handed Seen Carry)
+    rest content = bind (load_unless sizes.inodestart n content) (looked looking c n)
+
+    abbrev Next : Option Dinode → Seen → World → above.World → Type 0
+    Next a b u g = (gs : List l.Step) → Inv g → C b gs g → Wp M h B (Below (labelled l) (below sizes) h C) (rest a) (suc (suc (suc (steps_of looking)))) gs (record { real = u; seen = g })
+
+    abbrev IsActing : W → Did (Option Dinode) World → Type 0
+    IsActing v d = Acting (labelled l) (below sizes) laws (below_laws sizes l keeps) h B (Take n looking) m C lasts above.Room v (premises.MayWait h (Lock n) v.real.state) d Next
+
+    on_tables : (v : W) (x : Outside) (d : Did (Option Dinode) TablesState) → lock_inode h n (tables_of v.real) ≡ d → IsActing v (did_in (with_tables v.real) d) → IsActing v (exec h x (Lock n) v.real)
+    unfolding steps.exec
+    on_tables v x d is acting =
+        subst (λ (z : Did (Option Dinode) World). IsActing v z) (sym (in_tables_is h (Lock n) v.real (λ a o. refl) (λ s. refl) (lock_inode h n (tables_of v.real)) ∙ ap (did_in (with_tables v.real)) is)) acting
+
+    -- the lock was had
+    loads : (v : W) → Shows v.real v.seen → v.seen.lock n ≡ None → 0 < v.seen.refs n → v.seen.disk n ≢ None → (u : TablesState) (g : above.World)
+        → tables.Shows u (locked h n v.seen) (put (loaded (tables_of v.real)) n None)
+        → Stands sizes h (with_tables v.real u) g (put c n (Some (inode_in (log_of v.real) n))) → (gs : List l.Step) → C (seen_in n looking (v.seen.disk n)) gs g
+        → Wp M h B (Below (labelled l) (below sizes) h C) (rest (loaded (tables_of v.real) n)) (suc (suc (suc (steps_of looking)))) gs (record { real = with_tables v.real u; seen = g })
+    loads v shows free some there u g after stands gs done =
+        let range = shows.tables.range n some in
+        by (v.seen.disk n) there (unlocked_holds h lt v.real v.seen shows n free range.0 range.1) done
+      where
+        mine : lock_holder n u ≡ Some h
+        mine = sym (after.places.holders n) ∙ put_same v.seen.lock n (Some h)
+
+        by : (o : Option Node) → o ≢ None → HoldsAt (disk_of (log_of v.real)) v.real.owner n o → C (seen_in n looking o) gs g
+            → Wp M h B (Below (labelled l) (below sizes) h C) (rest (loaded (tables_of v.real) n)) (suc (suc (suc (steps_of looking)))) gs (record { real = with_tables v.real u; seen = g })
+        by None there holds done = absurd (there refl)
+        by (Some node) there holds done =
+            s-load sizes l laws keeps h lt B (Below (labelled l) (below sizes) h C) (C (seen_in n looking (Some node)))
+            (acted (labelled l) (below sizes) laws (below_laws sizes l keeps) h B (Take n looking) m C lasts (seen_in n looking (Some node)))
+            n (loaded (tables_of v.real) n) (put c n (Some (inode_in (log_of v.real) n))) (looked looking c n) (steps_of looking) gs (record { real = with_tables v.real u; seen = g }) done stands mine
+            (let range = shows.tables.range n some in let top = range.1 in let size = shows.size in subst (λ (s : Super). n < s.ninodes) stands.1 (omega (arith, top, size)))
+            (λ x e. shows.loads.seen n x e)
+            (λ z fs same kept stage stands_z. s-looked m c B C lasts (record { real = with_tables v.real u; seen = g }) node holds mine stands looking z fs same kept stage)
+
+  module _ (looking : Looking) (m : Seen → Option above.Mark) where
+    cost : (asked : Looking) → suc (suc (suc (steps_of asked))) ≡ looking_cost asked
+    cost AtNothing = refl
+    cost (AtName e) = refl
+    cost AtEntries = refl
+
+    pub take_acts : ActsOnceAt sizes l h (Take n looking) m (take sizes n looking)
+    unfolding steps.exec premises.May premises.MayWait
+    take_acts c B C es w lasts todo stands =
+        subst (λ (k : ℕ). Wp M h B (Below (labelled l) (below sizes) h C) (take sizes n looking c m) (suc k) es w) (cost looking)
+        (s-act (labelled l) (below sizes) laws (below_laws sizes l keeps) h B (Take n looking) m C lasts above.Room (Lock n) (rest looking m c B C lasts) (Below (labelled l) (below sizes) h C) (suc (suc (suc (steps_of looking)))) es w todo
+        (λ v fs here may.
+        let stands_v = (below_laws sizes l keeps).base h w.real v.real w.seen v.seen c here.same here.kept stands in
+        let shows = here.shows in
+        let refers = may.1.0 in
+        let typed = may.1.1 in
+        let some : 0 < v.seen.refs n = let all = one_refs v.seen h n here.inv lt in let own = refers.0 in omega (arith, all, own) in
+        let p = place_there n (tables_of v.real) v.seen (loaded (tables_of v.real)) shows.tables some in
+        let b = seen_in n looking (v.seen.disk n) in
+        let d = inode_in (log_of v.real) n in (
+          (subst (λ (k : ℕ). 0 < k) (shows.tables.places.counts n) some, λ q. refers.1 (shows.tables.places.holders n ∙ q)),
+          λ x t.
+              by_lock h n p.0 (tables_of v.real) v.seen (loaded (tables_of v.real)) shows.tables p.1 (IsActing looking m c B C lasts v (exec h x (Lock n) v.real))
+              (λ waits g out. on_tables looking m c B C lasts v x Waits waits (g, (λ q. refers.1 (out ∙ ap (λ (z : ℕ). Some z) q)), sym (shows.tables.places.holders n) ∙ out))
+              (λ u ran free after.
+              on_tables looking m c B C lasts v x (Ran (loaded (tables_of v.real) n) u) ran
+              (came_acting l laws keeps h lt sizes (Take n looking) m B C lasts v (premises.MayWait h (Lock n) v.real.state) (loaded (tables_of v.real) n) (with_tables v.real u) b (put c n (Some d)) (Next looking m c B C lasts) tt stands_v.1
+              (lock_came l laws keeps h lt (Take n looking) n v c b u shows stands_v.0 may.0 some free (typed free) (ap (lock_if h n b v.seen (locked h n v.seen)) free) after)
+              (λ g stands_g gs inv_g done. loads looking m c B C lasts v shows free some (typed free) u g after stands_g gs done))),
+        )))
