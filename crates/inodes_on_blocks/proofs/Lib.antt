@@ -40,3 +40,4 @@ pub mod ContentReads
 pub mod Looks
 pub mod DirectorySearches
 pub mod TakeSteps
+pub mod Mounted

@@ -145,7 +145,7 @@ module _ (contents : List (List ℕ)) (seats : List SeatState) (members : List (
     blocks = λ b l out. recovered-empty contents b none ∙ sym (same b);
   }
 
-  image_shown : IsWellFormed disk × (tree_in disk ≡ tree_in contents)
+  pub image_shown : IsWellFormed disk × (tree_in disk ≡ tree_in contents)
   image_shown = image_seen front (seen_in contents seats) contents blocks_seen recovered_so well
 
   shown_good : IsGoodSeen front (seen_in contents seats) (length contents)

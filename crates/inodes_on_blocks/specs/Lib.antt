@@ -14,3 +14,4 @@ pub mod Room
 pub mod Giving
 pub mod Accounts
 pub mod Counted
+pub mod Mounted

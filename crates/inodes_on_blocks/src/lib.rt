@@ -6,6 +6,7 @@
 ghost use Rattle.inodes_on_blocks.specs.Accounts.{TransactionsHaveRoom};
 ghost use Rattle.inodes_on_blocks.specs.Counted.{ReferencesAreCounted, WaitsForOthers};
 ghost use Rattle.inodes_on_blocks.specs.Laws.{ChangesMayBegin, ChangesMayEnd, JoinsKeepThem, LeavesKeepThem, MountedNodesAreOnBlocks, QuietBlocksAreImages, RecordsKeepThem, UnseenChangesKeepThem};
+ghost use Rattle.inodes_on_blocks.specs.Mounted.{MountsShowTheirTrees};
 
 pub mod acting;
 pub mod reading;
@@ -51,6 +52,11 @@ pub fn changes_may_end()
 /// The nodes of a well-formed image are on the blocks of a log over it that is fresh.
 pub fn mounted_nodes_are_on_blocks()
     ensures { MountedNodesAreOnBlocks }
+{}
+
+/// A mount of it shows its tree, in which every hart rests: there the worlds begin.
+pub fn mounts_show_their_trees()
+    ensures { MountsShowTheirTrees }
 {}
 
 /// What a call's program may spend is room for its recorded puts: while the transaction has added no more to the group, each

@@ -8,3 +8,4 @@ pub mod Slots
 pub mod Named
 pub mod Shuts
 pub mod Gives
+pub mod Fresh

@@ -2,10 +2,11 @@
 use Rattle.std.specs.Prelude.{◌≡◌, ◌≢◌, ℕ, ◌<◌, ◌≤◌, Option, Some, None, Bool, false, is_some, if◌then◌else◌, ◌==◌}
 use Rattle.std.specs.Option.{option_map}
 use Rattle.fs_layout.specs.declared.inode.Dinode.{Dinode}
-use Rattle.plain_tree.specs.Tree.{put}
+use Rattle.plain_tree.specs.Tree.{Tree, put}
 use Rattle.fs_tables.specs.declared.inodes.Inode.{Inode}
+use Rattle.fs_tables.specs.Fresh.{fresh}
 use Rattle.fs_tables.specs.Tables.{TablesState, file_named}
-use Rattle.plain_tree.specs.Widths.{hart_count, descriptor_count}
+use Rattle.plain_tree.specs.Widths.{hart_count, descriptor_count, root}
 use Rattle.fs_tables.specs.declared.slots.Given.TheVariants as given
 use Rattle.fs_tables.specs.Inodes.{lock_inode, unlock_inode, up_inode, up_directory, dead_of, DroppedState, Counts, Keeps, Dies, drop_inode, drop_walked, settle_inode, refusal_of, LockedState, Refuses, Locks, lock_file}
 use Rattle.fs_tables.specs.declared.files.Refused.TheVariants as refused
@@ -17,7 +18,8 @@ use Rattle.inode_machine.specs.World.{Entry, World, Room}
 use Rattle.inode_machine.specs.World.Op.{Take, Up, UpStart, WalkDown, Down, Slot, Install, Double, Shut, Settle, StatFile, Lend, LendDirectory, Release}
 use Rattle.inode_machine.specs.Exec.{exec, start_number, is_dead, entry_of, read_refused, write_refused, released}
 use Rattle.inode_machine.specs.Rules.{Inv, Asks}
-use Rattle.inodes_on_tables.specs.Shown.{Shows, BothCame, Runs, file_of, new_file, doubled_as, shut_as, given_as, refused_as}
+use Rattle.inode_machine.specs.Theory.{at_rest}
+use Rattle.inodes_on_tables.specs.Shown.{loaded, Shows, BothCame, Runs, file_of, new_file, doubled_as, shut_as, given_as, refused_as}
 
 -- a lock is tried of an inode to which a reference stands; it answers what is loaded
 abbrev pub LocksAreTaken : Type 0
@@ -136,3 +138,7 @@ DirectoriesAreGiven =
 -- Where the child is released the tables stay.
 abbrev pub ChildrenAreReleased : Type 0
 ChildrenAreReleased = (h child : ℕ) (t : TablesState) (w : World) (load : ℕ → Option Dinode) → Shows t w load → Inv w → Runs h w → Asks h (Release child) w → Shows t (released w h child) load
+
+-- Fresh tables show a world at rest whose harts are all in the root.
+abbrev pub FreshTablesShow : Type 0
+FreshTablesShow = (t : Tree) → ((h : ℕ) → h < hart_count → t.cwd h ≡ root) → root < t.ninodes → Shows fresh (at_rest t) (loaded fresh)

@@ -2,7 +2,7 @@
 //! its operations. The functions do nothing: each carries a law.
 #![tactic(auto)]
 
-ghost use Rattle.inodes_on_tables.specs.Laws.{LocksAreTaken, LocksAreGiven, ReferencesAreCounted, StartsAreCounted, DirectoriesAreStarts, WalksDropReferences, ReferencesAreDropped, PlacesAreTaken, FilesAreOpened, DescriptorsAreDoubled, DescriptorsAreShut, DirectoriesAreSettled, DescriptorsNameFiles, FilesAreLocked, DescriptorsAreGiven, DirectoriesAreGiven, ChildrenAreReleased};
+ghost use Rattle.inodes_on_tables.specs.Laws.{LocksAreTaken, LocksAreGiven, ReferencesAreCounted, StartsAreCounted, DirectoriesAreStarts, WalksDropReferences, ReferencesAreDropped, PlacesAreTaken, FilesAreOpened, DescriptorsAreDoubled, DescriptorsAreShut, DirectoriesAreSettled, DescriptorsNameFiles, FilesAreLocked, DescriptorsAreGiven, DirectoriesAreGiven, ChildrenAreReleased, FreshTablesShow};
 
 /// The lock of a referenced inode is tried: it waits where the operation does, and else answers what is loaded.
 pub fn locks_are_taken()
@@ -87,4 +87,9 @@ pub fn directories_are_given()
 /// Where a child is released the tables show the world as before.
 pub fn children_are_released()
     ensures { ChildrenAreReleased }
+{}
+
+/// At first, with all harts in the root and nothing open, the tables show a world at rest.
+pub fn fresh_tables_show()
+    ensures { FreshTablesShow }
 {}
