@@ -24,14 +24,14 @@ use Rattle.inode_machine.specs.Inodes.{sort_of}
 use Rattle.inode_machine.specs.Exec.{with_walk}
 use Rattle.inode_machine.specs.Marks.{Made, acts, act_entered, act_left, found_by, look_made, looked, made_by, new_id, with_made}
 use Rattle.inode_machine.specs.Rules.{own_names, Stands, shop_of, Found, Pinned, Reached, IsAlone, Inv, machine}
-use Rattle.inode_machine.proofs.Frame.{ours_some, Kin, Did, Fair, two_refs, refers_on}
+use Rattle.inode_machine.proofs.Frame.{ours_some, Kin, Did, Ours, Fair, two_refs, refers_on}
 use Rattle.inode_machine.proofs.Freeing.{lone_file}
 use Rattle.inode_machine.proofs.Walking.{refs_walk, moves_good}
 
 -- What an act by hart h needs of its change, and then leaves. p: what it found, and has not counted up yet.
 pub record Fits (h : ℕ) (v : World) (all : Tree) (p : Option ℕ) (alone : ℕ → Bool) (next : ℕ) (D : ℕ → Desk) (c : Bool) : Type 0 where
   pub ids : (k : ℕ) → next ≤ k → all.files k ≡ None
-  pub shop : Kin h (shop_of v) (record { files = v.files; desks = D; ids = v.ids; slots = v.slots; clean = c; tree_fds = all.fds; tree_files = all.files })
+  pub shop : Kin h (λ n. Ours h (v.keeper n)) (shop_of v) (record { files = v.files; desks = D; ids = v.ids; slots = v.slots; clean = c; tree_fds = all.fds; tree_files = all.files })
   pub fds : (D h).fds ≡ (v.desks h).fds
   pub free : (D h).lender ≡ None
   pub unlent : (v.desks h).lender ≡ None

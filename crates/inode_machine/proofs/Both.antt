@@ -1,5 +1,6 @@
 -- A step that changes what two harts have: a hart's, and those of the one that it serves, which rests.
 use Rattle.std.proofs.Common.{◌≡◌, ◌≢◌, inl, inr, ℕ, ◌+◌, ◌<◌, ◌≤◌, true, ◌==◌, [], Option, Some, None, refl, sym, ◌∙◌, ap, subst, arith}
+use Rattle.plain_tree.specs.declared.tree.OpenFile.{OpenFile}
 use Rattle.plain_tree.specs.Widths.{hart_count, descriptor_count}
 use Rattle.plain_tree.specs.HartRow.{row_of}
 use Rattle.tree_laws.specs.WellFormed.{sum_below, IsWellFormed}
@@ -30,7 +31,7 @@ pub record Serves (h c : ℕ) (v : World) (F : ℕ → Option Entry) (D : ℕ �
   pub others : (g : ℕ) → g ≢ h → g ≢ c → H g ≡ v.harts g
   pub fds : (g : ℕ) → g ≢ c → X g ≡ v.all.fds g
   pub cwd : (g : ℕ) → g ≢ c → C g ≡ v.all.cwd g
-  pub numbers : (k : ℕ) (e : Entry) → v.files k ≡ Some e → (f : Entry) × (F k ≡ Some f) × (f.file.number ≡ e.file.number)
+  pub numbers : (k : ℕ) (e : Entry) → v.files k ≡ Some e → (f : Entry) × (F k ≡ Some f) × (f.file ≡ e.file)
   pub tied : Tied (record { files = F; desks = D; ids = v.ids; slots = v.slots; clean = v.clean; tree_fds = X; tree_files = v.all.files })
   pub sorts : (k : ℕ) (e : Entry) → F k ≡ Some e → sort_of (v.all.nodes e.file.number) ≡ Some e.sort
   pub well : IsWellFormed (record (v.all) { fds = X; cwd = C })
@@ -86,7 +87,7 @@ module _ (h c : ℕ) (v : World) (F : ℕ → Option Entry) (D : ℕ → Desk) (
   }
 
   pinned : (g i : ℕ) → g ≢ h → g ≢ c → Pinned v.desks v.files v.harts g i → Pinned D F H g i
-  pinned g i nh nc (inl o) = let n = s.numbers o.slot o.entry o.at in inl (record { fd = o.fd; below = o.below; slot = o.slot; is = ap (λ (d : Desk). d.fds o.fd) (s.desks g nh nc) ∙ o.is; entry = n.0; at = n.1; number = n.2 ∙ o.number })
+  pinned g i nh nc (inl o) = let n = s.numbers o.slot o.entry o.at in inl (record { fd = o.fd; below = o.below; slot = o.slot; is = ap (λ (d : Desk). d.fds o.fd) (s.desks g nh nc) ∙ o.is; entry = n.0; at = n.1; number = ap (λ (z : OpenFile). z.number) n.2 ∙ o.number })
   pinned g i nh nc (inr p) = inr (let e = ap (λ (m : Mine). m.refs i) (s.others g nh nc) in omega (arith, e, p))
 
   reached : (g i : ℕ) → g ≢ h → g ≢ c → Reached v g i → Reached u g i
@@ -203,8 +204,8 @@ module _ (h c : ℕ) (v : World) (F : ℕ → Option Entry) (D : ℕ → Desk) (
   both = record {
     inv = both_inv;
     kept = λ g ne. elim (same_or g c) [
-      | inl e ↦ subst (λ (z : ℕ). Others z v [] u) (sym e) (record { none = refl; same = λ free. absurd (let a = (inv.serves h c s.hart s.child).1 in cc (a, free)); rests = λ i. s.rests; clean = λ q. q })
-      | inr nc ↦ record { none = refl; same = λ free. others_same g ne nc; rests = λ i. subst (λ (o : Own). Rests o) (sym (others_same g ne nc)) i; clean = λ q. q }
+      | inl e ↦ subst (λ (z : ℕ). Others z v [] u) (sym e) (record { none = refl; same = λ free. absurd (let a = (inv.serves h c s.hart s.child).1 in cc (a, free)); opens = λ free. absurd (let a = (inv.serves h c s.hart s.child).1 in cc (a, free)); rests = λ i. s.rests; clean = λ q. q })
+      | inr nc ↦ record { none = refl; same = λ free. others_same g ne nc; opens = λ free i k e below li is at keeps. s.numbers k e at; rests = λ i. subst (λ (o : Own). Rests o) (sym (others_same g ne nc)) i; clean = λ q. q }
     ];
     clean = λ q. q;
   }

@@ -32,6 +32,7 @@ use Rattle.inode_machine.proofs.Closes.{shut_step, s-shut}
 use Rattle.inode_machine.proofs.Stats.{stat_step, stat_face, s-stat-file}
 use Rattle.inode_machine.proofs.Readings.{read_step, s-lock-file, s-read-file}
 use Rattle.inode_machine.proofs.Starts.{begun_same, start_is}
+use Rattle.inode_machine.proofs.Frame.{files_then}
 use Rattle.inode_machine.proofs.Resting.{given_is, idle_as, unlocks_nothing}
 use Rattle.inode_machine.proofs.WriteCalls.{write_begins, write_ok}
 use Rattle.inode_machine.proofs.Drops.{s-drop}
@@ -41,10 +42,11 @@ use Rattle.inode_machine.proofs.Drops.{s-drop}
 pub laws : Laws machine
 laws =
     record {
-      same = λ h w. record { none = refl; same = λ f. refl; rests = λ i. i; clean = λ c. c };
+      same = λ h w. record { none = refl; same = λ f. refl; opens = λ f i k e below li is at keeps. (e, at, refl); rests = λ i. i; clean = λ c. c };
       trans = λ h u v w xs ys o p. record {
         none = (λ i. o.none i ++ p.none i);
         same = λ f. p.same (ap (λ (z : Own). z.desk.lender) (o.same f) ∙ f) ∙ o.same f;
+        opens = λ f. files_then h u v w (o.same f) (o.opens f) (p.opens (ap (λ (z : Own). z.desk.lender) (o.same f) ∙ f));
         rests = λ i. p.rests (o.rests i);
         clean = λ c. o.clean (p.clean c);
       };
@@ -199,7 +201,7 @@ right kind h call busy w u idle free begins first runs =
     record {
       inv = λ i. subst Inv is i;
       halted = λ i. subst Inv is i;
-      kept = λ other ne b. subst (λ (x : World). Others other w [] x) is (record { none = refl; same = λ f. refl; rests = λ i. i; clean = λ c. c });
+      kept = λ other ne b. subst (λ (x : World). Others other w [] x) is (record { none = refl; same = λ f. refl; opens = λ f i k e below li is at keeps. (e, at, refl); rests = λ i. i; clean = λ c. c });
       rests = λ other ne b. subst (λ (x : World). Idle other x) is (idle other b);
       tree = ap stage_of (sym is);
       clean = λ c. ap (λ (x : World). x.clean) is ∙ c;

@@ -159,7 +159,7 @@ shuts h fd s e v O F S H inv ov free lt walk still idle empty unnoted hit c = re
       numbers = λ g i j d lg ne li q a.
           let x = c.changes.used j d a (users_fd D g i j lg li (ap (λ (z : Desk). z.fds i) (put_other v.desks h new g ne) ∙ q)) in
           let y = c.changes.keep j x.0 x.1 in
-          (x.0, x.1, ap (λ (z : OpenFile). z.number) y.2 ∙ (let r : Some y.0 ≡ Some d = sym y.1 ∙ a in let t : y.0 ≡ d = cc in ap (λ (z : Entry). z.file.number) t));
+          (x.0, x.1, inl (y.2 ∙ (let r : Some y.0 ≡ Some d = sym y.1 ∙ a in let t : y.0 ≡ d = cc in ap (λ (z : Entry). z.file) t)));
       clean = λ q. q;
       bond = ap (λ (z : Desk). bond_of z) desk_is;
       stays = inl (ap (λ (z : Desk). z.directory) desk_is);

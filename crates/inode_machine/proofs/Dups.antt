@@ -133,7 +133,7 @@ desk_changes h v O new d c ov free lt inv is same names stands home stays unlent
     rows = λ g ne. refl;
     size = refl;
     ids = inv.ids;
-    shop = record { tied = tied; desks = λ g ne. put_other v.desks h new g ne; numbers = λ g i k e lg ne li q a. (e, a, refl); clean = back; bond = ap (λ (z : Desk). bond_of z) here ∙ (λ z. record { child = same.lent z descriptor_count; given = same.lent z (descriptor_count + 1); lender = (unlent ∙ sym (ap (λ (o : Own). o.desk.lender) ov ∙ free)) z }); stays = elim stays [ inl q ↦ inl (ap (λ (z : Desk). z.directory) here ∙ q) | inr q ↦ inr q ] };
+    shop = record { tied = tied; desks = λ g ne. put_other v.desks h new g ne; numbers = λ g i k e lg ne li q a. (e, a, inl refl); clean = back; bond = ap (λ (z : Desk). bond_of z) here ∙ (λ z. record { child = same.lent z descriptor_count; given = same.lent z (descriptor_count + 1); lender = (unlent ∙ sym (ap (λ (o : Own). o.desk.lender) ov ∙ free)) z }); stays = elim stays [ inl q ↦ inl (ap (λ (z : Desk). z.directory) here ∙ q) | inr q ↦ inr q ] };
     free = ap (λ (z : Desk). z.lender) here ∙ unlent;
     quiet = λ j is f. quiet (sym (ap (λ (z : Desk). z.joined) here) ∙ f) j is;
     sort = λ j. inl refl;
@@ -273,6 +273,13 @@ renewed_slots files k e f n at same = sum_same file_count (λ j. number_is (file
 pub renewed_at : (files : ℕ → Option Entry) (k : ℕ) (e f : Entry) (j : ℕ) (d : Entry) → files k ≡ Some e → f.file.number ≡ e.file.number → files j ≡ Some d → (x : Entry) × (put files k (Some f) j ≡ Some x) × (x.file.number ≡ d.file.number)
 renewed_at files k e f j d at same q = elim (same_or j k) [
   | inl t ↦ (f, ap (put files k (Some f)) t ∙ put_same files k (Some f), same ∙ (let a : Some e ≡ Some d = sym at ∙ ap files (sym t) ∙ q in let b : e ≡ d = cc in ap (λ (z : Entry). z.file.number) b))
+  | inr ne ↦ (d, put_other files k (Some f) j ne ∙ q, refl)
+]
+
+-- and the same open file, where the change keeps it
+pub renewed_same : (files : ℕ → Option Entry) (k : ℕ) (e f : Entry) (j : ℕ) (d : Entry) → files k ≡ Some e → f.file ≡ e.file → files j ≡ Some d → (x : Entry) × (put files k (Some f) j ≡ Some x) × (x.file ≡ d.file)
+renewed_same files k e f j d at same q = elim (same_or j k) [
+  | inl t ↦ (f, ap (put files k (Some f)) t ∙ put_same files k (Some f), same ∙ (let a : Some e ≡ Some d = sym at ∙ ap files (sym t) ∙ q in let b : e ≡ d = cc in ap (λ (z : Entry). z.file) b))
   | inr ne ↦ (d, put_other files k (Some f) j ne ∙ q, refl)
 ]
 
@@ -482,7 +489,7 @@ s-double {A} {h} fd {k} {B} {Q} {n} {es} {w} {O} owns free lt pos walks none idl
           kin = record {
             tied = tied;
             desks = λ g ne. put_other v.desks h (record (v.desks h) { fds = put (v.desks h).fds f (Some s) }) g ne;
-            numbers = λ g i j d lg ne li z a. renewed_at v.files s e (record { file = e.file; sort = e.sort; references = e.references + 1 }) j d hit.at refl a;
+            numbers = λ g i j d lg ne li z a. let x = renewed_same v.files s e (record { file = e.file; sort = e.sort; references = e.references + 1 }) j d hit.at refl a in (x.0, x.1, inl x.2);
             clean = λ c. c;
             bond = ap (λ (z : Desk). bond_of z) desk_is;
             stays = inl (ap (λ (z : Desk). z.directory) desk_is);

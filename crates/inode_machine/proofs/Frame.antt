@@ -1,5 +1,6 @@
 -- One lemma for all operations: what a step of one hart leaves to the others, and what still holds.
 use Rattle.std.proofs.Common.{◌≡◌, ◌≢◌, ◌⊎◌, inl, inr, ℕ, zero, suc, ◌+◌, ◌<◌, ◌≤◌, Bool, true, false, ◌==◌, ◌||◌, Option, Some, None, refl, sym, ◌∙◌, ap, subst, arith, if◌then◌else◌}
+use Rattle.plain_tree.specs.declared.tree.OpenFile.{OpenFile}
 use Rattle.plain_tree.specs.Widths.{hart_count, descriptor_count}
 use Rattle.plain_tree.specs.declared.node.Node.{Node}
 use Rattle.plain_tree.specs.Tree.{put, hold_names}
@@ -13,7 +14,7 @@ use Rattle.inode_machine.specs.Inodes.{sort_of}
 use Rattle.tree_moves.specs.Moves.{Walk}
 use Rattle.inode_machine.specs.World.{Mine, Entry, Note, Desk, World}
 use Rattle.inode_machine.specs.Exec.{is_at, child_of, given_of}
-use Rattle.inode_machine.specs.Rules.{key_in, Own, Rests, left_or, Stands, shop_of, Shop, Tied, own_names, Held, view, is_hart, if_kept, own_of, Found, Pinned, Reached, reference_limit, References, IsAlone, Has, Lends, Inv}
+use Rattle.inode_machine.specs.Rules.{key_in, Own, Rests, left_or, Stands, shop_of, Shop, Tied, own_names, Held, view, is_hart, if_kept, own_of, Found, Pinned, Reached, reference_limit, References, IsAlone, Has, KeepsFiles, Lends, Inv}
 
 -- Functions changed at one place, and what is kept.
 
@@ -87,19 +88,27 @@ pub record Bond : Type 0 where
 abbrev pub bond_of : Desk → Bond
 bond_of d = record { child = child_of d; given = given_of d; lender = d.lender }
 
+-- An open file is as it was, or of the same inode, which is this hart's to change.
+abbrev pub Stays : (ℕ → Type 0) → Entry → Entry → Type 0
+Stays Mine e f = (f.file ≡ e.file) ⊎ (Mine e.file.number × (f.file.number ≡ e.file.number))
+
+pub stays_number : (Mine : ℕ → Type 0) (e f : Entry) → Stays Mine e f → f.file.number ≡ e.file.number
+stays_number Mine e f (inl same) = ap (λ (z : OpenFile). z.number) same
+stays_number Mine e f (inr moved) = moved.1
+
 -- what a step does to open files
-pub record Kin (h : ℕ) (v u : Shop) : Type 0 where
+pub record Kin (h : ℕ) (Mine : ℕ → Type 0) (v u : Shop) : Type 0 where
   pub tied : Tied u
   pub desks : (g : ℕ) → g ≢ h → u.desks g ≡ v.desks g
-  -- what another hart's descriptor has keeps its number
-  pub numbers : (g i k : ℕ) (e : Entry) → g < hart_count → g ≢ h → i < descriptor_count → (v.desks g).fds i ≡ Some k → v.files k ≡ Some e → (f : Entry) × (u.files k ≡ Some f) × (f.file.number ≡ e.file.number)
+  -- what another hart's descriptor has is as it was, or of an inode that is this hart's to change
+  pub numbers : (g i k : ℕ) (e : Entry) → g < hart_count → g ≢ h → i < descriptor_count → (v.desks g).fds i ≡ Some k → v.files k ≡ Some e → (f : Entry) × (u.files k ≡ Some f) × Stays Mine e f
   pub clean : u.clean ≡ true → v.clean ≡ true
   -- it serves whom it served, and has meanwhile its directory
   pub bond : bond_of (u.desks h) ≡ bond_of (v.desks h)
   pub stays : ((u.desks h).directory ≡ (v.desks h).directory) ⊎ (child_of (v.desks h) ≡ None)
 
-pub shop_same : (h : ℕ) (s : Shop) → Tied s → Kin h s s
-shop_same h s tied = record { tied = tied; desks = λ g ne. refl; numbers = λ g i k e lt ne li is at. (e, at, refl); clean = λ c. c; bond = refl; stays = inl refl }
+pub shop_same : {Mine : ℕ → Type 0} (h : ℕ) (s : Shop) → Tied s → Kin h Mine s s
+shop_same h s tied = record { tied = tied; desks = λ g ne. refl; numbers = λ g i k e lt ne li is at. (e, at, inl refl); clean = λ c. c; bond = refl; stays = inl refl }
 
 -- a step of hart h: of the invariant's parts only what isn't the others'
 pub record Did (h : ℕ) (v u : World) : Type 0 where
@@ -109,7 +118,7 @@ pub record Did (h : ℕ) (v u : World) : Type 0 where
   pub rows : (g : ℕ) → g ≢ h → row_of u.all g ≡ row_of v.all g
   pub size : u.all.ninodes ≡ v.all.ninodes
   pub ids : (k : ℕ) → u.next ≤ k → u.all.files k ≡ None
-  pub shop : Kin h (shop_of v) (shop_of u)
+  pub shop : Kin h (λ n. Ours h (v.keeper n)) (shop_of v) (shop_of u)
   pub free : (u.desks h).lender ≡ None
   pub quiet : (j : ℕ) → u.keeper j ≡ Some h → (u.desks h).joined ≡ false → u.disk j ≡ u.all.nodes j
   -- types stay, but for what the hart keeps alone
@@ -127,10 +136,10 @@ pub record Did (h : ℕ) (v u : World) : Type 0 where
   pub pending : (i : ℕ) → (u.harts h).pending ≡ Some i → Found u.keeper u.all.nodes h i
   pub walks : (k : Walk) → (u.harts h).walk ≡ Some k → Reached u h k.at
 
-pinned_on : (h : ℕ) (v u : World) (g i : ℕ) → Kin h (shop_of v) (shop_of u) → g < hart_count → g ≢ h → u.harts g ≡ v.harts g → Pinned v.desks v.files v.harts g i → Pinned u.desks u.files u.harts g i
+pinned_on : (h : ℕ) (v u : World) (g i : ℕ) → Kin h (λ n. Ours h (v.keeper n)) (shop_of v) (shop_of u) → g < hart_count → g ≢ h → u.harts g ≡ v.harts g → Pinned v.desks v.files v.harts g i → Pinned u.desks u.files u.harts g i
 pinned_on h v u g i kin lt ne same (inl o) =
     let n = kin.numbers g o.fd o.slot o.entry lt ne o.below o.is o.at in
-    inl (record { fd = o.fd; below = o.below; slot = o.slot; is = ap (λ (d : Desk). d.fds o.fd) (kin.desks g ne) ∙ o.is; entry = n.0; at = n.1; number = n.2 ∙ o.number })
+    inl (record { fd = o.fd; below = o.below; slot = o.slot; is = ap (λ (d : Desk). d.fds o.fd) (kin.desks g ne) ∙ o.is; entry = n.0; at = n.1; number = stays_number (λ n. Ours h (v.keeper n)) o.entry n.0 n.2 ∙ o.number })
 pinned_on h v u g i kin lt ne same (inr p) = inr (let e = ap (λ (m : Mine). m.refs i) same in omega (arith, e, p))
 
 found_on : (h : ℕ) (v u : World) (g i : ℕ) → Did h v u → g ≢ h → Found v.keeper v.all.nodes g i → Found u.keeper u.all.nodes g i
@@ -216,6 +225,20 @@ did_others h v u did g ne = λ i. record { inodes = λ j. inode j (did.inodes j)
         let same : view u g j ≡ view v g j = (λ i. record { disk = k.disk i; node = k.node i; alone = k.alone i; locked = is_hart (k.lock i) g }) in
         λ i. if_kept (k.keeper i) g (same i)
     inode j (inr c) = not_kept h g (u.keeper j) (view u g j) c.after ne ∙ sym (not_kept h g (v.keeper j) (view v g j) c.before ne)
+
+-- no other hart's open file moves
+pub did_opens : (h : ℕ) (v u : World) → Did h v u → (g : ℕ) → g ≢ h → KeepsFiles g v u
+did_opens h v u did g ne i k e lt below is at keeps =
+    let n = did.shop.numbers g i k e lt ne below is at in
+    (n.0, n.1, elim n.2 [ inl same ↦ same | inr moved ↦ not_ours h g (v.keeper e.file.number) moved.0 ne keeps ])
+
+-- nor by two steps
+pub files_then : (g : ℕ) (u v w : World) → own_of g v ≡ own_of g u → KeepsFiles g u v → KeepsFiles g v w → KeepsFiles g u w
+files_then g u v w same first then_ i k e lt below is at keeps =
+    let a = first i k e lt below is at keeps in
+    let kept = (kept_is g (v.keeper e.file.number) (view v g e.file.number) (view u g e.file.number) (ap (λ (o : Own). o.inodes e.file.number) same ∙ kept_here g (u.keeper e.file.number) (view u g e.file.number) keeps)).0 in
+    let b = then_ i k a.0 lt below (ap (λ (o : Own). o.desk.fds i) same ∙ is) a.1 (ap (λ (z : OpenFile). v.keeper z.number) a.2 ∙ kept) in
+    (b.0, b.1, b.2 ∙ a.2)
 
 -- what a hart has of its lender's stays where nothing of it changes
 has_on : (a b : Option ℕ) (fds : ℕ → Option ℕ) (cwd there mine lenders his : ℕ) → a ≡ b → cwd ≡ there → lenders ≡ his → Has a fds cwd mine lenders → Has b fds there mine his
@@ -364,16 +387,17 @@ did_inv h v u inv did =
 pub record Fair (h : ℕ) (v u : World) : Type 0 where
   pub inv : Inv u
   pub others : (g : ℕ) → g ≢ h → own_of g u ≡ own_of g v
+  pub opens : (g : ℕ) → g ≢ h → KeepsFiles g v u
   pub clean : u.clean ≡ true → v.clean ≡ true
 
 pub fair : {h : ℕ} {v u : World} → Inv v → Did h v u → Fair h v u
-fair {h} {v} {u} inv did = record { inv = did_inv h v u inv did; others = did_others h v u did; clean = did.shop.clean }
+fair {h} {v} {u} inv did = record { inv = did_inv h v u inv did; others = did_others h v u did; opens = did_opens h v u did; clean = did.shop.clean }
 
 pub fair_then : {h : ℕ} {v u w : World} → Fair h v u → Fair h u w → Fair h v w
-fair_then a b = record { inv = b.inv; others = λ g ne. b.others g ne ∙ a.others g ne; clean = λ c. a.clean (b.clean c) }
+fair_then {h} {v} {u} {w} a b = record { inv = b.inv; others = λ g ne. b.others g ne ∙ a.others g ne; opens = λ g ne. files_then g v u w (a.others g ne) (a.opens g ne) (b.opens g ne); clean = λ c. a.clean (b.clean c) }
 
 pub fair_same : {h : ℕ} {v : World} → Inv v → Fair h v v
-fair_same inv = record { inv = inv; others = λ g ne. refl; clean = λ c. c }
+fair_same inv = record { inv = inv; others = λ g ne. refl; opens = λ g ne i k e lt below is at keeps. (e, at, refl); clean = λ c. c }
 
 -- what the hart owns, where one inode changed
 pub own_inodes : (h i : ℕ) (v u : World) (O : Own) (y : Option Held) → own_of h v ≡ O → if_kept (u.keeper i) h (view u h i) ≡ y

@@ -24,7 +24,7 @@ use Rattle.inode_machine.proofs.Frame.{bond_of, stands_on, Fair, fair, has_none}
 use Rattle.inode_machine.proofs.Rows.{below_is}
 use Rattle.inode_machine.proofs.Walking.{refs_walk, stage_walk}
 use Rattle.inode_machine.proofs.Shops.{sells_did}
-use Rattle.inode_machine.proofs.Dups.{renewed_at, renewed_sorts}
+use Rattle.inode_machine.proofs.Dups.{renewed_same, renewed_at, renewed_sorts}
 use Rattle.inode_machine.proofs.Handings.{lent_desks, counted_more, tied_lent, HandsAll, tied_handed}
 use Rattle.inode_machine.proofs.Both.{both_world}
 use Rattle.inode_machine.proofs.Turnings.{Server, Kid, kid, Turns, turned_fair, turned_own, serving_child, serving_given, serving_none}
@@ -126,7 +126,7 @@ lends_one h c i s e v O inv ov srv li is unlent at = record {
     kin = record {
       tied = tied_lent (shop_of v) h i s e inv.tied srv.hart li is unlent at;
       desks = λ g ne. put_other v.desks h new g ne;
-      numbers = λ g j l d lg ne lj q a. renewed_at v.files s e (counted_more e) l d at refl a;
+      numbers = λ g j l d lg ne lj q a. let x = renewed_same v.files s e (counted_more e) l d at refl a in (x.0, x.1, inl x.2);
       clean = λ q. q;
       bond = ap (λ (d : Desk). bond_of d) desk_is ∙ (λ z. record {
         child = put_other (v.desks h).lent i (Some s) descriptor_count (λ q. absurd (omega (arith, li, q))) z;
@@ -268,7 +268,7 @@ module _ (h c i s : ℕ) (e : Entry) (v : World) (O : Own) (inv : Inv v) (ov : o
     others = λ g nh nc. put_other v.harts h (record { refs = (v.harts h).refs; walk = None; pending = None }) g nh;
     fds = λ g nc. put_other v.all.fds c (v.all.fds h) g nc;
     cwd = λ g nc. put_other v.all.cwd c (v.all.cwd h) g nc;
-    numbers = λ l d q. renewed_at v.files s e (counted_more e) l d at refl q;
+    numbers = λ l d q. renewed_same v.files s e (counted_more e) l d at refl q;
     tied = tied_handed (record { files = F; desks = before; ids = v.ids; slots = v.slots; clean = v.clean; tree_fds = v.all.fds; tree_files = v.all.files }) h c x y (tied_lent (shop_of v) h i s e inv.tied srv.hart li is unlent at) hands;
     sorts = λ l d q. renewed_sorts v s e (counted_more e) inv at refl refl l d q;
     well = well_inherit v.all h c inv.well srv.hart;

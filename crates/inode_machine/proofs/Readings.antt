@@ -29,7 +29,7 @@ use Rattle.inode_machine.specs.Marks.{places, with_mark, made_by, new_id, with_m
 use Rattle.inode_machine.specs.Descriptors.{refused_read}
 use Rattle.inode_machine.specs.Exec.{with_walk, slot_at, entry_at, entry_moved, part_of, entry_of, lock_at, lock_if, locked, mode_refusal, read_at, read_refused, unlocked, with_offset}
 use Rattle.inode_machine.specs.Rules.{Own, own_names, Held, own_of, Inv, machine, EntryOut, asked_limit}
-use Rattle.inode_machine.proofs.Frame.{put_elim, Fair, fair, has_inode}
+use Rattle.inode_machine.proofs.Frame.{Ours, Stays, ours_none, put_elim, Fair, fair, has_inode}
 use Rattle.inode_machine.proofs.Rules.{s-owned, quiet, has_disk, has_node, fine_after, is_out, locked_held, locking, locks_it, locks_none}
 use Rattle.inode_machine.proofs.Counting.{after_unlock, gives}
 use Rattle.inode_machine.proofs.Rows.{below_is}
@@ -127,8 +127,8 @@ pub record Moving (h s by : ℕ) (e : Entry) (v : World) (O : Own) : Type 0 wher
   pub fair : Fair h v (moved_world h s by e v)
   pub owned : own_of h (moved_world h s by e v) ≡ record O { mine = record { refs = O.mine.refs; walk = None; pending = None } }
 
-pub moving : (h fd s by : ℕ) (e : Entry) (v : World) (O : Own) → own_of h v ≡ O → O.desk.lender ≡ None → h < hart_count → Inv v → O.mine.pending ≡ None → Behind h fd s e v → Moving h s by e v O
-moving h fd s by e v O ov free lt inv none hit = record { fair = fair inv (sells_did h v F v.desks v.slots T (with_walk v.harts h None None) lt inv sells); owned = owned }
+pub moving : (h fd s by : ℕ) (e : Entry) (v : World) (O : Own) → own_of h v ≡ O → O.desk.lender ≡ None → h < hart_count → Inv v → O.mine.pending ≡ None → Behind h fd s e v → Ours h (v.keeper e.file.number) → Moving h s by e v O
+moving h fd s by e v O ov free lt inv none hit ours = record { fair = fair inv (sells_did h v F v.desks v.slots T (with_walk v.harts h None None) lt inv sells); owned = owned }
   where
     f : OpenFile
     f = offset_on e.file by
@@ -151,6 +151,16 @@ moving h fd s by e v O ov free lt inv none hit = record { fair = fair inv (sells
       | inr ne ↦
           let a : v.files j ≡ Some d = sym (put_other v.files s (Some (entry_moved e by)) j ne) ∙ q in
           (d, a, refl, put_other v.all.files (v.ids s) (Some f) (v.ids j) (λ z. ne (inv.tied.apart j s d e a hit.at z)) ∙ inv.tied.files j d a)
+    ]
+
+    -- another open file is as it was; this one is of an inode that no other hart keeps
+    moved_stays : (j : ℕ) (d : Entry) → v.files j ≡ Some d → (c : Entry) × (F j ≡ Some c) × Stays (λ n. Ours h (v.keeper n)) d c
+    moved_stays j d q = elim (same_or j s) [
+      | inl r ↦
+          let a : Some e ≡ Some d = sym hit.at ∙ ap v.files (sym r) ∙ q in
+          let c : e ≡ d = cc in
+          (entry_moved e by, ap F r ∙ put_same v.files s (Some (entry_moved e by)), inr (subst (λ (z : Entry). Ours h (v.keeper z.file.number) × (e.file.number ≡ z.file.number)) c (ours, refl)))
+      | inr ne ↦ (d, put_other v.files s (Some (entry_moved e by)) j ne ∙ q, inl refl)
     ]
 
     empty : (j : ℕ) → v.files j ≡ None → (o : Option Entry) → F j ≡ o → F j ≡ None
@@ -187,7 +197,7 @@ moving h fd s by e v O ov free lt inv none hit = record { fair = fair inv (sells
           spoiled = inv.tied.spoiled;
         };
         desks = λ g ne. refl;
-        numbers = λ g j c d lg ne lj q a. on c d a;
+        numbers = λ g j c d lg ne lj q a. moved_stays c d a;
         clean = λ c. c;
         bond = refl;
         stays = inl refl;
@@ -227,13 +237,13 @@ moving h fd s by e v O ov free lt inv none hit = record { fair = fair inv (sells
 
 -- The part is read in a world where the inode's record is its node.
 pub part_good : {A : Type 0} (h more n : ℕ) (B : List Step → Type 0) (Q : A → List Step → World → Type 0) (es : List Step) (v : World) (O : Own) (fd count s : ℕ) (e : Entry) (b : List ℕ) (p : P machine A)
-    → own_of h v ≡ O → O.desk.lender ≡ None → h < hart_count → Inv v → O.mine.walk ≡ None → O.mine.pending ≡ None → Behind h fd s e v → v.disk e.file.number ≡ v.all.nodes e.file.number → b ≡ part_of (v.disk e.file.number) e.file.offset count
+    → own_of h v ≡ O → O.desk.lender ≡ None → h < hart_count → Inv v → O.mine.walk ≡ None → O.mine.pending ≡ None → Behind h fd s e v → Ours h (v.keeper e.file.number) → v.disk e.file.number ≡ v.all.nodes e.file.number → b ≡ part_of (v.disk e.file.number) e.file.offset count
     → ((t : Tree) → file_at t h fd ≡ Some e.file → t.nodes e.file.number ≡ v.all.nodes e.file.number → (res : Option ℕ) (par : Option (ℕ × Name)) → refusal_with t h (Read fd count) res par ≡ None)
     → B (read_step fd count b ∷ es) → more < n
     → ((l : ℕ) (u : World) → l + (more + 1) ≡ n → own_of h u ≡ record O { mine = record { refs = O.mine.refs; walk = None; pending = None } } → Safe machine h B Q p l (read_step fd count b ∷ es) u)
     → Fine machine h ((h, record { move = OwnMove (Read fd count) 0; told = (made_by v.all h (new_id v) (v.harts h).walk (OwnMove (Read fd count) 0)).told }) ∷ []) more n B es v (with_made h (made_by v.all h (new_id v) (v.harts h).walk (OwnMove (Read fd count) 0)) (record v { files = put v.files s (Some (entry_moved e (length b))) }))
     (λ l. Wp machine h B Q p l (onto (own h ((h, record { move = OwnMove (Read fd count) 0; told = (made_by v.all h (new_id v) (v.harts h).walk (OwnMove (Read fd count) 0)).told }) ∷ [])) es) (with_made h (made_by v.all h (new_id v) (v.harts h).walk (OwnMove (Read fd count) 0)) (record v { files = put v.files s (Some (entry_moved e (length b))) })))
-part_good {A} h more n B Q es v O fd count s e b p ov free lt inv walks none hit whole b_is goes bd pos then_ =
+part_good {A} h more n B Q es v O fd count s e b p ov free lt inv walks none hit ours whole b_is goes bd pos then_ =
     moves_good h more n B Q es v (record v { files = put v.files s (Some (entry_moved e (length b))) }) (OwnMove (Read fd count) 0) p (made_by v.all h (new_id v) (v.harts h).walk (OwnMove (Read fd count) 0)) (record { all = u.all; walk = None; found = None; opened = None; entered = None; left = None; told = (read_step fd count b).told })
     made_is
     m.fair
@@ -255,7 +265,7 @@ part_good {A} h more n B Q es v O fd count s e b p ov free lt inv walks none hit
     u = moved_world h s (length b) e v
 
     m : Moving h s (length b) e v O
-    m = moving h fd s (length b) e v O ov free lt inv none hit
+    m = moving h fd s (length b) e v O ov free lt inv none hit ours
 
     opened : v.all.files (v.ids s) ≡ Some e.file
     opened = inv.tied.files s e hit.at
@@ -403,7 +413,7 @@ s-read-file {A} {h} fd i count x {k} {B} {Q} {n} {es} {w} {O} owns free lt pos a
         fine_after g.fair refl
         (part_good h 1608 n B Q es (after_unlock i v) O1 fd count key.opened.slot e (part_of (v.disk i) e.file.offset count) (k (part_of (v.disk i) e.file.offset count))
         g.owned free lt g.fair.inv walks none
-        (record { below = hit.below; is = hit.is; at = hit.at; tree = hit.tree; file = hit.file }) (ap v.disk number ∙ here ∙ sym (ap v.all.nodes number)) (λ r. part_of (v.disk (sym number r)) e.file.offset count)
+        (record { below = hit.below; is = hit.is; at = hit.at; tree = hit.tree; file = hit.file }) (ours_none h (put v.keeper i None e.file.number) (ap (put v.keeper i None) number ∙ put_same v.keeper i None)) (ap v.disk number ∙ here ∙ sym (ap v.all.nodes number)) (λ r. part_of (v.disk (sym number r)) e.file.offset count)
         (λ t file nodes res par. read_as_table t h fd count e res par file (ap (λ (z : Option Node). sort_of z) nodes ∙ inv.sorts key.opened.slot e hit.at) ∙ goes)
         (bd (part_of (v.disk i) e.file.offset count)) pos
         (λ l u p own2. then_ l (part_of (v.disk i) e.file.offset count) u p own2))

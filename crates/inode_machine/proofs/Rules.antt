@@ -17,7 +17,7 @@ use Rattle.inode_machine.specs.Exec.{file_count, with_refs, lock_if, counted_up,
 use Rattle.inode_machine.specs.Marks.{marked, go, places, with_mark}
 use Rattle.inode_machine.specs.World.Op.{Up}
 use Rattle.inode_machine.specs.Rules.{Own, shop_of, Opens, number_is, Held, view, is_hart, own_of, Found, Pinned, Reached, IsAlone, reference_limit, Inv, IsOut, MayWait, machine, more, Others, LocksNone, Asks, Rests, looking_cost, Honest, Sought}
-use Rattle.inode_machine.proofs.Frame.{shop_same, put_elim, ours_none, ours_some, kept_here, Did, Fair, fair, own_inodes, has_inode, has_none, found_more, two_refs, refers_put}
+use Rattle.inode_machine.proofs.Frame.{shop_same, put_elim, ours_none, ours_some, kept_here, Did, Fair, fair, files_then, own_inodes, has_inode, has_none, found_more, two_refs, refers_put}
 use Rattle.inode_machine.specs.Inodes.{Looking, Seen, Sort, seen_in, sort_of}
 
 -- an operation: what the hart owns stays until it runs
@@ -36,7 +36,7 @@ s-owned {A} {h} {op} {m} {k} {B} {Q} {n} {es} {w} {O} owns free pos rule =
 
 -- what a step leaves to another hart
 pub others : {h : ℕ} {v u : World} → Fair h v u → (g : ℕ) → g ≢ h → Others g v [] u
-others f g ne = record { none = refl; same = λ free. f.others g ne; rests = λ i. subst (λ (o : Own). Rests o) (sym (f.others g ne)) i; clean = f.clean }
+others f g ne = record { none = refl; same = λ free. f.others g ne; opens = λ free. f.opens g ne; rests = λ i. subst (λ (o : Own). Rests o) (sym (f.others g ne)) i; clean = f.clean }
 
 -- all that a step shows to the rest, also one that changes what a hart has that rests
 pub record FairTo (h : ℕ) (v u : World) : Type 0 where
@@ -79,7 +79,7 @@ pub fine_after : {h more n : ℕ} {B : List Step → Type 0} {es : List Step} {p
 fine_after {h} {ps = ps} {v = v} {w = w} {u = u} f same g =
     record {
       inv = g.inv;
-      kept = λ j ne. let a = others f j ne in let b = g.kept j ne in record { none = b.none; same = λ free. b.same (ap (λ (o : Own). o.desk.lender) (f.others j ne) ∙ free) ∙ a.same free; rests = λ i. b.rests (a.rests i); clean = λ c. a.clean (b.clean c) };
+      kept = λ j ne. let a = others f j ne in let b = g.kept j ne in record { none = b.none; same = λ free. b.same (ap (λ (o : Own). o.desk.lender) (f.others j ne) ∙ free) ∙ a.same free; opens = λ free. files_then j v w u (f.others j ne) (f.opens j ne) (b.opens (ap (λ (o : Own). o.desk.lender) (f.others j ne) ∙ free)); rests = λ i. b.rests (a.rests i); clean = λ c. a.clean (b.clean c) };
       goes = λ c. subst (λ (z : Stage). Goes machine z ps (stage_of u)) same (g.goes c);
       clean = λ c. f.clean (g.clean c);
       begun = g.begun;

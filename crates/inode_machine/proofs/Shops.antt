@@ -13,14 +13,14 @@ use Rattle.tree_moves.specs.Moves.{Takes}
 use Rattle.tree_moves.specs.Moves.Move.{Own as OwnMove}
 use Rattle.inode_machine.specs.World.{Mine, Entry, Desk, World, stage_of, Note}
 use Rattle.inode_machine.specs.Rules.{shop_of, Opens, own_names, Pinned, IsAlone, reference_limit, Inv, key_in, Stands}
-use Rattle.inode_machine.proofs.Frame.{Kin, Did, stands_in}
+use Rattle.inode_machine.proofs.Frame.{Kin, Did, Ours, stands_in}
 use Rattle.inode_machine.specs.Marks.{new_id}
 use Rattle.inode_machine.specs.Inodes.{sort_of}
 use Rattle.inode_machine.specs.Exec.{is_at}
 
 -- What a step on the table needs of its change.
 pub record Sells (h : ℕ) (v : World) (F : ℕ → Option Entry) (D : ℕ → Desk) (S : ℕ → ℕ) (T : Tree) (H : ℕ → Mine) : Type 0 where
-  pub kin : Kin h (shop_of v) (record { files = F; desks = D; ids = v.ids; slots = S; clean = v.clean; tree_fds = T.fds; tree_files = T.files })
+  pub kin : Kin h (λ n. Ours h (v.keeper n)) (shop_of v) (record { files = F; desks = D; ids = v.ids; slots = S; clean = v.clean; tree_fds = T.fds; tree_files = T.files })
   pub free : (D h).lender ≡ None
   pub unlent : (v.desks h).lender ≡ None
   pub joined : (D h).joined ≡ (v.desks h).joined

@@ -55,7 +55,7 @@ pub record Turns (h c : ℕ) (v : World) (F : ℕ → Option Entry) (D : ℕ →
   pub others : (g : ℕ) → g ≢ h → g ≢ c → H g ≡ v.harts g
   pub fds : (g : ℕ) → g ≢ c → X g ≡ v.all.fds g
   pub cwd : (g : ℕ) → g ≢ c → C g ≡ v.all.cwd g
-  pub numbers : (k : ℕ) (e : Entry) → v.files k ≡ Some e → (f : Entry) × (F k ≡ Some f) × (f.file.number ≡ e.file.number)
+  pub numbers : (k : ℕ) (e : Entry) → v.files k ≡ Some e → (f : Entry) × (F k ≡ Some f) × (f.file ≡ e.file)
   pub tied : Tied (record { files = F; desks = D; ids = v.ids; slots = v.slots; clean = v.clean; tree_fds = X; tree_files = v.all.files })
   pub sorts : (k : ℕ) (e : Entry) → F k ≡ Some e → sort_of (v.all.nodes e.file.number) ≡ Some e.sort
   pub well : IsWellFormed (record (v.all) { fds = X; cwd = C })

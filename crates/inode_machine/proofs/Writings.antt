@@ -24,7 +24,7 @@ use Rattle.plain_tree.proofs.Settling.{file_settled, settle_again}
 use Rattle.inode_machine.specs.Rules.{Own, Held, view, is_hart, own_of, shop_of, Inv, machine, IsOut, HonestPiece}
 use Rattle.inode_machine.specs.Parts.{own_step}
 use Rattle.inode_machine.specs.Descriptors.{refused_to, writes}
-use Rattle.inode_machine.proofs.Frame.{put_elim, is_put, shop_same, ours_some, kept_here, Did, Fair, fair, fair_then, own_inodes, has_inode, stands_in}
+use Rattle.inode_machine.proofs.Frame.{put_elim, is_put, shop_same, ours_none, ours_some, kept_here, Did, Fair, fair, fair_then, own_inodes, has_inode, stands_in}
 use Rattle.inode_machine.proofs.Rules.{s-owned, quiet, fine_after, has_disk, has_node, others, locking, locked_held, is_out, locks_it, locks_none, UnlocksAll}
 use Rattle.inode_machine.proofs.Counting.{Gives, after_unlock, gives}
 use Rattle.inode_machine.proofs.Walking.{stage_walk, moves_good, own_walk, walk_did}
@@ -175,6 +175,7 @@ writing h fd i s e x b v O ov free lt inv walks none hit num isi writable goes =
 
     m : Moving h s (length b) e (after_unlock i (changed_world i y v)) (record O1 { inodes = put O1.inodes i None })
     m = moving h fd s (length b) e (after_unlock i (changed_world i y v)) (record O1 { inodes = put O1.inodes i None }) g.owned free lt g.fair.inv none (record { below = hit.below; is = hit.is; at = hit.at; tree = hit.tree; file = hit.file })
+        (ours_none h (put v.keeper i None e.file.number) (ap (put v.keeper i None) num ∙ put_same v.keeper i None))
 
 -- A step that finds no room, whatever it did to the tree.
 pub spoils_fine : {h more n : ℕ} {B : List Step → Type 0} {es : List Step} {v u : World} {Next : ℕ → Type 0} → Fair h v u → u.clean ≡ false → more < n → ((l : ℕ) → l + (more + 1) ≡ n → Next l) → Fine machine h [] more n B es v u Next

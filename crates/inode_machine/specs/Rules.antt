@@ -76,10 +76,17 @@ pub record Rests (O : Own) : Type 0 where
 abbrev pub Idle : ℕ → World → Type 0
 Idle h w = Rests (own_of h w)
 
+-- what is open by a descriptor of the hart, and of an inode that it keeps, is the same open file, with its offset
+abbrev pub KeepsFiles : ℕ → World → World → Type 0
+KeepsFiles h v w =
+    (i k : ℕ) (e : Entry) → h < hart_count → i < descriptor_count → (v.desks h).fds i ≡ Some k → v.files k ≡ Some e → v.keeper e.file.number ≡ Some h
+    → (f : Entry) × (w.files k ≡ Some f) × (f.file ≡ e.file)
+
 -- What a hart has stays while the others step. A hart to which another one hands its descriptors gets them, and rests still.
 pub record Others (h : ℕ) (v : World) (xs : List Step) (w : World) : Type 0 where
   pub none : xs ≡ []
   pub same : (v.desks h).lender ≡ None → own_of h w ≡ own_of h v
+  pub opens : (v.desks h).lender ≡ None → KeepsFiles h v w
   pub rests : Idle h v → Idle h w
   pub clean : w.clean ≡ true → v.clean ≡ true
 

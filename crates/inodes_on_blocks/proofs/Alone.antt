@@ -6,6 +6,7 @@ use Rattle.atomic_programs.specs.Logic.{Laws, onto}
 use Rattle.atomic_programs.specs.Joined.{Lasts}
 use Rattle.inode_machine.specs.World as above
 use Rattle.inode_machine.specs.Rules.{Own}
+use Rattle.inode_machine.proofs.Frame.{files_then}
 use Rattle.inodes_on_blocks.specs.Lowering.{Kept, Keeps}
 use Rattle.inodes_on_blocks.specs.Handlers.{Handler}
 use Rattle.inodes_on_blocks.specs.Acting.{ActsOnceAt, ActsOnce, alone, Done, whole, IsDone, Answers, DoesItAt, DoesIt}
@@ -13,15 +14,19 @@ use Rattle.inodes_on_blocks.specs.Acting.{ActsOnceAt, ActsOnce, alone, Done, who
 pub kept_then : (h : ℕ) (u v w : above.World) → Kept h u v → Kept h v w → Kept h u w
 kept_then h u v w a b = record {
   same = λ free. b.same (ap (λ (o : Own). o.desk.lender) (a.same free) ∙ free) ∙ a.same free;
+  opens = λ free. files_then h u v w (a.same free) (a.opens free) (b.opens (ap (λ (o : Own). o.desk.lender) (a.same free) ∙ free));
   rests = λ i. b.rests (a.rests i);
 }
+
+pub kept_same : (h : ℕ) (w : above.World) → Kept h w w
+kept_same h w = record { same = λ free. refl; opens = λ free i k e below li is at keeps. (e, at, refl); rests = λ i. i }
 
 both_none : {A : Type 0} (xs ys : List A) → xs ≡ [] → ys ≡ [] → xs ++ ys ≡ []
 both_none xs ys p q = λ i. p i ++ q i
 
 pub alone_laws : Laws whole
 alone_laws = record {
-  same = λ h w. (refl, record { same = λ free. refl; rests = λ i. i });
+  same = λ h w. (refl, kept_same h w);
   trans = λ h u v w xs ys a b. (both_none xs ys a.0 b.0, kept_then h u v w a.1 b.1);
   idle_none = λ h v w xs o i. o.0;
   idle_stays = λ h v w xs o i. o.1.rests i;

@@ -27,7 +27,7 @@ use Rattle.inodes_on_blocks.specs.Below.{World, log_of, tables_of, disk_of, inod
 use Rattle.inodes_on_blocks.specs.Shown.{Shows}
 use Rattle.inodes_on_blocks.specs.Lowering.{Same, Kept, below, Labels, labelled, Keeps}
 use Rattle.inodes_on_blocks.specs.Holding.{in_hand, Fetched}
-use Rattle.inodes_on_blocks.proofs.Alone.{kept_then}
+use Rattle.inodes_on_blocks.proofs.Alone.{kept_same, kept_then}
 use Rattle.inodes_on_blocks.proofs.ContentBlocks.{direct_number}
 use Rattle.inodes_on_blocks.proofs.ContentStays.{block_stays}
 use Rattle.inodes_on_blocks.proofs.Fetching.{but_same, but_then, s-fetch, s-back}
@@ -121,7 +121,7 @@ module _ (sizes : Super) (l : Labels) (laws : Laws (labelled l)) (keeps : Keeps 
         (λ near e.
         subst (λ (t : Bool). Wp M h B Q (bind (fetch_at d (if t then Direct k else InTable (k - 12))) f) (suc (suc (suc (suc (suc n))))) es w) (sym e)
         (Wp-more M h (bind (fetch_number (slice_index d.addrs k)) f) B Q (suc (suc n)) (suc (suc (suc (suc (suc n))))) es w (omega arith)
-        (fetches rest w es stage (record { same = (below_laws sizes l keeps).same h w.real; kept = record { same = λ free. refl; rests = λ idle. idle } }) (slice_index d.addrs k) (sym (direct_number (disk_of (log_of w.real)) i k near)))))
+        (fetches rest w es stage (record { same = (below_laws sizes l keeps).same h w.real; kept = kept_same h w.seen }) (slice_index d.addrs k) (sym (direct_number (disk_of (log_of w.real)) i k near)))))
         (λ far e. subst (λ (t : Bool). Wp M h B Q (bind (fetch_at d (if t then Direct k else InTable (k - 12))) f) (suc (suc (suc (suc (suc n))))) es w) (sym e) (through rest es stage far))
 
 module _ (sizes : Super) (l : Labels) (laws : Laws (labelled l)) (keeps : Keeps l) (h : ℕ) (lt : h < hart_count) (B : List l.Step → Type 0) {A : Type 0} (Q : A → List l.Step → Both World above.World → Type 0) (G : List l.Step → above.World → Type 0)

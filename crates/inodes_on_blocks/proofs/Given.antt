@@ -21,7 +21,7 @@ use Rattle.inodes_on_blocks.specs.Acting.{whole, alone, Done}
 use Rattle.inodes_on_blocks.specs.Recording.{IsChanging}
 use Rattle.inodes_on_blocks.specs.Room.{MayRecord}
 use Rattle.inodes_on_blocks.specs.Giving.{KeepsRoom, Gave, GaveBlocks, Owns, BlocksAreGivenBack, NumbersAreGivenBack}
-use Rattle.inodes_on_blocks.proofs.Alone.{alone_laws, alone_keeps}
+use Rattle.inodes_on_blocks.proofs.Alone.{kept_same, alone_laws, alone_keeps}
 use Rattle.inodes_on_blocks.proofs.Rooms.{room_of}
 use Rattle.inodes_on_blocks.proofs.PutSteps.{s-give}
 use Rattle.inodes_on_blocks.proofs.Emptying.{none_yet, s-numbers}
@@ -119,7 +119,7 @@ numbers_are_given_back sizes h n numbers w lt at is keeps free mine owns named f
     (record {
       stage = record { none = refl; is = is; keeps = keeps; free = free };
       since = none_yet h n w.real mine;
-      kept = record { same = λ z. refl; rests = λ i. i };
+      kept = kept_same h w.seen;
       few = few;
       free = untouched;
       at = at;

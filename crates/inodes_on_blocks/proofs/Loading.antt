@@ -30,7 +30,7 @@ use Rattle.inodes_on_blocks.specs.Below.{World, log_of, tables_of, disk_of, inod
 use Rattle.inodes_on_blocks.specs.Shown.{Shows}
 use Rattle.inodes_on_blocks.specs.Lowering.{Same, Kept, Carry, Stands, below, buffer_in, Labels, labelled, Keeps}
 use Rattle.inodes_on_blocks.specs.Holding.{in_hand, SameBut}
-use Rattle.inodes_on_blocks.proofs.Alone.{kept_then}
+use Rattle.inodes_on_blocks.proofs.Alone.{kept_same, kept_then}
 use Rattle.inodes_on_blocks.proofs.Fetching.{but_then, s-fetch, s-back}
 use Rattle.inodes_on_blocks.proofs.Layer.{below_laws}
 
@@ -109,7 +109,7 @@ module _ (sizes : Super) (l : Labels) (laws : Laws (labelled l)) (keeps : Keeps 
         → Wp M h B Q (bind (load_unless sizes.inodestart n content) k) (suc (suc (suc j))) es w
     s-load n (Some d) c k j es w stage stands mine low fits rest =
         Wp-more M h (k d) B Q j (suc (suc (suc j))) es w (omega arith)
-        (subst (λ (x : Dinode). Wp M h B Q (k x) j es w) (sym (fits d refl)) (rest w es ((below_laws sizes l keeps).same h w.real) (record { same = λ free. refl; rests = λ idle. idle }) stage stands))
+        (subst (λ (x : Dinode). Wp M h B Q (k x) j es w) (sym (fits d refl)) (rest w es ((below_laws sizes l keeps).same h w.real) (kept_same h w.seen) stage stands))
     s-load n None c k j es w stage stands mine low fits rest =
         subst (λ (p : P M A). Wp M h B Q p (suc (suc (suc j))) es w) (sym (bind-assoc (fetch b) (give_back b n) k))
         (s-fetch sizes l laws keeps h lt B Q G stable b (λ bytes. bind (give_back b n bytes) k) (suc j) es w stage (let none = stands.0.free in omega (arith, none))

@@ -19,7 +19,7 @@ use Rattle.inode_machine.specs.World as above
 use Rattle.inode_machine.specs.World.Op.{Take, Give, UpStart, Up, WalkDown, Down, Free, Claim, Store, Fill, Enter, Clear, Empty, Slot, Install, StatFile, ReadFile, CheckFile, JoinFile, WriteFile, Double, Shut, Settle, Lend, LendDirectory, Release, Join, Leave, Say}
 use Rattle.inode_machine.specs.Marks.{go}
 use Rattle.inode_machine.specs.Rules as rules
-use Rattle.inode_machine.specs.Rules.{if_kept, own_of, Idle, Inv}
+use Rattle.inode_machine.specs.Rules.{if_kept, own_of, Idle, KeepsFiles, Inv}
 use Rattle.inodes_on_tables.specs.Shown as tables
 use Rattle.inodes_on_tables.specs.Shown.{loaded}
 use Rattle.inodes_on_blocks.specs.Below.{World, log_of, tables_of, disk_of, inode_in, exec}
@@ -55,6 +55,7 @@ pub record Same (h : ℕ) (v w : World) : Type 0 where
 -- the same of what is a hart's in the world above
 pub record Kept (h : ℕ) (v w : above.World) : Type 0 where
   pub same : (v.desks h).lender ≡ None → own_of h w ≡ own_of h v
+  pub opens : (v.desks h).lender ≡ None → KeepsFiles h v w
   pub rests : Idle h v → Idle h w
 
 -- ---- what a hart has between two operations above
