@@ -34,8 +34,8 @@ use Rattle.inodes_on_tables.proofs.References.{by_place, directories_are_starts}
 use Rattle.inodes_on_tables.proofs.Drops.{walks_drop_references, references_are_dropped}
 use Rattle.inodes_on_blocks.specs.Below.{World, log_of, tables_of, disk_of, inode_in}
 use Rattle.inodes_on_blocks.specs.Shown.{Shows}
-use Rattle.inodes_on_blocks.specs.Lowering.{Carry, IsLoaded, Base, Labels, labelled, Keeps}
-use Rattle.inodes_on_blocks.specs.Handlers.{up_start, up, walk_down, down, is_kept, with_dying}
+use Rattle.inodes_on_blocks.specs.Lowering.{Had, Carry, IsLoaded, Base, Labels, labelled, Keeps}
+use Rattle.inodes_on_blocks.specs.Handlers.{up_start, up, walk_down, down, is_kept, had_of, with_dying}
 use Rattle.inodes_on_blocks.specs.Acting.{ActsOnce}
 use Rattle.inodes_on_blocks.proofs.Layer.{tables_left}
 use Rattle.inodes_on_blocks.proofs.Stepping.{Came, CameTo, one_step}
@@ -247,7 +247,7 @@ module _ (l : Labels) (laws : Laws (labelled l)) (keeps : Keeps l) (h : ℕ) (lt
   -- its lock is taken, to free it
   dying_came : (op : above.Op) (n : ℕ) (v : W) (c : Carry) (b : above.Answer op) (t : TablesState) → Shows v.real v.seen → Base h v.real v.seen c → (v.seen.desks h).lender ≡ None → 0 < v.seen.refs n → v.seen.lock n ≡ None → above_exec.is_dead (v.seen.disk n) ≡ true
       → above_exec.exec h above.Room op v.seen ≡ Ran b (record (reserved h n v.seen) { lock = put v.seen.lock n (Some h) }) → tables.Shows t (record (reserved h n v.seen) { lock = put v.seen.lock n (Some h) }) (put (loaded (tables_of v.real)) n None)
-      → Came l laws keeps h op v b (with_tables v.real t) (put c n (loaded (tables_of v.real) n))
+      → Came l laws keeps h op v b (with_tables v.real t) (put c n (had_of (loaded (tables_of v.real) n)))
   dying_came op n v c b t shows base free some unlocked dead ran after = record {
     then_ = record (reserved h n v.seen) { lock = put v.seen.lock n (Some h) };
     ran = ran;
@@ -273,25 +273,25 @@ module _ (l : Labels) (laws : Laws (labelled l)) (keeps : Keeps l) (h : ℕ) (lt
           | inl q ↦ inr (ours_none h (v.seen.lock i) (ap v.seen.lock q ∙ unlocked), ours_some h (put v.seen.lock n (Some h) i) (ap (put v.seen.lock n (Some h)) q ∙ put_same v.seen.lock n (Some h)))
           | inr ne ↦ inl (put_other v.seen.lock n (Some h) i ne)
         ]);
-    base = base_then h lt v.real v.seen shows c (put c n (load n)) t (record (reserved h n v.seen) { lock = put v.seen.lock n (Some h) }) (put load n None) base after free
+    base = base_then h lt v.real v.seen shows c (put c n (had_of (load n))) t (record (reserved h n v.seen) { lock = put v.seen.lock n (Some h) }) (put load n None) base after free
         (λ i e. elim (same_or i n) [
           | inl q ↦ inr (record {
             keeps = ap (put v.seen.keeper n (Some h)) q ∙ put_same v.seen.keeper n (Some h);
-            loaded_is = subst (λ (z : ℕ). IsLoaded (put c n (load n) z) (v.seen.disk z) (inode_in (log_of v.real) z)) (sym q) (subst (λ (o : Option Dinode). IsLoaded o (v.seen.disk n) (inode_in (log_of v.real) n)) (sym (put_same c n (load n))) (is_loaded (load n) refl));
+            loaded_is = subst (λ (z : ℕ). IsLoaded (put c n (had_of (load n)) z) (v.seen.disk z) (inode_in (log_of v.real) z)) (sym q) (subst (λ (o : Had). IsLoaded o (v.seen.disk n) (inode_in (log_of v.real) n)) (sym (put_same c n (had_of (load n)))) (is_loaded (load n) refl));
             holds = subst (λ (z : ℕ). HoldsAt (disk_of (log_of v.real)) v.real.owner z (v.seen.disk z)) (sym q) (unlocked_holds h lt v.real v.seen shows n unlocked (shows.tables.range n some).0 (shows.tables.range n some).1);
           })
           | inr ne ↦
               let was : v.seen.lock i ≡ Some h = sym (put_other v.seen.lock n (Some h) i ne) ∙ e in
-              inl (was, put_other v.seen.keeper n (Some h) i ne ∙ (base.inodes i (sym (shows.tables.places.holders i) ∙ was)).keeps, refl, put_other c n (load n) i ne)
+              inl (was, put_other v.seen.keeper n (Some h) i ne ∙ (base.inodes i (sym (shows.tables.places.holders i) ∙ was)).keeps, refl, put_other c n (had_of (load n)) i ne)
         ]);
   }
     where
       load : ℕ → Option Dinode
       load = loaded (tables_of v.real)
 
-      is_loaded : (o : Option Dinode) → load n ≡ o → IsLoaded o (v.seen.disk n) (inode_in (log_of v.real) n)
+      is_loaded : (o : Option Dinode) → load n ≡ o → IsLoaded (had_of o) (v.seen.disk n) (inode_in (log_of v.real) n)
       is_loaded None e = absurd (let s : IsSome {T = Dinode} None = subst IsSome e (shows.loads.dead n some unlocked dead) in cc s)
-      is_loaded (Some d) e = (shows.loads.seen n d e, λ z. none-some d (sym (shows.loads.typed n z) ∙ e))
+      is_loaded (Some d) e = (shows.loads.seen n d e, (λ z. none-some d (sym (shows.loads.typed n z) ∙ e)), tt)
 
   last_is : (n : ℕ) (w : above.World) → is_last w n ≡ true → (w.refs n ≡ 1) × (above_exec.is_dead (w.disk n) ≡ true)
   last_is n w e = let both = and_true (w.refs n == 1) (above_exec.is_dead (w.disk n)) e in (eq_is (w.refs n) 1 both.0, both.1)

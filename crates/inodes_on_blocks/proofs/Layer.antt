@@ -16,7 +16,7 @@ use Rattle.inode_machine.specs.Rules.{Own, Held, if_kept, own_of, view, Idle}
 use Rattle.inode_machine.proofs.Frame.{Ours, not_ours, kept_is, kept_here, has_inode}
 use Rattle.inodes_on_tables.specs.Shown as tables
 use Rattle.inodes_on_blocks.specs.Below.{World, log_of, tables_of, disk_of, inode_in}
-use Rattle.inodes_on_blocks.specs.Lowering.{KeepsInode, commit_in, Same, Kept, Carry, IsLoaded, InHand, Base, below, Labels, labelled, Keeps}
+use Rattle.inodes_on_blocks.specs.Lowering.{KeepsInode, commit_in, Same, Kept, Had, Apart, Has, Emptied, Carry, IsKnown, IsLoaded, InHand, Base, below, Labels, labelled, Keeps}
 use Rattle.inodes_on_blocks.proofs.Marked.{SameCode}
 
 -- what is held at one end is held at the other
@@ -28,7 +28,7 @@ pub keeps_none : (h i : ℕ) (g : above.World) → Idle h g → g.keeper i ≡ S
 keeps_none h i g idle is = none-some (view g h i) (sym (λ z. idle.inodes z i) ∙ kept_here h (g.keeper i) (view g h i) is)
 
 -- an inode that it keeps is as it was
-kept_disk : (h i : ℕ) (g u : above.World) → Kept h g u → (((g.desks h).lender ≡ None → ⊥) → Idle h g) → g.keeper i ≡ Some h → (u.keeper i ≡ Some h) × (u.disk i ≡ g.disk i)
+pub kept_disk : (h i : ℕ) (g u : above.World) → Kept h g u → (((g.desks h).lender ≡ None → ⊥) → Idle h g) → g.keeper i ≡ Some h → (u.keeper i ≡ Some h) × (u.disk i ≡ g.disk i)
 kept_disk h i g u kept lent is = by (g.desks h).lender refl
   where
     by : (o : Option ℕ) → (g.desks h).lender ≡ o → (u.keeper i ≡ Some h) × (u.disk i ≡ g.disk i)
@@ -65,9 +65,10 @@ kept_alike h i v w lock disk owner = record {
 
 -- ---- what a hart has in hand
 
-still_loaded : (o : Option Dinode) (m n : Option Node) (d e : Dinode) → n ≡ m → e ≡ d → IsLoaded o m d → IsLoaded o n e
-still_loaded None m n d e q p x = q ∙ x
-still_loaded (Some f) m n d e q p x = (x.0 ∙ sym p, λ z. x.1 (sym q ∙ z))
+still_loaded : (o : Had) (m n : Option Node) (d e : Dinode) → n ≡ m → e ≡ d → IsLoaded o m d → IsLoaded o n e
+still_loaded Apart m n d e q p x = x
+still_loaded (Has f l) m n d e q p x = (x.0 ∙ sym p, λ z. x.1 (sym q ∙ z), subst (IsKnown l) (sym q) x.2)
+still_loaded Emptied m n d e q p x = q ∙ x
 
 -- of each inode whose lock it has
 abbrev pub AllInHand : ℕ → Carry → World → above.World → Type 0

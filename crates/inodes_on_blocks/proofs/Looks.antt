@@ -23,7 +23,8 @@ use Rattle.plain_tree.specs.Tree as tree
 use Rattle.plain_tree.specs.Tree.{Name, first_slot, live_directory, look, same_name, slots_of}
 use Rattle.plain_tree.proofs.PathLemmas.{same_pointwise}
 use Rattle.inode_machine.specs.Inodes.{is_empty_kind, is_empty_node}
-use Rattle.inodes_on_blocks.specs.Reading.{number_found}
+use Rattle.inodes_on_blocks.specs.Lowering.{has_name, IsFirstNamed, IsKnown}
+use Rattle.inodes_on_blocks.specs.Reading.{number_found, learned}
 
 -- ---- slots as they are read
 
@@ -69,6 +70,17 @@ first_named (x ∷ slots) e read (suc k) are lt is none =
 pub found_is : (slots : List (Option Slot)) (e : Name) (read : ℕ → Option Dirent) (o : Option Found) → AreRead read slots → IsFirst (Named e) read (length slots) o → number_found o ≡ first_slot slots e
 found_is slots e read None are is = sym (none_named slots e read are is)
 found_is slots e read (Some f) are is = ap (λ (n : ℕ). Some n) is.2 ∙ sym (first_named slots e read f.slot are is.0 is.1 is.3)
+
+-- and it is the first of that name
+named_as : (e : Name) (x : Option Slot) → has_name e x ≡ is_named e (entry_of x)
+named_as e None = refl
+named_as e (Some s) = sym (same_pointwise s.name e)
+
+pub slot_is : (slots : List (Option Slot)) (e : Name) (read : ℕ → Option Dirent) (o : Option Found) → AreRead read slots → IsFirst (Named e) read (length slots) o → IsKnown (learned e o) (Some (record { count = 0; kind = Directory slots }))
+slot_is slots e read None are is = tt
+slot_is slots e read (Some f) are is =
+    let same : (s : ℕ) → s < length slots → has_name e (get_or slots s None) ≡ is_named e (read s) = (λ s lt. named_as e (get_or slots s None) ∙ ap (is_named e) (sym (are s lt))) in
+    record { below = is.0; is = same f.slot is.0 ∙ is.1; first = λ q low. same q (let top = is.0 in omega (arith, low, top)) ∙ is.3 q low }
 
 -- ---- used slots
 
@@ -194,6 +206,19 @@ module _ (disk : List (List ℕ)) (owner : ℕ → ℕ) (i : ℕ) (v : Node) (ho
     where
       by : (k : Kind) → v.kind ≡ k → number_found (search_finds (Named e)) ≡ first_slot (slots_of v.kind) e
       by (Directory slots) is = found_is slots e (slot_at content) (search_finds (Named e)) (shown slots is).0 (is_first (Named e) slots is) ∙ ap (λ (k : Kind). first_slot (slots_of k) e) (sym is)
+      by (File bytes) is = absurd (no_directory v.count (ap (λ (k : Kind). nat_lt 0 v.count && tree.is_directory k) (sym is) ∙ live))
+      by (Device major minor size) is = absurd (no_directory v.count (ap (λ (k : Kind). nat_lt 0 v.count && tree.is_directory k) (sym is) ∙ live))
+
+  -- and its slot
+  pub slot_found : (e : Name) → live_directory (Some v) ≡ true → IsKnown (learned e (search_finds (Named e))) (Some v)
+  slot_found e live = by v.kind refl
+    where
+      by : (k : Kind) → v.kind ≡ k → IsKnown (learned e (search_finds (Named e))) (Some v)
+      by (Directory slots) is = of_slots (search_finds (Named e)) (slot_is slots e (slot_at content) (search_finds (Named e)) (shown slots is).0 (is_first (Named e) slots is))
+        where
+          of_slots : (o : Option Found) → IsKnown (learned e o) (Some (record { count = 0; kind = Directory slots })) → IsKnown (learned e o) (Some v)
+          of_slots None known = tt
+          of_slots (Some f) known = subst (λ (k : Kind). IsFirstNamed (slots_of k) e f.slot) (sym is) known
       by (File bytes) is = absurd (no_directory v.count (ap (λ (k : Kind). nat_lt 0 v.count && tree.is_directory k) (sym is) ∙ live))
       by (Device major minor size) is = absurd (no_directory v.count (ap (λ (k : Kind). nat_lt 0 v.count && tree.is_directory k) (sym is) ∙ live))
 

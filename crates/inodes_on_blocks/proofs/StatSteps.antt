@@ -46,12 +46,12 @@ use Rattle.inodes_on_tables.proofs.Locks.{by_lock, place_there}
 use Rattle.inodes_on_tables.proofs.Named.{names_at, file_is}
 use Rattle.inodes_on_blocks.specs.Below.{World, log_of, tables_of, inode_in, exec}
 use Rattle.inodes_on_blocks.specs.Shown.{Shows}
-use Rattle.inodes_on_blocks.specs.Lowering.{Carry, IsLoaded, InHand, Base, Stands, below, Labels, labelled, Keeps}
+use Rattle.inodes_on_blocks.specs.Lowering.{NothingMore, Had, Has, Carry, IsLoaded, InHand, Base, Stands, below, Labels, labelled, Keeps}
 use Rattle.inodes_on_blocks.specs.Acting.{ActsOnceAt}
 use Rattle.inodes_on_blocks.specs.Reading.{face_in, sort_at, natural, stat_file, stat_locked, stat_loaded}
 use Rattle.inodes_on_blocks.proofs.Layer.{below_laws, base_marked, tables_left}
 use Rattle.inodes_on_blocks.proofs.Loading.{s-load}
-use Rattle.inodes_on_blocks.proofs.Marked.{marked_same, shows_marked}
+use Rattle.inodes_on_blocks.proofs.Marked.{SameCode, marked_same, shows_marked}
 use Rattle.inodes_on_blocks.proofs.SlotSteps.{in_tables_is, came_quiet, all_same}
 use Rattle.inodes_on_blocks.proofs.Stepping.{Came}
 use Rattle.inodes_on_blocks.proofs.Tables.{with_tables, unlocked_holds, shows_then, base_then}
@@ -122,7 +122,7 @@ module _ (l : Labels) (laws : Laws (labelled l)) (keeps : Keeps l) (h : ℕ) (lt
   -- of an inode that has a type: its record is in hand from there on, though it may have to be read yet
   pub lock_came : (op : above.Op) (n : ℕ) (v : W) (c : Carry) (b : above.Answer op) (t : TablesState) → Shows v.real v.seen → Base h v.real v.seen c → (v.seen.desks h).lender ≡ None → 0 < v.seen.refs n
       → v.seen.lock n ≡ None → v.seen.disk n ≢ None → above_exec.exec h above.Room op v.seen ≡ Ran b (locked h n v.seen) → tables.Shows t (locked h n v.seen) (put (loaded (tables_of v.real)) n None)
-      → Came l laws keeps h op v b (with_tables v.real t) (put c n (Some (inode_in (log_of v.real) n)))
+      → Came l laws keeps h op v b (with_tables v.real t) (put c n (Has (inode_in (log_of v.real) n) NothingMore))
   lock_came op n v c b t shows base free some unlocked typed ran after = record {
     then_ = locked h n v.seen;
     ran = ran;
@@ -151,12 +151,12 @@ module _ (l : Labels) (laws : Laws (labelled l)) (keeps : Keeps l) (h : ℕ) (lt
           | inl q ↦ inr (ours_none h (v.seen.lock i) (ap v.seen.lock q ∙ unlocked), ours_some h (put v.seen.lock n (Some h) i) (ap (put v.seen.lock n (Some h)) q ∙ put_same v.seen.lock n (Some h)))
           | inr ne ↦ inl (put_other v.seen.lock n (Some h) i ne)
         ]);
-    base = base_then h lt v.real v.seen shows c (put c n (Some d)) t (locked h n v.seen) (put load n None) base after free
+    base = base_then h lt v.real v.seen shows c (put c n (Has d NothingMore)) t (locked h n v.seen) (put load n None) base after free
         (λ i e. elim (same_or i n) [
-          | inl q ↦ inr (subst (λ (k : ℕ). InHand h k (put c n (Some d) k) v.real (locked h n v.seen)) (sym q) hand)
+          | inl q ↦ inr (subst (λ (k : ℕ). InHand h k (put c n (Has d NothingMore) k) v.real (locked h n v.seen)) (sym q) hand)
           | inr ne ↦
               let was : v.seen.lock i ≡ Some h = sym (put_other v.seen.lock n (Some h) i ne) ∙ e in
-              inl (was, put_other v.seen.keeper n (Some h) i ne ∙ (base.inodes i (sym (shows.tables.places.holders i) ∙ was)).keeps, refl, put_other c n (Some d) i ne)
+              inl (was, put_other v.seen.keeper n (Some h) i ne ∙ (base.inodes i (sym (shows.tables.places.holders i) ∙ was)).keeps, refl, put_other c n (Has d NothingMore) i ne)
         ]);
   }
     where
@@ -166,10 +166,10 @@ module _ (l : Labels) (laws : Laws (labelled l)) (keeps : Keeps l) (h : ℕ) (lt
       d : Dinode
       d = inode_in (log_of v.real) n
 
-      hand : InHand h n (put c n (Some d) n) v.real (locked h n v.seen)
+      hand : InHand h n (put c n (Has d NothingMore) n) v.real (locked h n v.seen)
       hand = record {
         keeps = put_same v.seen.keeper n (Some h);
-        loaded_is = subst (λ (o : Option Dinode). IsLoaded o (v.seen.disk n) d) (sym (put_same c n (Some d))) (refl, typed);
+        loaded_is = subst (λ (o : Had). IsLoaded o (v.seen.disk n) d) (sym (put_same c n (Has d NothingMore))) (refl, typed, tt);
         holds = let range = shows.tables.range n some in unlocked_holds h lt v.real v.seen shows n unlocked range.0 range.1;
       }
 
@@ -177,7 +177,7 @@ module _ (l : Labels) (laws : Laws (labelled l)) (keeps : Keeps l) (h : ℕ) (lt
 
   module _ (sizes : Super) (op : above.Op) (m : above.Answer op → Option above.Mark) (B : List l.Step → Type 0) (C : above.Answer op → List l.Step → above.World → Type 0) (lasts : Lasts (labelled l) h B C) where
     pub came_acting : {A : Type 0} (v : W) (wait : Type 0) (a : A) (r : World) (b : above.Answer op) (c : Carry) (N : A → above.Answer op → World → above.World → Type 0) → rules.Honest h op v.seen above.Room → (log_of r).sizes ≡ sizes
-        → Came l laws keeps h op v b r c → ((g : above.World) → Stands sizes h r g c → N a b r g)
+        → (came : Came l laws keeps h op v b r c) → ((g : above.World) → SameCode came.then_ g → Stands sizes h r g c → N a b r g)
         → Acting (labelled l) (below sizes) laws (below_laws sizes l keeps) h B op m C lasts above.Room v wait (Ran a r) N
     came_acting v wait a r b c N honest at came next =
         let s = marked_same h (m b) came.then_ in (
@@ -187,7 +187,7 @@ module _ (l : Labels) (laws : Laws (labelled l)) (keeps : Keeps l) (h : ℕ) (lt
           honest,
           (λ inv. shows_marked r came.then_ (marked h (m b) came.then_) s came.shows),
           came.same,
-          next (marked h (m b) came.then_) (base_marked h r came.then_ (marked h (m b) came.then_) c s came.free came.base, at),
+          next (marked h (m b) came.then_) s (base_marked h r came.then_ (marked h (m b) came.then_) c s came.free came.base, at),
         )
 
   -- ---- the state of what a descriptor names
@@ -219,7 +219,7 @@ module _ (l : Labels) (laws : Laws (labelled l)) (keeps : Keeps l) (h : ℕ) (lt
                   on_tables v x (Ran (Refuses refused.BadDescriptor) (tables_of v.real)) (ap (λ (z : Option files.OpenFile). lock_unless h (tables_of v.real) z (refusal_of want.Stat z)) named)
                   (came_acting sizes (StatFile fd) m B C lasts v (premises.MayWait h (LockFile want.Stat fd) v.real.state) (Refuses refused.BadDescriptor) (with_tables v.real (tables_of v.real)) None c Next tt stands_v.1
                   (came_quiet l laws keeps h lt (StatFile fd) v None (tables_of v.real) v.seen c shows stands_v.0 may.0 (ap (stat_at h v.seen) e) shows.tables (all_same h v.seen))
-                  (λ g stands_g gs inv_g done. (done, stands_g))),
+                  (λ g same_g stands_g gs inv_g done. (done, stands_g))),
             )
         by v shows inv stands_v may (Some e) is =
             let n = e.file.number in
@@ -239,15 +239,15 @@ module _ (l : Labels) (laws : Laws (labelled l)) (keeps : Keeps l) (h : ℕ) (lt
                   (g, (λ q. may.1 n (out ∙ ap (λ (z : ℕ). Some z) q)), sym (shows.tables.places.holders n) ∙ out)))
                   (λ u ran free after.
                   on_tables v x (Ran (Locks (file_of e) (loaded (tables_of v.real) n)) u) (lower ∙ ap (with_file (file_of e)) ran)
-                  (came_acting sizes (StatFile fd) m B C lasts v (premises.MayWait h (LockFile want.Stat fd) v.real.state) (Locks (file_of e) (loaded (tables_of v.real) n)) (with_tables v.real u) (Some (n, face_or (face_of (v.seen.disk n)))) (put c n (Some (inode_in (log_of v.real) n))) Next tt stands_v.1
+                  (came_acting sizes (StatFile fd) m B C lasts v (premises.MayWait h (LockFile want.Stat fd) v.real.state) (Locks (file_of e) (loaded (tables_of v.real) n)) (with_tables v.real u) (Some (n, face_or (face_of (v.seen.disk n)))) (put c n (Has (inode_in (log_of v.real) n) NothingMore)) Next tt stands_v.1
                   (lock_came (StatFile fd) n v c (Some (n, face_or (face_of (v.seen.disk n)))) u shows stands_v.0 may.0 referred.2 free (file_typed v.seen referred.0 e inv referred.1 free)
                   (ap (stat_at h v.seen) is ∙ ap (lock_if h n (Some (n, face_or (face_of (v.seen.disk n)))) v.seen (locked h n v.seen)) free) after)
-                  (λ g stands_g gs inv_g done. loads v e shows free referred.2 (file_typed v.seen referred.0 e inv referred.1 free) u g after stands_g gs done))),
+                  (λ g same_g stands_g gs inv_g done. loads v e shows free referred.2 (file_typed v.seen referred.0 e inv referred.1 free) u g after stands_g gs done))),
             )
           where
             loads : (v : W) (e : Entry) → Shows v.real v.seen → v.seen.lock e.file.number ≡ None → 0 < v.seen.refs e.file.number → v.seen.disk e.file.number ≢ None → (u : TablesState) (g : above.World)
                 → tables.Shows u (locked h e.file.number v.seen) (put (loaded (tables_of v.real)) e.file.number None)
-                → Stands sizes h (with_tables v.real u) g (put c e.file.number (Some (inode_in (log_of v.real) e.file.number))) → (gs : List l.Step) → C (Some (e.file.number, face_or (face_of (v.seen.disk e.file.number)))) gs g
+                → Stands sizes h (with_tables v.real u) g (put c e.file.number (Has (inode_in (log_of v.real) e.file.number) NothingMore)) → (gs : List l.Step) → C (Some (e.file.number, face_or (face_of (v.seen.disk e.file.number)))) gs g
                 → Wp (joined (labelled l) (below sizes)) h B (Below (labelled l) (below sizes) h C) (stat_locked sizes c (Locks (file_of e) (loaded (tables_of v.real) e.file.number))) 3 gs (record { real = with_tables v.real u; seen = g })
             loads v e shows free some typed u g after stands_g gs done =
                 let n = e.file.number in
@@ -257,7 +257,7 @@ module _ (l : Labels) (laws : Laws (labelled l)) (keeps : Keeps l) (h : ℕ) (lt
                 let holds = unlocked_holds h lt v.real v.seen shows n free range.0 range.1 in
                 let answer : ◌≡◌ {A = Option (ℕ × Face)} (Some (n, face_in d)) b = ap (λ (f : Face). Some (n, f)) (face_held d (v.seen.disk n) holds.inode typed) in
                 s-load sizes l laws keeps h lt B (Below (labelled l) (below sizes) h C) (C b) (acted (labelled l) (below sizes) laws (below_laws sizes l keeps) h B (StatFile fd) m C lasts b)
-                n (loaded (tables_of v.real) n) (put c n (Some d)) (stat_loaded c n) 0 gs (record { real = with_tables v.real u; seen = g }) done stands_g
+                n (loaded (tables_of v.real) n) (put c n (Has d NothingMore)) (stat_loaded c n) 0 gs (record { real = with_tables v.real u; seen = g }) done stands_g
                 (sym (after.places.holders n) ∙ put_same v.seen.lock n (Some h)) (let top = range.1 in let size = shows.size in subst (λ (s : Super). n < s.ninodes) stands_g.1 (omega (arith, top, size)))
                 (λ x e. shows.loads.seen n x e)
                 (λ z fs same_z kept_z stage stands_z. (subst (λ (a : Option (ℕ × Face)). C a fs z.seen) (sym answer) stage, stands_z))

@@ -2,7 +2,7 @@
 use Rattle.std.proofs.Common.{◌≡◌, ◌≢◌, inl, inr, ℕ, suc, pos, ◌+◌, ◌/◌, ◌%◌, ◌<◌, ◌≤◌, true, false, List, length, Option, Some, None, refl, sym, ◌∙◌, ap, subst, arith}
 use Rattle.std.specs.Prelude.{is_some}
 use Rattle.std.specs.Option.{unwrap_or}
-use Rattle.std.proofs.lemmas.Option.{none-some, same_Some}
+use Rattle.std.proofs.lemmas.Option.{none-some}
 use Rattle.fs_layout.specs.declared.superblock.Super.{Super}
 use Rattle.fs_layout.specs.declared.inode.Dinode.{Dinode}
 use Rattle.fs_layout.specs.Inode.{dinode_at, IsDinode}
@@ -46,7 +46,7 @@ use Rattle.inodes_on_blocks.specs.Owners.{Owners}
 use Rattle.inodes_on_blocks.specs.Below.{World, log_of, tables_of, disk_of, inode_in, owners_of, exec}
 use Rattle.inodes_on_blocks.specs.Recording.{CanPut, PutLeaves}
 use Rattle.inodes_on_blocks.specs.Shown.{Shows}
-use Rattle.inodes_on_blocks.specs.Lowering.{commit_in, Same, Carry, IsLoaded, InHand, Base, Stands, below, Labels, labelled, Keeps}
+use Rattle.inodes_on_blocks.specs.Lowering.{commit_in, Same, NothingMore, Had, Apart, Has, Emptied, Carry, record_had, IsLoaded, InHand, Base, Stands, below, Labels, labelled, Keeps}
 use Rattle.inodes_on_blocks.specs.Holding.{in_hand, Fetched}
 use Rattle.inodes_on_blocks.specs.Room.{GivesRoom}
 use Rattle.inodes_on_blocks.specs.Storing.{record_in, put_record, store}
@@ -141,24 +141,23 @@ module _ (sizes : Super) (l : Labels) (laws : Laws (labelled l)) (keeps : Keeps 
     inode_then : inode_in (log_of then_) n ≡ d
     inode_then = inode_is (disk_of (log_of r)) (disk_of (log_of then_)) n d (record_put h n d r g shows p.mine p.joined range.0 range.1 p.is can long)
 
-    all_then : AllInHand h (put c n (Some d)) then_ seen_then
+    all_then : AllInHand h (put c n (Has d NothingMore)) then_ seen_then
     all_then i e = elim (same_or i n) [
-      | inl q ↦ subst (λ (j : ℕ). InHand h j (put c n (Some d) j) then_ seen_then) (sym q) this
+      | inl q ↦ subst (λ (j : ℕ). InHand h j (put c n (Has d NothingMore) j) then_ seen_then) (sym q) this
       | inr ne ↦ other ne
     ]
       where
-        loaded_as : (o : Option Dinode) → o ≡ Some d → IsLoaded o (put g.disk n (Some p.node) n) (inode_in (log_of then_) n)
-        loaded_as None q = absurd (none-some d q)
-        loaded_as (Some f) q = (same_Some f d q ∙ sym inode_then, λ z. none-some p.node (sym z ∙ put_same g.disk n (Some p.node)))
+        loaded_as : IsLoaded (Has d NothingMore) (put g.disk n (Some p.node) n) (inode_in (log_of then_) n)
+        loaded_as = (sym inode_then, (λ z. none-some p.node (sym z ∙ put_same g.disk n (Some p.node))), tt)
 
-        this : InHand h n (put c n (Some d) n) then_ seen_then
+        this : InHand h n (put c n (Has d NothingMore) n) then_ seen_then
         this = record {
           keeps = (all n (sym (shows.tables.places.holders n) ∙ p.mine)).keeps;
-          loaded_is = loaded_as (put c n (Some d) n) (put_same c n (Some d));
+          loaded_is = subst (λ (o : Had). IsLoaded o (put g.disk n (Some p.node) n) (inode_in (log_of then_) n)) (sym (put_same c n (Has d NothingMore))) loaded_as;
           holds = subst (λ (o : Option Node). HoldsAt (disk_of (log_of then_)) r.owner n o) (sym (put_same g.disk n (Some p.node))) holds_then;
         }
 
-        other : i ≢ n → InHand h i (put c n (Some d) i) then_ seen_then
+        other : i ≢ n → InHand h i (put c n (Has d NothingMore) i) then_ seen_then
         other ne =
             let was = all i e in
             let there = lock_range i h r g shows (shows.tables.places.holders i ∙ e) in
@@ -167,7 +166,7 @@ module _ (sizes : Super) (l : Labels) (laws : Laws (labelled l)) (keeps : Keeps 
             record {
               keeps = was.keeps;
               loaded_is =
-                  subst (λ (o : Option Dinode). IsLoaded o (put g.disk n (Some p.node) i) (inode_in (log_of then_) i)) (sym (put_other c n (Some d) i ne))
+                  subst (λ (o : Had). IsLoaded o (put g.disk n (Some p.node) i) (inode_in (log_of then_) i)) (sym (put_other c n (Has d NothingMore) i ne))
                   (subst (λ (v : Option Node). IsLoaded (c i) v (inode_in (log_of then_) i)) (sym (put_other g.disk n (Some p.node) i ne))
                   (subst (λ (f : Dinode). IsLoaded (c i) (g.disk i) f) (sym left.inode) was.loaded_is));
               holds =
@@ -175,7 +174,7 @@ module _ (sizes : Super) (l : Labels) (laws : Laws (labelled l)) (keeps : Keeps 
                   (untouched (disk_of (log_of r)) (disk_of (log_of then_)) r.owner r.owner i (g.disk i) left was.holds);
             }
 
-    pub base_then : Base h then_ seen_then (put c n (Some d))
+    pub base_then : Base h then_ seen_then (put c n (Has d NothingMore))
     base_then = record {
       free = let back = (put_hand h (at r) stored (log_of r).seats can.holder).count in omega (arith, back, one);
       taken = none;
@@ -210,7 +209,7 @@ module _ (sizes : Super) (l : Labels) (laws : Laws (labelled l)) (keeps : Keeps 
     Acts v k bytes =
         premises.May h (Put k (Some bytes)) v.real.state × ((x : Outside) → premises.Honest h (Put k (Some bytes)) v.real.state x
         → Acting (labelled l) (below sizes) laws (below_laws sizes l keeps) h B op m C lasts above.Room v (premises.MayWait h (Put k (Some bytes)) v.real.state) (exec h x (Put k (Some bytes)) v.real)
-        (λ a o u g. (gs : List l.Step) → Inv g → C o gs g → Wp M h B Q (Ret (record { answer = answer; carry = put c n (Some d) })) 0 gs (record { real = u; seen = g })))
+        (λ a o u g. (gs : List l.Step) → Inv g → C o gs g → Wp M h B Q (Ret (record { answer = answer; carry = put c n (Has d NothingMore) })) 0 gs (record { real = u; seen = g })))
 
     -- the put, where the buffer is in hand
     acts_there : (v : W) → Shows v.real v.seen → AllInHand h c v.real v.seen → in_hand h v.real ≡ 1 → ((k : ℕ) → v.real.taken k ≢ Some h) → (v.real.commits ≡ Some h → ⊥) → PutsRecord h op n answer d v.real v.seen
@@ -229,14 +228,14 @@ module _ (sizes : Super) (l : Labels) (laws : Laws (labelled l)) (keeps : Keeps 
           may_put h (at r) stored_ r.state shows.whole shows.blocks.seen can,
           λ x t.
               subst (λ (o : Owners). Acting (labelled l) (below sizes) laws (below_laws sizes l keeps) h B op m C lasts above.Room v ⊥ (Ran (tt {0}) (then_all o))
-              (λ a o' u f. (gs : List l.Step) → Inv f → C o' gs f → Wp M h B Q (Ret (record { answer = answer; carry = put c n (Some d) })) 0 gs (record { real = u; seen = f }))) (sym same_owners) (
+              (λ a o' u f. (gs : List l.Step) → Inv f → C o' gs f → Wp M h B Q (Ret (record { answer = answer; carry = put c n (Has d NothingMore) })) 0 gs (record { real = u; seen = f }))) (sym same_owners) (
                 answer,
                 g,
                 ap (with_mark h m) p.ran,
                 honest v,
                 (λ inv. shows_marked (then_all (owners_of r)) (with_record v.seen n (Some p.node)) g s (shows_then op answer d c r v.seen shows all one none rests p can long)),
                 same_then op answer d c r v.seen shows all one none rests p can long,
-                λ gs inv done. (done, (base_marked h (then_all (owners_of r)) (with_record v.seen n (Some p.node)) g (put c n (Some d)) s p.free base_, here)),
+                λ gs inv done. (done, (base_marked h (then_all (owners_of r)) (with_record v.seen n (Some p.node)) g (put c n (Has d NothingMore)) s p.free base_, here)),
               ),
         )
       where
@@ -248,7 +247,7 @@ module _ (sizes : Super) (l : Labels) (laws : Laws (labelled l)) (keeps : Keeps 
     puts_then : (w v : W) (fs : List l.Step) → Stands sizes h w.real w.seen c → Knows w.real → Fetched h b (Todo fs) w v → Wp M h B Q (put_record op m answer b n d c (seen_of (log_of v.real) b)) 1 fs v
     puts_then w v fs stands knows got =
         s-act (labelled l) (below sizes) laws (below_laws sizes l keeps) h B op m C lasts above.Room (Put b (Some (with_dinode n d (seen_of (log_of v.real) b))))
-        (λ a. Ret (record { answer = answer; carry = put c n (Some d) })) Q 0 fs v got.stage
+        (λ a. Ret (record { answer = answer; carry = put c n (Has d NothingMore) })) Q 0 fs v got.stage
         (λ u gs here may.
         let base_ = stands.0 in
         let middle = in_hand_then h c w.real v.real w.seen v.seen got.since.inodes got.since.no_more got.kept base_.lent base_.inodes in
@@ -321,11 +320,12 @@ module _ (sizes : Super) (l : Labels) (laws : Laws (labelled l)) (keeps : Keeps 
       is_old : IsDinode old
       is_old = seen_dinode v.real v.seen shows n (lock_range n h v.real v.seen shows may.1.0.0).1
 
-      by : (o : Option Dinode) → c n ≡ o → InHand h n o v.real v.seen → PutsRecord h (Store n count) n tt (record (record_in c n) { nlink = pos count }) v.real v.seen
-      by None e none = absurd (none-some node (sym none.loaded_is ∙ may.1.1.is))
-      by (Some e) is some =
+      by : (o : Had) → c n ≡ o → InHand h n o v.real v.seen → PutsRecord h (Store n count) n tt (record (record_in c n) { nlink = pos count }) v.real v.seen
+      by Apart e none = absurd none.loaded_is
+      by Emptied e none = absurd (none-some node (sym none.loaded_is ∙ may.1.1.is))
+      by (Has e l) is some =
           let laid = laid_before (disk_of (log_of v.real)) v.real.owner n node held in
-          let same : record_in c n ≡ old = ap (λ (o : Option Dinode). unwrap_or o no_record) is ∙ some.loaded_is.0 in
+          let same : record_in c n ≡ old = ap (λ (o : Had). unwrap_or (record_had o) no_record) is ∙ some.loaded_is.0 in
           let becomes = count_laid (disk_of (log_of v.real)) v.real.owner n count old node laid.0 in
           let new_ : record (record_in c n) { nlink = pos count } ≡ record old { nlink = pos count } = ap (λ (x : Dinode). record x { nlink = pos count }) same in
           record {

@@ -27,8 +27,8 @@ use Rattle.inodes_on_tables.proofs.Locks.{locks_are_given}
 use Rattle.inodes_on_tables.proofs.Named.{directories_are_settled}
 use Rattle.inodes_on_blocks.specs.Below.{World, log_of, tables_of, disk_of, inode_in}
 use Rattle.inodes_on_blocks.specs.Shown.{Shows}
-use Rattle.inodes_on_blocks.specs.Lowering.{Carry, IsLoaded, InHand, Base, Labels, labelled, Keeps}
-use Rattle.inodes_on_blocks.specs.Handlers.{give, settle}
+use Rattle.inodes_on_blocks.specs.Lowering.{Had, Apart, Has, Emptied, Carry, record_had, IsLoaded, InHand, Base, Labels, labelled, Keeps}
+use Rattle.inodes_on_blocks.specs.Handlers.{after_give, give, settle}
 use Rattle.inodes_on_blocks.specs.Acting.{ActsOnce}
 use Rattle.inodes_on_blocks.proofs.Layer.{tables_left}
 use Rattle.inodes_on_blocks.proofs.Owed.{fewer_owed}
@@ -36,17 +36,20 @@ use Rattle.inodes_on_blocks.proofs.Stepping.{Came, one_step}
 use Rattle.inodes_on_blocks.proofs.Tables.{with_tables, shows_then, base_then}
 
 -- what is loaded of an inode in hand is as it is seen
-loaded_seen : (o : Option Dinode) (n : Option Node) (d e : Dinode) → IsLoaded o n d → o ≡ Some e → e ≡ d
-loaded_seen None n d e is q = absurd (none-some e q)
-loaded_seen (Some f) n d e is q = same_Some e f (sym q) ∙ is.0
+loaded_seen : (o : Had) (n : Option Node) (d e : Dinode) → IsLoaded o n d → record_had o ≡ Some e → e ≡ d
+loaded_seen Apart n d e is q = absurd is
+loaded_seen (Has f l) n d e is q = same_Some e f (sym q) ∙ is.0
+loaded_seen Emptied n d e is q = absurd (none-some e q)
 
-some_loaded : (o : Option Dinode) (n : Option Node) (d : Dinode) → IsLoaded o n d → above_exec.is_dead n ≡ true → IsSome o
-some_loaded None n d is dead = absurd (let q : false ≡ true = sym (ap above_exec.is_dead is) ∙ dead in cc)
-some_loaded (Some f) n d is dead = refl
+some_loaded : (o : Had) (n : Option Node) (d : Dinode) → IsLoaded o n d → above_exec.is_dead n ≡ true → IsSome (record_had o)
+some_loaded Apart n d is dead = absurd is
+some_loaded (Has f l) n d is dead = refl
+some_loaded Emptied n d is dead = absurd (let q : false ≡ true = sym (ap above_exec.is_dead is) ∙ dead in cc)
 
-untyped : (o : Option Dinode) (n : Option Node) (d : Dinode) → IsLoaded o n d → n ≡ None → o ≡ None
-untyped None n d is e = refl
-untyped (Some f) n d is e = absurd (is.1 e)
+untyped : (o : Had) (n : Option Node) (d : Dinode) → IsLoaded o n d → n ≡ None → record_had o ≡ None
+untyped Apart n d is e = refl
+untyped (Has f l) n d is e = absurd (is.1 e)
+untyped Emptied n d is e = refl
 
 module _ (l : Labels) (laws : Laws (labelled l)) (keeps : Keeps l) (h : ℕ) (lt : h < hart_count) where
   abbrev W : Type 0
@@ -65,41 +68,41 @@ module _ (l : Labels) (laws : Laws (labelled l)) (keeps : Keeps l) (h : ℕ) (lt
     pub lender : (u.desks h).lender ≡ (g.desks h).lender
 
   pub given_came : (op : above.Op) (n : ℕ) (v : W) (c : Carry) (b : above.Answer op) (t : TablesState) (u : above.World) → Shows v.real v.seen → Base h v.real v.seen c → v.seen.lock n ≡ Some h → (v.seen.desks h).lender ≡ None
-      → above_exec.exec h above.Room op v.seen ≡ Ran b u → tables.Shows t u (put (loaded (tables_of v.real)) n (c n)) → GivesBack n v.seen u → Came l laws keeps h op v b (with_tables v.real t) (put c n None)
+      → above_exec.exec h above.Room op v.seen ≡ Ran b u → tables.Shows t u (put (loaded (tables_of v.real)) n (record_had (c n))) → GivesBack n v.seen u → Came l laws keeps h op v b (with_tables v.real t) (put c n (after_give (c n)))
   given_came op n v c b t u shows base mine free ran after s = record {
     then_ = u;
     ran = ran;
     free = s.lender ∙ free;
-    shows = shows_then h lt v.real v.seen shows t u (put load n (c n)) after s.disk s.size s.joined
+    shows = shows_then h lt v.real v.seen shows t u (put load n (record_had (c n))) after s.disk s.size s.joined
         (λ i. elim (same_or i n) [
           | inl q ↦ inr (inr (freed i q, subst (λ (z : ℕ). HoldsAt (disk_of (log_of v.real)) v.real.owner z (v.seen.disk z)) (sym q) hand.holds))
           | inr ne ↦ inl (unfreed i ne)
         ])
         (record {
           seen = λ i d e. elim (same_or i n) [
-            | inl q ↦ loaded_seen (c n) (v.seen.disk n) (inode_in (log_of v.real) n) d hand.loaded_is (sym (ap (put load n (c n)) q ∙ put_same load n (c n)) ∙ e) ∙ ap (inode_in (log_of v.real)) (sym q)
-            | inr ne ↦ shows.loads.seen i d (sym (put_other load n (c n) i ne) ∙ e)
+            | inl q ↦ loaded_seen (c n) (v.seen.disk n) (inode_in (log_of v.real) n) d hand.loaded_is (sym (ap (put load n (record_had (c n))) q ∙ put_same load n (record_had (c n))) ∙ e) ∙ ap (inode_in (log_of v.real)) (sym q)
+            | inr ne ↦ shows.loads.seen i d (sym (put_other load n (record_had (c n)) i ne) ∙ e)
           ];
           dead = λ i some unlocked dead. elim (same_or i n) [
-            | inl q ↦ subst IsSome (sym (ap (put load n (c n)) q ∙ put_same load n (c n))) (some_loaded (c n) (v.seen.disk n) (inode_in (log_of v.real) n) hand.loaded_is ((λ z. above_exec.is_dead (sym s.disk z (sym q z))) ∙ dead))
-            | inr ne ↦ subst IsSome (sym (put_other load n (c n) i ne)) (shows.loads.dead i (subst (λ (z : ℕ). 0 < z) (λ z. s.refs z i) some) (sym (unfreed i ne) ∙ unlocked) ((λ z. above_exec.is_dead (sym s.disk z i)) ∙ dead))
+            | inl q ↦ subst IsSome (sym (ap (put load n (record_had (c n))) q ∙ put_same load n (record_had (c n)))) (some_loaded (c n) (v.seen.disk n) (inode_in (log_of v.real) n) hand.loaded_is ((λ z. above_exec.is_dead (sym s.disk z (sym q z))) ∙ dead))
+            | inr ne ↦ subst IsSome (sym (put_other load n (record_had (c n)) i ne)) (shows.loads.dead i (subst (λ (z : ℕ). 0 < z) (λ z. s.refs z i) some) (sym (unfreed i ne) ∙ unlocked) ((λ z. above_exec.is_dead (sym s.disk z i)) ∙ dead))
           ];
           typed = λ i e. elim (same_or i n) [
-            | inl q ↦ ap (put load n (c n)) q ∙ put_same load n (c n) ∙ untyped (c n) (v.seen.disk n) (inode_in (log_of v.real) n) hand.loaded_is ((λ z. sym s.disk z (sym q z)) ∙ e)
-            | inr ne ↦ put_other load n (c n) i ne ∙ shows.loads.typed i ((λ z. sym s.disk z i) ∙ e)
+            | inl q ↦ ap (put load n (record_had (c n))) q ∙ put_same load n (record_had (c n)) ∙ untyped (c n) (v.seen.disk n) (inode_in (log_of v.real) n) hand.loaded_is ((λ z. sym s.disk z (sym q z)) ∙ e)
+            | inr ne ↦ put_other load n (record_had (c n)) i ne ∙ shows.loads.typed i ((λ z. sym s.disk z i) ∙ e)
           ];
         });
-    same = tables_left h v.real t v.seen u load (put load n (c n)) shows.tables after
+    same = tables_left h v.real t v.seen u load (put load n (record_had (c n))) shows.tables after
         (λ i. elim (same_or i n) [
           | inl q ↦ inr (ours_some h (v.seen.lock i) (ap v.seen.lock q ∙ mine), ours_none h (u.lock i) (freed i q))
           | inr ne ↦ inl (unfreed i ne)
         ]);
-    base = base_then h lt v.real v.seen shows c (put c n None) t u (put load n (c n)) base after (s.lender ∙ free)
+    base = base_then h lt v.real v.seen shows c (put c n (after_give (c n))) t u (put load n (record_had (c n))) base after (s.lender ∙ free)
         (λ i e. elim (same_or i n) [
           | inl q ↦ absurd (none-some h (sym (freed i q) ∙ e))
           | inr ne ↦
               let was : v.seen.lock i ≡ Some h = sym (unfreed i ne) ∙ e in
-              inl (was, s.keeper i ne ∙ (base.inodes i (sym (shows.tables.places.holders i) ∙ was)).keeps, (λ z. s.disk z i), put_other c n None i ne)
+              inl (was, s.keeper i ne ∙ (base.inodes i (sym (shows.tables.places.holders i) ∙ was)).keeps, (λ z. s.disk z i), put_other c n (after_give (c n)) i ne)
         ]);
   }
     where
@@ -126,12 +129,12 @@ module _ (l : Labels) (laws : Laws (labelled l)) (keeps : Keeps l) (h : ℕ) (lt
   pub give_acts : (n : ℕ) (m : Unit {0} → Option above.Mark) → ActsOnce l h (Give n) m (give n)
   unfolding steps.exec premises.May
   give_acts n m =
-      one_step l laws keeps h (Give n) m (λ c. steps.Unlock (record { number = n; content = c n }) None) (λ c a. tt) (λ c a. put c n None) (λ v. tt)
+      one_step l laws keeps h (Give n) m (λ c. steps.Unlock (record { number = n; content = record_had (c n) }) None) (λ c a. tt) (λ c a. put c n (after_give (c n))) (λ v. tt)
       (λ v c shows inv base may. (
         (sym (shows.tables.places.holders n) ∙ may.1, tt),
         λ x t.
-            given_came (Give n) n v c tt (unlock_inode h (record { number = n; content = c n }) None (tables_of v.real)) (unlocked n v.seen (v.seen.alone n)) shows base may.1 may.0 refl
-            (unlocked_shows _ n v.seen _ (v.seen.alone n) (locks_are_given h (record { number = n; content = c n }) (tables_of v.real) v.seen (loaded (tables_of v.real)) shows.tables may.1))
+            given_came (Give n) n v c tt (unlock_inode h (record { number = n; content = record_had (c n) }) None (tables_of v.real)) (unlocked n v.seen (v.seen.alone n)) shows base may.1 may.0 refl
+            (unlocked_shows _ n v.seen _ (v.seen.alone n) (locks_are_given h (record { number = n; content = record_had (c n) }) (tables_of v.real) v.seen (loaded (tables_of v.real)) shows.tables may.1))
             (unlocked_back n v.seen (v.seen.alone n)),
       ))
 
@@ -143,9 +146,9 @@ module _ (l : Labels) (laws : Laws (labelled l)) (keeps : Keeps l) (h : ℕ) (lt
   pub settle_acts : (n : ℕ) (m : ℕ → Option above.Mark) → ActsOnce l h (Settle n) m (settle n)
   unfolding steps.exec premises.May settle_inode
   settle_acts n m =
-      one_step l laws keeps h (Settle n) m (λ c. steps.Settle (record { number = n; content = c n })) (λ c a. a) (λ c a. put c n None) (λ v. tt)
+      one_step l laws keeps h (Settle n) m (λ c. steps.Settle (record { number = n; content = record_had (c n) })) (λ c a. a) (λ c a. put c n (after_give (c n))) (λ v. tt)
       (λ v c shows inv base may.
-      let both = directories_are_settled h (record { number = n; content = c n }) (tables_of v.real) v.seen (loaded (tables_of v.real)) shows.tables (record { below = lt; free = may.0 }) may.1.0 in (
+      let both = directories_are_settled h (record { number = n; content = record_had (c n) }) (tables_of v.real) v.seen (loaded (tables_of v.real)) shows.tables (record { below = lt; free = may.0 }) may.1.0 in (
         (lt, sym (shows.tables.places.holders n) ∙ may.1.0, fewer_owed n (tables_of v.real) v.seen (loaded (tables_of v.real)) shows.tables inv h lt may.1.1),
         λ x t.
             given_came (Settle n) n v c _ _ (above_exec.with_directory (unlocked n v.seen (v.seen.alone n)) h n) shows base may.1.0 may.0 (ap (λ (d : ℕ). Ran d (above_exec.with_directory (unlocked n v.seen (v.seen.alone n)) h n)) (sym both.0)) both.1

@@ -19,7 +19,7 @@ use Rattle.inodes_on_tables.specs.Shown.{loaded}
 use Rattle.inodes_on_blocks.specs.OnBlocks.{is_joined}
 use Rattle.inodes_on_blocks.specs.Below.{World, log_of, disk_of, inode_in}
 use Rattle.inodes_on_blocks.specs.Shown.{Shows, LoadsShow, if_joined}
-use Rattle.inodes_on_blocks.specs.Lowering.{Carry, IsLoaded, InHand, Base}
+use Rattle.inodes_on_blocks.specs.Lowering.{Had, Carry, IsLoaded, InHand, Base}
 
 -- the tables after a step
 abbrev pub with_tables : World → TablesState → World
@@ -115,6 +115,6 @@ module _ (h : ℕ) (lt : h < hart_count) (v : World) (g : above.World) (shows : 
           let was = base.inodes i (sym (shows.tables.places.holders i) ∙ same.0) in
           record {
             keeps = same.1;
-            loaded_is = (λ (z : IsLoaded (c i) (g.disk i) (inode_in (log_of v) i)). subst (λ (o : Option Dinode). IsLoaded o (u.disk i) (inode_in (log_of v) i)) (sym same.3) (subst (λ (n : Option Node). IsLoaded (c i) n (inode_in (log_of v) i)) (sym same.2) z)) was.loaded_is;
+            loaded_is = (λ (z : IsLoaded (c i) (g.disk i) (inode_in (log_of v) i)). subst (λ (o : Had). IsLoaded o (u.disk i) (inode_in (log_of v) i)) (sym same.3) (subst (λ (n : Option Node). IsLoaded (c i) n (inode_in (log_of v) i)) (sym same.2) z)) was.loaded_is;
             holds = subst (λ (n : Option Node). HoldsAt (disk_of (log_of v)) v.owner i n) (sym same.2) was.holds;
           }

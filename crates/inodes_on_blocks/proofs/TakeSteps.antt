@@ -1,5 +1,5 @@
 -- The operation that locks an inode, loads it and looks at it acts where the lock is had.
-use Rattle.std.proofs.Common.{◌≡◌, ◌≢◌, ℕ, suc, ◌<◌, Bool, true, false, not, List, Option, Some, None, is_some, refl, sym, ◌∙◌, ap, subst, arith, if◌then◌else◌}
+use Rattle.std.proofs.Common.{◌≡◌, ◌≢◌, inl, inr, ℕ, suc, ◌<◌, Bool, true, false, not, List, Option, Some, None, is_some, refl, sym, ◌∙◌, ap, subst, arith, if◌then◌else◌}
 use Rattle.std.proofs.lemmas.Option.{none-some}
 use Rattle.directory.specs.declared.found.Found.{Found}
 use Rattle.directory.specs.Programs.{Aim, Named, Entry, block_count, search}
@@ -9,7 +9,7 @@ use Rattle.plain_tree.specs.declared.node.Node.{Node}
 use Rattle.plain_tree.specs.Tree as tree
 use Rattle.plain_tree.specs.Tree.{Name, put, live_directory}
 use Rattle.plain_tree.specs.Widths.{hart_count}
-use Rattle.tree_laws.proofs.Maps.{put_same}
+use Rattle.tree_laws.proofs.Maps.{same_or, put_same, put_other}
 use Rattle.image_tree.specs.Inodes.{is_free}
 use Rattle.image_laws.specs.Holds.{HoldsAt}
 use Rattle.atomic_programs.specs.Prog.{Ret, bind, Did, Waits, Ran, did_in}
@@ -34,15 +34,15 @@ use Rattle.inodes_on_tables.specs.Shown.{loaded}
 use Rattle.inodes_on_tables.proofs.Locks.{by_lock, place_there}
 use Rattle.inodes_on_blocks.specs.Below.{World, log_of, tables_of, disk_of, inode_in, exec}
 use Rattle.inodes_on_blocks.specs.Shown.{Shows}
-use Rattle.inodes_on_blocks.specs.Lowering.{Same, Kept, Carry, Stands, below, Labels, labelled, Keeps}
+use Rattle.inodes_on_blocks.specs.Lowering.{Same, Kept, Learned, NothingMore, Had, Has, Carry, IsKnown, IsLoaded, InHand, Base, Stands, below, Labels, labelled, Keeps}
 use Rattle.inodes_on_blocks.specs.Acting.{ActsOnceAt}
-use Rattle.inodes_on_blocks.specs.Reading.{face_in, number_found, seen_record, looked, take}
+use Rattle.inodes_on_blocks.specs.Reading.{face_in, number_found, learned, seen_record, looked, take}
 use Rattle.inode_table.specs.Programs.{load_unless}
 use Rattle.inodes_on_blocks.proofs.ContentReads.{touches, touches_are}
 use Rattle.inodes_on_blocks.proofs.DirectorySearches.{s-search}
-use Rattle.inodes_on_blocks.proofs.Layer.{below_laws}
+use Rattle.inodes_on_blocks.proofs.Layer.{below_laws, kept_disk}
 use Rattle.inodes_on_blocks.proofs.Loading.{s-load}
-use Rattle.inodes_on_blocks.proofs.Looks.{directory_is, live_is, search_finds, name_found, name_lost, entries_found, no_entries, block_within, few_blocks}
+use Rattle.inodes_on_blocks.proofs.Looks.{directory_is, live_is, search_finds, name_found, slot_found, name_lost, entries_found, no_entries, block_within, few_blocks}
 use Rattle.inodes_on_blocks.proofs.SlotSteps.{in_tables_is}
 use Rattle.inodes_on_blocks.proofs.StatSteps.{in_use, face_seen, lock_came, came_acting}
 use Rattle.inodes_on_blocks.proofs.Tables.{with_tables, unlocked_holds}
@@ -52,6 +52,31 @@ abbrev steps_of : Looking → ℕ
 steps_of AtNothing = 0
 steps_of (AtName e) = 1608
 steps_of AtEntries = 1608
+
+same_ran : (b : Seen) (g u : above.World) → Ran b g ≡ Ran b u → g ≡ u
+same_ran b g u e = cc e
+
+-- what was learned of an inode beside its record
+learned_base : (h n : ℕ) (r : World) (g : above.World) (c : Carry) (d : Dinode) (learns : Learned) → IsKnown learns (g.disk n) → Base h r g (put c n (Has d NothingMore)) → Base h r g (put c n (Has d learns))
+learned_base h n r g c d learns known base = record {
+  free = base.free;
+  taken = base.taken;
+  rests = base.rests;
+  inodes = λ i e. elim (same_or i n) [
+    | inl q ↦ subst (λ (k : ℕ). InHand h k (put c n (Has d learns) k) r g) (sym q) (here (subst (λ (k : ℕ). InHand h k (put c n (Has d NothingMore) k) r g) q (base.inodes i e)))
+    | inr ne ↦ subst (λ (o : Had). InHand h i o r g) (put_other c n (Has d NothingMore) i ne ∙ sym (put_other c n (Has d learns) i ne)) (base.inodes i e)
+  ];
+  lent = base.lent;
+}
+  where
+    here : InHand h n (put c n (Has d NothingMore) n) r g → InHand h n (put c n (Has d learns) n) r g
+    here was =
+        let is = subst (λ (o : Had). IsLoaded o (g.disk n) (inode_in (log_of r) n)) (put_same c n (Has d NothingMore)) was.loaded_is in
+        record {
+          keeps = was.keeps;
+          loaded_is = subst (λ (o : Had). IsLoaded o (g.disk n) (inode_in (log_of r) n)) (sym (put_same c n (Has d learns))) (is.0, is.1, known);
+          holds = was.holds;
+        }
 
 module _ (l : Labels) (laws : Laws (labelled l)) (keeps : Keeps l) (h : ℕ) (lt : h < hart_count) (sizes : Super) (n : ℕ) where
   abbrev W : Type 0
@@ -63,8 +88,8 @@ module _ (l : Labels) (laws : Laws (labelled l)) (keeps : Keeps l) (h : ℕ) (lt
   -- ---- where the lock was had, in w, and the inode is loaded
 
   module _ (m : Seen → Option above.Mark) (c : Carry) (B : List l.Step → Type 0) (C : Seen → List l.Step → above.World → Type 0) (lasts : Lasts (labelled l) h B C) (w : W) (node : Node)
-      (holds : HoldsAt (disk_of (log_of w.real)) w.real.owner n (Some node)) (mine : lock_holder n (tables_of w.real) ≡ Some h)
-      (stands : Stands sizes h w.real w.seen (put c n (Some (inode_in (log_of w.real) n)))) where
+      (is : w.seen.disk n ≡ Some node) (holds : HoldsAt (disk_of (log_of w.real)) w.real.owner n (Some node)) (mine : lock_holder n (tables_of w.real) ≡ Some h)
+      (stands : Stands sizes h w.real w.seen (put c n (Has (inode_in (log_of w.real) n) NothingMore))) where
     abbrev d : Dinode
     d = inode_in (log_of w.real) n
 
@@ -78,50 +103,53 @@ module _ (l : Labels) (laws : Laws (labelled l)) (keeps : Keeps l) (h : ℕ) (lt
     used = in_use d node holds.inode
 
     -- what is answered is what is seen above
-    ends : (looking : Looking) (found : Option ℕ) (empty : Bool) → found ≡ (seen_in n looking (Some node)).found → empty ≡ (seen_in n looking (Some node)).empty → Goes (seen_record c n d found empty) 0 looking
-    ends looking found empty found_is empty_is v fs same kept stage =
+    ends : (looking : Looking) (learns : Learned) (found : Option ℕ) (empty : Bool) → IsKnown learns (Some node) → found ≡ (seen_in n looking (Some node)).found → empty ≡ (seen_in n looking (Some node)).empty → Goes (seen_record c n d learns found empty) 0 looking
+    ends looking learns found empty known found_is empty_is v fs same kept stage =
         let face_is = face_seen d (Some node) holds.inode (λ e. none-some node (sym e)) in
         let answer : record { face = if is_free d then None else Some (face_in d); found = found; empty = empty } ≡ seen_in n looking (Some node) = λ i. record { face = face_is i; found = found_is i; empty = empty_is i } in
-        (subst (λ (a : Seen). C a fs v.seen) (sym answer) stage, (below_laws sizes l keeps).base h w.real v.real w.seen v.seen (put c n (Some d)) same kept stands)
+        let there = (below_laws sizes l keeps).base h w.real v.real w.seen v.seen (put c n (Has d NothingMore)) same kept stands in
+        let still = (kept_disk h n w.seen v.seen kept stands.0.lent (stands.0.inodes n mine).keeps).1 ∙ is in
+        (subst (λ (a : Seen). C a fs v.seen) (sym answer) stage, (learned_base h n v.real v.seen c d learns (subst (IsKnown learns) (sym still) known) there.0, there.1))
 
     -- a search, and what is answered by what it finds
-    searched : (looking : Looking) (aim : Aim) (found : Option Found → Option ℕ) (empty : Option Found → Bool)
+    searched : (looking : Looking) (aim : Aim) (learns : Option Found → Learned) (found : Option Found → Option ℕ) (empty : Option Found → Bool)
+        → IsKnown (learns (search_finds (disk_of (log_of w.real)) w.real.owner n node holds used aim)) (Some node)
         → found (search_finds (disk_of (log_of w.real)) w.real.owner n node holds used aim) ≡ (seen_in n looking (Some node)).found
         → empty (search_finds (disk_of (log_of w.real)) w.real.owner n node holds used aim) ≡ (seen_in n looking (Some node)).empty
-        → Goes (bind (search aim d) (λ o. seen_record c n d (found o) (empty o))) 1608 looking
-    searched looking aim found empty found_is empty_is v fs same kept stage =
+        → Goes (bind (search aim d) (λ o. seen_record c n d (learns o) (found o) (empty o))) 1608 looking
+    searched looking aim learns found empty known found_is empty_is v fs same kept stage =
         let few = few_blocks d in
         let steps = touches_are (block_count d) 0 in
-        Wp-more M h (bind (search aim d) (λ o. seen_record c n d (found o) (empty o))) B Q (touches (block_count d) 0) 1608 fs v (omega (arith, few, steps))
+        Wp-more M h (bind (search aim d) (λ o. seen_record c n d (learns o) (found o) (empty o))) B Q (touches (block_count d) 0) 1608 fs v (omega (arith, few, steps))
         (s-search sizes l laws keeps h lt B Q (C (seen_in n looking (Some node))) (acted (labelled l) (below sizes) laws (below_laws sizes l keeps) h B (Take n looking) m C lasts (seen_in n looking (Some node)))
-        n (Some node) aim (λ o. seen_record c n d (found o) (empty o)) 0 w holds used mine stands.0.free (block_count d) 0 v fs same kept stage
+        n (Some node) aim (λ o. seen_record c n d (learns o) (found o) (empty o)) 0 w holds used mine stands.0.free (block_count d) 0 v fs same kept stage
         (λ q low. let within = block_within (disk_of (log_of w.real)) w.real.owner n node holds used q low in omega (arith, within))
-        (ends looking (found (search_finds (disk_of (log_of w.real)) w.real.owner n node holds used aim)) (empty (search_finds (disk_of (log_of w.real)) w.real.owner n node holds used aim)) found_is empty_is))
+        (ends looking (learns (search_finds (disk_of (log_of w.real)) w.real.owner n node holds used aim)) (found (search_finds (disk_of (log_of w.real)) w.real.owner n node holds used aim)) (empty (search_finds (disk_of (log_of w.real)) w.real.owner n node holds used aim)) known found_is empty_is))
 
     s-looked : (looking : Looking) → Goes (looked looking c n d) (steps_of looking) looking
-    s-looked AtNothing = ends AtNothing None true refl refl
+    s-looked AtNothing = ends AtNothing NothingMore None true tt refl refl
     s-looked (AtName e) = by (live_directory (Some node)) refl
       where
         by : (b : Bool) → live_directory (Some node) ≡ b → Goes (looked (AtName e) c n d) 1608 (AtName e)
         by true live v fs same kept stage =
-            subst (λ (b : Bool). Wp M h B Q (bind (if b then search (Named e) d else Ret None) (λ o. seen_record c n d (number_found o) true)) 1608 fs v)
+            subst (λ (b : Bool). Wp M h B Q (bind (if b then search (Named e) d else Ret None) (λ o. seen_record c n d (learned e o) (number_found o) true)) 1608 fs v)
             (sym (live_is (disk_of (log_of w.real)) w.real.owner n node holds used ∙ live))
-            (searched (AtName e) (Named e) number_found (λ o. true) (name_found (disk_of (log_of w.real)) w.real.owner n node holds used e live) refl v fs same kept stage)
+            (searched (AtName e) (Named e) (learned e) number_found (λ o. true) (slot_found (disk_of (log_of w.real)) w.real.owner n node holds used e live) (name_found (disk_of (log_of w.real)) w.real.owner n node holds used e live) refl v fs same kept stage)
         by false dead v fs same kept stage =
-            subst (λ (b : Bool). Wp M h B Q (bind (if b then search (Named e) d else Ret None) (λ o. seen_record c n d (number_found o) true)) 1608 fs v)
+            subst (λ (b : Bool). Wp M h B Q (bind (if b then search (Named e) d else Ret None) (λ o. seen_record c n d (learned e o) (number_found o) true)) 1608 fs v)
             (sym (live_is (disk_of (log_of w.real)) w.real.owner n node holds used ∙ dead))
-            (ends (AtName e) None true (name_lost (disk_of (log_of w.real)) w.real.owner n node holds used e dead) refl v fs same kept stage)
+            (ends (AtName e) NothingMore None true tt (name_lost (disk_of (log_of w.real)) w.real.owner n node holds used e dead) refl v fs same kept stage)
     s-looked AtEntries = by (tree.is_directory node.kind) refl
       where
         by : (b : Bool) → tree.is_directory node.kind ≡ b → Goes (looked AtEntries c n d) 1608 AtEntries
         by true directory v fs same kept stage =
-            subst (λ (b : Bool). Wp M h B Q (bind (if b then search Entry d else Ret None) (λ o. seen_record c n d None (not (is_some o)))) 1608 fs v)
+            subst (λ (b : Bool). Wp M h B Q (bind (if b then search Entry d else Ret None) (λ o. seen_record c n d NothingMore None (not (is_some o)))) 1608 fs v)
             (sym (directory_is (disk_of (log_of w.real)) w.real.owner n node holds used ∙ directory))
-            (searched AtEntries Entry (λ o. None) (λ o. not (is_some o)) refl (entries_found (disk_of (log_of w.real)) w.real.owner n node holds used directory) v fs same kept stage)
+            (searched AtEntries Entry (λ o. NothingMore) (λ o. None) (λ o. not (is_some o)) tt refl (entries_found (disk_of (log_of w.real)) w.real.owner n node holds used directory) v fs same kept stage)
         by false other v fs same kept stage =
-            subst (λ (b : Bool). Wp M h B Q (bind (if b then search Entry d else Ret None) (λ o. seen_record c n d None (not (is_some o)))) 1608 fs v)
+            subst (λ (b : Bool). Wp M h B Q (bind (if b then search Entry d else Ret None) (λ o. seen_record c n d NothingMore None (not (is_some o)))) 1608 fs v)
             (sym (directory_is (disk_of (log_of w.real)) w.real.owner n node holds used ∙ other))
-            (ends AtEntries None true refl (no_entries (disk_of (log_of w.real)) w.real.owner n node holds used other) v fs same kept stage)
+            (ends AtEntries NothingMore None true tt refl (no_entries (disk_of (log_of w.real)) w.real.owner n node holds used other) v fs same kept stage)
 
   -- ---- the operation
 
@@ -143,25 +171,25 @@ module _ (l : Labels) (laws : Laws (labelled l)) (keeps : Keeps l) (h : ℕ) (lt
     -- the lock was had
     loads : (v : W) → Shows v.real v.seen → v.seen.lock n ≡ None → 0 < v.seen.refs n → v.seen.disk n ≢ None → (u : TablesState) (g : above.World)
         → tables.Shows u (locked h n v.seen) (put (loaded (tables_of v.real)) n None)
-        → Stands sizes h (with_tables v.real u) g (put c n (Some (inode_in (log_of v.real) n))) → (gs : List l.Step) → C (seen_in n looking (v.seen.disk n)) gs g
+        → Stands sizes h (with_tables v.real u) g (put c n (Has (inode_in (log_of v.real) n) NothingMore)) → (gs : List l.Step) → g.disk n ≡ v.seen.disk n → C (seen_in n looking (v.seen.disk n)) gs g
         → Wp M h B (Below (labelled l) (below sizes) h C) (rest (loaded (tables_of v.real) n)) (suc (suc (suc (steps_of looking)))) gs (record { real = with_tables v.real u; seen = g })
-    loads v shows free some there u g after stands gs done =
+    loads v shows free some there u g after stands gs same_disk done =
         let range = shows.tables.range n some in
-        by (v.seen.disk n) there (unlocked_holds h lt v.real v.seen shows n free range.0 range.1) done
+        by (v.seen.disk n) same_disk there (unlocked_holds h lt v.real v.seen shows n free range.0 range.1) done
       where
         mine : lock_holder n u ≡ Some h
         mine = sym (after.places.holders n) ∙ put_same v.seen.lock n (Some h)
 
-        by : (o : Option Node) → o ≢ None → HoldsAt (disk_of (log_of v.real)) v.real.owner n o → C (seen_in n looking o) gs g
+        by : (o : Option Node) → g.disk n ≡ o → o ≢ None → HoldsAt (disk_of (log_of v.real)) v.real.owner n o → C (seen_in n looking o) gs g
             → Wp M h B (Below (labelled l) (below sizes) h C) (rest (loaded (tables_of v.real) n)) (suc (suc (suc (steps_of looking)))) gs (record { real = with_tables v.real u; seen = g })
-        by None there holds done = absurd (there refl)
-        by (Some node) there holds done =
+        by None is there holds done = absurd (there refl)
+        by (Some node) is there holds done =
             s-load sizes l laws keeps h lt B (Below (labelled l) (below sizes) h C) (C (seen_in n looking (Some node)))
             (acted (labelled l) (below sizes) laws (below_laws sizes l keeps) h B (Take n looking) m C lasts (seen_in n looking (Some node)))
-            n (loaded (tables_of v.real) n) (put c n (Some (inode_in (log_of v.real) n))) (looked looking c n) (steps_of looking) gs (record { real = with_tables v.real u; seen = g }) done stands mine
+            n (loaded (tables_of v.real) n) (put c n (Has (inode_in (log_of v.real) n) NothingMore)) (looked looking c n) (steps_of looking) gs (record { real = with_tables v.real u; seen = g }) done stands mine
             (let range = shows.tables.range n some in let top = range.1 in let size = shows.size in subst (λ (s : Super). n < s.ninodes) stands.1 (omega (arith, top, size)))
             (λ x e. shows.loads.seen n x e)
-            (λ z fs same kept stage stands_z. s-looked m c B C lasts (record { real = with_tables v.real u; seen = g }) node holds mine stands looking z fs same kept stage)
+            (λ z fs same kept stage stands_z. s-looked m c B C lasts (record { real = with_tables v.real u; seen = g }) node is holds mine stands looking z fs same kept stage)
 
   module _ (looking : Looking) (m : Seen → Option above.Mark) where
     cost : (asked : Looking) → suc (suc (suc (steps_of asked))) ≡ looking_cost asked
@@ -188,8 +216,9 @@ module _ (l : Labels) (laws : Laws (labelled l)) (keeps : Keeps l) (h : ℕ) (lt
               by_lock h n p.0 (tables_of v.real) v.seen (loaded (tables_of v.real)) shows.tables p.1 (IsActing looking m c B C lasts v (exec h x (Lock n) v.real))
               (λ waits g out. on_tables looking m c B C lasts v x Waits waits (g, (λ q. refers.1 (out ∙ ap (λ (z : ℕ). Some z) q)), sym (shows.tables.places.holders n) ∙ out))
               (λ u ran free after.
+              let came = lock_came l laws keeps h lt (Take n looking) n v c b u shows stands_v.0 may.0 some free (typed free) (ap (lock_if h n b v.seen (locked h n v.seen)) free) after in
+              let then_is : came.then_ ≡ locked h n v.seen = same_ran b came.then_ (locked h n v.seen) (sym came.ran ∙ ap (lock_if h n b v.seen (locked h n v.seen)) free) in
               on_tables looking m c B C lasts v x (Ran (loaded (tables_of v.real) n) u) ran
-              (came_acting l laws keeps h lt sizes (Take n looking) m B C lasts v (premises.MayWait h (Lock n) v.real.state) (loaded (tables_of v.real) n) (with_tables v.real u) b (put c n (Some d)) (Next looking m c B C lasts) tt stands_v.1
-              (lock_came l laws keeps h lt (Take n looking) n v c b u shows stands_v.0 may.0 some free (typed free) (ap (lock_if h n b v.seen (locked h n v.seen)) free) after)
-              (λ g stands_g gs inv_g done. loads looking m c B C lasts v shows free some (typed free) u g after stands_g gs done))),
+              (came_acting l laws keeps h lt sizes (Take n looking) m B C lasts v (premises.MayWait h (Lock n) v.real.state) (loaded (tables_of v.real) n) (with_tables v.real u) b (put c n (Has d NothingMore)) (Next looking m c B C lasts) tt stands_v.1 came
+              (λ g same_g stands_g gs inv_g done. loads looking m c B C lasts v shows free some (typed free) u g after stands_g gs ((λ z. same_g.disk z n) ∙ ap (λ (x : above.World). x.disk n) then_is) done))),
         )))

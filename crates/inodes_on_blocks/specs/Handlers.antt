@@ -1,4 +1,4 @@
--- The programs below of operations on whole inodes. c: the records of the inodes whose locks the hart has.
+-- The programs below of operations on whole inodes. c: what the hart has of the inodes whose locks it has.
 use Rattle.std.specs.Prelude.{ℕ, Bool, true, false, Option, Some, None, is_some}
 use Rattle.atomic_programs.specs.Prog.{Prog, Ret, Do}
 use Rattle.atomic_programs.specs.Joined.{Act, Handed, holding}
@@ -7,6 +7,7 @@ use Rattle.plain_tree.specs.declared.answer.Cause.TheVariants as causes
 use Rattle.plain_tree.specs.declared.tree.OpenFile.{OpenFile}
 use Rattle.plain_tree.specs.Tree.{put}
 use Rattle.plain_tree.specs.Widths.{root, descriptor_count}
+use Rattle.fs_layout.specs.declared.inode.Dinode.{Dinode}
 use Rattle.fs_tables.specs.declared.files.Refused.{Refused}
 use Rattle.fs_tables.specs.declared.files.Refused.TheVariants as refused
 use Rattle.fs_tables.specs.declared.files.Want.TheVariants as want
@@ -25,7 +26,7 @@ use Rattle.inode_machine.specs.World as above
 use Rattle.inode_machine.specs.World.{Lending, Lent, Moved}
 use Rattle.inode_machine.specs.World.Op.{Give, UpStart, Up, WalkDown, Down, Slot, Install, CheckFile, JoinFile, Double, Shut, Settle, Lend, LendDirectory, Release, Join, Leave, Say}
 use Rattle.inodes_on_tables.specs.Shown.{new_file}
-use Rattle.inodes_on_blocks.specs.Lowering.{Carry}
+use Rattle.inodes_on_blocks.specs.Lowering.{NothingMore, Had, Apart, Has, Emptied, Carry, record_had}
 
 abbrev pub Acts : Type 0
 Acts = Act above.Op above.Answer above.Mark above.Outside
@@ -51,11 +52,22 @@ is_kept Counts = false
 is_kept Keeps = true
 is_kept (Dies n d) = true
 
+-- a record that came with a lock
+abbrev pub had_of : Option Dinode → Had
+had_of None = Apart
+had_of (Some d) = Has d NothingMore
+
+-- what is left of it where the lock goes: that it was freed
+abbrev pub after_give : Had → Had
+after_give Apart = Apart
+after_give (Has d l) = Apart
+after_give Emptied = Emptied
+
 -- the lock of an inode that is to be freed came into hand
 abbrev pub with_dying : Carry → DroppedState → Carry
 with_dying c Counts = c
 with_dying c Keeps = c
-with_dying c (Dies n d) = put c n d
+with_dying c (Dies n d) = put c n (had_of d)
 
 abbrev pub doubled_to : Doubled → Option (Option ℕ)
 doubled_to doubled.BadDescriptor = None
@@ -94,10 +106,10 @@ joining_to (steps.Joins n) = above.Joined n
 
 -- the lock goes back with the inode's record
 abbrev pub give : (n : ℕ) → Handler (Give n)
-give n c m = one (Give n) m (steps.Unlock (record { number = n; content = c n }) None) (λ a. tt) (λ a. put c n None)
+give n c m = one (Give n) m (steps.Unlock (record { number = n; content = record_had (c n) }) None) (λ a. tt) (λ a. put c n (after_give (c n)))
 
 abbrev pub settle : (n : ℕ) → Handler (Settle n)
-settle n c m = one (Settle n) m (steps.Settle (record { number = n; content = c n })) (λ a. a) (λ a. put c n None)
+settle n c m = one (Settle n) m (steps.Settle (record { number = n; content = record_had (c n) })) (λ a. a) (λ a. put c n (after_give (c n)))
 
 abbrev pub whom : Bool → Whom
 whom true = Number root

@@ -1,11 +1,13 @@
 -- The machine below as a layer under the machine of whole inodes: what a hart has in it, and what the others leave of that.
-use Rattle.std.specs.Prelude.{◌≡◌, ◌≢◌, ℕ, List, Bool, Option, Some, None, is_some, slice_get}
+use Rattle.std.specs.Prelude.{◌≡◌, ◌≢◌, ℕ, ◌<◌, List, length, Bool, true, false, Option, Some, None, is_some, slice_get, slice_index_or}
 use Rattle.fs_layout.specs.declared.inode.Dinode.{Dinode}
 use Rattle.fs_layout.specs.declared.superblock.Super.{Super}
 use Rattle.buffer_cache.specs.Lists.{count_of}
 use Rattle.buffer_cache.specs.Seats.{is_held_by, holder_of, kept}
 use Rattle.group_log.specs.declared.phase.Phase.{Phase}
 use Rattle.plain_tree.specs.declared.node.Node.{Node}
+use Rattle.plain_tree.specs.declared.node.Slot.{Slot as DirectorySlot}
+use Rattle.plain_tree.specs.Tree.{Name, same_name, all_slots}
 use Rattle.image_laws.specs.Holds.{HoldsAt}
 use Rattle.image_laws.specs.Puts.{IsUntouched}
 use Rattle.atomic_programs.specs.Logic.{Machine}
@@ -60,21 +62,55 @@ pub record Kept (h : ℕ) (v w : above.World) : Type 0 where
 
 -- ---- what a hart has between two operations above
 
--- the records of the inodes whose locks it has; None of one that it has freed
+-- what it learned of an inode since it took the lock
+pub data Learned : Type 0 where
+  NothingMore : Learned
+  -- under this name a directory has this slot
+  Finds : Name → ℕ → Learned
+
+-- what it has of an inode: nothing, where the lock isn't its own; the record, and what it learned; or that it has freed it
+pub data Had : Type 0 where
+  Apart : Had
+  Has : Dinode → Learned → Had
+  Emptied : Had
+
 abbrev pub Carry : Type 0
-Carry = ℕ → Option Dinode
+Carry = ℕ → Had
 
 abbrev pub nothing : Carry
-nothing i = None
+nothing i = Apart
 
-abbrev pub IsLoaded : Option Dinode → Option Node → Dinode → Type 0
-IsLoaded None v d = v ≡ None
-IsLoaded (Some e) v d = (e ≡ d) × (v ≢ None)
+-- the record, as the lock goes back with it
+abbrev pub record_had : Had → Option Dinode
+record_had Apart = None
+record_had (Has d l) = Some d
+record_had Emptied = None
+
+abbrev pub has_name : Name → Option DirectorySlot → Bool
+has_name e None = false
+has_name e (Some s) = same_name s.name e
+
+-- slot s is the first of this name
+pub record IsFirstNamed (slots : List (Option DirectorySlot)) (e : Name) (s : ℕ) : Type 0 where
+  pub below : s < length slots
+  pub is : has_name e (slice_index_or slots s None) ≡ true
+  pub first : (q : ℕ) → q < s → has_name e (slice_index_or slots q None) ≡ false
+
+-- what was learned is so still
+abbrev pub IsKnown : Learned → Option Node → Type 0
+IsKnown NothingMore v = Unit {0}
+IsKnown (Finds e s) v = IsFirstNamed (all_slots v) e s
+
+-- what it has of an inode whose lock it has
+abbrev pub IsLoaded : Had → Option Node → Dinode → Type 0
+IsLoaded Apart v d = ⊥
+IsLoaded (Has e l) v d = (e ≡ d) × (v ≢ None) × IsKnown l v
+IsLoaded Emptied v d = v ≡ None
 
 -- an inode whose lock it has: it keeps that above, and the blocks hold what that is above
-pub record InHand (h i : ℕ) (loaded : Option Dinode) (r : World) (w : above.World) : Type 0 where
+pub record InHand (h i : ℕ) (had : Had) (r : World) (w : above.World) : Type 0 where
   pub keeps : w.keeper i ≡ Some h
-  pub loaded_is : IsLoaded loaded (w.disk i) (inode_in (log_of r) i)
+  pub loaded_is : IsLoaded had (w.disk i) (inode_in (log_of r) i)
   pub holds : HoldsAt (disk_of (log_of r)) r.owner i (w.disk i)
 
 pub record Base (h : ℕ) (r : World) (w : above.World) (c : Carry) : Type 0 where

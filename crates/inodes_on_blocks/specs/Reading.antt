@@ -16,8 +16,8 @@ use Rattle.inode_machine.specs.World as above
 use Rattle.inode_machine.specs.World.Op.{Take, StatFile}
 use Rattle.inode_table.specs.Programs.{load_unless}
 use Rattle.inodes_on_blocks.specs.Handlers.{P, Handler, acts}
-use Rattle.inodes_on_blocks.specs.Lowering.{Carry}
-use Rattle.plain_tree.specs.Tree.{put}
+use Rattle.inodes_on_blocks.specs.Lowering.{Learned, NothingMore, Finds, Has, Carry}
+use Rattle.plain_tree.specs.Tree.{Name, put}
 
 -- ---- what a record tells
 
@@ -36,7 +36,7 @@ face_in d = record { sort = sort_at d.kind d.major; count = natural d.nlink; siz
 
 -- the record in hand, and the answer by it
 abbrev pub stat_loaded : Carry → (n : ℕ) → Dinode → P (Handed (Option (ℕ × Face)) Carry)
-stat_loaded c n d = Ret (record { answer = Some (n, face_in d); carry = put c n (Some d) })
+stat_loaded c n d = Ret (record { answer = Some (n, face_in d); carry = put c n (Has d NothingMore) })
 
 abbrev pub stat_locked : Super → Carry → LockedState → P (Handed (Option (ℕ × Face)) Carry)
 stat_locked sizes c (Refuses why) = Ret (record { answer = None; carry = c })
@@ -56,15 +56,20 @@ number_found o = option_map (λ f. f.number) o
 abbrev pub search_entries : Dinode → P (Option Found)
 search_entries d = if is_directory d then search Entry d else Ret None
 
--- what was seen of it, by its record, which is in hand from there on
-abbrev pub seen_record : Carry → (n : ℕ) → Dinode → (found : Option ℕ) → (empty : Bool) → P (Handed Seen Carry)
-seen_record c n d found empty = Ret (record { answer = record { face = if is_free d then None else Some (face_in d); found = found; empty = empty }; carry = put c n (Some d) })
+-- the slot under a name
+abbrev pub learned : Name → Option Found → Learned
+learned e None = NothingMore
+learned e (Some f) = Finds e f.slot
+
+-- what was seen of it, by its record, which is in hand from there on, with what else was learned
+abbrev pub seen_record : Carry → (n : ℕ) → Dinode → Learned → (found : Option ℕ) → (empty : Bool) → P (Handed Seen Carry)
+seen_record c n d l found empty = Ret (record { answer = record { face = if is_free d then None else Some (face_in d); found = found; empty = empty }; carry = put c n (Has d l) })
 
 -- what is looked for in it
 abbrev pub looked : Looking → Carry → (n : ℕ) → Dinode → P (Handed Seen Carry)
-looked AtNothing c n d = seen_record c n d None true
-looked (AtName e) c n d = bind (lookup e d) (λ o. seen_record c n d (number_found o) true)
-looked AtEntries c n d = bind (search_entries d) (λ o. seen_record c n d None (not (is_some o)))
+looked AtNothing c n d = seen_record c n d NothingMore None true
+looked (AtName e) c n d = bind (lookup e d) (λ o. seen_record c n d (learned e o) (number_found o) true)
+looked AtEntries c n d = bind (search_entries d) (λ o. seen_record c n d NothingMore None (not (is_some o)))
 
 -- It acts where the lock is had, as the other one does.
 abbrev pub take : Super → (n : ℕ) → (looking : Looking) → Handler (Take n looking)
