@@ -1,9 +1,11 @@
 -- What a mount comes to.
 use Rattle.std.specs.Prelude.{◌≡◌, ◌≢◌, ℕ, false, List, [], None, replicate}
+use Rattle.block_device.specs.Blocks.{HasBytes, HasWholeBlocks}
 use Rattle.fs_layout.specs.Recovered.{block_at, logged, recovered, sizes_of, IsOutsideLog}
 use Rattle.buffer_cache.specs.Limits.{buffer_count, hart_count}
 use Rattle.buffer_cache.specs.Seats.{unused_from}
 use Rattle.group_log.specs.declared.phase.Phase.TheVariants.{Open}
+use Rattle.group_log.specs.Soundness.{IsPlaced}
 use Rattle.image_tree.specs.declared.fault.MountFault.{MountFault}
 use Rattle.image_tree.specs.declared.fault.MountFault.TheVariants.{DeviceFault}
 use Rattle.image_tree.specs.Damage.{IsWellFormed, JudgesFault, fault_count_of}
@@ -24,6 +26,10 @@ module _ {D : Type 0} (contents : D → List (List ℕ)) (failures : D → ℕ) 
   -- directory, is referred to.
   pub record Rests (device : D) (w : HartsOf D) : Type 0 where
     pub disk : IsRecovered (contents device) (contents w.core.log.cache.device)
+    -- its blocks are whole, and of bytes; and the log lies in it
+    pub whole : HasWholeBlocks (contents w.core.log.cache.device)
+    pub bytes : HasBytes (contents w.core.log.cache.device)
+    pub placed : IsPlaced (contents w.core.log.cache.device) (sizes_of (contents device))
     pub failures_are : failures w.core.log.cache.device ≡ failures device
     pub log : w.core.log ≡ record {
       cache = record { device = w.core.log.cache.device; seats = unused_from 0 buffer_count };

@@ -1,5 +1,6 @@
 // How the harts come to be over a device.
 ghost use Rattle.std.specs.Prelude.{◌≡◌, ◌≢◌, ◌<◌, ◌^◌, Err, IfOk, IfErr, MatchResult, length};
+ghost use Rattle.block_device.specs.Blocks.{HasBytes, HasWholeBlocks};
 ghost use Rattle.fs_layout.specs.Recovered.{sizes_of};
 ghost use Rattle.buffer_cache.specs.Limits.{buffer_count};
 ghost use Rattle.buffer_cache.specs.Seats.{unused_from};
@@ -31,6 +32,7 @@ fn prepare<D: Device>(alloc: Global, device: &mut D) -> Result<Ready, MountFault
     ensures ready { IfOk result (λ r. (r.sizes ≡ sizes_of (D.contents device.old)) × (r.buffers ≡ unused_from 0 buffer_count) × (r.tables ≡ fresh)) }
     ensures ok { IfOk result (λ _. IsWellFormed (D.contents device.old) × IsRecovered (D.contents device.old) (D.contents device.new)) }
     ensures placed { IfOk result (λ r. IsPlaced (D.contents device.new) r.sizes) }
+    ensures blocks { IfOk result (λ _. HasWholeBlocks (D.contents device.new) × HasBytes (D.contents device.new)) }
     ensures faults { D.failures device.new ≡ faults_with result (D.failures device.old) }
     ensures err { IfErr result (λ fault. HandsBack D.contents D.failures device.old device.new fault) }
 {
