@@ -4,6 +4,7 @@ use Rattle.atomic_programs.specs.Prog.{Ret, Do, bind, once, unmarked, Did, Waits
 use Rattle.atomic_programs.specs.Logic.{Machine, P, PlacesOne, own, onto, Goes, placed_with, Grown, Fine, Good, Wp, Laws}
 use Rattle.atomic_programs.proofs.Sound.{Wp-weaker, Wp-more, Wp-bind, Wp-others}
 use Rattle.atomic_programs.specs.Lifting.{Uses, Lifts}
+use Rattle.atomic_programs.specs.Spending.{Budget, Affords, AtomicWithin}
 use Rattle.atomic_programs.specs.Joined.{Lasts, ActOf, Lower, Both, ran_to, placed_at, both, joined, LowerLaws, Handed, holding, Handlers, lowered, Below, AtEnd, Atomic}
 
 pub joined_laws : (U : Machine) (R : Lower U.World) → Laws U → LowerLaws U R → Laws (joined U R)
@@ -36,18 +37,20 @@ grows : (L : Machine) {A : Type 0} (h : ℕ) (p : P L A) (B : List L.Step → Ty
 grows L h (Ret a) B Q n fs xs v u lasts o i g y = (lasts a fs xs v u o i g).0 y
 grows L h (Do op m k) B Q n fs xs v u lasts o i g y = (g u xs o i).0 y
 
--- What holds of a program above holds of the lowered one, in as many steps, where the program of each operation that it makes acts at one moment.
-pub lift_using : (U : Machine) (R : Lower U.World) (handler : Handlers U R) (laws : Laws U) (h : ℕ) {A : Type 0} (p : P U A) → Uses U (Atomic U R handler h) p → (c : R.Carry) → Lifts U R handler h c (λ w. Unit {0}) p
-lift_using U R handler laws h (Ret a) used c B Q lasts n es w from g b inv = (g, inv, (c, b))
-lift_using U R handler laws h {A} (Do op m k) used c B Q lasts n es w from g b inv =
+-- What holds of a program above holds of the lowered one, in as many steps, where the program of each operation that it makes acts at one moment, and the
+-- program can afford it.
+pub lift_within : (U : Machine) (R : Lower U.World) (handler : Handlers U R) (laws : Laws U) (h : ℕ) (b : Budget U) (Has : R.World → b.Spent → Type 0) {A : Type 0} (p : P U A) → Uses U (AtomicWithin U R handler b Has h) p
+    → (s : b.Spent) → Affords U b s p → (c : R.Carry) → Lifts U R handler h c (λ w. Has w.real s) p
+lift_within U R handler laws h b Has (Ret a) used s affords c B Q lasts n es w has g base inv = (g, inv, (c, base))
+lift_within U R handler laws h b Has {A} (Do op m k) used s affords c B Q lasts n es w has g base inv =
     Wp-more (joined U R) h (bind (handler c op m) rest) B (AtEnd U R h Q) (suc (U.more op) + (n - suc (U.more op))) n es w (omega (arith, enough))
     (Wp-bind (joined U R) h (handler c op m) rest B (AtEnd U R h Q) (suc (U.more op)) (n - suc (U.more op)) es w
-    (Wp-weaker (joined U R) h (handler c op m) B B (Below U R h C) (λ r. Wp (joined U R) h B (AtEnd U R h Q) (rest r) (n - suc (U.more op))) (suc (U.more op)) es w (λ fs e. e)
-    (λ r fs u e. lift_using U R handler laws h (k r.answer) (used.1 r.answer) r.carry B Q lasts (n - suc (U.more op)) fs u tt e.0.0 e.1 e.0.1)
-    (used.0 c B C es w
+    (Wp-weaker (joined U R) h (handler c op m) B B (λ r fs u. Below U R h C r fs u × Has u.real (b.after op s)) (λ r. Wp (joined U R) h B (AtEnd U R h Q) (rest r) (n - suc (U.more op))) (suc (U.more op)) es w (λ fs e. e)
+    (λ r fs u e. lift_within U R handler laws h b Has (k r.answer) (used.1 r.answer) (b.after op s) (affords.1 r.answer) r.carry B Q lasts (n - suc (U.more op)) fs u e.1 e.0.0.0 e.0.1 e.0.0.1)
+    (used.0 c s B C es w
     (λ a fs xs v u o i e.
     (grows U h (k a) B Q (n - suc (U.more op)) fs xs v u lasts o i e.0, (Wp-others U laws h (k a) B Q (n - suc (U.more op)) fs xs v u (λ x d. (lasts x fs xs v u o i d).1) o e.0, i)))
-    (λ v xs o i. ((g v xs o i).0, (g v xs o i).1, λ x t. one v (onto xs es) (U.go h x op m v) ((g v xs o i).2 x t), omega arith)) b)))
+    (λ v xs o i. ((g v xs o i).0, (g v xs o i).1, λ x t. one v (onto xs es) (U.go h x op m v) ((g v xs o i).2 x t), omega arith)) base affords.0 has)))
   where
     rest : Handed (U.Answer op) R.Carry → P (joined U R) A
     rest r = lowered U R handler r.carry (k r.answer)
@@ -74,6 +77,26 @@ lift_using U R handler laws h {A} (Do op m k) used c B Q lasts n es w from g b i
           next = (Wp-more U h (k a) B Q q.left (n - suc (U.more op)) (onto (own h (U.places h op a (m a) v)) fs) u (let c : q.left + U.more op < n = q.falls in omega arith) q.next, q.inv);
         }
     one v fs (Stops u) q = q
+
+-- nothing is spent
+abbrev free : (U : Machine) → Budget U
+free U = record { Spent = Unit {0}; after = λ op s. s; Allowed = λ s. Unit {0} }
+
+affords_free : (U : Machine) {A : Type 0} (p : P U A) → Affords U (free U) tt p
+affords_free U (Ret a) = tt
+affords_free U (Do op m k) = (tt, λ a. affords_free U (k a))
+
+-- what is so of the program's operations
+pub uses_so : (U : Machine) (Is So : (op : U.Op) → (U.Answer op → Option U.Mark) → Type 1) {A : Type 0} (p : P U A) → ((op : U.Op) (m : U.Answer op → Option U.Mark) → Is op m → So op m) → Uses U Is p → Uses U So p
+uses_so U Is So (Ret a) so uses = tt
+uses_so U Is So (Do op m k) so uses = (so op m uses.0, λ a. uses_so U Is So (k a) so (uses.1 a))
+
+pub lift_using : (U : Machine) (R : Lower U.World) (handler : Handlers U R) (laws : Laws U) (h : ℕ) {A : Type 0} (p : P U A) → Uses U (Atomic U R handler h) p → (c : R.Carry) → Lifts U R handler h c (λ w. Unit {0}) p
+lift_using U R handler laws h p used c B Q lasts n es w from g base inv =
+    lift_within U R handler laws h (free U) (λ r s. Unit {0}) p
+    (uses_so U (Atomic U R handler h) (AtomicWithin U R handler (free U) (λ r s. Unit {0}) h) p
+    (λ op m atomic c s B C es w lasts todo base allowed has. Wp-weaker (joined U R) h (handler c op m) B B (Below U R h C) (λ r fs u. Below U R h C r fs u × Unit {0}) (suc (U.more op)) es w (λ fs e. e) (λ r fs u e. (e, tt)) (atomic c B C es w lasts todo base)) used)
+    tt (affords_free U p) c B Q lasts n es w tt g base inv
 
 -- a program's operations are so where all are
 pub uses_all : (U : Machine) (Is : (op : U.Op) → (U.Answer op → Option U.Mark) → Type 1) {A : Type 0} (p : P U A) → ((op : U.Op) (m : U.Answer op → Option U.Mark) → Is op m) → Uses U Is p
