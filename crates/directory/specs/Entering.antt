@@ -12,7 +12,7 @@ use Rattle.fs_tables.specs.declared.inodes.Inode.{Inode}
 use Rattle.fs_machine.specs.declared.kind.Kind.{Kind}
 use Rattle.fs_machine.specs.Steps.{State, Op, Answer}
 use Rattle.fs_machine.specs.Machines.{P}
-use Rattle.inode_table.specs.Programs.{inode_block, record_of}
+use Rattle.inode_table.specs.Programs.{inode_block}
 use Rattle.inode_data.specs.Records.{record_in}
 use Rattle.inode_data.specs.Writing.{Written, write_part}
 use Rattle.inode_data.specs.Machines.{ends_within}

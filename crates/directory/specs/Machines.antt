@@ -1,5 +1,5 @@
 -- The programs that are left of a search.
-use Rattle.std.specs.Prelude.{ℕ, ◌+◌, ◌<◌, Option, IsSome}
+use Rattle.std.specs.Prelude.{ℕ, ◌+◌, ◌<◌, Option, IsSome, IfSome}
 use Rattle.sleep_lock.specs.SleepLock.{GuardState}
 use Rattle.buffer_cache.specs.Buffers.{BufferState}
 use Rattle.fs_layout.specs.Name.{IsName}
@@ -14,7 +14,7 @@ use Rattle.inode_table.specs.Programs.{record_of}
 use Rattle.inode_data.specs.Widths.{most_blocks}
 use Rattle.inode_data.specs.Machines.{fetched_in, block_fetch_of, BlockFetchFits}
 use Rattle.inode_data.specs.declared.fetch_block.FetchBlock.{FetchBlock}
-use Rattle.directory.specs.Programs.{Aim, Named, Unused, Entry, look_at, search_from}
+use Rattle.directory.specs.Programs.{Aim, Named, Unused, Entry, look_at, most_slots, search_from}
 use Rattle.directory.specs.declared.found.Found.{Found}
 use Rattle.directory.specs.declared.found.Sought.{Sought}
 use Rattle.directory.specs.declared.found.Sought.TheVariants as sought
@@ -38,6 +38,10 @@ IsSought sought.Entry = Unit {0}
 -- what was found
 abbrev pub found_of : Searched → Option Found
 found_of r = r.found
+
+-- it is one of the slots that a directory may have
+abbrev pub IsSlot : Option Found → Type 0
+IsSlot found = IfSome found (λ f. f.slot < most_slots)
 
 unfoldable pub search_of : Aim → Search → P (Option Found)
 search_of aim (searching.Fetching at m) =

@@ -1,7 +1,8 @@
 //! A name entered.
 ghost use Rattle.std.specs.Prelude.{◌≡◌, ◌<◌, ◌≤◌, ◌^◌, ℕ, IsSome, IsTrue};
 ghost use Rattle.fs_layout.specs.declared.entry.Dirent.TheVariants.{Used};
-ghost use Rattle.fs_layout.specs.Entry.{IsDirent, spell_dirent};
+ghost use Rattle.fs_layout.specs.Name.{IsName};
+ghost use Rattle.fs_layout.specs.Entry.{spell_dirent};
 ghost use Rattle.fs_layout.specs.Widths.{bits_per_block};
 ghost use Rattle.atomic_programs.specs.Machines.{Still, Left as LeftOf};
 ghost use Rattle.fs_tables.specs.declared.inodes.Inode.{Inode as InodeState};
@@ -25,11 +26,14 @@ use block_device::Device;
 use byteorder::{ByteOrder, LittleEndian};
 use fs_layout::widths::{DIRENT_LEN, DIRENT_NAME_AT};
 use fs_layout::{Dinode, Super};
-use fs_machine::{Core, Kind};
+use fs_machine::{Core, Kind, RetiredCore};
 use fs_tables::Inode;
 use group_log::Txn;
 use inode_data::{Begun, PartWritten, WritePart, record, went_on};
 use sleep_lock::Guard;
+
+// An entry can have so many numbers.
+const NUMBERS: u32 = 65_536;
 
 /// What an entering has in hand: the bytes of the entry, and where its disk's parts lie.
 #[derive(Drop, Clone, Copy)]
@@ -66,20 +70,20 @@ pub enum Enter {
 }
 
 impl Enter {
-    /// Inode `number` by this name, into the directory of this guard, on a disk with this superblock. The directory has a link: into
-    /// one without links nothing is entered.
+    /// Inode `number` by this name, into the directory of this guard, on a disk with this superblock. An entry has the low 16 bits of a
+    /// number, and an inode's has no more. The directory has a link: into one without links nothing is entered.
     #[tactic(auto, unfolding(crate::specs::Entering::enter_of, crate::specs::Entering::EnterFits))]
     pub fn begin(
         inode: Guard<Inode>,
         sizes: &Super,
-        number: u16,
+        number: u32,
         name: &[u8],
     ) -> Begun<Enter, Entered>
         requires loaded { IsSome inode.value.content }
         requires live { IsTrue (is_live_directory (record_in inode)) }
         requires size { sizes.now.size ≤ bits_per_block }
         requires block { inode_block sizes.now.inodestart inode.value.number < 2 ^ 32 }
-        requires entry { IsDirent (Used number name.now) }
+        requires name { IsName name.now }
         ensures program { begun_of enter_of entered_of result ≡ enter sizes.now inode.value.number (record_in inode) number name.now }
         ensures inode { IfBegun (λ m. enterer_of m ≡ inode) (λ r. r.inode ≡ inode) result }
         ensures fits { (hart : ℕ) (s : State) → IfBegun (EnterFits hart s) (λ _. Unit {0}) result }
@@ -125,15 +129,23 @@ impl Enter {
             }
         }
     }
+
+    /// Ends it in mid-call, after all that harts share has ended.
+    pub fn retire(self, retired: &RetiredCore) {
+        match self {
+            Enter::Searching(_, search) => search.retire(retired),
+            Enter::Writing(_, _, part) => part.retire(retired),
+        }
+    }
 }
 
-// The bytes of an entry.
-fn entry_bytes(number: u16, name: &[u8]) -> [u8; DIRENT_LEN]
-    requires { IsDirent (Used number name.now) }
+/// The bytes of an entry of this number and name. It has the low 16 bits of the number.
+pub fn entry_bytes(number: u32, name: &[u8]) -> [u8; DIRENT_LEN]
+    requires { IsName name.now }
     ensures { result ≡ spell_dirent (Used number name.now) }
 {
     let mut entry = [0; DIRENT_LEN];
-    LittleEndian::write_u16(&mut entry, number);
+    LittleEndian::write_u16(&mut entry, (number % NUMBERS) as u16);
     entry[DIRENT_NAME_AT..DIRENT_NAME_AT + name.len()].copy_from_slice(name);
     entry
 }

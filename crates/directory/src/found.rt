@@ -3,7 +3,7 @@ ghost use Rattle.std.specs.Prelude.{◌≡◌, ◌+◌, ◌-◌, ◌*◌, ◌≤
 ghost use Rattle.fs_layout.specs.Widths.{dirents_per_block};
 ghost use Rattle.inode_data.specs.Widths.{most_blocks};
 ghost use Rattle.directory.specs.Programs.{slot_count, block_count, slots_in, first_in, found_at, found_in};
-ghost use Rattle.directory.specs.Machines.{aim_of, IsSought};
+ghost use Rattle.directory.specs.Machines.{aim_of, IsSlot, IsSought};
 
 use crate::slots::{first_free, first_named, first_used, number_at};
 use fs_layout::Dinode;
@@ -92,7 +92,8 @@ fn found_at(block: &Block, k: usize, place: usize) -> Found
 pub(crate) fn found_in(block: &Block, inode: &Dinode, k: usize, sought: Sought) -> Option<Found>
     requires block { k < most_blocks }
     requires sought { IsSought sought }
-    ensures { result ≡ found_in (aim_of sought.entry) inode.now k block.now }
+    ensures found { result ≡ found_in (aim_of sought.entry) inode.now k block.now }
+    ensures slot { IsSlot result }
 {
     match first_in(block, k, slots_in(inode, k), sought) {
         Some(place) => Some(found_at(block, k, place)),

@@ -7,7 +7,7 @@ ghost use Rattle.atomic_programs.specs.Machines.{Still, Left as LeftOf};
 ghost use Rattle.fs_machine.specs.LogPart.{Outside};
 ghost use Rattle.fs_machine.specs.Steps.{State, state_of, exec, Put};
 ghost use Rattle.fs_machine.specs.Premises.{May};
-ghost use Rattle.fs_machine.specs.Machines.{MayNext, Moves, Answers};
+ghost use Rattle.fs_machine.specs.Machines.{MayNext, Moves, Answers, CallsOnce};
 ghost use Rattle.fs_machine.specs.Tied.{LeavesTied, bytes_of};
 ghost use Rattle.fs_machine.specs.Fetching.{IsFetched};
 ghost use Rattle.fs_layout.specs.declared.entry.Dirent.{Dirent};
@@ -107,6 +107,7 @@ impl PutEntry {
         ensures inode { LeftOf (λ m. putter_of m ≡ putter_of self) (λ guard. guard ≡ with_record (record_in guard) (putter_of self)) result }
         ensures fits { LeftOf (PutFits hart (state_of D.contents D.failures core.new)) (λ _. Unit {0}) result }
         ensures others { LeavesTied hart (state_of D.contents D.failures core.old) (state_of D.contents D.failures core.new) }
+        ensures called { CallsOnce D.Called core.old.log.cache.device core.new.log.cache.device }
         ensures tables { core.new.tables ≡ core.old.tables }
     {
         match self {
@@ -249,6 +250,7 @@ fn put<D: Device>(
         ≡ ItRan tt (state_of D.contents D.failures core.new) }
     ensures kept { txn.new ≡ txn.old }
     ensures others { LeavesTied hart (state_of D.contents D.failures core.old) (state_of D.contents D.failures core.new) }
+    ensures device { core.new.log.cache.device ≡ core.old.log.cache.device }
     ensures tables { core.new.tables ≡ core.old.tables }
 {
     let entry = entry_of(change);

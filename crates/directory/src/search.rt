@@ -8,7 +8,7 @@ ghost use Rattle.inode_table.specs.Programs.{record_of};
 ghost use Rattle.inode_data.specs.Beginnings.{begun_of, IfBegun};
 ghost use Rattle.inode_data.specs.Widths.{most_blocks};
 ghost use Rattle.directory.specs.Programs.{Aim, Named, is_directory, is_live_directory, lookup, search, search_from};
-ghost use Rattle.directory.specs.Machines.{aim_of, found_of, in_search, inode_of, search_of, IsSought, SearchFits};
+ghost use Rattle.directory.specs.Machines.{aim_of, found_of, in_search, inode_of, search_of, IsSlot, IsSought, SearchFits};
 
 use crate::found::{Found, Sought, block_count, found_in};
 use atomic_programs::machines::Stepped;
@@ -64,6 +64,7 @@ impl Search {
         requires loaded { IsSome inode.value.content }
         ensures program { (aim : Aim) → begun_of (search_of aim) found_of result ≡ search aim (record_of inode.value) }
         ensures inode { IfBegun (λ m. inode_of m ≡ inode) (λ r. r.inode ≡ inode) result }
+        ensures slot { IfBegun (λ _. Unit {0}) (λ r. IsSlot r.found) result }
         ensures fits { (hart : ℕ) (s : State) → IfBegun (SearchFits hart s) (λ _. Unit {0}) result }
     {
         let left = block_count(&record(&inode));
@@ -75,6 +76,7 @@ impl Search {
         requires loaded { IsSome inode.value.content }
         ensures program { (name : List ℕ) → begun_of (search_of (Named name)) found_of result ≡ lookup name (record_of inode.value) }
         ensures inode { IfBegun (λ m. inode_of m ≡ inode) (λ r. r.inode ≡ inode) result }
+        ensures slot { IfBegun (λ _. Unit {0}) (λ r. IsSlot r.found) result }
         ensures fits { (hart : ℕ) (s : State) → IfBegun (SearchFits hart s) (λ _. Unit {0}) result }
     {
         if is_live_directory(&record(&inode)) {
@@ -99,6 +101,7 @@ impl Search {
         ensures honest { Answers (search_of (aim_of sought.entry)) hart self result (state_of D.contents D.failures core.old) (state_of D.contents D.failures core.new) }
         ensures still { Still (search_of (aim_of sought.entry)) result self core.old core.new }
         ensures inode { LeftOf (λ m. inode_of m ≡ inode_of self) (λ r. r.inode ≡ inode_of self) result }
+        ensures slot { LeftOf (λ _. Unit {0}) (λ r. IsSlot r.found) result }
         ensures fits { LeftOf (SearchFits hart (state_of D.contents D.failures core.new)) (λ _. Unit {0}) result }
         ensures others { LeavesTied hart (state_of D.contents D.failures core.old) (state_of D.contents D.failures core.new) }
         ensures called { CallsOnce D.Called core.old.log.cache.device core.new.log.cache.device }
@@ -160,6 +163,7 @@ fn next(inode: Guard<Inode>, block: usize, left: usize) -> Begun<Search, Searche
     requires within { block + left ≤ most_blocks }
     ensures program { (aim : Aim) → begun_of (search_of aim) found_of result ≡ search_from left aim (record_of inode.value) block }
     ensures inode { IfBegun (λ m. inode_of m ≡ inode) (λ r. r.inode ≡ inode) result }
+    ensures slot { IfBegun (λ _. Unit {0}) (λ r. IsSlot r.found) result }
     ensures fits { (hart : ℕ) (s : State) → IfBegun (SearchFits hart s) (λ _. Unit {0}) result }
 {
     if left == 0 {

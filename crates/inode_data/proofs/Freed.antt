@@ -1,5 +1,5 @@
 -- The steps of an inode's freeing.
-use Rattle.std.proofs.Common.{◌≡◌, ℕ, refl, ap, sym, subst, ◌∙◌, Option, Some, None, IsSome}
+use Rattle.std.proofs.Common.{◌≡◌, ◌≢◌, ℕ, refl, ap, sym, subst, ◌∙◌, Option, Some, None, IsSome}
 use Rattle.std.specs.Prelude.{slice_get}
 use Rattle.sleep_lock.specs.SleepLock.{GuardState}
 use Rattle.sleep_lock.specs.Row.{IsOut}
@@ -17,17 +17,20 @@ use Rattle.fs_machine.specs.LogPart.{Outside}
 use Rattle.fs_machine.specs.Steps.{State, exec, in_tables, kind_of, Down, Held}
 use Rattle.fs_machine.specs.Machines.{P, Moves, said_in}
 use Rattle.fs_machine.specs.Tied.{IsOwnInode}
+use Rattle.fs_machine.specs.Stays.{LeavesApart}
 use Rattle.inode_table.specs.Programs.{store}
 use Rattle.inode_table.specs.Machines.{store_of, StoreFits}
 use Rattle.inode_table.specs.declared.store_inode.StoreInode.{StoreInode}
 use Rattle.inode_data.specs.Records.{record_in, with_record}
 use Rattle.inode_data.specs.Freeing.{freed, store_freed, unlock_freed}
 use Rattle.inode_data.specs.Truncating.{truncate_of, emptied_of, TruncateFits}
-use Rattle.inode_data.specs.Dropping.{free_inode_of, FreeInodeFits, in_truncating, in_freed_storing, unloaded}
+use Rattle.inode_data.specs.Dropping.{free_inode_of, FreeInodeFits, FreeApart, DropApart, in_truncating, in_freed_storing, in_drop_freeing, unloaded}
 use Rattle.inode_data.specs.declared.truncation.Truncate.{Truncate}
 use Rattle.inode_data.specs.declared.freeing.FreeInode.{FreeInode}
 use Rattle.inode_data.specs.declared.freeing.FreeInode.TheVariants as freeing
-use Rattle.inode_data.proofs.Nested.{nested_moves, nested_left, left_all, left_both}
+use Rattle.inode_data.specs.declared.dropping.DropReference.{DropReference}
+use Rattle.inode_data.specs.declared.dropping.DropReference.TheVariants as dropping
+use Rattle.inode_data.proofs.Nested.{nested_moves, nested_left, ending_left, left_all, left_both}
 
 -- ---- the inode's lock
 
@@ -59,6 +62,9 @@ module _ (h n : ℕ) (old new : State) (self : FreeInode) (result : Stepped Free
   abbrev Fit : Type 0
   Fit = Left (FreeInodeFits h new) (λ _. Unit {0}) result
 
+  abbrev Rest : Type 0
+  Rest = LeavesApart {R = Unit {0}} FreeApart (λ _ _. Unit {0}) (IsOwnInode h) self result old new
+
   module _ (inodestart : ℕ) (m : Truncate) (s : Stepped Truncate (GuardState Inode) Kind) (is : self ≡ freeing.Truncating n inodestart m) (at : result ≡ in_truncating n inodestart s) where
     pub truncating_moves : Moves truncate_of record_in h m s old new → Steps
     unfolding free_inode_of
@@ -77,6 +83,15 @@ module _ (h n : ℕ) (old new : State) (self : FreeInode) (result : Stepped Free
         (λ guard f. (had.0, subst (λ (g : GuardState Inode). IsOwnInode h n g new) (sym f.1) (own_record h n (emptied_of m) new (record_in guard) own), subst (λ (g : GuardState Inode). IsSome g.value.content) (sym f.1) refl))
         s (left_both (TruncateFits h new) (λ _. Unit {0}) (λ w. emptied_of w ≡ emptied_of m) (λ guard. guard ≡ with_record (record_in guard) (emptied_of m)) s left inode))
 
+    pub truncating_rest : new.tables ≡ old.tables → Rest
+    unfolding FreeApart
+    truncating_rest same k held own apart =
+        let ne : k ≢ n = subst (λ m. FreeApart k m) is apart in (
+          own_stays h k held old new same own,
+          rw at (nested_left (λ _. Unit {0}) (λ _. Unit {0}) (FreeApart k) (λ _. Unit {0}) (λ m. freeing.Truncating n inodestart m) (λ guard. freeing.Emptied n inodestart guard) (λ w f. ne) (λ guard f. ne) s
+              (left_all (λ _. Unit {0}) (λ _. Unit {0}) (λ w. tt) (λ r. tt) s)),
+        )
+
   module _ (guard : GuardState Inode) (m : StoreInode) (s : Stepped StoreInode (Unit {0}) Kind) (is : free_inode_of self ≡ bind (store_of m) (λ _. unlock_freed n)) (at : result ≡ in_freed_storing n guard s) where
     pub storing_moves : Moves store_of (λ x. x) h m s old new → Steps
     unfolding free_inode_of
@@ -90,6 +105,15 @@ module _ (h n : ℕ) (old new : State) (self : FreeInode) (result : Stepped Free
         let own : IsOwnInode h n guard new = own_stays h n guard old new same had in
         rw at (nested_left (StoreFits h new) (λ _. Unit {0}) (FreeInodeFits h new) (λ _. Unit {0}) (λ m. freeing.Storing n guard m) (λ _. freeing.Unlocking n (unloaded guard))
         (λ w f. (own, some, f)) (λ r f. (own_unloaded h n guard new own, refl)) s left)
+
+    pub storing_rest : ((k : ℕ) → FreeApart k self → k ≢ n) → new.tables ≡ old.tables → Rest
+    unfolding FreeApart
+    storing_rest apart_is same k held own apart =
+        let ne : k ≢ n = apart_is k apart in (
+          own_stays h k held old new same own,
+          rw at (nested_left (λ _. Unit {0}) (λ _. Unit {0}) (FreeApart k) (λ _. Unit {0}) (λ m. freeing.Storing n guard m) (λ _. freeing.Unlocking n (unloaded guard)) (λ w f. ne) (λ r f. ne) s
+              (left_all (λ _. Unit {0}) (λ _. Unit {0}) (λ w. tt) (λ r. tt) s)),
+        )
 
 -- where the store waits or stops
 pub storing_still : {S : Type 0} (n : ℕ) (old new : S) (self : FreeInode) (guard : GuardState Inode) (m : StoreInode) (s : Stepped StoreInode (Unit {0}) Kind) (result : Stepped FreeInode (Unit {0}) Kind)
@@ -126,3 +150,13 @@ dies_loaded h n m x s after content e = at (place_of n s.tables.entries) e
     at : (o : Option ℕ) → in_tables s (drop_at h n s.tables o) ≡ Ran (Dies m content) after → IsSome content
     at None e = cc
     at (Some k) e = dead k (dying (slice_get s.tables.entries k) (slice_get s.tables.locks k)) e
+
+-- ---- a drop
+
+pub freeing_rest : (h : ℕ) (old new : State) (self : DropReference) (m : FreeInode) (s : Stepped FreeInode (Unit {0}) Kind) (result : Stepped DropReference (Unit {0}) Kind) → self ≡ dropping.Freeing m → result ≡ in_drop_freeing s
+    → LeavesApart {R = Unit {0}} FreeApart (λ _ _. Unit {0}) (IsOwnInode h) m s old new → LeavesApart {R = Unit {0}} DropApart (λ _ _. Unit {0}) (IsOwnInode h) self result old new
+unfolding DropApart
+freeing_rest h old new self m s result is at rest k held own apart =
+    let there : FreeApart k m = subst (λ w. DropApart k w) is apart in
+    let left = rest k held own there in
+    (left.0, rw at (ending_left (FreeApart k) (λ _. Unit {0}) (DropApart k) (λ _. Unit {0}) (λ w. dropping.Freeing w) (λ r. r) (λ w f. f) (λ r f. tt) s left.1))

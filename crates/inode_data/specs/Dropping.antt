@@ -1,5 +1,5 @@
 -- The programs that are left of an inode's freeing and of a reference's drop.
-use Rattle.std.specs.Prelude.{◌≡◌, ℕ, ◌^◌, ◌<◌, None, IsSome}
+use Rattle.std.specs.Prelude.{◌≡◌, ◌≢◌, ℕ, ◌^◌, ◌<◌, None, IsSome}
 use Rattle.sleep_lock.specs.SleepLock.{GuardState}
 use Rattle.atomic_programs.specs.Prog.{bind, Ret, Do, unmarked}
 use Rattle.atomic_programs.specs.declared.machines.Stepped.{Stepped}
@@ -36,6 +36,14 @@ FreeInodeFits hart s (freeing.Storing n guard m) = IsOwnInode hart n guard s × 
 FreeInodeFits hart s (freeing.Unlocking n guard) = IsOwnInode hart n guard s × (guard.value.content ≡ None)
 FreeInodeFits hart s (freeing.Dropping n) = Unit {0}
 
+-- its lock isn't that of this inode
+unfoldable pub FreeApart : ℕ → FreeInode → Type 0
+FreeApart k (freeing.Truncating n inodestart m) = k ≢ n
+FreeApart k (freeing.Emptied n inodestart guard) = k ≢ n
+FreeApart k (freeing.Storing n guard m) = k ≢ n
+FreeApart k (freeing.Unlocking n guard) = k ≢ n
+FreeApart k (freeing.Dropping n) = Unit {0}
+
 unfoldable pub drop_of : DropReference → P (Unit {0})
 drop_of (dropping.Down sizes n) = drop_reference sizes n
 drop_of (dropping.Freeing m) = free_inode_of m
@@ -43,6 +51,11 @@ drop_of (dropping.Freeing m) = free_inode_of m
 unfoldable pub DropFits : ℕ → State → DropReference → Type 0
 DropFits hart s (dropping.Down sizes n) = inode_block sizes.inodestart n < 2 ^ 32
 DropFits hart s (dropping.Freeing m) = FreeInodeFits hart s m
+
+-- nor is a drop's
+unfoldable pub DropApart : ℕ → DropReference → Type 0
+DropApart k (dropping.Down sizes n) = Unit {0}
+DropApart k (dropping.Freeing m) = FreeApart k m
 
 -- a nested machine's step
 abbrev pub in_truncating : ℕ → ℕ → Stepped Truncate (GuardState Inode) Kind → Stepped FreeInode (Unit {0}) Kind

@@ -3,10 +3,11 @@ ghost use Rattle.std.specs.Prelude.{◌≡◌, ◌<◌, ◌^◌, ℕ};
 ghost use Rattle.atomic_programs.specs.Machines.{Still, Left as LeftOf};
 ghost use Rattle.fs_machine.specs.Steps.{State, state_of};
 ghost use Rattle.fs_machine.specs.Machines.{MayNext, Moves, Answers, CallsOnce};
-ghost use Rattle.fs_machine.specs.Tied.{LeavesTied};
+ghost use Rattle.fs_machine.specs.Tied.{IsOwnInode, LeavesTied};
+ghost use Rattle.fs_machine.specs.Stays.{LeavesApart};
 ghost use Rattle.inode_table.specs.Programs.{inode_block};
 ghost use Rattle.inode_data.specs.Freeing.{drop_reference};
-ghost use Rattle.inode_data.specs.Dropping.{drop_of, DropFits, in_drop_freeing};
+ghost use Rattle.inode_data.specs.Dropping.{drop_of, DropFits, DropApart, in_drop_freeing};
 
 use crate::freeing::FreeInode;
 use atomic_programs::machines::Stepped;
@@ -27,11 +28,12 @@ pub enum DropReference {
 
 impl DropReference {
     /// This reference, on a disk with this superblock.
-    #[tactic(auto, unfolding(crate::specs::Dropping::drop_of, crate::specs::Dropping::DropFits))]
+    #[tactic(auto, unfolding(crate::specs::Dropping::drop_of, crate::specs::Dropping::DropFits, crate::specs::Dropping::DropApart))]
     pub fn new(reference: Reference, sizes: &Super) -> DropReference
         requires { inode_block sizes.now.inodestart reference < 2 ^ 32 }
         ensures program { drop_of result ≡ drop_reference sizes.now reference }
         ensures fits { (hart : ℕ) (s : State) → DropFits hart s result }
+        ensures apart { (k : ℕ) → DropApart k result }
     {
         DropReference::Down(*sizes, reference)
     }
@@ -54,6 +56,7 @@ impl DropReference {
         ensures fits { LeftOf (DropFits hart (state_of D.contents D.failures core.new)) (λ _. Unit {0}) result }
         ensures others { LeavesTied hart (state_of D.contents D.failures core.old) (state_of D.contents D.failures core.new) }
         ensures called { CallsOnce D.Called core.old.log.cache.device core.new.log.cache.device }
+        ensures rest { LeavesApart DropApart (λ _ _. Unit {0}) (IsOwnInode hart) self result (state_of D.contents D.failures core.old) (state_of D.contents D.failures core.new) }
     {
         match self {
             DropReference::Down(sizes, reference) => match core.drop_reference(hart, reference) {

@@ -1,13 +1,14 @@
 //! An inode freed.
-ghost use Rattle.std.specs.Prelude.{◌≡◌, ◌<◌, ◌^◌, ℕ, IsSome};
+ghost use Rattle.std.specs.Prelude.{◌≡◌, ◌≢◌, ◌<◌, ◌^◌, ℕ, IsSome};
 ghost use Rattle.atomic_programs.specs.Machines.{Still, Left as LeftOf};
 ghost use Rattle.fs_machine.specs.Steps.{State, state_of};
 ghost use Rattle.fs_machine.specs.Machines.{MayNext, Moves, Answers, CallsOnce};
 ghost use Rattle.fs_machine.specs.Tied.{IsOwnInode, LeavesTied};
+ghost use Rattle.fs_machine.specs.Stays.{LeavesApart};
 ghost use Rattle.inode_table.specs.Programs.{inode_block};
 ghost use Rattle.inode_data.specs.Records.{record_in};
 ghost use Rattle.inode_data.specs.Freeing.{freed, free_inode};
-ghost use Rattle.inode_data.specs.Dropping.{free_inode_of, FreeInodeFits, in_truncating, in_freed_storing, unloaded};
+ghost use Rattle.inode_data.specs.Dropping.{free_inode_of, FreeInodeFits, FreeApart, in_truncating, in_freed_storing, unloaded};
 
 use crate::records::record;
 use crate::truncation::Truncate;
@@ -37,13 +38,14 @@ pub enum FreeInode {
 
 impl FreeInode {
     /// The inode of this guard and reference, on a disk with this superblock.
-    #[tactic(auto, unfolding(crate::specs::Dropping::free_inode_of, crate::specs::Dropping::FreeInodeFits))]
+    #[tactic(auto, unfolding(crate::specs::Dropping::free_inode_of, crate::specs::Dropping::FreeInodeFits, crate::specs::Dropping::FreeApart))]
     pub fn new(reference: Reference, inode: Guard<Inode>, sizes: &Super) -> FreeInode
         requires loaded { IsSome inode.value.content }
         requires same { inode.value.number ≡ reference }
         requires block { inode_block sizes.now.inodestart reference < 2 ^ 32 }
         ensures program { free_inode_of result ≡ free_inode sizes.now reference (record_in inode) }
         ensures fits { (hart : ℕ) (s : State) → IsOwnInode hart reference inode s → FreeInodeFits hart s result }
+        ensures apart { (k : ℕ) → k ≢ reference → FreeApart k result }
     {
         FreeInode::Truncating(reference, sizes.inodestart, Truncate::new(inode, sizes))
     }
@@ -66,6 +68,7 @@ impl FreeInode {
         ensures fits { LeftOf (FreeInodeFits hart (state_of D.contents D.failures core.new)) (λ _. Unit {0}) result }
         ensures others { LeavesTied hart (state_of D.contents D.failures core.old) (state_of D.contents D.failures core.new) }
         ensures called { CallsOnce D.Called core.old.log.cache.device core.new.log.cache.device }
+        ensures rest { LeavesApart FreeApart (λ _ _. Unit {0}) (IsOwnInode hart) self result (state_of D.contents D.failures core.old) (state_of D.contents D.failures core.new) }
     {
         match self {
             FreeInode::Truncating(reference, inodestart, truncate) => truncating(

@@ -8,7 +8,8 @@ ghost use Rattle.fs_machine.specs.LogPart.{Outside};
 ghost use Rattle.fs_machine.specs.Steps.{State, state_of, exec, Put};
 ghost use Rattle.fs_machine.specs.Premises.{May};
 ghost use Rattle.fs_machine.specs.Machines.{MayNext, Moves, Answers, CallsOnce};
-ghost use Rattle.fs_machine.specs.Tied.{LeavesTied, bytes_of};
+ghost use Rattle.fs_machine.specs.Tied.{IsOwnInode, LeavesTied, bytes_of};
+ghost use Rattle.fs_machine.specs.Stays.{LeavesAll};
 ghost use Rattle.fs_machine.specs.Fetching.{IsFetched};
 ghost use Rattle.inode_table.specs.Programs.{place_of, with_dinode};
 ghost use Rattle.inode_table.specs.NewInodes.{is_free_in, free_in, inode_blocks, new_record, new_from, new_inode};
@@ -95,6 +96,7 @@ impl NewInode {
         ensures fits { LeftOf (NewFits hart (state_of D.contents D.failures core.new)) (λ _. Unit {0}) result }
         ensures others { LeavesTied hart (state_of D.contents D.failures core.old) (state_of D.contents D.failures core.new) }
         ensures called { CallsOnce D.Called core.old.log.cache.device core.new.log.cache.device }
+        ensures rest { LeavesAll (IsOwnInode hart) (state_of D.contents D.failures core.old) (state_of D.contents D.failures core.new) }
     {
         match self {
             NewInode::Fetching(looking, fetch) => fetching(looking, fetch.step(hart, core)),
@@ -237,6 +239,7 @@ fn make<D: Device>(
     ensures kept { txn.new ≡ txn.old }
     ensures others { LeavesTied hart (state_of D.contents D.failures core.old) (state_of D.contents D.failures core.new) }
     ensures device { core.new.log.cache.device ≡ core.old.log.cache.device }
+    ensures tables { core.new.tables ≡ core.old.tables }
 {
     let mut guard = guard;
     let inode = as_new(kind, inode_in(&guard, number));

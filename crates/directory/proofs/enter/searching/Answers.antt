@@ -1,6 +1,5 @@
 use Rattle.inode_data.proofs.Beginnings.{went_on_left}
-use Rattle.directory.specs.Entering.{enter_of, entered_of, EnterFits}
-use Rattle.directory.proofs.Entrances.{goes_on_begun}
+use Rattle.directory.specs.Entering.{EnterFits}
 use Rattle.directory.proofs.enter.searching.Goals as goal
 
 pub returns-in-Done-clause-fits : goal.returns-in-Done-clause-fits
