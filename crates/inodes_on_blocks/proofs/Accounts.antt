@@ -3,37 +3,17 @@ use Rattle.std.proofs.Common.{◌≡◌, inl, inr, ℕ, zero, suc, ◌+◌, ◌<
 use Rattle.std.specs.Prelude.{slice_get, slice_set}
 use Rattle.fs_layout.specs.declared.superblock.Super.{Super}
 use Rattle.tree_laws.specs.WellFormed.{one_if}
-use Rattle.tree_laws.proofs.Maps.{either, eq_self, eq_is}
+use Rattle.tree_laws.proofs.Maps.{either, eq_is}
 use Rattle.group_log.specs.Group.{has, one_more, HasRoom, IsMember}
-use Rattle.group_log.proofs.Seats.{pick}
 use Rattle.inode_table.specs.Programs.{inode_block}
 use Rattle.inode_machine.specs.Budget.{Spent, unspent, size, with_number, with_record, with_bitmap, with_contents}
 use Rattle.inode_machine.specs.Budget as budget
-use Rattle.fs_machine.specs.LogPart.{LogPart}
+use Rattle.fs_machine.specs.LogPart.{LogPart, put_block}
+use Rattle.inodes_on_blocks.proofs.Groups.{has_more, has_last, has_members, member_at}
+use Rattle.inodes_on_blocks.proofs.Rooms.{room_of}
 use Rattle.inodes_on_blocks.specs.Accounts.{recorded_in, used, Accounts, IsSpent, RoomLaws, TransactionsHaveRoom}
 
 -- ---- members
-
-room_of : (ms : List (Option ℕ)) (h k : ℕ) → slice_get ms h ≡ Some (Some k) → k < 10 → HasRoom ms h
-room_of [] h k e lt = absurd (cc e)
-room_of (None ∷ ms) zero k e lt = absurd (cc e)
-room_of (Some j ∷ ms) zero k e lt = let same : j ≡ k = cc e in omega (arith, lt, same)
-room_of (None ∷ ms) (suc h) k e lt = room_of ms h k e lt
-room_of (Some j ∷ ms) (suc h) k e lt = room_of ms h k e lt
-
-member_at : (ms : List (Option ℕ)) (h : ℕ) → IsMember ms h → (k : ℕ) × (slice_get ms h ≡ Some (Some k))
-member_at [] h m = absurd m
-member_at (None ∷ ms) zero m = absurd m
-member_at (Some k ∷ ms) zero m = (k, refl)
-member_at (None ∷ ms) (suc h) m = member_at ms h m
-member_at (Some k ∷ ms) (suc h) m = member_at ms h m
-
-is_member : (ms : List (Option ℕ)) (h k : ℕ) → slice_get ms h ≡ Some (Some k) → IsMember ms h
-is_member [] h k e = absurd (cc e)
-is_member (None ∷ ms) zero k e = absurd (cc e)
-is_member (Some j ∷ ms) zero k e = tt
-is_member (None ∷ ms) (suc h) k e = is_member ms h k e
-is_member (Some j ∷ ms) (suc h) k e = is_member ms h k e
 
 one_more_at : (ms : List (Option ℕ)) (h k : ℕ) → slice_get (one_more ms h) h ≡ Some (Some k) → (j : ℕ) × (slice_get ms h ≡ Some (Some j)) × (k ≡ j + 1)
 one_more_at [] h k e = absurd (cc e)
@@ -46,16 +26,6 @@ set_at : (ms : List (Option ℕ)) (h k : ℕ) → slice_get (slice_set ms h (Som
 set_at [] h k e = absurd (cc e)
 set_at (m ∷ ms) zero k e = let same : 0 ≡ k = cc e in sym same
 set_at (m ∷ ms) (suc h) k e = set_at ms h k e
-
--- ---- the group
-
-has_more : (ks : List ℕ) (b c : ℕ) → has ks c ≡ true → has (ks ++ b ∷ []) c ≡ true
-has_more [] b c e = absurd (let q : false ≡ true = e in cc)
-has_more (k ∷ ks) b c e = pick (c == k) (λ t. (t || has ks c) ≡ true → (t || has (ks ++ b ∷ []) c) ≡ true) (λ _ _. refl) (λ _ z. has_more ks b c z) e
-
-has_last : (ks : List ℕ) (b : ℕ) → has (ks ++ b ∷ []) b ≡ true
-has_last [] b = ap (λ (t : Bool). t || false) (eq_self b)
-has_last (k ∷ ks) b = pick (b == k) (λ t. (t || has (ks ++ b ∷ []) b) ≡ true) (λ _. refl) (λ _. has_last ks b)
 
 one_less : (t u : Bool) → (t ≡ true → u ≡ true) → one_if t ≤ one_if u
 unfolding one_if
@@ -182,13 +152,17 @@ module _ (h : ℕ) (l : LogPart) where
   room_below : (s : Spent) → IsMember l.members h → Accounts h l s → used l s < 10 → HasRoom l.members h
   room_below s member accounts few = let at = member_at l.members h member in let a = accounts at.0 at.1 in room_of l.members h at.0 at.1 (omega (arith, a, few))
 
+  -- a block that may be spent is put
+  pub spent_put : (b : ℕ) (bytes : List ℕ) (s : Spent) → Accounts h l s → IsSpent l.sizes s b → Accounts h (put_block h b (Some bytes) l) s
+  spent_put b bytes s accounts is = put_by b s s (λ there. omega arith) (λ out. used_one b s is out) accounts (has l.group b) refl
+
   room_laws : RoomLaws h l
   room_laws = record {
     begins = λ group k e. let z = set_at l.members h k e in omega (arith, z);
     lasts = λ m s leaves accounts k e.
         let was = sym leaves.member ∙ e in
         let a = accounts k was in
-        let up = used_grows m.group s (λ b there. leaves.group b (is_member l.members h k was) there) in
+        let up = used_grows m.group s (λ b there. leaves.group b (has_members l.members h k was) there) in
         subst (λ (sizes : Super). k ≤ recorded_in sizes m.group s.records + one_if (s.bitmap && has m.group sizes.bmapstart) + s.contents) (sym leaves.sizes) (omega (arith, a, up));
     record_more = λ n s accounts k e. let a = accounts k e in elim (either (budget.has s.records n)) [
       | inl is ↦ subst (λ (ns : List ℕ). k ≤ recorded_in l.sizes l.group ns + one_if (s.bitmap && has l.group l.sizes.bmapstart) + s.contents) (sym (ap (λ (t : Bool). if t then s.records else n ∷ s.records) is)) a

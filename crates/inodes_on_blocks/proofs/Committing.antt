@@ -27,6 +27,7 @@ use Rattle.inodes_on_blocks.specs.OnBlocks.{is_joined}
 use Rattle.inodes_on_blocks.specs.Below.{World, log_of, disk_of}
 use Rattle.inodes_on_blocks.specs.Shown.{Shows, CommitShows, ghost_of}
 use Rattle.inodes_on_blocks.specs.Lowering.{Same, commit_in, buffer_in}
+use Rattle.inodes_on_blocks.proofs.Groups.{has_members}
 use Rattle.inodes_on_blocks.proofs.Layer.{kept_alike}
 use Rattle.inodes_on_blocks.proofs.Quiet.{unseen_keeps}
 
@@ -152,13 +153,14 @@ module _ (h : ℕ) (v : World) (g : above.World) (shows : Shows v g) (contents :
   taken_same other b None e = refl
   taken_same other b (Some k) e = ap (λ (x : List ℕ). if_kept (Some k) other x) (leaves.alike b (shows.taken b k e).2)
 
-  pub written_same : (other : ℕ) → other ≢ h → if_kept commits other (commit_in m) ≡ if_kept v.commits other (commit_in l) → Same other v after
-  written_same other ne commit = record {
+  pub written_same : (other : ℕ) → other ≢ h → v.commits ≢ None → if_kept commits other (commit_in m) ≡ if_kept v.commits other (commit_in l) → Same other v after
+  written_same other ne under commit = record {
     inodes = λ i e. kept_alike other i v after e disk_same refl;
     no_more = λ i e. e;
     buffers = λ b. buffers_same other b ne;
     held = ap (λ (o : Own). o.count) (leaves.own other ne);
     member = refl;
+    group = λ b k at e. absurd (under (nobody_commits other v g shows (has_members l.members other k at)));
     sizes = refl;
     taken = λ b. taken_same other b (v.taken b) refl;
     commit = commit;

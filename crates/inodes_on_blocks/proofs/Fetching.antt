@@ -48,7 +48,7 @@ use Rattle.inodes_on_blocks.proofs.Quiet.{unseen_keeps}
 -- ---- what a hart has, over its own steps and those of others
 
 pub but_same : (h b : ℕ) (v w : World) → Same h v w → SameBut h b v w
-but_same h b v w s = record { inodes = s.inodes; no_more = s.no_more; buffers = λ k ne. s.buffers k; member = s.member; taken = s.taken; commit = s.commit; sizes = s.sizes }
+but_same h b v w s = record { inodes = s.inodes; no_more = s.no_more; buffers = λ k ne. s.buffers k; member = s.member; group = s.group; taken = s.taken; commit = s.commit; sizes = s.sizes }
 
 pub but_then : (h b : ℕ) (u v w : World) → SameBut h b u v → SameBut h b v w → SameBut h b u w
 but_then h b u v w p q = record {
@@ -56,6 +56,7 @@ but_then h b u v w p q = record {
   no_more = λ i e. p.no_more i (q.no_more i e);
   buffers = λ k ne. q.buffers k ne ∙ p.buffers k ne;
   member = q.member ∙ p.member;
+  group = λ b k m e. q.group b k (p.member ∙ m) (p.group b k m e);
   taken = λ k. q.taken k ∙ p.taken k;
   commit = q.commit ∙ p.commit;
   sizes = q.sizes ∙ p.sizes;
@@ -148,6 +149,7 @@ module _ (h : ℕ) (v : World) (g : above.World) (shows : Shows v g) (ss : List 
         buffers = λ b. same_view other b (log_of v) (with_seats (log_of v) ss) (ap (λ (o : Own). o.buffers b) own) refl;
         held = ap (λ (o : Own). o.count) own;
         member = refl;
+        group = λ b k m e. e;
         taken = quiet_taken other;
         commit = refl;
         sizes = refl;
@@ -160,6 +162,7 @@ module _ (h : ℕ) (v : World) (g : above.World) (shows : Shows v g) (ss : List 
     no_more = λ i e. e;
     buffers = λ k ne. same_view h k (log_of v) (with_seats (log_of v) ss) (others k ne) refl;
     member = refl;
+    group = λ b k m e. e;
     taken = quiet_taken h;
     commit = refl;
     sizes = refl;
@@ -174,6 +177,7 @@ failed_others v after is other =
       buffers = λ b. ap (λ (d : List (List ℕ)). if_kept (holder_of b (log_of v).seats) other (seen_in d (log_of v).seats b, is_some (kept b (log_of v).seats))) is;
       held = refl;
       member = refl;
+      group = λ b k m e. e;
       taken = λ b. ap (λ (d : List (List ℕ)). if_kept (v.taken b) other (seen_in d (log_of v).seats b)) is;
       commit = refl;
       sizes = refl;

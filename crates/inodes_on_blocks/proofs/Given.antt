@@ -47,7 +47,7 @@ one_block_less h b more = record {
   gives = record {
     lasts = λ v w same may. record { recorded = may.recorded; member = same.member ∙ may.member; fits = may.fits };
     fetched = λ k v w same may. record { recorded = may.recorded; member = same.member ∙ may.member; fits = may.fits };
-    room = λ v may fresh. room_of (log_of v).members h may.recorded may.member (let f = may.fits in omega (arith, f));
+    room = λ v may joined fresh. room_of (log_of v).members h may.recorded may.member (let f = may.fits in omega (arith, f));
   };
   put = λ bytes r may.
       let at = more_at (log_of r).group b (log_of r).members h may.recorded may.member in

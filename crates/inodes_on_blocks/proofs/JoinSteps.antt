@@ -98,6 +98,7 @@ module _ (l : Labels) (laws : Laws (labelled l)) (keeps : Keeps l) (h : ℕ) (lt
       sizes = refl;
       taken = λ b. refl;
       member = slice_get-set_other (log_of v.real).members h other (Some 0) ne;
+      group = λ b k m e. e;
       commit = refl;
     };
     base = record {

@@ -4,6 +4,7 @@ use Rattle.std.proofs.lemmas.Option.{none-some}
 use Rattle.fs_layout.specs.declared.inode.Dinode.{Dinode}
 use Rattle.fs_layout.specs.declared.superblock.Super.{Super}
 use Rattle.image_tree.specs.Checks.{IsData}
+use Rattle.image_tree.specs.Inodes.{is_free}
 use Rattle.plain_tree.specs.declared.node.Node.{Node}
 use Rattle.image_laws.specs.Holds.{HoldsAt}
 use Rattle.image_laws.specs.Puts.{IsUntouched}
@@ -68,26 +69,27 @@ kept_alike h i v w lock disk owner = record {
 still_loaded : (o : Had) (m n : Option Node) (d e : Dinode) → n ≡ m → e ≡ d → IsLoaded o m d → IsLoaded o n e
 still_loaded Apart m n d e q p x = x
 still_loaded (Has f l) m n d e q p x = (x.0 ∙ sym p, λ z. x.1 (sym q ∙ z), subst (IsKnown l) (sym q) x.2)
-still_loaded Emptied m n d e q p x = q ∙ x
+still_loaded Emptied m n d e q p x = (q ∙ x.0, ap is_free p ∙ x.1)
 
 -- of each inode whose lock it has
 abbrev pub AllInHand : ℕ → Carry → World → above.World → Type 0
 AllInHand h c r g = (i : ℕ) → lock_holder i (tables_of r) ≡ Some h → InHand h i (c i) r g
 
-pub in_hand_then : (h : ℕ) (c : Carry) (v w : World) (g u : above.World) → ((i : ℕ) → lock_holder i (tables_of v) ≡ Some h → KeepsInode h i v w)
-    → ((i : ℕ) → lock_holder i (tables_of w) ≡ Some h → lock_holder i (tables_of v) ≡ Some h) → Kept h g u → (((g.desks h).lender ≡ None → ⊥) → Idle h g) → AllInHand h c v g → AllInHand h c w u
-in_hand_then h c v w g u inodes no_more kept lent all i e =
-    let before = no_more i e in
-    let k = inodes i before in
-    let was = all i before in
+pub hand_then : (h i : ℕ) (o : Had) (v w : World) (g u : above.World) → KeepsInode h i v w → Kept h g u → (((g.desks h).lender ≡ None → ⊥) → Idle h g) → InHand h i o v g → InHand h i o w u
+hand_then h i o v w g u k kept lent was =
     let now = kept_disk h i g u kept lent was.keeps in
     record {
       keeps = now.0;
-      loaded_is = still_loaded (c i) (g.disk i) (u.disk i) (inode_in (log_of v) i) (inode_in (log_of w) i) now.1 k.untouched.inode was.loaded_is;
+      loaded_is = still_loaded o (g.disk i) (u.disk i) (inode_in (log_of v) i) (inode_in (log_of w) i) now.1 k.untouched.inode was.loaded_is;
       holds =
           subst (λ (n : Option Node). HoldsAt (disk_of (log_of w)) w.owner i n) (sym now.1)
           (untouched (disk_of (log_of v)) (disk_of (log_of w)) v.owner w.owner i (g.disk i) k.untouched was.holds);
     }
+
+pub in_hand_then : (h : ℕ) (c : Carry) (v w : World) (g u : above.World) → ((i : ℕ) → lock_holder i (tables_of v) ≡ Some h → KeepsInode h i v w)
+    → ((i : ℕ) → lock_holder i (tables_of w) ≡ Some h → lock_holder i (tables_of v) ≡ Some h) → Kept h g u → (((g.desks h).lender ≡ None → ⊥) → Idle h g) → AllInHand h c v g → AllInHand h c w u
+in_hand_then h c v w g u inodes no_more kept lent all i e =
+    let before = no_more i e in hand_then h i (c i) v w g u (inodes i before) kept lent (all i before)
 
 pub lent_then : (h : ℕ) (g u : above.World) → Kept h g u → (((g.desks h).lender ≡ None → ⊥) → Idle h g) → ((u.desks h).lender ≡ None → ⊥) → Idle h u
 lent_then h g u kept lent some = by (g.desks h).lender refl
@@ -99,13 +101,14 @@ lent_then h g u kept lent some = by (g.desks h).lender refl
 pub below_laws : (sizes : Super) (l : Labels) → Keeps l → LowerLaws (labelled l) (below sizes)
 below_laws sizes l keeps =
     record {
-      same = λ h w. record { inodes = λ i e. record { lock = e; untouched = untouched_same (disk_of (log_of w)) w.owner i }; no_more = λ i e. e; buffers = λ b. refl; held = refl; member = refl; sizes = refl; taken = λ b. refl; commit = refl };
+      same = λ h w. record { inodes = λ i e. record { lock = e; untouched = untouched_same (disk_of (log_of w)) w.owner i }; no_more = λ i e. e; buffers = λ b. refl; held = refl; member = refl; group = λ b k m e. e; sizes = refl; taken = λ b. refl; commit = refl };
       trans = λ h u v w p q. record {
         inodes = λ i e. let a = p.inodes i e in let b = q.inodes i a.lock in record { lock = b.lock; untouched = untouched_then (disk_of (log_of u)) (disk_of (log_of v)) (disk_of (log_of w)) u.owner v.owner w.owner i a.untouched b.untouched };
         no_more = λ i e. p.no_more i (q.no_more i e);
         buffers = λ b. q.buffers b ∙ p.buffers b;
         held = q.held ∙ p.held;
         member = q.member ∙ p.member;
+        group = λ b k m e. q.group b k (p.member ∙ m) (p.group b k m e);
         sizes = q.sizes ∙ p.sizes;
         taken = λ b. q.taken b ∙ p.taken b;
         commit = q.commit ∙ p.commit;
@@ -136,6 +139,7 @@ tables_left h v t g u load load_then shows after change other ne =
       buffers = λ b. refl;
       held = refl;
       member = refl;
+      group = λ b k m e. e;
       sizes = refl;
       taken = λ b. refl;
       commit = refl;

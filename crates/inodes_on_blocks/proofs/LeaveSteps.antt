@@ -226,6 +226,9 @@ module _ (sizes : Super) (l : Labels) (laws : Laws (labelled l)) (keeps : Keeps 
     runs_on : next ≢ Halted
     runs_on = next_runs (length old.group) old.phase way
 
+    somebody : v.real.commits ≢ None
+    somebody none = let z = sym none ∙ on.commits in cc z
+
     not_others : {A : Type 0} (g : ℕ) (x : A) → g ≢ h → if_kept v.real.commits g x ≡ None
     not_others {A} g x ne = ap (λ (o : Option ℕ). if_kept {A = A} o g x) on.commits ∙ commit_other g h x ne
 
@@ -253,7 +256,7 @@ module _ (sizes : Super) (l : Labels) (laws : Laws (labelled l)) (keeps : Keeps 
 
       by_end : (ended : Bool) → is_open next ≡ ended → IsSilent B v wait (came_to h Commit v.real (Ran ended (record (v.real.state) { log = new }))) N
       by_end true e =
-          let same : (g : ℕ) → g ≢ h → Same g v.real (with_log v.real new None) = λ g ne. written_same h v.real v.seen shows (written old) old.failures (seats_after old.group old.phase old.seats) (group_in next old.group) next None leaves g ne (sym (not_others g (commit_in old) ne)) in
+          let same : (g : ℕ) → g ≢ h → Same g v.real (with_log v.real new None) = λ g ne. written_same h v.real v.seen shows (written old) old.failures (seats_after old.group old.phase old.seats) (group_in next old.group) next None leaves g ne somebody (sym (not_others g (commit_in old) ne)) in
           let shown = written_shows h v.real v.seen shows (written old) old.failures (seats_after old.group old.phase old.seats) (group_in next old.group) next None leaves whole runs_on (opens next e) in (
             shown,
             same,
@@ -269,7 +272,7 @@ module _ (sizes : Super) (l : Labels) (laws : Laws (labelled l)) (keeps : Keeps 
             }),
           )
       by_end false e =
-          let same : (g : ℕ) → g ≢ h → Same g v.real (with_log v.real new v.real.commits) = λ g ne. written_same h v.real v.seen shows (written old) old.failures (seats_after old.group old.phase old.seats) (group_in next old.group) next v.real.commits leaves g ne (not_others g (commit_in new) ne ∙ sym (not_others g (commit_in old) ne)) in
+          let same : (g : ℕ) → g ≢ h → Same g v.real (with_log v.real new v.real.commits) = λ g ne. written_same h v.real v.seen shows (written old) old.failures (seats_after old.group old.phase old.seats) (group_in next old.group) next v.real.commits leaves g ne somebody (not_others g (commit_in new) ne ∙ sym (not_others g (commit_in old) ne)) in
           let shown = written_shows h v.real v.seen shows (written old) old.failures (seats_after old.group old.phase old.seats) (group_in next old.group) next v.real.commits leaves whole runs_on (subst (λ (o : Option ℕ). CommitShows o next) (sym on.commits) (goes_on next e)) in (
             shown,
             same,
@@ -298,7 +301,7 @@ module _ (sizes : Super) (l : Labels) (laws : Laws (labelled l)) (keeps : Keeps 
         by false e Passes whole alike others = by_end e whole (record { alike = alike; own = others }) (is_open next) refl
         by false e (Fails after) whole alike others = (
           shows.tables,
-          λ g ne. written_same h v.real v.seen shows after (failed old after).failures (seats_at_fault old.group old.phase old.seats) old.group Halted v.real.commits (record { alike = alike; own = others }) g ne
+          λ g ne. written_same h v.real v.seen shows after (failed old after).failures (seats_at_fault old.group old.phase old.seats) old.group Halted v.real.commits (record { alike = alike; own = others }) g ne somebody
               (not_others g (Halted, old.group) ne ∙ sym (not_others g (commit_in old) ne)),
         )
 
@@ -396,6 +399,7 @@ module _ (l : Labels) (laws : Laws (labelled l)) (keeps : Keeps l) (h : ℕ) (lt
       buffers = λ b. refl;
       held = refl;
       member = slice_get-set_other before.members h other None ne;
+      group = λ b k m e. e;
       sizes = refl;
       taken = λ b. refl;
       commit = nothing ∙ sym (ap (λ (o : Option ℕ). if_kept o other (commit_in before)) (nobody_commits h v g shows member));

@@ -87,6 +87,7 @@ same_again h b v w s before after = record {
       ∙ sym (not_kept h (holder_of k (log_of v).seats) (buffer_in (log_of v) k) (empty_hand h k v before));
   held = after ∙ sym before;
   member = s.member;
+  group = s.group;
   sizes = s.sizes;
   taken = s.taken;
   commit = s.commit;

@@ -1,5 +1,5 @@
 -- A block put between two operations above, recorded, and a block of an inode given back: nothing of it is seen above.
-use Rattle.std.proofs.Common.{◌≡◌, ◌≢◌, ℕ, zero, suc, ◌-◌, ◌/◌, ◌%◌, ◌^◌, ◌<◌, ◌≤◌, true, false, List, [], ◌∷◌, length, length-set, Option, Some, None, bit_and, inr, refl, sym, ◌∙◌, ap, subst, arith, is_some}
+use Rattle.std.proofs.Common.{◌≡◌, ◌≢◌, ℕ, zero, suc, ◌-◌, ◌/◌, ◌%◌, ◌^◌, ◌<◌, ◌≤◌, true, false, List, [], ◌∷◌, length, length-set, Option, Some, None, bit_and, inl, inr, refl, sym, ◌∙◌, ap, subst, arith, is_some}
 use Rattle.std.specs.Prelude.{slice_index, slice_set}
 use Rattle.std.proofs.lemmas.Nat.{and_le_l}
 use Rattle.std.specs.Option.{option_map, option_and_then}
@@ -13,7 +13,7 @@ use Rattle.group_log.specs.Soundness.{IsHome}
 use Rattle.group_log.proofs.Seats.{seat_given_back}
 use Rattle.plain_tree.specs.Widths.{hart_count}
 use Rattle.plain_tree.specs.Tree.{put}
-use Rattle.tree_laws.proofs.Maps.{eq_self, put_same, put_other}
+use Rattle.tree_laws.proofs.Maps.{same_or, eq_self, put_same, put_other}
 use Rattle.image_tree.specs.Checks.{IsData}
 use Rattle.image_laws.specs.Puts.{IsBitPut, IsGivenBack}
 use Rattle.image_laws.proofs.HeldPuts.{before_bits, other_inode, given_back}
@@ -136,6 +136,14 @@ module _ (h n b : ℕ) (r : World) (g : above.World) (shows : Shows r g) (is : I
       clear = bit.bits b ∙ (rw (eq_self b) refl);
       free = owner_then b data_block ∙ put_same r.owner b 0;
       owned = λ c ne is_data mine. owner_then c (subst (λ (s : Super). IsData s c) (sym here) is_data) ∙ put_other r.owner b 0 c ne ∙ mine;
+      content = λ c is_data mine. elim (same_or c b) [
+        | inl e ↦
+            let freed : 0 ≡ n = sym (ap then_.owner e ∙ owner_then b data_block ∙ put_same r.owner b 0) ∙ mine in let low = range.0 in absurd (omega (arith, freed, low))
+        | inr ne ↦ (
+          sym (owner_then c (subst (λ (s : Super). IsData s c) (sym here) is_data) ∙ put_other r.owner b 0 c ne) ∙ mine,
+          bit.block.others c (λ e. let past = (subst (λ (s : Super). IsData s c) (sym here) is_data).0 in absurd (omega (arith, e, past))),
+        )
+      ];
       named = λ numbers named c is_data mine.
           given.named numbers named c is_data (sym (owner_then c (subst (λ (s : Super). IsData s c) bit.block.sizes is_data)) ∙ mine);
       buffers = λ k ne. same_view h k (log_of r) (log_of then_) ((put_hand h at bytes (log_of r).seats can.holder).others k ne) refl;
@@ -162,6 +170,11 @@ gave_then h n b v u w g shows mine p q =
       free = q.free;
       owned = λ c ne is_data own.
           q.owned c ne (subst (λ (s : Super). IsData s c) (sym p.sizes) is_data) (this.blocks c (subst (λ (s : Super). IsData s c) (sym old) is_data) own).1;
+      content = λ c is_data own.
+          let there : IsData (sizes_of (disk_of (log_of v))) c = subst (λ (s : Super). IsData s c) (sym old) is_data in
+          let now = q.content c (subst (λ (s : Super). IsData s c) (sym p.sizes) is_data) own in
+          let was = this.alone c there now.0 in
+          (was, now.1 ∙ (this.blocks c there was).0);
       named = λ numbers all.
           q.named numbers (λ c is_data own. let here = subst (λ (s : Super). IsData s c) this.sizes is_data in all c here (this.alone c here own));
       buffers = λ k ne. q.buffers k (λ e. ne (e ∙ ap (λ (s : Super). s.bmapstart) p.sizes)) ∙ p.buffers k ne;
@@ -236,7 +249,7 @@ module _ (sizes : Super) (l : Labels) (laws : Laws (labelled l)) (keeps : Keeps 
           let knows_there : Knows u.real = room.gives.lasts v.real u.real here.same (room.gives.fetched bitmap w.real v.real got.since knows) in
           subst (λ (q : ℕ × List ℕ). Putting n q.0 q.1 k j gs u) (λ z. (sym where_ z, without_bit b (bytes z)))
           (there (subst (λ (c : ℕ). holder_of c (log_of u.real).seats ≡ Some h) where_ buffer.holder) (ap (λ (o : Option (List ℕ)). is_some o) (subst (λ (c : ℕ). kept c (log_of u.real).seats ≡ Some old) where_ buffer.has))
-          (subst (λ (c : ℕ). has (log_of u.real).group c ≡ false → HasRoom (log_of u.real).members h) where_ (room.gives.room u.real knows_there)) since knows_there where_)
+          (subst (λ (c : ℕ). has (log_of u.real).group c ≡ false → HasRoom (log_of u.real).members h) where_ (room.gives.room u.real knows_there (sym (here.shows.members h lt) ∙ (changing gs u.seen here.stage here.inv).joined))) since knows_there where_)
         where
           there : (holder_of (log_of u.real).sizes.bmapstart (log_of u.real).seats ≡ Some h) → (is_some (kept (log_of u.real).sizes.bmapstart (log_of u.real).seats) ≡ true) → (has (log_of u.real).group (log_of u.real).sizes.bmapstart ≡ false → HasRoom (log_of u.real).members h)
               → SameBut h bitmap w.real u.real → Knows u.real → bitmap ≡ (log_of u.real).sizes.bmapstart

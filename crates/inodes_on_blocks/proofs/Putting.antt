@@ -29,6 +29,7 @@ use Rattle.inodes_on_blocks.specs.Shown.{Shows, if_joined, ghost_of}
 use Rattle.inodes_on_blocks.specs.Lowering.{Same, commit_in}
 use Rattle.inodes_on_blocks.specs.Recording.{CanPut, PutLeaves}
 use Rattle.inodes_on_blocks.proofs.Committing.{is_member, nobody_commits, commit_none}
+use Rattle.inodes_on_blocks.proofs.Groups.{put_grows}
 use Rattle.inodes_on_blocks.proofs.Hands.{same_view}
 use Rattle.inodes_on_blocks.proofs.Recorded.{whole_put, own_put, seen_then, good_then, bytes_then, members_joined}
 
@@ -111,6 +112,7 @@ module _ (h b i : ℕ) (bytes : List ℕ) (r : World) (g : above.World) (shows :
         buffers = λ c. same_view k c l now (λ z. (own z).buffers c) refl;
         held = ap (λ (x : Own). x.count) own;
         member = ap (λ (x : Own). x.member) own;
+        group = λ c j m e. put_grows l.group b c e;
         sizes = refl;
         taken = leaves.others k ne;
         commit = commit_none k r.commits (commit_in now) (commit_in l) (nobody_commits h r g shows (is_member l.members h can.joined));

@@ -44,7 +44,7 @@ loaded_seen Emptied n d e is q = absurd (none-some e q)
 some_loaded : (o : Had) (n : Option Node) (d : Dinode) → IsLoaded o n d → above_exec.is_dead n ≡ true → IsSome (record_had o)
 some_loaded Apart n d is dead = absurd is
 some_loaded (Has f l) n d is dead = refl
-some_loaded Emptied n d is dead = absurd (let q : false ≡ true = sym (ap above_exec.is_dead is) ∙ dead in cc)
+some_loaded Emptied n d is dead = absurd (let q : false ≡ true = sym (ap above_exec.is_dead is.0) ∙ dead in cc)
 
 untyped : (o : Had) (n : Option Node) (d : Dinode) → IsLoaded o n d → n ≡ None → record_had o ≡ None
 untyped Apart n d is e = refl

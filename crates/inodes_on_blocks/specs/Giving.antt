@@ -1,6 +1,7 @@
 -- Blocks recorded between two operations above, and blocks given back: where the hart that is changing their inode goes on.
 use Rattle.std.specs.Prelude.{◌≡◌, ◌≢◌, ℕ, suc, false, ◌<◌, ◌≤◌, ◌*◌, List, [], ◌∷◌, length, Some, None}
 use Rattle.fs_layout.specs.declared.superblock.Super.{Super}
+use Rattle.fs_layout.specs.Recovered.{recovered}
 use Rattle.buffer_cache.specs.Seats.{holder_of}
 use Rattle.plain_tree.specs.Widths.{hart_count}
 use Rattle.image_tree.specs.Checks.{IsData, is_marked}
@@ -48,6 +49,7 @@ pub record GaveBlock (h n b : ℕ) (v w : World) : Type 0 where
   pub clear : is_marked (disk_of (log_of w)) b ≡ false
   pub free : w.owner b ≡ 0
   pub owned : (c : ℕ) → c ≢ b → IsData (log_of v).sizes c → v.owner c ≡ n → w.owner c ≡ n
+  pub content : (c : ℕ) → IsData (log_of v).sizes c → w.owner c ≡ n → (v.owner c ≡ n) × (recovered (disk_of (log_of w)) c ≡ recovered (disk_of (log_of v)) c)
   pub named : (numbers : List ℕ) → NamesOwned (disk_of (log_of v)) v.owner n (b ∷ numbers) → NamesOwned (disk_of (log_of w)) w.owner n numbers
   pub buffers : (k : ℕ) → k ≢ (log_of v).sizes.bmapstart → if_kept (holder_of k (log_of w).seats) h (buffer_in (log_of w) k) ≡ if_kept (holder_of k (log_of v).seats) h (buffer_in (log_of v) k)
   pub back : holder_of (log_of v).sizes.bmapstart (log_of w).seats ≡ None
@@ -75,13 +77,14 @@ abbrev pub Owns : Super → (ℕ → ℕ) → ℕ → List ℕ → Type 0
 Owns sizes owner n [] = Unit {0}
 Owns sizes owner n (b ∷ bs) = (b ≢ 0 → IsData sizes b × (owner b ≡ n) × Avoids b bs) × Owns sizes owner n bs
 
--- All that it had but blocks of inode n: its other inodes, n's record, its buffers but the bitmap's.
+-- All that it had but blocks of inode n: its other inodes, n's record, the blocks that n has still, its buffers but the bitmap's.
 pub record GaveBlocks (h n : ℕ) (v w : World) : Type 0 where
   pub inodes : (i : ℕ) → i ≢ n → lock_holder i (tables_of v) ≡ Some h → KeepsInode h i v w
   pub lock : lock_holder n (tables_of w) ≡ Some h
   pub no_more : (i : ℕ) → lock_holder i (tables_of w) ≡ Some h → lock_holder i (tables_of v) ≡ Some h
   pub sizes : (log_of w).sizes ≡ (log_of v).sizes
   pub inode : inode_in (log_of w) n ≡ inode_in (log_of v) n
+  pub content : (c : ℕ) → IsData (log_of v).sizes c → w.owner c ≡ n → (v.owner c ≡ n) × (recovered (disk_of (log_of w)) c ≡ recovered (disk_of (log_of v)) c)
   pub buffers : (k : ℕ) → k ≢ (log_of v).sizes.bmapstart → if_kept (holder_of k (log_of w).seats) h (buffer_in (log_of w) k) ≡ if_kept (holder_of k (log_of v).seats) h (buffer_in (log_of v) k)
   pub held : in_hand h w ≡ in_hand h v
   pub taken : (c : ℕ) → if_kept (w.taken c) h (seen_of (log_of w) c) ≡ if_kept (v.taken c) h (seen_of (log_of v) c)

@@ -9,7 +9,7 @@ use Rattle.inode_machine.specs.World as above
 use Rattle.inode_machine.specs.Rules.{if_kept, Inv}
 use Rattle.inodes_on_blocks.specs.Below.{World, log_of, tables_of}
 use Rattle.inodes_on_blocks.specs.Shown.{Shows}
-use Rattle.inodes_on_blocks.specs.Lowering.{commit_in, KeepsInode, Kept, buffer_in}
+use Rattle.inodes_on_blocks.specs.Lowering.{commit_in, KeepsGroup, KeepsInode, Kept, buffer_in}
 
 -- how many it has
 abbrev pub in_hand : ℕ → World → ℕ
@@ -26,6 +26,7 @@ pub record SameBut (h b : ℕ) (v w : World) : Type 0 where
   pub no_more : (i : ℕ) → lock_holder i (tables_of w) ≡ Some h → lock_holder i (tables_of v) ≡ Some h
   pub buffers : (k : ℕ) → k ≢ b → if_kept (holder_of k (log_of w).seats) h (buffer_in (log_of w) k) ≡ if_kept (holder_of k (log_of v).seats) h (buffer_in (log_of v) k)
   pub member : slice_get (log_of w).members h ≡ slice_get (log_of v).members h
+  pub group : KeepsGroup h (log_of v) (log_of w)
   pub taken : (k : ℕ) → if_kept (w.taken k) h (seen_of (log_of w) k) ≡ if_kept (v.taken k) h (seen_of (log_of v) k)
   pub commit : if_kept w.commits h (commit_in (log_of w)) ≡ if_kept v.commits h (commit_in (log_of v))
   pub sizes : (log_of w).sizes ≡ (log_of v).sizes

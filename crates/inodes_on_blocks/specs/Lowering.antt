@@ -4,10 +4,12 @@ use Rattle.fs_layout.specs.declared.inode.Dinode.{Dinode}
 use Rattle.fs_layout.specs.declared.superblock.Super.{Super}
 use Rattle.buffer_cache.specs.Lists.{count_of}
 use Rattle.buffer_cache.specs.Seats.{is_held_by, holder_of, kept}
+use Rattle.group_log.specs.Group.{has}
 use Rattle.group_log.specs.declared.phase.Phase.{Phase}
 use Rattle.plain_tree.specs.declared.node.Node.{Node}
 use Rattle.plain_tree.specs.declared.node.Slot.{Slot as DirectorySlot}
 use Rattle.plain_tree.specs.Tree.{Name, same_name, all_slots}
+use Rattle.image_tree.specs.Inodes.{is_free}
 use Rattle.image_laws.specs.Holds.{HoldsAt}
 use Rattle.image_laws.specs.Puts.{IsUntouched}
 use Rattle.atomic_programs.specs.Logic.{Machine}
@@ -42,6 +44,10 @@ buffer_in l b = (seen_of l b, is_some (kept b l.seats))
 abbrev pub commit_in : LogPart → Phase × List ℕ
 commit_in l = (l.phase, l.group)
 
+-- while the hart is in a transaction the group keeps what it has
+abbrev pub KeepsGroup : ℕ → LogPart → LogPart → Type 0
+KeepsGroup h l m = (b k : ℕ) → slice_get l.members h ≡ Some (Some k) → has l.group b ≡ true → has m.group b ≡ true
+
 -- nothing of hart h's changed: its locks, its buffers, its transaction, its commit
 pub record Same (h : ℕ) (v w : World) : Type 0 where
   pub inodes : (i : ℕ) → lock_holder i (tables_of v) ≡ Some h → KeepsInode h i v w
@@ -49,6 +55,7 @@ pub record Same (h : ℕ) (v w : World) : Type 0 where
   pub buffers : (b : ℕ) → if_kept (holder_of b (log_of w).seats) h (buffer_in (log_of w) b) ≡ if_kept (holder_of b (log_of v).seats) h (buffer_in (log_of v) b)
   pub held : count_of (is_held_by h) (log_of w).seats ≡ count_of (is_held_by h) (log_of v).seats
   pub member : slice_get (log_of w).members h ≡ slice_get (log_of v).members h
+  pub group : KeepsGroup h (log_of v) (log_of w)
   pub sizes : (log_of w).sizes ≡ (log_of v).sizes
   -- what it has taken
   pub taken : (b : ℕ) → if_kept (w.taken b) h (seen_of (log_of w) b) ≡ if_kept (v.taken b) h (seen_of (log_of v) b)
@@ -105,7 +112,7 @@ IsKnown (Finds e s) v = IsFirstNamed (all_slots v) e s
 abbrev pub IsLoaded : Had → Option Node → Dinode → Type 0
 IsLoaded Apart v d = ⊥
 IsLoaded (Has e l) v d = (e ≡ d) × (v ≢ None) × IsKnown l v
-IsLoaded Emptied v d = v ≡ None
+IsLoaded Emptied v d = (v ≡ None) × (is_free d ≡ true)
 
 -- an inode whose lock it has: it keeps that above, and the blocks hold what that is above
 pub record InHand (h i : ℕ) (had : Had) (r : World) (w : above.World) : Type 0 where

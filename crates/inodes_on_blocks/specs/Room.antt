@@ -1,5 +1,5 @@
 -- That a hart may record a block, where its transaction has room for it.
-use Rattle.std.specs.Prelude.{◌≡◌, ℕ, suc, ◌+◌, ◌<◌, ◌≤◌, false, [], Option, Some, slice_get}
+use Rattle.std.specs.Prelude.{◌≡◌, ℕ, suc, ◌+◌, ◌<◌, ◌≤◌, true, false, [], Option, Some, slice_get}
 use Rattle.fs_layout.specs.declared.superblock.Super.{Super}
 use Rattle.group_log.specs.Group.{has, HasRoom}
 use Rattle.group_log.specs.declared.limits.TheConstants.{BLOCKS_OF_A_TRANSACTION}
@@ -8,8 +8,11 @@ use Rattle.atomic_programs.specs.Logic.{Wp}
 use Rattle.atomic_programs.specs.Prog.{once}
 use Rattle.atomic_programs.specs.Joined.{Both, joined, Below}
 use Rattle.inode_machine.specs.World as above
+use Rattle.inode_machine.specs.Budget.{Spent, size, spent_after, most_recorded}
 use Rattle.inode_machine.specs.Rules.{more}
+use Rattle.inodes_on_blocks.specs.Accounts.{Accounts}
 use Rattle.inodes_on_blocks.specs.Below.{World, log_of}
+use Rattle.inodes_on_blocks.specs.OnBlocks.{is_joined}
 use Rattle.inodes_on_blocks.specs.Lowering.{Same, Carry, Stands, below}
 use Rattle.inodes_on_blocks.specs.Holding.{SameBut}
 use Rattle.inodes_on_blocks.specs.Handlers.{Handler}
@@ -19,7 +22,7 @@ use Rattle.inodes_on_blocks.specs.Acting.{whole, IsDone, Answers}
 pub record GivesRoom (h b : ℕ) (Knows : World → Type 0) : Type 0 where
   pub lasts : (v w : World) → Same h v w → Knows v → Knows w
   pub fetched : (k : ℕ) (v w : World) → SameBut h k v w → Knows v → Knows w
-  pub room : (v : World) → Knows v → has (log_of v).group b ≡ false → HasRoom (log_of v).members h
+  pub room : (v : World) → Knows v → is_joined (log_of v).members h ≡ true → has (log_of v).group b ≡ false → HasRoom (log_of v).members h
 
 -- it may record so many blocks more, whichever they are
 pub record MayRecord (h more : ℕ) (w : World) : Type 0 where
@@ -27,9 +30,14 @@ pub record MayRecord (h more : ℕ) (w : World) : Type 0 where
   pub member : slice_get (log_of w).members h ≡ Some (Some recorded)
   pub fits : recorded + more ≤ BLOCKS_OF_A_TRANSACTION
 
--- An operation's program below does it, as DoesItAt says, where the hart's transaction may record so many blocks more.
-abbrev pub DoesItRecording : ℕ → Super → (op : above.Op) → Handler op → Type 0
-DoesItRecording blocks sizes op p =
-    (h : ℕ) (m : above.Answer op → Option above.Mark) (c : Carry) (w : Both World above.World) → h < hart_count
-    → Wp whole h (IsDone op) (Answers op) (once op m) (suc (more op)) [] w.seen → Stands sizes h w.real w.seen c → MayRecord h blocks w.real
+-- its transaction has added no more to the group than this, on a disk of these sizes
+abbrev pub HasSpent : Super → ℕ → Spent → World → Type 0
+HasSpent sizes h s w = ((log_of w).sizes ≡ sizes) × Accounts h (log_of w) s
+
+-- An operation's program below does it, as DoesItAt says, where the hart's transaction has spent no more than s, and s with what the operation spends is no more
+-- than a transaction may.
+abbrev pub DoesItSpending : Super → (op : above.Op) → Handler op → Type 0
+DoesItSpending sizes op p =
+    (h : ℕ) (s : Spent) (m : above.Answer op → Option above.Mark) (c : Carry) (w : Both World above.World) → h < hart_count → size (spent_after op s) ≤ most_recorded
+    → Wp whole h (IsDone op) (Answers op) (once op m) (suc (more op)) [] w.seen → Stands sizes h w.real w.seen c → Accounts h (log_of w.real) s
     → Wp (joined whole (below sizes)) h (IsDone op) (Below whole (below sizes) h (Answers op)) (p c m) (suc (more op)) [] w

@@ -11,19 +11,20 @@ use Rattle.fs_machine.specs.Programs.{fetch}
 use Rattle.inode_table.specs.Programs.{no_record, inode_block, with_dinode}
 use Rattle.inode_machine.specs.World as above
 use Rattle.inode_machine.specs.World.Op.{Store}
-use Rattle.inodes_on_blocks.specs.Lowering.{NothingMore, Has, Carry, record_had}
+use Rattle.inodes_on_blocks.specs.Lowering.{NothingMore, Had, Has, Carry, record_had}
 use Rattle.inodes_on_blocks.specs.Handlers.{P, Handler, acts}
 
 -- the record that the hart has of an inode
 abbrev pub record_in : Carry → ℕ → Dinode
 record_in c n = unwrap_or (record_had (c n)) no_record
 
--- The inode goes into its block as this record, which the hart has of it from then on; there the operation acts.
-abbrev pub put_record : (op : above.Op) → (above.Answer op → Option above.Mark) → above.Answer op → (b n : ℕ) → Dinode → Carry → List ℕ → P (Handed (above.Answer op) Carry)
-put_record op m answer b n d c block =
-    Do (steps.Put b (Some (with_dinode n d block))) (λ a. acts op above.Room m) (λ a. Ret (record { answer = answer; carry = put c n (Has d NothingMore) }))
+-- The inode goes into its block as this record, and the hart has `had` of it from then on; there the operation acts.
+abbrev pub put_record : (op : above.Op) → (above.Answer op → Option above.Mark) → above.Answer op → (b n : ℕ) → Dinode → (had : Had) → Carry → List ℕ → P (Handed (above.Answer op) Carry)
+put_record op m answer b n d had c block =
+    Do (steps.Put b (Some (with_dinode n d block))) (λ a. acts op above.Room m) (λ a. Ret (record { answer = answer; carry = put c n had }))
 
 -- an inode's count is put
 abbrev pub store : (sizes : Super) (n count : ℕ) → Handler (Store n count)
 store sizes n count c m =
-    bind (fetch (inode_block sizes.inodestart n)) (put_record (Store n count) m tt (inode_block sizes.inodestart n) n (record (record_in c n) { nlink = pos count }) c)
+    let d : Dinode = record (record_in c n) { nlink = pos count } in
+    bind (fetch (inode_block sizes.inodestart n)) (put_record (Store n count) m tt (inode_block sizes.inodestart n) n d (Has d NothingMore) c)

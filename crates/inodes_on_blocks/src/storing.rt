@@ -1,13 +1,24 @@
-//! Operations on whole inodes that put records, as programs below: each acts at one moment, whatever the other harts do.
+//! Operations on whole inodes that put records, as programs below: each acts at one moment, whatever the other harts do, where the
+//! hart's transaction has room for what they record.
 
 ghost use Rattle.std.specs.Prelude.{ℕ};
 ghost use Rattle.fs_layout.specs.declared.superblock.Super.{Super};
-ghost use Rattle.inode_machine.specs.World.Op.{Store};
+ghost use Rattle.inode_machine.specs.World.Op.{Store, Empty, Free};
+ghost use Rattle.inodes_on_blocks.specs.Emptying.{empty, free};
 ghost use Rattle.inodes_on_blocks.specs.Storing.{store};
-ghost use Rattle.inodes_on_blocks.specs.Room.{DoesItRecording};
+ghost use Rattle.inodes_on_blocks.specs.Room.{DoesItSpending};
 
-/// A count that is stored acts where the inode's block is put back, with the record in it and the neighbours as they were. It
-/// records that block.
+/// A count that is stored acts where the inode's block is put back, with the record in it and the neighbours as they were.
 pub fn stores_act_once()
-    ensures { (sizes : Super) (n count : ℕ) → DoesItRecording 1 sizes (Store n count) (store sizes n count) }
+    ensures { (sizes : Super) (n count : ℕ) → DoesItSpending sizes (Store n count) (store sizes n count) }
+{}
+
+/// A file's content given back acts where its record is put without it, after all its blocks were.
+pub fn empties_act_once()
+    ensures { (sizes : Super) (n : ℕ) → DoesItSpending sizes (Empty n) (empty sizes n) }
+{}
+
+/// An inode freed acts where its record is put without a type, after it was put without content.
+pub fn frees_act_once()
+    ensures { (sizes : Super) (n : ℕ) → DoesItSpending sizes (Free n) (free sizes n) }
 {}

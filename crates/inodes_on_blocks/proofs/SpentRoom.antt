@@ -1,0 +1,56 @@
+-- What is known of a transaction by what its call may have spent gives room for each block of that, and lasts.
+use Rattle.std.proofs.Common.{◌≡◌, inl, inr, ℕ, ◌≤◌, ◌||◌, true, Bool, List, [], ◌∷◌, refl, sym, ◌∙◌, ap, subst, if◌then◌else◌}
+use Rattle.fs_layout.specs.declared.superblock.Super.{Super}
+use Rattle.tree_laws.proofs.Maps.{eq_self}
+use Rattle.group_log.proofs.Seats.{pick}
+use Rattle.inode_table.specs.Programs.{inode_block}
+use Rattle.inode_machine.specs.Budget.{Spent, size, with_number, with_record, with_bitmap, most_recorded}
+use Rattle.inode_machine.specs.Budget as budget
+use Rattle.inodes_on_blocks.specs.Accounts.{Accounts, IsSpent, LeavesGroup}
+use Rattle.inodes_on_blocks.specs.Below.{World, log_of}
+use Rattle.inodes_on_blocks.specs.Giving.{KeepsRoom}
+use Rattle.inodes_on_blocks.specs.Holding.{SameBut}
+use Rattle.inodes_on_blocks.specs.Lowering.{Same}
+use Rattle.inodes_on_blocks.specs.Room.{HasSpent}
+use Rattle.inodes_on_blocks.proofs.Accounts.{transactions_have_room, spent_put}
+use Rattle.inodes_on_blocks.proofs.Committing.{is_member}
+use Rattle.inodes_on_blocks.proofs.Groups.{member_at}
+
+pub spent_gives : (sizes : Super) (h b : ℕ) (s : Spent) → IsSpent sizes s b → size s ≤ most_recorded → KeepsRoom h b (HasSpent sizes h s) (HasSpent sizes h s)
+spent_gives sizes h b s spent few = record {
+  gives = record {
+    lasts = λ v w same known. (same.sizes ∙ known.0, (transactions_have_room h (log_of v)).lasts (log_of w) s (left v w same) known.1);
+    fetched = λ k v w same known. (same.sizes ∙ known.0, (transactions_have_room h (log_of v)).lasts (log_of w) s (left_but k v w same) known.1);
+    room = λ v known joined. ((transactions_have_room h (log_of v)).said b [] s (is_member (log_of v).members h joined) known.1 few (here v known.0)).0;
+  };
+  put = λ bytes r known. (known.0, spent_put h (log_of r) b bytes s known.1 (here r known.0));
+}
+  where
+    here : (v : World) → (log_of v).sizes ≡ sizes → IsSpent (log_of v).sizes s b
+    here v at = subst (λ (z : Super). IsSpent z s b) (sym at) spent
+
+    left : (v w : World) → Same h v w → LeavesGroup h (log_of v) (log_of w)
+    left v w same = record { member = same.member; sizes = same.sizes; group = λ c m e. let at = member_at (log_of v).members h m in same.group c at.0 at.1 e }
+
+    left_but : (k : ℕ) (v w : World) → SameBut h k v w → LeavesGroup h (log_of v) (log_of w)
+    left_but k v w same = record { member = same.member; sizes = same.sizes; group = λ c m e. let at = member_at (log_of v).members h m in same.group c at.0 at.1 e }
+
+-- ---- what an operation on an inode spends
+
+has_number : (ks : List ℕ) (n : ℕ) → budget.has (with_number ks n) n ≡ true
+has_number ks n = pick (budget.has ks n) (λ t. budget.has (if t then ks else n ∷ ks) n ≡ true) (λ e. e) (λ _. ap (λ (t : Bool). t || budget.has ks n) (eq_self n))
+
+-- the inode's block
+pub record_spent : (sizes : Super) (n : ℕ) (s : Spent) → IsSpent sizes (with_record n s) (inode_block sizes.inodestart n)
+record_spent sizes n s = inl (n, has_number s.records n, refl)
+
+-- and the bitmap
+pub bitmap_spent : (sizes : Super) (n : ℕ) (s : Spent) → IsSpent sizes (with_record n (with_bitmap s)) sizes.bmapstart
+bitmap_spent sizes n s = inr (refl, refl)
+
+-- what was spent before is no more
+pub record_more : (h n : ℕ) (s : Spent) (w : World) → Accounts h (log_of w) s → Accounts h (log_of w) (with_record n s)
+record_more h n s w known = (transactions_have_room h (log_of w)).record_more n s known
+
+pub both_more : (h n : ℕ) (s : Spent) (w : World) → Accounts h (log_of w) s → Accounts h (log_of w) (with_record n (with_bitmap s))
+both_more h n s w known = record_more h n (with_bitmap s) w ((transactions_have_room h (log_of w)).bitmap_more s known)
