@@ -1,355 +1,51 @@
--- All calls of a run as one list of tree steps: each event is one of moves on the tree.
-use Rattle.std.proofs.Common.{◌≡◌, ◌≢◌, ◌⊎◌, inl, inr, ℕ, suc, ◌<◌, ◌≤◌, Bool, true, false, List, [], ◌∷◌, ◌++◌, map, length, Option, Some, None, refl, sym, ◌∙◌, ap, subst, arith, append_assoc}
-use Rattle.plain_tree.specs.declared.answer.Reply.{Reply}
+-- All calls of a run as one list of tree steps.
+use Rattle.std.proofs.Common.{◌≡◌, ◌⊎◌, inl, inr, ℕ, List, [], ◌∷◌, Option, Some, None, refl, subst}
 use Rattle.plain_tree.specs.declared.call.Call.{Call}
-use Rattle.plain_tree.specs.Calls.{Act}
-use Rattle.plain_tree.specs.Explains.{Shown, Chain, Explains, trace_of}
 use Rattle.plain_tree.specs.TreeData.{TreeData}
-use Rattle.plain_tree.specs.Tree.{Tree, put, tree_of}
-use Rattle.plain_tree.specs.Widths.{hart_count}
+use Rattle.plain_tree.specs.Tree.{Tree}
 use Rattle.tree_laws.specs.WellFormed.{IsWellFormed}
-use Rattle.tree_laws.proofs.Maps.{eq_self, eq_not, put_same, put_other}
 use Rattle.tree_laws.proofs.Nodes.{settled_well}
-use Rattle.tree_moves.specs.Moves.{Deed, Move, Stage, Step as MoveStep, IsNext, MayEnd, Takes, Written, after, begins, told_by}
-use Rattle.tree_moves.specs.History.{starts, passes}
-use Rattle.tree_moves.specs.History.Standing.{Free, Busy}
-use Rattle.tree_moves.specs.Runs.{World as Told, Event as Turn, Happens, BeginsNext, PlaysAny, Runs as Goings, NoneClimbs as Calm, Alone as Lone, IsStartBy, climbing, opened, shown_of, stepped}
-use Rattle.tree_moves.specs.Runs.Event.{Starts, Steps, Nothing}
-use Rattle.tree_moves.specs.Laws.{Tells}
-use Rattle.tree_moves.proofs.Appended.{runs_more, runs_none}
-use Rattle.tree_moves.proofs.History.{NeverClimbs, IsHart, apart_alone, apart_calm, opened_ok, run_explained, run_ok, starts_alone, starts_calm, AllMayStart, Apart}
-use Rattle.tree_moves.proofs.Told.{event_tells, played_end, played_next, told_more}
-use Rattle.atomic_programs.specs.Prog.{Ret, Do, Did, Waits, Ran, Stops, asks, OfNext}
-use Rattle.atomic_programs.specs.Logic.{Answered, Goes, Good, Grown, PlacesOne, Wp, onto, oldest_first, own}
-use Rattle.atomic_programs.specs.Calls.{Began, Begins, Begun, Came, Refuses, busy_in, Ends, Event, Start, Step, HonestStep, IsHonest, Run, Sound, State, AllHonest, all_told, begun, fresh, makes, moved, next, run, start_run, step_prog, step_run, step_unless, told, tried, unchanged}
-use Rattle.atomic_programs.proofs.Beginnings.{append_nil, oldest_first_more}
-use Rattle.atomic_programs.proofs.Explains.{Keeps, changed_tells, inv_of, sound_keeps}
-use Rattle.atomic_programs.proofs.Leading.{leads}
-use Rattle.atomic_programs.proofs.Reached.{sound_fresh, sound_run}
-use Rattle.inode_machine.specs.World.{Op, Answer, Mark, Outside, World, stage_of}
+use Rattle.tree_moves.specs.Moves.{Step as MoveStep}
+use Rattle.atomic_programs.specs.Calls.{Event}
+use Rattle.inode_machine.specs.World.{Op, Answer, Mark, Outside, World}
 use Rattle.inode_machine.specs.World.Mark.{Makes, Frees, Fills, Mends, Spoils}
 use Rattle.inode_machine.specs.Marks.{places}
-use Rattle.inode_machine.specs.Parts.{P}
-use Rattle.inode_machine.specs.Rules.{Inv, machine}
-use Rattle.inode_machine.specs.Programs.{program}
-use Rattle.inode_machine.specs.Theory.{covered_calls, is_covered, Refusal}
-use Rattle.inode_machine.specs.Histories.{Alone, CallsHaveOneHistory, NoneClimbs, OneHartHasOneHistory, OneHistory, Runs, StartsBy, climbs_at, shown_by, shows}
+use Rattle.inode_machine.specs.MoveCalls.{IsMoving, RunsFrom}
+use Rattle.inode_machine.specs.Theory.{is_covered}
+use Rattle.inode_machine.specs.Histories.{covered, CallsHaveOneHistory, OneHartHasOneHistory, Runs}
 use Rattle.inode_machine.proofs.Covered.{lawful}
-use Rattle.inode_machine.proofs.Starts.{start_is, Starts as Begin}
+use Rattle.inode_machine.proofs.MoveCalls.{moves_history, moves_alone}
+use Rattle.inode_machine.proofs.Starts.{start_is}
 
--- The calls of a state as they stand beside a history of moves.
-record Beside (s : State covered_calls) (t : Told) : Type 0 where
-  pub stage : t.stage ≡ stage_of s.world
-  pub free : (h : ℕ) → s.running h ≡ None → t.history.calls h ≡ Free
-  pub busy : (h : ℕ) (r : Run covered_calls) → s.running h ≡ Some r → (id : ℕ) × (t.history.calls h ≡ Busy id r.call (told_by [] (oldest_first r.done)))
-  pub harts : (h : ℕ) (r : Run covered_calls) → s.running h ≡ Some r → h < hart_count
+-- an operation places nothing, or one move of its hart
+pub places_one : (h : ℕ) (op : Op) (a : Answer op) (m : Option Mark) (w : World) → (places h op a m w ≡ []) ⊎ ((e : MoveStep) × (places h op a m w ≡ (h, e) ∷ []))
+places_one h op a None w = inl refl
+places_one h op a (Some (Makes v)) w = inr (_, refl)
+places_one h op a (Some (Frees n)) w = inl refl
+places_one h op a (Some Fills) w = inl refl
+places_one h op a (Some Mends) w = inl refl
+places_one h op a (Some (Spoils s)) w = inl refl
 
--- An event that led to s2, as one of moves.
-record Turns (e : Event Call Outside) (came : Came covered_calls) (s2 : State covered_calls) (t : Told) : Type 0 where
-  pub event : Turn
-  pub then_ : Told
-  pub happens : Happens t event then_
-  pub beside : Beside s2 then_
-  pub shown : shown_of event ≡ shown_by e came
-  pub calm : climbs_at e ≡ false → climbing event ≡ false
-  pub alone : (h : ℕ) → StartsBy h e → IsStartBy h event
-
-nothing_turns : (e : Event Call Outside) (came : Came covered_calls) (s s2 : State covered_calls) (t : Told) → Beside s t → s2.running ≡ s.running → stage_of s2.world ≡ stage_of s.world → Shown.Other ≡ shown_by e came → Turns e came s2 t
-nothing_turns e came s s2 t b same stage shown = record {
-  event = Nothing;
-  then_ = record { stage = t.stage; history = passes t.history };
-  happens = refl;
-  beside = record {
-    stage = b.stage ∙ sym stage;
-    free = λ h q. b.free h (sym (ap (λ (f : ℕ → Option (Run covered_calls)). f h) same) ∙ q);
-    busy = λ h r q. b.busy h r (sym (ap (λ (f : ℕ → Option (Run covered_calls)). f h) same) ∙ q);
-    harts = λ h r q. b.harts h r (sym (ap (λ (f : ℕ → Option (Run covered_calls)). f h) same) ∙ q);
-  };
-  shown = shown;
-  calm = λ q. refl;
-  alone = λ h q. tt;
+moving : IsMoving covered
+moving = record {
+  lawful = lawful;
+  one = places_one;
+  begins = λ h call busy w u e. let s = start_is is_covered h call busy w u e in (s.hart, s.stage);
+  rests = λ h w i. i.walk;
 }
 
--- Starts.
-
-begun_turns : (h : ℕ) (call : Call) (s : State covered_calls) (t : Told) → Beside s t → s.running h ≡ None → (o : Began Refusal World) → covered_calls.start h call (busy_in covered_calls s) s.world ≡ o → Turns (Start h call) (begun covered_calls h call s o).came (begun covered_calls h call s o).after t
-begun_turns h call s t b none (Refuses why) q = nothing_turns (Start h call) _ s (unchanged covered_calls s) t b refl refl refl
-begun_turns h call s t b none (Begins u) q = record {
-  event = Starts h call;
-  then_ = record { stage = t.stage; history = starts t.history h call };
-  happens = record { hart = begins.hart; free = b.free h none; world = refl };
-  beside = record {
-    stage = b.stage ∙ sym begins.stage;
-    free = λ j e. elim (changed_tells s.running h (Some new) j None e) [ inl x ↦ absurd (let a = x.1 in cc (a)) | inr x ↦ put_other t.history.calls h (Busy (length t.history.trace.calls) call []) j x.0 ∙ b.free j x.1 ];
-    busy = λ j r e. elim (changed_tells s.running h (Some new) j (Some r) e) [
-      | inl x ↦ (let a : new ≡ r = run_is new r x.1 in subst (λ (z : Run covered_calls). (id : ℕ) × (put t.history.calls h (Busy (length t.history.trace.calls) call []) j ≡ Busy id z.call (told_by [] (oldest_first z.done)))) a (length t.history.trace.calls, ap (put t.history.calls h (Busy (length t.history.trace.calls) call [])) x.0 ∙ put_same t.history.calls h (Busy (length t.history.trace.calls) call [])))
-      | inr x ↦ (let a = b.busy j r x.1 in (a.0, put_other t.history.calls h (Busy (length t.history.trace.calls) call []) j x.0 ∙ a.1))
-    ];
-    harts = λ j r e. elim (changed_tells s.running h (Some new) j (Some r) e) [ inl x ↦ subst (λ (z : ℕ). z < hart_count) (sym x.0) begins.hart | inr x ↦ b.harts j r x.1 ];
-  };
-  shown = refl;
-  calm = λ z. z;
-  alone = λ j z. z;
+runs_from : (base : TreeData) (w : World) (events : List (Event Call Outside)) → Runs base w events → RunsFrom covered base w events
+runs_from base w events r = record {
+  holds = r.holds;
+  idle = r.idle;
+  tree = r.tree;
+  well = subst (λ (z : Tree). IsWellFormed z) r.tree (settled_well w.all r.holds.well);
+  honest = r.honest;
+  clean = r.clean;
 }
-  where
-    begins : Begin is_covered h call (busy_in covered_calls s) s.world u
-    begins = start_is is_covered h call (busy_in covered_calls s) s.world u q
-
-    new : Run covered_calls
-    new = record { call = call; start = s.now; prog = program call; count = 0; done = [] }
-
-    run_is : (x y : Run covered_calls) → ◌≡◌ {A = Option (Run covered_calls)} (Some x) (Some y) → x ≡ y
-    run_is x y e = cc
-
-start_turns : (h : ℕ) (call : Call) (s : State covered_calls) (t : Told) → Beside s t → (x : Option (Run covered_calls)) → s.running h ≡ x → Turns (Start h call) (start_run covered_calls h call s x).came (start_run covered_calls h call s x).after t
-start_turns h call s t b (Some r) q = nothing_turns (Start h call) _ s (unchanged covered_calls s) t b refl refl refl
-start_turns h call s t b None q = begun_turns h call s t b q (covered_calls.start h call (busy_in covered_calls s) s.world) refl
-
--- Steps.
-
--- a step places nothing, or one move of its hart
-abbrev PlacesAny : ℕ → List (ℕ × MoveStep) → Type 0
-PlacesAny h ps = (ps ≡ []) ⊎ ((e : MoveStep) × (ps ≡ (h, e) ∷ []))
-
-places_any : (h : ℕ) (op : Op) (a : Answer op) (m : Option Mark) (w : World) → PlacesAny h (places h op a m w)
-places_any h op a None w = inl refl
-places_any h op a (Some (Makes v)) w = inr (_, refl)
-places_any h op a (Some (Frees n)) w = inl refl
-places_any h op a (Some Fills) w = inl refl
-places_any h op a (Some Mends) w = inl refl
-places_any h op a (Some (Spoils s)) w = inl refl
-
-places_one : PlacesOne machine
-places_one h op a m w inv = at (places h op a m w) (places_any h op a m w)
-  where
-    at : (ps : List (ℕ × MoveStep)) → PlacesAny h ps → length (own h ps) ≤ 1
-    at ps (inl e) = subst (λ (z : List (ℕ × MoveStep)). length (own h z) ≤ 1) (sym e) (omega arith)
-    at ps (inr e) = subst (λ (z : List (ℕ × MoveStep)). length (own h z) ≤ 1) (sym e.1) (rw (eq_self h) (omega arith))
-
--- another hart's call is told nothing by it
-told_other : (h j : ℕ) (ps : List (ℕ × MoveStep)) → PlacesAny h ps → j ≢ h → (o : Option (Run covered_calls)) → told covered_calls (own j ps) o ≡ o
-told_other h j ps (inl e) ne o = ap (λ (z : List (ℕ × MoveStep)). told covered_calls (own j z) o) e ∙ same o
-  where
-    same : (o : Option (Run covered_calls)) → told covered_calls [] o ≡ o
-    same None = refl
-    same (Some r) = refl
-told_other h j ps (inr e) ne o = ap (λ (z : List (ℕ × MoveStep)). told covered_calls (own j z) o) e.1 ∙ rw (eq_not h j (λ q. ne (sym q))) (same o)
-  where
-    same : (o : Option (Run covered_calls)) → told covered_calls [] o ≡ o
-    same None = refl
-    same (Some r) = refl
-
--- What a step of call r makes of the moves.
-record OneMove (h : ℕ) (r : Run covered_calls) (ps : List (ℕ × MoveStep)) (w : World) (t : Told) : Type 0 where
-  pub move : Option Move
-  pub deed : Option Deed
-  pub plays : PlaysAny t.stage h move deed (stage_of w)
-  pub next : BeginsNext r.call (told_by [] (oldest_first r.done)) move
-  pub acts : after deed (told_by [] (oldest_first r.done)) ≡ told_by [] (oldest_first (onto (own h ps) r.done))
-
-one_move : (h : ℕ) (s : State covered_calls) (r : Run covered_calls) (ps : List (ℕ × MoveStep)) (w : World) (t : Told) → t.stage ≡ stage_of s.world → PlacesAny h ps → Goes machine (stage_of s.world) ps (stage_of w) → Grown (Begun covered_calls r.call) (own h ps) r.done → OneMove h r ps w t
-one_move h s r ps w t stage (inl e) goes grown = record {
-  move = None;
-  deed = None;
-  plays = (refl, subst (λ (z : List (ℕ × MoveStep)). Goes machine (stage_of s.world) z (stage_of w)) e goes ∙ sym stage);
-  next = tt;
-  acts = (λ z. told_by [] (oldest_first (onto (own h (sym e z)) r.done)));
-}
-one_move h s r ps w t stage (inr p) goes grown = record {
-  move = Some e.move;
-  deed = e.told;
-  plays = subst (λ (z : Stage). Takes z h e (stage_of w)) (sym stage) (subst (λ (z : Stage). Takes (stage_of s.world) h e z) (sym went.2) went.1);
-  next = begins_next;
-  acts = sym (told_more [] (oldest_first r.done) e) ∙ ap (told_by []) (sym (oldest_first_more e r.done)) ∙ (λ z. told_by [] (oldest_first (onto (sym mine z) r.done)));
-}
-  where
-    e : MoveStep
-    e = p.0
-
-    mine : own h ps ≡ e ∷ []
-    mine = ap (own h) p.1 ∙ rw (eq_self h) refl
-
-    went : (mid : Stage) × Takes (stage_of s.world) h e mid × (stage_of w ≡ mid)
-    went = subst (λ (z : List (ℕ × MoveStep)). Goes machine (stage_of s.world) z (stage_of w)) p.1 goes
-
-    begins_next : IsNext r.call (told_by [] (oldest_first r.done)) (begins e.move)
-    begins_next = elim (subst (λ (z : List MoveStep). Grown (Begun covered_calls r.call) z r.done) mine grown) [
-      | inl n ↦ absurd (let x : ◌≡◌ {A = List MoveStep} (e ∷ []) [] = n in cc (x))
-      | inr b ↦ played_next r.call [] (oldest_first r.done) b.0 e b.1 (subst (λ (z : List MoveStep). Written r.call z b.1) (ap (λ (z : List MoveStep). z ++ b.0) (oldest_first_more e r.done) ∙ append_assoc (oldest_first r.done) (e ∷ []) b.0) b.2)
-    ]
-
--- where the program ends, the call's moves are written, and its hart walks no more
-abbrev EndsSo : ℕ → Run covered_calls → List (ℕ × MoveStep) → P Reply → World → Type 0
-EndsSo h r ps (Ret reply) w = Written r.call (oldest_first (onto (own h ps) r.done)) reply × ((w.harts h).walk ≡ None)
-EndsSo h r ps (Do op m k) w = Unit {0}
-
-moved_turns : (h : ℕ) (x : Outside) (s : State covered_calls) (t : Told) (r : Run covered_calls) (did : Answered machine) (ps : List (ℕ × MoveStep)) (p : P Reply) (w : World) → Beside s t → s.running h ≡ Some r → PlacesAny h ps → Goes machine (stage_of s.world) ps (stage_of w) → Grown (Begun covered_calls r.call) (own h ps) r.done → EndsSo h r ps p w
-    → Turns (Step h x) (moved covered_calls h s r did ps p w).came (moved covered_calls h s r did ps p w).after t
-moved_turns h x s t r did ps (Do op m k) w b is any goes grown end = record {
-  event = Steps h v.move None;
-  then_ = stepped t h v.deed (stage_of w) None;
-  happens = record { hart = b.harts h r is; id = (b.busy h r is).0; c = r.call; acts = told_by [] (oldest_first r.done); busy = (b.busy h r is).1; next = v.next; told = v.deed; stage = stage_of w; plays = v.plays; reply = tt; world = refl };
-  beside = record {
-    stage = refl;
-    free = λ j e. elim (changed_tells (all_told covered_calls ps s.running) h (Some new) j None e) [ inl y ↦ absurd (let a = y.1 in cc (a)) | inr y ↦ tells.others None j y.0 ∙ b.free j (sym (told_other h j ps any y.0 (s.running j)) ∙ y.1) ];
-    busy = λ j q e. elim (changed_tells (all_told covered_calls ps s.running) h (Some new) j (Some q) e) [
-      | inl y ↦ (let a : new ≡ q = run_is new q y.1 in subst (λ (z : Run covered_calls). (id : ℕ) × ((stepped t h v.deed (stage_of w) None).history.calls j ≡ Busy id z.call (told_by [] (oldest_first z.done)))) a ((b.busy h r is).0, ap (stepped t h v.deed (stage_of w) None).history.calls y.0 ∙ tells.goes_on ∙ (λ z. Busy (b.busy h r is).0 r.call (v.acts z))))
-      | inr y ↦ (let a = b.busy j q (sym (told_other h j ps any y.0 (s.running j)) ∙ y.1) in (a.0, tells.others None j y.0 ∙ a.1))
-    ];
-    harts = λ j q e. elim (changed_tells (all_told covered_calls ps s.running) h (Some new) j (Some q) e) [ inl y ↦ subst (λ (z : ℕ). z < hart_count) (sym y.0) (b.harts h r is) | inr y ↦ b.harts j q (sym (told_other h j ps any y.0 (s.running j)) ∙ y.1) ];
-  };
-  shown = refl;
-  calm = λ z. refl;
-  alone = λ j z. tt;
-}
-  where
-    v : OneMove h r ps w t
-    v = one_move h s r ps w t b.stage any goes grown
-
-    new : Run covered_calls
-    new = record { call = r.call; start = r.start; prog = Do op m k; count = suc r.count; done = onto (own h ps) r.done }
-
-    run_is : (a c : Run covered_calls) → ◌≡◌ {A = Option (Run covered_calls)} (Some a) (Some c) → a ≡ c
-    run_is a c e = cc
-
-    tells : Tells t h (b.busy h r is).0 r.call (told_by [] (oldest_first r.done)) v.deed (stage_of w)
-    tells = event_tells t h (b.busy h r is).0 r.call (told_by [] (oldest_first r.done)) v.deed (stage_of w) (b.busy h r is).1
-moved_turns h x s t r did ps (Ret reply) w b is any goes grown end = record {
-  event = Steps h v.move (Some reply);
-  then_ = stepped t h v.deed (stage_of w) (Some reply);
-  happens = record { hart = b.harts h r is; id = (b.busy h r is).0; c = r.call; acts = told_by [] (oldest_first r.done); busy = (b.busy h r is).1; next = v.next; told = v.deed; stage = stage_of w; plays = v.plays; reply = (end.1, subst (λ (z : List Act). MayEnd r.call z reply) (sym v.acts) (played_end r.call [] (oldest_first (onto (own h ps) r.done)) reply end.0)); world = refl };
-  beside = record {
-    stage = refl;
-    free = λ j e. elim (changed_tells (all_told covered_calls ps s.running) h None j None e) [ inl y ↦ ap (stepped t h v.deed (stage_of w) (Some reply)).history.calls y.0 ∙ tells.ends reply | inr y ↦ tells.others (Some reply) j y.0 ∙ b.free j (sym (told_other h j ps any y.0 (s.running j)) ∙ y.1) ];
-    busy = λ j q e. elim (changed_tells (all_told covered_calls ps s.running) h None j (Some q) e) [
-      | inl y ↦ absurd (let a = y.1 in cc (a))
-      | inr y ↦ (let a = b.busy j q (sym (told_other h j ps any y.0 (s.running j)) ∙ y.1) in (a.0, tells.others (Some reply) j y.0 ∙ a.1))
-    ];
-    harts = λ j q e. elim (changed_tells (all_told covered_calls ps s.running) h None j (Some q) e) [ inl y ↦ absurd (let a = y.1 in cc (a)) | inr y ↦ b.harts j q (sym (told_other h j ps any y.0 (s.running j)) ∙ y.1) ];
-  };
-  shown = refl;
-  calm = λ z. refl;
-  alone = λ j z. tt;
-}
-  where
-    v : OneMove h r ps w t
-    v = one_move h s r ps w t b.stage any goes grown
-
-    tells : Tells t h (b.busy h r is).0 r.call (told_by [] (oldest_first r.done)) v.deed (stage_of w)
-    tells = event_tells t h (b.busy h r is).0 r.call (told_by [] (oldest_first r.done)) v.deed (stage_of w) (b.busy h r is).1
-
-world_moved : (h : ℕ) (s : State covered_calls) (r : Run covered_calls) (did : Answered machine) (ps : List (ℕ × MoveStep)) (p : P Reply) (w : World) → (moved covered_calls h s r did ps p w).after.world ≡ w
-world_moved h s r did ps (Ret reply) w = refl
-world_moved h s r did ps (Do op m k) w = refl
-
-ends_so : (h n : ℕ) (r : Run covered_calls) (ps : List (ℕ × MoveStep)) (p : P Reply) (w : World) → Wp machine h (Begun covered_calls r.call) (Ends covered_calls h r.call) p n (onto (own h ps) r.done) w → w.clean ≡ true → EndsSo h r ps p w
-ends_so h n r ps (Ret reply) w g clean = (g.0 clean, g.1.walk)
-ends_so h n r ps (Do op m k) w g clean = tt
-
-tried_turns : (h n more : ℕ) (x : Outside) (s : State covered_calls) (t : Told) (r : Run covered_calls) (op : Op) (m : Answer op → Option Mark) (k : Answer op → P Reply) (wait : Type 0) (d : Did (Answer op) World) → Beside s t → s.running h ≡ Some r
-    → Good machine (Answer op) h (λ a. places h op a (m a) s.world) more n (Begun covered_calls r.call) r.done s.world wait d (λ l a u. Wp machine h (Begun covered_calls r.call) (Ends covered_calls h r.call) (k a) l (onto (own h (places h op a (m a) s.world)) r.done) u)
-    → (tried covered_calls h s r op (λ a. places h op a (m a) s.world) k d).after.world.clean ≡ true
-    → Turns (Step h x) (tried covered_calls h s r op (λ a. places h op a (m a) s.world) k d).came (tried covered_calls h s r op (λ a. places h op a (m a) s.world) k d).after t
-tried_turns h n more x s t r op m k wait Waits b is g clean = nothing_turns (Step h x) _ s (unchanged covered_calls s) t b refl refl refl
-tried_turns h n more x s t r op m k wait (Ran a w) b is g clean =
-    let c : w.clean ≡ true = ap (λ (z : World). z.clean) (sym (world_moved h s r (op, a) (places h op a (m a) s.world) (k a) w)) ∙ clean in
-    moved_turns h x s t r (op, a) (places h op a (m a) s.world) (k a) w b is (places_any h op a (m a) s.world) (g.goes c) (g.begun c) (ends_so h g.left r (places h op a (m a) s.world) (k a) w g.next c)
-tried_turns h n more x s t r op m k wait (Stops w) b is g clean = nothing_turns (Step h x) _ s (tried covered_calls h s r op (λ a. places h op a (m a) s.world) k (Stops w)).after t b refl (g.tree clean) refl
-
-prog_turns : (h n : ℕ) (x : Outside) (s : State covered_calls) (t : Told) (r : Run covered_calls) (p : P Reply) → Beside s t → s.running h ≡ Some r → Inv s.world → OfNext (λ op v. machine.Honest h op v x) (asks p) s.world → Wp machine h (Begun covered_calls r.call) (Ends covered_calls h r.call) p n r.done s.world
-    → (step_prog covered_calls h x s r p).after.world.clean ≡ true → Turns (Step h x) (step_prog covered_calls h x s r p).came (step_prog covered_calls h x s r p).after t
-prog_turns h n x s t r (Ret reply) b is inv honest g clean = nothing_turns (Step h x) _ s (unchanged covered_calls s) t b refl refl refl
-prog_turns h n x s t r (Do op m k) b is inv honest g clean = tried_turns h n (machine.more op) x s t r op m k (machine.MayWait h op s.world) (machine.go h x op m s.world) b is ((g s.world [] (lawful.laws.same h s.world) inv).2 x honest) clean
-
-unless_turns : (base : Stage) (h : ℕ) (x : Outside) (s : State covered_calls) (t : Told) (r : Run covered_calls) → Keeps covered_calls base s → Beside s t → s.running h ≡ Some r → (b : Bool) → s.stopped ≡ b → HonestStep covered_calls h x s.world b (Some r)
-    → (step_unless covered_calls h x s b r).after.world.clean ≡ true → Turns (Step h x) (step_unless covered_calls h x s b r).came (step_unless covered_calls h x s b r).after t
-unless_turns base h x s t r keeps b is true q honest clean = nothing_turns (Step h x) _ s (unchanged covered_calls s) t b refl refl refl
-unless_turns base h x s t r keeps b is false q honest clean = prog_turns h (keeps.going h r is).left x s t r r.prog b is (inv_of covered_calls s.stopped s.world keeps.holds q) honest ((keeps.going h r is).wp q) clean
-
-step_turns : (base : Stage) (h : ℕ) (x : Outside) (s : State covered_calls) (t : Told) → Keeps covered_calls base s → Beside s t → (o : Option (Run covered_calls)) → s.running h ≡ o → HonestStep covered_calls h x s.world s.stopped o
-    → (step_run covered_calls h x s o).after.world.clean ≡ true → Turns (Step h x) (step_run covered_calls h x s o).came (step_run covered_calls h x s o).after t
-step_turns base h x s t keeps b None q honest clean = nothing_turns (Step h x) _ s (unchanged covered_calls s) t b refl refl refl
-step_turns base h x s t keeps b (Some r) q honest clean = unless_turns base h x s t r keeps b q s.stopped refl honest clean
-
-event_turns : (base : Stage) (e : Event Call Outside) (s : State covered_calls) (t : Told) → Keeps covered_calls base s → Beside s t → IsHonest covered_calls e s → (next covered_calls e s).world.clean ≡ true → Turns e (makes covered_calls e s).came (next covered_calls e s) t
-event_turns base (Start h call) s t keeps b honest clean = start_turns h call s t b (s.running h) refl
-event_turns base (Step h x) s t keeps b honest clean = step_turns base h x s t keeps b (s.running h) refl honest clean
-
--- Runs.
-
-record Turned (base : Tree) (events : List (Event Call Outside)) (s : State covered_calls) (before : List Turn) : Type 0 where
-  pub more : List Turn
-  pub end : Told
-  pub runs : Goings (opened base) (before ++ more) end
-  pub beside : Beside (run covered_calls events s) end
-  pub shown : map shown_of more ≡ shows events s
-  pub calm : NoneClimbs events → Calm more
-  pub alone : (h : ℕ) → Alone h events → Lone h more
-
-clean_before : (events : List (Event Call Outside)) (s : State covered_calls) → Sound covered_calls s → AllHonest covered_calls events s → (run covered_calls events s).world.clean ≡ true → s.world.clean ≡ true
-clean_before [] s sound honest clean = clean
-clean_before (e ∷ es) s sound honest clean = (leads covered_calls lawful places_one s e sound honest.0).clean (clean_before es (next covered_calls e s) (sound_run covered_calls (e ∷ []) s sound (honest.0, tt)) honest.1 clean)
-
-more_calm : (e : Turn) (es : List Turn) → climbing e ≡ false → Calm es → Calm (e ∷ es)
-unfolding Calm
-more_calm e es a b = (a, b)
-
-none_calm : Calm []
-unfolding Calm
-none_calm = tt
-
-more_alone : (h : ℕ) (e : Turn) (es : List Turn) → IsStartBy h e → Lone h es → Lone h (e ∷ es)
-unfolding Lone
-more_alone h e es a b = (a, b)
-
-none_alone : (h : ℕ) → Lone h []
-unfolding Lone
-none_alone h = tt
-
-run_turns : (base : Tree) (events : List (Event Call Outside)) (s : State covered_calls) (t : Told) (before : List Turn) → Sound covered_calls s → Beside s t → Goings (opened base) before t → AllHonest covered_calls events s → (run covered_calls events s).world.clean ≡ true → Turned base events s before
-run_turns base [] s t before sound b runs honest clean = record {
-  more = [];
-  end = t;
-  runs = subst (λ (z : List Turn). Goings (opened base) z t) (sym (append_nil before)) runs;
-  beside = b;
-  shown = refl;
-  calm = λ z. none_calm;
-  alone = λ h z. none_alone h;
-}
-run_turns base (e ∷ es) s t before sound b runs honest clean =
-    let sound2 = sound_run covered_calls (e ∷ []) s sound (honest.0, tt) in
-    let x = event_turns (stage_of sound.first) e s t (sound_keeps covered_calls lawful s sound) b honest.0 (clean_before es (next covered_calls e s) sound2 honest.1 clean) in
-    let y = run_turns base es (next covered_calls e s) x.then_ (before ++ x.event ∷ []) sound2 x.beside (runs_more (opened base) t x.then_ before x.event runs x.happens) honest.1 clean in
-    record {
-      more = x.event ∷ y.more;
-      end = y.end;
-      runs = subst (λ (z : List Turn). Goings (opened base) z y.end) (append_assoc before (x.event ∷ []) y.more) y.runs;
-      beside = y.beside;
-      shown = λ z. x.shown z ∷ y.shown z;
-      calm = λ z. more_calm x.event y.more (x.calm z.0) (y.calm z.1);
-      alone = λ h z. more_alone h x.event y.more (x.alone h z.0) (y.alone h z.1);
-    }
-
-turned : (base : TreeData) (w : World) (events : List (Event Call Outside)) → Runs base w events → Turned (tree_of base) events (fresh covered_calls w) []
-turned base w events r = run_turns (tree_of base) events (fresh covered_calls w) (opened (tree_of base)) [] (sound_fresh covered_calls w r.holds r.idle) (record {
-  stage = λ z. record { tree = sym r.tree z; walk = λ h. sym (r.idle h).walk z };
-  free = λ h q. refl;
-  busy = λ h x q. absurd cc;
-  harts = λ h x q. absurd cc;
-}) (runs_none (opened (tree_of base))) r.honest r.clean
-
-history : (Ok : ℕ → Call → Type 0) (base : TreeData) (w : World) (events : List (Event Call Outside)) → Runs base w events → Apart Ok → (x : Turned (tree_of base) events (fresh covered_calls w) []) → AllMayStart Ok x.more → OneHistory base w events
-history Ok base w events r apart x may = record {
-  list = x.end.history.list;
-  explains = subst (λ (z : List Shown). Explains base (trace_of z) x.end.history.list) x.shown (run_explained Ok base x.end x.more apart may well x.runs);
-  leads = subst (λ (z : Tree). Chain (tree_of base) x.end.history.list z) (ap (λ (z : Stage). z.tree) x.beside.stage) (run_ok Ok (tree_of base) (opened (tree_of base)) x.end x.more apart may (opened_ok Ok (tree_of base) well) x.runs).book.chain;
-}
-  where
-    well : IsWellFormed (tree_of base)
-    well = subst (λ (z : Tree). IsWellFormed z) r.tree (settled_well w.all r.holds.well)
 
 pub one_history : CallsHaveOneHistory
-one_history base w events r calm = let x = turned base w events r in history NeverClimbs base w events r apart_calm x (starts_calm x.more (x.calm calm))
+one_history base w events r calm = let x = moves_history covered moving base w events (runs_from base w events r) calm in record { list = x.list; explains = x.explains; leads = x.leads }
 
 pub one_hart : OneHartHasOneHistory
-one_hart base w h events r alone = let x = turned base w events r in history (IsHart h) base w events r (apart_alone h) x (starts_alone h x.more (x.alone h alone))
+one_hart base w h events r alone = let x = moves_alone covered moving base w h events (runs_from base w events r) alone in record { list = x.list; explains = x.explains; leads = x.leads }

@@ -11,6 +11,7 @@ pub mod Moving
 pub mod Programs
 pub mod Budget
 pub mod Theory
+pub mod MoveCalls
 pub mod Histories
 pub mod Examples
 pub mod Stories

@@ -1,0 +1,153 @@
+-- Calls whose steps are moves on the tree, over any machine: what their events show of calls, and that one list of tree steps explains them.
+use Rattle.std.specs.Prelude.{◌≡◌, ◌⊎◌, ℕ, ◌<◌, Bool, false, List, [], ◌∷◌, Option, None}
+use Rattle.plain_tree.specs.declared.answer.Reply.{Reply}
+use Rattle.plain_tree.specs.declared.call.Call.{Call}
+use Rattle.plain_tree.specs.declared.trace.Placed.{Placed}
+use Rattle.plain_tree.specs.TreeData.{TreeData}
+use Rattle.plain_tree.specs.Tree.{tree_of}
+use Rattle.plain_tree.specs.Calls.{call_climbs}
+use Rattle.plain_tree.specs.Explains.{Shown, Chain, Explains, trace_of}
+use Rattle.plain_tree.specs.Explains.Shown.{Started as Begun, Replied, Other}
+use Rattle.plain_tree.specs.Widths.{hart_count}
+use Rattle.tree_laws.specs.WellFormed.{IsWellFormed}
+use Rattle.atomic_programs.specs.Prog.{Prog, Did}
+use Rattle.atomic_programs.specs.Logic.{Machine}
+use Rattle.atomic_programs.specs.Calls.{Theory, Began, Begins, Lawful, Event, Start, Step, Outcome, Started, Refused, WasIdle, DidWait, DidRun, DidEnd, DidStop, WasStopped, State, AllHonest, fresh, makes, next, run}
+use Rattle.tree_moves.specs.Moves.{Stage, Step as MoveStep, Takes, Written}
+
+-- a machine whose steps are moves of a call on the tree, and calls over it
+pub record Moving : Type 1 where
+  pub Op : Type 0
+  pub Answer : Op → Type 0
+  pub Mark : Type 0
+  pub World : Type 0
+  pub more : Op → ℕ
+  pub Outside : Type 0
+  pub Honest : ℕ → Op → World → Outside → Type 0
+  pub May : ℕ → Op → World → Type 0
+  pub go : ℕ → Outside → (op : Op) → (Answer op → Option Mark) → World → Did (Answer op) World
+  pub places : ℕ → (op : Op) → Answer op → Option Mark → World → List (ℕ × MoveStep)
+  pub tree : World → Stage
+  pub Inv : World → Type 0
+  pub Halted : World → Type 0
+  pub Others : ℕ → World → List MoveStep → World → Type 0
+  pub Idle : ℕ → World → Type 0
+  pub MayWait : ℕ → Op → World → Type 0
+  pub Clean : World → Type 0
+  pub Refusal : Type 0
+  pub start : ℕ → Call → (ℕ → Bool) → World → Began Refusal World
+  pub busy : Refusal
+  pub program : Call → Prog Op Answer Mark Reply
+  pub limit : Call → ℕ
+
+abbrev pub machine_of : Moving → Machine
+machine_of m =
+    record {
+      Op = m.Op;
+      Answer = m.Answer;
+      Mark = m.Mark;
+      Step = MoveStep;
+      World = m.World;
+      Tree = Stage;
+      more = m.more;
+      Outside = m.Outside;
+      Honest = m.Honest;
+      May = m.May;
+      go = m.go;
+      places = m.places;
+      tree = m.tree;
+      Takes = Takes;
+      Inv = m.Inv;
+      Halted = m.Halted;
+      Others = m.Others;
+      Idle = m.Idle;
+      MayWait = m.MayWait;
+      Clean = m.Clean;
+    }
+
+abbrev pub theory_of : Moving → Theory
+theory_of m =
+    record {
+      M = machine_of m;
+      Call = Call;
+      Reply = Reply;
+      Refusal = m.Refusal;
+      start = m.start;
+      busy = m.busy;
+      program = m.program;
+      Written = Written;
+      limit = m.limit;
+    }
+
+-- ---- what events show of calls
+
+-- by what an event came to
+abbrev pub shown_start : {Did Refusal : Type 0} → ℕ → Call → Outcome Did Reply Refusal → Shown
+shown_start h call Started = Begun h call
+shown_start h call (Refused why) = Other
+shown_start h call WasIdle = Other
+shown_start h call DidWait = Other
+shown_start h call (DidRun did) = Other
+shown_start h call (DidEnd reply) = Other
+shown_start h call DidStop = Other
+shown_start h call WasStopped = Other
+
+abbrev pub shown_step : {Did Refusal : Type 0} → ℕ → Outcome Did Reply Refusal → Shown
+shown_step h Started = Other
+shown_step h (Refused why) = Other
+shown_step h WasIdle = Other
+shown_step h DidWait = Other
+shown_step h (DidRun did) = Other
+shown_step h (DidEnd reply) = Replied h reply
+shown_step h DidStop = Other
+shown_step h WasStopped = Other
+
+abbrev pub shown_by : {Outside Did Refusal : Type 0} → Event Call Outside → Outcome Did Reply Refusal → Shown
+shown_by (Start h call) came = shown_start h call came
+shown_by (Step h x) came = shown_step h came
+
+-- no call that is asked for has a path with ".."
+abbrev pub climbs_at : {Outside : Type 0} → Event Call Outside → Bool
+climbs_at (Start h call) = call_climbs call
+climbs_at (Step h x) = false
+
+abbrev pub NoneClimbs : {Outside : Type 0} → List (Event Call Outside) → Type 0
+NoneClimbs [] = Unit {0}
+NoneClimbs (e ∷ es) = (climbs_at e ≡ false) × NoneClimbs es
+
+-- one hart alone is asked for calls
+abbrev pub StartsBy : {Outside : Type 0} → ℕ → Event Call Outside → Type 0
+StartsBy h (Start g call) = g ≡ h
+StartsBy h (Step g x) = Unit {0}
+
+abbrev pub Alone : {Outside : Type 0} → ℕ → List (Event Call Outside) → Type 0
+Alone h [] = Unit {0}
+Alone h (e ∷ es) = StartsBy h e × Alone h es
+
+module _ (m : Moving) where
+  abbrev pub shows : List (Event Call m.Outside) → State (theory_of m) → List Shown
+  shows [] s = []
+  shows (e ∷ es) s = shown_by e (makes (theory_of m) e s).came ∷ shows es (next (theory_of m) e s)
+
+  -- what is shown of the machine and its calls: an operation places no move, or one of its own hart; a start is of one of eight harts and leaves the tree; and
+  -- a hart that is idle walks nowhere
+  pub record IsMoving : Type 0 where
+    pub lawful : Lawful (theory_of m)
+    pub one : (h : ℕ) (op : m.Op) (a : m.Answer op) (mark : Option m.Mark) (w : m.World) → (m.places h op a mark w ≡ []) ⊎ ((e : MoveStep) × (m.places h op a mark w ≡ (h, e) ∷ []))
+    pub begins : (h : ℕ) (call : Call) (busy : ℕ → Bool) (w u : m.World) → m.start h call busy w ≡ Begins u → (h < hart_count) × (m.tree u ≡ m.tree w)
+    pub rests : (h : ℕ) (w : m.World) → m.Idle h w → (m.tree w).walk h ≡ None
+
+  -- One list of tree steps explains the run's trace, and leads from its first tree to the tree that its world has.
+  pub record HasOneHistory (base : TreeData) (w : m.World) (events : List (Event Call m.Outside)) : Type 0 where
+    pub list : List Placed
+    pub explains : Explains base (trace_of (shows events (fresh (theory_of m) w))) list
+    pub leads : Chain (tree_of base) list (m.tree (run (theory_of m) events (fresh (theory_of m) w)).world).tree
+
+  -- From a world where every hart rests, on this tree, where no step found no room.
+  pub record RunsFrom (base : TreeData) (w : m.World) (events : List (Event Call m.Outside)) : Type 0 where
+    pub holds : m.Inv w
+    pub idle : (h : ℕ) → m.Idle h w
+    pub tree : (m.tree w).tree ≡ tree_of base
+    pub well : IsWellFormed (tree_of base)
+    pub honest : AllHonest (theory_of m) events (fresh (theory_of m) w)
+    pub clean : m.Clean (run (theory_of m) events (fresh (theory_of m) w)).world
