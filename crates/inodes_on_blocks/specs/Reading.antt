@@ -23,7 +23,7 @@ use Rattle.plain_tree.specs.Tree.{Name, put}
 
 -- its type, by the number that stands for it; a device's with the major
 abbrev pub sort_at : (kind major : ℤ) → Sort
-sort_at kind major = if is_number 1 kind then OfDirectory else (if is_number 3 kind then OfDevice major else OfFile)
+sort_at kind major = if is_number 1 kind then OfDirectory else (if is_number 2 kind then OfFile else OfDevice major)
 
 abbrev pub natural : ℤ → ℕ
 natural (pos n) = n

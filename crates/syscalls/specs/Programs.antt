@@ -78,8 +78,9 @@ close_program sizes fd = Do (Close fd) unmarked (close_on sizes fd)
 abbrev pub stat_reply : ℕ → Inode → Reply
 stat_reply fd inode = record { answer = answers.Stat (stat_of inode.number (record_of inode)); call = calls.Fstat fd }
 
+-- nothing else is a reason to refuse it
 abbrev pub stat_on : ℕ → FileState → P Reply
-stat_on fd (Denies why) = Ret (failed (calls.Fstat fd) (cause_of why))
+stat_on fd (Denies why) = Ret (failed (calls.Fstat fd) causes.BadDescriptor)
 stat_on fd (Loads file inode) = Do (Unlock inode None) unmarked (λ _. say (stat_reply fd inode))
 
 abbrev pub stat_program : (inodestart fd : ℕ) → P Reply

@@ -9,13 +9,13 @@ ghost use Rattle.syscalls.specs.Programs.{stat_program, stat_reply, stat_on};
 ghost use Rattle.syscalls.specs.Nesting.{Follows};
 ghost use Rattle.syscalls.specs.Machines.{fstat_of, FstatFits};
 
-use crate::replies::{cause_of, failed, record_in, stat_of};
+use crate::replies::{failed, record_in, stat_of};
 use atomic_programs::machines::Stepped;
 use block_device::Device;
 use file_table::{LoadFile, LoadedFile};
 use fs_machine::{Core, Kind, RetiredCore};
 use fs_tables::{Inode, Want};
-use plain_tree::{Answer, Call, Reply};
+use plain_tree::{Answer, Call, Cause, Reply};
 use sleep_lock::Guard;
 
 /// An fstat under way.
@@ -97,8 +97,8 @@ fn loading(fd: u32, stepped: Stepped<LoadFile, LoadedFile, Kind>) -> Stepped<Fst
         Stepped::Waits(load) => Stepped::Waits(Fstat::Loading(fd, load)),
         Stepped::Ran(load, kind) => Stepped::Ran(Fstat::Loading(fd, load), kind),
         Stepped::Done(came, kind) => match came {
-            LoadedFile::Refused(why) => {
-                Stepped::Done(failed(Call::Fstat { fd }, cause_of(why)), kind)
+            LoadedFile::Refused(_) => {
+                Stepped::Done(failed(Call::Fstat { fd }, Cause::BadDescriptor), kind)
             }
             LoadedFile::Loaded(_, guard) => Stepped::Ran(Fstat::Give(fd, guard), kind),
         },
