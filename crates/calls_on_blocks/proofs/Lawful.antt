@@ -1,0 +1,215 @@
+-- The calls that are served are right below.
+use Rattle.std.proofs.Common.{◌≡◌, ◌<◌, ℕ, Bool, true, false, nat_lt, if◌then◌else◌, Option, Some, None, refl, subst, arith}
+use Rattle.std.proofs.lemmas.Bool.Decides.{nat_tests}
+use Rattle.fs_layout.specs.declared.superblock.Super.{Super}
+use Rattle.plain_tree.specs.declared.call.Call.{Call}
+use Rattle.plain_tree.specs.declared.call.Call.TheVariants as calls
+use Rattle.plain_tree.specs.Widths.{hart_count}
+use Rattle.plain_tree.specs.declared.step.Action.TheVariants as actions
+use Rattle.tree_laws.proofs.Maps.{and_true}
+use Rattle.atomic_programs.specs.Prog.{Did, Waits, Ran, Stops, did_in, or_else, unmarked}
+use Rattle.atomic_programs.specs.Calls.{Began, Begins, Lawful}
+use Rattle.atomic_programs.specs.Plain.{IsCode, began_in}
+use Rattle.atomic_programs.specs.Joined.{LowerLaws, Atomic}
+use Rattle.atomic_programs.specs.Lifting.{Uses, AllLift}
+use Rattle.atomic_programs.specs.Lowered.{BeginsBoth, StartsBoth, IsPart}
+use Rattle.atomic_programs.proofs.Joined.{lift_using}
+use Rattle.atomic_programs.proofs.Lifting.{lower_laws_with_more, atomic_with_more}
+use Rattle.atomic_programs.proofs.Lowered.{lifted_lawful, is_code_part}
+use Rattle.fs_machine.specs.declared.kind.Kind.{Kind}
+use Rattle.fs_machine.specs.Steps as steps
+use Rattle.inode_machine.specs.Inodes.{Face}
+use Rattle.inode_machine.specs.World as above
+use Rattle.inode_machine.specs.World.Op.{Double, StatFile, Give, Say}
+use Rattle.inode_machine.specs.Descriptors.{dups, dup_on, stat_on}
+use Rattle.inode_machine.specs.Exec.{is_nothing}
+use Rattle.inode_machine.specs.Marks.{places}
+use Rattle.inode_machine.specs.Parts.{own_step}
+use Rattle.inode_machine.specs.Programs.{program}
+use Rattle.inode_machine.specs.Rules as rules
+use Rattle.inode_machine.specs.Rules.{machine}
+use Rattle.inode_machine.specs.Theory as theory
+use Rattle.inode_machine.specs.Theory.{Refusal, NoSuchHart, Busy, NotCovered, begin_call, begin_if, is_covered, call_wrong, why_not}
+use Rattle.inode_machine.proofs.Calls.{IsRight, laws, lawful_that, descriptors_right}
+use Rattle.tree_moves.specs.Moves.{Stage, Step, Takes}
+use Rattle.inodes_on_blocks.specs.Below.{World, came_to}
+use Rattle.inodes_on_blocks.specs.Lowering.{Labels, Keeps, nothing, below}
+use Rattle.inodes_on_blocks.specs.Acting.{ActsOnceAt}
+use Rattle.inodes_on_blocks.proofs.Layer.{below_laws}
+use Rattle.inodes_on_blocks.proofs.SlotSteps.{double_acts, say_acts}
+use Rattle.inodes_on_blocks.proofs.StatSteps.{stat_acts}
+use Rattle.inodes_on_blocks.proofs.TableSteps.{give_acts}
+use Rattle.calls_on_blocks.specs.Programs.{handlers}
+use Rattle.calls_on_blocks.specs.Theory.{is_served, serves, served_calls, fault_of, refusal_for, begun_by, if_hart, begin_in, IsFree, layer, begins, block_calls, shared_part, block_code}
+use Rattle.calls_on_blocks.proofs.Free.{kept_free, LeavesFree, go_free, double_free, stat_free, give_free, say_free}
+
+-- ---- the history that explains the calls
+
+abbrev history : Labels
+history =
+    record {
+      Step = Step;
+      Tree = Stage;
+      places = places;
+      tree = above.stage_of;
+      Takes = Takes;
+      Others = rules.Others;
+      Clean = λ w. w.clean ≡ true;
+    }
+
+keeps : Keeps history
+keeps h v w xs o = record { same = o.same; rests = o.rests; opens = o.opens }
+
+-- ---- above
+
+served_is : (call : Call) → serves call ≡ true → is_served call ≡ true
+served_is call e = (and_true (is_covered call) (is_served call) e).1
+
+served_right : IsRight serves serves
+served_right h (calls.Dup fd) busy w u lt here out idle free is = descriptors_right serves h (calls.Dup fd) busy w u lt refl out idle free is
+served_right h (calls.Fstat fd) busy w u lt here out idle free is = descriptors_right serves h (calls.Fstat fd) busy w u lt refl out idle free is
+served_right h (calls.Open path flags) busy w u lt here out idle free is = absurd (let q = served_is (calls.Open path flags) here in cc (q))
+served_right h (calls.Read fd buffer) busy w u lt here out idle free is = absurd (let q = served_is (calls.Read fd buffer) here in cc (q))
+served_right h (calls.Write fd bytes) busy w u lt here out idle free is = absurd (let q = served_is (calls.Write fd bytes) here in cc (q))
+served_right h (calls.Link old new) busy w u lt here out idle free is = absurd (let q = served_is (calls.Link old new) here in cc (q))
+served_right h (calls.Unlink path) busy w u lt here out idle free is = absurd (let q = served_is (calls.Unlink path) here in cc (q))
+served_right h (calls.Mkdir path) busy w u lt here out idle free is = absurd (let q = served_is (calls.Mkdir path) here in cc (q))
+served_right h (calls.Chdir path) busy w u lt here out idle free is = absurd (let q = served_is (calls.Chdir path) here in cc (q))
+served_right h (calls.Close fd) busy w u lt here out idle free is = absurd (let q = served_is (calls.Close fd) here in cc (q))
+served_right h (calls.Inherit child) busy w u lt here out idle free is = absurd (let q = served_is (calls.Inherit child) here in cc (q))
+
+pub served_lawful : Lawful served_calls
+served_lawful = lawful_that serves served_right
+
+-- ---- starts
+
+-- A start that begins its call: the hart is one, the call is served, and nothing has changed.
+pub record BeginsHere {S : Type 0} (h : ℕ) (call : Call) (r s : S) : Type 0 where
+  pub hart : nat_lt h hart_count ≡ true
+  pub serves_it : serves call ≡ true
+  pub same : r ≡ s
+
+begun_is : {S : Type 0} (r s : S) (o : Option Refusal) → begun_by r o ≡ Begins s → (o ≡ None) × (r ≡ s)
+begun_is r s None e = (refl, cc)
+begun_is r s (Some why) e = absurd cc
+
+-- nothing is wrong with it
+serves_then : (f : Option Refusal) (b : Bool) → or_else f (if b then None else Some NotCovered) ≡ None → b ≡ true
+serves_then None true e = refl
+serves_then None false e = absurd cc
+serves_then (Some why) b e = absurd cc
+
+pub begun_here : {S : Type 0} (h : ℕ) (call : Call) (r s : S) → begin_in h call r ≡ Begins s → BeginsHere h call r s
+begun_here {S} h call r s e = by (nat_lt h hart_count) refl e
+  where
+    by : (b : Bool) → nat_lt h hart_count ≡ b → if_hart b (begun_by r (refusal_for call)) ≡ Begins s → BeginsHere h call r s
+    by true q e = let a = begun_is r s (refusal_for call) e in record { hart = q; serves_it = serves_then (fault_of call) (serves call) a.0; same = a.1 }
+    by false q e = absurd cc
+
+below_count : (h : ℕ) → nat_lt h hart_count ≡ true → h < hart_count
+below_count h e = grind (arith, nat_tests)
+
+-- no call that is served reserves anything
+call_begins : (h : ℕ) (call : Call) (busy : ℕ → Bool) (g : above.World) → is_served call ≡ true → begin_call h call busy g ≡ Begins g
+call_begins h (calls.Dup fd) busy g e = refl
+call_begins h (calls.Fstat fd) busy g e = refl
+call_begins h (calls.Open path flags) busy g e = refl
+call_begins h (calls.Read fd buffer) busy g e = refl
+call_begins h (calls.Write fd bytes) busy g e = refl
+call_begins h (calls.Link old new) busy g e = refl
+call_begins h (calls.Unlink path) busy g e = refl
+call_begins h (calls.Mkdir path) busy g e = refl
+call_begins h (calls.Chdir path) busy g e = refl
+call_begins h (calls.Close fd) busy g e = refl
+call_begins h (calls.Inherit child) busy g e = absurd cc
+
+start_begins : (h : ℕ) (call : Call) (busy : ℕ → Bool) (g : above.World) → nat_lt h hart_count ≡ true → IsFree h g → serves call ≡ true → begin_if (serves call) h call busy g ≡ Begins g
+start_begins h call busy g hart free here =
+    λ i. theory.only_if (hart i) NoSuchHart (theory.only_if (is_nothing (free i)) Busy (theory.only_if (here i) (why_not (call_wrong call)) (call_begins h call busy g (served_is call here) i)))
+
+lower_laws : (sizes : Super) → LowerLaws machine (layer sizes)
+lower_laws sizes = lower_laws_with_more machine (below sizes) IsFree (below_laws sizes history keeps) kept_free
+
+starts_both : (sizes : Super) → StartsBoth served_calls (layer sizes) (begins sizes)
+starts_both sizes h call busy r s g holds inv idle free e =
+    let b = begun_here h call r s e in
+    subst (λ (z : World). BeginsBoth served_calls (layer sizes) h call busy r z g) b.same
+    (record {
+      above = g;
+      begins = start_begins h call busy g b.hart (idle h free).0.1 b.serves_it;
+      shows = λ x. x;
+      halted = λ x. x;
+      kept = λ other ne c. (lower_laws sizes).same other r;
+      rests = λ other c. (idle other c).0;
+    })
+
+-- ---- the calls' operations
+
+atomic_at : (sizes : Super) (h : ℕ) (op : above.Op) (m : above.Answer op → Option above.Mark) → LeavesFree op → ActsOnceAt sizes history h op m (λ c. handlers sizes c op) → Atomic machine (layer sizes) (handlers sizes) h op m
+atomic_at sizes h op m leaves acts = atomic_with_more machine (below sizes) IsFree (handlers sizes) h op m (λ v w xs o. kept_free h v w (keeps h v w xs o)) (go_free h op m leaves) acts
+
+module _ (sizes : Super) (h : ℕ) (lt : h < hart_count) where
+  doubles : (fd : ℕ) (m : Option (Option ℕ) → Option above.Mark) → Atomic machine (layer sizes) (handlers sizes) h (Double fd) m
+  doubles fd m = atomic_at sizes h (Double fd) m (double_free fd) (double_acts history laws keeps h lt fd m sizes)
+
+  stats : (fd : ℕ) (m : Option (ℕ × Face) → Option above.Mark) → Atomic machine (layer sizes) (handlers sizes) h (StatFile fd) m
+  stats fd m = atomic_at sizes h (StatFile fd) m (stat_free fd) (stat_acts history laws keeps h lt sizes fd m)
+
+  gives : (n : ℕ) (m : Unit {0} → Option above.Mark) → Atomic machine (layer sizes) (handlers sizes) h (Give n) m
+  gives n m = atomic_at sizes h (Give n) m (give_free n) (give_acts history laws keeps h lt n m sizes)
+
+  says : (m : Unit {0} → Option above.Mark) → Atomic machine (layer sizes) (handlers sizes) h Say m
+  says m = atomic_at sizes h Say m say_free (say_acts history laws keeps h lt m sizes)
+
+  dup_uses : (fd : ℕ) (a : Option (Option ℕ)) → Uses machine (Atomic machine (layer sizes) (handlers sizes) h) (dup_on fd a)
+  dup_uses fd None = tt
+  dup_uses fd (Some None) = (says unmarked, λ _. tt)
+  dup_uses fd (Some (Some f)) = (says unmarked, λ _. tt)
+
+  stat_uses : (fd : ℕ) (a : Option (ℕ × Face)) → Uses machine (Atomic machine (layer sizes) (handlers sizes) h) (stat_on fd a)
+  stat_uses fd None = tt
+  stat_uses fd (Some p) = (gives p.0 unmarked, λ _. (says unmarked, λ _. tt))
+
+  served_uses : (call : Call) → is_served call ≡ true → Uses machine (Atomic machine (layer sizes) (handlers sizes) h) (program call)
+  served_uses (calls.Dup fd) e = (doubles fd (dups fd), λ a. dup_uses fd a)
+  served_uses (calls.Fstat fd) e = (stats fd (λ a. own_step (actions.Fstat fd)), λ a. stat_uses fd a)
+  served_uses (calls.Open path flags) e = absurd cc
+  served_uses (calls.Read fd buffer) e = absurd cc
+  served_uses (calls.Write fd bytes) e = absurd cc
+  served_uses (calls.Link old new) e = absurd cc
+  served_uses (calls.Unlink path) e = absurd cc
+  served_uses (calls.Mkdir path) e = absurd cc
+  served_uses (calls.Chdir path) e = absurd cc
+  served_uses (calls.Close fd) e = absurd cc
+  served_uses (calls.Inherit child) e = absurd cc
+
+all_lift : (sizes : Super) → AllLift served_calls (layer sizes) (handlers sizes) (begins sizes)
+all_lift sizes h call can B Q lasts n es w from =
+    let b = begun_here h call can.1 can.2 can.3 in
+    lift_using machine (layer sizes) (handlers sizes) laws h (program call) (served_uses sizes h (below_count h b.hart) call (served_is call b.serves_it)) nothing B Q lasts n es w tt
+
+pub lawful : (sizes : Super) → Lawful (block_calls sizes)
+lawful sizes = lifted_lawful served_calls (layer sizes) (handlers sizes) (begins sizes) served_lawful (lower_laws sizes) (starts_both sizes) (all_lift sizes)
+
+-- ---- the code's part
+
+is_part : (sizes : Super) → IsPart served_calls (layer sizes) (begins sizes) (shared_part sizes)
+is_part sizes = record {
+  goes = λ h x op w. goes h op w (steps.exec h x op w.state);
+  may = λ h op w y. y;
+  honest = λ h op w x y. y;
+  starts = λ h call busy w. starts w (nat_lt h hart_count) (refusal_for call);
+}
+  where
+    goes : (h : ℕ) (op : steps.Op) (w : World) (d : Did (steps.Answer op) steps.State) → d ≡ did_in (λ (v : World). v.state) (came_to h op w d)
+    goes h op w Waits = refl
+    goes h op w (Ran a s) = refl
+    goes h op w (Stops s) = refl
+
+    starts : (w : World) (b : Bool) (o : Option Refusal) → ◌≡◌ {A = Began Refusal steps.State} (if_hart b (begun_by w.state o)) (began_in (λ (v : World). v.state) (if_hart b (begun_by w o)))
+    starts w false o = refl
+    starts w true None = refl
+    starts w true (Some why) = refl
+
+pub is_code : (sizes : Super) → IsCode (block_calls sizes) (block_code sizes)
+is_code sizes = is_code_part served_calls (layer sizes) (handlers sizes) (begins sizes) (shared_part sizes) Kind steps.kind_of (is_part sizes)

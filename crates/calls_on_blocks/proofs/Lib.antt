@@ -1,0 +1,4 @@
+pub mod Free
+pub mod Lawful
+pub mod Faces
+pub mod Bridges

@@ -1,0 +1,21 @@
+-- The laws of the calls on blocks.
+use Rattle.std.specs.Prelude.{◌≡◌, ℕ}
+use Rattle.fs_layout.specs.declared.superblock.Super.{Super}
+use Rattle.plain_tree.specs.declared.call.Call.TheVariants.{Dup, Fstat}
+use Rattle.atomic_programs.specs.Prog.{plain}
+use Rattle.atomic_programs.specs.Calls.{Lawful}
+use Rattle.atomic_programs.specs.Plain.{IsCode}
+use Rattle.syscalls.specs.Programs.{dup_program, stat_program}
+use Rattle.calls_on_blocks.specs.Theory.{block_calls, block_code}
+
+-- Each call that is served is right below, whatever the others do.
+abbrev pub CallsAreLawful : Type 0
+CallsAreLawful = (sizes : Super) → Lawful (block_calls sizes)
+
+-- What the code has goes on as the theory says.
+abbrev pub CodeIsOfIt : Type 0
+CodeIsOfIt = (sizes : Super) → IsCode (block_calls sizes) (block_code sizes)
+
+-- The code's programs are the calls' own, as programs below.
+abbrev pub ProgramsAreLowered : Type 0
+ProgramsAreLowered = (sizes : Super) (fd : ℕ) → (plain ((block_calls sizes).program (Dup fd)) ≡ dup_program fd) × (plain ((block_calls sizes).program (Fstat fd)) ≡ stat_program sizes.inodestart fd)

@@ -1,0 +1,3 @@
+pub mod Programs
+pub mod Theory
+pub mod Laws

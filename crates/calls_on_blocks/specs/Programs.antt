@@ -1,0 +1,50 @@
+-- Each operation on whole inodes as its program below, on a disk of these sizes.
+use Rattle.std.specs.Prelude.{ℕ, false, [], Option}
+use Rattle.fs_layout.specs.declared.superblock.Super.{Super}
+use Rattle.plain_tree.specs.declared.answer.Cause.TheVariants.{BadDescriptor}
+use Rattle.atomic_programs.specs.Prog.{Ret}
+use Rattle.atomic_programs.specs.Joined.{Handed}
+use Rattle.inode_machine.specs.World as above
+use Rattle.inode_machine.specs.World.Op.{Take, Give, UpStart, Up, WalkDown, Down, Free, Claim, Store, Fill, Enter, Clear, Empty, Slot, Install, StatFile, LockFile, ReadFile, CheckFile, JoinFile, LockOpen, WriteFile, Double, Shut, Settle, Lend, LendDirectory, Release, Join, Leave, Say}
+use Rattle.inodes_on_blocks.specs.Handlers as one
+use Rattle.inodes_on_blocks.specs.Handlers.{P}
+use Rattle.inodes_on_blocks.specs.Lowering.{Carry}
+use Rattle.inodes_on_blocks.specs.Reading.{stat_file, take}
+use Rattle.inodes_on_blocks.specs.Storing.{store}
+
+-- An operation that no call which is served makes: nothing is done, and the answer is any.
+abbrev pub nothing_done : {A : Type 0} → Carry → A → P (Handed A Carry)
+nothing_done c a = Ret (record { answer = a; carry = c })
+
+abbrev pub handlers : Super → Carry → (op : above.Op) → (above.Answer op → Option above.Mark) → P (Handed (above.Answer op) Carry)
+handlers sizes c (Take n looking) m = take sizes n looking c m
+handlers sizes c (Give n) m = one.give n c m
+handlers sizes c (UpStart absolute) m = one.up_start absolute c m
+handlers sizes c (Up n) m = one.up n c m
+handlers sizes c (WalkDown n) m = one.walk_down n c m
+handlers sizes c (Down n) m = one.down n c m
+handlers sizes c (Free n) m = nothing_done c tt
+handlers sizes c (Claim sort) m = nothing_done c above.NoInode
+handlers sizes c (Store n count) m = store sizes n count c m
+handlers sizes c (Fill n d) m = nothing_done c false
+handlers sizes c (Enter d e n) m = nothing_done c above.NoBlock
+handlers sizes c (Clear d e) m = nothing_done c tt
+handlers sizes c (Empty n) m = nothing_done c tt
+handlers sizes c Slot m = one.slot c m
+handlers sizes c (Install f sort) m = one.install f sort c m
+handlers sizes c (StatFile fd) m = stat_file sizes fd c m
+handlers sizes c (LockFile fd) m = nothing_done c (above.NotLocked BadDescriptor)
+handlers sizes c (ReadFile fd n count) m = nothing_done c []
+handlers sizes c (LockOpen fd n) m = nothing_done c tt
+handlers sizes c (CheckFile fd) m = one.check_file fd c m
+handlers sizes c (JoinFile fd) m = one.join_file fd c m
+handlers sizes c (WriteFile fd n bytes) m = nothing_done c (above.Refused BadDescriptor)
+handlers sizes c (Double fd) m = one.double fd c m
+handlers sizes c (Shut fd) m = one.close fd c m
+handlers sizes c (Settle n) m = one.settle n c m
+handlers sizes c (Lend child from) m = one.lend child from c m
+handlers sizes c (LendDirectory child) m = one.lend_directory child c m
+handlers sizes c (Release child) m = one.release child c m
+handlers sizes c Join m = one.join c m
+handlers sizes c Leave m = one.leave c m
+handlers sizes c Say m = one.say c m
