@@ -49,6 +49,7 @@ impl<D: Device> Core<D> {
     pub fn up(&mut self, hart: u8, number: u32) -> Option<Reference>
         requires may { May hart (Up (Number number)) (state_of D.contents D.failures self.old) }
         ensures ran { (x : Outside) → exec hart x (Up (Number number)) (state_of D.contents D.failures self.old) ≡ ItRan result (state_of D.contents D.failures self.new) }
+        ensures number { IfSome result (λ reference. reference ≡ number) }
         ensures others { LeavesTied hart (state_of D.contents D.failures self.old) (state_of D.contents D.failures self.new) }
         ensures log { self.new.log ≡ self.old.log }
         ensures rest { LeavesAll (IsOwnInode hart) (state_of D.contents D.failures self.old) (state_of D.contents D.failures self.new) }

@@ -116,6 +116,7 @@ impl Tables {
     pub fn up(&mut self, number: u32) -> Option<Reference>
         requires room { references_of number self.old + 1 < 2 ^ 32 }
         ensures ran { up_inode number self.old ≡ Ran result self.new }
+        ensures number { IfSome result (λ reference. reference ≡ number) }
         ensures others { LeavesLocked self.old self.new }
     {
         match place_of(&self.entries, number) {

@@ -1,5 +1,6 @@
 -- The steps of a walk in which a nested machine makes one, and that which refers to what was found.
 use Rattle.std.proofs.Common.{◌≡◌, ℕ, List, Option, refl, sym, ap, subst, ◌∙◌}
+use Rattle.std.specs.Prelude.{IfSome}
 use Rattle.sleep_lock.specs.SleepLock.{GuardState}
 use Rattle.fs_layout.specs.declared.inode.Dinode.{Dinode}
 use Rattle.atomic_programs.specs.Prog.{Ran as ItRan, WentOn, bind, went, advance}
@@ -27,7 +28,7 @@ use Rattle.path_walk.specs.declared.walk.Walk.TheVariants as walking
 use Rattle.path_walk.specs.declared.walk.Way.{Way}
 use Rattle.path_walk.specs.declared.walked.Walked.{Walked}
 use Rattle.path_walk.specs.Elements.{name_in}
-use Rattle.path_walk.specs.Programs.{WalkedState, go_on, leave_directory, loaded, walk_step}
+use Rattle.path_walk.specs.Programs.{WalkedState, go_if, leave_directory, loaded, walk_step}
 use Rattle.path_walk.specs.Machines.{found_state, in_lookup, next_as, next_of, rest_of, visit_of, walk_of, walked_as, EndsIn, GoesOn, IsWay, LoadedTo, WalkFits}
 use Rattle.path_walk.proofs.Nested.{goes-moves, goes-honest, goes-fits, within-goes}
 use Rattle.path_walk.proofs.Visits.{found-is, next-is}
@@ -110,10 +111,10 @@ module _ (path : List ℕ) (way : Way) (d : ℕ) where
   -- ---- where what was found is referred to
 
   pub up-moves : (guard : GuardState Inode) (n : ℕ) (hart : ℕ) (x : Outside) (up : Option ℕ) (then : Next) (old new : State)
-      → exec hart x (Up (Number n)) old ≡ ItRan up new → then ≡ next_as up
+      → exec hart x (Up (Number n)) old ≡ ItRan up new → IfSome up (λ m. m ≡ n) → then ≡ next_as up
       → advance kind_of (exec hart x) (walk_of path (walking.Up way d guard n)) old ≡ WentOn kind.Up (walk_of path (walking.Unlock way d guard then)) new
   unfolding walk_of
-  up-moves guard n hart x up then old new ran is =
-      let k : Option ℕ → P WalkedState = λ o. leave_directory d guard.value way.list (go_on (rest_of path way) o) in
+  up-moves guard n hart x up then old new ran same is =
+      let k : Option ℕ → P WalkedState = λ o. leave_directory d guard.value way.list (go_if (rest_of path way n) o) in
       ap (went (Up (Number n)) (kind_of (Up (Number n))) k) ran
-      ∙ ap (λ (p : P WalkedState). WentOn kind.Up p new) (sym (next-is path way d guard.value up) ∙ ap (λ (t : Next). leave_directory d guard.value way.list (next_of path way t)) (sym is))
+      ∙ ap (λ (p : P WalkedState). WentOn kind.Up p new) (sym (next-is path way d guard.value n up same) ∙ ap (λ (t : Next). leave_directory d guard.value way.list (next_of path way t)) (sym is))

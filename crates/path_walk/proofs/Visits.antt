@@ -1,6 +1,6 @@
 -- What a walk goes on with in a directory that it has locked.
 use Rattle.std.proofs.Common.{◌≡◌, ℕ, List, drop, true, false, Option, Some, None, refl, sym, ap, ◌∙◌}
-use Rattle.std.specs.Prelude.{is_some}
+use Rattle.std.specs.Prelude.{is_some, IfSome}
 use Rattle.sleep_lock.specs.SleepLock.{GuardState}
 use Rattle.sleep_lock.specs.Row.{IsOut}
 use Rattle.fs_layout.specs.declared.inode.Dinode.{Dinode}
@@ -16,7 +16,7 @@ use Rattle.directory.specs.Programs.{lookup}
 use Rattle.plain_tree.specs.Tree.{elements}
 use Rattle.path_walk.specs.declared.walk.Way.{Way}
 use Rattle.path_walk.specs.Elements.{name_in}
-use Rattle.path_walk.specs.Programs.{is_last, loaded, go_on, leave_directory, walk_step}
+use Rattle.path_walk.specs.Programs.{is_last, loaded, go_if, leave_directory, walk_step}
 use Rattle.path_walk.specs.Machines.{found_as, found_state, next_as, next_of, rest_of, visit_of, walk_of}
 
 module _ (path : List ℕ) (way : Way) (d : ℕ) where
@@ -52,9 +52,10 @@ module _ (path : List ℕ) (way : Way) (d : ℕ) where
   visit-loaded v e some = loaded-there v.number v.content e some
 
   -- after a reference to what was found was wanted
-  pub next-is : (v : Inode) (o : Option ℕ) → leave_directory d v way.list (next_of path way (next_as o)) ≡ leave_directory d v way.list (go_on (rest_of path way) o)
-  next-is v None = refl
-  next-is v (Some n) = refl
+  pub next-is : (v : Inode) (n : ℕ) (o : Option ℕ) → IfSome o (λ m. m ≡ n)
+      → leave_directory d v way.list (next_of path way (next_as o)) ≡ leave_directory d v way.list (go_if (rest_of path way n) o)
+  next-is v n None same = refl
+  next-is v n (Some m) same = ap (λ (k : ℕ). leave_directory d v way.list (rest_of path way k)) same
 
 -- a guard is its hart's also when its inode is loaded
 pub own-loaded : (hart d : ℕ) (guard : GuardState Inode) (i : Dinode) (s : State) → IsOwnInode hart d guard s → IsOwnInode hart d (record guard { value = loaded d i }) s

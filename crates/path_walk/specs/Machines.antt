@@ -18,7 +18,7 @@ use Rattle.directory.specs.Programs.{Named}
 use Rattle.directory.specs.Machines.{search_of, inode_of, SearchFits}
 use Rattle.plain_tree.specs.Tree.{elements}
 use Rattle.path_walk.specs.Elements.{name_in, names_of, IsElement}
-use Rattle.path_walk.specs.Programs.{WalkedState, Reaches, Loses, lost, loaded, lock_loaded, drop_directory, leave_directory, go_on, walk_step, visit, walk, walk_path}
+use Rattle.path_walk.specs.Programs.{WalkedState, Reaches, Loses, lost, loaded, lock_loaded, drop_directory, leave_directory, go_if, walk_step, visit, walk, walk_path}
 use Rattle.path_walk.specs.declared.walked.Stop.TheVariants.{NotThere, NoMemory}
 use Rattle.path_walk.specs.declared.walked.Walked.{Walked}
 use Rattle.path_walk.specs.declared.walked.Walked.TheVariants as walked
@@ -51,7 +51,7 @@ walk_of path (walking.Start inodestart goal list) = walk_path goal inodestart pa
 walk_of path (walking.Lock way d) = lock_loaded way.inodestart d (visit_of path way d)
 walk_of path (walking.Load way d guard m) = bind (load_of m) (λ i. visit_of path way d (loaded d i))
 walk_of path (walking.Lookup way d m) = bind (search_of (Named (name_in path way.element)) m) (walk_step d (inode_of m).value way.list (rest_of path way))
-walk_of path (walking.Up way d guard n) = Do (Up (Number n)) unmarked (λ up. leave_directory d guard.value way.list (go_on (rest_of path way) up))
+walk_of path (walking.Up way d guard n) = Do (Up (Number n)) unmarked (λ up. leave_directory d guard.value way.list (go_if (rest_of path way n) up))
 walk_of path (walking.Unlock way d guard then) = leave_directory d guard.value way.list (next_of path way then)
 walk_of path (walking.Down way d then) = drop_directory d way.list (next_of path way then)
 walk_of path (walking.Leave way d guard) = Do (Unlock guard.value None) unmarked (λ _. Ret (Reaches d (name_in path way.element ∷ []) way.list))

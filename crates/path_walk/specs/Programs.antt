@@ -49,10 +49,15 @@ abbrev pub go_on : {M : Type 0} → (ℕ → List ℕ → Prog Op Answer M Walke
 go_on go None ns = lost NoMemory ns
 go_on go (Some n) ns = go n ns
 
+-- the same where it is to what was asked for
+abbrev pub go_if : {M : Type 0} → (List ℕ → Prog Op Answer M WalkedState) → Option ℕ → List ℕ → Prog Op Answer M WalkedState
+go_if go None ns = lost NoMemory ns
+go_if go (Some n) ns = go ns
+
 -- what was found is referred to before its directory is left
 abbrev pub walk_step : {M : Type 0} → ℕ → Inode → List ℕ → (ℕ → List ℕ → Prog Op Answer M WalkedState) → Option Found → Prog Op Answer M WalkedState
 walk_step d v ns go None = leave_directory d v ns (lost NotThere)
-walk_step d v ns go (Some found) = Do (Up (Number found.number)) unmarked (λ up. leave_directory d v ns (go_on go up))
+walk_step d v ns go (Some found) = Do (Up (Number found.number)) unmarked (λ up. leave_directory d v ns (go_if (go found.number) up))
 
 -- the last element's directory is seen to be one
 abbrev pub see_parent : {M : Type 0} → Name → ℕ → Inode → List ℕ → Prog Op Answer M WalkedState

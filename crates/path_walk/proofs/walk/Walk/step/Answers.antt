@@ -60,4 +60,4 @@ returns-in-Up-clause-moves g c =
     let s = state_of g.D.Device.contents g.D.Device.failures in
     rw c.in-Up.is
     (up-moves c.args.path.now c.in-Up.way c.in-Up.directory c.in-Up.guard c.in-Up.number c.args.hart Passes c.up.result c.next_to-next.result (s c.args.core.now) (s c.up.new.self)
-    (c.up.ensures.ran Passes) c.next_to-next.ensures)
+    (c.up.ensures.ran Passes) c.up.ensures.number c.next_to-next.ensures)
