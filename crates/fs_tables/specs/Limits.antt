@@ -5,6 +5,10 @@ use Rattle.std.specs.Prelude.{ℕ}
 abbrev pub inode_places : ℕ
 inode_places = 50
 
+-- references that a call keeps to its end at most
+abbrev pub listed_places : ℕ
+listed_places = 128
+
 abbrev pub file_places : ℕ
 file_places = 100
 

@@ -15,7 +15,7 @@ mod tables;
 pub use desk::Desk;
 pub use files::{FilePlace, NewFile, OpenFile, Refused, Want};
 pub use inodes::{Dropped, Entry, Inode, Reference};
-pub use limits::{DESCRIPTORS, MEMORY_INODES, OPEN_FILES, ROOT};
+pub use limits::{DESCRIPTORS, MEMORY_INODES, MOST_LISTED, OPEN_FILES, ROOT};
 pub use listed::Listed;
 pub use slots::{Doubled, Given, Shut};
 pub use tables::Tables;

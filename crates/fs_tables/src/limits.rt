@@ -3,6 +3,9 @@
 /// How many inodes there may be in memory.
 pub const MEMORY_INODES: usize = 50;
 
+/// How many references a call keeps to its end at most: one for each element of two paths.
+pub const MOST_LISTED: usize = 128;
+
 /// How many files may be open.
 pub const OPEN_FILES: usize = 100;
 

@@ -2,17 +2,17 @@
 ghost use Rattle.std.specs.Prelude.{◌≡◌, ◌<◌, List, [], ◌∷◌, ◌++◌, length, MatchOption};
 
 use crate::inodes::Reference;
-use crate::limits::MEMORY_INODES;
+use crate::limits::MOST_LISTED;
 use arrayvec::ArrayVec;
 use sleep_lock::RetiredSlots;
 use std::marker::Model;
 
 /// References that a call keeps: each is the last one to a dead inode, and the call frees the inode at its end. There is room for
-/// one to each inode in memory. A contract sees the inodes' numbers.
+/// one for each element of two paths. A contract sees the inodes' numbers.
 ///
 /// Code that lets a list go doesn't compile: an empty one is ended, or any after the tables have ended.
 pub struct Listed {
-    numbers: ArrayVec<u32, MEMORY_INODES>,
+    numbers: ArrayVec<u32, MOST_LISTED>,
 }
 
 impl Model for Listed {
@@ -35,7 +35,7 @@ impl Listed {
 
     /// One more, behind the others.
     pub fn push(&mut self, reference: Reference)
-        requires { length self.old < MEMORY_INODES }
+        requires { length self.old < MOST_LISTED }
         ensures { self.new ≡ self.old ++ reference ∷ [] }
     {
         self.numbers.push(reference.end());

@@ -205,7 +205,7 @@ module _ (h g : ℕ) (s t : State) (other : h ≢ g) (leaves : LeavesTied g s t)
 
   reaches : (path : List ℕ) (m : Reach) → ReachFits path h s m → ReachFits path h t m
   unfolding ReachFits
-  reaches path (reaching.Walking inodestart m) fits = (fits.0, walks path m fits.1)
+  reaches path (reaching.Walking inodestart m) fits = (fits.0, walks path m fits.1, fits.2)
   reaches path (reaching.Taking last list m) fits = (fits.0, takes m fits.1)
 
   -- ---- how a call on a path ends

@@ -22,7 +22,7 @@ use Rattle.fs_machine.specs.Tied.{LeavesTied}
 use Rattle.syscalls.specs.declared.running.Running.{Running}
 use Rattle.syscalls.specs.Machines.{running_of, RunningFits}
 use Rattle.hart_core.specs.Blocks.{blocks, code}
-use Rattle.hart_core.specs.Harts.{HartFits, AllFit, HasRoom, AreHarts}
+use Rattle.hart_core.specs.Harts.{HartFits, AllFit, AreHarts}
 use Rattle.hart_core.proofs.Beginning.{HasOne, has_running}
 use Rattle.hart_core.proofs.Staying.{stays}
 
@@ -111,9 +111,6 @@ module _ (h : ℕ) (s : State) (b : Bool) (calls : List (Option Running)) (doing
 
   pub fits_there : AllFit s calls → HartFits s h doing
   fits_there all = subst (HartFits s h) is_there (all h)
-
-  pub room_there : HasRoom (get_or calls h None) → HasRoom doing
-  room_there room = subst HasRoom is_there room
 
   pub may_there : (b ≡ false → MayOf blocks code h s (program_at running_of (get_or calls h None))) → b ≡ false → MayOf blocks code h s (program_at running_of doing)
   may_there may on = subst (λ (z : Option Running). MayOf blocks code h s (program_at running_of z)) is_there (may on)

@@ -1,5 +1,5 @@
 -- What harts' machines over all that they share stand for.
-use Rattle.std.specs.Prelude.{◌≡◌, ℕ, Bool, List, length, Option, Some, None, get_or}
+use Rattle.std.specs.Prelude.{◌≡◌, ℕ, Bool, List, length, Option, None, get_or}
 use Rattle.buffer_cache.specs.Limits.{hart_count}
 use Rattle.plain_tree.specs.declared.answer.Reply.{Reply}
 use Rattle.atomic_programs.specs.Calls.{Outcome as OutcomeOf, WasIdle, DidWait, DidRun, DidEnd, DidStop, WasStopped}
@@ -9,7 +9,7 @@ use Rattle.fs_machine.specs.declared.shared.Core.{Core}
 use Rattle.fs_machine.specs.LogPart.{Outside, Passes, Fails}
 use Rattle.fs_machine.specs.Steps.{State, state_of}
 use Rattle.syscalls.specs.declared.running.Running.{Running}
-use Rattle.syscalls.specs.Machines.{running_of, RunningFits, RunningRoom}
+use Rattle.syscalls.specs.Machines.{running_of, RunningFits}
 use Rattle.hart_core.specs.declared.outcome.Outcome.{Outcome}
 use Rattle.hart_core.specs.declared.outcome.Outcome.TheVariants as outcome
 use Rattle.hart_core.specs.declared.outcome.Stop.TheVariants as stop
@@ -39,11 +39,6 @@ HartFits s = PlaceFits (λ h m. RunningFits h s m)
 
 abbrev pub AllFit : State → List (Option Running) → Type 0
 AllFit s calls = (h : ℕ) → HartFits s h (get_or calls h None)
-
--- a call that walks has room on its list
-abbrev pub HasRoom : Option Running → Type 0
-HasRoom None = Unit {0}
-HasRoom (Some m) = RunningRoom m
 
 -- a place for each hart, and what the machines there have in hand goes with the state
 pub record AreHarts (s : State) (calls : List (Option Running)) : Type 0 where

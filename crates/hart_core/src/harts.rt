@@ -1,5 +1,5 @@
 // Eight harts' machines over all that they share.
-ghost use Rattle.std.specs.Prelude.{◌≡◌, ◌<◌, false, Some, None, get_or, replicate, slice_get, slice_set};
+ghost use Rattle.std.specs.Prelude.{◌≡◌, ◌<◌, false, Some, None, replicate, slice_get, slice_set};
 ghost use Rattle.atomic_programs.specs.Calls.{Start as StartOf, Step as StepOf, Started};
 ghost use Rattle.atomic_programs.specs.Plain.{plain_makes, PlainHonest, PlainHonestStep, MayOf, hart_step};
 ghost use Rattle.atomic_programs.specs.Machines.{program_at};
@@ -8,7 +8,7 @@ ghost use Rattle.fs_machine.specs.Machines.{CallsOnce};
 ghost use Rattle.fs_machine.specs.Tied.{LeavesTied};
 ghost use Rattle.syscalls.specs.Machines.{running_of, RunningFits};
 ghost use Rattle.hart_core.specs.Blocks.{blocks, code, MayStep};
-ghost use Rattle.hart_core.specs.Harts.{outcome_of, said, HartFits, HasRoom, shared_of, programs_of};
+ghost use Rattle.hart_core.specs.Harts.{outcome_of, said, HartFits, shared_of, programs_of};
 
 use crate::outcome::{Outcome, Stop};
 use atomic_programs::machines::Stepped;
@@ -48,7 +48,6 @@ fn step<D: Device>(
 ) -> (Option<Running>, Outcome, bool)
     requires eight { hart < HARTS }
     requires may { stopped ≡ false → MayOf blocks code hart (state_of D.contents D.failures core.old) (program_at running_of doing) }
-    requires room { HasRoom doing }
     requires fits { HartFits (state_of D.contents D.failures core.old) hart doing }
     ensures makes { hart_step blocks code hart (said result.1 (state_of D.contents D.failures core.new)) (state_of D.contents D.failures core.old) stopped (program_at running_of doing)
         ≡ record { came = outcome_of result.1; left = program_at running_of result.0; shared = state_of D.contents D.failures core.new; stopped = result.2 } }
@@ -140,7 +139,6 @@ impl<D: Device> Harts<D> {
     /// device's failure in this very step, or since the device has failed before. At most one call of the device is made.
     pub fn step(&mut self, hart: u8) -> Outcome
         requires may { MayStep hart (programs_of D.contents D.failures self.old) }
-        requires room { HasRoom (get_or self.old.calls hart None) }
         ensures makes { plain_makes blocks code (StepOf hart (said result (shared_of D.contents D.failures self.new))) (programs_of D.contents D.failures self.old) ≡ record { came = outcome_of result; after = programs_of D.contents D.failures self.new } }
         ensures honest { PlainHonest blocks code (StepOf hart (said result (shared_of D.contents D.failures self.new))) (programs_of D.contents D.failures self.old) }
         ensures called { CallsOnce D.Called self.old.core.log.cache.device self.new.core.log.cache.device }

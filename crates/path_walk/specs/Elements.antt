@@ -4,6 +4,13 @@ use Rattle.fs_layout.specs.Name.{IsName}
 use Rattle.plain_tree.specs.Tree.{Name}
 use Rattle.path_walk.specs.declared.elements.Element.{Element}
 
+-- bytes of the longest path, and the elements that it has at most
+abbrev pub longest_path : ℕ
+longest_path = 127
+
+abbrev pub most_elements : ℕ
+most_elements = 64
+
 -- the name of an element
 abbrev pub name_in : List ℕ → Element → Name
 name_in path e = slice_range path e.start e.end

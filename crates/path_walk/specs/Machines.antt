@@ -1,5 +1,5 @@
 -- The programs that are left of a walk.
-use Rattle.std.specs.Prelude.{◌≡◌, ℕ, ◌^◌, ◌<◌, List, [], ◌∷◌, ◌++◌, drop, Option, Some, None, IfSome}
+use Rattle.std.specs.Prelude.{◌≡◌, ℕ, suc, ◌+◌, ◌^◌, ◌<◌, List, [], ◌∷◌, ◌++◌, drop, length, Option, Some, None, IfSome}
 use Rattle.sleep_lock.specs.SleepLock.{GuardState}
 use Rattle.fs_layout.specs.declared.inode.Dinode.{Dinode}
 use Rattle.atomic_programs.specs.Prog.{Ret, Do, bind, unmarked}
@@ -77,16 +77,28 @@ abbrev pub EndsIn : List ℕ → Walked → Type 0
 EndsIn path (walked.Reached d last list) = IfSome last (IsElement path)
 EndsIn path (walked.Lost why list) = Unit {0}
 
--- the call's list
-abbrev pub list_of : Walk → List ℕ
-list_of (walking.Start inodestart goal list) = list
-list_of (walking.Lock way d) = way.list
-list_of (walking.Load way d guard m) = way.list
-list_of (walking.Lookup way d m) = way.list
-list_of (walking.Up way d guard n) = way.list
-list_of (walking.Unlock way d guard then) = way.list
-list_of (walking.Down way d then) = way.list
-list_of (walking.Leave way d guard) = way.list
+-- ---- how long the call's list may get
+
+-- a reference for this element, and for each behind it
+abbrev pub most_on : List ℕ → Way → ℕ
+most_on path way = length way.list + suc (length (elements (drop way.element.rest path)))
+
+abbrev pub most_listed : List ℕ → Walk → ℕ
+most_listed path (walking.Start inodestart goal list) = length list + length (elements path)
+most_listed path (walking.Lock way d) = most_on path way
+most_listed path (walking.Load way d guard m) = most_on path way
+most_listed path (walking.Lookup way d m) = most_on path way
+most_listed path (walking.Up way d guard n) = most_on path way
+most_listed path (walking.Unlock way d guard then) = most_on path way
+most_listed path (walking.Down way d then) = most_on path way
+most_listed path (walking.Leave way d guard) = most_on path way
+
+-- the call's list at the end
+abbrev pub kept_in : Walked → List ℕ
+kept_in (walked.Reached d last list) = list
+kept_in (walked.Lost why list) = list
+
+-- ---- steps
 
 -- a nested machine's step, as one of the walk that it stands in; where it is done, the walk goes on with a state of which this holds
 abbrev pub GoesOn : {M R : Type 0} → (M → Walk) → (R → Walk → Type 0) → Stepped M R Kind → Stepped Walk Walked Kind → Type 0
@@ -100,6 +112,7 @@ abbrev pub LoadedTo : List ℕ → Way → ℕ → GuardState Inode → Dinode �
 LoadedTo path way d guard i w =
     (walk_of path w ≡ visit_of path way d (loaded d i))
     × ((hart : ℕ) (s : State) → IsOwnInode hart d guard s → WalkFits path hart s w)
+    × (most_listed path w ≡ most_on path way)
 
 -- and a lookup that is
 abbrev pub found_as : Way → ℕ → GuardState Inode → Option Found → Walk

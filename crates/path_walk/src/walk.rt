@@ -1,5 +1,5 @@
 //! A path walked.
-ghost use Rattle.std.specs.Prelude.{◌≡◌, ◌≢◌, ◌^◌, ◌<◌, ◌≤◌, ℕ, List, drop, length, All, IsSome};
+ghost use Rattle.std.specs.Prelude.{◌≡◌, ◌≢◌, ◌^◌, ◌<◌, ◌≤◌, ◌+◌, ℕ, List, drop, length, All, IsSome};
 ghost use Rattle.atomic_programs.specs.Prog.{bind, Ran as ItRan};
 ghost use Rattle.atomic_programs.specs.Machines.{Still, Left as LeftOf};
 ghost use Rattle.fs_machine.specs.LogPart.{Outside};
@@ -12,7 +12,7 @@ ghost use Rattle.inode_data.specs.Beginnings.{begun_of, IfBegun};
 ghost use Rattle.plain_tree.specs.Tree.{elements};
 ghost use Rattle.path_walk.specs.Elements.{name_in};
 ghost use Rattle.path_walk.specs.Programs.{go_on, is_last, loaded, see_parent, start_of, walk, walk_path};
-ghost use Rattle.path_walk.specs.Machines.{found_state, in_lookup, keep, list_of, next_as, next_of, visit_of, walk_of, walked_as, EndsIn, GoesOn, IsWay, LoadedTo, WalkFits};
+ghost use Rattle.path_walk.specs.Machines.{found_state, in_lookup, keep, kept_in, most_listed, most_on, next_as, next_of, visit_of, walk_of, walked_as, EndsIn, GoesOn, IsWay, LoadedTo, WalkFits};
 ghost use Rattle.path_walk.specs.declared.walk.Walk.TheVariants as walking;
 
 use crate::elements::{Element, is_absolute, next_element};
@@ -22,7 +22,7 @@ use block_device::Device;
 use directory::{Search, Searched, Sought, is_directory};
 use fs_layout::Dinode;
 use fs_machine::{Core, Kind, RetiredCore};
-use fs_tables::{Inode, Listed, MEMORY_INODES, ROOT, Reference};
+use fs_tables::{Inode, Listed, MOST_LISTED, ROOT, Reference};
 use inode_data::{Begun, record, went_on};
 use inode_table::LoadInode;
 use sleep_lock::Guard;
@@ -96,7 +96,7 @@ impl Walk {
     pub fn new(inodestart: u32, goal: Goal, list: Listed) -> Walk
         requires { inodestart < 2 ^ 31 }
         ensures program { (path : List ℕ) → walk_of path result ≡ walk_path goal inodestart path list }
-        ensures list { list_of result ≡ list }
+        ensures most { (path : List ℕ) → most_listed path result ≡ length list + length (elements path) }
         ensures fits { (path : List ℕ) (hart : ℕ) (s : State) → WalkFits path hart s result }
     {
         Walk::Start(inodestart, goal, list)
@@ -111,13 +111,14 @@ impl Walk {
         core: &mut Core<D>,
     ) -> Stepped<Walk, Walked, Kind>
         requires nonzero { All (λ b. b ≢ 0) path.now }
-        requires room { length (list_of self) < MEMORY_INODES }
+        requires room { most_listed path.now self ≤ MOST_LISTED }
         requires may { MayNext hart (walk_of path.now self) (state_of D.contents D.failures core.old) }
         requires fits { WalkFits path.now hart (state_of D.contents D.failures core.old) self }
         ensures moves { Moves (walk_of path.now) (walked_as path.now) hart self result (state_of D.contents D.failures core.old) (state_of D.contents D.failures core.new) }
         ensures honest { Answers (walk_of path.now) hart self result (state_of D.contents D.failures core.old) (state_of D.contents D.failures core.new) }
         ensures still { Still (walk_of path.now) result self core.old core.new }
         ensures fits { LeftOf (WalkFits path.now hart (state_of D.contents D.failures core.new)) (EndsIn path.now) result }
+        ensures most { LeftOf (λ m. most_listed path.now m ≤ most_listed path.now self) (λ w. length (kept_in w) ≤ most_listed path.now self) result }
         ensures others { LeavesTied hart (state_of D.contents D.failures core.old) (state_of D.contents D.failures core.new) }
         ensures called { CallsOnce D.Called core.old.log.cache.device core.new.log.cache.device }
     {
@@ -238,6 +239,7 @@ fn arrive(
     requires start { inodestart < 2 ^ 31 }
     ensures program { begun_of (walk_of path.now) (walked_as path.now) result ≡ walk goal inodestart (elements (drop from path.now)) directory list }
     ensures fits { (hart : ℕ) (s : State) → IfBegun (WalkFits path.now hart s) (EndsIn path.now) result }
+    ensures most { IfBegun (λ m. most_listed path.now m ≤ length list + length (elements (drop from path.now))) (λ w. length (kept_in w) ≤ length list + length (elements (drop from path.now))) result }
 {
     match next_element(path, from) {
         None => Begun::Is(Walked::Reached(directory, None, list)),
@@ -265,6 +267,7 @@ fn started(
     requires start { inodestart < 2 ^ 31 }
     ensures program { begun_of (walk_of path.now) (walked_as path.now) result ≡ go_on (walk goal inodestart (elements path.now)) start list }
     ensures fits { (hart : ℕ) (s : State) → IfBegun (WalkFits path.now hart s) (EndsIn path.now) result }
+    ensures most { IfBegun (λ m. most_listed path.now m ≤ length list + length (elements path.now)) (λ w. length (kept_in w) ≤ length list + length (elements path.now)) result }
 {
     match start {
         None => Begun::Is(Walked::Lost(Stop::NoMemory, list)),
@@ -288,6 +291,7 @@ fn after(path: &[u8], way: Way, next: Next) -> Begun<Walk, Walked>
     requires way { IsWay path.now way }
     ensures program { begun_of (walk_of path.now) (walked_as path.now) result ≡ next_of path.now way next way.list }
     ensures fits { (hart : ℕ) (s : State) → IfBegun (WalkFits path.now hart s) (EndsIn path.now) result }
+    ensures most { IfBegun (λ m. most_listed path.now m ≤ length way.list + length (elements (drop way.element.rest path.now))) (λ w. length (kept_in w) ≤ length way.list + length (elements (drop way.element.rest path.now))) result }
 {
     let Way {
         inodestart,
@@ -303,8 +307,9 @@ fn after(path: &[u8], way: Way, next: Next) -> Begun<Walk, Walked>
 
 // The call's list has the reference that was kept, if one was.
 fn with_kept(way: Way, kept: Option<Reference>) -> Way
-    requires { length way.list < MEMORY_INODES }
-    ensures { result ≡ record way { list = keep way.list kept } }
+    requires { length way.list < MOST_LISTED }
+    ensures with { result ≡ record way { list = keep way.list kept } }
+    ensures one { length result.list ≤ length way.list + 1 }
 {
     let mut way = way;
     match kept {
@@ -322,6 +327,7 @@ fn locked(path: &[u8], way: Way, directory: Reference, guard: Guard<Inode>) -> W
     requires number { guard.value.number ≡ directory }
     ensures program { walk_of path.now result ≡ bind (load_unless way.inodestart directory guard.value.content) (λ i. visit_of path.now way directory (loaded directory i)) }
     ensures fits { (hart : ℕ) (s : State) → IsOwnInode hart directory guard s → WalkFits path.now hart s result }
+    ensures most { most_listed path.now result ≡ most_on path.now way }
 {
     if guard.value().content.is_some() {
         visit(path, way, directory, guard)
@@ -339,6 +345,7 @@ fn visit(path: &[u8], way: Way, directory: Reference, guard: Guard<Inode>) -> Wa
     requires loaded { IsSome guard.value.content }
     ensures program { walk_of path.now result ≡ visit_of path.now way directory guard.value }
     ensures fits { (hart : ℕ) (s : State) → IsOwnInode hart directory guard s → WalkFits path.now hart s result }
+    ensures most { most_listed path.now result ≡ most_on path.now way }
 {
     if is_last(path, &way) {
         return see(way, directory, guard);
@@ -367,6 +374,7 @@ fn see(way: Way, directory: Reference, guard: Guard<Inode>) -> Walk
     requires loaded { IsSome guard.value.content }
     ensures program { (path : List ℕ) → walk_of path result ≡ see_parent (name_in path way.element) directory guard.value way.list }
     ensures fits { (path : List ℕ) (hart : ℕ) (s : State) → IsWay path way → IsOwnInode hart directory guard s → WalkFits path hart s result }
+    ensures most { (path : List ℕ) → most_listed path result ≡ most_on path way }
 {
     if is_directory(&record(&guard)) {
         Walk::Leave(way, directory, guard)
@@ -377,7 +385,8 @@ fn see(way: Way, directory: Reference, guard: Guard<Inode>) -> Walk
 
 // After the element was looked up.
 fn found(way: Way, directory: Reference, searched: Searched) -> Walk
-    ensures { result ≡ found_state way directory searched }
+    ensures goes { result ≡ found_state way directory searched }
+    ensures most { (path : List ℕ) → most_listed path result ≡ most_on path way }
 {
     let Searched { inode, found } = searched;
     match found {

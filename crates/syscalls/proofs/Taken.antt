@@ -1,5 +1,5 @@
 -- An inode while it is taken, and what a path leads to.
-use Rattle.std.proofs.Common.{◌≡◌, ℕ, List, sym, subst, rules}
+use Rattle.std.proofs.Common.{◌≡◌, ◌≤◌, ◌+◌, ℕ, List, [], length, sym, ap, subst, rules, arith}
 use Rattle.fs_layout.specs.declared.inode.Dinode.{Dinode}
 use Rattle.sleep_lock.specs.SleepLock.{GuardState}
 use Rattle.sleep_lock.specs.Row.{IsOut}
@@ -8,6 +8,7 @@ use Rattle.atomic_programs.specs.declared.machines.Stepped.{Stepped}
 use Rattle.atomic_programs.specs.declared.machines.Stepped.TheVariants.{Waits, Ran, Done, Stopped}
 use Rattle.fs_tables.specs.declared.inodes.Inode.{Inode}
 use Rattle.fs_tables.specs.Tables.{TablesState}
+use Rattle.fs_tables.specs.Limits.{listed_places}
 use Rattle.fs_tables.specs.Locks.{IsLocked}
 use Rattle.fs_machine.specs.declared.kind.Kind.{Kind}
 use Rattle.fs_machine.specs.Steps.{State}
@@ -15,6 +16,9 @@ use Rattle.fs_machine.specs.Tied.{IsOwnInode}
 use Rattle.inode_table.specs.declared.load_inode.LoadInode.{LoadInode}
 use Rattle.inode_table.specs.Machines.{LoadFits}
 use Rattle.file_table.specs.Machines.{with_content}
+use Rattle.plain_tree.specs.Tree.{elements}
+use Rattle.path_walk.specs.Elements.{longest_path}
+use Rattle.path_walk.proofs.Few.{few_elements}
 use Rattle.syscalls.specs.declared.take.Held.{Held}
 use Rattle.syscalls.specs.declared.take.TakeInode.{TakeInode}
 use Rattle.syscalls.specs.declared.take.TakeInode.TheVariants as taking
@@ -56,3 +60,7 @@ is_there path hart s (reached.Lost why list) known = tt
 
 pub reached_there : (path : List ℕ) (hart : ℕ) (s : State) (stepped : Stepped Reach Reached Kind) → Left (ReachFits path hart s) (IsReached path hart s) stepped → Left (λ _. Unit {0}) (IsThere path) stepped
 reached_there path hart s stepped left = left_map (ReachFits path hart s) (λ _. Unit {0}) (IsReached path hart s) (IsThere path) (λ m f. tt) (λ r f. is_there path hart s r f) stepped left
+
+-- a call's list has room for each element of its path, at first
+pub room_at_first : (path list : List ℕ) → length path ≤ longest_path → list ≡ [] → length list + length (elements path) ≤ listed_places
+room_at_first path list short none = omega (arith, few_elements path short, ap length none)

@@ -1,20 +1,22 @@
 -- The programs that are left of a chdir.
-use Rattle.std.specs.Prelude.{◌≡◌, ◌≢◌, ℕ, All}
+use Rattle.std.specs.Prelude.{◌≡◌, ◌≢◌, ◌≤◌, ℕ, All, length}
 use Rattle.atomic_programs.specs.Prog.{bind}
 use Rattle.plain_tree.specs.declared.answer.Reply.{Reply}
 use Rattle.fs_machine.specs.Steps.{State}
 use Rattle.fs_machine.specs.Machines.{P}
 use Rattle.file_table.specs.Machines.{IsEarly}
+use Rattle.path_walk.specs.Elements.{longest_path}
 use Rattle.syscalls.specs.Moving.{settle, chdir_found, chdir_program}
-use Rattle.syscalls.specs.Taking.{inode_in, IsHeld, reach_of, ReachFits, ReachRoom}
+use Rattle.syscalls.specs.Taking.{inode_in, IsHeld, reach_of, ReachFits}
 use Rattle.syscalls.specs.Ends.{quit_of, QuitFits}
 use Rattle.syscalls.specs.declared.on_path.OnPath.{OnPath}
 use Rattle.syscalls.specs.declared.chdir.Chdir.{Chdir}
 use Rattle.syscalls.specs.declared.chdir.Chdir.TheVariants as chdir
 
--- a path has no zero byte, and every inode's block has a number
+-- a path is short and has no zero byte, and every inode's block has a number
 pub record IsOnPath (on : OnPath) : Type 0 where
   pub early : IsEarly on.sizes.inodestart
+  pub short : length on.path ≤ longest_path
   pub nonzero : All (λ b. b ≢ 0) on.path
 
 unfoldable pub chdir_of : Chdir → P Reply
@@ -29,10 +31,3 @@ ChdirFits hart s (chdir.Join on) = IsOnPath on
 ChdirFits hart s (chdir.Reaching on txn m) = IsOnPath on × (txn ≡ hart) × ReachFits on.path hart s m
 ChdirFits hart s (chdir.Settle on txn list held) = IsOnPath on × (txn ≡ hart) × IsHeld hart held s
 ChdirFits hart s (chdir.Ends m) = QuitFits hart s m
-
--- while a path is walked the call's list has room for one more
-unfoldable pub ChdirRoom : Chdir → Type 0
-ChdirRoom (chdir.Join on) = Unit {0}
-ChdirRoom (chdir.Reaching on txn m) = ReachRoom m
-ChdirRoom (chdir.Settle on txn list held) = Unit {0}
-ChdirRoom (chdir.Ends m) = Unit {0}

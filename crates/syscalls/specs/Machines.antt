@@ -26,8 +26,8 @@ use Rattle.syscalls.specs.declared.read.Read.{Read}
 use Rattle.syscalls.specs.declared.read.Read.TheVariants as read
 use Rattle.syscalls.specs.Replies.{failed, full, done}
 use Rattle.syscalls.specs.Programs.{say, dup_program, leave_closed, drop_closed, close_program, stat_reply, stat_on, give_read, read_on}
-use Rattle.syscalls.specs.Opens.{open_old_of, OpenOldFits, OpenOldRoom}
-use Rattle.syscalls.specs.Chdirs.{chdir_of, ChdirFits, ChdirRoom}
+use Rattle.syscalls.specs.Opens.{open_old_of, OpenOldFits}
+use Rattle.syscalls.specs.Chdirs.{chdir_of, ChdirFits}
 use Rattle.syscalls.specs.declared.running.Running.{Running}
 use Rattle.syscalls.specs.declared.running.Running.TheVariants as running
 use Rattle.syscalls.specs.declared.dup.Dup.{Dup}
@@ -117,12 +117,3 @@ RunningFits hart s (running.Dup m) = Unit {0}
 RunningFits hart s (running.Close m) = CloseFits hart s m
 RunningFits hart s (running.Fstat m) = FstatFits hart s m
 RunningFits hart s (running.Read m) = ReadCallFits hart s m
-
--- while a path is walked the call's list has room for one more
-unfoldable pub RunningRoom : Running → Type 0
-RunningRoom (running.Open m) = OpenOldRoom m
-RunningRoom (running.Chdir m) = ChdirRoom m
-RunningRoom (running.Dup m) = Unit {0}
-RunningRoom (running.Close m) = Unit {0}
-RunningRoom (running.Fstat m) = Unit {0}
-RunningRoom (running.Read m) = Unit {0}

@@ -1,5 +1,5 @@
 -- The programs that are left of an open.
-use Rattle.std.specs.Prelude.{◌≡◌, ◌≢◌, ℕ, All}
+use Rattle.std.specs.Prelude.{◌≡◌, ◌≢◌, ◌≤◌, ℕ, All, length}
 use Rattle.atomic_programs.specs.Prog.{bind}
 use Rattle.fs_layout.specs.declared.inode.Dinode.{Dinode}
 use Rattle.plain_tree.specs.declared.answer.Reply.{Reply}
@@ -7,11 +7,12 @@ use Rattle.fs_machine.specs.Steps.{State}
 use Rattle.fs_machine.specs.Machines.{P}
 use Rattle.fs_machine.specs.Tied.{IsOwnInode}
 use Rattle.inode_data.specs.Truncating.{truncate_of, emptied_of, TruncateFits}
+use Rattle.path_walk.specs.Elements.{longest_path}
 use Rattle.path_walk.specs.Programs.{loaded}
 use Rattle.file_table.specs.Machines.{IsEarly}
 use Rattle.syscalls.specs.Parts.{unlock_quit}
 use Rattle.syscalls.specs.Opening.{install, take_descriptor, open_found, open_old}
-use Rattle.syscalls.specs.Taking.{inode_in, IsHeld, reach_of, ReachFits, ReachRoom}
+use Rattle.syscalls.specs.Taking.{inode_in, IsHeld, reach_of, ReachFits}
 use Rattle.syscalls.specs.Ends.{quit_of, QuitFits}
 use Rattle.syscalls.specs.declared.tail.Ending.{Ending}
 use Rattle.syscalls.specs.declared.install.Opening.{Opening}
@@ -20,9 +21,10 @@ use Rattle.syscalls.specs.declared.install.Install.TheVariants as installing
 use Rattle.syscalls.specs.declared.open_old.OpenOld.{OpenOld}
 use Rattle.syscalls.specs.declared.open_old.OpenOld.TheVariants as opening
 
--- a path has no zero byte, and every inode's block has a number
+-- a path is short and has no zero byte, and every inode's block has a number
 pub record IsOpening (o : Opening) : Type 0 where
   pub early : IsEarly o.sizes.inodestart
+  pub short : length o.path ≤ longest_path
   pub nonzero : All (λ b. b ≢ 0) o.path
 
 -- ---- a place and a descriptor
@@ -57,10 +59,3 @@ OpenOldFits hart s (opening.Join o) = IsOpening o
 OpenOldFits hart s (opening.Reaching o txn m) = IsOpening o × (txn ≡ hart) × ReachFits o.path hart s m
 OpenOldFits hart s (opening.Installing m) = InstallFits hart s m
 OpenOldFits hart s (opening.Ends m) = QuitFits hart s m
-
--- while a path is walked the call's list has room for one more
-unfoldable pub OpenOldRoom : OpenOld → Type 0
-OpenOldRoom (opening.Join o) = Unit {0}
-OpenOldRoom (opening.Reaching o txn m) = ReachRoom m
-OpenOldRoom (opening.Installing m) = Unit {0}
-OpenOldRoom (opening.Ends m) = Unit {0}

@@ -1,12 +1,12 @@
 -- The programs that are left while an inode is taken, and while a path's end is.
-use Rattle.std.specs.Prelude.{ℕ, ◌<◌, List, IsSome, IfSome, length}
+use Rattle.std.specs.Prelude.{ℕ, ◌≤◌, List, IsSome, IfSome, length}
 use Rattle.sleep_lock.specs.SleepLock.{GuardState}
 use Rattle.atomic_programs.specs.Prog.{Ret, bind}
 use Rattle.atomic_programs.specs.declared.machines.Stepped.{Stepped}
 use Rattle.atomic_programs.specs.declared.machines.Stepped.TheVariants.{Waits, Ran, Done, Stopped}
 use Rattle.fs_layout.specs.declared.inode.Dinode.{Dinode}
 use Rattle.fs_tables.specs.declared.inodes.Inode.{Inode}
-use Rattle.fs_tables.specs.Limits.{inode_places}
+use Rattle.fs_tables.specs.Limits.{listed_places}
 use Rattle.fs_machine.specs.declared.kind.Kind.{Kind}
 use Rattle.fs_machine.specs.Steps.{State}
 use Rattle.fs_machine.specs.Machines.{P}
@@ -16,7 +16,7 @@ use Rattle.inode_table.specs.Machines.{load_of, LoadFits}
 use Rattle.file_table.specs.Machines.{IsEarly, with_content}
 use Rattle.path_walk.specs.Elements.{IsElement, names_of}
 use Rattle.path_walk.specs.Programs.{loaded}
-use Rattle.path_walk.specs.Machines.{walk_of, list_of, WalkFits}
+use Rattle.path_walk.specs.Machines.{walk_of, most_listed, WalkFits}
 use Rattle.syscalls.specs.Parts.{take_inode, ReachedState, Finds, Misses, give_reached, reach_on}
 use Rattle.syscalls.specs.declared.take.Held.{Held}
 use Rattle.syscalls.specs.declared.take.TakeInode.{TakeInode}
@@ -59,20 +59,25 @@ unfoldable pub reach_of : List ℕ → Reach → P ReachedState
 reach_of path (reaching.Walking inodestart m) = bind (walk_of path m) (reach_on inodestart)
 reach_of path (reaching.Taking last list m) = bind (take_of m) (give_reached (names_of path last) list)
 
--- its guards go with the state
+-- its guards go with the state, and the call's list has room for what the walk may put on it
 unfoldable pub ReachFits : List ℕ → ℕ → State → Reach → Type 0
-ReachFits path hart s (reaching.Walking inodestart m) = IsEarly inodestart × WalkFits path hart s m
+ReachFits path hart s (reaching.Walking inodestart m) = IsEarly inodestart × WalkFits path hart s m × (most_listed path m ≤ listed_places)
 ReachFits path hart s (reaching.Taking last list m) = IfSome last (IsElement path) × TakeFits hart s m
 
--- while the path is walked the call's list has room for one more
-unfoldable pub ReachRoom : Reach → Type 0
-ReachRoom (reaching.Walking inodestart m) = length (list_of m) < inode_places
-ReachRoom (reaching.Taking last list m) = Unit {0}
+-- how long the call's list may get
+abbrev pub most_reached : List ℕ → Reach → ℕ
+most_reached path (reaching.Walking inodestart m) = most_listed path m
+most_reached path (reaching.Taking last list m) = length list
 
 -- what its result stands for
 abbrev pub reached_as : List ℕ → Reached → ReachedState
 reached_as path (reached.At held last list) = Finds (inode_in held) (names_of path last) list
 reached_as path (reached.Lost why list) = Misses why list
+
+-- the call's list at the end
+abbrev pub kept_by : Reached → List ℕ
+kept_by (reached.At held last list) = list
+kept_by (reached.Lost why list) = list
 
 -- what is known of it
 abbrev pub IsReached : List ℕ → ℕ → State → Reached → Type 0

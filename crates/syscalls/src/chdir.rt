@@ -1,16 +1,17 @@
 //! chdir: another current directory.
-ghost use Rattle.std.specs.Prelude.{◌≡◌, ◌≢◌, ℕ, All, IsSome};
+ghost use Rattle.std.specs.Prelude.{◌≡◌, ◌≢◌, ◌≤◌, ℕ, All, IsSome, length};
 ghost use Rattle.atomic_programs.specs.Machines.{Still, Left as LeftOf};
 ghost use Rattle.fs_machine.specs.Steps.{State, state_of};
 ghost use Rattle.fs_machine.specs.Machines.{MayNext, Moves, Answers, CallsOnce};
 ghost use Rattle.fs_machine.specs.Tied.{LeavesTied};
 ghost use Rattle.inode_data.specs.Machines.{ends_within};
 ghost use Rattle.file_table.specs.Machines.{IsEarly};
+ghost use Rattle.path_walk.specs.Elements.{longest_path};
 ghost use Rattle.syscalls.specs.Nesting.{Follows};
 ghost use Rattle.syscalls.specs.Parts.{Misses, drop_quit};
 ghost use Rattle.syscalls.specs.Moving.{chdir_at, chdir_found, chdir_program, chdir_reply};
 ghost use Rattle.syscalls.specs.Taking.{inode_in, IsHeld, reach_of, ReachFits, reached_as, IsReached, IsThere};
-ghost use Rattle.syscalls.specs.Chdirs.{chdir_of, ChdirFits, ChdirRoom, IsOnPath};
+ghost use Rattle.syscalls.specs.Chdirs.{chdir_of, ChdirFits, IsOnPath};
 ghost use Rattle.plain_tree.specs.declared.answer.Answer.TheVariants as answers;
 ghost use Rattle.syscalls.specs.declared.chdir.Chdir.TheVariants as chdir;
 
@@ -46,6 +47,7 @@ impl Chdir {
     #[tactic(auto, unfolding(crate::specs::Chdirs::chdir_of, crate::specs::Chdirs::ChdirFits))]
     pub fn new(sizes: &Super, path: Bytes) -> Chdir
         requires early { IsEarly sizes.now.inodestart }
+        requires short { length path ≤ longest_path }
         requires nonzero { All (λ b. b ≢ 0) path }
         ensures program { chdir_of result ≡ chdir_program sizes.now path }
         ensures fits { (hart : ℕ) (s : State) → ChdirFits hart s result }
@@ -57,9 +59,8 @@ impl Chdir {
     }
 
     /// One operation.
-    #[tactic(auto, unfolding(crate::specs::Chdirs::chdir_of, crate::specs::Chdirs::ChdirFits, crate::specs::Chdirs::ChdirRoom, fs_machine::specs::Premises::Honest))]
+    #[tactic(auto, unfolding(crate::specs::Chdirs::chdir_of, crate::specs::Chdirs::ChdirFits, fs_machine::specs::Premises::Honest))]
     pub fn step<D: Device>(self, hart: u8, core: &mut Core<D>) -> Stepped<Chdir, Reply, Kind>
-        requires room { ChdirRoom self }
         requires may { MayNext hart (chdir_of self) (state_of D.contents D.failures core.old) }
         requires fits { ChdirFits hart (state_of D.contents D.failures core.old) self }
         ensures moves { Moves chdir_of (λ reply. reply) hart self result (state_of D.contents D.failures core.old) (state_of D.contents D.failures core.new) }

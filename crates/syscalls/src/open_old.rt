@@ -1,5 +1,5 @@
 //! open without CREATE: of what is there.
-ghost use Rattle.std.specs.Prelude.{◌≡◌, ◌≢◌, ℕ, All, IsSome};
+ghost use Rattle.std.specs.Prelude.{◌≡◌, ◌≢◌, ◌≤◌, ℕ, All, IsSome, length};
 ghost use Rattle.atomic_programs.specs.Machines.{Still, Left as LeftOf};
 ghost use Rattle.fs_machine.specs.Steps.{State, state_of};
 ghost use Rattle.fs_machine.specs.Machines.{MayNext, Moves, Answers, CallsOnce};
@@ -8,11 +8,12 @@ ghost use Rattle.image_tree.specs.Trees.{is_file};
 ghost use Rattle.inode_data.specs.Machines.{ends_within};
 ghost use Rattle.file_table.specs.Machines.{IsEarly};
 ghost use Rattle.plain_tree.specs.Steps.{has_driver};
+ghost use Rattle.path_walk.specs.Elements.{longest_path};
 ghost use Rattle.syscalls.specs.Nesting.{Follows};
 ghost use Rattle.syscalls.specs.Parts.{Misses};
 ghost use Rattle.syscalls.specs.Opening.{empties, open_at, open_found, open_old, open_refusal};
 ghost use Rattle.syscalls.specs.Taking.{inode_in, IsHeld, reach_of, ReachFits, reached_as, IsReached, IsThere};
-ghost use Rattle.syscalls.specs.Opens.{open_old_of, OpenOldFits, OpenOldRoom, IsOpening};
+ghost use Rattle.syscalls.specs.Opens.{open_old_of, OpenOldFits, IsOpening};
 ghost use Rattle.syscalls.specs.declared.open_old.OpenOld.TheVariants as old;
 
 use crate::install::{Install, Opening, ToOpen, has_flag};
@@ -56,6 +57,7 @@ impl OpenOld {
     #[tactic(auto, unfolding(crate::specs::Opens::open_old_of, crate::specs::Opens::OpenOldFits))]
     pub fn new(sizes: &Super, path: Bytes, flags: u32) -> OpenOld
         requires early { IsEarly sizes.now.inodestart }
+        requires short { length path ≤ longest_path }
         requires nonzero { All (λ b. b ≢ 0) path }
         ensures program { open_old_of result ≡ open_old sizes.now path flags }
         ensures fits { (hart : ℕ) (s : State) → OpenOldFits hart s result }
@@ -68,9 +70,8 @@ impl OpenOld {
     }
 
     /// One operation.
-    #[tactic(auto, unfolding(crate::specs::Opens::open_old_of, crate::specs::Opens::OpenOldFits, crate::specs::Opens::OpenOldRoom, fs_machine::specs::Premises::Honest))]
+    #[tactic(auto, unfolding(crate::specs::Opens::open_old_of, crate::specs::Opens::OpenOldFits, fs_machine::specs::Premises::Honest))]
     pub fn step<D: Device>(self, hart: u8, core: &mut Core<D>) -> Stepped<OpenOld, Reply, Kind>
-        requires room { OpenOldRoom self }
         requires may { MayNext hart (open_old_of self) (state_of D.contents D.failures core.old) }
         requires fits { OpenOldFits hart (state_of D.contents D.failures core.old) self }
         ensures moves { Moves open_old_of (λ reply. reply) hart self result (state_of D.contents D.failures core.old) (state_of D.contents D.failures core.new) }

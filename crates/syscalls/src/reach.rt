@@ -1,15 +1,17 @@
 //! What a path leads to, taken.
-ghost use Rattle.std.specs.Prelude.{◌≡◌, ◌≢◌, ℕ, List, All, IfSome};
+ghost use Rattle.std.specs.Prelude.{◌≡◌, ◌≢◌, ◌≤◌, ◌+◌, ℕ, List, All, IfSome, length};
 ghost use Rattle.atomic_programs.specs.Machines.{Still, Left as LeftOf};
 ghost use Rattle.fs_machine.specs.Steps.{State, state_of};
 ghost use Rattle.fs_machine.specs.Machines.{MayNext, Moves, Answers, CallsOnce};
 ghost use Rattle.fs_machine.specs.Tied.{LeavesTied};
 ghost use Rattle.file_table.specs.Machines.{IsEarly};
 ghost use Rattle.path_walk.specs.Elements.{IsElement, names_of};
-ghost use Rattle.path_walk.specs.Machines.{walk_of, walked_as, WalkFits, EndsIn};
+ghost use Rattle.fs_tables.specs.Limits.{listed_places};
+ghost use Rattle.path_walk.specs.Machines.{walk_of, walked_as, kept_in, most_listed, WalkFits, EndsIn};
+ghost use Rattle.plain_tree.specs.Tree.{elements};
 ghost use Rattle.syscalls.specs.Nesting.{Follows};
 ghost use Rattle.syscalls.specs.Parts.{reach, reach_on, give_reached};
-ghost use Rattle.syscalls.specs.Taking.{take_of, TakeFits, inode_in, IsHeld, reach_of, ReachFits, ReachRoom, reached_as, IsReached};
+ghost use Rattle.syscalls.specs.Taking.{take_of, TakeFits, inode_in, IsHeld, reach_of, ReachFits, most_reached, reached_as, kept_by, IsReached};
 
 use crate::take::{Held, TakeInode};
 use atomic_programs::machines::Stepped;
@@ -39,13 +41,14 @@ impl Reach {
     pub fn new(inodestart: u32, goal: Goal, list: Listed) -> Reach
         requires { IsEarly inodestart }
         ensures program { (path : List ℕ) → reach_of path result ≡ reach goal inodestart path list }
-        ensures fits { (path : List ℕ) (hart : ℕ) (s : State) → ReachFits path hart s result }
+        ensures fits { (path : List ℕ) (hart : ℕ) (s : State) → length list + length (elements path) ≤ listed_places → ReachFits path hart s result }
+        ensures most { (path : List ℕ) → most_reached path result ≡ length list + length (elements path) }
     {
         Reach::Walking(inodestart, Walk::new(inodestart, goal, list))
     }
 
     /// One operation.
-    #[tactic(auto, unfolding(crate::specs::Taking::reach_of, crate::specs::Taking::ReachFits, crate::specs::Taking::ReachRoom))]
+    #[tactic(auto, unfolding(crate::specs::Taking::reach_of, crate::specs::Taking::ReachFits))]
     pub fn step<D: Device>(
         self,
         hart: u8,
@@ -53,13 +56,13 @@ impl Reach {
         core: &mut Core<D>,
     ) -> Stepped<Reach, Reached, Kind>
         requires nonzero { All (λ b. b ≢ 0) path.now }
-        requires room { ReachRoom self }
         requires may { MayNext hart (reach_of path.now self) (state_of D.contents D.failures core.old) }
         requires fits { ReachFits path.now hart (state_of D.contents D.failures core.old) self }
         ensures moves { Moves (reach_of path.now) (reached_as path.now) hart self result (state_of D.contents D.failures core.old) (state_of D.contents D.failures core.new) }
         ensures honest { Answers (reach_of path.now) hart self result (state_of D.contents D.failures core.old) (state_of D.contents D.failures core.new) }
         ensures still { Still (reach_of path.now) result self core.old core.new }
         ensures fits { LeftOf (ReachFits path.now hart (state_of D.contents D.failures core.new)) (IsReached path.now hart (state_of D.contents D.failures core.new)) result }
+        ensures most { LeftOf (λ m. most_reached path.now m ≤ most_reached path.now self) (λ r. length (kept_by r) ≤ most_reached path.now self) result }
         ensures others { LeavesTied hart (state_of D.contents D.failures core.old) (state_of D.contents D.failures core.new) }
         ensures called { CallsOnce D.Called core.old.log.cache.device core.new.log.cache.device }
     {
@@ -86,7 +89,8 @@ impl Reach {
 fn walking(inodestart: u32, stepped: Stepped<Walk, Walked, Kind>) -> Stepped<Reach, Reached, Kind>
     requires { IsEarly inodestart }
     ensures follows { (path : List ℕ) → Follows (walk_of path) (walked_as path) (reach_of path) (reached_as path) (reach_on inodestart) stepped result }
-    ensures fits { (path : List ℕ) (hart : ℕ) (s : State) → LeftOf (WalkFits path hart s) (EndsIn path) stepped → LeftOf (ReachFits path hart s) (IsReached path hart s) result }
+    ensures fits { (path : List ℕ) (hart : ℕ) (s : State) → LeftOf (λ m. WalkFits path hart s m × (most_listed path m ≤ listed_places)) (EndsIn path) stepped → LeftOf (ReachFits path hart s) (IsReached path hart s) result }
+    ensures most { (path : List ℕ) (k : ℕ) → LeftOf (λ m. most_listed path m ≤ k) (λ w. length (kept_in w) ≤ k) stepped → LeftOf (λ m. most_reached path m ≤ k) (λ r. length (kept_by r) ≤ k) result }
 {
     match stepped {
         Stepped::Waits(walk) => Stepped::Waits(Reach::Walking(inodestart, walk)),
@@ -111,6 +115,7 @@ fn taking(
 ) -> Stepped<Reach, Reached, Kind>
     ensures follows { (path : List ℕ) → Follows take_of inode_in (reach_of path) (reached_as path) (give_reached (names_of path last) list) stepped result }
     ensures fits { (path : List ℕ) (hart : ℕ) (s : State) → IfSome last (IsElement path) → LeftOf (TakeFits hart s) (λ held. IsHeld hart held s) stepped → LeftOf (ReachFits path hart s) (IsReached path hart s) result }
+    ensures most { (path : List ℕ) → LeftOf (λ m. most_reached path m ≤ length list) (λ r. length (kept_by r) ≤ length list) result }
 {
     match stepped {
         Stepped::Waits(take) => Stepped::Waits(Reach::Taking(last, list, take)),

@@ -5,7 +5,7 @@ ghost use Rattle.fs_machine.specs.Steps.{state_of};
 ghost use Rattle.fs_machine.specs.Machines.{MayNext, Moves, Answers, CallsOnce};
 ghost use Rattle.fs_machine.specs.Tied.{LeavesTied};
 ghost use Rattle.inode_data.specs.Machines.{ends_within};
-ghost use Rattle.syscalls.specs.Machines.{running_of, RunningFits, RunningRoom};
+ghost use Rattle.syscalls.specs.Machines.{running_of, RunningFits};
 ghost use Rattle.syscalls.specs.declared.running.Running.TheVariants as running;
 
 use crate::chdir::Chdir;
@@ -32,10 +32,9 @@ pub enum Running {
 
 impl Running {
     /// One operation.
-    #[tactic(auto, unfolding(crate::specs::Machines::running_of, crate::specs::Machines::RunningFits, crate::specs::Machines::RunningRoom))]
+    #[tactic(auto, unfolding(crate::specs::Machines::running_of, crate::specs::Machines::RunningFits))]
     pub fn step<D: Device>(self, hart: u8, core: &mut Core<D>) -> Stepped<Running, Reply, Kind>
         requires hart { hart < HARTS }
-        requires room { RunningRoom self }
         requires may { MayNext hart (running_of self) (state_of D.contents D.failures core.old) }
         requires fits { RunningFits hart (state_of D.contents D.failures core.old) self }
         ensures moves { Moves running_of (λ reply. reply) hart self result (state_of D.contents D.failures core.old) (state_of D.contents D.failures core.new) }

@@ -19,5 +19,6 @@ returns-in-Done c =
       (
         c.visit.ensures.program ∙ ap (λ (g : GuardState Inode). visit_of path c.args.way d g.value) is,
         λ (hart : ℕ) (s : State) own. c.visit.ensures.fits hart s (subst (λ (g : GuardState Inode). IsOwnInode hart d g s) (sym is) (own-loaded hart d c.args.guard c.in-Done.inode s own)),
+        c.visit.ensures.most,
       ),
     )

@@ -1,4 +1,4 @@
-use Rattle.std.proofs.Common.{◌≡◌, None, get_or, arith, sym, subst}
+use Rattle.std.proofs.Common.{◌≡◌, arith, sym, subst}
 use Rattle.atomic_programs.specs.Calls.{Step, WasIdle}
 use Rattle.atomic_programs.specs.Plain.{plain_makes, PlainHonest}
 use Rattle.atomic_programs.proofs.Tables.{step_gives, honest_here}
@@ -6,8 +6,8 @@ use Rattle.fs_machine.specs.LogPart.{Passes}
 use Rattle.fs_machine.specs.Steps.{state_of}
 use Rattle.syscalls.specs.Machines.{running_of}
 use Rattle.hart_core.specs.Blocks.{blocks, code, MayStep}
-use Rattle.hart_core.specs.Harts.{HartsOf, HasRoom, said, outcome_of, programs_of}
-use Rattle.hart_core.proofs.Stepping.{all_back, fits_there, room_there, may_there, idle_past, honest_past}
+use Rattle.hart_core.specs.Harts.{HartsOf, said, outcome_of, programs_of}
+use Rattle.hart_core.proofs.Stepping.{all_back, fits_there, may_there, idle_past, honest_past}
 use Rattle.hart_core.proofs.harts.Harts.step.Goals as goal
 
 pub step-doing-requires-clause-may : goal.step-doing-requires-clause-may
@@ -15,12 +15,6 @@ step-doing-requires-clause-may g c =
     let w = c.self.inside in
     may_there c.args.hart (state_of g.D.Device.contents g.D.Device.failures w.core) w.stopped w.calls c.take_out-doing.result c.take_out-doing.ensures.value
     (subst (λ (v : HartsOf _). MayStep c.args.hart (programs_of g.D.Device.contents g.D.Device.failures v)) (sym c.self.view_is) c.requires.may)
-
-pub step-doing-requires-clause-room : goal.step-doing-requires-clause-room
-step-doing-requires-clause-room g c =
-    let w = c.self.inside in
-    room_there c.args.hart (state_of g.D.Device.contents g.D.Device.failures w.core) w.stopped w.calls c.take_out-doing.result c.take_out-doing.ensures.value
-    (subst (λ (v : HartsOf _). HasRoom (get_or v.calls c.args.hart None)) (sym c.self.view_is) c.requires.room)
 
 pub step-doing-requires-clause-fits : goal.step-doing-requires-clause-fits
 step-doing-requires-clause-fits g c =

@@ -4,6 +4,7 @@ use Rattle.fs_machine.specs.LogPart.{Passes}
 use Rattle.fs_machine.specs.Steps.{state_of}
 use Rattle.inode_data.proofs.Beginnings.{went_on_left}
 use Rattle.path_walk.specs.Machines.{EndsIn, WalkFits}
+use Rattle.path_walk.proofs.Lists.{load_most, look_most}
 use Rattle.path_walk.proofs.Steps.{load-moves, load-fits, look-moves, look-honest, look-still, own-stays, up-moves}
 use Rattle.path_walk.proofs.walk.Walk.step.Goals as goal
 
@@ -61,3 +62,11 @@ returns-in-Up-clause-moves g c =
     rw c.in-Up.is
     (up-moves c.args.path.now c.in-Up.way c.in-Up.directory c.in-Up.guard c.in-Up.number c.args.hart Passes c.up.result c.next_to-next.result (s c.args.core.now) (s c.up.new.self)
     (c.up.ensures.ran Passes) c.up.ensures.number c.next_to-next.ensures)
+
+pub returns-in-Load-clause-most : goal.returns-in-Load-clause-most
+returns-in-Load-clause-most g c =
+    rw c.in-Load.is (load_most c.args.path.now c.in-Load.way c.in-Load.directory c.in-Load.guard c.step.result c.loading.result c.loading.ensures)
+
+pub returns-in-Lookup-clause-most : goal.returns-in-Lookup-clause-most
+returns-in-Lookup-clause-most g c =
+    rw (c.in-Lookup.is, c.looking.ensures) (look_most c.args.path.now c.in-Lookup.way c.in-Lookup.directory c.step-in-Lookup.result)

@@ -11,7 +11,7 @@ use Rattle.path_walk.specs.declared.walked.Goal.TheVariants as goals
 use Rattle.syscalls.specs.Parts.{reach}
 use Rattle.syscalls.proofs.Joining.{joined_moves}
 use Rattle.syscalls.proofs.Nesting.{nested_moves, nested_honest, nested_still}
-use Rattle.syscalls.proofs.Taken.{reached_there}
+use Rattle.syscalls.proofs.Taken.{reached_there, room_at_first}
 use Rattle.syscalls.proofs.chdir.Chdir.step.Goals as goal
 
 pub reaching-requires-clause-there : goal.reaching-requires-clause-there
@@ -72,3 +72,11 @@ returns-in-Settle-clause-fits g c =
     let h = c.args.hart in
     let had : IsOnPath c.in-Settle.on × (c.in-Settle.txn ≡ h) × IsHeld h c.in-Settle.held (s c.args.core.now) = subst (λ m. ChdirFits h (s c.args.core.now) m) c.in-Settle.is c.requires.fits in
     c.settled.ensures.fits h (s c.settle-old.new.self) had.1
+
+pub returns-in-Some-clause-fits : goal.returns-in-Some-clause-fits
+unfolding ChdirFits
+returns-in-Some-clause-fits g c =
+    let s = state_of g.D.Device.contents g.D.Device.failures in
+    let on = c.in-Join.on in
+    let had : IsOnPath on = subst (λ m. ChdirFits c.args.hart (s c.args.core.now) m) c.in-Join.is c.requires.fits in
+    (had, c.in-Some.ensures.txn, c.new-reach.ensures.fits on.path c.args.hart (s c.join.new.self) (room_at_first on.path c.new.result had.short c.new.ensures))

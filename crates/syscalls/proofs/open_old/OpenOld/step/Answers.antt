@@ -11,7 +11,7 @@ use Rattle.path_walk.specs.declared.walked.Goal.TheVariants as goals
 use Rattle.syscalls.specs.Parts.{reach}
 use Rattle.syscalls.proofs.Joining.{joined_moves}
 use Rattle.syscalls.proofs.Nesting.{nested_moves, nested_honest, nested_still}
-use Rattle.syscalls.proofs.Taken.{reached_there}
+use Rattle.syscalls.proofs.Taken.{reached_there, room_at_first}
 use Rattle.syscalls.proofs.open_old.OpenOld.step.Goals as goal
 
 pub reaching-requires-clause-there : goal.reaching-requires-clause-there
@@ -64,3 +64,11 @@ returns-in-Some-clause-moves g c =
     let on = c.in-Join.o in
     joined_moves c.args.hart _ (bind (reach goals.Node on.sizes.inodestart on.path []) (open_found on.sizes on.path on.flags)) _ (s c.args.core.now) (s c.join.new.self) (ap open_old_of c.in-Join.is) (c.in-Some.ensures.ran Passes)
     (ap (λ p. bind p (open_found on.sizes on.path on.flags)) (c.new-reach.ensures.program on.path ∙ ap (λ (list : List ℕ). reach goals.Node on.sizes.inodestart on.path list) c.new.ensures))
+
+pub returns-in-Some-clause-fits : goal.returns-in-Some-clause-fits
+unfolding OpenOldFits
+returns-in-Some-clause-fits g c =
+    let s = state_of g.D.Device.contents g.D.Device.failures in
+    let on = c.in-Join.o in
+    let had : IsOpening on = subst (λ m. OpenOldFits c.args.hart (s c.args.core.now) m) c.in-Join.is c.requires.fits in
+    (had, c.in-Some.ensures.txn, c.new-reach.ensures.fits on.path c.args.hart (s c.join.new.self) (room_at_first on.path c.new.result had.short c.new.ensures))
