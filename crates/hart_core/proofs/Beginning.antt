@@ -1,10 +1,10 @@
 -- A call that is under way has an operation to make.
 use Rattle.std.proofs.Common.{◌<◌, ℕ, zero, suc, Bool, true, false, List, [], ◌∷◌, if◌then◌else◌, ◌==◌, arith}
-use Rattle.std.specs.Prelude.{drop, take}
+use Rattle.std.specs.Prelude.{drop, take, slice_index, Option, Some, None}
 use Rattle.sleep_lock.specs.SleepLock.{GuardState}
 use Rattle.buffer_cache.specs.Buffers.{BufferState}
-use Rattle.atomic_programs.specs.Prog.{Ret, Do, bind}
-use Rattle.fs_machine.specs.Steps.{State}
+use Rattle.atomic_programs.specs.Prog.{Ret, Do, bind, unmarked}
+use Rattle.fs_machine.specs.Steps.{State, Put}
 use Rattle.fs_machine.specs.Machines.{P}
 use Rattle.fs_machine.specs.Programs.{fetch, commits}
 use Rattle.fs_machine.specs.Tied.{bytes_of}
@@ -14,9 +14,11 @@ use Rattle.fs_machine.specs.declared.fetch.Fetch.TheVariants as fetching
 use Rattle.fs_machine.specs.declared.finish.Finish.{Finish}
 use Rattle.fs_machine.specs.declared.finish.Finish.TheVariants as finishing
 use Rattle.bitmap_alloc.specs.Programs.{free_block}
-use Rattle.bitmap_alloc.specs.Machines.{free_of}
+use Rattle.bitmap_alloc.specs.Machines.{free_of, take_of as take_block_of}
 use Rattle.bitmap_alloc.specs.declared.free_block.FreeBlock.{FreeBlock}
 use Rattle.bitmap_alloc.specs.declared.free_block.FreeBlock.TheVariants as freeing
+use Rattle.bitmap_alloc.specs.declared.take_block.TakeBlock.{TakeBlock}
+use Rattle.bitmap_alloc.specs.declared.take_block.TakeBlock.TheVariants as taking_block
 use Rattle.inode_table.specs.Machines.{load_of, store_of}
 use Rattle.inode_table.specs.declared.load_inode.LoadInode.{LoadInode}
 use Rattle.inode_table.specs.declared.load_inode.LoadInode.TheVariants as loading
@@ -31,6 +33,16 @@ use Rattle.inode_data.specs.Truncating.{own_rest, listed_rest, indirect_rest, re
 use Rattle.inode_data.specs.Dropping.{free_inode_of, drop_of}
 use Rattle.inode_data.specs.Machines.{block_fetch_of}
 use Rattle.inode_data.specs.Reading.{read_of}
+use Rattle.inode_data.specs.Writing.{located, look_up, name_in_table, take_one}
+use Rattle.inode_data.specs.Locating.{locate_of}
+use Rattle.inode_data.specs.PartWriting.{write_of}
+use Rattle.inode_data.specs.declared.location.Located.{Located}
+use Rattle.inode_data.specs.declared.location.Locate.{Locate}
+use Rattle.inode_data.specs.declared.location.Locate.TheVariants as locating
+use Rattle.inode_data.specs.declared.write_part.WritePart.{WritePart}
+use Rattle.inode_data.specs.declared.write_part.WritePart.TheVariants as writing
+use Rattle.fs_layout.specs.declared.inode.Dinode.{Dinode}
+use Rattle.fs_layout.specs.declared.superblock.Super.{Super}
 use Rattle.inode_data.specs.declared.fetch_block.FetchBlock.{FetchBlock}
 use Rattle.inode_data.specs.declared.fetch_block.FetchBlock.TheVariants as fetched
 use Rattle.inode_data.specs.declared.read_part.ReadPart.{ReadPart}
@@ -85,6 +97,9 @@ use Rattle.syscalls.specs.declared.fstat.Fstat.{Fstat}
 use Rattle.syscalls.specs.declared.fstat.Fstat.TheVariants as fstat
 use Rattle.syscalls.specs.declared.read.Read.{Read}
 use Rattle.syscalls.specs.declared.read.Read.TheVariants as read
+use Rattle.syscalls.specs.Writing.{part_of, write_call_of, WriteCallFits}
+use Rattle.syscalls.specs.declared.write.Write.{Write}
+use Rattle.syscalls.specs.declared.write.Write.TheVariants as write
 use Rattle.syscalls.specs.declared.running.Running.{Running}
 use Rattle.syscalls.specs.declared.running.Running.TheVariants as running
 
@@ -118,6 +133,13 @@ unfolding free_of
 has_free (freeing.Look b f) = first (fetch_of f) _ (has_fetch f)
 has_free (freeing.Unmark b guard) = tt
 
+has_take_block : (m : TakeBlock) → HasOne (take_block_of m)
+unfolding take_block_of
+has_take_block (taking_block.Look size f) = first (fetch_of f) _ (has_fetch f)
+has_take_block (taking_block.Mark size guard) = tt
+has_take_block (taking_block.Fetching f) = first (fetch_of f) _ (has_fetch f)
+has_take_block (taking_block.Zero guard) = tt
+
 has_load : (m : LoadInode) → HasOne (load_of m)
 unfolding load_of
 has_load (loading.Fetching n f) = first (fetch_of f) _ (has_fetch f)
@@ -140,6 +162,33 @@ has_read : (m : ReadPart) → HasOne (read_of m)
 unfolding read_of
 has_read (reading.Fetching r m) = first (block_fetch_of m) _ (has_block m)
 has_read (reading.There r guard) = tt
+
+has_look_up : (sizes : Super) (i : ℕ) (d : Dinode) (table : ℕ) (bytes : List ℕ) → HasOne {A = Located} (look_up sizes i d table bytes)
+has_look_up sizes i d table bytes = each (slice_index (numbers_in bytes) i) (slice_index (numbers_in bytes) i == 0)
+  where
+    each : (n : ℕ) (c : Bool) → HasOne {A = Located} (if c then bind (take_one sizes) (name_in_table i d table bytes) else Do (Put table None) unmarked (λ _. located d (Some n)))
+    each n true = tt
+    each n false = tt
+
+has_name : (i : ℕ) (d : Dinode) (table : ℕ) (bytes : List ℕ) (number : Option ℕ) → HasOne {A = Located} (name_in_table i d table bytes number)
+has_name i d table bytes None = tt
+has_name i d table bytes (Some b) = tt
+
+has_locate : (m : Locate) → HasOne (locate_of m)
+unfolding locate_of
+has_locate (locating.Direct l i m) = first (take_block_of m) _ (has_take_block m)
+has_locate (locating.NewTable l i m) = first (take_block_of m) _ (has_take_block m)
+has_locate (locating.Table l i f) = first (fetch_of f) _ (has_fetch f)
+has_locate (locating.Entry l i table) = has_look_up l.sizes i l.inode table.value.block (bytes_of table)
+has_locate (locating.NewEntry l i table m) = first (take_block_of m) _ (has_take_block m)
+has_locate (locating.Name l i table number) = has_name i l.inode table.value.block (bytes_of table) number
+
+has_write : (bytes : List ℕ) (m : WritePart) → HasOne (write_of bytes m)
+unfolding write_of
+has_write bytes (writing.Locating w m) = first (locate_of m) _ (has_locate m)
+has_write bytes (writing.Fetching w f) = first (fetch_of f) _ (has_fetch f)
+has_write bytes (writing.There w guard) = tt
+has_write bytes (writing.Storing w m) = first (store_of m) _ (has_store m)
 
 has_numbers : {A : Type 0} (bitmap : ℕ) (bs : List ℕ) (after : P A) → HasOne after → HasOne (free_numbers bitmap bs after)
 has_numbers bitmap [] after has = has
@@ -226,6 +275,19 @@ has_read_call (read.Reading fd offset m) = first (read_of m) _ (has_read m)
 has_read_call (read.Give fd offset r) = tt
 has_read_call (read.Say reply) = tt
 
+has_write_call : (h : ℕ) (s : State) (m : Write) → WriteCallFits h s m → HasOne (write_call_of m)
+unfolding write_call_of WriteCallFits
+has_write_call h s (write.Check fd bytes) fits = tt
+has_write_call h s (write.Begin w) fits = tt
+has_write_call h s (write.Join w) fits = tt
+has_write_call h s (write.Lock w txn) fits = tt
+has_write_call h s (write.Loading w txn file guard m) fits = first (load_of m) _ (has_load m)
+has_write_call h s (write.Writing w txn offset m) fits = first (write_of (part_of w) m) _ (has_write (part_of w) m)
+has_write_call h s (write.Deny w txn guard why) fits = tt
+has_write_call h s (write.Give w txn offset r) fits = tt
+has_write_call h s (write.Leaving w end m) fits = first (finish_of m) _ (has_finish h m fits.1)
+has_write_call h s (write.Say reply) fits = tt
+
 -- ---- paths
 
 has_search : (aim : Aim) (m : Search) → HasOne (search_of aim m)
@@ -305,3 +367,4 @@ has_running h s (running.Dup m) fits = has_dup m
 has_running h s (running.Close m) fits = has_close h s m fits
 has_running h s (running.Fstat m) fits = has_fstat m
 has_running h s (running.Read m) fits = has_read_call m
+has_running h s (running.Write m) fits = has_write_call h s m fits

@@ -8,9 +8,11 @@ use Rattle.fs_machine.specs.Tied.{IsOwn, IsOwnInode, LeavesTied}
 use Rattle.fs_machine.specs.Fetching.{FetchFits, IsFetched}
 use Rattle.fs_machine.specs.declared.fetch.Fetch.{Fetch}
 use Rattle.fs_machine.specs.declared.fetch.Fetch.TheVariants as fetching
-use Rattle.bitmap_alloc.specs.Machines.{FreeFits}
+use Rattle.bitmap_alloc.specs.Machines.{FreeFits, TakeFits as TakeBlockFits}
 use Rattle.bitmap_alloc.specs.declared.free_block.FreeBlock.{FreeBlock}
 use Rattle.bitmap_alloc.specs.declared.free_block.FreeBlock.TheVariants as freeing
+use Rattle.bitmap_alloc.specs.declared.take_block.TakeBlock.{TakeBlock}
+use Rattle.bitmap_alloc.specs.declared.take_block.TakeBlock.TheVariants as taking_block
 use Rattle.inode_table.specs.Machines.{LoadFits, StoreFits}
 use Rattle.inode_table.specs.declared.load_inode.LoadInode.{LoadInode}
 use Rattle.inode_table.specs.declared.load_inode.LoadInode.TheVariants as loading
@@ -20,6 +22,12 @@ use Rattle.inode_data.specs.Truncating.{ClearingFits, TruncateFits}
 use Rattle.inode_data.specs.Dropping.{FreeInodeFits, DropFits}
 use Rattle.inode_data.specs.Machines.{BlockFetchFits}
 use Rattle.inode_data.specs.Reading.{ReadFits}
+use Rattle.inode_data.specs.Locating.{LocateFits}
+use Rattle.inode_data.specs.PartWriting.{WriteFits}
+use Rattle.inode_data.specs.declared.location.Locate.{Locate}
+use Rattle.inode_data.specs.declared.location.Locate.TheVariants as locating
+use Rattle.inode_data.specs.declared.write_part.WritePart.{WritePart}
+use Rattle.inode_data.specs.declared.write_part.WritePart.TheVariants as writing
 use Rattle.inode_data.specs.declared.fetch_block.FetchBlock.{FetchBlock}
 use Rattle.inode_data.specs.declared.fetch_block.FetchBlock.TheVariants as fetched
 use Rattle.inode_data.specs.declared.read_part.ReadPart.{ReadPart}
@@ -36,7 +44,7 @@ use Rattle.file_table.specs.Machines.{FileFits, IsLoaded}
 use Rattle.file_table.specs.declared.load_file.LoadFile.{LoadFile}
 use Rattle.file_table.specs.declared.load_file.LoadFile.TheVariants as file
 use Rattle.syscalls.specs.Machines.{CloseFits, FstatFits, ReadCallFits, RunningFits}
-use Rattle.directory.specs.Machines.{inode_of, SearchFits}
+use Rattle.directory.specs.Machines.{SearchFits}
 use Rattle.directory.specs.declared.search.Search.{Search}
 use Rattle.directory.specs.declared.search.Search.TheVariants as searching
 use Rattle.path_walk.specs.Machines.{WalkFits}
@@ -70,6 +78,9 @@ use Rattle.syscalls.specs.declared.fstat.Fstat.{Fstat}
 use Rattle.syscalls.specs.declared.fstat.Fstat.TheVariants as fstat
 use Rattle.syscalls.specs.declared.read.Read.{Read}
 use Rattle.syscalls.specs.declared.read.Read.TheVariants as read
+use Rattle.syscalls.specs.Writing.{part_of, WriteCallFits}
+use Rattle.syscalls.specs.declared.write.Write.{Write}
+use Rattle.syscalls.specs.declared.write.Write.TheVariants as write
 use Rattle.syscalls.specs.declared.running.Running.{Running}
 use Rattle.syscalls.specs.declared.running.Running.TheVariants as running
 
@@ -97,6 +108,13 @@ module _ (h g : ℕ) (s t : State) (other : h ≢ g) (leaves : LeavesTied g s t)
   free (freeing.Look b f) fits = fetch f fits
   free (freeing.Unmark b guard) fits = is_fetched _ guard fits
 
+  take_block : (m : TakeBlock) → TakeBlockFits h s m → TakeBlockFits h t m
+  unfolding TakeBlockFits
+  take_block (taking_block.Look size f) fits = (fits.0, fetch f fits.1)
+  take_block (taking_block.Mark size guard) fits = (fits.0, is_fetched _ guard fits.1)
+  take_block (taking_block.Fetching f) fits = fetch f fits
+  take_block (taking_block.Zero guard) fits = is_fetched _ guard fits
+
   load : (m : LoadInode) → LoadFits h s m → LoadFits h t m
   unfolding LoadFits
   load (loading.Fetching n f) fits = fetch f fits
@@ -119,6 +137,22 @@ module _ (h g : ℕ) (s t : State) (other : h ≢ g) (leaves : LeavesTied g s t)
   unfolding ReadFits
   reads (reading.Fetching r m) fits = (fits.0, block m fits.1)
   reads (reading.There r guard) fits = (fits.0, is_fetched _ guard fits.1)
+
+  locates : (m : Locate) → LocateFits h s m → LocateFits h t m
+  unfolding LocateFits
+  locates (locating.Direct l i m) fits = (fits.0, take_block m fits.1)
+  locates (locating.NewTable l i m) fits = (fits.0, fits.1, take_block m fits.2)
+  locates (locating.Table l i f) fits = (fits.0, fits.1, fetch f fits.2)
+  locates (locating.Entry l i table) fits = (fits.0, fits.1, is_fetched _ table fits.2)
+  locates (locating.NewEntry l i table m) fits = (fits.0, is_fetched _ table fits.1, take_block m fits.2, fits.3)
+  locates (locating.Name l i table number) fits = (fits.0, is_fetched _ table fits.1)
+
+  writes : (bytes : List ℕ) (m : WritePart) → WriteFits h bytes s m → WriteFits h bytes t m
+  unfolding WriteFits
+  writes bytes (writing.Locating w m) fits = (fits.0, fits.1, locates m fits.2)
+  writes bytes (writing.Fetching w f) fits = (fits.0, fits.1, fetch f fits.2)
+  writes bytes (writing.There w guard) fits = (fits.0, fits.1, is_fetched _ guard fits.2)
+  writes bytes (writing.Storing w m) fits = (fits.0, store m fits.1)
 
   clears : (m : Clearing) → ClearingFits h s m → ClearingFits h t m
   unfolding ClearingFits
@@ -176,6 +210,19 @@ module _ (h g : ℕ) (s t : State) (other : h ≢ g) (leaves : LeavesTied g s t)
   read_calls (read.Reading fd offset m) fits = (own_inode _ _ fits.0, reads m fits.1)
   read_calls (read.Give fd offset r) fits = own_inode _ _ fits
   read_calls (read.Say reply) fits = fits
+
+  write_calls : (m : Write) → WriteCallFits h s m → WriteCallFits h t m
+  unfolding WriteCallFits
+  write_calls (write.Check fd bytes) fits = fits
+  write_calls (write.Begin w) fits = fits
+  write_calls (write.Join w) fits = fits
+  write_calls (write.Lock w txn) fits = fits
+  write_calls (write.Loading w txn file guard m) fits = (fits.0, fits.1, fits.2, own_inode _ guard fits.3, load m fits.4)
+  write_calls (write.Writing w txn offset m) fits = (fits.0, fits.1, own_inode _ _ fits.2, writes (part_of w) m fits.3)
+  write_calls (write.Deny w txn guard why) fits = (fits.0, fits.1, own_inode _ guard fits.2)
+  write_calls (write.Give w txn offset r) fits = (fits.0, fits.1, own_inode _ r.inode fits.2)
+  write_calls (write.Leaving w end m) fits = fits
+  write_calls (write.Say reply) fits = fits
 
   -- ---- paths
 
@@ -259,3 +306,4 @@ module _ (h g : ℕ) (s t : State) (other : h ≢ g) (leaves : LeavesTied g s t)
   stays (running.Close m) fits = closes m fits
   stays (running.Fstat m) fits = stats m fits
   stays (running.Read m) fits = read_calls m fits
+  stays (running.Write m) fits = write_calls m fits

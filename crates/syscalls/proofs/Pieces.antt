@@ -1,5 +1,5 @@
 -- The steps of a write.
-use Rattle.std.proofs.Common.{◌≡◌, ◌≢◌, ⊎_elim, ℕ, zero, suc, ◌+◌, ◌-◌, ◌*◌, ◌/◌, ◌<◌, ◌≤◌, List, [], ◌∷◌, length, take, drop, min, Option, Some, None, IsSome, refl, ap, sym, subst, ◌∙◌, arith}
+use Rattle.std.proofs.Common.{◌≡◌, ◌≢◌, ⊎_elim, ℕ, zero, suc, ◌+◌, ◌-◌, ◌<◌, ◌≤◌, List, [], ◌∷◌, length, take, drop, min, Option, Some, None, IsSome, refl, ap, sym, subst, ◌∙◌, arith}
 use Rattle.std.specs.Option.{unwrap_or}
 use Rattle.std.proofs.lemmas.Bool.{cases_lt}
 use Rattle.std.proofs.lemmas.List.{take_all, length-drop}
@@ -8,7 +8,7 @@ use Rattle.plain_tree.specs.declared.answer.Cause.{Cause}
 use Rattle.plain_tree.specs.declared.answer.Reply.{Reply}
 use Rattle.fs_layout.specs.declared.inode.Dinode.{Dinode}
 use Rattle.fs_layout.specs.declared.superblock.Super.{Super}
-use Rattle.atomic_programs.specs.Prog.{Do, bind, unmarked}
+use Rattle.atomic_programs.specs.Prog.{Do, unmarked}
 use Rattle.atomic_programs.specs.Machines.{Left}
 use Rattle.atomic_programs.specs.declared.machines.Stepped.{Stepped}
 use Rattle.fs_tables.specs.declared.inodes.Inode.{Inode}
@@ -17,7 +17,7 @@ use Rattle.fs_machine.specs.declared.kind.Kind.{Kind}
 use Rattle.fs_machine.specs.Steps.{State, Join, Unlock}
 use Rattle.fs_machine.specs.Machines.{P}
 use Rattle.fs_machine.specs.Tied.{IsOwnInode}
-use Rattle.inode_table.specs.Programs.{no_record, record_of, load_unless}
+use Rattle.inode_table.specs.Programs.{no_record, record_of}
 use Rattle.inode_data.specs.Records.{record_in, with_record}
 use Rattle.inode_data.specs.PartWriting.{writer_of, written_of, WriteFits}
 use Rattle.inode_data.specs.declared.write_part.PartWritten.{PartWritten}

@@ -14,6 +14,7 @@ use crate::dup::Dup;
 use crate::fstat::Fstat;
 use crate::open_old::OpenOld;
 use crate::read::Read;
+use crate::write::Write;
 use atomic_programs::machines::Stepped;
 use block_device::Device;
 use buffer_cache::HARTS;
@@ -28,6 +29,7 @@ pub enum Running {
     Close(Close),
     Fstat(Fstat),
     Read(Read),
+    Write(Write),
 }
 
 impl Running {
@@ -51,6 +53,7 @@ impl Running {
             Running::Close(m) => in_close(m.step(hart, core)),
             Running::Fstat(m) => in_fstat(m.step(hart, core)),
             Running::Read(m) => in_read(m.step(hart, core)),
+            Running::Write(m) => in_write(m.step(hart, core)),
         }
     }
 
@@ -63,6 +66,7 @@ impl Running {
             Running::Close(m) => m.retire(retired),
             Running::Fstat(m) => m.retire(retired),
             Running::Read(m) => m.retire(retired),
+            Running::Write(m) => m.retire(retired),
         }
     }
 }
@@ -130,5 +134,16 @@ fn in_read(stepped: Stepped<Read, Reply, Kind>) -> Stepped<Running, Reply, Kind>
         Stepped::Ran(m, kind) => Stepped::Ran(Running::Read(m), kind),
         Stepped::Done(reply, kind) => Stepped::Done(reply, kind),
         Stepped::Stopped(m) => Stepped::Stopped(Running::Read(m)),
+    }
+}
+
+fn in_write(stepped: Stepped<Write, Reply, Kind>) -> Stepped<Running, Reply, Kind>
+    ensures { result ≡ ends_within (λ m. running.Write m) (λ reply. reply) stepped }
+{
+    match stepped {
+        Stepped::Waits(m) => Stepped::Waits(Running::Write(m)),
+        Stepped::Ran(m, kind) => Stepped::Ran(Running::Write(m), kind),
+        Stepped::Done(reply, kind) => Stepped::Done(reply, kind),
+        Stepped::Stopped(m) => Stepped::Stopped(Running::Write(m)),
     }
 }
