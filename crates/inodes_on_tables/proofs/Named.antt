@@ -1,6 +1,6 @@
 -- What descriptors name: doubled, shut, asked for; and the directory.
 use Rattle.std.proofs.Common.{◌≡◌, inl, inr, ℕ, ◌+◌, ◌<◌, nat_lt, Bool, true, false, if◌then◌else◌, Option, Some, None, refl, sym, ◌∙◌, ap, subst, arith}
-use Rattle.std.specs.Prelude.{slice_get}
+use Rattle.std.specs.Prelude.{List, slice_get, slice_set}
 use Rattle.std.specs.Option.{option_map}
 use Rattle.std.proofs.lemmas.Option.{none-some}
 use Rattle.fs_layout.specs.declared.inode.Dinode.{Dinode}
@@ -10,25 +10,28 @@ use Rattle.plain_tree.specs.Steps.{lowest, has_room}
 use Rattle.plain_tree.specs.Widths.{hart_count, descriptor_count}
 use Rattle.tree_laws.proofs.Maps.{same_or, put_same, put_other}
 use Rattle.fs_tables.specs.declared.desk.Desk as cards
+use Rattle.fs_tables.specs.declared.files.FilePlace.{FilePlace}
+use Rattle.fs_tables.specs.declared.files.FilePlace.TheVariants.{Open}
 use Rattle.fs_tables.specs.declared.files.Want.TheVariants as want
 use Rattle.fs_tables.specs.declared.files.OpenFile as tables
 use Rattle.fs_tables.specs.declared.slots.Doubled.TheVariants as doubled
 use Rattle.fs_tables.specs.Tables.{TablesState, place_named, file_named, file_in, open_at, with_desk}
-use Rattle.fs_tables.specs.Inodes.{unlock_inode, settle_inode, settled, directory_of, with_directory, refusal_of, mode_refuses, lock_file, lock_unless, with_file, lock_inode, Refuses, Locks}
+use Rattle.fs_tables.specs.Inodes.{unlock_inode, settle_inode, settled, directory_of, with_directory, refusal_of, mode_refuses, lock_file, lock_unless, with_file, lock_inode, moved_at, unlocked_in, LockedState, Refuses, Locks, with_offset as tables_offset}
 use Rattle.fs_tables.specs.declared.files.Refused.TheVariants as refused
 use Rattle.fs_tables.specs.Files.{double_descriptor, double_at, double_to, with_descriptor}
 use Rattle.fs_tables.specs.Soundness.{IsSoundTables}
 use Rattle.inode_machine.specs.Inodes.{Sort, OfDirectory, OfFile, OfDevice, face_of, face_or}
-use Rattle.inode_machine.specs.World.{Desk, Entry, World}
+use Rattle.plain_tree.specs.declared.answer.Cause.{Cause}
+use Rattle.inode_machine.specs.World.{Desk, Entry, World, Locking, NotLocked, LocksIt}
 use Rattle.inode_machine.specs.Exec as above
-use Rattle.inode_machine.specs.Exec.{file_count, slot_at, entry_at, entry_of, is_at, double_if, lock_if, locked, unlocked, mode_refusal, read_refused, write_refused}
+use Rattle.inode_machine.specs.Exec.{file_count, slot_at, entry_at, entry_of, is_at, double_if, entry_moved, lock_if, locked, unlocked, mode_refusal, read_refused, with_offset, write_refused}
 use Rattle.inode_machine.specs.Rules.{Inv}
 use Rattle.inode_machine.proofs.Rules.{opens_slots}
 use Rattle.inodes_on_tables.specs.Shown.{Shows, BothCame, DeskShows, DesksShow, FilesShow, Runs, kind_of, file_of, place_with, is_taken, doubled_as, refused_as}
-use Rattle.inodes_on_tables.specs.Laws.{DescriptorsAreDoubled, DirectoriesAreSettled, DescriptorsNameFiles, FitsStat, load_locked, FilesAreLocked}
+use Rattle.inodes_on_tables.specs.Laws.{DescriptorsAreDoubled, DirectoriesAreSettled, DescriptorsNameFiles, FitsStat, FitsRead, load_locked, FilesAreLocked, FilesAreLockedToRead, OffsetsAreMoved}
 use Rattle.inodes_on_tables.proofs.Locks.{both_ran, both_wait, by_lock, place_there, locks_are_given}
 use Rattle.inodes_on_tables.proofs.Desks.{lenders_set, own_desk, named_is, taken_same}
-use Rattle.inodes_on_tables.proofs.Slots.{card_set, below_is, desk_set, long_desks, empty_is}
+use Rattle.inodes_on_tables.proofs.Slots.{card_set, below_is, desk_set, files_set, long_desks, long_files, empty_is}
 
 -- a descriptor that names a slot
 pub record Names (h fd s : ℕ) (w : World) : Type 0 where
@@ -177,6 +180,19 @@ directories_are_settled h v t w load shows runs mine = at (w.alone v.number)
 
 -- ---- the lock of what is named
 
+-- a reference stands to it
+pub file_referred : (h fd : ℕ) (w : World) (f : Entry) → Inv w → h < hart_count → entry_of w h fd ≡ Some f → 0 < w.refs f.file.number
+file_referred h fd w f inv lt e = by_slot (slot_at w h fd) refl
+  where
+    by_slot : (o : Option ℕ) → slot_at w h fd ≡ o → 0 < w.refs f.file.number
+    by_slot None q = absurd (none-some f (sym (ap (entry_at w.files) q) ∙ e))
+    by_slot (Some s) q =
+        let m = names_at h fd s w inv lt q in
+        let there : w.files s ≡ Some f = sym (ap (entry_at w.files) q) ∙ e in
+        let a = opens_slots w h f.file.number inv (record { fd = fd; below = m.below; slot = s; is = m.is; entry = f; at = there; number = refl }) in
+        let c = inv.counts f.file.number in
+        omega (arith, a, c)
+
 pub files_are_locked : FilesAreLocked
 unfolding lock_file
 files_are_locked h fd t w load shows inv runs = at (entry_of w h fd) refl
@@ -188,21 +204,78 @@ files_are_locked h fd t w load shows inv runs = at (entry_of w h fd) refl
         (ap (above.stat_at h w) e) (subst (λ (z : Option Entry). FitsStat load z (Refuses refused.BadDescriptor)) (sym e) refl) shows
     at (Some f) e =
         let n = f.file.number in
-        let p = place_there n t w load shows (referred f e) in
+        let p = place_there n t w load shows (file_referred h fd w f inv runs.below e) in
         let lower : lock_unless h t (file_named h fd t) (refusal_of want.Stat (file_named h fd t)) ≡ with_file (file_of f) (lock_inode h n t) = ap (λ (z : Option tables.OpenFile). lock_unless h t z (refusal_of want.Stat z)) (file_is h fd t w load shows inv runs ∙ ap (option_map file_of) e) in
         by_lock h n p.0 t w load shows p.1 _
         (λ waits g out. both_wait _ _ _ _ (lower ∙ ap (with_file (file_of f)) waits) (ap (above.stat_at h w) e ∙ ap (lock_if h n (Some (n, face_or (face_of (w.disk n)))) w (locked h n w)) out))
         (λ u ran free after. both_ran _ _ _ _ (Locks (file_of f) (load n)) (Some (n, face_or (face_of (w.disk n)))) u (locked h n w) (lower ∙ ap (with_file (file_of f)) ran) (ap (above.stat_at h w) e ∙ ap (lock_if h n (Some (n, face_or (face_of (w.disk n)))) w (locked h n w)) free)
         (subst (λ (z : Option Entry). FitsStat load z (Locks (file_of f) (load n))) (sym e) refl) after)
+
+pub files_are_locked_to_read : FilesAreLockedToRead
+unfolding lock_file
+files_are_locked_to_read h fd t w load shows inv runs = at (entry_of w h fd) refl
+  where
+    Fits : Option Entry → LockedState → Locking → Type 0
+    Fits o = FitsRead load o (read_refused o)
+
+    both : (o : Option Entry) → Type 0
+    both o = BothCame (Fits o) (load_locked load) (lock_unless h t (option_map file_of o) (refusal_of want.Read (option_map file_of o))) (above.lock_at h w o (read_refused o))
+
+    by_cause : (o : Option Entry) → entry_of w h fd ≡ o → (r : Option Cause) → read_refused o ≡ r → both o
+    by_cause o e (Some why) r =
+        both_ran (Fits o) (load_locked load) _ _ (Refuses (refused_as why)) (NotLocked why) t w
+        (ap (lock_unless h t (option_map file_of o)) (reads_alike o ∙ ap (option_map refused_as) r)) (ap (above.lock_at h w o) r) (subst (λ (z : Option Cause). FitsRead load o z (Refuses (refused_as why)) (NotLocked why)) (sym r) (refl, refl)) shows
+    by_cause None e None r = absurd (none-some _ (sym r))
+    by_cause (Some f) e None r =
+        let n = f.file.number in
+        let some = file_referred h fd w f inv runs.below e in
+        let p = place_there n t w load shows some in
+        let lower : lock_unless h t (Some (file_of f)) (refusal_of want.Read (Some (file_of f))) ≡ with_file (file_of f) (lock_inode h n t) = ap (lock_unless h t (Some (file_of f))) (reads_alike (Some f) ∙ ap (option_map refused_as) r) in
+        by_lock h n p.0 t w load shows p.1 _
+        (λ waits g out. both_wait (Fits (Some f)) (load_locked load) _ _ (lower ∙ ap (with_file (file_of f)) waits) (ap (above.lock_at h w (Some f)) r ∙ ap (lock_if h n (LocksIt n) w (locked h n w)) out))
+        (λ u ran free after.
+        both_ran (Fits (Some f)) (load_locked load) _ _ (Locks (file_of f) (load n)) (LocksIt n) u (locked h n w) (lower ∙ ap (with_file (file_of f)) ran) (ap (above.lock_at h w (Some f)) r ∙ ap (lock_if h n (LocksIt n) w (locked h n w)) free)
+        (subst (λ (z : Option Cause). FitsRead load (Some f) z (Locks (file_of f) (load n)) (LocksIt n)) (sym r) (refl, refl)) after)
+
+    at : (o : Option Entry) → entry_of w h fd ≡ o → BothCame (Fits (entry_of w h fd)) (load_locked load) (lock_unless h t (file_named h fd t) (refusal_of want.Read (file_named h fd t))) (above.lock_at h w (entry_of w h fd) (read_refused (entry_of w h fd)))
+    at o e =
+        subst (λ (z : Option tables.OpenFile). BothCame (Fits (entry_of w h fd)) (load_locked load) (lock_unless h t z (refusal_of want.Read z)) (above.lock_at h w (entry_of w h fd) (read_refused (entry_of w h fd)))) (sym (file_is h fd t w load shows inv runs))
+        (by_cause (entry_of w h fd) refl (read_refused (entry_of w h fd)) refl)
+
+-- ---- the offset of what is named
+
+pub offsets_are_moved : OffsetsAreMoved
+unfolding unlock_inode
+offsets_are_moved h fd by e v t w load shows inv runs mine is = by_slot (slot_at w h fd) refl
+  where
+    by_slot : (o : Option ℕ) → slot_at w h fd ≡ o → Shows (unlocked_in v (tables_offset h (Some (fd, e.file.offset + by)) t)) (with_offset (record w { lock = put w.lock v.number None }) o e by) (put load v.number v.content)
+    by_slot None q = absurd (none-some e (sym (ap (entry_at w.files) q) ∙ is))
+    by_slot (Some s) q =
+        subst (λ (l : List FilePlace). Shows (unlocked_in v (record t { files = l })) (record w { files = put w.files s (Some (entry_moved e by)); lock = put w.lock v.number None }) (put load v.number v.content)) (sym places)
+        (locks_are_given h v then_ (record w { files = put w.files s (Some (entry_moved e by)) }) load moved mine)
       where
-        referred : (f : Entry) → entry_of w h fd ≡ Some f → 0 < w.refs f.file.number
-        referred f e = by_slot (slot_at w h fd) refl
-          where
-            by_slot : (o : Option ℕ) → slot_at w h fd ≡ o → 0 < w.refs f.file.number
-            by_slot None q = absurd (none-some f (sym (ap (entry_at w.files) q) ∙ e))
-            by_slot (Some s) q =
-                let m = names_at h fd s w inv runs.below q in
-                let there : w.files s ≡ Some f = sym (ap (entry_at w.files) q) ∙ e in
-                let a = opens_slots w h f.file.number inv (record { fd = fd; below = m.below; slot = s; is = m.is; entry = f; at = there; number = refl }) in
-                let c = inv.counts f.file.number in
-                omega (arith, a, c)
+        n : Names h fd s w
+        n = names_at h fd s w inv runs.below q
+
+        there : w.files s ≡ Some e
+        there = sym (ap (entry_at w.files) q) ∙ is
+
+        p : FilePlace
+        p = Open (file_of (entry_moved e by))
+
+        then_ : TablesState
+        then_ = record t { files = slice_set t.files s p }
+
+        places : moved_at (e.file.offset + by) t.files (file_named h fd t) (place_named h fd t) ≡ slice_set t.files s p
+        places = (λ z. moved_at (e.file.offset + by) t.files ((file_is h fd t w load shows inv runs ∙ ap (option_map file_of) is) z) ((named_is h fd t w load shows runs ∙ q) z))
+
+        moved : Shows then_ (record w { files = put w.files s (Some (entry_moved e by)) }) load
+        moved = record {
+          sound = record { inodes = shows.sound.inodes; files = long_files h t w load shows runs s p; desks = shows.sound.desks };
+          places = shows.places;
+          files = files_set t.files w.files (put w.files s (Some (entry_moved e by))) w.desks w.desks s p shows.files (sym (ap (place_with (is_taken w.desks s)) (put_same w.files s (Some (entry_moved e by)))))
+              (λ j ne. (put_other w.files s (Some (entry_moved e by)) j ne, refl));
+          desks = shows.desks;
+          lenders = shows.lenders;
+          range = shows.range;
+        }

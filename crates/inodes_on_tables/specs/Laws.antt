@@ -1,5 +1,5 @@
 -- Each step of the tables is an operation on whole inodes. load: of each inode whose lock isn't out, what is loaded.
-use Rattle.std.specs.Prelude.{◌≡◌, ◌≢◌, ℕ, ◌<◌, ◌≤◌, Option, Some, None, Bool, false, is_some, if◌then◌else◌, ◌==◌}
+use Rattle.std.specs.Prelude.{◌≡◌, ◌≢◌, ℕ, ◌+◌, ◌<◌, ◌≤◌, Option, Some, None, Bool, false, is_some, if◌then◌else◌, ◌==◌}
 use Rattle.std.specs.Option.{option_map}
 use Rattle.fs_layout.specs.declared.inode.Dinode.{Dinode}
 use Rattle.plain_tree.specs.Tree.{Tree, put}
@@ -12,11 +12,12 @@ use Rattle.fs_tables.specs.Inodes.{lock_inode, unlock_inode, up_inode, up_direct
 use Rattle.fs_tables.specs.declared.files.Refused.TheVariants as refused
 use Rattle.fs_tables.specs.Files.{take_place, open_file, double_descriptor, shut_descriptor, give_next}
 use Rattle.fs_tables.specs.declared.files.Want.TheVariants as want
+use Rattle.plain_tree.specs.declared.answer.Cause.{Cause}
 use Rattle.plain_tree.specs.declared.tree.OpenFile.{OpenFile}
 use Rattle.inode_machine.specs.Inodes.{Sort, Looking, seen_in}
-use Rattle.inode_machine.specs.World.{Entry, World, Room}
-use Rattle.inode_machine.specs.World.Op.{Take, Up, UpStart, WalkDown, Down, Slot, Install, Double, Shut, Settle, StatFile, Lend, LendDirectory, Release}
-use Rattle.inode_machine.specs.Exec.{exec, start_number, is_dead, entry_of, read_refused, write_refused, released}
+use Rattle.inode_machine.specs.World.{Entry, World, Locking, NotLocked, LocksIt, Room}
+use Rattle.inode_machine.specs.World.Op.{Take, Up, UpStart, WalkDown, Down, Slot, Install, Double, Shut, Settle, StatFile, LockFile, Lend, LendDirectory, Release}
+use Rattle.inode_machine.specs.Exec.{exec, start_number, is_dead, slot_at, entry_of, read_refused, write_refused, with_offset, released}
 use Rattle.inode_machine.specs.Rules.{Inv, Asks}
 use Rattle.inode_machine.specs.Theory.{at_rest}
 use Rattle.inodes_on_tables.specs.Shown.{loaded, Shows, BothCame, Runs, file_of, new_file, doubled_as, shut_as, given_as, refused_as}
@@ -122,6 +123,23 @@ abbrev pub FilesAreLocked : Type 0
 FilesAreLocked =
     (h fd : ℕ) (t : TablesState) (w : World) (load : ℕ → Option Dinode) → Shows t w load → Inv w → Runs h w
     → BothCame (λ a b. FitsStat load (entry_of w h fd) a) (load_locked load) (lock_file h want.Stat fd t) (exec h Room (StatFile fd) w)
+
+-- The same to read of it.
+abbrev pub FitsRead : (load : ℕ → Option Dinode) → Option Entry → Option Cause → LockedState → Locking → Type 0
+FitsRead load e (Some why) a b = (a ≡ Refuses (refused_as why)) × (b ≡ NotLocked why)
+FitsRead load None None a b = ⊥
+FitsRead load (Some e) None a b = (a ≡ Locks (file_of e) (load e.file.number)) × (b ≡ LocksIt e.file.number)
+
+abbrev pub FilesAreLockedToRead : Type 0
+FilesAreLockedToRead =
+    (h fd : ℕ) (t : TablesState) (w : World) (load : ℕ → Option Dinode) → Shows t w load → Inv w → Runs h w
+    → BothCame (FitsRead load (entry_of w h fd) (read_refused (entry_of w h fd))) (load_locked load) (lock_file h want.Read fd t) (exec h Room (LockFile fd) w)
+
+-- A lock is given back with this inode, and the offset of what a descriptor names moves.
+abbrev pub OffsetsAreMoved : Type 0
+OffsetsAreMoved =
+    (h fd by : ℕ) (e : Entry) (v : Inode) (t : TablesState) (w : World) (load : ℕ → Option Dinode) → Shows t w load → Inv w → Runs h w → w.lock v.number ≡ Some h → entry_of w h fd ≡ Some e
+    → Shows (unlock_inode h v (Some (fd, e.file.offset + by)) t) (with_offset (record w { lock = put w.lock v.number None }) (slot_at w h fd) e by) (put load v.number v.content)
 
 -- A hart's next descriptor is handed on to the child that it serves, or its directory where it has none.
 abbrev pub DescriptorsAreGiven : Type 0

@@ -2,7 +2,7 @@
 //! its operations. The functions do nothing: each carries a law.
 #![tactic(auto)]
 
-ghost use Rattle.inodes_on_tables.specs.Laws.{LocksAreTaken, LocksAreGiven, ReferencesAreCounted, StartsAreCounted, DirectoriesAreStarts, WalksDropReferences, ReferencesAreDropped, PlacesAreTaken, FilesAreOpened, DescriptorsAreDoubled, DescriptorsAreShut, DirectoriesAreSettled, DescriptorsNameFiles, FilesAreLocked, DescriptorsAreGiven, DirectoriesAreGiven, ChildrenAreReleased, FreshTablesShow};
+ghost use Rattle.inodes_on_tables.specs.Laws.{ChildrenAreReleased, DescriptorsAreDoubled, DescriptorsAreGiven, DescriptorsAreShut, DescriptorsNameFiles, DirectoriesAreGiven, DirectoriesAreSettled, DirectoriesAreStarts, FilesAreLocked, FilesAreLockedToRead, FilesAreOpened, FreshTablesShow, LocksAreGiven, LocksAreTaken, OffsetsAreMoved, PlacesAreTaken, ReferencesAreCounted, ReferencesAreDropped, StartsAreCounted, WalksDropReferences};
 
 /// The lock of a referenced inode is tried: it waits where the operation does, and else answers what is loaded.
 pub fn locks_are_taken()
@@ -72,6 +72,16 @@ pub fn descriptors_name_files()
 /// The lock of the inode that a descriptor names is tried.
 pub fn files_are_locked()
     ensures { FilesAreLocked }
+{}
+
+/// So it is to read of it, where that isn't refused.
+pub fn files_are_locked_to_read()
+    ensures { FilesAreLockedToRead }
+{}
+
+/// A lock is given back, and the offset of what a descriptor names moves in the same step.
+pub fn offsets_are_moved()
+    ensures { OffsetsAreMoved }
 {}
 
 /// A hart's next descriptor is the child's too, or, where it has none, its directory; the child's old one is answered.
