@@ -34,7 +34,7 @@ use Rattle.inodes_on_tables.proofs.References.{by_place, directories_are_starts}
 use Rattle.inodes_on_tables.proofs.Drops.{walks_drop_references, references_are_dropped}
 use Rattle.inodes_on_blocks.specs.Below.{World, log_of, tables_of, disk_of, inode_in}
 use Rattle.inodes_on_blocks.specs.Shown.{Shows}
-use Rattle.inodes_on_blocks.specs.Lowering.{Had, Carry, IsLoaded, Base, Labels, labelled, Keeps}
+use Rattle.inodes_on_blocks.specs.Lowering.{Had, Carry, IsLoaded, Base, Labels, labelled, Keeps, IsOpened}
 use Rattle.inodes_on_blocks.specs.Handlers.{up_start, up, walk_down, down, is_kept, had_of, with_dying}
 use Rattle.inodes_on_blocks.specs.Acting.{ActsOnce}
 use Rattle.inodes_on_blocks.proofs.Layer.{tables_left}
@@ -42,6 +42,7 @@ use Rattle.inodes_on_blocks.proofs.Stepping.{Came, CameTo, one_step}
 use Rattle.inodes_on_blocks.proofs.Tables.{with_tables, unlocked_holds, shows_then, base_then}
 use Rattle.inodes_on_blocks.proofs.SlotSteps.{in_tables_is, came_quiet, all_same}
 use Rattle.inodes_on_blocks.proofs.Owed.{fewer_owed}
+use Rattle.inodes_on_blocks.proofs.OpenFiles.{open_alike}
 
 module _ (l : Labels) (laws : Laws (labelled l)) (keeps : Keeps l) (h : ℕ) (lt : h < hart_count) where
   abbrev W : Type 0
@@ -73,7 +74,7 @@ module _ (l : Labels) (laws : Laws (labelled l)) (keeps : Keeps l) (h : ℕ) (lt
         });
     same = tables_left h v.real t v.seen (counted_up h n v.seen) (loaded (tables_of v.real)) (loaded (tables_of v.real)) shows.tables after (λ i. inl refl);
     base = base_then h lt v.real v.seen shows c c t (counted_up h n v.seen) (loaded (tables_of v.real)) base after free
-        (λ i e. inl (e, (base.inodes i (sym (shows.tables.places.holders i) ∙ e)).keeps, refl, refl));
+        (λ i e. inl (e, (base.inodes i (sym (shows.tables.places.holders i) ∙ e)).keeps, refl, refl, open_alike h i v.seen (counted_up h n v.seen) refl refl));
   }
 
   up_to : (op : above.Op) (n : ℕ) (v : W) (c : Carry) (answer : Option ℕ → above.Answer op) (yes_ no_ : above.Answer op) → answer (Some n) ≡ yes_ → answer None ≡ no_ → Shows v.real v.seen → Base h v.real v.seen c → (v.seen.desks h).lender ≡ None → Numbered n v.seen
@@ -203,7 +204,7 @@ module _ (l : Labels) (laws : Laws (labelled l)) (keeps : Keeps l) (h : ℕ) (lt
         });
     same = tables_left h v.real t v.seen (counted_down h n v.seen) load (left (v.seen.refs n == 1)) shows.tables after (λ i. inl refl);
     base = base_then h lt v.real v.seen shows c c t (counted_down h n v.seen) (left (v.seen.refs n == 1)) base after free
-        (λ i e. inl (e, keeper (v.seen.alone n) i (λ q. not_mine (ap v.seen.lock (sym q) ∙ e)) ∙ (base.inodes i (sym (shows.tables.places.holders i) ∙ e)).keeps, refl, refl));
+        (λ i e. inl (e, keeper (v.seen.alone n) i (λ q. not_mine (ap v.seen.lock (sym q) ∙ e)) ∙ (base.inodes i (sym (shows.tables.places.holders i) ∙ e)).keeps, refl, refl, open_alike h i v.seen (counted_down h n v.seen) refl refl));
   }
     where
       load : ℕ → Option Dinode
@@ -241,7 +242,7 @@ module _ (l : Labels) (laws : Laws (labelled l)) (keeps : Keeps l) (h : ℕ) (lt
     shows = shows_then h lt v.real v.seen shows t (reserved h n v.seen) (loaded (tables_of v.real)) after refl refl (λ j. refl) (λ i. inl refl) (record { seen = shows.loads.seen; dead = shows.loads.dead; typed = shows.loads.typed });
     same = tables_left h v.real t v.seen (reserved h n v.seen) (loaded (tables_of v.real)) (loaded (tables_of v.real)) shows.tables after (λ i. inl refl);
     base = base_then h lt v.real v.seen shows c c t (reserved h n v.seen) (loaded (tables_of v.real)) base after free
-        (λ i e. inl (e, put_elim v.seen.keeper n (Some h) i (λ (z : Option ℕ). z ≡ Some h) (λ q. refl) (λ ne. (base.inodes i (sym (shows.tables.places.holders i) ∙ e)).keeps), refl, refl));
+        (λ i e. inl (e, put_elim v.seen.keeper n (Some h) i (λ (z : Option ℕ). z ≡ Some h) (λ q. refl) (λ ne. (base.inodes i (sym (shows.tables.places.holders i) ∙ e)).keeps), refl, refl, open_alike h i v.seen (reserved h n v.seen) refl refl));
   }
 
   -- its lock is taken, to free it
@@ -279,15 +280,20 @@ module _ (l : Labels) (laws : Laws (labelled l)) (keeps : Keeps l) (h : ℕ) (lt
             keeps = ap (put v.seen.keeper n (Some h)) q ∙ put_same v.seen.keeper n (Some h);
             loaded_is = subst (λ (z : ℕ). IsLoaded (put c n (had_of (load n)) z) (v.seen.disk z) (inode_in (log_of v.real) z)) (sym q) (subst (λ (o : Had). IsLoaded o (v.seen.disk n) (inode_in (log_of v.real) n)) (sym (put_same c n (had_of (load n)))) (is_loaded (load n) refl));
             holds = subst (λ (z : ℕ). HoldsAt (disk_of (log_of v.real)) v.real.owner z (v.seen.disk z)) (sym q) (unlocked_holds h lt v.real v.seen shows n unlocked (shows.tables.range n some).0 (shows.tables.range n some).1);
+            opened = subst (λ (z : ℕ). IsOpened h z (put c n (had_of (load n)) z) (record (reserved h n v.seen) { lock = put v.seen.lock n (Some h) })) (sym q) (subst (λ (o : Had). IsOpened h n o (record (reserved h n v.seen) { lock = put v.seen.lock n (Some h) })) (sym (put_same c n (had_of (load n)))) (nothing_open (load n)));
           })
           | inr ne ↦
               let was : v.seen.lock i ≡ Some h = sym (put_other v.seen.lock n (Some h) i ne) ∙ e in
-              inl (was, put_other v.seen.keeper n (Some h) i ne ∙ (base.inodes i (sym (shows.tables.places.holders i) ∙ was)).keeps, refl, put_other c n (had_of (load n)) i ne)
+              inl (was, put_other v.seen.keeper n (Some h) i ne ∙ (base.inodes i (sym (shows.tables.places.holders i) ∙ was)).keeps, refl, put_other c n (had_of (load n)) i ne, open_alike h i v.seen (record (reserved h n v.seen) { lock = put v.seen.lock n (Some h) }) refl refl)
         ]);
   }
     where
       load : ℕ → Option Dinode
       load = loaded (tables_of v.real)
+
+      nothing_open : (o : Option Dinode) → IsOpened h n (had_of o) (record (reserved h n v.seen) { lock = put v.seen.lock n (Some h) })
+      nothing_open None = tt
+      nothing_open (Some d) = tt
 
       is_loaded : (o : Option Dinode) → load n ≡ o → IsLoaded (had_of o) (v.seen.disk n) (inode_in (log_of v.real) n)
       is_loaded None e = absurd (let s : IsSome {T = Dinode} None = subst IsSome e (shows.loads.dead n some unlocked dead) in cc s)

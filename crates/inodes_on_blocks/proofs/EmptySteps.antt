@@ -286,6 +286,7 @@ module _ (sizes : Super) (l : Labels) (laws : Laws (labelled l)) (keeps : Keeps 
           record {
             node = Some (with_no_bytes v);
             ran = (λ i. Ran tt (with_record z.seen n (Some (with_no_bytes (node_or (may.1.1.is i))))));
+            closed = λ w. tt;
             mine = may.1.0.0;
             keeps = has.keeps;
             joined = may.1.0.1;

@@ -44,6 +44,7 @@ use Rattle.inodes_on_blocks.proofs.PutSteps.{Putting, s-put}
 use Rattle.inodes_on_blocks.proofs.RecordPuts.{quiet_owners}
 use Rattle.inodes_on_blocks.proofs.RecordThen.{Ready, inode_home, untaken, place_in, can_record, others_then, none_then, named_then}
 use Rattle.inodes_on_blocks.proofs.StoreSteps.{PutsRecord, record_acts}
+use Rattle.inodes_on_blocks.proofs.OpenFiles.{open_same}
 
 freed_fits : (d : Dinode) → IsDinode d → IsDinode (freed d)
 freed_fits d is = record { kind = omega arith; major = is.major; minor = is.minor; nlink = is.nlink; size = is.size; thirteen = is.thirteen; addrs = is.addrs }
@@ -94,7 +95,7 @@ module _ (sizes : Super) (l : Labels) (laws : Laws (labelled l)) (keeps : Keeps 
                 rests = rests;
                 lent = lent;
                 this = record {
-                  others = others_then h n d c r u.seen shows changes.lock changes.joined is can.0 can.1 this.others u.seen (λ i ne. refl) (λ i. refl);
+                  others = others_then h n d c r u.seen shows changes.lock changes.joined is can.0 can.1 this.others u.seen (λ i ne. refl) (λ i. refl) (λ i. open_same h i u.seen);
                   mine = this.mine;
                   keeps = this.keeps;
                   node = this.node;
@@ -183,6 +184,7 @@ module _ (sizes : Super) (l : Labels) (laws : Laws (labelled l)) (keeps : Keeps 
       puts u begin_ z shows may has = record {
         node = None;
         ran = refl;
+        closed = λ w. tt;
         mine = may.1.0;
         keeps = has.keeps;
         joined = may.1.1;

@@ -17,8 +17,9 @@ use Rattle.inode_machine.specs.Rules.{Own, Held, if_kept, own_of, view, Idle}
 use Rattle.inode_machine.proofs.Frame.{Ours, not_ours, kept_is, kept_here, has_inode}
 use Rattle.inodes_on_tables.specs.Shown as tables
 use Rattle.inodes_on_blocks.specs.Below.{World, log_of, tables_of, disk_of, inode_in}
-use Rattle.inodes_on_blocks.specs.Lowering.{KeepsInode, commit_in, Same, Kept, Had, Apart, Has, Emptied, Carry, IsKnown, IsLoaded, InHand, Base, below, Labels, labelled, Keeps}
+use Rattle.inodes_on_blocks.specs.Lowering.{KeepsInode, commit_in, Same, Kept, Had, Apart, Has, Emptied, Carry, IsKnown, IsLoaded, InHand, Base, below, Labels, labelled, Keeps, IsOpened}
 use Rattle.inodes_on_blocks.proofs.Marked.{SameCode}
+use Rattle.inodes_on_blocks.proofs.OpenFiles.{open_alike, open_kept, open_then}
 
 -- what is held at one end is held at the other
 pub held_back : {A : Type 0} (o p : Option ℕ) (h : ℕ) (x y : A) → if_kept o h x ≡ if_kept p h y → o ≡ Some h → (p ≡ Some h) × (y ≡ x)
@@ -29,6 +30,13 @@ pub keeps_none : (h i : ℕ) (g : above.World) → Idle h g → g.keeper i ≡ S
 keeps_none h i g idle is = none-some (view g h i) (sym (λ z. idle.inodes z i) ∙ kept_here h (g.keeper i) (view g h i) is)
 
 -- an inode that it keeps is as it was
+pub kept_open : (h i : ℕ) (had : Had) (g u : above.World) → Kept h g u → (((g.desks h).lender ≡ None → ⊥) → Idle h g) → g.keeper i ≡ Some h → IsOpened h i had g → IsOpened h i had u
+kept_open h i had g u kept lent is opened = by (g.desks h).lender refl
+  where
+    by : (o : Option ℕ) → (g.desks h).lender ≡ o → IsOpened h i had u
+    by None e = open_kept h i had g u e kept is opened
+    by (Some l) e = absurd (keeps_none h i g (lent (λ z. none-some l (sym z ∙ e))) is)
+
 pub kept_disk : (h i : ℕ) (g u : above.World) → Kept h g u → (((g.desks h).lender ≡ None → ⊥) → Idle h g) → g.keeper i ≡ Some h → (u.keeper i ≡ Some h) × (u.disk i ≡ g.disk i)
 kept_disk h i g u kept lent is = by (g.desks h).lender refl
   where
@@ -84,6 +92,7 @@ hand_then h i o v w g u k kept lent was =
       holds =
           subst (λ (n : Option Node). HoldsAt (disk_of (log_of w)) w.owner i n) (sym now.1)
           (untouched (disk_of (log_of v)) (disk_of (log_of w)) v.owner w.owner i (g.disk i) k.untouched was.holds);
+      opened = kept_open h i o g u kept lent was.keeps was.opened;
     }
 
 pub in_hand_then : (h : ℕ) (c : Carry) (v w : World) (g u : above.World) → ((i : ℕ) → lock_holder i (tables_of v) ≡ Some h → KeepsInode h i v w)
@@ -163,6 +172,7 @@ base_marked h r g u c s free b = record {
     keeps = (λ z. s.keeper z i) ∙ x.keeps;
     loaded_is = subst (λ (n : Option Node). IsLoaded (c i) n (inode_in (log_of r) i)) (λ z. sym s.disk z i) x.loaded_is;
     holds = subst (λ (n : Option Node). HoldsAt (disk_of (log_of r)) r.owner i n) (λ z. sym s.disk z i) x.holds;
+    opened = open_then h i (c i) g u (open_alike h i g u (s.desks h).fds s.files) x.opened;
   };
   lent = λ some. absurd (some ((s.desks h).lender ∙ free));
 }

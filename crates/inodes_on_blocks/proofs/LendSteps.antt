@@ -4,7 +4,7 @@ use Rattle.std.proofs.lemmas.Bool.Decides.{nat_tests}
 use Rattle.std.proofs.lemmas.Option.{none-some}
 use Rattle.plain_tree.specs.Tree.{put}
 use Rattle.plain_tree.specs.Widths.{hart_count, descriptor_count}
-use Rattle.tree_laws.proofs.Maps.{same_or, put_other}
+use Rattle.tree_laws.proofs.Maps.{same_or, put_other, put_same}
 use Rattle.atomic_programs.specs.Prog.{Did, Waits, Ran}
 use Rattle.atomic_programs.specs.Logic.{Laws}
 use Rattle.atomic_programs.specs.Joined.{Both}
@@ -16,10 +16,10 @@ use Rattle.fs_tables.specs.Files.{give_next, descriptors_of}
 use Rattle.fs_machine.specs.Steps as steps
 use Rattle.fs_machine.specs.Premises as premises
 use Rattle.inode_machine.specs.World as above
-use Rattle.inode_machine.specs.World.{Desk, Lending, Lent, Moved}
+use Rattle.inode_machine.specs.World.{Desk, Lending, Lent, Moved, Entry}
 use Rattle.inode_machine.specs.World.Op.{Lend, LendDirectory, Release}
 use Rattle.inode_machine.specs.Exec as above_exec
-use Rattle.inode_machine.specs.Exec.{next_used, with_lent, handed, moved_in, lend_last, lend_if, released, serving}
+use Rattle.inode_machine.specs.Exec.{next_used, with_lent, handed, moved_in, lend_last, lend_if, released, serving, more_users, slot_or}
 use Rattle.inode_machine.specs.Rules as rules
 use Rattle.inode_machine.specs.Rules.{Inv, Has, Serves}
 use Rattle.inode_machine.proofs.Frame.{one_refs}
@@ -35,6 +35,7 @@ use Rattle.inodes_on_blocks.specs.Acting.{ActsOnce}
 use Rattle.inodes_on_blocks.proofs.Stepping.{CameTo, one_step}
 use Rattle.inodes_on_blocks.proofs.SlotSteps.{SameInodes, ran_same, no_wait, in_tables_is, came_quiet, from_both, runs_here}
 use Rattle.inodes_on_blocks.proofs.CountSteps.{may_up_directory}
+use Rattle.inodes_on_blocks.proofs.OpenFiles.{open_alike, open_put, open_twice}
 
 -- ---- the inodes stay
 
@@ -59,7 +60,15 @@ released_same h child w apart = record {
   size = refl;
   joined = λ j. part_both (λ d. d.joined) w.desks h child (record (w.desks h) { lent = λ i. None }) (record (w.desks child) { lender = None }) j refl refl;
   lender = part_mine (λ d. d.lender) w.desks h child (record (w.desks h) { lent = λ i. None }) (record (w.desks child) { lender = None }) apart refl;
+  opens = λ i mine. open_alike h i w (released w h child) (part_mine (λ d. d.fds) w.desks h child (record (w.desks h) { lent = λ i. None }) (record (w.desks child) { lender = None }) apart refl) refl;
 }
+
+-- one more user leaves the files
+more_same : (s : ℕ) (files : ℕ → Option Entry) (k : ℕ) (e : Entry) → files k ≡ Some e → (f : Entry) × (put files s (more_users (files s)) k ≡ Some f) × (f.file ≡ e.file)
+more_same s files k e at = elim (same_or k s) [
+  | inl q ↦ (record { file = e.file; sort = e.sort; references = e.references + 1 }, ap (put files s (more_users (files s))) q ∙ put_same files s (more_users (files s)) ∙ ap more_users (ap files (sym q) ∙ at), refl)
+  | inr ne ↦ (e, put_other files s (more_users (files s)) k ne ∙ at, refl)
+]
 
 lent_same : (h i : ℕ) (w : above.World) → SameInodes h w (with_lent w h i)
 lent_same h i w = record {
@@ -70,10 +79,11 @@ lent_same h i w = record {
   size = refl;
   joined = λ j. part_same (λ d. d.joined) w.desks h (record (w.desks h) { lent = put (w.desks h).lent i ((w.desks h).fds i) }) j refl;
   lender = part_same (λ d. d.lender) w.desks h (record (w.desks h) { lent = put (w.desks h).lent i ((w.desks h).fds i) }) h refl;
+  opens = λ j mine. open_put h j w (with_lent w h i) (record (w.desks h) { lent = put (w.desks h).lent i ((w.desks h).fds i) }) refl (λ fd k e. e) (more_same (slot_or ((w.desks h).fds i)) w.files);
 }
 
-handed_same : (h child : ℕ) (w : above.World) → SameInodes h w (handed w h child)
-handed_same h child w = record {
+handed_same : (h child : ℕ) (w : above.World) → child ≢ h → SameInodes h w (handed w h child)
+handed_same h child w apart = record {
   disk = refl;
   lock = refl;
   refs = λ n some. some;
@@ -81,6 +91,7 @@ handed_same h child w = record {
   size = refl;
   joined = λ j. part_both (λ d. d.joined) w.desks h child (record (w.desks h) { lent = serving child (Some 0) }) (record (w.desks child) { fds = put (w.desks h).lent descriptor_count None }) j refl refl;
   lender = part_both (λ d. d.lender) w.desks h child (record (w.desks h) { lent = serving child (Some 0) }) (record (w.desks child) { fds = put (w.desks h).lent descriptor_count None }) h refl refl;
+  opens = λ i mine. open_alike h i w (handed w h child) (part_mine (λ d. d.fds) w.desks h child (record (w.desks h) { lent = serving child (Some 0) }) (record (w.desks child) { fds = put (w.desks h).lent descriptor_count None }) apart refl) refl;
 }
 
 -- one reference more to a directory that has one
@@ -96,6 +107,7 @@ moved_same h child w inv lt = record {
   size = refl;
   joined = λ j. part_both (λ d. d.joined) w.desks h child (record (w.desks h) { lent = serving child (Some 1) }) (record (w.desks child) { directory = (w.desks h).directory; left = None }) j refl refl;
   lender = part_both (λ d. d.lender) w.desks h child (record (w.desks h) { lent = serving child (Some 1) }) (record (w.desks child) { directory = (w.desks h).directory; left = None }) h refl refl;
+  opens = λ i mine. open_alike h i w (moved_in w h child) (part_both (λ d. d.fds) w.desks h child (record (w.desks h) { lent = serving child (Some 1) }) (record (w.desks child) { directory = (w.desks h).directory; left = None }) h refl refl) refl;
 }
   where
     referred : 0 < w.refs (w.desks h).directory
@@ -110,16 +122,17 @@ same_then h g v u a b = record {
   size = b.size ∙ a.size;
   joined = λ j. b.joined j ∙ a.joined j;
   lender = b.lender ∙ a.lender;
+  opens = λ i mine. open_twice h i g v u (a.opens i mine) (b.opens i ((λ z. a.lock z i) ∙ mine));
 }
 
-last_same : (h child i : ℕ) (w : above.World) (o : Option ℕ) → SameInodes h w (lend_last (with_lent w h i) h child o)
-last_same h child i w None = same_then h w (with_lent w h i) (handed (with_lent w h i) h child) (lent_same h i w) (handed_same h child (with_lent w h i))
-last_same h child i w (Some j) = lent_same h i w
+last_same : (h child i : ℕ) (w : above.World) (o : Option ℕ) → child ≢ h → SameInodes h w (lend_last (with_lent w h i) h child o)
+last_same h child i w None apart = same_then h w (with_lent w h i) (handed (with_lent w h i) h child) (lent_same h i w) (handed_same h child (with_lent w h i) apart)
+last_same h child i w (Some j) apart = lent_same h i w
 
-lend_same : (h child : ℕ) (w : above.World) (o : Option ℕ) (b : Lending) (u : above.World) → Inv w → h < hart_count → lend_if h w child o ≡ Ran b u → SameInodes h w u
-lend_same h child w None b u inv lt e = ran_same h w (moved_in w h child) u (Moved (w.desks child).directory) b e (moved_same h child w inv lt)
-lend_same h child w (Some i) b u inv lt e =
-    ran_same h w (lend_last (with_lent w h i) h child (next_used (i + 1) (w.desks h).fds)) u _ b e (last_same h child i w (next_used (i + 1) (w.desks h).fds))
+lend_same : (h child : ℕ) (w : above.World) (o : Option ℕ) (b : Lending) (u : above.World) → Inv w → h < hart_count → child ≢ h → lend_if h w child o ≡ Ran b u → SameInodes h w u
+lend_same h child w None b u inv lt apart e = ran_same h w (moved_in w h child) u (Moved (w.desks child).directory) b e (moved_same h child w inv lt)
+lend_same h child w (Some i) b u inv lt apart e =
+    ran_same h w (lend_last (with_lent w h i) h child (next_used (i + 1) (w.desks h).fds)) u _ b e (last_same h child i w (next_used (i + 1) (w.desks h).fds) apart)
 
 lend_runs : (h child : ℕ) (w : above.World) (o : Option ℕ) → lend_if h w child o ≡ Waits → ⊥
 lend_runs h child w None e = no_wait _ _ e
@@ -213,5 +226,5 @@ module _ (l : Labels) (laws : Laws (labelled l)) (keeps : Keeps l) (h : ℕ) (lt
             subst (λ (d : Did Given World). CameTo l laws keeps h (Lend child from) v ⊥ d lent_to (λ a. c)) (sym (in_tables_is h (steps.Give child from) v.real (λ a o. refl) (λ s. refl) (give_next h child from (tables_of v.real))))
             (from_both l laws keeps h lt (Lend child from) v ⊥ lent_to (λ a b. a ≡ given_as b) c (give_next h child from (tables_of v.real)) (above_exec.exec h above.Room (Lend child from) v.seen) refl
             (descriptors_are_given h child from (tables_of v.real) v.seen (loaded (tables_of v.real)) shows.tables inv (runs_here l laws keeps h lt v may.0) may.1 le)
-            (lend_runs h child v.seen (next_used from (v.seen.desks h).fds)) (λ a b e. ap lent_to e ∙ lent_back b) (λ b u e. lend_same h child v.seen (next_used from (v.seen.desks h).fds) b u inv lt e) shows base may.0),
+            (lend_runs h child v.seen (next_used from (v.seen.desks h).fds)) (λ a b e. ap lent_to e ∙ lent_back b) (λ b u e. lend_same h child v.seen (next_used from (v.seen.desks h).fds) b u inv lt (child_apart h child v.seen may.0 may.1.0.1) e) shows base may.0),
       ))

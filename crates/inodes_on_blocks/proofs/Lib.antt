@@ -1,5 +1,6 @@
 pub mod Quiet
 pub mod Marked
+pub mod OpenFiles
 pub mod Layer
 pub mod Stepping
 pub mod Tables

@@ -32,6 +32,7 @@ use Rattle.inodes_on_blocks.proofs.Putting.{after, same_put, shows_put, lock_ran
 use Rattle.inodes_on_blocks.proofs.RecordPuts.{record_put, quiet_leaves}
 use Rattle.inodes_on_blocks.proofs.Recorded.{put_hand}
 use Rattle.inodes_on_blocks.proofs.Records.{placed_dinode, stored_long, stored_bytes}
+use Rattle.inodes_on_blocks.proofs.OpenFiles.{OpenStays, open_then}
 
 -- an inode's block may be recorded
 pub inode_home : (l : LogPart) (n : ℕ) → IsGoodSuper l.sizes → l.sizes.size ≤ length l.contents → n < l.sizes.ninodes → IsHome l.contents l.sizes (inode_block l.sizes.inodestart n)
@@ -138,8 +139,8 @@ module _ (h n : ℕ) (d : Dinode) (c : Carry) (r : World) (g : above.World) (sho
   inode_then = inode_is (disk_of (log_of r)) (disk_of (log_of then_)) n d is_put
 
   -- the hart's other inodes, in a world above that has them as they were
-  pub others_then : AllBut n h c r g → (u : above.World) → ((i : ℕ) → i ≢ n → u.disk i ≡ g.disk i) → ((i : ℕ) → u.keeper i ≡ g.keeper i) → AllBut n h c then_ u
-  others_then all u disk keeper i ne e =
+  pub others_then : AllBut n h c r g → (u : above.World) → ((i : ℕ) → i ≢ n → u.disk i ≡ g.disk i) → ((i : ℕ) → u.keeper i ≡ g.keeper i) → ((i : ℕ) → OpenStays h i g u) → AllBut n h c then_ u
+  others_then all u disk keeper opens i ne e =
       let was = all i ne e in
       let there = lock_range i h r g shows (shows.tables.places.holders i ∙ e) in
       let bound = subst (λ (s : Super). i < s.ninodes) (sym (good_seen (log_of r).sizes (seen_of (log_of r)) (length (log_of r).contents) shows.blocks.seen).sizes_are) there.1 in
@@ -152,6 +153,7 @@ module _ (h n : ℕ) (d : Dinode) (c : Carry) (r : World) (g : above.World) (sho
         holds =
             subst (λ (o : Option Node). HoldsAt (disk_of (log_of then_)) r.owner i o) (sym (disk i ne))
             (untouched (disk_of (log_of r)) (disk_of (log_of then_)) r.owner r.owner i (g.disk i) left was.holds);
+        opened = open_then h i (c i) g u (opens i) was.opened;
       }
 
   pub none_then : in_hand h r ≡ 1 → in_hand h then_ ≡ 0

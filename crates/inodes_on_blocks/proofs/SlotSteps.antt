@@ -1,5 +1,5 @@
 -- The operations on descriptors and open files act at their one step.
-use Rattle.std.proofs.Common.{◌≡◌, inl, ℕ, ◌<◌, ◌==◌, Bool, true, false, Option, Some, None, refl, sym, ◌∙◌, ap, subst}
+use Rattle.std.proofs.Common.{◌≡◌, inl, ℕ, ◌<◌, ◌==◌, Bool, true, false, Option, Some, None, refl, sym, ◌∙◌, ap, subst, ◌+◌, ◌≢◌}
 use Rattle.std.specs.Prelude.{IsSome}
 use Rattle.std.specs.Option.{option_map}
 use Rattle.std.proofs.lemmas.Option.{none-some, same_Some}
@@ -23,7 +23,7 @@ use Rattle.inode_machine.specs.World as above
 use Rattle.inode_machine.specs.World.{Entry}
 use Rattle.inode_machine.specs.World.Op.{Slot, Install, CheckFile, Double, Shut, Say}
 use Rattle.inode_machine.specs.Exec as above_exec
-use Rattle.inode_machine.specs.Exec.{slot_if, install_if, first_from, file_count, is_empty_slot, double_at, double_if, slot_at, entry_of, close_at, close_if, mode_refusal, write_refused}
+use Rattle.inode_machine.specs.Exec.{slot_if, install_if, first_from, file_count, is_empty_slot, double_at, double_if, slot_at, entry_of, close_at, close_if, mode_refusal, write_refused, entry_at}
 use Rattle.inode_machine.specs.Inodes.{Sort, OfDirectory, OfFile, OfDevice}
 use Rattle.inodes_on_tables.specs.Shown as tables
 use Rattle.inodes_on_tables.specs.Shown.{loaded, new_file, Runs, BothCame, doubled_as, shut_as, refused_as}
@@ -40,6 +40,11 @@ use Rattle.inodes_on_blocks.proofs.Layer.{tables_left}
 use Rattle.inodes_on_blocks.proofs.Owed.{fewer_owed}
 use Rattle.inodes_on_blocks.proofs.Stepping.{Came, CameTo, one_step}
 use Rattle.inodes_on_blocks.proofs.Tables.{with_tables, shows_then, base_then}
+use Rattle.inodes_on_blocks.proofs.OpenFiles.{OpenStays, open_same, open_put}
+use Rattle.inode_machine.proofs.Tables.{lowest_free}
+use Rattle.inode_machine.proofs.Dups.{renewed_same}
+use Rattle.inode_machine.specs.Rules.{Inv}
+use Rattle.tree_laws.proofs.Maps.{put_other}
 
 -- an operation that leaves the inodes as they were, and refers to no more of them
 pub record SameInodes (h : ℕ) (g u : above.World) : Type 0 where
@@ -50,9 +55,11 @@ pub record SameInodes (h : ℕ) (g u : above.World) : Type 0 where
   pub size : u.all.ninodes ≡ g.all.ninodes
   pub joined : (j : ℕ) → (u.desks j).joined ≡ (g.desks j).joined
   pub lender : (u.desks h).lender ≡ (g.desks h).lender
+  -- what it has open, of an inode whose lock it has
+  pub opens : (i : ℕ) → g.lock i ≡ Some h → OpenStays h i g u
 
 pub all_same : (h : ℕ) (g : above.World) → SameInodes h g g
-all_same h g = record { disk = refl; lock = refl; refs = λ n some. some; keeper = refl; size = refl; joined = λ j. refl; lender = refl }
+all_same h g = record { disk = refl; lock = refl; refs = λ n some. some; keeper = refl; size = refl; joined = λ j. refl; lender = refl; opens = λ i mine. open_same h i g }
 
 -- where an operation ran so
 pub ran_same : {A : Type 0} (h : ℕ) (g w u : above.World) (a b : A) → ◌≡◌ {A = Did A above.World} (Ran a w) (Ran b u) → SameInodes h g w → SameInodes h g u
@@ -98,7 +105,7 @@ module _ (l : Labels) (laws : Laws (labelled l)) (keeps : Keeps l) (h : ℕ) (lt
     base = base_then h lt v.real v.seen shows c c t u (loaded (tables_of v.real)) base after (s.lender ∙ free)
         (λ i e.
         let was : v.seen.lock i ≡ Some h = (λ z. sym s.lock z i) ∙ e in
-        inl (was, (λ z. s.keeper z i) ∙ (base.inodes i (sym (shows.tables.places.holders i) ∙ was)).keeps, (λ z. s.disk z i), refl));
+        inl (was, (λ z. s.keeper z i) ∙ (base.inodes i (sym (shows.tables.places.holders i) ∙ was)).keeps, (λ z. s.disk z i), refl, s.opens i was));
   }
 
   -- by what came of both
@@ -124,8 +131,8 @@ module _ (l : Labels) (laws : Laws (labelled l)) (keeps : Keeps l) (h : ℕ) (lt
 
   -- the hart's desk changed, but not whether it is in a transaction, nor who hands it descriptors
   desk_same : (w u : above.World) (new : above.Desk) → u.disk ≡ w.disk → u.lock ≡ w.lock → u.refs ≡ w.refs → u.keeper ≡ w.keeper → u.all.ninodes ≡ w.all.ninodes → u.desks ≡ put w.desks h new
-      → new.joined ≡ (w.desks h).joined → new.lender ≡ (w.desks h).lender → SameInodes h w u
-  desk_same w u new disk lock refs keeper size desks joined lender = record {
+      → new.joined ≡ (w.desks h).joined → new.lender ≡ (w.desks h).lender → ((i : ℕ) → w.lock i ≡ Some h → OpenStays h i w u) → SameInodes h w u
+  desk_same w u new disk lock refs keeper size desks joined lender opens = record {
     disk = disk;
     lock = lock;
     refs = λ n some. subst (λ (f : ℕ → ℕ). 0 < f n) refs some;
@@ -133,13 +140,14 @@ module _ (l : Labels) (laws : Laws (labelled l)) (keeps : Keeps l) (h : ℕ) (lt
     size = size;
     joined = λ j. (λ z. (desks z j).joined) ∙ part_same (λ d. d.joined) w.desks h new j joined;
     lender = (λ z. (desks z h).lender) ∙ part_same (λ d. d.lender) w.desks h new h lender;
+    opens = opens;
   }
 
   slot_same : (w : above.World) (o : Option ℕ) (b : Bool) (u : above.World) → slot_if h w o ≡ Ran b u → SameInodes h w u
   slot_same w None b u e = ran_same h w w u false b e (all_same h w)
   slot_same w (Some s) b u e =
       let w' : above.World = record w { desks = put w.desks h (record (w.desks h) { hand = Some s }) } in
-      ran_same h w w' u true b e (desk_same w w' (record (w.desks h) { hand = Some s }) refl refl refl refl refl refl refl refl)
+      ran_same h w w' u true b e (desk_same w w' (record (w.desks h) { hand = Some s }) refl refl refl refl refl refl refl refl (λ i mine. open_put h i w w' (record (w.desks h) { hand = Some s }) refl (λ fd k e. e) (λ k e at. (e, at, refl))))
 
   slot_runs : (w : above.World) (o : Option ℕ) → slot_if h w o ≡ Waits → ⊥
   slot_runs w None e = no_wait false w e
@@ -160,14 +168,20 @@ module _ (l : Labels) (laws : Laws (labelled l)) (keeps : Keeps l) (h : ℕ) (lt
 
   -- ---- a file opened
 
-  opened_same : (w : above.World) (f : OpenFile) (sort : Sort) (o : Option ℕ) (b : Bool) (a : Option ℕ) (u : above.World) → install_if h w f sort o b ≡ Ran a u → SameInodes h w u
-  opened_same w f sort None b a u q = ran_same h w w u None a q (all_same h w)
-  opened_same w f sort (Some s) true a u q =
+  -- a new descriptor is none that the hart had
+  kept_lowest : (w : above.World) (o : Option ℕ) → has_room (w.desks h).fds ≡ true → (fd k : ℕ) → (w.desks h).fds fd ≡ Some k → put (w.desks h).fds (lowest (w.desks h).fds) o fd ≡ Some k
+  kept_lowest w o room fd k is = put_other (w.desks h).fds (lowest (w.desks h).fds) o fd (λ e. none-some k (sym (lowest_free (w.desks h).fds room).1 ∙ ap (w.desks h).fds (sym e) ∙ is)) ∙ is
+
+  opened_same : (w : above.World) (f : OpenFile) (sort : Sort) (o : Option ℕ) (b : Bool) (a : Option ℕ) (u : above.World) → Inv w → (w.desks h).hand ≡ o → has_room (w.desks h).fds ≡ b → install_if h w f sort o b ≡ Ran a u → SameInodes h w u
+  opened_same w f sort None b a u inv hand room q = ran_same h w w u None a q (all_same h w)
+  opened_same w f sort (Some s) true a u inv hand room q =
       ran_same h w (above_exec.installed h w f sort s (lowest (w.desks h).fds)) u _ a q
-      (desk_same w (above_exec.installed h w f sort s (lowest (w.desks h).fds)) (record (w.desks h) { fds = put (w.desks h).fds (lowest (w.desks h).fds) (Some s); hand = None; opening = None }) refl refl refl refl refl refl refl refl)
-  opened_same w f sort (Some s) false a u q =
+      (desk_same w (above_exec.installed h w f sort s (lowest (w.desks h).fds)) (record (w.desks h) { fds = put (w.desks h).fds (lowest (w.desks h).fds) (Some s); hand = None; opening = None }) refl refl refl refl refl refl refl refl
+      (λ i mine. open_put h i w (above_exec.installed h w f sort s (lowest (w.desks h).fds)) (record (w.desks h) { fds = put (w.desks h).fds (lowest (w.desks h).fds) (Some s); hand = None; opening = None }) refl (kept_lowest w (Some s) room)
+      (λ k e at. (e, put_other w.files s (Some (record { file = f; sort = sort; references = 1 })) k (λ z. none-some e (sym (inv.tied.hand h s lt hand).1 ∙ ap w.files (sym z) ∙ at)) ∙ at, refl))))
+  opened_same w f sort (Some s) false a u inv hand room q =
       let w' : above.World = record w { desks = put w.desks h (record (w.desks h) { hand = None }) } in
-      ran_same h w w' u None a q (desk_same w w' (record (w.desks h) { hand = None }) refl refl refl refl refl refl refl refl)
+      ran_same h w w' u None a q (desk_same w w' (record (w.desks h) { hand = None }) refl refl refl refl refl refl refl refl (λ i mine. open_put h i w w' (record (w.desks h) { hand = None }) refl (λ fd k e. e) (λ k e at. (e, at, refl))))
 
   opened_runs : (w : above.World) (f : OpenFile) (sort : Sort) (o : Option ℕ) (b : Bool) → install_if h w f sort o b ≡ Waits → ⊥
   opened_runs w f sort None b q = no_wait None w q
@@ -192,21 +206,23 @@ module _ (l : Labels) (laws : Laws (labelled l)) (keeps : Keeps l) (h : ℕ) (lt
             subst (λ (d : Did (Option ℕ) World). CameTo l laws keeps h (Install f sort) v ⊥ d (λ a. a) (λ a. c)) (sym (in_tables_is h (steps.TakeDescriptor f.number (new_file f sort)) v.real (λ a o. refl) (λ s. refl) (open_file h f.number (new_file f sort) (tables_of v.real))))
             (from_both (Install f sort) v ⊥ (λ a. a) (λ a b. a ≡ b) c (open_file h f.number (new_file f sort) (tables_of v.real)) (above_exec.exec h above.Room (Install f sort) v.seen) refl
             (files_are_opened h f sort (tables_of v.real) v.seen (loaded (tables_of v.real)) shows.tables inv (runs_here v may.0) may.1.0 may.1.1)
-            (opened_runs v.seen f sort (v.seen.desks h).hand (has_room (v.seen.desks h).fds)) (λ a b e. e) (opened_same v.seen f sort (v.seen.desks h).hand (has_room (v.seen.desks h).fds)) shows base may.0),
+            (opened_runs v.seen f sort (v.seen.desks h).hand (has_room (v.seen.desks h).fds)) (λ a b e. e) (λ a u. opened_same v.seen f sort (v.seen.desks h).hand (has_room (v.seen.desks h).fds) a u inv refl refl) shows base may.0),
       ))
 
   -- ---- doubled
 
-  double_same : (w : above.World) (s : ℕ) (e : Entry) (b : Bool) (a : Option (Option ℕ)) (u : above.World) → double_if h w s e b ≡ Ran a u → SameInodes h w u
-  double_same w s e true a u q =
+  double_same : (w : above.World) (s : ℕ) (e : Entry) (b : Bool) (a : Option (Option ℕ)) (u : above.World) → w.files s ≡ Some e → has_room (w.desks h).fds ≡ b → double_if h w s e b ≡ Ran a u → SameInodes h w u
+  double_same w s e true a u at room q =
       ran_same h w (above_exec.doubled h w s e (lowest (w.desks h).fds)) u _ a q
-      (desk_same w (above_exec.doubled h w s e (lowest (w.desks h).fds)) (record (w.desks h) { fds = put (w.desks h).fds (lowest (w.desks h).fds) (Some s) }) refl refl refl refl refl refl refl refl)
-  double_same w s e false a u q = ran_same h w w u (Some None) a q (all_same h w)
+      (desk_same w (above_exec.doubled h w s e (lowest (w.desks h).fds)) (record (w.desks h) { fds = put (w.desks h).fds (lowest (w.desks h).fds) (Some s) }) refl refl refl refl refl refl refl refl
+      (λ i mine. open_put h i w (above_exec.doubled h w s e (lowest (w.desks h).fds)) (record (w.desks h) { fds = put (w.desks h).fds (lowest (w.desks h).fds) (Some s) }) refl (kept_lowest w (Some s) room)
+      (λ k d at_k. renewed_same w.files s e (record { file = e.file; sort = e.sort; references = e.references + 1 }) k d at refl at_k)))
+  double_same w s e false a u at room q = ran_same h w w u (Some None) a q (all_same h w)
 
-  doubled_same : (w : above.World) (o : Option ℕ) (e : Option Entry) (a : Option (Option ℕ)) (u : above.World) → double_at h w o e ≡ Ran a u → SameInodes h w u
-  doubled_same w None e a u q = ran_same h w w u None a q (all_same h w)
-  doubled_same w (Some s) None a u q = ran_same h w w u None a q (all_same h w)
-  doubled_same w (Some s) (Some e) a u q = double_same w s e (has_room (w.desks h).fds) a u q
+  doubled_same : (w : above.World) (o : Option ℕ) (e : Option Entry) (a : Option (Option ℕ)) (u : above.World) → entry_at w.files o ≡ e → double_at h w o e ≡ Ran a u → SameInodes h w u
+  doubled_same w None e a u at q = ran_same h w w u None a q (all_same h w)
+  doubled_same w (Some s) None a u at q = ran_same h w w u None a q (all_same h w)
+  doubled_same w (Some s) (Some e) a u at q = double_same w s e (has_room (w.desks h).fds) a u at refl q
 
   doubled_runs : (w : above.World) (o : Option ℕ) (e : Option Entry) → double_at h w o e ≡ Waits → ⊥
   doubled_runs w None e q = no_wait None w q
@@ -232,23 +248,23 @@ module _ (l : Labels) (laws : Laws (labelled l)) (keeps : Keeps l) (h : ℕ) (lt
             subst (λ (d : Did Doubled World). CameTo l laws keeps h (Double fd) v ⊥ d doubled_to (λ a. c)) (sym (in_tables_is h (steps.Double fd) v.real (λ a o. refl) (λ s. refl) (double_descriptor h fd (tables_of v.real))))
             (from_both (Double fd) v ⊥ doubled_to (λ a b. a ≡ doubled_as b) c (double_descriptor h fd (tables_of v.real)) (above_exec.exec h above.Room (Double fd) v.seen) refl
             (descriptors_are_doubled h fd (tables_of v.real) v.seen (loaded (tables_of v.real)) shows.tables inv (runs_here v may.0))
-            (doubled_runs v.seen (slot_at v.seen h fd) (entry_of v.seen h fd)) (λ a b e. ap doubled_to e ∙ doubled_back b) (doubled_same v.seen (slot_at v.seen h fd) (entry_of v.seen h fd)) shows base may.0),
+            (doubled_runs v.seen (slot_at v.seen h fd) (entry_of v.seen h fd)) (λ a b e. ap doubled_to e ∙ doubled_back b) (λ a u. doubled_same v.seen (slot_at v.seen h fd) (entry_of v.seen h fd) a u refl) shows base may.0),
       ))
 
   -- ---- shut
 
-  close_same : (w : above.World) (fd s : ℕ) (e : Entry) (b : Bool) (a : Option (Option ℕ)) (u : above.World) → close_if h w fd s e b ≡ Ran a u → SameInodes h w u
-  close_same w fd s e true a u q =
+  close_same : (w : above.World) (fd s : ℕ) (e : Entry) (b : Bool) (a : Option (Option ℕ)) (u : above.World) → ((i : ℕ) → w.lock i ≢ Some h) → close_if h w fd s e b ≡ Ran a u → SameInodes h w u
+  close_same w fd s e true a u none q =
       ran_same h w (above_exec.close_last h w fd s e) u _ a q
-      (desk_same w (above_exec.close_last h w fd s e) (record (w.desks h) { fds = put (w.desks h).fds fd None }) refl refl refl refl refl refl refl refl)
-  close_same w fd s e false a u q =
+      (desk_same w (above_exec.close_last h w fd s e) (record (w.desks h) { fds = put (w.desks h).fds fd None }) refl refl refl refl refl refl refl refl (λ i mine. absurd (none i mine)))
+  close_same w fd s e false a u none q =
       ran_same h w (above_exec.close_less h w fd s e) u _ a q
-      (desk_same w (above_exec.close_less h w fd s e) (record (w.desks h) { fds = put (w.desks h).fds fd None }) refl refl refl refl refl refl refl refl)
+      (desk_same w (above_exec.close_less h w fd s e) (record (w.desks h) { fds = put (w.desks h).fds fd None }) refl refl refl refl refl refl refl refl (λ i mine. absurd (none i mine)))
 
-  closed_same : (w : above.World) (fd : ℕ) (o : Option ℕ) (e : Option Entry) (a : Option (Option ℕ)) (u : above.World) → close_at h w fd o e ≡ Ran a u → SameInodes h w u
-  closed_same w fd None e a u q = ran_same h w w u None a q (all_same h w)
-  closed_same w fd (Some s) None a u q = ran_same h w w u None a q (all_same h w)
-  closed_same w fd (Some s) (Some e) a u q = close_same w fd s e (e.references == 1) a u q
+  closed_same : (w : above.World) (fd : ℕ) (o : Option ℕ) (e : Option Entry) (a : Option (Option ℕ)) (u : above.World) → ((i : ℕ) → w.lock i ≢ Some h) → close_at h w fd o e ≡ Ran a u → SameInodes h w u
+  closed_same w fd None e a u none q = ran_same h w w u None a q (all_same h w)
+  closed_same w fd (Some s) None a u none q = ran_same h w w u None a q (all_same h w)
+  closed_same w fd (Some s) (Some e) a u none q = close_same w fd s e (e.references == 1) a u none q
 
   closed_runs : (w : above.World) (fd : ℕ) (o : Option ℕ) (e : Option Entry) → close_at h w fd o e ≡ Waits → ⊥
   closed_runs w fd None e q = no_wait None w q
@@ -274,7 +290,7 @@ module _ (l : Labels) (laws : Laws (labelled l)) (keeps : Keeps l) (h : ℕ) (lt
             subst (λ (d : Did shuts.Shut World). CameTo l laws keeps h (Shut fd) v ⊥ d shut_to (λ a. c)) (sym (in_tables_is h (steps.Close fd) v.real (λ a o. refl) (λ s. refl) (shut_descriptor h fd (tables_of v.real))))
             (from_both (Shut fd) v ⊥ shut_to (λ a b. a ≡ shut_as b) c (shut_descriptor h fd (tables_of v.real)) (above_exec.exec h above.Room (Shut fd) v.seen) refl
             (descriptors_are_shut h fd (tables_of v.real) v.seen (loaded (tables_of v.real)) shows.tables inv (runs_here v may.0) (λ i z. may.1.1 z i))
-            (closed_runs v.seen fd (slot_at v.seen h fd) (entry_of v.seen h fd)) (λ a b e. ap shut_to e ∙ shut_back b) (closed_same v.seen fd (slot_at v.seen h fd) (entry_of v.seen h fd)) shows base may.0),
+            (closed_runs v.seen fd (slot_at v.seen h fd) (entry_of v.seen h fd)) (λ a b e. ap shut_to e ∙ shut_back b) (λ a u. closed_same v.seen fd (slot_at v.seen h fd) (entry_of v.seen h fd) a u may.1.0) shows base may.0),
       ))
 
   -- ---- what changes nothing

@@ -46,7 +46,7 @@ use Rattle.inodes_on_tables.proofs.Locks.{by_lock, place_there}
 use Rattle.inodes_on_tables.proofs.Named.{names_at, file_is}
 use Rattle.inodes_on_blocks.specs.Below.{World, log_of, tables_of, inode_in, exec}
 use Rattle.inodes_on_blocks.specs.Shown.{Shows}
-use Rattle.inodes_on_blocks.specs.Lowering.{NothingMore, Had, Has, Carry, IsLoaded, InHand, Base, Stands, below, Labels, labelled, Keeps}
+use Rattle.inodes_on_blocks.specs.Lowering.{NothingMore, Had, Has, Carry, IsLoaded, InHand, Base, Stands, below, Labels, labelled, Keeps, IsOpened}
 use Rattle.inodes_on_blocks.specs.Acting.{ActsOnceAt}
 use Rattle.inodes_on_blocks.specs.Reading.{face_in, sort_at, natural, stat_file, stat_locked, stat_loaded}
 use Rattle.inodes_on_blocks.proofs.Layer.{below_laws, base_marked, tables_left}
@@ -55,6 +55,7 @@ use Rattle.inodes_on_blocks.proofs.Marked.{SameCode, marked_same, shows_marked}
 use Rattle.inodes_on_blocks.proofs.SlotSteps.{in_tables_is, came_quiet, all_same}
 use Rattle.inodes_on_blocks.proofs.Stepping.{Came}
 use Rattle.inodes_on_blocks.proofs.Tables.{with_tables, unlocked_holds, shows_then, base_then}
+use Rattle.inodes_on_blocks.proofs.OpenFiles.{open_alike}
 
 -- ---- a record shows its node's face
 
@@ -156,7 +157,7 @@ module _ (l : Labels) (laws : Laws (labelled l)) (keeps : Keeps l) (h : ℕ) (lt
           | inl q ↦ inr (subst (λ (k : ℕ). InHand h k (put c n (Has d NothingMore) k) v.real (locked h n v.seen)) (sym q) hand)
           | inr ne ↦
               let was : v.seen.lock i ≡ Some h = sym (put_other v.seen.lock n (Some h) i ne) ∙ e in
-              inl (was, put_other v.seen.keeper n (Some h) i ne ∙ (base.inodes i (sym (shows.tables.places.holders i) ∙ was)).keeps, refl, put_other c n (Has d NothingMore) i ne)
+              inl (was, put_other v.seen.keeper n (Some h) i ne ∙ (base.inodes i (sym (shows.tables.places.holders i) ∙ was)).keeps, refl, put_other c n (Has d NothingMore) i ne, open_alike h i v.seen (locked h n v.seen) refl refl)
         ]);
   }
     where
@@ -171,6 +172,7 @@ module _ (l : Labels) (laws : Laws (labelled l)) (keeps : Keeps l) (h : ℕ) (lt
         keeps = put_same v.seen.keeper n (Some h);
         loaded_is = subst (λ (o : Had). IsLoaded o (v.seen.disk n) d) (sym (put_same c n (Has d NothingMore))) (refl, typed, tt);
         holds = let range = shows.tables.range n some in unlocked_holds h lt v.real v.seen shows n unlocked range.0 range.1;
+        opened = subst (λ (o : Had). IsOpened h n o (locked h n v.seen)) (sym (put_same c n (Has d NothingMore))) tt;
       }
 
   -- ---- an operation acts where its step came so

@@ -42,7 +42,7 @@ use Rattle.inodes_on_blocks.specs.Owners.{Owners}
 use Rattle.inodes_on_blocks.specs.Below.{World, log_of, tables_of, disk_of, inode_in, owners_of, exec}
 use Rattle.inodes_on_blocks.specs.Recording.{CanPut}
 use Rattle.inodes_on_blocks.specs.Shown.{Shows}
-use Rattle.inodes_on_blocks.specs.Lowering.{commit_in, NothingMore, Had, Apart, Has, Emptied, Carry, record_had, IsLoaded, InHand, Base, Stands, below, Labels, labelled, Keeps}
+use Rattle.inodes_on_blocks.specs.Lowering.{commit_in, NothingMore, Had, Apart, Has, Emptied, Carry, record_had, IsLoaded, InHand, Base, Stands, below, Labels, labelled, Keeps, IsOpened}
 use Rattle.inodes_on_blocks.specs.Holding.{in_hand, HasBuffer, Fetched}
 use Rattle.inodes_on_blocks.specs.Room.{GivesRoom}
 use Rattle.inodes_on_blocks.specs.Storing.{record_in, put_record, store}
@@ -55,6 +55,7 @@ use Rattle.inodes_on_blocks.proofs.Recorded.{may_put}
 use Rattle.inodes_on_blocks.proofs.Putting.{after, lock_range}
 use Rattle.inodes_on_blocks.proofs.RecordPuts.{quiet_owners, node_then}
 use Rattle.inodes_on_blocks.proofs.RecordThen.{AllBut, LastsInHand, Ready, inode_home, seen_dinode, untaken, place_in, can_record, then_, is_put, shows_then, same_then, inode_then, others_then, none_then}
+use Rattle.inodes_on_blocks.proofs.OpenFiles.{open_alike}
 
 -- What a hart knows of inode n, whose lock it has, where it is to put this record for it, and has `had` of it then: the operation above makes this of it.
 pub record PutsRecord (h : ℕ) (op : above.Op) (n : ℕ) (answer : above.Answer op) (d : Dinode) (had : Had) (r : World) (g : above.World) : Type 0 where
@@ -66,6 +67,8 @@ pub record PutsRecord (h : ℕ) (op : above.Op) (n : ℕ) (answer : above.Answer
   pub free : (g.desks h).lender ≡ None
   pub is : IsDinode d
   pub has : IsLoaded had node d
+  -- and by no descriptor
+  pub closed : (w : above.World) → IsOpened h n had w
   -- with the record in its block the inode holds that
   pub holds : (new : List (List ℕ)) → IsInodePut (disk_of (log_of r)) new n d → HoldsAt new r.owner n node
 
@@ -96,7 +99,7 @@ module _ (sizes : Super) (l : Labels) (laws : Laws (labelled l)) (keeps : Keeps 
     all_then : AllInHand h (put c n had) put_then seen_then
     all_then i e = elim (same_or i n) [
       | inl q ↦ subst (λ (j : ℕ). InHand h j (put c n had j) put_then seen_then) (sym q) this
-      | inr ne ↦ subst (λ (o : Had). InHand h i o put_then seen_then) (sym (put_other c n had i ne)) (others_then h n d c r g shows p.mine p.joined p.is can long all seen_then (λ k apart. put_other g.disk n p.node k apart) (λ k. refl) i ne e)
+      | inr ne ↦ subst (λ (o : Had). InHand h i o put_then seen_then) (sym (put_other c n had i ne)) (others_then h n d c r g shows p.mine p.joined p.is can long all seen_then (λ k apart. put_other g.disk n p.node k apart) (λ k. refl) (λ k. open_alike h k g seen_then refl refl) i ne e)
     ]
       where
         this : InHand h n (put c n had n) put_then seen_then
@@ -108,6 +111,7 @@ module _ (sizes : Super) (l : Labels) (laws : Laws (labelled l)) (keeps : Keeps 
               (subst (λ (x : Dinode). IsLoaded had p.node x) (sym (inode_then h n d c r g shows p.mine p.joined p.is can long)) p.has));
           holds = subst (λ (o : Option Node). HoldsAt (disk_of (log_of put_then)) r.owner n o) (sym (put_same g.disk n p.node))
               (p.holds (disk_of (log_of put_then)) (is_put h n d c r g shows p.mine p.joined p.is can long));
+          opened = subst (λ (o : Had). IsOpened h n o seen_then) (sym (put_same c n had)) (p.closed seen_then);
         }
 
     base_then : Base h put_then seen_then (put c n had)
@@ -257,6 +261,7 @@ module _ (sizes : Super) (l : Labels) (laws : Laws (labelled l)) (keeps : Keeps 
           record {
             node = Some (record node { count = count });
             ran = (λ z. Ran tt (with_record v.seen n (Some (with_count count (node_or (may.1.1.is z))))));
+            closed = λ w. tt;
             mine = may.1.0.0;
             keeps = hand.keeps;
             joined = may.1.0.1;

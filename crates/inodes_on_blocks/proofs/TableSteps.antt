@@ -34,6 +34,7 @@ use Rattle.inodes_on_blocks.proofs.Layer.{tables_left}
 use Rattle.inodes_on_blocks.proofs.Owed.{fewer_owed}
 use Rattle.inodes_on_blocks.proofs.Stepping.{Came, one_step}
 use Rattle.inodes_on_blocks.proofs.Tables.{with_tables, shows_then, base_then}
+use Rattle.inodes_on_blocks.proofs.OpenFiles.{OpenStays, open_alike}
 
 -- what is loaded of an inode in hand is as it is seen
 loaded_seen : (o : Had) (n : Option Node) (d e : Dinode) → IsLoaded o n d → record_had o ≡ Some e → e ≡ d
@@ -66,6 +67,7 @@ module _ (l : Labels) (laws : Laws (labelled l)) (keeps : Keeps l) (h : ℕ) (lt
     pub size : u.all.ninodes ≡ g.all.ninodes
     pub joined : (j : ℕ) → (u.desks j).joined ≡ (g.desks j).joined
     pub lender : (u.desks h).lender ≡ (g.desks h).lender
+    pub opens : (i : ℕ) → i ≢ n → OpenStays h i g u
 
   pub given_came : (op : above.Op) (n : ℕ) (v : W) (c : Carry) (b : above.Answer op) (t : TablesState) (u : above.World) → Shows v.real v.seen → Base h v.real v.seen c → v.seen.lock n ≡ Some h → (v.seen.desks h).lender ≡ None
       → above_exec.exec h above.Room op v.seen ≡ Ran b u → tables.Shows t u (put (loaded (tables_of v.real)) n (record_had (c n))) → GivesBack n v.seen u → Came l laws keeps h op v b (with_tables v.real t) (put c n (after_give (c n)))
@@ -102,7 +104,7 @@ module _ (l : Labels) (laws : Laws (labelled l)) (keeps : Keeps l) (h : ℕ) (lt
           | inl q ↦ absurd (none-some h (sym (freed i q) ∙ e))
           | inr ne ↦
               let was : v.seen.lock i ≡ Some h = sym (unfreed i ne) ∙ e in
-              inl (was, s.keeper i ne ∙ (base.inodes i (sym (shows.tables.places.holders i) ∙ was)).keeps, (λ z. s.disk z i), put_other c n (after_give (c n)) i ne)
+              inl (was, s.keeper i ne ∙ (base.inodes i (sym (shows.tables.places.holders i) ∙ was)).keeps, (λ z. s.disk z i), put_other c n (after_give (c n)) i ne, s.opens i ne)
         ]);
   }
     where
@@ -119,8 +121,8 @@ module _ (l : Labels) (laws : Laws (labelled l)) (keeps : Keeps l) (h : ℕ) (lt
       unfreed i ne = (λ z. s.lock z i) ∙ put_other v.seen.lock n None i ne
 
   unlocked_back : (n : ℕ) (g : above.World) (b : Bool) → GivesBack n g (unlocked n g b)
-  unlocked_back n g true = record { disk = refl; lock = refl; refs = refl; keeper = λ i ne. refl; size = refl; joined = λ j. refl; lender = refl }
-  unlocked_back n g false = record { disk = refl; lock = refl; refs = refl; keeper = λ i ne. put_other g.keeper n None i ne; size = refl; joined = λ j. refl; lender = refl }
+  unlocked_back n g true = record { disk = refl; lock = refl; refs = refl; keeper = λ i ne. refl; size = refl; joined = λ j. refl; lender = refl; opens = λ i ne. open_alike h i g (unlocked n g true) refl refl }
+  unlocked_back n g false = record { disk = refl; lock = refl; refs = refl; keeper = λ i ne. put_other g.keeper n None i ne; size = refl; joined = λ j. refl; lender = refl; opens = λ i ne. open_alike h i g (unlocked n g false) refl refl }
 
   unlocked_shows : (t : TablesState) (n : ℕ) (g : above.World) (load : ℕ → Option Dinode) (b : Bool) → tables.Shows t (record g { lock = put g.lock n None }) load → tables.Shows t (unlocked n g b) load
   unlocked_shows t n g load true s = record { sound = s.sound; places = s.places; files = s.files; desks = s.desks; lenders = s.lenders; range = s.range }
@@ -140,8 +142,8 @@ module _ (l : Labels) (laws : Laws (labelled l)) (keeps : Keeps l) (h : ℕ) (lt
 
   -- and the inode is the directory
   settled_back : (n : ℕ) (g : above.World) (b : Bool) → GivesBack n g (above_exec.with_directory (unlocked n g b) h n)
-  settled_back n g true = record { disk = refl; lock = refl; refs = refl; keeper = λ i ne. refl; size = refl; joined = λ j. part_same (λ d. d.joined) g.desks h (record (g.desks h) { directory = n; left = None }) j refl; lender = part_same (λ d. d.lender) g.desks h (record (g.desks h) { directory = n; left = None }) h refl }
-  settled_back n g false = record { disk = refl; lock = refl; refs = refl; keeper = λ i ne. put_other g.keeper n None i ne; size = refl; joined = λ j. part_same (λ d. d.joined) g.desks h (record (g.desks h) { directory = n; left = None }) j refl; lender = part_same (λ d. d.lender) g.desks h (record (g.desks h) { directory = n; left = None }) h refl }
+  settled_back n g true = record { opens = λ i ne. open_alike h i g (above_exec.with_directory (unlocked n g true) h n) (part_same (λ d. d.fds) g.desks h (record (g.desks h) { directory = n; left = None }) h refl) refl; disk = refl; lock = refl; refs = refl; keeper = λ i ne. refl; size = refl; joined = λ j. part_same (λ d. d.joined) g.desks h (record (g.desks h) { directory = n; left = None }) j refl; lender = part_same (λ d. d.lender) g.desks h (record (g.desks h) { directory = n; left = None }) h refl }
+  settled_back n g false = record { opens = λ i ne. open_alike h i g (above_exec.with_directory (unlocked n g false) h n) (part_same (λ d. d.fds) g.desks h (record (g.desks h) { directory = n; left = None }) h refl) refl; disk = refl; lock = refl; refs = refl; keeper = λ i ne. put_other g.keeper n None i ne; size = refl; joined = λ j. part_same (λ d. d.joined) g.desks h (record (g.desks h) { directory = n; left = None }) j refl; lender = part_same (λ d. d.lender) g.desks h (record (g.desks h) { directory = n; left = None }) h refl }
 
   pub settle_acts : (n : ℕ) (m : ℕ → Option above.Mark) → ActsOnce l h (Settle n) m (settle n)
   unfolding steps.exec premises.May settle_inode

@@ -19,7 +19,8 @@ use Rattle.inodes_on_tables.specs.Shown.{loaded}
 use Rattle.inodes_on_blocks.specs.OnBlocks.{is_joined}
 use Rattle.inodes_on_blocks.specs.Below.{World, log_of, disk_of, inode_in}
 use Rattle.inodes_on_blocks.specs.Shown.{Shows, LoadsShow, if_joined}
-use Rattle.inodes_on_blocks.specs.Lowering.{Had, Carry, IsLoaded, InHand, Base}
+use Rattle.inodes_on_blocks.specs.Lowering.{Had, Carry, IsLoaded, InHand, Base, IsOpened}
+use Rattle.inodes_on_blocks.proofs.OpenFiles.{OpenStays, open_then}
 
 -- the tables after a step
 abbrev pub with_tables : World → TablesState → World
@@ -100,7 +101,7 @@ module _ (h : ℕ) (lt : h < hart_count) (v : World) (g : above.World) (shows : 
 
   -- what the hart has then
   pub base_then : (c d : Carry) (t : TablesState) (u : above.World) (load : ℕ → Option Dinode) → Base h v g c → tables.Shows t u load → (u.desks h).lender ≡ None
-      → ((i : ℕ) → u.lock i ≡ Some h → ((g.lock i ≡ Some h) × (u.keeper i ≡ Some h) × (u.disk i ≡ g.disk i) × (d i ≡ c i)) ⊎ InHand h i (d i) v u) → Base h (with_tables v t) u d
+      → ((i : ℕ) → u.lock i ≡ Some h → ((g.lock i ≡ Some h) × (u.keeper i ≡ Some h) × (u.disk i ≡ g.disk i) × (d i ≡ c i) × OpenStays h i g u) ⊎ InHand h i (d i) v u) → Base h (with_tables v t) u d
   base_then c d t u load base after free each = record {
     free = base.free;
     taken = base.taken;
@@ -109,12 +110,13 @@ module _ (h : ℕ) (lt : h < hart_count) (v : World) (g : above.World) (shows : 
     lent = λ some. absurd (some free);
   }
     where
-      by : (i : ℕ) → ((g.lock i ≡ Some h) × (u.keeper i ≡ Some h) × (u.disk i ≡ g.disk i) × (d i ≡ c i)) ⊎ InHand h i (d i) v u → InHand h i (d i) (with_tables v t) u
-      by i (inr hand) = record { keeps = hand.keeps; loaded_is = hand.loaded_is; holds = hand.holds }
+      by : (i : ℕ) → ((g.lock i ≡ Some h) × (u.keeper i ≡ Some h) × (u.disk i ≡ g.disk i) × (d i ≡ c i) × OpenStays h i g u) ⊎ InHand h i (d i) v u → InHand h i (d i) (with_tables v t) u
+      by i (inr hand) = record { keeps = hand.keeps; loaded_is = hand.loaded_is; holds = hand.holds; opened = hand.opened }
       by i (inl same) =
           let was = base.inodes i (sym (shows.tables.places.holders i) ∙ same.0) in
           record {
             keeps = same.1;
             loaded_is = (λ (z : IsLoaded (c i) (g.disk i) (inode_in (log_of v) i)). subst (λ (o : Had). IsLoaded o (u.disk i) (inode_in (log_of v) i)) (sym same.3) (subst (λ (n : Option Node). IsLoaded (c i) n (inode_in (log_of v) i)) (sym same.2) z)) was.loaded_is;
             holds = subst (λ (n : Option Node). HoldsAt (disk_of (log_of v)) v.owner i n) (sym same.2) was.holds;
+            opened = subst (λ (o : Had). IsOpened h i o u) (sym same.3) (open_then h i (c i) g u same.4 was.opened);
           }

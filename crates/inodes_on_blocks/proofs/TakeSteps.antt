@@ -34,7 +34,7 @@ use Rattle.inodes_on_tables.specs.Shown.{loaded}
 use Rattle.inodes_on_tables.proofs.Locks.{by_lock, place_there}
 use Rattle.inodes_on_blocks.specs.Below.{World, log_of, tables_of, disk_of, inode_in, exec}
 use Rattle.inodes_on_blocks.specs.Shown.{Shows}
-use Rattle.inodes_on_blocks.specs.Lowering.{Same, Kept, Learned, NothingMore, Had, Has, Carry, IsKnown, IsLoaded, InHand, Base, Stands, below, Labels, labelled, Keeps}
+use Rattle.inodes_on_blocks.specs.Lowering.{Same, Kept, Learned, NothingMore, Had, Has, Carry, IsKnown, IsLoaded, InHand, Base, Stands, below, Labels, labelled, Keeps, IsOpened}
 use Rattle.inodes_on_blocks.specs.Acting.{ActsOnceAt}
 use Rattle.inodes_on_blocks.specs.Reading.{face_in, number_found, learned, seen_record, looked, take}
 use Rattle.inode_table.specs.Programs.{load_unless}
@@ -57,8 +57,8 @@ same_ran : (b : Seen) (g u : above.World) → Ran b g ≡ Ran b u → g ≡ u
 same_ran b g u e = cc e
 
 -- what was learned of an inode beside its record
-learned_base : (h n : ℕ) (r : World) (g : above.World) (c : Carry) (d : Dinode) (learns : Learned) → IsKnown learns (g.disk n) → Base h r g (put c n (Has d NothingMore)) → Base h r g (put c n (Has d learns))
-learned_base h n r g c d learns known base = record {
+learned_base : (h n : ℕ) (r : World) (g : above.World) (c : Carry) (d : Dinode) (learns : Learned) → IsKnown learns (g.disk n) → IsOpened h n (Has d learns) g → Base h r g (put c n (Has d NothingMore)) → Base h r g (put c n (Has d learns))
+learned_base h n r g c d learns known opened base = record {
   free = base.free;
   taken = base.taken;
   rests = base.rests;
@@ -76,6 +76,7 @@ learned_base h n r g c d learns known base = record {
           keeps = was.keeps;
           loaded_is = subst (λ (o : Had). IsLoaded o (g.disk n) (inode_in (log_of r) n)) (sym (put_same c n (Has d learns))) (is.0, is.1, known);
           holds = was.holds;
+          opened = subst (λ (o : Had). IsOpened h n o g) (sym (put_same c n (Has d learns))) opened;
         }
 
 module _ (l : Labels) (laws : Laws (labelled l)) (keeps : Keeps l) (h : ℕ) (lt : h < hart_count) (sizes : Super) (n : ℕ) where
@@ -102,54 +103,58 @@ module _ (l : Labels) (laws : Laws (labelled l)) (keeps : Keeps l) (h : ℕ) (lt
     used : is_free d ≡ false
     used = in_use d node holds.inode
 
+    learned_apart : (e : Name) (o : Option Found) (g : above.World) → IsOpened h n (Has d (learned e o)) g
+    learned_apart e None g = tt
+    learned_apart e (Some f) g = tt
+
     -- what is answered is what is seen above
-    ends : (looking : Looking) (learns : Learned) (found : Option ℕ) (empty : Bool) → IsKnown learns (Some node) → found ≡ (seen_in n looking (Some node)).found → empty ≡ (seen_in n looking (Some node)).empty → Goes (seen_record c n d learns found empty) 0 looking
-    ends looking learns found empty known found_is empty_is v fs same kept stage =
+    ends : (looking : Looking) (learns : Learned) (found : Option ℕ) (empty : Bool) → ((g : above.World) → IsOpened h n (Has d learns) g) → IsKnown learns (Some node) → found ≡ (seen_in n looking (Some node)).found → empty ≡ (seen_in n looking (Some node)).empty → Goes (seen_record c n d learns found empty) 0 looking
+    ends looking learns found empty apart known found_is empty_is v fs same kept stage =
         let face_is = face_seen d (Some node) holds.inode (λ e. none-some node (sym e)) in
         let answer : record { face = if is_free d then None else Some (face_in d); found = found; empty = empty } ≡ seen_in n looking (Some node) = λ i. record { face = face_is i; found = found_is i; empty = empty_is i } in
         let there = (below_laws sizes l keeps).base h w.real v.real w.seen v.seen (put c n (Has d NothingMore)) same kept stands in
         let still = (kept_disk h n w.seen v.seen kept stands.0.lent (stands.0.inodes n mine).keeps).1 ∙ is in
-        (subst (λ (a : Seen). C a fs v.seen) (sym answer) stage, (learned_base h n v.real v.seen c d learns (subst (IsKnown learns) (sym still) known) there.0, there.1))
+        (subst (λ (a : Seen). C a fs v.seen) (sym answer) stage, (learned_base h n v.real v.seen c d learns (subst (IsKnown learns) (sym still) known) (apart v.seen) there.0, there.1))
 
     -- a search, and what is answered by what it finds
     searched : (looking : Looking) (aim : Aim) (learns : Option Found → Learned) (found : Option Found → Option ℕ) (empty : Option Found → Bool)
-        → IsKnown (learns (search_finds (disk_of (log_of w.real)) w.real.owner n node holds used aim)) (Some node)
+        → ((o : Option Found) (g : above.World) → IsOpened h n (Has d (learns o)) g) → IsKnown (learns (search_finds (disk_of (log_of w.real)) w.real.owner n node holds used aim)) (Some node)
         → found (search_finds (disk_of (log_of w.real)) w.real.owner n node holds used aim) ≡ (seen_in n looking (Some node)).found
         → empty (search_finds (disk_of (log_of w.real)) w.real.owner n node holds used aim) ≡ (seen_in n looking (Some node)).empty
         → Goes (bind (search aim d) (λ o. seen_record c n d (learns o) (found o) (empty o))) 1608 looking
-    searched looking aim learns found empty known found_is empty_is v fs same kept stage =
+    searched looking aim learns found empty apart known found_is empty_is v fs same kept stage =
         let few = few_blocks d in
         let steps = touches_are (block_count d) 0 in
         Wp-more M h (bind (search aim d) (λ o. seen_record c n d (learns o) (found o) (empty o))) B Q (touches (block_count d) 0) 1608 fs v (omega (arith, few, steps))
         (s-search sizes l laws keeps h lt B Q (C (seen_in n looking (Some node))) (acted (labelled l) (below sizes) laws (below_laws sizes l keeps) h B (Take n looking) m C lasts (seen_in n looking (Some node)))
         n (Some node) aim (λ o. seen_record c n d (learns o) (found o) (empty o)) 0 w holds used mine stands.0.free (block_count d) 0 v fs same kept stage
         (λ q low. let within = block_within (disk_of (log_of w.real)) w.real.owner n node holds used q low in omega (arith, within))
-        (ends looking (learns (search_finds (disk_of (log_of w.real)) w.real.owner n node holds used aim)) (found (search_finds (disk_of (log_of w.real)) w.real.owner n node holds used aim)) (empty (search_finds (disk_of (log_of w.real)) w.real.owner n node holds used aim)) known found_is empty_is))
+        (ends looking (learns (search_finds (disk_of (log_of w.real)) w.real.owner n node holds used aim)) (found (search_finds (disk_of (log_of w.real)) w.real.owner n node holds used aim)) (empty (search_finds (disk_of (log_of w.real)) w.real.owner n node holds used aim)) (apart (search_finds (disk_of (log_of w.real)) w.real.owner n node holds used aim)) known found_is empty_is))
 
     s-looked : (looking : Looking) → Goes (looked looking c n d) (steps_of looking) looking
-    s-looked AtNothing = ends AtNothing NothingMore None true tt refl refl
+    s-looked AtNothing = ends AtNothing NothingMore None true (λ g. tt) tt refl refl
     s-looked (AtName e) = by (live_directory (Some node)) refl
       where
         by : (b : Bool) → live_directory (Some node) ≡ b → Goes (looked (AtName e) c n d) 1608 (AtName e)
         by true live v fs same kept stage =
             subst (λ (b : Bool). Wp M h B Q (bind (if b then search (Named e) d else Ret None) (λ o. seen_record c n d (learned e o) (number_found o) true)) 1608 fs v)
             (sym (live_is (disk_of (log_of w.real)) w.real.owner n node holds used ∙ live))
-            (searched (AtName e) (Named e) (learned e) number_found (λ o. true) (slot_found (disk_of (log_of w.real)) w.real.owner n node holds used e live) (name_found (disk_of (log_of w.real)) w.real.owner n node holds used e live) refl v fs same kept stage)
+            (searched (AtName e) (Named e) (learned e) number_found (λ o. true) (learned_apart e) (slot_found (disk_of (log_of w.real)) w.real.owner n node holds used e live) (name_found (disk_of (log_of w.real)) w.real.owner n node holds used e live) refl v fs same kept stage)
         by false dead v fs same kept stage =
             subst (λ (b : Bool). Wp M h B Q (bind (if b then search (Named e) d else Ret None) (λ o. seen_record c n d (learned e o) (number_found o) true)) 1608 fs v)
             (sym (live_is (disk_of (log_of w.real)) w.real.owner n node holds used ∙ dead))
-            (ends (AtName e) NothingMore None true tt (name_lost (disk_of (log_of w.real)) w.real.owner n node holds used e dead) refl v fs same kept stage)
+            (ends (AtName e) NothingMore None true (λ g. tt) tt (name_lost (disk_of (log_of w.real)) w.real.owner n node holds used e dead) refl v fs same kept stage)
     s-looked AtEntries = by (tree.is_directory node.kind) refl
       where
         by : (b : Bool) → tree.is_directory node.kind ≡ b → Goes (looked AtEntries c n d) 1608 AtEntries
         by true directory v fs same kept stage =
             subst (λ (b : Bool). Wp M h B Q (bind (if b then search Entry d else Ret None) (λ o. seen_record c n d NothingMore None (not (is_some o)))) 1608 fs v)
             (sym (directory_is (disk_of (log_of w.real)) w.real.owner n node holds used ∙ directory))
-            (searched AtEntries Entry (λ o. NothingMore) (λ o. None) (λ o. not (is_some o)) tt refl (entries_found (disk_of (log_of w.real)) w.real.owner n node holds used directory) v fs same kept stage)
+            (searched AtEntries Entry (λ o. NothingMore) (λ o. None) (λ o. not (is_some o)) (λ o g. tt) tt refl (entries_found (disk_of (log_of w.real)) w.real.owner n node holds used directory) v fs same kept stage)
         by false other v fs same kept stage =
             subst (λ (b : Bool). Wp M h B Q (bind (if b then search Entry d else Ret None) (λ o. seen_record c n d NothingMore None (not (is_some o)))) 1608 fs v)
             (sym (directory_is (disk_of (log_of w.real)) w.real.owner n node holds used ∙ other))
-            (ends AtEntries NothingMore None true tt refl (no_entries (disk_of (log_of w.real)) w.real.owner n node holds used other) v fs same kept stage)
+            (ends AtEntries NothingMore None true (λ g. tt) tt refl (no_entries (disk_of (log_of w.real)) w.real.owner n node holds used other) v fs same kept stage)
 
   -- ---- the operation
 

@@ -9,6 +9,7 @@ use Rattle.group_log.specs.declared.phase.Phase.{Phase}
 use Rattle.plain_tree.specs.declared.node.Node.{Node}
 use Rattle.plain_tree.specs.declared.node.Slot.{Slot as DirectorySlot}
 use Rattle.plain_tree.specs.Tree.{Name, same_name, all_slots}
+use Rattle.plain_tree.specs.Widths.{hart_count, descriptor_count}
 use Rattle.image_tree.specs.Inodes.{is_free}
 use Rattle.image_laws.specs.Holds.{HoldsAt}
 use Rattle.image_laws.specs.Puts.{IsUntouched}
@@ -20,6 +21,7 @@ use Rattle.fs_machine.specs.Steps as steps
 use Rattle.fs_machine.specs.Premises as premises
 use Rattle.fs_machine.specs.Shown.{seen_of}
 use Rattle.inode_machine.specs.World as above
+use Rattle.inode_machine.specs.World.{Entry}
 use Rattle.inode_machine.specs.World.Op.{Take, Give, UpStart, Up, WalkDown, Down, Free, Claim, Store, Fill, Enter, Clear, Empty, Slot, Install, StatFile, ReadFile, CheckFile, JoinFile, WriteFile, Double, Shut, Settle, Lend, LendDirectory, Release, Join, Leave, Say}
 use Rattle.inode_machine.specs.Marks.{go}
 use Rattle.inode_machine.specs.Rules as rules
@@ -74,6 +76,8 @@ pub data Learned : Type 0 where
   NothingMore : Learned
   -- under this name a directory has this slot
   Finds : Name → ℕ → Learned
+  -- by this descriptor it was locked, whose open file has this offset
+  Opened : ℕ → ℕ → Learned
 
 -- what it has of an inode: nothing, where the lock isn't its own; the record, and what it learned; or that it has freed it
 pub data Had : Type 0 where
@@ -107,6 +111,25 @@ pub record IsFirstNamed (slots : List (Option DirectorySlot)) (e : Name) (s : �
 abbrev pub IsKnown : Learned → Option Node → Type 0
 IsKnown NothingMore v = Unit {0}
 IsKnown (Finds e s) v = IsFirstNamed (all_slots v) e s
+IsKnown (Opened fd offset) v = Unit {0}
+
+-- a descriptor of the hart has the inode open, at this offset
+pub record HasOpen (h i fd offset : ℕ) (w : above.World) : Type 0 where
+  pub hart : h < hart_count
+  pub below : fd < descriptor_count
+  pub slot : ℕ
+  pub is : (w.desks h).fds fd ≡ Some slot
+  pub entry : Entry
+  pub at : w.files slot ≡ Some entry
+  pub number : entry.file.number ≡ i
+  pub offset_is : entry.file.offset ≡ offset
+
+abbrev pub IsOpened : ℕ → ℕ → Had → above.World → Type 0
+IsOpened h i Apart w = Unit {0}
+IsOpened h i (Has d NothingMore) w = Unit {0}
+IsOpened h i (Has d (Finds e s)) w = Unit {0}
+IsOpened h i (Has d (Opened fd offset)) w = HasOpen h i fd offset w
+IsOpened h i Emptied w = Unit {0}
 
 -- what it has of an inode whose lock it has
 abbrev pub IsLoaded : Had → Option Node → Dinode → Type 0
@@ -119,6 +142,7 @@ pub record InHand (h i : ℕ) (had : Had) (r : World) (w : above.World) : Type 0
   pub keeps : w.keeper i ≡ Some h
   pub loaded_is : IsLoaded had (w.disk i) (inode_in (log_of r) i)
   pub holds : HoldsAt (disk_of (log_of r)) r.owner i (w.disk i)
+  pub opened : IsOpened h i had w
 
 pub record Base (h : ℕ) (r : World) (w : above.World) (c : Carry) : Type 0 where
   -- no buffer, no block that no inode names, and no commit
