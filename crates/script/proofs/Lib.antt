@@ -3,3 +3,4 @@ mod Numbers
 mod Pairs
 mod Saying
 mod Scripts
+mod Standing

@@ -1,14 +1,17 @@
 -- A script read line by line.
 use Rattle.std.proofs.Common.{◌≡◌, ℕ, ◌+◌, ◌<◌, ◌≤◌, true, false, List, [], ◌∷◌, ◌++◌, length, drop, get_or, cond, Some, None, Result, Ok, Err, refl, ap, sym, ◌∙◌}
 use Rattle.std.proofs.lemmas.List.{at_drop_more, at_drop_all, append_assoc, append-nil}
-use Rattle.script.specs.Said.{Line}
+use Rattle.script.specs.Said.{Line, NumberedLine}
 use Rattle.script.specs.Reading.{lines_from, first_said, with_line, line_in, words_of, is_passed_over}
 
-abbrev pub with_lines : List Line → Result (List Line) ℕ → Result (List Line) ℕ
+abbrev pub with_lines : List NumberedLine → Result (List NumberedLine) ℕ → Result (List NumberedLine) ℕ
 with_lines front (Ok lines) = Ok (front ++ lines)
 with_lines front (Err n) = Err n
 
-push_line : (front : List Line) (said : Line) (rest : Result (List Line) ℕ) → with_lines front (with_line said rest) ≡ with_lines (front ++ said ∷ []) rest
+abbrev pub at_line : ℕ → Line → NumberedLine
+at_line n said = record { number = n; says = said }
+
+push_line : (front : List NumberedLine) (said : NumberedLine) (rest : Result (List NumberedLine) ℕ) → with_lines front (with_line said rest) ≡ with_lines (front ++ said ∷ []) rest
 push_line front said (Ok lines) = ap Ok (sym (append_assoc front (said ∷ []) lines))
 push_line front said (Err n) = refl
 
@@ -18,26 +21,26 @@ one_line : (n : ℕ) (lines : List (List ℕ)) (i : ℕ) (line : List ℕ) → i
 unfolding lines_from
 one_line n lines i line lt is = at_drop_more (lines_from n) lines i line lt ∙ ap (λ x. cond (is_passed_over x) (lines_from (n + 1) (drop (i + 1) lines)) (first_said n (line_in (words_of x)) (lines_from (n + 1) (drop (i + 1) lines)))) (sym is)
 
-pub none_left : (front : List Line) (n : ℕ) (lines : List (List ℕ)) (i : ℕ) → length lines ≤ i → with_lines front (lines_from n (drop i lines)) ≡ Ok front
+pub none_left : (front : List NumberedLine) (n : ℕ) (lines : List (List ℕ)) (i : ℕ) → length lines ≤ i → with_lines front (lines_from n (drop i lines)) ≡ Ok front
 unfolding lines_from
 none_left front n lines i le = ap (with_lines front) (at_drop_all (lines_from n) lines i le) ∙ ap Ok (append-nil front)
 
-pub passed_over : (front : List Line) (n : ℕ) (lines : List (List ℕ)) (i j : ℕ) (line : List ℕ) → i < length lines → line ≡ get_or lines i line → j ≡ i + 1 → is_passed_over line ≡ true
+pub passed_over : (front : List NumberedLine) (n : ℕ) (lines : List (List ℕ)) (i j : ℕ) (line : List ℕ) → i < length lines → line ≡ get_or lines i line → j ≡ i + 1 → is_passed_over line ≡ true
     → with_lines front (lines_from (n + 1) (drop j lines)) ≡ with_lines front (lines_from n (drop i lines))
 passed_over front n lines i j line lt is next passed =
     ap (λ k. with_lines front (lines_from (n + 1) (drop k lines))) next
     ∙ sym (ap (with_lines front) (one_line n lines i line lt is ∙ ap (λ b. cond b (lines_from (n + 1) (drop (i + 1) lines)) (first_said n (line_in (words_of line)) (lines_from (n + 1) (drop (i + 1) lines)))) passed))
 
-pub one_said : (front : List Line) (n : ℕ) (lines : List (List ℕ)) (i j : ℕ) (line : List ℕ) (said : Line) → i < length lines → line ≡ get_or lines i line → j ≡ i + 1 → is_passed_over line ≡ false
+pub one_said : (front : List NumberedLine) (n : ℕ) (lines : List (List ℕ)) (i j : ℕ) (line : List ℕ) (said : Line) → i < length lines → line ≡ get_or lines i line → j ≡ i + 1 → is_passed_over line ≡ false
     → line_in (words_of line) ≡ Some said
-    → with_lines (front ++ said ∷ []) (lines_from (n + 1) (drop j lines)) ≡ with_lines front (lines_from n (drop i lines))
+    → with_lines (front ++ at_line n said ∷ []) (lines_from (n + 1) (drop j lines)) ≡ with_lines front (lines_from n (drop i lines))
 one_said front n lines i j line said lt is next read says =
-    ap (λ k. with_lines (front ++ said ∷ []) (lines_from (n + 1) (drop k lines))) next
-    ∙ sym (push_line front said (lines_from (n + 1) (drop (i + 1) lines)))
+    ap (λ k. with_lines (front ++ at_line n said ∷ []) (lines_from (n + 1) (drop k lines))) next
+    ∙ sym (push_line front (at_line n said) (lines_from (n + 1) (drop (i + 1) lines)))
     ∙ sym (ap (with_lines front) (one_line n lines i line lt is ∙ ap (λ b. cond b (lines_from (n + 1) (drop (i + 1) lines)) (first_said n (line_in (words_of line)) (lines_from (n + 1) (drop (i + 1) lines)))) read
     ∙ ap (λ o. first_said n o (lines_from (n + 1) (drop (i + 1) lines))) says))
 
-pub nothing_said : (front : List Line) (n : ℕ) (lines : List (List ℕ)) (i : ℕ) (line : List ℕ) → i < length lines → line ≡ get_or lines i line → is_passed_over line ≡ false → line_in (words_of line) ≡ None
+pub nothing_said : (front : List NumberedLine) (n : ℕ) (lines : List (List ℕ)) (i : ℕ) (line : List ℕ) → i < length lines → line ≡ get_or lines i line → is_passed_over line ≡ false → line_in (words_of line) ≡ None
     → with_lines front (lines_from n (drop i lines)) ≡ Err n
 nothing_said front n lines i line lt is read says =
     ap (with_lines front) (one_line n lines i line lt is ∙ ap (λ b. cond b (lines_from (n + 1) (drop (i + 1) lines)) (first_said n (line_in (words_of line)) (lines_from (n + 1) (drop (i + 1) lines)))) read

@@ -4,14 +4,14 @@ use Rattle.std.specs.declared.alloc.Global.{Global}
 use Rattle.std.specs.Borrow.{Bor}
 use Rattle.script.specs.declared.fault.LineFault.{LineFault}
 use Rattle.script.specs.declared.fault.LineFault.TheVariants as faults
-use Rattle.script.specs.declared.command.Command.{Command}
+use Rattle.script.specs.declared.command.ScriptLine.{ScriptLine}
 use Rattle.script.specs.declared.command.ScriptFault.{ScriptFault}
 use Rattle.script.specs.declared.command.ScriptFault.TheVariants as scripts
-use Rattle.script.specs.Said.{Line, line_said}
+use Rattle.script.specs.Said.{NumberedLine, numbered}
 
 abbrev pub Fails : {Y : Type 0} → LineFault → Option Y → Type 0
 Fails faults.Memory said = Unit {0}
-Fails faults.Bad said = said ≡ None
+Fails (faults.Bad reason) said = said ≡ None
 
 abbrev pub Gives : {X Y : Type 0} → (X → Y) → Result X LineFault → Option Y → Type 0
 Gives view (Ok x) said = said ≡ Some (view x)
@@ -20,8 +20,8 @@ Gives view (Err e) said = Fails e said
 abbrev pub words_now : List (Bor (List ℕ)) → List (List ℕ)
 words_now words = map (λ w. w.now) words
 
--- what reading a script answers: its commands, or its first line that says nothing, unless memory was refused
-abbrev pub GivesScript : Result (Vec Command Global) ScriptFault → Result (List Line) ℕ → Type 0
-GivesScript (Ok commands) said = said ≡ Ok (map line_said commands.items)
-GivesScript (Err (scripts.Line n)) said = said ≡ Err n
+-- what reading a script answers: its commands, each with its line's number, or its first line that says nothing, unless memory was refused
+abbrev pub GivesScript : Result (Vec ScriptLine Global) ScriptFault → Result (List NumberedLine) ℕ → Type 0
+GivesScript (Ok lines) said = said ≡ Ok (map numbered lines.items)
+GivesScript (Err (scripts.Line n reason)) said = said ≡ Err n
 GivesScript (Err scripts.Memory) said = Unit {0}

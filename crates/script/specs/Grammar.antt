@@ -1,5 +1,5 @@
 -- The grammar of scripts, as docs/SCRIPT.md has it: which words each line has.
-use Rattle.std.specs.Prelude.{◌≡◌, ℕ, List, [], ◌∷◌, Some, codes}
+use Rattle.std.specs.Prelude.{◌≡◌, ◌↔◌, ℕ, List, [], ◌∷◌, Some, codes}
 use Rattle.fs_machine.specs.declared.kind.Kind.{Kind}
 use Rattle.fs_machine.specs.declared.kind.Kind.TheVariants as kinds
 use Rattle.script.specs.Words.{number_in, hart_in, bytes_in}
@@ -100,4 +100,4 @@ abbrev pub Says : Line → List ℕ → Type 0
 Says said line = SaysLine said (words_of line)
 
 abbrev pub LinesAreRead : Type 0
-LinesAreRead = (said : Line) (line : List ℕ) → Says said line → line_in (words_of line) ≡ Some said
+LinesAreRead = (said : Line) (line : List ℕ) → Says said line ↔ (line_in (words_of line) ≡ Some said)

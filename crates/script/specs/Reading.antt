@@ -5,7 +5,7 @@ use Rattle.std.specs.Str.{bytes_eq}
 use Rattle.fs_machine.specs.declared.kind.Kind.{Kind}
 use Rattle.fs_machine.specs.declared.kind.Kind.TheVariants as kinds
 use Rattle.script.specs.Words.{number_in, hart_in, bytes_in, begins_with}
-use Rattle.script.specs.Said.{Call, Open, Read, Write, Fill, Link, Unlink, Mkdir, Chdir, Dup, Fstat, Close, Inherit, Line, Start, Run, Step, Upto, End, All}
+use Rattle.script.specs.Said.{Call, Open, Read, Write, Fill, Link, Unlink, Mkdir, Chdir, Dup, Fstat, Close, Inherit, Line, NumberedLine, Start, Run, Step, Upto, End, All}
 use Rattle.std.specs.List.{slice_split}
 
 abbrev pub words_of : List ℕ → List (List ℕ)
@@ -71,6 +71,12 @@ abbrev pub hart_with_call : List (List ℕ) → Option (ℕ × Call)
 hart_with_call [] = None
 hart_with_call (hart ∷ rest) = with_two (λ h c. (h, c)) (hart_in hart) (call_in rest)
 
+abbrev pub do_in : List (List ℕ) → Option Line
+do_in words = with_one (λ x. Run x.0 x.1) (hart_with_call words)
+
+abbrev pub start_in : List (List ℕ) → Option Line
+start_in words = with_one (λ x. Start x.0 x.1) (hart_with_call words)
+
 abbrev pub step_in : List (List ℕ) → Option Line
 step_in (hart ∷ steps ∷ []) = with_two Step (hart_in hart) (number_in steps)
 step_in words = None
@@ -90,30 +96,30 @@ all_in words = None
 unfoldable pub line_in : List (List ℕ) → Option Line
 line_in [] = None
 line_in (verb ∷ rest) =
-    if bytes_eq verb (codes "do") then with_one (λ x. Run x.0 x.1) (hart_with_call rest)
+    if bytes_eq verb (codes "do") then do_in rest
     else if bytes_eq verb (codes "step") then step_in rest
     else if bytes_eq verb (codes "upto") then upto_in rest
     else if bytes_eq verb (codes "end") then end_in rest
     else if bytes_eq verb (codes "all") then all_in rest
-    else with_one (λ x. Start x.0 x.1) (hart_with_call (verb ∷ rest))
+    else start_in (verb ∷ rest)
 
 -- ---- a script: its lines, each with what it says; empty lines and comments are passed over
 
 abbrev pub is_passed_over : List ℕ → Bool
 is_passed_over line = bytes_eq line [] || begins_with (codes "#") line
 
-abbrev pub with_line : Line → Result (List Line) ℕ → Result (List Line) ℕ
-with_line said (Ok lines) = Ok (said ∷ lines)
-with_line said (Err n) = Err n
+abbrev pub with_line : NumberedLine → Result (List NumberedLine) ℕ → Result (List NumberedLine) ℕ
+with_line line (Ok lines) = Ok (line ∷ lines)
+with_line line (Err n) = Err n
 
-abbrev pub first_said : ℕ → Option Line → Result (List Line) ℕ → Result (List Line) ℕ
+abbrev pub first_said : ℕ → Option Line → Result (List NumberedLine) ℕ → Result (List NumberedLine) ℕ
 first_said n None rest = Err n
-first_said n (Some said) rest = with_line said rest
+first_said n (Some said) rest = with_line (record { number = n; says = said }) rest
 
 -- what the lines say, or the number of the first that says nothing; the first line is number n
-unfoldable pub lines_from : ℕ → List (List ℕ) → Result (List Line) ℕ
+unfoldable pub lines_from : ℕ → List (List ℕ) → Result (List NumberedLine) ℕ
 lines_from n [] = Ok []
 lines_from n (line ∷ lines) = if is_passed_over line then lines_from (n + 1) lines else first_said n (line_in (words_of line)) (lines_from (n + 1) lines)
 
-abbrev pub script_in : List ℕ → Result (List Line) ℕ
+abbrev pub script_in : List ℕ → Result (List NumberedLine) ℕ
 script_in text = lines_from 1 (lines_of text)

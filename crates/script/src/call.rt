@@ -1,4 +1,6 @@
 //! A call as a script says it.
+ghost use Rattle.std.specs.Prelude.{◌≡◌};
+ghost use Rattle.script.specs.Said.{answer_word, call_said};
 
 /// A call as a line of a script says it. A read and a fill say how many bytes, and not which.
 #[derive(Debug, PartialEq, Drop)]
@@ -16,4 +18,25 @@ pub enum CallLine {
     Fstat { fd: u32 },
     Close { fd: u32 },
     Inherit { child: u8 },
+}
+
+impl CallLine {
+    /// The word that answers begin with, after the hart. A fill is a write.
+    pub fn name(&self) -> &'static str
+        ensures { result.now ≡ answer_word (call_said self.now) }
+    {
+        match self {
+            CallLine::Open { .. } => "open",
+            CallLine::Read { .. } => "read",
+            CallLine::Write { .. } | CallLine::Fill { .. } => "write",
+            CallLine::Link { .. } => "link",
+            CallLine::Unlink { .. } => "unlink",
+            CallLine::Mkdir { .. } => "mkdir",
+            CallLine::Chdir { .. } => "chdir",
+            CallLine::Dup { .. } => "dup",
+            CallLine::Fstat { .. } => "fstat",
+            CallLine::Close { .. } => "close",
+            CallLine::Inherit { .. } => "inherit",
+        }
+    }
 }

@@ -1,5 +1,6 @@
 //! The commands of a script.
 use crate::call::CallLine;
+use crate::reason::Reason;
 use fs_machine::Kind;
 
 /// What a line of a script says. A hart is any u8, also one that there isn't.
@@ -19,9 +20,16 @@ pub enum Command {
     All,
 }
 
-/// Why a script isn't run: its first line that is no command, counted from 1, or want of memory.
-#[derive(Debug, Clone, Copy, PartialEq, Eq)]
+/// A line of a script that is a command, and which line it is, counted from 1.
+#[derive(Debug, PartialEq, Drop)]
+pub struct ScriptLine {
+    pub number: u64,
+    pub command: Command,
+}
+
+/// Why a script isn't run: its first line that is no command, counted from 1, with why; or want of memory.
+#[derive(Debug, PartialEq, Drop)]
 pub enum ScriptFault {
-    Line(u64),
+    Line(u64, Reason),
     Memory,
 }

@@ -4,6 +4,7 @@ ghost use Rattle.script.specs.Words.{digit_in, with_digit, digits_in, number_in,
 ghost use Rattle.script.specs.Gives.{Gives};
 
 use crate::fault::LineFault;
+use crate::reason::Reason;
 
 /// What begins a number in hexadecimal.
 const HEXADECIMAL: &[u8] = b"0x";
@@ -18,19 +19,25 @@ fn number(word: &[u8]) -> Option<u32>
     }
 }
 
-/// The number that a word says.
-pub fn number_of(word: &[u8]) -> Result<u32, LineFault>
-    ensures { Gives (λ n. n) result (number_in word.now) }
+/// The hart that a word says.
+pub fn hart(word: &[u8]) -> Option<u8>
+    ensures { result ≡ hart_in word.now }
 {
-    number(word).ok_or(LineFault::Bad)
+    u8::try_from(number(word)?).ok()
 }
 
-/// The hart that a word says.
-pub fn hart_of(word: &[u8]) -> Result<u8, LineFault>
+/// The number that a word says; `name` is what the grammar calls the word.
+pub fn number_of(word: &[u8], name: &'static str) -> Result<u32, LineFault>
+    ensures { Gives (λ n. n) result (number_in word.now) }
+{
+    number(word).ok_or(LineFault::Bad(Reason::NumberWanted(name)))
+}
+
+/// The hart that a word says; `name` is what the grammar calls the word.
+pub fn hart_of(word: &[u8], name: &'static str) -> Result<u8, LineFault>
     ensures { Gives (λ h. h) result (hart_in word.now) }
 {
-    let number = number_of(word)?;
-    u8::try_from(number).map_err(|_| LineFault::Bad)
+    hart(word).ok_or(LineFault::Bad(Reason::HartWanted(name)))
 }
 
 // The number of at least one digit.

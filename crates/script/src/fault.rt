@@ -1,10 +1,11 @@
 //! Why a line isn't read.
+use crate::reason::Reason;
 use std::alloc::AllocError;
 
-/// It says nothing, or memory was refused.
+/// It says nothing, and why; or memory was refused.
 #[derive(Drop)]
 pub enum LineFault {
-    Bad,
+    Bad(Reason),
     Memory,
 }
 

@@ -2,15 +2,18 @@
 #![tactic(auto)]
 
 mod call;
+mod calls;
 mod command;
 mod digits;
 mod fault;
 mod laws;
 mod line;
+mod reason;
 mod text;
 mod words;
 
 pub use crate::call::CallLine;
-pub use crate::command::{Command, ScriptFault};
+pub use crate::command::{Command, ScriptFault, ScriptLine};
 pub use crate::laws::lines_are_read;
+pub use crate::reason::{Reason, Shown};
 pub use crate::text::parse;

@@ -1,16 +1,15 @@
 //! The lines of a script.
 ghost use Rattle.std.specs.Prelude.{◌≡◌};
 ghost use Rattle.std.specs.Str.{bytes_eq};
-ghost use Rattle.std.specs.Option.{option_and_then};
 ghost use Rattle.script.specs.Said.{call_said, line_said};
-ghost use Rattle.script.specs.Reading.{all_in, call_in, end_in, hart_with_call, kind_in, line_in, one_operand, step_in, two_operands, upto_in, words_of};
+ghost use Rattle.script.specs.Reading.{all_in, do_in, end_in, kind_in, line_in, start_in, step_in, upto_in, words_of};
 ghost use Rattle.script.specs.Gives.{Gives, words_now};
 
-use crate::call::CallLine;
+use crate::calls::call_of;
 use crate::command::Command;
-use crate::digits::{hart_of, number_of};
+use crate::digits::{hart, hart_of, number_of};
 use crate::fault::LineFault;
-use crate::words::bytes;
+use crate::reason::{Reason, Shown};
 use arrayvec::ArrayVec;
 use fs_machine::Kind;
 use std::alloc::Global;
@@ -25,7 +24,7 @@ pub fn command(alloc: Global, line: &[u8]) -> Result<Command, LineFault>
     let mut words = ArrayVec::<&[u8], MOST_WORDS>::new();
     for word in line.split(|b| *b == b' ') {
         if words.len() == MOST_WORDS {
-            return Err(LineFault::Bad);
+            return Err(LineFault::Bad(Reason::TooManyWords));
         }
         words.push(word);
     }
@@ -37,27 +36,47 @@ fn command_of(alloc: Global, words: &[&[u8]]) -> Result<Command, LineFault>
     ensures { Gives line_said result (line_in (words_now words.now)) }
 {
     match words {
-        [verb, rest @ ..] if is_word(verb, b"do") => {
-            let (hart, call) = hart_call(alloc, rest)?;
-            Ok(Command::Do { hart, call })
-        }
+        [verb, rest @ ..] if is_word(verb, b"do") => do_of(alloc, rest),
         [verb, rest @ ..] if is_word(verb, b"step") => step_of(rest),
         [verb, rest @ ..] if is_word(verb, b"upto") => upto_of(rest),
         [verb, rest @ ..] if is_word(verb, b"end") => end_of(rest),
         [verb, rest @ ..] if is_word(verb, b"all") => all_of(rest),
-        words => {
-            let (hart, call) = hart_call(alloc, words)?;
-            Ok(Command::Start { hart, call })
-        }
+        words => start_of(alloc, words),
     }
 }
 
-fn hart_call(alloc: Global, words: &[&[u8]]) -> Result<(u8, CallLine), LineFault>
-    ensures { Gives (λ x. (x.0, call_said x.1)) result (hart_with_call (words_now words.now)) }
+fn do_of(alloc: Global, words: &[&[u8]]) -> Result<Command, LineFault>
+    ensures { Gives line_said result (do_in (words_now words.now)) }
 {
     match words {
-        [hart, rest @ ..] => Ok((hart_of(hart)?, call_of(alloc, rest)?)),
-        [] => Err(LineFault::Bad),
+        [hart, call @ ..] => Ok(Command::Do {
+            hart: hart_of(hart, "H")?,
+            call: call_of(alloc, call)?,
+        }),
+        [] => Err(LineFault::Bad(Reason::Wanted("do H CALL .."))),
+    }
+}
+
+fn start_of(alloc: Global, words: &[&[u8]]) -> Result<Command, LineFault>
+    ensures { Gives line_said result (start_in (words_now words.now)) }
+{
+    let [first, call @ ..] = words else {
+        return Err(LineFault::Bad(Reason::EmptyWord));
+    };
+    let Some(hart) = hart(first) else {
+        return Err(LineFault::Bad(no_command(first)));
+    };
+    Ok(Command::Start {
+        hart,
+        call: call_of(alloc, call)?,
+    })
+}
+
+// Why no line begins with this word.
+fn no_command(first: &[u8]) -> Reason {
+    match first {
+        [b'0'..=b'9', ..] => Reason::HartWanted("H"),
+        _ => Reason::NoSuchCommand(Shown::new(first)),
     }
 }
 
@@ -66,10 +85,10 @@ fn step_of(words: &[&[u8]]) -> Result<Command, LineFault>
 {
     match words {
         [hart, steps] => Ok(Command::Step {
-            hart: hart_of(hart)?,
-            steps: number_of(steps)?,
+            hart: hart_of(hart, "H")?,
+            steps: number_of(steps, "N")?,
         }),
-        _ => Err(LineFault::Bad),
+        _ => Err(LineFault::Bad(Reason::Wanted("step H N"))),
     }
 }
 
@@ -78,11 +97,11 @@ fn upto_of(words: &[&[u8]]) -> Result<Command, LineFault>
 {
     match words {
         [hart, kind, steps] => Ok(Command::Upto {
-            hart: hart_of(hart)?,
+            hart: hart_of(hart, "H")?,
             kind: kind_of(kind)?,
-            steps: number_of(steps)?,
+            steps: number_of(steps, "N")?,
         }),
-        _ => Err(LineFault::Bad),
+        _ => Err(LineFault::Bad(Reason::Wanted("upto H KIND N"))),
     }
 }
 
@@ -91,9 +110,9 @@ fn end_of(words: &[&[u8]]) -> Result<Command, LineFault>
 {
     match words {
         [hart] => Ok(Command::End {
-            hart: hart_of(hart)?,
+            hart: hart_of(hart, "H")?,
         }),
-        _ => Err(LineFault::Bad),
+        _ => Err(LineFault::Bad(Reason::Wanted("end H"))),
     }
 }
 
@@ -102,82 +121,7 @@ fn all_of(words: &[&[u8]]) -> Result<Command, LineFault>
 {
     match words {
         [] => Ok(Command::All),
-        _ => Err(LineFault::Bad),
-    }
-}
-
-// A verb with its operands.
-#[tactic(auto, unfolding(crate::specs::Reading::call_in))]
-fn call_of(alloc: Global, words: &[&[u8]]) -> Result<CallLine, LineFault>
-    ensures { Gives call_said result (call_in (words_now words.now)) }
-{
-    match words {
-        [verb, operand] => one_operand_call(alloc, verb, operand),
-        [verb, first, second] => two_operand_call(alloc, verb, first, second),
-        _ => Err(LineFault::Bad),
-    }
-}
-
-#[tactic(auto, unfolding(crate::specs::Reading::one_operand))]
-fn one_operand_call(alloc: Global, verb: &[u8], a: &[u8]) -> Result<CallLine, LineFault>
-    ensures { Gives call_said result (one_operand verb.now a.now) }
-{
-    if is_word(verb, b"unlink") {
-        Ok(CallLine::Unlink {
-            path: bytes(alloc, a)?,
-        })
-    } else if is_word(verb, b"mkdir") {
-        Ok(CallLine::Mkdir {
-            path: bytes(alloc, a)?,
-        })
-    } else if is_word(verb, b"chdir") {
-        Ok(CallLine::Chdir {
-            path: bytes(alloc, a)?,
-        })
-    } else if is_word(verb, b"dup") {
-        Ok(CallLine::Dup { fd: number_of(a)? })
-    } else if is_word(verb, b"fstat") {
-        Ok(CallLine::Fstat { fd: number_of(a)? })
-    } else if is_word(verb, b"close") {
-        Ok(CallLine::Close { fd: number_of(a)? })
-    } else if is_word(verb, b"inherit") {
-        Ok(CallLine::Inherit { child: hart_of(a)? })
-    } else {
-        Err(LineFault::Bad)
-    }
-}
-
-#[tactic(auto, unfolding(crate::specs::Reading::two_operands))]
-fn two_operand_call(alloc: Global, verb: &[u8], a: &[u8], b: &[u8]) -> Result<CallLine, LineFault>
-    ensures { Gives call_said result (two_operands verb.now a.now b.now) }
-{
-    if is_word(verb, b"open") {
-        Ok(CallLine::Open {
-            flags: number_of(b)?,
-            path: bytes(alloc, a)?,
-        })
-    } else if is_word(verb, b"read") {
-        Ok(CallLine::Read {
-            fd: number_of(a)?,
-            count: number_of(b)?,
-        })
-    } else if is_word(verb, b"write") {
-        Ok(CallLine::Write {
-            fd: number_of(a)?,
-            bytes: bytes(alloc, b)?,
-        })
-    } else if is_word(verb, b"fill") {
-        Ok(CallLine::Fill {
-            fd: number_of(a)?,
-            count: number_of(b)?,
-        })
-    } else if is_word(verb, b"link") {
-        Ok(CallLine::Link {
-            old: bytes(alloc, a)?,
-            new: bytes(alloc, b)?,
-        })
-    } else {
-        Err(LineFault::Bad)
+        _ => Err(LineFault::Bad(Reason::Wanted("all"))),
     }
 }
 
@@ -185,7 +129,10 @@ fn two_operand_call(alloc: Global, verb: &[u8], a: &[u8], b: &[u8]) -> Result<Ca
 fn kind_of(word: &[u8]) -> Result<Kind, LineFault>
     ensures { Gives (λ kind. kind) result (kind_in word.now) }
 {
-    kind_named(word).ok_or(LineFault::Bad)
+    match kind_named(word) {
+        Some(kind) => Ok(kind),
+        None => Err(LineFault::Bad(Reason::UnknownKind(Shown::new(word)))),
+    }
 }
 
 #[tactic(auto, unfolding(crate::specs::Reading::kind_in))]
@@ -221,7 +168,8 @@ fn kind_named(word: &[u8]) -> Option<Kind>
     }
 }
 
-fn is_word(word: &[u8], text: &[u8]) -> bool
+/// The word is this text.
+pub fn is_word(word: &[u8], text: &[u8]) -> bool
     ensures { result ≡ bytes_eq word.now text.now }
 {
     word == text

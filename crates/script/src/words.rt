@@ -5,6 +5,7 @@ ghost use Rattle.script.specs.Gives.{Gives};
 
 use crate::digits::digit_value;
 use crate::fault::LineFault;
+use crate::reason::Reason;
 use std::alloc::{AllocError, Global};
 
 /// What begins a word of bytes in hexadecimal.
@@ -17,31 +18,32 @@ const HEXADECIMAL: u32 = 16;
 
 const DIGITS_OF_BYTE: usize = 2;
 
-/// The bytes that a word says: none for two quotation marks, those in hexadecimal after "hex:", else its own.
-pub fn bytes(alloc: Global, word: &[u8]) -> Result<Vec<u8>, LineFault>
+/// The bytes that a word says: none for two quotation marks, those in hexadecimal after "hex:", else its own. `name` is what the
+/// grammar calls the word.
+pub fn bytes(alloc: Global, word: &[u8], name: &'static str) -> Result<Vec<u8>, LineFault>
     ensures { Gives (λ v. v.items) result (bytes_in word.now) }
 {
     if word.is_empty() {
-        return Err(LineFault::Bad);
+        return Err(LineFault::Bad(Reason::EmptyWord));
     }
     if word == NO_BYTES {
         return Ok(Vec::new(alloc));
     }
     match word.strip_prefix(HEX_MARK) {
-        Some(digits) => hex_bytes(alloc, digits),
+        Some(digits) => hex_bytes(alloc, digits, name),
         None => Ok(Vec::from_slice(alloc, word)?),
     }
 }
 
 // The bytes of so many pairs of digits.
 #[tactic(auto, using(crate::proofs::Pairs::one_pair, crate::proofs::Pairs::no_pair, crate::proofs::Pairs::push_front))]
-fn hex_bytes(alloc: Global, digits: &[u8]) -> Result<Vec<u8>, LineFault>
+fn hex_bytes(alloc: Global, digits: &[u8], name: &'static str) -> Result<Vec<u8>, LineFault>
     ensures { Gives (λ v. v.items) result (pairs_in digits.now) }
 {
     let mut bytes = Vec::new(alloc);
     for pair in digits.chunks(DIGITS_OF_BYTE) {
         let Some(byte) = byte_of(pair) else {
-            return Err(LineFault::Bad);
+            return Err(LineFault::Bad(Reason::PairsWanted(name)));
         };
         bytes.push(byte).map_err(AllocError::from)?;
     }

@@ -3,7 +3,8 @@ use Rattle.std.proofs.lemmas.Iterator.Splits.{YieldsList-from_slice_split}
 use Rattle.std.proofs.lemmas.Iterator.Consumers.{YieldsList-turn, YieldsList-end}
 use Rattle.std.proofs.lemmas.List.{length_push, map-append}
 use Rattle.std.specs.Slice.Iter.{split_rest, split_done, split_callee}
-use Rattle.script.specs.Said.{line_said}
+use Rattle.script.specs.declared.command.ScriptLine.{ScriptLine}
+use Rattle.script.specs.Said.{line_said, numbered}
 use Rattle.script.specs.Reading.{lines_of, lines_from, line_in, words_of}
 use Rattle.script.specs.Gives.{Fails}
 use Rattle.script.proofs.Scripts.{with_lines, none_left, passed_over, nothing_said, one_said}
@@ -13,32 +14,33 @@ use Rattle.script.proofs.text.parse.Goals as goal
 pub returns : goal.returns
 returns c =
     let end = YieldsList-end (YieldsList-from_slice_split _ (λ b. b == 10) c.args.text.now (ap (λ s. split_rest s) c.into_iter-line-iterator.ensures.into_iter_gives ∙ c.split-line-items.ensures.rest) (ap (λ s. split_done s) c.into_iter-line-iterator.ensures.into_iter_gives ∙ c.split-line-items.ensures.done) (ap (λ s. split_callee s) c.into_iter-line-iterator.ensures.into_iter_gives ∙ c.split-line-items.ensures.closure) (λ x r q k. search (rules, tests))) c.loop-line.yielded _ c.loop-line.yielded_by _ _ c.in-None.is c.next.ensures.steps in
-    sym c.loop-line.invariant.3 ∙ none_left (map line_said c.loop-line.commands.items) (c.loop-line.number + 1) (lines_of c.args.text.now) (length c.loop-line.yielded) (omega (arith, end.1))
+    sym c.loop-line.invariant.3 ∙ none_left (map numbered c.loop-line.lines.items) (c.loop-line.number + 1) (lines_of c.args.text.now) (length c.loop-line.yielded) (omega (arith, end.1))
 
 -- src/text.rt:23:36
 pub returns-in-Err-Bad : goal.returns-in-Err-Bad
 returns-in-Err-Bad c =
     let turn = YieldsList-turn (YieldsList-from_slice_split _ (λ b. b == 10) c.args.text.now (ap (λ s. split_rest s) c.into_iter-line-iterator.ensures.into_iter_gives ∙ c.split-line-items.ensures.rest) (ap (λ s. split_done s) c.into_iter-line-iterator.ensures.into_iter_gives ∙ c.split-line-items.ensures.done) (ap (λ s. split_callee s) c.into_iter-line-iterator.ensures.into_iter_gives ∙ c.split-line-items.ensures.closure) (λ x r q k. search (rules, tests))) c.loop-line.yielded _ c.loop-line.yielded_by _ _ c.in-Some.line c.in-Some.is c.next.ensures.steps in
-    sym c.loop-line.invariant.3 ∙ nothing_said (map line_said c.loop-line.commands.items) (c.loop-line.number + 1) (lines_of c.args.text.now) (length c.loop-line.yielded) c.in-Some.line.now turn.0 turn.1 (sym c.is_passed_over.ensures ∙ c.if-is_passed_over.false) (subst (λ e. Fails e (line_in (words_of c.in-Some.line.now))) c.in-Err-Bad.field-0-is c.in-Err-Bad.ensures)
+    sym c.loop-line.invariant.3 ∙ nothing_said (map numbered c.loop-line.lines.items) (c.loop-line.number + 1) (lines_of c.args.text.now) (length c.loop-line.yielded) c.in-Some.line.now turn.0 turn.1 (sym c.is_passed_over.ensures ∙ c.if-is_passed_over.false) (subst (λ e. Fails e (line_in (words_of c.in-Some.line.now))) c.in-Err-Bad.field-0-is c.in-Err-Bad.ensures)
 
 -- src/text.rt:16:5
 pub loop-line-preserved-then-is_passed_over : goal.loop-line-preserved-then-is_passed_over
 loop-line-preserved-then-is_passed_over c =
     let turn = YieldsList-turn (YieldsList-from_slice_split _ (λ b. b == 10) c.args.text.now (ap (λ s. split_rest s) c.into_iter-line-iterator.ensures.into_iter_gives ∙ c.split-line-items.ensures.rest) (ap (λ s. split_done s) c.into_iter-line-iterator.ensures.into_iter_gives ∙ c.split-line-items.ensures.done) (ap (λ s. split_callee s) c.into_iter-line-iterator.ensures.into_iter_gives ∙ c.split-line-items.ensures.closure) (λ x r q k. search (rules, tests))) c.loop-line.yielded _ c.loop-line.yielded_by _ _ c.in-Some.line c.in-Some.is c.next.ensures.steps in
     let more = length_push c.loop-line.yielded c.in-Some.line in
-    (c.loop-line.invariant.0, tt, omega (arith, more, c.loop-line.invariant.2), passed_over (map line_said c.loop-line.commands.items) (c.loop-line.number + 1) (lines_of c.args.text.now) (length c.loop-line.yielded) _ c.in-Some.line.now turn.0 turn.1 more (sym c.is_passed_over.ensures ∙ c.if-is_passed_over.true) ∙ c.loop-line.invariant.3)
+    (c.loop-line.invariant.0, tt, omega (arith, more, c.loop-line.invariant.2), passed_over (map numbered c.loop-line.lines.items) (c.loop-line.number + 1) (lines_of c.args.text.now) (length c.loop-line.yielded) _ c.in-Some.line.now turn.0 turn.1 more (sym c.is_passed_over.ensures ∙ c.if-is_passed_over.true) ∙ c.loop-line.invariant.3)
 
 -- src/text.rt:16:5
 pub loop-line-preserved : goal.loop-line-preserved
 loop-line-preserved c =
     let turn = YieldsList-turn (YieldsList-from_slice_split _ (λ b. b == 10) c.args.text.now (ap (λ s. split_rest s) c.into_iter-line-iterator.ensures.into_iter_gives ∙ c.split-line-items.ensures.rest) (ap (λ s. split_done s) c.into_iter-line-iterator.ensures.into_iter_gives ∙ c.split-line-items.ensures.done) (ap (λ s. split_callee s) c.into_iter-line-iterator.ensures.into_iter_gives ∙ c.split-line-items.ensures.closure) (λ x r q k. search (rules, tests))) c.loop-line.yielded _ c.loop-line.yielded_by _ _ c.in-Some.line c.in-Some.is c.next.ensures.steps in
     let more = length_push c.loop-line.yielded c.in-Some.line in
-    let items : c.push.new.self.items ≡ c.loop-line.commands.items ++ c.in-Ok.command ∷ [] = search rules in
+    let line : ScriptLine = record { number = c.loop-line.number + 1; command = c.in-Ok.command } in
+    let items : c.push.new.self.items ≡ c.loop-line.lines.items ++ line ∷ [] = search rules in
     let read = sym c.is_passed_over.ensures ∙ c.if-is_passed_over.false in (
       c.loop-line.invariant.0,
       tt,
       omega (arith, more, c.loop-line.invariant.2),
-      ap (λ xs. with_lines xs (lines_from (c.loop-line.number + 1 + 1) (drop (length (c.loop-line.yielded ++ c.in-Some.line ∷ [])) (lines_of c.args.text.now)))) (ap (map line_said) items ∙ map-append line_said c.loop-line.commands.items (c.in-Ok.command ∷ []))
-          ∙ one_said (map line_said c.loop-line.commands.items) (c.loop-line.number + 1) (lines_of c.args.text.now) (length c.loop-line.yielded) _ c.in-Some.line.now (line_said c.in-Ok.command) turn.0 turn.1 more read c.in-Ok.ensures
+      ap (λ xs. with_lines xs (lines_from (c.loop-line.number + 1 + 1) (drop (length (c.loop-line.yielded ++ c.in-Some.line ∷ [])) (lines_of c.args.text.now)))) (ap (map numbered) items ∙ map-append numbered c.loop-line.lines.items (line ∷ []))
+          ∙ one_said (map numbered c.loop-line.lines.items) (c.loop-line.number + 1) (lines_of c.args.text.now) (length c.loop-line.yielded) _ c.in-Some.line.now (line_said c.in-Ok.command) turn.0 turn.1 more read c.in-Ok.ensures
           ∙ c.loop-line.invariant.3,
     )

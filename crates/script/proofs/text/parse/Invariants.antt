@@ -1,5 +1,5 @@
 use Rattle.std.proofs.Common.{◌≡◌, ◌+◌, length, map, drop}
-use Rattle.script.specs.Said.{line_said}
+use Rattle.script.specs.Said.{numbered}
 use Rattle.script.specs.Reading.{lines_from, lines_of, script_in}
 use Rattle.script.proofs.Scripts.{with_lines}
 use Rattle.script.proofs.text.parse.Given as goal
@@ -9,4 +9,4 @@ invariant-loop-line l =
     (goal.iterator-loop-line).can_next l.line-iterator ×
     (goal.iterator-loop-line).is_finite l.line-iterator ×
     (l.number ≡ length l.yielded) ×
-    (with_lines (map line_said l.commands.items) (lines_from (l.number + 1) (drop (length l.yielded) (lines_of l.text))) ≡ script_in l.text)
+    (with_lines (map numbered l.lines.items) (lines_from (l.number + 1) (drop (length l.yielded) (lines_of l.text))) ≡ script_in l.text)

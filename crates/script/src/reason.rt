@@ -1,0 +1,94 @@
+//! Why a line is bad, for whoever wrote it.
+use arrayvec::ArrayVec;
+use std::fmt;
+use std::fmt::{Display, Formatter, Write};
+
+/// How many bytes of a word a reason shows.
+const MOST_SHOWN: usize = 32;
+
+/// A word of a script as a reason shows it: its first 32 bytes, those that aren't printed as `\x` and two digits.
+#[derive(Debug, Clone, PartialEq, Drop)]
+pub struct Shown {
+    bytes: ArrayVec<u8, MOST_SHOWN>,
+    is_cut: bool,
+}
+
+impl Shown {
+    /// The word, or its first bytes.
+    pub fn new(word: &[u8]) -> Shown {
+        let mut bytes = ArrayVec::new();
+        for byte in word.iter().take(MOST_SHOWN) {
+            let _ = bytes.try_push(*byte);
+        }
+        Shown {
+            bytes,
+            is_cut: word.len() > MOST_SHOWN,
+        }
+    }
+}
+
+impl Display for Shown {
+    fn fmt<W: Write>(&self, f: &mut Formatter<W>) -> fmt::Result {
+        for byte in self.bytes.as_slice() {
+            match byte {
+                b'!'..=b'~' => write!(f, "{}", char::from(*byte))?,
+                _ => write!(f, "\\x{byte:02x}")?,
+            }
+        }
+        if self.is_cut {
+            write!(f, "..")?;
+        }
+        Ok(())
+    }
+}
+
+/// Why a line is no command.
+#[derive(Debug, Clone, PartialEq, Drop)]
+pub enum Reason {
+    /// The line ends in a byte 0x0d, which belongs to its last word.
+    CarriageReturn,
+    /// A space at an end of the line, or two beside one another.
+    EmptyWord,
+    /// The first word is neither the word of a command nor a number.
+    NoSuchCommand(Shown),
+    /// More words than any command has.
+    TooManyWords,
+    /// The line has fewer words than this, or more.
+    Wanted(&'static str),
+    /// The word after the hart is no call's.
+    UnknownCall(Shown),
+    /// This word is no number, or one that doesn't fit a u32.
+    NumberWanted(&'static str),
+    /// This word is no number from 0 to 255.
+    HartWanted(&'static str),
+    /// This word begins with `hex:`, and what follows isn't pairs of hexadecimal digits.
+    PairsWanted(&'static str),
+    /// The word is no kind of step.
+    UnknownKind(Shown),
+    /// What the line says isn't run yet.
+    NotYet(&'static str),
+}
+
+impl Display for Reason {
+    fn fmt<W: Write>(&self, f: &mut Formatter<W>) -> fmt::Result {
+        match self {
+            Reason::CarriageReturn => write!(f, "ends in a carriage return"),
+            Reason::EmptyWord => write!(f, "a single space between words, and none at an end"),
+            Reason::NoSuchCommand(word) => write!(
+                f,
+                "no such command: {word} (do, step, upto, end, all, or a hart's number)"
+            ),
+            Reason::TooManyWords => write!(f, "more words than a command has"),
+            Reason::Wanted(words) => write!(f, "wanted: {words}"),
+            Reason::UnknownCall(word) => write!(f, "unknown call: {word}"),
+            Reason::NumberWanted(word) => write!(f, "a number is wanted: {word}"),
+            Reason::HartWanted(word) => write!(f, "a number from 0 to 255 is wanted: {word}"),
+            Reason::PairsWanted(word) => write!(
+                f,
+                "pairs of hexadecimal digits are wanted after hex: {word}"
+            ),
+            Reason::UnknownKind(word) => write!(f, "unknown kind of step: {word}"),
+            Reason::NotYet(what) => write!(f, "not there yet: {what}"),
+        }
+    }
+}
