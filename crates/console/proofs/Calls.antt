@@ -1,14 +1,12 @@
 -- Reading the root, and asking for its state.
-use Rattle.std.proofs.Common.{◌≡◌, ◌≢◌, ℕ, zero, suc, ◌+◌, ◌-◌, ◌<◌, ◌≤◌, Bool, true, false, not, ◌==◌, ◌⊎◌, inl, inr, refl, sym, ◌∙◌, ap, subst, arith, List, [], ◌∷◌, ◌++◌, take, drop, Option, Some, None, nat_lt, if◌then◌else◌, length, get_or, set}
+use Rattle.std.proofs.Common.{◌≡◌, ℕ, zero, suc, ◌+◌, ◌<◌, true, false, ◌==◌, inl, inr, refl, sym, ◌∙◌, ap, arith, List, ◌++◌, take, drop, Option, Some, None, if◌then◌else◌, length, set}
 use Rattle.std.specs.Prelude.{option_map}
 use Rattle.std.proofs.lemmas.List.{get_or-set_same, get_or-set_other}
 use Rattle.plain_tree.specs.declared.answer.Answer.TheVariants.{Count, Stat as Stated, Failed as Refused}
-use Rattle.plain_tree.specs.declared.answer.Cause.{Cause}
 use Rattle.plain_tree.specs.declared.answer.Cause.TheVariants.{BadDescriptor}
 use Rattle.plain_tree.specs.declared.answer.Stat.{Stat}
 use Rattle.plain_tree.specs.declared.call.Call.TheVariants.{Read, Fstat}
 use Rattle.plain_tree.specs.declared.step.Action.TheVariants.{Read as ReadStep, Fstat as FstatStep}
-use Rattle.plain_tree.specs.declared.step.StepAnswer.{StepAnswer}
 use Rattle.plain_tree.specs.declared.step.StepAnswer.TheVariants.{Bytes, Stat as Status, Failed}
 use Rattle.plain_tree.specs.declared.node.Node.{Node}
 use Rattle.plain_tree.specs.declared.node.Slot.{Slot}
@@ -18,7 +16,7 @@ use Rattle.plain_tree.specs.Steps.{file_at, fd_refusal, read_refusal, part, move
 use Rattle.plain_tree.specs.Calls.{next_of, reply_of}
 use Rattle.plain_tree.specs.Widths.{root}
 use Rattle.console.specs.Held.{root_at, offset_at, rooted}
-use Rattle.console.specs.Makes.{Makes, MakesBy}
+use Rattle.console.specs.Makes.{Makes}
 use Rattle.console.specs.Root.{IsRead}
 use Rattle.console.proofs.Maps.{same_or, put_same, put_other, not_zero}
 use Rattle.console.proofs.Rooted.{AllNamed, settled, file_at-none, file_at-some}

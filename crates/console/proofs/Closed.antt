@@ -1,5 +1,5 @@
 -- Closing a descriptor.
-use Rattle.std.proofs.Common.{◌≡◌, ◌≢◌, ℕ, zero, suc, ◌+◌, ◌<◌, ◌≤◌, Bool, true, false, ◌&&◌, ◌||◌, ◌==◌, ◌⊎◌, inl, inr, refl, sym, ◌∙◌, ap, subst, arith, List, [], ◌∷◌, Option, Some, None, nat_lt, if◌then◌else◌, length, get_or, set}
+use Rattle.std.proofs.Common.{◌≡◌, ◌≢◌, ℕ, zero, suc, ◌<◌, ◌≤◌, Bool, true, false, ◌==◌, ◌⊎◌, inl, inr, refl, sym, ◌∙◌, ap, subst, arith, List, [], ◌∷◌, Option, Some, None, nat_lt, if◌then◌else◌, length, set}
 use Rattle.std.specs.Prelude.{option_map}
 use Rattle.std.proofs.lemmas.Bool.Decides.{nat_tests}
 use Rattle.std.proofs.lemmas.List.{get_or-set_same, get_or-set_other, length-set}
@@ -9,13 +9,12 @@ use Rattle.plain_tree.specs.declared.call.Call.TheVariants.{Close}
 use Rattle.plain_tree.specs.declared.step.Action.TheVariants.{Close as CloseStep}
 use Rattle.plain_tree.specs.declared.step.StepAnswer.TheVariants.{Failed, Done}
 use Rattle.plain_tree.specs.declared.node.Node.{Node}
-use Rattle.plain_tree.specs.declared.tree.OpenFile.{OpenFile}
-use Rattle.plain_tree.specs.Tree.{Tree, put, any_below, and_then, is_live, is_named, settle}
-use Rattle.plain_tree.specs.Steps.{file_at, fd_refusal, closed, has_fd, refusal_with, place_of, effect_with, answer_with}
+use Rattle.plain_tree.specs.Tree.{Tree, put, any_below, settle}
+use Rattle.plain_tree.specs.Steps.{fd_refusal, closed, has_fd, refusal_with, place_of, effect_with, answer_with}
 use Rattle.plain_tree.specs.Calls.{next_of, reply_of}
 use Rattle.console.specs.Held.{root_at, offset_at, rooted}
-use Rattle.console.specs.Makes.{Makes, MakesBy}
-use Rattle.console.proofs.Maps.{either, same_or, put_same, put_other, none_any, any_at, eq_is, eq_self, not_zero}
+use Rattle.console.specs.Makes.{Makes}
+use Rattle.console.proofs.Maps.{either, same_or, put_other, none_any, any_at, eq_is, eq_self, not_zero}
 use Rattle.console.proofs.Rooted.{AllNamed, settled, file_at-none, file_at-some}
 
 pub close_refused : (count : ℕ) (nodes : ℕ → Option Node) (offsets : List (Option ℕ)) (fd : ℕ) → offset_at offsets fd ≡ None

@@ -1,25 +1,19 @@
 -- The bytes of the root, slot by slot.
-use Rattle.std.proofs.Common.{◌≡◌, ◌≢◌, ℕ, zero, suc, ◌+◌, ◌-◌, ◌*◌, ◌/◌, ◌%◌, ◌<◌, ◌≤◌, Bool, true, false, ◌&&◌, not, ◌==◌, ◌⊎◌, inl, inr, refl, sym, ◌∙◌, ap, subst, arith, ℤ, pos, negsuc, List, [], ◌∷◌, ◌++◌, take, drop, map, set, length, get_or, replicate, Option, Some, None, nat_lt, nat_le, if◌then◌else◌, length-append, length-drop, add-one}
-use Rattle.std.specs.Prelude.{option_map, unsigned_abs, slice_index}
-use Rattle.std.specs.List.{All, list_all, position_or_len}
+use Rattle.std.proofs.Common.{◌≡◌, ℕ, zero, suc, ◌+◌, ◌-◌, ◌*◌, ◌/◌, ◌%◌, ◌<◌, ◌≤◌, Bool, true, ◌&&◌, ◌==◌, inl, inr, refl, ◌∙◌, ap, arith, List, [], ◌∷◌, drop, length, get_or, replicate, Option, Some, None, nat_lt, nat_le, length-append}
+use Rattle.std.specs.List.{list_all, position_or_len}
 use Rattle.std.proofs.lemmas.Bool.Decides.{nat_tests}
-use Rattle.std.proofs.lemmas.List.{get_or-set_same, get_or-set_other, get_or-append_right, get_or_append_left, get_or-map, get_or-take, get_or-drop, ext_get_or, length-replicate, length-take-le, length-set, length-map}
+use Rattle.std.proofs.lemmas.List.{get_or-append_right, get_or_append_left, get_or-map, length-replicate, length-map}
 use Rattle.fs_layout.specs.declared.inode.Dinode.{Dinode}
-use Rattle.fs_layout.specs.declared.entry.Dirent.{Dirent}
 use Rattle.fs_layout.specs.Name.{is_name, is_name_byte, is_zero}
-use Rattle.fs_layout.specs.Entry.{dirent_at, dirent_of, used_of, free_of, name_of}
+use Rattle.fs_layout.specs.Entry.{dirent_of, used_of, free_of, name_of}
 use Rattle.fs_layout.specs.Bytes.{u16_at}
-use Rattle.fs_layout.specs.Recovered.{recovered, sizes_of}
-use Rattle.image_tree.specs.Inodes.{inode_of, is_free, numbers_of, numbers_by, block_number, content_block, slot_at, first_slots, slots_of}
-use Rattle.image_tree.specs.Checks.{IsData, HasGoodNumbers, IsGoodSize}
+use Rattle.image_tree.specs.Inodes.{inode_of, slot_at, first_slots, slots_of}
 use Rattle.plain_tree.specs.declared.node.Slot.{Slot}
-use Rattle.plain_tree.specs.declared.node.Kind.TheVariants.{Directory}
 use Rattle.plain_tree.specs.Steps.{entry_bytes, entries, size_of}
-use Rattle.plain_tree.specs.Widths.{root}
-use Rattle.console.specs.Held.{IsMounted, slot_of, directory_in, count_of}
+use Rattle.console.specs.Held.{IsMounted, slot_of, directory_in}
 use Rattle.console.specs.Root.{root_in, root_bytes}
 use Rattle.console.proofs.Maps.{either}
-use Rattle.console.proofs.Mounted.{has_sizes, has_numbers, has_node_sizes, root_inode, root_is_node, root_is_directory, root_not_free, root_is_held, root_node}
+use Rattle.console.proofs.Mounted.{has_node_sizes, root_inode, root_is_node, root_is_directory, root_is_held}
 
 -- ---- widths
 

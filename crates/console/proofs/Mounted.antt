@@ -1,10 +1,10 @@
 -- What the checks of an image say of its root.
-use Rattle.std.proofs.Common.{◌≡◌, ◌≢◌, ℕ, zero, suc, ◌+◌, ◌<◌, ◌≤◌, Bool, true, false, ◌&&◌, not, ◌==◌, refl, sym, ◌∙◌, ap, arith, ℤ, pos, negsuc, List, Option, Some, None, nat_lt, if◌then◌else◌}
-use Rattle.std.specs.Prelude.{◌<ℤ◌, ◌≤ℤ◌}
+use Rattle.std.proofs.Common.{◌≡◌, ℕ, zero, suc, ◌≤◌, true, false, refl, arith, ℤ, pos, negsuc, List, Some, nat_lt}
+use Rattle.std.specs.Prelude.{◌<ℤ◌}
 use Rattle.std.proofs.lemmas.Bool.Decides.{nat_tests}
 use Rattle.fs_layout.specs.declared.inode.Dinode.{Dinode}
 use Rattle.fs_layout.specs.Recovered.{sizes_of}
-use Rattle.image_tree.specs.Inodes.{inode_of, is_node, is_positive, is_directory, is_free, is_number, is_live as is_live_inode}
+use Rattle.image_tree.specs.Inodes.{inode_of, is_node, is_positive, is_directory, is_free}
 use Rattle.image_tree.specs.Shape.{is_live_node}
 use Rattle.image_tree.specs.Checks.{HasRoot, IsGoodSuper, HasGoodNumbers, HasGoodSizes, HasGoodSlots}
 use Rattle.plain_tree.specs.declared.node.Node.{Node}

@@ -1,9 +1,9 @@
 -- Opening the root.
-use Rattle.std.proofs.Common.{◌≡◌, ◌≢◌, ℕ, zero, suc, ◌+◌, ◌-◌, ◌<◌, ◌≤◌, Bool, true, false, ◌&&◌, ◌||◌, not, ◌==◌, ◌⊎◌, inl, inr, refl, sym, ◌∙◌, ap, subst, arith, List, [], ◌∷◌, ◌++◌, Option, Some, None, nat_lt, if◌then◌else◌, length, get_or, set, take, map, filter}
+use Rattle.std.proofs.Common.{◌≡◌, ◌≢◌, ℕ, zero, suc, ◌+◌, ◌<◌, ◌≤◌, Bool, true, false, ◌&&◌, not, ◌==◌, inl, inr, refl, sym, ◌∙◌, ap, arith, List, [], ◌∷◌, ◌++◌, Option, Some, None, nat_lt, if◌then◌else◌, length, set, take, map, filter}
 use Rattle.std.specs.Prelude.{option_map, bit_and}
 use Rattle.std.specs.List.{list_all}
 use Rattle.std.proofs.lemmas.Bool.Decides.{nat_tests}
-use Rattle.std.proofs.lemmas.List.{get_or-set_same, get_or-set_other, length-set}
+use Rattle.std.proofs.lemmas.List.{get_or-set_same, get_or-set_other}
 use Rattle.plain_tree.specs.declared.answer.Answer.TheVariants.{Fd, Failed as Refused, Full as WasFull}
 use Rattle.plain_tree.specs.declared.answer.Cause.TheVariants.{NoEntry, IsDirectory}
 use Rattle.plain_tree.specs.declared.answer.Full.TheVariants.{Descriptors}
@@ -13,14 +13,13 @@ use Rattle.plain_tree.specs.declared.step.StepAnswer.TheVariants.{Opened, Failed
 use Rattle.plain_tree.specs.declared.node.Node.{Node}
 use Rattle.plain_tree.specs.declared.node.Slot.{Slot}
 use Rattle.plain_tree.specs.declared.node.Kind.TheVariants.{Directory}
-use Rattle.plain_tree.specs.declared.tree.OpenFile.{OpenFile}
-use Rattle.plain_tree.specs.Tree.{Name, Tree, put, is_live, settle, elements, pieces, is_empty, is_absolute, start_of, resolve, parent, follow, parent_of}
+use Rattle.plain_tree.specs.Tree.{Tree, put, settle, elements, pieces, is_empty, is_absolute, start_of, resolve, parent, follow, parent_of}
 use Rattle.plain_tree.specs.Steps.{IsLeastUnused, lowest, lowest_from, has_room, creates, refusal_with, place_of, effect_with, answer_with, with_file, open_old, opens_file}
 use Rattle.plain_tree.specs.Calls.{next_of, reply_of}
 use Rattle.plain_tree.specs.Widths.{root, name_width}
 use Rattle.console.specs.Held.{root_at, offset_at, rooted}
-use Rattle.console.specs.Makes.{Makes, MakesBy, is_slash, IsLowestFree, IsFull}
-use Rattle.console.proofs.Maps.{either, same_or, put_same, put_other, eq_is, eq_self, eq_not, not_zero}
+use Rattle.console.specs.Makes.{Makes, is_slash, IsLowestFree, IsFull}
+use Rattle.console.proofs.Maps.{either, same_or, put_same, put_other, eq_not, not_zero}
 use Rattle.console.proofs.Rooted.{AllNamed, settled}
 
 -- ---- paths without elements

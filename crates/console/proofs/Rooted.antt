@@ -1,12 +1,9 @@
 -- Trees in which the root alone is open.
-use Rattle.std.proofs.Common.{◌≡◌, ◌≢◌, ℕ, zero, suc, ◌+◌, ◌<◌, ◌≤◌, Bool, true, false, ◌&&◌, ◌||◌, ◌==◌, ◌⊎◌, inl, inr, refl, sym, ◌∙◌, ap, subst, arith, ℤ, pos, negsuc, List, [], ◌∷◌, Option, Some, None, nat_lt, if◌then◌else◌, length, get_or, set}
-use Rattle.std.specs.Prelude.{option_map}
+use Rattle.std.proofs.Common.{◌≡◌, ℕ, ◌<◌, Bool, true, false, ◌&&◌, ◌||◌, ◌⊎◌, inl, inr, refl, arith, ℤ, pos, negsuc, List, Option, Some, None, nat_lt, if◌then◌else◌}
 use Rattle.std.proofs.lemmas.Bool.Decides.{nat_tests}
 use Rattle.plain_tree.specs.declared.node.Node.{Node}
-use Rattle.plain_tree.specs.declared.tree.OpenFile.{OpenFile}
-use Rattle.plain_tree.specs.Tree.{Tree, put, any_below, and_then, is_live, is_named, settle}
+use Rattle.plain_tree.specs.Tree.{Tree, is_live, is_named, settle}
 use Rattle.plain_tree.specs.Steps.{file_at}
-use Rattle.fs_layout.specs.declared.inode.Dinode.{Dinode}
 use Rattle.image_tree.specs.Inodes.{inode_of, is_node, is_positive, is_live as is_live_inode}
 use Rattle.image_tree.specs.Shape.{is_live_node}
 use Rattle.console.specs.Held.{root_at, offset_at, rooted, node_of, count_of, kind_of}

@@ -1,14 +1,13 @@
 -- The count of the root, and its blocks.
-use Rattle.std.proofs.Common.{◌≡◌, ◌≢◌, ℕ, ◌+◌, ◌/◌, ◌%◌, ◌<◌, ◌≤◌, refl, sym, ◌∙◌, ap, arith, ℤ, pos, negsuc, List, [], ◌∷◌, ◌⊎◌, inl, inr, zero, suc, length, get_or, Option, true, false, nat_lt, if◌then◌else◌, subst}
+use Rattle.std.proofs.Common.{◌≡◌, ◌≢◌, ℕ, ◌+◌, ◌/◌, ◌%◌, ◌<◌, ◌≤◌, refl, sym, ◌∙◌, ap, arith, ℤ, pos, negsuc, List, [], ◌∷◌, inl, inr, zero, suc, length, get_or, true, false, nat_lt, if◌then◌else◌, subst}
 use Rattle.std.proofs.lemmas.Bool.Decides.{nat_tests}
 use Rattle.console.proofs.Maps.{either, same_or}
 use Rattle.std.specs.Prelude.{unsigned_abs}
 use Rattle.std.specs.List.{All}
 use Rattle.fs_layout.specs.declared.inode.Dinode.{Dinode}
-use Rattle.fs_layout.specs.declared.entry.Dirent.{Dirent}
 use Rattle.fs_layout.specs.Entry.{dirent_at}
 use Rattle.fs_layout.specs.Recovered.{recovered, sizes_of}
-use Rattle.image_tree.specs.Inodes.{inode_of, is_free, is_positive, numbers_of, numbers_by, block_number, content_block, slot_at}
+use Rattle.image_tree.specs.Inodes.{inode_of, is_positive, numbers_of, numbers_by, block_number, content_block, slot_at}
 use Rattle.image_tree.specs.Checks.{IsData}
 use Rattle.plain_tree.specs.declared.answer.NodeType.TheVariants.{Directory as DirectoryType}
 use Rattle.plain_tree.specs.Steps.{stat_of, size_of, type_of}

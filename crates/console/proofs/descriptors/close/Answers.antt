@@ -1,4 +1,4 @@
-use Rattle.std.proofs.Common.{rules, ◌≡◌, ◌∙◌, sym, ℕ, List, arith}
+use Rattle.std.proofs.Common.{rules, ◌∙◌, sym}
 use Rattle.console.proofs.Maps.{none_of, some_of}
 use Rattle.console.proofs.Rooted.{all_named}
 use Rattle.console.proofs.Closed.{close_refused, close_done, within}

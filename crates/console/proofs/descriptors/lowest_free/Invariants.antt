@@ -1,4 +1,4 @@
-use Rattle.std.proofs.Common.{◌≡◌, ◌≢◌, ℕ, ◌<◌, List, None}
+use Rattle.std.proofs.Common.{◌≢◌, ℕ, ◌<◌, None}
 use Rattle.console.specs.Held.{offset_at}
 use Rattle.console.proofs.descriptors.lowest_free.Given as goal
 

@@ -1,6 +1,4 @@
-use Rattle.std.proofs.Common.{rules, ◌≡◌, ◌∙◌, sym, ap, ℕ, List, arith, refl, Bool, true, false}
-use Rattle.std.specs.List.{list_all}
-use Rattle.console.specs.Makes.{is_slash}
+use Rattle.std.proofs.Common.{rules, refl}
 use Rattle.console.proofs.Opened.{some_elements, no_elements}
 use Rattle.console.proofs.descriptors.open.Goals as goal
 

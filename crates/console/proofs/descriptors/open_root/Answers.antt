@@ -1,12 +1,5 @@
-use Rattle.std.proofs.Common.{rules, ◌≡◌, ◌∙◌, sym, ap, ℕ, List, arith, refl, Bool, true, false, Some}
-use Rattle.std.specs.Prelude.{replicate, length}
-use Rattle.plain_tree.specs.Tree.{elements}
-use Rattle.plain_tree.specs.declared.call.Call.TheVariants.{Open}
-use Rattle.plain_tree.specs.declared.answer.Answer.TheVariants.{Fd, Full}
-use Rattle.plain_tree.specs.declared.answer.Full.TheVariants.{Descriptors}
-use Rattle.console.specs.Held.{held, IsMounted}
-use Rattle.console.specs.Makes.{Makes}
-use Rattle.console.proofs.Mounted.{root_is_held, root_node}
+use Rattle.std.proofs.Common.{◌≡◌}
+use Rattle.console.proofs.Mounted.{root_is_held}
 use Rattle.console.proofs.Rooted.{all_named}
 use Rattle.console.proofs.Opened.{makes_from, makes_not, open_makes, open_flagged, open_full, open_done}
 use Rattle.console.proofs.descriptors.open_root.Goals as goal

@@ -1,4 +1,4 @@
-use Rattle.std.proofs.Common.{rules, ◌≡◌, ◌∙◌, sym, ap, ℕ, ◌<◌, ◌≤◌, ◌/◌, ◌%◌, List, arith, refl, Option}
+use Rattle.std.proofs.Common.{◌∙◌, ap, ◌/◌, ◌%◌, arith, Option}
 use Rattle.fs_layout.specs.declared.entry.Dirent.{Dirent}
 use Rattle.fs_layout.specs.Entry.{dirent_at}
 use Rattle.fs_layout.specs.Recovered.{recovered}

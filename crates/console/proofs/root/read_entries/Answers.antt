@@ -1,4 +1,4 @@
-use Rattle.std.proofs.Common.{rules, ◌≡◌, ◌≢◌, ◌∙◌, sym, ap, subst, ℕ, ◌<◌, ◌≤◌, ◌+◌, ◌-◌, ◌/◌, ◌%◌, List, arith, refl, length, get_or, set, take, drop}
+use Rattle.std.proofs.Common.{◌≡◌, ◌≢◌, ◌∙◌, sym, ap, ℕ, ◌<◌, ◌≤◌, ◌+◌, ◌-◌, ◌/◌, ◌%◌, List, arith, length, get_or, set, take, drop}
 use Rattle.image_tree.specs.Inodes.{inode_of, slot_at}
 use Rattle.plain_tree.specs.Steps.{entry_bytes}
 use Rattle.console.specs.Held.{IsMounted, slot_of}

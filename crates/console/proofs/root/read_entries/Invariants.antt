@@ -1,4 +1,4 @@
-use Rattle.std.proofs.Common.{◌≡◌, ℕ, ◌+◌, ◌-◌, ◌/◌, ◌<◌, List, length, get_or}
+use Rattle.std.proofs.Common.{◌≡◌, ℕ, ◌+◌, ◌-◌, ◌/◌, ◌<◌, List, get_or}
 use Rattle.image_tree.specs.Inodes.{inode_of, slot_at}
 use Rattle.plain_tree.specs.Steps.{entry_bytes}
 use Rattle.console.specs.Held.{slot_of}

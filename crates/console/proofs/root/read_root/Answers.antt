@@ -1,5 +1,5 @@
-use Rattle.std.proofs.Common.{rules, ◌≡◌, ◌∙◌, sym, ap, ℕ, ◌<◌, ◌≤◌, ◌-◌, List, arith, refl, min, length, take, drop}
-use Rattle.image_tree.specs.Inodes.{inode_of, numbers_of}
+use Rattle.std.proofs.Common.{◌≡◌, ◌∙◌, ap, ℕ, ◌≤◌, ◌-◌, List, arith, min, length, take, drop}
+use Rattle.image_tree.specs.Inodes.{inode_of}
 use Rattle.std.proofs.lemmas.List.{length-take-le}
 use Rattle.console.specs.Root.{root_bytes}
 use Rattle.console.proofs.Contents.{length-root_bytes}

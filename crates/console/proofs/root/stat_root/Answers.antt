@@ -1,4 +1,4 @@
-use Rattle.std.proofs.Common.{rules, ◌≡◌, ◌∙◌, ap, ℤ, SFits, w16}
+use Rattle.std.proofs.Common.{rules, ◌∙◌, ap, ℤ, SFits, w16}
 use Rattle.std.specs.Prelude.{unsigned_abs}
 use Rattle.std.proofs.Math.Facts.{to_z-of_z}
 use Rattle.console.proofs.Stats.{root_stat}

@@ -1,4 +1,4 @@
-use Rattle.std.proofs.Common.{rules, ◌≡◌, ◌∙◌, sym, ap, ℕ, List, arith, refl}
+use Rattle.std.proofs.Common.{◌∙◌, sym, ℕ, List}
 use Rattle.console.proofs.Maps.{none_of, some_of}
 use Rattle.console.proofs.Rooted.{all_named}
 use Rattle.console.proofs.Closed.{within}

@@ -1,4 +1,4 @@
-use Rattle.std.proofs.Common.{rules, ◌≡◌, ◌∙◌, sym, ap, ℕ, List, arith, refl, ◌≤◌, ◌-◌, ◌<◌, Option, Some, None, length, subst}
+use Rattle.std.proofs.Common.{rules, ◌≡◌, ◌∙◌, sym, ℕ, List, arith, ◌<◌, Some, length, subst}
 use Rattle.std.proofs.lemmas.List.{take_at}
 use Rattle.console.specs.Held.{offset_at}
 use Rattle.console.specs.Root.{IsRead, root_bytes}
