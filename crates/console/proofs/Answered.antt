@@ -1,5 +1,5 @@
 -- What a call of the file system answers.
-use Rattle.std.proofs.Common.{◌≡◌, ◌≢◌, ℕ, Bool, true, false, refl, sym, ◌∙◌, List, [], Option, Result, Ok, Err}
+use Rattle.std.proofs.Common.{◌≡◌, ◌≢◌, ℕ, Bool, false, List, [], Option, Result, Ok, Err}
 use Rattle.plain_tree.specs.declared.answer.Reply.{Reply}
 use Rattle.plain_tree.specs.declared.call.Call.{Call}
 use Rattle.plain_tree.specs.declared.call.Call.TheVariants.{Open, Close}
@@ -7,7 +7,7 @@ use Rattle.plain_tree.specs.Tree.{elements}
 use Rattle.console.specs.declared.stop.SingleFault.{SingleFault}
 use Rattle.console.specs.declared.stop.SingleFault.TheVariants.{NotYet}
 use Rattle.console.specs.Held.{held}
-use Rattle.console.specs.Makes.{Makes, IsNotYet}
+use Rattle.console.specs.Makes.{Makes}
 use Rattle.console.specs.Single.{Answers, Runs}
 
 pub opened : (disk : List (List ℕ)) (offsets offsets' : List (Option ℕ)) (stopped : Bool) (c : Call) (path : List ℕ) (flags : ℕ) (result : Result Reply SingleFault) (r : Reply)

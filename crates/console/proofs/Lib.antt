@@ -8,3 +8,5 @@ pub mod Stats
 pub mod Buffers
 pub mod Calls
 pub mod Answered
+pub mod Calling
+pub mod Running

@@ -2,8 +2,10 @@
 use Rattle.std.specs.Prelude.{ℕ, List, [], Option, Some, None, Vec}
 use Rattle.std.specs.declared.alloc.Global.{Global}
 use Rattle.block_device.specs.Blocks.{blocks_of}
-use Rattle.image_tree.specs.Damage.{JudgesFault}
+use Rattle.image_tree.specs.Damage.{IsFirstDamage}
+use Rattle.image_tree.specs.declared.fault.MountFault.TheVariants as mounts
 use Rattle.mkfs.specs.Image.{image_of}
+use Rattle.console.specs.Held.{IsMounted}
 use Rattle.console.specs.declared.fault.ConsoleFault.{ConsoleFault}
 use Rattle.console.specs.declared.fault.ConsoleFault.TheVariants.{Image, Read, Write, Line, Stopped, Memory}
 
@@ -16,11 +18,14 @@ abbrev pub disk_for : Option (Vec ℕ Global) → List (List ℕ)
 disk_for None = blocks_of fresh_bytes
 disk_for (Some bytes) = blocks_of bytes.items
 
--- where the image isn't taken, this is its first damage
+-- Why a run on a disk in memory has no end. A refused image is refused for its first damage; all else is told of an image that
+-- is mounted, and this disk never fails.
 abbrev pub JudgesImage : List (List ℕ) → ConsoleFault → Type 0
-JudgesImage disk (Image f) = JudgesFault disk f
-JudgesImage disk (Read e) = Unit {0}
-JudgesImage disk (Write e) = Unit {0}
-JudgesImage disk (Line n) = Unit {0}
-JudgesImage disk (Stopped s) = Unit {0}
+JudgesImage disk (Image (mounts.Damaged d)) = IsFirstDamage disk d
+JudgesImage disk (Image mounts.DeviceFault) = ⊥
+JudgesImage disk (Image mounts.NoMemory) = ⊥
+JudgesImage disk (Read e) = IsMounted disk
+JudgesImage disk (Write e) = IsMounted disk
+JudgesImage disk (Line n why) = IsMounted disk
+JudgesImage disk (Stopped s) = ⊥
 JudgesImage disk Memory = Unit {0}

@@ -1,10 +1,12 @@
 pub mod Faults
 pub mod Held
 pub mod Images
+pub mod Lines
 pub mod Makes
 pub mod Numbers
 pub mod Options
 pub mod Root
+pub mod Runs
 pub mod View
 pub mod Single
 pub mod Starts

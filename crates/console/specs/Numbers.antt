@@ -1,19 +1,9 @@
--- The numbers and names under which calls, refused starts and stops are printed.
+-- The numbers and names under which refused starts and stops are printed.
 use Rattle.std.specs.Prelude.{ℕ, List, codes}
-use Rattle.console.specs.declared.script.Command.{Command}
-use Rattle.console.specs.declared.script.Command.TheVariants.{Open, Read, Fstat, Close}
 use Rattle.console.specs.declared.start.StartRefused.{StartRefused}
 use Rattle.console.specs.declared.start.StartRefused.TheVariants.{PathTooLong, ZeroInPath, TooLong}
 use Rattle.console.specs.declared.stop.Stop.{Stop}
 use Rattle.console.specs.declared.stop.Stop.TheVariants.{DeviceFault, Halted}
-
--- ---- a call
-
-abbrev pub call_name : Command → List ℕ
-call_name (Open path flags) = codes "open"
-call_name (Read fd count) = codes "read"
-call_name (Fstat fd) = codes "fstat"
-call_name (Close fd) = codes "close"
 
 -- ---- a start that is refused
 

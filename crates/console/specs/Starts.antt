@@ -1,48 +1,40 @@
--- What is tested before a call is started, and the call.
-use Rattle.std.specs.Prelude.{ℕ, ◌<◌, List, [], length, replicate, Option, Some, None, Contains}
+-- What is tested before a call is started.
+use Rattle.std.specs.Prelude.{ℕ, List, length, Option, Some, None, if◌then◌else◌, nat_lt, ◌==◌}
+use Rattle.std.specs.List.{list_any}
 use Rattle.plain_tree.specs.declared.call.Call.{Call}
-use Rattle.plain_tree.specs.declared.call.Call.TheVariants as calls
-use Rattle.console.specs.declared.script.Command.{Command}
-use Rattle.console.specs.declared.script.Command.TheVariants.{Open, Read, Fstat, Close}
+use Rattle.plain_tree.specs.declared.call.Call.TheVariants.{Open, Read, Write, Link, Unlink, Mkdir, Chdir, Dup, Fstat, Close, Inherit}
 use Rattle.console.specs.declared.start.StartRefused.{StartRefused}
 use Rattle.console.specs.declared.start.StartRefused.TheVariants.{PathTooLong, ZeroInPath, TooLong}
 
--- the path that a call says; of one without, the empty path
-abbrev pub path_of : Command → List ℕ
-path_of (Open path flags) = path.items
-path_of (Read fd count) = []
-path_of (Fstat fd) = []
-path_of (Close fd) = []
+-- bytes of the longest path
+abbrev pub longest_path : ℕ
+longest_path = 127
 
--- for how many bytes a call asks
-abbrev pub asked_of : Command → ℕ
-asked_of (Open path flags) = 0
-asked_of (Read fd count) = count
-asked_of (Fstat fd) = 0
-asked_of (Close fd) = 0
+-- the most bytes that one call reads or writes
+abbrev pub longest_part : ℕ
+longest_part = 524288
 
--- ---- what may be wrong with a call
+-- a path is too long, or else has a zero byte
+abbrev pub path_fault : List ℕ → Option StartRefused
+path_fault path = if nat_lt longest_path (length path) then Some PathTooLong else (if list_any (λ b. b == 0) path then Some ZeroInPath else None)
 
-abbrev pub HasLongPath : Command → Type 0
-HasLongPath c = 127 < length (path_of c)
+abbrev pub part_fault : List ℕ → Option StartRefused
+part_fault bytes = if nat_lt longest_part (length bytes) then Some TooLong else None
 
-abbrev pub HasZeroInPath : Command → Type 0
-HasZeroInPath c = Contains (path_of c) 0
+abbrev pub or_else : Option StartRefused → Option StartRefused → Option StartRefused
+or_else None second = second
+or_else (Some first) second = Some first
 
-abbrev pub AsksTooMuch : Command → Type 0
-AsksTooMuch c = 524288 < asked_of c
-
--- the first of these, in this order; a call that is started has none
-abbrev pub IsFirstRefusal : Command → Option StartRefused → Type 0
-IsFirstRefusal c (Some PathTooLong) = HasLongPath c
-IsFirstRefusal c (Some ZeroInPath) = (¬ HasLongPath c) × HasZeroInPath c
-IsFirstRefusal c (Some TooLong) = (¬ HasLongPath c) × (¬ HasZeroInPath c) × AsksTooMuch c
-IsFirstRefusal c None = (¬ HasLongPath c) × (¬ HasZeroInPath c) × (¬ AsksTooMuch c)
-
--- ---- the call; a read is handed zeros to fill
-
-abbrev pub started_call : Command → Call
-started_call (Open path flags) = calls.Open path.items flags
-started_call (Read fd count) = calls.Read fd (replicate count 0)
-started_call (Fstat fd) = calls.Fstat fd
-started_call (Close fd) = calls.Close fd
+-- the first of a call's faults
+abbrev pub fault_of : Call → Option StartRefused
+fault_of (Open path flags) = path_fault path
+fault_of (Read fd buffer) = part_fault buffer
+fault_of (Write fd bytes) = part_fault bytes
+fault_of (Link old new) = or_else (path_fault old) (path_fault new)
+fault_of (Unlink path) = path_fault path
+fault_of (Mkdir path) = path_fault path
+fault_of (Chdir path) = path_fault path
+fault_of (Dup fd) = None
+fault_of (Fstat fd) = None
+fault_of (Close fd) = None
+fault_of (Inherit child) = None

@@ -2,9 +2,9 @@
 ghost use Rattle.std.specs.Prelude.{◌≡◌};
 ghost use Rattle.console.specs.Faults.{status_of};
 
-use crate::script::ScriptFault;
 use crate::stop::Stop;
 use image_tree::MountFault;
+use script::{Reason, ScriptFault};
 use std::alloc::AllocError;
 use std::io;
 use thiserror::Error;
@@ -21,9 +21,9 @@ pub enum ConsoleFault {
     /// An answer can't be written.
     #[error("an answer can't be written: {0}")]
     Write(io::Error),
-    /// The line, counted from 1, is no command, so that no line was run.
-    #[error("line {0}: bad command")]
-    Line(u64),
+    /// The line, counted from 1, is no command, and why, so that no line was run.
+    #[error("line {0}: bad command\n{1}")]
+    Line(u64, Reason),
     /// A call was stopped, and its line printed.
     #[error("stopped {} {}", .0.number(), .0.name())]
     Stopped(Stop),
@@ -64,7 +64,7 @@ impl From<ScriptFault> for ConsoleFault {
 
     fn from(fault: ScriptFault) -> ConsoleFault {
         match fault {
-            ScriptFault::Line(number) => ConsoleFault::Line(number),
+            ScriptFault::Line(number, reason) => ConsoleFault::Line(number, reason),
             ScriptFault::Memory => ConsoleFault::Memory,
         }
     }
@@ -76,7 +76,7 @@ pub fn status(fault: &ConsoleFault) -> u8
 {
     match fault {
         ConsoleFault::Image(_) | ConsoleFault::Read(_) | ConsoleFault::Write(_) => 1,
-        ConsoleFault::Line(_) => 2,
+        ConsoleFault::Line(..) => 2,
         ConsoleFault::Stopped(_) | ConsoleFault::Memory => 3,
     }
 }

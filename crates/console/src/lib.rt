@@ -4,16 +4,17 @@
 mod command_line;
 mod descriptors;
 mod fault;
+mod lines;
 mod root;
 mod run;
-mod script;
 mod single;
 mod start;
 mod stop;
 mod text;
 
-pub use crate::command_line::{IMAGE, options};
+pub use crate::command_line::{CHECK, IMAGE, SAVE, options};
 pub use crate::fault::{ConsoleFault, status};
 pub use crate::run::{Mode, run_on, run_script};
 pub use crate::single::Single;
+pub use crate::start::StartRefused;
 pub use crate::stop::{SingleFault, Stop};

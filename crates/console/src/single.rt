@@ -6,10 +6,12 @@ ghost use Rattle.image_tree.specs.Layout.{IsLayout};
 ghost use Rattle.plain_tree.specs.declared.call.Call.TheVariants.{Read, Fstat};
 ghost use Rattle.console.specs.Held.{held, IsMounted};
 ghost use Rattle.console.specs.Makes.{Makes};
-ghost use Rattle.console.specs.Single.{Answers, IsFresh, Stops, faults_of};
+ghost use Rattle.console.specs.Single.{Answers, Called, IsFresh, Stops, faults_of};
+ghost use Rattle.console.specs.Starts.{fault_of};
 
 use crate::descriptors::{DESCRIPTORS, Offsets, close, offset_under, open};
 use crate::root::{read_root, stat_root};
+use crate::start::find_fault;
 use crate::stop::{SingleFault, Stop};
 use block_device::{Device, Fault};
 use image_tree::{Layout, MountFault, examine_layout};
@@ -73,8 +75,20 @@ impl<D: Device> Single<D> {
         device
     }
 
-    /// Makes a call of hart 0 from its start to its end.
+    /// Makes a call of hart 0 from its start to its end, where it may be started.
     pub fn call(&mut self, call: Call) -> Result<Reply, SingleFault>
+        ensures answers { Called (fault_of call) (D.contents self.old.device) self.old.offsets self.old.stopped call result self.new.offsets self.new.stopped }
+        ensures contents { D.contents self.new.device ≡ D.contents self.old.device }
+        ensures faults { D.failures self.new.device ≡ faults_of result (D.failures self.old.device) }
+    {
+        match find_fault(&call) {
+            Some(why) => Err(SingleFault::Refused(why, call)),
+            None => self.make(call),
+        }
+    }
+
+    // Makes a call that was started.
+    fn make(&mut self, call: Call) -> Result<Reply, SingleFault>
         ensures answers { Answers (D.contents self.old.device) self.old.offsets self.old.stopped call result self.new.offsets self.new.stopped }
         ensures contents { D.contents self.new.device ≡ D.contents self.old.device }
         ensures faults { D.failures self.new.device ≡ faults_of result (D.failures self.old.device) }

@@ -2,6 +2,7 @@
 ghost use Rattle.std.specs.Prelude.{◌≡◌};
 ghost use Rattle.console.specs.Numbers.{stop_name, stop_number};
 
+use crate::start::StartRefused;
 use plain_tree::Call;
 
 /// Why the file system stopped. It answers no further call.
@@ -36,6 +37,8 @@ impl Stop {
 #[derive(Drop)]
 pub enum SingleFault {
     Stop(Stop),
+    /// The call wasn't started, and is handed back.
+    Refused(StartRefused, Call),
     /// This file system doesn't make the call, which is handed back.
     NotYet(Call),
 }

@@ -1,6 +1,7 @@
 //! The lines that a console prints (docs/SCRIPT.md).
 use crate::start::StartRefused;
 use crate::stop::Stop;
+use image_tree::Shape;
 use plain_tree::{Answer, Call, Reply};
 use std::io;
 use std::io::Write;
@@ -10,6 +11,12 @@ const HART: u8 = 0;
 
 /// The number of a refusal that stands for calls to come.
 const NOT_YET: u8 = 49;
+
+/// The digits of a byte in hexadecimal.
+const DIGITS: [u8; 16] = *b"0123456789abcdef";
+
+/// How many bytes are written as digits at once.
+const BYTES_AT_ONCE: usize = 256;
 
 /// The line of a reply.
 pub fn write_reply<W: Write>(out: &mut W, name: &str, reply: &Reply) -> io::Result<()> {
@@ -47,11 +54,23 @@ fn write_read_bytes<W: Write>(out: &mut W, call: &Call, count: u32) -> io::Resul
     if count == 0 {
         return Ok(());
     }
-    write!(out, " ")?;
-    for byte in &bytes[..count] {
-        write!(out, "{byte:02x}")?;
+    out.write_all(b" ")?;
+    for part in bytes[..count].chunks(BYTES_AT_ONCE) {
+        write_hex(out, part)?;
     }
     Ok(())
+}
+
+// At most so many bytes as fit a part, each as two digits.
+fn write_hex<W: Write>(out: &mut W, part: &[u8]) -> io::Result<()> {
+    let mut digits = [b'0'; 2 * BYTES_AT_ONCE];
+    let count = part.len().min(BYTES_AT_ONCE);
+    for k in 0..count {
+        let byte = part[k];
+        digits[2 * k] = DIGITS[(byte / 16) as usize];
+        digits[2 * k + 1] = DIGITS[(byte % 16) as usize];
+    }
+    out.write_all(&digits[..2 * count])
 }
 
 /// The line of a call that the file system doesn't make yet.
@@ -69,4 +88,10 @@ pub fn write_refused<W: Write>(out: &mut W, name: &str, refused: StartRefused) -
 pub fn write_stopped<W: Write>(out: &mut W, name: &str, stop: Stop) -> io::Result<()> {
     let (number, stop) = (stop.number(), stop.name());
     writeln!(out, "{HART} {name} stopped {number} {stop}")
+}
+
+/// The line of an image that was examined and is well formed.
+pub fn write_shape<W: Write>(out: &mut W, shape: &Shape) -> io::Result<()> {
+    let (live, orphans, blocks) = (shape.live, shape.orphans, shape.blocks);
+    writeln!(out, "clean live {live} orphans {orphans} blocks {blocks}")
 }

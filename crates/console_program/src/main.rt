@@ -1,74 +1,162 @@
-//! `console [IMAGE]`: runs a script from standard input on a file system, and prints its answers.
+//! `console [IMAGE] [--check] [--save FILE]`: runs a script from standard input on a file system, and prints its answers.
 //!
 //! Faults are told in this order: the command line (status 2), an IMAGE file that can't be read or an image that isn't
-//! taken (status 1), the script (status 1 or 2). Want of memory is told where it comes (status 3).
+//! taken (status 1), the script (status 1 or 2), a FILE that can't be written (status 1). Want of memory is told where it
+//! comes (status 3).
 #![tactic(auto)]
 
+use clap::ArgMatches;
 use clap::error::ErrorKind;
-use console::{ConsoleFault, IMAGE, Mode, options, run_script, status};
+use console::{CHECK, ConsoleFault, IMAGE, Mode, SAVE, options, run_script, status};
+use image_files::{SaveRefused, read_image, save};
+use std::alloc::AllocError;
+use std::io::{BufWriter, Write};
 use std::process::ExitCode;
-use std::{env, fs, io};
+use std::{env, io};
+use thiserror::Error;
 
-/// The status of a wrong command line.
-const WRONG_WORDS: u8 = 2;
+/// Why the console didn't come to its end.
+#[derive(Debug, Drop, Error)]
+enum Fault<'a> {
+    /// The command line has a word that is no text.
+    #[error("the command line: {0}")]
+    Words(io::Error),
+    /// The image's file can't be read, or is too large.
+    #[error("{0}: {1}")]
+    Image(&'a str, io::Error),
+    #[error("{0}")]
+    Run(ConsoleFault),
+    /// The image can't be saved.
+    #[error("{0}")]
+    Save(SaveRefused),
+}
+
+impl<'a> From<AllocError> for Fault<'a> {
+    fn from(_error: AllocError) -> Fault<'a> {
+        Fault::Run(ConsoleFault::Memory)
+    }
+}
+
+impl<'a> From<ConsoleFault> for Fault<'a> {
+    fn from(fault: ConsoleFault) -> Fault<'a> {
+        Fault::Run(fault)
+    }
+}
+
+impl<'a> From<SaveRefused> for Fault<'a> {
+    fn from(refused: SaveRefused) -> Fault<'a> {
+        match refused {
+            SaveRefused::NoMemory => Fault::Run(ConsoleFault::Memory),
+            refused => Fault::Save(refused),
+        }
+    }
+}
+
+impl<'a> Fault<'a> {
+    // What came of reading the words of the command line.
+    fn of_words(error: io::Error) -> Fault<'a> {
+        if error.kind() == io::ErrorKind::OutOfMemory {
+            return Fault::Run(ConsoleFault::Memory);
+        }
+        Fault::Words(error)
+    }
+
+    // What came of reading the image's file.
+    fn of_image(path: &'a str, error: io::Error) -> Fault<'a> {
+        if error.kind() == io::ErrorKind::OutOfMemory {
+            return Fault::Run(ConsoleFault::Memory);
+        }
+        Fault::Image(path, error)
+    }
+
+    // What came of writing answers.
+    fn of_answers(error: io::Error) -> Fault<'a> {
+        if error.kind() == io::ErrorKind::OutOfMemory {
+            return Fault::Run(ConsoleFault::Memory);
+        }
+        Fault::Run(ConsoleFault::Write(error))
+    }
+
+    // The program's exit status.
+    fn status(&self) -> u8 {
+        match self {
+            Fault::Words(_) => 2,
+            Fault::Image(..) | Fault::Save(_) => 1,
+            Fault::Run(fault) => status(fault),
+        }
+    }
+}
 
 // A refused image is told on standard output; after a stop its line is there already.
-fn tell(rt: &HostRuntime, fault: &ConsoleFault) -> io::Result<()> {
+fn tell(rt: &HostRuntime, fault: &Fault) -> io::Result<()> {
     match fault {
-        ConsoleFault::Image(_) => println!(rt; "{fault}"),
-        ConsoleFault::Stopped(_) => Ok(()),
+        Fault::Run(ConsoleFault::Image(_)) => println!(rt; "{fault}"),
+        Fault::Run(ConsoleFault::Stopped(_)) => Ok(()),
         _ => eprintln!(rt; "{fault}"),
     }
 }
 
-// Tells that a file, or the command line, can't be read.
-fn tell_unread(
-    rt: &HostRuntime,
-    what: &str,
-    fault: io::Error,
-    code: ExitCode,
-) -> Result<ExitCode, ConsoleFault> {
-    if fault.kind() == io::ErrorKind::OutOfMemory {
-        return Err(ConsoleFault::Memory);
+// The command line's words.
+fn words(rt: &HostRuntime) -> Result<Vec<String>, Fault<'static>> {
+    match env::args(rt) {
+        Ok(words) => Ok(words.collect(rt.alloc())?),
+        Err(error) => Err(Fault::of_words(error)),
     }
-    eprintln!(rt; "{what}: {fault}").map_err(ConsoleFault::Write)?;
-    Ok(code)
 }
 
-fn run(rt: &HostRuntime) -> Result<ExitCode, ConsoleFault> {
-    let alloc = rt.alloc();
-    let words: Vec<String> = match env::args(rt) {
-        Ok(words) => words.collect(alloc)?,
-        Err(fault) => {
-            return tell_unread(rt, "the command line", fault, ExitCode::from(WRONG_WORDS));
+// Runs what the command line asks for. What was answered before a fault is printed.
+fn run<'a>(rt: &HostRuntime, matches: &'a ArgMatches) -> Result<(), Fault<'a>> {
+    let place = matches.get_str(SAVE);
+    let image = match matches.get_str(IMAGE) {
+        Some(path) => {
+            let bytes = read_image(rt, path, place.is_some()).map_err(|error| Fault::of_image(
+                path, error,
+            ))?;
+            Some(bytes)
         }
+        None => None,
     };
-    let matches = match options(alloc, words.as_slice()) {
-        Ok(matches) => matches,
-        Err(error) if error.kind() == ErrorKind::OutOfMemory => return Err(ConsoleFault::Memory),
-        Err(error) => {
-            error.print(rt).map_err(ConsoleFault::Write)?;
-            return Ok(ExitCode::from(error.exit_code() as u8));
-        }
+    let mode = Mode {
+        check: matches.get_flag(CHECK),
     };
-    let mut image = None;
-    if let Some(path) = matches.get_str(IMAGE) {
-        match fs::read(rt, path) {
-            Ok(bytes) => image = Some(bytes),
-            Err(fault) => return tell_unread(rt, path, fault, ExitCode::FAILURE),
-        }
+    let mut out = BufWriter::new(rt.alloc(), io::writer(rt)).map_err(|error| Fault::of_answers(
+        error,
+    ))?;
+    let ran = run_script(rt.alloc(), image, mode, rt.reader(), &mut out);
+    out.flush().map_err(|error| Fault::of_answers(error))?;
+    let disk = ran?;
+    if let Some(path) = place {
+        let bytes = disk.into_bytes();
+        save(rt, path, bytes.as_slice())?;
     }
-    let mut out = io::writer(rt);
-    run_script(alloc, image, Mode::Listed, rt.reader(), &mut out)?;
-    Ok(ExitCode::SUCCESS)
+    Ok(())
 }
 
 fn main(rt: HostRuntime) -> anyhow::Result<ExitCode> {
-    match run(&rt) {
-        Ok(code) => Ok(code),
+    let words = match words(&rt) {
+        Ok(words) => words,
         Err(fault) => {
             tell(&rt, &fault)?;
-            Ok(ExitCode::from(status(&fault)))
+            return Ok(ExitCode::from(fault.status()));
+        }
+    };
+    let matches = match options(rt.alloc(), words.as_slice()) {
+        Ok(matches) => matches,
+        Err(error) if error.kind() == ErrorKind::OutOfMemory => {
+            let fault = Fault::Run(ConsoleFault::Memory);
+            tell(&rt, &fault)?;
+            return Ok(ExitCode::from(fault.status()));
+        }
+        Err(error) => {
+            error.print(&rt)?;
+            return Ok(ExitCode::from(error.exit_code() as u8));
+        }
+    };
+    match run(&rt, &matches) {
+        Ok(()) => Ok(ExitCode::SUCCESS),
+        Err(fault) => {
+            tell(&rt, &fault)?;
+            Ok(ExitCode::from(fault.status()))
         }
     }
 }

@@ -4,8 +4,10 @@
 
 ghost use Rattle.std.specs.Prelude.{◌≤◌, ◌+◌, length, IfOk};
 
+mod images;
 mod replacing;
 
+pub use crate::images::read_image;
 pub use crate::replacing::{SaveRefused, save};
 use std::fs::{File, Files};
 use std::io;

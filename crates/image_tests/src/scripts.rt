@@ -2,8 +2,10 @@
 use block_device::{Fused, MemoryDisk};
 use clap::error::ErrorKind;
 use console::{ConsoleFault, Mode, Single, Stop, options, run_on, run_script, status};
+use fs_machine::Kind;
 use image_tree::MountFault;
 use mkfs::{MakeRefused, make};
+use script::{CallLine, Command, Reason, ScriptFault, parse};
 use std::alloc::{AllocError, Global};
 use std::io;
 use std::test::Fail;
@@ -37,6 +39,7 @@ fn mounted_at_last(alloc: Global) -> Result<Single<Fused>, Fail> {
 fn run_once(
     alloc: Global,
     image: Option<&[u8]>,
+    mode: Mode,
     script: &[u8],
 ) -> Result<(Vec<u8>, Option<ConsoleFault>), AllocError> {
     let image = match image {
@@ -44,10 +47,7 @@ fn run_once(
         None => None,
     };
     let mut out = Vec::new(alloc);
-    let fault = match run_script(alloc, image, Mode::Listed, script, &mut out) {
-        Ok(_) => None,
-        Err(fault) => Some(fault),
-    };
+    let fault = run_script(alloc, image, mode, script, &mut out).err();
     Ok((out, fault))
 }
 
@@ -65,9 +65,18 @@ fn run(
     image: Option<&[u8]>,
     script: &[u8],
 ) -> Result<(Vec<u8>, Option<ConsoleFault>), AllocError> {
-    let (out, fault) = run_once(alloc, image, script)?;
+    run_in(alloc, image, Mode::default(), script)
+}
+
+fn run_in(
+    alloc: Global,
+    image: Option<&[u8]>,
+    mode: Mode,
+    script: &[u8],
+) -> Result<(Vec<u8>, Option<ConsoleFault>), AllocError> {
+    let (out, fault) = run_once(alloc, image, mode, script)?;
     if is_refused_memory(&fault) {
-        return run_once(alloc, image, script);
+        return run_once(alloc, image, mode, script);
     }
     Ok((out, fault))
 }
@@ -161,13 +170,7 @@ fn prints_why_a_call_is_stopped(rt: HostRuntime) -> Result<(), Fail> {
         ("do 0 close 0\n", "0 close stopped 32 Halted\n"),
     ] {
         let mut out = Vec::with_capacity(rt.alloc(), 64)?;
-        match run_on(
-            rt.alloc(),
-            &mut single,
-            Mode::Listed,
-            script.as_bytes(),
-            &mut out,
-        ) {
+        match run_on(rt.alloc(), &mut single, script.as_bytes(), &mut out) {
             Err(ConsoleFault::Stopped(_)) => {}
             Err(ConsoleFault::Memory) => return Err(Fail::from(AllocError)),
             _ => return Err(Fail::new("it isn't stopped")),
@@ -179,16 +182,40 @@ fn prints_why_a_call_is_stopped(rt: HostRuntime) -> Result<(), Fail> {
 
 #[test]
 fn runs_no_line_of_a_bad_script(rt: HostRuntime) -> Result<(), Fail> {
-    for line in [
-        "do 1 open / 0",
-        "do 0 mkdir /a",
-        "0 open / 0",
-        "do 0 open /",
-        "do 0  open / 0",
-        "do 0 read 0 4294967296",
-        "do 0 read 0 0x",
-        "do 0 open hex:2 0",
-        "do 0 fstat 0\r",
+    for (line, why) in [
+        ("do 1 open / 0", "not there yet: harts other than 0"),
+        ("do 0 mkdir /a", "not there yet: this call"),
+        (
+            "0 open / 0",
+            "not there yet: calls in steps (do H CALL .. is there)",
+        ),
+        ("all", "not there yet: steps of a hart"),
+        ("do 0 open /", "wanted: H open PATH FLAGS"),
+        (
+            "do 0  open / 0",
+            "a single space between words, and none at an end",
+        ),
+        ("all ", "a single space between words, and none at an end"),
+        ("do 0 read 0 4294967296", "a number is wanted: N"),
+        ("do 0 fstat x", "a number is wanted: FD"),
+        ("do 0 open / 0x", "a number is wanted: FLAGS"),
+        ("do 256 close 0", "a number from 0 to 255 is wanted: H"),
+        (
+            "do 0 open hex:2 0",
+            "pairs of hexadecimal digits are wanted after hex: PATH",
+        ),
+        ("do 0 fstat 0\r", "ends in a carriage return"),
+        ("do 0 mkdirs /a", "unknown call: mkdirs"),
+        (
+            "open / 0",
+            "no such command: open (do, step, upto, end, all, or a hart's number)",
+        ),
+        ("256 open / 0", "a number from 0 to 255 is wanted: H"),
+        ("do", "wanted: do H CALL .."),
+        ("0", "wanted: H CALL .."),
+        ("step 0", "wanted: step H N"),
+        ("upto 0 turn 1", "unknown kind of step: turn"),
+        ("do 0 write 0 a b", "more words than a command has"),
     ] {
         let script = format!(in rt.alloc(); "do 0 open / 0\n# two\n{line}\n")?;
         let (out, fault) = run(rt.alloc(), None, script.as_str().as_bytes())?;
@@ -198,8 +225,75 @@ fn runs_no_line_of_a_bad_script(rt: HostRuntime) -> Result<(), Fail> {
         };
         assert_eq!(rt; status(&fault), 2, "{line}");
         let text = format!(in rt.alloc(); "{fault}")?;
-        assert!(rt; text.as_str() == "line 3: bad command");
+        let want = format!(in rt.alloc(); "line 3: bad command\n{why}")?;
+        assert!(rt; text.as_str() == want.as_str(), "{text}");
     }
+    Ok(())
+}
+
+#[test]
+fn shows_words_that_a_terminal_prints(rt: HostRuntime) -> Result<(), Fail> {
+    let script = b"do 0 \x1b[2Jabcdefghijklmnopqrstuvwxyz0123456789 /a".as_slice();
+    let (_, fault) = run(rt.alloc(), None, script)?;
+    let Some(fault) = fault else {
+        return Err(Fail::new("it is run"));
+    };
+    let text = format!(in rt.alloc(); "{fault}")?;
+    assert!(rt;
+        text.as_str()
+            == "line 1: bad command\nunknown call: \\x1b[2Jabcdefghijklmnopqrstuvwxyz01..",
+        "{text}"
+    );
+    Ok(())
+}
+
+#[test]
+fn reads_each_kind_of_line(rt: HostRuntime) -> Result<(), Fail> {
+    let script = b"# steps\n\nstep 2 0x3\nupto 3 commit 1\nend 4\nall\n7 fill 0 9\n";
+    let lines = match parse(rt.alloc(), script.as_slice()) {
+        Ok(lines) => lines,
+        Err(ScriptFault::Memory) => return Err(Fail::from(AllocError)),
+        Err(_) => return Err(Fail::new("it isn't read")),
+    };
+    assert_eq!(rt; lines.len(), 5);
+    for (k, line) in lines.iter().enumerate() {
+        assert_eq!(rt; line.number, k as u64 + 3);
+    }
+    assert!(rt; lines[0].command == Command::Step { hart: 2, steps: 3 });
+    assert!(rt;
+        lines[1].command
+            == Command::Upto {
+                hart: 3,
+                kind: Kind::Commit,
+                steps: 1
+            }
+    );
+    assert!(rt; lines[2].command == Command::End { hart: 4 });
+    assert!(rt; lines[3].command == Command::All);
+    assert!(rt;
+        lines[4].command
+            == Command::Start {
+                hart: 7,
+                call: CallLine::Fill { fd: 0, count: 9 }
+            }
+    );
+    Ok(())
+}
+
+#[test]
+fn checks_images(rt: HostRuntime) -> Result<(), Fail> {
+    let check = Mode { check: true };
+    let (out, fault) = run_in(rt.alloc(), None, check, b"bad".as_slice())?;
+    assert!(rt; fault.is_none());
+    assert!(rt; out.as_slice() == b"clean live 1 orphans 0 blocks 1\n".as_slice());
+    let short = vec![in rt.alloc(); 0; 1500]?;
+    let (out, fault) = run_in(rt.alloc(), Some(short.as_slice()), check, b"".as_slice())?;
+    assert!(rt; out.is_empty());
+    let Some(fault) = fault else {
+        return Err(Fail::new("it is clean"));
+    };
+    assert_eq!(rt; status(&fault), 1);
+    assert!(rt; format!(in rt.alloc(); "{fault}")?.as_str() == "refused 51 TooShort");
     Ok(())
 }
 
@@ -228,7 +322,11 @@ fn tells_damage_and_other_faults(rt: HostRuntime) -> Result<(), Fail> {
             "stopped 31 DeviceFault",
             3,
         ),
-        (ConsoleFault::Line(7), "line 7: bad command", 2),
+        (
+            ConsoleFault::Line(7, Reason::EmptyWord),
+            "line 7: bad command\na single space between words, and none at an end",
+            2,
+        ),
     ] {
         assert_eq!(rt; status(&fault), number);
         assert!(rt; format!(in rt.alloc(); "{fault}")?.as_str() == text);
@@ -255,23 +353,32 @@ fn takes_scripts_up_to_their_longest(rt: HostRuntime) -> Result<(), Fail> {
     Ok(())
 }
 
-#[test]
-fn help_names_the_program(rt: HostRuntime) -> Result<(), Fail> {
-    let alloc = rt.alloc();
+// What the program prints for one word.
+fn told(alloc: Global, word: &str) -> Result<String, Fail> {
     let mut words = Vec::new(alloc);
-    for word in ["out/console_program.kept", "--help"] {
+    for word in ["out/console_program.kept", word] {
         words
             .push(String::from_str(alloc, word)?)
             .map_err(AllocError::from)?;
     }
     let error = match options(alloc, words.as_slice()) {
-        Ok(_) => return Err(Fail::new("help runs no script")),
+        Ok(_) => return Err(Fail::new("it runs a script")),
         Err(error) => error,
     };
     if error.kind() == ErrorKind::OutOfMemory {
         return Err(Fail::from(AllocError));
     }
-    let text = format!(in alloc; "{error}")?;
-    assert!(rt; text.as_str().contains("Usage: console [IMAGE]"), "{text}");
+    Ok(format!(in alloc; "{error}")?)
+}
+
+#[test]
+fn help_and_version_name_the_program(rt: HostRuntime) -> Result<(), Fail> {
+    let help = told(rt.alloc(), "--help")?;
+    assert!(rt;
+        help.as_str().contains("Usage: console [OPTIONS] [IMAGE]"),
+        "{help}"
+    );
+    let version = told(rt.alloc(), "--version")?;
+    assert!(rt; version.as_str().starts_with("console 0.1"), "{version}");
     Ok(())
 }

@@ -1,7 +1,6 @@
-use Rattle.std.proofs.Common.{rules, ◌≡◌, ◌∙◌, sym, ap, ℕ, List, arith, refl}
 use Rattle.console.proofs.Answered.{opened, handed_back, closed}
-use Rattle.console.proofs.single.Single.call.Goals as goal
-use Rattle.console.proofs.single.Single.call.Goals.{in-Ok, in-Err}
+use Rattle.console.proofs.single.Single.make.Goals as goal
+use Rattle.console.proofs.single.Single.make.Goals.{in-Ok, in-Err}
 
 pub returns-after-open-clause-answers : goal.returns-after-open-clause-answers
 returns-after-open-clause-answers g c = elim c.match-open.branch [
