@@ -49,4 +49,5 @@ pub mod ContentReads
 pub mod Looks
 pub mod DirectorySearches
 pub mod TakeSteps
+pub mod LockSteps
 pub mod Mounted

@@ -88,7 +88,7 @@ face_seen d (Some v) is typed = ap (λ (b : Bool). if b then None else Some (fac
 -- ---- what an open file is of
 
 -- has a type, where nobody has its lock
-file_typed : (v : above.World) (s : ℕ) (e : Entry) → Inv v → v.files s ≡ Some e → v.lock e.file.number ≡ None → v.disk e.file.number ≢ None
+pub file_typed : (v : above.World) (s : ℕ) (e : Entry) → Inv v → v.files s ≡ Some e → v.lock e.file.number ≡ None → v.disk e.file.number ≢ None
 file_typed v s e inv at free none = by (v.keeper n) refl
   where
     n : ℕ
@@ -102,7 +102,7 @@ file_typed v s e inv at free none = by (v.keeper n) refl
     ]
 
 -- is referred to
-file_referred : (h fd : ℕ) (v : above.World) (e : Entry) → Inv v → h < hart_count → entry_of v h fd ≡ Some e → (s : ℕ) × (v.files s ≡ Some e) × (0 < v.refs e.file.number)
+pub file_referred : (h fd : ℕ) (v : above.World) (e : Entry) → Inv v → h < hart_count → entry_of v h fd ≡ Some e → (s : ℕ) × (v.files s ≡ Some e) × (0 < v.refs e.file.number)
 file_referred h fd v e inv lt is = by_slot (slot_at v h fd) refl
   where
     by_slot : (o : Option ℕ) → slot_at v h fd ≡ o → (s : ℕ) × (v.files s ≡ Some e) × (0 < v.refs e.file.number)

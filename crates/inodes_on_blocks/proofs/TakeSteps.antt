@@ -57,7 +57,7 @@ same_ran : (b : Seen) (g u : above.World) → Ran b g ≡ Ran b u → g ≡ u
 same_ran b g u e = cc e
 
 -- what was learned of an inode beside its record
-learned_base : (h n : ℕ) (r : World) (g : above.World) (c : Carry) (d : Dinode) (learns : Learned) → IsKnown learns (g.disk n) → IsOpened h n (Has d learns) g → Base h r g (put c n (Has d NothingMore)) → Base h r g (put c n (Has d learns))
+pub learned_base : (h n : ℕ) (r : World) (g : above.World) (c : Carry) (d : Dinode) (learns : Learned) → IsKnown learns (g.disk n) → IsOpened h n (Has d learns) g → Base h r g (put c n (Has d NothingMore)) → Base h r g (put c n (Has d learns))
 learned_base h n r g c d learns known opened base = record {
   free = base.free;
   taken = base.taken;

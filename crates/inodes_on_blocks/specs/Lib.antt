@@ -10,6 +10,7 @@ pub mod Holding
 pub mod Reading
 pub mod Recording
 pub mod Storing
+pub mod Files
 pub mod Emptying
 pub mod Room
 pub mod Giving

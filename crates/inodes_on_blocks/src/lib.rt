@@ -9,6 +9,7 @@ ghost use Rattle.inodes_on_blocks.specs.Laws.{ChangesMayBegin, ChangesMayEnd, Jo
 ghost use Rattle.inodes_on_blocks.specs.Mounted.{MountsShowTheirTrees};
 
 pub mod acting;
+pub mod files;
 pub mod reading;
 pub mod recording;
 pub mod storing;

@@ -1,0 +1,9 @@
+use Rattle.inode_machine.specs.World.Op.{LockOpen}
+use Rattle.inodes_on_blocks.specs.Files.{lock_open}
+use Rattle.inodes_on_blocks.specs.Acting.{alone}
+use Rattle.inodes_on_blocks.proofs.LockSteps.{open_acts}
+use Rattle.inodes_on_blocks.proofs.Alone.{alone_laws, alone_keeps, does_it_at}
+use Rattle.inodes_on_blocks.proofs.files.locks_to_write_act_once.Goals as goal
+
+pub returns : goal.returns
+returns c = λ sizes fd n. does_it_at sizes (LockOpen fd n) (lock_open sizes fd n) (λ h lt m. open_acts alone alone_laws alone_keeps h lt sizes fd n m)

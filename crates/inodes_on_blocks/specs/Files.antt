@@ -1,0 +1,60 @@
+-- The programs below of reading an open file. On a disk of these sizes; c: what the hart has of the inodes whose locks it has.
+use Rattle.std.specs.Prelude.{ℕ, ◌+◌, List, [], Option, Some, None}
+use Rattle.atomic_programs.specs.Prog.{Ret, Do, bind}
+use Rattle.atomic_programs.specs.Joined.{Handed}
+use Rattle.fs_layout.specs.declared.inode.Dinode.{Dinode}
+use Rattle.fs_layout.specs.declared.superblock.Super.{Super}
+use Rattle.fs_tables.specs.declared.files.OpenFile.{OpenFile}
+use Rattle.fs_tables.specs.declared.files.Want.TheVariants as want
+use Rattle.fs_tables.specs.Inodes.{LockedState, Refuses, Locks}
+use Rattle.fs_machine.specs.Steps as steps
+use Rattle.inode_table.specs.Programs.{load_unless}
+use Rattle.inode_data.specs.Programs.{Filled, read_from}
+use Rattle.plain_tree.specs.Tree.{put}
+use Rattle.inode_machine.specs.World as above
+use Rattle.inode_machine.specs.World.{Locking, NotLocked, LocksIt}
+use Rattle.inode_machine.specs.World.Op.{LockFile, LockOpen, ReadFile}
+use Rattle.inodes_on_blocks.specs.Lowering.{Carry, Learned, NothingMore, Finds, Opened, Had, Apart, Has, Emptied, record_had}
+use Rattle.inodes_on_blocks.specs.Storing.{record_in}
+use Rattle.inodes_on_blocks.specs.Handlers.{P, Handler, acts, cause_of}
+
+-- ---- locked, by a descriptor
+
+-- the record in hand, and where the file stands
+abbrev pub with_file : {A : Type 0} → A → Carry → (fd n offset : ℕ) → Dinode → P (Handed A Carry)
+with_file a c fd n offset d = Ret (record { answer = a; carry = put c n (Has d (Opened fd offset)) })
+
+abbrev pub file_locked : Super → (fd : ℕ) → Carry → LockedState → P (Handed Locking Carry)
+file_locked sizes fd c (Refuses why) = Ret (record { answer = NotLocked (cause_of why); carry = c })
+file_locked sizes fd c (Locks f content) = bind (load_unless sizes.inodestart f.number content) (with_file (LocksIt f.number) c fd f.number f.offset)
+
+-- to read; it acts where the lock is had
+abbrev pub lock_file : Super → (fd : ℕ) → Handler (LockFile fd)
+lock_file sizes fd c m = Do (steps.LockFile want.Read fd) (λ a. acts (LockFile fd) above.Room m) (file_locked sizes fd c)
+
+abbrev pub open_locked : Super → (fd : ℕ) → Carry → OpenFile × Option Dinode → P (Handed (Unit {0}) Carry)
+open_locked sizes fd c locked = bind (load_unless sizes.inodestart locked.0.number locked.1) (with_file tt c fd locked.0.number locked.0.offset)
+
+-- to write
+abbrev pub lock_open : Super → (fd n : ℕ) → Handler (LockOpen fd n)
+lock_open sizes fd n c m = Do (steps.LockOpen fd) (λ a. acts (LockOpen fd n) above.Room m) (open_locked sizes fd c)
+
+-- ---- read
+
+-- where the file stood by which the inode was locked
+abbrev pub offset_in : Had → ℕ
+offset_in Apart = 0
+offset_in (Has d NothingMore) = 0
+offset_in (Has d (Finds e s)) = 0
+offset_in (Has d (Opened fd offset)) = offset
+offset_in Emptied = 0
+
+-- The lock is given up, and the offset moves by as much as was read: there the operation acts.
+abbrev pub give_read : (fd n count : ℕ) → (List ℕ → Option above.Mark) → Carry → Filled → P (Handed (List ℕ) Carry)
+give_read fd n count m c f =
+    Do (steps.Unlock (record { number = n; content = record_had (c n) }) (Some (fd, offset_in (c n) + f.count))) (λ a. acts (ReadFile fd n count) above.Room m)
+    (λ a. Ret (record { answer = f.bytes; carry = put c n Apart }))
+
+-- The part is read block by block, each as it was when the lock was had.
+abbrev pub read_file : (fd n count : ℕ) → Handler (ReadFile fd n count)
+read_file fd n count c m = bind (read_from (record_in c n) (offset_in (c n)) count []) (give_read fd n count m c)
