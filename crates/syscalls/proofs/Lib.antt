@@ -7,3 +7,4 @@ pub mod Emptying
 pub mod Installing
 pub mod Joining
 mod Pieces
+pub mod Seeks

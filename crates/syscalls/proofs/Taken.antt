@@ -1,5 +1,5 @@
 -- An inode while it is taken, and what a path leads to.
-use Rattle.std.proofs.Common.{◌≡◌, ◌≤◌, ◌+◌, ℕ, List, [], length, sym, ap, subst, rules, arith}
+use Rattle.std.proofs.Common.{◌≡◌, ◌≢◌, ◌≤◌, ◌+◌, ℕ, List, [], length, sym, ap, subst, rules, arith}
 use Rattle.fs_layout.specs.declared.inode.Dinode.{Dinode}
 use Rattle.sleep_lock.specs.SleepLock.{GuardState}
 use Rattle.sleep_lock.specs.Row.{IsOut}
@@ -13,6 +13,7 @@ use Rattle.fs_tables.specs.Locks.{IsLocked}
 use Rattle.fs_machine.specs.declared.kind.Kind.{Kind}
 use Rattle.fs_machine.specs.Steps.{State}
 use Rattle.fs_machine.specs.Tied.{IsOwnInode}
+use Rattle.fs_machine.specs.Stays.{LeavesApart}
 use Rattle.inode_table.specs.declared.load_inode.LoadInode.{LoadInode}
 use Rattle.inode_table.specs.Machines.{LoadFits}
 use Rattle.file_table.specs.Machines.{with_content}
@@ -25,7 +26,7 @@ use Rattle.syscalls.specs.declared.take.TakeInode.TheVariants as taking
 use Rattle.syscalls.specs.declared.reach.Reach.{Reach}
 use Rattle.syscalls.specs.declared.reach.Reached.{Reached}
 use Rattle.syscalls.specs.declared.reach.Reached.TheVariants as reached
-use Rattle.syscalls.specs.Taking.{TakeFits, IsHeld, in_take, ReachFits, IsReached, IsThere}
+use Rattle.syscalls.specs.Taking.{TakeApart, TakeFits, IsHeld, in_take, ReachFits, IsReached, IsThere}
 use Rattle.syscalls.proofs.Nesting.{left_map}
 use Rattle.syscalls.proofs.Tails.{own_on}
 
@@ -52,6 +53,22 @@ unfolding TakeFits
 take_left hart n old new self guard load stepped result is fits same left came =
     let held : IsOwnInode hart n guard old × LoadFits hart old load = subst (λ m. TakeFits hart old m) is fits in
     subst (λ r. Left (TakeFits hart new) (λ held. IsHeld hart held new) r) (sym came) (take_fits hart n new guard stepped (own_on hart n guard old new same held.0) left)
+
+-- and the hart's other locks stay its
+pub take_rest : (hart n : ℕ) (old new : State) (self : TakeInode) (guard : GuardState Inode) (load : LoadInode) (stepped : Stepped LoadInode Dinode Kind) (result : Stepped TakeInode Held Kind)
+    → self ≡ taking.Loading n guard load → new.tables ≡ old.tables → result ≡ in_take n guard stepped → LeavesApart TakeApart (λ k held. k ≢ held.reference) (IsOwnInode hart) self result old new
+unfolding TakeApart
+take_rest hart n old new self guard load stepped result is same came k kept own apart =
+    let ne : k ≢ n = subst (λ m. TakeApart k m) is apart in (
+      own_on hart k kept old new same own,
+      subst (λ r. Left (TakeApart k) (λ (held : Held). k ≢ held.reference) r) (sym came) (left_after stepped ne),
+    )
+  where
+    left_after : (s : Stepped LoadInode Dinode Kind) → k ≢ n → Left (TakeApart k) (λ (held : Held). k ≢ held.reference) (in_take n guard s)
+    left_after (Waits load) ne = ne
+    left_after (Ran load kind) ne = ne
+    left_after (Done d kind) ne = ne
+    left_after (Stopped load) ne = ne
 
 -- what is known of what a path leads to, without its state
 is_there : (path : List ℕ) (hart : ℕ) (s : State) (r : Reached) → IsReached path hart s r → IsThere path r

@@ -1,11 +1,11 @@
 -- The programs that are left while an inode is given up, and while a call on a path ends.
-use Rattle.std.specs.Prelude.{◌≡◌, ℕ}
+use Rattle.std.specs.Prelude.{◌≡◌, ◌≢◌, ℕ}
 use Rattle.atomic_programs.specs.Prog.{bind}
 use Rattle.plain_tree.specs.declared.answer.Reply.{Reply}
 use Rattle.fs_machine.specs.Steps.{State}
 use Rattle.fs_machine.specs.Machines.{P}
 use Rattle.fs_machine.specs.Tied.{IsOwnInode}
-use Rattle.inode_data.specs.Dropping.{drop_of, DropFits}
+use Rattle.inode_data.specs.Dropping.{drop_of, DropApart, DropFits}
 use Rattle.file_table.specs.Machines.{IsEarly}
 use Rattle.syscalls.specs.Parts.{give_up, unlock_quit}
 use Rattle.syscalls.specs.Programs.{tail}
@@ -25,6 +25,11 @@ give_of (giving.Dropping m) = drop_of m
 unfoldable pub GiveFits : ℕ → State → GiveUp → Type 0
 GiveFits hart s (giving.Unlock sizes held) = IsEarly sizes.inodestart × IsHeld hart held s
 GiveFits hart s (giving.Dropping m) = DropFits hart s m
+
+-- its lock isn't that of this inode
+unfoldable pub GiveApart : ℕ → GiveUp → Type 0
+GiveApart k (giving.Unlock sizes held) = k ≢ held.reference
+GiveApart k (giving.Dropping m) = DropApart k m
 
 -- what comes at the end
 abbrev pub tail_for : Ending → P Reply

@@ -11,3 +11,4 @@ pub mod Ends
 pub mod Opens
 pub mod Chdirs
 pub mod Writing
+pub mod Seeking

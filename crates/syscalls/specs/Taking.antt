@@ -1,5 +1,5 @@
 -- The programs that are left while an inode is taken, and while a path's end is.
-use Rattle.std.specs.Prelude.{ℕ, ◌≤◌, List, IsSome, IfSome, length}
+use Rattle.std.specs.Prelude.{◌≢◌, ℕ, ◌≤◌, List, IsSome, IfSome, length}
 use Rattle.sleep_lock.specs.SleepLock.{GuardState}
 use Rattle.atomic_programs.specs.Prog.{Ret, bind}
 use Rattle.atomic_programs.specs.declared.machines.Stepped.{Stepped}
@@ -36,6 +36,11 @@ take_of (taking.Loading n guard load) = bind (load_of load) (λ d. Ret (loaded n
 unfoldable pub TakeFits : ℕ → State → TakeInode → Type 0
 TakeFits hart s (taking.Lock inodestart n) = IsEarly inodestart
 TakeFits hart s (taking.Loading n guard load) = IsOwnInode hart n guard s × LoadFits hart s load
+
+-- its lock isn't that of this inode
+unfoldable pub TakeApart : ℕ → TakeInode → Type 0
+TakeApart k (taking.Lock inodestart n) = Unit {0}
+TakeApart k (taking.Loading n guard load) = k ≢ n
 
 -- the inode of what is held
 abbrev pub inode_in : Held → Inode

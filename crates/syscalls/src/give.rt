@@ -1,15 +1,16 @@
 //! An inode given up.
-ghost use Rattle.std.specs.Prelude.{◌≡◌, ℕ};
+ghost use Rattle.std.specs.Prelude.{◌≡◌, ◌≢◌, ℕ};
 ghost use Rattle.atomic_programs.specs.Machines.{Still, Left as LeftOf};
 ghost use Rattle.fs_machine.specs.Steps.{State, state_of};
 ghost use Rattle.fs_machine.specs.Machines.{MayNext, Moves, Answers, CallsOnce};
-ghost use Rattle.fs_machine.specs.Tied.{LeavesTied};
+ghost use Rattle.fs_machine.specs.Tied.{IsOwnInode, LeavesTied};
+ghost use Rattle.fs_machine.specs.Stays.{LeavesApart};
 ghost use Rattle.inode_data.specs.Freeing.{drop_reference};
 ghost use Rattle.inode_data.specs.Machines.{ends_within};
 ghost use Rattle.file_table.specs.Machines.{IsEarly};
 ghost use Rattle.syscalls.specs.Parts.{give_up};
 ghost use Rattle.syscalls.specs.Taking.{inode_in, IsHeld};
-ghost use Rattle.syscalls.specs.Ends.{give_of, GiveFits};
+ghost use Rattle.syscalls.specs.Ends.{give_of, GiveApart, GiveFits};
 ghost use Rattle.syscalls.specs.declared.give.GiveUp.TheVariants as giving;
 
 use crate::take::Held;
@@ -31,21 +32,23 @@ pub enum GiveUp {
 
 impl GiveUp {
     /// This inode, on a disk with this superblock.
-    #[tactic(auto, unfolding(crate::specs::Ends::give_of, crate::specs::Ends::GiveFits))]
+    #[tactic(auto, unfolding(crate::specs::Ends::give_of, crate::specs::Ends::GiveFits, crate::specs::Ends::GiveApart))]
     pub fn new(held: Held, sizes: &Super) -> GiveUp
         requires { IsEarly sizes.now.inodestart }
         ensures program { give_of result ≡ give_up sizes.now (inode_in held) }
         ensures fits { (hart : ℕ) (s : State) → IsHeld hart held s → GiveFits hart s result }
+        ensures apart { (k : ℕ) → k ≢ held.reference → GiveApart k result }
     {
         GiveUp::Unlock(*sizes, held)
     }
 
     /// This reference alone: its inode's lock isn't in hand.
-    #[tactic(auto, unfolding(crate::specs::Ends::give_of, crate::specs::Ends::GiveFits))]
+    #[tactic(auto, unfolding(crate::specs::Ends::give_of, crate::specs::Ends::GiveFits, crate::specs::Ends::GiveApart))]
     pub fn drop_alone(reference: Reference, sizes: &Super) -> GiveUp
         requires { IsEarly sizes.now.inodestart }
         ensures program { give_of result ≡ drop_reference sizes.now reference }
         ensures fits { (hart : ℕ) (s : State) → GiveFits hart s result }
+        ensures apart { (k : ℕ) → GiveApart k result }
     {
         GiveUp::Dropping(DropReference::new(reference, sizes))
     }
@@ -68,6 +71,7 @@ impl GiveUp {
         ensures fits { LeftOf (GiveFits hart (state_of D.contents D.failures core.new)) (λ _. Unit {0}) result }
         ensures others { LeavesTied hart (state_of D.contents D.failures core.old) (state_of D.contents D.failures core.new) }
         ensures called { CallsOnce D.Called core.old.log.cache.device core.new.log.cache.device }
+        ensures rest { LeavesApart GiveApart (λ _ _. Unit {0}) (IsOwnInode hart) self result (state_of D.contents D.failures core.old) (state_of D.contents D.failures core.new) }
     {
         match self {
             GiveUp::Unlock(sizes, held) => {

@@ -1,12 +1,13 @@
 //! An inode taken: its lock is had, and it is loaded.
-ghost use Rattle.std.specs.Prelude.{◌≡◌, ℕ};
+ghost use Rattle.std.specs.Prelude.{◌≡◌, ◌≢◌, ℕ};
 ghost use Rattle.atomic_programs.specs.Machines.{Still, Left as LeftOf};
 ghost use Rattle.fs_machine.specs.Steps.{State, state_of};
 ghost use Rattle.fs_machine.specs.Machines.{MayNext, Moves, Answers, CallsOnce};
-ghost use Rattle.fs_machine.specs.Tied.{LeavesTied};
+ghost use Rattle.fs_machine.specs.Tied.{IsOwnInode, LeavesTied};
+ghost use Rattle.fs_machine.specs.Stays.{LeavesApart};
 ghost use Rattle.file_table.specs.Machines.{IsEarly};
 ghost use Rattle.syscalls.specs.Parts.{take_inode};
-ghost use Rattle.syscalls.specs.Taking.{take_of, TakeFits, inode_in, IsHeld, in_take};
+ghost use Rattle.syscalls.specs.Taking.{take_of, TakeApart, TakeFits, inode_in, IsHeld, in_take};
 
 use atomic_programs::machines::Stepped;
 use block_device::Device;
@@ -41,11 +42,12 @@ pub enum TakeInode {
 
 impl TakeInode {
     /// The inode of this reference, on a disk whose inode blocks begin at block `inodestart`.
-    #[tactic(auto, unfolding(crate::specs::Taking::take_of, crate::specs::Taking::TakeFits))]
+    #[tactic(auto, unfolding(crate::specs::Taking::take_of, crate::specs::Taking::TakeFits, crate::specs::Taking::TakeApart))]
     pub fn new(inodestart: u32, reference: Reference) -> TakeInode
         requires { IsEarly inodestart }
         ensures program { take_of result ≡ take_inode inodestart reference }
         ensures fits { (hart : ℕ) (s : State) → TakeFits hart s result }
+        ensures apart { (k : ℕ) → TakeApart k result }
     {
         TakeInode::Lock(inodestart, reference)
     }
@@ -61,6 +63,7 @@ impl TakeInode {
         ensures fits { LeftOf (TakeFits hart (state_of D.contents D.failures core.new)) (λ held. IsHeld hart held (state_of D.contents D.failures core.new)) result }
         ensures others { LeavesTied hart (state_of D.contents D.failures core.old) (state_of D.contents D.failures core.new) }
         ensures called { CallsOnce D.Called core.old.log.cache.device core.new.log.cache.device }
+        ensures rest { LeavesApart TakeApart (λ k held. k ≢ held.reference) (IsOwnInode hart) self result (state_of D.contents D.failures core.old) (state_of D.contents D.failures core.new) }
     {
         match self {
             TakeInode::Lock(inodestart, reference) => match core.lock(hart, &reference) {
