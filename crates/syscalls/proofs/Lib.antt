@@ -8,3 +8,4 @@ pub mod Installing
 pub mod Joining
 mod Pieces
 pub mod Seeks
+pub mod Makings

@@ -12,3 +12,4 @@ pub mod Opens
 pub mod Chdirs
 pub mod Writing
 pub mod Seeking
+pub mod Making
