@@ -16,7 +16,7 @@ use Rattle.inode_machine.specs.World.{Mine, World, Entry}
 use Rattle.inode_machine.specs.Marks.{with_mark}
 use Rattle.inode_machine.specs.Exec.{lock_if, blank, counted_down, down_if, file_count, is_dead, locked, unlocked}
 use Rattle.inode_machine.specs.World.Mark.{Frees}
-use Rattle.inode_machine.specs.World.Op.{Take, Give, Down, Free}
+use Rattle.inode_machine.specs.World.Op.{Take, Give, Down, Free, Forget}
 use Rattle.inode_machine.specs.Rules.{shop_of, own_names, Held, view, is_hart, if_kept, own_of, Pinned, Reached, IsAlone, Inv, IsOut, machine, looking_cost, number_is, Sought}
 use Rattle.tree_laws.proofs.Sums.{sum_part, one_yes}
 use Rattle.tree_laws.specs.WellFormed.{one_if}
@@ -356,27 +356,21 @@ s-give-alone {A} {h} {i} {x} {k} {B} {Q} {n} {es} {w} {O} owns free lt pos isi h
       desk = ap (λ (o : Own). o.desk) ov z;
     }
 
-and_none : (b : Bool) (o : Option Node) → o ≡ None → (b && is_dead o) ≡ false
-and_none true o e = ap (λ (z : Option Node). is_dead z) e
-and_none false o e = refl
-
 -- The last reference to an inode that was freed is counted down: its number is anybody's.
-pub s-down-freed : {A : Type 0} {h i : ℕ} {x : Held} {k : Bool → P machine A} {B : List Step → Type 0} {Q : A → List Step → World → Type 0} {n : ℕ} {es : List Step} {w : World} {O : Own}
+pub s-forget : {A : Type 0} {h i : ℕ} {x : Held} {k : Unit {0} → P machine A} {B : List Step → Type 0} {Q : A → List Step → World → Type 0} {n : ℕ} {es : List Step} {w : World} {O : Own}
     → own_of h w ≡ O → O.desk.lender ≡ None → h < hart_count → 0 < n → O.inodes i ≡ Some x → x.alone ≡ true → x.locked ≡ false → x.disk ≡ None → x.node ≡ None → O.mine.refs i ≡ 1 → O.mine.pending ≡ None
     → own_names O.row O.desk i ≡ false → ((y : Walk) → O.mine.walk ≡ Some y → y.at ≢ i)
-    → ((l : ℕ) (u : World) → l + 1 ≡ n → own_of h u ≡ record O { inodes = put O.inodes i None; mine = record { refs = put O.mine.refs i (O.mine.refs i - 1); walk = O.mine.walk; pending = O.mine.pending } } → Safe machine h B Q (k false) l es u)
-    → Safe machine h B Q (Do (Down i) unmarked k) n es w
-s-down-freed {A} {h} {i} {x} {k} {B} {Q} {n} {es} {w} {O} owns free lt pos isi lone out blank gone one none unnamed unwalked rest = s-owned owns free pos (λ v inv ov. (
-  (spares h i v O ov (omega (arith, one)) (inr (not_home h i v O O.desk.opening inv ov free lt unnamed)), not_out v ov),
-  (λ _ _.
-      subst (λ (b : Bool). Good machine Bool h (λ a. []) 0 n B es v ⊥ (with_mark h unmarked (down_if h i v b)) (λ l a u. Wp machine h B Q (k a) l es u)) (sym (and_none (v.refs i == 1) (v.disk i) (has_disk h i v O x ov isi ∙ blank)))
-      (good v inv ov)),
+    → ((l : ℕ) (u : World) → l + 1 ≡ n → own_of h u ≡ record O { inodes = put O.inodes i None; mine = record { refs = put O.mine.refs i (O.mine.refs i - 1); walk = O.mine.walk; pending = O.mine.pending } } → Safe machine h B Q (k tt) l es u)
+    → Safe machine h B Q (Do (Forget i) unmarked k) n es w
+s-forget {A} {h} {i} {x} {k} {B} {Q} {n} {es} {w} {O} owns free lt pos isi lone out blank gone one none unnamed unwalked rest = s-owned owns free pos (λ v inv ov. (
+  (spares h i v O ov (omega (arith, one)) (inr (not_home h i v O O.desk.opening inv ov free lt unnamed)), not_out v ov, ((has_inode h i v O x ov isi).0, has_disk h i v O x ov isi ∙ blank)),
+  (λ _ _. good v inv ov),
 ))
   where
     not_out : (v : World) → own_of h v ≡ O → v.lock i ≢ Some h
     not_out v ov e = let m = is_me h (v.lock i) e in let l : is_hart (v.lock i) h ≡ false = ap (λ (y : Held). y.locked) (has_inode h i v O x ov isi).1 ∙ out in cc (m, l)
 
-    good : (v : World) → Inv v → own_of h v ≡ O → Good machine Bool h (λ a. []) 0 n B es v ⊥ (with_mark h unmarked (down_if h i v false)) (λ l a u. Wp machine h B Q (k a) l es u)
+    good : (v : World) → Inv v → own_of h v ≡ O → Fine machine h [] 0 n B es v (counted_down h i v) (λ l. Wp machine h B Q (k tt) l es (counted_down h i v))
     good v inv ov = quiet (fair inv did) (λ z. record { tree = settle v.all; walk = walks_refs v.harts h i ((v.harts h).refs i - 1) z }) pos (λ l q. (rest l u q owned).wp)
       where
         u : World
@@ -504,8 +498,8 @@ s-down-freed {A} {h} {i} {x} {k} {B} {Q} {n} {es} {w} {O} owns free lt pos isi l
 pub s-free-all : {A : Type 0} {h i : ℕ} (s : Option Node) {k : P machine A} {B : List Step → Type 0} {Q : A → List Step → World → Type 0} {n : ℕ} {es : List Step} {w : World} {O : Own}
     → own_of h w ≡ O → O.desk.lender ≡ None → h < hart_count → 902 < n → O.desk.joined ≡ true → O.inodes i ≡ Some (record { disk = s; node = s; alone = true; locked = true }) → O.mine.refs i ≡ 1 → O.mine.pending ≡ None → own_names O.row O.desk i ≡ false → O.mine.walk ≡ None
     → ((l : ℕ) (u : World) → l + 903 ≡ n → own_of h u ≡ record O { inodes = put (put (put O.inodes i (Some (record { disk = None; node = None; alone = true; locked = true }))) i (Some (record { disk = None; node = None; alone = true; locked = false }))) i None; mine = record { refs = put O.mine.refs i (O.mine.refs i - 1); walk = O.mine.walk; pending = O.mine.pending } } → Safe machine h B Q k l es u)
-    → Safe machine h B Q (Do (Free i) (λ _. Some (Frees i)) (λ _. Do (Give i) unmarked (λ _. Do (Down i) unmarked (λ _. k)))) n es w
+    → Safe machine h B Q (Do (Free i) (λ _. Some (Frees i)) (λ _. Do (Give i) unmarked (λ _. Do (Forget i) unmarked (λ _. k)))) n es w
 s-free-all {h = h} {i = i} s {O = O} owns free lt few joined isi one none unnamed still rest =
     s-free owns free lt (omega arith) joined isi refl refl unnamed none (λ l2 u2 q2 own2.
     s-give-alone own2 free lt (omega arith) (put_same _ i (Some (record { disk = None; node = None; alone = true; locked = true }))) refl refl (λ l3 u3 q3 own3.
-    s-down-freed own3 free lt (omega arith) (put_same _ i (Some (record { disk = None; node = None; alone = true; locked = false }))) refl refl refl refl one none unnamed (λ y is. absurd (cc (is, still))) (λ l4 u4 q4 own4. rest l4 u4 (omega arith) own4)))
+    s-forget own3 free lt (omega arith) (put_same _ i (Some (record { disk = None; node = None; alone = true; locked = false }))) refl refl refl refl one none unnamed (λ y is. absurd (cc (is, still))) (λ l4 u4 q4 own4. rest l4 u4 (omega arith) own4)))

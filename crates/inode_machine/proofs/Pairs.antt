@@ -23,7 +23,7 @@ use Rattle.inode_machine.specs.Theory.{covered_calls}
 use Rattle.inode_machine.proofs.Frame.{has_inode}
 use Rattle.inode_machine.proofs.Rules.{s-owned, quiet, my_refs, has_disk}
 use Rattle.inode_machine.proofs.Counting.{not_home, spares}
-use Rattle.inode_machine.proofs.Freeing.{locking_kept, s-free, s-give-alone, s-down-freed}
+use Rattle.inode_machine.proofs.Freeing.{locking_kept, s-free, s-give-alone, s-forget}
 use Rattle.inode_machine.proofs.Listing.{times, one_at, one_else}
 use Rattle.inode_machine.proofs.Walks.{Stays, names_stay, stays_same}
 use Rattle.inode_machine.proofs.Claiming.{s-store}
@@ -145,7 +145,7 @@ s-unmake h c r {base} {ns} {O0} {d} {i} {x} {z} y n es w O lt joins owns few p w
     s-down-kept (with_count 0 y) own2 free lt (omega (arith, few, q1, q2)) (put_same (put O.inodes i (Some y1)) i (Some y2)) lone refl refl refl one unnamed (λ l3 u3 q3 own3.
     s-free own3 free lt (omega (arith, few, q1, q2, q3)) joined (put_same (put (put O.inodes i (Some y1)) i (Some y2)) i (Some y3)) refl lone unnamed none (λ l4 u4 q4 own4.
     s-give-alone own4 free lt (omega (arith, few, q1, q2, q3, q4)) (put_same _ i (Some y4)) refl lone (λ l5 u5 q5 own5.
-    s-down-freed own5 free lt (omega (arith, few, q1, q2, q3, q4, q5)) (put_same _ i (Some y5)) lone refl refl refl one none unnamed (λ k is. absurd (cc (is, walk))) (λ l6 u6 q6 own6.
+    s-forget own5 free lt (omega (arith, few, q1, q2, q3, q4, q5)) (put_same _ i (Some y5)) lone refl refl refl one none unnamed (λ k is. absurd (cc (is, walk))) (λ l6 u6 q6 own6.
     s-give-end h c r ns (put p.extra i None) d l6 es u6 R lt joins own6 (omega (arith, few, q1, q2, q3, q4, q5, q6)) freed
     (put_other p.extra i None d (λ e. p.apart (sym e)) ∙ p.at_d) whole (λ j nd. elim (same_or j i) [ inl e ↦ ap (put p.extra i None) e ∙ put_same p.extra i None | inr ni ↦ put_other p.extra i None j ni ∙ p.others j nd ni ]) walk none told))))))
   where

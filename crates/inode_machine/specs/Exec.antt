@@ -14,7 +14,7 @@ use Rattle.atomic_programs.specs.Prog.{Did, Waits, Ran}
 use Rattle.inode_machine.specs.Inodes.{Sort, OfDirectory, OfFile, OfDevice, Face, face_of, face_or, seen_in, no_driver_for}
 use Rattle.tree_moves.specs.Moves.{Walk}
 use Rattle.inode_machine.specs.World.{Mine, Entry, Desk, World, Op, Answer, Claimed, New, NoInode, NoPlace, Entered, InPlace, NoBlock, NoSlot, Locking, NotLocked, LocksIt, Joining, NotJoined, Joined, Wrote, Whole, Refused, Short, Lending, Lent, Moved, Outside, Room, RoomFor, Picks}
-use Rattle.inode_machine.specs.World.Op.{Take, Give, UpStart, Up, WalkDown, Down, Free, Claim, Store, Fill, Enter, Clear, Empty, Slot, Install, StatFile, LockFile, ReadFile, CheckFile, JoinFile, LockOpen, WriteFile, Double, Shut, Settle, Lend, LendDirectory, Release, Join, Leave, Say}
+use Rattle.inode_machine.specs.World.Op.{Take, Give, UpStart, Up, WalkDown, Down, Free, Forget, Claim, Store, Fill, Enter, Clear, Empty, Slot, Install, StatFile, LockFile, ReadFile, CheckFile, JoinFile, LockOpen, WriteFile, Double, Shut, Settle, Lend, LendDirectory, Release, Join, Leave, Say}
 
 abbrev pub is_nothing : {A : Type 0} → Option A → Bool
 is_nothing None = true
@@ -401,6 +401,7 @@ exec h x (Up n) w = up_if h n w (has_place w n)
 exec h x (WalkDown n) w = walk_down_if h n w (is_last w n)
 exec h x (Down n) w = down_if h n w (is_last w n)
 exec h x (Free n) w = Ran tt (with_record w n None)
+exec h x (Forget n) w = Ran tt (counted_down h n w)
 exec h x (Claim sort) w = claim_if h sort w x
 exec h x (Store n count) w = Ran tt (changed_record w n (with_count count))
 exec h x (Fill n d) w = fill_if n d w x

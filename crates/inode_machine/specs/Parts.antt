@@ -14,7 +14,7 @@ use Rattle.inode_machine.specs.Inodes.{Seen, AtNothing, AtName, is_live_face, is
 use Rattle.tree_moves.specs.Moves.{Move}
 use Rattle.tree_moves.specs.Moves.Move.{Begin, Look, Quit, Own}
 use Rattle.inode_machine.specs.World.{Op, Answer, Mark}
-use Rattle.inode_machine.specs.World.Op.{Take, Give, UpStart, Up, WalkDown, Down, Free, Join, Leave, Say}
+use Rattle.inode_machine.specs.World.Op.{Take, Give, UpStart, Up, WalkDown, Down, Free, Forget, Join, Leave, Say}
 use Rattle.inode_machine.specs.World.Mark.{Makes, Frees, Mends}
 
 abbrev pub P : Type 0 → Type 0
@@ -48,7 +48,7 @@ say r = Do Say unmarked (λ _. Ret r)
 
 -- A reference is dropped. The last one to an inode without links frees it: its lock is taken in place of the count.
 abbrev pub drop : {A : Type 0} → ℕ → P A → P A
-drop n k = Do (Down n) unmarked (λ last. if last then Do (Free n) (λ _. Some (Frees n)) (λ _. Do (Give n) unmarked (λ _. Do (Down n) unmarked (λ _. k))) else k)
+drop n k = Do (Down n) unmarked (λ last. if last then Do (Free n) (λ _. Some (Frees n)) (λ _. Do (Give n) unmarked (λ _. Do (Forget n) unmarked (λ _. k))) else k)
 
 abbrev pub give_up : {A : Type 0} → ℕ → P A → P A
 give_up n k = Do (Give n) unmarked (λ _. drop n k)
@@ -56,7 +56,7 @@ give_up n k = Do (Give n) unmarked (λ _. drop n k)
 -- The call's transaction is left; then each inode of its list is freed in one of its own; then comes the reply.
 
 abbrev pub free_listed : {A : Type 0} → ℕ → P A → P A
-free_listed n k = Do Join unmarked (λ _. Do (Take n AtNothing) unmarked (λ _. Do (Free n) (λ _. Some (Frees n)) (λ _. Do (Give n) unmarked (λ _. Do (Down n) unmarked (λ _. Do Leave unmarked (λ _. k))))))
+free_listed n k = Do Join unmarked (λ _. Do (Take n AtNothing) unmarked (λ _. Do (Free n) (λ _. Some (Frees n)) (λ _. Do (Give n) unmarked (λ _. Do (Forget n) unmarked (λ _. Do Leave unmarked (λ _. k))))))
 
 abbrev pub free_all : {A : Type 0} → List ℕ → P A → P A
 free_all [] k = k

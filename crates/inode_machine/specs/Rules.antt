@@ -14,7 +14,7 @@ use Rattle.tree_moves.specs.Moves.{Stage, Step, Takes}
 use Rattle.inode_machine.specs.Inodes.{OfDirectory, sort_of, Looking}
 use Rattle.inode_machine.specs.Inodes.Looking.{AtNothing, AtName, AtEntries}
 use Rattle.inode_machine.specs.World.{Mine, Entry, Note, Desk, World, Op, Answer, Mark, Outside, stage_of}
-use Rattle.inode_machine.specs.World.Op.{Take, Give, UpStart, Up, WalkDown, Down, Free, Claim, Store, Fill, Enter, Clear, Empty, Slot, Install, StatFile, LockFile, ReadFile, CheckFile, JoinFile, LockOpen, WriteFile, Double, Shut, Settle, Lend, LendDirectory, Release, Join, Leave, Say}
+use Rattle.inode_machine.specs.World.Op.{Take, Give, UpStart, Up, WalkDown, Down, Free, Forget, Claim, Store, Fill, Enter, Clear, Empty, Slot, Install, StatFile, LockFile, ReadFile, CheckFile, JoinFile, LockOpen, WriteFile, Double, Shut, Settle, Lend, LendDirectory, Release, Join, Leave, Say}
 use Rattle.inode_machine.specs.World.Outside.{Room, RoomFor, Picks}
 use Rattle.inode_machine.specs.Exec.{file_count, is_at, is_free, entry_of, read_refused, next_used, child_of, given_of}
 use Rattle.inode_machine.specs.Marks.{go, places}
@@ -283,6 +283,7 @@ Sought AtEntries = Unit {0}
 
 -- What an operation asks. Who locks an inode refers to it, and hasn't locked it, and where its lock is free it has a record, and what is looked for in it is a
 -- name; who refers to one more has found it in a directory that it keeps; who gives a reference up, to none or to a table, has one besides its current directory's;
+-- who forgets an inode has freed it, and keeps it;
 -- who changes an inode has its lock and has joined; who joins, leaves, opens by a descriptor or replies has no lock; who hands a descriptor on has handed on none
 -- from there, and where it has none hands the directory on at once; who hands that on, or lets a child go, has no descriptor on its way.
 -- A record is changed that is there, and of the operation's kind; as much is read as a call may ask for, of the inode that its descriptor has, and a piece is
@@ -336,6 +337,10 @@ pub record Writes (h fd n : ℕ) (w : World) : Type 0 where
   pub number : entry.file.number ≡ n
   pub writable : entry.file.writable ≡ true
 
+-- it has freed the inode, and nobody else can reach that
+abbrev pub HasFreed : ℕ → ℕ → World → Type 0
+HasFreed h n w = (w.keeper n ≡ Some h) × (w.disk n ≡ None)
+
 abbrev pub Asks : ℕ → Op → World → Type 0
 Asks h (Take n looking) w = Refers h n w × (w.lock n ≡ None → w.disk n ≢ None) × Sought looking
 Asks h (Give n) w = Locks h n w
@@ -344,6 +349,7 @@ Asks h (Up n) w = Found w.keeper w.all.nodes h n
 Asks h (WalkDown n) w = Spares h n w × (w.lock n ≢ Some h)
 Asks h (Down n) w = Spares h n w × (w.lock n ≢ Some h)
 Asks h (Free n) w = Changes h n w
+Asks h (Forget n) w = Spares h n w × (w.lock n ≢ Some h) × HasFreed h n w
 Asks h (Claim sort) w = (w.desks h).joined ≡ true
 Asks h (Store n count) w = Changes h n w × HasRecord n w (λ v. (count ≤ count_limit) ⊎ (count ≤ v.count))
 Asks h (Fill n d) w = Changes h n w × HasRecord n w (λ v. v.kind ≡ Directory []) × IsNumber d w

@@ -73,8 +73,9 @@ pub data Op : Type 0 where
   -- a reference less. The last one to an inode without links stays: in a walk it goes on the call's list, else its lock is taken to free it
   WalkDown : ℕ → Op
   Down : ℕ → Op
-  -- an inode without links or references but this one is emptied and has no type
+  -- an inode without links or references but this one is emptied and has no type; and then that reference goes
   Free : ℕ → Op
+  Forget : ℕ → Op
   -- an inode of this type, that nobody refers to
   Claim : Sort → Op
   -- an inode's count
@@ -154,6 +155,7 @@ Answer (Up n) = Bool
 Answer (WalkDown n) = Bool
 Answer (Down n) = Bool
 Answer (Free n) = Unit {0}
+Answer (Forget n) = Unit {0}
 Answer (Claim sort) = Claimed
 Answer (Store n count) = Unit {0}
 Answer (Fill n d) = Bool

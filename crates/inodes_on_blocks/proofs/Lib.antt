@@ -8,7 +8,7 @@ pub mod TableSteps
 pub mod SlotSteps
 pub mod Owed
 pub mod CountSteps
-pub mod FreedSteps
+pub mod ForgetSteps
 pub mod LendSteps
 pub mod JoinSteps
 pub mod JoinFileSteps

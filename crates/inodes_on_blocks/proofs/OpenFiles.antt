@@ -1,14 +1,13 @@
 -- The open file by which a hart has locked an inode: it is behind its descriptor still, with its offset.
-use Rattle.std.proofs.Common.{◌≡◌, ◌≢◌, inl, inr, ℕ, ◌<◌, Option, Some, None, refl, sym, ◌∙◌, ap, subst}
-use Rattle.std.proofs.lemmas.Option.{none-some}
+use Rattle.std.proofs.Common.{◌≡◌, ℕ, ◌<◌, Some, None, refl, ◌∙◌, ap}
 use Rattle.plain_tree.specs.declared.tree.OpenFile.{OpenFile}
 use Rattle.plain_tree.specs.Tree.{put}
-use Rattle.plain_tree.specs.Widths.{hart_count, descriptor_count}
+use Rattle.plain_tree.specs.Widths.{descriptor_count}
 use Rattle.tree_laws.proofs.Maps.{put_same}
 use Rattle.inode_machine.specs.World as above
 use Rattle.inode_machine.specs.World.{Desk, Entry}
-use Rattle.inode_machine.specs.Rules.{Own, own_of, Idle}
-use Rattle.inodes_on_blocks.specs.Lowering.{Kept, Learned, NothingMore, Finds, Opened, Had, Apart, Has, Emptied, HasOpen, IsOpened}
+use Rattle.inode_machine.specs.Rules.{Own}
+use Rattle.inodes_on_blocks.specs.Lowering.{Kept, NothingMore, Finds, Opened, Had, Apart, Has, Emptied, IsOpened}
 
 -- A descriptor of hart h that has inode i open has it open still, by the same file.
 abbrev pub OpenStays : ℕ → ℕ → above.World → above.World → Type 0

@@ -28,7 +28,7 @@ use Rattle.inodes_on_tables.proofs.Named.{directories_are_settled}
 use Rattle.inodes_on_blocks.specs.Below.{World, log_of, tables_of, disk_of, inode_in}
 use Rattle.inodes_on_blocks.specs.Shown.{Shows}
 use Rattle.inodes_on_blocks.specs.Lowering.{Had, Apart, Has, Emptied, Carry, record_had, IsLoaded, InHand, Base, Labels, labelled, Keeps}
-use Rattle.inodes_on_blocks.specs.Handlers.{after_give, give, settle}
+use Rattle.inodes_on_blocks.specs.Handlers.{give, settle}
 use Rattle.inodes_on_blocks.specs.Acting.{ActsOnce}
 use Rattle.inodes_on_blocks.proofs.Layer.{tables_left}
 use Rattle.inodes_on_blocks.proofs.Owed.{fewer_owed}
@@ -70,7 +70,7 @@ module _ (l : Labels) (laws : Laws (labelled l)) (keeps : Keeps l) (h : ℕ) (lt
     pub opens : (i : ℕ) → i ≢ n → OpenStays h i g u
 
   pub given_came : (op : above.Op) (n : ℕ) (v : W) (c : Carry) (b : above.Answer op) (t : TablesState) (u : above.World) → Shows v.real v.seen → Base h v.real v.seen c → v.seen.lock n ≡ Some h → (v.seen.desks h).lender ≡ None
-      → above_exec.exec h above.Room op v.seen ≡ Ran b u → tables.Shows t u (put (loaded (tables_of v.real)) n (record_had (c n))) → GivesBack n v.seen u → Came l laws keeps h op v b (with_tables v.real t) (put c n (after_give (c n)))
+      → above_exec.exec h above.Room op v.seen ≡ Ran b u → tables.Shows t u (put (loaded (tables_of v.real)) n (record_had (c n))) → GivesBack n v.seen u → Came l laws keeps h op v b (with_tables v.real t) (put c n Apart)
   given_came op n v c b t u shows base mine free ran after s = record {
     then_ = u;
     ran = ran;
@@ -99,12 +99,12 @@ module _ (l : Labels) (laws : Laws (labelled l)) (keeps : Keeps l) (h : ℕ) (lt
           | inl q ↦ inr (ours_some h (v.seen.lock i) (ap v.seen.lock q ∙ mine), ours_none h (u.lock i) (freed i q))
           | inr ne ↦ inl (unfreed i ne)
         ]);
-    base = base_then h lt v.real v.seen shows c (put c n (after_give (c n))) t u (put load n (record_had (c n))) base after (s.lender ∙ free)
+    base = base_then h lt v.real v.seen shows c (put c n Apart) t u (put load n (record_had (c n))) base after (s.lender ∙ free)
         (λ i e. elim (same_or i n) [
           | inl q ↦ absurd (none-some h (sym (freed i q) ∙ e))
           | inr ne ↦
               let was : v.seen.lock i ≡ Some h = sym (unfreed i ne) ∙ e in
-              inl (was, s.keeper i ne ∙ (base.inodes i (sym (shows.tables.places.holders i) ∙ was)).keeps, (λ z. s.disk z i), put_other c n (after_give (c n)) i ne, s.opens i ne)
+              inl (was, s.keeper i ne ∙ (base.inodes i (sym (shows.tables.places.holders i) ∙ was)).keeps, (λ z. s.disk z i), put_other c n Apart i ne, s.opens i ne)
         ]);
   }
     where
@@ -131,7 +131,7 @@ module _ (l : Labels) (laws : Laws (labelled l)) (keeps : Keeps l) (h : ℕ) (lt
   pub give_acts : (n : ℕ) (m : Unit {0} → Option above.Mark) → ActsOnce l h (Give n) m (give n)
   unfolding steps.exec premises.May
   give_acts n m =
-      one_step l laws keeps h (Give n) m (λ c. steps.Unlock (record { number = n; content = record_had (c n) }) None) (λ c a. tt) (λ c a. put c n (after_give (c n))) (λ v. tt)
+      one_step l laws keeps h (Give n) m (λ c. steps.Unlock (record { number = n; content = record_had (c n) }) None) (λ c a. tt) (λ c a. put c n Apart) (λ v. tt)
       (λ v c shows inv base may. (
         (sym (shows.tables.places.holders n) ∙ may.1, tt),
         λ x t.
@@ -148,7 +148,7 @@ module _ (l : Labels) (laws : Laws (labelled l)) (keeps : Keeps l) (h : ℕ) (lt
   pub settle_acts : (n : ℕ) (m : ℕ → Option above.Mark) → ActsOnce l h (Settle n) m (settle n)
   unfolding steps.exec premises.May settle_inode
   settle_acts n m =
-      one_step l laws keeps h (Settle n) m (λ c. steps.Settle (record { number = n; content = record_had (c n) })) (λ c a. a) (λ c a. put c n (after_give (c n))) (λ v. tt)
+      one_step l laws keeps h (Settle n) m (λ c. steps.Settle (record { number = n; content = record_had (c n) })) (λ c a. a) (λ c a. put c n Apart) (λ v. tt)
       (λ v c shows inv base may.
       let both = directories_are_settled h (record { number = n; content = record_had (c n) }) (tables_of v.real) v.seen (loaded (tables_of v.real)) shows.tables (record { below = lt; free = may.0 }) may.1.0 in (
         (lt, sym (shows.tables.places.holders n) ∙ may.1.0, fewer_owed n (tables_of v.real) v.seen (loaded (tables_of v.real)) shows.tables inv h lt may.1.1),

@@ -1,5 +1,5 @@
 -- An operation's program below acts at one moment, alone of all operations' programs.
-use Rattle.std.specs.Prelude.{◌≡◌, ℕ, suc, ◌<◌, List, [], ◌∷◌, Option, Some, None}
+use Rattle.std.specs.Prelude.{◌≡◌, ℕ, suc, ◌<◌, List, [], ◌∷◌, Option}
 use Rattle.fs_layout.specs.declared.superblock.Super.{Super}
 use Rattle.plain_tree.specs.Widths.{hart_count}
 use Rattle.atomic_programs.specs.Logic.{Machine, Wp}
@@ -56,17 +56,6 @@ DoesItAt sizes op p =
     (h : ℕ) (m : above.Answer op → Option above.Mark) (c : Carry) (w : Both World above.World) → h < hart_count
     → Wp whole h (IsDone op) (Answers op) (once op m) (suc (more op)) [] w.seen → Stands sizes h w.real w.seen c
     → Wp (joined whole (below sizes)) h (IsDone op) (Below whole (below sizes) h (Answers op)) (p c m) (suc (more op)) [] w
-
--- the same where this is known of the world above, as the hart has it
-abbrev pub DoesItWhere : (ℕ → above.World → Type 0) → (op : above.Op) → Handler op → Type 0
-DoesItWhere Known op p =
-    (sizes : Super) (h : ℕ) (m : above.Answer op → Option above.Mark) (c : Carry) (w : Both World above.World) → h < hart_count → Known h w.seen
-    → Wp whole h (IsDone op) (Answers op) (once op m) (suc (more op)) [] w.seen → Stands sizes h w.real w.seen c
-    → Wp (joined whole (below sizes)) h (IsDone op) (Below whole (below sizes) h (Answers op)) (p c m) (suc (more op)) [] w
-
--- the hart has freed this inode, and nobody else can reach it
-abbrev pub HasFreed : ℕ → ℕ → above.World → Type 0
-HasFreed n h w = (w.keeper n ≡ Some h) × (w.disk n ≡ None)
 
 abbrev pub DoesIt : (op : above.Op) → Handler op → Type 0
 DoesIt op p = (sizes : Super) → DoesItAt sizes op p

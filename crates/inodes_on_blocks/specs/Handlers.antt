@@ -24,9 +24,9 @@ use Rattle.fs_machine.specs.Steps.{Whom, Number, Directory, Held, Walked, Freed}
 use Rattle.inode_machine.specs.Inodes.{Sort}
 use Rattle.inode_machine.specs.World as above
 use Rattle.inode_machine.specs.World.{Lending, Lent, Moved}
-use Rattle.inode_machine.specs.World.Op.{Give, UpStart, Up, WalkDown, Down, Slot, Install, CheckFile, JoinFile, Double, Shut, Settle, Lend, LendDirectory, Release, Join, Leave, Say}
+use Rattle.inode_machine.specs.World.Op.{Give, UpStart, Up, WalkDown, Down, Forget, Slot, Install, CheckFile, JoinFile, Double, Shut, Settle, Lend, LendDirectory, Release, Join, Leave, Say}
 use Rattle.inodes_on_tables.specs.Shown.{new_file}
-use Rattle.inodes_on_blocks.specs.Lowering.{NothingMore, Had, Apart, Has, Emptied, Carry, record_had}
+use Rattle.inodes_on_blocks.specs.Lowering.{NothingMore, Had, Apart, Has, Carry, record_had}
 
 abbrev pub Acts : Type 0
 Acts = Act above.Op above.Answer above.Mark above.Outside
@@ -56,12 +56,6 @@ is_kept (Dies n d) = true
 abbrev pub had_of : Option Dinode → Had
 had_of None = Apart
 had_of (Some d) = Has d NothingMore
-
--- what is left of it where the lock goes: that it was freed
-abbrev pub after_give : Had → Had
-after_give Apart = Apart
-after_give (Has d l) = Apart
-after_give Emptied = Emptied
 
 -- the lock of an inode that is to be freed came into hand
 abbrev pub with_dying : Carry → DroppedState → Carry
@@ -106,10 +100,10 @@ joining_to (steps.Joins n) = above.Joined n
 
 -- the lock goes back with the inode's record
 abbrev pub give : (n : ℕ) → Handler (Give n)
-give n c m = one (Give n) m (steps.Unlock (record { number = n; content = record_had (c n) }) None) (λ a. tt) (λ a. put c n (after_give (c n)))
+give n c m = one (Give n) m (steps.Unlock (record { number = n; content = record_had (c n) }) None) (λ a. tt) (λ a. put c n Apart)
 
 abbrev pub settle : (n : ℕ) → Handler (Settle n)
-settle n c m = one (Settle n) m (steps.Settle (record { number = n; content = record_had (c n) })) (λ a. a) (λ a. put c n (after_give (c n)))
+settle n c m = one (Settle n) m (steps.Settle (record { number = n; content = record_had (c n) })) (λ a. a) (λ a. put c n Apart)
 
 abbrev pub whom : Bool → Whom
 whom true = Number root
@@ -128,8 +122,8 @@ abbrev pub down : (n : ℕ) → Handler (Down n)
 down n c m = one (Down n) m (steps.Down (Held n)) is_kept (with_dying c)
 
 -- that to an inode that the hart has freed
-abbrev pub down_freed : (n : ℕ) → Handler (Down n)
-down_freed n c m = one (Down n) m (steps.Down (Freed n)) is_kept (λ a. c)
+abbrev pub forget : (n : ℕ) → Handler (Forget n)
+forget n c m = one (Forget n) m (steps.Down (Freed n)) (λ a. tt) (λ a. c)
 
 abbrev pub slot : Handler Slot
 slot c m = one Slot m steps.TakePlace (λ a. a) (λ a. c)

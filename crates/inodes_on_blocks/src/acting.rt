@@ -3,9 +3,9 @@
 ghost use Rattle.std.specs.Prelude.{ℕ, Bool};
 ghost use Rattle.plain_tree.specs.declared.tree.OpenFile.{OpenFile};
 ghost use Rattle.inode_machine.specs.Inodes.{Sort};
-ghost use Rattle.inode_machine.specs.World.Op.{Give, UpStart, Up, WalkDown, Down, Slot, Install, CheckFile, JoinFile, Double, Shut, Settle, Lend, LendDirectory, Release, Join, Leave, Say};
-ghost use Rattle.inodes_on_blocks.specs.Handlers.{give, settle, up_start, up, walk_down, down, down_freed, slot, install, double, close, check_file, lend, lend_directory, release, join, join_file, leave, say};
-ghost use Rattle.inodes_on_blocks.specs.Acting.{DoesIt, DoesItWhere, HasFreed};
+ghost use Rattle.inode_machine.specs.World.Op.{Give, UpStart, Up, WalkDown, Down, Forget, Slot, Install, CheckFile, JoinFile, Double, Shut, Settle, Lend, LendDirectory, Release, Join, Leave, Say};
+ghost use Rattle.inodes_on_blocks.specs.Handlers.{give, settle, up_start, up, walk_down, down, forget, slot, install, double, close, check_file, lend, lend_directory, release, join, join_file, leave, say};
+ghost use Rattle.inodes_on_blocks.specs.Acting.{DoesIt};
 
 /// A lock given back is one step, with the record that the hart has of the inode.
 pub fn gives_act_once()
@@ -37,9 +37,9 @@ pub fn downs_act_once()
     ensures { (n : ℕ) → DoesIt (Down n) (down n) }
 {}
 
-/// A reference less to an inode that the hart has freed is one step, which counts it down.
-pub fn freed_downs_act_once()
-    ensures { (n : ℕ) → DoesItWhere (HasFreed n) (Down n) (down_freed n) }
+/// The reference that is left to an inode that the hart has freed goes in one step.
+pub fn forgets_act_once()
+    ensures { (n : ℕ) → DoesIt (Forget n) (forget n) }
 {}
 
 /// A place taken for an open file is one step.
