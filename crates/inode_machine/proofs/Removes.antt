@@ -76,11 +76,11 @@ some_of : {o : Option ℕ} (c : ℕ) → o ≡ Some c → IsSome o
 some_of c e = rw e refl
 
 pub s-clear : {A : Type 0} {h : ℕ} (d c : ℕ) {x z : Held} (X Z : Node) (e : Name) (path : List ℕ) {k : Unit {0} → P machine A} {B : List Step → Type 0} {Q : A → List Step → World → Type 0} {n : ℕ} {es : List Step} {w : World} {O : Own}
-    → own_of h w ≡ O → O.desk.lender ≡ None → h < hart_count → 12 < n → O.desk.joined ≡ true → O.mine.walk ≡ Some (record { step = Unlink path; at = d; next = e; rest = [] }) → O.mine.pending ≡ None
+    → own_of h w ≡ O → O.desk.lender ≡ None → h < hart_count → 1620 < n → O.desk.joined ≡ true → O.mine.walk ≡ Some (record { step = Unlink path; at = d; next = e; rest = [] }) → O.mine.pending ≡ None
     → O.inodes d ≡ Some x → x.disk ≡ Some X → x.node ≡ Some X → x.alone ≡ false → x.locked ≡ true → live_directory (Some X) ≡ true → O.inodes c ≡ Some z → z.node ≡ Some Z → z.alone ≡ false → look (λ j. Some X) d e ≡ Some c
     → same_name e dot ≡ false → same_name e dotdot ≡ false → not_empty Z.kind ≡ None
     → B (told_step 0 (Unlink path) Done ∷ es)
-    → ((l : ℕ) (u : World) → l + 13 ≡ n → c ≢ d
+    → ((l : ℕ) (u : World) → l + 1621 ≡ n → c ≢ d
     → own_of h u ≡ record O { inodes = put (put O.inodes d (Some (record x { disk = Some (without_entry e X); node = Some (less X Z e) }))) c (Some (record z { node = Some (lowered Z) })); mine = record { refs = O.mine.refs; walk = None; pending = None } }
     → Safe machine h B Q (k tt) l (told_step 0 (Unlink path) Done ∷ es) u)
     → Safe machine h B Q (Do (Clear d e) (λ _. makes (Look 0)) k) n es w
@@ -90,11 +90,11 @@ s-clear {A} {h} d c {x} {z} X Z e path {k} {B} {Q} {n} {es} {w} {O} owns free lt
 ))
   where
     Goal : World → World → Type 0
-    Goal v u = Fine machine h (places h (Clear d e) tt (makes (Look 0)) v) 12 n B es v (marked h (makes (Look 0)) u) (λ l. Wp machine h B Q (k tt) l (onto (own h (places h (Clear d e) tt (makes (Look 0)) v)) es) (marked h (makes (Look 0)) u))
+    Goal v u = Fine machine h (places h (Clear d e) tt (makes (Look 0)) v) 1620 n B es v (marked h (makes (Look 0)) u) (λ l. Wp machine h B Q (k tt) l (onto (own h (places h (Clear d e) tt (makes (Look 0)) v)) es) (marked h (makes (Look 0)) u))
 
     good : (v : World) → Inv v → own_of h v ≡ O → Goal v (record v { disk = put v.disk d (Some (without_entry e X)) })
     good v inv ov =
-        act_good h 12 n B Q es v u1 (Unlink path) d 0 e (Some c) Done made (k tt) lt inv mine live_at look_is (λ g q. absurd cc)
+        act_good h 1620 n B Q es v u1 (Unlink path) d 0 e (Some c) Done made (k tt) lt inv mine live_at look_is (λ g q. absurd cc)
         (acts_gone v.all h (Unlink path) (Some c) (Some (d, e)) 0 (new_id v) goes ∙ (λ i. record made { all = effect i; told = Some (record { act = record { step = Unlink path; answer = unlink_answer v.all h (new_id v) path (Some c) (Some (d, e)) i }; new = 0 }) }))
         refl goes
         (goes, sym (unlink_answer v.all h (new_id v) path (Some c) (Some (d, e))), record { node = λ q. absurd cc; file = λ q. absurd cc }, ap (λ (t : Tree). settle t) (sym effect), unlink_place v.all h path lt)

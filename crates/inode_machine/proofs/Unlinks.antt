@@ -209,7 +209,7 @@ module _ (h : ℕ) (path : List ℕ) (lt : h < hart_count) {base : ℕ → ℕ} 
           (λ i nd nn. put_other F d (Some (record (locked_held (Some X)) { disk = Some (with_count (X.count - 1) (without_entry e X)); node = Some (less X Z e) })) i nd ∙ others i nd nn))
 
   -- The slot is cleared, and the counts stored.
-  clears : (X Z : Node) (n l : ℕ) (fs : List Step) (u : World) (R : Own) → n ≢ d → 971 * length ns + 2000 < l → own_of h u ≡ R → Holding base ns O0 R (both d X Z n) (λ i. (0 + one_if (d == i)) + one_if (n == i)) → R.mine.walk ≡ Some (record { step = Unlink path; at = d; next = e; rest = [] }) → R.mine.pending ≡ None → live_directory (Some X) ≡ true
+  clears : (X Z : Node) (n l : ℕ) (fs : List Step) (u : World) (R : Own) → n ≢ d → 971 * length ns + 3620 < l → own_of h u ≡ R → Holding base ns O0 R (both d X Z n) (λ i. (0 + one_if (d == i)) + one_if (n == i)) → R.mine.walk ≡ Some (record { step = Unlink path; at = d; next = e; rest = [] }) → R.mine.pending ≡ None → live_directory (Some X) ≡ true
       → look (λ j. Some X) d e ≡ Some n → (same_name e dot || same_name e dotdot) ≡ false → not_empty Z.kind ≡ None → Walked (calls.Unlink path) [] fs → Goes h path (clear_name path d e ns (face_or (face_of (Some X))) n (face_or (face_of (Some Z)))) l fs u
   clears X Z n l fs u R ne few held k walk none live finds plain empty walking =
       s-clear d n X Z e path held (k.stays.lender ∙ joins.ready.free) lt (omega (arith, few)) (k.stays.joined ∙ joins.ready.joined) walk none (k.has d (locked_held (Some X)) at_d) refl refl refl refl live (k.has n (locked_held (Some Z)) at_n) refl refl finds two.0 two.1 empty
@@ -241,7 +241,7 @@ module _ (h : ℕ) (path : List ℕ) (lt : h < hart_count) {base : ℕ → ℕ} 
       at_n = put_same (put nothing d (Some (locked_held (Some X)))) n (Some (locked_held (Some Z)))
 
   -- The child's lock is taken. O: what the hart has with the directory's lock alone.
-  child : (X : Node) (n l : ℕ) (fs : List Step) (u : World) (O : Own) → n ≢ d → 971 * length ns + 3700 < l → Holding base ns O0 O (put nothing d (Some (locked_held (Some X)))) (λ i. 0 + one_if (d == i)) → O.inodes n ≡ None
+  child : (X : Node) (n l : ℕ) (fs : List Step) (u : World) (O : Own) → n ≢ d → 971 * length ns + 5400 < l → Holding base ns O0 O (put nothing d (Some (locked_held (Some X)))) (λ i. 0 + one_if (d == i)) → O.inodes n ≡ None
       → own_of h u ≡ record O { mine = record { refs = put O.mine.refs n (O.mine.refs n + 1); walk = O.mine.walk; pending = None } } → O.mine.walk ≡ Some (record { step = Unlink path; at = d; next = e; rest = [] }) → live_directory (Some X) ≡ true → look (λ j. Some X) d e ≡ Some n → (same_name e dot || same_name e dotdot) ≡ false
       → Walked (calls.Unlink path) [] fs → Goes h path (unlink_child path d e ns (face_or (face_of (Some X))) n) l fs u
   child X n l fs u O ne few k out held walk live finds plain walking =
