@@ -156,6 +156,11 @@ module _ (h : ℕ) (l : LogPart) where
   pub spent_put : (b : ℕ) (bytes : List ℕ) (s : Spent) → Accounts h l s → IsSpent l.sizes s b → Accounts h (put_block h b (Some bytes) l) s
   spent_put b bytes s accounts is = put_by b s s (λ there. omega arith) (λ out. used_one b s is out) accounts (has l.group b) refl
 
+  -- another one is
+  pub other_put : (b : ℕ) (bytes : List ℕ) (s : Spent) → Accounts h l s → Accounts h (put_block h b (Some bytes) l) (with_contents 1 s)
+  other_put b bytes s accounts =
+      put_by b s (with_contents 1 s) (λ there. omega arith) (λ out. let a = used_grows (l.group ++ b ∷ []) s (λ c. has_more l.group b c) in omega (arith, a)) accounts (has l.group b) refl
+
   room_laws : RoomLaws h l
   room_laws = record {
     begins = λ group k e. let z = set_at l.members h k e in omega (arith, z);
@@ -176,7 +181,7 @@ module _ (h : ℕ) (l : LogPart) where
     );
     other = λ b bytes s member accounts few. (
       λ out. room_below s member accounts (let a = used_few s in omega (arith, a, few)),
-      put_by b s (with_contents 1 s) (λ there. omega arith) (λ out. let a = used_grows (l.group ++ b ∷ []) s (λ c. has_more l.group b c) in omega (arith, a)) accounts (has l.group b) refl,
+      other_put b bytes s accounts,
     );
   }
     where

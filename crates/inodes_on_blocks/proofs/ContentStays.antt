@@ -51,7 +51,7 @@ module _ (h i : ℕ) (w v : World) (keeps : KeepsInode h i w v) (o : Option Node
       subst (λ (ns : List ℕ). All (λ b. b ≢ 0 → recovered now b ≡ recovered was b) ns) (numbers_by_node was i used)
       (λ p z l ne. let own = holds.blocks.owned p z l ne in (keeps.untouched.blocks (get_or (numbers_by was i) p z) own.block own.owner_is).0)
 
-  same_numbers : numbers_of now d ≡ numbers_of was d
+  pub same_numbers : numbers_of now d ≡ numbers_of was d
   same_numbers = numbers_kept was now d same_blocks
 
   -- block k of the content

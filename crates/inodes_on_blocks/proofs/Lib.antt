@@ -51,3 +51,9 @@ pub mod DirectorySearches
 pub mod TakeSteps
 pub mod LockSteps
 pub mod Mounted
+pub mod Changing
+pub mod NamingPuts
+pub mod NamingSteps
+pub mod DataPuts
+pub mod SlotPuts
+pub mod ClearSteps

@@ -152,7 +152,7 @@ and_swap true false = refl
 and_swap false true = refl
 and_swap false false = refl
 
-no_directory : (count : ℕ) → (nat_lt 0 count && false) ≡ true → ⊥
+pub no_directory : (count : ℕ) → (nat_lt 0 count && false) ≡ true → ⊥
 no_directory count h = by (nat_lt 0 count) h
   where
     by : (b : Bool) → (b && false) ≡ true → ⊥

@@ -29,7 +29,7 @@ recorded_puts_keep h b n bytes r g x shows is can leaves = (
 )
 
 -- behind the bitmap nothing of it changes
-behind : (lock : ℕ → Option ℕ) (h bitmap b : ℕ) (old new : List (List ℕ)) (o : Owners) → bitmap < b → owners_put lock h bitmap b old new o ≡ o
+pub behind : (lock : ℕ → Option ℕ) (h bitmap b : ℕ) (old new : List (List ℕ)) (o : Owners) → bitmap < b → owners_put lock h bitmap b old new o ≡ o
 behind lock h bitmap b old new o past = elim (either (nat_lt b bitmap)) [
   | inl low ↦ absurd (not_below b bitmap past low)
   | inr high ↦ rw (eq_not b bitmap (λ e. absurd (omega (arith, e, past))), high) refl
@@ -68,7 +68,7 @@ record_puts_leave h n d r g shows is fits none can =
     (quiet_leaves h n d r g shows is.lock is.joined range.0 range.1 fits can (shows.blocks.seen.whole b can.home.within can.home.outside))
 
 -- before the bitmap it is a put of inodes
-before : (lock : ℕ → Option ℕ) (h bitmap b : ℕ) (old new : List (List ℕ)) (o : Owners) → b < bitmap → owners_put lock h bitmap b old new o ≡ inode_put lock h new o
+pub before : (lock : ℕ → Option ℕ) (h bitmap b : ℕ) (old new : List (List ℕ)) (o : Owners) → b < bitmap → owners_put lock h bitmap b old new o ≡ inode_put lock h new o
 before lock h bitmap b old new o low = elim (either (nat_lt b bitmap)) [
   | inl is ↦ rw (eq_not b bitmap (λ e. absurd (omega (arith, e, low))), is) refl
   | inr isnt ↦ absurd (not_high b bitmap low isnt)

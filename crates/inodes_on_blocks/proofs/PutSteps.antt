@@ -74,7 +74,7 @@ without_long b block = length-set block (b / 8) (bit_and (slice_index block (b /
 
 -- ---- a buffer that was put is in nobody's hand
 
-put_back : (b : ℕ) (bytes : List ℕ) (ss : List SeatState) → count_of (has_block b) ss ≤ 1 → holder_of b (seats_given_back b (with_seat b (with_content bytes) (with_seat b (with_pin true) ss))) ≡ None
+pub put_back : (b : ℕ) (bytes : List ℕ) (ss : List SeatState) → count_of (has_block b) ss ≤ 1 → holder_of b (seats_given_back b (with_seat b (with_content bytes) (with_seat b (with_pin true) ss))) ≡ None
 put_back b bytes ss once =
     let pinned = with_seat b (with_pin true) ss in
     let same = count_first (has_block b) (has_block b) (with_content bytes) pinned (λ x e. refl) ∙ count_first (has_block b) (has_block b) (with_pin true) ss (λ x e. refl) in

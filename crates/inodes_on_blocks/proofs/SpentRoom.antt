@@ -1,10 +1,10 @@
 -- What is known of a transaction by what its call may have spent gives room for each block of that, and lasts.
-use Rattle.std.proofs.Common.{◌≡◌, inl, inr, ℕ, ◌≤◌, ◌||◌, true, Bool, List, [], ◌∷◌, refl, sym, ◌∙◌, ap, subst, if◌then◌else◌}
+use Rattle.std.proofs.Common.{◌≡◌, inl, inr, ℕ, ◌<◌, ◌≤◌, ◌||◌, true, Bool, List, [], ◌∷◌, refl, sym, ◌∙◌, ap, subst, if◌then◌else◌}
 use Rattle.fs_layout.specs.declared.superblock.Super.{Super}
 use Rattle.tree_laws.proofs.Maps.{eq_self}
 use Rattle.group_log.proofs.Seats.{pick}
 use Rattle.inode_table.specs.Programs.{inode_block}
-use Rattle.inode_machine.specs.Budget.{Spent, size, with_number, with_record, with_bitmap, most_recorded}
+use Rattle.inode_machine.specs.Budget.{Spent, size, with_number, with_record, with_bitmap, with_contents, most_recorded}
 use Rattle.inode_machine.specs.Budget as budget
 use Rattle.inodes_on_blocks.specs.Accounts.{Accounts, IsSpent, LeavesGroup}
 use Rattle.inodes_on_blocks.specs.Below.{World, log_of}
@@ -12,15 +12,22 @@ use Rattle.inodes_on_blocks.specs.Giving.{KeepsRoom}
 use Rattle.inodes_on_blocks.specs.Holding.{SameBut}
 use Rattle.inodes_on_blocks.specs.Lowering.{Same}
 use Rattle.inodes_on_blocks.specs.Room.{HasSpent}
-use Rattle.inodes_on_blocks.proofs.Accounts.{transactions_have_room, spent_put}
+use Rattle.inodes_on_blocks.proofs.Accounts.{transactions_have_room, spent_put, other_put}
 use Rattle.inodes_on_blocks.proofs.Committing.{is_member}
 use Rattle.inodes_on_blocks.proofs.Groups.{member_at}
 
+left : (h : ℕ) (v w : World) → Same h v w → LeavesGroup h (log_of v) (log_of w)
+left h v w same = record { member = same.member; sizes = same.sizes; group = λ c m e. let at = member_at (log_of v).members h m in same.group c at.0 at.1 e }
+
+left_but : (h k : ℕ) (v w : World) → SameBut h k v w → LeavesGroup h (log_of v) (log_of w)
+left_but h k v w same = record { member = same.member; sizes = same.sizes; group = λ c m e. let at = member_at (log_of v).members h m in same.group c at.0 at.1 e }
+
+-- a block that may be spent, as often as wanted
 pub spent_gives : (sizes : Super) (h b : ℕ) (s : Spent) → IsSpent sizes s b → size s ≤ most_recorded → KeepsRoom h b (HasSpent sizes h s) (HasSpent sizes h s)
 spent_gives sizes h b s spent few = record {
   gives = record {
-    lasts = λ v w same known. (same.sizes ∙ known.0, (transactions_have_room h (log_of v)).lasts (log_of w) s (left v w same) known.1);
-    fetched = λ k v w same known. (same.sizes ∙ known.0, (transactions_have_room h (log_of v)).lasts (log_of w) s (left_but k v w same) known.1);
+    lasts = λ v w same known. (same.sizes ∙ known.0, (transactions_have_room h (log_of v)).lasts (log_of w) s (left h v w same) known.1);
+    fetched = λ k v w same known. (same.sizes ∙ known.0, (transactions_have_room h (log_of v)).lasts (log_of w) s (left_but h k v w same) known.1);
     room = λ v known joined. ((transactions_have_room h (log_of v)).said b [] s (is_member (log_of v).members h joined) known.1 few (here v known.0)).0;
   };
   put = λ bytes r known. (known.0, spent_put h (log_of r) b bytes s known.1 (here r known.0));
@@ -29,11 +36,16 @@ spent_gives sizes h b s spent few = record {
     here : (v : World) → (log_of v).sizes ≡ sizes → IsSpent (log_of v).sizes s b
     here v at = subst (λ (z : Super). IsSpent z s b) (sym at) spent
 
-    left : (v w : World) → Same h v w → LeavesGroup h (log_of v) (log_of w)
-    left v w same = record { member = same.member; sizes = same.sizes; group = λ c m e. let at = member_at (log_of v).members h m in same.group c at.0 at.1 e }
-
-    left_but : (k : ℕ) (v w : World) → SameBut h k v w → LeavesGroup h (log_of v) (log_of w)
-    left_but k v w same = record { member = same.member; sizes = same.sizes; group = λ c m e. let at = member_at (log_of v).members h m in same.group c at.0 at.1 e }
+-- any other block, which is one content more
+pub other_spends : (sizes : Super) (h b : ℕ) (s : Spent) → size s < most_recorded → KeepsRoom h b (HasSpent sizes h s) (HasSpent sizes h (with_contents 1 s))
+other_spends sizes h b s few = record {
+  gives = record {
+    lasts = λ v w same known. (same.sizes ∙ known.0, (transactions_have_room h (log_of v)).lasts (log_of w) s (left h v w same) known.1);
+    fetched = λ k v w same known. (same.sizes ∙ known.0, (transactions_have_room h (log_of v)).lasts (log_of w) s (left_but h k v w same) known.1);
+    room = λ v known joined. ((transactions_have_room h (log_of v)).other b [] s (is_member (log_of v).members h joined) known.1 few).0;
+  };
+  put = λ bytes r known. (known.0, other_put h (log_of r) b bytes s known.1);
+}
 
 -- ---- what an operation on an inode spends
 

@@ -17,3 +17,4 @@ pub mod Giving
 pub mod Accounts
 pub mod Counted
 pub mod Mounted
+pub mod Naming

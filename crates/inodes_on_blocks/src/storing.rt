@@ -3,8 +3,10 @@
 
 ghost use Rattle.std.specs.Prelude.{ℕ};
 ghost use Rattle.fs_layout.specs.declared.superblock.Super.{Super};
-ghost use Rattle.inode_machine.specs.World.Op.{Store, Empty, Free};
+ghost use Rattle.plain_tree.specs.Tree.{Name};
+ghost use Rattle.inode_machine.specs.World.Op.{Clear, Store, Empty, Free};
 ghost use Rattle.inodes_on_blocks.specs.Emptying.{empty, free};
+ghost use Rattle.inodes_on_blocks.specs.Naming.{clear};
 ghost use Rattle.inodes_on_blocks.specs.Storing.{store};
 ghost use Rattle.inodes_on_blocks.specs.Room.{DoesItSpending};
 
@@ -21,4 +23,10 @@ pub fn empties_act_once()
 /// An inode freed acts where its record is put without a type, after it was put without content.
 pub fn frees_act_once()
     ensures { (sizes : Super) (n : ℕ) → DoesItSpending sizes (Free n) (free sizes n) }
+{}
+
+/// A name cleared acts where the directory's record is put, after the first slot of that name was put free: the one that the hart has found, else
+/// it is looked for.
+pub fn clears_act_once()
+    ensures { (sizes : Super) (n : ℕ) (name : Name) → DoesItSpending sizes (Clear n name) (clear sizes n name) }
 {}

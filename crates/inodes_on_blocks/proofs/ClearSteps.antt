@@ -1,0 +1,340 @@
+-- A name cleared acts where the directory's record is put, after its slot was put free.
+use Rattle.std.proofs.Common.{◌≡◌, ◌≢◌, ℕ, zero, suc, ◌+◌, ◌-◌, ◌*◌, ◌/◌, ◌%◌, ◌<◌, ◌≤◌, ◌==◌, ◌&&◌, nat_lt, Bool, true, false, List, [], ◌∷◌, length, max, Option, Some, None, refl, sym, ◌∙◌, ap, subst, arith, if◌then◌else◌}
+use Rattle.std.specs.Prelude.{IsSome}
+use Rattle.std.specs.Option.{option_map, unwrap_or}
+use Rattle.std.proofs.lemmas.Option.{none-some}
+use Rattle.directory.specs.declared.found.Found.{Found}
+use Rattle.directory.specs.Programs.{Named, block_count, search, search_from, with_dirent, with_slot}
+use Rattle.fs_layout.specs.declared.entry.Dirent.TheVariants.{Free}
+use Rattle.fs_layout.specs.declared.inode.Dinode.{Dinode}
+use Rattle.fs_layout.specs.declared.superblock.Super.{Super}
+use Rattle.fs_layout.specs.Bytes.{IsBytes}
+use Rattle.fs_layout.specs.Inode.{IsDinode}
+use Rattle.fs_layout.specs.Recovered.{recovered}
+use Rattle.std.specs.List.{All}
+use Rattle.image_tree.specs.Checks.{IsData}
+use Rattle.image_tree.specs.Inodes.{is_free, numbers_of, block_number, content_block}
+use Rattle.image_laws.specs.Holds.{HoldsAt, IsOwned, size_in}
+use Rattle.image_laws.specs.Puts.{IsPut, IsLaidOut, Becomes, slots_with}
+use Rattle.image_laws.proofs.ImageNodes.{at_index}
+use Rattle.image_laws.proofs.SeenDisks.{good_seen}
+use Rattle.plain_tree.specs.declared.node.Slot.{Slot}
+use Rattle.plain_tree.specs.declared.node.Node.{Node}
+use Rattle.plain_tree.specs.declared.node.Kind.{Kind}
+use Rattle.plain_tree.specs.declared.node.Kind.TheVariants.{Directory, File, Device}
+use Rattle.plain_tree.specs.Steps.{cleared, node_or}
+use Rattle.plain_tree.specs.Tree as tree
+use Rattle.plain_tree.specs.Tree.{Name, same_name, live_directory, look, first_slot, all_slots, slots_of, put}
+use Rattle.plain_tree.specs.Widths.{hart_count}
+use Rattle.tree_laws.proofs.Maps.{eq_is}
+use Rattle.atomic_programs.specs.Prog.{Ret, bind, Ran}
+use Rattle.atomic_programs.specs.Logic.{Laws, Machine, P, Wp}
+use Rattle.atomic_programs.specs.Joined.{Both, joined, Below, Lasts, Handed}
+use Rattle.atomic_programs.proofs.Joined.{ToAct, to_act, may_act}
+use Rattle.atomic_programs.proofs.Prog.{bind-assoc}
+use Rattle.atomic_programs.proofs.Sound.{Wp-more}
+use Rattle.fs_tables.specs.Tables.{holder_of as lock_holder}
+use Rattle.fs_machine.specs.Programs.{fetch}
+use Rattle.fs_machine.specs.Shown.{seen_of}
+use Rattle.inode_data.specs.declared.addresses.Address.TheVariants.{Direct, InTable}
+use Rattle.inode_data.specs.Programs.{Fetched as BlockInHand, fetch_at, fetch_block}
+use Rattle.inode_table.specs.Programs.{no_record, inode_block}
+use Rattle.inode_machine.specs.World as above
+use Rattle.inode_machine.specs.World.Op.{Clear}
+use Rattle.inode_machine.specs.Exec.{without_entry, with_record}
+use Rattle.inode_machine.specs.Rules as rules
+use Rattle.inode_machine.specs.Rules.{Inv}
+use Rattle.inodes_on_blocks.specs.Below.{World, log_of, tables_of, disk_of, inode_in}
+use Rattle.inodes_on_blocks.specs.Giving.{KeepsRoom}
+use Rattle.inodes_on_blocks.specs.Holding.{in_hand, HasBuffer}
+use Rattle.inodes_on_blocks.specs.Lowering.{KeepsInode, NothingMore, Finds, Opened, Had, Apart, Has, Emptied, Same, Kept, Carry, record_had, IsFirstNamed, IsKnown, InHand, Stands, below, Labels, labelled, Keeps}
+use Rattle.inodes_on_blocks.specs.Naming.{put_named, slot_found, slot_of, clear_in, clear_slot, clear}
+use Rattle.inodes_on_blocks.specs.Reading.{learned, number_found}
+use Rattle.inodes_on_blocks.specs.Recording.{IsChanging}
+use Rattle.inodes_on_blocks.specs.Room.{GivesRoom}
+use Rattle.inodes_on_blocks.specs.Shown.{Shows}
+use Rattle.inodes_on_blocks.specs.Storing.{record_in}
+use Rattle.inodes_on_blocks.proofs.Alone.{kept_then, kept_same}
+use Rattle.inodes_on_blocks.proofs.Changing.{owner_with, Changing, LeftTo, left_but, changing_start, changing_then, numbers_stay}
+use Rattle.inodes_on_blocks.proofs.ContentFetch.{s-content}
+use Rattle.inodes_on_blocks.proofs.ContentReads.{touches, touches_are}
+use Rattle.inodes_on_blocks.proofs.ContentStays.{same_inode, same_numbers, holds_now, used_now, block_stays}
+use Rattle.inodes_on_blocks.proofs.DataPuts.{data_home, s-data}
+use Rattle.inodes_on_blocks.proofs.DirectorySearches.{s-search}
+use Rattle.inodes_on_blocks.proofs.Fetching.{but_same, but_then}
+use Rattle.inodes_on_blocks.proofs.Layer.{below_laws}
+use Rattle.inodes_on_blocks.proofs.Looks as looks
+use Rattle.inodes_on_blocks.proofs.NamingSteps.{naming_acts}
+use Rattle.inodes_on_blocks.proofs.Putting.{lock_range}
+use Rattle.inodes_on_blocks.proofs.RecordThen.{seen_dinode}
+use Rattle.inodes_on_blocks.proofs.SlotPuts.{dirent_long, dirent_bytes, free_bytes, slot_makes, cleared_first}
+use Rattle.inodes_on_blocks.proofs.Starting.{TakesStep, s-here}
+use Rattle.inodes_on_blocks.proofs.StatSteps.{in_use}
+
+-- one name
+same_is : (a e : Name) → same_name a e ≡ true → a ≡ e
+unfolding same_name
+same_is [] [] h = refl
+same_is [] (y ∷ ys) h = absurd (let z : false ≡ true = h in cc)
+same_is (x ∷ xs) [] h = absurd (let z : false ≡ true = h in cc)
+same_is (x ∷ xs) (y ∷ ys) h = by (x == y) refl h (λ more. same_is xs ys more)
+  where
+    by : (b : Bool) → (x == y) ≡ b → (b && same_name xs ys) ≡ true → (same_name xs ys ≡ true → xs ≡ ys) → x ∷ xs ≡ y ∷ ys
+    by true q h rest = λ i. eq_is x y q i ∷ rest h i
+    by false q h rest = absurd (let z : false ≡ true = h in cc)
+
+module _ (sizes : Super) (l : Labels) (laws : Laws (labelled l)) (keeps : Keeps l) (h : ℕ) (lt : h < hart_count) (n : ℕ) (e : Name) (m : Unit {0} → Option above.Mark) (Knows Then : World → Type 0)
+    (room : (b : ℕ) → KeepsRoom h b Knows Then) (gives : GivesRoom h (inode_block sizes.inodestart n) Then) (c : Carry) (B : List l.Step → Type 0) (C : Unit {0} → List l.Step → above.World → Type 0) (lasts : Lasts (labelled l) h B C) where
+  abbrev W : Type 0
+  W = Both World above.World
+
+  abbrev M : Machine
+  M = joined (labelled l) (below sizes)
+
+  abbrev Q : Handed (Unit {0}) Carry → List l.Step → W → Type 0
+  Q = Below (labelled l) (below sizes) h C
+
+  abbrev Todo : List l.Step → above.World → Type 0
+  Todo = ToAct (labelled l) (below sizes) laws (below_laws sizes l keeps) h B (Clear n e) m C lasts
+
+  may_at : (fs : List l.Step) (g : above.World) → Todo fs g → Inv g → rules.May h (Clear n e) g
+  may_at fs g todo inv = may_act (labelled l) (below sizes) laws (below_laws sizes l keeps) h B (Clear n e) m C lasts fs g todo inv
+
+  changes : (fs : List l.Step) (g : above.World) → Todo fs g → Inv g → IsChanging h n g
+  changes fs g todo inv = let may = may_at fs g todo inv in record { lock = may.1.0.0; joined = may.1.0.1 }
+
+  -- ---- the program takes a step
+
+  block_takes : {A : Type 0} (d : Dinode) (k : ℕ) (f : BlockInHand → P M A) → TakesStep sizes l laws keeps h lt B (bind (fetch_block d k) f)
+  block_takes {A} d k f = by (nat_lt k 12)
+    where
+      by : (b : Bool) → TakesStep sizes l laws keeps h lt B (bind (fetch_at d (if b then Direct k else InTable (k - 12))) f)
+      by true = tt
+      by false = tt
+
+  search_takes : (d : Dinode) (i : ℕ) → TakesStep sizes l laws keeps h lt B (bind (bind (search_from i (Named e) d 0) slot_found) (clear_slot sizes n e c m))
+  unfolding search_from
+  search_takes d zero = tt
+  search_takes d (suc i) = tt
+
+  takes : (had : Had) → TakesStep sizes l laws keeps h lt B (bind (slot_of had e) (clear_slot sizes n e c m))
+  takes Apart = tt
+  takes Emptied = tt
+  takes (Has d NothingMore) = search_takes d (block_count d)
+  takes (Has d (Opened fd offset)) = search_takes d (block_count d)
+  takes (Has d (Finds name s)) = by (same_name name e)
+    where
+      by : (b : Bool) → TakesStep sizes l laws keeps h lt B (bind (if b then Ret s else bind (search (Named e) d) slot_found) (clear_slot sizes n e c m))
+      by true = block_takes (record_in c n) (s / 64) (clear_in sizes n e c m s)
+      by false = search_takes d (block_count d)
+
+  -- ---- from v on, where the lock is the hart's
+
+  module _ (v : W) (fs : List l.Step) (todo : Todo fs v.seen) (shows : Shows v.real v.seen) (inv : Inv v.seen) (stands : Stands sizes h v.real v.seen c) (knows : Knows v.real) where
+    may : rules.May h (Clear n e) v.seen
+    may = may_at fs v.seen todo inv
+
+    mine : lock_holder n (tables_of v.real) ≡ Some h
+    mine = sym (shows.tables.places.holders n) ∙ may.1.0.0
+
+    abbrev node : Node
+    node = may.1.1.node
+
+    is : v.seen.disk n ≡ Some node
+    is = may.1.1.is
+
+    abbrev d : Dinode
+    d = inode_in (log_of v.real) n
+
+    holds : HoldsAt (disk_of (log_of v.real)) v.real.owner n (Some node)
+    holds = subst (λ (o : Option Node). HoldsAt (disk_of (log_of v.real)) v.real.owner n o) is (stands.0.inodes n mine).holds
+
+    used : is_free d ≡ false
+    used = in_use d node holds.inode
+
+    -- a live directory, where it has a name
+    live : live_directory (Some node) ≡ true
+    unfolding look
+    live = by (live_directory (Some node)) refl
+      where
+        by : (b : Bool) → live_directory (Some node) ≡ b → live_directory (Some node) ≡ true
+        by true q = q
+        by false q = absurd (let z : IsSome (if false then first_slot (all_slots (Some node)) e else None) = subst (λ (t : Bool). IsSome (if t then first_slot (all_slots (Some node)) e else None)) q may.1.1.fits in cc z)
+
+    directory : (slots : List (Option Slot)) × (node.kind ≡ Directory slots)
+    directory = by node.kind refl
+      where
+        by : (k : Kind) → node.kind ≡ k → (slots : List (Option Slot)) × (node.kind ≡ Directory slots)
+        by (Directory slots) q = (slots, q)
+        by (File bytes) q = absurd (looks.no_directory node.count (ap (λ (k : Kind). nat_lt 0 node.count && tree.is_directory k) (sym q) ∙ live))
+        by (Device major minor size) q = absurd (looks.no_directory node.count (ap (λ (k : Kind). nat_lt 0 node.count && tree.is_directory k) (sym q) ∙ live))
+
+    abbrev slots : List (Option Slot)
+    slots = directory.0
+
+    size_is : d.size ≡ 16 * length slots
+    size_is = holds.inode.size ∙ ap size_in directory.1
+
+    limit : d.size ≤ 268 * 1024
+    limit = (holds.room used).limit
+
+    module _ (record_is : record_in c n ≡ d) where
+      -- ---- the slot is known
+
+      module _ (s : ℕ) (known : IsFirstNamed (all_slots (Some node)) e s) where
+        first : IsFirstNamed slots e s
+        first = subst (λ (k : Kind). IsFirstNamed (slots_of k) e s) directory.1 known
+
+        abbrev k : ℕ
+        k = s / 64
+
+        within : 1024 * k < d.size
+        within = let low = first.below in omega (arith, size_is, low)
+
+        abbrev after : Node
+        after = without_entry e node
+
+        was_is : node ≡ record { count = node.count; kind = Directory slots }
+        was_is = λ z. record { count = node.count; kind = directory.1 z }
+
+        after_is : record { count = node.count; kind = Directory (slots_with slots s None) } ≡ after
+        after_is = ap (λ (ss : List (Option Slot)). record { count = node.count; kind = Directory ss }) (sym (cleared_first slots e s first) ∙ ap (λ (q : Kind). cleared (slots_of q) e) (sym directory.1))
+
+        abbrev f : Dinode
+        f = record d { size = max d.size (16 * suc s) }
+
+        same_size : max d.size (16 * suc s) ≡ d.size
+        same_size = let low = first.below in omega (arith, size_is, low)
+
+        fits : IsDinode f
+        fits = subst IsDinode (λ z. record d { size = sym same_size z }) (seen_dinode v.real v.seen shows n (lock_range n h v.real v.seen shows may.1.0.0).1)
+
+        put_is : with_slot s (record_in c n) ≡ f
+        put_is = let more : s + 1 ≡ suc s = omega arith in ap (with_slot s) record_is ∙ (λ z. record d { size = max d.size (16 * more z) })
+
+        abbrev numbers : List ℕ
+        numbers = numbers_of (disk_of (log_of v.real)) d
+
+        abbrev b : ℕ
+        b = block_number numbers k
+
+        -- where the block stands later
+        abbrev block_in : World → ℕ
+        block_in r = block_number (numbers_of (disk_of (log_of r)) (inode_in (log_of r) n)) k
+
+        some : b ≢ 0
+        some = (holds.room used).there k within
+
+        -- the slot is free, and the record is put
+        ends : (w : W) (gs : List l.Step) → Todo gs w.seen → Shows w.real w.seen → Changing h n c (Some node) f after w.real w.seen → in_hand h w.real ≡ 0 → (log_of w.real).sizes ≡ sizes → Then w.real
+            → Wp M h B Q (bind (fetch (inode_block sizes.inodestart n)) (put_named (Clear n e) above.Room m tt (inode_block sizes.inodestart n) n (with_slot s (record_in c n)) c)) 3 gs w
+        ends w gs stage shows_w changing none at then_ =
+            subst (λ (x : Dinode). Wp M h B Q (bind (fetch (inode_block sizes.inodestart n)) (put_named (Clear n e) above.Room m tt (inode_block sizes.inodestart n) n x c)) 3 gs w) (sym put_is)
+            (naming_acts sizes l laws keeps h lt n (Clear n e) above.Room m tt c (Some node) f after fits (λ u. tt) (λ g asked. (record { lock = asked.1.0.0; joined = asked.1.0.1 }, asked.0))
+            (λ g asked was. ap (λ (o : Option Node). Ran tt (with_record g n (Some (without_entry e (node_or o))))) was) Then gives B C lasts gs w stage shows_w changing none at then_)
+
+        makes : (old : List ℕ) → length old ≡ 1024 → (disk new : List (List ℕ)) (owner : ℕ → ℕ) → IsLaidOut disk owner n d node → numbers_of disk d ≡ numbers → recovered disk b ≡ old → IsPut disk new b
+            → recovered new b ≡ with_dirent (s % 64) Free old → Becomes disk new owner owner n d f after
+        makes old long disk new owner laid names was put now =
+            let low = first.below in
+            subst (λ (x : Node). Becomes disk new owner owner n d f x) after_is
+            (slot_makes n s node.count slots None Free d old numbers (omega (arith, low)) (omega (arith, size_is, limit, low)) refl tt long some disk new owner (subst (λ (x : Node). IsLaidOut disk owner n d x) was_is laid) names was put now)
+
+        -- its block is in hand
+        puts : (w u : W) (gs : List l.Step) → Todo gs u.seen → Shows u.real u.seen → LeftTo h v.real u.real → Kept h v.seen u.seen → (old : List ℕ) → HasBuffer h b old u.real → seen_of (log_of u.real) b ≡ old → in_hand h u.real ≡ 1 → Knows u.real
+            → Wp M h B Q (clear_in sizes n e c m s (record { number = b; bytes = old })) 4 gs u
+        puts w u gs stage shows_u left kept old buffer old_is one knows_u =
+            let start = changing_start h n c node v.real v.seen stands.0 mine is in
+            let changing = changing_then h n c (Some node) d node v.real u.real v.seen u.seen shows shows_u left kept start in
+            let names = numbers_stay h n c (Some node) d node v.real u.real v.seen u.seen shows shows_u left start in
+            let at : (log_of u.real).sizes ≡ sizes = left.sizes ∙ stands.1 in
+            let own = at_index (λ (q : ℕ). IsOwned (disk_of (log_of u.real)) (owner_with h n u.real) n q) numbers (if nat_lt k 12 then k else k + 1)
+            (subst (λ (ns : List ℕ). All (λ q. q ≢ 0 → IsOwned (disk_of (log_of u.real)) (owner_with h n u.real) n q) ns) names changing.laid.owned) some in
+            let disk_sizes = (good_seen (log_of u.real).sizes (seen_of (log_of u.real)) (length (log_of u.real).contents) shows_u.blocks.seen).sizes_are in
+            let block_there : IsData (log_of u.real).sizes b = subst (λ (z : Super). IsData z b) disk_sizes own.block in
+            let home = data_home u.real u.seen shows_u b block_there in
+            let long : length old ≡ 1024 = ap length (sym old_is) ∙ shows_u.blocks.seen.whole b home.within home.outside in
+            s-data sizes l laws keeps h lt B Q Todo (to_act (labelled l) (below sizes) laws (below_laws sizes l keeps) h B (Clear n e) m C lasts) n changes c (Some node) d f node after b old (with_dirent (s % 64) Free old) numbers
+            (subst (λ (z : Super). IsData z b) at block_there) (dirent_long (s % 64) Free old (omega arith) tt long)
+            (dirent_bytes (s % 64) Free old (subst IsBytes old_is (shows_u.bytes b home.within home.outside)) free_bytes) (makes old long) Knows Then (room b)
+            (λ _. bind (fetch (inode_block sizes.inodestart n)) (put_named (Clear n e) above.Room m tt (inode_block sizes.inodestart n) n (with_slot s (record_in c n)) c)) 3 gs u stage shows_u changing names buffer at own.owner_is knows_u
+            (λ z hs p. ends z hs p.stage p.shows p.changing (let down = p.count in omega (arith, down, one)) (p.sizes_same ∙ at) p.known)
+
+        clears : (w : W) (gs : List l.Step) → Same h v.real w.real → Kept h v.seen w.seen → Todo gs w.seen → Wp M h B Q (clear_slot sizes n e c m s) 9 gs w
+        clears w gs same kept stage =
+            subst (λ (x : Dinode). Wp M h B Q (bind (fetch_block x k) (clear_in sizes n e c m s)) 9 gs w) (inode ∙ sym record_is)
+            (s-content sizes l laws keeps h lt B Q Todo (to_act (labelled l) (below sizes) laws (below_laws sizes l keeps) h B (Clear n e) m C lasts) n k (Some node) (clear_in sizes n e c m s) 4 w holds_w used_w stays.lock within_w (same.held ∙ stands.0.free)
+            (λ u hs got.
+            let since = but_then h (block_in w.real) v.real w.real u.real (but_same h (block_in w.real) v.real w.real same) got.since in
+            let bytes_is = (block_stays h n w.real u.real (got.since.inodes n stays.lock) (Some node) holds_w used_w u.seen got.shows k within_w).seen in
+            let old = content_block (disk_of (log_of w.real)) (inode_in (log_of w.real) n) k in
+            subst (λ (q : ℕ). Wp M h B Q (clear_in sizes n e c m s (record { number = q; bytes = old })) 4 hs u) (sym b_is)
+            (puts w u hs got.stage got.shows (left_but h (block_in w.real) v.real u.real since) (kept_then h v.seen w.seen u.seen kept got.kept) old
+            (subst (λ (q : ℕ). HasBuffer h q old u.real) b_is (subst (λ (x : List ℕ). HasBuffer h (block_in w.real) x u.real) bytes_is got.buffer)) (ap (seen_of (log_of u.real)) (sym b_is) ∙ bytes_is)
+            (got.count ∙ ap suc (same.held ∙ stands.0.free)) ((room (block_in w.real)).gives.fetched (block_in w.real) w.real u.real got.since ((room (block_in w.real)).gives.lasts v.real w.real same knows))))
+            gs stage)
+          where
+            stays : KeepsInode h n v.real w.real
+            stays = same.inodes n mine
+
+            inode : inode_in (log_of w.real) n ≡ d
+            inode = same_inode h n v.real w.real stays (Some node) holds used
+
+            holds_w : HoldsAt (disk_of (log_of w.real)) w.real.owner n (Some node)
+            holds_w = holds_now h n v.real w.real stays (Some node) holds used
+
+            used_w : is_free (inode_in (log_of w.real) n) ≡ false
+            used_w = used_now h n v.real w.real stays (Some node) holds used
+
+            within_w : 1024 * k < (inode_in (log_of w.real) n).size
+            within_w = subst (λ (x : Dinode). 1024 * k < x.size) (sym inode) within
+
+            b_is : block_in w.real ≡ b
+            b_is = ap (λ (x : Dinode). block_number (numbers_of (disk_of (log_of w.real)) x) k) inode ∙ ap (λ (ns : List ℕ). block_number ns k) (same_numbers h n v.real w.real stays (Some node) holds used)
+
+      -- ---- it is looked for
+
+      abbrev found : Option Found
+      found = looks.search_finds (disk_of (log_of v.real)) v.real.owner n node holds used (Named e)
+
+      searches : (x : Dinode) → x ≡ d → Wp M h B Q (bind (bind (search (Named e) x) slot_found) (clear_slot sizes n e c m)) 1621 fs v
+      searches x is_d =
+          subst (λ (p : P M (Handed (Unit {0}) Carry)). Wp M h B Q p 1621 fs v) (sym (bind-assoc (search (Named e) x) slot_found (clear_slot sizes n e c m)))
+          (subst (λ (y : Dinode). Wp M h B Q (bind (search (Named e) y) goes) 1621 fs v) (sym is_d)
+          (Wp-more M h (bind (search (Named e) d) goes) B Q (touches (block_count d) 9) 1621 fs v (let few = looks.few_blocks d in let steps_ = touches_are (block_count d) 9 in omega (arith, few, steps_))
+          (s-search sizes l laws keeps h lt B Q Todo (to_act (labelled l) (below sizes) laws (below_laws sizes l keeps) h B (Clear n e) m C lasts) n (Some node) (Named e) goes 9 v holds used mine stands.0.free (block_count d) 0 v fs
+          ((below_laws sizes l keeps).same h v.real) (kept_same h v.seen) todo (λ q low. let part = looks.block_within (disk_of (log_of v.real)) v.real.owner n node holds used q low in omega (arith, part))
+          (λ w gs same kept stage. by found (looks.name_found (disk_of (log_of v.real)) v.real.owner n node holds used e live) (looks.slot_found (disk_of (log_of v.real)) v.real.owner n node holds used e live) w gs same kept stage))))
+        where
+          goes : Option Found → P M (Handed (Unit {0}) Carry)
+          goes o = clear_slot sizes n e c m (unwrap_or (option_map (λ q. q.slot) o) 0)
+
+          by : (o : Option Found) → number_found o ≡ look (λ j. Some node) n e → IsKnown (learned e o) (Some node) → (w : W) (gs : List l.Step) → Same h v.real w.real → Kept h v.seen w.seen → Todo gs w.seen → Wp M h B Q (goes o) 9 gs w
+          by None number known w gs same kept stage = absurd (let z : IsSome {T = ℕ} None = subst IsSome (sym number) may.1.1.fits in cc z)
+          by (Some g) number known w gs same kept stage = clears g.slot known w gs same kept stage
+
+    -- by what the hart has of the directory
+    by_had : (had : Had) → c n ≡ had → InHand h n had v.real v.seen → Wp M h B Q (bind (slot_of had e) (clear_slot sizes n e c m)) 1621 fs v
+    by_had Apart q hand = absurd hand.loaded_is
+    by_had Emptied q hand = absurd (none-some node (sym hand.loaded_is.0 ∙ is))
+    by_had (Has x NothingMore) q hand = searches (ap (λ (o : Had). unwrap_or (record_had o) no_record) q ∙ hand.loaded_is.0) x hand.loaded_is.0
+    by_had (Has x (Opened fd offset)) q hand = searches (ap (λ (o : Had). unwrap_or (record_had o) no_record) q ∙ hand.loaded_is.0) x hand.loaded_is.0
+    by_had (Has x (Finds name s)) q hand = by (same_name name e) refl
+      where
+        record_is : record_in c n ≡ d
+        record_is = ap (λ (o : Had). unwrap_or (record_had o) no_record) q ∙ hand.loaded_is.0
+
+        by : (t : Bool) → same_name name e ≡ t → Wp M h B Q (bind (if t then Ret s else bind (search (Named e) x) slot_found) (clear_slot sizes n e c m)) 1621 fs v
+        by true one =
+            let known : IsFirstNamed (all_slots (Some node)) e s = subst (λ (a : Name). IsFirstNamed (all_slots (Some node)) a s) (same_is name e one) (subst (λ (o : Option Node). IsFirstNamed (all_slots o) name s) is hand.loaded_is.2) in
+            Wp-more M h (clear_slot sizes n e c m s) B Q 9 1621 fs v (omega arith) (clears record_is s known v fs ((below_laws sizes l keeps).same h v.real) (kept_same h v.seen) todo)
+        by false other = searches record_is x hand.loaded_is.0
+
+    clears_here : Wp M h B Q (clear sizes n e c m) 1621 fs v
+    clears_here = by_had (c n) refl (stands.0.inodes n mine)
+
+  pub clear_acts : (es : List l.Step) (w : W) → Todo es w.seen → Stands sizes h w.real w.seen c → Knows w.real → Wp M h B Q (clear sizes n e c m) 1621 es w
+  clear_acts es w todo stands knows =
+      s-here sizes l laws keeps h lt B (clear sizes n e c m) Q Todo (to_act (labelled l) (below sizes) laws (below_laws sizes l keeps) h B (Clear n e) m C lasts) (takes (c n)) 1621 es w todo
+      (λ v fs here.
+      clears_here v fs here.stage here.shows here.inv ((below_laws sizes l keeps).base h w.real v.real w.seen v.seen c here.same here.kept stands) ((room 0).gives.lasts w.real v.real here.same knows))

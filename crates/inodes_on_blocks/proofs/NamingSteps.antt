@@ -1,0 +1,147 @@
+-- An operation that puts the record of an inode that the hart was changing acts at the put.
+use Rattle.std.proofs.Common.{◌≡◌, ◌≢◌, ℕ, suc, ◌<◌, false, List, length, Option, Some, None, is_some, sym, ◌∙◌, ap, subst, arith}
+use Rattle.fs_layout.specs.declared.superblock.Super.{Super}
+use Rattle.fs_layout.specs.declared.inode.Dinode.{Dinode}
+use Rattle.fs_layout.specs.Inode.{IsDinode}
+use Rattle.fs_layout.specs.Recovered.{IsOutsideLog}
+use Rattle.buffer_cache.specs.Seats.{holder_of, kept}
+use Rattle.group_log.specs.Group.{has, HasRoom}
+use Rattle.plain_tree.specs.declared.node.Node.{Node}
+use Rattle.plain_tree.specs.Tree.{put}
+use Rattle.plain_tree.specs.Widths.{hart_count}
+use Rattle.atomic_programs.specs.Prog.{Ret, bind, Ran}
+use Rattle.atomic_programs.specs.Logic.{Laws, Machine, Wp}
+use Rattle.atomic_programs.specs.Joined.{Both, joined, Below, Lasts, Handed}
+use Rattle.atomic_programs.proofs.Joined.{Here, ToAct, to_act, may_act, Acting, s-act}
+use Rattle.fs_machine.specs.LogPart.{Outside}
+use Rattle.fs_machine.specs.Programs.{fetch}
+use Rattle.fs_machine.specs.Shown.{seen_of}
+use Rattle.fs_machine.specs.Steps as steps
+use Rattle.fs_machine.specs.Steps.{Put}
+use Rattle.fs_machine.specs.Premises as premises
+use Rattle.inode_table.specs.Programs.{inode_block, with_dinode}
+use Rattle.inode_machine.specs.World as above
+use Rattle.inode_machine.specs.Exec as above_exec
+use Rattle.inode_machine.specs.Marks.{marked, with_mark}
+use Rattle.inode_machine.specs.Rules as rules
+use Rattle.inode_machine.specs.Rules.{Inv}
+use Rattle.inodes_on_blocks.specs.Below.{World, log_of, exec}
+use Rattle.inodes_on_blocks.specs.Giving.{world_with}
+use Rattle.inodes_on_blocks.specs.Holding.{in_hand, Fetched}
+use Rattle.inodes_on_blocks.specs.Lowering.{NothingMore, Has, Carry, below, Labels, labelled, Keeps}
+use Rattle.inodes_on_blocks.specs.Naming.{put_named}
+use Rattle.inodes_on_blocks.specs.Recording.{CanPut, IsChanging, owners_with, with_record}
+use Rattle.inodes_on_blocks.specs.Room.{GivesRoom}
+use Rattle.inodes_on_blocks.specs.Shown.{Shows}
+use Rattle.inodes_on_blocks.proofs.Changing.{Changing, left_but, left_same, changing_then}
+use Rattle.inodes_on_blocks.proofs.Fetching.{buffer_then, buffer_seen, s-fetch}
+use Rattle.inodes_on_blocks.proofs.Hands.{back_hand}
+use Rattle.inodes_on_blocks.proofs.Layer.{below_laws, base_marked}
+use Rattle.inodes_on_blocks.proofs.Loading.{inode_place}
+use Rattle.inodes_on_blocks.proofs.Marked.{marked_same, shows_marked}
+use Rattle.inodes_on_blocks.proofs.NamingPuts.{naming_leaves, shows_both, base_then}
+use Rattle.inodes_on_blocks.proofs.Putting.{same_put, lock_range}
+use Rattle.inodes_on_blocks.proofs.Recorded.{may_put}
+use Rattle.inodes_on_blocks.proofs.Records.{stored_long, stored_bytes}
+use Rattle.inodes_on_blocks.proofs.RecordThen.{inode_home}
+
+module _ (sizes : Super) (l : Labels) (laws : Laws (labelled l)) (keeps : Keeps l) (h : ℕ) (lt : h < hart_count) (n : ℕ) where
+  abbrev W : Type 0
+  W = Both World above.World
+
+  abbrev M : Machine
+  M = joined (labelled l) (below sizes)
+
+  -- the block of an inode
+  abbrev at : World → ℕ
+  at r = inode_block (log_of r).sizes.inodestart n
+
+  module _ (op : above.Op) (outside : above.Outside) (m : above.Answer op → Option above.Mark) (answer : above.Answer op) (c : Carry) (o : Option Node) (d : Dinode) (x : Node) (fits : IsDinode d)
+      (honest : (v : W) → rules.Honest h op v.seen outside) (asks : (g : above.World) → rules.May h op g → IsChanging h n g × ((g.desks h).lender ≡ None))
+      (ran : (g : above.World) → rules.May h op g → g.disk n ≡ o → above_exec.exec h outside op g ≡ Ran answer (above_exec.with_record g n (Some x)))
+      (Knows : World → Type 0) (gives : GivesRoom h (inode_block sizes.inodestart n) Knows)
+      (B : List l.Step → Type 0) (C : above.Answer op → List l.Step → above.World → Type 0) (lasts : Lasts (labelled l) h B C) where
+    abbrev b : ℕ
+    b = inode_block sizes.inodestart n
+
+    abbrev Q : Handed (above.Answer op) Carry → List l.Step → W → Type 0
+    Q = Below (labelled l) (below sizes) h C
+
+    abbrev Todo : List l.Step → above.World → Type 0
+    Todo = ToAct (labelled l) (below sizes) laws (below_laws sizes l keeps) h B op m C lasts
+
+    abbrev IsChanged : W → Type 0
+    IsChanged v = Changing h n c o d x v.real v.seen
+
+    abbrev Acts : (v : W) → ℕ → List ℕ → Type 0
+    Acts v k bytes =
+        premises.May h (Put k (Some bytes)) v.real.state × ((y : Outside) → premises.Honest h (Put k (Some bytes)) v.real.state y
+        → Acting (labelled l) (below sizes) laws (below_laws sizes l keeps) h B op m C lasts outside v (premises.MayWait h (Put k (Some bytes)) v.real.state) (exec h y (Put k (Some bytes)) v.real)
+        (λ a z u g. (gs : List l.Step) → Inv g → C z gs g → Wp M h B Q (Ret (record { answer = answer; carry = put c n (Has d NothingMore) })) 0 gs (record { real = u; seen = g })))
+
+    -- the put, where the buffer is in hand
+    acts_there : (v : W) → Shows v.real v.seen → rules.May h op v.seen → IsChanged v → in_hand h v.real ≡ 1 → CanPut h (at v.real) (with_record n d v.real) (log_of v.real) → (log_of v.real).sizes ≡ sizes → Acts v (at v.real) (with_record n d v.real)
+    unfolding steps.exec premises.MayWait premises.Honest
+    acts_there v shows may changing one can here =
+        let r = v.real in
+        let is = (asks v.seen may).0 in
+        let free = (asks v.seen may).1 in
+        let put_then = world_with h (at r) (with_record n d r) r in
+        let then_ = above_exec.with_record v.seen n (Some x) in
+        let g = marked h (m answer) then_ in
+        let s = marked_same h (m answer) then_ in (
+          may_put h (at r) (with_record n d r) r.state shows.whole shows.blocks.seen can,
+          λ y t. (
+            answer,
+            g,
+            ap (with_mark h m) (ran v.seen may changing.was),
+            honest v,
+            (λ inv. shows_marked put_then then_ g s (shows_both h n c o d x r v.seen shows changing is fits can)),
+            same_put h (at r) n (with_record n d r) r v.seen shows is.lock is.joined can (owners_with h (at r) (with_record n d r) r) (naming_leaves h n c o d x r v.seen shows changing is fits can),
+            λ gs inv done. (done, (base_marked h put_then then_ g (put c n (Has d NothingMore)) s free (base_then h n c o d x r v.seen shows changing is fits can one free), here)),
+          ),
+        )
+
+    -- and from where the block was fetched on
+    names_then : (w v : W) (fs : List l.Step) → Shows w.real w.seen → IsChanged w → in_hand h w.real ≡ 0 → (log_of w.real).sizes ≡ sizes → Knows w.real → Fetched h b (Todo fs) w v
+        → Wp M h B Q (put_named op outside m answer b n d c (seen_of (log_of v.real) b)) 1 fs v
+    names_then w v fs shows changing none here_ knows got =
+        s-act (labelled l) (below sizes) laws (below_laws sizes l keeps) h B op m C lasts outside (Put b (Some (with_dinode n d (seen_of (log_of v.real) b))))
+        (λ a. Ret (record { answer = answer; carry = put c n (Has d NothingMore) })) Q 0 fs v got.stage
+        (λ u gs here may.
+        let middle = changing_then h n c o d x w.real v.real w.seen v.seen shows got.shows (left_but h b w.real v.real got.since) got.kept changing in
+        let there = changing_then h n c o d x v.real u.real v.seen u.seen got.shows here.shows (left_same h v.real u.real here.same) here.kept middle in
+        let is = (asks u.seen may).0 in
+        let where_ : b ≡ at u.real = ap (λ (s : Super). inode_block s.inodestart n) (sym (here.same.sizes ∙ got.since.sizes ∙ here_)) in
+        let buffer = buffer_then h b (seen_of (log_of v.real) b) v.real u.real (here.same.buffers b) got.buffer in
+        let bytes : seen_of (log_of u.real) (at u.real) ≡ seen_of (log_of v.real) b = ap (seen_of (log_of u.real)) (sym where_) ∙ buffer_seen h b (seen_of (log_of v.real) b) u.real buffer in
+        let range = lock_range n h u.real u.seen here.shows is.lock in
+        let home = inode_home (log_of u.real) n here.shows.blocks.seen.good here.shows.blocks.seen.sized range.1 in
+        let long : length (seen_of (log_of u.real) (at u.real)) ≡ 1024 = here.shows.blocks.seen.whole (at u.real) home.within home.outside in
+        let knows_there : Knows u.real = gives.lasts v.real u.real here.same (gives.fetched b w.real v.real got.since knows) in
+        let can : CanPut h (at u.real) (with_record n d u.real) (log_of u.real) = record {
+          holder = subst (λ (k : ℕ). holder_of k (log_of u.real).seats ≡ Some h) where_ buffer.holder;
+          valid = ap (λ (z : Option (List ℕ)). is_some z) (subst (λ (k : ℕ). kept k (log_of u.real).seats ≡ Some (seen_of (log_of v.real) b)) where_ buffer.has);
+          joined = sym (here.shows.members h lt) ∙ is.joined;
+          runs = here.shows.runs;
+          home = home;
+          room = subst (λ (k : ℕ). has (log_of u.real).group k ≡ false → HasRoom (log_of u.real).members h) where_ (gives.room u.real knows_there (sym (here.shows.members h lt) ∙ is.joined));
+          long = stored_long n d (seen_of (log_of u.real) (at u.real)) fits long;
+          are = stored_bytes n d (seen_of (log_of u.real) (at u.real)) (here.shows.bytes (at u.real) home.within home.outside);
+        } in
+        subst (λ (q : ℕ × List ℕ). Acts u q.0 q.1) (λ z. (sym where_ z, with_dinode n d (bytes z)))
+        (acts_there u here.shows may there (here.same.held ∙ got.count ∙ ap suc none) can (here.same.sizes ∙ got.since.sizes ∙ here_)))
+
+    pub naming_acts : (es : List l.Step) (w : W) → Todo es w.seen → Shows w.real w.seen → IsChanged w → in_hand h w.real ≡ 0 → (log_of w.real).sizes ≡ sizes → Knows w.real → Wp M h B Q (bind (fetch b) (put_named op outside m answer b n d c)) 3 es w
+    naming_acts es w todo shows changing none here_ knows =
+        s-fetch sizes l laws keeps h lt B Q Todo (to_act (labelled l) (below sizes) laws (below_laws sizes l keeps) h B op m C lasts) b (put_named op outside m answer b n d c) 1 es w todo (omega (arith, none)) place none_held
+        (λ v fs got. names_then w v fs shows changing none here_ knows got)
+      where
+        none_held : holder_of b (log_of w.real).seats ≢ Some h
+        none_held out = let back = (back_hand h b (log_of w.real).seats out).count in omega (arith, back, none)
+
+        place : (v : W) (fs : List l.Step) → Here (labelled l) (below sizes) laws (below_laws sizes l keeps) h B Todo w v fs → IsOutsideLog (log_of v.real).sizes b × (b < (log_of v.real).sizes.size)
+        place v fs here =
+            let may = may_act (labelled l) (below sizes) laws (below_laws sizes l keeps) h B op m C lasts fs v.seen here.stage here.inv in
+            let range = lock_range n h v.real v.seen here.shows ((asks v.seen may).0.lock) in
+            subst (λ (s : Super). IsOutsideLog (log_of v.real).sizes (inode_block s.inodestart n) × (inode_block s.inodestart n < (log_of v.real).sizes.size)) (here.same.sizes ∙ here_) (inode_place v.real v.seen here.shows n range.1)

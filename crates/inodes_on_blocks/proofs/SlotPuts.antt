@@ -1,0 +1,76 @@
+-- An entry put into a slot of a directory that a hart is changing.
+use Rattle.std.proofs.Common.{◌≡◌, ◌≢◌, ℕ, zero, suc, ◌*◌, ◌/◌, ◌%◌, ◌<◌, ◌≤◌, true, false, List, [], ◌∷◌, length, replicate, Option, Some, None, refl, sym, ◌∙◌, ap, subst, arith, max}
+use Rattle.directory.specs.Programs.{with_dirent}
+use Rattle.fs_layout.specs.declared.inode.Dinode.{Dinode}
+use Rattle.fs_layout.specs.declared.entry.Dirent.{Dirent}
+use Rattle.fs_layout.specs.declared.entry.Dirent.TheVariants.{Free}
+use Rattle.fs_layout.specs.Bytes.{overwrite, IsBytes}
+use Rattle.fs_layout.specs.Entry.{IsDirent, spell_dirent}
+use Rattle.fs_layout.specs.Recovered.{recovered}
+use Rattle.fs_layout.proofs.Entries.{length-spell_dirent}
+use Rattle.fs_layout.proofs.Overwrites.{length-overwrite}
+use Rattle.image_tree.specs.Checks.{largest_size}
+use Rattle.image_tree.specs.Inodes.{numbers_of, block_number}
+use Rattle.image_laws.specs.Holds.{entry_of}
+use Rattle.image_laws.specs.Puts.{IsPut, IsSlotPut, IsLaidOut, slots_with, Becomes}
+use Rattle.image_laws.proofs.LaidSlots.{slot_laid}
+use Rattle.plain_tree.specs.declared.node.Slot.{Slot}
+use Rattle.plain_tree.specs.declared.node.Kind.TheVariants.{Directory}
+use Rattle.plain_tree.specs.Steps.{cleared}
+use Rattle.plain_tree.specs.Tree.{Name, same_name}
+use Rattle.inodes_on_blocks.specs.Lowering.{IsFirstNamed}
+use Rattle.inodes_on_blocks.proofs.Records.{overwrite_bytes}
+
+-- ---- bytes
+
+pub dirent_long : (place : ℕ) (entry : Dirent) (block : List ℕ) → place < 64 → IsDirent entry → length block ≡ 1024 → length (with_dirent place entry block) ≡ 1024
+unfolding with_dirent
+dirent_long place entry block lt is long = let spelled = length-spell_dirent entry is in length-overwrite block (spell_dirent entry) (16 * place) (omega (arith, spelled, long, lt)) ∙ long
+
+pub dirent_bytes : (place : ℕ) (entry : Dirent) (block : List ℕ) → IsBytes block → IsBytes (spell_dirent entry) → IsBytes (with_dirent place entry block)
+unfolding with_dirent
+dirent_bytes place entry block are spelled = overwrite_bytes block (spell_dirent entry) (16 * place) are spelled
+
+zero_bytes : (n : ℕ) → IsBytes (replicate n 0)
+zero_bytes zero i = omega arith
+zero_bytes (suc n) zero = omega arith
+zero_bytes (suc n) (suc i) = zero_bytes n i
+
+pub free_bytes : IsBytes (spell_dirent Free)
+free_bytes = zero_bytes 16
+
+-- ---- what a put makes
+
+pub slot_makes : (n s count : ℕ) (slots : List (Option Slot)) (slot : Option Slot) (entry : Dirent) (d : Dinode) (old numbers : List ℕ) → s ≤ length slots → 16 * suc s ≤ largest_size → entry_of slot ≡ Some entry → IsDirent entry
+    → length old ≡ 1024 → block_number numbers (s / 64) ≢ 0
+    → (disk new : List (List ℕ)) (owner : ℕ → ℕ) → IsLaidOut disk owner n d (record { count = count; kind = Directory slots }) → numbers_of disk d ≡ numbers → recovered disk (block_number numbers (s / 64)) ≡ old
+    → IsPut disk new (block_number numbers (s / 64)) → recovered new (block_number numbers (s / 64)) ≡ with_dirent (s % 64) entry old
+    → Becomes disk new owner owner n d (record d { size = max d.size (16 * suc s) }) (record { count = count; kind = Directory (slots_with slots s slot) })
+unfolding with_dirent
+slot_makes n s count slots slot entry d old numbers past limit same is long some disk new owner laid names was put now =
+    slot_laid disk new owner n s count slots slot entry d laid past limit same
+    there
+  where
+    there : IsSlotPut disk new d s entry
+    there =
+        let at : block_number numbers (s / 64) ≡ block_number (numbers_of disk d) (s / 64) = ap (λ (ns : List ℕ). block_number ns (s / 64)) (sym names) in
+        record {
+          some = subst (λ (k : ℕ). k ≢ 0) at some;
+          block = subst (λ (k : ℕ). IsPut disk new k) at put;
+          spelled = is;
+          room = subst (λ (k : ℕ). 16 * (s % 64) ≤ length (recovered disk k)) at (let whole : length (recovered disk (block_number numbers (s / 64))) ≡ 1024 = ap length was ∙ long in omega (arith, whole));
+          written = subst (λ (k : ℕ). recovered new k ≡ overwrite (recovered disk k) (16 * (s % 64)) (spell_dirent entry)) at (now ∙ ap (λ (bytes : List ℕ). overwrite bytes (16 * (s % 64)) (spell_dirent entry)) (sym was));
+        }
+
+-- ---- a name cleared
+
+-- its slot is the first of that name
+pub cleared_first : (slots : List (Option Slot)) (e : Name) (s : ℕ) → IsFirstNamed slots e s → cleared slots e ≡ slots_with slots s None
+unfolding cleared
+cleared_first [] e s is = absurd (let low = is.below in omega (arith, low))
+cleared_first (None ∷ slots) e zero is = absurd (let z : false ≡ true = is.is in cc)
+cleared_first (None ∷ slots) e (suc s) is = ap (λ (ss : List (Option Slot)). None ∷ ss) (cleared_first slots e s (record { below = let low = is.below in omega (arith, low); is = is.is; first = λ q lt. is.first (suc q) (omega (arith, lt)) }))
+cleared_first (Some x ∷ slots) e zero is = let here : same_name x.name e ≡ true = is.is in rw here refl
+cleared_first (Some x ∷ slots) e (suc s) is =
+    let other : same_name x.name e ≡ false = is.first 0 (omega arith) in
+    rw other (ap (λ (ss : List (Option Slot)). Some x ∷ ss) (cleared_first slots e s (record { below = let low = is.below in omega (arith, low); is = is.is; first = λ q lt. is.first (suc q) (omega (arith, lt)) })))
