@@ -5,7 +5,8 @@ use Rattle.plain_tree.specs.declared.answer.Cause.TheVariants.{BadDescriptor}
 use Rattle.atomic_programs.specs.Prog.{Ret}
 use Rattle.atomic_programs.specs.Joined.{Handed}
 use Rattle.inode_machine.specs.World as above
-use Rattle.inode_machine.specs.World.Op.{Take, Give, UpStart, Up, WalkDown, Down, Free, Claim, Store, Fill, Enter, Clear, Empty, Slot, Install, StatFile, LockFile, ReadFile, CheckFile, JoinFile, LockOpen, WriteFile, Double, Shut, Settle, Lend, LendDirectory, Release, Join, Leave, Say}
+use Rattle.inode_machine.specs.World.Op.{Take, Give, UpStart, Up, WalkDown, Down, Free, Forget, Claim, Store, Fill, Enter, Clear, Empty, Slot, Install, StatFile, LockFile, ReadFile, CheckFile, JoinFile, LockOpen, WriteFile, Double, Shut, Settle, Lend, LendDirectory, Release, Join, Leave, Say}
+use Rattle.inodes_on_blocks.specs.Emptying.{empty, free}
 use Rattle.inodes_on_blocks.specs.Handlers as one
 use Rattle.inodes_on_blocks.specs.Handlers.{P}
 use Rattle.inodes_on_blocks.specs.Lowering.{Carry}
@@ -23,13 +24,14 @@ handlers sizes c (UpStart absolute) m = one.up_start absolute c m
 handlers sizes c (Up n) m = one.up n c m
 handlers sizes c (WalkDown n) m = one.walk_down n c m
 handlers sizes c (Down n) m = one.down n c m
-handlers sizes c (Free n) m = nothing_done c tt
+handlers sizes c (Free n) m = free sizes n c m
+handlers sizes c (Forget n) m = one.forget n c m
 handlers sizes c (Claim sort) m = nothing_done c above.NoInode
 handlers sizes c (Store n count) m = store sizes n count c m
 handlers sizes c (Fill n d) m = nothing_done c false
 handlers sizes c (Enter d e n) m = nothing_done c above.NoBlock
 handlers sizes c (Clear d e) m = nothing_done c tt
-handlers sizes c (Empty n) m = nothing_done c tt
+handlers sizes c (Empty n) m = empty sizes n c m
 handlers sizes c Slot m = one.slot c m
 handlers sizes c (Install f sort) m = one.install f sort c m
 handlers sizes c (StatFile fd) m = stat_file sizes fd c m
