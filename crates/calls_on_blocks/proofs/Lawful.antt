@@ -62,7 +62,7 @@ keeps h v w xs o = record { same = o.same; rests = o.rests; opens = o.opens }
 
 -- ---- above
 
-served_is : (call : Call) → serves call ≡ true → is_served call ≡ true
+pub served_is : (call : Call) → serves call ≡ true → is_served call ≡ true
 served_is call e = (and_true (is_covered call) (is_served call) e).1
 
 served_right : IsRight serves serves
@@ -106,7 +106,7 @@ begun_here {S} h call r s e = by (nat_lt h hart_count) refl e
     by true q e = let a = begun_is r s (refusal_for call) e in record { hart = q; serves_it = serves_then (fault_of call) (serves call) a.0; same = a.1 }
     by false q e = absurd cc
 
-below_count : (h : ℕ) → nat_lt h hart_count ≡ true → h < hart_count
+pub below_count : (h : ℕ) → nat_lt h hart_count ≡ true → h < hart_count
 below_count h e = grind (arith, nat_tests)
 
 -- no call that is served reserves anything

@@ -1,3 +1,4 @@
 pub mod Programs
 pub mod Theory
 pub mod Laws
+pub mod History
