@@ -33,7 +33,7 @@ no_mark None = refl
 no_mark (Some x) = absurd x
 
 -- there are no marks to be left out
-plain_same : {A : Type 0} (p : P A) → plain p ≡ p
+pub plain_same : {A : Type 0} (p : P A) → plain p ≡ p
 plain_same (Ret a) = refl
 plain_same (Do op m k) = λ i. Do op (λ a. no_mark (m a) i) (λ a. plain_same (k a) i)
 
@@ -91,7 +91,7 @@ all_back h s t calls one two doing left at first second =
     all_set h s t calls two left (slice_get_within calls h doing at) (second ∙ ap (λ (z : List (Option Running)). set z h left) first ∙ set-set calls h None left)
 
 -- idle harts have nothing in hand
-nones : (n h : ℕ) → ◌≡◌ {A = Option Running} (get_or (replicate n None) h None) None
+pub nones : (n h : ℕ) → ◌≡◌ {A = Option Running} (get_or (replicate n None) h None) None
 nones zero zero = refl
 nones zero (suc h) = refl
 nones (suc n) zero = refl

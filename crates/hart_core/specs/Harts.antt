@@ -16,7 +16,7 @@ use Rattle.hart_core.specs.declared.outcome.Stop.TheVariants as stop
 use Rattle.hart_core.specs.Blocks.{blocks, code, Programs}
 
 -- what a hart's step came to, in the words of the block machine
-abbrev pub outcome_of : Outcome → OutcomeOf Kind Reply (Unit {0})
+abbrev pub outcome_of : {Refusal : Type 0} → Outcome → OutcomeOf Kind Reply Refusal
 outcome_of outcome.Idle = WasIdle
 outcome_of outcome.Waits = DidWait
 outcome_of (outcome.Ran kind) = DidRun kind

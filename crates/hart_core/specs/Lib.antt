@@ -2,3 +2,4 @@ pub mod Blocks
 pub mod Harts
 pub mod Mounting
 pub mod Starts
+pub mod Worlds

@@ -1,11 +1,19 @@
 -- Why a call isn't started, whoever makes it and whatever the others do.
-use Rattle.std.specs.Prelude.{ℕ, List, length, Option, Some, None, if◌then◌else◌, nat_lt, ◌==◌}
+use Rattle.std.specs.Prelude.{ℕ, List, length, Option, Some, None, is_some, get_or, Result, Ok, Err, if◌then◌else◌, nat_lt, ◌==◌}
+use Rattle.buffer_cache.specs.Limits.{hart_count}
 use Rattle.std.specs.List.{list_any}
 use Rattle.atomic_programs.specs.Prog.{or_else}
 use Rattle.plain_tree.specs.declared.call.Call.{Call}
 use Rattle.plain_tree.specs.declared.call.Call.TheVariants.{Open, Read, Write, Link, Unlink, Mkdir, Chdir, Dup, Fstat, Close, Inherit}
 use Rattle.hart_core.specs.declared.starts.StartRefused.{StartRefused}
-use Rattle.hart_core.specs.declared.starts.StartRefused.TheVariants.{PathTooLong, ZeroInPath, TooLong}
+use Rattle.hart_core.specs.declared.starts.StartRefused.TheVariants as start
+use Rattle.hart_core.specs.declared.starts.StartRefused.TheVariants.{PathTooLong, ZeroInPath, TooLong, NotYet}
+use Rattle.atomic_programs.specs.Calls.{Outcome as OutcomeOf, Started, Refused}
+use Rattle.fs_machine.specs.declared.kind.Kind.{Kind}
+use Rattle.plain_tree.specs.declared.answer.Reply.{Reply}
+use Rattle.inode_machine.specs.Theory as calls
+use Rattle.calls_on_blocks.specs.Theory.{is_served}
+use Rattle.syscalls.specs.declared.running.Running.{Running}
 
 -- bytes of the longest path
 abbrev pub longest_path : ℕ
@@ -35,3 +43,26 @@ fault_of (Dup fd) = None
 fault_of (Fstat fd) = None
 fault_of (Close fd) = None
 fault_of (Inherit child) = None
+
+-- the first of them, and last that the call isn't there yet
+abbrev pub refusal_for : Call → Option StartRefused
+refusal_for call = or_else (fault_of call) (if is_served call then None else Some NotYet)
+
+-- Why hart h's call isn't started, where the harts do this: there is no such hart, it has a call, or the call itself is refused.
+abbrev pub refusal_of : List (Option Running) → ℕ → Call → Option StartRefused
+refusal_of doing h call = if nat_lt h hart_count then (if is_some (get_or doing h None) then Some start.Busy else refusal_for call) else Some start.NoSuchHart
+
+-- the same reason in the words of the calls
+abbrev pub reason_of : StartRefused → calls.Refusal
+reason_of start.Busy = calls.Busy
+reason_of start.PathTooLong = calls.PathTooLong
+reason_of start.ZeroInPath = calls.ZeroInPath
+reason_of start.TooLong = calls.TooLong
+reason_of start.NoSuchHart = calls.NoSuchHart
+reason_of start.NotEmptyHart = calls.NotEmptyHart
+reason_of start.NotYet = calls.NotCovered
+
+-- what a start came to; a refused one hands the call back
+abbrev pub start_outcome : Result (Unit {0}) (Call × StartRefused) → OutcomeOf Kind Reply calls.Refusal
+start_outcome (Ok done) = Started
+start_outcome (Err e) = Refused (reason_of e.1)

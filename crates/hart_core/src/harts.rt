@@ -1,5 +1,5 @@
 // Eight harts' machines over all that they share.
-ghost use Rattle.std.specs.Prelude.{◌≡◌, ◌<◌, false, Some, None, replicate, slice_get, slice_set};
+ghost use Rattle.std.specs.Prelude.{◌≡◌, ◌<◌, false, Some, None, get_or, is_some, length, replicate, slice_get, slice_set};
 ghost use Rattle.atomic_programs.specs.Calls.{Start as StartOf, Step as StepOf, Started};
 ghost use Rattle.atomic_programs.specs.Plain.{plain_makes, PlainHonest, PlainHonestStep, MayOf, hart_step};
 ghost use Rattle.atomic_programs.specs.Machines.{program_at};
@@ -122,6 +122,18 @@ impl<D: Device> Harts<D> {
             core,
             stopped: false,
             calls: [None, None, None, None, None, None, None, None],
+        }
+    }
+
+    /// Whether there is such a hart and it has a call. There are eight.
+    pub fn is_busy(&self, hart: u8) -> bool
+        ensures busy { result ≡ is_some (get_or self.now.calls hart None) }
+        ensures eight { length self.now.calls ≡ HARTS }
+    {
+        let calls = &self.calls;
+        match calls.get(hart as usize) {
+            None => false,
+            Some(call) => call.is_some(),
         }
     }
 

@@ -1,15 +1,16 @@
-//! Eight harts at once over all that they share.
+//! The file system: eight harts at once over all that they share.
 //!
-//! `specs/Blocks` is the block machine: what an event makes of the harts' programs and of what they share. `Harts` is that machine in
-//! code. What is asked of each operation is asked of `Harts::step` still, and by nothing given yet: that is to come from the
-//! theory of the calls.
+//! `World` is mounted on a disk, and has a call of each hart under way. Each event is a start or a step of one hart, and makes of it
+//! what the calls' programs on the blocks make (the crate calls_on_blocks): nothing is asked of the caller, since by what a world
+//! keeps each operation may be made where it is made. dup and fstat are there; the other calls are refused at their start.
 #![tactic(auto)]
 
 mod harts;
 mod mount;
 mod outcome;
 mod starts;
+mod world;
 
-pub use crate::harts::Harts;
 pub use crate::outcome::{Outcome, Stop};
 pub use crate::starts::{StartRefused, find_fault};
+pub use crate::world::World;

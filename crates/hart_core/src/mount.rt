@@ -52,25 +52,26 @@ fn prepare<D: Device>(alloc: Global, device: &mut D) -> Result<Ready, MountFault
     })
 }
 
-impl<D: Device> Harts<D> {
-    /// Examines the image on a device, takes all memory, and then recovers the disk. It answers the image's first damage, a failure of
-    /// the device, or want of memory, and hands the device back; nothing was written then, unless the device failed in the recovery.
-    pub fn mount(alloc: Global, device: D) -> Result<Harts<D>, (D, MountFault)>
-        ensures ok { IfOk result (λ harts. IsWellFormed (D.contents device) × Rests D.contents D.failures device harts) }
-        ensures err { IfErr result (λ e. HandsBack D.contents D.failures device e.0 e.1) }
-    {
-        let mut device = device;
-        match prepare(alloc, &mut device) {
-            Ok(ready) => {
-                let Ready {
-                    sizes,
-                    buffers,
-                    tables,
-                } = ready;
-                let log = Log::new(Cache::new(buffers, device), sizes);
-                Ok(Harts::new(Core { log, tables }))
-            }
-            Err(fault) => Err((device, fault)),
+/// Eight harts at rest over the recovered disk, and its sizes; or the device, with the image's first damage, its own failure, or want
+/// of memory. Nothing was written then, unless the device failed in the recovery.
+pub(crate) fn mount_harts<D: Device>(
+    alloc: Global,
+    device: D,
+) -> Result<(Harts<D>, Super), (D, MountFault)>
+    ensures ok { IfOk result (λ r. IsWellFormed (D.contents device) × Rests D.contents D.failures device r.0 × (r.1 ≡ sizes_of (D.contents device))) }
+    ensures err { IfErr result (λ e. HandsBack D.contents D.failures device e.0 e.1) }
+{
+    let mut device = device;
+    match prepare(alloc, &mut device) {
+        Ok(ready) => {
+            let Ready {
+                sizes,
+                buffers,
+                tables,
+            } = ready;
+            let log = Log::new(Cache::new(buffers, device), sizes);
+            Ok((Harts::new(Core { log, tables }), sizes))
         }
+        Err(fault) => Err((device, fault)),
     }
 }

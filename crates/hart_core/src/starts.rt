@@ -1,6 +1,7 @@
 // What is tested before a call is started.
 ghost use Rattle.std.specs.Prelude.{◌≡◌};
-ghost use Rattle.hart_core.specs.Starts.{fault_of, path_fault, part_fault};
+ghost use Rattle.calls_on_blocks.specs.Theory as calls;
+ghost use Rattle.hart_core.specs.Starts.{fault_of, refusal_for, path_fault, part_fault};
 
 use plain_tree::{Bytes, Call};
 
@@ -25,6 +26,8 @@ pub enum StartRefused {
     NoSuchHart = 45,
     /// The child of an inherit has descriptors.
     NotEmptyHart = 46,
+    /// This call isn't there yet.
+    NotYet = 49,
 }
 
 /// The first fault of a call itself: of each path in turn its length, then its zero bytes; or how many bytes are to be read or
@@ -47,6 +50,41 @@ pub fn find_fault(call: &Call) -> Option<StartRefused>
         Call::Fstat { fd: _ } => None,
         Call::Close { fd: _ } => None,
         Call::Inherit { child: _ } => None,
+    }
+}
+
+// Whether this call is there.
+fn is_served(call: &Call) -> bool
+    ensures { result ≡ calls.is_served call.now }
+{
+    match call {
+        Call::Dup { fd: _ } => true,
+        Call::Fstat { fd: _ } => true,
+        Call::Open { path: _, flags: _ } => false,
+        Call::Read { fd: _, buf: _ } => false,
+        Call::Write { fd: _, bytes: _ } => false,
+        Call::Link { old: _, new: _ } => false,
+        Call::Unlink { path: _ } => false,
+        Call::Mkdir { path: _ } => false,
+        Call::Chdir { path: _ } => false,
+        Call::Close { fd: _ } => false,
+        Call::Inherit { child: _ } => false,
+    }
+}
+
+/// Why a call isn't started, whichever hart makes it: its first fault, and last that it isn't there yet.
+pub(crate) fn find_refusal(call: &Call) -> Option<StartRefused>
+    ensures { result ≡ refusal_for call.now }
+{
+    match find_fault(call) {
+        Some(why) => Some(why),
+        None => {
+            if is_served(call) {
+                None
+            } else {
+                Some(StartRefused::NotYet)
+            }
+        }
     }
 }
 

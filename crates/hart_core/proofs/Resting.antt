@@ -1,0 +1,85 @@
+-- A mounted world is one.
+use Rattle.std.proofs.Common.{◌≡◌, ℕ, List, [], Option, None, refl, sym, ◌∙◌, ap, subst, get_or, replicate, arith}
+use Rattle.fs_layout.specs.declared.superblock.Super.{Super}
+use Rattle.fs_layout.specs.Recovered.{sizes_of}
+use Rattle.buffer_cache.specs.Limits.{buffer_count, hart_count}
+use Rattle.buffer_cache.specs.Seats.{unused_from}
+use Rattle.group_log.specs.declared.phase.Phase.TheVariants.{Open}
+use Rattle.group_log.specs.Soundness.{IsPlaced}
+use Rattle.image_tree.specs.Checks.{IsGoodSuper}
+use Rattle.image_tree.specs.Damage.{IsWellFormed}
+use Rattle.atomic_programs.specs.Calls.{fresh as fresh_state}
+use Rattle.atomic_programs.specs.Joined.{Both}
+use Rattle.atomic_programs.specs.Machines.{program_at}
+use Rattle.atomic_programs.specs.Plain.{SoundPlain}
+use Rattle.atomic_programs.proofs.Reached.{sound_fresh}
+use Rattle.file_table.specs.Machines.{IsEarly}
+use Rattle.fs_machine.specs.LogPart.{part_of}
+use Rattle.fs_machine.specs.Machines.{P}
+use Rattle.syscalls.specs.declared.running.Running.{Running}
+use Rattle.syscalls.specs.Machines.{running_of}
+use Rattle.plain_tree.specs.declared.answer.Reply.{Reply}
+use Rattle.inode_machine.specs.World as above
+use Rattle.inodes_on_blocks.specs.Below.{World}
+use Rattle.inodes_on_blocks.specs.Mounted.{IsMountable, ShowsItsTree, first_world, mounted, resting_log}
+use Rattle.inodes_on_blocks.proofs.Mounted.{mounts_show_their_trees}
+use Rattle.calls_on_blocks.specs.Theory.{block_calls, block_code}
+use Rattle.hart_core.specs.Harts.{HartsOf}
+use Rattle.hart_core.specs.Mounting.{Rests}
+use Rattle.hart_core.specs.Worlds.{IsWorld, calls_of}
+use Rattle.hart_core.proofs.Stepping.{nones}
+
+-- the inode blocks of a well-formed image begin early
+early : (disk : List (List ℕ)) → IsWellFormed disk → IsEarly (sizes_of disk).inodestart
+early disk well =
+    let good : IsGoodSuper (sizes_of disk) = (let a = well.0 in let b = a.0 in let c = b.0 in let f = c.0 in let g = f.0 in let h = g.0 in let i = h.0 in let j = i.0 in let k = j.0 in let l = k.0 in let m = l.0 in m.1.1) in
+    let inodes = good.inodes in
+    let bitmap = good.bitmap in
+    let size = good.size in
+    omega (arith, inodes, bitmap, size)
+
+module _ {D : Type 0} (contents : D → List (List ℕ)) (failures : D → ℕ) (device : D) (w : HartsOf D) (rests : Rests contents failures device w) where
+  abbrev disk : List (List ℕ)
+  disk = contents w.core.log.cache.device
+
+  abbrev count : ℕ
+  count = failures w.core.log.cache.device
+
+  mountable : IsMountable disk
+  mountable = record {
+    whole = rests.whole;
+    bytes = rests.bytes;
+    placed = subst (λ (s : Super). IsPlaced disk s) (sym rests.disk.sizes) rests.placed;
+    well = rests.disk.well;
+    empty = rests.disk.empty;
+  }
+
+  shows : ShowsItsTree disk count
+  shows = mounts_show_their_trees disk count mountable
+
+  -- the first world of the calls
+  abbrev pub first : Both World above.World
+  first = record { real = mounted disk count; seen = first_world disk }
+
+  log_same : resting_log disk count ≡ part_of contents failures w.core.log
+  log_same =
+      (λ i. record { contents = disk; failures = count; seats = unused_from 0 buffer_count; sizes = rests.disk.sizes i; group = []; members = replicate hart_count None; phase = Open })
+      ∙ sym (ap (part_of contents failures) rests.log)
+
+  none_runs : (h : ℕ) → ◌≡◌ {A = Option (P Reply)} None (program_at running_of (get_or w.calls h None))
+  none_runs h = sym (ap (λ (calls : List (Option Running)). program_at running_of (get_or calls h None)) rests.idle ∙ ap (program_at running_of) (nones 8 h))
+
+  -- nothing has happened in it
+  pub rests_first : (s : Super) → s ≡ sizes_of disk → SoundPlain (block_calls s) (block_code s) (calls_of contents failures s w)
+  rests_first s e =
+      subst (λ (z : Super). SoundPlain (block_calls z) (block_code z) (calls_of contents failures z w)) (sym e)
+      (record {
+        state = fresh_state (block_calls (sizes_of disk)) first;
+        sound = sound_fresh (block_calls (sizes_of disk)) first (shows.shows, shows.inv) (λ h. ((shows.stands h, refl), shows.idle h));
+        is = λ i. record { shared = record { log = log_same i; tables = sym rests.tables i }; stopped = sym rests.runs i; running = λ h. none_runs h i };
+      })
+
+  pub world_mounted : (s : Super) → s ≡ sizes_of (contents device) → IsWorld contents failures s w
+  world_mounted s e =
+      let same : s ≡ sizes_of disk = e ∙ sym rests.disk.sizes in
+      record { sound = rests_first s same; early = subst (λ (z : Super). IsEarly z.inodestart) (sym same) (early disk rests.disk.well) }

@@ -1,0 +1,34 @@
+use Rattle.std.proofs.Common.{◌≡◌, None, sym, ◌∙◌, subst, length}
+use Rattle.atomic_programs.specs.Calls.{Start, Started}
+use Rattle.hart_core.specs.Starts.{refusal_of}
+use Rattle.hart_core.specs.Worlds.{WorldOf, Makes}
+use Rattle.hart_core.proofs.Worlds.{idle_at, made_start, made_refused, world_started}
+use Rattle.hart_core.proofs.world.World.start.Goals as goal
+
+pub begin-requires-clause-idle : goal.begin-requires-clause-idle
+begin-requires-clause-idle g c =
+    let w = c.self.inside in
+    idle_at g.D.Device.contents g.D.Device.failures w.sizes w.harts
+    (subst (λ (v : WorldOf _). length v.harts.calls ≡ 8) (sym c.self.view_is) c.find_start_refusal.ensures.eight) c.args.hart c.args.call
+    (subst (λ (v : WorldOf _). refusal_of v.harts.calls c.args.hart c.args.call ≡ None) (sym c.self.view_is) (sym c.find_start_refusal.ensures.refusal ∙ c.in-None.is))
+
+pub invariant_of-self : goal.invariant_of-self
+invariant_of-self g c =
+    let w = c.self.inside in
+    let long = subst (λ (v : WorldOf _). length v.harts.calls ≡ 8) (sym c.self.view_is) c.find_start_refusal.ensures.eight in
+    let none = subst (λ (v : WorldOf _). refusal_of v.harts.calls c.args.hart c.args.call ≡ None) (sym c.self.view_is) (sym c.find_start_refusal.ensures.refusal ∙ c.in-None.is) in
+    world_started g.D.Device.contents g.D.Device.failures w.sizes w.harts long c.args.hart c.args.call c.begin.new.self c.self.invariant
+    (made_start g.D.Device.contents g.D.Device.failures w.sizes w.harts long c.args.hart c.args.call c.running-running.result c.begin.new.self none c.running-running.ensures.program c.begin.ensures.makes)
+
+pub returns-in-Some-clause-makes : goal.returns-in-Some-clause-makes
+returns-in-Some-clause-makes g c =
+    let v = c.args.self.now in
+    made_refused g.D.Device.contents g.D.Device.failures v.sizes v.harts c.find_start_refusal.ensures.eight c.args.hart c.args.call c.in-Some.why (sym c.find_start_refusal.ensures.refusal ∙ c.in-Some.is)
+
+pub returns-in-None-clause-makes : goal.returns-in-None-clause-makes
+returns-in-None-clause-makes g c =
+    let w = c.self.inside in
+    let long = subst (λ (v : WorldOf _). length v.harts.calls ≡ 8) (sym c.self.view_is) c.find_start_refusal.ensures.eight in
+    let none = subst (λ (v : WorldOf _). refusal_of v.harts.calls c.args.hart c.args.call ≡ None) (sym c.self.view_is) (sym c.find_start_refusal.ensures.refusal ∙ c.in-None.is) in
+    subst (λ (v : WorldOf _). Makes g.D.Device.contents g.D.Device.failures v.sizes (Start c.args.hart c.args.call) v.harts Started c.begin.new.self) c.self.view_is
+    (made_start g.D.Device.contents g.D.Device.failures w.sizes w.harts long c.args.hart c.args.call c.running-running.result c.begin.new.self none c.running-running.ensures.program c.begin.ensures.makes)

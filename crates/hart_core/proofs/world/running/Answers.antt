@@ -1,0 +1,13 @@
+use Rattle.std.proofs.Common.{sym, ◌∙◌, ap}
+use Rattle.plain_tree.specs.declared.call.Call.{Call}
+use Rattle.atomic_programs.specs.Prog.{plain}
+use Rattle.syscalls.specs.Machines.{running_of}
+use Rattle.calls_on_blocks.specs.Theory.{block_calls}
+use Rattle.calls_on_blocks.proofs.Bridges.{programs_are_lowered}
+use Rattle.hart_core.proofs.world.running.Goals as goal
+
+pub returns-in-Fstat-clause-program : goal.returns-in-Fstat-clause-program
+unfolding running_of
+returns-in-Fstat-clause-program c =
+    c.new-in-Fstat.ensures.program ∙ sym (programs_are_lowered c.args.sizes.now c.in-Fstat.fd).1
+    ∙ ap (λ (call : Call). plain ((block_calls c.args.sizes.now).program call)) (sym c.in-Fstat.is)

@@ -1,0 +1,38 @@
+-- What a world is to its callers, and what it keeps.
+use Rattle.std.specs.Prelude.{◌≡◌, ℕ, List}
+use Rattle.fs_layout.specs.declared.superblock.Super.{Super}
+use Rattle.plain_tree.specs.declared.answer.Reply.{Reply}
+use Rattle.plain_tree.specs.declared.call.Call.{Call}
+use Rattle.atomic_programs.specs.Calls.{Event, Outcome}
+use Rattle.atomic_programs.specs.Plain.{Plain, PlainHonest, SoundPlain, plain_makes}
+use Rattle.atomic_programs.specs.Tables.{plain_at}
+use Rattle.fs_machine.specs.declared.kind.Kind.{Kind}
+use Rattle.fs_machine.specs.LogPart.{Outside}
+use Rattle.file_table.specs.Machines.{IsEarly}
+use Rattle.syscalls.specs.Machines.{running_of}
+use Rattle.inode_machine.specs.Theory.{Refusal}
+use Rattle.calls_on_blocks.specs.Theory.{block_calls, block_code}
+use Rattle.hart_core.specs.Harts.{HartsOf, shared_of}
+
+-- eight harts, and the sizes of their disk
+pub record WorldOf (D : Type 0) : Type 0 where
+  pub harts : HartsOf D
+  pub sizes : Super
+
+module _ {D : Type 0} (contents : D → List (List ℕ)) (failures : D → ℕ) (sizes : Super) where
+  -- the harts as programs of calls on a disk of these sizes
+  abbrev pub calls_of : HartsOf D → Plain (block_calls sizes) (block_code sizes)
+  calls_of w = plain_at (block_calls sizes) (block_code sizes) running_of (shared_of contents failures w) w.stopped w.calls
+
+  -- an event makes these harts of those, and comes to this
+  abbrev pub Makes : Event Call Outside → HartsOf D → Outcome Kind Reply Refusal → HartsOf D → Type 0
+  Makes event old came new = plain_makes (block_calls sizes) (block_code sizes) event (calls_of old) ≡ record { came = came; after = calls_of new }
+
+  -- what the device answered in it is possible
+  abbrev pub Answers : Event Call Outside → HartsOf D → Type 0
+  Answers event old = PlainHonest (block_calls sizes) (block_code sizes) event (calls_of old)
+
+  -- The harts are as some list of events leaves them, of a world at rest; and the code can say the number of every inode's block.
+  pub record IsWorld (w : HartsOf D) : Type 0 where
+    pub sound : SoundPlain (block_calls sizes) (block_code sizes) (calls_of w)
+    pub early : IsEarly sizes.inodestart

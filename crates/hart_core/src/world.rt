@@ -1,0 +1,130 @@
+// The world: eight harts with their calls on a mounted disk.
+ghost use Rattle.std.specs.Prelude.{◌≡◌, true, ℕ, IfOk, IfErr, length};
+ghost use Rattle.atomic_programs.specs.Calls.{Start as StartOf, Step as StepOf};
+ghost use Rattle.atomic_programs.specs.Prog.{plain};
+ghost use Rattle.file_table.specs.Machines.{IsEarly};
+ghost use Rattle.fs_machine.specs.Machines.{CallsOnce};
+ghost use Rattle.fs_machine.specs.Steps.{State};
+ghost use Rattle.syscalls.specs.Machines.{running_of, RunningFits};
+ghost use Rattle.calls_on_blocks.specs.Theory.{block_calls, is_served};
+ghost use Rattle.fs_layout.specs.Recovered.{sizes_of};
+ghost use Rattle.image_tree.specs.Damage.{IsWellFormed};
+ghost use Rattle.hart_core.specs.Harts.{outcome_of, said, shared_of};
+ghost use Rattle.hart_core.specs.Mounting.{HandsBack, Rests};
+ghost use Rattle.hart_core.specs.Starts.{refusal_of, start_outcome};
+ghost use Rattle.hart_core.specs.Worlds.{Makes, Answers};
+
+use crate::harts::Harts;
+use crate::mount::mount_harts;
+use crate::outcome::Outcome;
+use crate::starts::{StartRefused, find_refusal};
+use block_device::Device;
+use buffer_cache::HARTS;
+use fs_layout::Super;
+use image_tree::MountFault;
+use plain_tree::Call;
+use std::alloc::Global;
+use std::marker::Model;
+use syscalls::{Dup, Fstat, Running};
+
+/// A mounted file system, with the calls that eight harts have under way. A contract sees its harts and the sizes of its disk.
+///
+/// After it was mounted it takes no memory. It must be unmounted.
+pub struct World<D: Device> {
+    harts: Harts<D>,
+    sizes: Super,
+}
+
+impl<D: Device> Model for World<D> {
+    ghost use Rattle.hart_core.specs.Worlds.{WorldOf, IsWorld};
+
+    ghost Value = { WorldOf D };
+
+    ghost view = { λ w. record { harts = w.harts; sizes = w.sizes } };
+
+    ghost invariant = { λ w. IsWorld D.contents D.failures w.sizes w.harts };
+}
+
+// A call from its beginning, on a disk of these sizes.
+#[tactic(auto, unfolding(syscalls::specs::Machines::running_of, syscalls::specs::Machines::RunningFits))]
+fn running(sizes: &Super, call: Call) -> Running
+    requires served { is_served call ≡ true }
+    requires early { IsEarly sizes.now.inodestart }
+    ensures program { running_of result ≡ plain ((block_calls sizes.now).program call) }
+    ensures fits { (hart : ℕ) (s : State) → RunningFits hart s result }
+{
+    match call {
+        Call::Dup { fd } => Running::Dup(Dup::new(fd)),
+        Call::Fstat { fd } => Running::Fstat(Fstat::new(sizes.inodestart, fd)),
+        _ => unreachable!(),
+    }
+}
+
+impl<D: Device> World<D> {
+    /// Examines the image on a device, takes all memory, and then recovers the disk. It answers the image's first damage, a failure of
+    /// the device, or want of memory, and hands the device back; nothing was written then, unless the device failed in the recovery.
+    /// Each hart is idle, in the root, and has no descriptors.
+    pub fn mount(alloc: Global, device: D) -> Result<World<D>, (D, MountFault)>
+        ensures ok { IfOk result (λ w. IsWellFormed (D.contents device) × Rests D.contents D.failures device w.harts × (w.sizes ≡ sizes_of (D.contents device))) }
+        ensures err { IfErr result (λ e. HandsBack D.contents D.failures device e.0 e.1) }
+    {
+        match mount_harts(alloc, device) {
+            Ok(mounted) => {
+                let (harts, sizes) = mounted;
+                Ok(World { harts, sizes })
+            }
+            Err(fault) => Err(fault),
+        }
+    }
+
+    // Why a hart's call isn't started.
+    fn find_start_refusal(&self, hart: u8, call: &Call) -> Option<StartRefused>
+        ensures refusal { result ≡ refusal_of self.now.harts.calls hart call.now }
+        ensures eight { length self.now.harts.calls ≡ HARTS }
+    {
+        let busy = self.harts.is_busy(hart);
+        if hart >= HARTS {
+            return Some(StartRefused::NoSuchHart);
+        }
+        if busy {
+            return Some(StartRefused::Busy);
+        }
+        find_refusal(call)
+    }
+
+    /// Starts a hart's call. It is refused, and handed back, where there is no such hart, where the hart has a call, at the call's own
+    /// first fault, and last where the call isn't there yet; nothing has changed then. A stopped world takes starts as before.
+    pub fn start(&mut self, hart: u8, call: Call) -> Result<(), (Call, StartRefused)>
+        ensures makes { Makes D.contents D.failures self.old.sizes (StartOf hart call) self.old.harts (start_outcome result) self.new.harts }
+        ensures sizes { self.new.sizes ≡ self.old.sizes }
+        ensures back { IfErr result (λ e. (e.0 ≡ call) × (self.new ≡ self.old)) }
+    {
+        match self.find_start_refusal(hart, &call) {
+            Some(why) => Err((call, why)),
+            None => {
+                let running = running(&self.sizes, call);
+                self.harts.begin(hart, running);
+                Ok(())
+            }
+        }
+    }
+
+    /// One operation of a hart's call. It is idle where there is no such hart, or the hart has no call; and a call is stopped by the
+    /// device's failure in this very step, or since the device has failed before. At most one call of the device is made.
+    pub fn step(&mut self, hart: u8) -> Outcome
+        ensures makes { Makes D.contents D.failures self.old.sizes (StepOf hart (said result (shared_of D.contents D.failures self.new.harts))) self.old.harts (outcome_of result) self.new.harts }
+        ensures honest { Answers D.contents D.failures self.old.sizes (StepOf hart (said result (shared_of D.contents D.failures self.new.harts))) self.old.harts }
+        ensures sizes { self.new.sizes ≡ self.old.sizes }
+        ensures called { CallsOnce D.Called self.old.harts.core.log.cache.device self.new.harts.core.log.cache.device }
+    {
+        self.harts.step(hart)
+    }
+
+    /// Ends it at any moment, in mid-call too, without a call of the device, and gives the device.
+    pub fn unmount(self) -> D
+        ensures { result ≡ self.harts.core.log.cache.device }
+    {
+        let World { harts, sizes: _ } = self;
+        harts.unmount()
+    }
+}
