@@ -1,5 +1,5 @@
 -- Each operation on whole inodes as its program below, on a disk of these sizes.
-use Rattle.std.specs.Prelude.{ℕ, false, [], Option}
+use Rattle.std.specs.Prelude.{ℕ, false, Option}
 use Rattle.fs_layout.specs.declared.superblock.Super.{Super}
 use Rattle.plain_tree.specs.declared.answer.Cause.TheVariants.{BadDescriptor}
 use Rattle.atomic_programs.specs.Prog.{Ret}
@@ -7,9 +7,11 @@ use Rattle.atomic_programs.specs.Joined.{Handed}
 use Rattle.inode_machine.specs.World as above
 use Rattle.inode_machine.specs.World.Op.{Take, Give, UpStart, Up, WalkDown, Down, Free, Forget, Claim, Store, Fill, Enter, Clear, Empty, Slot, Install, StatFile, LockFile, ReadFile, CheckFile, JoinFile, LockOpen, WriteFile, Double, Shut, Settle, Lend, LendDirectory, Release, Join, Leave, Say}
 use Rattle.inodes_on_blocks.specs.Emptying.{empty, free}
+use Rattle.inodes_on_blocks.specs.Files.{lock_file, lock_open, read_file}
 use Rattle.inodes_on_blocks.specs.Handlers as one
 use Rattle.inodes_on_blocks.specs.Handlers.{P}
 use Rattle.inodes_on_blocks.specs.Lowering.{Carry}
+use Rattle.inodes_on_blocks.specs.Naming.{clear}
 use Rattle.inodes_on_blocks.specs.Reading.{stat_file, take}
 use Rattle.inodes_on_blocks.specs.Storing.{store}
 
@@ -30,14 +32,14 @@ handlers sizes c (Claim sort) m = nothing_done c above.NoInode
 handlers sizes c (Store n count) m = store sizes n count c m
 handlers sizes c (Fill n d) m = nothing_done c false
 handlers sizes c (Enter d e n) m = nothing_done c above.NoBlock
-handlers sizes c (Clear d e) m = nothing_done c tt
+handlers sizes c (Clear d e) m = clear sizes d e c m
 handlers sizes c (Empty n) m = empty sizes n c m
 handlers sizes c Slot m = one.slot c m
 handlers sizes c (Install f sort) m = one.install f sort c m
 handlers sizes c (StatFile fd) m = stat_file sizes fd c m
-handlers sizes c (LockFile fd) m = nothing_done c (above.NotLocked BadDescriptor)
-handlers sizes c (ReadFile fd n count) m = nothing_done c []
-handlers sizes c (LockOpen fd n) m = nothing_done c tt
+handlers sizes c (LockFile fd) m = lock_file sizes fd c m
+handlers sizes c (ReadFile fd n count) m = read_file fd n count c m
+handlers sizes c (LockOpen fd n) m = lock_open sizes fd n c m
 handlers sizes c (CheckFile fd) m = one.check_file fd c m
 handlers sizes c (JoinFile fd) m = one.join_file fd c m
 handlers sizes c (WriteFile fd n bytes) m = nothing_done c (above.Refused BadDescriptor)
