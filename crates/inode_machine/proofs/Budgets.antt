@@ -497,7 +497,7 @@ transactions_are_small (calls.Read fd buffer) = (few, λ a. by a)
   where
     by : (a : Locking) → HasRoom unspent (read_on fd buffer a)
     by (NotLocked c) = tt
-    by (LocksIt n) = (few, λ _. (few, λ _. tt))
+    by (LocksIt n offset) = (few, λ _. (few, λ _. tt))
 transactions_are_small (calls.Write fd bytes) = writes fd bytes
 transactions_are_small (calls.Link old new) = (few, λ _. walks_to unspent few (lost (calls.Link old new)) (is_lost (calls.Link old new)) (steps.Find old) old (link_at old new) (λ n ms. links_at old new n ms))
 transactions_are_small (calls.Unlink path) = on_parent unspent (calls.Unlink path) (steps.Unlink path) path (unlink_in path) (elements path) (λ d e ms. unlinks_in path d e ms)

@@ -180,9 +180,9 @@ pub read_ok : (h fd : ℕ) (buffer : List ℕ) (w : World) → (w.desks h).lende
 read_ok h fd buffer w free lt idle asked =
     s-lock-file fd (length buffer) refl free lt (omega arith) idle.walk idle.pending idle.opening (λ j. ap (λ (f : ℕ → Option Held). f j) idle.inodes) (λ c. ([], parts.failed (calls.Read fd buffer) c, read_failed fd buffer c))
     (λ l c u q own. record { wp = (λ y. read_failed fd buffer c, idle_as h u _ own (rests_as (own_of h w) (own_of h w).row (own_of h w).desk idle refl refl refl refl refl refl refl refl)) })
-    (λ l i x u q key own.
-    s-read-file fd i (length buffer) x own free lt (omega (arith, q)) asked idle.walk idle.pending idle.opening (put_same (own_of h w).inodes i (Some (locked_held x)))
-    (record { opened = record { slot = key.opened.slot; below = key.opened.below; is = key.opened.is; key = key.opened.key; at = key.opened.at; number = key.opened.number }; readable = key.readable; read = key.read }) (λ b. ([], read_reply fd buffer b, read_written fd buffer b))
+    (λ l i offset x u q key stands own.
+    s-read-file fd i offset (length buffer) x own free lt (omega (arith, q)) asked idle.walk idle.pending idle.opening (put_same (own_of h w).inodes i (Some (locked_held x)))
+    (record { opened = record { slot = key.opened.slot; below = key.opened.below; is = key.opened.is; key = key.opened.key; at = key.opened.at; number = key.opened.number }; readable = key.readable; read = key.read }) (record { entry = stands.entry; at = stands.at; number = stands.number; offset_is = stands.offset_is }) (λ b. ([], read_reply fd buffer b, read_written fd buffer b))
     (λ l2 b u2 q2 own2.
     s-say own2 free lt (omega (arith, q, q2)) (unlocks_nothing _ (given_is (own_of h w).inodes i (Some (locked_held x)) idle.inodes)) idle.joined (λ l3 u3 q3 _ own3.
     record {

@@ -27,10 +27,10 @@ use Rattle.tree_moves.specs.Moves.Move.{Own as OwnMove}
 use Rattle.inode_machine.specs.World.{Mine, Entry, World, Locking as Lockup, NotLocked, LocksIt}
 use Rattle.inode_machine.specs.Marks.{places, with_mark, made_by, new_id, with_made}
 use Rattle.inode_machine.specs.Descriptors.{refused_read}
-use Rattle.inode_machine.specs.Exec.{with_walk, slot_at, entry_at, entry_moved, part_of, entry_of, lock_at, lock_if, locked, mode_refusal, read_at, read_refused, unlocked, with_offset}
-use Rattle.inode_machine.specs.Rules.{Own, own_names, Held, own_of, Inv, machine, EntryOut, asked_limit}
+use Rattle.inode_machine.specs.Exec.{with_walk, slot_at, entry_at, entry_moved, part_of, entry_of, lock_at, offset_of, lock_if, locked, mode_refusal, read_at, read_refused, unlocked, with_offset}
+use Rattle.inode_machine.specs.Rules.{Own, own_names, Held, own_of, Inv, machine, EntryOut, asked_limit, KeepsFiles, StandsAt}
 use Rattle.inode_machine.proofs.Frame.{Ours, Stays, ours_none, put_elim, Fair, fair, has_inode}
-use Rattle.inode_machine.proofs.Rules.{s-owned, quiet, has_disk, has_node, fine_after, is_out, locked_held, locking, locks_it, locks_none}
+use Rattle.inode_machine.proofs.Rules.{s-owned, s-owned-from, quiet, has_disk, has_node, fine_after, is_out, locked_held, locking, locks_it, locks_none}
 use Rattle.inode_machine.proofs.Counting.{after_unlock, gives}
 use Rattle.inode_machine.proofs.Rows.{below_is}
 use Rattle.inode_machine.proofs.Walking.{refs_walk, stage_walk, moves_good}
@@ -330,11 +330,28 @@ open_from h fd s e v O inv ov lt hit = record {
   number = refl;
 }
 
+-- The file behind it stands at this offset.
+pub record StandsBy (w : World) (slot n offset : ℕ) : Type 0 where
+  pub entry : Entry
+  pub at : w.files slot ≡ Some entry
+  pub number : entry.file.number ≡ n
+  pub offset_is : entry.file.offset ≡ offset
+
+-- so it does while the hart keeps the inode
+pub stands_still : (h fd n offset : ℕ) (x : Held) (w v : World) (O : Own) (k : IsOpenAt O fd n) → own_of h w ≡ O → own_of h v ≡ O → h < hart_count → O.inodes n ≡ Some x → KeepsFiles h w v → StandsBy w k.slot n offset → StandsAt h fd offset v
+stands_still h fd n offset x w v O k ow ov lt isn keeps s =
+    let y = keeps fd k.slot s.entry lt k.below (ap (λ (o : Own). o.desk.fds fd) ow ∙ k.is) s.at (ap w.keeper s.number ∙ (has_inode h n w O x ow isn).0) in
+    (λ r. offset_of (entry_at v.files (slot_is h fd n v O k ov r))) ∙ ap offset_of y.1 ∙ ap (λ (f : OpenFile). f.offset) y.2 ∙ s.offset_is
+
 -- That is open for reading, where its inode has this node.
 pub record IsReadable (O : Own) (fd n : ℕ) (x : Option Node) : Type 0 where
   pub opened : IsOpenAt O fd n
   pub readable : opened.key.readable ≡ true
   pub read : (s : Sort) → sort_of x ≡ Some s → no_driver_for s ≡ None
+
+some_node : (x : Option Node) (s : Sort) → sort_of x ≡ Some s → (y : Node) × (x ≡ Some y)
+some_node None s e = absurd cc
+some_node (Some y) s e = (y, refl)
 
 reads_from : (r : Bool) (s : Sort) → mode_refusal r s ≡ None → (r ≡ true) × (no_driver_for s ≡ None)
 reads_from true s e = (refl, e)
@@ -345,7 +362,7 @@ pub s-lock-file : {A : Type 0} {h : ℕ} (fd count : ℕ) {k : Lockup → P mach
     → own_of h w ≡ O → O.desk.lender ≡ None → h < hart_count → 3 < n → O.mine.walk ≡ None → O.mine.pending ≡ None → O.desk.opening ≡ None → ((j : ℕ) → O.inodes j ≡ None)
     → ((c : Cause) → B (fails (Read fd count) c ∷ es))
     → ((l : ℕ) (c : Cause) (u : World) → l + 4 ≡ n → own_of h u ≡ record O { mine = record { refs = O.mine.refs; walk = None; pending = None } } → Safe machine h B Q (k (NotLocked c)) l (fails (Read fd count) c ∷ es) u)
-    → ((l i : ℕ) (x : Option Node) (u : World) → l + 4 ≡ n → IsReadable O fd i x → own_of h u ≡ record O { inodes = put O.inodes i (Some (locked_held x)) } → Safe machine h B Q (k (LocksIt i)) l es u)
+    → ((l i offset : ℕ) (x : Option Node) (u : World) → l + 4 ≡ n → (key : IsReadable O fd i x) → StandsBy u key.opened.slot i offset → own_of h u ≡ record O { inodes = put O.inodes i (Some (locked_held x)) } → Safe machine h B Q (k (LocksIt i offset)) l es u)
     → Safe machine h B Q (Do (LockFile fd) (refused_read fd count) k) n es w
 s-lock-file {A} {h} fd count {k} {B} {Q} {n} {es} {w} {O} owns free lt pos walks none idle empty bf bad then_ = s-owned owns free pos (λ v inv ov. (locks_none h v O inv ov (λ i x q. absurd (let a = empty i in cc (a, q))), (λ _ _. at v inv ov (slot_at v h fd) refl)))
   where
@@ -356,18 +373,18 @@ s-lock-file {A} {h} fd count {k} {B} {Q} {n} {es} {w} {O} owns free lt pos walks
     opening_none v ov = ap (λ (o : Own). o.desk.opening) ov ∙ idle
 
     had : (v : World) → Inv v → own_of h v ≡ O → (s : ℕ) (e : Entry) → slot_at v h fd ≡ Some s → Behind h fd s e v → read_refused (Some e) ≡ None → (r : Option ℕ) → v.lock e.file.number ≡ r
-        → Goal v (lock_if h e.file.number (LocksIt e.file.number) v (locked h e.file.number v) r)
+        → Goal v (lock_if h e.file.number (LocksIt e.file.number e.file.offset) v (locked h e.file.number v) r)
     had v inv ov s e q hit goes (Some g) r = subst (λ (z : Option Entry). EntryOut h v z) (sym (entry_is h fd s e v q hit)) (is_out h e.file.number g v O inv ov (empty e.file.number) r)
     had v inv ov s e q hit goes None r =
         let a = locking h e.file.number v O ov free lt inv (empty e.file.number) (inl (behind_opens h fd s e v hit)) r in
         let m = reads_from e.file.readable e.sort goes in
-        quiet a.fair refl pos (λ l p. (then_ l e.file.number (v.all.nodes e.file.number) (locked h e.file.number v) p
+        quiet a.fair refl pos (λ l p. (then_ l e.file.number e.file.offset (v.all.nodes e.file.number) (locked h e.file.number v) p
         (record {
           opened = open_from h fd s e v O inv ov lt hit;
           readable = m.0;
           read = λ z is. let same : Some z ≡ Some e.sort = sym is ∙ inv.sorts s e hit.at in let eq : z ≡ e.sort = cc in ap no_driver_for eq ∙ m.1;
         })
-        a.owned).wp)
+        (record { entry = e; at = hit.at; number = refl; offset_is = refl }) a.owned).wp)
 
     by_cause : (v : World) → Inv v → own_of h v ≡ O → (s : ℕ) (e : Entry) → slot_at v h fd ≡ Some s → Behind h fd s e v → (o : Option Cause) → read_refused (Some e) ≡ o → Goal v (lock_at h v (Some e) o)
     by_cause v inv ov s e q hit None goes = had v inv ov s e q hit goes (v.lock e.file.number) refl
@@ -385,22 +402,25 @@ s-lock-file {A} {h} fd count {k} {B} {Q} {n} {es} {w} {O} owns free lt pos walks
         subst (λ (z : Option Entry). Goal v (lock_at h v z (read_refused z))) (sym b.1.at) (by_cause v inv ov s b.0 q b.1 (read_refused (Some b.0)) refl)
 
 -- The part is read, the offset moves, and the lock is given up.
-pub s-read-file : {A : Type 0} {h : ℕ} (fd i count : ℕ) (x : Option Node) {k : List ℕ → P machine A} {B : List Step → Type 0} {Q : A → List Step → World → Type 0} {n : ℕ} {es : List Step} {w : World} {O : Own}
-    → own_of h w ≡ O → O.desk.lender ≡ None → h < hart_count → 1608 < n → count ≤ asked_limit → O.mine.walk ≡ None → O.mine.pending ≡ None → O.desk.opening ≡ None → O.inodes i ≡ Some (locked_held x) → IsReadable O fd i x
+pub s-read-file : {A : Type 0} {h : ℕ} (fd i offset count : ℕ) (x : Option Node) {k : List ℕ → P machine A} {B : List Step → Type 0} {Q : A → List Step → World → Type 0} {n : ℕ} {es : List Step} {w : World} {O : Own}
+    → own_of h w ≡ O → O.desk.lender ≡ None → h < hart_count → 1608 < n → count ≤ asked_limit → O.mine.walk ≡ None → O.mine.pending ≡ None → O.desk.opening ≡ None → O.inodes i ≡ Some (locked_held x) → (key : IsReadable O fd i x) → StandsBy w key.opened.slot i offset
     → ((b : List ℕ) → B (read_step fd count b ∷ es))
     → ((l : ℕ) (b : List ℕ) (u : World) → l + 1609 ≡ n → own_of h u ≡ record O { inodes = put O.inodes i None; mine = record { refs = O.mine.refs; walk = None; pending = None } } → Safe machine h B Q (k b) l (read_step fd count b ∷ es) u)
-    → Safe machine h B Q (Do (ReadFile fd i count) (λ b. own_step (Read fd count)) k) n es w
-s-read-file {A} {h} fd i count x {k} {B} {Q} {n} {es} {w} {O} owns free lt pos asked walks none idle isi key bd then_ = s-owned owns free pos (λ v inv ov.
+    → Safe machine h B Q (Do (ReadFile fd i offset count) (λ b. own_step (Read fd count)) k) n es w
+s-read-file {A} {h} fd i offset count x {k} {B} {Q} {n} {es} {w} {O} owns free lt pos asked walks none idle isi key stands bd then_ = s-owned-from owns free pos (λ v inv ov keeps.
     let z = entry_here h fd i v O key.opened inv ov lt idle in
     let e : Entry = z.0 in
     let number : e.file.number ≡ i = ap (λ (q : Key). q.number) z.2 ∙ key.opened.number in
     let readable : e.file.readable ≡ true = ap (λ (q : Key). q.readable) z.2 ∙ key.readable in
     let sort : sort_of (v.all.nodes e.file.number) ≡ Some e.sort = inv.sorts key.opened.slot e z.1.at in
-    let goes : read_refused (Some e) ≡ None = (λ r. mode_refusal (readable r) e.sort) ∙ key.read e.sort (ap (λ (o : Option Node). sort_of o) (sym (ap v.all.nodes number ∙ has_node h i v O (locked_held x) ov isi)) ∙ sort) in
-    ((locks_it h i v O (locked_held x) ov isi refl, record { entry = e; at = entry_is h fd key.opened.slot e v (slot_is h fd i v O key.opened ov) z.1; number = number; readable = goes }, asked), (λ _ _. at v inv ov e z.1 number goes)))
+    let typed : sort_of x ≡ Some e.sort = ap (λ (o : Option Node). sort_of o) (sym (ap v.all.nodes number ∙ has_node h i v O (locked_held x) ov isi)) ∙ sort in
+    let y = some_node x e.sort typed in
+    let plain : no_driver_for e.sort ≡ None = key.read e.sort typed in
+    let goes : read_refused (Some e) ≡ None = (λ r. mode_refusal (readable r) e.sort) ∙ plain in
+    ((locks_it h i v O (locked_held x) ov isi refl, record { entry = e; at = entry_is h fd key.opened.slot e v (slot_is h fd i v O key.opened ov) z.1; number = number; readable = goes }, stands_still h fd i offset (locked_held x) w v O key.opened owns ov lt isi keeps stands, record { node = y.0; is = has_disk h i v O (locked_held x) ov isi ∙ y.1; fits = sort_driver (Some y.0) e.sort (ap (λ (o : Option Node). sort_of o) (sym y.1) ∙ typed) ∙ plain }, asked), (λ _ _. at v inv ov e z.1 number goes)))
   where
     Goal : World → Came (List ℕ) World → Type 0
-    Goal v z = Good machine (List ℕ) h (λ a. places h (ReadFile fd i count) a (own_step (Read fd count)) v) 1608 n B es v ⊥ (with_mark h (λ (_ : List ℕ). own_step (Read fd count)) z) (λ l a u. Wp machine h B Q (k a) l (onto (own h (places h (ReadFile fd i count) a (own_step (Read fd count)) v)) es) u)
+    Goal v z = Good machine (List ℕ) h (λ a. places h (ReadFile fd i offset count) a (own_step (Read fd count)) v) 1608 n B es v ⊥ (with_mark h (λ (_ : List ℕ). own_step (Read fd count)) z) (λ l a u. Wp machine h B Q (k a) l (onto (own h (places h (ReadFile fd i offset count) a (own_step (Read fd count)) v)) es) u)
 
     O1 : Own
     O1 = record O { inodes = put O.inodes i None }

@@ -16,23 +16,31 @@ use Rattle.inode_machine.specs.World.{Mine, Entry, World, Op, Answer, Mark, stag
 use Rattle.inode_machine.specs.Exec.{file_count, with_refs, lock_if, counted_up, locked, up_if, has_place}
 use Rattle.inode_machine.specs.Marks.{marked, go, places, with_mark}
 use Rattle.inode_machine.specs.World.Op.{Up}
-use Rattle.inode_machine.specs.Rules.{Own, shop_of, Opens, number_is, Held, view, is_hart, own_of, Found, Pinned, Reached, IsAlone, reference_limit, Inv, IsOut, MayWait, machine, more, Others, LocksNone, Asks, Rests, looking_cost, Honest, Sought}
+use Rattle.inode_machine.specs.Rules.{Own, shop_of, Opens, number_is, Held, view, is_hart, own_of, Found, Pinned, Reached, IsAlone, reference_limit, Inv, IsOut, MayWait, machine, more, Others, LocksNone, Asks, Rests, looking_cost, Honest, KeepsFiles, Sought}
 use Rattle.inode_machine.proofs.Frame.{shop_same, put_elim, ours_none, ours_some, kept_here, Did, Fair, fair, files_then, own_inodes, has_inode, has_none, found_more, two_refs, refers_put}
 use Rattle.inode_machine.specs.Inodes.{Looking, Seen, Sort, seen_in, sort_of}
 
--- an operation: what the hart owns stays until it runs
-pub s-owned : {A : Type 0} {h : ℕ} {op : Op} {m : Answer op → Option Mark} {k : Answer op → P machine A} {B : List Step → Type 0} {Q : A → List Step → World → Type 0} {n : ℕ} {es : List Step} {w : World} {O : Own}
+-- an operation: what the hart owns stays until it runs, and what it has open of an inode that it keeps
+pub s-owned-from : {A : Type 0} {h : ℕ} {op : Op} {m : Answer op → Option Mark} {k : Answer op → P machine A} {B : List Step → Type 0} {Q : A → List Step → World → Type 0} {n : ℕ} {es : List Step} {w : World} {O : Own}
     → own_of h w ≡ O → O.desk.lender ≡ None → more op < n
-    → ((v : World) → Inv v → own_of h v ≡ O → Asks h op v × ((x : Outside) → Honest h op v x
+    → ((v : World) → Inv v → own_of h v ≡ O → KeepsFiles h w v → Asks h op v × ((x : Outside) → Honest h op v x
     → Good machine (Answer op) h (λ a. places h op a (m a) v) (more op) n B es v (MayWait h op v) (go h x op m v) (λ l a u. Wp machine h B Q (k a) l (onto (own h (places h op a (m a) v)) es) u)))
     → Safe machine h B Q (Do op m k) n es w
-s-owned {A} {h} {op} {m} {k} {B} {Q} {n} {es} {w} {O} owns free pos rule =
-    record { wp = λ v xs o inv. let ov = o.same (ap (λ (z : Own). z.desk.lender) owns ∙ free) ∙ owns in ((λ y. inl o.none), (ap (λ (z : Own). z.desk.lender) ov ∙ free, (rule v inv ov).0), (λ x honest. at v xs x o.none ((rule v inv ov).1 x honest)), pos) }
+s-owned-from {A} {h} {op} {m} {k} {B} {Q} {n} {es} {w} {O} owns free pos rule =
+    record { wp = λ v xs o inv. let unlent = ap (λ (z : Own). z.desk.lender) owns ∙ free in let ov = o.same unlent ∙ owns in let r = rule v inv ov (o.opens unlent) in ((λ y. inl o.none), (ap (λ (z : Own). z.desk.lender) ov ∙ free, r.0), (λ x honest. at v xs x o.none (r.1 x honest)), pos) }
   where
     at : (v : World) (xs : List Step) (x : Outside) → xs ≡ []
         → Good machine (Answer op) h (λ a. places h op a (m a) v) (more op) n B es v (MayWait h op v) (go h x op m v) (λ l a u. Wp machine h B Q (k a) l (onto (own h (places h op a (m a) v)) es) u)
         → Good machine (Answer op) h (λ a. places h op a (m a) v) (more op) n B (onto xs es) v (MayWait h op v) (go h x op m v) (λ l a u. Wp machine h B Q (k a) l (onto (own h (places h op a (m a) v)) (onto xs es)) u)
     at v xs x e g = subst (λ (zs : List Step). Good machine (Answer op) h (λ a. places h op a (m a) v) (more op) n B (onto zs es) v (MayWait h op v) (go h x op m v) (λ l a u. Wp machine h B Q (k a) l (onto (own h (places h op a (m a) v)) (onto zs es)) u)) (sym e) g
+
+-- what the hart owns alone
+pub s-owned : {A : Type 0} {h : ℕ} {op : Op} {m : Answer op → Option Mark} {k : Answer op → P machine A} {B : List Step → Type 0} {Q : A → List Step → World → Type 0} {n : ℕ} {es : List Step} {w : World} {O : Own}
+    → own_of h w ≡ O → O.desk.lender ≡ None → more op < n
+    → ((v : World) → Inv v → own_of h v ≡ O → Asks h op v × ((x : Outside) → Honest h op v x
+    → Good machine (Answer op) h (λ a. places h op a (m a) v) (more op) n B es v (MayWait h op v) (go h x op m v) (λ l a u. Wp machine h B Q (k a) l (onto (own h (places h op a (m a) v)) es) u)))
+    → Safe machine h B Q (Do op m k) n es w
+s-owned owns free pos rule = s-owned-from owns free pos (λ v inv ov keeps. rule v inv ov)
 
 -- what a step leaves to another hart
 pub others : {h : ℕ} {v u : World} → Fair h v u → (g : ℕ) → g ≢ h → Others g v [] u

@@ -214,9 +214,9 @@ s-piece : {h : ℕ} (fd n : ℕ) (bytes : List ℕ) (i : ℕ) (O : Own) {more : 
     → ((l : ℕ) (u : World) → l + 165 ≡ N → own_of h u ≡ unjoined (given O) → Safe machine h (Begun descriptor_calls (calls.Write fd bytes)) (Ends descriptor_calls h (calls.Write fd bytes)) more l (wrote_steps fd bytes (suc i)) u)
     → Safe machine h (Begun descriptor_calls (calls.Write fd bytes)) (Ends descriptor_calls h (calls.Write fd bytes)) (write_piece fd n bytes i more) N (wrote_steps fd bytes i) w
 s-piece {h} fd n bytes i O own free lt pos joined rests key below rest =
-    s-lock-open fd n own free lt (omega (arith, pos)) rests.opening (λ j. ap (λ (f : ℕ → Option Held). f j) rests.inodes) key (λ l0 x u0 q0 own0.
-    s-write-file fd n (piece bytes i) x own0 free lt (omega (arith, pos, q0)) rests.walk rests.pending rests.opening (put_same O.inodes n (Some (locked_held (Some x)))) joined
-    (record { opened = record { slot = key.opened.slot; below = key.opened.below; is = key.opened.is; key = key.opened.key; at = key.opened.at; number = key.opened.number }; writable = key.writable }) (piece_short bytes i) (λ c. begun_failed fd bytes i c below) (begun_wrote fd bytes i below)
+    s-lock-open fd n own free lt (omega (arith, pos)) rests.opening (λ j. ap (λ (f : ℕ → Option Held). f j) rests.inodes) key (λ l0 offset x u0 q0 stands own0.
+    s-write-file fd n offset (piece bytes i) x own0 free lt (omega (arith, pos, q0)) rests.walk rests.pending rests.opening (put_same O.inodes n (Some (locked_held (Some x)))) joined
+    (record { opened = record { slot = key.opened.slot; below = key.opened.below; is = key.opened.is; key = key.opened.key; at = key.opened.at; number = key.opened.number }; writable = key.writable }) (record { entry = stands.entry; at = stands.at; number = stands.number; offset_is = stands.offset_is }) (piece_short bytes i) (λ c. begun_failed fd bytes i c below) (begun_wrote fd bytes i below)
     (λ l c u q own2. s-leaves O n (Some (locked_held (Some x))) own2 free lt (omega (arith, pos, q0, q)) rests.inodes joined (λ l2 u2 q2 own3.
     s-say own3 free lt (omega (arith, pos, q0, q, q2)) (unlocks_nothing nothing refl) refl (λ l3 u3 q3 _ own4. record { wp = (λ _. failed_written fd bytes i c below, idle_as h u3 _ own4 (rests_again O rests)) })))
     (λ l j u q dirty own2. s-leaves (filled O) n (Some (locked_held (Some x))) own2 free lt (omega (arith, pos, q0, q)) rests.inodes joined (λ l2 u2 q2 own3.

@@ -18,20 +18,20 @@ use Rattle.inode_machine.specs.World.{Entry, Desk, World, stage_of, Outside, Roo
 use Rattle.inode_machine.specs.World.Op.{CheckFile, JoinFile, LockOpen, WriteFile}
 use Rattle.inode_machine.specs.Inodes.{Sort, sort_of}
 use Rattle.inode_machine.specs.Marks.{Made, places, with_mark, made_by, new_id, with_made, spoiled}
-use Rattle.inode_machine.specs.Exec.{slot_at, entry_at, entry_of, lock_if, locked, join_at, unlocked, with_joined, with_bytes, with_offset, with_record, with_walk, mode_refusal, write_at, write_if, write_refused}
+use Rattle.inode_machine.specs.Exec.{slot_at, entry_at, entry_of, offset_of, lock_if, locked, join_at, unlocked, with_joined, with_bytes, with_offset, with_record, with_walk, mode_refusal, write_at, write_if, write_refused}
 use Rattle.plain_tree.specs.HartRow.{Key}
 use Rattle.plain_tree.proofs.Settling.{file_settled, settle_again}
 use Rattle.inode_machine.specs.Rules.{Own, Held, view, is_hart, own_of, shop_of, Inv, machine, IsOut, HonestPiece}
 use Rattle.inode_machine.specs.Parts.{own_step}
 use Rattle.inode_machine.specs.Descriptors.{refused_to, writes}
 use Rattle.inode_machine.proofs.Frame.{put_elim, is_put, shop_same, ours_none, ours_some, kept_here, Did, Fair, fair, fair_then, own_inodes, has_inode, stands_in}
-use Rattle.inode_machine.proofs.Rules.{s-owned, quiet, fine_after, has_disk, has_node, others, locking, locked_held, is_out, locks_it, locks_none, UnlocksAll}
+use Rattle.inode_machine.proofs.Rules.{s-owned, s-owned-from, quiet, fine_after, has_disk, has_node, others, locking, locked_held, is_out, locks_it, locks_none, UnlocksAll}
 use Rattle.inode_machine.proofs.Counting.{Gives, after_unlock, gives}
 use Rattle.inode_machine.proofs.Walking.{stage_walk, moves_good, own_walk, walk_did}
 use Rattle.inode_machine.proofs.Shops.{own_takes}
 use Rattle.inode_machine.proofs.Dups.{Behind, behind, behind_none, Flagging, flagging, filling, fails, refused_good, Refused as RefusedStep}
 use Rattle.inode_machine.proofs.Stats.{entry_is, node_settled, node_there}
-use Rattle.inode_machine.proofs.Readings.{IsOpenAt, Moving, entry_here, moved_names, moved_world, moving, offset_on, open_from, slot_is}
+use Rattle.inode_machine.proofs.Readings.{IsOpenAt, StandsBy, stands_still, Moving, entry_here, moved_names, moved_world, moving, offset_on, open_from, slot_is}
 use Rattle.inode_machine.proofs.Pieces.{write_by_kind, write_place, write_refused_at, write_refused_none, write_stops, empty_piece_goes, fewer_go, wrote_is, write_effect, write_answer, settle_wrote, well_wrote, written_type}
 
 abbrev pub wrote_step : ℕ → List ℕ → Step
@@ -276,43 +276,44 @@ s-check-file {A} {h} fd {k} {B} {Q} {n} {es} {w} {O} owns free lt pos walks none
         subst (λ (o : Option Entry). Goal v (write_refused o)) (sym z.1.at) (by_cause v inv ov s z.0 z.1 (write_refused (Some z.0)) refl)
 
 -- The lock of what a descriptor to write to names is taken.
-pub s-lock-open : {A : Type 0} {h : ℕ} (fd i : ℕ) {k : Unit {0} → P machine A} {B : List Step → Type 0} {Q : A → List Step → World → Type 0} {n : ℕ} {es : List Step} {w : World} {O : Own}
-    → own_of h w ≡ O → O.desk.lender ≡ None → h < hart_count → 3 < n → O.desk.opening ≡ None → ((j : ℕ) → O.inodes j ≡ None) → IsWritable O fd i
-    → ((l : ℕ) (x : Node) (u : World) → l + 4 ≡ n → own_of h u ≡ record O { inodes = put O.inodes i (Some (locked_held (Some x))) } → Safe machine h B Q (k tt) l es u)
+pub s-lock-open : {A : Type 0} {h : ℕ} (fd i : ℕ) {k : ℕ → P machine A} {B : List Step → Type 0} {Q : A → List Step → World → Type 0} {n : ℕ} {es : List Step} {w : World} {O : Own}
+    → own_of h w ≡ O → O.desk.lender ≡ None → h < hart_count → 3 < n → O.desk.opening ≡ None → ((j : ℕ) → O.inodes j ≡ None) → (key : IsWritable O fd i)
+    → ((l offset : ℕ) (x : Node) (u : World) → l + 4 ≡ n → StandsBy u key.opened.slot i offset → own_of h u ≡ record O { inodes = put O.inodes i (Some (locked_held (Some x))) } → Safe machine h B Q (k offset) l es u)
     → Safe machine h B Q (Do (LockOpen fd i) unmarked k) n es w
 s-lock-open {A} {h} fd i {k} {B} {Q} {n} {es} {w} {O} owns free lt pos idle empty key then_ = s-owned owns free pos (λ v inv ov.
     let z = writable_here h fd i v O key inv ov lt idle in
-    ((locks_none h v O inv ov (λ j x q. absurd (let a = empty j in cc (a, q))), record { entry = z.0; at = entry_is h fd key.opened.slot z.0 v (slot_is h fd i v O key.opened ov) z.1; number = z.2; writable = z.3 }), (λ _ _. at v inv ov z.0 z.1 z.2 (v.lock i) refl)))
+    ((locks_none h v O inv ov (λ j x q. absurd (let a = empty j in cc (a, q))), record { entry = z.0; at = entry_is h fd key.opened.slot z.0 v (slot_is h fd i v O key.opened ov) z.1; number = z.2; writable = z.3 }), (λ _ _. at v inv ov z.0 z.1 z.2 (offset_of (entry_of v h fd)) (ap offset_of (entry_is h fd key.opened.slot z.0 v (slot_is h fd i v O key.opened ov) z.1)) (v.lock i) refl)))
   where
-    at : (v : World) → Inv v → own_of h v ≡ O → (e : Entry) → Behind h fd key.opened.slot e v → e.file.number ≡ i → (r : Option ℕ) → v.lock i ≡ r
-        → Good machine (Unit {0}) h (λ a. []) 3 n B es v (IsOut h (v.lock i)) (with_mark h unmarked (lock_if h i tt v (locked h i v) r)) (λ l a u. Wp machine h B Q (k a) l es u)
-    at v inv ov e hit num (Some g) q = is_out h i g v O inv ov (empty i) q
-    at v inv ov e hit num None q =
+    at : (v : World) → Inv v → own_of h v ≡ O → (e : Entry) → Behind h fd key.opened.slot e v → e.file.number ≡ i → (offset : ℕ) → offset ≡ e.file.offset → (r : Option ℕ) → v.lock i ≡ r
+        → Good machine ℕ h (λ a. []) 3 n B es v (IsOut h (v.lock i)) (with_mark h unmarked (lock_if h i offset v (locked h i v) r)) (λ l a u. Wp machine h B Q (k a) l es u)
+    at v inv ov e hit num offset is (Some g) q = is_out h i g v O inv ov (empty i) q
+    at v inv ov e hit num offset is None q =
         let there = node_there v key.opened.slot e inv hit.at in
         let node : v.all.nodes i ≡ Some there.0 = ap v.all.nodes (sym num) ∙ there.1 in
         let a = locking h i v O ov free lt inv (empty i) (inl (record { fd = fd; below = hit.below; slot = key.opened.slot; is = hit.is; entry = e; at = hit.at; number = num })) q in
-        quiet a.fair refl pos (λ l p. (then_ l there.0 (locked h i v) p (a.owned ∙ (λ r. record O { inodes = put O.inodes i (Some (locked_held (node r))) }))).wp)
+        quiet a.fair refl pos (λ l p. (then_ l offset there.0 (locked h i v) p (record { entry = e; at = hit.at; number = num; offset_is = sym is }) (a.owned ∙ (λ r. record O { inodes = put O.inodes i (Some (locked_held (node r))) }))).wp)
 
 -- A piece: all of it, refused, or as much as there are blocks for; and the lock is given up.
-pub s-write-file : {A : Type 0} {h : ℕ} (fd i : ℕ) (b : List ℕ) (x : Node) {k : Wrote → P machine A} {B : List Step → Type 0} {Q : A → List Step → World → Type 0} {n : ℕ} {es : List Step} {w : World} {O : Own}
-    → own_of h w ≡ O → O.desk.lender ≡ None → h < hart_count → 97 < n → O.mine.walk ≡ None → O.mine.pending ≡ None → O.desk.opening ≡ None → O.inodes i ≡ Some (locked_held (Some x)) → O.desk.joined ≡ true → IsWritable O fd i → length b ≤ piece_width
+pub s-write-file : {A : Type 0} {h : ℕ} (fd i offset : ℕ) (b : List ℕ) (x : Node) {k : Wrote → P machine A} {B : List Step → Type 0} {Q : A → List Step → World → Type 0} {n : ℕ} {es : List Step} {w : World} {O : Own}
+    → own_of h w ≡ O → O.desk.lender ≡ None → h < hart_count → 97 < n → O.mine.walk ≡ None → O.mine.pending ≡ None → O.desk.opening ≡ None → O.inodes i ≡ Some (locked_held (Some x)) → O.desk.joined ≡ true → (key : IsWritable O fd i) → StandsBy w key.opened.slot i offset → length b ≤ piece_width
     → ((c : Cause) → B (fails (WritePart fd b) c ∷ es)) → B (wrote_step fd b ∷ es)
     → ((l : ℕ) (c : Cause) (u : World) → l + 98 ≡ n → own_of h u ≡ record O { inodes = put O.inodes i None; mine = record { refs = O.mine.refs; walk = None; pending = None } } → Safe machine h B Q (k (Stopped c)) l (fails (WritePart fd b) c ∷ es) u)
     → ((l j : ℕ) (u : World) → l + 98 ≡ n → u.clean ≡ false → own_of h u ≡ record O { inodes = put O.inodes i None; mine = record { refs = O.mine.refs; walk = None; pending = None }; desk = record (O.desk) { full = true } } → Safe machine h B Q (k (Short j)) l es u)
     → ((l : ℕ) (u : World) → l + 98 ≡ n → own_of h u ≡ record O { inodes = put O.inodes i None; mine = record { refs = O.mine.refs; walk = None; pending = None } } → Safe machine h B Q (k Whole) l (wrote_step fd b ∷ es) u)
-    → Safe machine h B Q (Do (WriteFile fd i b) (writes fd b) k) n es w
-s-write-file {A} {h} fd i b y {k} {B} {Q} {n} {es} {w} {O} owns free lt pos walks none idle isi joined key short_piece bf bd bad short then_ = s-owned owns free pos (λ v inv ov.
+    → Safe machine h B Q (Do (WriteFile fd i offset b) (writes fd b) k) n es w
+s-write-file {A} {h} fd i offset b y {k} {B} {Q} {n} {es} {w} {O} owns free lt pos walks none idle isi joined key stands short_piece bf bd bad short then_ = s-owned-from owns free pos (λ v inv ov keeps.
     let z = writable_here h fd i v O key inv ov lt idle in (
       (
         (locks_it h i v O (locked_held (Some y)) ov isi refl, ap (λ (o : Own). o.desk.joined) ov ∙ joined),
         record { entry = z.0; at = entry_is h fd key.opened.slot z.0 v (slot_is h fd i v O key.opened ov) z.1; number = z.2; writable = z.3 },
+        stands_still h fd i offset (locked_held (Some y)) w v O key.opened owns ov lt isi keeps stands,
         short_piece,
       ),
       (λ x honest. at v inv ov x honest z.0 z.1 z.2 z.3),
     ))
   where
     Goal : World → Came Wrote World → Type 0
-    Goal v z = Good machine Wrote h (λ a. places h (WriteFile fd i b) a (writes fd b a) v) 97 n B es v ⊥ (with_mark h (writes fd b) z) (λ l a u. Wp machine h B Q (k a) l (onto (own h (places h (WriteFile fd i b) a (writes fd b a) v)) es) u)
+    Goal v z = Good machine Wrote h (λ a. places h (WriteFile fd i offset b) a (writes fd b a) v) 97 n B es v ⊥ (with_mark h (writes fd b) z) (λ l a u. Wp machine h B Q (k a) l (onto (own h (places h (WriteFile fd i offset b) a (writes fd b a) v)) es) u)
 
     O1 : Own
     O1 = record O { inodes = put O.inodes i None }

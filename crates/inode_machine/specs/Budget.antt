@@ -48,7 +48,7 @@ spent_after (Fill n d) s = with_record n (with_bitmap (with_contents 1 s))
 spent_after (Enter d e n) s = with_record d (with_bitmap (with_contents 2 s))
 spent_after (Clear d e) s = with_record d (with_contents 1 s)
 spent_after (Empty n) s = with_record n (with_bitmap s)
-spent_after (WriteFile fd n bytes) s = with_record n (with_bitmap (with_contents 5 s))
+spent_after (WriteFile fd n offset bytes) s = with_record n (with_bitmap (with_contents 5 s))
 spent_after op s = s
 
 -- the most blocks of a transaction

@@ -59,11 +59,11 @@ read_reply fd buffer b = record { answer = answers.Count (length b); call = call
 
 abbrev pub refused_read : ℕ → ℕ → Locking → Option Mark
 refused_read fd count (NotLocked c) = own_step (steps.Read fd count)
-refused_read fd count (LocksIt n) = None
+refused_read fd count (LocksIt n offset) = None
 
 abbrev pub read_on : ℕ → List ℕ → Locking → P Reply
 read_on fd buffer (NotLocked c) = Ret (failed (calls.Read fd buffer) c)
-read_on fd buffer (LocksIt n) = Do (ReadFile fd n (length buffer)) (λ b. own_step (steps.Read fd (length buffer))) (λ b. say (read_reply fd buffer b))
+read_on fd buffer (LocksIt n offset) = Do (ReadFile fd n offset (length buffer)) (λ b. own_step (steps.Read fd (length buffer))) (λ b. say (read_reply fd buffer b))
 
 abbrev pub read_program : ℕ → List ℕ → P Reply
 read_program fd buffer = Do (LockFile fd) (refused_read fd (length buffer)) (read_on fd buffer)
@@ -85,8 +85,8 @@ wrote_on fd bytes more (Short k) = say (full (calls.Write fd bytes) Blocks)
 
 abbrev pub write_piece : ℕ → ℕ → List ℕ → ℕ → P Reply → P Reply
 write_piece fd n bytes i more =
-    Do (LockOpen fd n) unmarked (λ _.
-    Do (WriteFile fd n (piece bytes i)) (writes fd (piece bytes i)) (λ a.
+    Do (LockOpen fd n) unmarked (λ offset.
+    Do (WriteFile fd n offset (piece bytes i)) (writes fd (piece bytes i)) (λ a.
     Do Leave unmarked (λ _.
     wrote_on fd bytes more a)))
 

@@ -292,10 +292,14 @@ abbrev pub with_offset : World → Option ℕ → Entry → ℕ → World
 with_offset w None e by = w
 with_offset w (Some s) e by = record w { files = put w.files s (Some (entry_moved e by)) }
 
+abbrev pub offset_of : Option Entry → ℕ
+offset_of None = 0
+offset_of (Some e) = e.file.offset
+
 abbrev pub lock_at : ℕ → World → Option Entry → Option Cause → Did Locking World
 lock_at h w e (Some c) = Ran (NotLocked c) w
 lock_at h w None None = Ran (NotLocked BadDescriptor) w
-lock_at h w (Some e) None = lock_if h e.file.number (LocksIt e.file.number) w (locked h e.file.number w) (w.lock e.file.number)
+lock_at h w (Some e) None = lock_if h e.file.number (LocksIt e.file.number e.file.offset) w (locked h e.file.number w) (w.lock e.file.number)
 
 abbrev pub read_at : World → ℕ → ℕ → Option ℕ → Option Entry → Did (List ℕ) World
 read_at w n count s None = Ran [] (unlocked n w (w.alone n))
@@ -412,11 +416,11 @@ exec h x Slot w = slot_if h w (first_from file_count 0 (is_empty_slot w))
 exec h x (Install f sort) w = install_if h w f sort (w.desks h).hand (has_room (w.desks h).fds)
 exec h x (StatFile fd) w = stat_at h w (entry_of w h fd)
 exec h x (LockFile fd) w = lock_at h w (entry_of w h fd) (read_refused (entry_of w h fd))
-exec h x (ReadFile fd n count) w = read_at w n count (slot_at w h fd) (entry_of w h fd)
+exec h x (ReadFile fd n offset count) w = read_at w n count (slot_at w h fd) (entry_of w h fd)
 exec h x (CheckFile fd) w = Ran (write_refused (entry_of w h fd)) w
 exec h x (JoinFile fd) w = join_at h w (entry_of w h fd) (write_refused (entry_of w h fd))
-exec h x (LockOpen fd n) w = lock_if h n tt w (locked h n w) (w.lock n)
-exec h x (WriteFile fd n bytes) w = write_at w (slot_at w h fd) n bytes x (entry_of w h fd)
+exec h x (LockOpen fd n) w = lock_if h n (offset_of (entry_of w h fd)) w (locked h n w) (w.lock n)
+exec h x (WriteFile fd n offset bytes) w = write_at w (slot_at w h fd) n bytes x (entry_of w h fd)
 exec h x (Double fd) w = double_at h w (slot_at w h fd) (entry_of w h fd)
 exec h x (Shut fd) w = close_at h w fd (slot_at w h fd) (entry_of w h fd)
 exec h x (Settle n) w = Ran (w.desks h).directory (with_directory (unlocked n w (w.alone n)) h n)

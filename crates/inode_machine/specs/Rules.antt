@@ -4,7 +4,7 @@ use Rattle.plain_tree.specs.declared.node.Node.{Node}
 use Rattle.plain_tree.specs.declared.tree.OpenFile.{OpenFile}
 use Rattle.plain_tree.specs.declared.node.Kind.TheVariants.{Directory}
 use Rattle.plain_tree.specs.Widths.{hart_count, descriptor_count, name_width, piece_width, count_limit}
-use Rattle.plain_tree.specs.Steps.{is_file}
+use Rattle.plain_tree.specs.Steps.{is_file, no_driver}
 use Rattle.plain_tree.specs.Tree.{Name, hold_names, is_directory, is_live, look}
 use Rattle.plain_tree.specs.HartRow.{Key, Row, row_of, key_names}
 use Rattle.tree_laws.specs.WellFormed.{sum_below, one_if, IsWellFormed}
@@ -16,7 +16,7 @@ use Rattle.inode_machine.specs.Inodes.Looking.{AtNothing, AtName, AtEntries}
 use Rattle.inode_machine.specs.World.{Mine, Entry, Note, Desk, World, Op, Answer, Mark, Outside, stage_of}
 use Rattle.inode_machine.specs.World.Op.{Take, Give, UpStart, Up, WalkDown, Down, Free, Forget, Claim, Store, Fill, Enter, Clear, Empty, Slot, Install, StatFile, LockFile, ReadFile, CheckFile, JoinFile, LockOpen, WriteFile, Double, Shut, Settle, Lend, LendDirectory, Release, Join, Leave, Say}
 use Rattle.inode_machine.specs.World.Outside.{Room, RoomFor, Picks}
-use Rattle.inode_machine.specs.Exec.{file_count, is_at, is_free, entry_of, read_refused, next_used, child_of, given_of}
+use Rattle.inode_machine.specs.Exec.{file_count, is_at, is_free, entry_of, offset_of, read_refused, next_used, child_of, given_of}
 use Rattle.inode_machine.specs.Marks.{go, places}
 
 -- all that is an inode's
@@ -286,8 +286,8 @@ Sought AtEntries = Unit {0}
 -- who forgets an inode has freed it, and keeps it;
 -- who changes an inode has its lock and has joined; who joins, leaves, opens by a descriptor or replies has no lock; who hands a descriptor on has handed on none
 -- from there, and where it has none hands the directory on at once; who hands that on, or lets a child go, has no descriptor on its way.
--- A record is changed that is there, and of the operation's kind; as much is read as a call may ask for, of the inode that its descriptor has, and a piece is
--- written to that; who shuts a descriptor hands none on.
+-- A record is changed that is there, and of the operation's kind; as much is read as a call may ask for, of the inode that its descriptor has, from where
+-- its file stands, and a piece is written to that there; who shuts a descriptor hands none on.
 
 abbrev pub Locks : ℕ → ℕ → World → Type 0
 Locks h n w = w.lock n ≡ Some h
@@ -322,6 +322,10 @@ pub record HasRecord (n : ℕ) (w : World) (P : Node → Type 0) : Type 0 where
 -- an inode's number
 abbrev pub IsNumber : ℕ → World → Type 0
 IsNumber n w = (1 ≤ n) × (n < w.all.ninodes)
+
+-- the file that a descriptor names stands there
+abbrev pub StandsAt : ℕ → ℕ → ℕ → World → Type 0
+StandsAt h fd offset w = offset_of (entry_of w h fd) ≡ offset
 
 -- a descriptor is open to read, of this inode
 pub record Reads (h fd n : ℕ) (w : World) : Type 0 where
@@ -360,11 +364,11 @@ Asks h Slot w = (w.desks h).hand ≡ None
 Asks h (Install f sort) w = ((w.desks h).hand ≢ None) × (f.offset ≡ 0) × Spares h f.number w
 Asks h (StatFile fd) w = LocksNone h w
 Asks h (LockFile fd) w = LocksNone h w
-Asks h (ReadFile fd n count) w = Locks h n w × Reads h fd n w × (count ≤ asked_limit)
+Asks h (ReadFile fd n offset count) w = Locks h n w × Reads h fd n w × StandsAt h fd offset w × HasRecord n w (λ v. no_driver v.kind ≡ None) × (count ≤ asked_limit)
 Asks h (CheckFile fd) w = Unit {0}
 Asks h (JoinFile fd) w = LocksNone h w × ((w.desks h).joined ≡ false)
 Asks h (LockOpen fd n) w = LocksNone h w × Writes h fd n w
-Asks h (WriteFile fd n bytes) w = Changes h n w × Writes h fd n w × (length bytes ≤ piece_width)
+Asks h (WriteFile fd n offset bytes) w = Changes h n w × Writes h fd n w × StandsAt h fd offset w × (length bytes ≤ piece_width)
 Asks h (Double fd) w = Unit {0}
 Asks h (Shut fd) w = LocksNone h w × ((w.desks h).lent ≡ nothing)
 Asks h (Settle n) w = Locks h n w × Spares h n w
@@ -393,7 +397,7 @@ HonestPiece b (Picks n) = ⊥
 
 abbrev pub Honest : ℕ → Op → World → Outside → Type 0
 Honest h (Claim sort) w x = HonestClaim w x
-Honest h (WriteFile fd n bytes) w x = HonestPiece bytes x
+Honest h (WriteFile fd n offset bytes) w x = HonestPiece bytes x
 Honest h op w x = Unit {0}
 
 -- The most steps below that an operation takes beyond one, with 3 to a touch: get, read, put. A content has 268 blocks, each behind its table.
@@ -420,9 +424,9 @@ more (Clear d e) = 1620
 more (Empty n) = 900
 more (StatFile fd) = 3
 more (LockFile fd) = 3
-more (ReadFile fd n count) = 1608
+more (ReadFile fd n offset count) = 1608
 more (LockOpen fd n) = 3
-more (WriteFile fd n bytes) = 97
+more (WriteFile fd n offset bytes) = 97
 more Leave = 62
 more op = 0
 

@@ -92,14 +92,14 @@ pub data Op : Type 0 where
   -- the lock of a descriptor's inode is taken, to tell its state; or to read of it
   StatFile : ℕ → Op
   LockFile : ℕ → Op
-  -- of that inode so many bytes are read, the offset moves, and the lock is given up
-  ReadFile : ℕ → ℕ → ℕ → Op
+  -- of that inode so many bytes are read from this offset on, where the file stands; the offset moves, and the lock is given up
+  ReadFile : ℕ → ℕ → ℕ → ℕ → Op
   -- a descriptor to write to is looked up: for no bytes; to join a transaction
   CheckFile : ℕ → Op
   JoinFile : ℕ → Op
   -- the lock of the inode behind it is taken; a piece is written, the offset moves, and the lock is given up
   LockOpen : ℕ → ℕ → Op
-  WriteFile : ℕ → ℕ → List ℕ → Op
+  WriteFile : ℕ → ℕ → ℕ → List ℕ → Op
   -- one more descriptor for a descriptor's open file; a descriptor is free
   Double : ℕ → Op
   Shut : ℕ → Op
@@ -126,10 +126,10 @@ pub data Entered : Type 0 where
   NoBlock : Entered
   NoSlot : Entered
 
--- the lock was taken of this inode, or the descriptor isn't for that
+-- the lock was taken of this inode, and the file stands at this offset; or the descriptor isn't for that
 pub data Locking : Type 0 where
   NotLocked : Cause → Locking
-  LocksIt : ℕ → Locking
+  LocksIt : ℕ → ℕ → Locking
 
 -- the transaction is joined for this inode
 pub data Joining : Type 0 where
@@ -166,11 +166,11 @@ Answer Slot = Bool
 Answer (Install f sort) = Option ℕ
 Answer (StatFile fd) = Option (ℕ × Face)
 Answer (LockFile fd) = Locking
-Answer (ReadFile fd n count) = List ℕ
+Answer (ReadFile fd n offset count) = List ℕ
 Answer (CheckFile fd) = Option Cause
 Answer (JoinFile fd) = Joining
-Answer (LockOpen fd n) = Unit {0}
-Answer (WriteFile fd n bytes) = Wrote
+Answer (LockOpen fd n) = ℕ
+Answer (WriteFile fd n offset bytes) = Wrote
 Answer (Double fd) = Option (Option ℕ)
 Answer (Shut fd) = Option (Option ℕ)
 Answer (Settle n) = ℕ

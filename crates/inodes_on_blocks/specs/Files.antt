@@ -14,7 +14,7 @@ use Rattle.plain_tree.specs.Tree.{put}
 use Rattle.inode_machine.specs.World as above
 use Rattle.inode_machine.specs.World.{Locking, NotLocked, LocksIt}
 use Rattle.inode_machine.specs.World.Op.{LockFile, LockOpen, ReadFile}
-use Rattle.inodes_on_blocks.specs.Lowering.{Carry, Learned, NothingMore, Finds, Opened, Had, Apart, Has, Emptied, record_had}
+use Rattle.inodes_on_blocks.specs.Lowering.{Carry, Opened, Apart, Has, record_had}
 use Rattle.inodes_on_blocks.specs.Storing.{record_in}
 use Rattle.inodes_on_blocks.specs.Handlers.{P, Handler, acts, cause_of}
 
@@ -26,14 +26,14 @@ with_file a c fd n offset d = Ret (record { answer = a; carry = put c n (Has d (
 
 abbrev pub file_locked : Super → (fd : ℕ) → Carry → LockedState → P (Handed Locking Carry)
 file_locked sizes fd c (Refuses why) = Ret (record { answer = NotLocked (cause_of why); carry = c })
-file_locked sizes fd c (Locks f content) = bind (load_unless sizes.inodestart f.number content) (with_file (LocksIt f.number) c fd f.number f.offset)
+file_locked sizes fd c (Locks f content) = bind (load_unless sizes.inodestart f.number content) (with_file (LocksIt f.number f.offset) c fd f.number f.offset)
 
 -- to read; it acts where the lock is had
 abbrev pub lock_file : Super → (fd : ℕ) → Handler (LockFile fd)
 lock_file sizes fd c m = Do (steps.LockFile want.Read fd) (λ a. acts (LockFile fd) above.Room m) (file_locked sizes fd c)
 
-abbrev pub open_locked : Super → (fd : ℕ) → Carry → OpenFile × Option Dinode → P (Handed (Unit {0}) Carry)
-open_locked sizes fd c locked = bind (load_unless sizes.inodestart locked.0.number locked.1) (with_file tt c fd locked.0.number locked.0.offset)
+abbrev pub open_locked : Super → (fd : ℕ) → Carry → OpenFile × Option Dinode → P (Handed ℕ Carry)
+open_locked sizes fd c locked = bind (load_unless sizes.inodestart locked.0.number locked.1) (with_file locked.0.offset c fd locked.0.number locked.0.offset)
 
 -- to write
 abbrev pub lock_open : Super → (fd n : ℕ) → Handler (LockOpen fd n)
@@ -41,20 +41,12 @@ lock_open sizes fd n c m = Do (steps.LockOpen fd) (λ a. acts (LockOpen fd n) ab
 
 -- ---- read
 
--- where the file stood by which the inode was locked
-abbrev pub offset_in : Had → ℕ
-offset_in Apart = 0
-offset_in (Has d NothingMore) = 0
-offset_in (Has d (Finds e s)) = 0
-offset_in (Has d (Opened fd offset)) = offset
-offset_in Emptied = 0
-
 -- The lock is given up, and the offset moves by as much as was read: there the operation acts.
-abbrev pub give_read : (fd n count : ℕ) → (List ℕ → Option above.Mark) → Carry → Filled → P (Handed (List ℕ) Carry)
-give_read fd n count m c f =
-    Do (steps.Unlock (record { number = n; content = record_had (c n) }) (Some (fd, offset_in (c n) + f.count))) (λ a. acts (ReadFile fd n count) above.Room m)
+abbrev pub give_read : (fd n offset count : ℕ) → (List ℕ → Option above.Mark) → Carry → Filled → P (Handed (List ℕ) Carry)
+give_read fd n offset count m c f =
+    Do (steps.Unlock (record { number = n; content = record_had (c n) }) (Some (fd, offset + f.count))) (λ a. acts (ReadFile fd n offset count) above.Room m)
     (λ a. Ret (record { answer = f.bytes; carry = put c n Apart }))
 
 -- The part is read block by block, each as it was when the lock was had.
-abbrev pub read_file : (fd n count : ℕ) → Handler (ReadFile fd n count)
-read_file fd n count c m = bind (read_from (record_in c n) (offset_in (c n)) count []) (give_read fd n count m c)
+abbrev pub read_file : (fd n offset count : ℕ) → Handler (ReadFile fd n offset count)
+read_file fd n offset count c m = bind (read_from (record_in c n) offset count []) (give_read fd n offset count m c)

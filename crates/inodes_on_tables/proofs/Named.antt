@@ -232,10 +232,10 @@ files_are_locked_to_read h fd t w load shows inv runs = at (entry_of w h fd) ref
         let p = place_there n t w load shows some in
         let lower : lock_unless h t (Some (file_of f)) (refusal_of want.Read (Some (file_of f))) ≡ with_file (file_of f) (lock_inode h n t) = ap (lock_unless h t (Some (file_of f))) (reads_alike (Some f) ∙ ap (option_map refused_as) r) in
         by_lock h n p.0 t w load shows p.1 _
-        (λ waits g out. both_wait (Fits (Some f)) (load_locked load) _ _ (lower ∙ ap (with_file (file_of f)) waits) (ap (above.lock_at h w (Some f)) r ∙ ap (lock_if h n (LocksIt n) w (locked h n w)) out))
+        (λ waits g out. both_wait (Fits (Some f)) (load_locked load) _ _ (lower ∙ ap (with_file (file_of f)) waits) (ap (above.lock_at h w (Some f)) r ∙ ap (lock_if h n (LocksIt n f.file.offset) w (locked h n w)) out))
         (λ u ran free after.
-        both_ran (Fits (Some f)) (load_locked load) _ _ (Locks (file_of f) (load n)) (LocksIt n) u (locked h n w) (lower ∙ ap (with_file (file_of f)) ran) (ap (above.lock_at h w (Some f)) r ∙ ap (lock_if h n (LocksIt n) w (locked h n w)) free)
-        (subst (λ (z : Option Cause). FitsRead load (Some f) z (Locks (file_of f) (load n)) (LocksIt n)) (sym r) (refl, refl)) after)
+        both_ran (Fits (Some f)) (load_locked load) _ _ (Locks (file_of f) (load n)) (LocksIt n f.file.offset) u (locked h n w) (lower ∙ ap (with_file (file_of f)) ran) (ap (above.lock_at h w (Some f)) r ∙ ap (lock_if h n (LocksIt n f.file.offset) w (locked h n w)) free)
+        (subst (λ (z : Option Cause). FitsRead load (Some f) z (Locks (file_of f) (load n)) (LocksIt n f.file.offset)) (sym r) (refl, refl)) after)
 
     at : (o : Option Entry) → entry_of w h fd ≡ o → BothCame (Fits (entry_of w h fd)) (load_locked load) (lock_unless h t (file_named h fd t) (refusal_of want.Read (file_named h fd t))) (above.lock_at h w (entry_of w h fd) (read_refused (entry_of w h fd)))
     at o e =

@@ -128,7 +128,7 @@ FilesAreLocked =
 abbrev pub FitsRead : (load : ℕ → Option Dinode) → Option Entry → Option Cause → LockedState → Locking → Type 0
 FitsRead load e (Some why) a b = (a ≡ Refuses (refused_as why)) × (b ≡ NotLocked why)
 FitsRead load None None a b = ⊥
-FitsRead load (Some e) None a b = (a ≡ Locks (file_of e) (load e.file.number)) × (b ≡ LocksIt e.file.number)
+FitsRead load (Some e) None a b = (a ≡ Locks (file_of e) (load e.file.number)) × (b ≡ LocksIt e.file.number e.file.offset)
 
 abbrev pub FilesAreLockedToRead : Type 0
 FilesAreLockedToRead =
