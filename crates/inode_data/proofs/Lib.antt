@@ -7,4 +7,4 @@ mod Truncations
 mod Freed
 mod Locations
 mod PartWritings
-mod ReadLaw
+pub mod ReadLaw

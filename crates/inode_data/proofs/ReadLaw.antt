@@ -23,14 +23,14 @@ take_nil zero = refl
 take_nil (suc j) = refl
 
 -- two parts side by side
-side_by_side : (a b : ℕ) (xs : List ℕ) → take a (take b xs) ++ take (a - b) (drop b xs) ≡ take a xs
+pub side_by_side : (a b : ℕ) (xs : List ℕ) → take a (take b xs) ++ take (a - b) (drop b xs) ≡ take a xs
 side_by_side zero b xs = let none : 0 - b ≡ 0 = omega arith in rw none refl
 side_by_side (suc a) zero xs = let same : suc a - 0 ≡ suc a = omega arith in rw same refl
 side_by_side (suc a) (suc b) [] = take_nil (suc a - suc b)
 side_by_side (suc a) (suc b) (x ∷ xs) = let less : suc a - suc b ≡ a - b = omega arith in rw less (ap (λ (ys : List ℕ). x ∷ ys) (side_by_side a b xs))
 
 -- what is left of a beginning
-drop_of_take : (n m : ℕ) (xs : List ℕ) → drop n (take m xs) ≡ take (m - n) (drop n xs)
+pub drop_of_take : (n m : ℕ) (xs : List ℕ) → drop n (take m xs) ≡ take (m - n) (drop n xs)
 drop_of_take zero m xs = let same : m - 0 ≡ m = omega arith in rw same refl
 drop_of_take (suc n) zero xs = let none : 0 - suc n ≡ 0 = omega arith in rw none refl
 drop_of_take (suc n) (suc m) [] = sym (take_nil (suc m - suc n))
@@ -49,21 +49,21 @@ filled_twice memory xs ys =
 
 -- ---- how many blocks
 
-none_between : (from upto : ℕ) → 0 ≡ blocks_between from upto → upto ≤ from
+pub none_between : (from upto : ℕ) → 0 ≡ blocks_between from upto → upto ≤ from
 none_between from upto e =
     ⊎_elim
     (λ (l : from < upto). absurd (let some : 0 ≡ ((upto - 1) / 1024 + 1) - from / 1024 = e ∙ ap (λ (b : Bool). cond b (((upto - 1) / 1024 + 1) - from / 1024) 0) (lt-ltb from upto l) in omega (arith, some, l)))
     (λ (m : upto ≤ from). m)
     (cases_lt from upto)
 
-some_between : (n from upto : ℕ) → suc n ≡ blocks_between from upto → from < upto
+pub some_between : (n from upto : ℕ) → suc n ≡ blocks_between from upto → from < upto
 some_between n from upto e =
     ⊎_elim
     (λ (l : from < upto). l)
     (λ (m : upto ≤ from). absurd (let none : suc n ≡ 0 = e ∙ ap (λ (b : Bool). cond b (((upto - 1) / 1024 + 1) - from / 1024) 0) (le-ltb from upto m) in omega (arith, none)))
     (cases_lt from upto)
 
-next_between : (n from upto : ℕ) → suc n ≡ blocks_between from upto → from < upto → n ≡ blocks_between (next_block from) upto
+pub next_between : (n from upto : ℕ) → suc n ≡ blocks_between from upto → from < upto → n ≡ blocks_between (next_block from) upto
 next_between n from upto e lt =
     let next : ℕ = next_block from in
     let is : suc n ≡ ((upto - 1) / 1024 + 1) - from / 1024 = e ∙ ap (λ (b : Bool). cond b (((upto - 1) / 1024 + 1) - from / 1024) 0) (lt-ltb from upto lt) in

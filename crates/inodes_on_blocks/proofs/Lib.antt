@@ -46,7 +46,9 @@ pub mod SpentRoom
 pub mod Counted
 pub mod ContentFetch
 pub mod ContentReads
+pub mod ContentParts
 pub mod Looks
+pub mod NodeBytes
 pub mod DirectorySearches
 pub mod TakeSteps
 pub mod LockSteps

@@ -182,7 +182,7 @@ module _ (disk : List (List ℕ)) (owner : ℕ → ℕ) (i : ℕ) (v : Node) (ho
       ∙ and_swap (tree.is_directory v.kind) (nat_lt 0 v.count)
 
   -- its blocks show its slots
-  shown : (slots : List (Option Slot)) → v.kind ≡ Directory slots → AreRead (slot_at content) slots × (slot_count d ≡ length slots)
+  pub shown : (slots : List (Option Slot)) → v.kind ≡ Directory slots → AreRead (slot_at content) slots × (slot_count d ≡ length slots)
   unfolding slot_on
   shown slots is =
       let size : d.size ≡ 16 * length slots = holds.inode.size ∙ ap size_in is in

@@ -25,12 +25,12 @@ cons_bytes : (x : ℕ) (xs : List ℕ) → x < 256 → IsBytes xs → IsBytes (x
 cons_bytes x xs a b zero = a
 cons_bytes x xs a b (suc i) = b i
 
-take_bytes : (n : ℕ) (xs : List ℕ) → IsBytes xs → IsBytes (take n xs)
+pub take_bytes : (n : ℕ) (xs : List ℕ) → IsBytes xs → IsBytes (take n xs)
 take_bytes zero xs a = none_bytes
 take_bytes (suc n) [] a = none_bytes
 take_bytes (suc n) (x ∷ xs) a = cons_bytes x (take n xs) (a 0) (take_bytes n xs (λ k. a (suc k)))
 
-drop_bytes : (n : ℕ) (xs : List ℕ) → IsBytes xs → IsBytes (drop n xs)
+pub drop_bytes : (n : ℕ) (xs : List ℕ) → IsBytes xs → IsBytes (drop n xs)
 drop_bytes zero xs a = a
 drop_bytes (suc n) [] a = none_bytes
 drop_bytes (suc n) (x ∷ xs) a = drop_bytes n xs (λ k. a (suc k))
