@@ -1,13 +1,11 @@
 -- The lock of an open file's inode, taken by its descriptor, acts where it is had.
-use Rattle.std.proofs.Common.{◌≡◌, ◌≢◌, inl, inr, ℕ, ◌<◌, ◌^◌, Bool, true, false, List, Option, Some, None, refl, sym, ◌∙◌, ap, subst, arith}
-use Rattle.std.specs.Prelude.{IfSome}
+use Rattle.std.proofs.Common.{◌≡◌, ◌≢◌, ℕ, ◌<◌, ◌^◌, Bool, true, false, List, Option, Some, None, refl, sym, ◌∙◌, ap, subst, arith}
 use Rattle.std.specs.Option.{option_map, MatchOption}
 use Rattle.std.proofs.lemmas.Option.{none-some, same_Some}
 use Rattle.fs_layout.specs.declared.inode.Dinode.{Dinode}
 use Rattle.fs_layout.specs.declared.superblock.Super.{Super}
 use Rattle.plain_tree.specs.declared.answer.Cause.{Cause}
 use Rattle.plain_tree.specs.declared.answer.Cause.TheVariants.{BadDescriptor}
-use Rattle.plain_tree.specs.declared.node.Node.{Node}
 use Rattle.plain_tree.specs.Tree.{put}
 use Rattle.plain_tree.specs.Widths.{hart_count}
 use Rattle.tree_laws.proofs.Maps.{put_same}
@@ -18,7 +16,7 @@ use Rattle.atomic_programs.proofs.Joined.{Acting, acted, s-act}
 use Rattle.fs_tables.specs.declared.files.Want.TheVariants as want
 use Rattle.fs_tables.specs.declared.files.OpenFile as files
 use Rattle.fs_tables.specs.Tables.{TablesState, file_named, holder_of as lock_holder}
-use Rattle.fs_tables.specs.Inodes.{LockedState, Refuses, Locks, refusal_of, lock_file as lock_named, lock_unless, lock_inode, with_file as with_locked}
+use Rattle.fs_tables.specs.Inodes.{LockedState, Refuses, Locks, lock_file as lock_named, lock_unless, lock_inode, with_file as with_locked}
 use Rattle.fs_machine.specs.LogPart.{Outside}
 use Rattle.fs_machine.specs.Steps as steps
 use Rattle.fs_machine.specs.Steps.{lock_open as lock_opened, with_open}
@@ -28,7 +26,6 @@ use Rattle.inode_machine.specs.Inodes.{Sort, OfDirectory, OfFile, OfDevice}
 use Rattle.inode_machine.specs.World as above
 use Rattle.inode_machine.specs.World.{Entry, Locking, NotLocked, LocksIt}
 use Rattle.inode_machine.specs.World.Op.{LockFile, LockOpen}
-use Rattle.inode_machine.specs.Exec as above_exec
 use Rattle.inode_machine.specs.Exec.{entry_at, entry_of, slot_at, lock_at, lock_if, locked, mode_refusal, offset_of, read_refused}
 use Rattle.inode_machine.specs.Rules as rules
 use Rattle.inode_machine.specs.Rules.{Inv}
@@ -38,7 +35,7 @@ use Rattle.inodes_on_tables.proofs.Locks.{by_lock, place_there}
 use Rattle.inodes_on_tables.proofs.Named.{names_at, file_is, descriptors_name_files}
 use Rattle.inodes_on_blocks.specs.Below.{World, log_of, tables_of, inode_in, exec}
 use Rattle.inodes_on_blocks.specs.Shown.{Shows}
-use Rattle.inodes_on_blocks.specs.Lowering.{Opened, NothingMore, Has, Carry, HasOpen, Base, Stands, below, Labels, labelled, Keeps}
+use Rattle.inodes_on_blocks.specs.Lowering.{Opened, NothingMore, Has, Carry, HasOpen, Stands, below, Labels, labelled, Keeps}
 use Rattle.inodes_on_blocks.specs.Handlers.{cause_of}
 use Rattle.inodes_on_blocks.specs.Acting.{ActsOnceAt}
 use Rattle.inodes_on_blocks.specs.Files.{with_file, file_locked, lock_file, open_locked, lock_open}

@@ -1,5 +1,5 @@
 -- The programs below of reading an open file. On a disk of these sizes; c: what the hart has of the inodes whose locks it has.
-use Rattle.std.specs.Prelude.{ℕ, ◌+◌, List, [], Option, Some, None}
+use Rattle.std.specs.Prelude.{ℕ, ◌+◌, List, [], Option, Some}
 use Rattle.atomic_programs.specs.Prog.{Ret, Do, bind}
 use Rattle.atomic_programs.specs.Joined.{Handed}
 use Rattle.fs_layout.specs.declared.inode.Dinode.{Dinode}

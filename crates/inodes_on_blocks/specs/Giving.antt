@@ -1,5 +1,5 @@
 -- Blocks recorded between two operations above, and blocks given back: where the hart that is changing their inode goes on.
-use Rattle.std.specs.Prelude.{◌≡◌, ◌≢◌, ℕ, suc, false, ◌<◌, ◌≤◌, ◌*◌, List, [], ◌∷◌, length, Some, None}
+use Rattle.std.specs.Prelude.{◌≡◌, ◌≢◌, ℕ, true, false, ◌<◌, ◌≤◌, ◌*◌, List, [], ◌∷◌, length, Some, None}
 use Rattle.fs_layout.specs.declared.superblock.Super.{Super}
 use Rattle.fs_layout.specs.Recovered.{recovered}
 use Rattle.buffer_cache.specs.Seats.{holder_of}
@@ -13,6 +13,7 @@ use Rattle.fs_tables.specs.Tables.{holder_of as lock_holder}
 use Rattle.fs_machine.specs.Shown.{seen_of}
 use Rattle.bitmap_alloc.specs.Programs.{free_block}
 use Rattle.inode_data.specs.Freeing.{free_numbers}
+use Rattle.inode_machine.specs.Budget.{Spent, size, most_recorded}
 use Rattle.inode_machine.specs.World as above
 use Rattle.inode_machine.specs.Rules.{if_kept, Inv}
 use Rattle.inodes_on_blocks.specs.Below.{World, log_of, tables_of, disk_of, inode_in}
@@ -21,7 +22,7 @@ use Rattle.inodes_on_blocks.specs.Lowering.{KeepsInode, Kept, buffer_in, commit_
 use Rattle.inodes_on_blocks.specs.Acting.{whole}
 use Rattle.inodes_on_blocks.specs.Holding.{in_hand}
 use Rattle.inodes_on_blocks.specs.Recording.{log_with, owners_with, IsChanging}
-use Rattle.inodes_on_blocks.specs.Room.{GivesRoom, MayRecord}
+use Rattle.inodes_on_blocks.specs.Room.{GivesRoom, HasSpent}
 
 -- the world after hart h put block b with these bytes
 abbrev pub world_with : ℕ → ℕ → List ℕ → World → World
@@ -92,20 +93,21 @@ pub record GaveBlocks (h n : ℕ) (v w : World) : Type 0 where
 
 -- ---- the laws
 
--- The program that gives a block of an inode back does so, whatever the other harts do, where the hart that runs it is changing the inode: then the
--- block's bit is clear and the block nobody's, the hart has all else that it had, and its transaction may record one block less. No operation acts above.
+-- The program that gives a block of an inode back does so, whatever the other harts do, where the hart that runs it is changing the inode, and what its
+-- transaction has spent has the bitmap: then the block's bit is clear and the block nobody's, and the hart has all else that it had. No operation acts above.
 abbrev pub BlocksAreGivenBack : Type 0
 BlocksAreGivenBack =
-    (sizes : Super) (h n b more : ℕ) (w : Both World above.World) → h < hart_count → (log_of w.real).sizes ≡ sizes → IsChanging h n w.seen → w.seen.keeper n ≡ Some h → (w.seen.desks h).lender ≡ None
-    → lock_holder n (tables_of w.real) ≡ Some h → IsData sizes b → w.real.owner b ≡ n → in_hand h w.real ≤ 1 → holder_of sizes.bmapstart (log_of w.real).seats ≢ Some h → MayRecord h (suc more) w.real
-    → Wp (joined whole (below sizes)) h (λ es. es ≡ []) (λ a es x. (es ≡ []) × Gave h n b (IsChanging h n) w x × MayRecord h more x.real) (free_block sizes.bmapstart b) 3 [] w
+    (sizes : Super) (h n b : ℕ) (s : Spent) (w : Both World above.World) → h < hart_count → IsChanging h n w.seen → w.seen.keeper n ≡ Some h → (w.seen.desks h).lender ≡ None
+    → lock_holder n (tables_of w.real) ≡ Some h → IsData sizes b → w.real.owner b ≡ n → in_hand h w.real ≤ 1 → holder_of sizes.bmapstart (log_of w.real).seats ≢ Some h
+    → s.bitmap ≡ true → size s ≤ most_recorded → HasSpent sizes h s w.real
+    → Wp (joined whole (below sizes)) h (λ es. es ≡ []) (λ a es x. (es ≡ []) × Gave h n b (IsChanging h n) w x × HasSpent sizes h s x.real) (free_block sizes.bmapstart b) 3 [] w
 
--- So does the program that gives back the blocks with these numbers, which are all that the inode has: then it has none. Its transaction may record a
--- block more for each.
+-- So does the program that gives back the blocks with these numbers, which are all that the inode has: then it has none.
 abbrev pub NumbersAreGivenBack : Type 0
 NumbersAreGivenBack =
-    (sizes : Super) (h n : ℕ) (numbers : List ℕ) (w : Both World above.World) → h < hart_count → (log_of w.real).sizes ≡ sizes → IsChanging h n w.seen → w.seen.keeper n ≡ Some h → (w.seen.desks h).lender ≡ None
+    (sizes : Super) (h n : ℕ) (numbers : List ℕ) (s : Spent) (w : Both World above.World) → h < hart_count → IsChanging h n w.seen → w.seen.keeper n ≡ Some h → (w.seen.desks h).lender ≡ None
     → lock_holder n (tables_of w.real) ≡ Some h → Owns sizes w.real.owner n numbers → NamesOwned (disk_of (log_of w.real)) w.real.owner n numbers → in_hand h w.real ≤ 1 → holder_of sizes.bmapstart (log_of w.real).seats ≢ Some h
-    → MayRecord h (length numbers) w.real
-    → Wp (joined whole (below sizes)) h (λ es. es ≡ []) (λ a es x. (es ≡ []) × IsChanging h n x.seen × Kept h w.seen x.seen × GaveBlocks h n w.real x.real × NamesOwned (disk_of (log_of x.real)) x.real.owner n [])
+    → s.bitmap ≡ true → size s ≤ most_recorded → HasSpent sizes h s w.real
+    → Wp (joined whole (below sizes)) h (λ es. es ≡ [])
+    (λ a es x. (es ≡ []) × IsChanging h n x.seen × Kept h w.seen x.seen × GaveBlocks h n w.real x.real × NamesOwned (disk_of (log_of x.real)) x.real.owner n [] × HasSpent sizes h s x.real)
     (free_numbers sizes.bmapstart numbers (Ret (tt {0}))) (3 * length numbers) [] w

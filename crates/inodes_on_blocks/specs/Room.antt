@@ -1,8 +1,7 @@
 -- That a hart may record a block, where its transaction has room for it.
-use Rattle.std.specs.Prelude.{◌≡◌, ℕ, suc, ◌+◌, ◌<◌, ◌≤◌, true, false, [], Option, Some, slice_get}
+use Rattle.std.specs.Prelude.{◌≡◌, ℕ, suc, ◌<◌, ◌≤◌, true, false, [], Option}
 use Rattle.fs_layout.specs.declared.superblock.Super.{Super}
 use Rattle.group_log.specs.Group.{has, HasRoom}
-use Rattle.group_log.specs.declared.limits.TheConstants.{BLOCKS_OF_A_TRANSACTION}
 use Rattle.plain_tree.specs.Widths.{hart_count}
 use Rattle.atomic_programs.specs.Logic.{Wp}
 use Rattle.atomic_programs.specs.Prog.{once}
@@ -23,12 +22,6 @@ pub record GivesRoom (h b : ℕ) (Knows : World → Type 0) : Type 0 where
   pub lasts : (v w : World) → Same h v w → Knows v → Knows w
   pub fetched : (k : ℕ) (v w : World) → SameBut h k v w → Knows v → Knows w
   pub room : (v : World) → Knows v → is_joined (log_of v).members h ≡ true → has (log_of v).group b ≡ false → HasRoom (log_of v).members h
-
--- it may record so many blocks more, whichever they are
-pub record MayRecord (h more : ℕ) (w : World) : Type 0 where
-  pub recorded : ℕ
-  pub member : slice_get (log_of w).members h ≡ Some (Some recorded)
-  pub fits : recorded + more ≤ BLOCKS_OF_A_TRANSACTION
 
 -- its transaction has added no more to the group than this, on a disk of these sizes
 abbrev pub HasSpent : Super → ℕ → Spent → World → Type 0
