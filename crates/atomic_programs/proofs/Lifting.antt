@@ -1,9 +1,10 @@
 -- Programs over a layer in which a hart has more between two operations above.
 use Rattle.std.proofs.Common.{ℕ, suc, List, [], ◌∷◌, Option}
-use Rattle.atomic_programs.specs.Prog.{Ret, Do, Did, Waits, Ran, Stops}
+use Rattle.atomic_programs.specs.Prog.{Ret, Do, once, Did, Waits, Ran, Stops}
 use Rattle.atomic_programs.specs.Logic.{Machine, P, own, onto, Goes, placed_with, Good, Wp}
-use Rattle.atomic_programs.specs.Joined.{Lower, LowerLaws, Both, joined, both, Handlers, Below, Atomic}
+use Rattle.atomic_programs.specs.Joined.{Lower, LowerLaws, Both, joined, both, Handlers, Below, Lasts, Atomic}
 use Rattle.atomic_programs.specs.Lifting.{with_more, IfRan}
+use Rattle.atomic_programs.specs.Spending.{Budget, AtomicWithin}
 use Rattle.atomic_programs.proofs.Sound.{Wp-weaker}
 
 module _ (U : Machine) (R : Lower U.World) (More : ℕ → U.World → Type 0) where
@@ -48,21 +49,38 @@ module _ (U : Machine) (R : Lower U.World) (More : ℕ → U.World → Type 0) w
     idle = λ h w g c inv idle b. (laws.idle h w g c inv idle b.0, b.1);
   }
 
+  -- what lasts of the operation's, with what the hart has more
+  module _ (h : ℕ) (op : U.Op) (m : U.Answer op → Option U.Mark) (stays : (v w : U.World) (xs : List U.Step) → U.Others h v xs w → More h v → More h w) (goes : (x : U.Outside) (v : U.World) → More h v → IfRan (More h) (U.go h x op m v))
+      (B : List U.Step → Type 0) (C : U.Answer op → List U.Step → U.World → Type 0) where
+    abbrev D : U.Answer op → List U.Step → U.World → Type 0
+    D a fs u = C a fs u × More h u
+
+    lasts_too : Lasts U h B C → Lasts U h B D
+    lasts_too lasts a fs xs v u o i d = let x = lasts a fs xs v u o i d.0 in (x.0, (x.1, stays v u xs o d.1))
+
+    ran : (x : U.Outside) (v : U.World) (fs : List U.Step) (d : Did (U.Answer op) U.World) → IfRan (More h) d
+        → Good U (U.Answer op) h (placed_with U h op m v) (U.more op) (suc (U.more op)) B fs v (U.MayWait h op v) d (λ l a u. C a (onto (own h (U.places h op a (m a) v)) fs) u)
+        → Good U (U.Answer op) h (placed_with U h op m v) (U.more op) (suc (U.more op)) B fs v (U.MayWait h op v) d (λ l a u. D a (onto (own h (U.places h op a (m a) v)) fs) u)
+    ran x v fs Waits more g = g
+    ran x v fs (Ran a u) more g = record { inv = g.inv; kept = g.kept; goes = g.goes; clean = g.clean; begun = g.begun; left = g.left; falls = g.falls; next = (g.next, more) }
+    ran x v fs (Stops u) more g = g
+
+    does_too : (es : List U.Step) (w : U.World) → More h w → Wp U h B C (once op m) (suc (U.more op)) es w → Wp U h B D (once op m) (suc (U.more op)) es w
+    does_too es w has todo = λ v xs o i. let g = todo v xs o i in (g.0, g.1, (λ x t. ran x v (onto xs es) (U.go h x op m v) (goes x v (stays w v xs o has)) (g.2 x t)), g.3)
+
   -- An operation's program acts at one moment still, where the operation and the others leave the hart what it has more.
   pub atomic_with_more : (handler : Handlers U R) (h : ℕ) (op : U.Op) (m : U.Answer op → Option U.Mark) → ((v w : U.World) (xs : List U.Step) → U.Others h v xs w → More h v → More h w)
       → ((x : U.Outside) (v : U.World) → More h v → IfRan (More h) (U.go h x op m v)) → Atomic U R handler h op m → Atomic U (with_more R More) handler h op m
   atomic_with_more handler h op m stays goes atomic c B C es w lasts todo base =
       Wp-with_more h (handler c op m) B (Below U (with_more R More) h C) (suc (U.more op)) es w
-      (Wp-weaker (joined U R) h (handler c op m) B B (Below U R h D) (Below U (with_more R More) h C) (suc (U.more op)) es w (λ fs e. e) (λ r fs u e. (e.0.0, (e.1, e.0.1)))
-      (atomic c B D es w (λ a fs xs v u o i d. let x = lasts a fs xs v u o i d.0 in (x.0, (x.1, stays v u xs o d.1)))
-      (λ v xs o i. let g = todo v xs o i in (g.0, g.1, λ x t. ran x v (onto xs es) (U.go h x op m v) (goes x v (stays w.seen v xs o base.1)) (g.2 x t), g.3)) base.0))
-    where
-      D : U.Answer op → List U.Step → U.World → Type 0
-      D a fs u = C a fs u × More h u
+      (Wp-weaker (joined U R) h (handler c op m) B B (Below U R h (D h op m stays goes B C)) (Below U (with_more R More) h C) (suc (U.more op)) es w (λ fs e. e) (λ r fs u e. (e.0.0, (e.1, e.0.1)))
+      (atomic c B (D h op m stays goes B C) es w (lasts_too h op m stays goes B C lasts) (does_too h op m stays goes B C es w.seen base.1 todo) base.0))
 
-      ran : (x : U.Outside) (v : U.World) (fs : List U.Step) (d : Did (U.Answer op) U.World) → IfRan (More h) d
-          → Good U (U.Answer op) h (placed_with U h op m v) (U.more op) (suc (U.more op)) B fs v (U.MayWait h op v) d (λ l a u. C a (onto (own h (U.places h op a (m a) v)) fs) u)
-          → Good U (U.Answer op) h (placed_with U h op m v) (U.more op) (suc (U.more op)) B fs v (U.MayWait h op v) d (λ l a u. D a (onto (own h (U.places h op a (m a) v)) fs) u)
-      ran x v fs Waits more g = g
-      ran x v fs (Ran a u) more g = record { inv = g.inv; kept = g.kept; goes = g.goes; clean = g.clean; begun = g.begun; left = g.left; falls = g.falls; next = (g.next, more) }
-      ran x v fs (Stops u) more g = g
+  -- and within a budget
+  pub within_with_more : (handler : Handlers U R) (h : ℕ) (b : Budget U) (Has : R.World → b.Spent → Type 0) (op : U.Op) (m : U.Answer op → Option U.Mark) → ((v w : U.World) (xs : List U.Step) → U.Others h v xs w → More h v → More h w)
+      → ((x : U.Outside) (v : U.World) → More h v → IfRan (More h) (U.go h x op m v)) → AtomicWithin U R handler b Has h op m → AtomicWithin U (with_more R More) handler b Has h op m
+  within_with_more handler h b Has op m stays goes within c s B C es w lasts todo base few has =
+      Wp-with_more h (handler c op m) B (λ r fs u. Below U (with_more R More) h C r fs u × Has u.real (b.after op s)) (suc (U.more op)) es w
+      (Wp-weaker (joined U R) h (handler c op m) B B (λ r fs u. Below U R h (D h op m stays goes B C) r fs u × Has u.real (b.after op s)) (λ r fs u. Below U (with_more R More) h C r fs u × Has u.real (b.after op s)) (suc (U.more op)) es w (λ fs e. e)
+      (λ r fs u e. ((e.0.0.0, (e.0.1, e.0.0.1)), e.1))
+      (within c s B (D h op m stays goes B C) es w (lasts_too h op m stays goes B C lasts) (does_too h op m stays goes B C es w.seen base.1 todo) base.0 few has))

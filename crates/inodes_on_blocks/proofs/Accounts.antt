@@ -22,7 +22,7 @@ one_more_at (Some j ∷ ms) zero k e = (j, refl, (let same : j + 1 ≡ k = cc e 
 one_more_at (None ∷ ms) (suc h) k e = one_more_at ms h k e
 one_more_at (Some j ∷ ms) (suc h) k e = one_more_at ms h k e
 
-set_at : (ms : List (Option ℕ)) (h k : ℕ) → slice_get (slice_set ms h (Some 0)) h ≡ Some (Some k) → k ≡ 0
+pub set_at : (ms : List (Option ℕ)) (h k : ℕ) → slice_get (slice_set ms h (Some 0)) h ≡ Some (Some k) → k ≡ 0
 set_at [] h k e = absurd (cc e)
 set_at (m ∷ ms) zero k e = let same : 0 ≡ k = cc e in sym same
 set_at (m ∷ ms) (suc h) k e = set_at ms h k e

@@ -59,3 +59,6 @@ pub mod NamingSteps
 pub mod DataPuts
 pub mod SlotPuts
 pub mod ClearSteps
+pub mod Spending
+pub mod Spends
+pub mod Withins

@@ -22,11 +22,15 @@ left h v w same = record { member = same.member; sizes = same.sizes; group = λ 
 left_but : (h k : ℕ) (v w : World) → SameBut h k v w → LeavesGroup h (log_of v) (log_of w)
 left_but h k v w same = record { member = same.member; sizes = same.sizes; group = λ c m e. let at = member_at (log_of v).members h m in same.group c at.0 at.1 e }
 
+-- the others leave it so
+pub spent_stays : (sizes : Super) (h : ℕ) (s : Spent) (v w : World) → Same h v w → HasSpent sizes h s v → HasSpent sizes h s w
+spent_stays sizes h s v w same known = (same.sizes ∙ known.0, (transactions_have_room h (log_of v)).lasts (log_of w) s (left h v w same) known.1)
+
 -- a block that may be spent, as often as wanted
 pub spent_gives : (sizes : Super) (h b : ℕ) (s : Spent) → IsSpent sizes s b → size s ≤ most_recorded → KeepsRoom h b (HasSpent sizes h s) (HasSpent sizes h s)
 spent_gives sizes h b s spent few = record {
   gives = record {
-    lasts = λ v w same known. (same.sizes ∙ known.0, (transactions_have_room h (log_of v)).lasts (log_of w) s (left h v w same) known.1);
+    lasts = λ v w same known. spent_stays sizes h s v w same known;
     fetched = λ k v w same known. (same.sizes ∙ known.0, (transactions_have_room h (log_of v)).lasts (log_of w) s (left_but h k v w same) known.1);
     room = λ v known joined. ((transactions_have_room h (log_of v)).said b [] s (is_member (log_of v).members h joined) known.1 few (here v known.0)).0;
   };
@@ -40,7 +44,7 @@ spent_gives sizes h b s spent few = record {
 pub other_spends : (sizes : Super) (h b : ℕ) (s : Spent) → size s < most_recorded → KeepsRoom h b (HasSpent sizes h s) (HasSpent sizes h (with_contents 1 s))
 other_spends sizes h b s few = record {
   gives = record {
-    lasts = λ v w same known. (same.sizes ∙ known.0, (transactions_have_room h (log_of v)).lasts (log_of w) s (left h v w same) known.1);
+    lasts = λ v w same known. spent_stays sizes h s v w same known;
     fetched = λ k v w same known. (same.sizes ∙ known.0, (transactions_have_room h (log_of v)).lasts (log_of w) s (left_but h k v w same) known.1);
     room = λ v known joined. ((transactions_have_room h (log_of v)).other b [] s (is_member (log_of v).members h joined) known.1 few).0;
   };

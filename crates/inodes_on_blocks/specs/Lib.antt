@@ -18,3 +18,4 @@ pub mod Accounts
 pub mod Counted
 pub mod Mounted
 pub mod Naming
+pub mod Spending

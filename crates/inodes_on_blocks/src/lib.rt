@@ -12,6 +12,7 @@ pub mod acting;
 pub mod files;
 pub mod reading;
 pub mod recording;
+pub mod spent;
 pub mod storing;
 
 /// Whenever no transaction is outstanding, the seen blocks are a well-formed image of the tree, and so is each disk that

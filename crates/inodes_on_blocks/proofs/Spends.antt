@@ -1,0 +1,259 @@
+-- What the programs of operations record, by their text.
+use Rattle.std.proofs.Common.{◌≡◌, inl, inr, ℕ, zero, suc, ◌+◌, ◌/◌, ◌==◌, Bool, true, false, not, pos, List, [], ◌∷◌, Option, Some, None, refl, arith, if◌then◌else◌}
+use Rattle.std.specs.Prelude.{is_some, slice_index, take}
+use Rattle.fs_layout.specs.declared.inode.Dinode.{Dinode}
+use Rattle.fs_layout.specs.declared.superblock.Super.{Super}
+use Rattle.fs_layout.specs.Indirect.{numbers_in}
+use Rattle.fs_layout.specs.Widths.{block_len, dirents_per_block}
+use Rattle.plain_tree.specs.Tree.{Name, same_name}
+use Rattle.group_log.specs.declared.log.Left.{Left}
+use Rattle.group_log.specs.declared.log.Left.TheVariants.{Free, Commits}
+use Rattle.atomic_programs.specs.Prog.{Ret, Do, bind}
+use Rattle.atomic_programs.specs.Joined.{Handed}
+use Rattle.fs_tables.specs.Inodes.{LockedState, Refuses, Locks}
+use Rattle.fs_machine.specs.LogPart.{LogPart}
+use Rattle.fs_machine.specs.Programs.{fetch, read_unless, commit_unless, commits, most_writes, after_leave}
+use Rattle.bitmap_alloc.specs.Programs.{free_block, clear_bit}
+use Rattle.inode_table.specs.Programs.{give_back, inode_block, load_unless, put_inode, store as store_inode}
+use Rattle.inode_data.specs.Addresses.{address, table_of}
+use Rattle.inode_data.specs.Freeing.{free_numbers, free_table, free_in_table, free_indirect, freed, without_content}
+use Rattle.inode_data.specs.Programs.{Fetched, Filled, blocks_between, end_of, fetch_at, fetch_block, fetch_named, fetch_number, filled_with, give_fetched, next_block, part_of, read_blocks, read_from, read_part}
+use Rattle.inode_data.specs.Widths.{direct}
+use Rattle.inode_data.specs.declared.addresses.Address.{Address}
+use Rattle.inode_data.specs.declared.addresses.Address.TheVariants.{Direct, InTable}
+use Rattle.directory.specs.Programs.{Aim, Entry, Named, block_count, found_in, is_directory, is_live_directory, look_at, lookup, or_next, search, search_from, with_slot}
+use Rattle.directory.specs.declared.found.Found.{Found}
+use Rattle.inode_machine.specs.Budget.{Spent, unspent, with_bitmap, with_contents, with_record}
+use Rattle.inode_machine.specs.Inodes.{Looking, AtNothing, AtName, AtEntries}
+use Rattle.inode_machine.specs.World as above
+use Rattle.inodes_on_blocks.specs.Accounts.{used, Accounts, IsSpent}
+use Rattle.inodes_on_blocks.specs.Handlers.{P}
+use Rattle.inodes_on_blocks.specs.Lowering.{Carry, Had, Apart, Has, Emptied, NothingMore, Finds, Opened}
+use Rattle.inodes_on_blocks.specs.Emptying.{give_content}
+use Rattle.inodes_on_blocks.specs.Files.{file_locked, give_read, offset_in, with_file}
+use Rattle.inodes_on_blocks.specs.Reading.{learned, looked, number_found, search_entries, seen_record, stat_loaded, stat_locked}
+use Rattle.inodes_on_blocks.specs.Naming.{clear, clear_in, clear_slot, put_named, slot_found, slot_of}
+use Rattle.inodes_on_blocks.specs.Storing.{put_record, record_in}
+use Rattle.inodes_on_blocks.specs.Spending.{NoMore, Records, ProgramsSpend}
+use Rattle.inodes_on_blocks.proofs.Accounts.{transactions_have_room}
+use Rattle.inodes_on_blocks.proofs.SpentRoom.{record_spent}
+
+-- ---- amounts
+
+same : (s : Spent) → NoMore s s
+same s l = omega arith
+
+-- what holds of accounts holds of the amounts
+by_accounts : (s t : Spent) → ((h : ℕ) (l : LogPart) → Accounts h l s → Accounts h l t) → NoMore s t
+by_accounts s t more l = more 0 (record l { members = Some (used l s) ∷ [] }) (λ k e. let q : used l s ≡ k = cc e in omega (arith, q)) (used l s) refl
+
+pub record_no_more : (n : ℕ) (s : Spent) → NoMore s (with_record n s)
+record_no_more n s = by_accounts s (with_record n s) (λ h l known. (transactions_have_room h l).record_more n s known)
+
+pub bitmap_no_more : (s : Spent) → NoMore s (with_bitmap s)
+bitmap_no_more s = by_accounts s (with_bitmap s) (λ h l known. (transactions_have_room h l).bitmap_more s known)
+
+-- ---- programs
+
+module _ (sizes : Super) where
+  pub records_from : {A : Type 0} (p : P A) (s t u : Spent) → NoMore s t → Records sizes t p u → Records sizes s p u
+  records_from (Ret a) s t u less rec = λ l. let x = less l in let y = rec l in omega (arith, x, y)
+  records_from (Do op m k) s t u less rec = (rec.0, (λ l. let x = less l in let y = rec.1 l in omega (arith, x, y)), rec.2)
+
+  pub records_bind : {A B : Type 0} (p : P A) (k : A → P B) (s t u : Spent) → Records sizes s p t → ((a : A) → Records sizes t (k a) u) → Records sizes s (bind p k) u
+  records_bind (Ret a) k s t u rec then_ = records_from (k a) s t u rec (then_ a)
+  records_bind (Do op m j) k s t u rec then_ = (rec.0, rec.1, λ a. let step = rec.2 a in (step.0, step.1, records_bind (j a) k step.0 t u step.2 then_))
+
+  pub records_if : {A : Type 0} (b : Bool) (p q : P A) (s t : Spent) → Records sizes s p t → Records sizes s q t → Records sizes s (if b then p else q) t
+  records_if true p q s t yes_ no_ = yes_
+  records_if false p q s t yes_ no_ = no_
+
+  -- ---- what records nothing
+
+  module _ (s : Spent) where
+    abbrev Nothing : {A : Type 0} → P A → Type 0
+    Nothing p = Records sizes s p s
+
+    pub no_fetch : (b : ℕ) → Nothing (fetch b)
+    no_fetch b = (s, same s, λ o. (s, refl, read o))
+      where
+        read : (o : Option (List ℕ)) → Nothing (read_unless b o)
+        read (Some bytes) = same s
+        read None = (s, same s, λ bytes. (s, refl, same s))
+
+    pub no_load : (inodestart n : ℕ) (content : Option Dinode) → Nothing (load_unless inodestart n content)
+    no_load inodestart n (Some d) = same s
+    no_load inodestart n None = records_bind (fetch (inode_block inodestart n)) (give_back (inode_block inodestart n) n) s s s (no_fetch (inode_block inodestart n)) (λ bytes. (s, same s, λ a. (s, refl, same s)))
+
+    no_number : (b : ℕ) → Nothing (fetch_number b)
+    no_number b = records_bind (fetch b) (give_fetched b) s s s (no_fetch b) (λ bytes. same s)
+
+    no_at : (d : Dinode) (a : Address) → Nothing (fetch_at d a)
+    no_at d (Direct i) = no_number (slice_index d.addrs i)
+    no_at d (InTable i) = records_bind (fetch (table_of d)) (fetch_named (table_of d) i) s s s (no_fetch (table_of d)) (λ bytes. (s, same s, λ a. (s, refl, no_number (slice_index (numbers_in bytes) i))))
+
+    pub no_block : (d : Dinode) (k : ℕ) → Nothing (fetch_block d k)
+    no_block d k = no_at d (address k)
+
+    no_next : (o : Option Found) (next : P (Option Found)) → Nothing next → Nothing (or_next o next)
+    no_next (Some f) next rec = same s
+    no_next None next rec = rec
+
+    no_search : (n : ℕ) (aim : Aim) (d : Dinode) (k : ℕ) → Nothing (search_from n aim d k)
+    unfolding search_from
+    no_search zero aim d k = same s
+    no_search (suc n) aim d k =
+        records_bind (fetch_block d k) (look_at aim d k (search_from n aim d (k + 1))) s s s (no_block d k)
+        (λ f. (s, same s, λ a. (s, refl, no_next (found_in aim d k f.bytes) (search_from n aim d (k + 1)) (no_search n aim d (k + 1)))))
+
+    no_slot : (o : Option Found) → Nothing (slot_found o)
+    no_slot o = same s
+
+    -- the slot of a name sought
+    no_sought : (d : Dinode) (e : Name) → Nothing (bind (search (Named e) d) slot_found)
+    no_sought d e = records_bind (search (Named e) d) slot_found s s s (no_search (block_count d) (Named e) d 0) no_slot
+
+    no_slot_of : (had : Had) (e : Name) → Nothing (slot_of had e)
+    no_slot_of Apart e = same s
+    no_slot_of (Has d NothingMore) e = no_sought d e
+    no_slot_of (Has d (Finds name k)) e = records_if (same_name name e) (Ret k) (bind (search (Named e) d) slot_found) s s (same s) (no_sought d e)
+    no_slot_of (Has d (Opened fd offset)) e = no_sought d e
+    no_slot_of Emptied e = same s
+
+    no_looked : (looking : Looking) (c : Carry) (n : ℕ) (d : Dinode) → Nothing (looked looking c n d)
+    no_looked AtNothing c n d = same s
+    no_looked (AtName e) c n d = records_bind (lookup e d) (λ o. seen_record c n d (learned e o) (number_found o) true) s s s (records_if (is_live_directory d) (search (Named e) d) (Ret None) s s (no_search (block_count d) (Named e) d 0) (same s)) (λ o. same s)
+    no_looked AtEntries c n d = records_bind (search_entries d) (λ o. seen_record c n d NothingMore None (not (is_some o))) s s s (records_if (is_directory d) (search Entry d) (Ret None) s s (no_search (block_count d) Entry d 0) (same s)) (λ o. same s)
+
+    no_stat : (c : Carry) (a : LockedState) → Nothing (stat_locked sizes c a)
+    no_stat c (Refuses why) = same s
+    no_stat c (Locks f content) = records_bind (load_unless sizes.inodestart f.number content) (stat_loaded c f.number) s s s (no_load sizes.inodestart f.number content) (λ d. same s)
+
+    no_file : (fd : ℕ) (c : Carry) (a : LockedState) → Nothing (file_locked sizes fd c a)
+    no_file fd c (Refuses why) = same s
+    no_file fd c (Locks f content) = records_bind (load_unless sizes.inodestart f.number content) (with_file (above.LocksIt f.number) c fd f.number f.offset) s s s (no_load sizes.inodestart f.number content) (λ d. same s)
+
+    no_read : (n : ℕ) (d : Dinode) (from upto : ℕ) (m : Filled) → Nothing (read_blocks n d from upto m)
+    unfolding read_blocks
+    no_read zero d from upto m = same s
+    no_read (suc n) d from upto m =
+        records_bind (fetch_block d (from / block_len)) (read_part (read_blocks n d (next_block from) upto) from upto m) s s s (no_block d (from / block_len))
+        (λ f. (s, same s, λ a. (s, refl, no_read n d (next_block from) upto (filled_with m (part_of from upto f.bytes)))))
+
+    no_more_writes : (p : P (Unit {0})) (b : Bool) → Nothing p → Nothing (commit_unless p b)
+    no_more_writes p true rec = same s
+    no_more_writes p false rec = rec
+
+    no_writes : (n : ℕ) → Nothing (commits n)
+    no_writes zero = same s
+    no_writes (suc n) = (s, same s, λ b. (s, refl, no_more_writes (commits n) b (no_writes n)))
+
+    no_leave : (a : Left) → Nothing (after_leave a)
+    no_leave Free = same s
+    no_leave Commits = no_writes most_writes
+
+  -- ---- what records blocks that s names
+
+  module _ (s : Spent) where
+    module _ (bitmap : IsSpent sizes s sizes.bmapstart) where
+      frees : (b : ℕ) → Records sizes s (free_block sizes.bmapstart b) s
+      frees b = records_bind (fetch sizes.bmapstart) (clear_bit sizes.bmapstart b) s s s (no_fetch s sizes.bmapstart) (λ bytes. (s, same s, λ a. (s, inl (bitmap, refl), same s)))
+
+      pub frees_numbers : {A : Type 0} (bs : List ℕ) (after : P A) (t : Spent) → Records sizes s after t → Records sizes s (free_numbers sizes.bmapstart bs after) t
+      frees_numbers [] after t rec = rec
+      frees_numbers (b ∷ bs) after t rec =
+          records_if (b == 0) (free_numbers sizes.bmapstart bs after) (bind (free_block sizes.bmapstart b) (λ _. free_numbers sizes.bmapstart bs after)) s t (frees_numbers bs after t rec)
+          (records_bind (free_block sizes.bmapstart b) (λ _. free_numbers sizes.bmapstart bs after) s s t (frees b) (λ a. frees_numbers bs after t rec))
+
+      frees_table : {A : Type 0} (table : ℕ) (after : P A) (t : Spent) → Records sizes s after t → Records sizes s (free_indirect sizes.bmapstart table after) t
+      frees_table table after t rec =
+          records_if (table == 0) after (bind (fetch table) (free_in_table sizes.bmapstart table after)) s t rec
+          (records_bind (fetch table) (free_in_table sizes.bmapstart table after) s s t (no_fetch s table)
+          (λ bytes. frees_numbers (numbers_in bytes) (free_table sizes.bmapstart table after) t
+          (s, same s, λ a. (s, refl, records_bind (free_block sizes.bmapstart table) (λ _. after) s s t (frees table) (λ _. rec)))))
+
+      pub gives_content : {A : Type 0} (d : Dinode) (after : P A) (t : Spent) → Records sizes s after t → Records sizes s (give_content sizes d after) t
+      gives_content d after t rec = frees_numbers (take direct d.addrs) (free_indirect sizes.bmapstart (table_of d) after) t (frees_table (table_of d) after t rec)
+
+    -- an inode's record
+    pub puts_record : (op : above.Op) (m : above.Answer op → Option above.Mark) (answer : above.Answer op) (n : ℕ) (d : Dinode) (had : Had) (c : Carry) → IsSpent sizes s (inode_block sizes.inodestart n)
+        → Records sizes s (bind (fetch (inode_block sizes.inodestart n)) (put_record op m answer (inode_block sizes.inodestart n) n d had c)) s
+    puts_record op m answer n d had c is =
+        records_bind (fetch (inode_block sizes.inodestart n)) (put_record op m answer (inode_block sizes.inodestart n) n d had c) s s s (no_fetch s (inode_block sizes.inodestart n)) (λ bytes. (s, same s, λ a. (s, inl (is, refl), same s)))
+
+    puts_named : (n : ℕ) (e : Name) (d : Dinode) (c : Carry) (m : Unit {0} → Option above.Mark) → IsSpent sizes s (inode_block sizes.inodestart n)
+        → Records sizes s (bind (fetch (inode_block sizes.inodestart n)) (put_named (above.Clear n e) above.Room m (tt {0}) (inode_block sizes.inodestart n) n d c)) s
+    puts_named n e d c m is =
+        records_bind (fetch (inode_block sizes.inodestart n)) (put_named (above.Clear n e) above.Room m (tt {0}) (inode_block sizes.inodestart n) n d c) s s s (no_fetch s (inode_block sizes.inodestart n)) (λ bytes. (s, same s, λ a. (s, inl (is, refl), same s)))
+
+    pub stores_inode : (n : ℕ) (d : Dinode) → IsSpent sizes s (inode_block sizes.inodestart n) → Records sizes s (store_inode sizes.inodestart n d) s
+    stores_inode n d is =
+        records_bind (fetch (inode_block sizes.inodestart n)) (put_inode (inode_block sizes.inodestart n) n d) s s s (no_fetch s (inode_block sizes.inodestart n)) (λ bytes. (s, same s, λ a. (s, inl (is, refl), same s)))
+
+  emptied : (n : ℕ) (s : Spent) → NoMore s (with_record n (with_bitmap s))
+  emptied n s l = let x = bitmap_no_more s l in let y = record_no_more n (with_bitmap s) l in omega (arith, x, y)
+
+  pub programs_spend : ProgramsSpend sizes
+  programs_spend = record {
+    take = λ n looking c m s. (s, same s, λ content. (s, refl, records_bind (load_unless sizes.inodestart n content) (looked looking c n) s s s (no_load s sizes.inodestart n content) (λ d. no_looked s looking c n d)));
+    give = λ n c m s. (s, same s, λ a. (s, refl, same s));
+    up_start = λ absolute c m s. (s, same s, λ a. (s, refl, same s));
+    up = λ n c m s. (s, same s, λ a. (s, refl, same s));
+    walk_down = λ n c m s. (s, same s, λ a. (s, refl, same s));
+    down = λ n c m s. (s, same s, λ a. (s, refl, same s));
+    forget = λ n c m s. (s, same s, λ a. (s, refl, same s));
+    free = λ n c m s.
+        let d : Dinode = without_content (record_in c n) in
+        let at : ℕ = inode_block sizes.inodestart n in
+        let last : P (Handed (Unit {0}) Carry) = bind (fetch at) (put_record (above.Free n) m (tt {0}) at n (freed d) Emptied c) in
+        let r : Spent = with_record n (with_bitmap s) in
+        let is = record_spent sizes n (with_bitmap s) in
+        records_from (give_content sizes (record_in c n) (bind (store_inode sizes.inodestart n d) (λ _. last))) s r r (emptied n s)
+        (gives_content r (inr (refl, refl)) (record_in c n) (bind (store_inode sizes.inodestart n d) (λ _. last)) r
+        (records_bind (store_inode sizes.inodestart n d) (λ _. last) r r r (stores_inode r n d is) (λ a. puts_record r (above.Free n) m (tt {0}) n (freed d) Emptied c is)));
+    clear = λ n e c m s.
+        let r : Spent = with_record n (with_contents 1 s) in
+        let t : Spent = with_record n s in
+        records_from (clear sizes n e c m) s t r (record_no_more n s)
+        (records_bind (slot_of (c n) e) (clear_slot sizes n e c m) t t r (no_slot_of t (c n) e)
+        (λ k. records_bind (fetch_block (record_in c n) (k / dirents_per_block)) (clear_in sizes n e c m k) t t r (no_block t (record_in c n) (k / dirents_per_block))
+        (λ f. (t, same t, λ a. (r, inr refl, puts_named r n e (with_slot k (record_in c n)) c m (record_spent sizes n (with_contents 1 s)))))));
+    store = λ n count c m s.
+        let d : Dinode = record (record_in c n) { nlink = pos count } in
+        let at : ℕ = inode_block sizes.inodestart n in
+        let r : Spent = with_record n s in
+        records_from (bind (fetch at) (put_record (above.Store n count) m (tt {0}) at n d (Has d NothingMore) c)) s r r (record_no_more n s)
+        (puts_record r (above.Store n count) m (tt {0}) n d (Has d NothingMore) c (record_spent sizes n s));
+    empty = λ n c m s.
+        let d : Dinode = without_content (record_in c n) in
+        let at : ℕ = inode_block sizes.inodestart n in
+        let last : P (Handed (Unit {0}) Carry) = bind (fetch at) (put_record (above.Empty n) m (tt {0}) at n d (Has d NothingMore) c) in
+        let r : Spent = with_record n (with_bitmap s) in
+        records_from (give_content sizes (record_in c n) last) s r r (emptied n s)
+        (gives_content r (inr (refl, refl)) (record_in c n) last r (puts_record r (above.Empty n) m (tt {0}) n d (Has d NothingMore) c (record_spent sizes n (with_bitmap s))));
+    slot = λ c m s. (s, same s, λ a. (s, refl, same s));
+    install = λ f sort c m s. (s, same s, λ a. (s, refl, same s));
+    stat_file = λ fd c m s. (s, same s, λ a. (s, refl, no_stat s c a));
+    lock_file = λ fd c m s. (s, same s, λ a. (s, refl, no_file s fd c a));
+    lock_open = λ fd n c m s. (
+      s,
+      same s,
+      λ a. (s, refl, records_bind (load_unless sizes.inodestart a.0.number a.1) (with_file (tt {0}) c fd a.0.number a.0.offset) s s s (no_load s sizes.inodestart a.0.number a.1) (λ d. same s)),
+    );
+    read_file = λ fd n count c m s.
+        let d : Dinode = record_in c n in
+        let from : ℕ = offset_in (c n) in
+        records_bind (read_from d from count []) (give_read fd n count m c) s s s
+        (no_read s (blocks_between from (end_of d from count)) d from (end_of d from count) (record { count = 0; bytes = [] })) (λ f. (s, same s, λ a. (s, refl, same s)));
+    check_file = λ fd c m s. (s, same s, λ a. (s, refl, same s));
+    join_file = λ fd c m s. (s, same s, λ a. (unspent, refl, same unspent));
+    double = λ fd c m s. (s, same s, λ a. (s, refl, same s));
+    close = λ fd c m s. (s, same s, λ a. (s, refl, same s));
+    settle = λ n c m s. (s, same s, λ a. (s, refl, same s));
+    lend = λ child from c m s. (s, same s, λ a. (s, refl, same s));
+    lend_directory = λ child c m s. (s, same s, λ a. (s, refl, same s));
+    release = λ child c m s. (s, same s, λ a. (s, refl, same s));
+    join = λ c m s. (s, same s, λ a. (unspent, refl, same unspent));
+    leave = λ c m s. (s, same s, λ a. (s, refl, records_bind (after_leave a) (λ b. Ret (record { answer = b; carry = c })) s s s (no_leave s a) (λ b. same s)));
+    say = λ c m s. (s, same s, λ a. (s, refl, same s));
+  }

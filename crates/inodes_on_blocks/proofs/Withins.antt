@@ -1,0 +1,65 @@
+-- The operations below within what their call's transactions may record, and whole calls.
+use Rattle.std.proofs.Common.{◌≡◌, ℕ, suc, ◌<◌, true, false, is_some, Option, Some, None, sym, ◌∙◌, ap}
+use Rattle.std.proofs.lemmas.Option.{get_or_from_slice_get}
+use Rattle.fs_layout.specs.declared.superblock.Super.{Super}
+use Rattle.plain_tree.specs.Widths.{hart_count}
+use Rattle.atomic_programs.specs.Prog.{Ret, Do}
+use Rattle.atomic_programs.specs.Logic.{Laws, P}
+use Rattle.atomic_programs.specs.Spending.{Affords}
+use Rattle.inode_table.specs.Programs.{inode_block}
+use Rattle.inode_machine.specs.World as above
+use Rattle.inode_machine.specs.World.Op.{Empty, Free, Store}
+use Rattle.inode_machine.specs.Budget.{HasRoom, Spent, unspent, spent_after, with_bitmap}
+use Rattle.inode_machine.specs.Rules.{more}
+use Rattle.inodes_on_blocks.specs.Below.{World, log_of}
+use Rattle.inodes_on_blocks.specs.Shown.{Shows}
+use Rattle.inodes_on_blocks.specs.Lowering.{Labels, labelled, Keeps}
+use Rattle.inodes_on_blocks.specs.Handlers.{Handler}
+use Rattle.inodes_on_blocks.specs.Emptying.{empty, free}
+use Rattle.inodes_on_blocks.specs.Storing.{store}
+use Rattle.inodes_on_blocks.specs.Acting.{ActsOnceAt}
+use Rattle.inodes_on_blocks.specs.Room.{HasSpent}
+use Rattle.inodes_on_blocks.specs.Spending.{recorded_blocks, Spends, ActsWithin}
+use Rattle.inodes_on_blocks.proofs.EmptySteps.{empty_acts}
+use Rattle.inodes_on_blocks.proofs.FreeSteps.{free_acts}
+use Rattle.inodes_on_blocks.proofs.StoreSteps.{store_acts}
+use Rattle.inodes_on_blocks.proofs.Spending.{stays_within}
+use Rattle.inodes_on_blocks.proofs.Spends.{programs_spend}
+use Rattle.inodes_on_blocks.proofs.SpentRoom.{bitmap_spent, both_more, record_more, record_spent, spent_gives}
+
+module _ (sizes : Super) (l : Labels) (laws : Laws (labelled l)) (keeps : Keeps l) (h : ℕ) (lt : h < hart_count) where
+  -- one whose law asks for no room
+  pub acts_within : (op : above.Op) (m : above.Answer op → Option above.Mark) (p : Handler op) → Spends sizes op p → ActsOnceAt sizes l h op m p → ActsWithin sizes l h op m p
+  acts_within op m p spends acts c s B C es w lasts todo stands few has = stays_within sizes l h op m p spends c s B C (suc (more op)) es w (acts c B C es w lasts todo stands) has
+
+  -- those that record
+  pub store_within : (n count : ℕ) (m : Unit {0} → Option above.Mark) → ActsWithin sizes l h (Store n count) m (store sizes n count)
+  store_within n count m c s B C es w lasts todo stands few has =
+      let t = spent_after (Store n count) s in
+      stays_within sizes l h (Store n count) m (store sizes n count) ((programs_spend sizes).store n count) c s B C (suc (more (Store n count))) es w
+      (store_acts sizes l laws keeps h lt n count m (HasSpent sizes h t) (spent_gives sizes h (inode_block sizes.inodestart n) t (record_spent sizes n s) few).gives c B C es w lasts todo stands (stands.1, record_more h n s w.real has.1)) has
+
+  pub empty_within : (n : ℕ) (m : Unit {0} → Option above.Mark) → ActsWithin sizes l h (Empty n) m (empty sizes n)
+  empty_within n m c s B C es w lasts todo stands few has =
+      let t = spent_after (Empty n) s in
+      stays_within sizes l h (Empty n) m (empty sizes n) ((programs_spend sizes).empty n) c s B C (suc (more (Empty n))) es w
+      (empty_acts sizes l laws keeps h lt n m (HasSpent sizes h t) (spent_gives sizes h sizes.bmapstart t (bitmap_spent sizes n s) few) (spent_gives sizes h (inode_block sizes.inodestart n) t (record_spent sizes n (with_bitmap s)) few).gives c B C es w lasts todo stands
+      (stands.1, both_more h n s w.real has.1)) has
+
+  pub free_within : (n : ℕ) (m : Unit {0} → Option above.Mark) → ActsWithin sizes l h (Free n) m (free sizes n)
+  free_within n m c s B C es w lasts todo stands few has =
+      let t = spent_after (Free n) s in
+      stays_within sizes l h (Free n) m (free sizes n) ((programs_spend sizes).free n) c s B C (suc (more (Free n))) es w
+      (free_acts sizes l laws keeps h lt n m (HasSpent sizes h t) (spent_gives sizes h sizes.bmapstart t (bitmap_spent sizes n s) few) (spent_gives sizes h (inode_block sizes.inodestart n) t (record_spent sizes n (with_bitmap s)) few) c B C es w lasts todo stands
+      (stands.1, both_more h n s w.real has.1)) has
+
+-- ---- whole calls
+
+-- a program with room for each of its operations affords them
+pub affords : (l : Labels) {A : Type 0} (p : P (labelled l) A) (s : Spent) → HasRoom s p → Affords (labelled l) (recorded_blocks l) s p
+affords l (Ret a) s room = tt
+affords l (Do op m k) s room = (room.0, λ a. affords l (k a) (spent_after op s) (room.1 a))
+
+-- a hart that is in no transaction above has spent nothing
+pub none_spent : (sizes : Super) (h : ℕ) (r : World) (g : above.World) → h < hart_count → Shows r g → (g.desks h).joined ≡ false → (log_of r).sizes ≡ sizes → HasSpent sizes h unspent r
+none_spent sizes h r g lt shows out at = (at, λ k e. absurd (let q : false ≡ true = sym out ∙ shows.members h lt ∙ ap is_some (get_or_from_slice_get (log_of r).members h (Some k) None e) in cc q))

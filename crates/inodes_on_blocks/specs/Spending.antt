@@ -1,0 +1,106 @@
+-- What the programs below of operations record, and that it is no more than their call's transactions may.
+use Rattle.std.specs.Prelude.{◌≡◌, ◌⊎◌, ℕ, suc, Bool, ◌<◌, ◌≤◌, List, [], Option, Some}
+use Rattle.fs_layout.specs.declared.superblock.Super.{Super}
+use Rattle.plain_tree.specs.declared.tree.OpenFile.{OpenFile}
+use Rattle.plain_tree.specs.Tree.{Name}
+use Rattle.plain_tree.specs.Widths.{hart_count}
+use Rattle.atomic_programs.specs.Logic.{Wp}
+use Rattle.atomic_programs.specs.Prog.{Ret, Do, once}
+use Rattle.atomic_programs.specs.Joined.{Both, joined, Below, Lasts}
+use Rattle.atomic_programs.specs.Spending.{Budget}
+use Rattle.fs_machine.specs.LogPart.{LogPart}
+use Rattle.fs_machine.specs.Steps as steps
+use Rattle.inode_machine.specs.Inodes.{Looking, Sort}
+use Rattle.inode_machine.specs.World as above
+use Rattle.inode_machine.specs.World.Op.{Take, Give, UpStart, Up, WalkDown, Down, Forget, Free, Store, Clear, Empty, Slot, Install, StatFile, LockFile, ReadFile, LockOpen, CheckFile, JoinFile, Double, Shut, Settle, Lend, LendDirectory, Release, Join, Leave, Say}
+use Rattle.inode_machine.specs.Rules.{more}
+use Rattle.inode_machine.specs.Budget.{Spent, unspent, size, spent_after, most_recorded, with_contents}
+use Rattle.inodes_on_blocks.specs.Below.{World, log_of}
+use Rattle.inodes_on_blocks.specs.Lowering.{Carry, Stands, below, Labels, labelled}
+use Rattle.inodes_on_blocks.specs.Handlers.{P, Handler, give, settle, up_start, up, walk_down, down, forget, slot, install, double, close, check_file, lend, lend_directory, release, join, join_file, leave, say}
+use Rattle.inodes_on_blocks.specs.Reading.{stat_file, take}
+use Rattle.inodes_on_blocks.specs.Files.{lock_file, lock_open, read_file}
+use Rattle.inodes_on_blocks.specs.Naming.{clear}
+use Rattle.inodes_on_blocks.specs.Storing.{store}
+use Rattle.inodes_on_blocks.specs.Emptying.{empty, free}
+use Rattle.inodes_on_blocks.specs.Acting.{whole, IsDone, Answers}
+use Rattle.inodes_on_blocks.specs.Accounts.{used, Accounts, IsSpent}
+use Rattle.inodes_on_blocks.specs.Room.{HasSpent, DoesItSpending}
+
+-- what the operations on whole inodes spend, and that it is at most ten blocks
+abbrev pub recorded_blocks : (l : Labels) → Budget (labelled l)
+recorded_blocks l = record { Spent = Spent; after = spent_after; Allowed = λ s. size s ≤ most_recorded }
+
+-- ---- what a program records, by its text
+
+-- this is no more than that, whatever the group has
+abbrev pub NoMore : Spent → Spent → Type 0
+NoMore s t = (l : LogPart) → used l s ≤ used l t
+
+-- where s was spent before the step, r is after it: a block that s names is recorded, or one more; a transaction begins with nothing
+abbrev pub LeadsTo : Super → Spent → steps.Op → Spent → Type 0
+LeadsTo sizes s (steps.Put b (Some bytes)) r = (IsSpent sizes s b × (r ≡ s)) ⊎ (r ≡ with_contents 1 s)
+LeadsTo sizes s steps.Join r = r ≡ unspent
+LeadsTo sizes s (steps.JoinToWrite fd) r = r ≡ unspent
+LeadsTo sizes s op r = r ≡ s
+
+-- from s on the program comes to no more than t, whatever its steps answer
+abbrev pub Records : Super → {A : Type 0} → Spent → P A → Spent → Type 0
+Records sizes s (Ret a) t = NoMore s t
+Records sizes s (Do op m k) t = (q : Spent) × NoMore s q × ((a : steps.Answer op) → (r : Spent) × LeadsTo sizes q op r × Records sizes r (k a) t)
+
+-- an operation's program records what the operation spends
+abbrev pub Spends : Super → (op : above.Op) → Handler op → Type 0
+Spends sizes op p = (c : Carry) (m : above.Answer op → Option above.Mark) (s : Spent) → Records sizes s (p c m) (spent_after op s)
+
+-- so do these
+pub record ProgramsSpend (sizes : Super) : Type 0 where
+  pub take : (n : ℕ) (looking : Looking) → Spends sizes (Take n looking) (take sizes n looking)
+  pub give : (n : ℕ) → Spends sizes (Give n) (give n)
+  pub up_start : (absolute : Bool) → Spends sizes (UpStart absolute) (up_start absolute)
+  pub up : (n : ℕ) → Spends sizes (Up n) (up n)
+  pub walk_down : (n : ℕ) → Spends sizes (WalkDown n) (walk_down n)
+  pub down : (n : ℕ) → Spends sizes (Down n) (down n)
+  pub forget : (n : ℕ) → Spends sizes (Forget n) (forget n)
+  pub free : (n : ℕ) → Spends sizes (Free n) (free sizes n)
+  pub clear : (n : ℕ) (e : Name) → Spends sizes (Clear n e) (clear sizes n e)
+  pub store : (n count : ℕ) → Spends sizes (Store n count) (store sizes n count)
+  pub empty : (n : ℕ) → Spends sizes (Empty n) (empty sizes n)
+  pub slot : Spends sizes Slot slot
+  pub install : (f : OpenFile) (sort : Sort) → Spends sizes (Install f sort) (install f sort)
+  pub stat_file : (fd : ℕ) → Spends sizes (StatFile fd) (stat_file sizes fd)
+  pub lock_file : (fd : ℕ) → Spends sizes (LockFile fd) (lock_file sizes fd)
+  pub lock_open : (fd n : ℕ) → Spends sizes (LockOpen fd n) (lock_open sizes fd n)
+  pub read_file : (fd n count : ℕ) → Spends sizes (ReadFile fd n count) (read_file fd n count)
+  pub check_file : (fd : ℕ) → Spends sizes (CheckFile fd) (check_file fd)
+  pub join_file : (fd : ℕ) → Spends sizes (JoinFile fd) (join_file fd)
+  pub double : (fd : ℕ) → Spends sizes (Double fd) (double fd)
+  pub close : (fd : ℕ) → Spends sizes (Shut fd) (close fd)
+  pub settle : (n : ℕ) → Spends sizes (Settle n) (settle n)
+  pub lend : (child from : ℕ) → Spends sizes (Lend child from) (lend child from)
+  pub lend_directory : (child : ℕ) → Spends sizes (LendDirectory child) (lend_directory child)
+  pub release : (child : ℕ) → Spends sizes (Release child) (release child)
+  pub join : Spends sizes Join join
+  pub leave : Spends sizes Leave leave
+  pub say : Spends sizes Say say
+
+-- ---- within a call's transactions
+
+-- whatever the operation alone is shown to do above, under any history, this program does below, where the hart's transaction has spent no more than s, and s with
+-- what the operation spends is no more than it may; and then it has spent no more than that
+abbrev pub ActsWithin : Super → (l : Labels) → ℕ → (op : above.Op) → (above.Answer op → Option above.Mark) → Handler op → Type 1
+ActsWithin sizes l h op m p =
+    (c : Carry) (s : Spent) (B : List l.Step → Type 0) (C : above.Answer op → List l.Step → above.World → Type 0) (es : List l.Step) (w : Both World above.World)
+    → Lasts (labelled l) h B C → Wp (labelled l) h B C (once op m) (suc (more op)) es w.seen → Stands sizes h w.real w.seen c → size (spent_after op s) ≤ most_recorded → HasSpent sizes h s w.real
+    → Wp (joined (labelled l) (below sizes)) h B (λ r fs u. Below (labelled l) (below sizes) h C r fs u × HasSpent sizes h (spent_after op s) u.real) (p c m) (suc (more op)) es w
+
+-- the same with the history that is the operations themselves
+abbrev pub DoesItWithin : Super → (op : above.Op) → Handler op → Type 0
+DoesItWithin sizes op p =
+    (h : ℕ) (s : Spent) (m : above.Answer op → Option above.Mark) (c : Carry) (w : Both World above.World) → h < hart_count → size (spent_after op s) ≤ most_recorded
+    → Wp whole h (IsDone op) (Answers op) (once op m) (suc (more op)) [] w.seen → Stands sizes h w.real w.seen c → Accounts h (log_of w.real) s
+    → Wp (joined whole (below sizes)) h (IsDone op) (λ r es u. Below whole (below sizes) h (Answers op) r es u × HasSpent sizes h (spent_after op s) u.real) (p c m) (suc (more op)) [] w
+
+-- A program that records what its operation spends, and does it where the transaction has room for that, leaves no more spent.
+abbrev pub ProgramsStayWithin : Type 0
+ProgramsStayWithin = (sizes : Super) (op : above.Op) (p : Handler op) → Spends sizes op p → DoesItSpending sizes op p → DoesItWithin sizes op p

@@ -1,0 +1,14 @@
+//! What the programs below of operations record: no more than their call's transactions may.
+
+ghost use Rattle.fs_layout.specs.declared.superblock.Super.{Super};
+ghost use Rattle.inodes_on_blocks.specs.Spending.{ProgramsSpend, ProgramsStayWithin};
+
+/// By their text the programs record what their operations spend.
+pub fn programs_spend()
+    ensures { (sizes : Super) → ProgramsSpend sizes }
+{}
+
+/// A program that records what its operation spends leaves no more spent, where it does its operation.
+pub fn programs_stay_within()
+    ensures { ProgramsStayWithin }
+{}
