@@ -62,3 +62,4 @@ pub mod ClearSteps
 pub mod Spending
 pub mod Spends
 pub mod Withins
+pub mod QuietWorlds

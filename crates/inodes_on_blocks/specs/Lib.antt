@@ -19,3 +19,4 @@ pub mod Counted
 pub mod Mounted
 pub mod Naming
 pub mod Spending
+pub mod QuietWorlds

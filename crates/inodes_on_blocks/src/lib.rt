@@ -7,6 +7,7 @@ ghost use Rattle.inodes_on_blocks.specs.Accounts.{TransactionsHaveRoom};
 ghost use Rattle.inodes_on_blocks.specs.Counted.{ReferencesAreCounted, WaitsForOthers};
 ghost use Rattle.inodes_on_blocks.specs.Laws.{ChangesMayBegin, ChangesMayEnd, JoinsKeepThem, LeavesKeepThem, MountedNodesAreOnBlocks, QuietBlocksAreImages, RecordsKeepThem, UnseenChangesKeepThem};
 ghost use Rattle.inodes_on_blocks.specs.Mounted.{MountsShowTheirTrees};
+ghost use Rattle.inodes_on_blocks.specs.QuietWorlds.{QuietWorldsAreImages, RestingWorldsAreImages};
 
 pub mod acting;
 pub mod files;
@@ -59,6 +60,17 @@ pub fn mounted_nodes_are_on_blocks()
 /// A mount of it shows its tree, in which every hart rests: there the worlds begin.
 pub fn mounts_show_their_trees()
     ensures { MountsShowTheirTrees }
+{}
+
+/// Whenever nobody is in a transaction, and no count is raised, the seen blocks are an image of the tree above, and so is each disk
+/// that recovery would leave so.
+pub fn quiet_worlds_are_images()
+    ensures { QuietWorldsAreImages }
+{}
+
+/// So wherever every hart rests.
+pub fn resting_worlds_are_images()
+    ensures { RestingWorldsAreImages }
 {}
 
 /// What a call's program may spend is room for its recorded puts: while the transaction has added no more to the group, each
