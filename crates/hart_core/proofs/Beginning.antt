@@ -60,7 +60,7 @@ use Rattle.file_table.specs.Machines.{file_of}
 use Rattle.file_table.specs.declared.load_file.LoadFile.{LoadFile}
 use Rattle.file_table.specs.declared.load_file.LoadFile.TheVariants as file
 use Rattle.syscalls.specs.Machines.{dup_of, close_of, CloseFits, fstat_of, read_call_of, running_of, RunningFits}
-use Rattle.directory.specs.Programs.{Aim, Named}
+use Rattle.directory.specs.Programs.{Aim, Named, Entry}
 use Rattle.directory.specs.Machines.{search_of}
 use Rattle.path_walk.specs.Elements.{name_in}
 use Rattle.directory.specs.declared.search.Search.{Search}
@@ -81,6 +81,19 @@ use Rattle.syscalls.specs.declared.give.GiveUp.{GiveUp}
 use Rattle.syscalls.specs.declared.give.GiveUp.TheVariants as giving
 use Rattle.syscalls.specs.declared.quit.Quit.{Quit}
 use Rattle.syscalls.specs.declared.quit.Quit.TheVariants as quitting
+use Rattle.syscalls.specs.Seeking.{seek_of}
+use Rattle.syscalls.specs.declared.seek.Seek.{Seek}
+use Rattle.syscalls.specs.declared.seek.Seek.TheVariants as seeking
+use Rattle.syscalls.specs.Unlinking.{lower_of, LowerFits, unlink_of, UnlinkFits}
+use Rattle.syscalls.specs.declared.lower.Lower.{Lower}
+use Rattle.syscalls.specs.declared.lower.Lower.TheVariants as lowering
+use Rattle.syscalls.specs.declared.unlink.Unlink.{Unlink}
+use Rattle.syscalls.specs.declared.unlink.Unlink.TheVariants as unlinking
+use Rattle.directory.specs.Putting.{put_of}
+use Rattle.directory.specs.declared.put_entry.PutEntry.{PutEntry}
+use Rattle.directory.specs.declared.put_entry.PutEntry.TheVariants as putting
+use Rattle.fs_layout.specs.declared.entry.Dirent.{Dirent}
+use Rattle.fs_layout.specs.declared.entry.Dirent.TheVariants.{Free}
 use Rattle.syscalls.specs.Opens.{install_of, InstallFits, open_old_of, OpenOldFits}
 use Rattle.syscalls.specs.declared.install.Install.{Install}
 use Rattle.syscalls.specs.declared.install.Install.TheVariants as installing
@@ -295,6 +308,12 @@ unfolding search_of
 has_search aim (searching.Fetching at m) = first (block_fetch_of m) _ (has_block m)
 has_search aim (searching.There at guard) = tt
 
+has_put : (entry : Dirent) (m : PutEntry) → HasOne (put_of entry m)
+unfolding put_of
+has_put entry (putting.Fetching at m) = first (block_fetch_of m) _ (has_block m)
+has_put entry (putting.There at guard) = tt
+has_put entry (putting.Storing at m) = first (store_of m) _ (has_store m)
+
 has_walk : (path : List ℕ) (m : Walk) → HasOne (walk_of path m)
 unfolding walk_of
 has_walk path (walking.Start inodestart goal list) = tt
@@ -316,6 +335,11 @@ unfolding reach_of
 has_reach path (reaching.Walking inodestart m) = first (walk_of path m) _ (has_walk path m)
 has_reach path (reaching.Taking last list m) = first (take_of m) _ (has_take m)
 
+has_seek : (path : List ℕ) (m : Seek) → HasOne (seek_of path m)
+unfolding seek_of
+has_seek path (seeking.Reaching how m) = first (reach_of path m) _ (has_reach path m)
+has_seek path (seeking.Looking n e list m) = first (search_of (Named (name_in path e)) m) _ (has_search (Named (name_in path e)) m)
+
 -- ---- how a call on a path ends
 
 has_tail : (h : ℕ) (s : State) (m : Tail) → TailFits h s m → HasOne (tail_of m)
@@ -336,6 +360,7 @@ has_quit : (h : ℕ) (s : State) (m : Quit) → QuitFits h s m → HasOne (quit_
 unfolding quit_of QuitFits
 has_quit h s (quitting.Unlock e txn inode) fits = tt
 has_quit h s (quitting.Giving e txn m) fits = first (give_of m) _ (has_give m)
+has_quit h s (quitting.Two e txn second m) fits = first (give_of m) _ (has_give m)
 has_quit h s (quitting.Tail m) fits = has_tail h s m fits
 
 has_install : (h : ℕ) (s : State) (m : Install) → InstallFits h s m → HasOne (install_of m)
@@ -359,6 +384,24 @@ has_chdir h s (chdir.Reaching on txn m) fits = first (reach_of on.path m) _ (has
 has_chdir h s (chdir.Settle on txn list held) fits = tt
 has_chdir h s (chdir.Ends m) fits = has_quit h s m fits
 
+has_lower : (h : ℕ) (s : State) (m : Lower) → LowerFits h s m → HasOne (lower_of m)
+unfolding lower_of LowerFits
+has_lower h s (lowering.Parent e txn parent child m) fits = first (store_of m) _ (has_store m)
+has_lower h s (lowering.Leaving e txn child m) fits = first (give_of m) _ (has_give m)
+has_lower h s (lowering.Child e txn child m) fits = first (store_of m) _ (has_store m)
+has_lower h s (lowering.Ends m) fits = has_quit h s m fits
+
+has_unlink : (h : ℕ) (s : State) (m : Unlink) → UnlinkFits h s m → HasOne (unlink_of m)
+unfolding unlink_of UnlinkFits
+has_unlink h s (unlinking.Join on) fits = tt
+has_unlink h s (unlinking.Seeking on txn m) fits = first (seek_of on.path m) _ (has_seek on.path m)
+has_unlink h s (unlinking.Refer r txn n) fits = tt
+has_unlink h s (unlinking.Taking r txn m) fits = first (take_of m) _ (has_take m)
+has_unlink h s (unlinking.Looking r txn n m) fits = first (search_of Entry m) _ (has_search Entry m)
+has_unlink h s (unlinking.Clearing e txn n child m) fits = first (put_of Free m) _ (has_put Free m)
+has_unlink h s (unlinking.Lowering m) fits = has_lower h s m fits
+has_unlink h s (unlinking.Ends m) fits = has_quit h s m fits
+
 pub has_running : (h : ℕ) (s : State) (m : Running) → RunningFits h s m → HasOne (running_of m)
 unfolding running_of RunningFits
 has_running h s (running.Open m) fits = has_open h s m fits
@@ -368,3 +411,4 @@ has_running h s (running.Close m) fits = has_close h s m fits
 has_running h s (running.Fstat m) fits = has_fstat m
 has_running h s (running.Read m) fits = has_read_call m
 has_running h s (running.Write m) fits = has_write_call h s m fits
+has_running h s (running.Unlink m) fits = has_unlink h s m fits

@@ -44,7 +44,7 @@ use Rattle.file_table.specs.Machines.{FileFits, IsLoaded}
 use Rattle.file_table.specs.declared.load_file.LoadFile.{LoadFile}
 use Rattle.file_table.specs.declared.load_file.LoadFile.TheVariants as file
 use Rattle.syscalls.specs.Machines.{CloseFits, FstatFits, ReadCallFits, RunningFits}
-use Rattle.directory.specs.Machines.{SearchFits}
+use Rattle.directory.specs.Machines.{inode_of, SearchFits}
 use Rattle.directory.specs.declared.search.Search.{Search}
 use Rattle.directory.specs.declared.search.Search.TheVariants as searching
 use Rattle.path_walk.specs.Machines.{WalkFits}
@@ -64,6 +64,18 @@ use Rattle.syscalls.specs.declared.give.GiveUp.{GiveUp}
 use Rattle.syscalls.specs.declared.give.GiveUp.TheVariants as giving
 use Rattle.syscalls.specs.declared.quit.Quit.{Quit}
 use Rattle.syscalls.specs.declared.quit.Quit.TheVariants as quitting
+use Rattle.syscalls.specs.Seeking.{IsParent, SeekFits}
+use Rattle.syscalls.specs.declared.seek.Seek.{Seek}
+use Rattle.syscalls.specs.declared.seek.Seek.TheVariants as seeking
+use Rattle.syscalls.specs.Unlinking.{AreHeld, IsRemoving, LowerFits, UnlinkFits}
+use Rattle.syscalls.specs.declared.lower.Lower.{Lower}
+use Rattle.syscalls.specs.declared.lower.Lower.TheVariants as lowering
+use Rattle.syscalls.specs.declared.unlink.Removing.{Removing}
+use Rattle.syscalls.specs.declared.unlink.Unlink.{Unlink}
+use Rattle.syscalls.specs.declared.unlink.Unlink.TheVariants as unlinking
+use Rattle.directory.specs.Putting.{putter_of, PutFits}
+use Rattle.directory.specs.declared.put_entry.PutEntry.{PutEntry}
+use Rattle.directory.specs.declared.put_entry.PutEntry.TheVariants as putting
 use Rattle.syscalls.specs.Opens.{InstallFits, OpenOldFits}
 use Rattle.syscalls.specs.declared.install.Install.{Install}
 use Rattle.syscalls.specs.declared.install.Install.TheVariants as installing
@@ -255,6 +267,20 @@ module _ (h g : ℕ) (s t : State) (other : h ≢ g) (leaves : LeavesTied g s t)
   reaches path (reaching.Walking inodestart m) fits = (fits.0, walks path m fits.1, fits.2)
   reaches path (reaching.Taking last list m) fits = (fits.0, takes m fits.1)
 
+  is_parent : (n : ℕ) (guard : GuardState Inode) → IsParent h n guard s → IsParent h n guard t
+  is_parent n guard f = record { own = own_inode n guard f.own; there = f.there; live = f.live }
+
+  seeks : (path : List ℕ) (m : Seek) → SeekFits path h s m → SeekFits path h t m
+  unfolding SeekFits
+  seeks path (seeking.Reaching how m) fits = reaches path m fits
+  seeks path (seeking.Looking n e list m) fits = (fits.0, is_parent n _ fits.1, searches m fits.2)
+
+  puts : (m : PutEntry) → PutFits h s m → PutFits h t m
+  unfolding PutFits
+  puts (putting.Fetching at m) fits = (fits.0, block m fits.1)
+  puts (putting.There at guard) fits = (fits.0, is_fetched _ guard fits.1)
+  puts (putting.Storing at m) fits = (fits.0, store m fits.1)
+
   -- ---- how a call on a path ends
 
   tails : (m : Tail) → TailFits h s m → TailFits h t m
@@ -275,6 +301,7 @@ module _ (h g : ℕ) (s t : State) (other : h ≢ g) (leaves : LeavesTied g s t)
   unfolding QuitFits
   quits (quitting.Unlock e txn inode) fits = (fits.0, fits.1, own_inode _ inode fits.2)
   quits (quitting.Giving e txn m) fits = (fits.0, fits.1, gives m fits.2)
+  quits (quitting.Two e txn second m) fits = (fits.0, fits.1, is_held second fits.2, gives m fits.3, fits.4)
   quits (quitting.Tail m) fits = tails m fits
 
   installs : (m : Install) → InstallFits h s m → InstallFits h t m
@@ -298,6 +325,30 @@ module _ (h g : ℕ) (s t : State) (other : h ≢ g) (leaves : LeavesTied g s t)
   chdirs (chdir.Settle on txn list held) fits = (fits.0, fits.1, is_held held fits.2)
   chdirs (chdir.Ends m) fits = quits m fits
 
+  are_held : (first second : Held) → AreHeld h first second s → AreHeld h first second t
+  are_held first second f = record { one = is_held first f.one; two = is_held second f.two; apart = f.apart }
+
+  lowers : (m : Lower) → LowerFits h s m → LowerFits h t m
+  unfolding LowerFits
+  lowers (lowering.Parent e txn parent child m) fits = (fits.0, fits.1, are_held parent child fits.2, store m fits.3)
+  lowers (lowering.Leaving e txn child m) fits = (fits.0, fits.1, is_held child fits.2, gives m fits.3, fits.4)
+  lowers (lowering.Child e txn child m) fits = (fits.0, fits.1, is_held child fits.2, store m fits.3)
+  lowers (lowering.Ends m) fits = quits m fits
+
+  removing : (r : Removing) → IsRemoving h r s → IsRemoving h r t
+  removing r f = record { on = f.on; parent = is_held r.parent f.parent; slot = f.slot }
+
+  unlinks : (m : Unlink) → UnlinkFits h s m → UnlinkFits h t m
+  unfolding UnlinkFits
+  unlinks (unlinking.Join on) fits = fits
+  unlinks (unlinking.Seeking on txn m) fits = (fits.0, fits.1, seeks on.path m fits.2)
+  unlinks (unlinking.Refer r txn n) fits = (fits.0, removing r fits.1)
+  unlinks (unlinking.Taking r txn m) fits = (fits.0, removing r fits.1, takes m fits.2, fits.3)
+  unlinks (unlinking.Looking r txn n m) fits = (fits.0, removing r fits.1, is_held (record { reference = n; inode = inode_of m }) fits.2, fits.3, searches m fits.4)
+  unlinks (unlinking.Clearing e txn n child m) fits = (fits.0, fits.1, are_held (record { reference = n; inode = putter_of m }) child fits.2, puts m fits.3)
+  unlinks (unlinking.Lowering m) fits = lowers m fits
+  unlinks (unlinking.Ends m) fits = quits m fits
+
   pub stays : (m : Running) → RunningFits h s m → RunningFits h t m
   unfolding RunningFits
   stays (running.Open m) fits = opens m fits
@@ -307,3 +358,4 @@ module _ (h g : ℕ) (s t : State) (other : h ≢ g) (leaves : LeavesTied g s t)
   stays (running.Fstat m) fits = stats m fits
   stays (running.Read m) fits = read_calls m fits
   stays (running.Write m) fits = write_calls m fits
+  stays (running.Unlink m) fits = unlinks m fits

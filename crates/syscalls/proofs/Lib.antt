@@ -9,3 +9,6 @@ pub mod Joining
 mod Pieces
 pub mod Seeks
 pub mod Makings
+pub mod Having
+mod Lowers
+mod Unlinks

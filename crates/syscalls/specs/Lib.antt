@@ -13,3 +13,4 @@ pub mod Chdirs
 pub mod Writing
 pub mod Seeking
 pub mod Making
+pub mod Unlinking

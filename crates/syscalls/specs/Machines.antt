@@ -29,6 +29,7 @@ use Rattle.syscalls.specs.Programs.{say, dup_program, leave_closed, drop_closed,
 use Rattle.syscalls.specs.Opens.{open_old_of, OpenOldFits}
 use Rattle.syscalls.specs.Chdirs.{chdir_of, ChdirFits}
 use Rattle.syscalls.specs.Writing.{write_call_of, WriteCallFits}
+use Rattle.syscalls.specs.Unlinking.{unlink_of, UnlinkFits}
 use Rattle.syscalls.specs.declared.running.Running.{Running}
 use Rattle.syscalls.specs.declared.running.Running.TheVariants as running
 use Rattle.syscalls.specs.declared.dup.Dup.{Dup}
@@ -111,6 +112,7 @@ running_of (running.Close m) = close_of m
 running_of (running.Fstat m) = fstat_of m
 running_of (running.Read m) = read_call_of m
 running_of (running.Write m) = write_call_of m
+running_of (running.Unlink m) = unlink_of m
 
 unfoldable pub RunningFits : ℕ → State → Running → Type 0
 RunningFits hart s (running.Open m) = OpenOldFits hart s m
@@ -120,3 +122,4 @@ RunningFits hart s (running.Close m) = CloseFits hart s m
 RunningFits hart s (running.Fstat m) = FstatFits hart s m
 RunningFits hart s (running.Read m) = ReadCallFits hart s m
 RunningFits hart s (running.Write m) = WriteCallFits hart s m
+RunningFits hart s (running.Unlink m) = UnlinkFits hart s m

@@ -1,5 +1,5 @@
 //! How a call on a path ends: what it has in hand is given up, and then comes the tail.
-ghost use Rattle.std.specs.Prelude.{◌≡◌, ℕ, [], ◌∷◌};
+ghost use Rattle.std.specs.Prelude.{◌≡◌, ◌≢◌, ℕ, [], ◌∷◌};
 ghost use Rattle.atomic_programs.specs.Machines.{Still, Left as LeftOf};
 ghost use Rattle.fs_machine.specs.Steps.{State, state_of};
 ghost use Rattle.fs_machine.specs.Machines.{MayNext, Moves, Answers, CallsOnce};
@@ -9,7 +9,7 @@ ghost use Rattle.file_table.specs.Machines.{IsEarly};
 ghost use Rattle.syscalls.specs.Nesting.{Follows};
 ghost use Rattle.syscalls.specs.Parts.{quit, unlock_quit, drop_quit};
 ghost use Rattle.syscalls.specs.Taking.{inode_in, IsHeld};
-ghost use Rattle.syscalls.specs.Ends.{give_of, GiveFits, quit_of, QuitFits, tail_for};
+ghost use Rattle.syscalls.specs.Ends.{give_of, GiveApart, GiveFits, quit_of, QuitFits, tail_for};
 ghost use Rattle.syscalls.specs.declared.quit.Quit.TheVariants as quitting;
 
 use crate::give::GiveUp;
@@ -29,6 +29,8 @@ pub enum Quit {
     Unlock(Ending, Txn, Guard<Inode>),
     /// An inode is given up.
     Giving(Ending, Txn, GiveUp),
+    /// The same, before this one is.
+    Two(Ending, Txn, Held, GiveUp),
     /// Nothing is in hand but the transaction.
     Tail(Tail),
 }
@@ -76,6 +78,17 @@ impl Quit {
         Quit::Giving(ending, txn, give)
     }
 
+    /// With two inodes, which are given up in this order.
+    #[tactic(auto, unfolding(crate::specs::Ends::quit_of, crate::specs::Ends::QuitFits))]
+    pub fn with_two(ending: Ending, txn: Txn, first: Held, second: Held) -> Quit
+        requires { IsEarly ending.sizes.inodestart }
+        ensures program { quit_of result ≡ quit ending.sizes (inode_in first ∷ inode_in second ∷ []) ending.list ending.reply }
+        ensures fits { (hart : ℕ) (s : State) → txn ≡ hart → IsHeld hart first s → IsHeld hart second s → second.reference ≢ first.reference → QuitFits hart s result }
+    {
+        let give = GiveUp::new(first, &ending.sizes);
+        Quit::Two(ending, txn, second, give)
+    }
+
     /// One operation.
     #[tactic(auto, unfolding(crate::specs::Ends::quit_of, crate::specs::Ends::QuitFits, fs_machine::specs::Premises::Honest))]
     pub fn step<D: Device>(self, hart: u8, core: &mut Core<D>) -> Stepped<Quit, Reply, Kind>
@@ -98,6 +111,11 @@ impl Quit {
                 let stepped = give.step(hart, &mut txn, core);
                 giving(ending, txn, stepped)
             }
+            Quit::Two(ending, txn, second, give) => {
+                let mut txn = txn;
+                let stepped = give.step(hart, &mut txn, core);
+                giving_first(ending, txn, second, stepped)
+            }
             Quit::Tail(tail) => tailing(tail.step(hart, core)),
         }
     }
@@ -113,6 +131,12 @@ impl Quit {
             Quit::Giving(ending, txn, give) => {
                 ending.retire(retired);
                 txn.retire(&retired.log);
+                give.retire(retired);
+            }
+            Quit::Two(ending, txn, second, give) => {
+                ending.retire(retired);
+                txn.retire(&retired.log);
+                second.retire(retired);
                 give.retire(retired);
             }
             Quit::Tail(tail) => tail.retire(retired),
@@ -136,6 +160,26 @@ fn giving(
         Stepped::Ran(give, kind) => Stepped::Ran(Quit::Giving(ending, txn, give), kind),
         Stepped::Done((), kind) => Stepped::Ran(Quit::with_nothing(ending, txn), kind),
         Stepped::Stopped(give) => Stepped::Stopped(Quit::Giving(ending, txn, give)),
+    }
+}
+
+// A step while the first of two inodes is given up.
+#[tactic(auto, unfolding(crate::specs::Ends::quit_of, crate::specs::Ends::QuitFits))]
+fn giving_first(
+    ending: Ending,
+    txn: Txn,
+    second: Held,
+    stepped: Stepped<GiveUp, (), Kind>,
+) -> Stepped<Quit, Reply, Kind>
+    requires early { IsEarly ending.sizes.inodestart }
+    ensures follows { Follows give_of (λ x. x) quit_of (λ reply. reply) (λ _. quit ending.sizes (inode_in second ∷ []) ending.list ending.reply) stepped result }
+    ensures fits { (hart : ℕ) (s : State) → txn ≡ hart → IsHeld hart second s → LeftOf (λ m. GiveFits hart s m × GiveApart second.reference m) (λ _. Unit {0}) stepped → LeftOf (QuitFits hart s) (λ _. Unit {0}) result }
+{
+    match stepped {
+        Stepped::Waits(give) => Stepped::Waits(Quit::Two(ending, txn, second, give)),
+        Stepped::Ran(give, kind) => Stepped::Ran(Quit::Two(ending, txn, second, give), kind),
+        Stepped::Done((), kind) => Stepped::Ran(Quit::with_inode(ending, txn, second), kind),
+        Stepped::Stopped(give) => Stepped::Stopped(Quit::Two(ending, txn, second, give)),
     }
 }
 

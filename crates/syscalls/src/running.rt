@@ -14,6 +14,7 @@ use crate::dup::Dup;
 use crate::fstat::Fstat;
 use crate::open_old::OpenOld;
 use crate::read::Read;
+use crate::unlink::Unlink;
 use crate::write::Write;
 use atomic_programs::machines::Stepped;
 use block_device::Device;
@@ -30,6 +31,7 @@ pub enum Running {
     Fstat(Fstat),
     Read(Read),
     Write(Write),
+    Unlink(Unlink),
 }
 
 impl Running {
@@ -54,6 +56,7 @@ impl Running {
             Running::Fstat(m) => in_fstat(m.step(hart, core)),
             Running::Read(m) => in_read(m.step(hart, core)),
             Running::Write(m) => in_write(m.step(hart, core)),
+            Running::Unlink(m) => in_unlink(m.step(hart, core)),
         }
     }
 
@@ -67,6 +70,7 @@ impl Running {
             Running::Fstat(m) => m.retire(retired),
             Running::Read(m) => m.retire(retired),
             Running::Write(m) => m.retire(retired),
+            Running::Unlink(m) => m.retire(retired),
         }
     }
 }
@@ -145,5 +149,16 @@ fn in_write(stepped: Stepped<Write, Reply, Kind>) -> Stepped<Running, Reply, Kin
         Stepped::Ran(m, kind) => Stepped::Ran(Running::Write(m), kind),
         Stepped::Done(reply, kind) => Stepped::Done(reply, kind),
         Stepped::Stopped(m) => Stepped::Stopped(Running::Write(m)),
+    }
+}
+
+fn in_unlink(stepped: Stepped<Unlink, Reply, Kind>) -> Stepped<Running, Reply, Kind>
+    ensures { result ≡ ends_within (λ m. running.Unlink m) (λ reply. reply) stepped }
+{
+    match stepped {
+        Stepped::Waits(m) => Stepped::Waits(Running::Unlink(m)),
+        Stepped::Ran(m, kind) => Stepped::Ran(Running::Unlink(m), kind),
+        Stepped::Done(reply, kind) => Stepped::Done(reply, kind),
+        Stepped::Stopped(m) => Stepped::Stopped(Running::Unlink(m)),
     }
 }
