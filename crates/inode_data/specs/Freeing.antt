@@ -58,12 +58,12 @@ store_freed inodestart n d = bind (store inodestart n (freed d)) (λ _. unlock_f
 abbrev pub free_inode : {M : Type 0} → Super → ℕ → Dinode → Prog Op Answer M (Unit {0})
 free_inode sizes n d = bind (truncate sizes n d) (store_freed sizes.inodestart n)
 
--- what a drop came to
-abbrev pub after_drop : {M : Type 0} → Super → DroppedState → Prog Op Answer M (Unit {0})
-after_drop sizes Counts = Ret tt
-after_drop sizes Keeps = Ret tt
-after_drop sizes (Dies n content) = free_inode sizes n (record_of (record { number = n; content = content }))
+-- what the drop of this reference came to
+abbrev pub after_drop : {M : Type 0} → Super → ℕ → DroppedState → Prog Op Answer M (Unit {0})
+after_drop sizes n Counts = Ret tt
+after_drop sizes n Keeps = Ret tt
+after_drop sizes n (Dies m content) = free_inode sizes n (record_of (record { number = n; content = content }))
 
 -- A reference is dropped outside a walk. Where it is the last one to a dead inode, the inode's lock is taken in its place, and the inode is freed.
 abbrev pub drop_reference : {M : Type 0} → Super → ℕ → Prog Op Answer M (Unit {0})
-drop_reference sizes n = Do (Down (Held n)) unmarked (after_drop sizes)
+drop_reference sizes n = Do (Down (Held n)) unmarked (after_drop sizes n)
