@@ -10,3 +10,4 @@ pub mod Calls
 pub mod Answered
 pub mod Calling
 pub mod Running
+pub mod Printing

@@ -10,3 +10,4 @@ pub mod Runs
 pub mod View
 pub mod Single
 pub mod Starts
+pub mod Text

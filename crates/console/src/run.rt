@@ -29,6 +29,9 @@ const FRESH_SIZE: u32 = 2000;
 
 const FRESH_INODES: u32 = 200;
 
+/// The hart that there is.
+const HART: u8 = 0;
+
 /// How the console runs: the lines of the script in their order, so far.
 #[derive(Clone, Copy, PartialEq, Eq, Debug, Default)]
 pub struct Mode {
@@ -187,13 +190,15 @@ fn run_call<D: Device, W: Write>(
     let name = line.name();
     let call = call_of(alloc, line)?;
     match single.call(call) {
-        Ok(reply) => write_reply(out, name, &reply).map_err(ConsoleFault::Write),
+        Ok(reply) => write_reply(out, HART, name, &reply).map_err(ConsoleFault::Write),
         Err(SingleFault::Refused(why, _call)) => {
-            write_refused(out, name, why).map_err(ConsoleFault::Write)
+            write_refused(out, HART, name, why).map_err(ConsoleFault::Write)
         }
-        Err(SingleFault::NotYet(_call)) => write_not_yet(out, name).map_err(ConsoleFault::Write),
+        Err(SingleFault::NotYet(_call)) => write_not_yet(out, HART, name).map_err(
+            ConsoleFault::Write,
+        ),
         Err(SingleFault::Stop(stop)) => {
-            write_stopped(out, name, stop).map_err(ConsoleFault::Write)?;
+            write_stopped(out, HART, name, stop).map_err(ConsoleFault::Write)?;
             Err(ConsoleFault::Stopped(stop))
         }
     }

@@ -1,97 +1,150 @@
 //! The lines that a console prints (docs/SCRIPT.md).
+ghost use Rattle.std.specs.Prelude.{◌≡◌, ◌<◌, ◌++◌, codes, decimal, OnOk};
+ghost use Rattle.std.specs.Io.KnownBytes.{Appends};
+ghost use Rattle.console.specs.Numbers.{start_name, start_number, stop_name, stop_number};
+ghost use Rattle.console.specs.Text.{bytes_text, given_text, hex, hex_digit, numbered_text, reply_line, shape_line, stat_text, told_line};
+
 use crate::start::StartRefused;
 use crate::stop::Stop;
 use image_tree::Shape;
-use plain_tree::{Answer, Call, Reply};
+use plain_tree::{Answer, Call, Reply, Stat};
 use std::io;
 use std::io::Write;
-
-/// The hart that a console of one hart has.
-const HART: u8 = 0;
 
 /// The number of a refusal that stands for calls to come.
 const NOT_YET: u8 = 49;
 
-/// The digits of a byte in hexadecimal.
-const DIGITS: [u8; 16] = *b"0123456789abcdef";
-
-/// How many bytes are written as digits at once.
-const BYTES_AT_ONCE: usize = 256;
-
 /// The line of a reply.
-pub fn write_reply<W: Write>(out: &mut W, name: &str, reply: &Reply) -> io::Result<()> {
+pub fn write_reply<W: Write>(out: &mut W, hart: u8, name: &str, reply: &Reply) -> io::Result<()>
+    ensures { OnOk result (Appends (W.contents out.old) (W.contents out.new) (reply_line hart name.now reply.now)) }
+{
     match reply.answer {
-        Answer::Fd(fd) => writeln!(out, "{HART} {name} fd {fd}"),
+        Answer::Fd(fd) => writeln!(out, "{hart} {name} fd {fd}"),
         Answer::Count(count) => {
-            write!(out, "{HART} {name} {count}")?;
-            write_read_bytes(out, &reply.call, count)?;
+            write!(out, "{hart} {name} {count}")?;
+            write_given(out, &reply.call, count)?;
             writeln!(out)
         }
-        Answer::Stat(stat) => {
-            let (device, inode, kind) = (stat.device, stat.inode, stat.kind.number());
-            let (nlink, size) = (stat.nlink, stat.size);
-            writeln!(out, "{HART} {name} {device} {inode} {kind} {nlink} {size}")
-        }
-        Answer::Done => writeln!(out, "{HART} {name} ok"),
+        Answer::Stat(stat) => write_stat(out, hart, name, &stat),
+        Answer::Done => writeln!(out, "{hart} {name} ok"),
         Answer::Failed(cause) => {
-            let (number, cause) = (cause.number(), cause.name());
-            writeln!(out, "{HART} {name} failed {number} {cause}")
+            write_numbered(out, hart, name, "failed", cause.number(), cause.name())
         }
-        Answer::Full(full) => {
-            let (number, full) = (full.number(), full.name());
-            writeln!(out, "{HART} {name} full {number} {full}")
-        }
+        Answer::Full(full) => write_numbered(out, hart, name, "full", full.number(), full.name()),
     }
 }
 
-// After a read that gave bytes: a space, and the bytes.
-fn write_read_bytes<W: Write>(out: &mut W, call: &Call, count: u32) -> io::Result<()> {
-    let Call::Read { buf, .. } = call else {
-        return Ok(());
-    };
-    let bytes = buf.as_slice();
-    let count = bytes.len().min(count as usize);
-    if count == 0 {
+// What an inode is.
+fn write_stat<W: Write>(out: &mut W, hart: u8, name: &str, stat: &Stat) -> io::Result<()>
+    ensures { OnOk result (Appends (W.contents out.old) (W.contents out.new) (told_line hart name.now (stat_text stat.now))) }
+{
+    write_inode(out, hart, name, stat.device, stat.inode)?;
+    write_state(out, stat.kind.number(), stat.nlink, stat.size)
+}
+
+fn write_inode<W: Write>(
+    out: &mut W,
+    hart: u8,
+    name: &str,
+    device: u32,
+    inode: u16,
+) -> io::Result<()>
+    ensures { OnOk result (Appends (W.contents out.old) (W.contents out.new) (decimal hart ++ codes " " ++ name.now ++ codes " " ++ decimal device ++ codes " " ++ decimal inode)) }
+{
+    write!(out, "{hart} {name} {device} {inode}")
+}
+
+fn write_state<W: Write>(out: &mut W, kind: u8, nlink: u16, size: u64) -> io::Result<()>
+    ensures { OnOk result (Appends (W.contents out.old) (W.contents out.new) (codes " " ++ decimal kind ++ codes " " ++ decimal nlink ++ codes " " ++ decimal size ++ codes "\n")) }
+{
+    writeln!(out, " {kind} {nlink} {size}")
+}
+
+// What became of a call, with its number and name.
+fn write_numbered<W: Write>(
+    out: &mut W,
+    hart: u8,
+    name: &str,
+    fate: &str,
+    number: u8,
+    why: &str,
+) -> io::Result<()>
+    ensures { OnOk result (Appends (W.contents out.old) (W.contents out.new) (told_line hart name.now (numbered_text fate.now number why.now))) }
+{
+    writeln!(out, "{hart} {name} {fate} {number} {why}")
+}
+
+// The bytes that a read gave.
+fn write_given<W: Write>(out: &mut W, call: &Call, count: u32) -> io::Result<()>
+    ensures { OnOk result (Appends (W.contents out.old) (W.contents out.new) (given_text call.now count)) }
+{
+    match call {
+        Call::Read { fd: _, buf } => {
+            let bytes = buf.as_slice();
+            write_bytes(out, &bytes[..bytes.len().min(count as usize)])
+        }
+        _ => Ok(()),
+    }
+}
+
+// A space and the bytes, where there are any.
+fn write_bytes<W: Write>(out: &mut W, bytes: &[u8]) -> io::Result<()>
+    ensures { OnOk result (Appends (W.contents out.old) (W.contents out.new) (bytes_text bytes.now)) }
+{
+    if bytes.is_empty() {
         return Ok(());
     }
     out.write_all(b" ")?;
-    for part in bytes[..count].chunks(BYTES_AT_ONCE) {
-        write_hex(out, part)?;
+    write_hex(out, bytes)
+}
+
+// Each byte as two digits.
+fn write_hex<W: Write>(out: &mut W, bytes: &[u8]) -> io::Result<()>
+    ensures { OnOk result (Appends (W.contents out.old) (W.contents out.new) (hex bytes.now)) }
+{
+    for byte in bytes {
+        out.write_all(&[hex_digit(byte / 16), hex_digit(byte % 16)])?;
     }
     Ok(())
 }
 
-// At most so many bytes as fit a part, each as two digits.
-fn write_hex<W: Write>(out: &mut W, part: &[u8]) -> io::Result<()> {
-    let mut digits = [b'0'; 2 * BYTES_AT_ONCE];
-    let count = part.len().min(BYTES_AT_ONCE);
-    for k in 0..count {
-        let byte = part[k];
-        digits[2 * k] = DIGITS[(byte / 16) as usize];
-        digits[2 * k + 1] = DIGITS[(byte % 16) as usize];
-    }
-    out.write_all(&digits[..2 * count])
+fn hex_digit(n: u8) -> u8
+    requires { n < 16 }
+    ensures { result ≡ hex_digit n }
+{
+    if n < 10 { b'0' + n } else { b'a' - 10 + n }
 }
 
 /// The line of a call that the file system doesn't make yet.
-pub fn write_not_yet<W: Write>(out: &mut W, name: &str) -> io::Result<()> {
-    writeln!(out, "{HART} {name} refused {NOT_YET} NotYet")
+pub fn write_not_yet<W: Write>(out: &mut W, hart: u8, name: &str) -> io::Result<()>
+    ensures { OnOk result (Appends (W.contents out.old) (W.contents out.new) (told_line hart name.now (numbered_text (codes "refused") 49 (codes "NotYet")))) }
+{
+    write_numbered(out, hart, name, "refused", NOT_YET, "NotYet")
 }
 
 /// The line of a call that wasn't started.
-pub fn write_refused<W: Write>(out: &mut W, name: &str, refused: StartRefused) -> io::Result<()> {
-    let (number, refused) = (refused.number(), refused.name());
-    writeln!(out, "{HART} {name} refused {number} {refused}")
+pub fn write_refused<W: Write>(
+    out: &mut W,
+    hart: u8,
+    name: &str,
+    refused: StartRefused,
+) -> io::Result<()>
+    ensures { OnOk result (Appends (W.contents out.old) (W.contents out.new) (told_line hart name.now (numbered_text (codes "refused") (start_number refused) (start_name refused)))) }
+{
+    write_numbered(out, hart, name, "refused", refused.number(), refused.name())
 }
 
 /// The line of a call that was stopped.
-pub fn write_stopped<W: Write>(out: &mut W, name: &str, stop: Stop) -> io::Result<()> {
-    let (number, stop) = (stop.number(), stop.name());
-    writeln!(out, "{HART} {name} stopped {number} {stop}")
+pub fn write_stopped<W: Write>(out: &mut W, hart: u8, name: &str, stop: Stop) -> io::Result<()>
+    ensures { OnOk result (Appends (W.contents out.old) (W.contents out.new) (told_line hart name.now (numbered_text (codes "stopped") (stop_number stop) (stop_name stop)))) }
+{
+    write_numbered(out, hart, name, "stopped", stop.number(), stop.name())
 }
 
 /// The line of an image that was examined and is well formed.
-pub fn write_shape<W: Write>(out: &mut W, shape: &Shape) -> io::Result<()> {
+pub fn write_shape<W: Write>(out: &mut W, shape: &Shape) -> io::Result<()>
+    ensures { OnOk result (Appends (W.contents out.old) (W.contents out.new) (shape_line shape.now)) }
+{
     let (live, orphans, blocks) = (shape.live, shape.orphans, shape.blocks);
     writeln!(out, "clean live {live} orphans {orphans} blocks {blocks}")
 }
