@@ -11,3 +11,4 @@ pub mod Answered
 pub mod Calling
 pub mod Running
 pub mod Printing
+pub mod Tailing

@@ -10,4 +10,5 @@ pub mod Runs
 pub mod View
 pub mod Single
 pub mod Starts
+pub mod Tails
 pub mod Text

@@ -10,6 +10,7 @@ mod run;
 mod single;
 mod start;
 mod stop;
+mod tail;
 mod text;
 
 pub use crate::command_line::{CHECK, IMAGE, SAVE, options};
@@ -18,3 +19,4 @@ pub use crate::run::{Mode, run_on, run_script};
 pub use crate::single::Single;
 pub use crate::start::StartRefused;
 pub use crate::stop::{SingleFault, Stop};
+pub use crate::tail::{Tail, tails_hold_the_last};

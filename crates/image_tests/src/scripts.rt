@@ -1,7 +1,7 @@
 //! What no clause says: the lines that are printed, the statuses, and that the calls can succeed.
 use block_device::{Fused, MemoryDisk};
 use clap::error::ErrorKind;
-use console::{ConsoleFault, Mode, Single, Stop, options, run_on, run_script, status};
+use console::{ConsoleFault, Mode, Single, Stop, Tail, options, run_on, run_script, status};
 use fs_machine::Kind;
 use image_tree::MountFault;
 use mkfs::{MakeRefused, make};
@@ -380,5 +380,22 @@ fn help_and_version_name_the_program(rt: HostRuntime) -> Result<(), Fail> {
     );
     let version = told(rt.alloc(), "--version")?;
     assert!(rt; version.as_str().starts_with("console 0.1"), "{version}");
+    Ok(())
+}
+
+#[test]
+fn tails_hold_the_last_events(rt: HostRuntime) -> Result<(), Fail> {
+    for (most, first) in [(0u32, 40u32), (3, 37), (20, 20), (100, 0)] {
+        let mut tail = Tail::new(rt.alloc(), most)?;
+        for event in 0..40u32 {
+            tail.note(event)?;
+        }
+        let mut want = first;
+        for event in tail.events() {
+            assert_eq!(rt; *event, want, "of {most}");
+            want = want.saturating_add(1);
+        }
+        assert_eq!(rt; want, 40, "of {most}");
+    }
     Ok(())
 }
