@@ -1,21 +1,21 @@
 -- Runs in which calls finish, from a fresh tree.
-use Rattle.std.specs.Prelude.{◌≡◌, ℕ, zero, suc, true, false, List, [], ◌∷◌, ◌++◌, Some, codes}
+use Rattle.std.specs.Prelude.{◌≡◌, ℕ, zero, suc, true, false, List, [], ◌∷◌, ◌++◌, replicate, Some, codes}
 use Rattle.plain_tree.specs.declared.answer.Answer.TheVariants as answers
 use Rattle.plain_tree.specs.declared.answer.Cause.{Cause}
 use Rattle.plain_tree.specs.declared.answer.Cause.TheVariants.{NoEntry, Exists, IsDirectory, TooManyLinks}
-use Rattle.plain_tree.specs.declared.answer.Full.TheVariants.{Blocks, Descriptors, DiskInodes}
+use Rattle.plain_tree.specs.declared.answer.Full.TheVariants.{Blocks, Descriptors, DiskInodes, Directory as DirectorySlots}
 use Rattle.plain_tree.specs.declared.answer.NodeType.TheVariants as types
 use Rattle.plain_tree.specs.declared.answer.Reply.{Reply}
 use Rattle.plain_tree.specs.declared.call.Call.{Call}
 use Rattle.plain_tree.specs.declared.call.Call.TheVariants as calls
-use Rattle.plain_tree.specs.declared.node.Kind.TheVariants.{File}
+use Rattle.plain_tree.specs.declared.node.Kind.TheVariants.{Directory, File}
 use Rattle.plain_tree.specs.Steps.{node_or, with_nodes}
 use Rattle.plain_tree.specs.Tree.{Tree, put, tree_of}
 use Rattle.plain_tree.specs.Widths.{count_limit}
 use Rattle.plain_tree.specs.Fresh.{fresh as fresh_tree}
 use Rattle.atomic_programs.specs.Calls.{Came, Event, Start, Step, Started, Refused, WasIdle, DidWait, DidRun, DidEnd, DidStop, WasStopped, Finished, State, fresh, outcomes, run}
 use Rattle.inode_machine.specs.World.{Outside, Room, RoomFor, Picks}
-use Rattle.inode_machine.specs.Exec.{with_entry}
+use Rattle.inode_machine.specs.Exec.{slot_limit, with_entry}
 use Rattle.inode_machine.specs.Theory.{at_rest, covered_calls, Refusal, NoSuchHart, Busy, NotEmptyHart, PathTooLong, ZeroInPath}
 
 abbrev pub first : State covered_calls
@@ -262,3 +262,11 @@ much_linked = let t : Tree = tree_of (fresh_tree 10) in with_nodes t (put (put t
 
 abbrev pub LinkOfMany : Type 0
 LinkOfMany = replies (run covered_calls (makes 0 link_ab 11) (fresh covered_calls (at_rest much_linked))).finished ≡ refused link_ab TooManyLinks ∷ []
+
+-- A directory has all the slots that it may have. So many names of one file aren't well formed, so the program alone is seen here, too.
+
+abbrev pub full_root : Tree
+full_root = let t : Tree = tree_of (fresh_tree 10) in with_nodes t (put t.nodes 1 (Some (record { count = 1; kind = Directory (replicate slot_limit (Some (record { name = codes "x"; number = 2 }))) })))
+
+abbrev pub NoSlotForDirectory : Type 0
+NoSlotForDirectory = replies (run covered_calls (makes 0 make_d 5 ++ Step 0 (Picks 2) ∷ steps 0 14) (fresh covered_calls (at_rest full_root))).finished ≡ record { answer = answers.Full DirectorySlots; call = make_d } ∷ []
