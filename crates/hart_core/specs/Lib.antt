@@ -3,3 +3,4 @@ pub mod Harts
 pub mod Mounting
 pub mod Starts
 pub mod Worlds
+pub mod Events

@@ -5,12 +5,14 @@
 //! keeps each operation may be made where it is made. dup and fstat are there; the other calls are refused at their start.
 #![tactic(auto)]
 
+mod events;
 mod harts;
 mod mount;
 mod outcome;
 mod starts;
 mod world;
 
+pub use crate::events::{Came, Event};
 pub use crate::outcome::{Outcome, Stop};
 pub use crate::starts::{StartRefused, find_fault};
 pub use crate::world::World;

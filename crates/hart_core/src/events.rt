@@ -1,0 +1,44 @@
+// Events, and what they come to.
+ghost use Rattle.std.specs.Prelude.{◌≡◌};
+ghost use Rattle.atomic_programs.specs.Calls.{with_answer};
+ghost use Rattle.hart_core.specs.Events.{event_of, came_of, said_of};
+ghost use Rattle.hart_core.specs.Harts.{shared_of};
+ghost use Rattle.hart_core.specs.Worlds.{Answers, Makes};
+
+use crate::outcome::Outcome;
+use crate::starts::StartRefused;
+use crate::world::World;
+use block_device::Device;
+use plain_tree::Call;
+
+/// A start or a step of one hart.
+#[derive(Clone, Drop)]
+pub enum Event {
+    Start { hart: u8, call: Call },
+    Step { hart: u8 },
+}
+
+/// What an event came to.
+#[derive(Drop)]
+pub enum Came {
+    Started,
+    Refused(StartRefused),
+    Stepped(Outcome),
+}
+
+impl<D: Device> World<D> {
+    /// One event. It takes no memory.
+    pub fn event(&mut self, event: Event) -> Came
+        ensures makes { Makes D.contents D.failures self.old.sizes (with_answer (event_of event) (said_of result (shared_of D.contents D.failures self.new.harts))) self.old.harts (came_of result) self.new.harts }
+        ensures honest { Answers D.contents D.failures self.old.sizes (with_answer (event_of event) (said_of result (shared_of D.contents D.failures self.new.harts))) self.old.harts }
+        ensures sizes { self.new.sizes ≡ self.old.sizes }
+    {
+        match event {
+            Event::Start { hart, call } => match self.start(hart, call) {
+                Ok(()) => Came::Started,
+                Err(refused) => Came::Refused(refused.1),
+            },
+            Event::Step { hart } => Came::Stepped(self.step(hart)),
+        }
+    }
+}
