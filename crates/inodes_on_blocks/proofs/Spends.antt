@@ -30,7 +30,7 @@ use Rattle.inodes_on_blocks.specs.Accounts.{used, Accounts, IsSpent}
 use Rattle.inodes_on_blocks.specs.Handlers.{P}
 use Rattle.inodes_on_blocks.specs.Lowering.{Carry, Had, Apart, Has, Emptied, NothingMore, Finds, Opened}
 use Rattle.inodes_on_blocks.specs.Emptying.{give_content}
-use Rattle.inodes_on_blocks.specs.Files.{file_locked, give_read, offset_in, with_file}
+use Rattle.inodes_on_blocks.specs.Files.{file_locked, give_read, with_file}
 use Rattle.inodes_on_blocks.specs.Reading.{learned, looked, number_found, search_entries, seen_record, stat_loaded, stat_locked}
 use Rattle.inodes_on_blocks.specs.Naming.{clear, clear_in, clear_slot, put_named, slot_found, slot_of}
 use Rattle.inodes_on_blocks.specs.Storing.{put_record, record_in}
@@ -131,7 +131,7 @@ module _ (sizes : Super) where
 
     no_file : (fd : ℕ) (c : Carry) (a : LockedState) → Nothing (file_locked sizes fd c a)
     no_file fd c (Refuses why) = same s
-    no_file fd c (Locks f content) = records_bind (load_unless sizes.inodestart f.number content) (with_file (above.LocksIt f.number) c fd f.number f.offset) s s s (no_load sizes.inodestart f.number content) (λ d. same s)
+    no_file fd c (Locks f content) = records_bind (load_unless sizes.inodestart f.number content) (with_file (above.LocksIt f.number f.offset) c fd f.number f.offset) s s s (no_load sizes.inodestart f.number content) (λ d. same s)
 
     no_read : (n : ℕ) (d : Dinode) (from upto : ℕ) (m : Filled) → Nothing (read_blocks n d from upto m)
     unfolding read_blocks
@@ -238,13 +238,12 @@ module _ (sizes : Super) where
     lock_open = λ fd n c m s. (
       s,
       same s,
-      λ a. (s, refl, records_bind (load_unless sizes.inodestart a.0.number a.1) (with_file (tt {0}) c fd a.0.number a.0.offset) s s s (no_load s sizes.inodestart a.0.number a.1) (λ d. same s)),
+      λ a. (s, refl, records_bind (load_unless sizes.inodestart a.0.number a.1) (with_file a.0.offset c fd a.0.number a.0.offset) s s s (no_load s sizes.inodestart a.0.number a.1) (λ d. same s)),
     );
-    read_file = λ fd n count c m s.
+    read_file = λ fd n offset count c m s.
         let d : Dinode = record_in c n in
-        let from : ℕ = offset_in (c n) in
-        records_bind (read_from d from count []) (give_read fd n count m c) s s s
-        (no_read s (blocks_between from (end_of d from count)) d from (end_of d from count) (record { count = 0; bytes = [] })) (λ f. (s, same s, λ a. (s, refl, same s)));
+        records_bind (read_from d offset count []) (give_read fd n offset count m c) s s s
+        (no_read s (blocks_between offset (end_of d offset count)) d offset (end_of d offset count) (record { count = 0; bytes = [] })) (λ f. (s, same s, λ a. (s, refl, same s)));
     check_file = λ fd c m s. (s, same s, λ a. (s, refl, same s));
     join_file = λ fd c m s. (s, same s, λ a. (unspent, refl, same unspent));
     double = λ fd c m s. (s, same s, λ a. (s, refl, same s));

@@ -1,15 +1,16 @@
 -- The operations below within what their call's transactions may record, and whole calls.
-use Rattle.std.proofs.Common.{◌≡◌, ℕ, suc, ◌<◌, true, false, is_some, Option, Some, None, sym, ◌∙◌, ap}
+use Rattle.std.proofs.Common.{[], ◌<◌, arith, ◌≡◌, ℕ, suc, true, false, is_some, Option, Some, None, sym, ◌∙◌, ap}
 use Rattle.std.proofs.lemmas.Option.{get_or_from_slice_get}
 use Rattle.fs_layout.specs.declared.superblock.Super.{Super}
+use Rattle.plain_tree.specs.Tree.{Name}
 use Rattle.plain_tree.specs.Widths.{hart_count}
 use Rattle.atomic_programs.specs.Prog.{Ret, Do}
 use Rattle.atomic_programs.specs.Logic.{Laws, P}
 use Rattle.atomic_programs.specs.Spending.{Affords}
 use Rattle.inode_table.specs.Programs.{inode_block}
 use Rattle.inode_machine.specs.World as above
-use Rattle.inode_machine.specs.World.Op.{Empty, Free, Store}
-use Rattle.inode_machine.specs.Budget.{HasRoom, Spent, unspent, spent_after, with_bitmap}
+use Rattle.inode_machine.specs.World.Op.{Clear, Empty, Free, Store}
+use Rattle.inode_machine.specs.Budget.{HasRoom, Spent, most_recorded, size, unspent, spent_after, with_bitmap, with_contents, with_record}
 use Rattle.inode_machine.specs.Rules.{more}
 use Rattle.inodes_on_blocks.specs.Below.{World, log_of}
 use Rattle.inodes_on_blocks.specs.Shown.{Shows}
@@ -17,15 +18,18 @@ use Rattle.inodes_on_blocks.specs.Lowering.{Labels, labelled, Keeps}
 use Rattle.inodes_on_blocks.specs.Handlers.{Handler}
 use Rattle.inodes_on_blocks.specs.Emptying.{empty, free}
 use Rattle.inodes_on_blocks.specs.Storing.{store}
-use Rattle.inodes_on_blocks.specs.Acting.{ActsOnceAt}
+use Rattle.inodes_on_blocks.specs.Naming.{clear}
+use Rattle.inodes_on_blocks.specs.Acting.{ActsOnceAt, Answers, IsDone, alone}
 use Rattle.inodes_on_blocks.specs.Room.{HasSpent}
-use Rattle.inodes_on_blocks.specs.Spending.{recorded_blocks, Spends, ActsWithin}
+use Rattle.inodes_on_blocks.specs.Spending.{recorded_blocks, Spends, ActsWithin, RecordingsStayWithin}
+use Rattle.inodes_on_blocks.proofs.Alone.{alone_keeps, alone_laws, lasts_done}
+use Rattle.inodes_on_blocks.proofs.ClearSteps.{clear_acts}
 use Rattle.inodes_on_blocks.proofs.EmptySteps.{empty_acts}
 use Rattle.inodes_on_blocks.proofs.FreeSteps.{free_acts}
 use Rattle.inodes_on_blocks.proofs.StoreSteps.{store_acts}
 use Rattle.inodes_on_blocks.proofs.Spending.{stays_within}
 use Rattle.inodes_on_blocks.proofs.Spends.{programs_spend}
-use Rattle.inodes_on_blocks.proofs.SpentRoom.{bitmap_spent, both_more, record_more, record_spent, spent_gives}
+use Rattle.inodes_on_blocks.proofs.SpentRoom.{bitmap_spent, both_more, other_spends, record_more, record_spent, spent_gives}
 
 module _ (sizes : Super) (l : Labels) (laws : Laws (labelled l)) (keeps : Keeps l) (h : ℕ) (lt : h < hart_count) where
   -- one whose law asks for no room
@@ -38,6 +42,14 @@ module _ (sizes : Super) (l : Labels) (laws : Laws (labelled l)) (keeps : Keeps 
       let t = spent_after (Store n count) s in
       stays_within sizes l h (Store n count) m (store sizes n count) ((programs_spend sizes).store n count) c s B C (suc (more (Store n count))) es w
       (store_acts sizes l laws keeps h lt n count m (HasSpent sizes h t) (spent_gives sizes h (inode_block sizes.inodestart n) t (record_spent sizes n s) few).gives c B C es w lasts todo stands (stands.1, record_more h n s w.real has.1)) has
+
+  pub clear_within : (n : ℕ) (e : Name) (m : Unit {0} → Option above.Mark) → ActsWithin sizes l h (Clear n e) m (clear sizes n e)
+  clear_within n e m c s B C es w lasts todo stands few has =
+      let t = with_record n s in
+      let one : size t < most_recorded = omega (arith, few) in
+      stays_within sizes l h (Clear n e) m (clear sizes n e) ((programs_spend sizes).clear n e) c s B C (suc (more (Clear n e))) es w
+      (clear_acts sizes l laws keeps h lt n e m (HasSpent sizes h t) (HasSpent sizes h (with_contents 1 t)) (λ b. other_spends sizes h b t one)
+      (spent_gives sizes h (inode_block sizes.inodestart n) (with_contents 1 t) (record_spent sizes n (with_contents 1 s)) few).gives c B C lasts es w todo stands (stands.1, record_more h n s w.real has.1)) has
 
   pub empty_within : (n : ℕ) (m : Unit {0} → Option above.Mark) → ActsWithin sizes l h (Empty n) m (empty sizes n)
   empty_within n m c s B C es w lasts todo stands few has =
@@ -52,6 +64,17 @@ module _ (sizes : Super) (l : Labels) (laws : Laws (labelled l)) (keeps : Keeps 
       stays_within sizes l h (Free n) m (free sizes n) ((programs_spend sizes).free n) c s B C (suc (more (Free n))) es w
       (free_acts sizes l laws keeps h lt n m (HasSpent sizes h t) (spent_gives sizes h sizes.bmapstart t (bitmap_spent sizes n s) few) (spent_gives sizes h (inode_block sizes.inodestart n) t (record_spent sizes n (with_bitmap s)) few) c B C es w lasts todo stands
       (stands.1, both_more h n s w.real has.1)) has
+
+-- with the history that is the operations themselves
+pub recordings_stay_within : (sizes : Super) → RecordingsStayWithin sizes
+recordings_stay_within sizes = record {
+  store = λ n count h s m c w lt few todo stands known.
+      store_within sizes alone alone_laws alone_keeps h lt n count m c s (IsDone (Store n count)) (Answers (Store n count)) [] w (lasts_done (Store n count) h) todo stands few (stands.1, known);
+  clear = λ n e h s m c w lt few todo stands known.
+      clear_within sizes alone alone_laws alone_keeps h lt n e m c s (IsDone (Clear n e)) (Answers (Clear n e)) [] w (lasts_done (Clear n e) h) todo stands few (stands.1, known);
+  empty = λ n h s m c w lt few todo stands known. empty_within sizes alone alone_laws alone_keeps h lt n m c s (IsDone (Empty n)) (Answers (Empty n)) [] w (lasts_done (Empty n) h) todo stands few (stands.1, known);
+  free = λ n h s m c w lt few todo stands known. free_within sizes alone alone_laws alone_keeps h lt n m c s (IsDone (Free n)) (Answers (Free n)) [] w (lasts_done (Free n) h) todo stands few (stands.1, known);
+}
 
 -- ---- whole calls
 

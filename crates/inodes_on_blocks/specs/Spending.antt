@@ -71,7 +71,7 @@ pub record ProgramsSpend (sizes : Super) : Type 0 where
   pub stat_file : (fd : ℕ) → Spends sizes (StatFile fd) (stat_file sizes fd)
   pub lock_file : (fd : ℕ) → Spends sizes (LockFile fd) (lock_file sizes fd)
   pub lock_open : (fd n : ℕ) → Spends sizes (LockOpen fd n) (lock_open sizes fd n)
-  pub read_file : (fd n count : ℕ) → Spends sizes (ReadFile fd n count) (read_file fd n count)
+  pub read_file : (fd n offset count : ℕ) → Spends sizes (ReadFile fd n offset count) (read_file fd n offset count)
   pub check_file : (fd : ℕ) → Spends sizes (CheckFile fd) (check_file fd)
   pub join_file : (fd : ℕ) → Spends sizes (JoinFile fd) (join_file fd)
   pub double : (fd : ℕ) → Spends sizes (Double fd) (double fd)
@@ -104,3 +104,10 @@ DoesItWithin sizes op p =
 -- A program that records what its operation spends, and does it where the transaction has room for that, leaves no more spent.
 abbrev pub ProgramsStayWithin : Type 0
 ProgramsStayWithin = (sizes : Super) (op : above.Op) (p : Handler op) → Spends sizes op p → DoesItSpending sizes op p → DoesItWithin sizes op p
+
+-- So those of the operations that record.
+pub record RecordingsStayWithin (sizes : Super) : Type 0 where
+  pub store : (n count : ℕ) → DoesItWithin sizes (Store n count) (store sizes n count)
+  pub clear : (n : ℕ) (e : Name) → DoesItWithin sizes (Clear n e) (clear sizes n e)
+  pub empty : (n : ℕ) → DoesItWithin sizes (Empty n) (empty sizes n)
+  pub free : (n : ℕ) → DoesItWithin sizes (Free n) (free sizes n)

@@ -1,7 +1,7 @@
 //! What the programs below of operations record: no more than their call's transactions may.
 
 ghost use Rattle.fs_layout.specs.declared.superblock.Super.{Super};
-ghost use Rattle.inodes_on_blocks.specs.Spending.{ProgramsSpend, ProgramsStayWithin};
+ghost use Rattle.inodes_on_blocks.specs.Spending.{ProgramsSpend, ProgramsStayWithin, RecordingsStayWithin};
 
 /// By their text the programs record what their operations spend.
 pub fn programs_spend()
@@ -11,4 +11,9 @@ pub fn programs_spend()
 /// A program that records what its operation spends leaves no more spent, where it does its operation.
 pub fn programs_stay_within()
     ensures { ProgramsStayWithin }
+{}
+
+/// So those that record: a count stored, a name cleared, a file emptied, an inode freed.
+pub fn recordings_stay_within()
+    ensures { (sizes : Super) → RecordingsStayWithin sizes }
 {}
