@@ -12,3 +12,4 @@ pub mod Makings
 pub mod Having
 mod Lowers
 mod Unlinks
+mod Raising

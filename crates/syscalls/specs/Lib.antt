@@ -14,3 +14,5 @@ pub mod Writing
 pub mod Seeking
 pub mod Making
 pub mod Unlinking
+pub mod Creating
+pub mod Mkdirs

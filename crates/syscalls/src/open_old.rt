@@ -156,7 +156,7 @@ fn has_driver(major: i16) -> bool
 
 // At what the path leads to.
 #[tactic(auto, unfolding(crate::specs::Opens::open_old_of, crate::specs::Opens::OpenOldFits))]
-fn at(opening: Opening, txn: Txn, list: Listed, held: Held) -> OpenOld
+pub(crate) fn at(opening: Opening, txn: Txn, list: Listed, held: Held) -> OpenOld
     requires early { IsEarly opening.sizes.inodestart }
     requires there { IsSome held.inode.value.content }
     ensures program { open_old_of result ≡ open_at opening.sizes opening.path opening.flags (inode_in held) list }

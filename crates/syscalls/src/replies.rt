@@ -67,7 +67,7 @@ fn type_of(inode: &Dinode) -> NodeType
 }
 
 // How many names an inode has, where that isn't below 0.
-fn count_of(nlink: i16) -> u16
+pub(crate) fn count_of(nlink: i16) -> u16
     ensures { result ≡ count_of nlink }
 {
     if nlink < 0 { 0 } else { nlink as u16 }
