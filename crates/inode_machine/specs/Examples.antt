@@ -268,5 +268,21 @@ LinkOfMany = replies (run covered_calls (makes 0 link_ab 11) (fresh covered_call
 abbrev pub full_root : Tree
 full_root = let t : Tree = tree_of (fresh_tree 10) in with_nodes t (put t.nodes 1 (Some (record { count = 1; kind = Directory (replicate slot_limit (Some (record { name = codes "x"; number = 2 }))) })))
 
+abbrev pub FindsNoSlot : Tree → Call → List (Event Call Outside) → Type 0
+FindsNoSlot t c events = replies (run covered_calls events (fresh covered_calls (at_rest t))).finished ≡ record { answer = answers.Full DirectorySlots; call = c } ∷ []
+
 abbrev pub NoSlotForDirectory : Type 0
-NoSlotForDirectory = replies (run covered_calls (makes 0 make_d 5 ++ Step 0 (Picks 2) ∷ steps 0 14) (fresh covered_calls (at_rest full_root))).finished ≡ record { answer = answers.Full DirectorySlots; call = make_d } ∷ []
+NoSlotForDirectory = FindsNoSlot full_root make_d (makes 0 make_d 5 ++ Step 0 (Picks 2) ∷ steps 0 14)
+
+abbrev pub NoSlotForFile : Type 0
+NoSlotForFile = FindsNoSlot full_root make_a (makes 0 make_a 5 ++ Step 0 (Picks 2) ∷ steps 0 13)
+
+abbrev pub full_of_links : Tree
+full_of_links = with_nodes full_root (put full_root.nodes 2 (Some (record { count = 1; kind = File [] })))
+
+abbrev pub link_xb : Call
+link_xb = calls.Link (codes "/x") (codes "/b")
+
+-- and the file keeps its one link
+abbrev pub NoSlotForName : Type 0
+NoSlotForName = FindsNoSlot full_of_links link_xb (makes 0 link_xb 22) × ((run covered_calls (makes 0 link_xb 22) (fresh covered_calls (at_rest full_of_links))).world.disk 2 ≡ Some (record { count = 1; kind = File [] }))
