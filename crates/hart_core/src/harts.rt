@@ -131,10 +131,7 @@ impl<D: Device> Harts<D> {
         ensures eight { length self.now.calls ≡ HARTS }
     {
         let calls = &self.calls;
-        match calls.get(hart as usize) {
-            None => false,
-            Some(call) => call.is_some(),
-        }
+        (hart as usize) < calls.len() && calls[hart as usize].is_some()
     }
 
     /// A hart without a call begins this one.
