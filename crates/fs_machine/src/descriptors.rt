@@ -1,6 +1,7 @@
 // One function for each operation on descriptors and open files.
-ghost use Rattle.std.specs.Prelude.{◌≡◌, IfErr};
+ghost use Rattle.std.specs.Prelude.{◌≡◌, ◌≤◌, IfErr};
 ghost use Rattle.atomic_programs.specs.Prog.{Ran as ItRan};
+ghost use Rattle.fs_tables.specs.Files.{IsDirectory};
 ghost use Rattle.fs_tables.specs.Results.{opened_as};
 ghost use Rattle.fs_machine.specs.LogPart.{Outside};
 ghost use Rattle.fs_machine.specs.Steps.{state_of, exec, CheckFile, TakePlace, TakeDescriptor, Double, Close, Give, Reply};
@@ -10,7 +11,7 @@ ghost use Rattle.fs_machine.specs.Stays.{LeavesAll};
 
 use crate::shared::Core;
 use block_device::Device;
-use fs_tables::{Doubled, Given, NewFile, Reference, Refused, Shut, Want};
+use fs_tables::{DESCRIPTORS, Doubled, Given, NewFile, Reference, Refused, Shut, Want};
 
 impl<D: Device> Core<D> {
     /// Why a descriptor may not be had for this.
@@ -76,6 +77,7 @@ impl<D: Device> Core<D> {
     pub fn give(&mut self, hart: u8, child: u8, from: u32) -> Given
         requires may { May hart (Give child from) (state_of D.contents D.failures self.old) }
         ensures ran { (x : Outside) → exec hart x (Give child from) (state_of D.contents D.failures self.old) ≡ ItRan result (state_of D.contents D.failures self.new) }
+        ensures past { DESCRIPTORS ≤ from → IsDirectory result }
         ensures others { LeavesTied hart (state_of D.contents D.failures self.old) (state_of D.contents D.failures self.new) }
         ensures log { self.new.log ≡ self.old.log }
         ensures rest { LeavesAll (IsOwnInode hart) (state_of D.contents D.failures self.old) (state_of D.contents D.failures self.new) }

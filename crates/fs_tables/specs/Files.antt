@@ -128,3 +128,8 @@ give_by h child t (Some fd) = give_at h child fd t (place_named h fd t)
 -- the child has the hart's next descriptor too; where none is left its directory becomes the hart's
 unfoldable pub give_next : ℕ → ℕ → ℕ → TablesState → Did Given TablesState
 give_next h child from t = give_by h child t (next_full from (descriptors_of (slice_get t.desks h)))
+
+-- the directory was given
+abbrev pub IsDirectory : Given → Type 0
+IsDirectory (given.Descriptor fd more) = ⊥
+IsDirectory (given.Directory n) = Unit {0}

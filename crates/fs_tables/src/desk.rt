@@ -1,5 +1,5 @@
 // What each hart has of the tables.
-ghost use Rattle.std.specs.Prelude.{◌≡◌, ◌<◌, None, IfSome, is_some, length, position, replicate, slice_get};
+ghost use Rattle.std.specs.Prelude.{◌≡◌, ◌<◌, ◌≤◌, None, IfSome, is_some, length, position, replicate, slice_get};
 ghost use Rattle.std.specs.List.{list_any};
 ghost use Rattle.fs_tables.specs.Lists.{first_empty, next_full};
 ghost use Rattle.fs_tables.specs.Tables.{if_there};
@@ -51,6 +51,7 @@ impl Desk {
     pub(crate) fn next(&self, from: u32) -> Option<usize>
         ensures next { result ≡ next_full from self.now.descriptors }
         ensures within { IfSome result (λ fd. fd < DESCRIPTORS) }
+        ensures from { IfSome result (λ fd. from ≤ fd) }
     {
         let from = from as usize;
         if from > DESCRIPTORS {

@@ -1,5 +1,5 @@
 // What a child is given of its parent's desk.
-ghost use Rattle.std.specs.Prelude.{◌≡◌, ◌+◌, ◌<◌, ◌^◌, IfSome, slice_get};
+ghost use Rattle.std.specs.Prelude.{◌≡◌, ◌+◌, ◌<◌, ◌≤◌, ◌^◌, IfSome, slice_get};
 ghost use Rattle.atomic_programs.specs.Prog.{Ran};
 ghost use Rattle.fs_tables.specs.Inodes.{directory_of};
 ghost use Rattle.fs_tables.specs.Lists.{next_full};
@@ -15,7 +15,7 @@ use crate::tables::Tables;
 impl Tables {
     ghost use Rattle.fs_tables.specs.Tables.{references_of, place_named, place_of};
     ghost use Rattle.fs_tables.specs.Locks.{LeavesLocked};
-    ghost use Rattle.fs_tables.specs.Files.{give_next, give_at, given_directory};
+    ghost use Rattle.fs_tables.specs.Files.{give_next, give_at, given_directory, IsDirectory};
 
     /// To the child the hart's next descriptor from this one on; where there is none its directory becomes the hart's, and the
     /// reference to its old one is handed out.
@@ -25,6 +25,7 @@ impl Tables {
         requires child { child < DESKS }
         requires room { references_of (directory_of (slice_get self.old.desks hart)) self.old + 1 < 2 ^ 32 }
         ensures ran { give_next hart child from self.old ≡ Ran result self.new }
+        ensures past { DESCRIPTORS ≤ from → IsDirectory result }
         ensures others { LeavesLocked self.old self.new }
     {
         match next_at(&self.desks, hart, from) {
@@ -54,6 +55,7 @@ impl Tables {
         requires hart { hart < DESKS }
         requires child { child < DESKS }
         requires room { references_of (directory_of (slice_get self.old.desks hart)) self.old + 1 < 2 ^ 32 }
+        ensures directory { IsDirectory result }
         ensures ran { given_directory hart child self.old (place_of (directory_of (slice_get self.old.desks hart)) self.old.entries) ≡ Ran result self.new }
         ensures others { LeavesLocked self.old self.new }
     {
@@ -75,6 +77,7 @@ fn next_at(desks: &[Desk; DESKS], hart: u8, from: u32) -> Option<usize>
     requires { hart < DESKS }
     ensures next { result ≡ next_full from (descriptors_of (slice_get desks.now hart)) }
     ensures within { IfSome result (λ fd. fd < DESCRIPTORS) }
+    ensures from { IfSome result (λ fd. from ≤ fd) }
 {
     desks[hart as usize].next(from)
 }

@@ -13,3 +13,4 @@ pub mod Having
 mod Lowers
 mod Unlinks
 mod Raising
+mod Lendings

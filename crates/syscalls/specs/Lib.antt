@@ -16,3 +16,4 @@ pub mod Making
 pub mod Unlinking
 pub mod Creating
 pub mod Mkdirs
+pub mod Inheriting
