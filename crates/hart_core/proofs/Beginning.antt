@@ -60,7 +60,7 @@ use Rattle.file_table.specs.Machines.{file_of}
 use Rattle.file_table.specs.declared.load_file.LoadFile.{LoadFile}
 use Rattle.file_table.specs.declared.load_file.LoadFile.TheVariants as file
 use Rattle.syscalls.specs.Machines.{dup_of, close_of, CloseFits, fstat_of, read_call_of, running_of, RunningFits}
-use Rattle.directory.specs.Programs.{Aim, Named, Entry}
+use Rattle.directory.specs.Programs.{Aim, Named, Entry, Unused}
 use Rattle.directory.specs.Machines.{search_of}
 use Rattle.path_walk.specs.Elements.{name_in}
 use Rattle.directory.specs.declared.search.Search.{Search}
@@ -113,6 +113,22 @@ use Rattle.syscalls.specs.declared.read.Read.TheVariants as read
 use Rattle.syscalls.specs.Writing.{part_of, write_call_of, WriteCallFits}
 use Rattle.syscalls.specs.declared.write.Write.{Write}
 use Rattle.syscalls.specs.declared.write.Write.TheVariants as write
+use Rattle.inode_table.specs.NewMachines.{new_of}
+use Rattle.directory.specs.Entering.{enter_of}
+use Rattle.syscalls.specs.Making.{make_of}
+use Rattle.syscalls.specs.Creating.{open_new_of, OpenNewFits}
+use Rattle.syscalls.specs.Mkdirs.{mkdir_of, MkdirFits}
+use Rattle.plain_tree.specs.Tree.{Name}
+use Rattle.inode_table.specs.declared.new_inode.NewInode.{NewInode}
+use Rattle.inode_table.specs.declared.new_inode.NewInode.TheVariants as making_inode
+use Rattle.directory.specs.declared.enter.Enter.{Enter}
+use Rattle.directory.specs.declared.enter.Enter.TheVariants as entering
+use Rattle.syscalls.specs.declared.make.Make.{Make}
+use Rattle.syscalls.specs.declared.make.Make.TheVariants as making
+use Rattle.syscalls.specs.declared.open_new.OpenNew.{OpenNew}
+use Rattle.syscalls.specs.declared.open_new.OpenNew.TheVariants as creating
+use Rattle.syscalls.specs.declared.mkdir.Mkdir.{Mkdir}
+use Rattle.syscalls.specs.declared.mkdir.Mkdir.TheVariants as mkdir
 use Rattle.syscalls.specs.declared.running.Running.{Running}
 use Rattle.syscalls.specs.declared.running.Running.TheVariants as running
 
@@ -402,9 +418,55 @@ has_unlink h s (unlinking.Clearing e txn n child m) fits = first (put_of Free m)
 has_unlink h s (unlinking.Lowering m) fits = has_lower h s m fits
 has_unlink h s (unlinking.Ends m) fits = has_quit h s m fits
 
+-- ---- names
+
+has_new : (m : NewInode) → HasOne (new_of m)
+unfolding new_of
+has_new (making_inode.Fetching l f) = first (fetch_of f) _ (has_fetch f)
+has_new (making_inode.Look l guard) = tt
+has_new (making_inode.Record l n guard) = tt
+has_new (making_inode.GiveBack l guard) = tt
+
+has_enter : (m : Enter) → HasOne (enter_of m)
+unfolding enter_of
+has_enter (entering.Searching e m) = first (search_of Unused m) _ (has_search Unused m)
+has_enter (entering.Writing e slot m) = first (write_of _ m) _ (has_write _ m)
+
+has_make : (e : Name) (m : Make) → HasOne (make_of e m)
+unfolding make_of
+has_make e (making.Claiming m new) = first (new_of new) _ (has_new new)
+has_make e (making.Taking m take) = first (take_of take) _ (has_take take)
+has_make e (making.Linking m child st) = first (store_of st) _ (has_store st)
+has_make e (making.Filling m n bytes part) = first (write_of bytes part) _ (has_write bytes part)
+has_make e (making.Entering sizes n child enter) = first (enter_of enter) _ (has_enter enter)
+has_make e (making.Unlinking sizes parent child what st) = first (store_of st) _ (has_store st)
+has_make e (making.Giving parent what give) = first (give_of give) _ (has_give give)
+
+has_create : (h : ℕ) (s : State) (m : OpenNew) → OpenNewFits h s m → HasOne (open_new_of m)
+unfolding open_new_of OpenNewFits
+has_create h s (creating.Join o) fits = tt
+has_create h s (creating.Seeking o txn m) fits = first (seek_of o.path m) _ (has_seek o.path m)
+has_create h s (creating.Up o txn list held n) fits = tt
+has_create h s (creating.Leaving o txn list n m) fits = first (give_of m) _ (has_give m)
+has_create h s (creating.Taking o txn list m) fits = first (take_of m) _ (has_take m)
+has_create h s (creating.Making o txn list e m) fits = first (make_of (name_in o.path e) m) _ (has_make (name_in o.path e) m)
+has_create h s (creating.Made o txn list held m) fits = first (give_of m) _ (has_give m)
+has_create h s (creating.Opens m) fits = has_open h s m fits
+
+has_mkdir : (h : ℕ) (s : State) (m : Mkdir) → MkdirFits h s m → HasOne (mkdir_of m)
+unfolding mkdir_of MkdirFits
+has_mkdir h s (mkdir.Join on) fits = tt
+has_mkdir h s (mkdir.Seeking on txn m) fits = first (seek_of on.path m) _ (has_seek on.path m)
+has_mkdir h s (mkdir.Making on txn list e links m) fits = first (make_of (name_in on.path e) m) _ (has_make (name_in on.path e) m)
+has_mkdir h s (mkdir.Raising on txn list parent child m) fits = first (store_of m) _ (has_store m)
+has_mkdir h s (mkdir.Leaving on txn list child m) fits = first (give_of m) _ (has_give m)
+has_mkdir h s (mkdir.Ends m) fits = has_quit h s m fits
+
 pub has_running : (h : ℕ) (s : State) (m : Running) → RunningFits h s m → HasOne (running_of m)
 unfolding running_of RunningFits
 has_running h s (running.Open m) fits = has_open h s m fits
+has_running h s (running.Create m) fits = has_create h s m fits
+has_running h s (running.Mkdir m) fits = has_mkdir h s m fits
 has_running h s (running.Chdir m) fits = has_chdir h s m fits
 has_running h s (running.Dup m) fits = has_dup m
 has_running h s (running.Close m) fits = has_close h s m fits

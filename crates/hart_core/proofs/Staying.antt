@@ -93,6 +93,22 @@ use Rattle.syscalls.specs.declared.read.Read.TheVariants as read
 use Rattle.syscalls.specs.Writing.{part_of, WriteCallFits}
 use Rattle.syscalls.specs.declared.write.Write.{Write}
 use Rattle.syscalls.specs.declared.write.Write.TheVariants as write
+use Rattle.inode_table.specs.NewMachines.{NewFits}
+use Rattle.directory.specs.Entering.{EnterFits}
+use Rattle.syscalls.specs.Making.{IsMaking, MakeFits}
+use Rattle.syscalls.specs.Creating.{OpenNewFits}
+use Rattle.syscalls.specs.Mkdirs.{MkdirFits}
+use Rattle.syscalls.specs.declared.make.Making.{Making}
+use Rattle.inode_table.specs.declared.new_inode.NewInode.{NewInode}
+use Rattle.inode_table.specs.declared.new_inode.NewInode.TheVariants as making_inode
+use Rattle.directory.specs.declared.enter.Enter.{Enter}
+use Rattle.directory.specs.declared.enter.Enter.TheVariants as entering
+use Rattle.syscalls.specs.declared.make.Make.{Make}
+use Rattle.syscalls.specs.declared.make.Make.TheVariants as making
+use Rattle.syscalls.specs.declared.open_new.OpenNew.{OpenNew}
+use Rattle.syscalls.specs.declared.open_new.OpenNew.TheVariants as creating
+use Rattle.syscalls.specs.declared.mkdir.Mkdir.{Mkdir}
+use Rattle.syscalls.specs.declared.mkdir.Mkdir.TheVariants as mkdir
 use Rattle.syscalls.specs.declared.running.Running.{Running}
 use Rattle.syscalls.specs.declared.running.Running.TheVariants as running
 
@@ -349,9 +365,58 @@ module _ (h g : ℕ) (s t : State) (other : h ≢ g) (leaves : LeavesTied g s t)
   unlinks (unlinking.Lowering m) fits = lowers m fits
   unlinks (unlinking.Ends m) fits = quits m fits
 
+  -- ---- names
+
+  news : (m : NewInode) → NewFits h s m → NewFits h t m
+  unfolding NewFits
+  news (making_inode.Fetching l f) fits = (fits.0, fetch f fits.1)
+  news (making_inode.Look l guard) fits = (fits.0, is_fetched _ guard fits.1)
+  news (making_inode.Record l n guard) fits = is_fetched _ guard fits
+  news (making_inode.GiveBack l guard) fits = is_fetched _ guard fits
+
+  enters : (m : Enter) → EnterFits h s m → EnterFits h t m
+  unfolding EnterFits
+  enters (entering.Searching e m) fits = (fits.0, fits.1, searches m fits.2)
+  enters (entering.Writing e slot m) fits = (fits.0, writes _ m fits.1)
+
+  is_making : (m : Making) → IsMaking h m s → IsMaking h m t
+  is_making m f = record { sized = f.sized; parent = is_parent _ _ f.parent }
+
+  makes : (m : Make) → MakeFits h s m → MakeFits h t m
+  unfolding MakeFits
+  makes (making.Claiming m new) fits = (is_making m fits.0, news new fits.1)
+  makes (making.Taking m take) fits = (is_making m fits.0, takes take fits.1, fits.2)
+  makes (making.Linking m child st) fits = (is_making m fits.0, is_held child fits.1, fits.2, store st fits.3)
+  makes (making.Filling m n bytes part) fits = (is_making m fits.0, own_inode n _ fits.1, fits.2, writes bytes part fits.3)
+  makes (making.Entering sizes n child enter) fits = (fits.0, own_inode n _ fits.1, is_held child fits.2, fits.3, enters enter fits.4)
+  makes (making.Unlinking sizes parent child what st) fits = (fits.0, is_held parent fits.1, is_held child fits.2, fits.3, store st fits.4)
+  makes (making.Giving parent what give) fits = (is_held parent fits.0, gives give fits.1, fits.2)
+
+  creates : (m : OpenNew) → OpenNewFits h s m → OpenNewFits h t m
+  unfolding OpenNewFits
+  creates (creating.Join o) fits = fits
+  creates (creating.Seeking o txn m) fits = (fits.0, fits.1, seeks o.path m fits.2)
+  creates (creating.Up o txn list held n) fits = (fits.0, fits.1, is_held held fits.2)
+  creates (creating.Leaving o txn list n m) fits = (fits.0, fits.1, gives m fits.2)
+  creates (creating.Taking o txn list m) fits = (fits.0, fits.1, takes m fits.2)
+  creates (creating.Making o txn list e m) fits = (fits.0, fits.1, fits.2, makes m fits.3)
+  creates (creating.Made o txn list held m) fits = (fits.0, fits.1, is_held held fits.2, gives m fits.3, fits.4)
+  creates (creating.Opens m) fits = opens m fits
+
+  mkdirs : (m : Mkdir) → MkdirFits h s m → MkdirFits h t m
+  unfolding MkdirFits
+  mkdirs (mkdir.Join on) fits = fits
+  mkdirs (mkdir.Seeking on txn m) fits = (fits.0, fits.1, seeks on.path m fits.2)
+  mkdirs (mkdir.Making on txn list e links m) fits = (fits.0, fits.1, fits.2, fits.3, makes m fits.4)
+  mkdirs (mkdir.Raising on txn list parent child m) fits = (fits.0, fits.1, is_held parent fits.2, is_held child fits.3, fits.4, store m fits.5)
+  mkdirs (mkdir.Leaving on txn list child m) fits = (fits.0, fits.1, is_held child fits.2, gives m fits.3, fits.4)
+  mkdirs (mkdir.Ends m) fits = quits m fits
+
   pub stays : (m : Running) → RunningFits h s m → RunningFits h t m
   unfolding RunningFits
   stays (running.Open m) fits = opens m fits
+  stays (running.Create m) fits = creates m fits
+  stays (running.Mkdir m) fits = mkdirs m fits
   stays (running.Chdir m) fits = chdirs m fits
   stays (running.Dup m) fits = fits
   stays (running.Close m) fits = closes m fits

@@ -27,6 +27,8 @@ use Rattle.syscalls.specs.declared.read.Read.TheVariants as read
 use Rattle.syscalls.specs.Replies.{failed, full, done}
 use Rattle.syscalls.specs.Programs.{say, dup_program, leave_closed, drop_closed, close_program, stat_reply, stat_on, give_read, read_on}
 use Rattle.syscalls.specs.Opens.{open_old_of, OpenOldFits}
+use Rattle.syscalls.specs.Creating.{open_new_of, OpenNewFits}
+use Rattle.syscalls.specs.Mkdirs.{mkdir_of, MkdirFits}
 use Rattle.syscalls.specs.Chdirs.{chdir_of, ChdirFits}
 use Rattle.syscalls.specs.Writing.{write_call_of, WriteCallFits}
 use Rattle.syscalls.specs.Unlinking.{unlink_of, UnlinkFits}
@@ -106,6 +108,8 @@ ReadCallFits hart s (read.Say reply) = Unit {0}
 
 unfoldable pub running_of : Running → P Reply
 running_of (running.Open m) = open_old_of m
+running_of (running.Create m) = open_new_of m
+running_of (running.Mkdir m) = mkdir_of m
 running_of (running.Chdir m) = chdir_of m
 running_of (running.Dup m) = dup_of m
 running_of (running.Close m) = close_of m
@@ -116,6 +120,8 @@ running_of (running.Unlink m) = unlink_of m
 
 unfoldable pub RunningFits : ℕ → State → Running → Type 0
 RunningFits hart s (running.Open m) = OpenOldFits hart s m
+RunningFits hart s (running.Create m) = OpenNewFits hart s m
+RunningFits hart s (running.Mkdir m) = MkdirFits hart s m
 RunningFits hart s (running.Chdir m) = ChdirFits hart s m
 RunningFits hart s (running.Dup m) = Unit {0}
 RunningFits hart s (running.Close m) = CloseFits hart s m

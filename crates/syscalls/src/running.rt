@@ -12,6 +12,8 @@ use crate::chdir::Chdir;
 use crate::close::Close;
 use crate::dup::Dup;
 use crate::fstat::Fstat;
+use crate::mkdir::Mkdir;
+use crate::open_new::OpenNew;
 use crate::open_old::OpenOld;
 use crate::read::Read;
 use crate::unlink::Unlink;
@@ -24,7 +26,11 @@ use plain_tree::Reply;
 
 /// A call under way.
 pub enum Running {
+    /// An open without CREATE.
     Open(OpenOld),
+    /// An open with CREATE.
+    Create(OpenNew),
+    Mkdir(Mkdir),
     Chdir(Chdir),
     Dup(Dup),
     Close(Close),
@@ -50,6 +56,8 @@ impl Running {
     {
         match self {
             Running::Open(m) => in_open(m.step(hart, core)),
+            Running::Create(m) => in_create(m.step(hart, core)),
+            Running::Mkdir(m) => in_mkdir(m.step(hart, core)),
             Running::Chdir(m) => in_chdir(m.step(hart, core)),
             Running::Dup(m) => in_dup(m.step(hart, core)),
             Running::Close(m) => in_close(m.step(hart, core)),
@@ -64,6 +72,8 @@ impl Running {
     pub fn retire(self, retired: &RetiredCore) {
         match self {
             Running::Open(m) => m.retire(retired),
+            Running::Create(m) => m.retire(retired),
+            Running::Mkdir(m) => m.retire(retired),
             Running::Chdir(m) => m.retire(retired),
             Running::Dup(m) => m.retire(retired),
             Running::Close(m) => m.retire(retired),
@@ -83,6 +93,28 @@ fn in_open(stepped: Stepped<OpenOld, Reply, Kind>) -> Stepped<Running, Reply, Ki
         Stepped::Ran(m, kind) => Stepped::Ran(Running::Open(m), kind),
         Stepped::Done(reply, kind) => Stepped::Done(reply, kind),
         Stepped::Stopped(m) => Stepped::Stopped(Running::Open(m)),
+    }
+}
+
+fn in_create(stepped: Stepped<OpenNew, Reply, Kind>) -> Stepped<Running, Reply, Kind>
+    ensures { result ≡ ends_within (λ m. running.Create m) (λ reply. reply) stepped }
+{
+    match stepped {
+        Stepped::Waits(m) => Stepped::Waits(Running::Create(m)),
+        Stepped::Ran(m, kind) => Stepped::Ran(Running::Create(m), kind),
+        Stepped::Done(reply, kind) => Stepped::Done(reply, kind),
+        Stepped::Stopped(m) => Stepped::Stopped(Running::Create(m)),
+    }
+}
+
+fn in_mkdir(stepped: Stepped<Mkdir, Reply, Kind>) -> Stepped<Running, Reply, Kind>
+    ensures { result ≡ ends_within (λ m. running.Mkdir m) (λ reply. reply) stepped }
+{
+    match stepped {
+        Stepped::Waits(m) => Stepped::Waits(Running::Mkdir(m)),
+        Stepped::Ran(m, kind) => Stepped::Ran(Running::Mkdir(m), kind),
+        Stepped::Done(reply, kind) => Stepped::Done(reply, kind),
+        Stepped::Stopped(m) => Stepped::Stopped(Running::Mkdir(m)),
     }
 }
 
