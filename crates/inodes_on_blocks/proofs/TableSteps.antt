@@ -27,7 +27,7 @@ use Rattle.inodes_on_tables.proofs.Locks.{locks_are_given}
 use Rattle.inodes_on_tables.proofs.Named.{directories_are_settled}
 use Rattle.inodes_on_blocks.specs.Below.{World, log_of, tables_of, disk_of, inode_in}
 use Rattle.inodes_on_blocks.specs.Shown.{Shows}
-use Rattle.inodes_on_blocks.specs.Lowering.{Had, Apart, Has, Emptied, Carry, record_had, IsLoaded, InHand, Base, Labels, labelled, Keeps}
+use Rattle.inodes_on_blocks.specs.Lowering.{Same, Had, Apart, Has, Emptied, Carry, record_had, IsLoaded, InHand, Base, Labels, labelled, Keeps}
 use Rattle.inodes_on_blocks.specs.Handlers.{give, settle}
 use Rattle.inodes_on_blocks.specs.Acting.{ActsOnce}
 use Rattle.inodes_on_blocks.proofs.Layer.{tables_left}
@@ -69,62 +69,77 @@ module _ (l : Labels) (laws : Laws (labelled l)) (keeps : Keeps l) (h : ℕ) (lt
     pub lender : (u.desks h).lender ≡ (g.desks h).lender
     pub opens : (i : ℕ) → i ≢ n → OpenStays h i g u
 
+  -- by which the machine goes on, whichever operation it was
+  module _ (n : ℕ) (v : World) (g : above.World) (c : Carry) (t : TablesState) (u : above.World) (shows : Shows v g) (base : Base h v g c) (mine : g.lock n ≡ Some h) (free : (g.desks h).lender ≡ None)
+      (after : tables.Shows t u (put (loaded (tables_of v)) n (record_had (c n)))) (s : GivesBack n g u) where
+    abbrev load : ℕ → Option Dinode
+    load = loaded (tables_of v)
+
+    hand : InHand h n (c n) v g
+    hand = base.inodes n (sym (shows.tables.places.holders n) ∙ mine)
+
+    freed : (i : ℕ) → i ≡ n → u.lock i ≡ None
+    freed i q = (λ z. s.lock z i) ∙ ap (put g.lock n None) q ∙ put_same g.lock n None
+
+    unfreed : (i : ℕ) → i ≢ n → u.lock i ≡ g.lock i
+    unfreed i ne = (λ z. s.lock z i) ∙ put_other g.lock n None i ne
+
+    pub given_shows : Shows (with_tables v t) u
+    given_shows =
+        shows_then h lt v g shows t u (put load n (record_had (c n))) after s.disk s.size s.joined
+        (λ i. elim (same_or i n) [
+          | inl q ↦ inr (inr (freed i q, subst (λ (z : ℕ). HoldsAt (disk_of (log_of v)) v.owner z (g.disk z)) (sym q) hand.holds))
+          | inr ne ↦ inl (unfreed i ne)
+        ])
+        (record {
+          seen = λ i d e. elim (same_or i n) [
+            | inl q ↦ loaded_seen (c n) (g.disk n) (inode_in (log_of v) n) d hand.loaded_is (sym (ap (put load n (record_had (c n))) q ∙ put_same load n (record_had (c n))) ∙ e) ∙ ap (inode_in (log_of v)) (sym q)
+            | inr ne ↦ shows.loads.seen i d (sym (put_other load n (record_had (c n)) i ne) ∙ e)
+          ];
+          dead = λ i some unlocked dead. elim (same_or i n) [
+            | inl q ↦ subst IsSome (sym (ap (put load n (record_had (c n))) q ∙ put_same load n (record_had (c n)))) (some_loaded (c n) (g.disk n) (inode_in (log_of v) n) hand.loaded_is ((λ z. above_exec.is_dead (sym s.disk z (sym q z))) ∙ dead))
+            | inr ne ↦ subst IsSome (sym (put_other load n (record_had (c n)) i ne)) (shows.loads.dead i (subst (λ (z : ℕ). 0 < z) (λ z. s.refs z i) some) (sym (unfreed i ne) ∙ unlocked) ((λ z. above_exec.is_dead (sym s.disk z i)) ∙ dead))
+          ];
+          typed = λ i e. elim (same_or i n) [
+            | inl q ↦ ap (put load n (record_had (c n))) q ∙ put_same load n (record_had (c n)) ∙ untyped (c n) (g.disk n) (inode_in (log_of v) n) hand.loaded_is ((λ z. sym s.disk z (sym q z)) ∙ e)
+            | inr ne ↦ put_other load n (record_had (c n)) i ne ∙ shows.loads.typed i ((λ z. sym s.disk z i) ∙ e)
+          ];
+        })
+
+    pub given_same : (other : ℕ) → other ≢ h → Same other v (with_tables v t)
+    given_same =
+        tables_left h v t g u load (put load n (record_had (c n))) shows.tables after
+        (λ i. elim (same_or i n) [
+          | inl q ↦ inr (ours_some h (g.lock i) (ap g.lock q ∙ mine), ours_none h (u.lock i) (freed i q))
+          | inr ne ↦ inl (unfreed i ne)
+        ])
+
+    pub given_base : Base h (with_tables v t) u (put c n Apart)
+    given_base =
+        base_then h lt v g shows c (put c n Apart) t u (put load n (record_had (c n))) base after (s.lender ∙ free)
+        (λ i e. elim (same_or i n) [
+          | inl q ↦ absurd (none-some h (sym (freed i q) ∙ e))
+          | inr ne ↦
+              let was : g.lock i ≡ Some h = sym (unfreed i ne) ∙ e in
+              inl (was, s.keeper i ne ∙ (base.inodes i (sym (shows.tables.places.holders i) ∙ was)).keeps, (λ z. s.disk z i), put_other c n Apart i ne, s.opens i ne)
+        ])
+
   pub given_came : (op : above.Op) (n : ℕ) (v : W) (c : Carry) (b : above.Answer op) (t : TablesState) (u : above.World) → Shows v.real v.seen → Base h v.real v.seen c → v.seen.lock n ≡ Some h → (v.seen.desks h).lender ≡ None
       → above_exec.exec h above.Room op v.seen ≡ Ran b u → tables.Shows t u (put (loaded (tables_of v.real)) n (record_had (c n))) → GivesBack n v.seen u → Came l laws keeps h op v b (with_tables v.real t) (put c n Apart)
   given_came op n v c b t u shows base mine free ran after s = record {
     then_ = u;
     ran = ran;
     free = s.lender ∙ free;
-    shows = shows_then h lt v.real v.seen shows t u (put load n (record_had (c n))) after s.disk s.size s.joined
-        (λ i. elim (same_or i n) [
-          | inl q ↦ inr (inr (freed i q, subst (λ (z : ℕ). HoldsAt (disk_of (log_of v.real)) v.real.owner z (v.seen.disk z)) (sym q) hand.holds))
-          | inr ne ↦ inl (unfreed i ne)
-        ])
-        (record {
-          seen = λ i d e. elim (same_or i n) [
-            | inl q ↦ loaded_seen (c n) (v.seen.disk n) (inode_in (log_of v.real) n) d hand.loaded_is (sym (ap (put load n (record_had (c n))) q ∙ put_same load n (record_had (c n))) ∙ e) ∙ ap (inode_in (log_of v.real)) (sym q)
-            | inr ne ↦ shows.loads.seen i d (sym (put_other load n (record_had (c n)) i ne) ∙ e)
-          ];
-          dead = λ i some unlocked dead. elim (same_or i n) [
-            | inl q ↦ subst IsSome (sym (ap (put load n (record_had (c n))) q ∙ put_same load n (record_had (c n)))) (some_loaded (c n) (v.seen.disk n) (inode_in (log_of v.real) n) hand.loaded_is ((λ z. above_exec.is_dead (sym s.disk z (sym q z))) ∙ dead))
-            | inr ne ↦ subst IsSome (sym (put_other load n (record_had (c n)) i ne)) (shows.loads.dead i (subst (λ (z : ℕ). 0 < z) (λ z. s.refs z i) some) (sym (unfreed i ne) ∙ unlocked) ((λ z. above_exec.is_dead (sym s.disk z i)) ∙ dead))
-          ];
-          typed = λ i e. elim (same_or i n) [
-            | inl q ↦ ap (put load n (record_had (c n))) q ∙ put_same load n (record_had (c n)) ∙ untyped (c n) (v.seen.disk n) (inode_in (log_of v.real) n) hand.loaded_is ((λ z. sym s.disk z (sym q z)) ∙ e)
-            | inr ne ↦ put_other load n (record_had (c n)) i ne ∙ shows.loads.typed i ((λ z. sym s.disk z i) ∙ e)
-          ];
-        });
-    same = tables_left h v.real t v.seen u load (put load n (record_had (c n))) shows.tables after
-        (λ i. elim (same_or i n) [
-          | inl q ↦ inr (ours_some h (v.seen.lock i) (ap v.seen.lock q ∙ mine), ours_none h (u.lock i) (freed i q))
-          | inr ne ↦ inl (unfreed i ne)
-        ]);
-    base = base_then h lt v.real v.seen shows c (put c n Apart) t u (put load n (record_had (c n))) base after (s.lender ∙ free)
-        (λ i e. elim (same_or i n) [
-          | inl q ↦ absurd (none-some h (sym (freed i q) ∙ e))
-          | inr ne ↦
-              let was : v.seen.lock i ≡ Some h = sym (unfreed i ne) ∙ e in
-              inl (was, s.keeper i ne ∙ (base.inodes i (sym (shows.tables.places.holders i) ∙ was)).keeps, (λ z. s.disk z i), put_other c n Apart i ne, s.opens i ne)
-        ]);
+    shows = given_shows n v.real v.seen c t u shows base mine free after s;
+    same = given_same n v.real v.seen c t u shows base mine free after s;
+    base = given_base n v.real v.seen c t u shows base mine free after s;
   }
-    where
-      load : ℕ → Option Dinode
-      load = loaded (tables_of v.real)
 
-      hand : InHand h n (c n) v.real v.seen
-      hand = base.inodes n (sym (shows.tables.places.holders n) ∙ mine)
-
-      freed : (i : ℕ) → i ≡ n → u.lock i ≡ None
-      freed i q = (λ z. s.lock z i) ∙ ap (put v.seen.lock n None) q ∙ put_same v.seen.lock n None
-
-      unfreed : (i : ℕ) → i ≢ n → u.lock i ≡ v.seen.lock i
-      unfreed i ne = (λ z. s.lock z i) ∙ put_other v.seen.lock n None i ne
-
-  unlocked_back : (n : ℕ) (g : above.World) (b : Bool) → GivesBack n g (unlocked n g b)
+  pub unlocked_back : (n : ℕ) (g : above.World) (b : Bool) → GivesBack n g (unlocked n g b)
   unlocked_back n g true = record { disk = refl; lock = refl; refs = refl; keeper = λ i ne. refl; size = refl; joined = λ j. refl; lender = refl; opens = λ i ne. open_alike h i g (unlocked n g true) refl refl }
   unlocked_back n g false = record { disk = refl; lock = refl; refs = refl; keeper = λ i ne. put_other g.keeper n None i ne; size = refl; joined = λ j. refl; lender = refl; opens = λ i ne. open_alike h i g (unlocked n g false) refl refl }
 
-  unlocked_shows : (t : TablesState) (n : ℕ) (g : above.World) (load : ℕ → Option Dinode) (b : Bool) → tables.Shows t (record g { lock = put g.lock n None }) load → tables.Shows t (unlocked n g b) load
+  pub unlocked_shows : (t : TablesState) (n : ℕ) (g : above.World) (load : ℕ → Option Dinode) (b : Bool) → tables.Shows t (record g { lock = put g.lock n None }) load → tables.Shows t (unlocked n g b) load
   unlocked_shows t n g load true s = record { sound = s.sound; places = s.places; files = s.files; desks = s.desks; lenders = s.lenders; range = s.range }
   unlocked_shows t n g load false s = record { sound = s.sound; places = s.places; files = s.files; desks = s.desks; lenders = s.lenders; range = s.range }
 
