@@ -135,6 +135,7 @@ module _ (h : ℕ) (v : World) (g : above.World) (shows : Shows v g) (contents :
     taken = shows.taken;
     commit = commit;
     loads = record { seen = λ n d e. shows.loads.seen n d e ∙ sym (ap (λ (x : List (List ℕ)). inode_of x n) disk_same); dead = shows.loads.dead; typed = shows.loads.typed };
+    offsets = shows.offsets;
   }
 
   buffers_same : (other b : ℕ) → other ≢ h → if_kept (holder_of b seats) other (buffer_in m b) ≡ if_kept (holder_of b l.seats) other (buffer_in l b)

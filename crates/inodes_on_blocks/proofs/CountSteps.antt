@@ -71,7 +71,7 @@ module _ (l : Labels) (laws : Laws (labelled l)) (keeps : Keeps l) (h : ℕ) (lt
             | inr ne ↦ shows.loads.dead i (subst (λ (k : ℕ). 0 < k) (put_other v.seen.refs n (v.seen.refs n + 1) i ne) some) unlocked dead
           ];
           typed = shows.loads.typed;
-        });
+        }) shows.offsets;
     same = tables_left h v.real t v.seen (counted_up h n v.seen) (loaded (tables_of v.real)) (loaded (tables_of v.real)) shows.tables after (λ i. inl refl);
     base = base_then h lt v.real v.seen shows c c t (counted_up h n v.seen) (loaded (tables_of v.real)) base after free
         (λ i e. inl (e, (base.inodes i (sym (shows.tables.places.holders i) ∙ e)).keeps, refl, refl, open_alike h i v.seen (counted_up h n v.seen) refl refl));
@@ -201,7 +201,7 @@ module _ (l : Labels) (laws : Laws (labelled l)) (keeps : Keeps l) (h : ℕ) (lt
             | inr ne ↦ subst IsSome (sym (other (v.seen.refs n == 1) i ne)) (shows.loads.dead i (subst (λ (z : ℕ). 0 < z) (put_other v.seen.refs n (v.seen.refs n - 1) i ne) some) unlocked dead)
           ];
           typed = λ i e. typed (v.seen.refs n == 1) i e;
-        });
+        }) shows.offsets;
     same = tables_left h v.real t v.seen (counted_down h n v.seen) load (left (v.seen.refs n == 1)) shows.tables after (λ i. inl refl);
     base = base_then h lt v.real v.seen shows c c t (counted_down h n v.seen) (left (v.seen.refs n == 1)) base after free
         (λ i e. inl (e, keeper (v.seen.alone n) i (λ q. not_mine (ap v.seen.lock (sym q) ∙ e)) ∙ (base.inodes i (sym (shows.tables.places.holders i) ∙ e)).keeps, refl, refl, open_alike h i v.seen (counted_down h n v.seen) refl refl));
@@ -239,7 +239,7 @@ module _ (l : Labels) (laws : Laws (labelled l)) (keeps : Keeps l) (h : ℕ) (lt
     then_ = reserved h n v.seen;
     ran = ran;
     free = free;
-    shows = shows_then h lt v.real v.seen shows t (reserved h n v.seen) (loaded (tables_of v.real)) after refl refl (λ j. refl) (λ i. inl refl) (record { seen = shows.loads.seen; dead = shows.loads.dead; typed = shows.loads.typed });
+    shows = shows_then h lt v.real v.seen shows t (reserved h n v.seen) (loaded (tables_of v.real)) after refl refl (λ j. refl) (λ i. inl refl) (record { seen = shows.loads.seen; dead = shows.loads.dead; typed = shows.loads.typed }) shows.offsets;
     same = tables_left h v.real t v.seen (reserved h n v.seen) (loaded (tables_of v.real)) (loaded (tables_of v.real)) shows.tables after (λ i. inl refl);
     base = base_then h lt v.real v.seen shows c c t (reserved h n v.seen) (loaded (tables_of v.real)) base after free
         (λ i e. inl (e, put_elim v.seen.keeper n (Some h) i (λ (z : Option ℕ). z ≡ Some h) (λ q. refl) (λ ne. (base.inodes i (sym (shows.tables.places.holders i) ∙ e)).keeps), refl, refl, open_alike h i v.seen (reserved h n v.seen) refl refl));
@@ -268,7 +268,7 @@ module _ (l : Labels) (laws : Laws (labelled l)) (keeps : Keeps l) (h : ℕ) (lt
             | inr ne ↦ subst IsSome (sym (put_other load n None i ne)) (shows.loads.dead i more (sym (put_other v.seen.lock n (Some h) i ne) ∙ loose) gone)
           ];
           typed = λ i e. elim (same_or i n) [ inl q ↦ ap (put load n None) q ∙ put_same load n None | inr ne ↦ put_other load n None i ne ∙ shows.loads.typed i e ];
-        });
+        }) shows.offsets;
     same = tables_left h v.real t v.seen (record (reserved h n v.seen) { lock = put v.seen.lock n (Some h) }) load (put load n None) shows.tables after
         (λ i. elim (same_or i n) [
           | inl q ↦ inr (ours_none h (v.seen.lock i) (ap v.seen.lock q ∙ unlocked), ours_some h (put v.seen.lock n (Some h) i) (ap (put v.seen.lock n (Some h)) q ∙ put_same v.seen.lock n (Some h)))

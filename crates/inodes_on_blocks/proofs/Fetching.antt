@@ -138,6 +138,7 @@ module _ (h : ℕ) (v : World) (g : above.World) (shows : Shows v g) (ss : List 
     taken = shows.taken;
     commit = shows.commit;
     loads = record { seen = λ n d e. shows.loads.seen n d e ∙ sym (ap (λ (x : List (List ℕ)). inode_of x n) quiet_disk); dead = shows.loads.dead; typed = shows.loads.typed };
+    offsets = shows.offsets;
   }
 
   pub quiet_others : (other : ℕ) → other ≢ h → Same other v (with_buffers v ss)

@@ -73,6 +73,7 @@ module _ (l : Labels) (laws : Laws (labelled l)) (keeps : Keeps l) (h : ℕ) (lt
     taken = shows.taken;
     commit = shows.commit;
     loads = record { seen = shows.loads.seen; dead = shows.loads.dead; typed = shows.loads.typed };
+    offsets = shows.offsets;
   }
     where
       change : (o : Option ℕ) → (o ≡ Some h → ⊥) → if_joined (put v.seen.desks h (record (v.seen.desks h) { joined = true })) o ≡ if_joined v.seen.desks o

@@ -376,6 +376,7 @@ module _ (l : Labels) (laws : Laws (labelled l)) (keeps : Keeps l) (h : ℕ) (lt
       taken = shows.taken;
       commit = commit;
       loads = record { seen = shows.loads.seen; dead = shows.loads.dead; typed = shows.loads.typed };
+      offsets = shows.offsets;
     }
       where
         within : h < length before.members

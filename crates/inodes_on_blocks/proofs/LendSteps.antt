@@ -1,9 +1,10 @@
 -- What a hart hands on to the child that it serves, and the child let go, each at its one step.
 use Rattle.std.proofs.Common.{◌≡◌, ◌≢◌, inl, inr, ℕ, ◌+◌, ◌<◌, ◌≤◌, nat_lt, Bool, true, false, Option, Some, None, refl, sym, ◌∙◌, ap, subst, arith}
 use Rattle.std.proofs.lemmas.Bool.Decides.{nat_tests}
-use Rattle.std.proofs.lemmas.Option.{none-some}
+use Rattle.std.proofs.lemmas.Option.{none-some, same_Some}
 use Rattle.plain_tree.specs.Tree.{put}
 use Rattle.plain_tree.specs.Widths.{hart_count, descriptor_count}
+use Rattle.image_tree.specs.Checks.{largest_size}
 use Rattle.tree_laws.proofs.Maps.{same_or, put_other, put_same}
 use Rattle.atomic_programs.specs.Prog.{Did, Waits, Ran}
 use Rattle.atomic_programs.specs.Logic.{Laws}
@@ -33,7 +34,7 @@ use Rattle.inodes_on_blocks.specs.Lowering.{Labels, labelled, Keeps}
 use Rattle.inodes_on_blocks.specs.Handlers.{lent_to, old_directory, lend, lend_directory, release}
 use Rattle.inodes_on_blocks.specs.Acting.{ActsOnce}
 use Rattle.inodes_on_blocks.proofs.Stepping.{CameTo, one_step}
-use Rattle.inodes_on_blocks.proofs.SlotSteps.{SameInodes, ran_same, no_wait, in_tables_is, came_quiet, from_both, runs_here}
+use Rattle.inodes_on_blocks.proofs.SlotSteps.{SameInodes, offsets_put, ran_same, no_wait, in_tables_is, came_quiet, from_both, runs_here}
 use Rattle.inodes_on_blocks.proofs.CountSteps.{may_up_directory}
 use Rattle.inodes_on_blocks.proofs.OpenFiles.{open_alike, open_put, open_twice}
 
@@ -61,6 +62,7 @@ released_same h child w apart = record {
   joined = λ j. part_both (λ d. d.joined) w.desks h child (record (w.desks h) { lent = λ i. None }) (record (w.desks child) { lender = None }) j refl refl;
   lender = part_mine (λ d. d.lender) w.desks h child (record (w.desks h) { lent = λ i. None }) (record (w.desks child) { lender = None }) apart refl;
   opens = λ i mine. open_alike h i w (released w h child) (part_mine (λ d. d.fds) w.desks h child (record (w.desks h) { lent = λ i. None }) (record (w.desks child) { lender = None }) apart refl) refl;
+  offsets = λ old. old;
 }
 
 -- one more user leaves the files
@@ -69,6 +71,11 @@ more_same s files k e at = elim (same_or k s) [
   | inl q ↦ (record { file = e.file; sort = e.sort; references = e.references + 1 }, ap (put files s (more_users (files s))) q ∙ put_same files s (more_users (files s)) ∙ ap more_users (ap files (sym q) ∙ at), refl)
   | inr ne ↦ (e, put_other files s (more_users (files s)) k ne ∙ at, refl)
 ]
+
+-- and stands where it stood
+more_offset : (o : Option Entry) (e : Entry) → more_users o ≡ Some e → ((d : Entry) → o ≡ Some d → d.file.offset ≤ largest_size) → e.file.offset ≤ largest_size
+more_offset None e is old = absurd (none-some e is)
+more_offset (Some d) e is old = subst (λ (x : Entry). x.file.offset ≤ largest_size) (same_Some _ e is) (old d refl)
 
 lent_same : (h i : ℕ) (w : above.World) → SameInodes h w (with_lent w h i)
 lent_same h i w = record {
@@ -80,6 +87,7 @@ lent_same h i w = record {
   joined = λ j. part_same (λ d. d.joined) w.desks h (record (w.desks h) { lent = put (w.desks h).lent i ((w.desks h).fds i) }) j refl;
   lender = part_same (λ d. d.lender) w.desks h (record (w.desks h) { lent = put (w.desks h).lent i ((w.desks h).fds i) }) h refl;
   opens = λ j mine. open_put h j w (with_lent w h i) (record (w.desks h) { lent = put (w.desks h).lent i ((w.desks h).fds i) }) refl (λ fd k e. e) (more_same (slot_or ((w.desks h).fds i)) w.files);
+  offsets = λ old. offsets_put w.files (slot_or ((w.desks h).fds i)) (more_users (w.files (slot_or ((w.desks h).fds i)))) (λ e is. more_offset (w.files (slot_or ((w.desks h).fds i))) e is (old (slot_or ((w.desks h).fds i)))) old;
 }
 
 handed_same : (h child : ℕ) (w : above.World) → child ≢ h → SameInodes h w (handed w h child)
@@ -92,6 +100,7 @@ handed_same h child w apart = record {
   joined = λ j. part_both (λ d. d.joined) w.desks h child (record (w.desks h) { lent = serving child (Some 0) }) (record (w.desks child) { fds = put (w.desks h).lent descriptor_count None }) j refl refl;
   lender = part_both (λ d. d.lender) w.desks h child (record (w.desks h) { lent = serving child (Some 0) }) (record (w.desks child) { fds = put (w.desks h).lent descriptor_count None }) h refl refl;
   opens = λ i mine. open_alike h i w (handed w h child) (part_mine (λ d. d.fds) w.desks h child (record (w.desks h) { lent = serving child (Some 0) }) (record (w.desks child) { fds = put (w.desks h).lent descriptor_count None }) apart refl) refl;
+  offsets = λ old. old;
 }
 
 -- one reference more to a directory that has one
@@ -108,6 +117,7 @@ moved_same h child w inv lt = record {
   joined = λ j. part_both (λ d. d.joined) w.desks h child (record (w.desks h) { lent = serving child (Some 1) }) (record (w.desks child) { directory = (w.desks h).directory; left = None }) j refl refl;
   lender = part_both (λ d. d.lender) w.desks h child (record (w.desks h) { lent = serving child (Some 1) }) (record (w.desks child) { directory = (w.desks h).directory; left = None }) h refl refl;
   opens = λ i mine. open_alike h i w (moved_in w h child) (part_both (λ d. d.fds) w.desks h child (record (w.desks h) { lent = serving child (Some 1) }) (record (w.desks child) { directory = (w.desks h).directory; left = None }) h refl refl) refl;
+  offsets = λ old. old;
 }
   where
     referred : 0 < w.refs (w.desks h).directory
@@ -123,6 +133,7 @@ same_then h g v u a b = record {
   joined = λ j. b.joined j ∙ a.joined j;
   lender = b.lender ∙ a.lender;
   opens = λ i mine. open_twice h i g v u (a.opens i mine) (b.opens i ((λ z. a.lock z i) ∙ mine));
+  offsets = λ old. b.offsets (a.offsets old);
 }
 
 last_same : (h child i : ℕ) (w : above.World) (o : Option ℕ) → child ≢ h → SameInodes h w (lend_last (with_lent w h i) h child o)

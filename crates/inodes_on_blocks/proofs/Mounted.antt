@@ -137,6 +137,7 @@ module _ (disk : List (List ℕ)) (failures : ℕ) (m : IsMountable disk) where
     taken = λ b h e. absurd (none-some h e);
     commit = refl;
     loads = loads;
+    offsets = λ k e at. absurd (none-some e at);
   }
 
   stands : (h : ℕ) → Stands (sizes_of disk) h r w nothing

@@ -163,4 +163,5 @@ module _ (h b i : ℕ) (bytes : List ℕ) (r : World) (g : above.World) (shows :
       dead = shows.loads.dead;
       typed = shows.loads.typed;
     };
+    offsets = shows.offsets;
   }

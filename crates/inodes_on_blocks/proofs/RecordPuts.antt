@@ -146,6 +146,7 @@ node_then h n r g v shows mine joined = record {
       | inr ne ↦ shows.loads.typed m (sym (put_other g.disk n v m ne) ∙ e)
     ];
   };
+  offsets = shows.offsets;
 }
   where
     t : tables.Shows (tables_of r) g (loaded (tables_of r))

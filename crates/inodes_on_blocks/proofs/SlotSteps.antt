@@ -1,5 +1,5 @@
 -- The operations on descriptors and open files act at their one step.
-use Rattle.std.proofs.Common.{◌≡◌, inl, ℕ, ◌<◌, ◌==◌, Bool, true, false, Option, Some, None, refl, sym, ◌∙◌, ap, subst, ◌+◌, ◌≢◌}
+use Rattle.std.proofs.Common.{◌≡◌, inl, inr, ℕ, ◌<◌, ◌≤◌, ◌==◌, Bool, true, false, Option, Some, None, refl, sym, ◌∙◌, ap, subst, arith, ◌+◌, ◌-◌, ◌≢◌}
 use Rattle.std.specs.Prelude.{IsSome}
 use Rattle.std.specs.Option.{option_map}
 use Rattle.std.proofs.lemmas.Option.{none-some, same_Some}
@@ -8,6 +8,7 @@ use Rattle.plain_tree.specs.declared.tree.OpenFile.{OpenFile}
 use Rattle.plain_tree.specs.Tree.{put}
 use Rattle.plain_tree.specs.Steps.{lowest, has_room}
 use Rattle.plain_tree.specs.Widths.{hart_count}
+use Rattle.image_tree.specs.Checks.{largest_size}
 use Rattle.atomic_programs.specs.Prog.{Did, Waits, Ran, Stops, did_in}
 use Rattle.atomic_programs.specs.Logic.{Laws}
 use Rattle.atomic_programs.specs.Joined.{Both}
@@ -32,7 +33,7 @@ use Rattle.inodes_on_tables.proofs.Slots.{places_are_taken, files_are_opened, ha
 use Rattle.inodes_on_tables.proofs.Named.{descriptors_are_doubled, descriptors_name_files}
 use Rattle.inodes_on_tables.proofs.Shuts.{descriptors_are_shut}
 use Rattle.inodes_on_blocks.specs.Below.{World, tables_of, came_to, commits_after, owners_of, owners_after}
-use Rattle.inodes_on_blocks.specs.Shown.{Shows}
+use Rattle.inodes_on_blocks.specs.Shown.{Shows, OffsetsShow}
 use Rattle.inodes_on_blocks.specs.Lowering.{Carry, Base, Labels, labelled, Keeps}
 use Rattle.inodes_on_blocks.specs.Handlers.{doubled_to, shut_to, cause_if, slot, install, double, close, check_file, say}
 use Rattle.inodes_on_blocks.specs.Acting.{ActsOnce}
@@ -44,7 +45,14 @@ use Rattle.inodes_on_blocks.proofs.OpenFiles.{OpenStays, open_same, open_put}
 use Rattle.inode_machine.proofs.Tables.{lowest_free}
 use Rattle.inode_machine.proofs.Dups.{renewed_same}
 use Rattle.inode_machine.specs.Rules.{Inv}
-use Rattle.tree_laws.proofs.Maps.{put_other}
+use Rattle.tree_laws.proofs.Maps.{same_or, put_same, put_other}
+
+-- where one open file is put
+pub offsets_put : (files : ℕ → Option Entry) (s : ℕ) (o : Option Entry) → ((e : Entry) → o ≡ Some e → e.file.offset ≤ largest_size) → OffsetsShow files → OffsetsShow (put files s o)
+offsets_put files s o new old k e at = elim (same_or k s) [
+  | inl q ↦ new e (sym (ap (put files s o) q ∙ put_same files s o) ∙ at)
+  | inr ne ↦ old k e (sym (put_other files s o k ne) ∙ at)
+]
 
 -- an operation that leaves the inodes as they were, and refers to no more of them
 pub record SameInodes (h : ℕ) (g u : above.World) : Type 0 where
@@ -57,9 +65,10 @@ pub record SameInodes (h : ℕ) (g u : above.World) : Type 0 where
   pub lender : (u.desks h).lender ≡ (g.desks h).lender
   -- what it has open, of an inode whose lock it has
   pub opens : (i : ℕ) → g.lock i ≡ Some h → OpenStays h i g u
+  pub offsets : OffsetsShow g.files → OffsetsShow u.files
 
 pub all_same : (h : ℕ) (g : above.World) → SameInodes h g g
-all_same h g = record { disk = refl; lock = refl; refs = λ n some. some; keeper = refl; size = refl; joined = λ j. refl; lender = refl; opens = λ i mine. open_same h i g }
+all_same h g = record { disk = refl; lock = refl; refs = λ n some. some; keeper = refl; size = refl; joined = λ j. refl; lender = refl; opens = λ i mine. open_same h i g; offsets = λ old. old }
 
 -- where an operation ran so
 pub ran_same : {A : Type 0} (h : ℕ) (g w u : above.World) (a b : A) → ◌≡◌ {A = Did A above.World} (Ran a w) (Ran b u) → SameInodes h g w → SameInodes h g u
@@ -100,7 +109,7 @@ module _ (l : Labels) (laws : Laws (labelled l)) (keeps : Keeps l) (h : ℕ) (lt
           seen = shows.loads.seen;
           dead = λ n some unlocked dead. shows.loads.dead n (s.refs n some) ((λ z. sym s.lock z n) ∙ unlocked) ((λ z. above_exec.is_dead (sym s.disk z n)) ∙ dead);
           typed = λ n e. shows.loads.typed n ((λ z. sym s.disk z n) ∙ e);
-        });
+        }) (s.offsets shows.offsets);
     same = tables_left h v.real t v.seen u (loaded (tables_of v.real)) (loaded (tables_of v.real)) shows.tables after (λ i. inl (λ z. s.lock z i));
     base = base_then h lt v.real v.seen shows c c t u (loaded (tables_of v.real)) base after (s.lender ∙ free)
         (λ i e.
@@ -131,8 +140,8 @@ module _ (l : Labels) (laws : Laws (labelled l)) (keeps : Keeps l) (h : ℕ) (lt
 
   -- the hart's desk changed, but not whether it is in a transaction, nor who hands it descriptors
   desk_same : (w u : above.World) (new : above.Desk) → u.disk ≡ w.disk → u.lock ≡ w.lock → u.refs ≡ w.refs → u.keeper ≡ w.keeper → u.all.ninodes ≡ w.all.ninodes → u.desks ≡ put w.desks h new
-      → new.joined ≡ (w.desks h).joined → new.lender ≡ (w.desks h).lender → ((i : ℕ) → w.lock i ≡ Some h → OpenStays h i w u) → SameInodes h w u
-  desk_same w u new disk lock refs keeper size desks joined lender opens = record {
+      → new.joined ≡ (w.desks h).joined → new.lender ≡ (w.desks h).lender → ((i : ℕ) → w.lock i ≡ Some h → OpenStays h i w u) → (OffsetsShow w.files → OffsetsShow u.files) → SameInodes h w u
+  desk_same w u new disk lock refs keeper size desks joined lender opens offsets = record {
     disk = disk;
     lock = lock;
     refs = λ n some. subst (λ (f : ℕ → ℕ). 0 < f n) refs some;
@@ -141,13 +150,14 @@ module _ (l : Labels) (laws : Laws (labelled l)) (keeps : Keeps l) (h : ℕ) (lt
     joined = λ j. (λ z. (desks z j).joined) ∙ part_same (λ d. d.joined) w.desks h new j joined;
     lender = (λ z. (desks z h).lender) ∙ part_same (λ d. d.lender) w.desks h new h lender;
     opens = opens;
+    offsets = offsets;
   }
 
   slot_same : (w : above.World) (o : Option ℕ) (b : Bool) (u : above.World) → slot_if h w o ≡ Ran b u → SameInodes h w u
   slot_same w None b u e = ran_same h w w u false b e (all_same h w)
   slot_same w (Some s) b u e =
       let w' : above.World = record w { desks = put w.desks h (record (w.desks h) { hand = Some s }) } in
-      ran_same h w w' u true b e (desk_same w w' (record (w.desks h) { hand = Some s }) refl refl refl refl refl refl refl refl (λ i mine. open_put h i w w' (record (w.desks h) { hand = Some s }) refl (λ fd k e. e) (λ k e at. (e, at, refl))))
+      ran_same h w w' u true b e (desk_same w w' (record (w.desks h) { hand = Some s }) refl refl refl refl refl refl refl refl (λ i mine. open_put h i w w' (record (w.desks h) { hand = Some s }) refl (λ fd k e. e) (λ k e at. (e, at, refl))) (λ old. old))
 
   slot_runs : (w : above.World) (o : Option ℕ) → slot_if h w o ≡ Waits → ⊥
   slot_runs w None e = no_wait false w e
@@ -172,16 +182,17 @@ module _ (l : Labels) (laws : Laws (labelled l)) (keeps : Keeps l) (h : ℕ) (lt
   kept_lowest : (w : above.World) (o : Option ℕ) → has_room (w.desks h).fds ≡ true → (fd k : ℕ) → (w.desks h).fds fd ≡ Some k → put (w.desks h).fds (lowest (w.desks h).fds) o fd ≡ Some k
   kept_lowest w o room fd k is = put_other (w.desks h).fds (lowest (w.desks h).fds) o fd (λ e. none-some k (sym (lowest_free (w.desks h).fds room).1 ∙ ap (w.desks h).fds (sym e) ∙ is)) ∙ is
 
-  opened_same : (w : above.World) (f : OpenFile) (sort : Sort) (o : Option ℕ) (b : Bool) (a : Option ℕ) (u : above.World) → Inv w → (w.desks h).hand ≡ o → has_room (w.desks h).fds ≡ b → install_if h w f sort o b ≡ Ran a u → SameInodes h w u
-  opened_same w f sort None b a u inv hand room q = ran_same h w w u None a q (all_same h w)
-  opened_same w f sort (Some s) true a u inv hand room q =
+  opened_same : (w : above.World) (f : OpenFile) (sort : Sort) (o : Option ℕ) (b : Bool) (a : Option ℕ) (u : above.World) → Inv w → f.offset ≡ 0 → (w.desks h).hand ≡ o → has_room (w.desks h).fds ≡ b → install_if h w f sort o b ≡ Ran a u → SameInodes h w u
+  opened_same w f sort None b a u inv new hand room q = ran_same h w w u None a q (all_same h w)
+  opened_same w f sort (Some s) true a u inv new hand room q =
       ran_same h w (above_exec.installed h w f sort s (lowest (w.desks h).fds)) u _ a q
       (desk_same w (above_exec.installed h w f sort s (lowest (w.desks h).fds)) (record (w.desks h) { fds = put (w.desks h).fds (lowest (w.desks h).fds) (Some s); hand = None; opening = None }) refl refl refl refl refl refl refl refl
       (λ i mine. open_put h i w (above_exec.installed h w f sort s (lowest (w.desks h).fds)) (record (w.desks h) { fds = put (w.desks h).fds (lowest (w.desks h).fds) (Some s); hand = None; opening = None }) refl (kept_lowest w (Some s) room)
-      (λ k e at. (e, put_other w.files s (Some (record { file = f; sort = sort; references = 1 })) k (λ z. none-some e (sym (inv.tied.hand h s lt hand).1 ∙ ap w.files (sym z) ∙ at)) ∙ at, refl))))
-  opened_same w f sort (Some s) false a u inv hand room q =
+      (λ k e at. (e, put_other w.files s (Some (record { file = f; sort = sort; references = 1 })) k (λ z. none-some e (sym (inv.tied.hand h s lt hand).1 ∙ ap w.files (sym z) ∙ at)) ∙ at, refl)))
+      (λ old. offsets_put w.files s (Some (record { file = f; sort = sort; references = 1 })) (λ e is. subst (λ (x : Entry). x.file.offset ≤ largest_size) (same_Some _ e is) (omega (arith, new))) old))
+  opened_same w f sort (Some s) false a u inv new hand room q =
       let w' : above.World = record w { desks = put w.desks h (record (w.desks h) { hand = None }) } in
-      ran_same h w w' u None a q (desk_same w w' (record (w.desks h) { hand = None }) refl refl refl refl refl refl refl refl (λ i mine. open_put h i w w' (record (w.desks h) { hand = None }) refl (λ fd k e. e) (λ k e at. (e, at, refl))))
+      ran_same h w w' u None a q (desk_same w w' (record (w.desks h) { hand = None }) refl refl refl refl refl refl refl refl (λ i mine. open_put h i w w' (record (w.desks h) { hand = None }) refl (λ fd k e. e) (λ k e at. (e, at, refl))) (λ old. old))
 
   opened_runs : (w : above.World) (f : OpenFile) (sort : Sort) (o : Option ℕ) (b : Bool) → install_if h w f sort o b ≡ Waits → ⊥
   opened_runs w f sort None b q = no_wait None w q
@@ -206,7 +217,7 @@ module _ (l : Labels) (laws : Laws (labelled l)) (keeps : Keeps l) (h : ℕ) (lt
             subst (λ (d : Did (Option ℕ) World). CameTo l laws keeps h (Install f sort) v ⊥ d (λ a. a) (λ a. c)) (sym (in_tables_is h (steps.TakeDescriptor f.number (new_file f sort)) v.real (λ a o. refl) (λ s. refl) (open_file h f.number (new_file f sort) (tables_of v.real))))
             (from_both (Install f sort) v ⊥ (λ a. a) (λ a b. a ≡ b) c (open_file h f.number (new_file f sort) (tables_of v.real)) (above_exec.exec h above.Room (Install f sort) v.seen) refl
             (files_are_opened h f sort (tables_of v.real) v.seen (loaded (tables_of v.real)) shows.tables inv (runs_here v may.0) may.1.0 may.1.1)
-            (opened_runs v.seen f sort (v.seen.desks h).hand (has_room (v.seen.desks h).fds)) (λ a b e. e) (λ a u. opened_same v.seen f sort (v.seen.desks h).hand (has_room (v.seen.desks h).fds) a u inv refl refl) shows base may.0),
+            (opened_runs v.seen f sort (v.seen.desks h).hand (has_room (v.seen.desks h).fds)) (λ a b e. e) (λ a u. opened_same v.seen f sort (v.seen.desks h).hand (has_room (v.seen.desks h).fds) a u inv may.1.1 refl refl) shows base may.0),
       ))
 
   -- ---- doubled
@@ -216,7 +227,8 @@ module _ (l : Labels) (laws : Laws (labelled l)) (keeps : Keeps l) (h : ℕ) (lt
       ran_same h w (above_exec.doubled h w s e (lowest (w.desks h).fds)) u _ a q
       (desk_same w (above_exec.doubled h w s e (lowest (w.desks h).fds)) (record (w.desks h) { fds = put (w.desks h).fds (lowest (w.desks h).fds) (Some s) }) refl refl refl refl refl refl refl refl
       (λ i mine. open_put h i w (above_exec.doubled h w s e (lowest (w.desks h).fds)) (record (w.desks h) { fds = put (w.desks h).fds (lowest (w.desks h).fds) (Some s) }) refl (kept_lowest w (Some s) room)
-      (λ k d at_k. renewed_same w.files s e (record { file = e.file; sort = e.sort; references = e.references + 1 }) k d at refl at_k)))
+      (λ k d at_k. renewed_same w.files s e (record { file = e.file; sort = e.sort; references = e.references + 1 }) k d at refl at_k))
+      (λ old. offsets_put w.files s (Some (record { file = e.file; sort = e.sort; references = e.references + 1 })) (λ d is. subst (λ (x : Entry). x.file.offset ≤ largest_size) (same_Some _ d is) (old s e at)) old))
   double_same w s e false a u at room q = ran_same h w w u (Some None) a q (all_same h w)
 
   doubled_same : (w : above.World) (o : Option ℕ) (e : Option Entry) (a : Option (Option ℕ)) (u : above.World) → entry_at w.files o ≡ e → double_at h w o e ≡ Ran a u → SameInodes h w u
@@ -253,18 +265,19 @@ module _ (l : Labels) (laws : Laws (labelled l)) (keeps : Keeps l) (h : ℕ) (lt
 
   -- ---- shut
 
-  close_same : (w : above.World) (fd s : ℕ) (e : Entry) (b : Bool) (a : Option (Option ℕ)) (u : above.World) → ((i : ℕ) → w.lock i ≢ Some h) → close_if h w fd s e b ≡ Ran a u → SameInodes h w u
-  close_same w fd s e true a u none q =
+  close_same : (w : above.World) (fd s : ℕ) (e : Entry) (b : Bool) (a : Option (Option ℕ)) (u : above.World) → ((i : ℕ) → w.lock i ≢ Some h) → w.files s ≡ Some e → close_if h w fd s e b ≡ Ran a u → SameInodes h w u
+  close_same w fd s e true a u none at q =
       ran_same h w (above_exec.close_last h w fd s e) u _ a q
-      (desk_same w (above_exec.close_last h w fd s e) (record (w.desks h) { fds = put (w.desks h).fds fd None }) refl refl refl refl refl refl refl refl (λ i mine. absurd (none i mine)))
-  close_same w fd s e false a u none q =
+      (desk_same w (above_exec.close_last h w fd s e) (record (w.desks h) { fds = put (w.desks h).fds fd None }) refl refl refl refl refl refl refl refl (λ i mine. absurd (none i mine)) (λ old. offsets_put w.files s None (λ d is. absurd (none-some d is)) old))
+  close_same w fd s e false a u none at q =
       ran_same h w (above_exec.close_less h w fd s e) u _ a q
-      (desk_same w (above_exec.close_less h w fd s e) (record (w.desks h) { fds = put (w.desks h).fds fd None }) refl refl refl refl refl refl refl refl (λ i mine. absurd (none i mine)))
+      (desk_same w (above_exec.close_less h w fd s e) (record (w.desks h) { fds = put (w.desks h).fds fd None }) refl refl refl refl refl refl refl refl (λ i mine. absurd (none i mine))
+      (λ old. offsets_put w.files s (Some (record { file = e.file; sort = e.sort; references = e.references - 1 })) (λ d is. subst (λ (x : Entry). x.file.offset ≤ largest_size) (same_Some _ d is) (old s e at)) old))
 
-  closed_same : (w : above.World) (fd : ℕ) (o : Option ℕ) (e : Option Entry) (a : Option (Option ℕ)) (u : above.World) → ((i : ℕ) → w.lock i ≢ Some h) → close_at h w fd o e ≡ Ran a u → SameInodes h w u
-  closed_same w fd None e a u none q = ran_same h w w u None a q (all_same h w)
-  closed_same w fd (Some s) None a u none q = ran_same h w w u None a q (all_same h w)
-  closed_same w fd (Some s) (Some e) a u none q = close_same w fd s e (e.references == 1) a u none q
+  closed_same : (w : above.World) (fd : ℕ) (o : Option ℕ) (e : Option Entry) (a : Option (Option ℕ)) (u : above.World) → ((i : ℕ) → w.lock i ≢ Some h) → entry_at w.files o ≡ e → close_at h w fd o e ≡ Ran a u → SameInodes h w u
+  closed_same w fd None e a u none at q = ran_same h w w u None a q (all_same h w)
+  closed_same w fd (Some s) None a u none at q = ran_same h w w u None a q (all_same h w)
+  closed_same w fd (Some s) (Some e) a u none at q = close_same w fd s e (e.references == 1) a u none at q
 
   closed_runs : (w : above.World) (fd : ℕ) (o : Option ℕ) (e : Option Entry) → close_at h w fd o e ≡ Waits → ⊥
   closed_runs w fd None e q = no_wait None w q
@@ -290,7 +303,7 @@ module _ (l : Labels) (laws : Laws (labelled l)) (keeps : Keeps l) (h : ℕ) (lt
             subst (λ (d : Did shuts.Shut World). CameTo l laws keeps h (Shut fd) v ⊥ d shut_to (λ a. c)) (sym (in_tables_is h (steps.Close fd) v.real (λ a o. refl) (λ s. refl) (shut_descriptor h fd (tables_of v.real))))
             (from_both (Shut fd) v ⊥ shut_to (λ a b. a ≡ shut_as b) c (shut_descriptor h fd (tables_of v.real)) (above_exec.exec h above.Room (Shut fd) v.seen) refl
             (descriptors_are_shut h fd (tables_of v.real) v.seen (loaded (tables_of v.real)) shows.tables inv (runs_here v may.0) (λ i z. may.1.1 z i))
-            (closed_runs v.seen fd (slot_at v.seen h fd) (entry_of v.seen h fd)) (λ a b e. ap shut_to e ∙ shut_back b) (λ a u. closed_same v.seen fd (slot_at v.seen h fd) (entry_of v.seen h fd) a u may.1.0) shows base may.0),
+            (closed_runs v.seen fd (slot_at v.seen h fd) (entry_of v.seen h fd)) (λ a b e. ap shut_to e ∙ shut_back b) (λ a u. closed_same v.seen fd (slot_at v.seen h fd) (entry_of v.seen h fd) a u may.1.0 refl) shows base may.0),
       ))
 
   -- ---- what changes nothing

@@ -146,7 +146,7 @@ module _ (l : Labels) (laws : Laws (labelled l)) (keeps : Keeps l) (h : ℕ) (lt
             | inl q ↦ ap (put load n None) q ∙ put_same load n None
             | inr ne ↦ put_other load n None i ne ∙ shows.loads.typed i e
           ];
-        });
+        }) shows.offsets;
     same = tables_left h v.real t v.seen (locked h n v.seen) load (put load n None) shows.tables after
         (λ i. elim (same_or i n) [
           | inl q ↦ inr (ours_none h (v.seen.lock i) (ap v.seen.lock q ∙ unlocked), ours_some h (put v.seen.lock n (Some h) i) (ap (put v.seen.lock n (Some h)) q ∙ put_same v.seen.lock n (Some h)))

@@ -26,7 +26,7 @@ use Rattle.inodes_on_tables.proofs.Desks.{part_same}
 use Rattle.inodes_on_tables.proofs.Locks.{locks_are_given}
 use Rattle.inodes_on_tables.proofs.Named.{directories_are_settled}
 use Rattle.inodes_on_blocks.specs.Below.{World, log_of, tables_of, disk_of, inode_in}
-use Rattle.inodes_on_blocks.specs.Shown.{Shows}
+use Rattle.inodes_on_blocks.specs.Shown.{Shows, OffsetsShow}
 use Rattle.inodes_on_blocks.specs.Lowering.{Same, Had, Apart, Has, Emptied, Carry, record_had, IsLoaded, InHand, Base, Labels, labelled, Keeps}
 use Rattle.inodes_on_blocks.specs.Handlers.{give, settle}
 use Rattle.inodes_on_blocks.specs.Acting.{ActsOnce}
@@ -68,6 +68,7 @@ module _ (l : Labels) (laws : Laws (labelled l)) (keeps : Keeps l) (h : ℕ) (lt
     pub joined : (j : ℕ) → (u.desks j).joined ≡ (g.desks j).joined
     pub lender : (u.desks h).lender ≡ (g.desks h).lender
     pub opens : (i : ℕ) → i ≢ n → OpenStays h i g u
+    pub offsets : OffsetsShow g.files → OffsetsShow u.files
 
   -- by which the machine goes on, whichever operation it was
   module _ (n : ℕ) (v : World) (g : above.World) (c : Carry) (t : TablesState) (u : above.World) (shows : Shows v g) (base : Base h v g c) (mine : g.lock n ≡ Some h) (free : (g.desks h).lender ≡ None)
@@ -104,7 +105,7 @@ module _ (l : Labels) (laws : Laws (labelled l)) (keeps : Keeps l) (h : ℕ) (lt
             | inl q ↦ ap (put load n (record_had (c n))) q ∙ put_same load n (record_had (c n)) ∙ untyped (c n) (g.disk n) (inode_in (log_of v) n) hand.loaded_is ((λ z. sym s.disk z (sym q z)) ∙ e)
             | inr ne ↦ put_other load n (record_had (c n)) i ne ∙ shows.loads.typed i ((λ z. sym s.disk z i) ∙ e)
           ];
-        })
+        }) (s.offsets shows.offsets)
 
     pub given_same : (other : ℕ) → other ≢ h → Same other v (with_tables v t)
     given_same =
@@ -136,8 +137,8 @@ module _ (l : Labels) (laws : Laws (labelled l)) (keeps : Keeps l) (h : ℕ) (lt
   }
 
   pub unlocked_back : (n : ℕ) (g : above.World) (b : Bool) → GivesBack n g (unlocked n g b)
-  unlocked_back n g true = record { disk = refl; lock = refl; refs = refl; keeper = λ i ne. refl; size = refl; joined = λ j. refl; lender = refl; opens = λ i ne. open_alike h i g (unlocked n g true) refl refl }
-  unlocked_back n g false = record { disk = refl; lock = refl; refs = refl; keeper = λ i ne. put_other g.keeper n None i ne; size = refl; joined = λ j. refl; lender = refl; opens = λ i ne. open_alike h i g (unlocked n g false) refl refl }
+  unlocked_back n g true = record { disk = refl; lock = refl; refs = refl; keeper = λ i ne. refl; size = refl; joined = λ j. refl; lender = refl; opens = λ i ne. open_alike h i g (unlocked n g true) refl refl; offsets = λ old. old }
+  unlocked_back n g false = record { disk = refl; lock = refl; refs = refl; keeper = λ i ne. put_other g.keeper n None i ne; size = refl; joined = λ j. refl; lender = refl; opens = λ i ne. open_alike h i g (unlocked n g false) refl refl; offsets = λ old. old }
 
   pub unlocked_shows : (t : TablesState) (n : ℕ) (g : above.World) (load : ℕ → Option Dinode) (b : Bool) → tables.Shows t (record g { lock = put g.lock n None }) load → tables.Shows t (unlocked n g b) load
   unlocked_shows t n g load true s = record { sound = s.sound; places = s.places; files = s.files; desks = s.desks; lenders = s.lenders; range = s.range }
@@ -157,8 +158,8 @@ module _ (l : Labels) (laws : Laws (labelled l)) (keeps : Keeps l) (h : ℕ) (lt
 
   -- and the inode is the directory
   settled_back : (n : ℕ) (g : above.World) (b : Bool) → GivesBack n g (above_exec.with_directory (unlocked n g b) h n)
-  settled_back n g true = record { opens = λ i ne. open_alike h i g (above_exec.with_directory (unlocked n g true) h n) (part_same (λ d. d.fds) g.desks h (record (g.desks h) { directory = n; left = None }) h refl) refl; disk = refl; lock = refl; refs = refl; keeper = λ i ne. refl; size = refl; joined = λ j. part_same (λ d. d.joined) g.desks h (record (g.desks h) { directory = n; left = None }) j refl; lender = part_same (λ d. d.lender) g.desks h (record (g.desks h) { directory = n; left = None }) h refl }
-  settled_back n g false = record { opens = λ i ne. open_alike h i g (above_exec.with_directory (unlocked n g false) h n) (part_same (λ d. d.fds) g.desks h (record (g.desks h) { directory = n; left = None }) h refl) refl; disk = refl; lock = refl; refs = refl; keeper = λ i ne. put_other g.keeper n None i ne; size = refl; joined = λ j. part_same (λ d. d.joined) g.desks h (record (g.desks h) { directory = n; left = None }) j refl; lender = part_same (λ d. d.lender) g.desks h (record (g.desks h) { directory = n; left = None }) h refl }
+  settled_back n g true = record { offsets = λ old. old; opens = λ i ne. open_alike h i g (above_exec.with_directory (unlocked n g true) h n) (part_same (λ d. d.fds) g.desks h (record (g.desks h) { directory = n; left = None }) h refl) refl; disk = refl; lock = refl; refs = refl; keeper = λ i ne. refl; size = refl; joined = λ j. part_same (λ d. d.joined) g.desks h (record (g.desks h) { directory = n; left = None }) j refl; lender = part_same (λ d. d.lender) g.desks h (record (g.desks h) { directory = n; left = None }) h refl }
+  settled_back n g false = record { offsets = λ old. old; opens = λ i ne. open_alike h i g (above_exec.with_directory (unlocked n g false) h n) (part_same (λ d. d.fds) g.desks h (record (g.desks h) { directory = n; left = None }) h refl) refl; disk = refl; lock = refl; refs = refl; keeper = λ i ne. put_other g.keeper n None i ne; size = refl; joined = λ j. part_same (λ d. d.joined) g.desks h (record (g.desks h) { directory = n; left = None }) j refl; lender = part_same (λ d. d.lender) g.desks h (record (g.desks h) { directory = n; left = None }) h refl }
 
   pub settle_acts : (n : ℕ) (m : ℕ → Option above.Mark) → ActsOnce l h (Settle n) m (settle n)
   unfolding steps.exec premises.May settle_inode

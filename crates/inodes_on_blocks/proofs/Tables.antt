@@ -18,7 +18,7 @@ use Rattle.inodes_on_tables.specs.Shown as tables
 use Rattle.inodes_on_tables.specs.Shown.{loaded}
 use Rattle.inodes_on_blocks.specs.OnBlocks.{is_joined}
 use Rattle.inodes_on_blocks.specs.Below.{World, log_of, disk_of, inode_in}
-use Rattle.inodes_on_blocks.specs.Shown.{Shows, LoadsShow, if_joined}
+use Rattle.inodes_on_blocks.specs.Shown.{Shows, LoadsShow, OffsetsShow, if_joined}
 use Rattle.inodes_on_blocks.specs.Lowering.{Had, Carry, IsLoaded, InHand, Base, IsOpened}
 use Rattle.inodes_on_blocks.proofs.OpenFiles.{OpenStays, open_then}
 
@@ -44,8 +44,8 @@ module _ (h : ℕ) (lt : h < hart_count) (v : World) (g : above.World) (shows : 
   LockStep u i = (u.lock i ≡ g.lock i) ⊎ (((g.lock i ≡ None) × (u.lock i ≡ Some h)) ⊎ ((u.lock i ≡ None) × HoldsAt (disk_of (log_of v)) v.owner i (g.disk i)))
 
   pub shows_then : (t : TablesState) (u : above.World) (load : ℕ → Option Dinode) → tables.Shows t u load → u.disk ≡ g.disk → u.all.ninodes ≡ g.all.ninodes → ((j : ℕ) → (u.desks j).joined ≡ (g.desks j).joined) → ((i : ℕ) → LockStep u i)
-      → LoadsShow load (log_of v) u.refs u.lock u.disk → Shows (with_tables v t) u
-  shows_then t u load after disk size joined locks loads =
+      → LoadsShow load (log_of v) u.refs u.lock u.disk → OffsetsShow u.files → Shows (with_tables v t) u
+  shows_then t u load after disk size joined locks loads offsets =
       record {
         whole = shows.whole;
         runs = shows.runs;
@@ -69,6 +69,7 @@ module _ (h : ℕ) (lt : h < hart_count) (v : World) (g : above.World) (shows : 
         taken = shows.taken;
         commit = shows.commit;
         loads = record { seen = λ n d e. loads.seen n d (after.places.loads n ∙ e); dead = λ n some free dead. subst IsSome (after.places.loads n) (loads.dead n some free dead); typed = λ n e. sym (after.places.loads n) ∙ loads.typed n e };
+        offsets = offsets;
       }
     where
       old : IsRunning (disk_of (log_of v)) g.disk v.owner v.left (λ i. if_joined g.desks (g.lock i)) (is_joined (log_of v).members)

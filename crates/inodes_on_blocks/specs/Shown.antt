@@ -1,19 +1,19 @@
 -- What the machine below shows of the world of whole inodes, each part over the fields that it speaks of.
-use Rattle.std.specs.Prelude.{◌≡◌, ◌≢◌, ℕ, ◌<◌, List, length, Bool, true, Option, Some, None, IsSome, if◌then◌else◌}
+use Rattle.std.specs.Prelude.{◌≡◌, ◌≢◌, ℕ, ◌<◌, ◌≤◌, List, length, Bool, true, Option, Some, None, IsSome, if◌then◌else◌}
 use Rattle.fs_layout.specs.declared.inode.Dinode.{Dinode}
 use Rattle.fs_layout.specs.declared.superblock.Super.{Super}
 use Rattle.fs_layout.specs.Bytes.{IsBytes}
 use Rattle.fs_layout.specs.Recovered.{IsOutsideLog}
 use Rattle.group_log.specs.declared.phase.Phase.{Phase}
 use Rattle.group_log.specs.declared.phase.Phase.TheVariants.{Open, Halted}
-use Rattle.image_tree.specs.Checks.{IsData}
+use Rattle.image_tree.specs.Checks.{IsData, largest_size}
 use Rattle.plain_tree.specs.declared.node.Node.{Node}
 use Rattle.plain_tree.specs.Widths.{hart_count}
 use Rattle.fs_machine.specs.LogPart.{LogPart}
 use Rattle.fs_machine.specs.Shown.{seen_of}
 use Rattle.fs_machine.specs.Whole.{IsWholeLog}
 use Rattle.inode_machine.specs.World as above
-use Rattle.inode_machine.specs.World.{Desk}
+use Rattle.inode_machine.specs.World.{Desk, Entry}
 use Rattle.inode_machine.specs.Exec.{is_dead}
 use Rattle.inodes_on_tables.specs.Shown as tables
 use Rattle.inodes_on_tables.specs.Shown.{loaded}
@@ -55,6 +55,12 @@ abbrev pub CommitShows : Option ℕ → Phase → Type 0
 CommitShows None phase = phase ≡ Open
 CommitShows (Some h) phase = phase ≢ Open
 
+-- ---- open files
+
+-- one stands no further than a content may be long
+abbrev pub OffsetsShow : (ℕ → Option Entry) → Type 0
+OffsetsShow files = (k : ℕ) (e : Entry) → files k ≡ Some e → e.file.offset ≤ largest_size
+
 -- ---- all of it
 
 pub record Shows (r : World) (w : above.World) : Type 0 where
@@ -68,3 +74,4 @@ pub record Shows (r : World) (w : above.World) : Type 0 where
   pub taken : TakenShow (log_of r).sizes r.owner r.left r.taken
   pub commit : CommitShows r.commits (log_of r).phase
   pub loads : LoadsShow (loaded (tables_of r)) (log_of r) w.refs w.lock w.disk
+  pub offsets : OffsetsShow w.files
