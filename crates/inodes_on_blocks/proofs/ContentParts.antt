@@ -1,16 +1,10 @@
 -- The bytes of a content, as its blocks have them: what is read part by part, and what a node's content is.
-use Rattle.std.proofs.Common.{◌≡◌, ⊎_elim, ℕ, zero, suc, ◌+◌, ◌-◌, ◌*◌, ◌/◌, ◌%◌, ◌<◌, ◌≤◌, ◌^◌, List, [], ◌∷◌, ◌++◌, length, take, drop, get_or, replicate, Option, Some, None, refl, sym, ap, subst, ◌∙◌, arith, append_assoc, length-append, false}
+use Rattle.std.proofs.Common.{◌≡◌, ⊎_elim, ℕ, zero, suc, ◌+◌, ◌-◌, ◌*◌, ◌/◌, ◌%◌, ◌<◌, ◌≤◌, List, [], ◌++◌, length, take, drop, refl, sym, ap, ◌∙◌, arith, append_assoc, length-append}
 use Rattle.std.specs.Prelude.{min}
 use Rattle.std.proofs.lemmas.Bool.{cases_lt, cases_eq}
-use Rattle.std.proofs.lemmas.Option.{same_Some}
 use Rattle.std.proofs.lemmas.List.{append-nil, drop-append-le, take-append-le, drop_at, take_all, drop-drop, drop_all, length-drop, length-take, take-take}
-use Rattle.fs_layout.specs.declared.inode.Dinode.{Dinode}
-use Rattle.fs_layout.specs.declared.entry.Dirent.{Dirent}
-use Rattle.fs_layout.specs.declared.entry.Dirent.TheVariants.{Free, Used}
-use Rattle.fs_layout.specs.Bytes.{overwrite, record_at, u16_bytes, IsBytes}
-use Rattle.fs_layout.specs.Entry.{spell_dirent, dirent_of}
-use Rattle.fs_layout.proofs.Entries.{spell-dirent_of}
-use Rattle.inode_data.specs.Programs.{Filled, filled_with, next_block, blocks_between, part_of, end_of}
+use Rattle.fs_layout.specs.Bytes.{overwrite}
+use Rattle.inode_data.specs.Programs.{Filled, filled_with, next_block, blocks_between, part_of}
 use Rattle.inode_data.proofs.ReadLaw.{side_by_side, drop_of_take, none_between, some_between, next_between}
 use Rattle.inodes_on_blocks.proofs.ContentReads.{filled_from}
 

@@ -52,6 +52,8 @@ pub mod NodeBytes
 pub mod DirectorySearches
 pub mod TakeSteps
 pub mod LockSteps
+pub mod ReadParts
+pub mod ReadSteps
 pub mod Mounted
 pub mod Changing
 pub mod NamingPuts

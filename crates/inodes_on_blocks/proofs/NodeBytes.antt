@@ -1,18 +1,16 @@
 -- The content of an inode's node is the bytes that its blocks have.
-use Rattle.std.proofs.Common.{◌≡◌, ◌≢◌, ⊎_elim, ℕ, ℤ, zero, suc, ◌+◌, ◌-◌, ◌*◌, ◌/◌, ◌%◌, ◌<◌, ◌≤◌, ◌^◌, ◌==◌, ◌&&◌, Bool, true, false, List, [], ◌∷◌, ◌++◌, length, take, drop, get_or, replicate, Option, Some, None, refl, sym, ap, subst, ◌∙◌, arith, append_assoc, length-append, if◌then◌else◌}
+use Rattle.std.proofs.Common.{◌≡◌, ◌≢◌, ℕ, ℤ, zero, suc, ◌+◌, ◌-◌, ◌*◌, ◌/◌, ◌%◌, ◌<◌, ◌^◌, ◌==◌, ◌&&◌, Bool, true, false, List, [], ◌∷◌, ◌++◌, length, take, drop, get_or, replicate, Option, Some, None, refl, sym, ap, subst, ◌∙◌, arith, if◌then◌else◌}
 use Rattle.std.specs.List.{list_all, position_or_len}
 use Rattle.std.proofs.lemmas.Option.{same_Some, none-some}
 use Rattle.std.proofs.lemmas.List.{drop-drop, length-drop, length-take, take-take, take-append-drop}
 use Rattle.fs_layout.specs.declared.inode.Dinode.{Dinode}
-use Rattle.fs_layout.specs.declared.entry.Dirent.{Dirent}
 use Rattle.fs_layout.specs.declared.entry.Dirent.TheVariants.{Free, Used}
 use Rattle.fs_layout.specs.Bytes.{record_at, u16_at, u16_bytes, IsBytes}
-use Rattle.fs_layout.specs.Entry.{spell_dirent, dirent_of, free_of, used_of, name_of}
+use Rattle.fs_layout.specs.Entry.{dirent_of, free_of, used_of, name_of}
 use Rattle.fs_layout.specs.Name.{is_name, is_zero}
 use Rattle.fs_layout.proofs.Entries.{spell-dirent_of}
 use Rattle.fs_layout.proofs.Numbers.{u16_at-lt}
-use Rattle.directory.specs.Laws.{slot_at}
-use Rattle.image_tree.specs.Inodes.{inode_of, is_free, content_block, blocks_for, front_blocks, content_of}
+use Rattle.image_tree.specs.Inodes.{inode_of, is_free, content_block, blocks_for, front_blocks}
 use Rattle.image_laws.specs.Holds.{HoldsAt, HasContent, entry_of, size_in}
 use Rattle.plain_tree.specs.declared.node.Slot.{Slot}
 use Rattle.plain_tree.specs.declared.node.Node.{Node}

@@ -2,8 +2,8 @@
 
 ghost use Rattle.std.specs.Prelude.{ℕ};
 ghost use Rattle.fs_layout.specs.declared.superblock.Super.{Super};
-ghost use Rattle.inode_machine.specs.World.Op.{LockFile, LockOpen};
-ghost use Rattle.inodes_on_blocks.specs.Files.{lock_file, lock_open};
+ghost use Rattle.inode_machine.specs.World.Op.{LockFile, LockOpen, ReadFile};
+ghost use Rattle.inodes_on_blocks.specs.Files.{lock_file, lock_open, read_file};
 ghost use Rattle.inodes_on_blocks.specs.Acting.{DoesItAt};
 
 /// The lock of what a descriptor names is taken to read it, at the moment at which it is had, and the inode read from its block
@@ -15,4 +15,9 @@ pub fn locks_to_read_act_once()
 /// So it is to write.
 pub fn locks_to_write_act_once()
     ensures { (sizes : Super) (fd n : ℕ) → DoesItAt sizes (LockOpen fd n) (lock_open sizes fd n) }
+{}
+
+/// A part of the file is read block by block, and the lock given up: there the offset moves by as much as was read.
+pub fn reads_act_once()
+    ensures { (sizes : Super) (fd n offset count : ℕ) → DoesItAt sizes (ReadFile fd n offset count) (read_file fd n offset count) }
 {}

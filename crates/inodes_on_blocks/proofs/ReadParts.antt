@@ -1,0 +1,119 @@
+-- A part of the content of an inode that holds its node: what its blocks have of it, and how long that is.
+use Rattle.std.proofs.Common.{◌≡◌, ◌≢◌, ⊎_elim, ℕ, ℤ, ◌+◌, ◌-◌, ◌*◌, ◌/◌, ◌<◌, ◌≤◌, Bool, cond, false, List, [], length, take, drop, Some, None, refl, sym, ◌∙◌, ap, subst, arith}
+use Rattle.std.proofs.lemmas.Bool.{cases_lt, lt-ltb, le-ltb}
+use Rattle.std.proofs.lemmas.List.{length-drop, length-take}
+use Rattle.std.proofs.lemmas.Option.{none-some}
+use Rattle.fs_layout.specs.declared.inode.Dinode.{Dinode}
+use Rattle.fs_layout.specs.Bytes.{IsBytes}
+use Rattle.fs_layout.specs.Widths.{block_len}
+use Rattle.image_tree.specs.Checks.{largest_size}
+use Rattle.image_tree.specs.Inodes.{is_free, content_block, blocks_for, numbers_of, block_number}
+use Rattle.image_laws.specs.Holds.{HoldsAt}
+use Rattle.inode_data.specs.Programs.{blocks_between, end_of}
+use Rattle.plain_tree.specs.declared.answer.Cause.TheVariants.{NoDriver}
+use Rattle.plain_tree.specs.declared.node.Node.{Node}
+use Rattle.plain_tree.specs.declared.node.Kind.TheVariants.{Device}
+use Rattle.plain_tree.specs.Steps as tree
+use Rattle.plain_tree.specs.Steps.{no_driver}
+use Rattle.fs_machine.specs.Shown.{seen_of}
+use Rattle.inode_machine.specs.Exec.{part_of}
+use Rattle.inode_machine.specs.World as above
+use Rattle.inodes_on_blocks.specs.Below.{World, log_of, disk_of, inode_in}
+use Rattle.inodes_on_blocks.specs.Shown.{Shows}
+use Rattle.inodes_on_blocks.proofs.ContentBlocks.{data_place, block_data, block_seen}
+use Rattle.inodes_on_blocks.proofs.ContentParts.{front, with_bytes, read_all, up_to}
+use Rattle.inodes_on_blocks.proofs.ContentReads.{filled_from}
+use Rattle.inodes_on_blocks.proofs.NodeBytes.{all_whole, node_bytes}
+
+-- how many blocks have bytes between two offsets
+many_between : (from upto : ℕ) → from < upto → blocks_between from upto ≡ ((upto - 1) / 1024 + 1) - from / 1024
+many_between from upto lt = ap (λ (b : Bool). cond b (((upto - 1) / 1024 + 1) - from / 1024) 0) (lt-ltb from upto lt)
+
+none_there : (from upto : ℕ) → upto ≤ from → blocks_between from upto ≡ 0
+none_there from upto le = ap (λ (b : Bool). cond b (((upto - 1) / 1024 + 1) - from / 1024) 0) (le-ltb from upto le)
+
+few_between : (from upto : ℕ) → upto ≤ largest_size → blocks_between from upto ≤ 268
+few_between from upto small =
+    ⊎_elim
+    (λ (lt : from < upto). let many = many_between from upto lt in omega (arith, many, small))
+    (λ (le : upto ≤ from). let none = none_there from upto le in omega (arith, none))
+    (cases_lt from upto)
+
+-- and each of these begins before the second one
+within_between : (from upto q : ℕ) → q < blocks_between from upto → 1024 * (from / 1024 + q) < upto
+within_between from upto q below =
+    ⊎_elim
+    (λ (lt : from < upto). let many = many_between from upto lt in omega (arith, many, below, lt))
+    (λ (le : upto ≤ from). let none = none_there from upto le in absurd (omega (arith, none, below)))
+    (cases_lt from upto)
+
+-- what has no driver is a device
+not_device : (v : Node) → no_driver v.kind ≡ None → (major minor : ℤ) (size : ℕ) → v.kind ≢ Device major minor size
+not_device v plain major minor size e = none-some NoDriver (sym plain ∙ ap no_driver e)
+
+module _ (v : World) (g : above.World) (shows : Shows v g) (n : ℕ) (node : Node) (holds : HoldsAt (disk_of (log_of v)) v.owner n (Some node)) (used : is_free (inode_in (log_of v) n) ≡ false) (plain : no_driver node.kind ≡ None) (offset count : ℕ) where
+  abbrev disk : List (List ℕ)
+  disk = disk_of (log_of v)
+
+  abbrev d : Dinode
+  d = inode_in (log_of v) n
+
+  abbrev pub block : ℕ → List ℕ
+  block k = content_block disk d k
+
+  abbrev all : List ℕ
+  all = front block (blocks_for d.size)
+
+  small : d.size ≤ largest_size
+  small = (holds.room used).limit
+
+  block_is : (k : ℕ) → block_len * k < d.size → block k ≡ seen_of (log_of v) (block_number (numbers_of disk d) k)
+  block_is k below = sym (block_seen v g shows n (Some node) holds used k below)
+
+  whole : (k : ℕ) → 1024 * k < d.size → length (block k) ≡ 1024
+  whole k below =
+      let at = data_place v g shows (block_number (numbers_of disk d) k) (block_data v g shows n (Some node) holds used k below) in
+      let small_ = at.1 in
+      let sized = shows.blocks.seen.sized in
+      ap length (block_is k below) ∙ shows.blocks.seen.whole (block_number (numbers_of disk d) k) (omega (arith, small_, sized)) at.0
+
+  fits : (k : ℕ) → 1024 * k < d.size → IsBytes (block k)
+  fits k below =
+      let at = data_place v g shows (block_number (numbers_of disk d) k) (block_data v g shows n (Some node) holds used k below) in
+      let small_ = at.1 in
+      let sized = shows.blocks.seen.sized in
+      subst IsBytes (sym (block_is k below)) (shows.bytes (block_number (numbers_of disk d) k) (omega (arith, small_, sized)) at.0)
+
+  content_is : take d.size all ≡ tree.content node.kind
+  content_is = node_bytes disk v.owner n node holds used whole fits (not_device node plain)
+
+  -- it ends at the size
+  pub ends_within : end_of d offset count ≤ d.size
+  ends_within = omega arith
+
+  -- What the blocks have between the offset and its end is the node's part.
+  pub part_read : filled_from block (blocks_between offset (end_of d offset count)) offset (end_of d offset count) (with_bytes []) ≡ with_bytes (part_of (Some node) offset count)
+  part_read =
+      let ends = ends_within in
+      let limit = small in
+      read_all block (blocks_for d.size) (all_whole disk v.owner n node holds used whole fits) (blocks_between offset (end_of d offset count)) offset (end_of d offset count) (with_bytes []) refl refl (omega (arith, ends))
+      ∙ ap with_bytes
+      (ap (λ (upto : ℕ). drop offset (take upto all)) (omega (arith, limit))
+      ∙ up_to offset count d.size all
+      ∙ ap (λ (xs : List ℕ). take count (drop offset xs)) content_is)
+
+  -- and with it a file stands no further than a content may be long
+  pub part_short : offset ≤ largest_size → offset + length (part_of (Some node) offset count) ≤ largest_size
+  part_short within =
+      let limit = small in
+      let long = length-take d.size all in
+      let same : length (take d.size all) ≡ length (tree.content node.kind) = ap length content_is in
+      let rest = length-drop offset (tree.content node.kind) in
+      let part = length-take count (drop offset (tree.content node.kind)) in
+      omega (arith, limit, long, same, rest, part, within)
+
+  pub few_blocks : blocks_between offset (end_of d offset count) ≤ 268
+  few_blocks = let ends = ends_within in let limit = small in few_between offset (end_of d offset count) (omega (arith, ends, limit))
+
+  pub blocks_within : (q : ℕ) → q < blocks_between offset (end_of d offset count) → block_len * (offset / block_len + q) < d.size
+  blocks_within q below = let here = within_between offset (end_of d offset count) q below in let ends = ends_within in omega (arith, here, ends)

@@ -1,0 +1,9 @@
+use Rattle.inode_machine.specs.World.Op.{ReadFile}
+use Rattle.inodes_on_blocks.specs.Files.{read_file}
+use Rattle.inodes_on_blocks.specs.Acting.{alone}
+use Rattle.inodes_on_blocks.proofs.ReadSteps.{read_acts}
+use Rattle.inodes_on_blocks.proofs.Alone.{alone_laws, alone_keeps, does_it_at}
+use Rattle.inodes_on_blocks.proofs.files.reads_act_once.Goals as goal
+
+pub returns : goal.returns
+returns c = λ sizes fd n offset count. does_it_at sizes (ReadFile fd n offset count) (read_file fd n offset count) (λ h lt m. read_acts alone alone_laws alone_keeps h lt sizes fd n offset count m)
