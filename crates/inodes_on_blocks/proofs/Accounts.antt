@@ -15,7 +15,7 @@ use Rattle.inodes_on_blocks.specs.Accounts.{recorded_in, used, Accounts, IsSpent
 
 -- ---- members
 
-one_more_at : (ms : List (Option ℕ)) (h k : ℕ) → slice_get (one_more ms h) h ≡ Some (Some k) → (j : ℕ) × (slice_get ms h ≡ Some (Some j)) × (k ≡ j + 1)
+pub one_more_at : (ms : List (Option ℕ)) (h k : ℕ) → slice_get (one_more ms h) h ≡ Some (Some k) → (j : ℕ) × (slice_get ms h ≡ Some (Some j)) × (k ≡ j + 1)
 one_more_at [] h k e = absurd (cc e)
 one_more_at (None ∷ ms) zero k e = absurd (cc e)
 one_more_at (Some j ∷ ms) zero k e = (j, refl, (let same : j + 1 ≡ k = cc e in sym same))

@@ -42,7 +42,7 @@ pub record Touched (h : ℕ) (Stage : above.World → Type 0) (w v : Both World 
   pub inv : Inv v.seen
   pub stage : Stage v.seen
 
-either_place : (k : ℕ) (X : Type 0) → (k < 12 → nat_lt k 12 ≡ true → X) → (12 ≤ k → nat_lt k 12 ≡ false → X) → X
+pub either_place : (k : ℕ) (X : Type 0) → (k < 12 → nat_lt k 12 ≡ true → X) → (12 ≤ k → nat_lt k 12 ≡ false → X) → X
 either_place k X near far = by (nat_lt k 12) refl
   where
     by : (b : Bool) → nat_lt k 12 ≡ b → X

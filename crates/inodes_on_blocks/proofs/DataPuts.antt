@@ -56,7 +56,7 @@ data_home r g shows b block =
     }
 
 -- the inode's, or taken
-own_or_taken : (h n b : ℕ) (r : World) → owner_with h n r b ≡ n → (r.owner b ≡ n) ⊎ (r.taken b ≡ Some h)
+pub own_or_taken : (h n b : ℕ) (r : World) → owner_with h n r b ≡ n → (r.owner b ≡ n) ⊎ (r.taken b ≡ Some h)
 own_or_taken h n b r own = elim (either (is_hart (r.taken b) h)) [
   | inl mine ↦ inr (hart_is (r.taken b) h mine)
   | inr apart ↦ inl (sym (ap (λ (t : Bool). if t then n else r.owner b) apart) ∙ own)

@@ -28,11 +28,11 @@ use Rattle.inodes_on_blocks.proofs.Emptying.{none_yet, s-numbers}
 
 -- ---- what the others leave
 
-record Changing (h n : ℕ) (fs : List Done) (g : above.World) : Type 0 where
-  none : fs ≡ []
-  is : IsChanging h n g
-  keeps : g.keeper n ≡ Some h
-  free : (g.desks h).lender ≡ None
+pub record Changing (h n : ℕ) (fs : List Done) (g : above.World) : Type 0 where
+  pub none : fs ≡ []
+  pub is : IsChanging h n g
+  pub keeps : g.keeper n ≡ Some h
+  pub free : (g.desks h).lender ≡ None
 
 has_lock : (o : Option ℕ) (h : ℕ) → is_hart o h ≡ true → o ≡ Some h
 has_lock None h e = absurd (cc e)
@@ -41,7 +41,7 @@ has_lock (Some g) h e = ap (λ (z : ℕ). Some z) (eq_is g h e)
 is_locked : (o : Option ℕ) (h : ℕ) → o ≡ Some h → is_hart o h ≡ true
 is_locked o h e = ap (λ (z : Option ℕ). is_hart z h) e ∙ eq_self h
 
-stays : (h n : ℕ) (xs fs : List Done) (g u : above.World) → (xs ≡ []) × Kept h g u → Changing h n fs g → Changing h n (onto xs fs) u
+pub stays : (h n : ℕ) (xs fs : List Done) (g u : above.World) → (xs ≡ []) × Kept h g u → Changing h n fs g → Changing h n (onto xs fs) u
 stays h n xs fs g u o c =
     let same = o.1.same c.free in
     let desk = ap (λ (z : Own). z.desk) same in
@@ -59,7 +59,7 @@ stays h n xs fs g u o c =
 -- ---- the law
 
 -- what comes to an end comes to the same without more behind it
-bind-end : {Op : Type 0} {Answer : Op → Type 0} {M A : Type 0} (p : Prog Op Answer M A) → bind p (λ a. Ret a) ≡ p
+pub bind-end : {Op : Type 0} {Answer : Op → Type 0} {M A : Type 0} (p : Prog Op Answer M A) → bind p (λ a. Ret a) ≡ p
 bind-end (Ret a) = refl
 bind-end (Do op m k) = λ i. Do op m (λ a. bind-end (k a) i)
 

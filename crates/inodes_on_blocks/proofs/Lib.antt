@@ -65,3 +65,8 @@ pub mod Spending
 pub mod Spends
 pub mod Withins
 pub mod QuietWorlds
+pub mod Taking
+pub mod TakingSteps
+pub mod OwnPuts
+pub mod BlockTaking
+pub mod Taken

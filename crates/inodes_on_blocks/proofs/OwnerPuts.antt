@@ -161,7 +161,7 @@ module _ (h n : ℕ) (r : World) (g : above.World) (shows : Shows r g) (bytes : 
     still_set : (c : ℕ) → is_marked (disk_of l) c ≡ true → is_marked (disk_of now) c ≡ true
     still_set c set = same_bit c (λ q. absurd (let z : false ≡ true = sym clear ∙ ap (is_marked (disk_of l)) (sym q) ∙ set in cc)) ∙ set
 
-    owner_taken : (c : ℕ) → IsData (sizes_of (disk_of l)) c → then_.owner c ≡ r.owner c
+    pub owner_taken : (c : ℕ) → IsData (sizes_of (disk_of l)) c → then_.owner c ≡ r.owner c
     owner_taken c block = elim (either (is_marked (disk_of now) c)) [
       | inl set ↦ rw set refl
       | inr off ↦ (rw off refl) ∙ sym (unowned off)
@@ -207,7 +207,7 @@ module _ (h n : ℕ) (r : World) (g : above.World) (shows : Shows r g) (bytes : 
       | inr off ↦ (rw (same_bit c ne ∙ off) refl) ∙ sym (sym (shows.blocks.running.no_others.free c block none) ∙ off)
     ]
 
-    taken_other : (c : ℕ) → c ≢ b → then_.taken c ≡ r.taken c
+    pub taken_other : (c : ℕ) → c ≢ b → then_.taken c ≡ r.taken c
     taken_other c ne = elim (either (is_marked (disk_of l) c)) [
       | inl set ↦ taken_old c set
       | inr off ↦ (rw (same_bit c ne ∙ off) refl) ∙ sym (none (r.taken c) refl off)

@@ -54,7 +54,7 @@ use Rattle.inodes_on_blocks.proofs.BitmapPuts.{bitmaps_put_bits}
 
 -- ---- bytes
 
-set_bytes : (xs : List ℕ) (k x : ℕ) → x < 256 → IsBytes xs → IsBytes (slice_set xs k x)
+pub set_bytes : (xs : List ℕ) (k x : ℕ) → x < 256 → IsBytes xs → IsBytes (slice_set xs k x)
 set_bytes [] k x small are i = are i
 set_bytes (y ∷ xs) zero x small are zero = small
 set_bytes (y ∷ xs) zero x small are (suc i) = are (suc i)
@@ -184,7 +184,7 @@ gave_then h n b v u w g shows mine p q =
     }
 
 -- the bitmap may be recorded
-bitmap_home : (r : World) (g : above.World) → Shows r g → IsHome (log_of r).contents (log_of r).sizes (log_of r).sizes.bmapstart
+pub bitmap_home : (r : World) (g : above.World) → Shows r g → IsHome (log_of r).contents (log_of r).sizes (log_of r).sizes.bmapstart
 bitmap_home r g shows =
     let good = shows.blocks.seen.good in
     let start = good.logstart in

@@ -47,7 +47,7 @@ u16s : (n : ℕ) → IsBytes (u16_bytes n)
 unfolding u16_bytes
 u16s n = cons_bytes (byte_at 0 n) (byte_at 1 n ∷ []) (byte_small 0 n) (cons_bytes (byte_at 1 n) [] (byte_small 1 n) none_bytes)
 
-u32s : (n : ℕ) → IsBytes (u32_bytes n)
+pub u32s : (n : ℕ) → IsBytes (u32_bytes n)
 unfolding u32_bytes
 u32s n =
     cons_bytes (byte_at 0 n) (byte_at 1 n ∷ byte_at 2 n ∷ byte_at 3 n ∷ []) (byte_small 0 n)

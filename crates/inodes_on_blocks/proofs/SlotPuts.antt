@@ -31,7 +31,7 @@ pub dirent_bytes : (place : ℕ) (entry : Dirent) (block : List ℕ) → IsBytes
 unfolding with_dirent
 dirent_bytes place entry block are spelled = overwrite_bytes block (spell_dirent entry) (16 * place) are spelled
 
-zero_bytes : (n : ℕ) → IsBytes (replicate n 0)
+pub zero_bytes : (n : ℕ) → IsBytes (replicate n 0)
 zero_bytes zero i = omega arith
 zero_bytes (suc n) zero = omega arith
 zero_bytes (suc n) (suc i) = zero_bytes n i

@@ -16,10 +16,10 @@ use Rattle.inodes_on_blocks.proofs.Accounts.{transactions_have_room, spent_put, 
 use Rattle.inodes_on_blocks.proofs.Committing.{is_member}
 use Rattle.inodes_on_blocks.proofs.Groups.{member_at}
 
-left : (h : ℕ) (v w : World) → Same h v w → LeavesGroup h (log_of v) (log_of w)
+pub left : (h : ℕ) (v w : World) → Same h v w → LeavesGroup h (log_of v) (log_of w)
 left h v w same = record { member = same.member; sizes = same.sizes; group = λ c m e. let at = member_at (log_of v).members h m in same.group c at.0 at.1 e }
 
-left_but : (h k : ℕ) (v w : World) → SameBut h k v w → LeavesGroup h (log_of v) (log_of w)
+pub left_but : (h k : ℕ) (v w : World) → SameBut h k v w → LeavesGroup h (log_of v) (log_of w)
 left_but h k v w same = record { member = same.member; sizes = same.sizes; group = λ c m e. let at = member_at (log_of v).members h m in same.group c at.0 at.1 e }
 
 -- the others leave it so
@@ -53,7 +53,7 @@ other_spends sizes h b s few = record {
 
 -- ---- what an operation on an inode spends
 
-has_number : (ks : List ℕ) (n : ℕ) → budget.has (with_number ks n) n ≡ true
+pub has_number : (ks : List ℕ) (n : ℕ) → budget.has (with_number ks n) n ≡ true
 has_number ks n = pick (budget.has ks n) (λ t. budget.has (if t then ks else n ∷ ks) n ≡ true) (λ e. e) (λ _. ap (λ (t : Bool). t || budget.has ks n) (eq_self n))
 
 -- the inode's block

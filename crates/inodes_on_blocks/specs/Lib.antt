@@ -20,3 +20,4 @@ pub mod Mounted
 pub mod Naming
 pub mod Spending
 pub mod QuietWorlds
+pub mod Taking

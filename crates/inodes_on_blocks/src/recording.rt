@@ -3,6 +3,7 @@
 
 ghost use Rattle.inodes_on_blocks.specs.Recording.{BitmapsPutBits, ClearedBitsLeave, DataPutsLeave, MarksAreBits, NamingPutsLeave, RecordPutsLeave, RecordedPutsKeep, SetBitsLeave};
 ghost use Rattle.inodes_on_blocks.specs.Giving.{BlocksAreGivenBack, NumbersAreGivenBack};
+ghost use Rattle.inodes_on_blocks.specs.Taking.{BlocksAreTaken};
 
 /// A block that is recorded for an inode, whose lock the hart has, in its transaction, leaves the others theirs and the world
 /// above as it is shown.
@@ -53,4 +54,9 @@ pub fn blocks_are_given_back()
 /// So are all its blocks, one after the other.
 pub fn numbers_are_given_back()
     ensures { NumbersAreGivenBack }
+{}
+
+/// A block is taken for the inode whatever the other harts do: it is the hart's, of zeros, until a record names it; or none is free.
+pub fn blocks_are_taken()
+    ensures { BlocksAreTaken }
 {}

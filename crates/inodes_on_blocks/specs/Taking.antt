@@ -1,0 +1,53 @@
+-- A block taken between two operations above: where the hart that is changing an inode goes on.
+use Rattle.std.specs.Prelude.{◌≡◌, ◌≢◌, ℕ, true, ◌<◌, [], Option, Some, None}
+use Rattle.fs_layout.specs.declared.inode.Dinode.{Dinode}
+use Rattle.fs_layout.specs.declared.superblock.Super.{Super}
+use Rattle.fs_layout.specs.Recovered.{recovered}
+use Rattle.plain_tree.specs.declared.node.Node.{Node}
+use Rattle.plain_tree.specs.Widths.{hart_count}
+use Rattle.image_tree.specs.Checks.{IsData, is_marked}
+use Rattle.image_laws.specs.Holds.{HasContent}
+use Rattle.atomic_programs.specs.Logic.{Wp}
+use Rattle.atomic_programs.specs.Joined.{Both, joined}
+use Rattle.fs_tables.specs.Tables.{holder_of as lock_holder}
+use Rattle.bitmap_alloc.specs.Bytes.{zeros}
+use Rattle.bitmap_alloc.specs.Programs.{take_block}
+use Rattle.inode_machine.specs.Budget.{Spent, size, with_contents, most_recorded}
+use Rattle.inode_machine.specs.World as above
+use Rattle.inodes_on_blocks.specs.Below.{World, log_of, tables_of, disk_of, inode_in}
+use Rattle.inodes_on_blocks.specs.Shown.{Shows}
+use Rattle.inodes_on_blocks.specs.Lowering.{Kept, Carry, InHand, Stands, below}
+use Rattle.inodes_on_blocks.specs.Acting.{whole}
+use Rattle.inodes_on_blocks.specs.Holding.{in_hand}
+use Rattle.inodes_on_blocks.specs.Recording.{IsChanging}
+use Rattle.inodes_on_blocks.specs.Room.{HasSpent}
+
+-- a data block of zeros that the hart has taken: its bit is set, and it is no inode's
+pub record HasTaken (sizes : Super) (h b : ℕ) (r : World) : Type 0 where
+  pub block : IsData sizes b
+  pub taken : r.taken b ≡ Some h
+  pub marked : is_marked (disk_of (log_of r)) b ≡ true
+  pub unowned : r.owner b ≡ 0
+  pub zeros_are : recovered (disk_of (log_of r)) b ≡ zeros
+
+-- Where it goes on, from w, at v: it is changing inode n still, whose record d names what it named, with the same content; and has its other inodes, and no buffer.
+pub record ChangesStill (h n : ℕ) (c : Carry) (d : Dinode) (x : Node) (w v : Both World above.World) : Type 0 where
+  pub changing : IsChanging h n v.seen
+  pub kept : Kept h w.seen v.seen
+  pub shows : Shows v.real v.seen
+  pub content : HasContent (disk_of (log_of v.real)) d x.kind
+  pub inodes : (i : ℕ) → i ≢ n → lock_holder i (tables_of v.real) ≡ Some h → InHand h i (c i) v.real v.seen
+  pub free : in_hand h v.real ≡ 0
+
+-- what was taken, and spent
+abbrev pub TookOne : Super → ℕ → Spent → Option ℕ → World → Type 0
+TookOne sizes h s None r = HasSpent sizes h s r
+TookOne sizes h s (Some b) r = HasTaken sizes h b r × HasSpent sizes h (with_contents 1 s) r
+
+-- The program that takes a block does so for an inode that the hart is changing, whatever the other harts do, where what its transaction has spent has the bitmap and
+-- is less than ten blocks; or no block is free. No operation acts above.
+abbrev pub BlocksAreTaken : Type 0
+BlocksAreTaken =
+    (sizes : Super) (h n : ℕ) (c : Carry) (x : Node) (s : Spent) (w : Both World above.World) → h < hart_count → IsChanging h n w.seen → (w.seen.desks h).lender ≡ None
+    → Stands sizes h w.real w.seen c → lock_holder n (tables_of w.real) ≡ Some h → w.seen.disk n ≡ Some x → s.bitmap ≡ true → size s < most_recorded → HasSpent sizes h s w.real
+    → Wp (joined whole (below sizes)) h (λ es. es ≡ []) (λ a es v. (es ≡ []) × ChangesStill h n c (inode_in (log_of w.real) n) x w v × TookOne sizes h s a v.real) (take_block sizes.bmapstart sizes.size) 6 [] w
