@@ -67,6 +67,10 @@ pub mod Withins
 pub mod QuietWorlds
 pub mod Taking
 pub mod TakingSteps
+pub mod BlocksRoom
 pub mod OwnPuts
 pub mod BlockTaking
 pub mod Taken
+pub mod NumberPuts
+pub mod LocateSteps
+pub mod PartSteps
