@@ -65,6 +65,7 @@ acts_did h v all p alone next D c lt inv none fits =
       ids = fits.ids;
       shop = fits.shop;
       free = fits.free;
+      raised = λ q. fits.joined;
       quiet = λ j is f. absurd (let e = fits.joined in cc (e, f));
       sort = fits.sort;
       sorts = λ k e is. elim (fits.sort e.file.number) [ inl q ↦ q ∙ inv.sorts k e is | inr q ↦ absurd (lone_file h e.file.number k e v inv lt q.1 q.0 is refl) ];

@@ -3,6 +3,8 @@ use Rattle.std.proofs.Common.{◌≡◌, ◌≢◌, inl, inr, ℕ, ◌+◌, ◌<
 use Rattle.plain_tree.specs.declared.tree.OpenFile.{OpenFile}
 use Rattle.plain_tree.specs.Widths.{hart_count, descriptor_count}
 use Rattle.plain_tree.specs.HartRow.{row_of}
+use Rattle.plain_tree.specs.declared.tree.Hold.{Hold}
+use Rattle.plain_tree.specs.Steps.{holds_raised}
 use Rattle.tree_laws.specs.WellFormed.{sum_below, IsWellFormed}
 use Rattle.tree_laws.proofs.Maps.{eq_self, same_or}
 use Rattle.tree_laws.proofs.Sums.{one_yes}
@@ -44,6 +46,7 @@ pub record Serves (h c : ℕ) (v : World) (F : ℕ → Option Entry) (D : ℕ �
   pub left : (D h).left ≡ (v.desks h).left
   pub opening : (D h).opening ≡ (v.desks h).opening
   pub lender : (D h).lender ≡ None
+  pub joined : (D h).joined ≡ (v.desks h).joined
   pub noted : (D h).noted ≡ None
   pub walk : (H h).walk ≡ None
   pub found : (H h).pending ≡ None
@@ -196,6 +199,10 @@ module _ (h c : ℕ) (v : World) (F : ℕ → Option Entry) (D : ℕ → Desk) (
         (λ e. absurd (let a : (D c).noted ≡ Some n = ap (λ (z : ℕ). (D z).noted) (sym e) ∙ is in let b = s.rests.noted in cc (a, b)))
         (λ nh nc. inv.noted g n lt (ap (λ (d : Desk). d.noted) (sym (s.desks g nh nc)) ∙ is) (reached_back g n.number nh nc r) q);
     directory = directory;
+    raised = λ g lt q. by_hart g ((D g).joined ≡ true)
+        (λ e. ap (λ (z : ℕ). (D z).joined) e ∙ s.joined ∙ inv.raised h s.hart (ap (λ (z : ℕ). holds_raised true (v.all.holds z)) (sym e) ∙ q))
+        (λ e. absurd (let a : holds_raised true (v.all.holds c) ≡ true = ap (λ (z : ℕ). holds_raised true (v.all.holds z)) (sym e) ∙ q in let b = ap (λ (o : Option Hold). holds_raised true o) s.rests.hold in cc (a, b)))
+        (λ nh nc. ap (λ (d : Desk). d.joined) (s.desks g nh nc) ∙ inv.raised g lt q);
     lent = lent;
     serves = serves;
   }

@@ -14,6 +14,8 @@ use Rattle.plain_tree.specs.Widths.{hart_count}
 use Rattle.plain_tree.specs.Tree.{put}
 use Rattle.plain_tree.specs.Calls.{next_of, reply_of, had_room}
 use Rattle.plain_tree.specs.HartRow.{Row}
+use Rattle.plain_tree.specs.declared.tree.Hold.{Hold}
+use Rattle.plain_tree.specs.Steps.{holds_raised}
 use Rattle.tree_laws.specs.WellFormed.{one_if}
 use Rattle.tree_laws.proofs.Maps.{put_same, put_other, same_or}
 use Rattle.tree_moves.specs.Moves.{Written}
@@ -128,7 +130,7 @@ close_ok h fd w free lt idle =
     let unlent : d.lender ≡ None = desk.lender ∙ free in
     s-join own unlent lt (omega (arith, q)) none (desk.joined ∙ idle.joined) (λ l2 u2 q2 own2.
     s-drop n own2 unlent lt (omega (arith, q, q2)) refl (ap (λ (f : ℕ → Option Held). f n) idle.inodes) (omega (arith, more)) refl refl (elim named [ inl p ↦ inl (omega (arith, more, p)) | inr p ↦ inr p ]) (λ l3 u3 q3 own3.
-    s-leave own3 unlent lt (omega (arith, q, q2, q3)) none refl (λ i x is. absurd (let a = ap (λ (f : ℕ → Option Held). f i) idle.inodes in cc (a, is))) (λ l4 u4 q4 own4.
+    s-leave own3 unlent lt (omega (arith, q, q2, q3)) none refl (ap (λ (o : Option Hold). holds_raised true o) (row.hold ∙ idle.hold)) (λ i x is. absurd (let a = ap (λ (f : ℕ → Option Held). f i) idle.inodes in cc (a, is))) (λ l4 u4 q4 own4.
     s-say own4 unlent lt (omega (arith, q, q2, q3, q4)) none refl (λ l5 u5 q5 _ own5.
     record {
       wp = (

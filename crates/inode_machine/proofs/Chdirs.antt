@@ -76,6 +76,7 @@ cwd_did h x k v free lt inv left sort reached = record {
   ids = inv.ids;
   shop = shop_same h (shop_of v) inv.tied;
   free = free;
+  raised = inv.raised h lt;
   quiet = λ j is f. inv.quiet j h is f;
   sort = λ j. inl refl;
   sorts = inv.sorts;
@@ -143,7 +144,7 @@ leaving h j v O ov free lt inv none sort reached = record {
         (λ i q. names i q)
         (let s = inv.directory h lt in record { at = λ _. s.at (ap (λ (o : Own). o.desk.lender) ov ∙ free) ∙ (λ z. left_or (was z) (v.all.cwd h)); sort = s.sort })
         (inv.refers h lt).home (inl refl)
-        (ap (λ (o : Own). o.desk.lender) ov ∙ free) (λ q i is. inv.quiet i h is q) (λ m q r s. inv.noted h m lt q r s) (λ q. inv.tied.spoiled h q) (λ q. q) (λ q. q)
+        (ap (λ (o : Own). o.desk.lender) ov ∙ free) (λ q i is. inv.quiet i h is q) (inv.raised h lt) (λ m q r s. inv.noted h m lt q r s) (λ q. inv.tied.spoiled h q) (λ q. q) (λ q. q)
       where
         names : (i : ℕ) → own_names (row_of v.all h) new i ≡ true → own_names (row_of v.all h) (v.desks h) i ≡ true
         names i q = elim (either (v.all.cwd h == i)) [
@@ -203,7 +204,7 @@ mends_left h k v O ov free lt inv opening left hold names = subst (λ (z : World
         (λ i q. fewer i q)
         (record { at = λ _. stands ∙ sym (put_same v.all.cwd h k); sort = (inv.directory h lt).sort })
         (inv.refers h lt).home (inl refl)
-        (ap (λ (o : Own). o.desk.lender) ov ∙ free) (λ q i is. inv.quiet i h is q) (λ m q r s. inv.noted h m lt q r s) (λ q. refl) (λ q. refl) (λ q. absurd cc)
+        (ap (λ (o : Own). o.desk.lender) ov ∙ free) (λ q i is. inv.quiet i h is q) (inv.raised h lt) (λ m q r s. inv.noted h m lt q r s) (λ q. refl) (λ q. refl) (λ q. absurd cc)
       where
         fewer : (i : ℕ) → own_names (row_of u1.all h) new i ≡ true → own_names (row_of u1.all h) (v.desks h) i ≡ true
         fewer i q = elim (either (put v.all.cwd h k h == i)) [
@@ -248,7 +249,7 @@ s-settle {A} {h} {i} {x} {k} {B} {Q} {n} {es} {w} {O} owns free lt pos isi has s
         (λ j q. fewer j q)
         (let c : v.all.cwd h ≡ i = ap (λ (o : Own). o.row.cwd) ov ∙ stands in record { at = λ _. sym c; sort = ap (λ (z : ℕ). sort_of (v.all.nodes z)) (sym c) ∙ directory_sort v.all h inv.well lt })
         (let r = my_refs h v O i ov in omega (arith, r, spare)) (inr (ap (λ (o : Own). child_of o.desk) ov ∙ childless))
-        (ap (λ (o : Own). o.desk.lender) ov ∙ free) (λ q j is. inv.quiet j h is q) (λ m q r s. inv.noted h m lt q r s) (λ q. inv.tied.spoiled h q) (λ q. q) (λ q. q)
+        (ap (λ (o : Own). o.desk.lender) ov ∙ free) (λ q j is. inv.quiet j h is q) (inv.raised h lt) (λ m q r s. inv.noted h m lt q r s) (λ q. inv.tied.spoiled h q) (λ q. q) (λ q. q)
       where
         fewer : (j : ℕ) → own_names (row_of v.all h) (record (v.desks h) { left = None }) j ≡ true → own_names (row_of v.all h) (v.desks h) j ≡ true
         fewer j q = left_more (v.all.cwd h == j) (hold_names (v.all.holds h) j) (key_names (key_in (row_of v.all h).keys (v.desks h).opening) j) (is_at (v.desks h).left j) q

@@ -134,6 +134,7 @@ claiming h i sort v O ov free lt inv joined is_free_i = record { fair = fair inv
           ids = inv.ids;
           shop = shop_same h (shop_of v) inv.tied;
           free = ap (λ (o : Own). o.desk.lender) ov ∙ free;
+          raised = inv.raised h lt;
           quiet = λ j is f. absurd (let e : (v.desks h).joined ≡ true = ap (λ (o : Own). o.desk.joined) ov ∙ joined in cc (e, f));
           sort = λ j. inl refl;
           sorts = inv.sorts;

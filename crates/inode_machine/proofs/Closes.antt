@@ -167,6 +167,7 @@ shuts h fd s e v O F S H inv ov free lt walk still idle empty unnoted hit c = re
     free = same.lender ∙ free;
     unlent = (ap (λ (o : Own). o.desk.lender) ov ∙ free);
     joined = ap (λ (z : Desk). z.joined) desk_is;
+    holds = refl;
     sorts = c.sorts;
     noted = λ m q. absurd (let a = same.noted in cc (a, q, unnoted));
     directory = stands_on (v.desks h) (D h) (v.all.cwd h) v.all.nodes (ap (λ (o : Own). o.desk.lender) ov ∙ free) (ap (λ (z : Desk). z.directory) desk_is) (ap (λ (z : Desk). z.left) desk_is) (inv.directory h lt);

@@ -52,6 +52,7 @@ gives h i x O v free lt inv ov isi shared whole none = record { fair = fair inv 
           ids = inv.ids;
           shop = shop_same h (shop_of v) inv.tied;
           free = ap (λ (o : Own). o.desk.lender) ov ∙ free;
+          raised = inv.raised h lt;
           quiet = λ j. put_elim v.keeper i None j (λ z. z ≡ Some h → (v.desks h).joined ≡ false → v.disk j ≡ v.all.nodes j) (λ q is f. absurd cc) (λ q is f. inv.quiet j h is f);
           sort = λ j. inl refl;
           sorts = inv.sorts;
@@ -128,6 +129,7 @@ writes h i y x O v free lt joined inv ov isi = record { fair = fair inv did; own
           ids = inv.ids;
           shop = shop_same h (shop_of v) inv.tied;
           free = ap (λ (o : Own). o.desk.lender) ov ∙ free;
+          raised = inv.raised h lt;
           quiet = λ j is f. absurd (let e : (v.desks h).joined ≡ true = ap (λ (o : Own). o.desk.joined) ov ∙ joined in cc (e, f));
           sort = λ j. inl refl;
           sorts = inv.sorts;
@@ -227,6 +229,7 @@ lasting h i v O L b ov free lt inv out refers none e there here mine = record { 
           ids = inv.ids;
           shop = shop_same h (shop_of v) inv.tied;
           free = ap (λ (o : Own). o.desk.lender) ov ∙ free;
+          raised = inv.raised h lt;
           quiet = λ j. put_elim v.keeper i (Some h) j (λ z. z ≡ Some h → (v.desks h).joined ≡ false → v.disk j ≡ v.all.nodes j) (λ q is f. inv.whole j (ap v.keeper q ∙ nobody)) (λ q is f. inv.quiet j h is f);
           sort = λ j. inl refl;
           sorts = inv.sorts;
@@ -360,6 +363,7 @@ counting h i v O ov free lt inv out refers none still = record { fair = fair inv
           ids = inv.ids;
           shop = shop_same h (shop_of v) inv.tied;
           free = ap (λ (o : Own). o.desk.lender) ov ∙ free;
+          raised = inv.raised h lt;
           quiet = λ j is f. inv.quiet j h (sym (keeper_same j) ∙ is) f;
           sort = λ j. inl refl;
           sorts = inv.sorts;

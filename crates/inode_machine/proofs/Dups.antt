@@ -11,7 +11,7 @@ use Rattle.plain_tree.specs.declared.step.Action.TheVariants.{Dup, Inherit}
 use Rattle.plain_tree.specs.declared.step.StepAnswer.TheVariants.{Fd as NewFd, Failed}
 use Rattle.plain_tree.specs.Widths.{hart_count, descriptor_count}
 use Rattle.plain_tree.specs.Tree.{Name, Tree, put, fd_names, and_then, settle, resolve, parent, hold_names}
-use Rattle.plain_tree.specs.Steps.{is_nothing, path_of, follows_path, file_at, lowest, has_room, refusal_with, effect_with, answer_with, makes_node, place_of, refused, IsInPlace}
+use Rattle.plain_tree.specs.Steps.{is_nothing, path_of, follows_path, file_at, lowest, has_room, refusal_with, effect_with, answer_with, makes_node, place_of, refused, IsInPlace, holds_raised}
 use Rattle.plain_tree.specs.HartRow.{Row, key_at, row_of, key_names}
 use Rattle.plain_tree.proofs.Settling.{with_open, NamesLess, settle_less, file_settled}
 use Rattle.tree_laws.specs.WellFormed.{sum_below, one_if, IsWellFormed}
@@ -122,10 +122,10 @@ pub record Flagging (h : ℕ) (v : World) (O : Own) (new d : Desk) (c : Bool) : 
 -- A desk changes, but not what the table knows of it, nor what the hart names.
 pub desk_changes : (h : ℕ) (v : World) (O : Own) (new d : Desk) (c : Bool) → own_of h v ≡ O → O.desk.lender ≡ None → h < hart_count → Inv v → new ≡ d → SameFiles new (v.desks h)
     → ((j : ℕ) → own_names (row_of v.all h) new j ≡ true → own_names (row_of v.all h) (v.desks h) j ≡ true) → Stands new (v.all.cwd h) v.all.nodes → 0 < (v.harts h).refs new.directory → ((new.directory ≡ (v.desks h).directory) ⊎ (child_of (v.desks h) ≡ None)) → new.lender ≡ None
-    → (new.joined ≡ false → (j : ℕ) → v.keeper j ≡ Some h → v.disk j ≡ v.all.nodes j)
+    → (new.joined ≡ false → (j : ℕ) → v.keeper j ≡ Some h → v.disk j ≡ v.all.nodes j) → (holds_raised true (v.all.holds h) ≡ true → new.joined ≡ true)
     → ((m : Note) → new.noted ≡ Some m → Reached v h m.number → v.alone m.number ≡ false → sort_of (v.all.nodes m.number) ≡ m.sort)
     → (new.full ≡ true → c ≡ false) → (v.clean ≡ false → c ≡ false) → (c ≡ true → v.clean ≡ true) → Flagging h v O new d c
-desk_changes h v O new d c ov free lt inv is same names stands home stays unlent quiet notes mine his back = record {
+desk_changes h v O new d c ov free lt inv is same names stands home stays unlent quiet raises notes mine his back = record {
   fair = fair inv (record {
     hart = lt;
     inodes = λ j. inl (record { lock = refl; keeper = refl; disk = refl; node = refl; alone = refl });
@@ -135,6 +135,7 @@ desk_changes h v O new d c ov free lt inv is same names stands home stays unlent
     ids = inv.ids;
     shop = record { tied = tied; desks = λ g ne. put_other v.desks h new g ne; numbers = λ g i k e lg ne li q a. (e, a, inl refl); clean = back; bond = ap (λ (z : Desk). bond_of z) here ∙ (λ z. record { child = same.lent z descriptor_count; given = same.lent z (descriptor_count + 1); lender = (unlent ∙ sym (ap (λ (o : Own). o.desk.lender) ov ∙ free)) z }); stays = elim stays [ inl q ↦ inl (ap (λ (z : Desk). z.directory) here ∙ q) | inr q ↦ inr q ] };
     free = ap (λ (z : Desk). z.lender) here ∙ unlent;
+    raised = λ q. ap (λ (z : Desk). z.joined) here ∙ raises q;
     quiet = λ j is f. quiet (sym (ap (λ (z : Desk). z.joined) here) ∙ f) j is;
     sort = λ j. inl refl;
     sorts = inv.sorts;
@@ -201,16 +202,16 @@ desk_changes h v O new d c ov free lt inv is same names stands home stays unlent
 
 -- the same, where it leaves no directory and opens nothing else
 pub flagging : (h : ℕ) (v : World) (O : Own) (new d : Desk) (c : Bool) → own_of h v ≡ O → O.desk.lender ≡ None → h < hart_count → Inv v → new ≡ d → SameTable new (v.desks h) → new.lender ≡ None
-    → (new.joined ≡ false → (j : ℕ) → v.keeper j ≡ Some h → v.disk j ≡ v.all.nodes j)
+    → (new.joined ≡ false → (j : ℕ) → v.keeper j ≡ Some h → v.disk j ≡ v.all.nodes j) → (holds_raised true (v.all.holds h) ≡ true → new.joined ≡ true)
     → ((m : Note) → new.noted ≡ Some m → Reached v h m.number → v.alone m.number ≡ false → sort_of (v.all.nodes m.number) ≡ m.sort)
     → (new.full ≡ true → c ≡ false) → (v.clean ≡ false → c ≡ false) → (c ≡ true → v.clean ≡ true) → Flagging h v O new d c
-flagging h v O new d c ov free lt inv is same unlent quiet notes mine his back = desk_changes h v O new d c ov free lt inv is (record { fds = same.fds; hand = same.hand; lent = same.lent; opening = same.opening })
+flagging h v O new d c ov free lt inv is same unlent quiet raises notes mine his back = desk_changes h v O new d c ov free lt inv is (record { fds = same.fds; hand = same.hand; lent = same.lent; opening = same.opening })
     (λ j q. (λ z. (v.all.cwd h == j) || (hold_names (v.all.holds h) j || (key_names (key_in (row_of v.all h).keys (sym same.opening z)) j || is_at (sym same.left z) j))) ∙ q)
-    (stands_on (v.desks h) new (v.all.cwd h) v.all.nodes (ap (λ (o : Own). o.desk.lender) ov ∙ free) same.directory same.left (inv.directory h lt)) (subst (λ (z : ℕ). 0 < (v.harts h).refs z) (sym same.directory) (inv.refers h lt).home) (inl same.directory) unlent quiet notes mine his back
+    (stands_on (v.desks h) new (v.all.cwd h) v.all.nodes (ap (λ (o : Own). o.desk.lender) ov ∙ free) same.directory same.left (inv.directory h lt)) (subst (λ (z : ℕ). 0 < (v.harts h).refs z) (sym same.directory) (inv.refers h lt).home) (inl same.directory) unlent quiet raises notes mine his back
 
 pub filling : (h : ℕ) (v : World) (O : Own) → own_of h v ≡ O → O.desk.lender ≡ None → h < hart_count → Inv v → Flagging h v O (record (v.desks h) { full = true }) (record (O.desk) { full = true }) false
 filling h v O ov free lt inv = flagging h v O (record (v.desks h) { full = true }) (record (O.desk) { full = true }) false ov free lt inv (ap (λ (o : Own). record (o.desk) { full = true }) ov)
-    (record { fds = refl; hand = refl; lent = refl; opening = refl; left = refl; directory = refl }) (ap (λ (o : Own). o.desk.lender) ov ∙ free) (λ f j is. inv.quiet j h is f) (λ m q r s. inv.noted h m lt q r s) (λ q. refl) (λ q. refl) (λ q. absurd cc)
+    (record { fds = refl; hand = refl; lent = refl; opening = refl; left = refl; directory = refl }) (ap (λ (o : Own). o.desk.lender) ov ∙ free) (λ f j is. inv.quiet j h is f) (inv.raised h lt) (λ m q r s. inv.noted h m lt q r s) (λ q. refl) (λ q. refl) (λ q. absurd cc)
 
 -- The hart joins the transaction.
 pub s-join : {A : Type 0} {h : ℕ} {k : Unit {0} → P machine A} {B : List Step → Type 0} {Q : A → List Step → World → Type 0} {n : ℕ} {es : List Step} {w : World} {O : Own}
@@ -221,22 +222,22 @@ s-join {h = h} {O = O} owns free lt pos none out rest = s-owned owns free pos (�
   (λ _ _.
       let new : Desk = record (v.desks h) { joined = true } in
       let f = flagging h v O new (record (O.desk) { joined = true }) v.clean ov free lt inv (ap (λ (o : Own). record (o.desk) { joined = true }) ov)
-      (record { fds = refl; hand = refl; lent = refl; opening = refl; left = refl; directory = refl }) (ap (λ (o : Own). o.desk.lender) ov ∙ free) (λ f j is. absurd cc) (λ m q r s. inv.noted h m lt q r s) (λ q. inv.tied.spoiled h q) (λ q. q) (λ q. q) in
+      (record { fds = refl; hand = refl; lent = refl; opening = refl; left = refl; directory = refl }) (ap (λ (o : Own). o.desk.lender) ov ∙ free) (λ f j is. absurd cc) (λ q. refl) (λ m q r s. inv.noted h m lt q r s) (λ q. inv.tied.spoiled h q) (λ q. q) (λ q. q) in
       quiet f.fair refl pos (λ l q. (rest l (with_joined v h true) q f.owned).wp)),
 ))
 
 -- It leaves it, with every inode as its node says.
 pub s-leave : {A : Type 0} {h : ℕ} {k : Unit {0} → P machine A} {B : List Step → Type 0} {Q : A → List Step → World → Type 0} {n : ℕ} {es : List Step} {w : World} {O : Own}
-    → own_of h w ≡ O → O.desk.lender ≡ None → h < hart_count → 62 < n → UnlocksAll O → O.desk.joined ≡ true → ((i : ℕ) (x : Held) → O.inodes i ≡ Some x → x.disk ≡ x.node)
+    → own_of h w ≡ O → O.desk.lender ≡ None → h < hart_count → 62 < n → UnlocksAll O → O.desk.joined ≡ true → holds_raised true O.row.hold ≡ false → ((i : ℕ) (x : Held) → O.inodes i ≡ Some x → x.disk ≡ x.node)
     → ((l : ℕ) (u : World) → l + 63 ≡ n → own_of h u ≡ record O { desk = record (O.desk) { joined = false; noted = None } } → Safe machine h B Q (k tt) l es u)
     → Safe machine h B Q (Do Leave unmarked k) n es w
-s-leave {h = h} {O = O} owns free lt pos none joined whole rest = s-owned owns free pos (λ v inv ov. (
-  (locks_none h v O inv ov none, ap (λ (o : Own). o.desk.joined) ov ∙ joined),
+s-leave {h = h} {O = O} owns free lt pos none joined low whole rest = s-owned owns free pos (λ v inv ov. (
+  (locks_none h v O inv ov none, ap (λ (o : Own). o.desk.joined) ov ∙ joined, ap (λ (o : Own). holds_raised true o.row.hold) ov ∙ low),
   (λ _ _.
       let new : Desk = record (v.desks h) { joined = false; noted = None } in
       let f = flagging h v O new (record (O.desk) { joined = false; noted = None }) v.clean ov free lt inv (ap (λ (o : Own). record (o.desk) { joined = false; noted = None }) ov)
       (record { fds = refl; hand = refl; lent = refl; opening = refl; left = refl; directory = refl }) (ap (λ (o : Own). o.desk.lender) ov ∙ free)
-      (λ f j is. whole j (view v h j) (ap (λ (o : Own). o.inodes j) (sym ov) ∙ kept_here h (v.keeper j) (view v h j) is)) (λ m q r s. absurd cc) (λ q. inv.tied.spoiled h q) (λ q. q) (λ q. q) in
+      (λ f j is. whole j (view v h j) (ap (λ (o : Own). o.inodes j) (sym ov) ∙ kept_here h (v.keeper j) (view v h j) is)) (λ q. absurd (let a : holds_raised true (v.all.holds h) ≡ false = ap (λ (o : Own). holds_raised true o.row.hold) ov ∙ low in cc (a, q))) (λ m q r s. absurd cc) (λ q. inv.tied.spoiled h q) (λ q. q) (λ q. q) in
       quiet f.fair refl pos (λ l q. (rest l (with_new v h new v.clean) q f.owned).wp)),
 ))
 
@@ -497,6 +498,7 @@ s-double {A} {h} fd {k} {B} {Q} {n} {es} {w} {O} owns free lt pos walks none idl
           free = same.lender ∙ free;
           unlent = (ap (λ (o : Own). o.desk.lender) ov ∙ free);
           joined = ap (λ (z : Desk). z.joined) desk_is;
+          holds = refl;
           sorts = λ k x q. renewed_sorts v s e (record { file = e.file; sort = e.sort; references = e.references + 1 }) inv hit.at refl refl k x q;
           noted = λ m q. (sym (ap (λ (z : Desk). z.noted) desk_is) ∙ q, (λ p. let r = refs_walk v.harts h None None h m.number in omega (arith, r, p)));
           directory = stands_on (v.desks h) (D h) (v.all.cwd h) v.all.nodes (ap (λ (o : Own). o.desk.lender) ov ∙ free) (ap (λ (z : Desk). z.directory) desk_is) (ap (λ (z : Desk). z.left) desk_is) (inv.directory h lt);

@@ -13,6 +13,8 @@ use Rattle.plain_tree.specs.Calls.{Act, next_of}
 use Rattle.plain_tree.specs.Widths.{hart_count}
 use Rattle.plain_tree.specs.Tree.{put, hold_names}
 use Rattle.plain_tree.specs.HartRow.{Row, key_names}
+use Rattle.plain_tree.specs.declared.tree.Hold.{Hold}
+use Rattle.plain_tree.specs.Steps.{holds_raised}
 use Rattle.tree_laws.specs.WellFormed.{one_if}
 use Rattle.tree_laws.proofs.Sums.{one_yes}
 use Rattle.tree_laws.proofs.Maps.{either, same_or, put_same, put_other}
@@ -117,7 +119,7 @@ pub s-ends : (h : ℕ) (c : Call) (r : Reply) (base : ℕ → ℕ) (ns : List �
     → Listed O base ns → ((i : ℕ) → O.mine.refs i ≡ base i + times i ns) → O.mine.walk ≡ None → O.mine.pending ≡ None → MayRest O base → ((O.desk.full ≡ true) ⊎ Written c (oldest_first es) r)
     → Safe machine h (Begun covered_calls c) (Ends covered_calls h c) (tail ns r) n es w
 s-ends h c r base ns n es w O owns free lt few joined listed refs walk pending may told =
-    s-tail h (Begun covered_calls c) (Ends covered_calls h c) r lt base ns n es w O owns free few joined listed refs walk pending (λ R u t full own. (
+    s-tail h (Begun covered_calls c) (Ends covered_calls h c) r lt base ns n es w O owns free few joined (ap (λ (o : Option Hold). holds_raised true o) may.hold) listed refs walk pending (λ R u t full own. (
       (λ clean. elim told [ inl f ↦ absurd (let a = full (ap (λ (d : Desk). d.full) t.desk ∙ f) in cc (a, clean)) | inr y ↦ y ]),
       subst (λ (o : Own). Rests o) (sym own) (rests_through O R base t may),
     ))

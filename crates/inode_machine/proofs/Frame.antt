@@ -5,6 +5,7 @@ use Rattle.plain_tree.specs.Widths.{hart_count, descriptor_count}
 use Rattle.plain_tree.specs.declared.node.Node.{Node}
 use Rattle.plain_tree.specs.Tree.{put, hold_names}
 use Rattle.plain_tree.specs.HartRow.{Row, key_names, row_of}
+use Rattle.plain_tree.specs.Steps.{holds_raised}
 use Rattle.tree_laws.specs.WellFormed.{sum_below, IsWellFormed}
 use Rattle.tree_laws.proofs.Maps.{either, or_left, or_right, eq_self, eq_is, eq_not, same_or, put_same, put_other}
 use Rattle.tree_laws.proofs.Walks.{look_same}
@@ -120,6 +121,7 @@ pub record Did (h : ℕ) (v u : World) : Type 0 where
   pub ids : (k : ℕ) → u.next ≤ k → u.all.files k ≡ None
   pub shop : Kin h (λ n. Ours h (v.keeper n)) (shop_of v) (shop_of u)
   pub free : (u.desks h).lender ≡ None
+  pub raised : holds_raised true (u.all.holds h) ≡ true → (u.desks h).joined ≡ true
   pub quiet : (j : ℕ) → u.keeper j ≡ Some h → (u.desks h).joined ≡ false → u.disk j ≡ u.all.nodes j
   -- types stay, but for what the hart keeps alone
   pub sort : (j : ℕ) → (sort_of (u.all.nodes j) ≡ sort_of (v.all.nodes j)) ⊎ ((v.keeper j ≡ Some h) × (v.alone j ≡ true))
@@ -309,6 +311,10 @@ did_inv h v u inv did =
             | inr a ↦ absurd (lone_not h g (v.desks g).directory v inv lt ne a.0 a.1 (inl (inv.refers g lt).home))
           ];
         })
+      ];
+      raised = λ g lt q. elim (same_or g h) [
+        | inl e ↦ ap (λ (z : ℕ). (u.desks z).joined) e ∙ did.raised (ap (λ (z : ℕ). holds_raised true (u.all.holds z)) (sym e) ∙ q)
+        | inr ne ↦ ap (λ (d : Desk). d.joined) (did.shop.desks g ne) ∙ inv.raised g lt (ap (λ (r : Row). holds_raised true r.hold) (sym (did.rows g ne)) ∙ q)
       ];
       lent = λ g c lt is. elim (same_or g h) [
         | inl e ↦ absurd (let a = ap (λ (z : ℕ). (u.desks z).lender) (sym e) ∙ is in let b = did.free in cc (a, b))

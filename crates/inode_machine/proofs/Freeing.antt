@@ -1,5 +1,5 @@
 -- Inodes that one hart keeps alone: locked, freed, and anybody's again.
-use Rattle.std.proofs.Common.{◌≡◌, ◌≢◌, ◌⊎◌, inl, inr, ℕ, ◌+◌, ◌-◌, ◌<◌, Bool, true, false, ◌==◌, ◌&&◌, List, [], Option, Some, None, refl, sym, ◌∙◌, ap, subst, arith}
+use Rattle.std.proofs.Common.{◌≡◌, ◌≢◌, ◌⊎◌, inl, inr, ℕ, ◌+◌, ◌-◌, ◌<◌, Bool, true, false, ◌==◌, List, [], Option, Some, None, refl, sym, ◌∙◌, ap, subst, arith}
 use Rattle.atomic_programs.specs.Prog.{Do, unmarked}
 use Rattle.atomic_programs.specs.Logic.{P, Good, Fine, Safe, Wp}
 use Rattle.plain_tree.specs.declared.node.Node.{Node}
@@ -14,9 +14,9 @@ use Rattle.tree_laws.proofs.Facts.{look_live}
 use Rattle.tree_moves.specs.Moves.{Step, Walk}
 use Rattle.inode_machine.specs.World.{Mine, World, Entry}
 use Rattle.inode_machine.specs.Marks.{with_mark}
-use Rattle.inode_machine.specs.Exec.{lock_if, blank, counted_down, down_if, file_count, is_dead, locked, unlocked}
+use Rattle.inode_machine.specs.Exec.{lock_if, blank, counted_down, file_count, locked, unlocked}
 use Rattle.inode_machine.specs.World.Mark.{Frees}
-use Rattle.inode_machine.specs.World.Op.{Take, Give, Down, Free, Forget}
+use Rattle.inode_machine.specs.World.Op.{Take, Give, Free, Forget}
 use Rattle.inode_machine.specs.Rules.{shop_of, own_names, Held, view, is_hart, if_kept, own_of, Pinned, Reached, IsAlone, Inv, IsOut, machine, looking_cost, number_is, Sought}
 use Rattle.tree_laws.proofs.Sums.{sum_part, one_yes}
 use Rattle.tree_laws.specs.WellFormed.{one_if}
@@ -70,6 +70,7 @@ locking_kept h i x v O ov free lt inv isi out = record { unlocked = none (v.lock
           ids = inv.ids;
           shop = shop_same h (shop_of v) inv.tied;
           free = ap (λ (o : Own). o.desk.lender) ov ∙ free;
+          raised = inv.raised h lt;
           quiet = λ j is f. inv.quiet j h (sym (same j) ∙ is) f;
           sort = λ j. inl refl;
           sorts = inv.sorts;
@@ -255,6 +256,7 @@ s-free {A} {h} {i} {x} {k} {B} {Q} {n} {es} {w} {O} owns free lt pos joined isi 
               ids = inv.ids;
               shop = shop_same h (shop_of v) inv.tied;
               free = ap (λ (o : Own). o.desk.lender) ov ∙ free;
+              raised = inv.raised h lt;
               quiet = λ j is f. absurd (let e : (v.desks h).joined ≡ true = ap (λ (o : Own). o.desk.joined) ov ∙ joined in cc (e, f));
               sort = λ j. elim (same_or j i) [
                 | inl q ↦ inr (ap v.keeper q ∙ kept, ap v.alone q ∙ lone_at)
@@ -326,6 +328,7 @@ s-give-alone {A} {h} {i} {x} {k} {B} {Q} {n} {es} {w} {O} owns free lt pos isi h
           ids = inv.ids;
           shop = shop_same h (shop_of v) inv.tied;
           free = ap (λ (o : Own). o.desk.lender) ov ∙ free;
+          raised = inv.raised h lt;
           quiet = λ j is f. inv.quiet j h is f;
           sort = λ j. inl refl;
           sorts = inv.sorts;
@@ -448,6 +451,7 @@ s-forget {A} {h} {i} {x} {k} {B} {Q} {n} {es} {w} {O} owns free lt pos isi lone 
               ids = inv.ids;
               shop = shop_same h (shop_of v) inv.tied;
               free = ap (λ (o : Own). o.desk.lender) ov ∙ free;
+              raised = inv.raised h lt;
               quiet = λ j is f. inv.quiet j h (was j is) f;
               sort = λ j. inl refl;
               sorts = inv.sorts;

@@ -65,6 +65,7 @@ turns_did h v ns o free joined lt inv t = record {
   ids = inv.ids;
   shop = shop_same h (shop_of v) inv.tied;
   free = free;
+  raised = λ q. joined;
   quiet = λ j is f. absurd (cc (joined, f));
   sort = λ j. inl (t.sorts j);
   sorts = λ k e is. t.sorts e.file.number ∙ inv.sorts k e is;

@@ -104,6 +104,7 @@ module _ (h c : ℕ) (w : World) (lt : h < hart_count) (below : c < hart_count) 
     pending = inv.pending;
     walks = inv.walks;
     noted = λ g n l is r s. inv.noted g n l (sym (part (λ d. d.noted) g refl refl) ∙ is) r s;
+    raised = λ g l q. part (λ d. d.joined) g refl refl ∙ inv.raised g l q;
     directory = λ g l. let s = inv.directory g l in record {
       at = λ f. part (λ d. d.directory) g refl refl ∙ s.at (lender_is g f) ∙ (λ z. left_or (sym (part (λ d. d.left) g refl refl) z) (w.all.cwd g));
       sort = ap (λ (n : ℕ). sort_of (w.all.nodes n)) (part (λ d. d.directory) g refl refl) ∙ s.sort;

@@ -10,6 +10,8 @@ use Rattle.plain_tree.specs.declared.step.Action.TheVariants.{Inherit}
 use Rattle.plain_tree.specs.Calls.{next_of, reply_of, had_room}
 use Rattle.plain_tree.specs.Widths.{hart_count, descriptor_count}
 use Rattle.plain_tree.specs.Tree.{put}
+use Rattle.plain_tree.specs.declared.tree.Hold.{Hold}
+use Rattle.plain_tree.specs.Steps.{holds_raised}
 use Rattle.tree_laws.proofs.Maps.{either, same_or, put_same, put_other}
 use Rattle.tree_laws.proofs.Sums.{one_yes}
 use Rattle.tree_moves.specs.Moves.{Step, Written}
@@ -226,7 +228,7 @@ module _ (h c : ℕ) (O0 : Own) (lt : h < hart_count) (free : O0.desk.lender ≡
   ends o n u few own =
       s-join own free lt (omega (arith, few)) unlocks refl (λ l1 u1 q1 own1.
       s-drop o own1 free lt (omega (arith, few, q1)) refl (empty o) (let p = put_same O0.mine.refs o (O0.mine.refs o + 1) in omega (arith, p)) refl refl spare (λ l2 u2 q2 own2.
-      s-leave own2 free lt (omega (arith, few, q1, q2)) unlocks refl (λ i x is. absurd (let a = empty i in cc (a, is))) (λ l3 u3 q3 own3.
+      s-leave own2 free lt (omega (arith, few, q1, q2)) unlocks refl (ap (λ (o : Option Hold). holds_raised true o) rests.hold) (λ i x is. absurd (let a = empty i in cc (a, is))) (λ l3 u3 q3 own3.
       s-release (own3 ∙ (λ z. at (serving c (Some 1)) (back o z) false)) (omega (arith, few, q1, q2, q3)) (server (serving c (Some 1)) O0.mine.refs false (serving_child c (Some 1)) few0) refl (λ l4 u4 q4 own4. record {
         wp = (
           (λ z. inherit_written c),

@@ -290,6 +290,7 @@ installing h fd s f sort x v O ov free lt inv opens hand keyed start walks none 
       ids = inv.ids;
       shop = record { tied = tied; desks = λ g ne. put_other v.desks h desk g ne; numbers = λ g i j e lg ne li r a. (e, stays j e a, inl refl); clean = λ c. c; bond = ap (λ (d : Desk). bond_of d) desk_is; stays = inl (ap (λ (d : Desk). d.directory) desk_is) };
       free = ap (λ (d : Desk). d.lender) desk_is ∙ ap (λ (p : Own). p.desk.lender) ov ∙ free;
+      raised = λ q. ap (λ (d : Desk). d.joined) desk_is ∙ inv.raised h lt q;
       quiet = λ j is g. inv.quiet j h is (sym (ap (λ (d : Desk). d.joined) desk_is) ∙ g);
       sort = λ j. inl refl;
       sorts = λ k e is. elim (same_or k s) [

@@ -24,7 +24,7 @@ use Rattle.inode_machine.proofs.Frame.{bond_of, stands_on, Fair, fair, has_none}
 use Rattle.inode_machine.proofs.Rows.{below_is}
 use Rattle.inode_machine.proofs.Walking.{refs_walk, stage_walk}
 use Rattle.inode_machine.proofs.Shops.{sells_did}
-use Rattle.inode_machine.proofs.Dups.{renewed_same, renewed_at, renewed_sorts}
+use Rattle.inode_machine.proofs.Dups.{renewed_same, renewed_sorts}
 use Rattle.inode_machine.proofs.Handings.{lent_desks, counted_more, tied_lent, HandsAll, tied_handed}
 use Rattle.inode_machine.proofs.Both.{both_world}
 use Rattle.inode_machine.proofs.Turnings.{Server, Kid, kid, Turns, turned_fair, turned_own, serving_child, serving_given, serving_none}
@@ -138,6 +138,7 @@ lends_one h c i s e v O inv ov srv li is unlent at = record {
     free = ap (λ (d : Desk). d.lender) desk_is ∙ free;
     unlent = free;
     joined = ap (λ (d : Desk). d.joined) desk_is;
+    holds = refl;
     sorts = λ l x q. renewed_sorts v s e (counted_more e) inv at refl refl l x q;
     noted = λ m q. (sym (ap (λ (d : Desk). d.noted) desk_is) ∙ q, (λ p. p));
     directory = stands_on (v.desks h) (D h) (v.all.cwd h) v.all.nodes free (ap (λ (d : Desk). d.directory) desk_is) (ap (λ (d : Desk). d.left) desk_is) (inv.directory h srv.hart);

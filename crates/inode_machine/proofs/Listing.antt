@@ -6,6 +6,8 @@ use Rattle.plain_tree.specs.declared.answer.Reply.{Reply}
 use Rattle.plain_tree.specs.declared.node.Node.{Node}
 use Rattle.plain_tree.specs.Widths.{hart_count}
 use Rattle.plain_tree.specs.Tree.{put, is_live}
+use Rattle.plain_tree.specs.Steps.{holds_raised}
+use Rattle.plain_tree.specs.HartRow.{Row}
 use Rattle.tree_laws.specs.WellFormed.{one_if}
 use Rattle.tree_laws.proofs.Maps.{eq_self, eq_not, same_or, put_same, put_other}
 use Rattle.tree_laws.proofs.Sums.{one_no, one_yes}
@@ -118,14 +120,14 @@ other_four f n i a b c y ne = put_other (put (put (put f n a) n b) n c) n y i ne
 
 -- An inode of the list is freed in a transaction of its own.
 pub s-free-listed : {A : Type 0} {h : ℕ} (n : ℕ) {k : P A} {B : List Step → Type 0} {Q : A → List Step → World → Type 0} {c : ℕ} {es : List Step} {w : World} {O : Own} (v : Option Node)
-    → own_of h w ≡ O → O.desk.lender ≡ None → h < hart_count → 971 < c → UnlocksAll O → ((i : ℕ) (x : Held) → O.inodes i ≡ Some x → x.disk ≡ x.node) → O.desk.joined ≡ false → O.inodes n ≡ Some (listed_held v) → v ≢ None → O.mine.refs n ≡ 1 → own_names O.row O.desk n ≡ false → O.mine.walk ≡ None → O.mine.pending ≡ None
+    → own_of h w ≡ O → O.desk.lender ≡ None → h < hart_count → 971 < c → UnlocksAll O → ((i : ℕ) (x : Held) → O.inodes i ≡ Some x → x.disk ≡ x.node) → O.desk.joined ≡ false → O.inodes n ≡ Some (listed_held v) → v ≢ None → O.mine.refs n ≡ 1 → own_names O.row O.desk n ≡ false → O.mine.walk ≡ None → O.mine.pending ≡ None → holds_raised true O.row.hold ≡ false
     → ((l : ℕ) (P : Own) (u : World) → l + 971 ≡ c → FreedOne O P n → own_of h u ≡ P → Safe machine h B Q k l es u)
     → Safe machine h B Q (free_listed n k) c es w
-s-free-listed {h = h} n {O = O} v owns free lt few locks whole out is there one unnamed walk pending rest =
+s-free-listed {h = h} n {O = O} v owns free lt few locks whole out is there one unnamed walk pending low rest =
     s-join owns free lt (omega arith) locks out (λ l1 u1 q1 own1.
     s-take-kept own1 free lt (omega (arith, q1, few)) is refl there tt (omega (arith, one)) (λ l2 u2 q2 own2.
     s-free-all v own2 free lt (omega (arith, q1, q2, few)) refl (put_same O.inodes n (Some (record { disk = v; node = v; alone = true; locked = true }))) one pending unnamed walk (λ l3 u3 q3 own3.
-    s-leave own3 free lt (omega (arith, q1, q2, q3, few)) left_free refl left_whole (λ l4 u4 q4 own4.
+    s-leave own3 free lt (omega (arith, q1, q2, q3, few)) left_free refl low left_whole (λ l4 u4 q4 own4.
     rest l4 _ u4 (omega (arith, q1, q2, q3, q4))
     (record {
       gone = put_same _ n None;
@@ -164,11 +166,11 @@ pub record Through (O P : Own) (base : ℕ → ℕ) : Type 0 where
   pub desk : P.desk ≡ record (O.desk) { joined = false; noted = None }
 
 module _ (h : ℕ) (B : List Step → Type 0) (Q : Reply → List Step → World → Type 0) (r : Reply) (lt : h < hart_count) where
-  frees : (base : ℕ → ℕ) (es : List Step) (O0 : Own) → ((P : Own) (u : World) → Through O0 P base → (P.desk.full ≡ true → u.clean ≡ false) → own_of h u ≡ P → Q r es u)
+  frees : (base : ℕ → ℕ) (es : List Step) (O0 : Own) → holds_raised true O0.row.hold ≡ false → ((P : Own) (u : World) → Through O0 P base → (P.desk.full ≡ true → u.clean ≡ false) → own_of h u ≡ P → Q r es u)
       → (ns : List ℕ) (n : ℕ) (w : World) (O : Own) → own_of h w ≡ O → O.desk.lender ≡ None → O.row ≡ O0.row → O.desk ≡ record (O0.desk) { joined = false; noted = None } → 971 * length ns < n → Listed O base ns → ((i : ℕ) → O.mine.refs i ≡ base i + times i ns) → O.mine.walk ≡ None → O.mine.pending ≡ None
       → Safe machine h B Q (free_all ns (Do Say unmarked (λ _. Ret r))) n es w
   unfolding times
-  frees base es O0 ends [] n w O owns free row desk few l refs walk pending =
+  frees base es O0 low ends [] n w O owns free row desk few l refs walk pending =
       s-say owns free lt (omega (arith, few)) (listed_free O base [] l) (ap (λ (d : Desk). d.joined) desk) (λ l1 u1 q1 spoilt own1. record {
         wp = ends O u1 (record {
           inodes = λ z i. none i z;
@@ -186,9 +188,9 @@ module _ (h : ℕ) (B : List Step → Type 0) (Q : Reply → List Step → World
           go : (o : Option Held) → O.inodes i ≡ o → o ≡ None
           go None q = refl
           go (Some x) q = absurd (let t = l.only i x q in omega (arith, t))
-  frees base es O0 ends (m ∷ ns) n w O owns free row desk few l refs walk pending =
-      s-free-listed m here.node owns free lt (omega (arith, few)) (listed_free O base (m ∷ ns) l) (listed_whole O base (m ∷ ns) l) (ap (λ (d : Desk). d.joined) desk) here.is here.there here.one here.unnamed walk pending (λ l1 P u1 q1 f own1.
-      again l1 P u1 q1 f own1 (frees base es O0 ends ns l1 u1 P own1))
+  frees base es O0 low ends (m ∷ ns) n w O owns free row desk few l refs walk pending =
+      s-free-listed m here.node owns free lt (omega (arith, few)) (listed_free O base (m ∷ ns) l) (listed_whole O base (m ∷ ns) l) (ap (λ (d : Desk). d.joined) desk) here.is here.there here.one here.unnamed walk pending (ap (λ (r : Row). holds_raised true r.hold) row ∙ low) (λ l1 P u1 q1 f own1.
+      again l1 P u1 q1 f own1 (frees base es O0 low ends ns l1 u1 P own1))
     where
       once_m : times m ns ≡ 0
       once_m = let o = l.once m in let a = one_at m in omega (arith, o, a)
@@ -213,10 +215,10 @@ module _ (h : ℕ) (B : List Step → Type 0) (Q : Reply → List Step → World
       ]) (f.walk ∙ walk) (f.pending ∙ pending)
 
   -- The call's end: it leaves its transaction, frees what is listed, and replies.
-  pub s-tail : (base : ℕ → ℕ) (ns : List ℕ) (n : ℕ) (es : List Step) (w : World) (O : Own) → own_of h w ≡ O → O.desk.lender ≡ None → 971 * length ns + 63 < n → O.desk.joined ≡ true → Listed O base ns → ((i : ℕ) → O.mine.refs i ≡ base i + times i ns) → O.mine.walk ≡ None → O.mine.pending ≡ None
+  pub s-tail : (base : ℕ → ℕ) (ns : List ℕ) (n : ℕ) (es : List Step) (w : World) (O : Own) → own_of h w ≡ O → O.desk.lender ≡ None → 971 * length ns + 63 < n → O.desk.joined ≡ true → holds_raised true O.row.hold ≡ false → Listed O base ns → ((i : ℕ) → O.mine.refs i ≡ base i + times i ns) → O.mine.walk ≡ None → O.mine.pending ≡ None
       → ((P : Own) (u : World) → Through O P base → (P.desk.full ≡ true → u.clean ≡ false) → own_of h u ≡ P → Q r es u)
       → Safe machine h B Q (tail ns r) n es w
-  s-tail base ns n es w O owns free few joined l refs walk pending ends =
-      s-leave owns free lt (omega (arith, few)) (listed_free O base ns l) joined (listed_whole O base ns l) (λ l1 u1 q1 own1.
-      frees base es O ends ns l1 u1 (record O { desk = record (O.desk) { joined = false; noted = None } }) own1 free refl refl (omega (arith, few, q1))
+  s-tail base ns n es w O owns free few joined low l refs walk pending ends =
+      s-leave owns free lt (omega (arith, few)) (listed_free O base ns l) joined low (listed_whole O base ns l) (λ l1 u1 q1 own1.
+      frees base es O low ends ns l1 u1 (record O { desk = record (O.desk) { joined = false; noted = None } }) own1 free refl refl (omega (arith, few, q1))
       (listed_on O (record O { desk = record (O.desk) { joined = false; noted = None } }) base ns l (λ i. refl) (λ i t. refl) (λ i q. q)) refs walk pending)

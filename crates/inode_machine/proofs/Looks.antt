@@ -123,7 +123,7 @@ note_of t j = record { number = j; sort = sort_of (t.nodes j) }
 
 pub noting : (h j : ℕ) (v : World) (O : Own) → own_of h v ≡ O → O.desk.lender ≡ None → h < hart_count → Inv v → Flagging h v O (record (v.desks h) { noted = Some (note_of v.all j) }) (record (O.desk) { noted = Some (note_of v.all j) }) v.clean
 noting h j v O ov free lt inv = flagging h v O (record (v.desks h) { noted = Some (note_of v.all j) }) (record (O.desk) { noted = Some (note_of v.all j) }) v.clean ov free lt inv (ap (λ (o : Own). record (o.desk) { noted = Some (note_of v.all j) }) ov)
-    (record { fds = refl; hand = refl; lent = refl; opening = refl; left = refl; directory = refl }) (ap (λ (o : Own). o.desk.lender) ov ∙ free) (λ f i is. inv.quiet i h is f)
+    (record { fds = refl; hand = refl; lent = refl; opening = refl; left = refl; directory = refl }) (ap (λ (o : Own). o.desk.lender) ov ∙ free) (λ f i is. inv.quiet i h is f) (inv.raised h lt)
     (λ m q r s. let a : note_of v.all j ≡ m = cc in (λ z. sort_of (v.all.nodes (sym a z).number)) ∙ (λ z. (a z).sort))
     (λ q. inv.tied.spoiled h q) (λ q. q) (λ q. q)
 
@@ -278,7 +278,7 @@ mends h v O ov free lt inv opening left hold names = subst (λ (z : World). Mend
 
     f : Flagging h v O new (record (O.desk) { opening = None; left = None; full = true }) false
     f = flagging h v O new (record (O.desk) { opening = None; left = None; full = true }) false ov free lt inv (ap (λ (o : Own). record (o.desk) { opening = None; left = None; full = true }) ov)
-        (record { fds = refl; hand = refl; lent = refl; opening = sym (ap (λ (o : Own). o.desk.opening) ov ∙ opening); left = sym (ap (λ (o : Own). o.desk.left) ov ∙ left); directory = refl }) (ap (λ (o : Own). o.desk.lender) ov ∙ free) (λ q j is. inv.quiet j h is q)
+        (record { fds = refl; hand = refl; lent = refl; opening = sym (ap (λ (o : Own). o.desk.opening) ov ∙ opening); left = sym (ap (λ (o : Own). o.desk.left) ov ∙ left); directory = refl }) (ap (λ (o : Own). o.desk.lender) ov ∙ free) (λ q j is. inv.quiet j h is q) (inv.raised h lt)
         (λ m q r s. inv.noted h m lt q r s) (λ q. refl) (λ q. refl) (λ q. absurd cc)
 
     u1 : World

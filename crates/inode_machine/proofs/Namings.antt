@@ -107,7 +107,7 @@ s-join-begin {h = h} s {k} {B} {Q} {n} {es} {O = O} O0 owns free lt pos none out
   (locks_none h v O inv ov none, ap (λ (o : Own). o.desk.joined) ov ∙ out),
   (λ _ _.
       let f = flagging h v O (record (v.desks h) { joined = true }) (record (O.desk) { joined = true }) v.clean ov free lt inv (ap (λ (o : Own). record (o.desk) { joined = true }) ov)
-      (record { fds = refl; hand = refl; lent = refl; opening = refl; left = refl; directory = refl }) (ap (λ (o : Own). o.desk.lender) ov ∙ free) (λ f j is. absurd cc) (λ m q r s. inv.noted h m lt q r s) (λ q. inv.tied.spoiled h q) (λ q. q) (λ q. q) in
+      (record { fds = refl; hand = refl; lent = refl; opening = refl; left = refl; directory = refl }) (ap (λ (o : Own). o.desk.lender) ov ∙ free) (λ f j is. absurd cc) (λ q. refl) (λ m q r s. inv.noted h m lt q r s) (λ q. inv.tied.spoiled h q) (λ q. q) (λ q. q) in
       fine_after f.fair refl (begin_good h 0 n B Q es (with_joined v h true) (record O { desk = record (O.desk) { joined = true } }) O0 s (k tt) f.owned free lt f.fair.inv walks pending row leads path b pos rest)),
 ))
 

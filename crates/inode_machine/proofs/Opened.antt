@@ -5,6 +5,8 @@ use Rattle.plain_tree.specs.declared.tree.OpenFile.{OpenFile}
 use Rattle.plain_tree.specs.Widths.{hart_count, descriptor_count}
 use Rattle.plain_tree.specs.Tree.{Tree, put, hold_names}
 use Rattle.plain_tree.specs.HartRow.{key_names, row_of}
+use Rattle.plain_tree.specs.declared.tree.Hold.{Hold}
+use Rattle.plain_tree.specs.Steps.{holds_raised}
 use Rattle.tree_laws.specs.WellFormed.{sum_below, one_if, IsWellFormed}
 use Rattle.tree_laws.proofs.Maps.{eq_self, either, same_or, put_same, put_other}
 use Rattle.tree_laws.proofs.Sums.{sum_none, sum_changed, one_yes, one_no}
@@ -137,6 +139,7 @@ module _ (t : Tree) (f : OpenFile) (v : Node) (well : IsWellFormed t) (has : Has
     noted = λ g n lt e. absurd (let a = noted g in cc (a, e));
     refers = λ g lt. record { few = λ i. let a = one_most (t.cwd g == i) in omega (arith, a); home = here g (D g).directory ((λ z. t.cwd g == directory g z) ∙ eq_self (t.cwd g)) };
     directory = λ g lt. record { at = λ _. directory g ∙ (λ z. left_or (sym (left g) z) (t.cwd g)); sort = ap (λ (z : ℕ). sort_of (t.nodes z)) (directory g) ∙ directory_sort t g well lt };
+    raised = λ g lt q. absurd (let a = ap (λ (o : Option Hold). holds_raised true o) (has.holds g) in cc (a, q));
     lent = λ g c lt is. absurd (let a = lender g in cc (a, is));
     serves = λ c g lt is. absurd (let a = ap (λ (f : ℕ → Option ℕ). f descriptor_count) (lent c) in cc (a, is));
   }

@@ -205,6 +205,7 @@ moving h fd s by e v O ov free lt inv none hit ours = record { fair = fair inv (
       free = ap (λ (o : Own). o.desk.lender) ov ∙ free;
       unlent = ap (λ (o : Own). o.desk.lender) ov ∙ free;
       joined = refl;
+      holds = refl;
       sorts = λ j d q. renewed_sorts v s e (entry_moved e by) inv hit.at refl refl j d q;
       noted = λ m q. (q, (λ z. let r = refs_walk v.harts h None None h m.number in omega (arith, r, z)));
       directory = inv.directory h lt;

@@ -6,6 +6,8 @@ use Rattle.plain_tree.specs.declared.node.Kind.{Kind}
 use Rattle.plain_tree.specs.declared.node.Kind.TheVariants.{Directory, File, Device}
 use Rattle.plain_tree.specs.Tree.{Tree, is_directory, hold_names}
 use Rattle.plain_tree.specs.HartRow.{row_of}
+use Rattle.plain_tree.specs.declared.tree.Hold.{Hold}
+use Rattle.plain_tree.specs.Steps.{holds_raised}
 use Rattle.tree_laws.specs.WellFormed.{one_if, IsWellFormed}
 use Rattle.tree_laws.proofs.Maps.{eq_self, either}
 use Rattle.tree_laws.proofs.Sums.{sum_none, one_yes}
@@ -57,6 +59,7 @@ rests t well files holds fds =
       noted = λ g n lt e. absurd cc;
       refers = λ g lt. record { few = λ i. let a = one_most (t.cwd g == i) in omega (arith, a); home = here g (t.cwd g) (eq_self (t.cwd g)) };
       directory = λ g lt. record { at = λ _. refl; sort = directory_sort t g well lt };
+      raised = λ g lt q. absurd (let a = ap (λ (o : Option Hold). holds_raised true o) (holds g) in cc (a, q));
       lent = λ g c lt is. absurd cc;
       serves = λ c g lt is. absurd cc;
     }

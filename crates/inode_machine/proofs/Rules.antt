@@ -247,6 +247,7 @@ locking h i v O ov free lt inv out mine e = record { fair = fair inv did; whole 
           ids = inv.ids;
           shop = shop_same h (shop_of v) inv.tied;
           free = ap (λ (o : Own). o.desk.lender) ov ∙ free;
+          raised = inv.raised h lt;
           quiet = λ j. put_elim v.keeper i (Some h) j (λ z. z ≡ Some h → (v.desks h).joined ≡ false → v.disk j ≡ v.all.nodes j) (λ q is f. inv.whole j (ap v.keeper q ∙ nobody)) (λ q is f. inv.quiet j h is f);
           sort = λ j. inl refl;
           sorts = inv.sorts;
@@ -423,6 +424,7 @@ ups h i O v0 inv0 ov0 free0 lt may only notes room = record { fair = fair inv0 (
           ids = inv.ids;
           shop = shop_same h (shop_of v) inv.tied;
           free = ap (λ (o : Own). o.desk.lender) ov ∙ free0;
+          raised = inv.raised h lt;
           quiet = λ j is f. inv.quiet j h is f;
           sort = λ j. inl refl;
           sorts = inv.sorts;

@@ -6,8 +6,9 @@ use Rattle.plain_tree.specs.declared.step.Action.TheVariants.{Inherit}
 use Rattle.plain_tree.specs.declared.step.StepAnswer.{StepAnswer}
 use Rattle.plain_tree.specs.Widths.{hart_count}
 use Rattle.plain_tree.specs.Tree.{Name, Tree, put, hold_names, is_live, settle, resolve, parent}
-use Rattle.plain_tree.specs.Steps.{path_of, follows_path, makes_node, StepWith}
+use Rattle.plain_tree.specs.Steps.{path_of, follows_path, makes_node, StepWith, holds_raised}
 use Rattle.plain_tree.specs.HartRow.{row_of, Row, key_names}
+use Rattle.plain_tree.specs.declared.tree.Hold.{Hold}
 use Rattle.tree_laws.specs.WellFormed.{sum_below, IsWellFormed}
 use Rattle.tree_moves.specs.Moves.{Takes}
 use Rattle.tree_moves.specs.Moves.Move.{Own as OwnMove}
@@ -24,6 +25,7 @@ pub record Sells (h : ℕ) (v : World) (F : ℕ → Option Entry) (D : ℕ → D
   pub free : (D h).lender ≡ None
   pub unlent : (v.desks h).lender ≡ None
   pub joined : (D h).joined ≡ (v.desks h).joined
+  pub holds : T.holds ≡ v.all.holds
   pub sorts : (k : ℕ) (e : Entry) → F k ≡ Some e → sort_of (v.all.nodes e.file.number) ≡ Some e.sort
   pub noted : (m : Note) → (D h).noted ≡ Some m → ((v.desks h).noted ≡ Some m) × (0 < (H h).refs m.number → 0 < (v.harts h).refs m.number)
   pub directory : Stands (D h) (T.cwd h) v.all.nodes
@@ -55,6 +57,7 @@ sells_did h v F D S T H lt inv s =
       ids = s.ids;
       shop = s.kin;
       free = s.free;
+      raised = λ q. s.joined ∙ inv.raised h lt (ap (λ (f : ℕ → Option Hold). holds_raised true (f h)) (sym s.holds) ∙ q);
       quiet = λ j is f. inv.quiet j h is (sym s.joined ∙ f) ∙ sym (ap (λ (f : ℕ → Option Node). f j) s.nodes);
       sort = λ j. inl (ap (λ (f : ℕ → Option Node). sort_of (f j)) s.nodes);
       sorts = λ k e is. ap (λ (f : ℕ → Option Node). sort_of (f e.file.number)) s.nodes ∙ s.sorts k e is;

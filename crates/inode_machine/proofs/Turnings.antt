@@ -118,6 +118,7 @@ module _ (h c : ℕ) (v : World) (O : Own) (F : ℕ → Option Entry) (D : ℕ �
     left = ap (λ (d : Desk). d.left) t.mine;
     opening = ap (λ (d : Desk). d.opening) t.mine;
     lender = ap (λ (d : Desk). d.lender) t.mine ∙ unlent;
+    joined = ap (λ (d : Desk). d.joined) t.mine;
     noted = ap (λ (d : Desk). d.noted) t.mine ∙ ap (λ (o : Own). o.desk.noted) ov ∙ s.noted;
     walk = t.walk;
     found = t.found;

@@ -37,6 +37,7 @@ walk_named_did h k p v free lt inv names notes lands finds =
       ids = inv.ids;
       shop = shop_same h (shop_of v) inv.tied;
       free = free;
+      raised = inv.raised h lt;
       quiet = λ j is f. inv.quiet j h is f;
       sort = λ j. inl refl;
       sorts = inv.sorts;

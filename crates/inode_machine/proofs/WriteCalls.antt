@@ -17,6 +17,8 @@ use Rattle.plain_tree.specs.Tree.{put}
 use Rattle.plain_tree.specs.Calls.{Act, cause_of, last_cause, first_cause, had_room, counted, next_of, next_piece, reply_of, piece, piece_count}
 use Rattle.std.proofs.Math.Nat.{le-div_iff_mul-le}
 use Rattle.std.proofs.Math.Numerals.{add-one}
+use Rattle.plain_tree.specs.declared.tree.Hold.{Hold}
+use Rattle.plain_tree.specs.Steps.{holds_raised}
 use Rattle.atomic_programs.specs.Prog.{Do, unmarked}
 use Rattle.tree_laws.proofs.Maps.{either, eq_isnt, same_or, put_same}
 use Rattle.inode_machine.specs.World.Op.{Leave}
@@ -198,11 +200,11 @@ rests_still O r = record { inodes = r.inodes; refs = r.refs; walk = refl; pendin
 
 -- once the inode is given up the transaction is left
 s-leaves : {A : Type 0} {h : ℕ} (O : Own) (i : ℕ) (x : Option Held) {p : P machine A} {B : List Step → Type 0} {Q : A → List Step → World → Type 0} {n : ℕ} {es : List Step} {w : World}
-    → own_of h w ≡ record O { inodes = put (put O.inodes i x) i None; mine = record { refs = O.mine.refs; walk = None; pending = None } } → O.desk.lender ≡ None → h < hart_count → 62 < n → O.inodes ≡ nothing → O.desk.joined ≡ true
+    → own_of h w ≡ record O { inodes = put (put O.inodes i x) i None; mine = record { refs = O.mine.refs; walk = None; pending = None } } → O.desk.lender ≡ None → h < hart_count → 62 < n → O.inodes ≡ nothing → O.desk.joined ≡ true → O.row.hold ≡ None
     → ((l : ℕ) (u : World) → l + 63 ≡ n → own_of h u ≡ unjoined (given O) → Safe machine h B Q p l es u)
     → Safe machine h B Q (Do Leave unmarked (λ _. p)) n es w
-s-leaves O i x own free lt pos empty joined rest =
-    s-leave (own ∙ (λ r. record O { inodes = given_is O.inodes i x empty r; mine = record { refs = O.mine.refs; walk = None; pending = None } })) free lt pos (unlocks_nothing nothing refl) joined
+s-leaves O i x own free lt pos empty joined none rest =
+    s-leave (own ∙ (λ r. record O { inodes = given_is O.inodes i x empty r; mine = record { refs = O.mine.refs; walk = None; pending = None } })) free lt pos (unlocks_nothing nothing refl) joined (ap (λ (o : Option Hold). holds_raised true o) none)
     (λ j y is. absurd (let a : ◌≡◌ {A = Option Held} None (Some y) = is in cc)) rest
 
 piece_short : (bytes : List ℕ) (i : ℕ) → length (piece bytes i) ≤ piece_width
@@ -217,11 +219,11 @@ s-piece {h} fd n bytes i O own free lt pos joined rests key below rest =
     s-lock-open fd n own free lt (omega (arith, pos)) rests.opening (λ j. ap (λ (f : ℕ → Option Held). f j) rests.inodes) key (λ l0 offset x u0 q0 stands own0.
     s-write-file fd n offset (piece bytes i) x own0 free lt (omega (arith, pos, q0)) rests.walk rests.pending rests.opening (put_same O.inodes n (Some (locked_held (Some x)))) joined
     (record { opened = record { slot = key.opened.slot; below = key.opened.below; is = key.opened.is; key = key.opened.key; at = key.opened.at; number = key.opened.number }; writable = key.writable }) (record { entry = stands.entry; at = stands.at; number = stands.number; offset_is = stands.offset_is }) (piece_short bytes i) (λ c. begun_failed fd bytes i c below) (begun_wrote fd bytes i below)
-    (λ l c u q own2. s-leaves O n (Some (locked_held (Some x))) own2 free lt (omega (arith, pos, q0, q)) rests.inodes joined (λ l2 u2 q2 own3.
+    (λ l c u q own2. s-leaves O n (Some (locked_held (Some x))) own2 free lt (omega (arith, pos, q0, q)) rests.inodes joined rests.hold (λ l2 u2 q2 own3.
     s-say own3 free lt (omega (arith, pos, q0, q, q2)) (unlocks_nothing nothing refl) refl (λ l3 u3 q3 _ own4. record { wp = (λ _. failed_written fd bytes i c below, idle_as h u3 _ own4 (rests_again O rests)) })))
-    (λ l j u q dirty own2. s-leaves (filled O) n (Some (locked_held (Some x))) own2 free lt (omega (arith, pos, q0, q)) rests.inodes joined (λ l2 u2 q2 own3.
+    (λ l j u q dirty own2. s-leaves (filled O) n (Some (locked_held (Some x))) own2 free lt (omega (arith, pos, q0, q)) rests.inodes joined rests.hold (λ l2 u2 q2 own3.
     s-say own3 free lt (omega (arith, pos, q0, q, q2)) (unlocks_nothing nothing refl) refl (λ l3 u3 q3 spoilt own4. record { wp = (λ c. absurd (let a = spoilt refl in cc (a, c)), idle_as h u3 _ own4 (rests_filled O rests)) })))
-    (λ l u q own2. s-leaves O n (Some (locked_held (Some x))) own2 free lt (omega (arith, pos, q0, q)) rests.inodes joined (λ l2 u2 q2 own3. rest l2 u2 (omega (arith, q0, q, q2)) own3)))
+    (λ l u q own2. s-leaves O n (Some (locked_held (Some x))) own2 free lt (omega (arith, pos, q0, q)) rests.inodes joined rests.hold (λ l2 u2 q2 own3. rest l2 u2 (omega (arith, q0, q, q2)) own3)))
 
 -- The pieces from one on.
 from_ok : (h fd n : ℕ) (bytes : List ℕ) (left i N : ℕ) (O : Own) (w : World) → own_of h w ≡ O → O.desk.lender ≡ None → h < hart_count → O.desk.joined ≡ true → Rests (unjoined O) → IsWritable O fd n → i + left + 1 ≡ piece_count bytes → 200 * left + 200 ≤ N

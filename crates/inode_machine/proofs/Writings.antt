@@ -81,6 +81,7 @@ changing h i y x v O ov free lt inv none isi sort live well = record { fair = fa
           ids = inv.ids;
           shop = shop_same h (shop_of v) inv.tied;
           free = ap (λ (o : Own). o.desk.lender) ov ∙ free;
+          raised = inv.raised h lt;
           quiet = λ j is f. elim (same_or j i) [
             | inl q ↦ ap (put v.disk i (Some y)) q ∙ put_same v.disk i (Some y) ∙ sym (ap (put v.all.nodes i (Some y)) q ∙ put_same v.all.nodes i (Some y))
             | inr ne ↦ put_other v.disk i (Some y) j ne ∙ inv.quiet j h is f ∙ sym (put_other v.all.nodes i (Some y) j ne)
@@ -224,7 +225,7 @@ s-join-file {A} {h} fd b {k} {B} {Q} {n} {es} {w} {O} owns free lt pos walks non
     by_cause v inv ov s e hit None goes =
         let new : Desk = record (v.desks h) { joined = true } in
         let f = flagging h v O new (record (O.desk) { joined = true }) v.clean ov free lt inv (ap (λ (o : Own). record (o.desk) { joined = true }) ov)
-        (record { fds = refl; hand = refl; lent = refl; opening = refl; left = refl; directory = refl }) (ap (λ (o : Own). o.desk.lender) ov ∙ free) (λ f j is. absurd cc) (λ m q r s. inv.noted h m lt q r s) (λ q. inv.tied.spoiled h q) (λ q. q) (λ q. q) in
+        (record { fds = refl; hand = refl; lent = refl; opening = refl; left = refl; directory = refl }) (ap (λ (o : Own). o.desk.lender) ov ∙ free) (λ f j is. absurd cc) (λ q. refl) (λ m q r s. inv.noted h m lt q r s) (λ q. inv.tied.spoiled h q) (λ q. q) (λ q. q) in
         quiet f.fair refl pos (λ l q. (then_ l e.file.number (with_joined v h true) q (writable_from h fd s e v O inv ov lt hit goes) f.owned).wp)
     by_cause v inv ov s e hit (Some c) stops =
         refused_good h 0 n B Q es v O (WritePart fd b) c (k (NotJoined c)) ov free lt inv walks none (table_refuses h fd s e b c v inv lt hit stops) (bf c) pos (λ l u p own2. bad l c u p own2)

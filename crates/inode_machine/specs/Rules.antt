@@ -4,7 +4,7 @@ use Rattle.plain_tree.specs.declared.node.Node.{Node}
 use Rattle.plain_tree.specs.declared.tree.OpenFile.{OpenFile}
 use Rattle.plain_tree.specs.declared.node.Kind.TheVariants.{Directory}
 use Rattle.plain_tree.specs.Widths.{hart_count, descriptor_count, name_width, piece_width, count_limit}
-use Rattle.plain_tree.specs.Steps.{is_file, no_driver}
+use Rattle.plain_tree.specs.Steps.{is_file, no_driver, holds_raised}
 use Rattle.plain_tree.specs.Tree.{Name, hold_names, is_directory, is_live, look}
 use Rattle.plain_tree.specs.HartRow.{Key, Row, row_of, key_names}
 use Rattle.tree_laws.specs.WellFormed.{sum_below, one_if, IsWellFormed}
@@ -240,6 +240,8 @@ pub record Inv (w : World) : Type 0 where
   -- while it refers to what it found, and doesn't free it, that has the type that it had
   pub noted : (g : ℕ) (n : Note) → g < hart_count → (w.desks g).noted ≡ Some n → Reached w g n.number → w.alone n.number ≡ false → sort_of (w.all.nodes n.number) ≡ n.sort
   pub directory : (g : ℕ) → g < hart_count → Stands (w.desks g) (w.all.cwd g) w.all.nodes
+  -- who has raised a count for a link that is under way is in a transaction
+  pub raised : (g : ℕ) → g < hart_count → holds_raised true (w.all.holds g) ≡ true → (w.desks g).joined ≡ true
   pub lent : (g c : ℕ) → g < hart_count → (w.desks g).lender ≡ Some c → Lends w c g
   pub serves : (c g : ℕ) → c < hart_count → child_of (w.desks c) ≡ Some g → (g < hart_count) × ((w.desks g).lender ≡ Some c)
 
@@ -284,7 +286,8 @@ Sought AtEntries = Unit {0}
 -- What an operation asks. Who locks an inode refers to it, and hasn't locked it, and where its lock is free it has a record, and what is looked for in it is a
 -- name; who refers to one more has found it in a directory that it keeps; who gives a reference up, to none or to a table, has one besides its current directory's;
 -- who forgets an inode has freed it, and keeps it;
--- who changes an inode has its lock and has joined; who joins, leaves, opens by a descriptor or replies has no lock; who hands a descriptor on has handed on none
+-- who changes an inode has its lock and has joined; who joins, leaves, opens by a descriptor or replies has no lock, and who leaves has raised no count that no
+-- name stands for yet; who hands a descriptor on has handed on none
 -- from there, and where it has none hands the directory on at once; who hands that on, or lets a child go, has no descriptor on its way.
 -- A record is changed that is there, and of the operation's kind; as much is read as a call may ask for, of the inode that its descriptor has, from where
 -- its file stands, and a piece is written to that there; who shuts a descriptor hands none on.
@@ -376,7 +379,7 @@ Asks h (Lend child from) w = Serves h child w × (given_of (w.desks h) ≡ None)
 Asks h (LendDirectory child) w = Serves h child w × LendsNone h w
 Asks h (Release child) w = Serves h child w × LendsNone h w
 Asks h Join w = LocksNone h w × ((w.desks h).joined ≡ false)
-Asks h Leave w = LocksNone h w × ((w.desks h).joined ≡ true)
+Asks h Leave w = LocksNone h w × ((w.desks h).joined ≡ true) × (holds_raised true (w.all.holds h) ≡ false)
 Asks h Say w = LocksNone h w × ((w.desks h).joined ≡ false)
 
 -- and that the hart gets nothing from another one

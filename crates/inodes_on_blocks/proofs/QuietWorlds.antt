@@ -2,10 +2,11 @@
 use Rattle.std.proofs.Common.{◌≡◌, inl, inr, ℕ, true, false, length, is_some, Option, Some, None, refl, sym, ◌∙◌, ap, arith}
 use Rattle.std.proofs.lemmas.Bool.{cases_lt}
 use Rattle.std.proofs.lemmas.List.{get_or_past}
-use Rattle.std.proofs.lemmas.Option.{none-some}
 use Rattle.fs_layout.specs.declared.superblock.Super.{Super}
 use Rattle.fs_layout.specs.Recovered.{sizes_of}
 use Rattle.plain_tree.specs.declared.node.Node.{Node}
+use Rattle.plain_tree.specs.declared.tree.Hold.{Hold}
+use Rattle.plain_tree.specs.Steps.{holds_raised}
 use Rattle.image_laws.specs.Holds.{live_part}
 use Rattle.image_laws.specs.Laws.{IsImageOf}
 use Rattle.image_laws.specs.Running.{IsTreeOf}
@@ -17,10 +18,10 @@ use Rattle.inode_machine.specs.Rules.{Inv}
 use Rattle.inodes_on_blocks.specs.OnBlocks.{is_joined}
 use Rattle.inodes_on_blocks.specs.Below.{World, log_of, disk_of}
 use Rattle.inodes_on_blocks.specs.Shown.{Shows, if_joined, ghost_of}
-use Rattle.inodes_on_blocks.specs.QuietWorlds.{IsQuiet, RaisesNone, QuietWorldsAreImages, RestingWorldsAreImages}
+use Rattle.inodes_on_blocks.specs.QuietWorlds.{IsQuiet, QuietWorldsAreImages, RestingWorldsAreImages}
 use Rattle.inodes_on_blocks.proofs.Quiet.{quiet_disk}
 
-module _ (r : World) (w : above.World) (shows : Shows r w) (inv : Inv w) (quiet : IsQuiet w) (unraised : RaisesNone w.all) where
+module _ (r : World) (w : above.World) (shows : Shows r w) (inv : Inv w) (quiet : IsQuiet w) where
   -- what is on the blocks is the tree's
   node_is : (n : ℕ) → w.disk n ≡ w.all.nodes n
   node_is n = at (w.keeper n) refl
@@ -42,18 +43,17 @@ module _ (r : World) (w : above.World) (shows : Shows r w) (inv : Inv w) (quiet 
   these = record {
     numbers = shows.size ∙ ap (λ (s : Super). s.ninodes) (sym sizes_are);
     live = λ n. ap (λ (v : Option Node). live_part v) (sym (node_is n));
-    raisers = λ h o lt is up. absurd (let q : false ≡ true = sym (unraised h o lt is) ∙ up in cc q);
+    raisers = λ h o lt is up. sym (shows.members h lt) ∙ inv.raised h lt (ap (λ (z : Option Hold). holds_raised true z) is ∙ up);
   }
 
   pub image : IsImageOf (disk_of (log_of r)) w.disk w.all
   image = quiet_image (disk_of (log_of r)) w.disk r.owner r.left (λ i. if_joined w.desks (w.lock i)) (is_joined (log_of r).members) shows.blocks.running w.all inv.well these nobody
 
 pub quiet_worlds_are_images : QuietWorldsAreImages
-quiet_worlds_are_images r w shows inv quiet unraised = (
-  image r w shows inv quiet unraised,
-  quiet_disk (log_of r).contents (log_of r).seats (log_of r).sizes (log_of r).members (ghost_of r.owner r.left w.disk w.lock w.desks) shows.blocks (image r w shows inv quiet unraised).well_formed,
+quiet_worlds_are_images r w shows inv quiet = (
+  image r w shows inv quiet,
+  quiet_disk (log_of r).contents (log_of r).seats (log_of r).sizes (log_of r).members (ghost_of r.owner r.left w.disk w.lock w.desks) shows.blocks (image r w shows inv quiet).well_formed,
 )
 
 pub resting_worlds_are_images : RestingWorldsAreImages
-resting_worlds_are_images r w shows inv idle =
-    quiet_worlds_are_images r w shows inv (λ h lt. (idle h).joined) (λ h o lt is. absurd (none-some o (sym (idle h).hold ∙ is)))
+resting_worlds_are_images r w shows inv idle = quiet_worlds_are_images r w shows inv (λ h lt. (idle h).joined)

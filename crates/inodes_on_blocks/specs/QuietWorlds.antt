@@ -1,7 +1,5 @@
 -- A world in which nobody is in a transaction.
-use Rattle.std.specs.Prelude.{◌≡◌, ℕ, ◌<◌, List, length, false, Some}
-use Rattle.plain_tree.specs.declared.tree.Hold.{Hold}
-use Rattle.plain_tree.specs.Tree.{Tree}
+use Rattle.std.specs.Prelude.{◌≡◌, ℕ, ◌<◌, List, length, false}
 use Rattle.plain_tree.specs.Widths.{hart_count}
 use Rattle.image_tree.specs.Damage.{IsWellFormed}
 use Rattle.image_tree.specs.Trees.{tree_in}
@@ -17,15 +15,11 @@ use Rattle.inodes_on_blocks.specs.Shown.{Shows}
 abbrev pub IsQuiet : above.World → Type 0
 IsQuiet w = (h : ℕ) → h < hart_count → (w.desks h).joined ≡ false
 
--- none has raised a count for a link that is under way
-abbrev pub RaisesNone : Tree → Type 0
-RaisesNone t = (h : ℕ) (o : Hold) → h < hart_count → t.holds h ≡ Some o → o.raised ≡ false
-
 -- Then the seen blocks are a well-formed image of the tree before it settles, whose live part it holds; and so is each disk that recovery would leave so. A
 -- commit that is under way is in no one's transaction: nothing that is seen changes by it.
 abbrev pub QuietWorldsAreImages : Type 0
 QuietWorldsAreImages =
-    (r : World) (w : above.World) → Shows r w → Inv w → IsQuiet w → RaisesNone w.all
+    (r : World) (w : above.World) → Shows r w → Inv w → IsQuiet w
     → IsImageOf (disk_of (log_of r)) w.disk w.all
     × ((disk : List (List ℕ)) → length disk ≡ length (log_of r).contents → IsRecoveredSo (log_of r).sizes (seen_of (log_of r)) disk
     → IsWellFormed disk × (tree_in disk ≡ tree_in (disk_of (log_of r))))

@@ -62,8 +62,8 @@ pub fn mounts_show_their_trees()
     ensures { MountsShowTheirTrees }
 {}
 
-/// Whenever nobody is in a transaction, and no count is raised, the seen blocks are an image of the tree above, and so is each disk
-/// that recovery would leave so.
+/// Whenever nobody is in a transaction the seen blocks are an image of the tree above, and so is each disk that recovery would
+/// leave so.
 pub fn quiet_worlds_are_images()
     ensures { QuietWorldsAreImages }
 {}
