@@ -213,7 +213,7 @@ s-claim {A} {h} sort {k} {B} {Q} {n} {es} {w} {O} owns free lt pos joined can th
 
     at : (v : World) → Inv v → own_of h v ≡ O → (x : Outside) → HonestClaim v x → Goal v x
     at v inv ov Room honest = mend_fine h 12300 n B Q es v O (k NoInode) ov free lt inv can pos none
-    at v inv ov (RoomFor j) honest = mend_fine h 12300 n B Q es v O (k NoInode) ov free lt inv can pos none
+    at v inv ov (RoomFor j) honest = mend_fine h 12300 n B Q es v O (k NoPlace) ov free lt inv can pos full
     at v inv ov (Picks i) honest = by_place (nat_lt (referenced v) place_count)
       where
         by_place : (b : Bool) → Good machine Claimed h (λ a. places h (Claim sort) a (mends_unless_new a) v) 12300 n B es v ⊥ (with_mark h mends_unless_new (if b then Ran (New i) (claimed h sort v i) else Ran NoPlace v)) (λ l a u. Wp machine h B Q (k a) l (onto (own h (places h (Claim sort) a (mends_unless_new a) v)) es) u)

@@ -416,7 +416,7 @@ pub s-down : {A : Type 0} {h i : ℕ} {k : Bool → P machine A} {B : List Step 
     → ((l : ℕ) (s : Option Node) (u : World) → l + 1 ≡ n → is_live s ≡ false → O.mine.refs i ≡ 1 → own_of h u ≡ record O { inodes = put O.inodes i (Some (record { disk = s; node = s; alone = true; locked = true })) } → Safe machine h B Q (k true) l es u)
     → ((l : ℕ) (u : World) → l + 1 ≡ n → own_of h u ≡ record O { mine = record { refs = put O.mine.refs i (O.mine.refs i - 1); walk = O.mine.walk; pending = O.mine.pending } } → Safe machine h B Q (k false) l es u)
     → Safe machine h B Q (Do (Down i) unmarked k) n es w
-s-down {A} {h} {i} {k} {B} {Q} {n} {es} {w} {O} owns free lt pos out refers none still last rest = s-owned owns free pos (λ v inv ov. ((spares h i v O ov refers (elim still [ inl m ↦ inl m | inr m ↦ inr (not_home h i v O O.desk.opening inv ov free lt m.0) ]), locks_not h i v O inv ov out), (λ x honest. at v inv ov (is_last v i) refl)))
+s-down {A} {h} {i} {k} {B} {Q} {n} {es} {w} {O} owns free lt pos out refers none still last rest = s-owned owns free pos (λ v inv ov. ((spares h i v O ov refers (elim still [ inl m ↦ inl m | inr m ↦ inr (not_home h i v O O.desk.opening inv ov free lt m.0) ]), has_none h i v O ov out), (λ x honest. at v inv ov (is_last v i) refl)))
   where
     at : (v : World) → Inv v → own_of h v ≡ O → (b : Bool) → is_last v i ≡ b → Good machine Bool h (λ a. []) 0 n B es v ⊥ (with_mark h unmarked (down_if h i v b)) (λ l a u. Wp machine h B Q (k a) l es u)
     at v inv ov true e =
@@ -431,7 +431,7 @@ pub s-walk-down : {A : Type 0} {h i : ℕ} {k : Bool → P machine A} {B : List 
     → ((l : ℕ) (s : Option Node) (u : World) → l + 1 ≡ n → is_live s ≡ false → s ≢ None → O.mine.refs i ≡ 1 → own_of h u ≡ record O { inodes = put O.inodes i (Some (record { disk = s; node = s; alone = true; locked = false })) } → Safe machine h B Q (k true) l es u)
     → ((l : ℕ) (u : World) → l + 1 ≡ n → own_of h u ≡ record O { mine = record { refs = put O.mine.refs i (O.mine.refs i - 1); walk = O.mine.walk; pending = O.mine.pending } } → Safe machine h B Q (k false) l es u)
     → Safe machine h B Q (Do (WalkDown i) unmarked k) n es w
-s-walk-down {A} {h} {i} {k} {B} {Q} {n} {es} {w} {O} owns free lt pos out refers none still last rest = s-owned owns free pos (λ v inv ov. ((spares h i v O ov refers (elim still [ inl m ↦ inl m | inr m ↦ inr (not_home h i v O O.desk.opening inv ov free lt m.0) ]), locks_not h i v O inv ov out), (λ x honest. at v inv ov (is_last v i) refl)))
+s-walk-down {A} {h} {i} {k} {B} {Q} {n} {es} {w} {O} owns free lt pos out refers none still last rest = s-owned owns free pos (λ v inv ov. ((spares h i v O ov refers (elim still [ inl m ↦ inl m | inr m ↦ inr (not_home h i v O O.desk.opening inv ov free lt m.0) ]), has_none h i v O ov out), (λ x honest. at v inv ov (is_last v i) refl)))
   where
     at : (v : World) → Inv v → own_of h v ≡ O → (b : Bool) → is_last v i ≡ b → Good machine Bool h (λ a. []) 0 n B es v ⊥ (with_mark h unmarked (walk_down_if h i v b)) (λ l a u. Wp machine h B Q (k a) l es u)
     at v inv ov true e =

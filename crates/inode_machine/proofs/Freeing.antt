@@ -162,7 +162,7 @@ well_gone t i k dead unnamed = record {
     ]
 
 -- nobody names an inode that one hart keeps alone, and doesn't name itself
-unnamed : (h i : ℕ) (v : World) → Inv v → h < hart_count → v.alone i ≡ true → v.keeper i ≡ Some h → own_names (row_of v.all h) (v.desks h) i ≡ false → is_named v.all i ≡ false
+pub unnamed : (h i : ℕ) (v : World) → Inv v → h < hart_count → v.alone i ≡ true → v.keeper i ≡ Some h → own_names (row_of v.all h) (v.desks h) i ≡ false → is_named v.all i ≡ false
 unfolding is_named
 unnamed h i v inv lt lone kept mine = none_any hart_count _ (λ g lg. hart_not g i v inv lg (let o = one_refs v h i inv lt in let c = counts in omega (arith, o, c)) (elim (same_or g h) [
   | inl e ↦ ap (λ (z : ℕ). own_names (row_of v.all z) (v.desks z) i) e ∙ mine

@@ -8,7 +8,7 @@ use Rattle.tree_laws.proofs.Nodes.{settled_well}
 use Rattle.tree_moves.specs.Moves.{Step as MoveStep}
 use Rattle.atomic_programs.specs.Calls.{Event}
 use Rattle.inode_machine.specs.World.{Op, Answer, Mark, Outside, World}
-use Rattle.inode_machine.specs.World.Mark.{Makes, Frees, Fills, Mends, Spoils}
+use Rattle.inode_machine.specs.World.Mark.{Makes, Frees, Orphans, Fills, Mends, Spoils}
 use Rattle.inode_machine.specs.Marks.{places}
 use Rattle.inode_machine.specs.MoveCalls.{IsMoving, RunsFrom}
 use Rattle.inode_machine.specs.Theory.{is_covered}
@@ -22,6 +22,7 @@ pub places_one : (h : ℕ) (op : Op) (a : Answer op) (m : Option Mark) (w : Worl
 places_one h op a None w = inl refl
 places_one h op a (Some (Makes v)) w = inr (_, refl)
 places_one h op a (Some (Frees n)) w = inl refl
+places_one h op a (Some (Orphans n)) w = inl refl
 places_one h op a (Some Fills) w = inl refl
 places_one h op a (Some Mends) w = inl refl
 places_one h op a (Some (Spoils s)) w = inl refl

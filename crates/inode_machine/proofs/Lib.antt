@@ -7,6 +7,7 @@ pub mod Both
 pub mod Numbers
 pub mod Walking
 pub mod Freeing
+pub mod Orphans
 pub mod Shops
 pub mod Dups
 pub mod Closes

@@ -22,7 +22,7 @@ use Rattle.tree_laws.proofs.Walks.{look_same}
 use Rattle.tree_moves.specs.Moves.{Walk, Deed, Stage, Step, Move, Acts, Looks, fail}
 use Rattle.tree_moves.specs.Moves.Move.{Look, Quit}
 use Rattle.inode_machine.specs.World.{Desk, Note, World, Mark, stage_of}
-use Rattle.inode_machine.specs.World.Mark.{Makes, Frees, Fills, Mends, Spoils}
+use Rattle.inode_machine.specs.World.Mark.{Makes, Frees, Orphans, Fills, Mends, Spoils}
 use Rattle.inode_machine.specs.World.Op.{Take}
 use Rattle.inode_machine.specs.Inodes.{Looking, Seen, sort_of, seen_in, face_of, is_live_face, is_directory_face}
 use Rattle.inode_machine.specs.Exec.{locked, lock_if, with_walk}
@@ -66,6 +66,7 @@ places_locked : (h d i : ℕ) (looking : Looking) (a : Seen) (o : Option Mark) (
 places_locked h d i looking a None v = refl
 places_locked h d i looking a (Some (Makes m)) v = refl
 places_locked h d i looking a (Some (Frees n)) v = refl
+places_locked h d i looking a (Some (Orphans n)) v = refl
 places_locked h d i looking a (Some Fills) v = refl
 places_locked h d i looking a (Some Mends) v = refl
 places_locked h d i looking a (Some (Spoils s)) v = refl

@@ -306,4 +306,4 @@ module _ (h : ℕ) (path : List ℕ) (flags : ℕ) (lt : h < hart_count) {base :
 
       unmade : (r : Reply) (l3 : ℕ) (u3 : World) → 971 * length ns + 1890 < l3 → own_of h u3 ≡ mended_own Owned2 → Goes h path flags (unmake i d ns r) l3 fs u3
       unmade r l3 u3 few3 held3 =
-          s-unmake h (calls.Open path flags) r new_file l3 fs u3 (mended_own Owned2) lt joins held3 few3 (pair_same (mended_own Owned2) p2 refl refl (stays_mended (mended_own Owned2) joins.ready p2.hold.stays refl refl refl)) (record { locked = refl; shared = refl; same = refl }) refl refl refl refl zero refl refl (inl refl)
+          s-unmake h (calls.Open path flags) r new_file l3 fs u3 (mended_own Owned2) lt joins held3 few3 (pair_same (mended_own Owned2) p2 refl refl (stays_mended (mended_own Owned2) joins.ready p2.hold.stays refl refl refl)) (record { locked = refl; shared = refl; same = refl }) refl refl refl refl zero notes from below refl refl (inl refl)

@@ -155,7 +155,7 @@ module _ (h : ℕ) (path : List ℕ) (lt : h < hart_count) {base : ℕ → ℕ} 
 
       unmade : (r : Reply) (l2 : ℕ) (u2 : World) → 971 * length ns + 1890 < l2 → own_of h u2 ≡ mended_own R → Goes h path (unmake i d ns r) l2 fs u2
       unmade r l2 u2 few2 held2 =
-          s-unmake h (calls.Mkdir path) r (with_dots i d (with_count 1 (blank OfDirectory))) l2 fs u2 (mended_own R) lt joins held2 few2 (pair_same (mended_own R) p refl refl (stays_mended (mended_own R) joins.ready p.hold.stays refl refl refl)) (record { locked = refl; shared = refl; same = refl }) refl refl refl refl zero refl refl (inl refl)
+          s-unmake h (calls.Mkdir path) r (with_dots i d (with_count 1 (blank OfDirectory))) l2 fs u2 (mended_own R) lt joins held2 few2 (pair_same (mended_own R) p refl refl (stays_mended (mended_own R) joins.ready p.hold.stays refl refl refl)) (record { locked = refl; shared = refl; same = refl }) refl refl refl refl zero notes from below refl refl (inl refl)
 
   -- A number is claimed: its lock is taken, its count and its entries stored.
   makes : (X : Node) (i l : ℕ) (fs : List Step) (u : World) (R : Own) → 971 * length ns + 3570 < l → own_of h u ≡ R → Pair base ns O0 R d i (locked_held (Some X)) (claimed_held OfDirectory) → base i ≡ 0 → R.mine.walk ≡ Some (record { step = Mkdir path; at = d; next = e; rest = [] }) → R.mine.pending ≡ None
@@ -166,7 +166,7 @@ module _ (h : ℕ) (path : List ℕ) (lt : h < hart_count) {base : ℕ → ℕ} 
       s-store i 1 (blank OfDirectory) held1 free lt (omega (arith, few, q1)) joined (put_same R.inodes i (Some (fresh_held (blank OfDirectory)))) refl refl (inl (omega arith)) (λ l2 u2 q2 held2.
       s-fill i d (with_count 1 (blank OfDirectory)) held2 free lt (omega (arith, few, q1, q2)) joined (put_same (put R.inodes i (Some (fresh_held (blank OfDirectory)))) i (Some (fresh_held (with_count 1 (blank OfDirectory))))) refl refl refl (locked_held (Some X)) X (p2.hold.has d (locked_held (Some X)) p2.at_d) refl (mendable joins.ready p2.hold)
       (λ l3 u3 q3 held3. enters X i l3 fs u3 _ (omega (arith, few, q1, q2, q3)) held3 (pair_set _ (fresh_held (with_dots i d (with_count 1 (blank OfDirectory)))) p2 refl refl refl refl refl) zero walk none live absent room good from below notes walking)
-      (λ l3 u3 q3 held3. s-unmake h (calls.Mkdir path) (full (calls.Mkdir path) Blocks) (with_count 1 (blank OfDirectory)) l3 fs u3 _ lt joins held3 (omega (arith, few, q1, q2, q3)) (pair_same (mended_own Owned2) p2 refl refl (stays_mended (mended_own Owned2) joins.ready p2.hold.stays refl refl refl)) (record { locked = refl; shared = refl; same = refl }) refl refl refl refl zero refl refl (inl refl))))
+      (λ l3 u3 q3 held3. s-unmake h (calls.Mkdir path) (full (calls.Mkdir path) Blocks) (with_count 1 (blank OfDirectory)) l3 fs u3 _ lt joins held3 (omega (arith, few, q1, q2, q3)) (pair_same (mended_own Owned2) p2 refl refl (stays_mended (mended_own Owned2) joins.ready p2.hold.stays refl refl refl)) (record { locked = refl; shared = refl; same = refl }) refl refl refl refl zero notes from below refl refl (inl refl))))
     where
       free : R.desk.lender ≡ None
       free = p.hold.stays.lender ∙ joins.ready.free

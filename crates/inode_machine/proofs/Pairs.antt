@@ -1,7 +1,6 @@
 -- A call that works on a directory and one inode more: they change, and are given up; what is new and gets no name is freed.
-use Rattle.std.proofs.Common.{◌≡◌, ◌≢◌, inl, inr, ℕ, ◌+◌, ◌-◌, ◌*◌, ◌<◌, Bool, true, false, ◌==◌, ◌&&◌, List, [], length, Option, Some, None, refl, sym, ◌∙◌, ap, subst, arith}
-use Rattle.atomic_programs.specs.Prog.{Do, unmarked}
-use Rattle.atomic_programs.specs.Logic.{Good, Fine, Safe, Wp}
+use Rattle.std.proofs.Common.{◌≡◌, ◌≢◌, inl, inr, ℕ, ◌+◌, ◌*◌, ◌<◌, ◌≤◌, true, false, ◌==◌, List, length, Option, Some, None, refl, sym, ◌∙◌, ap, arith}
+use Rattle.atomic_programs.specs.Logic.{Safe}
 use Rattle.atomic_programs.specs.Calls.{Begun, Ends}
 use Rattle.plain_tree.specs.declared.answer.Reply.{Reply}
 use Rattle.plain_tree.specs.declared.call.Call.{Call}
@@ -10,23 +9,17 @@ use Rattle.plain_tree.specs.Widths.{hart_count}
 use Rattle.plain_tree.specs.Tree.{put}
 use Rattle.tree_laws.specs.WellFormed.{one_if}
 use Rattle.tree_laws.proofs.Maps.{either, same_or, put_same, put_other}
-use Rattle.tree_laws.proofs.Nodes.{put_self}
 use Rattle.tree_moves.specs.Moves.{Step}
-use Rattle.inode_machine.specs.World.{Desk, World}
-use Rattle.inode_machine.specs.World.Op.{Down}
-use Rattle.inode_machine.specs.Exec.{down_if, is_dead, is_last, locked, reserved, with_count}
-use Rattle.inode_machine.specs.Marks.{with_mark}
-use Rattle.inode_machine.specs.Rules.{Held, Own, own_names, own_of, Inv, machine}
-use Rattle.inode_machine.specs.Parts.{P, give_up, tail}
+use Rattle.inode_machine.specs.World.{Desk, Note, World}
+use Rattle.inode_machine.specs.Exec.{with_count}
+use Rattle.inode_machine.specs.Rules.{Held, Own, own_names, own_of, machine}
+use Rattle.inode_machine.specs.Parts.{give_up, tail}
 use Rattle.inode_machine.specs.Opening.{unmake}
 use Rattle.inode_machine.specs.Theory.{covered_calls}
-use Rattle.inode_machine.proofs.Frame.{has_inode}
-use Rattle.inode_machine.proofs.Rules.{s-owned, quiet, my_refs, has_disk}
-use Rattle.inode_machine.proofs.Counting.{not_home, spares}
-use Rattle.inode_machine.proofs.Freeing.{locking_kept, s-free, s-give-alone, s-forget}
+use Rattle.inode_machine.proofs.Rules.{locked_held}
+use Rattle.inode_machine.proofs.Orphans.{s-orphan}
 use Rattle.inode_machine.proofs.Listing.{times, one_at, one_else}
 use Rattle.inode_machine.proofs.Walks.{Stays, names_stay, stays_same}
-use Rattle.inode_machine.proofs.Claiming.{s-store}
 use Rattle.inode_machine.proofs.Holdings.{Holding, IsWhole, Joins, Told, holding_same, holding_set, unlisted, unlisted_refs, s-give-end, s-give-up}
 
 -- The hart keeps directory d, of which it has x, and i, of which it has z, each with a reference; and its list.
@@ -106,69 +99,15 @@ s-end-pair-back h c r {base} {ns} {O0} {d} {i} {x} {z} n es w O lt joins owns fe
     (λ j nd. elim (same_or j i) [ inl e ↦ ap (put p.extra i None) e ∙ put_same p.extra i None | inr ni ↦ put_other p.extra i None j ni ∙ p.others j nd ni ]) walk2 none2 (full_on c r es O R desk told))
 
 -- A new inode that gets no name: its count is cleared, and with the last reference it is freed.
-
--- the last reference to a dead inode that the hart keeps alone takes its lock
-pub s-down-kept : {A : Type 0} {h i : ℕ} {x : Held} (y : Node) {k : Bool → P A} {B : List Step → Type 0} {Q : A → List Step → World → Type 0} {n : ℕ} {es : List Step} {w : World} {O : Own}
-    → own_of h w ≡ O → O.desk.lender ≡ None → h < hart_count → 0 < n → O.inodes i ≡ Some x → x.alone ≡ true → x.locked ≡ false → x.disk ≡ Some y → y.count ≡ 0 → O.mine.refs i ≡ 1 → own_names O.row O.desk i ≡ false
-    → ((l : ℕ) (u : World) → l + 1 ≡ n → own_of h u ≡ record O { inodes = put O.inodes i (Some (record x { locked = true })) } → Safe machine h B Q (k true) l es u)
-    → Safe machine h B Q (Do (Down i) unmarked k) n es w
-s-down-kept {A} {h} {i} {x} y {k} {B} {Q} {n} {es} {w} {O} owns free lt pos isi lone out disk dead one unnamed rest = s-owned owns free pos (λ v inv ov. (
-  (spares h i v O ov (omega (arith, one)) (inr (not_home h i v O O.desk.opening inv ov free lt unnamed)), (λ e. let a = locking_kept h i x v O ov free lt inv isi out in let b = a.unlocked in cc (b, e))),
-  (λ _ _. subst (λ (b : Bool). Good machine Bool h (λ a. []) 0 n B es v ⊥ (with_mark h unmarked (down_if h i v b)) (λ l a u. Wp machine h B Q (k a) l es u)) (sym (last v inv ov)) (good v inv ov)),
-))
-  where
-    lone_at : (v : World) → own_of h v ≡ O → v.alone i ≡ true
-    lone_at v ov = ap (λ (z : Held). z.alone) (has_inode h i v O x ov isi).1 ∙ lone
-
-    refs_one : (v : World) → Inv v → own_of h v ≡ O → v.refs i ≡ 1
-    refs_one v inv ov =
-        let a = inv.alone i (lone_at v ov) in
-        let s : Some a.hart ≡ Some h = sym a.kept ∙ (has_inode h i v O x ov isi).0 in
-        let e : a.hart ≡ h = cc in
-        a.counts ∙ ap (λ (g : ℕ). (v.harts g).refs i) e ∙ my_refs h v O i ov ∙ one
-
-    last : (v : World) → Inv v → own_of h v ≡ O → is_last v i ≡ true
-    last v inv ov = (λ z. (refs_one v inv ov z == 1) && is_dead ((has_disk h i v O x ov isi ∙ disk) z)) ∙ (λ z. dead z == 0)
-
-    good : (v : World) → Inv v → own_of h v ≡ O → Fine machine h [] 0 n B es v (record (reserved h i v) { lock = put v.lock i (Some h) }) (λ l. Wp machine h B Q (k true) l es (record (reserved h i v) { lock = put v.lock i (Some h) }))
-    good v inv ov =
-        let a = locking_kept h i x v O ov free lt inv isi out in
-        let same : record (reserved h i v) { lock = put v.lock i (Some h) } ≡ locked h i v = (λ z. record (locked h i v) { alone = put_self v.alone i true (lone_at v ov) z }) in
-        subst (λ (u : World). Fine machine h [] 0 n B es v u (λ l. Wp machine h B Q (k true) l es u)) (sym same) (quiet a.fair refl pos (λ l q. (rest l (locked h i v) q a.owned).wp))
-
 pub s-unmake : (h : ℕ) (c : Call) (r : Reply) {base : ℕ → ℕ} {ns : List ℕ} {O0 : Own} {d i : ℕ} {x z : Held} (y : Node) (n : ℕ) (es : List Step) (w : World) (O : Own) → h < hart_count → Joins base O0 → own_of h w ≡ O → 971 * length ns + 1890 < n → Pair base ns O0 O d i x z → IsWhole x → z.disk ≡ Some y → z.node ≡ None → z.alone ≡ true → z.locked ≡ true → base i ≡ 0
-    → O.mine.walk ≡ None → O.mine.pending ≡ None → Told c r es O
+    → ((t : Note) → O.desk.noted ≡ Some t → t.number ≢ i) → 1 ≤ i → i < O.ninodes → O.mine.walk ≡ None → O.mine.pending ≡ None → Told c r es O
     → Safe machine h (Begun covered_calls c) (Ends covered_calls h c) (unmake i d ns r) n es w
-s-unmake h c r {base} {ns} {O0} {d} {i} {x} {z} y n es w O lt joins owns few p whole disk node lone has zero walk none told =
-    s-store i 0 y owns free lt (omega (arith, few)) joined (p.hold.has i z p.at_i) has disk (inl (omega arith)) (λ l1 u1 q1 own1.
-    s-give-alone own1 free lt (omega (arith, few, q1)) (put_same O.inodes i (Some y1)) has lone (λ l2 u2 q2 own2.
-    s-down-kept (with_count 0 y) own2 free lt (omega (arith, few, q1, q2)) (put_same (put O.inodes i (Some y1)) i (Some y2)) lone refl refl refl one unnamed (λ l3 u3 q3 own3.
-    s-free own3 free lt (omega (arith, few, q1, q2, q3)) joined (put_same (put (put O.inodes i (Some y1)) i (Some y2)) i (Some y3)) refl lone unnamed none (λ l4 u4 q4 own4.
-    s-give-alone own4 free lt (omega (arith, few, q1, q2, q3, q4)) (put_same _ i (Some y4)) refl lone (λ l5 u5 q5 own5.
-    s-forget own5 free lt (omega (arith, few, q1, q2, q3, q4, q5)) (put_same _ i (Some y5)) lone refl refl refl one none unnamed (λ k is. absurd (cc (is, walk))) (λ l6 u6 q6 own6.
-    s-give-end h c r ns (put p.extra i None) d l6 es u6 R lt joins own6 (omega (arith, few, q1, q2, q3, q4, q5, q6)) freed
-    (put_other p.extra i None d (λ e. p.apart (sym e)) ∙ p.at_d) whole (λ j nd. elim (same_or j i) [ inl e ↦ ap (put p.extra i None) e ∙ put_same p.extra i None | inr ni ↦ put_other p.extra i None j ni ∙ p.others j nd ni ]) walk none told))))))
+s-unmake h c r {base} {ns} {O0} {d} {i} {x} {z} y n es w O lt joins owns few p whole disk node lone has zero notes low below walk none told =
+    s-orphan y owns free lt (omega (arith, few)) joined (p.hold.has i z p.at_i) has lone disk node unnamed none notes low below (λ l u q own.
+    s-end-pair-back h c r l es u R lt joins own (omega (arith, few, q)) (pair_set R (locked_held (Some (with_count 0 y))) p refl refl refl refl refl) whole (record { locked = refl; shared = refl; same = refl }) walk none told)
   where
-    y1 : Held
-    y1 = record z { disk = Some (with_count 0 y) }
-
-    y2 : Held
-    y2 = record y1 { locked = false }
-
-    y3 : Held
-    y3 = record y2 { locked = true }
-
-    y4 : Held
-    y4 = record y3 { disk = None; node = None }
-
-    y5 : Held
-    y5 = record y4 { locked = false }
-
-    I : ℕ → Option Held
-    I = put (put (put (put (put O.inodes i (Some y1)) i (Some y2)) i (Some y3)) i (Some y4)) i (Some y5)
-
     R : Own
-    R = record O { inodes = put I i None; mine = record { refs = put O.mine.refs i (O.mine.refs i - 1); walk = O.mine.walk; pending = O.mine.pending } }
+    R = record O { inodes = put O.inodes i (Some (locked_held (Some (with_count 0 y)))) }
 
     free : O.desk.lender ≡ None
     free = p.hold.stays.lender ∙ joins.ready.free
@@ -176,27 +115,5 @@ s-unmake h c r {base} {ns} {O0} {d} {i} {x} {z} y n es w O lt joins owns few p w
     joined : O.desk.joined ≡ true
     joined = p.hold.stays.joined ∙ joins.ready.joined
 
-    listed_not : times i ns ≡ 0
-    listed_not = unlisted_refs p.hold i (let o = one_at i in omega (arith, o))
-
-    one : O.mine.refs i ≡ 1
-    one = let f = p.hold.refs i in let o = one_at i in let e = one_else d i p.apart in let t = listed_not in omega (arith, f, o, e, t, zero)
-
     unnamed : own_names O.row O.desk i ≡ false
     unnamed = elim (either (own_names O.row O.desk i)) [ inr q ↦ q | inl q ↦ absurd (let a = joins.ready.spare i (sym (names_stay O O0 p.hold.stays i) ∙ q) in omega (arith, a, zero)) ]
-
-    same_inodes : (j : ℕ) → put I i None j ≡ put O.inodes i None j
-    same_inodes j = elim (same_or j i) [
-      | inl q ↦ ap (put I i None) q ∙ put_same I i None ∙ sym (ap (put O.inodes i None) q ∙ put_same O.inodes i None)
-      | inr ne ↦ put_other I i None j ne ∙ put_other (put (put (put (put O.inodes i (Some y1)) i (Some y2)) i (Some y3)) i (Some y4)) i (Some y5) j ne ∙ put_other (put (put (put O.inodes i (Some y1)) i (Some y2)) i (Some y3)) i (Some y4) j ne
-          ∙ put_other (put (put O.inodes i (Some y1)) i (Some y2)) i (Some y3) j ne ∙ put_other (put O.inodes i (Some y1)) i (Some y2) j ne ∙ put_other O.inodes i (Some y1) j ne ∙ sym (put_other O.inodes i None j ne)
-    ]
-
-    fewer : (j : ℕ) → put O.mine.refs i (O.mine.refs i - 1) j ≡ base j + times j ns + (0 + one_if (d == j))
-    fewer j = let f = p.hold.refs j in elim (same_or j i) [
-      | inl q ↦ (let a : put O.mine.refs i (O.mine.refs i - 1) j ≡ O.mine.refs i - 1 = ap (put O.mine.refs i (O.mine.refs i - 1)) q ∙ put_same O.mine.refs i (O.mine.refs i - 1) in let b : O.mine.refs j ≡ O.mine.refs i = ap O.mine.refs q in let o : one_if (i == j) ≡ 1 = ap (λ (k : ℕ). one_if (i == k)) q ∙ one_at i in omega (arith, a, b, o, f))
-      | inr ne ↦ (let a = put_other O.mine.refs i (O.mine.refs i - 1) j ne in let o = one_else i j ne in omega (arith, a, o, f))
-    ]
-
-    freed : Holding base ns O0 R (put p.extra i None) (λ j. 0 + one_if (d == j))
-    freed = holding_set R i None (λ j. 0 + one_if (d == j)) p.hold listed_not (λ r j. same_inodes j r) (stays_same R O O0 refl refl refl p.hold.stays) (λ j ne. put_other O.mine.refs i (O.mine.refs i - 1) j ne) fewer

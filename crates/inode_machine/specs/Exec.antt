@@ -129,7 +129,7 @@ claimed h sort w n = record w {
 abbrev pub claim_if : ℕ → Sort → World → Outside → Did Claimed World
 claim_if h sort w (Picks n) = if nat_lt (referenced w) place_count then Ran (New n) (claimed h sort w n) else Ran NoPlace w
 claim_if h sort w Room = Ran NoInode w
-claim_if h sort w (RoomFor k) = Ran NoInode w
+claim_if h sort w (RoomFor k) = Ran NoPlace w
 
 abbrev pub with_count : ℕ → Node → Node
 with_count c v = record v { count = c }

@@ -13,7 +13,7 @@ use Rattle.inode_machine.specs.Inodes.{sort_of}
 use Rattle.tree_moves.specs.Moves.{Walk, fail, Deed, Move, Step}
 use Rattle.tree_moves.specs.Moves.Move.{Begin, Look, Quit, Own}
 use Rattle.inode_machine.specs.World.{Desk, World, Op, Answer, Outside, Mark}
-use Rattle.inode_machine.specs.World.Mark.{Makes, Frees, Fills, Mends, Spoils}
+use Rattle.inode_machine.specs.World.Mark.{Makes, Frees, Orphans, Fills, Mends, Spoils}
 use Rattle.inode_machine.specs.Exec.{is_nothing, first_from, or_zero, with_walk, exec}
 
 -- The step acts, or is refused; a tree that isn't settled stays so.
@@ -215,6 +215,7 @@ abbrev pub marked : ℕ → Option Mark → World → World
 marked h None w = w
 marked h (Some (Makes v)) w = with_made h (made_by w.all h (new_id w) (w.harts h).walk v) w
 marked h (Some (Frees n)) w = record w { all = record (w.all) { nodes = put w.all.nodes n None } }
+marked h (Some (Orphans n)) w = record w { all = record (w.all) { nodes = put w.all.nodes n (w.disk n) }; alone = put w.alone n false }
 marked h (Some Fills) w = spoiled h w
 marked h (Some Mends) w = mended h w
 marked h (Some (Spoils s)) w = spoiled h (with_made h (made_by w.all h (new_id w) (w.harts h).walk (Own s 0)) w)
@@ -231,6 +232,7 @@ abbrev pub places : ℕ → (op : Op) → Answer op → Option Mark → World �
 places h op a None w = []
 places h op a (Some (Makes v)) w = (h, record { move = v; told = (made_by w.all h (new_id w) (w.harts h).walk v).told }) ∷ []
 places h op a (Some (Frees n)) w = []
+places h op a (Some (Orphans n)) w = []
 places h op a (Some Fills) w = []
 places h op a (Some Mends) w = []
 places h op a (Some (Spoils s)) w = []

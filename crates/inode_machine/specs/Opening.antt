@@ -15,7 +15,7 @@ use Rattle.inode_machine.specs.Inodes.{Sort, OfFile, face_or, AtNothing, AtName,
 use Rattle.tree_moves.specs.Moves.Move.{Begin, Look}
 use Rattle.inode_machine.specs.World.{Mark, Claimed, New, NoInode, NoPlace, Entered, InPlace, NoBlock, NoSlot}
 use Rattle.inode_machine.specs.World.Op.{Take, Give, Up, Claim, Store, Enter, Empty, Slot, Install, Join}
-use Rattle.inode_machine.specs.World.Mark.{Mends}
+use Rattle.inode_machine.specs.World.Mark.{Mends, Orphans}
 use Rattle.inode_machine.specs.Parts.{P, makes, own_step, mends_if_full, failed, full, drop, give_up, tail, stopped, walk, walk_parent, start, looks_where, is_there}
 
 -- an open file at its beginning
@@ -85,7 +85,7 @@ entered_file n NoSlot = Some Mends
 
 -- the new inode has no name, and is freed
 abbrev pub unmake : ℕ → ℕ → List ℕ → Reply → P Reply
-unmake n d ns r = Do (Store n 0) unmarked (λ _. give_up n (give_up d (tail ns r)))
+unmake n d ns r = Do (Store n 0) (λ _. Some (Orphans n)) (λ _. give_up n (give_up d (tail ns r)))
 
 abbrev pub make_on : List ℕ → ℕ → ℕ → ℕ → List ℕ → Entered → P Reply
 make_on path flags n d ns InPlace = Do (Give d) unmarked (λ _. drop d (open_made path flags n ns))

@@ -1,5 +1,5 @@
 -- What a hart has, what always holds, and the machine.
-use Rattle.std.specs.Prelude.{◌≡◌, ◌≢◌, ◌⊎◌, ℕ, zero, suc, ◌+◌, ◌<◌, ◌≤◌, Bool, true, false, ◌||◌, List, [], ◌∷◌, length, ◌==◌, if◌then◌else◌, Option, Some, None, IsSome}
+use Rattle.std.specs.Prelude.{◌≡◌, ◌≢◌, ◌⊎◌, ℕ, zero, suc, ◌+◌, ◌<◌, ◌≤◌, Bool, true, false, ◌||◌, List, [], ◌∷◌, length, ◌==◌, nat_lt, if◌then◌else◌, Option, Some, None, IsSome}
 use Rattle.plain_tree.specs.declared.node.Node.{Node}
 use Rattle.plain_tree.specs.declared.tree.OpenFile.{OpenFile}
 use Rattle.plain_tree.specs.declared.node.Kind.TheVariants.{Directory}
@@ -16,7 +16,7 @@ use Rattle.inode_machine.specs.Inodes.Looking.{AtNothing, AtName, AtEntries}
 use Rattle.inode_machine.specs.World.{Mine, Entry, Note, Desk, World, Op, Answer, Mark, Outside, stage_of}
 use Rattle.inode_machine.specs.World.Op.{Take, Give, UpStart, Up, WalkDown, Down, Free, Forget, Claim, Store, Fill, Enter, Clear, Empty, Slot, Install, StatFile, LockFile, ReadFile, CheckFile, JoinFile, LockOpen, WriteFile, Double, Shut, Settle, Lend, LendDirectory, Release, Join, Leave, Say}
 use Rattle.inode_machine.specs.World.Outside.{Room, RoomFor, Picks}
-use Rattle.inode_machine.specs.Exec.{file_count, is_at, is_free, entry_of, offset_of, read_refused, next_used, child_of, given_of}
+use Rattle.inode_machine.specs.Exec.{file_count, is_at, is_free, place_count, referenced, entry_of, offset_of, read_refused, next_used, child_of, given_of}
 use Rattle.inode_machine.specs.Marks.{go, places}
 
 -- all that is an inode's
@@ -284,7 +284,8 @@ Sought (AtName e) = IsName e
 Sought AtEntries = Unit {0}
 
 -- What an operation asks. Who locks an inode refers to it, and hasn't locked it, and where its lock is free it has a record, and what is looked for in it is a
--- name; who refers to one more has found it in a directory that it keeps; who gives a reference up, to none or to a table, has one besides its current directory's;
+-- name; who refers to one more has found it in a directory that it keeps; who gives a reference up, to none or to a table, has one besides its current directory's,
+-- and keeps none that it drops;
 -- who forgets an inode has freed it, and keeps it;
 -- who changes an inode has its lock and has joined; who joins, leaves, opens by a descriptor or replies has no lock, and who leaves has raised no count that no
 -- name stands for yet; who hands a descriptor on has handed on none
@@ -353,8 +354,8 @@ Asks h (Take n looking) w = Refers h n w × (w.lock n ≡ None → w.disk n ≢ 
 Asks h (Give n) w = Locks h n w
 Asks h (UpStart absolute) w = LocksNone h w
 Asks h (Up n) w = Found w.keeper w.all.nodes h n
-Asks h (WalkDown n) w = Spares h n w × (w.lock n ≢ Some h)
-Asks h (Down n) w = Spares h n w × (w.lock n ≢ Some h)
+Asks h (WalkDown n) w = Spares h n w × (w.keeper n ≢ Some h)
+Asks h (Down n) w = Spares h n w × (w.keeper n ≢ Some h)
 Asks h (Free n) w = Changes h n w
 Asks h (Forget n) w = Spares h n w × (w.lock n ≢ Some h) × HasFreed h n w
 Asks h (Claim sort) w = (w.desks h).joined ≡ true
@@ -386,11 +387,12 @@ Asks h Say w = LocksNone h w × ((w.desks h).joined ≡ false)
 abbrev pub May : ℕ → Op → World → Type 0
 May h op w = ((w.desks h).lender ≡ None) × Asks h op w
 
--- What may lie outside: an inode that is found is free; of a piece a part is left over; all else may be short of room at any time.
+-- What may lie outside: an inode that is found is free, and one has no place only where all are taken; of a piece a part is left over; all else may be short of
+-- room at any time.
 
 abbrev pub HonestClaim : World → Outside → Type 0
 HonestClaim w Room = Unit {0}
-HonestClaim w (RoomFor k) = Unit {0}
+HonestClaim w (RoomFor k) = nat_lt (referenced w) place_count ≡ false
 HonestClaim w (Picks n) = (1 ≤ n) × (n < w.all.ninodes) × (is_free w n ≡ true)
 
 abbrev pub HonestPiece : List ℕ → Outside → Type 0

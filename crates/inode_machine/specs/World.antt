@@ -181,17 +181,20 @@ Answer Join = Unit {0}
 Answer Leave = Unit {0}
 Answer Say = Unit {0}
 
--- What lies outside: whether there is a block for each byte asked for, or for so many; and which inode of those without a type is found.
+-- What lies outside: whether there is a block for each byte asked for, or for so many; and which inode of those without a type is found, or that it has no
+-- place in memory.
 pub data Outside : Type 0 where
   Room : Outside
   RoomFor : ℕ → Outside
   Picks : ℕ → Outside
 
--- What an operation is marked with. It makes a move of the tree; it frees an inode's node; or it finds no room, and from then on no one list explains the
--- run: nothing was taken in the tree, or what the call's steps took is given back, or a step acts as far as there was room.
+-- What an operation is marked with. It makes a move of the tree; it frees an inode's node; a new inode stays without a name, and its node is one of the tree
+-- before that settles, as any other that is dead; or it finds no room, and from then on no one list explains the run: nothing was taken in the tree, or what
+-- the call's steps took is given back, or a step acts as far as there was room.
 pub data Mark : Type 0 where
   Makes : Move → Mark
   Frees : ℕ → Mark
+  Orphans : ℕ → Mark
   Fills : Mark
   Mends : Mark
   Spoils : Action → Mark

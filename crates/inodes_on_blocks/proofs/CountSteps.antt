@@ -302,15 +302,19 @@ module _ (l : Labels) (laws : Laws (labelled l)) (keeps : Keeps l) (h : ℕ) (lt
   last_is : (n : ℕ) (w : above.World) → is_last w n ≡ true → (w.refs n ≡ 1) × (above_exec.is_dead (w.disk n) ≡ true)
   last_is n w e = let both = and_true (w.refs n == 1) (above_exec.is_dead (w.disk n)) e in (eq_is (w.refs n) 1 both.0, both.1)
 
+  -- what it doesn't keep it hasn't locked
+  unheld : (n : ℕ) (v : W) → Inv v.seen → v.seen.keeper n ≢ Some h → v.seen.lock n ≢ Some h
+  unheld n v inv not_kept e = not_kept (inv.keeps n h e)
+
   pub walk_down_acts : (n : ℕ) (m : Bool → Option above.Mark) → ActsOnce l h (WalkDown n) m (walk_down n)
   unfolding steps.exec premises.May premises.MayWait
   walk_down_acts n m =
       one_step l laws keeps h (WalkDown n) m (λ c. steps.Down (Walked n)) (λ c. is_kept) (λ c a. c) (λ v. tt)
       (λ v c shows inv base may. (
-        (fewer_owed n (tables_of v.real) v.seen (loaded (tables_of v.real)) shows.tables inv h lt may.1.0, λ one. sym (shows.tables.places.holders n) ∙ last_free n v.seen inv (some_here n v.seen may.1.0) may.1.1 (shows.tables.places.counts n ∙ one)),
+        (fewer_owed n (tables_of v.real) v.seen (loaded (tables_of v.real)) shows.tables inv h lt may.1.0, λ one. sym (shows.tables.places.holders n) ∙ last_free n v.seen inv (some_here n v.seen may.1.0) (unheld n v inv may.1.1) (shows.tables.places.counts n ∙ one)),
         λ x t.
             subst (λ (d : Did DroppedState World). CameTo l laws keeps h (WalkDown n) v ⊥ d is_kept (λ a. c)) (sym (in_tables_is h (steps.Down (Walked n)) v.real (λ a o. refl) (λ s. refl) (drop_walked n (tables_of v.real))))
-            (by v c shows base may.0 may.1.1 (is_last v.seen n) refl (drop_walked n (tables_of v.real)) (walks_drop_references h n (tables_of v.real) v.seen (loaded (tables_of v.real)) shows.tables (may_die n v shows inv may.1))),
+            (by v c shows base may.0 (unheld n v inv may.1.1) (is_last v.seen n) refl (drop_walked n (tables_of v.real)) (walks_drop_references h n (tables_of v.real) v.seen (loaded (tables_of v.real)) shows.tables (may_die n v shows inv (may.1.0, unheld n v inv may.1.1)))),
       ))
     where
       by : (v : W) (c : Carry) → Shows v.real v.seen → Base h v.real v.seen c → (v.seen.desks h).lender ≡ None → v.seen.lock n ≢ Some h → (b : Bool) → is_last v.seen n ≡ b → (d : Did DroppedState TablesState)
@@ -335,10 +339,10 @@ module _ (l : Labels) (laws : Laws (labelled l)) (keeps : Keeps l) (h : ℕ) (lt
   down_acts n m =
       one_step l laws keeps h (Down n) m (λ c. steps.Down (Held n)) (λ c. is_kept) with_dying (λ v. tt)
       (λ v c shows inv base may. (
-        (fewer_owed n (tables_of v.real) v.seen (loaded (tables_of v.real)) shows.tables inv h lt may.1.0, λ one. sym (shows.tables.places.holders n) ∙ last_free n v.seen inv (some_here n v.seen may.1.0) may.1.1 (shows.tables.places.counts n ∙ one)),
+        (fewer_owed n (tables_of v.real) v.seen (loaded (tables_of v.real)) shows.tables inv h lt may.1.0, λ one. sym (shows.tables.places.holders n) ∙ last_free n v.seen inv (some_here n v.seen may.1.0) (unheld n v inv may.1.1) (shows.tables.places.counts n ∙ one)),
         λ x t.
             subst (λ (d : Did DroppedState World). CameTo l laws keeps h (Down n) v ⊥ d is_kept (with_dying c)) (sym (in_tables_is h (steps.Down (Held n)) v.real (λ a o. refl) (λ s. refl) (drop_inode h n (tables_of v.real))))
-            (by v c shows base may.0 (may_die n v shows inv may.1) may.1.1 (is_last v.seen n) refl (drop_inode h n (tables_of v.real)) (references_are_dropped h n (tables_of v.real) v.seen (loaded (tables_of v.real)) shows.tables (may_die n v shows inv may.1))),
+            (by v c shows base may.0 (may_die n v shows inv (may.1.0, unheld n v inv may.1.1)) (unheld n v inv may.1.1) (is_last v.seen n) refl (drop_inode h n (tables_of v.real)) (references_are_dropped h n (tables_of v.real) v.seen (loaded (tables_of v.real)) shows.tables (may_die n v shows inv (may.1.0, unheld n v inv may.1.1)))),
       ))
     where
       by : (v : W) (c : Carry) → Shows v.real v.seen → Base h v.real v.seen c → (v.seen.desks h).lender ≡ None → MayDie n v.seen (loaded (tables_of v.real)) → v.seen.lock n ≢ Some h → (b : Bool) → is_last v.seen n ≡ b → (d : Did DroppedState TablesState)

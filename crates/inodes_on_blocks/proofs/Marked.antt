@@ -15,7 +15,7 @@ use Rattle.tree_laws.proofs.Maps.{any_same, either}
 use Rattle.tree_moves.specs.Moves.{Walk, Move}
 use Rattle.tree_moves.specs.Moves.Move.{Begin, Look, Quit, Own}
 use Rattle.inode_machine.specs.World.{Desk, World, Mark}
-use Rattle.inode_machine.specs.World.Mark.{Makes, Frees, Fills, Mends, Spoils}
+use Rattle.inode_machine.specs.World.Mark.{Makes, Frees, Orphans, Fills, Mends, Spoils}
 use Rattle.inode_machine.specs.Inodes.{sort_of}
 use Rattle.inode_machine.specs.Exec.{is_at, is_dead}
 use Rattle.inode_machine.proofs.Frame.{put_elim}
@@ -234,6 +234,7 @@ pub marked_same : (h : ℕ) (m : Option Mark) (w : World) → SameCode w (marked
 marked_same h None w = record { disk = refl; lock = refl; refs = refl; files = refl; keeper = refl; desks = λ g. same_desk (w.desks g); size = refl }
 marked_same h (Some (Makes v)) w = made_same h v w
 marked_same h (Some (Frees n)) w = record { disk = refl; lock = refl; refs = refl; files = refl; keeper = refl; desks = λ g. same_desk (w.desks g); size = refl }
+marked_same h (Some (Orphans n)) w = record { disk = refl; lock = refl; refs = refl; files = refl; keeper = refl; desks = λ g. same_desk (w.desks g); size = refl }
 marked_same h (Some Fills) w = full_same h w
 marked_same h (Some Mends) w = record {
   disk = refl;
