@@ -17,31 +17,36 @@ abbrev AllTexts : List (List ℕ) → Type 0
 AllTexts [] = Unit {0}
 AllTexts (e ∷ es) = IsText e × AllTexts es
 
-text_of : (p : List ℕ) → has_zero p ≡ false → are_bytes p ≡ true → IsText p
-text_of [] q r = tt
-text_of (b ∷ bs) q r =
+-- the bytes of a path, among which '/' may be
+abbrev IsPath : List ℕ → Type 0
+IsPath [] = Unit {0}
+IsPath (b ∷ bs) = (0 < b) × (b < 256) × IsPath bs
+
+path_of : (p : List ℕ) → has_zero p ≡ false → are_bytes p ≡ true → IsPath p
+path_of [] q r = tt
+path_of (b ∷ bs) q r =
     let z = or_none (b == 0) (has_zero bs) q in
     let y = and_true (nat_lt b 256) (are_bytes bs) r in
-    (above b (eq_isnt b 0 z.0), less_is b 256 y.0, text_of bs z.1 y.1)
+    (above b (eq_isnt b 0 z.0), less_is b 256 y.0, path_of bs z.1 y.1)
   where
     above : (b : ℕ) → b ≢ 0 → 0 < b
     above b ne = omega (arith, ne)
 
-text_more : (f : List ℕ) (b : ℕ) → IsText f → 0 < b → b < 256 → IsText (f ++ b ∷ [])
-text_more [] b t low high = (low, high, tt)
-text_more (x ∷ f) b t low high = (t.0, t.1, text_more f b t.2 low high)
+text_more : (f : List ℕ) (b : ℕ) → IsText f → 0 < b → b ≢ 47 → b < 256 → IsText (f ++ b ∷ [])
+text_more [] b t low apart high = (low, apart, high, tt)
+text_more (x ∷ f) b t low apart high = (t.0, t.1, t.2, text_more f b t.3 low apart high)
 
 text_take : (n : ℕ) (e : List ℕ) → IsText e → IsText (take n e)
 text_take zero e t = tt
 text_take (suc n) [] t = tt
-text_take (suc n) (b ∷ bs) t = (t.0, t.1, text_take n bs t.2)
+text_take (suc n) (b ∷ bs) t = (t.0, t.1, t.2, text_take n bs t.3)
 
-pieces_text : (f p : List ℕ) → IsText f → IsText p → AllTexts (pieces f p)
+pieces_text : (f p : List ℕ) → IsText f → IsPath p → AllTexts (pieces f p)
 unfolding pieces
 pieces_text f [] tf tp = (tf, tt)
 pieces_text f (b ∷ bs) tf tp = elim (either (b == 47)) [
   | inl y ↦ rw y (tf, pieces_text [] bs tt tp.2)
-  | inr y ↦ rw y (pieces_text (f ++ b ∷ []) bs (text_more f b tf tp.0 tp.1) tp.2)
+  | inr y ↦ rw y (pieces_text (f ++ b ∷ []) bs (text_more f b tf tp.0 (eq_isnt b 47 y) tp.1) tp.2)
 ]
 
 name_of : (b : ℕ) (bs : List ℕ) → IsText (b ∷ bs) → IsName (take name_width (b ∷ bs))
@@ -53,7 +58,7 @@ names_of ([] ∷ es) t = names_of es t.1
 names_of ((b ∷ bs) ∷ es) t = (name_of b bs t.0, names_of es t.1)
 
 pub path_names : (p : List ℕ) → is_nothing (path_wrong p) ≡ true → AllNames (elements p)
-path_names p e = let r = by (nat_lt path_limit (length p)) (has_zero p) refl (are_bytes p) refl e in names_of (pieces [] p) (pieces_text [] p tt (text_of p r.0 r.1))
+path_names p e = let r = by (nat_lt path_limit (length p)) (has_zero p) refl (are_bytes p) refl e in names_of (pieces [] p) (pieces_text [] p tt (path_of p r.0 r.1))
   where
     by : (a b : Bool) → has_zero p ≡ b → (c : Bool) → are_bytes p ≡ c → is_nothing (if a then Some PathTooLong else (if b then Some ZeroInPath else (if c then None else Some NotCovered))) ≡ true → (has_zero p ≡ false) × (are_bytes p ≡ true)
     by true b q c r e = absurd cc

@@ -266,10 +266,10 @@ MayWait h op w = ⊥
 abbrev pub asked_limit : ℕ
 asked_limit = 524288
 
--- bytes, none of them zero
+-- bytes, none of them zero or "/"
 abbrev pub IsText : List ℕ → Type 0
 IsText [] = Unit {0}
-IsText (b ∷ bs) = (0 < b) × (b < 256) × IsText bs
+IsText (b ∷ bs) = (0 < b) × (b ≢ 47) × (b < 256) × IsText bs
 
 -- a name that an entry can have
 pub record IsName (e : Name) : Type 0 where
