@@ -35,7 +35,7 @@ use Rattle.inodes_on_tables.proofs.Drops.{walks_drop_references, references_are_
 use Rattle.inodes_on_blocks.specs.Below.{World, log_of, tables_of, disk_of, inode_in}
 use Rattle.inodes_on_blocks.specs.Shown.{Shows}
 use Rattle.inodes_on_blocks.specs.Lowering.{Had, Carry, IsLoaded, Base, Labels, labelled, Keeps, IsOpened}
-use Rattle.inodes_on_blocks.specs.Handlers.{up_start, up, walk_down, down, is_kept, had_of, with_dying}
+use Rattle.inodes_on_blocks.specs.Handlers.{up_start, up, walk_down, down, is_listed, is_dying, had_of, with_dying}
 use Rattle.inodes_on_blocks.specs.Acting.{ActsOnce}
 use Rattle.inodes_on_blocks.proofs.Layer.{tables_left}
 use Rattle.inodes_on_blocks.proofs.Stepping.{Came, CameTo, one_step}
@@ -309,58 +309,58 @@ module _ (l : Labels) (laws : Laws (labelled l)) (keeps : Keeps l) (h : ℕ) (lt
   pub walk_down_acts : (n : ℕ) (m : Bool → Option above.Mark) → ActsOnce l h (WalkDown n) m (walk_down n)
   unfolding steps.exec premises.May premises.MayWait
   walk_down_acts n m =
-      one_step l laws keeps h (WalkDown n) m (λ c. steps.Down (Walked n)) (λ c. is_kept) (λ c a. c) (λ v. tt)
+      one_step l laws keeps h (WalkDown n) m (λ c. steps.Down (Walked n)) (λ c. is_listed) (λ c a. c) (λ v. tt)
       (λ v c shows inv base may. (
         (fewer_owed n (tables_of v.real) v.seen (loaded (tables_of v.real)) shows.tables inv h lt may.1.0, λ one. sym (shows.tables.places.holders n) ∙ last_free n v.seen inv (some_here n v.seen may.1.0) (unheld n v inv may.1.1) (shows.tables.places.counts n ∙ one)),
         λ x t.
-            subst (λ (d : Did DroppedState World). CameTo l laws keeps h (WalkDown n) v ⊥ d is_kept (λ a. c)) (sym (in_tables_is h (steps.Down (Walked n)) v.real (λ a o. refl) (λ s. refl) (drop_walked n (tables_of v.real))))
+            subst (λ (d : Did DroppedState World). CameTo l laws keeps h (WalkDown n) v ⊥ d is_listed (λ a. c)) (sym (in_tables_is h (steps.Down (Walked n)) v.real (λ a o. refl) (λ s. refl) (drop_walked n (tables_of v.real))))
             (by v c shows base may.0 (unheld n v inv may.1.1) (is_last v.seen n) refl (drop_walked n (tables_of v.real)) (walks_drop_references h n (tables_of v.real) v.seen (loaded (tables_of v.real)) shows.tables (may_die n v shows inv (may.1.0, unheld n v inv may.1.1)))),
       ))
     where
       by : (v : W) (c : Carry) → Shows v.real v.seen → Base h v.real v.seen c → (v.seen.desks h).lender ≡ None → v.seen.lock n ≢ Some h → (b : Bool) → is_last v.seen n ≡ b → (d : Did DroppedState TablesState)
-          → BothCame (λ a last. a ≡ (if last then Stays else Counts)) (load_after n (v.seen.refs n) (loaded (tables_of v.real))) d (walk_down_if h n v.seen (is_last v.seen n)) → CameTo l laws keeps h (WalkDown n) v ⊥ (did_in (with_tables v.real) d) is_kept (λ a. c)
+          → BothCame (λ a last. a ≡ (if last then Stays else Counts)) (load_after n (v.seen.refs n) (loaded (tables_of v.real))) d (walk_down_if h n v.seen (is_last v.seen n)) → CameTo l laws keeps h (WalkDown n) v ⊥ (did_in (with_tables v.real) d) is_listed (λ a. c)
       by v c shows base free not_mine b e d both = at b e d (subst (λ (z : Bool). BothCame (λ a last. a ≡ (if last then Stays else Counts)) (load_after n (v.seen.refs n) (loaded (tables_of v.real))) d (walk_down_if h n v.seen z)) e both)
         where
           at : (b : Bool) → is_last v.seen n ≡ b → (d : Did DroppedState TablesState) → BothCame (λ a last. a ≡ (if last then Stays else Counts)) (load_after n (v.seen.refs n) (loaded (tables_of v.real))) d (walk_down_if h n v.seen b)
-              → CameTo l laws keeps h (WalkDown n) v ⊥ (did_in (with_tables v.real) d) is_kept (λ a. c)
+              → CameTo l laws keeps h (WalkDown n) v ⊥ (did_in (with_tables v.real) d) is_listed (λ a. c)
           at true e Waits both = absurd both
           at true e (Stops t) both = absurd both
           at true e (Ran a t) both =
-              reserved_came (WalkDown n) n v c (is_kept a) t shows base free (ap (walk_down_if h n v.seen) e ∙ ap (λ (z : DroppedState). Ran (is_kept z) (reserved h n v.seen)) (sym both.0))
+              reserved_came (WalkDown n) n v c (is_listed a) t shows base free (ap (walk_down_if h n v.seen) e ∙ ap (λ (z : DroppedState). Ran (is_listed z) (reserved h n v.seen)) (sym both.0))
               (subst (λ (z : DroppedState). tables.Shows t (reserved h n v.seen) (load_after n (v.seen.refs n) (loaded (tables_of v.real)) z)) both.0 both.1)
           at false e Waits both = absurd both
           at false e (Stops t) both = absurd both
           at false e (Ran a t) both =
-              counted_down_came (WalkDown n) n v c (is_kept a) t shows base free not_mine (ap (walk_down_if h n v.seen) e ∙ ap (λ (z : DroppedState). Ran (is_kept z) (counted_down h n v.seen)) (sym both.0))
+              counted_down_came (WalkDown n) n v c (is_listed a) t shows base free not_mine (ap (walk_down_if h n v.seen) e ∙ ap (λ (z : DroppedState). Ran (is_listed z) (counted_down h n v.seen)) (sym both.0))
               (subst (λ (z : DroppedState). tables.Shows t (counted_down h n v.seen) (load_after n (v.seen.refs n) (loaded (tables_of v.real)) z)) both.0 both.1)
 
   pub down_acts : (n : ℕ) (m : Bool → Option above.Mark) → ActsOnce l h (Down n) m (down n)
   unfolding steps.exec premises.May premises.MayWait
   down_acts n m =
-      one_step l laws keeps h (Down n) m (λ c. steps.Down (Held n)) (λ c. is_kept) with_dying (λ v. tt)
+      one_step l laws keeps h (Down n) m (λ c. steps.Down (Held n)) (λ c. is_dying) (with_dying n) (λ v. tt)
       (λ v c shows inv base may. (
         (fewer_owed n (tables_of v.real) v.seen (loaded (tables_of v.real)) shows.tables inv h lt may.1.0, λ one. sym (shows.tables.places.holders n) ∙ last_free n v.seen inv (some_here n v.seen may.1.0) (unheld n v inv may.1.1) (shows.tables.places.counts n ∙ one)),
         λ x t.
-            subst (λ (d : Did DroppedState World). CameTo l laws keeps h (Down n) v ⊥ d is_kept (with_dying c)) (sym (in_tables_is h (steps.Down (Held n)) v.real (λ a o. refl) (λ s. refl) (drop_inode h n (tables_of v.real))))
+            subst (λ (d : Did DroppedState World). CameTo l laws keeps h (Down n) v ⊥ d is_dying (with_dying n c)) (sym (in_tables_is h (steps.Down (Held n)) v.real (λ a o. refl) (λ s. refl) (drop_inode h n (tables_of v.real))))
             (by v c shows base may.0 (may_die n v shows inv (may.1.0, unheld n v inv may.1.1)) (unheld n v inv may.1.1) (is_last v.seen n) refl (drop_inode h n (tables_of v.real)) (references_are_dropped h n (tables_of v.real) v.seen (loaded (tables_of v.real)) shows.tables (may_die n v shows inv (may.1.0, unheld n v inv may.1.1)))),
       ))
     where
       by : (v : W) (c : Carry) → Shows v.real v.seen → Base h v.real v.seen c → (v.seen.desks h).lender ≡ None → MayDie n v.seen (loaded (tables_of v.real)) → v.seen.lock n ≢ Some h → (b : Bool) → is_last v.seen n ≡ b → (d : Did DroppedState TablesState)
-          → BothCame (λ a last. a ≡ (if last then Dies n (loaded (tables_of v.real) n) else Counts)) (load_after n (v.seen.refs n) (loaded (tables_of v.real))) d (down_if h n v.seen (is_last v.seen n)) → CameTo l laws keeps h (Down n) v ⊥ (did_in (with_tables v.real) d) is_kept (with_dying c)
+          → BothCame (λ a last. a ≡ (if last then Dies n (loaded (tables_of v.real) n) else Counts)) (load_after n (v.seen.refs n) (loaded (tables_of v.real))) d (down_if h n v.seen (is_last v.seen n)) → CameTo l laws keeps h (Down n) v ⊥ (did_in (with_tables v.real) d) is_dying (with_dying n c)
       by v c shows base free die not_mine b e d both = at b e d (subst (λ (z : Bool). BothCame (λ a last. a ≡ (if last then Dies n (loaded (tables_of v.real) n) else Counts)) (load_after n (v.seen.refs n) (loaded (tables_of v.real))) d (down_if h n v.seen z)) e both)
         where
           at : (b : Bool) → is_last v.seen n ≡ b → (d : Did DroppedState TablesState) → BothCame (λ a last. a ≡ (if last then Dies n (loaded (tables_of v.real) n) else Counts)) (load_after n (v.seen.refs n) (loaded (tables_of v.real))) d (down_if h n v.seen b)
-              → CameTo l laws keeps h (Down n) v ⊥ (did_in (with_tables v.real) d) is_kept (with_dying c)
+              → CameTo l laws keeps h (Down n) v ⊥ (did_in (with_tables v.real) d) is_dying (with_dying n c)
           at true e Waits both = absurd both
           at true e (Stops t) both = absurd both
           at true e (Ran a t) both =
               let last = last_is n v.seen e in
-              subst (λ (z : DroppedState). Came l laws keeps h (Down n) v (is_kept z) (with_tables v.real t) (with_dying c z)) (sym both.0)
+              subst (λ (z : DroppedState). Came l laws keeps h (Down n) v (is_dying z) (with_tables v.real t) (with_dying n c z)) (sym both.0)
               (dying_came (Down n) n v c true t shows base free die.some (die.free last.0) last.1 (ap (down_if h n v.seen) e)
               (subst (λ (z : DroppedState). tables.Shows t (record (reserved h n v.seen) { lock = put v.seen.lock n (Some h) }) (load_after n (v.seen.refs n) (loaded (tables_of v.real)) z)) both.0 both.1))
           at false e Waits both = absurd both
           at false e (Stops t) both = absurd both
           at false e (Ran a t) both =
-              subst (λ (z : DroppedState). Came l laws keeps h (Down n) v (is_kept z) (with_tables v.real t) (with_dying c z)) (sym both.0)
+              subst (λ (z : DroppedState). Came l laws keeps h (Down n) v (is_dying z) (with_tables v.real t) (with_dying n c z)) (sym both.0)
               (counted_down_came (Down n) n v c false t shows base free not_mine (ap (down_if h n v.seen) e)
               (subst (λ (z : DroppedState). tables.Shows t (counted_down h n v.seen) (load_after n (v.seen.refs n) (loaded (tables_of v.real)) z)) both.0 both.1))

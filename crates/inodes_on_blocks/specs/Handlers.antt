@@ -47,21 +47,27 @@ one op m lop answer carry = Do lop (λ a. acts op above.Room m) (λ a. Ret (reco
 
 -- ---- answers
 
-abbrev pub is_kept : DroppedState → Bool
-is_kept Counts = false
-is_kept Keeps = true
-is_kept (Dies n d) = true
+-- a directory's reference that a walk drops stays, on the call's list; elsewhere the lock is taken in its place, to free the inode
+abbrev pub is_listed : DroppedState → Bool
+is_listed Counts = false
+is_listed Keeps = true
+is_listed (Dies n d) = false
+
+abbrev pub is_dying : DroppedState → Bool
+is_dying Counts = false
+is_dying Keeps = false
+is_dying (Dies n d) = true
 
 -- a record that came with a lock
 abbrev pub had_of : Option Dinode → Had
 had_of None = Apart
 had_of (Some d) = Has d NothingMore
 
--- the lock of an inode that is to be freed came into hand
-abbrev pub with_dying : Carry → DroppedState → Carry
-with_dying c Counts = c
-with_dying c Keeps = c
-with_dying c (Dies n d) = put c n (had_of d)
+-- the lock of inode n, that is to be freed, came into hand
+abbrev pub with_dying : ℕ → Carry → DroppedState → Carry
+with_dying n c Counts = c
+with_dying n c Keeps = c
+with_dying n c (Dies k d) = put c n (had_of d)
 
 abbrev pub doubled_to : Doubled → Option (Option ℕ)
 doubled_to doubled.BadDescriptor = None
@@ -116,10 +122,10 @@ abbrev pub up : (n : ℕ) → Handler (Up n)
 up n c m = one (Up n) m (steps.Up (Number n)) is_some (λ a. c)
 
 abbrev pub walk_down : (n : ℕ) → Handler (WalkDown n)
-walk_down n c m = one (WalkDown n) m (steps.Down (Walked n)) is_kept (λ a. c)
+walk_down n c m = one (WalkDown n) m (steps.Down (Walked n)) is_listed (λ a. c)
 
 abbrev pub down : (n : ℕ) → Handler (Down n)
-down n c m = one (Down n) m (steps.Down (Held n)) is_kept (with_dying c)
+down n c m = one (Down n) m (steps.Down (Held n)) is_dying (with_dying n c)
 
 -- that to an inode that the hart has freed
 abbrev pub forget : (n : ℕ) → Handler (Forget n)
