@@ -67,7 +67,7 @@ abbrev pub SameBuffer : ℕ → ℕ → World → World → Type 0
 SameBuffer h b v w = if_kept (holder_of b (log_of w).seats) h (buffer_in (log_of w) b) ≡ if_kept (holder_of b (log_of v).seats) h (buffer_in (log_of v) b)
 
 -- a buffer in hand stays so
-held_then : (h b : ℕ) (v w : World) → SameBuffer h b v w → holder_of b (log_of v).seats ≡ Some h → (holder_of b (log_of w).seats ≡ Some h) × (buffer_in (log_of w) b ≡ buffer_in (log_of v) b)
+pub held_then : (h b : ℕ) (v w : World) → SameBuffer h b v w → holder_of b (log_of v).seats ≡ Some h → (holder_of b (log_of w).seats ≡ Some h) × (buffer_in (log_of w) b ≡ buffer_in (log_of v) b)
 held_then h b v w same out = kept_is h (holder_of b (log_of w).seats) (buffer_in (log_of w) b) (buffer_in (log_of v) b) (same ∙ kept_here h (holder_of b (log_of v).seats) (buffer_in (log_of v) b) out)
 
 -- and so do its bytes

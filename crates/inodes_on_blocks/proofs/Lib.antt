@@ -74,3 +74,10 @@ pub mod Taken
 pub mod NumberPuts
 pub mod LocateSteps
 pub mod PartSteps
+pub mod FreeSlots
+pub mod GrownSteps
+pub mod EntryParts
+pub mod FillSteps
+pub mod FullSteps
+pub mod EnterSteps
+pub mod NamingWithins

@@ -196,7 +196,7 @@ module _ (disk : List (List ℕ)) (owner : ℕ → ℕ) (i : ℕ) (v : Node) (ho
   abbrev pub search_finds : Aim → Option Found
   search_finds aim = found_from (block_count d) aim d content 0
 
-  is_first : (aim : Aim) (slots : List (Option Slot)) → v.kind ≡ Directory slots → IsFirst aim (slot_at content) (length slots) (search_finds aim)
+  pub is_first : (aim : Aim) (slots : List (Option Slot)) → v.kind ≡ Directory slots → IsFirst aim (slot_at content) (length slots) (search_finds aim)
   is_first aim slots is = subst (λ (n : ℕ). IsFirst aim (slot_at content) n (search_finds aim)) (shown slots is).1 (found_first content aim d)
 
   -- what a live directory finds

@@ -12,6 +12,7 @@ use Rattle.plain_tree.specs.Widths.{hart_count}
 use Rattle.atomic_programs.specs.Prog.{Ret, bind, Ran}
 use Rattle.atomic_programs.specs.Logic.{Laws, Machine, Wp}
 use Rattle.atomic_programs.specs.Joined.{Both, joined, Below, Lasts, Handed}
+use Rattle.atomic_programs.proofs.Sound.{Wp-weaker}
 use Rattle.atomic_programs.proofs.Joined.{Here, ToAct, to_act, may_act, Acting, s-act}
 use Rattle.fs_machine.specs.LogPart.{Outside}
 use Rattle.fs_machine.specs.Programs.{fetch}
@@ -26,7 +27,7 @@ use Rattle.inode_machine.specs.Marks.{marked, with_mark}
 use Rattle.inode_machine.specs.Rules as rules
 use Rattle.inode_machine.specs.Rules.{Inv}
 use Rattle.inodes_on_blocks.specs.Below.{World, log_of, exec}
-use Rattle.inodes_on_blocks.specs.Giving.{world_with}
+use Rattle.inodes_on_blocks.specs.Giving.{KeepsRoom, world_with}
 use Rattle.inodes_on_blocks.specs.Holding.{in_hand, Fetched}
 use Rattle.inodes_on_blocks.specs.Lowering.{NothingMore, Has, Carry, below, Labels, labelled, Keeps}
 use Rattle.inodes_on_blocks.specs.Naming.{put_named}
@@ -59,13 +60,13 @@ module _ (sizes : Super) (l : Labels) (laws : Laws (labelled l)) (keeps : Keeps 
   module _ (op : above.Op) (outside : above.Outside) (m : above.Answer op → Option above.Mark) (answer : above.Answer op) (c : Carry) (o : Option Node) (d : Dinode) (x : Node) (fits : IsDinode d)
       (honest : (v : W) → rules.Honest h op v.seen outside) (asks : (g : above.World) → rules.May h op g → IsChanging h n g × ((g.desks h).lender ≡ None))
       (ran : (g : above.World) → rules.May h op g → g.disk n ≡ o → above_exec.exec h outside op g ≡ Ran answer (above_exec.with_record g n (Some x)))
-      (Knows : World → Type 0) (gives : GivesRoom h (inode_block sizes.inodestart n) Knows)
+      (Knows Then : World → Type 0) (room : KeepsRoom h (inode_block sizes.inodestart n) Knows Then)
       (B : List l.Step → Type 0) (C : above.Answer op → List l.Step → above.World → Type 0) (lasts : Lasts (labelled l) h B C) where
     abbrev b : ℕ
     b = inode_block sizes.inodestart n
 
     abbrev Q : Handed (above.Answer op) Carry → List l.Step → W → Type 0
-    Q = Below (labelled l) (below sizes) h C
+    Q r fs u = Below (labelled l) (below sizes) h C r fs u × Then u.real
 
     abbrev Todo : List l.Step → above.World → Type 0
     Todo = ToAct (labelled l) (below sizes) laws (below_laws sizes l keeps) h B op m C lasts
@@ -80,9 +81,9 @@ module _ (sizes : Super) (l : Labels) (laws : Laws (labelled l)) (keeps : Keeps 
         (λ a z u g. (gs : List l.Step) → Inv g → C z gs g → Wp M h B Q (Ret (record { answer = answer; carry = put c n (Has d NothingMore) })) 0 gs (record { real = u; seen = g })))
 
     -- the put, where the buffer is in hand
-    acts_there : (v : W) → Shows v.real v.seen → rules.May h op v.seen → IsChanged v → in_hand h v.real ≡ 1 → CanPut h (at v.real) (with_record n d v.real) (log_of v.real) → (log_of v.real).sizes ≡ sizes → Acts v (at v.real) (with_record n d v.real)
+    acts_there : (v : W) → Shows v.real v.seen → rules.May h op v.seen → IsChanged v → in_hand h v.real ≡ 1 → CanPut h (at v.real) (with_record n d v.real) (log_of v.real) → (log_of v.real).sizes ≡ sizes → Then (world_with h (at v.real) (with_record n d v.real) v.real) → Acts v (at v.real) (with_record n d v.real)
     unfolding steps.exec premises.MayWait premises.Honest
-    acts_there v shows may changing one can here =
+    acts_there v shows may changing one can here spent =
         let r = v.real in
         let is = (asks v.seen may).0 in
         let free = (asks v.seen may).1 in
@@ -98,7 +99,7 @@ module _ (sizes : Super) (l : Labels) (laws : Laws (labelled l)) (keeps : Keeps 
             honest v,
             (λ inv. shows_marked put_then then_ g s (shows_both h n c o d x r v.seen shows changing is fits can)),
             same_put h (at r) n (with_record n d r) r v.seen shows is.lock is.joined can (owners_with h (at r) (with_record n d r) r) (naming_leaves h n c o d x r v.seen shows changing is fits can),
-            λ gs inv done. (done, (base_marked h put_then then_ g (put c n (Has d NothingMore)) s free (base_then h n c o d x r v.seen shows changing is fits can one free), here)),
+            λ gs inv done. ((done, (base_marked h put_then then_ g (put c n (Has d NothingMore)) s free (base_then h n c o d x r v.seen shows changing is fits can one free), here)), spent),
           ),
         )
 
@@ -118,22 +119,22 @@ module _ (sizes : Super) (l : Labels) (laws : Laws (labelled l)) (keeps : Keeps 
         let range = lock_range n h u.real u.seen here.shows is.lock in
         let home = inode_home (log_of u.real) n here.shows.blocks.seen.good here.shows.blocks.seen.sized range.1 in
         let long : length (seen_of (log_of u.real) (at u.real)) ≡ 1024 = here.shows.blocks.seen.whole (at u.real) home.within home.outside in
-        let knows_there : Knows u.real = gives.lasts v.real u.real here.same (gives.fetched b w.real v.real got.since knows) in
+        let knows_there : Knows u.real = room.gives.lasts v.real u.real here.same (room.gives.fetched b w.real v.real got.since knows) in
         let can : CanPut h (at u.real) (with_record n d u.real) (log_of u.real) = record {
           holder = subst (λ (k : ℕ). holder_of k (log_of u.real).seats ≡ Some h) where_ buffer.holder;
           valid = ap (λ (z : Option (List ℕ)). is_some z) (subst (λ (k : ℕ). kept k (log_of u.real).seats ≡ Some (seen_of (log_of v.real) b)) where_ buffer.has);
           joined = sym (here.shows.members h lt) ∙ is.joined;
           runs = here.shows.runs;
           home = home;
-          room = subst (λ (k : ℕ). has (log_of u.real).group k ≡ false → HasRoom (log_of u.real).members h) where_ (gives.room u.real knows_there (sym (here.shows.members h lt) ∙ is.joined));
+          room = subst (λ (k : ℕ). has (log_of u.real).group k ≡ false → HasRoom (log_of u.real).members h) where_ (room.gives.room u.real knows_there (sym (here.shows.members h lt) ∙ is.joined));
           long = stored_long n d (seen_of (log_of u.real) (at u.real)) fits long;
           are = stored_bytes n d (seen_of (log_of u.real) (at u.real)) (here.shows.bytes (at u.real) home.within home.outside);
         } in
         subst (λ (q : ℕ × List ℕ). Acts u q.0 q.1) (λ z. (sym where_ z, with_dinode n d (bytes z)))
-        (acts_there u here.shows may there (here.same.held ∙ got.count ∙ ap suc none) can (here.same.sizes ∙ got.since.sizes ∙ here_)))
+        (acts_there u here.shows may there (here.same.held ∙ got.count ∙ ap suc none) can (here.same.sizes ∙ got.since.sizes ∙ here_) (subst (λ (k : ℕ). Then (world_with h k (with_record n d u.real) u.real)) where_ (room.put (with_record n d u.real) u.real knows_there))))
 
-    pub naming_acts : (es : List l.Step) (w : W) → Todo es w.seen → Shows w.real w.seen → IsChanged w → in_hand h w.real ≡ 0 → (log_of w.real).sizes ≡ sizes → Knows w.real → Wp M h B Q (bind (fetch b) (put_named op outside m answer b n d c)) 3 es w
-    naming_acts es w todo shows changing none here_ knows =
+    pub naming_keeps : (es : List l.Step) (w : W) → Todo es w.seen → Shows w.real w.seen → IsChanged w → in_hand h w.real ≡ 0 → (log_of w.real).sizes ≡ sizes → Knows w.real → Wp M h B Q (bind (fetch b) (put_named op outside m answer b n d c)) 3 es w
+    naming_keeps es w todo shows changing none here_ knows =
         s-fetch sizes l laws keeps h lt B Q Todo (to_act (labelled l) (below sizes) laws (below_laws sizes l keeps) h B op m C lasts) b (put_named op outside m answer b n d c) 1 es w todo (omega (arith, none)) place none_held
         (λ v fs got. names_then w v fs shows changing none here_ knows got)
       where
@@ -145,3 +146,15 @@ module _ (sizes : Super) (l : Labels) (laws : Laws (labelled l)) (keeps : Keeps 
             let may = may_act (labelled l) (below sizes) laws (below_laws sizes l keeps) h B op m C lasts fs v.seen here.stage here.inv in
             let range = lock_range n h v.real v.seen here.shows ((asks v.seen may).0.lock) in
             subst (λ (s : Super). IsOutsideLog (log_of v.real).sizes (inode_block s.inodestart n) × (inode_block s.inodestart n < (log_of v.real).sizes.size)) (here.same.sizes ∙ here_) (inode_place v.real v.seen here.shows n range.1)
+
+  -- the same, where no more is asked of what was spent
+  module _ (op : above.Op) (outside : above.Outside) (m : above.Answer op → Option above.Mark) (answer : above.Answer op) (c : Carry) (o : Option Node) (d : Dinode) (x : Node) (fits : IsDinode d)
+      (honest : (v : W) → rules.Honest h op v.seen outside) (asks : (g : above.World) → rules.May h op g → IsChanging h n g × ((g.desks h).lender ≡ None))
+      (ran : (g : above.World) → rules.May h op g → g.disk n ≡ o → above_exec.exec h outside op g ≡ Ran answer (above_exec.with_record g n (Some x)))
+      (Knows : World → Type 0) (gives : GivesRoom h (inode_block sizes.inodestart n) Knows)
+      (B : List l.Step → Type 0) (C : above.Answer op → List l.Step → above.World → Type 0) (lasts : Lasts (labelled l) h B C) (es : List l.Step) (w : W) where
+    pub naming_acts : ToAct (labelled l) (below sizes) laws (below_laws sizes l keeps) h B op m C lasts es w.seen → Shows w.real w.seen → Changing h n c o d x w.real w.seen → in_hand h w.real ≡ 0 → (log_of w.real).sizes ≡ sizes → Knows w.real
+        → Wp M h B (Below (labelled l) (below sizes) h C) (bind (fetch (inode_block sizes.inodestart n)) (put_named op outside m answer (inode_block sizes.inodestart n) n d c)) 3 es w
+    naming_acts todo shows changing none here_ knows =
+        Wp-weaker M h (bind (fetch (inode_block sizes.inodestart n)) (put_named op outside m answer (inode_block sizes.inodestart n) n d c)) B B (λ r fs u. Below (labelled l) (below sizes) h C r fs u × Unit {0}) (Below (labelled l) (below sizes) h C) 3 es w (λ fs e. e) (λ r fs u e. e.0)
+        (naming_keeps op outside m answer c o d x fits honest asks ran Knows (λ u. Unit {0}) (record { gives = gives; put = λ bytes r known. tt }) B C lasts es w todo shows changing none here_ knows)

@@ -56,7 +56,7 @@ part_bytes at bytes block are old = overwrite_bytes block (front_of at bytes) (a
 -- What such a put makes of the inode, whose block k it is: it is laid out for node y then, with size e.
 abbrev pub MakesPart : (h n k z e at : ℕ) → List ℕ → Carry → Option Node → (x y : Node) → Type 0
 MakesPart h n k z e at bytes c o x y =
-    (d : Dinode) (b : ℕ) (old : List ℕ) (r : World) (g : above.World) → Shows r g → Changing h n c o (sized z d) x r g → b ≢ 0 → block_number (numbers_of (disk_of (log_of r)) (sized z d)) k ≡ b → length old ≡ 1024
+    (d : Dinode) (b : ℕ) (old : List ℕ) (r : World) (g : above.World) → Shows r g → Changing h n c o (sized z d) x r g → b ≢ 0 → block_number (numbers_of (disk_of (log_of r)) (sized z d)) k ≡ b → length old ≡ 1024 → IsBytes old
     → IsOwnPut h n b old (with_part at bytes old) r
     → Becomes (disk_of (log_of r)) (disk_of (log_with h b (with_part at bytes old) r)) (owner_with h n r) (owner_with h n r) n (sized z d) (sized e d) y
 
@@ -102,10 +102,10 @@ module _ (sizes : Super) (l : Labels) (laws : Laws (labelled l)) (keeps : Keeps 
       room : KeepsRoom h b (HasBlocks sizes h s bs) (HasBlocks sizes h s (with_block bs b))
       room = block_room sizes h b s bs (λ isnt. let new = number_new bs b isnt in omega (arith, new, cost, small))
 
-      put_then : (old : List ℕ) → length old ≡ 1024 → (r : World) (g : above.World) → Shows r g → Known r g → IsOwnPut h n b old (with_part at bytes old) r → Changing h n c o (sized e d) y (world_with h b (with_part at bytes old) r) g
-      put_then old long r g shows is made =
+      put_then : (old : List ℕ) → length old ≡ 1024 → IsBytes old → (r : World) (g : above.World) → Shows r g → Known r g → IsOwnPut h n b old (with_part at bytes old) r → Changing h n c o (sized e d) y (world_with h b (with_part at bytes old) r) g
+      put_then old long bytes_are r g shows is made =
           let now = with_part at bytes old in
-          let becomes = makes d b old r g shows is.0 some is.1 long made in
+          let becomes = makes d b old r g shows is.0 some is.1 long bytes_are made in
           changed_put h n b now r g shows made.leaves c o (sized z d) (sized e d) x y is.0
           (subst (λ (q : ℕ → ℕ). IsLaidOut (disk_of (log_with h b now r)) q n (sized e d) y) (sym made.owners) becomes.laid)
           (subst (λ (q : ℕ → ℕ). NamesOwned (disk_of (log_with h b now r)) q n (numbers_of (disk_of (log_with h b now r)) (sized e d))) (sym made.owners)
@@ -122,7 +122,7 @@ module _ (sizes : Super) (l : Labels) (laws : Laws (labelled l)) (keeps : Keeps 
           let old = seen_of (log_of u.real) b in
           let long : length old ≡ 1024 = got.shows.blocks.seen.whole b home.within home.outside in
           s-own sizes l laws keeps h lt B Q G stable n changes Known (λ r g. Changing h n c o (sized e d) y r g) known_stays b old (with_part at bytes old) block (part_long at bytes old long) (part_bytes at bytes old are (got.shows.bytes b home.within home.outside))
-          (λ r g is. (owned r g is).owner_is) (λ r g shows is made. put_then old long r g shows is made) (HasBlocks sizes h s bs) (HasBlocks sizes h s (with_block bs b)) room
+          (λ r g is. (owned r g is).owner_is) (λ r g shows is made. put_then old long (got.shows.bytes b home.within home.outside) r g shows is made) (HasBlocks sizes h s bs) (HasBlocks sizes h s (with_block bs b)) room
           (λ _. bind (more d) f) j gs u got.stage got.shows (known_stays v.real u.real v.seen u.seen there.shows got.shows (left_but h b v.real u.real got.since) got.kept (there.changing, number)) got.buffer sized_ (room.gives.fetched b v.real u.real got.since there.known)
           (λ w hs done.
           goes d (with_block bs b) w hs

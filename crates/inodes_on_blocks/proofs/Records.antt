@@ -13,7 +13,7 @@ use Rattle.inode_table.specs.Programs.{place_of, with_dinode}
 
 -- ---- bytes
 
-append_bytes : (xs ys : List ℕ) → IsBytes xs → IsBytes ys → IsBytes (xs ++ ys)
+pub append_bytes : (xs ys : List ℕ) → IsBytes xs → IsBytes ys → IsBytes (xs ++ ys)
 append_bytes [] ys a b i = b i
 append_bytes (x ∷ xs) ys a b zero = a 0
 append_bytes (x ∷ xs) ys a b (suc i) = append_bytes xs ys (λ k. a (suc k)) b i
@@ -43,7 +43,7 @@ byte_small : (i n : ℕ) → byte_at i n < 256
 byte_small zero n = omega arith
 byte_small (suc i) n = omega arith
 
-u16s : (n : ℕ) → IsBytes (u16_bytes n)
+pub u16s : (n : ℕ) → IsBytes (u16_bytes n)
 unfolding u16_bytes
 u16s n = cons_bytes (byte_at 0 n) (byte_at 1 n ∷ []) (byte_small 0 n) (cons_bytes (byte_at 1 n) [] (byte_small 1 n) none_bytes)
 

@@ -21,3 +21,4 @@ pub mod Naming
 pub mod Spending
 pub mod QuietWorlds
 pub mod Taking
+pub mod Entering

@@ -11,6 +11,7 @@ ghost use Rattle.inodes_on_blocks.specs.QuietWorlds.{QuietWorldsAreImages, Resti
 
 pub mod acting;
 pub mod files;
+pub mod naming;
 pub mod reading;
 pub mod recording;
 pub mod spent;

@@ -1,0 +1,366 @@
+-- A name entered acts where the directory's record is put, after its entry was written; or, where the directory has no slot left, where its last block is given back.
+use Rattle.std.proofs.Common.{◌≡◌, ℕ, zero, suc, ◌+◌, ◌-◌, ◌*◌, ◌/◌, ◌<◌, ◌≤◌, ◌==◌, ◌&&◌, nat_lt, Bool, true, false, List, [], length, drop, max, Option, Some, None, refl, sym, ◌∙◌, ap, subst, arith, if◌then◌else◌}
+use Rattle.std.specs.Prelude.{slice_index}
+use Rattle.std.proofs.lemmas.Bool.Decides.{nat_tests}
+use Rattle.directory.specs.declared.found.Found.{Found}
+use Rattle.directory.specs.Entering.{slot_for}
+use Rattle.directory.specs.Laws.{slot_at, IsFirst}
+use Rattle.directory.specs.Programs.{Unused, block_count, search, search_from, slot_count}
+use Rattle.directory.proofs.Searches.{found_from}
+use Rattle.fs_layout.specs.declared.entry.Dirent.TheVariants.{Used}
+use Rattle.fs_layout.specs.declared.inode.Dinode.{Dinode}
+use Rattle.fs_layout.specs.declared.superblock.Super.{Super}
+use Rattle.fs_layout.specs.Entry.{IsDirent, spell_dirent}
+use Rattle.fs_layout.proofs.Entries.{length-spell_dirent}
+use Rattle.image_tree.specs.Inodes.{is_free, content_block}
+use Rattle.image_laws.specs.Holds.{HoldsAt, size_in}
+use Rattle.image_laws.specs.Puts.{slots_with}
+use Rattle.plain_tree.specs.declared.node.Slot.{Slot}
+use Rattle.plain_tree.specs.declared.node.Node.{Node}
+use Rattle.plain_tree.specs.declared.node.Kind.{Kind}
+use Rattle.plain_tree.specs.declared.node.Kind.TheVariants.{Directory, File, Device}
+use Rattle.plain_tree.specs.Steps.{first_free, node_or}
+use Rattle.plain_tree.specs.Tree as tree
+use Rattle.plain_tree.specs.Tree.{Name, slots_of}
+use Rattle.plain_tree.specs.Widths.{hart_count}
+use Rattle.tree_laws.proofs.Maps.{eq_not, eq_self}
+use Rattle.atomic_programs.specs.Prog.{Ret, bind, Ran}
+use Rattle.atomic_programs.specs.Logic.{Laws, Machine, P, Wp}
+use Rattle.atomic_programs.specs.Joined.{Both, joined, Below, Lasts, Handed}
+use Rattle.atomic_programs.proofs.Joined.{ToAct, to_act, may_act}
+use Rattle.atomic_programs.proofs.Sound.{Wp-more}
+use Rattle.fs_tables.specs.Tables.{holder_of as lock_holder}
+use Rattle.inode_data.specs.Programs.{blocks_between}
+use Rattle.inode_data.specs.Writing.{Written, front_of, write_blocks}
+use Rattle.inode_table.specs.Programs.{inode_block}
+use Rattle.inode_machine.specs.Budget.{Spent, size, with_contents, most_recorded}
+use Rattle.inode_machine.specs.World as above
+use Rattle.inode_machine.specs.World.Op.{Enter}
+use Rattle.inode_machine.specs.Exec.{all_used, enter_if, is_full_directory, with_entry, with_record}
+use Rattle.inode_machine.specs.Marks.{marked}
+use Rattle.inode_machine.specs.Rules as rules
+use Rattle.inode_machine.specs.Rules.{Inv}
+use Rattle.inodes_on_blocks.specs.Accounts.{IsSpent}
+use Rattle.inodes_on_blocks.specs.Below.{World, log_of, tables_of, disk_of, inode_in}
+use Rattle.inodes_on_blocks.specs.Entering.{enter, entered_to, put_grown, search_full}
+use Rattle.inodes_on_blocks.specs.Handlers.{Acts, acts}
+use Rattle.inodes_on_blocks.specs.Lowering.{Same, Kept, Carry, InHand, Stands, below, Labels, labelled, Keeps}
+use Rattle.inodes_on_blocks.specs.Recording.{IsChanging}
+use Rattle.inodes_on_blocks.specs.Room.{HasSpent}
+use Rattle.inodes_on_blocks.specs.Shown.{Shows}
+use Rattle.inodes_on_blocks.specs.Storing.{record_in}
+use Rattle.inodes_on_blocks.proofs.Alone.{kept_same, kept_then}
+use Rattle.inodes_on_blocks.proofs.BlocksRoom.{HasBlocks, blocks_start, blocks_end, extra, extra_missing}
+use Rattle.inodes_on_blocks.proofs.Changing.{Changing, left_same, changing_start, changing_then}
+use Rattle.inodes_on_blocks.proofs.ContentReads.{touches, touches_are}
+use Rattle.inodes_on_blocks.proofs.DirectorySearches.{s-search}
+use Rattle.inodes_on_blocks.proofs.EntryParts.{directory_of, entry_makes, slot_front}
+use Rattle.inodes_on_blocks.proofs.FillSteps.{record_here, takes_write}
+use Rattle.inodes_on_blocks.proofs.FreeSlots.{entry_bytes, entry_is, new_slot, none_left, slot_below, slot_of, some_left}
+use Rattle.inodes_on_blocks.proofs.FullSteps.{Rests, s-full}
+use Rattle.inodes_on_blocks.proofs.GrownSteps.{record_same, s-grown}
+use Rattle.inodes_on_blocks.proofs.Layer.{below_laws, base_marked, kept_disk}
+use Rattle.inodes_on_blocks.proofs.LocateSteps.{Between, Fits}
+use Rattle.inodes_on_blocks.proofs.Looks as looks
+use Rattle.inodes_on_blocks.proofs.Marked.{marked_same}
+use Rattle.inodes_on_blocks.proofs.NumberPuts.{sized}
+use Rattle.inodes_on_blocks.proofs.PartSteps.{MakesPart, s-part}
+use Rattle.inodes_on_blocks.proofs.Putting.{lock_range}
+use Rattle.inodes_on_blocks.proofs.RecordThen.{seen_dinode}
+use Rattle.inodes_on_blocks.proofs.SpentRoom.{spent_stays}
+use Rattle.inodes_on_blocks.proofs.Starting.{TakesStep, s-here}
+use Rattle.inodes_on_blocks.proofs.StatSteps.{in_use}
+
+-- a slot lies in one block
+one_block : (slot : ℕ) → blocks_between (16 * slot) (16 * slot + 16) ≡ 1
+one_block slot =
+    let some : nat_lt (16 * slot) (16 * slot + 16) ≡ true = grind (arith, nat_tests) in
+    ap (λ (t : Bool). if t then ((16 * slot + 16 - 1) / 1024 + 1) - 16 * slot / 1024 else 0) some ∙ (let e : ((16 * slot + 16 - 1) / 1024 + 1) - 16 * slot / 1024 ≡ 1 = omega arith in e)
+
+module _ (sizes : Super) (l : Labels) (laws : Laws (labelled l)) (keeps : Keeps l) (h : ℕ) (lt : h < hart_count) (n : ℕ) (e : Name) (q : ℕ) (m : above.Entered → Option above.Mark) (s : Spent) (bitmap : s.bitmap ≡ true)
+    (named : IsSpent sizes s (inode_block sizes.inodestart n)) (room : size s + 2 ≤ most_recorded) (c : Carry) (B : List l.Step → Type 0) (C : above.Entered → List l.Step → above.World → Type 0) (lasts : Lasts (labelled l) h B C) where
+  abbrev W : Type 0
+  W = Both World above.World
+
+  abbrev M : Machine
+  M = joined (labelled l) (below sizes)
+
+  abbrev Q : Handed above.Entered Carry → List l.Step → W → Type 0
+  Q r fs u = Below (labelled l) (below sizes) h C r fs u × HasSpent sizes h (with_contents 2 s) u.real
+
+  abbrev Todo : List l.Step → above.World → Type 0
+  Todo = ToAct (labelled l) (below sizes) laws (below_laws sizes l keeps) h B (Enter n e q) m C lasts
+
+  may_at : (fs : List l.Step) (g : above.World) → Todo fs g → Inv g → rules.May h (Enter n e q) g
+  may_at fs g todo inv = may_act (labelled l) (below sizes) laws (below_laws sizes l keeps) h B (Enter n e q) m C lasts fs g todo inv
+
+  changes : (fs : List l.Step) (g : above.World) → Todo fs g → Inv g → IsChanging h n g
+  changes fs g todo inv = let may = may_at fs g todo inv in record { lock = may.1.0.0; joined = may.1.0.1 }
+
+  asks : (g : above.World) → rules.May h (Enter n e q) g → IsChanging h n g × ((g.desks h).lender ≡ None)
+  asks g asked = (record { lock = asked.1.0.0; joined = asked.1.0.1 }, asked.0)
+
+  abbrev bytes : List ℕ
+  bytes = spell_dirent (Used q e)
+
+  abbrev act : Option Acts
+  act = acts (Enter n e q) above.Room m
+
+  -- the program where the record is x
+  abbrev goes_in : Dinode → ℕ → P M (Handed above.Entered Carry)
+  goes_in x slot =
+      if nat_lt slot 17152 then bind (write_blocks (blocks_between (16 * slot) (16 * slot + length bytes)) sizes (16 * slot) bytes x) (entered_to sizes n e q c m slot) else Ret (record { answer = above.NoSlot; carry = c })
+
+  abbrev goes : Dinode → Option Found → P M (Handed above.Entered Carry)
+  goes x found = goes_in x (slot_for x found)
+
+  -- ---- it takes a step
+
+  ends_take : (slot : ℕ) (w : Written) → TakesStep sizes l laws keeps h lt B (entered_to sizes n e q c m slot w)
+  ends_take slot w = by (w.upto == 16 * (slot + 1))
+    where
+      by : (t : Bool) → TakesStep sizes l laws keeps h lt B (if t then put_grown (Enter n e q) above.Room m above.InPlace sizes n c w else put_grown (Enter n e q) (above.RoomFor 0) m above.NoBlock sizes n c w)
+      by true = tt
+      by false = tt
+
+  in_takes : (x : Dinode) (slot : ℕ) → nat_lt slot 17152 ≡ true → TakesStep sizes l laws keeps h lt B (goes_in x slot)
+  in_takes x slot is =
+      subst (λ (t : Bool). TakesStep sizes l laws keeps h lt B (if t then bind (write_blocks (blocks_between (16 * slot) (16 * slot + length bytes)) sizes (16 * slot) bytes x) (entered_to sizes n e q c m slot) else Ret (record { answer = above.NoSlot; carry = c }))) (sym is)
+      (takes_write sizes l laws keeps h lt B (blocks_between (16 * slot) (16 * slot + length bytes)) (16 * slot) bytes x (entered_to sizes n e q c m slot) (ends_take slot))
+
+  seek_takes : (x : Dinode) (t : Bool) → nat_lt (slot_count x) 17152 ≡ t → TakesStep sizes l laws keeps h lt B (bind (if t then search Unused x else search_full act 267 x 0) (goes x))
+  unfolding search_from search_full
+  seek_takes x false isnt = tt
+  seek_takes x true is = by (block_count x)
+    where
+      by : (i : ℕ) → TakesStep sizes l laws keeps h lt B (bind (search_from i Unused x 0) (goes x))
+      by zero = in_takes x (slot_count x) is
+      by (suc i) = tt
+
+  -- ---- from v on, where the lock is the hart's
+
+  module _ (v : W) (fs : List l.Step) (todo : Todo fs v.seen) (shows : Shows v.real v.seen) (inv : Inv v.seen) (stands : Stands sizes h v.real v.seen c) (knows : HasSpent sizes h s v.real) where
+    may : rules.May h (Enter n e q) v.seen
+    may = may_at fs v.seen todo inv
+
+    mine : lock_holder n (tables_of v.real) ≡ Some h
+    mine = sym (shows.tables.places.holders n) ∙ may.1.0.0
+
+    abbrev node : Node
+    node = may.1.1.node
+
+    is : v.seen.disk n ≡ Some node
+    is = may.1.1.is
+
+    abbrev d : Dinode
+    d = inode_in (log_of v.real) n
+
+    hand : InHand h n (c n) v.real v.seen
+    hand = stands.0.inodes n mine
+
+    holds : HoldsAt (disk_of (log_of v.real)) v.real.owner n (Some node)
+    holds = subst (λ (o : Option Node). HoldsAt (disk_of (log_of v.real)) v.real.owner n o) is hand.holds
+
+    used : is_free d ≡ false
+    used = in_use d node holds.inode
+
+    directory : (slots : List (Option Slot)) × (node.kind ≡ Directory slots)
+    directory = by node.kind refl may.1.1.fits
+      where
+        by : (k : Kind) → node.kind ≡ k → tree.is_directory node.kind ≡ true → (slots : List (Option Slot)) × (node.kind ≡ Directory slots)
+        by (Directory slots) z dir = (slots, z)
+        by (File bytes) z dir = absurd (let no : false ≡ true = ap tree.is_directory (sym z) ∙ dir in cc)
+        by (Device major minor size) z dir = absurd (let no : false ≡ true = ap tree.is_directory (sym z) ∙ dir in cc)
+
+    abbrev slots : List (Option Slot)
+    slots = directory.0
+
+    size_is : d.size ≡ 16 * length slots
+    size_is = holds.inode.size ∙ ap size_in directory.1
+
+    limit : d.size ≤ 268 * 1024
+    limit = (holds.room used).limit
+
+    range : (1 ≤ n) × (n < (log_of v.real).sizes.ninodes)
+    range = lock_range n h v.real v.seen shows may.1.0.0
+
+    fits : Fits (16 * length slots) d
+    fits = (seen_dinode v.real v.seen shows n range.1, size_is)
+
+    dirent : IsDirent (Used q e)
+    dirent = entry_is q e may.1.2.0 (let few = shows.blocks.seen.good.many_inodes in let top = may.1.2.1 in let same = shows.size in omega (arith, few, top, same)) may.1.3
+
+    long : length bytes ≡ 16
+    long = length-spell_dirent (Used q e) dirent
+
+    was_is : node ≡ directory_of node.count slots
+    was_is = λ z. record { count = node.count; kind = directory.1 z }
+
+    abbrev content : ℕ → List ℕ
+    content k = content_block (disk_of (log_of v.real)) d k
+
+    abbrev found : Option Found
+    found = looks.search_finds (disk_of (log_of v.real)) v.real.owner n node holds used Unused
+
+    first : IsFirst Unused (slot_at content) (length slots) found
+    first = looks.is_first (disk_of (log_of v.real)) v.real.owner n node holds used Unused slots directory.1
+
+    are : looks.AreRead (slot_at content) slots
+    are = (looks.shown (disk_of (log_of v.real)) v.real.owner n node holds used slots directory.1).0
+
+    count_is : slot_count d ≡ length slots
+    count_is = (looks.shown (disk_of (log_of v.real)) v.real.owner n node holds used slots directory.1).1
+
+    abbrev entry : Slot
+    entry = record { name = e; number = q }
+
+    full_is : is_full_directory (Some node) ≡ ((length slots == 17152) && all_used slots)
+    full_is = ap (λ (k : Kind). (length (slots_of k) == 17152) && all_used (slots_of k)) directory.1
+
+    -- ---- the slot is known
+
+    module _ (slot : ℕ) (past : slot ≤ length slots) (low : slot < 17152) (free : first_free slots entry ≡ slots_with slots slot (Some entry)) (open_ : is_full_directory (Some node) ≡ false) where
+      abbrev after : Node
+      after = directory_of node.count (slots_with slots slot (Some entry))
+
+      abbrev grew : ℕ
+      grew = max (16 * length slots) (16 * suc slot)
+
+      entered_is : with_entry e q node ≡ after
+      entered_is = let same = ap (λ (k : Kind). first_free (slots_of k) entry) directory.1 ∙ free in λ z. directory_of node.count (same z)
+
+      place : 16 * slot / 1024 ≡ slot / 64
+      place = omega arith
+
+      makes : MakesPart h n (16 * slot / 1024) (16 * length slots) grew (16 * slot) bytes c (Some node) (directory_of node.count slots) after
+      makes =
+          subst (λ (k : ℕ). MakesPart h n k (16 * length slots) grew (16 * slot) bytes c (Some node) (directory_of node.count slots) after) (sym place)
+          (entry_makes h n slot node.count slots (Some entry) (Used q e) c (Some node) past (omega (arith, low)) refl dirent)
+
+      -- no block was free
+      lacks : (x : Dinode) (bs : List ℕ) (u : W) (gs : List l.Step) → Between sizes h n (Todo gs) c (Some node) (sized (16 * length slots) x) (directory_of node.count slots) (HasBlocks sizes h s bs) u → Fits (16 * length slots) x → length bs ≤ 1
+          → Wp M h B Q (entered_to sizes n e q c m slot (record { inode = x; upto = 16 * slot })) 3 gs u
+      lacks x bs u gs there fit few =
+          subst (λ (t : Bool). Wp M h B Q (if t then put_grown (Enter n e q) above.Room m above.InPlace sizes n c (record { inode = x; upto = 16 * slot }) else put_grown (Enter n e q) (above.RoomFor 0) m above.NoBlock sizes n c (record { inode = x; upto = 16 * slot })) 3 gs u)
+          (sym (eq_not (16 * slot) (16 * (slot + 1)) (λ z. absurd (omega (arith, z)))))
+          (s-grown sizes l laws keeps h lt n (Enter n e q) m c asks B C lasts (Some node) s named 2 room (above.RoomFor 0) above.NoBlock (directory_of node.count slots) (16 * length slots) (16 * length slots) (16 * slot) x bs (λ y. tt)
+          (λ g asked was.
+          ap (λ (o : Option Node). enter_if n e q g (above.RoomFor 0) (is_full_directory o)) was ∙ ap (enter_if n e q g (above.RoomFor 0)) open_
+          ∙ ap (λ (y : above.World). Ran above.NoBlock y) (sym (record_same g n (directory_of node.count slots) (was ∙ ap (λ (y : Node). Some y) was_is))))
+          fit (omega (arith, past)) (omega (arith, size_is, limit)) (omega (arith, few)) gs u there)
+
+      abbrev upto : ℕ
+      upto = 16 * slot + length (front_of (16 * slot) bytes)
+
+      upto_is : upto ≡ 16 * (slot + 1)
+      upto_is = let part : length (front_of (16 * slot) bytes) ≡ length bytes = ap length (slot_front slot bytes long) in omega (arith, part, long)
+
+      -- the entry was written
+      ends : (x : Dinode) (bs : List ℕ) (u : W) (gs : List l.Step) → Between sizes h n (Todo gs) c (Some node) (sized grew x) after (HasBlocks sizes h s bs) u → Fits (16 * length slots) x → length bs ≤ 2
+          → Wp M h B Q (entered_to sizes n e q c m slot (record { inode = x; upto = upto })) 3 gs u
+      ends x bs u gs there fit few =
+          subst (λ (t : Bool). Wp M h B Q (if t then put_grown (Enter n e q) above.Room m above.InPlace sizes n c (record { inode = x; upto = upto }) else put_grown (Enter n e q) (above.RoomFor 0) m above.NoBlock sizes n c (record { inode = x; upto = upto })) 3 gs u)
+          (sym (ap (λ (k : ℕ). k == 16 * (slot + 1)) upto_is ∙ eq_self (16 * (slot + 1))))
+          (s-grown sizes l laws keeps h lt n (Enter n e q) m c asks B C lasts (Some node) s named 2 room above.Room above.InPlace after (16 * length slots) grew upto x bs (λ y. tt)
+          (λ g asked was.
+          ap (λ (o : Option Node). enter_if n e q g above.Room (is_full_directory o)) was ∙ ap (enter_if n e q g above.Room) open_
+          ∙ ap (λ (o : Option Node). Ran above.InPlace (with_record g n (Some (with_entry e q (node_or o))))) was ∙ ap (λ (y : Node). Ran above.InPlace (with_record g n (Some y))) entered_is)
+          fit (omega (arith, upto_is)) (omega (arith, size_is, limit, low)) few gs u there)
+
+      -- the blocks are written, from where the slot was found
+      writes : (w : W) (gs : List l.Step) → Same h v.real w.real → Kept h v.seen w.seen → Todo gs w.seen → Wp M h B Q (goes_in d slot) 21 gs w
+      unfolding write_blocks
+      writes w gs same kept stage =
+          s-here sizes l laws keeps h lt B (goes_in d slot) Q Todo (to_act (labelled l) (below sizes) laws (below_laws sizes l keeps) h B (Enter n e q) m C lasts) (in_takes d slot is_low) 21 gs w stage
+          (λ u hs here.
+          let same_u = (below_laws sizes l keeps).trans h v.real w.real u.real same here.same in
+          let kept_u = kept_then h v.seen w.seen u.seen kept here.kept in
+          let changing = changing_then h n c (Some node) d node v.real u.real v.seen u.seen shows here.shows (left_same h v.real u.real same_u) kept_u (changing_start h n c node v.real v.seen stands.0 mine is) in
+          written u hs (record {
+            changing = subst (λ (y : Dinode × Node). Changing h n c (Some node) y.0 y.1 u.real u.seen) (λ z. (record d { size = size_is z }, was_is z)) changing;
+            shows = here.shows;
+            stage = here.stage;
+            none = same_u.held ∙ stands.0.free;
+            at = same_u.sizes ∙ stands.1;
+            known = blocks_start sizes h s u.real (spent_stays sizes h s v.real u.real same_u knows);
+          }))
+        where
+          is_low : nat_lt slot 17152 ≡ true
+          is_low = grind (arith, nat_tests, low)
+
+          cost : (t : ℕ) → length {A = ℕ} [] + extra true [] t ≤ 1
+          cost t = let one = extra_missing [] t refl in omega (arith, one)
+
+          written : (u : W) (hs : List l.Step) → Between sizes h n (Todo hs) c (Some node) (sized (16 * length slots) d) (directory_of node.count slots) (HasBlocks sizes h s []) u → Wp M h B Q (goes_in d slot) 21 hs u
+          written u hs start =
+              subst (λ (t : Bool). Wp M h B Q (if t then bind (write_blocks (blocks_between (16 * slot) (16 * slot + length bytes)) sizes (16 * slot) bytes d) (entered_to sizes n e q c m slot) else Ret (record { answer = above.NoSlot; carry = c })) 21 hs u) (sym is_low)
+              (subst (λ (k : ℕ). Wp M h B Q (bind (write_blocks k sizes (16 * slot) bytes d) (entered_to sizes n e q c m slot)) 21 hs u) (sym (ap (λ (k : ℕ). blocks_between (16 * slot) (16 * slot + k)) long ∙ one_block slot))
+              (s-part sizes l laws keeps h lt B Q Todo (to_act (labelled l) (below sizes) laws (below_laws sizes l keeps) h B (Enter n e q) m C lasts) n changes c (Some node) (directory_of node.count slots) after s bitmap true (16 * slot / 1024)
+              (16 * length slots) grew (16 * length slots) 1 (omega (arith, room)) (16 * slot) bytes (entry_bytes q e may.1.3) makes
+              (write_blocks 0 sizes upto (drop (length (front_of (16 * slot) bytes)) bytes)) (entered_to sizes n e q c m slot) 3 lacks
+              (λ x bs y is_ there fit few. ends x bs y is_ there fit (omega (arith, few))) d fits [] (omega (arith, low)) (cost (slice_index d.addrs 12)) u hs start (λ z. absurd (let no : true ≡ false = z in cc))))
+
+    -- ---- it is sought
+
+    slot_is : (o : Option Found) → slot_for d o ≡ slot_of slots o
+    slot_is None = count_is
+    slot_is (Some f) = refl
+
+    -- where there is room for it
+    here_goes : (o : Option Found) → IsFirst Unused (slot_at content) (length slots) o → slot_of slots o < 17152 → (w : W) (gs : List l.Step) → Same h v.real w.real → Kept h v.seen w.seen → Todo gs w.seen → Wp M h B Q (goes d o) 21 gs w
+    here_goes o is_first low w gs same kept stage =
+        subst (λ (k : ℕ). Wp M h B Q (goes_in d k) 21 gs w) (sym (slot_is o))
+        (writes (slot_of slots o) (slot_below slots (slot_at content) are o is_first) low (new_slot slots (slot_at content) are o is_first entry) (full_is ∙ some_left slots (slot_at content) are o is_first low) w gs same kept stage)
+
+    -- where all slots are there
+    full_goes : 17152 ≤ length slots → Wp M h B Q (bind (search_full act 267 d 0) (goes d)) 1641 fs v
+    full_goes all =
+        Wp-more M h (bind (search_full act 267 d 0) (goes d)) B Q (touches 268 21) 1641 fs v (let steps_ = touches_are 268 21 in omega (arith, steps_))
+        (s-full sizes l laws keeps h lt B (Enter n e q) m C lasts above.Room above.NoSlot (λ y. tt) Q n (Some node) (goes d) 21 v holds used mine stands.0.free 267 0 v fs ((below_laws sizes l keeps).same h v.real) (kept_same h v.seen) todo
+        (λ k low. omega (arith, size_is, all, low)) (subst (λ (k : ℕ). Rests sizes l laws keeps h lt B (Enter n e q) m C lasts above.Room above.NoSlot (λ y. tt) Q n (Some node) (goes d) 21 v holds used mine stands.0.free (found_from k Unused d content 0)) blocks_are rests))
+      where
+        blocks_are : block_count d ≡ 268
+        blocks_are = omega (arith, size_is, all, limit)
+
+        found_low : (f : Found) → found ≡ Some f → f.slot < 17152
+        found_low f z = let below_ = (subst (IsFirst Unused (slot_at content) (length slots)) z first).0 in omega (arith, below_, size_is, limit)
+
+        still : found ≡ None → (u : W) → Kept h v.seen u.seen → is_full_directory (u.seen.disk n) ≡ true
+        still none u kept =
+            ap is_full_directory ((kept_disk h n v.seen u.seen kept stands.0.lent hand.keeps).1 ∙ is) ∙ full_is
+            ∙ ap (λ (t : Bool). t && all_used slots) (ap (λ (k : ℕ). k == 17152) (let exact : length slots ≡ 17152 = omega (arith, size_is, limit, all) in exact))
+            ∙ none_left slots (slot_at content) are (subst (IsFirst Unused (slot_at content) (length slots)) none first)
+
+        rests : Rests sizes l laws keeps h lt B (Enter n e q) m C lasts above.Room above.NoSlot (λ y. tt) Q n (Some node) (goes d) 21 v holds used mine stands.0.free found
+        rests = record {
+          some = λ f z w gs same kept stage. here_goes (Some f) (subst (IsFirst Unused (slot_at content) (length slots)) z first) (found_low f z) w gs same kept stage;
+          none = λ z u r gs same kept asked done.
+              let stands_r = (below_laws sizes l keeps).base h v.real r v.seen u.seen c same kept stands in
+              let g = marked h (m above.NoSlot) u.seen in
+              let no : nat_lt (slot_count d) 17152 ≡ false = (let exact = count_is in grind (arith, nat_tests, exact, all)) in
+              subst (λ (t : Bool). Wp M h B Q (if t then bind (write_blocks (blocks_between (16 * slot_count d) (16 * slot_count d + length bytes)) sizes (16 * slot_count d) bytes d) (entered_to sizes n e q c m (slot_count d)) else Ret (record { answer = above.NoSlot; carry = c })) 21 gs (record { real = r; seen = g })) (sym no)
+              (Wp-more M h (Ret (record { answer = above.NoSlot; carry = c })) B Q 0 21 gs (record { real = r; seen = g }) (omega arith)
+              ((done, (base_marked h r u.seen g c (marked_same h (m above.NoSlot) u.seen) asked.0 stands_r.0, stands_r.1)), blocks_end sizes h s [] 2 r (omega arith) (blocks_start sizes h s r (spent_stays sizes h s v.real r same knows))));
+          stays = λ z u kept asked. ap (enter_if n e q u.seen above.Room) (still z u kept);
+        }
+
+    seeks : (t : Bool) → nat_lt (slot_count d) 17152 ≡ t → Wp M h B Q (bind (if t then search Unused d else search_full act 267 d 0) (goes d)) 1641 fs v
+    seeks true room_ =
+        Wp-more M h (bind (search Unused d) (goes d)) B Q (touches (block_count d) 21) 1641 fs v (let few = looks.few_blocks d in let steps_ = touches_are (block_count d) 21 in omega (arith, few, steps_))
+        (s-search sizes l laws keeps h lt B Q Todo (to_act (labelled l) (below sizes) laws (below_laws sizes l keeps) h B (Enter n e q) m C lasts) n (Some node) Unused (goes d) 21 v holds used mine stands.0.free (block_count d) 0 v fs
+        ((below_laws sizes l keeps).same h v.real) (kept_same h v.seen) todo (λ k low. let part = looks.block_within (disk_of (log_of v.real)) v.real.owner n node holds used k low in omega (arith, part))
+        (λ w gs same kept stage. here_goes found first (below_all found first) w gs same kept stage))
+      where
+        below_all : (o : Option Found) → IsFirst Unused (slot_at content) (length slots) o → slot_of slots o < 17152
+        below_all None z = (let exact = count_is in grind (arith, nat_tests, room_, exact))
+        below_all (Some f) z = let low = z.0 in omega (arith, low, size_is, limit)
+    seeks false isnt = full_goes (let exact = count_is in grind (arith, nat_tests, isnt, exact))
+
+    enters : Wp M h B Q (enter sizes n e q c m) 1641 fs v
+    enters = subst (λ (x : Dinode). Wp M h B Q (bind (if nat_lt (slot_count x) 17152 then search Unused x else search_full act 267 x 0) (goes x)) 1641 fs v) (sym (record_here h n c v.real v.seen node hand is)) (seeks (nat_lt (slot_count d) 17152) refl)
+
+  pub enter_acts : (es : List l.Step) (w : W) → Todo es w.seen → Stands sizes h w.real w.seen c → HasSpent sizes h s w.real → Wp M h B Q (enter sizes n e q c m) 1641 es w
+  enter_acts es w todo stands knows =
+      s-here sizes l laws keeps h lt B (enter sizes n e q c m) Q Todo (to_act (labelled l) (below sizes) laws (below_laws sizes l keeps) h B (Enter n e q) m C lasts) (seek_takes (record_in c n) (nat_lt (slot_count (record_in c n)) 17152) refl) 1641 es w todo
+      (λ v fs here.
+      enters v fs here.stage here.shows here.inv ((below_laws sizes l keeps).base h w.real v.real w.seen v.seen c here.same here.kept stands) (spent_stays sizes h s w.real v.real here.same knows))

@@ -1,0 +1,72 @@
+-- An operation that puts an inode's record after its blocks were written acts at the put.
+use Rattle.std.proofs.Common.{◌≡◌, inl, inr, ℕ, ◌+◌, ◌^◌, ◌<◌, ◌≤◌, List, length, max, Option, Some, None, sym, ◌∙◌, ap, subst, arith}
+use Rattle.fs_layout.specs.declared.inode.Dinode.{Dinode}
+use Rattle.fs_layout.specs.declared.superblock.Super.{Super}
+use Rattle.fs_layout.specs.Inode.{IsDinode}
+use Rattle.plain_tree.specs.declared.node.Node.{Node}
+use Rattle.plain_tree.specs.Tree.{put}
+use Rattle.plain_tree.specs.Widths.{hart_count}
+use Rattle.tree_laws.proofs.Maps.{same_or, put_same, put_other}
+use Rattle.atomic_programs.specs.Prog.{Ran, bind}
+use Rattle.atomic_programs.specs.Logic.{Laws, Machine, Wp}
+use Rattle.atomic_programs.specs.Joined.{Both, joined, Below, Lasts, Handed}
+use Rattle.atomic_programs.proofs.Joined.{ToAct}
+use Rattle.atomic_programs.proofs.Sound.{Wp-weaker}
+use Rattle.fs_machine.specs.Programs.{fetch}
+use Rattle.inode_table.specs.Programs.{inode_block}
+use Rattle.inode_machine.specs.Budget.{Spent, size, with_contents, most_recorded}
+use Rattle.inode_machine.specs.World as above
+use Rattle.inode_machine.specs.Exec as above_exec
+use Rattle.inode_machine.specs.Rules as rules
+use Rattle.inodes_on_blocks.specs.Accounts.{IsSpent}
+use Rattle.inodes_on_blocks.specs.Below.{World}
+use Rattle.inodes_on_blocks.specs.Entering.{put_grown}
+use Rattle.inodes_on_blocks.specs.Lowering.{Carry, below, Labels, labelled, Keeps}
+use Rattle.inodes_on_blocks.specs.Naming.{put_named}
+use Rattle.inodes_on_blocks.specs.Recording.{IsChanging}
+use Rattle.inodes_on_blocks.specs.Room.{HasSpent}
+use Rattle.inodes_on_blocks.proofs.BlocksRoom.{HasBlocks, blocks_end, named_room}
+use Rattle.inodes_on_blocks.proofs.Layer.{below_laws}
+use Rattle.inodes_on_blocks.proofs.LocateSteps.{Between, Fits}
+use Rattle.inodes_on_blocks.proofs.NamingSteps.{naming_keeps}
+use Rattle.inodes_on_blocks.proofs.NumberPuts.{sized}
+
+-- a node put where it is
+pub record_same : (g : above.World) (n : ℕ) (x : Node) → g.disk n ≡ Some x → above_exec.with_record g n (Some x) ≡ g
+record_same g n x is = λ z. record g { disk = λ k. there k z }
+  where
+    there : (k : ℕ) → put g.disk n (Some x) k ≡ g.disk k
+    there k = elim (same_or k n) [
+      | inl e ↦ ap (put g.disk n (Some x)) e ∙ put_same g.disk n (Some x) ∙ sym (ap g.disk e ∙ is)
+      | inr ne ↦ put_other g.disk n (Some x) k ne
+    ]
+
+sized_fits : (z : ℕ) (d : Dinode) → z < 2 ^ 32 → IsDinode d → IsDinode (sized z d)
+sized_fits z d small fits = record { kind = fits.kind; major = fits.major; minor = fits.minor; nlink = fits.nlink; size = small; thirteen = fits.thirteen; addrs = fits.addrs }
+
+module _ (sizes : Super) (l : Labels) (laws : Laws (labelled l)) (keeps : Keeps l) (h : ℕ) (lt : h < hart_count) (n : ℕ) where
+  abbrev W : Type 0
+  W = Both World above.World
+
+  abbrev M : Machine
+  M = joined (labelled l) (below sizes)
+
+  module _ (op : above.Op) (m : above.Answer op → Option above.Mark) (c : Carry) (asks : (g : above.World) → rules.May h op g → IsChanging h n g × ((g.desks h).lender ≡ None))
+      (B : List l.Step → Type 0) (C : above.Answer op → List l.Step → above.World → Type 0) (lasts : Lasts (labelled l) h B C)
+      (o : Option Node) (s : Spent) (named : IsSpent sizes s (inode_block sizes.inodestart n)) (most : ℕ) (room : size s + most ≤ most_recorded) where
+    abbrev pub Ends : Handed (above.Answer op) Carry → List l.Step → W → Type 0
+    Ends r fs u = Below (labelled l) (below sizes) h C r fs u × HasSpent sizes h (with_contents most s) u.real
+
+    -- the record d that the program has, of size `was`, goes back with what was written up to an offset; it is laid out so for node x
+    pub s-grown : (outside : above.Outside) (answer : above.Answer op) (x : Node) (was z upto : ℕ) (d : Dinode) (bs : List ℕ) → ((v : W) → rules.Honest h op v.seen outside)
+        → ((g : above.World) → rules.May h op g → g.disk n ≡ o → above_exec.exec h outside op g ≡ Ran answer (above_exec.with_record g n (Some x)))
+        → Fits was d → max was upto ≡ z → z < 2 ^ 32 → length bs ≤ most → (es : List l.Step) (w : W)
+        → Between sizes h n (ToAct (labelled l) (below sizes) laws (below_laws sizes l keeps) h B op m C lasts es) c o (sized z d) x (HasBlocks sizes h s bs) w
+        → Wp M h B Ends (put_grown op outside m answer sizes n c (record { inode = d; upto = upto })) 3 es w
+    s-grown outside answer x was z upto d bs honest ran fits whole small few es w there =
+        let grew : max d.size upto ≡ z = ap (λ (q : ℕ). max q upto) fits.1 ∙ whole in
+        Wp-weaker M h (put_grown op outside m answer sizes n c (record { inode = d; upto = upto })) B B (λ r fs u. Below (labelled l) (below sizes) h C r fs u × HasBlocks sizes h s bs u.real) Ends 3 es w (λ fs e. e)
+        (λ r fs u e. (e.0, blocks_end sizes h s bs most u.real few e.1))
+        (subst (λ (q : ℕ). Wp M h B (λ r fs u. Below (labelled l) (below sizes) h C r fs u × HasBlocks sizes h s bs u.real) (bind (fetch (inode_block sizes.inodestart n)) (put_named op outside m answer (inode_block sizes.inodestart n) n (sized q d) c)) 3 es w) (sym grew)
+        (naming_keeps sizes l laws keeps h lt n op outside m answer c o (sized z d) x (sized_fits z d small fits.0) honest asks ran (HasBlocks sizes h s bs) (HasBlocks sizes h s bs)
+        (named_room sizes h (inode_block sizes.inodestart n) s bs named (omega (arith, room, few))) B C lasts es w there.stage there.shows there.changing there.none there.at there.known))

@@ -1,0 +1,35 @@
+-- Names entered within what their call's transactions may record.
+use Rattle.std.proofs.Common.{[], ◌<◌, arith, ℕ, Bool, Option, refl}
+use Rattle.fs_layout.specs.declared.superblock.Super.{Super}
+use Rattle.plain_tree.specs.Tree.{Name}
+use Rattle.plain_tree.specs.Widths.{hart_count}
+use Rattle.atomic_programs.specs.Logic.{Laws}
+use Rattle.inode_machine.specs.Budget.{with_bitmap, with_record}
+use Rattle.inode_machine.specs.World as above
+use Rattle.inode_machine.specs.World.Op.{Enter, Fill}
+use Rattle.inodes_on_blocks.specs.Acting.{Answers, IsDone, alone}
+use Rattle.inodes_on_blocks.specs.Entering.{enter, fill}
+use Rattle.inodes_on_blocks.specs.Lowering.{Labels, labelled, Keeps}
+use Rattle.inodes_on_blocks.specs.Spending.{ActsWithin, DoesItWithin}
+use Rattle.inodes_on_blocks.proofs.Alone.{alone_keeps, alone_laws, lasts_done}
+use Rattle.inodes_on_blocks.proofs.EnterSteps.{enter_acts}
+use Rattle.inodes_on_blocks.proofs.FillSteps.{fill_acts}
+use Rattle.inodes_on_blocks.proofs.SpentRoom.{both_more, record_spent}
+
+module _ (sizes : Super) (l : Labels) (laws : Laws (labelled l)) (keeps : Keeps l) (h : ℕ) (lt : h < hart_count) where
+  pub fill_within : (n d : ℕ) (m : Bool → Option above.Mark) → ActsWithin sizes l h (Fill n d) m (fill sizes n d)
+  fill_within n d m c s B C es w lasts todo stands few has =
+      fill_acts sizes l laws keeps h lt n d m (with_record n (with_bitmap s)) refl (record_spent sizes n (with_bitmap s)) (omega (arith, few)) c B C lasts es w todo stands (has.0, both_more h n s w.real has.1)
+
+  pub enter_within : (d : ℕ) (e : Name) (n : ℕ) (m : above.Entered → Option above.Mark) → ActsWithin sizes l h (Enter d e n) m (enter sizes d e n)
+  enter_within d e n m c s B C es w lasts todo stands few has =
+      enter_acts sizes l laws keeps h lt d e n m (with_record d (with_bitmap s)) refl (record_spent sizes d (with_bitmap s)) (omega (arith, few)) c B C lasts es w todo stands (has.0, both_more h d s w.real has.1)
+
+-- with the history that is the operations themselves
+pub fills_within : (sizes : Super) (n d : ℕ) → DoesItWithin sizes (Fill n d) (fill sizes n d)
+fills_within sizes n d h s m c w lt few todo stands known =
+    fill_within sizes alone alone_laws alone_keeps h lt n d m c s (IsDone (Fill n d)) (Answers (Fill n d)) [] w (lasts_done (Fill n d) h) todo stands few (stands.1, known)
+
+pub enters_within : (sizes : Super) (d : ℕ) (e : Name) (n : ℕ) → DoesItWithin sizes (Enter d e n) (enter sizes d e n)
+enters_within sizes d e n h s m c w lt few todo stands known =
+    enter_within sizes alone alone_laws alone_keeps h lt d e n m c s (IsDone (Enter d e n)) (Answers (Enter d e n)) [] w (lasts_done (Enter d e n) h) todo stands few (stands.1, known)

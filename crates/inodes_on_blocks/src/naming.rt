@@ -1,0 +1,21 @@
+//! Operations on whole inodes that enter names, as programs below: each acts at one moment, whatever the other harts do, where the
+//! hart's transaction has room for what they record; and after it the transaction has recorded no more than that.
+
+ghost use Rattle.std.specs.Prelude.{ℕ};
+ghost use Rattle.fs_layout.specs.declared.superblock.Super.{Super};
+ghost use Rattle.plain_tree.specs.Tree.{Name};
+ghost use Rattle.inode_machine.specs.World.Op.{Enter, Fill};
+ghost use Rattle.inodes_on_blocks.specs.Entering.{enter, fill};
+ghost use Rattle.inodes_on_blocks.specs.Spending.{DoesItWithin};
+
+/// A new directory's two names act where its record is put, after they were written into a block that was taken; or, where no block
+/// is free, as the record is put as it was.
+pub fn first_names_act_once()
+    ensures { (sizes : Super) (n d : ℕ) → DoesItWithin sizes (Fill n d) (fill sizes n d) }
+{}
+
+/// A name entered acts where the directory's record is put, after its entry was written into the first free slot, or a new last one;
+/// as the record is put where no block is free for it; or as the last block is given back, where the directory has no slot left.
+pub fn names_act_once()
+    ensures { (sizes : Super) (d : ℕ) (e : Name) (n : ℕ) → DoesItWithin sizes (Enter d e n) (enter sizes d e n) }
+{}
