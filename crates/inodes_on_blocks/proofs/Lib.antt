@@ -58,6 +58,9 @@ pub mod Mounted
 pub mod Changing
 pub mod NamingPuts
 pub mod NamingSteps
+pub mod WrittenSteps
+pub mod WriteBlocks
+pub mod WriteSteps
 pub mod DataPuts
 pub mod SlotPuts
 pub mod ClearSteps

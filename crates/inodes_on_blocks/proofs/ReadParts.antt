@@ -26,10 +26,10 @@ use Rattle.inodes_on_blocks.proofs.ContentReads.{filled_from}
 use Rattle.inodes_on_blocks.proofs.NodeBytes.{all_whole, node_bytes}
 
 -- how many blocks have bytes between two offsets
-many_between : (from upto : ℕ) → from < upto → blocks_between from upto ≡ ((upto - 1) / 1024 + 1) - from / 1024
+pub many_between : (from upto : ℕ) → from < upto → blocks_between from upto ≡ ((upto - 1) / 1024 + 1) - from / 1024
 many_between from upto lt = ap (λ (b : Bool). cond b (((upto - 1) / 1024 + 1) - from / 1024) 0) (lt-ltb from upto lt)
 
-none_there : (from upto : ℕ) → upto ≤ from → blocks_between from upto ≡ 0
+pub none_there : (from upto : ℕ) → upto ≤ from → blocks_between from upto ≡ 0
 none_there from upto le = ap (λ (b : Bool). cond b (((upto - 1) / 1024 + 1) - from / 1024) 0) (le-ltb from upto le)
 
 few_between : (from upto : ℕ) → upto ≤ largest_size → blocks_between from upto ≤ 268

@@ -176,11 +176,14 @@ module _ (sizes : Super) (l : Labels) (h : ℕ) where
         tracks (k a) step.0 t step.2,
       )
 
-  -- An operation's program that records what the operation spends leaves no more spent, beside all else that is shown of it.
+  -- A program that records so leaves no more spent, beside all else that is shown of it.
+  pub ends_within : {A : Type 0} (p : P A) (s t : Spent) → Records sizes s p t → (B : List l.Step → Type 0) (Q : A → List l.Step → W → Type 0) (n : ℕ) (es : List l.Step) (w : W) → Wp M h B Q p n es w → Has w s → Wp M h B (λ r fs u. Q r fs u × Has u t) p n es w
+  ends_within p s t records B Q n es w goes has = Wp-tracks M h Has (λ v u xs r o known. spent_stays sizes h r v.real u.real o.0 known) B p Q s t n es w (tracks p s t records) goes has
+
+  -- So does an operation's that records what the operation spends.
   pub stays_within : (op : above.Op) (m : above.Answer op → Option above.Mark) (p : Handler op) → Spends sizes op p → (c : Carry) (s : Spent) (B : List l.Step → Type 0) (C : above.Answer op → List l.Step → above.World → Type 0) (n : ℕ) (es : List l.Step) (w : W)
       → Wp M h B (Below (labelled l) (below sizes) h C) (p c m) n es w → Has w s → Wp M h B (λ r fs u. Below (labelled l) (below sizes) h C r fs u × Has u (spent_after op s)) (p c m) n es w
-  stays_within op m p spends c s B C n es w goes has =
-      Wp-tracks M h Has (λ v u xs t o known. spent_stays sizes h t v.real u.real o.0 known) B (p c m) (Below (labelled l) (below sizes) h C) s (spent_after op s) n es w (tracks (p c m) s (spent_after op s) (spends c m s)) goes has
+  stays_within op m p spends c s B C n es w goes has = ends_within (p c m) s (spent_after op s) (spends c m s) B (Below (labelled l) (below sizes) h C) n es w goes has
 
 pub programs_stay_within : ProgramsStayWithin
 programs_stay_within sizes op p spends does h s m c w lt few todo stands accounts =

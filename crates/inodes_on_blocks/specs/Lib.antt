@@ -11,6 +11,7 @@ pub mod Reading
 pub mod Recording
 pub mod Storing
 pub mod Files
+pub mod Writing
 pub mod Emptying
 pub mod Room
 pub mod Giving

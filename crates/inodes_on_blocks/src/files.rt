@@ -5,6 +5,7 @@ ghost use Rattle.fs_layout.specs.declared.superblock.Super.{Super};
 ghost use Rattle.inode_machine.specs.World.Op.{LockFile, LockOpen, ReadFile};
 ghost use Rattle.inodes_on_blocks.specs.Files.{lock_file, lock_open, read_file};
 ghost use Rattle.inodes_on_blocks.specs.Acting.{DoesItAt};
+ghost use Rattle.inodes_on_blocks.specs.Writing.{WritesActOnce};
 
 /// The lock of what a descriptor names is taken to read it, at the moment at which it is had, and the inode read from its block
 /// behind that, where it isn't loaded; or the read is refused.
@@ -20,4 +21,11 @@ pub fn locks_to_write_act_once()
 /// A part of the file is read block by block, and the lock given up: there the offset moves by as much as was read.
 pub fn reads_act_once()
     ensures { (sizes : Super) (fd n offset count : ℕ) → DoesItAt sizes (ReadFile fd n offset count) (read_file fd n offset count) }
+{}
+
+/// A piece is written into a file, the blocks found or taken and then the record put, where nothing refuses it; it acts where the lock
+/// is given up, and the offset moves to where the bytes end that were written: all of them, or those before the block for which
+/// none was free. Asked is that the inode is a file's.
+pub fn writes_act_once()
+    ensures { (sizes : Super) → WritesActOnce sizes }
 {}
