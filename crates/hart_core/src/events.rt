@@ -1,6 +1,7 @@
 // Events, and what they come to.
 ghost use Rattle.std.specs.Prelude.{◌≡◌};
 ghost use Rattle.atomic_programs.specs.Calls.{with_answer};
+ghost use Rattle.fs_machine.specs.Machines.{CallsOnce};
 ghost use Rattle.hart_core.specs.Events.{event_of, came_of, said_of};
 ghost use Rattle.hart_core.specs.Harts.{shared_of};
 ghost use Rattle.hart_core.specs.Worlds.{Answers, Makes};
@@ -27,11 +28,12 @@ pub enum Came {
 }
 
 impl<D: Device> World<D> {
-    /// One event. It takes no memory.
+    /// One event. It takes no memory, and makes at most one call of the device.
     pub fn event(&mut self, event: Event) -> Came
         ensures makes { Makes D.contents D.failures self.old.sizes (with_answer (event_of event) (said_of result (shared_of D.contents D.failures self.new.harts))) self.old.harts (came_of result) self.new.harts }
         ensures honest { Answers D.contents D.failures self.old.sizes (with_answer (event_of event) (said_of result (shared_of D.contents D.failures self.new.harts))) self.old.harts }
         ensures sizes { self.new.sizes ≡ self.old.sizes }
+        ensures called { CallsOnce D.Called self.old.harts.core.log.cache.device self.new.harts.core.log.cache.device }
     {
         match event {
             Event::Start { hart, call } => match self.start(hart, call) {

@@ -93,10 +93,12 @@ impl<D: Device> World<D> {
     }
 
     /// Starts a hart's call. It is refused, and handed back, where there is no such hart, where the hart has a call, at the call's own
-    /// first fault, and last where the call isn't there yet; nothing has changed then. A stopped world takes starts as before.
+    /// first fault, and last where the call isn't there yet; nothing has changed then. A stopped world takes starts as before. No start
+    /// calls the device.
     pub fn start(&mut self, hart: u8, call: Call) -> Result<(), (Call, StartRefused)>
         ensures makes { Makes D.contents D.failures self.old.sizes (StartOf hart call) self.old.harts (start_outcome result) self.new.harts }
         ensures sizes { self.new.sizes ≡ self.old.sizes }
+        ensures core { self.new.harts.core ≡ self.old.harts.core }
         ensures back { IfErr result (λ e. (e.0 ≡ call) × (self.new ≡ self.old)) }
     {
         match self.find_start_refusal(hart, &call) {
