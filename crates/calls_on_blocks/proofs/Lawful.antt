@@ -1,64 +1,51 @@
 -- The calls that are served are right below.
-use Rattle.std.proofs.Common.{◌≡◌, ◌<◌, ℕ, Bool, true, false, nat_lt, if◌then◌else◌, Option, Some, None, refl, subst, arith}
+use Rattle.std.proofs.Common.{◌≡◌, ◌<◌, ℕ, Bool, true, false, nat_lt, if◌then◌else◌, Option, Some, None, refl, sym, ◌∙◌, ap, subst, arith}
 use Rattle.std.proofs.lemmas.Bool.Decides.{nat_tests}
 use Rattle.fs_layout.specs.declared.superblock.Super.{Super}
+use Rattle.plain_tree.specs.declared.answer.Answer.TheVariants as answers
+use Rattle.plain_tree.specs.declared.answer.Full.TheVariants.{Descriptors}
+use Rattle.plain_tree.specs.declared.answer.Reply.{Reply}
 use Rattle.plain_tree.specs.declared.call.Call.{Call}
 use Rattle.plain_tree.specs.declared.call.Call.TheVariants as calls
 use Rattle.plain_tree.specs.Widths.{hart_count}
 use Rattle.plain_tree.specs.declared.step.Action.TheVariants as actions
 use Rattle.tree_laws.proofs.Maps.{and_true}
-use Rattle.atomic_programs.specs.Prog.{Did, Waits, Ran, Stops, did_in, or_else, unmarked}
+use Rattle.atomic_programs.specs.Prog.{Do, Did, Waits, Ran, Stops, did_in, or_else, unmarked}
 use Rattle.atomic_programs.specs.Calls.{Began, Begins, Lawful}
 use Rattle.atomic_programs.specs.Plain.{IsCode, began_in}
-use Rattle.atomic_programs.specs.Joined.{LowerLaws, Atomic}
-use Rattle.atomic_programs.specs.Lifting.{Uses, AllLift}
+use Rattle.atomic_programs.specs.Joined.{Both, LowerLaws}
+use Rattle.atomic_programs.specs.Lifting.{Uses, AllLift, IsStarted}
 use Rattle.atomic_programs.specs.Lowered.{BeginsBoth, StartsBoth, IsPart}
-use Rattle.atomic_programs.proofs.Joined.{lift_using}
-use Rattle.atomic_programs.proofs.Lifting.{lower_laws_with_more, atomic_with_more}
+use Rattle.atomic_programs.proofs.Joined.{lift_within}
+use Rattle.atomic_programs.proofs.Lifting.{lower_laws_with_more}
 use Rattle.atomic_programs.proofs.Lowered.{lifted_lawful, is_code_part}
 use Rattle.fs_machine.specs.declared.kind.Kind.{Kind}
 use Rattle.fs_machine.specs.Steps as steps
 use Rattle.inode_machine.specs.Inodes.{Face}
 use Rattle.inode_machine.specs.World as above
-use Rattle.inode_machine.specs.World.Op.{Double, StatFile, Give, Say}
-use Rattle.inode_machine.specs.Descriptors.{dups, dup_on, stat_on}
+use Rattle.inode_machine.specs.World.Op.{Free, Give, Forget}
+use Rattle.inode_machine.specs.World.Mark.{Frees}
+use Rattle.inode_machine.specs.Budget.{unspent}
+use Rattle.inode_machine.specs.Descriptors.{dups, dup_on, stat_on, stat_reply}
 use Rattle.inode_machine.specs.Exec.{is_nothing}
-use Rattle.inode_machine.specs.Marks.{places}
-use Rattle.inode_machine.specs.Parts.{own_step}
+use Rattle.inode_machine.specs.Parts.{P, own_step, drop, say, full}
 use Rattle.inode_machine.specs.Programs.{program}
-use Rattle.inode_machine.specs.Rules as rules
 use Rattle.inode_machine.specs.Rules.{machine}
 use Rattle.inode_machine.specs.Theory as theory
 use Rattle.inode_machine.specs.Theory.{Refusal, NoSuchHart, Busy, NotCovered, begin_call, begin_if, is_covered, call_wrong, why_not}
+use Rattle.inode_machine.proofs.Budgets.{transactions_are_small}
 use Rattle.inode_machine.proofs.Calls.{IsRight, laws, lawful_that, descriptors_right}
-use Rattle.tree_moves.specs.Moves.{Stage, Step, Takes}
-use Rattle.inodes_on_blocks.specs.Below.{World, came_to}
-use Rattle.inodes_on_blocks.specs.Lowering.{Labels, Keeps, nothing, below}
-use Rattle.inodes_on_blocks.specs.Acting.{ActsOnceAt}
+use Rattle.inode_machine.proofs.Starts.{begun_same, start_is}
+use Rattle.inodes_on_blocks.specs.Below.{World, came_to, log_of}
+use Rattle.inodes_on_blocks.specs.Lowering.{nothing, below}
+use Rattle.inodes_on_blocks.specs.Room.{HasSpent}
+use Rattle.inodes_on_blocks.specs.Spending.{recorded_blocks}
 use Rattle.inodes_on_blocks.proofs.Layer.{below_laws}
-use Rattle.inodes_on_blocks.proofs.SlotSteps.{double_acts, say_acts}
-use Rattle.inodes_on_blocks.proofs.StatSteps.{stat_acts}
-use Rattle.inodes_on_blocks.proofs.TableSteps.{give_acts}
+use Rattle.inodes_on_blocks.proofs.Withins.{affords, none_spent}
 use Rattle.calls_on_blocks.specs.Programs.{handlers}
 use Rattle.calls_on_blocks.specs.Theory.{is_served, serves, served_calls, fault_of, refusal_for, begun_by, if_hart, begin_in, IsFree, layer, begins, block_calls, shared_part, block_code}
-use Rattle.calls_on_blocks.proofs.Free.{kept_free, LeavesFree, go_free, double_free, stat_free, give_free, say_free}
-
--- ---- the history that explains the calls
-
-abbrev history : Labels
-history =
-    record {
-      Step = Step;
-      Tree = Stage;
-      places = places;
-      tree = above.stage_of;
-      Takes = Takes;
-      Others = rules.Others;
-      Clean = λ w. w.clean ≡ true;
-    }
-
-keeps : Keeps history
-keeps h v w xs o = record { same = o.same; rests = o.rests; opens = o.opens }
+use Rattle.calls_on_blocks.proofs.Free.{kept_free}
+use Rattle.calls_on_blocks.proofs.Operations.{history, keeps, Within, gives, downs, forgets, frees, doubles, stats, says}
 
 -- ---- above
 
@@ -145,34 +132,31 @@ starts_both sizes h call busy r s g holds inv idle free e =
 
 -- ---- the calls' operations
 
-atomic_at : (sizes : Super) (h : ℕ) (op : above.Op) (m : above.Answer op → Option above.Mark) → LeavesFree op → ActsOnceAt sizes history h op m (λ c. handlers sizes c op) → Atomic machine (layer sizes) (handlers sizes) h op m
-atomic_at sizes h op m leaves acts = atomic_with_more machine (below sizes) IsFree (handlers sizes) h op m (λ v w xs o. kept_free h v w (keeps h v w xs o)) (go_free h op m leaves) acts
-
+-- a drop's, and then those of what follows
 module _ (sizes : Super) (h : ℕ) (lt : h < hart_count) where
-  doubles : (fd : ℕ) (m : Option (Option ℕ) → Option above.Mark) → Atomic machine (layer sizes) (handlers sizes) h (Double fd) m
-  doubles fd m = atomic_at sizes h (Double fd) m (double_free fd) (double_acts history laws keeps h lt fd m sizes)
+  frees_use : {A : Type 0} (n : ℕ) (k : P A) → Uses machine (Within sizes h) k → (last : Bool)
+      → Uses machine (Within sizes h) (if last then Do (Free n) (λ _. Some (Frees n)) (λ _. Do (Give n) unmarked (λ _. Do (Forget n) unmarked (λ _. k))) else k)
+  frees_use n k uses true = (frees sizes h lt n (λ _. Some (Frees n)), λ _. (gives sizes h lt n unmarked, λ _. (forgets sizes h lt n unmarked, λ _. uses)))
+  frees_use n k uses false = uses
 
-  stats : (fd : ℕ) (m : Option (ℕ × Face) → Option above.Mark) → Atomic machine (layer sizes) (handlers sizes) h (StatFile fd) m
-  stats fd m = atomic_at sizes h (StatFile fd) m (stat_free fd) (stat_acts history laws keeps h lt sizes fd m)
+  pub drop_uses : {A : Type 0} (n : ℕ) (k : P A) → Uses machine (Within sizes h) k → Uses machine (Within sizes h) (drop n k)
+  drop_uses n k uses = (downs sizes h lt n unmarked, λ last. frees_use n k uses last)
 
-  gives : (n : ℕ) (m : Unit {0} → Option above.Mark) → Atomic machine (layer sizes) (handlers sizes) h (Give n) m
-  gives n m = atomic_at sizes h (Give n) m (give_free n) (give_acts history laws keeps h lt n m sizes)
+  say_uses : (r : Reply) → Uses machine (Within sizes h) (say r)
+  say_uses r = (says sizes h lt unmarked, λ _. tt)
 
-  says : (m : Unit {0} → Option above.Mark) → Atomic machine (layer sizes) (handlers sizes) h Say m
-  says m = atomic_at sizes h Say m say_free (say_acts history laws keeps h lt m sizes)
-
-  dup_uses : (fd : ℕ) (a : Option (Option ℕ)) → Uses machine (Atomic machine (layer sizes) (handlers sizes) h) (dup_on fd a)
+  dup_uses : (fd : ℕ) (a : Option (Option ℕ)) → Uses machine (Within sizes h) (dup_on fd a)
   dup_uses fd None = tt
-  dup_uses fd (Some None) = (says unmarked, λ _. tt)
-  dup_uses fd (Some (Some f)) = (says unmarked, λ _. tt)
+  dup_uses fd (Some None) = say_uses (full (calls.Dup fd) Descriptors)
+  dup_uses fd (Some (Some f)) = say_uses (record { answer = answers.Fd f; call = calls.Dup fd })
 
-  stat_uses : (fd : ℕ) (a : Option (ℕ × Face)) → Uses machine (Atomic machine (layer sizes) (handlers sizes) h) (stat_on fd a)
+  stat_uses : (fd : ℕ) (a : Option (ℕ × Face)) → Uses machine (Within sizes h) (stat_on fd a)
   stat_uses fd None = tt
-  stat_uses fd (Some p) = (gives p.0 unmarked, λ _. (says unmarked, λ _. tt))
+  stat_uses fd (Some p) = (gives sizes h lt p.0 unmarked, λ _. say_uses (stat_reply fd p.0 p.1))
 
-  served_uses : (call : Call) → is_served call ≡ true → Uses machine (Atomic machine (layer sizes) (handlers sizes) h) (program call)
-  served_uses (calls.Dup fd) e = (doubles fd (dups fd), λ a. dup_uses fd a)
-  served_uses (calls.Fstat fd) e = (stats fd (λ a. own_step (actions.Fstat fd)), λ a. stat_uses fd a)
+  served_uses : (call : Call) → is_served call ≡ true → Uses machine (Within sizes h) (program call)
+  served_uses (calls.Dup fd) e = (doubles sizes h lt fd (dups fd), λ a. dup_uses fd a)
+  served_uses (calls.Fstat fd) e = (stats sizes h lt fd (λ a. own_step (actions.Fstat fd)), λ a. stat_uses fd a)
   served_uses (calls.Open path flags) e = absurd cc
   served_uses (calls.Read fd buffer) e = absurd cc
   served_uses (calls.Write fd bytes) e = absurd cc
@@ -183,10 +167,20 @@ module _ (sizes : Super) (h : ℕ) (lt : h < hart_count) where
   served_uses (calls.Close fd) e = absurd cc
   served_uses (calls.Inherit child) e = absurd cc
 
+-- a call begins in no transaction, so that nothing is spent
+none_yet : (sizes : Super) (h : ℕ) (call : Call) (w : Both World above.World) → h < hart_count → serves call ≡ true → (log_of w.real).sizes ≡ sizes → IsStarted served_calls (layer sizes) h call w → HasSpent sizes h unspent w.real
+none_yet sizes h call w lt here at from = none_spent sizes h w.real w.seen lt from.shows (ap (λ (g : above.World). (g.desks h).joined) (sym same) ∙ from.idle.joined) at
+  where
+    same : from.before ≡ w.seen
+    same = begun_same from.before w.seen (sym (call_begins h call from.busy from.before (served_is call here)) ∙ (start_is serves h call from.busy from.before w.seen from.begins).begins)
+
+-- no call's transactions spend more than they may
 all_lift : (sizes : Super) → AllLift served_calls (layer sizes) (handlers sizes) (begins sizes)
-all_lift sizes h call can B Q lasts n es w from =
+all_lift sizes h call can B Q lasts n es w from todo base inv =
     let b = begun_here h call can.1 can.2 can.3 in
-    lift_using machine (layer sizes) (handlers sizes) laws h (program call) (served_uses sizes h (below_count h b.hart) call (served_is call b.serves_it)) nothing B Q lasts n es w tt
+    let lt = below_count h b.hart in
+    lift_within machine (layer sizes) (handlers sizes) laws h (recorded_blocks history) (λ r s. HasSpent sizes h s r) (program call) (served_uses sizes h lt call (served_is call b.serves_it)) unspent (affords history (program call) unspent (transactions_are_small call)) nothing
+    B Q lasts n es w (none_yet sizes h call w lt b.serves_it base.0.1 from) todo base inv
 
 pub lawful : (sizes : Super) → Lawful (block_calls sizes)
 lawful sizes = lifted_lawful served_calls (layer sizes) (handlers sizes) (begins sizes) served_lawful (lower_laws sizes) (starts_both sizes) (all_lift sizes)

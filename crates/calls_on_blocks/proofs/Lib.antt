@@ -1,5 +1,9 @@
 pub mod Free
+pub mod Operations
 pub mod Lawful
 pub mod Faces
+pub mod Pieces
+pub mod DupBridge
+pub mod StatBridge
 pub mod Bridges
 pub mod History

@@ -16,6 +16,7 @@ CallsAreLawful = (sizes : Super) → Lawful (block_calls sizes)
 abbrev pub CodeIsOfIt : Type 0
 CodeIsOfIt = (sizes : Super) → IsCode (block_calls sizes) (block_code sizes)
 
--- The code's programs are the calls' own, as programs below.
-abbrev pub ProgramsAreLowered : Type 0
-ProgramsAreLowered = (sizes : Super) (fd : ℕ) → (plain ((block_calls sizes).program (Dup fd)) ≡ dup_program fd) × (plain ((block_calls sizes).program (Fstat fd)) ≡ stat_program sizes.inodestart fd)
+-- The code's program of each call that is served is the call's own, as a program below.
+pub record ProgramsAreLowered (sizes : Super) : Type 0 where
+  pub dup : (fd : ℕ) → plain ((block_calls sizes).program (Dup fd)) ≡ dup_program fd
+  pub fstat : (fd : ℕ) → plain ((block_calls sizes).program (Fstat fd)) ≡ stat_program sizes.inodestart fd

@@ -2,6 +2,7 @@
 //! events makes of them. The functions do nothing: each carries a law.
 #![tactic(auto)]
 
+ghost use Rattle.fs_layout.specs.declared.superblock.Super.{Super};
 ghost use Rattle.calls_on_blocks.specs.Laws.{CallsAreLawful, CodeIsOfIt, ProgramsAreLowered};
 ghost use Rattle.calls_on_blocks.specs.History.{MountsHaveOneHistory, OneHartHasOneHistory};
 
@@ -19,7 +20,7 @@ pub fn code_is_of_it()
 
 /// The programs that the code's machines run are the calls' programs over whole inodes, operation by operation.
 pub fn programs_are_lowered()
-    ensures { ProgramsAreLowered }
+    ensures { (sizes : Super) → ProgramsAreLowered sizes }
 {}
 
 /// The headline, of definitions: for every list of events of any harts on a mounted disk, with a device that fails at any moment or

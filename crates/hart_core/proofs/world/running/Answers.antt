@@ -9,5 +9,5 @@ use Rattle.hart_core.proofs.world.running.Goals as goal
 pub returns-in-Fstat-clause-program : goal.returns-in-Fstat-clause-program
 unfolding running_of
 returns-in-Fstat-clause-program c =
-    c.new-in-Fstat.ensures.program ∙ sym (programs_are_lowered c.args.sizes.now c.in-Fstat.fd).1
+    c.new-in-Fstat.ensures.program ∙ sym ((programs_are_lowered c.args.sizes.now).fstat c.in-Fstat.fd)
     ∙ ap (λ (call : Call). plain ((block_calls c.args.sizes.now).program call)) (sym c.in-Fstat.is)
