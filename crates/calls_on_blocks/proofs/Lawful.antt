@@ -23,12 +23,12 @@ use Rattle.fs_machine.specs.declared.kind.Kind.{Kind}
 use Rattle.fs_machine.specs.Steps as steps
 use Rattle.inode_machine.specs.Inodes.{Face}
 use Rattle.inode_machine.specs.World as above
-use Rattle.inode_machine.specs.World.Op.{Free, Give, Forget}
+use Rattle.inode_machine.specs.World.Op.{Free, Give, Forget, Leave}
 use Rattle.inode_machine.specs.World.Mark.{Frees}
 use Rattle.inode_machine.specs.Budget.{unspent}
-use Rattle.inode_machine.specs.Descriptors.{dups, dup_on, stat_on, stat_reply}
+use Rattle.inode_machine.specs.Descriptors.{dups, dup_on, close_on, stat_on, stat_reply}
 use Rattle.inode_machine.specs.Exec.{is_nothing}
-use Rattle.inode_machine.specs.Parts.{P, own_step, drop, say, full}
+use Rattle.inode_machine.specs.Parts.{P, own_step, drop, say, full, done}
 use Rattle.inode_machine.specs.Programs.{program}
 use Rattle.inode_machine.specs.Rules.{machine}
 use Rattle.inode_machine.specs.Theory as theory
@@ -45,7 +45,7 @@ use Rattle.inodes_on_blocks.proofs.Withins.{affords, none_spent}
 use Rattle.calls_on_blocks.specs.Programs.{handlers}
 use Rattle.calls_on_blocks.specs.Theory.{is_served, serves, served_calls, fault_of, refusal_for, begun_by, if_hart, begin_in, IsFree, layer, begins, block_calls, shared_part, block_code}
 use Rattle.calls_on_blocks.proofs.Free.{kept_free}
-use Rattle.calls_on_blocks.proofs.Operations.{history, keeps, Within, gives, downs, forgets, frees, doubles, stats, says}
+use Rattle.calls_on_blocks.proofs.Operations.{history, keeps, Within, gives, downs, forgets, frees, doubles, shuts, stats, joins, leaves, says}
 
 -- ---- above
 
@@ -55,6 +55,7 @@ served_is call e = (and_true (is_covered call) (is_served call) e).1
 served_right : IsRight serves serves
 served_right h (calls.Dup fd) busy w u lt here out idle free is = descriptors_right serves h (calls.Dup fd) busy w u lt refl out idle free is
 served_right h (calls.Fstat fd) busy w u lt here out idle free is = descriptors_right serves h (calls.Fstat fd) busy w u lt refl out idle free is
+served_right h (calls.Close fd) busy w u lt here out idle free is = descriptors_right serves h (calls.Close fd) busy w u lt refl out idle free is
 served_right h (calls.Open path flags) busy w u lt here out idle free is = absurd (let q = served_is (calls.Open path flags) here in cc (q))
 served_right h (calls.Read fd buffer) busy w u lt here out idle free is = absurd (let q = served_is (calls.Read fd buffer) here in cc (q))
 served_right h (calls.Write fd bytes) busy w u lt here out idle free is = absurd (let q = served_is (calls.Write fd bytes) here in cc (q))
@@ -62,7 +63,6 @@ served_right h (calls.Link old new) busy w u lt here out idle free is = absurd (
 served_right h (calls.Unlink path) busy w u lt here out idle free is = absurd (let q = served_is (calls.Unlink path) here in cc (q))
 served_right h (calls.Mkdir path) busy w u lt here out idle free is = absurd (let q = served_is (calls.Mkdir path) here in cc (q))
 served_right h (calls.Chdir path) busy w u lt here out idle free is = absurd (let q = served_is (calls.Chdir path) here in cc (q))
-served_right h (calls.Close fd) busy w u lt here out idle free is = absurd (let q = served_is (calls.Close fd) here in cc (q))
 served_right h (calls.Inherit child) busy w u lt here out idle free is = absurd (let q = served_is (calls.Inherit child) here in cc (q))
 
 pub served_lawful : Lawful served_calls
@@ -154,9 +154,16 @@ module _ (sizes : Super) (h : ℕ) (lt : h < hart_count) where
   stat_uses fd None = tt
   stat_uses fd (Some p) = (gives sizes h lt p.0 unmarked, λ _. say_uses (stat_reply fd p.0 p.1))
 
+  close_uses : (fd : ℕ) (a : Option (Option ℕ)) → Uses machine (Within sizes h) (close_on fd a)
+  close_uses fd None = tt
+  close_uses fd (Some None) = say_uses (done (calls.Close fd))
+  close_uses fd (Some (Some n)) =
+      (joins sizes h lt unmarked, λ _. drop_uses n (Do Leave unmarked (λ _. say (done (calls.Close fd)))) (leaves sizes h lt unmarked, λ _. say_uses (done (calls.Close fd))))
+
   served_uses : (call : Call) → is_served call ≡ true → Uses machine (Within sizes h) (program call)
   served_uses (calls.Dup fd) e = (doubles sizes h lt fd (dups fd), λ a. dup_uses fd a)
   served_uses (calls.Fstat fd) e = (stats sizes h lt fd (λ a. own_step (actions.Fstat fd)), λ a. stat_uses fd a)
+  served_uses (calls.Close fd) e = (shuts sizes h lt fd (λ a. own_step (actions.Close fd)), λ a. close_uses fd a)
   served_uses (calls.Open path flags) e = absurd cc
   served_uses (calls.Read fd buffer) e = absurd cc
   served_uses (calls.Write fd bytes) e = absurd cc
@@ -164,7 +171,6 @@ module _ (sizes : Super) (h : ℕ) (lt : h < hart_count) where
   served_uses (calls.Unlink path) e = absurd cc
   served_uses (calls.Mkdir path) e = absurd cc
   served_uses (calls.Chdir path) e = absurd cc
-  served_uses (calls.Close fd) e = absurd cc
   served_uses (calls.Inherit child) e = absurd cc
 
 -- a call begins in no transaction, so that nothing is spent

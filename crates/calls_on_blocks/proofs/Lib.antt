@@ -5,5 +5,6 @@ pub mod Faces
 pub mod Pieces
 pub mod DupBridge
 pub mod StatBridge
+pub mod CloseBridge
 pub mod Bridges
 pub mod History

@@ -29,7 +29,7 @@ is_served (Mkdir path) = false
 is_served (Chdir path) = false
 is_served (Dup fd) = true
 is_served (Fstat fd) = true
-is_served (Close fd) = false
+is_served (Close fd) = true
 is_served (Inherit child) = false
 
 -- and nothing is wrong with the call itself

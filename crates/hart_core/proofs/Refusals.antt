@@ -61,23 +61,27 @@ none : (b : Bool) → (b && false) ≡ false
 none true = refl
 none false = refl
 
--- what is there is served: nothing else is asked of it
-served_same : (call : Call) → serves call ≡ is_served call
-served_same (Open path flags) = none (is_covered (Open path flags))
-served_same (Read fd buffer) = none (is_covered (Read fd buffer))
-served_same (Write fd bytes) = none (is_covered (Write fd bytes))
-served_same (Link old new) = none (is_covered (Link old new))
-served_same (Unlink path) = none (is_covered (Unlink path))
-served_same (Mkdir path) = none (is_covered (Mkdir path))
-served_same (Chdir path) = none (is_covered (Chdir path))
-served_same (Dup fd) = refl
-served_same (Fstat fd) = refl
-served_same (Close fd) = none true
-served_same (Inherit child) = none true
+-- what is there is served, where nothing is wrong with it
+served_same : (call : Call) → served.fault_of call ≡ None → serves call ≡ is_served call
+served_same (Open path flags) e = none (is_covered (Open path flags))
+served_same (Read fd buffer) e = none (is_covered (Read fd buffer))
+served_same (Write fd bytes) e = none (is_covered (Write fd bytes))
+served_same (Link old new) e = none (is_covered (Link old new))
+served_same (Unlink path) e = none (is_covered (Unlink path))
+served_same (Mkdir path) e = none (is_covered (Mkdir path))
+served_same (Chdir path) e = none (is_covered (Chdir path))
+served_same (Dup fd) e = refl
+served_same (Fstat fd) e = refl
+served_same (Close fd) e = refl
+served_same (Inherit child) e = refl
 
 pub refusal_same : (call : Call) → reason_for (refusal_for call) ≡ served.refusal_for call
-refusal_same call = or_same (fault_of call) (if is_served call then None else Some NotYet) ∙ (λ i. or_else (fault_same call i) (last (is_served call) i)) ∙ (λ i. or_else (served.fault_of call) (if sym (served_same call) i then None else Some calls.NotCovered))
+refusal_same call = or_same (fault_of call) (if is_served call then None else Some NotYet) ∙ (λ i. or_else (fault_same call i) (last (is_served call) i)) ∙ unless_wrong (served.fault_of call) refl
   where
+    unless_wrong : (f : Option calls.Refusal) → served.fault_of call ≡ f → or_else f (if is_served call then None else Some calls.NotCovered) ≡ or_else f (if serves call then None else Some calls.NotCovered)
+    unless_wrong None e = λ i. if sym (served_same call e) i then None else Some calls.NotCovered
+    unless_wrong (Some why) e = refl
+
     last : (b : Bool) → reason_for (if b then None else Some NotYet) ≡ (if b then None else Some calls.NotCovered)
     last true = refl
     last false = refl

@@ -60,6 +60,7 @@ fn is_served(call: &Call) -> bool
     match call {
         Call::Dup { fd: _ } => true,
         Call::Fstat { fd: _ } => true,
+        Call::Close { fd: _ } => true,
         Call::Open { path: _, flags: _ } => false,
         Call::Read { fd: _, buf: _ } => false,
         Call::Write { fd: _, bytes: _ } => false,
@@ -67,7 +68,6 @@ fn is_served(call: &Call) -> bool
         Call::Unlink { path: _ } => false,
         Call::Mkdir { path: _ } => false,
         Call::Chdir { path: _ } => false,
-        Call::Close { fd: _ } => false,
         Call::Inherit { child: _ } => false,
     }
 }

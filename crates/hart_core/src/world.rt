@@ -25,7 +25,7 @@ use image_tree::MountFault;
 use plain_tree::Call;
 use std::alloc::Global;
 use std::marker::Model;
-use syscalls::{Dup, Fstat, Running};
+use syscalls::{Close, Dup, Fstat, Running};
 
 /// A mounted file system, with the calls that eight harts have under way. A contract sees its harts and the sizes of its disk.
 ///
@@ -56,6 +56,7 @@ fn running(sizes: &Super, call: Call) -> Running
     match call {
         Call::Dup { fd } => Running::Dup(Dup::new(fd)),
         Call::Fstat { fd } => Running::Fstat(Fstat::new(sizes.inodestart, fd)),
+        Call::Close { fd } => Running::Close(Close::new(sizes, fd)),
         _ => unreachable!(),
     }
 }

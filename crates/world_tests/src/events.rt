@@ -59,6 +59,32 @@ fn descriptors_are_not_open(rt: HostRuntime) {
     let _disk = world.unmount();
 }
 
+/// A close of what isn't open is answered so in its first step, and changes nothing: a second hart's is answered the same.
+#[test]
+fn closes_are_refused(rt: HostRuntime) {
+    let disk = image(&rt, rt.alloc());
+    let mut world = mounted(&rt, rt.alloc(), disk);
+    assert!(rt; world.start(3, Call::Close { fd: 0 }).is_ok());
+    assert!(rt; world.start(4, Call::Close { fd: 0 }).is_ok());
+    assert!(rt; is_refused_close(&world.step(3)));
+    assert!(rt; is_refused_close(&world.step(4)));
+    assert!(rt; matches!(world.step(3), Outcome::Idle));
+    assert!(rt; world.start(3, Call::Close { fd: 4_294_967_295 }).is_ok());
+    assert!(rt; matches!(world.step(3), Outcome::Done(_)));
+    let _disk = world.unmount();
+}
+
+// Whether a close of descriptor 0 was answered that it isn't open.
+fn is_refused_close(outcome: &Outcome) -> bool {
+    matches!(
+        outcome,
+        Outcome::Done(Reply {
+            answer: Answer::Failed(Cause::BadDescriptor),
+            call: Call::Close { fd: 0 }
+        })
+    )
+}
+
 /// A start is refused where there is no such hart, where the hart has a call, and where the call isn't there yet; and nothing changes.
 #[test]
 fn starts_are_refused(rt: HostRuntime) {
@@ -79,8 +105,8 @@ fn starts_are_refused(rt: HostRuntime) {
     );
     assert!(rt;
         matches!(
-            world.start(2, Call::Close { fd: 0 }),
-            Err((Call::Close { fd: 0 }, StartRefused::NotYet))
+            world.start(2, Call::Inherit { child: 3 }),
+            Err((Call::Inherit { child: 3 }, StartRefused::NotYet))
         )
     );
     let root = Bytes::new(Vec::new(rt.alloc()));

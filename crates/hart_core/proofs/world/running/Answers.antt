@@ -11,3 +11,9 @@ unfolding running_of
 returns-in-Fstat-clause-program c =
     c.new-in-Fstat.ensures.program ∙ sym ((programs_are_lowered c.args.sizes.now).fstat c.in-Fstat.fd)
     ∙ ap (λ (call : Call). plain ((block_calls c.args.sizes.now).program call)) (sym c.in-Fstat.is)
+
+pub returns-in-Close-clause-program : goal.returns-in-Close-clause-program
+unfolding running_of
+returns-in-Close-clause-program c =
+    c.new-in-Close.ensures.program ∙ sym ((programs_are_lowered c.args.sizes.now).close c.in-Close.fd)
+    ∙ ap (λ (call : Call). plain ((block_calls c.args.sizes.now).program call)) (sym c.in-Close.is)
