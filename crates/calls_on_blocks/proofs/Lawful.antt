@@ -1,5 +1,5 @@
 -- The calls that are served are right below.
-use Rattle.std.proofs.Common.{◌≡◌, ◌<◌, ℕ, Bool, true, false, nat_lt, if◌then◌else◌, Option, Some, None, refl, sym, ◌∙◌, ap, subst, arith}
+use Rattle.std.proofs.Common.{◌≡◌, ◌<◌, ℕ, Bool, true, false, not, nat_lt, List, length, if◌then◌else◌, Option, Some, None, refl, sym, ◌∙◌, ap, subst, arith}
 use Rattle.std.proofs.lemmas.Bool.Decides.{nat_tests}
 use Rattle.fs_layout.specs.declared.superblock.Super.{Super}
 use Rattle.plain_tree.specs.declared.answer.Answer.TheVariants as answers
@@ -23,16 +23,17 @@ use Rattle.fs_machine.specs.declared.kind.Kind.{Kind}
 use Rattle.fs_machine.specs.Steps as steps
 use Rattle.inode_machine.specs.Inodes.{Face}
 use Rattle.inode_machine.specs.World as above
+use Rattle.inode_machine.specs.World.{Locking, NotLocked, LocksIt}
 use Rattle.inode_machine.specs.World.Op.{Free, Give, Forget, Leave}
 use Rattle.inode_machine.specs.World.Mark.{Frees}
 use Rattle.inode_machine.specs.Budget.{unspent}
-use Rattle.inode_machine.specs.Descriptors.{dups, dup_on, close_on, stat_on, stat_reply}
+use Rattle.inode_machine.specs.Descriptors.{dups, dup_on, close_on, stat_on, stat_reply, read_on, read_reply, refused_read}
 use Rattle.inode_machine.specs.Exec.{is_nothing}
 use Rattle.inode_machine.specs.Parts.{P, own_step, drop, say, full, done}
 use Rattle.inode_machine.specs.Programs.{program}
-use Rattle.inode_machine.specs.Rules.{machine}
+use Rattle.inode_machine.specs.Rules.{machine, asked_limit}
 use Rattle.inode_machine.specs.Theory as theory
-use Rattle.inode_machine.specs.Theory.{Refusal, NoSuchHart, Busy, NotCovered, begin_call, begin_if, is_covered, call_wrong, why_not}
+use Rattle.inode_machine.specs.Theory.{Refusal, NoSuchHart, Busy, TooLong, NotCovered, asks_wrong, begin_call, begin_if, is_covered, call_wrong, why_not}
 use Rattle.inode_machine.proofs.Budgets.{transactions_are_small}
 use Rattle.inode_machine.proofs.Calls.{IsRight, laws, lawful_that, descriptors_right}
 use Rattle.inode_machine.proofs.Starts.{begun_same, start_is}
@@ -45,19 +46,27 @@ use Rattle.inodes_on_blocks.proofs.Withins.{affords, none_spent}
 use Rattle.calls_on_blocks.specs.Programs.{handlers}
 use Rattle.calls_on_blocks.specs.Theory.{is_served, serves, served_calls, fault_of, refusal_for, begun_by, if_hart, begin_in, IsFree, layer, begins, block_calls, shared_part, block_code}
 use Rattle.calls_on_blocks.proofs.Free.{kept_free}
-use Rattle.calls_on_blocks.proofs.Operations.{history, keeps, Within, gives, downs, forgets, frees, doubles, shuts, stats, joins, leaves, says}
+use Rattle.calls_on_blocks.proofs.Operations.{history, keeps, Within, gives, downs, forgets, frees, doubles, shuts, stats, locks_to_read, reads, joins, leaves, says}
 
 -- ---- above
 
 pub served_is : (call : Call) → serves call ≡ true → is_served call ≡ true
 served_is call e = (and_true (is_covered call) (is_served call) e).1
 
+-- no more is asked for than may be
+asks_few : (n : ℕ) → is_nothing (asks_wrong n) ≡ true → not (nat_lt asked_limit n) ≡ true
+asks_few n e = by (nat_lt asked_limit n) e
+  where
+    by : (b : Bool) → is_nothing (if b then Some TooLong else None) ≡ true → not b ≡ true
+    by true e = absurd cc
+    by false e = refl
+
 served_right : IsRight serves serves
 served_right h (calls.Dup fd) busy w u lt here out idle free is = descriptors_right serves h (calls.Dup fd) busy w u lt refl out idle free is
 served_right h (calls.Fstat fd) busy w u lt here out idle free is = descriptors_right serves h (calls.Fstat fd) busy w u lt refl out idle free is
 served_right h (calls.Close fd) busy w u lt here out idle free is = descriptors_right serves h (calls.Close fd) busy w u lt refl out idle free is
+served_right h (calls.Read fd buffer) busy w u lt here out idle free is = descriptors_right serves h (calls.Read fd buffer) busy w u lt (asks_few (length buffer) (and_true (is_covered (calls.Read fd buffer)) true here).0) out idle free is
 served_right h (calls.Open path flags) busy w u lt here out idle free is = absurd (let q = served_is (calls.Open path flags) here in cc (q))
-served_right h (calls.Read fd buffer) busy w u lt here out idle free is = absurd (let q = served_is (calls.Read fd buffer) here in cc (q))
 served_right h (calls.Write fd bytes) busy w u lt here out idle free is = absurd (let q = served_is (calls.Write fd bytes) here in cc (q))
 served_right h (calls.Link old new) busy w u lt here out idle free is = absurd (let q = served_is (calls.Link old new) here in cc (q))
 served_right h (calls.Unlink path) busy w u lt here out idle free is = absurd (let q = served_is (calls.Unlink path) here in cc (q))
@@ -160,12 +169,16 @@ module _ (sizes : Super) (h : ℕ) (lt : h < hart_count) where
   close_uses fd (Some (Some n)) =
       (joins sizes h lt unmarked, λ _. drop_uses n (Do Leave unmarked (λ _. say (done (calls.Close fd)))) (leaves sizes h lt unmarked, λ _. say_uses (done (calls.Close fd))))
 
+  read_uses : (fd : ℕ) (buffer : List ℕ) (a : Locking) → Uses machine (Within sizes h) (read_on fd buffer a)
+  read_uses fd buffer (NotLocked why) = tt
+  read_uses fd buffer (LocksIt n offset) = (reads sizes h lt fd n offset (length buffer) (λ b. own_step (actions.Read fd (length buffer))), λ b. say_uses (read_reply fd buffer b))
+
   served_uses : (call : Call) → is_served call ≡ true → Uses machine (Within sizes h) (program call)
   served_uses (calls.Dup fd) e = (doubles sizes h lt fd (dups fd), λ a. dup_uses fd a)
   served_uses (calls.Fstat fd) e = (stats sizes h lt fd (λ a. own_step (actions.Fstat fd)), λ a. stat_uses fd a)
   served_uses (calls.Close fd) e = (shuts sizes h lt fd (λ a. own_step (actions.Close fd)), λ a. close_uses fd a)
+  served_uses (calls.Read fd buffer) e = (locks_to_read sizes h lt fd (refused_read fd (length buffer)), λ a. read_uses fd buffer a)
   served_uses (calls.Open path flags) e = absurd cc
-  served_uses (calls.Read fd buffer) e = absurd cc
   served_uses (calls.Write fd bytes) e = absurd cc
   served_uses (calls.Link old new) e = absurd cc
   served_uses (calls.Unlink path) e = absurd cc

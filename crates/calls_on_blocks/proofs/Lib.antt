@@ -6,5 +6,6 @@ pub mod Pieces
 pub mod DupBridge
 pub mod StatBridge
 pub mod CloseBridge
+pub mod ReadBridge
 pub mod Bridges
 pub mod History

@@ -1,5 +1,5 @@
 -- The operations on whole inodes act at one moment below, within what their call's transactions may record, and leave each hart free.
-use Rattle.std.proofs.Common.{◌≡◌, ◌<◌, ℕ, Bool, true, Option}
+use Rattle.std.proofs.Common.{◌≡◌, ◌<◌, ℕ, List, Bool, true, Option}
 use Rattle.fs_layout.specs.declared.superblock.Super.{Super}
 use Rattle.plain_tree.specs.declared.answer.Cause.{Cause}
 use Rattle.plain_tree.specs.declared.tree.OpenFile.{OpenFile}
@@ -14,7 +14,7 @@ use Rattle.inode_machine.specs.Rules as rules
 use Rattle.inode_machine.specs.Rules.{machine}
 use Rattle.inode_machine.specs.World as above
 use Rattle.inode_machine.specs.World.{Joining, Locking}
-use Rattle.inode_machine.specs.World.Op.{Take, Give, UpStart, Up, WalkDown, Down, Free, Forget, Store, Clear, Empty, Slot, Install, StatFile, LockFile, LockOpen, CheckFile, JoinFile, Double, Shut, Settle, Join, Leave, Say}
+use Rattle.inode_machine.specs.World.Op.{Take, Give, UpStart, Up, WalkDown, Down, Free, Forget, Store, Clear, Empty, Slot, Install, StatFile, LockFile, ReadFile, LockOpen, CheckFile, JoinFile, Double, Shut, Settle, Join, Leave, Say}
 use Rattle.inode_machine.proofs.Calls.{laws}
 use Rattle.inodes_on_blocks.specs.Acting.{ActsOnceAt}
 use Rattle.inodes_on_blocks.specs.Lowering.{Labels, Keeps, below}
@@ -26,6 +26,7 @@ use Rattle.inodes_on_blocks.proofs.JoinFileSteps.{join_file_acts}
 use Rattle.inodes_on_blocks.proofs.JoinSteps.{join_acts}
 use Rattle.inodes_on_blocks.proofs.LeaveSteps.{leave_acts}
 use Rattle.inodes_on_blocks.proofs.LockSteps.{file_acts, open_acts}
+use Rattle.inodes_on_blocks.proofs.ReadSteps.{read_acts}
 use Rattle.inodes_on_blocks.proofs.SlotSteps.{slot_acts, install_acts, double_acts, close_acts, check_acts, say_acts}
 use Rattle.inodes_on_blocks.proofs.Spends.{programs_spend}
 use Rattle.inodes_on_blocks.proofs.StatSteps.{stat_acts}
@@ -130,6 +131,9 @@ module _ (sizes : Super) (h : ℕ) where
 
     pub locks_to_read : (fd : ℕ) (m : Locking → Option above.Mark) → Within (LockFile fd) m
     locks_to_read fd m = acting (LockFile fd) m (free.lock_file_free fd) (spend.lock_file fd) (file_acts history laws keeps h lt sizes fd m)
+
+    pub reads : (fd n offset count : ℕ) (m : List ℕ → Option above.Mark) → Within (ReadFile fd n offset count) m
+    reads fd n offset count m = acting (ReadFile fd n offset count) m (free.read_free fd n offset count) (spend.read_file fd n offset count) (read_acts history laws keeps h lt sizes fd n offset count m)
 
     pub locks_to_write : (fd n : ℕ) (m : ℕ → Option above.Mark) → Within (LockOpen fd n) m
     locks_to_write fd n m = acting (LockOpen fd n) m (free.lock_open_free fd n) (spend.lock_open fd n) (open_acts history laws keeps h lt sizes fd n m)

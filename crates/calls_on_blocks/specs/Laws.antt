@@ -1,11 +1,11 @@
 -- The laws of the calls on blocks.
-use Rattle.std.specs.Prelude.{◌≡◌, ℕ}
+use Rattle.std.specs.Prelude.{◌≡◌, ℕ, List}
 use Rattle.fs_layout.specs.declared.superblock.Super.{Super}
-use Rattle.plain_tree.specs.declared.call.Call.TheVariants.{Dup, Fstat, Close}
+use Rattle.plain_tree.specs.declared.call.Call.TheVariants.{Read, Dup, Fstat, Close}
 use Rattle.atomic_programs.specs.Prog.{plain}
 use Rattle.atomic_programs.specs.Calls.{Lawful}
 use Rattle.atomic_programs.specs.Plain.{IsCode}
-use Rattle.syscalls.specs.Programs.{dup_program, stat_program, close_program}
+use Rattle.syscalls.specs.Programs.{dup_program, stat_program, close_program, read_program}
 use Rattle.calls_on_blocks.specs.Theory.{block_calls, block_code}
 
 -- Each call that is served is right below, whatever the others do.
@@ -21,3 +21,4 @@ pub record ProgramsAreLowered (sizes : Super) : Type 0 where
   pub dup : (fd : ℕ) → plain ((block_calls sizes).program (Dup fd)) ≡ dup_program fd
   pub fstat : (fd : ℕ) → plain ((block_calls sizes).program (Fstat fd)) ≡ stat_program sizes.inodestart fd
   pub close : (fd : ℕ) → plain ((block_calls sizes).program (Close fd)) ≡ close_program sizes fd
+  pub read : (fd : ℕ) (buffer : List ℕ) → plain ((block_calls sizes).program (Read fd buffer)) ≡ read_program sizes.inodestart fd buffer

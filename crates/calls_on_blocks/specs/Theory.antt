@@ -21,7 +21,7 @@ use Rattle.calls_on_blocks.specs.Programs.{handlers}
 -- the calls of which each operation's program is known to act at one moment
 abbrev pub is_served : Call → Bool
 is_served (Open path flags) = false
-is_served (Read fd buffer) = false
+is_served (Read fd buffer) = true
 is_served (Write fd bytes) = false
 is_served (Link old new) = false
 is_served (Unlink path) = false

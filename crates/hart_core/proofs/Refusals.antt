@@ -1,17 +1,20 @@
 -- What is wrong with a call, as its start finds it and as the calls have it.
 use Rattle.std.proofs.Common.{◌≡◌, ℕ, Bool, true, false, ◌&&◌, ◌||◌, ◌==◌, nat_lt, List, [], ◌∷◌, length, Option, Some, None, refl, sym, ◌∙◌, ap}
-use Rattle.std.specs.Prelude.{if◌then◌else◌}
+use Rattle.std.specs.Prelude.{get_or, if◌then◌else◌, is_some}
 use Rattle.std.specs.List.{list_any}
+use Rattle.buffer_cache.specs.Limits.{hart_count}
 use Rattle.plain_tree.specs.declared.call.Call.{Call}
 use Rattle.plain_tree.specs.declared.call.Call.TheVariants.{Open, Read, Write, Link, Unlink, Mkdir, Chdir, Dup, Fstat, Close, Inherit}
 use Rattle.atomic_programs.specs.Prog.{or_else}
+use Rattle.inode_machine.specs.Exec.{is_nothing}
 use Rattle.inode_machine.specs.Theory as calls
 use Rattle.inode_machine.specs.Theory.{path_limit, has_zero, asks_wrong, is_covered}
 use Rattle.calls_on_blocks.specs.Theory as served
 use Rattle.calls_on_blocks.specs.Theory.{is_served, serves}
 use Rattle.hart_core.specs.declared.starts.StartRefused.{StartRefused}
-use Rattle.hart_core.specs.declared.starts.StartRefused.TheVariants.{PathTooLong, ZeroInPath, TooLong, NotYet}
-use Rattle.hart_core.specs.Starts.{path_fault, part_fault, fault_of, refusal_for, reason_of}
+use Rattle.hart_core.specs.declared.starts.StartRefused.TheVariants.{Busy, NoSuchHart, PathTooLong, ZeroInPath, TooLong, NotYet}
+use Rattle.syscalls.specs.declared.running.Running.{Running}
+use Rattle.hart_core.specs.Starts.{path_fault, part_fault, fault_of, refusal_for, refusal_of, reason_of}
 
 -- in the words of the calls
 abbrev pub reason_for : Option StartRefused → Option calls.Refusal
@@ -64,7 +67,7 @@ none false = refl
 -- what is there is served, where nothing is wrong with it
 served_same : (call : Call) → served.fault_of call ≡ None → serves call ≡ is_served call
 served_same (Open path flags) e = none (is_covered (Open path flags))
-served_same (Read fd buffer) e = none (is_covered (Read fd buffer))
+served_same (Read fd buffer) e = ap (λ (o : Option calls.Refusal). is_nothing o && true) e
 served_same (Write fd bytes) e = none (is_covered (Write fd bytes))
 served_same (Link old new) e = none (is_covered (Link old new))
 served_same (Unlink path) e = none (is_covered (Unlink path))
@@ -85,3 +88,20 @@ refusal_same call = or_same (fault_of call) (if is_served call then None else So
     last : (b : Bool) → reason_for (if b then None else Some NotYet) ≡ (if b then None else Some calls.NotCovered)
     last true = refl
     last false = refl
+
+-- nothing is wrong with a call that may be started, and it is there
+may_run : (call : Call) → refusal_for call ≡ None → (fault_of call ≡ None) × (is_served call ≡ true)
+may_run call e = by (fault_of call) (is_served call) e
+  where
+    by : (f : Option StartRefused) (b : Bool) → or_else f (if b then None else Some NotYet) ≡ None → (f ≡ None) × (b ≡ true)
+    by None true e = (refl, refl)
+    by None false e = absurd cc
+    by (Some why) b e = absurd cc
+
+pub may_start : (doing : List (Option Running)) (h : ℕ) (call : Call) → refusal_of doing h call ≡ None → (fault_of call ≡ None) × (is_served call ≡ true)
+may_start doing h call e = may_run call (by (nat_lt h hart_count) (is_some (get_or doing h None)) e)
+  where
+    by : (hart busy : Bool) → (if hart then (if busy then Some Busy else refusal_for call) else Some NoSuchHart) ≡ None → refusal_for call ≡ None
+    by true false e = e
+    by true true e = absurd cc
+    by false busy e = absurd cc

@@ -1,5 +1,5 @@
 // The world: eight harts with their calls on a mounted disk.
-ghost use Rattle.std.specs.Prelude.{◌≡◌, true, ℕ, IfOk, IfErr, length};
+ghost use Rattle.std.specs.Prelude.{◌≡◌, true, ℕ, IfOk, IfErr, None, length};
 ghost use Rattle.atomic_programs.specs.Calls.{Start as StartOf, Step as StepOf};
 ghost use Rattle.atomic_programs.specs.Prog.{plain};
 ghost use Rattle.file_table.specs.Machines.{IsEarly};
@@ -11,7 +11,7 @@ ghost use Rattle.fs_layout.specs.Recovered.{sizes_of};
 ghost use Rattle.image_tree.specs.Damage.{IsWellFormed};
 ghost use Rattle.hart_core.specs.Harts.{outcome_of, said, shared_of};
 ghost use Rattle.hart_core.specs.Mounting.{HandsBack, Rests};
-ghost use Rattle.hart_core.specs.Starts.{refusal_of, start_outcome};
+ghost use Rattle.hart_core.specs.Starts.{fault_of, refusal_of, start_outcome};
 ghost use Rattle.hart_core.specs.Worlds.{Makes, Answers};
 
 use crate::harts::Harts;
@@ -25,7 +25,7 @@ use image_tree::MountFault;
 use plain_tree::Call;
 use std::alloc::Global;
 use std::marker::Model;
-use syscalls::{Close, Dup, Fstat, Running};
+use syscalls::{Close, Dup, Fstat, Read, Running};
 
 /// A mounted file system, with the calls that eight harts have under way. A contract sees its harts and the sizes of its disk.
 ///
@@ -49,6 +49,7 @@ impl<D: Device> Model for World<D> {
 #[tactic(auto, unfolding(syscalls::specs::Machines::running_of, syscalls::specs::Machines::RunningFits))]
 fn running(sizes: &Super, call: Call) -> Running
     requires served { is_served call ≡ true }
+    requires faultless { fault_of call ≡ None }
     requires early { IsEarly sizes.now.inodestart }
     ensures program { running_of result ≡ plain ((block_calls sizes.now).program call) }
     ensures fits { (hart : ℕ) (s : State) → RunningFits hart s result }
@@ -57,6 +58,7 @@ fn running(sizes: &Super, call: Call) -> Running
         Call::Dup { fd } => Running::Dup(Dup::new(fd)),
         Call::Fstat { fd } => Running::Fstat(Fstat::new(sizes.inodestart, fd)),
         Call::Close { fd } => Running::Close(Close::new(sizes, fd)),
+        Call::Read { fd, buf } => Running::Read(Read::new(sizes.inodestart, fd, buf)),
         _ => unreachable!(),
     }
 }

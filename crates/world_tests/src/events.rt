@@ -74,6 +74,26 @@ fn closes_are_refused(rt: HostRuntime) {
     let _disk = world.unmount();
 }
 
+/// A read of what isn't open is answered so in its first step, and hands its memory back.
+#[test]
+fn reads_are_refused(rt: HostRuntime) {
+    let disk = image(&rt, rt.alloc());
+    let mut world = mounted(&rt, rt.alloc(), disk);
+    let buf = Bytes::new(Vec::new(rt.alloc()));
+    assert!(rt; world.start(5, Call::Read { fd: 15, buf }).is_ok());
+    assert!(rt;
+        matches!(
+            world.step(5),
+            Outcome::Done(Reply {
+                answer: Answer::Failed(Cause::BadDescriptor),
+                call: Call::Read { fd: 15, buf: _ }
+            })
+        )
+    );
+    assert!(rt; matches!(world.step(5), Outcome::Idle));
+    let _disk = world.unmount();
+}
+
 // Whether a close of descriptor 0 was answered that it isn't open.
 fn is_refused_close(outcome: &Outcome) -> bool {
     matches!(

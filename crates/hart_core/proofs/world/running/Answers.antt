@@ -17,3 +17,9 @@ unfolding running_of
 returns-in-Close-clause-program c =
     c.new-in-Close.ensures.program ∙ sym ((programs_are_lowered c.args.sizes.now).close c.in-Close.fd)
     ∙ ap (λ (call : Call). plain ((block_calls c.args.sizes.now).program call)) (sym c.in-Close.is)
+
+pub returns-in-Read-clause-program : goal.returns-in-Read-clause-program
+unfolding running_of
+returns-in-Read-clause-program c =
+    c.new-in-Read.ensures.program ∙ sym ((programs_are_lowered c.args.sizes.now).read c.in-Read.fd c.in-Read.buf)
+    ∙ ap (λ (call : Call). plain ((block_calls c.args.sizes.now).program call)) (sym c.in-Read.is)

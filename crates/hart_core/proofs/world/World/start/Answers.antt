@@ -2,6 +2,7 @@ use Rattle.std.proofs.Common.{◌≡◌, None, sym, ◌∙◌, subst, length}
 use Rattle.atomic_programs.specs.Calls.{Start, Started}
 use Rattle.hart_core.specs.Starts.{refusal_of}
 use Rattle.hart_core.specs.Worlds.{WorldOf, Makes}
+use Rattle.hart_core.proofs.Refusals.{may_start}
 use Rattle.hart_core.proofs.Worlds.{idle_at, made_start, made_refused, world_started}
 use Rattle.hart_core.proofs.world.World.start.Goals as goal
 
@@ -11,6 +12,10 @@ begin-requires-clause-idle g c =
     idle_at g.D.Device.contents g.D.Device.failures w.sizes w.harts
     (subst (λ (v : WorldOf _). length v.harts.calls ≡ 8) (sym c.self.view_is) c.find_start_refusal.ensures.eight) c.args.hart c.args.call
     (subst (λ (v : WorldOf _). refusal_of v.harts.calls c.args.hart c.args.call ≡ None) (sym c.self.view_is) (sym c.find_start_refusal.ensures.refusal ∙ c.in-None.is))
+
+pub running-running-requires-clause-faultless : goal.running-running-requires-clause-faultless
+running-running-requires-clause-faultless g c =
+    (may_start c.args.self.now.harts.calls c.args.hart c.args.call (sym c.find_start_refusal.ensures.refusal ∙ c.in-None.is)).0
 
 pub invariant_of-self : goal.invariant_of-self
 invariant_of-self g c =
