@@ -1,5 +1,5 @@
 -- The program of open.
-use Rattle.std.specs.Prelude.{ℕ, Bool, ◌&&◌, ◌||◌, not, List, [], ◌∷◌, ◌==◌, Option, Some, None, if◌then◌else◌}
+use Rattle.std.specs.Prelude.{ℕ, ℤ, pos, Bool, ◌&&◌, ◌||◌, not, List, [], ◌∷◌, ◌==◌, Option, Some, None, if◌then◌else◌}
 use Rattle.fs_layout.specs.declared.inode.Dinode.{Dinode}
 use Rattle.fs_layout.specs.declared.superblock.Super.{Super}
 use Rattle.plain_tree.specs.declared.answer.Answer.{Answer}
@@ -10,6 +10,7 @@ use Rattle.plain_tree.specs.declared.answer.Full.TheVariants.{OpenFiles, Descrip
 use Rattle.plain_tree.specs.declared.answer.Reply.{Reply}
 use Rattle.plain_tree.specs.declared.call.Call.TheVariants as calls
 use Rattle.plain_tree.specs.Steps.{has, has_driver, write_only, read_write, empty_it}
+use Rattle.image_tree.specs.Inodes.{is_free}
 use Rattle.image_tree.specs.Trees.{is_file}
 use Rattle.atomic_programs.specs.Prog.{Do, bind, unmarked}
 use Rattle.fs_tables.specs.declared.inodes.Inode.{Inode}
@@ -23,17 +24,25 @@ use Rattle.path_walk.specs.Programs.{loaded}
 use Rattle.path_walk.specs.declared.walked.Goal.TheVariants as goals
 use Rattle.syscalls.specs.Parts.{ReachedState, Finds, Misses, reach, stopped, quit, unlock_quit}
 
+-- a file; a record without a type, to which no path leads, goes as one
+abbrev pub is_regular : Dinode → Bool
+is_regular d = is_free d || is_file d
+
+-- the number of its type: a directory's, a file's, or a device's
+abbrev pub type_number : Dinode → ℤ
+type_number d = if is_directory d then pos 1 else (if is_regular d then pos 2 else pos 3)
+
 -- what is told of a file that is opened
 abbrev pub file_for : Inode → ℕ → NewFile
 file_for v flags =
     record {
-      kind = (record_of v).kind;
+      kind = type_number (record_of v);
       readable = not (has flags write_only);
       writable = has flags write_only || has flags read_write;
     }
 
 abbrev pub empties : ℕ → Dinode → Bool
-empties flags d = has flags empty_it && is_file d
+empties flags d = has flags empty_it && is_regular d
 
 abbrev pub open_reply : List ℕ → ℕ → Answer → Reply
 open_reply path flags answer = record { answer = answer; call = calls.Open path flags }
@@ -43,7 +52,7 @@ abbrev pub open_refusal : ℕ → Dinode → Option Cause
 open_refusal flags d =
     if is_directory d
     then (if flags == 0 then None else Some IsDirectory)
-    else (if is_file d || has_driver d.major then None else Some NoDriver)
+    else (if is_regular d || has_driver d.major then None else Some NoDriver)
 
 module _ (sizes : Super) (path : List ℕ) (flags : ℕ) where
   -- A place and a descriptor for an inode whose lock is had; without one the inode is given up. A file that is there may be emptied.

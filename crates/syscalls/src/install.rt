@@ -13,7 +13,7 @@ ghost use Rattle.path_walk.specs.Programs.{loaded};
 ghost use Rattle.plain_tree.specs.Steps.{has};
 ghost use Rattle.syscalls.specs.Nesting.{Follows};
 ghost use Rattle.syscalls.specs.Parts.{quit};
-ghost use Rattle.syscalls.specs.Opening.{file_for, installed_on, open_reply, opened, take_descriptor};
+ghost use Rattle.syscalls.specs.Opening.{file_for, installed_on, is_regular, open_reply, opened, take_descriptor, type_number};
 ghost use Rattle.syscalls.specs.Taking.{inode_in, IsHeld};
 ghost use Rattle.syscalls.specs.Opens.{emptied, install_of, InstallFits};
 ghost use Rattle.plain_tree.specs.declared.answer.Answer.TheVariants as answers;
@@ -25,7 +25,8 @@ use crate::tail::Ending;
 use crate::take::Held;
 use atomic_programs::machines::Stepped;
 use block_device::Device;
-use fs_layout::Super;
+use directory::is_directory;
+use fs_layout::{Dinode, Super};
 use fs_machine::{Core, Kind, RetiredCore};
 use fs_tables::{Inode, Listed, NewFile, Reference};
 use group_log::Txn;
@@ -36,6 +37,15 @@ use sleep_lock::Guard;
 const WRITE_ONLY: u32 = 1;
 
 const READ_WRITE: u32 = 2;
+
+// The numbers of an inode's types.
+const FREE: i16 = 0;
+
+const DIRECTORY: i16 = 1;
+
+const FILE: i16 = 2;
+
+const DEVICE: i16 = 3;
 
 /// What an open has from its beginning to its end.
 #[derive(Drop)]
@@ -159,13 +169,33 @@ impl Install {
     }
 }
 
+// A file. A record without a type, to which no path leads, goes as one.
+pub(crate) fn is_regular(inode: &Dinode) -> bool
+    ensures { result ≡ is_regular inode.now }
+{
+    inode.kind == FREE || inode.kind == FILE
+}
+
+// The number of an inode's type, as an open file has it.
+fn type_number(inode: &Dinode) -> i16
+    ensures { result ≡ type_number inode.now }
+{
+    if is_directory(inode) {
+        DIRECTORY
+    } else if is_regular(inode) {
+        FILE
+    } else {
+        DEVICE
+    }
+}
+
 // What is told of a file for an inode.
 fn file_for(inode: &Guard<Inode>, flags: u32) -> NewFile
     requires { IsSome inode.now.value.content }
     ensures { result ≡ file_for inode.now.value flags }
 {
     NewFile {
-        kind: record(inode).kind,
+        kind: type_number(&record(inode)),
         readable: !has_flag(flags, WRITE_ONLY),
         writable: has_flag(flags, WRITE_ONLY) || has_flag(flags, READ_WRITE),
     }

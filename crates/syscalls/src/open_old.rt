@@ -4,7 +4,6 @@ ghost use Rattle.atomic_programs.specs.Machines.{Still, Left as LeftOf};
 ghost use Rattle.fs_machine.specs.Steps.{State, state_of};
 ghost use Rattle.fs_machine.specs.Machines.{MayNext, Moves, Answers, CallsOnce};
 ghost use Rattle.fs_machine.specs.Tied.{LeavesTied};
-ghost use Rattle.image_tree.specs.Trees.{is_file};
 ghost use Rattle.inode_data.specs.Machines.{ends_within};
 ghost use Rattle.file_table.specs.Machines.{IsEarly};
 ghost use Rattle.plain_tree.specs.Steps.{has_driver};
@@ -16,7 +15,7 @@ ghost use Rattle.syscalls.specs.Taking.{inode_in, IsHeld, reach_of, ReachFits, r
 ghost use Rattle.syscalls.specs.Opens.{open_old_of, OpenOldFits, IsOpening};
 ghost use Rattle.syscalls.specs.declared.open_old.OpenOld.TheVariants as old;
 
-use crate::install::{Install, Opening, ToOpen, has_flag};
+use crate::install::{Install, Opening, ToOpen, has_flag, is_regular};
 use crate::on_path::{ending, stopped};
 use crate::quit::Quit;
 use crate::reach::{Reach, Reached};
@@ -33,9 +32,6 @@ use path_walk::{Goal, Stop};
 use plain_tree::{Answer, Bytes, Call, Cause, Reply};
 
 const TRUNCATE: u32 = 1024;
-
-// The type of a file.
-const FILE: i16 = 2;
 
 // The majors of devices that have a driver are below this one.
 const MAJOR_LIMIT: i16 = 10;
@@ -134,17 +130,11 @@ fn refusal(inode: &Dinode, flags: u32) -> Option<Cause>
         } else {
             Some(Cause::IsDirectory)
         }
-    } else if is_file(inode) || has_driver(inode.major) {
+    } else if is_regular(inode) || has_driver(inode.major) {
         None
     } else {
         Some(Cause::NoDriver)
     }
-}
-
-fn is_file(inode: &Dinode) -> bool
-    ensures { result ≡ is_file inode.now }
-{
-    inode.kind == FILE
 }
 
 // The device of this major has a driver.
@@ -175,7 +165,7 @@ pub(crate) fn at(opening: Opening, txn: Txn, list: Listed, held: Held) -> OpenOl
             OpenOld::Ends(Quit::with_inode(ending, txn, held))
         }
         None => {
-            let empties = has_flag(opening.flags, TRUNCATE) && is_file(&inode);
+            let empties = has_flag(opening.flags, TRUNCATE) && is_regular(&inode);
             let inode = ToOpen {
                 held,
                 empties,

@@ -1,4 +1,5 @@
-use Rattle.std.proofs.Common.{◌≡◌, ◌∙◌, ap, subst, sym}
+use Rattle.std.proofs.Common.{◌≡◌, ◌∙◌, Bool, ap, subst, sym}
+use Rattle.atomic_programs.specs.Prog.{Ran}
 use Rattle.fs_machine.specs.Steps.{State, state_of}
 use Rattle.inode_data.specs.Records.{record_in}
 use Rattle.inode_data.specs.Truncating.{truncate_of, emptied_of}
@@ -7,7 +8,7 @@ use Rattle.file_table.specs.Machines.{IsEarly}
 use Rattle.fs_tables.specs.Results.{opened_as}
 use Rattle.syscalls.specs.Taking.{IsHeld}
 use Rattle.syscalls.specs.Opens.{emptied, install_of, InstallFits}
-use Rattle.syscalls.proofs.Installing.{held_on, descriptor_moves}
+use Rattle.syscalls.proofs.Installing.{held_on, place_moves, descriptor_moves}
 use Rattle.syscalls.proofs.Nesting.{nested_moves, nested_honest, nested_still}
 use Rattle.syscalls.proofs.Emptying.{same_number, emptied_fits}
 use Rattle.syscalls.proofs.install.Install.step.Goals as goal
@@ -41,6 +42,12 @@ returns-in-Emptying-clause-fits g c =
     let new : State = state_of g.D.Device.contents g.D.Device.failures c.step-stepped.new.core in
     let known = emptied_fits c.args.hart c.in-Emptying.ending c.in-Emptying.txn old new c.args.self c.in-Emptying.truncate c.step-stepped.result c.in-Emptying.is c.requires.fits c.step-stepped.ensures.tables c.step-stepped.ensures.inode c.step-stepped.ensures.fits in
     c.emptying.ensures.fits c.args.hart new (c.step-stepped.ensures.kept ∙ known.0) known.1
+
+pub returns-else-take_place-clause-moves : goal.returns-else-take_place-clause-moves
+returns-else-take_place-clause-moves g c =
+    let old : State = state_of g.D.Device.contents g.D.Device.failures c.args.core.now in
+    let new : State = state_of g.D.Device.contents g.D.Device.failures c.take_place.new.self in
+    place_moves c.args.hart c.in-Place.opening c.in-Place.txn c.in-Place.inode c.args.self c.full.result old new c.in-Place.is (λ x. c.take_place.ensures.ran x ∙ ap (λ (b : Bool). Ran b new) c.if-take_place.false) c.full.ensures.program
 
 pub returns-else-take_place-clause-fits : goal.returns-else-take_place-clause-fits
 unfolding InstallFits
