@@ -1,10 +1,12 @@
 -- The code's programs are the calls' own, as programs below.
 use Rattle.fs_layout.specs.declared.superblock.Super.{Super}
 use Rattle.calls_on_blocks.specs.Laws.{ProgramsAreLowered}
+use Rattle.calls_on_blocks.proofs.ChdirBridge.{chdirs}
 use Rattle.calls_on_blocks.proofs.CloseBridge.{closes}
 use Rattle.calls_on_blocks.proofs.DupBridge.{dups}
+use Rattle.calls_on_blocks.proofs.OpenBridge.{opens}
 use Rattle.calls_on_blocks.proofs.ReadBridge.{reads}
 use Rattle.calls_on_blocks.proofs.StatBridge.{stats}
 
 pub programs_are_lowered : (sizes : Super) → ProgramsAreLowered sizes
-programs_are_lowered sizes = record { dup = dups sizes; fstat = stats sizes; close = closes sizes; read = reads sizes }
+programs_are_lowered sizes = record { open_old = opens sizes; chdir = chdirs sizes; dup = dups sizes; fstat = stats sizes; close = closes sizes; read = reads sizes }

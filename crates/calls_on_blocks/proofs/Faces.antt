@@ -1,11 +1,18 @@
 -- What a record tells, in the words of the machine above and in the code's.
-use Rattle.std.proofs.Common.{◌≡◌, ℕ, Bool, true, false, if◌then◌else◌, refl}
+use Rattle.std.proofs.Common.{◌≡◌, ℕ, ℤ, pos, negsuc, ◌==◌, ◌||◌, Bool, true, false, if◌then◌else◌, Option, Some, None, refl, sym, ◌∙◌, ap}
 use Rattle.fs_layout.specs.declared.inode.Dinode.{Dinode}
+use Rattle.plain_tree.specs.declared.answer.Cause.{Cause}
+use Rattle.plain_tree.specs.declared.answer.Cause.TheVariants.{IsDirectory, NoDriver}
 use Rattle.plain_tree.specs.declared.answer.NodeType.TheVariants as types
+use Rattle.plain_tree.specs.Steps.{has_driver}
 use Rattle.plain_tree.specs.Widths.{root_device}
-use Rattle.image_tree.specs.Inodes.{is_number}
-use Rattle.inode_machine.specs.Inodes.{OfDirectory, OfFile, OfDevice, type_of_sort, stat_of_face}
+use Rattle.image_tree.specs.Inodes.{is_number, is_free}
+use Rattle.tree_laws.proofs.Maps.{eq_is}
+use Rattle.directory.specs.Programs as directories
+use Rattle.inode_machine.specs.Inodes.{Sort, OfDirectory, OfFile, OfDevice, Face, face_or, is_directory_sort, is_file_sort, is_directory_face, open_refusal, type_of_sort, stat_of_face}
+use Rattle.inodes_on_tables.specs.Shown.{kind_of}
 use Rattle.inodes_on_blocks.specs.Reading.{sort_at, face_in}
+use Rattle.syscalls.specs.Opening as code
 use Rattle.syscalls.specs.Replies.{type_of, stat_of}
 
 type_same : (d : Dinode) → type_of_sort (sort_at d.kind d.major) ≡ type_of d
@@ -18,3 +25,76 @@ type_same d = by (is_number 1 d.kind) (is_number 2 d.kind)
 
 pub stat_same : (n : ℕ) (d : Dinode) → stat_of_face n (face_in d) ≡ stat_of n d
 stat_same n d = λ i. record { device = root_device; inode = n; kind = type_same d i; nlink = (face_in d).count; size = d.size }
+
+-- ---- the face that is seen: a free record has none
+
+abbrev pub face_seen : Dinode → Option Face
+face_seen d = if is_free d then None else Some (face_in d)
+
+-- and goes as a file
+abbrev pub sort_seen : Dinode → Sort
+sort_seen d = (face_or (face_seen d)).sort
+
+-- the number of a directory's type
+one_same : (z : ℤ) → is_number 1 z ≡ directories.is_number 1 z
+one_same (pos n) = refl
+one_same (negsuc n) = refl
+
+-- a number that it is, and no other
+no_other : (k : ℕ) (z : ℤ) → is_number 1 z ≡ true → is_number k z ≡ (1 == k)
+no_other k (pos n) e = ap (λ (m : ℕ). m == k) (eq_is n 1 e)
+no_other k (negsuc n) e = absurd cc
+
+not_both : (z : ℤ) → is_number 0 z ≡ true → is_number 1 z ≡ false
+not_both z free = by (is_number 1 z) refl
+  where
+    by : (b : Bool) → is_number 1 z ≡ b → b ≡ false
+    by true e = absurd (let other = no_other 0 z e in cc (other, free))
+    by false e = refl
+
+pub directory_same : (d : Dinode) → is_directory_face (face_seen d) ≡ directories.is_directory d
+directory_same d = by (is_free d) (is_number 1 d.kind) (is_number 2 d.kind) (not_both d.kind) ∙ one_same d.kind
+  where
+    by : (f a b : Bool) → (f ≡ true → a ≡ false) → is_directory_face (if f then None else Some (record { sort = if a then OfDirectory else (if b then OfFile else OfDevice d.major); count = (face_in d).count; size = d.size })) ≡ a
+    by true a b apart = sym (apart refl)
+    by false true b apart = refl
+    by false false true apart = refl
+    by false false false apart = refl
+
+-- the sort by what the record is
+abbrev sort_by : Dinode → Bool → Bool → Bool → Sort
+sort_by d f a b = (face_or (if f then None else Some (record { sort = if a then OfDirectory else (if b then OfFile else OfDevice d.major); count = (face_in d).count; size = d.size }))).sort
+
+pub refusal_same : (flags : ℕ) (d : Dinode) → open_refusal (flags == 0) (sort_seen d) ≡ code.open_refusal flags d
+refusal_same flags d =
+    by (flags == 0) (is_free d) (is_number 1 d.kind) (is_number 2 d.kind) (not_both d.kind)
+    ∙ ap (λ (a : Bool). coded (flags == 0) (is_free d) a (is_number 2 d.kind)) (one_same d.kind)
+  where
+    coded : Bool → Bool → Bool → Bool → Option Cause
+    coded p f a b = if a then (if p then None else Some IsDirectory) else (if (f || b) || has_driver d.major then None else Some NoDriver)
+
+    by : (p f a b : Bool) → (f ≡ true → a ≡ false) → open_refusal p (sort_by d f a b) ≡ coded p f a b
+    by p true a b apart = sym (ap (λ (a : Bool). coded p true a b) (apart refl))
+    by p false true b apart = refl
+    by p false false true apart = refl
+    by p false false false apart = refl
+
+pub file_same : (d : Dinode) → is_file_sort (sort_seen d) ≡ code.is_regular d
+file_same d = by (is_free d) (is_number 1 d.kind) (is_number 2 d.kind) (no_other 2 d.kind)
+  where
+    by : (f a b : Bool) → (a ≡ true → b ≡ false) → is_file_sort (sort_by d f a b) ≡ (f || b)
+    by true a b apart = refl
+    by false true b apart = sym (apart refl)
+    by false false true apart = refl
+    by false false false apart = refl
+
+pub kind_same : (d : Dinode) → kind_of (sort_seen d) ≡ code.type_number d
+kind_same d =
+    by (is_free d) (is_number 1 d.kind) (is_number 2 d.kind) (not_both d.kind)
+    ∙ ap (λ (a : Bool). if a then pos 1 else (if is_free d || is_number 2 d.kind then pos 2 else pos 3)) (one_same d.kind)
+  where
+    by : (f a b : Bool) → (f ≡ true → a ≡ false) → kind_of (sort_by d f a b) ≡ (if a then pos 1 else (if f || b then pos 2 else pos 3))
+    by true a b apart = sym (ap (λ (a : Bool). if a then pos 1 else pos 2) (apart refl))
+    by false true b apart = refl
+    by false false true apart = refl
+    by false false false apart = refl

@@ -4,9 +4,10 @@ use Rattle.std.proofs.lemmas.Bool.Decides.{nat_tests}
 use Rattle.fs_layout.specs.declared.superblock.Super.{Super}
 use Rattle.plain_tree.specs.declared.answer.Answer.TheVariants as answers
 use Rattle.plain_tree.specs.declared.answer.Full.TheVariants.{Descriptors}
-use Rattle.plain_tree.specs.declared.answer.Reply.{Reply}
 use Rattle.plain_tree.specs.declared.call.Call.{Call}
 use Rattle.plain_tree.specs.declared.call.Call.TheVariants as calls
+use Rattle.plain_tree.specs.Steps.{creates}
+use Rattle.plain_tree.specs.Tree.{elements}
 use Rattle.plain_tree.specs.Widths.{hart_count}
 use Rattle.plain_tree.specs.declared.step.Action.TheVariants as actions
 use Rattle.tree_laws.proofs.Maps.{and_true}
@@ -24,18 +25,22 @@ use Rattle.fs_machine.specs.Steps as steps
 use Rattle.inode_machine.specs.Inodes.{Face}
 use Rattle.inode_machine.specs.World as above
 use Rattle.inode_machine.specs.World.{Locking, NotLocked, LocksIt}
-use Rattle.inode_machine.specs.World.Op.{Free, Give, Forget, Leave}
-use Rattle.inode_machine.specs.World.Mark.{Frees}
+use Rattle.inode_machine.specs.World.Op.{Leave}
 use Rattle.inode_machine.specs.Budget.{unspent}
 use Rattle.inode_machine.specs.Descriptors.{dups, dup_on, close_on, stat_on, stat_reply, read_on, read_reply, refused_read}
 use Rattle.inode_machine.specs.Exec.{is_nothing}
-use Rattle.inode_machine.specs.Parts.{P, own_step, drop, say, full, done}
+use Rattle.inode_machine.specs.Opening.{open_new, open_old}
+use Rattle.inode_machine.specs.Parts.{own_step, say, full, done}
 use Rattle.inode_machine.specs.Programs.{program}
 use Rattle.inode_machine.specs.Rules.{machine, asked_limit}
 use Rattle.inode_machine.specs.Theory as theory
 use Rattle.inode_machine.specs.Theory.{Refusal, NoSuchHart, Busy, TooLong, NotCovered, asks_wrong, begin_call, begin_if, is_covered, call_wrong, why_not}
 use Rattle.inode_machine.proofs.Budgets.{transactions_are_small}
-use Rattle.inode_machine.proofs.Calls.{IsRight, laws, lawful_that, descriptors_right}
+use Rattle.inode_machine.proofs.Calls.{IsRight, laws, lawful_that, descriptors_right, right}
+use Rattle.inode_machine.proofs.ChdirCalls.{chdir_begins, chdir_ok}
+use Rattle.inode_machine.proofs.Names.{path_names}
+use Rattle.inode_machine.proofs.OpenCalls.{open_ok}
+use Rattle.inode_machine.proofs.OpenEnds.{open_begins}
 use Rattle.inode_machine.proofs.Starts.{begun_same, start_is}
 use Rattle.inodes_on_blocks.specs.Below.{World, came_to, log_of}
 use Rattle.inodes_on_blocks.specs.Lowering.{nothing, below}
@@ -46,7 +51,8 @@ use Rattle.inodes_on_blocks.proofs.Withins.{affords, none_spent}
 use Rattle.calls_on_blocks.specs.Programs.{handlers}
 use Rattle.calls_on_blocks.specs.Theory.{is_served, serves, served_calls, fault_of, refusal_for, begun_by, if_hart, begin_in, IsFree, layer, begins, block_calls, shared_part, block_code}
 use Rattle.calls_on_blocks.proofs.Free.{kept_free}
-use Rattle.calls_on_blocks.proofs.Operations.{history, keeps, Within, gives, downs, forgets, frees, doubles, shuts, stats, locks_to_read, reads, joins, leaves, says}
+use Rattle.calls_on_blocks.proofs.Operations.{history, keeps, Within, gives, doubles, shuts, stats, locks_to_read, reads, joins, leaves}
+use Rattle.calls_on_blocks.proofs.PathUses.{drop_uses, say_uses, chdir_uses, open_uses}
 
 -- ---- above
 
@@ -61,17 +67,31 @@ asks_few n e = by (nat_lt asked_limit n) e
     by true e = absurd cc
     by false e = refl
 
+covered_is : (call : Call) → serves call ≡ true → is_covered call ≡ true
+covered_is call e = (and_true (is_covered call) (is_served call) e).0
+
+-- an open that is served makes no file
+pub opens_old : (path : List ℕ) (flags : ℕ) → is_served (calls.Open path flags) ≡ true → creates flags ≡ false
+opens_old path flags e = by (creates flags) e
+  where
+    by : (b : Bool) → not b ≡ true → b ≡ false
+    by true q = absurd cc
+    by false q = refl
+
 served_right : IsRight serves serves
 served_right h (calls.Dup fd) busy w u lt here out idle free is = descriptors_right serves h (calls.Dup fd) busy w u lt refl out idle free is
 served_right h (calls.Fstat fd) busy w u lt here out idle free is = descriptors_right serves h (calls.Fstat fd) busy w u lt refl out idle free is
 served_right h (calls.Close fd) busy w u lt here out idle free is = descriptors_right serves h (calls.Close fd) busy w u lt refl out idle free is
 served_right h (calls.Read fd buffer) busy w u lt here out idle free is = descriptors_right serves h (calls.Read fd buffer) busy w u lt (asks_few (length buffer) (and_true (is_covered (calls.Read fd buffer)) true here).0) out idle free is
-served_right h (calls.Open path flags) busy w u lt here out idle free is = absurd (let q = served_is (calls.Open path flags) here in cc (q))
+served_right h (calls.Open path flags) busy w u lt here out idle free is =
+    right serves h (calls.Open path flags) busy w u idle free is (open_begins path flags)
+    (λ holds i. open_ok h path flags u out lt holds i (opens_old path flags (served_is (calls.Open path flags) here)) (path_names path (covered_is (calls.Open path flags) here)))
 served_right h (calls.Write fd bytes) busy w u lt here out idle free is = absurd (let q = served_is (calls.Write fd bytes) here in cc (q))
 served_right h (calls.Link old new) busy w u lt here out idle free is = absurd (let q = served_is (calls.Link old new) here in cc (q))
 served_right h (calls.Unlink path) busy w u lt here out idle free is = absurd (let q = served_is (calls.Unlink path) here in cc (q))
 served_right h (calls.Mkdir path) busy w u lt here out idle free is = absurd (let q = served_is (calls.Mkdir path) here in cc (q))
-served_right h (calls.Chdir path) busy w u lt here out idle free is = absurd (let q = served_is (calls.Chdir path) here in cc (q))
+served_right h (calls.Chdir path) busy w u lt here out idle free is =
+    right serves h (calls.Chdir path) busy w u idle free is (chdir_begins path) (λ holds i. chdir_ok h path u out lt holds i (path_names path (covered_is (calls.Chdir path) here)))
 served_right h (calls.Inherit child) busy w u lt here out idle free is = absurd (let q = served_is (calls.Inherit child) here in cc (q))
 
 pub served_lawful : Lawful served_calls
@@ -141,49 +161,37 @@ starts_both sizes h call busy r s g holds inv idle free e =
 
 -- ---- the calls' operations
 
--- a drop's, and then those of what follows
 module _ (sizes : Super) (h : ℕ) (lt : h < hart_count) where
-  frees_use : {A : Type 0} (n : ℕ) (k : P A) → Uses machine (Within sizes h) k → (last : Bool)
-      → Uses machine (Within sizes h) (if last then Do (Free n) (λ _. Some (Frees n)) (λ _. Do (Give n) unmarked (λ _. Do (Forget n) unmarked (λ _. k))) else k)
-  frees_use n k uses true = (frees sizes h lt n (λ _. Some (Frees n)), λ _. (gives sizes h lt n unmarked, λ _. (forgets sizes h lt n unmarked, λ _. uses)))
-  frees_use n k uses false = uses
-
-  pub drop_uses : {A : Type 0} (n : ℕ) (k : P A) → Uses machine (Within sizes h) k → Uses machine (Within sizes h) (drop n k)
-  drop_uses n k uses = (downs sizes h lt n unmarked, λ last. frees_use n k uses last)
-
-  say_uses : (r : Reply) → Uses machine (Within sizes h) (say r)
-  say_uses r = (says sizes h lt unmarked, λ _. tt)
-
   dup_uses : (fd : ℕ) (a : Option (Option ℕ)) → Uses machine (Within sizes h) (dup_on fd a)
   dup_uses fd None = tt
-  dup_uses fd (Some None) = say_uses (full (calls.Dup fd) Descriptors)
-  dup_uses fd (Some (Some f)) = say_uses (record { answer = answers.Fd f; call = calls.Dup fd })
+  dup_uses fd (Some None) = say_uses sizes h lt (full (calls.Dup fd) Descriptors)
+  dup_uses fd (Some (Some f)) = say_uses sizes h lt (record { answer = answers.Fd f; call = calls.Dup fd })
 
   stat_uses : (fd : ℕ) (a : Option (ℕ × Face)) → Uses machine (Within sizes h) (stat_on fd a)
   stat_uses fd None = tt
-  stat_uses fd (Some p) = (gives sizes h lt p.0 unmarked, λ _. say_uses (stat_reply fd p.0 p.1))
+  stat_uses fd (Some p) = (gives sizes h lt p.0 unmarked, λ _. say_uses sizes h lt (stat_reply fd p.0 p.1))
 
   close_uses : (fd : ℕ) (a : Option (Option ℕ)) → Uses machine (Within sizes h) (close_on fd a)
   close_uses fd None = tt
-  close_uses fd (Some None) = say_uses (done (calls.Close fd))
+  close_uses fd (Some None) = say_uses sizes h lt (done (calls.Close fd))
   close_uses fd (Some (Some n)) =
-      (joins sizes h lt unmarked, λ _. drop_uses n (Do Leave unmarked (λ _. say (done (calls.Close fd)))) (leaves sizes h lt unmarked, λ _. say_uses (done (calls.Close fd))))
+      (joins sizes h lt unmarked, λ _. drop_uses sizes h lt n (Do Leave unmarked (λ _. say (done (calls.Close fd)))) (leaves sizes h lt unmarked, λ _. say_uses sizes h lt (done (calls.Close fd))))
 
   read_uses : (fd : ℕ) (buffer : List ℕ) (a : Locking) → Uses machine (Within sizes h) (read_on fd buffer a)
   read_uses fd buffer (NotLocked why) = tt
-  read_uses fd buffer (LocksIt n offset) = (reads sizes h lt fd n offset (length buffer) (λ b. own_step (actions.Read fd (length buffer))), λ b. say_uses (read_reply fd buffer b))
+  read_uses fd buffer (LocksIt n offset) = (reads sizes h lt fd n offset (length buffer) (λ b. own_step (actions.Read fd (length buffer))), λ b. say_uses sizes h lt (read_reply fd buffer b))
 
   served_uses : (call : Call) → is_served call ≡ true → Uses machine (Within sizes h) (program call)
   served_uses (calls.Dup fd) e = (doubles sizes h lt fd (dups fd), λ a. dup_uses fd a)
   served_uses (calls.Fstat fd) e = (stats sizes h lt fd (λ a. own_step (actions.Fstat fd)), λ a. stat_uses fd a)
   served_uses (calls.Close fd) e = (shuts sizes h lt fd (λ a. own_step (actions.Close fd)), λ a. close_uses fd a)
   served_uses (calls.Read fd buffer) e = (locks_to_read sizes h lt fd (refused_read fd (length buffer)), λ a. read_uses fd buffer a)
-  served_uses (calls.Open path flags) e = absurd cc
+  served_uses (calls.Open path flags) e = subst (λ (b : Bool). Uses machine (Within sizes h) (if b then open_new path flags (elements path) else open_old path flags)) (sym (opens_old path flags e)) (open_uses sizes h lt path flags)
   served_uses (calls.Write fd bytes) e = absurd cc
   served_uses (calls.Link old new) e = absurd cc
   served_uses (calls.Unlink path) e = absurd cc
   served_uses (calls.Mkdir path) e = absurd cc
-  served_uses (calls.Chdir path) e = absurd cc
+  served_uses (calls.Chdir path) e = chdir_uses sizes h lt path
   served_uses (calls.Inherit child) e = absurd cc
 
 -- a call begins in no transaction, so that nothing is spent

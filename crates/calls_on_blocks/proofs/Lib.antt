@@ -1,11 +1,17 @@
 pub mod Free
 pub mod Operations
+pub mod PathUses
 pub mod Lawful
 pub mod Faces
 pub mod Pieces
+pub mod Searches
+pub mod WalkBridge
+pub mod EndBridge
 pub mod DupBridge
 pub mod StatBridge
 pub mod CloseBridge
 pub mod ReadBridge
+pub mod ChdirBridge
+pub mod OpenBridge
 pub mod Bridges
 pub mod History

@@ -135,7 +135,7 @@ indirect_bind {M} {B} {C} at table after k = by (table == 0)
 
 module _ (sizes : Super) where
   -- all blocks of a record given back, whoever does it
-  abbrev emptied : {M B : Type 0} → Dinode → Prog steps.Op steps.Answer M B → Prog steps.Op steps.Answer M B
+  abbrev pub emptied : {M B : Type 0} → Dinode → Prog steps.Op steps.Answer M B → Prog steps.Op steps.Answer M B
   emptied d after = free_numbers sizes.bmapstart (take direct d.addrs) (free_indirect sizes.bmapstart (table_of d) after)
 
   pub plain_content : {B : Type 0} (d : Dinode) (after : P B) → plain (give_content sizes d after) ≡ emptied d (plain after)

@@ -1,8 +1,9 @@
 -- The calls that are served, as a theory over the machine below: what every list of events makes of it.
-use Rattle.std.specs.Prelude.{◌≡◌, ℕ, Bool, true, false, ◌&&◌, nat_lt, List, length, Option, Some, None, if◌then◌else◌}
+use Rattle.std.specs.Prelude.{◌≡◌, ℕ, Bool, true, false, ◌&&◌, not, nat_lt, List, length, Option, Some, None, if◌then◌else◌}
 use Rattle.fs_layout.specs.declared.superblock.Super.{Super}
 use Rattle.plain_tree.specs.declared.call.Call.{Call}
 use Rattle.plain_tree.specs.declared.call.Call.TheVariants.{Open, Read, Write, Link, Unlink, Mkdir, Chdir, Dup, Fstat, Close, Inherit}
+use Rattle.plain_tree.specs.Steps.{creates}
 use Rattle.plain_tree.specs.Widths.{hart_count}
 use Rattle.atomic_programs.specs.Prog.{or_else}
 use Rattle.atomic_programs.specs.Calls.{Theory, Began, Refuses, Begins}
@@ -18,15 +19,15 @@ use Rattle.inode_machine.specs.Theory.{Refusal, NoSuchHart, PathTooLong, ZeroInP
 use Rattle.inodes_on_blocks.specs.Lowering.{below}
 use Rattle.calls_on_blocks.specs.Programs.{handlers}
 
--- the calls of which each operation's program is known to act at one moment
+-- the calls of which each operation's program is known to act at one moment: of open those without CREATE
 abbrev pub is_served : Call → Bool
-is_served (Open path flags) = false
+is_served (Open path flags) = not (creates flags)
 is_served (Read fd buffer) = true
 is_served (Write fd bytes) = false
 is_served (Link old new) = false
 is_served (Unlink path) = false
 is_served (Mkdir path) = false
-is_served (Chdir path) = false
+is_served (Chdir path) = true
 is_served (Dup fd) = true
 is_served (Fstat fd) = true
 is_served (Close fd) = true

@@ -1,6 +1,7 @@
 -- What is wrong with a call, as its start finds it and as the calls have it.
-use Rattle.std.proofs.Common.{◌≡◌, ℕ, Bool, true, false, ◌&&◌, ◌||◌, ◌==◌, nat_lt, List, [], ◌∷◌, length, Option, Some, None, refl, sym, ◌∙◌, ap}
-use Rattle.std.specs.Prelude.{get_or, if◌then◌else◌, is_some}
+use Rattle.std.proofs.Common.{◌≡◌, ◌≢◌, ◌≤◌, ◌<◌, ℕ, zero, suc, Bool, true, false, ◌&&◌, ◌||◌, ◌==◌, nat_lt, List, [], ◌∷◌, length, Option, Some, None, refl, sym, ◌∙◌, ap, get_or, arith}
+use Rattle.std.specs.Prelude.{if◌then◌else◌, is_some, All}
+use Rattle.std.proofs.lemmas.Bool.Decides.{nat_tests}
 use Rattle.std.specs.List.{list_any}
 use Rattle.buffer_cache.specs.Limits.{hart_count}
 use Rattle.plain_tree.specs.declared.call.Call.{Call}
@@ -8,13 +9,13 @@ use Rattle.plain_tree.specs.declared.call.Call.TheVariants.{Open, Read, Write, L
 use Rattle.atomic_programs.specs.Prog.{or_else}
 use Rattle.inode_machine.specs.Exec.{is_nothing}
 use Rattle.inode_machine.specs.Theory as calls
-use Rattle.inode_machine.specs.Theory.{path_limit, has_zero, asks_wrong, is_covered}
+use Rattle.inode_machine.specs.Theory.{path_limit, has_zero, are_bytes, path_wrong, asks_wrong, is_covered}
 use Rattle.calls_on_blocks.specs.Theory as served
 use Rattle.calls_on_blocks.specs.Theory.{is_served, serves}
 use Rattle.hart_core.specs.declared.starts.StartRefused.{StartRefused}
 use Rattle.hart_core.specs.declared.starts.StartRefused.TheVariants.{Busy, NoSuchHart, PathTooLong, ZeroInPath, TooLong, NotYet}
 use Rattle.syscalls.specs.declared.running.Running.{Running}
-use Rattle.hart_core.specs.Starts.{path_fault, part_fault, fault_of, refusal_for, refusal_of, reason_of}
+use Rattle.hart_core.specs.Starts.{longest_path, path_fault, part_fault, fault_of, refusal_for, refusal_of, reason_of, PathsAreBytes}
 
 -- in the words of the calls
 abbrev pub reason_for : Option StartRefused → Option calls.Refusal
@@ -28,9 +29,9 @@ any_zero (b ∷ bs) = ap (λ (z : Bool). (b == 0) || z) (any_zero bs)
 path_same : (path : List ℕ) → reason_for (path_fault path) ≡ served.path_fault path
 path_same path = by (nat_lt path_limit (length path)) (list_any (λ b. b == 0) path) (has_zero path) (any_zero path)
   where
-    by : (long zero' zero : Bool) → zero' ≡ zero
-        → reason_for (if long then Some PathTooLong else (if zero' then Some ZeroInPath else None)) ≡ (if long then Some calls.PathTooLong else (if zero then Some calls.ZeroInPath else None))
-    by true zero' zero e = refl
+    by : (long seen' seen : Bool) → seen' ≡ seen
+        → reason_for (if long then Some PathTooLong else (if seen' then Some ZeroInPath else None)) ≡ (if long then Some calls.PathTooLong else (if seen then Some calls.ZeroInPath else None))
+    by true seen' seen e = refl
     by false true true e = refl
     by false true false e = absurd cc
     by false false true e = absurd cc
@@ -60,34 +61,50 @@ fault_same (Fstat fd) = refl
 fault_same (Close fd) = refl
 fault_same (Inherit child) = refl
 
+-- ---- what is there is served: nothing else is asked of a call in which nothing is wrong
+
+covered_path : (path : List ℕ) → path_fault path ≡ None → are_bytes path ≡ true → is_nothing (path_wrong path) ≡ true
+covered_path path right bytes = by (nat_lt path_limit (length path)) (list_any (λ b. b == 0) path) (has_zero path) (any_zero path) (are_bytes path) right bytes
+  where
+    by : (long seen' seen : Bool) → seen' ≡ seen → (b : Bool) → (if long then Some PathTooLong else (if seen' then Some ZeroInPath else None)) ≡ None → b ≡ true
+        → is_nothing (if long then Some calls.PathTooLong else (if seen then Some calls.ZeroInPath else (if b then None else Some calls.NotCovered))) ≡ true
+    by true seen' seen e b r q = absurd cc
+    by false true seen e b r q = absurd cc
+    by false false true e b r q = absurd cc
+    by false false false e true r q = refl
+    by false false false e false r q = absurd cc
+
 none : (b : Bool) → (b && false) ≡ false
 none true = refl
 none false = refl
 
--- what is there is served, where nothing is wrong with it
-served_same : (call : Call) → served.fault_of call ≡ None → serves call ≡ is_served call
-served_same (Open path flags) e = none (is_covered (Open path flags))
-served_same (Read fd buffer) e = ap (λ (o : Option calls.Refusal). is_nothing o && true) e
-served_same (Write fd bytes) e = none (is_covered (Write fd bytes))
-served_same (Link old new) e = none (is_covered (Link old new))
-served_same (Unlink path) e = none (is_covered (Unlink path))
-served_same (Mkdir path) e = none (is_covered (Mkdir path))
-served_same (Chdir path) e = none (is_covered (Chdir path))
-served_same (Dup fd) e = refl
-served_same (Fstat fd) e = refl
-served_same (Close fd) e = refl
-served_same (Inherit child) e = refl
+-- where the call itself is right
+served_same : (call : Call) → fault_of call ≡ None → PathsAreBytes call → serves call ≡ is_served call
+served_same (Open path flags) right bytes = λ i. covered_path path right bytes i && is_served (Open path flags)
+served_same (Read fd buffer) right bytes = ap (λ (o : Option calls.Refusal). is_nothing o && true) (sym (part_same buffer) ∙ ap reason_for right)
+served_same (Write fd bytes') right bytes = none (is_covered (Write fd bytes'))
+served_same (Link old new) right bytes = none (is_covered (Link old new))
+served_same (Unlink path) right bytes = none (is_covered (Unlink path))
+served_same (Mkdir path) right bytes = none (is_covered (Mkdir path))
+served_same (Chdir path) right bytes = λ i. covered_path path right bytes i && true
+served_same (Dup fd) right bytes = refl
+served_same (Fstat fd) right bytes = refl
+served_same (Close fd) right bytes = refl
+served_same (Inherit child) right bytes = none true
 
-pub refusal_same : (call : Call) → reason_for (refusal_for call) ≡ served.refusal_for call
-refusal_same call = or_same (fault_of call) (if is_served call then None else Some NotYet) ∙ (λ i. or_else (fault_same call i) (last (is_served call) i)) ∙ unless_wrong (served.fault_of call) refl
+pub refusal_same : (call : Call) → (fault_of call ≡ None → PathsAreBytes call) → reason_for (refusal_for call) ≡ served.refusal_for call
+refusal_same call bytes = by (fault_of call) refl
   where
-    unless_wrong : (f : Option calls.Refusal) → served.fault_of call ≡ f → or_else f (if is_served call then None else Some calls.NotCovered) ≡ or_else f (if serves call then None else Some calls.NotCovered)
-    unless_wrong None e = λ i. if sym (served_same call e) i then None else Some calls.NotCovered
-    unless_wrong (Some why) e = refl
+    served_if : Bool → Option calls.Refusal
+    served_if b = if b then None else Some calls.NotCovered
 
-    last : (b : Bool) → reason_for (if b then None else Some NotYet) ≡ (if b then None else Some calls.NotCovered)
+    last : (b : Bool) → reason_for (if b then None else Some NotYet) ≡ served_if b
     last true = refl
     last false = refl
+
+    by : (f : Option StartRefused) → fault_of call ≡ f → reason_for (or_else f (if is_served call then None else Some NotYet)) ≡ served.refusal_for call
+    by None e = last (is_served call) ∙ ap served_if (sym (served_same call e (bytes e))) ∙ ap (λ (f : Option calls.Refusal). or_else f (served_if (serves call))) (ap reason_for (sym e) ∙ fault_same call)
+    by (Some why) e = ap (λ (f : Option calls.Refusal). or_else f (served_if (serves call))) (ap reason_for (sym e) ∙ fault_same call)
 
 -- nothing is wrong with a call that may be started, and it is there
 may_run : (call : Call) → refusal_for call ≡ None → (fault_of call ≡ None) × (is_served call ≡ true)
@@ -105,3 +122,32 @@ may_start doing h call e = may_run call (by (nat_lt h hart_count) (is_some (get_
     by true false e = e
     by true true e = absurd cc
     by false busy e = absurd cc
+
+-- a path is short and has no zero byte
+none_zero : (b : ℕ) (bs : List ℕ) → list_any (λ b. b == 0) (b ∷ bs) ≡ false → (b ≢ 0) × (list_any (λ b. b == 0) bs ≡ false)
+none_zero b bs q = by (b == 0) refl q
+  where
+    by : (z : Bool) → (b == 0) ≡ z → (z || list_any (λ b. b == 0) bs) ≡ false → (b ≢ 0) × (list_any (λ b. b == 0) bs ≡ false)
+    by true r q = absurd cc
+    by false r q = ((λ is. absurd (let a : (b == 0) ≡ true = ap (λ (k : ℕ). k == 0) is in cc (a, r))), q)
+
+nonzero : (bs : List ℕ) → list_any (λ b. b == 0) bs ≡ false → All (λ b. b ≢ 0) bs
+nonzero [] q k d lt = absurd (omega (arith, lt))
+nonzero (b ∷ bs) q zero d lt = (none_zero b bs q).0
+nonzero (b ∷ bs) q (suc k) d lt = nonzero bs (none_zero b bs q).1 k d (omega (arith, lt))
+
+pub right_path : (path : List ℕ) → path_fault path ≡ None → (length path ≤ longest_path) × All (λ b. b ≢ 0) path
+right_path path e = by (nat_lt longest_path (length path)) refl (list_any (λ b. b == 0) path) refl e
+  where
+    by : (long : Bool) → nat_lt longest_path (length path) ≡ long → (seen : Bool) → list_any (λ b. b == 0) path ≡ seen → (if long then Some PathTooLong else (if seen then Some ZeroInPath else None)) ≡ None → (length path ≤ longest_path) × All (λ b. b ≢ 0) path
+    by true l seen z e = absurd cc
+    by false l true z e = absurd cc
+    by false l false z e = (grind (arith, nat_tests), nonzero path z)
+
+-- every item of a list of bytes is one
+pub bytes_below : (path : List ℕ) → ((k : ℕ) → get_or path k 0 < 256) → are_bytes path ≡ true
+bytes_below [] below = refl
+bytes_below (b ∷ bs) below = λ i. first (below 0) i && bytes_below bs (λ k. below (suc k)) i
+  where
+    first : b < 256 → nat_lt b 256 ≡ true
+    first lt = grind (arith, nat_tests)

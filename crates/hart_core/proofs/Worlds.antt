@@ -30,7 +30,7 @@ use Rattle.hart_core.specs.declared.starts.StartRefused.TheVariants as start
 use Rattle.hart_core.specs.Blocks.{blocks, code, MayStep}
 use Rattle.hart_core.specs.Harts.{HartsOf, outcome_of, shared_of, programs_of}
 use Rattle.hart_core.specs.Worlds.{Makes, IsWorld}
-use Rattle.hart_core.specs.Starts.{refusal_for, refusal_of, reason_of}
+use Rattle.hart_core.specs.Starts.{fault_of, refusal_for, refusal_of, reason_of, PathsAreBytes}
 use Rattle.hart_core.proofs.Stepping.{plain_same}
 use Rattle.hart_core.proofs.Refusals.{reason_for, refusal_same}
 
@@ -145,7 +145,7 @@ running_none : (m : Option Running) → is_some m ≡ false → program_at runni
 running_none None e = refl
 running_none (Some m) e = absurd cc
 
-module _ (sizes : Super) (s : State) (b : Bool) (doing : List (Option Running)) (long : length doing ≡ 8) (h : ℕ) (call : Call) where
+module _ (sizes : Super) (s : State) (b : Bool) (doing : List (Option Running)) (long : length doing ≡ 8) (h : ℕ) (call : Call) (bytes : fault_of call ≡ None → PathsAreBytes call) where
   -- the harts as programs
   abbrev pub here : Plain (block_calls sizes) (block_code sizes)
   here = plain_at (block_calls sizes) (block_code sizes) running_of s b doing
@@ -158,7 +158,7 @@ module _ (sizes : Super) (s : State) (b : Bool) (doing : List (Option Running)) 
   none_past e = get_or_past doing h None (let q : 8 ≤ h = grind (arith, nat_tests) in omega (arith, q, long))
 
   begins_as : (o : Option StartRefused) (hart : Bool) → nat_lt h 8 ≡ hart → refusal_for call ≡ o → begin_in h call s ≡ if_hart hart (begun_by s (reason_for o))
-  begins_as o hart q r = (λ i. if_hart (q i) (begun_by s ((sym (refusal_same call) ∙ ap reason_for r) i)))
+  begins_as o hart q r = (λ i. if_hart (q i) (begun_by s ((sym (refusal_same call bytes) ∙ ap reason_for r) i)))
 
   pub start_refused : (why : StartRefused) → refusal_of doing h call ≡ Some why → plain_makes (block_calls sizes) (block_code sizes) (Start h call) here ≡ record { came = Refused (reason_of why); after = here }
   start_refused why e = by (nat_lt h 8) (is_some (get_or doing h None)) (refusal_for call) refl refl refl e
@@ -209,21 +209,21 @@ idle_there [] h lt e = absurd (omega (arith, lt))
 idle_there (m ∷ ms) zero lt e = ap (λ (z : Option Running). Some z) e
 idle_there (m ∷ ms) (suc h) lt e = idle_there ms h (omega (arith, lt)) e
 
-module _ {D : Type 0} (contents : D → List (List ℕ)) (failures : D → ℕ) (sizes : Super) (w : HartsOf D) (long : length w.calls ≡ 8) (h : ℕ) (call : Call) where
+module _ {D : Type 0} (contents : D → List (List ℕ)) (failures : D → ℕ) (sizes : Super) (w : HartsOf D) (long : length w.calls ≡ 8) (h : ℕ) (call : Call) (bytes : fault_of call ≡ None → PathsAreBytes call) where
   pub idle_at : refusal_of w.calls h call ≡ None → slice_get w.calls h ≡ Some None
-  idle_at e = let m = start_allowed sizes (shared_of contents failures w) w.stopped w.calls long h call e in let lt = m.below in idle_there w.calls h (omega (arith, lt, long)) m.idle
+  idle_at e = let m = start_allowed sizes (shared_of contents failures w) w.stopped w.calls long h call bytes e in let lt = m.below in idle_there w.calls h (omega (arith, lt, long)) m.idle
 
   pub served_at : refusal_of w.calls h call ≡ None → is_served call ≡ true
-  served_at e = let m = start_allowed sizes (shared_of contents failures w) w.stopped w.calls long h call e in served_is call (begun_here h call (shared_of contents failures w) (shared_of contents failures w) m.begins).serves_it
+  served_at e = let m = start_allowed sizes (shared_of contents failures w) w.stopped w.calls long h call bytes e in served_is call (begun_here h call (shared_of contents failures w) (shared_of contents failures w) m.begins).serves_it
 
   pub made_start : (m : Running) (new : HartsOf D) → refusal_of w.calls h call ≡ None → running_of m ≡ plain ((block_calls sizes).program call)
       → plain_makes blocks code (Start h (running_of m)) (programs_of contents failures w) ≡ record { came = Started; after = programs_of contents failures new } → Makes contents failures sizes (Start h call) w Started new
   made_start m new e program makes =
-      let may = start_allowed sizes (shared_of contents failures w) w.stopped w.calls long h call e in
+      let may = start_allowed sizes (shared_of contents failures w) w.stopped w.calls long h call bytes e in
       start_in sizes h call m (programs_of contents failures w) (programs_of contents failures new) (ap (program_at running_of) may.idle) may.begins program makes
 
   pub made_refused : (why : StartRefused) → refusal_of w.calls h call ≡ Some why → Makes contents failures sizes (Start h call) w (Refused (reason_of why)) w
-  made_refused why e = start_refused sizes (shared_of contents failures w) w.stopped w.calls long h call why e
+  made_refused why e = start_refused sizes (shared_of contents failures w) w.stopped w.calls long h call bytes why e
 
   pub world_started : (new : HartsOf D) → IsWorld contents failures sizes w → Makes contents failures sizes (Start h call) w Started new → IsWorld contents failures sizes new
   world_started new is makes = record { sound = sound_start sizes h call (programs_of contents failures w) (programs_of contents failures new) Started is.sound makes; early = is.early }

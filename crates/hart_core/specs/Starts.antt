@@ -1,5 +1,5 @@
 -- Why a call isn't started, whoever makes it and whatever the others do.
-use Rattle.std.specs.Prelude.{ℕ, List, length, Option, Some, None, is_some, get_or, Result, Ok, Err, if◌then◌else◌, nat_lt, ◌==◌}
+use Rattle.std.specs.Prelude.{◌≡◌, ℕ, true, List, length, Option, Some, None, is_some, get_or, Result, Ok, Err, if◌then◌else◌, nat_lt, ◌==◌}
 use Rattle.buffer_cache.specs.Limits.{hart_count}
 use Rattle.std.specs.List.{list_any}
 use Rattle.atomic_programs.specs.Prog.{or_else}
@@ -12,6 +12,7 @@ use Rattle.atomic_programs.specs.Calls.{Outcome as OutcomeOf, Started, Refused}
 use Rattle.fs_machine.specs.declared.kind.Kind.{Kind}
 use Rattle.plain_tree.specs.declared.answer.Reply.{Reply}
 use Rattle.inode_machine.specs.Theory as calls
+use Rattle.inode_machine.specs.Theory.{are_bytes}
 use Rattle.calls_on_blocks.specs.Theory.{is_served}
 use Rattle.syscalls.specs.declared.running.Running.{Running}
 
@@ -43,6 +44,20 @@ fault_of (Dup fd) = None
 fault_of (Fstat fd) = None
 fault_of (Close fd) = None
 fault_of (Inherit child) = None
+
+-- each path is of bytes, as all are that code has
+abbrev pub PathsAreBytes : Call → Type 0
+PathsAreBytes (Open path flags) = are_bytes path ≡ true
+PathsAreBytes (Read fd buffer) = Unit {0}
+PathsAreBytes (Write fd bytes) = Unit {0}
+PathsAreBytes (Link old new) = (are_bytes old ≡ true) × (are_bytes new ≡ true)
+PathsAreBytes (Unlink path) = are_bytes path ≡ true
+PathsAreBytes (Mkdir path) = are_bytes path ≡ true
+PathsAreBytes (Chdir path) = are_bytes path ≡ true
+PathsAreBytes (Dup fd) = Unit {0}
+PathsAreBytes (Fstat fd) = Unit {0}
+PathsAreBytes (Close fd) = Unit {0}
+PathsAreBytes (Inherit child) = Unit {0}
 
 -- the first of them, and last that the call isn't there yet
 abbrev pub refusal_for : Call → Option StartRefused

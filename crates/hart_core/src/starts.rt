@@ -1,7 +1,8 @@
 // What is tested before a call is started.
-ghost use Rattle.std.specs.Prelude.{◌≡◌};
+ghost use Rattle.std.specs.Prelude.{◌≡◌, true, None};
 ghost use Rattle.calls_on_blocks.specs.Theory as calls;
-ghost use Rattle.hart_core.specs.Starts.{fault_of, refusal_for, path_fault, part_fault};
+ghost use Rattle.inode_machine.specs.Theory.{are_bytes};
+ghost use Rattle.hart_core.specs.Starts.{fault_of, refusal_for, path_fault, part_fault, PathsAreBytes};
 
 use plain_tree::{Bytes, Call};
 
@@ -10,6 +11,9 @@ const LONGEST_PATH: usize = 127;
 
 /// The most bytes that one call reads or writes.
 const LONGEST_PART: usize = 524_288;
+
+/// An open's flag that makes a file.
+const CREATE: u32 = 512;
 
 /// Why a call isn't started. Nothing has changed.
 #[derive(Clone, Copy, PartialEq, Eq, Debug)]
@@ -33,7 +37,8 @@ pub enum StartRefused {
 /// The first fault of a call itself: of each path in turn its length, then its zero bytes; or how many bytes are to be read or
 /// written. It takes no memory.
 pub fn find_fault(call: &Call) -> Option<StartRefused>
-    ensures { result ≡ fault_of call.now }
+    ensures fault { result ≡ fault_of call.now }
+    ensures bytes { result ≡ None → PathsAreBytes call.now }
 {
     match call {
         Call::Open { path, flags: _ } => find_path_fault(path),
@@ -62,19 +67,20 @@ fn is_served(call: &Call) -> bool
         Call::Fstat { fd: _ } => true,
         Call::Close { fd: _ } => true,
         Call::Read { fd: _, buf: _ } => true,
-        Call::Open { path: _, flags: _ } => false,
+        Call::Open { path: _, flags } => flags & CREATE == 0,
         Call::Write { fd: _, bytes: _ } => false,
         Call::Link { old: _, new: _ } => false,
         Call::Unlink { path: _ } => false,
         Call::Mkdir { path: _ } => false,
-        Call::Chdir { path: _ } => false,
+        Call::Chdir { path: _ } => true,
         Call::Inherit { child: _ } => false,
     }
 }
 
 /// Why a call isn't started, whichever hart makes it: its first fault, and last that it isn't there yet.
 pub(crate) fn find_refusal(call: &Call) -> Option<StartRefused>
-    ensures { result ≡ refusal_for call.now }
+    ensures refusal { result ≡ refusal_for call.now }
+    ensures bytes { fault_of call.now ≡ None → PathsAreBytes call.now }
 {
     match find_fault(call) {
         Some(why) => Some(why),
@@ -89,13 +95,20 @@ pub(crate) fn find_refusal(call: &Call) -> Option<StartRefused>
 }
 
 fn find_path_fault(path: &Bytes) -> Option<StartRefused>
-    ensures { result ≡ path_fault path.now }
+    ensures fault { result ≡ path_fault path.now }
+    ensures bytes { are_bytes path.now ≡ true }
 {
-    let bytes = path.as_slice();
-    if bytes.len() > LONGEST_PATH {
+    find_fault_in(path.as_slice())
+}
+
+fn find_fault_in(path: &[u8]) -> Option<StartRefused>
+    ensures fault { result ≡ path_fault path.now }
+    ensures bytes { are_bytes path.now ≡ true }
+{
+    if path.len() > LONGEST_PATH {
         return Some(StartRefused::PathTooLong);
     }
-    if bytes.contains(&0) {
+    if path.contains(&0) {
         return Some(StartRefused::ZeroInPath);
     }
     None

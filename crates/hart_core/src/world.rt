@@ -11,7 +11,7 @@ ghost use Rattle.fs_layout.specs.Recovered.{sizes_of};
 ghost use Rattle.image_tree.specs.Damage.{IsWellFormed};
 ghost use Rattle.hart_core.specs.Harts.{outcome_of, said, shared_of};
 ghost use Rattle.hart_core.specs.Mounting.{HandsBack, Rests};
-ghost use Rattle.hart_core.specs.Starts.{fault_of, refusal_of, start_outcome};
+ghost use Rattle.hart_core.specs.Starts.{fault_of, refusal_of, start_outcome, PathsAreBytes};
 ghost use Rattle.hart_core.specs.Worlds.{Makes, Answers};
 
 use crate::harts::Harts;
@@ -25,7 +25,7 @@ use image_tree::MountFault;
 use plain_tree::Call;
 use std::alloc::Global;
 use std::marker::Model;
-use syscalls::{Close, Dup, Fstat, Read, Running};
+use syscalls::{Chdir, Close, Dup, Fstat, OpenOld, Read, Running};
 
 /// A mounted file system, with the calls that eight harts have under way. A contract sees its harts and the sizes of its disk.
 ///
@@ -55,6 +55,8 @@ fn running(sizes: &Super, call: Call) -> Running
     ensures fits { (hart : ℕ) (s : State) → RunningFits hart s result }
 {
     match call {
+        Call::Open { path, flags } => Running::Open(OpenOld::new(sizes, path, flags)),
+        Call::Chdir { path } => Running::Chdir(Chdir::new(sizes, path)),
         Call::Dup { fd } => Running::Dup(Dup::new(fd)),
         Call::Fstat { fd } => Running::Fstat(Fstat::new(sizes.inodestart, fd)),
         Call::Close { fd } => Running::Close(Close::new(sizes, fd)),
@@ -84,15 +86,17 @@ impl<D: Device> World<D> {
     fn find_start_refusal(&self, hart: u8, call: &Call) -> Option<StartRefused>
         ensures refusal { result ≡ refusal_of self.now.harts.calls hart call.now }
         ensures eight { length self.now.harts.calls ≡ HARTS }
+        ensures bytes { fault_of call.now ≡ None → PathsAreBytes call.now }
     {
         let busy = self.harts.is_busy(hart);
+        let refusal = find_refusal(call);
         if hart >= HARTS {
             return Some(StartRefused::NoSuchHart);
         }
         if busy {
             return Some(StartRefused::Busy);
         }
-        find_refusal(call)
+        refusal
     }
 
     /// Starts a hart's call. It is refused, and handed back, where there is no such hart, where the hart has a call, at the call's own

@@ -7,7 +7,7 @@ use std::alloc::Global;
 use std::process::Abort;
 
 // A fresh image of 2000 blocks and 200 inodes, made once more where memory was refused.
-fn image(rt: &impl Abort, alloc: Global) -> MemoryDisk {
+pub fn image(rt: &impl Abort, alloc: Global) -> MemoryDisk {
     let none: [(Vec<u8>, Vec<u8>); 0] = [];
     match make(alloc, 2000, 200, &none) {
         Ok(disk) => disk,
@@ -19,7 +19,7 @@ fn image(rt: &impl Abort, alloc: Global) -> MemoryDisk {
 }
 
 // A world over it, mounted once more where memory was refused.
-fn mounted(rt: &impl Abort, alloc: Global, disk: MemoryDisk) -> World<MemoryDisk> {
+pub fn mounted(rt: &impl Abort, alloc: Global, disk: MemoryDisk) -> World<MemoryDisk> {
     match World::mount(alloc, disk) {
         Ok(world) => world,
         Err(refused) => match World::mount(alloc, refused.0) {
@@ -132,7 +132,7 @@ fn starts_are_refused(rt: HostRuntime) {
     let root = Bytes::new(Vec::new(rt.alloc()));
     assert!(rt;
         matches!(
-            world.start(2, Call::Chdir { path: root }),
+            world.start(2, Call::Mkdir { path: root }),
             Err((_, StartRefused::NotYet))
         )
     );

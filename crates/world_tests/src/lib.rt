@@ -4,3 +4,5 @@
 
 #[cfg(test)]
 mod events;
+#[cfg(test)]
+mod opens;

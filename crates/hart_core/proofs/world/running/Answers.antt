@@ -1,10 +1,38 @@
-use Rattle.std.proofs.Common.{sym, ◌∙◌, ap}
+use Rattle.std.proofs.Common.{◌≡◌, true, None, sym, ◌∙◌, ap}
 use Rattle.plain_tree.specs.declared.call.Call.{Call}
 use Rattle.atomic_programs.specs.Prog.{plain}
 use Rattle.syscalls.specs.Machines.{running_of}
-use Rattle.calls_on_blocks.specs.Theory.{block_calls}
+use Rattle.calls_on_blocks.specs.Theory.{block_calls, is_served}
 use Rattle.calls_on_blocks.proofs.Bridges.{programs_are_lowered}
+use Rattle.calls_on_blocks.proofs.Lawful.{opens_old}
+use Rattle.hart_core.specs.Starts.{fault_of}
+use Rattle.hart_core.proofs.Refusals.{right_path}
 use Rattle.hart_core.proofs.world.running.Goals as goal
+
+pub new-requires-clause-short : goal.new-requires-clause-short
+new-requires-clause-short c = (right_path c.in-Open.path (sym (ap fault_of c.in-Open.is) ∙ c.requires.faultless)).0
+
+pub new-requires-clause-nonzero : goal.new-requires-clause-nonzero
+new-requires-clause-nonzero c = (right_path c.in-Open.path (sym (ap fault_of c.in-Open.is) ∙ c.requires.faultless)).1
+
+pub new-requires-in-Chdir-clause-short : goal.new-requires-in-Chdir-clause-short
+new-requires-in-Chdir-clause-short c = (right_path c.in-Chdir.path (sym (ap fault_of c.in-Chdir.is) ∙ c.requires.faultless)).0
+
+pub new-requires-in-Chdir-clause-nonzero : goal.new-requires-in-Chdir-clause-nonzero
+new-requires-in-Chdir-clause-nonzero c = (right_path c.in-Chdir.path (sym (ap fault_of c.in-Chdir.is) ∙ c.requires.faultless)).1
+
+pub returns-in-Open-clause-program : goal.returns-in-Open-clause-program
+unfolding running_of
+returns-in-Open-clause-program c =
+    c.new.ensures.program
+    ∙ sym ((programs_are_lowered c.args.sizes.now).open_old c.in-Open.path c.in-Open.flags (opens_old c.in-Open.path c.in-Open.flags (sym (ap is_served c.in-Open.is) ∙ c.requires.served)))
+    ∙ ap (λ (call : Call). plain ((block_calls c.args.sizes.now).program call)) (sym c.in-Open.is)
+
+pub returns-in-Chdir-clause-program : goal.returns-in-Chdir-clause-program
+unfolding running_of
+returns-in-Chdir-clause-program c =
+    c.new-in-Chdir.ensures.program ∙ sym ((programs_are_lowered c.args.sizes.now).chdir c.in-Chdir.path)
+    ∙ ap (λ (call : Call). plain ((block_calls c.args.sizes.now).program call)) (sym c.in-Chdir.is)
 
 pub returns-in-Fstat-clause-program : goal.returns-in-Fstat-clause-program
 unfolding running_of

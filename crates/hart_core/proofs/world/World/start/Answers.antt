@@ -10,7 +10,7 @@ pub begin-requires-clause-idle : goal.begin-requires-clause-idle
 begin-requires-clause-idle g c =
     let w = c.self.inside in
     idle_at g.D.Device.contents g.D.Device.failures w.sizes w.harts
-    (subst (λ (v : WorldOf _). length v.harts.calls ≡ 8) (sym c.self.view_is) c.find_start_refusal.ensures.eight) c.args.hart c.args.call
+    (subst (λ (v : WorldOf _). length v.harts.calls ≡ 8) (sym c.self.view_is) c.find_start_refusal.ensures.eight) c.args.hart c.args.call c.find_start_refusal.ensures.bytes
     (subst (λ (v : WorldOf _). refusal_of v.harts.calls c.args.hart c.args.call ≡ None) (sym c.self.view_is) (sym c.find_start_refusal.ensures.refusal ∙ c.in-None.is))
 
 pub running-running-requires-clause-faultless : goal.running-running-requires-clause-faultless
@@ -22,13 +22,13 @@ invariant_of-self g c =
     let w = c.self.inside in
     let long = subst (λ (v : WorldOf _). length v.harts.calls ≡ 8) (sym c.self.view_is) c.find_start_refusal.ensures.eight in
     let none = subst (λ (v : WorldOf _). refusal_of v.harts.calls c.args.hart c.args.call ≡ None) (sym c.self.view_is) (sym c.find_start_refusal.ensures.refusal ∙ c.in-None.is) in
-    world_started g.D.Device.contents g.D.Device.failures w.sizes w.harts long c.args.hart c.args.call c.begin.new.self c.self.invariant
-    (made_start g.D.Device.contents g.D.Device.failures w.sizes w.harts long c.args.hart c.args.call c.running-running.result c.begin.new.self none c.running-running.ensures.program c.begin.ensures.makes)
+    world_started g.D.Device.contents g.D.Device.failures w.sizes w.harts long c.args.hart c.args.call c.find_start_refusal.ensures.bytes c.begin.new.self c.self.invariant
+    (made_start g.D.Device.contents g.D.Device.failures w.sizes w.harts long c.args.hart c.args.call c.find_start_refusal.ensures.bytes c.running-running.result c.begin.new.self none c.running-running.ensures.program c.begin.ensures.makes)
 
 pub returns-in-Some-clause-makes : goal.returns-in-Some-clause-makes
 returns-in-Some-clause-makes g c =
     let v = c.args.self.now in
-    made_refused g.D.Device.contents g.D.Device.failures v.sizes v.harts c.find_start_refusal.ensures.eight c.args.hart c.args.call c.in-Some.why (sym c.find_start_refusal.ensures.refusal ∙ c.in-Some.is)
+    made_refused g.D.Device.contents g.D.Device.failures v.sizes v.harts c.find_start_refusal.ensures.eight c.args.hart c.args.call c.find_start_refusal.ensures.bytes c.in-Some.why (sym c.find_start_refusal.ensures.refusal ∙ c.in-Some.is)
 
 pub returns-in-None-clause-makes : goal.returns-in-None-clause-makes
 returns-in-None-clause-makes g c =
@@ -36,4 +36,4 @@ returns-in-None-clause-makes g c =
     let long = subst (λ (v : WorldOf _). length v.harts.calls ≡ 8) (sym c.self.view_is) c.find_start_refusal.ensures.eight in
     let none = subst (λ (v : WorldOf _). refusal_of v.harts.calls c.args.hart c.args.call ≡ None) (sym c.self.view_is) (sym c.find_start_refusal.ensures.refusal ∙ c.in-None.is) in
     subst (λ (v : WorldOf _). Makes g.D.Device.contents g.D.Device.failures v.sizes (Start c.args.hart c.args.call) v.harts Started c.begin.new.self) c.self.view_is
-    (made_start g.D.Device.contents g.D.Device.failures w.sizes w.harts long c.args.hart c.args.call c.running-running.result c.begin.new.self none c.running-running.ensures.program c.begin.ensures.makes)
+    (made_start g.D.Device.contents g.D.Device.failures w.sizes w.harts long c.args.hart c.args.call c.find_start_refusal.ensures.bytes c.running-running.result c.begin.new.self none c.running-running.ensures.program c.begin.ensures.makes)
