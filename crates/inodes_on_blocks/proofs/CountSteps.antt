@@ -63,12 +63,12 @@ module _ (l : Labels) (laws : Laws (labelled l)) (keeps : Keeps l) (h : ℕ) (lt
     shows = shows_then h lt v.real v.seen shows t (counted_up h n v.seen) (loaded (tables_of v.real)) after refl refl (λ j. refl) (λ i. inl refl)
         (record {
           seen = shows.loads.seen;
-          dead = λ i some unlocked dead. elim (same_or i n) [
+          dead = λ i some unlocked loose dead. elim (same_or i n) [
             | inl q ↦ elim (same_or (v.seen.refs n) 0) [
               | inl z ↦ absurd (let e : false ≡ true = sym (range.live z) ∙ ap (λ (k : ℕ). above_exec.is_dead (v.seen.disk k)) (sym q) ∙ dead in cc)
-              | inr z ↦ shows.loads.dead i (subst (λ (k : ℕ). 0 < v.seen.refs k) (sym q) (omega (arith, z))) unlocked dead
+              | inr z ↦ shows.loads.dead i (subst (λ (k : ℕ). 0 < v.seen.refs k) (sym q) (omega (arith, z))) unlocked loose dead
             ]
-            | inr ne ↦ shows.loads.dead i (subst (λ (k : ℕ). 0 < k) (put_other v.seen.refs n (v.seen.refs n + 1) i ne) some) unlocked dead
+            | inr ne ↦ shows.loads.dead i (subst (λ (k : ℕ). 0 < k) (put_other v.seen.refs n (v.seen.refs n + 1) i ne) some) unlocked loose dead
           ];
           typed = shows.loads.typed;
         }) shows.offsets;
@@ -152,6 +152,20 @@ module _ (l : Labels) (laws : Laws (labelled l)) (keeps : Keeps l) (h : ℕ) (lt
             | inr p ↦ (let two = two_refs w g h n inv kept.0 lt ne in omega (arith, two, p, some, one))
           ])
 
+  -- nobody keeps it then
+  pub last_loose : (n : ℕ) (w : above.World) → Inv w → 0 < (w.harts h).refs n → w.keeper n ≢ Some h → w.refs n ≡ 1 → w.keeper n ≡ None
+  last_loose n w inv some not_mine one = by (w.keeper n) refl
+    where
+      by : (o : Option ℕ) → w.keeper n ≡ o → w.keeper n ≡ None
+      by None e = e
+      by (Some g) e =
+          let kept = inv.kept n g e in
+          let ne : g ≢ h = λ q. not_mine (e ∙ ap (λ (z : ℕ). Some z) q) in
+          absurd (elim kept.1 [
+            | inl o ↦ (let a = opens_slots w g n inv o in let c = inv.counts n in let p = sum_part hart_count h (λ j. (w.harts j).refs n) lt in omega (arith, a, c, p, some, one))
+            | inr p ↦ (let two = two_refs w g h n inv kept.0 lt ne in omega (arith, two, p, some, one))
+          ])
+
   count_is : (k : ℕ) (d : Dinode) → is_some (if nat_lt 0 k then None else Some d) ≡ (k == 0)
   count_is k d = elim (same_or k 0) [
     | inl e ↦ subst (λ (z : ℕ). is_some (if nat_lt 0 z then None else Some d) ≡ (z == 0)) (sym e) refl
@@ -161,15 +175,15 @@ module _ (l : Labels) (laws : Laws (labelled l)) (keeps : Keeps l) (h : ℕ) (lt
       positive : (k : ℕ) → k ≢ 0 → nat_lt 0 k ≡ true
       positive k ne = grind (arith, nat_tests)
 
-  dies_alike : (n : ℕ) (v : W) → Shows v.real v.seen → 0 < v.seen.refs n → v.seen.lock n ≡ None → is_some (dead_of (loaded (tables_of v.real) n)) ≡ above_exec.is_dead (v.seen.disk n)
-  dies_alike n v shows some free = by (loaded (tables_of v.real) n) refl (v.seen.disk n) refl (unlocked_holds h lt v.real v.seen shows n free (shows.tables.range n some).0 (shows.tables.range n some).1).inode
+  dies_alike : (n : ℕ) (v : W) → Shows v.real v.seen → 0 < v.seen.refs n → v.seen.lock n ≡ None → (above_exec.is_dead (v.seen.disk n) ≡ true → v.seen.keeper n ≡ None) → is_some (dead_of (loaded (tables_of v.real) n)) ≡ above_exec.is_dead (v.seen.disk n)
+  dies_alike n v shows some free loose = by (loaded (tables_of v.real) n) refl (v.seen.disk n) refl (unlocked_holds h lt v.real v.seen shows n free (shows.tables.range n some).0 (shows.tables.range n some).1).inode
     where
       by : (o : Option Dinode) → loaded (tables_of v.real) n ≡ o → (x : Option Node) → v.seen.disk n ≡ x → IsRecord (inode_in (log_of v.real) n) (v.seen.disk n) → is_some (dead_of o) ≡ above_exec.is_dead x
       by None e x q r = alive (above_exec.is_dead x) refl
         where
           alive : (b : Bool) → above_exec.is_dead x ≡ b → false ≡ above_exec.is_dead x
           alive false z = sym z
-          alive true z = absurd (let s : IsSome {T = Dinode} None = subst IsSome e (shows.loads.dead n some free (ap above_exec.is_dead q ∙ z)) in cc s)
+          alive true z = absurd (let s : IsSome {T = Dinode} None = subst IsSome e (shows.loads.dead n some free (loose (ap above_exec.is_dead q ∙ z)) (ap above_exec.is_dead q ∙ z)) in cc s)
       by (Some d) e None q r = absurd (none-some d (sym (shows.loads.typed n q) ∙ e))
       by (Some d) e (Some x) q r =
           let in_ : IsRecord (inode_in (log_of v.real) n) (Some x) = subst (IsRecord (inode_in (log_of v.real) n)) q r in
@@ -179,26 +193,26 @@ module _ (l : Labels) (laws : Laws (labelled l)) (keeps : Keeps l) (h : ℕ) (lt
   pub some_here : (n : ℕ) (w : above.World) → rules.Spares h n w → 0 < (w.harts h).refs n
   some_here n w spares = omega (arith, spares)
 
-  pub may_die : (n : ℕ) (v : W) → Shows v.real v.seen → Inv v.seen → rules.Spares h n v.seen × (v.seen.lock n ≢ Some h) → MayDie n v.seen (loaded (tables_of v.real))
-  may_die n v shows inv may =
+  pub may_die : (n : ℕ) (v : W) → Shows v.real v.seen → Inv v.seen → rules.Spares h n v.seen × (v.seen.lock n ≢ Some h) → (v.seen.refs n ≡ 1 → above_exec.is_dead (v.seen.disk n) ≡ true → v.seen.keeper n ≡ None) → MayDie n v.seen (loaded (tables_of v.real))
+  may_die n v shows inv may loose =
       let mine = some_here n v.seen may.0 in
       let some = refers n v.seen inv mine in
-      record { some = some; free = last_free n v.seen inv mine may.1; alike = λ one. dies_alike n v shows some (last_free n v.seen inv mine may.1 one) }
+      record { some = some; free = last_free n v.seen inv mine may.1; alike = λ one. dies_alike n v shows some (last_free n v.seen inv mine may.1 one) (loose one) }
 
-  pub counted_down_came : (op : above.Op) (n : ℕ) (v : W) (c : Carry) (b : above.Answer op) (t : TablesState) → Shows v.real v.seen → Base h v.real v.seen c → (v.seen.desks h).lender ≡ None → v.seen.lock n ≢ Some h
+  pub counted_down_came : (op : above.Op) (n : ℕ) (v : W) (c : Carry) (b : above.Answer op) (t : TablesState) → Shows v.real v.seen → Base h v.real v.seen c → (v.seen.desks h).lender ≡ None → v.seen.lock n ≢ Some h → (v.seen.alone n ≡ true → above_exec.is_dead (v.seen.disk n) ≡ false)
       → above_exec.exec h above.Room op v.seen ≡ Ran b (counted_down h n v.seen) → tables.Shows t (counted_down h n v.seen) (load_after n (v.seen.refs n) (loaded (tables_of v.real)) Counts) → Came l laws keeps h op v b (with_tables v.real t) c
-  counted_down_came op n v c b t shows base free not_mine ran after = record {
+  counted_down_came op n v c b t shows base free not_mine lone ran after = record {
     then_ = counted_down h n v.seen;
     ran = ran;
     free = free;
     shows = shows_then h lt v.real v.seen shows t (counted_down h n v.seen) (left (v.seen.refs n == 1)) after refl refl (λ j. refl) (λ i. inl refl)
         (record {
           seen = λ i d e. seen (v.seen.refs n == 1) i d e;
-          dead = λ i some unlocked dead. elim (same_or i n) [
+          dead = λ i some unlocked loose dead. elim (same_or i n) [
             | inl q ↦
                 let more : 0 < v.seen.refs n - 1 = subst (λ (z : ℕ). 0 < z) (ap (put v.seen.refs n (v.seen.refs n - 1)) q ∙ put_same v.seen.refs n (v.seen.refs n - 1)) some in
-                subst (λ (b : Bool). IsSome (left b i)) (sym (eq_not (v.seen.refs n) 1 (λ one. absurd (omega (arith, more, one))))) (shows.loads.dead i (subst (λ (z : ℕ). 0 < v.seen.refs z) (sym q) (omega (arith, more))) unlocked dead)
-            | inr ne ↦ subst IsSome (sym (other (v.seen.refs n == 1) i ne)) (shows.loads.dead i (subst (λ (z : ℕ). 0 < z) (put_other v.seen.refs n (v.seen.refs n - 1) i ne) some) unlocked dead)
+                subst (λ (b : Bool). IsSome (left b i)) (sym (eq_not (v.seen.refs n) 1 (λ one. absurd (omega (arith, more, one))))) (shows.loads.dead i (subst (λ (z : ℕ). 0 < v.seen.refs z) (sym q) (omega (arith, more))) unlocked (still (v.seen.alone n) refl i q loose dead) dead)
+            | inr ne ↦ subst IsSome (sym (other (v.seen.refs n == 1) i ne)) (shows.loads.dead i (subst (λ (z : ℕ). 0 < z) (put_other v.seen.refs n (v.seen.refs n - 1) i ne) some) unlocked (sym (keeper (v.seen.alone n) i ne) ∙ loose) dead)
           ];
           typed = λ i e. typed (v.seen.refs n == 1) i e;
         }) shows.offsets;
@@ -216,6 +230,11 @@ module _ (l : Labels) (laws : Laws (labelled l)) (keeps : Keeps l) (h : ℕ) (lt
       keeper : (b : Bool) (i : ℕ) → i ≢ n → (if b then put v.seen.keeper n None else v.seen.keeper) i ≡ v.seen.keeper i
       keeper true i ne = put_other v.seen.keeper n None i ne
       keeper false i ne = refl
+
+      -- what was kept alone isn't dead
+      still : (b : Bool) → v.seen.alone n ≡ b → (i : ℕ) → i ≡ n → (if b then put v.seen.keeper n None else v.seen.keeper) i ≡ None → above_exec.is_dead (v.seen.disk i) ≡ true → v.seen.keeper i ≡ None
+      still true e i q loose dead = absurd (let z : false ≡ true = sym (lone e) ∙ ap (λ (k : ℕ). above_exec.is_dead (v.seen.disk k)) (sym q) ∙ dead in cc z)
+      still false e i q loose dead = loose
 
       other : (b : Bool) (i : ℕ) → i ≢ n → left b i ≡ load i
       other true i ne = put_other load n None i ne
@@ -239,17 +258,20 @@ module _ (l : Labels) (laws : Laws (labelled l)) (keeps : Keeps l) (h : ℕ) (lt
     then_ = reserved h n v.seen;
     ran = ran;
     free = free;
-    shows = shows_then h lt v.real v.seen shows t (reserved h n v.seen) (loaded (tables_of v.real)) after refl refl (λ j. refl) (λ i. inl refl) (record { seen = shows.loads.seen; dead = shows.loads.dead; typed = shows.loads.typed }) shows.offsets;
+    shows = shows_then h lt v.real v.seen shows t (reserved h n v.seen) (loaded (tables_of v.real)) after refl refl (λ j. refl) (λ i. inl refl) (record { seen = shows.loads.seen; dead = λ i some unlocked loose dead. shows.loads.dead i some unlocked (was_loose i loose) dead; typed = shows.loads.typed }) shows.offsets;
     same = tables_left h v.real t v.seen (reserved h n v.seen) (loaded (tables_of v.real)) (loaded (tables_of v.real)) shows.tables after (λ i. inl refl);
     base = base_then h lt v.real v.seen shows c c t (reserved h n v.seen) (loaded (tables_of v.real)) base after free
         (λ i e. inl (e, put_elim v.seen.keeper n (Some h) i (λ (z : Option ℕ). z ≡ Some h) (λ q. refl) (λ ne. (base.inodes i (sym (shows.tables.places.holders i) ∙ e)).keeps), refl, refl, open_alike h i v.seen (reserved h n v.seen) refl refl));
   }
+    where
+      was_loose : (i : ℕ) → put v.seen.keeper n (Some h) i ≡ None → v.seen.keeper i ≡ None
+      was_loose i = put_elim v.seen.keeper n (Some h) i (λ (z : Option ℕ). z ≡ None → v.seen.keeper i ≡ None) (λ q e. absurd (none-some h (sym e))) (λ ne e. e)
 
   -- its lock is taken, to free it
-  dying_came : (op : above.Op) (n : ℕ) (v : W) (c : Carry) (b : above.Answer op) (t : TablesState) → Shows v.real v.seen → Base h v.real v.seen c → (v.seen.desks h).lender ≡ None → 0 < v.seen.refs n → v.seen.lock n ≡ None → above_exec.is_dead (v.seen.disk n) ≡ true
+  dying_came : (op : above.Op) (n : ℕ) (v : W) (c : Carry) (b : above.Answer op) (t : TablesState) → Shows v.real v.seen → Base h v.real v.seen c → (v.seen.desks h).lender ≡ None → 0 < v.seen.refs n → v.seen.lock n ≡ None → v.seen.keeper n ≡ None → above_exec.is_dead (v.seen.disk n) ≡ true
       → above_exec.exec h above.Room op v.seen ≡ Ran b (record (reserved h n v.seen) { lock = put v.seen.lock n (Some h) }) → tables.Shows t (record (reserved h n v.seen) { lock = put v.seen.lock n (Some h) }) (put (loaded (tables_of v.real)) n None)
       → Came l laws keeps h op v b (with_tables v.real t) (put c n (had_of (loaded (tables_of v.real) n)))
-  dying_came op n v c b t shows base free some unlocked dead ran after = record {
+  dying_came op n v c b t shows base free some unlocked unkept dead ran after = record {
     then_ = record (reserved h n v.seen) { lock = put v.seen.lock n (Some h) };
     ran = ran;
     free = free;
@@ -263,9 +285,9 @@ module _ (l : Labels) (laws : Laws (labelled l)) (keeps : Keeps l) (h : ℕ) (lt
             | inl q ↦ absurd (none-some d (sym (ap (put load n None) q ∙ put_same load n None) ∙ e))
             | inr ne ↦ shows.loads.seen i d (sym (put_other load n None i ne) ∙ e)
           ];
-          dead = λ i more loose gone. elim (same_or i n) [
+          dead = λ i more loose lax gone. elim (same_or i n) [
             | inl q ↦ absurd (none-some h (sym loose ∙ ap (put v.seen.lock n (Some h)) q ∙ put_same v.seen.lock n (Some h)))
-            | inr ne ↦ subst IsSome (sym (put_other load n None i ne)) (shows.loads.dead i more (sym (put_other v.seen.lock n (Some h) i ne) ∙ loose) gone)
+            | inr ne ↦ subst IsSome (sym (put_other load n None i ne)) (shows.loads.dead i more (sym (put_other v.seen.lock n (Some h) i ne) ∙ loose) (sym (put_other v.seen.keeper n (Some h) i ne) ∙ lax) gone)
           ];
           typed = λ i e. elim (same_or i n) [ inl q ↦ ap (put load n None) q ∙ put_same load n None | inr ne ↦ put_other load n None i ne ∙ shows.loads.typed i e ];
         }) shows.offsets;
@@ -296,11 +318,20 @@ module _ (l : Labels) (laws : Laws (labelled l)) (keeps : Keeps l) (h : ℕ) (lt
       nothing_open (Some d) = tt
 
       is_loaded : (o : Option Dinode) → load n ≡ o → IsLoaded (had_of o) (v.seen.disk n) (inode_in (log_of v.real) n)
-      is_loaded None e = absurd (let s : IsSome {T = Dinode} None = subst IsSome e (shows.loads.dead n some unlocked dead) in cc s)
+      is_loaded None e = absurd (let s : IsSome {T = Dinode} None = subst IsSome e (shows.loads.dead n some unlocked unkept dead) in cc s)
       is_loaded (Some d) e = (shows.loads.seen n d e, (λ z. none-some d (sym (shows.loads.typed n z) ∙ e)), tt)
 
   last_is : (n : ℕ) (w : above.World) → is_last w n ≡ true → (w.refs n ≡ 1) × (above_exec.is_dead (w.disk n) ≡ true)
   last_is n w e = let both = and_true (w.refs n == 1) (above_exec.is_dead (w.disk n)) e in (eq_is (w.refs n) 1 both.0, both.1)
+
+  -- what it doesn't keep no hart keeps alone
+  unlone : (n : ℕ) (v : W) → Inv v.seen → 0 < (v.seen.harts h).refs n → v.seen.keeper n ≢ Some h → v.seen.alone n ≡ true → above_exec.is_dead (v.seen.disk n) ≡ false
+  unlone n v inv some not_kept lone =
+      let a = inv.alone n lone in
+      elim (same_or a.hart h) [
+        | inl q ↦ absurd (not_kept (a.kept ∙ ap (λ (z : ℕ). Some z) q))
+        | inr ne ↦ absurd (let two = two_refs v.seen a.hart h n inv (inv.kept n a.hart a.kept).0 lt ne in let c = a.counts in omega (arith, two, c, some))
+      ]
 
   -- what it doesn't keep it hasn't locked
   unheld : (n : ℕ) (v : W) → Inv v.seen → v.seen.keeper n ≢ Some h → v.seen.lock n ≢ Some h
@@ -314,12 +345,12 @@ module _ (l : Labels) (laws : Laws (labelled l)) (keeps : Keeps l) (h : ℕ) (lt
         (fewer_owed n (tables_of v.real) v.seen (loaded (tables_of v.real)) shows.tables inv h lt may.1.0, λ one. sym (shows.tables.places.holders n) ∙ last_free n v.seen inv (some_here n v.seen may.1.0) (unheld n v inv may.1.1) (shows.tables.places.counts n ∙ one)),
         λ x t.
             subst (λ (d : Did DroppedState World). CameTo l laws keeps h (WalkDown n) v ⊥ d is_listed (λ a. c)) (sym (in_tables_is h (steps.Down (Walked n)) v.real (λ a o. refl) (λ s. refl) (drop_walked n (tables_of v.real))))
-            (by v c shows base may.0 (unheld n v inv may.1.1) (is_last v.seen n) refl (drop_walked n (tables_of v.real)) (walks_drop_references h n (tables_of v.real) v.seen (loaded (tables_of v.real)) shows.tables (may_die n v shows inv (may.1.0, unheld n v inv may.1.1)))),
+            (by v c shows base may.0 (unheld n v inv may.1.1) (unlone n v inv (some_here n v.seen may.1.0) may.1.1) (is_last v.seen n) refl (drop_walked n (tables_of v.real)) (walks_drop_references h n (tables_of v.real) v.seen (loaded (tables_of v.real)) shows.tables (may_die n v shows inv (may.1.0, unheld n v inv may.1.1) (λ one _. last_loose n v.seen inv (some_here n v.seen may.1.0) may.1.1 one)))),
       ))
     where
-      by : (v : W) (c : Carry) → Shows v.real v.seen → Base h v.real v.seen c → (v.seen.desks h).lender ≡ None → v.seen.lock n ≢ Some h → (b : Bool) → is_last v.seen n ≡ b → (d : Did DroppedState TablesState)
+      by : (v : W) (c : Carry) → Shows v.real v.seen → Base h v.real v.seen c → (v.seen.desks h).lender ≡ None → v.seen.lock n ≢ Some h → (v.seen.alone n ≡ true → above_exec.is_dead (v.seen.disk n) ≡ false) → (b : Bool) → is_last v.seen n ≡ b → (d : Did DroppedState TablesState)
           → BothCame (λ a last. a ≡ (if last then Stays else Counts)) (load_after n (v.seen.refs n) (loaded (tables_of v.real))) d (walk_down_if h n v.seen (is_last v.seen n)) → CameTo l laws keeps h (WalkDown n) v ⊥ (did_in (with_tables v.real) d) is_listed (λ a. c)
-      by v c shows base free not_mine b e d both = at b e d (subst (λ (z : Bool). BothCame (λ a last. a ≡ (if last then Stays else Counts)) (load_after n (v.seen.refs n) (loaded (tables_of v.real))) d (walk_down_if h n v.seen z)) e both)
+      by v c shows base free not_mine lone b e d both = at b e d (subst (λ (z : Bool). BothCame (λ a last. a ≡ (if last then Stays else Counts)) (load_after n (v.seen.refs n) (loaded (tables_of v.real))) d (walk_down_if h n v.seen z)) e both)
         where
           at : (b : Bool) → is_last v.seen n ≡ b → (d : Did DroppedState TablesState) → BothCame (λ a last. a ≡ (if last then Stays else Counts)) (load_after n (v.seen.refs n) (loaded (tables_of v.real))) d (walk_down_if h n v.seen b)
               → CameTo l laws keeps h (WalkDown n) v ⊥ (did_in (with_tables v.real) d) is_listed (λ a. c)
@@ -331,7 +362,7 @@ module _ (l : Labels) (laws : Laws (labelled l)) (keeps : Keeps l) (h : ℕ) (lt
           at false e Waits both = absurd both
           at false e (Stops t) both = absurd both
           at false e (Ran a t) both =
-              counted_down_came (WalkDown n) n v c (is_listed a) t shows base free not_mine (ap (walk_down_if h n v.seen) e ∙ ap (λ (z : DroppedState). Ran (is_listed z) (counted_down h n v.seen)) (sym both.0))
+              counted_down_came (WalkDown n) n v c (is_listed a) t shows base free not_mine lone (ap (walk_down_if h n v.seen) e ∙ ap (λ (z : DroppedState). Ran (is_listed z) (counted_down h n v.seen)) (sym both.0))
               (subst (λ (z : DroppedState). tables.Shows t (counted_down h n v.seen) (load_after n (v.seen.refs n) (loaded (tables_of v.real)) z)) both.0 both.1)
 
   pub down_acts : (n : ℕ) (m : Bool → Option above.Mark) → ActsOnce l h (Down n) m (down n)
@@ -342,12 +373,12 @@ module _ (l : Labels) (laws : Laws (labelled l)) (keeps : Keeps l) (h : ℕ) (lt
         (fewer_owed n (tables_of v.real) v.seen (loaded (tables_of v.real)) shows.tables inv h lt may.1.0, λ one. sym (shows.tables.places.holders n) ∙ last_free n v.seen inv (some_here n v.seen may.1.0) (unheld n v inv may.1.1) (shows.tables.places.counts n ∙ one)),
         λ x t.
             subst (λ (d : Did DroppedState World). CameTo l laws keeps h (Down n) v ⊥ d is_dying (with_dying n c)) (sym (in_tables_is h (steps.Down (Held n)) v.real (λ a o. refl) (λ s. refl) (drop_inode h n (tables_of v.real))))
-            (by v c shows base may.0 (may_die n v shows inv (may.1.0, unheld n v inv may.1.1)) (unheld n v inv may.1.1) (is_last v.seen n) refl (drop_inode h n (tables_of v.real)) (references_are_dropped h n (tables_of v.real) v.seen (loaded (tables_of v.real)) shows.tables (may_die n v shows inv (may.1.0, unheld n v inv may.1.1)))),
+            (by v c shows base may.0 (may_die n v shows inv (may.1.0, unheld n v inv may.1.1) (λ one _. last_loose n v.seen inv (some_here n v.seen may.1.0) may.1.1 one)) (λ one. last_loose n v.seen inv (some_here n v.seen may.1.0) may.1.1 one) (unheld n v inv may.1.1) (unlone n v inv (some_here n v.seen may.1.0) may.1.1) (is_last v.seen n) refl (drop_inode h n (tables_of v.real)) (references_are_dropped h n (tables_of v.real) v.seen (loaded (tables_of v.real)) shows.tables (may_die n v shows inv (may.1.0, unheld n v inv may.1.1) (λ one _. last_loose n v.seen inv (some_here n v.seen may.1.0) may.1.1 one)))),
       ))
     where
-      by : (v : W) (c : Carry) → Shows v.real v.seen → Base h v.real v.seen c → (v.seen.desks h).lender ≡ None → MayDie n v.seen (loaded (tables_of v.real)) → v.seen.lock n ≢ Some h → (b : Bool) → is_last v.seen n ≡ b → (d : Did DroppedState TablesState)
+      by : (v : W) (c : Carry) → Shows v.real v.seen → Base h v.real v.seen c → (v.seen.desks h).lender ≡ None → MayDie n v.seen (loaded (tables_of v.real)) → (v.seen.refs n ≡ 1 → v.seen.keeper n ≡ None) → v.seen.lock n ≢ Some h → (v.seen.alone n ≡ true → above_exec.is_dead (v.seen.disk n) ≡ false) → (b : Bool) → is_last v.seen n ≡ b → (d : Did DroppedState TablesState)
           → BothCame (λ a last. a ≡ (if last then Dies n (loaded (tables_of v.real) n) else Counts)) (load_after n (v.seen.refs n) (loaded (tables_of v.real))) d (down_if h n v.seen (is_last v.seen n)) → CameTo l laws keeps h (Down n) v ⊥ (did_in (with_tables v.real) d) is_dying (with_dying n c)
-      by v c shows base free die not_mine b e d both = at b e d (subst (λ (z : Bool). BothCame (λ a last. a ≡ (if last then Dies n (loaded (tables_of v.real) n) else Counts)) (load_after n (v.seen.refs n) (loaded (tables_of v.real))) d (down_if h n v.seen z)) e both)
+      by v c shows base free die unkept not_mine lone b e d both = at b e d (subst (λ (z : Bool). BothCame (λ a last. a ≡ (if last then Dies n (loaded (tables_of v.real) n) else Counts)) (load_after n (v.seen.refs n) (loaded (tables_of v.real))) d (down_if h n v.seen z)) e both)
         where
           at : (b : Bool) → is_last v.seen n ≡ b → (d : Did DroppedState TablesState) → BothCame (λ a last. a ≡ (if last then Dies n (loaded (tables_of v.real) n) else Counts)) (load_after n (v.seen.refs n) (loaded (tables_of v.real))) d (down_if h n v.seen b)
               → CameTo l laws keeps h (Down n) v ⊥ (did_in (with_tables v.real) d) is_dying (with_dying n c)
@@ -356,11 +387,11 @@ module _ (l : Labels) (laws : Laws (labelled l)) (keeps : Keeps l) (h : ℕ) (lt
           at true e (Ran a t) both =
               let last = last_is n v.seen e in
               subst (λ (z : DroppedState). Came l laws keeps h (Down n) v (is_dying z) (with_tables v.real t) (with_dying n c z)) (sym both.0)
-              (dying_came (Down n) n v c true t shows base free die.some (die.free last.0) last.1 (ap (down_if h n v.seen) e)
+              (dying_came (Down n) n v c true t shows base free die.some (die.free last.0) (unkept last.0) last.1 (ap (down_if h n v.seen) e)
               (subst (λ (z : DroppedState). tables.Shows t (record (reserved h n v.seen) { lock = put v.seen.lock n (Some h) }) (load_after n (v.seen.refs n) (loaded (tables_of v.real)) z)) both.0 both.1))
           at false e Waits both = absurd both
           at false e (Stops t) both = absurd both
           at false e (Ran a t) both =
               subst (λ (z : DroppedState). Came l laws keeps h (Down n) v (is_dying z) (with_tables v.real t) (with_dying n c z)) (sym both.0)
-              (counted_down_came (Down n) n v c false t shows base free not_mine (ap (down_if h n v.seen) e)
+              (counted_down_came (Down n) n v c false t shows base free not_mine lone (ap (down_if h n v.seen) e)
               (subst (λ (z : DroppedState). tables.Shows t (counted_down h n v.seen) (load_after n (v.seen.refs n) (loaded (tables_of v.real)) z)) both.0 both.1))

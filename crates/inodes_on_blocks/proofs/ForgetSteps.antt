@@ -1,5 +1,5 @@
 -- The reference that is left to a freed inode goes in one step.
-use Rattle.std.proofs.Common.{◌≡◌, ℕ, ◌<◌, ◌==◌, ◌&&◌, Bool, false, Option, Some, None, refl, sym, ◌∙◌, ap, subst, if◌then◌else◌}
+use Rattle.std.proofs.Common.{◌≡◌, ℕ, ◌<◌, ◌==◌, ◌&&◌, Bool, false, true, Option, Some, None, refl, sym, ◌∙◌, ap, subst, if◌then◌else◌}
 use Rattle.std.specs.Prelude.{slice_get}
 use Rattle.fs_layout.specs.declared.inode.Dinode.{Dinode}
 use Rattle.sleep_lock.specs.SleepLock.{SlotState}
@@ -72,14 +72,14 @@ module _ (l : Labels) (laws : Laws (labelled l)) (keeps : Keeps l) (h : ℕ) (lt
       subst (λ (d : Did DroppedState TablesState). CameTo l laws keeps h (Forget n) v ⊥ (did_in (with_tables v.real) d) (λ a. tt {0}) (λ a. c)) (sym (freed_is h n (tables_of v.real) (shows.loads.typed n may.1.2.1)))
       (at (drop_inode h n (tables_of v.real))
       (subst (λ (z : Bool). BothCame (λ a last. a ≡ (if last then Dies n (loaded (tables_of v.real) n) else Counts)) (load_after n (v.seen.refs n) (loaded (tables_of v.real))) (drop_inode h n (tables_of v.real)) (down_if h n v.seen z))
-      (not_last n v.seen may.1.2.1) (references_are_dropped h n (tables_of v.real) v.seen (loaded (tables_of v.real)) shows.tables (may_die l laws keeps h lt n v shows inv (may.1.0, may.1.1)))))
+      (not_last n v.seen may.1.2.1) (references_are_dropped h n (tables_of v.real) v.seen (loaded (tables_of v.real)) shows.tables (may_die l laws keeps h lt n v shows inv (may.1.0, may.1.1) (λ one dead. absurd (let q : false ≡ true = sym (ap (λ (o : Option Node). above_exec.is_dead o) may.1.2.1) ∙ dead in cc q))))))
     where
       at : (d : Did DroppedState TablesState) → BothCame (λ a last. a ≡ (if last then Dies n (loaded (tables_of v.real) n) else Counts)) (load_after n (v.seen.refs n) (loaded (tables_of v.real))) d (down_if h n v.seen false)
           → CameTo l laws keeps h (Forget n) v ⊥ (did_in (with_tables v.real) d) (λ a. tt {0}) (λ a. c)
       at Waits both = absurd both
       at (Stops t) both = absurd both
       at (Ran a t) both =
-          counted_down_came l laws keeps h lt (Forget n) n v c (tt {0}) t shows base may.0 may.1.1 refl
+          counted_down_came l laws keeps h lt (Forget n) n v c (tt {0}) t shows base may.0 may.1.1 (λ lone. ap (λ (o : Option Node). above_exec.is_dead o) may.1.2.1) refl
           (subst (λ (z : DroppedState). tables.Shows t (counted_down h n v.seen) (load_after n (v.seen.refs n) (loaded (tables_of v.real)) z)) both.0 both.1)
 
   pub forget_acts : (n : ℕ) (m : Unit {0} → Option above.Mark) → ActsOnce l h (Forget n) m (forget n)

@@ -295,7 +295,7 @@ shows_marked r v w s shows = record {
   commit = shows.commit;
   loads = record {
     seen = shows.loads.seen;
-    dead = λ n lt free dead. shows.loads.dead n (subst (λ (z : ℕ). 0 < z) (λ z. s.refs z n) lt) ((λ z. sym s.lock z n) ∙ free) (ap (λ (f : ℕ → Option Node). is_dead (f n)) (sym s.disk) ∙ dead);
+    dead = λ n lt free loose dead. shows.loads.dead n (subst (λ (z : ℕ). 0 < z) (λ z. s.refs z n) lt) ((λ z. sym s.lock z n) ∙ free) ((λ z. sym s.keeper z n) ∙ loose) (ap (λ (f : ℕ → Option Node). is_dead (f n)) (sym s.disk) ∙ dead);
     typed = λ n e. shows.loads.typed n ((λ z. sym s.disk z n) ∙ e);
   };
   offsets = λ k e at. shows.offsets k e ((λ z. sym s.files z k) ∙ at);

@@ -116,10 +116,10 @@ module _ (disk : List (List ℕ)) (failures : ℕ) (m : IsMountable disk) where
     | inr ne ↦ absurd (let none = other_refs t (λ h lt. (image_at_rest disk).cwd h) n ne in omega (arith, none, some))
   ]
 
-  loads : LoadsShow (loaded fresh) l w.refs w.lock w.disk
+  loads : LoadsShow (loaded fresh) l w.refs w.lock w.keeper w.disk
   loads = record {
     seen = λ n d e. absurd (none-some d (sym (nothing_loaded n) ∙ e));
-    dead = λ n some free dead. absurd (let q : false ≡ true = sym (referred_lives n some) ∙ dead in cc q);
+    dead = λ n some free loose dead. absurd (let q : false ≡ true = sym (referred_lives n some) ∙ dead in cc q);
     typed = λ n none. nothing_loaded n;
   }
 

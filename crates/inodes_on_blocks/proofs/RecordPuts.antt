@@ -137,9 +137,9 @@ node_then h n r g v shows mine joined = record {
   commit = shows.commit;
   loads = record {
     seen = shows.loads.seen;
-    dead = λ m some free dead. elim (same_or m n) [
+    dead = λ m some free loose dead. elim (same_or m n) [
       | inl q ↦ absurd (none-some h (sym free ∙ ap g.lock q ∙ mine))
-      | inr ne ↦ shows.loads.dead m some free (ap is_dead (sym (put_other g.disk n v m ne)) ∙ dead)
+      | inr ne ↦ shows.loads.dead m some free loose (ap is_dead (sym (put_other g.disk n v m ne)) ∙ dead)
     ];
     typed = λ m e. elim (same_or m n) [
       | inl q ↦ not_loaded m h (tables_of r) g shows.tables (sym (shows.tables.places.holders m) ∙ ap g.lock q ∙ mine)

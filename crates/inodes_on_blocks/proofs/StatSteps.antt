@@ -138,9 +138,9 @@ module _ (l : Labels) (laws : Laws (labelled l)) (keeps : Keeps l) (h : ℕ) (lt
             | inl q ↦ absurd (none-some d (sym (ap (put load n None) q ∙ put_same load n None) ∙ e))
             | inr ne ↦ shows.loads.seen i d (sym (put_other load n None i ne) ∙ e)
           ];
-          dead = λ i referred none dead. elim (same_or i n) [
+          dead = λ i referred none loose dead. elim (same_or i n) [
             | inl q ↦ absurd (none-some h (sym none ∙ ap (put v.seen.lock n (Some h)) q ∙ put_same v.seen.lock n (Some h)))
-            | inr ne ↦ subst IsSome (sym (put_other load n None i ne)) (shows.loads.dead i referred (sym (put_other v.seen.lock n (Some h) i ne) ∙ none) dead)
+            | inr ne ↦ subst IsSome (sym (put_other load n None i ne)) (shows.loads.dead i referred (sym (put_other v.seen.lock n (Some h) i ne) ∙ none) (sym (put_other v.seen.keeper n (Some h) i ne) ∙ loose) dead)
           ];
           typed = λ i e. elim (same_or i n) [
             | inl q ↦ ap (put load n None) q ∙ put_same load n None

@@ -97,9 +97,9 @@ module _ (l : Labels) (laws : Laws (labelled l)) (keeps : Keeps l) (h : ℕ) (lt
             | inl q ↦ loaded_seen (c n) (g.disk n) (inode_in (log_of v) n) d hand.loaded_is (sym (ap (put load n (record_had (c n))) q ∙ put_same load n (record_had (c n))) ∙ e) ∙ ap (inode_in (log_of v)) (sym q)
             | inr ne ↦ shows.loads.seen i d (sym (put_other load n (record_had (c n)) i ne) ∙ e)
           ];
-          dead = λ i some unlocked dead. elim (same_or i n) [
+          dead = λ i some unlocked loose dead. elim (same_or i n) [
             | inl q ↦ subst IsSome (sym (ap (put load n (record_had (c n))) q ∙ put_same load n (record_had (c n)))) (some_loaded (c n) (g.disk n) (inode_in (log_of v) n) hand.loaded_is ((λ z. above_exec.is_dead (sym s.disk z (sym q z))) ∙ dead))
-            | inr ne ↦ subst IsSome (sym (put_other load n (record_had (c n)) i ne)) (shows.loads.dead i (subst (λ (z : ℕ). 0 < z) (λ z. s.refs z i) some) (sym (unfreed i ne) ∙ unlocked) ((λ z. above_exec.is_dead (sym s.disk z i)) ∙ dead))
+            | inr ne ↦ subst IsSome (sym (put_other load n (record_had (c n)) i ne)) (shows.loads.dead i (subst (λ (z : ℕ). 0 < z) (λ z. s.refs z i) some) (sym (unfreed i ne) ∙ unlocked) (sym (s.keeper i ne) ∙ loose) ((λ z. above_exec.is_dead (sym s.disk z i)) ∙ dead))
           ];
           typed = λ i e. elim (same_or i n) [
             | inl q ↦ ap (put load n (record_had (c n))) q ∙ put_same load n (record_had (c n)) ∙ untyped (c n) (g.disk n) (inode_in (log_of v) n) hand.loaded_is ((λ z. sym s.disk z (sym q z)) ∙ e)

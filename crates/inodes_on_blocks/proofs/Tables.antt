@@ -44,7 +44,7 @@ module _ (h : ℕ) (lt : h < hart_count) (v : World) (g : above.World) (shows : 
   LockStep u i = (u.lock i ≡ g.lock i) ⊎ (((g.lock i ≡ None) × (u.lock i ≡ Some h)) ⊎ ((u.lock i ≡ None) × HoldsAt (disk_of (log_of v)) v.owner i (g.disk i)))
 
   pub shows_then : (t : TablesState) (u : above.World) (load : ℕ → Option Dinode) → tables.Shows t u load → u.disk ≡ g.disk → u.all.ninodes ≡ g.all.ninodes → ((j : ℕ) → (u.desks j).joined ≡ (g.desks j).joined) → ((i : ℕ) → LockStep u i)
-      → LoadsShow load (log_of v) u.refs u.lock u.disk → OffsetsShow u.files → Shows (with_tables v t) u
+      → LoadsShow load (log_of v) u.refs u.lock u.keeper u.disk → OffsetsShow u.files → Shows (with_tables v t) u
   shows_then t u load after disk size joined locks loads offsets =
       record {
         whole = shows.whole;
@@ -68,7 +68,7 @@ module _ (h : ℕ) (lt : h < hart_count) (v : World) (g : above.World) (shows : 
         bytes = shows.bytes;
         taken = shows.taken;
         commit = shows.commit;
-        loads = record { seen = λ n d e. loads.seen n d (after.places.loads n ∙ e); dead = λ n some free dead. subst IsSome (after.places.loads n) (loads.dead n some free dead); typed = λ n e. sym (after.places.loads n) ∙ loads.typed n e };
+        loads = record { seen = λ n d e. loads.seen n d (after.places.loads n ∙ e); dead = λ n some free loose dead. subst IsSome (after.places.loads n) (loads.dead n some free loose dead); typed = λ n e. sym (after.places.loads n) ∙ loads.typed n e };
         offsets = offsets;
       }
     where

@@ -35,11 +35,11 @@ if_joined desks (Some g) = if (desks g).joined then Some g else None
 abbrev pub ghost_of : (ℕ → ℕ) → (ℕ → Bool) → (ℕ → Option Node) → (ℕ → Option ℕ) → (ℕ → Desk) → Ghost
 ghost_of owner left nodes lock desks = record { nodes = nodes; owner = owner; left = left; changing = λ i. if_joined desks (lock i) }
 
--- What is loaded of an inode is as it is seen. One without links, to which a reference stands, is loaded; of one without a type
+-- What is loaded of an inode is as it is seen. One without links, to which a reference stands and which no hart keeps, is loaded; of one without a type
 -- nothing is.
-pub record LoadsShow (load : ℕ → Option Dinode) (l : LogPart) (refs : ℕ → ℕ) (lock : ℕ → Option ℕ) (nodes : ℕ → Option Node) : Type 0 where
+pub record LoadsShow (load : ℕ → Option Dinode) (l : LogPart) (refs : ℕ → ℕ) (lock keeper : ℕ → Option ℕ) (nodes : ℕ → Option Node) : Type 0 where
   pub seen : (n : ℕ) (d : Dinode) → load n ≡ Some d → d ≡ inode_in l n
-  pub dead : (n : ℕ) → 0 < refs n → lock n ≡ None → is_dead (nodes n) ≡ true → IsSome (load n)
+  pub dead : (n : ℕ) → 0 < refs n → lock n ≡ None → keeper n ≡ None → is_dead (nodes n) ≡ true → IsSome (load n)
   pub typed : (n : ℕ) → nodes n ≡ None → load n ≡ None
 
 -- what is seen are bytes
@@ -73,5 +73,5 @@ pub record Shows (r : World) (w : above.World) : Type 0 where
   pub bytes : AreBytes (log_of r)
   pub taken : TakenShow (log_of r).sizes r.owner r.left r.taken
   pub commit : CommitShows r.commits (log_of r).phase
-  pub loads : LoadsShow (loaded (tables_of r)) (log_of r) w.refs w.lock w.disk
+  pub loads : LoadsShow (loaded (tables_of r)) (log_of r) w.refs w.lock w.keeper w.disk
   pub offsets : OffsetsShow w.files
