@@ -47,7 +47,7 @@ began_stage : (h : ℕ) (call : Call) (busy : ℕ → Bool) (w : above.World) (x
 began_stage h call busy w (Refuses why) e = refl
 began_stage h call busy w (Begins u) e = (start_is serves h call busy w u e).stage
 
-moving : (sizes : Super) → IsMoving (block_moves sizes)
+pub moving : (sizes : Super) → IsMoving (block_moves sizes)
 moving sizes = record {
   lawful = lawful sizes;
   one = λ h op a m w. places_any h m w.seen;
@@ -60,7 +60,7 @@ moving sizes = record {
         let b = begun_both (began_to w.seen (served_calls.start h call busy w.seen)) (begin_in h call w.real) u e in
         (below_count h (begun_here h call w.real u.real b.0).hart, ap stage_of b.1 ∙ began_stage h call busy w.seen (served_calls.start h call busy w.seen) refl)
 
-runs_from : (disk : List (List ℕ)) (failures : ℕ) (events : List (Event Call Outside)) → RunsOn disk failures events → RunsFrom (block_moves (sizes_of disk)) (tree_in disk) (first disk failures) events
+pub runs_from : (disk : List (List ℕ)) (failures : ℕ) (events : List (Event Call Outside)) → RunsOn disk failures events → RunsFrom (block_moves (sizes_of disk)) (tree_in disk) (first disk failures) events
 runs_from disk failures events r = record {
   holds = (shows.shows, shows.inv);
   idle = λ h. ((shows.stands h, refl), shows.idle h);

@@ -27,21 +27,21 @@ use Rattle.atomic_programs.proofs.Reached.{sound_fresh, sound_run}
 use Rattle.inode_machine.specs.MoveCalls.{Moving, IsMoving, HasOneHistory, RunsFrom, Alone, NoneClimbs, StartsBy, climbs_at, machine_of, shown_by, shows, theory_of}
 
 module _ (N : Moving) (moving : IsMoving N) where
-  abbrev L : Theory
+  abbrev pub L : Theory
   L = theory_of N
 
   abbrev P : Type 0 → Type 0
   P A = Prog N.Op N.Answer N.Mark A
 
   -- The calls of a state as they stand beside a history of moves.
-  record Beside (s : State L) (t : Told) : Type 0 where
+  pub record Beside (s : State L) (t : Told) : Type 0 where
     pub stage : t.stage ≡ N.tree s.world
     pub free : (h : ℕ) → s.running h ≡ None → t.history.calls h ≡ Free
     pub busy : (h : ℕ) (r : Run L) → s.running h ≡ Some r → (id : ℕ) × (t.history.calls h ≡ Busy id r.call (told_by [] (oldest_first r.done)))
     pub harts : (h : ℕ) (r : Run L) → s.running h ≡ Some r → h < hart_count
 
   -- An event that led to s2, as one of moves.
-  record Turns (e : Event Call N.Outside) (came : Came L) (s2 : State L) (t : Told) : Type 0 where
+  pub record Turns (e : Event Call N.Outside) (came : Came L) (s2 : State L) (t : Told) : Type 0 where
     pub event : Turn
     pub then_ : Told
     pub happens : Happens t event then_
@@ -259,7 +259,7 @@ module _ (N : Moving) (moving : IsMoving N) where
   step_turns base h x s t keeps b None q honest clean = nothing_turns (Step h x) _ s (unchanged L s) t b refl refl refl
   step_turns base h x s t keeps b (Some r) q honest clean = unless_turns base h x s t r keeps b q s.stopped refl honest clean
 
-  event_turns : (base : Stage) (e : Event Call N.Outside) (s : State L) (t : Told) → Keeps L base s → Beside s t → IsHonest L e s → N.Clean (next L e s).world → Turns e (makes L e s).came (next L e s) t
+  pub event_turns : (base : Stage) (e : Event Call N.Outside) (s : State L) (t : Told) → Keeps L base s → Beside s t → IsHonest L e s → N.Clean (next L e s).world → Turns e (makes L e s).came (next L e s) t
   event_turns base (Start h call) s t keeps b honest clean = start_turns h call s t b (s.running h) refl
   event_turns base (Step h x) s t keeps b honest clean = step_turns base h x s t keeps b (s.running h) refl honest clean
 
@@ -274,7 +274,7 @@ module _ (N : Moving) (moving : IsMoving N) where
     pub calm : NoneClimbs events → Calm more
     pub alone : (h : ℕ) → Alone h events → Lone h more
 
-  clean_before : (events : List (Event Call N.Outside)) (s : State L) → Sound L s → AllHonest L events s → N.Clean (run L events s).world → N.Clean s.world
+  pub clean_before : (events : List (Event Call N.Outside)) (s : State L) → Sound L s → AllHonest L events s → N.Clean (run L events s).world → N.Clean s.world
   clean_before [] s sound honest clean = clean
   clean_before (e ∷ es) s sound honest clean = (leads L moving.lawful places_one s e sound honest.0).clean (clean_before es (next L e s) (sound_run L (e ∷ []) s sound (honest.0, tt)) honest.1 clean)
 

@@ -29,7 +29,7 @@ one_joined : (k : ℕ) (members : List (Option ℕ)) → joined (Some k ∷ memb
 one_joined k members = sum_by-cons (λ (m : Option ℕ). cond (is_some m) 1 0) (Some k) members
 
 -- where nobody is joined no hart is
-nobody_joined : (members : List (Option ℕ)) (h : ℕ) → joined members ≡ 0 → is_joined members h ≡ false
+pub nobody_joined : (members : List (Option ℕ)) (h : ℕ) → joined members ≡ 0 → is_joined members h ≡ false
 nobody_joined [] h none = refl
 nobody_joined (None ∷ members) zero none = refl
 nobody_joined (None ∷ members) (suc h) none = nobody_joined members h none

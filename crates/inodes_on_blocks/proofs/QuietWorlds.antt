@@ -1,5 +1,5 @@
 -- In a world where nobody is in a transaction the seen blocks are an image of the tree.
-use Rattle.std.proofs.Common.{◌≡◌, inl, inr, ℕ, true, false, length, is_some, Option, Some, None, refl, sym, ◌∙◌, ap, arith}
+use Rattle.std.proofs.Common.{◌≡◌, inl, inr, ℕ, Bool, true, false, ◌||◌, if◌then◌else◌, length, is_some, Option, Some, None, refl, sym, ◌∙◌, ap, arith}
 use Rattle.std.proofs.lemmas.Bool.{cases_lt}
 use Rattle.std.proofs.lemmas.List.{get_or_past}
 use Rattle.fs_layout.specs.declared.superblock.Super.{Super}
@@ -7,9 +7,14 @@ use Rattle.fs_layout.specs.Recovered.{sizes_of}
 use Rattle.plain_tree.specs.declared.node.Node.{Node}
 use Rattle.plain_tree.specs.declared.tree.Hold.{Hold}
 use Rattle.plain_tree.specs.Steps.{holds_raised}
+use Rattle.plain_tree.specs.Explains.{IsNamedPart}
+use Rattle.plain_tree.specs.Tree.{tree_of, is_live, is_named, settle}
+use Rattle.image_tree.specs.Trees.{tree_in}
+use Rattle.tree_laws.proofs.Nodes.{settled_well}
 use Rattle.image_laws.specs.Holds.{live_part}
 use Rattle.image_laws.specs.Laws.{IsImageOf}
 use Rattle.image_laws.specs.Running.{IsTreeOf}
+use Rattle.image_laws.proofs.Held.{live_none}
 use Rattle.image_laws.proofs.RunningBlocks.{quiet_image}
 use Rattle.image_laws.proofs.SeenDisks.{good_seen}
 use Rattle.fs_machine.specs.Shown.{seen_of}
@@ -49,10 +54,29 @@ module _ (r : World) (w : above.World) (shows : Shows r w) (inv : Inv w) (quiet 
   pub image : IsImageOf (disk_of (log_of r)) w.disk w.all
   image = quiet_image (disk_of (log_of r)) w.disk r.owner r.left (λ i. if_joined w.desks (w.lock i)) (is_joined (log_of r).members) shows.blocks.running w.all inv.well these nobody
 
+  -- what is live is so before and after the tree settles
+  live_settled : (n : ℕ) → live_part ((settle w.all).nodes n) ≡ live_part (w.all.nodes n)
+  unfolding settle
+  live_settled n = by (w.all.nodes n) (is_live (w.all.nodes n)) (is_named w.all n) refl
+    where
+      by : (o : Option Node) (live named : Bool) → is_live o ≡ live → live_part (if live || named then o else None) ≡ live_part o
+      by o true named e = refl
+      by o false true e = refl
+      by o false false e = sym (live_none o e)
+
+  these_settled : IsTreeOf (settle w.all) (sizes_of (disk_of (log_of r))).ninodes w.disk (is_joined (log_of r).members)
+  unfolding settle
+  these_settled = record { numbers = these.numbers; live = λ n. live_settled n ∙ these.live n; raisers = these.raisers }
+
+  pub settled : IsNamedPart (settle w.all) (tree_of (tree_in (disk_of (log_of r))))
+  settled =
+      (quiet_image (disk_of (log_of r)) w.disk r.owner r.left (λ i. if_joined w.desks (w.lock i)) (is_joined (log_of r).members) shows.blocks.running (settle w.all) (settled_well w.all inv.well) these_settled nobody).named
+
 pub quiet_worlds_are_images : QuietWorldsAreImages
 quiet_worlds_are_images r w shows inv quiet = (
   image r w shows inv quiet,
   quiet_disk (log_of r).contents (log_of r).seats (log_of r).sizes (log_of r).members (ghost_of r.owner r.left w.disk w.lock w.desks) shows.blocks (image r w shows inv quiet).well_formed,
+  settled r w shows inv quiet,
 )
 
 pub resting_worlds_are_images : RestingWorldsAreImages

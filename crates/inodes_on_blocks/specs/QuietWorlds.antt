@@ -1,5 +1,7 @@
 -- A world in which nobody is in a transaction.
 use Rattle.std.specs.Prelude.{◌≡◌, ℕ, ◌<◌, List, length, false}
+use Rattle.plain_tree.specs.Explains.{IsNamedPart}
+use Rattle.plain_tree.specs.Tree.{tree_of, settle}
 use Rattle.plain_tree.specs.Widths.{hart_count}
 use Rattle.image_tree.specs.Damage.{IsWellFormed}
 use Rattle.image_tree.specs.Trees.{tree_in}
@@ -15,14 +17,15 @@ use Rattle.inodes_on_blocks.specs.Shown.{Shows}
 abbrev pub IsQuiet : above.World → Type 0
 IsQuiet w = (h : ℕ) → h < hart_count → (w.desks h).joined ≡ false
 
--- Then the seen blocks are a well-formed image of the tree before it settles, whose live part it holds; and so is each disk that recovery would leave so. A
--- commit that is under way is in no one's transaction: nothing that is seen changes by it.
+-- Then the seen blocks are a well-formed image of the tree before it settles, whose live part it holds; and so is each disk that recovery would leave so. What
+-- has names in it has them in the tree as it settles too. A commit that is under way is in no one's transaction: nothing that is seen changes by it.
 abbrev pub QuietWorldsAreImages : Type 0
 QuietWorldsAreImages =
     (r : World) (w : above.World) → Shows r w → Inv w → IsQuiet w
     → IsImageOf (disk_of (log_of r)) w.disk w.all
     × ((disk : List (List ℕ)) → length disk ≡ length (log_of r).contents → IsRecoveredSo (log_of r).sizes (seen_of (log_of r)) disk
     → IsWellFormed disk × (tree_in disk ≡ tree_in (disk_of (log_of r))))
+    × IsNamedPart (settle w.all) (tree_of (tree_in (disk_of (log_of r))))
 
 -- So where every hart rests.
 abbrev pub RestingWorldsAreImages : Type 0
@@ -31,3 +34,4 @@ RestingWorldsAreImages =
     → IsImageOf (disk_of (log_of r)) w.disk w.all
     × ((disk : List (List ℕ)) → length disk ≡ length (log_of r).contents → IsRecoveredSo (log_of r).sizes (seen_of (log_of r)) disk
     → IsWellFormed disk × (tree_in disk ≡ tree_in (disk_of (log_of r))))
+    × IsNamedPart (settle w.all) (tree_of (tree_in (disk_of (log_of r))))

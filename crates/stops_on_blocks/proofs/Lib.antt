@@ -1,0 +1,7 @@
+pub mod Moves
+pub mod Events
+pub mod Following
+pub mod Quiet
+pub mod Histories
+pub mod Stops
+pub mod Beginnings

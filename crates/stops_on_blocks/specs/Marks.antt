@@ -1,0 +1,52 @@
+-- The marks that a run on the blocks keeps beside its log: counts of its events.
+use Rattle.std.specs.Prelude.{ℕ, Bool, true, false, List, [], ◌∷◌, length, Option, Some, None}
+use Rattle.fs_layout.specs.declared.superblock.Super.{Super}
+use Rattle.plain_tree.specs.declared.answer.Reply.{Reply}
+use Rattle.plain_tree.specs.declared.call.Call.{Call}
+use Rattle.group_log.specs.declared.commit.Progress.{Progress}
+use Rattle.group_log.specs.declared.commit.Progress.TheVariants.{Wrote, Ended, Failed}
+use Rattle.group_log.specs.declared.marks.Marks.{Marks}
+use Rattle.group_log.specs.Phases.{is_point}
+use Rattle.group_log.specs.Stories.{after_leave, after_write}
+use Rattle.atomic_programs.specs.Prog.{Did, Waits, Ran, Stops, Ret, Do}
+use Rattle.atomic_programs.specs.Logic.{P}
+use Rattle.atomic_programs.specs.Calls.{Event, Start, Step, Run, State as StateOf, next}
+use Rattle.fs_machine.specs.LogPart.{LogPart, Outside}
+use Rattle.fs_machine.specs.Steps.{State, Op, Answer, Leave, Commit, exec}
+use Rattle.calls_on_blocks.specs.Theory.{block_calls}
+
+-- the answer of a commit's write, by whether it was the last
+abbrev pub progress_of : Bool → Progress
+progress_of true = Ended
+progress_of false = Wrote
+
+-- the commit's next write is the one after which the head names the group
+abbrev pub at_point : LogPart → Bool
+at_point l = is_point (length l.group) l.phase
+
+-- after event n, in which an operation came to this, over this log
+abbrev pub marks_by : ℕ → LogPart → (op : Op) → Did (Answer op) State → Marks → Marks
+marks_by n l Leave (Ran left s) m = after_leave n left m
+marks_by n l Commit (Ran ended s) m = after_write (at_point l) (progress_of ended) m
+marks_by n l Commit (Stops s) m = after_write (at_point l) Failed m
+marks_by n l op d m = m
+
+module _ (sizes : Super) where
+  -- a hart's program makes its next operation
+  abbrev pub marks_asked : ℕ → ℕ → Outside → State → P (block_calls sizes).M Reply → Marks → Marks
+  marks_asked n h x s (Ret reply) m = m
+  marks_asked n h x s (Do op mark k) m = marks_by n s.log op (exec h x op s) m
+
+  -- of a hart with a call, unless the device has failed before
+  abbrev pub marks_unless : ℕ → ℕ → Outside → State → Bool → Option (Run (block_calls sizes)) → Marks → Marks
+  marks_unless n h x s true r m = m
+  marks_unless n h x s false None m = m
+  marks_unless n h x s false (Some r) m = marks_asked n h x s r.prog m
+
+  abbrev pub marks_next : Event Call Outside → StateOf (block_calls sizes) → Marks → Marks
+  marks_next (Start h call) s m = m
+  marks_next (Step h x) s m = marks_unless s.now h x s.world.real.state s.stopped (s.running h) m
+
+  abbrev pub marks_after : List (Event Call Outside) → StateOf (block_calls sizes) → Marks → Marks
+  marks_after [] s m = m
+  marks_after (e ∷ es) s m = marks_after es (next (block_calls sizes) e s) (marks_next e s m)
