@@ -89,11 +89,11 @@ module _ (disk : List (List ℕ)) (failures : ℕ) (mountable : IsMountable disk
         let more = book_more N is_moving Ok apart base well OkAt starts e s shown list f.sound honest.0 (clean_before N is_moving es t after honest.1 clean) (next_now (sizes disk failures mountable) e s) ok.0 b in
         let same = next_same disk failures mountable e s m f honest.0 in
         let quiet : t.stopped ≡ false → joined (log_at (sizes disk failures mountable) t).members ≡ 0 → Image (list ++ more.news) (seen_of itself (log_in (log_at (sizes disk failures mountable) t))) =
-            (λ runs none. (
-              (N.tree t.world).tree,
-              leads N is_moving Ok apart base well t (shown ++ shown_by e (makes L e s).came ∷ []) (list ++ more.news) more.book,
-              λ d long so. (quiet_stored disk failures mountable t after runs same.0 same.1 none d long so).1,
-            )) in
+        (λ runs none. (
+          (N.tree t.world).tree,
+          leads N is_moving Ok apart base well t (shown ++ shown_by e (makes L e s).came ∷ []) (list ++ more.news) more.book,
+          λ d long so. (quiet_stored disk failures mountable t after runs same.0 same.1 none d long so).1,
+        )) in
         let f' = followed_on (sizes disk failures mountable) (length disk) Image respects e s list more.news m f honest.0 more.now (next_now (sizes disk failures mountable) e s) quiet in
         let r = follow es t (shown ++ shown_by e (makes L e s).came ∷ []) (list ++ more.news) (marks_next (sizes disk failures mountable) e s m) more.book f' honest.1 clean ok.1 in
         record {
@@ -113,7 +113,7 @@ module _ (disk : List (List ℕ)) (failures : ℕ) (mountable : IsMountable disk
         let s : State L = first_state disk failures mountable in
         let book = first_book N is_moving Ok apart base well (first disk failures) from.tree from.idle in
         let start : Image [] (seen_of itself (log_in (log_at (sizes disk failures mountable) s))) =
-            ((N.tree (first disk failures)).tree, leads N is_moving Ok apart base well s [] [] book, λ d long so. (first_image disk failures mountable d long so).1) in
+        ((N.tree (first disk failures)).tree, leads N is_moving Ok apart base well s [] [] book, λ d long so. (first_image disk failures mountable d long so).1) in
         let a = follow events s [] [] no_marks book (first_followed disk failures mountable Image respects start) r.honest r.clean ok in
         let f = a.followed in
         let stored = f.kept.stored in

@@ -71,9 +71,10 @@ module _ (sizes : Super) (n : ℕ) (Image : List Placed → Blocks → Type 0)
           (kept_plain itself event_of sizes Image respects s.now list news (log_in (log_at sizes s)) (log_in (log_at sizes t)) m f.kept now f.doubtful p.0, λ j d. let a = f.doubtful j d in omega (arith, a))
       | inr rest ↦ elim rest [
         | inl p ↦ (let none = f.kept.certain p.2 in
-            subst (λ (z : Marks). KeptAt (s.now + 1) z) (sym (is ∙ p.3))
-            (kept_leave itself event_of sizes Image respects s.now list news (log_in (log_at sizes s)) (log_in (log_at sizes t)) m f.kept now f.doubtful p.0 p.1 none (λ begins. quiet p.4 (p.1.alone begins)),
-            λ j d. absurd (cc (sym d ∙ none_left s.now p.0 m none))))
+            subst (λ (z : Marks). KeptAt (s.now + 1) z) (sym (is ∙ p.3)) (
+              kept_leave itself event_of sizes Image respects s.now list news (log_in (log_at sizes s)) (log_in (log_at sizes t)) m f.kept now f.doubtful p.0 p.1 none (λ begins. quiet p.4 (p.1.alone begins)),
+              λ j d. absurd (cc (sym d ∙ none_left s.now p.0 m none)),
+            ))
         | inr p ↦ (let none = f.kept.certain p.2 in
             subst (λ (z : Marks). KeptAt (s.now + 1) z) (sym (is ∙ p.3))
             (kept_write itself event_of sizes Image respects s.now list news (log_in (log_at sizes s)) (log_in (log_at sizes t)) m f.kept now f.doubtful p.0 p.1 none, doubt_written (at_point (log_at sizes s)) p.0 none))

@@ -182,14 +182,16 @@ module _ (n h : ℕ) (s : State) (m : Marks) (whole : IsWholeLog s.log) where
         → After (λ (t : State). (k : ℕ) → IsOutsideLog l.sizes k → seen_of t.log k ≡ seen_of l k) (in_log s (commit_if x l b)) → Goes (in_log s (commit_if x l b)) (marks_by n l Commit (in_log s (commit_if x l b)) m)
     commit_goes x honest true see = (refl, inl (same_move l, refl))
     commit_goes Passes honest false see = (length-set l.contents (write_to l.sizes l.group l.phase) (write_of (seen_in l.contents l.seats) l.group l.phase), inr (inr (progress_of ended, wrote after_log ended refl refl refl see, running, refl)))
-    commit_goes (Fails after) honest false see =
-        (elim honest [ inl is ↦ ap length is | inr is ↦ ap length is ∙ length-set l.contents (write_to l.sizes l.group l.phase) (write_of (seen_in l.contents l.seats) l.group l.phase) ], inr (inr (
-          Failed,
-          commit_move itself (log_in l) (log_in (halted after)) Failed refl begun tt tt tt refl
-              (failed_recovered l.contents after l.seats (halted after).seats l.sizes l.group l.group l.members l.phase whole.log begun refl honest see) see,
-          running,
-          refl,
-        )))
+    commit_goes (Fails after) honest false see = (
+      elim honest [ inl is ↦ ap length is | inr is ↦ ap length is ∙ length-set l.contents (write_to l.sizes l.group l.phase) (write_of (seen_in l.contents l.seats) l.group l.phase) ],
+      inr (inr (
+        Failed,
+        commit_move itself (log_in l) (log_in (halted after)) Failed refl begun tt tt tt refl
+            (failed_recovered l.contents after l.seats (halted after).seats l.sizes l.group l.group l.members l.phase whole.log begun refl honest see) see,
+        running,
+        refl,
+      )),
+    )
 
 put_long : (h b : ℕ) (change : Option (List ℕ)) (l : LogPart) → length (put_block h b change l).contents ≡ length l.contents
 put_long h b None l = refl

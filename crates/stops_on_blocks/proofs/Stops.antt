@@ -128,7 +128,7 @@ module _ (disk : List (List ℕ)) (failures : ℕ) (mountable : IsMountable disk
   follow (e ∷ es) s m f honest =
       let after : Sound T (next T e s) = sound_run T (e ∷ []) s f.sound (honest.0, tt) in
       let quiet : (next T e s).stopped ≡ false → joined (log (next T e s)).members ≡ 0 → AnyImage [] (seen_of itself (log_in (log (next T e s)))) =
-          (λ runs none d long so. (quiet_stored (next T e s) after runs (next_same e s m f honest.0).0 (next_same e s m f honest.0).1 none d long so).0) in
+      (λ runs none d long so. (quiet_stored (next T e s) after runs (next_same e s m f honest.0).0 (next_same e s m f honest.0).1 none d long so).0) in
       follow es (next T e s) (marks_next sizes e s m)
       (followed_on sizes (length disk) AnyImage (λ list a b agree. stored_respects (λ d. IsWellFormed d) a b agree) e s [] [] m f honest.0 tt (next_now sizes e s) quiet) honest.1
 
