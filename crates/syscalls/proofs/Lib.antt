@@ -14,3 +14,4 @@ mod Lowers
 mod Unlinks
 mod Raising
 mod Lendings
+mod Linkings

@@ -82,11 +82,11 @@ more_dots (x ∷ y ∷ []) one two = absurd (two refl)
 more_dots (x ∷ y ∷ z ∷ more) one two = sym (by_more (nat_eq x 46) (nat_eq y 46))
 
 -- what is known of a result, without its state
-is_sight : (path : List ℕ) (hart : ℕ) (s : State) (r : Seen) → IsSeen path hart s r → IsSight r
-is_sight path hart s (seen.Name l) known = known.1.there
+is_sight : (path : List ℕ) (hart : ℕ) (s : State) (r : Seen) → IsSeen path hart s r → IsSight path r
+is_sight path hart s (seen.Name l) known = (known.0, known.1.there, known.1.live)
 is_sight path hart s (seen.Dots held list) known = tt
 is_sight path hart s (seen.Dead held list) known = tt
 is_sight path hart s (seen.Lost why list) known = tt
 
-pub sight_left : (path : List ℕ) (hart : ℕ) (s : State) (stepped : Stepped Seek Seen Kind) → Left (SeekFits path hart s) (IsSeen path hart s) stepped → Left (λ _. Unit {0}) IsSight stepped
-sight_left path hart s stepped left = left_map (SeekFits path hart s) (λ _. Unit {0}) (IsSeen path hart s) IsSight (λ m f. tt) (λ r f. is_sight path hart s r f) stepped left
+pub sight_left : (path : List ℕ) (hart : ℕ) (s : State) (stepped : Stepped Seek Seen Kind) → Left (SeekFits path hart s) (IsSeen path hart s) stepped → Left (λ _. Unit {0}) (IsSight path) stepped
+sight_left path hart s stepped left = left_map (SeekFits path hart s) (λ _. Unit {0}) (IsSeen path hart s) (IsSight path) (λ m f. tt) (λ r f. is_sight path hart s r f) stepped left

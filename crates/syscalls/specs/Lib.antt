@@ -14,6 +14,7 @@ pub mod Writing
 pub mod Seeking
 pub mod Making
 pub mod Unlinking
+pub mod Links
 pub mod Creating
 pub mod Mkdirs
 pub mod Inheriting

@@ -106,12 +106,12 @@ IsSeen path hart s (seen.Dots held list) = IsHeld hart held s
 IsSeen path hart s (seen.Dead held list) = IsHeld hart held s
 IsSeen path hart s (seen.Lost why list) = Unit {0}
 
--- the same without the state: a parent that was found is loaded
-abbrev pub IsSight : Seen → Type 0
-IsSight (seen.Name l) = IsSome l.parent.inode.value.content
-IsSight (seen.Dots held list) = Unit {0}
-IsSight (seen.Dead held list) = Unit {0}
-IsSight (seen.Lost why list) = Unit {0}
+-- the same without the state: the name stands in the path, and its parent is loaded and has a link
+abbrev pub IsSight : List ℕ → Seen → Type 0
+IsSight path (seen.Name l) = IsElement path l.element × IsSome l.parent.inode.value.content × IsTrue (is_live_directory (record_in l.parent.inode))
+IsSight path (seen.Dots held list) = Unit {0}
+IsSight path (seen.Dead held list) = Unit {0}
+IsSight path (seen.Lost why list) = Unit {0}
 
 -- a search that is done
 abbrev pub seen_of : ℕ → Element → List ℕ → Searched → Seen

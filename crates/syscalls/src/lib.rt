@@ -4,6 +4,7 @@
 //! under way takes no memory, and is handed back in its reply.
 #![tactic(auto)]
 
+mod add_name;
 mod chdir;
 mod close;
 mod dup;
@@ -11,6 +12,7 @@ mod fstat;
 mod give;
 mod inherit;
 mod install;
+mod link;
 mod lower;
 mod make;
 mod mkdir;
@@ -28,6 +30,7 @@ mod take;
 mod unlink;
 mod write;
 
+pub use crate::add_name::{AddName, Linking};
 pub use crate::chdir::Chdir;
 pub use crate::close::Close;
 pub use crate::dup::Dup;
@@ -35,6 +38,7 @@ pub use crate::fstat::Fstat;
 pub use crate::give::GiveUp;
 pub use crate::inherit::{Inherit, Lending};
 pub use crate::install::{Install, Opening, ToOpen};
+pub use crate::link::Link;
 pub use crate::lower::Lower;
 pub use crate::make::{Make, Making, Named, Sort};
 pub use crate::mkdir::Mkdir;

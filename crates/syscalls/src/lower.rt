@@ -166,7 +166,7 @@ fn store(ending: &Ending, held: &Held) -> StoreInode
 
 // Goes on with what was named.
 #[tactic(auto, unfolding(crate::specs::Unlinking::lower_of, crate::specs::Unlinking::LowerFits))]
-fn to_child(ending: Ending, txn: Txn, child: Held) -> Lower
+pub(crate) fn to_child(ending: Ending, txn: Txn, child: Held) -> Lower
     requires early { IsEarly ending.sizes.inodestart }
     requires there { IsSome child.inode.value.content }
     ensures program { lower_of result ≡ lower_child ending (inode_in child) }

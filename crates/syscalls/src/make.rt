@@ -38,6 +38,9 @@ use inode_table::{Made, NewInode, StoreInode};
 use plain_tree::Full;
 use sleep_lock::Guard;
 
+// An inode has at most so many links.
+pub(crate) const MOST_LINKS: i16 = i16::MAX;
+
 // "." and "..".
 const DOTS_LEN: usize = 2 * DIRENT_LEN;
 

@@ -23,7 +23,7 @@ ghost use Rattle.syscalls.specs.declared.seek.Dots.TheVariants as dots;
 ghost use Rattle.syscalls.specs.declared.mkdir.Mkdir.TheVariants as mkdir;
 
 use crate::give::GiveUp;
-use crate::make::{Make, Named, Sort, store, with_links};
+use crate::make::{MOST_LINKS, Make, Named, Sort, store, with_links};
 use crate::on_path::{OnPath, ending, stopped};
 use crate::quit::Quit;
 use crate::replies::count_of;
@@ -40,9 +40,6 @@ use inode_data::{Begun, record};
 use inode_table::StoreInode;
 use path_walk::{Element, Stop};
 use plain_tree::{Answer, Bytes, Call, Cause, Reply};
-
-// An inode has at most so many links.
-const MOST_LINKS: i16 = i16::MAX;
 
 /// A mkdir under way.
 pub enum Mkdir {
@@ -204,7 +201,7 @@ fn lost(on: OnPath, txn: Txn, list: Listed, why: Stop) -> Mkdir
 #[tactic(auto, unfolding(crate::specs::Mkdirs::mkdir_of, crate::specs::Mkdirs::MkdirFits))]
 fn sees(on: OnPath, txn: Txn, seen: Seen) -> Mkdir
     requires on { IsNaming on }
-    requires there { IsSight seen }
+    requires there { IsSight on.path seen }
     ensures program { mkdir_of result ≡ mkdir_seen on.sizes on.path (seen_as on.path seen) }
     ensures fits { (hart : ℕ) (s : State) → txn ≡ hart → IsSeen on.path hart s seen → MkdirFits hart s result }
 {
@@ -259,7 +256,7 @@ fn looked_up(on: OnPath, txn: Txn, last: LastName) -> Mkdir
 #[tactic(auto, unfolding(crate::specs::Mkdirs::mkdir_of, crate::specs::Mkdirs::MkdirFits))]
 fn seeking(on: OnPath, txn: Txn, stepped: Stepped<Seek, Seen, Kind>) -> Stepped<Mkdir, Reply, Kind>
     requires on { IsNaming on }
-    requires there { LeftOf (λ _. Unit {0}) IsSight stepped }
+    requires there { LeftOf (λ _. Unit {0}) (IsSight on.path) stepped }
     ensures follows { Follows (seek_of on.path) (seen_as on.path) mkdir_of (λ reply. reply) (mkdir_seen on.sizes on.path) stepped result }
     ensures fits { (hart : ℕ) (s : State) → txn ≡ hart → LeftOf (SeekFits on.path hart s) (IsSeen on.path hart s) stepped → LeftOf (MkdirFits hart s) (λ _. Unit {0}) result }
 {

@@ -73,7 +73,7 @@ impl Seek {
         requires nonzero { All (λ b. b ≢ 0) path.now }
         ensures program { begun_of (seek_of path.now) (seen_as path.now) result ≡ seek dots inodestart path.now list }
         ensures fits { (hart : ℕ) (s : State) → length list + length (elements path.now) ≤ listed_places → IfBegun (SeekFits path.now hart s) (IsSeen path.now hart s) result }
-        ensures there { IfBegun (λ _. Unit {0}) IsSight result }
+        ensures there { IfBegun (λ _. Unit {0}) (IsSight path.now) result }
     {
         match next_element(path, 0) {
             None => Begun::Is(Seen::Lost(Stop::NotThere, list)),

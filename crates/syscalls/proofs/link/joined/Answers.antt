@@ -1,0 +1,17 @@
+use Rattle.std.proofs.Common.{◌≤◌, ℕ, sym, subst}
+use Rattle.path_walk.specs.Elements.{most_elements}
+use Rattle.syscalls.specs.Links.{LinkFits}
+use Rattle.syscalls.proofs.Linkings.{few_at_first}
+use Rattle.syscalls.proofs.Taken.{room_at_first}
+use Rattle.syscalls.proofs.link.joined.Goals as goal
+
+pub returns-clause-fits : goal.returns-clause-fits
+unfolding LinkFits
+returns-clause-fits c hart s txn =
+    let path = c.args.l.old in
+    let list = c.new.result in (
+      c.requires,
+      txn,
+      subst (λ (k : ℕ). k ≤ most_elements) (sym (c.new-reach.ensures.most path)) (few_at_first path list c.requires.old_short c.new.ensures),
+      c.new-reach.ensures.fits path hart s (room_at_first path list c.requires.old_short c.new.ensures),
+    )
