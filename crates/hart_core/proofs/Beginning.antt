@@ -117,6 +117,8 @@ use Rattle.inode_table.specs.NewMachines.{new_of}
 use Rattle.directory.specs.Entering.{enter_of}
 use Rattle.syscalls.specs.Making.{make_of}
 use Rattle.syscalls.specs.Creating.{open_new_of, OpenNewFits}
+use Rattle.syscalls.specs.Inheriting.{inherit_of, InheritFits}
+use Rattle.syscalls.specs.Links.{add_of, link_of, AddFits, LinkFits}
 use Rattle.syscalls.specs.Mkdirs.{mkdir_of, MkdirFits}
 use Rattle.plain_tree.specs.Tree.{Name}
 use Rattle.inode_table.specs.declared.new_inode.NewInode.{NewInode}
@@ -127,6 +129,12 @@ use Rattle.syscalls.specs.declared.make.Make.{Make}
 use Rattle.syscalls.specs.declared.make.Make.TheVariants as making
 use Rattle.syscalls.specs.declared.open_new.OpenNew.{OpenNew}
 use Rattle.syscalls.specs.declared.open_new.OpenNew.TheVariants as creating
+use Rattle.syscalls.specs.declared.add_name.AddName.{AddName}
+use Rattle.syscalls.specs.declared.add_name.AddName.TheVariants as adding
+use Rattle.syscalls.specs.declared.inherit.Inherit.{Inherit}
+use Rattle.syscalls.specs.declared.inherit.Inherit.TheVariants as inheriting
+use Rattle.syscalls.specs.declared.link.Link.{Link}
+use Rattle.syscalls.specs.declared.link.Link.TheVariants as linking
 use Rattle.syscalls.specs.declared.mkdir.Mkdir.{Mkdir}
 use Rattle.syscalls.specs.declared.mkdir.Mkdir.TheVariants as mkdir
 use Rattle.syscalls.specs.declared.running.Running.{Running}
@@ -462,10 +470,38 @@ has_mkdir h s (mkdir.Raising on txn list parent child m) fits = first (store_of 
 has_mkdir h s (mkdir.Leaving on txn list child m) fits = first (give_of m) _ (has_give m)
 has_mkdir h s (mkdir.Ends m) fits = has_quit h s m fits
 
+has_add : (h : ℕ) (s : State) (m : AddName) → AddFits h s m → HasOne (add_of m)
+unfolding add_of AddFits
+has_add h s (adding.Seeking l txn n m) fits = first (seek_of l.new m) _ (has_seek l.new m)
+has_add h s (adding.Entering l txn list n parent m) fits = first (enter_of m) _ (has_enter m)
+has_add h s (adding.Leaving l txn list n why m) fits = first (give_of m) _ (has_give m)
+has_add h s (adding.Taking e txn m) fits = first (take_of m) _ (has_take m)
+has_add h s (adding.Lowering m) fits = has_lower h s m fits
+has_add h s (adding.Ends m) fits = has_quit h s m fits
+
+has_link : (h : ℕ) (s : State) (m : Link) → LinkFits h s m → HasOne (link_of m)
+unfolding link_of LinkFits
+has_link h s (linking.Join l) fits = tt
+has_link h s (linking.Reaching l txn m) fits = first (reach_of l.old m) _ (has_reach l.old m)
+has_link h s (linking.Raising l txn list held m) fits = first (store_of m) _ (has_store m)
+has_link h s (linking.Unlock l txn list held) fits = tt
+has_link h s (linking.Naming m) fits = has_add h s m fits
+has_link h s (linking.Ends m) fits = has_quit h s m fits
+
+has_inherit : (h : ℕ) (s : State) (m : Inherit) → InheritFits h s m → HasOne (inherit_of m)
+unfolding inherit_of InheritFits
+has_inherit h s (inheriting.Lend l) fits = tt
+has_inherit h s (inheriting.Directory sizes child) fits = tt
+has_inherit h s (inheriting.Join sizes child old) fits = tt
+has_inherit h s (inheriting.Dropping child txn m) fits = first (drop_of m) _ (has_drop m)
+has_inherit h s (inheriting.Finishing child m) fits = first (finish_of m) _ (has_finish h m fits)
+has_inherit h s (inheriting.Say reply) fits = tt
+
 pub has_running : (h : ℕ) (s : State) (m : Running) → RunningFits h s m → HasOne (running_of m)
 unfolding running_of RunningFits
 has_running h s (running.Open m) fits = has_open h s m fits
 has_running h s (running.Create m) fits = has_create h s m fits
+has_running h s (running.Link m) fits = has_link h s m fits
 has_running h s (running.Mkdir m) fits = has_mkdir h s m fits
 has_running h s (running.Chdir m) fits = has_chdir h s m fits
 has_running h s (running.Dup m) fits = has_dup m
@@ -474,3 +510,4 @@ has_running h s (running.Fstat m) fits = has_fstat m
 has_running h s (running.Read m) fits = has_read_call m
 has_running h s (running.Write m) fits = has_write_call h s m fits
 has_running h s (running.Unlink m) fits = has_unlink h s m fits
+has_running h s (running.Inherit m) fits = has_inherit h s m fits

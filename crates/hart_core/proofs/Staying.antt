@@ -97,6 +97,8 @@ use Rattle.inode_table.specs.NewMachines.{NewFits}
 use Rattle.directory.specs.Entering.{EnterFits}
 use Rattle.syscalls.specs.Making.{IsMaking, MakeFits}
 use Rattle.syscalls.specs.Creating.{OpenNewFits}
+use Rattle.syscalls.specs.Inheriting.{InheritFits}
+use Rattle.syscalls.specs.Links.{AddFits, LinkFits}
 use Rattle.syscalls.specs.Mkdirs.{MkdirFits}
 use Rattle.syscalls.specs.declared.make.Making.{Making}
 use Rattle.inode_table.specs.declared.new_inode.NewInode.{NewInode}
@@ -107,6 +109,12 @@ use Rattle.syscalls.specs.declared.make.Make.{Make}
 use Rattle.syscalls.specs.declared.make.Make.TheVariants as making
 use Rattle.syscalls.specs.declared.open_new.OpenNew.{OpenNew}
 use Rattle.syscalls.specs.declared.open_new.OpenNew.TheVariants as creating
+use Rattle.syscalls.specs.declared.add_name.AddName.{AddName}
+use Rattle.syscalls.specs.declared.add_name.AddName.TheVariants as adding
+use Rattle.syscalls.specs.declared.inherit.Inherit.{Inherit}
+use Rattle.syscalls.specs.declared.inherit.Inherit.TheVariants as inheriting
+use Rattle.syscalls.specs.declared.link.Link.{Link}
+use Rattle.syscalls.specs.declared.link.Link.TheVariants as linking
 use Rattle.syscalls.specs.declared.mkdir.Mkdir.{Mkdir}
 use Rattle.syscalls.specs.declared.mkdir.Mkdir.TheVariants as mkdir
 use Rattle.syscalls.specs.declared.running.Running.{Running}
@@ -412,10 +420,38 @@ module _ (h g : ℕ) (s t : State) (other : h ≢ g) (leaves : LeavesTied g s t)
   mkdirs (mkdir.Leaving on txn list child m) fits = (fits.0, fits.1, is_held child fits.2, gives m fits.3, fits.4)
   mkdirs (mkdir.Ends m) fits = quits m fits
 
+  adds : (m : AddName) → AddFits h s m → AddFits h t m
+  unfolding AddFits
+  adds (adding.Seeking l txn n m) fits = (fits.0, fits.1, seeks l.new m fits.2)
+  adds (adding.Entering l txn list n parent m) fits = (fits.0, fits.1, own_inode parent _ fits.2, enters m fits.3)
+  adds (adding.Leaving l txn list n why m) fits = (fits.0, fits.1, gives m fits.2)
+  adds (adding.Taking e txn m) fits = (fits.0, fits.1, takes m fits.2)
+  adds (adding.Lowering m) fits = lowers m fits
+  adds (adding.Ends m) fits = quits m fits
+
+  links : (m : Link) → LinkFits h s m → LinkFits h t m
+  unfolding LinkFits
+  links (linking.Join l) fits = fits
+  links (linking.Reaching l txn m) fits = (fits.0, fits.1, fits.2, reaches l.old m fits.3)
+  links (linking.Raising l txn list held m) fits = (fits.0, fits.1, fits.2, is_held held fits.3, store m fits.4)
+  links (linking.Unlock l txn list held) fits = (fits.0, fits.1, fits.2, is_held held fits.3)
+  links (linking.Naming m) fits = adds m fits
+  links (linking.Ends m) fits = quits m fits
+
+  inherits : (m : Inherit) → InheritFits h s m → InheritFits h t m
+  unfolding InheritFits
+  inherits (inheriting.Lend l) fits = fits
+  inherits (inheriting.Directory sizes child) fits = fits
+  inherits (inheriting.Join sizes child old) fits = fits
+  inherits (inheriting.Dropping child txn m) fits = (fits.0, drops m fits.1)
+  inherits (inheriting.Finishing child m) fits = fits
+  inherits (inheriting.Say reply) fits = fits
+
   pub stays : (m : Running) → RunningFits h s m → RunningFits h t m
   unfolding RunningFits
   stays (running.Open m) fits = opens m fits
   stays (running.Create m) fits = creates m fits
+  stays (running.Link m) fits = links m fits
   stays (running.Mkdir m) fits = mkdirs m fits
   stays (running.Chdir m) fits = chdirs m fits
   stays (running.Dup m) fits = fits
@@ -424,3 +460,4 @@ module _ (h g : ℕ) (s t : State) (other : h ≢ g) (leaves : LeavesTied g s t)
   stays (running.Read m) fits = read_calls m fits
   stays (running.Write m) fits = write_calls m fits
   stays (running.Unlink m) fits = unlinks m fits
+  stays (running.Inherit m) fits = inherits m fits

@@ -28,6 +28,8 @@ use Rattle.syscalls.specs.Replies.{failed, full, done}
 use Rattle.syscalls.specs.Programs.{say, dup_program, leave_closed, drop_closed, close_program, stat_reply, stat_on, give_read, read_on}
 use Rattle.syscalls.specs.Opens.{open_old_of, OpenOldFits}
 use Rattle.syscalls.specs.Creating.{open_new_of, OpenNewFits}
+use Rattle.syscalls.specs.Inheriting.{inherit_of, InheritFits}
+use Rattle.syscalls.specs.Links.{link_of, LinkFits}
 use Rattle.syscalls.specs.Mkdirs.{mkdir_of, MkdirFits}
 use Rattle.syscalls.specs.Chdirs.{chdir_of, ChdirFits}
 use Rattle.syscalls.specs.Writing.{write_call_of, WriteCallFits}
@@ -109,6 +111,7 @@ ReadCallFits hart s (read.Say reply) = Unit {0}
 unfoldable pub running_of : Running → P Reply
 running_of (running.Open m) = open_old_of m
 running_of (running.Create m) = open_new_of m
+running_of (running.Link m) = link_of m
 running_of (running.Mkdir m) = mkdir_of m
 running_of (running.Chdir m) = chdir_of m
 running_of (running.Dup m) = dup_of m
@@ -117,10 +120,12 @@ running_of (running.Fstat m) = fstat_of m
 running_of (running.Read m) = read_call_of m
 running_of (running.Write m) = write_call_of m
 running_of (running.Unlink m) = unlink_of m
+running_of (running.Inherit m) = inherit_of m
 
 unfoldable pub RunningFits : ℕ → State → Running → Type 0
 RunningFits hart s (running.Open m) = OpenOldFits hart s m
 RunningFits hart s (running.Create m) = OpenNewFits hart s m
+RunningFits hart s (running.Link m) = LinkFits hart s m
 RunningFits hart s (running.Mkdir m) = MkdirFits hart s m
 RunningFits hart s (running.Chdir m) = ChdirFits hart s m
 RunningFits hart s (running.Dup m) = Unit {0}
@@ -129,3 +134,4 @@ RunningFits hart s (running.Fstat m) = FstatFits hart s m
 RunningFits hart s (running.Read m) = ReadCallFits hart s m
 RunningFits hart s (running.Write m) = WriteCallFits hart s m
 RunningFits hart s (running.Unlink m) = UnlinkFits hart s m
+RunningFits hart s (running.Inherit m) = InheritFits hart s m

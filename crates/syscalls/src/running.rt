@@ -12,6 +12,8 @@ use crate::chdir::Chdir;
 use crate::close::Close;
 use crate::dup::Dup;
 use crate::fstat::Fstat;
+use crate::inherit::Inherit;
+use crate::link::Link;
 use crate::mkdir::Mkdir;
 use crate::open_new::OpenNew;
 use crate::open_old::OpenOld;
@@ -30,6 +32,7 @@ pub enum Running {
     Open(OpenOld),
     /// An open with CREATE.
     Create(OpenNew),
+    Link(Link),
     Mkdir(Mkdir),
     Chdir(Chdir),
     Dup(Dup),
@@ -38,6 +41,7 @@ pub enum Running {
     Read(Read),
     Write(Write),
     Unlink(Unlink),
+    Inherit(Inherit),
 }
 
 impl Running {
@@ -57,6 +61,7 @@ impl Running {
         match self {
             Running::Open(m) => in_open(m.step(hart, core)),
             Running::Create(m) => in_create(m.step(hart, core)),
+            Running::Link(m) => in_link(m.step(hart, core)),
             Running::Mkdir(m) => in_mkdir(m.step(hart, core)),
             Running::Chdir(m) => in_chdir(m.step(hart, core)),
             Running::Dup(m) => in_dup(m.step(hart, core)),
@@ -65,6 +70,7 @@ impl Running {
             Running::Read(m) => in_read(m.step(hart, core)),
             Running::Write(m) => in_write(m.step(hart, core)),
             Running::Unlink(m) => in_unlink(m.step(hart, core)),
+            Running::Inherit(m) => in_inherit(m.step(hart, core)),
         }
     }
 
@@ -73,6 +79,7 @@ impl Running {
         match self {
             Running::Open(m) => m.retire(retired),
             Running::Create(m) => m.retire(retired),
+            Running::Link(m) => m.retire(retired),
             Running::Mkdir(m) => m.retire(retired),
             Running::Chdir(m) => m.retire(retired),
             Running::Dup(m) => m.retire(retired),
@@ -81,6 +88,7 @@ impl Running {
             Running::Read(m) => m.retire(retired),
             Running::Write(m) => m.retire(retired),
             Running::Unlink(m) => m.retire(retired),
+            Running::Inherit(m) => m.retire(retired),
         }
     }
 }
@@ -104,6 +112,17 @@ fn in_create(stepped: Stepped<OpenNew, Reply, Kind>) -> Stepped<Running, Reply, 
         Stepped::Ran(m, kind) => Stepped::Ran(Running::Create(m), kind),
         Stepped::Done(reply, kind) => Stepped::Done(reply, kind),
         Stepped::Stopped(m) => Stepped::Stopped(Running::Create(m)),
+    }
+}
+
+fn in_link(stepped: Stepped<Link, Reply, Kind>) -> Stepped<Running, Reply, Kind>
+    ensures { result ≡ ends_within (λ m. running.Link m) (λ reply. reply) stepped }
+{
+    match stepped {
+        Stepped::Waits(m) => Stepped::Waits(Running::Link(m)),
+        Stepped::Ran(m, kind) => Stepped::Ran(Running::Link(m), kind),
+        Stepped::Done(reply, kind) => Stepped::Done(reply, kind),
+        Stepped::Stopped(m) => Stepped::Stopped(Running::Link(m)),
     }
 }
 
@@ -192,5 +211,16 @@ fn in_unlink(stepped: Stepped<Unlink, Reply, Kind>) -> Stepped<Running, Reply, K
         Stepped::Ran(m, kind) => Stepped::Ran(Running::Unlink(m), kind),
         Stepped::Done(reply, kind) => Stepped::Done(reply, kind),
         Stepped::Stopped(m) => Stepped::Stopped(Running::Unlink(m)),
+    }
+}
+
+fn in_inherit(stepped: Stepped<Inherit, Reply, Kind>) -> Stepped<Running, Reply, Kind>
+    ensures { result ≡ ends_within (λ m. running.Inherit m) (λ reply. reply) stepped }
+{
+    match stepped {
+        Stepped::Waits(m) => Stepped::Waits(Running::Inherit(m)),
+        Stepped::Ran(m, kind) => Stepped::Ran(Running::Inherit(m), kind),
+        Stepped::Done(reply, kind) => Stepped::Done(reply, kind),
+        Stepped::Stopped(m) => Stepped::Stopped(Running::Inherit(m)),
     }
 }
