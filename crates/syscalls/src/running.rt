@@ -44,6 +44,11 @@ pub enum Running {
     Inherit(Inherit),
 }
 
+// Beside the bytes of its call and the blocks of the buffers that it holds, a call under way takes at most so many bytes.
+const MOST_BYTES: usize = 4096;
+
+const _: () = prove!(size_of::<Running>() <= MOST_BYTES);
+
 impl Running {
     /// One operation.
     #[tactic(auto, unfolding(crate::specs::Machines::running_of, crate::specs::Machines::RunningFits))]
