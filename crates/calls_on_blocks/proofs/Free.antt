@@ -9,8 +9,9 @@ use Rattle.atomic_programs.specs.Lifting.{IfRan}
 use Rattle.inode_machine.specs.Inodes.{Looking, Sort}
 use Rattle.inode_machine.specs.World as above
 use Rattle.inode_machine.specs.World.{Desk, Entry}
-use Rattle.inode_machine.specs.World.Op.{Take, Give, UpStart, Up, WalkDown, Down, Free, Forget, Store, Clear, Empty, Slot, Install, StatFile, LockFile, ReadFile, CheckFile, JoinFile, LockOpen, Double, Shut, Settle, Join, Leave, Say}
-use Rattle.inode_machine.specs.Exec.{exec, slot_at, entry_of, double_at, double_if, close_at, close_if, lock_if, lock_at, stat_at, unlocked, start_if, start_number, has_place, up_if, is_last, walk_down_if, down_if, slot_if, first_from, file_count, is_empty_slot, install_if, read_refused, write_refused, read_at, with_offset, join_at}
+use Rattle.inode_machine.specs.World.Outside.{Room, RoomFor, Picks}
+use Rattle.inode_machine.specs.World.Op.{Take, Give, UpStart, Up, WalkDown, Down, Free, Forget, Store, Fill, Enter, Clear, Empty, Slot, Install, StatFile, LockFile, ReadFile, CheckFile, JoinFile, LockOpen, Double, Shut, Settle, Join, Leave, Say}
+use Rattle.inode_machine.specs.Exec.{exec, slot_at, entry_of, double_at, double_if, close_at, close_if, lock_if, lock_at, stat_at, unlocked, start_if, start_number, has_place, up_if, is_last, walk_down_if, down_if, slot_if, first_from, file_count, is_empty_slot, install_if, read_refused, write_refused, read_at, with_offset, join_at, enter_if, is_full_directory}
 use Rattle.plain_tree.specs.Steps.{has_room}
 use Rattle.inode_machine.specs.Marks.{go, with_mark}
 use Rattle.inode_machine.specs.Rules.{Own}
@@ -96,6 +97,20 @@ free_free n h g x v free = free
 
 pub store_free : (n count : ℕ) → LeavesFree (Store n count)
 store_free n count h g x v free = free
+
+pub fill_free : (n d : ℕ) → LeavesFree (Fill n d)
+fill_free n d h g Room v free = free
+fill_free n d h g (RoomFor k) v free = free
+fill_free n d h g (Picks k) v free = free
+
+pub enter_free : (d : ℕ) (e : Name) (n : ℕ) → LeavesFree (Enter d e n)
+enter_free d e n h g x v free = by (is_full_directory (v.disk d)) x
+  where
+    by : (full : Bool) (x : above.Outside) → IfRan (IsFree g) (enter_if d e n v x full)
+    by true x = free
+    by false Room = free
+    by false (RoomFor k) = free
+    by false (Picks k) = free
 
 pub clear_free : (n : ℕ) (e : Name) → LeavesFree (Clear n e)
 clear_free n e h g x v free = free

@@ -5,6 +5,7 @@ pub mod Lawful
 pub mod Faces
 pub mod Pieces
 pub mod Searches
+pub mod EntryPieces
 pub mod WalkBridge
 pub mod EndBridge
 pub mod DupBridge

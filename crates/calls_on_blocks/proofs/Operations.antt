@@ -14,7 +14,7 @@ use Rattle.inode_machine.specs.Rules as rules
 use Rattle.inode_machine.specs.Rules.{machine}
 use Rattle.inode_machine.specs.World as above
 use Rattle.inode_machine.specs.World.{Joining, Locking}
-use Rattle.inode_machine.specs.World.Op.{Take, Give, UpStart, Up, WalkDown, Down, Free, Forget, Store, Clear, Empty, Slot, Install, StatFile, LockFile, ReadFile, LockOpen, CheckFile, JoinFile, Double, Shut, Settle, Join, Leave, Say}
+use Rattle.inode_machine.specs.World.Op.{Take, Give, UpStart, Up, WalkDown, Down, Free, Forget, Store, Fill, Enter, Clear, Empty, Slot, Install, StatFile, LockFile, ReadFile, LockOpen, CheckFile, JoinFile, Double, Shut, Settle, Join, Leave, Say}
 use Rattle.inode_machine.proofs.Calls.{laws}
 use Rattle.inodes_on_blocks.specs.Acting.{ActsOnceAt}
 use Rattle.inodes_on_blocks.specs.Lowering.{Labels, Keeps, below}
@@ -25,6 +25,7 @@ use Rattle.inodes_on_blocks.proofs.ForgetSteps.{forget_acts}
 use Rattle.inodes_on_blocks.proofs.JoinFileSteps.{join_file_acts}
 use Rattle.inodes_on_blocks.proofs.JoinSteps.{join_acts}
 use Rattle.inodes_on_blocks.proofs.LeaveSteps.{leave_acts}
+use Rattle.inodes_on_blocks.proofs.NamingWithins.{enter_within, fill_within}
 use Rattle.inodes_on_blocks.proofs.LockSteps.{file_acts, open_acts}
 use Rattle.inodes_on_blocks.proofs.ReadSteps.{read_acts}
 use Rattle.inodes_on_blocks.proofs.SlotSteps.{slot_acts, install_acts, double_acts, close_acts, check_acts, say_acts}
@@ -105,6 +106,12 @@ module _ (sizes : Super) (h : ℕ) where
 
     pub stores : (n count : ℕ) (m : Unit {0} → Option above.Mark) → Within (Store n count) m
     stores n count m = recorded (Store n count) m (free.store_free n count) (store_within sizes history laws keeps h lt n count m)
+
+    pub fills : (n d : ℕ) (m : Bool → Option above.Mark) → Within (Fill n d) m
+    fills n d m = recorded (Fill n d) m (free.fill_free n d) (fill_within sizes history laws keeps h lt n d m)
+
+    pub enters : (d : ℕ) (e : Name) (n : ℕ) (m : above.Entered → Option above.Mark) → Within (Enter d e n) m
+    enters d e n m = recorded (Enter d e n) m (free.enter_free d e n) (enter_within sizes history laws keeps h lt d e n m)
 
     pub clears : (n : ℕ) (e : Name) (m : Unit {0} → Option above.Mark) → Within (Clear n e) m
     clears n e m = recorded (Clear n e) m (free.clear_free n e) (clear_within sizes history laws keeps h lt n e m)

@@ -1,5 +1,5 @@
 -- Each operation on whole inodes as its program below, on a disk of these sizes.
-use Rattle.std.specs.Prelude.{ℕ, false, Option}
+use Rattle.std.specs.Prelude.{Option}
 use Rattle.fs_layout.specs.declared.superblock.Super.{Super}
 use Rattle.plain_tree.specs.declared.answer.Cause.TheVariants.{BadDescriptor}
 use Rattle.atomic_programs.specs.Prog.{Ret}
@@ -7,6 +7,7 @@ use Rattle.atomic_programs.specs.Joined.{Handed}
 use Rattle.inode_machine.specs.World as above
 use Rattle.inode_machine.specs.World.Op.{Take, Give, UpStart, Up, WalkDown, Down, Free, Forget, Claim, Store, Fill, Enter, Clear, Empty, Slot, Install, StatFile, LockFile, ReadFile, CheckFile, JoinFile, LockOpen, WriteFile, Double, Shut, Settle, Lend, LendDirectory, Release, Join, Leave, Say}
 use Rattle.inodes_on_blocks.specs.Emptying.{empty, free}
+use Rattle.inodes_on_blocks.specs.Entering.{enter, fill}
 use Rattle.inodes_on_blocks.specs.Files.{lock_file, lock_open, read_file}
 use Rattle.inodes_on_blocks.specs.Handlers as one
 use Rattle.inodes_on_blocks.specs.Handlers.{P}
@@ -30,8 +31,8 @@ handlers sizes c (Free n) m = free sizes n c m
 handlers sizes c (Forget n) m = one.forget n c m
 handlers sizes c (Claim sort) m = nothing_done c above.NoInode
 handlers sizes c (Store n count) m = store sizes n count c m
-handlers sizes c (Fill n d) m = nothing_done c false
-handlers sizes c (Enter d e n) m = nothing_done c above.NoBlock
+handlers sizes c (Fill n d) m = fill sizes n d c m
+handlers sizes c (Enter d e n) m = enter sizes d e n c m
 handlers sizes c (Clear d e) m = clear sizes d e c m
 handlers sizes c (Empty n) m = empty sizes n c m
 handlers sizes c Slot m = one.slot c m
