@@ -5,3 +5,5 @@ pub mod Mounted
 pub mod Refusals
 pub mod Worlds
 pub mod Resting
+pub mod Calming
+pub mod Histories

@@ -11,7 +11,7 @@ use Rattle.image_tree.specs.Damage.{IsWellFormed}
 use Rattle.atomic_programs.specs.Calls.{fresh as fresh_state}
 use Rattle.atomic_programs.specs.Joined.{Both}
 use Rattle.atomic_programs.specs.Machines.{program_at}
-use Rattle.atomic_programs.specs.Plain.{SoundPlain}
+use Rattle.atomic_programs.specs.Plain.{SoundPlain, erase}
 use Rattle.atomic_programs.proofs.Reached.{sound_fresh}
 use Rattle.file_table.specs.Machines.{IsEarly}
 use Rattle.fs_machine.specs.LogPart.{part_of}
@@ -45,7 +45,7 @@ module _ {D : Type 0} (contents : D → List (List ℕ)) (failures : D → ℕ) 
   abbrev count : ℕ
   count = failures w.core.log.cache.device
 
-  mountable : IsMountable disk
+  pub mountable : IsMountable disk
   mountable = record {
     whole = rests.whole;
     bytes = rests.bytes;
@@ -70,13 +70,16 @@ module _ {D : Type 0} (contents : D → List (List ℕ)) (failures : D → ℕ) 
   none_runs h = sym (ap (λ (calls : List (Option Running)). program_at running_of (get_or calls h None)) rests.idle ∙ ap (program_at running_of) (nones 8 h))
 
   -- nothing has happened in it
+  pub rests_erased : erase (block_calls (sizes_of disk)) (block_code (sizes_of disk)) (fresh_state (block_calls (sizes_of disk)) first) ≡ calls_of contents failures (sizes_of disk) w
+  rests_erased = λ i. record { shared = record { log = log_same i; tables = sym rests.tables i }; stopped = sym rests.runs i; running = λ h. none_runs h i }
+
   pub rests_first : (s : Super) → s ≡ sizes_of disk → SoundPlain (block_calls s) (block_code s) (calls_of contents failures s w)
   rests_first s e =
       subst (λ (z : Super). SoundPlain (block_calls z) (block_code z) (calls_of contents failures z w)) (sym e)
       (record {
         state = fresh_state (block_calls (sizes_of disk)) first;
         sound = sound_fresh (block_calls (sizes_of disk)) first (shows.shows, shows.inv) (λ h. ((shows.stands h, refl), shows.idle h));
-        is = λ i. record { shared = record { log = log_same i; tables = sym rests.tables i }; stopped = sym rests.runs i; running = λ h. none_runs h i };
+        is = rests_erased;
       })
 
   pub world_mounted : (s : Super) → s ≡ sizes_of (contents device) → IsWorld contents failures s w

@@ -4,3 +4,4 @@ pub mod Mounting
 pub mod Starts
 pub mod Worlds
 pub mod Events
+pub mod Runs

@@ -27,6 +27,12 @@ pub enum Came {
     Stepped(Outcome),
 }
 
+/// A world after a list of events, and what each of them came to, in their order.
+pub struct Run<D: Device> {
+    pub world: World<D>,
+    pub outcomes: Vec<Came>,
+}
+
 impl<D: Device> World<D> {
     /// One event. It takes no memory, and makes at most one call of the device.
     pub fn event(&mut self, event: Event) -> Came

@@ -10,10 +10,14 @@ mod events;
 mod harts;
 mod mount;
 mod outcome;
+mod runs;
 mod starts;
+mod traces;
 mod world;
 
-pub use crate::events::{Came, Event};
+pub use crate::events::{Came, Event, Run};
 pub use crate::outcome::{Outcome, Stop};
+pub use crate::runs::run;
 pub use crate::starts::{StartRefused, find_fault};
+pub use crate::traces::trace;
 pub use crate::world::World;

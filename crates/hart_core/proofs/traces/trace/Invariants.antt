@@ -1,0 +1,6 @@
+use Rattle.std.proofs.Common.{◌≡◌, take}
+use Rattle.hart_core.specs.Runs.{trace_in}
+use Rattle.hart_core.proofs.traces.trace.Given as goal
+
+abbrev pub invariant-loop-place : goal.invariant-loop-place
+invariant-loop-place l = trace_in (take l.place l.events) (take l.place l.outcomes) ≡ record { calls = l.calls.items; events = l.place }

@@ -1,0 +1,66 @@
+// Lists of events.
+ghost use Rattle.std.specs.Prelude.{◌≡◌, ◌≤◌, IfOk, IfErr, length, []};
+ghost use Rattle.std.specs.Vec.{vec_capacity};
+ghost use Rattle.hart_core.specs.Runs.{HasHistory, OneHistory};
+
+use crate::events::{Came, Event, Run};
+use crate::world::World;
+use block_device::Device;
+use plain_tree::NoMemory;
+use std::alloc::{AllocError, Global};
+
+// A copy of each event.
+fn copies(alloc: Global, events: &[Event]) -> Result<Vec<Event>, AllocError>
+    ensures { IfOk result (λ v. v.items ≡ events.now) }
+{
+    let mut copies = Vec::new(alloc);
+    copies.extend_with_clones(events)?;
+    Ok(copies)
+}
+
+// These events, one after the other. It takes no memory.
+fn run_all<D: Device>(world: World<D>, events: Vec<Event>, room: Vec<Came>) -> Run<D>
+    requires empty { room.items ≡ [] }
+    requires room { length events.items ≤ vec_capacity room }
+    ensures history { HasHistory D.contents D.failures world.sizes world.harts events.items result.outcomes.items result.world.harts }
+    ensures each { length result.outcomes.items ≡ length events.items }
+    ensures sizes { result.world.sizes ≡ world.sizes }
+{
+    let mut world = world;
+    let mut outcomes = room;
+    for event in events {
+        let came = world.event(event);
+        match outcomes.push(came) {
+            Ok(()) => {}
+            Err(_) => unreachable!(),
+        }
+    }
+    Run { world, outcomes }
+}
+
+/// These events, one after the other, and what each came to. It copies all calls and takes room for all outcomes first; where memory
+/// is short for that, the world is handed back as it was.
+///
+/// Each event makes of the world what `World::event` says: so the run has a history, of what the device answered in each step. Where
+/// the world was mounted, and no step found no room, also of a call that hasn't replied yet, one list of tree steps explains the
+/// trace of these events and outcomes, from the image's tree: as long as no path of a call that was started has the element "..",
+/// and where one hart alone has started calls for any paths.
+pub fn run<D: Device>(
+    alloc: Global,
+    world: World<D>,
+    events: &[Event],
+) -> Result<Run<D>, (World<D>, NoMemory)>
+    ensures history { IfOk result (λ r. HasHistory D.contents D.failures world.sizes world.harts events.now r.outcomes.items r.world.harts) }
+    ensures explained { IfOk result (λ r. OneHistory D.contents D.failures world events.now r.outcomes.items r.world.harts) }
+    ensures each { IfOk result (λ r. length r.outcomes.items ≡ length events.now) }
+    ensures sizes { IfOk result (λ r. r.world.sizes ≡ world.sizes) }
+    ensures err { IfErr result (λ e. e.0 ≡ world) }
+{
+    let Ok(copies) = copies(alloc, events) else {
+        return Err((world, NoMemory));
+    };
+    match Vec::with_capacity(alloc, copies.len()) {
+        Ok(room) => Ok(run_all(world, copies, room)),
+        Err(AllocError) => Err((world, NoMemory)),
+    }
+}

@@ -1,0 +1,105 @@
+// What a list of events shows of calls.
+ghost use Rattle.std.specs.Prelude.{◌≡◌, ◌∷◌, ◌++◌, [], None, IfOk, OnOk, map};
+ghost use Rattle.plain_tree.specs.Explains.{ends_at, noted};
+ghost use Rattle.hart_core.specs.Runs.{shown, shown_outcome, trace_in};
+
+use crate::events::{Came, Event};
+use crate::outcome::Outcome;
+use plain_tree::{Call, Calls, NoMemory, Reply, Trace, TracedCall};
+use std::alloc::{AllocError, Global};
+
+// The hart's call that isn't finished ends with this reply.
+fn finish(call: &mut TracedCall, hart: u8, reply: &Reply, now: u64) -> Result<(), AllocError>
+    ensures { OnOk result (call.new ≡ ends_at hart reply.now now call.old) }
+{
+    if call.hart == hart && call.finished.is_none() {
+        let reply = Reply {
+            answer: reply.answer,
+            call: reply.call.clone()?,
+        };
+        call.finished = Some((now, reply));
+    }
+    Ok(())
+}
+
+fn finish_all(
+    calls: &mut Vec<TracedCall>,
+    hart: u8,
+    reply: &Reply,
+    now: u64,
+) -> Result<(), AllocError>
+    ensures { OnOk result (calls.new.items ≡ map (ends_at hart reply.now now) calls.old.items) }
+{
+    for place in 0..calls.len() {
+        finish(&mut calls[place], hart, reply, now)?;
+    }
+    Ok(())
+}
+
+// A call that the hart has started.
+fn begin(calls: &mut Vec<TracedCall>, hart: u8, call: &Call, now: u64) -> Result<(), NoMemory>
+    ensures { OnOk result (calls.new.items ≡ calls.old.items ++ record { hart = hart; start = now; call = call.now; finished = None } ∷ []) }
+{
+    let call = call.clone()?;
+    calls.push(TracedCall {
+        hart,
+        start: now,
+        call,
+        finished: None,
+    })?;
+    Ok(())
+}
+
+// What a step of the hart that came to this shows of the calls.
+fn note_step(
+    calls: &mut Vec<TracedCall>,
+    hart: u8,
+    outcome: &Outcome,
+    now: u64,
+) -> Result<(), NoMemory>
+    ensures { OnOk result (calls.new.items ≡ (noted (record { calls = calls.old.items; events = now }) (shown_outcome hart outcome.now)).calls) }
+{
+    match outcome {
+        Outcome::Done(reply) => finish_all(calls, hart, reply, now)?,
+        Outcome::Idle => {}
+        Outcome::Waits => {}
+        Outcome::Ran(_) => {}
+        Outcome::Stopped(_) => {}
+    }
+    Ok(())
+}
+
+// What an event with its outcome shows of the calls.
+fn note(calls: &mut Vec<TracedCall>, event: &Event, came: &Came, now: u64) -> Result<(), NoMemory>
+    ensures { OnOk result (calls.new.items ≡ (noted (record { calls = calls.old.items; events = now }) (shown event.now came.now)).calls) }
+{
+    match event {
+        Event::Start { hart, call } => match came {
+            Came::Started => begin(calls, *hart, call, now),
+            Came::Refused(_) => Ok(()),
+            Came::Stepped(_) => Ok(()),
+        },
+        Event::Step { hart } => match came {
+            Came::Stepped(outcome) => note_step(calls, *hart, outcome, now),
+            Came::Started => Ok(()),
+            Came::Refused(_) => Ok(()),
+        },
+    }
+}
+
+/// What a run of these events with these outcomes showed of calls: for each accepted start its hart, number and call, and once the
+/// call was finished the number of the event that gave its reply, and the reply. Refused starts are no calls. Of lists of different
+/// lengths it is the trace of so many events as the shorter one has.
+pub fn trace(alloc: Global, events: &[Event], outcomes: &[Came]) -> Result<Trace, NoMemory>
+    ensures { IfOk result (λ t. t ≡ trace_in events.now outcomes.now) }
+{
+    let length = events.len().min(outcomes.len());
+    let mut calls = Vec::new(alloc);
+    for place in 0..length {
+        note(&mut calls, &events[place], &outcomes[place], place as u64)?;
+    }
+    Ok(Trace {
+        calls: Calls::new(calls),
+        events: length as u64,
+    })
+}
