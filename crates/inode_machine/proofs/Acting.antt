@@ -24,7 +24,7 @@ use Rattle.inode_machine.specs.Inodes.{sort_of}
 use Rattle.inode_machine.specs.Exec.{with_walk}
 use Rattle.inode_machine.specs.Marks.{Made, acts, act_entered, act_left, found_by, look_made, looked, made_by, new_id, with_made}
 use Rattle.inode_machine.specs.Rules.{own_names, Stands, shop_of, Found, Pinned, Reached, IsAlone, Inv, machine}
-use Rattle.inode_machine.proofs.Frame.{ours_some, Kin, Did, Ours, Fair, two_refs, refers_on}
+use Rattle.inode_machine.proofs.Frame.{ours_some, Kin, Did, Ours, Fair, two_refs, refers_on, type_on}
 use Rattle.inode_machine.proofs.Freeing.{lone_file}
 use Rattle.inode_machine.proofs.Walking.{refs_walk, moves_good}
 
@@ -68,7 +68,7 @@ acts_did h v all p alone next D c lt inv none fits =
       raised = λ q. fits.joined;
       quiet = λ j is f. absurd (let e = fits.joined in cc (e, f));
       sort = fits.sort;
-      sorts = λ k e is. elim (fits.sort e.file.number) [ inl q ↦ q ∙ inv.sorts k e is | inr q ↦ absurd (lone_file h e.file.number k e v inv lt q.1 q.0 is refl) ];
+      sorts = λ k e is. elim (fits.sort e.file.number) [ inl q ↦ type_on v.all.nodes all.nodes e q (inv.sorts k e is) | inr q ↦ absurd (lone_file h e.file.number k e v inv lt q.1 q.0 is refl) ];
       noted = λ m is r s. fits.noted m is (elim r [
         | inl a ↦ inl (let e = refs_walk v.harts h None p h m.number in omega (arith, e, a))
         | inr a ↦ inr (sym (ap (λ (z : Mine). z.pending) (put_same v.harts h new)) ∙ a)

@@ -11,7 +11,7 @@ use Rattle.tree_laws.proofs.Sums.{one_yes}
 use Rattle.inode_machine.specs.World.{Mine, Entry, Desk, World}
 use Rattle.inode_machine.specs.Exec.{child_of, given_of}
 use Rattle.inode_machine.specs.Inodes.{OfDirectory, sort_of}
-use Rattle.inode_machine.specs.Rules.{Own, Held, Rests, Idle, Others, Stands, Tied, own_names, own_of, Found, Pinned, Reached, reference_limit, References, IsAlone, Has, Lends, Inv, left_or}
+use Rattle.inode_machine.specs.Rules.{Own, Held, Rests, Idle, Others, Stands, Tied, own_names, own_of, Found, Pinned, Reached, reference_limit, References, IsAlone, Has, Lends, Inv, left_or, HasType}
 use Rattle.inode_machine.proofs.Rules.{FairTo}
 use Rattle.inode_machine.proofs.Frame.{has_none, resting_names}
 use Rattle.inode_machine.proofs.Counting.{one_most}
@@ -33,9 +33,9 @@ pub record Serves (h c : ℕ) (v : World) (F : ℕ → Option Entry) (D : ℕ �
   pub others : (g : ℕ) → g ≢ h → g ≢ c → H g ≡ v.harts g
   pub fds : (g : ℕ) → g ≢ c → X g ≡ v.all.fds g
   pub cwd : (g : ℕ) → g ≢ c → C g ≡ v.all.cwd g
-  pub numbers : (k : ℕ) (e : Entry) → v.files k ≡ Some e → (f : Entry) × (F k ≡ Some f) × (f.file ≡ e.file)
+  pub numbers : (k : ℕ) (e : Entry) → v.files k ≡ Some e → (f : Entry) × (F k ≡ Some f) × (f.sort ≡ e.sort) × (f.file ≡ e.file)
   pub tied : Tied (record { files = F; desks = D; ids = v.ids; slots = v.slots; clean = v.clean; tree_fds = X; tree_files = v.all.files })
-  pub sorts : (k : ℕ) (e : Entry) → F k ≡ Some e → sort_of (v.all.nodes e.file.number) ≡ Some e.sort
+  pub sorts : (k : ℕ) (e : Entry) → F k ≡ Some e → HasType v.all.nodes e
   pub well : IsWellFormed (record (v.all) { fds = X; cwd = C })
   pub counts : (i : ℕ) → R i ≡ v.slots i + sum_below hart_count (λ g. (H g).refs i)
   pub lone : (i : ℕ) (a : IsAlone v.keeper v.all.nodes v.refs v.harts i) → R i ≡ (H a.hart).refs i
@@ -90,7 +90,7 @@ module _ (h c : ℕ) (v : World) (F : ℕ → Option Entry) (D : ℕ → Desk) (
   }
 
   pinned : (g i : ℕ) → g ≢ h → g ≢ c → Pinned v.desks v.files v.harts g i → Pinned D F H g i
-  pinned g i nh nc (inl o) = let n = s.numbers o.slot o.entry o.at in inl (record { fd = o.fd; below = o.below; slot = o.slot; is = ap (λ (d : Desk). d.fds o.fd) (s.desks g nh nc) ∙ o.is; entry = n.0; at = n.1; number = ap (λ (z : OpenFile). z.number) n.2 ∙ o.number })
+  pinned g i nh nc (inl o) = let n = s.numbers o.slot o.entry o.at in inl (record { fd = o.fd; below = o.below; slot = o.slot; is = ap (λ (d : Desk). d.fds o.fd) (s.desks g nh nc) ∙ o.is; entry = n.0; at = n.1; number = ap (λ (z : OpenFile). z.number) n.3 ∙ o.number })
   pinned g i nh nc (inr p) = inr (let e = ap (λ (m : Mine). m.refs i) (s.others g nh nc) in omega (arith, e, p))
 
   reached : (g i : ℕ) → g ≢ h → g ≢ c → Reached v g i → Reached u g i
@@ -212,7 +212,7 @@ module _ (h c : ℕ) (v : World) (F : ℕ → Option Entry) (D : ℕ → Desk) (
     inv = both_inv;
     kept = λ g ne. elim (same_or g c) [
       | inl e ↦ subst (λ (z : ℕ). Others z v [] u) (sym e) (record { none = refl; same = λ free. absurd (let a = (inv.serves h c s.hart s.child).1 in cc (a, free)); opens = λ free. absurd (let a = (inv.serves h c s.hart s.child).1 in cc (a, free)); rests = λ i. s.rests; clean = λ q. q })
-      | inr nc ↦ record { none = refl; same = λ free. others_same g ne nc; opens = λ free i k e below li is at keeps. s.numbers k e at; rests = λ i. subst (λ (o : Own). Rests o) (sym (others_same g ne nc)) i; clean = λ q. q }
+      | inr nc ↦ record { none = refl; same = λ free. others_same g ne nc; opens = λ free i k e below li is at. let n = s.numbers k e at in (n.0, n.1, n.2, (λ keeps. n.3)); rests = λ i. subst (λ (o : Own). Rests o) (sym (others_same g ne nc)) i; clean = λ q. q }
     ];
     clean = λ q. q;
   }

@@ -44,7 +44,7 @@ use Rattle.inode_machine.proofs.Drops.{s-drop}
 pub laws : Laws machine
 laws =
     record {
-      same = λ h w. record { none = refl; same = λ f. refl; opens = λ f i k e below li is at keeps. (e, at, refl); rests = λ i. i; clean = λ c. c };
+      same = λ h w. record { none = refl; same = λ f. refl; opens = λ f i k e below li is at. (e, at, refl, (λ keeps. refl)); rests = λ i. i; clean = λ c. c };
       trans = λ h u v w xs ys o p. record {
         none = (λ i. o.none i ++ p.none i);
         same = λ f. p.same (ap (λ (z : Own). z.desk.lender) (o.same f) ∙ f) ∙ o.same f;
@@ -203,7 +203,7 @@ right kind h call busy w u idle free begins first runs =
     record {
       inv = λ i. subst Inv is i;
       halted = λ i. subst Inv is i;
-      kept = λ other ne b. subst (λ (x : World). Others other w [] x) is (record { none = refl; same = λ f. refl; opens = λ f i k e below li is at keeps. (e, at, refl); rests = λ i. i; clean = λ c. c });
+      kept = λ other ne b. subst (λ (x : World). Others other w [] x) is (record { none = refl; same = λ f. refl; opens = λ f i k e below li is at. (e, at, refl, (λ keeps. refl)); rests = λ i. i; clean = λ c. c });
       rests = λ other ne b. subst (λ (x : World). Idle other x) is (idle other b);
       tree = ap stage_of (sym is);
       clean = λ c. ap (λ (x : World). x.clean) is ∙ c;

@@ -21,15 +21,14 @@ use Rattle.inode_machine.specs.Exec.{is_at, file_count, with_refs, with_walk, sl
 use Rattle.inode_machine.specs.World.{Mine, Entry, Desk, World, stage_of}
 use Rattle.inode_machine.specs.Marks.{places, with_mark, made_by, new_id}
 use Rattle.inode_machine.specs.World.Op.{Shut}
-use Rattle.inode_machine.specs.Rules.{Own, shop_of, number_is, users, own_names, own_of, IsAlone, Inv, machine, nothing, reference_limit}
+use Rattle.inode_machine.specs.Rules.{Own, shop_of, number_is, users, own_names, own_of, IsAlone, Inv, machine, nothing, reference_limit, HasType}
 use Rattle.inode_machine.proofs.Frame.{bond_of, put_elim, stands_on, Fair, fair, has_none, one_refs}
 use Rattle.inode_machine.proofs.Rules.{s-owned, my_refs, each_refs, here_refs, walks_refs, total_same, total_changed, opens_slots, locks_none}
 use Rattle.inode_machine.proofs.Rows.{below_is}
 use Rattle.inode_machine.proofs.Walking.{refs_walk, stage_walk, moves_good}
 use Rattle.inode_machine.proofs.Tables.{with_fd, users_put, users_fd, Changes, changes, changed_shop, tied_closed, kept_open}
 use Rattle.inode_machine.proofs.Shops.{sells_did, own_takes, names_less}
-use Rattle.inode_machine.proofs.Dups.{Behind, behind, behind_none, Refused, fails, refused_good, renewed, renewed_slots, renewed_at, SameRow, SameDesk, less_is, not_one, renewed_sorts, same_desk}
-use Rattle.inode_machine.specs.Inodes.{sort_of}
+use Rattle.inode_machine.proofs.Dups.{Behind, behind, behind_none, Refused, fails, refused_good, renewed, renewed_slots, renewed_at, renewed_same, SameRow, SameDesk, less_is, not_one, renewed_sorts, same_desk}
 use Rattle.inode_machine.specs.Parts.{own_step}
 
 -- The tree without the descriptor.
@@ -132,7 +131,8 @@ pub record Closing (h fd : ℕ) (v : World) (F : ℕ → Option Entry) (S : ℕ 
   pub few : (j : ℕ) → (H h).refs j ≤ reference_limit
   pub counts : (j : ℕ) → v.refs j ≡ S j + sum_below hart_count (λ g. (H g).refs j)
   pub lone : (i : ℕ) (a : IsAlone v.keeper v.all.nodes v.refs v.harts i) → v.refs i ≡ (H a.hart).refs i
-  pub sorts : (k : ℕ) (x : Entry) → F k ≡ Some x → sort_of (v.all.nodes x.file.number) ≡ Some x.sort
+  pub sorts : (k : ℕ) (x : Entry) → F k ≡ Some x → HasType v.all.nodes x
+  pub types : (k : ℕ) (d x : Entry) → v.files k ≡ Some d → F k ≡ Some x → x.sort ≡ d.sort
   pub found : (H h).pending ≡ None
   pub walk : (H h).walk ≡ None
   pub walks : ◌≡◌ {A = ℕ → Option Walk} (λ g. (H g).walk) (put (λ g. (v.harts g).walk) h None)
@@ -159,7 +159,7 @@ shuts h fd s e v O F S H inv ov free lt walk still idle empty unnoted hit c = re
       numbers = λ g i j d lg ne li q a.
           let x = c.changes.used j d a (users_fd D g i j lg li (ap (λ (z : Desk). z.fds i) (put_other v.desks h new g ne) ∙ q)) in
           let y = c.changes.keep j x.0 x.1 in
-          (x.0, x.1, inl (y.2 ∙ (let r : Some y.0 ≡ Some d = sym y.1 ∙ a in let t : y.0 ≡ d = cc in ap (λ (z : Entry). z.file) t)));
+          (x.0, x.1, c.types j d x.0 a x.1, inl (y.2 ∙ (let r : Some y.0 ≡ Some d = sym y.1 ∙ a in let t : y.0 ≡ d = cc in ap (λ (z : Entry). z.file) t)));
       clean = λ q. q;
       bond = ap (λ (z : Desk). bond_of z) desk_is;
       stays = inl (ap (λ (z : Desk). z.directory) desk_is);
@@ -245,7 +245,8 @@ closing_less h fd s e v inv lt idle unlent hit many = record {
     slots = λ j. inv.tied.slots j ∙ sym (renewed_slots v.files s e f j hit.at refl);
     lent = λ k q. absurd (let a = ap (λ (g : ℕ → Option ℕ). g fd) unlent in cc (a, q));
   };
-  sorts = λ k x q. renewed_sorts v s e f inv hit.at refl refl k x q;
+  sorts = λ k x q. renewed_sorts v s e f inv hit.at refl refl refl k x q;
+  types = λ k d x p q. let z = renewed_same v.files s e f k d hit.at refl refl p in let a : Some z.0 ≡ Some x = sym z.1 ∙ q in let b : z.0 ≡ x = cc in ap (λ (y : Entry). y.sort) (sym b) ∙ z.2;
   others = λ g ne. put_other v.harts h new g ne;
   refs = λ j. let r = refs_walk v.harts h None None h j in omega (arith, r);
   few = λ j. let r = refs_walk v.harts h None None h j in let a = (inv.refers h lt).few j in omega (arith, r, a);
@@ -288,7 +289,8 @@ closing_last h fd s e v inv lt idle unlent hit one room = record {
     slots = λ j. slots j;
     lent = λ k q. absurd (let a = ap (λ (g : ℕ → Option ℕ). g fd) unlent in cc (a, q));
   };
-  sorts = λ k x q. put_elim v.files s None k (λ z. z ≡ Some x → sort_of (v.all.nodes x.file.number) ≡ Some x.sort) (λ e p. absurd cc) (λ ne p. inv.sorts k x p) q;
+  sorts = λ k x q. put_elim v.files s None k (λ z. z ≡ Some x → HasType v.all.nodes x) (λ e p. absurd cc) (λ ne p. inv.sorts k x p) q;
+  types = λ k d x p q. put_elim v.files s None k (λ z. z ≡ Some x → x.sort ≡ d.sort) (λ e r. absurd cc) (λ ne r. let a : Some x ≡ Some d = sym r ∙ p in let b : x ≡ d = cc in ap (λ (y : Entry). y.sort) b) q;
   others = λ g ne. put_other W h new g ne ∙ put_other v.harts h mid g ne;
   refs = λ j. let r = refs_walk W h None None h j in elim (same_or j n) [
     | inl q ↦ (let a = subst (λ (z : ℕ). (W h).refs z ≡ (v.harts h).refs z + 1) (sym q) (here_refs v.harts h n ((v.harts h).refs n + 1)) in omega (arith, r, a))

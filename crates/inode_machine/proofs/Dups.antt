@@ -25,9 +25,9 @@ use Rattle.inode_machine.specs.Marks.{places, with_mark, with_made, made_by, fou
 use Rattle.inode_machine.specs.World.{Mine, Entry, Desk, World, Note}
 use Rattle.inode_machine.specs.Descriptors.{dups}
 use Rattle.inode_machine.specs.World.Op.{Double, Join, Leave, Say}
-use Rattle.inode_machine.specs.Rules.{Own, shop_of, Shop, Tied, id_at, number_is, users, own_names, own_of, Inv, machine, Held, key_in, Stands, view, Reached}
+use Rattle.inode_machine.specs.Rules.{Own, shop_of, Shop, Tied, id_at, number_is, users, own_names, own_of, Inv, machine, Held, key_in, Stands, view, Reached, HasType, KeepsFiles}
 use Rattle.inode_machine.proofs.Frame.{bond_of, put_elim, stands_on, Fair, fair, fair_same, kept_here}
-use Rattle.inode_machine.proofs.Rules.{s-owned, quiet, UnlocksAll, locks_none}
+use Rattle.inode_machine.proofs.Rules.{s-owned, quiet, UnlocksAll, locks_none, s-owned-from}
 use Rattle.inode_machine.proofs.Rows.{below_is}
 use Rattle.inode_machine.proofs.Walking.{refs_walk, walk_did, own_walk, stage_walk, moves_good}
 use Rattle.inode_machine.proofs.Tables.{with_fd, users_put, lowest_same, lowest_free, changes}
@@ -133,7 +133,7 @@ desk_changes h v O new d c ov free lt inv is same names stands home stays unlent
     rows = λ g ne. refl;
     size = refl;
     ids = inv.ids;
-    shop = record { tied = tied; desks = λ g ne. put_other v.desks h new g ne; numbers = λ g i k e lg ne li q a. (e, a, inl refl); clean = back; bond = ap (λ (z : Desk). bond_of z) here ∙ (λ z. record { child = same.lent z descriptor_count; given = same.lent z (descriptor_count + 1); lender = (unlent ∙ sym (ap (λ (o : Own). o.desk.lender) ov ∙ free)) z }); stays = elim stays [ inl q ↦ inl (ap (λ (z : Desk). z.directory) here ∙ q) | inr q ↦ inr q ] };
+    shop = record { tied = tied; desks = λ g ne. put_other v.desks h new g ne; numbers = λ g i k e lg ne li q a. (e, a, refl, inl refl); clean = back; bond = ap (λ (z : Desk). bond_of z) here ∙ (λ z. record { child = same.lent z descriptor_count; given = same.lent z (descriptor_count + 1); lender = (unlent ∙ sym (ap (λ (o : Own). o.desk.lender) ov ∙ free)) z }); stays = elim stays [ inl q ↦ inl (ap (λ (z : Desk). z.directory) here ∙ q) | inr q ↦ inr q ] };
     free = ap (λ (z : Desk). z.lender) here ∙ unlent;
     raised = λ q. ap (λ (z : Desk). z.joined) here ∙ raises q;
     quiet = λ j is f. quiet (sym (ap (λ (z : Desk). z.joined) here) ∙ f) j is;
@@ -214,32 +214,44 @@ filling h v O ov free lt inv = flagging h v O (record (v.desks h) { full = true 
     (record { fds = refl; hand = refl; lent = refl; opening = refl; left = refl; directory = refl }) (ap (λ (o : Own). o.desk.lender) ov ∙ free) (λ f j is. inv.quiet j h is f) (inv.raised h lt) (λ m q r s. inv.noted h m lt q r s) (λ q. refl) (λ q. refl) (λ q. absurd cc)
 
 -- The hart joins the transaction.
-pub s-join : {A : Type 0} {h : ℕ} {k : Unit {0} → P machine A} {B : List Step → Type 0} {Q : A → List Step → World → Type 0} {n : ℕ} {es : List Step} {w : World} {O : Own}
-    → own_of h w ≡ O → O.desk.lender ≡ None → h < hart_count → 0 < n → UnlocksAll O → O.desk.joined ≡ false → ((l : ℕ) (u : World) → l + 1 ≡ n → own_of h u ≡ record O { desk = record (O.desk) { joined = true } } → Safe machine h B Q (k tt) l es u)
+pub s-join-from : {A : Type 0} {h : ℕ} {k : Unit {0} → P machine A} {B : List Step → Type 0} {Q : A → List Step → World → Type 0} {n : ℕ} {es : List Step} {w : World} {O : Own}
+    → own_of h w ≡ O → O.desk.lender ≡ None → h < hart_count → 0 < n → UnlocksAll O → O.desk.joined ≡ false
+    → ((l : ℕ) (v u : World) → l + 1 ≡ n → KeepsFiles h w v → u.files ≡ v.files → own_of h u ≡ record O { desk = record (O.desk) { joined = true } } → Safe machine h B Q (k tt) l es u)
     → Safe machine h B Q (Do Join unmarked k) n es w
-s-join {h = h} {O = O} owns free lt pos none out rest = s-owned owns free pos (λ v inv ov. (
+s-join-from {h = h} {O = O} owns free lt pos none out rest = s-owned-from owns free pos (λ v inv ov keeps. (
   (locks_none h v O inv ov none, ap (λ (o : Own). o.desk.joined) ov ∙ out),
   (λ _ _.
       let new : Desk = record (v.desks h) { joined = true } in
       let f = flagging h v O new (record (O.desk) { joined = true }) v.clean ov free lt inv (ap (λ (o : Own). record (o.desk) { joined = true }) ov)
       (record { fds = refl; hand = refl; lent = refl; opening = refl; left = refl; directory = refl }) (ap (λ (o : Own). o.desk.lender) ov ∙ free) (λ f j is. absurd cc) (λ q. refl) (λ m q r s. inv.noted h m lt q r s) (λ q. inv.tied.spoiled h q) (λ q. q) (λ q. q) in
-      quiet f.fair refl pos (λ l q. (rest l (with_joined v h true) q f.owned).wp)),
+      quiet f.fair refl pos (λ l q. (rest l v (with_joined v h true) q keeps refl f.owned).wp)),
 ))
 
+pub s-join : {A : Type 0} {h : ℕ} {k : Unit {0} → P machine A} {B : List Step → Type 0} {Q : A → List Step → World → Type 0} {n : ℕ} {es : List Step} {w : World} {O : Own}
+    → own_of h w ≡ O → O.desk.lender ≡ None → h < hart_count → 0 < n → UnlocksAll O → O.desk.joined ≡ false → ((l : ℕ) (u : World) → l + 1 ≡ n → own_of h u ≡ record O { desk = record (O.desk) { joined = true } } → Safe machine h B Q (k tt) l es u)
+    → Safe machine h B Q (Do Join unmarked k) n es w
+s-join owns free lt pos none out rest = s-join-from owns free lt pos none out (λ l v u q keeps same own. rest l u q own)
+
 -- It leaves it, with every inode as its node says.
-pub s-leave : {A : Type 0} {h : ℕ} {k : Unit {0} → P machine A} {B : List Step → Type 0} {Q : A → List Step → World → Type 0} {n : ℕ} {es : List Step} {w : World} {O : Own}
+pub s-leave-from : {A : Type 0} {h : ℕ} {k : Unit {0} → P machine A} {B : List Step → Type 0} {Q : A → List Step → World → Type 0} {n : ℕ} {es : List Step} {w : World} {O : Own}
     → own_of h w ≡ O → O.desk.lender ≡ None → h < hart_count → 62 < n → UnlocksAll O → O.desk.joined ≡ true → holds_raised true O.row.hold ≡ false → ((i : ℕ) (x : Held) → O.inodes i ≡ Some x → x.disk ≡ x.node)
-    → ((l : ℕ) (u : World) → l + 63 ≡ n → own_of h u ≡ record O { desk = record (O.desk) { joined = false; noted = None } } → Safe machine h B Q (k tt) l es u)
+    → ((l : ℕ) (v u : World) → l + 63 ≡ n → KeepsFiles h w v → u.files ≡ v.files → own_of h u ≡ record O { desk = record (O.desk) { joined = false; noted = None } } → Safe machine h B Q (k tt) l es u)
     → Safe machine h B Q (Do Leave unmarked k) n es w
-s-leave {h = h} {O = O} owns free lt pos none joined low whole rest = s-owned owns free pos (λ v inv ov. (
+s-leave-from {h = h} {O = O} owns free lt pos none joined low whole rest = s-owned-from owns free pos (λ v inv ov keeps. (
   (locks_none h v O inv ov none, ap (λ (o : Own). o.desk.joined) ov ∙ joined, ap (λ (o : Own). holds_raised true o.row.hold) ov ∙ low),
   (λ _ _.
       let new : Desk = record (v.desks h) { joined = false; noted = None } in
       let f = flagging h v O new (record (O.desk) { joined = false; noted = None }) v.clean ov free lt inv (ap (λ (o : Own). record (o.desk) { joined = false; noted = None }) ov)
       (record { fds = refl; hand = refl; lent = refl; opening = refl; left = refl; directory = refl }) (ap (λ (o : Own). o.desk.lender) ov ∙ free)
       (λ f j is. whole j (view v h j) (ap (λ (o : Own). o.inodes j) (sym ov) ∙ kept_here h (v.keeper j) (view v h j) is)) (λ q. absurd (let a : holds_raised true (v.all.holds h) ≡ false = ap (λ (o : Own). holds_raised true o.row.hold) ov ∙ low in cc (a, q))) (λ m q r s. absurd cc) (λ q. inv.tied.spoiled h q) (λ q. q) (λ q. q) in
-      quiet f.fair refl pos (λ l q. (rest l (with_new v h new v.clean) q f.owned).wp)),
+      quiet f.fair refl pos (λ l q. (rest l v (with_new v h new v.clean) q keeps refl f.owned).wp)),
 ))
+
+pub s-leave : {A : Type 0} {h : ℕ} {k : Unit {0} → P machine A} {B : List Step → Type 0} {Q : A → List Step → World → Type 0} {n : ℕ} {es : List Step} {w : World} {O : Own}
+    → own_of h w ≡ O → O.desk.lender ≡ None → h < hart_count → 62 < n → UnlocksAll O → O.desk.joined ≡ true → holds_raised true O.row.hold ≡ false → ((i : ℕ) (x : Held) → O.inodes i ≡ Some x → x.disk ≡ x.node)
+    → ((l : ℕ) (u : World) → l + 63 ≡ n → own_of h u ≡ record O { desk = record (O.desk) { joined = false; noted = None } } → Safe machine h B Q (k tt) l es u)
+    → Safe machine h B Q (Do Leave unmarked k) n es w
+s-leave owns free lt pos none joined low whole rest = s-leave-from owns free lt pos none joined low whole (λ l v u q keeps same own. rest l u q own)
 
 -- The reply is given.
 pub s-say : {A : Type 0} {h : ℕ} {k : Unit {0} → P machine A} {B : List Step → Type 0} {Q : A → List Step → World → Type 0} {n : ℕ} {es : List Step} {w : World} {O : Own}
@@ -278,10 +290,13 @@ renewed_at files k e f j d at same q = elim (same_or j k) [
 ]
 
 -- and the same open file, where the change keeps it
-pub renewed_same : (files : ℕ → Option Entry) (k : ℕ) (e f : Entry) (j : ℕ) (d : Entry) → files k ≡ Some e → f.file ≡ e.file → files j ≡ Some d → (x : Entry) × (put files k (Some f) j ≡ Some x) × (x.file ≡ d.file)
-renewed_same files k e f j d at same q = elim (same_or j k) [
-  | inl t ↦ (f, ap (put files k (Some f)) t ∙ put_same files k (Some f), same ∙ (let a : Some e ≡ Some d = sym at ∙ ap files (sym t) ∙ q in let b : e ≡ d = cc in ap (λ (z : Entry). z.file) b))
-  | inr ne ↦ (d, put_other files k (Some f) j ne ∙ q, refl)
+pub renewed_same : (files : ℕ → Option Entry) (k : ℕ) (e f : Entry) (j : ℕ) (d : Entry) → files k ≡ Some e → f.file ≡ e.file → f.sort ≡ e.sort → files j ≡ Some d → (x : Entry) × (put files k (Some f) j ≡ Some x) × (x.sort ≡ d.sort) × (x.file ≡ d.file)
+renewed_same files k e f j d at same sort q = elim (same_or j k) [
+  | inl t ↦
+      let a : Some e ≡ Some d = sym at ∙ ap files (sym t) ∙ q in
+      let b : e ≡ d = cc in
+      (f, ap (put files k (Some f)) t ∙ put_same files k (Some f), sort ∙ ap (λ (z : Entry). z.sort) b, same ∙ ap (λ (z : Entry). z.file) b)
+  | inr ne ↦ (d, put_other files k (Some f) j ne ∙ q, refl, refl)
 ]
 
 -- what a hart's row keeps where a descriptor changes
@@ -318,12 +333,16 @@ same_desk h fd y v O ov = record {
     is = put_same v.desks h (record (v.desks h) { fds = put (v.desks h).fds fd y })
 
 -- an entry's type stays its inode's
-pub renewed_sorts : (v : World) (k : ℕ) (e f : Entry) → Inv v → v.files k ≡ Some e → f.file.number ≡ e.file.number → f.sort ≡ e.sort → (j : ℕ) (d : Entry) → put v.files k (Some f) j ≡ Some d → sort_of (v.all.nodes d.file.number) ≡ Some d.sort
-renewed_sorts v k e f inv at number sort j d q = elim (same_or j k) [
+pub renewed_sorts : (v : World) (k : ℕ) (e f : Entry) → Inv v → v.files k ≡ Some e → f.file.number ≡ e.file.number → f.file.writable ≡ e.file.writable → f.sort ≡ e.sort → (j : ℕ) (d : Entry) → put v.files k (Some f) j ≡ Some d → HasType v.all.nodes d
+renewed_sorts v k e f inv at number writable sort j d q = elim (same_or j k) [
   | inl t ↦
       let a : Some f ≡ Some d = sym (put_same v.files k (Some f)) ∙ ap (put v.files k (Some f)) (sym t) ∙ q in
       let b : f ≡ d = cc in
-      subst (λ (z : Entry). sort_of (v.all.nodes z.file.number) ≡ Some z.sort) b (ap (λ (n : ℕ). sort_of (v.all.nodes n)) number ∙ inv.sorts k e at ∙ ap (λ (z : Sort). Some z) (sym sort))
+      let was = inv.sorts k e at in
+      subst (λ (z : Entry). HasType v.all.nodes z) b (record {
+        sort = ap (λ (n : ℕ). sort_of (v.all.nodes n)) number ∙ was.sort ∙ ap (λ (z : Sort). Some z) (sym sort);
+        written = λ y z. was.written (sym writable ∙ y) (sym sort ∙ z);
+      })
   | inr ne ↦ inv.sorts j d (sym (put_other v.files k (Some f) j ne) ∙ q)
 ]
 
@@ -490,7 +509,7 @@ s-double {A} {h} fd {k} {B} {Q} {n} {es} {w} {O} owns free lt pos walks none idl
           kin = record {
             tied = tied;
             desks = λ g ne. put_other v.desks h (record (v.desks h) { fds = put (v.desks h).fds f (Some s) }) g ne;
-            numbers = λ g i j d lg ne li z a. let x = renewed_same v.files s e (record { file = e.file; sort = e.sort; references = e.references + 1 }) j d hit.at refl a in (x.0, x.1, inl x.2);
+            numbers = λ g i j d lg ne li z a. let x = renewed_same v.files s e (record { file = e.file; sort = e.sort; references = e.references + 1 }) j d hit.at refl refl a in (x.0, x.1, x.2, inl x.3);
             clean = λ c. c;
             bond = ap (λ (z : Desk). bond_of z) desk_is;
             stays = inl (ap (λ (z : Desk). z.directory) desk_is);
@@ -499,7 +518,7 @@ s-double {A} {h} fd {k} {B} {Q} {n} {es} {w} {O} owns free lt pos walks none idl
           unlent = (ap (λ (o : Own). o.desk.lender) ov ∙ free);
           joined = ap (λ (z : Desk). z.joined) desk_is;
           holds = refl;
-          sorts = λ k x q. renewed_sorts v s e (record { file = e.file; sort = e.sort; references = e.references + 1 }) inv hit.at refl refl k x q;
+          sorts = λ k x q. renewed_sorts v s e (record { file = e.file; sort = e.sort; references = e.references + 1 }) inv hit.at refl refl refl k x q;
           noted = λ m q. (sym (ap (λ (z : Desk). z.noted) desk_is) ∙ q, (λ p. let r = refs_walk v.harts h None None h m.number in omega (arith, r, p)));
           directory = stands_on (v.desks h) (D h) (v.all.cwd h) v.all.nodes (ap (λ (o : Own). o.desk.lender) ov ∙ free) (ap (λ (z : Desk). z.directory) desk_is) (ap (λ (z : Desk). z.left) desk_is) (inv.directory h lt);
           home = ap (λ (z : Desk). z.directory) desk_is;

@@ -1,8 +1,10 @@
 -- The descriptor of a file that an open made: where the file is to be emptied, it is empty.
-use Rattle.std.proofs.Common.{◌≡◌, ◌⊎◌, inl, inr, ℕ, ◌+◌, ◌-◌, ◌<◌, true, false, List, [], ◌∷◌, Option, Some, None, refl, sym, ◌∙◌, ap, subst}
+use Rattle.std.proofs.Common.{◌≡◌, ◌≢◌, ◌⊎◌, inl, inr, ℕ, ◌+◌, ◌-◌, ◌<◌, true, false, List, [], ◌∷◌, Option, Some, None, refl, sym, ◌∙◌, ap, subst}
 use Rattle.atomic_programs.specs.Prog.{Do, Did as Came, Ran}
 use Rattle.atomic_programs.specs.Logic.{P, own, onto, Good, Fine, Safe, Wp}
 use Rattle.plain_tree.specs.declared.node.Node.{Node}
+use Rattle.plain_tree.specs.declared.node.Kind.{Kind}
+use Rattle.plain_tree.specs.declared.node.Kind.TheVariants.{Directory, File, Device}
 use Rattle.plain_tree.specs.declared.tree.OpenFile.{OpenFile}
 use Rattle.plain_tree.specs.declared.step.Action.TheVariants.{Truncate}
 use Rattle.plain_tree.specs.declared.step.StepAnswer.TheVariants.{Done}
@@ -17,7 +19,7 @@ use Rattle.tree_moves.specs.Moves.{Stage, Step}
 use Rattle.tree_moves.specs.Moves.Move.{Own as OwnMove}
 use Rattle.inode_machine.specs.World.{Mark, World}
 use Rattle.inode_machine.specs.World.Op.{Install}
-use Rattle.inode_machine.specs.Inodes.{Sort, sort_of}
+use Rattle.inode_machine.specs.Inodes.{Sort, OfDirectory, sort_of, sort_of_kind}
 use Rattle.inode_machine.specs.Exec.{install_if, installed, with_walk}
 use Rattle.inode_machine.specs.Marks.{made_by, marked, new_id, places, with_mark}
 use Rattle.inode_machine.specs.Rules.{own_names, own_of, Own, Inv, machine}
@@ -30,6 +32,11 @@ use Rattle.inode_machine.proofs.Walking.{moves_good, own_walk, stage_walk, walk_
 use Rattle.inode_machine.proofs.Shops.{own_takes}
 use Rattle.inode_machine.proofs.Empties.{empty_step, emptied_node, trunc_effect, trunc_made, trunc_place, trunc_settled}
 use Rattle.inode_machine.proofs.Installs.{own_installed, installing, Installing}
+
+file_no_directory : (k : Kind) (s : Sort) → ◌≡◌ {A = Option Sort} (Some (sort_of_kind k)) (Some s) → is_file k ≡ true → s ≢ OfDirectory
+file_no_directory (Directory slots) s e f q = absurd cc
+file_no_directory (File bytes) s e f q = cc
+file_no_directory (Device major minor size) s e f q = absurd cc
 
 pub s-install-empty : {A : Type 0} {h : ℕ} (fd s : ℕ) (f : OpenFile) (sort : Sort) (y : Node) {m : Option ℕ → Option Mark} {k : Option ℕ → P machine A} {B : List Step → Type 0} {Q : A → List Step → World → Type 0} {n : ℕ} {es : List Step} {w : World} {O : Own}
     → own_of h w ≡ O → O.desk.lender ≡ None → h < hart_count → 0 < n → O.desk.opening ≡ Some fd → O.desk.hand ≡ Some s → has_room O.desk.fds ≡ true → lowest O.desk.fds ≡ fd → O.row.keys fd ≡ Some (key_is f) → f.offset ≡ 0 → m (Some fd) ≡ own_step (Truncate fd)
@@ -66,7 +73,7 @@ s-install-empty {A} {h} fd s f sort y {m} {k} {B} {Q} {n} {es} {w} {O} owns free
         u1 = record u { harts = with_walk u.harts h None None }
 
         c : Installing h fd s f sort O v
-        c = installing h fd s f sort (locked_held (Some y)) v O ov free lt inv opens hand keyed start walks none isi refl typed refers may
+        c = installing h fd s f sort (locked_held (Some y)) v O ov free lt inv opens hand keyed start walks none isi refl typed (λ _. file_no_directory y.kind sort typed isf) refers may
 
         at : Behind v.all h fd (key_is f)
         at = behind v.all h fd (key_is f) (ap (λ (o : Own). o.row.keys fd) ov ∙ keyed)

@@ -15,7 +15,7 @@ use Rattle.inode_machine.specs.Inodes.{sort_of}
 use Rattle.tree_moves.specs.Moves.{Walk}
 use Rattle.inode_machine.specs.World.{Mine, Entry, Note, Desk, World}
 use Rattle.inode_machine.specs.Exec.{is_at, child_of, given_of}
-use Rattle.inode_machine.specs.Rules.{key_in, Own, Rests, left_or, Stands, shop_of, Shop, Tied, own_names, Held, view, is_hart, if_kept, own_of, Found, Pinned, Reached, reference_limit, References, IsAlone, Has, KeepsFiles, Lends, Inv}
+use Rattle.inode_machine.specs.Rules.{key_in, Own, Rests, left_or, Stands, shop_of, Shop, Tied, own_names, Held, view, is_hart, if_kept, own_of, Found, Pinned, Reached, reference_limit, References, IsAlone, Has, KeepsFiles, HasType, Lends, Inv}
 
 -- Functions changed at one place, and what is kept.
 
@@ -101,15 +101,15 @@ stays_number Mine e f (inr moved) = moved.1
 pub record Kin (h : ℕ) (Mine : ℕ → Type 0) (v u : Shop) : Type 0 where
   pub tied : Tied u
   pub desks : (g : ℕ) → g ≢ h → u.desks g ≡ v.desks g
-  -- what another hart's descriptor has is as it was, or of an inode that is this hart's to change
-  pub numbers : (g i k : ℕ) (e : Entry) → g < hart_count → g ≢ h → i < descriptor_count → (v.desks g).fds i ≡ Some k → v.files k ≡ Some e → (f : Entry) × (u.files k ≡ Some f) × Stays Mine e f
+  -- what another hart's descriptor has is as it was, or of an inode that is this hart's to change; its type stays
+  pub numbers : (g i k : ℕ) (e : Entry) → g < hart_count → g ≢ h → i < descriptor_count → (v.desks g).fds i ≡ Some k → v.files k ≡ Some e → (f : Entry) × (u.files k ≡ Some f) × (f.sort ≡ e.sort) × Stays Mine e f
   pub clean : u.clean ≡ true → v.clean ≡ true
   -- it serves whom it served, and has meanwhile its directory
   pub bond : bond_of (u.desks h) ≡ bond_of (v.desks h)
   pub stays : ((u.desks h).directory ≡ (v.desks h).directory) ⊎ (child_of (v.desks h) ≡ None)
 
 pub shop_same : {Mine : ℕ → Type 0} (h : ℕ) (s : Shop) → Tied s → Kin h Mine s s
-shop_same h s tied = record { tied = tied; desks = λ g ne. refl; numbers = λ g i k e lt ne li is at. (e, at, inl refl); clean = λ c. c; bond = refl; stays = inl refl }
+shop_same h s tied = record { tied = tied; desks = λ g ne. refl; numbers = λ g i k e lt ne li is at. (e, at, refl, inl refl); clean = λ c. c; bond = refl; stays = inl refl }
 
 -- a step of hart h: of the invariant's parts only what isn't the others'
 pub record Did (h : ℕ) (v u : World) : Type 0 where
@@ -125,7 +125,7 @@ pub record Did (h : ℕ) (v u : World) : Type 0 where
   pub quiet : (j : ℕ) → u.keeper j ≡ Some h → (u.desks h).joined ≡ false → u.disk j ≡ u.all.nodes j
   -- types stay, but for what the hart keeps alone
   pub sort : (j : ℕ) → (sort_of (u.all.nodes j) ≡ sort_of (v.all.nodes j)) ⊎ ((v.keeper j ≡ Some h) × (v.alone j ≡ true))
-  pub sorts : (k : ℕ) (e : Entry) → u.files k ≡ Some e → sort_of (u.all.nodes e.file.number) ≡ Some e.sort
+  pub sorts : (k : ℕ) (e : Entry) → u.files k ≡ Some e → HasType u.all.nodes e
   pub noted : (n : Note) → (u.desks h).noted ≡ Some n → Reached u h n.number → u.alone n.number ≡ false → sort_of (u.all.nodes n.number) ≡ n.sort
   pub directory : Stands (u.desks h) (u.all.cwd h) u.all.nodes
   pub well : IsWellFormed u.all
@@ -141,7 +141,7 @@ pub record Did (h : ℕ) (v u : World) : Type 0 where
 pinned_on : (h : ℕ) (v u : World) (g i : ℕ) → Kin h (λ n. Ours h (v.keeper n)) (shop_of v) (shop_of u) → g < hart_count → g ≢ h → u.harts g ≡ v.harts g → Pinned v.desks v.files v.harts g i → Pinned u.desks u.files u.harts g i
 pinned_on h v u g i kin lt ne same (inl o) =
     let n = kin.numbers g o.fd o.slot o.entry lt ne o.below o.is o.at in
-    inl (record { fd = o.fd; below = o.below; slot = o.slot; is = ap (λ (d : Desk). d.fds o.fd) (kin.desks g ne) ∙ o.is; entry = n.0; at = n.1; number = stays_number (λ n. Ours h (v.keeper n)) o.entry n.0 n.2 ∙ o.number })
+    inl (record { fd = o.fd; below = o.below; slot = o.slot; is = ap (λ (d : Desk). d.fds o.fd) (kin.desks g ne) ∙ o.is; entry = n.0; at = n.1; number = stays_number (λ n. Ours h (v.keeper n)) o.entry n.0 n.3 ∙ o.number })
 pinned_on h v u g i kin lt ne same (inr p) = inr (let e = ap (λ (m : Mine). m.refs i) same in omega (arith, e, p))
 
 found_on : (h : ℕ) (v u : World) (g i : ℕ) → Did h v u → g ≢ h → Found v.keeper v.all.nodes g i → Found u.keeper u.all.nodes g i
@@ -205,6 +205,10 @@ stands_on d e cwd nodes free same left s = record { at = λ _. same ∙ s.at fre
 pub stands_in : (d : Desk) (cwd : ℕ) (nodes ns : ℕ → Option Node) → sort_of (ns d.directory) ≡ sort_of (nodes d.directory) → Stands d cwd nodes → Stands d cwd ns
 stands_in d cwd nodes ns same s = record { at = s.at; sort = same ∙ s.sort }
 
+-- an open file's type stays where its inode's does
+pub type_on : (nodes ns : ℕ → Option Node) (e : Entry) → sort_of (ns e.file.number) ≡ sort_of (nodes e.file.number) → HasType nodes e → HasType ns e
+type_on nodes ns e same t = record { sort = same ∙ t.sort; written = t.written }
+
 -- the same references
 pub refers_on : (m n : Mine) (d e : Desk) → ((i : ℕ) → n.refs i ≡ m.refs i) → e.directory ≡ d.directory → References m d → References n e
 refers_on m n d e same at r = record {
@@ -230,17 +234,22 @@ did_others h v u did g ne = λ i. record { inodes = λ j. inode j (did.inodes j)
 
 -- no other hart's open file moves
 pub did_opens : (h : ℕ) (v u : World) → Did h v u → (g : ℕ) → g ≢ h → KeepsFiles g v u
-did_opens h v u did g ne i k e lt below is at keeps =
+did_opens h v u did g ne i k e lt below is at =
     let n = did.shop.numbers g i k e lt ne below is at in
-    (n.0, n.1, elim n.2 [ inl same ↦ same | inr moved ↦ not_ours h g (v.keeper e.file.number) moved.0 ne keeps ])
+    (n.0, n.1, n.2, (λ keeps. elim n.3 [ inl same ↦ same | inr moved ↦ not_ours h g (v.keeper e.file.number) moved.0 ne keeps ]))
 
 -- nor by two steps
 pub files_then : (g : ℕ) (u v w : World) → own_of g v ≡ own_of g u → KeepsFiles g u v → KeepsFiles g v w → KeepsFiles g u w
-files_then g u v w same first then_ i k e lt below is at keeps =
-    let a = first i k e lt below is at keeps in
-    let kept = (kept_is g (v.keeper e.file.number) (view v g e.file.number) (view u g e.file.number) (ap (λ (o : Own). o.inodes e.file.number) same ∙ kept_here g (u.keeper e.file.number) (view u g e.file.number) keeps)).0 in
-    let b = then_ i k a.0 lt below (ap (λ (o : Own). o.desk.fds i) same ∙ is) a.1 (ap (λ (z : OpenFile). v.keeper z.number) a.2 ∙ kept) in
-    (b.0, b.1, b.2 ∙ a.2)
+files_then g u v w same first then_ i k e lt below is at =
+    let a = first i k e lt below is at in
+    let b = then_ i k a.0 lt below (ap (λ (o : Own). o.desk.fds i) same ∙ is) a.1 in (
+      b.0,
+      b.1,
+      b.2 ∙ a.2,
+      (λ keeps.
+          let kept = (kept_is g (v.keeper e.file.number) (view v g e.file.number) (view u g e.file.number) (ap (λ (o : Own). o.inodes e.file.number) same ∙ kept_here g (u.keeper e.file.number) (view u g e.file.number) keeps)).0 in
+          b.3 (ap (λ (z : OpenFile). v.keeper z.number) (a.3 keeps) ∙ kept) ∙ a.3 keeps),
+    )
 
 -- what a hart has of its lender's stays where nothing of it changes
 has_on : (a b : Option ℕ) (fds : ℕ → Option ℕ) (cwd there mine lenders his : ℕ) → a ≡ b → cwd ≡ there → lenders ≡ his → Has a fds cwd mine lenders → Has b fds there mine his
@@ -403,7 +412,7 @@ pub fair_then : {h : ℕ} {v u w : World} → Fair h v u → Fair h u w → Fair
 fair_then {h} {v} {u} {w} a b = record { inv = b.inv; others = λ g ne. b.others g ne ∙ a.others g ne; opens = λ g ne. files_then g v u w (a.others g ne) (a.opens g ne) (b.opens g ne); clean = λ c. a.clean (b.clean c) }
 
 pub fair_same : {h : ℕ} {v : World} → Inv v → Fair h v v
-fair_same inv = record { inv = inv; others = λ g ne. refl; opens = λ g ne i k e lt below is at keeps. (e, at, refl); clean = λ c. c }
+fair_same inv = record { inv = inv; others = λ g ne. refl; opens = λ g ne i k e lt below is at. (e, at, refl, (λ keeps. refl)); clean = λ c. c }
 
 -- what the hart owns, where one inode changed
 pub own_inodes : (h i : ℕ) (v u : World) (O : Own) (y : Option Held) → own_of h v ≡ O → if_kept (u.keeper i) h (view u h i) ≡ y

@@ -22,7 +22,7 @@ use Rattle.tree_laws.proofs.Sums.{sum_part, one_yes}
 use Rattle.tree_laws.specs.WellFormed.{one_if}
 use Rattle.tree_laws.proofs.Maps.{eq_self}
 use Rattle.inode_machine.specs.Rules.{Own}
-use Rattle.inode_machine.proofs.Frame.{child_directory, shop_same, put_elim, ours_none, ours_some, kept_here, Did, Fair, fair, fair_then, own_inodes, has_inode, found_more, one_refs, two_refs, stands_in, directory_named, refers_put, resting_names}
+use Rattle.inode_machine.proofs.Frame.{child_directory, shop_same, put_elim, ours_none, ours_some, kept_here, Did, Fair, fair, fair_then, own_inodes, has_inode, found_more, one_refs, two_refs, stands_in, directory_named, refers_put, resting_names, type_on}
 use Rattle.inode_machine.proofs.Rules.{s-owned, quiet, each_refs, here_refs, walks_refs, total_same, total_changed, my_refs, is_me, has_disk, has_node, locks_it}
 use Rattle.inode_machine.proofs.Counting.{Writes, writes, spares, not_home}
 use Rattle.inode_machine.proofs.Rows.{hart_not}
@@ -262,7 +262,7 @@ s-free {A} {h} {i} {x} {k} {B} {Q} {n} {es} {w} {O} owns free lt pos joined isi 
                 | inl q ↦ inr (ap v.keeper q ∙ kept, ap v.alone q ∙ lone_at)
                 | inr ne ↦ inl (ap (λ (z : Option Node). sort_of z) (put_other v.all.nodes i None j ne))
               ];
-              sorts = λ k e is. ap (λ (z : Option Node). sort_of z) (put_other v.all.nodes i None e.file.number (lone_file h i k e v inv lt lone_at kept is)) ∙ inv.sorts k e is;
+              sorts = λ k e is. type_on v.all.nodes (put v.all.nodes i None) e (ap (λ (z : Option Node). sort_of z) (put_other v.all.nodes i None e.file.number (lone_file h i k e v inv lt lone_at kept is))) (inv.sorts k e is);
               noted = λ n is r s. elim (same_or n.number i) [
                 | inl q ↦ absurd (let a : v.alone n.number ≡ true = ap v.alone q ∙ lone_at in cc (a, s))
                 | inr ne ↦ ap (λ (z : Option Node). sort_of z) (put_other v.all.nodes i None n.number ne) ∙ inv.noted h n lt is r s

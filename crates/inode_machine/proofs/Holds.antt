@@ -25,7 +25,7 @@ use Rattle.inode_machine.specs.Inodes.{sort_of}
 use Rattle.inode_machine.specs.Exec.{is_at}
 use Rattle.inode_machine.specs.Marks.{act_left, acts, found_by, made_by, new_id, own_made}
 use Rattle.inode_machine.specs.Rules.{Own, Held, key_in, own_of, shop_of, view, is_hart, Found, Reached, Inv}
-use Rattle.inode_machine.proofs.Frame.{shop_same, put_elim, ours_some, kept_here, Did, Fair, fair, own_inodes, has_inode, stands_in}
+use Rattle.inode_machine.proofs.Frame.{shop_same, put_elim, ours_some, kept_here, Did, Fair, fair, own_inodes, has_inode, stands_in, type_on}
 use Rattle.inode_machine.proofs.Rows.{below_is}
 use Rattle.inode_machine.proofs.Acting.{acts_gone}
 
@@ -68,7 +68,7 @@ turns_did h v ns o free joined lt inv t = record {
   raised = λ q. joined;
   quiet = λ j is f. absurd (cc (joined, f));
   sort = λ j. inl (t.sorts j);
-  sorts = λ k e is. t.sorts e.file.number ∙ inv.sorts k e is;
+  sorts = λ k e is. type_on v.all.nodes ns e (t.sorts e.file.number) (inv.sorts k e is);
   noted = λ m is r s. t.sorts m.number ∙ inv.noted h m lt is r s;
   directory = stands_in (v.desks h) (v.all.cwd h) v.all.nodes ns (t.sorts (v.desks h).directory) (inv.directory h lt);
   refers = inv.refers h lt;

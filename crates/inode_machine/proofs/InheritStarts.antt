@@ -163,7 +163,7 @@ module _ (h c : ℕ) (w : World) (lt : h < hart_count) (below : c < hart_count) 
   started_rests g nh i = elim (same_or g c) [ inl e ↦ subst (λ (z : ℕ). Idle z started) (sym e) child_rests | inr nc ↦ subst (λ (o : Own). Rests o) (sym (other_same g nh nc)) i ]
 
   pub started_kept : (g : ℕ) → g ≢ h → g ≢ c → Others g w [] started
-  started_kept g nh nc = record { none = refl; same = λ f. other_same g nh nc; opens = λ f i k e below li is at keeps. (e, at, refl); rests = λ i. subst (λ (o : Own). Rests o) (sym (other_same g nh nc)) i; clean = λ q. q }
+  started_kept g nh nc = record { none = refl; same = λ f. other_same g nh nc; opens = λ f i k e below li is at. (e, at, refl, (λ keeps. refl)); rests = λ i. subst (λ (o : Own). Rests o) (sym (other_same g nh nc)) i; clean = λ q. q }
 
   pub started_own : own_of h started ≡ begun_own c (own_of h w)
   started_own = λ z. record { inodes = (own_of h w).inodes; mine = w.harts h; row = row_of w.all h; ninodes = w.all.ninodes; desk = at_hart z }

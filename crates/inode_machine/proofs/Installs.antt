@@ -15,10 +15,10 @@ use Rattle.tree_laws.proofs.Sums.{sum_same, sum_changed, one_yes, one_no}
 use Rattle.tree_moves.specs.Moves.{Step}
 use Rattle.inode_machine.specs.World.{Mine, Entry, Desk, Mark, World}
 use Rattle.inode_machine.specs.World.Op.{Install}
-use Rattle.inode_machine.specs.Inodes.{Sort, sort_of}
+use Rattle.inode_machine.specs.Inodes.{Sort, sort_of, OfDirectory}
 use Rattle.inode_machine.specs.Exec.{file_count, install_if, installed, is_at, opening_id, or_zero}
 use Rattle.inode_machine.specs.Marks.{marked, places, with_mark}
-use Rattle.inode_machine.specs.Rules.{id_at, key_in, number_is, own_names, own_of, shop_of, uses, users, Held, IsOpening, Own, Inv, Opens, Reached, Shop, Tied, machine}
+use Rattle.inode_machine.specs.Rules.{id_at, key_in, number_is, own_names, own_of, shop_of, uses, users, Held, IsOpening, Own, Inv, Opens, Reached, Shop, Tied, machine, HasType}
 use Rattle.inode_machine.proofs.Frame.{bond_of, put_elim, stands_on, has_inode, one_refs, Did, Fair, fair, refers_put}
 use Rattle.inode_machine.proofs.Rules.{s-owned, quiet, each_refs, has_node, here_refs, my_refs, total_changed, total_same, walks_refs}
 use Rattle.inode_machine.proofs.Counting.{not_home, spares}
@@ -200,9 +200,9 @@ pub record Installing (h fd s : ℕ) (f : OpenFile) (sort : Sort) (O : Own) (v :
 
 -- The descriptor is taken: the open file stands in the slot, and has the hart's reference.
 pub installing : (h fd s : ℕ) (f : OpenFile) (sort : Sort) (x : Held) (v : World) (O : Own) → own_of h v ≡ O → O.desk.lender ≡ None → h < hart_count → Inv v → O.desk.opening ≡ Some fd → O.desk.hand ≡ Some s → O.row.keys fd ≡ Some (key_is f) → f.offset ≡ 0
-    → O.mine.walk ≡ None → O.mine.pending ≡ None → O.inodes f.number ≡ Some x → x.alone ≡ false → sort_of x.node ≡ Some sort → 0 < O.mine.refs f.number → ((1 < O.mine.refs f.number) ⊎ (own_names O.row (record (O.desk) { opening = None }) f.number ≡ false))
+    → O.mine.walk ≡ None → O.mine.pending ≡ None → O.inodes f.number ≡ Some x → x.alone ≡ false → sort_of x.node ≡ Some sort → (f.writable ≡ true → sort ≢ OfDirectory) → 0 < O.mine.refs f.number → ((1 < O.mine.refs f.number) ⊎ (own_names O.row (record (O.desk) { opening = None }) f.number ≡ false))
     → Installing h fd s f sort O v
-installing h fd s f sort x v O ov free lt inv opens hand keyed start walks none isi shared typed refers may = record { lands = fair inv did; owned = owned }
+installing h fd s f sort x v O ov free lt inv opens hand keyed start walks none isi shared typed written refers may = record { lands = fair inv did; owned = owned }
   where
     i0 : ℕ
     i0 = f.number
@@ -288,13 +288,13 @@ installing h fd s f sort x v O ov free lt inv opens hand keyed start walks none 
       rows = λ g ne. refl;
       size = refl;
       ids = inv.ids;
-      shop = record { tied = tied; desks = λ g ne. put_other v.desks h desk g ne; numbers = λ g i j e lg ne li r a. (e, stays j e a, inl refl); clean = λ c. c; bond = ap (λ (d : Desk). bond_of d) desk_is; stays = inl (ap (λ (d : Desk). d.directory) desk_is) };
+      shop = record { tied = tied; desks = λ g ne. put_other v.desks h desk g ne; numbers = λ g i j e lg ne li r a. (e, stays j e a, refl, inl refl); clean = λ c. c; bond = ap (λ (d : Desk). bond_of d) desk_is; stays = inl (ap (λ (d : Desk). d.directory) desk_is) };
       free = ap (λ (d : Desk). d.lender) desk_is ∙ ap (λ (p : Own). p.desk.lender) ov ∙ free;
       raised = λ q. ap (λ (d : Desk). d.joined) desk_is ∙ inv.raised h lt q;
       quiet = λ j is g. inv.quiet j h is (sym (ap (λ (d : Desk). d.joined) desk_is) ∙ g);
       sort = λ j. inl refl;
       sorts = λ k e is. elim (same_or k s) [
-        | inl q ↦ (let a : Some (record { file = f; sort = sort; references = 1 }) ≡ Some e = sym here ∙ ap u.files (sym q) ∙ is in let b : record { file = f; sort = sort; references = 1 } ≡ e = cc in subst (λ (z : Entry). sort_of (v.all.nodes z.file.number) ≡ Some z.sort) b (ap (λ (z : Option Node). sort_of z) (has_node h i0 v O x ov isi) ∙ typed))
+        | inl q ↦ (let a : Some (record { file = f; sort = sort; references = 1 }) ≡ Some e = sym here ∙ ap u.files (sym q) ∙ is in let b : record { file = f; sort = sort; references = 1 } ≡ e = cc in subst (λ (z : Entry). HasType v.all.nodes z) b (record { sort = ap (λ (z : Option Node). sort_of z) (has_node h i0 v O x ov isi) ∙ typed; written = written }))
         | inr ne ↦ inv.sorts k e (sym (put_other v.files s (Some (record { file = f; sort = sort; references = 1 })) k ne) ∙ is)
       ];
       noted = λ m q r g. inv.noted h m lt (sym (ap (λ (d : Desk). d.noted) desk_is) ∙ q) (shrink m.number r) g;
@@ -331,19 +331,19 @@ installing h fd s f sort x v O ov free lt inv opens hand keyed start walks none 
 
 pub s-install : {A : Type 0} {h : ℕ} {x : Held} (fd s : ℕ) (f : OpenFile) (sort : Sort) {m : Option ℕ → Option Mark} {k : Option ℕ → P machine A} {B : List Step → Type 0} {Q : A → List Step → World → Type 0} {n : ℕ} {es : List Step} {w : World} {O : Own}
     → own_of h w ≡ O → O.desk.lender ≡ None → h < hart_count → 0 < n → O.desk.opening ≡ Some fd → O.desk.hand ≡ Some s → has_room O.desk.fds ≡ true → lowest O.desk.fds ≡ fd → O.row.keys fd ≡ Some (key_is f) → f.offset ≡ 0 → m (Some fd) ≡ None
-    → O.mine.walk ≡ None → O.mine.pending ≡ None → O.inodes f.number ≡ Some x → x.alone ≡ false → sort_of x.node ≡ Some sort → 0 < O.mine.refs f.number → ((1 < O.mine.refs f.number) ⊎ (own_names O.row (record (O.desk) { opening = None }) f.number ≡ false))
+    → O.mine.walk ≡ None → O.mine.pending ≡ None → O.inodes f.number ≡ Some x → x.alone ≡ false → sort_of x.node ≡ Some sort → (f.writable ≡ true → sort ≢ OfDirectory) → 0 < O.mine.refs f.number → ((1 < O.mine.refs f.number) ⊎ (own_names O.row (record (O.desk) { opening = None }) f.number ≡ false))
     → ((l : ℕ) (u : World) → l + 1 ≡ n
     → own_of h u ≡ own_installed O f.number fd s
     → Safe machine h B Q (k (Some fd)) l es u)
     → Safe machine h B Q (Do (Install f sort) m k) n es w
-s-install {A} {h} {x} fd s f sort {m} {k} {B} {Q} {n} {es} {w} {O} owns free lt pos opens hand room low keyed start unmarked walks none isi shared typed refers may rest = s-owned owns free pos (λ v inv ov.
+s-install {A} {h} {x} fd s f sort {m} {k} {B} {Q} {n} {es} {w} {O} owns free lt pos opens hand room low keyed start unmarked walks none isi shared typed written refers may rest = s-owned owns free pos (λ v inv ov.
     let a : (v.desks h).hand ≡ Some s = ap (λ (o : Own). o.desk.hand) ov ∙ hand in
     let b : has_room (v.desks h).fds ≡ true = ap (λ (o : Own). has_room o.desk.fds) ov ∙ room in
     let c : lowest (v.desks h).fds ≡ fd = ap (λ (o : Own). lowest o.desk.fds) ov ∙ low in (
       ((λ q. cc (a, q)), start, spares h f.number v O ov refers (elim may [ inl y ↦ inl y | inr y ↦ inr (not_home h f.number v O None inv ov free lt y) ])),
       (λ _ _. subst (λ (z : Came (Option ℕ) World). Good machine (Option ℕ) h (λ a. places h (Install f sort) a (m a) v) 0 n B es v ⊥ (with_mark h m z) (λ l a u. Wp machine h B Q (k a) l (onto (own h (places h (Install f sort) a (m a) v)) es) u))
           (sym ((λ i. install_if h v f sort (a i) (b i)) ∙ (λ i. Ran (Some (c i)) (installed h v f sort s (c i))))) (
-          let at = installing h fd s f sort x v O ov free lt inv opens hand keyed start walks none isi shared typed refers may in
+          let at = installing h fd s f sort x v O ov free lt inv opens hand keyed start walks none isi shared typed written refers may in
           subst (λ (z : Option Mark). Fine machine h (places h (Install f sort) (Some fd) z v) 0 n B es v (marked h z (installed h v f sort s fd)) (λ l. Wp machine h B Q (k (Some fd)) l (onto (own h (places h (Install f sort) (Some fd) z v)) es) (marked h z (installed h v f sort s fd)))) (sym unmarked)
           (quiet at.lands (λ z. record { tree = settle v.all; walk = walks_refs v.harts h f.number ((v.harts h).refs f.number - 1) z }) pos (λ l q. (rest l (installed h v f sort s fd) q at.owned).wp)))),
     ))

@@ -126,7 +126,7 @@ lends_one h c i s e v O inv ov srv li is unlent at = record {
     kin = record {
       tied = tied_lent (shop_of v) h i s e inv.tied srv.hart li is unlent at;
       desks = λ g ne. put_other v.desks h new g ne;
-      numbers = λ g j l d lg ne lj q a. let x = renewed_same v.files s e (counted_more e) l d at refl a in (x.0, x.1, inl x.2);
+      numbers = λ g j l d lg ne lj q a. let x = renewed_same v.files s e (counted_more e) l d at refl refl a in (x.0, x.1, x.2, inl x.3);
       clean = λ q. q;
       bond = ap (λ (d : Desk). bond_of d) desk_is ∙ (λ z. record {
         child = put_other (v.desks h).lent i (Some s) descriptor_count (λ q. absurd (omega (arith, li, q))) z;
@@ -139,7 +139,7 @@ lends_one h c i s e v O inv ov srv li is unlent at = record {
     unlent = free;
     joined = ap (λ (d : Desk). d.joined) desk_is;
     holds = refl;
-    sorts = λ l x q. renewed_sorts v s e (counted_more e) inv at refl refl l x q;
+    sorts = λ l x q. renewed_sorts v s e (counted_more e) inv at refl refl refl l x q;
     noted = λ m q. (sym (ap (λ (d : Desk). d.noted) desk_is) ∙ q, (λ p. p));
     directory = stands_on (v.desks h) (D h) (v.all.cwd h) v.all.nodes free (ap (λ (d : Desk). d.directory) desk_is) (ap (λ (d : Desk). d.left) desk_is) (inv.directory h srv.hart);
     home = ap (λ (d : Desk). d.directory) desk_is;
@@ -269,9 +269,9 @@ module _ (h c i s : ℕ) (e : Entry) (v : World) (O : Own) (inv : Inv v) (ov : o
     others = λ g nh nc. put_other v.harts h (record { refs = (v.harts h).refs; walk = None; pending = None }) g nh;
     fds = λ g nc. put_other v.all.fds c (v.all.fds h) g nc;
     cwd = λ g nc. put_other v.all.cwd c (v.all.cwd h) g nc;
-    numbers = λ l d q. renewed_same v.files s e (counted_more e) l d at refl q;
+    numbers = λ l d q. renewed_same v.files s e (counted_more e) l d at refl refl q;
     tied = tied_handed (record { files = F; desks = before; ids = v.ids; slots = v.slots; clean = v.clean; tree_fds = v.all.fds; tree_files = v.all.files }) h c x y (tied_lent (shop_of v) h i s e inv.tied srv.hart li is unlent at) hands;
-    sorts = λ l d q. renewed_sorts v s e (counted_more e) inv at refl refl l d q;
+    sorts = λ l d q. renewed_sorts v s e (counted_more e) inv at refl refl refl l d q;
     well = well_inherit v.all h c inv.well srv.hart;
     counts = λ j. inv.counts j ∙ ap (λ (z : ℕ). v.slots j + z) (sym (sum_same hart_count (λ g. (v.harts g).refs j) (λ g. (H g).refs j) (λ g l. refs_walk v.harts h None None g j)));
     apart = λ j g kept q. refl;

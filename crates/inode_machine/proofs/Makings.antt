@@ -177,7 +177,7 @@ module _ (h : ℕ) (path : List ℕ) (flags : ℕ) (lt : h < hart_count) {base :
 
       install : (b : Bool) → has flags empty_it ≡ b → (s l2 : ℕ) (u2 : World) → 971 * length ns + 985 < l2 → own_of h u2 ≡ R_in s → Goes h path flags (Do (Install (file_for i flags) OfFile) (installs (truncates flags)) (installed_on path flags i ns (open_end path flags i ns))) l2 es u2
       install false e s l2 u2 few2 held2 =
-          s-install fd s (file_for i flags) OfFile held2 free lt (omega (arith, few2)) k.stays.opening refl room low keyed refl (λ z. if e z then own_step (steps.Truncate fd) else None) walk none (k.has i (locked_held (Some new_file)) isi) refl refl here twice
+          s-install fd s (file_for i flags) OfFile held2 free lt (omega (arith, few2)) k.stays.opening refl room low keyed refl (λ z. if e z then own_step (steps.Truncate fd) else None) walk none (k.has i (locked_held (Some new_file)) isi) refl refl (λ y z. cc) here twice
           (λ l3 u3 q3 held3. ends s l3 es u3 (omega (arith, few2, q3)) held3 (written_by (calls.Open path flags) (opened_act path flags fd id true ∷ []) es (opened_reply path flags fd) told (open_done path flags fd id true (λ z. e z && true))))
       install true e s l2 u2 few2 held2 =
           s-install-empty fd s (file_for i flags) OfFile new_file held2 free lt (omega (arith, few2)) k.stays.opening refl room low keyed refl (λ z. if e z then own_step (steps.Truncate fd) else None) walk none (k.has i (locked_held (Some new_file)) isi) refl refl refl here twice

@@ -90,7 +90,7 @@ module _ (h c : ℕ) (v : World) (O : Own) (inv : Inv v) (ov : own_of h v ≡ O)
       others = λ g nh nc. others g nh ∙ moved_others v.harts h c home old k.apart g nh nc;
       fds = fds;
       cwd = cwd;
-      numbers = λ l d q. (d, q, refl);
+      numbers = λ l d q. (d, q, refl, refl);
       tied = tied;
       sorts = inv.sorts;
       well = well;

@@ -18,12 +18,12 @@ use Rattle.plain_tree.specs.Tree.{put, hold_names}
 use Rattle.plain_tree.specs.Steps.{empty_it, has, has_room, lowest, node_or}
 use Rattle.plain_tree.specs.HartRow.{Key, Row, key_is, key_names}
 use Rattle.tree_laws.specs.WellFormed.{one_if}
-use Rattle.tree_laws.proofs.Maps.{and_true, either, or_none, same_or, put_same, put_other}
+use Rattle.tree_laws.proofs.Maps.{and_true, either, eq_is, or_none, same_or, put_same, put_other}
 use Rattle.tree_moves.specs.Moves.{Step, MayEnd, Written}
 use Rattle.tree_moves.specs.Moves.Move.{Begin, Own as OwnMove}
 use Rattle.inode_machine.specs.World.{Desk, Note, World}
 use Rattle.inode_machine.specs.World.Op.{Empty}
-use Rattle.inode_machine.specs.Inodes.{is_file_sort, Sort, open_refusal, sort_of}
+use Rattle.inode_machine.specs.Inodes.{is_file_sort, OfDirectory, Sort, open_refusal, sort_of}
 use Rattle.inode_machine.specs.Exec.{is_at}
 use Rattle.inode_machine.specs.Rules.{Own, key_in, own_names, own_of, Idle, Inv, machine}
 use Rattle.inode_machine.specs.Parts.{failed, full, own_step}
@@ -42,6 +42,14 @@ use Rattle.inode_machine.proofs.Slots.{s-slot, s-install-full}
 use Rattle.inode_machine.proofs.Opens.{face_or_sort, file_by_sort}
 use Rattle.inode_machine.proofs.Writings.{put_twice}
 use Rattle.inode_machine.proofs.Empties.{empty_step, emptied_node, s-empty}
+
+-- A directory opens to read alone.
+writes_no_directory : (flags n : ℕ) (s : Sort) → open_refusal (flags == 0) s ≡ None → (file_for n flags).writable ≡ true → s ≢ OfDirectory
+writes_no_directory flags n s goes writes is = at (flags == 0) refl (subst (λ (z : Sort). open_refusal (flags == 0) z ≡ None) is goes)
+  where
+    at : (b : Bool) → (flags == 0) ≡ b → open_refusal b OfDirectory ≡ None → ⊥
+    at true e q = absurd (let a : (file_for n 0).writable ≡ true = subst (λ (z : ℕ). (file_for n z).writable ≡ true) (eq_is flags 0 e) writes in cc)
+    at false e q = absurd cc
 
 -- What the call is told.
 
@@ -257,7 +265,7 @@ module _ (h : ℕ) (path : List ℕ) (flags : ℕ) (w : World) (free : (w.desks 
       (λ v inv ov. mends_opened h fd v (record R { inodes = put R.inodes j (Some (locked_held x)) }) ov (at.stays.lender ∙ free) lt inv at.stays.opening left (subst KeepsHold (sym hold) tt) (λ i q. refers i q))
       (λ l2 u2 q2 own2. s-refuse h c (full c OpenFiles) j x base ns l2 es u2 (M R.desk.hand) own2 (at.stays.lender ∙ free) lt (omega (arith, q1, q2, few)) at.stays.joined listed at.out at.refs refl refl (λ q. spare j ((λ z. (sym (ap (λ (r : Row). r.cwd) at.stays.row) z == j) || false) ∙ sym (names_home (M R.desk.hand).row (M R.desk.hand).desk j hold refl refl) ∙ q)) may (inl refl))
       (λ l2 s u2 q2 own2.
-      s-install fd s (file_for j flags) sort own2 (at.stays.lender ∙ free) lt (omega (arith, q1, q2, few)) at.stays.opening refl room low keyed refl refl at.walk at.pending (put_same R.inodes j (Some (locked_held x))) refl is here twice (λ l3 u3 q3 own3. s-open-then j fd s id is_file ns t sort x l3 es u3 u R (omega (arith, q1, q2, q3, few)) at is own3 kind told)))))
+      s-install fd s (file_for j flags) sort own2 (at.stays.lender ∙ free) lt (omega (arith, q1, q2, few)) at.stays.opening refl room low keyed refl refl at.walk at.pending (put_same R.inodes j (Some (locked_held x))) refl is (writes_no_directory flags j sort refusal) here twice (λ l3 u3 q3 own3. s-open-then j fd s id is_file ns t sort x l3 es u3 u R (omega (arith, q1, q2, q3, few)) at is own3 kind told)))))
     where
       here : 0 < R.mine.refs j
       here = let r = at.refs j in let o = one_at j in omega (arith, r, o)

@@ -14,7 +14,7 @@ use Rattle.inode_machine.specs.World.{Desk, Entry, World}
 use Rattle.inode_machine.specs.Inodes.{sort_of, sort_of_kind}
 use Rattle.inode_machine.specs.Exec.{file_count, is_at}
 use Rattle.inode_machine.specs.Theory.{at_rest, open_at_rest, HasOneOpen}
-use Rattle.inode_machine.specs.Rules.{number_is, users, id_at, key_in, left_or, own_names, Inv, Idle}
+use Rattle.inode_machine.specs.Rules.{number_is, users, id_at, key_in, left_or, own_names, Inv, Idle, HasType}
 use Rattle.inode_machine.proofs.Frame.{put_elim}
 use Rattle.inode_machine.proofs.Rest.{directory_sort}
 use Rattle.inode_machine.proofs.Tables.{users_put}
@@ -132,7 +132,7 @@ module _ (t : Tree) (f : OpenFile) (v : Node) (well : IsWellFormed t) (has : Has
           omega (arith, a, b, c);
       spoiled = λ g q. absurd (let a = full g in cc (a, q));
     };
-    sorts = λ k e q. subst (λ (z : Entry). sort_of (t.nodes z.file.number) ≡ Some z.sort) (file_at k e q).1 (ap (λ (z : Option Node). sort_of z) has.node);
+    sorts = λ k e q. subst (λ (z : Entry). HasType t.nodes z) (file_at k e q).1 (record { sort = ap (λ (z : Option Node). sort_of z) has.node; written = has.written });
     named = λ g i lt free is. inl (here g i (cwd g i is));
     pending = λ g i lt e. absurd cc;
     walks = λ g k lt e. absurd cc;

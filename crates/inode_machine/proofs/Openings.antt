@@ -225,7 +225,7 @@ opening h fd j flags x v O ov free lt inv idle low room is reached = record {
     rows = λ g ne. λ z. record { cwd = v.all.cwd g; hold = v.all.holds g; fds = put_other v.all.fds h (put (v.all.fds h) fd (Some id)) g ne z; keys = λ i. keys g ne i z };
     size = refl;
     ids = λ k le. put_other v.all.files id (Some (file_for j flags)) k (λ e. absurd (let b = fresh.below in omega (arith, b, le, e))) ∙ inv.ids k (omega (arith, le));
-    shop = record { tied = opens_tied (shop_of v) h fd id (file_for j flags) inv.tied (record { hart = lt; below = below; idle = opening_v; free = free_fd; unused = fresh.least.unused; stands = λ g l k lg ll q e. absurd (let o = inv.well.descriptors g l k lg ll q in let a = o.is in cc (a, e)); offset = refl }); desks = λ g ne. put_other v.desks h new g ne; numbers = λ g i k e lg ne li q a. (e, a, inl refl); clean = λ c. c; bond = ap (λ (d : Desk). bond_of d) here; stays = inl (ap (λ (d : Desk). d.directory) here) };
+    shop = record { tied = opens_tied (shop_of v) h fd id (file_for j flags) inv.tied (record { hart = lt; below = below; idle = opening_v; free = free_fd; unused = fresh.least.unused; stands = λ g l k lg ll q e. absurd (let o = inv.well.descriptors g l k lg ll q in let a = o.is in cc (a, e)); offset = refl }); desks = λ g ne. put_other v.desks h new g ne; numbers = λ g i k e lg ne li q a. (e, a, refl, inl refl); clean = λ c. c; bond = ap (λ (d : Desk). bond_of d) here; stays = inl (ap (λ (d : Desk). d.directory) here) };
     free = ap (λ (d : Desk). d.lender) here ∙ ap (λ (o : Own). o.desk.lender) ov ∙ free;
     raised = λ q. ap (λ (d : Desk). d.joined) here ∙ inv.raised h lt q;
     quiet = λ i is2 f. inv.quiet i h is2 (sym (ap (λ (d : Desk). d.joined) here) ∙ f);

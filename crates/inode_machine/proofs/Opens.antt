@@ -117,7 +117,7 @@ dirties h v free lt inv = fair inv (record {
   rows = λ g ne. refl;
   size = refl;
   ids = inv.ids;
-  shop = record { tied = record { fds = t.fds; fresh = λ g i lg o. let f = t.fresh g i lg o in record { below = f.below; free = f.free; id = f.id; is = f.is; file = f.file; at = f.at; offset = f.offset; only = f.only }; used = t.used; lends = t.lends; hand = t.hand; hands = t.hands; within = t.within; files = t.files; apart = t.apart; counted = t.counted; slots = t.slots; spoiled = λ g q. refl }; desks = λ g ne. refl; numbers = λ g i k e lg ne li q a. (e, a, inl refl); clean = λ c. absurd cc; bond = refl; stays = inl refl };
+  shop = record { tied = record { fds = t.fds; fresh = λ g i lg o. let f = t.fresh g i lg o in record { below = f.below; free = f.free; id = f.id; is = f.is; file = f.file; at = f.at; offset = f.offset; only = f.only }; used = t.used; lends = t.lends; hand = t.hand; hands = t.hands; within = t.within; files = t.files; apart = t.apart; counted = t.counted; slots = t.slots; spoiled = λ g q. refl }; desks = λ g ne. refl; numbers = λ g i k e lg ne li q a. (e, a, refl, inl refl); clean = λ c. absurd cc; bond = refl; stays = inl refl };
   free = free;
   raised = inv.raised h lt;
   quiet = λ j is f. inv.quiet j h is f;

@@ -18,7 +18,7 @@ use Rattle.inode_machine.specs.World.{Note, World}
 use Rattle.inode_machine.specs.World.Mark.{Orphans}
 use Rattle.inode_machine.specs.World.Op.{Store}
 use Rattle.inode_machine.specs.Rules.{Own, shop_of, own_names, Held, view, is_hart, own_of, Inv, machine}
-use Rattle.inode_machine.proofs.Frame.{shop_same, ours_some, kept_here, Did, fair, fair_then, own_inodes, has_inode, stands_in, directory_named}
+use Rattle.inode_machine.proofs.Frame.{shop_same, ours_some, kept_here, Did, fair, fair_then, own_inodes, has_inode, stands_in, directory_named, type_on}
 use Rattle.inode_machine.proofs.Rules.{s-owned, quiet, has_disk, has_node, locks_it, locked_held}
 use Rattle.inode_machine.proofs.Counting.{Writes, writes}
 use Rattle.inode_machine.proofs.Freeing.{lone_file, unnamed}
@@ -141,7 +141,7 @@ s-orphan {A} {h} {i} {x} y {k} {B} {Q} {n} {es} {w} {O} owns free lt pos joined 
                 | inl q ↦ inr (ap v.keeper q ∙ kept, ap v.alone q ∙ lone_at)
                 | inr ne ↦ inl (ap (λ (z : Option Node). sort_of z) (put_other v.all.nodes i (Some y1) j ne))
               ];
-              sorts = λ k e is. ap (λ (z : Option Node). sort_of z) (put_other v.all.nodes i (Some y1) e.file.number (lone_file h i k e v inv lt lone_at kept is)) ∙ inv.sorts k e is;
+              sorts = λ k e is. type_on v.all.nodes (put v.all.nodes i (Some y1)) e (ap (λ (z : Option Node). sort_of z) (put_other v.all.nodes i (Some y1) e.file.number (lone_file h i k e v inv lt lone_at kept is))) (inv.sorts k e is);
               noted = λ m is r s. elim (same_or m.number i) [
                 | inl q ↦ absurd (notes m (ap (λ (o : Own). o.desk.noted) (sym ov) ∙ is) q)
                 | inr ne ↦ ap (λ (z : Option Node). sort_of z) (put_other v.all.nodes i (Some y1) m.number ne) ∙ inv.noted h m lt is r (sym (put_other v.alone i false m.number ne) ∙ s)

@@ -154,13 +154,13 @@ moving h fd s by e v O ov free lt inv none hit ours = record { fair = fair inv (
     ]
 
     -- another open file is as it was; this one is of an inode that no other hart keeps
-    moved_stays : (j : ℕ) (d : Entry) → v.files j ≡ Some d → (c : Entry) × (F j ≡ Some c) × Stays (λ n. Ours h (v.keeper n)) d c
+    moved_stays : (j : ℕ) (d : Entry) → v.files j ≡ Some d → (c : Entry) × (F j ≡ Some c) × (c.sort ≡ d.sort) × Stays (λ n. Ours h (v.keeper n)) d c
     moved_stays j d q = elim (same_or j s) [
       | inl r ↦
           let a : Some e ≡ Some d = sym hit.at ∙ ap v.files (sym r) ∙ q in
           let c : e ≡ d = cc in
-          (entry_moved e by, ap F r ∙ put_same v.files s (Some (entry_moved e by)), inr (subst (λ (z : Entry). Ours h (v.keeper z.file.number) × (e.file.number ≡ z.file.number)) c (ours, refl)))
-      | inr ne ↦ (d, put_other v.files s (Some (entry_moved e by)) j ne ∙ q, inl refl)
+          (entry_moved e by, ap F r ∙ put_same v.files s (Some (entry_moved e by)), ap (λ (z : Entry). z.sort) c, inr (subst (λ (z : Entry). Ours h (v.keeper z.file.number) × (e.file.number ≡ z.file.number)) c (ours, refl)))
+      | inr ne ↦ (d, put_other v.files s (Some (entry_moved e by)) j ne ∙ q, refl, inl refl)
     ]
 
     empty : (j : ℕ) → v.files j ≡ None → (o : Option Entry) → F j ≡ o → F j ≡ None
@@ -206,7 +206,7 @@ moving h fd s by e v O ov free lt inv none hit ours = record { fair = fair inv (
       unlent = ap (λ (o : Own). o.desk.lender) ov ∙ free;
       joined = refl;
       holds = refl;
-      sorts = λ j d q. renewed_sorts v s e (entry_moved e by) inv hit.at refl refl j d q;
+      sorts = λ j d q. renewed_sorts v s e (entry_moved e by) inv hit.at refl refl refl j d q;
       noted = λ m q. (q, (λ z. let r = refs_walk v.harts h None None h m.number in omega (arith, r, z)));
       directory = inv.directory h lt;
       home = refl;
@@ -341,8 +341,8 @@ pub record StandsBy (w : World) (slot n offset : ℕ) : Type 0 where
 -- so it does while the hart keeps the inode
 pub stands_still : (h fd n offset : ℕ) (x : Held) (w v : World) (O : Own) (k : IsOpenAt O fd n) → own_of h w ≡ O → own_of h v ≡ O → h < hart_count → O.inodes n ≡ Some x → KeepsFiles h w v → StandsBy w k.slot n offset → StandsAt h fd offset v
 stands_still h fd n offset x w v O k ow ov lt isn keeps s =
-    let y = keeps fd k.slot s.entry lt k.below (ap (λ (o : Own). o.desk.fds fd) ow ∙ k.is) s.at (ap w.keeper s.number ∙ (has_inode h n w O x ow isn).0) in
-    (λ r. offset_of (entry_at v.files (slot_is h fd n v O k ov r))) ∙ ap offset_of y.1 ∙ ap (λ (f : OpenFile). f.offset) y.2 ∙ s.offset_is
+    let y = keeps fd k.slot s.entry lt k.below (ap (λ (o : Own). o.desk.fds fd) ow ∙ k.is) s.at in
+    (λ r. offset_of (entry_at v.files (slot_is h fd n v O k ov r))) ∙ ap offset_of y.1 ∙ ap (λ (f : OpenFile). f.offset) (y.3 (ap w.keeper s.number ∙ (has_inode h n w O x ow isn).0)) ∙ s.offset_is
 
 -- That is open for reading, where its inode has this node.
 pub record IsReadable (O : Own) (fd n : ℕ) (x : Option Node) : Type 0 where
@@ -354,7 +354,7 @@ some_node : (x : Option Node) (s : Sort) → sort_of x ≡ Some s → (y : Node)
 some_node None s e = absurd cc
 some_node (Some y) s e = (y, refl)
 
-reads_from : (r : Bool) (s : Sort) → mode_refusal r s ≡ None → (r ≡ true) × (no_driver_for s ≡ None)
+pub reads_from : (r : Bool) (s : Sort) → mode_refusal r s ≡ None → (r ≡ true) × (no_driver_for s ≡ None)
 reads_from true s e = (refl, e)
 reads_from false s e = absurd cc
 
@@ -383,7 +383,7 @@ s-lock-file {A} {h} fd count {k} {B} {Q} {n} {es} {w} {O} owns free lt pos walks
         (record {
           opened = open_from h fd s e v O inv ov lt hit;
           readable = m.0;
-          read = λ z is. let same : Some z ≡ Some e.sort = sym is ∙ inv.sorts s e hit.at in let eq : z ≡ e.sort = cc in ap no_driver_for eq ∙ m.1;
+          read = λ z is. let same : Some z ≡ Some e.sort = sym is ∙ (inv.sorts s e hit.at).sort in let eq : z ≡ e.sort = cc in ap no_driver_for eq ∙ m.1;
         })
         (record { entry = e; at = hit.at; number = refl; offset_is = refl }) a.owned).wp)
 
@@ -392,8 +392,8 @@ s-lock-file {A} {h} fd count {k} {B} {Q} {n} {es} {w} {O} owns free lt pos walks
     by_cause v inv ov s e q hit (Some c) stops =
         refused_good h 3 n B Q es v O (Read fd count) c (k (NotLocked c)) ov free lt inv walks none
         (read_refused_at h fd count c v lt
-        (λ res par. read_as_table v.all h fd count e res par hit.file (inv.sorts s e hit.at) ∙ stops)
-        (λ res par. read_as_table (settle v.all) h fd count e res par (file_settled v.all h fd ∙ hit.file) (ap (λ (z : Option Node). sort_of z) (node_settled h fd v e s inv lt hit) ∙ inv.sorts s e hit.at) ∙ stops))
+        (λ res par. read_as_table v.all h fd count e res par hit.file (inv.sorts s e hit.at).sort ∙ stops)
+        (λ res par. read_as_table (settle v.all) h fd count e res par (file_settled v.all h fd ∙ hit.file) (ap (λ (z : Option Node). sort_of z) (node_settled h fd v e s inv lt hit) ∙ (inv.sorts s e hit.at).sort) ∙ stops))
         (bf c) pos (λ l u p own2. bad l c u p own2)
 
     at : (v : World) → Inv v → own_of h v ≡ O → (o : Option ℕ) → slot_at v h fd ≡ o → Goal v (lock_at h v (entry_at v.files o) (read_refused (entry_at v.files o)))
@@ -413,7 +413,7 @@ s-read-file {A} {h} fd i offset count x {k} {B} {Q} {n} {es} {w} {O} owns free l
     let e : Entry = z.0 in
     let number : e.file.number ≡ i = ap (λ (q : Key). q.number) z.2 ∙ key.opened.number in
     let readable : e.file.readable ≡ true = ap (λ (q : Key). q.readable) z.2 ∙ key.readable in
-    let sort : sort_of (v.all.nodes e.file.number) ≡ Some e.sort = inv.sorts key.opened.slot e z.1.at in
+    let sort : sort_of (v.all.nodes e.file.number) ≡ Some e.sort = (inv.sorts key.opened.slot e z.1.at).sort in
     let typed : sort_of x ≡ Some e.sort = ap (λ (o : Option Node). sort_of o) (sym (ap v.all.nodes number ∙ has_node h i v O (locked_held x) ov isi)) ∙ sort in
     let y = some_node x e.sort typed in
     let plain : no_driver_for e.sort ≡ None = key.read e.sort typed in
@@ -435,7 +435,7 @@ s-read-file {A} {h} fd i offset count x {k} {B} {Q} {n} {es} {w} {O} owns free l
         (part_good h 1608 n B Q es (after_unlock i v) O1 fd count key.opened.slot e (part_of (v.disk i) e.file.offset count) (k (part_of (v.disk i) e.file.offset count))
         g.owned free lt g.fair.inv walks none
         (record { below = hit.below; is = hit.is; at = hit.at; tree = hit.tree; file = hit.file }) (ours_none h (put v.keeper i None e.file.number) (ap (put v.keeper i None) number ∙ put_same v.keeper i None)) (ap v.disk number ∙ here ∙ sym (ap v.all.nodes number)) (λ r. part_of (v.disk (sym number r)) e.file.offset count)
-        (λ t file nodes res par. read_as_table t h fd count e res par file (ap (λ (z : Option Node). sort_of z) nodes ∙ inv.sorts key.opened.slot e hit.at) ∙ goes)
+        (λ t file nodes res par. read_as_table t h fd count e res par file (ap (λ (z : Option Node). sort_of z) nodes ∙ (inv.sorts key.opened.slot e hit.at).sort) ∙ goes)
         (bd (part_of (v.disk i) e.file.offset count)) pos
         (λ l u p own2. then_ l (part_of (v.disk i) e.file.offset count) u p own2))
 

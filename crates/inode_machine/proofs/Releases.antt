@@ -46,7 +46,7 @@ module _ (h c : ℕ) (v : World) (O : Own) (inv : Inv v) (ov : own_of h v ≡ O)
     others = λ g nh nc. refl;
     fds = λ g nc. refl;
     cwd = λ g nc. refl;
-    numbers = λ l d q. (d, q, refl);
+    numbers = λ l d q. (d, q, refl, refl);
     tied = tied_as (shop_of v) D same inv.tied;
     sorts = inv.sorts;
     well = inv.well;

@@ -13,8 +13,8 @@ use Rattle.tree_laws.specs.WellFormed.{sum_below, IsWellFormed}
 use Rattle.tree_moves.specs.Moves.{Takes}
 use Rattle.tree_moves.specs.Moves.Move.{Own as OwnMove}
 use Rattle.inode_machine.specs.World.{Mine, Entry, Desk, World, stage_of, Note}
-use Rattle.inode_machine.specs.Rules.{shop_of, Opens, own_names, Pinned, IsAlone, reference_limit, Inv, key_in, Stands}
-use Rattle.inode_machine.proofs.Frame.{Kin, Did, Ours, stands_in}
+use Rattle.inode_machine.specs.Rules.{shop_of, Opens, own_names, Pinned, IsAlone, reference_limit, HasType, Inv, key_in, Stands}
+use Rattle.inode_machine.proofs.Frame.{Kin, Did, Ours, stands_in, type_on}
 use Rattle.inode_machine.specs.Marks.{new_id}
 use Rattle.inode_machine.specs.Inodes.{sort_of}
 use Rattle.inode_machine.specs.Exec.{is_at}
@@ -26,7 +26,7 @@ pub record Sells (h : ℕ) (v : World) (F : ℕ → Option Entry) (D : ℕ → D
   pub unlent : (v.desks h).lender ≡ None
   pub joined : (D h).joined ≡ (v.desks h).joined
   pub holds : T.holds ≡ v.all.holds
-  pub sorts : (k : ℕ) (e : Entry) → F k ≡ Some e → sort_of (v.all.nodes e.file.number) ≡ Some e.sort
+  pub sorts : (k : ℕ) (e : Entry) → F k ≡ Some e → HasType v.all.nodes e
   pub noted : (m : Note) → (D h).noted ≡ Some m → ((v.desks h).noted ≡ Some m) × (0 < (H h).refs m.number → 0 < (v.harts h).refs m.number)
   pub directory : Stands (D h) (T.cwd h) v.all.nodes
   pub home : (D h).directory ≡ (v.desks h).directory
@@ -60,7 +60,7 @@ sells_did h v F D S T H lt inv s =
       raised = λ q. s.joined ∙ inv.raised h lt (ap (λ (f : ℕ → Option Hold). holds_raised true (f h)) (sym s.holds) ∙ q);
       quiet = λ j is f. inv.quiet j h is (sym s.joined ∙ f) ∙ sym (ap (λ (f : ℕ → Option Node). f j) s.nodes);
       sort = λ j. inl (ap (λ (f : ℕ → Option Node). sort_of (f j)) s.nodes);
-      sorts = λ k e is. ap (λ (f : ℕ → Option Node). sort_of (f e.file.number)) s.nodes ∙ s.sorts k e is;
+      sorts = λ k e is. type_on v.all.nodes T.nodes e (ap (λ (f : ℕ → Option Node). sort_of (f e.file.number)) s.nodes) (s.sorts k e is);
       noted = λ m is r t. let a = s.noted m is in ap (λ (f : ℕ → Option Node). sort_of (f m.number)) s.nodes ∙ inv.noted h m lt a.0 (elim r [ inl p ↦ inl (a.1 p) | inr p ↦ absurd (let e = s.found in cc (e, p)) ]) t;
       directory = stands_in (D h) (T.cwd h) v.all.nodes T.nodes (ap (λ (f : ℕ → Option Node). sort_of (f (D h).directory)) s.nodes) s.directory;
       refers = record { few = s.few; home = subst (λ (z : ℕ). 0 < (H h).refs z) (sym s.home) (let a = (inv.refers h lt).home in let r = s.refs (v.desks h).directory in omega (arith, a, r)) };

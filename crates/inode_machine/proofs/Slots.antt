@@ -48,7 +48,7 @@ handing h o v O ov free lt inv empty = record {
     rows = λ g ne. refl;
     size = refl;
     ids = inv.ids;
-    shop = record { tied = tied; desks = λ g ne. put_other v.desks h new g ne; numbers = λ g i j e lg ne li r a. (e, a, inl refl); clean = λ c. c; bond = ap (λ (d : Desk). bond_of d) here; stays = inl (ap (λ (d : Desk). d.directory) here) };
+    shop = record { tied = tied; desks = λ g ne. put_other v.desks h new g ne; numbers = λ g i j e lg ne li r a. (e, a, refl, inl refl); clean = λ c. c; bond = ap (λ (d : Desk). bond_of d) here; stays = inl (ap (λ (d : Desk). d.directory) here) };
     free = ap (λ (d : Desk). d.lender) here ∙ ap (λ (p : Own). p.desk.lender) ov ∙ free;
     raised = λ q. ap (λ (d : Desk). d.joined) here ∙ inv.raised h lt q;
     quiet = λ j is f. inv.quiet j h is (sym (ap (λ (d : Desk). d.joined) here) ∙ f);

@@ -87,7 +87,7 @@ pub node_there : (v : World) (s : ℕ) (e : Entry) → Inv v → v.files s ≡ S
 node_there v s e inv at = go (v.all.nodes e.file.number) refl
   where
     go : (o : Option Node) → v.all.nodes e.file.number ≡ o → (x : Node) × (v.all.nodes e.file.number ≡ Some x)
-    go None q = absurd (let a = inv.sorts s e at in let b : sort_of (v.all.nodes e.file.number) ≡ None = ap (λ (z : Option Node). sort_of z) q in cc (a, b))
+    go None q = absurd (let a = (inv.sorts s e at).sort in let b : sort_of (v.all.nodes e.file.number) ≡ None = ap (λ (z : Option Node). sort_of z) q in cc (a, b))
     go (Some x) q = (x, q)
 
 -- what stands behind a descriptor has the hart's reference

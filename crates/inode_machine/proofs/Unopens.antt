@@ -156,7 +156,7 @@ mends_opened h fd v O ov free lt inv opens left hold names = subst (λ (z : Worl
       rows = λ g ne. rows_stay v.all h fd g ne;
       size = refl;
       ids = λ k le. elim (closed_or (record (v.all) { fds = fewer v.all h fd }) k) [ inl q ↦ q ∙ inv.ids k le | inr q ↦ q ];
-      shop = record { tied = tied; desks = λ g ne. put_other v.desks h new g ne; numbers = λ g i k e lg ne li q a. (e, a, inl refl); clean = λ c. absurd cc; bond = ap (λ (d : Desk). bond_of d) here; stays = inl (ap (λ (d : Desk). d.directory) here) };
+      shop = record { tied = tied; desks = λ g ne. put_other v.desks h new g ne; numbers = λ g i k e lg ne li q a. (e, a, refl, inl refl); clean = λ c. absurd cc; bond = ap (λ (d : Desk). bond_of d) here; stays = inl (ap (λ (d : Desk). d.directory) here) };
       free = ap (λ (d : Desk). d.lender) here ∙ ap (λ (o : Own). o.desk.lender) ov ∙ free;
       raised = λ q. ap (λ (d : Desk). d.joined) here ∙ inv.raised h lt q;
       quiet = λ j is2 f. inv.quiet j h is2 (sym (ap (λ (d : Desk). d.joined) here) ∙ f);

@@ -25,15 +25,15 @@ use Rattle.inode_machine.specs.World.Op.{Leave}
 use Rattle.inode_machine.proofs.Resting.{given_is, idle_as, unlocks_nothing}
 use Rattle.tree_moves.specs.Moves.{Step, Played, Written}
 use Rattle.inode_machine.specs.World.{World}
-use Rattle.inode_machine.specs.Rules.{Held, Own, Rests, own_of, nothing, Idle, machine}
+use Rattle.inode_machine.specs.Rules.{Held, KeepsFiles, Own, Rests, own_of, nothing, Idle, machine}
 use Rattle.inode_machine.specs.Parts.{failed}
 use Rattle.inode_machine.specs.Descriptors.{write_reply, write_piece, write_from, write_program}
 use Rattle.inode_machine.specs.Programs.{piece_cost}
 use Rattle.inode_machine.specs.Theory.{descriptor_calls}
 use Rattle.inode_machine.proofs.Rules.{locked_held}
 use Rattle.inode_machine.proofs.Rows.{below_is}
-use Rattle.inode_machine.proofs.Dups.{fails, s-join, s-leave, s-say}
-use Rattle.inode_machine.proofs.Writings.{wrote_step, IsWritable, s-check-file, s-join-file, s-lock-open, s-write-file}
+use Rattle.inode_machine.proofs.Dups.{fails, s-join-from, s-leave-from, s-say}
+use Rattle.inode_machine.proofs.Writings.{wrote_step, IsWritable, OpensFile, file_same, file_stays, s-check-file, s-join-file, s-lock-open, s-write-file}
 
 -- Lists of acts that grow at their end.
 
@@ -201,10 +201,10 @@ rests_still O r = record { inodes = r.inodes; refs = r.refs; walk = refl; pendin
 -- once the inode is given up the transaction is left
 s-leaves : {A : Type 0} {h : ℕ} (O : Own) (i : ℕ) (x : Option Held) {p : P machine A} {B : List Step → Type 0} {Q : A → List Step → World → Type 0} {n : ℕ} {es : List Step} {w : World}
     → own_of h w ≡ record O { inodes = put (put O.inodes i x) i None; mine = record { refs = O.mine.refs; walk = None; pending = None } } → O.desk.lender ≡ None → h < hart_count → 62 < n → O.inodes ≡ nothing → O.desk.joined ≡ true → O.row.hold ≡ None
-    → ((l : ℕ) (u : World) → l + 63 ≡ n → own_of h u ≡ unjoined (given O) → Safe machine h B Q p l es u)
+    → ((l : ℕ) (v u : World) → l + 63 ≡ n → KeepsFiles h w v → u.files ≡ v.files → own_of h u ≡ unjoined (given O) → Safe machine h B Q p l es u)
     → Safe machine h B Q (Do Leave unmarked (λ _. p)) n es w
 s-leaves O i x own free lt pos empty joined none rest =
-    s-leave (own ∙ (λ r. record O { inodes = given_is O.inodes i x empty r; mine = record { refs = O.mine.refs; walk = None; pending = None } })) free lt pos (unlocks_nothing nothing refl) joined (ap (λ (o : Option Hold). holds_raised true o) none)
+    s-leave-from (own ∙ (λ r. record O { inodes = given_is O.inodes i x empty r; mine = record { refs = O.mine.refs; walk = None; pending = None } })) free lt pos (unlocks_nothing nothing refl) joined (ap (λ (o : Option Hold). holds_raised true o) none)
     (λ j y is. absurd (let a : ◌≡◌ {A = Option Held} None (Some y) = is in cc)) rest
 
 piece_short : (bytes : List ℕ) (i : ℕ) → length (piece bytes i) ≤ piece_width
@@ -212,30 +212,32 @@ piece_short bytes i = let a = length-take piece_width (drop (piece_width * i) by
 
 -- One piece: the call ends with it, or goes on.
 s-piece : {h : ℕ} (fd n : ℕ) (bytes : List ℕ) (i : ℕ) (O : Own) {more : P machine Reply} {N : ℕ} {w : World}
-    → own_of h w ≡ O → O.desk.lender ≡ None → h < hart_count → 165 < N → O.desk.joined ≡ true → Rests (unjoined O) → IsWritable O fd n → i < piece_count bytes
-    → ((l : ℕ) (u : World) → l + 165 ≡ N → own_of h u ≡ unjoined (given O) → Safe machine h (Begun descriptor_calls (calls.Write fd bytes)) (Ends descriptor_calls h (calls.Write fd bytes)) more l (wrote_steps fd bytes (suc i)) u)
+    → own_of h w ≡ O → O.desk.lender ≡ None → h < hart_count → 165 < N → O.desk.joined ≡ true → Rests (unjoined O) → (key : IsWritable O fd n) → OpensFile w key.opened.slot → i < piece_count bytes
+    → ((l : ℕ) (u : World) → l + 165 ≡ N → OpensFile u key.opened.slot → own_of h u ≡ unjoined (given O) → Safe machine h (Begun descriptor_calls (calls.Write fd bytes)) (Ends descriptor_calls h (calls.Write fd bytes)) more l (wrote_steps fd bytes (suc i)) u)
     → Safe machine h (Begun descriptor_calls (calls.Write fd bytes)) (Ends descriptor_calls h (calls.Write fd bytes)) (write_piece fd n bytes i more) N (wrote_steps fd bytes i) w
-s-piece {h} fd n bytes i O own free lt pos joined rests key below rest =
-    s-lock-open fd n own free lt (omega (arith, pos)) rests.opening (λ j. ap (λ (f : ℕ → Option Held). f j) rests.inodes) key (λ l0 offset x u0 q0 stands own0.
+s-piece {h} fd n bytes i O own free lt pos joined rests key file below rest =
+    s-lock-open fd n own free lt (omega (arith, pos)) rests.opening (λ j. ap (λ (f : ℕ → Option Held). f j) rests.inodes) key file (λ l0 offset x u0 q0 stands file0 own0.
     s-write-file fd n offset (piece bytes i) x own0 free lt (omega (arith, pos, q0)) rests.walk rests.pending rests.opening (put_same O.inodes n (Some (locked_held (Some x)))) joined
-    (record { opened = record { slot = key.opened.slot; below = key.opened.below; is = key.opened.is; key = key.opened.key; at = key.opened.at; number = key.opened.number }; writable = key.writable }) (record { entry = stands.entry; at = stands.at; number = stands.number; offset_is = stands.offset_is }) (piece_short bytes i) (λ c. begun_failed fd bytes i c below) (begun_wrote fd bytes i below)
-    (λ l c u q own2. s-leaves O n (Some (locked_held (Some x))) own2 free lt (omega (arith, pos, q0, q)) rests.inodes joined rests.hold (λ l2 u2 q2 own3.
+    (record { opened = record { slot = key.opened.slot; below = key.opened.below; is = key.opened.is; key = key.opened.key; at = key.opened.at; number = key.opened.number }; writable = key.writable }) (record { entry = stands.entry; at = stands.at; number = stands.number; offset_is = stands.offset_is }) file0 (piece_short bytes i) (λ c. begun_failed fd bytes i c below) (begun_wrote fd bytes i below)
+    (λ l c u q own2. s-leaves O n (Some (locked_held (Some x))) own2 free lt (omega (arith, pos, q0, q)) rests.inodes joined rests.hold (λ l2 v2 u2 q2 keeps2 same2 own3.
     s-say own3 free lt (omega (arith, pos, q0, q, q2)) (unlocks_nothing nothing refl) refl (λ l3 u3 q3 _ own4. record { wp = (λ _. failed_written fd bytes i c below, idle_as h u3 _ own4 (rests_again O rests)) })))
-    (λ l j u q dirty own2. s-leaves (filled O) n (Some (locked_held (Some x))) own2 free lt (omega (arith, pos, q0, q)) rests.inodes joined rests.hold (λ l2 u2 q2 own3.
+    (λ l j u q dirty own2. s-leaves (filled O) n (Some (locked_held (Some x))) own2 free lt (omega (arith, pos, q0, q)) rests.inodes joined rests.hold (λ l2 v2 u2 q2 keeps2 same2 own3.
     s-say own3 free lt (omega (arith, pos, q0, q, q2)) (unlocks_nothing nothing refl) refl (λ l3 u3 q3 spoilt own4. record { wp = (λ c. absurd (let a = spoilt refl in cc (a, c)), idle_as h u3 _ own4 (rests_filled O rests)) })))
-    (λ l u q own2. s-leaves O n (Some (locked_held (Some x))) own2 free lt (omega (arith, pos, q0, q)) rests.inodes joined rests.hold (λ l2 u2 q2 own3. rest l2 u2 (omega (arith, q0, q, q2)) own3)))
+    (λ l u q file1 own2. s-leaves O n (Some (locked_held (Some x))) own2 free lt (omega (arith, pos, q0, q)) rests.inodes joined rests.hold (λ l2 v2 u2 q2 keeps2 same2 own3.
+    rest l2 u2 (omega (arith, q0, q, q2)) (file_same key.opened.slot v2 u2 same2 (file_stays h fd key.opened.slot u v2 lt key.opened.below (ap (λ (o : Own). o.desk.fds fd) own2 ∙ key.opened.is) keeps2 file1)) own3)))
 
 -- The pieces from one on.
-from_ok : (h fd n : ℕ) (bytes : List ℕ) (left i N : ℕ) (O : Own) (w : World) → own_of h w ≡ O → O.desk.lender ≡ None → h < hart_count → O.desk.joined ≡ true → Rests (unjoined O) → IsWritable O fd n → i + left + 1 ≡ piece_count bytes → 200 * left + 200 ≤ N
+from_ok : (h fd n : ℕ) (bytes : List ℕ) (left i N : ℕ) (O : Own) (w : World) → own_of h w ≡ O → O.desk.lender ≡ None → h < hart_count → O.desk.joined ≡ true → Rests (unjoined O) → (key : IsWritable O fd n) → OpensFile w key.opened.slot → i + left + 1 ≡ piece_count bytes → 200 * left + 200 ≤ N
     → Safe machine h (Begun descriptor_calls (calls.Write fd bytes)) (Ends descriptor_calls h (calls.Write fd bytes)) (write_from fd n bytes left i) N (wrote_steps fd bytes i) w
-from_ok h fd n bytes zero i N O w own free lt joined rests key count enough =
-    s-piece fd n bytes i O own free lt (omega (arith, enough)) joined rests key (omega (arith, count)) (λ l u q own2.
+from_ok h fd n bytes zero i N O w own free lt joined rests key file count enough =
+    s-piece fd n bytes i O own free lt (omega (arith, enough)) joined rests key file (omega (arith, count)) (λ l u q file2 own2.
     s-say own2 free lt (omega (arith, enough, q)) (unlocks_nothing nothing refl) refl (λ l2 u2 q2 _ own3. record { wp = (λ _. whole_written fd bytes (suc i) (omega (arith, count)), idle_as h u2 _ own3 (rests_again O rests)) }))
-from_ok h fd n bytes (suc left) i N O w own free lt joined rests key count enough =
-    s-piece fd n bytes i O own free lt (omega (arith, enough)) joined rests key (omega (arith, count)) (λ l u q own2.
-    s-join own2 free lt (omega (arith, enough, q)) (unlocks_nothing nothing refl) refl (λ l2 u2 q2 own3.
+from_ok h fd n bytes (suc left) i N O w own free lt joined rests key file count enough =
+    s-piece fd n bytes i O own free lt (omega (arith, enough)) joined rests key file (omega (arith, count)) (λ l u q file2 own2.
+    s-join-from own2 free lt (omega (arith, enough, q)) (unlocks_nothing nothing refl) refl (λ l2 v2 u2 q2 keeps2 same2 own3.
     subst (λ (k : ℕ). Safe machine h (Begun descriptor_calls (calls.Write fd bytes)) (Ends descriptor_calls h (calls.Write fd bytes)) (write_from fd n bytes left (i + 1)) l2 (wrote_steps fd bytes k) u2) (add-one i)
-    (from_ok h fd n bytes left (i + 1) l2 (again O) u2 own3 free lt refl (rests_again O rests) (record { opened = record { slot = key.opened.slot; below = key.opened.below; is = key.opened.is; key = key.opened.key; at = key.opened.at; number = key.opened.number }; writable = key.writable }) (omega (arith, count)) (omega (arith, enough, q, q2)))))
+    (from_ok h fd n bytes left (i + 1) l2 (again O) u2 own3 free lt refl (rests_again O rests) (record { opened = record { slot = key.opened.slot; below = key.opened.below; is = key.opened.is; key = key.opened.key; at = key.opened.at; number = key.opened.number }; writable = key.writable })
+    (file_same key.opened.slot v2 u2 same2 (file_stays h fd key.opened.slot u v2 lt key.opened.below (ap (λ (o : Own). o.desk.fds fd) own2 ∙ key.opened.is) keeps2 file2)) (omega (arith, count)) (omega (arith, enough, q, q2)))))
 
 some_pieces : (bytes : List ℕ) → 0 < piece_count bytes
 some_pieces bytes = go (length bytes)
@@ -261,6 +263,6 @@ write_ok h fd (b ∷ bs) w free lt idle =
     let some = some_pieces (b ∷ bs) in
     s-join-file fd (piece (b ∷ bs) 0) refl free lt (omega (arith, some)) idle.walk idle.pending idle.opening (unlocks_nothing (own_of h w).inodes idle.inodes) idle.joined (λ c. begun_failed fd (b ∷ bs) 0 c some)
     (λ l c u q own. record { wp = (λ _. failed_written fd (b ∷ bs) 0 c some, idle_as h u _ own (rests_still (own_of h w) idle)) })
-    (λ l i u q key own.
-    from_ok h fd i (b ∷ bs) (piece_count (b ∷ bs) - 1) 0 l (joins (own_of h w)) u own free lt refl (rests_joins (own_of h w) idle) (record { opened = record { slot = key.opened.slot; below = key.opened.below; is = key.opened.is; key = key.opened.key; at = key.opened.at; number = key.opened.number }; writable = key.writable })
+    (λ l i u q key file own.
+    from_ok h fd i (b ∷ bs) (piece_count (b ∷ bs) - 1) 0 l (joins (own_of h w)) u own free lt refl (rests_joins (own_of h w) idle) (record { opened = record { slot = key.opened.slot; below = key.opened.below; is = key.opened.is; key = key.opened.key; at = key.opened.at; number = key.opened.number }; writable = key.writable }) file
     (omega (arith, some)) (enough_left (piece_count (b ∷ bs)) l _ some q refl))

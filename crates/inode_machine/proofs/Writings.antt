@@ -1,37 +1,39 @@
 -- Write: a descriptor is looked up, its inode locked, a piece written at the offset, and the offset moves, with the lock given up.
-use Rattle.std.proofs.Common.{◌≡◌, inl, inr, ℕ, ◌+◌, ◌-◌, ◌<◌, ◌≤◌, Bool, true, false, List, [], ◌∷◌, take, length, Option, Some, None, refl, sym, ◌∙◌, ap, subst, arith}
+use Rattle.std.proofs.Common.{◌≡◌, ◌≢◌, inl, inr, ℕ, ◌+◌, ◌-◌, ◌<◌, ◌≤◌, Bool, true, false, List, [], ◌∷◌, take, length, Option, Some, None, refl, sym, ◌∙◌, ap, subst, arith}
 use Rattle.atomic_programs.specs.Prog.{Do, Ran, unmarked, Did as Came}
 use Rattle.atomic_programs.specs.Logic.{P, own, onto, Good, Fine, Safe, Wp}
 use Rattle.plain_tree.specs.declared.answer.Cause.{Cause}
 use Rattle.plain_tree.specs.declared.answer.Cause.TheVariants.{BadDescriptor}
 use Rattle.plain_tree.specs.declared.node.Node.{Node}
+use Rattle.plain_tree.specs.declared.node.Kind.{Kind}
+use Rattle.plain_tree.specs.declared.node.Kind.TheVariants.{Directory, File, Device}
 use Rattle.plain_tree.specs.declared.step.Action.TheVariants.{WritePart}
 use Rattle.plain_tree.specs.declared.step.StepAnswer.TheVariants.{Done}
-use Rattle.plain_tree.specs.Widths.{hart_count, piece_width}
+use Rattle.plain_tree.specs.Widths.{hart_count, descriptor_count, piece_width}
 use Rattle.plain_tree.specs.Tree.{Name, Tree, put, is_live, settle, resolve, parent}
-use Rattle.plain_tree.specs.Steps.{node_or, refusal_with, with_nodes, write_kind}
+use Rattle.plain_tree.specs.Steps.{is_file, node_or, refusal_with, with_nodes, write_kind}
 use Rattle.tree_laws.specs.WellFormed.{IsWellFormed}
 use Rattle.tree_laws.proofs.Maps.{same_or, put_same, put_other}
 use Rattle.tree_moves.specs.Moves.{Stage, Step, Takes}
 use Rattle.tree_moves.specs.Moves.Move.{Own as OwnMove}
 use Rattle.inode_machine.specs.World.{Entry, Desk, World, stage_of, Outside, Room, RoomFor, Picks, Joining, NotJoined, Joined, Wrote, Whole, Refused as Stopped, Short}
 use Rattle.inode_machine.specs.World.Op.{CheckFile, JoinFile, LockOpen, WriteFile}
-use Rattle.inode_machine.specs.Inodes.{Sort, sort_of}
+use Rattle.inode_machine.specs.Inodes.{Sort, OfDirectory, OfFile, OfDevice, no_driver_for, sort_of, sort_of_kind}
 use Rattle.inode_machine.specs.Marks.{Made, places, with_mark, made_by, new_id, with_made, spoiled}
-use Rattle.inode_machine.specs.Exec.{slot_at, entry_at, entry_of, offset_of, lock_if, locked, join_at, unlocked, with_joined, with_bytes, with_offset, with_record, with_walk, mode_refusal, write_at, write_if, write_refused}
+use Rattle.inode_machine.specs.Exec.{slot_at, entry_moved, entry_at, entry_of, offset_of, lock_if, locked, join_at, unlocked, with_joined, with_bytes, with_offset, with_record, with_walk, mode_refusal, write_at, write_if, write_refused}
 use Rattle.plain_tree.specs.HartRow.{Key}
 use Rattle.plain_tree.proofs.Settling.{file_settled, settle_again}
-use Rattle.inode_machine.specs.Rules.{Own, Held, view, is_hart, own_of, shop_of, Inv, machine, IsOut, HonestPiece}
+use Rattle.inode_machine.specs.Rules.{Own, Held, view, is_hart, own_of, shop_of, Inv, KeepsFiles, machine, IsOut, HonestPiece}
 use Rattle.inode_machine.specs.Parts.{own_step}
 use Rattle.inode_machine.specs.Descriptors.{refused_to, writes}
-use Rattle.inode_machine.proofs.Frame.{put_elim, is_put, shop_same, ours_none, ours_some, kept_here, Did, Fair, fair, fair_then, own_inodes, has_inode, stands_in}
+use Rattle.inode_machine.proofs.Frame.{put_elim, is_put, shop_same, ours_none, ours_some, kept_here, Did, Fair, fair, fair_then, own_inodes, has_inode, stands_in, type_on}
 use Rattle.inode_machine.proofs.Rules.{s-owned, s-owned-from, quiet, fine_after, has_disk, has_node, others, locking, locked_held, is_out, locks_it, locks_none, UnlocksAll}
 use Rattle.inode_machine.proofs.Counting.{Gives, after_unlock, gives}
 use Rattle.inode_machine.proofs.Walking.{stage_walk, moves_good, own_walk, walk_did}
 use Rattle.inode_machine.proofs.Shops.{own_takes}
 use Rattle.inode_machine.proofs.Dups.{Behind, behind, behind_none, Flagging, flagging, filling, fails, refused_good, Refused as RefusedStep}
 use Rattle.inode_machine.proofs.Stats.{entry_is, node_settled, node_there}
-use Rattle.inode_machine.proofs.Readings.{IsOpenAt, StandsBy, stands_still, Moving, entry_here, moved_names, moved_world, moving, offset_on, open_from, slot_is}
+use Rattle.inode_machine.proofs.Readings.{IsOpenAt, StandsBy, reads_from, stands_still, Moving, entry_here, moved_names, moved_world, moving, offset_on, open_from, slot_is}
 use Rattle.inode_machine.proofs.Pieces.{write_by_kind, write_place, write_refused_at, write_refused_none, write_stops, empty_piece_goes, fewer_go, wrote_is, write_effect, write_answer, settle_wrote, well_wrote, written_type}
 
 abbrev pub wrote_step : ℕ → List ℕ → Step
@@ -87,7 +89,7 @@ changing h i y x v O ov free lt inv none isi sort live well = record { fair = fa
             | inr ne ↦ put_other v.disk i (Some y) j ne ∙ inv.quiet j h is f ∙ sym (put_other v.all.nodes i (Some y) j ne)
           ];
           sort = λ j. inl (sorts j);
-          sorts = λ k e is. sorts e.file.number ∙ inv.sorts k e is;
+          sorts = λ k e is. type_on v.all.nodes (put v.all.nodes i (Some y)) e (sorts e.file.number) (inv.sorts k e is);
           noted = λ n is r s. sorts n.number ∙ inv.noted h n lt is r s;
           directory = stands_in (v.desks h) (v.all.cwd h) v.all.nodes (put v.all.nodes i (Some y)) (sorts (v.desks h).directory) (inv.directory h lt);
           refers = inv.refers h lt;
@@ -193,25 +195,62 @@ writable_here h fd n v O k inv ov lt idle =
     let z = entry_here h fd n v O k.opened inv ov lt idle in
     (z.0, z.1, ap (λ (q : Key). q.number) z.2 ∙ k.opened.number, ap (λ (q : Key). q.writable) z.2 ∙ k.writable)
 
-writes_to : (w : Bool) (s : Sort) → mode_refusal w s ≡ None → w ≡ true
+pub writes_to : (w : Bool) (s : Sort) → mode_refusal w s ≡ None → w ≡ true
 writes_to true s e = refl
 writes_to false s e = absurd cc
 
-pub writable_from : (h fd s : ℕ) (e : Entry) (v : World) (O : Own) → Inv v → own_of h v ≡ O → h < hart_count → Behind h fd s e v → write_refused (Some e) ≡ None → IsWritable O fd e.file.number
+abbrev pub writable_from : (h fd s : ℕ) (e : Entry) (v : World) (O : Own) → Inv v → own_of h v ≡ O → h < hart_count → Behind h fd s e v → write_refused (Some e) ≡ None → IsWritable O fd e.file.number
 writable_from h fd s e v O inv ov lt hit goes = record { opened = open_from h fd s e v O inv ov lt hit; writable = writes_to e.file.writable e.sort goes }
+
+-- What a slot has open is a file.
+pub record OpensFile (w : World) (slot : ℕ) : Type 0 where
+  pub entry : Entry
+  pub at : w.files slot ≡ Some entry
+  pub sort : entry.sort ≡ OfFile
+
+-- which stays so behind a descriptor of the hart
+pub file_stays : (h fd s : ℕ) (w v : World) → h < hart_count → fd < descriptor_count → (w.desks h).fds fd ≡ Some s → KeepsFiles h w v → OpensFile w s → OpensFile v s
+file_stays h fd s w v lt below is keeps f = let y = keeps fd s f.entry lt below is f.at in record { entry = y.0; at = y.1; sort = y.2 ∙ f.sort }
+
+pub file_same : (s : ℕ) (v u : World) → u.files ≡ v.files → OpensFile v s → OpensFile u s
+file_same s v u same f = record { entry = f.entry; at = (λ z. same z s) ∙ f.at; sort = f.sort }
+
+only_file : (s : Sort) → no_driver_for s ≡ None → s ≢ OfDirectory → s ≡ OfFile
+only_file OfDirectory e ne = absurd (ne refl)
+only_file OfFile e ne = refl
+only_file (OfDevice major) e ne = absurd cc
+
+file_from : (s : ℕ) (e : Entry) (v : World) → Inv v → v.files s ≡ Some e → write_refused (Some e) ≡ None → OpensFile v s
+file_from s e v inv at goes = let r = reads_from e.file.writable e.sort goes in record { entry = e; at = at; sort = only_file e.sort r.1 ((inv.sorts s e at).written r.0) }
+
+is_file_kind : (k : Kind) → sort_of_kind k ≡ OfFile → is_file k ≡ true
+is_file_kind (Directory slots) e = absurd cc
+is_file_kind (File bytes) e = refl
+is_file_kind (Device major minor size) e = absurd cc
+
+-- so the inode behind it is one
+file_node : (s i : ℕ) (e : Entry) (y : Node) (v : World) → Inv v → v.files s ≡ Some e → e.file.number ≡ i → v.all.nodes i ≡ Some y → OpensFile v s → is_file y.kind ≡ true
+file_node s i e y v inv at num node f = is_file_kind y.kind (
+    let a : Some e ≡ Some f.entry = sym at ∙ f.at in
+    let b : e ≡ f.entry = cc in
+    let c : Some (sort_of_kind y.kind) ≡ Some e.sort = ap (λ (z : Option Node). sort_of z) (sym node) ∙ ap (λ (z : ℕ). sort_of (v.all.nodes z)) (sym num) ∙ (inv.sorts s e at).sort in
+    let d : e.sort ≡ OfFile = ap (λ (z : Entry). z.sort) b ∙ f.sort in
+    let g : sort_of_kind y.kind ≡ e.sort = cc in
+    g ∙ d
+    )
 
 -- what the table refuses is refused in the tree
 pub table_refuses : (h fd s : ℕ) (e : Entry) (b : List ℕ) (c : Cause) (v : World) → Inv v → h < hart_count → Behind h fd s e v → write_refused (Some e) ≡ Some c → RefusedStep h (WritePart fd b) c v
 table_refuses h fd s e b c v inv lt hit stops = write_refused_at h fd b c v lt
-    (λ res par. write_stops v.all h fd b e c res par hit.file (inv.sorts s e hit.at) stops)
-    (λ res par. write_stops (settle v.all) h fd b e c res par (file_settled v.all h fd ∙ hit.file) (ap (λ (z : Option Node). sort_of z) (node_settled h fd v e s inv lt hit) ∙ inv.sorts s e hit.at) stops)
+    (λ res par. write_stops v.all h fd b e c res par hit.file (inv.sorts s e hit.at).sort stops)
+    (λ res par. write_stops (settle v.all) h fd b e c res par (file_settled v.all h fd ∙ hit.file) (ap (λ (z : Option Node). sort_of z) (node_settled h fd v e s inv lt hit) ∙ (inv.sorts s e hit.at).sort) stops)
 
 -- The transaction is joined for a descriptor to write to; or the first piece is refused.
 pub s-join-file : {A : Type 0} {h : ℕ} (fd : ℕ) (b : List ℕ) {k : Joining → P machine A} {B : List Step → Type 0} {Q : A → List Step → World → Type 0} {n : ℕ} {es : List Step} {w : World} {O : Own}
     → own_of h w ≡ O → O.desk.lender ≡ None → h < hart_count → 0 < n → O.mine.walk ≡ None → O.mine.pending ≡ None → O.desk.opening ≡ None → UnlocksAll O → O.desk.joined ≡ false
     → ((c : Cause) → B (fails (WritePart fd b) c ∷ es))
     → ((l : ℕ) (c : Cause) (u : World) → l + 1 ≡ n → own_of h u ≡ record O { mine = record { refs = O.mine.refs; walk = None; pending = None } } → Safe machine h B Q (k (NotJoined c)) l (fails (WritePart fd b) c ∷ es) u)
-    → ((l i : ℕ) (u : World) → l + 1 ≡ n → IsWritable O fd i → own_of h u ≡ record O { desk = record (O.desk) { joined = true } } → Safe machine h B Q (k (Joined i)) l es u)
+    → ((l i : ℕ) (u : World) → l + 1 ≡ n → (key : IsWritable O fd i) → OpensFile u key.opened.slot → own_of h u ≡ record O { desk = record (O.desk) { joined = true } } → Safe machine h B Q (k (Joined i)) l es u)
     → Safe machine h B Q (Do (JoinFile fd) (refused_to fd b) k) n es w
 s-join-file {A} {h} fd b {k} {B} {Q} {n} {es} {w} {O} owns free lt pos walks none idle unlocks out bf bad then_ = s-owned owns free pos (λ v inv ov. ((locks_none h v O inv ov unlocks, ap (λ (o : Own). o.desk.joined) ov ∙ out), (λ _ _. at v inv ov (slot_at v h fd) refl)))
   where
@@ -226,7 +265,7 @@ s-join-file {A} {h} fd b {k} {B} {Q} {n} {es} {w} {O} owns free lt pos walks non
         let new : Desk = record (v.desks h) { joined = true } in
         let f = flagging h v O new (record (O.desk) { joined = true }) v.clean ov free lt inv (ap (λ (o : Own). record (o.desk) { joined = true }) ov)
         (record { fds = refl; hand = refl; lent = refl; opening = refl; left = refl; directory = refl }) (ap (λ (o : Own). o.desk.lender) ov ∙ free) (λ f j is. absurd cc) (λ q. refl) (λ m q r s. inv.noted h m lt q r s) (λ q. inv.tied.spoiled h q) (λ q. q) (λ q. q) in
-        quiet f.fair refl pos (λ l q. (then_ l e.file.number (with_joined v h true) q (writable_from h fd s e v O inv ov lt hit goes) f.owned).wp)
+        quiet f.fair refl pos (λ l q. (then_ l e.file.number (with_joined v h true) q (writable_from h fd s e v O inv ov lt hit goes) (file_same s v (with_joined v h true) refl (file_from s e v inv hit.at goes)) f.owned).wp)
     by_cause v inv ov s e hit (Some c) stops =
         refused_good h 0 n B Q es v O (WritePart fd b) c (k (NotJoined c)) ov free lt inv walks none (table_refuses h fd s e b c v inv lt hit stops) (bf c) pos (λ l u p own2. bad l c u p own2)
 
@@ -256,11 +295,11 @@ s-check-file {A} {h} fd {k} {B} {Q} {n} {es} {w} {O} owns free lt pos walks none
         refused_good h 0 n B Q es v O (WritePart fd []) c (k (Some c)) ov free lt inv walks none (table_refuses h fd s e [] c v inv lt hit stops) (bf c) pos (λ l u p own2. bad l c u p own2)
     by_cause v inv ov s e hit None goes =
         moves_good h 0 n B Q es v v (OwnMove (WritePart fd []) 0) (k None) (made_by v.all h (new_id v) (v.harts h).walk (OwnMove (WritePart fd []) 0)) (record { all = v.all; walk = None; found = None; opened = None; entered = None; left = None; told = (wrote_step fd []).told })
-        (rw (empty_piece_goes v.all h fd e (resolve v.all h []) (parent v.all h []) hit.file (inv.sorts s e hit.at) goes)
+        (rw (empty_piece_goes v.all h fd e (resolve v.all h []) (parent v.all h []) hit.file (inv.sorts s e hit.at).sort goes)
         (λ r. record { all = write_effect v.all h fd 0 (new_id v) [] (resolve v.all h []) (parent v.all h []) r; walk = None; found = None; opened = None; entered = None; left = None; told = Some (record { act = record { step = WritePart fd []; answer = write_answer v.all h fd (new_id v) [] (resolve v.all h []) (parent v.all h []) r }; new = 0 }) }))
         (fair inv (walk_did h None None v (ap (λ (o : Own). o.desk.lender) ov ∙ free) lt inv (ap (λ (o : Own). o.mine.pending) ov ∙ none) (λ m q p. absurd cc) (λ z p. absurd cc) (λ j p. absurd cc)))
         (own_takes h v (record v { harts = with_walk v.harts h None None }) (WritePart fd []) Done refl refl (ap (λ (o : Own). o.mine.walk) ov ∙ walks) (λ z. refl) (λ g z. absurd cc) (
-          empty_piece_goes (settle v.all) h fd e (resolve (settle v.all) h []) (parent (settle v.all) h []) (file_settled v.all h fd ∙ hit.file) (ap (λ (z : Option Node). sort_of z) (node_settled h fd v e s inv lt hit) ∙ inv.sorts s e hit.at) goes,
+          empty_piece_goes (settle v.all) h fd e (resolve (settle v.all) h []) (parent (settle v.all) h []) (file_settled v.all h fd ∙ hit.file) (ap (λ (z : Option Node). sort_of z) (node_settled h fd v e s inv lt hit) ∙ (inv.sorts s e hit.at).sort) goes,
           sym (write_answer (settle v.all) h fd (new_id v) [] (resolve (settle v.all) h []) (parent (settle v.all) h [])),
           record { node = λ z. absurd cc; file = λ z. absurd cc },
           settle_again v.all ∙ ap (λ (z : Tree). settle z) (sym (write_effect (settle v.all) h fd 0 (new_id v) [] (resolve (settle v.all) h []) (parent (settle v.all) h []))),
@@ -278,39 +317,41 @@ s-check-file {A} {h} fd {k} {B} {Q} {n} {es} {w} {O} owns free lt pos walks none
 
 -- The lock of what a descriptor to write to names is taken.
 pub s-lock-open : {A : Type 0} {h : ℕ} (fd i : ℕ) {k : ℕ → P machine A} {B : List Step → Type 0} {Q : A → List Step → World → Type 0} {n : ℕ} {es : List Step} {w : World} {O : Own}
-    → own_of h w ≡ O → O.desk.lender ≡ None → h < hart_count → 3 < n → O.desk.opening ≡ None → ((j : ℕ) → O.inodes j ≡ None) → (key : IsWritable O fd i)
-    → ((l offset : ℕ) (x : Node) (u : World) → l + 4 ≡ n → StandsBy u key.opened.slot i offset → own_of h u ≡ record O { inodes = put O.inodes i (Some (locked_held (Some x))) } → Safe machine h B Q (k offset) l es u)
+    → own_of h w ≡ O → O.desk.lender ≡ None → h < hart_count → 3 < n → O.desk.opening ≡ None → ((j : ℕ) → O.inodes j ≡ None) → (key : IsWritable O fd i) → OpensFile w key.opened.slot
+    → ((l offset : ℕ) (x : Node) (u : World) → l + 4 ≡ n → StandsBy u key.opened.slot i offset → OpensFile u key.opened.slot → own_of h u ≡ record O { inodes = put O.inodes i (Some (locked_held (Some x))) } → Safe machine h B Q (k offset) l es u)
     → Safe machine h B Q (Do (LockOpen fd i) unmarked k) n es w
-s-lock-open {A} {h} fd i {k} {B} {Q} {n} {es} {w} {O} owns free lt pos idle empty key then_ = s-owned owns free pos (λ v inv ov.
+s-lock-open {A} {h} fd i {k} {B} {Q} {n} {es} {w} {O} owns free lt pos idle empty key file then_ = s-owned-from owns free pos (λ v inv ov keeps.
     let z = writable_here h fd i v O key inv ov lt idle in
-    ((locks_none h v O inv ov (λ j x q. absurd (let a = empty j in cc (a, q))), record { entry = z.0; at = entry_is h fd key.opened.slot z.0 v (slot_is h fd i v O key.opened ov) z.1; number = z.2; writable = z.3 }), (λ _ _. at v inv ov z.0 z.1 z.2 (offset_of (entry_of v h fd)) (ap offset_of (entry_is h fd key.opened.slot z.0 v (slot_is h fd i v O key.opened ov) z.1)) (v.lock i) refl)))
+    ((locks_none h v O inv ov (λ j x q. absurd (let a = empty j in cc (a, q))), record { entry = z.0; at = entry_is h fd key.opened.slot z.0 v (slot_is h fd i v O key.opened ov) z.1; number = z.2; writable = z.3 }), (λ _ _. at v inv ov (file_stays h fd key.opened.slot w v lt key.opened.below (ap (λ (o : Own). o.desk.fds fd) owns ∙ key.opened.is) keeps file) z.0 z.1 z.2 (offset_of (entry_of v h fd)) (ap offset_of (entry_is h fd key.opened.slot z.0 v (slot_is h fd i v O key.opened ov) z.1)) (v.lock i) refl)))
   where
-    at : (v : World) → Inv v → own_of h v ≡ O → (e : Entry) → Behind h fd key.opened.slot e v → e.file.number ≡ i → (offset : ℕ) → offset ≡ e.file.offset → (r : Option ℕ) → v.lock i ≡ r
+    at : (v : World) → Inv v → own_of h v ≡ O → OpensFile v key.opened.slot → (e : Entry) → Behind h fd key.opened.slot e v → e.file.number ≡ i → (offset : ℕ) → offset ≡ e.file.offset → (r : Option ℕ) → v.lock i ≡ r
         → Good machine ℕ h (λ a. []) 3 n B es v (IsOut h (v.lock i)) (with_mark h unmarked (lock_if h i offset v (locked h i v) r)) (λ l a u. Wp machine h B Q (k a) l es u)
-    at v inv ov e hit num offset is (Some g) q = is_out h i g v O inv ov (empty i) q
-    at v inv ov e hit num offset is None q =
+    at v inv ov held e hit num offset is (Some g) q = is_out h i g v O inv ov (empty i) q
+    at v inv ov held e hit num offset is None q =
         let there = node_there v key.opened.slot e inv hit.at in
         let node : v.all.nodes i ≡ Some there.0 = ap v.all.nodes (sym num) ∙ there.1 in
         let a = locking h i v O ov free lt inv (empty i) (inl (record { fd = fd; below = hit.below; slot = key.opened.slot; is = hit.is; entry = e; at = hit.at; number = num })) q in
-        quiet a.fair refl pos (λ l p. (then_ l offset there.0 (locked h i v) p (record { entry = e; at = hit.at; number = num; offset_is = sym is }) (a.owned ∙ (λ r. record O { inodes = put O.inodes i (Some (locked_held (node r))) }))).wp)
+        quiet a.fair refl pos (λ l p. (then_ l offset there.0 (locked h i v) p (record { entry = e; at = hit.at; number = num; offset_is = sym is }) (file_same key.opened.slot v (locked h i v) refl held) (a.owned ∙ (λ r. record O { inodes = put O.inodes i (Some (locked_held (node r))) }))).wp)
 
 -- A piece: all of it, refused, or as much as there are blocks for; and the lock is given up.
 pub s-write-file : {A : Type 0} {h : ℕ} (fd i offset : ℕ) (b : List ℕ) (x : Node) {k : Wrote → P machine A} {B : List Step → Type 0} {Q : A → List Step → World → Type 0} {n : ℕ} {es : List Step} {w : World} {O : Own}
-    → own_of h w ≡ O → O.desk.lender ≡ None → h < hart_count → 97 < n → O.mine.walk ≡ None → O.mine.pending ≡ None → O.desk.opening ≡ None → O.inodes i ≡ Some (locked_held (Some x)) → O.desk.joined ≡ true → (key : IsWritable O fd i) → StandsBy w key.opened.slot i offset → length b ≤ piece_width
+    → own_of h w ≡ O → O.desk.lender ≡ None → h < hart_count → 97 < n → O.mine.walk ≡ None → O.mine.pending ≡ None → O.desk.opening ≡ None → O.inodes i ≡ Some (locked_held (Some x)) → O.desk.joined ≡ true → (key : IsWritable O fd i) → StandsBy w key.opened.slot i offset → OpensFile w key.opened.slot → length b ≤ piece_width
     → ((c : Cause) → B (fails (WritePart fd b) c ∷ es)) → B (wrote_step fd b ∷ es)
     → ((l : ℕ) (c : Cause) (u : World) → l + 98 ≡ n → own_of h u ≡ record O { inodes = put O.inodes i None; mine = record { refs = O.mine.refs; walk = None; pending = None } } → Safe machine h B Q (k (Stopped c)) l (fails (WritePart fd b) c ∷ es) u)
     → ((l j : ℕ) (u : World) → l + 98 ≡ n → u.clean ≡ false → own_of h u ≡ record O { inodes = put O.inodes i None; mine = record { refs = O.mine.refs; walk = None; pending = None }; desk = record (O.desk) { full = true } } → Safe machine h B Q (k (Short j)) l es u)
-    → ((l : ℕ) (u : World) → l + 98 ≡ n → own_of h u ≡ record O { inodes = put O.inodes i None; mine = record { refs = O.mine.refs; walk = None; pending = None } } → Safe machine h B Q (k Whole) l (wrote_step fd b ∷ es) u)
+    → ((l : ℕ) (u : World) → l + 98 ≡ n → OpensFile u key.opened.slot → own_of h u ≡ record O { inodes = put O.inodes i None; mine = record { refs = O.mine.refs; walk = None; pending = None } } → Safe machine h B Q (k Whole) l (wrote_step fd b ∷ es) u)
     → Safe machine h B Q (Do (WriteFile fd i offset b) (writes fd b) k) n es w
-s-write-file {A} {h} fd i offset b y {k} {B} {Q} {n} {es} {w} {O} owns free lt pos walks none idle isi joined key stands short_piece bf bd bad short then_ = s-owned-from owns free pos (λ v inv ov keeps.
-    let z = writable_here h fd i v O key inv ov lt idle in (
+s-write-file {A} {h} fd i offset b y {k} {B} {Q} {n} {es} {w} {O} owns free lt pos walks none idle isi joined key stands file short_piece bf bd bad short then_ = s-owned-from owns free pos (λ v inv ov keeps.
+    let z = writable_here h fd i v O key inv ov lt idle in
+    let held = file_stays h fd key.opened.slot w v lt key.opened.below (ap (λ (o : Own). o.desk.fds fd) owns ∙ key.opened.is) keeps file in (
       (
         (locks_it h i v O (locked_held (Some y)) ov isi refl, ap (λ (o : Own). o.desk.joined) ov ∙ joined),
         record { entry = z.0; at = entry_is h fd key.opened.slot z.0 v (slot_is h fd i v O key.opened ov) z.1; number = z.2; writable = z.3 },
         stands_still h fd i offset (locked_held (Some y)) w v O key.opened owns ov lt isi keeps stands,
+        record { node = y; is = has_disk h i v O (locked_held (Some y)) ov isi; fits = file_node key.opened.slot i z.0 y v inv z.1.at z.2 (has_node h i v O (locked_held (Some y)) ov isi) held },
         short_piece,
       ),
-      (λ x honest. at v inv ov x honest z.0 z.1 z.2 z.3),
+      (λ x honest. at v inv ov held x honest z.0 z.1 z.2 z.3),
     ))
   where
     Goal : World → Came Wrote World → Type 0
@@ -340,12 +381,12 @@ s-write-file {A} {h} fd i offset b y {k} {B} {Q} {n} {es} {w} {O} owns free lt p
         settled : (settle v.all).nodes i ≡ Some y
         settled = subst (λ (z : ℕ). (settle v.all).nodes z ≡ v.all.nodes z) num (node_settled h fd v e s inv lt hit) ∙ node v ov
 
-    whole : (v : World) → Inv v → own_of h v ≡ O → (s : ℕ) (e : Entry) → Behind h fd s e v → e.file.number ≡ i → e.file.writable ≡ true → write_kind y.kind e.file.offset b ≡ None → Goal v (Ran Whole (piece_at v s e b (Some y) false))
-    whole v inv ov s e hit num writable goes =
+    whole : (v : World) → Inv v → own_of h v ≡ O → (s : ℕ) (e : Entry) → OpensFile (after_piece h i s e (with_bytes e.file.offset b y) b v) key.opened.slot → Behind h fd s e v → e.file.number ≡ i → e.file.writable ≡ true → write_kind y.kind e.file.offset b ≡ None → Goal v (Ran Whole (piece_at v s e b (Some y) false))
+    whole v inv ov s e after hit num writable goes =
         let a = writing h fd i s e y b v O ov free lt inv walks none hit num isi writable goes in
         moves_good h 97 n B Q es v (piece_at v s e b (Some y) false) (OwnMove (WritePart fd b) 0) (k Whole) (made_by v.all h (new_id v) (v.harts h).walk (OwnMove (WritePart fd b) 0)) (record { all = (after_piece h i s e (with_bytes e.file.offset b y) b v).all; walk = None; found = None; opened = None; entered = None; left = None; told = (wrote_step fd b).told })
         a.made a.fair a.takes bd pos
-        (λ l q. (then_ l (after_piece h i s e (with_bytes e.file.offset b y) b v) q a.owned).wp)
+        (λ l q. (then_ l (after_piece h i s e (with_bytes e.file.offset b y) b v) q after a.owned).wp)
 
     part : (v : World) → Inv v → own_of h v ≡ O → (s : ℕ) (e : Entry) → Behind h fd s e v → e.file.number ≡ i → e.file.writable ≡ true → (j : ℕ) → write_kind y.kind e.file.offset (take j b) ≡ None → Goal v (Ran (Short j) (piece_at v s e (take j b) (Some y) false))
     part v inv ov s e hit num writable j goes =
@@ -364,20 +405,20 @@ s-write-file {A} {h} fd i offset b y {k} {B} {Q} {n} {es} {w} {O} owns free lt p
         f : Flagging h u O2 (record (u.desks h) { full = true }) (record (O2.desk) { full = true }) false
         f = filling h u O2 a.owned free lt a.fair.inv
 
-    by_cause : (v : World) → Inv v → own_of h v ≡ O → v.disk i ≡ Some y → v.alone i ≡ false → (x : Outside) → HonestPiece b x → (s : ℕ) (e : Entry) → Behind h fd s e v → e.file.number ≡ i → e.file.writable ≡ true
+    by_cause : (v : World) → Inv v → own_of h v ≡ O → v.disk i ≡ Some y → v.alone i ≡ false → (x : Outside) → HonestPiece b x → (s : ℕ) (e : Entry) → OpensFile (after_piece h i s e (with_bytes e.file.offset b y) b v) key.opened.slot → Behind h fd s e v → e.file.number ≡ i → e.file.writable ≡ true
         → (o : Option Cause) → write_kind y.kind e.file.offset b ≡ o → Goal v (write_if v (Some s) e i b x o)
-    by_cause v inv ov disk shared x honest s e hit num writable (Some c) stops = subst (λ (a : Bool). Goal v (Ran (Stopped c) (unlocked i v a))) (sym shared) (stopped v inv ov s e hit num writable c stops)
-    by_cause v inv ov disk shared Room honest s e hit num writable None goes =
-        subst (λ (d : Option Node). Goal v (Ran Whole (piece_at v s e b d (v.alone i)))) (sym disk) (subst (λ (a : Bool). Goal v (Ran Whole (piece_at v s e b (Some y) a))) (sym shared) (whole v inv ov s e hit num writable goes))
-    by_cause v inv ov disk shared (RoomFor j) honest s e hit num writable None goes =
+    by_cause v inv ov disk shared x honest s e after hit num writable (Some c) stops = subst (λ (a : Bool). Goal v (Ran (Stopped c) (unlocked i v a))) (sym shared) (stopped v inv ov s e hit num writable c stops)
+    by_cause v inv ov disk shared Room honest s e after hit num writable None goes =
+        subst (λ (d : Option Node). Goal v (Ran Whole (piece_at v s e b d (v.alone i)))) (sym disk) (subst (λ (a : Bool). Goal v (Ran Whole (piece_at v s e b (Some y) a))) (sym shared) (whole v inv ov s e after hit num writable goes))
+    by_cause v inv ov disk shared (RoomFor j) honest s e after hit num writable None goes =
         subst (λ (d : Option Node). Goal v (Ran (Short j) (piece_at v s e (take j b) d (v.alone i)))) (sym disk)
         (subst (λ (a : Bool). Goal v (Ran (Short j) (piece_at v s e (take j b) (Some y) a))) (sym shared) (part v inv ov s e hit num writable j (fewer_go y.kind e.file.offset j b goes)))
-    by_cause v inv ov disk shared (Picks j) honest s e hit num writable None goes = absurd honest
+    by_cause v inv ov disk shared (Picks j) honest s e after hit num writable None goes = absurd honest
 
-    at : (v : World) → Inv v → own_of h v ≡ O → (x : Outside) → HonestPiece b x → (e : Entry) → Behind h fd key.opened.slot e v → e.file.number ≡ i → e.file.writable ≡ true → Goal v (write_at v (slot_at v h fd) i b x (entry_of v h fd))
-    at v inv ov x honest e hit num writable =
+    at : (v : World) → Inv v → own_of h v ≡ O → OpensFile v key.opened.slot → (x : Outside) → HonestPiece b x → (e : Entry) → Behind h fd key.opened.slot e v → e.file.number ≡ i → e.file.writable ≡ true → Goal v (write_at v (slot_at v h fd) i b x (entry_of v h fd))
+    at v inv ov held x honest e hit num writable =
         let disk = has_disk h i v O (locked_held (Some y)) ov isi in
         let shared : v.alone i ≡ false = ap (λ (z : Held). z.alone) (has_inode h i v O (locked_held (Some y)) ov isi).1 in
         subst (λ (o : Option ℕ). Goal v (write_at v o i b x (entry_at v.files o))) (sym (slot_is h fd i v O key.opened ov))
         (subst (λ (o : Option Entry). Goal v (write_at v (Some key.opened.slot) i b x o)) (sym hit.at)
-        (by_cause v inv ov disk shared x honest key.opened.slot e hit num writable (write_kind (node_or (v.disk i)).kind e.file.offset b) (λ z. write_kind (node_or (sym disk z)).kind e.file.offset b)))
+        (by_cause v inv ov disk shared x honest key.opened.slot e (record { entry = entry_moved e (length b); at = put_same v.files key.opened.slot (Some (entry_moved e (length b))); sort = (let a : Some e ≡ Some held.entry = sym hit.at ∙ held.at in let q : e ≡ held.entry = cc in ap (λ (z : Entry). z.sort) q ∙ held.sort) }) hit num writable (write_kind (node_or (v.disk i)).kind e.file.offset b) (λ z. write_kind (node_or (sym disk z)).kind e.file.offset b)))

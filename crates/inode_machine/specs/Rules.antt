@@ -76,11 +76,11 @@ pub record Rests (O : Own) : Type 0 where
 abbrev pub Idle : ℕ → World → Type 0
 Idle h w = Rests (own_of h w)
 
--- what is open by a descriptor of the hart, and of an inode that it keeps, is the same open file, with its offset
+-- what is open by a descriptor of the hart has the type that it had; and of an inode that it keeps it is the same open file, with its offset
 abbrev pub KeepsFiles : ℕ → World → World → Type 0
 KeepsFiles h v w =
-    (i k : ℕ) (e : Entry) → h < hart_count → i < descriptor_count → (v.desks h).fds i ≡ Some k → v.files k ≡ Some e → v.keeper e.file.number ≡ Some h
-    → (f : Entry) × (w.files k ≡ Some f) × (f.file ≡ e.file)
+    (i k : ℕ) (e : Entry) → h < hart_count → i < descriptor_count → (v.desks h).fds i ≡ Some k → v.files k ≡ Some e
+    → (f : Entry) × (w.files k ≡ Some f) × (f.sort ≡ e.sort) × (v.keeper e.file.number ≡ Some h → f.file ≡ e.file)
 
 -- What a hart has stays while the others step. A hart to which another one hands its descriptors gets them, and rests still.
 pub record Others (h : ℕ) (v : World) (xs : List Step) (w : World) : Type 0 where
@@ -212,6 +212,11 @@ pub record Lends (w : World) (c g : ℕ) : Type 0 where
   pub rests : Idle g w
   pub has : Has (given_of (w.desks c)) (w.desks g).fds (w.all.cwd g) (w.desks g).directory (w.desks c).directory
 
+-- An open file has its inode's type, and one to write to is no directory.
+pub record HasType (nodes : ℕ → Option Node) (e : Entry) : Type 0 where
+  pub sort : sort_of (nodes e.file.number) ≡ Some e.sort
+  pub written : e.file.writable ≡ true → e.sort ≢ OfDirectory
+
 pub record Inv (w : World) : Type 0 where
   -- the tree before it settles is well formed
   pub well : IsWellFormed w.all
@@ -231,8 +236,7 @@ pub record Inv (w : World) : Type 0 where
   pub counts : (i : ℕ) → w.refs i ≡ w.slots i + sum_below hart_count (λ g. (w.harts g).refs i)
   pub refers : (g : ℕ) → g < hart_count → References (w.harts g) (w.desks g)
   pub tied : Tied (shop_of w)
-  -- an open file has its inode's type
-  pub sorts : (k : ℕ) (e : Entry) → w.files k ≡ Some e → sort_of (w.all.nodes e.file.number) ≡ Some e.sort
+  pub sorts : (k : ℕ) (e : Entry) → w.files k ≡ Some e → HasType w.all.nodes e
   -- what a hart itself names it refers to, or it stands in a directory that the hart keeps; unless it gets another's
   pub named : (g i : ℕ) → g < hart_count → (w.desks g).lender ≡ None → own_names (row_of w.all g) (w.desks g) i ≡ true → Reached w g i
   pub pending : (g i : ℕ) → g < hart_count → (w.harts g).pending ≡ Some i → Found w.keeper w.all.nodes g i
@@ -291,7 +295,7 @@ Sought AtEntries = Unit {0}
 -- name stands for yet; who hands a descriptor on has handed on none
 -- from there, and where it has none hands the directory on at once; who hands that on, or lets a child go, has no descriptor on its way.
 -- A record is changed that is there, and of the operation's kind; as much is read as a call may ask for, of the inode that its descriptor has, from where
--- its file stands, and a piece is written to that there; who shuts a descriptor hands none on.
+-- its file stands, and a piece is written there to a file; who shuts a descriptor hands none on.
 
 abbrev pub Locks : ℕ → ℕ → World → Type 0
 Locks h n w = w.lock n ≡ Some h
@@ -372,7 +376,7 @@ Asks h (ReadFile fd n offset count) w = Locks h n w × Reads h fd n w × StandsA
 Asks h (CheckFile fd) w = Unit {0}
 Asks h (JoinFile fd) w = LocksNone h w × ((w.desks h).joined ≡ false)
 Asks h (LockOpen fd n) w = LocksNone h w × Writes h fd n w
-Asks h (WriteFile fd n offset bytes) w = Changes h n w × Writes h fd n w × StandsAt h fd offset w × (length bytes ≤ piece_width)
+Asks h (WriteFile fd n offset bytes) w = Changes h n w × Writes h fd n w × StandsAt h fd offset w × HasRecord n w (λ v. is_file v.kind ≡ true) × (length bytes ≤ piece_width)
 Asks h (Double fd) w = Unit {0}
 Asks h (Shut fd) w = LocksNone h w × ((w.desks h).lent ≡ nothing)
 Asks h (Settle n) w = Locks h n w × Spares h n w

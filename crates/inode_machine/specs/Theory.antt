@@ -12,7 +12,7 @@ use Rattle.tree_moves.specs.Moves.{Written}
 use Rattle.inode_machine.specs.World.{Mine, Desk, World, Outside, stage_of}
 use Rattle.plain_tree.specs.declared.tree.OpenFile.{OpenFile}
 use Rattle.plain_tree.specs.declared.node.Node.{Node}
-use Rattle.inode_machine.specs.Inodes.{Sort, sort_of_kind}
+use Rattle.inode_machine.specs.Inodes.{Sort, OfDirectory, sort_of_kind}
 use Rattle.inode_machine.specs.Exec.{is_nothing, serving}
 use Rattle.inode_machine.specs.Rules.{Inv, Idle, machine, asked_limit}
 use Rattle.inode_machine.specs.Programs.{program, limit}
@@ -194,7 +194,7 @@ open_at_rest t f sort = record (at_rest t) {
   next = 1;
 }
 
--- a tree whose one open file, with id 0, is behind hart 0's descriptor 0
+-- a tree whose one open file, with id 0, is behind hart 0's descriptor 0, and is no directory that is open to write
 pub record HasOneOpen (t : Tree) (f : OpenFile) (v : Node) : Type 0 where
   pub file : t.files 0 ≡ Some f
   pub files : (id : ℕ) → id ≢ 0 → t.files id ≡ None
@@ -202,6 +202,7 @@ pub record HasOneOpen (t : Tree) (f : OpenFile) (v : Node) : Type 0 where
   pub fds : (h i : ℕ) → (h ≢ 0) ⊎ (i ≢ 0) → t.fds h i ≡ None
   pub holds : (h : ℕ) → t.holds h ≡ None
   pub node : t.nodes f.number ≡ Some v
+  pub written : f.writable ≡ true → sort_of_kind v.kind ≢ OfDirectory
 
 abbrev pub WorldsWithAFileRest : Type 0
 WorldsWithAFileRest = (t : Tree) (f : OpenFile) (v : Node) → IsWellFormed t → HasOneOpen t f v → Inv (open_at_rest t f (sort_of_kind v.kind)) × ((h : ℕ) → Idle h (open_at_rest t f (sort_of_kind v.kind)))
