@@ -316,16 +316,16 @@ s-check-file {A} {h} fd {k} {B} {Q} {n} {es} {w} {O} owns free lt pos walks none
         subst (λ (o : Option Entry). Goal v (write_refused o)) (sym z.1.at) (by_cause v inv ov s z.0 z.1 (write_refused (Some z.0)) refl)
 
 -- The lock of what a descriptor to write to names is taken.
-pub s-lock-open : {A : Type 0} {h : ℕ} (fd i : ℕ) {k : ℕ → P machine A} {B : List Step → Type 0} {Q : A → List Step → World → Type 0} {n : ℕ} {es : List Step} {w : World} {O : Own}
+pub s-lock-open : {A : Type 0} {h : ℕ} (fd i : ℕ) {k : ℕ × ℕ → P machine A} {B : List Step → Type 0} {Q : A → List Step → World → Type 0} {n : ℕ} {es : List Step} {w : World} {O : Own}
     → own_of h w ≡ O → O.desk.lender ≡ None → h < hart_count → 3 < n → O.desk.opening ≡ None → ((j : ℕ) → O.inodes j ≡ None) → (key : IsWritable O fd i) → OpensFile w key.opened.slot
-    → ((l offset : ℕ) (x : Node) (u : World) → l + 4 ≡ n → StandsBy u key.opened.slot i offset → OpensFile u key.opened.slot → own_of h u ≡ record O { inodes = put O.inodes i (Some (locked_held (Some x))) } → Safe machine h B Q (k offset) l es u)
+    → ((l offset : ℕ) (x : Node) (u : World) → l + 4 ≡ n → StandsBy u key.opened.slot i offset → OpensFile u key.opened.slot → own_of h u ≡ record O { inodes = put O.inodes i (Some (locked_held (Some x))) } → Safe machine h B Q (k (i, offset)) l es u)
     → Safe machine h B Q (Do (LockOpen fd i) unmarked k) n es w
 s-lock-open {A} {h} fd i {k} {B} {Q} {n} {es} {w} {O} owns free lt pos idle empty key file then_ = s-owned-from owns free pos (λ v inv ov keeps.
     let z = writable_here h fd i v O key inv ov lt idle in
     ((locks_none h v O inv ov (λ j x q. absurd (let a = empty j in cc (a, q))), record { entry = z.0; at = entry_is h fd key.opened.slot z.0 v (slot_is h fd i v O key.opened ov) z.1; number = z.2; writable = z.3 }), (λ _ _. at v inv ov (file_stays h fd key.opened.slot w v lt key.opened.below (ap (λ (o : Own). o.desk.fds fd) owns ∙ key.opened.is) keeps file) z.0 z.1 z.2 (offset_of (entry_of v h fd)) (ap offset_of (entry_is h fd key.opened.slot z.0 v (slot_is h fd i v O key.opened ov) z.1)) (v.lock i) refl)))
   where
     at : (v : World) → Inv v → own_of h v ≡ O → OpensFile v key.opened.slot → (e : Entry) → Behind h fd key.opened.slot e v → e.file.number ≡ i → (offset : ℕ) → offset ≡ e.file.offset → (r : Option ℕ) → v.lock i ≡ r
-        → Good machine ℕ h (λ a. []) 3 n B es v (IsOut h (v.lock i)) (with_mark h unmarked (lock_if h i offset v (locked h i v) r)) (λ l a u. Wp machine h B Q (k a) l es u)
+        → Good machine (ℕ × ℕ) h (λ a. []) 3 n B es v (IsOut h (v.lock i)) (with_mark h unmarked (lock_if h i (i, offset) v (locked h i v) r)) (λ l a u. Wp machine h B Q (k a) l es u)
     at v inv ov held e hit num offset is (Some g) q = is_out h i g v O inv ov (empty i) q
     at v inv ov held e hit num offset is None q =
         let there = node_there v key.opened.slot e inv hit.at in

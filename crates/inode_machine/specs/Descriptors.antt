@@ -85,8 +85,8 @@ wrote_on fd bytes more (Short k) = say (full (calls.Write fd bytes) Blocks)
 
 abbrev pub write_piece : ℕ → ℕ → List ℕ → ℕ → P Reply → P Reply
 write_piece fd n bytes i more =
-    Do (LockOpen fd n) unmarked (λ offset.
-    Do (WriteFile fd n offset (piece bytes i)) (writes fd (piece bytes i)) (λ a.
+    Do (LockOpen fd n) unmarked (λ at.
+    Do (WriteFile fd at.0 at.1 (piece bytes i)) (writes fd (piece bytes i)) (λ a.
     Do Leave unmarked (λ _.
     wrote_on fd bytes more a)))
 

@@ -97,7 +97,7 @@ pub data Op : Type 0 where
   -- a descriptor to write to is looked up: for no bytes; to join a transaction
   CheckFile : ℕ → Op
   JoinFile : ℕ → Op
-  -- the lock of the inode behind it is taken; a piece is written, the offset moves, and the lock is given up
+  -- the lock of the inode behind it is taken: its number, and where the file stands; a piece is written, the offset moves, and the lock is given up
   LockOpen : ℕ → ℕ → Op
   WriteFile : ℕ → ℕ → ℕ → List ℕ → Op
   -- one more descriptor for a descriptor's open file; a descriptor is free
@@ -169,7 +169,7 @@ Answer (LockFile fd) = Locking
 Answer (ReadFile fd n offset count) = List ℕ
 Answer (CheckFile fd) = Option Cause
 Answer (JoinFile fd) = Joining
-Answer (LockOpen fd n) = ℕ
+Answer (LockOpen fd n) = ℕ × ℕ
 Answer (WriteFile fd n offset bytes) = Wrote
 Answer (Double fd) = Option (Option ℕ)
 Answer (Shut fd) = Option (Option ℕ)
