@@ -142,7 +142,7 @@ module _ (sizes : Super) (h : ℕ) where
     pub reads : (fd n offset count : ℕ) (m : List ℕ → Option above.Mark) → Within (ReadFile fd n offset count) m
     reads fd n offset count m = acting (ReadFile fd n offset count) m (free.read_free fd n offset count) (spend.read_file fd n offset count) (read_acts history laws keeps h lt sizes fd n offset count m)
 
-    pub locks_to_write : (fd n : ℕ) (m : ℕ → Option above.Mark) → Within (LockOpen fd n) m
+    pub locks_to_write : (fd n : ℕ) (m : ℕ × ℕ → Option above.Mark) → Within (LockOpen fd n) m
     locks_to_write fd n m = acting (LockOpen fd n) m (free.lock_open_free fd n) (spend.lock_open fd n) (open_acts history laws keeps h lt sizes fd n m)
 
     pub checks : (fd : ℕ) (m : Option Cause → Option above.Mark) → Within (CheckFile fd) m

@@ -19,7 +19,7 @@ kept_then h u v w a b = record {
 }
 
 pub kept_same : (h : ℕ) (w : above.World) → Kept h w w
-kept_same h w = record { same = λ free. refl; opens = λ free i k e below li is at keeps. (e, at, refl); rests = λ i. i }
+kept_same h w = record { same = λ free. refl; opens = λ free i k e below li is at. (e, at, refl, (λ keeps. refl)); rests = λ i. i }
 
 both_none : {A : Type 0} (xs ys : List A) → xs ≡ [] → ys ≡ [] → xs ++ ys ≡ []
 both_none xs ys p q = λ i. p i ++ q i

@@ -178,7 +178,7 @@ module _ (l : Labels) (laws : Laws (labelled l)) (keeps : Keeps l) (h : ℕ) (lt
 
   -- ---- to write
 
-  module _ (n : ℕ) (m : ℕ → Option above.Mark) where
+  module _ (n : ℕ) (m : ℕ × ℕ → Option above.Mark) where
     pub open_acts : ActsOnceAt sizes l h (LockOpen fd n) m (lock_open sizes fd n)
     unfolding steps.exec premises.May premises.MayWait
     open_acts c B C es w lasts todo stands =
@@ -188,7 +188,7 @@ module _ (l : Labels) (laws : Laws (labelled l)) (keeps : Keeps l) (h : ℕ) (lt
         A : Type 0
         A = files.OpenFile × Option Dinode
 
-        Next : A → ℕ → World → above.World → Type 0
+        Next : A → ℕ × ℕ → World → above.World → Type 0
         Next a b u g = (gs : List l.Step) → Inv g → C b gs g → Wp (joined (labelled l) (below sizes)) h B (Below (labelled l) (below sizes) h C) (open_locked sizes fd c a) 3 gs (record { real = u; seen = g })
 
         IsActing : W → Did A World → Type 0
@@ -216,9 +216,9 @@ module _ (l : Labels) (laws : Laws (labelled l)) (keeps : Keeps l) (h : ℕ) (lt
                   (g, (λ q. may.1.0 k (out ∙ ap (λ (z : ℕ). Some z) q)), sym (shows.tables.places.holders k) ∙ out)))
                   (λ u ran free after.
                   on_tables v x (Ran (file_of e, loaded t k) u) (lower ∙ ap (with_open (file_of e)) ran)
-                  (let ran_to : lock_if h n (offset_of (entry_of v.seen h fd)) v.seen (locked h n v.seen) (v.seen.lock n) ≡ Ran e.file.offset (locked h k v.seen) = (λ z. lock_if h (sym number z) (offset_of (is z)) v.seen (locked h (sym number z) v.seen) (v.seen.lock (sym number z))) ∙ ap (lock_if h k e.file.offset v.seen (locked h k v.seen)) free in
-                  let came = lock_came l laws keeps h lt (LockOpen fd n) k v c e.file.offset u shows stands_v.0 may.0 referred.2 free (file_typed v.seen referred.0 e inv referred.1 free) ran_to after in
-                  came_acting l laws keeps h lt sizes (LockOpen fd n) m B C lasts v (premises.MayWait h (steps.LockOpen fd) v.real.state) (file_of e, loaded t k) (with_tables v.real u) e.file.offset (put c k (Has (inode_in (log_of v.real) k) NothingMore)) Next tt stands_v.1 came
+                  (let ran_to : lock_if h n (n, offset_of (entry_of v.seen h fd)) v.seen (locked h n v.seen) (v.seen.lock n) ≡ Ran (k, e.file.offset) (locked h k v.seen) = (λ z. lock_if h (sym number z) (sym number z, offset_of (is z)) v.seen (locked h (sym number z) v.seen) (v.seen.lock (sym number z))) ∙ ap (lock_if h k (k, e.file.offset) v.seen (locked h k v.seen)) free in
+                  let came = lock_came l laws keeps h lt (LockOpen fd n) k v c (k, e.file.offset) u shows stands_v.0 may.0 referred.2 free (file_typed v.seen referred.0 e inv referred.1 free) ran_to after in
+                  came_acting l laws keeps h lt sizes (LockOpen fd n) m B C lasts v (premises.MayWait h (steps.LockOpen fd) v.real.state) (file_of e, loaded t k) (with_tables v.real u) (k, e.file.offset) (put c k (Has (inode_in (log_of v.real) k) NothingMore)) Next tt stands_v.1 came
                   (λ g same_g stands_g gs inv_g done.
-                  loads (LockOpen fd n) m c B C lasts e.file.offset v e shows inv may.0 is referred.2 u g after (subst (λ (x : above.World). SameCode x g) (ran_is e.file.offset _ came.then_ (locked h k v.seen) came.ran ran_to) same_g) stands_g gs done))),
+                  loads (LockOpen fd n) m c B C lasts (k, e.file.offset) v e shows inv may.0 is referred.2 u g after (subst (λ (x : above.World). SameCode x g) (ran_is (k, e.file.offset) _ came.then_ (locked h k v.seen) came.ran ran_to) same_g) stands_g gs done))),
             )

@@ -48,4 +48,4 @@ open_kept h i (Has d NothingMore) g u free kept keeps is = tt
 open_kept h i (Has d (Finds e s)) g u free kept keeps is = tt
 open_kept h i (Has d (Opened fd offset)) g u free kept keeps is =
     open_then h i (Has d (Opened fd offset)) g u
-    (λ by k e below at_fd at_k number. let x = kept.opens free by k e is.hart below at_fd at_k (ap g.keeper number ∙ keeps) in (ap (λ (o : Own). o.desk.fds by) (kept.same free) ∙ at_fd, x.0, x.1, x.2)) is
+    (λ by k e below at_fd at_k number. let x = kept.opens free by k e is.hart below at_fd at_k in (ap (λ (o : Own). o.desk.fds by) (kept.same free) ∙ at_fd, x.0, x.1, x.3 (ap g.keeper number ∙ keeps))) is

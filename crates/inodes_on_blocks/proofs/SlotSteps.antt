@@ -227,7 +227,7 @@ module _ (l : Labels) (laws : Laws (labelled l)) (keeps : Keeps l) (h : ℕ) (lt
       ran_same h w (above_exec.doubled h w s e (lowest (w.desks h).fds)) u _ a q
       (desk_same w (above_exec.doubled h w s e (lowest (w.desks h).fds)) (record (w.desks h) { fds = put (w.desks h).fds (lowest (w.desks h).fds) (Some s) }) refl refl refl refl refl refl refl refl
       (λ i mine. open_put h i w (above_exec.doubled h w s e (lowest (w.desks h).fds)) (record (w.desks h) { fds = put (w.desks h).fds (lowest (w.desks h).fds) (Some s) }) refl (kept_lowest w (Some s) room)
-      (λ k d at_k. renewed_same w.files s e (record { file = e.file; sort = e.sort; references = e.references + 1 }) k d at refl at_k))
+      (λ k d at_k. let x = renewed_same w.files s e (record { file = e.file; sort = e.sort; references = e.references + 1 }) k d at refl refl at_k in (x.0, x.1, x.3)))
       (λ old. offsets_put w.files s (Some (record { file = e.file; sort = e.sort; references = e.references + 1 })) (λ d is. subst (λ (x : Entry). x.file.offset ≤ largest_size) (same_Some _ d is) (old s e at)) old))
   double_same w s e false a u at room q = ran_same h w w u (Some None) a q (all_same h w)
 

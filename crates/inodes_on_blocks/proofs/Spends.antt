@@ -17,7 +17,7 @@ use Rattle.bitmap_alloc.specs.Programs.{free_block, clear_bit}
 use Rattle.inode_table.specs.Programs.{give_back, inode_block, load_unless, put_inode, store as store_inode}
 use Rattle.inode_data.specs.Addresses.{address, table_of}
 use Rattle.inode_data.specs.Freeing.{free_numbers, free_table, free_in_table, free_indirect, freed, without_content}
-use Rattle.inode_data.specs.Programs.{Fetched, Filled, blocks_between, end_of, fetch_at, fetch_block, fetch_named, fetch_number, filled_with, give_fetched, next_block, part_of, read_blocks, read_from, read_part}
+use Rattle.inode_data.specs.Programs.{Filled, blocks_between, end_of, fetch_at, fetch_block, fetch_named, fetch_number, filled_with, give_fetched, next_block, part_of, read_blocks, read_from, read_part}
 use Rattle.inode_data.specs.Widths.{direct}
 use Rattle.inode_data.specs.declared.addresses.Address.{Address}
 use Rattle.inode_data.specs.declared.addresses.Address.TheVariants.{Direct, InTable}
@@ -238,7 +238,7 @@ module _ (sizes : Super) where
     lock_open = λ fd n c m s. (
       s,
       same s,
-      λ a. (s, refl, records_bind (load_unless sizes.inodestart a.0.number a.1) (with_file a.0.offset c fd a.0.number a.0.offset) s s s (no_load s sizes.inodestart a.0.number a.1) (λ d. same s)),
+      λ a. (s, refl, records_bind (load_unless sizes.inodestart a.0.number a.1) (with_file (a.0.number, a.0.offset) c fd a.0.number a.0.offset) s s s (no_load s sizes.inodestart a.0.number a.1) (λ d. same s)),
     );
     read_file = λ fd n offset count c m s.
         let d : Dinode = record_in c n in

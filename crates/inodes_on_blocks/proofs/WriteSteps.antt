@@ -14,8 +14,9 @@ use Rattle.image_laws.specs.Holds.{HoldsAt}
 use Rattle.plain_tree.specs.declared.answer.Cause.{Cause}
 use Rattle.plain_tree.specs.declared.answer.Cause.TheVariants.{BadOffset, TooBig}
 use Rattle.plain_tree.specs.declared.node.Node.{Node}
-use Rattle.plain_tree.specs.declared.node.Kind.TheVariants.{File}
-use Rattle.plain_tree.specs.Steps.{node_or, write_kind}
+use Rattle.plain_tree.specs.declared.node.Kind.{Kind}
+use Rattle.plain_tree.specs.declared.node.Kind.TheVariants.{Directory, File, Device}
+use Rattle.plain_tree.specs.Steps.{content, is_file, node_or, write_kind}
 use Rattle.plain_tree.specs.Widths.{hart_count}
 use Rattle.atomic_programs.specs.Prog.{Ret, bind}
 use Rattle.atomic_programs.specs.Logic.{Machine, Laws, P, Wp}
@@ -41,12 +42,14 @@ use Rattle.inodes_on_blocks.specs.Lowering.{Apart, Emptied, Has, Had, Carry, IsL
 use Rattle.inodes_on_blocks.specs.Recording.{IsChanging}
 use Rattle.inodes_on_blocks.specs.Room.{HasSpent}
 use Rattle.inodes_on_blocks.specs.Shown.{Shows}
-use Rattle.inodes_on_blocks.specs.Spending.{NoMore}
+use Rattle.inodes_on_blocks.specs.Spending.{ActsWithin, DoesItWithin, NoMore}
 use Rattle.inodes_on_blocks.specs.Storing.{record_in}
 use Rattle.inodes_on_blocks.specs.Writing.{deny_write, give_written, refused_in, write_file, write_unless}
+use Rattle.inodes_on_blocks.specs.Acting.{Answers, IsDone, alone}
+use Rattle.inodes_on_blocks.proofs.Alone.{alone_keeps, alone_laws, lasts_done}
 use Rattle.inodes_on_blocks.proofs.BlocksRoom.{HasBlocks, blocks_start, blocks_end, extra, named_room, one_of}
 use Rattle.inodes_on_blocks.proofs.Changing.{Changing, changing_start}
-use Rattle.inodes_on_blocks.proofs.Layer.{below_laws, kept_disk}
+use Rattle.inodes_on_blocks.proofs.Layer.{below_laws}
 use Rattle.inodes_on_blocks.proofs.LocateSteps.{Between, Fits}
 use Rattle.inodes_on_blocks.proofs.NumberPuts.{sized}
 use Rattle.inodes_on_blocks.proofs.Putting.{lock_range}
@@ -89,6 +92,15 @@ few_blocks from upto short =
     (λ (less : from < upto). let many = many_between from upto less in omega (arith, many, short, less))
     (λ (le : upto ≤ from). let none = none_there from upto le in omega (arith, none))
     (cases_lt from upto)
+
+-- a node that is a file's
+file_is : (x : Node) → is_file x.kind ≡ true → x ≡ file x.count (content x.kind)
+file_is x e = λ i. record { count = x.count; kind = by x.kind e i }
+  where
+    by : (k : Kind) → is_file k ≡ true → k ≡ File (content k)
+    by (Directory slots) q = absurd cc
+    by (File bs) q = refl
+    by (Device major minor z) q = absurd cc
 
 -- bytes written into a file, above
 written_file : (count offset : ℕ) (fs bytes : List ℕ) → file count (overwrite fs offset bytes) ≡ with_bytes offset bytes (file count fs)
@@ -221,7 +233,7 @@ module _ (sizes : Super) (l : Labels) (laws : Laws (labelled l)) (keeps : Keeps 
         (denies l laws keeps h lt sizes fd n offset bytes m c B C lasts why gs v todo stands mine (ap (λ (o : Option Node). write_kind (node_or o).kind offset bytes) there ∙ refused_as d fs offset bytes long some ∙ is))
         (spent_now.0, λ k e. let few = spent_now.1 k e in omega (arith, few))
     writes None is =
-        let most = few_blocks offset (offset + length bytes) (let short = may.1.3 in omega (arith, short)) in
+        let most = few_blocks offset (offset + length bytes) (let short = may.1.4 in omega (arith, short)) in
         let blocks : ℕ = blocks_between offset (offset + length bytes) in
         let fits_ = fits_in d offset bytes is in
         subst (λ (p : P M (Handed Wrote Carry)). Wp M h B Q p 98 gs v) (sym (bind-assoc (write_blocks blocks sizes offset bytes (record_in c n)) (store_written sizes n) (give_written fd n offset bytes m c)))
@@ -246,14 +258,25 @@ module _ (sizes : Super) (l : Labels) (laws : Laws (labelled l)) (keeps : Keeps 
             by true = omega arith
             by false = omega arith
 
-  pub write_acts : (count : ℕ) (fs : List ℕ) (es : List l.Step) (w : W) → Todo es w.seen → Stands sizes h w.real w.seen c → HasSpent sizes h s w.real → w.seen.disk n ≡ Some (file count fs) → Wp M h B Q (write_file sizes fd n offset bytes c m) 98 es w
-  write_acts count fs es w todo stands known there =
+  pub write_acts : (es : List l.Step) (w : W) → Todo es w.seen → Stands sizes h w.real w.seen c → HasSpent sizes h s w.real → Wp M h B Q (write_file sizes fd n offset bytes c m) 98 es w
+  write_acts es w todo stands known =
       s-here sizes l laws keeps h lt B (write_file sizes fd n offset bytes c m) Q Todo (to_act (labelled l) (below sizes) laws (below_laws sizes l keeps) h B op m C lasts) (takes (refused_in (record_in c n) offset bytes)) 98 es w todo
       (λ v gs here.
       let may = may_at gs v.seen here.stage here.inv in
-      let mine : lock_holder n (tables_of w.real) ≡ Some h = here.same.no_more n (sym (here.shows.tables.places.holders n) ∙ may.1.0.0) in
-      let still = (kept_disk h n w.seen v.seen here.kept stands.0.lent (stands.0.inodes n mine).keeps).1 ∙ there in
+      let x : Node = may.1.3.node in
+      let count : ℕ = x.count in
+      let fs : List ℕ = content x.kind in
+      let there : v.seen.disk n ≡ Some (file count fs) = may.1.3.is ∙ ap (λ (z : Node). Some z) (file_is x may.1.3.fits) in
       let stands_v = (below_laws sizes l keeps).base h w.real v.real w.seen v.seen c here.same here.kept stands in
       let known_v = spent_stays sizes h s w.real v.real here.same known in
-      subst (λ (why : Option Cause). Wp M h B Q (write_unless sizes fd n offset bytes m c why) 98 gs v) (sym (ap (λ (d : Dinode). refused_in d offset bytes) (record_is count fs v gs here.stage here.shows here.inv stands_v known_v still)))
-      (writes count fs v gs here.stage here.shows here.inv stands_v known_v still (refused_in (inode_in (log_of v.real) n) offset bytes) refl))
+      subst (λ (why : Option Cause). Wp M h B Q (write_unless sizes fd n offset bytes m c why) 98 gs v) (sym (ap (λ (d : Dinode). refused_in d offset bytes) (record_is count fs v gs here.stage here.shows here.inv stands_v known_v there)))
+      (writes count fs v gs here.stage here.shows here.inv stands_v known_v there (refused_in (inode_in (log_of v.real) n) offset bytes) refl))
+
+-- A piece is written within what its transaction may record.
+pub write_within : (sizes : Super) (l : Labels) (laws : Laws (labelled l)) (keeps : Keeps l) (h : ℕ) → h < hart_count → (fd n offset : ℕ) (bytes : List ℕ) → 0 < length bytes → IsBytes bytes → (m : Wrote → Option above.Mark) → ActsWithin sizes l h (WriteFile fd n offset bytes) m (write_file sizes fd n offset bytes)
+write_within sizes l laws keeps h lt fd n offset bytes some are m c s B C es w lasts todo stands few has = write_acts sizes l laws keeps h lt fd n offset bytes m c B C lasts s (omega (arith, few)) some are es w todo stands has
+
+-- with the history that is the operations themselves
+pub writes_within : (sizes : Super) (fd n offset : ℕ) (bytes : List ℕ) → 0 < length bytes → IsBytes bytes → DoesItWithin sizes (WriteFile fd n offset bytes) (write_file sizes fd n offset bytes)
+writes_within sizes fd n offset bytes some are h s m c w lt few todo stands known =
+    write_within sizes alone alone_laws alone_keeps h lt fd n offset bytes some are m c s (IsDone (WriteFile fd n offset bytes)) (Answers (WriteFile fd n offset bytes)) [] w (lasts_done (WriteFile fd n offset bytes) h) todo stands few (stands.1, known)

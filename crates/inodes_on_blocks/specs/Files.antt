@@ -32,8 +32,8 @@ file_locked sizes fd c (Locks f content) = bind (load_unless sizes.inodestart f.
 abbrev pub lock_file : Super → (fd : ℕ) → Handler (LockFile fd)
 lock_file sizes fd c m = Do (steps.LockFile want.Read fd) (λ a. acts (LockFile fd) above.Room m) (file_locked sizes fd c)
 
-abbrev pub open_locked : Super → (fd : ℕ) → Carry → OpenFile × Option Dinode → P (Handed ℕ Carry)
-open_locked sizes fd c locked = bind (load_unless sizes.inodestart locked.0.number locked.1) (with_file locked.0.offset c fd locked.0.number locked.0.offset)
+abbrev pub open_locked : Super → (fd : ℕ) → Carry → OpenFile × Option Dinode → P (Handed (ℕ × ℕ) Carry)
+open_locked sizes fd c locked = bind (load_unless sizes.inodestart locked.0.number locked.1) (with_file (locked.0.number, locked.0.offset) c fd locked.0.number locked.0.offset)
 
 -- to write
 abbrev pub lock_open : Super → (fd n : ℕ) → Handler (LockOpen fd n)

@@ -1,8 +1,7 @@
 -- The programs below of writing an open file. On a disk of these sizes; c: what the hart has of the inodes whose locks it has.
-use Rattle.std.specs.Prelude.{◌≡◌, ℕ, suc, ◌+◌, ◌-◌, ◌<◌, ◌≤◌, ◌==◌, nat_lt, if◌then◌else◌, List, [], length, Option, Some, None}
-use Rattle.atomic_programs.specs.Logic.{Wp}
-use Rattle.atomic_programs.specs.Prog.{Ret, Do, bind, once}
-use Rattle.atomic_programs.specs.Joined.{Both, Handed, Below, joined}
+use Rattle.std.specs.Prelude.{ℕ, ◌+◌, ◌-◌, ◌<◌, ◌==◌, nat_lt, if◌then◌else◌, List, length, Option, Some, None}
+use Rattle.atomic_programs.specs.Prog.{Ret, Do, bind}
+use Rattle.atomic_programs.specs.Joined.{Handed}
 use Rattle.fs_layout.specs.declared.inode.Dinode.{Dinode}
 use Rattle.fs_layout.specs.declared.superblock.Super.{Super}
 use Rattle.fs_layout.specs.Bytes.{IsBytes}
@@ -11,19 +10,12 @@ use Rattle.inode_data.specs.Widths.{most_bytes}
 use Rattle.inode_data.specs.Writing.{Written, write_part}
 use Rattle.plain_tree.specs.declared.answer.Cause.{Cause}
 use Rattle.plain_tree.specs.declared.answer.Cause.TheVariants as causes
-use Rattle.plain_tree.specs.declared.node.Kind.TheVariants.{File}
 use Rattle.plain_tree.specs.Tree.{put}
-use Rattle.plain_tree.specs.Widths.{hart_count}
-use Rattle.inode_machine.specs.Budget.{Spent, size, spent_after, most_recorded}
-use Rattle.inode_machine.specs.Rules.{more}
 use Rattle.inode_machine.specs.World as above
 use Rattle.inode_machine.specs.World.{Wrote, Whole, Refused, Short}
 use Rattle.inode_machine.specs.World.Op.{WriteFile}
-use Rattle.inodes_on_blocks.specs.Accounts.{Accounts}
-use Rattle.inodes_on_blocks.specs.Acting.{whole, IsDone, Answers}
-use Rattle.inodes_on_blocks.specs.Below.{World, log_of}
-use Rattle.inodes_on_blocks.specs.Lowering.{Carry, Apart, Stands, below, record_had}
-use Rattle.inodes_on_blocks.specs.Room.{HasSpent}
+use Rattle.inodes_on_blocks.specs.Lowering.{Carry, Apart, record_had}
+use Rattle.inodes_on_blocks.specs.Spending.{DoesItWithin}
 use Rattle.inodes_on_blocks.specs.Storing.{record_in}
 use Rattle.inodes_on_blocks.specs.Handlers.{P, Handler, acts, one}
 
@@ -58,17 +50,6 @@ write_file sizes fd n offset bytes c m = write_unless sizes fd n offset bytes m 
 
 -- ---- the law
 
--- the inode is a file's above
-pub record HoldsFile (n : ℕ) (w : above.World) : Type 0 where
-  pub count : ℕ
-  pub bytes : List ℕ
-  pub is : w.disk n ≡ Some (record { count = count; kind = File bytes })
-
--- Where the inode is a file's, and some bytes are to be written, this program does the operation, as the others do theirs that record.
+-- Where some bytes are to be written this program does the operation, as the others do theirs that record.
 abbrev pub WritesActOnce : Super → Type 0
-WritesActOnce sizes =
-    (fd n offset : ℕ) (bytes : List ℕ) (h : ℕ) (s : Spent) (m : Wrote → Option above.Mark) (c : Carry) (w : Both World above.World) → h < hart_count → 0 < length bytes → IsBytes bytes → HoldsFile n w.seen → size (spent_after (WriteFile fd n offset bytes) s) ≤ most_recorded
-    → Wp whole h (IsDone (WriteFile fd n offset bytes)) (Answers (WriteFile fd n offset bytes)) (once (WriteFile fd n offset bytes) m) (suc (more (WriteFile fd n offset bytes))) [] w.seen
-    → Stands sizes h w.real w.seen c → Accounts h (log_of w.real) s
-    → Wp (joined whole (below sizes)) h (IsDone (WriteFile fd n offset bytes)) (λ r es u. Below whole (below sizes) h (Answers (WriteFile fd n offset bytes)) r es u × HasSpent sizes h (spent_after (WriteFile fd n offset bytes) s) u.real)
-    (write_file sizes fd n offset bytes c m) (suc (more (WriteFile fd n offset bytes))) [] w
+WritesActOnce sizes = (fd n offset : ℕ) (bytes : List ℕ) → 0 < length bytes → IsBytes bytes → DoesItWithin sizes (WriteFile fd n offset bytes) (write_file sizes fd n offset bytes)

@@ -25,7 +25,7 @@ pub fn reads_act_once()
 
 /// A piece is written into a file, the blocks found or taken and then the record put, where nothing refuses it; it acts where the lock
 /// is given up, and the offset moves to where the bytes end that were written: all of them, or those before the block for which
-/// none was free. Asked is that the inode is a file's.
+/// none was free.
 pub fn writes_act_once()
     ensures { (sizes : Super) → WritesActOnce sizes }
 {}
