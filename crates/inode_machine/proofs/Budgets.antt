@@ -359,7 +359,7 @@ module _ (path : List ℕ) (d : ℕ) (e : Name) (list : List ℕ) where
 
   unlinked : (f : Face) (o : Option ℕ) → HasRoom unspent (unlink_found path d e list f o)
   unlinked f None = given_up _
-  unlinked f (Some n) = (few, λ there. either_way unspent there _ _ (child_unlinked n f) (given_up _))
+  unlinked f (Some n) = either_way unspent (n == d) _ _ (given_up _) (few, λ there. either_way unspent there _ _ (child_unlinked n f) (given_up _))
 
   unlinks_in : HasRoom unspent (unlink_in path d e list)
   unlinks_in = either_way unspent (same_name e dot || same_name e dotdot) _ _ (few, λ a. given_up _) (few, λ a. unlinked (face_or a.face) a.found)

@@ -18,7 +18,7 @@ use Rattle.plain_tree.specs.Tree.{Name, Tree, put, look, same_name, dot, dotdot,
 use Rattle.plain_tree.specs.Steps.{node_or, node_at, lowered, not_empty, any_used, refusal_with}
 use Rattle.plain_tree.specs.Calls.{Act, next_of, reply_of, had_room}
 use Rattle.tree_laws.specs.WellFormed.{one_if, folders_of, links_in, raises, IsWellFormed}
-use Rattle.tree_laws.proofs.Maps.{same_or, put_same, put_other, or_none}
+use Rattle.tree_laws.proofs.Maps.{eq_not, same_or, put_same, put_other, or_none}
 use Rattle.tree_laws.proofs.Nodes.{live_is}
 use Rattle.tree_laws.proofs.Facts.{look_live, look_folder, entry_found, entry_apart}
 use Rattle.tree_laws.proofs.Walks.{look_bad, look_same}
@@ -31,7 +31,7 @@ use Rattle.inode_machine.specs.Exec.{with_count, without_entry}
 use Rattle.inode_machine.specs.Marks.{marked, places}
 use Rattle.inode_machine.specs.Rules.{Held, Own, own_of, nothing, Idle, Inv, machine}
 use Rattle.inode_machine.specs.Parts.{P, done, failed, full, give_up, is_some, looks_if, tail}
-use Rattle.inode_machine.specs.Naming.{always, clear_name, is_missing, lower_parent, or_missing, unlink_child, unlink_dots, unlink_found, unlink_in, unlink_named, unlink_program}
+use Rattle.inode_machine.specs.Naming.{always, clear_name, is_missing, lower_parent, or_missing, unlink_child, unlink_dots, unlink_found, unlink_in, unlink_named, unlink_other, unlink_program}
 use Rattle.inode_machine.specs.Programs.{path_cost, rest_cost}
 use Rattle.inode_machine.specs.Theory.{covered_calls}
 use Rattle.inode_machine.proofs.Frame.{fair_same}
@@ -327,10 +327,11 @@ module _ (h : ℕ) (path : List ℕ) (lt : h < hart_count) {base : ℕ → ℕ} 
       there None l u j inv live is p held = absurd cc
       there (Some X) l u j inv live is p held =
           subst (λ (f : Option ℕ). Goes h path (unlink_found path d e ns (face_or (face_of (Some X))) f) l fs u) (sym is)
+          (subst (λ (b : Bool). Goes h path (if b then give_up d (tail ns (failed (calls.Unlink path) NoEntry)) else unlink_other path d e ns (face_or (face_of (Some X))) j) l fs u) (sym (eq_not j d ne))
           (s-up held free lt (omega (arith, p, few)) refl (inr (d, locked_held (Some X), e, put_same O.inodes d (Some (locked_held (Some X))), is)) (inl on.pending) (λ m q r. inl (let a = on.notes m q in let b : O.mine.refs m.number ≡ O.mine.refs j = ap O.mine.refs r in omega (arith, a, b))) (let a = on.refs j in let b = few_listed joins.ready on.listed d j in omega (arith, a, b))
           (λ l2 u2 q2 held2. child X j l2 fs u2 O1 ne (omega (arith, p, q2, few)) k out held2 on.walk live is plain walking)
           (λ v inv2 ov. mend_fine h 0 l (Begun covered_calls (calls.Unlink path)) (Ends covered_calls h (calls.Unlink path)) fs v O1 (give_up d (tail ns (full (calls.Unlink path) MemInodes))) ov free lt inv2 (mendable joins.ready k) (omega (arith, p, few)) (λ l2 u2 q2 held2.
-          ends_one (full (calls.Unlink path) MemInodes) (Some X) l2 fs u2 (mended_own O1) (omega (arith, p, q2, few)) held2 (holding_same (mended_own O1) k refl (stays_mended (mended_own O1) joins.ready k.stays refl refl refl) refl) refl refl (inl refl))))
+          ends_one (full (calls.Unlink path) MemInodes) (Some X) l2 fs u2 (mended_own O1) (omega (arith, p, q2, few)) held2 (holding_same (mended_own O1) k refl (stays_mended (mended_own O1) joins.ready k.stays refl refl refl) refl) refl refl (inl refl)))))
         where
           O1 : Own
           O1 = record O { inodes = put O.inodes d (Some (locked_held (Some X))) }

@@ -1,5 +1,5 @@
 -- The programs of link, unlink and mkdir.
-use Rattle.std.specs.Prelude.{ℕ, ◌+◌, ◌-◌, Bool, true, false, ◌||◌, not, List, [], ◌∷◌, nat_lt, Option, Some, None, if◌then◌else◌}
+use Rattle.std.specs.Prelude.{ℕ, ◌+◌, ◌-◌, Bool, true, false, ◌||◌, not, List, [], ◌∷◌, ◌==◌, nat_lt, Option, Some, None, if◌then◌else◌}
 use Rattle.plain_tree.specs.declared.answer.Cause.{Cause}
 use Rattle.plain_tree.specs.declared.answer.Cause.TheVariants.{NoEntry, Exists, IsDirectory, NotEmpty, DotName, TooManyLinks}
 use Rattle.plain_tree.specs.declared.answer.Full.TheVariants.{MemInodes, Blocks, DiskInodes, Directory}
@@ -51,11 +51,15 @@ unlink_child path d e ns f n =
     Do (Take n AtEntries) (λ a. looks_if (not a.empty)) (λ a.
     if a.empty then clear_name path d e ns f n (face_or a.face) else give_up n (give_up d (tail ns (failed (calls.Unlink path) NotEmpty))))
 
-abbrev pub unlink_found : List ℕ → ℕ → Name → List ℕ → Face → Option ℕ → P Reply
-unlink_found path d e ns f None = give_up d (tail ns (failed (calls.Unlink path) NoEntry))
-unlink_found path d e ns f (Some n) =
+-- what is found is another inode than the directory, which no name but the dots has in itself
+abbrev pub unlink_other : List ℕ → ℕ → Name → List ℕ → Face → ℕ → P Reply
+unlink_other path d e ns f n =
     Do (Up n) mends_if_full (λ there.
     if there then unlink_child path d e ns f n else give_up d (tail ns (full (calls.Unlink path) MemInodes)))
+
+abbrev pub unlink_found : List ℕ → ℕ → Name → List ℕ → Face → Option ℕ → P Reply
+unlink_found path d e ns f None = give_up d (tail ns (failed (calls.Unlink path) NoEntry))
+unlink_found path d e ns f (Some n) = if n == d then give_up d (tail ns (failed (calls.Unlink path) NoEntry)) else unlink_other path d e ns f n
 
 abbrev pub is_missing : Seen → Bool
 is_missing a = not (is_there a)

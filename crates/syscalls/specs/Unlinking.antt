@@ -1,5 +1,5 @@
 -- unlink: a program over what all harts share, and what is left of it. Nothing is marked in it.
-use Rattle.std.specs.Prelude.{◌≡◌, ◌≢◌, ◌<◌, ℕ, ◌-◌, pos, List, [], ◌∷◌, Option, Some, None, if◌then◌else◌}
+use Rattle.std.specs.Prelude.{◌≡◌, ◌≢◌, ◌<◌, ℕ, ◌-◌, ◌==◌, pos, List, [], ◌∷◌, Option, Some, None, if◌then◌else◌}
 use Rattle.fs_layout.specs.declared.entry.Dirent.TheVariants.{Free}
 use Rattle.fs_layout.specs.declared.inode.Dinode.{Dinode}
 use Rattle.fs_layout.specs.declared.superblock.Super.{Super}
@@ -100,7 +100,10 @@ module _ (sizes : Super) (path : List ℕ) where
 
   abbrev pub unlink_found : Inode → List ℕ → Option Found → P Reply
   unlink_found v ns None = quit sizes (v ∷ []) ns (unlink_reply path (answers.Failed NoEntry))
-  unlink_found v ns (Some f) = Do (Up (Number f.number)) unmarked (unlink_up v f.slot ns f.number)
+  unlink_found v ns (Some f) =
+      if f.number == v.number
+      then quit sizes (v ∷ []) ns (unlink_reply path (answers.Failed NoEntry))
+      else Do (Up (Number f.number)) unmarked (unlink_up v f.slot ns f.number)
 
   abbrev pub unlink_seen : SeekState → P Reply
   unlink_seen (Sees v e found ns) = unlink_found v ns found

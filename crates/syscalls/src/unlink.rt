@@ -227,6 +227,9 @@ fn named(on: OnPath, txn: Txn, name: LastName) -> Unlink
     } = name;
     match found {
         None => end_with(on, txn, list, parent, Answer::Failed(Cause::NoEntry)),
+        Some(Found { slot: _, number }) if number == parent.inode.value().number => {
+            end_with(on, txn, list, parent, Answer::Failed(Cause::NoEntry))
+        }
         Some(Found { slot, number }) => {
             let removing = Removing {
                 on,
