@@ -1,7 +1,6 @@
 -- A link: what its file is stored as, and what its list has room for.
 use Rattle.std.proofs.Common.{◌≡◌, ◌∙◌, ◌≤◌, ◌+◌, ℕ, List, [], length, None, sym, ap, arith}
 use Rattle.fs_tables.specs.declared.inodes.Inode.{Inode}
-use Rattle.image_tree.specs.Trees.{count_of}
 use Rattle.plain_tree.specs.Tree.{elements}
 use Rattle.plain_tree.specs.declared.answer.Reply.{Reply}
 use Rattle.atomic_programs.specs.Prog.{Do, Ran as ItRan, WentOn, advance, bind, unmarked, went}
@@ -20,6 +19,7 @@ use Rattle.path_walk.specs.Elements.{longest_path, most_elements}
 use Rattle.path_walk.proofs.Few.{few_elements}
 use Rattle.syscalls.specs.Taking.{inode_in, kept_by, most_reached, IsReached, ReachFits}
 use Rattle.syscalls.specs.Making.{with_links}
+use Rattle.syscalls.specs.Unlinking.{links_of}
 use Rattle.syscalls.specs.Links.{link_of, link_raised, raise_file, HasRoom}
 use Rattle.syscalls.specs.declared.take.Held.{Held}
 use Rattle.syscalls.specs.declared.reach.Reach.{Reach}
@@ -31,7 +31,7 @@ use Rattle.syscalls.proofs.Nesting.{left_zip}
 abbrev counted : ℕ → Held → Held
 counted links held = record held { inode = with_record (with_links links (record_in held.inode)) held.inode }
 
-pub raise_is : (l : Linking) (txn : ℕ) (list : List ℕ) (links : ℕ) (file raised : Held) (st : StoreInode) → raised ≡ counted links file → links ≡ count_of (record_in file.inode).nlink + 1
+pub raise_is : (l : Linking) (txn : ℕ) (list : List ℕ) (links : ℕ) (file raised : Held) (st : StoreInode) → raised ≡ counted links file → links ≡ links_of (record_in file.inode) + 1
     → store_of st ≡ store l.sizes.inodestart raised.inode.value.number (record_in raised.inode) → link_of (linking.Raising l txn list raised st) ≡ raise_file l.sizes l.old l.new (inode_in file) list
 unfolding link_of
 raise_is l txn list links file raised st is more program =

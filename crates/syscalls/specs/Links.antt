@@ -11,7 +11,6 @@ use Rattle.plain_tree.specs.declared.answer.Reply.{Reply}
 use Rattle.plain_tree.specs.declared.call.Call.TheVariants as calls
 use Rattle.plain_tree.specs.Tree.{Name, elements}
 use Rattle.plain_tree.specs.Widths.{count_limit}
-use Rattle.image_tree.specs.Trees.{count_of}
 use Rattle.atomic_programs.specs.Prog.{Do, bind, unmarked}
 use Rattle.fs_tables.specs.Limits.{listed_places}
 use Rattle.fs_tables.specs.declared.inodes.Inode.{Inode}
@@ -34,7 +33,7 @@ use Rattle.syscalls.specs.Taking.{inode_in, most_reached, reach_of, take_of, IsH
 use Rattle.syscalls.specs.Ends.{give_of, quit_of, GiveFits, QuitFits}
 use Rattle.syscalls.specs.Seeking.{SeekState, Sees, Dotted, Dead, NoParent, seek, seek_of, SeekFits}
 use Rattle.syscalls.specs.Making.{with_links, IsSized}
-use Rattle.syscalls.specs.Unlinking.{lower_child, lower_of, LowerFits}
+use Rattle.syscalls.specs.Unlinking.{links_of, lower_child, lower_of, LowerFits}
 use Rattle.syscalls.specs.declared.seek.Dots.TheVariants as dots
 use Rattle.syscalls.specs.declared.tail.Ending.{Ending}
 use Rattle.syscalls.specs.declared.add_name.Linking.{Linking}
@@ -48,7 +47,7 @@ link_reply old new answer = record { answer = answer; call = calls.Link old new 
 
 -- why a link isn't made: it would be to a directory, or the file has all its links
 abbrev pub link_refused : Dinode → Option Cause
-link_refused d = if is_directory d then Some IsDirectory else (if nat_lt (count_of d.nlink) count_limit then None else Some TooManyLinks)
+link_refused d = if is_directory d then Some IsDirectory else (if nat_lt (links_of d) count_limit then None else Some TooManyLinks)
 
 -- what is answered where there was no room for the name
 abbrev pub no_room : Room → Option Answer
@@ -103,7 +102,7 @@ module _ (sizes : Super) (old new : List ℕ) where
   -- The count goes up before there is a name.
   abbrev pub raise_file : Inode → List ℕ → P Reply
   raise_file w ns =
-      let d : Dinode = with_links (count_of (record_of w).nlink + 1) (record_of w) in
+      let d : Dinode = with_links (links_of (record_of w) + 1) (record_of w) in
       bind (store sizes.inodestart w.number d) (λ _. link_raised (loaded w.number d) ns)
 
   abbrev pub link_on : Inode → List ℕ → Option Cause → P Reply

@@ -7,18 +7,19 @@ ghost use Rattle.fs_machine.specs.Tied.{LeavesTied};
 ghost use Rattle.inode_table.specs.Machines.{store_of, StoreFits};
 ghost use Rattle.inode_table.specs.Programs.{record_of};
 ghost use Rattle.inode_data.specs.Machines.{ends_within};
-ghost use Rattle.image_tree.specs.Trees.{count_of};
 ghost use Rattle.path_walk.specs.Elements.{longest_path, most_elements};
 ghost use Rattle.plain_tree.specs.Widths.{count_limit};
 ghost use Rattle.syscalls.specs.Nesting.{Follows};
 ghost use Rattle.syscalls.specs.Parts.{Misses, quit};
 ghost use Rattle.syscalls.specs.Taking.{inode_in, kept_by, most_reached, reach_of, reached_as, IsHeld, IsReached, IsThere, ReachFits};
 ghost use Rattle.syscalls.specs.Making.{IsSized};
+ghost use Rattle.syscalls.specs.Unlinking.{links_of};
 ghost use Rattle.syscalls.specs.Links.{link_at, link_found, link_joined, link_of, link_program, link_raised, link_refused, link_reply, raise_file, HasRoom, IsLinking, LinkFits};
 ghost use Rattle.plain_tree.specs.declared.answer.Answer.TheVariants as answers;
 ghost use Rattle.syscalls.specs.declared.link.Link.TheVariants as linking;
 
 use crate::add_name::{AddName, Linking};
+use crate::lower::links;
 use crate::make::{MOST_LINKS, store, with_links};
 use crate::on_path::{ending, stopped};
 use crate::quit::Quit;
@@ -172,11 +173,11 @@ fn refuse(l: Linking, txn: Txn, list: Listed, held: Held, why: Cause) -> Link
 // Why a link isn't made.
 fn refused(file: &Dinode) -> Option<Cause>
     ensures why { result ≡ link_refused file.now }
-    ensures few { IfNone result (count_of file.now.nlink < count_limit) }
+    ensures few { IfNone result (links_of file.now < count_limit) }
 {
     if is_directory(file) {
         Some(Cause::IsDirectory)
-    } else if file.nlink < MOST_LINKS {
+    } else if links(file) < MOST_LINKS {
         None
     } else {
         Some(Cause::TooManyLinks)
@@ -185,10 +186,10 @@ fn refused(file: &Dinode) -> Option<Cause>
 
 // How many links a file has with one more.
 fn raised(file: &Dinode) -> u16
-    requires { count_of file.now.nlink < count_limit }
-    ensures { result ≡ count_of file.now.nlink + 1 }
+    requires { links_of file.now < count_limit }
+    ensures { result ≡ links_of file.now + 1 }
 {
-    count_of(file.nlink) + 1
+    count_of(links(file)) + 1
 }
 
 // At what the old path leads to.
@@ -210,7 +211,7 @@ fn at(l: Linking, txn: Txn, list: Listed, held: Held) -> Link
 fn raise(l: Linking, txn: Txn, list: Listed, file: Held) -> Link
     requires l { IsLinking l }
     requires there { IsSome file.inode.value.content }
-    requires few { count_of (record_of (inode_in file)).nlink < count_limit }
+    requires few { links_of (record_of (inode_in file)) < count_limit }
     ensures program { link_of result ≡ raise_file l.sizes l.old l.new (inode_in file) list }
     ensures fits { (hart : ℕ) (s : State) → txn ≡ hart → HasRoom l.new list → IsHeld hart file s → LinkFits hart s result }
 {

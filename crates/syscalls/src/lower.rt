@@ -121,7 +121,7 @@ impl Lower {
 }
 
 // How many links an inode has; a free one has none.
-fn links(inode: &Dinode) -> i16
+pub(crate) fn links(inode: &Dinode) -> i16
     ensures { result ≡ pos (links_of inode.now) }
 {
     if inode.kind == 0 {

@@ -1,8 +1,8 @@
 use Rattle.std.proofs.Common.{◌≡◌, ◌∙◌, ◌+◌, ap}
 use Rattle.fs_layout.specs.declared.inode.Dinode.{Dinode}
-use Rattle.image_tree.specs.Trees.{count_of}
 use Rattle.inode_data.specs.Records.{record_in}
 use Rattle.syscalls.specs.Making.{with_links}
+use Rattle.syscalls.specs.Unlinking.{links_of}
 use Rattle.syscalls.specs.Links.{LinkFits}
 use Rattle.syscalls.proofs.Linkings.{raise_is}
 use Rattle.syscalls.proofs.Makings.{changed_held}
@@ -10,7 +10,7 @@ use Rattle.syscalls.proofs.link.raise.Goals as goal
 
 pub returns-clause-program : goal.returns-clause-program
 returns-clause-program c =
-    let more : c.raised-links.result ≡ count_of (record_in c.args.file.inode).nlink + 1 = c.raised-links.ensures ∙ ap (λ (d : Dinode). count_of d.nlink + 1) c.«record».ensures in
+    let more : c.raised-links.result ≡ links_of (record_in c.args.file.inode) + 1 = c.raised-links.ensures ∙ ap (λ (d : Dinode). links_of d + 1) c.«record».ensures in
     raise_is c.args.l c.args.txn c.args.list c.raised-links.result c.args.file c.with_links-file.result c.store-store.result c.with_links-file.ensures more c.store-store.ensures.program
 
 pub returns-clause-fits : goal.returns-clause-fits
