@@ -1,5 +1,5 @@
 -- What a record tells, in the words of the machine above and in the code's.
-use Rattle.std.proofs.Common.{◌≡◌, ℕ, ℤ, pos, negsuc, ◌==◌, ◌||◌, Bool, true, false, if◌then◌else◌, Option, Some, None, refl, sym, ◌∙◌, ap}
+use Rattle.std.proofs.Common.{◌≡◌, ℕ, ℤ, pos, negsuc, ◌==◌, ◌&&◌, ◌||◌, nat_lt, Bool, true, false, if◌then◌else◌, Option, Some, None, refl, sym, ◌∙◌, ap}
 use Rattle.fs_layout.specs.declared.inode.Dinode.{Dinode}
 use Rattle.plain_tree.specs.declared.answer.Cause.{Cause}
 use Rattle.plain_tree.specs.declared.answer.Cause.TheVariants.{IsDirectory, NoDriver}
@@ -7,13 +7,15 @@ use Rattle.plain_tree.specs.declared.answer.NodeType.TheVariants as types
 use Rattle.plain_tree.specs.Steps.{has_driver}
 use Rattle.plain_tree.specs.Widths.{root_device}
 use Rattle.image_tree.specs.Inodes.{is_number, is_free}
+use Rattle.image_tree.specs.Trees.{count_of}
 use Rattle.tree_laws.proofs.Maps.{eq_is}
 use Rattle.directory.specs.Programs as directories
-use Rattle.inode_machine.specs.Inodes.{Sort, OfDirectory, OfFile, OfDevice, Face, face_or, is_directory_sort, is_file_sort, is_directory_face, open_refusal, type_of_sort, stat_of_face}
+use Rattle.inode_machine.specs.Inodes.{Sort, OfDirectory, OfFile, OfDevice, Face, face_or, is_directory_sort, is_file_sort, is_directory_face, is_live_face, open_refusal, type_of_sort, stat_of_face}
 use Rattle.inodes_on_tables.specs.Shown.{kind_of}
-use Rattle.inodes_on_blocks.specs.Reading.{sort_at, face_in}
+use Rattle.inodes_on_blocks.specs.Reading.{sort_at, natural, face_in}
 use Rattle.syscalls.specs.Opening as code
 use Rattle.syscalls.specs.Replies.{type_of, stat_of}
+use Rattle.syscalls.specs.Unlinking.{links_of}
 
 type_same : (d : Dinode) → type_of_sort (sort_at d.kind d.major) ≡ type_of d
 type_same d = by (is_number 1 d.kind) (is_number 2 d.kind)
@@ -98,3 +100,45 @@ kind_same d =
     by false true b apart = refl
     by false false true apart = refl
     by false false false apart = refl
+
+-- a directory, by the face or what stands for it
+pub sort_same : (f : Option Face) → is_directory_sort (face_or f).sort ≡ is_directory_face f
+sort_same None = refl
+sort_same (Some f) = refl
+
+-- ---- how many links are seen
+
+natural_same : (z : ℤ) → natural z ≡ count_of z
+natural_same (pos n) = refl
+natural_same (negsuc n) = refl
+
+pub links_same : (d : Dinode) → (face_or (face_seen d)).count ≡ links_of d
+links_same d = by (is_free d)
+  where
+    by : (f : Bool) → (face_or (if f then None else Some (face_in d))).count ≡ (if f then 0 else count_of d.nlink)
+    by true = refl
+    by false = natural_same d.nlink
+
+positive_same : (z : ℤ) → nat_lt 0 (natural z) ≡ directories.is_positive z
+positive_same (pos n) = refl
+positive_same (negsuc n) = refl
+
+and_true : (x : Bool) → (x && true) ≡ x
+and_true true = refl
+and_true false = refl
+
+and_false : (x : Bool) → (x && false) ≡ false
+and_false true = refl
+and_false false = refl
+
+pub live_same : (d : Dinode) → is_live_face (face_seen d) ≡ directories.is_live_directory d
+live_same d =
+    by (is_free d) (is_number 1 d.kind) (is_number 2 d.kind) (not_both d.kind)
+    ∙ (λ i. one_same d.kind i && positive_same d.nlink i)
+  where
+    by : (f a b : Bool) → (f ≡ true → a ≡ false)
+        → is_live_face (if f then None else Some (record { sort = if a then OfDirectory else (if b then OfFile else OfDevice d.major); count = natural d.nlink; size = d.size })) ≡ (a && nat_lt 0 (natural d.nlink))
+    by true a b apart = sym (ap (λ (a : Bool). a && nat_lt 0 (natural d.nlink)) (apart refl))
+    by false true b apart = and_true (nat_lt 0 (natural d.nlink))
+    by false false true apart = and_false (nat_lt 0 (natural d.nlink))
+    by false false false apart = and_false (nat_lt 0 (natural d.nlink))

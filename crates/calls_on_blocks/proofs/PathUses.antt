@@ -15,7 +15,7 @@ use Rattle.atomic_programs.specs.Lifting.{Uses}
 use Rattle.inode_machine.specs.Inodes.{Sort, face_or, AtNothing, AtName, is_directory_face, open_refusal}
 use Rattle.inode_machine.specs.Moving.{chdir_at, chdir_program}
 use Rattle.inode_machine.specs.Opening.{file_for, empties, installs, installed_on, open_end, open_face, open_at, open_old, opened_reply}
-use Rattle.inode_machine.specs.Parts.{P, Stop, NotThere, NoMemory, with_last, own_step, mends_if_full, begins_unless_full, looks_or_quits, failed, full, done, say, drop, give_up, free_all, tail, stopped, leave_directory, walk_step, walk, start_on, start}
+use Rattle.inode_machine.specs.Parts.{P, Stop, NotThere, NoMemory, with_last, own_step, mends_if_full, begins_unless_full, looks_or_quits, failed, full, done, say, drop, give_up, free_all, tail, stopped, leave_directory, quits_unless, see_parent, walk_step, walk, walk_parent, start_on, start}
 use Rattle.inode_machine.specs.Rules.{machine}
 use Rattle.inode_machine.specs.World.Op.{Empty, Free, Give, Forget, Install, Settle}
 use Rattle.inode_machine.specs.World.Mark.{Frees}
@@ -33,7 +33,7 @@ module _ (sizes : Super) (h : ℕ) (lt : h < hart_count) where
   pub drop_uses : (n : ℕ) (k : P Reply) → Uses machine (Within sizes h) k → Uses machine (Within sizes h) (drop n k)
   drop_uses n k uses = (ops.downs sizes h lt n unmarked, λ last. drops_if n k uses last)
 
-  give_up_uses : (n : ℕ) (k : P Reply) → Uses machine (Within sizes h) k → Uses machine (Within sizes h) (give_up n k)
+  pub give_up_uses : (n : ℕ) (k : P Reply) → Uses machine (Within sizes h) k → Uses machine (Within sizes h) (give_up n k)
   give_up_uses n k uses = (ops.gives sizes h lt n unmarked, λ _. drop_uses n k uses)
 
   pub say_uses : (r : Reply) → Uses machine (Within sizes h) (say r)
@@ -52,19 +52,19 @@ module _ (sizes : Super) (h : ℕ) (lt : h < hart_count) where
     ),
   )
 
-  tail_uses : (ns : List ℕ) (r : Reply) → Uses machine (Within sizes h) (tail ns r)
+  pub tail_uses : (ns : List ℕ) (r : Reply) → Uses machine (Within sizes h) (tail ns r)
   tail_uses ns r = (ops.leaves sizes h lt unmarked, λ _. free_all_uses ns r)
 
   -- an inode is given up before the end
-  refused_uses : (n : ℕ) (ns : List ℕ) (r : Reply) → Uses machine (Within sizes h) (give_up n (tail ns r))
+  pub refused_uses : (n : ℕ) (ns : List ℕ) (r : Reply) → Uses machine (Within sizes h) (give_up n (tail ns r))
   refused_uses n ns r = give_up_uses n (tail ns r) (tail_uses ns r)
 
   -- ---- walks
 
-  module _ (s : Action) (found : ℕ → List ℕ → P Reply) (lost : Stop → List ℕ → P Reply) (found_uses : (n : ℕ) (ns : List ℕ) → Uses machine (Within sizes h) (found n ns)) (lost_uses : (why : Stop) (ns : List ℕ) → Uses machine (Within sizes h) (lost why ns)) where
-    leave_uses : (d : ℕ) (ns : List ℕ) (k : List ℕ → P Reply) → ((ms : List ℕ) → Uses machine (Within sizes h) (k ms)) → Uses machine (Within sizes h) (leave_directory d ns k)
-    leave_uses d ns k uses = (ops.gives sizes h lt d unmarked, λ _. (ops.walk_downs sizes h lt d unmarked, λ last. uses (with_last ns d last)))
+  leave_uses : (d : ℕ) (ns : List ℕ) (k : List ℕ → P Reply) → ((ms : List ℕ) → Uses machine (Within sizes h) (k ms)) → Uses machine (Within sizes h) (leave_directory d ns k)
+  leave_uses d ns k uses = (ops.gives sizes h lt d unmarked, λ _. (ops.walk_downs sizes h lt d unmarked, λ last. uses (with_last ns d last)))
 
+  module _ (lost : Stop → List ℕ → P Reply) (lost_uses : (why : Stop) (ns : List ℕ) → Uses machine (Within sizes h) (lost why ns)) where
     step_uses : (d : ℕ) (ns : List ℕ) (go : ℕ → List ℕ → P Reply) → ((n : ℕ) (ms : List ℕ) → Uses machine (Within sizes h) (go n ms)) → (o : Option ℕ) → Uses machine (Within sizes h) (walk_step d ns go lost o)
     step_uses d ns go uses None = leave_uses d ns (lost NotThere) (lost_uses NotThere)
     step_uses d ns go uses (Some j) = (ops.ups sizes h lt j mends_if_full, λ there. by there)
@@ -73,16 +73,36 @@ module _ (sizes : Super) (h : ℕ) (lt : h < hart_count) where
         by true = leave_uses d ns (go j) (uses j)
         by false = leave_uses d ns (lost NoMemory) (lost_uses NoMemory)
 
+    -- where a path starts
+    start_uses : (s : Action) (path ns : List ℕ) (next : ℕ → P Reply) → ((d : ℕ) → Uses machine (Within sizes h) (next d)) → Uses machine (Within sizes h) (start s path ns next lost)
+    start_uses s path ns next uses = (ops.starts sizes h lt (is_absolute path) (begins_unless_full s), λ o. by o)
+      where
+        by : (o : Option ℕ) → Uses machine (Within sizes h) (start_on next lost ns o)
+        by None = lost_uses NoMemory ns
+        by (Some d) = uses d
+
+  module _ (s : Action) (found : ℕ → List ℕ → P Reply) (lost : Stop → List ℕ → P Reply) (found_uses : (n : ℕ) (ns : List ℕ) → Uses machine (Within sizes h) (found n ns)) (lost_uses : (why : Stop) (ns : List ℕ) → Uses machine (Within sizes h) (lost why ns)) where
     walk_uses : (es : List Name) (d : ℕ) (ns : List ℕ) → Uses machine (Within sizes h) (walk s d es ns found lost)
     walk_uses [] d ns = found_uses d ns
-    walk_uses (e ∷ es) d ns = (ops.takes sizes h lt d (AtName e) (looks_or_quits s), λ a. step_uses d ns (λ j ms. walk s j es ms found lost) (walk_uses es) a.found)
+    walk_uses (e ∷ es) d ns = (ops.takes sizes h lt d (AtName e) (looks_or_quits s), λ a. step_uses lost lost_uses d ns (λ j ms. walk s j es ms found lost) (walk_uses es) a.found)
 
     pub path_uses : (path ns : List ℕ) → Uses machine (Within sizes h) (start s path ns (λ d. walk s d (elements path) ns found lost) lost)
-    path_uses path ns = (ops.starts sizes h lt (is_absolute path) (begins_unless_full s), λ o. by o)
+    path_uses path ns = start_uses lost lost_uses s path ns (λ d. walk s d (elements path) ns found lost) (λ d. walk_uses (elements path) d ns)
+
+  module _ (s : Action) (found : ℕ → Name → List ℕ → P Reply) (lost : Stop → List ℕ → P Reply) (found_uses : (n : ℕ) (e : Name) (ns : List ℕ) → Uses machine (Within sizes h) (found n e ns)) (lost_uses : (why : Stop) (ns : List ℕ) → Uses machine (Within sizes h) (lost why ns)) where
+    see_uses : (e : Name) (d : ℕ) (ns : List ℕ) → Uses machine (Within sizes h) (see_parent s d ns (found d e) lost)
+    see_uses e d ns = (ops.takes sizes h lt d AtNothing (λ a. quits_unless s (is_directory_face a.face)), λ a. by (is_directory_face a.face))
       where
-        by : (o : Option ℕ) → Uses machine (Within sizes h) (start_on (λ d. walk s d (elements path) ns found lost) lost ns o)
-        by None = lost_uses NoMemory ns
-        by (Some d) = walk_uses (elements path) d ns
+        by : (b : Bool) → Uses machine (Within sizes h) (if b then Do (Give d) unmarked (λ _. found d e ns) else leave_directory d ns (lost NotThere))
+        by true = (ops.gives sizes h lt d unmarked, λ _. found_uses d e ns)
+        by false = leave_uses d ns (lost NotThere) (lost_uses NotThere)
+
+    parent_walk_uses : (e : Name) (es : List Name) (d : ℕ) (ns : List ℕ) → Uses machine (Within sizes h) (walk_parent s d e es ns found lost)
+    parent_walk_uses e [] d ns = see_uses e d ns
+    parent_walk_uses e (e' ∷ es) d ns = (ops.takes sizes h lt d (AtName e) (looks_or_quits s), λ a. step_uses lost lost_uses d ns (λ j ms. walk_parent s j e' es ms found lost) (parent_walk_uses e' es) a.found)
+
+    pub parent_uses : (path ns : List ℕ) (e : Name) (es : List Name) → Uses machine (Within sizes h) (start s path ns (λ d. walk_parent s d e es ns found lost) lost)
+    parent_uses path ns e es = start_uses lost lost_uses s path ns (λ d. walk_parent s d e es ns found lost) (λ d. parent_walk_uses e es d ns)
 
   -- ---- chdir
 

@@ -17,14 +17,14 @@ use Rattle.fs_machine.specs.Steps as steps
 use Rattle.fs_machine.specs.Steps.{Lock, Unlock, Up, Down, Whom, Number, Directory, Walked}
 use Rattle.inode_table.specs.Programs.{load_unless}
 use Rattle.directory.specs.declared.found.Found.{Found}
-use Rattle.directory.specs.Programs.{lookup}
+use Rattle.directory.specs.Programs.{is_directory, lookup}
 use Rattle.path_walk.specs.declared.walked.Goal.{Goal}
 use Rattle.path_walk.specs.declared.walked.Goal.TheVariants as goals
 use Rattle.path_walk.specs.declared.walked.Stop as stops
 use Rattle.path_walk.specs.declared.walked.Stop.TheVariants as stop
 use Rattle.path_walk.specs.Programs as walks
 use Rattle.path_walk.specs.Programs.{WalkedState, Reaches, Loses, loaded}
-use Rattle.inode_machine.specs.Inodes.{Seen, AtNothing, AtName}
+use Rattle.inode_machine.specs.Inodes.{Seen, AtNothing, AtName, is_directory_face}
 use Rattle.inode_machine.specs.Parts as parts
 use Rattle.inode_machine.specs.Rules.{machine}
 use Rattle.inode_machine.specs.World as above
@@ -35,7 +35,7 @@ use Rattle.inodes_on_blocks.specs.Reading.{learned, number_found, looked}
 use Rattle.syscalls.specs.Parts.{ReachedState, Finds, give_reached, reach_on}
 use Rattle.calls_on_blocks.specs.Programs.{handlers}
 use Rattle.calls_on_blocks.specs.Theory.{layer}
-use Rattle.calls_on_blocks.proofs.Faces.{face_seen}
+use Rattle.calls_on_blocks.proofs.Faces.{face_seen, directory_same}
 use Rattle.calls_on_blocks.proofs.Pieces.{left_below, plain_load}
 use Rattle.calls_on_blocks.proofs.Searches.{after_plain, plain_lookup}
 
@@ -146,6 +146,38 @@ module _ (sizes : Super) where
 
       pub path_same : (c : Carry) (path ns : List ℕ) → left_below sizes c (parts.start s path ns (λ d. parts.walk s d (elements path) ns found lost) lost) ≡ bind (walks.walk_path goals.Node sizes.inodestart path ns) go
       path_same c path ns = start_same goals.Node s c path ns (λ d. parts.walk s d (elements path) ns found lost) (λ d. walk_same (elements path) c d ns)
+
+    -- to the parent of the last element
+    module _ (found : ℕ → Name → List ℕ → parts.P Reply) (found_same : (c : Carry) (n : ℕ) (e : Name) (ns : List ℕ) → left_below sizes c (found n e ns) ≡ go (Reaches n (e ∷ []) ns)) (s : Action) where
+      see_same : (e : Name) (c : Carry) (d : ℕ) (ns : List ℕ) → left_below sizes c (parts.see_parent s d ns (found d e) lost) ≡ bind (walks.walk goals.Parent sizes.inodestart (e ∷ []) d ns) go
+      unfolding walks.walk
+      see_same e c d ns =
+          take_same c d (λ a. parts.quits_unless s (is_directory_face a.face)) (λ a. goes (is_directory_face a.face)) sees seen_same
+          ∙ sym (λ i. Do (Lock d) unmarked (λ content. bind-assoc (load_unless sizes.inodestart d content) (λ v. walks.see_parent e d (loaded d v) ns) go i))
+        where
+          goes : Bool → parts.P Reply
+          goes b = if b then Do (Give d) unmarked (λ _. found d e ns) else parts.leave_directory d ns (lost parts.NotThere)
+
+          sees : Dinode → code.P Reply
+          sees v = bind (walks.see_parent e d (loaded d v) ns) go
+
+          seen_same : (v : Dinode) → left_below sizes (put c d (Has v NothingMore)) (goes (is_directory_face (face_seen v))) ≡ sees v
+          seen_same v = ap (λ (b : Bool). left_below sizes (put c d (Has v NothingMore)) (goes b)) (directory_same v) ∙ by (is_directory v)
+            where
+              by : (b : Bool) → left_below sizes (put c d (Has v NothingMore)) (goes b)
+                  ≡ bind (if b then Do (Unlock (loaded d v) None) unmarked (λ _. Ret (Reaches d (e ∷ []) ns)) else walks.leave_directory d (loaded d v) ns (walks.lost stop.NotThere)) go
+              by true = give_same (put c d (Has v NothingMore)) d v unmarked (λ _. found d e ns) (go (Reaches d (e ∷ []) ns)) (ap record_had (put_same c d (Has v NothingMore))) (λ c. found_same c d e ns)
+              by false = leave_same (put c d (Has v NothingMore)) d v ns (lost parts.NotThere) (λ ms. go (Loses stop.NotThere ms)) (ap record_had (put_same c d (Has v NothingMore))) (λ c ms. lost_same c parts.NotThere ms)
+
+      parent_walk_same : (e : Name) (es : List Name) (c : Carry) (d : ℕ) (ns : List ℕ) → left_below sizes c (parts.walk_parent s d e es ns found lost) ≡ bind (walks.walk goals.Parent sizes.inodestart (e ∷ es) d ns) go
+      parent_walk_same e [] c d ns = see_same e c d ns
+      parent_walk_same e (e' ∷ es) c d ns = element_same goals.Parent (e' ∷ es) (λ j ms. parts.walk_parent s j e' es ms found lost) (parent_walk_same e' es) refl s e c d ns
+
+      pub parent_same : (c : Carry) (path ns : List ℕ) (e : Name) (es : List Name) → elements path ≡ e ∷ es
+          → left_below sizes c (parts.start s path ns (λ d. parts.walk_parent s d e es ns found lost) lost) ≡ bind (walks.walk_path goals.Parent sizes.inodestart path ns) go
+      parent_same c path ns e es is =
+          start_same goals.Parent s c path ns (λ d. parts.walk_parent s d e es ns found lost)
+          (λ d. parent_walk_same e es c d ns ∙ ap (λ (names : List Name). bind (walks.walk goals.Parent sizes.inodestart names d ns) go) (sym is))
 
   -- ---- what a path leads to
 
