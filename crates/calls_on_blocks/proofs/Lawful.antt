@@ -42,6 +42,7 @@ use Rattle.inode_machine.proofs.Names.{path_names}
 use Rattle.inode_machine.proofs.OpenCalls.{open_ok}
 use Rattle.inode_machine.proofs.OpenEnds.{open_begins}
 use Rattle.inode_machine.proofs.Starts.{begun_same, start_is}
+use Rattle.inode_machine.proofs.Unlinks.{unlink_begins, unlink_ok}
 use Rattle.inodes_on_blocks.specs.Below.{World, came_to, log_of}
 use Rattle.inodes_on_blocks.specs.Lowering.{nothing, below}
 use Rattle.inodes_on_blocks.specs.Room.{HasSpent}
@@ -53,6 +54,7 @@ use Rattle.calls_on_blocks.specs.Theory.{is_served, serves, served_calls, fault_
 use Rattle.calls_on_blocks.proofs.Free.{kept_free}
 use Rattle.calls_on_blocks.proofs.Operations.{history, keeps, Within, gives, doubles, shuts, stats, locks_to_read, reads, joins, leaves}
 use Rattle.calls_on_blocks.proofs.PathUses.{drop_uses, say_uses, chdir_uses, open_uses}
+use Rattle.calls_on_blocks.proofs.UnlinkUses.{unlink_uses}
 
 -- ---- above
 
@@ -88,7 +90,8 @@ served_right h (calls.Open path flags) busy w u lt here out idle free is =
     (λ holds i. open_ok h path flags u out lt holds i (opens_old path flags (served_is (calls.Open path flags) here)) (path_names path (covered_is (calls.Open path flags) here)))
 served_right h (calls.Write fd bytes) busy w u lt here out idle free is = absurd (let q = served_is (calls.Write fd bytes) here in cc (q))
 served_right h (calls.Link old new) busy w u lt here out idle free is = absurd (let q = served_is (calls.Link old new) here in cc (q))
-served_right h (calls.Unlink path) busy w u lt here out idle free is = absurd (let q = served_is (calls.Unlink path) here in cc (q))
+served_right h (calls.Unlink path) busy w u lt here out idle free is =
+    right serves h (calls.Unlink path) busy w u idle free is (unlink_begins path) (λ holds i. unlink_ok h path u holds out lt i (path_names path (covered_is (calls.Unlink path) here)))
 served_right h (calls.Mkdir path) busy w u lt here out idle free is = absurd (let q = served_is (calls.Mkdir path) here in cc (q))
 served_right h (calls.Chdir path) busy w u lt here out idle free is =
     right serves h (calls.Chdir path) busy w u idle free is (chdir_begins path) (λ holds i. chdir_ok h path u out lt holds i (path_names path (covered_is (calls.Chdir path) here)))
@@ -189,7 +192,7 @@ module _ (sizes : Super) (h : ℕ) (lt : h < hart_count) where
   served_uses (calls.Open path flags) e = subst (λ (b : Bool). Uses machine (Within sizes h) (if b then open_new path flags (elements path) else open_old path flags)) (sym (opens_old path flags e)) (open_uses sizes h lt path flags)
   served_uses (calls.Write fd bytes) e = absurd cc
   served_uses (calls.Link old new) e = absurd cc
-  served_uses (calls.Unlink path) e = absurd cc
+  served_uses (calls.Unlink path) e = unlink_uses sizes h lt path
   served_uses (calls.Mkdir path) e = absurd cc
   served_uses (calls.Chdir path) e = chdir_uses sizes h lt path
   served_uses (calls.Inherit child) e = absurd cc

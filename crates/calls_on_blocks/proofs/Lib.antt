@@ -1,6 +1,7 @@
 pub mod Free
 pub mod Operations
 pub mod PathUses
+pub mod UnlinkUses
 pub mod Lawful
 pub mod Faces
 pub mod Pieces
@@ -14,5 +15,6 @@ pub mod CloseBridge
 pub mod ReadBridge
 pub mod ChdirBridge
 pub mod OpenBridge
+pub mod UnlinkBridge
 pub mod Bridges
 pub mod History

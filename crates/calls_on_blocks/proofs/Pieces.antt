@@ -32,7 +32,7 @@ use Rattle.inode_machine.specs.World.Op.{Give, Forget, Leave}
 use Rattle.inode_machine.specs.World.Mark.{Frees}
 use Rattle.inodes_on_blocks.specs.Emptying.{give_content}
 use Rattle.inodes_on_blocks.specs.Handlers.{Acts, P, had_of, is_dying, with_dying}
-use Rattle.inodes_on_blocks.specs.Lowering.{Apart, Emptied, Carry, record_had}
+use Rattle.inodes_on_blocks.specs.Lowering.{Had, Apart, Emptied, Carry, record_had}
 use Rattle.inodes_on_blocks.specs.Storing.{record_in, put_record}
 use Rattle.calls_on_blocks.specs.Programs.{handlers}
 use Rattle.calls_on_blocks.specs.Theory.{layer}
@@ -154,19 +154,20 @@ module _ (sizes : Super) where
 
   -- ---- an inode freed
 
-  module _ {B : Type 0} (n : ℕ) (k : parts.P B) (rest : code.P B) (goes : (c : Carry) → left_below c k ≡ rest) where
+  -- what is in hand of other inodes may be kept for what follows
+  module _ {B : Type 0} (n : ℕ) (k : parts.P B) (rest : code.P B) (Still : Carry → Type 0) (stays : (c : Carry) (had : Had) → Still c → Still (put c n had)) (goes : (c : Carry) → Still c → left_below c k ≡ rest) where
     -- above: freed, its lock given back, its reference gone
-    abbrev pub frees : parts.P B
-    frees = Do (above.Free n) (λ _. Some (Frees n)) (λ _. Do (Give n) unmarked (λ _. Do (Forget n) unmarked (λ _. k)))
+    abbrev frees_with : parts.P B
+    frees_with = Do (above.Free n) (λ _. Some (Frees n)) (λ _. Do (Give n) unmarked (λ _. Do (Forget n) unmarked (λ _. k)))
 
     -- the lock goes back with nothing loaded, and then the reference
     abbrev unlocked : code.P B
     unlocked = Do (steps.Unlock (record { number = n; content = None }) None) unmarked (λ _. Do (steps.Down (Freed n)) unmarked (λ _. rest))
 
-    given : (c : Carry) → left_below (put c n Emptied) (Do (Give n) unmarked (λ _. Do (Forget n) unmarked (λ _. k))) ≡ unlocked
-    given c = λ i.
+    given : (c : Carry) → Still c → left_below (put c n Emptied) (Do (Give n) unmarked (λ _. Do (Forget n) unmarked (λ _. k))) ≡ unlocked
+    given c kept = λ i.
         Do (steps.Unlock (record { number = n; content = record_had (put_same c n Emptied i) }) None) unmarked (λ _.
-        Do (steps.Down (Freed n)) unmarked (λ _. goes (put (put c n Emptied) n Apart) i))
+        Do (steps.Down (Freed n)) unmarked (λ _. goes (put (put c n Emptied) n Apart) (stays (put c n Emptied) Apart (stays c Emptied kept)) i))
 
     -- the inode's block with the free record, and then that
     abbrev put_freed : (d : Dinode) → List ℕ → code.P B
@@ -175,7 +176,7 @@ module _ (sizes : Super) where
     abbrev all_freed : (d : Dinode) → code.P B
     all_freed d = emptied d (bind (store_inode sizes.inodestart n (without_content d)) (λ _. bind (fetch (inode_block sizes.inodestart n)) (put_freed (without_content d))))
 
-    module _ (c : Carry) where
+    module _ (c : Carry) (kept : Still c) where
       -- what is had of it
       abbrev d : Dinode
       d = record_in c n
@@ -196,14 +197,14 @@ module _ (sizes : Super) where
       last_is =
           ap plain (bind-assoc (fetch (inode_block sizes.inodestart n)) puts then_)
           ∙ plain-bind (fetch (inode_block sizes.inodestart n)) (λ block. bind (puts block) then_)
-          ∙ (λ i. bind (plain_fetch (inode_block sizes.inodestart n) i) (λ block. Do (steps.Put (inode_block sizes.inodestart n) (Some (with_dinode n (freed (without_content d)) block))) unmarked (λ _. given c i)))
+          ∙ (λ i. bind (plain_fetch (inode_block sizes.inodestart n) i) (λ block. Do (steps.Put (inode_block sizes.inodestart n) (Some (with_dinode n (freed (without_content d)) block))) unmarked (λ _. given c kept i)))
 
       stored_is : plain (bind (bind first (λ _. last)) then_) ≡ bind first (λ _. bind (fetch (inode_block sizes.inodestart n)) (put_freed (without_content d)))
       stored_is =
           ap plain (bind-assoc first (λ _. last) then_) ∙ plain-bind first (λ _. bind last then_)
           ∙ (λ i. bind (plain_store sizes.inodestart n (without_content d) i) (λ _. last_is i))
 
-      below_is : left_below c frees ≡ all_freed d
+      below_is : left_below c frees_with ≡ all_freed d
       below_is =
           ap plain (content_bind d (bind first (λ _. last)) then_) ∙ plain_content d (bind (bind first (λ _. last)) then_)
           ∙ (λ i. emptied d (stored_is i))
@@ -228,8 +229,8 @@ module _ (sizes : Super) where
             bind-assoc (store_inode sizes.inodestart n e) (λ _. Ret e) (λ r. bind (store_freed sizes.inodestart n r) (λ _. rest))
             ∙ (λ i. bind (store_inode sizes.inodestart n e) (λ _. put_is i))
 
-    pub plain_frees : (c : Carry) → left_below c frees ≡ bind (free_inode sizes n (record_in c n)) (λ _. rest)
-    plain_frees c = below_is c ∙ sym (code_is (record_in c n))
+    plain_frees_with : (c : Carry) → Still c → left_below c frees_with ≡ bind (free_inode sizes n (record_in c n)) (λ _. rest)
+    plain_frees_with c kept = below_is c kept ∙ sym (code_is (record_in c n))
 
     -- ---- a reference dropped
 
@@ -241,13 +242,25 @@ module _ (sizes : Super) where
         by None = refl
         by (Some d) = refl
 
-    pub plain_drop : (c : Carry) → left_below c (parts.drop n k) ≡ bind (drop_reference sizes n) (λ _. rest)
-    plain_drop c = λ i. Do (steps.Down (Held n)) unmarked (λ came. behind came i)
+    pub plain_drop_with : (c : Carry) → Still c → left_below c (parts.drop n k) ≡ bind (drop_reference sizes n) (λ _. rest)
+    plain_drop_with c kept = λ i. Do (steps.Down (Held n)) unmarked (λ came. behind came i)
       where
-        behind : (came : DroppedState) → left_below (with_dying n c came) (if is_dying came then frees else k) ≡ bind (after_drop sizes n came) (λ _. rest)
-        behind Counts = goes c
-        behind Keeps = goes c
-        behind (Dies m content) = plain_frees (put c n (had_of content)) ∙ (λ i. bind (free_inode sizes n (record_came c content i)) (λ _. rest))
+        behind : (came : DroppedState) → left_below (with_dying n c came) (if is_dying came then frees_with else k) ≡ bind (after_drop sizes n came) (λ _. rest)
+        behind Counts = goes c kept
+        behind Keeps = goes c kept
+        behind (Dies m content) = plain_frees_with (put c n (had_of content)) (stays c (had_of content) kept) ∙ (λ i. bind (free_inode sizes n (record_came c content i)) (λ _. rest))
+
+  -- whatever is in hand
+  module _ {B : Type 0} (n : ℕ) (k : parts.P B) (rest : code.P B) (goes : (c : Carry) → left_below c k ≡ rest) where
+    -- above: freed, its lock given back, its reference gone
+    abbrev pub frees : parts.P B
+    frees = Do (above.Free n) (λ _. Some (Frees n)) (λ _. Do (Give n) unmarked (λ _. Do (Forget n) unmarked (λ _. k)))
+
+    pub plain_frees : (c : Carry) → left_below c frees ≡ bind (free_inode sizes n (record_in c n)) (λ _. rest)
+    plain_frees c = plain_frees_with n k rest (λ _. Unit {0}) (λ c had kept. kept) (λ c kept. goes c) c tt
+
+    pub plain_drop : (c : Carry) → left_below c (parts.drop n k) ≡ bind (drop_reference sizes n) (λ _. rest)
+    plain_drop c = plain_drop_with n k rest (λ _. Unit {0}) (λ c had kept. kept) (λ c kept. goes c) c tt
 
   -- ---- a transaction left
 
