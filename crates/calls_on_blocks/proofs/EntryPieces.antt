@@ -199,6 +199,32 @@ module _ (sizes : Super) where
         after_plain (seek_free (acts (Enter n e q) above.Room m) d) (search Unused d) (λ found. enter_in sizes n e q c m (slot_for d found)) k (λ found. bind (enter_at sizes n d bytes found) rest) (plain_seek (acts (Enter n e q) above.Room m) d) (λ found. goes (slot_for d found))
         ∙ sym (bind-assoc (search Unused d) (enter_at sizes n d bytes) rest)
 
+  -- what follows a name's entering is asked for its results alone: where there is no slot the record is as it was
+  module _ {B : Type 0} (n : ℕ) (d : Dinode) (q : ℕ) (e : Name) (f g : EnteredState → code.P B) (there : (v : Dinode) → f (record { inode = v; room = room.There }) ≡ g (record { inode = v; room = room.There })) (no_block : (v : Dinode) → f (record { inode = v; room = room.NoBlock }) ≡ g (record { inode = v; room = room.NoBlock })) (no_slot : f (record { inode = d; room = room.NoSlot }) ≡ g (record { inode = d; room = room.NoSlot })) where
+    abbrev entry : List ℕ
+    entry = spell_dirent (Used q e)
+
+    by_room : (v : Dinode) (t : Bool) → f (record { inode = v; room = if t then room.There else room.NoBlock }) ≡ g (record { inode = v; room = if t then room.There else room.NoBlock })
+    by_room v true = there v
+    by_room v false = no_block v
+
+    slot_same : (slot : ℕ) → bind (code_enter_in sizes n d entry slot) f ≡ bind (code_enter_in sizes n d entry slot) g
+    slot_same slot = by (nat_lt slot 17152)
+      where
+        by : (t : Bool) → bind (if t then bind (write_part sizes n d (16 * slot) entry) (entered_by slot) else Ret (record { inode = d; room = room.NoSlot })) f
+            ≡ bind (if t then bind (write_part sizes n d (16 * slot) entry) (entered_by slot) else Ret (record { inode = d; room = room.NoSlot })) g
+        by true =
+            bind-assoc (write_part sizes n d (16 * slot) entry) (entered_by slot) f
+            ∙ (λ i. bind (write_part sizes n d (16 * slot) entry) (λ w. by_room w.inode (w.upto == 16 * (slot + 1)) i))
+            ∙ sym (bind-assoc (write_part sizes n d (16 * slot) entry) (entered_by slot) g)
+        by false = no_slot
+
+    pub entered_same : bind (code_enter sizes n d q e) f ≡ bind (code_enter sizes n d q e) g
+    entered_same =
+        bind-assoc (search Unused d) (enter_at sizes n d entry) f
+        ∙ (λ i. bind (search Unused d) (λ found. slot_same (slot_for d found) i))
+        ∙ sym (bind-assoc (search Unused d) (enter_at sizes n d entry) g)
+
   -- A new directory's names are a part of its content, written.
   module _ {B : Type 0} (n p : ℕ) (c : Carry) (m : Bool → Option above.Mark) (k : Handed Bool Carry → P B) where
     abbrev filled : Written → code.P B

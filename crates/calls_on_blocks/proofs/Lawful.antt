@@ -38,7 +38,8 @@ use Rattle.inode_machine.specs.Theory.{Refusal, NoSuchHart, Busy, TooLong, NotCo
 use Rattle.inode_machine.proofs.Budgets.{transactions_are_small}
 use Rattle.inode_machine.proofs.Calls.{IsRight, laws, lawful_that, descriptors_right, right}
 use Rattle.inode_machine.proofs.ChdirCalls.{chdir_begins, chdir_ok}
-use Rattle.inode_machine.proofs.Names.{path_names}
+use Rattle.inode_machine.proofs.LinkCalls.{link_begins, link_ok}
+use Rattle.inode_machine.proofs.Names.{both_paths, path_names}
 use Rattle.inode_machine.proofs.OpenCalls.{open_ok}
 use Rattle.inode_machine.proofs.OpenEnds.{open_begins}
 use Rattle.inode_machine.proofs.Starts.{begun_same, start_is}
@@ -53,6 +54,7 @@ use Rattle.calls_on_blocks.specs.Programs.{handlers}
 use Rattle.calls_on_blocks.specs.Theory.{is_served, serves, served_calls, fault_of, refusal_for, begun_by, if_hart, begin_in, IsFree, layer, begins, block_calls, shared_part, block_code}
 use Rattle.calls_on_blocks.proofs.Free.{kept_free}
 use Rattle.calls_on_blocks.proofs.Operations.{history, keeps, Within, gives, doubles, shuts, stats, locks_to_read, reads, joins, leaves}
+use Rattle.calls_on_blocks.proofs.LinkUses.{link_uses}
 use Rattle.calls_on_blocks.proofs.PathUses.{drop_uses, say_uses, chdir_uses, open_uses}
 use Rattle.calls_on_blocks.proofs.UnlinkUses.{unlink_uses}
 
@@ -89,7 +91,9 @@ served_right h (calls.Open path flags) busy w u lt here out idle free is =
     right serves h (calls.Open path flags) busy w u idle free is (open_begins path flags)
     (λ holds i. open_ok h path flags u out lt holds i (opens_old path flags (served_is (calls.Open path flags) here)) (path_names path (covered_is (calls.Open path flags) here)))
 served_right h (calls.Write fd bytes) busy w u lt here out idle free is = absurd (let q = served_is (calls.Write fd bytes) here in cc (q))
-served_right h (calls.Link old new) busy w u lt here out idle free is = absurd (let q = served_is (calls.Link old new) here in cc (q))
+served_right h (calls.Link old new) busy w u lt here out idle free is =
+    right serves h (calls.Link old new) busy w u idle free is (link_begins old new)
+    (λ holds i. let two = both_paths old new (covered_is (calls.Link old new) here) in link_ok h old new u out lt holds i (path_names old two.0) (path_names new two.1))
 served_right h (calls.Unlink path) busy w u lt here out idle free is =
     right serves h (calls.Unlink path) busy w u idle free is (unlink_begins path) (λ holds i. unlink_ok h path u holds out lt i (path_names path (covered_is (calls.Unlink path) here)))
 served_right h (calls.Mkdir path) busy w u lt here out idle free is = absurd (let q = served_is (calls.Mkdir path) here in cc (q))
@@ -191,7 +195,7 @@ module _ (sizes : Super) (h : ℕ) (lt : h < hart_count) where
   served_uses (calls.Read fd buffer) e = (locks_to_read sizes h lt fd (refused_read fd (length buffer)), λ a. read_uses fd buffer a)
   served_uses (calls.Open path flags) e = subst (λ (b : Bool). Uses machine (Within sizes h) (if b then open_new path flags (elements path) else open_old path flags)) (sym (opens_old path flags e)) (open_uses sizes h lt path flags)
   served_uses (calls.Write fd bytes) e = absurd cc
-  served_uses (calls.Link old new) e = absurd cc
+  served_uses (calls.Link old new) e = link_uses sizes h lt old new
   served_uses (calls.Unlink path) e = unlink_uses sizes h lt path
   served_uses (calls.Mkdir path) e = absurd cc
   served_uses (calls.Chdir path) e = chdir_uses sizes h lt path

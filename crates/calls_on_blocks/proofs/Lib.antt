@@ -2,6 +2,7 @@ pub mod Free
 pub mod Operations
 pub mod PathUses
 pub mod UnlinkUses
+pub mod LinkUses
 pub mod Lawful
 pub mod Faces
 pub mod Pieces
@@ -16,5 +17,7 @@ pub mod ReadBridge
 pub mod ChdirBridge
 pub mod OpenBridge
 pub mod UnlinkBridge
+pub mod StoreBridge
+pub mod LinkBridge
 pub mod Bridges
 pub mod History

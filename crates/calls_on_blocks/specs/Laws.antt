@@ -1,11 +1,12 @@
 -- The laws of the calls on blocks.
 use Rattle.std.specs.Prelude.{◌≡◌, ℕ, false, List}
 use Rattle.fs_layout.specs.declared.superblock.Super.{Super}
-use Rattle.plain_tree.specs.declared.call.Call.TheVariants.{Open, Read, Unlink, Chdir, Dup, Fstat, Close}
+use Rattle.plain_tree.specs.declared.call.Call.TheVariants.{Open, Read, Link, Unlink, Chdir, Dup, Fstat, Close}
 use Rattle.plain_tree.specs.Steps.{creates}
 use Rattle.atomic_programs.specs.Prog.{plain}
 use Rattle.atomic_programs.specs.Calls.{Lawful}
 use Rattle.atomic_programs.specs.Plain.{IsCode}
+use Rattle.syscalls.specs.Links.{link_program}
 use Rattle.syscalls.specs.Moving.{chdir_program}
 use Rattle.syscalls.specs.Opening as opening
 use Rattle.syscalls.specs.Programs.{dup_program, stat_program, close_program, read_program}
@@ -24,6 +25,7 @@ CodeIsOfIt = (sizes : Super) → IsCode (block_calls sizes) (block_code sizes)
 pub record ProgramsAreLowered (sizes : Super) : Type 0 where
   -- without CREATE
   pub open_old : (path : List ℕ) (flags : ℕ) → creates flags ≡ false → plain ((block_calls sizes).program (Open path flags)) ≡ opening.open_old sizes path flags
+  pub link : (old new : List ℕ) → plain ((block_calls sizes).program (Link old new)) ≡ link_program sizes old new
   pub unlink : (path : List ℕ) → plain ((block_calls sizes).program (Unlink path)) ≡ unlink_program sizes path
   pub chdir : (path : List ℕ) → plain ((block_calls sizes).program (Chdir path)) ≡ chdir_program sizes path
   pub dup : (fd : ℕ) → plain ((block_calls sizes).program (Dup fd)) ≡ dup_program fd

@@ -24,7 +24,7 @@ abbrev pub is_served : Call → Bool
 is_served (Open path flags) = not (creates flags)
 is_served (Read fd buffer) = true
 is_served (Write fd bytes) = false
-is_served (Link old new) = false
+is_served (Link old new) = true
 is_served (Unlink path) = true
 is_served (Mkdir path) = false
 is_served (Chdir path) = true
