@@ -4,6 +4,7 @@ use Rattle.calls_on_blocks.specs.Laws.{ProgramsAreLowered}
 use Rattle.calls_on_blocks.proofs.ChdirBridge.{chdirs}
 use Rattle.calls_on_blocks.proofs.CloseBridge.{closes}
 use Rattle.calls_on_blocks.proofs.DupBridge.{dups}
+use Rattle.calls_on_blocks.proofs.InheritBridge.{inherits}
 use Rattle.calls_on_blocks.proofs.LinkBridge.{links}
 use Rattle.calls_on_blocks.proofs.OpenBridge.{opens}
 use Rattle.calls_on_blocks.proofs.ReadBridge.{reads}
@@ -11,4 +12,4 @@ use Rattle.calls_on_blocks.proofs.StatBridge.{stats}
 use Rattle.calls_on_blocks.proofs.UnlinkBridge.{unlinks}
 
 pub programs_are_lowered : (sizes : Super) → ProgramsAreLowered sizes
-programs_are_lowered sizes = record { open_old = opens sizes; link = links sizes; unlink = unlinks sizes; chdir = chdirs sizes; dup = dups sizes; fstat = stats sizes; close = closes sizes; read = reads sizes }
+programs_are_lowered sizes = record { open_old = opens sizes; link = links sizes; unlink = unlinks sizes; chdir = chdirs sizes; dup = dups sizes; fstat = stats sizes; close = closes sizes; read = reads sizes; inherit = inherits sizes }

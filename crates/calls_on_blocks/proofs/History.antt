@@ -1,14 +1,15 @@
 -- Runs on a mounted disk as one list of tree steps.
-use Rattle.std.proofs.Common.{◌≡◌, ◌⊎◌, inl, inr, ◌<◌, ℕ, Bool, List, [], ◌∷◌, Option, Some, None, refl, sym, ◌∙◌, ap, subst}
+use Rattle.std.proofs.Common.{◌≡◌, ◌⊎◌, inl, ◌<◌, ℕ, Bool, List, [], ◌∷◌, Option, Some, None, refl, ◌∙◌, ap, subst}
 use Rattle.fs_layout.specs.declared.superblock.Super.{Super}
 use Rattle.fs_layout.specs.Recovered.{sizes_of}
 use Rattle.plain_tree.specs.declared.call.Call.{Call}
-use Rattle.plain_tree.specs.Tree.{Tree}
+use Rattle.std.proofs.lemmas.Option.{none-some}
+use Rattle.plain_tree.specs.Tree.{Tree, put}
 use Rattle.plain_tree.specs.Widths.{hart_count}
 use Rattle.image_tree.specs.Trees.{tree_in}
 use Rattle.tree_laws.specs.WellFormed.{IsWellFormed}
 use Rattle.tree_laws.proofs.Nodes.{settled_well}
-use Rattle.tree_moves.specs.Moves.{Stage, Step as MoveStep}
+use Rattle.tree_moves.specs.Moves.{Step as MoveStep}
 use Rattle.atomic_programs.specs.Prog.{Did, Waits, Ran, Stops}
 use Rattle.atomic_programs.specs.Logic.{placed_with}
 use Rattle.atomic_programs.specs.Calls.{Began, Refuses, Begins, Event}
@@ -25,12 +26,13 @@ use Rattle.inode_machine.specs.Theory.{Refusal}
 use Rattle.inode_machine.proofs.Histories.{places_one}
 use Rattle.inode_machine.proofs.MoveCalls.{moves_history, moves_alone}
 use Rattle.inode_machine.proofs.Starts.{start_is}
-use Rattle.inodes_on_blocks.specs.Below.{World}
-use Rattle.inodes_on_blocks.specs.Mounted.{ShowsItsTree, first_world, mounted}
+use Rattle.inodes_on_blocks.specs.Mounted.{ShowsItsTree, first_world}
 use Rattle.inodes_on_blocks.proofs.Mounted.{mounts_show_their_trees}
 use Rattle.calls_on_blocks.specs.History.{block_moves, first, RunsOn, MountsHaveOneHistory, OneHartHasOneHistory}
-use Rattle.calls_on_blocks.specs.Theory.{serves, served_calls, begin_in, block_calls}
-use Rattle.calls_on_blocks.proofs.Lawful.{lawful, begun_here, below_count}
+use Rattle.calls_on_blocks.specs.Layer.{World, shared_of}
+use Rattle.calls_on_blocks.specs.Theory.{serves, served_calls, child_of, begins as begins_below, block_calls}
+use Rattle.calls_on_blocks.proofs.Lawful.{lawful}
+use Rattle.calls_on_blocks.proofs.Starting.{begun_here, below_count}
 
 -- a step below places nothing, or what the operation that acts there places
 places_any : (h : ℕ) (m : Option (ActOf machine)) (w : above.World) → (act_places machine h m w ≡ []) ⊎ ((e : MoveStep) × (act_places machine h m w ≡ (h, e) ∷ []))
@@ -57,13 +59,21 @@ moving sizes = record {
   where
     begins : (h : ℕ) (call : Call) (busy : ℕ → Bool) (w u : Both World above.World) → (block_calls sizes).start h call busy w ≡ Begins u → (h < hart_count) × (stage_of u.seen ≡ stage_of w.seen)
     begins h call busy w u e =
-        let b = begun_both (began_to w.seen (served_calls.start h call busy w.seen)) (begin_in h call w.real) u e in
-        (below_count h (begun_here h call w.real u.real b.0).hart, ap stage_of b.1 ∙ began_stage h call busy w.seen (served_calls.start h call busy w.seen) refl)
+        let t : World = record (w.real) { children = put w.real.children h (child_of call) } in
+        let b = begun_both (began_to w.seen (served_calls.start h call busy w.seen)) (begins_below sizes h call busy w.real) u e in
+        (below_count h (begun_here h call busy (shared_of w.real) t u.real b.0).hart, ap stage_of b.1 ∙ began_stage h call busy w.seen (served_calls.start h call busy w.seen) refl)
+
+-- as a mount gives them
+pub first_holds : (disk : List (List ℕ)) (failures : ℕ) → ShowsItsTree disk failures → (block_calls (sizes_of disk)).M.Inv (first disk failures)
+first_holds disk failures shows = ((shows.shows, λ g c lg e. absurd (none-some c e)), shows.inv)
+
+pub first_idle : (disk : List (List ℕ)) (failures : ℕ) → ShowsItsTree disk failures → (h : ℕ) → (block_calls (sizes_of disk)).M.Idle h (first disk failures)
+first_idle disk failures shows h = (shows.stands h, shows.idle h)
 
 pub runs_from : (disk : List (List ℕ)) (failures : ℕ) (events : List (Event Call Outside)) → RunsOn disk failures events → RunsFrom (block_moves (sizes_of disk)) (tree_in disk) (first disk failures) events
 runs_from disk failures events r = record {
-  holds = (shows.shows, shows.inv);
-  idle = λ h. ((shows.stands h, refl), shows.idle h);
+  holds = first_holds disk failures shows;
+  idle = first_idle disk failures shows;
   tree = shows.settled;
   well = subst (λ (z : Tree). IsWellFormed z) shows.settled (settled_well (first_world disk).all shows.inv.well);
   honest = r.honest;

@@ -1,8 +1,12 @@
-pub mod Free
+pub mod Lenders
+pub mod Beside
 pub mod Operations
 pub mod PathUses
 pub mod UnlinkUses
 pub mod LinkUses
+pub mod InheritUses
+pub mod Reserving
+pub mod Starting
 pub mod Lawful
 pub mod Faces
 pub mod Pieces
@@ -14,6 +18,7 @@ pub mod DupBridge
 pub mod StatBridge
 pub mod CloseBridge
 pub mod ReadBridge
+pub mod InheritBridge
 pub mod ChdirBridge
 pub mod OpenBridge
 pub mod UnlinkBridge

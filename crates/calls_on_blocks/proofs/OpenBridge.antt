@@ -37,7 +37,7 @@ use Rattle.syscalls.specs.Opening as syscalls
 use Rattle.syscalls.specs.Parts.{reach_on, give_up}
 use Rattle.syscalls.specs.Programs.{tail}
 use Rattle.calls_on_blocks.specs.Programs.{handlers}
-use Rattle.calls_on_blocks.specs.Theory.{layer}
+use Rattle.calls_on_blocks.specs.Layer.{layer}
 use Rattle.calls_on_blocks.proofs.Faces.{sort_seen, refusal_same, file_same, kind_same}
 use Rattle.calls_on_blocks.proofs.Pieces.{left_below, plain_fetch, plain_content, content_bind, emptied}
 use Rattle.calls_on_blocks.proofs.Searches.{after_plain}

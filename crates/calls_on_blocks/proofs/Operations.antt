@@ -1,4 +1,4 @@
--- The operations on whole inodes act at one moment below, within what their call's transactions may record, and leave each hart free.
+-- The operations on whole inodes act at one moment below, within what their call's transactions may record.
 use Rattle.std.proofs.Common.{◌≡◌, ◌<◌, ℕ, List, Bool, true, Option}
 use Rattle.fs_layout.specs.declared.superblock.Super.{Super}
 use Rattle.plain_tree.specs.declared.answer.Cause.{Cause}
@@ -6,18 +6,17 @@ use Rattle.plain_tree.specs.declared.tree.OpenFile.{OpenFile}
 use Rattle.plain_tree.specs.Tree.{Name}
 use Rattle.plain_tree.specs.Widths.{hart_count}
 use Rattle.atomic_programs.specs.Spending.{AtomicWithin}
-use Rattle.atomic_programs.proofs.Lifting.{within_with_more}
 use Rattle.tree_moves.specs.Moves.{Stage, Step, Takes}
 use Rattle.inode_machine.specs.Inodes.{Face, Looking, Seen, Sort}
 use Rattle.inode_machine.specs.Marks.{places}
 use Rattle.inode_machine.specs.Rules as rules
 use Rattle.inode_machine.specs.Rules.{machine}
 use Rattle.inode_machine.specs.World as above
-use Rattle.inode_machine.specs.World.{Joining, Locking}
-use Rattle.inode_machine.specs.World.Op.{Take, Give, UpStart, Up, WalkDown, Down, Free, Forget, Store, Fill, Enter, Clear, Empty, Slot, Install, StatFile, LockFile, ReadFile, LockOpen, CheckFile, JoinFile, Double, Shut, Settle, Join, Leave, Say}
+use Rattle.inode_machine.specs.World.{Joining, Lending, Locking}
+use Rattle.inode_machine.specs.World.Op.{Take, Give, UpStart, Up, WalkDown, Down, Free, Forget, Store, Fill, Enter, Clear, Empty, Slot, Install, StatFile, LockFile, ReadFile, LockOpen, CheckFile, JoinFile, Double, Shut, Settle, Lend, LendDirectory, Release, Join, Leave, Say}
 use Rattle.inode_machine.proofs.Calls.{laws}
 use Rattle.inodes_on_blocks.specs.Acting.{ActsOnceAt}
-use Rattle.inodes_on_blocks.specs.Lowering.{Labels, Keeps, below}
+use Rattle.inodes_on_blocks.specs.Lowering.{Labels, Keeps}
 use Rattle.inodes_on_blocks.specs.Room.{HasSpent}
 use Rattle.inodes_on_blocks.specs.Spending.{recorded_blocks, ActsWithin, ProgramsSpend, Spends}
 use Rattle.inodes_on_blocks.proofs.CountSteps.{up_acts, up_start_acts, walk_down_acts, down_acts}
@@ -25,6 +24,7 @@ use Rattle.inodes_on_blocks.proofs.ForgetSteps.{forget_acts}
 use Rattle.inodes_on_blocks.proofs.JoinFileSteps.{join_file_acts}
 use Rattle.inodes_on_blocks.proofs.JoinSteps.{join_acts}
 use Rattle.inodes_on_blocks.proofs.LeaveSteps.{leave_acts}
+use Rattle.inodes_on_blocks.proofs.LendSteps.{lend_acts, lend_directory_acts, release_acts}
 use Rattle.inodes_on_blocks.proofs.NamingWithins.{enter_within, fill_within}
 use Rattle.inodes_on_blocks.proofs.LockSteps.{file_acts, open_acts}
 use Rattle.inodes_on_blocks.proofs.ReadSteps.{read_acts}
@@ -35,9 +35,8 @@ use Rattle.inodes_on_blocks.proofs.TableSteps.{give_acts, settle_acts}
 use Rattle.inodes_on_blocks.proofs.TakeSteps.{take_acts}
 use Rattle.inodes_on_blocks.proofs.Withins.{acts_within, store_within, clear_within, empty_within, free_within}
 use Rattle.calls_on_blocks.specs.Programs.{handlers}
-use Rattle.calls_on_blocks.specs.Theory.{IsFree, layer}
-use Rattle.calls_on_blocks.proofs.Free as free
-use Rattle.calls_on_blocks.proofs.Free.{kept_free, LeavesFree, go_free}
+use Rattle.calls_on_blocks.specs.Layer.{layer}
+use Rattle.calls_on_blocks.proofs.Beside.{within_beside}
 
 -- ---- the history that explains the calls
 
@@ -61,17 +60,15 @@ keeps h v w xs o = record { same = o.same; rests = o.rests; opens = o.opens }
 module _ (sizes : Super) (h : ℕ) where
   -- an operation's program acts at one moment, where the hart's transaction has room for what it records
   abbrev pub Within : (op : above.Op) → (above.Answer op → Option above.Mark) → Type 1
-  Within op m = AtomicWithin machine (layer sizes) (handlers sizes) (recorded_blocks history) (λ r s. HasSpent sizes h s r) h op m
+  Within op m = AtomicWithin machine (layer sizes) (handlers sizes) (recorded_blocks history) (λ r s. HasSpent sizes h s r.blocks) h op m
 
-  recorded : (op : above.Op) (m : above.Answer op → Option above.Mark) → LeavesFree op → ActsWithin sizes history h op m (λ c. handlers sizes c op) → Within op m
-  recorded op m leaves within =
-      within_with_more machine (below sizes) IsFree (handlers sizes) h (recorded_blocks history) (λ r s. HasSpent sizes h s r) op m
-      (λ v w xs o. kept_free h v w (keeps h v w xs o)) (go_free h op m leaves) within
+  recorded : (op : above.Op) (m : above.Answer op → Option above.Mark) → ActsWithin sizes history h op m (λ c. handlers sizes c op) → Within op m
+  recorded op m within = within_beside sizes (handlers sizes) h (recorded_blocks history) (λ r s. HasSpent sizes h s r) op m within
 
   module _ (lt : h < hart_count) where
     -- one that asks for no room
-    acting : (op : above.Op) (m : above.Answer op → Option above.Mark) → LeavesFree op → Spends sizes op (λ c. handlers sizes c op) → ActsOnceAt sizes history h op m (λ c. handlers sizes c op) → Within op m
-    acting op m leaves spends acts = recorded op m leaves (acts_within sizes history laws keeps h lt op m (λ c. handlers sizes c op) spends acts)
+    acting : (op : above.Op) (m : above.Answer op → Option above.Mark) → Spends sizes op (λ c. handlers sizes c op) → ActsOnceAt sizes history h op m (λ c. handlers sizes c op) → Within op m
+    acting op m spends acts = recorded op m (acts_within sizes history laws keeps h lt op m (λ c. handlers sizes c op) spends acts)
 
     spend : ProgramsSpend sizes
     spend = programs_spend sizes
@@ -79,88 +76,99 @@ module _ (sizes : Super) (h : ℕ) where
     -- locks and references
 
     pub takes : (n : ℕ) (looking : Looking) (m : Seen → Option above.Mark) → Within (Take n looking) m
-    takes n looking m = acting (Take n looking) m (free.take_free n looking) (spend.take n looking) (take_acts history laws keeps h lt sizes n looking m)
+    takes n looking m = acting (Take n looking) m (spend.take n looking) (take_acts history laws keeps h lt sizes n looking m)
 
     pub gives : (n : ℕ) (m : Unit {0} → Option above.Mark) → Within (Give n) m
-    gives n m = acting (Give n) m (free.give_free n) (spend.give n) (give_acts history laws keeps h lt n m sizes)
+    gives n m = acting (Give n) m (spend.give n) (give_acts history laws keeps h lt n m sizes)
 
     pub starts : (absolute : Bool) (m : Option ℕ → Option above.Mark) → Within (UpStart absolute) m
-    starts absolute m = acting (UpStart absolute) m (free.up_start_free absolute) (spend.up_start absolute) (up_start_acts history laws keeps h lt absolute m sizes)
+    starts absolute m = acting (UpStart absolute) m (spend.up_start absolute) (up_start_acts history laws keeps h lt absolute m sizes)
 
     pub ups : (n : ℕ) (m : Bool → Option above.Mark) → Within (Up n) m
-    ups n m = acting (Up n) m (free.up_free n) (spend.up n) (up_acts history laws keeps h lt n m sizes)
+    ups n m = acting (Up n) m (spend.up n) (up_acts history laws keeps h lt n m sizes)
 
     pub walk_downs : (n : ℕ) (m : Bool → Option above.Mark) → Within (WalkDown n) m
-    walk_downs n m = acting (WalkDown n) m (free.walk_down_free n) (spend.walk_down n) (walk_down_acts history laws keeps h lt n m sizes)
+    walk_downs n m = acting (WalkDown n) m (spend.walk_down n) (walk_down_acts history laws keeps h lt n m sizes)
 
     pub downs : (n : ℕ) (m : Bool → Option above.Mark) → Within (Down n) m
-    downs n m = acting (Down n) m (free.down_free n) (spend.down n) (down_acts history laws keeps h lt n m sizes)
+    downs n m = acting (Down n) m (spend.down n) (down_acts history laws keeps h lt n m sizes)
 
     pub forgets : (n : ℕ) (m : Unit {0} → Option above.Mark) → Within (Forget n) m
-    forgets n m = acting (Forget n) m (free.forget_free n) (spend.forget n) (forget_acts history laws keeps h lt n m sizes)
+    forgets n m = acting (Forget n) m (spend.forget n) (forget_acts history laws keeps h lt n m sizes)
 
     -- records
 
     pub frees : (n : ℕ) (m : Unit {0} → Option above.Mark) → Within (Free n) m
-    frees n m = recorded (Free n) m (free.free_free n) (free_within sizes history laws keeps h lt n m)
+    frees n m = recorded (Free n) m (free_within sizes history laws keeps h lt n m)
 
     pub stores : (n count : ℕ) (m : Unit {0} → Option above.Mark) → Within (Store n count) m
-    stores n count m = recorded (Store n count) m (free.store_free n count) (store_within sizes history laws keeps h lt n count m)
+    stores n count m = recorded (Store n count) m (store_within sizes history laws keeps h lt n count m)
 
     pub fills : (n d : ℕ) (m : Bool → Option above.Mark) → Within (Fill n d) m
-    fills n d m = recorded (Fill n d) m (free.fill_free n d) (fill_within sizes history laws keeps h lt n d m)
+    fills n d m = recorded (Fill n d) m (fill_within sizes history laws keeps h lt n d m)
 
     pub enters : (d : ℕ) (e : Name) (n : ℕ) (m : above.Entered → Option above.Mark) → Within (Enter d e n) m
-    enters d e n m = recorded (Enter d e n) m (free.enter_free d e n) (enter_within sizes history laws keeps h lt d e n m)
+    enters d e n m = recorded (Enter d e n) m (enter_within sizes history laws keeps h lt d e n m)
 
     pub clears : (n : ℕ) (e : Name) (m : Unit {0} → Option above.Mark) → Within (Clear n e) m
-    clears n e m = recorded (Clear n e) m (free.clear_free n e) (clear_within sizes history laws keeps h lt n e m)
+    clears n e m = recorded (Clear n e) m (clear_within sizes history laws keeps h lt n e m)
 
     pub empties : (n : ℕ) (m : Unit {0} → Option above.Mark) → Within (Empty n) m
-    empties n m = recorded (Empty n) m (free.empty_free n) (empty_within sizes history laws keeps h lt n m)
+    empties n m = recorded (Empty n) m (empty_within sizes history laws keeps h lt n m)
 
     -- descriptors
 
     pub places_taken : (m : Bool → Option above.Mark) → Within Slot m
-    places_taken m = acting Slot m free.slot_free spend.slot (slot_acts history laws keeps h lt m sizes)
+    places_taken m = acting Slot m spend.slot (slot_acts history laws keeps h lt m sizes)
 
     pub installs : (f : OpenFile) (sort : Sort) (m : Option ℕ → Option above.Mark) → Within (Install f sort) m
-    installs f sort m = acting (Install f sort) m (free.install_free f sort) (spend.install f sort) (install_acts history laws keeps h lt f sort m sizes)
+    installs f sort m = acting (Install f sort) m (spend.install f sort) (install_acts history laws keeps h lt f sort m sizes)
 
     pub doubles : (fd : ℕ) (m : Option (Option ℕ) → Option above.Mark) → Within (Double fd) m
-    doubles fd m = acting (Double fd) m (free.double_free fd) (spend.double fd) (double_acts history laws keeps h lt fd m sizes)
+    doubles fd m = acting (Double fd) m (spend.double fd) (double_acts history laws keeps h lt fd m sizes)
 
     pub shuts : (fd : ℕ) (m : Option (Option ℕ) → Option above.Mark) → Within (Shut fd) m
-    shuts fd m = acting (Shut fd) m (free.shut_free fd) (spend.close fd) (close_acts history laws keeps h lt fd m sizes)
+    shuts fd m = acting (Shut fd) m (spend.close fd) (close_acts history laws keeps h lt fd m sizes)
 
     pub stats : (fd : ℕ) (m : Option (ℕ × Face) → Option above.Mark) → Within (StatFile fd) m
-    stats fd m = acting (StatFile fd) m (free.stat_free fd) (spend.stat_file fd) (stat_acts history laws keeps h lt sizes fd m)
+    stats fd m = acting (StatFile fd) m (spend.stat_file fd) (stat_acts history laws keeps h lt sizes fd m)
 
     pub locks_to_read : (fd : ℕ) (m : Locking → Option above.Mark) → Within (LockFile fd) m
-    locks_to_read fd m = acting (LockFile fd) m (free.lock_file_free fd) (spend.lock_file fd) (file_acts history laws keeps h lt sizes fd m)
+    locks_to_read fd m = acting (LockFile fd) m (spend.lock_file fd) (file_acts history laws keeps h lt sizes fd m)
 
     pub reads : (fd n offset count : ℕ) (m : List ℕ → Option above.Mark) → Within (ReadFile fd n offset count) m
-    reads fd n offset count m = acting (ReadFile fd n offset count) m (free.read_free fd n offset count) (spend.read_file fd n offset count) (read_acts history laws keeps h lt sizes fd n offset count m)
+    reads fd n offset count m = acting (ReadFile fd n offset count) m (spend.read_file fd n offset count) (read_acts history laws keeps h lt sizes fd n offset count m)
 
     pub locks_to_write : (fd n : ℕ) (m : ℕ × ℕ → Option above.Mark) → Within (LockOpen fd n) m
-    locks_to_write fd n m = acting (LockOpen fd n) m (free.lock_open_free fd n) (spend.lock_open fd n) (open_acts history laws keeps h lt sizes fd n m)
+    locks_to_write fd n m = acting (LockOpen fd n) m (spend.lock_open fd n) (open_acts history laws keeps h lt sizes fd n m)
 
     pub checks : (fd : ℕ) (m : Option Cause → Option above.Mark) → Within (CheckFile fd) m
-    checks fd m = acting (CheckFile fd) m (free.check_free fd) (spend.check_file fd) (check_acts history laws keeps h lt fd m sizes)
+    checks fd m = acting (CheckFile fd) m (spend.check_file fd) (check_acts history laws keeps h lt fd m sizes)
 
     pub joins_files : (fd : ℕ) (m : Joining → Option above.Mark) → Within (JoinFile fd) m
-    joins_files fd m = acting (JoinFile fd) m (free.join_file_free fd) (spend.join_file fd) (join_file_acts history laws keeps h lt fd m sizes)
+    joins_files fd m = acting (JoinFile fd) m (spend.join_file fd) (join_file_acts history laws keeps h lt fd m sizes)
 
     -- the hart itself
 
     pub settles : (n : ℕ) (m : ℕ → Option above.Mark) → Within (Settle n) m
-    settles n m = acting (Settle n) m (free.settle_free n) (spend.settle n) (settle_acts history laws keeps h lt n m sizes)
+    settles n m = acting (Settle n) m (spend.settle n) (settle_acts history laws keeps h lt n m sizes)
 
     pub joins : (m : Unit {0} → Option above.Mark) → Within Join m
-    joins m = acting Join m free.join_free spend.join (join_acts history laws keeps h lt m sizes)
+    joins m = acting Join m spend.join (join_acts history laws keeps h lt m sizes)
 
     pub leaves : (m : Unit {0} → Option above.Mark) → Within Leave m
-    leaves m = acting Leave m free.leave_free spend.leave (leave_acts history laws keeps h lt m sizes)
+    leaves m = acting Leave m spend.leave (leave_acts history laws keeps h lt m sizes)
 
     pub says : (m : Unit {0} → Option above.Mark) → Within Say m
-    says m = acting Say m free.say_free spend.say (say_acts history laws keeps h lt m sizes)
+    says m = acting Say m spend.say (say_acts history laws keeps h lt m sizes)
+
+    -- what is handed to a child
+
+    pub lends : (child from : ℕ) (m : Lending → Option above.Mark) → Within (Lend child from) m
+    lends child from m = acting (Lend child from) m (spend.lend child from) (lend_acts history laws keeps h lt child from m sizes)
+
+    pub lends_directory : (child : ℕ) (m : ℕ → Option above.Mark) → Within (LendDirectory child) m
+    lends_directory child m = acting (LendDirectory child) m (spend.lend_directory child) (lend_directory_acts history laws keeps h lt child m sizes)
+
+    pub releases : (child : ℕ) (m : Unit {0} → Option above.Mark) → Within (Release child) m
+    releases child m = acting (Release child) m (spend.release child) (release_acts history laws keeps h lt child m sizes)

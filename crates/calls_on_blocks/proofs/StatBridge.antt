@@ -24,7 +24,7 @@ use Rattle.inodes_on_blocks.specs.Lowering.{Carry, NothingMore, Has, nothing, re
 use Rattle.inodes_on_blocks.specs.Reading.{stat_loaded, stat_locked}
 use Rattle.syscalls.specs.Programs as syscalls
 use Rattle.calls_on_blocks.specs.Programs.{handlers}
-use Rattle.calls_on_blocks.specs.Theory.{layer}
+use Rattle.calls_on_blocks.specs.Layer.{layer}
 use Rattle.calls_on_blocks.proofs.Faces.{stat_same}
 use Rattle.calls_on_blocks.proofs.Pieces.{left_below, plain_load}
 

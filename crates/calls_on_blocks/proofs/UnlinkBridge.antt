@@ -48,7 +48,7 @@ use Rattle.syscalls.specs.Unlinking as syscalls
 use Rattle.syscalls.specs.Unlinking.{links_of, search_entries}
 use Rattle.syscalls.specs.declared.seek.Dots.TheVariants as dots
 use Rattle.calls_on_blocks.specs.Programs.{handlers}
-use Rattle.calls_on_blocks.specs.Theory.{layer}
+use Rattle.calls_on_blocks.specs.Layer.{layer}
 use Rattle.calls_on_blocks.proofs.EndBridge.{tail_same, give_up_same}
 use Rattle.calls_on_blocks.proofs.Faces.{face_seen, directory_same, links_same, live_same, sort_same}
 use Rattle.calls_on_blocks.proofs.Pieces.{left_below, plain_block, plain_drop_with, plain_fetch, plain_load}

@@ -34,7 +34,7 @@ use Rattle.inodes_on_blocks.specs.Lowering.{Carry, Learned, NothingMore, Has, Ap
 use Rattle.inodes_on_blocks.specs.Reading.{learned, number_found, looked}
 use Rattle.syscalls.specs.Parts.{ReachedState, Finds, give_reached, reach_on}
 use Rattle.calls_on_blocks.specs.Programs.{handlers}
-use Rattle.calls_on_blocks.specs.Theory.{layer}
+use Rattle.calls_on_blocks.specs.Layer.{layer}
 use Rattle.calls_on_blocks.proofs.Faces.{face_seen, directory_same}
 use Rattle.calls_on_blocks.proofs.Pieces.{left_below, plain_load}
 use Rattle.calls_on_blocks.proofs.Searches.{after_plain, plain_lookup}

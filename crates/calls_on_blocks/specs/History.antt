@@ -1,5 +1,5 @@
 -- What a mounted file system's runs come to: one list of tree steps.
-use Rattle.std.specs.Prelude.{◌≡◌, ℕ, List}
+use Rattle.std.specs.Prelude.{ℕ, List, None}
 use Rattle.fs_layout.specs.declared.superblock.Super.{Super}
 use Rattle.fs_layout.specs.Recovered.{sizes_of}
 use Rattle.plain_tree.specs.declared.call.Call.{Call}
@@ -9,8 +9,8 @@ use Rattle.atomic_programs.specs.Joined.{Both}
 use Rattle.fs_machine.specs.LogPart.{Outside}
 use Rattle.inode_machine.specs.World as above
 use Rattle.inode_machine.specs.MoveCalls.{Moving, HasOneHistory, NoneClimbs, Alone}
-use Rattle.inodes_on_blocks.specs.Below.{World}
 use Rattle.inodes_on_blocks.specs.Mounted.{IsMountable, first_world, mounted}
+use Rattle.calls_on_blocks.specs.Layer.{World}
 use Rattle.calls_on_blocks.specs.Theory.{block_calls}
 
 -- the calls on the blocks, as calls whose steps are moves on the tree
@@ -42,9 +42,9 @@ block_moves sizes =
       limit = T.limit;
     }
 
--- what a mount gives: the blocks, and the tree that they show
+-- what a mount gives: the blocks, where no hart has a child, and the tree that they show
 abbrev pub first : List (List ℕ) → ℕ → Both World above.World
-first disk failures = record { real = mounted disk failures; seen = first_world disk }
+first disk failures = record { real = record { blocks = mounted disk failures; children = λ h. None }; seen = first_world disk }
 
 -- Events of a disk that was mounted, at answers that the device may give, in which no step found no room.
 pub record RunsOn (disk : List (List ℕ)) (failures : ℕ) (events : List (Event Call Outside)) : Type 0 where

@@ -1,11 +1,12 @@
 -- The laws of the calls on blocks.
 use Rattle.std.specs.Prelude.{◌≡◌, ℕ, false, List}
 use Rattle.fs_layout.specs.declared.superblock.Super.{Super}
-use Rattle.plain_tree.specs.declared.call.Call.TheVariants.{Open, Read, Link, Unlink, Chdir, Dup, Fstat, Close}
+use Rattle.plain_tree.specs.declared.call.Call.TheVariants.{Open, Read, Link, Unlink, Chdir, Dup, Fstat, Close, Inherit}
 use Rattle.plain_tree.specs.Steps.{creates}
 use Rattle.atomic_programs.specs.Prog.{plain}
 use Rattle.atomic_programs.specs.Calls.{Lawful}
 use Rattle.atomic_programs.specs.Plain.{IsCode}
+use Rattle.syscalls.specs.Inheriting.{inherit_program}
 use Rattle.syscalls.specs.Links.{link_program}
 use Rattle.syscalls.specs.Moving.{chdir_program}
 use Rattle.syscalls.specs.Opening as opening
@@ -32,3 +33,4 @@ pub record ProgramsAreLowered (sizes : Super) : Type 0 where
   pub fstat : (fd : ℕ) → plain ((block_calls sizes).program (Fstat fd)) ≡ stat_program sizes.inodestart fd
   pub close : (fd : ℕ) → plain ((block_calls sizes).program (Close fd)) ≡ close_program sizes fd
   pub read : (fd : ℕ) (buffer : List ℕ) → plain ((block_calls sizes).program (Read fd buffer)) ≡ read_program sizes.inodestart fd buffer
+  pub inherit : (child : ℕ) → plain ((block_calls sizes).program (Inherit child)) ≡ inherit_program sizes child

@@ -1,4 +1,5 @@
 pub mod Programs
+pub mod Layer
 pub mod Theory
 pub mod Laws
 pub mod History

@@ -1,22 +1,22 @@
 -- The calls that are served, as a theory over the machine below: what every list of events makes of it.
-use Rattle.std.specs.Prelude.{◌≡◌, ℕ, Bool, true, false, ◌&&◌, not, nat_lt, List, length, Option, Some, None, if◌then◌else◌}
+use Rattle.std.specs.Prelude.{ℕ, Bool, true, false, ◌&&◌, ◌||◌, ◌==◌, not, nat_lt, List, length, Option, Some, None, is_some, if◌then◌else◌}
 use Rattle.fs_layout.specs.declared.superblock.Super.{Super}
 use Rattle.plain_tree.specs.declared.call.Call.{Call}
 use Rattle.plain_tree.specs.declared.call.Call.TheVariants.{Open, Read, Write, Link, Unlink, Mkdir, Chdir, Dup, Fstat, Close, Inherit}
 use Rattle.plain_tree.specs.Steps.{creates}
-use Rattle.plain_tree.specs.Widths.{hart_count}
+use Rattle.plain_tree.specs.Tree.{put, any_below}
+use Rattle.plain_tree.specs.Widths.{hart_count, descriptor_count}
 use Rattle.atomic_programs.specs.Prog.{or_else}
 use Rattle.atomic_programs.specs.Calls.{Theory, Began, Refuses, Begins}
 use Rattle.atomic_programs.specs.Plain.{Code}
-use Rattle.atomic_programs.specs.Joined.{Lower}
-use Rattle.atomic_programs.specs.Lifting.{with_more}
 use Rattle.atomic_programs.specs.Lowered.{Starts, lowered_calls, Part, code_part}
+use Rattle.fs_tables.specs.Tables.{TablesState, file_named}
 use Rattle.fs_machine.specs.declared.kind.Kind.{Kind}
 use Rattle.fs_machine.specs.Steps as steps
 use Rattle.fs_machine.specs.Premises as premises
-use Rattle.inode_machine.specs.World as above
-use Rattle.inode_machine.specs.Theory.{Refusal, NoSuchHart, PathTooLong, ZeroInPath, NotCovered, calls_that, is_covered, path_limit, has_zero, asks_wrong}
-use Rattle.inodes_on_blocks.specs.Lowering.{below}
+use Rattle.inode_machine.specs.Exec.{is_at}
+use Rattle.inode_machine.specs.Theory.{Refusal, NoSuchHart, Busy, PathTooLong, ZeroInPath, NotEmptyHart, NotCovered, calls_that, is_covered, path_limit, has_zero, asks_wrong}
+use Rattle.calls_on_blocks.specs.Layer.{Shared, exec_shared, layer, shared_of}
 use Rattle.calls_on_blocks.specs.Programs.{handlers}
 
 -- the calls of which each operation's program is known to act at one moment: of open those without CREATE
@@ -31,7 +31,7 @@ is_served (Chdir path) = true
 is_served (Dup fd) = true
 is_served (Fstat fd) = true
 is_served (Close fd) = true
-is_served (Inherit child) = false
+is_served (Inherit child) = true
 
 -- and nothing is wrong with the call itself
 abbrev pub serves : Call → Bool
@@ -63,6 +63,36 @@ fault_of (Inherit child) = None
 abbrev pub refusal_for : Call → Option Refusal
 refusal_for call = or_else (fault_of call) (if serves call then None else Some NotCovered)
 
+-- ---- a child
+
+-- whom a call reserves
+abbrev pub child_of : Call → Option ℕ
+child_of (Inherit child) = Some child
+child_of call = None
+
+-- a call under way reserves the hart
+abbrev pub reserved : (ℕ → Bool) → (ℕ → Option ℕ) → ℕ → Bool
+reserved busy children g = any_below hart_count (λ c. busy c && is_at (children c) g)
+
+-- the hart has an open file
+abbrev pub has_file : ℕ → TablesState → Bool
+has_file h t = any_below descriptor_count (λ fd. is_some (file_named h fd t))
+
+-- why a hart can't be the child: there is no such hart; it is the caller, has a call, or is another one's child; it has descriptors
+abbrev pub child_refusal : ℕ → ℕ → (ℕ → Bool) → Shared → Option Refusal
+child_refusal h child busy s =
+    if nat_lt child hart_count then (if (child == h) || (busy child || reserved busy s.children child) then Some Busy else (if has_file child s.state.tables then Some NotEmptyHart else None)) else Some NoSuchHart
+
+abbrev pub others_refusal : ℕ → Call → (ℕ → Bool) → Shared → Option Refusal
+others_refusal h (Inherit child) busy s = child_refusal h child busy s
+others_refusal h call busy s = None
+
+-- ---- what a start comes to
+
+-- why hart h's call doesn't begin: a child starts nothing; then what is wrong with the call, and last what the other harts do
+abbrev pub start_refusal : ℕ → Call → (ℕ → Bool) → Shared → Option Refusal
+start_refusal h call busy s = or_else (if reserved busy s.children h then Some Busy else None) (or_else (refusal_for call) (others_refusal h call busy s))
+
 abbrev pub begun_by : {S : Type 0} → S → Option Refusal → Began Refusal S
 begun_by s None = Begins s
 begun_by s (Some why) = Refuses why
@@ -71,22 +101,13 @@ abbrev pub if_hart : {S : Type 0} → Bool → Began Refusal S → Began Refusal
 if_hart true b = b
 if_hart false b = Refuses NoSuchHart
 
--- there are eight harts; a start changes nothing
-abbrev pub begin_in : {S : Type 0} → ℕ → Call → S → Began Refusal S
-begin_in h call s = if_hart (nat_lt h hart_count) (begun_by s (refusal_for call))
+-- There are eight harts. t is what a start leaves that isn't refused.
+abbrev pub begin_in : {S : Type 0} → ℕ → Call → (ℕ → Bool) → Shared → S → Began Refusal S
+begin_in h call busy s t = if_hart (nat_lt h hart_count) (begun_by t (start_refusal h call busy s))
 
--- ---- the layer
-
--- no other hart hands its descriptors to this one
-abbrev pub IsFree : ℕ → above.World → Type 0
-IsFree h w = (w.desks h).lender ≡ None
-
--- the machine below, on a disk of these sizes, while no inherit is served
-abbrev pub layer : Super → Lower above.World
-layer sizes = with_more (below sizes) IsFree
-
+-- it says whom its call reserves, and changes nothing else
 abbrev pub begins : (sizes : Super) → Starts served_calls (layer sizes)
-begins sizes h call busy r = begin_in h call r
+begins sizes h call busy r = begin_in h call busy (shared_of r) (record r { children = put r.children h (child_of call) })
 
 abbrev pub block_calls : Super → Theory
 block_calls sizes = lowered_calls served_calls (layer sizes) (handlers sizes) (begins sizes)
@@ -94,7 +115,14 @@ block_calls sizes = lowered_calls served_calls (layer sizes) (handlers sizes) (b
 -- ---- the code's part of it: all that harts share
 
 abbrev pub shared_part : (sizes : Super) → Part served_calls (layer sizes)
-shared_part sizes = record { Shared = steps.State; of = λ w. w.state; exec = steps.exec; may = premises.May; honest = premises.Honest; begin = λ h call busy s. begin_in h call s }
+shared_part sizes = record {
+  Shared = Shared;
+  of = shared_of;
+  exec = exec_shared;
+  may = λ h op s. premises.May h op s.state;
+  honest = λ h op s x. premises.Honest h op s.state x;
+  begin = λ h call busy s. begin_in h call busy s (record s { children = put s.children h (child_of call) });
+}
 
 abbrev pub block_code : (sizes : Super) → Code (block_calls sizes)
 block_code sizes = code_part served_calls (layer sizes) (handlers sizes) (begins sizes) (shared_part sizes) Kind steps.kind_of

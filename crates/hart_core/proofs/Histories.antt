@@ -8,6 +8,7 @@ use Rattle.fs_layout.specs.Recovered.{sizes_of}
 use Rattle.image_tree.specs.Trees.{tree_in}
 use Rattle.plain_tree.specs.declared.answer.Reply.{Reply}
 use Rattle.plain_tree.specs.declared.call.Call.{Call}
+use Rattle.plain_tree.specs.Tree.{put}
 use Rattle.plain_tree.specs.declared.trace.Trace.{Trace}
 use Rattle.plain_tree.specs.declared.trace.TracedCall.{TracedCall}
 use Rattle.plain_tree.specs.Calls.{call_climbs}
@@ -28,11 +29,12 @@ use Rattle.atomic_programs.specs.Lowered.{began_to}
 use Rattle.inode_machine.specs.MoveCalls.{shown_by, shows, HasOneHistory}
 use Rattle.inode_machine.specs.Theory.{Refusal}
 use Rattle.inode_machine.specs.World as above
-use Rattle.inodes_on_blocks.specs.Below.{World}
 use Rattle.calls_on_blocks.specs.History.{block_moves, first, RunsOn}
-use Rattle.calls_on_blocks.specs.Theory.{block_calls, block_code, served_calls, begin_in}
+use Rattle.calls_on_blocks.specs.Layer.{World, shared_of}
+use Rattle.calls_on_blocks.specs.Theory.{begins, block_calls, block_code, child_of, served_calls}
 use Rattle.calls_on_blocks.proofs.History.{one_history, one_hart}
-use Rattle.calls_on_blocks.proofs.Lawful.{is_code, begun_here}
+use Rattle.calls_on_blocks.proofs.Lawful.{is_code}
+use Rattle.calls_on_blocks.proofs.Starting.{begun_here}
 use Rattle.hart_core.specs.declared.events.Event.{Event}
 use Rattle.hart_core.specs.declared.events.Event.TheVariants as event
 use Rattle.hart_core.specs.declared.events.Came.{Came}
@@ -193,8 +195,9 @@ module _ (sizes : Super) where
   -- there are eight harts
   none_past : (call : Call) (busy : ℕ → Bool) (w u : Both World above.World) → (block_calls sizes).start 8 call busy w ≡ Begins u → ⊥
   none_past call busy w u e =
-      let b = begun_both (began_to w.seen (served_calls.start 8 call busy w.seen)) (begin_in 8 call w.real) u e in
-      let here : nat_lt 8 hart_count ≡ true = (begun_here 8 call w.real u.real b.0).hart in
+      let t : World = record (w.real) { children = put w.real.children 8 (child_of call) } in
+      let b = begun_both (began_to w.seen (served_calls.start 8 call busy w.seen)) (begins sizes 8 call busy w.real) u e in
+      let here : nat_lt 8 hart_count ≡ true = (begun_here 8 call busy (shared_of w.real) t u.real b.0).hart in
       cc
 
 -- ---- what is said of a trace's calls holds of each start

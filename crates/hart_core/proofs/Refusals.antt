@@ -11,11 +11,12 @@ use Rattle.inode_machine.specs.Exec.{is_nothing}
 use Rattle.inode_machine.specs.Theory as calls
 use Rattle.inode_machine.specs.Theory.{path_limit, has_zero, are_bytes, path_wrong, asks_wrong, is_covered}
 use Rattle.calls_on_blocks.specs.Theory as served
-use Rattle.calls_on_blocks.specs.Theory.{is_served, serves}
+use Rattle.calls_on_blocks.specs.Layer.{Shared}
+use Rattle.calls_on_blocks.specs.Theory.{is_served, serves, has_file}
 use Rattle.hart_core.specs.declared.starts.StartRefused.{StartRefused}
-use Rattle.hart_core.specs.declared.starts.StartRefused.TheVariants.{Busy, NoSuchHart, PathTooLong, ZeroInPath, TooLong, NotYet}
-use Rattle.syscalls.specs.declared.running.Running.{Running}
-use Rattle.hart_core.specs.Starts.{longest_path, path_fault, part_fault, fault_of, refusal_for, refusal_of, reason_of, PathsAreBytes}
+use Rattle.hart_core.specs.declared.starts.StartRefused.TheVariants.{Busy, NoSuchHart, NotEmptyHart, PathTooLong, ZeroInPath, TooLong, NotYet}
+use Rattle.hart_core.specs.Harts.{HartsOf, busy_in, children_in, shared_of}
+use Rattle.hart_core.specs.Starts.{longest_path, path_fault, part_fault, fault_of, refusal_for, is_child, child_refusal, others_refusal, refusal_of, reason_of, PathsAreBytes}
 
 -- in the words of the calls
 abbrev pub reason_for : Option StartRefused → Option calls.Refusal
@@ -115,13 +116,48 @@ may_run call e = by (fault_of call) (is_served call) e
     by None false e = absurd cc
     by (Some why) b e = absurd cc
 
-pub may_start : (doing : List (Option Running)) (h : ℕ) (call : Call) → refusal_of doing h call ≡ None → (fault_of call ≡ None) × (is_served call ≡ true)
-may_start doing h call e = may_run call (by (nat_lt h hart_count) (is_some (get_or doing h None)) e)
+pub may_start : {D : Type 0} (w : HartsOf D) (h : ℕ) (call : Call) → refusal_of w h call ≡ None → (fault_of call ≡ None) × (is_served call ≡ true)
+may_start w h call e = may_run call (by (nat_lt h hart_count) (busy_in w.calls h || is_child w h) (refusal_for call) e)
   where
-    by : (hart busy : Bool) → (if hart then (if busy then Some Busy else refusal_for call) else Some NoSuchHart) ≡ None → refusal_for call ≡ None
-    by true false e = e
-    by true true e = absurd cc
-    by false busy e = absurd cc
+    by : (hart taken : Bool) (o : Option StartRefused) → (if hart then (if taken then Some Busy else or_else o (others_refusal w h call)) else Some NoSuchHart) ≡ None → o ≡ None
+    by true false None e = refl
+    by true false (Some why) e = absurd cc
+    by true true o e = absurd cc
+    by false taken o e = absurd cc
+
+-- ---- what the other harts do
+
+module _ {D : Type 0} (contents : D → List (List ℕ)) (failures : D → ℕ) (w : HartsOf D) where
+  -- as the calls have it
+  abbrev pub now : Shared
+  now = record { state = shared_of contents failures w; children = children_in w.children }
+
+  child_same : (h child : ℕ) → reason_for (child_refusal w h child) ≡ served.child_refusal h child (busy_in w.calls) now
+  child_same h child = by (nat_lt child hart_count) ((child == h) || (busy_in w.calls child || is_child w child)) (has_file child w.core.tables)
+    where
+      by : (below taken full : Bool) → reason_for (if below then (if taken then Some Busy else (if full then Some NotEmptyHart else None)) else Some NoSuchHart)
+          ≡ (if below then (if taken then Some calls.Busy else (if full then Some calls.NotEmptyHart else None)) else Some calls.NoSuchHart)
+      by true true full = refl
+      by true false true = refl
+      by true false false = refl
+      by false taken full = refl
+
+  others_same : (h : ℕ) (call : Call) → reason_for (others_refusal w h call) ≡ served.others_refusal h call (busy_in w.calls) now
+  others_same h (Open path flags) = refl
+  others_same h (Read fd buffer) = refl
+  others_same h (Write fd bytes) = refl
+  others_same h (Link old new) = refl
+  others_same h (Unlink path) = refl
+  others_same h (Mkdir path) = refl
+  others_same h (Chdir path) = refl
+  others_same h (Dup fd) = refl
+  others_same h (Fstat fd) = refl
+  others_same h (Close fd) = refl
+  others_same h (Inherit child) = child_same h child
+
+  -- the call's own cause, and then that
+  pub reasons_same : (h : ℕ) (call : Call) → (fault_of call ≡ None → PathsAreBytes call) → reason_for (or_else (refusal_for call) (others_refusal w h call)) ≡ or_else (served.refusal_for call) (served.others_refusal h call (busy_in w.calls) now)
+  reasons_same h call bytes = or_same (refusal_for call) (others_refusal w h call) ∙ (λ i. or_else (refusal_same call bytes i) (others_same h call i))
 
 -- a path is short and has no zero byte
 none_zero : (b : ℕ) (bs : List ℕ) → list_any (λ b. b == 0) (b ∷ bs) ≡ false → (b ≢ 0) × (list_any (λ b. b == 0) bs ≡ false)

@@ -20,14 +20,15 @@ use Rattle.syscalls.specs.declared.running.Running.{Running}
 use Rattle.syscalls.specs.Machines.{running_of}
 use Rattle.plain_tree.specs.declared.answer.Reply.{Reply}
 use Rattle.inode_machine.specs.World as above
-use Rattle.inodes_on_blocks.specs.Below.{World}
 use Rattle.inodes_on_blocks.specs.Mounted.{IsMountable, ShowsItsTree, first_world, mounted, resting_log}
 use Rattle.inodes_on_blocks.proofs.Mounted.{mounts_show_their_trees}
+use Rattle.calls_on_blocks.specs.Layer.{World}
 use Rattle.calls_on_blocks.specs.Theory.{block_calls, block_code}
-use Rattle.hart_core.specs.Harts.{HartsOf}
+use Rattle.calls_on_blocks.proofs.History.{first_holds, first_idle}
+use Rattle.hart_core.specs.Harts.{HartsOf, children_in}
 use Rattle.hart_core.specs.Mounting.{Rests}
 use Rattle.hart_core.specs.Worlds.{IsWorld, calls_of}
-use Rattle.hart_core.proofs.Stepping.{nones}
+use Rattle.hart_core.proofs.Stepping.{nones, none_of}
 
 -- the inode blocks of a well-formed image begin early
 early : (disk : List (List ℕ)) → IsWellFormed disk → IsEarly (sizes_of disk).inodestart
@@ -59,7 +60,7 @@ module _ {D : Type 0} (contents : D → List (List ℕ)) (failures : D → ℕ) 
 
   -- the first world of the calls
   abbrev pub first : Both World above.World
-  first = record { real = mounted disk count; seen = first_world disk }
+  first = record { real = record { blocks = mounted disk count; children = λ h. None }; seen = first_world disk }
 
   log_same : resting_log disk count ≡ part_of contents failures w.core.log
   log_same =
@@ -69,16 +70,19 @@ module _ {D : Type 0} (contents : D → List (List ℕ)) (failures : D → ℕ) 
   none_runs : (h : ℕ) → ◌≡◌ {A = Option (P Reply)} None (program_at running_of (get_or w.calls h None))
   none_runs h = sym (ap (λ (calls : List (Option Running)). program_at running_of (get_or calls h None)) rests.idle ∙ ap (program_at running_of) (nones 8 h))
 
+  no_child : (h : ℕ) → ◌≡◌ {A = Option ℕ} None (children_in w.children h)
+  no_child h = sym (ap (λ (children : List (Option ℕ)). children_in children h) rests.children ∙ none_of 8 h)
+
   -- nothing has happened in it
   pub rests_erased : erase (block_calls (sizes_of disk)) (block_code (sizes_of disk)) (fresh_state (block_calls (sizes_of disk)) first) ≡ calls_of contents failures (sizes_of disk) w
-  rests_erased = λ i. record { shared = record { log = log_same i; tables = sym rests.tables i }; stopped = sym rests.runs i; running = λ h. none_runs h i }
+  rests_erased = λ i. record { shared = record { state = record { log = log_same i; tables = sym rests.tables i }; children = λ h. no_child h i }; stopped = sym rests.runs i; running = λ h. none_runs h i }
 
   pub rests_first : (s : Super) → s ≡ sizes_of disk → SoundPlain (block_calls s) (block_code s) (calls_of contents failures s w)
   rests_first s e =
       subst (λ (z : Super). SoundPlain (block_calls z) (block_code z) (calls_of contents failures z w)) (sym e)
       (record {
         state = fresh_state (block_calls (sizes_of disk)) first;
-        sound = sound_fresh (block_calls (sizes_of disk)) first (shows.shows, shows.inv) (λ h. ((shows.stands h, refl), shows.idle h));
+        sound = sound_fresh (block_calls (sizes_of disk)) first (first_holds disk count shows) (first_idle disk count shows);
         is = rests_erased;
       })
 

@@ -90,12 +90,16 @@ pub all_back : (h : ℕ) (s t : State) (calls one two : List (Option Running)) (
 all_back h s t calls one two doing left at first second =
     all_set h s t calls two left (slice_get_within calls h doing at) (second ∙ ap (λ (z : List (Option Running)). set z h left) first ∙ set-set calls h None left)
 
+-- nothing is in any place
+pub none_of : {A : Type 0} (n h : ℕ) → ◌≡◌ {A = Option A} (get_or (replicate n None) h None) None
+none_of zero zero = refl
+none_of zero (suc h) = refl
+none_of (suc n) zero = refl
+none_of (suc n) (suc h) = none_of n h
+
 -- idle harts have nothing in hand
 pub nones : (n h : ℕ) → ◌≡◌ {A = Option Running} (get_or (replicate n None) h None) None
-nones zero zero = refl
-nones zero (suc h) = refl
-nones (suc n) zero = refl
-nones (suc n) (suc h) = nones n h
+nones n h = none_of n h
 
 pub all_idle : (s : State) → AreHarts s (replicate 8 None)
 all_idle s = record { long = refl; fits = λ h. subst (HartFits s h) (sym (nones 8 h)) tt }

@@ -1,5 +1,5 @@
 -- What harts' machines over all that they share stand for.
-use Rattle.std.specs.Prelude.{◌≡◌, ℕ, Bool, List, length, Option, None, get_or}
+use Rattle.std.specs.Prelude.{◌≡◌, ℕ, Bool, List, length, Option, None, get_or, is_some}
 use Rattle.buffer_cache.specs.Limits.{hart_count}
 use Rattle.plain_tree.specs.declared.answer.Reply.{Reply}
 use Rattle.atomic_programs.specs.Calls.{Outcome as OutcomeOf, WasIdle, DidWait, DidRun, DidEnd, DidStop, WasStopped}
@@ -45,10 +45,18 @@ pub record AreHarts (s : State) (calls : List (Option Running)) : Type 0 where
   pub long : length calls ≡ hart_count
   pub fits : AllFit s calls
 
--- all that harts share, whether a failure of the device has stopped them, and each hart's call
+-- which harts have a call, and whom each one's last one reserves
+abbrev pub busy_in : List (Option Running) → ℕ → Bool
+busy_in calls h = is_some (get_or calls h None)
+
+abbrev pub children_in : List (Option ℕ) → ℕ → Option ℕ
+children_in children h = get_or children h None
+
+-- all that harts share, whether a failure of the device has stopped them, of each hart the child that the call reserves which it began last, and each hart's call
 pub record HartsOf (D : Type 0) : Type 0 where
   pub core : Core D
   pub stopped : Bool
+  pub children : List (Option ℕ)
   pub calls : List (Option Running)
 
 module _ {D : Type 0} (contents : D → List (List ℕ)) (failures : D → ℕ) where

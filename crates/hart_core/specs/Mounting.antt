@@ -40,6 +40,7 @@ module _ {D : Type 0} (contents : D → List (List ℕ)) (failures : D → ℕ) 
     }
     pub tables : w.core.tables ≡ fresh
     pub runs : w.stopped ≡ false
+    pub children : w.children ≡ replicate hart_count None
     pub idle : w.calls ≡ replicate hart_count None
 
   -- The device is handed back. It has failed only where that is the answer, and is as it was but for a recovery that it stopped.

@@ -1,5 +1,5 @@
--- Why a call isn't started, whoever makes it and whatever the others do.
-use Rattle.std.specs.Prelude.{◌≡◌, ℕ, true, List, length, Option, Some, None, is_some, get_or, Result, Ok, Err, if◌then◌else◌, nat_lt, ◌==◌}
+-- Why a call isn't started.
+use Rattle.std.specs.Prelude.{◌≡◌, ℕ, Bool, true, List, length, Option, Some, None, Result, Ok, Err, if◌then◌else◌, nat_lt, ◌==◌, ◌||◌}
 use Rattle.buffer_cache.specs.Limits.{hart_count}
 use Rattle.std.specs.List.{list_any}
 use Rattle.atomic_programs.specs.Prog.{or_else}
@@ -13,8 +13,8 @@ use Rattle.fs_machine.specs.declared.kind.Kind.{Kind}
 use Rattle.plain_tree.specs.declared.answer.Reply.{Reply}
 use Rattle.inode_machine.specs.Theory as calls
 use Rattle.inode_machine.specs.Theory.{are_bytes}
-use Rattle.calls_on_blocks.specs.Theory.{is_served}
-use Rattle.syscalls.specs.declared.running.Running.{Running}
+use Rattle.calls_on_blocks.specs.Theory.{is_served, has_file, reserved}
+use Rattle.hart_core.specs.Harts.{HartsOf, busy_in, children_in}
 
 -- bytes of the longest path
 abbrev pub longest_path : ℕ
@@ -63,9 +63,23 @@ PathsAreBytes (Inherit child) = Unit {0}
 abbrev pub refusal_for : Call → Option StartRefused
 refusal_for call = or_else (fault_of call) (if is_served call then None else Some NotYet)
 
--- Why hart h's call isn't started, where the harts do this: there is no such hart, it has a call, or the call itself is refused.
-abbrev pub refusal_of : List (Option Running) → ℕ → Call → Option StartRefused
-refusal_of doing h call = if nat_lt h hart_count then (if is_some (get_or doing h None) then Some start.Busy else refusal_for call) else Some start.NoSuchHart
+module _ {D : Type 0} (w : HartsOf D) where
+  -- a call under way reserves the hart
+  abbrev pub is_child : ℕ → Bool
+  is_child g = reserved (busy_in w.calls) (children_in w.children) g
+
+  -- why a hart can't be the child of hart h's inherit: there is no such hart; it is h, has a call, or is another one's child; it has descriptors
+  abbrev pub child_refusal : ℕ → ℕ → Option StartRefused
+  child_refusal h child =
+      if nat_lt child hart_count then (if (child == h) || (busy_in w.calls child || is_child child) then Some start.Busy else (if has_file child w.core.tables then Some start.NotEmptyHart else None)) else Some start.NoSuchHart
+
+  abbrev pub others_refusal : ℕ → Call → Option StartRefused
+  others_refusal h (Inherit child) = child_refusal h child
+  others_refusal h call = None
+
+  -- Why hart h's call isn't started: there is no such hart; it has a call, or is the child of another one's; the call itself is refused; or last its child is.
+  abbrev pub refusal_of : ℕ → Call → Option StartRefused
+  refusal_of h call = if nat_lt h hart_count then (if busy_in w.calls h || is_child h then Some start.Busy else or_else (refusal_for call) (others_refusal h call)) else Some start.NoSuchHart
 
 -- the same reason in the words of the calls
 abbrev pub reason_of : StartRefused → calls.Refusal

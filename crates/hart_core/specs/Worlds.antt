@@ -12,7 +12,7 @@ use Rattle.file_table.specs.Machines.{IsEarly}
 use Rattle.syscalls.specs.Machines.{running_of}
 use Rattle.inode_machine.specs.Theory.{Refusal}
 use Rattle.calls_on_blocks.specs.Theory.{block_calls, block_code}
-use Rattle.hart_core.specs.Harts.{HartsOf, shared_of}
+use Rattle.hart_core.specs.Harts.{HartsOf, children_in, shared_of}
 
 -- eight harts, and the sizes of their disk
 pub record WorldOf (D : Type 0) : Type 0 where
@@ -22,7 +22,7 @@ pub record WorldOf (D : Type 0) : Type 0 where
 module _ {D : Type 0} (contents : D → List (List ℕ)) (failures : D → ℕ) (sizes : Super) where
   -- the harts as programs of calls on a disk of these sizes
   abbrev pub calls_of : HartsOf D → Plain (block_calls sizes) (block_code sizes)
-  calls_of w = plain_at (block_calls sizes) (block_code sizes) running_of (shared_of contents failures w) w.stopped w.calls
+  calls_of w = plain_at (block_calls sizes) (block_code sizes) running_of (record { state = shared_of contents failures w; children = children_in w.children }) w.stopped w.calls
 
   -- an event makes these harts of those, and comes to this
   abbrev pub Makes : Event Call Outside → HartsOf D → Outcome Kind Reply Refusal → HartsOf D → Type 0

@@ -1,5 +1,5 @@
 // Eight harts' machines over all that they share.
-ghost use Rattle.std.specs.Prelude.{◌≡◌, ◌<◌, false, Some, None, get_or, is_some, length, replicate, slice_get, slice_set};
+ghost use Rattle.std.specs.Prelude.{◌≡◌, ◌<◌, ◌&&◌, false, Some, None, get_or, is_some, length, replicate, slice_get, slice_set};
 ghost use Rattle.atomic_programs.specs.Calls.{Start as StartOf, Step as StepOf, Started};
 ghost use Rattle.atomic_programs.specs.Plain.{plain_makes, PlainHonest, PlainHonestStep, MayOf, hart_step};
 ghost use Rattle.atomic_programs.specs.Machines.{program_at};
@@ -8,13 +8,16 @@ ghost use Rattle.fs_machine.specs.Machines.{CallsOnce};
 ghost use Rattle.fs_machine.specs.Tied.{LeavesTied};
 ghost use Rattle.syscalls.specs.Machines.{running_of, RunningFits};
 ghost use Rattle.hart_core.specs.Blocks.{blocks, code, MayStep};
-ghost use Rattle.hart_core.specs.Harts.{outcome_of, said, HartFits, shared_of, programs_of};
+ghost use Rattle.inode_machine.specs.Exec.{is_at};
+ghost use Rattle.calls_on_blocks.specs.Theory.{has_file, reserved};
+ghost use Rattle.hart_core.specs.Harts.{outcome_of, said, HartFits, shared_of, programs_of, busy_in, children_in};
 
 use crate::outcome::{Outcome, Stop};
 use atomic_programs::machines::Stepped;
 use block_device::Device;
 use buffer_cache::HARTS;
 use fs_machine::{Core, RetiredCore};
+use fs_tables::DESCRIPTORS;
 use std::marker::Model;
 use syscalls::Running;
 
@@ -92,13 +95,24 @@ fn retire_all(calls: [Option<Running>; 8], retired: &RetiredCore) {
     retire(h, retired);
 }
 
-/// The machines of eight harts over all that they share. A contract sees what they share, the machines, and whether a failure of
-/// the device has stopped them.
+// Whether this is the child.
+fn is_child(child: Option<u8>, hart: u8) -> bool
+    ensures { result ≡ is_at child hart }
+{
+    match child {
+        Some(child) => child == hart,
+        None => false,
+    }
+}
+
+/// The machines of eight harts over all that they share. A contract sees what they share, the machines, whom each hart's last call
+/// reserves, and whether a failure of the device has stopped them.
 ///
 /// After it was made it takes no memory. It must be unmounted.
 pub struct Harts<D: Device> {
     core: Core<D>,
     stopped: bool,
+    children: [Option<u8>; 8],
     calls: [Option<Running>; 8],
 }
 
@@ -108,7 +122,7 @@ impl<D: Device> Model for Harts<D> {
 
     ghost Value = { HartsOf D };
 
-    ghost view = { λ w. record { core = w.core; stopped = w.stopped; calls = w.calls } };
+    ghost view = { λ w. record { core = w.core; stopped = w.stopped; children = w.children; calls = w.calls } };
 
     ghost invariant = { λ w. AreHarts (shared_state D.contents D.failures w.core) w.calls };
 }
@@ -116,11 +130,12 @@ impl<D: Device> Model for Harts<D> {
 impl<D: Device> Harts<D> {
     /// Eight idle harts over this.
     pub fn new(core: Core<D>) -> Harts<D>
-        ensures { result ≡ record { core = core; stopped = false; calls = replicate HARTS None } }
+        ensures { result ≡ record { core = core; stopped = false; children = replicate HARTS None; calls = replicate HARTS None } }
     {
         Harts {
             core,
             stopped: false,
+            children: [None; 8],
             calls: [None, None, None, None, None, None, None, None],
         }
     }
@@ -134,14 +149,53 @@ impl<D: Device> Harts<D> {
         (hart as usize) < calls.len() && calls[hart as usize].is_some()
     }
 
-    /// A hart without a call begins this one.
-    pub fn begin(&mut self, hart: u8, call: Running)
+    // Whether there is such a hart, it has a call, and that reserves the other one.
+    fn reserves(&self, hart: u8, child: u8) -> bool
+        ensures { result ≡ (busy_in self.now.calls hart && is_at (children_in self.now.children hart) child) }
+    {
+        let children = &self.children;
+        if !self.is_busy(hart) {
+            return false;
+        }
+        is_child(children[hart as usize], child)
+    }
+
+    /// Whether a call under way reserves the hart: it is the child of an inherit.
+    pub fn is_reserved(&self, hart: u8) -> bool
+        ensures { result ≡ reserved (busy_in self.now.calls) (children_in self.now.children) hart }
+    {
+        for other in 0..HARTS {
+            if self.reserves(other, hart) {
+                return true;
+            }
+        }
+        false
+    }
+
+    /// Whether the hart has an open file.
+    pub fn has_file(&self, hart: u8) -> bool
+        requires { hart < HARTS }
+        ensures { result ≡ has_file hart self.now.core.tables }
+    {
+        for fd in 0..DESCRIPTORS {
+            if self.core.tables.file(hart, fd as u32).is_some() {
+                return true;
+            }
+        }
+        false
+    }
+
+    /// A hart without a call begins this one, which reserves this child.
+    pub fn begin(&mut self, hart: u8, call: Running, child: Option<u8>)
         requires idle { slice_get self.old.calls hart ≡ Some None }
         requires fits { RunningFits hart (shared_of D.contents D.failures self.old) call }
         ensures makes { plain_makes blocks code (StartOf hart (running_of call)) (programs_of D.contents D.failures self.old) ≡ record { came = Started; after = programs_of D.contents D.failures self.new } }
         ensures core { self.new.core ≡ self.old.core }
+        ensures children { self.new.children ≡ slice_set self.old.children hart child }
+        ensures eight { length self.old.children ≡ HARTS }
     {
         put_back(&mut self.calls, hart, Some(call));
+        self.children[hart as usize] = child;
     }
 
     /// One operation of a hart's call. It is idle where there is no such hart, or the hart has no call; and a call is stopped by the
@@ -150,6 +204,7 @@ impl<D: Device> Harts<D> {
         requires may { MayStep hart (programs_of D.contents D.failures self.old) }
         ensures makes { plain_makes blocks code (StepOf hart (said result (shared_of D.contents D.failures self.new))) (programs_of D.contents D.failures self.old) ≡ record { came = outcome_of result; after = programs_of D.contents D.failures self.new } }
         ensures honest { PlainHonest blocks code (StepOf hart (said result (shared_of D.contents D.failures self.new))) (programs_of D.contents D.failures self.old) }
+        ensures children { self.new.children ≡ self.old.children }
         ensures called { CallsOnce D.Called self.old.core.log.cache.device self.new.core.log.cache.device }
     {
         let calls = &self.calls;
@@ -170,6 +225,7 @@ impl<D: Device> Harts<D> {
         let Harts {
             core,
             stopped: _,
+            children: _,
             calls,
         } = self;
         let (retired, device) = core.retire();

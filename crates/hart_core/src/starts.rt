@@ -1,6 +1,7 @@
 // What is tested before a call is started.
 ghost use Rattle.std.specs.Prelude.{◌≡◌, true, None};
 ghost use Rattle.calls_on_blocks.specs.Theory as calls;
+ghost use Rattle.calls_on_blocks.specs.Theory.{child_of};
 ghost use Rattle.inode_machine.specs.Theory.{are_bytes};
 ghost use Rattle.hart_core.specs.Starts.{fault_of, refusal_for, path_fault, part_fault, PathsAreBytes};
 
@@ -73,7 +74,17 @@ fn is_served(call: &Call) -> bool
         Call::Unlink { path: _ } => false,
         Call::Mkdir { path: _ } => false,
         Call::Chdir { path: _ } => true,
-        Call::Inherit { child: _ } => false,
+        Call::Inherit { child: _ } => true,
+    }
+}
+
+/// Whom a call reserves.
+pub(crate) fn find_child(call: &Call) -> Option<u8>
+    ensures { result ≡ child_of call.now }
+{
+    match call {
+        Call::Inherit { child } => Some(*child),
+        _ => None,
     }
 }
 

@@ -11,13 +11,13 @@ ghost use Rattle.fs_layout.specs.Recovered.{sizes_of};
 ghost use Rattle.image_tree.specs.Damage.{IsWellFormed};
 ghost use Rattle.hart_core.specs.Harts.{outcome_of, said, shared_of};
 ghost use Rattle.hart_core.specs.Mounting.{HandsBack, Rests};
-ghost use Rattle.hart_core.specs.Starts.{fault_of, refusal_of, start_outcome, PathsAreBytes};
+ghost use Rattle.hart_core.specs.Starts.{child_refusal, fault_of, others_refusal, refusal_of, start_outcome, PathsAreBytes};
 ghost use Rattle.hart_core.specs.Worlds.{Makes, Answers};
 
 use crate::harts::Harts;
 use crate::mount::mount_harts;
 use crate::outcome::Outcome;
-use crate::starts::{StartRefused, find_refusal};
+use crate::starts::{StartRefused, find_child, find_refusal};
 use block_device::Device;
 use buffer_cache::HARTS;
 use fs_layout::Super;
@@ -25,7 +25,7 @@ use image_tree::MountFault;
 use plain_tree::Call;
 use std::alloc::Global;
 use std::marker::Model;
-use syscalls::{Chdir, Close, Dup, Fstat, OpenOld, Read, Running};
+use syscalls::{Chdir, Close, Dup, Fstat, Inherit, OpenOld, Read, Running};
 
 /// A mounted file system, with the calls that eight harts have under way. A contract sees its harts and the sizes of its disk.
 ///
@@ -61,6 +61,7 @@ fn running(sizes: &Super, call: Call) -> Running
         Call::Fstat { fd } => Running::Fstat(Fstat::new(sizes.inodestart, fd)),
         Call::Close { fd } => Running::Close(Close::new(sizes, fd)),
         Call::Read { fd, buf } => Running::Read(Read::new(sizes.inodestart, fd, buf)),
+        Call::Inherit { child } => Running::Inherit(Inherit::new(sizes, child)),
         _ => unreachable!(),
     }
 }
@@ -82,26 +83,56 @@ impl<D: Device> World<D> {
         }
     }
 
+    // Why a hart can't be the child of this one's inherit.
+    fn find_child_refusal(&self, hart: u8, child: u8) -> Option<StartRefused>
+        ensures { result ≡ child_refusal self.now.harts hart child }
+    {
+        if child >= HARTS {
+            return Some(StartRefused::NoSuchHart);
+        }
+        if child == hart || self.harts.is_busy(child) || self.harts.is_reserved(child) {
+            return Some(StartRefused::Busy);
+        }
+        if self.harts.has_file(child) {
+            return Some(StartRefused::NotEmptyHart);
+        }
+        None
+    }
+
+    // Why another hart keeps a hart's call from being started.
+    fn find_others_refusal(&self, hart: u8, call: &Call) -> Option<StartRefused>
+        ensures { result ≡ others_refusal self.now.harts hart call.now }
+    {
+        match call {
+            Call::Inherit { child } => self.find_child_refusal(hart, *child),
+            _ => None,
+        }
+    }
+
     // Why a hart's call isn't started.
     fn find_start_refusal(&self, hart: u8, call: &Call) -> Option<StartRefused>
-        ensures refusal { result ≡ refusal_of self.now.harts.calls hart call.now }
+        ensures refusal { result ≡ refusal_of self.now.harts hart call.now }
         ensures eight { length self.now.harts.calls ≡ HARTS }
         ensures bytes { fault_of call.now ≡ None → PathsAreBytes call.now }
     {
         let busy = self.harts.is_busy(hart);
+        let reserved = self.harts.is_reserved(hart);
         let refusal = find_refusal(call);
         if hart >= HARTS {
             return Some(StartRefused::NoSuchHart);
         }
-        if busy {
+        if busy || reserved {
             return Some(StartRefused::Busy);
         }
-        refusal
+        match refusal {
+            Some(why) => Some(why),
+            None => self.find_others_refusal(hart, call),
+        }
     }
 
-    /// Starts a hart's call. It is refused, and handed back, where there is no such hart, where the hart has a call, at the call's own
-    /// first fault, and last where the call isn't there yet; nothing has changed then. A stopped world takes starts as before. No start
-    /// calls the device.
+    /// Starts a hart's call. It is refused, and handed back, where there is no such hart, where the hart has a call or is the child of
+    /// another one's, at the call's own first fault, where the call isn't there yet, and last where the child can't be one; nothing has
+    /// changed then. A stopped world takes starts as before. No start calls the device.
     pub fn start(&mut self, hart: u8, call: Call) -> Result<(), (Call, StartRefused)>
         ensures makes { Makes D.contents D.failures self.old.sizes (StartOf hart call) self.old.harts (start_outcome result) self.new.harts }
         ensures sizes { self.new.sizes ≡ self.old.sizes }
@@ -111,8 +142,9 @@ impl<D: Device> World<D> {
         match self.find_start_refusal(hart, &call) {
             Some(why) => Err((call, why)),
             None => {
+                let child = find_child(&call);
                 let running = running(&self.sizes, call);
-                self.harts.begin(hart, running);
+                self.harts.begin(hart, running, child);
                 Ok(())
             }
         }

@@ -3,13 +3,14 @@ use Rattle.std.proofs.Common.{◌≡◌, ◌⊎◌, inl, inr, ℕ, suc, ◌+◌,
 use Rattle.fs_layout.specs.declared.superblock.Super.{Super}
 use Rattle.plain_tree.specs.declared.answer.Reply.{Reply}
 use Rattle.plain_tree.specs.declared.call.Call.{Call}
+use Rattle.plain_tree.specs.Tree.{put}
 use Rattle.group_log.specs.declared.commit.Progress.{Progress}
 use Rattle.group_log.specs.declared.log.Left.{Left}
 use Rattle.group_log.specs.declared.marks.Marks.{Marks}
 use Rattle.group_log.specs.Moves.{is_running, IsMove, IsCommitMove, begins_at}
 use Rattle.group_log.specs.Stories.{after_leave, after_write}
 use Rattle.group_log.proofs.Moving.{never}
-use Rattle.atomic_programs.specs.Prog.{Ret, Do, Did, Waits, Ran, Stops, asks, OfNext}
+use Rattle.atomic_programs.specs.Prog.{Ret, Do, Did, Waits, Ran, Stops, did_in, asks, OfNext}
 use Rattle.atomic_programs.specs.Logic.{Machine, P}
 use Rattle.atomic_programs.specs.Calls.{Theory, Began, Refuses, Begins, Event, Start, Step, Run, State, HonestStep, IsHonest, busy_in, begun, moved, next, start_run, step_prog, step_run, step_unless, tried, Sound}
 use Rattle.atomic_programs.specs.Joined.{Both, both, seen_after, ActOf}
@@ -21,9 +22,10 @@ use Rattle.fs_machine.proofs.Keeping.{keeps_whole}
 use Rattle.inode_machine.specs.World as above
 use Rattle.inode_machine.specs.Rules.{machine}
 use Rattle.inodes_on_blocks.specs.Below as below
-use Rattle.inodes_on_blocks.specs.Below.{World}
-use Rattle.calls_on_blocks.specs.Theory.{served_calls, begin_in, block_calls}
-use Rattle.calls_on_blocks.proofs.Lawful.{lawful, begun_here}
+use Rattle.calls_on_blocks.specs.Layer.{World, shared_of}
+use Rattle.calls_on_blocks.specs.Theory.{served_calls, child_of, begins, block_calls}
+use Rattle.calls_on_blocks.proofs.Lawful.{lawful}
+use Rattle.calls_on_blocks.proofs.Starting.{begun_here}
 use Rattle.atomic_programs.specs.Lowered.{began_both, began_to}
 use Rattle.atomic_programs.proofs.Lowered.{begun_both}
 use Rattle.stops_on_blocks.specs.Marks.{marks_by, marks_asked, marks_unless, marks_next, at_point}
@@ -35,7 +37,7 @@ module _ (sizes : Super) where
   T = block_calls sizes
 
   abbrev pub log_at : State T → LogPart
-  log_at s = s.world.real.state.log
+  log_at s = s.world.real.blocks.state.log
 
   -- What an event makes of it: it is whole still, and as long; no leave and no write of a commit; or a leave that ran; or a write of a commit.
   pub record EventGoes (s t : State T) (m m' : Marks) : Type 0 where
@@ -58,8 +60,8 @@ module _ (sizes : Super) where
 
   -- ---- an operation
 
-  goes_to : (h : ℕ) (s t : State T) (m m' : Marks) (whole : IsWholeLog (log_at s)) (A : Type 0) (d : Did A steps.State) → log_at t ≡ (came_to s.world.real.state d).log → IsWholeLog (came_to s.world.real.state d).log
-      → (is_ran d ≡ true → t.stopped ≡ false) → Goes s.now h s.world.real.state m whole d m' → EventGoes s t m m'
+  goes_to : (h : ℕ) (s t : State T) (m m' : Marks) (whole : IsWholeLog (log_at s)) (A : Type 0) (d : Did A steps.State) → log_at t ≡ (came_to s.world.real.blocks.state d).log → IsWholeLog (came_to s.world.real.blocks.state d).log
+      → (is_ran d ≡ true → t.stopped ≡ false) → Goes s.now h s.world.real.blocks.state m whole d m' → EventGoes s t m m'
   goes_to h s t m m' whole A d same after going g = record {
     whole = subst (λ (l : LogPart). IsWholeLog l) (sym same) after;
     long = ap (λ (l : LogPart). length l.contents) same ∙ g.0;
@@ -83,38 +85,38 @@ module _ (sizes : Super) where
   -- the worlds after an operation that ran
   abbrev both_at : ℕ → (op : steps.Op) → (steps.Answer op → Option (ActOf machine)) → Both World above.World → steps.Answer op → steps.State → Both World above.World
   both_at h op mark w a t =
-      let o = below.owners_after h op w.real t in
+      let o = below.owners_after h op w.real.blocks t in
       record {
-        real = record { state = t; owner = o.owner; left = o.left; taken = o.taken; commits = below.commits_after h op a w.real.commits };
+        real = record (w.real) { blocks = record { state = t; owner = o.owner; left = o.left; taken = o.taken; commits = below.commits_after h op a w.real.blocks.commits } };
         seen = seen_after machine h (mark a) w.seen;
       }
 
   op_event : (h : ℕ) (x : Outside) (s : State T) (r : Run T) (op : steps.Op) (mark : steps.Answer op → Option (ActOf machine)) (k : steps.Answer op → P T.M Reply) (m : Marks) → IsWholeLog (log_at s) → s.stopped ≡ false
-      → T.M.May h op s.world → T.M.Honest h op s.world x → EventGoes s (step_prog T h x s r (Do op mark k)).after m (marks_asked sizes s.now h x s.world.real.state (Do op mark k) m)
+      → T.M.May h op s.world → T.M.Honest h op s.world x → EventGoes s (step_prog T h x s r (Do op mark k)).after m (marks_asked sizes s.now h x s.world.real.blocks.state (Do op mark k) m)
   op_event h x s r op mark k m whole runs may honest =
-      by (steps.exec h x op s.world.real.state) (keeps_whole h x op s.world.real.state whole may honest) (op_goes s.now h s.world.real.state m whole x op may honest)
+      by (steps.exec h x op s.world.real.blocks.state) (keeps_whole h x op s.world.real.blocks.state whole may honest) (op_goes s.now h s.world.real.blocks.state m whole x op may honest)
     where
       m' : Marks
-      m' = marks_by s.now (log_at s) op (steps.exec h x op s.world.real.state) m
+      m' = marks_by s.now (log_at s) op (steps.exec h x op s.world.real.blocks.state) m
 
-      by : (d : Did (steps.Answer op) steps.State) → After (λ (t : steps.State). IsWholeLog t.log) d → Goes s.now h s.world.real.state m whole d m'
-          → EventGoes s (tried T h s r op (λ a. T.M.places h op a (mark a) s.world) k (both machine h mark s.world.seen (below.came_to h op s.world.real d))).after m m'
+      by : (d : Did (steps.Answer op) steps.State) → After (λ (t : steps.State). IsWholeLog t.log) d → Goes s.now h s.world.real.blocks.state m whole d m'
+          → EventGoes s (tried T h s r op (λ a. T.M.places h op a (mark a) s.world) k (both machine h mark s.world.seen (did_in (λ v. record (s.world.real) { blocks = v }) (below.came_to h op s.world.real.blocks d)))).after m m'
       by Waits after g = goes_to h s _ m m' whole (steps.Answer op) Waits refl whole (λ e. runs) g
       by (Ran a t) after g =
           let w = both_at h op mark s.world a t in
           let ps : List (ℕ × T.M.Step) = T.M.places h op a (mark a) s.world in
-          goes_to h s (moved T h s r (op, a) ps (k a) w).after m m' whole (steps.Answer op) (Ran a t) (ap (λ (z : Both World above.World). z.real.state.log) (moved_world h s r (op, a) ps (k a) w)) after (λ e. moved_stopped h s r (op, a) ps (k a) w ∙ runs) g
+          goes_to h s (moved T h s r (op, a) ps (k a) w).after m m' whole (steps.Answer op) (Ran a t) (ap (λ (z : Both World above.World). z.real.blocks.state.log) (moved_world h s r (op, a) ps (k a) w)) after (λ e. moved_stopped h s r (op, a) ps (k a) w ∙ runs) g
       by (Stops t) after g = goes_to h s _ m m' whole (steps.Answer op) (Stops t) refl after (λ (e : false ≡ true). never e) g
 
   -- ---- a step
 
   prog_event : (h : ℕ) (x : Outside) (s : State T) (r : Run T) (p : P T.M Reply) (m : Marks) → IsWholeLog (log_at s) → s.stopped ≡ false → OfNext (T.M.May h) (asks p) s.world → OfNext (λ op v. T.M.Honest h op v x) (asks p) s.world
-      → EventGoes s (step_prog T h x s r p).after m (marks_asked sizes s.now h x s.world.real.state p m)
+      → EventGoes s (step_prog T h x s r p).after m (marks_asked sizes s.now h x s.world.real.blocks.state p m)
   prog_event h x s r (Ret reply) m whole runs may honest = nothing_goes s _ m whole refl
   prog_event h x s r (Do op mark k) m whole runs may honest = op_event h x s r op mark k m whole runs may honest
 
   unless_event : (h : ℕ) (x : Outside) (s : State T) (r : Run T) (m : Marks) → IsWholeLog (log_at s) → (b : Bool) → s.stopped ≡ b → (s.stopped ≡ false → OfNext (T.M.May h) (asks r.prog) s.world) → HonestStep T h x s.world b (Some r)
-      → EventGoes s (step_unless T h x s b r).after m (marks_unless sizes s.now h x s.world.real.state b (Some r) m)
+      → EventGoes s (step_unless T h x s b r).after m (marks_unless sizes s.now h x s.world.real.blocks.state b (Some r) m)
   unless_event h x s r m whole true is may honest = nothing_goes s _ m whole refl
   unless_event h x s r m whole false is may honest = prog_event h x s r r.prog m whole is (may is) honest
 
@@ -123,8 +125,8 @@ module _ (sizes : Super) where
   none_marks n h x st false m = refl
 
   step_event : (h : ℕ) (x : Outside) (s : State T) (m : Marks) → IsWholeLog (log_at s) → (o : Option (Run T)) → ((r : Run T) → s.stopped ≡ false → o ≡ Some r → OfNext (T.M.May h) (asks r.prog) s.world)
-      → HonestStep T h x s.world s.stopped o → EventGoes s (step_run T h x s o).after m (marks_unless sizes s.now h x s.world.real.state s.stopped o m)
-  step_event h x s m whole None may honest = subst (λ (z : Marks). EventGoes s (step_run T h x s None).after m z) (sym (none_marks s.now h x s.world.real.state s.stopped m)) (nothing_goes s _ m whole refl)
+      → HonestStep T h x s.world s.stopped o → EventGoes s (step_run T h x s o).after m (marks_unless sizes s.now h x s.world.real.blocks.state s.stopped o m)
+  step_event h x s m whole None may honest = subst (λ (z : Marks). EventGoes s (step_run T h x s None).after m z) (sym (none_marks s.now h x s.world.real.blocks.state s.stopped m)) (nothing_goes s _ m whole refl)
   step_event h x s m whole (Some r) may honest = unless_event h x s r m whole s.stopped refl (λ is. may r is refl) honest
 
   -- ---- a start
@@ -132,8 +134,9 @@ module _ (sizes : Super) where
   begun_event : (h : ℕ) (call : Call) (s : State T) (m : Marks) → IsWholeLog (log_at s) → (o : Began T.Refusal T.M.World) → T.start h call (busy_in T s) s.world ≡ o → EventGoes s (begun T h call s o).after m m
   begun_event h call s m whole (Refuses why) e = nothing_goes s _ m whole refl
   begun_event h call s m whole (Begins u) e =
-      let b = begun_both (began_to s.world.seen (served_calls.start h call (busy_in T s) s.world.seen)) (begin_in h call s.world.real) u e in
-      nothing_goes s _ m whole (ap (λ (z : World). z.state.log) (sym (begun_here h call s.world.real u.real b.0).same))
+      let t : World = record (s.world.real) { children = put s.world.real.children h (child_of call) } in
+      let b = begun_both (began_to s.world.seen (served_calls.start h call (busy_in T s) s.world.seen)) (begins sizes h call (busy_in T s) s.world.real) u e in
+      nothing_goes s _ m whole (ap (λ (z : World). z.blocks.state.log) (sym (begun_here h call (busy_in T s) (shared_of s.world.real) t u.real b.0).same))
 
   start_event : (h : ℕ) (call : Call) (s : State T) (m : Marks) → IsWholeLog (log_at s) → (o : Option (Run T)) → EventGoes s (start_run T h call s o).after m m
   start_event h call s m whole (Some r) = nothing_goes s _ m whole refl

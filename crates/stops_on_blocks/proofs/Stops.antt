@@ -29,6 +29,7 @@ use Rattle.inodes_on_blocks.specs.Mounted.{IsMountable, ShowsItsTree, first_worl
 use Rattle.inodes_on_blocks.proofs.Mounted.{mounts_show_their_trees}
 use Rattle.calls_on_blocks.specs.History.{first}
 use Rattle.calls_on_blocks.specs.Theory.{block_calls}
+use Rattle.calls_on_blocks.proofs.History.{first_holds, first_idle}
 use Rattle.calls_on_blocks.proofs.Lawful.{lawful}
 use Rattle.stops_on_blocks.specs.Marks.{marks_after, marks_next}
 use Rattle.stops_on_blocks.specs.Stops.{AreEventsOn, StopsLeaveImages, itself, log_in, disk_after, state_after}
@@ -73,7 +74,7 @@ module _ (disk : List (List ℕ)) (failures : ℕ) (mountable : IsMountable disk
       → Stored (λ d. IsWellFormed d × IsNamedPart (T.M.tree s.world).tree (tree_of (tree_in d))) (seen_of itself (log_in (log s)))
   quiet_stored s sound runs same long none d long_d so =
       let inv = inv_of T s.stopped s.world (sound_keeps T (lawful sizes) s sound).holds runs in
-      quiet_stands s.world.real s.world.seen inv.0 inv.1 none d (long_d ∙ sym long)
+      quiet_stands s.world.real.blocks s.world.seen inv.0.0 inv.1 none d (long_d ∙ sym long)
       (record { sizes_are = so.sizes_are ∙ sym same; good = so.good; blocks = λ b lt out. so.blocks b lt (subst (λ (z : Super). IsOutsideLog z b) same out) })
 
   -- ---- the beginning
@@ -82,7 +83,7 @@ module _ (disk : List (List ℕ)) (failures : ℕ) (mountable : IsMountable disk
   first_state = fresh T (first disk failures)
 
   pub first_sound : Sound T first_state
-  first_sound = sound_fresh T (first disk failures) (shows.shows, shows.inv) (λ h. ((shows.stands h, refl), shows.idle h))
+  first_sound = sound_fresh T (first disk failures) (first_holds disk failures shows) (first_idle disk failures shows)
 
   -- nothing is recorded: recovery would leave what is seen
   first_agrees : AgreeOutside sizes (seen_of itself (log_in (log first_state))) (recovered_of itself (log_in (log first_state)))

@@ -45,7 +45,7 @@ module _ (sizes : Super) where
 
   abbrev pub marks_next : Event Call Outside → StateOf (block_calls sizes) → Marks → Marks
   marks_next (Start h call) s m = m
-  marks_next (Step h x) s m = marks_unless s.now h x s.world.real.state s.stopped (s.running h) m
+  marks_next (Step h x) s m = marks_unless s.now h x s.world.real.blocks.state s.stopped (s.running h) m
 
   abbrev pub marks_after : List (Event Call Outside) → StateOf (block_calls sizes) → Marks → Marks
   marks_after [] s m = m

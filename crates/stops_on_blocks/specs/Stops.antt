@@ -31,7 +31,7 @@ state_after disk failures events = run (block_calls (sizes_of disk)) events (fre
 
 -- the disk as it stands then
 abbrev pub disk_after : List (List ℕ) → ℕ → List (Event Call Outside) → List (List ℕ)
-disk_after disk failures events = (state_after disk failures events).world.real.state.log.contents
+disk_after disk failures events = (state_after disk failures events).world.real.blocks.state.log.contents
 
 -- and the marks
 abbrev pub marks_at : List (List ℕ) → ℕ → List (Event Call Outside) → Marks

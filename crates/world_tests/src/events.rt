@@ -123,12 +123,6 @@ fn starts_are_refused(rt: HostRuntime) {
             Err((Call::Fstat { fd: 0 }, StartRefused::Busy))
         )
     );
-    assert!(rt;
-        matches!(
-            world.start(2, Call::Inherit { child: 3 }),
-            Err((Call::Inherit { child: 3 }, StartRefused::NotYet))
-        )
-    );
     let root = Bytes::new(Vec::new(rt.alloc()));
     assert!(rt;
         matches!(

@@ -51,3 +51,9 @@ unfolding running_of
 returns-in-Read-clause-program c =
     c.new-in-Read.ensures.program ∙ sym ((programs_are_lowered c.args.sizes.now).read c.in-Read.fd c.in-Read.buf)
     ∙ ap (λ (call : Call). plain ((block_calls c.args.sizes.now).program call)) (sym c.in-Read.is)
+
+pub returns-in-Inherit-clause-program : goal.returns-in-Inherit-clause-program
+unfolding running_of
+returns-in-Inherit-clause-program c =
+    c.new-in-Inherit.ensures.program ∙ sym ((programs_are_lowered c.args.sizes.now).inherit c.in-Inherit.child)
+    ∙ ap (λ (call : Call). plain ((block_calls c.args.sizes.now).program call)) (sym c.in-Inherit.is)

@@ -36,7 +36,7 @@ returns-clause-makes g c =
     let t = state_of g.D.Device.contents g.D.Device.failures c.step-doing.new.core in
     subst
     (λ (v : HartsOf _). plain_makes blocks code (Step c.args.hart (said r.1 t)) (programs_of g.D.Device.contents g.D.Device.failures v)
-    ≡ record { came = outcome_of r.1; after = programs_of g.D.Device.contents g.D.Device.failures (record { core = c.step-doing.new.core; stopped = r.2; calls = c.put_back.new.calls }) })
+    ≡ record { came = outcome_of r.1; after = programs_of g.D.Device.contents g.D.Device.failures (record { core = c.step-doing.new.core; stopped = r.2; children = w.children; calls = c.put_back.new.calls }) })
     c.self.view_is
     (step_gives blocks code running_of (state_of g.D.Device.contents g.D.Device.failures w.core) w.stopped w.calls c.args.hart c.take_out-doing.result r.0 _ _ c.take_out-doing.ensures.value c.take_out-doing.ensures.after c.put_back.ensures (said r.1 t)
     (outcome_of r.1) t r.2 c.step-doing.ensures.makes)

@@ -1,4 +1,5 @@
-use Rattle.std.proofs.Common.{◌≡◌, None, sym, ◌∙◌, subst, length}
+use Rattle.std.proofs.Common.{◌≡◌, None, sym, ◌∙◌, ap, subst, length}
+use Rattle.std.specs.Prelude.{slice_set}
 use Rattle.atomic_programs.specs.Calls.{Start, Started}
 use Rattle.hart_core.specs.Starts.{refusal_of}
 use Rattle.hart_core.specs.Worlds.{WorldOf, Makes}
@@ -11,19 +12,19 @@ begin-requires-clause-idle g c =
     let w = c.self.inside in
     idle_at g.D.Device.contents g.D.Device.failures w.sizes w.harts
     (subst (λ (v : WorldOf _). length v.harts.calls ≡ 8) (sym c.self.view_is) c.find_start_refusal.ensures.eight) c.args.hart c.args.call c.find_start_refusal.ensures.bytes
-    (subst (λ (v : WorldOf _). refusal_of v.harts.calls c.args.hart c.args.call ≡ None) (sym c.self.view_is) (sym c.find_start_refusal.ensures.refusal ∙ c.in-None.is))
+    (subst (λ (v : WorldOf _). refusal_of v.harts c.args.hart c.args.call ≡ None) (sym c.self.view_is) (sym c.find_start_refusal.ensures.refusal ∙ c.in-None.is))
 
 pub running-running-requires-clause-faultless : goal.running-running-requires-clause-faultless
 running-running-requires-clause-faultless g c =
-    (may_start c.args.self.now.harts.calls c.args.hart c.args.call (sym c.find_start_refusal.ensures.refusal ∙ c.in-None.is)).0
+    (may_start c.args.self.now.harts c.args.hart c.args.call (sym c.find_start_refusal.ensures.refusal ∙ c.in-None.is)).0
 
 pub invariant_of-self : goal.invariant_of-self
 invariant_of-self g c =
     let w = c.self.inside in
     let long = subst (λ (v : WorldOf _). length v.harts.calls ≡ 8) (sym c.self.view_is) c.find_start_refusal.ensures.eight in
-    let none = subst (λ (v : WorldOf _). refusal_of v.harts.calls c.args.hart c.args.call ≡ None) (sym c.self.view_is) (sym c.find_start_refusal.ensures.refusal ∙ c.in-None.is) in
+    let none = subst (λ (v : WorldOf _). refusal_of v.harts c.args.hart c.args.call ≡ None) (sym c.self.view_is) (sym c.find_start_refusal.ensures.refusal ∙ c.in-None.is) in
     world_started g.D.Device.contents g.D.Device.failures w.sizes w.harts long c.args.hart c.args.call c.find_start_refusal.ensures.bytes c.begin.new.self c.self.invariant
-    (made_start g.D.Device.contents g.D.Device.failures w.sizes w.harts long c.args.hart c.args.call c.find_start_refusal.ensures.bytes c.running-running.result c.begin.new.self none c.running-running.ensures.program c.begin.ensures.makes)
+    (made_start g.D.Device.contents g.D.Device.failures w.sizes w.harts long c.args.hart c.args.call c.find_start_refusal.ensures.bytes c.running-running.result c.begin.new.self none c.running-running.ensures.program c.begin.ensures.makes c.begin.ensures.eight (c.begin.ensures.children ∙ ap (slice_set w.harts.children c.args.hart) c.find_child-child.ensures))
 
 pub returns-in-Some-clause-makes : goal.returns-in-Some-clause-makes
 returns-in-Some-clause-makes g c =
@@ -34,6 +35,6 @@ pub returns-in-None-clause-makes : goal.returns-in-None-clause-makes
 returns-in-None-clause-makes g c =
     let w = c.self.inside in
     let long = subst (λ (v : WorldOf _). length v.harts.calls ≡ 8) (sym c.self.view_is) c.find_start_refusal.ensures.eight in
-    let none = subst (λ (v : WorldOf _). refusal_of v.harts.calls c.args.hart c.args.call ≡ None) (sym c.self.view_is) (sym c.find_start_refusal.ensures.refusal ∙ c.in-None.is) in
+    let none = subst (λ (v : WorldOf _). refusal_of v.harts c.args.hart c.args.call ≡ None) (sym c.self.view_is) (sym c.find_start_refusal.ensures.refusal ∙ c.in-None.is) in
     subst (λ (v : WorldOf _). Makes g.D.Device.contents g.D.Device.failures v.sizes (Start c.args.hart c.args.call) v.harts Started c.begin.new.self) c.self.view_is
-    (made_start g.D.Device.contents g.D.Device.failures w.sizes w.harts long c.args.hart c.args.call c.find_start_refusal.ensures.bytes c.running-running.result c.begin.new.self none c.running-running.ensures.program c.begin.ensures.makes)
+    (made_start g.D.Device.contents g.D.Device.failures w.sizes w.harts long c.args.hart c.args.call c.find_start_refusal.ensures.bytes c.running-running.result c.begin.new.self none c.running-running.ensures.program c.begin.ensures.makes c.begin.ensures.eight (c.begin.ensures.children ∙ ap (slice_set w.harts.children c.args.hart) c.find_child-child.ensures))
