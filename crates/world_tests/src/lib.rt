@@ -5,4 +5,6 @@
 #[cfg(test)]
 mod events;
 #[cfg(test)]
+mod inherits;
+#[cfg(test)]
 mod opens;

@@ -14,10 +14,10 @@ use std::test::Fail;
 const TRUNCATE: u32 = 0x400;
 
 // Bytes that stand at a place of an image.
-type Part = (usize, &'static [u8]);
+pub type Part = (usize, &'static [u8]);
 
 // 2000 blocks, 200 inodes, a log of 31 blocks: directories `/d` and `/d/e`, and the file `/d/e/f` with one byte.
-const TREE: [Part; 16] = [
+pub const TREE: [Part; 16] = [
     (
         1024,
         b"\x40\x30\x20\x10\xd0\x07\0\0\xa1\x07\0\0\xc8\0\0\0\x1f\0\0\0\x02\0\0\0\x21\0\0\0\x2e\0\0\0",
@@ -59,7 +59,7 @@ fn put(image: &mut [u8], at: usize, bytes: &[u8]) {
     }
 }
 
-fn disk_of(alloc: Global, parts: &[Part]) -> Result<MemoryDisk, AllocError> {
+pub fn disk_of(alloc: Global, parts: &[Part]) -> Result<MemoryDisk, AllocError> {
     let mut image = vec![in alloc; 0u8; 2_048_000]?;
     for part in parts {
         put(&mut image, part.0, part.1);
@@ -68,7 +68,7 @@ fn disk_of(alloc: Global, parts: &[Part]) -> Result<MemoryDisk, AllocError> {
 }
 
 // A path, made once more where memory was refused.
-fn path(rt: &impl Abort, alloc: Global, bytes: &[u8]) -> Bytes {
+pub fn path(rt: &impl Abort, alloc: Global, bytes: &[u8]) -> Bytes {
     match Vec::from_slice(alloc, bytes) {
         Ok(path) => Bytes::new(path),
         Err(_) => match Vec::from_slice(alloc, bytes) {
@@ -79,7 +79,7 @@ fn path(rt: &impl Abort, alloc: Global, bytes: &[u8]) -> Bytes {
 }
 
 // A call, from its start to its end.
-fn run(rt: &impl Abort, world: &mut World<MemoryDisk>, hart: u8, call: Call) -> Reply {
+pub fn run(rt: &impl Abort, world: &mut World<MemoryDisk>, hart: u8, call: Call) -> Reply {
     assert!(rt; world.start(hart, call).is_ok());
     for _ in 0..10_000 {
         match world.step(hart) {
@@ -91,12 +91,12 @@ fn run(rt: &impl Abort, world: &mut World<MemoryDisk>, hart: u8, call: Call) -> 
     panic!(rt; "a call ends")
 }
 
-fn answer(rt: &impl Abort, world: &mut World<MemoryDisk>, hart: u8, call: Call) -> Answer {
+pub fn answer(rt: &impl Abort, world: &mut World<MemoryDisk>, hart: u8, call: Call) -> Answer {
     let Reply { answer, call: _ } = run(rt, world, hart, call);
     answer
 }
 
-fn open(
+pub fn open(
     rt: &impl Abort,
     alloc: Global,
     world: &mut World<MemoryDisk>,
@@ -108,7 +108,7 @@ fn open(
     answer(rt, world, hart, Call::Open { path, flags })
 }
 
-fn chdir(
+pub fn chdir(
     rt: &impl Abort,
     alloc: Global,
     world: &mut World<MemoryDisk>,
