@@ -9,7 +9,7 @@ use Rattle.plain_tree.specs.declared.call.Call.TheVariants.{Open, Read, Write, L
 use Rattle.atomic_programs.specs.Prog.{or_else}
 use Rattle.inode_machine.specs.Exec.{is_nothing}
 use Rattle.inode_machine.specs.Theory as calls
-use Rattle.inode_machine.specs.Theory.{path_limit, has_zero, are_bytes, path_wrong, asks_wrong, is_covered}
+use Rattle.inode_machine.specs.Theory.{path_limit, has_zero, are_bytes, first_wrong, path_wrong, asks_wrong, is_covered}
 use Rattle.calls_on_blocks.specs.Theory as served
 use Rattle.calls_on_blocks.specs.Layer.{Shared}
 use Rattle.calls_on_blocks.specs.Theory.{is_served, serves, has_file}
@@ -75,6 +75,23 @@ covered_path path right bytes = by (nat_lt path_limit (length path)) (list_any (
     by false false false e true r q = refl
     by false false false e false r q = absurd cc
 
+-- and of two paths
+pub right_paths : (old new : List ℕ) → or_else (path_fault old) (path_fault new) ≡ None → (path_fault old ≡ None) × (path_fault new ≡ None)
+right_paths old new right = by (path_fault old) (path_fault new) right
+  where
+    by : (f g : Option StartRefused) → or_else f g ≡ None → (f ≡ None) × (g ≡ None)
+    by None g e = (refl, e)
+    by (Some why) g e = absurd cc
+
+covered_paths : (old new : List ℕ) → or_else (path_fault old) (path_fault new) ≡ None → (are_bytes old ≡ true) × (are_bytes new ≡ true) → is_nothing (first_wrong (path_wrong old) (path_wrong new)) ≡ true
+covered_paths old new right bytes =
+    let both = right_paths old new right in
+    nothing_of (path_wrong old) (path_wrong new) (covered_path old both.0 bytes.0) (covered_path new both.1 bytes.1)
+  where
+    nothing_of : (o r : Option calls.Refusal) → is_nothing o ≡ true → is_nothing r ≡ true → is_nothing (first_wrong o r) ≡ true
+    nothing_of None r a b = b
+    nothing_of (Some why) r a b = absurd cc
+
 none : (b : Bool) → (b && false) ≡ false
 none true = refl
 none false = refl
@@ -84,7 +101,7 @@ served_same : (call : Call) → fault_of call ≡ None → PathsAreBytes call �
 served_same (Open path flags) right bytes = λ i. covered_path path right bytes i && is_served (Open path flags)
 served_same (Read fd buffer) right bytes = ap (λ (o : Option calls.Refusal). is_nothing o && true) (sym (part_same buffer) ∙ ap reason_for right)
 served_same (Write fd bytes') right bytes = none (is_covered (Write fd bytes'))
-served_same (Link old new) right bytes = none (is_covered (Link old new))
+served_same (Link old new) right bytes = λ i. covered_paths old new right bytes i && true
 served_same (Unlink path) right bytes = none (is_covered (Unlink path))
 served_same (Mkdir path) right bytes = none (is_covered (Mkdir path))
 served_same (Chdir path) right bytes = λ i. covered_path path right bytes i && true

@@ -13,11 +13,11 @@ use Rattle.atomic_programs.specs.Joined.{Both}
 use Rattle.atomic_programs.specs.Machines.{program_at}
 use Rattle.atomic_programs.specs.Plain.{SoundPlain, erase}
 use Rattle.atomic_programs.proofs.Reached.{sound_fresh}
-use Rattle.file_table.specs.Machines.{IsEarly}
 use Rattle.fs_machine.specs.LogPart.{part_of}
 use Rattle.fs_machine.specs.Machines.{P}
 use Rattle.syscalls.specs.declared.running.Running.{Running}
 use Rattle.syscalls.specs.Machines.{running_of}
+use Rattle.syscalls.specs.Making.{IsSized}
 use Rattle.plain_tree.specs.declared.answer.Reply.{Reply}
 use Rattle.inode_machine.specs.World as above
 use Rattle.inodes_on_blocks.specs.Mounted.{IsMountable, ShowsItsTree, first_world, mounted, resting_log}
@@ -30,14 +30,16 @@ use Rattle.hart_core.specs.Mounting.{Rests}
 use Rattle.hart_core.specs.Worlds.{IsWorld, calls_of}
 use Rattle.hart_core.proofs.Stepping.{nones, none_of}
 
--- the inode blocks of a well-formed image begin early
-early : (disk : List (List ℕ)) → IsWellFormed disk → IsEarly (sizes_of disk).inodestart
-early disk well =
+-- calls run on a well-formed image
+sized : (disk : List (List ℕ)) → IsWellFormed disk → IsSized (sizes_of disk)
+sized disk well =
     let good : IsGoodSuper (sizes_of disk) = (let a = well.0 in let b = a.0 in let c = b.0 in let f = c.0 in let g = f.0 in let h = g.0 in let i = h.0 in let j = i.0 in let k = j.0 in let l = k.0 in let m = l.0 in m.1.1) in
     let inodes = good.inodes in
     let bitmap = good.bitmap in
     let size = good.size in
-    omega (arith, inodes, bitmap, size)
+    let some = good.few_inodes in
+    let few = good.many_inodes in
+    record { early = omega (arith, inodes, bitmap, size); size = omega (arith, size); some = omega (arith, some); few = omega (arith, few) }
 
 module _ {D : Type 0} (contents : D → List (List ℕ)) (failures : D → ℕ) (device : D) (w : HartsOf D) (rests : Rests contents failures device w) where
   abbrev disk : List (List ℕ)
@@ -89,4 +91,4 @@ module _ {D : Type 0} (contents : D → List (List ℕ)) (failures : D → ℕ) 
   pub world_mounted : (s : Super) → s ≡ sizes_of (contents device) → IsWorld contents failures s w
   world_mounted s e =
       let same : s ≡ sizes_of disk = e ∙ sym rests.disk.sizes in
-      record { sound = rests_first s same; early = subst (λ (z : Super). IsEarly z.inodestart) (sym same) (early disk rests.disk.well) }
+      record { sound = rests_first s same; sized = subst IsSized (sym same) (sized disk rests.disk.well) }

@@ -268,7 +268,7 @@ module _ {D : Type 0} (contents : D → List (List ℕ)) (failures : D → ℕ) 
   pub world_started : (new : HartsOf D) → IsWorld contents failures sizes w → Makes contents failures sizes (Start h call) w Started new → IsWorld contents failures sizes new
   world_started new is makes = record {
     sound = sound_event (block_calls sizes) (block_code sizes) (is_code sizes) (Start h call) (calls_of contents failures sizes w) (record { came = Started; after = calls_of contents failures sizes new }) is.sound tt makes;
-    early = is.early;
+    sized = is.sized;
   }
 
 -- ---- a step in code
@@ -291,5 +291,5 @@ module _ {D : Type 0} (contents : D → List (List ℕ)) (failures : D → ℕ) 
       → new.children ≡ w.children → IsWorld contents failures sizes new
   world_stepped x r new honest makes children = record {
     sound = subst (SoundPlain (block_calls sizes) (block_code sizes)) (as_new new children) (sound_step sizes (children_in w.children) h x (programs_of contents failures w) (programs_of contents failures new) r is.sound honest makes);
-    early = is.early;
+    sized = is.sized;
   }

@@ -8,8 +8,8 @@ use Rattle.atomic_programs.specs.Plain.{Plain, PlainHonest, SoundPlain, plain_ma
 use Rattle.atomic_programs.specs.Tables.{plain_at}
 use Rattle.fs_machine.specs.declared.kind.Kind.{Kind}
 use Rattle.fs_machine.specs.LogPart.{Outside}
-use Rattle.file_table.specs.Machines.{IsEarly}
 use Rattle.syscalls.specs.Machines.{running_of}
+use Rattle.syscalls.specs.Making.{IsSized}
 use Rattle.inode_machine.specs.Theory.{Refusal}
 use Rattle.calls_on_blocks.specs.Theory.{block_calls, block_code}
 use Rattle.hart_core.specs.Harts.{HartsOf, children_in, shared_of}
@@ -32,7 +32,7 @@ module _ {D : Type 0} (contents : D → List (List ℕ)) (failures : D → ℕ) 
   abbrev pub Answers : Event Call Outside → HartsOf D → Type 0
   Answers event old = PlainHonest (block_calls sizes) (block_code sizes) event (calls_of old)
 
-  -- The harts are as some list of events leaves them, of a world at rest; and the code can say the number of every inode's block.
+  -- The harts are as some list of events leaves them, of a world at rest, on a disk of sizes on which calls run.
   pub record IsWorld (w : HartsOf D) : Type 0 where
     pub sound : SoundPlain (block_calls sizes) (block_code sizes) (calls_of w)
-    pub early : IsEarly sizes.inodestart
+    pub sized : IsSized sizes

@@ -70,7 +70,7 @@ fn is_served(call: &Call) -> bool
         Call::Read { fd: _, buf: _ } => true,
         Call::Open { path: _, flags } => flags & CREATE == 0,
         Call::Write { fd: _, bytes: _ } => false,
-        Call::Link { old: _, new: _ } => false,
+        Call::Link { old: _, new: _ } => true,
         Call::Unlink { path: _ } => false,
         Call::Mkdir { path: _ } => false,
         Call::Chdir { path: _ } => true,

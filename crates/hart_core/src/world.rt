@@ -2,10 +2,10 @@
 ghost use Rattle.std.specs.Prelude.{◌≡◌, true, ℕ, IfOk, IfErr, None, length};
 ghost use Rattle.atomic_programs.specs.Calls.{Start as StartOf, Step as StepOf};
 ghost use Rattle.atomic_programs.specs.Prog.{plain};
-ghost use Rattle.file_table.specs.Machines.{IsEarly};
 ghost use Rattle.fs_machine.specs.Machines.{CallsOnce};
 ghost use Rattle.fs_machine.specs.Steps.{State};
 ghost use Rattle.syscalls.specs.Machines.{running_of, RunningFits};
+ghost use Rattle.syscalls.specs.Making.{IsSized};
 ghost use Rattle.calls_on_blocks.specs.Theory.{block_calls, is_served};
 ghost use Rattle.fs_layout.specs.Recovered.{sizes_of};
 ghost use Rattle.image_tree.specs.Damage.{IsWellFormed};
@@ -25,7 +25,7 @@ use image_tree::MountFault;
 use plain_tree::Call;
 use std::alloc::Global;
 use std::marker::Model;
-use syscalls::{Chdir, Close, Dup, Fstat, Inherit, OpenOld, Read, Running};
+use syscalls::{Chdir, Close, Dup, Fstat, Inherit, Link, OpenOld, Read, Running};
 
 /// A mounted file system, with the calls that eight harts have under way. A contract sees its harts and the sizes of its disk.
 ///
@@ -50,12 +50,13 @@ impl<D: Device> Model for World<D> {
 fn running(sizes: &Super, call: Call) -> Running
     requires served { is_served call ≡ true }
     requires faultless { fault_of call ≡ None }
-    requires early { IsEarly sizes.now.inodestart }
+    requires sized { IsSized sizes.now }
     ensures program { running_of result ≡ plain ((block_calls sizes.now).program call) }
     ensures fits { (hart : ℕ) (s : State) → RunningFits hart s result }
 {
     match call {
         Call::Open { path, flags } => Running::Open(OpenOld::new(sizes, path, flags)),
+        Call::Link { old, new } => Running::Link(Link::new(sizes, old, new)),
         Call::Chdir { path } => Running::Chdir(Chdir::new(sizes, path)),
         Call::Dup { fd } => Running::Dup(Dup::new(fd)),
         Call::Fstat { fd } => Running::Fstat(Fstat::new(sizes.inodestart, fd)),

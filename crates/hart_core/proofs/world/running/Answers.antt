@@ -6,7 +6,7 @@ use Rattle.calls_on_blocks.specs.Theory.{block_calls, is_served}
 use Rattle.calls_on_blocks.proofs.Bridges.{programs_are_lowered}
 use Rattle.calls_on_blocks.proofs.Lawful.{opens_old}
 use Rattle.hart_core.specs.Starts.{fault_of}
-use Rattle.hart_core.proofs.Refusals.{right_path}
+use Rattle.hart_core.proofs.Refusals.{right_path, right_paths}
 use Rattle.hart_core.proofs.world.running.Goals as goal
 
 pub new-requires-clause-short : goal.new-requires-clause-short
@@ -21,6 +21,18 @@ new-requires-in-Chdir-clause-short c = (right_path c.in-Chdir.path (sym (ap faul
 pub new-requires-in-Chdir-clause-nonzero : goal.new-requires-in-Chdir-clause-nonzero
 new-requires-in-Chdir-clause-nonzero c = (right_path c.in-Chdir.path (sym (ap fault_of c.in-Chdir.is) ∙ c.requires.faultless)).1
 
+pub new-requires-in-Link-clause-old_short : goal.new-requires-in-Link-clause-old_short
+new-requires-in-Link-clause-old_short c = (right_path c.in-Link.old (right_paths c.in-Link.old c.in-Link.new (sym (ap fault_of c.in-Link.is) ∙ c.requires.faultless)).0).0
+
+pub new-requires-in-Link-clause-new_short : goal.new-requires-in-Link-clause-new_short
+new-requires-in-Link-clause-new_short c = (right_path c.in-Link.new (right_paths c.in-Link.old c.in-Link.new (sym (ap fault_of c.in-Link.is) ∙ c.requires.faultless)).1).0
+
+pub new-requires-in-Link-clause-old_nonzero : goal.new-requires-in-Link-clause-old_nonzero
+new-requires-in-Link-clause-old_nonzero c = (right_path c.in-Link.old (right_paths c.in-Link.old c.in-Link.new (sym (ap fault_of c.in-Link.is) ∙ c.requires.faultless)).0).1
+
+pub new-requires-in-Link-clause-new_nonzero : goal.new-requires-in-Link-clause-new_nonzero
+new-requires-in-Link-clause-new_nonzero c = (right_path c.in-Link.new (right_paths c.in-Link.old c.in-Link.new (sym (ap fault_of c.in-Link.is) ∙ c.requires.faultless)).1).1
+
 pub returns-in-Open-clause-program : goal.returns-in-Open-clause-program
 unfolding running_of
 returns-in-Open-clause-program c =
@@ -33,6 +45,12 @@ unfolding running_of
 returns-in-Chdir-clause-program c =
     c.new-in-Chdir.ensures.program ∙ sym ((programs_are_lowered c.args.sizes.now).chdir c.in-Chdir.path)
     ∙ ap (λ (call : Call). plain ((block_calls c.args.sizes.now).program call)) (sym c.in-Chdir.is)
+
+pub returns-in-Link-clause-program : goal.returns-in-Link-clause-program
+unfolding running_of
+returns-in-Link-clause-program c =
+    c.new-in-Link.ensures.program ∙ sym ((programs_are_lowered c.args.sizes.now).link c.in-Link.old c.in-Link.new)
+    ∙ ap (λ (call : Call). plain ((block_calls c.args.sizes.now).program call)) (sym c.in-Link.is)
 
 pub returns-in-Fstat-clause-program : goal.returns-in-Fstat-clause-program
 unfolding running_of
