@@ -71,7 +71,7 @@ fn is_served(call: &Call) -> bool
         Call::Open { path: _, flags } => flags & CREATE == 0,
         Call::Write { fd: _, bytes: _ } => false,
         Call::Link { old: _, new: _ } => true,
-        Call::Unlink { path: _ } => false,
+        Call::Unlink { path: _ } => true,
         Call::Mkdir { path: _ } => false,
         Call::Chdir { path: _ } => true,
         Call::Inherit { child: _ } => true,

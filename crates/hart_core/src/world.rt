@@ -25,7 +25,7 @@ use image_tree::MountFault;
 use plain_tree::Call;
 use std::alloc::Global;
 use std::marker::Model;
-use syscalls::{Chdir, Close, Dup, Fstat, Inherit, Link, OpenOld, Read, Running};
+use syscalls::{Chdir, Close, Dup, Fstat, Inherit, Link, OpenOld, Read, Running, Unlink};
 
 /// A mounted file system, with the calls that eight harts have under way. A contract sees its harts and the sizes of its disk.
 ///
@@ -57,6 +57,7 @@ fn running(sizes: &Super, call: Call) -> Running
     match call {
         Call::Open { path, flags } => Running::Open(OpenOld::new(sizes, path, flags)),
         Call::Link { old, new } => Running::Link(Link::new(sizes, old, new)),
+        Call::Unlink { path } => Running::Unlink(Unlink::new(sizes, path)),
         Call::Chdir { path } => Running::Chdir(Chdir::new(sizes, path)),
         Call::Dup { fd } => Running::Dup(Dup::new(fd)),
         Call::Fstat { fd } => Running::Fstat(Fstat::new(sizes.inodestart, fd)),

@@ -15,6 +15,12 @@ new-requires-clause-short c = (right_path c.in-Open.path (sym (ap fault_of c.in-
 pub new-requires-clause-nonzero : goal.new-requires-clause-nonzero
 new-requires-clause-nonzero c = (right_path c.in-Open.path (sym (ap fault_of c.in-Open.is) ∙ c.requires.faultless)).1
 
+pub new-requires-in-Unlink-clause-short : goal.new-requires-in-Unlink-clause-short
+new-requires-in-Unlink-clause-short c = (right_path c.in-Unlink.path (sym (ap fault_of c.in-Unlink.is) ∙ c.requires.faultless)).0
+
+pub new-requires-in-Unlink-clause-nonzero : goal.new-requires-in-Unlink-clause-nonzero
+new-requires-in-Unlink-clause-nonzero c = (right_path c.in-Unlink.path (sym (ap fault_of c.in-Unlink.is) ∙ c.requires.faultless)).1
+
 pub new-requires-in-Chdir-clause-short : goal.new-requires-in-Chdir-clause-short
 new-requires-in-Chdir-clause-short c = (right_path c.in-Chdir.path (sym (ap fault_of c.in-Chdir.is) ∙ c.requires.faultless)).0
 
@@ -39,6 +45,12 @@ returns-in-Open-clause-program c =
     c.new.ensures.program
     ∙ sym ((programs_are_lowered c.args.sizes.now).open_old c.in-Open.path c.in-Open.flags (opens_old c.in-Open.path c.in-Open.flags (sym (ap is_served c.in-Open.is) ∙ c.requires.served)))
     ∙ ap (λ (call : Call). plain ((block_calls c.args.sizes.now).program call)) (sym c.in-Open.is)
+
+pub returns-in-Unlink-clause-program : goal.returns-in-Unlink-clause-program
+unfolding running_of
+returns-in-Unlink-clause-program c =
+    c.new-in-Unlink.ensures.program ∙ sym ((programs_are_lowered c.args.sizes.now).unlink c.in-Unlink.path)
+    ∙ ap (λ (call : Call). plain ((block_calls c.args.sizes.now).program call)) (sym c.in-Unlink.is)
 
 pub returns-in-Chdir-clause-program : goal.returns-in-Chdir-clause-program
 unfolding running_of
