@@ -8,3 +8,5 @@ mod events;
 mod inherits;
 #[cfg(test)]
 mod opens;
+#[cfg(test)]
+mod unlinks;

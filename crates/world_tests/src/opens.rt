@@ -81,7 +81,7 @@ pub fn path(rt: &impl Abort, alloc: Global, bytes: &[u8]) -> Bytes {
 // A call, from its start to its end.
 pub fn run(rt: &impl Abort, world: &mut World<MemoryDisk>, hart: u8, call: Call) -> Reply {
     assert!(rt; world.start(hart, call).is_ok());
-    for _ in 0..10_000 {
+    for _ in 0..100_000 {
         match world.step(hart) {
             Outcome::Ran(_) => {}
             Outcome::Done(reply) => return reply,
@@ -119,7 +119,7 @@ pub fn chdir(
     answer(rt, world, hart, Call::Chdir { path })
 }
 
-fn told(inode: u16, kind: NodeType, nlink: u16, size: u64) -> Answer {
+pub fn told(inode: u16, kind: NodeType, nlink: u16, size: u64) -> Answer {
     Answer::Stat(Stat {
         device: 1,
         inode,
