@@ -10,6 +10,7 @@ use Rattle.calls_on_blocks.proofs.OpenBridge.{opens}
 use Rattle.calls_on_blocks.proofs.ReadBridge.{reads}
 use Rattle.calls_on_blocks.proofs.StatBridge.{stats}
 use Rattle.calls_on_blocks.proofs.UnlinkBridge.{unlinks}
+use Rattle.calls_on_blocks.proofs.WriteBridge.{writes}
 
 pub programs_are_lowered : (sizes : Super) → ProgramsAreLowered sizes
-programs_are_lowered sizes = record { open_old = opens sizes; link = links sizes; unlink = unlinks sizes; chdir = chdirs sizes; dup = dups sizes; fstat = stats sizes; close = closes sizes; read = reads sizes; inherit = inherits sizes }
+programs_are_lowered sizes = record { open_old = opens sizes; link = links sizes; unlink = unlinks sizes; chdir = chdirs sizes; dup = dups sizes; fstat = stats sizes; close = closes sizes; read = reads sizes; write = writes sizes; inherit = inherits sizes }

@@ -56,6 +56,7 @@ use Rattle.calls_on_blocks.proofs.Operations.{history, Within, gives, doubles, s
 use Rattle.calls_on_blocks.proofs.PathUses.{drop_uses, say_uses, chdir_uses, open_uses}
 use Rattle.calls_on_blocks.proofs.Starting.{begun_here, below_count, joined_same, lower_laws, starts_both}
 use Rattle.calls_on_blocks.proofs.UnlinkUses.{unlink_uses}
+use Rattle.calls_on_blocks.proofs.WriteUses.{write_uses}
 
 -- ---- above
 
@@ -89,7 +90,7 @@ served_right h (calls.Read fd buffer) busy w u lt here out idle free is = descri
 served_right h (calls.Open path flags) busy w u lt here out idle free is =
     right serves h (calls.Open path flags) busy w u idle free is (open_begins path flags)
     (λ holds i. open_ok h path flags u out lt holds i (opens_old path flags (served_is (calls.Open path flags) here)) (path_names path (covered_is (calls.Open path flags) here)))
-served_right h (calls.Write fd bytes) busy w u lt here out idle free is = absurd (let q = served_is (calls.Write fd bytes) here in cc (q))
+served_right h (calls.Write fd bytes) busy w u lt here out idle free is = descriptors_right serves h (calls.Write fd bytes) busy w u lt refl out idle free is
 served_right h (calls.Link old new) busy w u lt here out idle free is =
     right serves h (calls.Link old new) busy w u idle free is (link_begins old new)
     (λ holds i. let two = both_paths old new (covered_is (calls.Link old new) here) in link_ok h old new u out lt holds i (path_names old two.0) (path_names new two.1))
@@ -133,7 +134,7 @@ module _ (sizes : Super) (h : ℕ) (lt : h < hart_count) where
   served_uses (calls.Close fd) e = (shuts sizes h lt fd (λ a. own_step (actions.Close fd)), λ a. close_uses fd a)
   served_uses (calls.Read fd buffer) e = (locks_to_read sizes h lt fd (refused_read fd (length buffer)), λ a. read_uses fd buffer a)
   served_uses (calls.Open path flags) e = subst (λ (b : Bool). Uses machine (Within sizes h) (if b then open_new path flags (elements path) else open_old path flags)) (sym (opens_old path flags e)) (open_uses sizes h lt path flags)
-  served_uses (calls.Write fd bytes) e = absurd cc
+  served_uses (calls.Write fd bytes) e = write_uses sizes h lt fd bytes e
   served_uses (calls.Link old new) e = link_uses sizes h lt old new
   served_uses (calls.Unlink path) e = unlink_uses sizes h lt path
   served_uses (calls.Mkdir path) e = absurd cc

@@ -24,5 +24,7 @@ pub mod OpenBridge
 pub mod UnlinkBridge
 pub mod StoreBridge
 pub mod LinkBridge
+pub mod WriteBridge
+pub mod WriteUses
 pub mod Bridges
 pub mod History

@@ -1,6 +1,7 @@
 -- The operations on whole inodes act at one moment below, within what their call's transactions may record.
-use Rattle.std.proofs.Common.{◌≡◌, ◌<◌, ℕ, List, Bool, true, Option}
+use Rattle.std.proofs.Common.{◌≡◌, ◌<◌, ℕ, List, length, Bool, true, Option}
 use Rattle.fs_layout.specs.declared.superblock.Super.{Super}
+use Rattle.fs_layout.specs.Bytes.{IsBytes}
 use Rattle.plain_tree.specs.declared.answer.Cause.{Cause}
 use Rattle.plain_tree.specs.declared.tree.OpenFile.{OpenFile}
 use Rattle.plain_tree.specs.Tree.{Name}
@@ -12,8 +13,8 @@ use Rattle.inode_machine.specs.Marks.{places}
 use Rattle.inode_machine.specs.Rules as rules
 use Rattle.inode_machine.specs.Rules.{machine}
 use Rattle.inode_machine.specs.World as above
-use Rattle.inode_machine.specs.World.{Joining, Lending, Locking}
-use Rattle.inode_machine.specs.World.Op.{Take, Give, UpStart, Up, WalkDown, Down, Free, Forget, Store, Fill, Enter, Clear, Empty, Slot, Install, StatFile, LockFile, ReadFile, LockOpen, CheckFile, JoinFile, Double, Shut, Settle, Lend, LendDirectory, Release, Join, Leave, Say}
+use Rattle.inode_machine.specs.World.{Joining, Lending, Locking, Wrote}
+use Rattle.inode_machine.specs.World.Op.{Take, Give, UpStart, Up, WalkDown, Down, Free, Forget, Store, Fill, Enter, Clear, Empty, Slot, Install, StatFile, LockFile, ReadFile, LockOpen, CheckFile, JoinFile, WriteFile, Double, Shut, Settle, Lend, LendDirectory, Release, Join, Leave, Say}
 use Rattle.inode_machine.proofs.Calls.{laws}
 use Rattle.inodes_on_blocks.specs.Acting.{ActsOnceAt}
 use Rattle.inodes_on_blocks.specs.Lowering.{Labels, Keeps}
@@ -34,6 +35,7 @@ use Rattle.inodes_on_blocks.proofs.StatSteps.{stat_acts}
 use Rattle.inodes_on_blocks.proofs.TableSteps.{give_acts, settle_acts}
 use Rattle.inodes_on_blocks.proofs.TakeSteps.{take_acts}
 use Rattle.inodes_on_blocks.proofs.Withins.{acts_within, store_within, clear_within, empty_within, free_within}
+use Rattle.inodes_on_blocks.proofs.WriteSteps.{write_within}
 use Rattle.calls_on_blocks.specs.Programs.{handlers}
 use Rattle.calls_on_blocks.specs.Layer.{layer}
 use Rattle.calls_on_blocks.proofs.Beside.{within_beside}
@@ -141,6 +143,9 @@ module _ (sizes : Super) (h : ℕ) where
 
     pub locks_to_write : (fd n : ℕ) (m : ℕ × ℕ → Option above.Mark) → Within (LockOpen fd n) m
     locks_to_write fd n m = acting (LockOpen fd n) m (spend.lock_open fd n) (open_acts history laws keeps h lt sizes fd n m)
+
+    pub writes : (fd n offset : ℕ) (bytes : List ℕ) → 0 < length bytes → IsBytes bytes → (m : Wrote → Option above.Mark) → Within (WriteFile fd n offset bytes) m
+    writes fd n offset bytes some are m = recorded (WriteFile fd n offset bytes) m (write_within sizes history laws keeps h lt fd n offset bytes some are m)
 
     pub checks : (fd : ℕ) (m : Option Cause → Option above.Mark) → Within (CheckFile fd) m
     checks fd m = acting (CheckFile fd) m (spend.check_file fd) (check_acts history laws keeps h lt fd m sizes)

@@ -1,7 +1,7 @@
 -- The laws of the calls on blocks.
 use Rattle.std.specs.Prelude.{◌≡◌, ℕ, false, List}
 use Rattle.fs_layout.specs.declared.superblock.Super.{Super}
-use Rattle.plain_tree.specs.declared.call.Call.TheVariants.{Open, Read, Link, Unlink, Chdir, Dup, Fstat, Close, Inherit}
+use Rattle.plain_tree.specs.declared.call.Call.TheVariants.{Open, Read, Write, Link, Unlink, Chdir, Dup, Fstat, Close, Inherit}
 use Rattle.plain_tree.specs.Steps.{creates}
 use Rattle.atomic_programs.specs.Prog.{plain}
 use Rattle.atomic_programs.specs.Calls.{Lawful}
@@ -12,6 +12,7 @@ use Rattle.syscalls.specs.Moving.{chdir_program}
 use Rattle.syscalls.specs.Opening as opening
 use Rattle.syscalls.specs.Programs.{dup_program, stat_program, close_program, read_program}
 use Rattle.syscalls.specs.Unlinking.{unlink_program}
+use Rattle.syscalls.specs.Writing.{write_program}
 use Rattle.calls_on_blocks.specs.Theory.{block_calls, block_code}
 
 -- Each call that is served is right below, whatever the others do.
@@ -33,4 +34,5 @@ pub record ProgramsAreLowered (sizes : Super) : Type 0 where
   pub fstat : (fd : ℕ) → plain ((block_calls sizes).program (Fstat fd)) ≡ stat_program sizes.inodestart fd
   pub close : (fd : ℕ) → plain ((block_calls sizes).program (Close fd)) ≡ close_program sizes fd
   pub read : (fd : ℕ) (buffer : List ℕ) → plain ((block_calls sizes).program (Read fd buffer)) ≡ read_program sizes.inodestart fd buffer
+  pub write : (fd : ℕ) (bytes : List ℕ) → plain ((block_calls sizes).program (Write fd bytes)) ≡ write_program sizes fd bytes
   pub inherit : (child : ℕ) → plain ((block_calls sizes).program (Inherit child)) ≡ inherit_program sizes child

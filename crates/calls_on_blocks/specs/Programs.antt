@@ -1,7 +1,6 @@
 -- Each operation on whole inodes as its program below, on a disk of these sizes.
 use Rattle.std.specs.Prelude.{Option}
 use Rattle.fs_layout.specs.declared.superblock.Super.{Super}
-use Rattle.plain_tree.specs.declared.answer.Cause.TheVariants.{BadDescriptor}
 use Rattle.atomic_programs.specs.Prog.{Ret}
 use Rattle.atomic_programs.specs.Joined.{Handed}
 use Rattle.inode_machine.specs.World as above
@@ -15,6 +14,7 @@ use Rattle.inodes_on_blocks.specs.Lowering.{Carry}
 use Rattle.inodes_on_blocks.specs.Naming.{clear}
 use Rattle.inodes_on_blocks.specs.Reading.{stat_file, take}
 use Rattle.inodes_on_blocks.specs.Storing.{store}
+use Rattle.inodes_on_blocks.specs.Writing.{write_file}
 
 -- An operation that no call which is served makes: nothing is done, and the answer is any.
 abbrev pub nothing_done : {A : Type 0} → Carry → A → P (Handed A Carry)
@@ -43,7 +43,7 @@ handlers sizes c (ReadFile fd n offset count) m = read_file fd n offset count c 
 handlers sizes c (LockOpen fd n) m = lock_open sizes fd n c m
 handlers sizes c (CheckFile fd) m = one.check_file fd c m
 handlers sizes c (JoinFile fd) m = one.join_file fd c m
-handlers sizes c (WriteFile fd n offset bytes) m = nothing_done c (above.Refused BadDescriptor)
+handlers sizes c (WriteFile fd n offset bytes) m = write_file sizes fd n offset bytes c m
 handlers sizes c (Double fd) m = one.double fd c m
 handlers sizes c (Shut fd) m = one.close fd c m
 handlers sizes c (Settle n) m = one.settle n c m

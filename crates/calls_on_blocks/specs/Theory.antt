@@ -15,15 +15,15 @@ use Rattle.fs_machine.specs.declared.kind.Kind.{Kind}
 use Rattle.fs_machine.specs.Steps as steps
 use Rattle.fs_machine.specs.Premises as premises
 use Rattle.inode_machine.specs.Exec.{is_at}
-use Rattle.inode_machine.specs.Theory.{Refusal, NoSuchHart, Busy, PathTooLong, ZeroInPath, NotEmptyHart, NotCovered, calls_that, is_covered, path_limit, has_zero, asks_wrong}
+use Rattle.inode_machine.specs.Theory.{Refusal, NoSuchHart, Busy, PathTooLong, ZeroInPath, NotEmptyHart, NotCovered, calls_that, is_covered, path_limit, has_zero, are_bytes, asks_wrong}
 use Rattle.calls_on_blocks.specs.Layer.{Shared, exec_shared, layer, shared_of}
 use Rattle.calls_on_blocks.specs.Programs.{handlers}
 
--- the calls of which each operation's program is known to act at one moment: of open those without CREATE
+-- the calls of which each operation's program is known to act at one moment: of open those without CREATE, and of write those of bytes, as all are that code has
 abbrev pub is_served : Call → Bool
 is_served (Open path flags) = not (creates flags)
 is_served (Read fd buffer) = true
-is_served (Write fd bytes) = false
+is_served (Write fd bytes) = are_bytes bytes
 is_served (Link old new) = true
 is_served (Unlink path) = true
 is_served (Mkdir path) = false

@@ -16,7 +16,7 @@ use Rattle.calls_on_blocks.specs.Theory.{is_served, serves, has_file}
 use Rattle.hart_core.specs.declared.starts.StartRefused.{StartRefused}
 use Rattle.hart_core.specs.declared.starts.StartRefused.TheVariants.{Busy, NoSuchHart, NotEmptyHart, PathTooLong, ZeroInPath, TooLong, NotYet}
 use Rattle.hart_core.specs.Harts.{HartsOf, busy_in, children_in, shared_of}
-use Rattle.hart_core.specs.Starts.{longest_path, path_fault, part_fault, fault_of, refusal_for, is_child, child_refusal, others_refusal, refusal_of, reason_of, PathsAreBytes}
+use Rattle.hart_core.specs.Starts.{longest_part, longest_path, path_fault, part_fault, fault_of, refusal_for, is_child, child_refusal, others_refusal, refusal_of, reason_of, IsOfBytes}
 
 -- in the words of the calls
 abbrev pub reason_for : Option StartRefused → Option calls.Refusal
@@ -97,10 +97,10 @@ none true = refl
 none false = refl
 
 -- where the call itself is right
-served_same : (call : Call) → fault_of call ≡ None → PathsAreBytes call → serves call ≡ is_served call
+served_same : (call : Call) → fault_of call ≡ None → IsOfBytes call → serves call ≡ is_served call
 served_same (Open path flags) right bytes = λ i. covered_path path right bytes i && is_served (Open path flags)
 served_same (Read fd buffer) right bytes = ap (λ (o : Option calls.Refusal). is_nothing o && true) (sym (part_same buffer) ∙ ap reason_for right)
-served_same (Write fd bytes') right bytes = none (is_covered (Write fd bytes'))
+served_same (Write fd bytes') right bytes = ap (λ (o : Option calls.Refusal). is_nothing o && are_bytes bytes') (sym (part_same bytes') ∙ ap reason_for right)
 served_same (Link old new) right bytes = λ i. covered_paths old new right bytes i && true
 served_same (Unlink path) right bytes = λ i. covered_path path right bytes i && true
 served_same (Mkdir path) right bytes = none (is_covered (Mkdir path))
@@ -110,7 +110,7 @@ served_same (Fstat fd) right bytes = refl
 served_same (Close fd) right bytes = refl
 served_same (Inherit child) right bytes = none true
 
-pub refusal_same : (call : Call) → (fault_of call ≡ None → PathsAreBytes call) → reason_for (refusal_for call) ≡ served.refusal_for call
+pub refusal_same : (call : Call) → (fault_of call ≡ None → IsOfBytes call) → reason_for (refusal_for call) ≡ served.refusal_for call
 refusal_same call bytes = by (fault_of call) refl
   where
     served_if : Bool → Option calls.Refusal
@@ -173,7 +173,7 @@ module _ {D : Type 0} (contents : D → List (List ℕ)) (failures : D → ℕ) 
   others_same h (Inherit child) = child_same h child
 
   -- the call's own cause, and then that
-  pub reasons_same : (h : ℕ) (call : Call) → (fault_of call ≡ None → PathsAreBytes call) → reason_for (or_else (refusal_for call) (others_refusal w h call)) ≡ or_else (served.refusal_for call) (served.others_refusal h call (busy_in w.calls) now)
+  pub reasons_same : (h : ℕ) (call : Call) → (fault_of call ≡ None → IsOfBytes call) → reason_for (or_else (refusal_for call) (others_refusal w h call)) ≡ or_else (served.refusal_for call) (served.others_refusal h call (busy_in w.calls) now)
   reasons_same h call bytes = or_same (refusal_for call) (others_refusal w h call) ∙ (λ i. or_else (refusal_same call bytes i) (others_same h call i))
 
 -- a path is short and has no zero byte
@@ -196,6 +196,14 @@ right_path path e = by (nat_lt longest_path (length path)) refl (list_any (λ b.
     by true l seen z e = absurd cc
     by false l true z e = absurd cc
     by false l false z e = (grind (arith, nat_tests), nonzero path z)
+
+-- no more is asked for than may be
+pub right_part : (bytes : List ℕ) → part_fault bytes ≡ None → length bytes ≤ longest_part
+right_part bytes e = by (nat_lt longest_part (length bytes)) refl e
+  where
+    by : (long : Bool) → nat_lt longest_part (length bytes) ≡ long → (if long then Some TooLong else None) ≡ None → length bytes ≤ longest_part
+    by true l e = absurd cc
+    by false l e = grind (arith, nat_tests)
 
 -- every item of a list of bytes is one
 pub bytes_below : (path : List ℕ) → ((k : ℕ) → get_or path k 0 < 256) → are_bytes path ≡ true

@@ -33,7 +33,7 @@ use Rattle.hart_core.specs.declared.starts.StartRefused.TheVariants as start
 use Rattle.hart_core.specs.Blocks.{blocks, code, MayStep}
 use Rattle.hart_core.specs.Harts.{HartsOf, busy_in, children_in, outcome_of, programs_of}
 use Rattle.hart_core.specs.Worlds.{Makes, IsWorld, calls_of}
-use Rattle.hart_core.specs.Starts.{fault_of, refusal_for, is_child, others_refusal, refusal_of, reason_of, PathsAreBytes}
+use Rattle.hart_core.specs.Starts.{fault_of, refusal_for, is_child, others_refusal, refusal_of, reason_of, IsOfBytes}
 use Rattle.hart_core.proofs.Stepping.{plain_same}
 use Rattle.hart_core.proofs.Refusals.{reason_for, reasons_same, now}
 
@@ -160,7 +160,7 @@ running_is : (o : Option Running) → is_called (program_at running_of o) ≡ is
 running_is None = refl
 running_is (Some m) = refl
 
-module _ {D : Type 0} (contents : D → List (List ℕ)) (failures : D → ℕ) (sizes : Super) (w : HartsOf D) (long : length w.calls ≡ 8) (h : ℕ) (call : Call) (bytes : fault_of call ≡ None → PathsAreBytes call) where
+module _ {D : Type 0} (contents : D → List (List ℕ)) (failures : D → ℕ) (sizes : Super) (w : HartsOf D) (long : length w.calls ≡ 8) (h : ℕ) (call : Call) (bytes : fault_of call ≡ None → IsOfBytes call) where
   -- the harts as programs
   abbrev pub here : Plain (block_calls sizes) (block_code sizes)
   here = calls_of contents failures sizes w
@@ -249,7 +249,7 @@ children_set list h o lt = λ i k. each k i
         (λ e. sym (ap (children_in (slice_set list h o)) e ∙ get_or-set_same list h o None lt))
         (λ ne. sym (get_or-set_other list h k o None ne))
 
-module _ {D : Type 0} (contents : D → List (List ℕ)) (failures : D → ℕ) (sizes : Super) (w : HartsOf D) (long : length w.calls ≡ 8) (h : ℕ) (call : Call) (bytes : fault_of call ≡ None → PathsAreBytes call) where
+module _ {D : Type 0} (contents : D → List (List ℕ)) (failures : D → ℕ) (sizes : Super) (w : HartsOf D) (long : length w.calls ≡ 8) (h : ℕ) (call : Call) (bytes : fault_of call ≡ None → IsOfBytes call) where
   pub idle_at : refusal_of w h call ≡ None → slice_get w.calls h ≡ Some None
   idle_at e = let m = start_allowed contents failures sizes w long h call bytes e in let lt = m.below in idle_there w.calls h (omega (arith, lt, long)) m.idle
 

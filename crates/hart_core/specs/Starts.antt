@@ -45,19 +45,19 @@ fault_of (Fstat fd) = None
 fault_of (Close fd) = None
 fault_of (Inherit child) = None
 
--- each path is of bytes, as all are that code has
-abbrev pub PathsAreBytes : Call → Type 0
-PathsAreBytes (Open path flags) = are_bytes path ≡ true
-PathsAreBytes (Read fd buffer) = Unit {0}
-PathsAreBytes (Write fd bytes) = Unit {0}
-PathsAreBytes (Link old new) = (are_bytes old ≡ true) × (are_bytes new ≡ true)
-PathsAreBytes (Unlink path) = are_bytes path ≡ true
-PathsAreBytes (Mkdir path) = are_bytes path ≡ true
-PathsAreBytes (Chdir path) = are_bytes path ≡ true
-PathsAreBytes (Dup fd) = Unit {0}
-PathsAreBytes (Fstat fd) = Unit {0}
-PathsAreBytes (Close fd) = Unit {0}
-PathsAreBytes (Inherit child) = Unit {0}
+-- each path is of bytes, and so is what is written, as all are that code has
+abbrev pub IsOfBytes : Call → Type 0
+IsOfBytes (Open path flags) = are_bytes path ≡ true
+IsOfBytes (Read fd buffer) = Unit {0}
+IsOfBytes (Write fd bytes) = are_bytes bytes ≡ true
+IsOfBytes (Link old new) = (are_bytes old ≡ true) × (are_bytes new ≡ true)
+IsOfBytes (Unlink path) = are_bytes path ≡ true
+IsOfBytes (Mkdir path) = are_bytes path ≡ true
+IsOfBytes (Chdir path) = are_bytes path ≡ true
+IsOfBytes (Dup fd) = Unit {0}
+IsOfBytes (Fstat fd) = Unit {0}
+IsOfBytes (Close fd) = Unit {0}
+IsOfBytes (Inherit child) = Unit {0}
 
 -- the first of them, and last that the call isn't there yet
 abbrev pub refusal_for : Call → Option StartRefused

@@ -3,7 +3,7 @@ ghost use Rattle.std.specs.Prelude.{◌≡◌, true, None};
 ghost use Rattle.calls_on_blocks.specs.Theory as calls;
 ghost use Rattle.calls_on_blocks.specs.Theory.{child_of};
 ghost use Rattle.inode_machine.specs.Theory.{are_bytes};
-ghost use Rattle.hart_core.specs.Starts.{fault_of, refusal_for, path_fault, part_fault, PathsAreBytes};
+ghost use Rattle.hart_core.specs.Starts.{fault_of, refusal_for, path_fault, part_fault, IsOfBytes};
 
 use plain_tree::{Bytes, Call};
 
@@ -39,7 +39,7 @@ pub enum StartRefused {
 /// written. It takes no memory.
 pub fn find_fault(call: &Call) -> Option<StartRefused>
     ensures fault { result ≡ fault_of call.now }
-    ensures bytes { result ≡ None → PathsAreBytes call.now }
+    ensures bytes { result ≡ None → IsOfBytes call.now }
 {
     match call {
         Call::Open { path, flags: _ } => find_path_fault(path),
@@ -61,6 +61,7 @@ pub fn find_fault(call: &Call) -> Option<StartRefused>
 
 // Whether this call is there.
 fn is_served(call: &Call) -> bool
+    requires bytes { IsOfBytes call.now }
     ensures { result ≡ calls.is_served call.now }
 {
     match call {
@@ -69,7 +70,7 @@ fn is_served(call: &Call) -> bool
         Call::Close { fd: _ } => true,
         Call::Read { fd: _, buf: _ } => true,
         Call::Open { path: _, flags } => flags & CREATE == 0,
-        Call::Write { fd: _, bytes: _ } => false,
+        Call::Write { fd: _, bytes: _ } => true,
         Call::Link { old: _, new: _ } => true,
         Call::Unlink { path: _ } => true,
         Call::Mkdir { path: _ } => false,
@@ -91,7 +92,7 @@ pub(crate) fn find_child(call: &Call) -> Option<u8>
 /// Why a call isn't started, whichever hart makes it: its first fault, and last that it isn't there yet.
 pub(crate) fn find_refusal(call: &Call) -> Option<StartRefused>
     ensures refusal { result ≡ refusal_for call.now }
-    ensures bytes { fault_of call.now ≡ None → PathsAreBytes call.now }
+    ensures bytes { fault_of call.now ≡ None → IsOfBytes call.now }
 {
     match find_fault(call) {
         Some(why) => Some(why),
@@ -126,9 +127,17 @@ fn find_fault_in(path: &[u8]) -> Option<StartRefused>
 }
 
 fn find_part_fault(bytes: &Bytes) -> Option<StartRefused>
-    ensures { result ≡ part_fault bytes.now }
+    ensures fault { result ≡ part_fault bytes.now }
+    ensures bytes { are_bytes bytes.now ≡ true }
 {
-    if bytes.as_slice().len() > LONGEST_PART {
+    find_length_fault(bytes.as_slice())
+}
+
+fn find_length_fault(part: &[u8]) -> Option<StartRefused>
+    ensures fault { result ≡ part_fault part.now }
+    ensures bytes { are_bytes part.now ≡ true }
+{
+    if part.len() > LONGEST_PART {
         Some(StartRefused::TooLong)
     } else {
         None

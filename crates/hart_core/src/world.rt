@@ -11,7 +11,7 @@ ghost use Rattle.fs_layout.specs.Recovered.{sizes_of};
 ghost use Rattle.image_tree.specs.Damage.{IsWellFormed};
 ghost use Rattle.hart_core.specs.Harts.{outcome_of, said, shared_of};
 ghost use Rattle.hart_core.specs.Mounting.{HandsBack, Rests};
-ghost use Rattle.hart_core.specs.Starts.{child_refusal, fault_of, others_refusal, refusal_of, start_outcome, PathsAreBytes};
+ghost use Rattle.hart_core.specs.Starts.{child_refusal, fault_of, others_refusal, refusal_of, start_outcome, IsOfBytes};
 ghost use Rattle.hart_core.specs.Worlds.{Makes, Answers};
 
 use crate::harts::Harts;
@@ -25,7 +25,7 @@ use image_tree::MountFault;
 use plain_tree::Call;
 use std::alloc::Global;
 use std::marker::Model;
-use syscalls::{Chdir, Close, Dup, Fstat, Inherit, Link, OpenOld, Read, Running, Unlink};
+use syscalls::{Chdir, Close, Dup, Fstat, Inherit, Link, OpenOld, Read, Running, Unlink, Write};
 
 /// A mounted file system, with the calls that eight harts have under way. A contract sees its harts and the sizes of its disk.
 ///
@@ -64,6 +64,7 @@ fn running(sizes: &Super, call: Call) -> Running
         Call::Close { fd } => Running::Close(Close::new(sizes, fd)),
         Call::Read { fd, buf } => Running::Read(Read::new(sizes.inodestart, fd, buf)),
         Call::Inherit { child } => Running::Inherit(Inherit::new(sizes, child)),
+        Call::Write { fd, bytes } => Running::Write(Write::new(sizes, fd, bytes)),
         _ => unreachable!(),
     }
 }
@@ -115,7 +116,7 @@ impl<D: Device> World<D> {
     fn find_start_refusal(&self, hart: u8, call: &Call) -> Option<StartRefused>
         ensures refusal { result ≡ refusal_of self.now.harts hart call.now }
         ensures eight { length self.now.harts.calls ≡ HARTS }
-        ensures bytes { fault_of call.now ≡ None → PathsAreBytes call.now }
+        ensures bytes { fault_of call.now ≡ None → IsOfBytes call.now }
     {
         let busy = self.harts.is_busy(hart);
         let reserved = self.harts.is_reserved(hart);

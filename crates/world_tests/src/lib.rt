@@ -10,3 +10,5 @@ mod inherits;
 mod opens;
 #[cfg(test)]
 mod unlinks;
+#[cfg(test)]
+mod writes;

@@ -1,4 +1,4 @@
-use Rattle.std.proofs.Common.{◌≡◌, true, None, sym, ◌∙◌, ap}
+use Rattle.std.proofs.Common.{◌≡◌, true, None, sym, ◌∙◌, ap, arith}
 use Rattle.plain_tree.specs.declared.call.Call.{Call}
 use Rattle.atomic_programs.specs.Prog.{plain}
 use Rattle.syscalls.specs.Machines.{running_of}
@@ -6,7 +6,7 @@ use Rattle.calls_on_blocks.specs.Theory.{block_calls, is_served}
 use Rattle.calls_on_blocks.proofs.Bridges.{programs_are_lowered}
 use Rattle.calls_on_blocks.proofs.Lawful.{opens_old}
 use Rattle.hart_core.specs.Starts.{fault_of}
-use Rattle.hart_core.proofs.Refusals.{right_path, right_paths}
+use Rattle.hart_core.proofs.Refusals.{right_part, right_path, right_paths}
 use Rattle.hart_core.proofs.world.running.Goals as goal
 
 pub new-requires-clause-short : goal.new-requires-clause-short
@@ -87,3 +87,12 @@ unfolding running_of
 returns-in-Inherit-clause-program c =
     c.new-in-Inherit.ensures.program ∙ sym ((programs_are_lowered c.args.sizes.now).inherit c.in-Inherit.child)
     ∙ ap (λ (call : Call). plain ((block_calls c.args.sizes.now).program call)) (sym c.in-Inherit.is)
+
+pub new-requires-in-Write-clause-short : goal.new-requires-in-Write-clause-short
+new-requires-in-Write-clause-short c = let few = right_part c.in-Write.bytes (sym (ap fault_of c.in-Write.is) ∙ c.requires.faultless) in omega (arith, few)
+
+pub returns-in-Write-clause-program : goal.returns-in-Write-clause-program
+unfolding running_of
+returns-in-Write-clause-program c =
+    c.new-in-Write.ensures.program ∙ sym ((programs_are_lowered c.args.sizes.now).write c.in-Write.fd c.in-Write.bytes)
+    ∙ ap (λ (call : Call). plain ((block_calls c.args.sizes.now).program call)) (sym c.in-Write.is)
