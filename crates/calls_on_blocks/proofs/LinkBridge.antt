@@ -93,10 +93,10 @@ module _ (sizes : Super) (old new : List ℕ) where
         plain_enter sizes d e n c above.enters then_
         ∙ (λ i. bind (code_enter sizes d (unwrap_or (has i) no_record) n e) (λ r. plain (then_ (handed sizes c d r))))
         ∙ entered_same sizes d v n e (λ r. plain (then_ (handed sizes c d r))) (syscalls.name_entered sizes old new n d ns)
-          (λ w. give_up_same sizes (put c d (Has w NothingMore)) d w (parts.drop n (parts.tail ns (parts.done (calls.Link old new)))) (syscalls.leave_file sizes old new n ns None) (ap record_had (put_same c d (Has w NothingMore)))
-            (plain_drop sizes n (parts.tail ns (parts.done (calls.Link old new))) (tail sizes ns (syscalls.link_reply old new answers.Done)) (λ c. tail_same sizes c ns (syscalls.link_reply old new answers.Done))))
-          (λ w. refused_same (put c d (Has w NothingMore)) d w ns (answers.Full fulls.Blocks) (ap record_had (put_same c d (Has w NothingMore))))
-          (refused_same c d v ns (answers.Full fulls.Directory) has)
+        (λ w. give_up_same sizes (put c d (Has w NothingMore)) d w (parts.drop n (parts.tail ns (parts.done (calls.Link old new)))) (syscalls.leave_file sizes old new n ns None) (ap record_had (put_same c d (Has w NothingMore)))
+        (plain_drop sizes n (parts.tail ns (parts.done (calls.Link old new))) (tail sizes ns (syscalls.link_reply old new answers.Done)) (λ c. tail_same sizes c ns (syscalls.link_reply old new answers.Done))))
+        (λ w. refused_same (put c d (Has w NothingMore)) d w ns (answers.Full fulls.Blocks) (ap record_had (put_same c d (Has w NothingMore))))
+        (refused_same c d v ns (answers.Full fulls.Directory) has)
       where
         then_ : Handed world.Entered Carry → P Reply
         then_ r = lowered machine (layer sizes) (handlers sizes) r.carry (above.named_on old new n d ns r.answer)
@@ -162,7 +162,7 @@ module _ (sizes : Super) (old new : List ℕ) where
         named c =
             parent_same sizes lost after_name lost_same (above.link_in old new n) in_same (actions.Enter new) c new ns e es is
             ∙ sym (bind-assoc (reach goals.Parent sizes.inodestart new ns) (seek_on dots.LookedUp) (syscalls.name_seen sizes old new n)
-              ∙ bind-assoc (walk_path goals.Parent sizes.inodestart new ns) (reach_on sizes.inodestart) after_seek)
+            ∙ bind-assoc (walk_path goals.Parent sizes.inodestart new ns) (reach_on sizes.inodestart) after_seek)
 
     -- ---- the count
 

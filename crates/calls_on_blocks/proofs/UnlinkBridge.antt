@@ -216,7 +216,7 @@ module _ (sizes : Super) (path : List ℕ) where
             stores =
                 after_plain (fetch b) (fetch b) (naming.put_named (Clear d e) world.Room m (tt {0}) b d u c) then_ after_put (plain_fetch b) recorded
                 ∙ sym (bind-assoc (store_inode sizes.inodestart d (with_slot s v)) (λ _. Ret (with_slot s v)) (syscalls.name_cleared (syscalls.unlinked sizes path ns) d (loaded n w))
-                  ∙ bind-assoc (fetch b) (put_inode b d (with_slot s v)) (λ _. rest))
+                ∙ bind-assoc (fetch b) (put_inode b d (with_slot s v)) (λ _. rest))
 
         clear_same : left_below sizes c (Do (Clear d e) m (λ _. lowers)) ≡ bind (put_entry sizes.inodestart d v s Free) (syscalls.name_cleared (syscalls.unlinked sizes path ns) d (loaded n w))
         clear_same =
@@ -313,7 +313,7 @@ module _ (sizes : Super) (path : List ℕ) where
               ≡ bind (if b then (if same_name e dot || same_name e dotdot then Ret (Dotted (loaded d v) ns) else bind (search (Named e) v) (seen_with (loaded d v) e ns)) else Ret (Dead (loaded d v) ns)) (syscalls.unlink_seen sizes path)
           by true =
               sym (ap (λ (t : Bool). bind (if t then Ret (Dotted (loaded d v) ns) else bind (search (Named e) v) (seen_with (loaded d v) e ns)) (syscalls.unlink_seen sizes path)) is
-                ∙ bind-assoc (search (Named e) v) (seen_with (loaded d v) e ns) (syscalls.unlink_seen sizes path))
+              ∙ bind-assoc (search (Named e) v) (seen_with (loaded d v) e ns) (syscalls.unlink_seen sizes path))
           by false = refl
 
   in_same : (c : Carry) (d : ℕ) (e : Name) (ns : List ℕ) → left_below sizes c (above.unlink_in path d e ns) ≡ after_walk (Reaches d (e ∷ []) ns)
@@ -337,7 +337,7 @@ module _ (sizes : Super) (path : List ℕ) where
       λ i. Do steps.Join unmarked (λ _.
       (parent_same sizes (λ why ns. parts.tail ns (parts.stopped (calls.Unlink path) why)) after_walk lost_same (above.unlink_in path) in_same (actions.Unlink path) nothing path [] e es is
       ∙ sym (bind-assoc (reach goals.Parent sizes.inodestart path []) (seek_on dots.Apart) (syscalls.unlink_seen sizes path)
-        ∙ bind-assoc (walk_path goals.Parent sizes.inodestart path []) (reach_on sizes.inodestart) after_seek)) i)
+      ∙ bind-assoc (walk_path goals.Parent sizes.inodestart path []) (reach_on sizes.inodestart) after_seek)) i)
 
   pub unlinks : left_below sizes nothing (above.unlink_program path) ≡ syscalls.unlink_program sizes path
   unlinks = joined_same (elements path) refl

@@ -57,7 +57,10 @@ fn a_child_shares_offsets(rt: HostRuntime) -> Result<(), Fail> {
         open(&rt, rt.alloc(), &mut world, 0, b"/", 0),
         Answer::Fd(0)
     );
-    assert_eq!(rt; answer(&rt, &mut world, 0, Call::Dup { fd: 0 }), Answer::Fd(1));
+    assert_eq!(rt;
+        answer(&rt, &mut world, 0, Call::Dup { fd: 0 }),
+        Answer::Fd(1)
+    );
     assert_eq!(rt; chdir(&rt, rt.alloc(), &mut world, 0, b"/d"), Answer::Done);
     assert_eq!(rt;
         answer(&rt, &mut world, 0, Call::Inherit { child: 1 }),
@@ -66,7 +69,10 @@ fn a_child_shares_offsets(rt: HostRuntime) -> Result<(), Fail> {
     assert!(rt; reads(&rt, rt.alloc(), &mut world, 0, b"\x01\0."));
     assert!(rt; reads(&rt, rt.alloc(), &mut world, 1, b"\x01\0.."));
     assert!(rt; reads(&rt, rt.alloc(), &mut world, 0, b"\x02\0d"));
-    assert_eq!(rt; answer(&rt, &mut world, 1, Call::Dup { fd: 1 }), Answer::Fd(2));
+    assert_eq!(rt;
+        answer(&rt, &mut world, 1, Call::Dup { fd: 1 }),
+        Answer::Fd(2)
+    );
     assert_eq!(rt;
         open(&rt, rt.alloc(), &mut world, 1, b"e/f", 0),
         Answer::Fd(3)
@@ -110,7 +116,10 @@ fn a_child_starts_nothing(rt: HostRuntime) {
         }
     }
     assert!(rt; done);
-    assert_eq!(rt; answer(&rt, &mut world, 1, Call::Dup { fd: 0 }), Answer::Fd(1));
+    assert_eq!(rt;
+        answer(&rt, &mut world, 1, Call::Dup { fd: 0 }),
+        Answer::Fd(1)
+    );
     assert_eq!(rt;
         answer(&rt, &mut world, 0, Call::Inherit { child: 2 }),
         Answer::Done
