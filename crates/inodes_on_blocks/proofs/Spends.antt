@@ -12,8 +12,10 @@ use Rattle.atomic_programs.specs.Prog.{Ret, Do, bind}
 use Rattle.atomic_programs.specs.Joined.{Handed}
 use Rattle.fs_tables.specs.Inodes.{LockedState, Refuses, Locks}
 use Rattle.fs_machine.specs.LogPart.{LogPart}
+use Rattle.fs_machine.specs.Steps.{Claimed, Claims, NoPlace, NoInode}
 use Rattle.fs_machine.specs.Programs.{fetch, read_unless, commit_unless, commits, most_writes, after_leave}
 use Rattle.bitmap_alloc.specs.Programs.{free_block, clear_bit}
+use Rattle.inode_table.specs.NewInodes.{inode_blocks}
 use Rattle.inode_table.specs.Programs.{give_back, inode_block, load_unless, put_inode, store as store_inode}
 use Rattle.inode_data.specs.Addresses.{address, table_of}
 use Rattle.inode_data.specs.Freeing.{free_numbers, free_table, free_in_table, free_indirect, freed, without_content}
@@ -24,7 +26,7 @@ use Rattle.inode_data.specs.declared.addresses.Address.TheVariants.{Direct, InTa
 use Rattle.directory.specs.Programs.{Aim, Entry, Named, block_count, found_in, is_directory, is_live_directory, look_at, lookup, or_next, search, search_from, with_slot}
 use Rattle.directory.specs.declared.found.Found.{Found}
 use Rattle.inode_machine.specs.Budget.{Spent, unspent, with_bitmap, with_contents, with_record}
-use Rattle.inode_machine.specs.Inodes.{Looking, AtNothing, AtName, AtEntries}
+use Rattle.inode_machine.specs.Inodes.{Looking, AtNothing, AtName, AtEntries, Sort}
 use Rattle.inode_machine.specs.World as above
 use Rattle.inodes_on_blocks.specs.Accounts.{used, Accounts, IsSpent}
 use Rattle.inodes_on_blocks.specs.Handlers.{P}
@@ -32,6 +34,8 @@ use Rattle.inodes_on_blocks.specs.Lowering.{Carry, Had, Apart, Has, Emptied, Not
 use Rattle.inodes_on_blocks.specs.Emptying.{give_content}
 use Rattle.inodes_on_blocks.specs.Files.{file_locked, give_read, with_file}
 use Rattle.inodes_on_blocks.specs.Reading.{learned, looked, number_found, search_entries, seen_record, stat_loaded, stat_locked}
+use Rattle.inodes_on_tables.specs.Shown.{kind_of}
+use Rattle.inodes_on_blocks.specs.Making.{claim_at, claim_from, claim_in}
 use Rattle.inodes_on_blocks.specs.Naming.{clear, clear_in, clear_slot, put_named, slot_found, slot_of}
 use Rattle.inodes_on_blocks.specs.Storing.{put_record, record_in}
 use Rattle.inodes_on_blocks.specs.Spending.{NoMore, Records, ProgramsSpend}
@@ -52,6 +56,9 @@ record_no_more n s = by_accounts s (with_record n s) (λ h l known. (transaction
 
 pub bitmap_no_more : (s : Spent) → NoMore s (with_bitmap s)
 bitmap_no_more s = by_accounts s (with_bitmap s) (λ h l known. (transactions_have_room h l).bitmap_more s known)
+
+one_more : (s : Spent) → NoMore s (with_contents 1 s)
+one_more s l = omega arith
 
 -- ---- programs
 
@@ -190,6 +197,20 @@ module _ (sizes : Super) where
     stores_inode n d is =
         records_bind (fetch (inode_block sizes.inodestart n)) (put_inode (inode_block sizes.inodestart n) n d) s s s (no_fetch s (inode_block sizes.inodestart n)) (λ bytes. (s, same s, λ a. (s, inl (is, refl), same s)))
 
+  -- a block looked through, and the record of a new inode in it, whose number isn't known before: a block more
+  claimed_more : (s : Spent) (sort : Sort) (c : Carry) (b : ℕ) (bytes : List ℕ) (more : P (Handed above.Claimed Carry)) (a : Claimed) → Records sizes s more (with_contents 1 s) → Records sizes s (claim_in more (kind_of sort) b bytes c a) (with_contents 1 s)
+  claimed_more s sort c b bytes more (Claims i) rec = (s, same s, λ _. (with_contents 1 s, inr refl, same (with_contents 1 s)))
+  claimed_more s sort c b bytes more NoPlace rec = (s, same s, λ _. (s, refl, one_more s))
+  claimed_more s sort c b bytes more NoInode rec = rec
+
+  claims : (s : Spent) (sort : Sort) (c : Carry) (m : above.Claimed → Option above.Mark) (n q : ℕ) → Records sizes s (claim_from n sizes sort c m q) (with_contents 1 s)
+  unfolding claim_from
+  claims s sort c m zero q = one_more s
+  claims s sort c m (suc n) q =
+      let more : P (Handed above.Claimed Carry) = claim_from n sizes sort c m (q + 1) in
+      let b : ℕ = sizes.inodestart + q in
+      records_bind (fetch b) (claim_at more sizes sort c m n q b) s s (with_contents 1 s) (no_fetch s b) (λ bytes. (s, same s, λ a. (s, refl, claimed_more s sort c b bytes more a (claims s sort c m n (q + 1)))))
+
   emptied : (n : ℕ) (s : Spent) → NoMore s (with_record n (with_bitmap s))
   emptied n s l = let x = bitmap_no_more s l in let y = record_no_more n (with_bitmap s) l in omega (arith, x, y)
 
@@ -211,6 +232,7 @@ module _ (sizes : Super) where
         records_from (give_content sizes (record_in c n) (bind (store_inode sizes.inodestart n d) (λ _. last))) s r r (emptied n s)
         (gives_content r (inr (refl, refl)) (record_in c n) (bind (store_inode sizes.inodestart n d) (λ _. last)) r
         (records_bind (store_inode sizes.inodestart n d) (λ _. last) r r r (stores_inode r n d is) (λ a. puts_record r (above.Free n) m (tt {0}) n (freed d) Emptied c is)));
+    claim = λ sort c m s. claims s sort c m (inode_blocks sizes.ninodes) 0;
     clear = λ n e c m s.
         let r : Spent = with_record n (with_contents 1 s) in
         let t : Spent = with_record n s in

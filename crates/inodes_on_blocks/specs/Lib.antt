@@ -23,3 +23,4 @@ pub mod Spending
 pub mod QuietWorlds
 pub mod Taking
 pub mod Entering
+pub mod Making

@@ -12,7 +12,7 @@ use Rattle.fs_machine.specs.LogPart.{LogPart}
 use Rattle.fs_machine.specs.Steps as steps
 use Rattle.inode_machine.specs.Inodes.{Looking, Sort}
 use Rattle.inode_machine.specs.World as above
-use Rattle.inode_machine.specs.World.Op.{Take, Give, UpStart, Up, WalkDown, Down, Forget, Free, Store, Clear, Empty, Slot, Install, StatFile, LockFile, ReadFile, LockOpen, CheckFile, JoinFile, Double, Shut, Settle, Lend, LendDirectory, Release, Join, Leave, Say}
+use Rattle.inode_machine.specs.World.Op.{Take, Give, UpStart, Up, WalkDown, Down, Forget, Free, Claim, Store, Clear, Empty, Slot, Install, StatFile, LockFile, ReadFile, LockOpen, CheckFile, JoinFile, Double, Shut, Settle, Lend, LendDirectory, Release, Join, Leave, Say}
 use Rattle.inode_machine.specs.Rules.{more}
 use Rattle.inode_machine.specs.Budget.{Spent, unspent, size, spent_after, most_recorded, with_contents}
 use Rattle.inodes_on_blocks.specs.Below.{World, log_of}
@@ -20,6 +20,7 @@ use Rattle.inodes_on_blocks.specs.Lowering.{Carry, Stands, below, Labels, labell
 use Rattle.inodes_on_blocks.specs.Handlers.{P, Handler, give, settle, up_start, up, walk_down, down, forget, slot, install, double, close, check_file, lend, lend_directory, release, join, join_file, leave, say}
 use Rattle.inodes_on_blocks.specs.Reading.{stat_file, take}
 use Rattle.inodes_on_blocks.specs.Files.{lock_file, lock_open, read_file}
+use Rattle.inodes_on_blocks.specs.Making.{claim}
 use Rattle.inodes_on_blocks.specs.Naming.{clear}
 use Rattle.inodes_on_blocks.specs.Storing.{store}
 use Rattle.inodes_on_blocks.specs.Emptying.{empty, free}
@@ -63,6 +64,7 @@ pub record ProgramsSpend (sizes : Super) : Type 0 where
   pub down : (n : ℕ) → Spends sizes (Down n) (down n)
   pub forget : (n : ℕ) → Spends sizes (Forget n) (forget n)
   pub free : (n : ℕ) → Spends sizes (Free n) (free sizes n)
+  pub claim : (sort : Sort) → Spends sizes (Claim sort) (claim sizes sort)
   pub clear : (n : ℕ) (e : Name) → Spends sizes (Clear n e) (clear sizes n e)
   pub store : (n count : ℕ) → Spends sizes (Store n count) (store sizes n count)
   pub empty : (n : ℕ) → Spends sizes (Empty n) (empty sizes n)

@@ -1,0 +1,55 @@
+-- The program below of the operation that takes a new inode. On a disk of these sizes; c: what the hart has of the inodes whose locks it has.
+use Rattle.std.specs.Prelude.{ℕ, zero, suc, ◌+◌, ℤ, List, Option, Some, None}
+use Rattle.fs_layout.specs.declared.superblock.Super.{Super}
+use Rattle.fs_layout.specs.Inode.{dinode_at}
+use Rattle.atomic_programs.specs.Prog.{Ret, Do, bind, unmarked}
+use Rattle.atomic_programs.specs.Joined.{Handed}
+use Rattle.fs_machine.specs.Steps as steps
+use Rattle.fs_machine.specs.Programs.{fetch}
+use Rattle.inode_table.specs.NewInodes.{free_in, inode_blocks, new_record}
+use Rattle.inode_table.specs.Programs.{place_of, with_dinode}
+use Rattle.inode_machine.specs.Inodes.{Sort, OfDirectory, OfFile, OfDevice}
+use Rattle.inode_machine.specs.World as above
+use Rattle.inode_machine.specs.World.Op.{Claim}
+use Rattle.inodes_on_tables.specs.Shown.{kind_of}
+use Rattle.inodes_on_blocks.specs.Handlers.{Acts, P, Handler, acts}
+use Rattle.inodes_on_blocks.specs.Lowering.{Carry}
+
+-- The types that are made. A device isn't: a new record keeps the device numbers that the block had.
+abbrev pub IsMade : Sort → Type 0
+IsMade OfDirectory = Unit {0}
+IsMade OfFile = Unit {0}
+IsMade (OfDevice major) = ⊥
+
+-- the answer, with what the hart had
+abbrev pub answers : above.Claimed → Carry → P (Handed above.Claimed Carry)
+answers a c = Ret (record { answer = a; carry = c })
+
+-- where so many blocks are still to be looked through, that this one has no free inode decides nothing
+abbrev pub if_last : ℕ → Option Acts → Option Acts
+if_last zero mark = mark
+if_last (suc n) mark = None
+
+-- It acts as a block is looked through: where a free inode is picked, where one has no place, and in the last block where there is none.
+abbrev pub claim_mark : (sort : Sort) → (above.Claimed → Option above.Mark) → ℕ → steps.Claimed → Option Acts
+claim_mark sort m n (steps.Claims i) = acts (Claim sort) (above.Picks i) m
+claim_mark sort m n steps.NoPlace = acts (Claim sort) (above.RoomFor 0) m
+claim_mark sort m n steps.NoInode = if_last n (acts (Claim sort) above.Room m)
+
+-- The inode's record goes into the block with its type; or the block is given back as it was; or it was given back, and it goes on.
+abbrev pub claim_in : P (Handed above.Claimed Carry) → ℤ → (b : ℕ) → List ℕ → Carry → steps.Claimed → P (Handed above.Claimed Carry)
+claim_in more kind b block c (steps.Claims i) = Do (steps.Put b (Some (with_dinode i (new_record kind (dinode_at (place_of i) block)) block))) unmarked (λ _. answers (above.New i) c)
+claim_in more kind b block c steps.NoPlace = Do (steps.Put b None) unmarked (λ _. answers above.NoPlace c)
+claim_in more kind b block c steps.NoInode = more
+
+-- block b, of which q stand before it, and so many behind it
+abbrev pub claim_at : P (Handed above.Claimed Carry) → (sizes : Super) (sort : Sort) → Carry → (above.Claimed → Option above.Mark) → (n q b : ℕ) → List ℕ → P (Handed above.Claimed Carry)
+claim_at more sizes sort c m n q b block = Do (steps.Claim b (free_in sizes.ninodes q block)) (claim_mark sort m n) (claim_in more (kind_of sort) b block c)
+
+unfoldable pub claim_from : ℕ → (sizes : Super) (sort : Sort) → Carry → (above.Claimed → Option above.Mark) → (q : ℕ) → P (Handed above.Claimed Carry)
+claim_from zero sizes sort c m q = answers above.NoInode c
+claim_from (suc n) sizes sort c m q = bind (fetch (sizes.inodestart + q)) (claim_at (claim_from n sizes sort c m (q + 1)) sizes sort c m n q (sizes.inodestart + q))
+
+-- The table's blocks are looked through, rising: the first free inode without a reference is referred to, and its record put with the type alone.
+abbrev pub claim : (sizes : Super) (sort : Sort) → Handler (Claim sort)
+claim sizes sort c m = claim_from (inode_blocks sizes.ninodes) sizes sort c m 0
