@@ -45,7 +45,7 @@ use Rattle.inodes_on_blocks.proofs.BitmapPuts.{marks_are_bits}
 use Rattle.inodes_on_blocks.proofs.Changing.{owner_with, Changing, left_but, changing_then, others_put}
 use Rattle.inodes_on_blocks.proofs.DataPuts.{data_home}
 use Rattle.inodes_on_blocks.proofs.Fetching.{s-fetch, s-back}
-use Rattle.inodes_on_blocks.proofs.Layer.{below_laws, held_back}
+use Rattle.inodes_on_blocks.proofs.Layer.{below_laws, held_back, through_put}
 use Rattle.inodes_on_blocks.proofs.OwnPuts.{IsOwnPut, s-own}
 use Rattle.inodes_on_blocks.proofs.PutSteps.{bitmap_home}
 use Rattle.inodes_on_blocks.proofs.SlotPuts.{zero_bytes}
@@ -114,6 +114,7 @@ zero_then h n b old c o d x r g shows is made =
         lock = is.lock;
         keeps = is.keeps;
         was = is.was;
+        through = through_put h r then_ (log_of then_) refl refl is.through;
         lent = is.lent;
         laid = subst (λ (f : ℕ → ℕ). IsLaidOut (disk_of (log_of then_)) f n d x) (sym made.owners) becomes.laid;
         spare = subst (λ (f : ℕ → ℕ). IsSpare (disk_of (log_of then_)) f n d b) (sym made.owners) (becomes.spare b is.spare);

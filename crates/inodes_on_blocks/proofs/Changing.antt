@@ -19,11 +19,11 @@ use Rattle.inode_machine.specs.Rules.{if_kept, is_hart, Idle}
 use Rattle.inodes_on_blocks.specs.Below.{World, log_of, tables_of, disk_of, inode_in, owners_of}
 use Rattle.inodes_on_blocks.specs.Giving.{world_with}
 use Rattle.inodes_on_blocks.specs.Holding.{SameBut}
-use Rattle.inodes_on_blocks.specs.Lowering.{KeepsInode, Kept, Same, Carry, IsLoaded, InHand, Base}
+use Rattle.inodes_on_blocks.specs.Lowering.{KeepsInode, Kept, undertaken, IsThrough, Same, Carry, IsLoaded, InHand, Base}
 use Rattle.inodes_on_blocks.specs.Recording.{PutLeaves, log_with, owners_with}
 use Rattle.inodes_on_blocks.specs.Shown.{Shows}
 use Rattle.inodes_on_blocks.proofs.ContentBlocks.{data_place}
-use Rattle.inodes_on_blocks.proofs.Layer.{held_back, kept_disk, hand_then, lent_then}
+use Rattle.inodes_on_blocks.proofs.Layer.{hart_is, is_here, held_back, kept_disk, hand_then, lent_then, through_then, through_put}
 use Rattle.inodes_on_blocks.proofs.Loading.{block_shown}
 use Rattle.inodes_on_blocks.proofs.PutLaws.{behind}
 use Rattle.inodes_on_blocks.proofs.Putting.{lock_range}
@@ -40,12 +40,13 @@ pub record LeftTo (h : ℕ) (v w : World) : Type 0 where
   pub no_more : (i : ℕ) → lock_holder i (tables_of w) ≡ Some h → lock_holder i (tables_of v) ≡ Some h
   pub taken : (b : ℕ) → if_kept (w.taken b) h (seen_of (log_of w) b) ≡ if_kept (v.taken b) h (seen_of (log_of v) b)
   pub sizes : (log_of w).sizes ≡ (log_of v).sizes
+  pub begun : undertaken h w ≡ undertaken h v
 
 pub left_same : (h : ℕ) (v w : World) → Same h v w → LeftTo h v w
-left_same h v w s = record { inodes = s.inodes; no_more = s.no_more; taken = s.taken; sizes = s.sizes }
+left_same h v w s = record { inodes = s.inodes; no_more = s.no_more; taken = s.taken; sizes = s.sizes; begun = s.begun }
 
 pub left_but : (h b : ℕ) (v w : World) → SameBut h b v w → LeftTo h v w
-left_but h b v w s = record { inodes = s.inodes; no_more = s.no_more; taken = s.taken; sizes = s.sizes }
+left_but h b v w s = record { inodes = s.inodes; no_more = s.no_more; taken = s.taken; sizes = s.sizes; begun = s.begun }
 
 -- ---- it lasts
 
@@ -56,13 +57,6 @@ is_taken {A} (Some g) h x = by (g == h)
     by : (b : Bool) → is_some {T = A} (if b then Some x else None) ≡ b
     by true = refl
     by false = refl
-
-pub hart_is : (o : Option ℕ) (h : ℕ) → is_hart o h ≡ true → o ≡ Some h
-hart_is None h e = absurd (let z : false ≡ true = e in cc)
-hart_is (Some g) h e = ap (λ (z : ℕ). Some z) (eq_is g h e)
-
-pub is_here : (o : Option ℕ) (h : ℕ) → o ≡ Some h → is_hart o h ≡ true
-is_here o h e = ap (λ (z : Option ℕ). is_hart z h) e ∙ eq_self h
 
 module _ (h n : ℕ) (v w : World) (g u : above.World) (shows : Shows v g) (shows_then : Shows w u) (left : LeftTo h v w) (keeps : KeepsInode h n v w) where
   abbrev was : List (List ℕ)
@@ -107,6 +101,7 @@ pub record Changing (h n : ℕ) (c : Carry) (o : Option Node) (d : Dinode) (x : 
   pub lock : lock_holder n (tables_of r) ≡ Some h
   pub keeps : g.keeper n ≡ Some h
   pub was : g.disk n ≡ o
+  pub through : IsThrough h r
   pub lent : ((g.desks h).lender ≡ None → ⊥) → Idle h g
   pub laid : IsLaidOut (disk_of (log_of r)) (owner_with h n r) n d x
   pub named : NamesOwned (disk_of (log_of r)) (owner_with h n r) n (numbers_of (disk_of (log_of r)) d)
@@ -118,7 +113,7 @@ changing_start h n c x r g base mine is =
     let own : owner_with h n r ≡ r.owner = (λ z k. none_own k z) in
     let laid = laid_before (disk_of (log_of r)) (owner_with h n r) n x
     (subst (λ (f : ℕ → ℕ). HoldsAt (disk_of (log_of r)) f n (Some x)) (sym own) (subst (λ (v : Option Node). HoldsAt (disk_of (log_of r)) r.owner n v) is hand.holds)) in
-    record { others = λ i ne e. base.inodes i e; lock = mine; keeps = hand.keeps; was = is; lent = base.lent; laid = laid.0; named = laid.1 }
+    record { others = λ i ne e. base.inodes i e; lock = mine; keeps = hand.keeps; was = is; through = base.through; lent = base.lent; laid = laid.0; named = laid.1 }
   where
     none_own : (k : ℕ) → owner_with h n r k ≡ r.owner k
     none_own k = elim (either (is_hart (r.taken k) h)) [
@@ -137,6 +132,7 @@ changing_then h n c o d x v w g u shows shows_then left kept is =
       lock = stays.lock;
       keeps = (kept_disk h n g u kept is.lent is.keeps).0;
       was = (kept_disk h n g u kept is.lent is.keeps).1 ∙ is.was;
+      through = through_then h v w left.begun is.through;
       lent = lent_then h g u kept is.lent;
       laid = becomes.laid;
       named = subst (NamesOwned (disk_of (log_of w)) (owner_with h n w) n) (sym becomes.numbers) (becomes.named (numbers_of (disk_of (log_of v)) d) is.named);
@@ -176,7 +172,7 @@ module _ (h n b : ℕ) (bytes : List ℕ) (r : World) (g : above.World) (shows :
   -- where it is laid out for another node then
   pub changed_put : (c : Carry) (o : Option Node) (d e : Dinode) (x y : Node) → Changing h n c o d x r g → IsLaidOut (disk_of (log_of then_)) (owner_with h n then_) n e y → NamesOwned (disk_of (log_of then_)) (owner_with h n then_) n (numbers_of (disk_of (log_of then_)) e)
       → Changing h n c o e y then_ g
-  changed_put c o d e x y is laid named = record { others = others_put c is.others; lock = is.lock; keeps = is.keeps; was = is.was; lent = is.lent; laid = laid; named = named }
+  changed_put c o d e x y is laid named = record { others = others_put c is.others; lock = is.lock; keeps = is.keeps; was = is.was; through = through_put h r then_ (log_of then_) refl refl is.through; lent = is.lent; laid = laid; named = named }
 
 -- whose the blocks are doesn't change where a block behind the bitmap is put
 pub data_owners : (h b : ℕ) (bytes : List ℕ) (r : World) → (log_of r).sizes.bmapstart < b → owners_with h b bytes r ≡ owners_of r

@@ -22,13 +22,14 @@ use Rattle.fs_machine.specs.Own.{Own, own_of, mine_of}
 use Rattle.fs_machine.specs.Shown.{seen_of}
 use Rattle.fs_machine.specs.Whole.{IsWholeLog}
 use Rattle.inode_machine.specs.World as above
-use Rattle.inode_machine.specs.Rules.{if_kept}
+use Rattle.inode_machine.specs.Rules.{if_kept, is_hart}
 use Rattle.inodes_on_blocks.specs.OnBlocks.{is_joined}
 use Rattle.inodes_on_blocks.specs.Below.{World, log_of, disk_of}
-use Rattle.inodes_on_blocks.specs.Shown.{Shows, CommitShows, ghost_of}
+use Rattle.inodes_on_blocks.specs.Shown.{Shows, CommitShows, ghost_of, on_blocks}
 use Rattle.inodes_on_blocks.specs.Lowering.{Same, commit_in, buffer_in}
 use Rattle.inodes_on_blocks.proofs.Groups.{has_members}
 use Rattle.inodes_on_blocks.proofs.Layer.{kept_alike}
+use Rattle.inodes_on_blocks.proofs.News.{new_alike}
 use Rattle.inodes_on_blocks.proofs.Quiet.{unseen_keeps}
 
 -- ---- who commits
@@ -130,10 +131,11 @@ module _ (h : ℕ) (v : World) (g : above.World) (shows : Shows v g) (contents :
     size = shows.size;
     tables = shows.tables;
     members = shows.members;
-    blocks = unseen_keeps l.contents l.seats l.sizes l.members (ghost_of v.owner v.left g.disk g.lock g.desks) shows.blocks contents seats long_same (λ k lt out. leaves.alike k out);
+    blocks = unseen_keeps l.contents l.seats l.sizes l.members (ghost_of v.owner v.left (on_blocks v.new g.disk) g.lock g.desks) shows.blocks contents seats long_same (λ k lt out. leaves.alike k out);
     bytes = λ b lt out. subst IsBytes (sym (leaves.alike b out)) (shows.bytes b (subst (λ (n : ℕ). b < n) long_same lt) out);
     taken = shows.taken;
     commit = commit;
+    news = λ n k e. new_alike n k l m g.lock g.keeper refl refl (ap (λ (x : List (List ℕ)). inode_of x n) disk_same) (shows.news n k e);
     loads = record { seen = λ n d e. shows.loads.seen n d e ∙ sym (ap (λ (x : List (List ℕ)). inode_of x n) disk_same); dead = shows.loads.dead; typed = shows.loads.typed };
     offsets = shows.offsets;
   }
@@ -164,5 +166,5 @@ module _ (h : ℕ) (v : World) (g : above.World) (shows : Shows v g) (contents :
     group = λ b k at e. absurd (under (nobody_commits other v g shows (has_members l.members other k at)));
     sizes = refl;
     taken = λ b. taken_same other b (v.taken b) refl;
-    commit = commit;
+    begun = λ z. (commit z, λ n. is_hart (v.new n) other);
   }

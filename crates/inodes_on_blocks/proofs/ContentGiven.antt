@@ -30,7 +30,7 @@ use Rattle.inode_machine.specs.World as above
 use Rattle.inode_machine.specs.Rules.{if_kept, Inv}
 use Rattle.inodes_on_blocks.specs.Below.{World, log_of, tables_of, disk_of, inode_in}
 use Rattle.inodes_on_blocks.specs.Shown.{Shows}
-use Rattle.inodes_on_blocks.specs.Lowering.{KeepsInode, Kept, below, buffer_in, commit_in, Labels, labelled, Keeps}
+use Rattle.inodes_on_blocks.specs.Lowering.{KeepsInode, Kept, below, buffer_in, undertaken, Labels, labelled, Keeps}
 use Rattle.inodes_on_blocks.specs.Holding.{in_hand, SameBut, Fetched, PutBack}
 use Rattle.inodes_on_blocks.specs.Recording.{IsChanging}
 use Rattle.inodes_on_blocks.specs.Giving.{Owns, KeepsRoom, GaveBlocks}
@@ -64,15 +64,15 @@ pub record Gone (h n : ℕ) (v w : World) : Type 0 where
   pub sizes : (log_of w).sizes ≡ (log_of v).sizes
   pub inode : inode_in (log_of w) n ≡ inode_in (log_of v) n
   pub taken : (c : ℕ) → if_kept (w.taken c) h (seen_of (log_of w) c) ≡ if_kept (v.taken c) h (seen_of (log_of v) c)
-  pub commit : if_kept w.commits h (commit_in (log_of w)) ≡ if_kept v.commits h (commit_in (log_of v))
+  pub begun : undertaken h w ≡ undertaken h v
 
 gone_blocks : (h n : ℕ) (v w : World) → GaveBlocks h n v w → Gone h n v w
-gone_blocks h n v w g = record { inodes = g.inodes; lock = g.lock; no_more = g.no_more; sizes = g.sizes; inode = g.inode; taken = g.taken; commit = g.commit }
+gone_blocks h n v w g = record { inodes = g.inodes; lock = g.lock; no_more = g.no_more; sizes = g.sizes; inode = g.inode; taken = g.taken; begun = g.begun }
 
 gone_but : (h n b : ℕ) (v w : World) → lock_holder n (tables_of v) ≡ Some h → SameBut h b v w → Gone h n v w
 gone_but h n b v w mine s =
     let this = s.inodes n mine in
-    record { inodes = λ i ne e. s.inodes i e; lock = this.lock; no_more = s.no_more; sizes = s.sizes; inode = this.untouched.inode; taken = s.taken; commit = s.commit }
+    record { inodes = λ i ne e. s.inodes i e; lock = this.lock; no_more = s.no_more; sizes = s.sizes; inode = this.untouched.inode; taken = s.taken; begun = s.begun }
 
 gone_then : (h n : ℕ) (u v w : World) → Gone h n u v → Gone h n v w → Gone h n u w
 gone_then h n u v w p q = record {
@@ -85,7 +85,7 @@ gone_then h n u v w p q = record {
   sizes = q.sizes ∙ p.sizes;
   inode = q.inode ∙ p.inode;
   taken = λ c. q.taken c ∙ p.taken c;
-  commit = q.commit ∙ p.commit;
+  begun = q.begun ∙ p.begun;
 }
 
 -- the steps for a content at most, and j more

@@ -37,6 +37,7 @@ use Rattle.inodes_on_blocks.specs.Shown.{Shows}
 use Rattle.inodes_on_blocks.specs.Lowering.{Had, Carry, IsLoaded, Base, Labels, labelled, Keeps, IsOpened}
 use Rattle.inodes_on_blocks.specs.Handlers.{up_start, up, walk_down, down, is_listed, is_dying, had_of, with_dying}
 use Rattle.inodes_on_blocks.specs.Acting.{ActsOnce}
+use Rattle.inodes_on_blocks.proofs.News.{unkept_old}
 use Rattle.inodes_on_blocks.proofs.Layer.{tables_left}
 use Rattle.inodes_on_blocks.proofs.Stepping.{Came, CameTo, one_step}
 use Rattle.inodes_on_blocks.proofs.Tables.{with_tables, unlocked_holds, shows_then, base_then}
@@ -61,6 +62,7 @@ module _ (l : Labels) (laws : Laws (labelled l)) (keeps : Keeps l) (h : ℕ) (lt
     ran = ran;
     free = free;
     shows = shows_then h lt v.real v.seen shows t (counted_up h n v.seen) (loaded (tables_of v.real)) after refl refl (λ j. refl) (λ i. inl refl)
+        (λ i k e. let is = shows.news i k e in (is.unlocked, is.kept))
         (record {
           seen = shows.loads.seen;
           dead = λ i some unlocked loose dead. elim (same_or i n) [
@@ -97,7 +99,7 @@ module _ (l : Labels) (laws : Laws (labelled l)) (keeps : Keeps l) (h : ℕ) (lt
       let range = found_number h n v.seen inv may.1 in (
         (in_word n v shows range.size, subst (λ (k : ℕ). k + 1 < 2 ^ 32) (shows.tables.places.counts n) range.room),
         λ x t.
-            subst (λ (d : Did (Option ℕ) World). CameTo l laws keeps h (Up n) v ⊥ d is_some (λ a. c)) (sym (in_tables_is h (steps.Up (Number n)) v.real (λ a o. refl) (λ s. refl) (up_inode n (tables_of v.real))))
+            subst (λ (d : Did (Option ℕ) World). CameTo l laws keeps h (Up n) v ⊥ d is_some (λ a. c)) (sym (in_tables_is h (steps.Up (Number n)) v.real (λ a o. refl) (λ s. refl) (λ a l. refl) (up_inode n (tables_of v.real))))
             (up_to (Up n) n v c is_some true false refl refl shows base may.0 range (λ e. ap (up_if h n v.seen) e) (λ e. ap (up_if h n v.seen) e)),
       ))
 
@@ -119,7 +121,7 @@ module _ (l : Labels) (laws : Laws (labelled l)) (keeps : Keeps l) (h : ℕ) (lt
       let range = start_is_number h true v.seen lt inv in (
         (in_word root v shows range.size, subst (λ (k : ℕ). k + 1 < 2 ^ 32) (shows.tables.places.counts root) range.room),
         λ x t.
-            subst (λ (d : Did (Option ℕ) World). CameTo l laws keeps h (UpStart true) v ⊥ d (λ a. a) (λ a. c)) (sym (in_tables_is h (steps.Up (Number root)) v.real (λ a o. refl) (λ s. refl) (up_inode root (tables_of v.real))))
+            subst (λ (d : Did (Option ℕ) World). CameTo l laws keeps h (UpStart true) v ⊥ d (λ a. a) (λ a. c)) (sym (in_tables_is h (steps.Up (Number root)) v.real (λ a o. refl) (λ s. refl) (λ a l. refl) (up_inode root (tables_of v.real))))
             (up_to (UpStart true) root v c (λ a. a) (Some root) None refl refl shows base may.0 range (λ e. ap (start_if h root v.seen) e) (λ e. ap (start_if h root v.seen) e)),
       ))
   up_start_acts false m =
@@ -129,7 +131,7 @@ module _ (l : Labels) (laws : Laws (labelled l)) (keeps : Keeps l) (h : ℕ) (lt
         (lt, may_up_directory v shows inv),
         λ x t.
             subst (λ (d : Did (Option ℕ) World). CameTo l laws keeps h (UpStart false) v ⊥ d (λ a. a) (λ a. c))
-            (sym (in_tables_is h (steps.Up Directory) v.real (λ a o. refl) (λ s. refl) (up_directory h (tables_of v.real)) ∙ ap (did_in (with_tables v.real)) (directories_are_starts h (tables_of v.real) v.seen (loaded (tables_of v.real)) shows.tables lt)))
+            (sym (in_tables_is h (steps.Up Directory) v.real (λ a o. refl) (λ s. refl) (λ a l. refl) (up_directory h (tables_of v.real)) ∙ ap (did_in (with_tables v.real)) (directories_are_starts h (tables_of v.real) v.seen (loaded (tables_of v.real)) shows.tables lt)))
             (up_to (UpStart false) (v.seen.desks h).directory v c (λ a. a) (Some (v.seen.desks h).directory) None refl refl shows base may.0 range (λ e. ap (start_if h (v.seen.desks h).directory v.seen) e) (λ e. ap (start_if h (v.seen.desks h).directory v.seen) e)),
       ))
 
@@ -175,8 +177,8 @@ module _ (l : Labels) (laws : Laws (labelled l)) (keeps : Keeps l) (h : ℕ) (lt
       positive : (k : ℕ) → k ≢ 0 → nat_lt 0 k ≡ true
       positive k ne = grind (arith, nat_tests)
 
-  dies_alike : (n : ℕ) (v : W) → Shows v.real v.seen → 0 < v.seen.refs n → v.seen.lock n ≡ None → (above_exec.is_dead (v.seen.disk n) ≡ true → v.seen.keeper n ≡ None) → is_some (dead_of (loaded (tables_of v.real) n)) ≡ above_exec.is_dead (v.seen.disk n)
-  dies_alike n v shows some free loose = by (loaded (tables_of v.real) n) refl (v.seen.disk n) refl (unlocked_holds h lt v.real v.seen shows n free (shows.tables.range n some).0 (shows.tables.range n some).1).inode
+  dies_alike : (n : ℕ) (v : W) → Shows v.real v.seen → v.real.new n ≡ None → 0 < v.seen.refs n → v.seen.lock n ≡ None → (above_exec.is_dead (v.seen.disk n) ≡ true → v.seen.keeper n ≡ None) → is_some (dead_of (loaded (tables_of v.real) n)) ≡ above_exec.is_dead (v.seen.disk n)
+  dies_alike n v shows old some free loose = by (loaded (tables_of v.real) n) refl (v.seen.disk n) refl (unlocked_holds h lt v.real v.seen shows n free old (shows.tables.range n some).0 (shows.tables.range n some).1).inode
     where
       by : (o : Option Dinode) → loaded (tables_of v.real) n ≡ o → (x : Option Node) → v.seen.disk n ≡ x → IsRecord (inode_in (log_of v.real) n) (v.seen.disk n) → is_some (dead_of o) ≡ above_exec.is_dead x
       by None e x q r = alive (above_exec.is_dead x) refl
@@ -193,19 +195,20 @@ module _ (l : Labels) (laws : Laws (labelled l)) (keeps : Keeps l) (h : ℕ) (lt
   pub some_here : (n : ℕ) (w : above.World) → rules.Spares h n w → 0 < (w.harts h).refs n
   some_here n w spares = omega (arith, spares)
 
-  pub may_die : (n : ℕ) (v : W) → Shows v.real v.seen → Inv v.seen → rules.Spares h n v.seen × (v.seen.lock n ≢ Some h) → (v.seen.refs n ≡ 1 → above_exec.is_dead (v.seen.disk n) ≡ true → v.seen.keeper n ≡ None) → MayDie n v.seen (loaded (tables_of v.real))
-  may_die n v shows inv may loose =
+  pub may_die : (n : ℕ) (v : W) → Shows v.real v.seen → Inv v.seen → (v.seen.refs n ≡ 1 → v.real.new n ≡ None) → rules.Spares h n v.seen × (v.seen.lock n ≢ Some h) → (v.seen.refs n ≡ 1 → above_exec.is_dead (v.seen.disk n) ≡ true → v.seen.keeper n ≡ None) → MayDie n v.seen (loaded (tables_of v.real))
+  may_die n v shows inv old may loose =
       let mine = some_here n v.seen may.0 in
       let some = refers n v.seen inv mine in
-      record { some = some; free = last_free n v.seen inv mine may.1; alike = λ one. dies_alike n v shows some (last_free n v.seen inv mine may.1 one) (loose one) }
+      record { some = some; free = last_free n v.seen inv mine may.1; alike = λ one. dies_alike n v shows (old one) some (last_free n v.seen inv mine may.1 one) (loose one) }
 
-  pub counted_down_came : (op : above.Op) (n : ℕ) (v : W) (c : Carry) (b : above.Answer op) (t : TablesState) → Shows v.real v.seen → Base h v.real v.seen c → (v.seen.desks h).lender ≡ None → v.seen.lock n ≢ Some h → (v.seen.alone n ≡ true → above_exec.is_dead (v.seen.disk n) ≡ false)
+  pub counted_down_came : (op : above.Op) (n : ℕ) (v : W) (c : Carry) (b : above.Answer op) (t : TablesState) → Shows v.real v.seen → Base h v.real v.seen c → (v.seen.desks h).lender ≡ None → v.seen.lock n ≢ Some h → (v.seen.alone n ≡ true → above_exec.is_dead (v.seen.disk n) ≡ false) → (v.seen.alone n ≡ true → v.real.new n ≡ None)
       → above_exec.exec h above.Room op v.seen ≡ Ran b (counted_down h n v.seen) → tables.Shows t (counted_down h n v.seen) (load_after n (v.seen.refs n) (loaded (tables_of v.real)) Counts) → Came l laws keeps h op v b (with_tables v.real t) c
-  counted_down_came op n v c b t shows base free not_mine lone ran after = record {
+  counted_down_came op n v c b t shows base free not_mine lone old ran after = record {
     then_ = counted_down h n v.seen;
     ran = ran;
     free = free;
     shows = shows_then h lt v.real v.seen shows t (counted_down h n v.seen) (left (v.seen.refs n == 1)) after refl refl (λ j. refl) (λ i. inl refl)
+        (λ i k e. ((shows.news i k e).unlocked, kept_new (v.seen.alone n) refl i k e))
         (record {
           seen = λ i d e. seen (v.seen.refs n == 1) i d e;
           dead = λ i some unlocked loose dead. elim (same_or i n) [
@@ -231,6 +234,14 @@ module _ (l : Labels) (laws : Laws (labelled l)) (keeps : Keeps l) (h : ℕ) (lt
       keeper true i ne = put_other v.seen.keeper n None i ne
       keeper false i ne = refl
 
+      -- nor is it new
+      kept_new : (b : Bool) → v.seen.alone n ≡ b → (i k : ℕ) → v.real.new i ≡ Some k → (if b then put v.seen.keeper n None else v.seen.keeper) i ≡ Some k
+      kept_new true e i k is = elim (same_or i n) [
+        | inl q ↦ absurd (none-some k (sym (old e) ∙ ap v.real.new (sym q) ∙ is))
+        | inr ne ↦ put_other v.seen.keeper n None i ne ∙ (shows.news i k is).kept
+      ]
+      kept_new false e i k is = (shows.news i k is).kept
+
       -- what was kept alone isn't dead
       still : (b : Bool) → v.seen.alone n ≡ b → (i : ℕ) → i ≡ n → (if b then put v.seen.keeper n None else v.seen.keeper) i ≡ None → above_exec.is_dead (v.seen.disk i) ≡ true → v.seen.keeper i ≡ None
       still true e i q loose dead = absurd (let z : false ≡ true = sym (lone e) ∙ ap (λ (k : ℕ). above_exec.is_dead (v.seen.disk k)) (sym q) ∙ dead in cc z)
@@ -252,13 +263,15 @@ module _ (l : Labels) (laws : Laws (labelled l)) (keeps : Keeps l) (h : ℕ) (lt
       typed true i e = elim (same_or i n) [ inl q ↦ ap (put load n None) q ∙ put_same load n None | inr ne ↦ put_other load n None i ne ∙ shows.loads.typed i e ]
 
   -- it stays, for the hart to free
-  reserved_came : (op : above.Op) (n : ℕ) (v : W) (c : Carry) (b : above.Answer op) (t : TablesState) → Shows v.real v.seen → Base h v.real v.seen c → (v.seen.desks h).lender ≡ None
+  reserved_came : (op : above.Op) (n : ℕ) (v : W) (c : Carry) (b : above.Answer op) (t : TablesState) → Shows v.real v.seen → Base h v.real v.seen c → (v.seen.desks h).lender ≡ None → v.real.new n ≡ None
       → above_exec.exec h above.Room op v.seen ≡ Ran b (reserved h n v.seen) → tables.Shows t (reserved h n v.seen) (loaded (tables_of v.real)) → Came l laws keeps h op v b (with_tables v.real t) c
-  reserved_came op n v c b t shows base free ran after = record {
+  reserved_came op n v c b t shows base free old ran after = record {
     then_ = reserved h n v.seen;
     ran = ran;
     free = free;
-    shows = shows_then h lt v.real v.seen shows t (reserved h n v.seen) (loaded (tables_of v.real)) after refl refl (λ j. refl) (λ i. inl refl) (record { seen = shows.loads.seen; dead = λ i some unlocked loose dead. shows.loads.dead i some unlocked (was_loose i loose) dead; typed = shows.loads.typed }) shows.offsets;
+    shows = shows_then h lt v.real v.seen shows t (reserved h n v.seen) (loaded (tables_of v.real)) after refl refl (λ j. refl) (λ i. inl refl)
+        (λ i k e. ((shows.news i k e).unlocked, put_elim v.seen.keeper n (Some h) i (λ (z : Option ℕ). z ≡ Some k) (λ q. absurd (none-some k (sym old ∙ ap v.real.new (sym q) ∙ e))) (λ ne. (shows.news i k e).kept)))
+        (record { seen = shows.loads.seen; dead = λ i some unlocked loose dead. shows.loads.dead i some unlocked (was_loose i loose) dead; typed = shows.loads.typed }) shows.offsets;
     same = tables_left h v.real t v.seen (reserved h n v.seen) (loaded (tables_of v.real)) (loaded (tables_of v.real)) shows.tables after (λ i. inl refl);
     base = base_then h lt v.real v.seen shows c c t (reserved h n v.seen) (loaded (tables_of v.real)) base after free
         (λ i e. inl (e, put_elim v.seen.keeper n (Some h) i (λ (z : Option ℕ). z ≡ Some h) (λ q. refl) (λ ne. (base.inodes i (sym (shows.tables.places.holders i) ∙ e)).keeps), refl, refl, open_alike h i v.seen (reserved h n v.seen) refl refl));
@@ -279,6 +292,10 @@ module _ (l : Labels) (laws : Laws (labelled l)) (keeps : Keeps l) (h : ℕ) (lt
         (λ i. elim (same_or i n) [
           | inl q ↦ inr (inl (ap v.seen.lock q ∙ unlocked, ap (put v.seen.lock n (Some h)) q ∙ put_same v.seen.lock n (Some h)))
           | inr ne ↦ inl (put_other v.seen.lock n (Some h) i ne)
+        ])
+        (λ i k e. elim (same_or i n) [
+          | inl q ↦ absurd (none-some k (sym (unkept_old v.real v.seen shows n unkept) ∙ ap v.real.new (sym q) ∙ e))
+          | inr ne ↦ (put_other v.seen.lock n (Some h) i ne ∙ (shows.news i k e).unlocked, put_other v.seen.keeper n (Some h) i ne ∙ (shows.news i k e).kept)
         ])
         (record {
           seen = λ i d e. elim (same_or i n) [
@@ -301,7 +318,7 @@ module _ (l : Labels) (laws : Laws (labelled l)) (keeps : Keeps l) (h : ℕ) (lt
           | inl q ↦ inr (record {
             keeps = ap (put v.seen.keeper n (Some h)) q ∙ put_same v.seen.keeper n (Some h);
             loaded_is = subst (λ (z : ℕ). IsLoaded (put c n (had_of (load n)) z) (v.seen.disk z) (inode_in (log_of v.real) z)) (sym q) (subst (λ (o : Had). IsLoaded o (v.seen.disk n) (inode_in (log_of v.real) n)) (sym (put_same c n (had_of (load n)))) (is_loaded (load n) refl));
-            holds = subst (λ (z : ℕ). HoldsAt (disk_of (log_of v.real)) v.real.owner z (v.seen.disk z)) (sym q) (unlocked_holds h lt v.real v.seen shows n unlocked (shows.tables.range n some).0 (shows.tables.range n some).1);
+            holds = subst (λ (z : ℕ). HoldsAt (disk_of (log_of v.real)) v.real.owner z (v.seen.disk z)) (sym q) (unlocked_holds h lt v.real v.seen shows n unlocked (unkept_old v.real v.seen shows n unkept) (shows.tables.range n some).0 (shows.tables.range n some).1);
             opened = subst (λ (z : ℕ). IsOpened h z (put c n (had_of (load n)) z) (record (reserved h n v.seen) { lock = put v.seen.lock n (Some h) })) (sym q) (subst (λ (o : Had). IsOpened h n o (record (reserved h n v.seen) { lock = put v.seen.lock n (Some h) })) (sym (put_same c n (had_of (load n)))) (nothing_open (load n)));
           })
           | inr ne ↦
@@ -325,7 +342,7 @@ module _ (l : Labels) (laws : Laws (labelled l)) (keeps : Keeps l) (h : ℕ) (lt
   last_is n w e = let both = and_true (w.refs n == 1) (above_exec.is_dead (w.disk n)) e in (eq_is (w.refs n) 1 both.0, both.1)
 
   -- what it doesn't keep no hart keeps alone
-  unlone : (n : ℕ) (v : W) → Inv v.seen → 0 < (v.seen.harts h).refs n → v.seen.keeper n ≢ Some h → v.seen.alone n ≡ true → above_exec.is_dead (v.seen.disk n) ≡ false
+  unlone : {A : Type 0} (n : ℕ) (v : W) → Inv v.seen → 0 < (v.seen.harts h).refs n → v.seen.keeper n ≢ Some h → v.seen.alone n ≡ true → A
   unlone n v inv some not_kept lone =
       let a = inv.alone n lone in
       elim (same_or a.hart h) [
@@ -344,25 +361,25 @@ module _ (l : Labels) (laws : Laws (labelled l)) (keeps : Keeps l) (h : ℕ) (lt
       (λ v c shows inv base may. (
         (fewer_owed n (tables_of v.real) v.seen (loaded (tables_of v.real)) shows.tables inv h lt may.1.0, λ one. sym (shows.tables.places.holders n) ∙ last_free n v.seen inv (some_here n v.seen may.1.0) (unheld n v inv may.1.1) (shows.tables.places.counts n ∙ one)),
         λ x t.
-            subst (λ (d : Did DroppedState World). CameTo l laws keeps h (WalkDown n) v ⊥ d is_listed (λ a. c)) (sym (in_tables_is h (steps.Down (Walked n)) v.real (λ a o. refl) (λ s. refl) (drop_walked n (tables_of v.real))))
-            (by v c shows base may.0 (unheld n v inv may.1.1) (unlone n v inv (some_here n v.seen may.1.0) may.1.1) (is_last v.seen n) refl (drop_walked n (tables_of v.real)) (walks_drop_references h n (tables_of v.real) v.seen (loaded (tables_of v.real)) shows.tables (may_die n v shows inv (may.1.0, unheld n v inv may.1.1) (λ one _. last_loose n v.seen inv (some_here n v.seen may.1.0) may.1.1 one)))),
+            subst (λ (d : Did DroppedState World). CameTo l laws keeps h (WalkDown n) v ⊥ d is_listed (λ a. c)) (sym (in_tables_is h (steps.Down (Walked n)) v.real (λ a o. refl) (λ s. refl) (λ a l. refl) (drop_walked n (tables_of v.real))))
+            (by v c shows base may.0 (unheld n v inv may.1.1) (unlone n v inv (some_here n v.seen may.1.0) may.1.1) (unlone n v inv (some_here n v.seen may.1.0) may.1.1) (λ one. unkept_old v.real v.seen shows n (last_loose n v.seen inv (some_here n v.seen may.1.0) may.1.1 one)) (is_last v.seen n) refl (drop_walked n (tables_of v.real)) (walks_drop_references h n (tables_of v.real) v.seen (loaded (tables_of v.real)) shows.tables (may_die n v shows inv (λ one. unkept_old v.real v.seen shows n (last_loose n v.seen inv (some_here n v.seen may.1.0) may.1.1 one)) (may.1.0, unheld n v inv may.1.1) (λ one _. last_loose n v.seen inv (some_here n v.seen may.1.0) may.1.1 one)))),
       ))
     where
-      by : (v : W) (c : Carry) → Shows v.real v.seen → Base h v.real v.seen c → (v.seen.desks h).lender ≡ None → v.seen.lock n ≢ Some h → (v.seen.alone n ≡ true → above_exec.is_dead (v.seen.disk n) ≡ false) → (b : Bool) → is_last v.seen n ≡ b → (d : Did DroppedState TablesState)
+      by : (v : W) (c : Carry) → Shows v.real v.seen → Base h v.real v.seen c → (v.seen.desks h).lender ≡ None → v.seen.lock n ≢ Some h → (v.seen.alone n ≡ true → above_exec.is_dead (v.seen.disk n) ≡ false) → (v.seen.alone n ≡ true → v.real.new n ≡ None) → (v.seen.refs n ≡ 1 → v.real.new n ≡ None) → (b : Bool) → is_last v.seen n ≡ b → (d : Did DroppedState TablesState)
           → BothCame (λ a last. a ≡ (if last then Stays else Counts)) (load_after n (v.seen.refs n) (loaded (tables_of v.real))) d (walk_down_if h n v.seen (is_last v.seen n)) → CameTo l laws keeps h (WalkDown n) v ⊥ (did_in (with_tables v.real) d) is_listed (λ a. c)
-      by v c shows base free not_mine lone b e d both = at b e d (subst (λ (z : Bool). BothCame (λ a last. a ≡ (if last then Stays else Counts)) (load_after n (v.seen.refs n) (loaded (tables_of v.real))) d (walk_down_if h n v.seen z)) e both)
+      by v c shows base free not_mine lone lone_old old b e d both = at b e d (subst (λ (z : Bool). BothCame (λ a last. a ≡ (if last then Stays else Counts)) (load_after n (v.seen.refs n) (loaded (tables_of v.real))) d (walk_down_if h n v.seen z)) e both)
         where
           at : (b : Bool) → is_last v.seen n ≡ b → (d : Did DroppedState TablesState) → BothCame (λ a last. a ≡ (if last then Stays else Counts)) (load_after n (v.seen.refs n) (loaded (tables_of v.real))) d (walk_down_if h n v.seen b)
               → CameTo l laws keeps h (WalkDown n) v ⊥ (did_in (with_tables v.real) d) is_listed (λ a. c)
           at true e Waits both = absurd both
           at true e (Stops t) both = absurd both
           at true e (Ran a t) both =
-              reserved_came (WalkDown n) n v c (is_listed a) t shows base free (ap (walk_down_if h n v.seen) e ∙ ap (λ (z : DroppedState). Ran (is_listed z) (reserved h n v.seen)) (sym both.0))
+              reserved_came (WalkDown n) n v c (is_listed a) t shows base free (old (last_is n v.seen e).0) (ap (walk_down_if h n v.seen) e ∙ ap (λ (z : DroppedState). Ran (is_listed z) (reserved h n v.seen)) (sym both.0))
               (subst (λ (z : DroppedState). tables.Shows t (reserved h n v.seen) (load_after n (v.seen.refs n) (loaded (tables_of v.real)) z)) both.0 both.1)
           at false e Waits both = absurd both
           at false e (Stops t) both = absurd both
           at false e (Ran a t) both =
-              counted_down_came (WalkDown n) n v c (is_listed a) t shows base free not_mine lone (ap (walk_down_if h n v.seen) e ∙ ap (λ (z : DroppedState). Ran (is_listed z) (counted_down h n v.seen)) (sym both.0))
+              counted_down_came (WalkDown n) n v c (is_listed a) t shows base free not_mine lone lone_old (ap (walk_down_if h n v.seen) e ∙ ap (λ (z : DroppedState). Ran (is_listed z) (counted_down h n v.seen)) (sym both.0))
               (subst (λ (z : DroppedState). tables.Shows t (counted_down h n v.seen) (load_after n (v.seen.refs n) (loaded (tables_of v.real)) z)) both.0 both.1)
 
   pub down_acts : (n : ℕ) (m : Bool → Option above.Mark) → ActsOnce l h (Down n) m (down n)
@@ -372,13 +389,13 @@ module _ (l : Labels) (laws : Laws (labelled l)) (keeps : Keeps l) (h : ℕ) (lt
       (λ v c shows inv base may. (
         (fewer_owed n (tables_of v.real) v.seen (loaded (tables_of v.real)) shows.tables inv h lt may.1.0, λ one. sym (shows.tables.places.holders n) ∙ last_free n v.seen inv (some_here n v.seen may.1.0) (unheld n v inv may.1.1) (shows.tables.places.counts n ∙ one)),
         λ x t.
-            subst (λ (d : Did DroppedState World). CameTo l laws keeps h (Down n) v ⊥ d is_dying (with_dying n c)) (sym (in_tables_is h (steps.Down (Held n)) v.real (λ a o. refl) (λ s. refl) (drop_inode h n (tables_of v.real))))
-            (by v c shows base may.0 (may_die n v shows inv (may.1.0, unheld n v inv may.1.1) (λ one _. last_loose n v.seen inv (some_here n v.seen may.1.0) may.1.1 one)) (λ one. last_loose n v.seen inv (some_here n v.seen may.1.0) may.1.1 one) (unheld n v inv may.1.1) (unlone n v inv (some_here n v.seen may.1.0) may.1.1) (is_last v.seen n) refl (drop_inode h n (tables_of v.real)) (references_are_dropped h n (tables_of v.real) v.seen (loaded (tables_of v.real)) shows.tables (may_die n v shows inv (may.1.0, unheld n v inv may.1.1) (λ one _. last_loose n v.seen inv (some_here n v.seen may.1.0) may.1.1 one)))),
+            subst (λ (d : Did DroppedState World). CameTo l laws keeps h (Down n) v ⊥ d is_dying (with_dying n c)) (sym (in_tables_is h (steps.Down (Held n)) v.real (λ a o. refl) (λ s. refl) (λ a l. refl) (drop_inode h n (tables_of v.real))))
+            (by v c shows base may.0 (may_die n v shows inv (λ one. unkept_old v.real v.seen shows n (last_loose n v.seen inv (some_here n v.seen may.1.0) may.1.1 one)) (may.1.0, unheld n v inv may.1.1) (λ one _. last_loose n v.seen inv (some_here n v.seen may.1.0) may.1.1 one)) (λ one. last_loose n v.seen inv (some_here n v.seen may.1.0) may.1.1 one) (unheld n v inv may.1.1) (unlone n v inv (some_here n v.seen may.1.0) may.1.1) (unlone n v inv (some_here n v.seen may.1.0) may.1.1) (is_last v.seen n) refl (drop_inode h n (tables_of v.real)) (references_are_dropped h n (tables_of v.real) v.seen (loaded (tables_of v.real)) shows.tables (may_die n v shows inv (λ one. unkept_old v.real v.seen shows n (last_loose n v.seen inv (some_here n v.seen may.1.0) may.1.1 one)) (may.1.0, unheld n v inv may.1.1) (λ one _. last_loose n v.seen inv (some_here n v.seen may.1.0) may.1.1 one)))),
       ))
     where
-      by : (v : W) (c : Carry) → Shows v.real v.seen → Base h v.real v.seen c → (v.seen.desks h).lender ≡ None → MayDie n v.seen (loaded (tables_of v.real)) → (v.seen.refs n ≡ 1 → v.seen.keeper n ≡ None) → v.seen.lock n ≢ Some h → (v.seen.alone n ≡ true → above_exec.is_dead (v.seen.disk n) ≡ false) → (b : Bool) → is_last v.seen n ≡ b → (d : Did DroppedState TablesState)
+      by : (v : W) (c : Carry) → Shows v.real v.seen → Base h v.real v.seen c → (v.seen.desks h).lender ≡ None → MayDie n v.seen (loaded (tables_of v.real)) → (v.seen.refs n ≡ 1 → v.seen.keeper n ≡ None) → v.seen.lock n ≢ Some h → (v.seen.alone n ≡ true → above_exec.is_dead (v.seen.disk n) ≡ false) → (v.seen.alone n ≡ true → v.real.new n ≡ None) → (b : Bool) → is_last v.seen n ≡ b → (d : Did DroppedState TablesState)
           → BothCame (λ a last. a ≡ (if last then Dies n (loaded (tables_of v.real) n) else Counts)) (load_after n (v.seen.refs n) (loaded (tables_of v.real))) d (down_if h n v.seen (is_last v.seen n)) → CameTo l laws keeps h (Down n) v ⊥ (did_in (with_tables v.real) d) is_dying (with_dying n c)
-      by v c shows base free die unkept not_mine lone b e d both = at b e d (subst (λ (z : Bool). BothCame (λ a last. a ≡ (if last then Dies n (loaded (tables_of v.real) n) else Counts)) (load_after n (v.seen.refs n) (loaded (tables_of v.real))) d (down_if h n v.seen z)) e both)
+      by v c shows base free die unkept not_mine lone lone_old b e d both = at b e d (subst (λ (z : Bool). BothCame (λ a last. a ≡ (if last then Dies n (loaded (tables_of v.real) n) else Counts)) (load_after n (v.seen.refs n) (loaded (tables_of v.real))) d (down_if h n v.seen z)) e both)
         where
           at : (b : Bool) → is_last v.seen n ≡ b → (d : Did DroppedState TablesState) → BothCame (λ a last. a ≡ (if last then Dies n (loaded (tables_of v.real) n) else Counts)) (load_after n (v.seen.refs n) (loaded (tables_of v.real))) d (down_if h n v.seen b)
               → CameTo l laws keeps h (Down n) v ⊥ (did_in (with_tables v.real) d) is_dying (with_dying n c)
@@ -393,5 +410,5 @@ module _ (l : Labels) (laws : Laws (labelled l)) (keeps : Keeps l) (h : ℕ) (lt
           at false e (Stops t) both = absurd both
           at false e (Ran a t) both =
               subst (λ (z : DroppedState). Came l laws keeps h (Down n) v (is_dying z) (with_tables v.real t) (with_dying n c z)) (sym both.0)
-              (counted_down_came (Down n) n v c false t shows base free not_mine lone (ap (down_if h n v.seen) e)
+              (counted_down_came (Down n) n v c false t shows base free not_mine lone lone_old (ap (down_if h n v.seen) e)
               (subst (λ (z : DroppedState). tables.Shows t (counted_down h n v.seen) (load_after n (v.seen.refs n) (loaded (tables_of v.real)) z)) both.0 both.1))

@@ -28,10 +28,10 @@ use Rattle.inodes_on_blocks.specs.Holding.{in_hand, HasBuffer}
 use Rattle.inodes_on_blocks.specs.Lowering.{Kept, Carry, buffer_in, below, Labels, labelled, Keeps}
 use Rattle.inodes_on_blocks.specs.Recording.{CanPut, IsChanging, log_with, owners_with}
 use Rattle.inodes_on_blocks.specs.Shown.{Shows}
-use Rattle.inodes_on_blocks.proofs.Changing.{owner_with, Changing, hart_is, left_same, changing_then, numbers_stay, stays_own, changed_put, data_owners}
+use Rattle.inodes_on_blocks.proofs.Changing.{owner_with, Changing, left_same, changing_then, numbers_stay, stays_own, changed_put, data_owners}
 use Rattle.inodes_on_blocks.proofs.Fetching.{buffer_then, buffer_seen}
 use Rattle.inodes_on_blocks.proofs.Hands.{same_view}
-use Rattle.inodes_on_blocks.proofs.Layer.{below_laws}
+use Rattle.inodes_on_blocks.proofs.Layer.{below_laws, hart_is}
 use Rattle.inodes_on_blocks.proofs.PutLaws.{data_puts_leave}
 use Rattle.inodes_on_blocks.proofs.PutSteps.{put_back, s-put}
 use Rattle.inodes_on_blocks.proofs.Recorded.{disk_put, put_bytes, old_bytes, put_hand}

@@ -44,7 +44,7 @@ use Rattle.inodes_on_blocks.specs.Shown.{Shows}
 use Rattle.inodes_on_blocks.specs.Storing.{record_in, put_record}
 use Rattle.inodes_on_blocks.proofs.Alone.{kept_same}
 use Rattle.inodes_on_blocks.proofs.ContentGiven.{Between, content_steps, named_kept, s-content}
-use Rattle.inodes_on_blocks.proofs.Layer.{below_laws, held_back, hand_then, kept_disk, lent_then, untouched_same}
+use Rattle.inodes_on_blocks.proofs.Layer.{below_laws, held_back, hand_then, kept_disk, lent_then, untouched_same, through_then}
 use Rattle.inodes_on_blocks.proofs.OwnedNumbers.{given_order, order_owned, order_named}
 use Rattle.inodes_on_blocks.proofs.Putting.{lock_range}
 use Rattle.inodes_on_blocks.proofs.Starting.{TakesStep, s-here}
@@ -193,7 +193,7 @@ module _ (sizes : Super) (l : Labels) (laws : Laws (labelled l)) (keeps : Keeps 
         record {
           free = between.none;
           taken = untaken h w.real x.real between.gone.taken base.taken;
-          rests = λ e. base.rests (held_back x.real.commits w.real.commits h (commit_in (log_of x.real)) (commit_in (log_of w.real)) between.gone.commit e).0;
+          through = through_then h w.real x.real between.gone.begun base.through;
           lent = lent_then h w.seen x.seen between.kept base.lent;
           this = record {
             others = λ i ne e.
@@ -228,7 +228,7 @@ module _ (sizes : Super) (l : Labels) (laws : Laws (labelled l)) (keeps : Keeps 
             sizes = refl;
             inode = refl;
             taken = λ b. refl;
-            commit = refl;
+            begun = refl;
           };
           kept = kept_same h u.seen;
           none = base.0.free;

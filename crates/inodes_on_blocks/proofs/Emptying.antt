@@ -48,7 +48,7 @@ none_yet h n w mine = record {
   buffers = λ k ne. refl;
   held = refl;
   taken = λ c. refl;
-  commit = refl;
+  begun = refl;
 }
 
 one_more_block : (h n b : ℕ) (u v w : World) → GaveBlocks h n u v → GaveBlock h n b v w → in_hand h w ≡ in_hand h v → GaveBlocks h n u w
@@ -68,7 +68,7 @@ one_more_block h n b u v w p q held = record {
   buffers = λ k ne. q.buffers k (λ e. ne (e ∙ ap (λ (s : Super). s.bmapstart) p.sizes)) ∙ p.buffers k ne;
   held = held ∙ p.held;
   taken = λ c. q.taken c ∙ p.taken c;
-  commit = q.commit ∙ p.commit;
+  begun = q.begun ∙ p.begun;
 }
 
 -- ---- the rule

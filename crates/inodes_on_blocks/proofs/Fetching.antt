@@ -37,18 +37,19 @@ use Rattle.inode_machine.specs.Rules.{if_kept, Inv}
 use Rattle.inode_machine.proofs.Frame.{kept_is, kept_here}
 use Rattle.inodes_on_blocks.specs.Below.{World, log_of, tables_of, disk_of, came_to, exec}
 use Rattle.inodes_on_blocks.specs.OnBlocks.{shown}
-use Rattle.inodes_on_blocks.specs.Shown.{Shows, ghost_of}
+use Rattle.inodes_on_blocks.specs.Shown.{Shows, ghost_of, on_blocks}
 use Rattle.inodes_on_blocks.specs.Lowering.{KeepsInode, Same, Kept, below, buffer_in, Labels, labelled, Keeps}
 use Rattle.inodes_on_blocks.specs.Holding.{in_hand, HasBuffer, SameBut, Fetched, PutBack}
 use Rattle.inodes_on_blocks.proofs.Alone.{kept_then}
 use Rattle.inodes_on_blocks.proofs.Hands.{CameInHand, IfGot, got_hand, IsRead, read_hand, GivenBack, back_hand, same_view}
 use Rattle.inodes_on_blocks.proofs.Layer.{below_laws, held_back, untouched_then, kept_alike}
+use Rattle.inodes_on_blocks.proofs.News.{new_alike}
 use Rattle.inodes_on_blocks.proofs.Quiet.{unseen_keeps}
 
 -- ---- what a hart has, over its own steps and those of others
 
 pub but_same : (h b : ℕ) (v w : World) → Same h v w → SameBut h b v w
-but_same h b v w s = record { inodes = s.inodes; no_more = s.no_more; buffers = λ k ne. s.buffers k; member = s.member; group = s.group; taken = s.taken; commit = s.commit; sizes = s.sizes }
+but_same h b v w s = record { inodes = s.inodes; no_more = s.no_more; buffers = λ k ne. s.buffers k; member = s.member; group = s.group; taken = s.taken; begun = s.begun; sizes = s.sizes }
 
 pub but_then : (h b : ℕ) (u v w : World) → SameBut h b u v → SameBut h b v w → SameBut h b u w
 but_then h b u v w p q = record {
@@ -58,7 +59,7 @@ but_then h b u v w p q = record {
   member = q.member ∙ p.member;
   group = λ b k m e. q.group b k (p.member ∙ m) (p.group b k m e);
   taken = λ k. q.taken k ∙ p.taken k;
-  commit = q.commit ∙ p.commit;
+  begun = q.begun ∙ p.begun;
   sizes = q.sizes ∙ p.sizes;
 }
 
@@ -133,10 +134,11 @@ module _ (h : ℕ) (v : World) (g : above.World) (shows : Shows v g) (ss : List 
     size = shows.size;
     tables = shows.tables;
     members = shows.members;
-    blocks = unseen_keeps (log_of v).contents (log_of v).seats (log_of v).sizes (log_of v).members (ghost_of v.owner v.left g.disk g.lock g.desks) shows.blocks (log_of v).contents ss refl (λ k l out. quiet.alike k out);
+    blocks = unseen_keeps (log_of v).contents (log_of v).seats (log_of v).sizes (log_of v).members (ghost_of v.owner v.left (on_blocks v.new g.disk) g.lock g.desks) shows.blocks (log_of v).contents ss refl (λ k l out. quiet.alike k out);
     bytes = λ b within out. subst IsBytes (sym (quiet.alike b out)) (shows.bytes b within out);
     taken = shows.taken;
     commit = shows.commit;
+    news = λ n k e. new_alike n k (log_of v) (with_seats (log_of v) ss) g.lock g.keeper refl refl (ap (λ (x : List (List ℕ)). inode_of x n) quiet_disk) (shows.news n k e);
     loads = record { seen = λ n d e. shows.loads.seen n d e ∙ sym (ap (λ (x : List (List ℕ)). inode_of x n) quiet_disk); dead = shows.loads.dead; typed = shows.loads.typed };
     offsets = shows.offsets;
   }
@@ -152,7 +154,7 @@ module _ (h : ℕ) (v : World) (g : above.World) (shows : Shows v g) (ss : List 
         member = refl;
         group = λ b k m e. e;
         taken = quiet_taken other;
-        commit = refl;
+        begun = refl;
         sizes = refl;
       }
 
@@ -165,7 +167,7 @@ module _ (h : ℕ) (v : World) (g : above.World) (shows : Shows v g) (ss : List 
     member = refl;
     group = λ b k m e. e;
     taken = quiet_taken h;
-    commit = refl;
+    begun = refl;
     sizes = refl;
   }
 
@@ -180,7 +182,7 @@ failed_others v after is other =
       member = refl;
       group = λ b k m e. e;
       taken = λ b. ap (λ (d : List (List ℕ)). if_kept (v.taken b) other (seen_in d (log_of v).seats b)) is;
-      commit = refl;
+      begun = refl;
       sizes = refl;
     }
 

@@ -31,6 +31,7 @@ use Rattle.inodes_on_blocks.specs.Shown.{Shows}
 use Rattle.inodes_on_blocks.specs.Lowering.{Carry, Base, Labels, labelled, Keeps}
 use Rattle.inodes_on_blocks.specs.Handlers.{forget}
 use Rattle.inodes_on_blocks.specs.Acting.{ActsOnce}
+use Rattle.inodes_on_blocks.proofs.News.{kept_old}
 use Rattle.inodes_on_blocks.proofs.CountSteps.{last_free, some_here, may_die, counted_down_came}
 use Rattle.inodes_on_blocks.proofs.Owed.{fewer_owed}
 use Rattle.inodes_on_blocks.proofs.SlotSteps.{in_tables_is}
@@ -72,14 +73,14 @@ module _ (l : Labels) (laws : Laws (labelled l)) (keeps : Keeps l) (h : ℕ) (lt
       subst (λ (d : Did DroppedState TablesState). CameTo l laws keeps h (Forget n) v ⊥ (did_in (with_tables v.real) d) (λ a. tt {0}) (λ a. c)) (sym (freed_is h n (tables_of v.real) (shows.loads.typed n may.1.2.1)))
       (at (drop_inode h n (tables_of v.real))
       (subst (λ (z : Bool). BothCame (λ a last. a ≡ (if last then Dies n (loaded (tables_of v.real) n) else Counts)) (load_after n (v.seen.refs n) (loaded (tables_of v.real))) (drop_inode h n (tables_of v.real)) (down_if h n v.seen z))
-      (not_last n v.seen may.1.2.1) (references_are_dropped h n (tables_of v.real) v.seen (loaded (tables_of v.real)) shows.tables (may_die l laws keeps h lt n v shows inv (may.1.0, may.1.1) (λ one dead. absurd (let q : false ≡ true = sym (ap (λ (o : Option Node). above_exec.is_dead o) may.1.2.1) ∙ dead in cc q))))))
+      (not_last n v.seen may.1.2.1) (references_are_dropped h n (tables_of v.real) v.seen (loaded (tables_of v.real)) shows.tables (may_die l laws keeps h lt n v shows inv (λ one. kept_old v.real v.seen shows n h base.through.new may.1.2.0) (may.1.0, may.1.1) (λ one dead. absurd (let q : false ≡ true = sym (ap (λ (o : Option Node). above_exec.is_dead o) may.1.2.1) ∙ dead in cc q))))))
     where
       at : (d : Did DroppedState TablesState) → BothCame (λ a last. a ≡ (if last then Dies n (loaded (tables_of v.real) n) else Counts)) (load_after n (v.seen.refs n) (loaded (tables_of v.real))) d (down_if h n v.seen false)
           → CameTo l laws keeps h (Forget n) v ⊥ (did_in (with_tables v.real) d) (λ a. tt {0}) (λ a. c)
       at Waits both = absurd both
       at (Stops t) both = absurd both
       at (Ran a t) both =
-          counted_down_came l laws keeps h lt (Forget n) n v c (tt {0}) t shows base may.0 may.1.1 (λ lone. ap (λ (o : Option Node). above_exec.is_dead o) may.1.2.1) refl
+          counted_down_came l laws keeps h lt (Forget n) n v c (tt {0}) t shows base may.0 may.1.1 (λ lone. ap (λ (o : Option Node). above_exec.is_dead o) may.1.2.1) (λ lone. kept_old v.real v.seen shows n h base.through.new may.1.2.0) refl
           (subst (λ (z : DroppedState). tables.Shows t (counted_down h n v.seen) (load_after n (v.seen.refs n) (loaded (tables_of v.real)) z)) both.0 both.1)
 
   pub forget_acts : (n : ℕ) (m : Unit {0} → Option above.Mark) → ActsOnce l h (Forget n) m (forget n)
@@ -89,6 +90,6 @@ module _ (l : Labels) (laws : Laws (labelled l)) (keeps : Keeps l) (h : ℕ) (lt
       (λ v c shows inv base may. (
         (fewer_owed n (tables_of v.real) v.seen (loaded (tables_of v.real)) shows.tables inv h lt may.1.0, λ one. sym (shows.tables.places.holders n) ∙ last_free l laws keeps h lt n v.seen inv (some_here l laws keeps h lt n v.seen may.1.0) may.1.1 (shows.tables.places.counts n ∙ one)),
         λ x t.
-            subst (λ (d : Did DroppedState World). CameTo l laws keeps h (Forget n) v ⊥ d (λ a. tt {0}) (λ a. c)) (sym (in_tables_is h (steps.Down (Freed n)) v.real (λ a o. refl) (λ s. refl) (drop_freed n (tables_of v.real))))
+            subst (λ (d : Did DroppedState World). CameTo l laws keeps h (Forget n) v ⊥ d (λ a. tt {0}) (λ a. c)) (sym (in_tables_is h (steps.Down (Freed n)) v.real (λ a o. refl) (λ s. refl) (λ a l. refl) (drop_freed n (tables_of v.real))))
             (forgotten_came n v c shows inv base may),
       ))

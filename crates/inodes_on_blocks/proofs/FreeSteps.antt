@@ -29,14 +29,14 @@ use Rattle.inodes_on_blocks.specs.Below.{World, log_of, tables_of, disk_of, owne
 use Rattle.inodes_on_blocks.specs.Emptying.{free}
 use Rattle.inodes_on_blocks.specs.Giving.{KeepsRoom, world_with}
 use Rattle.inodes_on_blocks.specs.Holding.{in_hand, HasBuffer, Fetched}
-use Rattle.inodes_on_blocks.specs.Lowering.{commit_in, Emptied, Carry, Stands, below, Labels, labelled, Keeps}
+use Rattle.inodes_on_blocks.specs.Lowering.{commit_in, Emptied, Carry, Stands, below, Labels, labelled, Keeps, IsThrough}
 use Rattle.inodes_on_blocks.specs.Recording.{CanPut, IsChanging}
 use Rattle.inodes_on_blocks.specs.Shown.{Shows}
 use Rattle.inodes_on_blocks.specs.Storing.{record_in, put_record}
 use Rattle.inodes_on_blocks.proofs.EmptySteps.{HasNone, none_lasts, Begins, s-none}
 use Rattle.inodes_on_blocks.proofs.ContentGiven.{content_steps}
 use Rattle.inodes_on_blocks.proofs.Fetching.{buffer_then, buffer_seen, s-fetch}
-use Rattle.inodes_on_blocks.proofs.Layer.{below_laws, held_back, lent_then}
+use Rattle.inodes_on_blocks.proofs.Layer.{below_laws, held_back, lent_then, through_then, through_put}
 use Rattle.inodes_on_blocks.proofs.Loading.{empty_hand}
 use Rattle.inodes_on_blocks.proofs.PutLaws.{record_puts_leave}
 use Rattle.inodes_on_blocks.proofs.Putting.{after, lock_range}
@@ -73,10 +73,10 @@ module _ (sizes : Super) (l : Labels) (laws : Laws (labelled l)) (keeps : Keeps 
     -- the put, where the buffer is in hand
     there : (u : W) (gs : List l.Step) → G gs u.seen → Shows u.real u.seen → IsChanging h n u.seen → HasNone h n c o u.real u.seen
         → CanPut h (place_in n u.real) (with_dinode n d (seen_of (log_of u.real) (place_in n u.real))) (log_of u.real) × (length (seen_of (log_of u.real) (place_in n u.real)) ≡ 1024)
-        → ((i : ℕ) → u.real.taken i ≢ Some h) → (u.real.commits ≡ Some h → ⊥) → (((u.seen.desks h).lender ≡ None → ⊥) → Idle h u.seen) → in_hand h u.real ≡ 1 → (log_of u.real).sizes ≡ sizes
+        → ((i : ℕ) → u.real.taken i ≢ Some h) → IsThrough h u.real → (((u.seen.desks h).lender ≡ None → ⊥) → Idle h u.seen) → in_hand h u.real ≡ 1 → (log_of u.real).sizes ≡ sizes
         → Knows (world_with h (place_in n u.real) (with_dinode n d (seen_of (log_of u.real) (place_in n u.real))) u.real)
         → IsPutting (place_in n u.real) (with_dinode n d (seen_of (log_of u.real) (place_in n u.real))) gs u
-    there u gs stage shows changes this can none rests lent one at knows =
+    there u gs stage shows changes this can none through lent one at knows =
         let r = u.real in
         let stored_ : List ℕ = with_dinode n d (seen_of (log_of r) (place_in n r)) in
         let now : LogPart = put_block h (place_in n r) (Some stored_) (log_of r) in
@@ -92,7 +92,7 @@ module _ (sizes : Super) (l : Labels) (laws : Laws (labelled l)) (keeps : Keeps 
               (record {
                 free = none_then h n d c r u.seen shows changes.lock changes.joined is can.0 can.1 one;
                 taken = none;
-                rests = rests;
+                through = through_put h r (then_all (owners_of r)) now refl refl through;
                 lent = lent;
                 this = record {
                   others = others_then h n d c r u.seen shows changes.lock changes.joined is can.0 can.1 this.others u.seen (λ i ne. refl) (λ i. refl) (λ i. open_same h i u.seen);
@@ -123,11 +123,9 @@ module _ (sizes : Super) (l : Labels) (laws : Laws (labelled l)) (keeps : Keeps 
         let can = can_record h n d (seen_of (log_of v.real) b) u.real u.seen lt here.shows changes.lock changes.joined is (subst (λ (i : ℕ). HasBuffer h i (seen_of (log_of v.real) b) u.real) where_ buffer)
         (subst (λ (i : ℕ). has (log_of u.real).group i ≡ false → HasRoom (log_of u.real).members h) where_ (room.gives.room u.real knows_there (sym (here.shows.members h lt) ∙ changes.joined))) in
         let none = untaken h v.real u.real here.same.taken (untaken h x.real v.real got.since.taken ready.taken) in
-        let rests : (u.real.commits ≡ Some h → ⊥) = (λ e.
-        ready.rests (held_back v.real.commits x.real.commits h (commit_in (log_of v.real)) (commit_in (log_of x.real)) got.since.commit
-        (held_back u.real.commits v.real.commits h (commit_in (log_of u.real)) (commit_in (log_of v.real)) here.same.commit e).0).0) in
+        let through : IsThrough h u.real = through_then h v.real u.real here.same.begun (through_then h x.real v.real got.since.begun ready.through) in
         subst (λ (q : ℕ × List ℕ). IsPutting q.0 q.1 gs u) (λ z. (sym where_ z, with_dinode n d (bytes z)))
-        (there u gs here.stage here.shows changes this can none rests (lent_then h v.seen u.seen here.kept lent) (here.same.held ∙ got.count ∙ ap suc ready.free) (here.same.sizes ∙ got.since.sizes ∙ ready.at)
+        (there u gs here.stage here.shows changes this can none through (lent_then h v.seen u.seen here.kept lent) (here.same.held ∙ got.count ∙ ap suc ready.free) (here.same.sizes ∙ got.since.sizes ∙ ready.at)
         (subst (λ (i : ℕ). Knows (world_with h i stored_ u.real)) where_ (room.put stored_ u.real knows_there)))
 
     pub s-stored : (es : List l.Step) (x : W) → G es x.seen → Ready sizes h (HasNone h n c o) x.real x.seen → Knows x.real → Wp M h B Q (bind (store_inode sizes.inodestart n d) (λ _. k)) (suc (suc (suc j))) es x

@@ -29,12 +29,12 @@ use Rattle.inodes_on_tables.specs.Shown.{loaded}
 use Rattle.inodes_on_tables.proofs.Desks.{part_same}
 use Rattle.inodes_on_blocks.specs.OnBlocks.{is_joined, Ghost, AreOnBlocks}
 use Rattle.inodes_on_blocks.specs.Below.{World, log_of, tables_of, disk_of, came_to}
-use Rattle.inodes_on_blocks.specs.Shown.{Shows, if_joined, ghost_of}
+use Rattle.inodes_on_blocks.specs.Shown.{Shows, if_joined, ghost_of, on_blocks}
 use Rattle.inodes_on_blocks.specs.Lowering.{Carry, Base, Labels, labelled, Keeps}
 use Rattle.inodes_on_blocks.specs.Handlers.{join}
 use Rattle.inodes_on_blocks.specs.Acting.{ActsOnce}
 use Rattle.inodes_on_blocks.proofs.LeaveSteps.{tables_desk}
-use Rattle.inodes_on_blocks.proofs.Quiet.{join_keeps}
+use Rattle.inodes_on_blocks.proofs.Quiet.{join_keeps, still_joined}
 use Rattle.inodes_on_blocks.proofs.Layer.{untouched_same}
 use Rattle.inodes_on_blocks.proofs.Stepping.{Came, CameTo, one_step}
 
@@ -68,10 +68,11 @@ module _ (l : Labels) (laws : Laws (labelled l)) (keeps : Keeps l) (h : ℕ) (lt
       | inr ne ↦ ap (λ (d : Desk). d.joined) (put_other v.seen.desks h (record (v.seen.desks h) { joined = true }) g ne) ∙ shows.members g lg ∙ sym (ap is_some (get_or-set_other (log_of v.real).members h g (Some 0) None ne))
     ];
     blocks = subst (λ (x : Ghost). AreOnBlocks (log_of v.real).contents (log_of v.real).seats (log_of v.real).sizes (slice_set (log_of v.real).members h (Some 0)) x) (sym ghost)
-        (join_keeps (log_of v.real).contents (log_of v.real).seats (log_of v.real).sizes (log_of v.real).members (ghost_of v.real.owner v.real.left v.seen.disk v.seen.lock v.seen.desks) shows.blocks h 0);
+        (join_keeps (log_of v.real).contents (log_of v.real).seats (log_of v.real).sizes (log_of v.real).members (ghost_of v.real.owner v.real.left (on_blocks v.real.new v.seen.disk) v.seen.lock v.seen.desks) shows.blocks h 0);
     bytes = shows.bytes;
     taken = shows.taken;
     commit = shows.commit;
+    news = λ n k e. let is = shows.news n k e in record { low = is.low; bound = is.bound; free = is.free; unlocked = is.unlocked; kept = is.kept; joined = still_joined (log_of v.real).members h 0 k is.joined };
     loads = record { seen = shows.loads.seen; dead = shows.loads.dead; typed = shows.loads.typed };
     offsets = shows.offsets;
   }
@@ -80,8 +81,8 @@ module _ (l : Labels) (laws : Laws (labelled l)) (keeps : Keeps l) (h : ℕ) (lt
       change None ne = refl
       change (Some g) ne = ap (λ (d : Desk). if d.joined then Some g else None) (put_other v.seen.desks h (record (v.seen.desks h) { joined = true }) g (λ q. ne (ap (λ (z : ℕ). Some z) q)))
 
-      ghost : ghost_of v.real.owner v.real.left v.seen.disk v.seen.lock (put v.seen.desks h (record (v.seen.desks h) { joined = true })) ≡ ghost_of v.real.owner v.real.left v.seen.disk v.seen.lock v.seen.desks
-      ghost = λ z. record { nodes = v.seen.disk; owner = v.real.owner; left = v.real.left; changing = λ i. change (v.seen.lock i) (none i) z }
+      ghost : ghost_of v.real.owner v.real.left (on_blocks v.real.new v.seen.disk) v.seen.lock (put v.seen.desks h (record (v.seen.desks h) { joined = true })) ≡ ghost_of v.real.owner v.real.left (on_blocks v.real.new v.seen.disk) v.seen.lock v.seen.desks
+      ghost = λ z. record { nodes = on_blocks v.real.new v.seen.disk; owner = v.real.owner; left = v.real.left; changing = λ i. change (v.seen.lock i) (none i) z }
 
   -- an operation that joins, and has this answer
   pub join_came : (op : above.Op) (a : above.Answer op) (v : W) (c : Carry) → above_exec.exec h above.Room op v.seen ≡ Ran a (above_exec.with_joined v.seen h true) → Shows v.real v.seen → Base h v.real v.seen c
@@ -100,12 +101,12 @@ module _ (l : Labels) (laws : Laws (labelled l)) (keeps : Keeps l) (h : ℕ) (lt
       taken = λ b. refl;
       member = slice_get-set_other (log_of v.real).members h other (Some 0) ne;
       group = λ b k m e. e;
-      commit = refl;
+      begun = refl;
     };
     base = record {
       free = base.free;
       taken = base.taken;
-      rests = base.rests;
+      through = record { commits = base.through.commits; new = base.through.new };
       inodes = λ i e. absurd (none i (shows.tables.places.holders i ∙ e));
       lent = λ some. absurd (some (part_same (λ d. d.lender) v.seen.desks h (record (v.seen.desks h) { joined = true }) h refl ∙ free));
     };

@@ -1,5 +1,5 @@
 -- What the others leave to a hart below, and what a step on the tables leaves to them.
-use Rattle.std.proofs.Common.{◌≡◌, ◌≢◌, ◌⊎◌, inl, inr, ℕ, List, Option, Some, None, refl, sym, ◌∙◌, ap, subst}
+use Rattle.std.proofs.Common.{◌≡◌, ◌≢◌, ◌⊎◌, inl, inr, ℕ, ◌<◌, ◌==◌, Bool, true, false, List, Option, Some, None, refl, sym, ◌∙◌, ap, subst, if◌then◌else◌}
 use Rattle.std.proofs.lemmas.Option.{none-some}
 use Rattle.fs_layout.specs.declared.inode.Dinode.{Dinode}
 use Rattle.fs_layout.specs.declared.superblock.Super.{Super}
@@ -13,17 +13,38 @@ use Rattle.atomic_programs.specs.Joined.{LowerLaws}
 use Rattle.fs_tables.specs.Tables.{TablesState, holder_of as lock_holder}
 use Rattle.fs_machine.specs.Shown.{seen_of}
 use Rattle.inode_machine.specs.World as above
-use Rattle.inode_machine.specs.Rules.{Own, Held, if_kept, own_of, view, Idle}
+use Rattle.fs_machine.specs.LogPart.{LogPart}
+use Rattle.tree_laws.proofs.Maps.{eq_is, eq_self}
+use Rattle.inode_machine.specs.Rules.{Own, Held, is_hart, if_kept, own_of, view, Idle}
 use Rattle.inode_machine.proofs.Frame.{Ours, not_ours, kept_is, kept_here, has_inode}
 use Rattle.inodes_on_tables.specs.Shown as tables
-use Rattle.inodes_on_blocks.specs.Below.{World, log_of, tables_of, disk_of, inode_in}
-use Rattle.inodes_on_blocks.specs.Lowering.{KeepsInode, commit_in, Same, Kept, Had, Apart, Has, Emptied, Carry, IsKnown, IsLoaded, InHand, Base, below, Labels, labelled, Keeps, IsOpened}
+use Rattle.inodes_on_blocks.specs.Below.{World, log_of, tables_of, disk_of, inode_in, untyped}
+use Rattle.inodes_on_blocks.specs.Lowering.{KeepsInode, commit_in, undertaken, IsThrough, Same, Kept, Had, Apart, Has, Emptied, Carry, IsKnown, IsLoaded, InHand, Base, below, Labels, labelled, Keeps, IsOpened}
 use Rattle.inodes_on_blocks.proofs.Marked.{SameCode}
+use Rattle.inodes_on_blocks.proofs.News.{untyped_less}
 use Rattle.inodes_on_blocks.proofs.OpenFiles.{open_alike, open_kept, open_then}
+
+pub hart_is : (o : Option ℕ) (h : ℕ) → is_hart o h ≡ true → o ≡ Some h
+hart_is None h e = absurd (let z : false ≡ true = e in cc)
+hart_is (Some g) h e = ap (λ (z : ℕ). Some z) (eq_is g h e)
+
+pub is_here : (o : Option ℕ) (h : ℕ) → o ≡ Some h → is_hart o h ≡ true
+is_here o h e = ap (λ (z : Option ℕ). is_hart z h) e ∙ eq_self h
 
 -- what is held at one end is held at the other
 pub held_back : {A : Type 0} (o p : Option ℕ) (h : ℕ) (x y : A) → if_kept o h x ≡ if_kept p h y → o ≡ Some h → (p ≡ Some h) × (y ≡ x)
 held_back o p h x y e is = kept_is h p y x (sym e ∙ kept_here h o x is)
+
+-- what a hart is through with
+pub through_then : (h : ℕ) (v w : World) → undertaken h w ≡ undertaken h v → IsThrough h v → IsThrough h w
+through_then h v w same is = record {
+  commits = λ e. is.commits (held_back w.commits v.commits h (commit_in (log_of w)) (commit_in (log_of v)) (λ z. (same z).0) e).0;
+  new = λ n e. is.new n (hart_is (v.new n) h (sym (λ z. (same z).1 n) ∙ is_here (w.new n) h e));
+}
+
+-- and through with after a put of its own
+pub through_put : (h : ℕ) (r w : World) (l : LogPart) → w.commits ≡ r.commits → w.new ≡ untyped l r.new → IsThrough h r → IsThrough h w
+through_put h r w l same new is = record { commits = λ e. is.commits (sym same ∙ e); new = λ n e. is.new n (untyped_less l r.new n h ((λ z. sym new z n) ∙ e)) }
 
 -- a hart that rests keeps nothing
 pub keeps_none : (h i : ℕ) (g : above.World) → Idle h g → g.keeper i ≡ Some h → ⊥
@@ -110,7 +131,7 @@ lent_then h g u kept lent some = by (g.desks h).lender refl
 pub below_laws : (sizes : Super) (l : Labels) → Keeps l → LowerLaws (labelled l) (below sizes)
 below_laws sizes l keeps =
     record {
-      same = λ h w. record { inodes = λ i e. record { lock = e; untouched = untouched_same (disk_of (log_of w)) w.owner i }; no_more = λ i e. e; buffers = λ b. refl; held = refl; member = refl; group = λ b k m e. e; sizes = refl; taken = λ b. refl; commit = refl };
+      same = λ h w. record { inodes = λ i e. record { lock = e; untouched = untouched_same (disk_of (log_of w)) w.owner i }; no_more = λ i e. e; buffers = λ b. refl; held = refl; member = refl; group = λ b k m e. e; sizes = refl; taken = λ b. refl; begun = refl };
       trans = λ h u v w p q. record {
         inodes = λ i e. let a = p.inodes i e in let b = q.inodes i a.lock in record { lock = b.lock; untouched = untouched_then (disk_of (log_of u)) (disk_of (log_of v)) (disk_of (log_of w)) u.owner v.owner w.owner i a.untouched b.untouched };
         no_more = λ i e. p.no_more i (q.no_more i e);
@@ -120,20 +141,20 @@ below_laws sizes l keeps =
         group = λ b k m e. q.group b k (p.member ∙ m) (p.group b k m e);
         sizes = q.sizes ∙ p.sizes;
         taken = λ b. q.taken b ∙ p.taken b;
-        commit = q.commit ∙ p.commit;
+        begun = q.begun ∙ p.begun;
       };
       kept = keeps;
       base = λ h v w g u c same kept stands. let b = stands.0 in (
         record {
           free = same.held ∙ b.free;
           taken = λ n e. b.taken n (held_back (w.taken n) (v.taken n) h (seen_of (log_of w) n) (seen_of (log_of v) n) (same.taken n) e).0;
-          rests = λ e. b.rests (held_back w.commits v.commits h (commit_in (log_of w)) (commit_in (log_of v)) same.commit e).0;
+          through = through_then h v w same.begun b.through;
           inodes = in_hand_then h c v w g u same.inodes same.no_more kept b.lent b.inodes;
           lent = λ some. lent_then h g u kept b.lent some;
         },
         same.sizes ∙ stands.1,
       );
-      idle = λ h w g c inv idle stands. let b = stands.0 in (record { free = b.free; taken = b.taken; rests = b.rests; inodes = λ i e. absurd (keeps_none h i g idle (b.inodes i e).keeps); lent = b.lent }, stands.1);
+      idle = λ h w g c inv idle stands. let b = stands.0 in (record { free = b.free; taken = b.taken; through = b.through; inodes = λ i e. absurd (keeps_none h i g idle (b.inodes i e).keeps); lent = b.lent }, stands.1);
     }
 
 -- ---- a step on the tables
@@ -151,7 +172,7 @@ tables_left h v t g u load load_then shows after change other ne =
       group = λ b k m e. e;
       sizes = refl;
       taken = λ b. refl;
-      commit = refl;
+      begun = refl;
     }
   where
     forth : (i : ℕ) → (u.lock i ≡ g.lock i) ⊎ (Ours h (g.lock i) × Ours h (u.lock i)) → lock_holder i (tables_of v) ≡ Some other → lock_holder i t ≡ Some other
@@ -167,7 +188,7 @@ pub base_marked : (h : ℕ) (r : World) (g u : above.World) (c : Carry) → Same
 base_marked h r g u c s free b = record {
   free = b.free;
   taken = b.taken;
-  rests = b.rests;
+  through = b.through;
   inodes = λ i e. let x = b.inodes i e in record {
     keeps = (λ z. s.keeper z i) ∙ x.keeps;
     loaded_is = subst (λ (n : Option Node). IsLoaded (c i) n (inode_in (log_of r) i)) (λ z. sym s.disk z i) x.loaded_is;

@@ -45,18 +45,18 @@ use Rattle.inode_machine.specs.World.Op.{Leave}
 use Rattle.inode_machine.specs.Exec.{is_at}
 use Rattle.inode_machine.specs.Marks.{marked}
 use Rattle.inode_machine.specs.Rules as rules
-use Rattle.inode_machine.specs.Rules.{Inv, LocksNone, Own, own_of as above_own, more, if_kept}
+use Rattle.inode_machine.specs.Rules.{Inv, LocksNone, Own, own_of as above_own, more, if_kept, is_hart}
 use Rattle.inodes_on_tables.specs.Shown as tables
 use Rattle.inodes_on_tables.specs.Shown.{loaded, descriptor, first, lent_by, place_with}
 use Rattle.inodes_on_tables.proofs.Desks.{part_same, taken_same, lenders_set}
 use Rattle.inodes_on_blocks.specs.OnBlocks.{is_joined, Ghost, AreOnBlocks}
 use Rattle.inodes_on_blocks.specs.Below.{World, log_of, tables_of, came_to, exec}
-use Rattle.inodes_on_blocks.specs.Shown.{Shows, CommitShows, if_joined, ghost_of}
+use Rattle.inodes_on_blocks.specs.Shown.{Shows, CommitShows, if_joined, ghost_of, on_blocks}
 use Rattle.inodes_on_blocks.specs.Lowering.{Same, Kept, Carry, Base, Stands, commit_in, below, Labels, labelled, Keeps}
 use Rattle.inodes_on_blocks.specs.Handlers.{leave}
 use Rattle.inodes_on_blocks.specs.Acting.{ActsOnce}
 use Rattle.inodes_on_blocks.proofs.Committing.{is_member, nobody_commits, commit_other, with_log, written_to, LeavesSeen, written_shows, written_same}
-use Rattle.inodes_on_blocks.proofs.Layer.{below_laws, held_back, kept_alike}
+use Rattle.inodes_on_blocks.proofs.Layer.{below_laws, held_back, kept_alike, hart_is, is_here}
 use Rattle.inodes_on_blocks.proofs.Marked.{marked_same, shows_marked}
 use Rattle.inodes_on_blocks.proofs.Quiet.{leave_keeps}
 
@@ -158,6 +158,7 @@ tables_desk h new t w load fds hand directory lends lender shows = record {
 -- a hart that commits, with so many writes at most
 record Committing (sizes : Super) (h left : ℕ) (r : World) (g : above.World) : Type 0 where
   commits : r.commits ≡ Some h
+  new : (n : ℕ) → r.new n ≢ Some h
   begun : (log_of r).phase ≢ Open
   runs : (log_of r).phase ≢ Halted
   enough : writes_left (length (log_of r).group) (log_of r).phase ≤ left
@@ -169,11 +170,12 @@ record Committing (sizes : Super) (h left : ℕ) (r : World) (g : above.World) :
 
 committing_then : (sizes : Super) (h left : ℕ) (v w : World) (g u : above.World) → Same h v w → Kept h g u → Committing sizes h left v g → Committing sizes h left w u
 committing_then sizes h left v w g u same kept c =
-    let back = held_back v.commits w.commits h (commit_in (log_of v)) (commit_in (log_of w)) (sym same.commit) c.commits in
+    let back = held_back v.commits w.commits h (commit_in (log_of v)) (commit_in (log_of w)) (λ z. (sym same.begun z).0) c.commits in
     let phase : (log_of w).phase ≡ (log_of v).phase = ap (λ (p : Phase × List ℕ). p.0) back.1 in
     let group : (log_of w).group ≡ (log_of v).group = ap (λ (p : Phase × List ℕ). p.1) back.1 in
     record {
       commits = back.0;
+      new = λ n e. c.new n (hart_is (v.new n) h (sym (λ z. (same.begun z).1 n) ∙ is_here (w.new n) h e));
       begun = λ e. c.begun (sym phase ∙ e);
       runs = λ e. c.runs (sym phase ∙ e);
       enough = subst (λ (q : Phase). writes_left (length (log_of w).group) q ≤ left) (sym phase) (subst (λ (ks : List ℕ). writes_left (length ks) (log_of v).phase ≤ left) (sym group) c.enough);
@@ -202,6 +204,7 @@ module _ (sizes : Super) (l : Labels) (laws : Laws (labelled l)) (keeps : Keeps 
     rests : ended ≡ true → r.commits ≡ None
     free : count_of (is_held_by h) (log_of r).seats ≡ 0
     taken : (b : ℕ) → r.taken b ≢ Some h
+    new : (n : ℕ) → r.new n ≢ Some h
     none : (i : ℕ) → lock_holder i (tables_of r) ≢ Some h
     sizes_are : (log_of r).sizes ≡ sizes
 
@@ -244,6 +247,7 @@ module _ (sizes : Super) (l : Labels) (laws : Laws (labelled l)) (keeps : Keeps 
           let enough = on.enough in
           record {
             commits = on.commits;
+            new = on.new;
             begun = begun;
             runs = runs_on;
             enough = subst (λ (ks : List ℕ). writes_left (length ks) next ≤ left) (sym group) (omega (arith, falls, enough));
@@ -267,6 +271,7 @@ module _ (sizes : Super) (l : Labels) (laws : Laws (labelled l)) (keeps : Keeps 
               rests = λ z. refl;
               free = own.count ∙ on.free;
               taken = on.taken;
+              new = on.new;
               none = on.none;
               sizes_are = on.sizes_are;
             }),
@@ -283,6 +288,7 @@ module _ (sizes : Super) (l : Labels) (laws : Laws (labelled l)) (keeps : Keeps 
               rests = λ z. absurd (cc z);
               free = own.count ∙ on.free;
               taken = on.taken;
+              new = on.new;
               none = on.none;
               sizes_are = on.sizes_are;
             }),
@@ -313,11 +319,11 @@ module _ (sizes : Super) (l : Labels) (laws : Laws (labelled l)) (keeps : Keeps 
     abbrev ends : Unit {0} → P M (Handed (Unit {0}) Carry)
     ends a = Ret (record { answer = a; carry = c })
 
-    rests_with : (r : World) (g : above.World) → r.commits ≡ None → count_of (is_held_by h) (log_of r).seats ≡ 0 → ((b : ℕ) → r.taken b ≢ Some h) → ((i : ℕ) → lock_holder i (tables_of r) ≢ Some h) → (g.desks h).lender ≡ None → Base h r g c
-    rests_with r g commits free taken none alone = record {
+    rests_with : (r : World) (g : above.World) → r.commits ≡ None → ((n : ℕ) → r.new n ≢ Some h) → count_of (is_held_by h) (log_of r).seats ≡ 0 → ((b : ℕ) → r.taken b ≢ Some h) → ((i : ℕ) → lock_holder i (tables_of r) ≢ Some h) → (g.desks h).lender ≡ None → Base h r g c
+    rests_with r g commits new free taken none alone = record {
       free = free;
       taken = taken;
-      rests = λ e. let z = sym commits ∙ e in cc z;
+      through = record { commits = λ e. let z = sym commits ∙ e in cc z; new = new };
       inodes = λ i e. absurd (none i e);
       lent = λ some. absurd (some alone);
     }
@@ -335,7 +341,7 @@ module _ (sizes : Super) (l : Labels) (laws : Laws (labelled l)) (keeps : Keeps 
         by : (v : W) (fs : List l.Step) → C tt fs v.seen → Committing sizes h (suc left) v.real v.seen
             → ((gs : List l.Step) (u : W) → C tt gs u.seen → Committing sizes h left u.real u.seen → Wp M h B Q (bind (commits left) ends) left gs u) → (ended : Bool) (r : World) → Wrote left v ended r
             → Wp M h B Q (bind (commit_unless (commits left) ended) ends) left fs (record { real = r; seen = v.seen })
-        by v fs done now again true r wrote = (done, (rests_with r v.seen (wrote.rests refl) wrote.free wrote.taken wrote.none now.alone, wrote.sizes_are))
+        by v fs done now again true r wrote = (done, (rests_with r v.seen (wrote.rests refl) wrote.new wrote.free wrote.taken wrote.none now.alone, wrote.sizes_are))
         by v fs done now again false r wrote = again fs (record { real = r; seen = v.seen }) done (wrote.goes refl)
 
 -- ---- the leave
@@ -352,7 +358,7 @@ module _ (l : Labels) (laws : Laws (labelled l)) (keeps : Keeps l) (h : ℕ) (lt
   abbrev left_below : World → Option ℕ → World
   left_below r commits = with_log r (left_log (log_of r)) commits
 
-  module _ (v : World) (g : above.World) (shows : Shows v g) (none : LocksNone h g) (member : IsMember (log_of v).members h) (commits : Option ℕ) where
+  module _ (v : World) (g : above.World) (shows : Shows v g) (through : (n : ℕ) → v.new n ≢ Some h) (none : LocksNone h g) (member : IsMember (log_of v).members h) (commits : Option ℕ) where
     abbrev before : LogPart
     before = log_of v
 
@@ -371,10 +377,11 @@ module _ (l : Labels) (laws : Laws (labelled l)) (keeps : Keeps l) (h : ℕ) (lt
         | inr ne ↦ ap (λ (d : Desk). d.joined) (put_other g.desks h desk j ne) ∙ shows.members j lj ∙ sym (ap is_some (get_or-set_other before.members h j None None ne))
       ];
       blocks = subst (λ (x : Ghost). AreOnBlocks before.contents before.seats before.sizes (slice_set before.members h None) x) (sym ghost)
-          (leave_keeps before.contents before.seats before.sizes before.members (ghost_of v.owner v.left g.disk g.lock g.desks) shows.blocks h (λ i e. free (g.lock i) (none i) e));
+          (leave_keeps before.contents before.seats before.sizes before.members (ghost_of v.owner v.left (on_blocks v.new g.disk) g.lock g.desks) shows.blocks h (λ i e. free (g.lock i) (none i) e));
       bytes = shows.bytes;
       taken = shows.taken;
       commit = commit;
+      news = λ n k e. let is = shows.news n k e in record { low = is.low; bound = is.bound; free = is.free; unlocked = is.unlocked; kept = is.kept; joined = ap is_some (get_or-set_other before.members h k None None (λ q. through n (e ∙ ap (λ (z : ℕ). Some z) q))) ∙ is.joined };
       loads = record { seen = shows.loads.seen; dead = shows.loads.dead; typed = shows.loads.typed };
       offsets = shows.offsets;
     }
@@ -390,8 +397,8 @@ module _ (l : Labels) (laws : Laws (labelled l)) (keeps : Keeps l) (h : ℕ) (lt
         change None ne = refl
         change (Some j) ne = ap (λ (d : Desk). if d.joined then Some j else None) (put_other g.desks h desk j (λ q. ne (ap (λ (z : ℕ). Some z) q)))
 
-        ghost : ghost_of v.owner v.left g.disk g.lock (put g.desks h desk) ≡ ghost_of v.owner v.left g.disk g.lock g.desks
-        ghost = λ z. record { nodes = g.disk; owner = v.owner; left = v.left; changing = λ i. change (g.lock i) (none i) z }
+        ghost : ghost_of v.owner v.left (on_blocks v.new g.disk) g.lock (put g.desks h desk) ≡ ghost_of v.owner v.left (on_blocks v.new g.disk) g.lock g.desks
+        ghost = λ z. record { nodes = on_blocks v.new g.disk; owner = v.owner; left = v.left; changing = λ i. change (g.lock i) (none i) z }
 
     left_same : (other : ℕ) → other ≢ h → if_kept commits other (commit_in (left_log before)) ≡ None → Same other v (left_below v commits)
     left_same other ne nothing = record {
@@ -403,7 +410,7 @@ module _ (l : Labels) (laws : Laws (labelled l)) (keeps : Keeps l) (h : ℕ) (lt
       group = λ b k m e. e;
       sizes = refl;
       taken = λ b. refl;
-      commit = nothing ∙ sym (ap (λ (o : Option ℕ). if_kept o other (commit_in before)) (nobody_commits h v g shows member));
+      begun = λ z. ((nothing ∙ sym (ap (λ (o : Option ℕ). if_kept o other (commit_in before)) (nobody_commits h v g shows member))) z, λ n. is_hart (v.new n) other);
     }
 
   module _ (sizes : Super) (B : List l.Step → Type 0) (C : Unit {0} → List l.Step → above.World → Type 0) (m : Unit {0} → Option above.Mark) (lasts : Lasts (labelled l) h B C) (c : Carry) where
@@ -438,27 +445,28 @@ module _ (l : Labels) (laws : Laws (labelled l)) (keeps : Keeps l) (h : ℕ) (lt
 
       leads : (a : Left) → (a ≡ Free → phase ≡ Open) → (a ≡ Commits → phase ≡ Staging 0) → Leads a
       leads Free opens_ begins =
-          let shown = left_shows v.real v.seen shows may.1.0 member v.real.commits whole (subst (λ (o : Option ℕ). CommitShows o phase) (sym nobody) (opens_ refl)) in (
+          let shown = left_shows v.real v.seen shows stands.0.through.new may.1.0 member v.real.commits whole (subst (λ (o : Option ℕ). CommitShows o phase) (sym nobody) (opens_ refl)) in (
             tt,
             marked_then,
             refl,
             tt,
             (λ inv. shows_marked (left_below v.real v.real.commits) then_ marked_then (marked_same h (m tt) then_) shown),
-            (λ other ne. left_same v.real v.seen shows may.1.0 member v.real.commits other ne (ap (λ (o : Option ℕ). if_kept o other (commit_in (left_log kept_log))) nobody)),
-            λ gs inv done. (done, (rests_with sizes l laws keeps h lt B C m lasts c (left_below v.real v.real.commits) marked_then nobody stands.0.free stands.0.taken unlocked alone, stands.1)),
+            (λ other ne. left_same v.real v.seen shows stands.0.through.new may.1.0 member v.real.commits other ne (ap (λ (o : Option ℕ). if_kept o other (commit_in (left_log kept_log))) nobody)),
+            λ gs inv done. (done, (rests_with sizes l laws keeps h lt B C m lasts c (left_below v.real v.real.commits) marked_then nobody stands.0.through.new stands.0.free stands.0.taken unlocked alone, stands.1)),
           )
       leads Commits opens_ begins =
           let now : phase ≡ Staging 0 = begins refl in
-          let shown = left_shows v.real v.seen shows may.1.0 member (Some h) whole (λ e. let z = sym now ∙ e in cc z) in
+          let shown = left_shows v.real v.seen shows stands.0.through.new may.1.0 member (Some h) whole (λ e. let z = sym now ∙ e in cc z) in
           let room = whole.log.room in (
             tt,
             marked_then,
             refl,
             tt,
             (λ inv. shows_marked (left_below v.real (Some h)) then_ marked_then (marked_same h (m tt) then_) shown),
-            (λ other ne. left_same v.real v.seen shows may.1.0 member (Some h) other ne (commit_other other h (commit_in (left_log kept_log)) ne)),
+            (λ other ne. left_same v.real v.seen shows stands.0.through.new may.1.0 member (Some h) other ne (commit_other other h (commit_in (left_log kept_log)) ne)),
             λ gs inv done. commit_all sizes l laws keeps h lt B C m lasts c 62 gs (record { real = left_below v.real (Some h); seen = marked_then }) done (record {
               commits = refl;
+              new = stands.0.through.new;
               begun = λ e. let z = sym now ∙ e in cc z;
               runs = λ e. let z = sym now ∙ e in cc z;
               enough = subst (λ (p : Phase). writes_left (length kept_log.group) p ≤ 62) (sym now) (omega (arith, room));

@@ -214,7 +214,7 @@ module _ (l : Labels) (laws : Laws (labelled l)) (keeps : Keeps l) (h : ℕ) (lt
       (λ v c shows inv base may. (
         may_give child descriptor_count v shows inv may.0 may.1.0 (omega arith) (λ i low below. absurd (omega (arith, low, below))),
         λ x t.
-            subst (λ (d : Did Given World). CameTo l laws keeps h (LendDirectory child) v ⊥ d old_directory (λ a. c)) (sym (in_tables_is h (steps.Give child descriptor_count) v.real (λ a o. refl) (λ s. refl) (give_next h child descriptor_count (tables_of v.real))))
+            subst (λ (d : Did Given World). CameTo l laws keeps h (LendDirectory child) v ⊥ d old_directory (λ a. c)) (sym (in_tables_is h (steps.Give child descriptor_count) v.real (λ a o. refl) (λ s. refl) (λ a l. refl) (give_next h child descriptor_count (tables_of v.real))))
             (from_both l laws keeps h lt (LendDirectory child) v ⊥ old_directory (λ a b. a ≡ given.Directory b) c (give_next h child descriptor_count (tables_of v.real)) (above_exec.exec h above.Room (LendDirectory child) v.seen) refl
             (directories_are_given h child (tables_of v.real) v.seen (loaded (tables_of v.real)) shows.tables inv (runs_here l laws keeps h lt v may.0) may.1)
             (λ e. no_wait _ _ e) (λ a b e. ap old_directory e) (λ b u e. ran_same h v.seen (moved_in v.seen h child) u (v.seen.desks child).directory b e (moved_same h child v.seen inv lt)) shows base may.0),
@@ -234,7 +234,7 @@ module _ (l : Labels) (laws : Laws (labelled l)) (keeps : Keeps l) (h : ℕ) (lt
       let le = starts_below from (v.seen.desks h).fds may.1.3 in (
         may_give child from v shows inv may.0 may.1.0 le (child_none child from v.seen inv may.1),
         λ x t.
-            subst (λ (d : Did Given World). CameTo l laws keeps h (Lend child from) v ⊥ d lent_to (λ a. c)) (sym (in_tables_is h (steps.Give child from) v.real (λ a o. refl) (λ s. refl) (give_next h child from (tables_of v.real))))
+            subst (λ (d : Did Given World). CameTo l laws keeps h (Lend child from) v ⊥ d lent_to (λ a. c)) (sym (in_tables_is h (steps.Give child from) v.real (λ a o. refl) (λ s. refl) (λ a l. refl) (give_next h child from (tables_of v.real))))
             (from_both l laws keeps h lt (Lend child from) v ⊥ lent_to (λ a b. a ≡ given_as b) c (give_next h child from (tables_of v.real)) (above_exec.exec h above.Room (Lend child from) v.seen) refl
             (descriptors_are_given h child from (tables_of v.real) v.seen (loaded (tables_of v.real)) shows.tables inv (runs_here l laws keeps h lt v may.0) may.1 le)
             (lend_runs h child v.seen (next_used from (v.seen.desks h).fds)) (λ a b e. ap lent_to e ∙ lent_back b) (λ b u e. lend_same h child v.seen (next_used from (v.seen.desks h).fds) b u inv lt (child_apart h child v.seen may.0 may.1.0.1) e) shows base may.0),

@@ -1,6 +1,7 @@
 pub mod Quiet
 pub mod Marked
 pub mod OpenFiles
+pub mod News
 pub mod Layer
 pub mod Stepping
 pub mod Tables

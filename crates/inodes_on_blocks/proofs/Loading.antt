@@ -90,7 +90,7 @@ same_again h b v w s before after = record {
   group = s.group;
   sizes = s.sizes;
   taken = s.taken;
-  commit = s.commit;
+  begun = s.begun;
 }
 
 -- ---- the load

@@ -45,7 +45,7 @@ use Rattle.inodes_on_blocks.proofs.Loading.{s-load}
 use Rattle.inodes_on_blocks.proofs.Marked.{SameCode}
 use Rattle.inodes_on_blocks.proofs.OpenFiles.{open_alike, open_kept, open_then}
 use Rattle.inodes_on_blocks.proofs.SlotSteps.{in_tables_is, came_quiet, all_same}
-use Rattle.inodes_on_blocks.proofs.StatSteps.{file_typed, file_referred, lock_came, came_acting}
+use Rattle.inodes_on_blocks.proofs.StatSteps.{file_typed, file_referred, lock_came, came_acting, file_old}
 use Rattle.inodes_on_blocks.proofs.Tables.{with_tables}
 use Rattle.inodes_on_blocks.proofs.TakeSteps.{learned_base}
 
@@ -133,7 +133,7 @@ module _ (l : Labels) (laws : Laws (labelled l)) (keeps : Keeps l) (h : ℕ) (lt
 
         on_tables : (v : W) (x : Outside) (d : Did LockedState TablesState) → lock_named h want.Read fd (tables_of v.real) ≡ d → IsActing v (did_in (with_tables v.real) d) → IsActing v (exec h x (steps.LockFile want.Read fd) v.real)
         on_tables v x d is acting =
-            subst (λ (z : Did LockedState World). IsActing v z) (sym (in_tables_is h (steps.LockFile want.Read fd) v.real (λ a o. refl) (λ s. refl) (lock_named h want.Read fd (tables_of v.real)) ∙ ap (did_in (with_tables v.real)) is)) acting
+            subst (λ (z : Did LockedState World). IsActing v z) (sym (in_tables_is h (steps.LockFile want.Read fd) v.real (λ a o. refl) (λ s. refl) (λ a l. refl) (lock_named h want.Read fd (tables_of v.real)) ∙ ap (did_in (with_tables v.real)) is)) acting
 
         may_be : (v : W) (o : Option Entry) → Shows v.real v.seen → Inv v.seen → (v.seen.desks h).lender ≡ None → entry_of v.seen h fd ≡ o → ((i : ℕ) → v.seen.lock i ≢ Some h) → MayLockFile h (file_named h fd (tables_of v.real)) (tables_of v.real)
         may_be v None shows inv free is none = subst (λ (z : Option files.OpenFile). MayLockFile h z (tables_of v.real)) (sym (named v None shows inv free is)) tt
@@ -170,7 +170,7 @@ module _ (l : Labels) (laws : Laws (labelled l)) (keeps : Keeps l) (h : ℕ) (lt
                   (λ u ran free after.
                   on_tables v x (Ran (Locks (file_of e) (loaded t n)) u) (lower ∙ ap (with_locked (file_of e)) ran)
                   (let ran_to : lock_at h v.seen (entry_of v.seen h fd) (read_refused (entry_of v.seen h fd)) ≡ Ran (LocksIt n e.file.offset) (locked h n v.seen) = (λ z. lock_at h v.seen (is z) (r z)) ∙ ap (lock_if h n (LocksIt n e.file.offset) v.seen (locked h n v.seen)) free in
-                  let came = lock_came l laws keeps h lt (LockFile fd) n v c (LocksIt n e.file.offset) u shows stands_v.0 may.0 referred.2 free (file_typed v.seen referred.0 e inv referred.1 free) ran_to after in
+                  let came = lock_came l laws keeps h lt (LockFile fd) n v c (LocksIt n e.file.offset) u shows stands_v.0 may.0 referred.2 free (file_old v.real v.seen shows referred.0 e inv referred.1) (file_typed v.seen referred.0 e inv referred.1 free) ran_to after in
                   came_acting l laws keeps h lt sizes (LockFile fd) m B C lasts v (premises.MayWait h (steps.LockFile want.Read fd) v.real.state) (Locks (file_of e) (loaded t n)) (with_tables v.real u) (LocksIt n e.file.offset) (put c n (Has (inode_in (log_of v.real) n) NothingMore)) Next tt stands_v.1 came
                   (λ g same_g stands_g gs inv_g done.
                   loads (LockFile fd) m c B C lasts (LocksIt n e.file.offset) v e shows inv may.0 is referred.2 u g after (subst (λ (x : above.World). SameCode x g) (ran_is (LocksIt n e.file.offset) _ came.then_ (locked h n v.seen) came.ran ran_to) same_g) stands_g gs done))),
@@ -196,7 +196,7 @@ module _ (l : Labels) (laws : Laws (labelled l)) (keeps : Keeps l) (h : ℕ) (lt
 
         on_tables : (v : W) (x : Outside) (d : Did A TablesState) → lock_opened h (tables_of v.real) (file_named h fd (tables_of v.real)) ≡ d → IsActing v (did_in (with_tables v.real) d) → IsActing v (exec h x (steps.LockOpen fd) v.real)
         on_tables v x d is acting =
-            subst (λ (z : Did A World). IsActing v z) (sym (in_tables_is h (steps.LockOpen fd) v.real (λ a o. refl) (λ s. refl) (lock_opened h (tables_of v.real) (file_named h fd (tables_of v.real))) ∙ ap (did_in (with_tables v.real)) is)) acting
+            subst (λ (z : Did A World). IsActing v z) (sym (in_tables_is h (steps.LockOpen fd) v.real (λ a o. refl) (λ s. refl) (λ a l. refl) (lock_opened h (tables_of v.real) (file_named h fd (tables_of v.real))) ∙ ap (did_in (with_tables v.real)) is)) acting
 
         by : (v : W) → Shows v.real v.seen → Inv v.seen → Stands sizes h v.real v.seen c → rules.May h (LockOpen fd n) v.seen → (e : Entry) → entry_of v.seen h fd ≡ Some e → e.file.number ≡ n
             → premises.May h (steps.LockOpen fd) v.real.state × ((x : Outside) → premises.Honest h (steps.LockOpen fd) v.real.state x → IsActing v (exec h x (steps.LockOpen fd) v.real))
@@ -217,7 +217,7 @@ module _ (l : Labels) (laws : Laws (labelled l)) (keeps : Keeps l) (h : ℕ) (lt
                   (λ u ran free after.
                   on_tables v x (Ran (file_of e, loaded t k) u) (lower ∙ ap (with_open (file_of e)) ran)
                   (let ran_to : lock_if h n (n, offset_of (entry_of v.seen h fd)) v.seen (locked h n v.seen) (v.seen.lock n) ≡ Ran (k, e.file.offset) (locked h k v.seen) = (λ z. lock_if h (sym number z) (sym number z, offset_of (is z)) v.seen (locked h (sym number z) v.seen) (v.seen.lock (sym number z))) ∙ ap (lock_if h k (k, e.file.offset) v.seen (locked h k v.seen)) free in
-                  let came = lock_came l laws keeps h lt (LockOpen fd n) k v c (k, e.file.offset) u shows stands_v.0 may.0 referred.2 free (file_typed v.seen referred.0 e inv referred.1 free) ran_to after in
+                  let came = lock_came l laws keeps h lt (LockOpen fd n) k v c (k, e.file.offset) u shows stands_v.0 may.0 referred.2 free (file_old v.real v.seen shows referred.0 e inv referred.1) (file_typed v.seen referred.0 e inv referred.1 free) ran_to after in
                   came_acting l laws keeps h lt sizes (LockOpen fd n) m B C lasts v (premises.MayWait h (steps.LockOpen fd) v.real.state) (file_of e, loaded t k) (with_tables v.real u) (k, e.file.offset) (put c k (Has (inode_in (log_of v.real) k) NothingMore)) Next tt stands_v.1 came
                   (λ g same_g stands_g gs inv_g done.
                   loads (LockOpen fd n) m c B C lasts (k, e.file.offset) v e shows inv may.0 is referred.2 u g after (subst (λ (x : above.World). SameCode x g) (ran_is (k, e.file.offset) _ came.then_ (locked h k v.seen) came.ran ran_to) same_g) stands_g gs done))),

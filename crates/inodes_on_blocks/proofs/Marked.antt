@@ -27,7 +27,8 @@ use Rattle.inodes_on_tables.specs.Shown.{descriptor, first, lent_by, place_with,
 use Rattle.inodes_on_blocks.specs.OnBlocks.{Ghost, AreOnBlocks}
 use Rattle.inodes_on_blocks.specs.Below as below
 use Rattle.inodes_on_blocks.specs.Below.{log_of, tables_of}
-use Rattle.inodes_on_blocks.specs.Shown.{Shows, if_joined, ghost_of}
+use Rattle.inodes_on_blocks.specs.Shown.{Shows, if_joined, ghost_of, on_blocks}
+use Rattle.inodes_on_blocks.proofs.News.{new_kept}
 
 -- ---- the tree keeps its number of inodes
 
@@ -293,6 +294,7 @@ shows_marked r v w s shows = record {
   bytes = shows.bytes;
   taken = shows.taken;
   commit = shows.commit;
+  news = λ n k e. let is = shows.news n k e in new_kept n k (log_of r) v.lock v.keeper w.lock w.keeper ((λ z. s.lock z n) ∙ is.unlocked) ((λ z. s.keeper z n) ∙ is.kept) is;
   loads = record {
     seen = shows.loads.seen;
     dead = λ n lt free loose dead. shows.loads.dead n (subst (λ (z : ℕ). 0 < z) (λ z. s.refs z n) lt) ((λ z. sym s.lock z n) ∙ free) ((λ z. sym s.keeper z n) ∙ loose) (ap (λ (f : ℕ → Option Node). is_dead (f n)) (sym s.disk) ∙ dead);
@@ -305,5 +307,5 @@ shows_marked r v w s shows = record {
     change None = refl
     change (Some g) = ap (λ (b : Bool). if b then Some g else None) (s.desks g).joined
 
-    ghost : ghost_of r.owner r.left w.disk w.lock w.desks ≡ ghost_of r.owner r.left v.disk v.lock v.desks
-    ghost = λ z. record { nodes = s.disk z; owner = r.owner; left = r.left; changing = λ i. ((λ y. if_joined w.desks (s.lock y i)) ∙ change (v.lock i)) z }
+    ghost : ghost_of r.owner r.left (on_blocks r.new w.disk) w.lock w.desks ≡ ghost_of r.owner r.left (on_blocks r.new v.disk) v.lock v.desks
+    ghost = λ z. record { nodes = on_blocks r.new (s.disk z); owner = r.owner; left = r.left; changing = λ i. ((λ y. if_joined w.desks (s.lock y i)) ∙ change (v.lock i)) z }

@@ -136,6 +136,7 @@ module _ (disk : List (List ℕ)) (failures : ℕ) (m : IsMountable disk) where
     bytes = λ b within out. subst IsBytes (sym (seen_so b)) (m.bytes b);
     taken = λ b h e. absurd (none-some h e);
     commit = refl;
+    news = λ n k e. absurd (none-some k e);
     loads = loads;
     offsets = λ k e at. absurd (none-some e at);
   }
@@ -145,7 +146,7 @@ module _ (disk : List (List ℕ)) (failures : ℕ) (m : IsMountable disk) where
     record {
       free = none_held h 0 46;
       taken = λ b e. none-some h e;
-      rests = λ e. none-some h e;
+      through = record { commits = λ e. none-some h e; new = λ n e. none-some h e };
       inodes = λ i e. absurd (none-some h (sym (nothing_locked i) ∙ e));
       lent = λ some. absurd (some refl);
     },

@@ -27,8 +27,8 @@ use Rattle.inodes_on_blocks.specs.Lowering.{NothingMore, Had, Has, Carry, IsLoad
 use Rattle.inodes_on_blocks.specs.Owners.{Owners, is_named, inode_put}
 use Rattle.inodes_on_blocks.specs.Recording.{CanPut, IsChanging, PutLeaves, log_with, owners_with, with_record}
 use Rattle.inodes_on_blocks.specs.Shown.{Shows}
-use Rattle.inodes_on_blocks.proofs.Changing.{owner_with, Changing, hart_is, is_here, others_put}
-use Rattle.inodes_on_blocks.proofs.Committing.{is_member, nobody_commits}
+use Rattle.inodes_on_blocks.proofs.Changing.{owner_with, Changing, others_put}
+use Rattle.inodes_on_blocks.proofs.Layer.{hart_is, is_here, through_put}
 use Rattle.inodes_on_blocks.proofs.OpenFiles.{open_same, open_then}
 use Rattle.inodes_on_blocks.proofs.PutLaws.{before, naming_puts_leave}
 use Rattle.inodes_on_blocks.proofs.Putting.{lock_range, shows_put}
@@ -130,7 +130,7 @@ module _ (h n : ℕ) (c : Carry) (o : Option Node) (d : Dinode) (x : Node) (r : 
   base_then one free = record {
     free = let back = (put_hand h b (with_record n d r) (log_of r).seats can.holder).count in omega (arith, back, one);
     taken = none_taken;
-    rests = λ e. none-some h (sym (nobody_commits h r g shows (is_member (log_of r).members h can.joined)) ∙ e);
+    through = through_put h r then_ (log_of then_) refl refl changing.through;
     inodes = λ i e. elim (same_or i n) [
       | inl q ↦ subst (λ (j : ℕ). InHand h j (put c n (Has d NothingMore) j) then_ seen_then) (sym q) this
       | inr ne ↦ subst (λ (z : Had). InHand h i z then_ seen_then) (sym (put_other c n (Has d NothingMore) i ne)) (other i ne (others_put h n b (with_record n d r) r g shows naming_leaves c changing.others i ne e))

@@ -1,5 +1,5 @@
 -- A block that was taken for an inode comes to be named: in the record that will be put, or in the indirect block.
-use Rattle.std.proofs.Common.{◌≡◌, ◌≢◌, ℕ, zero, suc, ◌+◌, ◌-◌, ◌*◌, ◌^◌, ◌<◌, ◌≤◌, nat_lt, Bool, true, false, List, [], ◌∷◌, ◌++◌, length, length-set, Option, sym, ◌∙◌, ap, subst, arith, get_or-set_same, if◌then◌else◌}
+use Rattle.std.proofs.Common.{◌≡◌, ◌≢◌, ℕ, zero, suc, ◌+◌, ◌-◌, ◌*◌, ◌^◌, ◌<◌, ◌≤◌, nat_lt, Bool, true, false, List, [], ◌∷◌, ◌++◌, length, length-set, Option, sym, ◌∙◌, ap, subst, arith, get_or-set_same, if◌then◌else◌, refl}
 use Rattle.std.specs.Prelude.{slice_index, slice_set}
 use Rattle.std.specs.List.{AllByRecursion}
 use Rattle.std.proofs.lemmas.Bool.Decides.{nat_tests}
@@ -26,6 +26,7 @@ use Rattle.inodes_on_blocks.specs.Giving.{world_with}
 use Rattle.inodes_on_blocks.specs.Lowering.{Carry}
 use Rattle.inodes_on_blocks.specs.Shown.{Shows}
 use Rattle.inodes_on_blocks.proofs.Changing.{owner_with, Changing, others_put}
+use Rattle.inodes_on_blocks.proofs.Layer.{through_put}
 use Rattle.inodes_on_blocks.proofs.OwnPuts.{IsOwnPut}
 use Rattle.inodes_on_blocks.proofs.Records.{overwrite_bytes, u32s}
 use Rattle.inodes_on_blocks.proofs.Taking.{HasSpare}
@@ -98,7 +99,7 @@ module _ (h n b : ℕ) (c : Carry) (o : Option Node) (d : Dinode) (x : Node) (r 
   pub direct_then : (i : ℕ) → i < 12 → slice_index d.addrs i ≡ 0 → Changing h n c o (with_address i b d) x r g × (block_number (numbers_of disk (with_address i b d)) i ≡ b)
   direct_then i lt free =
       let names = direct_named disk (owner_with h n r) n i b d x is.laid lt (omega (arith, lt, long)) free is.spare in (
-        record { others = is.others; lock = is.lock; keeps = is.keeps; was = is.was; lent = is.lent; laid = names.laid; named = names.named is.named },
+        record { others = is.others; lock = is.lock; keeps = is.keeps; was = is.was; through = is.through; lent = is.lent; laid = names.laid; named = names.named is.named },
         direct_place disk (with_address i b d) i (length-set d.addrs i b ∙ long) lt ∙ get_or-set_same d.addrs i b 0 (omega (arith, lt, long)),
       )
 
@@ -107,7 +108,7 @@ module _ (h n b : ℕ) (c : Carry) (o : Option Node) (d : Dinode) (x : Node) (r 
   unfolding zeros
   table_then free none =
       let names = table_named disk (owner_with h n r) n b d x is.laid (omega (arith, long)) free is.spare none in
-      record { others = is.others; lock = is.lock; keeps = is.keeps; was = is.was; lent = is.lent; laid = names.laid; named = names.named is.named }
+      record { others = is.others; lock = is.lock; keeps = is.keeps; was = is.was; through = is.through; lent = is.lent; laid = names.laid; named = names.named is.named }
 
   -- and in the indirect block, when that is put
   module _ (shows : Shows r g) (i : ℕ) (bytes : List ℕ) (some : slice_index d.addrs 12 ≢ 0) (lt : i < 256) (whole : length bytes ≡ 1024) (small : b < 2 ^ 32) (free : slice_index (numbers_in bytes) i ≡ 0)
@@ -130,6 +131,7 @@ module _ (h n b : ℕ) (c : Carry) (o : Option Node) (d : Dinode) (x : Node) (r 
             lock = is.lock;
             keeps = is.keeps;
             was = is.was;
+            through = through_put h r then_ (log_of then_) refl refl is.through;
             lent = is.lent;
             laid = subst (λ (f : ℕ → ℕ). IsLaidOut new f n d x) (sym made.owners) names.laid;
             named = subst (λ (f : ℕ → ℕ). NamesOwned new f n (numbers_of new d)) (sym made.owners) (names.named is.named);

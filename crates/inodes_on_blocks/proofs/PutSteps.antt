@@ -37,17 +37,16 @@ use Rattle.inode_machine.specs.World as above
 use Rattle.inode_machine.specs.Rules.{if_kept, Inv}
 use Rattle.inodes_on_blocks.specs.Below.{World, log_of, tables_of, disk_of}
 use Rattle.inodes_on_blocks.specs.Shown.{Shows}
-use Rattle.inodes_on_blocks.specs.Lowering.{below, commit_in, Labels, labelled, Keeps}
+use Rattle.inodes_on_blocks.specs.Lowering.{below, Labels, labelled, Keeps}
 use Rattle.inodes_on_blocks.specs.Holding.{in_hand, SameBut, Fetched}
 use Rattle.inodes_on_blocks.specs.Recording.{CanPut, PutLeaves, IsChanging, log_with, owners_with}
 use Rattle.inodes_on_blocks.specs.Giving.{world_with, KeepsRoom, GaveBlock, Gave}
 use Rattle.inodes_on_blocks.proofs.Alone.{kept_then}
-use Rattle.inodes_on_blocks.proofs.Committing.{is_member, nobody_commits, commit_none}
 use Rattle.inodes_on_blocks.proofs.Hands.{same_view}
 use Rattle.inodes_on_blocks.proofs.Layer.{below_laws, untouched_then}
 use Rattle.inodes_on_blocks.proofs.Fetching.{but_same, but_then, buffer_then, buffer_seen, s-fetch}
 use Rattle.inodes_on_blocks.proofs.Recorded.{put_hand}
-use Rattle.inodes_on_blocks.proofs.Putting.{lock_range}
+use Rattle.inodes_on_blocks.proofs.Putting.{lock_range, put_begun}
 use Rattle.inodes_on_blocks.proofs.OwnerPuts.{owner_given, taken_given, taken_seen}
 use Rattle.inodes_on_blocks.proofs.PutLaws.{recorded_puts_keep, cleared_bits_leave}
 use Rattle.inodes_on_blocks.proofs.BitmapPuts.{bitmaps_put_bits}
@@ -149,7 +148,7 @@ module _ (h n b : ℕ) (r : World) (g : above.World) (shows : Shows r g) (is : I
       buffers = λ k ne. same_view h k (log_of r) (log_of then_) ((put_hand h at bytes (log_of r).seats can.holder).others k ne) refl;
       back = put_back at bytes (log_of r).seats (shows.whole.cache.once at);
       taken = λ c. ap (λ (t : Option ℕ). if_kept t h (seen_of (log_of then_) c)) (taken_then c) ∙ taken_seen h n r g shows bytes can h c;
-      commit = commit_none h r.commits (commit_in (log_of then_)) (commit_in (log_of r)) (nobody_commits h r g shows (is_member (log_of r).members h can.joined));
+      begun = put_begun h at n bytes r g shows is.lock is.joined can (owners_with h at bytes r) clear_leaves h;
     }
 
 -- after what the others did, and a buffer taken
@@ -180,7 +179,7 @@ gave_then h n b v u w g shows mine p q =
       buffers = λ k ne. q.buffers k (λ e. ne (e ∙ ap (λ (s : Super). s.bmapstart) p.sizes)) ∙ p.buffers k ne;
       back = ap (λ (s : Super). holder_of s.bmapstart (log_of w).seats) (sym p.sizes) ∙ q.back;
       taken = λ c. q.taken c ∙ p.taken c;
-      commit = q.commit ∙ p.commit;
+      begun = q.begun ∙ p.begun;
     }
 
 -- the bitmap may be recorded

@@ -1,11 +1,12 @@
 -- A block recorded for an inode that the hart is changing: the others have theirs, and what is shown stays.
-use Rattle.std.proofs.Common.{◌≡◌, ◌≢◌, ℕ, ◌<◌, ◌≤◌, Bool, true, List, length, Option, Some, None, refl, sym, ◌∙◌, ap, subst, inl, inr, if◌then◌else◌}
+use Rattle.std.proofs.Common.{◌≡◌, ◌≢◌, ℕ, ◌<◌, ◌≤◌, Bool, true, List, length, Option, Some, None, refl, sym, ◌∙◌, ap, subst, inl, inr, if◌then◌else◌, false}
 use Rattle.std.specs.Prelude.{slice_get}
 use Rattle.std.proofs.lemmas.Option.{none-some, same_Some}
 use Rattle.fs_layout.specs.declared.superblock.Super.{Super}
 use Rattle.fs_layout.specs.declared.inode.Dinode.{Dinode}
 use Rattle.fs_layout.specs.Recovered.{sizes_of}
 use Rattle.tree_laws.proofs.Maps.{same_or}
+use Rattle.image_tree.specs.Inodes.{is_free}
 use Rattle.image_laws.specs.Running.{IsRunning}
 use Rattle.image_laws.proofs.SeenDisks.{good_seen}
 use Rattle.image_laws.proofs.HeldFrames.{untouched}
@@ -20,17 +21,19 @@ use Rattle.fs_machine.specs.Own.{Own}
 use Rattle.fs_machine.specs.Shown.{seen_of}
 use Rattle.inode_machine.specs.World as above
 use Rattle.inode_machine.specs.World.{Desk}
+use Rattle.inode_machine.specs.Rules.{is_hart}
 use Rattle.inodes_on_tables.specs.Shown as tables
 use Rattle.inodes_on_tables.specs.Shown.{loaded, loaded_in, loaded_at, loaded_of}
 use Rattle.inodes_on_blocks.specs.OnBlocks.{is_joined, AreOnBlocks}
 use Rattle.inodes_on_blocks.specs.Owners.{Owners}
-use Rattle.inodes_on_blocks.specs.Below.{World, log_of, tables_of, disk_of}
-use Rattle.inodes_on_blocks.specs.Shown.{Shows, if_joined, ghost_of}
-use Rattle.inodes_on_blocks.specs.Lowering.{Same, commit_in}
+use Rattle.inodes_on_blocks.specs.Below.{World, log_of, tables_of, disk_of, inode_in, untyped}
+use Rattle.inodes_on_blocks.specs.Shown.{Shows, if_joined, ghost_of, on_blocks}
+use Rattle.inodes_on_blocks.specs.Lowering.{Same, commit_in, undertaken}
 use Rattle.inodes_on_blocks.specs.Recording.{CanPut, PutLeaves}
 use Rattle.inodes_on_blocks.proofs.Committing.{is_member, nobody_commits, commit_none}
 use Rattle.inodes_on_blocks.proofs.Groups.{put_grows}
 use Rattle.inodes_on_blocks.proofs.Hands.{same_view}
+use Rattle.inodes_on_blocks.proofs.News.{untyped_less}
 use Rattle.inodes_on_blocks.proofs.Recorded.{whole_put, own_put, seen_then, good_then, bytes_then, members_joined}
 
 -- ---- inodes in memory
@@ -94,12 +97,37 @@ module _ (h b i : ℕ) (bytes : List ℕ) (r : World) (g : above.World) (shows :
 
   -- the world after it
   abbrev pub after : World
-  after = record { state = record (r.state) { log = now }; owner = o.owner; left = o.left; taken = o.taken; commits = r.commits }
+  after = record { state = record (r.state) { log = now }; owner = o.owner; left = o.left; taken = o.taken; commits = r.commits; new = untyped now r.new }
 
   range : (j : ℕ) → 0 < references_in (tables_of r).entries (place_of j (tables_of r).entries) → (1 ≤ j) × (j < (sizes_of (disk_of l)).ninodes)
   range j some =
       let at = referred_range j r g shows some in
       (at.0, subst (λ (s : Super). j < s.ninodes) (sym (good_seen l.sizes (seen_of l) (length l.contents) shows.blocks.seen).sizes_are) at.1)
+
+  -- a new inode's record is free still: it isn't this one, whose lock is out
+  still_free : PutLeaves h i r now o → (n k : ℕ) → r.new n ≡ Some k → is_free (inode_in now n) ≡ true
+  still_free leaves n k e =
+      let is = shows.news n k e in
+      let within : n < (sizes_of (disk_of l)).ninodes = subst (λ (s : Super). n < s.ninodes) (sym (good_seen l.sizes (seen_of l) (length l.contents) shows.blocks.seen).sizes_are) is.bound in
+      ap is_free (leaves.inodes n is.low within (λ q. none-some h (sym is.unlocked ∙ ap g.lock q ∙ mine))).inode ∙ is.free
+
+  -- so it is new still
+  new_stays : PutLeaves h i r now o → untyped now r.new ≡ r.new
+  new_stays leaves = λ z n. each n (r.new n) refl z
+    where
+      each : (n : ℕ) (t : Option ℕ) → r.new n ≡ t → untyped now r.new n ≡ r.new n
+      each n None e = at (is_free (inode_in now n))
+        where
+          at : (b : Bool) → (if b then r.new n else None) ≡ r.new n
+          at true = refl
+          at false = sym e
+      each n (Some k) e = ap (λ (b : Bool). if b then r.new n else None) (still_free leaves n k e)
+
+  pub put_begun : PutLeaves h i r now o → (k : ℕ) → undertaken k after ≡ undertaken k r
+  put_begun leaves k = λ z. (
+    commit_none k r.commits (commit_in now) (commit_in l) (nobody_commits h r g shows (is_member l.members h can.joined)) z,
+    λ n. is_hart (new_stays leaves z n) k,
+  )
 
   pub same_put : PutLeaves h i r now o → (k : ℕ) → k ≢ h → Same k r after
   same_put leaves k ne =
@@ -115,17 +143,17 @@ module _ (h b i : ℕ) (bytes : List ℕ) (r : World) (g : above.World) (shows :
         group = λ c j m e. put_grows l.group b c e;
         sizes = refl;
         taken = leaves.others k ne;
-        commit = commit_none k r.commits (commit_in now) (commit_in l) (nobody_commits h r g shows (is_member l.members h can.joined));
+        begun = put_begun leaves k;
       }
 
   changes : if_joined g.desks (g.lock i) ≡ Some h
   changes = ap (if_joined g.desks) mine ∙ ap (λ (t : Bool). if t then Some h else None) joined
 
-  blocks_then : PutLeaves h i r now o → AreOnBlocks now.contents now.seats now.sizes now.members (ghost_of o.owner o.left g.disk g.lock g.desks)
-  blocks_then leaves =
+  blocks_there : PutLeaves h i r now o → AreOnBlocks now.contents now.seats now.sizes now.members (ghost_of o.owner o.left (on_blocks r.new g.disk) g.lock g.desks)
+  blocks_there leaves =
       let good = good_then h b bytes r.state shows.whole shows.blocks.seen can in
       let was = good_seen l.sizes (seen_of l) (length l.contents) shows.blocks.seen in
-      let old : IsRunning (disk_of l) g.disk r.owner r.left (λ j. if_joined g.desks (g.lock j)) (is_joined l.members) = shows.blocks.running in
+      let old : IsRunning (disk_of l) (on_blocks r.new g.disk) r.owner r.left (λ j. if_joined g.desks (g.lock j)) (is_joined l.members) = shows.blocks.running in
       record {
         seen = seen_then h b bytes r.state shows.whole shows.blocks.seen can;
         running = record {
@@ -134,7 +162,7 @@ module _ (h b i : ℕ) (bytes : List ℕ) (r : World) (g : above.World) (shows :
           range = λ j v node. subst (λ (s : Super). (1 ≤ j) × (j < s.ninodes)) (was.sizes_are ∙ sym good.sizes_are) (old.range j v node);
           inodes = λ j low bound none.
               let within : j < (sizes_of (disk_of l)).ninodes = subst (λ (s : Super). j < s.ninodes) (good.sizes_are ∙ sym was.sizes_are) bound in
-              untouched (disk_of l) (disk_of now) r.owner o.owner j (g.disk j)
+              untouched (disk_of l) (disk_of now) r.owner o.owner j (on_blocks r.new g.disk j)
               (leaves.inodes j low within (λ q. none-some h (sym none ∙ ap (λ (n : ℕ). if_joined g.desks (g.lock n)) q ∙ changes))) (old.inodes j low within none);
           bits = leaves.bits;
           no_others = leaves.no_others;
@@ -142,6 +170,9 @@ module _ (h b i : ℕ) (bytes : List ℕ) (r : World) (g : above.World) (shows :
           changes = λ j k is. members_joined l.group b l.members h k ∙ old.changes j k is;
         };
       }
+
+  blocks_then : PutLeaves h i r now o → AreOnBlocks now.contents now.seats now.sizes now.members (ghost_of o.owner o.left (on_blocks (untyped now r.new) g.disk) g.lock g.desks)
+  blocks_then leaves = subst (λ (f : ℕ → Option ℕ). AreOnBlocks now.contents now.seats now.sizes now.members (ghost_of o.owner o.left (on_blocks f g.disk) g.lock g.desks)) (sym (new_stays leaves)) (blocks_there leaves)
 
   -- what is shown, the inode being changed still
   pub shows_put : PutLeaves h i r now o → Shows after g
@@ -155,6 +186,10 @@ module _ (h b i : ℕ) (bytes : List ℕ) (r : World) (g : above.World) (shows :
     bytes = bytes_then h b bytes r.state shows.whole shows.blocks.seen can shows.bytes;
     taken = leaves.shown;
     commit = shows.commit;
+    news = λ n k e.
+        let was = untyped_less now r.new n k e in
+        let is = shows.news n k was in
+        record { low = is.low; bound = is.bound; free = still_free leaves n k was; unlocked = is.unlocked; kept = is.kept; joined = members_joined l.group b l.members h k ∙ is.joined };
     loads = record {
       seen = λ n d e. elim (same_or n i) [
         | inl q ↦ absurd (none-some d (sym (not_loaded n h (tables_of r) g shows.tables (ap (λ (m : ℕ). lock_holder m (tables_of r)) q ∙ sym (shows.tables.places.holders i) ∙ mine)) ∙ e))

@@ -36,7 +36,7 @@ nobody_joined (None ∷ members) (suc h) none = nobody_joined members h none
 nobody_joined (Some k ∷ members) h none = absurd (omega (arith, none, one_joined k members))
 
 -- who was in a transaction is in one where hart h joins
-still_joined : (members : List (Option ℕ)) (h k f : ℕ) → is_joined members f ≡ true → is_joined (set members h (Some k)) f ≡ true
+pub still_joined : (members : List (Option ℕ)) (h k f : ℕ) → is_joined members f ≡ true → is_joined (set members h (Some k)) f ≡ true
 still_joined [] h k f joined = joined
 still_joined (m ∷ members) zero k zero joined = refl
 still_joined (m ∷ members) zero k (suc f) joined = joined

@@ -1,5 +1,5 @@
 -- In a world where nobody is in a transaction the seen blocks are an image of the tree.
-use Rattle.std.proofs.Common.{◌≡◌, inl, inr, ℕ, Bool, true, false, ◌||◌, if◌then◌else◌, length, is_some, Option, Some, None, refl, sym, ◌∙◌, ap, arith}
+use Rattle.std.proofs.Common.{◌≡◌, inl, inr, ℕ, Bool, true, false, ◌||◌, if◌then◌else◌, length, is_some, Option, Some, None, refl, sym, ◌∙◌, ap, arith, subst}
 use Rattle.std.proofs.lemmas.Bool.{cases_lt}
 use Rattle.std.proofs.lemmas.List.{get_or_past}
 use Rattle.fs_layout.specs.declared.superblock.Super.{Super}
@@ -13,7 +13,7 @@ use Rattle.image_tree.specs.Trees.{tree_in}
 use Rattle.tree_laws.proofs.Nodes.{settled_well}
 use Rattle.image_laws.specs.Holds.{live_part}
 use Rattle.image_laws.specs.Laws.{IsImageOf}
-use Rattle.image_laws.specs.Running.{IsTreeOf}
+use Rattle.image_laws.specs.Running.{IsTreeOf, IsRunning}
 use Rattle.image_laws.proofs.Held.{live_none}
 use Rattle.image_laws.proofs.RunningBlocks.{quiet_image}
 use Rattle.image_laws.proofs.SeenDisks.{good_seen}
@@ -22,8 +22,9 @@ use Rattle.inode_machine.specs.World as above
 use Rattle.inode_machine.specs.Rules.{Inv}
 use Rattle.inodes_on_blocks.specs.OnBlocks.{is_joined}
 use Rattle.inodes_on_blocks.specs.Below.{World, log_of, disk_of}
-use Rattle.inodes_on_blocks.specs.Shown.{Shows, if_joined, ghost_of}
+use Rattle.inodes_on_blocks.specs.Shown.{Shows, if_joined, ghost_of, on_blocks}
 use Rattle.inodes_on_blocks.specs.QuietWorlds.{IsQuiet, QuietWorldsAreImages, RestingWorldsAreImages}
+use Rattle.inodes_on_blocks.proofs.News.{none_new, old_node}
 use Rattle.inodes_on_blocks.proofs.Quiet.{quiet_disk}
 
 module _ (r : World) (w : above.World) (shows : Shows r w) (inv : Inv w) (quiet : IsQuiet w) where
@@ -44,6 +45,13 @@ module _ (r : World) (w : above.World) (shows : Shows r w) (inv : Inv w) (quiet 
   sizes_are : sizes_of (disk_of (log_of r)) ≡ (log_of r).sizes
   sizes_are = (good_seen (log_of r).sizes (seen_of (log_of r)) (length (log_of r).contents) shows.blocks.seen).sizes_are
 
+  -- so no inode is new
+  all_old : on_blocks r.new w.disk ≡ w.disk
+  all_old = λ z n. old_node r.new w.disk n (none_new r w shows n (λ k e. let a = (shows.news n k e).joined in let b = nobody k in let q : false ≡ true = sym b ∙ a in cc q)) z
+
+  running : IsRunning (disk_of (log_of r)) w.disk r.owner r.left (λ i. if_joined w.desks (w.lock i)) (is_joined (log_of r).members)
+  running = subst (λ (nodes : ℕ → Option Node). IsRunning (disk_of (log_of r)) nodes r.owner r.left (λ i. if_joined w.desks (w.lock i)) (is_joined (log_of r).members)) all_old shows.blocks.running
+
   these : IsTreeOf w.all (sizes_of (disk_of (log_of r))).ninodes w.disk (is_joined (log_of r).members)
   these = record {
     numbers = shows.size ∙ ap (λ (s : Super). s.ninodes) (sym sizes_are);
@@ -52,7 +60,7 @@ module _ (r : World) (w : above.World) (shows : Shows r w) (inv : Inv w) (quiet 
   }
 
   pub image : IsImageOf (disk_of (log_of r)) w.disk w.all
-  image = quiet_image (disk_of (log_of r)) w.disk r.owner r.left (λ i. if_joined w.desks (w.lock i)) (is_joined (log_of r).members) shows.blocks.running w.all inv.well these nobody
+  image = quiet_image (disk_of (log_of r)) w.disk r.owner r.left (λ i. if_joined w.desks (w.lock i)) (is_joined (log_of r).members) running w.all inv.well these nobody
 
   -- what is live is so before and after the tree settles
   live_settled : (n : ℕ) → live_part ((settle w.all).nodes n) ≡ live_part (w.all.nodes n)
@@ -70,12 +78,12 @@ module _ (r : World) (w : above.World) (shows : Shows r w) (inv : Inv w) (quiet 
 
   pub settled : IsNamedPart (settle w.all) (tree_of (tree_in (disk_of (log_of r))))
   settled =
-      (quiet_image (disk_of (log_of r)) w.disk r.owner r.left (λ i. if_joined w.desks (w.lock i)) (is_joined (log_of r).members) shows.blocks.running (settle w.all) (settled_well w.all inv.well) these_settled nobody).named
+      (quiet_image (disk_of (log_of r)) w.disk r.owner r.left (λ i. if_joined w.desks (w.lock i)) (is_joined (log_of r).members) running (settle w.all) (settled_well w.all inv.well) these_settled nobody).named
 
 pub quiet_worlds_are_images : QuietWorldsAreImages
 quiet_worlds_are_images r w shows inv quiet = (
   image r w shows inv quiet,
-  quiet_disk (log_of r).contents (log_of r).seats (log_of r).sizes (log_of r).members (ghost_of r.owner r.left w.disk w.lock w.desks) shows.blocks (image r w shows inv quiet).well_formed,
+  quiet_disk (log_of r).contents (log_of r).seats (log_of r).sizes (log_of r).members (ghost_of r.owner r.left (on_blocks r.new w.disk) w.lock w.desks) shows.blocks (image r w shows inv quiet).well_formed,
   settled r w shows inv quiet,
 )
 

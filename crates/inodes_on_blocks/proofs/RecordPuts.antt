@@ -27,7 +27,9 @@ use Rattle.inode_machine.specs.Rules.{is_hart}
 use Rattle.inodes_on_blocks.specs.Owners.{Owners, is_named, named_of, inode_put, owners_put}
 use Rattle.inodes_on_blocks.specs.Below.{World, log_of, tables_of, disk_of, owners_of}
 use Rattle.inodes_on_blocks.specs.Recording.{CanPut, PutLeaves}
-use Rattle.inodes_on_blocks.specs.Shown.{Shows, if_joined}
+use Rattle.inodes_on_blocks.specs.Shown.{Shows, if_joined, on_blocks}
+use Rattle.image_laws.specs.Running.{IsRunning}
+use Rattle.inodes_on_blocks.proofs.News.{put_node, locked_old}
 use Rattle.inodes_on_blocks.proofs.Recorded.{disk_put, put_bytes, old_bytes, seen_put_other}
 use Rattle.inodes_on_blocks.proofs.Putting.{not_loaded, lock_range}
 
@@ -128,13 +130,15 @@ node_then h n r g v shows mine joined = record {
   members = shows.members;
   blocks = record {
     seen = shows.blocks.seen;
-    running = node_any (disk_of (log_of r)) g.disk r.owner r.left (λ i. if_joined g.desks (g.lock i)) (is_joined (log_of r).members) shows.blocks.running n h v
+    running = subst (λ (nodes : ℕ → Option Node). IsRunning (disk_of (log_of r)) nodes r.owner r.left (λ i. if_joined g.desks (g.lock i)) (is_joined (log_of r).members)) (sym (put_node r.new g.disk n v (locked_old r g shows n h mine)))
+        (node_any (disk_of (log_of r)) (on_blocks r.new g.disk) r.owner r.left (λ i. if_joined g.desks (g.lock i)) (is_joined (log_of r).members) shows.blocks.running n h v
         (ap (if_joined g.desks) mine ∙ ap (λ (b : Bool). if b then Some h else None) joined) at.0
-        (subst (λ (s : Super). n < s.ninodes) (sym (good_seen (log_of r).sizes (seen_of (log_of r)) (length (log_of r).contents) shows.blocks.seen).sizes_are) at.1);
+        (subst (λ (s : Super). n < s.ninodes) (sym (good_seen (log_of r).sizes (seen_of (log_of r)) (length (log_of r).contents) shows.blocks.seen).sizes_are) at.1));
   };
   bytes = shows.bytes;
   taken = shows.taken;
   commit = shows.commit;
+  news = shows.news;
   loads = record {
     seen = shows.loads.seen;
     dead = λ m some free loose dead. elim (same_or m n) [

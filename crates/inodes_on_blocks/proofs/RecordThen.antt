@@ -24,7 +24,7 @@ use Rattle.inode_machine.specs.World as above
 use Rattle.inode_machine.specs.Rules.{if_kept, Idle}
 use Rattle.inodes_on_blocks.specs.Below.{World, log_of, tables_of, disk_of, inode_in, owners_of}
 use Rattle.inodes_on_blocks.specs.Holding.{in_hand, HasBuffer}
-use Rattle.inodes_on_blocks.specs.Lowering.{KeepsInode, Kept, Same, Carry, IsLoaded, InHand}
+use Rattle.inodes_on_blocks.specs.Lowering.{KeepsInode, Kept, Same, Carry, IsLoaded, InHand, IsThrough}
 use Rattle.inodes_on_blocks.specs.Recording.{CanPut, PutLeaves}
 use Rattle.inodes_on_blocks.specs.Shown.{Shows}
 use Rattle.inodes_on_blocks.proofs.Layer.{held_back}
@@ -76,7 +76,7 @@ LastsInHand h This =
 pub record Ready (sizes : Super) (h : ℕ) (This : World → above.World → Type 0) (r : World) (g : above.World) : Type 0 where
   pub free : in_hand h r ≡ 0
   pub taken : (b : ℕ) → r.taken b ≢ Some h
-  pub rests : r.commits ≡ Some h → ⊥
+  pub through : IsThrough h r
   pub lent : ((g.desks h).lender ≡ None → ⊥) → Idle h g
   pub this : This r g
   pub at : (log_of r).sizes ≡ sizes

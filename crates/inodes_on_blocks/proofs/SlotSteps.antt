@@ -32,11 +32,12 @@ use Rattle.inodes_on_tables.proofs.Desks.{part_same}
 use Rattle.inodes_on_tables.proofs.Slots.{places_are_taken, files_are_opened, hand_here}
 use Rattle.inodes_on_tables.proofs.Named.{descriptors_are_doubled, descriptors_name_files}
 use Rattle.inodes_on_tables.proofs.Shuts.{descriptors_are_shut}
-use Rattle.inodes_on_blocks.specs.Below.{World, tables_of, came_to, commits_after, owners_of, owners_after}
+use Rattle.inodes_on_blocks.specs.Below.{World, tables_of, came_to, commits_after, owners_of, owners_after, new_after}
 use Rattle.inodes_on_blocks.specs.Shown.{Shows, OffsetsShow}
 use Rattle.inodes_on_blocks.specs.Lowering.{Carry, Base, Labels, labelled, Keeps}
 use Rattle.inodes_on_blocks.specs.Handlers.{doubled_to, shut_to, cause_if, slot, install, double, close, check_file, say}
 use Rattle.inodes_on_blocks.specs.Acting.{ActsOnce}
+use Rattle.fs_machine.specs.LogPart.{LogPart}
 use Rattle.inodes_on_blocks.proofs.Layer.{tables_left}
 use Rattle.inodes_on_blocks.proofs.Owed.{fewer_owed}
 use Rattle.inodes_on_blocks.proofs.Stepping.{Came, CameTo, one_step}
@@ -86,13 +87,13 @@ pub no_wait : {A S : Type 0} (a : A) (s : S) → ◌≡◌ {A = Did A S} (Ran a 
 no_wait a s e = cc
 
 -- a step on the tables, as a step on all
-pub in_tables_is : (h : ℕ) (lop : steps.Op) (v : World) → ((a : steps.Answer lop) (o : Option ℕ) → commits_after h lop a o ≡ o) → ((s : steps.State) → owners_after h lop v s ≡ owners_of v) → (d : Did (steps.Answer lop) TablesState)
+pub in_tables_is : (h : ℕ) (lop : steps.Op) (v : World) → ((a : steps.Answer lop) (o : Option ℕ) → commits_after h lop a o ≡ o) → ((s : steps.State) → owners_after h lop v s ≡ owners_of v) → ((a : steps.Answer lop) (l : LogPart) → new_after h lop a l v.new ≡ v.new) → (d : Did (steps.Answer lop) TablesState)
     → came_to h lop v (steps.in_tables v.state d) ≡ did_in (with_tables v) d
-in_tables_is h lop v quiet whose Waits = refl
-in_tables_is h lop v quiet whose (Ran a t) =
+in_tables_is h lop v quiet whose old Waits = refl
+in_tables_is h lop v quiet whose old (Ran a t) =
     let s = record (v.state) { tables = t } in
-    λ i. Ran a (record { state = s; owner = (whose s i).owner; left = (whose s i).left; taken = (whose s i).taken; commits = quiet a v.commits i })
-in_tables_is h lop v quiet whose (Stops t) = refl
+    λ i. Ran a (record { state = s; owner = (whose s i).owner; left = (whose s i).left; taken = (whose s i).taken; commits = quiet a v.commits i; new = old a s.log i })
+in_tables_is h lop v quiet whose old (Stops t) = refl
 
 module _ (l : Labels) (laws : Laws (labelled l)) (keeps : Keeps l) (h : ℕ) (lt : h < hart_count) where
   abbrev W : Type 0
@@ -105,6 +106,7 @@ module _ (l : Labels) (laws : Laws (labelled l)) (keeps : Keeps l) (h : ℕ) (lt
     ran = ran;
     free = s.lender ∙ free;
     shows = shows_then h lt v.real v.seen shows t u (loaded (tables_of v.real)) after s.disk s.size s.joined (λ i. inl (λ z. s.lock z i))
+        (λ n k e. let is = shows.news n k e in ((λ z. s.lock z n) ∙ is.unlocked, (λ z. s.keeper z n) ∙ is.kept))
         (record {
           seen = shows.loads.seen;
           dead = λ n some unlocked loose dead. shows.loads.dead n (s.refs n some) ((λ z. sym s.lock z n) ∙ unlocked) ((λ z. sym s.keeper z n) ∙ loose) ((λ z. above_exec.is_dead (sym s.disk z n)) ∙ dead);
@@ -170,7 +172,7 @@ module _ (l : Labels) (laws : Laws (labelled l)) (keeps : Keeps l) (h : ℕ) (lt
       (λ v c shows inv base may. (
         (lt, hand_here h (tables_of v.real) v.seen (loaded (tables_of v.real)) shows.tables (runs_here v may.0) ∙ may.1),
         λ x t.
-            subst (λ (d : Did Bool World). CameTo l laws keeps h Slot v ⊥ d (λ a. a) (λ a. c)) (sym (in_tables_is h steps.TakePlace v.real (λ a o. refl) (λ s. refl) (take_place h (tables_of v.real))))
+            subst (λ (d : Did Bool World). CameTo l laws keeps h Slot v ⊥ d (λ a. a) (λ a. c)) (sym (in_tables_is h steps.TakePlace v.real (λ a o. refl) (λ s. refl) (λ a l. refl) (take_place h (tables_of v.real))))
             (from_both Slot v ⊥ (λ a. a) (λ a b. a ≡ b) c (take_place h (tables_of v.real)) (above_exec.exec h above.Room Slot v.seen) refl
             (places_are_taken h (tables_of v.real) v.seen (loaded (tables_of v.real)) shows.tables (runs_here v may.0) may.1)
             (slot_runs v.seen (first_from file_count 0 (is_empty_slot v.seen))) (λ a b e. e) (slot_same v.seen (first_from file_count 0 (is_empty_slot v.seen))) shows base may.0),
@@ -214,7 +216,7 @@ module _ (l : Labels) (laws : Laws (labelled l)) (keeps : Keeps l) (h : ℕ) (lt
           fewer_owed f.number (tables_of v.real) v.seen (loaded (tables_of v.real)) shows.tables inv h lt may.1.2,
         ),
         λ x t.
-            subst (λ (d : Did (Option ℕ) World). CameTo l laws keeps h (Install f sort) v ⊥ d (λ a. a) (λ a. c)) (sym (in_tables_is h (steps.TakeDescriptor f.number (new_file f sort)) v.real (λ a o. refl) (λ s. refl) (open_file h f.number (new_file f sort) (tables_of v.real))))
+            subst (λ (d : Did (Option ℕ) World). CameTo l laws keeps h (Install f sort) v ⊥ d (λ a. a) (λ a. c)) (sym (in_tables_is h (steps.TakeDescriptor f.number (new_file f sort)) v.real (λ a o. refl) (λ s. refl) (λ a l. refl) (open_file h f.number (new_file f sort) (tables_of v.real))))
             (from_both (Install f sort) v ⊥ (λ a. a) (λ a b. a ≡ b) c (open_file h f.number (new_file f sort) (tables_of v.real)) (above_exec.exec h above.Room (Install f sort) v.seen) refl
             (files_are_opened h f sort (tables_of v.real) v.seen (loaded (tables_of v.real)) shows.tables inv (runs_here v may.0) may.1.0 may.1.1)
             (opened_runs v.seen f sort (v.seen.desks h).hand (has_room (v.seen.desks h).fds)) (λ a b e. e) (λ a u. opened_same v.seen f sort (v.seen.desks h).hand (has_room (v.seen.desks h).fds) a u inv may.1.1 refl refl) shows base may.0),
@@ -257,7 +259,7 @@ module _ (l : Labels) (laws : Laws (labelled l)) (keeps : Keeps l) (h : ℕ) (lt
       (λ v c shows inv base may. (
         lt,
         λ x t.
-            subst (λ (d : Did Doubled World). CameTo l laws keeps h (Double fd) v ⊥ d doubled_to (λ a. c)) (sym (in_tables_is h (steps.Double fd) v.real (λ a o. refl) (λ s. refl) (double_descriptor h fd (tables_of v.real))))
+            subst (λ (d : Did Doubled World). CameTo l laws keeps h (Double fd) v ⊥ d doubled_to (λ a. c)) (sym (in_tables_is h (steps.Double fd) v.real (λ a o. refl) (λ s. refl) (λ a l. refl) (double_descriptor h fd (tables_of v.real))))
             (from_both (Double fd) v ⊥ doubled_to (λ a b. a ≡ doubled_as b) c (double_descriptor h fd (tables_of v.real)) (above_exec.exec h above.Room (Double fd) v.seen) refl
             (descriptors_are_doubled h fd (tables_of v.real) v.seen (loaded (tables_of v.real)) shows.tables inv (runs_here v may.0))
             (doubled_runs v.seen (slot_at v.seen h fd) (entry_of v.seen h fd)) (λ a b e. ap doubled_to e ∙ doubled_back b) (λ a u. doubled_same v.seen (slot_at v.seen h fd) (entry_of v.seen h fd) a u refl) shows base may.0),
@@ -300,7 +302,7 @@ module _ (l : Labels) (laws : Laws (labelled l)) (keeps : Keeps l) (h : ℕ) (lt
       (λ v c shows inv base may. (
         lt,
         λ x t.
-            subst (λ (d : Did shuts.Shut World). CameTo l laws keeps h (Shut fd) v ⊥ d shut_to (λ a. c)) (sym (in_tables_is h (steps.Close fd) v.real (λ a o. refl) (λ s. refl) (shut_descriptor h fd (tables_of v.real))))
+            subst (λ (d : Did shuts.Shut World). CameTo l laws keeps h (Shut fd) v ⊥ d shut_to (λ a. c)) (sym (in_tables_is h (steps.Close fd) v.real (λ a o. refl) (λ s. refl) (λ a l. refl) (shut_descriptor h fd (tables_of v.real))))
             (from_both (Shut fd) v ⊥ shut_to (λ a b. a ≡ shut_as b) c (shut_descriptor h fd (tables_of v.real)) (above_exec.exec h above.Room (Shut fd) v.seen) refl
             (descriptors_are_shut h fd (tables_of v.real) v.seen (loaded (tables_of v.real)) shows.tables inv (runs_here v may.0) (λ i z. may.1.1 z i))
             (closed_runs v.seen fd (slot_at v.seen h fd) (entry_of v.seen h fd)) (λ a b e. ap shut_to e ∙ shut_back b) (λ a u. closed_same v.seen fd (slot_at v.seen h fd) (entry_of v.seen h fd) a u may.1.0 refl) shows base may.0),

@@ -49,6 +49,7 @@ use Rattle.inodes_on_blocks.specs.Shown.{Shows}
 use Rattle.inodes_on_blocks.specs.Lowering.{NothingMore, Had, Has, Carry, IsLoaded, InHand, Base, Stands, below, Labels, labelled, Keeps, IsOpened}
 use Rattle.inodes_on_blocks.specs.Acting.{ActsOnceAt}
 use Rattle.inodes_on_blocks.specs.Reading.{face_in, sort_at, natural, stat_file, stat_locked, stat_loaded}
+use Rattle.inodes_on_blocks.proofs.News.{none_new}
 use Rattle.inodes_on_blocks.proofs.Layer.{below_laws, base_marked, tables_left}
 use Rattle.inodes_on_blocks.proofs.Loading.{s-load}
 use Rattle.inodes_on_blocks.proofs.Marked.{SameCode, marked_same, shows_marked}
@@ -101,6 +102,17 @@ file_typed v s e inv at free none = by (v.keeper n) refl
       | inr lone ↦ absurd (lone_file g n s e v inv (inv.kept n g kept).0 lone kept at refl)
     ]
 
+-- and isn't new
+pub file_old : (r : World) (v : above.World) → Shows r v → (s : ℕ) (e : Entry) → Inv v → v.files s ≡ Some e → r.new e.file.number ≡ None
+file_old r v shows s e inv at =
+    none_new r v shows e.file.number
+    (λ g q.
+    let is = shows.news e.file.number g q in
+    elim (inv.held e.file.number g is.kept) [
+      | inl mine ↦ none-some g (sym is.unlocked ∙ mine)
+      | inr lone ↦ lone_file g e.file.number s e v inv (inv.kept e.file.number g is.kept).0 lone is.kept at refl
+    ])
+
 -- is referred to
 pub file_referred : (h fd : ℕ) (v : above.World) (e : Entry) → Inv v → h < hart_count → entry_of v h fd ≡ Some e → (s : ℕ) × (v.files s ≡ Some e) × (0 < v.refs e.file.number)
 file_referred h fd v e inv lt is = by_slot (slot_at v h fd) refl
@@ -122,9 +134,9 @@ module _ (l : Labels) (laws : Laws (labelled l)) (keeps : Keeps l) (h : ℕ) (lt
 
   -- of an inode that has a type: its record is in hand from there on, though it may have to be read yet
   pub lock_came : (op : above.Op) (n : ℕ) (v : W) (c : Carry) (b : above.Answer op) (t : TablesState) → Shows v.real v.seen → Base h v.real v.seen c → (v.seen.desks h).lender ≡ None → 0 < v.seen.refs n
-      → v.seen.lock n ≡ None → v.seen.disk n ≢ None → above_exec.exec h above.Room op v.seen ≡ Ran b (locked h n v.seen) → tables.Shows t (locked h n v.seen) (put (loaded (tables_of v.real)) n None)
+      → v.seen.lock n ≡ None → v.real.new n ≡ None → v.seen.disk n ≢ None → above_exec.exec h above.Room op v.seen ≡ Ran b (locked h n v.seen) → tables.Shows t (locked h n v.seen) (put (loaded (tables_of v.real)) n None)
       → Came l laws keeps h op v b (with_tables v.real t) (put c n (Has (inode_in (log_of v.real) n) NothingMore))
-  lock_came op n v c b t shows base free some unlocked typed ran after = record {
+  lock_came op n v c b t shows base free some unlocked old typed ran after = record {
     then_ = locked h n v.seen;
     ran = ran;
     free = free;
@@ -132,6 +144,10 @@ module _ (l : Labels) (laws : Laws (labelled l)) (keeps : Keeps l) (h : ℕ) (lt
         (λ i. elim (same_or i n) [
           | inl q ↦ inr (inl (ap v.seen.lock q ∙ unlocked, ap (put v.seen.lock n (Some h)) q ∙ put_same v.seen.lock n (Some h)))
           | inr ne ↦ inl (put_other v.seen.lock n (Some h) i ne)
+        ])
+        (λ i k e. elim (same_or i n) [
+          | inl q ↦ absurd (none-some k (sym old ∙ ap v.real.new (sym q) ∙ e))
+          | inr ne ↦ (put_other v.seen.lock n (Some h) i ne ∙ (shows.news i k e).unlocked, put_other v.seen.keeper n (Some h) i ne ∙ (shows.news i k e).kept)
         ])
         (record {
           seen = λ i d e. elim (same_or i n) [
@@ -171,7 +187,7 @@ module _ (l : Labels) (laws : Laws (labelled l)) (keeps : Keeps l) (h : ℕ) (lt
       hand = record {
         keeps = put_same v.seen.keeper n (Some h);
         loaded_is = subst (λ (o : Had). IsLoaded o (v.seen.disk n) d) (sym (put_same c n (Has d NothingMore))) (refl, typed, tt);
-        holds = let range = shows.tables.range n some in unlocked_holds h lt v.real v.seen shows n unlocked range.0 range.1;
+        holds = let range = shows.tables.range n some in unlocked_holds h lt v.real v.seen shows n unlocked old range.0 range.1;
         opened = subst (λ (o : Had). IsOpened h n o (locked h n v.seen)) (sym (put_same c n (Has d NothingMore))) tt;
       }
 
@@ -210,7 +226,7 @@ module _ (l : Labels) (laws : Laws (labelled l)) (keeps : Keeps l) (h : ℕ) (lt
         -- by what the tables come to
         on_tables : (v : W) (x : Outside) (d : Did LockedState TablesState) → lock_file h want.Stat fd (tables_of v.real) ≡ d → IsActing v (did_in (with_tables v.real) d) → IsActing v (exec h x (LockFile want.Stat fd) v.real)
         on_tables v x d is acting =
-            subst (λ (z : Did LockedState World). IsActing v z) (sym (in_tables_is h (LockFile want.Stat fd) v.real (λ a o. refl) (λ s. refl) (lock_file h want.Stat fd (tables_of v.real)) ∙ ap (did_in (with_tables v.real)) is)) acting
+            subst (λ (z : Did LockedState World). IsActing v z) (sym (in_tables_is h (LockFile want.Stat fd) v.real (λ a o. refl) (λ s. refl) (λ a l. refl) (lock_file h want.Stat fd (tables_of v.real)) ∙ ap (did_in (with_tables v.real)) is)) acting
 
         by : (v : W) → Shows v.real v.seen → Inv v.seen → Stands sizes h v.real v.seen c → rules.May h (StatFile fd) v.seen → (o : Option Entry) → entry_of v.seen h fd ≡ o
             → premises.May h (LockFile want.Stat fd) v.real.state × ((x : Outside) → premises.Honest h (LockFile want.Stat fd) v.real.state x → IsActing v (exec h x (LockFile want.Stat fd) v.real))
@@ -242,21 +258,21 @@ module _ (l : Labels) (laws : Laws (labelled l)) (keeps : Keeps l) (h : ℕ) (lt
                   (λ u ran free after.
                   on_tables v x (Ran (Locks (file_of e) (loaded (tables_of v.real) n)) u) (lower ∙ ap (with_file (file_of e)) ran)
                   (came_acting sizes (StatFile fd) m B C lasts v (premises.MayWait h (LockFile want.Stat fd) v.real.state) (Locks (file_of e) (loaded (tables_of v.real) n)) (with_tables v.real u) (Some (n, face_or (face_of (v.seen.disk n)))) (put c n (Has (inode_in (log_of v.real) n) NothingMore)) Next tt stands_v.1
-                  (lock_came (StatFile fd) n v c (Some (n, face_or (face_of (v.seen.disk n)))) u shows stands_v.0 may.0 referred.2 free (file_typed v.seen referred.0 e inv referred.1 free)
+                  (lock_came (StatFile fd) n v c (Some (n, face_or (face_of (v.seen.disk n)))) u shows stands_v.0 may.0 referred.2 free (file_old v.real v.seen shows referred.0 e inv referred.1) (file_typed v.seen referred.0 e inv referred.1 free)
                   (ap (stat_at h v.seen) is ∙ ap (lock_if h n (Some (n, face_or (face_of (v.seen.disk n)))) v.seen (locked h n v.seen)) free) after)
-                  (λ g same_g stands_g gs inv_g done. loads v e shows free referred.2 (file_typed v.seen referred.0 e inv referred.1 free) u g after stands_g gs done))),
+                  (λ g same_g stands_g gs inv_g done. loads v e shows free (file_old v.real v.seen shows referred.0 e inv referred.1) referred.2 (file_typed v.seen referred.0 e inv referred.1 free) u g after stands_g gs done))),
             )
           where
-            loads : (v : W) (e : Entry) → Shows v.real v.seen → v.seen.lock e.file.number ≡ None → 0 < v.seen.refs e.file.number → v.seen.disk e.file.number ≢ None → (u : TablesState) (g : above.World)
+            loads : (v : W) (e : Entry) → Shows v.real v.seen → v.seen.lock e.file.number ≡ None → v.real.new e.file.number ≡ None → 0 < v.seen.refs e.file.number → v.seen.disk e.file.number ≢ None → (u : TablesState) (g : above.World)
                 → tables.Shows u (locked h e.file.number v.seen) (put (loaded (tables_of v.real)) e.file.number None)
                 → Stands sizes h (with_tables v.real u) g (put c e.file.number (Has (inode_in (log_of v.real) e.file.number) NothingMore)) → (gs : List l.Step) → C (Some (e.file.number, face_or (face_of (v.seen.disk e.file.number)))) gs g
                 → Wp (joined (labelled l) (below sizes)) h B (Below (labelled l) (below sizes) h C) (stat_locked sizes c (Locks (file_of e) (loaded (tables_of v.real) e.file.number))) 3 gs (record { real = with_tables v.real u; seen = g })
-            loads v e shows free some typed u g after stands_g gs done =
+            loads v e shows free old some typed u g after stands_g gs done =
                 let n = e.file.number in
                 let d = inode_in (log_of v.real) n in
                 let range = shows.tables.range n some in
                 let b : Option (ℕ × Face) = Some (n, face_or (face_of (v.seen.disk n))) in
-                let holds = unlocked_holds h lt v.real v.seen shows n free range.0 range.1 in
+                let holds = unlocked_holds h lt v.real v.seen shows n free old range.0 range.1 in
                 let answer : ◌≡◌ {A = Option (ℕ × Face)} (Some (n, face_in d)) b = ap (λ (f : Face). Some (n, f)) (face_held d (v.seen.disk n) holds.inode typed) in
                 s-load sizes l laws keeps h lt B (Below (labelled l) (below sizes) h C) (C b) (acted (labelled l) (below sizes) laws (below_laws sizes l keeps) h B (StatFile fd) m C lasts b)
                 n (loaded (tables_of v.real) n) (put c n (Has d NothingMore)) (stat_loaded c n) 0 gs (record { real = with_tables v.real u; seen = g }) done stands_g

@@ -17,7 +17,7 @@ use Rattle.inode_machine.specs.Exec as above_exec
 use Rattle.inode_machine.specs.Marks.{marked, with_mark}
 use Rattle.inode_machine.specs.Rules as rules
 use Rattle.inode_machine.specs.Rules.{Inv, Idle, more}
-use Rattle.inodes_on_blocks.specs.Below.{World, log_of, owners_after, commits_after, came_to, exec}
+use Rattle.inodes_on_blocks.specs.Below.{World, log_of, owners_after, commits_after, came_to, exec, new_after}
 use Rattle.inodes_on_blocks.specs.Shown.{Shows}
 use Rattle.inodes_on_blocks.specs.Lowering.{Same, Kept, Carry, Base, Stands, below, Labels, labelled, Keeps}
 use Rattle.inodes_on_blocks.specs.Handlers.{one}
@@ -73,7 +73,7 @@ module _ (l : Labels) (laws : Laws (labelled l)) (keeps : Keeps l) (h : ℕ) whe
       by v (Stops s) kept at came = absurd came
       by v (Ran a s) kept at came =
           let o = owners_after h lop v.real s in
-          let r : World = record { state = s; owner = o.owner; left = o.left; taken = o.taken; commits = commits_after h lop a v.real.commits } in
+          let r : World = record { state = s; owner = o.owner; left = o.left; taken = o.taken; commits = commits_after h lop a v.real.commits; new = new_after h lop a s.log v.real.new } in
           let m' = marked_same h (m (answer a)) came.then_ in (
             answer a,
             marked h (m (answer a)) came.then_,

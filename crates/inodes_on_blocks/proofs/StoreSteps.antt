@@ -42,12 +42,12 @@ use Rattle.inodes_on_blocks.specs.Owners.{Owners}
 use Rattle.inodes_on_blocks.specs.Below.{World, log_of, tables_of, disk_of, inode_in, owners_of, exec}
 use Rattle.inodes_on_blocks.specs.Recording.{CanPut}
 use Rattle.inodes_on_blocks.specs.Shown.{Shows}
-use Rattle.inodes_on_blocks.specs.Lowering.{commit_in, NothingMore, Had, Apart, Has, Emptied, Carry, record_had, IsLoaded, InHand, Base, Stands, below, Labels, labelled, Keeps, IsOpened}
+use Rattle.inodes_on_blocks.specs.Lowering.{commit_in, NothingMore, Had, Apart, Has, Emptied, Carry, record_had, IsLoaded, InHand, Base, Stands, below, Labels, labelled, Keeps, IsOpened, IsThrough}
 use Rattle.inodes_on_blocks.specs.Holding.{in_hand, HasBuffer, Fetched}
 use Rattle.inodes_on_blocks.specs.Room.{GivesRoom}
 use Rattle.inodes_on_blocks.specs.Storing.{record_in, put_record, store}
 use Rattle.inodes_on_blocks.proofs.Marked.{marked_same, shows_marked}
-use Rattle.inodes_on_blocks.proofs.Layer.{below_laws, held_back, base_marked, AllInHand, in_hand_then, lent_then}
+use Rattle.inodes_on_blocks.proofs.Layer.{below_laws, held_back, base_marked, AllInHand, in_hand_then, lent_then, through_then, through_put}
 use Rattle.inodes_on_blocks.proofs.Hands.{back_hand}
 use Rattle.inodes_on_blocks.proofs.Fetching.{buffer_then, buffer_seen, s-fetch}
 use Rattle.inodes_on_blocks.proofs.Records.{count_fits}
@@ -86,7 +86,7 @@ module _ (sizes : Super) (l : Labels) (laws : Laws (labelled l)) (keeps : Keeps 
   -- ---- the put, at the world where it is made
 
   module _ (op : above.Op) (answer : above.Answer op) (d : Dinode) (had : Had) (c : Carry) (r : World) (g : above.World) (shows : Shows r g) (all : AllBut n h c r g) (one : in_hand h r ≡ 1) (none : (k : ℕ) → r.taken k ≢ Some h)
-      (rests : r.commits ≡ Some h → ⊥) (p : PutsRecord h op n answer d had r g) (can : CanPut h (at r) (with_dinode n d (seen_of (log_of r) (at r))) (log_of r)) (long : length (seen_of (log_of r) (at r)) ≡ 1024) where
+      (through : IsThrough h r) (p : PutsRecord h op n answer d had r g) (can : CanPut h (at r) (with_dinode n d (seen_of (log_of r) (at r))) (log_of r)) (long : length (seen_of (log_of r) (at r)) ≡ 1024) where
     abbrev put_then : World
     put_then = then_ h n d c r g shows p.mine p.joined p.is can long
 
@@ -118,7 +118,7 @@ module _ (sizes : Super) (l : Labels) (laws : Laws (labelled l)) (keeps : Keeps 
     base_then = record {
       free = none_then h n d c r g shows p.mine p.joined p.is can long one;
       taken = none;
-      rests = rests;
+      through = through_put h r put_then (log_of put_then) refl refl through;
       inodes = all_then;
       lent = λ some. absurd (some p.free);
     }
@@ -150,18 +150,18 @@ module _ (sizes : Super) (l : Labels) (laws : Laws (labelled l)) (keeps : Keeps 
         (λ a o u g. (gs : List l.Step) → Inv g → C o gs g → Wp M h B Q (Ret (record { answer = answer; carry = put c n had })) 0 gs (record { real = u; seen = g })))
 
     -- the put, where the buffer is in hand
-    acts_there : (v : W) → Shows v.real v.seen → AllBut n h c v.real v.seen → in_hand h v.real ≡ 1 → ((k : ℕ) → v.real.taken k ≢ Some h) → (v.real.commits ≡ Some h → ⊥) → PutsRecord h op n answer d had v.real v.seen
+    acts_there : (v : W) → Shows v.real v.seen → AllBut n h c v.real v.seen → in_hand h v.real ≡ 1 → ((k : ℕ) → v.real.taken k ≢ Some h) → IsThrough h v.real → PutsRecord h op n answer d had v.real v.seen
         → CanPut h (at v.real) (with_dinode n d (seen_of (log_of v.real) (at v.real))) (log_of v.real) → length (seen_of (log_of v.real) (at v.real)) ≡ 1024 → (log_of v.real).sizes ≡ sizes
         → Acts v (at v.real) (with_dinode n d (seen_of (log_of v.real) (at v.real)))
     unfolding steps.exec premises.MayWait premises.Honest
-    acts_there v shows all one none rests p can long here =
+    acts_there v shows all one none through p can long here =
         let r = v.real in
         let stored_ : List ℕ = with_dinode n d (seen_of (log_of r) (at r)) in
         let now : LogPart = put_block h (at r) (Some stored_) (log_of r) in
         let then_all : (o : Owners) → World = (λ o. after h (at r) n stored_ r v.seen shows p.mine p.joined can o) in
         let g = marked h (m answer) (with_record v.seen n p.node) in
         let s = marked_same h (m answer) (with_record v.seen n p.node) in
-        let base_ = base_then op answer d had c r v.seen shows all one none rests p can long in
+        let base_ = base_then op answer d had c r v.seen shows all one none through p can long in
         let same_owners = quiet_owners (λ i. lock_holder i (tables_of r)) h (disk_of now) (owners_of r) none (log_of r).sizes.bmapstart (at r) (disk_of (log_of r)) (before v shows p.mine) in (
           may_put h (at r) stored_ r.state shows.whole shows.blocks.seen can,
           λ x t.
@@ -171,7 +171,7 @@ module _ (sizes : Super) (l : Labels) (laws : Laws (labelled l)) (keeps : Keeps 
                 g,
                 ap (with_mark h m) p.ran,
                 honest v,
-                (λ inv. shows_marked (then_all (owners_of r)) (with_record v.seen n p.node) g s (shows_both op answer d had c r v.seen shows all one none rests p can long)),
+                (λ inv. shows_marked (then_all (owners_of r)) (with_record v.seen n p.node) g s (shows_both op answer d had c r v.seen shows all one none through p can long)),
                 same_then h n d c r v.seen shows p.mine p.joined p.is can long,
                 λ gs inv done. (done, (base_marked h (then_all (owners_of r)) (with_record v.seen n p.node) g (put c n had) s p.free base_, here)),
               ),
@@ -197,11 +197,9 @@ module _ (sizes : Super) (l : Labels) (laws : Laws (labelled l)) (keeps : Keeps 
         let can = can_record h n d (seen_of (log_of v.real) b) u.real u.seen lt here.shows p.mine p.joined p.is (subst (λ (k : ℕ). HasBuffer h k (seen_of (log_of v.real) b) u.real) where_ buffer)
         (subst (λ (k : ℕ). has (log_of u.real).group k ≡ false → HasRoom (log_of u.real).members h) where_ (gives.room u.real knows_there (sym (here.shows.members h lt) ∙ p.joined))) in
         let none = untaken h v.real u.real here.same.taken (untaken h w.real v.real got.since.taken ready.taken) in
-        let rests : (u.real.commits ≡ Some h → ⊥) = (λ e.
-        ready.rests (held_back v.real.commits w.real.commits h (commit_in (log_of v.real)) (commit_in (log_of w.real)) got.since.commit
-        (held_back u.real.commits v.real.commits h (commit_in (log_of u.real)) (commit_in (log_of v.real)) here.same.commit e).0).0) in
+        let through : IsThrough h u.real = through_then h v.real u.real here.same.begun (through_then h w.real v.real got.since.begun ready.through) in
         subst (λ (q : ℕ × List ℕ). Acts u q.0 q.1) (λ z. (sym where_ z, with_dinode n d (bytes z)))
-        (acts_there u here.shows (others u.real u.seen this) (here.same.held ∙ got.count ∙ ap suc ready.free) none rests p can.0 can.1 (here.same.sizes ∙ got.since.sizes ∙ ready.at)))
+        (acts_there u here.shows (others u.real u.seen this) (here.same.held ∙ got.count ∙ ap suc ready.free) none through p can.0 can.1 (here.same.sizes ∙ got.since.sizes ∙ ready.at)))
 
     pub record_acts : (es : List l.Step) (w : W) → Todo es w.seen → Ready sizes h This w.real w.seen → Knows w.real → Wp M h B Q (bind (fetch b) (put_record op m answer b n d had c)) 3 es w
     record_acts es w todo ready knows =
@@ -285,4 +283,4 @@ module _ (sizes : Super) (l : Labels) (laws : Laws (labelled l)) (keeps : Keeps 
   store_acts count m Knows gives c B C es w lasts todo stands knows =
       let d : Dinode = record (record_in c n) { nlink = pos count } in
       record_acts (Store n count) m tt d (Has d NothingMore) c (λ v. tt) (AllInHand h c) (in_hand_then h c) (λ r g all i ne e. all i e) (λ v shows inv may all. count_puts count c v shows may all) Knows gives B C lasts es w todo
-      (record { free = stands.0.free; taken = stands.0.taken; rests = stands.0.rests; lent = stands.0.lent; this = stands.0.inodes; at = stands.1 }) knows
+      (record { free = stands.0.free; taken = stands.0.taken; through = stands.0.through; lent = stands.0.lent; this = stands.0.inodes; at = stands.1 }) knows

@@ -26,10 +26,11 @@ use Rattle.inodes_on_tables.proofs.Desks.{part_same}
 use Rattle.inodes_on_tables.proofs.Locks.{locks_are_given}
 use Rattle.inodes_on_tables.proofs.Named.{directories_are_settled}
 use Rattle.inodes_on_blocks.specs.Below.{World, log_of, tables_of, disk_of, inode_in}
-use Rattle.inodes_on_blocks.specs.Shown.{Shows, OffsetsShow}
+use Rattle.inodes_on_blocks.specs.Shown.{Shows, OffsetsShow, on_blocks}
 use Rattle.inodes_on_blocks.specs.Lowering.{Same, Had, Apart, Has, Emptied, Carry, record_had, IsLoaded, InHand, Base, Labels, labelled, Keeps}
 use Rattle.inodes_on_blocks.specs.Handlers.{give, settle}
 use Rattle.inodes_on_blocks.specs.Acting.{ActsOnce}
+use Rattle.inodes_on_blocks.proofs.News.{old_node, locked_old}
 use Rattle.inodes_on_blocks.proofs.Layer.{tables_left}
 use Rattle.inodes_on_blocks.proofs.Owed.{fewer_owed}
 use Rattle.inodes_on_blocks.proofs.Stepping.{Came, one_step}
@@ -79,6 +80,9 @@ module _ (l : Labels) (laws : Laws (labelled l)) (keeps : Keeps l) (h : ℕ) (lt
     hand : InHand h n (c n) v g
     hand = base.inodes n (sym (shows.tables.places.holders n) ∙ mine)
 
+    old : v.new n ≡ None
+    old = locked_old v g shows n h mine
+
     freed : (i : ℕ) → i ≡ n → u.lock i ≡ None
     freed i q = (λ z. s.lock z i) ∙ ap (put g.lock n None) q ∙ put_same g.lock n None
 
@@ -89,8 +93,12 @@ module _ (l : Labels) (laws : Laws (labelled l)) (keeps : Keeps l) (h : ℕ) (lt
     given_shows =
         shows_then h lt v g shows t u (put load n (record_had (c n))) after s.disk s.size s.joined
         (λ i. elim (same_or i n) [
-          | inl q ↦ inr (inr (freed i q, subst (λ (z : ℕ). HoldsAt (disk_of (log_of v)) v.owner z (g.disk z)) (sym q) hand.holds))
+          | inl q ↦ inr (inr (freed i q, subst (λ (z : ℕ). HoldsAt (disk_of (log_of v)) v.owner z (on_blocks v.new g.disk z)) (sym q) (subst (λ (x : Option Node). HoldsAt (disk_of (log_of v)) v.owner n x) (sym (old_node v.new g.disk n old)) hand.holds)))
           | inr ne ↦ inl (unfreed i ne)
+        ])
+        (λ i k e. elim (same_or i n) [
+          | inl q ↦ absurd (none-some k (sym old ∙ ap v.new (sym q) ∙ e))
+          | inr ne ↦ (unfreed i ne ∙ (shows.news i k e).unlocked, s.keeper i ne ∙ (shows.news i k e).kept)
         ])
         (record {
           seen = λ i d e. elim (same_or i n) [

@@ -18,8 +18,9 @@ use Rattle.inodes_on_tables.specs.Shown as tables
 use Rattle.inodes_on_tables.specs.Shown.{loaded}
 use Rattle.inodes_on_blocks.specs.OnBlocks.{is_joined}
 use Rattle.inodes_on_blocks.specs.Below.{World, log_of, disk_of, inode_in}
-use Rattle.inodes_on_blocks.specs.Shown.{Shows, LoadsShow, OffsetsShow, if_joined}
+use Rattle.inodes_on_blocks.specs.Shown.{Shows, LoadsShow, OffsetsShow, if_joined, on_blocks, unless_new}
 use Rattle.inodes_on_blocks.specs.Lowering.{Had, Carry, IsLoaded, InHand, Base, IsOpened}
+use Rattle.inodes_on_blocks.proofs.News.{old_node, new_kept}
 use Rattle.inodes_on_blocks.proofs.OpenFiles.{OpenStays, open_then}
 
 -- the tables after a step
@@ -34,18 +35,20 @@ module _ (h : ℕ) (lt : h < hart_count) (v : World) (g : above.World) (shows : 
   sizes_here : sizes_of (disk_of (log_of v)) ≡ (log_of v).sizes
   sizes_here = (good_seen (log_of v).sizes (seen_in (log_of v).contents (log_of v).seats) _ shows.blocks.seen).sizes_are
 
-  -- an inode that nobody has the lock of holds its node
-  pub unlocked_holds : (i : ℕ) → g.lock i ≡ None → 1 ≤ i → i < g.all.ninodes → HoldsAt (disk_of (log_of v)) v.owner i (g.disk i)
-  unlocked_holds i free low below =
-      shows.blocks.running.inodes i low (subst (λ (s : Super). i < s.ninodes) (sym sizes_here) (subst (λ (n : ℕ). i < n) shows.size below)) (ap (if_joined g.desks) free)
+  -- an inode that nobody has the lock of, and that isn't new, holds its node
+  pub unlocked_holds : (i : ℕ) → g.lock i ≡ None → v.new i ≡ None → 1 ≤ i → i < g.all.ninodes → HoldsAt (disk_of (log_of v)) v.owner i (g.disk i)
+  unlocked_holds i free old low below =
+      subst (λ (n : Option Node). HoldsAt (disk_of (log_of v)) v.owner i n) (old_node v.new g.disk i old)
+      (shows.blocks.running.inodes i low (subst (λ (s : Super). i < s.ninodes) (sym sizes_here) (subst (λ (n : ℕ). i < n) shows.size below)) (ap (if_joined g.desks) free))
 
   -- a lock that is as it was, came into the hart's hand, or was given back with what the inode holds
   abbrev pub LockStep : above.World → ℕ → Type 0
-  LockStep u i = (u.lock i ≡ g.lock i) ⊎ (((g.lock i ≡ None) × (u.lock i ≡ Some h)) ⊎ ((u.lock i ≡ None) × HoldsAt (disk_of (log_of v)) v.owner i (g.disk i)))
+  LockStep u i = (u.lock i ≡ g.lock i) ⊎ (((g.lock i ≡ None) × (u.lock i ≡ Some h)) ⊎ ((u.lock i ≡ None) × HoldsAt (disk_of (log_of v)) v.owner i (on_blocks v.new g.disk i)))
 
   pub shows_then : (t : TablesState) (u : above.World) (load : ℕ → Option Dinode) → tables.Shows t u load → u.disk ≡ g.disk → u.all.ninodes ≡ g.all.ninodes → ((j : ℕ) → (u.desks j).joined ≡ (g.desks j).joined) → ((i : ℕ) → LockStep u i)
-      → LoadsShow load (log_of v) u.refs u.lock u.keeper u.disk → OffsetsShow u.files → Shows (with_tables v t) u
-  shows_then t u load after disk size joined locks loads offsets =
+      -- a new inode is kept, and nobody has its lock
+      → ((n k : ℕ) → v.new n ≡ Some k → (u.lock n ≡ None) × (u.keeper n ≡ Some k)) → LoadsShow load (log_of v) u.refs u.lock u.keeper u.disk → OffsetsShow u.files → Shows (with_tables v t) u
+  shows_then t u load after disk size joined locks kept loads offsets =
       record {
         whole = shows.whole;
         runs = shows.runs;
@@ -57,8 +60,8 @@ module _ (h : ℕ) (lt : h < hart_count) (v : World) (g : above.World) (shows : 
           running = record {
             front = old.front;
             whole = old.whole;
-            range = λ i n e. old.range i n ((λ z. sym disk z i) ∙ e);
-            inodes = λ i low below none. subst (λ (n : Option Node). HoldsAt (disk_of (log_of v)) v.owner i n) (λ z. sym disk z i) (holds i low below (locks i) none);
+            range = λ i n e. old.range i n ((λ z. unless_new (v.new i) (sym disk z i)) ∙ e);
+            inodes = λ i low below none. subst (λ (n : Option Node). HoldsAt (disk_of (log_of v)) v.owner i n) (λ z. unless_new (v.new i) (sym disk z i)) (holds i low below (locks i) none);
             bits = old.bits;
             no_others = old.no_others;
             owners = old.owners;
@@ -68,11 +71,12 @@ module _ (h : ℕ) (lt : h < hart_count) (v : World) (g : above.World) (shows : 
         bytes = shows.bytes;
         taken = shows.taken;
         commit = shows.commit;
+        news = λ n k e. let now = kept n k e in new_kept n k (log_of v) g.lock g.keeper u.lock u.keeper now.0 now.1 (shows.news n k e);
         loads = record { seen = λ n d e. loads.seen n d (after.places.loads n ∙ e); dead = λ n some free loose dead. subst IsSome (after.places.loads n) (loads.dead n some free loose dead); typed = λ n e. sym (after.places.loads n) ∙ loads.typed n e };
         offsets = offsets;
       }
     where
-      old : IsRunning (disk_of (log_of v)) g.disk v.owner v.left (λ i. if_joined g.desks (g.lock i)) (is_joined (log_of v).members)
+      old : IsRunning (disk_of (log_of v)) (on_blocks v.new g.disk) v.owner v.left (λ i. if_joined g.desks (g.lock i)) (is_joined (log_of v).members)
       old = shows.blocks.running
 
       same_change : (o : Option ℕ) → if_joined u.desks o ≡ if_joined g.desks o
@@ -87,7 +91,7 @@ module _ (h : ℕ) (lt : h < hart_count) (v : World) (g : above.World) (shows : 
           by true q e = (e, ap (λ (z : ℕ). (u.desks z).joined) (sym (same_Some j k e)) ∙ q)
           by false q e = absurd (none-some k e)
 
-      holds : (i : ℕ) → 1 ≤ i → i < (sizes_of (disk_of (log_of v))).ninodes → LockStep u i → if_joined u.desks (u.lock i) ≡ None → HoldsAt (disk_of (log_of v)) v.owner i (g.disk i)
+      holds : (i : ℕ) → 1 ≤ i → i < (sizes_of (disk_of (log_of v))).ninodes → LockStep u i → if_joined u.desks (u.lock i) ≡ None → HoldsAt (disk_of (log_of v)) v.owner i (on_blocks v.new g.disk i)
       holds i low below (inl same) none = old.inodes i low below (sym (ap (if_joined u.desks) same ∙ same_change (g.lock i)) ∙ none)
       holds i low below (inr (inl mine)) none = old.inodes i low below (ap (if_joined g.desks) mine.0)
       holds i low below (inr (inr back)) none = back.1
@@ -106,7 +110,7 @@ module _ (h : ℕ) (lt : h < hart_count) (v : World) (g : above.World) (shows : 
   base_then c d t u load base after free each = record {
     free = base.free;
     taken = base.taken;
-    rests = base.rests;
+    through = record { commits = base.through.commits; new = base.through.new };
     inodes = λ i e. by i (each i (after.places.holders i ∙ e));
     lent = λ some. absurd (some free);
   }

@@ -28,7 +28,7 @@ use Rattle.inode_machine.specs.World as above
 use Rattle.inode_machine.specs.World.Op.{Take}
 use Rattle.inode_machine.specs.Exec.{lock_if, locked}
 use Rattle.inode_machine.specs.Rules.{Inv, looking_cost}
-use Rattle.inode_machine.proofs.Frame.{one_refs}
+use Rattle.inode_machine.proofs.Frame.{one_refs, two_refs}
 use Rattle.inodes_on_tables.specs.Shown as tables
 use Rattle.inodes_on_tables.specs.Shown.{loaded}
 use Rattle.inodes_on_tables.proofs.Locks.{by_lock, place_there}
@@ -38,6 +38,7 @@ use Rattle.inodes_on_blocks.specs.Lowering.{Same, Kept, Learned, NothingMore, Ha
 use Rattle.inodes_on_blocks.specs.Acting.{ActsOnceAt}
 use Rattle.inodes_on_blocks.specs.Reading.{face_in, number_found, learned, seen_record, looked, take}
 use Rattle.inode_table.specs.Programs.{load_unless}
+use Rattle.inodes_on_blocks.proofs.News.{none_new}
 use Rattle.inodes_on_blocks.proofs.ContentReads.{touches, touches_are}
 use Rattle.inodes_on_blocks.proofs.DirectorySearches.{s-search}
 use Rattle.inodes_on_blocks.proofs.Layer.{below_laws, kept_disk}
@@ -56,12 +57,28 @@ steps_of AtEntries = 1608
 same_ran : (b : Seen) (g u : above.World) → Ran b g ≡ Ran b u → g ≡ u
 same_ran b g u e = cc e
 
+-- an inode that a hart refers to isn't new, where none is new by it
+referred_old : (h n : ℕ) (r : World) (g : above.World) → h < hart_count → Shows r g → Inv g → ((m : ℕ) → r.new m ≢ Some h) → 0 < (g.harts h).refs n → r.new n ≡ None
+referred_old h n r g lt shows inv through some =
+    none_new r g shows n
+    (λ k e.
+    let is = shows.news n k e in
+    elim (inv.held n k is.kept) [
+      | inl mine ↦ none-some k (sym is.unlocked ∙ mine)
+      | inr lone ↦
+          let a = inv.alone n lone in
+          elim (same_or a.hart h) [
+            | inl q ↦ through n (e ∙ sym is.kept ∙ a.kept ∙ ap (λ (z : ℕ). Some z) q)
+            | inr ne ↦ absurd (let two = two_refs g a.hart h n inv (inv.kept n a.hart a.kept).0 lt ne in let c = a.counts in omega (arith, two, c, some))
+          ]
+    ])
+
 -- what was learned of an inode beside its record
 pub learned_base : (h n : ℕ) (r : World) (g : above.World) (c : Carry) (d : Dinode) (learns : Learned) → IsKnown learns (g.disk n) → IsOpened h n (Has d learns) g → Base h r g (put c n (Has d NothingMore)) → Base h r g (put c n (Has d learns))
 learned_base h n r g c d learns known opened base = record {
   free = base.free;
   taken = base.taken;
-  rests = base.rests;
+  through = base.through;
   inodes = λ i e. elim (same_or i n) [
     | inl q ↦ subst (λ (k : ℕ). InHand h k (put c n (Has d learns) k) r g) (sym q) (here (subst (λ (k : ℕ). InHand h k (put c n (Has d NothingMore) k) r g) q (base.inodes i e)))
     | inr ne ↦ subst (λ (o : Had). InHand h i o r g) (put_other c n (Has d NothingMore) i ne ∙ sym (put_other c n (Has d learns) i ne)) (base.inodes i e)
@@ -171,16 +188,16 @@ module _ (l : Labels) (laws : Laws (labelled l)) (keeps : Keeps l) (h : ℕ) (lt
     on_tables : (v : W) (x : Outside) (d : Did (Option Dinode) TablesState) → lock_inode h n (tables_of v.real) ≡ d → IsActing v (did_in (with_tables v.real) d) → IsActing v (exec h x (Lock n) v.real)
     unfolding steps.exec
     on_tables v x d is acting =
-        subst (λ (z : Did (Option Dinode) World). IsActing v z) (sym (in_tables_is h (Lock n) v.real (λ a o. refl) (λ s. refl) (lock_inode h n (tables_of v.real)) ∙ ap (did_in (with_tables v.real)) is)) acting
+        subst (λ (z : Did (Option Dinode) World). IsActing v z) (sym (in_tables_is h (Lock n) v.real (λ a o. refl) (λ s. refl) (λ a l. refl) (lock_inode h n (tables_of v.real)) ∙ ap (did_in (with_tables v.real)) is)) acting
 
     -- the lock was had
-    loads : (v : W) → Shows v.real v.seen → v.seen.lock n ≡ None → 0 < v.seen.refs n → v.seen.disk n ≢ None → (u : TablesState) (g : above.World)
+    loads : (v : W) → Shows v.real v.seen → v.seen.lock n ≡ None → v.real.new n ≡ None → 0 < v.seen.refs n → v.seen.disk n ≢ None → (u : TablesState) (g : above.World)
         → tables.Shows u (locked h n v.seen) (put (loaded (tables_of v.real)) n None)
         → Stands sizes h (with_tables v.real u) g (put c n (Has (inode_in (log_of v.real) n) NothingMore)) → (gs : List l.Step) → g.disk n ≡ v.seen.disk n → C (seen_in n looking (v.seen.disk n)) gs g
         → Wp M h B (Below (labelled l) (below sizes) h C) (rest (loaded (tables_of v.real) n)) (suc (suc (suc (steps_of looking)))) gs (record { real = with_tables v.real u; seen = g })
-    loads v shows free some there u g after stands gs same_disk done =
+    loads v shows free old some there u g after stands gs same_disk done =
         let range = shows.tables.range n some in
-        by (v.seen.disk n) same_disk there (unlocked_holds h lt v.real v.seen shows n free range.0 range.1) done
+        by (v.seen.disk n) same_disk there (unlocked_holds h lt v.real v.seen shows n free old range.0 range.1) done
       where
         mine : lock_holder n u ≡ Some h
         mine = sym (after.places.holders n) ∙ put_same v.seen.lock n (Some h)
@@ -214,6 +231,7 @@ module _ (l : Labels) (laws : Laws (labelled l)) (keeps : Keeps l) (h : ℕ) (lt
         let typed = may.1.1 in
         let some : 0 < v.seen.refs n = let all = one_refs v.seen h n here.inv lt in let own = refers.0 in omega (arith, all, own) in
         let p = place_there n (tables_of v.real) v.seen (loaded (tables_of v.real)) shows.tables some in
+        let old : v.real.new n ≡ None = referred_old h n v.real v.seen lt shows here.inv stands_v.0.through.new refers.0 in
         let b = seen_in n looking (v.seen.disk n) in
         let d = inode_in (log_of v.real) n in (
           (subst (λ (k : ℕ). 0 < k) (shows.tables.places.counts n) some, λ q. refers.1 (shows.tables.places.holders n ∙ q)),
@@ -221,9 +239,9 @@ module _ (l : Labels) (laws : Laws (labelled l)) (keeps : Keeps l) (h : ℕ) (lt
               by_lock h n p.0 (tables_of v.real) v.seen (loaded (tables_of v.real)) shows.tables p.1 (IsActing looking m c B C lasts v (exec h x (Lock n) v.real))
               (λ waits g out. on_tables looking m c B C lasts v x Waits waits (g, (λ q. refers.1 (out ∙ ap (λ (z : ℕ). Some z) q)), sym (shows.tables.places.holders n) ∙ out))
               (λ u ran free after.
-              let came = lock_came l laws keeps h lt (Take n looking) n v c b u shows stands_v.0 may.0 some free (typed free) (ap (lock_if h n b v.seen (locked h n v.seen)) free) after in
+              let came = lock_came l laws keeps h lt (Take n looking) n v c b u shows stands_v.0 may.0 some free old (typed free) (ap (lock_if h n b v.seen (locked h n v.seen)) free) after in
               let then_is : came.then_ ≡ locked h n v.seen = same_ran b came.then_ (locked h n v.seen) (sym came.ran ∙ ap (lock_if h n b v.seen (locked h n v.seen)) free) in
               on_tables looking m c B C lasts v x (Ran (loaded (tables_of v.real) n) u) ran
               (came_acting l laws keeps h lt sizes (Take n looking) m B C lasts v (premises.MayWait h (Lock n) v.real.state) (loaded (tables_of v.real) n) (with_tables v.real u) b (put c n (Has d NothingMore)) (Next looking m c B C lasts) tt stands_v.1 came
-              (λ g same_g stands_g gs inv_g done. loads looking m c B C lasts v shows free some (typed free) u g after stands_g gs ((λ z. same_g.disk z n) ∙ ap (λ (x : above.World). x.disk n) then_is) done))),
+              (λ g same_g stands_g gs inv_g done. loads looking m c B C lasts v shows free old some (typed free) u g after stands_g gs ((λ z. same_g.disk z n) ∙ ap (λ (x : above.World). x.disk n) then_is) done))),
         )))

@@ -1,5 +1,5 @@
 -- A block that a hart takes for an inode that it is changing: the bit is set, and until the record names it the block is spare.
-use Rattle.std.proofs.Common.{◌≡◌, ◌≢◌, inl, inr, ℕ, ◌<◌, Bool, true, false, List, ◌∷◌, Option, Some, None, sym, ◌∙◌, ap, subst, arith, if◌then◌else◌}
+use Rattle.std.proofs.Common.{◌≡◌, ◌≢◌, inl, inr, ℕ, ◌<◌, Bool, true, false, List, ◌∷◌, Option, Some, None, sym, ◌∙◌, ap, subst, arith, if◌then◌else◌, refl}
 use Rattle.fs_layout.specs.declared.inode.Dinode.{Dinode}
 use Rattle.fs_layout.specs.declared.superblock.Super.{Super}
 use Rattle.fs_layout.specs.Recovered.{sizes_of}
@@ -19,12 +19,12 @@ use Rattle.inode_machine.specs.World as above
 use Rattle.inode_machine.specs.Rules.{is_hart, Idle}
 use Rattle.inodes_on_blocks.specs.Below.{World, log_of, tables_of, disk_of}
 use Rattle.inodes_on_blocks.specs.Giving.{world_with}
-use Rattle.inodes_on_blocks.specs.Lowering.{Kept, Carry, InHand}
+use Rattle.inodes_on_blocks.specs.Lowering.{Kept, Carry, InHand, IsThrough}
 use Rattle.inodes_on_blocks.specs.Recording.{CanPut, IsChanging, PutLeaves, log_with, owners_with}
 use Rattle.inodes_on_blocks.specs.Shown.{Shows}
 use Rattle.inodes_on_blocks.proofs.BitmapPuts.{bitmaps_put_bits}
-use Rattle.inodes_on_blocks.proofs.Changing.{owner_with, LeftTo, Changing, hart_is, is_here, stays_with, others_put}
-use Rattle.inodes_on_blocks.proofs.Layer.{held_back, kept_disk, hand_then, lent_then}
+use Rattle.inodes_on_blocks.proofs.Changing.{owner_with, LeftTo, Changing, stays_with, others_put}
+use Rattle.inodes_on_blocks.proofs.Layer.{held_back, kept_disk, hand_then, lent_then, hart_is, is_here, through_then, through_put}
 use Rattle.inodes_on_blocks.proofs.OwnerPuts.{owner_taken, taken_other}
 use Rattle.inodes_on_blocks.proofs.PutLaws.{set_bits_leave}
 use Rattle.inodes_on_blocks.proofs.Putting.{lock_range}
@@ -52,6 +52,7 @@ pub record HasSpare (h n b : ℕ) (c : Carry) (o : Option Node) (d : Dinode) (x 
   pub lock : lock_holder n (tables_of r) ≡ Some h
   pub keeps : g.keeper n ≡ Some h
   pub was : g.disk n ≡ o
+  pub through : IsThrough h r
   pub lent : ((g.desks h).lender ≡ None → ⊥) → Idle h g
   pub laid : IsLaidOut (disk_of (log_of r)) (owner_with h n r) n d x
   pub spare : IsSpare (disk_of (log_of r)) (owner_with h n r) n d b
@@ -68,6 +69,7 @@ spare_stays h n b c o d x v w g u shows shows_then left kept is =
       lock = stays.lock;
       keeps = (kept_disk h n g u kept is.lent is.keeps).0;
       was = (kept_disk h n g u kept is.lent is.keeps).1 ∙ is.was;
+      through = through_then h v w left.begun is.through;
       lent = lent_then h g u kept is.lent;
       laid = becomes.laid;
       spare = becomes.spare b is.spare;
@@ -132,6 +134,7 @@ module _ (h n b : ℕ) (c : Carry) (o : Option Node) (d : Dinode) (x : Node) (r 
     lock = changing.lock;
     keeps = changing.keeps;
     was = changing.was;
+    through = through_put h r then_ (log_of then_) refl refl changing.through;
     lent = changing.lent;
     laid = laid_on (disk_of (log_of then_)) (put (owner_with h n r) b n) (owner_with h n then_) n same_owner d x (came.laid d x changing.laid);
     spare = spare_on (disk_of (log_of then_)) (put (owner_with h n r) b n) (owner_with h n then_) n same_owner d b (came.spare d x changing.laid);

@@ -52,16 +52,15 @@ use Rattle.inodes_on_blocks.specs.Below.{World, log_of, tables_of, disk_of, inod
 use Rattle.inodes_on_blocks.specs.Giving.{KeepsRoom, world_with}
 use Rattle.inodes_on_blocks.specs.Handlers.{acts}
 use Rattle.inodes_on_blocks.specs.Holding.{in_hand, Fetched}
-use Rattle.inodes_on_blocks.specs.Lowering.{Apart, Base, Carry, Had, Has, InHand, IsLoaded, IsOpened, Keeps, Kept, Labels, NothingMore, Same, Stands, below, commit_in, labelled, record_had}
+use Rattle.inodes_on_blocks.specs.Lowering.{Apart, Base, Carry, Had, Has, InHand, IsLoaded, IsOpened, Keeps, Kept, Labels, NothingMore, Same, Stands, below, commit_in, labelled, record_had, IsThrough}
 use Rattle.inodes_on_blocks.specs.Recording.{CanPut, IsChanging, log_with, owners_with}
 use Rattle.inodes_on_blocks.specs.Recording as recording
 use Rattle.inodes_on_blocks.specs.Shown.{Shows}
 use Rattle.inodes_on_blocks.specs.Writing.{give_written, deny_write}
 use Rattle.inodes_on_blocks.proofs.Alone.{kept_then}
 use Rattle.inodes_on_blocks.proofs.Changing.{Changing, changing_then, left_but, left_same, others_put}
-use Rattle.inodes_on_blocks.proofs.Committing.{is_member, nobody_commits}
 use Rattle.inodes_on_blocks.proofs.Fetching.{buffer_seen, buffer_then, s-fetch}
-use Rattle.inodes_on_blocks.proofs.Layer.{base_marked, below_laws, hand_then, held_back, kept_disk, lent_then}
+use Rattle.inodes_on_blocks.proofs.Layer.{base_marked, below_laws, hand_then, held_back, kept_disk, lent_then, through_then, through_put}
 use Rattle.inodes_on_blocks.proofs.Loading.{empty_hand, inode_place}
 use Rattle.inodes_on_blocks.proofs.Marked.{marked_same, shows_marked}
 use Rattle.inodes_on_blocks.proofs.NamingPuts.{holds_then, inode_then, naming_leaves, none_taken}
@@ -88,7 +87,7 @@ pub record IsWritten (h n : ℕ) (c : Carry) (o : Option Node) (d : Dinode) (x :
   pub holds : HoldsAt (disk_of (log_of r)) r.owner n (Some x)
   pub free : in_hand h r ≡ 0
   pub taken : (b : ℕ) → r.taken b ≢ Some h
-  pub rests : (r.commits ≡ Some h → ⊥)
+  pub through : IsThrough h r
   pub lent : ((g.desks h).lender ≡ None → ⊥) → Idle h g
 
 -- it lasts while others step
@@ -105,7 +104,7 @@ written_then h n c o d x v w g u same kept is =
       holds = untouched (disk_of (log_of v)) (disk_of (log_of w)) v.owner w.owner n (Some x) stays.untouched is.holds;
       free = same.held ∙ is.free;
       taken = untaken h v w same.taken is.taken;
-      rests = λ e. is.rests (held_back w.commits v.commits h (commit_in (log_of w)) (commit_in (log_of v)) same.commit e).0;
+      through = through_then h v w same.begun is.through;
       lent = lent_then h g u kept is.lent;
     }
 
@@ -114,7 +113,7 @@ written_base : (h n : ℕ) (c : Carry) (o : Option Node) (d : Dinode) (x : Node)
 written_base h n c o d x r g free is = record {
   free = is.free;
   taken = is.taken;
-  rests = is.rests;
+  through = is.through;
   inodes = λ i e. elim (same_or i n) [
     | inl q ↦ subst (λ (j : ℕ). InHand h j (put c n (Has d NothingMore) j) r (with_record g n (Some x))) (sym q) this
     | inr ne ↦ subst (λ (z : Had). InHand h i z r (with_record g n (Some x))) (sym (put_other c n (Has d NothingMore) i ne)) (other i ne (is.others i ne e))
@@ -200,7 +199,7 @@ module _ (sizes : Super) (l : Labels) (laws : Laws (labelled l)) (keeps : Keeps 
                   holds = holds_then h n c o d x r g shows changing is fits can;
                   free = omega (arith, count, one);
                   taken = none_taken h n c o d x r g shows changing is fits can;
-                  rests = λ e. none-some h (sym (nobody_commits h r g shows (is_member (log_of r).members h can.joined)) ∙ e);
+                  through = through_put h r (world_with h (at r) (recording.with_record n d r) r) (log_with h (at r) (recording.with_record n d r) r) refl refl changing.through;
                   lent = changing.lent;
                 };
                 kept = kept_;

@@ -1,13 +1,14 @@
 -- The machine below: what all harts share, and beside it, for the proof alone, whose each block is and which hart commits.
-use Rattle.std.specs.Prelude.{ℕ, List, Bool, true, false, Option, Some, None}
+use Rattle.std.specs.Prelude.{ℕ, List, Bool, true, false, if◌then◌else◌, Option, Some, None}
 use Rattle.fs_layout.specs.declared.inode.Dinode.{Dinode}
-use Rattle.image_tree.specs.Inodes.{inode_of}
+use Rattle.plain_tree.specs.Tree.{put}
+use Rattle.image_tree.specs.Inodes.{inode_of, is_free}
 use Rattle.group_log.specs.declared.log.Left.TheVariants.{Free, Commits}
 use Rattle.atomic_programs.specs.Prog.{Did, Waits, Ran, Stops}
 use Rattle.fs_tables.specs.Tables.{TablesState, holder_of as lock_holder}
 use Rattle.fs_machine.specs.LogPart.{LogPart, Outside}
 use Rattle.fs_machine.specs.Steps as steps
-use Rattle.fs_machine.specs.Steps.{State, Op, Answer, Leave, Put, Commit}
+use Rattle.fs_machine.specs.Steps.{State, Op, Answer, Leave, Put, Commit, Claim, Claims}
 use Rattle.inodes_on_blocks.specs.OnBlocks.{shown}
 use Rattle.inodes_on_blocks.specs.Owners.{Owners, owners_put}
 
@@ -18,6 +19,7 @@ pub record World : Type 0 where
   pub left : ℕ → Bool  -- a bit that is set though the block is no inode's: left over of the mounted image, or of a block that a hart has taken
   pub taken : ℕ → Option ℕ  -- the hart that has set a block's bit, until an inode names the block
   pub commits : Option ℕ  -- the hart that makes the commit which is under way
+  pub new : ℕ → Option ℕ  -- the hart that has claimed an inode, until its record has a type
 
 abbrev pub log_of : World → LogPart
 log_of w = w.state.log
@@ -40,6 +42,15 @@ commits_after h Commit true was = None
 commits_after h Commit false was = was
 commits_after h op a was = was
 
+-- an inode is new from its claim on, until it is recorded with a type
+abbrev pub untyped : LogPart → (ℕ → Option ℕ) → ℕ → Option ℕ
+untyped l was n = if is_free (inode_in l n) then was n else None
+
+abbrev pub new_after : ℕ → (op : Op) → Answer op → LogPart → (ℕ → Option ℕ) → ℕ → Option ℕ
+new_after h (Claim b candidates) (Claims n) l was = put was n (Some h)
+new_after h (Put b (Some bytes)) a l was = untyped l was
+new_after h op a l was = was
+
 -- whose the blocks are
 abbrev pub owners_of : World → Owners
 owners_of w = record { owner = w.owner; left = w.left; taken = w.taken }
@@ -53,7 +64,7 @@ owners_after h op was s = owners_of was
 abbrev pub came_to : ℕ → (op : Op) → World → Did (Answer op) State → Did (Answer op) World
 came_to h op w Waits = Waits
 came_to h op w (Ran a s) =
-    let o = owners_after h op w s in Ran a (record { state = s; owner = o.owner; left = o.left; taken = o.taken; commits = commits_after h op a w.commits })
+    let o = owners_after h op w s in Ran a (record { state = s; owner = o.owner; left = o.left; taken = o.taken; commits = commits_after h op a w.commits; new = new_after h op a s.log w.new })
 came_to h op w (Stops s) = Stops (record w { state = s })
 
 abbrev pub exec : ℕ → Outside → (op : Op) → World → Did (Answer op) World

@@ -16,9 +16,9 @@ use Rattle.inode_data.specs.Freeing.{free_numbers}
 use Rattle.inode_machine.specs.Budget.{Spent, size, most_recorded}
 use Rattle.inode_machine.specs.World as above
 use Rattle.inode_machine.specs.Rules.{if_kept, Inv}
-use Rattle.inodes_on_blocks.specs.Below.{World, log_of, tables_of, disk_of, inode_in}
+use Rattle.inodes_on_blocks.specs.Below.{World, log_of, tables_of, disk_of, inode_in, untyped}
 use Rattle.inodes_on_blocks.specs.Shown.{Shows}
-use Rattle.inodes_on_blocks.specs.Lowering.{KeepsInode, Kept, buffer_in, commit_in, below}
+use Rattle.inodes_on_blocks.specs.Lowering.{KeepsInode, Kept, buffer_in, undertaken, below}
 use Rattle.inodes_on_blocks.specs.Acting.{whole}
 use Rattle.inodes_on_blocks.specs.Holding.{in_hand}
 use Rattle.inodes_on_blocks.specs.Recording.{log_with, owners_with, IsChanging}
@@ -32,6 +32,7 @@ world_with h b bytes r = record {
   left = (owners_with h b bytes r).left;
   taken = (owners_with h b bytes r).taken;
   commits = r.commits;
+  new = untyped (log_with h b bytes r) r.new;
 }
 
 -- What a hart knows of its transaction says that block b may be recorded; and this it knows when it was.
@@ -55,7 +56,7 @@ pub record GaveBlock (h n b : ℕ) (v w : World) : Type 0 where
   pub buffers : (k : ℕ) → k ≢ (log_of v).sizes.bmapstart → if_kept (holder_of k (log_of w).seats) h (buffer_in (log_of w) k) ≡ if_kept (holder_of k (log_of v).seats) h (buffer_in (log_of v) k)
   pub back : holder_of (log_of v).sizes.bmapstart (log_of w).seats ≡ None
   pub taken : (c : ℕ) → if_kept (w.taken c) h (seen_of (log_of w) c) ≡ if_kept (v.taken c) h (seen_of (log_of v) c)
-  pub commit : if_kept w.commits h (commit_in (log_of w)) ≡ if_kept v.commits h (commit_in (log_of v))
+  pub begun : undertaken h w ≡ undertaken h v
 
 -- Where it goes on, from w, with what it knows of v.
 pub record Gave (h n b : ℕ) (Stage : above.World → Type 0) (w v : Both World above.World) : Type 0 where
@@ -89,7 +90,7 @@ pub record GaveBlocks (h n : ℕ) (v w : World) : Type 0 where
   pub buffers : (k : ℕ) → k ≢ (log_of v).sizes.bmapstart → if_kept (holder_of k (log_of w).seats) h (buffer_in (log_of w) k) ≡ if_kept (holder_of k (log_of v).seats) h (buffer_in (log_of v) k)
   pub held : in_hand h w ≡ in_hand h v
   pub taken : (c : ℕ) → if_kept (w.taken c) h (seen_of (log_of w) c) ≡ if_kept (v.taken c) h (seen_of (log_of v) c)
-  pub commit : if_kept w.commits h (commit_in (log_of w)) ≡ if_kept v.commits h (commit_in (log_of v))
+  pub begun : undertaken h w ≡ undertaken h v
 
 -- ---- the laws
 

@@ -9,7 +9,7 @@ use Rattle.inode_machine.specs.World as above
 use Rattle.inode_machine.specs.Rules.{if_kept, Inv}
 use Rattle.inodes_on_blocks.specs.Below.{World, log_of, tables_of}
 use Rattle.inodes_on_blocks.specs.Shown.{Shows}
-use Rattle.inodes_on_blocks.specs.Lowering.{commit_in, KeepsGroup, KeepsInode, Kept, buffer_in}
+use Rattle.inodes_on_blocks.specs.Lowering.{undertaken, KeepsGroup, KeepsInode, Kept, buffer_in}
 
 -- how many it has
 abbrev pub in_hand : ℕ → World → ℕ
@@ -20,7 +20,7 @@ pub record HasBuffer (h b : ℕ) (bytes : List ℕ) (w : World) : Type 0 where
   pub holder : holder_of b (log_of w).seats ≡ Some h
   pub has : kept b (log_of w).seats ≡ Some bytes
 
--- Nothing of the hart's changed but block b's buffer: its locks and what those inodes hold, its other buffers, its transaction, its commit.
+-- Nothing of the hart's changed but block b's buffer: its locks and what those inodes hold, its other buffers, its transaction, its commit, its new inodes.
 pub record SameBut (h b : ℕ) (v w : World) : Type 0 where
   pub inodes : (i : ℕ) → lock_holder i (tables_of v) ≡ Some h → KeepsInode h i v w
   pub no_more : (i : ℕ) → lock_holder i (tables_of w) ≡ Some h → lock_holder i (tables_of v) ≡ Some h
@@ -28,7 +28,7 @@ pub record SameBut (h b : ℕ) (v w : World) : Type 0 where
   pub member : slice_get (log_of w).members h ≡ slice_get (log_of v).members h
   pub group : KeepsGroup h (log_of v) (log_of w)
   pub taken : (k : ℕ) → if_kept (w.taken k) h (seen_of (log_of w) k) ≡ if_kept (v.taken k) h (seen_of (log_of v) k)
-  pub commit : if_kept w.commits h (commit_in (log_of w)) ≡ if_kept v.commits h (commit_in (log_of v))
+  pub begun : undertaken h w ≡ undertaken h v
   pub sizes : (log_of w).sizes ≡ (log_of v).sizes
 
 -- Where a hart goes on after a block's buffer came into its hand, from w: what it knows of v.

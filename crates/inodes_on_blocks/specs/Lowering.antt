@@ -25,7 +25,7 @@ use Rattle.inode_machine.specs.World.{Entry}
 use Rattle.inode_machine.specs.World.Op.{Take, Give, UpStart, Up, WalkDown, Down, Free, Claim, Store, Fill, Enter, Clear, Empty, Slot, Install, StatFile, ReadFile, CheckFile, JoinFile, WriteFile, Double, Shut, Settle, Lend, LendDirectory, Release, Join, Leave, Say}
 use Rattle.inode_machine.specs.Marks.{go}
 use Rattle.inode_machine.specs.Rules as rules
-use Rattle.inode_machine.specs.Rules.{if_kept, own_of, Idle, KeepsFiles, Inv}
+use Rattle.inode_machine.specs.Rules.{if_kept, is_hart, own_of, Idle, KeepsFiles, Inv}
 use Rattle.inodes_on_tables.specs.Shown as tables
 use Rattle.inodes_on_tables.specs.Shown.{loaded}
 use Rattle.inodes_on_blocks.specs.Below.{World, log_of, tables_of, disk_of, inode_in, exec}
@@ -50,7 +50,16 @@ commit_in l = (l.phase, l.group)
 abbrev pub KeepsGroup : ℕ → LogPart → LogPart → Type 0
 KeepsGroup h l m = (b k : ℕ) → slice_get l.members h ≡ Some (Some k) → has l.group b ≡ true → has m.group b ≡ true
 
--- nothing of hart h's changed: its locks, its buffers, its transaction, its commit
+-- what the hart has begun: how far its commit is, and which inodes are new by it
+abbrev pub undertaken : ℕ → World → Option (Phase × List ℕ) × (ℕ → Bool)
+undertaken h w = (if_kept w.commits h (commit_in (log_of w)), λ n. is_hart (w.new n) h)
+
+-- it is through with all of that
+pub record IsThrough (h : ℕ) (r : World) : Type 0 where
+  pub commits : r.commits ≢ Some h
+  pub new : (n : ℕ) → r.new n ≢ Some h
+
+-- nothing of hart h's changed: its locks, its buffers, its transaction, its commit, its new inodes
 pub record Same (h : ℕ) (v w : World) : Type 0 where
   pub inodes : (i : ℕ) → lock_holder i (tables_of v) ≡ Some h → KeepsInode h i v w
   pub no_more : (i : ℕ) → lock_holder i (tables_of w) ≡ Some h → lock_holder i (tables_of v) ≡ Some h
@@ -61,7 +70,7 @@ pub record Same (h : ℕ) (v w : World) : Type 0 where
   pub sizes : (log_of w).sizes ≡ (log_of v).sizes
   -- what it has taken
   pub taken : (b : ℕ) → if_kept (w.taken b) h (seen_of (log_of w) b) ≡ if_kept (v.taken b) h (seen_of (log_of v) b)
-  pub commit : if_kept w.commits h (commit_in (log_of w)) ≡ if_kept v.commits h (commit_in (log_of v))
+  pub begun : undertaken h w ≡ undertaken h v
 
 -- the same of what is a hart's in the world above
 pub record Kept (h : ℕ) (v w : above.World) : Type 0 where
@@ -145,10 +154,10 @@ pub record InHand (h i : ℕ) (had : Had) (r : World) (w : above.World) : Type 0
   pub opened : IsOpened h i had w
 
 pub record Base (h : ℕ) (r : World) (w : above.World) (c : Carry) : Type 0 where
-  -- no buffer, no block that no inode names, and no commit
+  -- no buffer, no block that no inode names, no commit, and no new inode
   pub free : count_of (is_held_by h) (log_of r).seats ≡ 0
   pub taken : (b : ℕ) → r.taken b ≢ Some h
-  pub rests : (r.commits ≡ Some h → ⊥)
+  pub through : IsThrough h r
   pub inodes : (i : ℕ) → lock_holder i (tables_of r) ≡ Some h → InHand h i (c i) r w
   -- a hart that gets another's descriptors has nothing
   pub lent : ((w.desks h).lender ≡ None → ⊥) → Idle h w

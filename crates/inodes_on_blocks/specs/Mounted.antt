@@ -52,6 +52,7 @@ mounted disk failures = record {
   left = left_in (disk_of (resting_log disk failures));
   taken = λ b. None;
   commits = None;
+  new = λ n. None;
 }
 
 -- the image's tree, with every hart in the root and nothing open; an inode without a name is no node of it

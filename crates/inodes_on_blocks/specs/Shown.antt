@@ -7,6 +7,7 @@ use Rattle.fs_layout.specs.Recovered.{IsOutsideLog}
 use Rattle.group_log.specs.declared.phase.Phase.{Phase}
 use Rattle.group_log.specs.declared.phase.Phase.TheVariants.{Open, Halted}
 use Rattle.image_tree.specs.Checks.{IsData, largest_size}
+use Rattle.image_tree.specs.Inodes.{is_free}
 use Rattle.plain_tree.specs.declared.node.Node.{Node}
 use Rattle.plain_tree.specs.Widths.{hart_count}
 use Rattle.fs_machine.specs.LogPart.{LogPart}
@@ -34,6 +35,23 @@ if_joined desks (Some g) = if (desks g).joined then Some g else None
 
 abbrev pub ghost_of : (ℕ → ℕ) → (ℕ → Bool) → (ℕ → Option Node) → (ℕ → Option ℕ) → (ℕ → Desk) → Ghost
 ghost_of owner left nodes lock desks = record { nodes = nodes; owner = owner; left = left; changing = λ i. if_joined desks (lock i) }
+
+-- an inode that a hart has claimed has no node on the blocks before its record is put
+abbrev pub unless_new : Option ℕ → Option Node → Option Node
+unless_new None v = v
+unless_new (Some h) v = None
+
+abbrev pub on_blocks : (ℕ → Option ℕ) → (ℕ → Option Node) → ℕ → Option Node
+on_blocks new nodes n = unless_new (new n) (nodes n)
+
+-- Until then its record is free; that hart keeps it, which is in a transaction, and nobody has its lock.
+pub record IsNew (n h : ℕ) (l : LogPart) (lock keeper : ℕ → Option ℕ) : Type 0 where
+  pub low : 1 ≤ n
+  pub bound : n < l.sizes.ninodes
+  pub free : is_free (inode_in l n) ≡ true
+  pub unlocked : lock n ≡ None
+  pub kept : keeper n ≡ Some h
+  pub joined : is_joined l.members h ≡ true
 
 -- What is loaded of an inode is as it is seen. One without links, to which a reference stands and which no hart keeps, is loaded; of one without a type
 -- nothing is.
@@ -69,7 +87,8 @@ pub record Shows (r : World) (w : above.World) : Type 0 where
   pub size : w.all.ninodes ≡ (log_of r).sizes.ninodes
   pub tables : tables.Shows (tables_of r) w (loaded (tables_of r))
   pub members : MembersShow (log_of r).members w.desks
-  pub blocks : AreOnBlocks (log_of r).contents (log_of r).seats (log_of r).sizes (log_of r).members (ghost_of r.owner r.left w.disk w.lock w.desks)
+  pub blocks : AreOnBlocks (log_of r).contents (log_of r).seats (log_of r).sizes (log_of r).members (ghost_of r.owner r.left (on_blocks r.new w.disk) w.lock w.desks)
+  pub news : (n h : ℕ) → r.new n ≡ Some h → IsNew n h (log_of r) w.lock w.keeper
   pub bytes : AreBytes (log_of r)
   pub taken : TakenShow (log_of r).sizes r.owner r.left r.taken
   pub commit : CommitShows r.commits (log_of r).phase

@@ -87,7 +87,7 @@ module _ (sizes : Super) where
   both_at h op mark w a t =
       let o = below.owners_after h op w.real.blocks t in
       record {
-        real = record (w.real) { blocks = record { state = t; owner = o.owner; left = o.left; taken = o.taken; commits = below.commits_after h op a w.real.blocks.commits } };
+        real = record (w.real) { blocks = record { state = t; owner = o.owner; left = o.left; taken = o.taken; commits = below.commits_after h op a w.real.blocks.commits; new = below.new_after h op a t.log w.real.blocks.new } };
         seen = seen_after machine h (mark a) w.seen;
       }
 
