@@ -11,7 +11,7 @@ use Rattle.image_laws.proofs.HeldFrames.{untouched, untouched_change}
 use Rattle.image_laws.proofs.LaidInodes.{laid_before}
 use Rattle.image_laws.proofs.SeenDisks.{good_seen}
 use Rattle.plain_tree.specs.declared.node.Node.{Node}
-use Rattle.tree_laws.proofs.Maps.{either, eq_is, eq_self}
+use Rattle.tree_laws.proofs.Maps.{either}
 use Rattle.fs_tables.specs.Tables.{holder_of as lock_holder}
 use Rattle.fs_machine.specs.Shown.{seen_of}
 use Rattle.inode_machine.specs.World as above
@@ -23,7 +23,7 @@ use Rattle.inodes_on_blocks.specs.Lowering.{KeepsInode, Kept, undertaken, IsThro
 use Rattle.inodes_on_blocks.specs.Recording.{PutLeaves, log_with, owners_with}
 use Rattle.inodes_on_blocks.specs.Shown.{Shows}
 use Rattle.inodes_on_blocks.proofs.ContentBlocks.{data_place}
-use Rattle.inodes_on_blocks.proofs.Layer.{hart_is, is_here, held_back, kept_disk, hand_then, lent_then, through_then, through_put}
+use Rattle.inodes_on_blocks.proofs.Layer.{hart_is, held_back, kept_disk, hand_then, lent_then, through_then, through_put}
 use Rattle.inodes_on_blocks.proofs.Loading.{block_shown}
 use Rattle.inodes_on_blocks.proofs.PutLaws.{behind}
 use Rattle.inodes_on_blocks.proofs.Putting.{lock_range}

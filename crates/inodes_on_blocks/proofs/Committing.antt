@@ -24,7 +24,8 @@ use Rattle.fs_machine.specs.Whole.{IsWholeLog}
 use Rattle.inode_machine.specs.World as above
 use Rattle.inode_machine.specs.Rules.{if_kept, is_hart}
 use Rattle.inodes_on_blocks.specs.OnBlocks.{is_joined}
-use Rattle.inodes_on_blocks.specs.Below.{World, log_of, disk_of}
+use Rattle.inodes_on_tables.specs.Shown.{loaded}
+use Rattle.inodes_on_blocks.specs.Below.{World, log_of, disk_of, tables_of}
 use Rattle.inodes_on_blocks.specs.Shown.{Shows, CommitShows, ghost_of, on_blocks}
 use Rattle.inodes_on_blocks.specs.Lowering.{Same, commit_in, buffer_in}
 use Rattle.inodes_on_blocks.proofs.Groups.{has_members}
@@ -135,7 +136,7 @@ module _ (h : ℕ) (v : World) (g : above.World) (shows : Shows v g) (contents :
     bytes = λ b lt out. subst IsBytes (sym (leaves.alike b out)) (shows.bytes b (subst (λ (n : ℕ). b < n) long_same lt) out);
     taken = shows.taken;
     commit = commit;
-    news = λ n k e. new_alike n k l m g.lock g.keeper refl refl (ap (λ (x : List (List ℕ)). inode_of x n) disk_same) (shows.news n k e);
+    news = λ n k e. new_alike n k l m g.lock g.keeper (loaded (tables_of v)) refl refl (ap (λ (x : List (List ℕ)). inode_of x n) disk_same) (shows.news n k e);
     loads = record { seen = λ n d e. shows.loads.seen n d e ∙ sym (ap (λ (x : List (List ℕ)). inode_of x n) disk_same); dead = shows.loads.dead; typed = shows.loads.typed };
     offsets = shows.offsets;
   }

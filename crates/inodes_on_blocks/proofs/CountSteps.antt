@@ -62,7 +62,7 @@ module _ (l : Labels) (laws : Laws (labelled l)) (keeps : Keeps l) (h : ℕ) (lt
     ran = ran;
     free = free;
     shows = shows_then h lt v.real v.seen shows t (counted_up h n v.seen) (loaded (tables_of v.real)) after refl refl (λ j. refl) (λ i. inl refl)
-        (λ i k e. let is = shows.news i k e in (is.unlocked, is.kept))
+        (λ i k e. let is = shows.news i k e in (is.unlocked, is.kept, is.unloaded))
         (record {
           seen = shows.loads.seen;
           dead = λ i some unlocked loose dead. elim (same_or i n) [
@@ -208,7 +208,7 @@ module _ (l : Labels) (laws : Laws (labelled l)) (keeps : Keeps l) (h : ℕ) (lt
     ran = ran;
     free = free;
     shows = shows_then h lt v.real v.seen shows t (counted_down h n v.seen) (left (v.seen.refs n == 1)) after refl refl (λ j. refl) (λ i. inl refl)
-        (λ i k e. ((shows.news i k e).unlocked, kept_new (v.seen.alone n) refl i k e))
+        (λ i k e. ((shows.news i k e).unlocked, kept_new (v.seen.alone n) refl i k e, unloaded_left (v.seen.refs n == 1) i (shows.news i k e).unloaded))
         (record {
           seen = λ i d e. seen (v.seen.refs n == 1) i d e;
           dead = λ i some unlocked loose dead. elim (same_or i n) [
@@ -233,6 +233,11 @@ module _ (l : Labels) (laws : Laws (labelled l)) (keeps : Keeps l) (h : ℕ) (lt
       keeper : (b : Bool) (i : ℕ) → i ≢ n → (if b then put v.seen.keeper n None else v.seen.keeper) i ≡ v.seen.keeper i
       keeper true i ne = put_other v.seen.keeper n None i ne
       keeper false i ne = refl
+
+      -- what isn't loaded stays so
+      unloaded_left : (b : Bool) (i : ℕ) → load i ≡ None → left b i ≡ None
+      unloaded_left false i none = none
+      unloaded_left true i none = elim (same_or i n) [ inl q ↦ ap (put load n None) q ∙ put_same load n None | inr ne ↦ put_other load n None i ne ∙ none ]
 
       -- nor is it new
       kept_new : (b : Bool) → v.seen.alone n ≡ b → (i k : ℕ) → v.real.new i ≡ Some k → (if b then put v.seen.keeper n None else v.seen.keeper) i ≡ Some k
@@ -270,7 +275,7 @@ module _ (l : Labels) (laws : Laws (labelled l)) (keeps : Keeps l) (h : ℕ) (lt
     ran = ran;
     free = free;
     shows = shows_then h lt v.real v.seen shows t (reserved h n v.seen) (loaded (tables_of v.real)) after refl refl (λ j. refl) (λ i. inl refl)
-        (λ i k e. ((shows.news i k e).unlocked, put_elim v.seen.keeper n (Some h) i (λ (z : Option ℕ). z ≡ Some k) (λ q. absurd (none-some k (sym old ∙ ap v.real.new (sym q) ∙ e))) (λ ne. (shows.news i k e).kept)))
+        (λ i k e. ((shows.news i k e).unlocked, put_elim v.seen.keeper n (Some h) i (λ (z : Option ℕ). z ≡ Some k) (λ q. absurd (none-some k (sym old ∙ ap v.real.new (sym q) ∙ e))) (λ ne. (shows.news i k e).kept), (shows.news i k e).unloaded))
         (record { seen = shows.loads.seen; dead = λ i some unlocked loose dead. shows.loads.dead i some unlocked (was_loose i loose) dead; typed = shows.loads.typed }) shows.offsets;
     same = tables_left h v.real t v.seen (reserved h n v.seen) (loaded (tables_of v.real)) (loaded (tables_of v.real)) shows.tables after (λ i. inl refl);
     base = base_then h lt v.real v.seen shows c c t (reserved h n v.seen) (loaded (tables_of v.real)) base after free
@@ -295,7 +300,7 @@ module _ (l : Labels) (laws : Laws (labelled l)) (keeps : Keeps l) (h : ℕ) (lt
         ])
         (λ i k e. elim (same_or i n) [
           | inl q ↦ absurd (none-some k (sym (unkept_old v.real v.seen shows n unkept) ∙ ap v.real.new (sym q) ∙ e))
-          | inr ne ↦ (put_other v.seen.lock n (Some h) i ne ∙ (shows.news i k e).unlocked, put_other v.seen.keeper n (Some h) i ne ∙ (shows.news i k e).kept)
+          | inr ne ↦ (put_other v.seen.lock n (Some h) i ne ∙ (shows.news i k e).unlocked, put_other v.seen.keeper n (Some h) i ne ∙ (shows.news i k e).kept, put_other load n None i ne ∙ (shows.news i k e).unloaded)
         ])
         (record {
           seen = λ i d e. elim (same_or i n) [

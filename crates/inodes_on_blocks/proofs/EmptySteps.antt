@@ -37,14 +37,14 @@ use Rattle.inode_machine.specs.Rules.{Inv, Idle, more}
 use Rattle.inodes_on_blocks.specs.Below.{World, log_of, tables_of, disk_of, inode_in}
 use Rattle.inodes_on_blocks.specs.Emptying.{empty}
 use Rattle.inodes_on_blocks.specs.Giving.{Owns, KeepsRoom}
-use Rattle.inodes_on_blocks.specs.Lowering.{KeepsInode, Kept, NothingMore, Had, Apart, Has, Emptied, Carry, record_had, IsLoaded, InHand, Base, Stands, commit_in, below, Labels, labelled, Keeps}
+use Rattle.inodes_on_blocks.specs.Lowering.{KeepsInode, Kept, NothingMore, Had, Apart, Has, Emptied, Carry, record_had, IsLoaded, InHand, Base, Stands, below, Labels, labelled, Keeps}
 use Rattle.inodes_on_blocks.specs.Recording.{IsChanging}
 use Rattle.inodes_on_blocks.specs.Room.{GivesRoom}
 use Rattle.inodes_on_blocks.specs.Shown.{Shows}
 use Rattle.inodes_on_blocks.specs.Storing.{record_in, put_record}
 use Rattle.inodes_on_blocks.proofs.Alone.{kept_same}
 use Rattle.inodes_on_blocks.proofs.ContentGiven.{Between, content_steps, named_kept, s-content}
-use Rattle.inodes_on_blocks.proofs.Layer.{below_laws, held_back, hand_then, kept_disk, lent_then, untouched_same, through_then}
+use Rattle.inodes_on_blocks.proofs.Layer.{below_laws, hand_then, kept_disk, lent_then, untouched_same, through_then}
 use Rattle.inodes_on_blocks.proofs.OwnedNumbers.{given_order, order_owned, order_named}
 use Rattle.inodes_on_blocks.proofs.Putting.{lock_range}
 use Rattle.inodes_on_blocks.proofs.Starting.{TakesStep, s-here}

@@ -35,6 +35,7 @@ use Rattle.fs_machine.proofs.Showing.{shows_its_puts}
 use Rattle.inode_machine.specs.World as above
 use Rattle.inode_machine.specs.Rules.{if_kept, Inv}
 use Rattle.inode_machine.proofs.Frame.{kept_is, kept_here}
+use Rattle.inodes_on_tables.specs.Shown.{loaded}
 use Rattle.inodes_on_blocks.specs.Below.{World, log_of, tables_of, disk_of, came_to, exec}
 use Rattle.inodes_on_blocks.specs.OnBlocks.{shown}
 use Rattle.inodes_on_blocks.specs.Shown.{Shows, ghost_of, on_blocks}
@@ -138,7 +139,7 @@ module _ (h : ℕ) (v : World) (g : above.World) (shows : Shows v g) (ss : List 
     bytes = λ b within out. subst IsBytes (sym (quiet.alike b out)) (shows.bytes b within out);
     taken = shows.taken;
     commit = shows.commit;
-    news = λ n k e. new_alike n k (log_of v) (with_seats (log_of v) ss) g.lock g.keeper refl refl (ap (λ (x : List (List ℕ)). inode_of x n) quiet_disk) (shows.news n k e);
+    news = λ n k e. new_alike n k (log_of v) (with_seats (log_of v) ss) g.lock g.keeper (loaded (tables_of v)) refl refl (ap (λ (x : List (List ℕ)). inode_of x n) quiet_disk) (shows.news n k e);
     loads = record { seen = λ n d e. shows.loads.seen n d e ∙ sym (ap (λ (x : List (List ℕ)). inode_of x n) quiet_disk); dead = shows.loads.dead; typed = shows.loads.typed };
     offsets = shows.offsets;
   }

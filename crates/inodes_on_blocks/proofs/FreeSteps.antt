@@ -29,14 +29,14 @@ use Rattle.inodes_on_blocks.specs.Below.{World, log_of, tables_of, disk_of, owne
 use Rattle.inodes_on_blocks.specs.Emptying.{free}
 use Rattle.inodes_on_blocks.specs.Giving.{KeepsRoom, world_with}
 use Rattle.inodes_on_blocks.specs.Holding.{in_hand, HasBuffer, Fetched}
-use Rattle.inodes_on_blocks.specs.Lowering.{commit_in, Emptied, Carry, Stands, below, Labels, labelled, Keeps, IsThrough}
+use Rattle.inodes_on_blocks.specs.Lowering.{Emptied, Carry, Stands, below, Labels, labelled, Keeps, IsThrough}
 use Rattle.inodes_on_blocks.specs.Recording.{CanPut, IsChanging}
 use Rattle.inodes_on_blocks.specs.Shown.{Shows}
 use Rattle.inodes_on_blocks.specs.Storing.{record_in, put_record}
 use Rattle.inodes_on_blocks.proofs.EmptySteps.{HasNone, none_lasts, Begins, s-none}
 use Rattle.inodes_on_blocks.proofs.ContentGiven.{content_steps}
 use Rattle.inodes_on_blocks.proofs.Fetching.{buffer_then, buffer_seen, s-fetch}
-use Rattle.inodes_on_blocks.proofs.Layer.{below_laws, held_back, lent_then, through_then, through_put}
+use Rattle.inodes_on_blocks.proofs.Layer.{below_laws, lent_then, through_then, through_put}
 use Rattle.inodes_on_blocks.proofs.Loading.{empty_hand}
 use Rattle.inodes_on_blocks.proofs.PutLaws.{record_puts_leave}
 use Rattle.inodes_on_blocks.proofs.Putting.{after, lock_range}

@@ -1,5 +1,5 @@
 -- What the others leave to a hart below, and what a step on the tables leaves to them.
-use Rattle.std.proofs.Common.{◌≡◌, ◌≢◌, ◌⊎◌, inl, inr, ℕ, ◌<◌, ◌==◌, Bool, true, false, List, Option, Some, None, refl, sym, ◌∙◌, ap, subst, if◌then◌else◌}
+use Rattle.std.proofs.Common.{◌≡◌, ◌≢◌, ◌⊎◌, inl, inr, ℕ, true, false, List, Option, Some, None, refl, sym, ◌∙◌, ap, subst}
 use Rattle.std.proofs.lemmas.Option.{none-some}
 use Rattle.fs_layout.specs.declared.inode.Dinode.{Dinode}
 use Rattle.fs_layout.specs.declared.superblock.Super.{Super}
@@ -184,16 +184,21 @@ tables_left h v t g u load load_then shows after change other ne =
     back i (inr ours) e = not_ours h other (u.lock i) ours.1 ne (after.places.holders i ∙ e)
 
 -- what a hart has is the same in a world above that differs for the proof alone
+pub hands_marked : (h : ℕ) (r : World) (g u : above.World) (c : Carry) → SameCode g u → AllInHand h c r g → AllInHand h c r u
+hands_marked h r g u c s all i e =
+    let x = all i e in
+    record {
+      keeps = (λ z. s.keeper z i) ∙ x.keeps;
+      loaded_is = subst (λ (n : Option Node). IsLoaded (c i) n (inode_in (log_of r) i)) (λ z. sym s.disk z i) x.loaded_is;
+      holds = subst (λ (n : Option Node). HoldsAt (disk_of (log_of r)) r.owner i n) (λ z. sym s.disk z i) x.holds;
+      opened = open_then h i (c i) g u (open_alike h i g u (s.desks h).fds s.files) x.opened;
+    }
+
 pub base_marked : (h : ℕ) (r : World) (g u : above.World) (c : Carry) → SameCode g u → (g.desks h).lender ≡ None → Base h r g c → Base h r u c
 base_marked h r g u c s free b = record {
   free = b.free;
   taken = b.taken;
   through = b.through;
-  inodes = λ i e. let x = b.inodes i e in record {
-    keeps = (λ z. s.keeper z i) ∙ x.keeps;
-    loaded_is = subst (λ (n : Option Node). IsLoaded (c i) n (inode_in (log_of r) i)) (λ z. sym s.disk z i) x.loaded_is;
-    holds = subst (λ (n : Option Node). HoldsAt (disk_of (log_of r)) r.owner i n) (λ z. sym s.disk z i) x.holds;
-    opened = open_then h i (c i) g u (open_alike h i g u (s.desks h).fds s.files) x.opened;
-  };
+  inodes = hands_marked h r g u c s b.inodes;
   lent = λ some. absurd (some ((s.desks h).lender ∙ free));
 }

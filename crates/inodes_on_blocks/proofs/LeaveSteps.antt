@@ -381,7 +381,7 @@ module _ (l : Labels) (laws : Laws (labelled l)) (keeps : Keeps l) (h : ℕ) (lt
       bytes = shows.bytes;
       taken = shows.taken;
       commit = commit;
-      news = λ n k e. let is = shows.news n k e in record { low = is.low; bound = is.bound; free = is.free; unlocked = is.unlocked; kept = is.kept; joined = ap is_some (get_or-set_other before.members h k None None (λ q. through n (e ∙ ap (λ (z : ℕ). Some z) q))) ∙ is.joined };
+      news = λ n k e. let is = shows.news n k e in record { low = is.low; bound = is.bound; free = is.free; unlocked = is.unlocked; kept = is.kept; joined = ap is_some (get_or-set_other before.members h k None None (λ q. through n (e ∙ ap (λ (z : ℕ). Some z) q))) ∙ is.joined; unloaded = is.unloaded };
       loads = record { seen = shows.loads.seen; dead = shows.loads.dead; typed = shows.loads.typed };
       offsets = shows.offsets;
     }

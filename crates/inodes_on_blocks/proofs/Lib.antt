@@ -85,3 +85,7 @@ pub mod FillSteps
 pub mod FullSteps
 pub mod EnterSteps
 pub mod NamingWithins
+pub mod NewInodes
+pub mod Answering
+pub mod ClaimPuts
+pub mod ClaimSteps

@@ -294,7 +294,7 @@ shows_marked r v w s shows = record {
   bytes = shows.bytes;
   taken = shows.taken;
   commit = shows.commit;
-  news = λ n k e. let is = shows.news n k e in new_kept n k (log_of r) v.lock v.keeper w.lock w.keeper ((λ z. s.lock z n) ∙ is.unlocked) ((λ z. s.keeper z n) ∙ is.kept) is;
+  news = λ n k e. let is = shows.news n k e in new_kept n k (log_of r) v.lock v.keeper w.lock w.keeper (loaded (tables_of r)) (loaded (tables_of r)) ((λ z. s.lock z n) ∙ is.unlocked) ((λ z. s.keeper z n) ∙ is.kept) is.unloaded is;
   loads = record {
     seen = shows.loads.seen;
     dead = λ n lt free loose dead. shows.loads.dead n (subst (λ (z : ℕ). 0 < z) (λ z. s.refs z n) lt) ((λ z. sym s.lock z n) ∙ free) ((λ z. sym s.keeper z n) ∙ loose) (ap (λ (f : ℕ → Option Node). is_dead (f n)) (sym s.disk) ∙ dead);

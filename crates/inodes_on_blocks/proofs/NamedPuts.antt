@@ -106,7 +106,7 @@ module _ (h n : ℕ) (d : Dinode) (r : World) (g : above.World) (shows : Shows r
   here = (good_seen l.sizes (seen_of l) (length l.contents) shows.blocks.seen).sizes_are
 
   leaves : LeavesOthers (disk_of l) (disk_of now) r.owner r.owner n
-  leaves = leaves_others h n d r g shows mine joined low bound is can long
+  leaves = leaves_others h n d r g shows bound is can long
 
   -- of a block that the hart has taken no other inode of its own says so
   elsewhere : (c : ℕ) → c ≢ 0 → r.taken c ≡ Some h → (j : ℕ) → j ≢ n → times c (if is_hart (lock j) h then named_by (disk_of now) j else []) ≡ 0
@@ -152,7 +152,7 @@ module _ (h n : ℕ) (d : Dinode) (r : World) (g : above.World) (shows : Shows r
   Named c = (is_named lock h (disk_of now) (owners_of r) c ≡ true) ⊎ (is_named lock h (disk_of now) (owners_of r) c ≡ false)
 
   sizes_same : sizes_of (disk_of now) ≡ sizes_of (disk_of l)
-  sizes_same = (record_put h n d r g shows mine joined low bound is can long).block.sizes
+  sizes_same = (record_put h n d r g shows bound is can long).block.sizes
 
   pub named_leaves : PutLeaves h n r now then_
   named_leaves =
@@ -207,7 +207,7 @@ module _ (h n : ℕ) (d : Dinode) (r : World) (g : above.World) (shows : Shows r
               ∙ sym (ap (λ (t : Option ℕ). if_kept t k (seen_of l c)) (named_is c named).0 ∙ ap (λ (t : Bool). if t then Some (seen_of l c) else None) (eq_not h k (λ q. ne (sym q))))
           | inr unnamed ↦
               let same : then_.taken c ≡ r.taken c = rw unnamed refl in
-              ap (λ (t : Option ℕ). if_kept t k (seen_of now c)) same ∙ taken_stays h n d r g shows mine joined low bound is can long k c
+              ap (λ (t : Option ℕ). if_kept t k (seen_of now c)) same ∙ taken_stays h n d r g shows bound is can long k c
         ];
       }
 

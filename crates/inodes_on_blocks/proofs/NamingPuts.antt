@@ -69,7 +69,7 @@ module _ (h n : ℕ) (c : Carry) (o : Option Node) (d : Dinode) (x : Node) (r : 
   naming_leaves = (naming_puts_leave h n d r g shows is fits other_nodes can).0
 
   put_is : IsInodePut (disk_of (log_of r)) (disk_of (log_of then_)) n d
-  put_is = record_put h n d r g shows is.lock is.joined range.0 range.1 fits can (shows.blocks.seen.whole b can.home.within can.home.outside)
+  put_is = record_put h n d r g shows range.1 fits can (shows.blocks.seen.whole b can.home.within can.home.outside)
 
   -- with what it had taken as its own
   holds_with : HoldsAt (disk_of (log_of then_)) (owner_with h n r) n (Some x)

@@ -1,6 +1,7 @@
 -- New inodes, which a hart has claimed and not put yet: how long they are so, and which inodes are none.
-use Rattle.std.proofs.Common.{◌≡◌, ◌≢◌, inl, inr, ℕ, ◌<◌, Bool, true, false, List, Option, Some, None, refl, sym, ◌∙◌, ap, subst, if◌then◌else◌}
+use Rattle.std.proofs.Common.{◌≡◌, inl, inr, ℕ, ◌<◌, Bool, true, false, List, Option, Some, None, refl, sym, ◌∙◌, ap, subst, if◌then◌else◌}
 use Rattle.std.proofs.lemmas.Option.{none-some}
+use Rattle.fs_layout.specs.declared.inode.Dinode.{Dinode}
 use Rattle.fs_layout.specs.declared.superblock.Super.{Super}
 use Rattle.image_tree.specs.Inodes.{is_free}
 use Rattle.plain_tree.specs.declared.node.Node.{Node}
@@ -21,19 +22,20 @@ untyped_less l was n k e = at (is_free (inode_in l n)) e
     at false q = absurd (none-some k q)
 
 -- a new one is so still where its record is as it was
-pub new_alike : (n k : ℕ) (l m : LogPart) (lock keeper : ℕ → Option ℕ) → m.sizes ≡ l.sizes → m.members ≡ l.members → inode_in m n ≡ inode_in l n → IsNew n k l lock keeper → IsNew n k m lock keeper
-new_alike n k l m lock keeper sizes members same is = record {
+pub new_alike : (n k : ℕ) (l m : LogPart) (lock keeper : ℕ → Option ℕ) (load : ℕ → Option Dinode) → m.sizes ≡ l.sizes → m.members ≡ l.members → inode_in m n ≡ inode_in l n → IsNew n k l lock keeper load → IsNew n k m lock keeper load
+new_alike n k l m lock keeper load sizes members same is = record {
   low = is.low;
   bound = subst (λ (s : Super). n < s.ninodes) (sym sizes) is.bound;
   free = ap is_free same ∙ is.free;
   unlocked = is.unlocked;
   kept = is.kept;
   joined = subst (λ (ms : List (Option ℕ)). is_joined ms k ≡ true) (sym members) is.joined;
+  unloaded = is.unloaded;
 }
 
 -- and where nobody has taken its lock, and its hart keeps it
-pub new_kept : (n k : ℕ) (l : LogPart) (lock keeper lock' keeper' : ℕ → Option ℕ) → lock' n ≡ None → keeper' n ≡ Some k → IsNew n k l lock keeper → IsNew n k l lock' keeper'
-new_kept n k l lock keeper lock' keeper' free keeps is = record { low = is.low; bound = is.bound; free = is.free; unlocked = free; kept = keeps; joined = is.joined }
+pub new_kept : (n k : ℕ) (l : LogPart) (lock keeper lock' keeper' : ℕ → Option ℕ) (load load' : ℕ → Option Dinode) → lock' n ≡ None → keeper' n ≡ Some k → load' n ≡ None → IsNew n k l lock keeper load → IsNew n k l lock' keeper' load'
+new_kept n k l lock keeper lock' keeper' load load' free keeps none is = record { low = is.low; bound = is.bound; free = is.free; unlocked = free; kept = keeps; joined = is.joined; unloaded = none }
 
 module _ (r : World) (g : above.World) (shows : Shows r g) (n : ℕ) where
   -- one that isn't claimed by any hart is none

@@ -65,7 +65,7 @@ record_puts_leave h n d r g shows is fits none can =
     let bound = range.1 in
     subst (λ (o : Owners). PutLeaves h n r (log_with h b (with_record n d r) r) o)
     (sym (quiet_owners (λ i. lock_holder i (tables_of r)) h (disk_of (log_with h b (with_record n d r) r)) (owners_of r) none (log_of r).sizes.bmapstart b (disk_of (log_of r)) (λ e. absurd (omega (arith, inodes, bound, e)))))
-    (quiet_leaves h n d r g shows is.lock is.joined range.0 range.1 fits can (shows.blocks.seen.whole b can.home.within can.home.outside))
+    (quiet_leaves h n d r g shows range.1 fits can (shows.blocks.seen.whole b can.home.within can.home.outside))
 
 -- before the bitmap it is a put of inodes
 pub before : (lock : ℕ → Option ℕ) (h bitmap b : ℕ) (old new : List (List ℕ)) (o : Owners) → b < bitmap → owners_put lock h bitmap b old new o ≡ inode_put lock h new o

@@ -86,6 +86,10 @@ referred_range n r g shows some =
 pub lock_range : (n k : ℕ) (r : World) (g : above.World) → Shows r g → g.lock n ≡ Some k → (1 ≤ n) × (n < (log_of r).sizes.ninodes)
 lock_range n k r g shows e = referred_range n r g shows (lock_referred n k (tables_of r) (sym (shows.tables.places.holders n) ∙ e))
 
+-- and one of which something is loaded
+pub load_range : (n : ℕ) (d : Dinode) (r : World) (g : above.World) → Shows r g → loaded (tables_of r) n ≡ Some d → (1 ≤ n) × (n < (log_of r).sizes.ninodes)
+load_range n d r g shows e = referred_range n r g shows (load_referred n d (tables_of r) e)
+
 -- ---- a put
 
 module _ (h b i : ℕ) (bytes : List ℕ) (r : World) (g : above.World) (shows : Shows r g) (mine : g.lock i ≡ Some h) (joined : (g.desks h).joined ≡ true) (can : CanPut h b bytes (log_of r)) (o : Owners) where
@@ -189,7 +193,7 @@ module _ (h b i : ℕ) (bytes : List ℕ) (r : World) (g : above.World) (shows :
     news = λ n k e.
         let was = untyped_less now r.new n k e in
         let is = shows.news n k was in
-        record { low = is.low; bound = is.bound; free = still_free leaves n k was; unlocked = is.unlocked; kept = is.kept; joined = members_joined l.group b l.members h k ∙ is.joined };
+        record { low = is.low; bound = is.bound; free = still_free leaves n k was; unlocked = is.unlocked; kept = is.kept; joined = members_joined l.group b l.members h k ∙ is.joined; unloaded = is.unloaded };
     loads = record {
       seen = λ n d e. elim (same_or n i) [
         | inl q ↦ absurd (none-some d (sym (not_loaded n h (tables_of r) g shows.tables (ap (λ (m : ℕ). lock_holder m (tables_of r)) q ∙ sym (shows.tables.places.holders i) ∙ mine)) ∙ e))

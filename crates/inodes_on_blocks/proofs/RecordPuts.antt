@@ -59,7 +59,7 @@ module _ (lock : ℕ → Option ℕ) (h : ℕ) (new : List (List ℕ)) (o : Owne
 
 -- ---- the put
 
-module _ (h n : ℕ) (d : Dinode) (r : World) (g : above.World) (shows : Shows r g) (mine : g.lock n ≡ Some h) (joined : (g.desks h).joined ≡ true) (low : 1 ≤ n) (bound : n < (log_of r).sizes.ninodes) (is : IsDinode d) where
+module _ (h n : ℕ) (d : Dinode) (r : World) (g : above.World) (shows : Shows r g) (bound : n < (log_of r).sizes.ninodes) (is : IsDinode d) where
   abbrev l : LogPart
   l = log_of r
 

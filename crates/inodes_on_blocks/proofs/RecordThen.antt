@@ -121,13 +121,13 @@ module _ (h n : ℕ) (d : Dinode) (c : Carry) (r : World) (g : above.World) (sho
   stored = with_dinode n d (seen_of (log_of r) (place_in n r))
 
   leaves : PutLeaves h n r (put_block h (place_in n r) (Some stored) (log_of r)) (owners_of r)
-  leaves = quiet_leaves h n d r g shows mine joined range.0 range.1 is can long
+  leaves = quiet_leaves h n d r g shows range.1 is can long
 
   abbrev pub then_ : World
   then_ = after h (place_in n r) n stored r g shows mine joined can (owners_of r)
 
   pub is_put : IsInodePut (disk_of (log_of r)) (disk_of (log_of then_)) n d
-  is_put = record_put h n d r g shows mine joined range.0 range.1 is can long
+  is_put = record_put h n d r g shows range.1 is can long
 
   pub shows_then : Shows then_ g
   shows_then = shows_put h (place_in n r) n stored r g shows mine joined can (owners_of r) leaves

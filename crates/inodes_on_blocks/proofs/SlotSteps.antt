@@ -106,7 +106,7 @@ module _ (l : Labels) (laws : Laws (labelled l)) (keeps : Keeps l) (h : ℕ) (lt
     ran = ran;
     free = s.lender ∙ free;
     shows = shows_then h lt v.real v.seen shows t u (loaded (tables_of v.real)) after s.disk s.size s.joined (λ i. inl (λ z. s.lock z i))
-        (λ n k e. let is = shows.news n k e in ((λ z. s.lock z n) ∙ is.unlocked, (λ z. s.keeper z n) ∙ is.kept))
+        (λ n k e. let is = shows.news n k e in ((λ z. s.lock z n) ∙ is.unlocked, (λ z. s.keeper z n) ∙ is.kept, is.unloaded))
         (record {
           seen = shows.loads.seen;
           dead = λ n some unlocked loose dead. shows.loads.dead n (s.refs n some) ((λ z. sym s.lock z n) ∙ unlocked) ((λ z. sym s.keeper z n) ∙ loose) ((λ z. above_exec.is_dead (sym s.disk z n)) ∙ dead);

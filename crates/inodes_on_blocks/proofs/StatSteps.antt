@@ -147,7 +147,7 @@ module _ (l : Labels) (laws : Laws (labelled l)) (keeps : Keeps l) (h : ℕ) (lt
         ])
         (λ i k e. elim (same_or i n) [
           | inl q ↦ absurd (none-some k (sym old ∙ ap v.real.new (sym q) ∙ e))
-          | inr ne ↦ (put_other v.seen.lock n (Some h) i ne ∙ (shows.news i k e).unlocked, put_other v.seen.keeper n (Some h) i ne ∙ (shows.news i k e).kept)
+          | inr ne ↦ (put_other v.seen.lock n (Some h) i ne ∙ (shows.news i k e).unlocked, put_other v.seen.keeper n (Some h) i ne ∙ (shows.news i k e).kept, put_other load n None i ne ∙ (shows.news i k e).unloaded)
         ])
         (record {
           seen = λ i d e. elim (same_or i n) [

@@ -42,12 +42,12 @@ use Rattle.inodes_on_blocks.specs.Owners.{Owners}
 use Rattle.inodes_on_blocks.specs.Below.{World, log_of, tables_of, disk_of, inode_in, owners_of, exec}
 use Rattle.inodes_on_blocks.specs.Recording.{CanPut}
 use Rattle.inodes_on_blocks.specs.Shown.{Shows}
-use Rattle.inodes_on_blocks.specs.Lowering.{commit_in, NothingMore, Had, Apart, Has, Emptied, Carry, record_had, IsLoaded, InHand, Base, Stands, below, Labels, labelled, Keeps, IsOpened, IsThrough}
+use Rattle.inodes_on_blocks.specs.Lowering.{NothingMore, Had, Apart, Has, Emptied, Carry, record_had, IsLoaded, InHand, Base, Stands, below, Labels, labelled, Keeps, IsOpened, IsThrough}
 use Rattle.inodes_on_blocks.specs.Holding.{in_hand, HasBuffer, Fetched}
 use Rattle.inodes_on_blocks.specs.Room.{GivesRoom}
 use Rattle.inodes_on_blocks.specs.Storing.{record_in, put_record, store}
 use Rattle.inodes_on_blocks.proofs.Marked.{marked_same, shows_marked}
-use Rattle.inodes_on_blocks.proofs.Layer.{below_laws, held_back, base_marked, AllInHand, in_hand_then, lent_then, through_then, through_put}
+use Rattle.inodes_on_blocks.proofs.Layer.{below_laws, base_marked, AllInHand, in_hand_then, lent_then, through_then, through_put}
 use Rattle.inodes_on_blocks.proofs.Hands.{back_hand}
 use Rattle.inodes_on_blocks.proofs.Fetching.{buffer_then, buffer_seen, s-fetch}
 use Rattle.inodes_on_blocks.proofs.Records.{count_fits}

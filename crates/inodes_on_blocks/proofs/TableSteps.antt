@@ -98,7 +98,7 @@ module _ (l : Labels) (laws : Laws (labelled l)) (keeps : Keeps l) (h : ℕ) (lt
         ])
         (λ i k e. elim (same_or i n) [
           | inl q ↦ absurd (none-some k (sym old ∙ ap v.new (sym q) ∙ e))
-          | inr ne ↦ (unfreed i ne ∙ (shows.news i k e).unlocked, s.keeper i ne ∙ (shows.news i k e).kept)
+          | inr ne ↦ (unfreed i ne ∙ (shows.news i k e).unlocked, s.keeper i ne ∙ (shows.news i k e).kept, put_other load n (record_had (c n)) i ne ∙ (shows.news i k e).unloaded)
         ])
         (record {
           seen = λ i d e. elim (same_or i n) [

@@ -17,7 +17,7 @@ use Rattle.inode_machine.specs.World.{Desk}
 use Rattle.inodes_on_tables.specs.Shown as tables
 use Rattle.inodes_on_tables.specs.Shown.{loaded}
 use Rattle.inodes_on_blocks.specs.OnBlocks.{is_joined}
-use Rattle.inodes_on_blocks.specs.Below.{World, log_of, disk_of, inode_in}
+use Rattle.inodes_on_blocks.specs.Below.{World, log_of, disk_of, inode_in, tables_of}
 use Rattle.inodes_on_blocks.specs.Shown.{Shows, LoadsShow, OffsetsShow, if_joined, on_blocks, unless_new}
 use Rattle.inodes_on_blocks.specs.Lowering.{Had, Carry, IsLoaded, InHand, Base, IsOpened}
 use Rattle.inodes_on_blocks.proofs.News.{old_node, new_kept}
@@ -46,8 +46,8 @@ module _ (h : ℕ) (lt : h < hart_count) (v : World) (g : above.World) (shows : 
   LockStep u i = (u.lock i ≡ g.lock i) ⊎ (((g.lock i ≡ None) × (u.lock i ≡ Some h)) ⊎ ((u.lock i ≡ None) × HoldsAt (disk_of (log_of v)) v.owner i (on_blocks v.new g.disk i)))
 
   pub shows_then : (t : TablesState) (u : above.World) (load : ℕ → Option Dinode) → tables.Shows t u load → u.disk ≡ g.disk → u.all.ninodes ≡ g.all.ninodes → ((j : ℕ) → (u.desks j).joined ≡ (g.desks j).joined) → ((i : ℕ) → LockStep u i)
-      -- a new inode is kept, and nobody has its lock
-      → ((n k : ℕ) → v.new n ≡ Some k → (u.lock n ≡ None) × (u.keeper n ≡ Some k)) → LoadsShow load (log_of v) u.refs u.lock u.keeper u.disk → OffsetsShow u.files → Shows (with_tables v t) u
+      -- a new inode is kept and not loaded, and nobody has its lock
+      → ((n k : ℕ) → v.new n ≡ Some k → (u.lock n ≡ None) × (u.keeper n ≡ Some k) × (load n ≡ None)) → LoadsShow load (log_of v) u.refs u.lock u.keeper u.disk → OffsetsShow u.files → Shows (with_tables v t) u
   shows_then t u load after disk size joined locks kept loads offsets =
       record {
         whole = shows.whole;
@@ -71,7 +71,7 @@ module _ (h : ℕ) (lt : h < hart_count) (v : World) (g : above.World) (shows : 
         bytes = shows.bytes;
         taken = shows.taken;
         commit = shows.commit;
-        news = λ n k e. let now = kept n k e in new_kept n k (log_of v) g.lock g.keeper u.lock u.keeper now.0 now.1 (shows.news n k e);
+        news = λ n k e. let now = kept n k e in new_kept n k (log_of v) g.lock g.keeper u.lock u.keeper (loaded (tables_of v)) (loaded t) now.0 now.1 (sym (after.places.loads n) ∙ now.2) (shows.news n k e);
         loads = record { seen = λ n d e. loads.seen n d (after.places.loads n ∙ e); dead = λ n some free loose dead. subst IsSome (after.places.loads n) (loads.dead n some free loose dead); typed = λ n e. sym (after.places.loads n) ∙ loads.typed n e };
         offsets = offsets;
       }

@@ -52,7 +52,7 @@ use Rattle.inodes_on_blocks.specs.Below.{World, log_of, tables_of, disk_of, inod
 use Rattle.inodes_on_blocks.specs.Giving.{KeepsRoom, world_with}
 use Rattle.inodes_on_blocks.specs.Handlers.{acts}
 use Rattle.inodes_on_blocks.specs.Holding.{in_hand, Fetched}
-use Rattle.inodes_on_blocks.specs.Lowering.{Apart, Base, Carry, Had, Has, InHand, IsLoaded, IsOpened, Keeps, Kept, Labels, NothingMore, Same, Stands, below, commit_in, labelled, record_had, IsThrough}
+use Rattle.inodes_on_blocks.specs.Lowering.{Apart, Base, Carry, Had, Has, InHand, IsLoaded, IsOpened, Keeps, Kept, Labels, NothingMore, Same, Stands, below, labelled, record_had, IsThrough}
 use Rattle.inodes_on_blocks.specs.Recording.{CanPut, IsChanging, log_with, owners_with}
 use Rattle.inodes_on_blocks.specs.Recording as recording
 use Rattle.inodes_on_blocks.specs.Shown.{Shows}
@@ -60,7 +60,7 @@ use Rattle.inodes_on_blocks.specs.Writing.{give_written, deny_write}
 use Rattle.inodes_on_blocks.proofs.Alone.{kept_then}
 use Rattle.inodes_on_blocks.proofs.Changing.{Changing, changing_then, left_but, left_same, others_put}
 use Rattle.inodes_on_blocks.proofs.Fetching.{buffer_seen, buffer_then, s-fetch}
-use Rattle.inodes_on_blocks.proofs.Layer.{base_marked, below_laws, hand_then, held_back, kept_disk, lent_then, through_then, through_put}
+use Rattle.inodes_on_blocks.proofs.Layer.{base_marked, below_laws, hand_then, kept_disk, lent_then, through_then, through_put}
 use Rattle.inodes_on_blocks.proofs.Loading.{empty_hand, inode_place}
 use Rattle.inodes_on_blocks.proofs.Marked.{marked_same, shows_marked}
 use Rattle.inodes_on_blocks.proofs.NamingPuts.{holds_then, inode_then, naming_leaves, none_taken}

@@ -1,5 +1,5 @@
 -- The program below of the operation that takes a new inode. On a disk of these sizes; c: what the hart has of the inodes whose locks it has.
-use Rattle.std.specs.Prelude.{ℕ, zero, suc, ◌+◌, ℤ, List, Option, Some, None}
+use Rattle.std.specs.Prelude.{ℕ, zero, suc, ◌+◌, ◌<◌, ◌^◌, ℤ, List, Option, Some, None}
 use Rattle.fs_layout.specs.declared.superblock.Super.{Super}
 use Rattle.fs_layout.specs.Inode.{dinode_at}
 use Rattle.atomic_programs.specs.Prog.{Ret, Do, bind, unmarked}
@@ -20,6 +20,11 @@ abbrev pub IsMade : Sort → Type 0
 IsMade OfDirectory = Unit {0}
 IsMade OfFile = Unit {0}
 IsMade (OfDevice major) = ⊥
+
+-- the disk has inodes, no more than have numbers of 16 bits
+pub record HasInodes (sizes : Super) : Type 0 where
+  pub some : 0 < sizes.ninodes
+  pub few : sizes.ninodes < 2 ^ 16
 
 -- the answer, with what the hart had
 abbrev pub answers : above.Claimed → Carry → P (Handed above.Claimed Carry)

@@ -44,14 +44,15 @@ unless_new (Some h) v = None
 abbrev pub on_blocks : (ℕ → Option ℕ) → (ℕ → Option Node) → ℕ → Option Node
 on_blocks new nodes n = unless_new (new n) (nodes n)
 
--- Until then its record is free; that hart keeps it, which is in a transaction, and nobody has its lock.
-pub record IsNew (n h : ℕ) (l : LogPart) (lock keeper : ℕ → Option ℕ) : Type 0 where
+-- Until then its record is free, and not loaded; that hart keeps it, which is in a transaction, and nobody has its lock.
+pub record IsNew (n h : ℕ) (l : LogPart) (lock keeper : ℕ → Option ℕ) (load : ℕ → Option Dinode) : Type 0 where
   pub low : 1 ≤ n
   pub bound : n < l.sizes.ninodes
   pub free : is_free (inode_in l n) ≡ true
   pub unlocked : lock n ≡ None
   pub kept : keeper n ≡ Some h
   pub joined : is_joined l.members h ≡ true
+  pub unloaded : load n ≡ None
 
 -- What is loaded of an inode is as it is seen. One without links, to which a reference stands and which no hart keeps, is loaded; of one without a type
 -- nothing is.
@@ -88,7 +89,7 @@ pub record Shows (r : World) (w : above.World) : Type 0 where
   pub tables : tables.Shows (tables_of r) w (loaded (tables_of r))
   pub members : MembersShow (log_of r).members w.desks
   pub blocks : AreOnBlocks (log_of r).contents (log_of r).seats (log_of r).sizes (log_of r).members (ghost_of r.owner r.left (on_blocks r.new w.disk) w.lock w.desks)
-  pub news : (n h : ℕ) → r.new n ≡ Some h → IsNew n h (log_of r) w.lock w.keeper
+  pub news : (n h : ℕ) → r.new n ≡ Some h → IsNew n h (log_of r) w.lock w.keeper (loaded (tables_of r))
   pub bytes : AreBytes (log_of r)
   pub taken : TakenShow (log_of r).sizes r.owner r.left r.taken
   pub commit : CommitShows r.commits (log_of r).phase

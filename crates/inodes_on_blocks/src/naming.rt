@@ -1,12 +1,21 @@
-//! Operations on whole inodes that enter names, as programs below: each acts at one moment, whatever the other harts do, where the
+//! Operations on whole inodes that take new ones and enter names, as programs below: each acts at one moment, whatever the other harts do, where the
 //! hart's transaction has room for what they record; and after it the transaction has recorded no more than that.
 
 ghost use Rattle.std.specs.Prelude.{ℕ};
 ghost use Rattle.fs_layout.specs.declared.superblock.Super.{Super};
 ghost use Rattle.plain_tree.specs.Tree.{Name};
-ghost use Rattle.inode_machine.specs.World.Op.{Enter, Fill};
+ghost use Rattle.inode_machine.specs.Inodes.{Sort};
+ghost use Rattle.inode_machine.specs.World.Op.{Claim, Enter, Fill};
 ghost use Rattle.inodes_on_blocks.specs.Entering.{enter, fill};
+ghost use Rattle.inodes_on_blocks.specs.Making.{claim, HasInodes, IsMade};
 ghost use Rattle.inodes_on_blocks.specs.Spending.{DoesItWithin};
+
+/// A new inode is taken where a block of the table is looked through: there the first free one without a reference is the hart's, and
+/// then its record is put with its type, of which nothing is seen above; or there is no place for it in memory; or, in the last
+/// block, there is none.
+pub fn claims_act_once()
+    ensures { (sizes : Super) (sort : Sort) → IsMade sort → HasInodes sizes → DoesItWithin sizes (Claim sort) (claim sizes sort) }
+{}
 
 /// A new directory's two names act where its record is put, after they were written into a block that was taken; or, where no block
 /// is free, as the record is put as it was.

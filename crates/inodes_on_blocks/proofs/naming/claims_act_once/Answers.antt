@@ -1,0 +1,5 @@
+use Rattle.inodes_on_blocks.proofs.ClaimSteps.{claims_within}
+use Rattle.inodes_on_blocks.proofs.naming.claims_act_once.Goals as goal
+
+pub returns : goal.returns
+returns c = λ sizes sort made inodes. claims_within sizes sort made inodes
