@@ -108,7 +108,7 @@ served_same (Chdir path) right bytes = λ i. covered_path path right bytes i && 
 served_same (Dup fd) right bytes = refl
 served_same (Fstat fd) right bytes = refl
 served_same (Close fd) right bytes = refl
-served_same (Inherit child) right bytes = none true
+served_same (Inherit child) right bytes = refl
 
 pub refusal_same : (call : Call) → (fault_of call ≡ None → IsOfBytes call) → reason_for (refusal_for call) ≡ served.refusal_for call
 refusal_same call bytes = by (fault_of call) refl
