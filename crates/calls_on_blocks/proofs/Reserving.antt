@@ -101,7 +101,8 @@ module _ (h c : ℕ) (w : above.World) (lt : h < hart_count) (apart : c ≢ h) (
   -- and so do the blocks
   pub blocks_reserved : (r : Blocks) → Shows r w → Shows r (serving_world w h c)
   blocks_reserved r shows =
-      shows_then h lt r w shows (tables_of r) (serving_world w h c) (loaded (tables_of r)) (tables_reserved (tables_of r) (loaded (tables_of r)) shows.tables) refl refl (λ j. part (λ d. d.joined) j refl refl) (λ i. inl refl) shows.loads shows.offsets
+      shows_then h lt r w shows (tables_of r) (serving_world w h c) (loaded (tables_of r)) (tables_reserved (tables_of r) (loaded (tables_of r)) shows.tables) refl refl (λ j. part (λ d. d.joined) j refl refl) (λ i. inl refl)
+      (λ n k new. let is = shows.news n k new in (is.unlocked, is.kept, is.unloaded)) shows.loads shows.offsets
 
 -- ---- who is whose child
 

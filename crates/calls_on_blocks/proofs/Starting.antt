@@ -171,7 +171,7 @@ module _ (sizes : Super) (h : ℕ) (busy : ℕ → Bool) (r : World) (g : above.
             record {
               free = old.0.free;
               taken = old.0.taken;
-              rests = old.0.rests;
+              through = old.0.through;
               inodes = λ i e. absurd ((old.0.inodes i e).loaded_is);
               lent = λ ne. elim (same_or other h) [
                 | inl q ↦ absurd (ne (ap (λ (z : ℕ). ((serving_world g h child).desks z).lender) q ∙ lender_other h child g lt apart (rests_above h free) his_unlent h (λ e. apart (sym e)) ∙ unlent))
