@@ -7,3 +7,4 @@ pub mod Worlds
 pub mod Resting
 pub mod Calming
 pub mod Histories
+pub mod Keeping

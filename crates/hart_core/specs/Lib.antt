@@ -5,3 +5,4 @@ pub mod Starts
 pub mod Worlds
 pub mod Events
 pub mod Runs
+pub mod Promised

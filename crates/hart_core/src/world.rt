@@ -11,6 +11,7 @@ ghost use Rattle.fs_layout.specs.Recovered.{sizes_of};
 ghost use Rattle.image_tree.specs.Damage.{IsWellFormed};
 ghost use Rattle.hart_core.specs.Harts.{outcome_of, said, shared_of};
 ghost use Rattle.hart_core.specs.Mounting.{HandsBack, Rests};
+ghost use Rattle.hart_core.specs.Promised.{IdleHartsHaveNothing, QuietBlocksAreAnImage};
 ghost use Rattle.hart_core.specs.Starts.{child_refusal, fault_of, others_refusal, refusal_of, start_outcome, IsOfBytes};
 ghost use Rattle.hart_core.specs.Worlds.{Makes, Answers};
 
@@ -170,5 +171,22 @@ impl<D: Device> World<D> {
     {
         let World { harts, sizes: _ } = self;
         harts.unmount()
+    }
+
+    /// A law, for a reader; nothing is done. A hart without a call has no buffer and no inode's lock; and it is in no transaction,
+    /// unless a failure of the device has stopped the world.
+    pub fn idle_harts_have_nothing(&self)
+        ensures { IdleHartsHaveNothing D.contents D.failures self.now.harts }
+    {
+        let _ = &self.harts;
+    }
+
+    /// A law, for a reader; nothing is done. Unless a failure of the device has stopped the world: wherever no hart is in a
+    /// transaction, the blocks as the log and its buffers show them are a well-formed image, and so is the disk that recovery would
+    /// leave, also in the middle of a commit, with the same tree.
+    pub fn quiet_blocks_are_an_image(&self)
+        ensures { QuietBlocksAreAnImage D.contents D.failures self.now.harts }
+    {
+        let _ = &self.harts;
     }
 }

@@ -9,6 +9,8 @@ mod inherits;
 #[cfg(test)]
 mod opens;
 #[cfg(test)]
+mod runs;
+#[cfg(test)]
 mod unlinks;
 #[cfg(test)]
 mod writes;

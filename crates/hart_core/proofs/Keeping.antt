@@ -1,0 +1,59 @@
+-- What always holds of a world, by the invariant of its calls.
+use Rattle.std.proofs.Common.{◌≡◌, ◌<◌, ℕ, Bool, false, Option, Some, None, List, refl, sym, ◌∙◌, ap, subst, get_or}
+use Rattle.fs_layout.specs.declared.superblock.Super.{Super}
+use Rattle.buffer_cache.specs.Limits.{hart_count}
+use Rattle.atomic_programs.specs.Calls.{Theory, Run, State}
+use Rattle.atomic_programs.specs.Explained.{Explained, Holds}
+use Rattle.atomic_programs.specs.Machines.{program_at}
+use Rattle.atomic_programs.specs.Plain.{Code, Plain, prog_of}
+use Rattle.atomic_programs.proofs.Reached.{sound_explained}
+use Rattle.fs_machine.specs.LogPart.{LogPart}
+use Rattle.fs_machine.specs.Steps as steps
+use Rattle.syscalls.specs.Machines.{running_of}
+use Rattle.inodes_on_blocks.specs.OnBlocks.{is_joined}
+use Rattle.inodes_on_blocks.proofs.QuietWorlds.{quiet_worlds_are_images}
+use Rattle.calls_on_blocks.specs.Theory.{block_calls, block_code}
+use Rattle.calls_on_blocks.proofs.Lawful.{lawful}
+use Rattle.hart_core.specs.Harts.{HartsOf, shared_of}
+use Rattle.hart_core.specs.Promised.{HasNothing, NoneJoined, ShowsImage, IdleHartsHaveNothing, QuietBlocksAreAnImage}
+use Rattle.hart_core.specs.Worlds.{IsWorld}
+
+none_of : (L : Theory) (C : Code L) (r : Option (Run L)) → prog_of L C r ≡ None → r ≡ None
+none_of L C None e = refl
+none_of L C (Some r) e = absurd cc
+
+module _ {D : Type 0} (contents : D → List (List ℕ)) (failures : D → ℕ) (sizes : Super) (w : HartsOf D) (is : IsWorld contents failures sizes w) where
+  abbrev L : Theory
+  L = block_calls sizes
+
+  abbrev C : Code L
+  C = block_code sizes
+
+  abbrev state : State L
+  state = is.sound.state
+
+  told : Explained L (L.M.tree is.sound.sound.first) state
+  told = sound_explained L (lawful sizes) state is.sound.sound
+
+  same : ◌≡◌ {A = steps.State} state.world.real.blocks.state (shared_of contents failures w)
+  same = ap (λ (p : Plain L C). p.shared.state) is.sound.is
+
+  no_call : (h : ℕ) → get_or w.calls h None ≡ None → state.running h ≡ None
+  no_call h e = none_of L C (state.running h) (ap (λ (p : Plain L C). p.running h) is.sound.is ∙ ap (program_at running_of) e)
+
+  holds : w.stopped ≡ false → L.M.Inv state.world
+  holds on = subst (λ (b : Bool). Holds L b state.world) (ap (λ (p : Plain L C). p.stopped) is.sound.is ∙ on) told.holds
+
+  pub idle_harts_have_nothing : IdleHartsHaveNothing contents failures w
+  idle_harts_have_nothing h e =
+      let idle = told.idle h (no_call h e) in (
+        subst (HasNothing h) same (record { buffers = idle.0.0.free; locks = λ n held. (idle.0.0.inodes n held).loaded_is }),
+        λ on below. subst (λ (s : steps.State). is_joined s.log.members h ≡ false) same (sym ((holds on).0.0.members h below) ∙ idle.1.joined),
+      )
+
+  pub quiet_blocks_are_an_image : QuietBlocksAreAnImage contents failures w
+  quiet_blocks_are_an_image on quiet =
+      let inv = holds on in
+      let calm : NoneJoined state.world.real.blocks.state.log = subst (λ (s : steps.State). NoneJoined s.log) (sym same) quiet in
+      let image = quiet_worlds_are_images state.world.real.blocks state.world.seen inv.0.0 inv.1 (λ h below. inv.0.0.members h below ∙ calm h below) in
+      subst (λ (s : steps.State). ShowsImage s.log) same (record { well = image.0.well_formed; recovered = image.1 })

@@ -1,0 +1,38 @@
+-- What always holds of a world, in plain words.
+use Rattle.std.specs.Prelude.{◌≡◌, ◌≢◌, ℕ, ◌<◌, List, length, false, Some, None, get_or}
+use Rattle.fs_tables.specs.Tables.{holder_of}
+use Rattle.buffer_cache.specs.Limits.{hart_count}
+use Rattle.buffer_cache.specs.Lists.{count_of}
+use Rattle.buffer_cache.specs.Seats.{is_held_by}
+use Rattle.fs_machine.specs.LogPart.{LogPart}
+use Rattle.fs_machine.specs.Shown.{seen_of}
+use Rattle.fs_machine.specs.Steps.{State}
+use Rattle.image_laws.specs.Seen.{IsRecoveredSo}
+use Rattle.image_tree.specs.Damage.{IsWellFormed}
+use Rattle.image_tree.specs.Trees.{tree_in}
+use Rattle.inodes_on_blocks.specs.Below.{disk_of}
+use Rattle.inodes_on_blocks.specs.OnBlocks.{is_joined}
+use Rattle.hart_core.specs.Harts.{HartsOf, shared_of}
+
+-- no buffer and no inode's lock is in the hart's hand
+pub record HasNothing (h : ℕ) (s : State) : Type 0 where
+  pub buffers : count_of (is_held_by h) s.log.seats ≡ 0
+  pub locks : (n : ℕ) → holder_of n s.tables ≢ Some h
+
+-- no hart is in a transaction
+abbrev pub NoneJoined : LogPart → Type 0
+NoneJoined l = (h : ℕ) → h < hart_count → is_joined l.members h ≡ false
+
+-- The blocks as they are seen are a well-formed image; and so, of the same tree, is each disk of this length on which recovery would leave them.
+pub record ShowsImage (l : LogPart) : Type 0 where
+  pub well : IsWellFormed (disk_of l)
+  pub recovered : (disk : List (List ℕ)) → length disk ≡ length l.contents → IsRecoveredSo l.sizes (seen_of l) disk → IsWellFormed disk × (tree_in disk ≡ tree_in (disk_of l))
+
+module _ {D : Type 0} (contents : D → List (List ℕ)) (failures : D → ℕ) where
+  -- a hart without a call has nothing in hand; and is in no transaction, unless a failure of the device has stopped the harts
+  abbrev pub IdleHartsHaveNothing : HartsOf D → Type 0
+  IdleHartsHaveNothing w =
+      (h : ℕ) → get_or w.calls h None ≡ None → HasNothing h (shared_of contents failures w) × (w.stopped ≡ false → h < hart_count → is_joined (shared_of contents failures w).log.members h ≡ false)
+
+  abbrev pub QuietBlocksAreAnImage : HartsOf D → Type 0
+  QuietBlocksAreAnImage w = w.stopped ≡ false → NoneJoined (shared_of contents failures w).log → ShowsImage (shared_of contents failures w).log
