@@ -28,9 +28,10 @@ use Rattle.inode_machine.proofs.MoveCalls.{Turns, clean_before}
 use Rattle.inodes_on_blocks.specs.Mounted.{IsMountable}
 use Rattle.calls_on_blocks.specs.History.{block_moves, first, RunsOn}
 use Rattle.calls_on_blocks.proofs.History.{moving, runs_from}
-use Rattle.stops_on_blocks.specs.Marks.{marks_after, marks_next}
-use Rattle.stops_on_blocks.specs.Stops.{LeavesABeginning, StopsLeaveABeginning, OneHartLeavesABeginning, itself, log_in}
-use Rattle.stops_on_blocks.proofs.Events.{log_at, next_now}
+use Rattle.stops_on_blocks.specs.Marks.{marks_after, marks_next, log_at}
+use Rattle.stops_on_blocks.specs.Stops.{LeavesABeginning, StopsLeaveABeginning, OneHartLeavesABeginning}
+use Rattle.stops_on_blocks.proofs.Moves.{itself, log_in}
+use Rattle.stops_on_blocks.proofs.Events.{next_now}
 use Rattle.stops_on_blocks.proofs.Following.{Followed, followed_on, event_of}
 use Rattle.stops_on_blocks.proofs.Histories.{Book, More, book_more, explains, first_book, leads, rises}
 use Rattle.stops_on_blocks.proofs.Stops.{T, sizes, stored_respects, itself_stored, quiet_stored, first_state, first_sound, first_followed, first_image, next_same}
@@ -131,6 +132,7 @@ module _ (disk : List (List ℕ)) (failures : ℕ) (mountable : IsMountable disk
           k = stored.0;
           marked = stored.1;
           past = omega (arith, past, now);
+          after = f.after;
           rest = b.0;
           begins = b.1;
           tree = image.0;

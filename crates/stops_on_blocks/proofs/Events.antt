@@ -28,21 +28,22 @@ use Rattle.calls_on_blocks.proofs.Lawful.{lawful}
 use Rattle.calls_on_blocks.proofs.Starting.{begun_here}
 use Rattle.atomic_programs.specs.Lowered.{began_both, began_to}
 use Rattle.atomic_programs.proofs.Lowered.{begun_both}
-use Rattle.stops_on_blocks.specs.Marks.{marks_by, marks_asked, marks_unless, marks_next, at_point}
-use Rattle.stops_on_blocks.specs.Stops.{itself, log_in}
-use Rattle.stops_on_blocks.proofs.Moves.{Goes, Moved, came_to, is_ran, op_goes, same_move}
+use Rattle.stops_on_blocks.specs.Marks.{marks_by, marks_asked, marks_unless, marks_next, marks_told, at_point, log_at as log_of}
+use Rattle.stops_on_blocks.proofs.Moves.{itself, log_in, told_same, Goes, Moved, came_to, is_ran, op_goes, same_move}
 
 module _ (sizes : Super) where
   abbrev T : Theory
   T = block_calls sizes
 
   abbrev pub log_at : State T → LogPart
-  log_at s = s.world.real.blocks.state.log
+  log_at = log_of sizes
 
   -- What an event makes of it: it is whole still, and as long; no leave and no write of a commit; or a leave that ran; or a write of a commit.
   pub record EventGoes (s t : State T) (m m' : Marks) : Type 0 where
     pub whole : IsWholeLog (log_at t)
     pub long : length (log_at t).contents ≡ length (log_at s).contents
+    -- the marks are what the log's phases tell
+    pub told : marks_told (s.now + 1) (log_at s).phase (at_point (log_at s)) (log_at t).phase m ≡ m'
     pub goes :
         (Moved false false (log_at s) (log_at t) × (m' ≡ m))
         ⊎ (((r : Left) × Moved (begins_at r) false (log_at s) (log_at t) × (is_running (log_at s).phase ≡ true) × (m' ≡ after_leave s.now r m) × (t.stopped ≡ false))
@@ -52,6 +53,7 @@ module _ (sizes : Super) where
   nothing_goes s t m whole same = record {
     whole = subst (λ (l : LogPart). IsWholeLog l) (sym same) whole;
     long = ap (λ (l : LogPart). length l.contents) same;
+    told = ap (λ (l : LogPart). marks_told (s.now + 1) (log_at s).phase (at_point (log_at s)) l.phase m) same ∙ told_same (s.now + 1) (length (log_at s).group) (log_at s).phase m;
     goes = inl (subst (λ (l : LogPart). Moved false false (log_at s) l) (sym same) (same_move (log_at s)), refl);
   }
 
@@ -65,7 +67,8 @@ module _ (sizes : Super) where
   goes_to h s t m m' whole A d same after going g = record {
     whole = subst (λ (l : LogPart). IsWholeLog l) (sym same) after;
     long = ap (λ (l : LogPart). length l.contents) same ∙ g.0;
-    goes = elim g.1 [
+    told = ap (λ (l : LogPart). marks_told (s.now + 1) (log_at s).phase (at_point (log_at s)) l.phase m) same ∙ g.1;
+    goes = elim g.2 [
       | inl p ↦ inl (subst (λ (l : LogPart). Moved false false (log_at s) l) (sym same) p.0, p.1)
       | inr rest ↦ elim rest [
         | inl p ↦ inr (inl (p.0, subst (λ (l : LogPart). Moved (begins_at p.0) false (log_at s) l) (sym same) p.1, p.2, p.3, going p.4))

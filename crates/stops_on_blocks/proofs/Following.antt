@@ -19,9 +19,9 @@ use Rattle.atomic_programs.proofs.Reached.{sound_run}
 use Rattle.fs_machine.specs.LogPart.{Outside}
 use Rattle.fs_machine.specs.Whole.{IsWholeLog}
 use Rattle.calls_on_blocks.specs.Theory.{block_calls}
-use Rattle.stops_on_blocks.specs.Marks.{marks_next, marks_after, at_point}
-use Rattle.stops_on_blocks.specs.Stops.{itself, log_in}
-use Rattle.stops_on_blocks.proofs.Events.{log_at, EventGoes, event_goes}
+use Rattle.stops_on_blocks.specs.Marks.{marks_next, marks_after, at_point, log_at}
+use Rattle.stops_on_blocks.proofs.Moves.{itself, log_in}
+use Rattle.stops_on_blocks.proofs.Events.{EventGoes, event_goes}
 
 -- the number of an entry's event
 abbrev pub event_of : Placed → ℕ
@@ -34,6 +34,7 @@ pub record Followed (sizes : Super) (n : ℕ) (Image : List Placed → Blocks �
   pub long : length (log_at sizes s).contents ≡ n
   pub kept : IsKept itself event_of sizes Image s.now list (log_in (log_at sizes s)) m
   pub doubtful : (k : ℕ) → m.doubt ≡ Some k → k ≤ s.now
+  pub after : (k : ℕ) → m.doubt ≡ Some k → m.cut ≤ k
 
 -- the count of events rises by one
 module _ (sizes : Super) (n : ℕ) (Image : List Placed → Blocks → Type 0)
@@ -56,19 +57,19 @@ module _ (sizes : Super) (n : ℕ) (Image : List Placed → Blocks → Type 0)
     goes = event_goes sizes e s m f.sound f.whole honest
 
     abbrev KeptAt : ℕ → Marks → Type 0
-    KeptAt k m' = IsKept itself event_of sizes Image k (list ++ news) (log_in (log_at sizes t)) m' × ((j : ℕ) → m'.doubt ≡ Some j → j ≤ k)
+    KeptAt k m' = IsKept itself event_of sizes Image k (list ++ news) (log_in (log_at sizes t)) m' × ((j : ℕ) → m'.doubt ≡ Some j → (j ≤ k) × (m'.cut ≤ j))
 
-    doubt_written : (point : Bool) (r : Progress) → m.doubt ≡ None → (k : ℕ) → (after_write point r m).doubt ≡ Some k → k ≤ s.now + 1
+    doubt_written : (point : Bool) (r : Progress) → m.doubt ≡ None → (k : ℕ) → (after_write point r m).doubt ≡ Some k → (k ≤ s.now + 1) × ((after_write point r m).cut ≤ k)
     doubt_written point Waits none k is = absurd (cc (sym is ∙ none))
     doubt_written point Wrote none k is = absurd (cc (sym is ∙ none))
     doubt_written point Ended none k is = absurd (cc (sym is ∙ none))
-    doubt_written true Failed none k is = let a : m.begun ≡ k = cc is in let b = f.kept.past in omega (arith, a, b)
+    doubt_written true Failed none k is = let a : m.begun ≡ k = cc is in let b = f.kept.past in let c = f.kept.order in (omega (arith, a, b), omega (arith, a, c))
     doubt_written false Failed none k is = absurd (cc (sym is ∙ none))
 
     kept_on : (m' : Marks) → m' ≡ marks_next sizes e s m → KeptAt (s.now + 1) m'
     kept_on m' is = elim goes.goes [
       | inl p ↦ subst (λ (z : Marks). KeptAt (s.now + 1) z) (sym (is ∙ p.1))
-          (kept_plain itself event_of sizes Image respects s.now list news (log_in (log_at sizes s)) (log_in (log_at sizes t)) m f.kept now f.doubtful p.0, λ j d. let a = f.doubtful j d in omega (arith, a))
+          (kept_plain itself event_of sizes Image respects s.now list news (log_in (log_at sizes s)) (log_in (log_at sizes t)) m f.kept now f.doubtful p.0, λ j d. let a = f.doubtful j d in (omega (arith, a), f.after j d))
       | inr rest ↦ elim rest [
         | inl p ↦ (let none = f.kept.certain p.2 in
             subst (λ (z : Marks). KeptAt (s.now + 1) z) (sym (is ∙ p.3)) (
@@ -89,5 +90,6 @@ module _ (sizes : Super) (n : ℕ) (Image : List Placed → Blocks → Type 0)
           whole = goes.whole;
           long = goes.long ∙ f.long;
           kept = k.0;
-          doubtful = k.1;
+          doubtful = λ j d. (k.1 j d).0;
+          after = λ j d. (k.1 j d).1;
         }

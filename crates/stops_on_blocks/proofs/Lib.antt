@@ -4,4 +4,5 @@ pub mod Following
 pub mod Quiet
 pub mod Histories
 pub mod Stops
+pub mod Told
 pub mod Beginnings

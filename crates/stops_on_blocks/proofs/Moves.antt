@@ -1,5 +1,5 @@
 -- What each operation makes of the log, as far as a stop is concerned.
-use Rattle.std.proofs.Common.{◌≡◌, ◌≢◌, ◌⊎◌, inl, inr, ℕ, ◌==◌, Bool, true, false, List, [], ◌∷◌, Option, Some, None, length, length-set, refl, sym, subst, ap, ◌∙◌, if◌then◌else◌, slice_set}
+use Rattle.std.proofs.Common.{◌≡◌, ◌≢◌, ◌⊎◌, inl, inr, ℕ, ◌+◌, ◌==◌, Bool, true, false, List, [], ◌∷◌, Option, Some, None, length, length-set, refl, sym, subst, ap, ◌∙◌, if◌then◌else◌, slice_set}
 use Rattle.block_device.specs.Blocks.{block_at}
 use Rattle.fs_layout.specs.Recovered.{recovered, IsOutsideLog}
 use Rattle.buffer_cache.specs.Seats.{SeatState, seen_in, with_seat, with_content}
@@ -9,6 +9,7 @@ use Rattle.buffer_cache.specs.declared.got.Got.TheVariants as got
 use Rattle.group_log.specs.declared.commit.Progress.{Progress}
 use Rattle.group_log.specs.declared.commit.Progress.TheVariants.{Wrote, Ended, Failed}
 use Rattle.group_log.specs.declared.log.Left.{Left}
+use Rattle.group_log.specs.declared.log.Left.TheVariants.{Free, Commits}
 use Rattle.group_log.specs.declared.marks.Marks.{Marks}
 use Rattle.group_log.specs.declared.phase.Phase.{Phase}
 use Rattle.group_log.specs.declared.phase.Phase.TheVariants.{Open, Staging, Installing, Halted}
@@ -35,8 +36,48 @@ use Rattle.fs_machine.specs.Premises.{May, Honest, MayPut}
 use Rattle.fs_machine.specs.Shown.{seen_of, seen_after}
 use Rattle.fs_machine.specs.Whole.{IsWholeLog, After}
 use Rattle.fs_machine.proofs.Showing.{put_shows, shows_its_puts}
-use Rattle.stops_on_blocks.specs.Marks.{marks_by, at_point, progress_of}
-use Rattle.stops_on_blocks.specs.Stops.{itself, log_in}
+use Rattle.stops_on_blocks.specs.Marks.{marks_by, marks_told, at_point, progress_of}
+
+-- ---- the log's words, of its part
+
+abbrev pub itself : List (List ℕ) → List (List ℕ)
+itself disk = disk
+
+abbrev pub log_in : LogPart → LogState (List (List ℕ))
+log_in l = record { cache = record { device = l.contents; seats = l.seats }; sizes = l.sizes; group = l.group; members = l.members; phase = l.phase }
+
+-- ---- marks, by where the commit is
+
+-- it is where it was
+pub told_same : (n len : ℕ) (p : Phase) (m : Marks) → marks_told n p (is_point len p) p m ≡ m
+told_same n len Open m = refl
+told_same n len (Staging i) m = refl
+told_same n len (Installing i) m = refl
+told_same n len Halted m = refl
+
+told_left : (n j : ℕ) (group : List ℕ) (p : Phase) (point : Bool) (m : Marks) → p ≡ Open → marks_told (n + 1) p point (phase_at_leave j group) m ≡ after_leave n (left_at j group) m
+told_left n j [] p point m opens = refl
+told_left n j (b ∷ group) p point m opens = by (j == 0)
+  where
+    by : (none : Bool) → marks_told (n + 1) p point (if none then Staging 0 else Open) m ≡ after_leave n (if none then Commits else Free) m
+    by true = ap (λ (q : Phase). marks_told (n + 1) q point (Staging 0) m) opens
+    by false = refl
+
+told_wrote : (n len : ℕ) (p : Phase) (m : Marks) → (p ≢ Open) × (p ≢ Halted) → marks_told n p (is_point len p) (next_phase len p) m ≡ after_write (is_point len p) (progress_of (is_open (next_phase len p))) m
+told_wrote n len Open m begun = absurd (begun.0 refl)
+told_wrote n len (Staging i) m begun = by (i == len)
+  where
+    by : (last : Bool) → marks_told n (Staging i) last (if last then Installing 0 else Staging (i + 1)) m ≡ after_write last (progress_of (is_open (if last then Installing 0 else Staging (i + 1)))) m
+    by true = refl
+    by false = refl
+told_wrote n len (Installing i) m begun = by (i == len)
+  where
+    by : (last : Bool) → marks_told n (Installing i) false (if last then Open else Installing (i + 1)) m ≡ after_write false (progress_of (is_open (if last then Open else Installing (i + 1)))) m
+    by true = refl
+    by false = refl
+told_wrote n len Halted m begun = absurd (begun.1 refl)
+
+-- ---- operations
 
 -- the state after an operation, also where it waited
 abbrev pub came_to : {A : Type 0} → State → Did A State → State
@@ -73,35 +114,43 @@ module _ (n h : ℕ) (s : State) (m : Marks) (whole : IsWholeLog s.log) where
   abbrev l : LogPart
   l = s.log
 
+  -- the marks are what the log's phases tell
+  abbrev pub IsTold : {A : Type 0} → Did A State → Marks → Type 0
+  IsTold d m' = marks_told (n + 1) l.phase (at_point l) (came_to s d).log.phase m ≡ m'
+
   -- What an event does to the log and to the marks, at an operation that came to d: it is neither a leave nor a write of a commit; a leave, which
   -- ran; or a write of a commit. The disk has as many blocks.
   abbrev pub Goes : {A : Type 0} → Did A State → Marks → Type 0
   Goes d m' =
       (length (came_to s d).log.contents ≡ length l.contents)
+      × IsTold d m'
       × ((Moved false false l (came_to s d).log × (m' ≡ m))
       ⊎ (((r : Left) × Moved (begins_at r) false l (came_to s d).log × (is_running l.phase ≡ true) × (m' ≡ after_leave n r m) × (is_ran d ≡ true))
       ⊎ ((r : Progress) × IsCommitMove itself r (log_in l) (log_in (came_to s d).log) × (is_running l.phase ≡ true) × (m' ≡ after_write (at_point l) r m))))
 
+  still : marks_told (n + 1) l.phase (at_point l) l.phase m ≡ m
+  still = told_same (n + 1) (length l.group) l.phase m
+
   tables_go : {A : Type 0} (d : Did A TablesState) → Goes (in_tables s d) m
-  tables_go Waits = (refl, inl (same_move l, refl))
-  tables_go (Ran a t) = (refl, inl (same_move l, refl))
-  tables_go (Stops t) = (refl, inl (same_move l, refl))
+  tables_go Waits = (refl, still, inl (same_move l, refl))
+  tables_go (Ran a t) = (refl, still, inl (same_move l, refl))
+  tables_go (Stops t) = (refl, still, inl (same_move l, refl))
 
   joined_move : Moved false false l (record l { members = slice_set l.members h (Some 0) })
   joined_move = unseen l (record l { members = slice_set l.members h (Some 0) }) refl refl refl (λ b out. refl)
 
   join_goes : (b : Bool) → Goes (in_log s (join_if h l b)) m
-  join_goes true = (refl, inl (same_move l, refl))
-  join_goes false = (refl, inl (joined_move, refl))
+  join_goes true = (refl, still, inl (same_move l, refl))
+  join_goes false = (refl, still, inl (joined_move, refl))
 
   joins_go : (f : OpenFile) (b : Bool) → Goes (joins f (in_log s (join_if h l b))) m
-  joins_go f true = (refl, inl (same_move l, refl))
-  joins_go f false = (refl, inl (joined_move, refl))
+  joins_go f true = (refl, still, inl (same_move l, refl))
+  joins_go f false = (refl, still, inl (joined_move, refl))
 
   unless_goes : (f : Option OpenFile) (why : Option Refused) → Goes (join_unless h s f why) m
-  unless_goes None (Some why) = (refl, inl (same_move l, refl))
-  unless_goes (Some f) (Some why) = (refl, inl (same_move l, refl))
-  unless_goes None None = (refl, inl (same_move l, refl))
+  unless_goes None (Some why) = (refl, still, inl (same_move l, refl))
+  unless_goes (Some f) (Some why) = (refl, still, inl (same_move l, refl))
+  unless_goes None None = (refl, still, inl (same_move l, refl))
   unless_goes (Some f) None = joins_go f (join_waits l.phase (length l.group) (joined l.members) (limit_of l.sizes))
 
   abbrev left_log : LogPart
@@ -113,18 +162,18 @@ module _ (n h : ℕ) (s : State) (m : Marks) (whole : IsWholeLog s.log) where
   leave_goes : l.phase ≡ Open → Goes (Ran left_as (record s { log = left_log })) (after_leave n left_as m)
   leave_goes opens =
       let facts = leave_facts (joined (slice_set l.members h None)) l.group left_as left_log.phase refl refl in
-      (refl, inr (inl (left_as, leave_move itself (log_in l) (log_in left_log) refl (begins_at left_as) refl (λ b. refl) opens facts, ap is_running opens, refl, refl)))
+      (refl, told_left n (joined (slice_set l.members h None)) l.group l.phase (at_point l) m opens, inr (inl (left_as, leave_move itself (log_in l) (log_in left_log) refl (begins_at left_as) refl (λ b. refl) opens facts, ap is_running opens, refl, refl)))
 
   got_goes : (r : List SeatState × Got) → After (λ (t : State). (k : ℕ) → IsOutsideLog l.sizes k → seen_of t.log k ≡ seen_of l k) (in_log s (got_by l r)) → Goes (in_log s (got_by l r)) m
-  got_goes (zs, got.Held guard) see = (refl, inl (unseen l (record l { seats = zs }) refl refl refl see, refl))
-  got_goes (zs, got.Waits) see = (refl, inl (same_move l, refl))
+  got_goes (zs, got.Held guard) see = (refl, still, inl (unseen l (record l { seats = zs }) refl refl refl see, refl))
+  got_goes (zs, got.Waits) see = (refl, still, inl (same_move l, refl))
 
   abbrev read_log : ℕ → LogPart
   read_log b = record l { seats = with_seat b (with_content (block_at l.contents b)) l.seats }
 
   read_goes : (b : ℕ) (x : Outside) → LeavesIt l.contents x → After (λ (t : State). (k : ℕ) → IsOutsideLog l.sizes k → seen_of t.log k ≡ seen_of l k) (in_log s (read_block b x l)) → Goes (in_log s (read_block b x l)) m
-  read_goes b Passes honest see = (refl, inl (unseen l (read_log b) refl refl refl see, refl))
-  read_goes b (Fails after) honest see = (ap length honest, inl (unseen l (failed l after) refl honest refl see, refl))
+  read_goes b Passes honest see = (refl, still, inl (unseen l (read_log b) refl refl refl see, refl))
+  read_goes b (Fails after) honest see = (ap length honest, still, inl (unseen l (failed l after) refl honest refl see, refl))
 
   put_move : (b : ℕ) (change : Option (List ℕ)) → MayPut h b change l → Moved false false l (put_block h b change l)
   put_move b None may = unseen l (put_block h b None l) refl refl refl (λ k out. put_shows h s whole b None may k)
@@ -133,13 +182,13 @@ module _ (n h : ℕ) (s : State) (m : Marks) (whole : IsWholeLog s.log) where
       open_move itself (log_in l) (log_in (put_block h b (Some bytes) l)) refl refl opens opens
 
   claims_go : (d : Did (Option ℕ) TablesState) → Goes (claims (in_tables s d)) m
-  claims_go Waits = (refl, inl (same_move l, refl))
-  claims_go (Ran None t) = (refl, inl (same_move l, refl))
-  claims_go (Ran (Some n) t) = (refl, inl (same_move l, refl))
-  claims_go (Stops t) = (refl, inl (same_move l, refl))
+  claims_go Waits = (refl, still, inl (same_move l, refl))
+  claims_go (Ran None t) = (refl, still, inl (same_move l, refl))
+  claims_go (Ran (Some n) t) = (refl, still, inl (same_move l, refl))
+  claims_go (Stops t) = (refl, still, inl (same_move l, refl))
 
   claim_goes : (b : ℕ) → MayPut h b None l → (o : Option ℕ) → Goes (claim_first h b s o) m
-  claim_goes b may None = (refl, inl (put_move b None may, refl))
+  claim_goes b may None = (refl, still, inl (put_move b None may, refl))
   claim_goes b may (Some n) = claims_go (up_inode n s.tables)
 
   -- a write of a commit
@@ -180,10 +229,11 @@ module _ (n h : ℕ) (s : State) (m : Marks) (whole : IsWholeLog s.log) where
 
     commit_goes : (x : Outside) → LeavesOne l.contents (written l) x → (b : Bool)
         → After (λ (t : State). (k : ℕ) → IsOutsideLog l.sizes k → seen_of t.log k ≡ seen_of l k) (in_log s (commit_if x l b)) → Goes (in_log s (commit_if x l b)) (marks_by n l Commit (in_log s (commit_if x l b)) m)
-    commit_goes x honest true see = (refl, inl (same_move l, refl))
-    commit_goes Passes honest false see = (length-set l.contents (write_to l.sizes l.group l.phase) (write_of (seen_in l.contents l.seats) l.group l.phase), inr (inr (progress_of ended, wrote after_log ended refl refl refl see, running, refl)))
+    commit_goes x honest true see = (refl, still, inl (same_move l, refl))
+    commit_goes Passes honest false see = (length-set l.contents (write_to l.sizes l.group l.phase) (write_of (seen_in l.contents l.seats) l.group l.phase), told_wrote (n + 1) (length l.group) l.phase m begun, inr (inr (progress_of ended, wrote after_log ended refl refl refl see, running, refl)))
     commit_goes (Fails after) honest false see = (
       elim honest [ inl is ↦ ap length is | inr is ↦ ap length is ∙ length-set l.contents (write_to l.sizes l.group l.phase) (write_of (seen_in l.contents l.seats) l.group l.phase) ],
+      refl,
       inr (inr (
         Failed,
         commit_move itself (log_in l) (log_in (halted after)) Failed refl begun tt tt tt refl
@@ -197,6 +247,10 @@ put_long : (h b : ℕ) (change : Option (List ℕ)) (l : LogPart) → length (pu
 put_long h b None l = refl
 put_long h b (Some bytes) l = refl
 
+put_told : (n h b : ℕ) (change : Option (List ℕ)) (l : LogPart) (m : Marks) → marks_told n l.phase (at_point l) (put_block h b change l).phase m ≡ m
+put_told n h b None l m = told_same n (length l.group) l.phase m
+put_told n h b (Some bytes) l m = told_same n (length l.group) l.phase m
+
 op_by : (n h : ℕ) (s : State) (m : Marks) (whole : IsWholeLog s.log) (x : Outside) (op : Op) → May h op s → Honest h op s x
     → After (λ (t : State). (k : ℕ) → IsOutsideLog s.log.sizes k → seen_of t.log k ≡ seen_after op (seen_of s.log) k) (exec h x op s) → Goes n h s m whole (exec h x op s) (marks_by n s.log op (exec h x op s) m)
 unfolding exec May Honest
@@ -205,23 +259,23 @@ op_by n h s m whole x (JoinToWrite fd) may honest see = unless_goes n h s m whol
 op_by n h s m whole x Leave may honest see = leave_goes n h s m whole (open_of s.log.phase s.log.members h whole.log.quiet may.1 may.0)
 op_by n h s m whole x (Get b) may honest see = got_goes n h s m whole (get_of h b s.log.seats) see
 op_by n h s m whole x (Read b) may honest see = read_goes n h s m whole b x honest see
-op_by n h s m whole x (Put b change) may honest see = (put_long h b change s.log, inl (put_move n h s m whole b change may, refl))
+op_by n h s m whole x (Put b change) may honest see = (put_long h b change s.log, put_told (n + 1) h b change s.log m, inl (put_move n h s m whole b change may, refl))
 op_by n h s m whole x Commit may honest see = commit_goes n h s m whole (may.2, may.3) x honest (turn_is_out s.log.seats s.log.group s.log.phase) see
 op_by n h s m whole x (Lock k) may honest see = tables_go n h s m whole (lock_inode h k s.tables)
 op_by n h s m whole x (LockFile w fd) may honest see = tables_go n h s m whole (lock_file h w fd s.tables)
 op_by n h s m whole x (LockOpen fd) may honest see = tables_go n h s m whole (lock_open h s.tables (file_named h fd s.tables))
-op_by n h s m whole x (Unlock v moved) may honest see = (refl, inl (same_move s.log, refl))
+op_by n h s m whole x (Unlock v moved) may honest see = (refl, still n h s m whole, inl (same_move s.log, refl))
 op_by n h s m whole x (Settle v) may honest see = tables_go n h s m whole (settle_inode h v s.tables)
 op_by n h s m whole x (Up whom) may honest see = tables_go n h s m whole (up_whom h whom s.tables)
 op_by n h s m whole x (Claim b candidates) may honest see = claim_goes n h s m whole b may (first_free s.tables.entries candidates)
 op_by n h s m whole x (Down drop) may honest see = tables_go n h s m whole (drop_which h drop s.tables)
-op_by n h s m whole x (CheckFile w fd) may honest see = (refl, inl (same_move s.log, refl))
+op_by n h s m whole x (CheckFile w fd) may honest see = (refl, still n h s m whole, inl (same_move s.log, refl))
 op_by n h s m whole x TakePlace may honest see = tables_go n h s m whole (take_place h s.tables)
 op_by n h s m whole x (TakeDescriptor k file) may honest see = tables_go n h s m whole (open_file h k file s.tables)
 op_by n h s m whole x (Double fd) may honest see = tables_go n h s m whole (double_descriptor h fd s.tables)
 op_by n h s m whole x (Close fd) may honest see = tables_go n h s m whole (shut_descriptor h fd s.tables)
 op_by n h s m whole x (Give child from) may honest see = tables_go n h s m whole (give_next h child from s.tables)
-op_by n h s m whole x Reply may honest see = (refl, inl (same_move s.log, refl))
+op_by n h s m whole x Reply may honest see = (refl, still n h s m whole, inl (same_move s.log, refl))
 
 pub op_goes : (n h : ℕ) (s : State) (m : Marks) (whole : IsWholeLog s.log) (x : Outside) (op : Op) → May h op s → Honest h op s x → Goes n h s m whole (exec h x op s) (marks_by n s.log op (exec h x op s) m)
 op_goes n h s m whole x op may honest = op_by n h s m whole x op may honest (shows_its_puts h x op s whole may honest)

@@ -31,9 +31,10 @@ use Rattle.calls_on_blocks.specs.History.{first}
 use Rattle.calls_on_blocks.specs.Theory.{block_calls}
 use Rattle.calls_on_blocks.proofs.History.{first_holds, first_idle}
 use Rattle.calls_on_blocks.proofs.Lawful.{lawful}
-use Rattle.stops_on_blocks.specs.Marks.{marks_after, marks_next}
-use Rattle.stops_on_blocks.specs.Stops.{AreEventsOn, StopsLeaveImages, itself, log_in, disk_after, state_after}
-use Rattle.stops_on_blocks.proofs.Events.{log_at, event_goes, goes_sizes, next_now}
+use Rattle.stops_on_blocks.specs.Marks.{marks_after, marks_next, log_at}
+use Rattle.stops_on_blocks.specs.Stops.{AreEventsOn, StopsLeaveImages, disk_after, state_after}
+use Rattle.stops_on_blocks.proofs.Moves.{itself, log_in}
+use Rattle.stops_on_blocks.proofs.Events.{event_goes, goes_sizes, next_now}
 use Rattle.stops_on_blocks.proofs.Following.{Followed, followed_on, event_of}
 use Rattle.stops_on_blocks.proofs.Quiet.{quiet_stands}
 
@@ -109,6 +110,7 @@ module _ (disk : List (List ℕ)) (failures : ℕ) (mountable : IsMountable disk
       certain = λ is. refl;
     };
     doubtful = λ k is. absurd cc;
+    after = λ k is. absurd cc;
   }
 
   pub first_image : Stored (λ d. IsWellFormed d × IsNamedPart (T.M.tree first_state.world).tree (tree_of (tree_in d))) (seen_of itself (log_in (log first_state)))

@@ -1,17 +1,19 @@
 -- The marks that a run on the blocks keeps beside its log: counts of its events.
-use Rattle.std.specs.Prelude.{ℕ, Bool, true, false, List, [], ◌∷◌, length, Option, Some, None}
+use Rattle.std.specs.Prelude.{ℕ, ◌+◌, Bool, true, false, if◌then◌else◌, List, [], ◌∷◌, length, Option, Some, None}
 use Rattle.fs_layout.specs.declared.superblock.Super.{Super}
 use Rattle.plain_tree.specs.declared.answer.Reply.{Reply}
 use Rattle.plain_tree.specs.declared.call.Call.{Call}
 use Rattle.group_log.specs.declared.commit.Progress.{Progress}
 use Rattle.group_log.specs.declared.commit.Progress.TheVariants.{Wrote, Ended, Failed}
 use Rattle.group_log.specs.declared.marks.Marks.{Marks}
+use Rattle.group_log.specs.declared.phase.Phase.{Phase}
+use Rattle.group_log.specs.declared.phase.Phase.TheVariants.{Open, Staging, Installing, Halted}
 use Rattle.group_log.specs.Phases.{is_point}
 use Rattle.group_log.specs.Stories.{after_leave, after_write}
 use Rattle.atomic_programs.specs.Prog.{Did, Waits, Ran, Stops, Ret, Do}
 use Rattle.atomic_programs.specs.Logic.{P}
-use Rattle.atomic_programs.specs.Calls.{Event, Start, Step, Run, State as StateOf, next}
-use Rattle.fs_machine.specs.LogPart.{LogPart, Outside}
+use Rattle.atomic_programs.specs.Calls.{Theory, Event, Start, Step, Run, State as StateOf, next}
+use Rattle.fs_machine.specs.LogPart.{LogPart, Outside, is_open}
 use Rattle.fs_machine.specs.Steps.{State, Op, Answer, Leave, Commit, exec}
 use Rattle.calls_on_blocks.specs.Theory.{block_calls}
 
@@ -50,3 +52,25 @@ module _ (sizes : Super) where
   abbrev pub marks_after : List (Event Call Outside) → StateOf (block_calls sizes) → Marks → Marks
   marks_after [] s m = m
   marks_after (e ∷ es) s m = marks_after es (next (block_calls sizes) e s) (marks_next e s m)
+
+-- ---- the same by where the commit is
+
+-- The last of n events took the commit from one phase, at the point or not, to another.
+abbrev pub marks_told : ℕ → Phase → Bool → Phase → Marks → Marks
+marks_told n p point Open m = m
+marks_told n p point (Staging i) m = if is_open p then record m { begun = n } else m
+marks_told n p point (Installing i) m = after_write point Wrote m
+marks_told n p point Halted m = after_write point Failed m
+
+-- what is noted of each event, by the states before and after it
+abbrev pub noted : (L : Theory) → (StateOf L → StateOf L → Marks → Marks) → List (Event L.Call L.M.Outside) → StateOf L → Marks → Marks
+noted L note [] s m = m
+noted L note (e ∷ es) s m = noted L note es (next L e s) (note s (next L e s) m)
+
+module _ (sizes : Super) where
+  abbrev pub log_at : StateOf (block_calls sizes) → LogPart
+  log_at s = s.world.real.blocks.state.log
+
+  -- the marks after the event between two states
+  abbrev pub told_between : StateOf (block_calls sizes) → StateOf (block_calls sizes) → Marks → Marks
+  told_between s t m = marks_told (s.now + 1) (log_at s).phase (at_point (log_at s)) (log_at t).phase m

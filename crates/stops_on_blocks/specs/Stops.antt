@@ -1,5 +1,5 @@
 -- A stop at any event of a file system that is mounted: what its disk is then.
-use Rattle.std.specs.Prelude.{◌≡◌, ℕ, ◌≤◌, List, ◌++◌, length}
+use Rattle.std.specs.Prelude.{◌≡◌, ℕ, ◌≤◌, List, ◌++◌, length, Some}
 use Rattle.fs_layout.specs.Recovered.{sizes_of}
 use Rattle.plain_tree.specs.declared.call.Call.{Call}
 use Rattle.plain_tree.specs.declared.trace.Placed.{Placed}
@@ -8,16 +8,15 @@ use Rattle.plain_tree.specs.Explains.{Chain, IsNamedPart}
 use Rattle.image_tree.specs.Damage.{IsWellFormed}
 use Rattle.image_tree.specs.Trees.{tree_in}
 use Rattle.group_log.specs.declared.marks.Marks.{Marks}
-use Rattle.group_log.specs.Soundness.{LogState}
 use Rattle.group_log.specs.Stories.{no_marks, IsMarked}
 use Rattle.atomic_programs.specs.Calls.{Event, State, AllHonest, fresh, run}
 use Rattle.tree_moves.specs.Laws.{before}
-use Rattle.fs_machine.specs.LogPart.{LogPart, Outside}
+use Rattle.fs_machine.specs.LogPart.{Outside}
 use Rattle.inode_machine.specs.MoveCalls.{HasOneHistory, NoneClimbs, Alone}
 use Rattle.inodes_on_blocks.specs.Mounted.{IsMountable}
 use Rattle.calls_on_blocks.specs.History.{block_moves, first, RunsOn}
 use Rattle.calls_on_blocks.specs.Theory.{block_calls}
-use Rattle.stops_on_blocks.specs.Marks.{marks_after}
+use Rattle.stops_on_blocks.specs.Marks.{marks_after, noted, told_between}
 
 -- Events of a disk that was mounted, at answers that the device may give. A step may have found no room, paths may climb, and the device may
 -- have failed.
@@ -48,6 +47,8 @@ pub record LeavesABeginning (disk : List (List ℕ)) (failures : ℕ) (events : 
   pub k : ℕ
   pub marked : IsMarked (marks_at disk failures events) k
   pub past : k ≤ length events
+  -- a doubt isn't before the cut
+  pub after : (j : ℕ) → (marks_at disk failures events).doubt ≡ Some j → (marks_at disk failures events).cut ≤ j
   pub rest : List Placed
   pub begins : before k history.list ++ rest ≡ history.list
   pub tree : Tree
@@ -62,10 +63,8 @@ StopsLeaveABeginning = (disk : List (List ℕ)) (failures : ℕ) (events : List 
 abbrev pub OneHartLeavesABeginning : Type 0
 OneHartLeavesABeginning = (disk : List (List ℕ)) (failures h : ℕ) (events : List (Event Call Outside)) → RunsOn disk failures events → Alone h events → LeavesABeginning disk failures events
 
--- ---- the log's words, of its part
-
-abbrev pub itself : List (List ℕ) → List (List ℕ)
-itself disk = disk
-
-abbrev pub log_in : LogPart → LogState (List (List ℕ))
-log_in l = record { cache = record { device = l.contents; seats = l.seats }; sizes = l.sizes; group = l.group; members = l.members; phase = l.phase }
+-- The marks are known by where each event takes the log's commit.
+abbrev pub MarksAreTold : Type 0
+MarksAreTold =
+    (disk : List (List ℕ)) (failures : ℕ) (events : List (Event Call Outside)) → AreEventsOn disk failures events
+    → noted (block_calls (sizes_of disk)) (told_between (sizes_of disk)) events (fresh (block_calls (sizes_of disk)) (first disk failures)) no_marks ≡ marks_at disk failures events

@@ -1,7 +1,7 @@
 //! A stop at any event of a mounted file system: what its disk is then. The functions do nothing: each carries a law.
 #![tactic(auto)]
 
-ghost use Rattle.stops_on_blocks.specs.Stops.{OneHartLeavesABeginning, StopsLeaveABeginning, StopsLeaveImages};
+ghost use Rattle.stops_on_blocks.specs.Stops.{MarksAreTold, OneHartLeavesABeginning, StopsLeaveABeginning, StopsLeaveImages};
 
 /// Wherever a mounted file system is stopped, in the middle of calls or of a commit, by the device's failure or not, its disk
 /// passes all checks as recovery sees it: it can be mounted again.
@@ -19,4 +19,10 @@ pub fn stops_leave_a_beginning()
 /// Where one hart alone makes calls the same holds for any paths.
 pub fn one_hart_leaves_a_beginning()
     ensures { OneHartLeavesABeginning }
+{}
+
+/// The marks of its events are known by where each takes the log's commit: so code that sees the log before and after an event keeps
+/// them.
+pub fn marks_are_told()
+    ensures { MarksAreTold }
 {}
