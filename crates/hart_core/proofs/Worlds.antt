@@ -7,7 +7,7 @@ use Rattle.fs_layout.specs.declared.superblock.Super.{Super}
 use Rattle.plain_tree.specs.declared.answer.Reply.{Reply}
 use Rattle.plain_tree.specs.declared.call.Call.{Call}
 use Rattle.plain_tree.specs.Tree.{put}
-use Rattle.atomic_programs.specs.Prog.{Ret, Do, plain, Did, Waits, Ran, Stops, did_in, or_else}
+use Rattle.atomic_programs.specs.Prog.{Ret, Do, OfNext, plain, asks, Did, Waits, Ran, Stops, did_in, or_else}
 use Rattle.atomic_programs.specs.Calls.{Start, Step, Outcome as OutcomeOf, Started, Refused, WasIdle, DidWait, DidRun, DidEnd, DidStop, WasStopped, Refuses, Begins, changed, is_some as is_called}
 use Rattle.atomic_programs.specs.Plain.{Plain, PlainMade, MayOf, PlainHonestStep, PlainHonest, SoundPlain, plain_step, plain_unless, plain_prog, plain_tried, plain_moved, plain_start, plain_begun, plain_makes}
 use Rattle.atomic_programs.specs.Machines.{program_at}
@@ -17,7 +17,7 @@ use Rattle.fs_machine.specs.declared.kind.Kind.{Kind}
 use Rattle.fs_machine.specs.LogPart.{Outside}
 use Rattle.fs_machine.specs.Machines.{P}
 use Rattle.fs_machine.specs.Steps as steps
-use Rattle.fs_machine.specs.Steps.{State}
+use Rattle.fs_machine.specs.Steps.{State, Op}
 use Rattle.syscalls.specs.declared.running.Running.{Running}
 use Rattle.syscalls.specs.Machines.{running_of}
 use Rattle.inode_machine.specs.Theory as calls
@@ -96,17 +96,25 @@ module _ (sizes : Super) (children : ℕ → Option ℕ) where
 
   -- ---- what is asked and answered in it
 
+  may_next : (h : ℕ) (s : State) (o : Option Op) → OfNext ((block_code sizes).may h) o (with_them s) → OfNext (code.may h) o s
+  may_next h s None may = tt
+  may_next h s (Some op) may = may
+
   may_as : (h : ℕ) (s : State) (o : Option (P Reply)) → MayOf (block_calls sizes) (block_code sizes) h (with_them s) o → MayOf blocks code h s o
   may_as h s None may = tt
-  may_as h s (Some p) may = may
+  may_as h s (Some p) may = may_next h s (asks p) may
 
   pub may_in : (h : ℕ) (p : Plain blocks code) → SoundPlain (block_calls sizes) (block_code sizes) (as_calls p) → MayStep h p
   may_in h p sound on = may_as h p.shared (p.running h) (sound_may (block_calls sizes) (block_code sizes) (is_code sizes) (lawful sizes) (as_calls p) sound on h)
 
+  honest_next : (h : ℕ) (x : Outside) (s : State) (o : Option Op) → OfNext (λ op v. code.honest h op v x) o s → OfNext (λ op v. (block_code sizes).honest h op v x) o (with_them s)
+  honest_next h x s None honest = tt
+  honest_next h x s (Some op) honest = honest
+
   honest_as : (h : ℕ) (x : Outside) (s : State) (b : Bool) (o : Option (P Reply)) → PlainHonestStep blocks code h x s b o → PlainHonestStep (block_calls sizes) (block_code sizes) h x (with_them s) b o
   honest_as h x s true o honest = tt
   honest_as h x s false None honest = tt
-  honest_as h x s false (Some p) honest = honest
+  honest_as h x s false (Some p) honest = honest_next h x s (asks p) honest
 
   pub honest_in : (h : ℕ) (x : Outside) (p : Plain blocks code) → PlainHonest blocks code (Step h x) p → PlainHonest (block_calls sizes) (block_code sizes) (Step h x) (as_calls p)
   honest_in h x p honest = honest_as h x p.shared p.stopped (p.running h) honest
