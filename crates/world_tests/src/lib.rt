@@ -5,12 +5,4 @@
 #[cfg(test)]
 mod events;
 #[cfg(test)]
-mod inherits;
-#[cfg(test)]
 mod opens;
-#[cfg(test)]
-mod runs;
-#[cfg(test)]
-mod unlinks;
-#[cfg(test)]
-mod writes;
