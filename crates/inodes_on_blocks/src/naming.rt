@@ -1,5 +1,6 @@
-//! Operations on whole inodes that take new ones and enter names, as programs below: each acts at one moment, whatever the other harts do, where the
-//! hart's transaction has room for what they record; and after it the transaction has recorded no more than that.
+//! Operations on whole inodes that take new ones and enter names, as programs below: each acts at one moment, whatever the other
+//! harts do, where the hart's transaction has room for what they record; and after it the transaction has recorded no more than
+//! that.
 
 ghost use Rattle.std.specs.Prelude.{ℕ};
 ghost use Rattle.fs_layout.specs.declared.superblock.Super.{Super};
