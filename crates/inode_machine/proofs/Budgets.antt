@@ -283,8 +283,12 @@ module _ (path : List ℕ) (d : ℕ) (e : Name) (list : List ℕ) where
     new_stored : Within both 4 stored_new
     new_stored = recorded both 4 n claimed new_here (let w = named one 2 n unspent at_start in omega (arith, w))
 
+    -- where the directory were claimed
+    unclaimed : (r : Reply) → HasRoom claimed (drop n (give_up d (tail list r)))
+    unclaimed r = dropped both 4 (omega arith) n _ claimed new_here (let w = named one 2 n unspent at_start in omega (arith, w)) (λ t v. ended both 4 (omega arith) d list _ t old_here v)
+
     made_with : (flags : ℕ) → HasRoom claimed (make_with path flags d e list (New n))
-    made_with flags = (
+    made_with flags = either_way claimed (n == d) _ _ (unclaimed _) (
       few_claimed,
       λ _. (
         fits both 4 stored_new new_stored (omega arith),
@@ -299,7 +303,7 @@ module _ (path : List ℕ) (d : ℕ) (e : Name) (list : List ℕ) where
     two_filled = recorded both 5 n (with_bitmap (with_contents 1 stored_new)) new_here (let w = new_stored in omega (arith, w))
 
     directory_made : (f : Face) → HasRoom claimed (mkdir_with path d e list f (New n))
-    directory_made f = (
+    directory_made f = either_way claimed (n == d) _ _ (unclaimed _) (
       few_claimed,
       λ _. (
         fits both 4 stored_new new_stored (omega arith),

@@ -97,13 +97,17 @@ mends_unless_new (New n) = None
 mends_unless_new NoInode = Some Mends
 mends_unless_new NoPlace = Some Mends
 
-abbrev pub make_with : List ℕ → ℕ → ℕ → Name → List ℕ → Claimed → P Reply
-make_with path flags d e ns NoInode = give_up d (tail ns (full (calls.Open path flags) DiskInodes))
-make_with path flags d e ns NoPlace = give_up d (tail ns (full (calls.Open path flags) MemInodes))
-make_with path flags d e ns (New n) =
+-- what is claimed is another inode than the directory, which isn't free
+abbrev pub make_other : List ℕ → ℕ → ℕ → Name → List ℕ → ℕ → P Reply
+make_other path flags d e ns n =
     Do (Take n AtNothing) unmarked (λ _.
     Do (Store n 1) unmarked (λ _.
     Do (Enter d e n) (entered_file n) (make_on path flags n d ns)))
+
+abbrev pub make_with : List ℕ → ℕ → ℕ → Name → List ℕ → Claimed → P Reply
+make_with path flags d e ns NoInode = give_up d (tail ns (full (calls.Open path flags) DiskInodes))
+make_with path flags d e ns NoPlace = give_up d (tail ns (full (calls.Open path flags) MemInodes))
+make_with path flags d e ns (New n) = if n == d then drop n (give_up d (tail ns (full (calls.Open path flags) MemInodes))) else make_other path flags d e ns n
 
 abbrev pub create_found : List ℕ → ℕ → ℕ → Name → List ℕ → Option ℕ → P Reply
 create_found path flags d e ns None = Do (Claim OfFile) mends_unless_new (make_with path flags d e ns)

@@ -19,6 +19,7 @@ use Rattle.inode_table.specs.NewInodes.{new_inode}
 use Rattle.inode_table.specs.NewMachines.{new_of, NewFits}
 use Rattle.inode_table.specs.declared.new_inode.Made.{Made}
 use Rattle.inode_table.specs.declared.new_inode.Made.TheVariants as made
+use Rattle.inode_data.specs.Freeing.{drop_reference}
 use Rattle.inode_data.specs.Writing.{Written, write_part}
 use Rattle.inode_data.specs.PartWriting.{write_of, writer_of, WriteFits}
 use Rattle.directory.specs.Entering.{EnteredState, enter, enter_of, enterer_of, EnterFits}
@@ -92,8 +93,9 @@ module _ (sizes : Super) where
   abbrev pub link_new : Sort → Name → Inode → Inode → P NamedState
   link_new kind e v w = bind (store sizes.inodestart w.number (with_links 1 (record_of w))) (λ _. linked kind e v (loaded w.number (with_links 1 (record_of w))))
 
+  -- what is claimed is another inode than the directory, which isn't free
   abbrev pub made_on : Sort → Name → Inode → Made → P NamedState
-  made_on kind e v (made.Inode n) = bind (take_inode sizes.inodestart n) (link_new kind e v)
+  made_on kind e v (made.Inode n) = if n == v.number then bind (drop_reference sizes n) (λ _. Ret (Lacks v fulls.MemInodes)) else bind (take_inode sizes.inodestart n) (link_new kind e v)
   made_on kind e v made.NoPlace = Ret (Lacks v fulls.MemInodes)
   made_on kind e v made.NoInode = Ret (Lacks v fulls.DiskInodes)
 
