@@ -93,10 +93,10 @@ module _ (sizes : Super) (path : List ℕ) (flags : ℕ) where
   -- ---- a place and a descriptor
 
   -- the inode is given up, with this reply
-  refused_same : (c : Carry) (n : ℕ) (d : Dinode) (ns : List ℕ) (r : Reply) → record_had (c n) ≡ Some d → left_below sizes c (parts.give_up n (parts.tail ns r)) ≡ bind (give_up sizes (loaded n d)) (λ _. tail sizes ns r)
+  pub refused_same : (c : Carry) (n : ℕ) (d : Dinode) (ns : List ℕ) (r : Reply) → record_had (c n) ≡ Some d → left_below sizes c (parts.give_up n (parts.tail ns r)) ≡ bind (give_up sizes (loaded n d)) (λ _. tail sizes ns r)
   refused_same c n d ns r had = give_up_same sizes c n d (parts.tail ns r) (tail sizes ns r) had (λ c. tail_same sizes c ns r)
 
-  end_same : (n : ℕ) (ns : List ℕ) (fd : ℕ) (c : Carry) (d : Dinode) → record_had (c n) ≡ Some d → left_below sizes c (above.open_end path flags n ns fd) ≡ syscalls.open_end sizes path flags ns n fd d
+  pub end_same : (n : ℕ) (ns : List ℕ) (fd : ℕ) (c : Carry) (d : Dinode) → record_had (c n) ≡ Some d → left_below sizes c (above.open_end path flags n ns fd) ≡ syscalls.open_end sizes path flags ns n fd d
   end_same n ns fd c d had = give_same sizes c n d unmarked (λ _. parts.tail ns (above.opened_reply path flags fd)) (tail sizes ns (above.opened_reply path flags fd)) had (λ c. tail_same sizes c ns (above.opened_reply path flags fd))
 
   -- it has its descriptor; a file that is there may be emptied
@@ -135,7 +135,7 @@ module _ (sizes : Super) (path : List ℕ) (flags : ℕ) where
   abbrev after_walk : WalkedState → code.P Reply
   after_walk w = bind (reach_on sizes.inodestart w) (syscalls.open_found sizes path flags)
 
-  at_same : (c : Carry) (n : ℕ) (ns : List ℕ) → left_below sizes c (above.open_at path flags n ns) ≡ after_walk (Reaches n [] ns)
+  pub at_same : (c : Carry) (n : ℕ) (ns : List ℕ) → left_below sizes c (above.open_at path flags n ns) ≡ after_walk (Reaches n [] ns)
   at_same c n ns =
       take_same sizes c n unmarked (λ a. above.open_face path flags n ns (face_or a.face).sort (open_refusal (flags == 0) (face_or a.face).sort)) (λ d. syscalls.open_at sizes path flags (loaded n d) ns)
       (λ d.

@@ -56,7 +56,7 @@ use Rattle.calls_on_blocks.proofs.Searches.{after_plain, plain_search_from}
 use Rattle.calls_on_blocks.proofs.WalkBridge.{seen, stop_of, take_same, look_same, parent_same, reached_is}
 
 -- what is had of inode j stays, whatever comes of another one
-kept_had : (j n : ℕ) (d : Dinode) → j ≢ n → (c : Carry) (had : Had) → record_had (c j) ≡ Some d → record_had (put c n had j) ≡ Some d
+pub kept_had : (j n : ℕ) (d : Dinode) → j ≢ n → (c : Carry) (had : Had) → record_had (c j) ≡ Some d → record_had (put c n had j) ≡ Some d
 kept_had j n d ne c had is = ap record_had (put_other c n had j ne) ∙ is
 
 plain_entries : (d : Dinode) → plain (entries_above d) ≡ search_entries d
@@ -82,7 +82,7 @@ module _ (sizes : Super) where
           after_plain (entries_above d) (search_entries d) (λ o. Ret (record { answer = record { face = face_seen d; found = None; empty = not (is_some o) }; carry = put c n (Has d NothingMore) })) then_ (rest d) (plain_entries d) (same d)
 
   -- an inode is given up, and what is had of another one stays
-  give_up_beside : (c : Carry) (n : ℕ) (d : Dinode) (j : ℕ) (e : Dinode) (k : parts.P Reply) (rest : code.P Reply) → j ≢ n → record_had (c n) ≡ Some d → record_had (c j) ≡ Some e
+  pub give_up_beside : (c : Carry) (n : ℕ) (d : Dinode) (j : ℕ) (e : Dinode) (k : parts.P Reply) (rest : code.P Reply) → j ≢ n → record_had (c n) ≡ Some d → record_had (c j) ≡ Some e
       → ((c : Carry) → record_had (c j) ≡ Some e → left_below sizes c k ≡ rest) → left_below sizes c (parts.give_up n k) ≡ bind (give_up sizes (loaded n d)) (λ _. rest)
   give_up_beside c n d j e k rest ne has has_other same =
       λ i. Do (steps.Unlock (record { number = n; content = has i }) None) unmarked (λ _. plain_drop_with sizes n k rest (λ c. record_had (c j) ≡ Some e) (kept_had j n e ne) same (put c n Apart) (kept_had j n e ne c Apart has_other) i)
@@ -91,7 +91,7 @@ module _ (sizes : Super) where
 
   module _ (n count : ℕ) (k : parts.P Reply) (rest : code.P Reply) where
     -- The record in hand has the new count for what follows; of other inodes the same is in hand.
-    store_beside : (c : Carry) (d : Dinode) (m : Unit {0} → Option world.Mark) → record_had (c n) ≡ Some d → ((had : Had) → record_had (put c n had n) ≡ Some (with_links count d) → left_below sizes (put c n had) k ≡ rest)
+    pub store_beside : (c : Carry) (d : Dinode) (m : Unit {0} → Option world.Mark) → record_had (c n) ≡ Some d → ((had : Had) → record_had (put c n had n) ≡ Some (with_links count d) → left_below sizes (put c n had) k ≡ rest)
         → left_below sizes c (Do (Store n count) m (λ _. k)) ≡ bind (store_inode sizes.inodestart n (with_links count d)) (λ _. rest)
     store_beside c d m has goes =
         after_plain (fetch b) (fetch b) (put_record (Store n count) m (tt {0}) b n (with_links count (record_in c n)) had c) then_ (put_in (record_in c n))
