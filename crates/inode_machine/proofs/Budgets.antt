@@ -260,11 +260,11 @@ module _ (path : List ℕ) (d : ℕ) (e : Name) (list : List ℕ) where
     entered b s within = recorded both (b + 2) d (with_bitmap (with_contents 2 s)) old_here (let w = within in omega (arith, w))
 
     -- open
-    made : (flags b : ℕ) (s : Spent) (a : Entered) → b ≤ 10 → Within both b s → HasRoom s (make_on path flags n d list a)
-    made flags b s InPlace le within =
-        (fits both b s within le, λ _. dropped both b le d _ s old_here within (λ t w. took path flags both b le n _ list _ _ t new_here w (λ fd. opened path flags both b le n list fd t w)))
-    made flags b s NoBlock le within = undone b _ s le within
-    made flags b s NoSlot le within = undone b _ s le within
+    made : (flags : ℕ) (sort : Sort) (b : ℕ) (s : Spent) (a : Entered) → b ≤ 10 → Within both b s → HasRoom s (make_on path flags n sort d list a)
+    made flags sort b s InPlace le within =
+        (fits both b s within le, λ _. dropped both b le d _ s old_here within (λ t w. took path flags both b le n sort list _ _ t new_here w (λ fd. opened path flags both b le n list fd t w)))
+    made flags sort b s NoBlock le within = undone b _ s le within
+    made flags sort b s NoSlot le within = undone b _ s le within
 
     -- mkdir
     directory_named : (f : Face) (b : ℕ) (s : Spent) (a : Entered) → b ≤ 10 → Within both b s → HasRoom s (name_directory path d f n list a)
@@ -290,9 +290,9 @@ module _ (path : List ℕ) (d : ℕ) (e : Name) (list : List ℕ) where
     made_with : (flags : ℕ) → HasRoom claimed (make_with path flags d e list (New n))
     made_with flags = either_way claimed (n == d) _ _ (unclaimed _) (
       few_claimed,
-      λ _. (
+      λ seen. (
         fits both 4 stored_new new_stored (omega arith),
-        λ _. (fits both 6 (entered_after stored_new) (entered 4 stored_new new_stored) (omega arith), λ a. made flags 6 (entered_after stored_new) a (omega arith) (entered 4 stored_new new_stored)),
+        λ _. (fits both 6 (entered_after stored_new) (entered 4 stored_new new_stored) (omega arith), λ a. made flags (face_or seen.face).sort 6 (entered_after stored_new) a (omega arith) (entered 4 stored_new new_stored)),
       ),
     )
 

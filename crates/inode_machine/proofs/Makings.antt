@@ -83,7 +83,7 @@ module _ (h : ℕ) (path : List ℕ) (flags : ℕ) (lt : h < hart_count) {base :
 
   -- A slot and a descriptor are taken for it, its lock is given up, and the call ends.
   opens : (i fd id l : ℕ) (E : ℕ → Option Held) (es : List Step) (u : World) (R : Own) → 971 * length ns + 1000 < l → own_of h u ≡ R → Holding base ns (went_own O0 i flags fd id) R E (λ j. 0 + one_if (i == j)) → E i ≡ Some (locked_held (Some new_file)) → ((j : ℕ) → j ≢ i → E j ≡ None) → R.mine.walk ≡ None → R.mine.pending ≡ None
-      → has_room R.desk.fds ≡ true → lowest R.desk.fds ≡ fd → O0.row.fds fd ≡ None → O0.row.keys fd ≡ None → Walked (calls.Open path flags) (opened_act path flags fd id true ∷ []) es → Goes h path flags (open_made path flags i ns) l es u
+      → has_room R.desk.fds ≡ true → lowest R.desk.fds ≡ fd → O0.row.fds fd ≡ None → O0.row.keys fd ≡ None → Walked (calls.Open path flags) (opened_act path flags fd id true ∷ []) es → Goes h path flags (open_made path flags i OfFile ns) l es u
   opens i fd id l E es u R few held k isi rest walk none room low nofd nokey told =
       s-slot M held free lt (omega (arith, few)) (k.stays.hand ∙ joins.may.hand) refl refl
       (λ v inv ov. mends_opened h fd v R ov free lt inv k.stays.opening left (subst KeepsHold (sym hold) tt) (λ j q. refers j q))
@@ -192,7 +192,7 @@ module _ (h : ℕ) (path : List ℕ) (flags : ℕ) (lt : h < hart_count) {base :
 
   -- The hart has no descriptor left.
   lacks : (i l : ℕ) (E : ℕ → Option Held) (es : List Step) (u : World) (R : Own) → 971 * length ns + 1000 < l → own_of h u ≡ R → Holding base ns O0 R E (λ j. 0 + one_if (i == j)) → E i ≡ Some (locked_held (Some new_file)) → ((j : ℕ) → j ≢ i → E j ≡ None) → R.mine.walk ≡ None → R.mine.pending ≡ None → has_room R.desk.fds ≡ false
-      → Goes h path flags (open_made path flags i ns) l es u
+      → Goes h path flags (open_made path flags i OfFile ns) l es u
   lacks i l E es u R few held k isi rest walk none room =
       s-slot (mended_own R) held free lt (omega (arith, few)) hand refl refl
       (λ v inv ov. let m = mends h v R ov free lt inv can.opening can.left can.hold can.names in record { fair = m.fair; bad = m.bad; owned = m.owned })
@@ -224,7 +224,7 @@ module _ (h : ℕ) (path : List ℕ) (flags : ℕ) (lt : h < hart_count) {base :
 
   -- The name is entered: the parent is given up first.
   named : (d i fd id l : ℕ) {x : Held} (es : List Step) (u : World) (R O : Own) → 971 * length ns + 1910 < l → own_of h u ≡ R → Pair base ns O0 O d i x (locked_held (Some new_file)) → IsWhole x → R.inodes ≡ O.inodes → R.mine.refs ≡ O.mine.refs → R.ninodes ≡ O.ninodes → R.row ≡ opened_row O.row fd id (key_is (file_for i flags)) → R.desk ≡ record (O.desk) { opening = Some fd } → R.mine.walk ≡ None → R.mine.pending ≡ None
-      → has_room O.desk.fds ≡ true → lowest O.desk.fds ≡ fd → O.row.fds fd ≡ None → O.row.keys fd ≡ None → Walked (calls.Open path flags) (opened_act path flags fd id true ∷ []) es → Goes h path flags (give_up d (open_made path flags i ns)) l es u
+      → has_room O.desk.fds ≡ true → lowest O.desk.fds ≡ fd → O.row.fds fd ≡ None → O.row.keys fd ≡ None → Walked (calls.Open path flags) (opened_act path flags fd id true ∷ []) es → Goes h path flags (give_up d (open_made path flags i OfFile ns)) l es u
   named d i fd id l {x} es u R O few held p whole inodes refs ninodes row desk walk none room low nofd nokey told =
       s-give-up-in d {O0 = went_own O0 i flags fd id} {more = λ j. 0 + one_if (i == j)} held lt joins.ready.free joins.ready.joined (λ q. let b = joins.ready.spare d (sym (names_opened O0.row O0.desk fd id (key_is (file_for i flags)) d joins.ready.opening (eq_not i d p.apart)) ∙ q) in omega (arith, b)) (omega (arith, few))
       (record { stays = k.stays; refs = λ j. (let a = k.refs j in omega (arith, a)); all = k.all; once = k.once; has = k.has; only = k.only }) walk none p.at_d whole (λ l2 u2 Owned2 q2 held2 desk2 walk2 none2 k2.
@@ -252,7 +252,7 @@ module _ (h : ℕ) (path : List ℕ) (flags : ℕ) (lt : h < hart_count) {base :
       k : Holding base ns (went_own O0 i flags fd id) R p.extra (λ j. (0 + one_if (d == j)) + one_if (i == j))
       k = holding_to (went_own O0 i flags fd id) R p.hold inodes stays refs (λ j t q. (λ z. own_names (row z) (desk z) j) ∙ names_opened O.row O.desk fd id (key_is (file_for i flags)) j (p.hold.stays.opening ∙ joins.ready.opening) (eq_not i j (not_i j t)) ∙ q)
 
-  named_full : (d i l : ℕ) {x : Held} (es : List Step) (u : World) (R : Own) → 971 * length ns + 1910 < l → own_of h u ≡ R → Pair base ns O0 R d i x (locked_held (Some new_file)) → IsWhole x → R.mine.walk ≡ None → R.mine.pending ≡ None → has_room R.desk.fds ≡ false → Goes h path flags (give_up d (open_made path flags i ns)) l es u
+  named_full : (d i l : ℕ) {x : Held} (es : List Step) (u : World) (R : Own) → 971 * length ns + 1910 < l → own_of h u ≡ R → Pair base ns O0 R d i x (locked_held (Some new_file)) → IsWhole x → R.mine.walk ≡ None → R.mine.pending ≡ None → has_room R.desk.fds ≡ false → Goes h path flags (give_up d (open_made path flags i OfFile ns)) l es u
   named_full d i l {x} es u R few held p whole walk none room =
       s-give-up-in d {more = λ j. 0 + one_if (i == j)} held lt joins.ready.free joins.ready.joined (λ q. let b = joins.ready.spare d q in omega (arith, b)) (omega (arith, few))
       (record { stays = p.hold.stays; refs = λ j. (let a = p.hold.refs j in omega (arith, a)); all = p.hold.all; once = p.hold.once; has = p.hold.has; only = p.hold.only }) walk none p.at_d whole (λ l2 u2 Owned2 q2 held2 desk2 walk2 none2 k2.
