@@ -13,3 +13,6 @@ returns-in-Inode-clause-follows c name =
     let m = c.args.making in
     subst (λ stepped. Follows {T = Named} new_of (λ m. m) (make_of name) named_as (made_on m.sizes m.sort name (inode_in m.parent)) stepped (Ran c.claimed.result c.in-Done.kind))
     (sym (c.in-Done.is ∙ ap (λ made. Done made c.in-Done.kind) c.in-Inode.is)) (refl, c.claimed.ensures.program name)
+
+pub returns-in-Inode-clause-fits : goal.returns-in-Inode-clause-fits
+returns-in-Inode-clause-fits c hart s m left = c.claimed.ensures.fits hart s m
