@@ -117,7 +117,7 @@ module _ (sizes : Super) (path : List ℕ) (flags : ℕ) where
   abbrev after_walk : WalkedState → code.P Reply
   after_walk w = bind (reach_on sizes.inodestart w) after_seek
 
-  missing : Reply
+  abbrev missing : Reply
   missing = parts.failed (calls.Open path flags) NoEntry
 
   in_same : (c : Carry) (d : ℕ) (e : Name) (ns : List ℕ) → left_below sizes c (above.create_in path flags d e ns) ≡ after_walk (Reaches d (e ∷ []) ns)

@@ -120,27 +120,27 @@ module _ (sizes : Super) (d : ℕ) (ns : List ℕ) (reply : Full → Reply) (go 
 
   -- after an inode was wanted
   abbrev pub claimed_to : (ℕ → parts.P Reply) → world.Claimed → parts.P Reply
-  claimed_to other world.NoInode = gives DiskInodes
-  claimed_to other world.NoPlace = gives MemInodes
-  claimed_to other (world.New n) = if n == d then Do (Forget n) unmarked (λ _. gives MemInodes) else other n
+  claimed_to made world.NoInode = gives DiskInodes
+  claimed_to made world.NoPlace = gives MemInodes
+  claimed_to made (world.New n) = if n == d then Do (Forget n) unmarked (λ _. gives MemInodes) else made n
 
-  module _ (kind : MadeSort) (e : Name) (v : Dinode) (other : ℕ → parts.P Reply)
-      (other_same : (n : ℕ) → n ≢ d → (c : Carry) → record_had (c d) ≡ Some v → left_below sizes c (other n) ≡ bind (bind (take_inode sizes.inodestart n) (making.link_new sizes kind e (loaded d v))) go) where
+  module _ (kind : MadeSort) (e : Name) (v : Dinode) (made : ℕ → parts.P Reply)
+      (made_same : (n : ℕ) → n ≢ d → (c : Carry) → record_had (c d) ≡ Some v → left_below sizes c (made n) ≡ bind (bind (take_inode sizes.inodestart n) (making.link_new sizes kind e (loaded d v))) go) where
     abbrev after_made : Made → code.P Reply
     after_made a = bind (making.made_on sizes kind e (loaded d v) a) go
 
-    claimed_same : (c : Carry) (a : world.Claimed) → record_had (c d) ≡ Some v → left_below sizes c (claimed_to other a) ≡ after_made (made_as a)
+    claimed_same : (c : Carry) (a : world.Claimed) → record_had (c d) ≡ Some v → left_below sizes c (claimed_to made a) ≡ after_made (made_as a)
     claimed_same c world.NoInode has = given_same c v DiskInodes has
     claimed_same c world.NoPlace has = given_same c v MemInodes has
     claimed_same c (world.New n) has = by (n == d) refl
       where
         by : (b : Bool) → (n == d) ≡ b
-            → left_below sizes c (if b then Do (Forget n) unmarked (λ _. gives MemInodes) else other n)
+            → left_below sizes c (if b then Do (Forget n) unmarked (λ _. gives MemInodes) else made n)
             ≡ bind (if b then Do (steps.Down (steps.Freed n)) unmarked (λ _. Ret (Lacks (loaded d v) MemInodes)) else bind (take_inode sizes.inodestart n) (making.link_new sizes kind e (loaded d v))) go
         by true is = λ i. Do (steps.Down (steps.Freed n)) unmarked (λ _. given_same c v MemInodes has i)
-        by false is = other_same n (eq_isnt n d is) c has
+        by false is = made_same n (eq_isnt n d is) c has
 
-    pub make_same : (c : Carry) (sort : Sort) (m : world.Claimed → Option world.Mark) (then_ : world.Claimed → parts.P Reply) → kind_of sort ≡ making.type_of kind → ((a : world.Claimed) → then_ a ≡ claimed_to other a) → record_had (c d) ≡ Some v
+    pub make_same : (c : Carry) (sort : Sort) (m : world.Claimed → Option world.Mark) (then_ : world.Claimed → parts.P Reply) → kind_of sort ≡ making.type_of kind → ((a : world.Claimed) → then_ a ≡ claimed_to made a) → record_had (c d) ≡ Some v
         → left_below sizes c (Do (Claim sort) m then_) ≡ bind (making.make sizes kind e (loaded d v)) go
     make_same c sort m then_ kinds is has =
         claim_same sizes c sort m then_ after_made (λ a. ap (left_below sizes c) (is a) ∙ claimed_same c a has)

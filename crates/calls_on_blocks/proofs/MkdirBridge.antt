@@ -144,7 +144,7 @@ module _ (sizes : Super) (path : List ℕ) where
 
   -- ---- the last name, in its parent
 
-  missing : Reply
+  abbrev missing : Reply
   missing = parts.failed (calls.Mkdir path) NoEntry
 
   -- what comes after the walk to the parent
