@@ -1,5 +1,5 @@
 -- A new inode taken, as a program below: it is the code's.
-use Rattle.std.proofs.Common.{◌≡◌, ℕ, zero, suc, ◌+◌, List, Option, Some, None, refl, sym, ◌∙◌}
+use Rattle.std.proofs.Common.{◌≡◌, ℕ, zero, suc, ◌+◌, List, Option, Some, None, sym, ◌∙◌}
 use Rattle.fs_layout.specs.declared.superblock.Super.{Super}
 use Rattle.fs_layout.specs.Inode.{dinode_at}
 use Rattle.plain_tree.specs.declared.answer.Reply.{Reply}

@@ -26,7 +26,7 @@ use Rattle.inode_machine.specs.Opening as above
 use Rattle.inode_machine.specs.Parts as parts
 use Rattle.inode_machine.specs.World as world
 use Rattle.inode_machine.specs.World.Op.{Claim, Enter, Install, Up}
-use Rattle.inodes_on_blocks.specs.Lowering.{Carry, NothingMore, Has, nothing, record_had}
+use Rattle.inodes_on_blocks.specs.Lowering.{Carry, Has, nothing, record_had}
 use Rattle.inodes_on_blocks.specs.Reading.{learned, number_found}
 use Rattle.inodes_on_tables.specs.Shown.{kind_of}
 use Rattle.syscalls.specs.Creating as syscalls
@@ -44,7 +44,7 @@ use Rattle.calls_on_blocks.proofs.MakeBridge.{claimed_to, make_same, name_same, 
 use Rattle.calls_on_blocks.proofs.OpenBridge.{at_same, end_same, refused_same}
 use Rattle.calls_on_blocks.proofs.Pieces.{left_below}
 use Rattle.calls_on_blocks.proofs.UnlinkBridge.{give_up_beside}
-use Rattle.calls_on_blocks.proofs.WalkBridge.{seen, stop_of, look_same, parent_same, reached_is}
+use Rattle.calls_on_blocks.proofs.WalkBridge.{stop_of, look_same, parent_same, reached_is}
 
 module _ (sizes : Super) (path : List ℕ) (flags : ℕ) where
   -- ---- a new file opened

@@ -1,9 +1,8 @@
 -- The code's open without CREATE is the call's own, as a program below.
-use Rattle.std.proofs.Common.{◌≡◌, ℕ, ◌==◌, ◌&&◌, Bool, true, false, if◌then◌else◌, List, [], Option, Some, None, refl, sym, ◌∙◌, ap}
+use Rattle.std.proofs.Common.{◌≡◌, ℕ, ◌==◌, ◌&&◌, Bool, true, false, if◌then◌else◌, List, [], Option, Some, None, sym, ◌∙◌, ap}
 use Rattle.std.specs.Option.{unwrap_or}
 use Rattle.fs_layout.specs.declared.inode.Dinode.{Dinode}
 use Rattle.fs_layout.specs.declared.superblock.Super.{Super}
-use Rattle.plain_tree.specs.declared.answer.Answer.TheVariants as answers
 use Rattle.plain_tree.specs.declared.answer.Cause.{Cause}
 use Rattle.plain_tree.specs.declared.answer.Cause.TheVariants.{NoEntry}
 use Rattle.plain_tree.specs.declared.answer.Full.TheVariants.{MemInodes, OpenFiles, Descriptors}
@@ -23,7 +22,7 @@ use Rattle.inode_table.specs.Programs.{no_record, inode_block, put_inode, store 
 use Rattle.inode_data.specs.Freeing.{without_content, store_record, truncate}
 use Rattle.path_walk.specs.declared.walked.Goal.TheVariants as goals
 use Rattle.path_walk.specs.Programs.{WalkedState, Reaches, Loses, walk_path, loaded}
-use Rattle.inode_machine.specs.Inodes.{Seen, face_or, open_refusal, is_file_sort}
+use Rattle.inode_machine.specs.Inodes.{face_or, open_refusal, is_file_sort}
 use Rattle.inode_machine.specs.Opening as above
 use Rattle.inode_machine.specs.Parts as parts
 use Rattle.inode_machine.specs.Rules.{machine}
@@ -32,7 +31,6 @@ use Rattle.inode_machine.specs.World.Op.{Empty, Install, Slot}
 use Rattle.inodes_on_blocks.specs.Handlers.{P}
 use Rattle.inodes_on_blocks.specs.Lowering.{Carry, NothingMore, Has, nothing, record_had}
 use Rattle.inodes_on_blocks.specs.Storing.{record_in, put_record}
-use Rattle.inodes_on_tables.specs.Shown.{kind_of}
 use Rattle.syscalls.specs.Opening as syscalls
 use Rattle.syscalls.specs.Parts.{reach_on, give_up}
 use Rattle.syscalls.specs.Programs.{tail}
@@ -41,7 +39,7 @@ use Rattle.calls_on_blocks.specs.Layer.{layer}
 use Rattle.calls_on_blocks.proofs.Faces.{sort_seen, refusal_same, file_same, kind_same}
 use Rattle.calls_on_blocks.proofs.Pieces.{left_below, plain_fetch, plain_content, content_bind, emptied}
 use Rattle.calls_on_blocks.proofs.Searches.{after_plain}
-use Rattle.calls_on_blocks.proofs.WalkBridge.{seen, stop_of, take_same, give_same, path_same, reached_is}
+use Rattle.calls_on_blocks.proofs.WalkBridge.{stop_of, take_same, give_same, path_same, reached_is}
 use Rattle.calls_on_blocks.proofs.EndBridge.{tail_same, give_up_same}
 
 -- ---- a file emptied

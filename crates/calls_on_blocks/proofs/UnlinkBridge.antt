@@ -6,7 +6,6 @@ use Rattle.fs_layout.specs.declared.entry.Dirent.TheVariants.{Free}
 use Rattle.fs_layout.specs.declared.inode.Dinode.{Dinode}
 use Rattle.fs_layout.specs.declared.superblock.Super.{Super}
 use Rattle.fs_layout.specs.Widths.{dirents_per_block}
-use Rattle.plain_tree.specs.declared.answer.Answer.TheVariants as answers
 use Rattle.plain_tree.specs.declared.answer.Cause.TheVariants.{NoEntry, NotEmpty, DotName}
 use Rattle.plain_tree.specs.declared.answer.Full.TheVariants.{MemInodes}
 use Rattle.plain_tree.specs.declared.answer.Reply.{Reply}
@@ -15,7 +14,7 @@ use Rattle.plain_tree.specs.declared.step.Action.TheVariants as actions
 use Rattle.plain_tree.specs.Tree.{Name, put, elements, same_name, dot, dotdot}
 use Rattle.tree_laws.proofs.Maps.{eq_isnt, put_same, put_other}
 use Rattle.tree_laws.proofs.Slots.{same_self}
-use Rattle.tree_moves.specs.Moves.Move.{Begin, Look}
+use Rattle.tree_moves.specs.Moves.Move.{Look}
 use Rattle.atomic_programs.specs.Prog.{Ret, Do, bind, plain, unmarked}
 use Rattle.atomic_programs.specs.Joined.{Handed, lowered}
 use Rattle.atomic_programs.proofs.Prog.{bind-assoc}
@@ -23,13 +22,12 @@ use Rattle.fs_machine.specs.Machines as code
 use Rattle.fs_machine.specs.Programs.{fetch}
 use Rattle.fs_machine.specs.Steps as steps
 use Rattle.inode_table.specs.Programs.{no_record, inode_block, load_unless, put_inode, store as store_inode, with_dinode}
-use Rattle.inode_data.specs.Freeing.{drop_reference}
 use Rattle.inode_data.specs.Programs.{Fetched, fetch_block}
 use Rattle.directory.specs.declared.found.Found.{Found}
 use Rattle.directory.specs.Programs.{Named, Entry, block_count, is_directory, is_live_directory, lookup, search, put_dirent, put_entry, with_dirent, with_slot}
 use Rattle.path_walk.specs.declared.walked.Goal.TheVariants as goals
 use Rattle.path_walk.specs.Programs.{WalkedState, Reaches, Loses, walk_path, loaded}
-use Rattle.inode_machine.specs.Inodes.{Seen, Face, face_or, is_directory_sort, is_live_face, AtEntries}
+use Rattle.inode_machine.specs.Inodes.{Seen, face_or, is_live_face, AtEntries}
 use Rattle.inode_machine.specs.Naming as above
 use Rattle.inode_machine.specs.Parts as parts
 use Rattle.inode_machine.specs.Rules.{machine}
@@ -43,7 +41,7 @@ use Rattle.inodes_on_blocks.specs.Storing.{record_in, put_record}
 use Rattle.syscalls.specs.Making.{with_links}
 use Rattle.syscalls.specs.Parts.{ReachedState, Finds as FindsNode, reach, reach_on, give_up}
 use Rattle.syscalls.specs.Programs.{tail}
-use Rattle.syscalls.specs.Seeking.{Sees, Dotted, Dead, seek_in, seek_live, seek_on, seek_through, seen_with}
+use Rattle.syscalls.specs.Seeking.{Dotted, Dead, seek_on, seek_through, seen_with}
 use Rattle.syscalls.specs.Unlinking as syscalls
 use Rattle.syscalls.specs.Unlinking.{links_of, search_entries}
 use Rattle.syscalls.specs.declared.seek.Dots.TheVariants as dots
@@ -53,7 +51,7 @@ use Rattle.calls_on_blocks.proofs.EndBridge.{tail_same, give_up_same}
 use Rattle.calls_on_blocks.proofs.Faces.{face_seen, directory_same, links_same, live_same, sort_same}
 use Rattle.calls_on_blocks.proofs.Pieces.{left_below, plain_block, plain_drop_with, plain_fetch, plain_load}
 use Rattle.calls_on_blocks.proofs.Searches.{after_plain, plain_search_from}
-use Rattle.calls_on_blocks.proofs.WalkBridge.{seen, stop_of, take_same, look_same, parent_same, reached_is}
+use Rattle.calls_on_blocks.proofs.WalkBridge.{stop_of, take_same, look_same, parent_same, reached_is}
 
 -- what is had of inode j stays, whatever comes of another one
 pub kept_had : (j n : ℕ) (d : Dinode) → j ≢ n → (c : Carry) (had : Had) → record_had (c j) ≡ Some d → record_had (put c n had j) ≡ Some d
