@@ -16,7 +16,7 @@ use Rattle.tree_laws.proofs.Maps.{either, eq_self}
 use Rattle.atomic_programs.specs.Prog.{Do, unmarked}
 use Rattle.inode_machine.specs.Inodes.{Sort, Face, face_or, is_live_face, is_directory_face, is_directory_sort}
 use Rattle.inode_machine.specs.World.{Mark, Claimed, New, NoInode, NoPlace, Entered, InPlace, NoBlock, NoSlot, Locking, NotLocked, LocksIt, Joining, NotJoined, Joined, Wrote, Whole, Refused, Short, Lending, Lent, Moved}
-use Rattle.inode_machine.specs.World.Op.{Free, Store, Enter, Clear}
+use Rattle.inode_machine.specs.World.Op.{Free, Forget, Store, Enter, Clear}
 use Rattle.inode_machine.specs.Parts.{P, Stop, NotThere, NoMemory, done, failed, stopped, drop, give_up, free_all, tail, walk, walk_step, walk_parent, leave_directory, with_last, start, start_on}
 use Rattle.inode_machine.specs.Descriptors.{joined_on, read_on, dup_on, stat_on, close_on, write_from, wrote_on, write_program}
 use Rattle.inode_machine.specs.Opening.{installed_on, take_descriptor, open_end, open_face, open_at, open_old, open_new, make_on, make_with, create_found, create_in, unmake, empties}
@@ -284,8 +284,8 @@ module _ (path : List ℕ) (d : ℕ) (e : Name) (list : List ℕ) where
     new_stored = recorded both 4 n claimed new_here (let w = named one 2 n unspent at_start in omega (arith, w))
 
     -- where the directory were claimed
-    unclaimed : (r : Reply) → HasRoom claimed (drop n (give_up d (tail list r)))
-    unclaimed r = dropped both 4 (omega arith) n _ claimed new_here (let w = named one 2 n unspent at_start in omega (arith, w)) (λ t v. ended both 4 (omega arith) d list _ t old_here v)
+    unclaimed : (r : Reply) → HasRoom claimed (Do (Forget n) unmarked (λ _. give_up d (tail list r)))
+    unclaimed r = (few_claimed, λ _. ended both 4 (omega arith) d list r claimed old_here (let w = named one 2 n unspent at_start in omega (arith, w)))
 
     made_with : (flags : ℕ) → HasRoom claimed (make_with path flags d e list (New n))
     made_with flags = either_way claimed (n == d) _ _ (unclaimed _) (

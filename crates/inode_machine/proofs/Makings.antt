@@ -1,6 +1,6 @@
 -- A file that an open makes: from the claim of its number to the call's end.
 use Rattle.std.proofs.Common.{◌≡◌, ◌≢◌, ◌⊎◌, inl, inr, ℕ, ◌+◌, ◌-◌, ◌*◌, ◌<◌, ◌≤◌, Bool, true, false, ◌==◌, ◌&&◌, ◌||◌, List, [], ◌∷◌, length, Option, Some, None, refl, sym, ◌∙◌, ap, subst, arith, if◌then◌else◌}
-use Rattle.atomic_programs.specs.Prog.{Do}
+use Rattle.atomic_programs.specs.Prog.{Do, unmarked}
 use Rattle.atomic_programs.specs.Logic.{oldest_first, Safe}
 use Rattle.atomic_programs.specs.Calls.{Begun, Ends}
 use Rattle.plain_tree.specs.declared.answer.Full.{Full}
@@ -20,11 +20,11 @@ use Rattle.tree_laws.proofs.Maps.{either, eq_not, or_none, same_or, put_same, pu
 use Rattle.tree_moves.specs.Moves.{Step, Written}
 use Rattle.tree_moves.specs.Moves.Move.{Own as OwnMove}
 use Rattle.inode_machine.specs.World.{Desk, Note, World, New}
-use Rattle.inode_machine.specs.World.Op.{Install}
+use Rattle.inode_machine.specs.World.Op.{Forget, Install}
 use Rattle.inode_machine.specs.Inodes.{OfFile}
 use Rattle.inode_machine.specs.Exec.{blank, is_at, with_entry}
 use Rattle.inode_machine.specs.Rules.{Held, Own, key_in, own_names, own_of, machine, IsName}
-use Rattle.inode_machine.specs.Parts.{P, full, drop, give_up, own_step, tail}
+use Rattle.inode_machine.specs.Parts.{P, full, give_up, own_step, tail}
 use Rattle.inode_machine.specs.Opening.{file_for, installed_on, installs, make_other, make_with, open_end, open_made, opened_reply, truncates, unmake}
 use Rattle.inode_machine.specs.Theory.{covered_calls}
 use Rattle.inode_machine.proofs.Rules.{locked_held}
@@ -263,7 +263,7 @@ module _ (h : ℕ) (path : List ℕ) (flags : ℕ) (lt : h < hart_count) {base :
   pub makes_file : (d : ℕ) (e : Name) (X : Node) (i l : ℕ) (fs : List Step) (u : World) (R : Own) → creates flags ≡ true → 971 * length ns + 3570 < l → own_of h u ≡ R → Pair base ns O0 R d i (locked_held (Some X)) (claimed_held OfFile) → base i ≡ 0 → R.mine.walk ≡ Some (record { step = steps.Open path flags; at = d; next = e; rest = [] }) → R.mine.pending ≡ None
       → live_directory (Some X) ≡ true → look (λ j. Some X) d e ≡ None → IsName e → 1 ≤ i → i < R.ninodes → ((t : Note) → R.desk.noted ≡ Some t → t.number ≢ i) → Walked (calls.Open path flags) [] fs → Goes h path flags (make_with path flags d e ns (New i)) l fs u
   makes_file d e X i l fs u R flag few held p zero walk none live absent good from below notes walking =
-      subst (λ (b : Bool). Goes h path flags (if b then drop i (give_up d (tail ns (full (calls.Open path flags) MemInodes))) else make_other path flags d e ns i) l fs u) (sym (eq_not i d p.apart))
+      subst (λ (b : Bool). Goes h path flags (if b then Do (Forget i) unmarked (λ _. give_up d (tail ns (full (calls.Open path flags) MemInodes))) else make_other path flags d e ns i) l fs u) (sym (eq_not i d p.apart))
       (s-take-kept held free lt (omega (arith, few)) (p.hold.has i (claimed_held OfFile) p.at_i) refl (λ e. cc) tt refers (λ l1 u1 q1 held1.
       s-store i 1 (blank OfFile) held1 free lt (omega (arith, few, q1)) joined (put_same R.inodes i (Some (fresh_held (blank OfFile)))) refl refl (inl (omega arith)) (λ l2 u2 q2 held2.
       s-enter-file d i X e path flags held2 free lt (omega (arith, few, q1, q2)) joined walk none (mendable joins.ready p2.hold) flag refl refl refl

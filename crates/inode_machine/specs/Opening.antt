@@ -14,7 +14,7 @@ use Rattle.atomic_programs.specs.Prog.{Do, unmarked}
 use Rattle.inode_machine.specs.Inodes.{Sort, OfFile, face_or, AtNothing, AtName, is_file_sort, is_live_face, open_refusal}
 use Rattle.tree_moves.specs.Moves.Move.{Begin, Look}
 use Rattle.inode_machine.specs.World.{Mark, Claimed, New, NoInode, NoPlace, Entered, InPlace, NoBlock, NoSlot}
-use Rattle.inode_machine.specs.World.Op.{Take, Give, Up, Claim, Store, Enter, Empty, Slot, Install, Join}
+use Rattle.inode_machine.specs.World.Op.{Take, Give, Up, Forget, Claim, Store, Enter, Empty, Slot, Install, Join}
 use Rattle.inode_machine.specs.World.Mark.{Mends, Orphans}
 use Rattle.inode_machine.specs.Parts.{P, makes, own_step, mends_if_full, failed, full, drop, give_up, tail, stopped, walk, walk_parent, start, looks_where, is_there}
 
@@ -107,7 +107,7 @@ make_other path flags d e ns n =
 abbrev pub make_with : List ℕ → ℕ → ℕ → Name → List ℕ → Claimed → P Reply
 make_with path flags d e ns NoInode = give_up d (tail ns (full (calls.Open path flags) DiskInodes))
 make_with path flags d e ns NoPlace = give_up d (tail ns (full (calls.Open path flags) MemInodes))
-make_with path flags d e ns (New n) = if n == d then drop n (give_up d (tail ns (full (calls.Open path flags) MemInodes))) else make_other path flags d e ns n
+make_with path flags d e ns (New n) = if n == d then Do (Forget n) unmarked (λ _. give_up d (tail ns (full (calls.Open path flags) MemInodes))) else make_other path flags d e ns n
 
 abbrev pub create_found : List ℕ → ℕ → ℕ → Name → List ℕ → Option ℕ → P Reply
 create_found path flags d e ns None = Do (Claim OfFile) mends_unless_new (make_with path flags d e ns)

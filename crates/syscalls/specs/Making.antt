@@ -8,9 +8,9 @@ use Rattle.fs_layout.specs.Widths.{bits_per_block, dirent_len}
 use Rattle.plain_tree.specs.declared.answer.Full.{Full}
 use Rattle.plain_tree.specs.declared.answer.Full.TheVariants as fulls
 use Rattle.plain_tree.specs.Tree.{Name, dot, dotdot}
-use Rattle.atomic_programs.specs.Prog.{Ret, bind}
+use Rattle.atomic_programs.specs.Prog.{Ret, Do, bind, unmarked}
 use Rattle.fs_tables.specs.declared.inodes.Inode.{Inode}
-use Rattle.fs_machine.specs.Steps.{State}
+use Rattle.fs_machine.specs.Steps.{State, Down, Freed}
 use Rattle.fs_machine.specs.Machines.{P}
 use Rattle.fs_machine.specs.Tied.{IsOwnInode}
 use Rattle.inode_table.specs.Programs.{record_of, store}
@@ -19,7 +19,6 @@ use Rattle.inode_table.specs.NewInodes.{new_inode}
 use Rattle.inode_table.specs.NewMachines.{new_of, NewFits}
 use Rattle.inode_table.specs.declared.new_inode.Made.{Made}
 use Rattle.inode_table.specs.declared.new_inode.Made.TheVariants as made
-use Rattle.inode_data.specs.Freeing.{drop_reference}
 use Rattle.inode_data.specs.Writing.{Written, write_part}
 use Rattle.inode_data.specs.PartWriting.{write_of, writer_of, WriteFits}
 use Rattle.directory.specs.Entering.{EnteredState, enter, enter_of, enterer_of, EnterFits}
@@ -95,7 +94,7 @@ module _ (sizes : Super) where
 
   -- what is claimed is another inode than the directory, which isn't free
   abbrev pub made_on : Sort → Name → Inode → Made → P NamedState
-  made_on kind e v (made.Inode n) = if n == v.number then bind (drop_reference sizes n) (λ _. Ret (Lacks v fulls.MemInodes)) else bind (take_inode sizes.inodestart n) (link_new kind e v)
+  made_on kind e v (made.Inode n) = if n == v.number then Do (Down (Freed n)) unmarked (λ _. Ret (Lacks v fulls.MemInodes)) else bind (take_inode sizes.inodestart n) (link_new kind e v)
   made_on kind e v made.NoPlace = Ret (Lacks v fulls.MemInodes)
   made_on kind e v made.NoInode = Ret (Lacks v fulls.DiskInodes)
 

@@ -280,11 +280,10 @@ fn claimed(making: Making, reference: Reference) -> Make
     if reference.number() == making.parent.inode.value().number {
         let Making {
             parent,
-            sizes,
+            sizes: _,
             sort: _,
         } = making;
-        let give = GiveUp::drop_alone(reference, &sizes);
-        Make::Giving(parent, Full::MemInodes, give)
+        Make::Giving(parent, Full::MemInodes, GiveUp::drop_beside(reference))
     } else {
         let take = TakeInode::new(making.sizes.inodestart, reference);
         Make::Taking(making, take)
