@@ -1,17 +1,15 @@
 -- The calls on blocks, and the runs of a world, take few steps.
-use Rattle.std.proofs.Common.{◌≡◌, ◌≤◌, ℕ, Bool, true, List, [], ◌∷◌, refl, sym, ◌∙◌, ap, subst}
+use Rattle.std.proofs.Common.{◌≡◌, ◌≤◌, ℕ, Bool}
 use Rattle.fs_layout.specs.declared.superblock.Super.{Super}
 use Rattle.fs_layout.specs.Recovered.{sizes_of}
-use Rattle.plain_tree.specs.declared.answer.Reply.{Reply}
 use Rattle.plain_tree.specs.declared.call.Call.{Call}
 use Rattle.plain_tree.specs.Tree.{put}
 use Rattle.tree_laws.proofs.Maps.{and_true}
-use Rattle.atomic_programs.specs.Calls.{Theory, Begins, Event as EventOf, AllHonest, fresh, outcomes}
+use Rattle.atomic_programs.specs.Calls.{Theory, Begins, fresh}
 use Rattle.atomic_programs.specs.Joined.{Both}
 use Rattle.atomic_programs.specs.Lowered.{began_to}
 use Rattle.atomic_programs.proofs.Explains.{Keeps-fresh}
 use Rattle.atomic_programs.proofs.Lowered.{begun_both}
-use Rattle.fs_machine.specs.LogPart.{Outside}
 use Rattle.inode_machine.specs.World as above
 use Rattle.inode_machine.specs.Programs.{limit}
 use Rattle.inode_machine.specs.Theory.{is_covered}

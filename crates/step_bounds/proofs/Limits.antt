@@ -1,11 +1,11 @@
 -- No call that may start has a limit above a million steps.
-use Rattle.std.proofs.Common.{◌≡◌, ◌≤◌, ◌+◌, ◌-◌, ◌*◌, ◌/◌, ◌==◌, ℕ, Bool, true, false, not, nat_lt, if◌then◌else◌, cond, List, [], ◌∷◌, ◌++◌, length, filter, map, take, Option, Some, None, refl, ◌∙◌, arith, inl, inr, div-mul-le_self}
+use Rattle.std.proofs.Common.{◌≡◌, ◌≤◌, ◌+◌, ◌-◌, ◌*◌, ◌/◌, ◌==◌, ℕ, Bool, true, false, not, nat_lt, if◌then◌else◌, cond, List, [], ◌∷◌, ◌++◌, length, filter, take, Some, None, refl, arith, inl, inr, div-mul-le_self}
 use Rattle.std.proofs.lemmas.Bool.Decides.{nat_tests}
 use Rattle.std.proofs.lemmas.List.{length-map}
 use Rattle.plain_tree.specs.declared.call.Call.{Call}
 use Rattle.plain_tree.specs.declared.call.Call.TheVariants as calls
 use Rattle.plain_tree.specs.Calls.{piece_count}
-use Rattle.plain_tree.specs.Tree.{Name, elements, is_empty, pieces}
+use Rattle.plain_tree.specs.Tree.{elements, is_empty, pieces}
 use Rattle.plain_tree.specs.Widths.{name_width}
 use Rattle.tree_laws.proofs.Maps.{either}
 use Rattle.inode_machine.specs.Exec.{is_nothing}

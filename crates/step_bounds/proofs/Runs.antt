@@ -1,10 +1,10 @@
 -- A run of a mounted world takes few steps.
-use Rattle.std.proofs.Common.{◌≡◌, ◌≤◌, ℕ, suc, nat_eq, Bool, true, false, if◌then◌else◌, List, [], ◌∷◌, refl, sym, ◌∙◌, ap, subst}
+use Rattle.std.proofs.Common.{◌≡◌, ℕ, nat_eq, if◌then◌else◌, List, [], ◌∷◌, refl, sym, ◌∙◌, ap, subst}
 use Rattle.fs_layout.specs.declared.superblock.Super.{Super}
 use Rattle.fs_layout.specs.Recovered.{sizes_of}
 use Rattle.plain_tree.specs.declared.answer.Reply.{Reply}
 use Rattle.plain_tree.specs.declared.call.Call.{Call}
-use Rattle.atomic_programs.specs.Calls.{Theory, State, Event as EventOf, Start, Step, Outcome as OutcomeOf, Started, Refused, WasIdle, DidWait, DidRun, DidEnd, DidStop, WasStopped, Came as CameOf, hart_of, AllHonest, asked, all_asked, fresh, makes, next, outcomes}
+use Rattle.atomic_programs.specs.Calls.{Theory, State, Event as EventOf, Start, Step, Outcome as OutcomeOf, Started, Refused, WasIdle, DidWait, DidRun, DidEnd, DidStop, WasStopped, Came as CameOf, hart_of, AllHonest, asked, all_asked, fresh, next, outcomes}
 use Rattle.atomic_programs.specs.Plain.{Code, PlainMade, by_kind, all_by_kind, erase, plain_outcomes}
 use Rattle.atomic_programs.proofs.Erased.{erase-makes, erase-outcomes}
 use Rattle.atomic_programs.proofs.Reached.{honest_event}
