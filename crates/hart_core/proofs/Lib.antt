@@ -3,6 +3,7 @@ pub mod Beginning
 pub mod Stepping
 pub mod Mounted
 pub mod Refusals
+pub mod Lasting
 pub mod Worlds
 pub mod Resting
 pub mod Calming
