@@ -9,3 +9,7 @@ pub mod Resting
 pub mod Calming
 pub mod Histories
 pub mod Keeping
+pub mod Counts
+pub mod Returning
+pub mod Storing
+pub mod Stopping
