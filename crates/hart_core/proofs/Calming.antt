@@ -7,9 +7,11 @@ use Rattle.plain_tree.specs.declared.call.Call.{Call}
 use Rattle.plain_tree.specs.Calls.{call_climbs}
 use Rattle.plain_tree.specs.Explains.{Shown}
 use Rattle.plain_tree.specs.Explains.Shown.{Started as Begun, Replied, Other}
+use Rattle.group_log.specs.declared.marks.Marks.{Marks}
 use Rattle.atomic_programs.specs.Prog.{Ret, Do, Did, Waits, Ran, Stops}
 use Rattle.atomic_programs.specs.Logic.{P, Answered, own}
 use Rattle.atomic_programs.specs.Calls.{Theory, Began, Refuses, Begins, Run, State, Event, Start, Step, Made, Refused, WasIdle, HonestStep, IsHonest, AllHonest, changed, told, all_told, unchanged, moved, tried, step_prog, step_unless, step_run, begun, start_run, busy_in, makes, next, run}
+use Rattle.stops_on_blocks.specs.Marks.{noted}
 use Rattle.inode_machine.specs.MoveCalls.{Moving, theory_of, shown_by, climbs_at, NoneClimbs, StartsBy, Alone, shows}
 
 -- what holds of a call that was started
@@ -127,9 +129,10 @@ module _ (N : Moving) (g : ℕ) (refused : (call : Call) (busy : ℕ → Bool) (
     pub shown : shows N events s ≡ shows N es s
     pub climbs : AllStarted (λ h call. call_climbs call ≡ false) (shows N es s) → NoneClimbs events
     pub alone : (h : ℕ) → AllStarted (λ k call. k ≡ h) (shows N es s) → Alone h events
+    pub notes : (note : State L → State L → Marks → Marks) (m : Marks) → noted L note events s m ≡ noted L note es s m
 
   pub calmed : (es : List (Event Call N.Outside)) (s : State L) → s.running g ≡ None → Calmed es s
-  calmed [] s none = record { events = []; after = refl; honest = λ a. a; shown = refl; climbs = λ a. tt; alone = λ h a. tt }
+  calmed [] s none = record { events = []; after = refl; honest = λ a. a; shown = refl; climbs = λ a. tt; alone = λ h a. tt; notes = λ note m. refl }
   calmed (e ∷ es) s none =
       let c : Calms e s (makes L e s) = calm e s none in
       let rest : Calmed es (next L e s) = calmed es (next L e s) (stays_idle L g refused e s none) in
@@ -140,4 +143,5 @@ module _ (N : Moving) (g : ℕ) (refused : (call : Call) (busy : ℕ → Bool) (
         shown = (λ i. c.shown i ∷ shows N rest.events (c.after i)) ∙ ap (λ (z : List Shown). shown_by e (makes L e s).came ∷ z) rest.shown;
         climbs = λ a. (c.climbs a.0, rest.climbs a.1);
         alone = λ h a. (c.alone h a.0, rest.alone h a.1);
+        notes = λ note m. (λ i. noted L note rest.events (c.after i) (note s (c.after i) m)) ∙ rest.notes note (note s (next L e s) m);
       }

@@ -115,9 +115,13 @@ length_plain : (L : Theory) (C : Code L) (es : List (EventOf L.Call L.M.Outside)
 length_plain L C [] p = refl
 length_plain L C (e ∷ es) p = ap suc (length_plain L C es (plain_makes L C e p).after)
 
+pub long_history : {D : Type 0} (contents : D → List (List ℕ)) (failures : D → ℕ) (sizes : Super) (old new : HartsOf D) (events : List Event) (cs : List Came) (history : List (EventOf Call Outside)) → IsHistory contents failures sizes old events cs new history → length history ≡ length cs
+long_history contents failures sizes old new events cs history is =
+    sym (length_plain (block_calls sizes) (block_code sizes) history (calls_of contents failures sizes old)) ∙ ap length is.comes_to ∙ length_outcomes cs
+
 pub one_each : {D : Type 0} (contents : D → List (List ℕ)) (failures : D → ℕ) (sizes : Super) (old new : HartsOf D) (events : List Event) (cs : List Came) → HasHistory contents failures sizes old events cs new → length cs ≡ length events
 one_each contents failures sizes old new events cs h =
-    sym (length_outcomes cs) ∙ sym (ap length h.1.comes_to) ∙ length_plain (block_calls sizes) (block_code sizes) h.0 (calls_of contents failures sizes old) ∙ sym (length_asked h.0) ∙ ap length h.1.asks ∙ length_events events
+    sym (long_history contents failures sizes old new events cs h.0 h.1) ∙ sym (length_asked h.0) ∙ ap length h.1.asks ∙ length_events events
 
 -- ---- what events show of calls
 
@@ -185,7 +189,7 @@ module _ (sizes : Super) where
   shows_are [] s = refl
   shows_are (e ∷ es) s = λ i. kind_same e (makes (block_calls sizes) e s).came i ∷ shows_are es (next (block_calls sizes) e s) i
 
-  all_honest : (es : List (EventOf Call Outside)) (s : State (block_calls sizes)) → AllAnswer sizes es (erase (block_calls sizes) (block_code sizes) s) → AllHonest (block_calls sizes) es s
+  pub all_honest : (es : List (EventOf Call Outside)) (s : State (block_calls sizes)) → AllAnswer sizes es (erase (block_calls sizes) (block_code sizes) s) → AllHonest (block_calls sizes) es s
   all_honest [] s a = tt
   all_honest (e ∷ es) s a = (
     honest_event (block_calls sizes) (block_code sizes) (is_code sizes) e s a.0,
@@ -193,7 +197,7 @@ module _ (sizes : Super) where
   )
 
   -- there are eight harts
-  none_past : (call : Call) (busy : ℕ → Bool) (w u : Both World above.World) → (block_calls sizes).start 8 call busy w ≡ Begins u → ⊥
+  pub none_past : (call : Call) (busy : ℕ → Bool) (w u : Both World above.World) → (block_calls sizes).start 8 call busy w ≡ Begins u → ⊥
   none_past call busy w u e =
       let t : World = record (w.real) { children = put w.real.children 8 (child_of call) } in
       let b = begun_both (began_to w.seen (served_calls.start 8 call busy w.seen)) (begins sizes 8 call busy w.real) u e in
@@ -248,7 +252,7 @@ module _ {D : Type 0} (contents : D → List (List ℕ)) (failures : D → ℕ) 
   start = fresh L (first disk count)
 
   module _ (events : List Event) (cs : List Came) (new : HartsOf D) (history : List (EventOf Call Outside)) (is : IsHistory contents failures (sizes_of disk) w events cs new history) (clean : L.M.Clean (run L history start).world) where
-    shown_is : shows (block_moves (sizes_of disk)) history start ≡ all_shown events cs
+    pub shown_is : shows (block_moves (sizes_of disk)) history start ≡ all_shown events cs
     shown_is =
         shows_are (sizes_of disk) history start
         ∙ (λ i. zipped (is.asks i) ((sym (erase-outcomes L (block_code (sizes_of disk)) (is_code (sizes_of disk)) history start) ∙ ap (plain_outcomes L (block_code (sizes_of disk)) history) (rests_erased contents failures device w rests) ∙ is.comes_to) i))
@@ -257,13 +261,13 @@ module _ {D : Type 0} (contents : D → List (List ℕ)) (failures : D → ℕ) 
     honest : AllHonest L history start
     honest = all_honest (sizes_of disk) history start (subst (AllAnswer (sizes_of disk) history) (sym (rests_erased contents failures device w rests)) is.answers)
 
-    calm : Calmed (block_moves (sizes_of disk)) 8 (none_past (sizes_of disk)) Passes history start
+    pub calm : Calmed (block_moves (sizes_of disk)) 8 (none_past (sizes_of disk)) Passes history start
     calm = calmed (block_moves (sizes_of disk)) 8 (none_past (sizes_of disk)) Passes history start refl
 
-    runs : RunsOn disk count calm.events
+    pub runs : RunsOn disk count calm.events
     runs = record { mountable = mountable contents failures device w rests; honest = calm.honest honest; clean = subst (λ (s : State L). L.M.Clean s.world) (sym calm.after) clean }
 
-    started : (Q : ℕ → Call → Type 0) → All (λ (c : TracedCall). Q c.hart c.call) (trace_in events cs).calls → AllStarted Q (shows (block_moves (sizes_of disk)) history start)
+    pub started : (Q : ℕ → Call → Type 0) → All (λ (c : TracedCall). Q c.hart c.call) (trace_in events cs).calls → AllStarted Q (shows (block_moves (sizes_of disk)) history start)
     started Q a = subst (AllStarted Q) (sym shown_is) (started_in Q (all_shown events cs) no_calls a).1
 
     one : NoneClimbs (trace_in events cs) ⊎ OneHart (trace_in events cs) → HasOneHistory (block_moves (sizes_of disk)) (tree_in disk) (first disk count) calm.events

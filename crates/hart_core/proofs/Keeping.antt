@@ -5,7 +5,7 @@ use Rattle.buffer_cache.specs.Limits.{hart_count}
 use Rattle.atomic_programs.specs.Calls.{Theory, Run, State}
 use Rattle.atomic_programs.specs.Explained.{Explained, Holds}
 use Rattle.atomic_programs.specs.Machines.{program_at}
-use Rattle.atomic_programs.specs.Plain.{Code, Plain, prog_of}
+use Rattle.atomic_programs.specs.Plain.{Code, Plain, SoundPlain, prog_of}
 use Rattle.atomic_programs.proofs.Reached.{sound_explained}
 use Rattle.fs_machine.specs.LogPart.{LogPart}
 use Rattle.fs_machine.specs.Steps as steps
@@ -16,7 +16,8 @@ use Rattle.calls_on_blocks.specs.Theory.{block_calls, block_code}
 use Rattle.calls_on_blocks.proofs.Lawful.{lawful}
 use Rattle.hart_core.specs.Harts.{HartsOf, shared_of}
 use Rattle.hart_core.specs.Promised.{HasNothing, NoneJoined, ShowsImage, IdleHartsHaveNothing, QuietBlocksAreAnImage}
-use Rattle.hart_core.specs.Worlds.{IsWorld}
+use Rattle.hart_core.specs.Worlds.{IsWorld, calls_of}
+use Rattle.hart_core.proofs.Lasting.{world_sound}
 
 none_of : (L : Theory) (C : Code L) (r : Option (Run L)) → prog_of L C r ≡ None → r ≡ None
 none_of L C None e = refl
@@ -29,20 +30,23 @@ module _ {D : Type 0} (contents : D → List (List ℕ)) (failures : D → ℕ) 
   abbrev C : Code L
   C = block_code sizes
 
-  abbrev state : State L
-  state = is.sound.state
+  abbrev sound : SoundPlain L C (calls_of contents failures sizes w)
+  sound = world_sound contents failures sizes w is
 
-  told : Explained L (L.M.tree is.sound.sound.first) state
-  told = sound_explained L (lawful sizes) state is.sound.sound
+  abbrev state : State L
+  state = sound.state
+
+  told : Explained L (L.M.tree sound.sound.first) state
+  told = sound_explained L (lawful sizes) state sound.sound
 
   same : ◌≡◌ {A = steps.State} state.world.real.blocks.state (shared_of contents failures w)
-  same = ap (λ (p : Plain L C). p.shared.state) is.sound.is
+  same = ap (λ (p : Plain L C). p.shared.state) sound.is
 
   no_call : (h : ℕ) → get_or w.calls h None ≡ None → state.running h ≡ None
-  no_call h e = none_of L C (state.running h) (ap (λ (p : Plain L C). p.running h) is.sound.is ∙ ap (program_at running_of) e)
+  no_call h e = none_of L C (state.running h) (ap (λ (p : Plain L C). p.running h) sound.is ∙ ap (program_at running_of) e)
 
   holds : w.stopped ≡ false → L.M.Inv state.world
-  holds on = subst (λ (b : Bool). Holds L b state.world) (ap (λ (p : Plain L C). p.stopped) is.sound.is ∙ on) told.holds
+  holds on = subst (λ (b : Bool). Holds L b state.world) (ap (λ (p : Plain L C). p.stopped) sound.is ∙ on) told.holds
 
   pub idle_harts_have_nothing : IdleHartsHaveNothing contents failures w
   idle_harts_have_nothing h e =

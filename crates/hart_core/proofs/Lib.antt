@@ -3,8 +3,13 @@ pub mod Beginning
 pub mod Stepping
 pub mod Mounted
 pub mod Refusals
+pub mod Lasting
 pub mod Worlds
 pub mod Resting
 pub mod Calming
 pub mod Histories
 pub mod Keeping
+pub mod Counts
+pub mod Returning
+pub mod Storing
+pub mod Stopping

@@ -1,5 +1,5 @@
 -- A mounted world is one.
-use Rattle.std.proofs.Common.{◌≡◌, ℕ, List, [], Option, None, refl, sym, ◌∙◌, ap, subst, get_or, replicate, arith}
+use Rattle.std.proofs.Common.{◌≡◌, ℕ, List, [], Option, None, sym, ◌∙◌, ap, subst, get_or, replicate, arith}
 use Rattle.fs_layout.specs.declared.superblock.Super.{Super}
 use Rattle.fs_layout.specs.Recovered.{sizes_of}
 use Rattle.buffer_cache.specs.Limits.{buffer_count, hart_count}
@@ -11,8 +11,9 @@ use Rattle.image_tree.specs.Damage.{IsWellFormed}
 use Rattle.atomic_programs.specs.Calls.{fresh as fresh_state}
 use Rattle.atomic_programs.specs.Joined.{Both}
 use Rattle.atomic_programs.specs.Machines.{program_at}
-use Rattle.atomic_programs.specs.Plain.{SoundPlain, erase}
-use Rattle.atomic_programs.proofs.Reached.{sound_fresh}
+use Rattle.atomic_programs.specs.Plain.{erase}
+use Rattle.atomic_programs.specs.Shown.{CameTo}
+use Rattle.atomic_programs.proofs.Reached.{came_none}
 use Rattle.fs_machine.specs.LogPart.{part_of}
 use Rattle.fs_machine.specs.Machines.{P}
 use Rattle.syscalls.specs.declared.running.Running.{Running}
@@ -20,11 +21,10 @@ use Rattle.syscalls.specs.Machines.{running_of}
 use Rattle.syscalls.specs.Making.{IsSized}
 use Rattle.plain_tree.specs.declared.answer.Reply.{Reply}
 use Rattle.inode_machine.specs.World as above
-use Rattle.inodes_on_blocks.specs.Mounted.{IsMountable, ShowsItsTree, first_world, mounted, resting_log}
-use Rattle.inodes_on_blocks.proofs.Mounted.{mounts_show_their_trees}
+use Rattle.inodes_on_blocks.specs.Mounted.{IsMountable, first_world, mounted, resting_log}
 use Rattle.calls_on_blocks.specs.Layer.{World}
 use Rattle.calls_on_blocks.specs.Theory.{block_calls, block_code}
-use Rattle.calls_on_blocks.proofs.History.{first_holds, first_idle}
+use Rattle.calls_on_blocks.proofs.Lawful.{is_code}
 use Rattle.hart_core.specs.Harts.{HartsOf, children_in}
 use Rattle.hart_core.specs.Mounting.{Rests}
 use Rattle.hart_core.specs.Worlds.{IsWorld, calls_of}
@@ -57,9 +57,6 @@ module _ {D : Type 0} (contents : D → List (List ℕ)) (failures : D → ℕ) 
     empty = rests.disk.empty;
   }
 
-  shows : ShowsItsTree disk count
-  shows = mounts_show_their_trees disk count mountable
-
   -- the first world of the calls
   abbrev pub first : Both World above.World
   first = record { real = record { blocks = mounted disk count; children = λ h. None }; seen = first_world disk }
@@ -79,16 +76,18 @@ module _ {D : Type 0} (contents : D → List (List ℕ)) (failures : D → ℕ) 
   pub rests_erased : erase (block_calls (sizes_of disk)) (block_code (sizes_of disk)) (fresh_state (block_calls (sizes_of disk)) first) ≡ calls_of contents failures (sizes_of disk) w
   rests_erased = λ i. record { shared = record { state = record { log = log_same i; tables = sym rests.tables i }; children = λ h. no_child h i }; stopped = sym rests.runs i; running = λ h. none_runs h i }
 
-  pub rests_first : (s : Super) → s ≡ sizes_of disk → SoundPlain (block_calls s) (block_code s) (calls_of contents failures s w)
-  rests_first s e =
-      subst (λ (z : Super). SoundPlain (block_calls z) (block_code z) (calls_of contents failures z w)) (sym e)
-      (record {
-        state = fresh_state (block_calls (sizes_of disk)) first;
-        sound = sound_fresh (block_calls (sizes_of disk)) first (first_holds disk count shows) (first_idle disk count shows);
-        is = rests_erased;
-      })
-
   pub world_mounted : (s : Super) → s ≡ sizes_of (contents device) → IsWorld contents failures s w
   world_mounted s e =
       let same : s ≡ sizes_of disk = e ∙ sym rests.disk.sizes in
-      record { sound = rests_first s same; sized = subst IsSized (sym same) (sized disk rests.disk.well) }
+      record {
+        disk = disk;
+        count = count;
+        mountable = mountable;
+        sizes_are = same;
+        asks = [];
+        came = [];
+        events =
+            subst (λ (z : Super). CameTo (block_calls z) (block_code z) (fresh_state (block_calls z) first) [] [] (calls_of contents failures z w)) (sym same)
+            (came_none (block_calls (sizes_of disk)) (block_code (sizes_of disk)) (is_code (sizes_of disk)) (fresh_state (block_calls (sizes_of disk)) first) (calls_of contents failures (sizes_of disk) w) rests_erased);
+        sized = subst IsSized (sym same) (sized disk rests.disk.well);
+      }

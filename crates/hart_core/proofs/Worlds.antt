@@ -12,9 +12,9 @@ use Rattle.atomic_programs.specs.Calls.{Start, Step, Outcome as OutcomeOf, Start
 use Rattle.atomic_programs.specs.Plain.{Plain, PlainMade, MayOf, PlainHonestStep, PlainHonest, SoundPlain, plain_step, plain_unless, plain_prog, plain_tried, plain_moved, plain_start, plain_begun, plain_makes}
 use Rattle.atomic_programs.specs.Machines.{program_at}
 use Rattle.atomic_programs.specs.Tables.{plain_at}
-use Rattle.atomic_programs.proofs.Reached.{sound_event, sound_may}
+use Rattle.atomic_programs.proofs.Reached.{sound_may}
 use Rattle.fs_machine.specs.declared.kind.Kind.{Kind}
-use Rattle.fs_machine.specs.LogPart.{Outside}
+use Rattle.fs_machine.specs.LogPart.{Outside, Passes}
 use Rattle.fs_machine.specs.Machines.{P}
 use Rattle.fs_machine.specs.Steps as steps
 use Rattle.fs_machine.specs.Steps.{State, Op}
@@ -36,6 +36,7 @@ use Rattle.hart_core.specs.Worlds.{Makes, IsWorld, calls_of}
 use Rattle.hart_core.specs.Starts.{fault_of, is_child, others_refusal, refusal_of, reason_of, IsOfBytes}
 use Rattle.hart_core.proofs.Stepping.{plain_same}
 use Rattle.hart_core.proofs.Refusals.{reason_for, reasons_same, now}
+use Rattle.hart_core.proofs.Lasting.{world_more, world_sound}
 
 module _ (sizes : Super) (children : ℕ → Option ℕ) where
   -- the state with these children
@@ -118,13 +119,6 @@ module _ (sizes : Super) (children : ℕ → Option ℕ) where
 
   pub honest_in : (h : ℕ) (x : Outside) (p : Plain blocks code) → PlainHonest blocks code (Step h x) p → PlainHonest (block_calls sizes) (block_code sizes) (Step h x) (as_calls p)
   honest_in h x p honest = honest_as h x p.shared p.stopped (p.running h) honest
-
-  -- ---- what a world keeps
-
-  pub sound_step : (h : ℕ) (x : Outside) (p q : Plain blocks code) (r : Outcome) → SoundPlain (block_calls sizes) (block_code sizes) (as_calls p) → PlainHonest blocks code (Step h x) p → plain_makes blocks code (Step h x) p ≡ record { came = outcome_of r; after = q }
-      → SoundPlain (block_calls sizes) (block_code sizes) (as_calls q)
-  sound_step h x p q r sound honest makes =
-      sound_event (block_calls sizes) (block_code sizes) (is_code sizes) (Step h x) (as_calls p) (record { came = outcome_of r; after = as_calls q }) sound (honest_in h x p honest) (step_in h x p q r makes)
 
   -- ---- a start
 
@@ -274,16 +268,13 @@ module _ {D : Type 0} (contents : D → List (List ℕ)) (failures : D → ℕ) 
   made_refused why e = start_refused contents failures sizes w long h call bytes why e
 
   pub world_started : (new : HartsOf D) → IsWorld contents failures sizes w → Makes contents failures sizes (Start h call) w Started new → IsWorld contents failures sizes new
-  world_started new is makes = record {
-    sound = sound_event (block_calls sizes) (block_code sizes) (is_code sizes) (Start h call) (calls_of contents failures sizes w) (record { came = Started; after = calls_of contents failures sizes new }) is.sound tt makes;
-    sized = is.sized;
-  }
+  world_started new is makes = world_more contents failures sizes w is (Start h call) Passes Started new tt makes
 
 -- ---- a step in code
 
 module _ {D : Type 0} (contents : D → List (List ℕ)) (failures : D → ℕ) (sizes : Super) (w : HartsOf D) (is : IsWorld contents failures sizes w) (h : ℕ) where
   pub may_here : MayStep h (programs_of contents failures w)
-  may_here = may_in sizes (children_in w.children) h (programs_of contents failures w) is.sound
+  may_here = may_in sizes (children_in w.children) h (programs_of contents failures w) (world_sound contents failures sizes w is)
 
   -- the same children
   as_new : (new : HartsOf D) → new.children ≡ w.children → as_calls sizes (children_in w.children) (programs_of contents failures new) ≡ calls_of contents failures sizes new
@@ -297,7 +288,5 @@ module _ {D : Type 0} (contents : D → List (List ℕ)) (failures : D → ℕ) 
 
   pub world_stepped : (x : Outside) (r : Outcome) (new : HartsOf D) → PlainHonest blocks code (Step h x) (programs_of contents failures w) → plain_makes blocks code (Step h x) (programs_of contents failures w) ≡ record { came = outcome_of r; after = programs_of contents failures new }
       → new.children ≡ w.children → IsWorld contents failures sizes new
-  world_stepped x r new honest makes children = record {
-    sound = subst (SoundPlain (block_calls sizes) (block_code sizes)) (as_new new children) (sound_step sizes (children_in w.children) h x (programs_of contents failures w) (programs_of contents failures new) r is.sound honest makes);
-    sized = is.sized;
-  }
+  world_stepped x r new honest makes children =
+      world_more contents failures sizes w is (Step h tt) x (outcome_of r) new (honest_in sizes (children_in w.children) h x (programs_of contents failures w) honest) (made_step x r new makes children)

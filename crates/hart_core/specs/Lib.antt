@@ -6,3 +6,4 @@ pub mod Worlds
 pub mod Events
 pub mod Runs
 pub mod Promised
+pub mod Stops

@@ -1,16 +1,20 @@
 -- What a world is to its callers, and what it keeps.
 use Rattle.std.specs.Prelude.{◌≡◌, ℕ, List}
 use Rattle.fs_layout.specs.declared.superblock.Super.{Super}
+use Rattle.fs_layout.specs.Recovered.{sizes_of}
 use Rattle.plain_tree.specs.declared.answer.Reply.{Reply}
 use Rattle.plain_tree.specs.declared.call.Call.{Call}
-use Rattle.atomic_programs.specs.Calls.{Event, Outcome}
-use Rattle.atomic_programs.specs.Plain.{Plain, PlainHonest, SoundPlain, plain_makes}
+use Rattle.atomic_programs.specs.Calls.{Event, Outcome, fresh}
+use Rattle.atomic_programs.specs.Plain.{Plain, PlainHonest, plain_makes}
+use Rattle.atomic_programs.specs.Shown.{CameTo}
 use Rattle.atomic_programs.specs.Tables.{plain_at}
 use Rattle.fs_machine.specs.declared.kind.Kind.{Kind}
 use Rattle.fs_machine.specs.LogPart.{Outside}
 use Rattle.syscalls.specs.Machines.{running_of}
 use Rattle.syscalls.specs.Making.{IsSized}
 use Rattle.inode_machine.specs.Theory.{Refusal}
+use Rattle.inodes_on_blocks.specs.Mounted.{IsMountable}
+use Rattle.calls_on_blocks.specs.History.{first}
 use Rattle.calls_on_blocks.specs.Theory.{block_calls, block_code}
 use Rattle.hart_core.specs.Harts.{HartsOf, children_in, shared_of}
 
@@ -32,7 +36,14 @@ module _ {D : Type 0} (contents : D → List (List ℕ)) (failures : D → ℕ) 
   abbrev pub Answers : Event Call Outside → HartsOf D → Type 0
   Answers event old = PlainHonest (block_calls sizes) (block_code sizes) event (calls_of old)
 
-  -- The harts are as some list of events leaves them, of a world at rest, on a disk of sizes on which calls run.
+  -- The harts are as some list of events leaves them, of a disk that was mounted, whose sizes these are; and calls run on those.
   pub record IsWorld (w : HartsOf D) : Type 0 where
-    pub sound : SoundPlain (block_calls sizes) (block_code sizes) (calls_of w)
+    pub disk : List (List ℕ)
+    -- so often the device had failed then
+    pub count : ℕ
+    pub mountable : IsMountable disk
+    pub sizes_are : sizes ≡ sizes_of disk
+    pub asks : List (Event Call (Unit {0}))
+    pub came : List (Outcome Kind Reply Refusal)
+    pub events : CameTo (block_calls sizes) (block_code sizes) (fresh (block_calls sizes) (first disk count)) asks came (calls_of w)
     pub sized : IsSized sizes

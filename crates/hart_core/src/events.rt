@@ -27,10 +27,14 @@ pub enum Came {
     Stepped(Outcome),
 }
 
-/// A world after a list of events, and what each of them came to, in their order.
+/// A world after a list of events, what each of them came to, in their order, and how many of them a stop leaves.
 pub struct Run<D: Device> {
     pub world: World<D>,
     pub outcomes: Vec<Came>,
+    /// The leave that began the commit of the last group whose head was written.
+    pub cut: Option<u64>,
+    /// The leave that began the commit in which the device failed to write the group's head: it may stand or not.
+    pub doubt: Option<u64>,
 }
 
 impl<D: Device> World<D> {

@@ -3,6 +3,7 @@ ghost use Rattle.std.specs.Prelude.{◌≡◌, ◌<◌, ◌&&◌, false, Some, N
 ghost use Rattle.atomic_programs.specs.Calls.{Start as StartOf, Step as StepOf, Started};
 ghost use Rattle.atomic_programs.specs.Plain.{plain_makes, PlainHonest, PlainHonestStep, MayOf, hart_step};
 ghost use Rattle.atomic_programs.specs.Machines.{program_at};
+ghost use Rattle.group_log.specs.Phases.{is_point};
 ghost use Rattle.fs_machine.specs.Steps.{state_of};
 ghost use Rattle.fs_machine.specs.Machines.{CallsOnce};
 ghost use Rattle.fs_machine.specs.Tied.{LeavesTied};
@@ -18,6 +19,7 @@ use block_device::Device;
 use buffer_cache::HARTS;
 use fs_machine::{Core, RetiredCore};
 use fs_tables::DESCRIPTORS;
+use group_log::Phase;
 use std::marker::Model;
 use syscalls::Running;
 
@@ -216,6 +218,20 @@ impl<D: Device> Harts<D> {
         put_back(&mut self.calls, hart, doing);
         self.stopped = stopped;
         outcome
+    }
+
+    /// Where the log's commit is.
+    pub fn phase(&self) -> Phase
+        ensures { result ≡ self.now.core.log.phase }
+    {
+        self.core.log.phase()
+    }
+
+    /// Whether the commit's next write is that of the head that names the group.
+    pub fn is_at_point(&self) -> bool
+        ensures { result ≡ is_point (length self.now.core.log.group) self.now.core.log.phase }
+    {
+        self.core.log.is_at_point()
     }
 
     /// Ends it at any moment, in mid-call too, without a call of the device, and gives the device.

@@ -7,6 +7,7 @@
 
 mod events;
 mod harts;
+mod marks;
 mod mount;
 mod outcome;
 mod runs;

@@ -2,10 +2,13 @@
 ghost use Rattle.std.specs.Prelude.{◌≡◌, ◌≤◌, IfOk, IfErr, length, []};
 ghost use Rattle.std.specs.Vec.{vec_capacity};
 ghost use Rattle.hart_core.specs.Runs.{HasHistory, OneHistory};
+ghost use Rattle.hart_core.specs.Stops.{HasMarks, RunLeavesABeginning};
 
 use crate::events::{Came, Event, Run};
+use crate::marks::{doubt_of, last_of, no_marks, note};
 use crate::world::World;
 use block_device::Device;
+use group_log::Marks;
 use plain_tree::NoMemory;
 use std::alloc::{AllocError, Global};
 
@@ -18,24 +21,45 @@ fn copies(alloc: Global, events: &[Event]) -> Result<Vec<Event>, AllocError>
     Ok(copies)
 }
 
+// A world after events, what they came to, and the marks.
+struct Ran<D: Device> {
+    world: World<D>,
+    outcomes: Vec<Came>,
+    marks: Marks,
+}
+
 // These events, one after the other. It takes no memory.
-fn run_all<D: Device>(world: World<D>, events: Vec<Event>, room: Vec<Came>) -> Run<D>
+fn run_all<D: Device>(world: World<D>, events: Vec<Event>, room: Vec<Came>) -> Ran<D>
     requires empty { room.items ≡ [] }
     requires room { length events.items ≤ vec_capacity room }
-    ensures history { HasHistory D.contents D.failures world.sizes world.harts events.items result.outcomes.items result.world.harts }
+    ensures history { HasMarks D.contents D.failures world.sizes world.harts events.items result.outcomes.items result.world.harts result.marks }
     ensures each { length result.outcomes.items ≡ length events.items }
     ensures sizes { result.world.sizes ≡ world.sizes }
 {
     let mut world = world;
     let mut outcomes = room;
+    let mut marks = no_marks();
     for event in events {
+        let before = world.phase();
+        let at_point = world.is_at_point();
         let came = world.event(event);
         match outcomes.push(came) {
             Ok(()) => {}
             Err(_) => unreachable!(),
         }
+        marks = note(
+            marks,
+            outcomes.len() as u64,
+            before,
+            at_point,
+            world.phase(),
+        );
     }
-    Run { world, outcomes }
+    Ran {
+        world,
+        outcomes,
+        marks,
+    }
 }
 
 /// These events, one after the other, and what each came to. It copies all calls and takes room for all outcomes first; where memory
@@ -44,7 +68,8 @@ fn run_all<D: Device>(world: World<D>, events: Vec<Event>, room: Vec<Came>) -> R
 /// Each event makes of the world what `World::event` says: so the run has a history, of what the device answered in each step. Where
 /// the world was mounted, and no step found no room, also of a call that hasn't replied yet, one list of tree steps explains the
 /// trace of these events and outcomes, from the image's tree: as long as no path of a call that was started has the element "..",
-/// and where one hart alone has started calls for any paths.
+/// and where one hart alone has started calls for any paths. The tree on the disk, as recovery sees it, is then what has names in
+/// the tree after a beginning of that list: the steps of the events up to the cut, or up to the doubt.
 pub fn run<D: Device>(
     alloc: Global,
     world: World<D>,
@@ -52,6 +77,7 @@ pub fn run<D: Device>(
 ) -> Result<Run<D>, (World<D>, NoMemory)>
     ensures history { IfOk result (λ r. HasHistory D.contents D.failures world.sizes world.harts events.now r.outcomes.items r.world.harts) }
     ensures explained { IfOk result (λ r. OneHistory D.contents D.failures world events.now r.outcomes.items r.world.harts) }
+    ensures stops { IfOk result (λ r. RunLeavesABeginning D.contents D.failures world events.now r.outcomes.items r.world.harts r.cut r.doubt) }
     ensures each { IfOk result (λ r. length r.outcomes.items ≡ length events.now) }
     ensures sizes { IfOk result (λ r. r.world.sizes ≡ world.sizes) }
     ensures err { IfErr result (λ e. e.0 ≡ world) }
@@ -60,7 +86,19 @@ pub fn run<D: Device>(
         return Err((world, NoMemory));
     };
     match Vec::with_capacity(alloc, copies.len()) {
-        Ok(room) => Ok(run_all(world, copies, room)),
+        Ok(room) => {
+            let Ran {
+                world,
+                outcomes,
+                marks,
+            } = run_all(world, copies, room);
+            Ok(Run {
+                world,
+                outcomes,
+                cut: last_of(marks.cut),
+                doubt: doubt_of(marks.doubt),
+            })
+        }
         Err(AllocError) => Err((world, NoMemory)),
     }
 }

@@ -2,6 +2,7 @@
 ghost use Rattle.std.specs.Prelude.{◌≡◌, ℕ, IfOk, IfErr, None, length};
 ghost use Rattle.atomic_programs.specs.Calls.{Start as StartOf, Step as StepOf};
 ghost use Rattle.atomic_programs.specs.Prog.{plain};
+ghost use Rattle.group_log.specs.Phases.{is_point};
 ghost use Rattle.fs_machine.specs.Machines.{CallsOnce};
 ghost use Rattle.fs_machine.specs.Steps.{State};
 ghost use Rattle.syscalls.specs.Machines.{running_of, RunningFits};
@@ -23,6 +24,7 @@ use crate::starts::{StartRefused, find_child, find_fault};
 use block_device::Device;
 use buffer_cache::HARTS;
 use fs_layout::Super;
+use group_log::Phase;
 use image_tree::MountFault;
 use plain_tree::{Bytes, Call};
 use std::alloc::Global;
@@ -184,9 +186,25 @@ impl<D: Device> World<D> {
         self.harts.step(hart)
     }
 
-    /// Ends it at any moment, in mid-call too, without a call of the device, and gives the device.
+    /// Where the log's commit is.
+    pub(crate) fn phase(&self) -> Phase
+        ensures { result ≡ self.now.harts.core.log.phase }
+    {
+        self.harts.phase()
+    }
+
+    /// Whether the commit's next write is that of the head that names the group.
+    pub(crate) fn is_at_point(&self) -> bool
+        ensures { result ≡ is_point (length self.now.harts.core.log.group) self.now.harts.core.log.phase }
+    {
+        self.harts.is_at_point()
+    }
+
+    /// Ends it at any moment, in mid-call or in the middle of a commit too, also after a failure of the device, without a call of the
+    /// device, and gives the device: its disk passes all checks as recovery sees it, so that it can be mounted again.
     pub fn unmount(self) -> D
-        ensures { result ≡ self.harts.core.log.cache.device }
+        ensures device { result ≡ self.harts.core.log.cache.device }
+        ensures well { IsWellFormed (D.contents result) }
     {
         let World { harts, sizes: _ } = self;
         harts.unmount()

@@ -1,8 +1,6 @@
 -- A stop leaves the tree after a beginning of the history.
-use Rattle.std.proofs.Common.{◌≡◌, ◌⊎◌, inl, inr, ℕ, zero, suc, ◌+◌, ◌≤◌, ◌<◌, Bool, true, false, List, [], ◌∷◌, ◌++◌, Option, Some, None, length, refl, sym, subst, ap, ◌∙◌, arith, append_assoc}
+use Rattle.std.proofs.Common.{◌≡◌, inl, inr, ℕ, ◌+◌, ◌≤◌, false, List, [], ◌∷◌, ◌++◌, length, sym, subst, arith, append_assoc}
 use Rattle.std.proofs.lemmas.List.{append-nil}
-use Rattle.fs_layout.specs.declared.superblock.Super.{Super}
-use Rattle.fs_layout.specs.Recovered.{sizes_of}
 use Rattle.plain_tree.specs.declared.call.Call.{Call}
 use Rattle.plain_tree.specs.declared.trace.Placed.{Placed}
 use Rattle.plain_tree.specs.Explains.{Chain, IsNamedPart, Rises, Shown}
@@ -17,13 +15,13 @@ use Rattle.tree_moves.proofs.History.{NeverClimbs, IsHart, MayStart, Apart, apar
 use Rattle.group_log.specs.declared.marks.Marks.{Marks}
 use Rattle.group_log.specs.CrashLaw.{Blocks, AgreeOutside}
 use Rattle.group_log.specs.Group.{joined}
-use Rattle.group_log.specs.Moves.{recovered_of, seen_of}
-use Rattle.group_log.specs.Stories.{RisesBy, no_marks, IsMarked}
+use Rattle.group_log.specs.Moves.{seen_of}
+use Rattle.group_log.specs.Stories.{RisesBy, no_marks}
 use Rattle.group_log.proofs.Stories.{beginning}
-use Rattle.atomic_programs.specs.Calls.{Theory, Event, State, AllHonest, IsHonest, fresh, makes, next, run, Sound}
+use Rattle.atomic_programs.specs.Calls.{Theory, Event, State, AllHonest, makes, next, run, Sound}
 use Rattle.atomic_programs.proofs.Reached.{sound_run}
 use Rattle.fs_machine.specs.LogPart.{Outside}
-use Rattle.inode_machine.specs.MoveCalls.{Moving, IsMoving, HasOneHistory, NoneClimbs, Alone, StartsBy, climbs_at, shown_by, shows}
+use Rattle.inode_machine.specs.MoveCalls.{Moving, IsMoving, NoneClimbs, Alone, StartsBy, climbs_at, shown_by, shows}
 use Rattle.inode_machine.proofs.MoveCalls.{Turns, clean_before}
 use Rattle.inodes_on_blocks.specs.Mounted.{IsMountable}
 use Rattle.calls_on_blocks.specs.History.{block_moves, first, RunsOn}
@@ -33,8 +31,8 @@ use Rattle.stops_on_blocks.specs.Stops.{LeavesABeginning, StopsLeaveABeginning, 
 use Rattle.stops_on_blocks.proofs.Moves.{itself, log_in}
 use Rattle.stops_on_blocks.proofs.Events.{next_now}
 use Rattle.stops_on_blocks.proofs.Following.{Followed, followed_on, event_of}
-use Rattle.stops_on_blocks.proofs.Histories.{Book, More, book_more, explains, first_book, leads, rises}
-use Rattle.stops_on_blocks.proofs.Stops.{T, sizes, stored_respects, itself_stored, quiet_stored, first_state, first_sound, first_followed, first_image, next_same}
+use Rattle.stops_on_blocks.proofs.Histories.{Book, book_more, explains, first_book, leads, rises}
+use Rattle.stops_on_blocks.proofs.Stops.{T, sizes, stored_respects, itself_stored, quiet_stored, first_state, first_followed, first_image, next_same}
 
 rises_so : (lo : ℕ) (list : List Placed) → Rises lo list → RisesBy event_of lo list
 unfolding Rises RisesBy

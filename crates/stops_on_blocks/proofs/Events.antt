@@ -7,11 +7,11 @@ use Rattle.plain_tree.specs.Tree.{put}
 use Rattle.group_log.specs.declared.commit.Progress.{Progress}
 use Rattle.group_log.specs.declared.log.Left.{Left}
 use Rattle.group_log.specs.declared.marks.Marks.{Marks}
-use Rattle.group_log.specs.Moves.{is_running, IsMove, IsCommitMove, begins_at}
+use Rattle.group_log.specs.Moves.{is_running, IsCommitMove, begins_at}
 use Rattle.group_log.specs.Stories.{after_leave, after_write}
 use Rattle.group_log.proofs.Moving.{never}
 use Rattle.atomic_programs.specs.Prog.{Ret, Do, Did, Waits, Ran, Stops, did_in, asks, OfNext}
-use Rattle.atomic_programs.specs.Logic.{Machine, P}
+use Rattle.atomic_programs.specs.Logic.{P}
 use Rattle.atomic_programs.specs.Calls.{Theory, Began, Refuses, Begins, Event, Start, Step, Run, State, HonestStep, IsHonest, busy_in, begun, moved, next, start_run, step_prog, step_run, step_unless, tried, Sound}
 use Rattle.atomic_programs.specs.Joined.{Both, both, seen_after, ActOf}
 use Rattle.atomic_programs.proofs.Explains.{may_make, sound_keeps}
@@ -26,7 +26,7 @@ use Rattle.calls_on_blocks.specs.Layer.{World, shared_of}
 use Rattle.calls_on_blocks.specs.Theory.{served_calls, child_of, begins, block_calls}
 use Rattle.calls_on_blocks.proofs.Lawful.{lawful}
 use Rattle.calls_on_blocks.proofs.Starting.{begun_here}
-use Rattle.atomic_programs.specs.Lowered.{began_both, began_to}
+use Rattle.atomic_programs.specs.Lowered.{began_to}
 use Rattle.atomic_programs.proofs.Lowered.{begun_both}
 use Rattle.stops_on_blocks.specs.Marks.{marks_by, marks_asked, marks_unless, marks_next, marks_told, at_point, log_at as log_of}
 use Rattle.stops_on_blocks.proofs.Moves.{itself, log_in, told_same, Goes, Moved, came_to, is_ran, op_goes, same_move}
@@ -77,7 +77,7 @@ module _ (sizes : Super) where
     ];
   }
 
-  moved_world : (h : ℕ) (s : State T) (r : Run T) (did : (op : steps.Op) × steps.Answer op) (ps : List (ℕ × T.M.Step)) (p : P T.M Reply) (w : Both World above.World) → (moved T h s r did ps p w).after.world ≡ w
+  pub moved_world : (h : ℕ) (s : State T) (r : Run T) (did : (op : steps.Op) × steps.Answer op) (ps : List (ℕ × T.M.Step)) (p : P T.M Reply) (w : Both World above.World) → (moved T h s r did ps p w).after.world ≡ w
   moved_world h s r did ps (Ret reply) w = refl
   moved_world h s r did ps (Do op m k) w = refl
 
@@ -86,7 +86,7 @@ module _ (sizes : Super) where
   moved_stopped h s r did ps (Do op m k) w = refl
 
   -- the worlds after an operation that ran
-  abbrev both_at : ℕ → (op : steps.Op) → (steps.Answer op → Option (ActOf machine)) → Both World above.World → steps.Answer op → steps.State → Both World above.World
+  abbrev pub both_at : ℕ → (op : steps.Op) → (steps.Answer op → Option (ActOf machine)) → Both World above.World → steps.Answer op → steps.State → Both World above.World
   both_at h op mark w a t =
       let o = below.owners_after h op w.real.blocks t in
       record {
@@ -123,7 +123,7 @@ module _ (sizes : Super) where
   unless_event h x s r m whole true is may honest = nothing_goes s _ m whole refl
   unless_event h x s r m whole false is may honest = prog_event h x s r r.prog m whole is (may is) honest
 
-  none_marks : (n h : ℕ) (x : Outside) (st : steps.State) (b : Bool) (m : Marks) → marks_unless sizes n h x st b None m ≡ m
+  pub none_marks : (n h : ℕ) (x : Outside) (st : steps.State) (b : Bool) (m : Marks) → marks_unless sizes n h x st b None m ≡ m
   none_marks n h x st true m = refl
   none_marks n h x st false m = refl
 

@@ -1,8 +1,6 @@
 -- The history of a run beside its log: a stop leaves the tree after a beginning of it.
-use Rattle.std.proofs.Common.{◌≡◌, ◌⊎◌, inl, inr, ℕ, zero, suc, ◌+◌, ◌≤◌, ◌<◌, Bool, true, false, List, [], ◌∷◌, ◌++◌, map, length, Option, Some, None, refl, sym, ◌∙◌, ap, subst, arith, append_assoc}
+use Rattle.std.proofs.Common.{◌≡◌, ℕ, suc, ◌+◌, List, [], ◌∷◌, ◌++◌, map, refl, sym, ◌∙◌, ap, subst, arith}
 use Rattle.std.specs.List.{AllByRecursion}
-use Rattle.fs_layout.specs.declared.superblock.Super.{Super}
-use Rattle.fs_layout.specs.Recovered.{sizes_of}
 use Rattle.plain_tree.specs.declared.call.Call.{Call}
 use Rattle.plain_tree.specs.declared.trace.Placed.{Placed}
 use Rattle.plain_tree.specs.declared.trace.Trace.{Trace}
@@ -17,13 +15,10 @@ use Rattle.tree_moves.proofs.Appended.{runs_more, runs_none, runs_one}
 use Rattle.tree_moves.proofs.Book.{AllBelow}
 use Rattle.tree_moves.proofs.Cut.{AllFrom, run_grew, run_below}
 use Rattle.tree_moves.proofs.History.{AllMayStart, MayStart, Apart, happens_trace, opened_ok, run_explained, run_ok}
-use Rattle.group_log.proofs.Stories.{all_map}
-use Rattle.atomic_programs.specs.Calls.{Theory, Event, State, AllHonest, IsHonest, fresh, makes, next, run, Sound}
+use Rattle.atomic_programs.specs.Calls.{Theory, Event, State, IsHonest, fresh, makes, next, Sound}
 use Rattle.atomic_programs.proofs.Explains.{sound_keeps}
-use Rattle.atomic_programs.proofs.Reached.{sound_run}
-use Rattle.fs_machine.specs.LogPart.{Outside}
-use Rattle.inode_machine.specs.MoveCalls.{Moving, IsMoving, shown_by, shows, theory_of}
-use Rattle.inode_machine.proofs.MoveCalls.{Beside, Turns, event_turns, clean_before}
+use Rattle.inode_machine.specs.MoveCalls.{Moving, IsMoving, shown_by, theory_of}
+use Rattle.inode_machine.proofs.MoveCalls.{Beside, Turns, event_turns}
 use Rattle.stops_on_blocks.proofs.Following.{event_of}
 
 -- ---- entries of an event

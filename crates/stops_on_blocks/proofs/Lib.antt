@@ -6,3 +6,5 @@ pub mod Histories
 pub mod Stops
 pub mod Told
 pub mod Beginnings
+pub mod Commits
+pub mod Whole

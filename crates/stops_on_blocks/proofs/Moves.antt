@@ -1,5 +1,5 @@
 -- What each operation makes of the log, as far as a stop is concerned.
-use Rattle.std.proofs.Common.{◌≡◌, ◌≢◌, ◌⊎◌, inl, inr, ℕ, ◌+◌, ◌==◌, Bool, true, false, List, [], ◌∷◌, Option, Some, None, length, length-set, refl, sym, subst, ap, ◌∙◌, if◌then◌else◌, slice_set}
+use Rattle.std.proofs.Common.{◌≡◌, ◌≢◌, ◌⊎◌, inl, inr, ℕ, ◌+◌, ◌==◌, Bool, true, false, List, [], ◌∷◌, Option, Some, None, length, length-set, refl, sym, ap, ◌∙◌, if◌then◌else◌, slice_set}
 use Rattle.block_device.specs.Blocks.{block_at}
 use Rattle.fs_layout.specs.Recovered.{recovered, IsOutsideLog}
 use Rattle.buffer_cache.specs.Seats.{SeatState, seen_in, with_seat, with_content}
@@ -14,7 +14,7 @@ use Rattle.group_log.specs.declared.marks.Marks.{Marks}
 use Rattle.group_log.specs.declared.phase.Phase.{Phase}
 use Rattle.group_log.specs.declared.phase.Phase.TheVariants.{Open, Staging, Installing, Halted}
 use Rattle.group_log.specs.Group.{joined}
-use Rattle.group_log.specs.Moves.{recovered_of, is_under_way, is_settled, is_running, IsMove, IsCommitMove, begins_at}
+use Rattle.group_log.specs.Moves.{is_under_way, is_settled, is_running, IsMove, IsCommitMove, begins_at}
 use Rattle.group_log.specs.Phases.{is_point, write_to, write_of, next_phase, group_in, phase_at_leave}
 use Rattle.group_log.specs.Soundness.{LogState, limit_of}
 use Rattle.group_log.specs.Stories.{after_leave, after_write}
@@ -31,7 +31,7 @@ use Rattle.fs_tables.specs.Tables.{TablesState, file_named}
 use Rattle.fs_tables.specs.Inodes.{refusal_of, lock_inode, lock_file, settle_inode, up_inode, first_free}
 use Rattle.fs_tables.specs.Files.{take_place, open_file, double_descriptor, shut_descriptor, give_next}
 use Rattle.fs_machine.specs.LogPart.{LogPart, Outside, Passes, Fails, join_if, got_by, read_block, put_block, commit_if, written, failed, is_open, LeavesIt, LeavesOne}
-use Rattle.fs_machine.specs.Steps.{State, Op, Answer, Join, JoinToWrite, Leave, Get, Read, Put, Commit, Lock, LockFile, LockOpen, Unlock, Settle, Up, Claim, Down, CheckFile, TakePlace, TakeDescriptor, Double, Close, Give, Reply, exec, in_log, in_tables, joins, join_unless, lock_open, claims, claim_first, up_whom, drop_which}
+use Rattle.fs_machine.specs.Steps.{State, Op, Join, JoinToWrite, Leave, Get, Read, Put, Commit, Lock, LockFile, LockOpen, Unlock, Settle, Up, Claim, Down, CheckFile, TakePlace, TakeDescriptor, Double, Close, Give, Reply, exec, in_log, in_tables, joins, join_unless, lock_open, claims, claim_first, up_whom, drop_which}
 use Rattle.fs_machine.specs.Premises.{May, Honest, MayPut}
 use Rattle.fs_machine.specs.Shown.{seen_of, seen_after}
 use Rattle.fs_machine.specs.Whole.{IsWholeLog, After}

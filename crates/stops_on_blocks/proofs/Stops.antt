@@ -1,14 +1,12 @@
 -- What a stop leaves, for any list of events.
-use Rattle.std.proofs.Common.{◌≡◌, ◌⊎◌, inl, inr, ℕ, suc, ◌+◌, ◌≤◌, ◌<◌, Bool, true, false, List, [], ◌∷◌, ◌++◌, Option, Some, None, length, refl, sym, subst, ap, ◌∙◌, arith}
-use Rattle.std.proofs.lemmas.List.{append-nil}
+use Rattle.std.proofs.Common.{◌≡◌, inl, ℕ, false, List, [], ◌∷◌, length, refl, sym, subst, ◌∙◌, arith}
 use Rattle.fs_layout.specs.declared.superblock.Super.{Super}
-use Rattle.fs_layout.specs.Recovered.{recovered, sizes_of, IsOutsideLog}
+use Rattle.fs_layout.specs.Recovered.{sizes_of, IsOutsideLog}
 use Rattle.fs_layout.proofs.RecoveredDisk.{recovered-empty}
 use Rattle.plain_tree.specs.declared.call.Call.{Call}
 use Rattle.plain_tree.specs.declared.trace.Placed.{Placed}
-use Rattle.plain_tree.specs.Explains.{Chain, IsNamedPart, Rises, Shown, trace_of}
-use Rattle.plain_tree.specs.Tree.{Tree, tree_of}
-use Rattle.plain_tree.specs.TreeData.{TreeData}
+use Rattle.plain_tree.specs.Explains.{IsNamedPart}
+use Rattle.plain_tree.specs.Tree.{tree_of}
 use Rattle.image_tree.specs.Checks.{IsGoodSuper}
 use Rattle.image_tree.specs.Damage.{IsWellFormed}
 use Rattle.image_tree.specs.Trees.{tree_in}
@@ -16,26 +14,25 @@ use Rattle.image_laws.specs.Seen.{IsRecoveredSo}
 use Rattle.group_log.specs.declared.marks.Marks.{Marks}
 use Rattle.group_log.specs.CrashLaw.{Blocks, AgreeOutside}
 use Rattle.group_log.specs.Group.{joined}
-use Rattle.group_log.specs.Moves.{recovered_of, seen_of, is_settled, is_running}
-use Rattle.group_log.specs.Stories.{no_marks, before, IsKept, IsMarked}
-use Rattle.group_log.proofs.Stories.{beginning}
+use Rattle.group_log.specs.Moves.{recovered_of, seen_of}
+use Rattle.group_log.specs.Stories.{no_marks}
 use Rattle.log_images.proofs.Heads.{logs_leave_good_heads}
-use Rattle.atomic_programs.specs.Calls.{Theory, Event, Start, Step, State, AllHonest, IsHonest, fresh, next, run, Sound}
+use Rattle.atomic_programs.specs.Calls.{Theory, Event, State, AllHonest, IsHonest, fresh, next, run, Sound}
 use Rattle.atomic_programs.proofs.Explains.{inv_of, sound_keeps}
 use Rattle.atomic_programs.proofs.Reached.{sound_fresh, sound_run}
 use Rattle.fs_machine.specs.LogPart.{LogPart, Outside}
 use Rattle.fs_machine.specs.Whole.{IsWholeLog}
-use Rattle.inodes_on_blocks.specs.Mounted.{IsMountable, ShowsItsTree, first_world, mounted}
+use Rattle.inodes_on_blocks.specs.Mounted.{IsMountable, ShowsItsTree}
 use Rattle.inodes_on_blocks.proofs.Mounted.{mounts_show_their_trees}
 use Rattle.calls_on_blocks.specs.History.{first}
 use Rattle.calls_on_blocks.specs.Theory.{block_calls}
 use Rattle.calls_on_blocks.proofs.History.{first_holds, first_idle}
 use Rattle.calls_on_blocks.proofs.Lawful.{lawful}
 use Rattle.stops_on_blocks.specs.Marks.{marks_after, marks_next, log_at}
-use Rattle.stops_on_blocks.specs.Stops.{AreEventsOn, StopsLeaveImages, disk_after, state_after}
+use Rattle.stops_on_blocks.specs.Stops.{StopsLeaveImages}
 use Rattle.stops_on_blocks.proofs.Moves.{itself, log_in}
 use Rattle.stops_on_blocks.proofs.Events.{event_goes, goes_sizes, next_now}
-use Rattle.stops_on_blocks.proofs.Following.{Followed, followed_on, event_of}
+use Rattle.stops_on_blocks.proofs.Following.{Followed, followed_on}
 use Rattle.stops_on_blocks.proofs.Quiet.{quiet_stands}
 
 module _ (disk : List (List ℕ)) (failures : ℕ) (mountable : IsMountable disk) where
@@ -87,10 +84,10 @@ module _ (disk : List (List ℕ)) (failures : ℕ) (mountable : IsMountable disk
   first_sound = sound_fresh T (first disk failures) (first_holds disk failures shows) (first_idle disk failures shows)
 
   -- nothing is recorded: recovery would leave what is seen
-  first_agrees : AgreeOutside sizes (seen_of itself (log_in (log first_state))) (recovered_of itself (log_in (log first_state)))
+  pub first_agrees : AgreeOutside sizes (seen_of itself (log_in (log first_state))) (recovered_of itself (log_in (log first_state)))
   first_agrees b out = recovered-empty disk b mountable.empty ∙ shows.shows.whole.log.blocks.1 b out (λ k low lt. absurd (omega (arith, lt)))
 
-  nobody : joined (log first_state).members ≡ 0
+  pub nobody : joined (log first_state).members ≡ 0
   nobody = refl
 
   pub first_followed : (Image : List Placed → Blocks → Type 0) → ((list : List Placed) (a b : Blocks) → AgreeOutside sizes a b → Image list a → Image list b) → Image [] (seen_of itself (log_in (log first_state)))

@@ -1,11 +1,11 @@
 -- The marks of a run, by where its events take the commit.
-use Rattle.std.proofs.Common.{◌≡◌, ℕ, ◌+◌, List, [], ◌∷◌, refl, sym, subst, ap, ◌∙◌}
+use Rattle.std.proofs.Common.{◌≡◌, List, [], ◌∷◌, refl, ap, ◌∙◌}
 use Rattle.fs_layout.specs.declared.superblock.Super.{Super}
 use Rattle.fs_layout.specs.Recovered.{sizes_of}
 use Rattle.plain_tree.specs.declared.call.Call.{Call}
 use Rattle.group_log.specs.declared.marks.Marks.{Marks}
 use Rattle.group_log.specs.Stories.{no_marks}
-use Rattle.atomic_programs.specs.Calls.{Theory, Event, State, AllHonest, fresh, next, run, Sound}
+use Rattle.atomic_programs.specs.Calls.{Event, State, AllHonest, fresh, next, Sound}
 use Rattle.atomic_programs.proofs.Reached.{sound_run}
 use Rattle.fs_machine.specs.LogPart.{Outside}
 use Rattle.fs_machine.specs.Whole.{IsWholeLog}

@@ -10,7 +10,7 @@ use Rattle.group_log.specs.declared.phase.Phase.{Phase}
 use Rattle.group_log.specs.declared.phase.Phase.TheVariants.{Open, Staging, Installing, Halted}
 use Rattle.group_log.specs.Phases.{is_point}
 use Rattle.group_log.specs.Stories.{after_leave, after_write}
-use Rattle.atomic_programs.specs.Prog.{Did, Waits, Ran, Stops, Ret, Do}
+use Rattle.atomic_programs.specs.Prog.{Did, Ran, Stops, Ret, Do}
 use Rattle.atomic_programs.specs.Logic.{P}
 use Rattle.atomic_programs.specs.Calls.{Theory, Event, Start, Step, Run, State as StateOf, next}
 use Rattle.fs_machine.specs.LogPart.{LogPart, Outside, is_open}

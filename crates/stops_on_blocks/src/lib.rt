@@ -2,6 +2,7 @@
 #![tactic(auto)]
 
 ghost use Rattle.stops_on_blocks.specs.Stops.{MarksAreTold, OneHartLeavesABeginning, StopsLeaveABeginning, StopsLeaveImages};
+ghost use Rattle.stops_on_blocks.specs.Whole.{CutsHaveReplies, MarksPartNone};
 
 /// Wherever a mounted file system is stopped, in the middle of calls or of a commit, by the device's failure or not, its disk
 /// passes all checks as recovery sees it: it can be mounted again.
@@ -25,4 +26,11 @@ pub fn one_hart_leaves_a_beginning()
 /// them.
 pub fn marks_are_told()
     ensures { MarksAreTold }
+{}
+
+/// After so many events as a mark tells no hart is in a transaction: so none is stored in part. And once a hart has replied whose
+/// leave began a commit, that leave is not behind the cut.
+pub fn marks_leave_all_whole()
+    ensures transactions { MarksPartNone }
+    ensures replies { CutsHaveReplies }
 {}

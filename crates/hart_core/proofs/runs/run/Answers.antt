@@ -1,5 +1,23 @@
+use Rattle.std.proofs.Common.{List, Option, ℕ, subst, sym}
+use Rattle.hart_core.specs.declared.events.Event.{Event}
+use Rattle.hart_core.specs.Stops.{HasMarks, RunLeavesABeginning, last_of}
 use Rattle.hart_core.proofs.Histories.{explained}
+use Rattle.hart_core.proofs.Stopping.{leaves_a_beginning}
 use Rattle.hart_core.proofs.runs.run.Goals as goal
 
+pub returns-in-Ok-with_capacity-clause-history : goal.returns-in-Ok-with_capacity-clause-history
+returns-in-Ok-with_capacity-clause-history g c =
+    let r = c.run_all-world.result in
+    let h = subst (λ (es : List Event). HasMarks g.D.Device.contents g.D.Device.failures c.args.world.sizes c.args.world.harts es r.outcomes.items r.world.harts r.marks) c.in-Ok.ensures c.run_all-world.ensures.history in
+    (h.0, h.1)
+
 pub returns-in-Ok-with_capacity-clause-explained : goal.returns-in-Ok-with_capacity-clause-explained
-returns-in-Ok-with_capacity-clause-explained g c = explained g.D.Device.contents g.D.Device.failures c.args.world c.args.events.now c.run_all.result.outcomes.items c.run_all.result.world.harts
+returns-in-Ok-with_capacity-clause-explained g c = explained g.D.Device.contents g.D.Device.failures c.args.world c.args.events.now c.run_all-world.result.outcomes.items c.run_all-world.result.world.harts
+
+pub returns-in-Ok-with_capacity-clause-stops : goal.returns-in-Ok-with_capacity-clause-stops
+returns-in-Ok-with_capacity-clause-stops g c =
+    let r = c.run_all-world.result in
+    let h = subst (λ (es : List Event). HasMarks g.D.Device.contents g.D.Device.failures c.args.world.sizes c.args.world.harts es r.outcomes.items r.world.harts r.marks) c.in-Ok.ensures c.run_all-world.ensures.history in
+    subst (λ (cut : Option ℕ). RunLeavesABeginning g.D.Device.contents g.D.Device.failures c.args.world c.args.events.now r.outcomes.items r.world.harts cut c.doubt_of.result) (sym c.last_of.ensures)
+    (subst (λ (doubt : Option ℕ). RunLeavesABeginning g.D.Device.contents g.D.Device.failures c.args.world c.args.events.now r.outcomes.items r.world.harts (last_of r.marks.cut) doubt) (sym c.doubt_of.ensures)
+    (leaves_a_beginning g.D.Device.contents g.D.Device.failures c.args.world c.args.events.now r.outcomes.items r.world.harts r.marks h))

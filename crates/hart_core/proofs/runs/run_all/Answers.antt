@@ -3,12 +3,14 @@ use Rattle.std.specs.Vec.Iter.{into_iter_items}
 use Rattle.std.proofs.lemmas.Grind.{common_steps}
 use Rattle.fs_layout.specs.declared.superblock.Super.{Super}
 use Rattle.atomic_programs.specs.Calls.{with_answer}
+use Rattle.stops_on_blocks.specs.Marks.{marks_told}
 use Rattle.hart_core.specs.declared.events.Event.{Event}
 use Rattle.hart_core.specs.Events.{event_of, came_of, said_of}
 use Rattle.hart_core.specs.Harts.{shared_of}
-use Rattle.hart_core.specs.Runs.{HasHistory}
+use Rattle.hart_core.specs.Stops.{HasMarks}
 use Rattle.hart_core.specs.Worlds.{Answers, Makes}
-use Rattle.hart_core.proofs.Histories.{no_history, history_more, one_each}
+use Rattle.hart_core.proofs.Histories.{one_each}
+use Rattle.hart_core.proofs.Stopping.{first_marks, next_marks}
 use Rattle.hart_core.proofs.runs.run_all.Goals as goal
 
 nothing_left : {X : Type 0} (l : List X) → length l ≡ 0 → l ≡ []
@@ -19,7 +21,7 @@ pub loop-event-init : goal.loop-event-init
 loop-event-init g c =
     record {
       events = sym c.into_iter-event-iterator.ensures.into_iter_gives.0;
-      history = rw c.requires.empty ([], no_history g.D.Device.contents g.D.Device.failures c.args.world.sizes c.args.world.harts);
+      history = rw c.requires.empty (first_marks g.D.Device.contents g.D.Device.failures c.args.world.sizes c.args.world.harts c.no_marks-marks.result c.no_marks-marks.ensures);
       sizes = refl;
       rest = first_of (search rules, grind (arith, common_steps));
       room = first_of (search rules, grind (arith, common_steps));
@@ -31,16 +33,15 @@ loop-event-preserved g c =
     let e : Event = c.in-Some.event in
     let x = said_of c.event-came.result (shared_of g.D.Device.contents g.D.Device.failures c.event-came.new.self.harts) in
     let steps : into_iter_items at.event-iterator ≡ e ∷ into_iter_items c.next.new.self = c.in-Some.ensures.steps.0 in
-    let was = at.invariant.history in
     record {
       events = at.invariant.events ∙ ap (λ (z : List Event). at.yielded ++ z) steps ∙ sym (append_assoc at.yielded (e ∷ []) (into_iter_items c.next.new.self));
       history =
-          rw c.in-Ok.ensures.items (
-            was.0 ++ with_answer (event_of e) x ∷ [],
-            history_more g.D.Device.contents g.D.Device.failures c.args.world.sizes c.args.world.harts at.world.harts c.event-came.new.self.harts at.yielded e at.outcomes.items c.event-came.result was.0 x was.1
-                (subst (λ (s : Super). Answers g.D.Device.contents g.D.Device.failures s (with_answer (event_of e) x) at.world.harts) at.invariant.sizes c.event-came.ensures.honest)
-                (subst (λ (s : Super). Makes g.D.Device.contents g.D.Device.failures s (with_answer (event_of e) x) at.world.harts (came_of c.event-came.result) c.event-came.new.self.harts) at.invariant.sizes c.event-came.ensures.makes),
-          );
+          rw c.in-Ok.ensures.items
+          (next_marks g.D.Device.contents g.D.Device.failures c.args.world.sizes c.args.world.harts at.world.harts c.event-came.new.self.harts at.yielded e at.outcomes.items c.event-came.result x at.marks c.note-marks.result c.len.result at.invariant.history
+          (subst (λ (s : Super). Answers g.D.Device.contents g.D.Device.failures s (with_answer (event_of e) x) at.world.harts) at.invariant.sizes c.event-came.ensures.honest)
+          (subst (λ (s : Super). Makes g.D.Device.contents g.D.Device.failures s (with_answer (event_of e) x) at.world.harts (came_of c.event-came.result) c.event-came.new.self.harts) at.invariant.sizes c.event-came.ensures.makes)
+          (let longer = c.in-Ok.ensures.len in let count = c.len.ensures in omega (arith, longer, count))
+          (c.note-marks.ensures ∙ (λ i. marks_told c.len.result (c.phase-before.ensures i) (c.is_at_point-at_point.ensures i) (c.phase.ensures i) at.marks)));
       sizes = c.event-came.ensures.sizes ∙ at.invariant.sizes;
       rest = (let gone = c.in-Some.ensures.steps.1 in let short = ap length steps in let was_rest = at.invariant.rest in omega (arith, was_rest, gone, short));
       room = (let short = ap length steps in let room = at.invariant.room in let longer = c.in-Ok.ensures.len in let kept = c.push.ensures.capacity in omega (arith, short, room, longer, kept));
@@ -61,9 +62,9 @@ returns g c =
     let at = c.loop-event in
     let empty : into_iter_items at.event-iterator ≡ [] = nothing_left _ (sym at.invariant.rest ∙ c.in-None.ensures.steps.0) in
     let all : at.yielded ≡ c.args.events.items = sym (at.invariant.events ∙ ap (λ (z : List Event). at.yielded ++ z) empty ∙ append-nil at.yielded) in
-    let history = subst (λ (z : List Event). HasHistory g.D.Device.contents g.D.Device.failures c.args.world.sizes c.args.world.harts z at.outcomes.items at.world.harts) all at.invariant.history in
+    let history = subst (λ (z : List Event). HasMarks g.D.Device.contents g.D.Device.failures c.args.world.sizes c.args.world.harts z at.outcomes.items at.world.harts at.marks) all at.invariant.history in
     record {
       history = history;
-      each = one_each g.D.Device.contents g.D.Device.failures c.args.world.sizes c.args.world.harts at.world.harts c.args.events.items at.outcomes.items history;
+      each = one_each g.D.Device.contents g.D.Device.failures c.args.world.sizes c.args.world.harts at.world.harts c.args.events.items at.outcomes.items (history.0, history.1);
       sizes = at.invariant.sizes;
     }

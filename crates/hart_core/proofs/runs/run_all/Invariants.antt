@@ -1,14 +1,14 @@
 use Rattle.std.proofs.Common.{◌≡◌, ◌≤◌, ◌+◌, ◌++◌, length, vec_len}
 use Rattle.std.specs.Vec.{vec_capacity}
 use Rattle.std.specs.Vec.Iter.{into_iter_items, into_iter_len}
-use Rattle.hart_core.specs.Runs.{HasHistory}
+use Rattle.hart_core.specs.Stops.{HasMarks}
 use Rattle.hart_core.proofs.runs.run_all.Given as goal
 
 abbrev pub invariant-loop-event : goal.invariant-loop-event
 invariant-loop-event g l =
     record {
       events : l.fn.events.items ≡ l.yielded ++ into_iter_items l.event-iterator;
-      history : HasHistory g.D.Device.contents g.D.Device.failures l.fn.world.sizes l.fn.world.harts l.yielded l.outcomes.items l.world.harts;
+      history : HasMarks g.D.Device.contents g.D.Device.failures l.fn.world.sizes l.fn.world.harts l.yielded l.outcomes.items l.world.harts l.marks;
       sizes : l.world.sizes ≡ l.fn.world.sizes;
       rest : into_iter_len l.event-iterator ≡ length (into_iter_items l.event-iterator);
       room : vec_len l.outcomes + length (into_iter_items l.event-iterator) ≤ vec_capacity l.outcomes;

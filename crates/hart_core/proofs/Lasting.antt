@@ -1,0 +1,53 @@
+-- What a world keeps at each event, and what a stop leaves of it.
+use Rattle.std.proofs.Common.{◌≡◌, ℕ, List, [], ◌∷◌, ◌++◌, sym, ap, subst}
+use Rattle.fs_layout.specs.declared.superblock.Super.{Super}
+use Rattle.fs_layout.specs.Recovered.{sizes_of}
+use Rattle.image_tree.specs.Damage.{IsWellFormed}
+use Rattle.plain_tree.specs.declared.answer.Reply.{Reply}
+use Rattle.plain_tree.specs.declared.call.Call.{Call}
+use Rattle.atomic_programs.specs.Calls.{Event, Outcome, Sound, fresh, run, with_answer}
+use Rattle.atomic_programs.specs.Plain.{Plain, SoundPlain}
+use Rattle.atomic_programs.specs.Shown.{CameTo}
+use Rattle.atomic_programs.proofs.Reached.{came_more, sound_run}
+use Rattle.fs_machine.specs.declared.kind.Kind.{Kind}
+use Rattle.fs_machine.specs.LogPart.{Outside}
+use Rattle.inode_machine.specs.Theory.{Refusal}
+use Rattle.calls_on_blocks.specs.History.{first}
+use Rattle.calls_on_blocks.specs.Theory.{block_calls, block_code}
+use Rattle.calls_on_blocks.proofs.Lawful.{is_code}
+use Rattle.stops_on_blocks.proofs.Stops.{first_sound, stops_leave_images}
+use Rattle.hart_core.specs.Harts.{HartsOf}
+use Rattle.hart_core.specs.Worlds.{Answers, IsWorld, Makes, calls_of}
+
+module _ {D : Type 0} (contents : D → List (List ℕ)) (failures : D → ℕ) (sizes : Super) (w : HartsOf D) (is : IsWorld contents failures sizes w) where
+  -- what it has of a sound state of the calls
+  pub world_sound : SoundPlain (block_calls sizes) (block_code sizes) (calls_of contents failures sizes w)
+  world_sound = record {
+    state = run (block_calls sizes) is.events.events (fresh (block_calls sizes) (first is.disk is.count));
+    sound =
+        sound_run (block_calls sizes) is.events.events (fresh (block_calls sizes) (first is.disk is.count))
+        (subst (λ (z : Super). Sound (block_calls z) (fresh (block_calls z) (first is.disk is.count))) (sym is.sizes_are) (first_sound is.disk is.count is.mountable)) is.events.honest;
+    is = is.events.after;
+  }
+
+  -- one event more
+  pub world_more : (e : Event Call (Unit {0})) (x : Outside) (o : Outcome Kind Reply Refusal) (new : HartsOf D) → Answers contents failures sizes (with_answer e x) w → Makes contents failures sizes (with_answer e x) w o new → IsWorld contents failures sizes new
+  world_more e x o new honest makes = record {
+    disk = is.disk;
+    count = is.count;
+    mountable = is.mountable;
+    sizes_are = is.sizes_are;
+    asks = is.asks ++ e ∷ [];
+    came = is.came ++ o ∷ [];
+    events =
+        came_more (block_calls sizes) (block_code sizes) (is_code sizes) (fresh (block_calls sizes) (first is.disk is.count)) is.asks e is.came o (calls_of contents failures sizes w) (calls_of contents failures sizes new) x is.events honest makes;
+    sized = is.sized;
+  }
+
+  -- the disk as it stands
+  pub world_left : IsWellFormed (contents w.core.log.cache.device)
+  world_left =
+      let n : Super = sizes_of is.disk in
+      let c : CameTo (block_calls n) (block_code n) (fresh (block_calls n) (first is.disk is.count)) is.asks is.came (calls_of contents failures n w) =
+      subst (λ (z : Super). CameTo (block_calls z) (block_code z) (fresh (block_calls z) (first is.disk is.count)) is.asks is.came (calls_of contents failures z w)) is.sizes_are is.events in
+      subst IsWellFormed (ap (λ (p : Plain (block_calls n) (block_code n)). p.shared.state.log.contents) c.after) (stops_leave_images is.disk is.count c.events (record { mountable = is.mountable; honest = c.honest }))

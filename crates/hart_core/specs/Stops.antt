@@ -1,0 +1,103 @@
+-- A stop after a run of a mounted world: how much of it the disk holds.
+use Rattle.std.specs.Prelude.{◌≡◌, ◌⊎◌, ℕ, zero, suc, ◌+◌, ◌<◌, List, [], ◌∷◌, ◌++◌, Option, Some, None, slice_get, take}
+use Rattle.fs_layout.specs.declared.superblock.Super.{Super}
+use Rattle.plain_tree.specs.declared.answer.Reply.{Reply}
+use Rattle.plain_tree.specs.declared.call.Call.{Call}
+use Rattle.plain_tree.specs.declared.trace.Placed.{Placed}
+use Rattle.plain_tree.specs.declared.trace.Trace.{Trace}
+use Rattle.plain_tree.specs.declared.trace.TracedCall.{TracedCall}
+use Rattle.plain_tree.specs.Explains.{Chain, Explains, IsNamedPart, acts_of}
+use Rattle.plain_tree.specs.Tree.{Tree, tree_of}
+use Rattle.plain_tree.specs.TreeData.{TreeData}
+use Rattle.image_tree.specs.Trees.{tree_in}
+use Rattle.group_log.specs.declared.marks.Marks.{Marks}
+use Rattle.group_log.specs.Group.{joined}
+use Rattle.group_log.specs.Stories.{no_marks}
+use Rattle.tree_moves.specs.Laws.{before}
+use Rattle.atomic_programs.specs.Calls.{Event as EventOf}
+use Rattle.atomic_programs.specs.Plain.{Plain, plain_makes, plain_run}
+use Rattle.fs_machine.specs.LogPart.{LogPart, Outside}
+use Rattle.calls_on_blocks.specs.Theory.{block_calls, block_code}
+use Rattle.stops_on_blocks.specs.Marks.{marks_told, at_point}
+use Rattle.stops_on_blocks.specs.Stops.{marks_at}
+use Rattle.hart_core.specs.declared.events.Event.{Event}
+use Rattle.hart_core.specs.declared.events.Event.TheVariants as event
+use Rattle.hart_core.specs.declared.events.Came.{Came}
+use Rattle.hart_core.specs.declared.events.Came.TheVariants as came
+use Rattle.hart_core.specs.declared.outcome.Outcome.TheVariants as outcome
+use Rattle.hart_core.specs.Harts.{HartsOf}
+use Rattle.hart_core.specs.Runs.{IsHistory, IsMounted, FoundRoom, NoneClimbs, OneHart, trace_in}
+use Rattle.hart_core.specs.Worlds.{WorldOf, calls_of}
+
+-- the number of the last of so many events
+abbrev pub last_of : ℕ → Option ℕ
+last_of zero = None
+last_of (suc n) = Some n
+
+abbrev pub doubt_of : Option ℕ → Option ℕ
+doubt_of None = None
+doubt_of (Some n) = last_of n
+
+-- how many events there are up to this one
+abbrev pub up_to : Option ℕ → ℕ
+up_to None = 0
+up_to (Some n) = n + 1
+
+-- so many are those up to the cut, or those up to the doubt where there is one
+abbrev pub IsMarkedBy : Option ℕ → Option ℕ → ℕ → Type 0
+IsMarkedBy cut doubt k = (k ≡ up_to cut) ⊎ ((n : ℕ) × (doubt ≡ Some n) × (k ≡ n + 1))
+
+-- One list of tree steps explains the trace, from this tree. The entries of its events up to the cut, or up to the doubt, are a beginning of it; and the
+-- disk's tree is what has names in the tree to which they lead.
+pub record HoldsABeginning (base : TreeData) (t : Trace) (disk : List (List ℕ)) (cut doubt : Option ℕ) : Type 0 where
+  pub list : List Placed
+  pub explains : Explains base t list
+  pub k : ℕ
+  pub marked : IsMarkedBy cut doubt k
+  pub rest : List Placed
+  pub begins : before k list ++ rest ≡ list
+  pub tree : Tree
+  pub leads : Chain (tree_of base) (before k list) tree
+  pub named : IsNamedPart tree (tree_of (tree_in disk))
+  -- a call that replied in these events has all its entries there
+  pub returned : (id : ℕ) (c : TracedCall) (now : ℕ) (reply : Reply) → slice_get t.calls id ≡ Some c → c.finished ≡ Some (now, reply) → now < k → acts_of id (before k list) ≡ acts_of id list
+
+module _ (sizes : Super) where
+  abbrev pub log_of : Plain (block_calls sizes) (block_code sizes) → LogPart
+  log_of p = p.shared.state.log
+
+  abbrev pub next_of : EventOf Call Outside → Plain (block_calls sizes) (block_code sizes) → Plain (block_calls sizes) (block_code sizes)
+  next_of e p = (plain_makes (block_calls sizes) (block_code sizes) e p).after
+
+  -- the marks after these events, with n before them, by where each took the commit
+  abbrev pub marks_in : ℕ → List (EventOf Call Outside) → Plain (block_calls sizes) (block_code sizes) → Marks → Marks
+  marks_in n [] p m = m
+  marks_in n (e ∷ es) p m = marks_in (n + 1) es (next_of e p) (marks_told (n + 1) (log_of p).phase (at_point (log_of p)) (log_of (next_of e p)).phase m)
+
+module _ {D : Type 0} (contents : D → List (List ℕ)) (failures : D → ℕ) where
+  -- a history of a run, and the marks that it comes to
+  abbrev pub HasMarks : Super → HartsOf D → List Event → List Came → HartsOf D → Marks → Type 0
+  HasMarks sizes old events outcomes new m =
+      (history : List (EventOf Call Outside)) × IsHistory contents failures sizes old events outcomes new history × (marks_in sizes 0 history (calls_of contents failures sizes old) no_marks ≡ m)
+
+  -- the marks of a mounted world's events
+  abbrev pub marks_of : WorldOf D → List (EventOf Call Outside) → Marks
+  marks_of w history = marks_at (contents w.harts.core.log.cache.device) (failures w.harts.core.log.cache.device) history
+
+  -- the harts after the first k events of a history
+  abbrev pub after_first : (w : WorldOf D) → ℕ → List (EventOf Call Outside) → Plain (block_calls w.sizes) (block_code w.sizes)
+  after_first w k history = plain_run (block_calls w.sizes) (block_code w.sizes) (take k history) (calls_of contents failures w.sizes w.harts)
+
+  -- There is a history of the run, such that, where the world was mounted, the cut and the doubt are what its events mark; nobody is in a transaction after the
+  -- events up to them; and the cut has each step that began a commit, once its hart has replied. Where no step in it found no room, and no path climbs or one
+  -- hart has made all calls, the disk holds a beginning of the one list that explains the run.
+  pub record RunLeavesABeginning (w : WorldOf D) (events : List Event) (outcomes : List Came) (new : HartsOf D) (cut doubt : Option ℕ) : Type 0 where
+    pub history : List (EventOf Call Outside)
+    pub is : IsHistory contents failures w.sizes w.harts events outcomes new history
+    pub cut_is : (device : D) → IsMounted contents failures device w → cut ≡ last_of (marks_of w history).cut
+    pub doubt_is : (device : D) → IsMounted contents failures device w → doubt ≡ doubt_of (marks_of w history).doubt
+    pub apart : (device : D) → IsMounted contents failures device w → (k : ℕ) → IsMarkedBy cut doubt k → joined (after_first w k history).shared.state.log.members ≡ 0
+    pub stored : (device : D) → IsMounted contents failures device w → (i j h : ℕ) (reply : Reply) → slice_get events i ≡ Some (event.Step h) → (marks_of w (take (i + 1) history)).begun ≡ i + 1
+        → i < j → slice_get events j ≡ Some (event.Step h) → slice_get outcomes j ≡ Some (came.Stepped (outcome.Done reply)) → i < up_to cut
+    pub holds : (device : D) → IsMounted contents failures device w → FoundRoom contents failures w history → NoneClimbs (trace_in events outcomes) ⊎ OneHart (trace_in events outcomes)
+        → HoldsABeginning (tree_in (contents device)) (trace_in events outcomes) (contents new.core.log.cache.device) cut doubt
