@@ -1,8 +1,24 @@
 //! Tests of a mounted world: what its calls answer, event by event. They stand here, above the crates that they run, since a crate
-//! with tests is proved twice.
+//! with tests is proved twice. Most are rows (`rows`), over a few images (`images`), so that few functions are to be proved.
 #![tactic(auto)]
 
 #[cfg(test)]
-mod events;
+mod creates;
+#[cfg(test)]
+mod images;
+#[cfg(test)]
+mod inherits;
+#[cfg(test)]
+mod links;
 #[cfg(test)]
 mod opens;
+#[cfg(test)]
+mod rows;
+#[cfg(test)]
+mod runs;
+#[cfg(test)]
+mod stops;
+#[cfg(test)]
+mod unlinks;
+#[cfg(test)]
+mod writes;
