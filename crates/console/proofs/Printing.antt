@@ -1,29 +1,43 @@
 -- What a writer holds after one part and then another.
-use Rattle.std.proofs.Common.{◌≡◌, ℕ, ◌+◌, ◌<◌, List, [], ◌∷◌, ◌++◌, length, take, get_or, ◌/◌, ◌%◌, Option, Some, None, Result, Ok, Err, refl, ap, sym, ◌∙◌, subst}
-use Rattle.std.proofs.lemmas.List.{append_assoc, append-nil, take_more}
-use Rattle.std.specs.Prelude.{OnOk}
+use Rattle.std.proofs.Common.{◌≡◌, ℕ, List, [], ◌∷◌, ◌++◌, take, ◌*◌, min, arith, true, false, replicate, if◌then◌else◌, Option, Result, Ok, Err, ap, sym, ◌∙◌, subst}
+use Rattle.std.proofs.lemmas.List.{take-replicate}
+use Rattle.std.specs.Prelude.{OnOk, nat_lt}
 use Rattle.std.specs.Io.KnownBytes.{Appends}
-use Rattle.console.specs.Text.{hex, hex_digit}
+use Rattle.console.specs.declared.notes.Note.{Note}
+use Rattle.console.specs.Events.{last_line, last_text, timeline_line, timeline_rows}
+use Rattle.console_parts.proofs.Appending.{appends_nothing, appends_both}
 
-pub appends_nothing : (known : Option (List ℕ)) → Appends known known []
-appends_nothing None = tt
-appends_nothing (Some xs) = sym (append-nil xs)
+pub tells_four : {E : Type 0} (known a b c end : Option (List ℕ)) (result : Result (Unit {0}) E) (ws xs ys zs : List ℕ) → Appends known a ws → Appends a b xs → Appends b c ys → OnOk result (Appends c end zs) → OnOk result (Appends known end (ws ++ xs ++ ys ++ zs))
+tells_four known a b c end (Ok u) ws xs ys zs one two three four =
+    appends_both known c end (ws ++ xs ++ ys) zs (appends_both known b c (ws ++ xs) ys (appends_both known a b ws xs one two) three) four
+tells_four known a b c end (Err e) ws xs ys zs one two three four = tt
 
-pub appends_both : (known next end : Option (List ℕ)) (xs ys : List ℕ) → Appends known next xs → Appends next end ys → Appends known end (xs ++ ys)
-appends_both None next end xs ys first second = tt
-appends_both (Some held) None end xs ys first second = absurd first
-appends_both (Some held) (Some more) None xs ys first second = absurd second
-appends_both (Some held) (Some more) (Some most) xs ys first second = second ∙ ap (λ l. l ++ ys) first ∙ append_assoc held xs ys
+-- ---- the lines after a script
 
-pub tells_both : {E : Type 0} (known next end : Option (List ℕ)) (result : Result (Unit {0}) E) (head rest whole : List ℕ) → head ++ rest ≡ whole → Appends known next head → OnOk result (Appends next end rest) → OnOk result (Appends known end whole)
-tells_both known next end (Ok u) head rest whole same first second = subst (λ xs. Appends known end xs) same (appends_both known next end head rest first second)
-tells_both known next end (Err e) head rest whole same first second = tt
+pub row_more : (known next end : Option (List ℕ)) (items more : List Note) (note : Note) → items ≡ note ∷ more → Appends known next (timeline_line note) → Appends next end (timeline_rows more) → Appends known end (timeline_rows items)
+unfolding timeline_rows
+row_more known next end items more note is first rest = subst (λ xs. Appends known end (timeline_rows xs)) (sym is) (appends_both known next end (timeline_line note) (timeline_rows more) first rest)
 
-hex_one_more : (bytes : List ℕ) (b : ℕ) → hex (bytes ++ b ∷ []) ≡ hex bytes ++ hex (b ∷ [])
-hex_one_more [] b = refl
-hex_one_more (x ∷ xs) b = ap (λ l. hex_digit (x / 16) ∷ hex_digit (x % 16) ∷ l) (hex_one_more xs b)
+pub rows_end : (known : Option (List ℕ)) (items : List Note) → items ≡ [] → Appends known known (timeline_rows items)
+unfolding timeline_rows
+rows_end known items is = subst (λ xs. Appends known known (timeline_rows xs)) (sym is) (appends_nothing known)
 
--- the first i bytes are written, and then byte i
-pub hex_turn : (known next end : Option (List ℕ)) (bytes : List ℕ) (i : ℕ) → i < length bytes → Appends known next (hex (take i bytes)) → Appends next end (hex (get_or bytes i 0 ∷ [])) → Appends known end (hex (take (i + 1) bytes))
-hex_turn known next end bytes i lt first second =
-    subst (λ xs. Appends known end xs) (sym (ap hex (take_more bytes i 0 lt) ∙ hex_one_more (take i bytes) (get_or bytes i 0))) (appends_both known next end (hex (take i bytes)) (hex (get_or bytes i 0 ∷ [])) first second)
+pub last_more : (first : ℕ) (known next end : Option (List ℕ)) (items more : List Note) (note : Note) → items ≡ note ∷ more → nat_lt note.number first ≡ false → Appends known next (last_line note) → Appends next end (last_text first more)
+    → Appends known end (last_text first items)
+unfolding last_text
+last_more first known next end items more note is told line rest =
+    subst (λ xs. Appends known end (last_text first xs)) (sym is)
+    (appends_both known next end _ (last_text first more) (subst (λ b. Appends known next (if b then [] else last_line note)) (sym told) line) rest)
+
+pub last_less : (first : ℕ) (known end : Option (List ℕ)) (items more : List Note) (note : Note) → items ≡ note ∷ more → nat_lt note.number first ≡ true → Appends known end (last_text first more) → Appends known end (last_text first items)
+unfolding last_text
+last_less first known end items more note is passed rest =
+    subst (λ xs. Appends known end (last_text first xs)) (sym is)
+    (appends_both known known end _ (last_text first more) (subst (λ b. Appends known known (if b then [] else last_line note)) (sym passed) (appends_nothing known)) rest)
+
+pub last_end : (first : ℕ) (known : Option (List ℕ)) (items : List Note) → items ≡ [] → Appends known known (last_text first items)
+unfolding last_text
+last_end first known items is = subst (λ xs. Appends known known (last_text first xs)) (sym is) (appends_nothing known)
+
+pub spaces_are : (before hart : ℕ) → before ≡ min (8 * hart) 56 → take {A = ℕ} before (replicate 56 32) ≡ replicate {A = ℕ} (min (8 * hart) 56) 32
+spaces_are before hart is = take-replicate {X = ℕ} before 56 32 (omega (arith, is)) ∙ ap (λ n. replicate {A = ℕ} n 32) is

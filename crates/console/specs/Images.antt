@@ -2,10 +2,9 @@
 use Rattle.std.specs.Prelude.{ℕ, List, [], Option, Some, None, Vec}
 use Rattle.std.specs.declared.alloc.Global.{Global}
 use Rattle.block_device.specs.Blocks.{blocks_of}
-use Rattle.image_tree.specs.Damage.{IsFirstDamage}
+use Rattle.image_tree.specs.Damage.{IsFirstDamage, IsWellFormed}
 use Rattle.image_tree.specs.declared.fault.MountFault.TheVariants as mounts
 use Rattle.mkfs.specs.Image.{image_of}
-use Rattle.console.specs.Held.{IsMounted}
 use Rattle.console.specs.declared.fault.ConsoleFault.{ConsoleFault}
 use Rattle.console.specs.declared.fault.ConsoleFault.TheVariants.{Image, Read, Write, Line, Stopped, Memory}
 
@@ -14,9 +13,12 @@ abbrev pub fresh_bytes : List ℕ
 fresh_bytes = image_of 2000 200 [] []
 
 -- the one that is given, else a fresh one
+abbrev pub bytes_for : Option (Vec ℕ Global) → List ℕ
+bytes_for None = fresh_bytes
+bytes_for (Some bytes) = bytes.items
+
 abbrev pub disk_for : Option (Vec ℕ Global) → List (List ℕ)
-disk_for None = blocks_of fresh_bytes
-disk_for (Some bytes) = blocks_of bytes.items
+disk_for image = blocks_of (bytes_for image)
 
 -- Why a run on a disk in memory has no end. A refused image is refused for its first damage; all else is told of an image that
 -- is mounted, and this disk never fails.
@@ -24,8 +26,8 @@ abbrev pub JudgesImage : List (List ℕ) → ConsoleFault → Type 0
 JudgesImage disk (Image (mounts.Damaged d)) = IsFirstDamage disk d
 JudgesImage disk (Image mounts.DeviceFault) = ⊥
 JudgesImage disk (Image mounts.NoMemory) = ⊥
-JudgesImage disk (Read e) = IsMounted disk
-JudgesImage disk (Write e) = IsMounted disk
-JudgesImage disk (Line n why) = IsMounted disk
+JudgesImage disk (Read e) = IsWellFormed disk
+JudgesImage disk (Write e) = IsWellFormed disk
+JudgesImage disk (Line n why) = IsWellFormed disk
 JudgesImage disk (Stopped s) = ⊥
 JudgesImage disk Memory = Unit {0}

@@ -1,62 +1,17 @@
--- The lines of a script as calls of hart 0, each from its start to its end.
-use Rattle.std.specs.Prelude.{◌≡◌, ℕ, ◌==◌, ◌&&◌, Bool, true, false, if◌then◌else◌, min, List, [], ◌∷◌, map, replicate, Option, Some, None, Result, Ok, Err, Vec}
-use Rattle.std.specs.Borrow.{Bor}
-use Rattle.std.specs.declared.alloc.Global.{Global}
+-- The lines of a script as what is run: in their order, or queued for each hart.
+use Rattle.std.specs.Prelude.{◌≡◌, ℕ, min, List, [], ◌∷◌, map, replicate, Result, Ok, Err}
 use Rattle.plain_tree.specs.declared.call.Call.{Call}
 use Rattle.plain_tree.specs.declared.call.Call.TheVariants as calls
-use Rattle.script.specs.declared.call.CallLine.{CallLine}
+use Rattle.script.specs.declared.command.ScriptLine.{ScriptLine}
 use Rattle.script.specs.Said as said
-use Rattle.script.specs.Said.{Line, NumberedLine, Open, Read, Write, Fill, Link, Unlink, Mkdir, Chdir, Dup, Fstat, Close, Inherit, Start, Run, Step, Upto, End, All, call_said}
+use Rattle.script.specs.Said.{Line, NumberedLine, Open, Read, Write, Fill, Link, Unlink, Mkdir, Chdir, Dup, Fstat, Close, Inherit, All, line_said}
 use Rattle.script.specs.Reading.{script_in}
 use Rattle.console.specs.declared.fault.ConsoleFault.{ConsoleFault}
 use Rattle.console.specs.declared.fault.ConsoleFault.TheVariants as faults
-
--- ---- which lines are run
-
--- this file system makes the call
-abbrev pub is_made : said.Call → Bool
-is_made (Open path flags) = true
-is_made (Read fd count) = true
-is_made (Write fd bytes) = false
-is_made (Fill fd count) = false
-is_made (Link old new) = false
-is_made (Unlink path) = false
-is_made (Mkdir path) = false
-is_made (Chdir path) = false
-is_made (Dup fd) = false
-is_made (Fstat fd) = true
-is_made (Close fd) = true
-is_made (Inherit child) = false
-
--- the call of hart 0 that a line runs
-abbrev pub call_run : Line → Option said.Call
-call_run (Start hart call) = None
-call_run (Run hart call) = if hart == 0 && is_made call then Some call else None
-call_run (Step hart steps) = None
-call_run (Upto hart kind steps) = None
-call_run (End hart) = None
-call_run All = None
-
-abbrev pub with_call : said.Call → Result (List said.Call) ℕ → Result (List said.Call) ℕ
-with_call call (Ok rest) = Ok (call ∷ rest)
-with_call call (Err n) = Err n
-
-abbrev pub first_call : ℕ → Option said.Call → Result (List said.Call) ℕ → Result (List said.Call) ℕ
-first_call n None rest = Err n
-first_call n (Some call) rest = with_call call rest
-
--- the calls that the lines run, in their order; or the number of the first line that isn't run yet
-unfoldable pub calls_in : List NumberedLine → Result (List said.Call) ℕ
-calls_in [] = Ok []
-calls_in (line ∷ lines) = first_call line.number (call_run line.says) (calls_in lines)
-
-abbrev pub calls_of : Result (List NumberedLine) ℕ → Result (List said.Call) ℕ
-calls_of (Ok lines) = calls_in lines
-calls_of (Err n) = Err n
-
--- the calls of a script, or the number of a line that is bad: the first that says nothing, or else the first that isn't run yet
-abbrev pub script_calls : List ℕ → Result (List said.Call) ℕ
-script_calls text = calls_of (script_in text)
+use Rattle.console.specs.declared.lines.Course.{Course}
+use Rattle.console_parts.specs.declared.mode.Schedule.{Schedule}
+use Rattle.console_parts.specs.declared.mode.Schedule.TheVariants.{Listed, Round}
+use Rattle.console.specs.Queues.{Left, none_left, queued}
 
 -- ---- the call that a line says; a read is handed zeros to fill, a fill writes the letter x
 
@@ -78,11 +33,31 @@ called (Fstat fd) = calls.Fstat fd
 called (Close fd) = calls.Close fd
 called (Inherit child) = calls.Inherit child
 
--- ---- what is answered of lines
+-- ---- what is run
 
-abbrev pub GivesCall : Result CallLine (Bor (List ℕ)) → Option said.Call → Type 0
-GivesCall (Ok call) run = run ≡ Some (call_said call)
-GivesCall (Err what) run = run ≡ None
+-- the calls that are queued at first, and the lines that are run then
+pub record CourseOf : Type 0 where
+  pub left : Left
+  pub lines : List Line
+
+-- in the schedule round all calls are queued, and then the harts take turns
+abbrev pub all_turns : Result Left ℕ → Result CourseOf ℕ
+all_turns (Ok left) = Ok (record { left = left; lines = All ∷ [] })
+all_turns (Err n) = Err n
+
+abbrev pub course_of : Schedule → List NumberedLine → Result CourseOf ℕ
+course_of Listed lines = Ok (record { left = none_left; lines = map (λ l. l.says) lines })
+course_of Round lines = all_turns (queued none_left lines)
+
+abbrev pub course_in : Schedule → Result (List NumberedLine) ℕ → Result CourseOf ℕ
+course_in schedule (Ok lines) = course_of schedule lines
+course_in schedule (Err n) = Err n
+
+-- what a script runs, or the number of the line that is bad: the first that says nothing, or else the first that the schedule doesn't allow
+abbrev pub script_course : Schedule → List ℕ → Result CourseOf ℕ
+script_course schedule text = course_in schedule (script_in text)
+
+-- ---- what is answered of lines
 
 -- the line that is told is the bad one
 abbrev pub TellsLine : ℕ → ConsoleFault → Type 0
@@ -101,11 +76,18 @@ IsMemory (faults.Read e) = ⊥
 IsMemory (faults.Write e) = ⊥
 IsMemory (faults.Stopped s) = ⊥
 
--- the calls of a script, or its bad line, unless memory was refused
-abbrev pub FailsCalls : ConsoleFault → Result (List said.Call) ℕ → Type 0
-FailsCalls fault (Ok run) = IsMemory fault
-FailsCalls fault (Err n) = TellsLine n fault
+-- a fault where something was to be had, or a line is bad, unless memory was refused
+abbrev pub FailsTo : {A : Type 0} → ConsoleFault → Result A ℕ → Type 0
+FailsTo fault (Ok a) = IsMemory fault
+FailsTo fault (Err n) = TellsLine n fault
 
-abbrev pub GivesCalls : Result (Vec CallLine Global) ConsoleFault → Result (List said.Call) ℕ → Type 0
-GivesCalls (Ok calls) run = run ≡ Ok (map call_said calls.items)
-GivesCalls (Err fault) run = FailsCalls fault run
+abbrev pub GivesQueues : Result Left ConsoleFault → Result Left ℕ → Type 0
+GivesQueues (Ok left) wanted = wanted ≡ Ok left
+GivesQueues (Err fault) wanted = FailsTo fault wanted
+
+abbrev pub course : Course → CourseOf
+course c = record { left = c.queues; lines = map (λ l. line_said l.command) c.lines.items }
+
+abbrev pub GivesCourse : Result Course ConsoleFault → Result CourseOf ℕ → Type 0
+GivesCourse (Ok c) wanted = wanted ≡ Ok (course c)
+GivesCourse (Err fault) wanted = FailsTo fault wanted

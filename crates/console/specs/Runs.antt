@@ -1,90 +1,54 @@
--- A run of a script's calls on a file system with one hart: in their order, each once, up to the first that is stopped.
-use Rattle.std.specs.Prelude.{◌≡◌, ◌⊎◌, ℕ, ◌+◌, min, List, [], ◌∷◌, ◌++◌, map, Option, IfSome, Result, Ok, Err}
-use Rattle.plain_tree.specs.declared.answer.Reply.{Reply}
-use Rattle.plain_tree.specs.declared.call.Call.{Call}
-use Rattle.script.specs.Said as said
+-- A run of a script on a mounted file system.
+use Rattle.std.specs.Prelude.{◌≡◌, ◌⊎◌, ℕ, Bool, true, false, if◌then◌else◌, List, [], ◌∷◌, ◌++◌, Option, IfSome, Result, Ok, Err}
+use Rattle.std.specs.Io.KnownBytes.{Appends, Keeps}
 use Rattle.console.specs.declared.fault.ConsoleFault.{ConsoleFault}
 use Rattle.console.specs.declared.fault.ConsoleFault.TheVariants as faults
-use Rattle.block_device.specs.Blocks.{most_faults}
-use Rattle.console.specs.declared.stop.Stop.{Stop}
-use Rattle.console.specs.declared.stop.Stop.TheVariants.{DeviceFault, Halted}
-use Rattle.console.specs.declared.stop.SingleFault.{SingleFault}
-use Rattle.console.specs.declared.stop.SingleFault.TheVariants as ends
-use Rattle.console.specs.Single.{Called}
-use Rattle.console.specs.Starts.{fault_of}
-use Rattle.console.specs.Lines.{TellsLine, called, script_calls}
-use Rattle.console.specs.View.{Session}
+use Rattle.console_parts.specs.declared.mode.Mode.{Mode}
+use Rattle.console.specs.Behaviours.{Runs}
+use Rattle.console.specs.Commands.{lines, state, RunOf}
+use Rattle.console.specs.Events.{last_of, timeline_of}
+use Rattle.console.specs.Lines.{CourseOf, TellsLine, script_course}
+use Rattle.console.specs.Notes.{NotesOf, no_notes}
+use Rattle.console.specs.Queues.{Left}
+use Rattle.console.specs.Sessions.{SessionOf}
 
--- the call is answered so
-abbrev pub IsAnswered : List (List ℕ) → Session → Call → Result Reply SingleFault → Session → Type 0
-IsAnswered disk s c result t = Called (fault_of c) disk s.offsets s.stopped c result t.offsets t.stopped
+-- ---- after the lines
 
--- the next line follows: the call came to its end, or was refused
-abbrev pub IsNoStop : Result Reply SingleFault → Type 0
-IsNoStop (Ok r) = Unit {0}
-IsNoStop (Err (ends.Stop stop)) = ⊥
-IsNoStop (Err (ends.Refused why c)) = Unit {0}
-IsNoStop (Err (ends.NotYet c)) = Unit {0}
+-- the timeline has all events, or the last 4294967295
+abbrev pub most_noted : Mode → ℕ
+most_noted mode = if mode.timeline then 4294967295 else mode.last
 
-pub record Passes (disk : List (List ℕ)) (s : Session) (c : Call) (t : Session) : Type 0 where
-  pub result : Result Reply SingleFault
-  pub answered : IsAnswered disk s c result t
-  pub goes_on : IsNoStop result
+-- first the last events, then the timeline
+abbrev pub end_text : Mode → NotesOf → List ℕ
+end_text mode notes = last_of mode.last notes ++ timeline_of mode.timeline notes
 
-abbrev pub Stops : List (List ℕ) → Session → Call → Stop → Session → Type 0
-Stops disk s c stop t = IsAnswered disk s c (Err (ends.Stop stop)) t
+abbrev pub IsUnwritten : Result (Unit {0}) ConsoleFault → Type 0
+IsUnwritten (Err (faults.Write e)) = Unit {0}
+IsUnwritten (Ok u) = ⊥
+IsUnwritten (Err faults.Memory) = ⊥
+IsUnwritten (Err (faults.Image f)) = ⊥
+IsUnwritten (Err (faults.Read e)) = ⊥
+IsUnwritten (Err (faults.Line n why)) = ⊥
+IsUnwritten (Err (faults.Stopped stop)) = ⊥
 
--- each of the calls passed, one after the other
-abbrev pub AllPass : List (List ℕ) → Session → List Call → Session → Type 0
-AllPass disk s [] u = u ≡ s
-AllPass disk s (c ∷ cs) u = (t : Session) × Passes disk s c t × AllPass disk t cs u
+-- the same end, with this printed before; or that wasn't written
+abbrev pub Prints : Result (Unit {0}) ConsoleFault → List ℕ → Option (List ℕ) → Result (Unit {0}) ConsoleFault → Option (List ℕ) → Type 0
+Prints ends text out result out' = ((result ≡ ends) × Appends out out' text) ⊎ IsUnwritten result
 
--- why a call is the last: it was stopped; its answer wasn't printed, however it ended; or there was no memory for it
-abbrev pub Breaks : List (List ℕ) → Session → Call → ConsoleFault → Session → Type 0
-Breaks disk s c (faults.Stopped stop) t = Stops disk s c stop t
-Breaks disk s c (faults.Write e) t = Passes disk s c t ⊎ ((stop : Stop) × Stops disk s c stop t)
-Breaks disk s c faults.Memory t = t ≡ s
-Breaks disk s c (faults.Image f) t = ⊥
-Breaks disk s c (faults.Read e) t = ⊥
-Breaks disk s c (faults.Line n why) t = ⊥
-
--- one call that is run
-abbrev pub RunsCall : List (List ℕ) → Session → Call → Result (Unit {0}) ConsoleFault → Session → Type 0
-RunsCall disk s c (Ok u) t = Passes disk s c t
-RunsCall disk s c (Err fault) t = Breaks disk s c fault t
-
--- the calls before one passed, and with it the run ended
-pub record BreaksOff (disk : List (List ℕ)) (s : Session) (cs : List Call) (fault : ConsoleFault) (t : Session) : Type 0 where
-  pub before : List Call
-  pub last : Call
-  pub after : List Call
-  pub order : cs ≡ before ++ last ∷ after
-  pub between : Session
-  pub passed : AllPass disk s before between
-  pub breaks : Breaks disk between last fault t
-
-abbrev pub RunsCalls : List (List ℕ) → Session → List Call → Result (Unit {0}) ConsoleFault → Session → Type 0
-RunsCalls disk s cs (Ok u) t = AllPass disk s cs t
-RunsCalls disk s cs (Err fault) t = BreaksOff disk s cs fault t
-
--- no call was made, for want of memory
-pub record RunsNone (fault : ConsoleFault) (s t : Session) : Type 0 where
-  pub memory : fault ≡ faults.Memory
-  pub same : t ≡ s
+-- The last events are told at the script's end, and where a call was stopped.
+abbrev pub EndsSo : Mode → NotesOf → Result (Unit {0}) ConsoleFault → Option (List ℕ) → Result (Unit {0}) ConsoleFault → Option (List ℕ) → Type 0
+EndsSo mode notes (Ok u) out result out' = Prints (Ok u) (end_text mode notes) out result out'
+EndsSo mode notes (Err (faults.Stopped stop)) out result out' = Prints (Err (faults.Stopped stop)) (end_text mode notes) out result out'
+EndsSo mode notes (Err faults.Memory) out result out' = result ≡ Err faults.Memory
+EndsSo mode notes (Err (faults.Write e)) out result out' = result ≡ Err (faults.Write e)
+EndsSo mode notes (Err (faults.Image f)) out result out' = result ≡ Err (faults.Image f)
+EndsSo mode notes (Err (faults.Read e)) out result out' = result ≡ Err (faults.Read e)
+EndsSo mode notes (Err (faults.Line n why)) out result out' = result ≡ Err (faults.Line n why)
 
 -- with a bad line no line is run
 abbrev pub EndsOn : ℕ → Result (Unit {0}) ConsoleFault → Type 0
 EndsOn n (Ok u) = ⊥
 EndsOn n (Err fault) = TellsLine n fault
-
-abbrev pub EndsBefore : Result (Unit {0}) ConsoleFault → Session → Session → Type 0
-EndsBefore (Ok u) s t = ⊥
-EndsBefore (Err fault) s t = RunsNone fault s t
-
--- a script that says these calls, or has this bad line
-abbrev pub RunsScript : List (List ℕ) → Session → Result (List said.Call) ℕ → Result (Unit {0}) ConsoleFault → Session → Type 0
-RunsScript disk s (Err n) result t = EndsOn n result × (t ≡ s)
-RunsScript disk s (Ok cs) result t = RunsCalls disk s (map called cs) result t ⊎ EndsBefore result s t
 
 -- the script wasn't read
 abbrev pub FailsUnread : ConsoleFault → Type 0
@@ -95,22 +59,46 @@ FailsUnread (faults.Write e) = ⊥
 FailsUnread (faults.Line n why) = ⊥
 FailsUnread (faults.Stopped s) = ⊥
 
--- a script that is read to its end from a reader, of which may be known what it gives
-abbrev pub RunsReader : List (List ℕ) → Session → Option (List ℕ) → Result (Unit {0}) ConsoleFault → Session → Type 0
-RunsReader disk s script (Err (faults.Read e)) t = t ≡ s
-RunsReader disk s script result t = (text : List ℕ) × IfSome script (λ bytes. text ≡ bytes) × RunsScript disk s (script_calls text) result t
+abbrev pub IsReadFault : Result (Unit {0}) ConsoleFault → Type 0
+IsReadFault (Err (faults.Read e)) = Unit {0}
+IsReadFault (Ok u) = ⊥
+IsReadFault (Err faults.Memory) = ⊥
+IsReadFault (Err (faults.Image f)) = ⊥
+IsReadFault (Err (faults.Write e)) = ⊥
+IsReadFault (Err (faults.Line n why)) = ⊥
+IsReadFault (Err (faults.Stopped stop)) = ⊥
 
--- ---- how often the device has failed: once more where a call was stopped by it
+module _ {D : Type 0} (contents : D → List (List ℕ)) (failures : D → ℕ) where
+  -- the lines are run, and then the last events are told
+  pub record RunsLines (mode : Mode) (s : SessionOf D) (course : CourseOf) (result : Result (Unit {0}) ConsoleFault) (t : SessionOf D) (out out' : Option (List ℕ)) : Type 0 where
+    pub left : Left
+    pub ends : Result (Unit {0}) ConsoleFault
+    pub between : Option (List ℕ)
+    pub notes : NotesOf
+    pub runs : Runs (lines contents failures course.lines) (state s course.left) out (no_notes (most_noted mode)) ends (state t left) between notes
+    pub end : EndsSo mode notes ends between result out'
 
-abbrev pub fails_again : ℕ → ℕ
-fails_again n = min (n + 1) most_faults
+  -- nothing was done and nothing printed, for want of memory
+  pub record RunsNone (s : SessionOf D) (result : Result (Unit {0}) ConsoleFault) (t : SessionOf D) (out out' : Option (List ℕ)) : Type 0 where
+    pub memory : result ≡ Err faults.Memory
+    pub same : t ≡ s
+    pub silent : out' ≡ out
 
-abbrev pub HasFailed : Result (Unit {0}) ConsoleFault → ℕ → ℕ → Type 0
-HasFailed (Ok u) n m = m ≡ n
-HasFailed (Err (faults.Stopped DeviceFault)) n m = m ≡ fails_again n
-HasFailed (Err (faults.Stopped Halted)) n m = m ≡ n
-HasFailed (Err (faults.Write e)) n m = (m ≡ n) ⊎ (m ≡ fails_again n)
-HasFailed (Err faults.Memory) n m = m ≡ n
-HasFailed (Err (faults.Image f)) n m = m ≡ n
-HasFailed (Err (faults.Read e)) n m = m ≡ n
-HasFailed (Err (faults.Line k why)) n m = m ≡ n
+  abbrev pub RunsCourse : Mode → SessionOf D → CourseOf → Result (Unit {0}) ConsoleFault → SessionOf D → Option (List ℕ) → Option (List ℕ) → Type 0
+  RunsCourse mode s course result t out out' = RunsLines mode s course result t out out' ⊎ RunsNone s result t out out'
+
+  -- what a script runs, or its bad line
+  abbrev pub RunsScript : Mode → SessionOf D → Result CourseOf ℕ → Result (Unit {0}) ConsoleFault → SessionOf D → Option (List ℕ) → Option (List ℕ) → Type 0
+  RunsScript mode s (Err n) result t out out' = EndsOn n result × (t ≡ s) × (out' ≡ out)
+  RunsScript mode s (Ok course) result t out out' = RunsCourse mode s course result t out out'
+
+  -- the script isn't read
+  pub record Unread (s : SessionOf D) (result : Result (Unit {0}) ConsoleFault) (t : SessionOf D) (out out' : Option (List ℕ)) : Type 0 where
+    pub fault : IsReadFault result
+    pub same : t ≡ s
+    pub silent : out' ≡ out
+
+  -- a script that is read to its end from a reader, of which may be known what it gives; or that isn't
+  abbrev pub RunsReader : Mode → SessionOf D → Option (List ℕ) → Result (Unit {0}) ConsoleFault → SessionOf D → Option (List ℕ) → Option (List ℕ) → Type 0
+  RunsReader mode s script result t out out' =
+      Unread s result t out out' ⊎ ((text : List ℕ) × IfSome script (λ bytes. text ≡ bytes) × RunsScript mode s (script_course mode.schedule text) result t out out')

@@ -2,7 +2,8 @@
 ghost use Rattle.std.specs.Prelude.{◌≡◌};
 ghost use Rattle.console.specs.Faults.{status_of};
 
-use crate::stop::Stop;
+use crate::numbers::{stop_name, stop_number};
+use hart_core::Stop;
 use image_tree::MountFault;
 use script::{Reason, ScriptFault};
 use std::alloc::AllocError;
@@ -25,7 +26,7 @@ pub enum ConsoleFault {
     #[error("line {0}: bad command\n{1}")]
     Line(u64, Reason),
     /// A call was stopped, and its line printed.
-    #[error("stopped {} {}", .0.number(), .0.name())]
+    #[error("stopped {} {}", stop_number(*.0), stop_name(*.0))]
     Stopped(Stop),
     #[error("no memory")]
     Memory,

@@ -1,22 +1,21 @@
-//! The console: a file system with one hart, scripts of calls, and what they print.
+//! The console: scripts of calls on a file system with eight harts, and what they print.
 #![tactic(auto)]
 
-mod command_line;
-mod descriptors;
+mod commands;
+mod doing;
+mod events;
 mod fault;
+mod flow;
 mod lines;
-mod root;
+mod notes;
+mod numbers;
+mod plan;
+mod queues;
 mod run;
-mod single;
-mod start;
-mod stop;
-mod tail;
-mod text;
+mod session;
+mod tell;
+mod verb;
 
-pub use crate::command_line::{CHECK, IMAGE, SAVE, options};
 pub use crate::fault::{ConsoleFault, status};
-pub use crate::run::{Mode, run_on, run_script};
-pub use crate::single::Single;
-pub use crate::start::StartRefused;
-pub use crate::stop::{SingleFault, Stop};
-pub use crate::tail::{Tail, tails_hold_the_last};
+pub use crate::run::{run_on, run_script};
+pub use crate::session::Session;

@@ -1,63 +1,83 @@
-//! The lines of a script as calls.
-ghost use Rattle.std.specs.Prelude.{◌≡◌, IfOk, map};
+//! The lines of a script as what is run.
+ghost use Rattle.std.specs.Prelude.{◌≡◌, ◌<◌, IfOk, IfSome, map, option_map};
 ghost use Rattle.script.specs.Said.{call_said, line_said, numbered};
-ghost use Rattle.console.specs.Lines.{GivesCall, GivesCalls, call_run, called, calls_in, is_made, part_of};
+ghost use Rattle.console.specs.Lines.{GivesCourse, GivesQueues, called, course_of, part_of};
+ghost use Rattle.console.specs.Queues.{none_left, queued, started_in};
 
 use crate::fault::ConsoleFault;
-use crate::start::LONGEST_PART;
+use crate::queues::Queues;
+use crate::session::HARTS;
+use console_parts::Schedule;
 use plain_tree::{Bytes, Call};
 use script::{CallLine, Command, Reason, ScriptLine};
 use std::alloc::{AllocError, Global};
 
+/// The most bytes that one call reads or writes.
+const LONGEST_PART: usize = 524_288;
+
+/// The lines that the schedule round has.
+const START: &str = "H CALL .. with H from 0 to 7, in the schedule round";
+
 /// What a fill writes.
 const FILLER: u8 = b'x';
 
-// The file system makes this call.
-fn is_made(call: &CallLine) -> bool
-    ensures { result ≡ is_made (call_said call.now) }
+/// What is run: the lines, after these calls were queued.
+#[derive(Drop)]
+pub struct Course {
+    pub queues: Queues,
+    pub lines: Vec<ScriptLine>,
+}
+
+/// What is run of these lines, or the first line that this schedule doesn't allow.
+pub fn course_of(
+    alloc: Global,
+    schedule: Schedule,
+    lines: Vec<ScriptLine>,
+) -> Result<Course, ConsoleFault>
+    ensures { GivesCourse result (course_of schedule (map numbered lines.items)) }
 {
-    match call {
-        CallLine::Open { .. }
-        | CallLine::Read { .. }
-        | CallLine::Fstat { .. }
-        | CallLine::Close { .. } => true,
-        _ => false,
+    match schedule {
+        Schedule::Listed => Ok(Course {
+            queues: Queues::new(alloc),
+            lines,
+        }),
+        Schedule::Round => {
+            let queues = queues_of(alloc, lines)?;
+            let mut lines = Vec::new(alloc);
+            lines
+                .push(ScriptLine {
+                    number: 0,
+                    command: Command::All,
+                })
+                .map_err(AllocError::from)?;
+            Ok(Course { queues, lines })
+        }
     }
 }
 
-// The call of hart 0 that a command runs to its end; of another command, what isn't there yet.
-fn call_run(command: Command) -> Result<CallLine, &'static str>
-    ensures { GivesCall result (call_run (line_said command)) }
+// The calls of these lines, each queued for its hart; or the first line that only starts none.
+fn queues_of(alloc: Global, lines: Vec<ScriptLine>) -> Result<Queues, ConsoleFault>
+    ensures { GivesQueues result (queued none_left (map numbered lines.items)) }
+{
+    let mut queues = Queues::new(alloc);
+    for line in lines {
+        match started_in(line.command) {
+            Some((hart, call)) => queues.put(hart, call)?,
+            None => return Err(ConsoleFault::Line(line.number, Reason::Wanted(START))),
+        }
+    }
+    Ok(queues)
+}
+
+// The call of one of the eight harts that a line only starts, and the hart.
+fn started_in(command: Command) -> Option<(u8, CallLine)>
+    ensures says { option_map (λ x. (x.0, call_said x.1)) result ≡ started_in (line_said command) }
+    ensures within { IfSome result (λ x. x.0 < HARTS) }
 {
     match command {
-        Command::Do { hart, call } => {
-            if hart != 0 {
-                Err("harts other than 0")
-            } else if is_made(&call) {
-                Ok(call)
-            } else {
-                Err("this call")
-            }
-        }
-        Command::Start { call: _call, .. } => Err("calls in steps (do H CALL .. is there)"),
-        Command::Step { .. } | Command::Upto { .. } | Command::End { .. } | Command::All => {
-            Err("steps of a hart")
-        }
+        Command::Start { hart, call } if (hart as usize) < HARTS => Some((hart, call)),
+        _ => None,
     }
-}
-
-/// The calls that the lines run, in order; or the first line that isn't run yet.
-pub fn calls_of(alloc: Global, lines: Vec<ScriptLine>) -> Result<Vec<CallLine>, ConsoleFault>
-    ensures { GivesCalls result (calls_in (map numbered lines.items)) }
-{
-    let mut calls = Vec::new(alloc);
-    for line in lines {
-        match call_run(line.command) {
-            Ok(call) => calls.push(call).map_err(AllocError::from)?,
-            Err(what) => return Err(ConsoleFault::Line(line.number, Reason::NotYet(what))),
-        }
-    }
-    Ok(calls)
 }
 
 // As many of these bytes as are asked for; of too many one more than a call may have, so that the call is refused.

@@ -1,22 +1,26 @@
 //! Running a script.
-ghost use Rattle.std.specs.Prelude.{◌≡◌, ◌<◌, ◌^◌, ℕ, List, IfOk, IfErr, IfSome, map};
+ghost use Rattle.std.specs.Prelude.{◌≡◌, ◌<◌, ◌^◌, ℕ, List, IfOk, IfErr, IfSome, OnOk, map};
+ghost use Rattle.std.specs.Io.KnownBytes.{Appends};
 ghost use Rattle.block_device.specs.Blocks.{blocks_of};
-ghost use Rattle.script.specs.Said.{call_said};
-ghost use Rattle.console.specs.Held.{IsMounted};
-ghost use Rattle.console.specs.Images.{disk_for, fresh_bytes, JudgesImage};
-ghost use Rattle.console.specs.Lines.{called, script_calls};
-ghost use Rattle.console.specs.Runs.{FailsUnread, HasFailed, RunsCall, RunsCalls, RunsReader, RunsScript};
-ghost use Rattle.console.specs.View.{session_of};
+ghost use Rattle.image_tree.specs.Damage.{IsWellFormed};
+ghost use Rattle.script.specs.Said.{numbered};
+ghost use Rattle.console.specs.declared.fault.ConsoleFault.TheVariants.{Memory};
+ghost use Rattle.console.specs.Images.{bytes_for, disk_for, fresh_bytes, JudgesImage};
+ghost use Rattle.console.specs.Lines.{course, script_course};
+ghost use Rattle.console.specs.Runs.{EndsSo, FailsUnread, RunsCourse, RunsReader, RunsScript, end_text, most_noted};
+ghost use Rattle.console.specs.Scripts.{RunsImage, Tells};
 
+use crate::commands::{Desk, run_lines};
+use crate::events::{write_last, write_timeline};
 use crate::fault::ConsoleFault;
-use crate::lines::{call_of, calls_of};
-use crate::single::Single;
-use crate::stop::SingleFault;
-use crate::text::{write_not_yet, write_refused, write_reply, write_shape, write_stopped};
+use crate::lines::{Course, course_of};
+use crate::notes::Notes;
+use crate::session::Session;
 use block_device::{Device, MemoryDisk};
+use console_parts::{Mode, write_shape};
 use image_tree::examine;
 use mkfs::{MakeRefused, make};
-use script::{CallLine, parse};
+use script::parse;
 use std::alloc::Global;
 use std::io;
 use std::io::{Read, Write};
@@ -29,19 +33,9 @@ const FRESH_SIZE: u32 = 2000;
 
 const FRESH_INODES: u32 = 200;
 
-/// The hart that there is.
-const HART: u8 = 0;
-
-/// How the console runs: the lines of the script in their order, so far.
-#[derive(Clone, Copy, PartialEq, Eq, Debug, Default)]
-pub struct Mode {
-    /// The image is examined, and no script is read.
-    pub check: bool,
-}
-
 fn fresh_image(alloc: Global) -> Result<MemoryDisk, ConsoleFault>
     ensures fresh { IfOk result (λ disk. disk ≡ fresh_bytes) }
-    ensures judges { IfErr result (λ fault. (disk : List (List ℕ)) → JudgesImage disk fault) }
+    ensures memory { IfErr result (λ fault. fault ≡ Memory) }
 {
     match make(alloc, FRESH_SIZE, FRESH_INODES, &[]) {
         Ok(disk) => Ok(disk),
@@ -51,8 +45,8 @@ fn fresh_image(alloc: Global) -> Result<MemoryDisk, ConsoleFault>
 }
 
 fn image_disk(alloc: Global, image: Option<Vec<u8>>) -> Result<MemoryDisk, ConsoleFault>
-    ensures disk { IfOk result (λ disk. blocks_of disk ≡ disk_for image) }
-    ensures judges { IfErr result (λ fault. (disk : List (List ℕ)) → JudgesImage disk fault) }
+    ensures disk { IfOk result (λ disk. disk ≡ bytes_for image) }
+    ensures memory { IfErr result (λ fault. fault ≡ Memory) }
 {
     match image {
         Some(bytes) => Ok(MemoryDisk::new(bytes)),
@@ -69,25 +63,29 @@ pub fn run_script<R: Read + Drop, W: Write>(
     script: R,
     out: &mut W,
 ) -> Result<MemoryDisk, ConsoleFault>
-    // The image is only read, and is refused for its first damage alone; all else is told of a mounted one.
-    ensures kept { IfOk result (λ disk. (blocks_of disk ≡ disk_for image) × IsMounted (blocks_of disk)) }
+    ensures runs { RunsImage mode image (R.remaining script) result (W.contents out.old) (W.contents out.new) }
+    // A refused image is refused for its first damage alone; all else is told of a mounted one.
+    ensures mounted { IfOk result (λ disk. IsWellFormed (disk_for image)) }
     ensures refused { IfErr result (JudgesImage (disk_for image)) }
 {
     let disk = image_disk(alloc, image)?;
     if mode.check {
         return check(alloc, disk, out);
     }
-    let mut single = match Single::mount(alloc, disk) {
-        Ok(single) => single,
+    let mut session = match Session::mount(alloc, disk) {
+        Ok(session) => session,
         Err((_, fault)) => return Err(ConsoleFault::from(fault)),
     };
-    run_on(alloc, &mut single, script, out)?;
-    Ok(single.into_device())
+    let ended = run_on(alloc, &mut session, mode, script, out);
+    let disk = session.unmount();
+    ended?;
+    Ok(disk)
 }
 
 // Examines a disk, and prints what it finds.
 fn check<W: Write>(alloc: Global, disk: MemoryDisk, out: &mut W) -> Result<MemoryDisk, ConsoleFault>
-    ensures kept { IfOk result (λ d. (blocks_of d ≡ blocks_of disk) × IsMounted (blocks_of d)) }
+    ensures tells { Tells disk result (W.contents out.old) (W.contents out.new) }
+    ensures mounted { IfOk result (λ d. IsWellFormed (blocks_of disk)) }
     ensures refused { IfErr result (JudgesImage (blocks_of disk)) }
 {
     let mut disk = disk;
@@ -96,21 +94,19 @@ fn check<W: Write>(alloc: Global, disk: MemoryDisk, out: &mut W) -> Result<Memor
     Ok(disk)
 }
 
-/// Runs a script on a file system that is mounted: the calls that its lines say, in their order, each once, up to the first that
-/// is stopped. Answers are written as they come, and none where a line is bad. After a fault the file system is as the calls
-/// before have left it.
+/// Runs a script on a file system that is mounted: what its lines say (`RunsReader`), in their order, each once, up to the first in
+/// which a call is stopped. Answers are written as they come, and none where a line is bad.
 pub fn run_on<D: Device, R: Read + Drop, W: Write>(
     alloc: Global,
-    single: &mut Single<D>,
+    session: &mut Session<D>,
+    mode: Mode,
     script: R,
     out: &mut W,
 ) -> Result<(), ConsoleFault>
-    ensures contents { D.contents single.new.device ≡ D.contents single.old.device }
-    ensures runs { RunsReader (D.contents single.old.device) (session_of single.old) (R.remaining script) result (session_of single.new) }
-    ensures faults { HasFailed result (D.failures single.old.device) (D.failures single.new.device) }
+    ensures { RunsReader D.contents D.failures mode session.old (R.remaining script) result session.new (W.contents out.old) (W.contents out.new) }
 {
     let text = read_script(alloc, script, LONGEST_SCRIPT)?;
-    run_text(alloc, single, text.as_slice(), out)
+    run_text(alloc, session, mode, text.as_slice(), out)
 }
 
 // The text of a script that isn't longer than the longest.
@@ -148,58 +144,68 @@ fn read_fault(fault: io::Error) -> ConsoleFault
 // Runs a script's text.
 fn run_text<D: Device, W: Write>(
     alloc: Global,
-    single: &mut Single<D>,
+    session: &mut Session<D>,
+    mode: Mode,
     text: &[u8],
     out: &mut W,
 ) -> Result<(), ConsoleFault>
-    ensures contents { D.contents single.new.device ≡ D.contents single.old.device }
-    ensures runs { RunsScript (D.contents single.old.device) (session_of single.old) (script_calls text.now) result (session_of single.new) }
-    ensures faults { HasFailed result (D.failures single.old.device) (D.failures single.new.device) }
+    ensures { RunsScript D.contents D.failures mode session.old (script_course mode.schedule text.now) result session.new (W.contents out.old) (W.contents out.new) }
 {
     let lines = parse(alloc, text)?;
-    let calls = calls_of(alloc, lines)?;
-    run_calls(alloc, single, calls, out)
+    let planned = course_of(alloc, mode.schedule, lines)?;
+    run_course(alloc, session, mode, planned, out)
 }
 
-fn run_calls<D: Device, W: Write>(
+// Runs a course, and prints its last events.
+fn run_course<D: Device, W: Write>(
     alloc: Global,
-    single: &mut Single<D>,
-    calls: Vec<CallLine>,
+    session: &mut Session<D>,
+    mode: Mode,
+    run: Course,
     out: &mut W,
 ) -> Result<(), ConsoleFault>
-    ensures contents { D.contents single.new.device ≡ D.contents single.old.device }
-    ensures runs { RunsCalls (D.contents single.old.device) (session_of single.old) (map (λ c. called (call_said c)) calls.items) result (session_of single.new) }
-    ensures faults { HasFailed result (D.failures single.old.device) (D.failures single.new.device) }
+    ensures { RunsCourse D.contents D.failures mode session.old (course run) result session.new (W.contents out.old) (W.contents out.new) }
 {
-    for call in calls {
-        run_call(alloc, single, call, out)?;
-    }
-    Ok(())
+    let Course { queues, lines } = run;
+    let notes = Notes::new(alloc, most_noted(mode))?;
+    let mut desk = Desk { queues, notes };
+    let ended = run_lines(alloc, session, &mut desk, out, lines);
+    finish(out, mode, &desk.notes, ended)
 }
 
-fn run_call<D: Device, W: Write>(
-    alloc: Global,
-    single: &mut Single<D>,
-    line: CallLine,
+// Prints what stands after all answers, where the lines came to their end or a call was stopped.
+fn finish<W: Write>(
     out: &mut W,
+    mode: Mode,
+    notes: &Notes,
+    ended: Result<(), ConsoleFault>,
 ) -> Result<(), ConsoleFault>
-    ensures contents { D.contents single.new.device ≡ D.contents single.old.device }
-    ensures runs { RunsCall (D.contents single.old.device) (session_of single.old) (called (call_said line)) result (session_of single.new) }
-    ensures faults { HasFailed result (D.failures single.old.device) (D.failures single.new.device) }
+    ensures { EndsSo mode notes.now ended (W.contents out.old) result (W.contents out.new) }
 {
-    let name = line.name();
-    let call = call_of(alloc, line)?;
-    match single.call(call) {
-        Ok(reply) => write_reply(out, HART, name, &reply).map_err(ConsoleFault::Write),
-        Err(SingleFault::Refused(why, _call)) => {
-            write_refused(out, HART, name, why).map_err(ConsoleFault::Write)
-        }
-        Err(SingleFault::NotYet(_call)) => write_not_yet(out, HART, name).map_err(
-            ConsoleFault::Write,
-        ),
-        Err(SingleFault::Stop(stop)) => {
-            write_stopped(out, HART, name, stop).map_err(ConsoleFault::Write)?;
+    match ended {
+        Ok(()) => write_end(out, mode, notes).map_err(ConsoleFault::Write),
+        Err(ConsoleFault::Stopped(stop)) => {
+            write_end(out, mode, notes).map_err(ConsoleFault::Write)?;
             Err(ConsoleFault::Stopped(stop))
         }
+        Err(fault) => Err(fault),
     }
+}
+
+// How many events have to be noted.
+fn most_noted(mode: Mode) -> u32
+    ensures { result ≡ most_noted mode }
+{
+    if mode.timeline { u32::MAX } else { mode.last }
+}
+
+// What stands after all answers.
+fn write_end<W: Write>(out: &mut W, mode: Mode, notes: &Notes) -> io::Result<()>
+    ensures { OnOk result (Appends (W.contents out.old) (W.contents out.new) (end_text mode notes.now)) }
+{
+    write_last(out, mode.last, notes)?;
+    if mode.timeline {
+        write_timeline(out, notes)?;
+    }
+    Ok(())
 }

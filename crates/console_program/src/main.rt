@@ -1,4 +1,4 @@
-//! `console [IMAGE] [--check] [--save FILE]`: runs a script from standard input on a file system, and prints its answers.
+//! `console [IMAGE] [--schedule listed|round] [--last N] [--timeline] [--check] [--save FILE]`: runs a script from standard input on a file system, and prints its answers.
 //!
 //! Faults are told in this order: the command line (status 2), an IMAGE file that can't be read or an image that isn't
 //! taken (status 1), the script (status 1 or 2), a FILE that can't be written (status 1). Want of memory is told where it
@@ -7,7 +7,8 @@
 
 use clap::ArgMatches;
 use clap::error::ErrorKind;
-use console::{CHECK, ConsoleFault, IMAGE, Mode, SAVE, options, run_script, status};
+use console::{ConsoleFault, run_script, status};
+use console_parts::{IMAGE, SAVE, mode_of, options};
 use image_files::{SaveRefused, read_image, save};
 use std::alloc::AllocError;
 use std::io::{BufWriter, Write};
@@ -21,6 +22,9 @@ enum Fault<'a> {
     /// The command line has a word that is no text.
     #[error("the command line: {0}")]
     Words(io::Error),
+    /// The command line names a schedule that there isn't.
+    #[error("error: invalid value for '--schedule <SCHEDULE>': listed or round is wanted")]
+    Schedule,
     /// The image's file can't be read, or is too large.
     #[error("{0}: {1}")]
     Image(&'a str, io::Error),
@@ -80,7 +84,7 @@ impl<'a> Fault<'a> {
     // The program's exit status.
     fn status(&self) -> u8 {
         match self {
-            Fault::Words(_) => 2,
+            Fault::Words(_) | Fault::Schedule => 2,
             Fault::Image(..) | Fault::Save(_) => 1,
             Fault::Run(fault) => status(fault),
         }
@@ -106,6 +110,9 @@ fn words(rt: &HostRuntime) -> Result<Vec<String>, Fault<'static>> {
 
 // Runs what the command line asks for. What was answered before a fault is printed.
 fn run<'a>(rt: &HostRuntime, matches: &'a ArgMatches) -> Result<(), Fault<'a>> {
+    let Some(mode) = mode_of(matches) else {
+        return Err(Fault::Schedule);
+    };
     let place = matches.get_str(SAVE);
     let image = match matches.get_str(IMAGE) {
         Some(path) => {
@@ -115,9 +122,6 @@ fn run<'a>(rt: &HostRuntime, matches: &'a ArgMatches) -> Result<(), Fault<'a>> {
             Some(bytes)
         }
         None => None,
-    };
-    let mode = Mode {
-        check: matches.get_flag(CHECK),
     };
     let mut out = BufWriter::new(rt.alloc(), io::writer(rt)).map_err(|error| Fault::of_answers(
         error,

@@ -18,7 +18,7 @@ fn put(image: &mut [u8], at: usize, bytes: &[u8]) {
     }
 }
 
-fn with(alloc: Global, blocks: usize, changes: &[Change]) -> Result<Vec<u8>, AllocError>
+pub fn with(alloc: Global, blocks: usize, changes: &[Change]) -> Result<Vec<u8>, AllocError>
     requires { blocks < 8192 }
 {
     let mut image = vec![in alloc; 0u8; blocks * 1024]?;

@@ -9,4 +9,6 @@ mod makes;
 #[cfg(test)]
 mod recoveries;
 #[cfg(test)]
+mod rows;
+#[cfg(test)]
 mod scripts;

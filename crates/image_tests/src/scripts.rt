@@ -1,8 +1,10 @@
 //! What no clause says: the lines that are printed, the statuses, and that the calls can succeed.
 use block_device::{Fused, MemoryDisk};
 use clap::error::ErrorKind;
-use console::{ConsoleFault, Mode, Single, Stop, Tail, options, run_on, run_script, status};
+use console::{ConsoleFault, Session, run_on, run_script, status};
+use console_parts::{Mode, Schedule, Tail, options};
 use fs_machine::Kind;
+use hart_core::Stop;
 use image_tree::MountFault;
 use mkfs::{MakeRefused, make};
 use script::{CallLine, Command, Reason, ScriptFault, parse};
@@ -14,7 +16,7 @@ use std::test::Fail;
 const LONGEST_SCRIPT: usize = 16_777_216;
 
 // A fresh image of these sizes.
-fn disk(alloc: Global, size: u32, ninodes: u32) -> Result<MemoryDisk, Fail> {
+pub fn disk(alloc: Global, size: u32, ninodes: u32) -> Result<MemoryDisk, Fail> {
     match make(alloc, size, ninodes, &[]) {
         Ok(disk) => Ok(disk),
         Err(MakeRefused::NoMemory) => Err(Fail::from(AllocError)),
@@ -23,10 +25,10 @@ fn disk(alloc: Global, size: u32, ninodes: u32) -> Result<MemoryDisk, Fail> {
 }
 
 // A file system on a device that passes no further call.
-fn mounted_at_last(alloc: Global) -> Result<Single<Fused>, Fail> {
+fn mounted_at_last(alloc: Global) -> Result<Session<Fused>, Fail> {
     for calls in 0..10_000 {
-        match Single::mount(alloc, Fused::new(disk(alloc, 60, 16)?, calls)) {
-            Ok(single) => return Ok(single),
+        match Session::mount(alloc, Fused::new(disk(alloc, 60, 16)?, calls)) {
+            Ok(session) => return Ok(session),
             Err((_, MountFault::DeviceFault)) => {}
             Err((_, MountFault::NoMemory)) => return Err(Fail::from(AllocError)),
             Err(_) => return Err(Fail::new("it is damaged")),
@@ -60,7 +62,7 @@ fn is_refused_memory(fault: &Option<ConsoleFault>) -> bool {
 }
 
 // Runs a script, once more where memory was refused.
-fn run(
+pub fn run(
     alloc: Global,
     image: Option<&[u8]>,
     script: &[u8],
@@ -87,8 +89,43 @@ fn prints_what_the_calls_answer(rt: HostRuntime) -> Result<(), Fail> {
         ("", ""),
         ("# nothing\n\n", ""),
         (
-            "do 0 open / 0\ndo 0 open / 1\ndo 0 open / 0x200\ndo 0 read 5 1\n",
-            "0 open fd 0\n0 open failed 3 IsDirectory\n0 open failed 1 NoEntry\n0 read failed 6 BadDescriptor\n",
+            "do 0 fstat 3\ndo 7 dup 16\n",
+            "0 fstat failed 6 BadDescriptor\n7 dup failed 6 BadDescriptor\n",
+        ),
+        (
+            "0 fstat 0\n0 dup 0\n8 dup 0\nend 0\nend 0\nend 8\nstep 9 5\nupto 0 reply 1\n",
+            "0 dup refused 41 Busy\n8 dup refused 45 NoSuchHart\n0 fstat failed 6 BadDescriptor\n",
+        ),
+        (
+            "do 0 open hex:2f00 0\ndo 0 read 5 524289\ndo 0 fill 5 4294967295\n",
+            "0 open refused 43 ZeroInPath\n0 read refused 44 TooLong\n0 write refused 44 TooLong\n",
+        ),
+        (
+            "2 dup 0\n1 fstat 0\nall\nall\n",
+            "1 fstat failed 6 BadDescriptor\n2 dup failed 6 BadDescriptor\n",
+        ),
+        (
+            "0 dup 0\ndo 0 fstat 0\n",
+            "0 fstat refused 41 Busy\n0 dup failed 6 BadDescriptor\n",
+        ),
+        (
+            "0 dup 0\nstep 0 0\n0 fstat 0\nstep 0 1\nstep 0 1\ndo 0 fstat 0\n",
+            "0 fstat refused 41 Busy\n0 dup failed 6 BadDescriptor\n0 fstat failed 6 BadDescriptor\n",
+        ),
+    ] {
+        let (out, fault) = run(rt.alloc(), None, script.as_bytes())?;
+        assert!(rt; fault.is_none());
+        assert!(rt; out.as_slice() == lines.as_bytes(), "of {script}");
+    }
+    Ok(())
+}
+
+#[test]
+fn opens_and_reads_the_root(rt: HostRuntime) -> Result<(), Fail> {
+    for (script, lines) in [
+        (
+            "do 0 open / 0\ndo 0 open / 1\ndo 0 open /a 0\ndo 0 open / 0x200\ndo 0 read 5 1\n",
+            "0 open fd 0\n0 open failed 3 IsDirectory\n0 open failed 1 NoEntry\n0 open failed 1 NoEntry\n0 read failed 6 BadDescriptor\n",
         ),
         (
             "do 0 open \"\" 0\ndo 0 open // 0\ndo 0 close 0\ndo 0 open / 0\ndo 0 close 5",
@@ -101,10 +138,6 @@ fn prints_what_the_calls_answer(rt: HostRuntime) -> Result<(), Fail> {
         (
             "do 0 open / 0\ndo 0 read 0 7\ndo 0 read 0 7\ndo 0 read 0 7\n",
             "0 open fd 0\n0 read 7 01002e00000000\n0 read 7 00000000000000\n0 read 7 000001002e2e00\n",
-        ),
-        (
-            "do 0 open /a 0\ndo 0 open hex:2f00 0\ndo 0 read 5 524288\ndo 0 read 5 524289\n",
-            "0 open refused 49 NotYet\n0 open refused 43 ZeroInPath\n0 read failed 6 BadDescriptor\n0 read refused 44 TooLong\n",
         ),
     ] {
         let (out, fault) = run(rt.alloc(), None, script.as_bytes())?;
@@ -161,35 +194,139 @@ fn reads_no_more_than_there_is(rt: HostRuntime) -> Result<(), Fail> {
 
 #[test]
 fn prints_why_a_call_is_stopped(rt: HostRuntime) -> Result<(), Fail> {
-    let mut single = mounted_at_last(rt.alloc())?;
+    let mut session = mounted_at_last(rt.alloc())?;
     for (script, lines) in [
         (
-            "do 0 open / 0\ndo 0 fstat 0\ndo 0 close 0\n",
-            "0 open fd 0\n0 fstat stopped 31 DeviceFault\n",
+            "do 0 open / 0\ndo 0 close 0\n",
+            "0 open stopped 31 DeviceFault\n",
         ),
-        ("do 0 close 0\n", "0 close stopped 32 Halted\n"),
+        (
+            "do 0 close 0\n",
+            "0 close refused 41 Busy\n0 open stopped 32 Halted\n",
+        ),
     ] {
-        let mut out = Vec::with_capacity(rt.alloc(), 64)?;
-        match run_on(rt.alloc(), &mut single, script.as_bytes(), &mut out) {
+        let mut out = Vec::new(rt.alloc());
+        let ran = run_on(
+            rt.alloc(),
+            &mut session,
+            Mode::default(),
+            script.as_bytes(),
+            &mut out,
+        );
+        match ran {
             Err(ConsoleFault::Stopped(_)) => {}
-            Err(ConsoleFault::Memory) => return Err(Fail::from(AllocError)),
-            _ => return Err(Fail::new("it isn't stopped")),
+            Err(ConsoleFault::Memory) => {
+                let _disk = session.unmount();
+                return Err(Fail::from(AllocError));
+            }
+            _ => {
+                let _disk = session.unmount();
+                return Err(Fail::new("it isn't stopped"));
+            }
         }
         assert!(rt; out.as_slice() == lines.as_bytes(), "{script}");
     }
+    let _disk = session.unmount();
+    Ok(())
+}
+
+#[test]
+fn waits_are_told(rt: HostRuntime) -> Result<(), Fail> {
+    for (script, lines) in [
+        (
+            "do 0 open / 0\ndo 1 open / 0\n0 read 0 3\nupto 0 lock 1\ndo 1 read 0 2\nend 0\nend 1\n",
+            "0 open fd 0\n1 open fd 0\n1 waits\n0 read 3 01002e\n1 read 2 0100\n",
+        ),
+        (
+            "0 open / 0\n1 open / 0\n2 open / 0\n3 open / 0\nupto 0 join 1\nupto 1 join 1\nupto 2 join 1\nupto 3 join 1\nend 0\nend 3\n",
+            "3 waits\n0 open fd 0\n3 open fd 0\n",
+        ),
+    ] {
+        let (out, fault) = run(rt.alloc(), None, script.as_bytes())?;
+        assert!(rt; fault.is_none());
+        assert!(rt; out.as_slice() == lines.as_bytes(), "of {script}");
+    }
+    Ok(())
+}
+
+#[test]
+fn harts_take_turns(rt: HostRuntime) -> Result<(), Fail> {
+    let round = Mode {
+        schedule: Schedule::Round,
+        ..Mode::default()
+    };
+    let script = b"1 dup 1\n0 fstat 0\n1 fstat 1\n1 open hex:00 0\n0 dup 0\n".as_slice();
+    let (out, fault) = run_in(rt.alloc(), None, round, script)?;
+    assert!(rt; fault.is_none());
+    assert!(rt;
+        out.as_slice()
+            == b"0 fstat failed 6 BadDescriptor\n1 dup failed 6 BadDescriptor\n0 dup failed 6 BadDescriptor\n1 fstat failed 6 BadDescriptor\n1 open refused 43 ZeroInPath\n".as_slice()
+    );
+    for line in ["do 0 dup 0", "8 dup 0", "all", "end 0"] {
+        let script = format!(in rt.alloc(); "0 dup 0\n{line}\n")?;
+        let (out, fault) = run_in(rt.alloc(), None, round, script.as_str().as_bytes())?;
+        assert!(rt; out.is_empty(), "{line}");
+        let Some(fault) = fault else {
+            return Err(Fail::new("it is run"));
+        };
+        assert_eq!(rt; status(&fault), 2, "{line}");
+        let text = format!(in rt.alloc(); "{fault}")?;
+        assert!(rt;
+            text.as_str()
+                == "line 2: bad command\nwanted: H CALL .. with H from 0 to 7, in the schedule round",
+            "{text}"
+        );
+    }
+    Ok(())
+}
+
+#[test]
+fn prints_the_last_events(rt: HostRuntime) -> Result<(), Fail> {
+    let script = b"0 fstat 0\n1 dup 0\n0 dup 1\nall\n9 dup 0\n".as_slice();
+    let answers =
+        "0 dup refused 41 Busy\n0 fstat failed 6 BadDescriptor\n1 dup failed 6 BadDescriptor\n9 dup refused 45 NoSuchHart\n";
+    let events = [
+        "event 0: 0 start fstat\n",
+        "event 1: 1 start dup\n",
+        "event 2: 0 refused 41\n",
+        "event 3: 0 reply\n",
+        "event 4: 1 reply\n",
+        "event 5: 9 refused 45\n",
+    ];
+    for last in [0usize, 2, 6, 9] {
+        let mode = Mode {
+            last: last as u32,
+            ..Mode::default()
+        };
+        let (out, fault) = run_in(rt.alloc(), None, mode, script)?;
+        assert!(rt; fault.is_none());
+        let mut want = Vec::from_slice(rt.alloc(), answers.as_bytes())?;
+        for line in events.iter().skip(events.len().saturating_sub(last)) {
+            want.extend_from_slice(line.as_bytes())?;
+        }
+        assert!(rt; out.as_slice() == want.as_slice(), "of {last}");
+    }
+    Ok(())
+}
+
+#[test]
+fn prints_events_in_columns(rt: HostRuntime) -> Result<(), Fail> {
+    let mode = Mode {
+        timeline: true,
+        ..Mode::default()
+    };
+    let script = b"0 fstat 0\n1 dup 0\n0 dup 1\nall\n9 dup 0\n".as_slice();
+    let lines =
+        "0 dup refused 41 Busy\n0 fstat failed 6 BadDescriptor\n1 dup failed 6 BadDescriptor\n9 dup refused 45 NoSuchHart\n event  hart 0  hart 1  hart 2  hart 3  hart 4  hart 5  hart 6  hart 7\n     0  start fstat\n     1          start dup\n     2  refused 41 Busy\n     3  reply failed 6 BadDescriptor\n     4          reply failed 6 BadDescriptor\n     5                                                          refused 45 NoSuchHart\n";
+    let (out, fault) = run_in(rt.alloc(), None, mode, script)?;
+    assert!(rt; fault.is_none());
+    assert!(rt; out.as_slice() == lines.as_bytes());
     Ok(())
 }
 
 #[test]
 fn runs_no_line_of_a_bad_script(rt: HostRuntime) -> Result<(), Fail> {
     for (line, why) in [
-        ("do 1 open / 0", "not there yet: harts other than 0"),
-        ("do 0 mkdir /a", "not there yet: this call"),
-        (
-            "0 open / 0",
-            "not there yet: calls in steps (do H CALL .. is there)",
-        ),
-        ("all", "not there yet: steps of a hart"),
         ("do 0 open /", "wanted: H open PATH FLAGS"),
         (
             "do 0  open / 0",
@@ -217,7 +354,7 @@ fn runs_no_line_of_a_bad_script(rt: HostRuntime) -> Result<(), Fail> {
         ("upto 0 turn 1", "unknown kind of step: turn"),
         ("do 0 write 0 a b", "more words than a command has"),
     ] {
-        let script = format!(in rt.alloc(); "do 0 open / 0\n# two\n{line}\n")?;
+        let script = format!(in rt.alloc(); "do 0 fstat 0\n# two\n{line}\n")?;
         let (out, fault) = run(rt.alloc(), None, script.as_str().as_bytes())?;
         assert!(rt; out.is_empty(), "{line}");
         let Some(fault) = fault else {
@@ -282,7 +419,10 @@ fn reads_each_kind_of_line(rt: HostRuntime) -> Result<(), Fail> {
 
 #[test]
 fn checks_images(rt: HostRuntime) -> Result<(), Fail> {
-    let check = Mode { check: true };
+    let check = Mode {
+        check: true,
+        ..Mode::default()
+    };
     let (out, fault) = run_in(rt.alloc(), None, check, b"bad".as_slice())?;
     assert!(rt; fault.is_none());
     assert!(rt; out.as_slice() == b"clean live 1 orphans 0 blocks 1\n".as_slice());

@@ -65,8 +65,6 @@ pub enum Reason {
     PairsWanted(&'static str),
     /// The word is no kind of step.
     UnknownKind(Shown),
-    /// What the line says isn't run yet.
-    NotYet(&'static str),
 }
 
 impl Display for Reason {
@@ -88,7 +86,6 @@ impl Display for Reason {
                 "pairs of hexadecimal digits are wanted after hex: {word}"
             ),
             Reason::UnknownKind(word) => write!(f, "unknown kind of step: {word}"),
-            Reason::NotYet(what) => write!(f, "not there yet: {what}"),
         }
     }
 }

@@ -1,27 +1,25 @@
-use Rattle.std.proofs.Common.{rules, tests, ◌≡◌, Err, sym, ◌∙◌, subst}
+use Rattle.std.proofs.Common.{rules, tests, refl, ◌≡◌, ◌∙◌, Err, List, ℕ, sym, subst}
 use Rattle.block_device.specs.Blocks.{blocks_of}
-use Rattle.console.specs.Held.{IsMounted}
-use Rattle.console.specs.View.{session_of}
 use Rattle.console.specs.Images.{disk_for, JudgesImage}
-use Rattle.console.proofs.Running.{mount_judged, run_judged}
+use Rattle.console.specs.Runs.{RunsReader}
+use Rattle.console.proofs.Calm.{run_judged}
+use Rattle.console.proofs.Running.{mount_judged}
+use Rattle.console.proofs.Stopping.{came_calm}
 use Rattle.console.proofs.run.run_script.Goals as goal
 
--- src/run.rt:73:16
 pub returns-in_err-disk-clause-refused : goal.returns-in_err-disk-clause-refused
-returns-in_err-disk-clause-refused g c = let a = c.in_err-disk.ensures.judges (disk_for c.args.image) in search (rules, tests, a)
+returns-in_err-disk-clause-refused g c = let a = c.in_err-disk.ensures.memory in search (rules, tests, a)
 
--- src/run.rt:79:28
 pub returns-in-Err-clause-refused : goal.returns-in-Err-clause-refused
 returns-in-Err-clause-refused g c =
-    rw (c.from.ensures, ← c.in_ok-disk.ensures.disk) (mount_judged _ c.in-Err.fault c.in-Err.ensures.err.0 (sym c.in-Err.ensures.err.2))
+    rw (c.from.ensures, ← c.in_ok-disk.ensures.disk) (mount_judged _ c.in-Err.fault c.in-Err.ensures.err.judges (sym c.in-Err.ensures.err.failures_are))
 
--- src/run.rt:81:5
-pub returns-in_err-run_on-clause-refused : goal.returns-in_err-run_on-clause-refused
-returns-in_err-run_on-clause-refused g c =
-    let is : c.from_residual-in_err-run_on.result ≡ Err c.in_err-run_on.field-0.0 = search rules in
-    let fresh = c.in-Ok.ensures.ok in
-    let disk = blocks_of c.in-Ok.single.device in
-    let judged : JudgesImage disk c.in_err-run_on.field-0.0 =
-    run_judged disk (session_of c.in-Ok.single) (session_of c.run_on.new.single) (g.R.Read.remaining c.args.script) c.in_err-run_on.field-0.0 (subst (λ d. IsMounted d) (sym fresh.2) fresh.1) fresh.0.runs c.in_err-run_on.ensures.runs
-    c.in_err-run_on.ensures.faults in
-    rw is (subst (λ d. JudgesImage d c.in_err-run_on.field-0.0) (fresh.2 ∙ c.in_ok-disk.ensures.disk) judged)
+pub returns-in_err-ended-clause-refused : goal.returns-in_err-ended-clause-refused
+returns-in_err-ended-clause-refused g c =
+    let is : c.from_residual-in_err-ended.result ≡ Err c.in_err-ended.field-0.0 = search rules in
+    let was : c.run_on-ended.result ≡ Err c.in_err-ended.field-0.0 = search rules in
+    let disk : List (List ℕ) = blocks_of c.in_ok-disk.disk in
+    let ran = subst (λ r. RunsReader blocks_of (λ d. 0) c.args.mode c.in-Ok.session (g.R.Read.remaining c.args.script) r c.run_on-ended.new.session (g.W.Write.contents c.args.out.now) (g.W.Write.contents c.run_on-ended.new.out)) was c.run_on-ended.ensures in
+    let judged : JudgesImage disk c.in_err-ended.field-0.0 =
+    run_judged blocks_of (λ d. 0) (came_calm blocks_of (λ d. 0) (λ d. refl)) disk c.in-Ok.ensures.well c.args.mode c.in-Ok.session c.run_on-ended.new.session (g.R.Read.remaining c.args.script) c.in_err-ended.field-0.0 _ _ c.in-Ok.ensures.rests.0.runs ran in
+    rw is (subst (λ d. JudgesImage (blocks_of d) c.in_err-ended.field-0.0) c.in_ok-disk.ensures.disk judged)

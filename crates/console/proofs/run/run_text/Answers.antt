@@ -1,14 +1,15 @@
-use Rattle.std.proofs.Common.{ap, sym, ◌∙◌, subst, map}
-use Rattle.std.proofs.lemmas.Simd.{map-map}
-use Rattle.script.specs.Said.{call_said}
-use Rattle.console.specs.Lines.{called, calls_of}
-use Rattle.console.specs.Runs.{RunsCalls}
-use Rattle.console.specs.View.{session_of}
-use Rattle.console.proofs.Running.{with_calls}
+use Rattle.std.proofs.Common.{rules, ap, sym, ◌≡◌, ◌∙◌, subst, Err}
+use Rattle.console.specs.Lines.{FailsTo, course, course_in}
+use Rattle.console.proofs.Running.{failed_course, with_course}
 use Rattle.console.proofs.run.run_text.Goals as goal
 
--- src/run.rt:143:1
-pub returns-clause-runs : goal.returns-clause-runs
-returns-clause-runs g c =
-    with_calls _ (session_of c.args.single.now) (session_of c.run_calls.new.single) _ (map call_said c.in_ok-calls.calls.items) c.run_calls.result (ap calls_of c.in_ok-lines.ensures ∙ c.in_ok-calls.ensures)
-    (subst (λ cs. RunsCalls (g.D.Device.contents c.args.single.now.device) (session_of c.args.single.now) cs c.run_calls.result (session_of c.run_calls.new.single)) (sym (map-map called call_said c.in_ok-calls.calls.items)) c.run_calls.ensures.runs)
+pub returns-in_err-planned : goal.returns-in_err-planned
+returns-in_err-planned g c =
+    let is : c.from_residual-in_err-planned.result ≡ Err c.in_err-planned.field-0.0 = search rules in
+    failed_course g.D.Device.contents g.D.Device.failures c.args.mode _ c.args.session.now c.in_err-planned.field-0.0 c.from_residual-in_err-planned.result _ is
+    (subst (λ w. FailsTo c.in_err-planned.field-0.0 w) (sym (ap (course_in c.args.mode.schedule) c.in_ok-lines.ensures)) c.in_err-planned.ensures)
+
+pub returns : goal.returns
+returns g c =
+    with_course g.D.Device.contents g.D.Device.failures c.args.mode _ (course c.in_ok-planned.planned) c.args.session.now c.run_course.new.session c.run_course.result _ _
+    (ap (course_in c.args.mode.schedule) c.in_ok-lines.ensures ∙ c.in_ok-planned.ensures) c.run_course.ensures

@@ -1,0 +1,13 @@
+use Rattle.std.proofs.Common.{rules, ◌≡◌, Err}
+use Rattle.console.specs.declared.fault.ConsoleFault.TheVariants.{Memory}
+use Rattle.script.specs.Said.{call_said}
+use Rattle.console.proofs.Commanding.{not_started, started}
+use Rattle.console.proofs.commands.start.Goals as goal
+
+pub returns-in_err-call : goal.returns-in_err-call
+returns-in_err-call g c =
+    let is : c.from_residual.result ≡ Err Memory = search rules in
+    not_started g.D.Device.contents g.D.Device.failures c.args.hart (call_said c.args.call) _ _ _ c.from_residual.result is
+
+pub returns : goal.returns
+returns g c = started g.D.Device.contents g.D.Device.failures c.args.hart (call_said c.args.call) c.in_ok-call.call c.of-verb.result _ _ _ _ _ _ c.happen.result c.in_ok-call.ensures c.of-verb.ensures c.happen.ensures

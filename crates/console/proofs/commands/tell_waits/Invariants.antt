@@ -1,0 +1,13 @@
+use Rattle.std.proofs.Common.{ℕ, List, Option, Result, drop}
+use Rattle.console.specs.declared.fault.ConsoleFault.{ConsoleFault}
+use Rattle.console.specs.Behaviours.{Runs}
+use Rattle.console.specs.Commands.{RunOf, state, tells_waits}
+use Rattle.console.specs.Notes.{NotesOf}
+use Rattle.console.specs.Queues.{Left}
+use Rattle.console.proofs.commands.tell_waits.Given as goal
+
+abbrev pub invariant-loop-hart : goal.invariant-loop-hart
+invariant-loop-hart g l =
+    (left : Left) (n : NotesOf) (r : Result (Unit {0}) ConsoleFault) (t : RunOf g.row.D.Denot) (end : Option (List ℕ)) (m : NotesOf)
+    → Runs (tells_waits g.D.Device.contents g.D.Device.failures (drop l.hart-index l.harts)) (state l.session left) (g.W.Write.contents l.out) n r t end m
+    → Runs (tells_waits g.D.Device.contents g.D.Device.failures l.harts) (state l.session left) (g.W.Write.contents l.fn.out) n r t end m

@@ -1,0 +1,15 @@
+use Rattle.std.proofs.Common.{ℕ, List, Option, Result, drop}
+use Rattle.console.specs.declared.fault.ConsoleFault.{ConsoleFault}
+use Rattle.console.specs.declared.flow.Flow.{Flow}
+use Rattle.console.specs.declared.flow.Flow.TheVariants.{Rests}
+use Rattle.console.specs.Behaviours.{Runs}
+use Rattle.console.specs.Commands.{RunOf, state, turn}
+use Rattle.console.specs.Notes.{NotesOf}
+use Rattle.console.proofs.commands.turn.Given as goal
+
+-- whatever comes of the harts that are left is what comes of all
+abbrev pub invariant-loop-hart : goal.invariant-loop-hart
+invariant-loop-hart g l =
+    (r : Result Flow ConsoleFault) (t : RunOf g.row.D.Denot) (end : Option (List ℕ)) (n : NotesOf)
+    → Runs (turn g.D.Device.contents g.D.Device.failures l.until (drop l.hart-index l.harts) l.flow) (state l.session l.desk.queues) (g.W.Write.contents l.out) l.desk.notes r t end n
+    → Runs (turn g.D.Device.contents g.D.Device.failures l.until l.harts Rests) (state l.fn.session l.fn.desk.queues) (g.W.Write.contents l.fn.out) l.fn.desk.notes r t end n

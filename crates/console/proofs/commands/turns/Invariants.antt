@@ -1,0 +1,15 @@
+use Rattle.std.proofs.Common.{ℕ, ◌-◌, List, Option, Result}
+use Rattle.console.specs.declared.fault.ConsoleFault.{ConsoleFault}
+use Rattle.console.specs.declared.flow.Flow.{Flow}
+use Rattle.console.specs.declared.flow.Flow.TheVariants.{Moves}
+use Rattle.console.specs.Behaviours.{Runs}
+use Rattle.console.specs.Commands.{RunOf, state, turns}
+use Rattle.console.specs.Notes.{NotesOf}
+use Rattle.console.proofs.commands.turns.Given as goal
+
+-- whatever comes of the turns that are left is what comes of all
+abbrev pub invariant-loop-turn : goal.invariant-loop-turn
+invariant-loop-turn g l =
+    (r : Result Flow ConsoleFault) (t : RunOf g.row.D.Denot) (end : Option (List ℕ)) (n : NotesOf)
+    → Runs (turns g.D.Device.contents g.D.Device.failures l.plan l.harts (l.plan.most - l._turn) l.last) (state l.session l.desk.queues) (g.W.Write.contents l.out) l.desk.notes r t end n
+    → Runs (turns g.D.Device.contents g.D.Device.failures l.plan l.harts l.plan.most Moves) (state l.fn.session l.fn.desk.queues) (g.W.Write.contents l.fn.out) l.fn.desk.notes r t end n

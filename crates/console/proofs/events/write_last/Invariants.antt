@@ -1,0 +1,8 @@
+use Rattle.std.proofs.Common.{ℕ, List, Option}
+use Rattle.std.specs.Io.KnownBytes.{Appends}
+use Rattle.console.specs.Events.{last_text}
+use Rattle.console.proofs.events.write_last.Given as goal
+
+abbrev pub invariant-loop-note : goal.invariant-loop-note
+invariant-loop-note g l =
+    (end : Option (List ℕ)) → Appends (g.W.Write.contents l.out) end (last_text l.first l.note-iterator) → Appends (g.W.Write.contents l.fn.out) end (last_text l.first l.notes.tail.events)

@@ -1,0 +1,5 @@
+use Rattle.console.proofs.Printing.{tells_four}
+use Rattle.console.proofs.events.write_row.Goals as goal
+
+pub returns : goal.returns
+returns g c = tells_four _ _ _ _ _ c.writeln.result _ _ _ _ c.in_ok-write_number.ensures c.in_ok-write_spaces.ensures c.in_ok-write_cell.ensures c.writeln.ensures.bytes

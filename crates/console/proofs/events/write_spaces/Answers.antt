@@ -1,0 +1,9 @@
+use Rattle.std.proofs.Common.{subst, ℕ, List}
+use Rattle.std.specs.Prelude.{OnOk}
+use Rattle.std.specs.Io.KnownBytes.{Appends}
+use Rattle.console.proofs.Printing.{spaces_are}
+use Rattle.console.proofs.events.write_spaces.Goals as goal
+
+pub returns : goal.returns
+returns g c =
+    subst (λ xs. OnOk c.write_all.result (Appends (g.W.Write.contents c.args.out.now) (g.W.Write.contents c.write_all.new.self) xs)) (spaces_are c.min-before.result c.args.hart c.min-before.ensures) c.write_all.ensures.bytes

@@ -1,0 +1,8 @@
+use Rattle.std.proofs.Common.{map, sym, Ok}
+use Rattle.std.proofs.lemmas.Simd.{map-map}
+use Rattle.script.specs.Said.{line_said, numbered}
+use Rattle.console.specs.Lines.{course_of}
+use Rattle.console.proofs.lines.course_of.Goals as goal
+
+pub returns-in-Listed : goal.returns-in-Listed
+returns-in-Listed c = rw c.in-Listed.is (λ i. Ok (record { left = sym c.new.ensures i; lines = map-map (λ l. l.says) numbered c.args.lines.items i }))

@@ -1,0 +1,7 @@
+use Rattle.std.proofs.Common.{◌≡◌, map, drop, length}
+use Rattle.script.specs.Said.{numbered}
+use Rattle.console.specs.Queues.{none_left, queued}
+use Rattle.console.proofs.lines.queues_of.Given as goal
+
+abbrev pub invariant-loop-line : goal.invariant-loop-line
+invariant-loop-line l = queued l.queues (map numbered (drop (length l.yielded) l.fn.lines.items)) ≡ queued none_left (map numbered l.fn.lines.items)

@@ -1,0 +1,74 @@
+-- A mounted file system that a console runs, and what happens to it.
+use Rattle.std.specs.Prelude.{◌≡◌, ℕ, ◌+◌, min, List, [], replicate, set, get_or, Option, Some, None}
+use Rattle.plain_tree.specs.declared.call.Call.{Call}
+use Rattle.fs_machine.specs.declared.kind.Kind.{Kind}
+use Rattle.atomic_programs.specs.Calls.{with_answer}
+use Rattle.hart_core.specs.declared.events.Event.{Event}
+use Rattle.hart_core.specs.declared.events.Event.TheVariants as event
+use Rattle.hart_core.specs.declared.events.Came.{Came}
+use Rattle.hart_core.specs.declared.events.Came.TheVariants as came
+use Rattle.hart_core.specs.declared.outcome.Outcome.{Outcome}
+use Rattle.hart_core.specs.declared.outcome.Outcome.TheVariants as outcome
+use Rattle.hart_core.specs.Events.{event_of, came_of, said_of}
+use Rattle.hart_core.specs.Harts.{shared_of}
+use Rattle.hart_core.specs.Worlds.{WorldOf, Makes, Answers}
+use Rattle.console.specs.declared.verb.Verb.{Verb}
+use Rattle.console.specs.declared.doing.Doing.{Doing}
+use Rattle.console.specs.Numbers.{kind_place}
+
+-- ---- what a hart's call has done so far: which call it is, and how many of its steps of each kind have run
+
+-- counted up to the greatest u32
+abbrev pub one_more : ℕ → ℕ
+one_more n = min (n + 1) 4294967295
+
+abbrev pub begun : Verb → Doing
+begun verb = record { verb = verb; ran = replicate 12 0 }
+
+abbrev pub count_of : Kind → Doing → ℕ
+count_of kind d = get_or d.ran (kind_place kind) 0
+
+abbrev pub with_step : Kind → Doing → Doing
+with_step kind d = record d { ran = set d.ran (kind_place kind) (one_more (count_of kind d)) }
+
+abbrev pub stepped : Outcome → Option Doing → Option Doing
+stepped came None = None
+stepped outcome.Idle (Some d) = Some d
+stepped outcome.Waits (Some d) = Some d
+stepped (outcome.Ran kind) (Some d) = Some (with_step kind d)
+stepped (outcome.Done reply) (Some d) = None
+stepped (outcome.Stopped stop) (Some d) = Some d
+
+-- a hart has a call under way from an accepted start to its reply
+abbrev pub done_after : Verb → Came → Option Doing → Option Doing
+done_after verb came.Started d = Some (begun verb)
+done_after verb (came.Refused why) d = d
+done_after verb (came.Stepped outcome) d = stepped outcome d
+
+-- ---- what happens
+
+-- an event, which call it is of, and what it came to
+pub record Happening : Type 0 where
+  pub event : Event
+  pub verb : Verb
+  pub came : Came
+
+abbrev pub hart_in : Event → ℕ
+hart_in (event.Start hart call) = hart
+hart_in (event.Step hart) = hart
+
+abbrev pub doing_at : ℕ → List (Option Doing) → Option Doing
+doing_at hart doing = get_or doing hart None
+
+-- the file system, and what each hart's call has done so far
+pub record SessionOf (D : Type 0) : Type 0 where
+  pub world : WorldOf D
+  pub doing : List (Option Doing)
+
+module _ {D : Type 0} (contents : D → List (List ℕ)) (failures : D → ℕ) where
+  -- the event makes one file system of the other, and comes to this
+  pub record Happens (s : SessionOf D) (x : Happening) (t : SessionOf D) : Type 0 where
+    pub makes : Makes contents failures s.world.sizes (with_answer (event_of x.event) (said_of x.came (shared_of contents failures t.world.harts))) s.world.harts (came_of x.came) t.world.harts
+    pub honest : Answers contents failures s.world.sizes (with_answer (event_of x.event) (said_of x.came (shared_of contents failures t.world.harts))) s.world.harts
+    pub sizes : t.world.sizes ≡ s.world.sizes
+    pub doing : t.doing ≡ set s.doing (hart_in x.event) (done_after x.verb x.came (doing_at (hart_in x.event) s.doing))

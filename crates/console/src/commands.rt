@@ -1,0 +1,233 @@
+//! What the lines of a script do.
+ghost use Rattle.std.specs.Prelude.{◌≡◌, OnOk, map};
+ghost use Rattle.std.specs.Io.KnownBytes.{Appends};
+ghost use Rattle.script.specs.Said.{call_said, line_said};
+ghost use Rattle.console.specs.Behaviours.{IsWritten, Runs};
+ghost use Rattle.console.specs.Commands.{acts, happens, line, lines, settles, starts, state, tells_waits, turn, turns, wait_text};
+ghost use Rattle.console.specs.Notes.{NotesOf};
+ghost use Rattle.console.specs.Queues.{Left};
+ghost use Rattle.console.specs.Sessions.{doing_at};
+
+use crate::fault::ConsoleFault;
+use crate::flow::Flow;
+use crate::lines::call_of;
+use crate::notes::Notes;
+use crate::plan::{Plan, Until};
+use crate::queues::Queues;
+use crate::session::{Session, hart_in};
+use crate::tell::tell;
+use crate::verb::Verb;
+use block_device::Device;
+use console_parts::write_waits;
+use hart_core::Event;
+use script::{CallLine, Command, ScriptLine};
+use std::alloc::Global;
+use std::io::Write;
+
+/// The harts, in the order of a turn.
+const ALL_HARTS: [u8; 8] = [0, 1, 2, 3, 4, 5, 6, 7];
+
+/// What stands beside a file system while a script is run: the calls that harts are still to start, and what is noted.
+#[derive(Drop)]
+pub struct Desk {
+    pub queues: Queues,
+    pub notes: Notes,
+}
+
+// Makes an event, tells and notes it.
+fn happen<D: Device, W: Write>(
+    session: &mut Session<D>,
+    desk: &mut Desk,
+    out: &mut W,
+    verb: Verb,
+    event: Event,
+) -> Result<Flow, ConsoleFault>
+    ensures { Runs (happens D.contents D.failures event verb) (state session.old desk.old.queues) (W.contents out.old) desk.old.notes result (state session.new desk.new.queues) (W.contents out.new) desk.new.notes }
+{
+    let hart = hart_in(&event);
+    let came = session.event(verb, event);
+    tell(hart, verb, &came, &mut desk.notes, out)
+}
+
+// Starts the call that a line says.
+fn start<D: Device, W: Write>(
+    alloc: Global,
+    session: &mut Session<D>,
+    desk: &mut Desk,
+    out: &mut W,
+    hart: u8,
+    call: CallLine,
+) -> Result<Flow, ConsoleFault>
+    ensures { Runs (starts D.contents D.failures hart (call_said call)) (state session.old desk.old.queues) (W.contents out.old) desk.old.notes result (state session.new desk.new.queues) (W.contents out.new) desk.new.notes }
+{
+    let call = call_of(alloc, call)?;
+    let verb = Verb::of(&call);
+    happen(session, desk, out, verb, Event::Start { hart, call })
+}
+
+// A step of a hart that has a call, unless enough have run; of one that has none the start of its next call.
+fn act<D: Device, W: Write>(
+    alloc: Global,
+    session: &mut Session<D>,
+    desk: &mut Desk,
+    out: &mut W,
+    until: Option<Until>,
+    hart: u8,
+) -> Result<Flow, ConsoleFault>
+    ensures { Runs (acts D.contents D.failures until hart) (state session.old desk.old.queues) (W.contents out.old) desk.old.notes result (state session.new desk.new.queues) (W.contents out.new) desk.new.notes }
+{
+    match session.doing(hart) {
+        Some(doing) => {
+            if Until::is_enough(until, &doing) {
+                Ok(Flow::Rests)
+            } else {
+                happen(session, desk, out, doing.verb, Event::Step { hart })
+            }
+        }
+        None => match desk.queues.take_next(hart) {
+            Some(call) => start(alloc, session, desk, out, hart, call),
+            None => Ok(Flow::Rests),
+        },
+    }
+}
+
+// One act of each hart.
+fn turn<D: Device, W: Write>(
+    alloc: Global,
+    session: &mut Session<D>,
+    desk: &mut Desk,
+    out: &mut W,
+    until: Option<Until>,
+    harts: &[u8],
+) -> Result<Flow, ConsoleFault>
+    ensures { Runs (turn D.contents D.failures until harts.now Flow.Rests) (state session.old desk.old.queues) (W.contents out.old) desk.old.notes result (state session.new desk.new.queues) (W.contents out.new) desk.new.notes }
+{
+    let mut flow = Flow::Rests;
+    for hart in harts {
+        flow = flow.joined(act(alloc, session, desk, out, until, *hart)?);
+    }
+    Ok(flow)
+}
+
+// Turn after turn, as the plan says. Gives the flow of the last one.
+fn turns<D: Device, W: Write>(
+    alloc: Global,
+    session: &mut Session<D>,
+    desk: &mut Desk,
+    out: &mut W,
+    plan: &Plan,
+    harts: &[u8],
+) -> Result<Flow, ConsoleFault>
+    ensures { Runs (turns D.contents D.failures plan.now harts.now plan.now.most Flow.Moves) (state session.old desk.old.queues) (W.contents out.old) desk.old.notes result (state session.new desk.new.queues) (W.contents out.new) desk.new.notes }
+{
+    let mut last = Flow::Moves;
+    for _turn in 0..plan.most {
+        if !plan.goes_on(last) {
+            return Ok(last);
+        }
+        last = turn(alloc, session, desk, out, plan.until, harts)?;
+    }
+    Ok(last)
+}
+
+// Tells of each hart that has a call that it waits.
+fn tell_waits<D: Device, W: Write>(
+    session: &Session<D>,
+    out: &mut W,
+    harts: &[u8],
+) -> Result<(), ConsoleFault>
+    ensures { (left : Left) (notes : NotesOf) → Runs (tells_waits D.contents D.failures harts.now) (state session.now left) (W.contents out.old) notes result (state session.now left) (W.contents out.new) notes }
+{
+    for hart in harts {
+        tell_wait(session, out, *hart)?;
+    }
+    Ok(())
+}
+
+// Tells of a hart that has a call that it waits.
+fn tell_wait<D: Device, W: Write>(
+    session: &Session<D>,
+    out: &mut W,
+    hart: u8,
+) -> Result<(), ConsoleFault>
+    ensures written { IsWritten result }
+    ensures prints { OnOk result (Appends (W.contents out.old) (W.contents out.new) (wait_text hart (doing_at hart session.now.doing))) }
+{
+    match session.doing(hart) {
+        Some(_) => write_waits(out, hart).map_err(ConsoleFault::Write),
+        None => Ok(()),
+    }
+}
+
+// Turns until one in which nothing moved; then tells who waits.
+fn settle<D: Device, W: Write>(
+    alloc: Global,
+    session: &mut Session<D>,
+    desk: &mut Desk,
+    out: &mut W,
+    plan: &Plan,
+    harts: &[u8],
+) -> Result<(), ConsoleFault>
+    ensures { Runs (settles D.contents D.failures plan.now harts.now) (state session.old desk.old.queues) (W.contents out.old) desk.old.notes result (state session.new desk.new.queues) (W.contents out.new) desk.new.notes }
+{
+    let last = turns(alloc, session, desk, out, plan, harts)?;
+    match last {
+        Flow::Waits => tell_waits(session, out, harts),
+        Flow::Moves => Ok(()),
+        Flow::Rests => Ok(()),
+    }
+}
+
+// Runs a line.
+fn run_line<D: Device, W: Write>(
+    alloc: Global,
+    session: &mut Session<D>,
+    desk: &mut Desk,
+    out: &mut W,
+    command: Command,
+) -> Result<(), ConsoleFault>
+    ensures { Runs (line D.contents D.failures (line_said command)) (state session.old desk.old.queues) (W.contents out.old) desk.old.notes result (state session.new desk.new.queues) (W.contents out.new) desk.new.notes }
+{
+    match command {
+        Command::Start { hart, call } => {
+            let _flow = start(alloc, session, desk, out, hart, call)?;
+            Ok(())
+        }
+        Command::Do { hart, call } => {
+            let _flow = start(alloc, session, desk, out, hart, call)?;
+            settle(alloc, session, desk, out, &Plan::to_end(), &[hart])
+        }
+        Command::Step { hart, steps } => {
+            let _last = turns(alloc, session, desk, out, &Plan::in_steps(steps), &[hart])?;
+            Ok(())
+        }
+        Command::Upto { hart, kind, steps } => {
+            settle(
+                alloc,
+                session,
+                desk,
+                out,
+                &Plan::up_to(kind, steps),
+                &[hart],
+            )
+        }
+        Command::End { hart } => settle(alloc, session, desk, out, &Plan::to_end(), &[hart]),
+        Command::All => settle(alloc, session, desk, out, &Plan::to_end(), &ALL_HARTS),
+    }
+}
+
+/// Runs the lines in their order, each once, up to a fault.
+pub fn run_lines<D: Device, W: Write>(
+    alloc: Global,
+    session: &mut Session<D>,
+    desk: &mut Desk,
+    out: &mut W,
+    commands: Vec<ScriptLine>,
+) -> Result<(), ConsoleFault>
+    ensures { Runs (lines D.contents D.failures (map (λ l. line_said l.command) commands.items)) (state session.old desk.old.queues) (W.contents out.old) desk.old.notes result (state session.new desk.new.queues) (W.contents out.new) desk.new.notes }
+{
+    for line in commands {
+        run_line(alloc, session, desk, out, line.command)?;
+    }
+    Ok(())
+}

@@ -1,0 +1,68 @@
+//! What a hart's call has done so far.
+ghost use Rattle.std.specs.Prelude.{◌≡◌};
+ghost use Rattle.console.specs.Sessions.{begun, count_of, done_after, stepped, with_step};
+
+use crate::numbers::{KINDS, kind_place};
+use crate::verb::Verb;
+use fs_machine::Kind;
+use hart_core::{Came, Outcome};
+
+/// Which call a hart has under way, and how many of its steps of each kind have run.
+#[derive(Clone, Copy, PartialEq, Eq, Debug)]
+pub struct Doing {
+    pub verb: Verb,
+    ran: [u32; KINDS],
+}
+
+impl Doing {
+    // Of a call that was started, and has made no step.
+    fn begun(verb: Verb) -> Doing
+        ensures { result ≡ begun verb }
+    {
+        Doing {
+            verb,
+            ran: [0; KINDS],
+        }
+    }
+
+    /// How many steps of this kind have run, up to the greatest u32.
+    pub fn count(&self, kind: Kind) -> u32
+        ensures { result ≡ count_of kind self.now }
+    {
+        self.ran[kind_place(kind)]
+    }
+
+    fn with_step(self, kind: Kind) -> Doing
+        ensures { result ≡ with_step kind self }
+    {
+        let mut ran = self.ran;
+        let place = kind_place(kind);
+        ran[place] = ran[place].saturating_add(1);
+        Doing {
+            verb: self.verb,
+            ran,
+        }
+    }
+}
+
+/// What a hart does after an event of its own, of this call, that came to this.
+pub fn done_after(verb: Verb, came: &Came, doing: Option<Doing>) -> Option<Doing>
+    ensures { result ≡ done_after verb came.now doing }
+{
+    match came {
+        Came::Started => Some(Doing::begun(verb)),
+        Came::Refused(_) => doing,
+        Came::Stepped(outcome) => stepped(outcome, doing?),
+    }
+}
+
+// What a call that has done this does after a step.
+fn stepped(outcome: &Outcome, doing: Doing) -> Option<Doing>
+    ensures { result ≡ stepped outcome.now (Some doing) }
+{
+    match outcome {
+        Outcome::Ran(kind) => Some(doing.with_step(*kind)),
+        Outcome::Done(_) => None,
+        Outcome::Idle | Outcome::Waits | Outcome::Stopped(_) => Some(doing),
+    }
+}

@@ -1,0 +1,83 @@
+//! How far a line goes.
+ghost use Rattle.std.specs.Prelude.{◌≡◌};
+ghost use Rattle.console.specs.Commands.{goes_on, in_steps, is_enough, to_end, up_to};
+
+use crate::doing::Doing;
+use crate::flow::Flow;
+use fs_machine::Kind;
+
+/// More turns than any call takes.
+const MOST_TURNS: u64 = u64::MAX;
+
+/// The steps end where so many of this kind have run, counted from the call's start.
+#[derive(Clone, Copy, PartialEq, Eq, Debug)]
+pub struct Until {
+    pub kind: Kind,
+    pub steps: u32,
+}
+
+impl Until {
+    /// Whether so many have run.
+    pub fn is_enough(until: Option<Until>, doing: &Doing) -> bool
+        ensures { result ≡ is_enough until doing.now }
+    {
+        match until {
+            None => false,
+            Some(until) => doing.count(until.kind) >= until.steps,
+        }
+    }
+}
+
+/// Turns that are made one after the other: at most so many, and as long as anything moves, or as anything waits too.
+#[derive(Clone, Copy, PartialEq, Eq, Debug)]
+pub struct Plan {
+    pub until: Option<Until>,
+    pub most: u64,
+    pub through_waits: bool,
+}
+
+impl Plan {
+    /// To the call's end, or a wait.
+    pub fn to_end() -> Plan
+        ensures { result ≡ to_end }
+    {
+        Plan {
+            until: None,
+            most: MOST_TURNS,
+            through_waits: false,
+        }
+    }
+
+    /// Up to so many steps of a kind.
+    pub fn up_to(kind: Kind, steps: u32) -> Plan
+        ensures { result ≡ up_to kind steps }
+    {
+        Plan {
+            until: Some(Until { kind, steps }),
+            most: MOST_TURNS,
+            through_waits: false,
+        }
+    }
+
+    /// So many steps, of which waits are some.
+    pub fn in_steps(steps: u32) -> Plan
+        ensures { result ≡ in_steps steps }
+    {
+        Plan {
+            until: None,
+            most: u64::from(steps),
+            through_waits: true,
+        }
+    }
+
+    /// Whether a turn follows one with this flow.
+    pub fn goes_on(&self, last: Flow) -> bool
+        ensures { result ≡ goes_on self.now last }
+    {
+        match last {
+            Flow::Moves => true,
+            Flow::Waits => self.through_waits,
+            Flow::Rests => false,
+        }
+    }
+}

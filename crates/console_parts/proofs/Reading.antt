@@ -1,0 +1,14 @@
+-- What a command line that was read has.
+use Rattle.std.proofs.Common.{◌≡◌, List, Result, Ok, Err, true, ap, refl, ◌∙◌}
+use Rattle.std.specs.Prelude.{IfOk}
+use Rattle.clap.specs.Words.{App, HasMatchesOf, Text, found_of, is_simple, matches_of, rows_of}
+use Rattle.clap.specs.declared.parser.matches.ArgMatches.{ArgMatches}
+use Rattle.console_parts.specs.Options.{console_line}
+
+pub line_is_simple : is_simple console_line ≡ true
+line_is_simple = refl
+
+-- of a command that is that of b
+pub read_as : {E : Type 0} (a b : App) (words : List Text) (result : Result ArgMatches E) → a ≡ b → is_simple b ≡ true → IfOk result (HasMatchesOf a words) → IfOk result (λ m. rows_of (found_of m) ≡ matches_of b words)
+read_as a b words (Ok m) same simple h = (h (ap is_simple same ∙ simple)).0 ∙ ap (λ x. matches_of x words) same
+read_as a b words (Err e) same simple h = tt

@@ -1,0 +1,4 @@
+pub mod Modes
+pub mod Options
+pub mod Tails
+pub mod Text
