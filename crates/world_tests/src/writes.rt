@@ -55,6 +55,7 @@ fn contents_have_all_sizes(rt: HostRuntime) -> Result<(), Fail> {
             Do(1, Open(b"/f", READ), Fd(0)),
         ];
         assert!(rt; play(&rt, rt.alloc(), &mut world, &opens));
+        assert!(rt; written > 0 && read > 0);
         for piece in 0..size.div_ceil(written) {
             let from = piece.saturating_mul(written);
             let count = written.min(size.saturating_sub(from));
