@@ -121,7 +121,8 @@ fn events_come_in_order(rt: HostRuntime) -> Result<(), Fail> {
     let Run {
         world,
         outcomes,
-        ..
+        cut: _,
+        doubt: _,
     } = ran(alloc, mounted(&rt, alloc, disk), &events)?;
     let _disk = world.unmount();
     let words = [
@@ -158,12 +159,14 @@ fn a_run_goes_on(rt: HostRuntime) -> Result<(), Fail> {
     let Run {
         world,
         outcomes: _started,
-        ..
+        cut: _,
+        doubt: _,
     } = ran(rt.alloc(), world, &first)?;
     let Run {
         world,
         outcomes,
-        ..
+        cut: _,
+        doubt: _,
     } = ran(rt.alloc(), world, &[Event::Step { hart: 2 }])?;
     let _disk = world.unmount();
     assert!(rt; outcomes.as_slice().len() == 1);
@@ -211,7 +214,8 @@ fn a_lost_walk_is_explained(rt: HostRuntime) -> Result<(), Fail> {
     let Run {
         world,
         outcomes,
-        ..
+        cut: _,
+        doubt: _,
     } = ran(alloc, mounted(&rt, alloc, disk), events.as_slice())?;
     let _disk = world.unmount();
     assert!(rt;
@@ -312,7 +316,8 @@ fn eight_harts_at_random(rt: HostRuntime) -> Result<(), Fail> {
     let Run {
         world,
         outcomes,
-        ..
+        cut: _,
+        doubt: _,
     } = ran(alloc, world, events.as_slice())?;
     let mut world = world;
     let is_idle = go_idle(&mut world);
