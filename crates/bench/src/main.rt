@@ -12,7 +12,6 @@ mod records;
 mod tables;
 mod trees;
 mod workload;
-mod worlds;
 
 use crate::workload::ALL;
 use std::time::Instant;

@@ -1,5 +1,5 @@
 //! What is measured.
-use crate::{buffers, checks, devices, images, locks, logs, records, tables, trees, worlds};
+use crate::{buffers, checks, devices, images, locks, logs, records, tables, trees};
 use block_device::Fault;
 use std::alloc::{AllocError, Global};
 use thiserror::Error;
@@ -41,18 +41,10 @@ pub enum Workload {
     MakeImage,
     TreeStep,
     CheckEntry,
-    WorldEvent,
-    OpenStatClose,
-    OpenStatCloseDeep,
-    OpenMissing,
-    ReadPage,
-    WritePiece,
-    WriteFile,
-    LinkWriteUnlink,
 }
 
 /// All of them, in the order in which they run.
-pub const ALL: [Workload; 26] = [
+pub const ALL: [Workload; 18] = [
     Workload::DeviceRead,
     Workload::InodeRead,
     Workload::InodeWrite,
@@ -71,14 +63,6 @@ pub const ALL: [Workload; 26] = [
     Workload::MakeImage,
     Workload::TreeStep,
     Workload::CheckEntry,
-    Workload::WorldEvent,
-    Workload::OpenStatClose,
-    Workload::OpenStatCloseDeep,
-    Workload::OpenMissing,
-    Workload::ReadPage,
-    Workload::WritePiece,
-    Workload::WriteFile,
-    Workload::LinkWriteUnlink,
 ];
 
 impl Workload {
@@ -102,14 +86,6 @@ impl Workload {
             Workload::MakeImage => "make_image",
             Workload::TreeStep => "tree_step",
             Workload::CheckEntry => "check_entry",
-            Workload::WorldEvent => "world_event",
-            Workload::OpenStatClose => "open_fstat_close",
-            Workload::OpenStatCloseDeep => "open_fstat_close_depth_16",
-            Workload::OpenMissing => "open_missing_of_1000",
-            Workload::ReadPage => "read_4096",
-            Workload::WritePiece => "write_3072_over",
-            Workload::WriteFile => "write_274432_anew",
-            Workload::LinkWriteUnlink => "link_write_unlink",
         }
     }
 
@@ -134,14 +110,6 @@ impl Workload {
             Workload::MakeImage => images::make_image(alloc),
             Workload::TreeStep => trees::apply_steps(alloc),
             Workload::CheckEntry => checks::check_entries(alloc),
-            Workload::WorldEvent => worlds::start_and_reply(alloc),
-            Workload::OpenStatClose => worlds::open_stat_close(alloc),
-            Workload::OpenStatCloseDeep => worlds::open_stat_close_deep(alloc),
-            Workload::OpenMissing => worlds::open_missing(alloc),
-            Workload::ReadPage => worlds::read_pages(alloc),
-            Workload::WritePiece => worlds::write_pieces(alloc),
-            Workload::WriteFile => worlds::write_file(alloc),
-            Workload::LinkWriteUnlink => worlds::link_write_unlink(alloc),
         }
     }
 }
