@@ -1,5 +1,5 @@
 -- What a search finds, and what it rules out.
-use Rattle.std.proofs.Common.{◌≡◌, ◌≢◌, ℕ, ◌+◌, ◌<◌, ◌≤◌, List, [], ◌∷◌, ◌++◌, length, get_or, refl, sym, ◌∙◌, ap, subst, inl, inr, arith, Option, Some, None}
+use Rattle.std.proofs.Common.{◌≡◌, ◌≢◌, ℕ, ◌+◌, ◌<◌, ◌≤◌, Bool, true, false, List, [], ◌∷◌, ◌++◌, length, get_or, refl, sym, ◌∙◌, ap, subst, inl, inr, arith, Option, Some, None}
 use Rattle.std.specs.List.{slice_get}
 use Rattle.std.proofs.lemmas.List.{get_or_past}
 use Rattle.std.proofs.lemmas.Option.{slice_get_cases}
@@ -10,11 +10,15 @@ use Rattle.plain_tree.specs.TreeData.{TreeData}
 use Rattle.plain_tree.specs.Tree.{Tree, tree_of}
 use Rattle.plain_tree.specs.Explains.{AllBelong, Chain, Explains, IsWritten, Rises, acts_of}
 use Rattle.plain_tree.proofs.StepLaws.{chain_one}
+use Rattle.history_search.specs.declared.explore.Tried.{Tried}
+use Rattle.history_search.specs.declared.explore.Tried.TheVariants as tried
 use Rattle.history_search.specs.declared.position.Due.{Due}
+use Rattle.history_search.specs.declared.position.Placing.{Placing}
+use Rattle.history_search.specs.declared.position.Placing.TheVariants as placing
 use Rattle.history_search.specs.declared.position.Position.{Position}
 use Rattle.history_search.specs.declared.stand.Stand.{Stand}
 use Rattle.history_search.specs.Stands.{start}
-use Rattle.history_search.specs.Searching.{CanEnd, HasFound, IsAt, IsDead, IsDeadWith, IsDue, IsHopeless, IsKept, IsMade, IsMore, IsOfCall, IsSame, IsThrough, IsUndone, NeedsNumber, last_event, left, steps_left}
+use Rattle.history_search.specs.Searching.{CallIsExplored, CanEnd, HasFound, IsExplored, IsPlaced, IsTried, IsAt, IsDead, IsDeadWith, IsDue, IsHopeless, IsKept, IsMade, IsMore, IsOfCall, IsSame, IsThrough, IsUndone, NeedsNumber, last_event, left, steps_left}
 use Rattle.history_search.proofs.StandLemmas.{acts_none}
 use Rattle.history_search.proofs.CallLemmas.{some_not, written_end}
 use Rattle.history_search.proofs.EndLemmas.{First, first, not_nothing}
@@ -132,3 +136,25 @@ none_explains base t p at none hopeless list ex =
       belongs = ex.belongs;
     } in
     hopeless 0 list (omega (arith, ap last_event none, none_last)) (subst (λ (z : Tree). CanEnd t z p.list.items 0 list) tree (subst (λ l. CanEnd t (tree_of base) l 0 list) (sym none) can))
+
+-- ---- what came of it, by its answer
+
+pub call_not : (base : TreeData) (t : Trace) (p q : Position) (id : ℕ) (b : Bool) → b ≡ false → CallIsExplored base t p id b q → IsKept base t p q × IsDead t p id
+call_not base t p q id b e h = subst (λ x. CallIsExplored base t p id x q) e h
+
+pub explored_not : (base : TreeData) (t : Trace) (p q : Position) (b : Bool) → b ≡ false → IsExplored base t p b q → IsKept base t p q × IsHopeless t p
+explored_not base t p q b e h = subst (λ x. IsExplored base t p x q) e h
+
+pub explored : (base : TreeData) (t : Trace) (p q : Position) (b : Bool) → b ≡ true → IsExplored base t p b q → HasFound base t q
+explored base t p q b e h = subst (λ x. IsExplored base t p x q) e h
+
+pub tried_bad : (base : TreeData) (t : Trace) (p q : Position) (id new : ℕ) (r : Tried) → r ≡ tried.BadChoice → IsTried base t p id new r q → IsKept base t p q × NeedsNumber t p id × (new ≢ 0 → IsDeadWith t p id new)
+tried_bad base t p q id new r e h = subst (λ (x : Tried). IsTried base t p id new x q) e h
+
+pub tried_not : (base : TreeData) (t : Trace) (p q : Position) (id new : ℕ) (r : Tried) → (r ≡ tried.Found → ⊥) → new ≢ 0 → IsTried base t p id new r q → IsKept base t p q × IsDeadWith t p id new
+tried_not base t p q id new tried.Found not some h = absurd (not refl)
+tried_not base t p q id new tried.Dead not some h = h
+tried_not base t p q id new tried.BadChoice not some h = (h.0, h.2 some)
+
+pub placed_made : (base : TreeData) (t : Trace) (p q : Position) (id new : ℕ) (r : Placing) → r ≡ placing.Made → IsPlaced base t p id new r q → IsMade base t p id new q
+placed_made base t p q id new r e h = subst (λ (x : Placing). IsPlaced base t p id new x q) e h

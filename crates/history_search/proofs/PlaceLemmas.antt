@@ -1,8 +1,12 @@
 -- A step that is placed, and one that is taken back.
-use Rattle.std.proofs.Common.{◌≡◌, ◌≢◌, ℕ, ◌+◌, ◌-◌, ◌<◌, ◌≤◌, Bool, true, false, List, [], ◌∷◌, ◌++◌, take, drop, length, get_or, set, refl, sym, ◌∙◌, ap, subst, inl, inr, arith, Option, Some, None}
+use Rattle.std.proofs.Common.{◌≡◌, ◌≢◌, ℕ, ◌+◌, ◌-◌, ◌<◌, ◌≤◌, Bool, true, false, nat_lt, max, List, [], ◌∷◌, ◌++◌, take, drop, length, get_or, set, refl, sym, ◌∙◌, ap, subst, inl, inr, arith, Option, Some, None}
 use Rattle.std.specs.List.{slice_get}
-use Rattle.std.proofs.lemmas.List.{append-nil, get_or-set_other, get_or-set_same, length-set, take-append-drop, take_more, take_all}
-use Rattle.std.proofs.lemmas.Option.{slice_get_within, get_or_from_slice_get}
+use Rattle.std.specs.Prelude.{MatchOption}
+use Rattle.std.proofs.Math.ListN.{get_or-append}
+use Rattle.std.proofs.Math.Seq.{get_or-append_seam}
+use Rattle.std.proofs.lemmas.Bool.Decides.{nat_tests}
+use Rattle.std.proofs.lemmas.List.{append-nil, get_or-set_other, get_or-set_same, get_or_past, length-set, length_push, take-append-drop, take_more, take_all}
+use Rattle.std.proofs.lemmas.Option.{get_or_from_slice_get, slice_get-get_or, slice_get_past, slice_get_read, slice_get_within}
 use Rattle.std.proofs.lemmas.Bool.{cases_Bool, cases_eq}
 use Rattle.plain_tree.specs.declared.answer.Reply.{Reply}
 use Rattle.plain_tree.specs.declared.step.Action.{Action}
@@ -23,8 +27,8 @@ use Rattle.plain_tree.proofs.StepLaws.{applied_step, chain_one, step_one}
 use Rattle.history_search.specs.declared.position.Due.{Due}
 use Rattle.history_search.specs.declared.position.Position.{Position}
 use Rattle.history_search.specs.declared.stand.Stand.{Stand}
-use Rattle.history_search.specs.Stands.{after, next_from, stand_of, start}
-use Rattle.history_search.specs.Searching.{AreOfCalls, CanEnd, Fits, IsAt, IsDeadWith, IsDue, IsHopeless, IsKept, IsMade, IsMore, IsOfCall, IsSame, IsTimely, IsUndone, Precedes, end_at, end_of, last_event, left, most, steps_left}
+use Rattle.history_search.specs.Stands.{after, next_from, stand_from, stand_of, start}
+use Rattle.history_search.specs.Searching.{AreOfCalls, CanEnd, Fits, IsAt, IsDeadWith, IsDue, IsHopeless, IsKept, IsMade, IsMore, IsOfCall, IsSame, IsThrough, IsTimely, IsUndone, Precedes, end_at, end_of, last_event, left, most, steps_left}
 use Rattle.history_search.proofs.StandLemmas.{next_is, stand_count, stand_push, push_own, push_other, acts_none}
 use Rattle.history_search.proofs.CallLemmas.{call_front, call_push, call_start, some_not}
 use Rattle.history_search.proofs.EndLemmas.{can_swap}
@@ -258,3 +262,100 @@ pub stand_other : (id : ℕ) (list : List Placed) (i : ℕ) (e : Placed) → i <
 stand_other id list i e lt is ne =
     let cut : take (i + 1) list ≡ take i list ++ e ∷ [] = take_more list i e lt ∙ ap (λ x. take i list ++ x ∷ []) (sym is) in
     sym (ap (λ l. stand_of (acts_of id l)) cut ∙ ap stand_of (push_other id (take i list) e ne))
+
+-- ---- the beginning
+
+pub stand_none : (id : ℕ) → start ≡ stand_of (acts_of id [])
+unfolding stand_from
+stand_none id = rw (acts_none id) refl
+
+pub start_push : (xs : List Stand) (s : Stand) → s ≡ start → ((k : ℕ) → get_or xs k start ≡ start) → (k : ℕ) → get_or (xs ++ s ∷ []) k start ≡ start
+start_push xs s e all k = elim (cases_Bool (nat_lt k (length xs))) [
+  | inl y ↦ (let lt : k < length xs = grind (arith, nat_tests) in get_or-append xs (s ∷ []) start k lt ∙ all k)
+  | inr y ↦ elim (cases_eq k (length xs)) [
+    | inl z ↦ rw z (get_or-append_seam xs s [] start ∙ e)
+    | inr z ↦ get_or_past (xs ++ s ∷ []) k start (let ge : length xs ≤ k = grind (arith, nat_tests) in omega (arith, length_push xs s))
+  ]
+]
+
+abbrev pub EndsAt : List TracedCall → List (Option ℕ) → ℕ → Type 0
+EndsAt calls ends n = (k : ℕ) (c : TracedCall) → k < n → slice_get calls k ≡ Some c → get_or ends k None ≡ end_of c (is_nothing (next_from c.call start))
+
+pub ends_push : (calls : List TracedCall) (ends : List (Option ℕ)) (e : Option ℕ) (d : TracedCall) → slice_get calls (length ends) ≡ Some d → e ≡ end_of d (is_nothing (next_from d.call start)) → EndsAt calls ends (length ends) → EndsAt calls (ends ++ e ∷ []) (length ends + 1)
+ends_push calls ends e d at end all k c lt is = elim (cases_eq k (length ends)) [
+  | inl y ↦ (
+    let same : d ≡ c = one_some (slice_get calls (length ends)) d c at (ap (λ j. slice_get calls j) (sym y) ∙ is) in
+    rw y (get_or-append_seam ends e [] None ∙ (end ∙ ap (λ (x : TracedCall). end_of x (is_nothing (next_from x.call start))) same))
+  )
+  | inr ne ↦ (let less : k < length ends = omega arith in get_or-append ends (e ∷ []) None k less ∙ all k c less is)
+]
+
+none_rises : Rises 0 []
+unfolding Rises
+none_rises = tt
+
+none_belong : (t : Trace) → AllBelong t []
+unfolding AllBelong
+none_belong t = tt
+
+none_last : last_event [] ≡ 0
+unfolding last_event
+none_last = refl
+
+pub begin_at : (base : TreeData) (t : Trace) (p : Position) → p.tree ≡ base → p.list.items ≡ [] → length p.stands.items ≡ length t.calls → length p.ends.items ≡ length t.calls → ((k : ℕ) → get_or p.stands.items k start ≡ start) → EndsAt t.calls p.ends.items (length t.calls) → IsAt base t p
+begin_at base t p tree list stands ends all_start all_end = record {
+  chain = subst (λ l. Chain (tree_of base) l (tree_of p.tree)) (sym list) (subst (λ (d : TreeData). Chain (tree_of base) [] (tree_of d)) (sym tree) (chain_none (tree_of base)));
+  rises = subst (λ l. Rises 0 l) (sym list) none_rises;
+  belongs = subst (λ l. AllBelong t l) (sym list) (none_belong t);
+  calls = λ id c is. (
+    let lt : id < length t.calls = slice_get_within t.calls id c is in
+    let of : IsOfCall c [] start (get_or p.ends.items id None) = call_start c (get_or p.ends.items id None) (all_end id c lt is) in
+    subst (λ l. IsOfCall c (acts_of id l) (get_or p.stands.items id start) (get_or p.ends.items id None)) (sym list) (subst (λ acts. IsOfCall c acts (get_or p.stands.items id start) (get_or p.ends.items id None)) (sym (acts_none id)) (subst (λ (s : Stand). IsOfCall c [] s (get_or p.ends.items id None)) (sym (all_start id)) of))
+  );
+  stands = stands;
+  ends = ends;
+  precedes = λ id e h. (let z : last_event p.list.items ≡ 0 = ap last_event list ∙ none_last in omega arith);
+}
+
+-- ---- the call that has to return first
+
+abbrev pub LeastBelow : List (Option ℕ) → ℕ → Option Due → Type 0
+LeastBelow ends n None = (k : ℕ) → k < n → get_or ends k None ≡ None
+LeastBelow ends n (Some d) = (get_or ends d.id None ≡ Some d.limit) × ((k e : ℕ) → k < n → get_or ends k None ≡ Some e → d.limit ≤ e)
+
+pub due_end : (p : Position) (n : ℕ) (due : Option Due) → length p.ends.items ≤ n → LeastBelow p.ends.items n due → MatchOption due (IsThrough p) (λ d. IsDue p.ends.items d)
+due_end p n None le inv = λ k. elim (cases_Bool (nat_lt k n)) [
+  | inl y ↦ inv k (grind (arith, nat_tests))
+  | inr y ↦ get_or_past p.ends.items k None (let ge : n ≤ k = grind (arith, nat_tests) in omega arith)
+]
+due_end p n (Some d) le inv = record {
+  end = inv.0;
+  least = λ k e h. elim (cases_Bool (nat_lt k n)) [
+    | inl y ↦ inv.1 k e (grind (arith, nat_tests)) h
+    | inr y ↦ absurd (let ge : length p.ends.items ≤ k = (let g : n ≤ k = grind (arith, nat_tests) in omega arith) in let z : None ≡ Some e = sym (get_or_past p.ends.items k None ge) ∙ h in cc)
+  ];
+}
+
+-- ---- what is read
+
+pub got : {A : Type 0} (xs ys : List A) (i : ℕ) (x : A) → ys ≡ xs → i < length ys → x ≡ get_or ys i x → slice_get xs i ≡ Some x
+got xs ys i x e lt is = subst (λ zs. slice_get zs i ≡ Some x) e (slice_get_read ys (length ys) i x refl lt is)
+
+pub gone : {A : Type 0} (xs ys : List A) (i : ℕ) → ys ≡ xs → length ys ≤ i → slice_get xs i ≡ None
+gone xs ys i e le = subst (λ zs. slice_get zs i ≡ None) e (slice_get_past ys i le)
+
+pub read_at : {A : Type 0} (xs : List A) (i : ℕ) (x d : A) → i < length xs → x ≡ get_or xs i x → x ≡ get_or xs i d
+read_at xs i x d lt is = sym (get_or_from_slice_get xs i x d (slice_get_read xs (length xs) i x refl lt is))
+
+pub snoc_front : (xs ys : List Placed) (x y : Placed) → xs ++ x ∷ [] ≡ ys ++ y ∷ [] → xs ≡ ys
+snoc_front [] [] x y h = refl
+snoc_front [] (b ∷ ys) x y h = absurd (let n : length (x ∷ []) ≡ length (b ∷ (ys ++ y ∷ [])) = ap length h in omega (arith, length_push ys y))
+snoc_front (a ∷ xs) [] x y h = absurd (let n : length (a ∷ (xs ++ x ∷ [])) ≡ length (y ∷ []) = ap length h in omega (arith, length_push xs x))
+snoc_front (a ∷ xs) (b ∷ ys) x y h =
+    let tails : xs ++ x ∷ [] ≡ ys ++ y ∷ [] = cc in
+    let heads : a ≡ b = cc in
+    let e : xs ≡ ys = snoc_front xs ys x y tails in
+    cc
+
+pub between : (low start event : ℕ) → event ≡ max low start → (n : ℕ) → low ≤ n → start ≤ n → event ≤ n
+between low start event e n a b = omega arith

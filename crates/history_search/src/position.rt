@@ -213,17 +213,17 @@ impl Position {
         Ok(Placing::Made)
     }
 
-    /// Takes the last entry back.
+    /// Takes the last entry back. There is one, and its call is in the trace.
     pub(crate) fn undo(&mut self, alloc: Global, base: &Tree, trace: &Trace) -> Attempt<()>
         requires { IsAt base.now trace.now self.old }
         ensures { IfOk result (λ _. IsUndone base.now trace.now self.old self.new) }
     {
         let Some(entry) = self.list.pop() else {
-            return Ok(());
+            return Err(NoMemory);
         };
         let id = entry.call;
         let Some(traced) = trace.calls.as_slice().get(id) else {
-            return Ok(());
+            return Err(NoMemory);
         };
         let stand = stand_in(id, &self.list);
         self.stands[id] = stand;

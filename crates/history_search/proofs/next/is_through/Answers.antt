@@ -1,8 +1,3 @@
-use Rattle.history_search.proofs.PlaceLemmas.{placed}
-use Rattle.history_search.proofs.ExploreLemmas.{none_explains}
-use Rattle.history_search.proofs.PositionLemmas.{no_fit}
-use Rattle.history_search.proofs.EndLemmas.{first}
-use Rattle.history_search.proofs.StepLemmas.{applied_is}
 use Rattle.history_search.proofs.next.is_through.Goals as goal
 
 pub returns-in-Write : goal.returns-in-Write

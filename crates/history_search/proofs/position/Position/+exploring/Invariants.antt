@@ -17,6 +17,8 @@ decreases-explore_step l = 4 * steps_left l.trace.now l.self.now
 abbrev pub invariant-explore-loop-id : goal.invariant-explore-loop-id
 invariant-explore-loop-id l = record {
   kept : IsKept l.base l.trace l.fn.self l.self;
+  first : IsDead l.trace l.fn.self l.first;
+  due : IsDead l.trace l.fn.self l.due.id;
   dead : (k : ℕ) → k < l.id → IsDead l.trace l.fn.self k;
 }
 
