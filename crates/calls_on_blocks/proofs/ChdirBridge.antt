@@ -1,5 +1,5 @@
 -- The code's chdir is the call's own, as a program below.
-use Rattle.std.proofs.Common.{◌≡◌, ℕ, Bool, true, false, if◌then◌else◌, List, [], Option, Some, None, refl, sym, ◌∙◌, ap}
+use Rattle.std.proofs.Common.{◌≡◌, ℕ, Bool, true, false, if◌then◌else◌, List, [], Some, None, sym, ◌∙◌, ap}
 use Rattle.fs_layout.specs.declared.inode.Dinode.{Dinode}
 use Rattle.fs_layout.specs.declared.superblock.Super.{Super}
 use Rattle.plain_tree.specs.declared.answer.Answer.TheVariants as answers
@@ -14,7 +14,6 @@ use Rattle.atomic_programs.specs.Prog.{Do, bind, unmarked}
 use Rattle.atomic_programs.proofs.Prog.{bind-assoc}
 use Rattle.fs_machine.specs.Machines as code
 use Rattle.fs_machine.specs.Steps as steps
-use Rattle.inode_data.specs.Freeing.{drop_reference}
 use Rattle.directory.specs.Programs.{is_directory}
 use Rattle.path_walk.specs.declared.walked.Goal.TheVariants as goals
 use Rattle.path_walk.specs.Programs.{WalkedState, Reaches, Loses, walk_path, loaded}
@@ -24,7 +23,7 @@ use Rattle.inode_machine.specs.Parts as parts
 use Rattle.inode_machine.specs.World.Op.{Settle}
 use Rattle.inodes_on_blocks.specs.Lowering.{Carry, NothingMore, Has, Apart, nothing, record_had}
 use Rattle.syscalls.specs.Moving as syscalls
-use Rattle.syscalls.specs.Parts.{reach, reach_on, give_up}
+use Rattle.syscalls.specs.Parts.{reach_on, give_up}
 use Rattle.syscalls.specs.Programs.{tail}
 use Rattle.calls_on_blocks.proofs.Faces.{directory_same}
 use Rattle.calls_on_blocks.proofs.Pieces.{left_below, plain_drop}

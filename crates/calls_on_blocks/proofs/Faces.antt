@@ -8,7 +8,7 @@ use Rattle.plain_tree.specs.Steps.{has_driver}
 use Rattle.plain_tree.specs.Widths.{root_device}
 use Rattle.image_tree.specs.Inodes.{is_number, is_free}
 use Rattle.image_tree.specs.Trees.{count_of}
-use Rattle.tree_laws.proofs.Maps.{eq_is}
+use Rattle.tree_laws.proofs.Maps.{and_true as both_true, eq_is}
 use Rattle.directory.specs.Programs as directories
 use Rattle.inode_machine.specs.Inodes.{Sort, OfDirectory, OfFile, OfDevice, Face, face_or, is_directory_sort, is_file_sort, is_directory_face, is_live_face, open_refusal, type_of_sort, stat_of_face}
 use Rattle.inodes_on_tables.specs.Shown.{kind_of}
@@ -142,3 +142,14 @@ live_same d =
     by false true b apart = and_true (nat_lt 0 (natural d.nlink))
     by false false true apart = and_false (nat_lt 0 (natural d.nlink))
     by false false false apart = and_false (nat_lt 0 (natural d.nlink))
+
+-- a directory with links has its count
+pub live_count : (d : Dinode) → directories.is_live_directory d ≡ true → (face_or (face_seen d)).count ≡ count_of d.nlink
+live_count d live = links_same d ∙ ap (λ (f : Bool). if f then 0 else count_of d.nlink) (by (is_free d) refl)
+  where
+    directory : is_number 1 d.kind ≡ true
+    directory = one_same d.kind ∙ (both_true (directories.is_directory d) (directories.is_positive d.nlink) live).0
+
+    by : (b : Bool) → is_free d ≡ b → b ≡ false
+    by true free = absurd (let none = not_both d.kind free in cc (none, directory))
+    by false free = refl

@@ -1,5 +1,5 @@
 -- The calls that are served are right below.
-use Rattle.std.proofs.Common.{◌≡◌, ◌<◌, ℕ, Bool, true, false, not, nat_lt, List, length, if◌then◌else◌, Option, Some, None, refl, sym, ◌∙◌, subst}
+use Rattle.std.proofs.Common.{◌≡◌, ◌<◌, ℕ, Bool, true, false, not, nat_lt, List, length, if◌then◌else◌, Option, Some, None, refl, ◌∙◌, subst, arith, []}
 use Rattle.fs_layout.specs.declared.superblock.Super.{Super}
 use Rattle.plain_tree.specs.declared.answer.Answer.TheVariants as answers
 use Rattle.plain_tree.specs.declared.answer.Full.TheVariants.{Descriptors}
@@ -11,7 +11,8 @@ use Rattle.plain_tree.specs.Widths.{hart_count}
 use Rattle.plain_tree.specs.declared.step.Action.TheVariants as actions
 use Rattle.tree_laws.proofs.Maps.{and_true}
 use Rattle.atomic_programs.specs.Prog.{Do, Did, Waits, Ran, Stops, did_in, unmarked}
-use Rattle.atomic_programs.specs.Calls.{Began, Lawful}
+use Rattle.atomic_programs.specs.Calls.{Began, Begun, Ends, Lawful}
+use Rattle.atomic_programs.specs.Logic.{Safe}
 use Rattle.atomic_programs.specs.Plain.{IsCode, began_in}
 use Rattle.atomic_programs.specs.Joined.{Both}
 use Rattle.atomic_programs.specs.Lifting.{Uses, AllLift, IsStarted}
@@ -27,24 +28,28 @@ use Rattle.inode_machine.specs.World.Op.{Leave}
 use Rattle.inode_machine.specs.Budget.{unspent}
 use Rattle.inode_machine.specs.Descriptors.{dups, dup_on, close_on, stat_on, stat_reply, read_on, read_reply, refused_read}
 use Rattle.inode_machine.specs.Exec.{is_nothing}
-use Rattle.inode_machine.specs.Opening.{open_new, open_old}
+use Rattle.inode_machine.specs.Opening.{open_new, open_old, open_program}
 use Rattle.inode_machine.specs.Parts.{own_step, say, full, done}
-use Rattle.inode_machine.specs.Programs.{program}
-use Rattle.inode_machine.specs.Rules.{machine, asked_limit}
+use Rattle.inode_machine.specs.Programs.{limit, program}
+use Rattle.inode_machine.specs.Rules.{Idle, Inv, machine, asked_limit}
 use Rattle.inode_machine.specs.Theory.{Refusal, TooLong, asks_wrong, is_covered}
 use Rattle.inode_machine.proofs.Budgets.{transactions_are_small}
 use Rattle.inode_machine.proofs.Calls.{IsRight, laws, lawful_that, descriptors_right, right}
 use Rattle.inode_machine.proofs.ChdirCalls.{chdir_begins, chdir_ok}
+use Rattle.inode_machine.proofs.CreateCalls.{create_ok}
 use Rattle.inode_machine.proofs.InheritStarts.{inherit_right}
 use Rattle.inode_machine.proofs.LinkCalls.{link_begins, link_ok}
-use Rattle.inode_machine.proofs.Names.{both_paths, path_names}
+use Rattle.inode_machine.proofs.Mkdirs.{mkdir_begins, mkdir_ok}
+use Rattle.inode_machine.proofs.Names.{AllNames, both_paths, path_names}
 use Rattle.inode_machine.proofs.OpenCalls.{open_ok}
 use Rattle.inode_machine.proofs.OpenEnds.{open_begins}
 use Rattle.inode_machine.proofs.Starts.{start_is}
 use Rattle.inode_machine.proofs.Unlinks.{unlink_begins, unlink_ok}
 use Rattle.inodes_on_blocks.specs.Below.{World as Blocks, came_to, log_of}
 use Rattle.inodes_on_blocks.specs.Lowering.{nothing}
+use Rattle.inodes_on_blocks.specs.Making.{HasInodes}
 use Rattle.inodes_on_blocks.specs.Room.{HasSpent}
+use Rattle.inodes_on_blocks.specs.Shown.{Shows}
 use Rattle.inodes_on_blocks.specs.Spending.{recorded_blocks}
 use Rattle.inodes_on_blocks.proofs.Withins.{affords, none_spent}
 use Rattle.calls_on_blocks.specs.Programs.{handlers}
@@ -52,6 +57,7 @@ use Rattle.calls_on_blocks.specs.Layer.{Shared, World, layer, shared_of}
 use Rattle.calls_on_blocks.specs.Theory.{is_served, serves, served_calls, child_of, start_refusal, begun_by, if_hart, begins, block_calls, shared_part, block_code}
 use Rattle.calls_on_blocks.proofs.InheritUses.{inherit_uses}
 use Rattle.calls_on_blocks.proofs.LinkUses.{link_uses}
+use Rattle.calls_on_blocks.proofs.MakeUses.{create_uses, mkdir_uses}
 use Rattle.calls_on_blocks.proofs.Operations.{history, Within, gives, doubles, shuts, stats, locks_to_read, reads, joins, leaves}
 use Rattle.calls_on_blocks.proofs.PathUses.{drop_uses, say_uses, chdir_uses, open_uses}
 use Rattle.calls_on_blocks.proofs.Starting.{begun_here, below_count, joined_same, lower_laws, starts_both}
@@ -74,29 +80,28 @@ asks_few n e = by (nat_lt asked_limit n) e
 covered_is : (call : Call) → serves call ≡ true → is_covered call ≡ true
 covered_is call e = (and_true (is_covered call) (is_served call) e).0
 
--- an open that is served makes no file
-pub opens_old : (path : List ℕ) (flags : ℕ) → is_served (calls.Open path flags) ≡ true → creates flags ≡ false
-opens_old path flags e = by (creates flags) e
-  where
-    by : (b : Bool) → not b ≡ true → b ≡ false
-    by true q = absurd cc
-    by false q = refl
-
 served_right : IsRight serves serves
 served_right h (calls.Dup fd) busy w u lt here out idle free is = descriptors_right serves h (calls.Dup fd) busy w u lt refl out idle free is
 served_right h (calls.Fstat fd) busy w u lt here out idle free is = descriptors_right serves h (calls.Fstat fd) busy w u lt refl out idle free is
 served_right h (calls.Close fd) busy w u lt here out idle free is = descriptors_right serves h (calls.Close fd) busy w u lt refl out idle free is
 served_right h (calls.Read fd buffer) busy w u lt here out idle free is = descriptors_right serves h (calls.Read fd buffer) busy w u lt (asks_few (length buffer) (and_true (is_covered (calls.Read fd buffer)) true here).0) out idle free is
 served_right h (calls.Open path flags) busy w u lt here out idle free is =
-    right serves h (calls.Open path flags) busy w u idle free is (open_begins path flags)
-    (λ holds i. open_ok h path flags u out lt holds i (opens_old path flags (served_is (calls.Open path flags) here)) (path_names path (covered_is (calls.Open path flags) here)))
+    right serves h (calls.Open path flags) busy w u idle free is (open_begins path flags) (λ holds i. by_flag (creates flags) refl holds i)
+  where
+    named : AllNames (elements path)
+    named = path_names path (covered_is (calls.Open path flags) here)
+
+    by_flag : (b : Bool) → creates flags ≡ b → Inv u → Idle h u → Safe machine h (Begun served_calls (calls.Open path flags)) (Ends served_calls h (calls.Open path flags)) (open_program path flags) (limit (calls.Open path flags)) [] u
+    by_flag false old holds i = open_ok h path flags u out lt holds i old named
+    by_flag true new holds i = create_ok h path flags u holds out lt i new named
 served_right h (calls.Write fd bytes) busy w u lt here out idle free is = descriptors_right serves h (calls.Write fd bytes) busy w u lt refl out idle free is
 served_right h (calls.Link old new) busy w u lt here out idle free is =
     right serves h (calls.Link old new) busy w u idle free is (link_begins old new)
     (λ holds i. let two = both_paths old new (covered_is (calls.Link old new) here) in link_ok h old new u out lt holds i (path_names old two.0) (path_names new two.1))
 served_right h (calls.Unlink path) busy w u lt here out idle free is =
     right serves h (calls.Unlink path) busy w u idle free is (unlink_begins path) (λ holds i. unlink_ok h path u holds out lt i (path_names path (covered_is (calls.Unlink path) here)))
-served_right h (calls.Mkdir path) busy w u lt here out idle free is = absurd (let q = served_is (calls.Mkdir path) here in cc (q))
+served_right h (calls.Mkdir path) busy w u lt here out idle free is =
+    right serves h (calls.Mkdir path) busy w u idle free is (mkdir_begins path) (λ holds i. mkdir_ok h path u holds out lt i (path_names path (covered_is (calls.Mkdir path) here)))
 served_right h (calls.Chdir path) busy w u lt here out idle free is =
     right serves h (calls.Chdir path) busy w u idle free is (chdir_begins path) (λ holds i. chdir_ok h path u out lt holds i (path_names path (covered_is (calls.Chdir path) here)))
 served_right h (calls.Inherit child) busy w u lt here out idle free is =
@@ -108,7 +113,7 @@ served_lawful = lawful_that serves served_right
 
 -- ---- the calls' operations
 
-module _ (sizes : Super) (h : ℕ) (lt : h < hart_count) where
+module _ (sizes : Super) (h : ℕ) (lt : h < hart_count) (inodes : HasInodes sizes) where
   dup_uses : (fd : ℕ) (a : Option (Option ℕ)) → Uses machine (Within sizes h) (dup_on fd a)
   dup_uses fd None = tt
   dup_uses fd (Some None) = say_uses sizes h lt (full (calls.Dup fd) Descriptors)
@@ -133,11 +138,15 @@ module _ (sizes : Super) (h : ℕ) (lt : h < hart_count) where
   served_uses (calls.Fstat fd) e = (stats sizes h lt fd (λ a. own_step (actions.Fstat fd)), λ a. stat_uses fd a)
   served_uses (calls.Close fd) e = (shuts sizes h lt fd (λ a. own_step (actions.Close fd)), λ a. close_uses fd a)
   served_uses (calls.Read fd buffer) e = (locks_to_read sizes h lt fd (refused_read fd (length buffer)), λ a. read_uses fd buffer a)
-  served_uses (calls.Open path flags) e = subst (λ (b : Bool). Uses machine (Within sizes h) (if b then open_new path flags (elements path) else open_old path flags)) (sym (opens_old path flags e)) (open_uses sizes h lt path flags)
+  served_uses (calls.Open path flags) e = by (creates flags)
+    where
+      by : (b : Bool) → Uses machine (Within sizes h) (if b then open_new path flags (elements path) else open_old path flags)
+      by true = create_uses sizes h lt inodes path flags (elements path)
+      by false = open_uses sizes h lt path flags
   served_uses (calls.Write fd bytes) e = write_uses sizes h lt fd bytes e
   served_uses (calls.Link old new) e = link_uses sizes h lt old new
   served_uses (calls.Unlink path) e = unlink_uses sizes h lt path
-  served_uses (calls.Mkdir path) e = absurd cc
+  served_uses (calls.Mkdir path) e = mkdir_uses sizes h lt inodes path
   served_uses (calls.Chdir path) e = chdir_uses sizes h lt path
   served_uses (calls.Inherit child) e = inherit_uses sizes h lt child
 
@@ -146,13 +155,20 @@ none_yet : (sizes : Super) (h : ℕ) (call : Call) (w : Both World above.World) 
 none_yet sizes h call w lt at from =
     none_spent sizes h w.real.blocks w.seen lt from.shows.0 (joined_same h call from.busy from.before w.seen lt from.idle (start_is serves h call from.busy from.before w.seen from.begins).begins ∙ from.idle.joined) at
 
+-- the disk is one with inodes, as its blocks show
+has_inodes : (sizes : Super) (r : Blocks) (w : above.World) → Shows r w → (log_of r).sizes ≡ sizes → HasInodes sizes
+has_inodes sizes r w shows at =
+    let some = shows.blocks.seen.good.few_inodes in
+    let few = shows.blocks.seen.good.many_inodes in
+    subst HasInodes at (record { some = omega (arith, some); few = omega (arith, few) })
+
 -- no call's transactions spend more than they may
 all_lift : (sizes : Super) → AllLift served_calls (layer sizes) (handlers sizes) (begins sizes)
 all_lift sizes h call can B Q lasts n es w from todo base inv =
     let t : World = record (can.1) { children = put can.1.children h (child_of call) } in
     let b = begun_here h call can.0 (shared_of can.1) t can.2 can.3 in
     let lt = below_count h b.hart in
-    lift_within machine (layer sizes) (handlers sizes) laws h (recorded_blocks history) (λ r s. HasSpent sizes h s r.blocks) (program call) (served_uses sizes h lt call (served_is call b.serves_it)) unspent (affords history (program call) unspent (transactions_are_small call)) nothing
+    lift_within machine (layer sizes) (handlers sizes) laws h (recorded_blocks history) (λ r s. HasSpent sizes h s r.blocks) (program call) (served_uses sizes h lt (has_inodes sizes w.real.blocks w.seen from.shows.0 base.1) call (served_is call b.serves_it)) unspent (affords history (program call) unspent (transactions_are_small call)) nothing
     B Q lasts n es w (none_yet sizes h call w lt base.1 from) todo base inv
 
 pub lawful : (sizes : Super) → Lawful (block_calls sizes)

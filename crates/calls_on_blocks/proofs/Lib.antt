@@ -4,6 +4,7 @@ pub mod Operations
 pub mod PathUses
 pub mod UnlinkUses
 pub mod LinkUses
+pub mod MakeUses
 pub mod InheritUses
 pub mod Reserving
 pub mod Starting
@@ -24,6 +25,10 @@ pub mod OpenBridge
 pub mod UnlinkBridge
 pub mod StoreBridge
 pub mod LinkBridge
+pub mod ClaimBridge
+pub mod MakeBridge
+pub mod CreateBridge
+pub mod MkdirBridge
 pub mod WriteBridge
 pub mod WriteUses
 pub mod Bridges

@@ -14,7 +14,7 @@ use Rattle.atomic_programs.specs.Prog.{unmarked}
 use Rattle.atomic_programs.specs.Lifting.{Uses}
 use Rattle.inode_machine.specs.Inodes.{Face, face_or, AtNothing, AtName, is_directory_sort, is_live_face}
 use Rattle.inode_machine.specs.Naming.{lower, named_on, enters, link_found, link_in, link_name, bump_refused, bumps_if, link_raise, link_at, link_program}
-use Rattle.inode_machine.specs.Parts.{P, Stop, own_step, makes, looks_where, is_there, failed, full, done, drop, give_up, tail, stopped}
+use Rattle.inode_machine.specs.Parts.{own_step, makes, looks_where, is_there, failed, full, done, drop, give_up, tail, stopped}
 use Rattle.inode_machine.specs.Rules.{machine}
 use Rattle.inode_machine.specs.World as above
 use Rattle.calls_on_blocks.proofs.Operations as ops

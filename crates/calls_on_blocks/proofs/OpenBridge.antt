@@ -1,9 +1,8 @@
 -- The code's open without CREATE is the call's own, as a program below.
-use Rattle.std.proofs.Common.{◌≡◌, ℕ, ◌==◌, ◌&&◌, Bool, true, false, if◌then◌else◌, List, [], Option, Some, None, refl, sym, ◌∙◌, ap}
+use Rattle.std.proofs.Common.{◌≡◌, ℕ, ◌==◌, ◌&&◌, Bool, true, false, if◌then◌else◌, List, [], Option, Some, None, sym, ◌∙◌, ap}
 use Rattle.std.specs.Option.{unwrap_or}
 use Rattle.fs_layout.specs.declared.inode.Dinode.{Dinode}
 use Rattle.fs_layout.specs.declared.superblock.Super.{Super}
-use Rattle.plain_tree.specs.declared.answer.Answer.TheVariants as answers
 use Rattle.plain_tree.specs.declared.answer.Cause.{Cause}
 use Rattle.plain_tree.specs.declared.answer.Cause.TheVariants.{NoEntry}
 use Rattle.plain_tree.specs.declared.answer.Full.TheVariants.{MemInodes, OpenFiles, Descriptors}
@@ -23,7 +22,7 @@ use Rattle.inode_table.specs.Programs.{no_record, inode_block, put_inode, store 
 use Rattle.inode_data.specs.Freeing.{without_content, store_record, truncate}
 use Rattle.path_walk.specs.declared.walked.Goal.TheVariants as goals
 use Rattle.path_walk.specs.Programs.{WalkedState, Reaches, Loses, walk_path, loaded}
-use Rattle.inode_machine.specs.Inodes.{Seen, face_or, open_refusal, is_file_sort}
+use Rattle.inode_machine.specs.Inodes.{face_or, open_refusal, is_file_sort}
 use Rattle.inode_machine.specs.Opening as above
 use Rattle.inode_machine.specs.Parts as parts
 use Rattle.inode_machine.specs.Rules.{machine}
@@ -32,7 +31,6 @@ use Rattle.inode_machine.specs.World.Op.{Empty, Install, Slot}
 use Rattle.inodes_on_blocks.specs.Handlers.{P}
 use Rattle.inodes_on_blocks.specs.Lowering.{Carry, NothingMore, Has, nothing, record_had}
 use Rattle.inodes_on_blocks.specs.Storing.{record_in, put_record}
-use Rattle.inodes_on_tables.specs.Shown.{kind_of}
 use Rattle.syscalls.specs.Opening as syscalls
 use Rattle.syscalls.specs.Parts.{reach_on, give_up}
 use Rattle.syscalls.specs.Programs.{tail}
@@ -41,7 +39,7 @@ use Rattle.calls_on_blocks.specs.Layer.{layer}
 use Rattle.calls_on_blocks.proofs.Faces.{sort_seen, refusal_same, file_same, kind_same}
 use Rattle.calls_on_blocks.proofs.Pieces.{left_below, plain_fetch, plain_content, content_bind, emptied}
 use Rattle.calls_on_blocks.proofs.Searches.{after_plain}
-use Rattle.calls_on_blocks.proofs.WalkBridge.{seen, stop_of, take_same, give_same, path_same, reached_is}
+use Rattle.calls_on_blocks.proofs.WalkBridge.{stop_of, take_same, give_same, path_same, reached_is}
 use Rattle.calls_on_blocks.proofs.EndBridge.{tail_same, give_up_same}
 
 -- ---- a file emptied
@@ -93,10 +91,10 @@ module _ (sizes : Super) (path : List ℕ) (flags : ℕ) where
   -- ---- a place and a descriptor
 
   -- the inode is given up, with this reply
-  refused_same : (c : Carry) (n : ℕ) (d : Dinode) (ns : List ℕ) (r : Reply) → record_had (c n) ≡ Some d → left_below sizes c (parts.give_up n (parts.tail ns r)) ≡ bind (give_up sizes (loaded n d)) (λ _. tail sizes ns r)
+  pub refused_same : (c : Carry) (n : ℕ) (d : Dinode) (ns : List ℕ) (r : Reply) → record_had (c n) ≡ Some d → left_below sizes c (parts.give_up n (parts.tail ns r)) ≡ bind (give_up sizes (loaded n d)) (λ _. tail sizes ns r)
   refused_same c n d ns r had = give_up_same sizes c n d (parts.tail ns r) (tail sizes ns r) had (λ c. tail_same sizes c ns r)
 
-  end_same : (n : ℕ) (ns : List ℕ) (fd : ℕ) (c : Carry) (d : Dinode) → record_had (c n) ≡ Some d → left_below sizes c (above.open_end path flags n ns fd) ≡ syscalls.open_end sizes path flags ns n fd d
+  pub end_same : (n : ℕ) (ns : List ℕ) (fd : ℕ) (c : Carry) (d : Dinode) → record_had (c n) ≡ Some d → left_below sizes c (above.open_end path flags n ns fd) ≡ syscalls.open_end sizes path flags ns n fd d
   end_same n ns fd c d had = give_same sizes c n d unmarked (λ _. parts.tail ns (above.opened_reply path flags fd)) (tail sizes ns (above.opened_reply path flags fd)) had (λ c. tail_same sizes c ns (above.opened_reply path flags fd))
 
   -- it has its descriptor; a file that is there may be emptied
@@ -135,7 +133,7 @@ module _ (sizes : Super) (path : List ℕ) (flags : ℕ) where
   abbrev after_walk : WalkedState → code.P Reply
   after_walk w = bind (reach_on sizes.inodestart w) (syscalls.open_found sizes path flags)
 
-  at_same : (c : Carry) (n : ℕ) (ns : List ℕ) → left_below sizes c (above.open_at path flags n ns) ≡ after_walk (Reaches n [] ns)
+  pub at_same : (c : Carry) (n : ℕ) (ns : List ℕ) → left_below sizes c (above.open_at path flags n ns) ≡ after_walk (Reaches n [] ns)
   at_same c n ns =
       take_same sizes c n unmarked (λ a. above.open_face path flags n ns (face_or a.face).sort (open_refusal (flags == 0) (face_or a.face).sort)) (λ d. syscalls.open_at sizes path flags (loaded n d) ns)
       (λ d.

@@ -14,10 +14,11 @@ use Rattle.inode_machine.specs.Rules as rules
 use Rattle.inode_machine.specs.Rules.{machine}
 use Rattle.inode_machine.specs.World as above
 use Rattle.inode_machine.specs.World.{Joining, Lending, Locking, Wrote}
-use Rattle.inode_machine.specs.World.Op.{Take, Give, UpStart, Up, WalkDown, Down, Free, Forget, Store, Fill, Enter, Clear, Empty, Slot, Install, StatFile, LockFile, ReadFile, LockOpen, CheckFile, JoinFile, WriteFile, Double, Shut, Settle, Lend, LendDirectory, Release, Join, Leave, Say}
+use Rattle.inode_machine.specs.World.Op.{Take, Give, UpStart, Up, WalkDown, Down, Free, Forget, Claim, Store, Fill, Enter, Clear, Empty, Slot, Install, StatFile, LockFile, ReadFile, LockOpen, CheckFile, JoinFile, WriteFile, Double, Shut, Settle, Lend, LendDirectory, Release, Join, Leave, Say}
 use Rattle.inode_machine.proofs.Calls.{laws}
 use Rattle.inodes_on_blocks.specs.Acting.{ActsOnceAt}
 use Rattle.inodes_on_blocks.specs.Lowering.{Labels, Keeps}
+use Rattle.inodes_on_blocks.specs.Making.{HasInodes, IsMade}
 use Rattle.inodes_on_blocks.specs.Room.{HasSpent}
 use Rattle.inodes_on_blocks.specs.Spending.{recorded_blocks, ActsWithin, ProgramsSpend, Spends}
 use Rattle.inodes_on_blocks.proofs.CountSteps.{up_acts, up_start_acts, walk_down_acts, down_acts}
@@ -26,6 +27,7 @@ use Rattle.inodes_on_blocks.proofs.JoinFileSteps.{join_file_acts}
 use Rattle.inodes_on_blocks.proofs.JoinSteps.{join_acts}
 use Rattle.inodes_on_blocks.proofs.LeaveSteps.{leave_acts}
 use Rattle.inodes_on_blocks.proofs.LendSteps.{lend_acts, lend_directory_acts, release_acts}
+use Rattle.inodes_on_blocks.proofs.ClaimSteps.{claim_within}
 use Rattle.inodes_on_blocks.proofs.NamingWithins.{enter_within, fill_within}
 use Rattle.inodes_on_blocks.proofs.LockSteps.{file_acts, open_acts}
 use Rattle.inodes_on_blocks.proofs.ReadSteps.{read_acts}
@@ -102,6 +104,9 @@ module _ (sizes : Super) (h : ℕ) where
 
     pub frees : (n : ℕ) (m : Unit {0} → Option above.Mark) → Within (Free n) m
     frees n m = recorded (Free n) m (free_within sizes history laws keeps h lt n m)
+
+    pub claims : HasInodes sizes → (sort : Sort) → IsMade sort → (m : above.Claimed → Option above.Mark) → Within (Claim sort) m
+    claims inodes sort made m = recorded (Claim sort) m (claim_within sizes history laws keeps h lt sort made inodes m)
 
     pub stores : (n count : ℕ) (m : Unit {0} → Option above.Mark) → Within (Store n count) m
     stores n count m = recorded (Store n count) m (store_within sizes history laws keeps h lt n count m)

@@ -122,7 +122,7 @@ module _ (sizes : Super) (h : ℕ) (lt : h < hart_count) where
   -- ---- open
 
   module _ (path : List ℕ) (flags : ℕ) where
-    end_uses : (n : ℕ) (ns : List ℕ) (fd : ℕ) → Uses machine (Within sizes h) (open_end path flags n ns fd)
+    pub end_uses : (n : ℕ) (ns : List ℕ) (fd : ℕ) → Uses machine (Within sizes h) (open_end path flags n ns fd)
     end_uses n ns fd = (ops.gives sizes h lt n unmarked, λ _. tail_uses ns (opened_reply path flags fd))
 
     -- a file that is there may be emptied
@@ -145,7 +145,7 @@ module _ (sizes : Super) (h : ℕ) (lt : h < hart_count) where
         by true = (ops.installs sizes h lt (file_for n flags) sort (installs (λ fd. None)), λ fd. installed fd)
         by false = refused_uses n ns (full (calls.Open path flags) OpenFiles)
 
-    open_at_uses : (n : ℕ) (ns : List ℕ) → Uses machine (Within sizes h) (open_at path flags n ns)
+    pub open_at_uses : (n : ℕ) (ns : List ℕ) → Uses machine (Within sizes h) (open_at path flags n ns)
     open_at_uses n ns = (ops.takes sizes h lt n AtNothing unmarked, λ a. face_uses n ns (face_or a.face).sort (open_refusal (flags == 0) (face_or a.face).sort))
 
     pub open_uses : Uses machine (Within sizes h) (open_old path flags)

@@ -6,7 +6,6 @@ use Rattle.fs_layout.specs.declared.entry.Dirent.TheVariants.{Free}
 use Rattle.fs_layout.specs.declared.inode.Dinode.{Dinode}
 use Rattle.fs_layout.specs.declared.superblock.Super.{Super}
 use Rattle.fs_layout.specs.Widths.{dirents_per_block}
-use Rattle.plain_tree.specs.declared.answer.Answer.TheVariants as answers
 use Rattle.plain_tree.specs.declared.answer.Cause.TheVariants.{NoEntry, NotEmpty, DotName}
 use Rattle.plain_tree.specs.declared.answer.Full.TheVariants.{MemInodes}
 use Rattle.plain_tree.specs.declared.answer.Reply.{Reply}
@@ -15,7 +14,7 @@ use Rattle.plain_tree.specs.declared.step.Action.TheVariants as actions
 use Rattle.plain_tree.specs.Tree.{Name, put, elements, same_name, dot, dotdot}
 use Rattle.tree_laws.proofs.Maps.{eq_isnt, put_same, put_other}
 use Rattle.tree_laws.proofs.Slots.{same_self}
-use Rattle.tree_moves.specs.Moves.Move.{Begin, Look}
+use Rattle.tree_moves.specs.Moves.Move.{Look}
 use Rattle.atomic_programs.specs.Prog.{Ret, Do, bind, plain, unmarked}
 use Rattle.atomic_programs.specs.Joined.{Handed, lowered}
 use Rattle.atomic_programs.proofs.Prog.{bind-assoc}
@@ -23,13 +22,12 @@ use Rattle.fs_machine.specs.Machines as code
 use Rattle.fs_machine.specs.Programs.{fetch}
 use Rattle.fs_machine.specs.Steps as steps
 use Rattle.inode_table.specs.Programs.{no_record, inode_block, load_unless, put_inode, store as store_inode, with_dinode}
-use Rattle.inode_data.specs.Freeing.{drop_reference}
 use Rattle.inode_data.specs.Programs.{Fetched, fetch_block}
 use Rattle.directory.specs.declared.found.Found.{Found}
 use Rattle.directory.specs.Programs.{Named, Entry, block_count, is_directory, is_live_directory, lookup, search, put_dirent, put_entry, with_dirent, with_slot}
 use Rattle.path_walk.specs.declared.walked.Goal.TheVariants as goals
 use Rattle.path_walk.specs.Programs.{WalkedState, Reaches, Loses, walk_path, loaded}
-use Rattle.inode_machine.specs.Inodes.{Seen, Face, face_or, is_directory_sort, is_live_face, AtEntries}
+use Rattle.inode_machine.specs.Inodes.{Seen, face_or, is_live_face, AtEntries}
 use Rattle.inode_machine.specs.Naming as above
 use Rattle.inode_machine.specs.Parts as parts
 use Rattle.inode_machine.specs.Rules.{machine}
@@ -43,7 +41,7 @@ use Rattle.inodes_on_blocks.specs.Storing.{record_in, put_record}
 use Rattle.syscalls.specs.Making.{with_links}
 use Rattle.syscalls.specs.Parts.{ReachedState, Finds as FindsNode, reach, reach_on, give_up}
 use Rattle.syscalls.specs.Programs.{tail}
-use Rattle.syscalls.specs.Seeking.{Sees, Dotted, Dead, seek_in, seek_live, seek_on, seek_through, seen_with}
+use Rattle.syscalls.specs.Seeking.{Dotted, Dead, seek_on, seek_through, seen_with}
 use Rattle.syscalls.specs.Unlinking as syscalls
 use Rattle.syscalls.specs.Unlinking.{links_of, search_entries}
 use Rattle.syscalls.specs.declared.seek.Dots.TheVariants as dots
@@ -53,10 +51,10 @@ use Rattle.calls_on_blocks.proofs.EndBridge.{tail_same, give_up_same}
 use Rattle.calls_on_blocks.proofs.Faces.{face_seen, directory_same, links_same, live_same, sort_same}
 use Rattle.calls_on_blocks.proofs.Pieces.{left_below, plain_block, plain_drop_with, plain_fetch, plain_load}
 use Rattle.calls_on_blocks.proofs.Searches.{after_plain, plain_search_from}
-use Rattle.calls_on_blocks.proofs.WalkBridge.{seen, stop_of, take_same, look_same, parent_same, reached_is}
+use Rattle.calls_on_blocks.proofs.WalkBridge.{stop_of, take_same, look_same, parent_same, reached_is}
 
 -- what is had of inode j stays, whatever comes of another one
-kept_had : (j n : ℕ) (d : Dinode) → j ≢ n → (c : Carry) (had : Had) → record_had (c j) ≡ Some d → record_had (put c n had j) ≡ Some d
+pub kept_had : (j n : ℕ) (d : Dinode) → j ≢ n → (c : Carry) (had : Had) → record_had (c j) ≡ Some d → record_had (put c n had j) ≡ Some d
 kept_had j n d ne c had is = ap record_had (put_other c n had j ne) ∙ is
 
 plain_entries : (d : Dinode) → plain (entries_above d) ≡ search_entries d
@@ -82,7 +80,7 @@ module _ (sizes : Super) where
           after_plain (entries_above d) (search_entries d) (λ o. Ret (record { answer = record { face = face_seen d; found = None; empty = not (is_some o) }; carry = put c n (Has d NothingMore) })) then_ (rest d) (plain_entries d) (same d)
 
   -- an inode is given up, and what is had of another one stays
-  give_up_beside : (c : Carry) (n : ℕ) (d : Dinode) (j : ℕ) (e : Dinode) (k : parts.P Reply) (rest : code.P Reply) → j ≢ n → record_had (c n) ≡ Some d → record_had (c j) ≡ Some e
+  pub give_up_beside : (c : Carry) (n : ℕ) (d : Dinode) (j : ℕ) (e : Dinode) (k : parts.P Reply) (rest : code.P Reply) → j ≢ n → record_had (c n) ≡ Some d → record_had (c j) ≡ Some e
       → ((c : Carry) → record_had (c j) ≡ Some e → left_below sizes c k ≡ rest) → left_below sizes c (parts.give_up n k) ≡ bind (give_up sizes (loaded n d)) (λ _. rest)
   give_up_beside c n d j e k rest ne has has_other same =
       λ i. Do (steps.Unlock (record { number = n; content = has i }) None) unmarked (λ _. plain_drop_with sizes n k rest (λ c. record_had (c j) ≡ Some e) (kept_had j n e ne) same (put c n Apart) (kept_had j n e ne c Apart has_other) i)
@@ -91,7 +89,7 @@ module _ (sizes : Super) where
 
   module _ (n count : ℕ) (k : parts.P Reply) (rest : code.P Reply) where
     -- The record in hand has the new count for what follows; of other inodes the same is in hand.
-    store_beside : (c : Carry) (d : Dinode) (m : Unit {0} → Option world.Mark) → record_had (c n) ≡ Some d → ((had : Had) → record_had (put c n had n) ≡ Some (with_links count d) → left_below sizes (put c n had) k ≡ rest)
+    pub store_beside : (c : Carry) (d : Dinode) (m : Unit {0} → Option world.Mark) → record_had (c n) ≡ Some d → ((had : Had) → record_had (put c n had n) ≡ Some (with_links count d) → left_below sizes (put c n had) k ≡ rest)
         → left_below sizes c (Do (Store n count) m (λ _. k)) ≡ bind (store_inode sizes.inodestart n (with_links count d)) (λ _. rest)
     store_beside c d m has goes =
         after_plain (fetch b) (fetch b) (put_record (Store n count) m (tt {0}) b n (with_links count (record_in c n)) had c) then_ (put_in (record_in c n))

@@ -12,7 +12,7 @@ use Rattle.tree_moves.specs.Moves.Move.{Begin, Look}
 use Rattle.atomic_programs.specs.Prog.{Do, unmarked}
 use Rattle.atomic_programs.specs.Lifting.{Uses}
 use Rattle.inode_machine.specs.Inodes.{Face, face_or, AtNothing, AtName, AtEntries, is_directory_sort, is_live_face}
-use Rattle.inode_machine.specs.Naming.{always, clear_name, in_parent, is_missing, lower_parent, or_missing, unlink_child, unlink_dots, unlink_found, unlink_in, unlink_named, unlink_other, unlink_program}
+use Rattle.inode_machine.specs.Naming.{always, clear_name, in_parent, is_missing, or_missing, unlink_child, unlink_dots, unlink_found, unlink_in, unlink_named, unlink_other, unlink_program}
 use Rattle.inode_machine.specs.Parts.{P, makes, mends_if_full, looks_if, looks_where, failed, full, done, give_up, tail, stopped}
 use Rattle.inode_machine.specs.Rules.{machine}
 use Rattle.inode_machine.specs.World.Op.{Store}

@@ -13,8 +13,7 @@ use Rattle.atomic_programs.specs.Joined.{Handed, lowered}
 use Rattle.atomic_programs.proofs.Prog.{bind-assoc}
 use Rattle.fs_tables.specs.Inodes.{DroppedState, Counts, Keeps, Dies}
 use Rattle.fs_machine.specs.Machines as code
-use Rattle.fs_machine.specs.Steps as steps
-use Rattle.fs_machine.specs.Steps.{Lock, Unlock, Up, Down, Whom, Number, Directory, Walked}
+use Rattle.fs_machine.specs.Steps.{Lock, Unlock, Up, Down, Number, Directory, Walked}
 use Rattle.inode_table.specs.Programs.{load_unless}
 use Rattle.directory.specs.declared.found.Found.{Found}
 use Rattle.directory.specs.Programs.{is_directory, lookup}

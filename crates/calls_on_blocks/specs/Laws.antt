@@ -1,13 +1,15 @@
 -- The laws of the calls on blocks.
-use Rattle.std.specs.Prelude.{◌≡◌, ℕ, false, List}
+use Rattle.std.specs.Prelude.{◌≡◌, ℕ, true, false, List}
 use Rattle.fs_layout.specs.declared.superblock.Super.{Super}
-use Rattle.plain_tree.specs.declared.call.Call.TheVariants.{Open, Read, Write, Link, Unlink, Chdir, Dup, Fstat, Close, Inherit}
+use Rattle.plain_tree.specs.declared.call.Call.TheVariants.{Open, Read, Write, Link, Unlink, Mkdir, Chdir, Dup, Fstat, Close, Inherit}
 use Rattle.plain_tree.specs.Steps.{creates}
 use Rattle.atomic_programs.specs.Prog.{plain}
 use Rattle.atomic_programs.specs.Calls.{Lawful}
 use Rattle.atomic_programs.specs.Plain.{IsCode}
+use Rattle.syscalls.specs.Creating as creating
 use Rattle.syscalls.specs.Inheriting.{inherit_program}
 use Rattle.syscalls.specs.Links.{link_program}
+use Rattle.syscalls.specs.Mkdirs.{mkdir_program}
 use Rattle.syscalls.specs.Moving.{chdir_program}
 use Rattle.syscalls.specs.Opening as opening
 use Rattle.syscalls.specs.Programs.{dup_program, stat_program, close_program, read_program}
@@ -27,8 +29,11 @@ CodeIsOfIt = (sizes : Super) → IsCode (block_calls sizes) (block_code sizes)
 pub record ProgramsAreLowered (sizes : Super) : Type 0 where
   -- without CREATE
   pub open_old : (path : List ℕ) (flags : ℕ) → creates flags ≡ false → plain ((block_calls sizes).program (Open path flags)) ≡ opening.open_old sizes path flags
+  -- with it
+  pub open_new : (path : List ℕ) (flags : ℕ) → creates flags ≡ true → plain ((block_calls sizes).program (Open path flags)) ≡ creating.open_new sizes path flags
   pub link : (old new : List ℕ) → plain ((block_calls sizes).program (Link old new)) ≡ link_program sizes old new
   pub unlink : (path : List ℕ) → plain ((block_calls sizes).program (Unlink path)) ≡ unlink_program sizes path
+  pub mkdir : (path : List ℕ) → plain ((block_calls sizes).program (Mkdir path)) ≡ mkdir_program sizes path
   pub chdir : (path : List ℕ) → plain ((block_calls sizes).program (Chdir path)) ≡ chdir_program sizes path
   pub dup : (fd : ℕ) → plain ((block_calls sizes).program (Dup fd)) ≡ dup_program fd
   pub fstat : (fd : ℕ) → plain ((block_calls sizes).program (Fstat fd)) ≡ stat_program sizes.inodestart fd

@@ -1,7 +1,6 @@
 -- Each operation on whole inodes as its program below, on a disk of these sizes.
 use Rattle.std.specs.Prelude.{Option}
 use Rattle.fs_layout.specs.declared.superblock.Super.{Super}
-use Rattle.atomic_programs.specs.Prog.{Ret}
 use Rattle.atomic_programs.specs.Joined.{Handed}
 use Rattle.inode_machine.specs.World as above
 use Rattle.inode_machine.specs.World.Op.{Take, Give, UpStart, Up, WalkDown, Down, Free, Forget, Claim, Store, Fill, Enter, Clear, Empty, Slot, Install, StatFile, LockFile, ReadFile, CheckFile, JoinFile, LockOpen, WriteFile, Double, Shut, Settle, Lend, LendDirectory, Release, Join, Leave, Say}
@@ -11,14 +10,11 @@ use Rattle.inodes_on_blocks.specs.Files.{lock_file, lock_open, read_file}
 use Rattle.inodes_on_blocks.specs.Handlers as one
 use Rattle.inodes_on_blocks.specs.Handlers.{P}
 use Rattle.inodes_on_blocks.specs.Lowering.{Carry}
+use Rattle.inodes_on_blocks.specs.Making.{claim}
 use Rattle.inodes_on_blocks.specs.Naming.{clear}
 use Rattle.inodes_on_blocks.specs.Reading.{stat_file, take}
 use Rattle.inodes_on_blocks.specs.Storing.{store}
 use Rattle.inodes_on_blocks.specs.Writing.{write_file}
-
--- An operation that no call which is served makes: nothing is done, and the answer is any.
-abbrev pub nothing_done : {A : Type 0} → Carry → A → P (Handed A Carry)
-nothing_done c a = Ret (record { answer = a; carry = c })
 
 abbrev pub handlers : Super → Carry → (op : above.Op) → (above.Answer op → Option above.Mark) → P (Handed (above.Answer op) Carry)
 handlers sizes c (Take n looking) m = take sizes n looking c m
@@ -29,7 +25,7 @@ handlers sizes c (WalkDown n) m = one.walk_down n c m
 handlers sizes c (Down n) m = one.down n c m
 handlers sizes c (Free n) m = free sizes n c m
 handlers sizes c (Forget n) m = one.forget n c m
-handlers sizes c (Claim sort) m = nothing_done c above.NoInode
+handlers sizes c (Claim sort) m = claim sizes sort c m
 handlers sizes c (Store n count) m = store sizes n count c m
 handlers sizes c (Fill n d) m = fill sizes n d c m
 handlers sizes c (Enter d e n) m = enter sizes d e n c m

@@ -1,9 +1,8 @@
 -- The calls that are served, as a theory over the machine below: what every list of events makes of it.
-use Rattle.std.specs.Prelude.{ℕ, Bool, true, false, ◌&&◌, ◌||◌, ◌==◌, not, nat_lt, List, length, Option, Some, None, is_some, if◌then◌else◌}
+use Rattle.std.specs.Prelude.{ℕ, Bool, true, false, ◌&&◌, ◌||◌, ◌==◌, nat_lt, List, length, Option, Some, None, is_some, if◌then◌else◌}
 use Rattle.fs_layout.specs.declared.superblock.Super.{Super}
 use Rattle.plain_tree.specs.declared.call.Call.{Call}
 use Rattle.plain_tree.specs.declared.call.Call.TheVariants.{Open, Read, Write, Link, Unlink, Mkdir, Chdir, Dup, Fstat, Close, Inherit}
-use Rattle.plain_tree.specs.Steps.{creates}
 use Rattle.plain_tree.specs.Tree.{put, any_below}
 use Rattle.plain_tree.specs.Widths.{hart_count, descriptor_count}
 use Rattle.atomic_programs.specs.Prog.{or_else}
@@ -19,14 +18,14 @@ use Rattle.inode_machine.specs.Theory.{Refusal, NoSuchHart, Busy, PathTooLong, Z
 use Rattle.calls_on_blocks.specs.Layer.{Shared, exec_shared, layer, shared_of}
 use Rattle.calls_on_blocks.specs.Programs.{handlers}
 
--- the calls of which each operation's program is known to act at one moment: of open those without CREATE, and of write those of bytes, as all are that code has
+-- the calls of which each operation's program is known to act at one moment: of write those of bytes, as all are that code has
 abbrev pub is_served : Call → Bool
-is_served (Open path flags) = not (creates flags)
+is_served (Open path flags) = true
 is_served (Read fd buffer) = true
 is_served (Write fd bytes) = are_bytes bytes
 is_served (Link old new) = true
 is_served (Unlink path) = true
-is_served (Mkdir path) = false
+is_served (Mkdir path) = true
 is_served (Chdir path) = true
 is_served (Dup fd) = true
 is_served (Fstat fd) = true

@@ -12,11 +12,11 @@ use Rattle.inode_machine.specs.Theory as calls
 use Rattle.inode_machine.specs.Theory.{path_limit, has_zero, are_bytes, first_wrong, path_wrong, asks_wrong, is_covered}
 use Rattle.calls_on_blocks.specs.Theory as served
 use Rattle.calls_on_blocks.specs.Layer.{Shared}
-use Rattle.calls_on_blocks.specs.Theory.{is_served, serves, has_file}
+use Rattle.calls_on_blocks.specs.Theory.{serves, has_file}
 use Rattle.hart_core.specs.declared.starts.StartRefused.{StartRefused}
-use Rattle.hart_core.specs.declared.starts.StartRefused.TheVariants.{Busy, NoSuchHart, NotEmptyHart, PathTooLong, ZeroInPath, TooLong, NotYet}
+use Rattle.hart_core.specs.declared.starts.StartRefused.TheVariants.{Busy, NoSuchHart, NotEmptyHart, PathTooLong, ZeroInPath, TooLong}
 use Rattle.hart_core.specs.Harts.{HartsOf, busy_in, children_in, shared_of}
-use Rattle.hart_core.specs.Starts.{longest_part, longest_path, path_fault, part_fault, fault_of, refusal_for, is_child, child_refusal, others_refusal, refusal_of, reason_of, IsOfBytes}
+use Rattle.hart_core.specs.Starts.{longest_part, longest_path, path_fault, part_fault, fault_of, is_child, child_refusal, others_refusal, refusal_of, reason_of, IsOfBytes}
 
 -- in the words of the calls
 abbrev pub reason_for : Option StartRefused → Option calls.Refusal
@@ -62,7 +62,7 @@ fault_same (Fstat fd) = refl
 fault_same (Close fd) = refl
 fault_same (Inherit child) = refl
 
--- ---- what is there is served: nothing else is asked of a call in which nothing is wrong
+-- ---- a call without a fault is served: nothing else is asked of it
 
 covered_path : (path : List ℕ) → path_fault path ≡ None → are_bytes path ≡ true → is_nothing (path_wrong path) ≡ true
 covered_path path right bytes = by (nat_lt path_limit (length path)) (list_any (λ b. b == 0) path) (has_zero path) (any_zero path) (are_bytes path) right bytes
@@ -92,49 +92,35 @@ covered_paths old new right bytes =
     nothing_of None r a b = b
     nothing_of (Some why) r a b = absurd cc
 
-none : (b : Bool) → (b && false) ≡ false
-none true = refl
-none false = refl
+covered_part : (bytes : List ℕ) → part_fault bytes ≡ None → is_nothing (asks_wrong (length bytes)) ≡ true
+covered_part bytes right = ap (λ (o : Option calls.Refusal). is_nothing o) (sym (part_same bytes) ∙ ap reason_for right)
 
--- where the call itself is right
-served_same : (call : Call) → fault_of call ≡ None → IsOfBytes call → serves call ≡ is_served call
-served_same (Open path flags) right bytes = λ i. covered_path path right bytes i && is_served (Open path flags)
-served_same (Read fd buffer) right bytes = ap (λ (o : Option calls.Refusal). is_nothing o && true) (sym (part_same buffer) ∙ ap reason_for right)
-served_same (Write fd bytes') right bytes = ap (λ (o : Option calls.Refusal). is_nothing o && are_bytes bytes') (sym (part_same bytes') ∙ ap reason_for right)
-served_same (Link old new) right bytes = λ i. covered_paths old new right bytes i && true
-served_same (Unlink path) right bytes = λ i. covered_path path right bytes i && true
-served_same (Mkdir path) right bytes = none (is_covered (Mkdir path))
-served_same (Chdir path) right bytes = λ i. covered_path path right bytes i && true
-served_same (Dup fd) right bytes = refl
-served_same (Fstat fd) right bytes = refl
-served_same (Close fd) right bytes = refl
-served_same (Inherit child) right bytes = refl
+serves_right : (call : Call) → fault_of call ≡ None → IsOfBytes call → serves call ≡ true
+serves_right (Open path flags) right bytes = λ i. covered_path path right bytes i && true
+serves_right (Read fd buffer) right bytes = λ i. covered_part buffer right i && true
+serves_right (Write fd bytes') right bytes = λ i. covered_part bytes' right i && bytes i
+serves_right (Link old new) right bytes = λ i. covered_paths old new right bytes i && true
+serves_right (Unlink path) right bytes = λ i. covered_path path right bytes i && true
+serves_right (Mkdir path) right bytes = λ i. covered_path path right bytes i && true
+serves_right (Chdir path) right bytes = λ i. covered_path path right bytes i && true
+serves_right (Dup fd) right bytes = refl
+serves_right (Fstat fd) right bytes = refl
+serves_right (Close fd) right bytes = refl
+serves_right (Inherit child) right bytes = refl
 
-pub refusal_same : (call : Call) → (fault_of call ≡ None → IsOfBytes call) → reason_for (refusal_for call) ≡ served.refusal_for call
+pub refusal_same : (call : Call) → (fault_of call ≡ None → IsOfBytes call) → reason_for (fault_of call) ≡ served.refusal_for call
 refusal_same call bytes = by (fault_of call) refl
   where
     served_if : Bool → Option calls.Refusal
     served_if b = if b then None else Some calls.NotCovered
 
-    last : (b : Bool) → reason_for (if b then None else Some NotYet) ≡ served_if b
-    last true = refl
-    last false = refl
-
-    by : (f : Option StartRefused) → fault_of call ≡ f → reason_for (or_else f (if is_served call then None else Some NotYet)) ≡ served.refusal_for call
-    by None e = last (is_served call) ∙ ap served_if (sym (served_same call e (bytes e))) ∙ ap (λ (f : Option calls.Refusal). or_else f (served_if (serves call))) (ap reason_for (sym e) ∙ fault_same call)
+    by : (f : Option StartRefused) → fault_of call ≡ f → reason_for f ≡ served.refusal_for call
+    by None e = ap served_if (sym (serves_right call e (bytes e))) ∙ ap (λ (f : Option calls.Refusal). or_else f (served_if (serves call))) (ap reason_for (sym e) ∙ fault_same call)
     by (Some why) e = ap (λ (f : Option calls.Refusal). or_else f (served_if (serves call))) (ap reason_for (sym e) ∙ fault_same call)
 
--- nothing is wrong with a call that may be started, and it is there
-may_run : (call : Call) → refusal_for call ≡ None → (fault_of call ≡ None) × (is_served call ≡ true)
-may_run call e = by (fault_of call) (is_served call) e
-  where
-    by : (f : Option StartRefused) (b : Bool) → or_else f (if b then None else Some NotYet) ≡ None → (f ≡ None) × (b ≡ true)
-    by None true e = (refl, refl)
-    by None false e = absurd cc
-    by (Some why) b e = absurd cc
-
-pub may_start : {D : Type 0} (w : HartsOf D) (h : ℕ) (call : Call) → refusal_of w h call ≡ None → (fault_of call ≡ None) × (is_served call ≡ true)
-may_start w h call e = may_run call (by (nat_lt h hart_count) (busy_in w.calls h || is_child w h) (refusal_for call) e)
+-- nothing is wrong with a call that may be started
+pub may_start : {D : Type 0} (w : HartsOf D) (h : ℕ) (call : Call) → refusal_of w h call ≡ None → fault_of call ≡ None
+may_start w h call e = by (nat_lt h hart_count) (busy_in w.calls h || is_child w h) (fault_of call) e
   where
     by : (hart taken : Bool) (o : Option StartRefused) → (if hart then (if taken then Some Busy else or_else o (others_refusal w h call)) else Some NoSuchHart) ≡ None → o ≡ None
     by true false None e = refl
@@ -173,8 +159,8 @@ module _ {D : Type 0} (contents : D → List (List ℕ)) (failures : D → ℕ) 
   others_same h (Inherit child) = child_same h child
 
   -- the call's own cause, and then that
-  pub reasons_same : (h : ℕ) (call : Call) → (fault_of call ≡ None → IsOfBytes call) → reason_for (or_else (refusal_for call) (others_refusal w h call)) ≡ or_else (served.refusal_for call) (served.others_refusal h call (busy_in w.calls) now)
-  reasons_same h call bytes = or_same (refusal_for call) (others_refusal w h call) ∙ (λ i. or_else (refusal_same call bytes i) (others_same h call i))
+  pub reasons_same : (h : ℕ) (call : Call) → (fault_of call ≡ None → IsOfBytes call) → reason_for (or_else (fault_of call) (others_refusal w h call)) ≡ or_else (served.refusal_for call) (served.others_refusal h call (busy_in w.calls) now)
+  reasons_same h call bytes = or_same (fault_of call) (others_refusal w h call) ∙ (λ i. or_else (refusal_same call bytes i) (others_same h call i))
 
 -- a path is short and has no zero byte
 none_zero : (b : ℕ) (bs : List ℕ) → list_any (λ b. b == 0) (b ∷ bs) ≡ false → (b ≢ 0) × (list_any (λ b. b == 0) bs ≡ false)

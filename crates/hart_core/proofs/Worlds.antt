@@ -33,7 +33,7 @@ use Rattle.hart_core.specs.declared.starts.StartRefused.TheVariants as start
 use Rattle.hart_core.specs.Blocks.{blocks, code, MayStep}
 use Rattle.hart_core.specs.Harts.{HartsOf, busy_in, children_in, outcome_of, programs_of}
 use Rattle.hart_core.specs.Worlds.{Makes, IsWorld, calls_of}
-use Rattle.hart_core.specs.Starts.{fault_of, refusal_for, is_child, others_refusal, refusal_of, reason_of, IsOfBytes}
+use Rattle.hart_core.specs.Starts.{fault_of, is_child, others_refusal, refusal_of, reason_of, IsOfBytes}
 use Rattle.hart_core.proofs.Stepping.{plain_same}
 use Rattle.hart_core.proofs.Refusals.{reason_for, reasons_same, now}
 
@@ -181,7 +181,7 @@ module _ {D : Type 0} (contents : D → List (List ℕ)) (failures : D → ℕ) 
   tests hart taken o = if hart then (if taken then Some start.Busy else o) else Some start.NoSuchHart
 
   abbrev reasons : Option StartRefused
-  reasons = or_else (refusal_for call) (others_refusal w h call)
+  reasons = or_else (fault_of call) (others_refusal w h call)
 
   none_past : nat_lt h 8 ≡ false → get_or w.calls h None ≡ None
   none_past e = get_or_past w.calls h None (let q : 8 ≤ h = grind (arith, nat_tests) in omega (arith, q, long))

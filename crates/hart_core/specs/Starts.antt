@@ -7,13 +7,13 @@ use Rattle.plain_tree.specs.declared.call.Call.{Call}
 use Rattle.plain_tree.specs.declared.call.Call.TheVariants.{Open, Read, Write, Link, Unlink, Mkdir, Chdir, Dup, Fstat, Close, Inherit}
 use Rattle.hart_core.specs.declared.starts.StartRefused.{StartRefused}
 use Rattle.hart_core.specs.declared.starts.StartRefused.TheVariants as start
-use Rattle.hart_core.specs.declared.starts.StartRefused.TheVariants.{PathTooLong, ZeroInPath, TooLong, NotYet}
+use Rattle.hart_core.specs.declared.starts.StartRefused.TheVariants.{PathTooLong, ZeroInPath, TooLong}
 use Rattle.atomic_programs.specs.Calls.{Outcome as OutcomeOf, Started, Refused}
 use Rattle.fs_machine.specs.declared.kind.Kind.{Kind}
 use Rattle.plain_tree.specs.declared.answer.Reply.{Reply}
 use Rattle.inode_machine.specs.Theory as calls
 use Rattle.inode_machine.specs.Theory.{are_bytes}
-use Rattle.calls_on_blocks.specs.Theory.{is_served, has_file, reserved}
+use Rattle.calls_on_blocks.specs.Theory.{has_file, reserved}
 use Rattle.hart_core.specs.Harts.{HartsOf, busy_in, children_in}
 
 -- bytes of the longest path
@@ -59,10 +59,6 @@ IsOfBytes (Fstat fd) = Unit {0}
 IsOfBytes (Close fd) = Unit {0}
 IsOfBytes (Inherit child) = Unit {0}
 
--- the first of them, and last that the call isn't there yet
-abbrev pub refusal_for : Call → Option StartRefused
-refusal_for call = or_else (fault_of call) (if is_served call then None else Some NotYet)
-
 module _ {D : Type 0} (w : HartsOf D) where
   -- a call under way reserves the hart
   abbrev pub is_child : ℕ → Bool
@@ -77,9 +73,9 @@ module _ {D : Type 0} (w : HartsOf D) where
   others_refusal h (Inherit child) = child_refusal h child
   others_refusal h call = None
 
-  -- Why hart h's call isn't started: there is no such hart; it has a call, or is the child of another one's; the call itself is refused; or last its child is.
+  -- Why hart h's call isn't started: there is no such hart; it has a call, or is the child of another one's; the call has a fault; or last its child can't be one.
   abbrev pub refusal_of : ℕ → Call → Option StartRefused
-  refusal_of h call = if nat_lt h hart_count then (if busy_in w.calls h || is_child h then Some start.Busy else or_else (refusal_for call) (others_refusal h call)) else Some start.NoSuchHart
+  refusal_of h call = if nat_lt h hart_count then (if busy_in w.calls h || is_child h then Some start.Busy else or_else (fault_of call) (others_refusal h call)) else Some start.NoSuchHart
 
 -- the same reason in the words of the calls
 abbrev pub reason_of : StartRefused → calls.Refusal
@@ -89,7 +85,6 @@ reason_of start.ZeroInPath = calls.ZeroInPath
 reason_of start.TooLong = calls.TooLong
 reason_of start.NoSuchHart = calls.NoSuchHart
 reason_of start.NotEmptyHart = calls.NotEmptyHart
-reason_of start.NotYet = calls.NotCovered
 
 -- what a start came to; a refused one hands the call back
 abbrev pub start_outcome : Result (Unit {0}) (Call × StartRefused) → OutcomeOf Kind Reply calls.Refusal

@@ -2,8 +2,7 @@
 //!
 //! `World` is mounted on a disk, and has a call of each hart under way. Each event is a start or a step of one hart, and makes of it
 //! what the calls' programs on the blocks make (the crate calls_on_blocks): nothing is asked of the caller, since by what a world
-//! keeps each operation may be made where it is made. All calls are there but mkdir and open with CREATE, which are refused at their
-//! start.
+//! keeps each operation may be made where it is made. All calls are there.
 #![tactic(auto)]
 
 mod events;

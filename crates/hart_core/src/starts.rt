@@ -1,9 +1,8 @@
 // What is tested before a call is started.
 ghost use Rattle.std.specs.Prelude.{◌≡◌, true, None};
-ghost use Rattle.calls_on_blocks.specs.Theory as calls;
 ghost use Rattle.calls_on_blocks.specs.Theory.{child_of};
 ghost use Rattle.inode_machine.specs.Theory.{are_bytes};
-ghost use Rattle.hart_core.specs.Starts.{fault_of, refusal_for, path_fault, part_fault, IsOfBytes};
+ghost use Rattle.hart_core.specs.Starts.{fault_of, path_fault, part_fault, IsOfBytes};
 
 use plain_tree::{Bytes, Call};
 
@@ -12,9 +11,6 @@ const LONGEST_PATH: usize = 127;
 
 /// The most bytes that one call reads or writes.
 const LONGEST_PART: usize = 524_288;
-
-/// An open's flag that makes a file.
-const CREATE: u32 = 512;
 
 /// Why a call isn't started. Nothing has changed.
 #[derive(Clone, Copy, PartialEq, Eq, Debug)]
@@ -31,8 +27,6 @@ pub enum StartRefused {
     NoSuchHart = 45,
     /// The child of an inherit has descriptors.
     NotEmptyHart = 46,
-    /// This call isn't there yet.
-    NotYet = 49,
 }
 
 /// The first fault of a call itself: of each path in turn its length, then its zero bytes; or how many bytes are to be read or
@@ -59,26 +53,6 @@ pub fn find_fault(call: &Call) -> Option<StartRefused>
     }
 }
 
-// Whether this call is there.
-fn is_served(call: &Call) -> bool
-    requires bytes { IsOfBytes call.now }
-    ensures { result ≡ calls.is_served call.now }
-{
-    match call {
-        Call::Dup { fd: _ } => true,
-        Call::Fstat { fd: _ } => true,
-        Call::Close { fd: _ } => true,
-        Call::Read { fd: _, buf: _ } => true,
-        Call::Open { path: _, flags } => flags & CREATE == 0,
-        Call::Write { fd: _, bytes: _ } => true,
-        Call::Link { old: _, new: _ } => true,
-        Call::Unlink { path: _ } => true,
-        Call::Mkdir { path: _ } => false,
-        Call::Chdir { path: _ } => true,
-        Call::Inherit { child: _ } => true,
-    }
-}
-
 /// Whom a call reserves.
 pub(crate) fn find_child(call: &Call) -> Option<u8>
     ensures { result ≡ child_of call.now }
@@ -86,23 +60,6 @@ pub(crate) fn find_child(call: &Call) -> Option<u8>
     match call {
         Call::Inherit { child } => Some(*child),
         _ => None,
-    }
-}
-
-/// Why a call isn't started, whichever hart makes it: its first fault, and last that it isn't there yet.
-pub(crate) fn find_refusal(call: &Call) -> Option<StartRefused>
-    ensures refusal { result ≡ refusal_for call.now }
-    ensures bytes { fault_of call.now ≡ None → IsOfBytes call.now }
-{
-    match find_fault(call) {
-        Some(why) => Some(why),
-        None => {
-            if is_served(call) {
-                None
-            } else {
-                Some(StartRefused::NotYet)
-            }
-        }
     }
 }
 

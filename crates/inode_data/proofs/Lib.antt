@@ -7,4 +7,5 @@ mod Truncations
 mod Freed
 mod Locations
 mod PartWritings
+pub mod ContentFronts
 pub mod ReadLaw

@@ -16,7 +16,7 @@ use Rattle.tree_laws.proofs.Maps.{either, eq_self}
 use Rattle.atomic_programs.specs.Prog.{Do, unmarked}
 use Rattle.inode_machine.specs.Inodes.{Sort, Face, face_or, is_live_face, is_directory_face, is_directory_sort}
 use Rattle.inode_machine.specs.World.{Mark, Claimed, New, NoInode, NoPlace, Entered, InPlace, NoBlock, NoSlot, Locking, NotLocked, LocksIt, Joining, NotJoined, Joined, Wrote, Whole, Refused, Short, Lending, Lent, Moved}
-use Rattle.inode_machine.specs.World.Op.{Free, Store, Enter, Clear}
+use Rattle.inode_machine.specs.World.Op.{Free, Forget, Store, Enter, Clear}
 use Rattle.inode_machine.specs.Parts.{P, Stop, NotThere, NoMemory, done, failed, stopped, drop, give_up, free_all, tail, walk, walk_step, walk_parent, leave_directory, with_last, start, start_on}
 use Rattle.inode_machine.specs.Descriptors.{joined_on, read_on, dup_on, stat_on, close_on, write_from, wrote_on, write_program}
 use Rattle.inode_machine.specs.Opening.{installed_on, take_descriptor, open_end, open_face, open_at, open_old, open_new, make_on, make_with, create_found, create_in, unmake, empties}
@@ -260,11 +260,11 @@ module _ (path : List ℕ) (d : ℕ) (e : Name) (list : List ℕ) where
     entered b s within = recorded both (b + 2) d (with_bitmap (with_contents 2 s)) old_here (let w = within in omega (arith, w))
 
     -- open
-    made : (flags b : ℕ) (s : Spent) (a : Entered) → b ≤ 10 → Within both b s → HasRoom s (make_on path flags n d list a)
-    made flags b s InPlace le within =
-        (fits both b s within le, λ _. dropped both b le d _ s old_here within (λ t w. took path flags both b le n _ list _ _ t new_here w (λ fd. opened path flags both b le n list fd t w)))
-    made flags b s NoBlock le within = undone b _ s le within
-    made flags b s NoSlot le within = undone b _ s le within
+    made : (flags : ℕ) (sort : Sort) (b : ℕ) (s : Spent) (a : Entered) → b ≤ 10 → Within both b s → HasRoom s (make_on path flags n sort d list a)
+    made flags sort b s InPlace le within =
+        (fits both b s within le, λ _. dropped both b le d _ s old_here within (λ t w. took path flags both b le n sort list _ _ t new_here w (λ fd. opened path flags both b le n list fd t w)))
+    made flags sort b s NoBlock le within = undone b _ s le within
+    made flags sort b s NoSlot le within = undone b _ s le within
 
     -- mkdir
     directory_named : (f : Face) (b : ℕ) (s : Spent) (a : Entered) → b ≤ 10 → Within both b s → HasRoom s (name_directory path d f n list a)
@@ -283,12 +283,16 @@ module _ (path : List ℕ) (d : ℕ) (e : Name) (list : List ℕ) where
     new_stored : Within both 4 stored_new
     new_stored = recorded both 4 n claimed new_here (let w = named one 2 n unspent at_start in omega (arith, w))
 
+    -- where the directory were claimed
+    unclaimed : (r : Reply) → HasRoom claimed (Do (Forget n) unmarked (λ _. give_up d (tail list r)))
+    unclaimed r = (few_claimed, λ _. ended both 4 (omega arith) d list r claimed old_here (let w = named one 2 n unspent at_start in omega (arith, w)))
+
     made_with : (flags : ℕ) → HasRoom claimed (make_with path flags d e list (New n))
-    made_with flags = (
+    made_with flags = either_way claimed (n == d) _ _ (unclaimed _) (
       few_claimed,
-      λ _. (
+      λ seen. (
         fits both 4 stored_new new_stored (omega arith),
-        λ _. (fits both 6 (entered_after stored_new) (entered 4 stored_new new_stored) (omega arith), λ a. made flags 6 (entered_after stored_new) a (omega arith) (entered 4 stored_new new_stored)),
+        λ _. (fits both 6 (entered_after stored_new) (entered 4 stored_new new_stored) (omega arith), λ a. made flags (face_or seen.face).sort 6 (entered_after stored_new) a (omega arith) (entered 4 stored_new new_stored)),
       ),
     )
 
@@ -299,7 +303,7 @@ module _ (path : List ℕ) (d : ℕ) (e : Name) (list : List ℕ) where
     two_filled = recorded both 5 n (with_bitmap (with_contents 1 stored_new)) new_here (let w = new_stored in omega (arith, w))
 
     directory_made : (f : Face) → HasRoom claimed (mkdir_with path d e list f (New n))
-    directory_made f = (
+    directory_made f = either_way claimed (n == d) _ _ (unclaimed _) (
       few_claimed,
       λ _. (
         fits both 4 stored_new new_stored (omega arith),

@@ -1,10 +1,10 @@
 -- A file that an open makes: from the claim of its number to the call's end.
 use Rattle.std.proofs.Common.{◌≡◌, ◌≢◌, ◌⊎◌, inl, inr, ℕ, ◌+◌, ◌-◌, ◌*◌, ◌<◌, ◌≤◌, Bool, true, false, ◌==◌, ◌&&◌, ◌||◌, List, [], ◌∷◌, length, Option, Some, None, refl, sym, ◌∙◌, ap, subst, arith, if◌then◌else◌}
-use Rattle.atomic_programs.specs.Prog.{Do}
+use Rattle.atomic_programs.specs.Prog.{Do, unmarked}
 use Rattle.atomic_programs.specs.Logic.{oldest_first, Safe}
 use Rattle.atomic_programs.specs.Calls.{Begun, Ends}
 use Rattle.plain_tree.specs.declared.answer.Full.{Full}
-use Rattle.plain_tree.specs.declared.answer.Full.TheVariants.{Blocks, Descriptors, Directory as DirectoryFull, OpenFiles}
+use Rattle.plain_tree.specs.declared.answer.Full.TheVariants.{Blocks, Descriptors, MemInodes, Directory as DirectoryFull, OpenFiles}
 use Rattle.plain_tree.specs.declared.answer.Reply.{Reply}
 use Rattle.plain_tree.specs.declared.call.Call.TheVariants as calls
 use Rattle.plain_tree.specs.declared.node.Node.{Node}
@@ -20,12 +20,12 @@ use Rattle.tree_laws.proofs.Maps.{either, eq_not, or_none, same_or, put_same, pu
 use Rattle.tree_moves.specs.Moves.{Step, Written}
 use Rattle.tree_moves.specs.Moves.Move.{Own as OwnMove}
 use Rattle.inode_machine.specs.World.{Desk, Note, World, New}
-use Rattle.inode_machine.specs.World.Op.{Install}
+use Rattle.inode_machine.specs.World.Op.{Forget, Install}
 use Rattle.inode_machine.specs.Inodes.{OfFile}
 use Rattle.inode_machine.specs.Exec.{blank, is_at, with_entry}
 use Rattle.inode_machine.specs.Rules.{Held, Own, key_in, own_names, own_of, machine, IsName}
 use Rattle.inode_machine.specs.Parts.{P, full, give_up, own_step, tail}
-use Rattle.inode_machine.specs.Opening.{file_for, installed_on, installs, make_with, open_end, open_made, opened_reply, truncates, unmake}
+use Rattle.inode_machine.specs.Opening.{file_for, installed_on, installs, make_other, make_with, open_end, open_made, opened_reply, truncates, unmake}
 use Rattle.inode_machine.specs.Theory.{covered_calls}
 use Rattle.inode_machine.proofs.Rules.{locked_held}
 use Rattle.inode_machine.proofs.Counting.{s-give}
@@ -83,7 +83,7 @@ module _ (h : ℕ) (path : List ℕ) (flags : ℕ) (lt : h < hart_count) {base :
 
   -- A slot and a descriptor are taken for it, its lock is given up, and the call ends.
   opens : (i fd id l : ℕ) (E : ℕ → Option Held) (es : List Step) (u : World) (R : Own) → 971 * length ns + 1000 < l → own_of h u ≡ R → Holding base ns (went_own O0 i flags fd id) R E (λ j. 0 + one_if (i == j)) → E i ≡ Some (locked_held (Some new_file)) → ((j : ℕ) → j ≢ i → E j ≡ None) → R.mine.walk ≡ None → R.mine.pending ≡ None
-      → has_room R.desk.fds ≡ true → lowest R.desk.fds ≡ fd → O0.row.fds fd ≡ None → O0.row.keys fd ≡ None → Walked (calls.Open path flags) (opened_act path flags fd id true ∷ []) es → Goes h path flags (open_made path flags i ns) l es u
+      → has_room R.desk.fds ≡ true → lowest R.desk.fds ≡ fd → O0.row.fds fd ≡ None → O0.row.keys fd ≡ None → Walked (calls.Open path flags) (opened_act path flags fd id true ∷ []) es → Goes h path flags (open_made path flags i OfFile ns) l es u
   opens i fd id l E es u R few held k isi rest walk none room low nofd nokey told =
       s-slot M held free lt (omega (arith, few)) (k.stays.hand ∙ joins.may.hand) refl refl
       (λ v inv ov. mends_opened h fd v R ov free lt inv k.stays.opening left (subst KeepsHold (sym hold) tt) (λ j q. refers j q))
@@ -192,7 +192,7 @@ module _ (h : ℕ) (path : List ℕ) (flags : ℕ) (lt : h < hart_count) {base :
 
   -- The hart has no descriptor left.
   lacks : (i l : ℕ) (E : ℕ → Option Held) (es : List Step) (u : World) (R : Own) → 971 * length ns + 1000 < l → own_of h u ≡ R → Holding base ns O0 R E (λ j. 0 + one_if (i == j)) → E i ≡ Some (locked_held (Some new_file)) → ((j : ℕ) → j ≢ i → E j ≡ None) → R.mine.walk ≡ None → R.mine.pending ≡ None → has_room R.desk.fds ≡ false
-      → Goes h path flags (open_made path flags i ns) l es u
+      → Goes h path flags (open_made path flags i OfFile ns) l es u
   lacks i l E es u R few held k isi rest walk none room =
       s-slot (mended_own R) held free lt (omega (arith, few)) hand refl refl
       (λ v inv ov. let m = mends h v R ov free lt inv can.opening can.left can.hold can.names in record { fair = m.fair; bad = m.bad; owned = m.owned })
@@ -224,7 +224,7 @@ module _ (h : ℕ) (path : List ℕ) (flags : ℕ) (lt : h < hart_count) {base :
 
   -- The name is entered: the parent is given up first.
   named : (d i fd id l : ℕ) {x : Held} (es : List Step) (u : World) (R O : Own) → 971 * length ns + 1910 < l → own_of h u ≡ R → Pair base ns O0 O d i x (locked_held (Some new_file)) → IsWhole x → R.inodes ≡ O.inodes → R.mine.refs ≡ O.mine.refs → R.ninodes ≡ O.ninodes → R.row ≡ opened_row O.row fd id (key_is (file_for i flags)) → R.desk ≡ record (O.desk) { opening = Some fd } → R.mine.walk ≡ None → R.mine.pending ≡ None
-      → has_room O.desk.fds ≡ true → lowest O.desk.fds ≡ fd → O.row.fds fd ≡ None → O.row.keys fd ≡ None → Walked (calls.Open path flags) (opened_act path flags fd id true ∷ []) es → Goes h path flags (give_up d (open_made path flags i ns)) l es u
+      → has_room O.desk.fds ≡ true → lowest O.desk.fds ≡ fd → O.row.fds fd ≡ None → O.row.keys fd ≡ None → Walked (calls.Open path flags) (opened_act path flags fd id true ∷ []) es → Goes h path flags (give_up d (open_made path flags i OfFile ns)) l es u
   named d i fd id l {x} es u R O few held p whole inodes refs ninodes row desk walk none room low nofd nokey told =
       s-give-up-in d {O0 = went_own O0 i flags fd id} {more = λ j. 0 + one_if (i == j)} held lt joins.ready.free joins.ready.joined (λ q. let b = joins.ready.spare d (sym (names_opened O0.row O0.desk fd id (key_is (file_for i flags)) d joins.ready.opening (eq_not i d p.apart)) ∙ q) in omega (arith, b)) (omega (arith, few))
       (record { stays = k.stays; refs = λ j. (let a = k.refs j in omega (arith, a)); all = k.all; once = k.once; has = k.has; only = k.only }) walk none p.at_d whole (λ l2 u2 Owned2 q2 held2 desk2 walk2 none2 k2.
@@ -252,7 +252,7 @@ module _ (h : ℕ) (path : List ℕ) (flags : ℕ) (lt : h < hart_count) {base :
       k : Holding base ns (went_own O0 i flags fd id) R p.extra (λ j. (0 + one_if (d == j)) + one_if (i == j))
       k = holding_to (went_own O0 i flags fd id) R p.hold inodes stays refs (λ j t q. (λ z. own_names (row z) (desk z) j) ∙ names_opened O.row O.desk fd id (key_is (file_for i flags)) j (p.hold.stays.opening ∙ joins.ready.opening) (eq_not i j (not_i j t)) ∙ q)
 
-  named_full : (d i l : ℕ) {x : Held} (es : List Step) (u : World) (R : Own) → 971 * length ns + 1910 < l → own_of h u ≡ R → Pair base ns O0 R d i x (locked_held (Some new_file)) → IsWhole x → R.mine.walk ≡ None → R.mine.pending ≡ None → has_room R.desk.fds ≡ false → Goes h path flags (give_up d (open_made path flags i ns)) l es u
+  named_full : (d i l : ℕ) {x : Held} (es : List Step) (u : World) (R : Own) → 971 * length ns + 1910 < l → own_of h u ≡ R → Pair base ns O0 R d i x (locked_held (Some new_file)) → IsWhole x → R.mine.walk ≡ None → R.mine.pending ≡ None → has_room R.desk.fds ≡ false → Goes h path flags (give_up d (open_made path flags i OfFile ns)) l es u
   named_full d i l {x} es u R few held p whole walk none room =
       s-give-up-in d {more = λ j. 0 + one_if (i == j)} held lt joins.ready.free joins.ready.joined (λ q. let b = joins.ready.spare d q in omega (arith, b)) (omega (arith, few))
       (record { stays = p.hold.stays; refs = λ j. (let a = p.hold.refs j in omega (arith, a)); all = p.hold.all; once = p.hold.once; has = p.hold.has; only = p.hold.only }) walk none p.at_d whole (λ l2 u2 Owned2 q2 held2 desk2 walk2 none2 k2.
@@ -263,7 +263,8 @@ module _ (h : ℕ) (path : List ℕ) (flags : ℕ) (lt : h < hart_count) {base :
   pub makes_file : (d : ℕ) (e : Name) (X : Node) (i l : ℕ) (fs : List Step) (u : World) (R : Own) → creates flags ≡ true → 971 * length ns + 3570 < l → own_of h u ≡ R → Pair base ns O0 R d i (locked_held (Some X)) (claimed_held OfFile) → base i ≡ 0 → R.mine.walk ≡ Some (record { step = steps.Open path flags; at = d; next = e; rest = [] }) → R.mine.pending ≡ None
       → live_directory (Some X) ≡ true → look (λ j. Some X) d e ≡ None → IsName e → 1 ≤ i → i < R.ninodes → ((t : Note) → R.desk.noted ≡ Some t → t.number ≢ i) → Walked (calls.Open path flags) [] fs → Goes h path flags (make_with path flags d e ns (New i)) l fs u
   makes_file d e X i l fs u R flag few held p zero walk none live absent good from below notes walking =
-      s-take-kept held free lt (omega (arith, few)) (p.hold.has i (claimed_held OfFile) p.at_i) refl (λ e. cc) tt refers (λ l1 u1 q1 held1.
+      subst (λ (b : Bool). Goes h path flags (if b then Do (Forget i) unmarked (λ _. give_up d (tail ns (full (calls.Open path flags) MemInodes))) else make_other path flags d e ns i) l fs u) (sym (eq_not i d p.apart))
+      (s-take-kept held free lt (omega (arith, few)) (p.hold.has i (claimed_held OfFile) p.at_i) refl (λ e. cc) tt refers (λ l1 u1 q1 held1.
       s-store i 1 (blank OfFile) held1 free lt (omega (arith, few, q1)) joined (put_same R.inodes i (Some (fresh_held (blank OfFile)))) refl refl (inl (omega arith)) (λ l2 u2 q2 held2.
       s-enter-file d i X e path flags held2 free lt (omega (arith, few, q1, q2)) joined walk none (mendable joins.ready p2.hold) flag refl refl refl
       (p2.hold.has d (locked_held (Some X)) p2.at_d) refl refl refl refl live absent (p2.hold.has i (fresh_held new_file) p2.at_i) refl refl refl refers good from below notes
@@ -272,7 +273,7 @@ module _ (h : ℕ) (path : List ℕ) (flags : ℕ) (lt : h < hart_count) {base :
       (told fd id))
       (λ l3 u3 q3 room held3. named_full d i l3 (told_step i (steps.Open path flags) (NoRoom Descriptors) ∷ fs) u3 Owned3 (omega (arith, few, q1, q2, q3)) held3 p3 (record { locked = refl; shared = refl; same = refl }) refl refl room)
       (λ l3 u3 q3 held3. unmade (full (calls.Open path flags) Blocks) l3 u3 (omega (arith, few, q1, q2, q3)) held3)
-      (λ l3 u3 q3 held3. unmade (full (calls.Open path flags) DirectoryFull) l3 u3 (omega (arith, few, q1, q2, q3)) held3)))
+      (λ l3 u3 q3 held3. unmade (full (calls.Open path flags) DirectoryFull) l3 u3 (omega (arith, few, q1, q2, q3)) held3))))
     where
       free : R.desk.lender ≡ None
       free = p.hold.stays.lender ∙ joins.ready.free

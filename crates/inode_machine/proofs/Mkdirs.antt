@@ -1,6 +1,6 @@
 -- Mkdir is right, whatever the other harts do.
 use Rattle.std.proofs.Common.{◌≡◌, ◌≢◌, inl, inr, ℕ, ◌+◌, ◌*◌, ◌<◌, ◌≤◌, Bool, true, false, ◌==◌, nat_lt, List, [], ◌∷◌, length, Option, Some, None, refl, sym, ◌∙◌, ap, subst, arith, if◌then◌else◌}
-use Rattle.atomic_programs.specs.Prog.{Do}
+use Rattle.atomic_programs.specs.Prog.{Do, unmarked}
 use Rattle.atomic_programs.specs.Logic.{Safe}
 use Rattle.atomic_programs.specs.Calls.{Begun, Ends, IsBeginning}
 use Rattle.plain_tree.specs.declared.answer.Cause.{Cause}
@@ -16,17 +16,17 @@ use Rattle.plain_tree.specs.Tree.{Name, Tree, put, look, live_directory, element
 use Rattle.plain_tree.specs.Steps.{node_or, name_taken, new_directory, or_else, raised, refusal_with}
 use Rattle.plain_tree.specs.Calls.{Act, next_of, reply_of, had_room}
 use Rattle.tree_laws.specs.WellFormed.{one_if}
-use Rattle.tree_laws.proofs.Maps.{put_same, put_other}
+use Rattle.tree_laws.proofs.Maps.{eq_not, put_same, put_other}
 use Rattle.tree_moves.specs.Moves.{Step, MayEnd}
 use Rattle.inode_machine.proofs.Names.{AllNames}
 use Rattle.inode_machine.specs.World.{Note, World, New, InPlace}
-use Rattle.inode_machine.specs.World.Op.{Enter}
+use Rattle.inode_machine.specs.World.Op.{Enter, Forget}
 use Rattle.inode_machine.specs.Inodes.{OfDirectory, Face, face_of, face_or}
 use Rattle.inode_machine.specs.Exec.{blank, with_count, with_dots, with_entry}
 use Rattle.inode_machine.specs.Rules.{Held, Own, own_of, nothing, Idle, Inv, machine, IsName}
 use Rattle.inode_machine.specs.Parts.{P, done, failed, full, give_up, tail}
 use Rattle.inode_machine.specs.Opening.{entered_file, unmake}
-use Rattle.inode_machine.specs.Naming.{is_refused, mkdir_in, mkdir_on, mkdir_program, mkdir_refused, mkdir_with, name_directory}
+use Rattle.inode_machine.specs.Naming.{is_refused, mkdir_in, mkdir_on, mkdir_other, mkdir_program, mkdir_refused, mkdir_with, name_directory}
 use Rattle.inode_machine.specs.Programs.{path_cost, rest_cost}
 use Rattle.inode_machine.specs.Theory.{covered_calls}
 use Rattle.inode_machine.proofs.Rules.{locked_held}
@@ -162,11 +162,12 @@ module _ (h : ℕ) (path : List ℕ) (lt : h < hart_count) {base : ℕ → ℕ} 
       → live_directory (Some X) ≡ true → look (λ j. Some X) d e ≡ None → nat_lt X.count count_limit ≡ true → IsName e → 1 ≤ i → i < R.ninodes → ((t : Note) → R.desk.noted ≡ Some t → t.number ≢ i) → Walked (calls.Mkdir path) [] fs
       → Goes h path (mkdir_with path d e ns (face_or (face_of (Some X))) (New i)) l fs u
   makes X i l fs u R few held p zero walk none live absent room good from below notes walking =
-      s-take-kept held free lt (omega (arith, few)) (p.hold.has i (claimed_held OfDirectory) p.at_i) refl (λ e. cc) tt (let f = p.hold.refs i in let o = one_at i in omega (arith, f, o)) (λ l1 u1 q1 held1.
+      subst (λ (b : Bool). Goes h path (if b then Do (Forget i) unmarked (λ _. give_up d (tail ns (full (calls.Mkdir path) MemInodes))) else mkdir_other path d e ns (face_or (face_of (Some X))) i) l fs u) (sym (eq_not i d p.apart))
+      (s-take-kept held free lt (omega (arith, few)) (p.hold.has i (claimed_held OfDirectory) p.at_i) refl (λ e. cc) tt (let f = p.hold.refs i in let o = one_at i in omega (arith, f, o)) (λ l1 u1 q1 held1.
       s-store i 1 (blank OfDirectory) held1 free lt (omega (arith, few, q1)) joined (put_same R.inodes i (Some (fresh_held (blank OfDirectory)))) refl refl (inl (omega arith)) (λ l2 u2 q2 held2.
       s-fill i d (with_count 1 (blank OfDirectory)) held2 free lt (omega (arith, few, q1, q2)) joined (put_same (put R.inodes i (Some (fresh_held (blank OfDirectory)))) i (Some (fresh_held (with_count 1 (blank OfDirectory))))) refl refl refl (locked_held (Some X)) X (p2.hold.has d (locked_held (Some X)) p2.at_d) refl (mendable joins.ready p2.hold)
       (λ l3 u3 q3 held3. enters X i l3 fs u3 _ (omega (arith, few, q1, q2, q3)) held3 (pair_set _ (fresh_held (with_dots i d (with_count 1 (blank OfDirectory)))) p2 refl refl refl refl refl) zero walk none live absent room good from below notes walking)
-      (λ l3 u3 q3 held3. s-unmake h (calls.Mkdir path) (full (calls.Mkdir path) Blocks) (with_count 1 (blank OfDirectory)) l3 fs u3 _ lt joins held3 (omega (arith, few, q1, q2, q3)) (pair_same (mended_own Owned2) p2 refl refl (stays_mended (mended_own Owned2) joins.ready p2.hold.stays refl refl refl)) (record { locked = refl; shared = refl; same = refl }) refl refl refl refl zero notes from below refl refl (inl refl))))
+      (λ l3 u3 q3 held3. s-unmake h (calls.Mkdir path) (full (calls.Mkdir path) Blocks) (with_count 1 (blank OfDirectory)) l3 fs u3 _ lt joins held3 (omega (arith, few, q1, q2, q3)) (pair_same (mended_own Owned2) p2 refl refl (stays_mended (mended_own Owned2) joins.ready p2.hold.stays refl refl refl)) (record { locked = refl; shared = refl; same = refl }) refl refl refl refl zero notes from below refl refl (inl refl)))))
     where
       free : R.desk.lender ≡ None
       free = p.hold.stays.lender ∙ joins.ready.free

@@ -14,7 +14,7 @@ use Rattle.atomic_programs.specs.Prog.{Do, unmarked}
 use Rattle.inode_machine.specs.Inodes.{OfDirectory, Face, face_or, Seen, AtNothing, AtName, AtEntries, is_directory_sort, is_live_face}
 use Rattle.tree_moves.specs.Moves.Move.{Begin, Look}
 use Rattle.inode_machine.specs.World.{Mark, Claimed, New, NoInode, NoPlace, Entered, InPlace, NoBlock, NoSlot}
-use Rattle.inode_machine.specs.World.Op.{Take, Give, Up, Claim, Store, Fill, Enter, Clear, Join}
+use Rattle.inode_machine.specs.World.Op.{Take, Give, Up, Forget, Claim, Store, Fill, Enter, Clear, Join}
 use Rattle.inode_machine.specs.World.Mark.{Mends}
 use Rattle.inode_machine.specs.Parts.{P, makes, own_step, mends_if_full, failed, full, done, drop, give_up, tail, stopped, walk, walk_parent, start, looks_if, looks_where, is_there}
 use Rattle.inode_machine.specs.Opening.{entered_file, unmake, mends_unless_new}
@@ -96,16 +96,20 @@ name_directory path d f n ns InPlace =
 name_directory path d f n ns NoBlock = unmake n d ns (full (calls.Mkdir path) Blocks)
 name_directory path d f n ns NoSlot = unmake n d ns (full (calls.Mkdir path) Directory)
 
-abbrev pub mkdir_with : List ℕ → ℕ → Name → List ℕ → Face → Claimed → P Reply
-mkdir_with path d e ns f NoInode = give_up d (tail ns (full (calls.Mkdir path) DiskInodes))
-mkdir_with path d e ns f NoPlace = give_up d (tail ns (full (calls.Mkdir path) MemInodes))
-mkdir_with path d e ns f (New n) =
+-- what is claimed is another inode than the directory, which isn't free
+abbrev pub mkdir_other : List ℕ → ℕ → Name → List ℕ → Face → ℕ → P Reply
+mkdir_other path d e ns f n =
     Do (Take n AtNothing) unmarked (λ _.
     Do (Store n 1) unmarked (λ _.
     Do (Fill n d) mends_if_full (λ there.
     if there
     then Do (Enter d e n) (entered_file n) (name_directory path d f n ns)
     else unmake n d ns (full (calls.Mkdir path) Blocks))))
+
+abbrev pub mkdir_with : List ℕ → ℕ → Name → List ℕ → Face → Claimed → P Reply
+mkdir_with path d e ns f NoInode = give_up d (tail ns (full (calls.Mkdir path) DiskInodes))
+mkdir_with path d e ns f NoPlace = give_up d (tail ns (full (calls.Mkdir path) MemInodes))
+mkdir_with path d e ns f (New n) = if n == d then Do (Forget n) unmarked (λ _. give_up d (tail ns (full (calls.Mkdir path) MemInodes))) else mkdir_other path d e ns f n
 
 -- why a directory isn't made: its name is there, or its parent has all its links
 abbrev pub mkdir_refused : Option ℕ → Face → Option Cause

@@ -5,13 +5,9 @@ use Rattle.std.proofs.lemmas.Bool.{cases_lt, cases_eq}
 use Rattle.std.proofs.lemmas.List.{append-nil, drop-append-le, take-append-le, drop_at, take_all, drop-drop, drop_all, length-drop, length-take, take-take}
 use Rattle.fs_layout.specs.Bytes.{overwrite}
 use Rattle.inode_data.specs.Programs.{Filled, filled_with, next_block, blocks_between, part_of}
-use Rattle.inode_data.proofs.ReadLaw.{side_by_side, drop_of_take, none_between, some_between, next_between}
+use Rattle.inode_data.proofs.ContentFronts.{drop_of_take, front, part_then}
+use Rattle.inode_data.proofs.ReadLaw.{none_between, some_between, next_between}
 use Rattle.inodes_on_blocks.proofs.ContentReads.{filled_from}
-
--- so many blocks, one after the other
-unfoldable pub front : (ℕ → List ℕ) → ℕ → List ℕ
-front content zero = []
-front content (suc k) = front content k ++ content k
 
 -- what is written at a list's end
 over_end : (xs ys : List ℕ) (n : ℕ) → n ≡ length xs → overwrite xs n ys ≡ xs ++ ys
@@ -30,42 +26,6 @@ filled_is m part e =
     λ i. record { count = sum i; bytes = over_end m.bytes part m.count count i }
 
 module _ (content : ℕ → List ℕ) (k : ℕ) (whole : (q : ℕ) → q < k → length (content q) ≡ 1024) where
-  pub length-front : (n : ℕ) → n ≤ k → length (front content n) ≡ 1024 * n
-  unfolding front
-  length-front zero le = refl
-  length-front (suc n) le = omega (arith, length-append (front content n) (content n), length-front n (omega (arith, le)), whole n (omega (arith, le)))
-
-  pub block_there : (n q : ℕ) → n ≤ k → q < n → take 1024 (drop (1024 * q) (front content n)) ≡ content q
-  unfolding front
-  block_there zero q le lt = absurd (omega (arith, lt))
-  block_there (suc n) q le lt =
-      ⊎_elim
-      (λ (e : q ≡ n). rw e (ap (take 1024) (drop_at (front content n) (content n) (1024 * n) (length-front n (omega (arith, le)))) ∙ take_all 1024 (content n) (omega (arith, whole n (omega (arith, le))))))
-      (λ (ne : q ≡ n → ⊥).
-      let below : q < n = omega (arith, ne, lt) in
-      let len = length-front n (omega (arith, le)) in
-      ap (take 1024) (drop-append-le (1024 * q) (front content n) (content n) (omega (arith, len, below)))
-      ∙ (take-append-le 1024 (drop (1024 * q) (front content n)) (content n) (omega (arith, len, below, length-drop (1024 * q) (front content n)))
-      ∙ block_there n q (omega (arith, le)) below))
-      (cases_eq q n)
-
-  part_then : (from upto : ℕ) → from / 1024 < k → part_of from upto (content (from / 1024)) ++ drop (next_block from) (take upto (front content k)) ≡ drop from (take upto (front content k))
-  part_then from upto lt =
-      let q : ℕ = from / 1024 in
-      let r : ℕ = from % 1024 in
-      let all : List ℕ = front content k in
-      let sum : 1024 * q + r ≡ from = omega arith in
-      let rest : from + (1024 - r) ≡ next_block from = omega arith in
-      let less : upto - next_block from ≡ (upto - from) - (1024 - r) = omega (arith, rest) in
-      let here : drop r (content q) ≡ take (1024 - r) (drop from all) =
-      ap (drop r) (sym (block_there k q (omega arith) lt)) ∙ (drop_of_take r 1024 (drop (1024 * q) all) ∙ (ap (take (1024 - r)) (drop-drop r (1024 * q) all) ∙ ap (λ (n : ℕ). take (1024 - r) (drop n all)) sum)) in
-      let there : drop (next_block from) (take upto all) ≡ take ((upto - from) - (1024 - r)) (drop (1024 - r) (drop from all)) =
-      drop_of_take (next_block from) upto all ∙ (ap (λ (n : ℕ). take n (drop (next_block from) all)) less
-      ∙ ap (take ((upto - from) - (1024 - r))) (sym (drop-drop (1024 - r) from all ∙ ap (λ (n : ℕ). drop n all) rest))) in
-      ap (λ (xs : List ℕ). take (upto - from) xs ++ drop (next_block from) (take upto all)) here
-      ∙ (ap (λ (xs : List ℕ). take (upto - from) (take (1024 - r) (drop from all)) ++ xs) there
-      ∙ (side_by_side (upto - from) (1024 - r) (drop from all) ∙ sym (drop_of_take from upto all)))
-
   -- the parts of the blocks between two offsets, behind what is there
   pub read_all : (n from upto : ℕ) (m : Filled) → m ≡ with_bytes m.bytes → n ≡ blocks_between from upto → upto ≤ 1024 * k → filled_from content n from upto m ≡ with_bytes (m.bytes ++ drop from (take upto (front content k)))
   unfolding filled_from
@@ -80,7 +40,7 @@ module _ (content : ℕ → List ℕ) (k : ℕ) (whole : (q : ℕ) → q < k →
       let here = filled_is m part e in
       ap (filled_from content n (next_block from) upto) here
       ∙ read_all n (next_block from) upto (with_bytes (m.bytes ++ part)) refl (next_between n from upto is lt) within
-      ∙ ap with_bytes (append_assoc m.bytes part (drop (next_block from) (take upto all)) ∙ ap (λ (xs : List ℕ). m.bytes ++ xs) (part_then from upto (omega (arith, lt, within))))
+      ∙ ap with_bytes (append_assoc m.bytes part (drop (next_block from) (take upto all)) ∙ ap (λ (xs : List ℕ). m.bytes ++ xs) (part_then content k whole from upto (omega (arith, lt, within))))
 
 -- up to a size, and so many
 pub up_to : (offset n size : ℕ) (xs : List ℕ) → drop offset (take (min (offset + n) size) xs) ≡ take n (drop offset (take size xs))

@@ -17,8 +17,7 @@ use Rattle.plain_tree.specs.declared.node.Node.{Node}
 use Rattle.plain_tree.specs.declared.node.Kind.{Kind}
 use Rattle.plain_tree.specs.declared.node.Kind.TheVariants.{Directory, File, Device}
 use Rattle.plain_tree.specs.Steps.{content, entries, entry_bytes}
-use Rattle.inode_data.proofs.ReadLaw.{drop_of_take}
-use Rattle.inodes_on_blocks.proofs.ContentParts.{front, length-front, block_there}
+use Rattle.inode_data.proofs.ContentFronts.{block_there, drop_of_take, front, length-front}
 use Rattle.inodes_on_blocks.proofs.Looks.{shown}
 use Rattle.inodes_on_blocks.proofs.Records.{take_bytes, drop_bytes}
 

@@ -10,6 +10,7 @@ use Rattle.image_tree.specs.Checks.{largest_size}
 use Rattle.image_tree.specs.Inodes.{is_free, content_block, blocks_for, numbers_of, block_number}
 use Rattle.image_laws.specs.Holds.{HoldsAt}
 use Rattle.inode_data.specs.Programs.{blocks_between, end_of}
+use Rattle.inode_data.proofs.ContentFronts.{front}
 use Rattle.plain_tree.specs.declared.answer.Cause.TheVariants.{NoDriver}
 use Rattle.plain_tree.specs.declared.node.Node.{Node}
 use Rattle.plain_tree.specs.declared.node.Kind.TheVariants.{Device}
@@ -21,7 +22,7 @@ use Rattle.inode_machine.specs.World as above
 use Rattle.inodes_on_blocks.specs.Below.{World, log_of, disk_of, inode_in}
 use Rattle.inodes_on_blocks.specs.Shown.{Shows}
 use Rattle.inodes_on_blocks.proofs.ContentBlocks.{data_place, block_data, block_seen}
-use Rattle.inodes_on_blocks.proofs.ContentParts.{front, with_bytes, read_all, up_to}
+use Rattle.inodes_on_blocks.proofs.ContentParts.{with_bytes, read_all, up_to}
 use Rattle.inodes_on_blocks.proofs.ContentReads.{filled_from}
 use Rattle.inodes_on_blocks.proofs.NodeBytes.{all_whole, node_bytes}
 

@@ -24,7 +24,8 @@ use Rattle.fs_machine.specs.Shown.{seen_of}
 use Rattle.inode_data.specs.Addresses.{table_of}
 use Rattle.inode_data.specs.Programs.{blocks_between, next_block}
 use Rattle.inode_data.specs.Writing.{Written, front_of, with_part, write_blocks}
-use Rattle.inode_data.proofs.ReadLaw.{side_by_side, some_between, next_between}
+use Rattle.inode_data.proofs.ContentFronts.{side_by_side}
+use Rattle.inode_data.proofs.ReadLaw.{some_between, next_between}
 use Rattle.inode_machine.specs.Budget.{Spent, size, most_recorded}
 use Rattle.inode_machine.specs.World as above
 use Rattle.inode_machine.specs.Rules.{Inv}

@@ -8,9 +8,9 @@ use Rattle.fs_layout.specs.Widths.{bits_per_block, dirent_len}
 use Rattle.plain_tree.specs.declared.answer.Full.{Full}
 use Rattle.plain_tree.specs.declared.answer.Full.TheVariants as fulls
 use Rattle.plain_tree.specs.Tree.{Name, dot, dotdot}
-use Rattle.atomic_programs.specs.Prog.{Ret, bind}
+use Rattle.atomic_programs.specs.Prog.{Ret, Do, bind, unmarked}
 use Rattle.fs_tables.specs.declared.inodes.Inode.{Inode}
-use Rattle.fs_machine.specs.Steps.{State}
+use Rattle.fs_machine.specs.Steps.{State, Down, Freed}
 use Rattle.fs_machine.specs.Machines.{P}
 use Rattle.fs_machine.specs.Tied.{IsOwnInode}
 use Rattle.inode_table.specs.Programs.{record_of, store}
@@ -92,8 +92,9 @@ module _ (sizes : Super) where
   abbrev pub link_new : Sort → Name → Inode → Inode → P NamedState
   link_new kind e v w = bind (store sizes.inodestart w.number (with_links 1 (record_of w))) (λ _. linked kind e v (loaded w.number (with_links 1 (record_of w))))
 
+  -- what is claimed is another inode than the directory, which isn't free
   abbrev pub made_on : Sort → Name → Inode → Made → P NamedState
-  made_on kind e v (made.Inode n) = bind (take_inode sizes.inodestart n) (link_new kind e v)
+  made_on kind e v (made.Inode n) = if n == v.number then Do (Down (Freed n)) unmarked (λ _. Ret (Lacks v fulls.MemInodes)) else bind (take_inode sizes.inodestart n) (link_new kind e v)
   made_on kind e v made.NoPlace = Ret (Lacks v fulls.MemInodes)
   made_on kind e v made.NoInode = Ret (Lacks v fulls.DiskInodes)
 

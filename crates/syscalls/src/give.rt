@@ -1,7 +1,8 @@
 //! An inode given up.
 ghost use Rattle.std.specs.Prelude.{◌≡◌, ◌≢◌, ℕ};
+ghost use Rattle.atomic_programs.specs.Prog.{Ret, Do, unmarked};
 ghost use Rattle.atomic_programs.specs.Machines.{Still, Left as LeftOf};
-ghost use Rattle.fs_machine.specs.Steps.{State, state_of};
+ghost use Rattle.fs_machine.specs.Steps.{State, state_of, Down, Freed};
 ghost use Rattle.fs_machine.specs.Machines.{MayNext, Moves, Answers, CallsOnce};
 ghost use Rattle.fs_machine.specs.Tied.{IsOwnInode, LeavesTied};
 ghost use Rattle.fs_machine.specs.Stays.{LeavesApart};
@@ -20,7 +21,7 @@ use fs_layout::Super;
 use fs_machine::{Core, Kind, RetiredCore};
 use fs_tables::Reference;
 use group_log::Txn;
-use inode_data::DropReference;
+use inode_data::{DropReference, FreeInode};
 
 /// Gives an inode's lock back, and drops the reference to it. Where that is the last one to a dead inode the inode is freed.
 pub enum GiveUp {
@@ -51,6 +52,16 @@ impl GiveUp {
         ensures apart { (k : ℕ) → GiveApart k result }
     {
         GiveUp::Dropping(DropReference::new(reference, sizes))
+    }
+
+    /// This reference alone, of an inode to which another one stands: nothing is freed.
+    #[tactic(auto, unfolding(crate::specs::Ends::give_of, crate::specs::Ends::GiveFits, crate::specs::Ends::GiveApart, inode_data::specs::Dropping::drop_of, inode_data::specs::Dropping::DropFits, inode_data::specs::Dropping::DropApart, inode_data::specs::Dropping::free_inode_of, inode_data::specs::Dropping::FreeInodeFits, inode_data::specs::Dropping::FreeApart))]
+    pub fn drop_beside(reference: Reference) -> GiveUp
+        ensures program { give_of result ≡ Do (Down (Freed reference)) unmarked (λ _. Ret tt) }
+        ensures fits { (hart : ℕ) (s : State) → GiveFits hart s result }
+        ensures apart { (k : ℕ) → GiveApart k result }
+    {
+        GiveUp::Dropping(DropReference::Freeing(FreeInode::Dropping(reference)))
     }
 
     /// One operation.

@@ -9,6 +9,7 @@ ghost use Rattle.fs_machine.specs.Tied.{IsOwnInode, LeavesTied};
 ghost use Rattle.inode_table.specs.Programs.{store};
 ghost use Rattle.inode_table.specs.Machines.{store_of, StoreFits};
 ghost use Rattle.inode_table.specs.NewMachines.{new_of, NewFits};
+ghost use Rattle.inode_table.specs.declared.new_inode.Made.TheVariants as made;
 ghost use Rattle.inode_data.specs.Beginnings.{begun_of, IfBegun};
 ghost use Rattle.inode_data.specs.Records.{record_in, with_record};
 ghost use Rattle.inode_data.specs.PartWriting.{write_of, writer_of, written_of, WriteFits};
@@ -261,14 +262,31 @@ fn claiming(making: Making, stepped: Stepped<NewInode, Made, Kind>) -> Stepped<M
         Stepped::Waits(new) => Stepped::Waits(Make::Claiming(making, new)),
         Stepped::Ran(new, kind) => Stepped::Ran(Make::Claiming(making, new), kind),
         Stepped::Done(made, kind) => match made {
-            Made::Inode(reference) => {
-                let take = TakeInode::new(making.sizes.inodestart, reference);
-                Stepped::Ran(Make::Taking(making, take), kind)
-            }
+            Made::Inode(reference) => Stepped::Ran(claimed(making, reference), kind),
             Made::NoPlace => Stepped::Done(lacks(making, Full::MemInodes), kind),
             Made::NoInode => Stepped::Done(lacks(making, Full::DiskInodes), kind),
         },
         Stepped::Stopped(new) => Stepped::Stopped(Make::Claiming(making, new)),
+    }
+}
+
+// An inode was claimed. It isn't the directory.
+#[tactic(auto, unfolding(crate::specs::Making::make_of, crate::specs::Making::MakeFits))]
+fn claimed(making: Making, reference: Reference) -> Make
+    requires { IsSized making.sizes }
+    ensures program { (name : List ℕ) → make_of name result ≡ made_on making.sizes making.sort name (inode_in making.parent) (made.Inode reference) }
+    ensures fits { (hart : ℕ) (s : State) → IsMaking hart making s → MakeFits hart s result }
+{
+    if reference.number() == making.parent.inode.value().number {
+        let Making {
+            parent,
+            sizes: _,
+            sort: _,
+        } = making;
+        Make::Giving(parent, Full::MemInodes, GiveUp::drop_beside(reference))
+    } else {
+        let take = TakeInode::new(making.sizes.inodestart, reference);
+        Make::Taking(making, take)
     }
 }
 

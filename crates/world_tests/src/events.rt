@@ -105,7 +105,7 @@ fn is_refused_close(outcome: &Outcome) -> bool {
     )
 }
 
-/// A start is refused where there is no such hart, where the hart has a call, and where the call isn't there yet; and nothing changes.
+/// A start is refused where there is no such hart, and where the hart has a call; and nothing changes.
 #[test]
 fn starts_are_refused(rt: HostRuntime) {
     let disk = image(&rt, rt.alloc());
@@ -123,14 +123,6 @@ fn starts_are_refused(rt: HostRuntime) {
             Err((Call::Fstat { fd: 0 }, StartRefused::Busy))
         )
     );
-    let root = Bytes::new(Vec::new(rt.alloc()));
-    assert!(rt;
-        matches!(
-            world.start(2, Call::Mkdir { path: root }),
-            Err((_, StartRefused::NotYet))
-        )
-    );
-    assert!(rt; matches!(world.step(2), Outcome::Idle));
     assert!(rt; matches!(world.step(1), Outcome::Done(_)));
     let _disk = world.unmount();
 }

@@ -297,7 +297,7 @@ fn a_hart_has_sixteen_descriptors(rt: HostRuntime) {
     let _disk = world.unmount();
 }
 
-/// A path of 128 bytes is refused, and so is one with a zero byte, and an open that would make a file.
+/// A path of 128 bytes is refused, and so is one with a zero byte.
 #[test]
 fn paths_are_refused(rt: HostRuntime) {
     let disk = image(&rt, rt.alloc());
@@ -320,19 +320,6 @@ fn paths_are_refused(rt: HostRuntime) {
         matches!(
             world.start(0, Call::Chdir { path: zero }),
             Err((_, StartRefused::ZeroInPath))
-        )
-    );
-    let new = path(&rt, rt.alloc(), b"/f");
-    assert!(rt;
-        matches!(
-            world.start(
-                0,
-                Call::Open {
-                    path: new,
-                    flags: 0x200
-                }
-            ),
-            Err((_, StartRefused::NotYet))
         )
     );
     let root = path(&rt, rt.alloc(), b"/");

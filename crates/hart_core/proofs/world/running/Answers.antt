@@ -1,19 +1,12 @@
-use Rattle.std.proofs.Common.{◌≡◌, true, None, sym, ◌∙◌, ap, arith}
+use Rattle.std.proofs.Common.{◌≡◌, None, sym, ◌∙◌, ap, arith}
 use Rattle.plain_tree.specs.declared.call.Call.{Call}
 use Rattle.atomic_programs.specs.Prog.{plain}
 use Rattle.syscalls.specs.Machines.{running_of}
-use Rattle.calls_on_blocks.specs.Theory.{block_calls, is_served}
+use Rattle.calls_on_blocks.specs.Theory.{block_calls}
 use Rattle.calls_on_blocks.proofs.Bridges.{programs_are_lowered}
-use Rattle.calls_on_blocks.proofs.Lawful.{opens_old}
 use Rattle.hart_core.specs.Starts.{fault_of}
 use Rattle.hart_core.proofs.Refusals.{right_part, right_path, right_paths}
 use Rattle.hart_core.proofs.world.running.Goals as goal
-
-pub new-requires-clause-short : goal.new-requires-clause-short
-new-requires-clause-short c = (right_path c.in-Open.path (sym (ap fault_of c.in-Open.is) ∙ c.requires.faultless)).0
-
-pub new-requires-clause-nonzero : goal.new-requires-clause-nonzero
-new-requires-clause-nonzero c = (right_path c.in-Open.path (sym (ap fault_of c.in-Open.is) ∙ c.requires.faultless)).1
 
 pub new-requires-in-Unlink-clause-short : goal.new-requires-in-Unlink-clause-short
 new-requires-in-Unlink-clause-short c = (right_path c.in-Unlink.path (sym (ap fault_of c.in-Unlink.is) ∙ c.requires.faultless)).0
@@ -27,30 +20,39 @@ new-requires-in-Chdir-clause-short c = (right_path c.in-Chdir.path (sym (ap faul
 pub new-requires-in-Chdir-clause-nonzero : goal.new-requires-in-Chdir-clause-nonzero
 new-requires-in-Chdir-clause-nonzero c = (right_path c.in-Chdir.path (sym (ap fault_of c.in-Chdir.is) ∙ c.requires.faultless)).1
 
-pub new-requires-in-Link-clause-old_short : goal.new-requires-in-Link-clause-old_short
-new-requires-in-Link-clause-old_short c = (right_path c.in-Link.old (right_paths c.in-Link.old c.in-Link.new (sym (ap fault_of c.in-Link.is) ∙ c.requires.faultless)).0).0
+pub new-requires-in-Mkdir-clause-short : goal.new-requires-in-Mkdir-clause-short
+new-requires-in-Mkdir-clause-short c = (right_path c.in-Mkdir.path (sym (ap fault_of c.in-Mkdir.is) ∙ c.requires.faultless)).0
 
-pub new-requires-in-Link-clause-new_short : goal.new-requires-in-Link-clause-new_short
-new-requires-in-Link-clause-new_short c = (right_path c.in-Link.new (right_paths c.in-Link.old c.in-Link.new (sym (ap fault_of c.in-Link.is) ∙ c.requires.faultless)).1).0
+pub new-requires-in-Mkdir-clause-nonzero : goal.new-requires-in-Mkdir-clause-nonzero
+new-requires-in-Mkdir-clause-nonzero c = (right_path c.in-Mkdir.path (sym (ap fault_of c.in-Mkdir.is) ∙ c.requires.faultless)).1
 
-pub new-requires-in-Link-clause-old_nonzero : goal.new-requires-in-Link-clause-old_nonzero
-new-requires-in-Link-clause-old_nonzero c = (right_path c.in-Link.old (right_paths c.in-Link.old c.in-Link.new (sym (ap fault_of c.in-Link.is) ∙ c.requires.faultless)).0).1
+pub new-requires-clause-old_short : goal.new-requires-clause-old_short
+new-requires-clause-old_short c = (right_path c.in-Link.old (right_paths c.in-Link.old c.in-Link.new (sym (ap fault_of c.in-Link.is) ∙ c.requires.faultless)).0).0
 
-pub new-requires-in-Link-clause-new_nonzero : goal.new-requires-in-Link-clause-new_nonzero
-new-requires-in-Link-clause-new_nonzero c = (right_path c.in-Link.new (right_paths c.in-Link.old c.in-Link.new (sym (ap fault_of c.in-Link.is) ∙ c.requires.faultless)).1).1
+pub new-requires-clause-new_short : goal.new-requires-clause-new_short
+new-requires-clause-new_short c = (right_path c.in-Link.new (right_paths c.in-Link.old c.in-Link.new (sym (ap fault_of c.in-Link.is) ∙ c.requires.faultless)).1).0
+
+pub new-requires-clause-old_nonzero : goal.new-requires-clause-old_nonzero
+new-requires-clause-old_nonzero c = (right_path c.in-Link.old (right_paths c.in-Link.old c.in-Link.new (sym (ap fault_of c.in-Link.is) ∙ c.requires.faultless)).0).1
+
+pub new-requires-clause-new_nonzero : goal.new-requires-clause-new_nonzero
+new-requires-clause-new_nonzero c = (right_path c.in-Link.new (right_paths c.in-Link.old c.in-Link.new (sym (ap fault_of c.in-Link.is) ∙ c.requires.faultless)).1).1
 
 pub returns-in-Open-clause-program : goal.returns-in-Open-clause-program
 unfolding running_of
-returns-in-Open-clause-program c =
-    c.new.ensures.program
-    ∙ sym ((programs_are_lowered c.args.sizes.now).open_old c.in-Open.path c.in-Open.flags (opens_old c.in-Open.path c.in-Open.flags (sym (ap is_served c.in-Open.is) ∙ c.requires.served)))
-    ∙ ap (λ (call : Call). plain ((block_calls c.args.sizes.now).program call)) (sym c.in-Open.is)
+returns-in-Open-clause-program c = c.opening.ensures.program ∙ ap (λ (call : Call). plain ((block_calls c.args.sizes.now).program call)) (sym c.in-Open.is)
 
 pub returns-in-Unlink-clause-program : goal.returns-in-Unlink-clause-program
 unfolding running_of
 returns-in-Unlink-clause-program c =
     c.new-in-Unlink.ensures.program ∙ sym ((programs_are_lowered c.args.sizes.now).unlink c.in-Unlink.path)
     ∙ ap (λ (call : Call). plain ((block_calls c.args.sizes.now).program call)) (sym c.in-Unlink.is)
+
+pub returns-in-Mkdir-clause-program : goal.returns-in-Mkdir-clause-program
+unfolding running_of
+returns-in-Mkdir-clause-program c =
+    c.new-in-Mkdir.ensures.program ∙ sym ((programs_are_lowered c.args.sizes.now).mkdir c.in-Mkdir.path)
+    ∙ ap (λ (call : Call). plain ((block_calls c.args.sizes.now).program call)) (sym c.in-Mkdir.is)
 
 pub returns-in-Chdir-clause-program : goal.returns-in-Chdir-clause-program
 unfolding running_of
@@ -61,7 +63,7 @@ returns-in-Chdir-clause-program c =
 pub returns-in-Link-clause-program : goal.returns-in-Link-clause-program
 unfolding running_of
 returns-in-Link-clause-program c =
-    c.new-in-Link.ensures.program ∙ sym ((programs_are_lowered c.args.sizes.now).link c.in-Link.old c.in-Link.new)
+    c.new.ensures.program ∙ sym ((programs_are_lowered c.args.sizes.now).link c.in-Link.old c.in-Link.new)
     ∙ ap (λ (call : Call). plain ((block_calls c.args.sizes.now).program call)) (sym c.in-Link.is)
 
 pub returns-in-Fstat-clause-program : goal.returns-in-Fstat-clause-program

@@ -16,7 +16,7 @@ begin-requires-clause-idle g c =
 
 pub running-running-requires-clause-faultless : goal.running-running-requires-clause-faultless
 running-running-requires-clause-faultless g c =
-    (may_start c.args.self.now.harts c.args.hart c.args.call (sym c.find_start_refusal.ensures.refusal ∙ c.in-None.is)).0
+    may_start c.args.self.now.harts c.args.hart c.args.call (sym c.find_start_refusal.ensures.refusal ∙ c.in-None.is)
 
 pub invariant_of-self : goal.invariant_of-self
 invariant_of-self g c =

@@ -1,0 +1,70 @@
+-- The blocks of a content one after the other, and what is between two offsets of them.
+use Rattle.std.proofs.Common.{◌≡◌, ⊎_elim, ℕ, zero, suc, ◌+◌, ◌-◌, ◌*◌, ◌/◌, ◌%◌, ◌<◌, ◌≤◌, List, [], ◌∷◌, ◌++◌, length, take, drop, refl, sym, ap, ◌∙◌, arith, length-append}
+use Rattle.std.proofs.lemmas.Bool.{cases_eq}
+use Rattle.std.proofs.lemmas.List.{drop-append-le, take-append-le, drop_at, take_all, drop-drop, length-drop}
+use Rattle.inode_data.specs.Programs.{next_block, part_of}
+
+-- ---- lists
+
+take_nil : (j : ℕ) → take j (let e : List ℕ = [] in e) ≡ []
+take_nil zero = refl
+take_nil (suc j) = refl
+
+-- two parts side by side
+pub side_by_side : (a b : ℕ) (xs : List ℕ) → take a (take b xs) ++ take (a - b) (drop b xs) ≡ take a xs
+side_by_side zero b xs = let none : 0 - b ≡ 0 = omega arith in rw none refl
+side_by_side (suc a) zero xs = let same : suc a - 0 ≡ suc a = omega arith in rw same refl
+side_by_side (suc a) (suc b) [] = take_nil (suc a - suc b)
+side_by_side (suc a) (suc b) (x ∷ xs) = let less : suc a - suc b ≡ a - b = omega arith in rw less (ap (λ (ys : List ℕ). x ∷ ys) (side_by_side a b xs))
+
+-- what is left of a beginning
+pub drop_of_take : (n m : ℕ) (xs : List ℕ) → drop n (take m xs) ≡ take (m - n) (drop n xs)
+drop_of_take zero m xs = let same : m - 0 ≡ m = omega arith in rw same refl
+drop_of_take (suc n) zero xs = let none : 0 - suc n ≡ 0 = omega arith in rw none refl
+drop_of_take (suc n) (suc m) [] = sym (take_nil (suc m - suc n))
+drop_of_take (suc n) (suc m) (x ∷ xs) = let less : suc m - suc n ≡ m - n = omega arith in rw less (drop_of_take n m xs)
+
+-- ---- blocks
+
+-- so many blocks, one after the other
+unfoldable pub front : (ℕ → List ℕ) → ℕ → List ℕ
+front content zero = []
+front content (suc k) = front content k ++ content k
+
+module _ (content : ℕ → List ℕ) (k : ℕ) (whole : (q : ℕ) → q < k → length (content q) ≡ 1024) where
+  pub length-front : (n : ℕ) → n ≤ k → length (front content n) ≡ 1024 * n
+  unfolding front
+  length-front zero le = refl
+  length-front (suc n) le = omega (arith, length-append (front content n) (content n), length-front n (omega (arith, le)), whole n (omega (arith, le)))
+
+  pub block_there : (n q : ℕ) → n ≤ k → q < n → take 1024 (drop (1024 * q) (front content n)) ≡ content q
+  unfolding front
+  block_there zero q le lt = absurd (omega (arith, lt))
+  block_there (suc n) q le lt =
+      ⊎_elim
+      (λ (e : q ≡ n). rw e (ap (take 1024) (drop_at (front content n) (content n) (1024 * n) (length-front n (omega (arith, le)))) ∙ take_all 1024 (content n) (omega (arith, whole n (omega (arith, le))))))
+      (λ (ne : q ≡ n → ⊥).
+      let below : q < n = omega (arith, ne, lt) in
+      let len = length-front n (omega (arith, le)) in
+      ap (take 1024) (drop-append-le (1024 * q) (front content n) (content n) (omega (arith, len, below)))
+      ∙ (take-append-le 1024 (drop (1024 * q) (front content n)) (content n) (omega (arith, len, below, length-drop (1024 * q) (front content n)))
+      ∙ block_there n q (omega (arith, le)) below))
+      (cases_eq q n)
+
+  -- what the block of an offset has of the bytes between it and another, and what comes behind the block
+  pub part_then : (from upto : ℕ) → from / 1024 < k → part_of from upto (content (from / 1024)) ++ drop (next_block from) (take upto (front content k)) ≡ drop from (take upto (front content k))
+  part_then from upto lt =
+      let q : ℕ = from / 1024 in
+      let r : ℕ = from % 1024 in
+      let all : List ℕ = front content k in
+      let sum : 1024 * q + r ≡ from = omega arith in
+      let rest : from + (1024 - r) ≡ next_block from = omega arith in
+      let less : upto - next_block from ≡ (upto - from) - (1024 - r) = omega (arith, rest) in
+      let here : drop r (content q) ≡ take (1024 - r) (drop from all) =
+      ap (drop r) (sym (block_there k q (omega arith) lt)) ∙ (drop_of_take r 1024 (drop (1024 * q) all) ∙ (ap (take (1024 - r)) (drop-drop r (1024 * q) all) ∙ ap (λ (n : ℕ). take (1024 - r) (drop n all)) sum)) in
+      let there : drop (next_block from) (take upto all) ≡ take ((upto - from) - (1024 - r)) (drop (1024 - r) (drop from all)) =
+      drop_of_take (next_block from) upto all ∙ (ap (λ (n : ℕ). take n (drop (next_block from) all)) less
+      ∙ ap (take ((upto - from) - (1024 - r))) (sym (drop-drop (1024 - r) from all ∙ ap (λ (n : ℕ). drop n all) rest))) in
+      ap (λ (xs : List ℕ). take (upto - from) xs ++ drop (next_block from) (take upto all)) here
+      ∙ (ap (λ (xs : List ℕ). take (upto - from) (take (1024 - r) (drop from all)) ++ xs) there
+      ∙ (side_by_side (upto - from) (1024 - r) (drop from all) ∙ sym (drop_of_take from upto all)))
