@@ -164,11 +164,11 @@ agrees_front (Some r) c acts a w new = record { reply = reply_front c acts a r.1
 pub call_push : (c : TracedCall) (acts : List Act) (a : Act) (s s' : Stand) (e e' : Option ℕ) → IsOfCall c acts s e → next_from c.call s ≡ Some a.step → s' ≡ after s a.answer → e' ≡ end_of c (is_nothing (next_from c.call s')) → Fits c.finished c.call s s' a.answer → IsOfCall c (acts ++ a ∷ []) s' e'
 call_push c acts a s s' e e' is next later end fit =
     let stands : s' ≡ stand_of (acts ++ a ∷ []) = later ∙ (ap (λ (x : Stand). after x a.answer) is.stand ∙ sym (stand_push start acts a)) in record {
-  stand = stands;
-  end = end ∙ ap (λ b. end_of c b) (told_next c.call s' (acts ++ a ∷ []) stands);
-  follows = follows_push c.call [] acts a is.follows (next_is c.call acts ∙ (ap (λ (x : Stand). next_from c.call x) (sym is.stand) ∙ next));
-  agrees = agrees_push c.finished c.call acts a s s' is.stand stands is.agrees fit;
-}
+      stand = stands;
+      end = end ∙ ap (λ b. end_of c b) (told_next c.call s' (acts ++ a ∷ []) stands);
+      follows = follows_push c.call [] acts a is.follows (next_is c.call acts ∙ (ap (λ (x : Stand). next_from c.call x) (sym is.stand) ∙ next));
+      agrees = agrees_push c.finished c.call acts a s s' is.stand stands is.agrees fit;
+    }
 
 pub call_front : (c : TracedCall) (acts : List Act) (a : Act) (s s' : Stand) (e e' : Option ℕ) → IsOfCall c (acts ++ a ∷ []) s e → s' ≡ stand_of acts → e' ≡ end_of c (is_nothing (next_from c.call s')) → IsOfCall c acts s' e'
 call_front c acts a s s' e e' is stands end = record {

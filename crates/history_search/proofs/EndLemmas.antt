@@ -49,17 +49,17 @@ first trace t list lo x rest can =
     let rise : (lo ≤ x.event) × Rises x.event rest = rises_more lo x rest can.rises in
     let belong : Belongs trace x × AllBelong trace rest = belong_more trace x rest can.belongs in
     let lead : (mid : Tree) × Step t x.step x.answer mid × Chain mid rest can.leads.0 = chain_more t can.leads.0 x rest can.leads.1 in record {
-  low = rise.0;
-  belongs = belong.0;
-  mid = lead.0;
-  step = lead.1;
-  later = record {
-    rises = rise.1;
-    leads = (can.leads.0, lead.2);
-    written = λ id c is. subst (λ acts. IsWritten c.call acts c.finished) (moved list rest x id) (can.written id c is);
-    belongs = belong.1;
-  };
-}
+      low = rise.0;
+      belongs = belong.0;
+      mid = lead.0;
+      step = lead.1;
+      later = record {
+        rises = rise.1;
+        leads = (can.leads.0, lead.2);
+        written = λ id c is. subst (λ acts. IsWritten c.call acts c.finished) (moved list rest x id) (can.written id c is);
+        belongs = belong.1;
+      };
+    }
 
 same_push : (list : List Placed) (x y : Placed) (id : ℕ) → x.call ≡ y.call → act_of x ≡ act_of y → acts_of id (list ++ x ∷ []) ≡ acts_of id (list ++ y ∷ [])
 same_push list x y id c a = elim (cases_eq x.call id) [
@@ -85,18 +85,18 @@ comes_by : (trace : Trace) (lo : ℕ) (rest : List Placed) (id : ℕ) (c : Trace
 comes_by trace lo [] id c r is fin rise belong some = absurd (some (acts_none id))
 comes_by trace lo (x ∷ rest) id c r is fin rise belong some = elim (cases_eq x.call id) [
   | inl e ↦ (
-    let b : Belongs trace x = (belong_more trace x rest belong).0 in
-    let same : Some b.traced ≡ Some c = sym b.is ∙ (ap (λ k. slice_get trace.calls k) e ∙ is) in
-    let one : b.traced ≡ c = cc in
-    let until : IsInTime trace.events x.event (Some r) = subst (λ f. IsInTime trace.events x.event f) (ap (λ (d : TracedCall). d.finished) one ∙ fin) b.before_return in
-    let low : lo ≤ x.event = (rises_more lo x rest rise).0 in
-    omega arith
-  )
+      let b : Belongs trace x = (belong_more trace x rest belong).0 in
+      let same : Some b.traced ≡ Some c = sym b.is ∙ (ap (λ k. slice_get trace.calls k) e ∙ is) in
+      let one : b.traced ≡ c = cc in
+      let until : IsInTime trace.events x.event (Some r) = subst (λ f. IsInTime trace.events x.event f) (ap (λ (d : TracedCall). d.finished) one ∙ fin) b.before_return in
+      let low : lo ≤ x.event = (rises_more lo x rest rise).0 in
+      omega arith
+      )
   | inr ne ↦ (
-    let low : (lo ≤ x.event) × Rises x.event rest = rises_more lo x rest rise in
-    let later : x.event ≤ r.0 = comes_by trace x.event rest id c r is fin low.1 (belong_more trace x rest belong).1 (λ z. some (acts_other id x rest ne ∙ z)) in
-    omega (arith, low.0)
-  )
+      let low : (lo ≤ x.event) × Rises x.event rest = rises_more lo x rest rise in
+      let later : x.event ≤ r.0 = comes_by trace x.event rest id c r is fin low.1 (belong_more trace x rest belong).1 (λ z. some (acts_other id x rest ne ∙ z)) in
+      omega (arith, low.0)
+      )
 ]
 
 -- a call that has to go on does
@@ -110,14 +110,18 @@ goes_on c acts more s e is w = go c.finished refl is.end w where
   go (Some r) fin end w = elim (cases_Bool (is_nothing (next_of c.call acts))) [
     | inl y ↦ absurd (let z = rw y at end in cc)
     | inr y ↦ (
-      let z : Some e ≡ Some r.0 = rw y at end in
-      let k : r.0 ≡ e = cc in
-      (r, fin, k, λ m. (
-        let n : next_of c.call acts ≡ None = subst (λ x. next_of c.call x ≡ None) (ap (λ x. acts ++ x) m ∙ append-nil acts) w.1 in
-        let q : is_nothing (next_of c.call acts) ≡ true = ap is_nothing n in
-        cc
-      ))
-    )
+        let z : Some e ≡ Some r.0 = rw y at end in
+        let k : r.0 ≡ e = cc in (
+          r,
+          fin,
+          k,
+          λ m. (
+              let n : next_of c.call acts ≡ None = subst (λ x. next_of c.call x ≡ None) (ap (λ x. acts ++ x) m ∙ append-nil acts) w.1 in
+              let q : is_nothing (next_of c.call acts) ≡ true = ap is_nothing n in
+              cc
+              ),
+        )
+        )
   ]
 
 -- A rest begins by the end of each call that has to go on.

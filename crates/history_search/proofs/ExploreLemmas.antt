@@ -49,15 +49,15 @@ left_on base t p q k = ap (λ l. left 0 t.calls l) k.same.list
 ends_same : (base : TreeData) (t : Trace) (p q : Position) (id : ℕ) → IsAt base t p → IsKept base t p q → get_or q.ends.items id None ≡ get_or p.ends.items id None
 ends_same base t p q id at k = elim (slice_get_cases t.calls id).1 [
   | inl x ↦ (
-    let a : IsOfCall x.0 (acts_of id p.list.items) (get_or p.stands.items id start) (get_or p.ends.items id None) = at.calls id x.0 x.2 in
-    let b : IsOfCall x.0 (acts_of id p.list.items) (get_or q.stands.items id start) (get_or q.ends.items id None) = subst (λ l. IsOfCall x.0 (acts_of id l) (get_or q.stands.items id start) (get_or q.ends.items id None)) k.same.list (k.at.calls id x.0 x.2) in
-    b.end ∙ sym a.end
-  )
+      let a : IsOfCall x.0 (acts_of id p.list.items) (get_or p.stands.items id start) (get_or p.ends.items id None) = at.calls id x.0 x.2 in
+      let b : IsOfCall x.0 (acts_of id p.list.items) (get_or q.stands.items id start) (get_or q.ends.items id None) = subst (λ l. IsOfCall x.0 (acts_of id l) (get_or q.stands.items id start) (get_or q.ends.items id None)) k.same.list (k.at.calls id x.0 x.2) in
+      b.end ∙ sym a.end
+      )
   | inr x ↦ (
-    let le : length p.ends.items ≤ id = omega (arith, at.ends, x.0) in
-    let le' : length q.ends.items ≤ id = omega (arith, k.at.ends, x.0) in
-    get_or_past q.ends.items id None le' ∙ sym (get_or_past p.ends.items id None le)
-  )
+      let le : length p.ends.items ≤ id = omega (arith, at.ends, x.0) in
+      let le' : length q.ends.items ≤ id = omega (arith, k.at.ends, x.0) in
+      get_or_past q.ends.items id None le' ∙ sym (get_or_past p.ends.items id None le)
+      )
 ]
 
 pub due_on : (base : TreeData) (t : Trace) (p q : Position) (d : Due) → IsAt base t p → IsKept base t p q → IsDue p.ends.items d → IsDue q.ends.items d
@@ -73,9 +73,9 @@ pub taken_back : (base : TreeData) (t : Trace) (p q r s : Position) (id new : �
 taken_back base t p q r s id new at made kept hopeless undone =
     let list : s.list.items ≡ p.list.items = undone.list p.list.items made.more.entry (kept.same.list ∙ made.more.list) in
     let chain : Chain (tree_of base) p.list.items (tree_of s.tree) = subst (λ l. Chain (tree_of base) l (tree_of s.tree)) list undone.at.chain in (
-    record { at = undone.at; same = record { list = list; tree = chain_one (tree_of base) p.list.items (tree_of s.tree) (tree_of p.tree) chain at.chain } },
-    made.ruled_out hopeless,
-  )
+      record { at = undone.at; same = record { list = list; tree = chain_one (tree_of base) p.list.items (tree_of s.tree) (tree_of p.tree) chain at.chain } },
+      made.ruled_out hopeless,
+    )
 
 -- zero stands for every number
 pub dead_zero : (t : Trace) (p : Position) (id : ℕ) → IsDeadWith t p id 0 → IsDead t p id
@@ -108,9 +108,9 @@ found_explains base t p found = record {
   end = tree_of p.tree;
   chain = found.at.chain;
   written = λ id c is. (
-    let of : IsOfCall c (acts_of id p.list.items) (get_or p.stands.items id start) (get_or p.ends.items id None) = found.at.calls id c is in
-    written_end c (acts_of id p.list.items) (get_or p.stands.items id start) (subst (λ z. IsOfCall c (acts_of id p.list.items) (get_or p.stands.items id start) z) (found.through id) of)
-  );
+      let of : IsOfCall c (acts_of id p.list.items) (get_or p.stands.items id start) (get_or p.ends.items id None) = found.at.calls id c is in
+      written_end c (acts_of id p.list.items) (get_or p.stands.items id start) (subst (λ z. IsOfCall c (acts_of id p.list.items) (get_or p.stands.items id start) z) (found.through id) of)
+      );
   belongs = found.at.belongs;
 }
 

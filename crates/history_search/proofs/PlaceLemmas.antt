@@ -52,12 +52,12 @@ in_time base t p id event c a d at is due next timely = go c.finished refl timel
   go : (f : Option (ℕ × Reply)) → c.finished ≡ f → IsTimely f event d.limit t.events → IsInTime t.events event f
   go None e w = w.1
   go (Some r) e w =
-    let of : IsOfCall c (acts_of id p.list.items) (get_or p.stands.items id start) (get_or p.ends.items id None) = at.calls id c is in
-    let n : next_of c.call (acts_of id p.list.items) ≡ Some a = next_is c.call (acts_of id p.list.items) ∙ (ap (λ (s : Stand). next_from c.call s) (sym of.stand) ∙ next) in
-    let end : get_or p.ends.items id None ≡ Some r.0 = of.end ∙ not_through c r a (next_of c.call (acts_of id p.list.items)) n e in
-    let le : d.limit ≤ r.0 = due.least id r.0 end in
-    let lt : event ≤ d.limit = w in
-    omega arith
+      let of : IsOfCall c (acts_of id p.list.items) (get_or p.stands.items id start) (get_or p.ends.items id None) = at.calls id c is in
+      let n : next_of c.call (acts_of id p.list.items) ≡ Some a = next_is c.call (acts_of id p.list.items) ∙ (ap (λ (s : Stand). next_from c.call s) (sym of.stand) ∙ next) in
+      let end : get_or p.ends.items id None ≡ Some r.0 = of.end ∙ not_through c r a (next_of c.call (acts_of id p.list.items)) n e in
+      let le : d.limit ≤ r.0 = due.least id r.0 end in
+      let lt : event ≤ d.limit = w in
+      omega arith
 
 limit_of : (f : Option (ℕ × Reply)) (event limit events : ℕ) → IsTimely f event limit events → event ≤ limit
 limit_of None event limit events w = w.0
@@ -78,15 +78,15 @@ precedes_push : (p : Position) (id event : ℕ) (c : TracedCall) (x : Placed) (d
     → Precedes (p.list.items ++ x ∷ []) (set p.ends.items id e)
 precedes_push p id event c x d e through events due lt at le end time k n h = elim (cases_eq k id) [
   | inl y ↦ (
-    let own : e ≡ Some n = sym (get_or-set_same p.ends.items id e None lt) ∙ (ap (λ j. get_or (set p.ends.items id e) j None) (sym y) ∙ h) in
-    let r = end_some c through n (sym end ∙ own) in
-    let until : event ≤ r.0.0 = in_time_at events event c.finished r.0 r.1 time in
-    omega (arith, last_push p.list.items x, r.2)
-  )
+      let own : e ≡ Some n = sym (get_or-set_same p.ends.items id e None lt) ∙ (ap (λ j. get_or (set p.ends.items id e) j None) (sym y) ∙ h) in
+      let r = end_some c through n (sym end ∙ own) in
+      let until : event ≤ r.0.0 = in_time_at events event c.finished r.0 r.1 time in
+      omega (arith, last_push p.list.items x, r.2)
+      )
   | inr ne ↦ (
-    let other : get_or p.ends.items k None ≡ Some n = sym (get_or-set_other p.ends.items id k e None ne) ∙ h in
-    omega (arith, last_push p.list.items x, due.least k n other)
-  )
+      let other : get_or p.ends.items k None ≡ Some n = sym (get_or-set_other p.ends.items id k e None ne) ∙ h in
+      omega (arith, last_push p.list.items x, due.least k n other)
+      )
 ]
 
 pub record Placing (base : TreeData) (t : Trace) (p : Position) (id new event : ℕ) (c : TracedCall) (d : Due) (a : Action) (b : StepAnswer) (u : Tree) (s : Stand) (e : Option ℕ) (q : Position) : Type 0 where
@@ -120,14 +120,14 @@ placed_at base t p id new event c d a b u s e q w =
     let of : IsOfCall c (acts_of id p.list.items ++ act_of y ∷ []) s e = call_push c (acts_of id p.list.items) (act_of y) (get_or p.stands.items id start) s (get_or p.ends.items id None) e (w.at.calls id c w.is) w.next w.stand w.end w.fits in
     let calls : AreOfCalls t.calls (p.list.items ++ y ∷ []) (set p.stands.items id s) (set p.ends.items id e) = calls_push t.calls p.list.items p.stands.items p.ends.items id y c s e w.at.calls w.is refl lts lte of in
     let before : Precedes (p.list.items ++ y ∷ []) (set p.ends.items id e) = precedes_push p id event c y d e (is_nothing (next_from c.call s)) t.events w.due lte refl (limit_of c.finished event d.limit t.events w.timely) w.end time in record {
-  chain = subst (λ (z : Tree). Chain (tree_of base) q.list.items z) (sym w.tree) (subst (λ l. Chain (tree_of base) l u) (sym w.list) (chain_push (tree_of base) (tree_of p.tree) u p.list.items y w.at.chain step));
-  rises = subst (λ l. Rises 0 l) (sym w.list) (rises_push p.list.items y w.at.rises w.low);
-  belongs = subst (λ l. AllBelong t l) (sym w.list) (belong_push t p.list.items y w.at.belongs belong);
-  calls = subst (λ l. AreOfCalls t.calls l q.stands.items q.ends.items) (sym w.list) (subst (λ z. AreOfCalls t.calls (p.list.items ++ y ∷ []) z q.ends.items) (sym w.stands) (subst (λ z. AreOfCalls t.calls (p.list.items ++ y ∷ []) (set p.stands.items id s) z) (sym w.ends) calls));
-  stands = ap length w.stands ∙ (length-set p.stands.items id s ∙ w.at.stands);
-  ends = ap length w.ends ∙ (length-set p.ends.items id e ∙ w.at.ends);
-  precedes = subst (λ l. Precedes l q.ends.items) (sym w.list) (subst (λ z. Precedes (p.list.items ++ y ∷ []) z) (sym w.ends) before);
-}
+      chain = subst (λ (z : Tree). Chain (tree_of base) q.list.items z) (sym w.tree) (subst (λ l. Chain (tree_of base) l u) (sym w.list) (chain_push (tree_of base) (tree_of p.tree) u p.list.items y w.at.chain step));
+      rises = subst (λ l. Rises 0 l) (sym w.list) (rises_push p.list.items y w.at.rises w.low);
+      belongs = subst (λ l. AllBelong t l) (sym w.list) (belong_push t p.list.items y w.at.belongs belong);
+      calls = subst (λ l. AreOfCalls t.calls l q.stands.items q.ends.items) (sym w.list) (subst (λ z. AreOfCalls t.calls (p.list.items ++ y ∷ []) z q.ends.items) (sym w.stands) (subst (λ z. AreOfCalls t.calls (p.list.items ++ y ∷ []) (set p.stands.items id s) z) (sym w.ends) calls));
+      stands = ap length w.stands ∙ (length-set p.stands.items id s ∙ w.at.stands);
+      ends = ap length w.ends ∙ (length-set p.ends.items id e ∙ w.at.ends);
+      precedes = subst (λ l. Precedes l q.ends.items) (sym w.list) (subst (λ z. Precedes (p.list.items ++ y ∷ []) z) (sym w.ends) before);
+    }
 
 act_is : (s t : Action) (a b : StepAnswer) → s ≡ t → a ≡ b → let x : Act = record { step = s; answer = a } in x ≡ record { step = t; answer = b }
 act_is s t a b e f = cc
@@ -193,15 +193,15 @@ precedes_back front x ends c e through events rises was lt end time k n h =
     let below : last_event front ≤ x.event = last_front front x rises in
     elim (cases_eq k x.call) [
       | inl y ↦ (
-        let own : e ≡ Some n = sym (get_or-set_same ends x.call e None lt) ∙ (ap (λ j. get_or (set ends x.call e) j None) (sym y) ∙ h) in
-        let r = end_some c through n (sym end ∙ own) in
-        let until : x.event ≤ r.0.0 = in_time_at events x.event c.finished r.0 r.1 time in
-        omega (arith, r.2)
-      )
+          let own : e ≡ Some n = sym (get_or-set_same ends x.call e None lt) ∙ (ap (λ j. get_or (set ends x.call e) j None) (sym y) ∙ h) in
+          let r = end_some c through n (sym end ∙ own) in
+          let until : x.event ≤ r.0.0 = in_time_at events x.event c.finished r.0 r.1 time in
+          omega (arith, r.2)
+          )
       | inr ne ↦ (
-        let other : get_or ends k None ≡ Some n = sym (get_or-set_other ends x.call k e None ne) ∙ h in
-        omega (arith, last_push front x, was k n other)
-      )
+          let other : get_or ends k None ≡ Some n = sym (get_or-set_other ends x.call k e None ne) ∙ h in
+          omega (arith, last_push front x, was k n other)
+          )
     ]
 
 one_some : {A : Type 0} (o : Option A) (x y : A) → o ≡ Some x → o ≡ Some y → x ≡ y
@@ -221,14 +221,14 @@ undone_at base t p front x c s e q w =
     let same : belongs.1.traced ≡ c = one_some (slice_get t.calls x.call) belongs.1.traced c belongs.1.is w.is in
     let time : IsInTime t.events x.event c.finished = subst (λ (d : TracedCall). IsInTime t.events x.event d.finished) same belongs.1.before_return in
     let before : Precedes front (set p.ends.items x.call e) = precedes_back front x p.ends.items c e (is_nothing (next_from c.call s)) t.events rises (subst (λ l. Precedes l p.ends.items) w.was w.at.precedes) lte w.end time in record {
-  chain = subst (λ l. Chain (tree_of base) l (tree_of q.tree)) (sym w.list) w.chain;
-  rises = subst (λ l. Rises 0 l) (sym w.list) (rises_front front x rises);
-  belongs = subst (λ l. AllBelong t l) (sym w.list) belongs.0;
-  calls = subst (λ l. AreOfCalls t.calls l q.stands.items q.ends.items) (sym w.list) (subst (λ z. AreOfCalls t.calls front z q.ends.items) (sym w.stands) (subst (λ z. AreOfCalls t.calls front (set p.stands.items x.call s) z) (sym w.ends) back));
-  stands = ap length w.stands ∙ (length-set p.stands.items x.call s ∙ w.at.stands);
-  ends = ap length w.ends ∙ (length-set p.ends.items x.call e ∙ w.at.ends);
-  precedes = subst (λ l. Precedes l q.ends.items) (sym w.list) (subst (λ z. Precedes front z) (sym w.ends) before);
-}
+      chain = subst (λ l. Chain (tree_of base) l (tree_of q.tree)) (sym w.list) w.chain;
+      rises = subst (λ l. Rises 0 l) (sym w.list) (rises_front front x rises);
+      belongs = subst (λ l. AllBelong t l) (sym w.list) belongs.0;
+      calls = subst (λ l. AreOfCalls t.calls l q.stands.items q.ends.items) (sym w.list) (subst (λ z. AreOfCalls t.calls front z q.ends.items) (sym w.stands) (subst (λ z. AreOfCalls t.calls front (set p.stands.items x.call s) z) (sym w.ends) back));
+      stands = ap length w.stands ∙ (length-set p.stands.items x.call s ∙ w.at.stands);
+      ends = ap length w.ends ∙ (length-set p.ends.items x.call e ∙ w.at.ends);
+      precedes = subst (λ l. Precedes l q.ends.items) (sym w.list) (subst (λ z. Precedes front z) (sym w.ends) before);
+    }
 
 pub undone : (base : TreeData) (t : Trace) (p : Position) (front : List Placed) (x : Placed) (c : TracedCall) (s : Stand) (e : Option ℕ) (q : Position) → Undoing base t p front x c s e q → IsAt base t q
 undone base t p front x c s e q w = undone_at base t p front x c s e q w
@@ -284,9 +284,9 @@ EndsAt calls ends n = (k : ℕ) (c : TracedCall) → k < n → slice_get calls k
 pub ends_push : (calls : List TracedCall) (ends : List (Option ℕ)) (e : Option ℕ) (d : TracedCall) → slice_get calls (length ends) ≡ Some d → e ≡ end_of d (is_nothing (next_from d.call start)) → EndsAt calls ends (length ends) → EndsAt calls (ends ++ e ∷ []) (length ends + 1)
 ends_push calls ends e d at end all k c lt is = elim (cases_eq k (length ends)) [
   | inl y ↦ (
-    let same : d ≡ c = one_some (slice_get calls (length ends)) d c at (ap (λ j. slice_get calls j) (sym y) ∙ is) in
-    rw y (get_or-append_seam ends e [] None ∙ (end ∙ ap (λ (x : TracedCall). end_of x (is_nothing (next_from x.call start))) same))
-  )
+      let same : d ≡ c = one_some (slice_get calls (length ends)) d c at (ap (λ j. slice_get calls j) (sym y) ∙ is) in
+      rw y (get_or-append_seam ends e [] None ∙ (end ∙ ap (λ (x : TracedCall). end_of x (is_nothing (next_from x.call start))) same))
+      )
   | inr ne ↦ (let less : k < length ends = omega arith in get_or-append ends (e ∷ []) None k less ∙ all k c less is)
 ]
 
@@ -308,10 +308,10 @@ begin_at base t p tree list stands ends all_start all_end = record {
   rises = subst (λ l. Rises 0 l) (sym list) none_rises;
   belongs = subst (λ l. AllBelong t l) (sym list) (none_belong t);
   calls = λ id c is. (
-    let lt : id < length t.calls = slice_get_within t.calls id c is in
-    let of : IsOfCall c [] start (get_or p.ends.items id None) = call_start c (get_or p.ends.items id None) (all_end id c lt is) in
-    subst (λ l. IsOfCall c (acts_of id l) (get_or p.stands.items id start) (get_or p.ends.items id None)) (sym list) (subst (λ acts. IsOfCall c acts (get_or p.stands.items id start) (get_or p.ends.items id None)) (sym (acts_none id)) (subst (λ (s : Stand). IsOfCall c [] s (get_or p.ends.items id None)) (sym (all_start id)) of))
-  );
+      let lt : id < length t.calls = slice_get_within t.calls id c is in
+      let of : IsOfCall c [] start (get_or p.ends.items id None) = call_start c (get_or p.ends.items id None) (all_end id c lt is) in
+      subst (λ l. IsOfCall c (acts_of id l) (get_or p.stands.items id start) (get_or p.ends.items id None)) (sym list) (subst (λ acts. IsOfCall c acts (get_or p.stands.items id start) (get_or p.ends.items id None)) (sym (acts_none id)) (subst (λ (s : Stand). IsOfCall c [] s (get_or p.ends.items id None)) (sym (all_start id)) of))
+      );
   stands = stands;
   ends = ends;
   precedes = λ id e h. (let z : last_event p.list.items ≡ 0 = ap last_event list ∙ none_last in omega arith);

@@ -40,13 +40,13 @@ calls_at : (calls : List TracedCall) (list : List Placed) (stands : List Stand) 
     → IsOfCall d (acts_of k (list ++ x ∷ [])) (get_or (set stands id s) k start) (get_or (set ends id e) k None)
 calls_at calls list stands ends id x c s e k d all is own lts lte new at = elim (cases_eq k id) [
   | inl y ↦ (
-    let same : c ≡ d = one_some (slice_get calls id) c d is (ap (λ j. slice_get calls j) (sym y) ∙ at) in
-    rw (y, get_or-set_same stands id s start lts, get_or-set_same ends id e None lte, push_own id list x own, ← same) new
-  )
+      let same : c ≡ d = one_some (slice_get calls id) c d is (ap (λ j. slice_get calls j) (sym y) ∙ at) in
+      rw (y, get_or-set_same stands id s start lts, get_or-set_same ends id e None lte, push_own id list x own, ← same) new
+      )
   | inr ne ↦ (
-    let other : x.call ≢ k = λ (z : x.call ≡ k). ne (sym z ∙ own) in
-    rw (get_or-set_other stands id k s start ne, get_or-set_other ends id k e None ne, push_other k list x other) (all k d at)
-  )
+      let other : x.call ≢ k = λ (z : x.call ≡ k). ne (sym z ∙ own) in
+      rw (get_or-set_other stands id k s start ne, get_or-set_other ends id k e None ne, push_other k list x other) (all k d at)
+      )
 ]
 
 pub calls_push : (calls : List TracedCall) (list : List Placed) (stands : List Stand) (ends : List (Option ℕ)) (id : ℕ) (x : Placed) (c : TracedCall) (s : Stand) (e : Option ℕ)
@@ -59,13 +59,13 @@ back_at : (calls : List TracedCall) (list : List Placed) (stands : List Stand) (
     → IsOfCall d (acts_of k list) (get_or (set stands id s) k start) (get_or (set ends id e) k None)
 back_at calls list stands ends id x c s e k d all is own lts lte new at = elim (cases_eq k id) [
   | inl y ↦ (
-    let same : c ≡ d = one_some (slice_get calls id) c d is (ap (λ j. slice_get calls j) (sym y) ∙ at) in
-    rw (y, get_or-set_same stands id s start lts, get_or-set_same ends id e None lte, ← same) new
-  )
+      let same : c ≡ d = one_some (slice_get calls id) c d is (ap (λ j. slice_get calls j) (sym y) ∙ at) in
+      rw (y, get_or-set_same stands id s start lts, get_or-set_same ends id e None lte, ← same) new
+      )
   | inr ne ↦ (
-    let other : x.call ≢ k = λ (z : x.call ≡ k). ne (sym z ∙ own) in
-    rw (get_or-set_other stands id k s start ne, get_or-set_other ends id k e None ne) (subst (λ acts. IsOfCall d acts (get_or stands k start) (get_or ends k None)) (push_other k list x other) (all k d at))
-  )
+      let other : x.call ≢ k = λ (z : x.call ≡ k). ne (sym z ∙ own) in
+      rw (get_or-set_other stands id k s start ne, get_or-set_other ends id k e None ne) (subst (λ acts. IsOfCall d acts (get_or stands k start) (get_or ends k None)) (push_other k list x other) (all k d at))
+      )
 ]
 
 pub calls_back : (calls : List TracedCall) (list : List Placed) (stands : List Stand) (ends : List (Option ℕ)) (id : ℕ) (x : Placed) (c : TracedCall) (s : Stand) (e : Option ℕ)
@@ -113,17 +113,17 @@ coming base t p id lo c x rest at is low own can =
     let n : next_of c.call (acts_of id p.list.items) ≡ Some x.step.action = written_next c.finished c.call (acts_of id p.list.items) (act_of x) (acts_of id rest) w in
     let le : c.start ≤ x.event = subst (λ (d : TracedCall). d.start ≤ x.event) same b.belongs.after_start in
     let first_low : lo ≤ x.event = b.low in record {
-  low = omega arith;
-  started = le;
-  hart = hart;
-  until = subst (λ (d : TracedCall). IsInTime t.events x.event d.finished) same b.belongs.before_return;
-  next = ap (λ (s : Stand). next_from c.call s) of.stand ∙ (sym (next_is c.call (acts_of id p.list.items)) ∙ n);
-  written = w;
-  mid = b.mid;
-  step = subst (λ (h : ℕ). Step (tree_of p.tree) (record { hart = h; new = x.step.new; action = x.step.action }) x.answer b.mid) hart b.step;
-  later = b.later;
-  again = record { rises = rises_cons x.event x rest (omega arith) (b.later.rises); leads = can.leads; written = can.written; belongs = can.belongs };
-}
+      low = omega arith;
+      started = le;
+      hart = hart;
+      until = subst (λ (d : TracedCall). IsInTime t.events x.event d.finished) same b.belongs.before_return;
+      next = ap (λ (s : Stand). next_from c.call s) of.stand ∙ (sym (next_is c.call (acts_of id p.list.items)) ∙ n);
+      written = w;
+      mid = b.mid;
+      step = subst (λ (h : ℕ). Step (tree_of p.tree) (record { hart = h; new = x.step.new; action = x.step.action }) x.answer b.mid) hart b.step;
+      later = b.later;
+      again = record { rises = rises_cons x.event x rest (omega arith) (b.later.rises); leads = can.leads; written = can.written; belongs = can.belongs };
+    }
 
 -- It may be numbered by any event between the last one and its own.
 pub timely : (base : TreeData) (t : Trace) (p : Position) (id event : ℕ) (d : Due) (c : TracedCall) (x : Placed) (rest : List Placed) → IsAt base t p → IsDue p.ends.items d → event ≤ x.event → Coming t p id c x rest → IsTimely c.finished event d.limit t.events
@@ -132,9 +132,9 @@ timely base t p id event d c x rest at due le come =
     let of : IsOfCall end.call (acts_of d.id p.list.items) (get_or p.stands.items d.id start) (Some d.limit) = subst (λ e. IsOfCall end.call (acts_of d.id p.list.items) (get_or p.stands.items d.id start) e) due.end (at.calls d.id end.call end.is) in
     let by : x.event ≤ d.limit = begins_by t (tree_of p.tree) p.list.items x.event (x ∷ rest) d.id end.call (get_or p.stands.items d.id start) d.limit end.is of come.again in
     go c.finished come.until by where
-  go : (f : Option (ℕ × Reply)) → IsInTime t.events x.event f → x.event ≤ d.limit → IsTimely f event d.limit t.events
-  go None u by = (let v : x.event < t.events = u in (omega arith, omega arith))
-  go (Some r) u by = omega arith
+      go : (f : Option (ℕ × Reply)) → IsInTime t.events x.event f → x.event ≤ d.limit → IsTimely f event d.limit t.events
+      go None u by = (let v : x.event < t.events = u in (omega arith, omega arith))
+      go (Some r) u by = omega arith
 
 -- ---- what is ruled out
 
@@ -188,12 +188,12 @@ pub applied : (t : Trace) (p : Position) (id new : ℕ) (c : TracedCall) (x : Pl
     → IsApplied (tree_of p.tree) (record { hart = c.hart; new = new; action = a }) b u → (new ≢ 0 → x.step.new ≡ new) → Coming t p id c x rest → Applied t p id c x rest a b u
 applied t p id new c x rest a b u next place made same come =
     let is = applied_is (tree_of p.tree) c.hart new a b u x.step.new x.answer come.mid place same made (coming_step t p id c x rest a next come) in record {
-  action = one_some (next_from c.call (get_or p.stands.items id start)) x.step.action a come.next next;
-  answer = is.0;
-  tree = come.mid;
-  is = is.1;
-  later = come.later;
-}
+      action = one_some (next_from c.call (get_or p.stands.items id start)) x.step.action a come.next next;
+      answer = is.0;
+      tree = come.mid;
+      is = is.1;
+      later = come.later;
+    }
 
 act_is : (s t : Action) (a b : StepAnswer) → s ≡ t → a ≡ b → let x : Act = record { step = s; answer = a } in x ≡ record { step = t; answer = b }
 act_is s t a b e f = cc

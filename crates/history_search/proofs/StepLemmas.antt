@@ -67,7 +67,7 @@ choose_same t h s m n id f c = record { node = λ y. absurd (let z : true ≡ fa
 
 made_same : (t : Tree) (h : ℕ) (s : Action) (a : StepAnswer) (m n id : ℕ) (t' : Tree) → (NeedsOne t h s → ⊥)
     → let res = resolve t h (path_of s) in let par = parent t h (path_of s) in
-      (refusal t h s ≡ None) × (a ≡ answer_with t h s res par id) × MayChoose t h s par m id × (t' ≡ settle (effect_with t h s res par m id)) × IsInPlace t h s
+    (refusal t h s ≡ None) × (a ≡ answer_with t h s res par id) × MayChoose t h s par m id × (t' ≡ settle (effect_with t h s res par m id)) × IsInPlace t h s
     → (refusal t h s ≡ None) × (a ≡ answer_with t h s res par id) × MayChoose t h s par n id × (t' ≡ settle (effect_with t h s res par n id)) × IsInPlace t h s
 made_same t h s a m n id t' not x = elim (cases_Bool (makes_node t s (parent t h (path_of s)))) [
   | inl y ↦ absurd (not (x.0, y))
@@ -92,14 +92,14 @@ pub applied_is : (t : Tree) (h new : ℕ) (s : Action) (b : StepAnswer) (u : Tre
     → Step t (record { hart = h; new = n; action = s }) a mid → (a ≡ b) × (mid ≡ u)
 applied_is t h new s b u n a mid p same made x = elim (cases_Bool (new == 0)) [
   | inl y ↦ (
-    let z : new ≡ 0 = grind (arith, nat_tests) in
-    let not : NeedsOne t h s → ⊥ = λ (w : NeedsOne t h s). made.made.chosen (record { hart = place_hart t h s p; not_refused = w.0; makes = w.1; bad = λ v. zero_bad t (subst (λ (k : ℕ). IsNewNode t k) z v) }) in
-    step_one t (record { hart = h; new = new; action = s }) a b mid u (step_same t h s a n new mid not x) (applied_step t (record { hart = h; new = new; action = s }) made.id b u p made.least made.made)
-  )
+      let z : new ≡ 0 = grind (arith, nat_tests) in
+      let not : NeedsOne t h s → ⊥ = λ (w : NeedsOne t h s). made.made.chosen (record { hart = place_hart t h s p; not_refused = w.0; makes = w.1; bad = λ v. zero_bad t (subst (λ (k : ℕ). IsNewNode t k) z v) }) in
+      step_one t (record { hart = h; new = new; action = s }) a b mid u (step_same t h s a n new mid not x) (applied_step t (record { hart = h; new = new; action = s }) made.id b u p made.least made.made)
+      )
   | inr y ↦ (
-    let z : new ≢ 0 = λ (e : new ≡ 0). (let w : (new == 0) ≡ true = grind (arith, nat_tests) in cc) in
-    step_one t (record { hart = h; new = new; action = s }) a b mid u (subst (λ (k : ℕ). Step t (record { hart = h; new = k; action = s }) a mid) (same z) x) (applied_step t (record { hart = h; new = new; action = s }) made.id b u p made.least made.made)
-  )
+      let z : new ≢ 0 = λ (e : new ≡ 0). (let w : (new == 0) ≡ true = grind (arith, nat_tests) in cc) in
+      step_one t (record { hart = h; new = new; action = s }) a b mid u (subst (λ (k : ℕ). Step t (record { hart = h; new = k; action = s }) a mid) (same z) x) (applied_step t (record { hart = h; new = new; action = s }) made.id b u p made.least made.made)
+      )
 ]
 
 refused_not : (t : Tree) (h : ℕ) (s : Action) (k : Cause) → refusal t h s ≡ None → refusal t h s ≡ Some k → ⊥

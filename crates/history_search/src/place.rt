@@ -6,6 +6,7 @@ ghost use Rattle.plain_tree.specs.Tree.{tree_of};
 use plain_tree::{Action, Hold, Kind, OpenFile, Tree, TreeStep};
 
 const HART_COUNT: u8 = 8;
+
 const DESCRIPTOR_COUNT: usize = 16;
 
 fn is_raised(raised: bool, hold: Option<Hold>) -> bool

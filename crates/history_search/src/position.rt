@@ -11,9 +11,7 @@ use crate::next::{Attempt, is_through, next_action};
 use crate::place::is_in_place;
 use crate::reply::{is_full, is_reply, is_told};
 use crate::stand::{START, Stand, after};
-use plain_tree::{
-    ApplyRefused, NoMemory, Placed, StepAnswer, Trace, TracedCall, Tree, TreeStep,
-};
+use plain_tree::{ApplyRefused, NoMemory, Placed, StepAnswer, Trace, TracedCall, Tree, TreeStep};
 use std::alloc::Global;
 
 #[derive(Drop)]

@@ -120,12 +120,7 @@ fn is_handed(call: &Call, given: &StepAnswer, handed: &Call) -> bool
 }
 
 /// The reply is that of a call with this first cause and this first answer.
-pub(crate) fn is_reply(
-    call: &Call,
-    cause: Option<Cause>,
-    given: &StepAnswer,
-    reply: &Reply,
-) -> bool
+pub(crate) fn is_reply(call: &Call, cause: Option<Cause>, given: &StepAnswer, reply: &Reply) -> bool
     ensures { IsTrue result ↔ (reply.now ≡ reply_at call.now cause given.now) }
 {
     has_answer(call, cause, given, &reply.answer) && is_handed(call, given, &reply.call)

@@ -1,9 +1,9 @@
 //! A run told for a test: its calls, and a list of steps with their answers.
+use history_search::find_history;
 use plain_tree::{
     Action, Answer, Bytes, Call, Calls, Cause, NoMemory, Placed, Reply, StepAnswer, Trace,
     TracedCall, Tree, TreeStep, check,
 };
-use history_search::find_history;
 use std::alloc::Global;
 
 /// What is other than told.

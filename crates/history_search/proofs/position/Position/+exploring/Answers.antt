@@ -24,13 +24,13 @@ explore-loop-id-init t c =
     let k = call_not base trace p c.explore_call.new.self c.match-hint.first.0 c.in_ok-explore_call.field-0 c.if-branch.false c.in_ok-explore_call.ensures in
     elim c.else-due-first.branch [
       | explore-else-due-first-via-then-due-first+in_ok-explore_call-2+else-branch-2 w ↦ (
-        let m = call_not base trace c.explore_call.new.self w.explore_call-then-due-first.new.self c.in-Some.due.id w.in_ok-explore_call-2.field-0 w.if-branch-2.false w.in_ok-explore_call-2.ensures in record {
-          kept = subst (λ (q : Position). IsKept base trace p q) (sym w.self-is) (kept_then base trace p c.explore_call.new.self w.explore_call-then-due-first.new.self k.0 m.0);
-          first = k.1;
-          due = dead_back base trace p c.explore_call.new.self c.in-Some.due.id k.0 m.1;
-          dead = λ j lt. absurd (omega arith);
-        }
-      )
+          let m = call_not base trace c.explore_call.new.self w.explore_call-then-due-first.new.self c.in-Some.due.id w.in_ok-explore_call-2.field-0 w.if-branch-2.false w.in_ok-explore_call-2.ensures in record {
+            kept = subst (λ (q : Position). IsKept base trace p q) (sym w.self-is) (kept_then base trace p c.explore_call.new.self w.explore_call-then-due-first.new.self k.0 m.0);
+            first = k.1;
+            due = dead_back base trace p c.explore_call.new.self c.in-Some.due.id k.0 m.1;
+            dead = λ j lt. absurd (omega arith);
+          }
+          )
       | explore-else-due-first-via-else-due-first w ↦ record {
         kept = subst (λ (q : Position). IsKept base trace p q) (sym w.self-is) k.0;
         first = k.1;
@@ -47,13 +47,13 @@ explore-loop-id-preserved t c =
     let inv = c.loop-id.invariant in
     elim c.if-id-first.branch [
       | explore-then-id-first+then-id-due+in_ok-explore_call-3+else-branch-3 w ↦ (
-        let m = call_not base trace c.loop-id.self w.explore_call-then-id-due.new.self c.loop-id.id w.in_ok-explore_call-3.field-0 w.if-branch-3.false w.in_ok-explore_call-3.ensures in record {
-          kept = subst (λ (q : Position). IsKept base trace p q) (sym w.self-is) (kept_then base trace p c.loop-id.self w.explore_call-then-id-due.new.self inv.kept m.0);
-          first = inv.first;
-          due = inv.due;
-          dead = λ j lt. elim (cases_eq j c.loop-id.id) [ inl e ↦ subst (λ (i : ℕ). IsDead trace p i) (sym e) (dead_back base trace p c.loop-id.self c.loop-id.id inv.kept m.1) | inr ne ↦ inv.dead j (omega arith) ];
-        }
-      )
+          let m = call_not base trace c.loop-id.self w.explore_call-then-id-due.new.self c.loop-id.id w.in_ok-explore_call-3.field-0 w.if-branch-3.false w.in_ok-explore_call-3.ensures in record {
+            kept = subst (λ (q : Position). IsKept base trace p q) (sym w.self-is) (kept_then base trace p c.loop-id.self w.explore_call-then-id-due.new.self inv.kept m.0);
+            first = inv.first;
+            due = inv.due;
+            dead = λ j lt. elim (cases_eq j c.loop-id.id) [ inl e ↦ subst (λ (i : ℕ). IsDead trace p i) (sym e) (dead_back base trace p c.loop-id.self c.loop-id.id inv.kept m.1) | inr ne ↦ inv.dead j (omega arith) ];
+          }
+          )
       | explore-else-id-first w ↦ record {
         kept = subst (λ (q : Position). IsKept base trace p q) (sym w.self-is) inv.kept;
         first = inv.first;
@@ -94,19 +94,19 @@ explore_numbers-loop-number-preserved t c =
     let some : c.loop-number.number ≢ 0 = omega arith in
     elim c.if-new-preferred.branch [
       | explore_numbers-then-new-preferred+in_ok-explore_step-2+in_default-2 w ↦ (
-        let m = tried_not base trace c.loop-number.self w.explore_step-then-new-preferred.new.self c.args.id c.loop-number.number w.in_ok-explore_step-2.field-0 w.in_default-2.not-Found some w.in_ok-explore_step-2.ensures in record {
-          kept = subst (λ (q : Position). IsKept base trace p q) (sym w.self-is) (kept_then base trace p c.loop-number.self w.explore_step-then-new-preferred.new.self inv.kept m.0);
-          dead = λ n least lt. elim (cases_eq n c.loop-number.number) [ inl e ↦ subst (λ (i : ℕ). IsDeadWith trace p c.args.id i) (sym e) (dead_with_back base trace p c.loop-number.self c.args.id c.loop-number.number inv.kept m.1) | inr ne ↦ inv.dead n least (omega arith) ];
-        }
-      )
+          let m = tried_not base trace c.loop-number.self w.explore_step-then-new-preferred.new.self c.args.id c.loop-number.number w.in_ok-explore_step-2.field-0 w.in_default-2.not-Found some w.in_ok-explore_step-2.ensures in record {
+            kept = subst (λ (q : Position). IsKept base trace p q) (sym w.self-is) (kept_then base trace p c.loop-number.self w.explore_step-then-new-preferred.new.self inv.kept m.0);
+            dead = λ n least lt. elim (cases_eq n c.loop-number.number) [ inl e ↦ subst (λ (i : ℕ). IsDeadWith trace p c.args.id i) (sym e) (dead_with_back base trace p c.loop-number.self c.args.id c.loop-number.number inv.kept m.1) | inr ne ↦ inv.dead n least (omega arith) ];
+          }
+          )
       | explore_numbers-else-new-preferred w ↦ (
-        let same : c.loop-number.number ≡ c.args.preferred = w.if-new-preferred.false in
-        let wanted : c.args.preferred ≢ 0 = omega arith in
-        let m = tried_not base trace p c.explore_step.new.self c.args.id c.args.preferred c.in_ok-explore_step.field-0 c.in_default.not-Found wanted c.in_ok-explore_step.ensures in record {
-          kept = subst (λ (q : Position). IsKept base trace p q) (sym w.self-is) inv.kept;
-          dead = λ n least lt. elim (cases_eq n c.loop-number.number) [ inl e ↦ subst (λ (i : ℕ). IsDeadWith trace p c.args.id i) (sym (e ∙ same)) m.1 | inr ne ↦ inv.dead n least (omega arith) ];
-        }
-      )
+          let same : c.loop-number.number ≡ c.args.preferred = w.if-new-preferred.false in
+          let wanted : c.args.preferred ≢ 0 = omega arith in
+          let m = tried_not base trace p c.explore_step.new.self c.args.id c.args.preferred c.in_ok-explore_step.field-0 c.in_default.not-Found wanted c.in_ok-explore_step.ensures in record {
+            kept = subst (λ (q : Position). IsKept base trace p q) (sym w.self-is) inv.kept;
+            dead = λ n least lt. elim (cases_eq n c.loop-number.number) [ inl e ↦ subst (λ (i : ℕ). IsDeadWith trace p c.args.id i) (sym (e ∙ same)) m.1 | inr ne ↦ inv.dead n least (omega arith) ];
+          }
+          )
     ]
 
 pub explore_numbers-returns : goal.explore_numbers-returns

@@ -16,11 +16,11 @@ loop-traced-preserved c =
     let at_end : slice_get calls (length c.loop-traced.ends.items) ≡ Some c.traced-item.result = subst (λ i. slice_get calls i ≡ Some c.traced-item.result) (sym n) at in
     let old : EndsAt calls c.loop-traced.ends.items (length c.loop-traced.ends.items) = subst (λ i. EndsAt calls c.loop-traced.ends.items i) (sym n) c.loop-traced.invariant.all_end in
     let new : EndsAt calls c.push-in-loop-traced.new.self.items (length c.loop-traced.ends.items + 1) = subst (λ xs. EndsAt calls xs (length c.loop-traced.ends.items + 1)) (sym end_pushed) (ends_push calls c.loop-traced.ends.items c.end_of.result c.traced-item.result at_end c.end_of.ensures old) in record {
-  stands = omega (arith, ap length pushed, length_push c.loop-traced.stands.items start, c.loop-traced.invariant.stands);
-  ends = omega (arith, ap length end_pushed, length_push c.loop-traced.ends.items c.end_of.result, n);
-  all_start = λ k. subst (λ xs. get_or xs k start ≡ start) (sym pushed) (start_push c.loop-traced.stands.items start refl c.loop-traced.invariant.all_start k);
-  all_end = subst (λ i. EndsAt calls c.push-in-loop-traced.new.self.items (i + 1)) n new;
-}
+      stands = omega (arith, ap length pushed, length_push c.loop-traced.stands.items start, c.loop-traced.invariant.stands);
+      ends = omega (arith, ap length end_pushed, length_push c.loop-traced.ends.items c.end_of.result, n);
+      all_start = λ k. subst (λ xs. get_or xs k start ≡ start) (sym pushed) (start_push c.loop-traced.stands.items start refl c.loop-traced.invariant.all_start k);
+      all_end = subst (λ i. EndsAt calls c.push-in-loop-traced.new.self.items (i + 1)) n new;
+    }
 
 pub returns-clause-at : goal.returns-clause-at
 returns-clause-at c =
