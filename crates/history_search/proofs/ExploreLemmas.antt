@@ -18,7 +18,7 @@ use Rattle.history_search.specs.declared.position.Placing.TheVariants as placing
 use Rattle.history_search.specs.declared.position.Position.{Position}
 use Rattle.history_search.specs.declared.stand.Stand.{Stand}
 use Rattle.history_search.specs.Stands.{start}
-use Rattle.history_search.specs.Searching.{CallIsExplored, CanEnd, HasFound, IsExplored, IsPlaced, IsTried, IsAt, IsDead, IsDeadWith, IsDue, IsHopeless, IsKept, IsMade, IsMore, IsOfCall, IsSame, IsThrough, IsUndone, NeedsNumber, last_event, left, steps_left}
+use Rattle.history_search.specs.Searching.{CallIsExplored, CanEnd, HasFound, IsExplored, IsPlaced, IsTried, IsAt, IsDead, IsDeadWith, IsDue, IsHopeless, IsKept, IsMade, IsMore, IsOfCall, IsSame, IsSteppedOn, IsThrough, IsUndone, NeedsNumber, last_event, left, steps_left}
 use Rattle.history_search.proofs.StandLemmas.{acts_none}
 use Rattle.history_search.proofs.CallLemmas.{some_not, written_end}
 use Rattle.history_search.proofs.EndLemmas.{First, first, not_nothing}
@@ -158,3 +158,9 @@ tried_not base t p q id new tried.BadChoice not some h = (h.0, h.2 some)
 
 pub placed_made : (base : TreeData) (t : Trace) (p q : Position) (id new : ℕ) (r : Placing) → r ≡ placing.Made → IsPlaced base t p id new r q → IsMade base t p id new q
 placed_made base t p q id new r e h = subst (λ (x : Placing). IsPlaced base t p id new x q) e h
+
+pub placed_bad : (base : TreeData) (t : Trace) (p q : Position) (id new : ℕ) (r : Placing) → r ≡ placing.BadChoice → IsPlaced base t p id new r q → IsKept base t p q
+placed_bad base t p q id new r e h = (let k : IsKept base t p q × NeedsNumber t p id × (new ≢ 0 → IsDeadWith t p id new) = subst (λ (x : Placing). IsPlaced base t p id new x q) e h in k.0)
+
+pub stepped_not : (base : TreeData) (t : Trace) (p q : Position) (b : Bool) → b ≡ false → IsSteppedOn base t p b q → IsKept base t p q
+stepped_not base t p q b e h = subst (λ x. IsSteppedOn base t p x q) e h

@@ -186,3 +186,8 @@ Fits (Some r) c s s' a = (is_full a ≡ false) × (is_told c s s' ≡ true → r
 abbrev pub IsTimely : Option (ℕ × Reply) → ℕ → ℕ → ℕ → Type 0
 IsTimely None event limit events = (event ≤ limit) × (event < events)
 IsTimely (Some r) event limit events = event ≤ limit
+
+-- a step was placed, or none
+abbrev pub IsSteppedOn : TreeData → Trace → Position → Bool → Position → Type 0
+IsSteppedOn base t p true q = IsAt base t q × (steps_left t q < steps_left t p)
+IsSteppedOn base t p false q = IsKept base t p q

@@ -28,7 +28,7 @@ pub(crate) enum Tried {
 }
 
 /// The first hint from this place on whose step isn't placed yet, and its place.
-fn next_hint(position: &Position, hints: &[Hint], from: usize) -> (usize, Option<Hint>) {
+pub(crate) fn next_hint(position: &Position, hints: &[Hint], from: usize) -> (usize, Option<Hint>) {
     for place in from..hints.len() {
         let hint = hints[place];
         if position.count(hint.call) <= hint.step {
@@ -171,10 +171,23 @@ impl Position {
     }
 }
 
-/// A list of tree steps that explains the trace from this tree; none only where no list does. It is sought by trying
-/// the steps of calls in every order that the trace allows, and for a new node every number: those that the hints name
-/// first, in their order, then the call that has to return first. With the right hints, or none where calls meet
-/// rarely, it finds a list at once; where no list explains, its time may grow with the power of the number of calls.
+// From nothing on, every step is tried in turn.
+fn search(alloc: Global, base: &Tree, trace: &Trace, hints: &[Hint]) -> Attempt<Option<Vec<Placed>>>
+    ensures { IfOk result (λ o. MatchOption o ((list : List Placed) → Explains base.now trace.now list → ⊥) (λ v. Explains base.now trace.now v.items)) }
+{
+    let mut position = Position::begin(alloc, base, trace)?;
+    if position.explore(alloc, base, trace, hints, 0)? {
+        Ok(Some(position.list))
+    } else {
+        Ok(None)
+    }
+}
+
+/// A list of tree steps that explains the trace from this tree; none only where no list does. It is sought first by going
+/// on from step to step: the one that is hinted at, one of the call that has to return first, or another that fits.
+/// Where that leads nowhere, the steps of calls are tried from there, and then from the beginning, in every order that the
+/// trace allows, and for a new node every number. With the right hints, and mostly without any, a list is found at once;
+/// where no list explains, the time may grow with the power of the number of calls.
 /// The error is that memory is short, or that a step which is tried would change a node past the tree's table, as
 /// `ApplyRefused::NoMemory` says, or is to make a node where the table has more than 65,536 numbers.
 pub fn find_history(
@@ -186,9 +199,9 @@ pub fn find_history(
     ensures { IfOk result (λ o. MatchOption o ((list : List Placed) → Explains base.now trace.now list → ⊥) (λ v. Explains base.now trace.now v.items)) }
 {
     let mut position = Position::begin(alloc, base, trace)?;
+    position.follow(alloc, base, trace, hints)?;
     if position.explore(alloc, base, trace, hints, 0)? {
-        Ok(Some(position.list))
-    } else {
-        Ok(None)
+        return Ok(Some(position.list));
     }
+    search(alloc, base, trace, hints)
 }

@@ -4,6 +4,7 @@
 #![tactic(auto)]
 
 mod explore;
+mod follow;
 mod next;
 mod place;
 mod position;
