@@ -27,11 +27,16 @@ pub(crate) enum Tried {
     BadChoice,
 }
 
-/// The first hint from this place on whose step isn't placed yet, and its place.
-pub(crate) fn next_hint(position: &Position, hints: &[Hint], from: usize) -> (usize, Option<Hint>) {
+/// The first hint from this place on whose step isn't placed yet and may still come, and its place.
+pub(crate) fn next_hint(
+    position: &Position,
+    trace: &Trace,
+    hints: &[Hint],
+    from: usize,
+) -> (usize, Option<Hint>) {
     for place in from..hints.len() {
         let hint = hints[place];
-        if position.count(hint.call) <= hint.step {
+        if position.awaits(trace, hint.call, hint.step) {
             return (place, Some(hint));
         }
     }
@@ -149,7 +154,7 @@ impl Position {
         let Some(due) = self.due() else {
             return Ok(true);
         };
-        let (from, hint) = next_hint(self, hints, from);
+        let (from, hint) = next_hint(self, trace, hints, from);
         let (first, preferred) = match hint {
             Some(hint) => (hint.call, hint.new),
             None => (due.id, 0),

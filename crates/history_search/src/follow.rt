@@ -98,7 +98,7 @@ impl Position {
     {
         let mut from = 0;
         while let Some(due) = self.due() {
-            let (place, hint) = next_hint(self, hints, from);
+            let (place, hint) = next_hint(self, trace, hints, from);
             from = place;
             if !self.step_on(alloc, base, trace, hint, due)? {
                 return Ok(());

@@ -149,11 +149,13 @@ impl Position {
         due
     }
 
-    /// How many steps of the call the list has.
-    pub(crate) fn count(&self, id: usize) -> usize {
-        match self.stands.get(id) {
-            Some(stand) => stand.count,
-            None => 0,
+    /// The list has no more than so many steps of the call, which goes on.
+    pub(crate) fn awaits(&self, trace: &Trace, id: usize, step: usize) -> bool {
+        match (trace.calls.as_slice().get(id), self.stands.get(id)) {
+            (Some(traced), Some(stand)) => {
+                stand.count <= step && !is_through(&traced.call, *stand)
+            }
+            _ => false,
         }
     }
 
