@@ -5,8 +5,6 @@
 #[cfg(test)]
 mod explains;
 #[cfg(test)]
-mod searches;
-#[cfg(test)]
 mod steps;
 #[cfg(test)]
 mod story;
