@@ -1,0 +1,14 @@
+//! A complete search for the history of a trace: one list of tree steps that explains what several harts were answered.
+//! It finds one wherever there is one, so that it answers of any trace, also of another file system's, whether the
+//! replies are those of calls that act in steps on one tree.
+#![tactic(auto)]
+
+mod explore;
+mod follow;
+mod next;
+mod place;
+mod position;
+mod reply;
+mod stand;
+
+pub use crate::explore::{Hint, find_history};
