@@ -6,7 +6,7 @@ use std::alloc::Global;
 use std::test::Fail;
 
 #[derive(Clone, Copy)]
-enum Run {
+pub(crate) enum Run {
     /// Nothing happens.
     Nothing,
     /// A write of 3073 bytes, with another hart's read between its two pieces.
@@ -249,7 +249,7 @@ fn doubled(alloc: Global) -> Told<Story> {
     Ok(story)
 }
 
-fn told(alloc: Global, run: Run) -> Told<Story> {
+pub(crate) fn told(alloc: Global, run: Run) -> Told<Story> {
     match run {
         Run::Nothing => Ok(Story::begin(alloc, 0)),
         Run::Pieces => pieces(alloc),

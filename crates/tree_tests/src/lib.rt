@@ -5,6 +5,8 @@
 #[cfg(test)]
 mod explains;
 #[cfg(test)]
+mod searches;
+#[cfg(test)]
 mod steps;
 #[cfg(test)]
 mod story;

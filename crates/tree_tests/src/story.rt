@@ -1,4 +1,5 @@
 //! A run told for a test: its calls, and a list of steps with their answers.
+use history_search::find_history;
 use plain_tree::{
     Action, Answer, Bytes, Call, Calls, Cause, NoMemory, Placed, Reply, StepAnswer, Trace,
     TracedCall, Tree, TreeStep, check,
@@ -204,6 +205,24 @@ impl Story {
             | Change::By(place, _) => self.change_entry(place, change),
         }
         Ok(())
+    }
+
+    /// Whether a list was found that explains what the calls were told, from a fresh tree of so many numbers. It is
+    /// checked too.
+    pub(crate) fn is_explicable(self, ninodes: u16) -> Told<bool> {
+        let Story {
+            alloc,
+            calls,
+            list: _list,
+            events,
+        } = self;
+        let tree = Tree::new(alloc, ninodes)?;
+        let calls = Calls::new(calls);
+        let trace = Trace { calls, events };
+        match find_history(alloc, &tree, &trace, &[])? {
+            Some(list) => check(alloc, &tree, &trace, &list),
+            None => Ok(false),
+        }
     }
 
     /// From a fresh tree of 200 numbers the list explains what the calls were told.
