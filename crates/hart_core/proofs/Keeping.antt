@@ -1,13 +1,11 @@
 -- What always holds of a world, by the invariant of its calls.
-use Rattle.std.proofs.Common.{◌≡◌, ◌<◌, ℕ, Bool, false, Option, Some, None, List, refl, sym, ◌∙◌, ap, subst, get_or}
+use Rattle.std.proofs.Common.{◌≡◌, ℕ, Bool, false, Option, Some, None, List, refl, sym, ◌∙◌, ap, subst, get_or}
 use Rattle.fs_layout.specs.declared.superblock.Super.{Super}
-use Rattle.buffer_cache.specs.Limits.{hart_count}
 use Rattle.atomic_programs.specs.Calls.{Theory, Run, State}
 use Rattle.atomic_programs.specs.Explained.{Explained, Holds}
 use Rattle.atomic_programs.specs.Machines.{program_at}
 use Rattle.atomic_programs.specs.Plain.{Code, Plain, SoundPlain, prog_of}
 use Rattle.atomic_programs.proofs.Reached.{sound_explained}
-use Rattle.fs_machine.specs.LogPart.{LogPart}
 use Rattle.fs_machine.specs.Steps as steps
 use Rattle.syscalls.specs.Machines.{running_of}
 use Rattle.inodes_on_blocks.specs.OnBlocks.{is_joined}

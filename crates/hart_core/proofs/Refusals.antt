@@ -1,6 +1,6 @@
 -- What is wrong with a call, as its start finds it and as the calls have it.
 use Rattle.std.proofs.Common.{◌≡◌, ◌≢◌, ◌≤◌, ◌<◌, ℕ, zero, suc, Bool, true, false, ◌&&◌, ◌||◌, ◌==◌, nat_lt, List, [], ◌∷◌, length, Option, Some, None, refl, sym, ◌∙◌, ap, get_or, arith}
-use Rattle.std.specs.Prelude.{if◌then◌else◌, is_some, All}
+use Rattle.std.specs.Prelude.{if◌then◌else◌, All}
 use Rattle.std.proofs.lemmas.Bool.Decides.{nat_tests}
 use Rattle.std.specs.List.{list_any}
 use Rattle.buffer_cache.specs.Limits.{hart_count}
@@ -9,7 +9,7 @@ use Rattle.plain_tree.specs.declared.call.Call.TheVariants.{Open, Read, Write, L
 use Rattle.atomic_programs.specs.Prog.{or_else}
 use Rattle.inode_machine.specs.Exec.{is_nothing}
 use Rattle.inode_machine.specs.Theory as calls
-use Rattle.inode_machine.specs.Theory.{path_limit, has_zero, are_bytes, first_wrong, path_wrong, asks_wrong, is_covered}
+use Rattle.inode_machine.specs.Theory.{path_limit, has_zero, are_bytes, first_wrong, path_wrong, asks_wrong}
 use Rattle.calls_on_blocks.specs.Theory as served
 use Rattle.calls_on_blocks.specs.Layer.{Shared}
 use Rattle.calls_on_blocks.specs.Theory.{serves, has_file}

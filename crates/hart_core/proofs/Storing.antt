@@ -7,7 +7,7 @@ use Rattle.plain_tree.specs.declared.answer.Reply.{Reply}
 use Rattle.plain_tree.specs.declared.call.Call.{Call}
 use Rattle.group_log.specs.declared.marks.Marks.{Marks}
 use Rattle.group_log.specs.Group.{joined}
-use Rattle.group_log.specs.Stories.{IsMarked, no_marks}
+use Rattle.group_log.specs.Stories.{IsMarked}
 use Rattle.atomic_programs.specs.Calls.{Theory, State, Event as EventOf, Start as StartOf, Step as StepOf, Outcome as OutcomeOf, Started, Refused, WasIdle, DidWait, DidRun, DidEnd, DidStop, WasStopped, Came as CameOf, AllHonest, all_asked, fresh, makes, next, outcomes, run}
 use Rattle.atomic_programs.specs.Plain.{Code, Plain, all_by_kind, by_kind, erase, plain_outcomes, plain_run}
 use Rattle.atomic_programs.proofs.Erased.{erase-outcomes, erase-run}

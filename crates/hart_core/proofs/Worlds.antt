@@ -11,7 +11,6 @@ use Rattle.atomic_programs.specs.Prog.{Ret, Do, OfNext, plain, asks, Did, Waits,
 use Rattle.atomic_programs.specs.Calls.{Start, Step, Outcome as OutcomeOf, Started, Refused, WasIdle, DidWait, DidRun, DidEnd, DidStop, WasStopped, Refuses, Begins, changed, is_some as is_called}
 use Rattle.atomic_programs.specs.Plain.{Plain, PlainMade, MayOf, PlainHonestStep, PlainHonest, SoundPlain, plain_step, plain_unless, plain_prog, plain_tried, plain_moved, plain_start, plain_begun, plain_makes}
 use Rattle.atomic_programs.specs.Machines.{program_at}
-use Rattle.atomic_programs.specs.Tables.{plain_at}
 use Rattle.atomic_programs.proofs.Reached.{sound_may}
 use Rattle.fs_machine.specs.declared.kind.Kind.{Kind}
 use Rattle.fs_machine.specs.LogPart.{Outside, Passes}

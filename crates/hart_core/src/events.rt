@@ -15,15 +15,20 @@ use plain_tree::Call;
 /// A start or a step of one hart.
 #[derive(Clone, Drop)]
 pub enum Event {
+    /// The hart is to start this call.
     Start { hart: u8, call: Call },
+    /// The hart's call is to make one step.
     Step { hart: u8 },
 }
 
 /// What an event came to.
 #[derive(Drop)]
 pub enum Came {
+    /// The call was started.
     Started,
+    /// The call wasn't started, and nothing has changed.
     Refused(StartRefused),
+    /// What the step came to.
     Stepped(Outcome),
 }
 
@@ -31,9 +36,9 @@ pub enum Came {
 pub struct Run<D: Device> {
     pub world: World<D>,
     pub outcomes: Vec<Came>,
-    /// The leave that began the commit of the last group whose head was written.
+    /// The number of the event, from 0 on, of the leave that began the commit of the last group whose head was written.
     pub cut: Option<u64>,
-    /// The leave that began the commit in which the device failed to write the group's head: it may stand or not.
+    /// The number of the leave that began the commit in which the device failed to write the group's head: it may stand or not.
     pub doubt: Option<u64>,
 }
 

@@ -1,12 +1,12 @@
 // How the harts come to be over a device.
-ghost use Rattle.std.specs.Prelude.{◌≡◌, ◌≢◌, ◌<◌, ◌^◌, Err, IfOk, IfErr, MatchResult, length};
+ghost use Rattle.std.specs.Prelude.{◌≡◌, IfOk, IfErr};
 ghost use Rattle.block_device.specs.Blocks.{HasBytes, HasWholeBlocks};
 ghost use Rattle.fs_layout.specs.Recovered.{sizes_of};
 ghost use Rattle.buffer_cache.specs.Limits.{buffer_count};
 ghost use Rattle.buffer_cache.specs.Seats.{unused_from};
 ghost use Rattle.fs_tables.specs.Fresh.{fresh};
 ghost use Rattle.group_log.specs.Soundness.{IsPlaced};
-ghost use Rattle.image_tree.specs.Damage.{IsWellFormed, JudgesFault, faults_with};
+ghost use Rattle.image_tree.specs.Damage.{IsWellFormed, faults_with};
 ghost use Rattle.hart_core.specs.Mounting.{IsRecovered, HandsBack, Rests};
 
 use crate::harts::Harts;
