@@ -1,10 +1,10 @@
 -- One behaviour after another.
-use Rattle.std.proofs.Common.{◌≡◌, ℕ, List, [], ◌∷◌, ◌++◌, Bool, true, false, Option, Some, None, Result, Ok, Err, refl, ap, sym, ◌∙◌, subst}
+use Rattle.std.proofs.Common.{◌≡◌, ℕ, List, [], ◌∷◌, ◌++◌, Bool, true, false, Option, Result, Ok, Err, refl, ap, sym, ◌∙◌, subst}
 use Rattle.std.specs.Prelude.{OnOk}
 use Rattle.std.specs.Io.KnownBytes.{Appends}
 use Rattle.console.specs.declared.fault.ConsoleFault.{ConsoleFault}
 use Rattle.console.specs.declared.fault.ConsoleFault.TheVariants as faults
-use Rattle.console.specs.Behaviours.{Behaviour, Nothing, gives, in_case, followed_by, takes_memory, prints, GoesOn, IfTold, IsOrMemory, IsWritten, Told, Runs}
+use Rattle.console.specs.Behaviours.{Behaviour, gives, in_case, followed_by, takes_memory, prints, IfTold, IsWritten, Told, Runs}
 use Rattle.console.specs.Notes.{NotesOf, all_noted, noted}
 use Rattle.console.specs.Sessions.{Happening}
 use Rattle.console_parts.proofs.Appending.{appends_nothing, appends_both}

@@ -1,5 +1,5 @@
 -- Over a device that never fails no call is stopped.
-use Rattle.std.proofs.Common.{◌≡◌, ℕ, zero, suc, ◌+◌, min, arith, Bool, true, false, List, [], ◌∷◌, Option, Some, None, Result, Ok, Err, refl, sym, ◌∙◌, ap, subst, inl, inr}
+use Rattle.std.proofs.Common.{◌≡◌, ℕ, zero, suc, Bool, true, false, List, [], ◌∷◌, Option, Some, None, Result, Ok, Err, sym, ap, subst, inl, inr}
 use Rattle.image_tree.specs.Damage.{IsWellFormed}
 use Rattle.hart_core.specs.declared.outcome.Stop.{Stop}
 use Rattle.script.specs.Said as said
@@ -12,7 +12,7 @@ use Rattle.console.specs.declared.plan.Until.{Until}
 use Rattle.console.specs.declared.verb.Verb.{Verb}
 use Rattle.console.specs.declared.doing.Doing.{Doing}
 use Rattle.console.specs.Behaviours.{Behaviour, GoesOn, gives, in_case, followed_by, takes_memory, prints, IsOrMemory, IsWritten}
-use Rattle.console.specs.Commands.{RunOf, HappensSo, IsPassed, acts, acts_as, all_harts, flow_of, goes_on, happens, in_steps, is_enough, joined, line, lines, settles, starts, tells_flow, tells_waits, to_end, turn, turns, up_to, wait_text}
+use Rattle.console.specs.Commands.{RunOf, IsPassed, acts, acts_as, all_harts, flow_of, goes_on, happens, in_steps, is_enough, joined, line, lines, settles, starts, tells_flow, tells_waits, to_end, turn, turns, up_to}
 use Rattle.console.specs.Lines.{called}
 use Rattle.console.specs.Queues.{left_to}
 use Rattle.console.specs.Sessions.{SessionOf, Happening, Happens, doing_at}

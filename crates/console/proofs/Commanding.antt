@@ -1,6 +1,5 @@
 -- What lines do, part by part.
-use Rattle.std.proofs.Common.{◌≡◌, ℕ, zero, suc, ◌+◌, ◌<◌, ◌≤◌, List, [], ◌∷◌, length, drop, get_or, set, map, Bool, true, false, Option, Some, None, Result, Ok, Err, refl, ap, sym, ◌∙◌, subst, arith}
-use Rattle.std.specs.Prelude.{OnOk}
+use Rattle.std.proofs.Common.{◌≡◌, ℕ, zero, suc, ◌+◌, ◌<◌, ◌≤◌, List, [], ◌∷◌, length, drop, get_or, set, true, false, Option, Some, None, Result, Ok, Err, refl, ap, sym, ◌∙◌, subst}
 use Rattle.std.proofs.lemmas.List.{at_drop_more, at_drop_all}
 use Rattle.std.specs.Io.KnownBytes.{Appends}
 use Rattle.hart_core.specs.declared.events.Event.{Event}
@@ -13,13 +12,13 @@ use Rattle.script.specs.Said.{Start, Run, Step, Upto, End, All}
 use Rattle.console.specs.declared.fault.ConsoleFault.{ConsoleFault}
 use Rattle.console.specs.declared.fault.ConsoleFault.TheVariants as faults
 use Rattle.console.specs.declared.flow.Flow.{Flow}
-use Rattle.console.specs.declared.flow.Flow.TheVariants.{Rests, Waits, Moves}
+use Rattle.console.specs.declared.flow.Flow.TheVariants.{Rests, Moves}
 use Rattle.console.specs.declared.plan.Plan.{Plan}
 use Rattle.console.specs.declared.plan.Until.{Until}
 use Rattle.console.specs.declared.verb.Verb.{Verb}
 use Rattle.console.specs.declared.doing.Doing.{Doing}
-use Rattle.console.specs.Behaviours.{gives, in_case, followed_by, takes_memory, prints, IfTold, IsWritten, Told, Runs}
-use Rattle.console.specs.Commands.{RunOf, HappensSo, IsPassed, acts, acts_as, all_harts, goes_on, happens, in_steps, is_enough, joined, line, lines, settles, starts, state, tells_flow, tells_waits, to_end, turn, turns, up_to, wait_text}
+use Rattle.console.specs.Behaviours.{gives, followed_by, takes_memory, prints, IfTold, IsWritten, Told, Runs}
+use Rattle.console.specs.Commands.{RunOf, IsPassed, acts, acts_as, all_harts, goes_on, happens, in_steps, is_enough, joined, line, lines, settles, starts, state, tells_flow, tells_waits, to_end, turn, turns, up_to, wait_text}
 use Rattle.console.specs.Lines.{called}
 use Rattle.console.specs.Notes.{NotesOf, all_noted, what_of, with_what}
 use Rattle.console.specs.Queues.{Left, TakesNext, left_to}

@@ -1,5 +1,5 @@
 -- The device has failed once more where an operation stops.
-use Rattle.std.proofs.Common.{◌≡◌, ℕ, ◌+◌, min, Bool, true, false, List, Option, Some, None, refl, sym, subst, ap}
+use Rattle.std.proofs.Common.{◌≡◌, ℕ, ◌+◌, min, Bool, true, false, List, Option, Some, None, refl}
 use Rattle.block_device.specs.Blocks.{most_faults}
 use Rattle.buffer_cache.specs.Getting.{get_of}
 use Rattle.buffer_cache.specs.Seats.{SeatState}
@@ -19,11 +19,10 @@ use Rattle.fs_tables.specs.declared.files.OpenFile.{OpenFile}
 use Rattle.fs_tables.specs.declared.files.Refused.{Refused}
 use Rattle.fs_tables.specs.declared.files.Want.{Want}
 use Rattle.fs_tables.specs.declared.files.Want.TheVariants as want
-use Rattle.fs_tables.specs.Tables.{TablesState, file_named, place_named, place_of, is_unused}
-use Rattle.fs_tables.specs.Lists.{first_empty, next_full}
+use Rattle.fs_tables.specs.Tables.{TablesState, file_named, place_named, place_of}
 use Rattle.fs_tables.specs.Inodes as inodes
 use Rattle.fs_tables.specs.Files as files
-use Rattle.fs_machine.specs.LogPart.{LogPart, Outside, Passes, Fails, got_by, join_if, read_block, commit_if, write_log}
+use Rattle.fs_machine.specs.LogPart.{Outside, Passes, Fails, got_by, join_if, read_block, commit_if, write_log}
 use Rattle.fs_machine.specs.Steps.{State, Op, Join, JoinToWrite, Leave, Get, Read, Put, Commit, Lock, LockFile, LockOpen, Unlock, Settle, Up, Claim, Down, CheckFile, TakePlace, TakeDescriptor, Double, Close, Give, Reply, Number, Directory, Held, Walked, Freed, exec, in_log, in_tables, joins, join_unless, lock_open, with_open, claims, claim_first}
 
 -- ---- no step on the tables stops

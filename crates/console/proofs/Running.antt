@@ -1,9 +1,8 @@
 -- A script that was run, and why it had no end.
-use Rattle.std.proofs.Common.{◌≡◌, ℕ, ◌<◌, min, arith, List, [], ◌++◌, length, take, Option, Some, None, option_map, Result, Ok, Err, refl, ap, sym, ◌∙◌, subst, inl, inr}
+use Rattle.std.proofs.Common.{◌≡◌, ℕ, ◌<◌, min, arith, List, [], length, take, Option, Some, None, option_map, Result, Ok, Err, refl, ap, sym, ◌∙◌, subst, inl, inr}
 use Rattle.std.proofs.lemmas.List.{take_all, length-take}
-use Rattle.std.specs.Prelude.{IfSome, OnOk}
-use Rattle.std.specs.Io.KnownBytes.{Appends}
-use Rattle.image_tree.specs.Damage.{IsWellFormed, JudgesFault, fault_count_of}
+use Rattle.std.specs.Prelude.{IfSome}
+use Rattle.image_tree.specs.Damage.{JudgesFault, fault_count_of}
 use Rattle.image_tree.specs.declared.fault.MountFault.{MountFault}
 use Rattle.image_tree.specs.declared.fault.MountFault.TheVariants as mounts
 use Rattle.console.specs.declared.fault.ConsoleFault.{ConsoleFault}
@@ -16,7 +15,7 @@ use Rattle.console.specs.Commands.{lines, state}
 use Rattle.console.specs.Lines.{CourseOf, FailsTo, IsMemory, script_course}
 use Rattle.console.specs.Notes.{NotesOf, no_notes}
 use Rattle.console.specs.Queues.{Left}
-use Rattle.console.specs.Runs.{EndsOn, EndsSo, FailsUnread, RunsCourse, RunsNone, RunsReader, RunsScript, most_noted}
+use Rattle.console.specs.Runs.{EndsOn, EndsSo, FailsUnread, RunsCourse, RunsReader, RunsScript, most_noted}
 use Rattle.console.specs.Sessions.{SessionOf}
 
 any_text : (script : Option (List ℕ)) → (text : List ℕ) × IfSome script (λ bytes. text ≡ bytes)

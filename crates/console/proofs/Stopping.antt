@@ -6,7 +6,7 @@ use Rattle.plain_tree.specs.declared.answer.Reply.{Reply}
 use Rattle.plain_tree.specs.declared.call.Call.{Call}
 use Rattle.hart_core.specs.declared.outcome.Stop.{Stop}
 use Rattle.atomic_programs.specs.Prog.{Ret, Do, Did, Waits, Ran, Stops, did_in}
-use Rattle.atomic_programs.specs.Calls.{Event, Start, Step, Began, Refuses, Begins, Outcome, Started, Refused, WasIdle, DidWait, DidRun, DidEnd, DidStop, WasStopped, with_answer}
+use Rattle.atomic_programs.specs.Calls.{Event, Start, Step, Began, Refuses, Begins, Outcome, Started, Refused, WasIdle, DidWait, DidRun, DidEnd, DidStop, WasStopped}
 use Rattle.atomic_programs.specs.Plain.{Plain, PlainMade, Unmarked, plain_makes, plain_start, plain_begun, plain_step, plain_unless, plain_prog, plain_tried, plain_moved}
 use Rattle.fs_machine.specs.declared.kind.Kind.{Kind}
 use Rattle.fs_machine.specs.LogPart.{Outside}
@@ -20,7 +20,6 @@ use Rattle.hart_core.specs.Events.{came_of}
 use Rattle.hart_core.specs.declared.outcome.Outcome.TheVariants as outcome
 use Rattle.hart_core.specs.declared.outcome.Stop.TheVariants as stops
 use Rattle.hart_core.specs.Worlds.{calls_of}
-use Rattle.console.specs.declared.fault.ConsoleFault.{ConsoleFault}
 use Rattle.console.specs.declared.fault.ConsoleFault.TheVariants as faults
 use Rattle.console.specs.Commands.{flow_of}
 use Rattle.console.specs.Sessions.{SessionOf, Happening, Happens}

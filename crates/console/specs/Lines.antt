@@ -2,7 +2,6 @@
 use Rattle.std.specs.Prelude.{◌≡◌, ℕ, min, List, [], ◌∷◌, map, replicate, Result, Ok, Err}
 use Rattle.plain_tree.specs.declared.call.Call.{Call}
 use Rattle.plain_tree.specs.declared.call.Call.TheVariants as calls
-use Rattle.script.specs.declared.command.ScriptLine.{ScriptLine}
 use Rattle.script.specs.Said as said
 use Rattle.script.specs.Said.{Line, NumberedLine, Open, Read, Write, Fill, Link, Unlink, Mkdir, Chdir, Dup, Fstat, Close, Inherit, All, line_said}
 use Rattle.script.specs.Reading.{script_in}

@@ -1,11 +1,11 @@
 -- A run of a script on a mounted file system.
-use Rattle.std.specs.Prelude.{◌≡◌, ◌⊎◌, ℕ, Bool, true, false, if◌then◌else◌, List, [], ◌∷◌, ◌++◌, Option, IfSome, Result, Ok, Err}
-use Rattle.std.specs.Io.KnownBytes.{Appends, Keeps}
+use Rattle.std.specs.Prelude.{◌≡◌, ◌⊎◌, ℕ, if◌then◌else◌, List, ◌++◌, Option, IfSome, Result, Ok, Err}
+use Rattle.std.specs.Io.KnownBytes.{Appends}
 use Rattle.console.specs.declared.fault.ConsoleFault.{ConsoleFault}
 use Rattle.console.specs.declared.fault.ConsoleFault.TheVariants as faults
 use Rattle.console_parts.specs.declared.mode.Mode.{Mode}
 use Rattle.console.specs.Behaviours.{Runs}
-use Rattle.console.specs.Commands.{lines, state, RunOf}
+use Rattle.console.specs.Commands.{lines, state}
 use Rattle.console.specs.Events.{last_of, timeline_of}
 use Rattle.console.specs.Lines.{CourseOf, TellsLine, script_course}
 use Rattle.console.specs.Notes.{NotesOf, no_notes}

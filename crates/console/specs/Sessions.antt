@@ -1,6 +1,5 @@
 -- A mounted file system that a console runs, and what happens to it.
-use Rattle.std.specs.Prelude.{◌≡◌, ℕ, ◌+◌, min, List, [], replicate, set, get_or, Option, Some, None}
-use Rattle.plain_tree.specs.declared.call.Call.{Call}
+use Rattle.std.specs.Prelude.{◌≡◌, ℕ, ◌+◌, min, List, replicate, set, get_or, Option, Some, None}
 use Rattle.fs_machine.specs.declared.kind.Kind.{Kind}
 use Rattle.atomic_programs.specs.Calls.{with_answer}
 use Rattle.hart_core.specs.declared.events.Event.{Event}

@@ -1,5 +1,5 @@
 //! What the lines of a script do.
-ghost use Rattle.std.specs.Prelude.{◌≡◌, OnOk, map};
+ghost use Rattle.std.specs.Prelude.{OnOk, map};
 ghost use Rattle.std.specs.Io.KnownBytes.{Appends};
 ghost use Rattle.script.specs.Said.{call_said, line_said};
 ghost use Rattle.console.specs.Behaviours.{IsWritten, Runs};

@@ -1,5 +1,5 @@
 //! The lines that are printed after a script: the last events, and the columns of the timeline.
-ghost use Rattle.std.specs.Prelude.{◌≡◌, ◌*◌, ◌^◌, ◌-◌, ◌++◌, ◌<◌, OnOk, min, true, codes, decimal, replicate};
+ghost use Rattle.std.specs.Prelude.{◌*◌, ◌^◌, ◌-◌, ◌++◌, ◌<◌, OnOk, min, true, codes, decimal, replicate};
 ghost use Rattle.std.specs.Fmt.{format_spec, styled_decimal};
 ghost use Rattle.std.specs.Io.KnownBytes.{Appends};
 ghost use Rattle.console.specs.Events.{answer_cell, cell, last_line, last_of, timeline_line, timeline_of, timeline_rows, what_text};

@@ -1,9 +1,8 @@
 //! Running a script.
-ghost use Rattle.std.specs.Prelude.{◌≡◌, ◌<◌, ◌^◌, ℕ, List, IfOk, IfErr, IfSome, OnOk, map};
+ghost use Rattle.std.specs.Prelude.{◌≡◌, ◌<◌, ◌^◌, IfOk, IfErr, IfSome, OnOk};
 ghost use Rattle.std.specs.Io.KnownBytes.{Appends};
 ghost use Rattle.block_device.specs.Blocks.{blocks_of};
 ghost use Rattle.image_tree.specs.Damage.{IsWellFormed};
-ghost use Rattle.script.specs.Said.{numbered};
 ghost use Rattle.console.specs.declared.fault.ConsoleFault.TheVariants.{Memory};
 ghost use Rattle.console.specs.Images.{bytes_for, disk_for, fresh_bytes, JudgesImage};
 ghost use Rattle.console.specs.Lines.{course, script_course};

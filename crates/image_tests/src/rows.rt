@@ -1,7 +1,10 @@
 //! Scripts of several harts, with all that they print.
 use crate::images::{Change, with};
-use crate::scripts::{disk, run};
+use crate::scripts::{disk, disk_with_f, image_after, run, run_in};
+use block_device::BLOCK_SIZE;
+use console_parts::Mode;
 use std::alloc::{AllocError, Global};
+use std::process::Abort;
 use std::test::Fail;
 
 // 2000 blocks, 200 inodes, a log of 30 blocks, and a root without names in block 46.
@@ -48,6 +51,11 @@ fn directories_and_names(rt: HostRuntime) -> Result<(), Fail> {
             "do 0 mkdir /d\ndo 0 chdir /d\ndo 1 unlink /d\ndo 0 open x 0x200\ndo 0 open . 0\ndo 0 open \"\" 0\ndo 0 read 0 48\n",
             "0 mkdir ok\n0 chdir ok\n1 unlink ok\n0 open failed 1 NoEntry\n0 open failed 1 NoEntry\n0 open fd 0\n0 read 32 02002e0000000000000000000000000001002e2e000000000000000000000000\n",
         ),
+        // Doubled slashes are one, and ".." goes up.
+        (
+            "do 0 mkdir /a\ndo 0 mkdir /a//b/\ndo 0 chdir a/b\ndo 0 open ../../a 0\ndo 0 fstat 0\n",
+            "0 mkdir ok\n0 mkdir ok\n0 chdir ok\n0 open fd 0\n0 fstat 1 2 1 2 48\n",
+        ),
         // A file without a name is there as long as it is open.
         (
             "do 0 open /f 0x200\ndo 0 unlink /f\ndo 0 unlink /f\ndo 0 fstat 0\ndo 0 unlink /.\n",
@@ -92,6 +100,84 @@ fn files_are_written(rt: HostRuntime) -> Result<(), Fail> {
 }
 
 #[test]
+fn a_file_of_the_image_is_written(rt: HostRuntime) -> Result<(), Fail> {
+    for (size, inodes, script, lines) in [
+        (
+            2000,
+            200,
+            "do 0 open /f 1\ndo 1 open /f 0\n0 fill 0 3073\nupto 0 leave 1\ndo 1 fstat 0\nend 0\ndo 1 fstat 0\n",
+            "0 open fd 0\n1 open fd 0\n1 fstat 1 2 2 1 3072\n0 write 3073\n1 fstat 1 2 2 1 3073\n",
+        ),
+        (
+            2000,
+            200,
+            "do 0 open /f 1\ndo 1 open /f 0\n0 fill 0 3072\nupto 0 leave 1\ndo 1 fstat 0\nend 0\ndo 1 fstat 0\n",
+            "0 open fd 0\n1 open fd 0\n1 fstat 1 2 2 1 3072\n0 write 3072\n1 fstat 1 2 2 1 3072\n",
+        ),
+        (
+            2000,
+            200,
+            "do 0 open /f 1\ndo 0 fill 0 274433\ndo 0 fstat 0\n",
+            "0 open fd 0\n0 write failed 8 TooBig\n0 fstat 1 2 2 1 273408\n",
+        ),
+        (
+            2000,
+            200,
+            "do 0 open /f 1\ndo 0 fill 0 274432\ndo 0 fstat 0\n",
+            "0 open fd 0\n0 write 274432\n0 fstat 1 2 2 1 274432\n",
+        ),
+        (
+            60,
+            16,
+            "do 0 open /f 2\ndo 0 fill 0 23552\ndo 0 fstat 0\n",
+            "0 open fd 0\n0 write full 24 Blocks\n0 fstat 1 2 2 1 22528\n",
+        ),
+    ] {
+        let image = disk_with_f(rt.alloc(), size, inodes, b"")?.into_bytes();
+        assert!(rt;
+            prints(rt.alloc(), Some(image.as_slice()), script, lines)?,
+            "{script}"
+        );
+    }
+    Ok(())
+}
+
+#[test]
+fn a_reader_waits_for_another(rt: HostRuntime) -> Result<(), Fail> {
+    let image = disk_with_f(rt.alloc(), 2000, 200, b"hello")?.into_bytes();
+    assert!(rt;
+        prints(
+            rt.alloc(),
+            Some(image.as_slice()),
+            "do 0 open /f 0\ndo 1 open /f 0\n0 read 0 3\nupto 0 lock 1\ndo 1 read 0 9\nend 0\nend 1\n",
+            "0 open fd 0\n1 open fd 0\n1 waits\n0 read 3 68656c\n1 read 5 68656c6c6f\n"
+        )?
+    );
+    Ok(())
+}
+
+// A link that is refused has counted for a while.
+const RAISED_SCRIPT: &str =
+    "do 1 open /f 0x200\ndo 1 open /g 0x200\n0 link /f /g\nupto 0 unlock 2\ndo 1 fstat 0\nend 0\ndo 1 fstat 0\n";
+
+const RAISED_LINES: &str =
+    "1 open fd 0\n1 open fd 1\n1 fstat 1 2 2 2 0\n0 link failed 2 Exists\n1 fstat 1 2 2 1 0\n";
+
+#[test]
+fn the_last_event_is_a_reply(rt: HostRuntime) -> Result<(), Fail> {
+    let mode = Mode {
+        last: 1,
+        ..Mode::default()
+    };
+    let (out, fault) = run_in(rt.alloc(), None, mode, RAISED_SCRIPT.as_bytes())?;
+    assert!(rt; fault.is_none());
+    assert!(rt; out.starts_with(RAISED_LINES.as_bytes()));
+    let last = &out.as_slice()[RAISED_LINES.len().min(out.len())..];
+    assert!(rt; last.starts_with(b"event ") && last.ends_with(b": 1 reply\n"));
+    Ok(())
+}
+
+#[test]
 fn harts_meet(rt: HostRuntime) -> Result<(), Fail> {
     for (script, lines) in [
         // A walk looks into a directory that was removed under it, and finds nothing in it.
@@ -109,10 +195,11 @@ fn harts_meet(rt: HostRuntime) -> Result<(), Fail> {
             "do 1 open /f 0x201\ndo 1 write 0 A\n0 link /f /g\nupto 0 unlock 2\ndo 1 unlink /f\nend 0\ndo 0 open /g 0\ndo 0 fstat 0\ndo 0 read 0 9\n",
             "1 open fd 0\n1 write 1\n1 unlink ok\n0 link ok\n0 open fd 0\n0 fstat 1 2 2 1 1\n0 read 1 41\n",
         ),
-        // A link that is refused has counted for a while.
+        (RAISED_SCRIPT, RAISED_LINES),
+        // A link whose new directory is removed meanwhile takes its raise back.
         (
-            "do 1 open /f 0x200\ndo 1 open /g 0x200\n0 link /f /g\nupto 0 unlock 2\ndo 1 fstat 0\nend 0\ndo 1 fstat 0\n",
-            "1 open fd 0\n1 open fd 1\n1 fstat 1 2 2 2 0\n0 link failed 2 Exists\n1 fstat 1 2 2 1 0\n",
+            "do 0 mkdir /d\ndo 0 chdir /d\ndo 1 open /f 0x200\n0 link /f x\nupto 0 unlock 1\ndo 1 unlink /d\nend 0\ndo 1 fstat 0\n",
+            "0 mkdir ok\n0 chdir ok\n1 open fd 0\n1 unlink ok\n0 link failed 1 NoEntry\n1 fstat 1 3 2 1 0\n",
         ),
         // A child's descriptors share its parent's offsets.
         (
@@ -193,5 +280,126 @@ fn a_shorter_log_has_less_room(rt: HostRuntime) -> Result<(), Fail> {
             "2 waits\n"
         )?
     );
+    Ok(())
+}
+
+// A call whose commit is stopped, where the file `/f` is empty or holds the letter A.
+struct Commit {
+    // Lines that are run first.
+    before: &'static str,
+    hart: u8,
+    call: &'static str,
+    // The blocks that the commit writes, one a step.
+    blocks: &'static [usize],
+    // How many of these are copies in the log, before the header that names them, and how that begins.
+    copies: usize,
+    header: &'static [u8],
+    // What is read of the file before that header and from then on.
+    old: &'static str,
+    new: &'static str,
+}
+
+const EMPTY: &str = "0 open fd 0\n0 fstat 1 2 2 1 0\n0 read 0\n";
+
+const LETTER: &str = "0 open fd 0\n0 fstat 1 2 2 1 1\n0 read 1 41\n";
+
+// A write of one byte: the bitmap, the block, the inode. An open that empties the file: the bitmap, the inode.
+const COMMITS: [Commit; 2] = [
+    Commit {
+        before: "do 0 open /f 0x201\n",
+        hart: 0,
+        call: "write 0 A",
+        blocks: &[3, 4, 5, 2, 46, 48, 33, 2],
+        copies: 3,
+        header: b"\x03\0\0\0\x2e\0\0\0\x30\0\0\0\x21\0\0\0",
+        old: EMPTY,
+        new: LETTER,
+    },
+    Commit {
+        before: "do 0 open /f 0x201\ndo 0 write 0 A\n",
+        hart: 1,
+        call: "open /f 0x400",
+        blocks: &[3, 4, 2, 46, 33, 2],
+        copies: 2,
+        header: b"\x02\0\0\0\x2e\0\0\0\x21\0\0\0",
+        old: LETTER,
+        new: EMPTY,
+    },
+];
+
+// Whether two images differ in this block and in no other one, or where none is named, nowhere.
+fn differ_in(block: Option<&usize>, old: &[u8], new: &[u8]) -> bool {
+    let blocks = old.chunks(BLOCK_SIZE).zip(new.chunks(BLOCK_SIZE));
+    old.len() == new.len()
+        && blocks
+            .enumerate()
+            .all(|(b, (x, y))| (x != y) == (block == Some(&b)))
+}
+
+// Where the log's header begins.
+const HEADER: usize = 2 * BLOCK_SIZE;
+
+// Leaves a call's commit after each of its writes in turn, and looks at the image.
+fn commits(rt: &impl Abort, alloc: Global, image: &[u8], commit: &Commit) -> Result<(), Fail> {
+    let (before, hart, call) = (commit.before, commit.hart, commit.call);
+    let mut old = image_after(alloc, image, before.as_bytes())?;
+    for written in 0..=commit.blocks.len() {
+        let (kind, steps) = if written == 0 {
+            ("leave", 1)
+        } else {
+            ("commit", written)
+        };
+        let script = format!(in alloc; "{before}{hart} {call}\nupto {hart} {kind} {steps}\n")?;
+        let new = image_after(alloc, image, script.as_str().as_bytes())?;
+        let block = commit.blocks.get(written.wrapping_sub(1));
+        assert!(rt;
+            differ_in(block, old.as_slice(), new.as_slice()),
+            "{script}"
+        );
+        if written == commit.copies.saturating_add(1) {
+            let header = new.as_slice().get(HEADER..);
+            assert!(rt;
+                header.is_some_and(|h| h.starts_with(commit.header)),
+                "{script}"
+            );
+        }
+        let lines = if written <= commit.copies {
+            commit.old
+        } else {
+            commit.new
+        };
+        let look = "do 0 open /f 0\ndo 0 fstat 0\ndo 0 read 0 9\n";
+        assert!(rt;
+            prints(alloc, Some(new.as_slice()), look, lines)?,
+            "{script}"
+        );
+        old = new;
+    }
+    Ok(())
+}
+
+/// A commit writes the log's copies, the header, the blocks at home, and the header again. An image that is left before the first
+/// header has the old file, and from then on the new one; so it is for a file that was made, and for one that was there.
+#[test]
+fn commits_are_left_at_each_write(rt: HostRuntime) -> Result<(), Fail> {
+    let fresh = disk(rt.alloc(), 2000, 200)?.into_bytes();
+    let with_f = disk_with_f(rt.alloc(), 2000, 200, b"")?.into_bytes();
+    for image in [&fresh, &with_f] {
+        for commit in &COMMITS {
+            commits(&rt, rt.alloc(), image.as_slice(), commit)?;
+        }
+    }
+    Ok(())
+}
+
+// The bit of block 48 in the bitmap, which is the lowest one of its byte.
+const BIT_48: usize = 46 * BLOCK_SIZE + 48 / 8;
+
+#[test]
+fn an_emptied_file_gives_its_block_back(rt: HostRuntime) -> Result<(), Fail> {
+    let image = disk_with_f(rt.alloc(), 2000, 200, b"A")?.into_bytes();
+    assert_eq!(rt; image.get(BIT_48), Some(&1));
+    let image = image_after(rt.alloc(), image.as_slice(), b"do 1 open /f 0x400\n")?;
+    assert_eq!(rt; image.get(BIT_48), Some(&0));
     Ok(())
 }

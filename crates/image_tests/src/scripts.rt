@@ -1,4 +1,5 @@
 //! What no clause says: the lines that are printed, the statuses, and that the calls can succeed.
+use crate::images::{Change, fresh};
 use block_device::{Fused, MemoryDisk};
 use clap::error::ErrorKind;
 use console::{ConsoleFault, Session, run_on, run_script, status};
@@ -15,9 +16,32 @@ use std::test::Fail;
 // The longest script, in bytes.
 const LONGEST_SCRIPT: usize = 16_777_216;
 
-// A fresh image of these sizes.
+// An image of these sizes without files.
 pub fn disk(alloc: Global, size: u32, ninodes: u32) -> Result<MemoryDisk, Fail> {
-    match make(alloc, size, ninodes, &[]) {
+    made(alloc, size, ninodes, &[])
+}
+
+// An image of these sizes with the file `/f`, which holds these bytes.
+pub fn disk_with_f(
+    alloc: Global,
+    size: u32,
+    ninodes: u32,
+    bytes: &[u8],
+) -> Result<MemoryDisk, Fail> {
+    let file = (
+        Vec::from_slice(alloc, b"f")?,
+        Vec::from_slice(alloc, bytes)?,
+    );
+    made(alloc, size, ninodes, &[file])
+}
+
+fn made(
+    alloc: Global,
+    size: u32,
+    ninodes: u32,
+    files: &[(Vec<u8>, Vec<u8>)],
+) -> Result<MemoryDisk, Fail> {
+    match make(alloc, size, ninodes, files) {
         Ok(disk) => Ok(disk),
         Err(MakeRefused::NoMemory) => Err(Fail::from(AllocError)),
         Err(_) => Err(Fail::new("no disk")),
@@ -53,10 +77,10 @@ fn run_once(
     Ok((out, fault))
 }
 
-fn is_refused_memory(fault: &Option<ConsoleFault>) -> bool {
+fn is_refused_memory(fault: &ConsoleFault) -> bool {
     match fault {
-        Some(ConsoleFault::Memory) => true,
-        Some(ConsoleFault::Write(error)) => error.kind() == io::ErrorKind::OutOfMemory,
+        ConsoleFault::Memory => true,
+        ConsoleFault::Write(error) => error.kind() == io::ErrorKind::OutOfMemory,
         _ => false,
     }
 }
@@ -70,14 +94,33 @@ pub fn run(
     run_in(alloc, image, Mode::default(), script)
 }
 
-fn run_in(
+// The image after a script on it.
+pub fn image_after(alloc: Global, image: &[u8], script: &[u8]) -> Result<Vec<u8>, Fail> {
+    let image = Vec::from_slice(alloc, image)?;
+    let mut out = Vec::new(alloc);
+    match run_script(alloc, Some(image), Mode::default(), script, &mut out) {
+        Ok(disk) => Ok(disk.into_bytes()),
+        Err(fault) => {
+            if is_refused_memory(&fault) {
+                return Err(Fail::from(AllocError));
+            }
+            Err(Fail::new("the script doesn't come to its end"))
+        }
+    }
+}
+
+pub fn run_in(
     alloc: Global,
     image: Option<&[u8]>,
     mode: Mode,
     script: &[u8],
 ) -> Result<(Vec<u8>, Option<ConsoleFault>), AllocError> {
     let (out, fault) = run_once(alloc, image, mode, script)?;
-    if is_refused_memory(&fault) {
+    let is_short = match &fault {
+        Some(fault) => is_refused_memory(fault),
+        None => false,
+    };
+    if is_short {
         return run_once(alloc, image, mode, script);
     }
     Ok((out, fault))
@@ -108,6 +151,9 @@ fn prints_what_the_calls_answer(rt: HostRuntime) -> Result<(), Fail> {
             "0 dup 0\ndo 0 fstat 0\n",
             "0 fstat refused 41 Busy\n0 dup failed 6 BadDescriptor\n",
         ),
+        ("0 open / 0\n0 dup 0\n", "0 dup refused 41 Busy\n"),
+        ("0 fstat 0\n0 close 0\n", "0 close refused 41 Busy\n"),
+        ("do 8 open / 0\n", "8 open refused 45 NoSuchHart\n"),
         (
             "0 dup 0\nstep 0 0\n0 fstat 0\nstep 0 1\nstep 0 1\ndo 0 fstat 0\n",
             "0 fstat refused 41 Busy\n0 dup failed 6 BadDescriptor\n0 fstat failed 6 BadDescriptor\n",
@@ -149,11 +195,13 @@ fn opens_and_reads_the_root(rt: HostRuntime) -> Result<(), Fail> {
 
 #[test]
 fn opens_paths_up_to_their_longest(rt: HostRuntime) -> Result<(), Fail> {
-    for (len, line) in [
-        (127, "0 open fd 0\n"),
-        (128, "0 open refused 42 PathTooLong\n"),
+    for (len, byte, line) in [
+        (127, b'/', "0 open fd 0\n"),
+        (127, b'a', "0 open failed 1 NoEntry\n"),
+        (128, b'/', "0 open refused 42 PathTooLong\n"),
+        (128, b'a', "0 open refused 42 PathTooLong\n"),
     ] {
-        let path = vec![in rt.alloc(); b'/'; len]?;
+        let path = vec![in rt.alloc(); byte; len]?;
         let mut script = Vec::from_slice(rt.alloc(), b"do 0 open ")?;
         script.extend_from_slice(path.as_slice())?;
         script.extend_from_slice(b" 0")?;
@@ -437,14 +485,26 @@ fn checks_images(rt: HostRuntime) -> Result<(), Fail> {
     Ok(())
 }
 
+// The fresh image, with two files whose one block is the same.
+const SHARED: [Change; 4] = [
+    (33920, b"\x02\0\0\0\0\0\x01\0\x01\0\0\0\x30"),
+    (33984, b"\x02\0\0\0\0\0\x01\0\x01\0\0\0\x30"),
+    (47110, b"\x01"),
+    (48160, b"\x02\0a\0\0\0\0\0\0\0\0\0\0\0\0\0\x03\0b"),
+];
+
 #[test]
 fn tells_damage_and_other_faults(rt: HostRuntime) -> Result<(), Fail> {
-    let mut changed = disk(rt.alloc(), 2000, 200)?.into_bytes();
-    assert!(rt; 1024 < changed.len());
-    changed[1024] = 0;
     for (image, want) in [
         (vec![in rt.alloc(); 0; 1500]?, "refused 51 TooShort"),
-        (changed, "refused 52 BadSuper"),
+        (
+            fresh(rt.alloc(), &[(1024, b"\0")])?.into_bytes(),
+            "refused 52 BadSuper",
+        ),
+        (
+            fresh(rt.alloc(), &SHARED)?.into_bytes(),
+            "refused 56 BlockShared",
+        ),
     ] {
         let (out, fault) = run(rt.alloc(), Some(image.as_slice()), b"bad".as_slice())?;
         assert!(rt; out.is_empty());
@@ -471,6 +531,87 @@ fn tells_damage_and_other_faults(rt: HostRuntime) -> Result<(), Fail> {
         assert_eq!(rt; status(&fault), number);
         assert!(rt; format!(in rt.alloc(); "{fault}")?.as_str() == text);
     }
+    Ok(())
+}
+
+const TWO_LINES: &[u8] = b"do 0 open / 0\ndo 0 fstat 0\n";
+
+// A script that is read once, and then no more.
+#[derive(Drop)]
+struct Torn(bool);
+
+impl io::Read for Torn {
+    fn read(&mut self, buf: &mut [u8]) -> io::Result<usize> {
+        if self.0 {
+            return Err(io::Error::from(io::ErrorKind::TimedOut));
+        }
+        self.0 = true;
+        let count = TWO_LINES.len().min(buf.len());
+        buf[..count].copy_from_slice(&TWO_LINES[..count]);
+        Ok(count)
+    }
+}
+
+// Takes so many bytes, and then none.
+#[derive(Drop)]
+struct Narrow(Vec<u8>, usize);
+
+impl io::Write for Narrow {
+    fn write(&mut self, buf: &[u8]) -> io::Result<usize> {
+        let room = self.1.saturating_sub(self.0.len());
+        if room < buf.len() {
+            return Err(io::Error::from(io::ErrorKind::StorageFull));
+        }
+        self.0.extend_from_slice(buf)?;
+        Ok(buf.len())
+    }
+
+    fn flush(&mut self) -> io::Result<()> {
+        Ok(())
+    }
+}
+
+// Why a run ended, where it has to.
+fn fault_of(ran: Result<MemoryDisk, ConsoleFault>) -> Result<ConsoleFault, Fail> {
+    match ran {
+        Ok(_disk) => Err(Fail::new("it comes to its end")),
+        Err(fault) => {
+            if is_refused_memory(&fault) {
+                return Err(Fail::from(AllocError));
+            }
+            Ok(fault)
+        }
+    }
+}
+
+#[test]
+fn a_script_can_fail_in_the_middle(rt: HostRuntime) -> Result<(), Fail> {
+    let mut out = Vec::new(rt.alloc());
+    let ran = run_script(rt.alloc(), None, Mode::default(), Torn(false), &mut out);
+    let fault = fault_of(ran)?;
+    assert_eq!(rt; status(&fault), 1);
+    let text = format!(in rt.alloc(); "{fault}")?;
+    assert!(rt;
+        text.as_str().starts_with("the script can't be read: "),
+        "{text}"
+    );
+    assert!(rt; out.is_empty());
+    Ok(())
+}
+
+#[test]
+fn answers_can_fail_in_the_middle(rt: HostRuntime) -> Result<(), Fail> {
+    let first = b"0 open fd 0\n".as_slice();
+    let mut out = Narrow(Vec::new(rt.alloc()), first.len());
+    let ran = run_script(rt.alloc(), None, Mode::default(), TWO_LINES, &mut out);
+    let fault = fault_of(ran)?;
+    assert_eq!(rt; status(&fault), 1);
+    let text = format!(in rt.alloc(); "{fault}")?;
+    assert!(rt;
+        text.as_str().starts_with("an answer can't be written: "),
+        "{text}"
+    );
+    assert!(rt; out.0.as_slice() == first);
     Ok(())
 }
 

@@ -1,4 +1,4 @@
-use Rattle.std.proofs.Common.{rules, ap, refl, ◌≡◌, [], ◌∷◌, Err}
+use Rattle.std.proofs.Common.{rules, ap, ◌≡◌, [], ◌∷◌, Err}
 use Rattle.script.specs.Said as said
 use Rattle.script.specs.Said.{call_said, line_said}
 use Rattle.console.specs.Commands.{all_harts, in_steps, to_end, up_to}

@@ -1,4 +1,4 @@
-use Rattle.std.proofs.Common.{rules, arith, refl, sym, ◌∙◌, ◌≡◌, ℕ, suc, ◌+◌, ◌-◌, length, Err}
+use Rattle.std.proofs.Common.{rules, arith, sym, ◌∙◌, ◌≡◌, suc, ◌+◌, ◌-◌, Err}
 use Rattle.console.proofs.Commanding.{turns_end, turns_fault, turns_more, turns_rest}
 use Rattle.console.proofs.commands.turns.Goals as goal
 

@@ -1,4 +1,4 @@
-use Rattle.std.proofs.Common.{arith, rules, tests, ◌≡◌, ◌∙◌, ◌-◌, ◌<◌, true, false, ap, subst, nat_lt, List, ℕ, Option}
+use Rattle.std.proofs.Common.{arith, rules, tests, ◌≡◌, ◌-◌, true, false, subst, nat_lt}
 use Rattle.std.specs.Io.KnownBytes.{Appends}
 use Rattle.std.proofs.lemmas.Bool.Decides.{nat_tests}
 use Rattle.console.specs.Events.{last_text}

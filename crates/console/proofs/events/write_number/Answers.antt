@@ -1,4 +1,4 @@
-use Rattle.std.proofs.Common.{◌++◌, subst, ℕ, List}
+use Rattle.std.proofs.Common.{◌++◌, subst}
 use Rattle.std.specs.Prelude.{OnOk, codes}
 use Rattle.std.specs.Fmt.{styled_decimal}
 use Rattle.std.specs.Io.KnownBytes.{Appends}

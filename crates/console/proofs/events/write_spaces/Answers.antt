@@ -1,4 +1,4 @@
-use Rattle.std.proofs.Common.{subst, ℕ, List}
+use Rattle.std.proofs.Common.{subst}
 use Rattle.std.specs.Prelude.{OnOk}
 use Rattle.std.specs.Io.KnownBytes.{Appends}
 use Rattle.console.proofs.Printing.{spaces_are}

@@ -1,7 +1,6 @@
-use Rattle.std.proofs.Common.{map, sym, Ok}
+use Rattle.std.proofs.Common.{sym, Ok}
 use Rattle.std.proofs.lemmas.Simd.{map-map}
-use Rattle.script.specs.Said.{line_said, numbered}
-use Rattle.console.specs.Lines.{course_of}
+use Rattle.script.specs.Said.{numbered}
 use Rattle.console.proofs.lines.course_of.Goals as goal
 
 pub returns-in-Listed : goal.returns-in-Listed

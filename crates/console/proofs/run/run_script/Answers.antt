@@ -1,6 +1,6 @@
-use Rattle.std.proofs.Common.{rules, tests, refl, ◌≡◌, ◌∙◌, Err, List, ℕ, sym, subst}
+use Rattle.std.proofs.Common.{rules, tests, refl, ◌≡◌, Err, List, ℕ, sym, subst}
 use Rattle.block_device.specs.Blocks.{blocks_of}
-use Rattle.console.specs.Images.{disk_for, JudgesImage}
+use Rattle.console.specs.Images.{JudgesImage}
 use Rattle.console.specs.Runs.{RunsReader}
 use Rattle.console.proofs.Calm.{run_judged}
 use Rattle.console.proofs.Running.{mount_judged}

@@ -1,4 +1,4 @@
-use Rattle.std.proofs.Common.{arith, refl, sym, length, ◌<◌, ◌≤◌}
+use Rattle.std.proofs.Common.{arith, refl, length, ◌<◌, ◌≤◌}
 use Rattle.script.specs.Said.{call_said}
 use Rattle.console.proofs.Queueing.{none_past, taken}
 use Rattle.console.proofs.queues.Queues.take_next.Goals as goal

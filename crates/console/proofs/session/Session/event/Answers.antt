@@ -1,5 +1,5 @@
 use Rattle.std.proofs.Common.{rules, ◌≡◌}
-use Rattle.console.specs.Sessions.{Happens, doing_at, hart_in}
+use Rattle.console.specs.Sessions.{doing_at, hart_in}
 use Rattle.console.proofs.Doings.{doing_set}
 use Rattle.console.proofs.session.Session.event.Goals as goal
 
