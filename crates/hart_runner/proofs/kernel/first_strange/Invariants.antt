@@ -1,0 +1,6 @@
+use Rattle.std.proofs.Common.{◌≡◌, ◌<◌, ◌≤◌, All, take, map}
+use Rattle.hart_runner.specs.Seats.{kept_view, IsListed}
+use Rattle.hart_runner.proofs.kernel.first_strange.Given as goal
+
+abbrev pub invariant-loop-i : goal.invariant-loop-i
+invariant-loop-i g l = All (IsListed l.closed) (take l.i (map kept_view l.kept))

@@ -1,0 +1,10 @@
+pub mod HandedBack
+pub mod Fitting
+pub mod Spares
+pub mod Endings
+pub mod ReadCalls
+pub mod Blocks
+pub mod Keeping
+pub mod Listed
+pub mod Explained
+pub mod Opening

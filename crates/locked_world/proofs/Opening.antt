@@ -1,0 +1,44 @@
+-- A locked world before its first event.
+use Rattle.std.proofs.Common.{◌≡◌, ℕ, zero, suc, List, [], ◌∷◌, Option, Some, None, replicate, get_or, refl, sym, ◌∙◌, ap, subst}
+use Rattle.fs_layout.specs.Recovered.{sizes_of}
+use Rattle.block_device.specs.Fuse.{Fuse}
+use Rattle.plain_tree.specs.declared.call.Call.{Call}
+use Rattle.atomic_programs.specs.Machines.{program_at}
+use Rattle.syscalls.specs.declared.running.Running.{Running}
+use Rattle.syscalls.specs.Machines.{running_of}
+use Rattle.hart_core.specs.declared.events.Event.{Event}
+use Rattle.hart_core.specs.declared.events.Came.{Came}
+use Rattle.hart_core.specs.Mounting.{Rests}
+use Rattle.hart_core.specs.Worlds.{WorldOf, calls_of}
+use Rattle.hart_core.proofs.Histories.{no_history}
+use Rattle.hart_core.proofs.Stepping.{nones}
+use Rattle.locked_world.specs.HandedBack.{SpareFits}
+use Rattle.locked_world.specs.Kept.{Stored, IsKept, contents, failures, disk_of, opened}
+
+zeros : (n h : ℕ) → ◌≡◌ {A = ℕ} (get_or (replicate n 0) h 0) 0
+zeros zero zero = refl
+zeros zero (suc h) = refl
+zeros (suc n) zero = refl
+zeros (suc n) (suc h) = zeros n h
+
+-- nothing was started, and nothing is laid by
+pub kept_opened : (image : List ℕ) (fuse : ℕ) (es : List Event) (cs : List Came) (total : ℕ) (disk : Fuse) (w : WorldOf Fuse) → es ≡ [] → cs ≡ [] → total ≡ 0 → disk ≡ disk_of (opened image fuse)
+    → Rests contents failures disk w.harts → w.sizes ≡ sizes_of (contents disk) → IsKept (record { image = image; fuse = fuse; events = es; outcomes = cs }) total w (replicate 8 0) (replicate 8 None)
+kept_opened image fuse es cs total disk w p q t same rests sizes =
+    let idle : (h : ℕ) → (calls_of contents failures w.sizes w.harts).running h ≡ None =
+    λ h. ap (λ (calls : List (Option Running)). program_at running_of (get_or calls h None)) rests.idle ∙ ap (program_at running_of) (nones 8 h) in
+    let all : IsKept (opened image fuse) 0 w (replicate 8 0) (replicate 8 None) =
+    record {
+      run = record {
+        first = w;
+        mounted = record { rests = subst (λ (d : Fuse). Rests contents failures d w.harts) same rests; sizes = sizes ∙ ap (λ (d : Fuse). sizes_of (contents d)) same };
+        history = ([], no_history contents failures w.sizes w.harts);
+        sizes = refl;
+      };
+      total_is = refl;
+      eight = refl;
+      given_are = λ h lt. zeros 8 h;
+      spares_fit = λ h. subst (SpareFits (get_or (replicate 8 None) h None)) (sym (idle h)) tt;
+    } in
+    subst (λ (n : ℕ). IsKept (record { image = image; fuse = fuse; events = es; outcomes = cs }) n w (replicate 8 0) (replicate 8 None)) (sym t)
+    (subst (λ (z : Stored). IsKept z 0 w (replicate 8 0) (replicate 8 None)) (λ i. record { image = image; fuse = fuse; events = sym p i; outcomes = sym q i }) all)

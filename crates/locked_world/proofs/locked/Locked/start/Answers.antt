@@ -1,0 +1,46 @@
+use Rattle.std.proofs.Common.{rules, ◌≡◌, ◌∙◌, ◌++◌, ◌∷◌, [], List, refl, ap, sym, arith, length}
+use Rattle.std.proofs.lemmas.Grind.{common_steps}
+use Rattle.plain_tree.specs.declared.call.Call.{Call}
+use Rattle.fs_machine.specs.LogPart.{Passes}
+use Rattle.hart_core.specs.declared.events.Event.{Event}
+use Rattle.hart_core.specs.declared.events.Event.TheVariants.{Start}
+use Rattle.hart_core.specs.declared.events.Came.{Came}
+use Rattle.hart_core.specs.declared.events.Came.TheVariants.{Started, Refused}
+use Rattle.locked_world.specs.Kept.{Stored, with_event}
+use Rattle.locked_world.proofs.Keeping.{kept_started, kept_refused, begun_below}
+use Rattle.locked_world.proofs.Endings.{program_ends}
+use Rattle.locked_world.proofs.locked.Locked.start.Goals as goal
+
+pub lay_by-requires : goal.lay_by-requires
+lay_by-requires g c = begun_below c.self.inside.world c.start.new.self c.args.hart c.args.call c.in-Ok-start.ensures.makes
+
+pub invariant_of-self-in-Ok-start : goal.invariant_of-self-in-Ok-start
+invariant_of-self-in-Ok-start g c =
+    let i = c.self.inside in
+    kept_started (record { image = i.image.items; fuse = i.fuse; events = i.events.items; outcomes = i.outcomes.items }) i.book.total i.world i.given i.spare c.self.invariant c.args.hart c.args.call c.in-Ok.copies.spare Passes _ _ _ c.start.new.self _
+    c.in-Ok.ensures.1 c.in-Ok-start.ensures.sizes c.in-Ok-start.ensures.makes
+    (c.push_reserved.ensures.items ∙ (λ j. c.reserve.ensures.items j ++ Start c.args.hart (c.in-Ok.ensures.0 j) ∷ []))
+    (c.push_reserved-in-Ok-start.ensures.items ∙ ap (λ (z : List Came). z ++ Started ∷ []) c.reserve-else-is_err.ensures.items)
+    c.add.ensures.total c.lay_by.ensures
+
+pub invariant_of-self-in-Err : goal.invariant_of-self-in-Err
+invariant_of-self-in-Err g c =
+    let i = c.self.inside in
+    kept_refused (record { image = i.image.items; fuse = i.fuse; events = i.events.items; outcomes = i.outcomes.items }) i.book.total i.world i.given i.spare c.self.invariant c.args.hart c.args.call c.in-Err.why Passes _ _ c.start.new.self
+    c.in-Err.ensures.sizes c.in-Err.ensures.makes
+    (c.push_reserved-in-Err.ensures.items ∙ (λ j. c.reserve.ensures.items j ++ Start c.args.hart ((c.one_of-event.ensures ∙ c.in-Ok.ensures.0) j) ∷ []))
+    (c.push_reserved-in-Err-2.ensures.items ∙ ap (λ (z : List Came). z ++ Refused c.in-Err.why ∷ []) c.reserve-else-is_err.ensures.items)
+
+pub returns-in-Ok-start-clause-answer : goal.returns-in-Ok-start-clause-answer
+returns-in-Ok-start-clause-answer g c =
+    let i = c.self.inside in
+    let p = c.push_reserved.ensures.items ∙ (λ j. c.reserve.ensures.items j ++ Start c.args.hart (c.in-Ok.ensures.0 j) ∷ []) in
+    let q = c.push_reserved-in-Ok-start.ensures.items ∙ ap (λ (z : List Came). z ++ Started ∷ []) c.reserve-else-is_err.ensures.items in
+    (refl, c.in-Ok.ensures.2, (λ j. record { image = i.image.items; fuse = i.fuse; events = p j; outcomes = q j }) ∙ ap (λ (z : Stored). with_event z (Start c.args.hart c.args.call) Started) c.self.view_is, c.add.ensures.amount)
+
+pub returns-in-Err-clause-answer : goal.returns-in-Err-clause-answer
+returns-in-Err-clause-answer g c =
+    let i = c.self.inside in
+    let p = c.push_reserved-in-Err.ensures.items ∙ (λ j. c.reserve.ensures.items j ++ Start c.args.hart ((c.one_of-event.ensures ∙ c.in-Ok.ensures.0) j) ∷ []) in
+    let q = c.push_reserved-in-Err-2.ensures.items ∙ ap (λ (z : List Came). z ++ Refused c.in-Err.why ∷ []) c.reserve-else-is_err.ensures.items in
+    (c.in-Err.ensures.back.0, (λ j. record { image = i.image.items; fuse = i.fuse; events = p j; outcomes = q j }) ∙ ap (λ (z : Stored). with_event z (Start c.args.hart c.args.call) (Refused c.in-Err.why)) c.self.view_is, refl)

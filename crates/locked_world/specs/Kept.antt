@@ -1,0 +1,110 @@
+-- What is kept under a lock: an image, a fuse, and the events with what they came to; and what that determines.
+use Rattle.std.specs.Prelude.{◌≡◌, ◌⊎◌, ℕ, ◌+◌, ◌<◌, ◌==◌, if◌then◌else◌, List, [], ◌∷◌, ◌++◌, length, Option, None, slice_index_or, get_or}
+use Rattle.block_device.specs.Blocks.{blocks_of}
+use Rattle.block_device.specs.Fuse.{Fuse}
+use Rattle.image_tree.specs.Trees.{tree_in}
+use Rattle.plain_tree.specs.declared.answer.Reply.{Reply}
+use Rattle.plain_tree.specs.declared.call.Call.{Call}
+use Rattle.plain_tree.specs.Explains.{Shown}
+use Rattle.plain_tree.specs.Explains.Shown.{Started, Replied, Other}
+use Rattle.atomic_programs.specs.Calls.{Step, DidWait}
+use Rattle.fs_machine.specs.LogPart.{Passes}
+use Rattle.hart_core.specs.declared.events.Event.{Event}
+use Rattle.hart_core.specs.declared.events.Came.{Came}
+use Rattle.hart_core.specs.Harts.{HartsOf}
+use Rattle.hart_core.specs.Runs.{all_shown, trace_in, IsMounted, HasHistory, FoundRoom, NoneClimbs, OneHart, IsExplained}
+use Rattle.hart_core.specs.Worlds.{WorldOf, Makes, calls_of}
+use Rattle.locked_world.specs.HandedBack.{SpareFits}
+
+pub record Stored : Type 0 where
+  pub image : List ℕ
+  pub fuse : ℕ
+  pub events : List Event
+  -- what each of them came to, in their order
+  pub outcomes : List Came
+
+-- nothing happened yet
+abbrev pub opened : List ℕ → ℕ → Stored
+opened image fuse = record { image = image; fuse = fuse; events = []; outcomes = [] }
+
+-- one event more
+abbrev pub with_event : Stored → Event → Came → Stored
+with_event s e c = record { image = s.image; fuse = s.fuse; events = s.events ++ e ∷ []; outcomes = s.outcomes ++ c ∷ [] }
+
+-- ---- the world
+
+-- a disk with a fuse, as a device
+abbrev pub contents : Fuse → List (List ℕ)
+contents d = blocks_of d.bytes
+
+abbrev pub failures : Fuse → ℕ
+failures d = d.faults
+
+-- the image on a disk that passes so many calls
+abbrev pub disk_of : Stored → Fuse
+disk_of s = record { bytes = s.image; left = s.fuse; faults = 0 }
+
+-- A run of what is stored: a world was mounted on the disk, the events came to their outcomes, one after the other, and made this world of it.
+pub record IsRunOf (s : Stored) (w : WorldOf Fuse) : Type 0 where
+  pub first : WorldOf Fuse
+  pub mounted : IsMounted contents failures (disk_of s) first
+  pub history : HasHistory contents failures first.sizes first.harts s.events s.outcomes w.harts
+  pub sizes : w.sizes ≡ first.sizes
+
+abbrev pub IsRun : Stored → Type 0
+IsRun s = (w : WorldOf Fuse) × IsRunOf s w
+
+-- the world of a run has this disk
+abbrev pub LeavesDisk : Stored → List ℕ → Type 0
+LeavesDisk s bytes = (w : WorldOf Fuse) × IsRunOf s w × (bytes ≡ w.harts.core.log.cache.device.bytes)
+
+-- a step of the hart waits in the world of a run
+abbrev pub WaitsThere : Stored → ℕ → Type 0
+WaitsThere s h = (w : WorldOf Fuse) × IsRunOf s w × ((still : HartsOf Fuse) × Makes contents failures w.sizes (Step h Passes) w.harts DidWait still)
+
+-- If no step of the run found no room, one list of tree steps explains all calls that were started, from the image's tree: as long as no path climbs, or
+-- where one hart has made all calls.
+abbrev pub HasOneHistory : Stored → Type 0
+HasOneHistory s =
+    (w : WorldOf Fuse) × ((run : IsRunOf s w) × (FoundRoom contents failures run.first run.history.0 → NoneClimbs (trace_in s.events s.outcomes) ⊎ OneHart (trace_in s.events s.outcomes) → IsExplained (tree_in (blocks_of s.image)) (trace_in s.events s.outcomes)))
+
+-- ---- calls and replies
+
+abbrev pub shown_in : Stored → List Shown
+shown_in s = all_shown s.events s.outcomes
+
+abbrev pub replied_by : ℕ → Shown → List Reply
+replied_by h (Started k call) = []
+replied_by h (Replied k reply) = if h == k then reply ∷ [] else []
+replied_by h Other = []
+
+abbrev pub replies_in : ℕ → List Shown → List Reply
+replies_in h [] = []
+replies_in h (s ∷ ss) = replied_by h s ++ replies_in h ss
+
+-- the replies of a hart, in their order
+abbrev pub replies_of : ℕ → Stored → List Reply
+replies_of h s = replies_in h (shown_in s)
+
+abbrev pub counts : Shown → ℕ
+counts (Started h call) = 1
+counts (Replied h reply) = 1
+counts Other = 0
+
+abbrev pub count_in : List Shown → ℕ
+count_in [] = 0
+count_in (s ∷ ss) = counts s + count_in ss
+
+-- the calls that were started, and the replies, together
+abbrev pub count_of : Stored → ℕ
+count_of s = count_in (shown_in s)
+
+-- ---- all that is kept
+
+-- the ledger's total, how many replies each hart has had, and the copies that are laid by
+pub record IsKept (s : Stored) (total : ℕ) (w : WorldOf Fuse) (given : List ℕ) (spares : List (Option Call)) : Type 0 where
+  pub run : IsRunOf s w
+  pub total_is : total ≡ count_of s
+  pub eight : length spares ≡ 8
+  pub given_are : (h : ℕ) → h < 8 → slice_index_or given h 0 ≡ length (replies_of h s)
+  pub spares_fit : (h : ℕ) → SpareFits (get_or spares h None) ((calls_of contents failures w.sizes w.harts).running h)

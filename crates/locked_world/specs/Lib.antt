@@ -1,0 +1,3 @@
+pub mod HandedBack
+pub mod Kept
+pub mod Told

@@ -1,0 +1,11 @@
+//! The world of eight harts as it is kept under a lock, with the list of the events that made it.
+//!
+//! `Locked` changes by one event at a time, and is a run of its stored list at every moment; a `Receipt` is a reply that one of its steps
+//! gave, and a `Closed` is its list once it has ended. It takes no lock itself.
+#![tactic(auto)]
+
+mod handing;
+mod locked;
+
+pub use crate::handing::{filled, is_handed_back, is_same};
+pub use crate::locked::{Begun, Closed, Halt, Locked, NotStarted, Receipt, Share, Told};

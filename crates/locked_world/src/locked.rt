@@ -1,0 +1,546 @@
+// The value under the kernel's lock. It is a run of its stored list, and changes by one event at a time.
+ghost use Rattle.std.specs.Prelude.{◌≡◌, ◌≢◌, ◌<◌, ◌≤◌, ◌+◌, ◌∷◌, [], Some, None, IfOk, IfErr, IfNone, IfSome, MatchOption, All, map, sum_by, length, slice_get, slice_set, get_or};
+ghost use Rattle.block_device.specs.Blocks.{blocks_of};
+ghost use Rattle.image_tree.specs.Damage.{IsWellFormed, JudgesFault};
+ghost use Rattle.hart_core.specs.Runs.{all_shown, shown};
+ghost use Rattle.locked_world.specs.Kept.{opened, count_of, replies_of, replies_in, replied_by, IsRun, HasOneHistory, LeavesDisk};
+ghost use Rattle.locked_world.specs.Told.{Answers, StartAnswers, halt_for};
+
+use crate::handing::{filled, is_same};
+use block_device::{Fused, MemoryDisk};
+use fs_machine::Kind;
+use hart_core::{Came, Event, Outcome, StartRefused, Stop, World};
+use image_tree::MountFault;
+use plain_tree::{Call, Reply};
+use std::alloc::{AllocError, Global};
+use std::marker::{Model, PhantomData};
+use std::mem;
+use std::sync::ledger;
+use std::sync::ledger::{Blank, Book, Ledger};
+
+/// One hart's part of the ledger. It counts the calls of the hart that were started, and its replies.
+#[derive(Drop)]
+pub struct Share<L: Ledger> {
+    hart: u8,
+    tally: ledger::Share<L>,
+    ghost one: { tally.parts ≡ 1 },
+}
+
+/// A reply of the locked world: its hart, and how many replies the hart had before. Only `Locked::step` makes one.
+#[derive(Drop)]
+pub struct Receipt<L: Ledger> {
+    hart: u8,
+    place: u64,
+    reply: Reply,
+    of: PhantomData<L>,
+}
+
+/// A hart's call that was started, with a copy of it. Only `Locked::start` makes one.
+#[derive(Drop)]
+pub struct Begun<L: Ledger> {
+    hart: u8,
+    call: Call,
+    of: PhantomData<L>,
+}
+
+/// Why a call is stopped.
+#[derive(Clone, Copy, PartialEq, Eq, Debug)]
+pub enum Halt {
+    /// The device failed in this step.
+    DeviceFault = 31,
+    /// It had failed before.
+    Halted = 32,
+    /// Memory was refused. Nothing has changed, and the call can go on.
+    NoMemory = 33,
+}
+
+/// What a step of the locked world came to.
+#[derive(Drop)]
+pub enum Told<L: Ledger> {
+    /// The hart has no call.
+    Idle,
+    /// It waits, for another hart or for the log. That isn't stored.
+    Waits,
+    /// One operation of this kind ran, and the call goes on.
+    Ran(Kind),
+    /// The call's last operation ran.
+    Done(Receipt<L>),
+    Stopped(Halt),
+}
+
+/// Why a call was not started.
+#[derive(Clone, Copy, PartialEq, Eq, Debug)]
+pub enum NotStarted {
+    /// The world refuses it.
+    Refused(StartRefused),
+    /// Memory was refused. Nothing has changed.
+    NoMemory,
+}
+
+/// A world with the list of the events that made it, and what they came to. A contract sees the image, the fuse, the events and their
+/// outcomes.
+///
+/// It must be ended.
+pub struct Locked<L: Ledger> {
+    image: Vec<u8>,
+    fuse: u64,
+    events: Vec<Event>,
+    outcomes: Vec<Came>,
+    book: Book<L>,
+    world: World<Fused>,
+    given: [u64; 8],
+    spare: [Option<Call>; 8],
+}
+
+impl<L: Ledger> Model for Locked<L> {
+    ghost use Rattle.locked_world.specs.Kept.{Stored, IsKept};
+
+    ghost Value = { Stored };
+
+    ghost view = { λ s. record { image = s.image.items; fuse = s.fuse; events = s.events.items; outcomes = s.outcomes.items } };
+
+    ghost invariant = { λ s. IsKept (record { image = s.image.items; fuse = s.fuse; events = s.events.items; outcomes = s.outcomes.items }) s.book.total s.world s.given s.spare };
+}
+
+/// The list of a locked world that has ended, and the disk that it left. Only `Locked::end` makes one.
+#[derive(Drop)]
+pub struct Closed<L: Ledger> {
+    image: Vec<u8>,
+    fuse: u64,
+    events: Vec<Event>,
+    outcomes: Vec<Came>,
+    disk: MemoryDisk,
+    of: PhantomData<L>,
+}
+
+impl<L: Ledger> Model for Closed<L> {
+    ghost use Rattle.locked_world.specs.Kept.{Stored, LeavesDisk as HasLeft};
+
+    ghost Value = { Stored };
+
+    ghost view = { λ s. record { image = s.image.items; fuse = s.fuse; events = s.events.items; outcomes = s.outcomes.items } };
+
+    ghost invariant = { λ s. HasLeft (record { image = s.image.items; fuse = s.fuse; events = s.events.items; outcomes = s.outcomes.items }) s.disk };
+}
+
+impl<L: Ledger> Share<L> {
+    pub fn hart(&self) -> u8
+        ensures { result ≡ self.now.hart }
+    {
+        self.hart
+    }
+
+    fn into_tally(self) -> ledger::Share<L>
+        ensures tally { result ≡ self.tally }
+        ensures one { result.parts ≡ 1 }
+    {
+        let Share { hart: _, tally } = self;
+        tally
+    }
+}
+
+impl<L: Ledger> Begun<L> {
+    pub fn hart(&self) -> u8
+        ensures { result ≡ self.now.hart }
+    {
+        self.hart
+    }
+
+    pub fn call(&self) -> &Call
+        ensures { result.now ≡ self.now.call }
+    {
+        &self.call
+    }
+
+    pub fn into_call(self) -> Call
+        ensures { result ≡ self.call }
+    {
+        self.call
+    }
+}
+
+impl<L: Ledger> Receipt<L> {
+    pub fn hart(&self) -> u8
+        ensures { result ≡ self.now.hart }
+    {
+        self.hart
+    }
+
+    pub fn place(&self) -> u64
+        ensures { result ≡ self.now.place }
+    {
+        self.place
+    }
+
+    pub fn reply(&self) -> &Reply
+        ensures { result.now ≡ self.now.reply }
+    {
+        &self.reply
+    }
+
+    pub fn into_reply(self) -> Reply
+        ensures { result ≡ self.reply }
+    {
+        self.reply
+    }
+}
+
+impl<L: Ledger> Locked<L> {
+    /// A world mounted on a disk of this image that passes so many calls and then fails, with no events; and a share for each hart. It
+    /// answers the image's first damage, a failure of the device, or want of memory.
+    pub fn new(
+        alloc: Global,
+        blank: Blank,
+        image: Vec<u8>,
+        fuse: u64,
+    ) -> Result<(Locked<L>, [Share<L>; 8]), MountFault>
+        requires name { blank.name ≡ L.name }
+        requires parts { blank.parts ≡ L.parts }
+        requires eight { blank.parts ≡ 8 }
+        ensures locked { IfOk result (λ r. r.0 ≡ opened image.items fuse) }
+        ensures well { IfOk result (λ _. IsWellFormed (blocks_of image.items)) }
+        ensures harts { IfOk result (λ r. map (λ s. s.hart) r.1 ≡ 0 ∷ 1 ∷ 2 ∷ 3 ∷ 4 ∷ 5 ∷ 6 ∷ 7 ∷ []) }
+        ensures nothing { IfOk result (λ r. All (λ s. s.tally.amount ≡ 0) r.1) }
+        ensures fault { IfErr result (λ fault. JudgesFault (blocks_of image.items) fault) }
+    {
+        let Ok(bytes) = copy_of(&image) else {
+            return Err(MountFault::NoMemory);
+        };
+        let world = match World::mount(alloc, Fused::new(MemoryDisk::new(bytes), fuse)) {
+            Ok(world) => world,
+            Err(refused) => return Err(refused.1),
+        };
+        let (book, mut rest) = blank.open::<L>();
+        let shares = [
+            cut(&mut rest, 0),
+            cut(&mut rest, 1),
+            cut(&mut rest, 2),
+            cut(&mut rest, 3),
+            cut(&mut rest, 4),
+            cut(&mut rest, 5),
+            cut(&mut rest, 6),
+            cut(&mut rest, 7),
+        ];
+        let locked = Locked {
+            image,
+            fuse,
+            events: Vec::new(alloc),
+            outcomes: Vec::new(alloc),
+            book,
+            world,
+            given: [0; 8],
+            spare: [None, None, None, None, None, None, None, None],
+        };
+        Ok((locked, shares))
+    }
+
+    /// One event: the start of a hart's call. Where it was not started the call comes back, and the share stays; for want of memory
+    /// nothing changes. It makes the copies of the call that its reply will want.
+    pub fn start(
+        &mut self,
+        share: &mut Share<L>,
+        hart: u8,
+        call: Call,
+    ) -> Result<Begun<L>, (Call, NotStarted)>
+        ensures answer { StartAnswers self.old hart call result self.new share.old.tally.amount share.new.tally.amount }
+        ensures hart { share.new.hart ≡ share.old.hart }
+    {
+        let Ok(copies) = copies_of(&call) else {
+            return Err((call, NotStarted::NoMemory));
+        };
+        if self.events.reserve(1).is_err() || self.outcomes.reserve(1).is_err() {
+            return Err((call, NotStarted::NoMemory));
+        }
+        match self.world.start(hart, call) {
+            Ok(()) => {
+                let Copies { event, spare, kept } = copies;
+                lay_by(&mut self.spare, hart as usize, spare);
+                self.events
+                    .push_reserved(Event::Start { hart, call: event });
+                self.outcomes.push_reserved(Came::Started);
+                self.book.add(&mut share.tally, 1);
+                Ok(Begun {
+                    hart,
+                    call: kept,
+                    of: PhantomData,
+                })
+            }
+            Err((call, why)) => {
+                let event = one_of(copies);
+                self.events
+                    .push_reserved(Event::Start { hart, call: event });
+                self.outcomes.push_reserved(Came::Refused(why));
+                Err((call, NotStarted::Refused(why)))
+            }
+        }
+    }
+
+    /// One event: a step of a hart. A try that waits is not stored; for want of memory, which is asked for first, nothing changes.
+    pub fn step(&mut self, share: &mut Share<L>, hart: u8) -> Told<L>
+        ensures answer { Answers self.old hart result self.new share.old.tally.amount share.new.tally.amount }
+        ensures hart { share.new.hart ≡ share.old.hart }
+    {
+        if self.events.reserve(1).is_err() || self.outcomes.reserve(1).is_err() {
+            return Told::Stopped(Halt::NoMemory);
+        }
+        match self.world.step(hart) {
+            Outcome::Idle => {
+                self.events.push_reserved(Event::Step { hart });
+                self.outcomes.push_reserved(Came::Stepped(Outcome::Idle));
+                Told::Idle
+            }
+            Outcome::Waits => Told::Waits,
+            Outcome::Ran(kind) => {
+                self.events.push_reserved(Event::Step { hart });
+                self.outcomes
+                    .push_reserved(Came::Stepped(Outcome::Ran(kind)));
+                Told::Ran(kind)
+            }
+            Outcome::Done(reply) => {
+                let at = hart as usize;
+                let Some(spare) = take_spare(&mut self.spare, at) else {
+                    unreachable!()
+                };
+                let copy = Reply {
+                    answer: reply.answer,
+                    call: filled(spare, &reply.call),
+                };
+                let place = self.given[at];
+                self.given[at] = place + 1;
+                self.events.push_reserved(Event::Step { hart });
+                self.outcomes
+                    .push_reserved(Came::Stepped(Outcome::Done(copy)));
+                self.book.add(&mut share.tally, 1);
+                Told::Done(Receipt {
+                    hart,
+                    place,
+                    reply,
+                    of: PhantomData,
+                })
+            }
+            Outcome::Stopped(stop) => {
+                self.events.push_reserved(Event::Step { hart });
+                self.outcomes
+                    .push_reserved(Came::Stepped(Outcome::Stopped(stop)));
+                Told::Stopped(halt_of(stop))
+            }
+        }
+    }
+
+    /// A law, for a reader; nothing is done. What is stored is a run: a world was mounted on the image, on a disk that passes so many
+    /// calls, and the events came to their outcomes, one after the other.
+    pub fn is_run(&self)
+        ensures { IsRun self.now }
+    {
+        let _ = &self.world;
+    }
+
+    /// Ends the world at any moment, without a call of the device. As many calls were started and answered, together, as the shares
+    /// count.
+    pub fn end(self, shares: [Share<L>; 8]) -> Closed<L>
+        requires { L.parts ≡ 8 }
+        ensures same { result ≡ self }
+        ensures counted { count_of result ≡ sum_by (λ s. s.tally.amount) shares }
+    {
+        let Locked {
+            image,
+            fuse,
+            events,
+            outcomes,
+            mut book,
+            world,
+            given: _,
+            spare: _,
+        } = self;
+        let mut all = merged(shares);
+        book.audit(&mut all);
+        Closed {
+            image,
+            fuse,
+            events,
+            outcomes,
+            disk: world.unmount().into_disk(),
+            of: PhantomData,
+        }
+    }
+}
+
+// A copy of an image.
+fn copy_of(image: &Vec<u8>) -> Result<Vec<u8>, AllocError>
+    ensures { IfOk result (λ copy. copy.items ≡ image.now.items) }
+{
+    image.clone()
+}
+
+// The world's stop.
+fn halt_of(stop: Stop) -> Halt
+    ensures { result ≡ halt_for stop }
+{
+    match stop {
+        Stop::DeviceFault => Halt::DeviceFault,
+        Stop::Halted => Halt::Halted,
+    }
+}
+
+// A share for this hart.
+fn cut<L: Ledger>(rest: &mut ledger::Share<L>, hart: u8) -> Share<L>
+    requires part { 1 ≤ rest.old.parts }
+    requires none { rest.old.amount ≡ 0 }
+    ensures part { (result.hart ≡ hart) × (result.tally.amount ≡ 0) }
+    ensures rest { (rest.new.parts + 1 ≡ rest.old.parts) × (rest.new.amount ≡ 0) }
+{
+    let tally = rest.split_off(1, 0);
+    Share { hart, tally }
+}
+
+// One share with the parts and the amounts of all.
+fn merged<L: Ledger>(shares: [Share<L>; 8]) -> ledger::Share<L>
+    ensures parts { result.parts ≡ 8 }
+    ensures amount { result.amount ≡ sum_by (λ s. s.tally.amount) shares }
+{
+    let [a, b, c, d, e, f, g, h] = shares;
+    let mut all = a.into_tally();
+    all.merge(b.into_tally());
+    all.merge(c.into_tally());
+    all.merge(d.into_tally());
+    all.merge(e.into_tally());
+    all.merge(f.into_tally());
+    all.merge(g.into_tally());
+    all.merge(h.into_tally());
+    all
+}
+
+// The first place at which these are not the hart's replies in the list of events and outcomes.
+fn difference(events: &[Event], outcomes: &[Came], hart: u8, replies: &[Reply]) -> Option<u64>
+    requires { length events.now ≡ length outcomes.now }
+    ensures none { IfNone result (replies.now ≡ replies_in hart (all_shown events.now outcomes.now)) }
+    ensures some { IfSome result (λ k. slice_get replies.now k ≢ slice_get (replies_in hart (all_shown events.now outcomes.now)) k) }
+{
+    let mut seen = 0;
+    for i in 0..events.len() {
+        if let Some(reply) = reply_at(hart, &events[i], &outcomes[i]) {
+            if seen >= replies.len() || !is_same(&replies[seen], reply) {
+                return Some(seen as u64);
+            }
+            seen += 1;
+        }
+    }
+    if seen < replies.len() {
+        return Some(seen as u64);
+    }
+    None
+}
+
+// The reply that this event gave to this hart.
+fn reply_at<'a>(hart: u8, event: &Event, outcome: &'a Came) -> Option<&'a Reply>
+    ensures { MatchOption result (replied_by hart (shown event.now outcome.now) ≡ []) (λ r. replied_by hart (shown event.now outcome.now) ≡ r.now ∷ []) }
+{
+    let Event::Step { hart: at } = event else {
+        return None;
+    };
+    let Came::Stepped(Outcome::Done(reply)) = outcome else {
+        return None;
+    };
+    if *at == hart { Some(reply) } else { None }
+}
+
+// Copies of a call: for its event, for its reply, and for its caller.
+#[derive(Drop)]
+struct Copies {
+    event: Call,
+    spare: Call,
+    kept: Call,
+}
+
+fn copied(call: &Call) -> Result<Call, AllocError>
+    ensures { IfOk result (λ c. c ≡ call.now) }
+{
+    call.clone()
+}
+
+fn copies_of(call: &Call) -> Result<Copies, AllocError>
+    ensures { IfOk result (λ c. (c.event ≡ call.now) × (c.spare ≡ call.now) × (c.kept ≡ call.now)) }
+{
+    let event = copied(call)?;
+    let spare = copied(call)?;
+    let kept = copied(call)?;
+    Ok(Copies { event, spare, kept })
+}
+
+fn one_of(copies: Copies) -> Call
+    ensures { result ≡ copies.event }
+{
+    copies.event
+}
+
+// Lays a copy by at this place.
+fn lay_by(spare: &mut [Option<Call>; 8], at: usize, call: Call)
+    requires { at < 8 }
+    ensures { spare.new ≡ slice_set spare.old at (Some call) }
+{
+    spare[at] = Some(call);
+}
+
+// The copy that is laid by at this place, which then has none.
+fn take_spare(spare: &mut [Option<Call>; 8], at: usize) -> Option<Call>
+    requires { at < 8 }
+    ensures taken { result ≡ get_or spare.old at None }
+    ensures left { spare.new ≡ slice_set spare.old at None }
+{
+    mem::replace(&mut spare[at], None)
+}
+
+impl<L: Ledger> Closed<L> {
+    pub fn image(&self) -> &[u8]
+        ensures { result.now ≡ self.now.image }
+    {
+        self.image.as_slice()
+    }
+
+    pub fn fuse(&self) -> u64
+        ensures { result ≡ self.now.fuse }
+    {
+        self.fuse
+    }
+
+    pub fn events(&self) -> &[Event]
+        ensures { result.now ≡ self.now.events }
+    {
+        self.events.as_slice()
+    }
+
+    /// What each event came to, in their order.
+    pub fn outcomes(&self) -> &[Came]
+        ensures { result.now ≡ self.now.outcomes }
+    {
+        self.outcomes.as_slice()
+    }
+
+    /// The first place, from 0, at which these are not the hart's replies in the list. A missing one differs.
+    pub fn difference(&self, hart: u8, replies: &[Reply]) -> Option<u64>
+        ensures none { IfNone result (replies.now ≡ replies_of hart self.now) }
+        ensures some { IfSome result (λ k. slice_get replies.now k ≢ slice_get (replies_of hart self.now) k) }
+    {
+        difference(
+            self.events.as_slice(),
+            self.outcomes.as_slice(),
+            hart,
+            replies,
+        )
+    }
+
+    /// A law, for a reader; nothing is done. If no step of the run found no room, one list of tree steps explains all calls that were
+    /// started, from the image's tree: as long as no path has the element "..", or where one hart has made all calls.
+    pub fn one_list_explains_it(&self)
+        ensures { HasOneHistory self.now }
+    {
+        let _ = &self.disk;
+    }
+
+    /// The disk as the events have left it.
+    pub fn into_disk(self) -> MemoryDisk
+        ensures { LeavesDisk self result }
+    {
+        self.disk
+    }
+}
