@@ -1,3 +1,4 @@
+pub mod Entries
 pub mod Modes
 pub mod Options
 pub mod Tails

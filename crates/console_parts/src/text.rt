@@ -81,8 +81,8 @@ fn write_given<W: Write>(out: &mut W, call: &Call, count: u32) -> io::Result<()>
     }
 }
 
-// A space and the bytes, where there are any.
-fn write_bytes<W: Write>(out: &mut W, bytes: &[u8]) -> io::Result<()>
+/// A space and the bytes, where there are any.
+pub(crate) fn write_bytes<W: Write>(out: &mut W, bytes: &[u8]) -> io::Result<()>
     ensures { OnOk result (Appends (W.contents out.old) (W.contents out.new) (bytes_text bytes.now)) }
 {
     if bytes.is_empty() {
@@ -92,8 +92,8 @@ fn write_bytes<W: Write>(out: &mut W, bytes: &[u8]) -> io::Result<()>
     write_hex(out, bytes)
 }
 
-// Each byte as two digits.
-fn write_hex<W: Write>(out: &mut W, bytes: &[u8]) -> io::Result<()>
+/// Each byte as two digits.
+pub(crate) fn write_hex<W: Write>(out: &mut W, bytes: &[u8]) -> io::Result<()>
     ensures { OnOk result (Appends (W.contents out.old) (W.contents out.new) (hex bytes.now)) }
 {
     for byte in bytes {

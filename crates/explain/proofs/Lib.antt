@@ -1,0 +1,2 @@
+pub mod Mounting
+pub mod Running

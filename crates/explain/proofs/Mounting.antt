@@ -1,0 +1,21 @@
+-- A world that is mounted on a copy of an image, or isn't.
+use Rattle.std.proofs.Common.{◌≡◌, ℕ, List, subst}
+use Rattle.block_device.specs.Blocks.{blocks_of}
+use Rattle.fs_layout.specs.Recovered.{sizes_of}
+use Rattle.image_tree.specs.declared.fault.MountFault.{MountFault}
+use Rattle.image_tree.specs.declared.fault.MountFault.TheVariants.{Damaged, DeviceFault, NoMemory}
+use Rattle.image_tree.specs.Damage.{IsWellFormed, JudgesFault}
+use Rattle.hart_core.specs.Mounting.{Rests}
+use Rattle.hart_core.specs.Worlds.{WorldOf}
+use Rattle.explain.specs.Explained.{IsRefusedMount, StartsOn, never, refused_by}
+
+pub starts_on : (image disk : List ℕ) (w : WorldOf (List ℕ)) → disk ≡ image → IsWellFormed (blocks_of disk) → Rests blocks_of never disk w.harts → w.sizes ≡ sizes_of (blocks_of disk) → StartsOn image w
+starts_on image disk w same well rests sizes = subst (λ (d : List ℕ). StartsOn d w) same (record { well = well; mounted = record { rests = rests; sizes = sizes } })
+
+judged : (image : List ℕ) (fault : MountFault) → JudgesFault (blocks_of image) fault → IsRefusedMount image (refused_by fault)
+judged image (Damaged d) judges = judges
+judged image DeviceFault judges = tt
+judged image NoMemory judges = tt
+
+pub refused_mount : (image disk : List ℕ) (fault : MountFault) → disk ≡ image → JudgesFault (blocks_of disk) fault → IsRefusedMount image (refused_by fault)
+refused_mount image disk fault same judges = judged image fault (subst (λ (d : List ℕ). JudgesFault (blocks_of d) fault) same judges)

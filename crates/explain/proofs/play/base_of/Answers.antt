@@ -1,0 +1,8 @@
+use Rattle.std.proofs.Common.{sym, subst}
+use Rattle.explain.specs.declared.refused.ExplainRefused.{ExplainRefused}
+use Rattle.explain.specs.Explained.{IsRefusedMount}
+use Rattle.explain.proofs.Mounting.{refused_mount}
+use Rattle.explain.proofs.play.base_of.Goals as goal
+
+pub returns-in-Err : goal.returns-in-Err
+returns-in-Err c = subst (λ (e : ExplainRefused). IsRefusedMount c.args.image.now e) (sym c.refusal.ensures) (refused_mount c.args.image.now c.in-Ok.disk c.in-Err.fault c.in-Ok.ensures c.in-Err.ensures.judges)

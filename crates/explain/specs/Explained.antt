@@ -1,0 +1,76 @@
+-- What a run of events on an image is explained by, and why it isn't.
+use Rattle.std.specs.Prelude.{◌≡◌, ◌⊎◌, ℕ, true, List}
+use Rattle.block_device.specs.Blocks.{blocks_of}
+use Rattle.plain_tree.specs.declared.call.Call.{Call}
+use Rattle.plain_tree.specs.declared.trace.Placed.{Placed}
+use Rattle.plain_tree.specs.Explains.{Explains}
+use Rattle.image_tree.specs.declared.fault.MountFault.{MountFault}
+use Rattle.image_tree.specs.declared.fault.MountFault.TheVariants as faults
+use Rattle.image_tree.specs.Damage.{IsFirstDamage, IsWellFormed}
+use Rattle.image_tree.specs.Trees.{tree_in}
+use Rattle.atomic_programs.specs.Calls.{Event as EventOf}
+use Rattle.fs_machine.specs.LogPart.{Outside}
+use Rattle.hart_core.specs.declared.events.Came.{Came}
+use Rattle.hart_core.specs.declared.events.Event.{Event}
+use Rattle.hart_core.specs.Harts.{HartsOf}
+use Rattle.hart_core.specs.Runs.{FoundRoom, HasHistory, IsHistory, IsMounted, trace_in}
+use Rattle.hart_core.specs.Worlds.{WorldOf}
+use Rattle.explain_parts.specs.Told.{any_climbs, any_full}
+use Rattle.explain.specs.declared.refused.ExplainRefused.{ExplainRefused}
+use Rattle.explain.specs.declared.refused.ExplainRefused.TheVariants as refused
+
+-- a memory never fails
+abbrev pub never : List ℕ → ℕ
+never d = 0
+
+-- the world is as a mount of a disk in memory with these bytes leaves it
+pub record StartsOn (image : List ℕ) (w : WorldOf (List ℕ)) : Type 0 where
+  pub well : IsWellFormed (blocks_of image)
+  pub mounted : IsMounted blocks_of never image w
+
+-- A run of these events on a disk in memory with these bytes: the world as a mount leaves it, what the events come to, the harts that they leave.
+pub record RunOn (image : List ℕ) (events : List Event) : Type 0 where
+  pub world : WorldOf (List ℕ)
+  pub outcomes : List Came
+  pub new : HartsOf (List ℕ)
+  pub starts : StartsOn image world
+  pub history : HasHistory blocks_of never world.sizes world.harts events outcomes new
+
+-- The list explains what such a run shows of calls, from the image's tree.
+pub record ExplainsRun (image : List ℕ) (events : List Event) (list : List Placed) : Type 0 where
+  pub run : RunOn image events
+  pub explains : Explains (tree_in (blocks_of image)) (trace_in events run.outcomes) list
+
+-- in each history of the run some step found no room
+abbrev pub NeverFoundRoom : (image : List ℕ) (events : List Event) → RunOn image events → Type 0
+NeverFoundRoom image events r =
+    (history : List (EventOf Call Outside)) → IsHistory blocks_of never r.world.sizes r.world.harts events r.outcomes r.new history → FoundRoom blocks_of never r.world history → ⊥
+
+-- A step of such a run found no room: a reply says so, or it is one of a call that hasn't replied.
+pub record FindsNoRoom (image : List ℕ) (events : List Event) : Type 0 where
+  pub run : RunOn image events
+  pub full : (any_full (trace_in events run.outcomes).calls ≡ true) ⊎ NeverFoundRoom image events run
+
+-- The path of a call that such a run started has the element "..".
+pub record HasClimbed (image : List ℕ) (events : List Event) : Type 0 where
+  pub run : RunOn image events
+  pub climbs : any_climbs (trace_in events run.outcomes).calls ≡ true
+
+-- no world was mounted: the image's first damage, or want of memory
+abbrev pub IsRefusedMount : List ℕ → ExplainRefused → Type 0
+IsRefusedMount image refused.NoMemory = Unit {0}
+IsRefusedMount image (refused.Damaged d) = IsFirstDamage (blocks_of image) d
+IsRefusedMount image refused.FullSeen = ⊥
+IsRefusedMount image refused.Climbs = ⊥
+
+abbrev pub IsRefusedSo : List ℕ → List Event → ExplainRefused → Type 0
+IsRefusedSo image events refused.NoMemory = Unit {0}
+IsRefusedSo image events (refused.Damaged d) = IsFirstDamage (blocks_of image) d
+IsRefusedSo image events refused.FullSeen = FindsNoRoom image events
+IsRefusedSo image events refused.Climbs = HasClimbed image events
+
+-- how the refusal of a mount in memory is told
+abbrev pub refused_by : MountFault → ExplainRefused
+refused_by (faults.Damaged d) = refused.Damaged d
+refused_by faults.DeviceFault = refused.NoMemory
+refused_by faults.NoMemory = refused.NoMemory

@@ -1,0 +1,25 @@
+-- What the parts of an explanation answer.
+use Rattle.std.specs.Prelude.{◌≡◌, List, ℕ, IfOk, MatchOption, Option, Result, Vec}
+use Rattle.std.specs.declared.alloc.Global.{Global}
+use Rattle.block_device.specs.Blocks.{blocks_of}
+use Rattle.plain_tree.specs.declared.refused.NoMemory.{NoMemory}
+use Rattle.plain_tree.specs.declared.trace.Placed.{Placed}
+use Rattle.plain_tree.specs.declared.trace.Trace.{Trace}
+use Rattle.plain_tree.specs.Explains.{Explains}
+use Rattle.plain_tree.specs.TreeData.{TreeData}
+use Rattle.image_tree.specs.Trees.{tree_in}
+use Rattle.hart_core.specs.declared.events.Event.{Event}
+use Rattle.hart_core.specs.Runs.{OneHistory}
+use Rattle.explain.specs.declared.play.Played.{Played}
+use Rattle.explain.specs.Explained.{RunOn, never}
+
+-- A run of the events on the image came to these outcomes, and the base is the image's tree.
+pub record IsPlayed (image : List ℕ) (events : List Event) (p : Played) : Type 0 where
+  pub run : RunOn image events
+  pub outcomes : p.outcomes.items ≡ run.outcomes
+  pub base : p.base ≡ tree_in (blocks_of image)
+  pub one : OneHistory blocks_of never run.world events run.outcomes run.new
+
+-- a list that explains the trace, or none only where there is none
+abbrev pub IsFound : TreeData → Trace → Result (Option (Vec Placed Global)) NoMemory → Type 0
+IsFound base t found = IfOk found (λ o. MatchOption o ((list : List Placed) → Explains base t list → ⊥) (λ v. Explains base t v.items))

@@ -1,0 +1,10 @@
+//! The history of a run handed out: a list of tree steps that explains what a list of events showed of calls.
+#![tactic(auto)]
+
+mod history;
+mod play;
+mod ran;
+mod refused;
+
+pub use crate::history::explain;
+pub use crate::refused::ExplainRefused;

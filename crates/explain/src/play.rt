@@ -1,0 +1,92 @@
+// A run in memory.
+ghost use Rattle.std.specs.Prelude.{◌≡◌, IfOk, MatchResult};
+ghost use Rattle.block_device.specs.Blocks.{blocks_of};
+ghost use Rattle.image_tree.specs.Damage.{fault_count_of};
+ghost use Rattle.image_tree.specs.Trees.{tree_in};
+ghost use Rattle.explain.specs.Explained.{IsRefusedMount, StartsOn, refused_by};
+ghost use Rattle.explain.specs.Played.{IsPlayed};
+
+use crate::refused::ExplainRefused;
+use block_device::MemoryDisk;
+use hart_core::{Came, Event, Run, World, run};
+use image_tree::{MountFault, tree_of};
+use plain_tree::Tree;
+use std::alloc::{AllocError, Global};
+
+/// The tree of an image, and what events came to on it.
+#[derive(Drop)]
+pub(crate) struct Played {
+    pub(crate) base: Tree,
+    pub(crate) outcomes: Vec<Came>,
+}
+
+// A disk in memory with these bytes.
+fn disk(alloc: Global, image: &[u8]) -> Result<MemoryDisk, AllocError>
+    ensures { IfOk result (λ d. d ≡ image.now) }
+{
+    Ok(MemoryDisk::new(Vec::from_slice(alloc, image)?))
+}
+
+// How it is told that an image wasn't taken. A disk in memory never fails.
+fn refusal(fault: MountFault) -> ExplainRefused
+    requires { 0 ≡ fault_count_of fault 0 }
+    ensures { result ≡ refused_by fault }
+{
+    match fault {
+        MountFault::Damaged(damage) => ExplainRefused::Damaged(damage),
+        MountFault::DeviceFault => unreachable!(),
+        MountFault::NoMemory => ExplainRefused::NoMemory,
+    }
+}
+
+// The image's tree.
+fn base_of(alloc: Global, image: &[u8]) -> Result<Tree, ExplainRefused>
+    ensures { MatchResult result (λ t. t ≡ tree_in (blocks_of image.now)) (λ e. IsRefusedMount image.now e) }
+{
+    let Ok(disk) = disk(alloc, image) else {
+        return Err(ExplainRefused::NoMemory);
+    };
+    let mut disk = disk;
+    let base = match tree_of(alloc, &mut disk) {
+        Ok(base) => base,
+        Err(fault) => return Err(refusal(fault)),
+    };
+    Ok(base)
+}
+
+// A world mounted on a copy of the image.
+fn mounted(alloc: Global, image: &[u8]) -> Result<World<MemoryDisk>, ExplainRefused>
+    ensures { MatchResult result (λ w. StartsOn image.now w) (λ e. IsRefusedMount image.now e) }
+{
+    let Ok(disk) = disk(alloc, image) else {
+        return Err(ExplainRefused::NoMemory);
+    };
+    match World::mount(alloc, disk) {
+        Ok(world) => Ok(world),
+        Err((_disk, fault)) => Err(refusal(fault)),
+    }
+}
+
+/// Mounts a copy of the image in memory and runs these events.
+pub(crate) fn play(alloc: Global, image: &[u8], events: &[Event]) -> Result<Played, ExplainRefused>
+    ensures { MatchResult result (λ p. IsPlayed image.now events.now p) (λ e. IsRefusedMount image.now e) }
+{
+    let base = base_of(alloc, image)?;
+    let world = mounted(alloc, image)?;
+    match run(alloc, world, events) {
+        Ok(run) => {
+            let Run {
+                world,
+                outcomes,
+                cut: _,
+                doubt: _,
+            } = run;
+            let _disk = world.unmount();
+            Ok(Played { base, outcomes })
+        }
+        Err((world, _)) => {
+            let _disk = world.unmount();
+            Err(ExplainRefused::NoMemory)
+        }
+    }
+}
