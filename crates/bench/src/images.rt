@@ -17,8 +17,8 @@ const LARGEST_INODES: u32 = 1200;
 
 const BLOCK: usize = 1024;
 
-// So many files of so many bytes.
-fn files(alloc: Global, count: u32, size: usize) -> Result<Vec<NewFile>, AllocError> {
+/// Files `f0`, `f1` .. of so many bytes.
+pub fn files(alloc: Global, count: u32, size: usize) -> Result<Vec<NewFile>, AllocError> {
     let mut files = Vec::new(alloc);
     for number in 0..count {
         let name = format!(in alloc; "f{number}")?;
@@ -28,7 +28,8 @@ fn files(alloc: Global, count: u32, size: usize) -> Result<Vec<NewFile>, AllocEr
     Ok(files)
 }
 
-fn image(
+/// An image of so many blocks and inodes with these files.
+pub fn image(
     alloc: Global,
     size: u32,
     inodes: u32,

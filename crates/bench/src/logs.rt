@@ -17,6 +17,11 @@ use std::alloc::Global;
 
 const COMMITS: u32 = 100_000;
 
+const RECORDS: u32 = 300_000;
+
+// Of three blocks each time.
+const RECORDED: u32 = 900_000;
+
 const HART: u8 = 1;
 
 const DISK_BLOCKS: u32 = 2000;
@@ -34,10 +39,25 @@ pub fn commit_three_blocks(alloc: Global) -> Result<u64, WorkloadError> {
     let disk = make(alloc, DISK_BLOCKS, INODES, &[]).map_err(|_| WorkloadError::Wrong)?;
     let (sizes, disk) = recovered(disk)?;
     let log = Log::new(Cache::new(Buffers::new(alloc)?, disk), sizes);
-    let mut disk = commit_often(log)?;
+    ended(commit_often(log)?, COMMITS)
+}
+
+/// Three cached blocks got, changed and recorded in one transaction, over and over: one operation is that of one block.
+pub fn record_cached(alloc: Global) -> Result<u64, WorkloadError> {
+    let disk = make(alloc, DISK_BLOCKS, INODES, &[]).map_err(|_| WorkloadError::Wrong)?;
+    let (sizes, disk) = recovered(disk)?;
+    let log = Log::new(Cache::new(Buffers::new(alloc)?, disk), sizes);
+    let log = transact(log, byte_of(COMMITS - 1), RECORDS)?;
+    let (_ended, _slots, disk) = log.retire();
+    ended(disk, RECORDED)
+}
+
+// So many operations, where the disk then has what the last transaction wrote.
+fn ended(disk: MemoryDisk, operations: u32) -> Result<u64, WorkloadError> {
+    let mut disk = disk;
     recover(&mut disk).map_err(|_| WorkloadError::Wrong)?;
     if has_last_bytes(disk) {
-        Ok(u64::from(COMMITS))
+        Ok(u64::from(operations))
     } else {
         Err(WorkloadError::Wrong)
     }
@@ -59,7 +79,7 @@ fn recovered(disk: MemoryDisk) -> Result<(Super, MemoryDisk), WorkloadError>
 fn commit_often(log: Log<MemoryDisk>) -> Result<MemoryDisk, WorkloadError> {
     let mut log = log;
     for number in 0..COMMITS {
-        log = transact(log, byte_of(number))?;
+        log = transact(log, byte_of(number), 1)?;
     }
     let (_ended, _slots, disk) = log.retire();
     Ok(disk)
@@ -70,8 +90,8 @@ fn byte_of(number: u32) -> u8 {
     (number % 251) as u8
 }
 
-// One transaction with its commit. After an error the log has ended.
-fn transact(log: Log<MemoryDisk>, byte: u8) -> Result<Log<MemoryDisk>, WorkloadError> {
+// One transaction, which changes each block so many times, with its commit. After an error the log has ended.
+fn transact(log: Log<MemoryDisk>, byte: u8, times: u32) -> Result<Log<MemoryDisk>, WorkloadError> {
     let mut log = log;
     let joined = if log.is_idle(HART) {
         log.join(HART)
@@ -82,10 +102,7 @@ fn transact(log: Log<MemoryDisk>, byte: u8) -> Result<Log<MemoryDisk>, WorkloadE
         let _ = log.retire();
         return Err(WorkloadError::Wrong);
     };
-    let mut changed = true;
-    for b in CHANGED {
-        changed &= change(&mut log, &mut txn, b, byte);
-    }
+    let changed = change_all(&mut log, &mut txn, byte, times);
     if !changed || !log.is_member(&txn) || log.phase() == Phase::Halted {
         let (ended, _slots, _disk) = log.retire();
         txn.retire(&ended);
@@ -96,6 +113,17 @@ fn transact(log: Log<MemoryDisk>, byte: u8) -> Result<Log<MemoryDisk>, WorkloadE
     }
     let _ = log.retire();
     Err(WorkloadError::Wrong)
+}
+
+// Changes each block so many times. It says whether it could.
+fn change_all<D: Device>(log: &mut Log<D>, txn: &mut Txn, byte: u8, times: u32) -> bool {
+    let mut changed = true;
+    for _ in 0..times {
+        for b in CHANGED {
+            changed &= change(log, txn, b, byte);
+        }
+    }
+    changed
 }
 
 // Writes a byte at the start of a block, and records it. It says whether it could.

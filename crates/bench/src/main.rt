@@ -1,5 +1,5 @@
 //! Measures the crates: each workload is run, and its name, its number of operations and the nanoseconds of one are
-//! printed. With the word `--list` the names alone are printed.
+//! printed. With the word `--list` the names alone are printed; with names these are run alone.
 #![tactic(auto)]
 
 mod buffers;
@@ -8,42 +8,35 @@ mod devices;
 mod images;
 mod locks;
 mod logs;
+mod plans;
 mod records;
 mod tables;
 mod trees;
 mod workload;
+mod worlds;
 
 use crate::workload::ALL;
+use std::env;
 use std::time::Instant;
-use std::{env, io};
 
 fn main(rt: HostRuntime) -> anyhow::Result<()> {
-    if wants_list(&rt)? {
-        for workload in ALL {
-            println!(rt; "{}", workload.name())?;
+    let words: Vec<String> = env::args(&rt)?.collect(rt.alloc())?;
+    let words = words.as_slice();
+    let list = has(words, "--list");
+    for (name, workload) in ALL {
+        if list {
+            println!(rt; "{name}")?;
+        } else if words.len() <= 1 || has(words, name) {
+            let start = Instant::now(&rt)?;
+            let operations = workload.run(rt.alloc())?;
+            let tenths = start.elapsed(&rt)?.as_nanos().saturating_mul(10);
+            let tenths = tenths.checked_div(u128::from(operations)).unwrap_or(0);
+            println!(rt; "{name} {operations} {}.{}", tenths / 10, tenths % 10)?;
         }
-        return Ok(());
-    }
-    for workload in ALL {
-        let start = Instant::now(&rt)?;
-        let operations = workload.run(rt.alloc())?;
-        let tenths = start.elapsed(&rt)?.as_nanos().saturating_mul(10);
-        let tenths = tenths.checked_div(u128::from(operations)).unwrap_or(0);
-        println!(rt;
-            "{} {operations} {}.{}",
-            workload.name(),
-            tenths / 10,
-            tenths % 10
-        )?;
     }
     Ok(())
 }
 
-fn wants_list(rt: &HostRuntime) -> io::Result<bool> {
-    for word in env::args(rt)? {
-        if word.as_str() == "--list" {
-            return Ok(true);
-        }
-    }
-    Ok(false)
+fn has(words: &[String], name: &str) -> bool {
+    words.iter().any(|word| word.as_str() == name)
 }

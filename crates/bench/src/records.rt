@@ -1,5 +1,6 @@
 //! Records of one block, at places that a row of pseudorandom numbers gives.
 use crate::workload::WorkloadError;
+use bitmap_alloc::{clear, first_clear, set};
 use fs_layout::widths::{BITS_PER_BLOCK, BLOCK_LEN, DIRENTS_PER_BLOCK, INODES_PER_BLOCK};
 use fs_layout::{
     Dinode, Dirent, Name, bit, read_dinode, read_dirent, set_bit, write_dinode, write_dirent,
@@ -7,12 +8,18 @@ use fs_layout::{
 
 const OPERATIONS: u32 = 4_000_000;
 
+const SEARCHES: u32 = 400_000;
+
+// The last block of a disk of 8191.
+const LAST_BLOCK: usize = 8190;
+
 // The number after `state` in a row of pseudorandom ones: its upper bits vary well.
 fn next(state: u32) -> u32 {
     state.wrapping_mul(1_664_525).wrapping_add(1_013_904_223)
 }
 
-fn inode_of_size(size: u32) -> Dinode {
+/// A file's inode.
+pub fn inode_of_size(size: u32) -> Dinode {
     Dinode {
         kind: 2,
         major: 0,
@@ -123,4 +130,22 @@ pub fn test_bits() -> Result<u64, WorkloadError> {
         state = next(state ^ u32::from(is_set));
     }
     checked(sum == u64::from(OPERATIONS))
+}
+
+/// The last block of 8191 taken, while all others are: the search of the bitmap, and its bit set. One operation is that, and the bit cleared again.
+pub fn take_last_block() -> Result<u64, WorkloadError> {
+    let mut block = [0xff; BLOCK_LEN];
+    let mut right = 0u32;
+    for _ in 0..SEARCHES {
+        clear(&mut block, LAST_BLOCK);
+        if let Some(b) = first_clear(&block, LAST_BLOCK + 1) {
+            set(&mut block, b);
+            right = right.saturating_add(u32::from(b == LAST_BLOCK));
+        }
+    }
+    if right == SEARCHES {
+        Ok(u64::from(SEARCHES))
+    } else {
+        Err(WorkloadError::Wrong)
+    }
 }

@@ -1,4 +1,5 @@
-//! The tables of inodes in memory, each of whose fifty places is taken. What is measured is the inode at the last place.
+//! The tables of inodes in memory, each of whose fifty places is taken.
+use crate::records::inode_of_size;
 use crate::workload::WorkloadError;
 use fs_tables::{Dropped, Listed, MEMORY_INODES, Reference, Tables};
 use std::alloc::Global;
@@ -7,16 +8,20 @@ const OPERATIONS: u32 = 4_000_000;
 
 const HART: u8 = 3;
 
-// The root has the first place.
-const LAST: u32 = MEMORY_INODES as u32;
+/// The root, which has the first place.
+pub const ROOT: u32 = 1;
 
-/// An inode's lock taken and given back: one operation is both.
-pub fn lock_and_unlock(alloc: Global) -> Result<u64, WorkloadError> {
+/// The inode at the last place.
+pub const LAST: u32 = MEMORY_INODES as u32;
+
+/// A loaded inode's lock taken and given back: one operation is both.
+pub fn lock_and_unlock(alloc: Global, number: u32) -> Result<u64, WorkloadError> {
     let mut tables = Tables::new(alloc)?;
     let held = all_referred_to(&mut tables);
+    load(&mut tables, number);
     let mut done = 0u64;
     for _ in 0..OPERATIONS {
-        match tables.lock(HART, LAST) {
+        match tables.lock(HART, number) {
             None => {}
             Some(guard) => {
                 tables.unlock(HART, guard);
@@ -28,16 +33,16 @@ pub fn lock_and_unlock(alloc: Global) -> Result<u64, WorkloadError> {
     told(done)
 }
 
-/// A reference counted up and down: one operation is both.
-pub fn up_and_down(alloc: Global) -> Result<u64, WorkloadError> {
+/// A reference counted up and down, with a look at the count before each: one operation is both.
+pub fn up_and_down(alloc: Global, number: u32) -> Result<u64, WorkloadError> {
     let mut tables = Tables::new(alloc)?;
     let held = all_referred_to(&mut tables);
     let mut done = 0u64;
     for _ in 0..OPERATIONS {
-        if 1000 <= tables.references(LAST) {
+        if 1000 <= tables.references(number) {
             break;
         }
-        match tables.up(LAST) {
+        match tables.up(number) {
             None => {}
             Some(reference) => match down(&mut tables, reference) {
                 None => done = done.saturating_add(1),
@@ -52,6 +57,17 @@ pub fn up_and_down(alloc: Global) -> Result<u64, WorkloadError> {
     }
     held.retire(&tables.retire());
     told(done)
+}
+
+// Puts a file into the place of an inode in memory, as a load does.
+fn load(tables: &mut Tables, number: u32) {
+    match tables.lock(HART, number) {
+        None => {}
+        Some(mut guard) => {
+            guard.value_mut().content = Some(inode_of_size(0));
+            tables.unlock(HART, guard);
+        }
+    }
 }
 
 fn told(done: u64) -> Result<u64, WorkloadError> {

@@ -1,5 +1,6 @@
 //! What is measured.
-use crate::{buffers, checks, devices, images, locks, logs, records, tables, trees};
+use crate::worlds::Line;
+use crate::{buffers, checks, devices, images, locks, logs, records, tables, trees, worlds};
 use block_device::Fault;
 use std::alloc::{AllocError, Global};
 use thiserror::Error;
@@ -30,65 +31,64 @@ pub enum Workload {
     DirentWrite,
     BitSet,
     BitTest,
+    LastBlock,
     LockUnlock,
-    InodeLock,
-    ReferenceUp,
+    InodeLock(u32),
+    ReferenceUp(u32),
     BufferGet,
     BufferGetMostRecent,
+    RecordBlock,
     CommitThree,
     ExamineFresh,
     ExamineFull,
     MakeImage,
     TreeStep,
     CheckEntry,
+    World(Line),
 }
 
-/// All of them, in the order in which they run.
-pub const ALL: [Workload; 18] = [
-    Workload::DeviceRead,
-    Workload::InodeRead,
-    Workload::InodeWrite,
-    Workload::DirentRead,
-    Workload::DirentWrite,
-    Workload::BitSet,
-    Workload::BitTest,
-    Workload::LockUnlock,
-    Workload::InodeLock,
-    Workload::ReferenceUp,
-    Workload::BufferGet,
-    Workload::BufferGetMostRecent,
-    Workload::CommitThree,
-    Workload::ExamineFresh,
-    Workload::ExamineFull,
-    Workload::MakeImage,
-    Workload::TreeStep,
-    Workload::CheckEntry,
+/// All of them with their names, in the order in which they run.
+pub const ALL: [(&str, Workload); 31] = [
+    ("device_read_block", Workload::DeviceRead),
+    ("inode_read", Workload::InodeRead),
+    ("inode_write", Workload::InodeWrite),
+    ("dirent_read", Workload::DirentRead),
+    ("dirent_write", Workload::DirentWrite),
+    ("bit_set", Workload::BitSet),
+    ("bit_test", Workload::BitTest),
+    ("last_free_block_of_8191", Workload::LastBlock),
+    ("lock_and_unlock", Workload::LockUnlock),
+    ("inode_lock_and_unlock", Workload::InodeLock(tables::LAST)),
+    ("root_lock_and_unlock", Workload::InodeLock(tables::ROOT)),
+    ("reference_up_and_down", Workload::ReferenceUp(tables::LAST)),
+    ("root_up_and_down", Workload::ReferenceUp(tables::ROOT)),
+    ("buffer_get_and_release", Workload::BufferGet),
+    ("buffer_get_most_recent", Workload::BufferGetMostRecent),
+    ("block_fetch_change_record", Workload::RecordBlock),
+    ("commit_three_blocks", Workload::CommitThree),
+    ("examine_fresh_image", Workload::ExamineFresh),
+    ("examine_full_image", Workload::ExamineFull),
+    ("make_image", Workload::MakeImage),
+    ("tree_step", Workload::TreeStep),
+    ("check_entry", Workload::CheckEntry),
+    ("world_event", Workload::World(worlds::EVENT)),
+    ("open_fstat_close", Workload::World(worlds::VISIT)),
+    (
+        "open_fstat_close_depth_16",
+        Workload::World(worlds::DEEP_VISIT),
+    ),
+    (
+        "open_fstat_close_of_8_harts",
+        Workload::World(worlds::TURNS),
+    ),
+    ("open_missing_of_1000", Workload::World(worlds::MISS)),
+    ("read_4096", Workload::World(worlds::READ)),
+    ("write_3072_over", Workload::World(worlds::REWRITE)),
+    ("write_274432_anew", Workload::World(worlds::WRITE_ANEW)),
+    ("make_write_remove", Workload::World(worlds::REMOVE)),
 ];
 
 impl Workload {
-    pub fn name(self) -> &'static str {
-        match self {
-            Workload::DeviceRead => "device_read_block",
-            Workload::InodeRead => "inode_read",
-            Workload::InodeWrite => "inode_write",
-            Workload::DirentRead => "dirent_read",
-            Workload::DirentWrite => "dirent_write",
-            Workload::BitSet => "bit_set",
-            Workload::BitTest => "bit_test",
-            Workload::LockUnlock => "lock_and_unlock",
-            Workload::InodeLock => "inode_lock_and_unlock",
-            Workload::ReferenceUp => "reference_up_and_down",
-            Workload::BufferGet => "buffer_get_and_release",
-            Workload::BufferGetMostRecent => "buffer_get_most_recent",
-            Workload::CommitThree => "commit_three_blocks",
-            Workload::ExamineFresh => "examine_fresh_image",
-            Workload::ExamineFull => "examine_full_image",
-            Workload::MakeImage => "make_image",
-            Workload::TreeStep => "tree_step",
-            Workload::CheckEntry => "check_entry",
-        }
-    }
-
     /// Runs it, and says how many operations that were.
     pub fn run(self, alloc: Global) -> Result<u64, WorkloadError> {
         match self {
@@ -99,17 +99,20 @@ impl Workload {
             Workload::DirentWrite => records::write_dirents(),
             Workload::BitSet => records::set_bits(),
             Workload::BitTest => records::test_bits(),
+            Workload::LastBlock => records::take_last_block(),
             Workload::LockUnlock => locks::lock_and_unlock(alloc),
-            Workload::InodeLock => tables::lock_and_unlock(alloc),
-            Workload::ReferenceUp => tables::up_and_down(alloc),
+            Workload::InodeLock(number) => tables::lock_and_unlock(alloc, number),
+            Workload::ReferenceUp(number) => tables::up_and_down(alloc, number),
             Workload::BufferGet => buffers::get_and_release(alloc),
             Workload::BufferGetMostRecent => buffers::get_most_recent(alloc),
+            Workload::RecordBlock => logs::record_cached(alloc),
             Workload::CommitThree => logs::commit_three_blocks(alloc),
             Workload::ExamineFresh => images::examine_fresh(alloc),
             Workload::ExamineFull => images::examine_full(alloc),
             Workload::MakeImage => images::make_image(alloc),
             Workload::TreeStep => trees::apply_steps(alloc),
             Workload::CheckEntry => checks::check_entries(alloc),
+            Workload::World(line) => worlds::run(alloc, line),
         }
     }
 }
