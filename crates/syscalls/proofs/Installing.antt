@@ -28,6 +28,8 @@ use Rattle.syscalls.specs.declared.install.Install.TheVariants as installing
 use Rattle.syscalls.specs.Opening.{file_for, install, installed_on, open_reply}
 use Rattle.syscalls.specs.Opens.{emptied, install_of}
 use Rattle.syscalls.specs.Parts.{quit}
+use Rattle.syscalls.specs.declared.onward.Onward.{Onward}
+use Rattle.syscalls.specs.Onwards.{onward_of}
 use Rattle.syscalls.specs.Taking.{inode_in, IsHeld}
 
 -- what is held stays so while an operation leaves the hart's locks
@@ -44,8 +46,8 @@ emptying_is e end txn m guard sizes program inode is =
     ∙ ap (λ (f : Ending). bind (truncate sizes guard.value.number (record_in guard)) (emptied f guard.value.number)) is
 
 -- no place is left
-pub place_moves : (hart : ℕ) (o : Opening) (txn : ℕ) (it : ToOpen) (self next : Install) (old new : State) → self ≡ installing.Place o txn it → ((x : Outside) → exec hart x TakePlace old ≡ ItRan false new)
-    → install_of next ≡ quit o.sizes (inode_in it.held ∷ []) it.list (open_reply o.path o.flags (answers.Full OpenFiles)) → advance kind_of (exec hart Passes) (install_of self) old ≡ WentOn kind.Slot (install_of next) new
+pub place_moves : (hart : ℕ) (o : Opening) (txn : ℕ) (it : ToOpen) (self : Install) (next : Onward Install) (old new : State) → self ≡ installing.Place o txn it → ((x : Outside) → exec hart x TakePlace old ≡ ItRan false new)
+    → onward_of install_of next ≡ quit o.sizes (inode_in it.held ∷ []) it.list (open_reply o.path o.flags (answers.Full OpenFiles)) → advance kind_of (exec hart Passes) (install_of self) old ≡ WentOn kind.Slot (onward_of install_of next) new
 unfolding install_of
 place_moves hart o txn it self next old new is ran behind =
     let v : Inode = inode_in it.held in
@@ -55,11 +57,11 @@ place_moves hart o txn it self next old new is ran behind =
     ∙ ap (λ (p : P Reply). WentOn kind.Slot p new) (sym behind)
 
 -- a descriptor is taken
-pub descriptor_moves : (hart : ℕ) (o : Opening) (txn : ℕ) (it : ToOpen) (self next : Install) (n : ℕ) (file : NewFile) (fd : Option ℕ) (old new : State)
+pub descriptor_moves : (hart : ℕ) (o : Opening) (txn : ℕ) (it : ToOpen) (self : Install) (next : Onward Install) (n : ℕ) (file : NewFile) (fd : Option ℕ) (old new : State)
     → self ≡ installing.Descriptor o txn it → n ≡ (inode_in it.held).number → file ≡ file_for (inode_in it.held) o.flags
     → ((x : Outside) → exec hart x (TakeDescriptor n file) old ≡ ItRan fd new)
-    → install_of next ≡ installed_on o.sizes o.path o.flags it.empties (inode_in it.held) it.list fd
-    → advance kind_of (exec hart Passes) (install_of self) old ≡ WentOn kind.Slot (install_of next) new
+    → onward_of install_of next ≡ installed_on o.sizes o.path o.flags it.empties (inode_in it.held) it.list fd
+    → advance kind_of (exec hart Passes) (install_of self) old ≡ WentOn kind.Slot (onward_of install_of next) new
 unfolding install_of
 descriptor_moves hart o txn it self next n file fd old new is number told ran behind =
     let v : Inode = inode_in it.held in

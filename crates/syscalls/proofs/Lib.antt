@@ -1,4 +1,5 @@
 pub mod Nesting
+pub mod Onwards
 pub mod Reading
 pub mod Closing
 pub mod Tails

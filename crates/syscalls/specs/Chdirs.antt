@@ -8,7 +8,6 @@ use Rattle.file_table.specs.Machines.{IsEarly}
 use Rattle.path_walk.specs.Elements.{longest_path}
 use Rattle.syscalls.specs.Moving.{settle, chdir_found, chdir_program}
 use Rattle.syscalls.specs.Taking.{inode_in, IsHeld, reach_of, ReachFits}
-use Rattle.syscalls.specs.Ends.{quit_of, QuitFits}
 use Rattle.syscalls.specs.declared.on_path.OnPath.{OnPath}
 use Rattle.syscalls.specs.declared.chdir.Chdir.{Chdir}
 use Rattle.syscalls.specs.declared.chdir.Chdir.TheVariants as chdir
@@ -23,11 +22,9 @@ unfoldable pub chdir_of : Chdir → P Reply
 chdir_of (chdir.Join on) = chdir_program on.sizes on.path
 chdir_of (chdir.Reaching on txn m) = bind (reach_of on.path m) (chdir_found on.sizes on.path)
 chdir_of (chdir.Settle on txn list held) = settle on.sizes on.path (inode_in held) list
-chdir_of (chdir.Ends m) = quit_of m
 
 -- its transaction and its guards go with the state
 unfoldable pub ChdirFits : ℕ → State → Chdir → Type 0
 ChdirFits hart s (chdir.Join on) = IsOnPath on
 ChdirFits hart s (chdir.Reaching on txn m) = IsOnPath on × (txn ≡ hart) × ReachFits on.path hart s m
 ChdirFits hart s (chdir.Settle on txn list held) = IsOnPath on × (txn ≡ hart) × IsHeld hart held s
-ChdirFits hart s (chdir.Ends m) = QuitFits hart s m

@@ -8,6 +8,7 @@ pub mod Opening
 pub mod Moving
 pub mod Taking
 pub mod Ends
+pub mod Onwards
 pub mod Opens
 pub mod Chdirs
 pub mod Writing

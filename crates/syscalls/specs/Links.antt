@@ -30,7 +30,7 @@ use Rattle.path_walk.specs.Programs.{loaded}
 use Rattle.path_walk.specs.declared.walked.Goal.TheVariants as goals
 use Rattle.syscalls.specs.Parts.{ReachedState, Finds, Misses, drop_quit, give_up, quit, reach, stopped, take_inode}
 use Rattle.syscalls.specs.Taking.{inode_in, most_reached, reach_of, take_of, IsHeld, ReachFits, TakeFits}
-use Rattle.syscalls.specs.Ends.{give_of, quit_of, GiveFits, QuitFits}
+use Rattle.syscalls.specs.Ends.{give_of, GiveFits}
 use Rattle.syscalls.specs.Seeking.{SeekState, Sees, Dotted, Dead, NoParent, seek, seek_of, SeekFits}
 use Rattle.syscalls.specs.Making.{with_links, IsSized}
 use Rattle.syscalls.specs.Unlinking.{links_of, lower_child, lower_of, LowerFits}
@@ -130,7 +130,6 @@ add_of (adding.Entering l txn list n parent m) = bind (enter_of m) (name_entered
 add_of (adding.Leaving l txn list n why m) = bind (give_of m) (λ _. leave_file l.sizes l.old l.new n list why)
 add_of (adding.Taking e txn m) = bind (take_of m) (lower_child e)
 add_of (adding.Lowering m) = lower_of m
-add_of (adding.Ends m) = quit_of m
 
 unfoldable pub link_of : Link → P Reply
 link_of (linking.Join l) = link_program l.sizes l.old l.new
@@ -138,7 +137,6 @@ link_of (linking.Reaching l txn m) = bind (reach_of l.old m) (link_found l.sizes
 link_of (linking.Raising l txn list held m) = bind (store_of m) (λ _. link_raised l.sizes l.old l.new (inode_in held) list)
 link_of (linking.Unlock l txn list held) = link_raised l.sizes l.old l.new (inode_in held) list
 link_of (linking.Naming m) = add_of m
-link_of (linking.Ends m) = quit_of m
 
 -- paths that are short and have no zero byte, on a disk on which calls run
 pub record IsLinking (l : Linking) : Type 0 where
@@ -159,7 +157,6 @@ AddFits hart s (adding.Entering l txn list n parent m) = IsLinking l × (txn ≡
 AddFits hart s (adding.Leaving l txn list n why m) = IsLinking l × (txn ≡ hart) × GiveFits hart s m
 AddFits hart s (adding.Taking e txn m) = IsEarly e.sizes.inodestart × (txn ≡ hart) × TakeFits hart s m
 AddFits hart s (adding.Lowering m) = LowerFits hart s m
-AddFits hart s (adding.Ends m) = QuitFits hart s m
 
 unfoldable pub LinkFits : ℕ → State → Link → Type 0
 LinkFits hart s (linking.Join l) = IsLinking l
@@ -167,4 +164,3 @@ LinkFits hart s (linking.Reaching l txn m) = IsLinking l × (txn ≡ hart) × (m
 LinkFits hart s (linking.Raising l txn list held m) = IsLinking l × (txn ≡ hart) × HasRoom l.new list × IsHeld hart held s × StoreFits hart s m
 LinkFits hart s (linking.Unlock l txn list held) = IsLinking l × (txn ≡ hart) × HasRoom l.new list × IsHeld hart held s
 LinkFits hart s (linking.Naming m) = AddFits hart s m
-LinkFits hart s (linking.Ends m) = QuitFits hart s m

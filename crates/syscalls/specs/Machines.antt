@@ -26,6 +26,9 @@ use Rattle.syscalls.specs.declared.read.Read.{Read}
 use Rattle.syscalls.specs.declared.read.Read.TheVariants as read
 use Rattle.syscalls.specs.Replies.{failed, full, done}
 use Rattle.syscalls.specs.Programs.{say, dup_program, leave_closed, drop_closed, close_program, stat_reply, stat_on, give_read, read_on}
+use Rattle.syscalls.specs.Ends.{quit_of, QuitFits}
+use Rattle.syscalls.specs.declared.onward.Onward.{Onward}
+use Rattle.syscalls.specs.declared.onward.Onward.TheVariants as onward
 use Rattle.syscalls.specs.Opens.{open_old_of, OpenOldFits}
 use Rattle.syscalls.specs.Creating.{open_new_of, OpenNewFits}
 use Rattle.syscalls.specs.Inheriting.{inherit_of, InheritFits}
@@ -121,6 +124,7 @@ running_of (running.Read m) = read_call_of m
 running_of (running.Write m) = write_call_of m
 running_of (running.Unlink m) = unlink_of m
 running_of (running.Inherit m) = inherit_of m
+running_of (running.Ends m) = quit_of m
 
 unfoldable pub RunningFits : ℕ → State → Running → Type 0
 RunningFits hart s (running.Open m) = OpenOldFits hart s m
@@ -135,3 +139,9 @@ RunningFits hart s (running.Read m) = ReadCallFits hart s m
 RunningFits hart s (running.Write m) = WriteCallFits hart s m
 RunningFits hart s (running.Unlink m) = UnlinkFits hart s m
 RunningFits hart s (running.Inherit m) = InheritFits hart s m
+RunningFits hart s (running.Ends m) = QuitFits hart s m
+
+-- what a step of a call on a path leaves, among all of them
+abbrev pub onward_as : {M : Type 0} → (M → Running) → Onward M → Running
+onward_as f (onward.Runs m) = f m
+onward_as f (onward.Ends m) = running.Ends m

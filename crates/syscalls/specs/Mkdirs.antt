@@ -22,7 +22,7 @@ use Rattle.path_walk.specs.Elements.{name_in, IsElement}
 use Rattle.path_walk.specs.Programs.{loaded}
 use Rattle.syscalls.specs.Parts.{quit, stopped}
 use Rattle.syscalls.specs.Taking.{inode_in, IsHeld}
-use Rattle.syscalls.specs.Ends.{give_of, quit_of, GiveApart, GiveFits, QuitFits}
+use Rattle.syscalls.specs.Ends.{give_of, GiveApart, GiveFits}
 use Rattle.syscalls.specs.Chdirs.{IsOnPath}
 use Rattle.syscalls.specs.Seeking.{SeekState, Sees, Dotted, Dead, NoParent, seek, seek_of, SeekFits}
 use Rattle.syscalls.specs.Making.{NamedState, Names, Lacks, make, make_of, with_links, IsSized, MakeFits}
@@ -78,7 +78,6 @@ mkdir_of (mkdir.Seeking on txn m) = bind (seek_of on.path m) (mkdir_seen on.size
 mkdir_of (mkdir.Making on txn list e links m) = bind (make_of (name_in on.path e) m) (mkdir_named on.sizes on.path links list)
 mkdir_of (mkdir.Raising on txn list parent child m) = bind (store_of m) (λ _. leave_made on.sizes on.path (inode_in parent) (inode_in child) list)
 mkdir_of (mkdir.Leaving on txn list child m) = bind (give_of m) (λ _. quit on.sizes (inode_in child ∷ []) list (mkdir_reply on.path answers.Done))
-mkdir_of (mkdir.Ends m) = quit_of m
 
 -- a path without a zero byte, on a disk on which calls run
 pub record IsNaming (on : OnPath) : Type 0 where
@@ -92,4 +91,3 @@ MkdirFits hart s (mkdir.Seeking on txn m) = IsNaming on × (txn ≡ hart) × See
 MkdirFits hart s (mkdir.Making on txn list e links m) = IsNaming on × (txn ≡ hart) × IsElement on.path e × (links < 2 ^ 15) × MakeFits hart s m
 MkdirFits hart s (mkdir.Raising on txn list parent child m) = IsNaming on × (txn ≡ hart) × IsHeld hart parent s × IsHeld hart child s × (parent.reference ≢ child.reference) × StoreFits hart s m
 MkdirFits hart s (mkdir.Leaving on txn list child m) = IsNaming on × (txn ≡ hart) × IsHeld hart child s × GiveFits hart s m × GiveApart child.reference m
-MkdirFits hart s (mkdir.Ends m) = QuitFits hart s m

@@ -13,7 +13,6 @@ use Rattle.file_table.specs.Machines.{IsEarly}
 use Rattle.syscalls.specs.Parts.{unlock_quit}
 use Rattle.syscalls.specs.Opening.{install, take_descriptor, open_found, open_old}
 use Rattle.syscalls.specs.Taking.{inode_in, IsHeld, reach_of, ReachFits}
-use Rattle.syscalls.specs.Ends.{quit_of, QuitFits}
 use Rattle.syscalls.specs.declared.tail.Ending.{Ending}
 use Rattle.syscalls.specs.declared.install.Opening.{Opening}
 use Rattle.syscalls.specs.declared.install.Install.{Install}
@@ -37,14 +36,12 @@ unfoldable pub install_of : Install → P Reply
 install_of (installing.Place o txn it) = take_descriptor o.sizes o.path o.flags it.empties (inode_in it.held) it.list
 install_of (installing.Descriptor o txn it) = install o.sizes o.path o.flags it.empties (inode_in it.held) it.list
 install_of (installing.Emptying e txn m) = bind (truncate_of m) (emptied e (emptied_of m).value.number)
-install_of (installing.Ends m) = quit_of m
 
 -- its transaction and its guards go with the state
 unfoldable pub InstallFits : ℕ → State → Install → Type 0
 InstallFits hart s (installing.Place o txn it) = IsEarly o.sizes.inodestart × (txn ≡ hart) × IsHeld hart it.held s
 InstallFits hart s (installing.Descriptor o txn it) = IsEarly o.sizes.inodestart × (txn ≡ hart) × IsHeld hart it.held s
 InstallFits hart s (installing.Emptying e txn m) = IsEarly e.sizes.inodestart × (txn ≡ hart) × IsOwnInode hart (emptied_of m).value.number (emptied_of m) s × TruncateFits hart s m
-InstallFits hart s (installing.Ends m) = QuitFits hart s m
 
 -- ---- without CREATE
 
@@ -52,10 +49,8 @@ unfoldable pub open_old_of : OpenOld → P Reply
 open_old_of (opening.Join o) = open_old o.sizes o.path o.flags
 open_old_of (opening.Reaching o txn m) = bind (reach_of o.path m) (open_found o.sizes o.path o.flags)
 open_old_of (opening.Installing m) = install_of m
-open_old_of (opening.Ends m) = quit_of m
 
 unfoldable pub OpenOldFits : ℕ → State → OpenOld → Type 0
 OpenOldFits hart s (opening.Join o) = IsOpening o
 OpenOldFits hart s (opening.Reaching o txn m) = IsOpening o × (txn ≡ hart) × ReachFits o.path hart s m
 OpenOldFits hart s (opening.Installing m) = InstallFits hart s m
-OpenOldFits hart s (opening.Ends m) = QuitFits hart s m

@@ -26,7 +26,7 @@ use Rattle.path_walk.specs.Programs.{loaded}
 use Rattle.file_table.specs.Machines.{IsEarly}
 use Rattle.syscalls.specs.Parts.{give_up, quit, stopped, take_inode}
 use Rattle.syscalls.specs.Taking.{inode_in, take_of, IsHeld, TakeApart, TakeFits}
-use Rattle.syscalls.specs.Ends.{give_of, quit_of, GiveApart, GiveFits, QuitFits}
+use Rattle.syscalls.specs.Ends.{give_of, GiveApart, GiveFits}
 use Rattle.syscalls.specs.Seeking.{SeekState, Sees, Dotted, Dead, NoParent, seek, seek_of, SeekFits}
 use Rattle.syscalls.specs.Chdirs.{IsOnPath}
 use Rattle.syscalls.specs.declared.seek.Dots.TheVariants as dots
@@ -131,7 +131,6 @@ unfoldable pub lower_of : Lower → P Reply
 lower_of (lowering.Parent e txn parent child m) = bind (store_of m) (λ _. leave_parent e (inode_in parent) (inode_in child))
 lower_of (lowering.Leaving e txn child m) = bind (give_of m) (λ _. lower_child e (inode_in child))
 lower_of (lowering.Child e txn child m) = bind (store_of m) (λ _. quit e.sizes (inode_in child ∷ []) e.list e.reply)
-lower_of (lowering.Ends m) = quit_of m
 
 -- two inodes are had
 pub record AreHeld (hart : ℕ) (first second : Held) (s : State) : Type 0 where
@@ -144,7 +143,6 @@ unfoldable pub LowerFits : ℕ → State → Lower → Type 0
 LowerFits hart s (lowering.Parent e txn parent child m) = IsEarly e.sizes.inodestart × (txn ≡ hart) × AreHeld hart parent child s × StoreFits hart s m
 LowerFits hart s (lowering.Leaving e txn child m) = IsEarly e.sizes.inodestart × (txn ≡ hart) × IsHeld hart child s × GiveFits hart s m × GiveApart child.reference m
 LowerFits hart s (lowering.Child e txn child m) = IsEarly e.sizes.inodestart × (txn ≡ hart) × IsHeld hart child s × StoreFits hart s m
-LowerFits hart s (lowering.Ends m) = QuitFits hart s m
 
 unfoldable pub unlink_of : Unlink → P Reply
 unlink_of (unlinking.Join on) = unlink_program on.sizes on.path
@@ -154,7 +152,6 @@ unlink_of (unlinking.Taking r txn m) = bind (take_of m) (see_child r.on.sizes r.
 unlink_of (unlinking.Looking r txn n m) = bind (search_of Entry m) (unless_entries r.on.sizes r.on.path (inode_in r.parent) r.slot r.list (inode_of m).value)
 unlink_of (unlinking.Clearing e txn n child m) = bind (put_of Free m) (name_cleared e (putter_of m).value.number (inode_in child))
 unlink_of (unlinking.Lowering m) = lower_of m
-unlink_of (unlinking.Ends m) = quit_of m
 
 -- a name's directory is had, and its slot is one that a directory may have
 pub record IsRemoving (hart : ℕ) (r : Removing) (s : State) : Type 0 where
@@ -171,4 +168,3 @@ UnlinkFits hart s (unlinking.Taking r txn m) = (txn ≡ hart) × IsRemoving hart
 UnlinkFits hart s (unlinking.Looking r txn n m) = (txn ≡ hart) × IsRemoving hart r s × IsHeld hart (record { reference = n; inode = inode_of m }) s × (r.parent.reference ≢ n) × SearchFits hart s m
 UnlinkFits hart s (unlinking.Clearing e txn n child m) = IsEarly e.sizes.inodestart × (txn ≡ hart) × AreHeld hart (record { reference = n; inode = putter_of m }) child s × PutFits hart s m
 UnlinkFits hart s (unlinking.Lowering m) = LowerFits hart s m
-UnlinkFits hart s (unlinking.Ends m) = QuitFits hart s m

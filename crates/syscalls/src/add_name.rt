@@ -16,12 +16,15 @@ ghost use Rattle.syscalls.specs.Taking.{inode_in, take_of, IsHeld, TakeFits};
 ghost use Rattle.syscalls.specs.Ends.{give_of, GiveFits};
 ghost use Rattle.syscalls.specs.Seeking.{seek_of, seen_as, IsSeen, IsSight, SeekFits};
 ghost use Rattle.syscalls.specs.Unlinking.{lower_child};
+ghost use Rattle.syscalls.specs.Onwards.{onward_in, onward_of, OnwardFits};
 ghost use Rattle.syscalls.specs.Links.{add_name, add_of, leave_file, leave_named, name_entered, name_found, name_missing, name_seen, no_room, take_back, AddFits, HasRoom, IsLinking};
 ghost use Rattle.syscalls.specs.declared.add_name.AddName.TheVariants as adding;
+ghost use Rattle.syscalls.specs.declared.onward.Onward.TheVariants as onward;
 
 use crate::give::GiveUp;
 use crate::lower::{Lower, to_child};
 use crate::on_path::{ending, stopped};
+use crate::onward::Onward;
 use crate::quit::Quit;
 use crate::seek::{Dots, LastName, Seek, Seen};
 use crate::tail::Ending;
@@ -59,8 +62,6 @@ pub enum AddName {
     Taking(Ending, Txn, TakeInode),
     /// It is stored with one link less.
     Lowering(Lower),
-    /// The call ends.
-    Ends(Quit),
 }
 
 impl AddName {
@@ -80,13 +81,17 @@ impl AddName {
 
     /// One operation.
     #[tactic(auto, unfolding(crate::specs::Links::add_of, crate::specs::Links::AddFits))]
-    pub fn step<D: Device>(self, hart: u8, core: &mut Core<D>) -> Stepped<AddName, Reply, Kind>
+    pub fn step<D: Device>(
+        self,
+        hart: u8,
+        core: &mut Core<D>,
+    ) -> Stepped<Onward<AddName>, Reply, Kind>
         requires may { MayNext hart (add_of self) (state_of D.contents D.failures core.old) }
         requires fits { AddFits hart (state_of D.contents D.failures core.old) self }
-        ensures moves { Moves add_of (λ reply. reply) hart self result (state_of D.contents D.failures core.old) (state_of D.contents D.failures core.new) }
-        ensures honest { Answers add_of hart self result (state_of D.contents D.failures core.old) (state_of D.contents D.failures core.new) }
-        ensures still { Still add_of result self core.old core.new }
-        ensures fits { LeftOf (AddFits hart (state_of D.contents D.failures core.new)) (λ _. Unit {0}) result }
+        ensures moves { Moves (onward_of add_of) (λ reply. reply) hart (onward.Runs self) result (state_of D.contents D.failures core.old) (state_of D.contents D.failures core.new) }
+        ensures honest { Answers (onward_of add_of) hart (onward.Runs self) result (state_of D.contents D.failures core.old) (state_of D.contents D.failures core.new) }
+        ensures still { Still (onward_of add_of) result (onward.Runs self) core.old core.new }
+        ensures fits { LeftOf (OnwardFits AddFits hart (state_of D.contents D.failures core.new)) (λ _. Unit {0}) result }
         ensures others { LeavesTied hart (state_of D.contents D.failures core.old) (state_of D.contents D.failures core.new) }
         ensures called { CallsOnce D.Called core.old.log.cache.device core.new.log.cache.device }
     {
@@ -107,7 +112,6 @@ impl AddName {
             }
             AddName::Taking(ending, txn, take) => taking(ending, txn, take.step(hart, core)),
             AddName::Lowering(lower) => lowering(lower.step(hart, core)),
-            AddName::Ends(quit) => ends(quit.step(hart, core)),
         }
     }
 
@@ -138,7 +142,6 @@ impl AddName {
                 take.retire(retired);
             }
             AddName::Lowering(lower) => lower.retire(retired),
-            AddName::Ends(quit) => quit.retire(retired),
         }
     }
 }
@@ -299,17 +302,17 @@ fn entered_so(
 
 // The directory was given up.
 #[tactic(auto, unfolding(crate::specs::Links::add_of, crate::specs::Links::AddFits))]
-fn left(l: Linking, txn: Txn, list: Listed, file: Reference, why: Option<Answer>) -> AddName
+fn left(l: Linking, txn: Txn, list: Listed, file: Reference, why: Option<Answer>) -> Onward<AddName>
     requires { IsLinking l }
-    ensures program { add_of result ≡ leave_file l.sizes l.old l.new file list why }
-    ensures fits { (hart : ℕ) (s : State) → txn ≡ hart → AddFits hart s result }
+    ensures program { onward_of add_of result ≡ leave_file l.sizes l.old l.new file list why }
+    ensures fits { (hart : ℕ) (s : State) → txn ≡ hart → OnwardFits AddFits hart s result }
 {
     match why {
-        Some(why) => take_back(l, txn, list, file, why),
+        Some(why) => Onward::Runs(take_back(l, txn, list, file, why)),
         None => {
             let Linking { sizes, old, new } = l;
             let ending = ending(&sizes, list, Call::Link { old, new }, Answer::Done);
-            AddName::Ends(Quit::with_reference(ending, txn, file))
+            Onward::Ends(Quit::with_reference(ending, txn, file))
         }
     }
 }
@@ -321,17 +324,22 @@ fn seeking(
     txn: Txn,
     file: Reference,
     stepped: Stepped<Seek, Seen, Kind>,
-) -> Stepped<AddName, Reply, Kind>
+) -> Stepped<Onward<AddName>, Reply, Kind>
     requires l { IsLinking l }
     requires there { LeftOf (λ _. Unit {0}) (IsSight l.new) stepped }
-    ensures follows { Follows (seek_of l.new) (seen_as l.new) add_of (λ reply. reply) (name_seen l.sizes l.old l.new file) stepped result }
-    ensures fits { (hart : ℕ) (s : State) → txn ≡ hart → LeftOf (SeekFits l.new hart s) (IsSeen l.new hart s) stepped → LeftOf (AddFits hart s) (λ _. Unit {0}) result }
+    ensures follows { Follows (seek_of l.new) (seen_as l.new) (onward_of add_of) (λ reply. reply) (name_seen l.sizes l.old l.new file) stepped result }
+    ensures fits { (hart : ℕ) (s : State) → txn ≡ hart → LeftOf (SeekFits l.new hart s) (IsSeen l.new hart s) stepped → LeftOf (OnwardFits AddFits hart s) (λ _. Unit {0}) result }
 {
     match stepped {
-        Stepped::Waits(seek) => Stepped::Waits(AddName::Seeking(l, txn, file, seek)),
-        Stepped::Ran(seek, kind) => Stepped::Ran(AddName::Seeking(l, txn, file, seek), kind),
-        Stepped::Done(seen, kind) => Stepped::Ran(sees(l, txn, file, seen), kind),
-        Stepped::Stopped(seek) => Stepped::Stopped(AddName::Seeking(l, txn, file, seek)),
+        Stepped::Waits(seek) => Stepped::Waits(Onward::Runs(AddName::Seeking(l, txn, file, seek))),
+        Stepped::Ran(seek, kind) => Stepped::Ran(
+            Onward::Runs(AddName::Seeking(l, txn, file, seek)),
+            kind,
+        ),
+        Stepped::Done(seen, kind) => Stepped::Ran(Onward::Runs(sees(l, txn, file, seen)), kind),
+        Stepped::Stopped(seek) => Stepped::Stopped(Onward::Runs(AddName::Seeking(
+            l, txn, file, seek,
+        ))),
     }
 }
 
@@ -344,23 +352,33 @@ fn entering(
     file: Reference,
     parent: Reference,
     stepped: Stepped<Enter, Entered, Kind>,
-) -> Stepped<AddName, Reply, Kind>
+) -> Stepped<Onward<AddName>, Reply, Kind>
     requires l { IsLinking l }
     requires there { LeftOf (λ _. Unit {0}) (λ r. IsSome r.inode.value.content) stepped }
     ensures follows { (n : ℕ) → LeftOf (λ m. (enterer_of m).value.number ≡ n) (λ r. r.inode.value ≡ loaded n (record_in r.inode)) stepped
-        → Follows enter_of entered_of add_of (λ reply. reply) (name_entered l.sizes l.old l.new file n list) stepped result }
+        → Follows enter_of entered_of (onward_of add_of) (λ reply. reply) (name_entered l.sizes l.old l.new file n list) stepped result }
     ensures fits { (hart : ℕ) (s : State) → txn ≡ hart
-        → LeftOf (λ m. IsOwnInode hart parent (enterer_of m) s × EnterFits hart s m) (λ r. IsOwnInode hart parent r.inode s) stepped → LeftOf (AddFits hart s) (λ _. Unit {0}) result }
+        → LeftOf (λ m. IsOwnInode hart parent (enterer_of m) s × EnterFits hart s m) (λ r. IsOwnInode hart parent r.inode s) stepped → LeftOf (OnwardFits AddFits hart s) (λ _. Unit {0}) result }
 {
     match stepped {
-        Stepped::Waits(m) => Stepped::Waits(AddName::Entering(l, txn, list, file, parent, m)),
+        Stepped::Waits(m) => Stepped::Waits(Onward::Runs(AddName::Entering(
+            l, txn, list, file, parent, m,
+        ))),
         Stepped::Ran(m, kind) => {
-            Stepped::Ran(AddName::Entering(l, txn, list, file, parent, m), kind)
+            Stepped::Ran(
+                Onward::Runs(AddName::Entering(l, txn, list, file, parent, m)),
+                kind,
+            )
         }
         Stepped::Done(entered, kind) => {
-            Stepped::Ran(entered_so(l, txn, list, file, parent, entered), kind)
+            Stepped::Ran(
+                Onward::Runs(entered_so(l, txn, list, file, parent, entered)),
+                kind,
+            )
         }
-        Stepped::Stopped(m) => Stepped::Stopped(AddName::Entering(l, txn, list, file, parent, m)),
+        Stepped::Stopped(m) => Stepped::Stopped(Onward::Runs(AddName::Entering(
+            l, txn, list, file, parent, m,
+        ))),
     }
 }
 
@@ -373,19 +391,24 @@ fn leaving(
     file: Reference,
     why: Option<Answer>,
     stepped: Stepped<GiveUp, (), Kind>,
-) -> Stepped<AddName, Reply, Kind>
+) -> Stepped<Onward<AddName>, Reply, Kind>
     requires { IsLinking l }
-    ensures follows { Follows give_of (λ x. x) add_of (λ reply. reply) (λ _. leave_file l.sizes l.old l.new file list why) stepped result }
-    ensures fits { (hart : ℕ) (s : State) → txn ≡ hart → LeftOf (GiveFits hart s) (λ _. Unit {0}) stepped → LeftOf (AddFits hart s) (λ _. Unit {0}) result }
+    ensures follows { Follows give_of (λ x. x) (onward_of add_of) (λ reply. reply) (λ _. leave_file l.sizes l.old l.new file list why) stepped result }
+    ensures fits { (hart : ℕ) (s : State) → txn ≡ hart → LeftOf (GiveFits hart s) (λ _. Unit {0}) stepped → LeftOf (OnwardFits AddFits hart s) (λ _. Unit {0}) result }
 {
     match stepped {
-        Stepped::Waits(give) => Stepped::Waits(AddName::Leaving(l, txn, list, file, why, give)),
+        Stepped::Waits(give) => Stepped::Waits(Onward::Runs(AddName::Leaving(
+            l, txn, list, file, why, give,
+        ))),
         Stepped::Ran(give, kind) => {
-            Stepped::Ran(AddName::Leaving(l, txn, list, file, why, give), kind)
+            Stepped::Ran(
+                Onward::Runs(AddName::Leaving(l, txn, list, file, why, give)),
+                kind,
+            )
         }
         Stepped::Done((), kind) => Stepped::Ran(left(l, txn, list, file, why), kind),
         Stepped::Stopped(give) => {
-            Stepped::Stopped(AddName::Leaving(l, txn, list, file, why, give))
+            Stepped::Stopped(Onward::Runs(AddName::Leaving(l, txn, list, file, why, give)))
         }
     }
 }
@@ -396,42 +419,48 @@ fn taking(
     ending: Ending,
     txn: Txn,
     stepped: Stepped<TakeInode, Held, Kind>,
-) -> Stepped<AddName, Reply, Kind>
+) -> Stepped<Onward<AddName>, Reply, Kind>
     requires early { IsEarly ending.sizes.inodestart }
     requires there { LeftOf (λ _. Unit {0}) (λ held. IsSome held.inode.value.content) stepped }
-    ensures follows { Follows take_of inode_in add_of (λ reply. reply) (lower_child ending) stepped result }
-    ensures fits { (hart : ℕ) (s : State) → txn ≡ hart → LeftOf (TakeFits hart s) (λ held. IsHeld hart held s) stepped → LeftOf (AddFits hart s) (λ _. Unit {0}) result }
+    ensures follows { Follows take_of inode_in (onward_of add_of) (λ reply. reply) (lower_child ending) stepped result }
+    ensures fits { (hart : ℕ) (s : State) → txn ≡ hart → LeftOf (TakeFits hart s) (λ held. IsHeld hart held s) stepped → LeftOf (OnwardFits AddFits hart s) (λ _. Unit {0}) result }
 {
     match stepped {
-        Stepped::Waits(take) => Stepped::Waits(AddName::Taking(ending, txn, take)),
-        Stepped::Ran(take, kind) => Stepped::Ran(AddName::Taking(ending, txn, take), kind),
+        Stepped::Waits(take) => Stepped::Waits(Onward::Runs(AddName::Taking(ending, txn, take))),
+        Stepped::Ran(take, kind) => Stepped::Ran(
+            Onward::Runs(AddName::Taking(ending, txn, take)),
+            kind,
+        ),
         Stepped::Done(file, kind) => {
-            Stepped::Ran(AddName::Lowering(to_child(ending, txn, file)), kind)
+            Stepped::Ran(
+                Onward::Runs(AddName::Lowering(to_child(ending, txn, file))),
+                kind,
+            )
         }
-        Stepped::Stopped(take) => Stepped::Stopped(AddName::Taking(ending, txn, take)),
+        Stepped::Stopped(take) => Stepped::Stopped(Onward::Runs(AddName::Taking(
+            ending, txn, take,
+        ))),
+    }
+}
+
+// What is left of it while the file is stored with one link less.
+fn in_lowering(left: Onward<Lower>) -> Onward<AddName>
+    ensures { result ≡ onward_in (λ m. adding.Lowering m) left }
+{
+    match left {
+        Onward::Runs(lower) => Onward::Runs(AddName::Lowering(lower)),
+        Onward::Ends(quit) => Onward::Ends(quit),
     }
 }
 
 // A step while it is stored with one link less.
-fn lowering(stepped: Stepped<Lower, Reply, Kind>) -> Stepped<AddName, Reply, Kind>
-    ensures { result ≡ ends_within (λ m. adding.Lowering m) (λ reply. reply) stepped }
+fn lowering(stepped: Stepped<Onward<Lower>, Reply, Kind>) -> Stepped<Onward<AddName>, Reply, Kind>
+    ensures { result ≡ ends_within (onward_in (λ m. adding.Lowering m)) (λ reply. reply) stepped }
 {
     match stepped {
-        Stepped::Waits(lower) => Stepped::Waits(AddName::Lowering(lower)),
-        Stepped::Ran(lower, kind) => Stepped::Ran(AddName::Lowering(lower), kind),
+        Stepped::Waits(left) => Stepped::Waits(in_lowering(left)),
+        Stepped::Ran(left, kind) => Stepped::Ran(in_lowering(left), kind),
         Stepped::Done(reply, kind) => Stepped::Done(reply, kind),
-        Stepped::Stopped(lower) => Stepped::Stopped(AddName::Lowering(lower)),
-    }
-}
-
-// A step of the call's end.
-fn ends(stepped: Stepped<Quit, Reply, Kind>) -> Stepped<AddName, Reply, Kind>
-    ensures { result ≡ ends_within (λ m. adding.Ends m) (λ reply. reply) stepped }
-{
-    match stepped {
-        Stepped::Waits(quit) => Stepped::Waits(AddName::Ends(quit)),
-        Stepped::Ran(quit, kind) => Stepped::Ran(AddName::Ends(quit), kind),
-        Stepped::Done(reply, kind) => Stepped::Done(reply, kind),
-        Stepped::Stopped(quit) => Stepped::Stopped(AddName::Ends(quit)),
+        Stepped::Stopped(left) => Stepped::Stopped(in_lowering(left)),
     }
 }

@@ -4,18 +4,20 @@ ghost use Rattle.atomic_programs.specs.Machines.{Still, Left as LeftOf};
 ghost use Rattle.fs_machine.specs.Steps.{State, state_of};
 ghost use Rattle.fs_machine.specs.Machines.{MayNext, Moves, Answers, CallsOnce};
 ghost use Rattle.fs_machine.specs.Tied.{LeavesTied};
-ghost use Rattle.inode_data.specs.Machines.{ends_within};
 ghost use Rattle.file_table.specs.Machines.{IsEarly};
 ghost use Rattle.path_walk.specs.Elements.{longest_path};
 ghost use Rattle.syscalls.specs.Nesting.{Follows};
+ghost use Rattle.syscalls.specs.Onwards.{onward_of, OnwardFits};
 ghost use Rattle.syscalls.specs.Parts.{Misses, drop_quit};
 ghost use Rattle.syscalls.specs.Moving.{chdir_at, chdir_found, chdir_program, chdir_reply};
 ghost use Rattle.syscalls.specs.Taking.{inode_in, IsHeld, reach_of, ReachFits, reached_as, IsReached, IsThere};
 ghost use Rattle.syscalls.specs.Chdirs.{chdir_of, ChdirFits, IsOnPath};
 ghost use Rattle.plain_tree.specs.declared.answer.Answer.TheVariants as answers;
 ghost use Rattle.syscalls.specs.declared.chdir.Chdir.TheVariants as chdir;
+ghost use Rattle.syscalls.specs.declared.onward.Onward.TheVariants as onward;
 
 use crate::on_path::{OnPath, ending, stopped};
+use crate::onward::Onward;
 use crate::quit::Quit;
 use crate::reach::{Reach, Reached};
 use crate::take::Held;
@@ -38,8 +40,6 @@ pub enum Chdir {
     Reaching(OnPath, Txn, Reach),
     /// It is a directory: it becomes the hart's, and its lock is given back.
     Settle(OnPath, Txn, Listed, Held),
-    /// The call ends.
-    Ends(Quit),
 }
 
 impl Chdir {
@@ -60,22 +60,26 @@ impl Chdir {
 
     /// One operation.
     #[tactic(auto, unfolding(crate::specs::Chdirs::chdir_of, crate::specs::Chdirs::ChdirFits, fs_machine::specs::Premises::Honest))]
-    pub fn step<D: Device>(self, hart: u8, core: &mut Core<D>) -> Stepped<Chdir, Reply, Kind>
+    pub fn step<D: Device>(
+        self,
+        hart: u8,
+        core: &mut Core<D>,
+    ) -> Stepped<Onward<Chdir>, Reply, Kind>
         requires may { MayNext hart (chdir_of self) (state_of D.contents D.failures core.old) }
         requires fits { ChdirFits hart (state_of D.contents D.failures core.old) self }
-        ensures moves { Moves chdir_of (λ reply. reply) hart self result (state_of D.contents D.failures core.old) (state_of D.contents D.failures core.new) }
-        ensures honest { Answers chdir_of hart self result (state_of D.contents D.failures core.old) (state_of D.contents D.failures core.new) }
-        ensures still { Still chdir_of result self core.old core.new }
-        ensures fits { LeftOf (ChdirFits hart (state_of D.contents D.failures core.new)) (λ _. Unit {0}) result }
+        ensures moves { Moves (onward_of chdir_of) (λ reply. reply) hart (onward.Runs self) result (state_of D.contents D.failures core.old) (state_of D.contents D.failures core.new) }
+        ensures honest { Answers (onward_of chdir_of) hart (onward.Runs self) result (state_of D.contents D.failures core.old) (state_of D.contents D.failures core.new) }
+        ensures still { Still (onward_of chdir_of) result (onward.Runs self) core.old core.new }
+        ensures fits { LeftOf (OnwardFits ChdirFits hart (state_of D.contents D.failures core.new)) (λ _. Unit {0}) result }
         ensures others { LeavesTied hart (state_of D.contents D.failures core.old) (state_of D.contents D.failures core.new) }
         ensures called { CallsOnce D.Called core.old.log.cache.device core.new.log.cache.device }
     {
         match self {
             Chdir::Join(on) => match core.join(hart) {
-                None => Stepped::Waits(Chdir::Join(on)),
+                None => Stepped::Waits(Onward::Runs(Chdir::Join(on))),
                 Some(txn) => {
                     let reach = Reach::new(on.sizes.inodestart, Goal::Node, Listed::new());
-                    Stepped::Ran(Chdir::Reaching(on, txn, reach), Kind::Join)
+                    Stepped::Ran(Onward::Runs(Chdir::Reaching(on, txn, reach)), Kind::Join)
                 }
             },
             Chdir::Reaching(on, txn, reach) => {
@@ -87,7 +91,6 @@ impl Chdir {
                 let old = core.settle(hart, inode, reference);
                 Stepped::Ran(settled(on, txn, list, old), Kind::Unlock)
             }
-            Chdir::Ends(quit) => ends(quit.step(hart, core)),
         }
     }
 
@@ -104,50 +107,49 @@ impl Chdir {
                 list.retire(&retired.inodes);
                 held.retire(retired);
             }
-            Chdir::Ends(quit) => quit.retire(retired),
         }
     }
 }
 
 // The path leads nowhere.
 #[tactic(auto, unfolding(crate::specs::Chdirs::chdir_of, crate::specs::Chdirs::ChdirFits))]
-fn lost(on: OnPath, txn: Txn, list: Listed, why: Stop) -> Chdir
+fn lost(on: OnPath, txn: Txn, list: Listed, why: Stop) -> Onward<Chdir>
     requires { IsEarly on.sizes.inodestart }
-    ensures program { chdir_of result ≡ chdir_found on.sizes on.path (Misses why list) }
-    ensures fits { (hart : ℕ) (s : State) → txn ≡ hart → ChdirFits hart s result }
+    ensures program { onward_of chdir_of result ≡ chdir_found on.sizes on.path (Misses why list) }
+    ensures fits { (hart : ℕ) (s : State) → txn ≡ hart → OnwardFits ChdirFits hart s result }
 {
     let OnPath { sizes, path } = on;
     let ending = ending(&sizes, list, Call::Chdir { path }, stopped(why));
-    Chdir::Ends(Quit::with_nothing(ending, txn))
+    Onward::Ends(Quit::with_nothing(ending, txn))
 }
 
 // At what the path leads to.
 #[tactic(auto, unfolding(crate::specs::Chdirs::chdir_of, crate::specs::Chdirs::ChdirFits))]
-fn at(on: OnPath, txn: Txn, list: Listed, held: Held) -> Chdir
+fn at(on: OnPath, txn: Txn, list: Listed, held: Held) -> Onward<Chdir>
     requires on { IsOnPath on }
     requires there { IsSome held.inode.value.content }
-    ensures program { chdir_of result ≡ chdir_at on.sizes on.path (inode_in held) list }
-    ensures fits { (hart : ℕ) (s : State) → txn ≡ hart → IsHeld hart held s → ChdirFits hart s result }
+    ensures program { onward_of chdir_of result ≡ chdir_at on.sizes on.path (inode_in held) list }
+    ensures fits { (hart : ℕ) (s : State) → txn ≡ hart → IsHeld hart held s → OnwardFits ChdirFits hart s result }
 {
     if is_directory(&record(&held.inode)) {
-        return Chdir::Settle(on, txn, list, held);
+        return Onward::Runs(Chdir::Settle(on, txn, list, held));
     }
     let OnPath { sizes, path } = on;
     let answer = Answer::Failed(Cause::NotDirectory);
     let ending = ending(&sizes, list, Call::Chdir { path }, answer);
-    Chdir::Ends(Quit::with_inode(ending, txn, held))
+    Onward::Ends(Quit::with_inode(ending, txn, held))
 }
 
 // The new directory is the hart's: the reference to the old one is to be dropped.
 #[tactic(auto, unfolding(crate::specs::Chdirs::chdir_of, crate::specs::Chdirs::ChdirFits))]
-fn settled(on: OnPath, txn: Txn, list: Listed, old: Reference) -> Chdir
+fn settled(on: OnPath, txn: Txn, list: Listed, old: Reference) -> Onward<Chdir>
     requires { IsEarly on.sizes.inodestart }
-    ensures program { chdir_of result ≡ drop_quit on.sizes old list (chdir_reply on.path answers.Done) }
-    ensures fits { (hart : ℕ) (s : State) → txn ≡ hart → ChdirFits hart s result }
+    ensures program { onward_of chdir_of result ≡ drop_quit on.sizes old list (chdir_reply on.path answers.Done) }
+    ensures fits { (hart : ℕ) (s : State) → txn ≡ hart → OnwardFits ChdirFits hart s result }
 {
     let OnPath { sizes, path } = on;
     let ending = ending(&sizes, list, Call::Chdir { path }, Answer::Done);
-    Chdir::Ends(Quit::with_reference(ending, txn, old))
+    Onward::Ends(Quit::with_reference(ending, txn, old))
 }
 
 // A step while what the path leads to is taken.
@@ -156,31 +158,22 @@ fn reaching(
     on: OnPath,
     txn: Txn,
     stepped: Stepped<Reach, Reached, Kind>,
-) -> Stepped<Chdir, Reply, Kind>
+) -> Stepped<Onward<Chdir>, Reply, Kind>
     requires on { IsOnPath on }
     requires there { LeftOf (λ _. Unit {0}) (IsThere on.path) stepped }
-    ensures follows { Follows (reach_of on.path) (reached_as on.path) chdir_of (λ reply. reply) (chdir_found on.sizes on.path) stepped result }
-    ensures fits { (hart : ℕ) (s : State) → txn ≡ hart → LeftOf (ReachFits on.path hart s) (IsReached on.path hart s) stepped → LeftOf (ChdirFits hart s) (λ _. Unit {0}) result }
+    ensures follows { Follows (reach_of on.path) (reached_as on.path) (onward_of chdir_of) (λ reply. reply) (chdir_found on.sizes on.path) stepped result }
+    ensures fits { (hart : ℕ) (s : State) → txn ≡ hart → LeftOf (ReachFits on.path hart s) (IsReached on.path hart s) stepped → LeftOf (OnwardFits ChdirFits hart s) (λ _. Unit {0}) result }
 {
     match stepped {
-        Stepped::Waits(reach) => Stepped::Waits(Chdir::Reaching(on, txn, reach)),
-        Stepped::Ran(reach, kind) => Stepped::Ran(Chdir::Reaching(on, txn, reach), kind),
+        Stepped::Waits(reach) => Stepped::Waits(Onward::Runs(Chdir::Reaching(on, txn, reach))),
+        Stepped::Ran(reach, kind) => Stepped::Ran(
+            Onward::Runs(Chdir::Reaching(on, txn, reach)),
+            kind,
+        ),
         Stepped::Done(reached, kind) => match reached {
             Reached::At(held, _, list) => Stepped::Ran(at(on, txn, list, held), kind),
             Reached::Lost(why, list) => Stepped::Ran(lost(on, txn, list, why), kind),
         },
-        Stepped::Stopped(reach) => Stepped::Stopped(Chdir::Reaching(on, txn, reach)),
-    }
-}
-
-// A step of the call's end.
-fn ends(stepped: Stepped<Quit, Reply, Kind>) -> Stepped<Chdir, Reply, Kind>
-    ensures { result ≡ ends_within (λ m. chdir.Ends m) (λ reply. reply) stepped }
-{
-    match stepped {
-        Stepped::Waits(quit) => Stepped::Waits(Chdir::Ends(quit)),
-        Stepped::Ran(quit, kind) => Stepped::Ran(Chdir::Ends(quit), kind),
-        Stepped::Done(reply, kind) => Stepped::Done(reply, kind),
-        Stepped::Stopped(quit) => Stepped::Stopped(Chdir::Ends(quit)),
+        Stepped::Stopped(reach) => Stepped::Stopped(Onward::Runs(Chdir::Reaching(on, txn, reach))),
     }
 }

@@ -7,19 +7,20 @@ ghost use Rattle.fs_machine.specs.Tied.{IsOwnInode, LeavesTied};
 ghost use Rattle.fs_tables.specs.Results.{opened_as};
 ghost use Rattle.inode_data.specs.Records.{record_in};
 ghost use Rattle.inode_data.specs.Truncating.{truncate_of, emptied_of, TruncateFits};
-ghost use Rattle.inode_data.specs.Machines.{ends_within};
 ghost use Rattle.file_table.specs.Machines.{IsEarly};
 ghost use Rattle.path_walk.specs.Programs.{loaded};
 ghost use Rattle.plain_tree.specs.Steps.{has};
 ghost use Rattle.syscalls.specs.Nesting.{Follows};
+ghost use Rattle.syscalls.specs.Onwards.{onward_of, OnwardFits};
 ghost use Rattle.syscalls.specs.Parts.{quit};
 ghost use Rattle.syscalls.specs.Opening.{file_for, installed_on, is_regular, open_reply, opened, take_descriptor, type_number};
 ghost use Rattle.syscalls.specs.Taking.{inode_in, IsHeld};
 ghost use Rattle.syscalls.specs.Opens.{emptied, install_of, InstallFits};
 ghost use Rattle.plain_tree.specs.declared.answer.Answer.TheVariants as answers;
-ghost use Rattle.syscalls.specs.declared.install.Install.TheVariants as installing;
+ghost use Rattle.syscalls.specs.declared.onward.Onward.TheVariants as onward;
 
 use crate::on_path::ending;
+use crate::onward::Onward;
 use crate::quit::Quit;
 use crate::tail::Ending;
 use crate::take::Held;
@@ -85,8 +86,6 @@ pub enum Install {
     Descriptor(Opening, Txn, ToOpen),
     /// It is emptied.
     Emptying(Ending, Txn, Truncate),
-    /// The call ends.
-    Ends(Quit),
 }
 
 // The flags have this bit.
@@ -109,20 +108,25 @@ impl Install {
 
     /// One operation.
     #[tactic(auto, unfolding(crate::specs::Opens::install_of, crate::specs::Opens::InstallFits, fs_machine::specs::Premises::Honest))]
-    pub fn step<D: Device>(self, hart: u8, core: &mut Core<D>) -> Stepped<Install, Reply, Kind>
+    pub fn step<D: Device>(
+        self,
+        hart: u8,
+        core: &mut Core<D>,
+    ) -> Stepped<Onward<Install>, Reply, Kind>
         requires may { MayNext hart (install_of self) (state_of D.contents D.failures core.old) }
         requires fits { InstallFits hart (state_of D.contents D.failures core.old) self }
-        ensures moves { Moves install_of (λ reply. reply) hart self result (state_of D.contents D.failures core.old) (state_of D.contents D.failures core.new) }
-        ensures honest { Answers install_of hart self result (state_of D.contents D.failures core.old) (state_of D.contents D.failures core.new) }
-        ensures still { Still install_of result self core.old core.new }
-        ensures fits { LeftOf (InstallFits hart (state_of D.contents D.failures core.new)) (λ _. Unit {0}) result }
+        ensures moves { Moves (onward_of install_of) (λ reply. reply) hart (onward.Runs self) result (state_of D.contents D.failures core.old) (state_of D.contents D.failures core.new) }
+        ensures honest { Answers (onward_of install_of) hart (onward.Runs self) result (state_of D.contents D.failures core.old) (state_of D.contents D.failures core.new) }
+        ensures still { Still (onward_of install_of) result (onward.Runs self) core.old core.new }
+        ensures fits { LeftOf (OnwardFits InstallFits hart (state_of D.contents D.failures core.new)) (λ _. Unit {0}) result }
         ensures others { LeavesTied hart (state_of D.contents D.failures core.old) (state_of D.contents D.failures core.new) }
         ensures called { CallsOnce D.Called core.old.log.cache.device core.new.log.cache.device }
     {
         match self {
             Install::Place(opening, txn, inode) => {
                 if core.take_place(hart) {
-                    Stepped::Ran(Install::Descriptor(opening, txn, inode), Kind::Slot)
+                    let next = Install::Descriptor(opening, txn, inode);
+                    Stepped::Ran(Onward::Runs(next), Kind::Slot)
                 } else {
                     Stepped::Ran(full(opening, txn, inode, Full::OpenFiles), Kind::Slot)
                 }
@@ -144,7 +148,6 @@ impl Install {
                 let stepped = truncate.step(hart, &mut txn, core);
                 emptying(ending, txn, stepped)
             }
-            Install::Ends(quit) => ends(quit.step(hart, core)),
         }
     }
 
@@ -164,7 +167,6 @@ impl Install {
                 txn.retire(&retired.log);
                 truncate.retire(retired);
             }
-            Install::Ends(quit) => quit.retire(retired),
         }
     }
 }
@@ -203,10 +205,10 @@ fn file_for(inode: &Guard<Inode>, flags: u32) -> NewFile
 
 // There was no room for it: the inode is given up.
 #[tactic(auto, unfolding(crate::specs::Opens::install_of, crate::specs::Opens::InstallFits))]
-fn full(opening: Opening, txn: Txn, inode: ToOpen, what: Full) -> Install
+fn full(opening: Opening, txn: Txn, inode: ToOpen, what: Full) -> Onward<Install>
     requires { IsEarly opening.sizes.inodestart }
-    ensures program { install_of result ≡ quit opening.sizes (inode_in inode.held ∷ []) inode.list (open_reply opening.path opening.flags (answers.Full what)) }
-    ensures fits { (hart : ℕ) (s : State) → txn ≡ hart → IsHeld hart inode.held s → InstallFits hart s result }
+    ensures program { onward_of install_of result ≡ quit opening.sizes (inode_in inode.held ∷ []) inode.list (open_reply opening.path opening.flags (answers.Full what)) }
+    ensures fits { (hart : ℕ) (s : State) → txn ≡ hart → IsHeld hart inode.held s → OnwardFits InstallFits hart s result }
 {
     let Opening { sizes, path, flags } = opening;
     let ToOpen {
@@ -215,7 +217,7 @@ fn full(opening: Opening, txn: Txn, inode: ToOpen, what: Full) -> Install
         list,
     } = inode;
     let ending = ending(&sizes, list, Call::Open { path, flags }, Answer::Full(what));
-    Install::Ends(Quit::with_inode(ending, txn, held))
+    Onward::Ends(Quit::with_inode(ending, txn, held))
 }
 
 // What the taking of a descriptor came to.
@@ -227,12 +229,12 @@ fn descriptor_came(
     empties: bool,
     inode: Guard<Inode>,
     came: Result<u8, Reference>,
-) -> Install
+) -> Onward<Install>
     requires early { IsEarly opening.sizes.inodestart }
     requires there { IsSome inode.value.content }
     requires back { IfErr came (λ back. back ≡ inode.value.number) }
-    ensures program { install_of result ≡ installed_on opening.sizes opening.path opening.flags empties inode.value list (opened_as came) }
-    ensures fits { (hart : ℕ) (s : State) → txn ≡ hart → IsOwnInode hart inode.value.number inode s → InstallFits hart s result }
+    ensures program { onward_of install_of result ≡ installed_on opening.sizes opening.path opening.flags empties inode.value list (opened_as came) }
+    ensures fits { (hart : ℕ) (s : State) → txn ≡ hart → IsOwnInode hart inode.value.number inode s → OnwardFits InstallFits hart s result }
 {
     match came {
         Ok(fd) => opened(opening, txn, list, empties, inode, fd),
@@ -257,20 +259,20 @@ fn opened(
     empties: bool,
     inode: Guard<Inode>,
     fd: u8,
-) -> Install
+) -> Onward<Install>
     requires early { IsEarly opening.sizes.inodestart }
     requires there { IsSome inode.value.content }
-    ensures program { install_of result ≡ opened opening.sizes opening.path opening.flags empties inode.value list fd }
-    ensures fits { (hart : ℕ) (s : State) → txn ≡ hart → IsOwnInode hart inode.value.number inode s → InstallFits hart s result }
+    ensures program { onward_of install_of result ≡ opened opening.sizes opening.path opening.flags empties inode.value list fd }
+    ensures fits { (hart : ℕ) (s : State) → txn ≡ hart → IsOwnInode hart inode.value.number inode s → OnwardFits InstallFits hart s result }
 {
     let Opening { sizes, path, flags } = opening;
     let answer = Answer::Fd(fd as u32);
     let ending = ending(&sizes, list, Call::Open { path, flags }, answer);
     if empties {
         let truncate = Truncate::new(inode, &sizes);
-        return Install::Emptying(ending, txn, truncate);
+        return Onward::Runs(Install::Emptying(ending, txn, truncate));
     }
-    Install::Ends(Quit::with_lock(ending, txn, inode))
+    Onward::Ends(Quit::with_lock(ending, txn, inode))
 }
 
 // A step while the file is emptied.
@@ -279,34 +281,26 @@ fn emptying(
     ending: Ending,
     txn: Txn,
     stepped: Stepped<Truncate, Guard<Inode>, Kind>,
-) -> Stepped<Install, Reply, Kind>
+) -> Stepped<Onward<Install>, Reply, Kind>
     requires early { IsEarly ending.sizes.inodestart }
     ensures follows { (n : ℕ) → LeftOf (λ m. (emptied_of m).value.number ≡ n) (λ guard. guard.value ≡ loaded n (record_in guard)) stepped
-        → Follows truncate_of record_in install_of (λ reply. reply) (emptied ending n) stepped result }
+        → Follows truncate_of record_in (onward_of install_of) (λ reply. reply) (emptied ending n) stepped result }
     ensures fits { (hart : ℕ) (s : State) → txn ≡ hart
         → LeftOf (λ m. IsOwnInode hart (emptied_of m).value.number (emptied_of m) s × TruncateFits hart s m) (λ guard. IsOwnInode hart guard.value.number guard s) stepped
-        → LeftOf (InstallFits hart s) (λ _. Unit {0}) result }
+        → LeftOf (OnwardFits InstallFits hart s) (λ _. Unit {0}) result }
 {
     match stepped {
-        Stepped::Waits(truncate) => Stepped::Waits(Install::Emptying(ending, txn, truncate)),
+        Stepped::Waits(truncate) => Stepped::Waits(Onward::Runs(Install::Emptying(
+            ending, txn, truncate,
+        ))),
         Stepped::Ran(truncate, kind) => {
-            Stepped::Ran(Install::Emptying(ending, txn, truncate), kind)
+            Stepped::Ran(Onward::Runs(Install::Emptying(ending, txn, truncate)), kind)
         }
         Stepped::Done(inode, kind) => {
-            Stepped::Ran(Install::Ends(Quit::with_lock(ending, txn, inode)), kind)
+            Stepped::Ran(Onward::Ends(Quit::with_lock(ending, txn, inode)), kind)
         }
-        Stepped::Stopped(truncate) => { Stepped::Stopped(Install::Emptying(ending, txn, truncate)) }
-    }
-}
-
-// A step of the call's end.
-fn ends(stepped: Stepped<Quit, Reply, Kind>) -> Stepped<Install, Reply, Kind>
-    ensures { result ≡ ends_within (λ m. installing.Ends m) (λ reply. reply) stepped }
-{
-    match stepped {
-        Stepped::Waits(quit) => Stepped::Waits(Install::Ends(quit)),
-        Stepped::Ran(quit, kind) => Stepped::Ran(Install::Ends(quit), kind),
-        Stepped::Done(reply, kind) => Stepped::Done(reply, kind),
-        Stepped::Stopped(quit) => Stepped::Stopped(Install::Ends(quit)),
+        Stepped::Stopped(truncate) => {
+            Stepped::Stopped(Onward::Runs(Install::Emptying(ending, txn, truncate)))
+        }
     }
 }

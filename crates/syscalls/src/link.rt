@@ -10,6 +10,7 @@ ghost use Rattle.inode_data.specs.Machines.{ends_within};
 ghost use Rattle.path_walk.specs.Elements.{longest_path, most_elements};
 ghost use Rattle.plain_tree.specs.Widths.{count_limit};
 ghost use Rattle.syscalls.specs.Nesting.{Follows};
+ghost use Rattle.syscalls.specs.Onwards.{onward_in, onward_of, OnwardFits};
 ghost use Rattle.syscalls.specs.Parts.{Misses, quit};
 ghost use Rattle.syscalls.specs.Taking.{inode_in, kept_by, most_reached, reach_of, reached_as, IsHeld, IsReached, IsThere, ReachFits};
 ghost use Rattle.syscalls.specs.Making.{IsSized};
@@ -17,11 +18,13 @@ ghost use Rattle.syscalls.specs.Unlinking.{links_of};
 ghost use Rattle.syscalls.specs.Links.{link_at, link_found, link_joined, link_of, link_program, link_raised, link_refused, link_reply, raise_file, HasRoom, IsLinking, LinkFits};
 ghost use Rattle.plain_tree.specs.declared.answer.Answer.TheVariants as answers;
 ghost use Rattle.syscalls.specs.declared.link.Link.TheVariants as linking;
+ghost use Rattle.syscalls.specs.declared.onward.Onward.TheVariants as onward;
 
 use crate::add_name::{AddName, Linking};
 use crate::lower::links;
 use crate::make::{MOST_LINKS, store, with_links};
 use crate::on_path::{ending, stopped};
+use crate::onward::Onward;
 use crate::quit::Quit;
 use crate::reach::{Reach, Reached};
 use crate::replies::count_of;
@@ -50,8 +53,6 @@ pub enum Link {
     Unlock(Linking, Txn, Listed, Held),
     /// The new name is entered.
     Naming(AddName),
-    /// The call ends.
-    Ends(Quit),
 }
 
 impl Link {
@@ -75,20 +76,20 @@ impl Link {
 
     /// One operation.
     #[tactic(auto, unfolding(crate::specs::Links::link_of, crate::specs::Links::LinkFits, fs_machine::specs::Premises::Honest))]
-    pub fn step<D: Device>(self, hart: u8, core: &mut Core<D>) -> Stepped<Link, Reply, Kind>
+    pub fn step<D: Device>(self, hart: u8, core: &mut Core<D>) -> Stepped<Onward<Link>, Reply, Kind>
         requires may { MayNext hart (link_of self) (state_of D.contents D.failures core.old) }
         requires fits { LinkFits hart (state_of D.contents D.failures core.old) self }
-        ensures moves { Moves link_of (λ reply. reply) hart self result (state_of D.contents D.failures core.old) (state_of D.contents D.failures core.new) }
-        ensures honest { Answers link_of hart self result (state_of D.contents D.failures core.old) (state_of D.contents D.failures core.new) }
-        ensures still { Still link_of result self core.old core.new }
-        ensures fits { LeftOf (LinkFits hart (state_of D.contents D.failures core.new)) (λ _. Unit {0}) result }
+        ensures moves { Moves (onward_of link_of) (λ reply. reply) hart (onward.Runs self) result (state_of D.contents D.failures core.old) (state_of D.contents D.failures core.new) }
+        ensures honest { Answers (onward_of link_of) hart (onward.Runs self) result (state_of D.contents D.failures core.old) (state_of D.contents D.failures core.new) }
+        ensures still { Still (onward_of link_of) result (onward.Runs self) core.old core.new }
+        ensures fits { LeftOf (OnwardFits LinkFits hart (state_of D.contents D.failures core.new)) (λ _. Unit {0}) result }
         ensures others { LeavesTied hart (state_of D.contents D.failures core.old) (state_of D.contents D.failures core.new) }
         ensures called { CallsOnce D.Called core.old.log.cache.device core.new.log.cache.device }
     {
         match self {
             Link::Join(l) => match core.join(hart) {
-                None => Stepped::Waits(Link::Join(l)),
-                Some(txn) => Stepped::Ran(joined(l, txn), Kind::Join),
+                None => Stepped::Waits(Onward::Runs(Link::Join(l))),
+                Some(txn) => Stepped::Ran(Onward::Runs(joined(l, txn)), Kind::Join),
             },
             Link::Reaching(l, txn, reach) => {
                 let stepped = reach.step(hart, l.old.as_slice(), core);
@@ -103,10 +104,9 @@ impl Link {
                 let Held { reference, inode } = file;
                 core.unlock(hart, inode);
                 let add = AddName::begin(l, txn, list, reference);
-                Stepped::Ran(Link::Naming(add), Kind::Unlock)
+                Stepped::Ran(Onward::Runs(Link::Naming(add)), Kind::Unlock)
             }
             Link::Naming(add) => naming(add.step(hart, core)),
-            Link::Ends(quit) => ends(quit.step(hart, core)),
         }
     }
 
@@ -130,7 +130,6 @@ impl Link {
                 file.retire(retired);
             }
             Link::Naming(add) => add.retire(retired),
-            Link::Ends(quit) => quit.retire(retired),
         }
     }
 }
@@ -148,26 +147,26 @@ fn joined(l: Linking, txn: Txn) -> Link
 
 // The old path leads nowhere.
 #[tactic(auto, unfolding(crate::specs::Links::link_of, crate::specs::Links::LinkFits))]
-fn lost(l: Linking, txn: Txn, list: Listed, why: Stop) -> Link
+fn lost(l: Linking, txn: Txn, list: Listed, why: Stop) -> Onward<Link>
     requires { IsLinking l }
-    ensures program { link_of result ≡ link_found l.sizes l.old l.new (Misses why list) }
-    ensures fits { (hart : ℕ) (s : State) → txn ≡ hart → LinkFits hart s result }
+    ensures program { onward_of link_of result ≡ link_found l.sizes l.old l.new (Misses why list) }
+    ensures fits { (hart : ℕ) (s : State) → txn ≡ hart → OnwardFits LinkFits hart s result }
 {
     let Linking { sizes, old, new } = l;
     let ending = ending(&sizes, list, Call::Link { old, new }, stopped(why));
-    Link::Ends(Quit::with_nothing(ending, txn))
+    Onward::Ends(Quit::with_nothing(ending, txn))
 }
 
 // The link is refused, and what the old path leads to given up.
 #[tactic(auto, unfolding(crate::specs::Links::link_of, crate::specs::Links::LinkFits))]
-fn refuse(l: Linking, txn: Txn, list: Listed, held: Held, why: Cause) -> Link
+fn refuse(l: Linking, txn: Txn, list: Listed, held: Held, why: Cause) -> Onward<Link>
     requires { IsLinking l }
-    ensures program { link_of result ≡ quit l.sizes (inode_in held ∷ []) list (link_reply l.old l.new (answers.Failed why)) }
-    ensures fits { (hart : ℕ) (s : State) → txn ≡ hart → IsHeld hart held s → LinkFits hart s result }
+    ensures program { onward_of link_of result ≡ quit l.sizes (inode_in held ∷ []) list (link_reply l.old l.new (answers.Failed why)) }
+    ensures fits { (hart : ℕ) (s : State) → txn ≡ hart → IsHeld hart held s → OnwardFits LinkFits hart s result }
 {
     let Linking { sizes, old, new } = l;
     let ending = ending(&sizes, list, Call::Link { old, new }, Answer::Failed(why));
-    Link::Ends(Quit::with_inode(ending, txn, held))
+    Onward::Ends(Quit::with_inode(ending, txn, held))
 }
 
 // Why a link isn't made.
@@ -194,15 +193,15 @@ fn raised(file: &Dinode) -> u16
 
 // At what the old path leads to.
 #[tactic(auto, unfolding(crate::specs::Links::link_of, crate::specs::Links::LinkFits))]
-fn at(l: Linking, txn: Txn, list: Listed, held: Held) -> Link
+fn at(l: Linking, txn: Txn, list: Listed, held: Held) -> Onward<Link>
     requires l { IsLinking l }
     requires there { IsSome held.inode.value.content }
-    ensures program { link_of result ≡ link_at l.sizes l.old l.new (inode_in held) list }
-    ensures fits { (hart : ℕ) (s : State) → txn ≡ hart → HasRoom l.new list → IsHeld hart held s → LinkFits hart s result }
+    ensures program { onward_of link_of result ≡ link_at l.sizes l.old l.new (inode_in held) list }
+    ensures fits { (hart : ℕ) (s : State) → txn ≡ hart → HasRoom l.new list → IsHeld hart held s → OnwardFits LinkFits hart s result }
 {
     match refused(&record(&held.inode)) {
         Some(why) => refuse(l, txn, list, held, why),
-        None => raise(l, txn, list, held),
+        None => Onward::Runs(raise(l, txn, list, held)),
     }
 }
 
@@ -227,22 +226,25 @@ fn reaching(
     l: Linking,
     txn: Txn,
     stepped: Stepped<Reach, Reached, Kind>,
-) -> Stepped<Link, Reply, Kind>
+) -> Stepped<Onward<Link>, Reply, Kind>
     requires l { IsLinking l }
     requires there { LeftOf (λ _. Unit {0}) (IsThere l.old) stepped }
-    ensures follows { Follows (reach_of l.old) (reached_as l.old) link_of (λ reply. reply) (link_found l.sizes l.old l.new) stepped result }
+    ensures follows { Follows (reach_of l.old) (reached_as l.old) (onward_of link_of) (λ reply. reply) (link_found l.sizes l.old l.new) stepped result }
     ensures fits { (hart : ℕ) (s : State) → txn ≡ hart
         → LeftOf (λ m. (most_reached l.old m ≤ most_elements) × ReachFits l.old hart s m) (λ r. (length (kept_by r) ≤ most_elements) × IsReached l.old hart s r) stepped
-        → LeftOf (LinkFits hart s) (λ _. Unit {0}) result }
+        → LeftOf (OnwardFits LinkFits hart s) (λ _. Unit {0}) result }
 {
     match stepped {
-        Stepped::Waits(reach) => Stepped::Waits(Link::Reaching(l, txn, reach)),
-        Stepped::Ran(reach, kind) => Stepped::Ran(Link::Reaching(l, txn, reach), kind),
+        Stepped::Waits(reach) => Stepped::Waits(Onward::Runs(Link::Reaching(l, txn, reach))),
+        Stepped::Ran(reach, kind) => Stepped::Ran(
+            Onward::Runs(Link::Reaching(l, txn, reach)),
+            kind,
+        ),
         Stepped::Done(reached, kind) => match reached {
             Reached::At(held, _, list) => Stepped::Ran(at(l, txn, list, held), kind),
             Reached::Lost(why, list) => Stepped::Ran(lost(l, txn, list, why), kind),
         },
-        Stepped::Stopped(reach) => Stepped::Stopped(Link::Reaching(l, txn, reach)),
+        Stepped::Stopped(reach) => Stepped::Stopped(Onward::Runs(Link::Reaching(l, txn, reach))),
     }
 }
 
@@ -254,39 +256,47 @@ fn raising(
     list: Listed,
     file: Held,
     stepped: Stepped<StoreInode, (), Kind>,
-) -> Stepped<Link, Reply, Kind>
+) -> Stepped<Onward<Link>, Reply, Kind>
     requires { IsLinking l }
-    ensures follows { Follows store_of (λ x. x) link_of (λ reply. reply) (λ _. link_raised l.sizes l.old l.new (inode_in file) list) stepped result }
-    ensures fits { (hart : ℕ) (s : State) → txn ≡ hart → HasRoom l.new list → IsHeld hart file s → LeftOf (StoreFits hart s) (λ _. Unit {0}) stepped → LeftOf (LinkFits hart s) (λ _. Unit {0}) result }
+    ensures follows { Follows store_of (λ x. x) (onward_of link_of) (λ reply. reply) (λ _. link_raised l.sizes l.old l.new (inode_in file) list) stepped result }
+    ensures fits { (hart : ℕ) (s : State) → txn ≡ hart → HasRoom l.new list → IsHeld hart file s → LeftOf (StoreFits hart s) (λ _. Unit {0}) stepped → LeftOf (OnwardFits LinkFits hart s) (λ _. Unit {0}) result }
 {
     match stepped {
-        Stepped::Waits(store) => Stepped::Waits(Link::Raising(l, txn, list, file, store)),
-        Stepped::Ran(store, kind) => Stepped::Ran(Link::Raising(l, txn, list, file, store), kind),
-        Stepped::Done((), kind) => Stepped::Ran(Link::Unlock(l, txn, list, file), kind),
-        Stepped::Stopped(store) => Stepped::Stopped(Link::Raising(l, txn, list, file, store)),
+        Stepped::Waits(store) => Stepped::Waits(Onward::Runs(Link::Raising(
+            l, txn, list, file, store,
+        ))),
+        Stepped::Ran(store, kind) => Stepped::Ran(
+            Onward::Runs(Link::Raising(l, txn, list, file, store)),
+            kind,
+        ),
+        Stepped::Done((), kind) => Stepped::Ran(
+            Onward::Runs(Link::Unlock(l, txn, list, file)),
+            kind,
+        ),
+        Stepped::Stopped(store) => Stepped::Stopped(Onward::Runs(Link::Raising(
+            l, txn, list, file, store,
+        ))),
+    }
+}
+
+// What is left of it while the new name is entered.
+fn in_naming(left: Onward<AddName>) -> Onward<Link>
+    ensures { result ≡ onward_in (λ m. linking.Naming m) left }
+{
+    match left {
+        Onward::Runs(add) => Onward::Runs(Link::Naming(add)),
+        Onward::Ends(quit) => Onward::Ends(quit),
     }
 }
 
 // A step while the new name is entered.
-fn naming(stepped: Stepped<AddName, Reply, Kind>) -> Stepped<Link, Reply, Kind>
-    ensures { result ≡ ends_within (λ m. linking.Naming m) (λ reply. reply) stepped }
+fn naming(stepped: Stepped<Onward<AddName>, Reply, Kind>) -> Stepped<Onward<Link>, Reply, Kind>
+    ensures { result ≡ ends_within (onward_in (λ m. linking.Naming m)) (λ reply. reply) stepped }
 {
     match stepped {
-        Stepped::Waits(add) => Stepped::Waits(Link::Naming(add)),
-        Stepped::Ran(add, kind) => Stepped::Ran(Link::Naming(add), kind),
+        Stepped::Waits(left) => Stepped::Waits(in_naming(left)),
+        Stepped::Ran(left, kind) => Stepped::Ran(in_naming(left), kind),
         Stepped::Done(reply, kind) => Stepped::Done(reply, kind),
-        Stepped::Stopped(add) => Stepped::Stopped(Link::Naming(add)),
-    }
-}
-
-// A step of the call's end.
-fn ends(stepped: Stepped<Quit, Reply, Kind>) -> Stepped<Link, Reply, Kind>
-    ensures { result ≡ ends_within (λ m. linking.Ends m) (λ reply. reply) stepped }
-{
-    match stepped {
-        Stepped::Waits(quit) => Stepped::Waits(Link::Ends(quit)),
-        Stepped::Ran(quit, kind) => Stepped::Ran(Link::Ends(quit), kind),
-        Stepped::Done(reply, kind) => Stepped::Done(reply, kind),
-        Stepped::Stopped(quit) => Stepped::Stopped(Link::Ends(quit)),
+        Stepped::Stopped(left) => Stepped::Stopped(in_naming(left)),
     }
 }

@@ -6,16 +6,17 @@ ghost use Rattle.fs_machine.specs.Steps.{State, state_of};
 ghost use Rattle.fs_machine.specs.Machines.{MayNext, Moves, Answers, CallsOnce};
 ghost use Rattle.fs_machine.specs.Tied.{LeavesTied};
 ghost use Rattle.inode_table.specs.Machines.{store_of, StoreFits};
-ghost use Rattle.inode_data.specs.Machines.{ends_within};
 ghost use Rattle.file_table.specs.Machines.{IsEarly};
 ghost use Rattle.syscalls.specs.Nesting.{Follows};
+ghost use Rattle.syscalls.specs.Onwards.{onward_of, OnwardFits};
 ghost use Rattle.syscalls.specs.Parts.{quit};
 ghost use Rattle.syscalls.specs.Taking.{inode_in, IsHeld};
 ghost use Rattle.syscalls.specs.Ends.{give_of, GiveApart, GiveFits};
 ghost use Rattle.syscalls.specs.Unlinking.{leave_parent, links_of, lower_child, lower_of, lower_parent, lowered, store_held, with_link_less, AreHeld, LowerFits};
-ghost use Rattle.syscalls.specs.declared.lower.Lower.TheVariants as lowering;
+ghost use Rattle.syscalls.specs.declared.onward.Onward.TheVariants as onward;
 
 use crate::give::GiveUp;
+use crate::onward::Onward;
 use crate::quit::Quit;
 use crate::tail::Ending;
 use crate::take::Held;
@@ -38,8 +39,6 @@ pub enum Lower {
     Leaving(Ending, Txn, Held, GiveUp),
     /// What the name was for is stored, with a link less.
     Child(Ending, Txn, Held, StoreInode),
-    /// The call ends.
-    Ends(Quit),
 }
 
 impl Lower {
@@ -63,13 +62,17 @@ impl Lower {
 
     /// One operation.
     #[tactic(auto, unfolding(crate::specs::Unlinking::lower_of, crate::specs::Unlinking::LowerFits))]
-    pub fn step<D: Device>(self, hart: u8, core: &mut Core<D>) -> Stepped<Lower, Reply, Kind>
+    pub fn step<D: Device>(
+        self,
+        hart: u8,
+        core: &mut Core<D>,
+    ) -> Stepped<Onward<Lower>, Reply, Kind>
         requires may { MayNext hart (lower_of self) (state_of D.contents D.failures core.old) }
         requires fits { LowerFits hart (state_of D.contents D.failures core.old) self }
-        ensures moves { Moves lower_of (λ reply. reply) hart self result (state_of D.contents D.failures core.old) (state_of D.contents D.failures core.new) }
-        ensures honest { Answers lower_of hart self result (state_of D.contents D.failures core.old) (state_of D.contents D.failures core.new) }
-        ensures still { Still lower_of result self core.old core.new }
-        ensures fits { LeftOf (LowerFits hart (state_of D.contents D.failures core.new)) (λ _. Unit {0}) result }
+        ensures moves { Moves (onward_of lower_of) (λ reply. reply) hart (onward.Runs self) result (state_of D.contents D.failures core.old) (state_of D.contents D.failures core.new) }
+        ensures honest { Answers (onward_of lower_of) hart (onward.Runs self) result (state_of D.contents D.failures core.old) (state_of D.contents D.failures core.new) }
+        ensures still { Still (onward_of lower_of) result (onward.Runs self) core.old core.new }
+        ensures fits { LeftOf (OnwardFits LowerFits hart (state_of D.contents D.failures core.new)) (λ _. Unit {0}) result }
         ensures others { LeavesTied hart (state_of D.contents D.failures core.old) (state_of D.contents D.failures core.new) }
         ensures called { CallsOnce D.Called core.old.log.cache.device core.new.log.cache.device }
     {
@@ -89,7 +92,6 @@ impl Lower {
                 let stepped = store.step(hart, &mut txn, core);
                 child_storing(ending, txn, child, stepped)
             }
-            Lower::Ends(quit) => ends(quit.step(hart, core)),
         }
     }
 
@@ -115,7 +117,6 @@ impl Lower {
                 child.retire(retired);
                 store.retire(retired);
             }
-            Lower::Ends(quit) => quit.retire(retired),
         }
     }
 }
@@ -185,19 +186,26 @@ fn parent_storing(
     parent: Held,
     child: Held,
     stepped: Stepped<StoreInode, (), Kind>,
-) -> Stepped<Lower, Reply, Kind>
+) -> Stepped<Onward<Lower>, Reply, Kind>
     requires { IsEarly ending.sizes.inodestart }
-    ensures follows { Follows store_of (λ x. x) lower_of (λ reply. reply) (λ _. leave_parent ending (inode_in parent) (inode_in child)) stepped result }
-    ensures fits { (hart : ℕ) (s : State) → txn ≡ hart → AreHeld hart parent child s → LeftOf (StoreFits hart s) (λ _. Unit {0}) stepped → LeftOf (LowerFits hart s) (λ _. Unit {0}) result }
+    ensures follows { Follows store_of (λ x. x) (onward_of lower_of) (λ reply. reply) (λ _. leave_parent ending (inode_in parent) (inode_in child)) stepped result }
+    ensures fits { (hart : ℕ) (s : State) → txn ≡ hart → AreHeld hart parent child s → LeftOf (StoreFits hart s) (λ _. Unit {0}) stepped → LeftOf (OnwardFits LowerFits hart s) (λ _. Unit {0}) result }
 {
     match stepped {
-        Stepped::Waits(m) => Stepped::Waits(Lower::Parent(ending, txn, parent, child, m)),
-        Stepped::Ran(m, kind) => Stepped::Ran(Lower::Parent(ending, txn, parent, child, m), kind),
+        Stepped::Waits(m) => Stepped::Waits(Onward::Runs(Lower::Parent(
+            ending, txn, parent, child, m,
+        ))),
+        Stepped::Ran(m, kind) => Stepped::Ran(
+            Onward::Runs(Lower::Parent(ending, txn, parent, child, m)),
+            kind,
+        ),
         Stepped::Done((), kind) => {
             let give = GiveUp::new(parent, &ending.sizes);
-            Stepped::Ran(Lower::Leaving(ending, txn, child, give), kind)
+            Stepped::Ran(Onward::Runs(Lower::Leaving(ending, txn, child, give)), kind)
         }
-        Stepped::Stopped(m) => Stepped::Stopped(Lower::Parent(ending, txn, parent, child, m)),
+        Stepped::Stopped(m) => Stepped::Stopped(Onward::Runs(Lower::Parent(
+            ending, txn, parent, child, m,
+        ))),
     }
 }
 
@@ -208,17 +216,24 @@ fn leaving(
     txn: Txn,
     child: Held,
     stepped: Stepped<GiveUp, (), Kind>,
-) -> Stepped<Lower, Reply, Kind>
+) -> Stepped<Onward<Lower>, Reply, Kind>
     requires early { IsEarly ending.sizes.inodestart }
     requires there { IsSome child.inode.value.content }
-    ensures follows { Follows give_of (λ x. x) lower_of (λ reply. reply) (λ _. lower_child ending (inode_in child)) stepped result }
-    ensures fits { (hart : ℕ) (s : State) → txn ≡ hart → IsHeld hart child s → LeftOf (λ m. GiveFits hart s m × GiveApart child.reference m) (λ _. Unit {0}) stepped → LeftOf (LowerFits hart s) (λ _. Unit {0}) result }
+    ensures follows { Follows give_of (λ x. x) (onward_of lower_of) (λ reply. reply) (λ _. lower_child ending (inode_in child)) stepped result }
+    ensures fits { (hart : ℕ) (s : State) → txn ≡ hart → IsHeld hart child s → LeftOf (λ m. GiveFits hart s m × GiveApart child.reference m) (λ _. Unit {0}) stepped → LeftOf (OnwardFits LowerFits hart s) (λ _. Unit {0}) result }
 {
     match stepped {
-        Stepped::Waits(give) => Stepped::Waits(Lower::Leaving(ending, txn, child, give)),
-        Stepped::Ran(give, kind) => Stepped::Ran(Lower::Leaving(ending, txn, child, give), kind),
-        Stepped::Done((), kind) => Stepped::Ran(to_child(ending, txn, child), kind),
-        Stepped::Stopped(give) => Stepped::Stopped(Lower::Leaving(ending, txn, child, give)),
+        Stepped::Waits(give) => Stepped::Waits(Onward::Runs(Lower::Leaving(
+            ending, txn, child, give,
+        ))),
+        Stepped::Ran(give, kind) => Stepped::Ran(
+            Onward::Runs(Lower::Leaving(ending, txn, child, give)),
+            kind,
+        ),
+        Stepped::Done((), kind) => Stepped::Ran(Onward::Runs(to_child(ending, txn, child)), kind),
+        Stepped::Stopped(give) => Stepped::Stopped(Onward::Runs(Lower::Leaving(
+            ending, txn, child, give,
+        ))),
     }
 }
 
@@ -229,29 +244,20 @@ fn child_storing(
     txn: Txn,
     child: Held,
     stepped: Stepped<StoreInode, (), Kind>,
-) -> Stepped<Lower, Reply, Kind>
+) -> Stepped<Onward<Lower>, Reply, Kind>
     requires { IsEarly ending.sizes.inodestart }
-    ensures follows { Follows store_of (λ x. x) lower_of (λ reply. reply) (λ _. quit ending.sizes (inode_in child ∷ []) ending.list ending.reply) stepped result }
-    ensures fits { (hart : ℕ) (s : State) → txn ≡ hart → IsHeld hart child s → LeftOf (StoreFits hart s) (λ _. Unit {0}) stepped → LeftOf (LowerFits hart s) (λ _. Unit {0}) result }
+    ensures follows { Follows store_of (λ x. x) (onward_of lower_of) (λ reply. reply) (λ _. quit ending.sizes (inode_in child ∷ []) ending.list ending.reply) stepped result }
+    ensures fits { (hart : ℕ) (s : State) → txn ≡ hart → IsHeld hart child s → LeftOf (StoreFits hart s) (λ _. Unit {0}) stepped → LeftOf (OnwardFits LowerFits hart s) (λ _. Unit {0}) result }
 {
     match stepped {
-        Stepped::Waits(m) => Stepped::Waits(Lower::Child(ending, txn, child, m)),
-        Stepped::Ran(m, kind) => Stepped::Ran(Lower::Child(ending, txn, child, m), kind),
+        Stepped::Waits(m) => Stepped::Waits(Onward::Runs(Lower::Child(ending, txn, child, m))),
+        Stepped::Ran(m, kind) => Stepped::Ran(
+            Onward::Runs(Lower::Child(ending, txn, child, m)),
+            kind,
+        ),
         Stepped::Done((), kind) => {
-            Stepped::Ran(Lower::Ends(Quit::with_inode(ending, txn, child)), kind)
+            Stepped::Ran(Onward::Ends(Quit::with_inode(ending, txn, child)), kind)
         }
-        Stepped::Stopped(m) => Stepped::Stopped(Lower::Child(ending, txn, child, m)),
-    }
-}
-
-// A step of the call's end.
-fn ends(stepped: Stepped<Quit, Reply, Kind>) -> Stepped<Lower, Reply, Kind>
-    ensures { result ≡ ends_within (λ m. lowering.Ends m) (λ reply. reply) stepped }
-{
-    match stepped {
-        Stepped::Waits(quit) => Stepped::Waits(Lower::Ends(quit)),
-        Stepped::Ran(quit, kind) => Stepped::Ran(Lower::Ends(quit), kind),
-        Stepped::Done(reply, kind) => Stepped::Done(reply, kind),
-        Stepped::Stopped(quit) => Stepped::Stopped(Lower::Ends(quit)),
+        Stepped::Stopped(m) => Stepped::Stopped(Onward::Runs(Lower::Child(ending, txn, child, m))),
     }
 }

@@ -7,11 +7,11 @@ ghost use Rattle.fs_machine.specs.Machines.{MayNext, Moves, Answers, CallsOnce};
 ghost use Rattle.fs_machine.specs.Tied.{LeavesTied};
 ghost use Rattle.inode_table.specs.Machines.{store_of, StoreFits};
 ghost use Rattle.inode_table.specs.Programs.{record_of};
-ghost use Rattle.inode_data.specs.Machines.{ends_within};
 ghost use Rattle.image_tree.specs.Trees.{count_of};
 ghost use Rattle.plain_tree.specs.Widths.{count_limit};
 ghost use Rattle.path_walk.specs.Elements.{longest_path, name_in, IsElement};
 ghost use Rattle.syscalls.specs.Nesting.{Follows};
+ghost use Rattle.syscalls.specs.Onwards.{onward_of, OnwardFits};
 ghost use Rattle.syscalls.specs.Parts.{quit, stopped};
 ghost use Rattle.syscalls.specs.Taking.{inode_in, IsHeld};
 ghost use Rattle.syscalls.specs.Ends.{give_of, GiveApart, GiveFits};
@@ -21,10 +21,12 @@ ghost use Rattle.syscalls.specs.Mkdirs.{leave_made, mkdir_missing, mkdir_named, 
 ghost use Rattle.plain_tree.specs.declared.answer.Answer.TheVariants as answers;
 ghost use Rattle.syscalls.specs.declared.seek.Dots.TheVariants as dots;
 ghost use Rattle.syscalls.specs.declared.mkdir.Mkdir.TheVariants as mkdir;
+ghost use Rattle.syscalls.specs.declared.onward.Onward.TheVariants as onward;
 
 use crate::give::GiveUp;
 use crate::make::{MOST_LINKS, Make, Named, Sort, store, with_links};
 use crate::on_path::{OnPath, ending, stopped};
+use crate::onward::Onward;
 use crate::quit::Quit;
 use crate::replies::count_of;
 use crate::seek::{Dots, LastName, Seek, Seen};
@@ -53,8 +55,6 @@ pub enum Mkdir {
     Raising(OnPath, Txn, Listed, Held, Held, StoreInode),
     /// The parent is given up.
     Leaving(OnPath, Txn, Listed, Held, GiveUp),
-    /// The call ends.
-    Ends(Quit),
 }
 
 impl Mkdir {
@@ -75,19 +75,23 @@ impl Mkdir {
 
     /// One operation.
     #[tactic(auto, unfolding(crate::specs::Mkdirs::mkdir_of, crate::specs::Mkdirs::MkdirFits, fs_machine::specs::Premises::Honest))]
-    pub fn step<D: Device>(self, hart: u8, core: &mut Core<D>) -> Stepped<Mkdir, Reply, Kind>
+    pub fn step<D: Device>(
+        self,
+        hart: u8,
+        core: &mut Core<D>,
+    ) -> Stepped<Onward<Mkdir>, Reply, Kind>
         requires may { MayNext hart (mkdir_of self) (state_of D.contents D.failures core.old) }
         requires fits { MkdirFits hart (state_of D.contents D.failures core.old) self }
-        ensures moves { Moves mkdir_of (λ reply. reply) hart self result (state_of D.contents D.failures core.old) (state_of D.contents D.failures core.new) }
-        ensures honest { Answers mkdir_of hart self result (state_of D.contents D.failures core.old) (state_of D.contents D.failures core.new) }
-        ensures still { Still mkdir_of result self core.old core.new }
-        ensures fits { LeftOf (MkdirFits hart (state_of D.contents D.failures core.new)) (λ _. Unit {0}) result }
+        ensures moves { Moves (onward_of mkdir_of) (λ reply. reply) hart (onward.Runs self) result (state_of D.contents D.failures core.old) (state_of D.contents D.failures core.new) }
+        ensures honest { Answers (onward_of mkdir_of) hart (onward.Runs self) result (state_of D.contents D.failures core.old) (state_of D.contents D.failures core.new) }
+        ensures still { Still (onward_of mkdir_of) result (onward.Runs self) core.old core.new }
+        ensures fits { LeftOf (OnwardFits MkdirFits hart (state_of D.contents D.failures core.new)) (λ _. Unit {0}) result }
         ensures others { LeavesTied hart (state_of D.contents D.failures core.old) (state_of D.contents D.failures core.new) }
         ensures called { CallsOnce D.Called core.old.log.cache.device core.new.log.cache.device }
     {
         match self {
             Mkdir::Join(on) => match core.join(hart) {
-                None => Stepped::Waits(Mkdir::Join(on)),
+                None => Stepped::Waits(Onward::Runs(Mkdir::Join(on))),
                 Some(txn) => Stepped::Ran(joined(on, txn), Kind::Join),
             },
             Mkdir::Seeking(on, txn, seek) => {
@@ -110,7 +114,6 @@ impl Mkdir {
                 let stepped = give.step(hart, &mut txn, core);
                 leaving(on, txn, list, child, stepped)
             }
-            Mkdir::Ends(quit) => ends(quit.step(hart, core)),
         }
     }
 
@@ -140,17 +143,16 @@ impl Mkdir {
                 child.retire(retired);
                 give.retire(retired);
             }
-            Mkdir::Ends(quit) => quit.retire(retired),
         }
     }
 }
 
 // After a transaction was joined.
 #[tactic(auto, unfolding(crate::specs::Mkdirs::mkdir_of, crate::specs::Mkdirs::MkdirFits))]
-fn joined(on: OnPath, txn: Txn) -> Mkdir
+fn joined(on: OnPath, txn: Txn) -> Onward<Mkdir>
     requires { IsNaming on }
-    ensures program { mkdir_of result ≡ bind (seek dots.LookedUp on.sizes.inodestart on.path []) (mkdir_seen on.sizes on.path) }
-    ensures fits { (hart : ℕ) (s : State) → txn ≡ hart → MkdirFits hart s result }
+    ensures program { onward_of mkdir_of result ≡ bind (seek dots.LookedUp on.sizes.inodestart on.path []) (mkdir_seen on.sizes on.path) }
+    ensures fits { (hart : ℕ) (s : State) → txn ≡ hart → OnwardFits MkdirFits hart s result }
 {
     let begun = Seek::begin(
         on.path.as_slice(),
@@ -159,51 +161,51 @@ fn joined(on: OnPath, txn: Txn) -> Mkdir
         Listed::new(),
     );
     match begun {
-        Begun::Runs(seek) => Mkdir::Seeking(on, txn, seek),
+        Begun::Runs(seek) => Onward::Runs(Mkdir::Seeking(on, txn, seek)),
         Begun::Is(seen) => sees(on, txn, seen),
     }
 }
 
 // The call ends with this answer and the inode in hand, which it gives up.
 #[tactic(auto, unfolding(crate::specs::Mkdirs::mkdir_of, crate::specs::Mkdirs::MkdirFits))]
-fn quit(on: OnPath, txn: Txn, list: Listed, held: Held, answer: Answer) -> Mkdir
+fn quit(on: OnPath, txn: Txn, list: Listed, held: Held, answer: Answer) -> Onward<Mkdir>
     requires { IsNaming on }
-    ensures program { mkdir_of result ≡ quit on.sizes (inode_in held ∷ []) list (mkdir_reply on.path answer) }
-    ensures fits { (hart : ℕ) (s : State) → txn ≡ hart → IsHeld hart held s → MkdirFits hart s result }
+    ensures program { onward_of mkdir_of result ≡ quit on.sizes (inode_in held ∷ []) list (mkdir_reply on.path answer) }
+    ensures fits { (hart : ℕ) (s : State) → txn ≡ hart → IsHeld hart held s → OnwardFits MkdirFits hart s result }
 {
     let OnPath { sizes, path } = on;
     let ending = ending(&sizes, list, Call::Mkdir { path }, answer);
-    Mkdir::Ends(Quit::with_inode(ending, txn, held))
+    Onward::Ends(Quit::with_inode(ending, txn, held))
 }
 
 // The name can't be there.
-fn missing(on: OnPath, txn: Txn, list: Listed, held: Held) -> Mkdir
+fn missing(on: OnPath, txn: Txn, list: Listed, held: Held) -> Onward<Mkdir>
     requires { IsNaming on }
-    ensures program { mkdir_of result ≡ mkdir_missing on.sizes on.path (inode_in held) list }
-    ensures fits { (hart : ℕ) (s : State) → txn ≡ hart → IsHeld hart held s → MkdirFits hart s result }
+    ensures program { onward_of mkdir_of result ≡ mkdir_missing on.sizes on.path (inode_in held) list }
+    ensures fits { (hart : ℕ) (s : State) → txn ≡ hart → IsHeld hart held s → OnwardFits MkdirFits hart s result }
 {
     quit(on, txn, list, held, Answer::Failed(Cause::NoEntry))
 }
 
 // There is no parent.
 #[tactic(auto, unfolding(crate::specs::Mkdirs::mkdir_of, crate::specs::Mkdirs::MkdirFits))]
-fn lost(on: OnPath, txn: Txn, list: Listed, why: Stop) -> Mkdir
+fn lost(on: OnPath, txn: Txn, list: Listed, why: Stop) -> Onward<Mkdir>
     requires { IsNaming on }
-    ensures program { mkdir_of result ≡ quit on.sizes [] list (mkdir_reply on.path (stopped why)) }
-    ensures fits { (hart : ℕ) (s : State) → txn ≡ hart → MkdirFits hart s result }
+    ensures program { onward_of mkdir_of result ≡ quit on.sizes [] list (mkdir_reply on.path (stopped why)) }
+    ensures fits { (hart : ℕ) (s : State) → txn ≡ hart → OnwardFits MkdirFits hart s result }
 {
     let OnPath { sizes, path } = on;
     let ending = ending(&sizes, list, Call::Mkdir { path }, stopped(why));
-    Mkdir::Ends(Quit::with_nothing(ending, txn))
+    Onward::Ends(Quit::with_nothing(ending, txn))
 }
 
 // What the parent has under the last name.
 #[tactic(auto, unfolding(crate::specs::Mkdirs::mkdir_of, crate::specs::Mkdirs::MkdirFits))]
-fn sees(on: OnPath, txn: Txn, seen: Seen) -> Mkdir
+fn sees(on: OnPath, txn: Txn, seen: Seen) -> Onward<Mkdir>
     requires on { IsNaming on }
     requires there { IsSight on.path seen }
-    ensures program { mkdir_of result ≡ mkdir_seen on.sizes on.path (seen_as on.path seen) }
-    ensures fits { (hart : ℕ) (s : State) → txn ≡ hart → IsSeen on.path hart s seen → MkdirFits hart s result }
+    ensures program { onward_of mkdir_of result ≡ mkdir_seen on.sizes on.path (seen_as on.path seen) }
+    ensures fits { (hart : ℕ) (s : State) → txn ≡ hart → IsSeen on.path hart s seen → OnwardFits MkdirFits hart s result }
 {
     match seen {
         Seen::Name(last) => looked_up(on, txn, last),
@@ -229,11 +231,11 @@ fn refused(found: Option<Found>, parent: &Dinode) -> Option<Cause>
 
 // The last name was looked up.
 #[tactic(auto, unfolding(crate::specs::Mkdirs::mkdir_of, crate::specs::Mkdirs::MkdirFits))]
-fn looked_up(on: OnPath, txn: Txn, last: LastName) -> Mkdir
+fn looked_up(on: OnPath, txn: Txn, last: LastName) -> Onward<Mkdir>
     requires on { IsNaming on }
     requires there { IsSome last.parent.inode.value.content }
-    ensures program { mkdir_of result ≡ mkdir_on on.sizes on.path (inode_in last.parent) (name_in on.path last.element) last.list (mkdir_refused last.found (record_of (inode_in last.parent))) }
-    ensures fits { (hart : ℕ) (s : State) → txn ≡ hart → IsElement on.path last.element → IsParent hart last.parent.reference last.parent.inode s → MkdirFits hart s result }
+    ensures program { onward_of mkdir_of result ≡ mkdir_on on.sizes on.path (inode_in last.parent) (name_in on.path last.element) last.list (mkdir_refused last.found (record_of (inode_in last.parent))) }
+    ensures fits { (hart : ℕ) (s : State) → txn ≡ hart → IsElement on.path last.element → IsParent hart last.parent.reference last.parent.inode s → OnwardFits MkdirFits hart s result }
 {
     let LastName {
         parent,
@@ -247,24 +249,28 @@ fn looked_up(on: OnPath, txn: Txn, last: LastName) -> Mkdir
         None => {
             let links = count_of(inode.nlink) + 1;
             let make = Make::new(&on.sizes, Sort::Directory, parent);
-            Mkdir::Making(on, txn, list, element, links, make)
+            Onward::Runs(Mkdir::Making(on, txn, list, element, links, make))
         }
     }
 }
 
 // A step while the last name is sought.
 #[tactic(auto, unfolding(crate::specs::Mkdirs::mkdir_of, crate::specs::Mkdirs::MkdirFits))]
-fn seeking(on: OnPath, txn: Txn, stepped: Stepped<Seek, Seen, Kind>) -> Stepped<Mkdir, Reply, Kind>
+fn seeking(
+    on: OnPath,
+    txn: Txn,
+    stepped: Stepped<Seek, Seen, Kind>,
+) -> Stepped<Onward<Mkdir>, Reply, Kind>
     requires on { IsNaming on }
     requires there { LeftOf (λ _. Unit {0}) (IsSight on.path) stepped }
-    ensures follows { Follows (seek_of on.path) (seen_as on.path) mkdir_of (λ reply. reply) (mkdir_seen on.sizes on.path) stepped result }
-    ensures fits { (hart : ℕ) (s : State) → txn ≡ hart → LeftOf (SeekFits on.path hart s) (IsSeen on.path hart s) stepped → LeftOf (MkdirFits hart s) (λ _. Unit {0}) result }
+    ensures follows { Follows (seek_of on.path) (seen_as on.path) (onward_of mkdir_of) (λ reply. reply) (mkdir_seen on.sizes on.path) stepped result }
+    ensures fits { (hart : ℕ) (s : State) → txn ≡ hart → LeftOf (SeekFits on.path hart s) (IsSeen on.path hart s) stepped → LeftOf (OnwardFits MkdirFits hart s) (λ _. Unit {0}) result }
 {
     match stepped {
-        Stepped::Waits(seek) => Stepped::Waits(Mkdir::Seeking(on, txn, seek)),
-        Stepped::Ran(seek, kind) => Stepped::Ran(Mkdir::Seeking(on, txn, seek), kind),
+        Stepped::Waits(seek) => Stepped::Waits(Onward::Runs(Mkdir::Seeking(on, txn, seek))),
+        Stepped::Ran(seek, kind) => Stepped::Ran(Onward::Runs(Mkdir::Seeking(on, txn, seek)), kind),
         Stepped::Done(seen, kind) => Stepped::Ran(sees(on, txn, seen), kind),
-        Stepped::Stopped(seek) => Stepped::Stopped(Mkdir::Seeking(on, txn, seek)),
+        Stepped::Stopped(seek) => Stepped::Stopped(Onward::Runs(Mkdir::Seeking(on, txn, seek))),
     }
 }
 
@@ -277,38 +283,41 @@ fn making(
     element: Element,
     links: u16,
     stepped: Stepped<Make, Named, Kind>,
-) -> Stepped<Mkdir, Reply, Kind>
+) -> Stepped<Onward<Mkdir>, Reply, Kind>
     requires on { IsNaming on }
     requires few { links < 2 ^ 15 }
     requires there { LeftOf (λ _. Unit {0}) IsThereNamed stepped }
-    ensures follows { Follows (make_of (name_in on.path element)) named_as mkdir_of (λ reply. reply) (mkdir_named on.sizes on.path links list) stepped result }
-    ensures fits { (hart : ℕ) (s : State) → txn ≡ hart → IsElement on.path element → LeftOf (MakeFits hart s) (IsNamed hart s) stepped → LeftOf (MkdirFits hart s) (λ _. Unit {0}) result }
+    ensures follows { Follows (make_of (name_in on.path element)) named_as (onward_of mkdir_of) (λ reply. reply) (mkdir_named on.sizes on.path links list) stepped result }
+    ensures fits { (hart : ℕ) (s : State) → txn ≡ hart → IsElement on.path element → LeftOf (MakeFits hart s) (IsNamed hart s) stepped → LeftOf (OnwardFits MkdirFits hart s) (λ _. Unit {0}) result }
 {
     match stepped {
         Stepped::Waits(make) => {
-            Stepped::Waits(Mkdir::Making(on, txn, list, element, links, make))
+            Stepped::Waits(Onward::Runs(Mkdir::Making(on, txn, list, element, links, make)))
         }
         Stepped::Ran(make, kind) => {
-            Stepped::Ran(Mkdir::Making(on, txn, list, element, links, make), kind)
+            Stepped::Ran(
+                Onward::Runs(Mkdir::Making(on, txn, list, element, links, make)),
+                kind,
+            )
         }
         Stepped::Done(named, kind) => Stepped::Ran(came(on, txn, list, links, named), kind),
         Stepped::Stopped(make) => {
-            Stepped::Stopped(Mkdir::Making(on, txn, list, element, links, make))
+            Stepped::Stopped(Onward::Runs(Mkdir::Making(on, txn, list, element, links, make)))
         }
     }
 }
 
 // What the making came to.
 #[tactic(auto, unfolding(crate::specs::Mkdirs::mkdir_of, crate::specs::Mkdirs::MkdirFits))]
-fn came(on: OnPath, txn: Txn, list: Listed, links: u16, named: Named) -> Mkdir
+fn came(on: OnPath, txn: Txn, list: Listed, links: u16, named: Named) -> Onward<Mkdir>
     requires on { IsNaming on }
     requires few { links < 2 ^ 15 }
     requires there { IsThereNamed named }
-    ensures program { mkdir_of result ≡ mkdir_named on.sizes on.path links list (named_as named) }
-    ensures fits { (hart : ℕ) (s : State) → txn ≡ hart → IsNamed hart s named → MkdirFits hart s result }
+    ensures program { onward_of mkdir_of result ≡ mkdir_named on.sizes on.path links list (named_as named) }
+    ensures fits { (hart : ℕ) (s : State) → txn ≡ hart → IsNamed hart s named → OnwardFits MkdirFits hart s result }
 {
     match named {
-        Named::There(parent, child) => raise(on, txn, list, links, parent, child),
+        Named::There(parent, child) => Onward::Runs(raise(on, txn, list, links, parent, child)),
         Named::Lacks(parent, what) => quit(on, txn, list, parent, Answer::Full(what)),
     }
 }
@@ -336,24 +345,30 @@ fn raising(
     parent: Held,
     child: Held,
     stepped: Stepped<StoreInode, (), Kind>,
-) -> Stepped<Mkdir, Reply, Kind>
+) -> Stepped<Onward<Mkdir>, Reply, Kind>
     requires { IsNaming on }
-    ensures follows { Follows store_of (λ x. x) mkdir_of (λ reply. reply) (λ _. leave_made on.sizes on.path (inode_in parent) (inode_in child) list) stepped result }
-    ensures fits { (hart : ℕ) (s : State) → txn ≡ hart → IsHeld hart parent s → IsHeld hart child s → parent.reference ≢ child.reference → LeftOf (StoreFits hart s) (λ _. Unit {0}) stepped → LeftOf (MkdirFits hart s) (λ _. Unit {0}) result }
+    ensures follows { Follows store_of (λ x. x) (onward_of mkdir_of) (λ reply. reply) (λ _. leave_made on.sizes on.path (inode_in parent) (inode_in child) list) stepped result }
+    ensures fits { (hart : ℕ) (s : State) → txn ≡ hart → IsHeld hart parent s → IsHeld hart child s → parent.reference ≢ child.reference → LeftOf (StoreFits hart s) (λ _. Unit {0}) stepped → LeftOf (OnwardFits MkdirFits hart s) (λ _. Unit {0}) result }
 {
     match stepped {
         Stepped::Waits(store) => {
-            Stepped::Waits(Mkdir::Raising(on, txn, list, parent, child, store))
+            Stepped::Waits(Onward::Runs(Mkdir::Raising(on, txn, list, parent, child, store)))
         }
         Stepped::Ran(store, kind) => {
-            Stepped::Ran(Mkdir::Raising(on, txn, list, parent, child, store), kind)
+            Stepped::Ran(
+                Onward::Runs(Mkdir::Raising(on, txn, list, parent, child, store)),
+                kind,
+            )
         }
         Stepped::Done((), kind) => {
             let give = GiveUp::new(parent, &on.sizes);
-            Stepped::Ran(Mkdir::Leaving(on, txn, list, child, give), kind)
+            Stepped::Ran(
+                Onward::Runs(Mkdir::Leaving(on, txn, list, child, give)),
+                kind,
+            )
         }
         Stepped::Stopped(store) => {
-            Stepped::Stopped(Mkdir::Raising(on, txn, list, parent, child, store))
+            Stepped::Stopped(Onward::Runs(Mkdir::Raising(on, txn, list, parent, child, store)))
         }
     }
 }
@@ -366,29 +381,24 @@ fn leaving(
     list: Listed,
     child: Held,
     stepped: Stepped<GiveUp, (), Kind>,
-) -> Stepped<Mkdir, Reply, Kind>
+) -> Stepped<Onward<Mkdir>, Reply, Kind>
     requires { IsNaming on }
-    ensures follows { Follows give_of (λ x. x) mkdir_of (λ reply. reply) (λ _. quit on.sizes (inode_in child ∷ []) list (mkdir_reply on.path answers.Done)) stepped result }
-    ensures fits { (hart : ℕ) (s : State) → txn ≡ hart → IsHeld hart child s → LeftOf (λ m. GiveFits hart s m × GiveApart child.reference m) (λ _. Unit {0}) stepped → LeftOf (MkdirFits hart s) (λ _. Unit {0}) result }
+    ensures follows { Follows give_of (λ x. x) (onward_of mkdir_of) (λ reply. reply) (λ _. quit on.sizes (inode_in child ∷ []) list (mkdir_reply on.path answers.Done)) stepped result }
+    ensures fits { (hart : ℕ) (s : State) → txn ≡ hart → IsHeld hart child s → LeftOf (λ m. GiveFits hart s m × GiveApart child.reference m) (λ _. Unit {0}) stepped → LeftOf (OnwardFits MkdirFits hart s) (λ _. Unit {0}) result }
 {
     match stepped {
-        Stepped::Waits(give) => Stepped::Waits(Mkdir::Leaving(on, txn, list, child, give)),
+        Stepped::Waits(give) => Stepped::Waits(Onward::Runs(Mkdir::Leaving(
+            on, txn, list, child, give,
+        ))),
         Stepped::Ran(give, kind) => {
-            Stepped::Ran(Mkdir::Leaving(on, txn, list, child, give), kind)
+            Stepped::Ran(
+                Onward::Runs(Mkdir::Leaving(on, txn, list, child, give)),
+                kind,
+            )
         }
         Stepped::Done((), kind) => { Stepped::Ran(quit(on, txn, list, child, Answer::Done), kind) }
-        Stepped::Stopped(give) => Stepped::Stopped(Mkdir::Leaving(on, txn, list, child, give)),
-    }
-}
-
-// A step of the call's end.
-fn ends(stepped: Stepped<Quit, Reply, Kind>) -> Stepped<Mkdir, Reply, Kind>
-    ensures { result ≡ ends_within (λ m. mkdir.Ends m) (λ reply. reply) stepped }
-{
-    match stepped {
-        Stepped::Waits(quit) => Stepped::Waits(Mkdir::Ends(quit)),
-        Stepped::Ran(quit, kind) => Stepped::Ran(Mkdir::Ends(quit), kind),
-        Stepped::Done(reply, kind) => Stepped::Done(reply, kind),
-        Stepped::Stopped(quit) => Stepped::Stopped(Mkdir::Ends(quit)),
+        Stepped::Stopped(give) => Stepped::Stopped(Onward::Runs(Mkdir::Leaving(
+            on, txn, list, child, give,
+        ))),
     }
 }

@@ -8,6 +8,7 @@ ghost use Rattle.fs_machine.specs.Tied.{LeavesTied};
 ghost use Rattle.inode_data.specs.Machines.{ends_within};
 ghost use Rattle.path_walk.specs.Elements.{longest_path, name_in, IsElement};
 ghost use Rattle.syscalls.specs.Nesting.{Follows};
+ghost use Rattle.syscalls.specs.Onwards.{onward_in, onward_of, OnwardFits};
 ghost use Rattle.syscalls.specs.Parts.{quit, stopped};
 ghost use Rattle.syscalls.specs.Opening.{open_at, open_reply};
 ghost use Rattle.syscalls.specs.Taking.{inode_in, take_of, IsHeld, TakeFits};
@@ -17,11 +18,13 @@ ghost use Rattle.syscalls.specs.Making.{make_of, named_as, IsNamed, IsSized, Mak
 ghost use Rattle.syscalls.specs.Creating.{open_found_in, open_made, open_missing, open_named, open_new, open_new_of, open_seen, open_taken, open_up, IsCreating, OpenNewFits};
 ghost use Rattle.syscalls.specs.declared.seek.Dots.TheVariants as dots;
 ghost use Rattle.syscalls.specs.declared.open_new.OpenNew.TheVariants as opening_new;
+ghost use Rattle.syscalls.specs.declared.onward.Onward.TheVariants as onward;
 
 use crate::give::GiveUp;
 use crate::install::{Install, Opening, ToOpen};
 use crate::make::{Make, Named, Sort};
 use crate::on_path::{ending, stopped};
+use crate::onward::Onward;
 use crate::open_old::{OpenOld, at};
 use crate::quit::Quit;
 use crate::seek::{Dots, LastName, Seek, Seen};
@@ -75,19 +78,23 @@ impl OpenNew {
 
     /// One operation.
     #[tactic(auto, unfolding(crate::specs::Creating::open_new_of, crate::specs::Creating::OpenNewFits, fs_machine::specs::Premises::Honest))]
-    pub fn step<D: Device>(self, hart: u8, core: &mut Core<D>) -> Stepped<OpenNew, Reply, Kind>
+    pub fn step<D: Device>(
+        self,
+        hart: u8,
+        core: &mut Core<D>,
+    ) -> Stepped<Onward<OpenNew>, Reply, Kind>
         requires may { MayNext hart (open_new_of self) (state_of D.contents D.failures core.old) }
         requires fits { OpenNewFits hart (state_of D.contents D.failures core.old) self }
-        ensures moves { Moves open_new_of (λ reply. reply) hart self result (state_of D.contents D.failures core.old) (state_of D.contents D.failures core.new) }
-        ensures honest { Answers open_new_of hart self result (state_of D.contents D.failures core.old) (state_of D.contents D.failures core.new) }
-        ensures still { Still open_new_of result self core.old core.new }
-        ensures fits { LeftOf (OpenNewFits hart (state_of D.contents D.failures core.new)) (λ _. Unit {0}) result }
+        ensures moves { Moves (onward_of open_new_of) (λ reply. reply) hart (onward.Runs self) result (state_of D.contents D.failures core.old) (state_of D.contents D.failures core.new) }
+        ensures honest { Answers (onward_of open_new_of) hart (onward.Runs self) result (state_of D.contents D.failures core.old) (state_of D.contents D.failures core.new) }
+        ensures still { Still (onward_of open_new_of) result (onward.Runs self) core.old core.new }
+        ensures fits { LeftOf (OnwardFits OpenNewFits hart (state_of D.contents D.failures core.new)) (λ _. Unit {0}) result }
         ensures others { LeavesTied hart (state_of D.contents D.failures core.old) (state_of D.contents D.failures core.new) }
         ensures called { CallsOnce D.Called core.old.log.cache.device core.new.log.cache.device }
     {
         match self {
             OpenNew::Join(o) => match core.join(hart) {
-                None => Stepped::Waits(OpenNew::Join(o)),
+                None => Stepped::Waits(Onward::Runs(OpenNew::Join(o))),
                 Some(txn) => Stepped::Ran(joined(o, txn), Kind::Join),
             },
             OpenNew::Seeking(o, txn, seek) => {
@@ -161,10 +168,10 @@ impl OpenNew {
 
 // After a transaction was joined.
 #[tactic(auto, unfolding(crate::specs::Creating::open_new_of, crate::specs::Creating::OpenNewFits))]
-fn joined(opening: Opening, txn: Txn) -> OpenNew
+fn joined(opening: Opening, txn: Txn) -> Onward<OpenNew>
     requires { IsCreating opening }
-    ensures program { open_new_of result ≡ bind (seek dots.LookedUp opening.sizes.inodestart opening.path []) (open_seen opening.sizes opening.path opening.flags) }
-    ensures fits { (hart : ℕ) (s : State) → txn ≡ hart → OpenNewFits hart s result }
+    ensures program { onward_of open_new_of result ≡ bind (seek dots.LookedUp opening.sizes.inodestart opening.path []) (open_seen opening.sizes opening.path opening.flags) }
+    ensures fits { (hart : ℕ) (s : State) → txn ≡ hart → OnwardFits OpenNewFits hart s result }
 {
     let begun = Seek::begin(
         opening.path.as_slice(),
@@ -173,53 +180,53 @@ fn joined(opening: Opening, txn: Txn) -> OpenNew
         Listed::new(),
     );
     match begun {
-        Begun::Runs(seek) => OpenNew::Seeking(opening, txn, seek),
+        Begun::Runs(seek) => Onward::Runs(OpenNew::Seeking(opening, txn, seek)),
         Begun::Is(seen) => sees(opening, txn, seen),
     }
 }
 
 // The call ends with this answer and the inode in hand, which it gives up.
 #[tactic(auto, unfolding(crate::specs::Creating::open_new_of, crate::specs::Creating::OpenNewFits, crate::specs::Opens::open_old_of, crate::specs::Opens::OpenOldFits))]
-fn quit(opening: Opening, txn: Txn, list: Listed, held: Held, answer: Answer) -> OpenNew
+fn quit(opening: Opening, txn: Txn, list: Listed, held: Held, answer: Answer) -> Onward<OpenNew>
     requires { IsCreating opening }
-    ensures program { open_new_of result ≡ quit opening.sizes (inode_in held ∷ []) list (open_reply opening.path opening.flags answer) }
-    ensures fits { (hart : ℕ) (s : State) → txn ≡ hart → IsHeld hart held s → OpenNewFits hart s result }
+    ensures program { onward_of open_new_of result ≡ quit opening.sizes (inode_in held ∷ []) list (open_reply opening.path opening.flags answer) }
+    ensures fits { (hart : ℕ) (s : State) → txn ≡ hart → IsHeld hart held s → OnwardFits OpenNewFits hart s result }
 {
     let Opening { sizes, path, flags } = opening;
     let ending = ending(&sizes, list, Call::Open { path, flags }, answer);
-    OpenNew::Opens(OpenOld::Ends(Quit::with_inode(ending, txn, held)))
+    Onward::Ends(Quit::with_inode(ending, txn, held))
 }
 
 // The name can't be there.
-fn missing(opening: Opening, txn: Txn, list: Listed, held: Held) -> OpenNew
+fn missing(opening: Opening, txn: Txn, list: Listed, held: Held) -> Onward<OpenNew>
     requires { IsCreating opening }
-    ensures program { open_new_of result ≡ open_missing opening.sizes opening.path opening.flags (inode_in held) list }
-    ensures fits { (hart : ℕ) (s : State) → txn ≡ hart → IsHeld hart held s → OpenNewFits hart s result }
+    ensures program { onward_of open_new_of result ≡ open_missing opening.sizes opening.path opening.flags (inode_in held) list }
+    ensures fits { (hart : ℕ) (s : State) → txn ≡ hart → IsHeld hart held s → OnwardFits OpenNewFits hart s result }
 {
     quit(opening, txn, list, held, Answer::Failed(Cause::NoEntry))
 }
 
 // There is no parent.
 #[tactic(auto, unfolding(crate::specs::Creating::open_new_of, crate::specs::Creating::OpenNewFits, crate::specs::Opens::open_old_of, crate::specs::Opens::OpenOldFits))]
-fn lost(opening: Opening, txn: Txn, list: Listed, why: Stop) -> OpenNew
+fn lost(opening: Opening, txn: Txn, list: Listed, why: Stop) -> Onward<OpenNew>
     requires { IsCreating opening }
-    ensures program { open_new_of result ≡ quit opening.sizes [] list (open_reply opening.path opening.flags (stopped why)) }
-    ensures fits { (hart : ℕ) (s : State) → txn ≡ hart → OpenNewFits hart s result }
+    ensures program { onward_of open_new_of result ≡ quit opening.sizes [] list (open_reply opening.path opening.flags (stopped why)) }
+    ensures fits { (hart : ℕ) (s : State) → txn ≡ hart → OnwardFits OpenNewFits hart s result }
 {
     let Opening { sizes, path, flags } = opening;
     let ending = ending(&sizes, list, Call::Open { path, flags }, stopped(why));
-    OpenNew::Opens(OpenOld::Ends(Quit::with_nothing(ending, txn)))
+    Onward::Ends(Quit::with_nothing(ending, txn))
 }
 
 // What the parent has under the last name.
 #[tactic(auto, unfolding(crate::specs::Creating::open_new_of, crate::specs::Creating::OpenNewFits))]
-fn sees(opening: Opening, txn: Txn, seen: Seen) -> OpenNew
+fn sees(opening: Opening, txn: Txn, seen: Seen) -> Onward<OpenNew>
     requires { IsCreating opening }
-    ensures program { open_new_of result ≡ open_seen opening.sizes opening.path opening.flags (seen_as opening.path seen) }
-    ensures fits { (hart : ℕ) (s : State) → txn ≡ hart → IsSeen opening.path hart s seen → OpenNewFits hart s result }
+    ensures program { onward_of open_new_of result ≡ open_seen opening.sizes opening.path opening.flags (seen_as opening.path seen) }
+    ensures fits { (hart : ℕ) (s : State) → txn ≡ hart → IsSeen opening.path hart s seen → OnwardFits OpenNewFits hart s result }
 {
     match seen {
-        Seen::Name(last) => looked_up(opening, txn, last),
+        Seen::Name(last) => Onward::Runs(looked_up(opening, txn, last)),
         Seen::Dots(held, list) => missing(opening, txn, list, held),
         Seen::Dead(held, list) => missing(opening, txn, list, held),
         Seen::Lost(why, list) => lost(opening, txn, list, why),
@@ -250,16 +257,22 @@ fn looked_up(opening: Opening, txn: Txn, last: LastName) -> OpenNew
 
 // A reference to what was found was wanted.
 #[tactic(auto, unfolding(crate::specs::Creating::open_new_of, crate::specs::Creating::OpenNewFits))]
-fn up(opening: Opening, txn: Txn, list: Listed, held: Held, there: Option<Reference>) -> OpenNew
+fn up(
+    opening: Opening,
+    txn: Txn,
+    list: Listed,
+    held: Held,
+    there: Option<Reference>,
+) -> Onward<OpenNew>
     requires { IsCreating opening }
-    ensures program { (n : ℕ) → IfSome there (λ reference. reference ≡ n) → open_new_of result ≡ open_up opening.sizes opening.path opening.flags (inode_in held) n list there }
-    ensures fits { (hart : ℕ) (s : State) → txn ≡ hart → IsHeld hart held s → OpenNewFits hart s result }
+    ensures program { (n : ℕ) → IfSome there (λ reference. reference ≡ n) → onward_of open_new_of result ≡ open_up opening.sizes opening.path opening.flags (inode_in held) n list there }
+    ensures fits { (hart : ℕ) (s : State) → txn ≡ hart → IsHeld hart held s → OnwardFits OpenNewFits hart s result }
 {
     match there {
         None => quit(opening, txn, list, held, Answer::Full(Full::MemInodes)),
         Some(reference) => {
             let give = GiveUp::new(held, &opening.sizes);
-            OpenNew::Leaving(opening, txn, list, reference, give)
+            Onward::Runs(OpenNew::Leaving(opening, txn, list, reference, give))
         }
     }
 }
@@ -270,16 +283,21 @@ fn seeking(
     opening: Opening,
     txn: Txn,
     stepped: Stepped<Seek, Seen, Kind>,
-) -> Stepped<OpenNew, Reply, Kind>
+) -> Stepped<Onward<OpenNew>, Reply, Kind>
     requires { IsCreating opening }
-    ensures follows { Follows (seek_of opening.path) (seen_as opening.path) open_new_of (λ reply. reply) (open_seen opening.sizes opening.path opening.flags) stepped result }
-    ensures fits { (hart : ℕ) (s : State) → txn ≡ hart → LeftOf (SeekFits opening.path hart s) (IsSeen opening.path hart s) stepped → LeftOf (OpenNewFits hart s) (λ _. Unit {0}) result }
+    ensures follows { Follows (seek_of opening.path) (seen_as opening.path) (onward_of open_new_of) (λ reply. reply) (open_seen opening.sizes opening.path opening.flags) stepped result }
+    ensures fits { (hart : ℕ) (s : State) → txn ≡ hart → LeftOf (SeekFits opening.path hart s) (IsSeen opening.path hart s) stepped → LeftOf (OnwardFits OpenNewFits hart s) (λ _. Unit {0}) result }
 {
     match stepped {
-        Stepped::Waits(seek) => Stepped::Waits(OpenNew::Seeking(opening, txn, seek)),
-        Stepped::Ran(seek, kind) => Stepped::Ran(OpenNew::Seeking(opening, txn, seek), kind),
+        Stepped::Waits(seek) => Stepped::Waits(Onward::Runs(OpenNew::Seeking(opening, txn, seek))),
+        Stepped::Ran(seek, kind) => Stepped::Ran(
+            Onward::Runs(OpenNew::Seeking(opening, txn, seek)),
+            kind,
+        ),
         Stepped::Done(seen, kind) => Stepped::Ran(sees(opening, txn, seen), kind),
-        Stepped::Stopped(seek) => Stepped::Stopped(OpenNew::Seeking(opening, txn, seek)),
+        Stepped::Stopped(seek) => Stepped::Stopped(Onward::Runs(OpenNew::Seeking(
+            opening, txn, seek,
+        ))),
     }
 }
 
@@ -291,24 +309,30 @@ fn leaving(
     list: Listed,
     reference: Reference,
     stepped: Stepped<GiveUp, (), Kind>,
-) -> Stepped<OpenNew, Reply, Kind>
+) -> Stepped<Onward<OpenNew>, Reply, Kind>
     requires { IsCreating opening }
-    ensures follows { Follows give_of (λ x. x) open_new_of (λ reply. reply) (λ _. open_taken opening.sizes opening.path opening.flags reference list) stepped result }
-    ensures fits { (hart : ℕ) (s : State) → txn ≡ hart → LeftOf (GiveFits hart s) (λ _. Unit {0}) stepped → LeftOf (OpenNewFits hart s) (λ _. Unit {0}) result }
+    ensures follows { Follows give_of (λ x. x) (onward_of open_new_of) (λ reply. reply) (λ _. open_taken opening.sizes opening.path opening.flags reference list) stepped result }
+    ensures fits { (hart : ℕ) (s : State) → txn ≡ hart → LeftOf (GiveFits hart s) (λ _. Unit {0}) stepped → LeftOf (OnwardFits OpenNewFits hart s) (λ _. Unit {0}) result }
 {
     match stepped {
         Stepped::Waits(give) => {
-            Stepped::Waits(OpenNew::Leaving(opening, txn, list, reference, give))
+            Stepped::Waits(Onward::Runs(OpenNew::Leaving(opening, txn, list, reference, give)))
         }
         Stepped::Ran(give, kind) => {
-            Stepped::Ran(OpenNew::Leaving(opening, txn, list, reference, give), kind)
+            Stepped::Ran(
+                Onward::Runs(OpenNew::Leaving(opening, txn, list, reference, give)),
+                kind,
+            )
         }
         Stepped::Done((), kind) => {
             let take = TakeInode::new(opening.sizes.inodestart, reference);
-            Stepped::Ran(OpenNew::Taking(opening, txn, list, take), kind)
+            Stepped::Ran(
+                Onward::Runs(OpenNew::Taking(opening, txn, list, take)),
+                kind,
+            )
         }
         Stepped::Stopped(give) => {
-            Stepped::Stopped(OpenNew::Leaving(opening, txn, list, reference, give))
+            Stepped::Stopped(Onward::Runs(OpenNew::Leaving(opening, txn, list, reference, give)))
         }
     }
 }
@@ -320,19 +344,24 @@ fn taking(
     txn: Txn,
     list: Listed,
     stepped: Stepped<TakeInode, Held, Kind>,
-) -> Stepped<OpenNew, Reply, Kind>
+) -> Stepped<Onward<OpenNew>, Reply, Kind>
     requires opening { IsCreating opening }
     requires there { LeftOf (λ _. Unit {0}) (λ held. IsSome held.inode.value.content) stepped }
-    ensures follows { Follows take_of inode_in open_new_of (λ reply. reply) (λ w. open_at opening.sizes opening.path opening.flags w list) stepped result }
-    ensures fits { (hart : ℕ) (s : State) → txn ≡ hart → LeftOf (TakeFits hart s) (λ held. IsHeld hart held s) stepped → LeftOf (OpenNewFits hart s) (λ _. Unit {0}) result }
+    ensures follows { Follows take_of inode_in (onward_of open_new_of) (λ reply. reply) (λ w. open_at opening.sizes opening.path opening.flags w list) stepped result }
+    ensures fits { (hart : ℕ) (s : State) → txn ≡ hart → LeftOf (TakeFits hart s) (λ held. IsHeld hart held s) stepped → LeftOf (OnwardFits OpenNewFits hart s) (λ _. Unit {0}) result }
 {
     match stepped {
-        Stepped::Waits(take) => Stepped::Waits(OpenNew::Taking(opening, txn, list, take)),
-        Stepped::Ran(take, kind) => Stepped::Ran(OpenNew::Taking(opening, txn, list, take), kind),
-        Stepped::Done(held, kind) => {
-            Stepped::Ran(OpenNew::Opens(at(opening, txn, list, held)), kind)
-        }
-        Stepped::Stopped(take) => Stepped::Stopped(OpenNew::Taking(opening, txn, list, take)),
+        Stepped::Waits(take) => Stepped::Waits(Onward::Runs(OpenNew::Taking(
+            opening, txn, list, take,
+        ))),
+        Stepped::Ran(take, kind) => Stepped::Ran(
+            Onward::Runs(OpenNew::Taking(opening, txn, list, take)),
+            kind,
+        ),
+        Stepped::Done(held, kind) => { Stepped::Ran(in_opens(at(opening, txn, list, held)), kind) }
+        Stepped::Stopped(take) => Stepped::Stopped(Onward::Runs(OpenNew::Taking(
+            opening, txn, list, take,
+        ))),
     }
 }
 
@@ -344,36 +373,39 @@ fn making(
     list: Listed,
     element: Element,
     stepped: Stepped<Make, Named, Kind>,
-) -> Stepped<OpenNew, Reply, Kind>
+) -> Stepped<Onward<OpenNew>, Reply, Kind>
     requires { IsCreating opening }
-    ensures follows { Follows (make_of (name_in opening.path element)) named_as open_new_of (λ reply. reply) (open_named opening.sizes opening.path opening.flags list) stepped result }
-    ensures fits { (hart : ℕ) (s : State) → txn ≡ hart → IsElement opening.path element → LeftOf (MakeFits hart s) (IsNamed hart s) stepped → LeftOf (OpenNewFits hart s) (λ _. Unit {0}) result }
+    ensures follows { Follows (make_of (name_in opening.path element)) named_as (onward_of open_new_of) (λ reply. reply) (open_named opening.sizes opening.path opening.flags list) stepped result }
+    ensures fits { (hart : ℕ) (s : State) → txn ≡ hart → IsElement opening.path element → LeftOf (MakeFits hart s) (IsNamed hart s) stepped → LeftOf (OnwardFits OpenNewFits hart s) (λ _. Unit {0}) result }
 {
     match stepped {
         Stepped::Waits(make) => {
-            Stepped::Waits(OpenNew::Making(opening, txn, list, element, make))
+            Stepped::Waits(Onward::Runs(OpenNew::Making(opening, txn, list, element, make)))
         }
         Stepped::Ran(make, kind) => {
-            Stepped::Ran(OpenNew::Making(opening, txn, list, element, make), kind)
+            Stepped::Ran(
+                Onward::Runs(OpenNew::Making(opening, txn, list, element, make)),
+                kind,
+            )
         }
         Stepped::Done(named, kind) => Stepped::Ran(came(opening, txn, list, named), kind),
         Stepped::Stopped(make) => {
-            Stepped::Stopped(OpenNew::Making(opening, txn, list, element, make))
+            Stepped::Stopped(Onward::Runs(OpenNew::Making(opening, txn, list, element, make)))
         }
     }
 }
 
 // What the making came to.
 #[tactic(auto, unfolding(crate::specs::Creating::open_new_of, crate::specs::Creating::OpenNewFits))]
-fn came(opening: Opening, txn: Txn, list: Listed, named: Named) -> OpenNew
+fn came(opening: Opening, txn: Txn, list: Listed, named: Named) -> Onward<OpenNew>
     requires { IsCreating opening }
-    ensures program { open_new_of result ≡ open_named opening.sizes opening.path opening.flags list (named_as named) }
-    ensures fits { (hart : ℕ) (s : State) → txn ≡ hart → IsNamed hart s named → OpenNewFits hart s result }
+    ensures program { onward_of open_new_of result ≡ open_named opening.sizes opening.path opening.flags list (named_as named) }
+    ensures fits { (hart : ℕ) (s : State) → txn ≡ hart → IsNamed hart s named → OnwardFits OpenNewFits hart s result }
 {
     match named {
         Named::There(parent, child) => {
             let give = GiveUp::new(parent, &opening.sizes);
-            OpenNew::Made(opening, txn, list, child, give)
+            Onward::Runs(OpenNew::Made(opening, txn, list, child, give))
         }
         Named::Lacks(parent, what) => quit(opening, txn, list, parent, Answer::Full(what)),
     }
@@ -387,15 +419,20 @@ fn made(
     list: Listed,
     held: Held,
     stepped: Stepped<GiveUp, (), Kind>,
-) -> Stepped<OpenNew, Reply, Kind>
+) -> Stepped<Onward<OpenNew>, Reply, Kind>
     requires { IsCreating opening }
-    ensures follows { Follows give_of (λ x. x) open_new_of (λ reply. reply) (λ _. open_made opening.sizes opening.path opening.flags (inode_in held) list) stepped result }
-    ensures fits { (hart : ℕ) (s : State) → txn ≡ hart → IsHeld hart held s → LeftOf (λ m. GiveFits hart s m × GiveApart held.reference m) (λ _. Unit {0}) stepped → LeftOf (OpenNewFits hart s) (λ _. Unit {0}) result }
+    ensures follows { Follows give_of (λ x. x) (onward_of open_new_of) (λ reply. reply) (λ _. open_made opening.sizes opening.path opening.flags (inode_in held) list) stepped result }
+    ensures fits { (hart : ℕ) (s : State) → txn ≡ hart → IsHeld hart held s → LeftOf (λ m. GiveFits hart s m × GiveApart held.reference m) (λ _. Unit {0}) stepped → LeftOf (OnwardFits OpenNewFits hart s) (λ _. Unit {0}) result }
 {
     match stepped {
-        Stepped::Waits(give) => Stepped::Waits(OpenNew::Made(opening, txn, list, held, give)),
+        Stepped::Waits(give) => Stepped::Waits(Onward::Runs(OpenNew::Made(
+            opening, txn, list, held, give,
+        ))),
         Stepped::Ran(give, kind) => {
-            Stepped::Ran(OpenNew::Made(opening, txn, list, held, give), kind)
+            Stepped::Ran(
+                Onward::Runs(OpenNew::Made(opening, txn, list, held, give)),
+                kind,
+            )
         }
         Stepped::Done((), kind) => {
             let inode = ToOpen {
@@ -404,20 +441,35 @@ fn made(
                 list,
             };
             let install = Install::new(opening, txn, inode);
-            Stepped::Ran(OpenNew::Opens(OpenOld::Installing(install)), kind)
+            Stepped::Ran(
+                Onward::Runs(OpenNew::Opens(OpenOld::Installing(install))),
+                kind,
+            )
         }
-        Stepped::Stopped(give) => Stepped::Stopped(OpenNew::Made(opening, txn, list, held, give)),
+        Stepped::Stopped(give) => Stepped::Stopped(Onward::Runs(OpenNew::Made(
+            opening, txn, list, held, give,
+        ))),
+    }
+}
+
+// What is left of it while the inode is opened.
+fn in_opens(left: Onward<OpenOld>) -> Onward<OpenNew>
+    ensures { result ≡ onward_in (λ m. opening_new.Opens m) left }
+{
+    match left {
+        Onward::Runs(open) => Onward::Runs(OpenNew::Opens(open)),
+        Onward::Ends(quit) => Onward::Ends(quit),
     }
 }
 
 // A step while the inode is opened, or the call ends.
-fn opens(stepped: Stepped<OpenOld, Reply, Kind>) -> Stepped<OpenNew, Reply, Kind>
-    ensures { result ≡ ends_within (λ m. opening_new.Opens m) (λ reply. reply) stepped }
+fn opens(stepped: Stepped<Onward<OpenOld>, Reply, Kind>) -> Stepped<Onward<OpenNew>, Reply, Kind>
+    ensures { result ≡ ends_within (onward_in (λ m. opening_new.Opens m)) (λ reply. reply) stepped }
 {
     match stepped {
-        Stepped::Waits(open) => Stepped::Waits(OpenNew::Opens(open)),
-        Stepped::Ran(open, kind) => Stepped::Ran(OpenNew::Opens(open), kind),
+        Stepped::Waits(left) => Stepped::Waits(in_opens(left)),
+        Stepped::Ran(left, kind) => Stepped::Ran(in_opens(left), kind),
         Stepped::Done(reply, kind) => Stepped::Done(reply, kind),
-        Stepped::Stopped(open) => Stepped::Stopped(OpenNew::Opens(open)),
+        Stepped::Stopped(left) => Stepped::Stopped(in_opens(left)),
     }
 }

@@ -9,14 +9,17 @@ ghost use Rattle.file_table.specs.Machines.{IsEarly};
 ghost use Rattle.plain_tree.specs.Steps.{has_driver};
 ghost use Rattle.path_walk.specs.Elements.{longest_path};
 ghost use Rattle.syscalls.specs.Nesting.{Follows};
+ghost use Rattle.syscalls.specs.Onwards.{onward_in, onward_of, OnwardFits};
 ghost use Rattle.syscalls.specs.Parts.{Misses};
 ghost use Rattle.syscalls.specs.Opening.{empties, open_at, open_found, open_old, open_refusal};
 ghost use Rattle.syscalls.specs.Taking.{inode_in, IsHeld, reach_of, ReachFits, reached_as, IsReached, IsThere};
 ghost use Rattle.syscalls.specs.Opens.{open_old_of, OpenOldFits, IsOpening};
 ghost use Rattle.syscalls.specs.declared.open_old.OpenOld.TheVariants as old;
+ghost use Rattle.syscalls.specs.declared.onward.Onward.TheVariants as onward;
 
 use crate::install::{Install, Opening, ToOpen, has_flag, is_regular};
 use crate::on_path::{ending, stopped};
+use crate::onward::Onward;
 use crate::quit::Quit;
 use crate::reach::{Reach, Reached};
 use crate::take::Held;
@@ -44,8 +47,6 @@ pub enum OpenOld {
     Reaching(Opening, Txn, Reach),
     /// It gets a place and a descriptor.
     Installing(Install),
-    /// The call ends.
-    Ends(Quit),
 }
 
 impl OpenOld {
@@ -67,22 +68,26 @@ impl OpenOld {
 
     /// One operation.
     #[tactic(auto, unfolding(crate::specs::Opens::open_old_of, crate::specs::Opens::OpenOldFits, fs_machine::specs::Premises::Honest))]
-    pub fn step<D: Device>(self, hart: u8, core: &mut Core<D>) -> Stepped<OpenOld, Reply, Kind>
+    pub fn step<D: Device>(
+        self,
+        hart: u8,
+        core: &mut Core<D>,
+    ) -> Stepped<Onward<OpenOld>, Reply, Kind>
         requires may { MayNext hart (open_old_of self) (state_of D.contents D.failures core.old) }
         requires fits { OpenOldFits hart (state_of D.contents D.failures core.old) self }
-        ensures moves { Moves open_old_of (λ reply. reply) hart self result (state_of D.contents D.failures core.old) (state_of D.contents D.failures core.new) }
-        ensures honest { Answers open_old_of hart self result (state_of D.contents D.failures core.old) (state_of D.contents D.failures core.new) }
-        ensures still { Still open_old_of result self core.old core.new }
-        ensures fits { LeftOf (OpenOldFits hart (state_of D.contents D.failures core.new)) (λ _. Unit {0}) result }
+        ensures moves { Moves (onward_of open_old_of) (λ reply. reply) hart (onward.Runs self) result (state_of D.contents D.failures core.old) (state_of D.contents D.failures core.new) }
+        ensures honest { Answers (onward_of open_old_of) hart (onward.Runs self) result (state_of D.contents D.failures core.old) (state_of D.contents D.failures core.new) }
+        ensures still { Still (onward_of open_old_of) result (onward.Runs self) core.old core.new }
+        ensures fits { LeftOf (OnwardFits OpenOldFits hart (state_of D.contents D.failures core.new)) (λ _. Unit {0}) result }
         ensures others { LeavesTied hart (state_of D.contents D.failures core.old) (state_of D.contents D.failures core.new) }
         ensures called { CallsOnce D.Called core.old.log.cache.device core.new.log.cache.device }
     {
         match self {
             OpenOld::Join(o) => match core.join(hart) {
-                None => Stepped::Waits(OpenOld::Join(o)),
+                None => Stepped::Waits(Onward::Runs(OpenOld::Join(o))),
                 Some(txn) => {
                     let reach = Reach::new(o.sizes.inodestart, Goal::Node, Listed::new());
-                    Stepped::Ran(OpenOld::Reaching(o, txn, reach), Kind::Join)
+                    Stepped::Ran(Onward::Runs(OpenOld::Reaching(o, txn, reach)), Kind::Join)
                 }
             },
             OpenOld::Reaching(o, txn, reach) => {
@@ -90,7 +95,6 @@ impl OpenOld {
                 reaching(o, txn, stepped)
             }
             OpenOld::Installing(install) => installing(install.step(hart, core)),
-            OpenOld::Ends(quit) => ends(quit.step(hart, core)),
         }
     }
 
@@ -103,21 +107,20 @@ impl OpenOld {
                 reach.retire(retired);
             }
             OpenOld::Installing(install) => install.retire(retired),
-            OpenOld::Ends(quit) => quit.retire(retired),
         }
     }
 }
 
 // The path leads nowhere.
 #[tactic(auto, unfolding(crate::specs::Opens::open_old_of, crate::specs::Opens::OpenOldFits))]
-fn lost(opening: Opening, txn: Txn, list: Listed, why: Stop) -> OpenOld
+fn lost(opening: Opening, txn: Txn, list: Listed, why: Stop) -> Onward<OpenOld>
     requires { IsEarly opening.sizes.inodestart }
-    ensures program { open_old_of result ≡ open_found opening.sizes opening.path opening.flags (Misses why list) }
-    ensures fits { (hart : ℕ) (s : State) → txn ≡ hart → OpenOldFits hart s result }
+    ensures program { onward_of open_old_of result ≡ open_found opening.sizes opening.path opening.flags (Misses why list) }
+    ensures fits { (hart : ℕ) (s : State) → txn ≡ hart → OnwardFits OpenOldFits hart s result }
 {
     let Opening { sizes, path, flags } = opening;
     let ending = ending(&sizes, list, Call::Open { path, flags }, stopped(why));
-    OpenOld::Ends(Quit::with_nothing(ending, txn))
+    Onward::Ends(Quit::with_nothing(ending, txn))
 }
 
 // Why an inode isn't opened with these flags, by its type.
@@ -146,11 +149,11 @@ fn has_driver(major: i16) -> bool
 
 // At what the path leads to.
 #[tactic(auto, unfolding(crate::specs::Opens::open_old_of, crate::specs::Opens::OpenOldFits))]
-pub(crate) fn at(opening: Opening, txn: Txn, list: Listed, held: Held) -> OpenOld
+pub(crate) fn at(opening: Opening, txn: Txn, list: Listed, held: Held) -> Onward<OpenOld>
     requires early { IsEarly opening.sizes.inodestart }
     requires there { IsSome held.inode.value.content }
-    ensures program { open_old_of result ≡ open_at opening.sizes opening.path opening.flags (inode_in held) list }
-    ensures fits { (hart : ℕ) (s : State) → txn ≡ hart → IsHeld hart held s → OpenOldFits hart s result }
+    ensures program { onward_of open_old_of result ≡ open_at opening.sizes opening.path opening.flags (inode_in held) list }
+    ensures fits { (hart : ℕ) (s : State) → txn ≡ hart → IsHeld hart held s → OnwardFits OpenOldFits hart s result }
 {
     let inode = record(&held.inode);
     match refusal(&inode, opening.flags) {
@@ -162,7 +165,7 @@ pub(crate) fn at(opening: Opening, txn: Txn, list: Listed, held: Held) -> OpenOl
                 Call::Open { path, flags },
                 Answer::Failed(why),
             );
-            OpenOld::Ends(Quit::with_inode(ending, txn, held))
+            Onward::Ends(Quit::with_inode(ending, txn, held))
         }
         None => {
             let empties = has_flag(opening.flags, TRUNCATE) && is_regular(&inode);
@@ -171,7 +174,7 @@ pub(crate) fn at(opening: Opening, txn: Txn, list: Listed, held: Held) -> OpenOl
                 empties,
                 list,
             };
-            OpenOld::Installing(Install::new(opening, txn, inode))
+            Onward::Runs(OpenOld::Installing(Install::new(opening, txn, inode)))
         }
     }
 }
@@ -182,43 +185,49 @@ fn reaching(
     opening: Opening,
     txn: Txn,
     stepped: Stepped<Reach, Reached, Kind>,
-) -> Stepped<OpenOld, Reply, Kind>
+) -> Stepped<Onward<OpenOld>, Reply, Kind>
     requires opening { IsOpening opening }
     requires there { LeftOf (λ _. Unit {0}) (IsThere opening.path) stepped }
-    ensures follows { Follows (reach_of opening.path) (reached_as opening.path) open_old_of (λ reply. reply) (open_found opening.sizes opening.path opening.flags) stepped result }
-    ensures fits { (hart : ℕ) (s : State) → txn ≡ hart → LeftOf (ReachFits opening.path hart s) (IsReached opening.path hart s) stepped → LeftOf (OpenOldFits hart s) (λ _. Unit {0}) result }
+    ensures follows { Follows (reach_of opening.path) (reached_as opening.path) (onward_of open_old_of) (λ reply. reply) (open_found opening.sizes opening.path opening.flags) stepped result }
+    ensures fits { (hart : ℕ) (s : State) → txn ≡ hart → LeftOf (ReachFits opening.path hart s) (IsReached opening.path hart s) stepped → LeftOf (OnwardFits OpenOldFits hart s) (λ _. Unit {0}) result }
 {
     match stepped {
-        Stepped::Waits(reach) => Stepped::Waits(OpenOld::Reaching(opening, txn, reach)),
-        Stepped::Ran(reach, kind) => { Stepped::Ran(OpenOld::Reaching(opening, txn, reach), kind) }
+        Stepped::Waits(reach) => Stepped::Waits(Onward::Runs(OpenOld::Reaching(
+            opening, txn, reach,
+        ))),
+        Stepped::Ran(reach, kind) => {
+            Stepped::Ran(Onward::Runs(OpenOld::Reaching(opening, txn, reach)), kind)
+        }
         Stepped::Done(reached, kind) => match reached {
             Reached::At(held, _, list) => Stepped::Ran(at(opening, txn, list, held), kind),
             Reached::Lost(why, list) => Stepped::Ran(lost(opening, txn, list, why), kind),
         },
-        Stepped::Stopped(reach) => Stepped::Stopped(OpenOld::Reaching(opening, txn, reach)),
+        Stepped::Stopped(reach) => Stepped::Stopped(Onward::Runs(OpenOld::Reaching(
+            opening, txn, reach,
+        ))),
+    }
+}
+
+// What is left of it while the inode gets a place and a descriptor.
+fn in_installing(left: Onward<Install>) -> Onward<OpenOld>
+    ensures { result ≡ onward_in (λ m. old.Installing m) left }
+{
+    match left {
+        Onward::Runs(install) => Onward::Runs(OpenOld::Installing(install)),
+        Onward::Ends(quit) => Onward::Ends(quit),
     }
 }
 
 // A step while the inode gets a place and a descriptor.
-fn installing(stepped: Stepped<Install, Reply, Kind>) -> Stepped<OpenOld, Reply, Kind>
-    ensures { result ≡ ends_within (λ m. old.Installing m) (λ reply. reply) stepped }
+fn installing(
+    stepped: Stepped<Onward<Install>, Reply, Kind>,
+) -> Stepped<Onward<OpenOld>, Reply, Kind>
+    ensures { result ≡ ends_within (onward_in (λ m. old.Installing m)) (λ reply. reply) stepped }
 {
     match stepped {
-        Stepped::Waits(install) => Stepped::Waits(OpenOld::Installing(install)),
-        Stepped::Ran(install, kind) => Stepped::Ran(OpenOld::Installing(install), kind),
+        Stepped::Waits(left) => Stepped::Waits(in_installing(left)),
+        Stepped::Ran(left, kind) => Stepped::Ran(in_installing(left), kind),
         Stepped::Done(reply, kind) => Stepped::Done(reply, kind),
-        Stepped::Stopped(install) => Stepped::Stopped(OpenOld::Installing(install)),
-    }
-}
-
-// A step of the call's end.
-fn ends(stepped: Stepped<Quit, Reply, Kind>) -> Stepped<OpenOld, Reply, Kind>
-    ensures { result ≡ ends_within (λ m. old.Ends m) (λ reply. reply) stepped }
-{
-    match stepped {
-        Stepped::Waits(quit) => Stepped::Waits(OpenOld::Ends(quit)),
-        Stepped::Ran(quit, kind) => Stepped::Ran(OpenOld::Ends(quit), kind),
-        Stepped::Done(reply, kind) => Stepped::Done(reply, kind),
-        Stepped::Stopped(quit) => Stepped::Stopped(OpenOld::Ends(quit)),
+        Stepped::Stopped(left) => Stepped::Stopped(in_installing(left)),
     }
 }

@@ -5,7 +5,7 @@ ghost use Rattle.fs_machine.specs.Steps.{state_of};
 ghost use Rattle.fs_machine.specs.Machines.{MayNext, Moves, Answers, CallsOnce};
 ghost use Rattle.fs_machine.specs.Tied.{LeavesTied};
 ghost use Rattle.inode_data.specs.Machines.{ends_within};
-ghost use Rattle.syscalls.specs.Machines.{running_of, RunningFits};
+ghost use Rattle.syscalls.specs.Machines.{onward_as, running_of, RunningFits};
 ghost use Rattle.syscalls.specs.declared.running.Running.TheVariants as running;
 
 use crate::chdir::Chdir;
@@ -15,8 +15,10 @@ use crate::fstat::Fstat;
 use crate::inherit::Inherit;
 use crate::link::Link;
 use crate::mkdir::Mkdir;
+use crate::onward::Onward;
 use crate::open_new::OpenNew;
 use crate::open_old::OpenOld;
+use crate::quit::Quit;
 use crate::read::Read;
 use crate::unlink::Unlink;
 use crate::write::Write;
@@ -42,6 +44,8 @@ pub enum Running {
     Write(Write),
     Unlink(Unlink),
     Inherit(Inherit),
+    /// The end of a call on a path.
+    Ends(Quit),
 }
 
 // Beside the bytes of its call and the blocks of the buffers that it holds, a call under way takes at most so many bytes.
@@ -76,6 +80,7 @@ impl Running {
             Running::Write(m) => in_write(m.step(hart, core)),
             Running::Unlink(m) => in_unlink(m.step(hart, core)),
             Running::Inherit(m) => in_inherit(m.step(hart, core)),
+            Running::Ends(m) => in_ends(m.step(hart, core)),
         }
     }
 
@@ -94,62 +99,108 @@ impl Running {
             Running::Write(m) => m.retire(retired),
             Running::Unlink(m) => m.retire(retired),
             Running::Inherit(m) => m.retire(retired),
+            Running::Ends(m) => m.retire(retired),
         }
     }
 }
 
-fn in_open(stepped: Stepped<OpenOld, Reply, Kind>) -> Stepped<Running, Reply, Kind>
-    ensures { result ≡ ends_within (λ m. running.Open m) (λ reply. reply) stepped }
+fn left_of_open(left: Onward<OpenOld>) -> Running
+    ensures { result ≡ onward_as (λ m. running.Open m) left }
 {
-    match stepped {
-        Stepped::Waits(m) => Stepped::Waits(Running::Open(m)),
-        Stepped::Ran(m, kind) => Stepped::Ran(Running::Open(m), kind),
-        Stepped::Done(reply, kind) => Stepped::Done(reply, kind),
-        Stepped::Stopped(m) => Stepped::Stopped(Running::Open(m)),
+    match left {
+        Onward::Runs(m) => Running::Open(m),
+        Onward::Ends(quit) => Running::Ends(quit),
     }
 }
 
-fn in_create(stepped: Stepped<OpenNew, Reply, Kind>) -> Stepped<Running, Reply, Kind>
-    ensures { result ≡ ends_within (λ m. running.Create m) (λ reply. reply) stepped }
+fn in_open(stepped: Stepped<Onward<OpenOld>, Reply, Kind>) -> Stepped<Running, Reply, Kind>
+    ensures { result ≡ ends_within (onward_as (λ m. running.Open m)) (λ reply. reply) stepped }
 {
     match stepped {
-        Stepped::Waits(m) => Stepped::Waits(Running::Create(m)),
-        Stepped::Ran(m, kind) => Stepped::Ran(Running::Create(m), kind),
+        Stepped::Waits(left) => Stepped::Waits(left_of_open(left)),
+        Stepped::Ran(left, kind) => Stepped::Ran(left_of_open(left), kind),
         Stepped::Done(reply, kind) => Stepped::Done(reply, kind),
-        Stepped::Stopped(m) => Stepped::Stopped(Running::Create(m)),
+        Stepped::Stopped(left) => Stepped::Stopped(left_of_open(left)),
     }
 }
 
-fn in_link(stepped: Stepped<Link, Reply, Kind>) -> Stepped<Running, Reply, Kind>
-    ensures { result ≡ ends_within (λ m. running.Link m) (λ reply. reply) stepped }
+fn left_of_create(left: Onward<OpenNew>) -> Running
+    ensures { result ≡ onward_as (λ m. running.Create m) left }
 {
-    match stepped {
-        Stepped::Waits(m) => Stepped::Waits(Running::Link(m)),
-        Stepped::Ran(m, kind) => Stepped::Ran(Running::Link(m), kind),
-        Stepped::Done(reply, kind) => Stepped::Done(reply, kind),
-        Stepped::Stopped(m) => Stepped::Stopped(Running::Link(m)),
+    match left {
+        Onward::Runs(m) => Running::Create(m),
+        Onward::Ends(quit) => Running::Ends(quit),
     }
 }
 
-fn in_mkdir(stepped: Stepped<Mkdir, Reply, Kind>) -> Stepped<Running, Reply, Kind>
-    ensures { result ≡ ends_within (λ m. running.Mkdir m) (λ reply. reply) stepped }
+fn in_create(stepped: Stepped<Onward<OpenNew>, Reply, Kind>) -> Stepped<Running, Reply, Kind>
+    ensures { result ≡ ends_within (onward_as (λ m. running.Create m)) (λ reply. reply) stepped }
 {
     match stepped {
-        Stepped::Waits(m) => Stepped::Waits(Running::Mkdir(m)),
-        Stepped::Ran(m, kind) => Stepped::Ran(Running::Mkdir(m), kind),
+        Stepped::Waits(left) => Stepped::Waits(left_of_create(left)),
+        Stepped::Ran(left, kind) => Stepped::Ran(left_of_create(left), kind),
         Stepped::Done(reply, kind) => Stepped::Done(reply, kind),
-        Stepped::Stopped(m) => Stepped::Stopped(Running::Mkdir(m)),
+        Stepped::Stopped(left) => Stepped::Stopped(left_of_create(left)),
     }
 }
 
-fn in_chdir(stepped: Stepped<Chdir, Reply, Kind>) -> Stepped<Running, Reply, Kind>
-    ensures { result ≡ ends_within (λ m. running.Chdir m) (λ reply. reply) stepped }
+fn left_of_link(left: Onward<Link>) -> Running
+    ensures { result ≡ onward_as (λ m. running.Link m) left }
+{
+    match left {
+        Onward::Runs(m) => Running::Link(m),
+        Onward::Ends(quit) => Running::Ends(quit),
+    }
+}
+
+fn in_link(stepped: Stepped<Onward<Link>, Reply, Kind>) -> Stepped<Running, Reply, Kind>
+    ensures { result ≡ ends_within (onward_as (λ m. running.Link m)) (λ reply. reply) stepped }
 {
     match stepped {
-        Stepped::Waits(m) => Stepped::Waits(Running::Chdir(m)),
-        Stepped::Ran(m, kind) => Stepped::Ran(Running::Chdir(m), kind),
+        Stepped::Waits(left) => Stepped::Waits(left_of_link(left)),
+        Stepped::Ran(left, kind) => Stepped::Ran(left_of_link(left), kind),
         Stepped::Done(reply, kind) => Stepped::Done(reply, kind),
-        Stepped::Stopped(m) => Stepped::Stopped(Running::Chdir(m)),
+        Stepped::Stopped(left) => Stepped::Stopped(left_of_link(left)),
+    }
+}
+
+fn left_of_mkdir(left: Onward<Mkdir>) -> Running
+    ensures { result ≡ onward_as (λ m. running.Mkdir m) left }
+{
+    match left {
+        Onward::Runs(m) => Running::Mkdir(m),
+        Onward::Ends(quit) => Running::Ends(quit),
+    }
+}
+
+fn in_mkdir(stepped: Stepped<Onward<Mkdir>, Reply, Kind>) -> Stepped<Running, Reply, Kind>
+    ensures { result ≡ ends_within (onward_as (λ m. running.Mkdir m)) (λ reply. reply) stepped }
+{
+    match stepped {
+        Stepped::Waits(left) => Stepped::Waits(left_of_mkdir(left)),
+        Stepped::Ran(left, kind) => Stepped::Ran(left_of_mkdir(left), kind),
+        Stepped::Done(reply, kind) => Stepped::Done(reply, kind),
+        Stepped::Stopped(left) => Stepped::Stopped(left_of_mkdir(left)),
+    }
+}
+
+fn left_of_chdir(left: Onward<Chdir>) -> Running
+    ensures { result ≡ onward_as (λ m. running.Chdir m) left }
+{
+    match left {
+        Onward::Runs(m) => Running::Chdir(m),
+        Onward::Ends(quit) => Running::Ends(quit),
+    }
+}
+
+fn in_chdir(stepped: Stepped<Onward<Chdir>, Reply, Kind>) -> Stepped<Running, Reply, Kind>
+    ensures { result ≡ ends_within (onward_as (λ m. running.Chdir m)) (λ reply. reply) stepped }
+{
+    match stepped {
+        Stepped::Waits(left) => Stepped::Waits(left_of_chdir(left)),
+        Stepped::Ran(left, kind) => Stepped::Ran(left_of_chdir(left), kind),
+        Stepped::Done(reply, kind) => Stepped::Done(reply, kind),
+        Stepped::Stopped(left) => Stepped::Stopped(left_of_chdir(left)),
     }
 }
 
@@ -208,14 +259,23 @@ fn in_write(stepped: Stepped<Write, Reply, Kind>) -> Stepped<Running, Reply, Kin
     }
 }
 
-fn in_unlink(stepped: Stepped<Unlink, Reply, Kind>) -> Stepped<Running, Reply, Kind>
-    ensures { result ≡ ends_within (λ m. running.Unlink m) (λ reply. reply) stepped }
+fn left_of_unlink(left: Onward<Unlink>) -> Running
+    ensures { result ≡ onward_as (λ m. running.Unlink m) left }
+{
+    match left {
+        Onward::Runs(m) => Running::Unlink(m),
+        Onward::Ends(quit) => Running::Ends(quit),
+    }
+}
+
+fn in_unlink(stepped: Stepped<Onward<Unlink>, Reply, Kind>) -> Stepped<Running, Reply, Kind>
+    ensures { result ≡ ends_within (onward_as (λ m. running.Unlink m)) (λ reply. reply) stepped }
 {
     match stepped {
-        Stepped::Waits(m) => Stepped::Waits(Running::Unlink(m)),
-        Stepped::Ran(m, kind) => Stepped::Ran(Running::Unlink(m), kind),
+        Stepped::Waits(left) => Stepped::Waits(left_of_unlink(left)),
+        Stepped::Ran(left, kind) => Stepped::Ran(left_of_unlink(left), kind),
         Stepped::Done(reply, kind) => Stepped::Done(reply, kind),
-        Stepped::Stopped(m) => Stepped::Stopped(Running::Unlink(m)),
+        Stepped::Stopped(left) => Stepped::Stopped(left_of_unlink(left)),
     }
 }
 
@@ -227,5 +287,16 @@ fn in_inherit(stepped: Stepped<Inherit, Reply, Kind>) -> Stepped<Running, Reply,
         Stepped::Ran(m, kind) => Stepped::Ran(Running::Inherit(m), kind),
         Stepped::Done(reply, kind) => Stepped::Done(reply, kind),
         Stepped::Stopped(m) => Stepped::Stopped(Running::Inherit(m)),
+    }
+}
+
+fn in_ends(stepped: Stepped<Quit, Reply, Kind>) -> Stepped<Running, Reply, Kind>
+    ensures { result ≡ ends_within (λ m. running.Ends m) (λ reply. reply) stepped }
+{
+    match stepped {
+        Stepped::Waits(m) => Stepped::Waits(Running::Ends(m)),
+        Stepped::Ran(m, kind) => Stepped::Ran(Running::Ends(m), kind),
+        Stepped::Done(reply, kind) => Stepped::Done(reply, kind),
+        Stepped::Stopped(m) => Stepped::Stopped(Running::Ends(m)),
     }
 }

@@ -16,15 +16,18 @@ ghost use Rattle.path_walk.specs.Programs.{loaded};
 ghost use Rattle.sleep_lock.specs.SleepLock.{GuardState};
 ghost use Rattle.fs_tables.specs.declared.inodes.Inode.{Inode as InodeState};
 ghost use Rattle.syscalls.specs.Nesting.{Follows};
+ghost use Rattle.syscalls.specs.Onwards.{onward_in, onward_of, OnwardFits};
 ghost use Rattle.syscalls.specs.Parts.{quit};
 ghost use Rattle.syscalls.specs.Taking.{inode_in, take_of, IsHeld, TakeApart, TakeFits};
 ghost use Rattle.syscalls.specs.Seeking.{seek_of, seen_as, IsSeen, SeekFits};
 ghost use Rattle.syscalls.specs.Chdirs.{IsOnPath};
 ghost use Rattle.syscalls.specs.Unlinking.{clear_name, name_cleared, see_child, unless_entries, unlink_found, unlink_joined, unlink_of, unlink_program, unlink_reply, unlink_seen, unlink_up, AreHeld, IsRemoving, UnlinkFits};
 ghost use Rattle.syscalls.specs.declared.unlink.Unlink.TheVariants as unlinking;
+ghost use Rattle.syscalls.specs.declared.onward.Onward.TheVariants as onward;
 
 use crate::lower::Lower;
 use crate::on_path::{OnPath, ending, stopped};
+use crate::onward::Onward;
 use crate::quit::Quit;
 use crate::seek::{Dots, LastName, Seek, Seen};
 use crate::tail::Ending;
@@ -81,8 +84,6 @@ pub enum Unlink {
     Clearing(Ending, Txn, Reference, Held, PutEntry),
     /// The counts go down.
     Lowering(Lower),
-    /// The call ends.
-    Ends(Quit),
 }
 
 impl Unlink {
@@ -103,19 +104,23 @@ impl Unlink {
 
     /// One operation.
     #[tactic(auto, unfolding(crate::specs::Unlinking::unlink_of, crate::specs::Unlinking::UnlinkFits, fs_machine::specs::Premises::Honest))]
-    pub fn step<D: Device>(self, hart: u8, core: &mut Core<D>) -> Stepped<Unlink, Reply, Kind>
+    pub fn step<D: Device>(
+        self,
+        hart: u8,
+        core: &mut Core<D>,
+    ) -> Stepped<Onward<Unlink>, Reply, Kind>
         requires may { MayNext hart (unlink_of self) (state_of D.contents D.failures core.old) }
         requires fits { UnlinkFits hart (state_of D.contents D.failures core.old) self }
-        ensures moves { Moves unlink_of (λ reply. reply) hart self result (state_of D.contents D.failures core.old) (state_of D.contents D.failures core.new) }
-        ensures honest { Answers unlink_of hart self result (state_of D.contents D.failures core.old) (state_of D.contents D.failures core.new) }
-        ensures still { Still unlink_of result self core.old core.new }
-        ensures fits { LeftOf (UnlinkFits hart (state_of D.contents D.failures core.new)) (λ _. Unit {0}) result }
+        ensures moves { Moves (onward_of unlink_of) (λ reply. reply) hart (onward.Runs self) result (state_of D.contents D.failures core.old) (state_of D.contents D.failures core.new) }
+        ensures honest { Answers (onward_of unlink_of) hart (onward.Runs self) result (state_of D.contents D.failures core.old) (state_of D.contents D.failures core.new) }
+        ensures still { Still (onward_of unlink_of) result (onward.Runs self) core.old core.new }
+        ensures fits { LeftOf (OnwardFits UnlinkFits hart (state_of D.contents D.failures core.new)) (λ _. Unit {0}) result }
         ensures others { LeavesTied hart (state_of D.contents D.failures core.old) (state_of D.contents D.failures core.new) }
         ensures called { CallsOnce D.Called core.old.log.cache.device core.new.log.cache.device }
     {
         match self {
             Unlink::Join(on) => match core.join(hart) {
-                None => Stepped::Waits(Unlink::Join(on)),
+                None => Stepped::Waits(Onward::Runs(Unlink::Join(on))),
                 Some(txn) => Stepped::Ran(begin(on, txn), Kind::Join),
             },
             Unlink::Seeking(on, txn, seek) => {
@@ -137,7 +142,6 @@ impl Unlink {
                 clearing(ending, txn, reference, child, stepped)
             }
             Unlink::Lowering(lower) => lowering(lower.step(hart, core)),
-            Unlink::Ends(quit) => ends(quit.step(hart, core)),
         }
     }
 
@@ -172,29 +176,28 @@ impl Unlink {
                 put.retire(retired);
             }
             Unlink::Lowering(lower) => lower.retire(retired),
-            Unlink::Ends(quit) => quit.retire(retired),
         }
     }
 }
 
 // The end of a call with this answer, which has an inode to give up.
 #[tactic(auto, unfolding(crate::specs::Unlinking::unlink_of, crate::specs::Unlinking::UnlinkFits))]
-fn end_with(on: OnPath, txn: Txn, list: Listed, held: Held, answer: Answer) -> Unlink
+fn end_with(on: OnPath, txn: Txn, list: Listed, held: Held, answer: Answer) -> Onward<Unlink>
     requires { IsEarly on.sizes.inodestart }
-    ensures program { unlink_of result ≡ quit on.sizes (inode_in held ∷ []) list (unlink_reply on.path answer) }
-    ensures fits { (hart : ℕ) (s : State) → txn ≡ hart → IsHeld hart held s → UnlinkFits hart s result }
+    ensures program { onward_of unlink_of result ≡ quit on.sizes (inode_in held ∷ []) list (unlink_reply on.path answer) }
+    ensures fits { (hart : ℕ) (s : State) → txn ≡ hart → IsHeld hart held s → OnwardFits UnlinkFits hart s result }
 {
     let OnPath { sizes, path } = on;
     let ending = ending(&sizes, list, Call::Unlink { path }, answer);
-    Unlink::Ends(Quit::with_inode(ending, txn, held))
+    Onward::Ends(Quit::with_inode(ending, txn, held))
 }
 
 // What was seen under the name.
 #[tactic(auto, unfolding(crate::specs::Unlinking::unlink_of, crate::specs::Unlinking::UnlinkFits))]
-fn seen(on: OnPath, txn: Txn, seen: Seen) -> Unlink
+fn seen(on: OnPath, txn: Txn, seen: Seen) -> Onward<Unlink>
     requires { IsOnPath on }
-    ensures program { unlink_of result ≡ unlink_seen on.sizes on.path (seen_as on.path seen) }
-    ensures fits { (hart : ℕ) (s : State) → txn ≡ hart → IsSeen on.path hart s seen → UnlinkFits hart s result }
+    ensures program { onward_of unlink_of result ≡ unlink_seen on.sizes on.path (seen_as on.path seen) }
+    ensures fits { (hart : ℕ) (s : State) → txn ≡ hart → IsSeen on.path hart s seen → OnwardFits UnlinkFits hart s result }
 {
     match seen {
         Seen::Name(name) => named(on, txn, name),
@@ -207,17 +210,17 @@ fn seen(on: OnPath, txn: Txn, seen: Seen) -> Unlink
         Seen::Lost(why, list) => {
             let OnPath { sizes, path } = on;
             let ending = ending(&sizes, list, Call::Unlink { path }, stopped(why));
-            Unlink::Ends(Quit::with_nothing(ending, txn))
+            Onward::Ends(Quit::with_nothing(ending, txn))
         }
     }
 }
 
 // What the directory has under the name.
 #[tactic(auto, unfolding(crate::specs::Unlinking::unlink_of, crate::specs::Unlinking::UnlinkFits))]
-fn named(on: OnPath, txn: Txn, name: LastName) -> Unlink
+fn named(on: OnPath, txn: Txn, name: LastName) -> Onward<Unlink>
     requires { IsOnPath on }
-    ensures program { unlink_of result ≡ unlink_found on.sizes on.path (inode_in name.parent) name.list name.found }
-    ensures fits { (hart : ℕ) (s : State) → txn ≡ hart → IsHeld hart name.parent s → IsSlot name.found → UnlinkFits hart s result }
+    ensures program { onward_of unlink_of result ≡ unlink_found on.sizes on.path (inode_in name.parent) name.list name.found }
+    ensures fits { (hart : ℕ) (s : State) → txn ≡ hart → IsHeld hart name.parent s → IsSlot name.found → OnwardFits UnlinkFits hart s result }
 {
     let LastName {
         parent,
@@ -237,17 +240,17 @@ fn named(on: OnPath, txn: Txn, name: LastName) -> Unlink
                 slot,
                 list,
             };
-            Unlink::Refer(removing, txn, number)
+            Onward::Runs(Unlink::Refer(removing, txn, number))
         }
     }
 }
 
 // The transaction is joined.
 #[tactic(auto, unfolding(crate::specs::Unlinking::unlink_of, crate::specs::Unlinking::UnlinkFits))]
-fn begin(on: OnPath, txn: Txn) -> Unlink
+fn begin(on: OnPath, txn: Txn) -> Onward<Unlink>
     requires { IsOnPath on }
-    ensures program { unlink_of result ≡ unlink_joined on.sizes on.path }
-    ensures fits { (hart : ℕ) (s : State) → txn ≡ hart → UnlinkFits hart s result }
+    ensures program { onward_of unlink_of result ≡ unlink_joined on.sizes on.path }
+    ensures fits { (hart : ℕ) (s : State) → txn ≡ hart → OnwardFits UnlinkFits hart s result }
 {
     let begun = Seek::begin(
         on.path.as_slice(),
@@ -256,33 +259,40 @@ fn begin(on: OnPath, txn: Txn) -> Unlink
         Listed::new(),
     );
     match begun {
-        Begun::Runs(seek) => Unlink::Seeking(on, txn, seek),
+        Begun::Runs(seek) => Onward::Runs(Unlink::Seeking(on, txn, seek)),
         Begun::Is(came) => seen(on, txn, came),
     }
 }
 
 // A step while the name is looked up.
 #[tactic(auto, unfolding(crate::specs::Unlinking::unlink_of, crate::specs::Unlinking::UnlinkFits))]
-fn seeking(on: OnPath, txn: Txn, stepped: Stepped<Seek, Seen, Kind>) -> Stepped<Unlink, Reply, Kind>
+fn seeking(
+    on: OnPath,
+    txn: Txn,
+    stepped: Stepped<Seek, Seen, Kind>,
+) -> Stepped<Onward<Unlink>, Reply, Kind>
     requires { IsOnPath on }
-    ensures follows { Follows (seek_of on.path) (seen_as on.path) unlink_of (λ reply. reply) (unlink_seen on.sizes on.path) stepped result }
-    ensures fits { (hart : ℕ) (s : State) → txn ≡ hart → LeftOf (SeekFits on.path hart s) (IsSeen on.path hart s) stepped → LeftOf (UnlinkFits hart s) (λ _. Unit {0}) result }
+    ensures follows { Follows (seek_of on.path) (seen_as on.path) (onward_of unlink_of) (λ reply. reply) (unlink_seen on.sizes on.path) stepped result }
+    ensures fits { (hart : ℕ) (s : State) → txn ≡ hart → LeftOf (SeekFits on.path hart s) (IsSeen on.path hart s) stepped → LeftOf (OnwardFits UnlinkFits hart s) (λ _. Unit {0}) result }
 {
     match stepped {
-        Stepped::Waits(seek) => Stepped::Waits(Unlink::Seeking(on, txn, seek)),
-        Stepped::Ran(seek, kind) => Stepped::Ran(Unlink::Seeking(on, txn, seek), kind),
+        Stepped::Waits(seek) => Stepped::Waits(Onward::Runs(Unlink::Seeking(on, txn, seek))),
+        Stepped::Ran(seek, kind) => Stepped::Ran(
+            Onward::Runs(Unlink::Seeking(on, txn, seek)),
+            kind,
+        ),
         Stepped::Done(came, kind) => Stepped::Ran(seen(on, txn, came), kind),
-        Stepped::Stopped(seek) => Stepped::Stopped(Unlink::Seeking(on, txn, seek)),
+        Stepped::Stopped(seek) => Stepped::Stopped(Onward::Runs(Unlink::Seeking(on, txn, seek))),
     }
 }
 
 // After a reference to what is named was wanted.
 #[tactic(auto, unfolding(crate::specs::Unlinking::unlink_of, crate::specs::Unlinking::UnlinkFits))]
-fn referred(removing: Removing, txn: Txn, up: Option<Reference>) -> Unlink
+fn referred(removing: Removing, txn: Txn, up: Option<Reference>) -> Onward<Unlink>
     requires { IsEarly removing.on.sizes.inodestart }
     ensures program { (n : ℕ) → IfSome up (λ reference. reference ≡ n)
-        → unlink_of result ≡ unlink_up removing.on.sizes removing.on.path (inode_in removing.parent) removing.slot removing.list n up }
-    ensures fits { (hart : ℕ) (s : State) → txn ≡ hart → IsRemoving hart removing s → UnlinkFits hart s result }
+        → onward_of unlink_of result ≡ unlink_up removing.on.sizes removing.on.path (inode_in removing.parent) removing.slot removing.list n up }
+    ensures fits { (hart : ℕ) (s : State) → txn ≡ hart → IsRemoving hart removing s → OnwardFits UnlinkFits hart s result }
 {
     match up {
         None => {
@@ -296,46 +306,46 @@ fn referred(removing: Removing, txn: Txn, up: Option<Reference>) -> Unlink
         }
         Some(reference) => {
             let take = TakeInode::new(removing.on.sizes.inodestart, reference);
-            Unlink::Taking(removing, txn, take)
+            Onward::Runs(Unlink::Taking(removing, txn, take))
         }
     }
 }
 
 // What is named is had: it is searched for entries, where it is a directory.
 #[tactic(auto, unfolding(crate::specs::Unlinking::unlink_of, crate::specs::Unlinking::UnlinkFits))]
-fn had(removing: Removing, txn: Txn, child: Held) -> Unlink
+fn had(removing: Removing, txn: Txn, child: Held) -> Onward<Unlink>
     requires early { IsEarly removing.on.sizes.inodestart }
     requires slot { removing.slot < most_slots }
     requires parent { IsSome removing.parent.inode.value.content }
     requires child { IsSome child.inode.value.content }
-    ensures program { unlink_of result ≡ see_child removing.on.sizes removing.on.path (inode_in removing.parent) removing.slot removing.list (inode_in child) }
-    ensures fits { (hart : ℕ) (s : State) → txn ≡ hart → IsRemoving hart removing s → IsHeld hart child s → removing.parent.reference ≢ child.reference → UnlinkFits hart s result }
+    ensures program { onward_of unlink_of result ≡ see_child removing.on.sizes removing.on.path (inode_in removing.parent) removing.slot removing.list (inode_in child) }
+    ensures fits { (hart : ℕ) (s : State) → txn ≡ hart → IsRemoving hart removing s → IsHeld hart child s → removing.parent.reference ≢ child.reference → OnwardFits UnlinkFits hart s result }
 {
     if !is_directory(&record(&child.inode)) {
-        return clear(removing, txn, child);
+        return Onward::Runs(clear(removing, txn, child));
     }
     let Held { reference, inode } = child;
     match Search::begin(inode) {
-        Begun::Runs(search) => Unlink::Looking(removing, txn, reference, search),
+        Begun::Runs(search) => Onward::Runs(Unlink::Looking(removing, txn, reference, search)),
         Begun::Is(searched) => looked(removing, txn, reference, searched),
     }
 }
 
 // The directory was searched for entries.
 #[tactic(auto, unfolding(crate::specs::Unlinking::unlink_of, crate::specs::Unlinking::UnlinkFits))]
-fn looked(removing: Removing, txn: Txn, reference: Reference, searched: Searched) -> Unlink
+fn looked(removing: Removing, txn: Txn, reference: Reference, searched: Searched) -> Onward<Unlink>
     requires early { IsEarly removing.on.sizes.inodestart }
     requires slot { removing.slot < most_slots }
     requires parent { IsSome removing.parent.inode.value.content }
     requires child { IsSome searched.inode.value.content }
-    ensures program { unlink_of result ≡ unless_entries removing.on.sizes removing.on.path (inode_in removing.parent) removing.slot removing.list searched.inode.value searched.found }
+    ensures program { onward_of unlink_of result ≡ unless_entries removing.on.sizes removing.on.path (inode_in removing.parent) removing.slot removing.list searched.inode.value searched.found }
     ensures fits { (hart : ℕ) (s : State) → txn ≡ hart → IsRemoving hart removing s → IsHeld hart (record { reference = reference; inode = searched.inode }) s
-        → removing.parent.reference ≢ reference → UnlinkFits hart s result }
+        → removing.parent.reference ≢ reference → OnwardFits UnlinkFits hart s result }
 {
     let Searched { inode, found } = searched;
     let child = Held { reference, inode };
     match found {
-        None => clear(removing, txn, child),
+        None => Onward::Runs(clear(removing, txn, child)),
         Some(_) => {
             let Removing {
                 on: OnPath { sizes, path },
@@ -345,7 +355,7 @@ fn looked(removing: Removing, txn: Txn, reference: Reference, searched: Searched
             } = removing;
             let answer = Answer::Failed(Cause::NotEmpty);
             let ending = ending(&sizes, list, Call::Unlink { path }, answer);
-            Unlink::Ends(Quit::with_two(ending, txn, child, parent))
+            Onward::Ends(Quit::with_two(ending, txn, child, parent))
         }
     }
 }
@@ -377,21 +387,26 @@ fn taking(
     removing: Removing,
     txn: Txn,
     stepped: Stepped<TakeInode, Held, Kind>,
-) -> Stepped<Unlink, Reply, Kind>
+) -> Stepped<Onward<Unlink>, Reply, Kind>
     requires early { IsEarly removing.on.sizes.inodestart }
     requires slot { removing.slot < most_slots }
     requires parent { IsSome removing.parent.inode.value.content }
     requires child { LeftOf (λ _. Unit {0}) (λ held. IsSome held.inode.value.content) stepped }
-    ensures follows { Follows take_of inode_in unlink_of (λ reply. reply) (see_child removing.on.sizes removing.on.path (inode_in removing.parent) removing.slot removing.list) stepped result }
+    ensures follows { Follows take_of inode_in (onward_of unlink_of) (λ reply. reply) (see_child removing.on.sizes removing.on.path (inode_in removing.parent) removing.slot removing.list) stepped result }
     ensures fits { (hart : ℕ) (s : State) → txn ≡ hart → IsRemoving hart removing s
         → LeftOf (λ m. TakeFits hart s m × TakeApart removing.parent.reference m) (λ held. IsHeld hart held s × (removing.parent.reference ≢ held.reference)) stepped
-        → LeftOf (UnlinkFits hart s) (λ _. Unit {0}) result }
+        → LeftOf (OnwardFits UnlinkFits hart s) (λ _. Unit {0}) result }
 {
     match stepped {
-        Stepped::Waits(take) => Stepped::Waits(Unlink::Taking(removing, txn, take)),
-        Stepped::Ran(take, kind) => Stepped::Ran(Unlink::Taking(removing, txn, take), kind),
+        Stepped::Waits(take) => Stepped::Waits(Onward::Runs(Unlink::Taking(removing, txn, take))),
+        Stepped::Ran(take, kind) => Stepped::Ran(
+            Onward::Runs(Unlink::Taking(removing, txn, take)),
+            kind,
+        ),
         Stepped::Done(child, kind) => Stepped::Ran(had(removing, txn, child), kind),
-        Stepped::Stopped(take) => Stepped::Stopped(Unlink::Taking(removing, txn, take)),
+        Stepped::Stopped(take) => Stepped::Stopped(Onward::Runs(Unlink::Taking(
+            removing, txn, take,
+        ))),
     }
 }
 
@@ -402,24 +417,31 @@ fn looking(
     txn: Txn,
     reference: Reference,
     stepped: Stepped<Search, Searched, Kind>,
-) -> Stepped<Unlink, Reply, Kind>
+) -> Stepped<Onward<Unlink>, Reply, Kind>
     requires early { IsEarly removing.on.sizes.inodestart }
     requires slot { removing.slot < most_slots }
     requires parent { IsSome removing.parent.inode.value.content }
     requires child { LeftOf (λ _. Unit {0}) (λ r. IsSome r.inode.value.content) stepped }
     ensures follows { (guard : GuardState InodeState) → LeftOf (λ m. inode_of m ≡ guard) (λ r. r.inode ≡ guard) stepped
-        → Follows (search_of Entry) found_of unlink_of (λ reply. reply) (unless_entries removing.on.sizes removing.on.path (inode_in removing.parent) removing.slot removing.list guard.value) stepped result }
+        → Follows (search_of Entry) found_of (onward_of unlink_of) (λ reply. reply) (unless_entries removing.on.sizes removing.on.path (inode_in removing.parent) removing.slot removing.list guard.value) stepped result }
     ensures fits { (hart : ℕ) (s : State) → txn ≡ hart → IsRemoving hart removing s → removing.parent.reference ≢ reference
         → LeftOf (λ m. IsHeld hart (record { reference = reference; inode = inode_of m }) s × SearchFits hart s m) (λ r. IsHeld hart (record { reference = reference; inode = r.inode }) s) stepped
-        → LeftOf (UnlinkFits hart s) (λ _. Unit {0}) result }
+        → LeftOf (OnwardFits UnlinkFits hart s) (λ _. Unit {0}) result }
 {
     match stepped {
-        Stepped::Waits(m) => Stepped::Waits(Unlink::Looking(removing, txn, reference, m)),
-        Stepped::Ran(m, kind) => Stepped::Ran(Unlink::Looking(removing, txn, reference, m), kind),
+        Stepped::Waits(m) => Stepped::Waits(Onward::Runs(Unlink::Looking(
+            removing, txn, reference, m,
+        ))),
+        Stepped::Ran(m, kind) => Stepped::Ran(
+            Onward::Runs(Unlink::Looking(removing, txn, reference, m)),
+            kind,
+        ),
         Stepped::Done(searched, kind) => {
             Stepped::Ran(looked(removing, txn, reference, searched), kind)
         }
-        Stepped::Stopped(m) => Stepped::Stopped(Unlink::Looking(removing, txn, reference, m)),
+        Stepped::Stopped(m) => Stepped::Stopped(Onward::Runs(Unlink::Looking(
+            removing, txn, reference, m,
+        ))),
     }
 }
 
@@ -431,54 +453,55 @@ fn clearing(
     reference: Reference,
     child: Held,
     stepped: Stepped<PutEntry, Guard<Inode>, Kind>,
-) -> Stepped<Unlink, Reply, Kind>
+) -> Stepped<Onward<Unlink>, Reply, Kind>
     requires early { IsEarly ending.sizes.inodestart }
     requires child { IsSome child.inode.value.content }
     requires there { LeftOf (λ _. Unit {0}) (λ guard. IsSome guard.value.content) stepped }
     ensures follows { (n : ℕ) → LeftOf (λ m. (putter_of m).value.number ≡ n) (λ guard. guard.value ≡ loaded n (record_in guard)) stepped
-        → Follows (put_of Free) record_in unlink_of (λ reply. reply) (name_cleared ending n (inode_in child)) stepped result }
+        → Follows (put_of Free) record_in (onward_of unlink_of) (λ reply. reply) (name_cleared ending n (inode_in child)) stepped result }
     ensures fits { (hart : ℕ) (s : State) → txn ≡ hart
         → LeftOf (λ m. AreHeld hart (record { reference = reference; inode = putter_of m }) child s × PutFits hart s m) (λ guard. AreHeld hart (record { reference = reference; inode = guard }) child s) stepped
-        → LeftOf (UnlinkFits hart s) (λ _. Unit {0}) result }
+        → LeftOf (OnwardFits UnlinkFits hart s) (λ _. Unit {0}) result }
 {
     match stepped {
         Stepped::Waits(put) => {
-            Stepped::Waits(Unlink::Clearing(ending, txn, reference, child, put))
+            Stepped::Waits(Onward::Runs(Unlink::Clearing(ending, txn, reference, child, put)))
         }
         Stepped::Ran(put, kind) => {
-            Stepped::Ran(Unlink::Clearing(ending, txn, reference, child, put), kind)
+            Stepped::Ran(
+                Onward::Runs(Unlink::Clearing(ending, txn, reference, child, put)),
+                kind,
+            )
         }
         Stepped::Done(inode, kind) => {
             let parent = Held { reference, inode };
             let lower = Lower::new(ending, txn, parent, child);
-            Stepped::Ran(Unlink::Lowering(lower), kind)
+            Stepped::Ran(Onward::Runs(Unlink::Lowering(lower)), kind)
         }
         Stepped::Stopped(put) => {
-            Stepped::Stopped(Unlink::Clearing(ending, txn, reference, child, put))
+            Stepped::Stopped(Onward::Runs(Unlink::Clearing(ending, txn, reference, child, put)))
         }
+    }
+}
+
+// What is left of it while the counts go down.
+fn in_lowering(left: Onward<Lower>) -> Onward<Unlink>
+    ensures { result ≡ onward_in (λ m. unlinking.Lowering m) left }
+{
+    match left {
+        Onward::Runs(lower) => Onward::Runs(Unlink::Lowering(lower)),
+        Onward::Ends(quit) => Onward::Ends(quit),
     }
 }
 
 // A step while the counts go down.
-fn lowering(stepped: Stepped<Lower, Reply, Kind>) -> Stepped<Unlink, Reply, Kind>
-    ensures { result ≡ ends_within (λ m. unlinking.Lowering m) (λ reply. reply) stepped }
+fn lowering(stepped: Stepped<Onward<Lower>, Reply, Kind>) -> Stepped<Onward<Unlink>, Reply, Kind>
+    ensures { result ≡ ends_within (onward_in (λ m. unlinking.Lowering m)) (λ reply. reply) stepped }
 {
     match stepped {
-        Stepped::Waits(lower) => Stepped::Waits(Unlink::Lowering(lower)),
-        Stepped::Ran(lower, kind) => Stepped::Ran(Unlink::Lowering(lower), kind),
+        Stepped::Waits(left) => Stepped::Waits(in_lowering(left)),
+        Stepped::Ran(left, kind) => Stepped::Ran(in_lowering(left), kind),
         Stepped::Done(reply, kind) => Stepped::Done(reply, kind),
-        Stepped::Stopped(lower) => Stepped::Stopped(Unlink::Lowering(lower)),
-    }
-}
-
-// A step of the call's end.
-fn ends(stepped: Stepped<Quit, Reply, Kind>) -> Stepped<Unlink, Reply, Kind>
-    ensures { result ≡ ends_within (λ m. unlinking.Ends m) (λ reply. reply) stepped }
-{
-    match stepped {
-        Stepped::Waits(quit) => Stepped::Waits(Unlink::Ends(quit)),
-        Stepped::Ran(quit, kind) => Stepped::Ran(Unlink::Ends(quit), kind),
-        Stepped::Done(reply, kind) => Stepped::Done(reply, kind),
-        Stepped::Stopped(quit) => Stepped::Stopped(Unlink::Ends(quit)),
+        Stepped::Stopped(left) => Stepped::Stopped(in_lowering(left)),
     }
 }

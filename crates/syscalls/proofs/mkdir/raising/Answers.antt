@@ -9,11 +9,13 @@ use Rattle.syscalls.specs.Parts.{quit}
 use Rattle.syscalls.specs.Taking.{inode_in}
 use Rattle.syscalls.specs.Mkdirs.{leave_made, mkdir_of, mkdir_reply}
 use Rattle.syscalls.specs.declared.mkdir.Mkdir.TheVariants.{Leaving}
+use Rattle.syscalls.specs.Onwards.{onward_of}
+use Rattle.syscalls.specs.declared.onward.Onward.TheVariants as onward
 use Rattle.syscalls.proofs.mkdir.raising.Goals as goal
 
 pub returns-in-Done-clause-follows : goal.returns-in-Done-clause-follows
 unfolding mkdir_of
 returns-in-Done-clause-follows c =
     let on = c.args.on in
-    subst (λ stepped. Follows {T = Reply} store_of (λ x. x) mkdir_of (λ reply. reply) (λ _. leave_made on.sizes on.path (inode_in c.args.parent) (inode_in c.args.child) c.args.list) stepped (Ran (Leaving on c.args.txn c.args.list c.args.child c.new-give.result) c.in-Done.kind))
+    subst (λ stepped. Follows {T = Reply} store_of (λ x. x) (onward_of mkdir_of) (λ reply. reply) (λ _. leave_made on.sizes on.path (inode_in c.args.parent) (inode_in c.args.child) c.args.list) stepped (Ran (onward.Runs (Leaving on c.args.txn c.args.list c.args.child c.new-give.result)) c.in-Done.kind))
     (sym c.in-Done.is) (refl, ap (λ p. bind p (λ _. quit on.sizes (inode_in c.args.child ∷ []) c.args.list (mkdir_reply on.path answers.Done))) c.new-give.ensures.program)

@@ -12,6 +12,8 @@ use Rattle.syscalls.specs.Parts.{reach}
 use Rattle.syscalls.proofs.Joining.{joined_moves}
 use Rattle.syscalls.proofs.Nesting.{nested_moves, nested_honest, nested_still}
 use Rattle.syscalls.proofs.Taken.{reached_there, room_at_first}
+use Rattle.syscalls.specs.Onwards.{onward_of}
+use Rattle.syscalls.specs.declared.onward.Onward.TheVariants as onward
 use Rattle.syscalls.proofs.open_old.OpenOld.step.Goals as goal
 
 pub reaching-requires-clause-there : goal.reaching-requires-clause-there
@@ -27,7 +29,7 @@ returns-in-Reaching-clause-moves g c =
     let old = state_of g.D.Device.contents g.D.Device.failures c.args.core.now in
     let new = state_of g.D.Device.contents g.D.Device.failures c.step-stepped.new.core in
     let on = c.in-Reaching.o in
-    nested_moves (reach_of on.path) (reached_as on.path) open_old_of (λ reply. reply) (open_found on.sizes on.path on.flags) c.args.hart c.in-Reaching.reach c.args.self c.step-stepped.result _ old new (ap open_old_of c.in-Reaching.is) c.reaching.ensures.follows
+    nested_moves (reach_of on.path) (reached_as on.path) (onward_of open_old_of) (λ reply. reply) (open_found on.sizes on.path on.flags) c.args.hart c.in-Reaching.reach (onward.Runs c.args.self) c.step-stepped.result _ old new (ap open_old_of c.in-Reaching.is) c.reaching.ensures.follows
     (subst (λ p. Moves (reach_of p) (reached_as p) c.args.hart c.in-Reaching.reach c.step-stepped.result old new) c.as_slice.ensures c.step-stepped.ensures.moves)
 
 pub returns-in-Reaching-clause-honest : goal.returns-in-Reaching-clause-honest
@@ -36,7 +38,7 @@ returns-in-Reaching-clause-honest g c =
     let old = state_of g.D.Device.contents g.D.Device.failures c.args.core.now in
     let new = state_of g.D.Device.contents g.D.Device.failures c.step-stepped.new.core in
     let on = c.in-Reaching.o in
-    nested_honest (reach_of on.path) (reached_as on.path) open_old_of (λ reply. reply) (open_found on.sizes on.path on.flags) c.args.hart c.in-Reaching.reach c.args.self c.step-stepped.result _ old new (ap open_old_of c.in-Reaching.is) c.reaching.ensures.follows
+    nested_honest (reach_of on.path) (reached_as on.path) (onward_of open_old_of) (λ reply. reply) (open_found on.sizes on.path on.flags) c.args.hart c.in-Reaching.reach (onward.Runs c.args.self) c.step-stepped.result _ old new (ap open_old_of c.in-Reaching.is) c.reaching.ensures.follows
     (subst (λ p. Moves (reach_of p) (reached_as p) c.args.hart c.in-Reaching.reach c.step-stepped.result old new) c.as_slice.ensures c.step-stepped.ensures.moves)
     (subst (λ p. Answers (reach_of p) c.args.hart c.in-Reaching.reach c.step-stepped.result old new) c.as_slice.ensures c.step-stepped.ensures.honest)
 
@@ -44,7 +46,7 @@ pub returns-in-Reaching-clause-still : goal.returns-in-Reaching-clause-still
 unfolding open_old_of
 returns-in-Reaching-clause-still g c =
     let on = c.in-Reaching.o in
-    nested_still (reach_of on.path) (reached_as on.path) open_old_of (λ reply. reply) (open_found on.sizes on.path on.flags) c.in-Reaching.reach c.args.self c.step-stepped.result _ c.args.core.now c.step-stepped.new.core (ap open_old_of c.in-Reaching.is) c.reaching.ensures.follows
+    nested_still (reach_of on.path) (reached_as on.path) (onward_of open_old_of) (λ reply. reply) (open_found on.sizes on.path on.flags) c.in-Reaching.reach (onward.Runs c.args.self) c.step-stepped.result _ c.args.core.now c.step-stepped.new.core (ap open_old_of c.in-Reaching.is) c.reaching.ensures.follows
     (subst (λ p. Still (reach_of p) c.step-stepped.result c.in-Reaching.reach c.args.core.now c.step-stepped.new.core) c.as_slice.ensures c.step-stepped.ensures.still)
 
 pub returns-in-Reaching-clause-fits : goal.returns-in-Reaching-clause-fits

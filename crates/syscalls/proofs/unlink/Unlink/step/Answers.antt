@@ -17,6 +17,8 @@ use Rattle.syscalls.proofs.Installing.{held_on}
 use Rattle.syscalls.proofs.Joining.{joined_moves}
 use Rattle.syscalls.proofs.Nesting.{nested_moves, nested_honest, nested_still}
 use Rattle.syscalls.proofs.Unlinks.{cleared_held, cleared_number, cleared_there, referred_moves, removing_on, removing_stays, searched_held, searched_there, taken_there, took_apart}
+use Rattle.syscalls.specs.Onwards.{onward_of}
+use Rattle.syscalls.specs.declared.onward.Onward.TheVariants as onward
 use Rattle.syscalls.proofs.unlink.Unlink.step.Goals as goal
 
 pub returns-in-Some-clause-moves : goal.returns-in-Some-clause-moves
@@ -34,7 +36,7 @@ returns-in-Seeking-clause-moves g c =
     let old = state_of g.D.Device.contents g.D.Device.failures c.args.core.now in
     let new = state_of g.D.Device.contents g.D.Device.failures c.step-stepped.new.core in
     let on = c.in-Seeking.on in
-    nested_moves (seek_of on.path) (seen_as on.path) unlink_of (λ reply. reply) (unlink_seen on.sizes on.path) c.args.hart c.in-Seeking.seek c.args.self c.step-stepped.result _ old new (ap unlink_of c.in-Seeking.is) c.seeking.ensures.follows
+    nested_moves (seek_of on.path) (seen_as on.path) (onward_of unlink_of) (λ reply. reply) (unlink_seen on.sizes on.path) c.args.hart c.in-Seeking.seek (onward.Runs c.args.self) c.step-stepped.result _ old new (ap unlink_of c.in-Seeking.is) c.seeking.ensures.follows
     (subst (λ p. Moves (seek_of p) (seen_as p) c.args.hart c.in-Seeking.seek c.step-stepped.result old new) c.as_slice.ensures c.step-stepped.ensures.moves)
 
 pub returns-in-Seeking-clause-honest : goal.returns-in-Seeking-clause-honest
@@ -43,7 +45,7 @@ returns-in-Seeking-clause-honest g c =
     let old = state_of g.D.Device.contents g.D.Device.failures c.args.core.now in
     let new = state_of g.D.Device.contents g.D.Device.failures c.step-stepped.new.core in
     let on = c.in-Seeking.on in
-    nested_honest (seek_of on.path) (seen_as on.path) unlink_of (λ reply. reply) (unlink_seen on.sizes on.path) c.args.hart c.in-Seeking.seek c.args.self c.step-stepped.result _ old new (ap unlink_of c.in-Seeking.is) c.seeking.ensures.follows
+    nested_honest (seek_of on.path) (seen_as on.path) (onward_of unlink_of) (λ reply. reply) (unlink_seen on.sizes on.path) c.args.hart c.in-Seeking.seek (onward.Runs c.args.self) c.step-stepped.result _ old new (ap unlink_of c.in-Seeking.is) c.seeking.ensures.follows
     (subst (λ p. Moves (seek_of p) (seen_as p) c.args.hart c.in-Seeking.seek c.step-stepped.result old new) c.as_slice.ensures c.step-stepped.ensures.moves)
     (subst (λ p. Answers (seek_of p) c.args.hart c.in-Seeking.seek c.step-stepped.result old new) c.as_slice.ensures c.step-stepped.ensures.honest)
 
@@ -51,7 +53,7 @@ pub returns-in-Seeking-clause-still : goal.returns-in-Seeking-clause-still
 unfolding unlink_of
 returns-in-Seeking-clause-still g c =
     let on = c.in-Seeking.on in
-    nested_still (seek_of on.path) (seen_as on.path) unlink_of (λ reply. reply) (unlink_seen on.sizes on.path) c.in-Seeking.seek c.args.self c.step-stepped.result _ c.args.core.now c.step-stepped.new.core (ap unlink_of c.in-Seeking.is) c.seeking.ensures.follows
+    nested_still (seek_of on.path) (seen_as on.path) (onward_of unlink_of) (λ reply. reply) (unlink_seen on.sizes on.path) c.in-Seeking.seek (onward.Runs c.args.self) c.step-stepped.result _ c.args.core.now c.step-stepped.new.core (ap unlink_of c.in-Seeking.is) c.seeking.ensures.follows
     (subst (λ p. Still (seek_of p) c.step-stepped.result c.in-Seeking.seek c.args.core.now c.step-stepped.new.core) c.as_slice.ensures c.step-stepped.ensures.still)
 
 pub returns-in-Seeking-clause-fits : goal.returns-in-Seeking-clause-fits
@@ -96,13 +98,13 @@ unfolding unlink_of
 returns-in-Taking-clause-moves g c =
     let s = state_of g.D.Device.contents g.D.Device.failures in
     let r = c.in-Taking.removing in
-    nested_moves take_of inode_in unlink_of (λ reply. reply) (see_child r.on.sizes r.on.path (inode_in r.parent) r.slot r.list) c.args.hart c.in-Taking.take c.args.self c.step.result _ (s c.args.core.now) (s c.step.new.core) (ap unlink_of c.in-Taking.is) c.taking.ensures.follows c.step.ensures.moves
+    nested_moves take_of inode_in (onward_of unlink_of) (λ reply. reply) (see_child r.on.sizes r.on.path (inode_in r.parent) r.slot r.list) c.args.hart c.in-Taking.take (onward.Runs c.args.self) c.step.result _ (s c.args.core.now) (s c.step.new.core) (ap unlink_of c.in-Taking.is) c.taking.ensures.follows c.step.ensures.moves
 
 pub returns-in-Taking-clause-still : goal.returns-in-Taking-clause-still
 unfolding unlink_of
 returns-in-Taking-clause-still g c =
     let r = c.in-Taking.removing in
-    nested_still take_of inode_in unlink_of (λ reply. reply) (see_child r.on.sizes r.on.path (inode_in r.parent) r.slot r.list) c.in-Taking.take c.args.self c.step.result _ c.args.core.now c.step.new.core (ap unlink_of c.in-Taking.is) c.taking.ensures.follows c.step.ensures.still
+    nested_still take_of inode_in (onward_of unlink_of) (λ reply. reply) (see_child r.on.sizes r.on.path (inode_in r.parent) r.slot r.list) c.in-Taking.take (onward.Runs c.args.self) c.step.result _ c.args.core.now c.step.new.core (ap unlink_of c.in-Taking.is) c.taking.ensures.follows c.step.ensures.still
 
 pub returns-in-Taking-clause-fits : goal.returns-in-Taking-clause-fits
 unfolding UnlinkFits
@@ -136,7 +138,7 @@ returns-in-Looking-clause-moves g c =
     let s = state_of g.D.Device.contents g.D.Device.failures in
     let at = c.in-Looking in
     let r = at.removing in
-    nested_moves (search_of Entry) found_of unlink_of (λ reply. reply) (unless_entries r.on.sizes r.on.path (inode_in r.parent) r.slot r.list (inode_of at.search).value) c.args.hart at.search c.args.self c.step-stepped-in-Looking.result _ (s c.args.core.now) (s c.step-stepped-in-Looking.new.core) (ap unlink_of at.is)
+    nested_moves (search_of Entry) found_of (onward_of unlink_of) (λ reply. reply) (unless_entries r.on.sizes r.on.path (inode_in r.parent) r.slot r.list (inode_of at.search).value) c.args.hart at.search (onward.Runs c.args.self) c.step-stepped-in-Looking.result _ (s c.args.core.now) (s c.step-stepped-in-Looking.new.core) (ap unlink_of at.is)
     (c.looking.ensures.follows (inode_of at.search) c.step-stepped-in-Looking.ensures.inode) c.step-stepped-in-Looking.ensures.moves
 
 pub returns-in-Looking-clause-honest : goal.returns-in-Looking-clause-honest
@@ -145,7 +147,7 @@ returns-in-Looking-clause-honest g c =
     let s = state_of g.D.Device.contents g.D.Device.failures in
     let at = c.in-Looking in
     let r = at.removing in
-    nested_honest (search_of Entry) found_of unlink_of (λ reply. reply) (unless_entries r.on.sizes r.on.path (inode_in r.parent) r.slot r.list (inode_of at.search).value) c.args.hart at.search c.args.self c.step-stepped-in-Looking.result _ (s c.args.core.now) (s c.step-stepped-in-Looking.new.core) (ap unlink_of at.is)
+    nested_honest (search_of Entry) found_of (onward_of unlink_of) (λ reply. reply) (unless_entries r.on.sizes r.on.path (inode_in r.parent) r.slot r.list (inode_of at.search).value) c.args.hart at.search (onward.Runs c.args.self) c.step-stepped-in-Looking.result _ (s c.args.core.now) (s c.step-stepped-in-Looking.new.core) (ap unlink_of at.is)
     (c.looking.ensures.follows (inode_of at.search) c.step-stepped-in-Looking.ensures.inode) c.step-stepped-in-Looking.ensures.moves c.step-stepped-in-Looking.ensures.honest
 
 pub returns-in-Looking-clause-still : goal.returns-in-Looking-clause-still
@@ -153,7 +155,7 @@ unfolding unlink_of
 returns-in-Looking-clause-still g c =
     let at = c.in-Looking in
     let r = at.removing in
-    nested_still (search_of Entry) found_of unlink_of (λ reply. reply) (unless_entries r.on.sizes r.on.path (inode_in r.parent) r.slot r.list (inode_of at.search).value) at.search c.args.self c.step-stepped-in-Looking.result _ c.args.core.now c.step-stepped-in-Looking.new.core (ap unlink_of at.is)
+    nested_still (search_of Entry) found_of (onward_of unlink_of) (λ reply. reply) (unless_entries r.on.sizes r.on.path (inode_in r.parent) r.slot r.list (inode_of at.search).value) at.search (onward.Runs c.args.self) c.step-stepped-in-Looking.result _ c.args.core.now c.step-stepped-in-Looking.new.core (ap unlink_of at.is)
     (c.looking.ensures.follows (inode_of at.search) c.step-stepped-in-Looking.ensures.inode) c.step-stepped-in-Looking.ensures.still
 
 pub returns-in-Looking-clause-fits : goal.returns-in-Looking-clause-fits
@@ -180,7 +182,7 @@ unfolding unlink_of
 returns-in-Clearing-clause-moves g c =
     let s = state_of g.D.Device.contents g.D.Device.failures in
     let at = c.in-Clearing in
-    nested_moves (put_of Free) record_in unlink_of (λ reply. reply) (name_cleared at.ending (putter_of at.put).value.number (inode_in at.child)) c.args.hart at.put c.args.self c.step-stepped-in-Clearing.result _ (s c.args.core.now) (s c.step-stepped-in-Clearing.new.core) (ap unlink_of at.is)
+    nested_moves (put_of Free) record_in (onward_of unlink_of) (λ reply. reply) (name_cleared at.ending (putter_of at.put).value.number (inode_in at.child)) c.args.hart at.put (onward.Runs c.args.self) c.step-stepped-in-Clearing.result _ (s c.args.core.now) (s c.step-stepped-in-Clearing.new.core) (ap unlink_of at.is)
     (c.clearing.ensures.follows (putter_of at.put).value.number (cleared_number (putter_of at.put) c.step-stepped-in-Clearing.result c.step-stepped-in-Clearing.ensures.inode)) c.step-stepped-in-Clearing.ensures.moves
 
 pub returns-in-Clearing-clause-honest : goal.returns-in-Clearing-clause-honest
@@ -188,14 +190,14 @@ unfolding unlink_of
 returns-in-Clearing-clause-honest g c =
     let s = state_of g.D.Device.contents g.D.Device.failures in
     let at = c.in-Clearing in
-    nested_honest (put_of Free) record_in unlink_of (λ reply. reply) (name_cleared at.ending (putter_of at.put).value.number (inode_in at.child)) c.args.hart at.put c.args.self c.step-stepped-in-Clearing.result _ (s c.args.core.now) (s c.step-stepped-in-Clearing.new.core) (ap unlink_of at.is)
+    nested_honest (put_of Free) record_in (onward_of unlink_of) (λ reply. reply) (name_cleared at.ending (putter_of at.put).value.number (inode_in at.child)) c.args.hart at.put (onward.Runs c.args.self) c.step-stepped-in-Clearing.result _ (s c.args.core.now) (s c.step-stepped-in-Clearing.new.core) (ap unlink_of at.is)
     (c.clearing.ensures.follows (putter_of at.put).value.number (cleared_number (putter_of at.put) c.step-stepped-in-Clearing.result c.step-stepped-in-Clearing.ensures.inode)) c.step-stepped-in-Clearing.ensures.moves c.step-stepped-in-Clearing.ensures.honest
 
 pub returns-in-Clearing-clause-still : goal.returns-in-Clearing-clause-still
 unfolding unlink_of
 returns-in-Clearing-clause-still g c =
     let at = c.in-Clearing in
-    nested_still (put_of Free) record_in unlink_of (λ reply. reply) (name_cleared at.ending (putter_of at.put).value.number (inode_in at.child)) at.put c.args.self c.step-stepped-in-Clearing.result _ c.args.core.now c.step-stepped-in-Clearing.new.core (ap unlink_of at.is)
+    nested_still (put_of Free) record_in (onward_of unlink_of) (λ reply. reply) (name_cleared at.ending (putter_of at.put).value.number (inode_in at.child)) at.put (onward.Runs c.args.self) c.step-stepped-in-Clearing.result _ c.args.core.now c.step-stepped-in-Clearing.new.core (ap unlink_of at.is)
     (c.clearing.ensures.follows (putter_of at.put).value.number (cleared_number (putter_of at.put) c.step-stepped-in-Clearing.result c.step-stepped-in-Clearing.ensures.inode)) c.step-stepped-in-Clearing.ensures.still
 
 pub returns-in-Clearing-clause-fits : goal.returns-in-Clearing-clause-fits
