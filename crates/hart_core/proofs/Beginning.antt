@@ -392,28 +392,24 @@ unfolding install_of InstallFits
 has_install h s (installing.Place o txn it) fits = tt
 has_install h s (installing.Descriptor o txn it) fits = tt
 has_install h s (installing.Emptying e txn m) fits = first (truncate_of m) _ (has_truncate m)
-has_install h s (installing.Ends m) fits = has_quit h s m fits
 
 has_open : (h : ℕ) (s : State) (m : OpenOld) → OpenOldFits h s m → HasOne (open_old_of m)
 unfolding open_old_of OpenOldFits
 has_open h s (opening.Join o) fits = tt
 has_open h s (opening.Reaching o txn m) fits = first (reach_of o.path m) _ (has_reach o.path m)
 has_open h s (opening.Installing m) fits = has_install h s m fits
-has_open h s (opening.Ends m) fits = has_quit h s m fits
 
 has_chdir : (h : ℕ) (s : State) (m : Chdir) → ChdirFits h s m → HasOne (chdir_of m)
 unfolding chdir_of ChdirFits
 has_chdir h s (chdir.Join on) fits = tt
 has_chdir h s (chdir.Reaching on txn m) fits = first (reach_of on.path m) _ (has_reach on.path m)
 has_chdir h s (chdir.Settle on txn list held) fits = tt
-has_chdir h s (chdir.Ends m) fits = has_quit h s m fits
 
 has_lower : (h : ℕ) (s : State) (m : Lower) → LowerFits h s m → HasOne (lower_of m)
 unfolding lower_of LowerFits
 has_lower h s (lowering.Parent e txn parent child m) fits = first (store_of m) _ (has_store m)
 has_lower h s (lowering.Leaving e txn child m) fits = first (give_of m) _ (has_give m)
 has_lower h s (lowering.Child e txn child m) fits = first (store_of m) _ (has_store m)
-has_lower h s (lowering.Ends m) fits = has_quit h s m fits
 
 has_unlink : (h : ℕ) (s : State) (m : Unlink) → UnlinkFits h s m → HasOne (unlink_of m)
 unfolding unlink_of UnlinkFits
@@ -424,7 +420,6 @@ has_unlink h s (unlinking.Taking r txn m) fits = first (take_of m) _ (has_take m
 has_unlink h s (unlinking.Looking r txn n m) fits = first (search_of Entry m) _ (has_search Entry m)
 has_unlink h s (unlinking.Clearing e txn n child m) fits = first (put_of Free m) _ (has_put Free m)
 has_unlink h s (unlinking.Lowering m) fits = has_lower h s m fits
-has_unlink h s (unlinking.Ends m) fits = has_quit h s m fits
 
 -- ---- names
 
@@ -468,7 +463,6 @@ has_mkdir h s (mkdir.Seeking on txn m) fits = first (seek_of on.path m) _ (has_s
 has_mkdir h s (mkdir.Making on txn list e links m) fits = first (make_of (name_in on.path e) m) _ (has_make (name_in on.path e) m)
 has_mkdir h s (mkdir.Raising on txn list parent child m) fits = first (store_of m) _ (has_store m)
 has_mkdir h s (mkdir.Leaving on txn list child m) fits = first (give_of m) _ (has_give m)
-has_mkdir h s (mkdir.Ends m) fits = has_quit h s m fits
 
 has_add : (h : ℕ) (s : State) (m : AddName) → AddFits h s m → HasOne (add_of m)
 unfolding add_of AddFits
@@ -477,7 +471,6 @@ has_add h s (adding.Entering l txn list n parent m) fits = first (enter_of m) _ 
 has_add h s (adding.Leaving l txn list n why m) fits = first (give_of m) _ (has_give m)
 has_add h s (adding.Taking e txn m) fits = first (take_of m) _ (has_take m)
 has_add h s (adding.Lowering m) fits = has_lower h s m fits
-has_add h s (adding.Ends m) fits = has_quit h s m fits
 
 has_link : (h : ℕ) (s : State) (m : Link) → LinkFits h s m → HasOne (link_of m)
 unfolding link_of LinkFits
@@ -486,7 +479,6 @@ has_link h s (linking.Reaching l txn m) fits = first (reach_of l.old m) _ (has_r
 has_link h s (linking.Raising l txn list held m) fits = first (store_of m) _ (has_store m)
 has_link h s (linking.Unlock l txn list held) fits = tt
 has_link h s (linking.Naming m) fits = has_add h s m fits
-has_link h s (linking.Ends m) fits = has_quit h s m fits
 
 has_inherit : (h : ℕ) (s : State) (m : Inherit) → InheritFits h s m → HasOne (inherit_of m)
 unfolding inherit_of InheritFits
@@ -511,3 +503,4 @@ has_running h s (running.Read m) fits = has_read_call m
 has_running h s (running.Write m) fits = has_write_call h s m fits
 has_running h s (running.Unlink m) fits = has_unlink h s m fits
 has_running h s (running.Inherit m) fits = has_inherit h s m fits
+has_running h s (running.Ends m) fits = has_quit h s m fits

@@ -333,21 +333,18 @@ module _ (h g : ℕ) (s t : State) (other : h ≢ g) (leaves : LeavesTied g s t)
   installs (installing.Place o txn it) fits = (fits.0, fits.1, is_held _ fits.2)
   installs (installing.Descriptor o txn it) fits = (fits.0, fits.1, is_held _ fits.2)
   installs (installing.Emptying e txn m) fits = (fits.0, fits.1, own_inode _ _ fits.2, truncates m fits.3)
-  installs (installing.Ends m) fits = quits m fits
 
   opens : (m : OpenOld) → OpenOldFits h s m → OpenOldFits h t m
   unfolding OpenOldFits
   opens (opening.Join o) fits = fits
   opens (opening.Reaching o txn m) fits = (fits.0, fits.1, reaches o.path m fits.2)
   opens (opening.Installing m) fits = installs m fits
-  opens (opening.Ends m) fits = quits m fits
 
   chdirs : (m : Chdir) → ChdirFits h s m → ChdirFits h t m
   unfolding ChdirFits
   chdirs (chdir.Join on) fits = fits
   chdirs (chdir.Reaching on txn m) fits = (fits.0, fits.1, reaches on.path m fits.2)
   chdirs (chdir.Settle on txn list held) fits = (fits.0, fits.1, is_held held fits.2)
-  chdirs (chdir.Ends m) fits = quits m fits
 
   are_held : (first second : Held) → AreHeld h first second s → AreHeld h first second t
   are_held first second f = record { one = is_held first f.one; two = is_held second f.two; apart = f.apart }
@@ -357,7 +354,6 @@ module _ (h g : ℕ) (s t : State) (other : h ≢ g) (leaves : LeavesTied g s t)
   lowers (lowering.Parent e txn parent child m) fits = (fits.0, fits.1, are_held parent child fits.2, store m fits.3)
   lowers (lowering.Leaving e txn child m) fits = (fits.0, fits.1, is_held child fits.2, gives m fits.3, fits.4)
   lowers (lowering.Child e txn child m) fits = (fits.0, fits.1, is_held child fits.2, store m fits.3)
-  lowers (lowering.Ends m) fits = quits m fits
 
   removing : (r : Removing) → IsRemoving h r s → IsRemoving h r t
   removing r f = record { on = f.on; parent = is_held r.parent f.parent; slot = f.slot }
@@ -371,7 +367,6 @@ module _ (h g : ℕ) (s t : State) (other : h ≢ g) (leaves : LeavesTied g s t)
   unlinks (unlinking.Looking r txn n m) fits = (fits.0, removing r fits.1, is_held (record { reference = n; inode = inode_of m }) fits.2, fits.3, searches m fits.4)
   unlinks (unlinking.Clearing e txn n child m) fits = (fits.0, fits.1, are_held (record { reference = n; inode = putter_of m }) child fits.2, puts m fits.3)
   unlinks (unlinking.Lowering m) fits = lowers m fits
-  unlinks (unlinking.Ends m) fits = quits m fits
 
   -- ---- names
 
@@ -418,7 +413,6 @@ module _ (h g : ℕ) (s t : State) (other : h ≢ g) (leaves : LeavesTied g s t)
   mkdirs (mkdir.Making on txn list e links m) fits = (fits.0, fits.1, fits.2, fits.3, makes m fits.4)
   mkdirs (mkdir.Raising on txn list parent child m) fits = (fits.0, fits.1, is_held parent fits.2, is_held child fits.3, fits.4, store m fits.5)
   mkdirs (mkdir.Leaving on txn list child m) fits = (fits.0, fits.1, is_held child fits.2, gives m fits.3, fits.4)
-  mkdirs (mkdir.Ends m) fits = quits m fits
 
   adds : (m : AddName) → AddFits h s m → AddFits h t m
   unfolding AddFits
@@ -427,7 +421,6 @@ module _ (h g : ℕ) (s t : State) (other : h ≢ g) (leaves : LeavesTied g s t)
   adds (adding.Leaving l txn list n why m) fits = (fits.0, fits.1, gives m fits.2)
   adds (adding.Taking e txn m) fits = (fits.0, fits.1, takes m fits.2)
   adds (adding.Lowering m) fits = lowers m fits
-  adds (adding.Ends m) fits = quits m fits
 
   links : (m : Link) → LinkFits h s m → LinkFits h t m
   unfolding LinkFits
@@ -436,7 +429,6 @@ module _ (h g : ℕ) (s t : State) (other : h ≢ g) (leaves : LeavesTied g s t)
   links (linking.Raising l txn list held m) fits = (fits.0, fits.1, fits.2, is_held held fits.3, store m fits.4)
   links (linking.Unlock l txn list held) fits = (fits.0, fits.1, fits.2, is_held held fits.3)
   links (linking.Naming m) fits = adds m fits
-  links (linking.Ends m) fits = quits m fits
 
   inherits : (m : Inherit) → InheritFits h s m → InheritFits h t m
   unfolding InheritFits
@@ -461,3 +453,4 @@ module _ (h g : ℕ) (s t : State) (other : h ≢ g) (leaves : LeavesTied g s t)
   stays (running.Write m) fits = write_calls m fits
   stays (running.Unlink m) fits = unlinks m fits
   stays (running.Inherit m) fits = inherits m fits
+  stays (running.Ends m) fits = quits m fits
