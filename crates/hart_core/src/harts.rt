@@ -13,36 +13,16 @@ ghost use Rattle.inode_machine.specs.Exec.{is_at};
 ghost use Rattle.calls_on_blocks.specs.Theory.{has_file, reserved};
 ghost use Rattle.hart_core.specs.Harts.{outcome_of, said, HartFits, shared_of, programs_of, busy_in, children_in};
 
+use crate::calls::Calls;
 use crate::outcome::{Outcome, Stop};
 use atomic_programs::machines::Stepped;
 use block_device::Device;
 use buffer_cache::HARTS;
-use fs_machine::{Core, RetiredCore};
+use fs_machine::Core;
 use fs_tables::DESCRIPTORS;
 use group_log::Phase;
 use std::marker::Model;
 use syscalls::Running;
-
-// Takes out what a hart does.
-fn take_out(calls: &mut [Option<Running>; 8], hart: u8) -> Option<Running>
-    requires { hart < HARTS }
-    ensures value { slice_get calls.old hart ≡ Some result }
-    ensures after { calls.new ≡ slice_set calls.old hart None }
-    ensures none { slice_get calls.new hart ≡ Some None }
-{
-    std::mem::replace(&mut calls[hart as usize], None)
-}
-
-// Puts back what a hart does.
-fn put_back(calls: &mut [Option<Running>; 8], hart: u8, call: Option<Running>)
-    requires { slice_get calls.old hart ≡ Some None }
-    ensures { calls.new ≡ slice_set calls.old hart call }
-{
-    match std::mem::replace(&mut calls[hart as usize], call) {
-        None => {}
-        Some(_other) => unreachable!(),
-    }
-}
 
 // A step of a hart that does this; and whether the world has stopped.
 fn step<D: Device>(
@@ -77,26 +57,6 @@ fn step<D: Device>(
     }
 }
 
-// Ends what a hart does.
-fn retire(doing: Option<Running>, retired: &RetiredCore) {
-    match doing {
-        None => {}
-        Some(call) => call.retire(retired),
-    }
-}
-
-fn retire_all(calls: [Option<Running>; 8], retired: &RetiredCore) {
-    let [a, b, c, d, e, f, g, h] = calls;
-    retire(a, retired);
-    retire(b, retired);
-    retire(c, retired);
-    retire(d, retired);
-    retire(e, retired);
-    retire(f, retired);
-    retire(g, retired);
-    retire(h, retired);
-}
-
 // Whether this is the child.
 fn is_child(child: Option<u8>, hart: u8) -> bool
     ensures { result ≡ is_at child hart }
@@ -115,7 +75,7 @@ pub struct Harts<D: Device> {
     core: Core<D>,
     stopped: bool,
     children: [Option<u8>; 8],
-    calls: [Option<Running>; 8],
+    calls: Calls,
 }
 
 impl<D: Device> Model for Harts<D> {
@@ -131,14 +91,15 @@ impl<D: Device> Model for Harts<D> {
 
 impl<D: Device> Harts<D> {
     /// Eight idle harts over this.
-    pub fn new(core: Core<D>) -> Harts<D>
+    pub fn new(core: Core<D>, calls: Calls) -> Harts<D>
+        requires { calls ≡ replicate HARTS None }
         ensures { result ≡ record { core = core; stopped = false; children = replicate HARTS None; calls = replicate HARTS None } }
     {
         Harts {
             core,
             stopped: false,
             children: [None; 8],
-            calls: [None, None, None, None, None, None, None, None],
+            calls,
         }
     }
 
@@ -147,8 +108,7 @@ impl<D: Device> Harts<D> {
         ensures busy { result ≡ is_some (get_or self.now.calls hart None) }
         ensures eight { length self.now.calls ≡ HARTS }
     {
-        let calls = &self.calls;
-        (hart as usize) < calls.len() && calls[hart as usize].is_some()
+        hart < HARTS && self.calls.is_busy(hart)
     }
 
     // Whether there is such a hart, it has a call, and that reserves the other one.
@@ -196,7 +156,7 @@ impl<D: Device> Harts<D> {
         ensures children { self.new.children ≡ slice_set self.old.children hart child }
         ensures eight { length self.old.children ≡ HARTS }
     {
-        put_back(&mut self.calls, hart, Some(call));
+        self.calls.put_back(hart, Some(call));
         self.children[hart as usize] = child;
     }
 
@@ -209,13 +169,13 @@ impl<D: Device> Harts<D> {
         ensures children { self.new.children ≡ self.old.children }
         ensures called { CallsOnce D.Called self.old.core.log.cache.device self.new.core.log.cache.device }
     {
-        let calls = &self.calls;
-        if hart as usize >= calls.len() {
+        let stopped = self.stopped;
+        if hart >= HARTS {
             return Outcome::Idle;
         }
-        let doing = take_out(&mut self.calls, hart);
-        let (doing, outcome, stopped) = step(doing, hart, &mut self.core, self.stopped);
-        put_back(&mut self.calls, hart, doing);
+        let doing = self.calls.take_out(hart);
+        let (doing, outcome, stopped) = step(doing, hart, &mut self.core, stopped);
+        self.calls.put_back(hart, doing);
         self.stopped = stopped;
         outcome
     }
@@ -245,7 +205,7 @@ impl<D: Device> Harts<D> {
             calls,
         } = self;
         let (retired, device) = core.retire();
-        retire_all(calls, &retired);
+        calls.retire(&retired);
         device
     }
 }

@@ -1,5 +1,5 @@
 // How the harts come to be over a device.
-ghost use Rattle.std.specs.Prelude.{◌≡◌, IfOk, IfErr};
+ghost use Rattle.std.specs.Prelude.{◌≡◌, IfOk, IfErr, None, replicate};
 ghost use Rattle.block_device.specs.Blocks.{HasBytes, HasWholeBlocks};
 ghost use Rattle.fs_layout.specs.Recovered.{sizes_of};
 ghost use Rattle.buffer_cache.specs.Limits.{buffer_count};
@@ -9,9 +9,10 @@ ghost use Rattle.group_log.specs.Soundness.{IsPlaced};
 ghost use Rattle.image_tree.specs.Damage.{IsWellFormed, faults_with};
 ghost use Rattle.hart_core.specs.Mounting.{IsRecovered, HandsBack, Rests};
 
+use crate::calls::Calls;
 use crate::harts::Harts;
 use block_device::Device;
-use buffer_cache::{Buffers, Cache};
+use buffer_cache::{Buffers, Cache, HARTS};
 use fs_layout::Super;
 use fs_machine::Core;
 use fs_tables::Tables;
@@ -25,11 +26,12 @@ struct Ready {
     sizes: Super,
     buffers: Buffers,
     tables: Tables,
+    calls: Calls,
 }
 
 // Examines the image, takes the memory, and recovers the disk.
 fn prepare<D: Device>(alloc: Global, device: &mut D) -> Result<Ready, MountFault>
-    ensures ready { IfOk result (λ r. (r.sizes ≡ sizes_of (D.contents device.old)) × (r.buffers ≡ unused_from 0 buffer_count) × (r.tables ≡ fresh)) }
+    ensures ready { IfOk result (λ r. (r.sizes ≡ sizes_of (D.contents device.old)) × (r.buffers ≡ unused_from 0 buffer_count) × (r.tables ≡ fresh) × (r.calls ≡ replicate HARTS None)) }
     ensures ok { IfOk result (λ _. IsWellFormed (D.contents device.old) × IsRecovered (D.contents device.old) (D.contents device.new)) }
     ensures placed { IfOk result (λ r. IsPlaced (D.contents device.new) r.sizes) }
     ensures blocks { IfOk result (λ _. HasWholeBlocks (D.contents device.new) × HasBytes (D.contents device.new)) }
@@ -39,9 +41,13 @@ fn prepare<D: Device>(alloc: Global, device: &mut D) -> Result<Ready, MountFault
     let layout = examine_layout(alloc, device)?;
     let buffers = Buffers::new(alloc)?;
     let tables = Tables::new(alloc)?;
+    let calls = Calls::idle(alloc)?;
     match recover(device) {
         Ok(()) => {}
-        Err(fault) => return Err(fault),
+        Err(fault) => {
+            calls.end();
+            return Err(fault);
+        }
     }
     let _count = device.blocks();
     logs_may_begin();
@@ -49,6 +55,7 @@ fn prepare<D: Device>(alloc: Global, device: &mut D) -> Result<Ready, MountFault
         sizes: layout.sizes,
         buffers,
         tables,
+        calls,
     })
 }
 
@@ -68,9 +75,10 @@ pub(crate) fn mount_harts<D: Device>(
                 sizes,
                 buffers,
                 tables,
+                calls,
             } = ready;
             let log = Log::new(Cache::new(buffers, device), sizes);
-            Ok((Harts::new(Core { log, tables }), sizes))
+            Ok((Harts::new(Core { log, tables }, calls), sizes))
         }
         Err(fault) => Err((device, fault)),
     }

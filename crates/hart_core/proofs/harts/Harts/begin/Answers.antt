@@ -23,7 +23,7 @@ returns-clause-makes g c =
     let w = c.self.inside in
     subst
     (λ (v : HartsOf _). plain_makes blocks code (Start c.args.hart (running_of c.args.call)) (programs_of g.D.Device.contents g.D.Device.failures v)
-    ≡ record { came = Started; after = programs_of g.D.Device.contents g.D.Device.failures (record { core = w.core; stopped = w.stopped; children = w.children; calls = c.put_back.new.calls }) })
+    ≡ record { came = Started; after = programs_of g.D.Device.contents g.D.Device.failures (record { core = w.core; stopped = w.stopped; children = w.children; calls = c.put_back.new.self }) })
     c.self.view_is
-    (begun c.args.hart (state_of g.D.Device.contents g.D.Device.failures w.core) w.stopped w.calls c.put_back.new.calls c.args.call
+    (begun c.args.hart (state_of g.D.Device.contents g.D.Device.failures w.core) w.stopped w.calls c.put_back.new.self c.args.call
     (subst (λ (v : HartsOf _). slice_get v.calls c.args.hart ≡ Some None) (sym c.self.view_is) c.requires.idle) c.put_back.ensures)

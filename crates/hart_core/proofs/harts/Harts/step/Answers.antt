@@ -36,7 +36,7 @@ returns-clause-makes g c =
     let t = state_of g.D.Device.contents g.D.Device.failures c.step-doing.new.core in
     subst
     (λ (v : HartsOf _). plain_makes blocks code (Step c.args.hart (said r.1 t)) (programs_of g.D.Device.contents g.D.Device.failures v)
-    ≡ record { came = outcome_of r.1; after = programs_of g.D.Device.contents g.D.Device.failures (record { core = c.step-doing.new.core; stopped = r.2; children = w.children; calls = c.put_back.new.calls }) })
+    ≡ record { came = outcome_of r.1; after = programs_of g.D.Device.contents g.D.Device.failures (record { core = c.step-doing.new.core; stopped = r.2; children = w.children; calls = c.put_back.new.self }) })
     c.self.view_is
     (step_gives blocks code running_of (state_of g.D.Device.contents g.D.Device.failures w.core) w.stopped w.calls c.args.hart c.take_out-doing.result r.0 _ _ c.take_out-doing.ensures.value c.take_out-doing.ensures.after c.put_back.ensures (said r.1 t)
     (outcome_of r.1) t r.2 c.step-doing.ensures.makes)
@@ -51,19 +51,19 @@ returns-clause-honest g c =
     (said r.1 t) c.step-doing.ensures.honest)
 
 -- there is no such hart
-pub returns-then-hart-ge8-clause-makes : goal.returns-then-hart-ge8-clause-makes
-returns-then-hart-ge8-clause-makes g c =
+pub returns-then-hart-ge-HARTS-clause-makes : goal.returns-then-hart-ge-HARTS-clause-makes
+returns-then-hart-ge-HARTS-clause-makes g c =
     let w = c.self.inside in
     let long = c.self.invariant.long in
-    let past = c.if-hart-ge8.true in
+    let past = c.if-hart-ge-HARTS.true in
     subst
     (λ (v : HartsOf _). plain_makes blocks code (Step c.args.hart Passes) (programs_of g.D.Device.contents g.D.Device.failures v) ≡ record { came = WasIdle; after = programs_of g.D.Device.contents g.D.Device.failures v }) c.self.view_is
     (idle_past c.args.hart Passes (state_of g.D.Device.contents g.D.Device.failures w.core) w.stopped w.calls (omega (arith, long, past)))
 
-pub returns-then-hart-ge8-clause-honest : goal.returns-then-hart-ge8-clause-honest
-returns-then-hart-ge8-clause-honest g c =
+pub returns-then-hart-ge-HARTS-clause-honest : goal.returns-then-hart-ge-HARTS-clause-honest
+returns-then-hart-ge-HARTS-clause-honest g c =
     let w = c.self.inside in
     let long = c.self.invariant.long in
-    let past = c.if-hart-ge8.true in
+    let past = c.if-hart-ge-HARTS.true in
     subst (λ (v : HartsOf _). PlainHonest blocks code (Step c.args.hart Passes) (programs_of g.D.Device.contents g.D.Device.failures v)) c.self.view_is
     (honest_past c.args.hart Passes (state_of g.D.Device.contents g.D.Device.failures w.core) w.stopped w.calls (omega (arith, long, past)))
