@@ -325,6 +325,7 @@ fn command_lines(rt: HostRuntime) -> Result<(), Fail> {
         ("mkfs fs.img --blocks 3", Err(2)),
         ("mkfs", Err(2)),
         ("mkfs --help", Err(0)),
+        ("mkfs --version", Err(0)),
     ] {
         let words = words_of(rt.alloc(), line)?;
         let read = match matches_of(rt.alloc(), words.as_slice()) {
@@ -337,17 +338,24 @@ fn command_lines(rt: HostRuntime) -> Result<(), Fail> {
 }
 
 #[test]
-fn help_names_the_program(rt: HostRuntime) -> Result<(), Fail> {
-    let words = words_of(rt.alloc(), "out/mkfs_program.kept --help")?;
-    match matches_of(rt.alloc(), words.as_slice()) {
-        Ok(_) => panic!(rt; "help is no image"),
-        Err(error) => {
-            let text = format!(in rt.alloc(); "{error}")?;
-            assert!(rt;
-                text.as_str()
-                    .contains("Usage: mkfs [OPTIONS] <IMAGE> [FILE]..."),
-                "{text}"
-            );
+fn help_and_version_name_the_program(rt: HostRuntime) -> Result<(), Fail> {
+    for (line, want) in [
+        (
+            "out/mkfs_program.kept --help",
+            "Usage: mkfs [OPTIONS] <IMAGE> [FILE]...",
+        ),
+        (
+            "out/mkfs_program.kept --version",
+            "mkfs 0.1, for images of xv6 (version 1)",
+        ),
+    ] {
+        let words = words_of(rt.alloc(), line)?;
+        match matches_of(rt.alloc(), words.as_slice()) {
+            Ok(_) => panic!(rt; "{line} is no image"),
+            Err(error) => {
+                let text = format!(in rt.alloc(); "{error}")?;
+                assert!(rt; text.as_str().contains(want), "{text}");
+            }
         }
     }
     Ok(())

@@ -16,6 +16,7 @@ pub mod NodeInodes
 pub mod NodeNumbers
 pub mod NumberChecks
 pub mod OptionNumbers
+pub mod OptionValues
 pub mod Padding
 pub mod Pieces
 pub mod Places

@@ -241,7 +241,7 @@ size_before = record {
 size_after : GivesNumber (codes "size") (built mkfs_line)
 size_after = record {
   plain = refl;
-  numbers = (differs _ refl, ((λ _. (refl, refl, refl, refl)), (differs _ refl, (differs _ refl, (differs _ refl, tt)))));
+  numbers = (differs _ refl, ((λ _. (refl, refl, refl, refl)), (differs _ refl, (differs _ refl, (differs _ refl, (differs _ refl, tt))))));
   default = refl;
 }
 
@@ -255,7 +255,7 @@ inodes_before = record {
 inodes_after : GivesNumber (codes "inodes") (built mkfs_line)
 inodes_after = record {
   plain = refl;
-  numbers = (differs _ refl, (differs _ refl, ((λ _. (refl, refl, refl, refl)), (differs _ refl, (differs _ refl, tt)))));
+  numbers = (differs _ refl, (differs _ refl, ((λ _. (refl, refl, refl, refl)), (differs _ refl, (differs _ refl, (differs _ refl, tt))))));
   default = refl;
 }
 

@@ -31,10 +31,14 @@ files_rule = record (new_rule (codes "files")) {
   value_names = 1;
 }
 
+-- the program's name, with a version
+abbrev pub mkfs_app : App
+mkfs_app = let app = new_app (codes "mkfs") in record app { top = record app.top { has_version = true } }
+
 -- the whole command line
 abbrev pub mkfs_line : App
 mkfs_line =
-    with_rule (with_rule (with_rule (with_rule (new_app (codes "mkfs")) image_rule) (number_rule (codes "size") (codes "2000"))) (number_rule (codes "inodes") (codes "200"))) files_rule
+    with_rule (with_rule (with_rule (with_rule mkfs_app image_rule) (number_rule (codes "size") (codes "2000"))) (number_rule (codes "inodes") (codes "200"))) files_rule
 
 -- the number that a decimal text is, where one `+` may stand before it
 abbrev pub number_in : List ℕ → ℕ

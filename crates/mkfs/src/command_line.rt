@@ -1,13 +1,15 @@
 //! The command line.
 ghost use Rattle.std.specs.Prelude.{◌≡◌, codes, false, map, string_bytes, IfOk};
-ghost use Rattle.clap.specs.Words.{app_of, fault_of, found_of, matches_of, new_app, rows_of, rule_of, FailsBy};
-ghost use Rattle.mkfs.specs.Options.{files_rule, image_rule, mkfs_line, number_in, number_rule, HasNumber};
+ghost use Rattle.clap.specs.Words.{app_of, fault_of, found_of, matches_of, rows_of, rule_of, FailsBy};
+ghost use Rattle.mkfs.specs.Options.{files_rule, image_rule, mkfs_app, mkfs_line, number_in, number_rule, HasNumber};
 
 use clap::{Arg, ArgAction, ArgMatches, Command, Error};
 use std::alloc::{AllocError, Global};
 
 // What the program is called, whatever its file is.
 const NAME: &str = "mkfs";
+
+const VERSION: &str = "0.1, for images of xv6 (version 1)";
 
 /// How many blocks an image has, in the command line's words.
 pub const SIZE: &str = "size";
@@ -59,10 +61,11 @@ fn files<'a>(alloc: Global) -> Arg<'a>
 
 // The command, with its name in usage.
 fn named<'a>(alloc: Global) -> Result<Command<'a>, AllocError>
-    ensures { IfOk result (λ command. app_of command ≡ new_app (codes "mkfs")) }
+    ensures { IfOk result (λ command. app_of command ≡ mkfs_app) }
 {
     Command::new(alloc, NAME)
         .about("Makes an image of a file system")
+        .version(VERSION)
         .bin_name(NAME)
 }
 

@@ -1,7 +1,8 @@
-use Rattle.std.proofs.Common.{ap, map, string_bytes, subst, ◌∙◌}
-use Rattle.std.proofs.lemmas.Result.{IfOk-weaker}
-use Rattle.clap.specs.Words.{FailsBy, fault_of, is_simple, is_simple_and_free, matches_of}
+use Rattle.std.proofs.Common.{ap, map, string_bytes, subst}
+use Rattle.clap.specs.Words.{FailsBy, fault_of, is_simple_and_free}
+use Rattle.mkfs.specs.Options.{mkfs_line}
 use Rattle.mkfs.proofs.OptionNumbers.{both_given}
+use Rattle.mkfs.proofs.OptionValues.{line_is_simple, values_given}
 use Rattle.mkfs.proofs.command_line.options.Goals as goal
 
 pub returns-clause-numbers : goal.returns-clause-numbers
@@ -12,8 +13,7 @@ returns-clause-numbers c =
 pub returns-clause-values : goal.returns-clause-values
 returns-clause-values c =
     let parse = c.try_get_matches_from_mut in
-    let line = c.in_ok-command.ensures in
-    IfOk-weaker parse.result _ _ (λ m h. (h.2 (ap is_simple line)).0 ∙ ap (λ a. matches_of a (map string_bytes c.args.words.now)) line) parse.ensures.ok
+    values_given _ _ _ mkfs_line (map string_bytes c.args.words.now) parse.result c.in_ok-command.ensures line_is_simple parse.ensures.ok
 
 pub returns-clause-kinds : goal.returns-clause-kinds
 returns-clause-kinds c =
