@@ -1,0 +1,12 @@
+//! Tests of running harts: threads that make calls of one kernel. They stand here, above the crates that they run, since a crate with
+//! tests is proved twice.
+#![tactic(auto)]
+
+#[cfg(test)]
+mod kernels;
+#[cfg(test)]
+mod meeting;
+#[cfg(test)]
+mod seats;
+#[cfg(test)]
+mod work;

@@ -1,0 +1,205 @@
+//! Two harts that meet, by a gate which holds one of them.
+ghost use Rattle.std.specs.Prelude.{◌≡◌};
+
+use crate::kernels::{Came, all_of, bytes, called, first_two, image, no_kernel};
+use hart_core::Event;
+use hart_runner::{Gate, Kernel, Seat};
+use image_tree::MountFault;
+use plain_tree::{Answer, Call, Cause};
+use std::alloc::{AllocError, Global};
+use std::marker::Brand;
+use std::sync::Wait;
+use std::sync::atomic::{AtomicBool, Ordering};
+use std::sync::ledger::{Blank, Ledger};
+use std::test::Fail;
+use std::thread;
+use std::thread::Threads;
+use std::time::{Clock, Duration};
+
+const POLLS: u32 = 100_000;
+
+const HELD_TRY: u64 = 9;
+
+#[derive(Drop)]
+struct Flags {
+    // the next call of hart 0 is to be held
+    armed: AtomicBool,
+    held: AtomicBool,
+    returned: AtomicBool,
+}
+
+// Holds hart 0 before one of its tries until the other call has returned.
+#[derive(Drop)]
+struct Meeting<'a, R: Clock> {
+    rt: &'a R,
+    flags: &'a Flags,
+}
+
+impl<R: Clock> Gate for Meeting<'_, R> {
+    fn at(&self, _rt: &impl Wait, hart: u8, number: u64) {
+        if hart == 0 && number == HELD_TRY && self.flags.armed.load(Ordering::SeqCst) {
+            self.flags.held.store(true, Ordering::SeqCst);
+            poll(self.rt, &self.flags.returned);
+        }
+    }
+}
+
+// Waits for the flag, but not for good.
+fn poll(clock: &impl Clock, flag: &AtomicBool) {
+    for _ in 0..POLLS {
+        if flag.load(Ordering::SeqCst) {
+            return;
+        }
+        thread::sleep(clock, Duration::from_micros(100));
+    }
+}
+
+// How many steps of hart 0's last call stand before the start of hart 1's.
+fn steps_before(events: &[Event]) -> usize {
+    let mut steps: usize = 0;
+    let mut before: usize = 0;
+    for event in events {
+        match event {
+            Event::Start { hart: 0, call: _ } => steps = 0,
+            Event::Start { hart: 1, call: _ } => before = steps,
+            Event::Step { hart: 0 } => steps = steps.saturating_add(1),
+            _ => {}
+        }
+    }
+    before
+}
+
+fn mkdir(alloc: Global, path: &[u8]) -> Result<Call, AllocError> {
+    Ok(Call::Mkdir {
+        path: bytes(alloc, path)?,
+    })
+}
+
+#[derive(Drop)]
+struct Calls {
+    // what hart 0 makes before
+    first: Call,
+    second: Call,
+    // its call that is held
+    held: Call,
+    // hart 1's
+    other: Call,
+}
+
+fn make_calls(alloc: Global) -> Result<Calls, AllocError> {
+    Ok(Calls {
+        first: mkdir(alloc, b"/a")?,
+        second: mkdir(alloc, b"/b")?,
+        held: Call::Open {
+            path: bytes(alloc, b"/a/x")?,
+            flags: 0,
+        },
+        other: mkdir(alloc, b"/b/x")?,
+    })
+}
+
+fn call_held<L: Ledger, G: Gate + Drop, R: Wait>(
+    rt: &R,
+    kernel: &Kernel<L, G>,
+    flags: &Flags,
+    seat: Seat<L>,
+    call: Call,
+) -> (Seat<L>, Came) {
+    flags.armed.store(true, Ordering::SeqCst);
+    called(rt, kernel, seat, call)
+}
+
+fn call_meeting<L: Ledger, G: Gate + Drop, R: Wait + Clock>(
+    rt: &R,
+    kernel: &Kernel<L, G>,
+    flags: &Flags,
+    seat: Seat<L>,
+    call: Call,
+) -> (Seat<L>, Came) {
+    poll(rt, &flags.held);
+    let made = called(rt, kernel, seat, call);
+    flags.returned.store(true, Ordering::SeqCst);
+    made
+}
+
+// What two calls that met are answered, and how many of the first one's steps stand before the start of the second.
+type Met = (Answer, Answer, usize);
+
+// The meeting of two harts. None where a call isn't answered, or the close is strange.
+fn met<L: Ledger + Send + Sync, G: Gate + Drop + Sync, R: Threads + Wait + Clock + Sync>(
+    rt: &R,
+    kernel: Kernel<L, G>,
+    seats: [Seat<L>; 8],
+    flags: &Flags,
+    calls: Calls,
+) -> Option<Met>
+    requires { L.parts ≡ 8 }
+{
+    let (a, b, others) = first_two(seats);
+    let Calls {
+        first,
+        second,
+        held,
+        other,
+    } = calls;
+    let (a, _) = called(rt, &kernel, a, first);
+    let (a, _) = called(rt, &kernel, a, second);
+    let shared = &kernel;
+    let (one, two) = thread::join(
+        rt,
+        move || call_held(rt, shared, flags, a, held),
+        move || call_meeting(rt, shared, flags, b, other),
+    );
+    let (a, held) = one;
+    let (b, other) = two;
+    let Ok(closed) = kernel.close(all_of(a, b, others)) else {
+        return None;
+    };
+    let before = steps_before(closed.events());
+    let Ok(held) = held else {
+        return None;
+    };
+    let Ok(other) = other else {
+        return None;
+    };
+    Some((held.answer, other.answer, before))
+}
+
+fn meet<'a, L: Ledger + Send + Sync, R: Threads + Wait + Clock + Sync>(
+    rt: &'a R,
+    alloc: Global,
+    blank: Blank,
+    image: Vec<u8>,
+    flags: &'a Flags,
+    calls: Calls,
+) -> Result<Option<Met>, MountFault>
+    requires name { blank.name ≡ L.name }
+    requires parts { blank.parts ≡ L.parts }
+    requires eight { blank.parts ≡ 8 }
+{
+    let gate = Meeting { rt, flags };
+    match Kernel::<L, Meeting<'a, R>>::open(alloc, blank, image, u64::MAX, gate) {
+        Ok(opened) => {
+            let (kernel, seats) = opened;
+            Ok(met(rt, kernel, seats, flags, calls))
+        }
+        Err(fault) => Err(fault),
+    }
+}
+
+/// Hart 0 has made `/a` and `/b`. It is held before try 9 of its open of `/a/x`, when it has locked `/a`, until hart 1's mkdir of
+/// `/b/x`, begun then, has returned: in the list just nine steps of that open stand before the start of the mkdir.
+#[test]
+fn two_harts_meet(rt: HostRuntime) -> Result<(), Fail> {
+    let alloc = rt.alloc();
+    let (image, calls) = (image(alloc)?, make_calls(alloc)?);
+    let flags = Flags {
+        armed: AtomicBool::new(false),
+        held: AtomicBool::new(false),
+        returned: AtomicBool::new(false),
+    };
+    let met = meet::<Brand, HostRuntime>(&rt, alloc, Blank::new(8), image, &flags, calls);
+    let met = met.map_err(no_kernel)?;
+    assert!(rt; met == Some((Answer::Failed(Cause::NoEntry), Answer::Done, 9)));
+    Ok(())
+}
