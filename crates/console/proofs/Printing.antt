@@ -1,10 +1,13 @@
 -- What a writer holds after one part and then another.
-use Rattle.std.proofs.Common.{◌≡◌, ℕ, List, [], ◌∷◌, ◌++◌, take, ◌*◌, min, arith, true, false, replicate, if◌then◌else◌, Option, Result, Ok, Err, ap, sym, ◌∙◌, subst}
-use Rattle.std.proofs.lemmas.List.{take-replicate}
+use Rattle.std.proofs.Common.{◌≡◌, ◌<◌, ◌≤◌, ◌+◌, ℕ, List, [], ◌∷◌, ◌++◌, take, drop, get_or, length, ◌*◌, min, arith, true, false, replicate, if◌then◌else◌, Option, Result, Ok, Err, ap, sym, ◌∙◌, subst}
+use Rattle.std.proofs.lemmas.List.{at_drop_all, at_drop_more, take-replicate}
 use Rattle.std.specs.Prelude.{OnOk, nat_lt}
 use Rattle.std.specs.Io.KnownBytes.{Appends}
 use Rattle.console.specs.declared.notes.Note.{Note}
+use Rattle.plain_tree.specs.declared.trace.Placed.{Placed}
+use Rattle.console.specs.Histories.{entries_text}
 use Rattle.console.specs.Events.{last_line, last_text, timeline_line, timeline_rows}
+use Rattle.console_parts.specs.Entries.{entry_line}
 use Rattle.console_parts.proofs.Appending.{appends_nothing, appends_both}
 
 pub tells_four : {E : Type 0} (known a b c end : Option (List ℕ)) (result : Result (Unit {0}) E) (ws xs ys zs : List ℕ) → Appends known a ws → Appends a b xs → Appends b c ys → OnOk result (Appends c end zs) → OnOk result (Appends known end (ws ++ xs ++ ys ++ zs))
@@ -41,3 +44,16 @@ last_end first known items is = subst (λ xs. Appends known known (last_text fir
 
 pub spaces_are : (before hart : ℕ) → before ≡ min (8 * hart) 56 → take {A = ℕ} before (replicate 56 32) ≡ replicate {A = ℕ} (min (8 * hart) 56) 32
 spaces_are before hart is = take-replicate {X = ℕ} before 56 32 (omega (arith, is)) ∙ ap (λ n. replicate {A = ℕ} n 32) is
+
+-- ---- the lines of a history
+
+pub entries_more : (known next end : Option (List ℕ)) (entries : List Placed) (i : ℕ) (entry : Placed) → i < length entries → entry ≡ get_or entries i entry → Appends known next (entry_line entry) → Appends next end (entries_text (drop (i + 1) entries))
+    → Appends known end (entries_text (drop i entries))
+unfolding entries_text
+entries_more known next end entries i entry lt is line rest =
+    let split : drop i entries ≡ entry ∷ drop (i + 1) entries = at_drop_more (λ es. es) entries i entry lt ∙ ap (λ e. e ∷ drop (i + 1) entries) (sym is) in
+    subst (λ es. Appends known end (entries_text es)) (sym split) (appends_both known next end (entry_line entry) (entries_text (drop (i + 1) entries)) line rest)
+
+pub entries_end : (known : Option (List ℕ)) (entries : List Placed) (i : ℕ) → length entries ≤ i → Appends known known (entries_text (drop i entries))
+unfolding entries_text
+entries_end known entries i le = subst (λ es. Appends known known (entries_text es)) (sym (at_drop_all (λ es. es) entries i le)) (appends_nothing known)

@@ -35,48 +35,48 @@ mount_judged disk mounts.DeviceFault judged none = let bad : 1 ≡ 0 = none in a
 mount_judged disk mounts.NoMemory judged none = tt
 
 module _ {D : Type 0} (contents : D → List (List ℕ)) (failures : D → ℕ) where
-  pub no_memory : (mode : Mode) (s : SessionOf D) (course : Result CourseOf ℕ) (out : Option (List ℕ)) → RunsScript contents failures mode s course (Err faults.Memory) s out out
-  no_memory mode s (Ok course) out = inr (record { memory = refl; same = refl; silent = refl })
-  no_memory mode s (Err n) out = (tt, refl, refl)
+  pub no_memory : (mode : Mode) (image : List ℕ) (s : SessionOf D) (course : Result CourseOf ℕ) (out : Option (List ℕ)) → RunsScript contents failures mode image s course (Err faults.Memory) s out out
+  no_memory mode image s (Ok course) out = inr (record { memory = refl; same = refl; silent = refl })
+  no_memory mode image s (Err n) out = (tt, refl, refl)
 
-  pub unread : (mode : Mode) (s : SessionOf D) (script : Option (List ℕ)) (fault : ConsoleFault) (out : Option (List ℕ)) → FailsUnread fault → RunsReader contents failures mode s script (Err fault) s out out
-  unread mode s script (faults.Read e) out may = inl (record { fault = tt; same = refl; silent = refl })
-  unread mode s script faults.Memory out may = let text = any_text script in inr (text.0, text.1, no_memory mode s _ out)
-  unread mode s script (faults.Write e) out may = absurd may
-  unread mode s script (faults.Line n why) out may = absurd may
-  unread mode s script (faults.Image f) out may = absurd may
-  unread mode s script (faults.Stopped stop) out may = absurd may
+  pub unread : (mode : Mode) (image : List ℕ) (s : SessionOf D) (script : Option (List ℕ)) (fault : ConsoleFault) (out : Option (List ℕ)) → FailsUnread fault → RunsReader contents failures mode image s script (Err fault) s out out
+  unread mode image s script (faults.Read e) out may = inl (record { fault = tt; same = refl; silent = refl })
+  unread mode image s script faults.Memory out may = let text = any_text script in inr (text.0, text.1, no_memory mode image s _ out)
+  unread mode image s script (faults.Write e) out may = absurd may
+  unread mode image s script (faults.Line n why) out may = absurd may
+  unread mode image s script (faults.Image f) out may = absurd may
+  unread mode image s script (faults.Stopped stop) out may = absurd may
 
   -- ---- a course
 
-  pub course_run : (mode : Mode) (course : CourseOf) (s t : SessionOf D) (left : Left) (ends result : Result (Unit {0}) ConsoleFault) (out between out' : Option (List ℕ)) (first notes : NotesOf) (most : ℕ) → first ≡ no_notes most → most ≡ most_noted mode
-      → Runs (lines contents failures course.lines) (state s course.left) out first ends (state t left) between notes → EndsSo mode notes ends between result out' → RunsCourse contents failures mode s course result t out out'
-  course_run mode course s t left ends result out between out' first notes most is many runs end =
+  pub course_run : (mode : Mode) (image : List ℕ) (course : CourseOf) (s t : SessionOf D) (left : Left) (ends result : Result (Unit {0}) ConsoleFault) (out between out' : Option (List ℕ)) (first notes : NotesOf) (most : ℕ) → first ≡ no_notes most mode.explain → most ≡ most_noted mode
+      → Runs (lines contents failures course.lines) (state s course.left) out first ends (state t left) between notes → EndsSo mode image notes ends between result out' → RunsCourse contents failures mode image s course result t out out'
+  course_run mode image course s t left ends result out between out' first notes most is many runs end =
       inl (record {
         left = left;
         ends = ends;
         between = between;
         notes = notes;
-        runs = subst (λ n. Runs (lines contents failures course.lines) (state s course.left) out n ends (state t left) between notes) (is ∙ ap no_notes many) runs;
+        runs = subst (λ n. Runs (lines contents failures course.lines) (state s course.left) out n ends (state t left) between notes) (is ∙ ap (λ k. no_notes k mode.explain) many) runs;
         end = end;
       })
 
-  pub with_course : (mode : Mode) (script : Result CourseOf ℕ) (course : CourseOf) (s t : SessionOf D) (result : Result (Unit {0}) ConsoleFault) (out out' : Option (List ℕ)) → script ≡ Ok course → RunsCourse contents failures mode s course result t out out'
-      → RunsScript contents failures mode s script result t out out'
-  with_course mode script course s t result out out' is runs = subst (λ x. RunsScript contents failures mode s x result t out out') (sym is) runs
+  pub with_course : (mode : Mode) (image : List ℕ) (script : Result CourseOf ℕ) (course : CourseOf) (s t : SessionOf D) (result : Result (Unit {0}) ConsoleFault) (out out' : Option (List ℕ)) → script ≡ Ok course → RunsCourse contents failures mode image s course result t out out'
+      → RunsScript contents failures mode image s script result t out out'
+  with_course mode image script course s t result out out' is runs = subst (λ x. RunsScript contents failures mode image s x result t out out') (sym is) runs
 
-  memory_only : (mode : Mode) (course : CourseOf) (s : SessionOf D) (fault : ConsoleFault) (out : Option (List ℕ)) → IsMemory fault → RunsCourse contents failures mode s course (Err fault) s out out
-  memory_only mode course s faults.Memory out is = inr (record { memory = refl; same = refl; silent = refl })
-  memory_only mode course s (faults.Line n why) out is = absurd is
-  memory_only mode course s (faults.Image f) out is = absurd is
-  memory_only mode course s (faults.Read e) out is = absurd is
-  memory_only mode course s (faults.Write e) out is = absurd is
-  memory_only mode course s (faults.Stopped stop) out is = absurd is
+  memory_only : (mode : Mode) (image : List ℕ) (course : CourseOf) (s : SessionOf D) (fault : ConsoleFault) (out : Option (List ℕ)) → IsMemory fault → RunsCourse contents failures mode image s course (Err fault) s out out
+  memory_only mode image course s faults.Memory out is = inr (record { memory = refl; same = refl; silent = refl })
+  memory_only mode image course s (faults.Line n why) out is = absurd is
+  memory_only mode image course s (faults.Image f) out is = absurd is
+  memory_only mode image course s (faults.Read e) out is = absurd is
+  memory_only mode image course s (faults.Write e) out is = absurd is
+  memory_only mode image course s (faults.Stopped stop) out is = absurd is
 
-  pub failed_course : (mode : Mode) (script : Result CourseOf ℕ) (s : SessionOf D) (fault : ConsoleFault) (result : Result (Unit {0}) ConsoleFault) (out : Option (List ℕ)) → result ≡ Err fault → FailsTo fault script → RunsScript contents failures mode s script result s out out
-  failed_course mode (Ok course) s fault result out is fails = subst (λ r. RunsCourse contents failures mode s course r s out out) (sym is) (memory_only mode course s fault out fails)
-  failed_course mode (Err n) s fault result out is fails = (subst (λ r. EndsOn n r) (sym is) fails, refl, refl)
+  pub failed_course : (mode : Mode) (image : List ℕ) (script : Result CourseOf ℕ) (s : SessionOf D) (fault : ConsoleFault) (result : Result (Unit {0}) ConsoleFault) (out : Option (List ℕ)) → result ≡ Err fault → FailsTo fault script → RunsScript contents failures mode image s script result s out out
+  failed_course mode image (Ok course) s fault result out is fails = subst (λ r. RunsCourse contents failures mode image s course r s out out) (sym is) (memory_only mode image course s fault out fails)
+  failed_course mode image (Err n) s fault result out is fails = (subst (λ r. EndsOn n r) (sym is) fails, refl, refl)
 
-  pub was_read : (mode : Mode) (s t : SessionOf D) (script : Option (List ℕ)) (text slice : List ℕ) (result : Result (Unit {0}) ConsoleFault) (out out' : Option (List ℕ)) → IfSome script (λ bytes. text ≡ bytes) → slice ≡ text
-      → RunsScript contents failures mode s (script_course mode.schedule slice) result t out out' → RunsReader contents failures mode s script result t out out'
-  was_read mode s t script text slice result out out' is same runs = inr (text, is, subst (λ x. RunsScript contents failures mode s (script_course mode.schedule x) result t out out') same runs)
+  pub was_read : (mode : Mode) (image : List ℕ) (s t : SessionOf D) (script : Option (List ℕ)) (text slice : List ℕ) (result : Result (Unit {0}) ConsoleFault) (out out' : Option (List ℕ)) → IfSome script (λ bytes. text ≡ bytes) → slice ≡ text
+      → RunsScript contents failures mode image s (script_course mode.schedule slice) result t out out' → RunsReader contents failures mode image s script result t out out'
+  was_read mode image s t script text slice result out out' is same runs = inr (text, is, subst (λ x. RunsScript contents failures mode image s (script_course mode.schedule x) result t out out') same runs)

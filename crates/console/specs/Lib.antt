@@ -2,6 +2,7 @@ pub mod Behaviours
 pub mod Commands
 pub mod Events
 pub mod Faults
+pub mod Histories
 pub mod Images
 pub mod Lines
 pub mod Notes

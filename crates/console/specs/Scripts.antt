@@ -1,5 +1,5 @@
 -- What comes of an image and a script: it is mounted and the script is run on it, or it is only examined.
-use Rattle.std.specs.Prelude.{◌≡◌, ◌⊎◌, ℕ, Bool, true, false, List, Option, None, Result, Ok, Err, Vec, replicate}
+use Rattle.std.specs.Prelude.{◌≡◌, ◌⊎◌, ℕ, List, Option, None, Result, Ok, Err, Vec, replicate}
 use Rattle.std.specs.Io.KnownBytes.{Appends}
 use Rattle.std.specs.declared.alloc.Global.{Global}
 use Rattle.block_device.specs.Blocks.{blocks_of}
@@ -9,6 +9,7 @@ use Rattle.console_parts.specs.Text.{shape_line}
 use Rattle.console_parts.specs.declared.mode.Mode.{Mode}
 use Rattle.console.specs.declared.fault.ConsoleFault.{ConsoleFault}
 use Rattle.console.specs.declared.fault.ConsoleFault.TheVariants as faults
+use Rattle.console.specs.Histories.{WhereSet}
 use Rattle.console.specs.Images.{bytes_for}
 use Rattle.console.specs.Runs.{RunsReader}
 use Rattle.console.specs.Sessions.{SessionOf}
@@ -34,14 +35,17 @@ HandsOut disk (Ok u) result = result ≡ Ok disk
 HandsOut disk (Err fault) result = result ≡ Err fault
 
 module _ {D : Type 0} (contents : D → List (List ℕ)) (failures : D → ℕ) where
-  -- From a file system that is mounted on this disk, in which no hart has a call, the script makes another; the disk as it is there is handed out.
-  pub record RunsOn (mode : Mode) (disk : D) (script : Option (List ℕ)) (result : Result D ConsoleFault) (out out' : Option (List ℕ)) : Type 0 where
+  -- From a file system that is mounted on this disk, in which no hart has a call, the script makes another; the disk as it is there is handed out. The
+  -- history that is printed is one on the disk's bytes.
+  pub record RunsOn (mode : Mode) (bytes : List ℕ) (disk : D) (script : Option (List ℕ)) (result : Result D ConsoleFault) (out out' : Option (List ℕ)) : Type 0 where
     pub first : SessionOf D
     pub last : SessionOf D
     pub ended : Result (Unit {0}) ConsoleFault
     pub rests : Rests contents failures disk first.world.harts
     pub idle : first.doing ≡ replicate 8 None
-    pub runs : RunsReader contents failures mode first script ended last out out'
+    pub image : List ℕ
+    pub image_is : WhereSet mode.explain (image ≡ bytes) (Unit {0})
+    pub runs : RunsReader contents failures mode image first script ended last out out'
     pub hands : HandsOut last.world.harts.core.log.cache.device ended result
 
 -- its line is printed, and its blocks stay; or that isn't written
@@ -54,12 +58,8 @@ Tells disk (Err (faults.Read e)) out out' = ⊥
 Tells disk (Err (faults.Line n why)) out out' = ⊥
 Tells disk (Err (faults.Stopped stop)) out out' = ⊥
 
-abbrev pub WhereSet : Bool → Type 0 → Type 0 → Type 0
-WhereSet true this other = this
-WhereSet false this other = other
-
 -- a disk in memory is examined, or the script is run on it, or it isn't taken
 abbrev pub RunsImage : Mode → Option (Vec ℕ Global) → Option (List ℕ) → Result (List ℕ) ConsoleFault → Option (List ℕ) → Option (List ℕ) → Type 0
 RunsImage mode image script result out out' =
     WhereSet mode.check (Tells (bytes_for image) result out out')
-    (RunsOn blocks_of (λ d. 0) mode (bytes_for image) script result out out' ⊎ Untaken result out out')
+    (RunsOn blocks_of (λ d. 0) mode (bytes_for image) (bytes_for image) script result out out' ⊎ Untaken result out out')

@@ -1,10 +1,10 @@
 //! What the lines of a script do.
-ghost use Rattle.std.specs.Prelude.{OnOk, map};
+ghost use Rattle.std.specs.Prelude.{◌≡◌, OnOk, map};
 ghost use Rattle.std.specs.Io.KnownBytes.{Appends};
 ghost use Rattle.script.specs.Said.{call_said, line_said};
 ghost use Rattle.console.specs.Behaviours.{IsWritten, Runs};
 ghost use Rattle.console.specs.Commands.{acts, happens, line, lines, settles, starts, state, tells_waits, turn, turns, wait_text};
-ghost use Rattle.console.specs.Notes.{NotesOf};
+ghost use Rattle.console.specs.Notes.{NotesOf, copy_for};
 ghost use Rattle.console.specs.Queues.{Left};
 ghost use Rattle.console.specs.Sessions.{doing_at};
 
@@ -34,19 +34,21 @@ pub struct Desk {
     pub notes: Notes,
 }
 
-// Makes an event, tells and notes it.
+// Makes an event, tells and notes it. The copy is the event again, where events are kept.
 fn happen<D: Device, W: Write>(
     session: &mut Session<D>,
     desk: &mut Desk,
     out: &mut W,
     verb: Verb,
     event: Event,
+    copy: Option<Event>,
 ) -> Result<Flow, ConsoleFault>
+    requires { copy ≡ copy_for desk.old.notes.kept event }
     ensures { Runs (happens D.contents D.failures event verb) (state session.old desk.old.queues) (W.contents out.old) desk.old.notes result (state session.new desk.new.queues) (W.contents out.new) desk.new.notes }
 {
     let hart = hart_in(&event);
     let came = session.event(verb, event);
-    tell(hart, verb, &came, &mut desk.notes, out)
+    tell(hart, verb, &came, copy, &mut desk.notes, out)
 }
 
 // Starts the call that a line says.
@@ -62,7 +64,9 @@ fn start<D: Device, W: Write>(
 {
     let call = call_of(alloc, call)?;
     let verb = Verb::of(&call);
-    happen(session, desk, out, verb, Event::Start { hart, call })
+    let event = Event::Start { hart, call };
+    let copy = desk.notes.copy_of(&event)?;
+    happen(session, desk, out, verb, event, copy)
 }
 
 // A step of a hart that has a call, unless enough have run; of one that has none the start of its next call.
@@ -81,7 +85,8 @@ fn act<D: Device, W: Write>(
             if Until::is_enough(until, &doing) {
                 Ok(Flow::Rests)
             } else {
-                happen(session, desk, out, doing.verb, Event::Step { hart })
+                let copy = desk.notes.step_of(hart);
+                happen(session, desk, out, doing.verb, Event::Step { hart }, copy)
             }
         }
         None => match desk.queues.take_next(hart) {

@@ -6,6 +6,7 @@ mod doing;
 mod events;
 mod fault;
 mod flow;
+mod history;
 mod lines;
 mod notes;
 mod numbers;

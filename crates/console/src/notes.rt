@@ -1,12 +1,13 @@
 //! What is noted of events.
-ghost use Rattle.std.specs.Prelude.{◌≡◌, IfOk, OnOk};
-ghost use Rattle.console.specs.Notes.{no_notes, what_of, what_of_step, with_note};
+ghost use Rattle.std.specs.Prelude.{◌≡◌, IfOk, OnOk, option_map};
+ghost use Rattle.hart_core.specs.declared.events.Event.TheVariants.{Step};
+ghost use Rattle.console.specs.Notes.{copy_for, events_in, no_notes, what_of, what_of_step, with_kept, with_note};
 
 use crate::verb::Verb;
 use circular_buffer::Iter;
 use console_parts::Tail;
 use fs_machine::Kind;
-use hart_core::{Came, Outcome, StartRefused, Stop};
+use hart_core::{Came, Event, Outcome, StartRefused, Stop};
 use plain_tree::Answer;
 use std::alloc::{AllocError, Global};
 use std::marker::Model;
@@ -53,11 +54,12 @@ fn what_of_step(outcome: &Outcome) -> Option<What>
     }
 }
 
-/// The last events, and how many there were.
+/// What is noted of the last events, and how many there were; and all events, where they are wanted.
 #[derive(Drop)]
 pub struct Notes {
     tail: Tail<Note>,
     count: u64,
+    kept: Option<Vec<Event>>,
 }
 
 impl Model for Notes {
@@ -65,31 +67,76 @@ impl Model for Notes {
 
     ghost Value = { NotesOf };
 
-    ghost view = { λ n. record { tail = n.tail; count = n.count } };
+    ghost use Rattle.std.specs.Prelude.{option_map};
+
+    ghost view = { λ n. record { tail = n.tail; count = n.count; kept = option_map (λ v. v.items) n.kept } };
+}
+
+// Puts a copy behind the events that are kept.
+fn keep(kept: &mut Option<Vec<Event>>, copy: Option<Event>) -> Result<(), AllocError>
+    ensures { OnOk result (option_map (λ v. v.items) kept.new ≡ with_kept (option_map (λ v. v.items) kept.old) copy) }
+{
+    if let (Some(events), Some(event)) = (kept, copy) {
+        events.push(event)?;
+    }
+    Ok(())
 }
 
 impl Notes {
-    /// Of no event, with room for the last `most`.
-    pub fn new(alloc: Global, most: u32) -> Result<Notes, AllocError>
-        ensures { IfOk result (λ n. n ≡ no_notes most) }
+    /// Of no event, with room for the last `most`. Where `keeps` is set all events are kept too.
+    pub fn new(alloc: Global, most: u32, keeps: bool) -> Result<Notes, AllocError>
+        ensures { IfOk result (λ n. n ≡ no_notes most keeps) }
     {
+        let kept = if keeps { Some(Vec::new(alloc)) } else { None };
         Ok(Notes {
             tail: Tail::new(alloc, most)?,
             count: 0,
+            kept,
         })
     }
 
-    /// Notes an event of a hart. There is no room for more than a u64 can count.
-    pub fn note(&mut self, hart: u8, what: What) -> Result<(), AllocError>
-        ensures { OnOk result (self.new ≡ with_note self.old hart what) }
+    /// A copy of an event, where events are kept.
+    pub fn copy_of(&self, event: &Event) -> Result<Option<Event>, AllocError>
+        ensures { IfOk result (λ copy. copy ≡ copy_for self.now.kept event.now) }
+    {
+        match &self.kept {
+            Some(_) => Ok(Some(event.clone()?)),
+            None => Ok(None),
+        }
+    }
+
+    /// The step of a hart, where events are kept.
+    pub fn step_of(&self, hart: u8) -> Option<Event>
+        ensures { result ≡ copy_for self.now.kept (Step hart) }
+    {
+        match &self.kept {
+            Some(_) => Some(Event::Step { hart }),
+            None => None,
+        }
+    }
+
+    /// Notes an event of a hart, and keeps this copy where events are kept. There is no room for more than a u64 can count.
+    pub fn note(&mut self, hart: u8, what: What, copy: Option<Event>) -> Result<(), AllocError>
+        ensures { OnOk result (self.new ≡ with_note self.old hart what copy) }
     {
         let number = self.count;
         let Some(count) = number.checked_add(1) else {
             return Err(AllocError);
         };
         self.tail.note(Note { number, hart, what })?;
+        keep(&mut self.kept, copy)?;
         self.count = count;
         Ok(())
+    }
+
+    /// The events that are kept, in their order.
+    pub fn kept(&self) -> &[Event]
+        ensures { result.now ≡ events_in self.now.kept }
+    {
+        match &self.kept {
+            Some(events) => events.as_slice(),
+            None => &[],
+        }
     }
 
     /// How many events there were.

@@ -4,14 +4,16 @@ ghost use Rattle.std.specs.Io.KnownBytes.{Appends};
 ghost use Rattle.block_device.specs.Blocks.{blocks_of};
 ghost use Rattle.image_tree.specs.Damage.{IsWellFormed};
 ghost use Rattle.console.specs.declared.fault.ConsoleFault.TheVariants.{Memory};
+ghost use Rattle.console.specs.Histories.{WhereSet};
 ghost use Rattle.console.specs.Images.{bytes_for, disk_for, fresh_bytes, JudgesImage};
 ghost use Rattle.console.specs.Lines.{course, script_course};
-ghost use Rattle.console.specs.Runs.{EndsSo, FailsUnread, RunsCourse, RunsReader, RunsScript, end_text, most_noted};
+ghost use Rattle.console.specs.Runs.{EndsSo, FailsUnread, RunsCourse, RunsReader, RunsScript, TellsWanted, end_text, most_noted};
 ghost use Rattle.console.specs.Scripts.{RunsImage, Tells};
 
 use crate::commands::{Desk, run_lines};
 use crate::events::{write_last, write_timeline};
 use crate::fault::ConsoleFault;
+use crate::history::write_history;
 use crate::lines::{Course, course_of};
 use crate::notes::Notes;
 use crate::session::Session;
@@ -53,6 +55,33 @@ fn image_disk(alloc: Global, image: Option<Vec<u8>>) -> Result<MemoryDisk, Conso
     }
 }
 
+// A disk, and a copy of its bytes.
+#[derive(Drop)]
+struct Loaded {
+    image: Vec<u8>,
+    disk: MemoryDisk,
+}
+
+// A copy of a disk's bytes, where it is wanted.
+fn with_copy(alloc: Global, wanted: bool, disk: MemoryDisk) -> Result<Loaded, ConsoleFault>
+    ensures disk { IfOk result (λ c. c.disk ≡ disk) }
+    ensures image { IfOk result (λ c. WhereSet wanted (c.image.items ≡ disk) (Unit {0})) }
+    ensures memory { IfErr result (λ fault. fault ≡ Memory) }
+{
+    if !wanted {
+        return Ok(Loaded {
+            image: Vec::new(alloc),
+            disk,
+        });
+    }
+    let bytes = disk.into_bytes();
+    let image = Vec::from_slice(alloc, bytes.as_slice())?;
+    Ok(Loaded {
+        image,
+        disk: MemoryDisk::new(bytes),
+    })
+}
+
 /// Mounts the image, or a fresh one, runs the script on it, and hands out the disk; or only examines it, and prints what is
 /// found. Answers are written as they come. Faults are found in the order image, script.
 pub fn run_script<R: Read + Drop, W: Write>(
@@ -71,11 +100,12 @@ pub fn run_script<R: Read + Drop, W: Write>(
     if mode.check {
         return check(alloc, disk, out);
     }
+    let Loaded { image, disk } = with_copy(alloc, mode.explain, disk)?;
     let mut session = match Session::mount(alloc, disk) {
         Ok(session) => session,
         Err((_, fault)) => return Err(ConsoleFault::from(fault)),
     };
-    let ended = run_on(alloc, &mut session, mode, script, out);
+    let ended = run_on(alloc, &mut session, mode, &image, script, out);
     let disk = session.unmount();
     ended?;
     Ok(disk)
@@ -94,18 +124,20 @@ fn check<W: Write>(alloc: Global, disk: MemoryDisk, out: &mut W) -> Result<Memor
 }
 
 /// Runs a script on a file system that is mounted: what its lines say (`RunsReader`), in their order, each once, up to the first in
-/// which a call is stopped. Answers are written as they come, and none where a line is bad.
+/// which a call is stopped. Answers are written as they come, and none where a line is bad. Where a history is wanted it is one on
+/// `image`, the bytes that were mounted; else nothing is looked for there.
 pub fn run_on<D: Device, R: Read + Drop, W: Write>(
     alloc: Global,
     session: &mut Session<D>,
     mode: Mode,
+    image: &[u8],
     script: R,
     out: &mut W,
 ) -> Result<(), ConsoleFault>
-    ensures { RunsReader D.contents D.failures mode session.old (R.remaining script) result session.new (W.contents out.old) (W.contents out.new) }
+    ensures { RunsReader D.contents D.failures mode image.now session.old (R.remaining script) result session.new (W.contents out.old) (W.contents out.new) }
 {
     let text = read_script(alloc, script, LONGEST_SCRIPT)?;
-    run_text(alloc, session, mode, text.as_slice(), out)
+    run_text(alloc, session, mode, image, text.as_slice(), out)
 }
 
 // The text of a script that isn't longer than the longest.
@@ -145,44 +177,51 @@ fn run_text<D: Device, W: Write>(
     alloc: Global,
     session: &mut Session<D>,
     mode: Mode,
+    image: &[u8],
     text: &[u8],
     out: &mut W,
 ) -> Result<(), ConsoleFault>
-    ensures { RunsScript D.contents D.failures mode session.old (script_course mode.schedule text.now) result session.new (W.contents out.old) (W.contents out.new) }
+    ensures { RunsScript D.contents D.failures mode image.now session.old (script_course mode.schedule text.now) result session.new (W.contents out.old) (W.contents out.new) }
 {
     let lines = parse(alloc, text)?;
     let planned = course_of(alloc, mode.schedule, lines)?;
-    run_course(alloc, session, mode, planned, out)
+    run_course(alloc, session, mode, image, planned, out)
 }
 
-// Runs a course, and prints its last events.
+// Runs a course, and prints its last events and its history.
 fn run_course<D: Device, W: Write>(
     alloc: Global,
     session: &mut Session<D>,
     mode: Mode,
+    image: &[u8],
     run: Course,
     out: &mut W,
 ) -> Result<(), ConsoleFault>
-    ensures { RunsCourse D.contents D.failures mode session.old (course run) result session.new (W.contents out.old) (W.contents out.new) }
+    ensures { RunsCourse D.contents D.failures mode image.now session.old (course run) result session.new (W.contents out.old) (W.contents out.new) }
 {
     let Course { queues, lines } = run;
-    let notes = Notes::new(alloc, most_noted(mode))?;
+    let notes = Notes::new(alloc, most_noted(mode), mode.explain)?;
     let mut desk = Desk { queues, notes };
     let ended = run_lines(alloc, session, &mut desk, out, lines);
-    finish(out, mode, &desk.notes, ended)
+    finish(alloc, out, mode, image, &desk.notes, ended)
 }
 
 // Prints what stands after all answers, where the lines came to their end or a call was stopped.
 fn finish<W: Write>(
+    alloc: Global,
     out: &mut W,
     mode: Mode,
+    image: &[u8],
     notes: &Notes,
     ended: Result<(), ConsoleFault>,
 ) -> Result<(), ConsoleFault>
-    ensures { EndsSo mode notes.now ended (W.contents out.old) result (W.contents out.new) }
+    ensures { EndsSo mode image.now notes.now ended (W.contents out.old) result (W.contents out.new) }
 {
     match ended {
-        Ok(()) => write_end(out, mode, notes).map_err(ConsoleFault::Write),
+        Ok(()) => {
+            write_end(out, mode, notes).map_err(ConsoleFault::Write)?;
+            write_wanted(alloc, out, mode, image, notes)
+        }
         Err(ConsoleFault::Stopped(stop)) => {
             write_end(out, mode, notes).map_err(ConsoleFault::Write)?;
             Err(ConsoleFault::Stopped(stop))
@@ -196,6 +235,23 @@ fn most_noted(mode: Mode) -> u32
     ensures { result ≡ most_noted mode }
 {
     if mode.timeline { u32::MAX } else { mode.last }
+}
+
+// The history of the events, where it is wanted.
+fn write_wanted<W: Write>(
+    alloc: Global,
+    out: &mut W,
+    mode: Mode,
+    image: &[u8],
+    notes: &Notes,
+) -> Result<(), ConsoleFault>
+    ensures { TellsWanted mode image.now notes.now (W.contents out.old) result (W.contents out.new) }
+{
+    if mode.explain {
+        write_history(alloc, out, image, notes.kept())
+    } else {
+        Ok(())
+    }
 }
 
 // What stands after all answers.

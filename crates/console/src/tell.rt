@@ -13,24 +13,25 @@ use crate::notes::{Notes, what_of};
 use crate::numbers::{start_name, start_number, stop_name, stop_number};
 use crate::verb::Verb;
 use console_parts::{write_numbered, write_reply};
-use hart_core::{Came, Outcome, StartRefused, Stop};
+use hart_core::{Came, Event, Outcome, StartRefused, Stop};
 use std::io;
 use std::io::Write;
 
-/// Notes an event of this hart, of a call with this word, and prints its line where it has one. A stop is a fault.
+/// Notes an event of this hart, of a call with this word, with its copy, and prints its line where it has one. A stop is a fault.
 pub fn tell<W: Write>(
     hart: u8,
     verb: Verb,
     came: &Came,
+    copy: Option<Event>,
     notes: &mut Notes,
     out: &mut W,
 ) -> Result<Flow, ConsoleFault>
     ensures passed { IsPassed came.now result }
     ensures prints { IfTold result (Appends (W.contents out.old) (W.contents out.new) (told_of hart verb came.now)) }
-    ensures notes { IfTold result (notes.new ≡ with_what notes.old hart (what_of verb came.now)) }
+    ensures notes { IfTold result (notes.new ≡ with_what notes.old hart (what_of verb came.now) copy) }
 {
     if let Some(what) = what_of(verb, came) {
-        notes.note(hart, what)?;
+        notes.note(hart, what, copy)?;
     }
     write_came(out, hart, verb, came).map_err(ConsoleFault::Write)?;
     flow_of(came)

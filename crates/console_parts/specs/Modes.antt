@@ -28,6 +28,7 @@ pub record IsModeOf (f : Found) (m : Mode) : Type 0 where
   pub schedule : schedule_named (first_value f (codes "schedule")) ≡ Some m.schedule
   pub last : IsNumber (one_text f (codes "last")) m.last
   pub timeline : IsFlag (one_text f (codes "timeline")) m.timeline
+  pub explain : IsFlag (one_text f (codes "explain")) m.explain
   pub check : IsFlag (one_text f (codes "check")) m.check
 
 -- none where there is no schedule of the name that is given

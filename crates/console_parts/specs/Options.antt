@@ -1,4 +1,4 @@
--- The command line: [IMAGE] [--schedule listed|round] [--last N] [--timeline] [--check] [--save FILE].
+-- The command line: [IMAGE] [--schedule listed|round] [--last N] [--timeline] [--explain] [--check] [--save FILE].
 use Rattle.std.specs.Prelude.{◌-◌, ◌^◌, [], ◌∷◌, Some, true, codes, pos}
 use Rattle.clap.specs.Words.{App, Rule, new_app, new_rule, with_rule}
 use Rattle.clap.specs.declared.builder.action.ArgAction.TheVariants.{Set, SetTrue}
@@ -20,6 +20,10 @@ last_rule = record (new_rule (codes "last")) { long = Some (codes "last"); value
 abbrev pub timeline_rule : Rule
 timeline_rule = record (new_rule (codes "timeline")) { long = Some (codes "timeline"); action = Some SetTrue }
 
+-- a history of the answers is printed
+abbrev pub explain_rule : Rule
+explain_rule = record (new_rule (codes "explain")) { long = Some (codes "explain"); action = Some SetTrue }
+
 -- the image is examined, and no script is run
 abbrev pub check_rule : Rule
 check_rule = record (new_rule (codes "check")) { long = Some (codes "check"); action = Some SetTrue }
@@ -36,5 +40,9 @@ console_app = let app = new_app (codes "console") in record app { top = record a
 abbrev pub running_app : App
 running_app = with_rule (with_rule (with_rule console_app image_rule) schedule_rule) last_rule
 
+-- and with what is printed after all answers
+abbrev pub printing_app : App
+printing_app = with_rule (with_rule running_app timeline_rule) explain_rule
+
 abbrev pub console_line : App
-console_line = with_rule (with_rule (with_rule running_app timeline_rule) check_rule) save_rule
+console_line = with_rule (with_rule printing_app check_rule) save_rule

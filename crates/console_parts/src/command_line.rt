@@ -2,7 +2,7 @@
 ghost use Rattle.std.specs.Prelude.{◌≡◌, codes, false, map, option_map, string_bytes, IfOk, Some};
 ghost use Rattle.clap.specs.Words.{app_of, fault_of, found_of, matches_of, one_text, rows_of, rule_of, FailsBy};
 ghost use Rattle.console_parts.specs.Modes.{schedule_named, HasMode, IsFlag, IsNumber};
-ghost use Rattle.console_parts.specs.Options.{check_rule, console_app, console_line, image_rule, last_rule, running_app, save_rule, schedule_rule, timeline_rule};
+ghost use Rattle.console_parts.specs.Options.{check_rule, console_app, console_line, explain_rule, image_rule, last_rule, printing_app, running_app, save_rule, schedule_rule, timeline_rule};
 
 use crate::mode::{Mode, Schedule};
 use clap::{Arg, ArgAction, ArgMatches, Command, Error};
@@ -40,6 +40,9 @@ pub const LAST: &str = "last";
 
 /// All events are printed.
 pub const TIMELINE: &str = "timeline";
+
+/// A history of the answers is printed.
+pub const EXPLAIN: &str = "explain";
 
 /// The file that the image is written to after the script.
 pub const SAVE: &str = "save";
@@ -119,6 +122,16 @@ fn timeline<'a>(alloc: Global) -> Arg<'a>
         .help("Prints all events, each in its hart's column")
 }
 
+fn explain<'a>(alloc: Global) -> Arg<'a>
+    ensures rule { rule_of result ≡ explain_rule }
+    ensures local { result.global ≡ false }
+{
+    Arg::new(alloc, EXPLAIN)
+        .long(EXPLAIN)
+        .action(ArgAction::SetTrue)
+        .help("Prints the steps, one after the other, that explain the answers")
+}
+
 // With what is run, and how.
 fn running<'a>(alloc: Global) -> Result<Command<'a>, AllocError>
     ensures { IfOk result (λ command. app_of command ≡ running_app) }
@@ -130,14 +143,19 @@ fn running<'a>(alloc: Global) -> Result<Command<'a>, AllocError>
         .arg(last(alloc))
 }
 
+// And with what is printed after all answers.
+fn printing<'a>(alloc: Global) -> Result<Command<'a>, AllocError>
+    ensures { IfOk result (λ command. app_of command ≡ printing_app) }
+{
+    let running = running(alloc)?;
+    running.arg(timeline(alloc))?.arg(explain(alloc))
+}
+
 fn command<'a>(alloc: Global) -> Result<Command<'a>, AllocError>
     ensures { IfOk result (λ command. app_of command ≡ console_line) }
 {
-    let running = running(alloc)?;
-    running
-        .arg(timeline(alloc))?
-        .arg(check(alloc))?
-        .arg(save(alloc))
+    let printing = printing(alloc)?;
+    printing.arg(check(alloc))?.arg(save(alloc))
 }
 
 // The schedule of this name; the first one where none is named.
@@ -183,11 +201,13 @@ pub fn mode_of(matches: &ArgMatches) -> Option<Mode>
 {
     let schedule = schedule_of(matches.get_str(SCHEDULE))?;
     let last = last_in(matches);
-    let (timeline, check) = (flag_in(matches, TIMELINE), flag_in(matches, CHECK));
+    let (timeline, explain) = (flag_in(matches, TIMELINE), flag_in(matches, EXPLAIN));
+    let check = flag_in(matches, CHECK);
     Some(Mode {
         schedule,
         last,
         timeline,
+        explain,
         check,
     })
 }

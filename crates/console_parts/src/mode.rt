@@ -19,6 +19,8 @@ pub struct Mode {
     pub last: u32,
     /// All events are printed, each in its hart's column.
     pub timeline: bool,
+    /// A list of tree steps is printed that explains the answers.
+    pub explain: bool,
     /// The image is examined, and no script is read.
     pub check: bool,
 }

@@ -1,4 +1,4 @@
-//! `console [IMAGE] [--schedule listed|round] [--last N] [--timeline] [--check] [--save FILE]`: runs a script from standard input on a file system, and prints its answers.
+//! `console [IMAGE] [--schedule listed|round] [--last N] [--timeline] [--explain] [--check] [--save FILE]`: runs a script from standard input on a file system, and prints its answers.
 //!
 //! Faults are told in this order: the command line (status 2), an IMAGE file that can't be read or an image that isn't
 //! taken (status 1), the script (status 1 or 2), a FILE that can't be written (status 1). Want of memory is told where it

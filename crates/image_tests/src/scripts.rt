@@ -258,6 +258,7 @@ fn prints_why_a_call_is_stopped(rt: HostRuntime) -> Result<(), Fail> {
             rt.alloc(),
             &mut session,
             Mode::default(),
+            &[],
             script.as_bytes(),
             &mut out,
         );

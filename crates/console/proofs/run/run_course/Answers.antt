@@ -11,5 +11,5 @@ returns-in_err-notes g c =
 
 pub returns : goal.returns
 returns g c =
-    course_run g.D.Device.contents g.D.Device.failures c.args.mode (course c.args.run) c.args.session.now c.run_lines-ended.new.session c.run_lines-ended.new.desk.queues c.run_lines-ended.result c.finish.result _ _ _ _ _ c.most_noted.result
+    course_run g.D.Device.contents g.D.Device.failures c.args.mode c.args.image.now (course c.args.run) c.args.session.now c.run_lines-ended.new.session c.run_lines-ended.new.desk.queues c.run_lines-ended.result c.finish.result _ _ _ _ _ c.most_noted.result
     c.in_ok-notes.ensures c.most_noted.ensures c.run_lines-ended.ensures c.finish.ensures

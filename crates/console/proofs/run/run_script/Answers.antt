@@ -19,7 +19,7 @@ returns-in_err-ended-clause-refused g c =
     let is : c.from_residual-in_err-ended.result ≡ Err c.in_err-ended.field-0.0 = search rules in
     let was : c.run_on-ended.result ≡ Err c.in_err-ended.field-0.0 = search rules in
     let disk : List (List ℕ) = blocks_of c.in_ok-disk.disk in
-    let ran = subst (λ r. RunsReader blocks_of (λ d. 0) c.args.mode c.in-Ok.session (g.R.Read.remaining c.args.script) r c.run_on-ended.new.session (g.W.Write.contents c.args.out.now) (g.W.Write.contents c.run_on-ended.new.out)) was c.run_on-ended.ensures in
+    let ran = subst (λ r. RunsReader blocks_of (λ d. 0) c.args.mode c.in_ok-with_copy.image.items c.in-Ok.session (g.R.Read.remaining c.args.script) r c.run_on-ended.new.session (g.W.Write.contents c.args.out.now) (g.W.Write.contents c.run_on-ended.new.out)) was c.run_on-ended.ensures in
     let judged : JudgesImage disk c.in_err-ended.field-0.0 =
-    run_judged blocks_of (λ d. 0) (came_calm blocks_of (λ d. 0) (λ d. refl)) disk c.in-Ok.ensures.well c.args.mode c.in-Ok.session c.run_on-ended.new.session (g.R.Read.remaining c.args.script) c.in_err-ended.field-0.0 _ _ c.in-Ok.ensures.rests.0.runs ran in
+    run_judged blocks_of (λ d. 0) (came_calm blocks_of (λ d. 0) (λ d. refl)) disk c.in-Ok.ensures.well c.args.mode c.in_ok-with_copy.image.items c.in-Ok.session c.run_on-ended.new.session (g.R.Read.remaining c.args.script) c.in_err-ended.field-0.0 _ _ c.in-Ok.ensures.rests.0.runs ran in
     rw is (subst (λ d. JudgesImage (blocks_of d) c.in_err-ended.field-0.0) c.in_ok-disk.ensures.disk judged)

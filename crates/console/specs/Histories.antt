@@ -1,0 +1,68 @@
+-- What is printed of a run's history, with --explain.
+use Rattle.std.specs.Prelude.{◌≡◌, ◌⊎◌, ℕ, Bool, true, false, List, [], ◌∷◌, ◌++◌, Option, Result, Ok, Err, codes, decimal}
+use Rattle.std.specs.Io.KnownBytes.{Appends}
+use Rattle.plain_tree.specs.declared.trace.Placed.{Placed}
+use Rattle.hart_core.specs.declared.events.Event.{Event}
+use Rattle.explain.specs.Explained.{ExplainsRun, IsRefusedSo}
+use Rattle.explain.specs.Numbers.{number_of, name_of}
+use Rattle.explain.specs.declared.refused.ExplainRefused.{ExplainRefused}
+use Rattle.explain.specs.declared.refused.ExplainRefused.TheVariants as refused
+use Rattle.console_parts.specs.Entries.{entry_line}
+use Rattle.console.specs.declared.fault.ConsoleFault.{ConsoleFault}
+use Rattle.console.specs.declared.fault.ConsoleFault.TheVariants as faults
+
+abbrev pub WhereSet : Bool → Type 0 → Type 0 → Type 0
+WhereSet true this other = this
+WhereSet false this other = other
+
+-- a line an entry, in their order
+unfoldable pub entries_text : List Placed → List ℕ
+entries_text [] = []
+entries_text (entry ∷ entries) = entry_line entry ++ entries_text entries
+
+-- why there is none
+abbrev pub why_line : ExplainRefused → List ℕ
+why_line why = codes "history refused " ++ decimal (number_of why) ++ codes " " ++ name_of why ++ codes "\n"
+
+-- a list that explains what these events show on this image
+pub record IsExplained (image : List ℕ) (events : List Event) (text : List ℕ) : Type 0 where
+  pub list : List Placed
+  pub explains : ExplainsRun image events list
+  pub text_is : text ≡ entries_text list
+
+-- want of memory is a fault, and has no line
+abbrev pub HasLine : ExplainRefused → Type 0
+HasLine refused.NoMemory = ⊥
+HasLine (refused.Damaged d) = Unit {0}
+HasLine refused.FullSeen = Unit {0}
+HasLine refused.Climbs = Unit {0}
+
+-- no list is found, and why
+pub record IsUnexplained (image : List ℕ) (events : List Event) (text : List ℕ) : Type 0 where
+  pub why : ExplainRefused
+  pub has_line : HasLine why
+  pub refused : IsRefusedSo image events why
+  pub text_is : text ≡ why_line why
+
+abbrev pub IsHistoryText : List ℕ → List Event → List ℕ → Type 0
+IsHistoryText image events text = IsExplained image events text ⊎ IsUnexplained image events text
+
+-- what is printed can't be written, or there is no memory for the history
+abbrev pub IsUntold : Result (Unit {0}) ConsoleFault → Type 0
+IsUntold (Err (faults.Write e)) = Unit {0}
+IsUntold (Err faults.Memory) = Unit {0}
+IsUntold (Ok u) = ⊥
+IsUntold (Err (faults.Image f)) = ⊥
+IsUntold (Err (faults.Read e)) = ⊥
+IsUntold (Err (faults.Line n why)) = ⊥
+IsUntold (Err (faults.Stopped stop)) = ⊥
+
+-- the history is printed behind all else
+pub record IsTold (image : List ℕ) (events : List Event) (result : Result (Unit {0}) ConsoleFault) (out out' : Option (List ℕ)) : Type 0 where
+  pub text : List ℕ
+  pub is_history : IsHistoryText image events text
+  pub ends : result ≡ Ok tt
+  pub printed : Appends out out' text
+
+abbrev pub TellsHistory : List ℕ → List Event → Result (Unit {0}) ConsoleFault → Option (List ℕ) → Option (List ℕ) → Type 0
+TellsHistory image events result out out' = IsTold image events result out out' ⊎ IsUntold result

@@ -1,0 +1,52 @@
+//! The history of a script's events, as it is printed.
+ghost use Rattle.std.specs.Prelude.{◌++◌, OnOk, codes, decimal};
+ghost use Rattle.std.specs.Io.KnownBytes.{Appends};
+ghost use Rattle.console.specs.Histories.{TellsHistory, entries_text, why_line};
+
+use crate::fault::ConsoleFault;
+use console_parts::write_entry;
+use explain::{ExplainRefused, explain};
+use hart_core::Event;
+use plain_tree::Placed;
+use std::alloc::Global;
+use std::io;
+use std::io::Write;
+
+/// Prints a list of tree steps that explains what these events show of calls on this image, a line a step; or why there is none.
+pub fn write_history<W: Write>(
+    alloc: Global,
+    out: &mut W,
+    image: &[u8],
+    events: &[Event],
+) -> Result<(), ConsoleFault>
+    ensures { TellsHistory image.now events.now result (W.contents out.old) (W.contents out.new) }
+{
+    match explain(alloc, image, events) {
+        Ok(list) => write_entries(out, list.as_slice()).map_err(ConsoleFault::Write),
+        Err(ExplainRefused::NoMemory) => Err(ConsoleFault::Memory),
+        Err(why) => write_why(out, why).map_err(ConsoleFault::Write),
+    }
+}
+
+// A line an entry, in their order.
+fn write_entries<W: Write>(out: &mut W, entries: &[Placed]) -> io::Result<()>
+    ensures { OnOk result (Appends (W.contents out.old) (W.contents out.new) (entries_text entries.now)) }
+{
+    for entry in entries {
+        write_entry(out, entry)?;
+    }
+    Ok(())
+}
+
+// Why there is no list.
+fn write_why<W: Write>(out: &mut W, why: ExplainRefused) -> io::Result<()>
+    ensures { OnOk result (Appends (W.contents out.old) (W.contents out.new) (why_line why)) }
+{
+    write_refused(out, why.number(), why.name())
+}
+
+fn write_refused<W: Write>(out: &mut W, number: u8, name: &str) -> io::Result<()>
+    ensures { OnOk result (Appends (W.contents out.old) (W.contents out.new) (codes "history refused " ++ decimal number ++ codes " " ++ name.now ++ codes "\n")) }
+{
+    writeln!(out, "history refused {number} {name}")
+}
