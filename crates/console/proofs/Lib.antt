@@ -7,3 +7,4 @@ pub mod Doings
 pub mod Failing
 pub mod Calm
 pub mod Stopping
+pub mod Telling

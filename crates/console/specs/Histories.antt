@@ -66,3 +66,7 @@ pub record IsTold (image : List ℕ) (events : List Event) (result : Result (Uni
 
 abbrev pub TellsHistory : List ℕ → List Event → Result (Unit {0}) ConsoleFault → Option (List ℕ) → Option (List ℕ) → Type 0
 TellsHistory image events result out out' = IsTold image events result out out' ⊎ IsUntold result
+
+-- why there is none is printed, where that has a line
+abbrev pub TellsWhy : ExplainRefused → Result (Unit {0}) ConsoleFault → Option (List ℕ) → Option (List ℕ) → Type 0
+TellsWhy why result out out' = (HasLine why × (result ≡ Ok tt) × Appends out out' (why_line why)) ⊎ IsUntold result

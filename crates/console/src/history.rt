@@ -1,7 +1,8 @@
 //! The history of a script's events, as it is printed.
 ghost use Rattle.std.specs.Prelude.{◌++◌, OnOk, codes, decimal};
 ghost use Rattle.std.specs.Io.KnownBytes.{Appends};
-ghost use Rattle.console.specs.Histories.{TellsHistory, entries_text, why_line};
+ghost use Rattle.console.specs.Histories.{TellsHistory, TellsWhy, entries_text, why_line};
+ghost use Rattle.console.specs.Behaviours.{IsWritten};
 
 use crate::fault::ConsoleFault;
 use console_parts::write_entry;
@@ -23,8 +24,7 @@ pub fn write_history<W: Write>(
 {
     match explain(alloc, image, events) {
         Ok(list) => write_entries(out, list.as_slice()).map_err(ConsoleFault::Write),
-        Err(ExplainRefused::NoMemory) => Err(ConsoleFault::Memory),
-        Err(why) => write_why(out, why).map_err(ConsoleFault::Write),
+        Err(why) => tell_why(out, why),
     }
 }
 
@@ -38,15 +38,26 @@ fn write_entries<W: Write>(out: &mut W, entries: &[Placed]) -> io::Result<()>
     Ok(())
 }
 
-// Why there is no list.
-fn write_why<W: Write>(out: &mut W, why: ExplainRefused) -> io::Result<()>
-    ensures { OnOk result (Appends (W.contents out.old) (W.contents out.new) (why_line why)) }
+// Why there is no list. Want of memory is a fault, and has no line.
+fn tell_why<W: Write>(out: &mut W, why: ExplainRefused) -> Result<(), ConsoleFault>
+    ensures { TellsWhy why result (W.contents out.old) (W.contents out.new) }
 {
-    write_refused(out, why.number(), why.name())
+    match why {
+        ExplainRefused::NoMemory => Err(ConsoleFault::Memory),
+        why => write_why(out, why),
+    }
+}
+
+fn write_why<W: Write>(out: &mut W, why: ExplainRefused) -> Result<(), ConsoleFault>
+    ensures written { IsWritten result }
+    ensures prints { OnOk result (Appends (W.contents out.old) (W.contents out.new) (why_line why)) }
+{
+    write_refused(out, why.number(), why.name()).map_err(ConsoleFault::Write)
 }
 
 fn write_refused<W: Write>(out: &mut W, number: u8, name: &str) -> io::Result<()>
     ensures { OnOk result (Appends (W.contents out.old) (W.contents out.new) (codes "history refused " ++ decimal number ++ codes " " ++ name.now ++ codes "\n")) }
 {
-    writeln!(out, "history refused {number} {name}")
+    write!(out, "history refused {number} {name}")?;
+    writeln!(out)
 }
