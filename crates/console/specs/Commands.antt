@@ -1,7 +1,6 @@
 -- What the lines of a script do (docs/SCRIPT.md), one after the other.
 use Rattle.std.specs.Prelude.{◌≡◌, ℕ, zero, suc, nat_lt, Bool, true, false, if◌then◌else◌, List, [], ◌∷◌, ◌++◌, set, Option, Some, None, Result, Ok, Err, codes, decimal}
 use Rattle.fs_machine.specs.declared.kind.Kind.{Kind}
-use Rattle.plain_tree.specs.declared.call.Call.{Call}
 use Rattle.hart_core.specs.declared.events.Event.{Event}
 use Rattle.hart_core.specs.declared.events.Event.TheVariants as event
 use Rattle.hart_core.specs.declared.events.Came.{Came}

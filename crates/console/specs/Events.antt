@@ -1,5 +1,5 @@
 -- The lines that are printed after a script: the last events, and the columns of the timeline.
-use Rattle.std.specs.Prelude.{ℕ, ◌+◌, ◌-◌, ◌*◌, ◌^◌, min, nat_lt, if◌then◌else◌, Bool, true, false, List, [], ◌∷◌, ◌++◌, replicate, codes, decimal}
+use Rattle.std.specs.Prelude.{ℕ, ◌-◌, ◌*◌, ◌^◌, min, nat_lt, if◌then◌else◌, Bool, true, false, List, [], ◌∷◌, ◌++◌, replicate, codes, decimal}
 use Rattle.std.specs.Fmt.{styled_decimal, format_spec}
 use Rattle.plain_tree.specs.declared.answer.Answer.{Answer}
 use Rattle.plain_tree.specs.declared.answer.Answer.TheVariants.{Fd, Count, Stat, Done as IsDone, Failed, Full}
