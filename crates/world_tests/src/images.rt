@@ -1,10 +1,30 @@
 //! Images that the tests begin with.
 use block_device::MemoryDisk;
-use image_tree::{MountFault, Shape, examine};
+use image_tree::{MountFault, Shape, examine, tree_of};
 use mkfs::{MakeRefused, make};
+use plain_tree::Tree;
 use std::alloc::{AllocError, Global};
 use std::ops::Range;
 use std::test::Fail;
+
+/// An image that a row begins with.
+#[derive(Clone, Copy)]
+pub enum Image {
+    /// Directories `/d` (inode 2) and `/d/e` (3), the file `/d/e/f` (4) with the byte A, and the devices `/t` (5) and `/u` (6).
+    Tree,
+    /// The directory `/d` (inode 2) and the root, each with 17,152 slots; and a file (3) with 32,767 names, which fill
+    /// the root from `/aaad` on, and the slots of `/d` up to its last ones.
+    Crowded,
+    /// A root without names, and a log of 30 blocks.
+    ShortLog,
+    /// A new one of so many blocks and inodes, without names.
+    Made(u32, u32),
+    /// A new one of so many blocks and 16 inodes, whose file `/f` (inode 2) has these bytes. The blocks before the data are 36.
+    WithFile(u32, &'static [u8]),
+}
+
+/// A new small one: 23 blocks are free.
+pub const SMALL: Image = Image::Made(60, 16);
 
 // Bytes that stand at a place of an image.
 type Part = (usize, &'static [u8]);
@@ -113,25 +133,15 @@ fn put_names(image: &mut [u8], inode: u16, first: u16, slots: Range<u16>) {
     }
 }
 
-/// The directory `/d` (inode 2) and the root, each with 17,152 slots; and a file (3) with 32,767 names, which fill
-/// the root from `/aaad` on, and the slots of `/d` up to its last ones.
-pub fn crowded(alloc: Global) -> Result<MemoryDisk, AllocError> {
+// Both directories' blocks stand in a row.
+fn crowded(alloc: Global) -> Result<Vec<u8>, AllocError> {
     let mut image = image_of(alloc, 2000, &CROWDED)?;
     put_names(image.as_mut_slice(), 1, 47, 3..17_152);
     put_names(image.as_mut_slice(), 2, 316, 2..15_620);
-    Ok(MemoryDisk::new(image))
+    Ok(image)
 }
 
-pub fn tree(alloc: Global) -> Result<MemoryDisk, AllocError> {
-    Ok(MemoryDisk::new(image_of(alloc, 64, &TREE)?))
-}
-
-pub fn short_log(alloc: Global) -> Result<MemoryDisk, AllocError> {
-    Ok(MemoryDisk::new(image_of(alloc, 64, &SHORT_LOG)?))
-}
-
-/// A new image of so many blocks and inodes, with these files in its root.
-pub fn made(
+fn made(
     alloc: Global,
     size: u32,
     ninodes: u32,
@@ -144,18 +154,18 @@ pub fn made(
     }
 }
 
-/// A fresh image: 2000 blocks, 200 inodes, and a root without names.
-pub fn fresh(alloc: Global) -> Result<MemoryDisk, Fail> {
-    made(alloc, 2000, 200, &[])
-}
-
-/// A new image of so many blocks and 16 inodes, whose file `/f` (inode 2) has these bytes. The blocks before the data are 36.
-pub fn with_file(alloc: Global, size: u32, bytes: &[u8]) -> Result<MemoryDisk, Fail> {
-    let file = (
-        Vec::from_slice(alloc, b"f")?,
-        Vec::from_slice(alloc, bytes)?,
-    );
-    made(alloc, size, 16, &[file])
+pub fn disk_of(alloc: Global, image: Image) -> Result<MemoryDisk, Fail> {
+    match image {
+        Image::Tree => Ok(MemoryDisk::new(image_of(alloc, 64, &TREE)?)),
+        Image::Crowded => Ok(MemoryDisk::new(crowded(alloc)?)),
+        Image::ShortLog => Ok(MemoryDisk::new(image_of(alloc, 64, &SHORT_LOG)?)),
+        Image::Made(size, ninodes) => made(alloc, size, ninodes, &[]),
+        Image::WithFile(size, bytes) => {
+            let name = Vec::from_slice(alloc, b"f")?;
+            let bytes = Vec::from_slice(alloc, bytes)?;
+            made(alloc, size, 16, &[(name, bytes)])
+        }
+    }
 }
 
 fn letter(digit: u32) -> u8 {
@@ -170,6 +180,23 @@ pub fn name(number: u32) -> [u8; 4] {
         letter(number / 16),
         letter(number),
     ]
+}
+
+/// The names of the numbers below this one.
+pub fn names_up_to(alloc: Global, count: u32) -> Result<Vec<[u8; 4]>, AllocError> {
+    let mut names = Vec::new(alloc);
+    for number in 0..count {
+        names.push(name(number))?;
+    }
+    Ok(names)
+}
+
+/// The tree of an image that is in order.
+pub fn tree_in(alloc: Global, disk: &mut MemoryDisk) -> Result<Tree, AllocError> {
+    match tree_of(alloc, disk) {
+        Ok(tree) => Ok(tree),
+        Err(_) => Err(AllocError),
+    }
 }
 
 /// How many nodes with a name, nodes without one and blocks of contents stand on a disk, whose image is well formed.

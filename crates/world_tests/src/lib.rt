@@ -3,13 +3,19 @@
 #![tactic(auto)]
 
 #[cfg(test)]
+mod contents;
+#[cfg(test)]
 mod creates;
+#[cfg(test)]
+mod directories;
 #[cfg(test)]
 mod images;
 #[cfg(test)]
 mod inherits;
 #[cfg(test)]
 mod links;
+#[cfg(test)]
+mod lists;
 #[cfg(test)]
 mod opens;
 #[cfg(test)]
@@ -18,6 +24,8 @@ mod rows;
 mod runs;
 #[cfg(test)]
 mod stops;
+#[cfg(test)]
+mod trees;
 #[cfg(test)]
 mod unlinks;
 #[cfg(test)]

@@ -1,159 +1,157 @@
 //! Links of files under other names.
-use crate::images::{counts, crowded, name, tree, with_file};
+use crate::images::{Image, counts, disk_of, names_up_to};
+use crate::lists::{are_run, play};
 use crate::rows::Ask::{Chdir, Fill, Fstat, Link, Open, Read, Unlink};
 use crate::rows::Line::{All, Do, End, Start, Upto};
 use crate::rows::Says::{Bytes, Count, Done, Failed, Fd, NoRoom, State};
-use crate::rows::{READ, READ_AND_WRITE, TRUNCATE, WRITE, mounted, play, plays};
+use crate::rows::{READ, READ_AND_WRITE, Row, TRUNCATE, WRITE};
 use fs_machine::Kind;
 use plain_tree::{Cause, Full, NodeType};
 use std::test::Fail;
 
-/// A file gets another name: it opens by both, and has two links; the directory of the new name is as large as before where a slot
-/// was free, and has one slot more elsewhere.
-#[test]
-fn a_file_gets_another_name(rt: HostRuntime) -> Result<(), Fail> {
-    let row = [
-        Do(0, Link(b"/d/e/f", b"/g"), Done),
-        Do(0, Open(b"/g", READ), Fd(0)),
-        Do(1, Open(b"/d/e/f", READ_AND_WRITE), Fd(0)),
-        Do(0, Fstat(0), State(4, NodeType::File, 2, 1)),
-        Do(0, Link(b"g", b"d/e/../h"), Done),
-        Do(1, Fstat(0), State(4, NodeType::File, 3, 1)),
-        Do(0, Open(b"/", READ), Fd(1)),
-        Do(0, Fstat(1), State(1, NodeType::Directory, 2, 1024)),
-        Do(0, Open(b"/d", READ), Fd(2)),
-        Do(0, Fstat(2), State(2, NodeType::Directory, 2, 64)),
-    ];
-    let disk = plays(&rt, rt.alloc(), tree(rt.alloc())?, &row);
-    assert_eq!(rt; counts(rt.alloc(), disk)?, (6, 0, 4));
-    Ok(())
-}
+const ROWS: &[Row] = &[
+    // A file gets another name: it opens by both, and has two links; the directory of the new name is as large as before where a slot
+    // was free, and has one slot more elsewhere.
+    (
+        Image::Tree,
+        &[
+            Do(0, Link(b"/d/e/f", b"/g"), Done),
+            Do(0, Open(b"/g", READ), Fd(0)),
+            Do(1, Open(b"/d/e/f", READ_AND_WRITE), Fd(0)),
+            Do(0, Fstat(0), State(4, NodeType::File, 2, 1)),
+            Do(0, Link(b"g", b"d/e/../h"), Done),
+            Do(1, Fstat(0), State(4, NodeType::File, 3, 1)),
+            Do(0, Open(b"/", READ), Fd(1)),
+            Do(0, Fstat(1), State(1, NodeType::Directory, 2, 1024)),
+            Do(0, Open(b"/d", READ), Fd(2)),
+            Do(0, Fstat(2), State(2, NodeType::Directory, 2, 64)),
+        ],
+        (6, 0, 4),
+    ),
+    // No directory is linked, no name that is there, none where there is no directory; the file has its one link still.
+    (
+        Image::Tree,
+        &[
+            Do(0, Link(b"/d", b"/x"), Failed(Cause::IsDirectory)),
+            Do(0, Link(b"/", b"/x"), Failed(Cause::IsDirectory)),
+            Do(0, Link(b"/d/e/..", b"/d/x"), Failed(Cause::IsDirectory)),
+            Do(0, Link(b"/d/x", b"/x"), Failed(Cause::NoEntry)),
+            Do(0, Link(b"/d/e/f/x", b"/x"), Failed(Cause::NoEntry)),
+            Do(0, Link(b"/d/e/f", b"/d"), Failed(Cause::Exists)),
+            Do(0, Link(b"/d/e/f", b"/d/e/f"), Failed(Cause::Exists)),
+            Do(0, Link(b"/d/e/f", b"/d/e/.."), Failed(Cause::Exists)),
+            Do(0, Link(b"/d/e/f", b"/x/y"), Failed(Cause::NoEntry)),
+            Do(0, Link(b"/d/e/f", b"/d/e/f/x"), Failed(Cause::NoEntry)),
+            Do(0, Link(b"/d/e/f", b"/"), Failed(Cause::NoEntry)),
+            Do(0, Link(b"/d/e/f", b""), Failed(Cause::NoEntry)),
+            Do(0, Open(b"/d/e/f", READ), Fd(0)),
+            Do(0, Fstat(0), State(4, NodeType::File, 1, 1)),
+        ],
+        (6, 0, 4),
+    ),
+    // The name that a link names may go meanwhile; and another hart sees the count raised until the link has found its name there.
+    (
+        Image::Tree,
+        &[
+            Start(0, Link(b"/d/e/f", b"/g")),
+            Upto(0, Kind::Unlock, 4),
+            Do(1, Unlink(b"/d/e/f"), Done),
+            End(0, Done),
+            Do(0, Open(b"/g", READ), Fd(0)),
+            Do(0, Fstat(0), State(4, NodeType::File, 1, 1)),
+            Do(0, Read(0, 9), Bytes(b"A")),
+        ],
+        (6, 0, 4),
+    ),
+    (
+        Image::Tree,
+        &[
+            Do(1, Open(b"/d/e/f", READ), Fd(0)),
+            Start(0, Link(b"/d/e/f", b"/t")),
+            Upto(0, Kind::Unlock, 4),
+            Do(1, Fstat(0), State(4, NodeType::File, 2, 1)),
+            End(0, Failed(Cause::Exists)),
+            Do(1, Fstat(0), State(4, NodeType::File, 1, 1)),
+        ],
+        (6, 0, 4),
+    ),
+    // In a directory that was removed, also meanwhile, nothing is linked.
+    (
+        Image::Tree,
+        &[
+            Do(1, Chdir(b"/d/e"), Done),
+            Do(0, Link(b"/d/e/f", b"/g"), Done),
+            Do(0, Unlink(b"/d/e/f"), Done),
+            Start(1, Link(b"/g", b"x")),
+            Upto(1, Kind::Unlock, 1),
+            Do(0, Unlink(b"/d/e"), Done),
+            End(1, Failed(Cause::NoEntry)),
+            Do(1, Link(b"/g", b"f"), Failed(Cause::NoEntry)),
+            Do(0, Open(b"/g", READ), Fd(0)),
+            Do(0, Fstat(0), State(4, NodeType::File, 1, 1)),
+        ],
+        (5, 1, 4),
+    ),
+    // Two harts give one file the same name, step by step in turn: the first of them does it.
+    (
+        Image::Tree,
+        &[
+            Start(0, Link(b"/d/e/f", b"/d/g")),
+            Start(1, Link(b"/d/e/f", b"/d/g")),
+            All(&[Done, Failed(Cause::Exists)]),
+            Do(0, Open(b"/d/g", READ), Fd(0)),
+            Do(0, Fstat(0), State(4, NodeType::File, 2, 1)),
+        ],
+        (6, 0, 4),
+    ),
+    // A file has at most 32,767 names, and a directory 17,152 slots: a link that finds none lowers the file's count again.
+    (
+        Image::Crowded,
+        &[
+            Do(0, Open(b"/aaad", READ), Fd(0)),
+            Do(0, Fstat(0), State(3, NodeType::File, 32_767, 0)),
+            Do(0, Link(b"/aaad", b"/d/x"), Failed(Cause::TooManyLinks)),
+            Do(0, Unlink(b"/d/aaad"), Done),
+            Do(0, Link(b"/aaad", b"/x"), NoRoom(Full::Directory)),
+            Do(0, Fstat(0), State(3, NodeType::File, 32_766, 0)),
+            Do(0, Link(b"/aaad", b"/d/x"), Done),
+            Do(0, Fstat(0), State(3, NodeType::File, 32_767, 0)),
+        ],
+        (3, 0, 538),
+    ),
+];
 
-/// No directory is linked, no name that is there, none where there is no directory; the file has its one link still.
+/// Each row comes to what it tells, and is run again by its events.
 #[test]
-fn links_fail(rt: HostRuntime) -> Result<(), Fail> {
-    let row = [
-        Do(0, Link(b"/d", b"/x"), Failed(Cause::IsDirectory)),
-        Do(0, Link(b"/", b"/x"), Failed(Cause::IsDirectory)),
-        Do(0, Link(b"/d/e/..", b"/d/x"), Failed(Cause::IsDirectory)),
-        Do(0, Link(b"/d/x", b"/x"), Failed(Cause::NoEntry)),
-        Do(0, Link(b"/d/e/f/x", b"/x"), Failed(Cause::NoEntry)),
-        Do(0, Link(b"/d/e/f", b"/d"), Failed(Cause::Exists)),
-        Do(0, Link(b"/d/e/f", b"/d/e/f"), Failed(Cause::Exists)),
-        Do(0, Link(b"/d/e/f", b"/d/e/.."), Failed(Cause::Exists)),
-        Do(0, Link(b"/d/e/f", b"/x/y"), Failed(Cause::NoEntry)),
-        Do(0, Link(b"/d/e/f", b"/d/e/f/x"), Failed(Cause::NoEntry)),
-        Do(0, Link(b"/d/e/f", b"/"), Failed(Cause::NoEntry)),
-        Do(0, Link(b"/d/e/f", b""), Failed(Cause::NoEntry)),
-        Do(0, Open(b"/d/e/f", READ), Fd(0)),
-        Do(0, Fstat(0), State(4, NodeType::File, 1, 1)),
-    ];
-    let disk = plays(&rt, rt.alloc(), tree(rt.alloc())?, &row);
-    assert_eq!(rt; counts(rt.alloc(), disk)?, (6, 0, 4));
-    Ok(())
-}
-
-/// The name that a link names may go meanwhile; and another hart sees the count raised until the link has found its name there.
-#[test]
-fn links_raise_the_count_first(rt: HostRuntime) -> Result<(), Fail> {
-    let gone = [
-        Start(0, Link(b"/d/e/f", b"/g")),
-        Upto(0, Kind::Unlock, 4),
-        Do(1, Unlink(b"/d/e/f"), Done),
-        End(0, Done),
-        Do(0, Open(b"/g", READ), Fd(0)),
-        Do(0, Fstat(0), State(4, NodeType::File, 1, 1)),
-        Do(0, Read(0, 9), Bytes(b"A")),
-    ];
-    let _disk = plays(&rt, rt.alloc(), tree(rt.alloc())?, &gone);
-    let there = [
-        Do(1, Open(b"/d/e/f", READ), Fd(0)),
-        Start(0, Link(b"/d/e/f", b"/t")),
-        Upto(0, Kind::Unlock, 4),
-        Do(1, Fstat(0), State(4, NodeType::File, 2, 1)),
-        End(0, Failed(Cause::Exists)),
-        Do(1, Fstat(0), State(4, NodeType::File, 1, 1)),
-    ];
-    let _disk = plays(&rt, rt.alloc(), tree(rt.alloc())?, &there);
-    Ok(())
-}
-
-/// In a directory that was removed, also meanwhile, nothing is linked.
-#[test]
-fn removed_directories_take_no_link(rt: HostRuntime) -> Result<(), Fail> {
-    let row = [
-        Do(1, Chdir(b"/d/e"), Done),
-        Do(0, Link(b"/d/e/f", b"/g"), Done),
-        Do(0, Unlink(b"/d/e/f"), Done),
-        Start(1, Link(b"/g", b"x")),
-        Upto(1, Kind::Unlock, 1),
-        Do(0, Unlink(b"/d/e"), Done),
-        End(1, Failed(Cause::NoEntry)),
-        Do(1, Link(b"/g", b"f"), Failed(Cause::NoEntry)),
-        Do(0, Open(b"/g", READ), Fd(0)),
-        Do(0, Fstat(0), State(4, NodeType::File, 1, 1)),
-    ];
-    let _disk = plays(&rt, rt.alloc(), tree(rt.alloc())?, &row);
-    Ok(())
-}
-
-/// Two harts give one file the same name, step by step in turn: the first of them does it.
-#[test]
-fn two_harts_link_one_name(rt: HostRuntime) -> Result<(), Fail> {
-    let row = [
-        Start(0, Link(b"/d/e/f", b"/d/g")),
-        Start(1, Link(b"/d/e/f", b"/d/g")),
-        All(&[Done, Failed(Cause::Exists)]),
-        Do(0, Open(b"/d/g", READ), Fd(0)),
-        Do(0, Fstat(0), State(4, NodeType::File, 2, 1)),
-    ];
-    let disk = plays(&rt, rt.alloc(), tree(rt.alloc())?, &row);
-    assert_eq!(rt; counts(rt.alloc(), disk)?, (6, 0, 4));
-    Ok(())
+fn rows_are_run(rt: HostRuntime) -> Result<(), Fail> {
+    are_run(&rt, rt.alloc(), ROWS)
 }
 
 /// Where no block is free a directory takes names up to the end of its block, and then the count of the file goes down again; where
 /// one is, the directory grows into it.
 #[test]
 fn a_directory_grows(rt: HostRuntime) -> Result<(), Fail> {
-    let mut world = mounted(&rt, rt.alloc(), with_file(rt.alloc(), 60, b"")?);
-    let full = [
-        Do(0, Open(b"/f", WRITE), Fd(0)),
-        Do(0, Fill(0, 0, 22_528), Count(22_528)),
-    ];
-    assert!(rt; play(&rt, rt.alloc(), &mut world, &full));
-    for number in 0..61 {
-        let line = Do(0, Link(b"/f", &name(number)), Done);
-        assert!(rt; play(&rt, rt.alloc(), &mut world, &[line]));
+    let names = names_up_to(rt.alloc(), 61)?;
+    let mut lines = Vec::new(rt.alloc());
+    lines.push(Do(0, Open(b"/f", WRITE), Fd(0)))?;
+    lines.push(Do(0, Fill(0, 0, 22_528), Count(22_528)))?;
+    for name in names.as_slice() {
+        lines.push(Do(0, Link(b"/f", name), Done))?;
     }
-    let row = [
-        Do(0, Link(b"/f", b"/x"), NoRoom(Full::Blocks)),
-        Do(0, Fstat(0), State(2, NodeType::File, 62, 22_528)),
-        Do(1, Open(b"/f", TRUNCATE), Fd(0)),
-        Do(0, Link(b"/f", b"/x"), Done),
-        Do(0, Fstat(0), State(2, NodeType::File, 63, 0)),
-        Do(0, Open(b"/", READ), Fd(1)),
-        Do(0, Fstat(1), State(1, NodeType::Directory, 1, 1040)),
-    ];
-    assert!(rt; play(&rt, rt.alloc(), &mut world, &row));
-    assert_eq!(rt; counts(rt.alloc(), world.unmount())?, (2, 0, 2));
-    Ok(())
-}
-
-/// A file has at most 32,767 names, and a directory 17,152 slots: a link that finds none lowers the file's count again.
-#[test]
-fn names_and_slots_run_out(rt: HostRuntime) -> Result<(), Fail> {
-    let row = [
-        Do(0, Open(b"/aaad", READ), Fd(0)),
-        Do(0, Fstat(0), State(3, NodeType::File, 32_767, 0)),
-        Do(0, Link(b"/aaad", b"/d/x"), Failed(Cause::TooManyLinks)),
-        Do(0, Unlink(b"/d/aaad"), Done),
-        Do(0, Link(b"/aaad", b"/x"), NoRoom(Full::Directory)),
-        Do(0, Fstat(0), State(3, NodeType::File, 32_766, 0)),
-        Do(0, Link(b"/aaad", b"/d/x"), Done),
-        Do(0, Fstat(0), State(3, NodeType::File, 32_767, 0)),
-    ];
-    let disk = plays(&rt, rt.alloc(), crowded(rt.alloc())?, &row);
-    assert_eq!(rt; counts(rt.alloc(), disk)?, (3, 0, 538));
+    lines.append(&mut Vec::from_array(
+        rt.alloc(),
+        [
+            Do(0, Link(b"/f", b"/x"), NoRoom(Full::Blocks)),
+            Do(0, Fstat(0), State(2, NodeType::File, 62, 22_528)),
+            Do(1, Open(b"/f", TRUNCATE), Fd(0)),
+            Do(0, Link(b"/f", b"/x"), Done),
+            Do(0, Fstat(0), State(2, NodeType::File, 63, 0)),
+            Do(0, Open(b"/", READ), Fd(1)),
+            Do(0, Fstat(1), State(1, NodeType::Directory, 1, 1040)),
+        ],
+    )?)?;
+    let disk = disk_of(rt.alloc(), Image::WithFile(60, b""))?;
+    let (_made, disk) = play(&rt, rt.alloc(), disk, lines.as_slice())?;
+    assert_eq!(rt; counts(rt.alloc(), disk)?, (2, 0, 2));
     Ok(())
 }

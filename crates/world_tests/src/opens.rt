@@ -1,260 +1,243 @@
 //! Opens, changes of directory, and calls on descriptors.
-use crate::images::{counts, fresh, made, name, short_log, tree, with_file};
+use crate::images::{Image, SMALL, disk_of, names_up_to};
+use crate::lists::{are_run, play};
 use crate::rows::Ask::{Chdir, Close, Dup, Fstat, Link, Mkdir, Open, Read, Unlink, Write};
 use crate::rows::Line::{All, Do, End, Start, Upto};
 use crate::rows::Says::{Bytes, Count, Done, Failed, Fd, Idle, NoRoom, Refused, State, Waits};
-use crate::rows::{LONG, READ, READ_AND_WRITE, TRUNCATE, WRITE, mounted, play, plays};
+use crate::rows::{CREATE, LONG, LONGEST, READ, READ_AND_WRITE, Row, TRUNCATE, WRITE};
 use fs_machine::Kind;
 use hart_core::StartRefused;
 use plain_tree::{Cause, Full, NodeType};
 use std::test::Fail;
 
-/// On a fresh image the root opens, by its name and by an empty path, tells its state, and is read; and it has no parent.
-#[test]
-fn the_root_opens(rt: HostRuntime) -> Result<(), Fail> {
-    let row = [
-        Do(0, Open(b"", READ), Fd(0)),
-        Do(0, Open(b"/", READ), Fd(1)),
-        Do(0, Fstat(0), State(1, NodeType::Directory, 1, 1024)),
-        Do(0, Fstat(1), State(1, NodeType::Directory, 1, 1024)),
-        Do(0, Dup(1), Fd(2)),
-        Do(
-            0,
-            Read(2, 32),
-            Bytes(b"\x01\0.\0\0\0\0\0\0\0\0\0\0\0\0\0\x01\0..\0\0\0\0\0\0\0\0\0\0\0\0"),
-        ),
-        Do(0, Read(1, 1), Bytes(b"\0")),
-        Do(0, Unlink(b"/"), Failed(Cause::NoEntry)),
-    ];
-    let _disk = plays(&rt, rt.alloc(), fresh(rt.alloc())?, &row);
-    Ok(())
-}
+const ROWS: &[Row] = &[
+    // On a fresh image the root opens, by its name and by an empty path, tells its state, and is read; and it has no parent.
+    (
+        SMALL,
+        &[
+            Do(0, Open(b"", READ), Fd(0)),
+            Do(0, Open(b"/", READ), Fd(1)),
+            Do(0, Fstat(0), State(1, NodeType::Directory, 1, 1024)),
+            Do(0, Fstat(1), State(1, NodeType::Directory, 1, 1024)),
+            Do(0, Dup(1), Fd(2)),
+            Do(
+                0,
+                Read(2, 32),
+                Bytes(b"\x01\0.\0\0\0\0\0\0\0\0\0\0\0\0\0\x01\0..\0\0\0\0\0\0\0\0\0\0\0\0"),
+            ),
+            Do(0, Read(1, 1), Bytes(b"\0")),
+            Do(0, Unlink(b"/"), Failed(Cause::NoEntry)),
+        ],
+        (1, 0, 1),
+    ),
+    // Paths lead through directories, their parents and themselves, from the root or from the hart's directory.
+    (
+        Image::Tree,
+        &[
+            Do(0, Open(b"/d/e/f", READ), Fd(0)),
+            Do(0, Fstat(0), State(4, NodeType::File, 1, 1)),
+            Do(0, Open(b"//d/./e/../e//f", READ_AND_WRITE), Fd(1)),
+            Do(0, Fstat(1), State(4, NodeType::File, 1, 1)),
+            Do(0, Open(b"../d/e/", READ), Fd(2)),
+            Do(0, Fstat(2), State(3, NodeType::Directory, 1, 48)),
+            Do(0, Chdir(b"d/e"), Done),
+            Do(0, Open(b"f", READ), Fd(3)),
+            Do(0, Fstat(3), State(4, NodeType::File, 1, 1)),
+            Do(0, Open(b"..", READ), Fd(4)),
+            Do(0, Fstat(4), State(2, NodeType::Directory, 2, 48)),
+            Do(1, Open(b"f", READ), Failed(Cause::NoEntry)),
+        ],
+        (6, 0, 4),
+    ),
+    // What isn't there isn't opened, nor a directory for writing, nor a device without a driver; and only a directory becomes a hart's.
+    (
+        Image::Tree,
+        &[
+            Do(0, Open(b"/d/x", READ), Failed(Cause::NoEntry)),
+            Do(0, Open(b"/d/x/f", READ), Failed(Cause::NoEntry)),
+            Do(0, Open(b"/d/e/f/x", READ), Failed(Cause::NoEntry)),
+            Do(0, Open(&LONGEST, READ), Failed(Cause::NoEntry)),
+            Do(0, Open(b"/d", WRITE), Failed(Cause::IsDirectory)),
+            Do(0, Open(b"/d", TRUNCATE), Failed(Cause::IsDirectory)),
+            Do(0, Open(b"/u", READ), Failed(Cause::NoDriver)),
+            Do(0, Chdir(b"/d/x"), Failed(Cause::NoEntry)),
+            Do(0, Chdir(b"/d/e/f"), Failed(Cause::NotDirectory)),
+            Do(0, Open(b"d", READ), Fd(0)),
+        ],
+        (6, 0, 4),
+    ),
+    // A start is refused where there is no such hart, where the hart has a call, where a path is too long or has a zero byte, and where
+    // too much is to be read.
+    (
+        SMALL,
+        &[
+            Do(8, Open(&LONG, READ), Refused(StartRefused::NoSuchHart)),
+            Do(1, Open(&LONG, READ), Refused(StartRefused::PathTooLong)),
+            Do(1, Chdir(b"/a\0b"), Refused(StartRefused::ZeroInPath)),
+            Do(1, Unlink(&LONG), Refused(StartRefused::PathTooLong)),
+            Do(1, Link(&LONG, b"/\0"), Refused(StartRefused::PathTooLong)),
+            Do(1, Link(b"/a", b"/\0"), Refused(StartRefused::ZeroInPath)),
+            Do(1, Read(0, 524_289), Refused(StartRefused::TooLong)),
+            Do(1, Mkdir(b"/\0"), Refused(StartRefused::ZeroInPath)),
+            Start(1, Open(b"/", READ)),
+            Do(1, Open(&LONG, READ), Refused(StartRefused::Busy)),
+            End(0, Idle),
+            End(8, Idle),
+            End(1, Fd(0)),
+            End(1, Idle),
+        ],
+        (1, 0, 1),
+    ),
+    // A call on a descriptor that isn't open is refused; so is a read of what isn't open to read, and of a device.
+    (
+        Image::Tree,
+        &[
+            Do(0, Fstat(3), Failed(Cause::BadDescriptor)),
+            Do(7, Dup(16), Failed(Cause::BadDescriptor)),
+            Do(3, Close(4_294_967_295), Failed(Cause::BadDescriptor)),
+            Do(5, Read(15, 524_288), Failed(Cause::BadDescriptor)),
+            Do(5, Write(0, b"x"), Failed(Cause::BadDescriptor)),
+            Do(0, Open(b"/d/e/f", WRITE), Fd(0)),
+            Do(0, Read(0, 1), Failed(Cause::BadMode)),
+            Do(0, Open(b"/t", READ_AND_WRITE), Fd(1)),
+            Do(0, Fstat(1), State(5, NodeType::Device, 1, 0)),
+            Do(0, Read(1, 1), Failed(Cause::NoDriver)),
+            Do(0, Write(1, b"x"), Failed(Cause::NoDriver)),
+            Do(0, Close(0), Done),
+            Do(0, Close(0), Failed(Cause::BadDescriptor)),
+        ],
+        (6, 0, 4),
+    ),
+    // An open that empties a file gives its block back, and all who have it open see that.
+    (
+        Image::Tree,
+        &[
+            Do(0, Open(b"/d/e/f", READ), Fd(0)),
+            Do(1, Open(b"/d/e/f", TRUNCATE), Fd(0)),
+            Do(0, Fstat(0), State(4, NodeType::File, 1, 0)),
+            Do(0, Read(0, 1), Count(0)),
+        ],
+        (6, 0, 3),
+    ),
+    // Each open reserves ten blocks of the log: of 29 two, of 30 three may be under way; the next one waits.
+    (
+        Image::ShortLog,
+        &[
+            Start(0, Open(b"/", READ)),
+            Start(1, Open(b"/", READ)),
+            Start(2, Open(b"/", READ)),
+            Upto(0, Kind::Join, 1),
+            Upto(1, Kind::Join, 1),
+            End(2, Waits),
+        ],
+        (1, 0, 1),
+    ),
+    (
+        SMALL,
+        &[
+            Start(0, Open(b"/", READ)),
+            Start(1, Open(b"/", READ)),
+            Start(2, Open(b"/", READ)),
+            Start(3, Open(b"/", READ)),
+            Upto(0, Kind::Join, 1),
+            Upto(1, Kind::Join, 1),
+            Upto(2, Kind::Join, 1),
+            End(3, Waits),
+            End(1, Fd(0)),
+            End(3, Fd(0)),
+        ],
+        (1, 0, 1),
+    ),
+    // A read waits for an inode's lock, and goes on behind the other one; two opens of one file, step by step in turn, both succeed.
+    (
+        Image::WithFile(400, b"hello"),
+        &[
+            Start(0, Open(b"/f", READ)),
+            Start(1, Open(b"/f", READ)),
+            All(&[Fd(0), Fd(0)]),
+            Start(0, Read(0, 3)),
+            Upto(0, Kind::Lock, 1),
+            Do(1, Read(0, 9), Waits),
+            End(0, Bytes(b"hel")),
+            End(1, Bytes(b"hello")),
+        ],
+        (2, 0, 2),
+    ),
+    // A walk loses its way where the directory that it has reached is removed.
+    (
+        Image::Tree,
+        &[
+            Start(0, Open(b"/d/e/f", READ)),
+            Upto(0, Kind::Unlock, 2),
+            Do(1, Unlink(b"/d/e/f"), Done),
+            Do(1, Unlink(b"/d/e"), Done),
+            End(0, Failed(Cause::NoEntry)),
+        ],
+        (4, 0, 2),
+    ),
+    // A path that climbs is resolved although it names nothing at any one moment.
+    (
+        Image::Tree,
+        &[
+            Do(0, Chdir(b"/d/e"), Done),
+            Do(1, Link(b"/d/e/f", b"/g"), Done),
+            Do(1, Unlink(b"/d/e/f"), Done),
+            Start(0, Open(b"../c", READ)),
+            Upto(0, Kind::Unlock, 1),
+            Do(1, Unlink(b"/d/e"), Done),
+            Do(1, Link(b"/g", b"/d/c"), Done),
+            End(0, Fd(0)),
+        ],
+        (5, 1, 4),
+    ),
+];
 
-/// Paths lead through directories, their parents and themselves, from the root or from the hart's directory.
+/// Each row comes to what it tells, and is run again by its events.
 #[test]
-fn paths_lead_deep(rt: HostRuntime) -> Result<(), Fail> {
-    let row = [
-        Do(0, Open(b"/d/e/f", READ), Fd(0)),
-        Do(0, Fstat(0), State(4, NodeType::File, 1, 1)),
-        Do(0, Open(b"//d/./e/../e//f", READ_AND_WRITE), Fd(1)),
-        Do(0, Fstat(1), State(4, NodeType::File, 1, 1)),
-        Do(0, Open(b"../d/e/", READ), Fd(2)),
-        Do(0, Fstat(2), State(3, NodeType::Directory, 1, 48)),
-        Do(0, Chdir(b"d/e"), Done),
-        Do(0, Open(b"f", READ), Fd(3)),
-        Do(0, Fstat(3), State(4, NodeType::File, 1, 1)),
-        Do(0, Open(b"..", READ), Fd(4)),
-        Do(0, Fstat(4), State(2, NodeType::Directory, 2, 48)),
-        Do(1, Open(b"f", READ), Failed(Cause::NoEntry)),
-    ];
-    let _disk = plays(&rt, rt.alloc(), tree(rt.alloc())?, &row);
-    Ok(())
-}
-
-/// What isn't there isn't opened, nor a directory for writing, nor a device without a driver; and only a directory becomes a hart's.
-#[test]
-fn opens_fail(rt: HostRuntime) -> Result<(), Fail> {
-    let row = [
-        Do(0, Open(b"/d/x", READ), Failed(Cause::NoEntry)),
-        Do(0, Open(b"/d/x/f", READ), Failed(Cause::NoEntry)),
-        Do(0, Open(b"/d/e/f/x", READ), Failed(Cause::NoEntry)),
-        Do(0, Open(&LONG[..127], READ), Failed(Cause::NoEntry)),
-        Do(0, Open(b"/d", WRITE), Failed(Cause::IsDirectory)),
-        Do(0, Open(b"/d", TRUNCATE), Failed(Cause::IsDirectory)),
-        Do(0, Open(b"/u", READ), Failed(Cause::NoDriver)),
-        Do(0, Chdir(b"/d/x"), Failed(Cause::NoEntry)),
-        Do(0, Chdir(b"/d/e/f"), Failed(Cause::NotDirectory)),
-        Do(0, Open(b"d", READ), Fd(0)),
-    ];
-    let _disk = plays(&rt, rt.alloc(), tree(rt.alloc())?, &row);
-    Ok(())
-}
-
-/// A start is refused where there is no such hart, where the hart has a call, where a path is too long or has a zero byte, and where
-/// too much is to be read.
-#[test]
-fn starts_are_refused(rt: HostRuntime) -> Result<(), Fail> {
-    let row = [
-        Do(8, Open(&LONG, READ), Refused(StartRefused::NoSuchHart)),
-        Do(1, Open(&LONG, READ), Refused(StartRefused::PathTooLong)),
-        Do(1, Chdir(b"/a\0b"), Refused(StartRefused::ZeroInPath)),
-        Do(1, Unlink(&LONG), Refused(StartRefused::PathTooLong)),
-        Do(1, Link(&LONG, b"/\0"), Refused(StartRefused::PathTooLong)),
-        Do(1, Link(b"/a", b"/\0"), Refused(StartRefused::ZeroInPath)),
-        Do(1, Read(0, 524_289), Refused(StartRefused::TooLong)),
-        Do(1, Mkdir(b"/\0"), Refused(StartRefused::ZeroInPath)),
-        Start(1, Open(b"/", READ)),
-        Do(1, Open(&LONG, READ), Refused(StartRefused::Busy)),
-        End(0, Idle),
-        End(8, Idle),
-        End(1, Fd(0)),
-        End(1, Idle),
-    ];
-    let _disk = plays(&rt, rt.alloc(), fresh(rt.alloc())?, &row);
-    Ok(())
-}
-
-/// A call on a descriptor that isn't open is refused; so is a read of what isn't open to read, and of a device.
-#[test]
-fn descriptors_are_refused(rt: HostRuntime) -> Result<(), Fail> {
-    let row = [
-        Do(0, Fstat(3), Failed(Cause::BadDescriptor)),
-        Do(7, Dup(16), Failed(Cause::BadDescriptor)),
-        Do(3, Close(4_294_967_295), Failed(Cause::BadDescriptor)),
-        Do(5, Read(15, 524_288), Failed(Cause::BadDescriptor)),
-        Do(5, Write(0, b"x"), Failed(Cause::BadDescriptor)),
-        Do(0, Open(b"/d/e/f", WRITE), Fd(0)),
-        Do(0, Read(0, 1), Failed(Cause::BadMode)),
-        Do(0, Open(b"/t", READ_AND_WRITE), Fd(1)),
-        Do(0, Fstat(1), State(5, NodeType::Device, 1, 0)),
-        Do(0, Read(1, 1), Failed(Cause::NoDriver)),
-        Do(0, Write(1, b"x"), Failed(Cause::NoDriver)),
-        Do(0, Close(0), Done),
-        Do(0, Close(0), Failed(Cause::BadDescriptor)),
-    ];
-    let _disk = plays(&rt, rt.alloc(), tree(rt.alloc())?, &row);
-    Ok(())
-}
-
-/// An open that empties a file gives its block back, and all who have it open see that.
-#[test]
-fn opens_empty_files(rt: HostRuntime) -> Result<(), Fail> {
-    let row = [
-        Do(0, Open(b"/d/e/f", READ), Fd(0)),
-        Do(1, Open(b"/d/e/f", TRUNCATE), Fd(0)),
-        Do(0, Fstat(0), State(4, NodeType::File, 1, 0)),
-        Do(0, Read(0, 1), Count(0)),
-    ];
-    let disk = plays(&rt, rt.alloc(), tree(rt.alloc())?, &row);
-    assert_eq!(rt; counts(rt.alloc(), disk)?, (6, 0, 3));
-    Ok(())
+fn rows_are_run(rt: HostRuntime) -> Result<(), Fail> {
+    are_run(&rt, rt.alloc(), ROWS)
 }
 
 /// A hart has sixteen descriptors, and all harts together a hundred open files.
 #[test]
 fn descriptors_and_files_run_out(rt: HostRuntime) -> Result<(), Fail> {
-    let mut world = mounted(&rt, rt.alloc(), fresh(rt.alloc())?);
+    let mut lines = Vec::new(rt.alloc());
     for opened in 0..99 {
-        let line = Do((opened / 16) as u8, Open(b"/", READ), Fd(opened % 16));
-        assert!(rt; play(&rt, rt.alloc(), &mut world, &[line]));
+        lines.push(Do((opened / 16) as u8, Open(b"/", READ), Fd(opened % 16)))?;
     }
-    let row = [
-        Do(0, Open(b"/", READ), NoRoom(Full::Descriptors)),
-        Do(0, Dup(0), NoRoom(Full::Descriptors)),
-        Do(6, Open(b"/", READ), Fd(3)),
-        Do(6, Open(b"/", READ), NoRoom(Full::OpenFiles)),
-        Do(0, Close(0), Done),
-        Do(6, Open(b"/", READ), Fd(4)),
-    ];
-    assert!(rt; play(&rt, rt.alloc(), &mut world, &row));
-    let _disk = world.unmount();
+    lines.push(Do(0, Open(b"/", READ), NoRoom(Full::Descriptors)))?;
+    lines.push(Do(0, Dup(0), NoRoom(Full::Descriptors)))?;
+    lines.push(Do(6, Open(b"/", READ), Fd(3)))?;
+    lines.push(Do(6, Open(b"/", READ), NoRoom(Full::OpenFiles)))?;
+    lines.push(Do(0, Close(0), Done))?;
+    lines.push(Do(6, Open(b"/", READ), Fd(4)))?;
+    let _played = play(
+        &rt,
+        rt.alloc(),
+        disk_of(rt.alloc(), SMALL)?,
+        lines.as_slice(),
+    )?;
     Ok(())
 }
 
 /// With the root and 49 files of 49 inodes open, a fiftieth file isn't, until one of them is closed.
 #[test]
 fn inodes_in_memory_run_out(rt: HostRuntime) -> Result<(), Fail> {
-    let mut files = Vec::new(rt.alloc());
-    for number in 0..50 {
-        let bytes = Vec::new(rt.alloc());
-        files.push((Vec::from_slice(rt.alloc(), &name(number))?, bytes))?;
+    let names = names_up_to(rt.alloc(), 49)?;
+    let mut lines = Vec::new(rt.alloc());
+    lines.push(Do(7, Open(b"/x", CREATE), Fd(0)))?;
+    lines.push(Do(7, Close(0), Done))?;
+    let mut opened = 0u8;
+    for name in names.as_slice() {
+        let (hart, fd) = (opened / 16, u32::from(opened % 16));
+        lines.push(Do(hart, Open(name, CREATE), Fd(fd)))?;
+        opened = opened.saturating_add(1);
     }
-    let disk = made(rt.alloc(), 2000, 200, files.as_slice())?;
-    let mut world = mounted(&rt, rt.alloc(), disk);
-    for opened in 0..49 {
-        let line = Do(
-            (opened / 16) as u8,
-            Open(&name(opened), READ),
-            Fd(opened % 16),
-        );
-        assert!(rt; play(&rt, rt.alloc(), &mut world, &[line]));
-    }
-    let last = name(49);
-    let row = [
-        Do(7, Open(b"/", READ), Fd(0)),
-        Do(7, Open(&last, READ), NoRoom(Full::MemInodes)),
-        Do(0, Close(5), Done),
-        Do(7, Open(&last, READ), Fd(1)),
-    ];
-    assert!(rt; play(&rt, rt.alloc(), &mut world, &row));
-    let _disk = world.unmount();
-    Ok(())
-}
-
-/// Each open reserves ten blocks of the log: of 29 two, of 30 three may be under way; the next one waits.
-#[test]
-fn opens_wait_for_the_log(rt: HostRuntime) -> Result<(), Fail> {
-    let short = [
-        Start(0, Open(b"/", READ)),
-        Start(1, Open(b"/", READ)),
-        Start(2, Open(b"/", READ)),
-        Upto(0, Kind::Join, 1),
-        Upto(1, Kind::Join, 1),
-        End(2, Waits),
-    ];
-    let _disk = plays(&rt, rt.alloc(), short_log(rt.alloc())?, &short);
-    let row = [
-        Start(0, Open(b"/", READ)),
-        Start(1, Open(b"/", READ)),
-        Start(2, Open(b"/", READ)),
-        Start(3, Open(b"/", READ)),
-        Upto(0, Kind::Join, 1),
-        Upto(1, Kind::Join, 1),
-        Upto(2, Kind::Join, 1),
-        End(3, Waits),
-        End(1, Fd(0)),
-        End(3, Fd(0)),
-    ];
-    let _disk = plays(&rt, rt.alloc(), fresh(rt.alloc())?, &row);
-    Ok(())
-}
-
-/// A read waits for an inode's lock, and goes on behind the other one; two opens of one file, step by step in turn, both succeed.
-#[test]
-fn harts_take_turns(rt: HostRuntime) -> Result<(), Fail> {
-    let row = [
-        Start(0, Open(b"/f", READ)),
-        Start(1, Open(b"/f", READ)),
-        All(&[Fd(0), Fd(0)]),
-        Start(0, Read(0, 3)),
-        Upto(0, Kind::Lock, 1),
-        Do(1, Read(0, 9), Waits),
-        End(0, Bytes(b"hel")),
-        End(1, Bytes(b"hello")),
-    ];
-    let disk = with_file(rt.alloc(), 400, b"hello")?;
-    let _disk = plays(&rt, rt.alloc(), disk, &row);
-    Ok(())
-}
-
-/// A walk loses its way where the directory that it has reached is removed.
-#[test]
-fn a_walk_loses_its_way(rt: HostRuntime) -> Result<(), Fail> {
-    let row = [
-        Start(0, Open(b"/d/e/f", READ)),
-        Upto(0, Kind::Unlock, 2),
-        Do(1, Unlink(b"/d/e/f"), Done),
-        Do(1, Unlink(b"/d/e"), Done),
-        End(0, Failed(Cause::NoEntry)),
-    ];
-    let disk = plays(&rt, rt.alloc(), tree(rt.alloc())?, &row);
-    assert_eq!(rt; counts(rt.alloc(), disk)?, (4, 0, 2));
-    Ok(())
-}
-
-/// A path that climbs is resolved although it names nothing at any one moment.
-#[test]
-fn a_path_climbs(rt: HostRuntime) -> Result<(), Fail> {
-    let row = [
-        Do(0, Chdir(b"/d/e"), Done),
-        Do(1, Link(b"/d/e/f", b"/g"), Done),
-        Do(1, Unlink(b"/d/e/f"), Done),
-        Start(0, Open(b"../c", READ)),
-        Upto(0, Kind::Unlock, 1),
-        Do(1, Unlink(b"/d/e"), Done),
-        Do(1, Link(b"/g", b"/d/c"), Done),
-        End(0, Fd(0)),
-    ];
-    let _disk = plays(&rt, rt.alloc(), tree(rt.alloc())?, &row);
+    lines.push(Do(7, Open(b"/", READ), Fd(0)))?;
+    lines.push(Do(7, Open(b"/x", READ), NoRoom(Full::MemInodes)))?;
+    lines.push(Do(0, Close(5), Done))?;
+    lines.push(Do(7, Open(b"/x", READ), Fd(1)))?;
+    let disk = disk_of(rt.alloc(), Image::Made(120, 64))?;
+    let _played = play(&rt, rt.alloc(), disk, lines.as_slice())?;
     Ok(())
 }

@@ -1,10 +1,9 @@
 //! Rows: what harts are told to do, line by line, and what each line comes to.
-use block_device::Device;
+use crate::images::Image;
 use fs_machine::Kind;
-use hart_core::{Outcome, StartRefused, Stop, World};
+use hart_core::{Came, Outcome, StartRefused};
 use plain_tree::{Answer, Bytes, Call, Cause, Full, NodeType, Reply, Stat};
 use std::alloc::{AllocError, Global};
-use std::process::Abort;
 
 pub const READ: u32 = 0;
 
@@ -18,6 +17,9 @@ pub const TRUNCATE: u32 = 0x400;
 
 /// A path that is too long by one byte.
 pub const LONG: [u8; 128] = [b'a'; 128];
+
+/// The longest path.
+pub const LONGEST: [u8; 127] = [b'a'; 127];
 
 /// A call, with its paths or bytes as they stand in a row.
 #[derive(Drop)]
@@ -52,10 +54,10 @@ pub enum Says<'a> {
     Done,
     Failed(Cause),
     NoRoom(Full),
+    Started,
     Refused(StartRefused),
     Waits,
     Idle,
-    Stopped(Stop),
     Ran(Kind),
 }
 
@@ -68,14 +70,16 @@ pub enum Line<'a> {
     Start(u8, Ask<'a>),
     /// Steps, until so many of this kind have run.
     Upto(u8, Kind, u32),
+    /// At most so many steps, to the call's end or to a wait, whatever they come to.
+    Steps(u8, u32),
     /// Steps to the call's end, or to a wait.
     End(u8, Says<'a>),
     /// Steps of the harts from 0 on in turn, until the call of each has ended.
     All(&'a [Says<'a>]),
 }
 
-// No call here takes as many steps.
-const MOST_STEPS: u32 = 100_000;
+/// An image, lines, and what is on the disk then: nodes with a name, nodes without one, and blocks of contents.
+pub type Row = (Image, &'static [Line<'static>], (u32, u32, u32));
 
 // The byte at a place of the pattern.
 fn byte_at(place: usize) -> u8 {
@@ -94,7 +98,8 @@ fn bytes(alloc: Global, bytes: &[u8]) -> Result<Bytes, AllocError> {
     Ok(Bytes::new(Vec::from_slice(alloc, bytes)?))
 }
 
-fn try_call(alloc: Global, ask: &Ask) -> Result<Call, AllocError> {
+/// The call, with paths and bytes of its own.
+pub fn call(alloc: Global, ask: &Ask) -> Result<Call, AllocError> {
     Ok(match ask {
         Ask::Open(path, flags) => Call::Open {
             path: bytes(alloc, *path)?,
@@ -130,14 +135,6 @@ fn try_call(alloc: Global, ask: &Ask) -> Result<Call, AllocError> {
         Ask::Close(fd) => Call::Close { fd: *fd },
         Ask::Inherit(child) => Call::Inherit { child: *child },
     })
-}
-
-/// The call, made once more where memory was refused.
-pub fn call(rt: &impl Abort, alloc: Global, ask: &Ask) -> Call {
-    match try_call(alloc, ask) {
-        Ok(call) => call,
-        Err(_) => try_call(alloc, ask).expect(rt, "a call is made"),
-    }
 }
 
 // Whether a read's memory begins with the pattern's bytes from a place on, so many.
@@ -196,107 +193,15 @@ fn is_outcome(outcome: &Outcome, says: &Says) -> bool {
         Outcome::Ran(ran) => matches!(says, Says::Ran(kind) if kind == ran),
         Outcome::Waits => matches!(says, Says::Waits),
         Outcome::Idle => matches!(says, Says::Idle),
-        Outcome::Stopped(why) => matches!(says, Says::Stopped(stop) if stop == why),
+        Outcome::Stopped(_) => false,
     }
 }
 
-// Steps of a hart, until so many of a kind have run, or to one that doesn't run and leave the call under way.
-fn go_on<D: Device>(world: &mut World<D>, hart: u8, kind: Kind, count: u32) -> Outcome {
-    let mut left = count;
-    for _ in 0..MOST_STEPS {
-        let outcome = world.step(hart);
-        let Outcome::Ran(ran) = outcome else {
-            return outcome;
-        };
-        if ran == kind {
-            left = left.saturating_sub(1);
-        }
-        if left == 0 {
-            return Outcome::Ran(kind);
-        }
+/// Whether an event came to what is told.
+pub fn is_told(came: &Came, says: &Says) -> bool {
+    match came {
+        Came::Started => matches!(says, Says::Started),
+        Came::Refused(why) => matches!(says, Says::Refused(refused) if refused == why),
+        Came::Stepped(outcome) => is_outcome(outcome, says),
     }
-    Outcome::Ran(kind)
-}
-
-// Steps to the call's end. No step of kind reply leaves its call under way.
-fn end<D: Device>(world: &mut World<D>, hart: u8) -> Outcome {
-    go_on(world, hart, Kind::Reply, 1)
-}
-
-// Steps of the harts from 0 on in turn: whether the call of each ends with what is told.
-fn take_turns<D: Device>(world: &mut World<D>, says: &[Says]) -> bool {
-    let mut ended = 0usize;
-    for turn in 0..MOST_STEPS {
-        let hart = turn % 8;
-        let Some(says) = says.get(hart as usize) else {
-            continue;
-        };
-        let outcome = world.step(hart as u8);
-        match outcome {
-            Outcome::Done(_) => ended = ended.saturating_add(1),
-            Outcome::Stopped(_) => return false,
-            _ => continue,
-        }
-        if !is_outcome(&outcome, says) {
-            return false;
-        }
-    }
-    ended == says.len()
-}
-
-// Whether the outcome is what is told; None where the device has failed.
-fn met(outcome: Outcome, says: &Says) -> Option<bool> {
-    if matches!(outcome, Outcome::Stopped(Stop::DeviceFault)) {
-        return None;
-    }
-    Some(is_outcome(&outcome, says))
-}
-
-fn try_line<D: Device>(
-    rt: &impl Abort,
-    alloc: Global,
-    world: &mut World<D>,
-    line: &Line,
-) -> Option<bool> {
-    match line {
-        Line::Do(hart, ask, says) => match world.start(*hart, call(rt, alloc, ask)) {
-            Ok(()) => met(end(world, *hart), says),
-            Err((_, why)) => Some(matches!(says, Says::Refused(refused) if *refused == why)),
-        },
-        Line::Start(hart, ask) => Some(world.start(*hart, call(rt, alloc, ask)).is_ok()),
-        Line::Upto(hart, kind, count) => {
-            met(go_on(world, *hart, *kind, *count), &Says::Ran(*kind))
-        }
-        Line::End(hart, says) => met(end(world, *hart), says),
-        Line::All(says) => Some(take_turns(world, *says)),
-    }
-}
-
-/// Plays a row over a world. Answers whether it came to its end: it ends early where the device fails.
-pub fn play<D: Device>(rt: &impl Abort, alloc: Global, world: &mut World<D>, row: &[Line]) -> bool {
-    for (number, line) in row.iter().enumerate() {
-        match try_line(rt, alloc, world, line) {
-            Some(is_told) => assert!(rt; is_told, "line {number}"),
-            None => return false,
-        }
-    }
-    true
-}
-
-/// A world over a device that doesn't fail, mounted once more where memory was refused.
-pub fn mounted<D: Device>(rt: &impl Abort, alloc: Global, device: D) -> World<D> {
-    match World::mount(alloc, device) {
-        Ok(world) => world,
-        Err((device, _)) => match World::mount(alloc, device) {
-            Ok(world) => world,
-            Err(_) => panic!(rt; "it is mounted"),
-        },
-    }
-}
-
-/// Plays a row over a new world of a device, and gives the device back.
-pub fn plays<D: Device>(rt: &impl Abort, alloc: Global, device: D, row: &[Line]) -> D {
-    let mut world = mounted(rt, alloc, device);
-    assert!(rt; play(rt, alloc, &mut world, row));
-    world.unmount()
 }

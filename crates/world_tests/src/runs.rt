@@ -1,43 +1,17 @@
-//! Lists of events: what they come to, what they show of calls, and a list of tree steps that explains it.
-use crate::images::{counts, fresh, tree};
-use crate::rows::Ask::{Chdir, Close, Dup, Fstat, Inherit, Link, Open, Read, Unlink, Write};
-use crate::rows::{Ask, LONG, READ, READ_AND_WRITE, TRUNCATE, call, mounted};
-use block_device::MemoryDisk;
+//! Lists of events: what they show of calls, and a list of tree steps that explains it.
+use crate::images::{Image, SMALL, counts, disk_of, tree_in};
+use crate::lists::{Ended, Made, mounted, play, ran, run_over, traced};
+use crate::rows::Ask::{Chdir, Close, Dup, Fill, Fstat, Inherit, Link, Open, Read, Unlink, Write};
+use crate::rows::Line::{Do, End, Start, Upto};
+use crate::rows::Says::{Done, Failed, Idle, Refused};
+use crate::rows::{Ask, LONG, READ, READ_AND_WRITE, TRUNCATE, call};
 use fs_machine::Kind;
-use hart_core::{Came, Event, Outcome, Run, World, run, trace};
-use image_tree::tree_of;
+use hart_core::{Came, Event, Outcome, Run, StartRefused};
 use plain_tree::{
-    Action, Answer, Bytes, Cause, Placed, Reply, StepAnswer, Trace, TracedCall, Tree, TreeStep,
-    check,
+    Action, Bytes, Cause, Placed, StepAnswer, Trace, TracedCall, Tree, TreeStep, check,
 };
 use std::alloc::{AllocError, Global};
 use std::test::Fail;
-
-// These events over a world. Where memory is short the world is handed back as it was, and ends.
-fn ran(alloc: Global, world: World<MemoryDisk>, events: &[Event]) -> Result<Run<MemoryDisk>, Fail> {
-    match run(alloc, world, events) {
-        Ok(run) => Ok(run),
-        Err((world, _)) => {
-            let _disk = world.unmount();
-            Err(Fail::from(AllocError))
-        }
-    }
-}
-
-fn traced(alloc: Global, events: &[Event], outcomes: &[Came]) -> Result<Trace, AllocError> {
-    match trace(alloc, events, outcomes) {
-        Ok(trace) => Ok(trace),
-        Err(_) => Err(AllocError),
-    }
-}
-
-// The tree of an image that is in order.
-fn tree_in(alloc: Global, disk: &mut MemoryDisk) -> Result<Tree, AllocError> {
-    match tree_of(alloc, disk) {
-        Ok(tree) => Ok(tree),
-        Err(_) => Err(AllocError),
-    }
-}
 
 fn explains(alloc: Global, base: &Tree, trace: &Trace, list: &[Placed]) -> Result<bool, Fail> {
     match check(alloc, base, trace, list) {
@@ -64,20 +38,6 @@ fn failed(cause: Cause) -> StepAnswer {
     StepAnswer::Failed { cause }
 }
 
-// What an event came to, in a word.
-fn word(came: &Came) -> &'static str {
-    match came {
-        Came::Started => "started",
-        Came::Refused(_) => "refused",
-        Came::Stepped(Outcome::Idle) => "idle",
-        Came::Stepped(Outcome::Done(Reply { answer, .. })) => match answer {
-            Answer::Failed(Cause::BadDescriptor) => "failed",
-            _ => "done",
-        },
-        Came::Stepped(_) => "stepped",
-    }
-}
-
 // The event that gave a call's reply.
 fn end_of(call: &TracedCall) -> Option<u64> {
     match &call.finished {
@@ -86,58 +46,39 @@ fn end_of(call: &TracedCall) -> Option<u64> {
     }
 }
 
+// The event that gave the reply of a call of the trace; 0 where there is none.
+fn last_of(trace: &Trace, call: usize) -> u64 {
+    match trace.calls.as_slice().get(call) {
+        Some(call) => end_of(call).unwrap_or(0),
+        None => 0,
+    }
+}
+
 /// Two harts' events are made in their order: two calls are finished, one is under way, and two starts are refused. The steps' list
 /// explains that, and doesn't where one of them comes after its reply.
 #[test]
 fn events_come_in_order(rt: HostRuntime) -> Result<(), Fail> {
     let alloc = rt.alloc();
-    let mut disk = fresh(alloc)?;
+    let bad = Cause::BadDescriptor;
+    let lines = [
+        Start(0, Fstat(3)),
+        Do(1, Open(&LONG, READ), Refused(StartRefused::PathTooLong)),
+        Start(7, Dup(16)),
+        Do(0, Dup(0), Refused(StartRefused::Busy)),
+        End(7, Failed(bad)),
+        End(7, Idle),
+        End(0, Failed(bad)),
+        Start(0, Dup(0)),
+    ];
+    let mut disk = disk_of(alloc, SMALL)?;
     let base = tree_in(alloc, &mut disk)?;
-    let events = [
-        Event::Start {
-            hart: 0,
-            call: call(&rt, alloc, &Fstat(3)),
-        },
-        Event::Start {
-            hart: 1,
-            call: call(&rt, alloc, &Open(&LONG, READ)),
-        },
-        Event::Start {
-            hart: 7,
-            call: call(&rt, alloc, &Dup(16)),
-        },
-        Event::Start {
-            hart: 0,
-            call: call(&rt, alloc, &Dup(0)),
-        },
-        Event::Step { hart: 7 },
-        Event::Step { hart: 7 },
-        Event::Step { hart: 0 },
-        Event::Start {
-            hart: 0,
-            call: call(&rt, alloc, &Dup(0)),
-        },
-    ];
-    let Run {
-        world,
-        outcomes,
-        cut: _,
-        doubt: _,
-    } = ran(alloc, mounted(&rt, alloc, disk), &events)?;
-    let _disk = world.unmount();
-    let words = [
-        "started", "refused", "started", "refused", "failed", "idle", "failed", "started",
-    ];
-    for (came, wanted) in outcomes.as_slice().iter().zip(words) {
-        assert_eq!(rt; word(came), wanted);
-    }
-    let trace = traced(alloc, &events, outcomes.as_slice())?;
+    let (made, _disk) = play(&rt, alloc, disk, &lines)?;
+    let trace = traced(alloc, &made)?;
     assert!(rt; trace.events == 8 && trace.calls.as_slice().len() == 3);
     let calls = [(0, 0, Some(6)), (7, 2, Some(4)), (0, 7, None)];
     for (call, wanted) in trace.calls.as_slice().iter().zip(calls) {
         assert!(rt; (call.hart, call.start, end_of(call)) == wanted);
     }
-    let bad = Cause::BadDescriptor;
     let mut list = [
         placed(4, 1, 7, Action::Dup { fd: 16 }, failed(bad)),
         placed(6, 0, 0, Action::Fstat { fd: 3 }, failed(bad)),
@@ -151,35 +92,30 @@ fn events_come_in_order(rt: HostRuntime) -> Result<(), Fail> {
 /// A run goes on where another ended, in mid-call.
 #[test]
 fn a_run_goes_on(rt: HostRuntime) -> Result<(), Fail> {
-    let world = mounted(&rt, rt.alloc(), fresh(rt.alloc())?);
-    let first = [Event::Start {
-        hart: 2,
-        call: call(&rt, rt.alloc(), &Dup(1)),
-    }];
+    let row = [Do(2, Dup(1), Failed(Cause::BadDescriptor))];
+    let (made, disk) = play(&rt, rt.alloc(), disk_of(rt.alloc(), SMALL)?, &row)?;
+    let Made { events, outcomes } = made;
+    let world = mounted(rt.alloc(), disk)?;
     let Run {
         world,
-        outcomes: _started,
+        outcomes: first,
         cut: _,
         doubt: _,
-    } = ran(rt.alloc(), world, &first)?;
+    } = ran(rt.alloc(), world, &events.as_slice()[..1])?;
     let Run {
         world,
-        outcomes,
+        outcomes: second,
         cut: _,
         doubt: _,
-    } = ran(rt.alloc(), world, &[Event::Step { hart: 2 }])?;
+    } = ran(rt.alloc(), world, &events.as_slice()[1..])?;
     let _disk = world.unmount();
-    assert!(rt; outcomes.as_slice().len() == 1);
-    for came in outcomes.as_slice() {
-        assert_eq!(rt; word(came), "failed");
-    }
-    Ok(())
-}
-
-fn push_steps(events: &mut Vec<Event>, hart: u8, count: u32) -> Result<(), AllocError> {
-    for _ in 0..count {
-        events.push(Event::Step { hart })?;
-    }
+    assert!(rt; first.len() == 1 && second.len() + 1 == outcomes.len());
+    assert!(rt;
+        matches!(
+            second.as_slice().last(),
+            Some(Came::Stepped(Outcome::Done(_)))
+        )
+    );
     Ok(())
 }
 
@@ -191,40 +127,17 @@ fn path(alloc: Global, bytes: &[u8]) -> Result<Bytes, AllocError> {
 #[test]
 fn a_lost_walk_is_explained(rt: HostRuntime) -> Result<(), Fail> {
     let alloc = rt.alloc();
-    let mut disk = tree(alloc)?;
+    let lines = [
+        Start(0, Open(b"/d/e/f", READ)),
+        Upto(0, Kind::Unlock, 2),
+        Do(1, Unlink(b"/d/e/f"), Done),
+        Do(1, Unlink(b"/d/e"), Done),
+        End(0, Failed(Cause::NoEntry)),
+    ];
+    let mut disk = disk_of(alloc, Image::Tree)?;
     let base = tree_in(alloc, &mut disk)?;
-    let mut events = Vec::new(alloc);
-    // Twenty steps lead to the second unlock, of `/d`. Each unlink ends within its 200 steps.
-    events.push(Event::Start {
-        hart: 0,
-        call: call(&rt, alloc, &Open(b"/d/e/f", READ)),
-    })?;
-    push_steps(&mut events, 0, 20)?;
-    events.push(Event::Start {
-        hart: 1,
-        call: call(&rt, alloc, &Unlink(b"/d/e/f")),
-    })?;
-    push_steps(&mut events, 1, 200)?;
-    events.push(Event::Start {
-        hart: 1,
-        call: call(&rt, alloc, &Unlink(b"/d/e")),
-    })?;
-    push_steps(&mut events, 1, 200)?;
-    push_steps(&mut events, 0, 200)?;
-    let Run {
-        world,
-        outcomes,
-        cut: _,
-        doubt: _,
-    } = ran(alloc, mounted(&rt, alloc, disk), events.as_slice())?;
-    let _disk = world.unmount();
-    assert!(rt;
-        matches!(
-            outcomes.get(20),
-            Some(Came::Stepped(Outcome::Ran(Kind::Unlock)))
-        )
-    );
-    let trace = traced(alloc, events.as_slice(), outcomes.as_slice())?;
+    let (made, _disk) = play(&rt, alloc, disk, &lines)?;
+    let trace = traced(alloc, &made)?;
     let open = Action::Open {
         path: path(alloc, b"/d/e/f")?,
         flags: READ,
@@ -236,9 +149,9 @@ fn a_lost_walk_is_explained(rt: HostRuntime) -> Result<(), Fail> {
         path: path(alloc, b"/d/e")?,
     };
     let mut list = [
-        placed(22, 1, 1, file, StepAnswer::Done),
-        placed(223, 2, 1, directory, StepAnswer::Done),
-        placed(423, 0, 0, open, failed(Cause::NoEntry)),
+        placed(last_of(&trace, 1), 1, 1, file, StepAnswer::Done),
+        placed(last_of(&trace, 2), 2, 1, directory, StepAnswer::Done),
+        placed(last_of(&trace, 0), 0, 0, open, failed(Cause::NoEntry)),
     ];
     assert!(rt; explains(alloc, &base, &trace, &list)?);
     list[2].event = 20;
@@ -247,6 +160,33 @@ fn a_lost_walk_is_explained(rt: HostRuntime) -> Result<(), Fail> {
     Ok(())
 }
 
+// What is asked at random.
+const ASKS: &[Ask<'static>] = &[
+    Open(b"/d/e/f", READ_AND_WRITE),
+    Open(b"/d/g", READ_AND_WRITE),
+    Open(b"../d/e/.", READ),
+    Open(b"/h", TRUNCATE),
+    Link(b"/d/e/f", b"/d/g"),
+    Link(b"/d/g", b"/h"),
+    Link(b"/h", b"/d/e/f"),
+    Unlink(b"/d/e/f"),
+    Unlink(b"/d/g"),
+    Unlink(b"/h"),
+    Unlink(b"/d/e"),
+    Chdir(b"/d/e"),
+    Chdir(b"/"),
+    Read(0, 100),
+    Write(0, b"hello"),
+    Write(1, &LONG),
+    Fill(0, 0, 5000),
+    Dup(0),
+    Fstat(1),
+    Close(0),
+    Close(1),
+    Inherit(1),
+    Inherit(4),
+];
+
 // A number that looks as if drawn, and isn't 0, after another that isn't.
 fn next(number: u32) -> u32 {
     let number = number ^ (number << 13);
@@ -254,83 +194,39 @@ fn next(number: u32) -> u32 {
     number ^ (number << 5)
 }
 
-// Steps of eight harts in turn, until none has a call. None is stopped.
-fn go_idle(world: &mut World<MemoryDisk>) -> bool {
-    let mut idle = 0u32;
-    for turn in 0..1_000_000u32 {
-        match world.step((turn % 8) as u8) {
-            Outcome::Idle => idle = idle.saturating_add(1),
-            Outcome::Stopped(_) => return false,
-            _ => idle = 0,
-        }
-        if idle == 8 {
-            return true;
-        }
-    }
-    false
-}
-
 /// Eight harts start calls and step at random, 100,000 events; each call comes to its end, and the image is well formed.
 #[test]
 fn eight_harts_at_random(rt: HostRuntime) -> Result<(), Fail> {
     let alloc = rt.alloc();
-    let asks = [
-        Open(b"/d/e/f", READ_AND_WRITE),
-        Open(b"/d/g", READ_AND_WRITE),
-        Open(b"../d/e/.", READ),
-        Open(b"/h", TRUNCATE),
-        Link(b"/d/e/f", b"/d/g"),
-        Link(b"/d/g", b"/h"),
-        Link(b"/h", b"/d/e/f"),
-        Unlink(b"/d/e/f"),
-        Unlink(b"/d/g"),
-        Unlink(b"/h"),
-        Unlink(b"/d/e"),
-        Chdir(b"/d/e"),
-        Chdir(b"/"),
-        Read(0, 100),
-        Write(0, b"hello"),
-        Write(1, &LONG),
-        Ask::Fill(0, 0, 5000),
-        Dup(0),
-        Fstat(1),
-        Close(0),
-        Close(1),
-        Inherit(1),
-        Inherit(4),
-    ];
     let mut events = Vec::new(alloc);
     let mut number = 1u32;
     for _ in 0..100_000 {
         number = next(number);
         let hart = (number % 8) as u8;
         if number >> 29 == 0 {
-            let ask = &asks[(number >> 8) as usize % asks.len()];
-            let call = call(&rt, alloc, ask);
+            let ask = &ASKS[(number >> 8) as usize % ASKS.len()];
+            let call = call(alloc, ask)?;
             events.push(Event::Start { hart, call })?;
         } else {
             events.push(Event::Step { hart })?;
         }
     }
-    let world = mounted(&rt, alloc, tree(alloc)?);
-    let Run {
-        world,
+    for turn in 0..40_000u32 {
+        let hart = (turn % 8) as u8;
+        events.push(Event::Step { hart })?;
+    }
+    let disk = disk_of(alloc, Image::Tree)?;
+    let Ended {
+        device,
         outcomes,
         cut: _,
         doubt: _,
-    } = ran(alloc, world, events.as_slice())?;
-    let mut world = world;
-    let is_idle = go_idle(&mut world);
-    let disk = world.unmount();
-    assert!(rt; is_idle);
-    let _counts = counts(alloc, disk)?;
-    let trace = traced(alloc, events.as_slice(), outcomes.as_slice())?;
-    let mut finished = 0u32;
+    } = run_over(alloc, disk, events.as_slice())?;
+    let _counts = counts(alloc, device)?;
+    let trace = traced(alloc, &Made { events, outcomes })?;
     for call in trace.calls.as_slice() {
-        if call.finished.is_some() {
-            finished = finished.saturating_add(1);
-        }
+        assert!(rt; call.finished.is_some());
     }
-    assert!(rt; trace.events == 100_000 && finished > 1000);
+    assert!(rt; trace.events == 140_000 && trace.calls.as_slice().len() > 1000);
     Ok(())
 }

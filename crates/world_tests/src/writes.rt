@@ -1,33 +1,146 @@
 //! Writes to a file in the root.
-use crate::images::{counts, with_file};
+use crate::images::{Image, counts, disk_of};
+use crate::lists::{are_run, play};
 use crate::rows::Ask::{Fill, Fstat, Open, Read, Write};
 use crate::rows::Line::{Do, End, Start, Upto};
 use crate::rows::Says::{Bytes, Count, Failed, Fd, NoRoom, Pattern, Refused, State};
-use crate::rows::{READ, READ_AND_WRITE, TRUNCATE, WRITE, mounted, play, plays};
+use crate::rows::{Line, READ, READ_AND_WRITE, Row, TRUNCATE, WRITE};
 use fs_machine::Kind;
 use hart_core::StartRefused;
 use plain_tree::{Cause, Full, NodeType};
+use std::alloc::{AllocError, Global};
 use std::test::Fail;
 
-/// What one hart writes another one reads, also after the disk was mounted again.
+const ROWS: &[Row] = &[
+    // No file has more than 274,432 bytes: a piece that would end past them is refused, and those before it stay.
+    (
+        Image::WithFile(400, b""),
+        &[
+            Do(0, Open(b"/f", WRITE), Fd(0)),
+            Do(0, Fill(0, 0, 274_433), Failed(Cause::TooBig)),
+            Do(0, Fstat(0), State(2, NodeType::File, 1, 273_408)),
+            Do(0, Fill(0, 0, 1024), Count(1024)),
+            Do(0, Fstat(0), State(2, NodeType::File, 1, 274_432)),
+            Do(0, Write(0, b"x"), Failed(Cause::TooBig)),
+            Do(0, Fstat(0), State(2, NodeType::File, 1, 274_432)),
+        ],
+        (2, 0, 270),
+    ),
+    // A write by what isn't open to write is refused, also one of no bytes; and so is one past the end of a file that was emptied
+    // meanwhile. Of no bytes nothing else is tested.
+    (
+        Image::WithFile(400, b"A"),
+        &[
+            Do(0, Open(b"/f", READ_AND_WRITE), Fd(0)),
+            Do(0, Open(b"/f", READ), Fd(1)),
+            Do(0, Open(b"/", READ), Fd(2)),
+            Do(0, Write(1, b"x"), Failed(Cause::BadMode)),
+            Do(0, Write(1, b""), Failed(Cause::BadMode)),
+            Do(0, Write(2, b"x"), Failed(Cause::BadMode)),
+            Do(0, Write(3, b""), Failed(Cause::BadDescriptor)),
+            Do(0, Fill(0, 0, 524_289), Refused(StartRefused::TooLong)),
+            Do(0, Fstat(0), State(2, NodeType::File, 1, 1)),
+            Do(0, Fill(0, 0, 100), Count(100)),
+            Do(1, Open(b"/f", TRUNCATE), Fd(0)),
+            Do(0, Read(0, 10), Count(0)),
+            Do(0, Write(0, b"A"), Failed(Cause::BadOffset)),
+            Do(0, Write(0, b""), Count(0)),
+            Do(0, Fstat(0), State(2, NodeType::File, 1, 0)),
+        ],
+        (2, 0, 1),
+    ),
+    // With 23 blocks free a file gets 22 and an indirect block: the write answers that there is no more, what comes before the missing
+    // block is written, and the image is in order.
+    (
+        Image::WithFile(60, b""),
+        &[
+            Do(0, Open(b"/f", READ_AND_WRITE), Fd(0)),
+            Do(1, Open(b"/f", READ), Fd(0)),
+            Do(0, Fill(0, 0, 23_552), NoRoom(Full::Blocks)),
+            Do(0, Fstat(0), State(2, NodeType::File, 1, 22_528)),
+            Do(0, Write(0, b"x"), NoRoom(Full::Blocks)),
+            Do(0, Fstat(0), State(2, NodeType::File, 1, 22_528)),
+            Do(1, Read(0, 30_000), Pattern(0, 22_528)),
+        ],
+        (2, 0, 24),
+    ),
+    // A write of 3073 bytes goes in two pieces, each in a transaction of its own: between them another hart sees the first alone.
+    (
+        Image::WithFile(60, b""),
+        &[
+            Do(0, Open(b"/f", WRITE), Fd(0)),
+            Do(1, Open(b"/f", READ), Fd(0)),
+            Start(0, Fill(0, 0, 3073)),
+            Upto(0, Kind::Join, 1),
+            Do(1, Fstat(0), State(2, NodeType::File, 1, 0)),
+            Upto(0, Kind::Leave, 1),
+            Do(1, Fstat(0), State(2, NodeType::File, 1, 3072)),
+            End(0, Count(3073)),
+            Do(1, Fstat(0), State(2, NodeType::File, 1, 3073)),
+        ],
+        (2, 0, 5),
+    ),
+    // One of 3072 bytes goes in one.
+    (
+        Image::WithFile(60, b""),
+        &[
+            Do(0, Open(b"/f", WRITE), Fd(0)),
+            Do(1, Open(b"/f", READ), Fd(0)),
+            Start(0, Fill(0, 0, 3072)),
+            Upto(0, Kind::Join, 1),
+            Do(1, Fstat(0), State(2, NodeType::File, 1, 0)),
+            Upto(0, Kind::Leave, 1),
+            Do(1, Fstat(0), State(2, NodeType::File, 1, 3072)),
+            End(0, Count(3072)),
+            Do(1, Fstat(0), State(2, NodeType::File, 1, 3072)),
+        ],
+        (2, 0, 4),
+    ),
+    // What one hart writes another one reads.
+    (
+        Image::WithFile(60, b"A"),
+        &[
+            Do(0, Open(b"/f", READ_AND_WRITE), Fd(0)),
+            Do(1, Open(b"/f", READ), Fd(0)),
+            Do(0, Write(0, b"hello"), Count(5)),
+            Do(1, Read(0, 8), Bytes(b"hello")),
+            Do(1, Read(0, 8), Count(0)),
+            Do(0, Write(0, b"!"), Count(1)),
+            Do(1, Read(0, 8), Bytes(b"!")),
+        ],
+        (2, 0, 2),
+    ),
+];
+
+/// Each row comes to what it tells, and is run again by its events.
 #[test]
-fn written_bytes_are_read(rt: HostRuntime) -> Result<(), Fail> {
-    let row = [
-        Do(0, Open(b"/f", READ_AND_WRITE), Fd(0)),
-        Do(1, Open(b"/f", READ), Fd(0)),
-        Do(0, Write(0, b"hello"), Count(5)),
-        Do(1, Read(0, 8), Bytes(b"hello")),
-        Do(1, Read(0, 8), Count(0)),
-        Do(0, Write(0, b"!"), Count(1)),
-        Do(1, Read(0, 8), Bytes(b"!")),
-    ];
-    let disk = plays(&rt, rt.alloc(), with_file(rt.alloc(), 400, b"A")?, &row);
-    let again = [
-        Do(1, Open(b"/f", READ), Fd(0)),
-        Do(1, Read(0, 8), Bytes(b"hello!")),
-    ];
-    let _disk = plays(&rt, rt.alloc(), disk, &again);
-    Ok(())
+fn rows_are_run(rt: HostRuntime) -> Result<(), Fail> {
+    are_run(&rt, rt.alloc(), ROWS)
+}
+
+// The lines of a content of so many bytes: it is written in pieces, and read in others by another hart.
+fn lines_of(
+    alloc: Global,
+    size: usize,
+    written: usize,
+    read: usize,
+) -> Result<Vec<Line<'static>>, AllocError> {
+    let mut lines = Vec::new(alloc);
+    lines.push(Do(0, Open(b"/f", WRITE), Fd(0)))?;
+    lines.push(Do(1, Open(b"/f", READ), Fd(0)))?;
+    for piece in 0..size.div_ceil(written.max(1)) {
+        let from = piece.saturating_mul(written);
+        let count = written.min(size.saturating_sub(from));
+        lines.push(Do(0, Fill(0, from, count), Count(told(count))))?;
+    }
+    for piece in 0..size.div_ceil(read.max(1)) {
+        let from = piece.saturating_mul(read);
+        let count = read.min(size.saturating_sub(from));
+        lines.push(Do(1, Read(0, read), Pattern(from, told(count))))?;
+    }
+    lines.push(Do(1, Read(0, read), Count(0)))?;
+    lines.push(Do(0, Fstat(0), State(2, NodeType::File, 1, size as u64)))?;
+    Ok(lines)
 }
 
 // A count as a reply tells it.
@@ -54,119 +167,10 @@ fn contents_have_all_sizes(rt: HostRuntime) -> Result<(), Fail> {
         (274_432, 1021, 274_432, 270),
     ];
     for (size, written, read, blocks) in sizes {
-        let mut world = mounted(&rt, rt.alloc(), with_file(rt.alloc(), 400, b"")?);
-        let opens = [
-            Do(0, Open(b"/f", WRITE), Fd(0)),
-            Do(1, Open(b"/f", READ), Fd(0)),
-        ];
-        assert!(rt; play(&rt, rt.alloc(), &mut world, &opens));
-        assert!(rt; written > 0 && read > 0);
-        for piece in 0..size.div_ceil(written) {
-            let from = piece.saturating_mul(written);
-            let count = written.min(size.saturating_sub(from));
-            let line = Do(0, Fill(0, from, count), Count(told(count)));
-            assert!(rt; play(&rt, rt.alloc(), &mut world, &[line]));
-        }
-        for piece in 0..size.div_ceil(read) {
-            let from = piece.saturating_mul(read);
-            let count = read.min(size.saturating_sub(from));
-            let line = Do(1, Read(0, read), Pattern(from, told(count)));
-            assert!(rt; play(&rt, rt.alloc(), &mut world, &[line]));
-        }
-        let state = State(2, NodeType::File, 1, size as u64);
-        assert!(rt;
-            play(
-                &rt,
-                rt.alloc(),
-                &mut world,
-                &[Do(1, Read(0, read), Count(0)), Do(0, Fstat(0), state)]
-            )
-        );
-        assert_eq!(rt;
-            counts(rt.alloc(), world.unmount())?,
-            (2, 0, blocks),
-            "of {size}"
-        );
+        let lines = lines_of(rt.alloc(), size, written, read)?;
+        let disk = disk_of(rt.alloc(), Image::WithFile(400, b""))?;
+        let (_made, disk) = play(&rt, rt.alloc(), disk, lines.as_slice())?;
+        assert_eq!(rt; counts(rt.alloc(), disk)?, (2, 0, blocks), "of {size}");
     }
-    Ok(())
-}
-
-/// A write of 3073 bytes goes in two pieces, each in a transaction of its own: between them another hart sees the first alone. One of
-/// 3072 bytes goes in one.
-#[test]
-fn a_long_write_goes_in_pieces(rt: HostRuntime) -> Result<(), Fail> {
-    for count in 3072..3074u32 {
-        let row = [
-            Do(0, Open(b"/f", WRITE), Fd(0)),
-            Do(1, Open(b"/f", READ), Fd(0)),
-            Start(0, Fill(0, 0, count as usize)),
-            Upto(0, Kind::Join, 1),
-            Do(1, Fstat(0), State(2, NodeType::File, 1, 0)),
-            Upto(0, Kind::Leave, 1),
-            Do(1, Fstat(0), State(2, NodeType::File, 1, 3072)),
-            End(0, Count(count)),
-            Do(1, Fstat(0), State(2, NodeType::File, 1, u64::from(count))),
-        ];
-        let _disk = plays(&rt, rt.alloc(), with_file(rt.alloc(), 400, b"")?, &row);
-    }
-    Ok(())
-}
-
-/// No file has more than 274,432 bytes: a piece that would end past them is refused, and those before it stay.
-#[test]
-fn a_write_ends_at_the_limit(rt: HostRuntime) -> Result<(), Fail> {
-    let row = [
-        Do(0, Open(b"/f", WRITE), Fd(0)),
-        Do(0, Fill(0, 0, 274_433), Failed(Cause::TooBig)),
-        Do(0, Fstat(0), State(2, NodeType::File, 1, 273_408)),
-        Do(0, Fill(0, 0, 1024), Count(1024)),
-        Do(0, Fstat(0), State(2, NodeType::File, 1, 274_432)),
-        Do(0, Write(0, b"x"), Failed(Cause::TooBig)),
-        Do(0, Fstat(0), State(2, NodeType::File, 1, 274_432)),
-    ];
-    let _disk = plays(&rt, rt.alloc(), with_file(rt.alloc(), 400, b"")?, &row);
-    Ok(())
-}
-
-/// A write by what isn't open to write is refused, also one of no bytes; and so is one past the end of a file that was emptied
-/// meanwhile. Of no bytes nothing else is tested.
-#[test]
-fn writes_are_refused(rt: HostRuntime) -> Result<(), Fail> {
-    let row = [
-        Do(0, Open(b"/f", READ_AND_WRITE), Fd(0)),
-        Do(0, Open(b"/f", READ), Fd(1)),
-        Do(0, Open(b"/", READ), Fd(2)),
-        Do(0, Write(1, b"x"), Failed(Cause::BadMode)),
-        Do(0, Write(1, b""), Failed(Cause::BadMode)),
-        Do(0, Write(2, b"x"), Failed(Cause::BadMode)),
-        Do(0, Write(3, b""), Failed(Cause::BadDescriptor)),
-        Do(0, Fill(0, 0, 524_289), Refused(StartRefused::TooLong)),
-        Do(0, Fstat(0), State(2, NodeType::File, 1, 1)),
-        Do(0, Fill(0, 0, 100), Count(100)),
-        Do(1, Open(b"/f", TRUNCATE), Fd(0)),
-        Do(0, Read(0, 10), Count(0)),
-        Do(0, Write(0, b"A"), Failed(Cause::BadOffset)),
-        Do(0, Write(0, b""), Count(0)),
-        Do(0, Fstat(0), State(2, NodeType::File, 1, 0)),
-    ];
-    let _disk = plays(&rt, rt.alloc(), with_file(rt.alloc(), 400, b"A")?, &row);
-    Ok(())
-}
-
-/// With 23 blocks free a file gets 22 and an indirect block: the write answers that there is no more, what comes before the missing
-/// block is written, and the image is in order.
-#[test]
-fn a_write_finds_no_block(rt: HostRuntime) -> Result<(), Fail> {
-    let row = [
-        Do(0, Open(b"/f", READ_AND_WRITE), Fd(0)),
-        Do(1, Open(b"/f", READ), Fd(0)),
-        Do(0, Fill(0, 0, 23_552), NoRoom(Full::Blocks)),
-        Do(0, Fstat(0), State(2, NodeType::File, 1, 22_528)),
-        Do(0, Write(0, b"x"), NoRoom(Full::Blocks)),
-        Do(0, Fstat(0), State(2, NodeType::File, 1, 22_528)),
-        Do(1, Read(0, 30_000), Pattern(0, 22_528)),
-    ];
-    let disk = plays(&rt, rt.alloc(), with_file(rt.alloc(), 60, b"")?, &row);
-    assert_eq!(rt; counts(rt.alloc(), disk)?, (2, 0, 24));
     Ok(())
 }

@@ -1,0 +1,157 @@
+//! Directories of few and many names, with free slots between them.
+use crate::images::{Image, counts, disk_of, name};
+use crate::lists::play;
+use crate::rows::Ask::{Close, Fstat, Link, Mkdir, Open, Read, Unlink};
+use crate::rows::Line::Do;
+use crate::rows::Says::{Bytes, Done, Failed, Fd, State};
+use crate::rows::{Line, READ};
+use plain_tree::{Cause, NodeType};
+use std::alloc::{AllocError, Global};
+use std::test::Fail;
+
+// A path in `/d`, and whether its name is there to stay, goes again, or comes later.
+#[derive(Clone, Copy)]
+struct Entry {
+    path: [u8; 7],
+    goes: bool,
+}
+
+fn path(number: u32) -> [u8; 7] {
+    let [a, b, c, d] = name(number);
+    [b'/', b'd', b'/', a, b, c, d]
+}
+
+// Names of the numbers below a count, those of which go whose number leaves this rest by this divisor.
+fn entries(alloc: Global, count: u32, divisor: u32, rest: u32) -> Result<Vec<Entry>, AllocError> {
+    let mut entries = Vec::new(alloc);
+    for number in 0..count {
+        entries.push(Entry {
+            path: path(number),
+            goes: number.checked_rem(divisor) == Some(rest),
+        })?;
+    }
+    Ok(entries)
+}
+
+// For each name that goes another one, and one more.
+fn later(alloc: Global, entries: &[Entry]) -> Result<Vec<[u8; 7]>, AllocError> {
+    let mut paths = Vec::new(alloc);
+    let mut number = 40_000u32;
+    paths.push(path(number))?;
+    for entry in entries {
+        number = number.saturating_add(1);
+        if entry.goes {
+            paths.push(path(number))?;
+        }
+    }
+    Ok(paths)
+}
+
+// A slot of this number and of a path's name; all zeros for a free one.
+fn push_slot(content: &mut Vec<u8>, number: u8, path: &[u8]) -> Result<(), AllocError> {
+    content.push(number)?;
+    content.push(0)?;
+    for i in 3..17 {
+        content.push(match path.get(i) {
+            Some(byte) => *byte,
+            None => 0,
+        })?;
+    }
+    Ok(())
+}
+
+// The directory's content. The free slots are those of later names in turn, and then those behind the last one.
+fn content(alloc: Global, entries: &[Entry], later: &[[u8; 7]]) -> Result<Vec<u8>, AllocError> {
+    let mut content = Vec::new(alloc);
+    push_slot(&mut content, 3, b"/d/.")?;
+    push_slot(&mut content, 1, b"/d/..")?;
+    let mut next = 0usize;
+    for entry in entries {
+        match later.get(next) {
+            Some(path) if entry.goes => push_slot(&mut content, 2, path)?,
+            None if entry.goes => push_slot(&mut content, 0, b"")?,
+            _ => push_slot(&mut content, 2, &entry.path)?,
+        }
+        if entry.goes {
+            next = next.saturating_add(1);
+        }
+    }
+    if let Some(path) = later.get(next) {
+        push_slot(&mut content, 2, path)?;
+    }
+    Ok(content)
+}
+
+// The names are entered, and then some go.
+fn push_changes<'a>(lines: &mut Vec<Line<'a>>, entries: &'a [Entry]) -> Result<(), AllocError> {
+    for entry in entries {
+        lines.push(Do(0, Link(b"/f", &entry.path), Done))?;
+    }
+    for entry in entries {
+        if entry.goes {
+            lines.push(Do(0, Unlink(&entry.path), Done))?;
+        }
+    }
+    Ok(())
+}
+
+// Each name is found that is there, and no other one; and the directory has this content.
+fn push_looks<'a>(
+    lines: &mut Vec<Line<'a>>,
+    entries: &'a [Entry],
+    content: &'a [u8],
+) -> Result<(), AllocError> {
+    for entry in entries {
+        if entry.goes {
+            lines.push(Do(0, Open(&entry.path, READ), Failed(Cause::NoEntry)))?;
+        } else {
+            lines.push(Do(0, Open(&entry.path, READ), Fd(0)))?;
+            lines.push(Do(0, Close(0), Done))?;
+        }
+    }
+    lines.push(Do(0, Open(b"/d/missing", READ), Failed(Cause::NoEntry)))?;
+    lines.push(Do(0, Open(b"/d/aaa", READ), Failed(Cause::NoEntry)))?;
+    lines.push(Do(0, Open(b"/d/aaaaa", READ), Failed(Cause::NoEntry)))?;
+    lines.push(Do(0, Open(b"/d", READ), Fd(0)))?;
+    let state = State(3, NodeType::Directory, 1, content.len() as u64);
+    lines.push(Do(0, Fstat(0), state))?;
+    lines.push(Do(0, Read(0, 20_000), Bytes(content)))?;
+    lines.push(Do(0, Close(0), Done))?;
+    Ok(())
+}
+
+/// Of each name of a directory it is known whether it is there, also where names went between others; and a new name goes into the first
+/// free slot, or behind the last one.
+#[test]
+fn names_take_free_slots(rt: HostRuntime) -> Result<(), Fail> {
+    // How many names, the divisor and the rest of those that go, and the blocks of the root and the directory at last.
+    let rows: [(u32, u32, u32, u32); 9] = [
+        (1, 5, 3, 2),
+        (1, 1, 0, 2),
+        (2, 2, 0, 2),
+        (2, 2, 1, 2),
+        (62, 61, 0, 3),
+        (64, 3, 1, 3),
+        (65, 63, 62, 3),
+        (65, 64, 62, 3),
+        (770, 97, 96, 15),
+    ];
+    for (count, divisor, rest, blocks) in rows {
+        let entries = entries(rt.alloc(), count, divisor, rest)?;
+        let later = later(rt.alloc(), entries.as_slice())?;
+        let old = content(rt.alloc(), entries.as_slice(), &[])?;
+        let new = content(rt.alloc(), entries.as_slice(), later.as_slice())?;
+        let mut lines = Vec::new(rt.alloc());
+        lines.push(Do(0, Mkdir(b"/d"), Done))?;
+        push_changes(&mut lines, entries.as_slice())?;
+        push_looks(&mut lines, entries.as_slice(), old.as_slice())?;
+        for path in later.as_slice() {
+            lines.push(Do(0, Link(b"/f", path), Done))?;
+        }
+        push_looks(&mut lines, entries.as_slice(), new.as_slice())?;
+        let disk = disk_of(rt.alloc(), Image::WithFile(60, b""))?;
+        let (_made, disk) = play(&rt, rt.alloc(), disk, lines.as_slice())?;
+        assert_eq!(rt; counts(rt.alloc(), disk)?, (3, 0, blocks), "of {count}");
+    }
+    Ok(())
+}

@@ -1,0 +1,431 @@
+//! Rows as lists of events: how they are played, what a run makes of them, and where a device has failed in it.
+use crate::images::{counts, disk_of};
+use crate::rows::{Ask, Line, Row, Says, call, is_told};
+use block_device::{Device, MemoryDisk};
+use fs_machine::Kind;
+use hart_core::{Came, Event, Outcome, Run, StartRefused, Stop, World, run, trace};
+use plain_tree::{Call, Trace};
+use std::alloc::{AllocError, Global};
+use std::process::Abort;
+use std::test::Fail;
+
+// No call here takes as many steps.
+const MOST_STEPS: u32 = 100_000;
+
+/// What lines have made of a world: its events, in their order, and what each of them came to.
+#[derive(Drop)]
+pub struct Made {
+    pub events: Vec<Event>,
+    pub outcomes: Vec<Came>,
+}
+
+impl Made {
+    fn is_last(&self, says: &Says) -> bool {
+        match self.outcomes.last() {
+            Some(came) => is_told(came, says),
+            None => false,
+        }
+    }
+
+    // What ran in the last event, where its call goes on.
+    fn last_kind(&self) -> Option<Kind> {
+        kind_of(self.outcomes.last()?)
+    }
+}
+
+fn kind_of(came: &Came) -> Option<Kind> {
+    match came {
+        Came::Stepped(Outcome::Ran(kind)) => Some(*kind),
+        _ => None,
+    }
+}
+
+// One event more.
+fn make(world: &mut World<MemoryDisk>, made: &mut Made, event: Event) -> Result<(), AllocError> {
+    made.events.push(event.clone()?)?;
+    let came = world.event(event);
+    made.outcomes.push(came)?;
+    Ok(())
+}
+
+// At most so many steps of a hart, until so many of a kind have run, or to one that doesn't run and leave the call under way.
+fn go_on(
+    world: &mut World<MemoryDisk>,
+    made: &mut Made,
+    hart: u8,
+    kind: Kind,
+    count: u32,
+    most: u32,
+) -> Result<(), AllocError> {
+    let mut left = count;
+    for _ in 0..most {
+        make(world, made, Event::Step { hart })?;
+        let ran = made.last_kind();
+        if ran == Some(kind) {
+            left = left.saturating_sub(1);
+        }
+        if ran.is_none() || left == 0 {
+            return Ok(());
+        }
+    }
+    Ok(())
+}
+
+// Steps to the call's end. No step of kind reply leaves its call under way.
+fn end(world: &mut World<MemoryDisk>, made: &mut Made, hart: u8) -> Result<(), AllocError> {
+    go_on(world, made, hart, Kind::Reply, 1, MOST_STEPS)
+}
+
+// Steps of the harts from 0 on in turn: whether the call of each ends with what is told.
+fn take_turns(
+    world: &mut World<MemoryDisk>,
+    made: &mut Made,
+    all: &[Says],
+) -> Result<bool, AllocError> {
+    let mut ended = 0usize;
+    for turn in 0..MOST_STEPS {
+        let hart = turn % 8;
+        let Some(says) = all.get(hart as usize) else {
+            continue;
+        };
+        make(world, made, Event::Step { hart: hart as u8 })?;
+        if matches!(made.outcomes.last(), Some(Came::Stepped(Outcome::Done(_)))) {
+            ended = ended.saturating_add(1);
+            if !made.is_last(says) || ended == all.len() {
+                return Ok(made.is_last(says));
+            }
+        }
+    }
+    Ok(false)
+}
+
+// Plays a line, and answers whether it came to what it tells.
+fn tell(
+    alloc: Global,
+    world: &mut World<MemoryDisk>,
+    made: &mut Made,
+    line: &Line,
+) -> Result<bool, AllocError> {
+    match line {
+        Line::Do(hart, ask, says) => {
+            if start(alloc, world, made, *hart, ask)? {
+                end(world, made, *hart)?;
+            }
+            Ok(made.is_last(says))
+        }
+        Line::Start(hart, ask) => start(alloc, world, made, *hart, ask),
+        Line::Upto(hart, kind, count) => {
+            go_on(world, made, *hart, *kind, *count, MOST_STEPS)?;
+            Ok(made.is_last(&Says::Ran(*kind)))
+        }
+        Line::Steps(hart, most) => {
+            go_on(world, made, *hart, Kind::Reply, 1, *most)?;
+            Ok(true)
+        }
+        Line::End(hart, says) => {
+            end(world, made, *hart)?;
+            Ok(made.is_last(says))
+        }
+        Line::All(says) => take_turns(world, made, *says),
+    }
+}
+
+fn start(
+    alloc: Global,
+    world: &mut World<MemoryDisk>,
+    made: &mut Made,
+    hart: u8,
+    ask: &Ask,
+) -> Result<bool, AllocError> {
+    let call = call(alloc, ask)?;
+    make(world, made, Event::Start { hart, call })?;
+    Ok(made.is_last(&Says::Started))
+}
+
+// Plays lines, up to the first one that doesn't come to what it tells: its number.
+fn tell_all(
+    alloc: Global,
+    world: &mut World<MemoryDisk>,
+    made: &mut Made,
+    lines: &[Line],
+) -> Result<Option<usize>, AllocError> {
+    for (number, line) in lines.iter().enumerate() {
+        if !tell(alloc, world, made, line)? {
+            return Ok(Some(number));
+        }
+    }
+    Ok(None)
+}
+
+/// A world over a device that doesn't fail in the mount. Where memory was refused the device that is handed back is mounted once more.
+pub fn mounted<D: Device + Drop>(alloc: Global, device: D) -> Result<World<D>, Fail> {
+    let device = match World::mount(alloc, device) {
+        Ok(world) => return Ok(world),
+        Err((device, _)) => device,
+    };
+    match World::mount(alloc, device) {
+        Ok(world) => Ok(world),
+        Err(_) => Err(Fail::new("it isn't mounted")),
+    }
+}
+
+// Plays lines over a new world: what they made, the disk, and the number of the line that didn't come to what it tells.
+fn try_play(
+    alloc: Global,
+    disk: MemoryDisk,
+    lines: &[Line],
+) -> Result<(Made, MemoryDisk, Option<usize>), Fail> {
+    let mut made = Made {
+        events: Vec::new(alloc),
+        outcomes: Vec::new(alloc),
+    };
+    let mut world = mounted(alloc, disk)?;
+    let missed = tell_all(alloc, &mut world, &mut made, lines);
+    let disk = world.unmount();
+    Ok((made, disk, missed?))
+}
+
+/// Plays lines over a new world of a disk, each of which comes to what it tells, and gives the disk back.
+pub fn play(
+    rt: &impl Abort,
+    alloc: Global,
+    disk: MemoryDisk,
+    lines: &[Line],
+) -> Result<(Made, MemoryDisk), Fail> {
+    let (made, disk, missed) = try_play(alloc, disk, lines)?;
+    assert_eq!(rt; missed, None, "this line");
+    Ok((made, disk))
+}
+
+/// These events over a world. Where memory is short the world is handed back as it was, and ends.
+pub fn ran<D: Device + Drop>(
+    alloc: Global,
+    world: World<D>,
+    events: &[Event],
+) -> Result<Run<D>, Fail> {
+    match run(alloc, world, events) {
+        Ok(run) => Ok(run),
+        Err((world, _)) => {
+            let _device = world.unmount();
+            Err(Fail::from(AllocError))
+        }
+    }
+}
+
+/// What a list of events came to, the device then, and the run's cut and doubt.
+#[derive(Drop)]
+pub struct Ended<D: Device + Drop> {
+    pub device: D,
+    pub outcomes: Vec<Came>,
+    pub cut: Option<u64>,
+    pub doubt: Option<u64>,
+}
+
+/// These events over a new world of a device that doesn't fail in the mount. Then the world ends.
+pub fn run_over<D: Device + Drop>(
+    alloc: Global,
+    device: D,
+    events: &[Event],
+) -> Result<Ended<D>, Fail> {
+    let Run {
+        world,
+        outcomes,
+        cut,
+        doubt,
+    } = ran(alloc, mounted(alloc, device)?, events)?;
+    Ok(Ended {
+        device: world.unmount(),
+        outcomes,
+        cut,
+        doubt,
+    })
+}
+
+pub fn traced(alloc: Global, made: &Made) -> Result<Trace, AllocError> {
+    match trace(alloc, made.events.as_slice(), made.outcomes.as_slice()) {
+        Ok(trace) => Ok(trace),
+        Err(_) => Err(AllocError),
+    }
+}
+
+fn is_same_outcome(came: &Outcome, wanted: &Outcome) -> bool {
+    match (came, wanted) {
+        (Outcome::Idle, Outcome::Idle) => true,
+        (Outcome::Waits, Outcome::Waits) => true,
+        (Outcome::Ran(a), Outcome::Ran(b)) => a == b,
+        (Outcome::Done(a), Outcome::Done(b)) => a.answer == b.answer && a.call == b.call,
+        (Outcome::Stopped(a), Outcome::Stopped(b)) => a == b,
+        _ => false,
+    }
+}
+
+fn is_same(came: &Came, wanted: &Came) -> bool {
+    match (came, wanted) {
+        (Came::Started, Came::Started) => true,
+        (Came::Refused(a), Came::Refused(b)) => a == b,
+        (Came::Stepped(a), Came::Stepped(b)) => is_same_outcome(a, b),
+        _ => false,
+    }
+}
+
+fn are_same(outcomes: &[Came], wanted: &[Came]) -> bool {
+    for (came, wanted) in outcomes.iter().zip(wanted.iter()) {
+        if !is_same(came, wanted) {
+            return false;
+        }
+    }
+    outcomes.len() == wanted.len()
+}
+
+// Whether `run` makes of these events, over a new world of a disk, the same outcomes, in their order, and the same bytes of the disk.
+// Its cut is the leave behind which the last head was written.
+fn is_run(alloc: Global, disk: MemoryDisk, made: &Made, bytes: &[u8]) -> Result<bool, Fail> {
+    let groups = groups_in(alloc, made.outcomes.as_slice())?;
+    let last = groups.as_slice().last().map(|group| group.leave);
+    let Ended {
+        device,
+        outcomes,
+        cut,
+        doubt,
+    } = run_over(alloc, disk, made.events.as_slice())?;
+    let again = device.into_bytes();
+    Ok(
+        are_same(outcomes.as_slice(), made.outcomes.as_slice())
+            && again.as_slice() == bytes
+            && cut == last
+            && doubt.is_none(),
+    )
+}
+
+/// Each row comes to what it tells, line by line, and leaves what it tells; and `run` makes the same of its events.
+pub fn are_run(rt: &impl Abort, alloc: Global, rows: &[Row]) -> Result<(), Fail> {
+    for (number, (image, lines, left)) in rows.iter().enumerate() {
+        let (made, disk, missed) = try_play(alloc, disk_of(alloc, *image)?, *lines)?;
+        assert_eq!(rt; missed, None, "this line of row {number}");
+        let bytes = disk.into_bytes();
+        let disk = disk_of(alloc, *image)?;
+        assert!(rt;
+            is_run(alloc, disk, &made, bytes.as_slice())?,
+            "row {number}"
+        );
+        let disk = MemoryDisk::new(bytes);
+        assert_eq!(rt; counts(alloc, disk)?, *left, "row {number}");
+    }
+    Ok(())
+}
+
+/// A group's commit: the events of the leave that began it, and of its writes. These are the copies in the log, the head, as many
+/// blocks at home, and the head again.
+#[derive(Drop)]
+pub struct Group {
+    pub leave: u64,
+    pub writes: Vec<u64>,
+}
+
+impl Group {
+    pub fn copies(&self) -> usize {
+        self.writes.len().saturating_sub(2) / 2
+    }
+
+    /// The event that wrote the head which names the group's blocks.
+    pub fn head(&self) -> Option<u64> {
+        self.writes.get(self.copies()).copied()
+    }
+}
+
+/// The commits of a run, by what its events came to. Each of them has come to its end.
+pub fn groups_in(alloc: Global, outcomes: &[Came]) -> Result<Vec<Group>, AllocError> {
+    let mut groups: Vec<Group> = Vec::new(alloc);
+    let mut leave = None;
+    for (event, came) in outcomes.iter().enumerate() {
+        let kind = kind_of(came);
+        if kind == Some(Kind::Leave) {
+            leave = Some(event as u64);
+        }
+        if kind == Some(Kind::Commit) {
+            if let Some(leave) = leave {
+                groups.push(Group {
+                    leave,
+                    writes: Vec::new(alloc),
+                })?;
+            }
+            leave = None;
+            if let Some(group) = groups.last_mut() {
+                group.writes.push(event as u64)?;
+            }
+        }
+    }
+    Ok(groups)
+}
+
+// The calls of the harts that are under way, each with its child.
+#[derive(Clone, Copy)]
+struct Calls {
+    harts: [Option<Option<u8>>; 8],
+}
+
+impl Calls {
+    fn is_there(&self, hart: u8) -> bool {
+        matches!(self.harts.get(hart as usize), Some(Some(_)))
+    }
+
+    // Whether a hart is the child of a call that is there.
+    fn is_child(&self, hart: u8) -> bool {
+        self.harts.contains(&Some(Some(hart)))
+    }
+
+    fn note(&mut self, event: &Event, came: &Came) {
+        let (hart, call) = match (event, came) {
+            (Event::Start { hart, call }, Came::Started) => (*hart, Some(child_of(call))),
+            (Event::Step { hart }, Came::Stepped(Outcome::Done(_))) => (*hart, None),
+            _ => return,
+        };
+        if let Some(place) = self.harts.get_mut(hart as usize) {
+            *place = call;
+        }
+    }
+
+    // Whether an event of a stopped world comes to this: starts are taken as before, and no call goes on.
+    fn is_halted(&self, event: &Event, came: &Came) -> bool {
+        match (event, came) {
+            (Event::Start { hart, call: _ }, Came::Started) => {
+                !self.is_there(*hart) && !self.is_child(*hart)
+            }
+            (Event::Start { hart, call: _ }, Came::Refused(StartRefused::Busy)) => {
+                self.is_there(*hart) || self.is_child(*hart)
+            }
+            (Event::Step { hart }, Came::Stepped(Outcome::Stopped(Stop::Halted))) => {
+                self.is_there(*hart)
+            }
+            (Event::Step { hart }, Came::Stepped(Outcome::Idle)) => !self.is_there(*hart),
+            _ => false,
+        }
+    }
+}
+
+fn child_of(call: &Call) -> Option<u8> {
+    match call {
+        Call::Inherit { child } => Some(*child),
+        _ => None,
+    }
+}
+
+/// Where the device failed in a run, in which step: up to there each event came to what it did without that, and from then on no call
+/// goes on. None where it came to its end.
+pub fn stopped_at(rt: &impl Abort, made: &Made, outcomes: &[Came]) -> Option<u64> {
+    let mut calls = Calls { harts: [None; 8] };
+    let mut stopped = None;
+    assert_eq!(rt; outcomes.len(), made.events.len());
+    let wanted = made.events.iter().zip(made.outcomes.iter());
+    for (number, ((event, wanted), came)) in wanted.zip(outcomes.iter()).enumerate() {
+        if stopped.is_some() {
+            assert!(rt; calls.is_halted(event, came), "event {number}");
+        } else if matches!(came, Came::Stepped(Outcome::Stopped(Stop::DeviceFault))) {
+            stopped = Some(number as u64);
+        } else {
+            assert!(rt; is_same(came, wanted), "event {number}");
+        }
+        calls.note(event, came);
+    }
+    stopped
+}
