@@ -95,19 +95,22 @@ fn a_run_goes_on(rt: HostRuntime) -> Result<(), Fail> {
     let row = [Do(2, Dup(1), Failed(Cause::BadDescriptor))];
     let (made, disk) = play(&rt, rt.alloc(), disk_of(rt.alloc(), SMALL)?, &row)?;
     let Made { events, outcomes } = made;
+    let Some((begin, rest)) = events.as_slice().split_at_checked(1) else {
+        return Err(Fail::new("there is no event"));
+    };
     let world = mounted(rt.alloc(), disk)?;
     let Run {
         world,
         outcomes: first,
         cut: _,
         doubt: _,
-    } = ran(rt.alloc(), world, &events.as_slice()[..1])?;
+    } = ran(rt.alloc(), world, begin)?;
     let Run {
         world,
         outcomes: second,
         cut: _,
         doubt: _,
-    } = ran(rt.alloc(), world, &events.as_slice()[1..])?;
+    } = ran(rt.alloc(), world, rest)?;
     let _disk = world.unmount();
     assert!(rt; first.len() == 1 && second.len() + 1 == outcomes.len());
     assert!(rt;
