@@ -1,44 +1,10 @@
-//! Images made by hand, byte by byte, and what their examination answers.
-ghost use Rattle.std.specs.Prelude.{◌<◌};
-
+//! What the examination of images answers that are made by hand.
+use crate::by_hand::{Change, FRESH, fresh, put, with};
 use block_device::{Device, Fused, MemoryDisk};
 use image_tree::{MountFault, Shape};
 use plain_tree::{Kind, Slot, Tree};
 use std::alloc::{AllocError, Global};
 use std::test::Fail;
-
-// Bytes to write at a place of an image.
-pub type Change = (usize, &'static [u8]);
-
-fn put(image: &mut [u8], at: usize, bytes: &[u8]) {
-    for i in 0..bytes.len() {
-        if let Some(byte) = image.get_mut(at.saturating_add(i)) {
-            *byte = bytes[i];
-        }
-    }
-}
-
-pub fn with(alloc: Global, blocks: usize, changes: &[Change]) -> Result<Vec<u8>, AllocError>
-    requires { blocks < 8192 }
-{
-    let mut image = vec![in alloc; 0u8; blocks * 1024]?;
-    for change in changes {
-        put(&mut image, change.0, change.1);
-    }
-    Ok(image)
-}
-
-// 2000 blocks, 200 inodes, a log of 31 blocks, and a root without names in block 47.
-const FRESH: [Change; 5] = [
-    (
-        1024,
-        b"\x40\x30\x20\x10\xd0\x07\0\0\xa1\x07\0\0\xc8\0\0\0\x1f\0\0\0\x02\0\0\0\x21\0\0\0\x2e\0\0\0",
-    ),
-    (33856, b"\x01\0\0\0\0\0\x01\0\0\x04\0\0\x2f\0\0\0"),
-    (47104, b"\xff\xff\xff\xff\xff\xff"),
-    (48128, b"\x01\0."),
-    (48144, b"\x01\0.."),
-];
 
 // 40 blocks, 16 inodes, a log of 30 blocks, and a root without names in block 34.
 const SMALL: [Change; 5] = [
@@ -74,14 +40,6 @@ fn answer(outcome: &Result<Shape, MountFault>) -> u8 {
         Ok(_) => 0,
         Err(fault) => fault.number(),
     }
-}
-
-pub fn fresh(alloc: Global, changes: &[Change]) -> Result<MemoryDisk, AllocError> {
-    let mut image = with(alloc, 2000, &FRESH)?;
-    for change in changes {
-        put(&mut image, change.0, change.1);
-    }
-    Ok(MemoryDisk::new(image))
 }
 
 #[test]

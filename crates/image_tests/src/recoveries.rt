@@ -1,5 +1,6 @@
 //! Recovery that is stopped at each call of the device in turn.
-use crate::images::{examine, fresh};
+use crate::by_hand::fresh;
+use crate::images::examine;
 use block_device::{Device, Fused, MemoryDisk};
 use image_tree::{Damage, MountFault, Shape, recover, recovered_tree};
 use plain_tree::{Kind, Tree};

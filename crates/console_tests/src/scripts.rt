@@ -1,11 +1,11 @@
 //! What no clause says: the lines that are printed, the statuses, and that the calls can succeed.
-use crate::images::{Change, fresh};
 use block_device::{Fused, MemoryDisk};
 use clap::error::ErrorKind;
 use console::{ConsoleFault, Session, run_on, run_script, status};
 use console_parts::{Mode, Schedule, Tail, options};
 use fs_machine::Kind;
 use hart_core::Stop;
+use image_tests::by_hand::{Change, fresh};
 use image_tree::MountFault;
 use mkfs::{MakeRefused, make};
 use script::{CallLine, Command, Reason, ScriptFault, parse};

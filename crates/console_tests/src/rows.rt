@@ -1,8 +1,8 @@
 //! Scripts of several harts, with all that they print.
-use crate::images::{Change, with};
 use crate::scripts::{disk, disk_with_f, image_after, run, run_in};
 use block_device::BLOCK_SIZE;
 use console_parts::Mode;
+use image_tests::by_hand::{Change, with};
 use std::alloc::{AllocError, Global};
 use std::process::Abort;
 use std::test::Fail;

@@ -1,0 +1,10 @@
+//! Tests of the console: what scripts print, and how they end. They stand here, above the crate that they run, and beside the tests of
+//! images, so that the gate proves both at once.
+#![tactic(auto)]
+
+#[cfg(test)]
+mod histories;
+#[cfg(test)]
+mod rows;
+#[cfg(test)]
+mod scripts;
