@@ -29,4 +29,6 @@ mod trees;
 #[cfg(test)]
 mod unlinks;
 #[cfg(test)]
+mod worked;
+#[cfg(test)]
 mod writes;
