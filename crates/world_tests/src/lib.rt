@@ -9,6 +9,10 @@ mod creates;
 #[cfg(test)]
 mod directories;
 #[cfg(test)]
+mod everywhere;
+#[cfg(test)]
+mod histories;
+#[cfg(test)]
 mod images;
 #[cfg(test)]
 mod inherits;

@@ -241,6 +241,19 @@ pub fn run_over<D: Device + Drop>(
     })
 }
 
+/// At most so many first ones.
+pub fn first<T>(items: &[T], count: usize) -> &[T] {
+    match items.split_at_checked(count) {
+        Some((first, _)) => first,
+        None => items,
+    }
+}
+
+/// A disk that was mounted again, and so recovered.
+pub fn mounted_again(alloc: Global, disk: MemoryDisk) -> Result<MemoryDisk, Fail> {
+    Ok(mounted(alloc, disk)?.unmount())
+}
+
 pub fn traced(alloc: Global, made: &Made) -> Result<Trace, AllocError> {
     match trace(alloc, made.events.as_slice(), made.outcomes.as_slice()) {
         Ok(trace) => Ok(trace),

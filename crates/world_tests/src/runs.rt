@@ -1,4 +1,5 @@
 //! Lists of events: what they show of calls, and a list of tree steps that explains it.
+use crate::histories::explains;
 use crate::images::{Image, SMALL, counts, disk_of, tree_in};
 use crate::lists::{Ended, Made, mounted, play, ran, run_over, traced};
 use crate::rows::Ask::{Chdir, Close, Dup, Fill, Fstat, Inherit, Link, Open, Read, Unlink, Write};
@@ -7,18 +8,9 @@ use crate::rows::Says::{Done, Failed, Idle, Refused};
 use crate::rows::{Ask, LONG, READ, READ_AND_WRITE, TRUNCATE, call};
 use fs_machine::Kind;
 use hart_core::{Came, Event, Outcome, Run, StartRefused};
-use plain_tree::{
-    Action, Bytes, Cause, Placed, StepAnswer, Trace, TracedCall, Tree, TreeStep, check,
-};
+use plain_tree::{Action, Bytes, Cause, Placed, StepAnswer, Trace, TracedCall, TreeStep};
 use std::alloc::{AllocError, Global};
 use std::test::Fail;
-
-fn explains(alloc: Global, base: &Tree, trace: &Trace, list: &[Placed]) -> Result<bool, Fail> {
-    match check(alloc, base, trace, list) {
-        Ok(explains) => Ok(explains),
-        Err(_) => Err(Fail::from(AllocError)),
-    }
-}
 
 // A hart's step at an event, of a call of the trace.
 fn placed(event: u64, call: usize, hart: u8, action: Action, answer: StepAnswer) -> Placed {
