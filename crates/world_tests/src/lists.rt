@@ -127,6 +127,9 @@ fn tell(
             Ok(made.is_last(says))
         }
         Line::All(says) => take_turns(world, made, *says),
+        Line::Between(call, calls, count) => {
+            come_between(alloc, world, made, *call, *calls, *count)
+        }
     }
 }
 
@@ -140,6 +143,87 @@ fn start(
     let call = call(alloc, ask)?;
     make(world, made, Event::Start { hart, call })?;
     Ok(made.is_last(&Says::Started))
+}
+
+// Hart 1 makes a call, or goes on with the one that waits. Whether it waits then.
+fn cut_in(
+    alloc: Global,
+    world: &mut World<MemoryDisk>,
+    made: &mut Made,
+    ask: &Ask,
+    waits: bool,
+) -> Result<bool, AllocError> {
+    if !waits {
+        start(alloc, world, made, 1, ask)?;
+    }
+    end(world, made, 1)?;
+    Ok(made.is_last(&Says::Waits))
+}
+
+// Hart 1 makes these calls.
+fn make_all(
+    alloc: Global,
+    world: &mut World<MemoryDisk>,
+    made: &mut Made,
+    calls: &[Ask],
+) -> Result<(), AllocError> {
+    for ask in calls {
+        cut_in(alloc, world, made, ask, false)?;
+    }
+    Ok(())
+}
+
+// Hart 0 goes on with its call to its end, and hart 1 makes calls, from this one on, before each step. Answers the next one.
+fn meet(
+    alloc: Global,
+    world: &mut World<MemoryDisk>,
+    made: &mut Made,
+    calls: &[Ask],
+    from: usize,
+) -> Result<usize, AllocError> {
+    let mut next = from;
+    let mut waits = false;
+    for _ in 0..MOST_STEPS {
+        let Some(ask) = calls.get(next) else {
+            next = 0;
+            continue;
+        };
+        waits = cut_in(alloc, world, made, ask, waits)?;
+        if !waits {
+            next = next.saturating_add(1);
+        }
+        make(world, made, Event::Step { hart: 0 })?;
+        if matches!(made.outcomes.last(), Some(Came::Stepped(Outcome::Done(_)))) {
+            break;
+        }
+    }
+    if waits {
+        end(world, made, 1)?;
+        next = next.saturating_add(1);
+    }
+    Ok(next)
+}
+
+// A call of hart 0 with calls of hart 1, so many of which come before it. Whether both harts are idle then.
+fn come_between(
+    alloc: Global,
+    world: &mut World<MemoryDisk>,
+    made: &mut Made,
+    call: &Ask,
+    calls: &[Ask],
+    count: usize,
+) -> Result<bool, AllocError> {
+    make_all(alloc, world, made, first(calls, count))?;
+    start(alloc, world, made, 0, call)?;
+    let next = meet(alloc, world, made, calls, count)?;
+    if let Some((_, rest)) = calls.split_at_checked(next) {
+        make_all(alloc, world, made, rest)?;
+    }
+    make_all(alloc, world, made, calls)?;
+    end(world, made, 0)?;
+    let is_idle = made.is_last(&Says::Idle);
+    end(world, made, 1)?;
+    Ok(is_idle && made.is_last(&Says::Idle))
 }
 
 // Plays lines, up to the first one that doesn't come to what it tells: its number.

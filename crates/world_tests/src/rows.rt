@@ -76,6 +76,9 @@ pub enum Line<'a> {
     End(u8, Says<'a>),
     /// Steps of the harts from 0 on in turn, until the call of each has ended.
     All(&'a [Says<'a>]),
+    /// A call of hart 0. Before each of its steps hart 1 makes a call, these in turn, so many of them before it starts; and at last all
+    /// of them once more.
+    Between(&'a Ask<'a>, &'a [Ask<'a>], usize),
 }
 
 /// An image, lines, and what is on the disk then: nodes with a name, nodes without one, and blocks of contents.
