@@ -5,6 +5,7 @@
 mod buffers;
 mod checks;
 mod devices;
+mod histories;
 mod images;
 mod locks;
 mod logs;

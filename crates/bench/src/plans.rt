@@ -28,6 +28,8 @@ pub enum Ask {
     Read(u32),
     Write(u32),
     Close,
+    /// From the first path to the second.
+    Link(&'static [u8], &'static [u8]),
     Unlink(&'static [u8]),
     Mkdir(&'static [u8]),
     Chdir(&'static [u8]),
@@ -58,7 +60,8 @@ fn bytes(alloc: Global, count: u32) -> Result<Bytes, AllocError> {
     Ok(Bytes::new(vec![in alloc; b'y'; count as usize]?))
 }
 
-fn call(alloc: Global, ask: Ask, hart: u8) -> Result<Call, AllocError> {
+/// The call, with this hart's number behind each path.
+pub fn call(alloc: Global, ask: Ask, hart: u8) -> Result<Call, AllocError> {
     match ask {
         Ask::Open(stem, flags) => {
             let path = path(alloc, stem, hart)?;
@@ -78,6 +81,11 @@ fn call(alloc: Global, ask: Ask, hart: u8) -> Result<Call, AllocError> {
             Ok(Call::Write { fd: FIRST, bytes })
         }
         Ask::Close => Ok(Call::Close { fd: FIRST }),
+        Ask::Link(old, new) => {
+            let old = path(alloc, old, hart)?;
+            let new = path(alloc, new, hart)?;
+            Ok(Call::Link { old, new })
+        }
         Ask::Unlink(stem) => {
             let path = path(alloc, stem, hart)?;
             Ok(Call::Unlink { path })
@@ -106,7 +114,9 @@ fn answer(ask: Ask, hart: u8) -> Answer {
         }),
         Ask::Stray => Answer::Failed(Cause::BadDescriptor),
         Ask::Read(count) | Ask::Write(count) => Answer::Count(count),
-        Ask::Close | Ask::Unlink(_) | Ask::Mkdir(_) | Ask::Chdir(_) => Answer::Done,
+        Ask::Close | Ask::Link(_, _) | Ask::Unlink(_) | Ask::Mkdir(_) | Ask::Chdir(_) => {
+            Answer::Done
+        }
     }
 }
 

@@ -1,6 +1,8 @@
 //! What is measured.
 use crate::worlds::Line;
-use crate::{buffers, checks, devices, images, locks, logs, records, tables, trees, worlds};
+use crate::{
+    buffers, checks, devices, histories, images, locks, logs, records, tables, trees, worlds,
+};
 use block_device::Fault;
 use std::alloc::{AllocError, Global};
 use thiserror::Error;
@@ -45,10 +47,11 @@ pub enum Workload {
     TreeStep,
     CheckEntry,
     World(Line),
+    ExplainEvent,
 }
 
 /// All of them with their names, in the order in which they run.
-pub const ALL: [(&str, Workload); 31] = [
+pub const ALL: [(&str, Workload); 32] = [
     ("device_read_block", Workload::DeviceRead),
     ("inode_read", Workload::InodeRead),
     ("inode_write", Workload::InodeWrite),
@@ -86,6 +89,7 @@ pub const ALL: [(&str, Workload); 31] = [
     ("write_3072_over", Workload::World(worlds::REWRITE)),
     ("write_274432_anew", Workload::World(worlds::WRITE_ANEW)),
     ("make_write_remove", Workload::World(worlds::REMOVE)),
+    ("explain_event", Workload::ExplainEvent),
 ];
 
 impl Workload {
@@ -113,6 +117,7 @@ impl Workload {
             Workload::TreeStep => trees::apply_steps(alloc),
             Workload::CheckEntry => checks::check_entries(alloc),
             Workload::World(line) => worlds::run(alloc, line),
+            Workload::ExplainEvent => histories::explain_events(alloc),
         }
     }
 }
