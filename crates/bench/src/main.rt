@@ -12,6 +12,7 @@ mod logs;
 mod plans;
 mod records;
 mod tables;
+mod threads;
 mod trees;
 mod workload;
 mod worlds;
@@ -29,7 +30,7 @@ fn main(rt: HostRuntime) -> anyhow::Result<()> {
             println!(rt; "{name}")?;
         } else if words.len() <= 1 || has(words, name) {
             let start = Instant::now(&rt)?;
-            let operations = workload.run(rt.alloc())?;
+            let operations = workload.run(&rt, rt.alloc())?;
             let tenths = start.elapsed(&rt)?.as_nanos().saturating_mul(10);
             let tenths = tenths.checked_div(u128::from(operations)).unwrap_or(0);
             println!(rt; "{name} {operations} {}.{}", tenths / 10, tenths % 10)?;

@@ -120,14 +120,27 @@ fn answer(ask: Ask, hart: u8) -> Answer {
     }
 }
 
+fn make_row(alloc: Global, hart: u8, ask: Ask) -> Result<Row, WorkloadError> {
+    Ok(Row {
+        hart,
+        call: call(alloc, ask, hart)?,
+        wanted: answer(ask, hart),
+    })
+}
+
 fn rows(alloc: Global, harts: u8, ask: Ask) -> Result<Vec<Row>, WorkloadError> {
     let mut rows = Vec::new(alloc);
     for hart in 0..harts {
-        rows.push(Row {
-            hart,
-            call: call(alloc, ask, hart)?,
-            wanted: answer(ask, hart),
-        })?;
+        rows.push(make_row(alloc, hart, ask)?)?;
+    }
+    Ok(rows)
+}
+
+/// The calls of one hart, one after the other.
+pub fn plan(alloc: Global, hart: u8, asks: &[Ask]) -> Result<Vec<Row>, WorkloadError> {
+    let mut rows = Vec::new(alloc);
+    for ask in asks.iter().copied() {
+        rows.push(make_row(alloc, hart, ask)?)?;
     }
     Ok(rows)
 }

@@ -1,10 +1,13 @@
 //! What is measured.
 use crate::worlds::Line;
 use crate::{
-    buffers, checks, devices, histories, images, locks, logs, records, tables, trees, worlds,
+    buffers, checks, devices, histories, images, locks, logs, records, tables, threads, trees,
+    worlds,
 };
 use block_device::Fault;
 use std::alloc::{AllocError, Global};
+use std::sync::Wait;
+use std::thread::Threads;
 use thiserror::Error;
 
 /// Why a workload did not run to its end.
@@ -47,11 +50,12 @@ pub enum Workload {
     TreeStep,
     CheckEntry,
     World(Line),
+    Threads,
     ExplainEvent,
 }
 
 /// All of them with their names, in the order in which they run.
-pub const ALL: [(&str, Workload); 32] = [
+pub const ALL: [(&str, Workload); 33] = [
     ("device_read_block", Workload::DeviceRead),
     ("inode_read", Workload::InodeRead),
     ("inode_write", Workload::InodeWrite),
@@ -89,12 +93,17 @@ pub const ALL: [(&str, Workload); 32] = [
     ("write_3072_over", Workload::World(worlds::REWRITE)),
     ("write_274432_anew", Workload::World(worlds::WRITE_ANEW)),
     ("make_write_remove", Workload::World(worlds::REMOVE)),
+    ("make_write_remove_over_4_threads", Workload::Threads),
     ("explain_event", Workload::ExplainEvent),
 ];
 
 impl Workload {
     /// Runs it, and says how many operations that were.
-    pub fn run(self, alloc: Global) -> Result<u64, WorkloadError> {
+    pub fn run<R: Threads + Wait + Sync>(
+        self,
+        rt: &R,
+        alloc: Global,
+    ) -> Result<u64, WorkloadError> {
         match self {
             Workload::DeviceRead => devices::read_blocks(alloc),
             Workload::InodeRead => records::read_inodes(),
@@ -117,6 +126,7 @@ impl Workload {
             Workload::TreeStep => trees::apply_steps(alloc),
             Workload::CheckEntry => checks::check_entries(alloc),
             Workload::World(line) => worlds::run(alloc, line),
+            Workload::Threads => threads::make_write_remove(rt, alloc),
             Workload::ExplainEvent => histories::explain_events(alloc),
         }
     }
