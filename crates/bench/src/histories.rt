@@ -25,8 +25,8 @@ const OWN: u8 = 7;
 
 const SHARED: u8 = 0;
 
-// What a hart calls, again and again. It asks for the state of a file of the image: the number of a new one is not the first free one of
-// the tree where harts meet, and a search that has to find it goes back again and again.
+// What a hart calls, again and again. It asks for the state of a file of the image: that of a file which harts have just made tells its number,
+// which no hint does, and the search for it takes minutes or more.
 const WORK: [(u8, Ask); 18] = [
     (OWN, Ask::Mkdir(b"/d")),
     (OWN, Ask::Chdir(b"/d")),
