@@ -18,5 +18,12 @@ mod tell;
 mod verb;
 
 pub use crate::fault::{ConsoleFault, status};
-pub use crate::run::{run_on, run_script};
-pub use crate::session::Session;
+pub use crate::lines::{Course, call_of, course_of};
+pub use crate::notes::{Notes, What, what_of, what_of_step};
+pub use crate::queues::Queues;
+pub use crate::run::{
+    LONGEST_SCRIPT, finish, image_disk, most_noted, read_script, run_on, run_script,
+};
+pub use crate::session::{Session, hart_in};
+pub use crate::tell::write_refused;
+pub use crate::verb::Verb;

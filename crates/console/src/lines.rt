@@ -15,8 +15,8 @@ use std::alloc::{AllocError, Global};
 /// The most bytes that one call reads or writes.
 const LONGEST_PART: usize = 524_288;
 
-/// The lines that the schedule round has.
-const START: &str = "H CALL .. with H from 0 to 7, in the schedule round";
+/// The lines that the schedule round has, and a script for threads.
+const START: &str = "H CALL .. with H from 0 to 7, in the schedule round or by threads";
 
 /// What a fill writes.
 const FILLER: u8 = b'x';

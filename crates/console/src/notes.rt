@@ -42,7 +42,8 @@ pub fn what_of(verb: Verb, came: &Came) -> Option<What>
     }
 }
 
-fn what_of_step(outcome: &Outcome) -> Option<What>
+/// What is noted of a step.
+pub fn what_of_step(outcome: &Outcome) -> Option<What>
     ensures { result ≡ what_of_step outcome.now }
 {
     match outcome {

@@ -1,5 +1,5 @@
 //! The calls that each hart is still to start by itself.
-ghost use Rattle.std.specs.Prelude.{◌≡◌, ◌<◌, OnOk, option_map};
+ghost use Rattle.std.specs.Prelude.{◌≡◌, ◌<◌, OnOk, map, option_map};
 ghost use Rattle.script.specs.Said.{call_said};
 ghost use Rattle.console.specs.Queues.{TakesNext, none_left, with_last};
 
@@ -65,5 +65,13 @@ impl Queues {
         } else {
             None
         }
+    }
+
+    /// The queues themselves, hart by hart.
+    pub fn into_calls(self) -> [VecDeque<CallLine>; HARTS]
+        ensures { map (λ calls. map call_said calls.items) result ≡ self }
+    {
+        let Queues { calls } = self;
+        calls
     }
 }

@@ -45,7 +45,8 @@ fn fresh_image(alloc: Global) -> Result<MemoryDisk, ConsoleFault>
     }
 }
 
-fn image_disk(alloc: Global, image: Option<Vec<u8>>) -> Result<MemoryDisk, ConsoleFault>
+/// A disk of the image, or of a fresh one.
+pub fn image_disk(alloc: Global, image: Option<Vec<u8>>) -> Result<MemoryDisk, ConsoleFault>
     ensures disk { IfOk result (λ disk. disk ≡ bytes_for image) }
     ensures memory { IfErr result (λ fault. fault ≡ Memory) }
 {
@@ -140,8 +141,8 @@ pub fn run_on<D: Device, R: Read + Drop, W: Write>(
     run_text(alloc, session, mode, image, text.as_slice(), out)
 }
 
-// The text of a script that isn't longer than the longest.
-fn read_script<R: Read + Drop>(
+/// The text of a script that isn't longer than the longest.
+pub fn read_script<R: Read + Drop>(
     alloc: Global,
     script: R,
     longest: u64,
@@ -206,8 +207,8 @@ fn run_course<D: Device, W: Write>(
     finish(alloc, out, mode, image, &desk.notes, ended)
 }
 
-// Prints what stands after all answers, where the lines came to their end or a call was stopped.
-fn finish<W: Write>(
+/// Prints what stands after all answers, where the lines came to their end or a call was stopped.
+pub fn finish<W: Write>(
     alloc: Global,
     out: &mut W,
     mode: Mode,
@@ -230,8 +231,8 @@ fn finish<W: Write>(
     }
 }
 
-// How many events have to be noted.
-fn most_noted(mode: Mode) -> u32
+/// How many events have to be noted.
+pub fn most_noted(mode: Mode) -> u32
     ensures { result ≡ most_noted mode }
 {
     if mode.timeline { u32::MAX } else { mode.last }

@@ -58,8 +58,8 @@ fn write_outcome<W: Write>(out: &mut W, hart: u8, verb: Verb, outcome: &Outcome)
     }
 }
 
-// The line of a call that wasn't started.
-fn write_refused<W: Write>(
+/// The line of a call that wasn't started.
+pub fn write_refused<W: Write>(
     out: &mut W,
     hart: u8,
     name: &str,

@@ -322,7 +322,7 @@ fn harts_take_turns(rt: HostRuntime) -> Result<(), Fail> {
         let text = format!(in rt.alloc(); "{fault}")?;
         assert!(rt;
             text.as_str()
-                == "line 2: bad command\nwanted: H CALL .. with H from 0 to 7, in the schedule round",
+                == "line 2: bad command\nwanted: H CALL .. with H from 0 to 7, in the schedule round or by threads",
             "{text}"
         );
     }
