@@ -2,7 +2,7 @@
 ghost use Rattle.std.specs.Prelude.{◌≡◌, codes, false, map, option_map, string_bytes, IfOk, Some};
 ghost use Rattle.clap.specs.Words.{app_of, fault_of, found_of, matches_of, one_text, rows_of, rule_of, FailsBy};
 ghost use Rattle.console_parts.specs.Modes.{schedule_named, HasMode, IsFlag, IsNumber};
-ghost use Rattle.console_parts.specs.Options.{check_rule, console_app, console_line, explain_rule, image_rule, last_rule, printing_app, running_app, save_rule, schedule_rule, timeline_rule};
+ghost use Rattle.console_parts.specs.Options.{check_rule, console_app, console_line, explain_rule, image_rule, last_rule, printing_app, running_app, save_rule, schedule_rule, scheduled_app, threads_rule, timeline_rule};
 
 use crate::mode::{Mode, Schedule};
 use clap::{Arg, ArgAction, ArgMatches, Command, Error};
@@ -34,6 +34,9 @@ pub const CHECK: &str = "check";
 
 /// In which order the lines are run.
 pub const SCHEDULE: &str = "schedule";
+
+/// Each hart has a thread.
+pub const THREADS: &str = "threads";
 
 /// How many of the last events are printed.
 pub const LAST: &str = "last";
@@ -100,6 +103,16 @@ fn schedule<'a>(alloc: Global) -> Arg<'a>
         .help("How lines are run: listed, in their order, or round, by harts that take turns")
 }
 
+fn threads<'a>(alloc: Global) -> Arg<'a>
+    ensures rule { rule_of result ≡ threads_rule }
+    ensures local { result.global ≡ false }
+{
+    Arg::new(alloc, THREADS)
+        .long(THREADS)
+        .action(ArgAction::SetTrue)
+        .help("Runs each hart's lines by a thread of its own, in no schedule")
+}
+
 fn last<'a>(alloc: Global) -> Arg<'a>
     ensures rule { rule_of result ≡ last_rule }
     ensures local { result.global ≡ false }
@@ -132,15 +145,20 @@ fn explain<'a>(alloc: Global) -> Arg<'a>
         .help("Prints the steps, one after the other, that explain the answers")
 }
 
-// With what is run, and how.
+// With what is run, and in which order.
+fn scheduled<'a>(alloc: Global) -> Result<Command<'a>, AllocError>
+    ensures { IfOk result (λ command. app_of command ≡ scheduled_app) }
+{
+    let named = named(alloc)?;
+    named.arg(image(alloc))?.arg(schedule(alloc))
+}
+
+// And how.
 fn running<'a>(alloc: Global) -> Result<Command<'a>, AllocError>
     ensures { IfOk result (λ command. app_of command ≡ running_app) }
 {
-    let named = named(alloc)?;
-    named
-        .arg(image(alloc))?
-        .arg(schedule(alloc))?
-        .arg(last(alloc))
+    let scheduled = scheduled(alloc)?;
+    scheduled.arg(threads(alloc))?.arg(last(alloc))
 }
 
 // And with what is printed after all answers.
@@ -210,6 +228,13 @@ pub fn mode_of(matches: &ArgMatches) -> Option<Mode>
         explain,
         check,
     })
+}
+
+/// Whether each hart is to have a thread.
+pub fn has_threads(matches: &ArgMatches) -> bool
+    ensures { IsFlag (one_text (found_of matches.now) (codes "threads")) result }
+{
+    flag_in(matches, THREADS)
 }
 
 /// Reads a command line, the program's name first. After an `Ok` the values are those that the words give; an error
