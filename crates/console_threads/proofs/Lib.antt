@@ -1,0 +1,7 @@
+pub mod Answering
+pub mod Asking
+pub mod Closing
+pub mod Ending
+pub mod Starting
+pub mod Telling
+pub mod Working

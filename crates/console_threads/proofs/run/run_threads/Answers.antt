@@ -1,0 +1,22 @@
+use Rattle.std.proofs.Common.{rules, ◌≡◌, subst, IfErr, IfOk}
+use Rattle.block_device.specs.Blocks.{blocks_of}
+use Rattle.console.specs.Images.{bytes_for}
+use Rattle.image_tree.specs.Damage.{IsWellFormed}
+use Rattle.console_threads.specs.Faults.{JudgesRun}
+use Rattle.console_threads.specs.Runs.{RunsThreads}
+use Rattle.console_threads.proofs.run.run_threads.Goals as goal
+
+pub returns-clause-runs : goal.returns-clause-runs
+returns-clause-runs g c =
+    let same : c.into_bytes-image.result.items ≡ bytes_for c.args.image = search rules in
+    subst (λ image. RunsThreads c.args.mode image (g.S.Read.remaining c.args.script) c.run_over.result (g.W.Write.contents c.args.out.now) (g.W.Write.contents c.run_over.new.out)) same c.run_over.ensures.runs
+
+pub returns-clause-mounted : goal.returns-clause-mounted
+returns-clause-mounted g c =
+    let same : c.into_bytes-image.result.items ≡ bytes_for c.args.image = search rules in
+    subst (λ image. IfOk c.run_over.result (λ d. IsWellFormed (blocks_of image))) same c.run_over.ensures.mounted
+
+pub returns-clause-refused : goal.returns-clause-refused
+returns-clause-refused g c =
+    let same : c.into_bytes-image.result.items ≡ bytes_for c.args.image = search rules in
+    subst (λ image. IfErr c.run_over.result (JudgesRun (blocks_of image))) same c.run_over.ensures.refused
