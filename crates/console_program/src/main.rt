@@ -1,4 +1,4 @@
-//! `console [IMAGE] [--schedule listed|round] [--last N] [--timeline] [--explain] [--check] [--save FILE]`: runs a script from standard input on a file system, and prints its answers.
+//! `console [IMAGE] [--schedule listed|round] [--threads] [--last N] [--timeline] [--explain] [--check] [--save FILE]`: runs a script from standard input on a file system, and prints its answers.
 //!
 //! Faults are told in this order: the command line (status 2), an IMAGE file that can't be read or an image that isn't
 //! taken (status 1), the script (status 1 or 2), a FILE that can't be written (status 1). Want of memory is told where it
@@ -8,11 +8,14 @@
 use clap::ArgMatches;
 use clap::error::ErrorKind;
 use console::{ConsoleFault, run_script, status};
-use console_parts::{IMAGE, SAVE, mode_of, options};
+use console_parts::{IMAGE, SAVE, has_threads, mode_of, options};
+use console_threads::{ThreadsFault, run_threads};
 use image_files::{SaveRefused, read_image, save};
 use std::alloc::AllocError;
 use std::io::{BufWriter, Write};
 use std::process::ExitCode;
+use std::sync::Wait;
+use std::thread::Threads;
 use std::{env, io};
 use thiserror::Error;
 
@@ -30,6 +33,9 @@ enum Fault<'a> {
     Image(&'a str, io::Error),
     #[error("{0}")]
     Run(ConsoleFault),
+    /// What there is by threads alone.
+    #[error("{0}")]
+    Threads(ThreadsFault),
     /// The image can't be saved.
     #[error("{0}")]
     Save(SaveRefused),
@@ -44,6 +50,15 @@ impl<'a> From<AllocError> for Fault<'a> {
 impl<'a> From<ConsoleFault> for Fault<'a> {
     fn from(fault: ConsoleFault) -> Fault<'a> {
         Fault::Run(fault)
+    }
+}
+
+impl<'a> From<ThreadsFault> for Fault<'a> {
+    fn from(fault: ThreadsFault) -> Fault<'a> {
+        match fault {
+            ThreadsFault::Console(fault) => Fault::Run(fault),
+            fault => Fault::Threads(fault),
+        }
     }
 }
 
@@ -87,6 +102,7 @@ impl<'a> Fault<'a> {
             Fault::Words(_) | Fault::Schedule => 2,
             Fault::Image(..) | Fault::Save(_) => 1,
             Fault::Run(fault) => status(fault),
+            Fault::Threads(fault) => console_threads::status(fault),
         }
     }
 }
@@ -109,7 +125,11 @@ fn words(rt: &HostRuntime) -> Result<Vec<String>, Fault<'static>> {
 }
 
 // Runs what the command line asks for. What was answered before a fault is printed.
-fn run<'a>(rt: &HostRuntime, matches: &'a ArgMatches) -> Result<(), Fault<'a>> {
+fn run<'a, R: Threads + Wait + Sync>(
+    rt: &HostRuntime,
+    threads: &R,
+    matches: &'a ArgMatches,
+) -> Result<(), Fault<'a>> {
     let Some(mode) = mode_of(matches) else {
         return Err(Fault::Schedule);
     };
@@ -126,7 +146,14 @@ fn run<'a>(rt: &HostRuntime, matches: &'a ArgMatches) -> Result<(), Fault<'a>> {
     let mut out = BufWriter::new(rt.alloc(), io::writer(rt)).map_err(|error| Fault::of_answers(
         error,
     ))?;
-    let ran = run_script(rt.alloc(), image, mode, rt.reader(), &mut out);
+    let ran = if has_threads(matches) && !mode.check {
+        run_threads(threads, rt.alloc(), image, mode, rt.reader(), &mut out)
+    } else {
+        match run_script(rt.alloc(), image, mode, rt.reader(), &mut out) {
+            Ok(disk) => Ok(disk),
+            Err(fault) => Err(ThreadsFault::Console(fault)),
+        }
+    };
     out.flush().map_err(|error| Fault::of_answers(error))?;
     let disk = ran?;
     if let Some(path) = place {
@@ -156,7 +183,7 @@ fn main(rt: HostRuntime) -> anyhow::Result<ExitCode> {
             return Ok(ExitCode::from(error.exit_code() as u8));
         }
     };
-    match run(&rt, &matches) {
+    match run(&rt, &rt, &matches) {
         Ok(()) => Ok(ExitCode::SUCCESS),
         Err(fault) => {
             tell(&rt, &fault)?;
