@@ -7,6 +7,8 @@ mod kernels;
 #[cfg(test)]
 mod meeting;
 #[cfg(test)]
+mod scripts;
+#[cfg(test)]
 mod seats;
 #[cfg(test)]
 mod work;
