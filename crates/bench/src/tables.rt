@@ -1,4 +1,6 @@
 //! The tables of inodes in memory, each of whose fifty places is taken.
+ghost use Rattle.std.specs.Prelude.{◌≡◌, []};
+
 use crate::records::inode_of_size;
 use crate::workload::WorkloadError;
 use fs_tables::{Dropped, Listed, MEMORY_INODES, Reference, Tables};
@@ -16,8 +18,7 @@ pub const LAST: u32 = MEMORY_INODES as u32;
 
 /// A loaded inode's lock taken and given back: one operation is both.
 pub fn lock_and_unlock(alloc: Global, number: u32) -> Result<u64, WorkloadError> {
-    let mut tables = Tables::new(alloc)?;
-    let held = all_referred_to(&mut tables);
+    let (mut tables, held) = referred_to(alloc)?;
     load(&mut tables, number);
     let mut done = 0u64;
     for _ in 0..OPERATIONS {
@@ -35,8 +36,7 @@ pub fn lock_and_unlock(alloc: Global, number: u32) -> Result<u64, WorkloadError>
 
 /// A reference counted up and down, with a look at the count before each: one operation is both.
 pub fn up_and_down(alloc: Global, number: u32) -> Result<u64, WorkloadError> {
-    let mut tables = Tables::new(alloc)?;
-    let held = all_referred_to(&mut tables);
+    let (mut tables, held) = referred_to(alloc)?;
     let mut done = 0u64;
     for _ in 0..OPERATIONS {
         if 1000 <= tables.references(number) {
@@ -78,9 +78,26 @@ fn told(done: u64) -> Result<u64, WorkloadError> {
     }
 }
 
-// A reference to each of fifty inodes, but for the root, to which the harts' directories are.
-fn all_referred_to(tables: &mut Tables) -> Listed {
-    let mut held = Listed::new();
+// The tables, and a reference to each of fifty inodes, but for the root, to which the harts' directories are.
+fn referred_to(alloc: Global) -> Result<(Tables, Listed), WorkloadError> {
+    let none = Listed::new(alloc)?;
+    match Tables::new(alloc) {
+        Ok(mut tables) => {
+            let held = all_referred_to(&mut tables, none);
+            Ok((tables, held))
+        }
+        Err(failed) => {
+            none.end();
+            Err(failed.into())
+        }
+    }
+}
+
+// What is held, and a reference to each of fifty inodes.
+fn all_referred_to(tables: &mut Tables, none: Listed) -> Listed
+    requires { none ≡ [] }
+{
+    let mut held = none;
     for number in 2..LAST + 1 {
         if tables.references(number) < 1000 {
             match tables.up(number) {

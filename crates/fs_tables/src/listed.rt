@@ -1,18 +1,20 @@
 // References that a call keeps to its end.
-ghost use Rattle.std.specs.Prelude.{◌≡◌, ◌<◌, List, [], ◌∷◌, ◌++◌, length, MatchOption};
+ghost use Rattle.std.specs.Prelude.{◌≡◌, ◌<◌, List, [], ◌∷◌, ◌++◌, length, IfOk, MatchOption};
 
 use crate::inodes::Reference;
 use crate::limits::MOST_LISTED;
 use arrayvec::ArrayVec;
 use sleep_lock::RetiredSlots;
+use std::alloc::{AllocError, Global};
 use std::marker::Model;
 
 /// References that a call keeps: each is the last one to a dead inode, and the call frees the inode at its end. There is room for
-/// one for each element of two paths. A contract sees the inodes' numbers.
+/// one for each element of two paths, in memory of its own, so that who has it moves no more than where it is. A contract sees the
+/// inodes' numbers.
 ///
 /// Code that lets a list go doesn't compile: an empty one is ended, or any after the tables have ended.
 pub struct Listed {
-    numbers: ArrayVec<u32, MOST_LISTED>,
+    numbers: Box<ArrayVec<u32, MOST_LISTED>>,
 }
 
 impl Model for Listed {
@@ -20,17 +22,16 @@ impl Model for Listed {
 
     ghost Value = { List ℕ };
 
-    ghost view = { λ l. l.numbers.items };
+    ghost view = { λ l. l.numbers.value.items };
 }
 
 impl Listed {
-    /// None yet.
-    pub fn new() -> Listed
-        ensures { result ≡ [] }
+    /// None yet, and the memory for all of them.
+    pub fn new(alloc: Global) -> Result<Listed, AllocError>
+        ensures { IfOk result (λ list. list ≡ []) }
     {
-        Listed {
-            numbers: ArrayVec::new(),
-        }
+        let numbers = Box::new(alloc, ArrayVec::new())?;
+        Ok(Listed { numbers })
     }
 
     /// One more, behind the others.

@@ -373,7 +373,7 @@ has_tail h s (tail.Join e n) fits = tt
 has_tail h s (tail.Lock e n txn) fits = tt
 has_tail h s (tail.Loading e n txn guard m) fits = first (load_of m) _ (has_load m)
 has_tail h s (tail.Freeing e txn m) fits = first (free_inode_of m) _ (has_free_inode m)
-has_tail h s (tail.Say reply) fits = tt
+has_tail h s (tail.Say reply list) fits = tt
 
 has_give : (m : GiveUp) → HasOne (give_of m)
 unfolding give_of
@@ -395,13 +395,13 @@ has_install h s (installing.Emptying e txn m) fits = first (truncate_of m) _ (ha
 
 has_open : (h : ℕ) (s : State) (m : OpenOld) → OpenOldFits h s m → HasOne (open_old_of m)
 unfolding open_old_of OpenOldFits
-has_open h s (opening.Join o) fits = tt
+has_open h s (opening.Join o list) fits = tt
 has_open h s (opening.Reaching o txn m) fits = first (reach_of o.path m) _ (has_reach o.path m)
 has_open h s (opening.Installing m) fits = has_install h s m fits
 
 has_chdir : (h : ℕ) (s : State) (m : Chdir) → ChdirFits h s m → HasOne (chdir_of m)
 unfolding chdir_of ChdirFits
-has_chdir h s (chdir.Join on) fits = tt
+has_chdir h s (chdir.Join on list) fits = tt
 has_chdir h s (chdir.Reaching on txn m) fits = first (reach_of on.path m) _ (has_reach on.path m)
 has_chdir h s (chdir.Settle on txn list held) fits = tt
 
@@ -413,7 +413,7 @@ has_lower h s (lowering.Child e txn child m) fits = first (store_of m) _ (has_st
 
 has_unlink : (h : ℕ) (s : State) (m : Unlink) → UnlinkFits h s m → HasOne (unlink_of m)
 unfolding unlink_of UnlinkFits
-has_unlink h s (unlinking.Join on) fits = tt
+has_unlink h s (unlinking.Join on list) fits = tt
 has_unlink h s (unlinking.Seeking on txn m) fits = first (seek_of on.path m) _ (has_seek on.path m)
 has_unlink h s (unlinking.Refer r txn n) fits = tt
 has_unlink h s (unlinking.Taking r txn m) fits = first (take_of m) _ (has_take m)
@@ -447,7 +447,7 @@ has_make e (making.Giving parent what give) = first (give_of give) _ (has_give g
 
 has_create : (h : ℕ) (s : State) (m : OpenNew) → OpenNewFits h s m → HasOne (open_new_of m)
 unfolding open_new_of OpenNewFits
-has_create h s (creating.Join o) fits = tt
+has_create h s (creating.Join o list) fits = tt
 has_create h s (creating.Seeking o txn m) fits = first (seek_of o.path m) _ (has_seek o.path m)
 has_create h s (creating.Up o txn list held n) fits = tt
 has_create h s (creating.Leaving o txn list n m) fits = first (give_of m) _ (has_give m)
@@ -458,7 +458,7 @@ has_create h s (creating.Opens m) fits = has_open h s m fits
 
 has_mkdir : (h : ℕ) (s : State) (m : Mkdir) → MkdirFits h s m → HasOne (mkdir_of m)
 unfolding mkdir_of MkdirFits
-has_mkdir h s (mkdir.Join on) fits = tt
+has_mkdir h s (mkdir.Join on list) fits = tt
 has_mkdir h s (mkdir.Seeking on txn m) fits = first (seek_of on.path m) _ (has_seek on.path m)
 has_mkdir h s (mkdir.Making on txn list e links m) fits = first (make_of (name_in on.path e) m) _ (has_make (name_in on.path e) m)
 has_mkdir h s (mkdir.Raising on txn list parent child m) fits = first (store_of m) _ (has_store m)
@@ -474,7 +474,7 @@ has_add h s (adding.Lowering m) fits = has_lower h s m fits
 
 has_link : (h : ℕ) (s : State) (m : Link) → LinkFits h s m → HasOne (link_of m)
 unfolding link_of LinkFits
-has_link h s (linking.Join l) fits = tt
+has_link h s (linking.Join l list) fits = tt
 has_link h s (linking.Reaching l txn m) fits = first (reach_of l.old m) _ (has_reach l.old m)
 has_link h s (linking.Raising l txn list held m) fits = first (store_of m) _ (has_store m)
 has_link h s (linking.Unlock l txn list held) fits = tt
@@ -496,11 +496,11 @@ has_running h s (running.Create m) fits = has_create h s m fits
 has_running h s (running.Link m) fits = has_link h s m fits
 has_running h s (running.Mkdir m) fits = has_mkdir h s m fits
 has_running h s (running.Chdir m) fits = has_chdir h s m fits
-has_running h s (running.Dup m) fits = has_dup m
-has_running h s (running.Close m) fits = has_close h s m fits
-has_running h s (running.Fstat m) fits = has_fstat m
-has_running h s (running.Read m) fits = has_read_call m
-has_running h s (running.Write m) fits = has_write_call h s m fits
+has_running h s (running.Dup m list) fits = has_dup m
+has_running h s (running.Close m list) fits = has_close h s m fits.0
+has_running h s (running.Fstat m list) fits = has_fstat m
+has_running h s (running.Read m list) fits = has_read_call m
+has_running h s (running.Write m list) fits = has_write_call h s m fits.0
 has_running h s (running.Unlink m) fits = has_unlink h s m fits
-has_running h s (running.Inherit m) fits = has_inherit h s m fits
+has_running h s (running.Inherit m list) fits = has_inherit h s m fits.0
 has_running h s (running.Ends m) fits = has_quit h s m fits

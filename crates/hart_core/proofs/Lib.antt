@@ -1,6 +1,7 @@
 pub mod Staying
 pub mod Beginning
 pub mod Stepping
+pub mod Seats
 pub mod Mounted
 pub mod Refusals
 pub mod Lasting

@@ -314,7 +314,7 @@ module _ (h g : ℕ) (s t : State) (other : h ≢ g) (leaves : LeavesTied g s t)
   tails (tail.Lock e n txn) fits = fits
   tails (tail.Loading e n txn guard m) fits = (fits.0, fits.1, own_inode n guard fits.2, load m fits.3)
   tails (tail.Freeing e txn m) fits = (fits.0, fits.1, frees m fits.2)
-  tails (tail.Say reply) fits = fits
+  tails (tail.Say reply list) fits = fits
 
   gives : (m : GiveUp) → GiveFits h s m → GiveFits h t m
   unfolding GiveFits
@@ -336,13 +336,13 @@ module _ (h g : ℕ) (s t : State) (other : h ≢ g) (leaves : LeavesTied g s t)
 
   opens : (m : OpenOld) → OpenOldFits h s m → OpenOldFits h t m
   unfolding OpenOldFits
-  opens (opening.Join o) fits = fits
+  opens (opening.Join o list) fits = fits
   opens (opening.Reaching o txn m) fits = (fits.0, fits.1, reaches o.path m fits.2)
   opens (opening.Installing m) fits = installs m fits
 
   chdirs : (m : Chdir) → ChdirFits h s m → ChdirFits h t m
   unfolding ChdirFits
-  chdirs (chdir.Join on) fits = fits
+  chdirs (chdir.Join on list) fits = fits
   chdirs (chdir.Reaching on txn m) fits = (fits.0, fits.1, reaches on.path m fits.2)
   chdirs (chdir.Settle on txn list held) fits = (fits.0, fits.1, is_held held fits.2)
 
@@ -360,7 +360,7 @@ module _ (h g : ℕ) (s t : State) (other : h ≢ g) (leaves : LeavesTied g s t)
 
   unlinks : (m : Unlink) → UnlinkFits h s m → UnlinkFits h t m
   unfolding UnlinkFits
-  unlinks (unlinking.Join on) fits = fits
+  unlinks (unlinking.Join on list) fits = fits
   unlinks (unlinking.Seeking on txn m) fits = (fits.0, fits.1, seeks on.path m fits.2)
   unlinks (unlinking.Refer r txn n) fits = (fits.0, removing r fits.1)
   unlinks (unlinking.Taking r txn m) fits = (fits.0, removing r fits.1, takes m fits.2, fits.3)
@@ -397,7 +397,7 @@ module _ (h g : ℕ) (s t : State) (other : h ≢ g) (leaves : LeavesTied g s t)
 
   creates : (m : OpenNew) → OpenNewFits h s m → OpenNewFits h t m
   unfolding OpenNewFits
-  creates (creating.Join o) fits = fits
+  creates (creating.Join o list) fits = fits
   creates (creating.Seeking o txn m) fits = (fits.0, fits.1, seeks o.path m fits.2)
   creates (creating.Up o txn list held n) fits = (fits.0, fits.1, is_held held fits.2)
   creates (creating.Leaving o txn list n m) fits = (fits.0, fits.1, gives m fits.2)
@@ -408,7 +408,7 @@ module _ (h g : ℕ) (s t : State) (other : h ≢ g) (leaves : LeavesTied g s t)
 
   mkdirs : (m : Mkdir) → MkdirFits h s m → MkdirFits h t m
   unfolding MkdirFits
-  mkdirs (mkdir.Join on) fits = fits
+  mkdirs (mkdir.Join on list) fits = fits
   mkdirs (mkdir.Seeking on txn m) fits = (fits.0, fits.1, seeks on.path m fits.2)
   mkdirs (mkdir.Making on txn list e links m) fits = (fits.0, fits.1, fits.2, fits.3, makes m fits.4)
   mkdirs (mkdir.Raising on txn list parent child m) fits = (fits.0, fits.1, is_held parent fits.2, is_held child fits.3, fits.4, store m fits.5)
@@ -424,7 +424,7 @@ module _ (h g : ℕ) (s t : State) (other : h ≢ g) (leaves : LeavesTied g s t)
 
   links : (m : Link) → LinkFits h s m → LinkFits h t m
   unfolding LinkFits
-  links (linking.Join l) fits = fits
+  links (linking.Join l list) fits = fits
   links (linking.Reaching l txn m) fits = (fits.0, fits.1, fits.2, reaches l.old m fits.3)
   links (linking.Raising l txn list held m) fits = (fits.0, fits.1, fits.2, is_held held fits.3, store m fits.4)
   links (linking.Unlock l txn list held) fits = (fits.0, fits.1, fits.2, is_held held fits.3)
@@ -446,11 +446,11 @@ module _ (h g : ℕ) (s t : State) (other : h ≢ g) (leaves : LeavesTied g s t)
   stays (running.Link m) fits = links m fits
   stays (running.Mkdir m) fits = mkdirs m fits
   stays (running.Chdir m) fits = chdirs m fits
-  stays (running.Dup m) fits = fits
-  stays (running.Close m) fits = closes m fits
-  stays (running.Fstat m) fits = stats m fits
-  stays (running.Read m) fits = read_calls m fits
-  stays (running.Write m) fits = write_calls m fits
+  stays (running.Dup m list) fits = fits
+  stays (running.Close m list) fits = (closes m fits.0, fits.1)
+  stays (running.Fstat m list) fits = (stats m fits.0, fits.1)
+  stays (running.Read m list) fits = (read_calls m fits.0, fits.1)
+  stays (running.Write m list) fits = (write_calls m fits.0, fits.1)
   stays (running.Unlink m) fits = unlinks m fits
-  stays (running.Inherit m) fits = inherits m fits
+  stays (running.Inherit m list) fits = (inherits m fits.0, fits.1)
   stays (running.Ends m) fits = quits m fits

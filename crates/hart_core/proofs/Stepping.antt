@@ -21,6 +21,8 @@ use Rattle.fs_machine.specs.Machines.{P, Moves, said_in}
 use Rattle.fs_machine.specs.Tied.{LeavesTied}
 use Rattle.syscalls.specs.declared.running.Running.{Running}
 use Rattle.syscalls.specs.Machines.{running_of, RunningFits}
+use Rattle.syscalls.specs.Spent.{reply_in}
+use Rattle.syscalls.specs.declared.answered.Answered.{Answered}
 use Rattle.hart_core.specs.Blocks.{blocks, code}
 use Rattle.hart_core.specs.Harts.{HartFits, AllFit, AreHarts}
 use Rattle.hart_core.proofs.Beginning.{HasOne, has_running}
@@ -40,10 +42,10 @@ plain_same (Do op m k) = λ i. Do op (λ a. no_mark (m a) i) (λ a. plain_same (
 -- ---- a step
 
 -- what a machine's step is to its hart
-abbrev pub made : Stepped Running Reply Kind → State → HartMade blocks code
+abbrev pub made : Stepped Running Answered Kind → State → HartMade blocks code
 made (Waits m) t = record { came = DidWait; left = Some (running_of m); shared = t; stopped = false }
 made (Ran m kind) t = record { came = DidRun kind; left = Some (running_of m); shared = t; stopped = false }
-made (Done reply kind) t = record { came = DidEnd reply; left = None; shared = t; stopped = false }
+made (Done answered kind) t = record { came = DidEnd answered.reply; left = None; shared = t; stopped = false }
 made (Stopped m) t = record { came = DidStop; left = Some (running_of m); shared = t; stopped = true }
 
 moved_on : (p : P Reply) (kind : Kind) (t : State) → HasOne p → hart_moved blocks code false kind p t ≡ record { came = DidRun kind; left = Some p; shared = t; stopped = false }
@@ -51,17 +53,17 @@ moved_on (Ret a) kind t has = absurd has
 moved_on (Do op m k) kind t has = refl
 
 module _ (h : ℕ) (self : Running) (s t : State) where
-  pub waited : (m : Running) → Moves running_of (λ x. x) h self (Waits m) s t → running_of m ≡ running_of self → t ≡ s → hart_step blocks code h Passes s false (Some (running_of self)) ≡ made (Waits m) t
+  pub waited : (m : Running) → Moves running_of reply_in h self (Waits m) s t → running_of m ≡ running_of self → t ≡ s → hart_step blocks code h Passes s false (Some (running_of self)) ≡ made (Waits m) t
   waited m moves is same = hart_advances blocks code h Passes s (running_of self) _ moves ∙ (λ i. record { came = DidWait; left = Some (sym is i); shared = sym same i; stopped = false })
 
-  pub ran : (m : Running) (kind : Kind) → Moves running_of (λ x. x) h self (Ran m kind) s t → RunningFits h t m → hart_step blocks code h Passes s false (Some (running_of self)) ≡ made (Ran m kind) t
+  pub ran : (m : Running) (kind : Kind) → Moves running_of reply_in h self (Ran m kind) s t → RunningFits h t m → hart_step blocks code h Passes s false (Some (running_of self)) ≡ made (Ran m kind) t
   ran m kind moves fits = hart_advances blocks code h Passes s (running_of self) _ moves ∙ moved_on (running_of m) kind t (has_running h t m fits)
 
-  pub ended : (reply : Reply) (kind : Kind) → Moves running_of (λ x. x) h self (Done reply kind) s t → hart_step blocks code h Passes s false (Some (running_of self)) ≡ made (Done reply kind) t
-  ended reply kind moves = hart_advances blocks code h Passes s (running_of self) _ moves
+  pub ended : (answered : Answered) (kind : Kind) → Moves running_of reply_in h self (Done answered kind) s t → hart_step blocks code h Passes s false (Some (running_of self)) ≡ made (Done answered kind) t
+  ended answered kind moves = hart_advances blocks code h Passes s (running_of self) _ moves
 
-  pub broke : (m : Running) → Moves running_of (λ x. x) h self (Stopped m) s t → running_of m ≡ running_of self → hart_step blocks code h (said_in {M = Running} {R = Reply} (Stopped m) t) s false (Some (running_of self)) ≡ made (Stopped m) t
-  broke m moves is = hart_advances blocks code h (said_in {M = Running} {R = Reply} (Stopped m) t) s (running_of self) _ moves ∙ (λ i. record { came = DidStop; left = Some (sym is i); shared = t; stopped = true })
+  pub broke : (m : Running) → Moves running_of reply_in h self (Stopped m) s t → running_of m ≡ running_of self → hart_step blocks code h (said_in {M = Running} {R = Answered} (Stopped m) t) s false (Some (running_of self)) ≡ made (Stopped m) t
+  broke m moves is = hart_advances blocks code h (said_in {M = Running} {R = Answered} (Stopped m) t) s (running_of self) _ moves ∙ (λ i. record { came = DidStop; left = Some (sym is i); shared = t; stopped = true })
 
 -- ---- the table
 

@@ -122,8 +122,8 @@ module _ (sizes : Super) (children : ℕ → Option ℕ) where
   -- ---- a start
 
   -- the hart has no call, and this one begins
-  begun_blocks : (h : ℕ) (m : Running) (p q : Plain blocks code) (o : Option (P Reply)) → o ≡ None → plain_start blocks code h (running_of m) p o ≡ record { came = Started; after = q } → record p { running = changed p.running h (Some (plain (running_of m))) } ≡ q
-  begun_blocks h m p q o none makes = ap (λ (x : PlainMade blocks code). x.after) (ap (plain_start blocks code h (running_of m) p) (sym none) ∙ makes)
+  begun_blocks : (h : ℕ) (r : P Reply) (p q : Plain blocks code) (o : Option (P Reply)) → o ≡ None → plain_start blocks code h r p o ≡ record { came = Started; after = q } → record p { running = changed p.running h (Some (plain r)) } ≡ q
+  begun_blocks h r p q o none makes = ap (λ (x : PlainMade blocks code). x.after) (ap (plain_start blocks code h r p) (sym none) ∙ makes)
 
 -- who has a call
 abbrev calling : (ℕ → Option (P Reply)) → ℕ → Bool
@@ -138,13 +138,13 @@ module _ (sizes : Super) (h : ℕ) (call : Call) where
       → plain_start (block_calls sizes) (block_code sizes) h call p o ≡ record { came = Started; after = record p { shared = with_child p.shared; running = changed p.running h (Some (plain ((block_calls sizes).program call))) } }
   begun_calls p o none begins = ap (plain_start (block_calls sizes) (block_code sizes) h call p) none ∙ ap (plain_begun (block_calls sizes) (block_code sizes) h call p) begins
 
-  pub start_in : (m : Running) (children : ℕ → Option ℕ) (p q : Plain blocks code) → p.running h ≡ None → begin_in h call (calling p.running) (with_them sizes children p.shared) (with_child (with_them sizes children p.shared)) ≡ Begins (with_child (with_them sizes children p.shared))
-      → running_of m ≡ plain ((block_calls sizes).program call) → plain_makes blocks code (Start h (running_of m)) p ≡ record { came = Started; after = q }
+  pub start_in : (children : ℕ → Option ℕ) (p q : Plain blocks code) → p.running h ≡ None → begin_in h call (calling p.running) (with_them sizes children p.shared) (with_child (with_them sizes children p.shared)) ≡ Begins (with_child (with_them sizes children p.shared))
+      → plain_makes blocks code (Start h (plain ((block_calls sizes).program call))) p ≡ record { came = Started; after = q }
       → plain_makes (block_calls sizes) (block_code sizes) (Start h call) (as_calls sizes children p) ≡ record { came = Started; after = as_calls sizes (put children h (child_of call)) q }
-  start_in m children p q none begins program makes =
+  start_in children p q none begins makes =
       begun_calls (as_calls sizes children p) (p.running h) none begins
-      ∙ (λ i. record { came = Started; after = as_calls sizes (put children h (child_of call)) (record p { running = changed p.running h (Some ((sym program ∙ sym (plain_same (running_of m))) i)) }) })
-      ∙ (λ i. record { came = Started; after = as_calls sizes (put children h (child_of call)) (begun_blocks sizes children h m p q (p.running h) none makes i) })
+      ∙ (λ i. record { came = Started; after = as_calls sizes (put children h (child_of call)) (record p { running = changed p.running h (Some (sym (plain_same (plain ((block_calls sizes).program call))) i)) }) })
+      ∙ (λ i. record { came = Started; after = as_calls sizes (put children h (child_of call)) (begun_blocks sizes children h (plain ((block_calls sizes).program call)) p q (p.running h) none makes i) })
 
   -- it is refused
   refused_by : (p : Plain (block_calls sizes) (block_code sizes)) (o : Option (P Reply)) (why : calls.Refusal) → o ≡ None → begin_in h call (calling p.running) p.shared (with_child p.shared) ≡ Refuses why
@@ -254,13 +254,13 @@ module _ {D : Type 0} (contents : D → List (List ℕ)) (failures : D → ℕ) 
   pub idle_at : refusal_of w h call ≡ None → slice_get w.calls h ≡ Some None
   idle_at e = let m = start_allowed contents failures sizes w long h call bytes e in let lt = m.below in idle_there w.calls h (omega (arith, lt, long)) m.idle
 
-  pub made_start : (m : Running) (new : HartsOf D) → refusal_of w h call ≡ None → running_of m ≡ plain ((block_calls sizes).program call)
-      → plain_makes blocks code (Start h (running_of m)) (programs_of contents failures w) ≡ record { came = Started; after = programs_of contents failures new } → length w.children ≡ 8 → new.children ≡ slice_set w.children h (child_of call)
+  pub made_start : (new : HartsOf D) → refusal_of w h call ≡ None
+      → plain_makes blocks code (Start h (plain ((block_calls sizes).program call))) (programs_of contents failures w) ≡ record { came = Started; after = programs_of contents failures new } → length w.children ≡ 8 → new.children ≡ slice_set w.children h (child_of call)
       → Makes contents failures sizes (Start h call) w Started new
-  made_start m new e program makes eight children =
+  made_start new e makes eight children =
       let may = start_allowed contents failures sizes w long h call bytes e in
       let lt = may.below in
-      start_in sizes h call m (children_in w.children) (programs_of contents failures w) (programs_of contents failures new) (ap (program_at running_of) may.idle) may.begins program makes
+      start_in sizes h call (children_in w.children) (programs_of contents failures w) (programs_of contents failures new) (ap (program_at running_of) may.idle) may.begins makes
       ∙ (λ i. record { came = Started; after = as_calls sizes ((children_set w.children h (child_of call) (omega (arith, lt, eight)) ∙ ap children_in (sym children)) i) (programs_of contents failures new) })
 
   pub made_refused : (why : StartRefused) → refusal_of w h call ≡ Some why → Makes contents failures sizes (Start h call) w (Refused (reason_of why)) w

@@ -1,5 +1,5 @@
 -- What harts' machines over all that they share stand for.
-use Rattle.std.specs.Prelude.{◌≡◌, ℕ, Bool, List, length, Option, None, get_or, is_some}
+use Rattle.std.specs.Prelude.{◌≡◌, ◌<◌, ℕ, Bool, List, [], length, Option, Some, None, get_or, is_some, replicate, slice_set}
 use Rattle.buffer_cache.specs.Limits.{hart_count}
 use Rattle.plain_tree.specs.declared.answer.Reply.{Reply}
 use Rattle.atomic_programs.specs.Calls.{Outcome as OutcomeOf, WasIdle, DidWait, DidRun, DidEnd, DidStop, WasStopped}
@@ -44,6 +44,42 @@ AllFit s calls = (h : ℕ) → HartFits s h (get_or calls h None)
 pub record AreHarts (s : State) (calls : List (Option Running)) : Type 0 where
   pub long : length calls ≡ hart_count
   pub fits : AllFit s calls
+
+-- ---- the lists for references to inodes that calls are to free
+
+-- of each hart its call, and its list while it has none
+pub record CallsOf : Type 0 where
+  pub calls : List (Option Running)
+  pub lists : List (Option (List ℕ))
+
+-- a list to be given to a call
+abbrev pub IsSpare : Option (List ℕ) → Type 0
+IsSpare None = ⊥
+IsSpare (Some list) = list ≡ []
+
+abbrev pub SeatFits : Option Running → Option (List ℕ) → Type 0
+SeatFits None list = IsSpare list
+SeatFits (Some m) list = list ≡ None
+
+-- a hart has a list just while it has no call
+pub record HaveLists (c : CallsOf) : Type 0 where
+  pub long : length c.lists ≡ hart_count
+  pub each : (h : ℕ) → h < hart_count → SeatFits (get_or c.calls h None) (get_or c.lists h None)
+
+pub record AreIdle (c : CallsOf) : Type 0 where
+  pub calls : c.calls ≡ replicate hart_count None
+  pub lists : c.lists ≡ replicate hart_count (Some [])
+
+-- a call that has ended in a step hands its list back
+abbrev pub HandsList : Option Running → Option Running → Option (List ℕ) → Type 0
+HandsList None left list = (left ≡ None) × (list ≡ None)
+HandsList (Some m) (Some n) list = list ≡ None
+HandsList (Some m) None list = IsSpare list
+
+-- the lists once this one was handed back
+abbrev pub given : List (Option (List ℕ)) → ℕ → Option (List ℕ) → List (Option (List ℕ))
+given lists h None = lists
+given lists h (Some list) = slice_set lists h (Some list)
 
 -- which harts have a call, and whom each one's last one reserves
 abbrev pub busy_in : List (Option Running) → ℕ → Bool

@@ -10,27 +10,33 @@ ghost use Rattle.fs_machine.specs.Tied.{LeavesTied};
 ghost use Rattle.syscalls.specs.Machines.{running_of, RunningFits};
 ghost use Rattle.hart_core.specs.Blocks.{blocks, code, MayStep};
 ghost use Rattle.inode_machine.specs.Exec.{is_at};
-ghost use Rattle.calls_on_blocks.specs.Theory.{has_file, reserved};
-ghost use Rattle.hart_core.specs.Harts.{outcome_of, said, HartFits, shared_of, programs_of, busy_in, children_in};
+ghost use Rattle.calls_on_blocks.specs.Theory.{block_calls, has_file, reserved};
+ghost use Rattle.hart_core.specs.Harts.{outcome_of, said, HartFits, shared_of, programs_of, busy_in, children_in, AreIdle, HandsList};
+ghost use Rattle.hart_core.specs.Starts.{fault_of};
+ghost use Rattle.syscalls.specs.Making.{IsSized};
+ghost use Rattle.atomic_programs.specs.Prog.{plain};
 
+use crate::beginnings::running;
 use crate::calls::Calls;
 use crate::outcome::{Outcome, Stop};
 use atomic_programs::machines::Stepped;
 use block_device::Device;
 use buffer_cache::HARTS;
+use fs_layout::Super;
 use fs_machine::Core;
-use fs_tables::DESCRIPTORS;
+use fs_tables::{DESCRIPTORS, Listed};
 use group_log::Phase;
+use plain_tree::Call;
 use std::marker::Model;
-use syscalls::Running;
+use syscalls::{Answered, Running};
 
-// A step of a hart that does this; and whether the world has stopped.
+// A step of a hart that does this; whether the world has stopped; and the list that a call hands back at its end.
 fn step<D: Device>(
     doing: Option<Running>,
     hart: u8,
     core: &mut Core<D>,
     stopped: bool,
-) -> (Option<Running>, Outcome, bool)
+) -> (Option<Running>, Outcome, bool, Option<Listed>)
     requires eight { hart < HARTS }
     requires may { stopped ≡ false → MayOf blocks code hart (state_of D.contents D.failures core.old) (program_at running_of doing) }
     requires fits { HartFits (state_of D.contents D.failures core.old) hart doing }
@@ -38,20 +44,29 @@ fn step<D: Device>(
         ≡ record { came = outcome_of result.1; left = program_at running_of result.0; shared = state_of D.contents D.failures core.new; stopped = result.2 } }
     ensures honest { PlainHonestStep blocks code hart (said result.1 (state_of D.contents D.failures core.new)) (state_of D.contents D.failures core.old) stopped (program_at running_of doing) }
     ensures fits { HartFits (state_of D.contents D.failures core.new) hart result.0 }
+    ensures list { HandsList doing result.0 result.3 }
     ensures others { LeavesTied hart (state_of D.contents D.failures core.old) (state_of D.contents D.failures core.new) }
     ensures called { CallsOnce D.Called core.old.log.cache.device core.new.log.cache.device }
 {
     match doing {
-        None => (None, Outcome::Idle, stopped),
+        None => (None, Outcome::Idle, stopped, None),
         Some(call) => {
             if stopped {
-                return (Some(call), Outcome::Stopped(Stop::Halted), true);
+                return (Some(call), Outcome::Stopped(Stop::Halted), true, None);
             }
             match call.step(hart, core) {
-                Stepped::Waits(call) => (Some(call), Outcome::Waits, false),
-                Stepped::Ran(call, kind) => (Some(call), Outcome::Ran(kind), false),
-                Stepped::Done(reply, _kind) => (None, Outcome::Done(reply), false),
-                Stepped::Stopped(call) => (Some(call), Outcome::Stopped(Stop::DeviceFault), true),
+                Stepped::Waits(call) => (Some(call), Outcome::Waits, false, None),
+                Stepped::Ran(call, kind) => (Some(call), Outcome::Ran(kind), false, None),
+                Stepped::Done(answered, _kind) => {
+                    let Answered { reply, list } = answered;
+                    (None, Outcome::Done(reply), false, Some(list))
+                }
+                Stepped::Stopped(call) => (
+                    Some(call),
+                    Outcome::Stopped(Stop::DeviceFault),
+                    true,
+                    None,
+                ),
             }
         }
     }
@@ -80,19 +95,19 @@ pub struct Harts<D: Device> {
 
 impl<D: Device> Model for Harts<D> {
     ghost use Rattle.fs_machine.specs.Steps.{state_of as shared_state};
-    ghost use Rattle.hart_core.specs.Harts.{HartsOf, AreHarts};
+    ghost use Rattle.hart_core.specs.Harts.{HartsOf, AreHarts, HaveLists};
 
     ghost Value = { HartsOf D };
 
-    ghost view = { λ w. record { core = w.core; stopped = w.stopped; children = w.children; calls = w.calls } };
+    ghost view = { λ w. record { core = w.core; stopped = w.stopped; children = w.children; calls = w.calls.calls } };
 
-    ghost invariant = { λ w. AreHarts (shared_state D.contents D.failures w.core) w.calls };
+    ghost invariant = { λ w. AreHarts (shared_state D.contents D.failures w.core) w.calls.calls × HaveLists w.calls };
 }
 
 impl<D: Device> Harts<D> {
     /// Eight idle harts over this.
     pub fn new(core: Core<D>, calls: Calls) -> Harts<D>
-        requires { calls ≡ replicate HARTS None }
+        requires { AreIdle calls }
         ensures { result ≡ record { core = core; stopped = false; children = replicate HARTS None; calls = replicate HARTS None } }
     {
         Harts {
@@ -147,17 +162,24 @@ impl<D: Device> Harts<D> {
         false
     }
 
-    /// A hart without a call begins this one, which reserves this child.
-    pub fn begin(&mut self, hart: u8, call: Running, child: Option<u8>)
+    /// A hart without a call begins this one, on a disk of these sizes, which reserves this child.
+    pub fn begin(&mut self, hart: u8, sizes: &Super, call: Call, child: Option<u8>)
         requires idle { slice_get self.old.calls hart ≡ Some None }
-        requires fits { RunningFits hart (shared_of D.contents D.failures self.old) call }
-        ensures makes { plain_makes blocks code (StartOf hart (running_of call)) (programs_of D.contents D.failures self.old) ≡ record { came = Started; after = programs_of D.contents D.failures self.new } }
+        requires faultless { fault_of call ≡ None }
+        requires sized { IsSized sizes.now }
+        ensures makes { plain_makes blocks code (StartOf hart (plain ((block_calls sizes.now).program call))) (programs_of D.contents D.failures self.old) ≡ record { came = Started; after = programs_of D.contents D.failures self.new } }
         ensures core { self.new.core ≡ self.old.core }
         ensures children { self.new.children ≡ slice_set self.old.children hart child }
         ensures eight { length self.old.children ≡ HARTS }
     {
-        self.calls.put_back(hart, Some(call));
-        self.children[hart as usize] = child;
+        match self.calls.take_list(hart) {
+            None => unreachable!(),
+            Some(list) => {
+                let call = running(sizes, call, list);
+                self.calls.put_back(hart, Some(call), None);
+                self.children[hart as usize] = child;
+            }
+        }
     }
 
     /// One operation of a hart's call. It is idle where there is no such hart, or the hart has no call; and a call is stopped by the
@@ -174,8 +196,8 @@ impl<D: Device> Harts<D> {
             return Outcome::Idle;
         }
         let doing = self.calls.take_out(hart);
-        let (doing, outcome, stopped) = step(doing, hart, &mut self.core, stopped);
-        self.calls.put_back(hart, doing);
+        let (doing, outcome, stopped, list) = step(doing, hart, &mut self.core, stopped);
+        self.calls.put_back(hart, doing, list);
         self.stopped = stopped;
         outcome
     }

@@ -5,6 +5,7 @@
 //! keeps each operation may be made where it is made. All calls are there.
 #![tactic(auto)]
 
+mod beginnings;
 mod calls;
 mod events;
 mod harts;

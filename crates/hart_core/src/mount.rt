@@ -1,5 +1,5 @@
 // How the harts come to be over a device.
-ghost use Rattle.std.specs.Prelude.{◌≡◌, IfOk, IfErr, None, replicate};
+ghost use Rattle.std.specs.Prelude.{◌≡◌, IfOk, IfErr};
 ghost use Rattle.block_device.specs.Blocks.{HasBytes, HasWholeBlocks};
 ghost use Rattle.fs_layout.specs.Recovered.{sizes_of};
 ghost use Rattle.buffer_cache.specs.Limits.{buffer_count};
@@ -7,12 +7,13 @@ ghost use Rattle.buffer_cache.specs.Seats.{unused_from};
 ghost use Rattle.fs_tables.specs.Fresh.{fresh};
 ghost use Rattle.group_log.specs.Soundness.{IsPlaced};
 ghost use Rattle.image_tree.specs.Damage.{IsWellFormed, faults_with};
+ghost use Rattle.hart_core.specs.Harts.{AreIdle};
 ghost use Rattle.hart_core.specs.Mounting.{IsRecovered, HandsBack, Rests};
 
 use crate::calls::Calls;
 use crate::harts::Harts;
 use block_device::Device;
-use buffer_cache::{Buffers, Cache, HARTS};
+use buffer_cache::{Buffers, Cache};
 use fs_layout::Super;
 use fs_machine::Core;
 use fs_tables::Tables;
@@ -31,7 +32,7 @@ struct Ready {
 
 // Examines the image, takes the memory, and recovers the disk.
 fn prepare<D: Device>(alloc: Global, device: &mut D) -> Result<Ready, MountFault>
-    ensures ready { IfOk result (λ r. (r.sizes ≡ sizes_of (D.contents device.old)) × (r.buffers ≡ unused_from 0 buffer_count) × (r.tables ≡ fresh) × (r.calls ≡ replicate HARTS None)) }
+    ensures ready { IfOk result (λ r. (r.sizes ≡ sizes_of (D.contents device.old)) × (r.buffers ≡ unused_from 0 buffer_count) × (r.tables ≡ fresh) × AreIdle r.calls) }
     ensures ok { IfOk result (λ _. IsWellFormed (D.contents device.old) × IsRecovered (D.contents device.old) (D.contents device.new)) }
     ensures placed { IfOk result (λ r. IsPlaced (D.contents device.new) r.sizes) }
     ensures blocks { IfOk result (λ _. HasWholeBlocks (D.contents device.new) × HasBytes (D.contents device.new)) }

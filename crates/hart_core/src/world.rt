@@ -1,20 +1,14 @@
 // The world: eight harts with their calls on a mounted disk.
-ghost use Rattle.std.specs.Prelude.{◌≡◌, ℕ, IfOk, IfErr, None, length};
+ghost use Rattle.std.specs.Prelude.{◌≡◌, IfOk, IfErr, None, length};
 ghost use Rattle.atomic_programs.specs.Calls.{Start as StartOf, Step as StepOf};
-ghost use Rattle.atomic_programs.specs.Prog.{plain};
 ghost use Rattle.group_log.specs.Phases.{is_point};
 ghost use Rattle.fs_machine.specs.Machines.{CallsOnce};
-ghost use Rattle.fs_machine.specs.Steps.{State};
-ghost use Rattle.syscalls.specs.Machines.{running_of, RunningFits};
-ghost use Rattle.syscalls.specs.Making.{IsSized};
-ghost use Rattle.plain_tree.specs.declared.call.Call.TheVariants.{Open};
-ghost use Rattle.calls_on_blocks.specs.Theory.{block_calls};
 ghost use Rattle.fs_layout.specs.Recovered.{sizes_of};
 ghost use Rattle.image_tree.specs.Damage.{IsWellFormed};
 ghost use Rattle.hart_core.specs.Harts.{outcome_of, said, shared_of};
 ghost use Rattle.hart_core.specs.Mounting.{HandsBack, Rests};
 ghost use Rattle.hart_core.specs.Promised.{IdleHartsHaveNothing, QuietBlocksAreAnImage};
-ghost use Rattle.hart_core.specs.Starts.{child_refusal, fault_of, others_refusal, path_fault, refusal_of, start_outcome, IsOfBytes};
+ghost use Rattle.hart_core.specs.Starts.{child_refusal, fault_of, others_refusal, refusal_of, start_outcome, IsOfBytes};
 ghost use Rattle.hart_core.specs.Worlds.{Makes, Answers};
 
 use crate::harts::Harts;
@@ -26,15 +20,9 @@ use buffer_cache::HARTS;
 use fs_layout::Super;
 use group_log::Phase;
 use image_tree::MountFault;
-use plain_tree::{Bytes, Call};
+use plain_tree::Call;
 use std::alloc::Global;
 use std::marker::Model;
-use syscalls::{
-    Chdir, Close, Dup, Fstat, Inherit, Link, Mkdir, OpenNew, OpenOld, Read, Running, Unlink, Write,
-};
-
-// An open's flag that makes a file.
-const CREATE: u32 = 512;
 
 /// A mounted file system, with the calls that eight harts have under way. A contract sees its harts and the sizes of its disk.
 ///
@@ -52,44 +40,6 @@ impl<D: Device> Model for World<D> {
     ghost view = { λ w. record { harts = w.harts; sizes = w.sizes } };
 
     ghost invariant = { λ w. IsWorld D.contents D.failures w.sizes w.harts };
-}
-
-// An open from its beginning.
-#[tactic(auto, unfolding(syscalls::specs::Machines::running_of, syscalls::specs::Machines::RunningFits))]
-fn opening(sizes: &Super, path: Bytes, flags: u32) -> Running
-    requires faultless { path_fault path ≡ None }
-    requires sized { IsSized sizes.now }
-    ensures program { running_of result ≡ plain ((block_calls sizes.now).program (Open path flags)) }
-    ensures fits { (hart : ℕ) (s : State) → RunningFits hart s result }
-{
-    if flags & CREATE == 0 {
-        Running::Open(OpenOld::new(sizes, path, flags))
-    } else {
-        Running::Create(OpenNew::new(sizes, path, flags))
-    }
-}
-
-// A call from its beginning, on a disk of these sizes.
-#[tactic(auto, unfolding(syscalls::specs::Machines::running_of, syscalls::specs::Machines::RunningFits))]
-fn running(sizes: &Super, call: Call) -> Running
-    requires faultless { fault_of call ≡ None }
-    requires sized { IsSized sizes.now }
-    ensures program { running_of result ≡ plain ((block_calls sizes.now).program call) }
-    ensures fits { (hart : ℕ) (s : State) → RunningFits hart s result }
-{
-    match call {
-        Call::Open { path, flags } => opening(sizes, path, flags),
-        Call::Link { old, new } => Running::Link(Link::new(sizes, old, new)),
-        Call::Unlink { path } => Running::Unlink(Unlink::new(sizes, path)),
-        Call::Mkdir { path } => Running::Mkdir(Mkdir::new(sizes, path)),
-        Call::Chdir { path } => Running::Chdir(Chdir::new(sizes, path)),
-        Call::Dup { fd } => Running::Dup(Dup::new(fd)),
-        Call::Fstat { fd } => Running::Fstat(Fstat::new(sizes.inodestart, fd)),
-        Call::Close { fd } => Running::Close(Close::new(sizes, fd)),
-        Call::Read { fd, buf } => Running::Read(Read::new(sizes.inodestart, fd, buf)),
-        Call::Inherit { child } => Running::Inherit(Inherit::new(sizes, child)),
-        Call::Write { fd, bytes } => Running::Write(Write::new(sizes, fd, bytes)),
-    }
 }
 
 impl<D: Device> World<D> {
@@ -169,8 +119,7 @@ impl<D: Device> World<D> {
             Some(why) => Err((call, why)),
             None => {
                 let child = find_child(&call);
-                let running = running(&self.sizes, call);
-                self.harts.begin(hart, running, child);
+                self.harts.begin(hart, &self.sizes, call, child);
                 Ok(())
             }
         }

@@ -105,7 +105,7 @@ fn a_lock_waits_while_it_is_out(rt: HostRuntime) -> Result<(), Fail> {
 #[test]
 fn fifty_inodes_are_referred_to(rt: HostRuntime) -> Result<(), Fail> {
     let mut tables = Tables::new(rt.alloc())?;
-    let mut held = Listed::new();
+    let mut held = Listed::new(rt.alloc())?;
     for number in 2..MEMORY_INODES as u32 + 1 {
         held.push(up(&rt, &mut tables, number).expect(&rt, "there is a place"));
     }

@@ -64,7 +64,7 @@ module _ (sizes : Super) (path : List ℕ) (flags : ℕ) where
 -- ---- the programs that are left
 
 unfoldable pub open_new_of : OpenNew → P Reply
-open_new_of (opening.Join o) = open_new o.sizes o.path o.flags
+open_new_of (opening.Join o list) = open_new o.sizes o.path o.flags
 open_new_of (opening.Seeking o txn m) = bind (seek_of o.path m) (open_seen o.sizes o.path o.flags)
 open_new_of (opening.Up o txn list held n) = Do (Up (Number n)) unmarked (open_up o.sizes o.path o.flags (inode_in held) n list)
 open_new_of (opening.Leaving o txn list n m) = bind (give_of m) (λ _. open_taken o.sizes o.path o.flags n list)
@@ -80,7 +80,7 @@ pub record IsCreating (o : Opening) : Type 0 where
 
 -- its transaction and its guards go with the state
 unfoldable pub OpenNewFits : ℕ → State → OpenNew → Type 0
-OpenNewFits hart s (opening.Join o) = IsCreating o
+OpenNewFits hart s (opening.Join o list) = IsCreating o × (list ≡ [])
 OpenNewFits hart s (opening.Seeking o txn m) = IsCreating o × (txn ≡ hart) × SeekFits o.path hart s m
 OpenNewFits hart s (opening.Up o txn list held n) = IsCreating o × (txn ≡ hart) × IsHeld hart held s
 OpenNewFits hart s (opening.Leaving o txn list n m) = IsCreating o × (txn ≡ hart) × GiveFits hart s m

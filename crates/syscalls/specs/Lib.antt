@@ -1,4 +1,5 @@
 pub mod Replies
+pub mod Spent
 pub mod Programs
 pub mod Nesting
 pub mod Machines

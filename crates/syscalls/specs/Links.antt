@@ -132,7 +132,7 @@ add_of (adding.Taking e txn m) = bind (take_of m) (lower_child e)
 add_of (adding.Lowering m) = lower_of m
 
 unfoldable pub link_of : Link → P Reply
-link_of (linking.Join l) = link_program l.sizes l.old l.new
+link_of (linking.Join l list) = link_program l.sizes l.old l.new
 link_of (linking.Reaching l txn m) = bind (reach_of l.old m) (link_found l.sizes l.old l.new)
 link_of (linking.Raising l txn list held m) = bind (store_of m) (λ _. link_raised l.sizes l.old l.new (inode_in held) list)
 link_of (linking.Unlock l txn list held) = link_raised l.sizes l.old l.new (inode_in held) list
@@ -159,7 +159,7 @@ AddFits hart s (adding.Taking e txn m) = IsEarly e.sizes.inodestart × (txn ≡ 
 AddFits hart s (adding.Lowering m) = LowerFits hart s m
 
 unfoldable pub LinkFits : ℕ → State → Link → Type 0
-LinkFits hart s (linking.Join l) = IsLinking l
+LinkFits hart s (linking.Join l list) = IsLinking l × (list ≡ [])
 LinkFits hart s (linking.Reaching l txn m) = IsLinking l × (txn ≡ hart) × (most_reached l.old m ≤ most_elements) × ReachFits l.old hart s m
 LinkFits hart s (linking.Raising l txn list held m) = IsLinking l × (txn ≡ hart) × HasRoom l.new list × IsHeld hart held s × StoreFits hart s m
 LinkFits hart s (linking.Unlock l txn list held) = IsLinking l × (txn ≡ hart) × HasRoom l.new list × IsHeld hart held s

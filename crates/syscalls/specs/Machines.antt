@@ -1,5 +1,5 @@
 -- The programs that are left of the calls.
-use Rattle.std.specs.Prelude.{◌≡◌, ◌<◌, ◌^◌, ℕ, length, None}
+use Rattle.std.specs.Prelude.{◌≡◌, [], ◌<◌, ◌^◌, ℕ, length, None}
 use Rattle.plain_tree.specs.declared.answer.Answer.TheVariants as answers
 use Rattle.plain_tree.specs.declared.answer.Cause.TheVariants as causes
 use Rattle.plain_tree.specs.declared.answer.Full.TheVariants as fulls
@@ -117,13 +117,13 @@ running_of (running.Create m) = open_new_of m
 running_of (running.Link m) = link_of m
 running_of (running.Mkdir m) = mkdir_of m
 running_of (running.Chdir m) = chdir_of m
-running_of (running.Dup m) = dup_of m
-running_of (running.Close m) = close_of m
-running_of (running.Fstat m) = fstat_of m
-running_of (running.Read m) = read_call_of m
-running_of (running.Write m) = write_call_of m
+running_of (running.Dup m list) = dup_of m
+running_of (running.Close m list) = close_of m
+running_of (running.Fstat m list) = fstat_of m
+running_of (running.Read m list) = read_call_of m
+running_of (running.Write m list) = write_call_of m
 running_of (running.Unlink m) = unlink_of m
-running_of (running.Inherit m) = inherit_of m
+running_of (running.Inherit m list) = inherit_of m
 running_of (running.Ends m) = quit_of m
 
 unfoldable pub RunningFits : ℕ → State → Running → Type 0
@@ -132,13 +132,13 @@ RunningFits hart s (running.Create m) = OpenNewFits hart s m
 RunningFits hart s (running.Link m) = LinkFits hart s m
 RunningFits hart s (running.Mkdir m) = MkdirFits hart s m
 RunningFits hart s (running.Chdir m) = ChdirFits hart s m
-RunningFits hart s (running.Dup m) = Unit {0}
-RunningFits hart s (running.Close m) = CloseFits hart s m
-RunningFits hart s (running.Fstat m) = FstatFits hart s m
-RunningFits hart s (running.Read m) = ReadCallFits hart s m
-RunningFits hart s (running.Write m) = WriteCallFits hart s m
+RunningFits hart s (running.Dup m list) = list ≡ []
+RunningFits hart s (running.Close m list) = CloseFits hart s m × (list ≡ [])
+RunningFits hart s (running.Fstat m list) = FstatFits hart s m × (list ≡ [])
+RunningFits hart s (running.Read m list) = ReadCallFits hart s m × (list ≡ [])
+RunningFits hart s (running.Write m list) = WriteCallFits hart s m × (list ≡ [])
 RunningFits hart s (running.Unlink m) = UnlinkFits hart s m
-RunningFits hart s (running.Inherit m) = InheritFits hart s m
+RunningFits hart s (running.Inherit m list) = InheritFits hart s m × (list ≡ [])
 RunningFits hart s (running.Ends m) = QuitFits hart s m
 
 -- what a step of a call on a path leaves, among all of them

@@ -73,7 +73,7 @@ module _ (sizes : Super) (path : List ℕ) where
 -- ---- the programs that are left
 
 unfoldable pub mkdir_of : Mkdir → P Reply
-mkdir_of (mkdir.Join on) = mkdir_program on.sizes on.path
+mkdir_of (mkdir.Join on list) = mkdir_program on.sizes on.path
 mkdir_of (mkdir.Seeking on txn m) = bind (seek_of on.path m) (mkdir_seen on.sizes on.path)
 mkdir_of (mkdir.Making on txn list e links m) = bind (make_of (name_in on.path e) m) (mkdir_named on.sizes on.path links list)
 mkdir_of (mkdir.Raising on txn list parent child m) = bind (store_of m) (λ _. leave_made on.sizes on.path (inode_in parent) (inode_in child) list)
@@ -86,7 +86,7 @@ pub record IsNaming (on : OnPath) : Type 0 where
 
 -- its transaction and its guards go with the state
 unfoldable pub MkdirFits : ℕ → State → Mkdir → Type 0
-MkdirFits hart s (mkdir.Join on) = IsNaming on
+MkdirFits hart s (mkdir.Join on list) = IsNaming on × (list ≡ [])
 MkdirFits hart s (mkdir.Seeking on txn m) = IsNaming on × (txn ≡ hart) × SeekFits on.path hart s m
 MkdirFits hart s (mkdir.Making on txn list e links m) = IsNaming on × (txn ≡ hart) × IsElement on.path e × (links < 2 ^ 15) × MakeFits hart s m
 MkdirFits hart s (mkdir.Raising on txn list parent child m) = IsNaming on × (txn ≡ hart) × IsHeld hart parent s × IsHeld hart child s × (parent.reference ≢ child.reference) × StoreFits hart s m

@@ -1,5 +1,5 @@
 -- The programs that are left of an open.
-use Rattle.std.specs.Prelude.{◌≡◌, ◌≢◌, ◌≤◌, ℕ, All, length}
+use Rattle.std.specs.Prelude.{◌≡◌, [], ◌≢◌, ◌≤◌, ℕ, All, length}
 use Rattle.atomic_programs.specs.Prog.{bind}
 use Rattle.fs_layout.specs.declared.inode.Dinode.{Dinode}
 use Rattle.plain_tree.specs.declared.answer.Reply.{Reply}
@@ -46,11 +46,11 @@ InstallFits hart s (installing.Emptying e txn m) = IsEarly e.sizes.inodestart ×
 -- ---- without CREATE
 
 unfoldable pub open_old_of : OpenOld → P Reply
-open_old_of (opening.Join o) = open_old o.sizes o.path o.flags
+open_old_of (opening.Join o list) = open_old o.sizes o.path o.flags
 open_old_of (opening.Reaching o txn m) = bind (reach_of o.path m) (open_found o.sizes o.path o.flags)
 open_old_of (opening.Installing m) = install_of m
 
 unfoldable pub OpenOldFits : ℕ → State → OpenOld → Type 0
-OpenOldFits hart s (opening.Join o) = IsOpening o
+OpenOldFits hart s (opening.Join o list) = IsOpening o × (list ≡ [])
 OpenOldFits hart s (opening.Reaching o txn m) = IsOpening o × (txn ≡ hart) × ReachFits o.path hart s m
 OpenOldFits hart s (opening.Installing m) = InstallFits hart s m

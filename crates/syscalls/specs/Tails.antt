@@ -1,5 +1,5 @@
 -- The programs that are left of a call's end.
-use Rattle.std.specs.Prelude.{◌≡◌, ℕ}
+use Rattle.std.specs.Prelude.{◌≡◌, [], ℕ}
 use Rattle.fs_layout.specs.declared.inode.Dinode.{Dinode}
 use Rattle.plain_tree.specs.declared.answer.Reply.{Reply}
 use Rattle.atomic_programs.specs.Prog.{Do, bind, unmarked}
@@ -35,7 +35,7 @@ tail_of (tail.Join e n) = free_listed e.sizes n (rest_of e)
 tail_of (tail.Lock e n txn) = Do (Lock n) unmarked (free_locked e.sizes n (rest_of e))
 tail_of (tail.Loading e n txn guard m) = bind (load_of m) (free_loaded e n)
 tail_of (tail.Freeing e txn m) = bind (free_inode_of m) (λ _. leave_freed e)
-tail_of (tail.Say reply) = say reply
+tail_of (tail.Say reply list) = say reply
 
 -- its transaction and its guards go with the state
 unfoldable pub TailFits : ℕ → State → Tail → Type 0
@@ -44,4 +44,4 @@ TailFits hart s (tail.Join e n) = IsEarly e.sizes.inodestart
 TailFits hart s (tail.Lock e n txn) = IsEarly e.sizes.inodestart × (txn ≡ hart)
 TailFits hart s (tail.Loading e n txn guard m) = IsEarly e.sizes.inodestart × (txn ≡ hart) × IsOwnInode hart n guard s × LoadFits hart s m
 TailFits hart s (tail.Freeing e txn m) = IsEarly e.sizes.inodestart × (txn ≡ hart) × FreeInodeFits hart s m
-TailFits hart s (tail.Say reply) = Unit {0}
+TailFits hart s (tail.Say reply list) = list ≡ []

@@ -145,7 +145,7 @@ LowerFits hart s (lowering.Leaving e txn child m) = IsEarly e.sizes.inodestart �
 LowerFits hart s (lowering.Child e txn child m) = IsEarly e.sizes.inodestart × (txn ≡ hart) × IsHeld hart child s × StoreFits hart s m
 
 unfoldable pub unlink_of : Unlink → P Reply
-unlink_of (unlinking.Join on) = unlink_program on.sizes on.path
+unlink_of (unlinking.Join on list) = unlink_program on.sizes on.path
 unlink_of (unlinking.Seeking on txn m) = bind (seek_of on.path m) (unlink_seen on.sizes on.path)
 unlink_of (unlinking.Refer r txn n) = Do (Up (Number n)) unmarked (unlink_up r.on.sizes r.on.path (inode_in r.parent) r.slot r.list n)
 unlink_of (unlinking.Taking r txn m) = bind (take_of m) (see_child r.on.sizes r.on.path (inode_in r.parent) r.slot r.list)
@@ -161,7 +161,7 @@ pub record IsRemoving (hart : ℕ) (r : Removing) (s : State) : Type 0 where
 
 -- its transaction and its guards go with the state
 unfoldable pub UnlinkFits : ℕ → State → Unlink → Type 0
-UnlinkFits hart s (unlinking.Join on) = IsOnPath on
+UnlinkFits hart s (unlinking.Join on list) = IsOnPath on × (list ≡ [])
 UnlinkFits hart s (unlinking.Seeking on txn m) = IsOnPath on × (txn ≡ hart) × SeekFits on.path hart s m
 UnlinkFits hart s (unlinking.Refer r txn n) = (txn ≡ hart) × IsRemoving hart r s
 UnlinkFits hart s (unlinking.Taking r txn m) = (txn ≡ hart) × IsRemoving hart r s × TakeFits hart s m × TakeApart r.parent.reference m

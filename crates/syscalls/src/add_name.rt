@@ -12,6 +12,7 @@ ghost use Rattle.file_table.specs.Machines.{IsEarly};
 ghost use Rattle.path_walk.specs.Elements.{name_in, IsElement};
 ghost use Rattle.path_walk.specs.Programs.{loaded};
 ghost use Rattle.syscalls.specs.Nesting.{Follows};
+ghost use Rattle.syscalls.specs.Spent.{reply_in, IsSpent};
 ghost use Rattle.syscalls.specs.Taking.{inode_in, take_of, IsHeld, TakeFits};
 ghost use Rattle.syscalls.specs.Ends.{give_of, GiveFits};
 ghost use Rattle.syscalls.specs.Seeking.{seek_of, seen_as, IsSeen, IsSight, SeekFits};
@@ -21,6 +22,7 @@ ghost use Rattle.syscalls.specs.Links.{add_name, add_of, leave_file, leave_named
 ghost use Rattle.syscalls.specs.declared.add_name.AddName.TheVariants as adding;
 ghost use Rattle.syscalls.specs.declared.onward.Onward.TheVariants as onward;
 
+use crate::answered::Answered;
 use crate::give::GiveUp;
 use crate::lower::{Lower, to_child};
 use crate::on_path::{ending, stopped};
@@ -38,7 +40,7 @@ use fs_tables::{Listed, Reference};
 use group_log::Txn;
 use inode_data::Begun;
 use path_walk::Element;
-use plain_tree::{Answer, Bytes, Call, Cause, Full, Reply};
+use plain_tree::{Answer, Bytes, Call, Cause, Full};
 
 /// What a link has from its beginning to its end.
 #[derive(Drop)]
@@ -85,13 +87,13 @@ impl AddName {
         self,
         hart: u8,
         core: &mut Core<D>,
-    ) -> Stepped<Onward<AddName>, Reply, Kind>
+    ) -> Stepped<Onward<AddName>, Answered, Kind>
         requires may { MayNext hart (add_of self) (state_of D.contents D.failures core.old) }
         requires fits { AddFits hart (state_of D.contents D.failures core.old) self }
-        ensures moves { Moves (onward_of add_of) (λ reply. reply) hart (onward.Runs self) result (state_of D.contents D.failures core.old) (state_of D.contents D.failures core.new) }
+        ensures moves { Moves (onward_of add_of) reply_in hart (onward.Runs self) result (state_of D.contents D.failures core.old) (state_of D.contents D.failures core.new) }
         ensures honest { Answers (onward_of add_of) hart (onward.Runs self) result (state_of D.contents D.failures core.old) (state_of D.contents D.failures core.new) }
         ensures still { Still (onward_of add_of) result (onward.Runs self) core.old core.new }
-        ensures fits { LeftOf (OnwardFits AddFits hart (state_of D.contents D.failures core.new)) (λ _. Unit {0}) result }
+        ensures fits { LeftOf (OnwardFits AddFits hart (state_of D.contents D.failures core.new)) IsSpent result }
         ensures others { LeavesTied hart (state_of D.contents D.failures core.old) (state_of D.contents D.failures core.new) }
         ensures called { CallsOnce D.Called core.old.log.cache.device core.new.log.cache.device }
     {
@@ -324,11 +326,11 @@ fn seeking(
     txn: Txn,
     file: Reference,
     stepped: Stepped<Seek, Seen, Kind>,
-) -> Stepped<Onward<AddName>, Reply, Kind>
+) -> Stepped<Onward<AddName>, Answered, Kind>
     requires l { IsLinking l }
     requires there { LeftOf (λ _. Unit {0}) (IsSight l.new) stepped }
-    ensures follows { Follows (seek_of l.new) (seen_as l.new) (onward_of add_of) (λ reply. reply) (name_seen l.sizes l.old l.new file) stepped result }
-    ensures fits { (hart : ℕ) (s : State) → txn ≡ hart → LeftOf (SeekFits l.new hart s) (IsSeen l.new hart s) stepped → LeftOf (OnwardFits AddFits hart s) (λ _. Unit {0}) result }
+    ensures follows { Follows (seek_of l.new) (seen_as l.new) (onward_of add_of) reply_in (name_seen l.sizes l.old l.new file) stepped result }
+    ensures fits { (hart : ℕ) (s : State) → txn ≡ hart → LeftOf (SeekFits l.new hart s) (IsSeen l.new hart s) stepped → LeftOf (OnwardFits AddFits hart s) IsSpent result }
 {
     match stepped {
         Stepped::Waits(seek) => Stepped::Waits(Onward::Runs(AddName::Seeking(l, txn, file, seek))),
@@ -352,13 +354,13 @@ fn entering(
     file: Reference,
     parent: Reference,
     stepped: Stepped<Enter, Entered, Kind>,
-) -> Stepped<Onward<AddName>, Reply, Kind>
+) -> Stepped<Onward<AddName>, Answered, Kind>
     requires l { IsLinking l }
     requires there { LeftOf (λ _. Unit {0}) (λ r. IsSome r.inode.value.content) stepped }
     ensures follows { (n : ℕ) → LeftOf (λ m. (enterer_of m).value.number ≡ n) (λ r. r.inode.value ≡ loaded n (record_in r.inode)) stepped
-        → Follows enter_of entered_of (onward_of add_of) (λ reply. reply) (name_entered l.sizes l.old l.new file n list) stepped result }
+        → Follows enter_of entered_of (onward_of add_of) reply_in (name_entered l.sizes l.old l.new file n list) stepped result }
     ensures fits { (hart : ℕ) (s : State) → txn ≡ hart
-        → LeftOf (λ m. IsOwnInode hart parent (enterer_of m) s × EnterFits hart s m) (λ r. IsOwnInode hart parent r.inode s) stepped → LeftOf (OnwardFits AddFits hart s) (λ _. Unit {0}) result }
+        → LeftOf (λ m. IsOwnInode hart parent (enterer_of m) s × EnterFits hart s m) (λ r. IsOwnInode hart parent r.inode s) stepped → LeftOf (OnwardFits AddFits hart s) IsSpent result }
 {
     match stepped {
         Stepped::Waits(m) => Stepped::Waits(Onward::Runs(AddName::Entering(
@@ -391,10 +393,10 @@ fn leaving(
     file: Reference,
     why: Option<Answer>,
     stepped: Stepped<GiveUp, (), Kind>,
-) -> Stepped<Onward<AddName>, Reply, Kind>
+) -> Stepped<Onward<AddName>, Answered, Kind>
     requires { IsLinking l }
-    ensures follows { Follows give_of (λ x. x) (onward_of add_of) (λ reply. reply) (λ _. leave_file l.sizes l.old l.new file list why) stepped result }
-    ensures fits { (hart : ℕ) (s : State) → txn ≡ hart → LeftOf (GiveFits hart s) (λ _. Unit {0}) stepped → LeftOf (OnwardFits AddFits hart s) (λ _. Unit {0}) result }
+    ensures follows { Follows give_of (λ x. x) (onward_of add_of) reply_in (λ _. leave_file l.sizes l.old l.new file list why) stepped result }
+    ensures fits { (hart : ℕ) (s : State) → txn ≡ hart → LeftOf (GiveFits hart s) (λ _. Unit {0}) stepped → LeftOf (OnwardFits AddFits hart s) IsSpent result }
 {
     match stepped {
         Stepped::Waits(give) => Stepped::Waits(Onward::Runs(AddName::Leaving(
@@ -419,11 +421,11 @@ fn taking(
     ending: Ending,
     txn: Txn,
     stepped: Stepped<TakeInode, Held, Kind>,
-) -> Stepped<Onward<AddName>, Reply, Kind>
+) -> Stepped<Onward<AddName>, Answered, Kind>
     requires early { IsEarly ending.sizes.inodestart }
     requires there { LeftOf (λ _. Unit {0}) (λ held. IsSome held.inode.value.content) stepped }
-    ensures follows { Follows take_of inode_in (onward_of add_of) (λ reply. reply) (lower_child ending) stepped result }
-    ensures fits { (hart : ℕ) (s : State) → txn ≡ hart → LeftOf (TakeFits hart s) (λ held. IsHeld hart held s) stepped → LeftOf (OnwardFits AddFits hart s) (λ _. Unit {0}) result }
+    ensures follows { Follows take_of inode_in (onward_of add_of) reply_in (lower_child ending) stepped result }
+    ensures fits { (hart : ℕ) (s : State) → txn ≡ hart → LeftOf (TakeFits hart s) (λ held. IsHeld hart held s) stepped → LeftOf (OnwardFits AddFits hart s) IsSpent result }
 {
     match stepped {
         Stepped::Waits(take) => Stepped::Waits(Onward::Runs(AddName::Taking(ending, txn, take))),
@@ -454,8 +456,10 @@ fn in_lowering(left: Onward<Lower>) -> Onward<AddName>
 }
 
 // A step while it is stored with one link less.
-fn lowering(stepped: Stepped<Onward<Lower>, Reply, Kind>) -> Stepped<Onward<AddName>, Reply, Kind>
-    ensures { result ≡ ends_within (onward_in (λ m. adding.Lowering m)) (λ reply. reply) stepped }
+fn lowering(
+    stepped: Stepped<Onward<Lower>, Answered, Kind>,
+) -> Stepped<Onward<AddName>, Answered, Kind>
+    ensures { result ≡ ends_within (onward_in (λ m. adding.Lowering m)) (λ answered. answered) stepped }
 {
     match stepped {
         Stepped::Waits(left) => Stepped::Waits(in_lowering(left)),

@@ -1,5 +1,5 @@
 //! chdir: another current directory.
-ghost use Rattle.std.specs.Prelude.{◌≡◌, ◌≢◌, ◌≤◌, ℕ, All, IsSome, length};
+ghost use Rattle.std.specs.Prelude.{◌≡◌, [], ◌≢◌, ◌≤◌, ℕ, All, IsSome, length};
 ghost use Rattle.atomic_programs.specs.Machines.{Still, Left as LeftOf};
 ghost use Rattle.fs_machine.specs.Steps.{State, state_of};
 ghost use Rattle.fs_machine.specs.Machines.{MayNext, Moves, Answers, CallsOnce};
@@ -7,6 +7,7 @@ ghost use Rattle.fs_machine.specs.Tied.{LeavesTied};
 ghost use Rattle.file_table.specs.Machines.{IsEarly};
 ghost use Rattle.path_walk.specs.Elements.{longest_path};
 ghost use Rattle.syscalls.specs.Nesting.{Follows};
+ghost use Rattle.syscalls.specs.Spent.{reply_in, IsSpent};
 ghost use Rattle.syscalls.specs.Onwards.{onward_of, OnwardFits};
 ghost use Rattle.syscalls.specs.Parts.{Misses, drop_quit};
 ghost use Rattle.syscalls.specs.Moving.{chdir_at, chdir_found, chdir_program, chdir_reply};
@@ -16,6 +17,7 @@ ghost use Rattle.plain_tree.specs.declared.answer.Answer.TheVariants as answers;
 ghost use Rattle.syscalls.specs.declared.chdir.Chdir.TheVariants as chdir;
 ghost use Rattle.syscalls.specs.declared.onward.Onward.TheVariants as onward;
 
+use crate::answered::Answered;
 use crate::on_path::{OnPath, ending, stopped};
 use crate::onward::Onward;
 use crate::quit::Quit;
@@ -30,12 +32,12 @@ use fs_tables::{Listed, Reference};
 use group_log::Txn;
 use inode_data::record;
 use path_walk::{Goal, Stop};
-use plain_tree::{Answer, Bytes, Call, Cause, Reply};
+use plain_tree::{Answer, Bytes, Call, Cause};
 
 /// A chdir under way.
 pub enum Chdir {
-    /// A transaction is joined.
-    Join(OnPath),
+    /// A transaction is joined. The list is empty.
+    Join(OnPath, Listed),
     /// What the path leads to is taken.
     Reaching(OnPath, Txn, Reach),
     /// It is a directory: it becomes the hart's, and its lock is given back.
@@ -45,17 +47,19 @@ pub enum Chdir {
 impl Chdir {
     /// On a disk with this superblock.
     #[tactic(auto, unfolding(crate::specs::Chdirs::chdir_of, crate::specs::Chdirs::ChdirFits))]
-    pub fn new(sizes: &Super, path: Bytes) -> Chdir
+    pub fn new(sizes: &Super, path: Bytes, list: Listed) -> Chdir
         requires early { IsEarly sizes.now.inodestart }
         requires short { length path ≤ longest_path }
         requires nonzero { All (λ b. b ≢ 0) path }
+        requires none { list ≡ [] }
         ensures program { chdir_of result ≡ chdir_program sizes.now path }
         ensures fits { (hart : ℕ) (s : State) → ChdirFits hart s result }
     {
-        Chdir::Join(OnPath {
+        let on = OnPath {
             sizes: *sizes,
             path,
-        })
+        };
+        Chdir::Join(on, list)
     }
 
     /// One operation.
@@ -64,21 +68,21 @@ impl Chdir {
         self,
         hart: u8,
         core: &mut Core<D>,
-    ) -> Stepped<Onward<Chdir>, Reply, Kind>
+    ) -> Stepped<Onward<Chdir>, Answered, Kind>
         requires may { MayNext hart (chdir_of self) (state_of D.contents D.failures core.old) }
         requires fits { ChdirFits hart (state_of D.contents D.failures core.old) self }
-        ensures moves { Moves (onward_of chdir_of) (λ reply. reply) hart (onward.Runs self) result (state_of D.contents D.failures core.old) (state_of D.contents D.failures core.new) }
+        ensures moves { Moves (onward_of chdir_of) reply_in hart (onward.Runs self) result (state_of D.contents D.failures core.old) (state_of D.contents D.failures core.new) }
         ensures honest { Answers (onward_of chdir_of) hart (onward.Runs self) result (state_of D.contents D.failures core.old) (state_of D.contents D.failures core.new) }
         ensures still { Still (onward_of chdir_of) result (onward.Runs self) core.old core.new }
-        ensures fits { LeftOf (OnwardFits ChdirFits hart (state_of D.contents D.failures core.new)) (λ _. Unit {0}) result }
+        ensures fits { LeftOf (OnwardFits ChdirFits hart (state_of D.contents D.failures core.new)) IsSpent result }
         ensures others { LeavesTied hart (state_of D.contents D.failures core.old) (state_of D.contents D.failures core.new) }
         ensures called { CallsOnce D.Called core.old.log.cache.device core.new.log.cache.device }
     {
         match self {
-            Chdir::Join(on) => match core.join(hart) {
-                None => Stepped::Waits(Onward::Runs(Chdir::Join(on))),
+            Chdir::Join(on, list) => match core.join(hart) {
+                None => Stepped::Waits(Onward::Runs(Chdir::Join(on, list))),
                 Some(txn) => {
-                    let reach = Reach::new(on.sizes.inodestart, Goal::Node, Listed::new());
+                    let reach = Reach::new(on.sizes.inodestart, Goal::Node, list);
                     Stepped::Ran(Onward::Runs(Chdir::Reaching(on, txn, reach)), Kind::Join)
                 }
             },
@@ -97,7 +101,7 @@ impl Chdir {
     /// Ends it in mid-call, after all that harts share has ended.
     pub fn retire(self, retired: &RetiredCore) {
         match self {
-            Chdir::Join(_) => {}
+            Chdir::Join(_, list) => list.retire(&retired.inodes),
             Chdir::Reaching(_, txn, reach) => {
                 txn.retire(&retired.log);
                 reach.retire(retired);
@@ -158,11 +162,11 @@ fn reaching(
     on: OnPath,
     txn: Txn,
     stepped: Stepped<Reach, Reached, Kind>,
-) -> Stepped<Onward<Chdir>, Reply, Kind>
+) -> Stepped<Onward<Chdir>, Answered, Kind>
     requires on { IsOnPath on }
     requires there { LeftOf (λ _. Unit {0}) (IsThere on.path) stepped }
-    ensures follows { Follows (reach_of on.path) (reached_as on.path) (onward_of chdir_of) (λ reply. reply) (chdir_found on.sizes on.path) stepped result }
-    ensures fits { (hart : ℕ) (s : State) → txn ≡ hart → LeftOf (ReachFits on.path hart s) (IsReached on.path hart s) stepped → LeftOf (OnwardFits ChdirFits hart s) (λ _. Unit {0}) result }
+    ensures follows { Follows (reach_of on.path) (reached_as on.path) (onward_of chdir_of) reply_in (chdir_found on.sizes on.path) stepped result }
+    ensures fits { (hart : ℕ) (s : State) → txn ≡ hart → LeftOf (ReachFits on.path hart s) (IsReached on.path hart s) stepped → LeftOf (OnwardFits ChdirFits hart s) IsSpent result }
 {
     match stepped {
         Stepped::Waits(reach) => Stepped::Waits(Onward::Runs(Chdir::Reaching(on, txn, reach))),

@@ -11,6 +11,7 @@ ghost use Rattle.file_table.specs.Machines.{IsEarly};
 ghost use Rattle.path_walk.specs.Programs.{loaded};
 ghost use Rattle.plain_tree.specs.Steps.{has};
 ghost use Rattle.syscalls.specs.Nesting.{Follows};
+ghost use Rattle.syscalls.specs.Spent.{reply_in, IsSpent};
 ghost use Rattle.syscalls.specs.Onwards.{onward_of, OnwardFits};
 ghost use Rattle.syscalls.specs.Parts.{quit};
 ghost use Rattle.syscalls.specs.Opening.{file_for, installed_on, is_regular, open_reply, opened, take_descriptor, type_number};
@@ -19,6 +20,7 @@ ghost use Rattle.syscalls.specs.Opens.{emptied, install_of, InstallFits};
 ghost use Rattle.plain_tree.specs.declared.answer.Answer.TheVariants as answers;
 ghost use Rattle.syscalls.specs.declared.onward.Onward.TheVariants as onward;
 
+use crate::answered::Answered;
 use crate::on_path::ending;
 use crate::onward::Onward;
 use crate::quit::Quit;
@@ -32,7 +34,7 @@ use fs_machine::{Core, Kind, RetiredCore};
 use fs_tables::{Inode, Listed, NewFile, Reference};
 use group_log::Txn;
 use inode_data::{Truncate, record};
-use plain_tree::{Answer, Bytes, Call, Full, Reply};
+use plain_tree::{Answer, Bytes, Call, Full};
 use sleep_lock::Guard;
 
 const WRITE_ONLY: u32 = 1;
@@ -112,13 +114,13 @@ impl Install {
         self,
         hart: u8,
         core: &mut Core<D>,
-    ) -> Stepped<Onward<Install>, Reply, Kind>
+    ) -> Stepped<Onward<Install>, Answered, Kind>
         requires may { MayNext hart (install_of self) (state_of D.contents D.failures core.old) }
         requires fits { InstallFits hart (state_of D.contents D.failures core.old) self }
-        ensures moves { Moves (onward_of install_of) (λ reply. reply) hart (onward.Runs self) result (state_of D.contents D.failures core.old) (state_of D.contents D.failures core.new) }
+        ensures moves { Moves (onward_of install_of) reply_in hart (onward.Runs self) result (state_of D.contents D.failures core.old) (state_of D.contents D.failures core.new) }
         ensures honest { Answers (onward_of install_of) hart (onward.Runs self) result (state_of D.contents D.failures core.old) (state_of D.contents D.failures core.new) }
         ensures still { Still (onward_of install_of) result (onward.Runs self) core.old core.new }
-        ensures fits { LeftOf (OnwardFits InstallFits hart (state_of D.contents D.failures core.new)) (λ _. Unit {0}) result }
+        ensures fits { LeftOf (OnwardFits InstallFits hart (state_of D.contents D.failures core.new)) IsSpent result }
         ensures others { LeavesTied hart (state_of D.contents D.failures core.old) (state_of D.contents D.failures core.new) }
         ensures called { CallsOnce D.Called core.old.log.cache.device core.new.log.cache.device }
     {
@@ -281,13 +283,13 @@ fn emptying(
     ending: Ending,
     txn: Txn,
     stepped: Stepped<Truncate, Guard<Inode>, Kind>,
-) -> Stepped<Onward<Install>, Reply, Kind>
+) -> Stepped<Onward<Install>, Answered, Kind>
     requires early { IsEarly ending.sizes.inodestart }
     ensures follows { (n : ℕ) → LeftOf (λ m. (emptied_of m).value.number ≡ n) (λ guard. guard.value ≡ loaded n (record_in guard)) stepped
-        → Follows truncate_of record_in (onward_of install_of) (λ reply. reply) (emptied ending n) stepped result }
+        → Follows truncate_of record_in (onward_of install_of) reply_in (emptied ending n) stepped result }
     ensures fits { (hart : ℕ) (s : State) → txn ≡ hart
         → LeftOf (λ m. IsOwnInode hart (emptied_of m).value.number (emptied_of m) s × TruncateFits hart s m) (λ guard. IsOwnInode hart guard.value.number guard s) stepped
-        → LeftOf (OnwardFits InstallFits hart s) (λ _. Unit {0}) result }
+        → LeftOf (OnwardFits InstallFits hart s) IsSpent result }
 {
     match stepped {
         Stepped::Waits(truncate) => Stepped::Waits(Onward::Runs(Install::Emptying(

@@ -5,6 +5,7 @@
 #![tactic(auto)]
 
 mod add_name;
+mod answered;
 mod chdir;
 mod close;
 mod dup;
@@ -32,6 +33,7 @@ mod unlink;
 mod write;
 
 pub use crate::add_name::{AddName, Linking};
+pub use crate::answered::Answered;
 pub use crate::chdir::Chdir;
 pub use crate::close::Close;
 pub use crate::dup::Dup;

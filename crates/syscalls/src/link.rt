@@ -10,6 +10,7 @@ ghost use Rattle.inode_data.specs.Machines.{ends_within};
 ghost use Rattle.path_walk.specs.Elements.{longest_path, most_elements};
 ghost use Rattle.plain_tree.specs.Widths.{count_limit};
 ghost use Rattle.syscalls.specs.Nesting.{Follows};
+ghost use Rattle.syscalls.specs.Spent.{reply_in, IsSpent};
 ghost use Rattle.syscalls.specs.Onwards.{onward_in, onward_of, OnwardFits};
 ghost use Rattle.syscalls.specs.Parts.{Misses, quit};
 ghost use Rattle.syscalls.specs.Taking.{inode_in, kept_by, most_reached, reach_of, reached_as, IsHeld, IsReached, IsThere, ReachFits};
@@ -21,6 +22,7 @@ ghost use Rattle.syscalls.specs.declared.link.Link.TheVariants as linking;
 ghost use Rattle.syscalls.specs.declared.onward.Onward.TheVariants as onward;
 
 use crate::add_name::{AddName, Linking};
+use crate::answered::Answered;
 use crate::lower::links;
 use crate::make::{MOST_LINKS, store, with_links};
 use crate::on_path::{ending, stopped};
@@ -39,12 +41,12 @@ use group_log::Txn;
 use inode_data::record;
 use inode_table::StoreInode;
 use path_walk::{Goal, Stop};
-use plain_tree::{Answer, Bytes, Call, Cause, Reply};
+use plain_tree::{Answer, Bytes, Call, Cause};
 
 /// A link under way. The file has its new count of links before it has its new name.
 pub enum Link {
     /// A transaction is joined.
-    Join(Linking),
+    Join(Linking, Listed),
     /// What the old path leads to is taken.
     Reaching(Linking, Txn, Reach),
     /// The file is stored with one link more.
@@ -58,38 +60,44 @@ pub enum Link {
 impl Link {
     /// On a disk with this superblock.
     #[tactic(auto, unfolding(crate::specs::Links::link_of, crate::specs::Links::LinkFits))]
-    pub fn new(sizes: &Super, old: Bytes, new: Bytes) -> Link
+    pub fn new(sizes: &Super, old: Bytes, new: Bytes, list: Listed) -> Link
         requires sized { IsSized sizes.now }
         requires old_short { length old ≤ longest_path }
         requires new_short { length new ≤ longest_path }
         requires old_nonzero { All (λ b. b ≢ 0) old }
         requires new_nonzero { All (λ b. b ≢ 0) new }
+        requires none { list ≡ [] }
         ensures program { link_of result ≡ link_program sizes.now old new }
         ensures fits { (hart : ℕ) (s : State) → LinkFits hart s result }
     {
-        Link::Join(Linking {
+        let linking = Linking {
             sizes: *sizes,
             old,
             new,
-        })
+        };
+        Link::Join(linking, list)
     }
 
     /// One operation.
     #[tactic(auto, unfolding(crate::specs::Links::link_of, crate::specs::Links::LinkFits, fs_machine::specs::Premises::Honest))]
-    pub fn step<D: Device>(self, hart: u8, core: &mut Core<D>) -> Stepped<Onward<Link>, Reply, Kind>
+    pub fn step<D: Device>(
+        self,
+        hart: u8,
+        core: &mut Core<D>,
+    ) -> Stepped<Onward<Link>, Answered, Kind>
         requires may { MayNext hart (link_of self) (state_of D.contents D.failures core.old) }
         requires fits { LinkFits hart (state_of D.contents D.failures core.old) self }
-        ensures moves { Moves (onward_of link_of) (λ reply. reply) hart (onward.Runs self) result (state_of D.contents D.failures core.old) (state_of D.contents D.failures core.new) }
+        ensures moves { Moves (onward_of link_of) reply_in hart (onward.Runs self) result (state_of D.contents D.failures core.old) (state_of D.contents D.failures core.new) }
         ensures honest { Answers (onward_of link_of) hart (onward.Runs self) result (state_of D.contents D.failures core.old) (state_of D.contents D.failures core.new) }
         ensures still { Still (onward_of link_of) result (onward.Runs self) core.old core.new }
-        ensures fits { LeftOf (OnwardFits LinkFits hart (state_of D.contents D.failures core.new)) (λ _. Unit {0}) result }
+        ensures fits { LeftOf (OnwardFits LinkFits hart (state_of D.contents D.failures core.new)) IsSpent result }
         ensures others { LeavesTied hart (state_of D.contents D.failures core.old) (state_of D.contents D.failures core.new) }
         ensures called { CallsOnce D.Called core.old.log.cache.device core.new.log.cache.device }
     {
         match self {
-            Link::Join(l) => match core.join(hart) {
-                None => Stepped::Waits(Onward::Runs(Link::Join(l))),
-                Some(txn) => Stepped::Ran(Onward::Runs(joined(l, txn)), Kind::Join),
+            Link::Join(l, list) => match core.join(hart) {
+                None => Stepped::Waits(Onward::Runs(Link::Join(l, list))),
+                Some(txn) => Stepped::Ran(Onward::Runs(joined(l, txn, list)), Kind::Join),
             },
             Link::Reaching(l, txn, reach) => {
                 let stepped = reach.step(hart, l.old.as_slice(), core);
@@ -113,7 +121,7 @@ impl Link {
     /// Ends it in mid-call, after all that harts share has ended.
     pub fn retire(self, retired: &RetiredCore) {
         match self {
-            Link::Join(_) => {}
+            Link::Join(_, list) => list.retire(&retired.inodes),
             Link::Reaching(_, txn, reach) => {
                 txn.retire(&retired.log);
                 reach.retire(retired);
@@ -136,12 +144,13 @@ impl Link {
 
 // After a transaction was joined.
 #[tactic(auto, unfolding(crate::specs::Links::link_of, crate::specs::Links::LinkFits))]
-fn joined(l: Linking, txn: Txn) -> Link
-    requires { IsLinking l }
+fn joined(l: Linking, txn: Txn, list: Listed) -> Link
+    requires linking { IsLinking l }
+    requires none { list ≡ [] }
     ensures program { link_of result ≡ link_joined l.sizes l.old l.new }
     ensures fits { (hart : ℕ) (s : State) → txn ≡ hart → LinkFits hart s result }
 {
-    let reach = Reach::new(l.sizes.inodestart, Goal::Node, Listed::new());
+    let reach = Reach::new(l.sizes.inodestart, Goal::Node, list);
     Link::Reaching(l, txn, reach)
 }
 
@@ -226,13 +235,13 @@ fn reaching(
     l: Linking,
     txn: Txn,
     stepped: Stepped<Reach, Reached, Kind>,
-) -> Stepped<Onward<Link>, Reply, Kind>
+) -> Stepped<Onward<Link>, Answered, Kind>
     requires l { IsLinking l }
     requires there { LeftOf (λ _. Unit {0}) (IsThere l.old) stepped }
-    ensures follows { Follows (reach_of l.old) (reached_as l.old) (onward_of link_of) (λ reply. reply) (link_found l.sizes l.old l.new) stepped result }
+    ensures follows { Follows (reach_of l.old) (reached_as l.old) (onward_of link_of) reply_in (link_found l.sizes l.old l.new) stepped result }
     ensures fits { (hart : ℕ) (s : State) → txn ≡ hart
         → LeftOf (λ m. (most_reached l.old m ≤ most_elements) × ReachFits l.old hart s m) (λ r. (length (kept_by r) ≤ most_elements) × IsReached l.old hart s r) stepped
-        → LeftOf (OnwardFits LinkFits hart s) (λ _. Unit {0}) result }
+        → LeftOf (OnwardFits LinkFits hart s) IsSpent result }
 {
     match stepped {
         Stepped::Waits(reach) => Stepped::Waits(Onward::Runs(Link::Reaching(l, txn, reach))),
@@ -256,10 +265,10 @@ fn raising(
     list: Listed,
     file: Held,
     stepped: Stepped<StoreInode, (), Kind>,
-) -> Stepped<Onward<Link>, Reply, Kind>
+) -> Stepped<Onward<Link>, Answered, Kind>
     requires { IsLinking l }
-    ensures follows { Follows store_of (λ x. x) (onward_of link_of) (λ reply. reply) (λ _. link_raised l.sizes l.old l.new (inode_in file) list) stepped result }
-    ensures fits { (hart : ℕ) (s : State) → txn ≡ hart → HasRoom l.new list → IsHeld hart file s → LeftOf (StoreFits hart s) (λ _. Unit {0}) stepped → LeftOf (OnwardFits LinkFits hart s) (λ _. Unit {0}) result }
+    ensures follows { Follows store_of (λ x. x) (onward_of link_of) reply_in (λ _. link_raised l.sizes l.old l.new (inode_in file) list) stepped result }
+    ensures fits { (hart : ℕ) (s : State) → txn ≡ hart → HasRoom l.new list → IsHeld hart file s → LeftOf (StoreFits hart s) (λ _. Unit {0}) stepped → LeftOf (OnwardFits LinkFits hart s) IsSpent result }
 {
     match stepped {
         Stepped::Waits(store) => Stepped::Waits(Onward::Runs(Link::Raising(
@@ -290,8 +299,10 @@ fn in_naming(left: Onward<AddName>) -> Onward<Link>
 }
 
 // A step while the new name is entered.
-fn naming(stepped: Stepped<Onward<AddName>, Reply, Kind>) -> Stepped<Onward<Link>, Reply, Kind>
-    ensures { result ≡ ends_within (onward_in (λ m. linking.Naming m)) (λ reply. reply) stepped }
+fn naming(
+    stepped: Stepped<Onward<AddName>, Answered, Kind>,
+) -> Stepped<Onward<Link>, Answered, Kind>
+    ensures { result ≡ ends_within (onward_in (λ m. linking.Naming m)) (λ answered. answered) stepped }
 {
     match stepped {
         Stepped::Waits(left) => Stepped::Waits(in_naming(left)),

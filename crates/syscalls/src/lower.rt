@@ -8,6 +8,7 @@ ghost use Rattle.fs_machine.specs.Tied.{LeavesTied};
 ghost use Rattle.inode_table.specs.Machines.{store_of, StoreFits};
 ghost use Rattle.file_table.specs.Machines.{IsEarly};
 ghost use Rattle.syscalls.specs.Nesting.{Follows};
+ghost use Rattle.syscalls.specs.Spent.{reply_in, IsSpent};
 ghost use Rattle.syscalls.specs.Onwards.{onward_of, OnwardFits};
 ghost use Rattle.syscalls.specs.Parts.{quit};
 ghost use Rattle.syscalls.specs.Taking.{inode_in, IsHeld};
@@ -15,6 +16,7 @@ ghost use Rattle.syscalls.specs.Ends.{give_of, GiveApart, GiveFits};
 ghost use Rattle.syscalls.specs.Unlinking.{leave_parent, links_of, lower_child, lower_of, lower_parent, lowered, store_held, with_link_less, AreHeld, LowerFits};
 ghost use Rattle.syscalls.specs.declared.onward.Onward.TheVariants as onward;
 
+use crate::answered::Answered;
 use crate::give::GiveUp;
 use crate::onward::Onward;
 use crate::quit::Quit;
@@ -28,7 +30,6 @@ use fs_machine::{Core, Kind, RetiredCore};
 use group_log::Txn;
 use inode_data::{record, with_record};
 use inode_table::StoreInode;
-use plain_tree::Reply;
 
 /// Of a name that was cleared: its directory has a link less where what it named is one too, and is given up; then what it named has a
 /// link less, and is given up.
@@ -66,13 +67,13 @@ impl Lower {
         self,
         hart: u8,
         core: &mut Core<D>,
-    ) -> Stepped<Onward<Lower>, Reply, Kind>
+    ) -> Stepped<Onward<Lower>, Answered, Kind>
         requires may { MayNext hart (lower_of self) (state_of D.contents D.failures core.old) }
         requires fits { LowerFits hart (state_of D.contents D.failures core.old) self }
-        ensures moves { Moves (onward_of lower_of) (λ reply. reply) hart (onward.Runs self) result (state_of D.contents D.failures core.old) (state_of D.contents D.failures core.new) }
+        ensures moves { Moves (onward_of lower_of) reply_in hart (onward.Runs self) result (state_of D.contents D.failures core.old) (state_of D.contents D.failures core.new) }
         ensures honest { Answers (onward_of lower_of) hart (onward.Runs self) result (state_of D.contents D.failures core.old) (state_of D.contents D.failures core.new) }
         ensures still { Still (onward_of lower_of) result (onward.Runs self) core.old core.new }
-        ensures fits { LeftOf (OnwardFits LowerFits hart (state_of D.contents D.failures core.new)) (λ _. Unit {0}) result }
+        ensures fits { LeftOf (OnwardFits LowerFits hart (state_of D.contents D.failures core.new)) IsSpent result }
         ensures others { LeavesTied hart (state_of D.contents D.failures core.old) (state_of D.contents D.failures core.new) }
         ensures called { CallsOnce D.Called core.old.log.cache.device core.new.log.cache.device }
     {
@@ -186,10 +187,10 @@ fn parent_storing(
     parent: Held,
     child: Held,
     stepped: Stepped<StoreInode, (), Kind>,
-) -> Stepped<Onward<Lower>, Reply, Kind>
+) -> Stepped<Onward<Lower>, Answered, Kind>
     requires { IsEarly ending.sizes.inodestart }
-    ensures follows { Follows store_of (λ x. x) (onward_of lower_of) (λ reply. reply) (λ _. leave_parent ending (inode_in parent) (inode_in child)) stepped result }
-    ensures fits { (hart : ℕ) (s : State) → txn ≡ hart → AreHeld hart parent child s → LeftOf (StoreFits hart s) (λ _. Unit {0}) stepped → LeftOf (OnwardFits LowerFits hart s) (λ _. Unit {0}) result }
+    ensures follows { Follows store_of (λ x. x) (onward_of lower_of) reply_in (λ _. leave_parent ending (inode_in parent) (inode_in child)) stepped result }
+    ensures fits { (hart : ℕ) (s : State) → txn ≡ hart → AreHeld hart parent child s → LeftOf (StoreFits hart s) (λ _. Unit {0}) stepped → LeftOf (OnwardFits LowerFits hart s) IsSpent result }
 {
     match stepped {
         Stepped::Waits(m) => Stepped::Waits(Onward::Runs(Lower::Parent(
@@ -216,11 +217,11 @@ fn leaving(
     txn: Txn,
     child: Held,
     stepped: Stepped<GiveUp, (), Kind>,
-) -> Stepped<Onward<Lower>, Reply, Kind>
+) -> Stepped<Onward<Lower>, Answered, Kind>
     requires early { IsEarly ending.sizes.inodestart }
     requires there { IsSome child.inode.value.content }
-    ensures follows { Follows give_of (λ x. x) (onward_of lower_of) (λ reply. reply) (λ _. lower_child ending (inode_in child)) stepped result }
-    ensures fits { (hart : ℕ) (s : State) → txn ≡ hart → IsHeld hart child s → LeftOf (λ m. GiveFits hart s m × GiveApart child.reference m) (λ _. Unit {0}) stepped → LeftOf (OnwardFits LowerFits hart s) (λ _. Unit {0}) result }
+    ensures follows { Follows give_of (λ x. x) (onward_of lower_of) reply_in (λ _. lower_child ending (inode_in child)) stepped result }
+    ensures fits { (hart : ℕ) (s : State) → txn ≡ hart → IsHeld hart child s → LeftOf (λ m. GiveFits hart s m × GiveApart child.reference m) (λ _. Unit {0}) stepped → LeftOf (OnwardFits LowerFits hart s) IsSpent result }
 {
     match stepped {
         Stepped::Waits(give) => Stepped::Waits(Onward::Runs(Lower::Leaving(
@@ -244,10 +245,10 @@ fn child_storing(
     txn: Txn,
     child: Held,
     stepped: Stepped<StoreInode, (), Kind>,
-) -> Stepped<Onward<Lower>, Reply, Kind>
+) -> Stepped<Onward<Lower>, Answered, Kind>
     requires { IsEarly ending.sizes.inodestart }
-    ensures follows { Follows store_of (λ x. x) (onward_of lower_of) (λ reply. reply) (λ _. quit ending.sizes (inode_in child ∷ []) ending.list ending.reply) stepped result }
-    ensures fits { (hart : ℕ) (s : State) → txn ≡ hart → IsHeld hart child s → LeftOf (StoreFits hart s) (λ _. Unit {0}) stepped → LeftOf (OnwardFits LowerFits hart s) (λ _. Unit {0}) result }
+    ensures follows { Follows store_of (λ x. x) (onward_of lower_of) reply_in (λ _. quit ending.sizes (inode_in child ∷ []) ending.list ending.reply) stepped result }
+    ensures fits { (hart : ℕ) (s : State) → txn ≡ hart → IsHeld hart child s → LeftOf (StoreFits hart s) (λ _. Unit {0}) stepped → LeftOf (OnwardFits LowerFits hart s) IsSpent result }
 {
     match stepped {
         Stepped::Waits(m) => Stepped::Waits(Onward::Runs(Lower::Child(ending, txn, child, m))),

@@ -11,6 +11,7 @@ ghost use Rattle.image_tree.specs.Trees.{count_of};
 ghost use Rattle.plain_tree.specs.Widths.{count_limit};
 ghost use Rattle.path_walk.specs.Elements.{longest_path, name_in, IsElement};
 ghost use Rattle.syscalls.specs.Nesting.{Follows};
+ghost use Rattle.syscalls.specs.Spent.{reply_in, IsSpent};
 ghost use Rattle.syscalls.specs.Onwards.{onward_of, OnwardFits};
 ghost use Rattle.syscalls.specs.Parts.{quit, stopped};
 ghost use Rattle.syscalls.specs.Taking.{inode_in, IsHeld};
@@ -23,6 +24,7 @@ ghost use Rattle.syscalls.specs.declared.seek.Dots.TheVariants as dots;
 ghost use Rattle.syscalls.specs.declared.mkdir.Mkdir.TheVariants as mkdir;
 ghost use Rattle.syscalls.specs.declared.onward.Onward.TheVariants as onward;
 
+use crate::answered::Answered;
 use crate::give::GiveUp;
 use crate::make::{MOST_LINKS, Make, Named, Sort, store, with_links};
 use crate::on_path::{OnPath, ending, stopped};
@@ -41,12 +43,12 @@ use group_log::Txn;
 use inode_data::{Begun, record};
 use inode_table::StoreInode;
 use path_walk::{Element, Stop};
-use plain_tree::{Answer, Bytes, Call, Cause, Reply};
+use plain_tree::{Answer, Bytes, Call, Cause};
 
 /// A mkdir under way.
 pub enum Mkdir {
     /// A transaction is joined.
-    Join(OnPath),
+    Join(OnPath, Listed),
     /// The last name is looked up in its parent.
     Seeking(OnPath, Txn, Seek),
     /// A directory is made. The parent gets this count of links then.
@@ -60,17 +62,19 @@ pub enum Mkdir {
 impl Mkdir {
     /// On a disk with this superblock.
     #[tactic(auto, unfolding(crate::specs::Mkdirs::mkdir_of, crate::specs::Mkdirs::MkdirFits))]
-    pub fn new(sizes: &Super, path: Bytes) -> Mkdir
+    pub fn new(sizes: &Super, path: Bytes, list: Listed) -> Mkdir
         requires sized { IsSized sizes.now }
         requires nonzero { All (λ b. b ≢ 0) path }
         requires short { length path ≤ longest_path }
+        requires none { list ≡ [] }
         ensures program { mkdir_of result ≡ mkdir_program sizes.now path }
         ensures fits { (hart : ℕ) (s : State) → MkdirFits hart s result }
     {
-        Mkdir::Join(OnPath {
+        let on = OnPath {
             sizes: *sizes,
             path,
-        })
+        };
+        Mkdir::Join(on, list)
     }
 
     /// One operation.
@@ -79,20 +83,20 @@ impl Mkdir {
         self,
         hart: u8,
         core: &mut Core<D>,
-    ) -> Stepped<Onward<Mkdir>, Reply, Kind>
+    ) -> Stepped<Onward<Mkdir>, Answered, Kind>
         requires may { MayNext hart (mkdir_of self) (state_of D.contents D.failures core.old) }
         requires fits { MkdirFits hart (state_of D.contents D.failures core.old) self }
-        ensures moves { Moves (onward_of mkdir_of) (λ reply. reply) hart (onward.Runs self) result (state_of D.contents D.failures core.old) (state_of D.contents D.failures core.new) }
+        ensures moves { Moves (onward_of mkdir_of) reply_in hart (onward.Runs self) result (state_of D.contents D.failures core.old) (state_of D.contents D.failures core.new) }
         ensures honest { Answers (onward_of mkdir_of) hart (onward.Runs self) result (state_of D.contents D.failures core.old) (state_of D.contents D.failures core.new) }
         ensures still { Still (onward_of mkdir_of) result (onward.Runs self) core.old core.new }
-        ensures fits { LeftOf (OnwardFits MkdirFits hart (state_of D.contents D.failures core.new)) (λ _. Unit {0}) result }
+        ensures fits { LeftOf (OnwardFits MkdirFits hart (state_of D.contents D.failures core.new)) IsSpent result }
         ensures others { LeavesTied hart (state_of D.contents D.failures core.old) (state_of D.contents D.failures core.new) }
         ensures called { CallsOnce D.Called core.old.log.cache.device core.new.log.cache.device }
     {
         match self {
-            Mkdir::Join(on) => match core.join(hart) {
-                None => Stepped::Waits(Onward::Runs(Mkdir::Join(on))),
-                Some(txn) => Stepped::Ran(joined(on, txn), Kind::Join),
+            Mkdir::Join(on, list) => match core.join(hart) {
+                None => Stepped::Waits(Onward::Runs(Mkdir::Join(on, list))),
+                Some(txn) => Stepped::Ran(joined(on, txn, list), Kind::Join),
             },
             Mkdir::Seeking(on, txn, seek) => {
                 let stepped = seek.step(hart, on.path.as_slice(), core);
@@ -120,7 +124,7 @@ impl Mkdir {
     /// Ends it in mid-call, after all that harts share has ended.
     pub fn retire(self, retired: &RetiredCore) {
         match self {
-            Mkdir::Join(_) => {}
+            Mkdir::Join(_, list) => list.retire(&retired.inodes),
             Mkdir::Seeking(_, txn, seek) => {
                 txn.retire(&retired.log);
                 seek.retire(retired);
@@ -149,8 +153,9 @@ impl Mkdir {
 
 // After a transaction was joined.
 #[tactic(auto, unfolding(crate::specs::Mkdirs::mkdir_of, crate::specs::Mkdirs::MkdirFits))]
-fn joined(on: OnPath, txn: Txn) -> Onward<Mkdir>
-    requires { IsNaming on }
+fn joined(on: OnPath, txn: Txn, list: Listed) -> Onward<Mkdir>
+    requires naming { IsNaming on }
+    requires none { list ≡ [] }
     ensures program { onward_of mkdir_of result ≡ bind (seek dots.LookedUp on.sizes.inodestart on.path []) (mkdir_seen on.sizes on.path) }
     ensures fits { (hart : ℕ) (s : State) → txn ≡ hart → OnwardFits MkdirFits hart s result }
 {
@@ -158,7 +163,7 @@ fn joined(on: OnPath, txn: Txn) -> Onward<Mkdir>
         on.path.as_slice(),
         on.sizes.inodestart,
         Dots::LookedUp,
-        Listed::new(),
+        list,
     );
     match begun {
         Begun::Runs(seek) => Onward::Runs(Mkdir::Seeking(on, txn, seek)),
@@ -260,11 +265,11 @@ fn seeking(
     on: OnPath,
     txn: Txn,
     stepped: Stepped<Seek, Seen, Kind>,
-) -> Stepped<Onward<Mkdir>, Reply, Kind>
+) -> Stepped<Onward<Mkdir>, Answered, Kind>
     requires on { IsNaming on }
     requires there { LeftOf (λ _. Unit {0}) (IsSight on.path) stepped }
-    ensures follows { Follows (seek_of on.path) (seen_as on.path) (onward_of mkdir_of) (λ reply. reply) (mkdir_seen on.sizes on.path) stepped result }
-    ensures fits { (hart : ℕ) (s : State) → txn ≡ hart → LeftOf (SeekFits on.path hart s) (IsSeen on.path hart s) stepped → LeftOf (OnwardFits MkdirFits hart s) (λ _. Unit {0}) result }
+    ensures follows { Follows (seek_of on.path) (seen_as on.path) (onward_of mkdir_of) reply_in (mkdir_seen on.sizes on.path) stepped result }
+    ensures fits { (hart : ℕ) (s : State) → txn ≡ hart → LeftOf (SeekFits on.path hart s) (IsSeen on.path hart s) stepped → LeftOf (OnwardFits MkdirFits hart s) IsSpent result }
 {
     match stepped {
         Stepped::Waits(seek) => Stepped::Waits(Onward::Runs(Mkdir::Seeking(on, txn, seek))),
@@ -283,12 +288,12 @@ fn making(
     element: Element,
     links: u16,
     stepped: Stepped<Make, Named, Kind>,
-) -> Stepped<Onward<Mkdir>, Reply, Kind>
+) -> Stepped<Onward<Mkdir>, Answered, Kind>
     requires on { IsNaming on }
     requires few { links < 2 ^ 15 }
     requires there { LeftOf (λ _. Unit {0}) IsThereNamed stepped }
-    ensures follows { Follows (make_of (name_in on.path element)) named_as (onward_of mkdir_of) (λ reply. reply) (mkdir_named on.sizes on.path links list) stepped result }
-    ensures fits { (hart : ℕ) (s : State) → txn ≡ hart → IsElement on.path element → LeftOf (MakeFits hart s) (IsNamed hart s) stepped → LeftOf (OnwardFits MkdirFits hart s) (λ _. Unit {0}) result }
+    ensures follows { Follows (make_of (name_in on.path element)) named_as (onward_of mkdir_of) reply_in (mkdir_named on.sizes on.path links list) stepped result }
+    ensures fits { (hart : ℕ) (s : State) → txn ≡ hart → IsElement on.path element → LeftOf (MakeFits hart s) (IsNamed hart s) stepped → LeftOf (OnwardFits MkdirFits hart s) IsSpent result }
 {
     match stepped {
         Stepped::Waits(make) => {
@@ -345,10 +350,10 @@ fn raising(
     parent: Held,
     child: Held,
     stepped: Stepped<StoreInode, (), Kind>,
-) -> Stepped<Onward<Mkdir>, Reply, Kind>
+) -> Stepped<Onward<Mkdir>, Answered, Kind>
     requires { IsNaming on }
-    ensures follows { Follows store_of (λ x. x) (onward_of mkdir_of) (λ reply. reply) (λ _. leave_made on.sizes on.path (inode_in parent) (inode_in child) list) stepped result }
-    ensures fits { (hart : ℕ) (s : State) → txn ≡ hart → IsHeld hart parent s → IsHeld hart child s → parent.reference ≢ child.reference → LeftOf (StoreFits hart s) (λ _. Unit {0}) stepped → LeftOf (OnwardFits MkdirFits hart s) (λ _. Unit {0}) result }
+    ensures follows { Follows store_of (λ x. x) (onward_of mkdir_of) reply_in (λ _. leave_made on.sizes on.path (inode_in parent) (inode_in child) list) stepped result }
+    ensures fits { (hart : ℕ) (s : State) → txn ≡ hart → IsHeld hart parent s → IsHeld hart child s → parent.reference ≢ child.reference → LeftOf (StoreFits hart s) (λ _. Unit {0}) stepped → LeftOf (OnwardFits MkdirFits hart s) IsSpent result }
 {
     match stepped {
         Stepped::Waits(store) => {
@@ -381,10 +386,10 @@ fn leaving(
     list: Listed,
     child: Held,
     stepped: Stepped<GiveUp, (), Kind>,
-) -> Stepped<Onward<Mkdir>, Reply, Kind>
+) -> Stepped<Onward<Mkdir>, Answered, Kind>
     requires { IsNaming on }
-    ensures follows { Follows give_of (λ x. x) (onward_of mkdir_of) (λ reply. reply) (λ _. quit on.sizes (inode_in child ∷ []) list (mkdir_reply on.path answers.Done)) stepped result }
-    ensures fits { (hart : ℕ) (s : State) → txn ≡ hart → IsHeld hart child s → LeftOf (λ m. GiveFits hart s m × GiveApart child.reference m) (λ _. Unit {0}) stepped → LeftOf (OnwardFits MkdirFits hart s) (λ _. Unit {0}) result }
+    ensures follows { Follows give_of (λ x. x) (onward_of mkdir_of) reply_in (λ _. quit on.sizes (inode_in child ∷ []) list (mkdir_reply on.path answers.Done)) stepped result }
+    ensures fits { (hart : ℕ) (s : State) → txn ≡ hart → IsHeld hart child s → LeftOf (λ m. GiveFits hart s m × GiveApart child.reference m) (λ _. Unit {0}) stepped → LeftOf (OnwardFits MkdirFits hart s) IsSpent result }
 {
     match stepped {
         Stepped::Waits(give) => Stepped::Waits(Onward::Runs(Mkdir::Leaving(

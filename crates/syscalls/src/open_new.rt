@@ -8,6 +8,7 @@ ghost use Rattle.fs_machine.specs.Tied.{LeavesTied};
 ghost use Rattle.inode_data.specs.Machines.{ends_within};
 ghost use Rattle.path_walk.specs.Elements.{longest_path, name_in, IsElement};
 ghost use Rattle.syscalls.specs.Nesting.{Follows};
+ghost use Rattle.syscalls.specs.Spent.{reply_in, IsSpent};
 ghost use Rattle.syscalls.specs.Onwards.{onward_in, onward_of, OnwardFits};
 ghost use Rattle.syscalls.specs.Parts.{quit, stopped};
 ghost use Rattle.syscalls.specs.Opening.{open_at, open_reply};
@@ -20,6 +21,7 @@ ghost use Rattle.syscalls.specs.declared.seek.Dots.TheVariants as dots;
 ghost use Rattle.syscalls.specs.declared.open_new.OpenNew.TheVariants as opening_new;
 ghost use Rattle.syscalls.specs.declared.onward.Onward.TheVariants as onward;
 
+use crate::answered::Answered;
 use crate::give::GiveUp;
 use crate::install::{Install, Opening, ToOpen};
 use crate::make::{Make, Named, Sort};
@@ -37,12 +39,12 @@ use fs_tables::{Listed, Reference};
 use group_log::Txn;
 use inode_data::Begun;
 use path_walk::{Element, Stop};
-use plain_tree::{Answer, Bytes, Call, Cause, Full, Reply};
+use plain_tree::{Answer, Bytes, Call, Cause, Full};
 
 /// An open with CREATE under way.
 pub enum OpenNew {
     /// A transaction is joined.
-    Join(Opening),
+    Join(Opening, Listed),
     /// The last name is looked up in its parent.
     Seeking(Opening, Txn, Seek),
     /// It is there: a reference to its inode is taken.
@@ -62,18 +64,20 @@ pub enum OpenNew {
 impl OpenNew {
     /// On a disk with this superblock.
     #[tactic(auto, unfolding(crate::specs::Creating::open_new_of, crate::specs::Creating::OpenNewFits))]
-    pub fn new(sizes: &Super, path: Bytes, flags: u32) -> OpenNew
+    pub fn new(sizes: &Super, path: Bytes, flags: u32, list: Listed) -> OpenNew
         requires sized { IsSized sizes.now }
         requires nonzero { All (λ b. b ≢ 0) path }
         requires short { length path ≤ longest_path }
+        requires none { list ≡ [] }
         ensures program { open_new_of result ≡ open_new sizes.now path flags }
         ensures fits { (hart : ℕ) (s : State) → OpenNewFits hart s result }
     {
-        OpenNew::Join(Opening {
+        let opening = Opening {
             sizes: *sizes,
             path,
             flags,
-        })
+        };
+        OpenNew::Join(opening, list)
     }
 
     /// One operation.
@@ -82,20 +86,20 @@ impl OpenNew {
         self,
         hart: u8,
         core: &mut Core<D>,
-    ) -> Stepped<Onward<OpenNew>, Reply, Kind>
+    ) -> Stepped<Onward<OpenNew>, Answered, Kind>
         requires may { MayNext hart (open_new_of self) (state_of D.contents D.failures core.old) }
         requires fits { OpenNewFits hart (state_of D.contents D.failures core.old) self }
-        ensures moves { Moves (onward_of open_new_of) (λ reply. reply) hart (onward.Runs self) result (state_of D.contents D.failures core.old) (state_of D.contents D.failures core.new) }
+        ensures moves { Moves (onward_of open_new_of) reply_in hart (onward.Runs self) result (state_of D.contents D.failures core.old) (state_of D.contents D.failures core.new) }
         ensures honest { Answers (onward_of open_new_of) hart (onward.Runs self) result (state_of D.contents D.failures core.old) (state_of D.contents D.failures core.new) }
         ensures still { Still (onward_of open_new_of) result (onward.Runs self) core.old core.new }
-        ensures fits { LeftOf (OnwardFits OpenNewFits hart (state_of D.contents D.failures core.new)) (λ _. Unit {0}) result }
+        ensures fits { LeftOf (OnwardFits OpenNewFits hart (state_of D.contents D.failures core.new)) IsSpent result }
         ensures others { LeavesTied hart (state_of D.contents D.failures core.old) (state_of D.contents D.failures core.new) }
         ensures called { CallsOnce D.Called core.old.log.cache.device core.new.log.cache.device }
     {
         match self {
-            OpenNew::Join(o) => match core.join(hart) {
-                None => Stepped::Waits(Onward::Runs(OpenNew::Join(o))),
-                Some(txn) => Stepped::Ran(joined(o, txn), Kind::Join),
+            OpenNew::Join(o, list) => match core.join(hart) {
+                None => Stepped::Waits(Onward::Runs(OpenNew::Join(o, list))),
+                Some(txn) => Stepped::Ran(joined(o, txn, list), Kind::Join),
             },
             OpenNew::Seeking(o, txn, seek) => {
                 let stepped = seek.step(hart, o.path.as_slice(), core);
@@ -129,7 +133,7 @@ impl OpenNew {
     /// Ends it in mid-call, after all that harts share has ended.
     pub fn retire(self, retired: &RetiredCore) {
         match self {
-            OpenNew::Join(_) => {}
+            OpenNew::Join(_, list) => list.retire(&retired.inodes),
             OpenNew::Seeking(_, txn, seek) => {
                 txn.retire(&retired.log);
                 seek.retire(retired);
@@ -168,8 +172,9 @@ impl OpenNew {
 
 // After a transaction was joined.
 #[tactic(auto, unfolding(crate::specs::Creating::open_new_of, crate::specs::Creating::OpenNewFits))]
-fn joined(opening: Opening, txn: Txn) -> Onward<OpenNew>
-    requires { IsCreating opening }
+fn joined(opening: Opening, txn: Txn, list: Listed) -> Onward<OpenNew>
+    requires creating { IsCreating opening }
+    requires none { list ≡ [] }
     ensures program { onward_of open_new_of result ≡ bind (seek dots.LookedUp opening.sizes.inodestart opening.path []) (open_seen opening.sizes opening.path opening.flags) }
     ensures fits { (hart : ℕ) (s : State) → txn ≡ hart → OnwardFits OpenNewFits hart s result }
 {
@@ -177,7 +182,7 @@ fn joined(opening: Opening, txn: Txn) -> Onward<OpenNew>
         opening.path.as_slice(),
         opening.sizes.inodestart,
         Dots::LookedUp,
-        Listed::new(),
+        list,
     );
     match begun {
         Begun::Runs(seek) => Onward::Runs(OpenNew::Seeking(opening, txn, seek)),
@@ -283,10 +288,10 @@ fn seeking(
     opening: Opening,
     txn: Txn,
     stepped: Stepped<Seek, Seen, Kind>,
-) -> Stepped<Onward<OpenNew>, Reply, Kind>
+) -> Stepped<Onward<OpenNew>, Answered, Kind>
     requires { IsCreating opening }
-    ensures follows { Follows (seek_of opening.path) (seen_as opening.path) (onward_of open_new_of) (λ reply. reply) (open_seen opening.sizes opening.path opening.flags) stepped result }
-    ensures fits { (hart : ℕ) (s : State) → txn ≡ hart → LeftOf (SeekFits opening.path hart s) (IsSeen opening.path hart s) stepped → LeftOf (OnwardFits OpenNewFits hart s) (λ _. Unit {0}) result }
+    ensures follows { Follows (seek_of opening.path) (seen_as opening.path) (onward_of open_new_of) reply_in (open_seen opening.sizes opening.path opening.flags) stepped result }
+    ensures fits { (hart : ℕ) (s : State) → txn ≡ hart → LeftOf (SeekFits opening.path hart s) (IsSeen opening.path hart s) stepped → LeftOf (OnwardFits OpenNewFits hart s) IsSpent result }
 {
     match stepped {
         Stepped::Waits(seek) => Stepped::Waits(Onward::Runs(OpenNew::Seeking(opening, txn, seek))),
@@ -309,10 +314,10 @@ fn leaving(
     list: Listed,
     reference: Reference,
     stepped: Stepped<GiveUp, (), Kind>,
-) -> Stepped<Onward<OpenNew>, Reply, Kind>
+) -> Stepped<Onward<OpenNew>, Answered, Kind>
     requires { IsCreating opening }
-    ensures follows { Follows give_of (λ x. x) (onward_of open_new_of) (λ reply. reply) (λ _. open_taken opening.sizes opening.path opening.flags reference list) stepped result }
-    ensures fits { (hart : ℕ) (s : State) → txn ≡ hart → LeftOf (GiveFits hart s) (λ _. Unit {0}) stepped → LeftOf (OnwardFits OpenNewFits hart s) (λ _. Unit {0}) result }
+    ensures follows { Follows give_of (λ x. x) (onward_of open_new_of) reply_in (λ _. open_taken opening.sizes opening.path opening.flags reference list) stepped result }
+    ensures fits { (hart : ℕ) (s : State) → txn ≡ hart → LeftOf (GiveFits hart s) (λ _. Unit {0}) stepped → LeftOf (OnwardFits OpenNewFits hart s) IsSpent result }
 {
     match stepped {
         Stepped::Waits(give) => {
@@ -344,11 +349,11 @@ fn taking(
     txn: Txn,
     list: Listed,
     stepped: Stepped<TakeInode, Held, Kind>,
-) -> Stepped<Onward<OpenNew>, Reply, Kind>
+) -> Stepped<Onward<OpenNew>, Answered, Kind>
     requires opening { IsCreating opening }
     requires there { LeftOf (λ _. Unit {0}) (λ held. IsSome held.inode.value.content) stepped }
-    ensures follows { Follows take_of inode_in (onward_of open_new_of) (λ reply. reply) (λ w. open_at opening.sizes opening.path opening.flags w list) stepped result }
-    ensures fits { (hart : ℕ) (s : State) → txn ≡ hart → LeftOf (TakeFits hart s) (λ held. IsHeld hart held s) stepped → LeftOf (OnwardFits OpenNewFits hart s) (λ _. Unit {0}) result }
+    ensures follows { Follows take_of inode_in (onward_of open_new_of) reply_in (λ w. open_at opening.sizes opening.path opening.flags w list) stepped result }
+    ensures fits { (hart : ℕ) (s : State) → txn ≡ hart → LeftOf (TakeFits hart s) (λ held. IsHeld hart held s) stepped → LeftOf (OnwardFits OpenNewFits hart s) IsSpent result }
 {
     match stepped {
         Stepped::Waits(take) => Stepped::Waits(Onward::Runs(OpenNew::Taking(
@@ -373,10 +378,10 @@ fn making(
     list: Listed,
     element: Element,
     stepped: Stepped<Make, Named, Kind>,
-) -> Stepped<Onward<OpenNew>, Reply, Kind>
+) -> Stepped<Onward<OpenNew>, Answered, Kind>
     requires { IsCreating opening }
-    ensures follows { Follows (make_of (name_in opening.path element)) named_as (onward_of open_new_of) (λ reply. reply) (open_named opening.sizes opening.path opening.flags list) stepped result }
-    ensures fits { (hart : ℕ) (s : State) → txn ≡ hart → IsElement opening.path element → LeftOf (MakeFits hart s) (IsNamed hart s) stepped → LeftOf (OnwardFits OpenNewFits hart s) (λ _. Unit {0}) result }
+    ensures follows { Follows (make_of (name_in opening.path element)) named_as (onward_of open_new_of) reply_in (open_named opening.sizes opening.path opening.flags list) stepped result }
+    ensures fits { (hart : ℕ) (s : State) → txn ≡ hart → IsElement opening.path element → LeftOf (MakeFits hart s) (IsNamed hart s) stepped → LeftOf (OnwardFits OpenNewFits hart s) IsSpent result }
 {
     match stepped {
         Stepped::Waits(make) => {
@@ -419,10 +424,10 @@ fn made(
     list: Listed,
     held: Held,
     stepped: Stepped<GiveUp, (), Kind>,
-) -> Stepped<Onward<OpenNew>, Reply, Kind>
+) -> Stepped<Onward<OpenNew>, Answered, Kind>
     requires { IsCreating opening }
-    ensures follows { Follows give_of (λ x. x) (onward_of open_new_of) (λ reply. reply) (λ _. open_made opening.sizes opening.path opening.flags (inode_in held) list) stepped result }
-    ensures fits { (hart : ℕ) (s : State) → txn ≡ hart → IsHeld hart held s → LeftOf (λ m. GiveFits hart s m × GiveApart held.reference m) (λ _. Unit {0}) stepped → LeftOf (OnwardFits OpenNewFits hart s) (λ _. Unit {0}) result }
+    ensures follows { Follows give_of (λ x. x) (onward_of open_new_of) reply_in (λ _. open_made opening.sizes opening.path opening.flags (inode_in held) list) stepped result }
+    ensures fits { (hart : ℕ) (s : State) → txn ≡ hart → IsHeld hart held s → LeftOf (λ m. GiveFits hart s m × GiveApart held.reference m) (λ _. Unit {0}) stepped → LeftOf (OnwardFits OpenNewFits hart s) IsSpent result }
 {
     match stepped {
         Stepped::Waits(give) => Stepped::Waits(Onward::Runs(OpenNew::Made(
@@ -463,8 +468,10 @@ fn in_opens(left: Onward<OpenOld>) -> Onward<OpenNew>
 }
 
 // A step while the inode is opened, or the call ends.
-fn opens(stepped: Stepped<Onward<OpenOld>, Reply, Kind>) -> Stepped<Onward<OpenNew>, Reply, Kind>
-    ensures { result ≡ ends_within (onward_in (λ m. opening_new.Opens m)) (λ reply. reply) stepped }
+fn opens(
+    stepped: Stepped<Onward<OpenOld>, Answered, Kind>,
+) -> Stepped<Onward<OpenNew>, Answered, Kind>
+    ensures { result ≡ ends_within (onward_in (λ m. opening_new.Opens m)) (λ answered. answered) stepped }
 {
     match stepped {
         Stepped::Waits(left) => Stepped::Waits(in_opens(left)),

@@ -1,5 +1,5 @@
 //! open without CREATE: of what is there.
-ghost use Rattle.std.specs.Prelude.{◌≡◌, ◌≢◌, ◌≤◌, ℕ, All, IsSome, length};
+ghost use Rattle.std.specs.Prelude.{◌≡◌, [], ◌≢◌, ◌≤◌, ℕ, All, IsSome, length};
 ghost use Rattle.atomic_programs.specs.Machines.{Still, Left as LeftOf};
 ghost use Rattle.fs_machine.specs.Steps.{State, state_of};
 ghost use Rattle.fs_machine.specs.Machines.{MayNext, Moves, Answers, CallsOnce};
@@ -9,6 +9,7 @@ ghost use Rattle.file_table.specs.Machines.{IsEarly};
 ghost use Rattle.plain_tree.specs.Steps.{has_driver};
 ghost use Rattle.path_walk.specs.Elements.{longest_path};
 ghost use Rattle.syscalls.specs.Nesting.{Follows};
+ghost use Rattle.syscalls.specs.Spent.{reply_in, IsSpent};
 ghost use Rattle.syscalls.specs.Onwards.{onward_in, onward_of, OnwardFits};
 ghost use Rattle.syscalls.specs.Parts.{Misses};
 ghost use Rattle.syscalls.specs.Opening.{empties, open_at, open_found, open_old, open_refusal};
@@ -17,6 +18,7 @@ ghost use Rattle.syscalls.specs.Opens.{open_old_of, OpenOldFits, IsOpening};
 ghost use Rattle.syscalls.specs.declared.open_old.OpenOld.TheVariants as old;
 ghost use Rattle.syscalls.specs.declared.onward.Onward.TheVariants as onward;
 
+use crate::answered::Answered;
 use crate::install::{Install, Opening, ToOpen, has_flag, is_regular};
 use crate::on_path::{ending, stopped};
 use crate::onward::Onward;
@@ -32,7 +34,7 @@ use fs_tables::Listed;
 use group_log::Txn;
 use inode_data::record;
 use path_walk::{Goal, Stop};
-use plain_tree::{Answer, Bytes, Call, Cause, Reply};
+use plain_tree::{Answer, Bytes, Call, Cause};
 
 const TRUNCATE: u32 = 1024;
 
@@ -41,8 +43,8 @@ const MAJOR_LIMIT: i16 = 10;
 
 /// An open without CREATE under way.
 pub enum OpenOld {
-    /// A transaction is joined.
-    Join(Opening),
+    /// A transaction is joined. The list is empty.
+    Join(Opening, Listed),
     /// What the path leads to is taken.
     Reaching(Opening, Txn, Reach),
     /// It gets a place and a descriptor.
@@ -52,18 +54,20 @@ pub enum OpenOld {
 impl OpenOld {
     /// On a disk with this superblock.
     #[tactic(auto, unfolding(crate::specs::Opens::open_old_of, crate::specs::Opens::OpenOldFits))]
-    pub fn new(sizes: &Super, path: Bytes, flags: u32) -> OpenOld
+    pub fn new(sizes: &Super, path: Bytes, flags: u32, list: Listed) -> OpenOld
         requires early { IsEarly sizes.now.inodestart }
         requires short { length path ≤ longest_path }
         requires nonzero { All (λ b. b ≢ 0) path }
+        requires none { list ≡ [] }
         ensures program { open_old_of result ≡ open_old sizes.now path flags }
         ensures fits { (hart : ℕ) (s : State) → OpenOldFits hart s result }
     {
-        OpenOld::Join(Opening {
+        let opening = Opening {
             sizes: *sizes,
             path,
             flags,
-        })
+        };
+        OpenOld::Join(opening, list)
     }
 
     /// One operation.
@@ -72,21 +76,21 @@ impl OpenOld {
         self,
         hart: u8,
         core: &mut Core<D>,
-    ) -> Stepped<Onward<OpenOld>, Reply, Kind>
+    ) -> Stepped<Onward<OpenOld>, Answered, Kind>
         requires may { MayNext hart (open_old_of self) (state_of D.contents D.failures core.old) }
         requires fits { OpenOldFits hart (state_of D.contents D.failures core.old) self }
-        ensures moves { Moves (onward_of open_old_of) (λ reply. reply) hart (onward.Runs self) result (state_of D.contents D.failures core.old) (state_of D.contents D.failures core.new) }
+        ensures moves { Moves (onward_of open_old_of) reply_in hart (onward.Runs self) result (state_of D.contents D.failures core.old) (state_of D.contents D.failures core.new) }
         ensures honest { Answers (onward_of open_old_of) hart (onward.Runs self) result (state_of D.contents D.failures core.old) (state_of D.contents D.failures core.new) }
         ensures still { Still (onward_of open_old_of) result (onward.Runs self) core.old core.new }
-        ensures fits { LeftOf (OnwardFits OpenOldFits hart (state_of D.contents D.failures core.new)) (λ _. Unit {0}) result }
+        ensures fits { LeftOf (OnwardFits OpenOldFits hart (state_of D.contents D.failures core.new)) IsSpent result }
         ensures others { LeavesTied hart (state_of D.contents D.failures core.old) (state_of D.contents D.failures core.new) }
         ensures called { CallsOnce D.Called core.old.log.cache.device core.new.log.cache.device }
     {
         match self {
-            OpenOld::Join(o) => match core.join(hart) {
-                None => Stepped::Waits(Onward::Runs(OpenOld::Join(o))),
+            OpenOld::Join(o, list) => match core.join(hart) {
+                None => Stepped::Waits(Onward::Runs(OpenOld::Join(o, list))),
                 Some(txn) => {
-                    let reach = Reach::new(o.sizes.inodestart, Goal::Node, Listed::new());
+                    let reach = Reach::new(o.sizes.inodestart, Goal::Node, list);
                     Stepped::Ran(Onward::Runs(OpenOld::Reaching(o, txn, reach)), Kind::Join)
                 }
             },
@@ -101,7 +105,7 @@ impl OpenOld {
     /// Ends it in mid-call, after all that harts share has ended.
     pub fn retire(self, retired: &RetiredCore) {
         match self {
-            OpenOld::Join(_) => {}
+            OpenOld::Join(_, list) => list.retire(&retired.inodes),
             OpenOld::Reaching(_, txn, reach) => {
                 txn.retire(&retired.log);
                 reach.retire(retired);
@@ -185,11 +189,11 @@ fn reaching(
     opening: Opening,
     txn: Txn,
     stepped: Stepped<Reach, Reached, Kind>,
-) -> Stepped<Onward<OpenOld>, Reply, Kind>
+) -> Stepped<Onward<OpenOld>, Answered, Kind>
     requires opening { IsOpening opening }
     requires there { LeftOf (λ _. Unit {0}) (IsThere opening.path) stepped }
-    ensures follows { Follows (reach_of opening.path) (reached_as opening.path) (onward_of open_old_of) (λ reply. reply) (open_found opening.sizes opening.path opening.flags) stepped result }
-    ensures fits { (hart : ℕ) (s : State) → txn ≡ hart → LeftOf (ReachFits opening.path hart s) (IsReached opening.path hart s) stepped → LeftOf (OnwardFits OpenOldFits hart s) (λ _. Unit {0}) result }
+    ensures follows { Follows (reach_of opening.path) (reached_as opening.path) (onward_of open_old_of) reply_in (open_found opening.sizes opening.path opening.flags) stepped result }
+    ensures fits { (hart : ℕ) (s : State) → txn ≡ hart → LeftOf (ReachFits opening.path hart s) (IsReached opening.path hart s) stepped → LeftOf (OnwardFits OpenOldFits hart s) IsSpent result }
 {
     match stepped {
         Stepped::Waits(reach) => Stepped::Waits(Onward::Runs(OpenOld::Reaching(
@@ -220,9 +224,9 @@ fn in_installing(left: Onward<Install>) -> Onward<OpenOld>
 
 // A step while the inode gets a place and a descriptor.
 fn installing(
-    stepped: Stepped<Onward<Install>, Reply, Kind>,
-) -> Stepped<Onward<OpenOld>, Reply, Kind>
-    ensures { result ≡ ends_within (onward_in (λ m. old.Installing m)) (λ reply. reply) stepped }
+    stepped: Stepped<Onward<Install>, Answered, Kind>,
+) -> Stepped<Onward<OpenOld>, Answered, Kind>
+    ensures { result ≡ ends_within (onward_in (λ m. old.Installing m)) (λ answered. answered) stepped }
 {
     match stepped {
         Stepped::Waits(left) => Stepped::Waits(in_installing(left)),

@@ -7,11 +7,13 @@ ghost use Rattle.fs_machine.specs.Tied.{IsOwnInode, LeavesTied};
 ghost use Rattle.inode_data.specs.Machines.{ends_within};
 ghost use Rattle.file_table.specs.Machines.{IsEarly};
 ghost use Rattle.syscalls.specs.Nesting.{Follows};
+ghost use Rattle.syscalls.specs.Spent.{reply_in, IsSpent};
 ghost use Rattle.syscalls.specs.Parts.{quit, unlock_quit, drop_quit};
 ghost use Rattle.syscalls.specs.Taking.{inode_in, IsHeld};
 ghost use Rattle.syscalls.specs.Ends.{give_of, GiveApart, GiveFits, quit_of, QuitFits, tail_for};
 ghost use Rattle.syscalls.specs.declared.quit.Quit.TheVariants as quitting;
 
+use crate::answered::Answered;
 use crate::give::GiveUp;
 use crate::tail::{Ending, Tail};
 use crate::take::Held;
@@ -20,7 +22,6 @@ use block_device::Device;
 use fs_machine::{Core, Kind, RetiredCore};
 use fs_tables::{Inode, Reference};
 use group_log::Txn;
-use plain_tree::Reply;
 use sleep_lock::Guard;
 
 /// The end of a call with a transaction.
@@ -91,13 +92,13 @@ impl Quit {
 
     /// One operation.
     #[tactic(auto, unfolding(crate::specs::Ends::quit_of, crate::specs::Ends::QuitFits, fs_machine::specs::Premises::Honest))]
-    pub fn step<D: Device>(self, hart: u8, core: &mut Core<D>) -> Stepped<Quit, Reply, Kind>
+    pub fn step<D: Device>(self, hart: u8, core: &mut Core<D>) -> Stepped<Quit, Answered, Kind>
         requires may { MayNext hart (quit_of self) (state_of D.contents D.failures core.old) }
         requires fits { QuitFits hart (state_of D.contents D.failures core.old) self }
-        ensures moves { Moves quit_of (λ reply. reply) hart self result (state_of D.contents D.failures core.old) (state_of D.contents D.failures core.new) }
+        ensures moves { Moves quit_of reply_in hart self result (state_of D.contents D.failures core.old) (state_of D.contents D.failures core.new) }
         ensures honest { Answers quit_of hart self result (state_of D.contents D.failures core.old) (state_of D.contents D.failures core.new) }
         ensures still { Still quit_of result self core.old core.new }
-        ensures fits { LeftOf (QuitFits hart (state_of D.contents D.failures core.new)) (λ _. Unit {0}) result }
+        ensures fits { LeftOf (QuitFits hart (state_of D.contents D.failures core.new)) IsSpent result }
         ensures others { LeavesTied hart (state_of D.contents D.failures core.old) (state_of D.contents D.failures core.new) }
         ensures called { CallsOnce D.Called core.old.log.cache.device core.new.log.cache.device }
     {
@@ -150,10 +151,10 @@ fn giving(
     ending: Ending,
     txn: Txn,
     stepped: Stepped<GiveUp, (), Kind>,
-) -> Stepped<Quit, Reply, Kind>
+) -> Stepped<Quit, Answered, Kind>
     requires early { IsEarly ending.sizes.inodestart }
-    ensures follows { Follows give_of (λ x. x) quit_of (λ reply. reply) (λ _. tail_for ending) stepped result }
-    ensures fits { (hart : ℕ) (s : State) → txn ≡ hart → LeftOf (GiveFits hart s) (λ _. Unit {0}) stepped → LeftOf (QuitFits hart s) (λ _. Unit {0}) result }
+    ensures follows { Follows give_of (λ x. x) quit_of reply_in (λ _. tail_for ending) stepped result }
+    ensures fits { (hart : ℕ) (s : State) → txn ≡ hart → LeftOf (GiveFits hart s) (λ _. Unit {0}) stepped → LeftOf (QuitFits hart s) IsSpent result }
 {
     match stepped {
         Stepped::Waits(give) => Stepped::Waits(Quit::Giving(ending, txn, give)),
@@ -170,10 +171,10 @@ fn giving_first(
     txn: Txn,
     second: Held,
     stepped: Stepped<GiveUp, (), Kind>,
-) -> Stepped<Quit, Reply, Kind>
+) -> Stepped<Quit, Answered, Kind>
     requires early { IsEarly ending.sizes.inodestart }
-    ensures follows { Follows give_of (λ x. x) quit_of (λ reply. reply) (λ _. quit ending.sizes (inode_in second ∷ []) ending.list ending.reply) stepped result }
-    ensures fits { (hart : ℕ) (s : State) → txn ≡ hart → IsHeld hart second s → LeftOf (λ m. GiveFits hart s m × GiveApart second.reference m) (λ _. Unit {0}) stepped → LeftOf (QuitFits hart s) (λ _. Unit {0}) result }
+    ensures follows { Follows give_of (λ x. x) quit_of reply_in (λ _. quit ending.sizes (inode_in second ∷ []) ending.list ending.reply) stepped result }
+    ensures fits { (hart : ℕ) (s : State) → txn ≡ hart → IsHeld hart second s → LeftOf (λ m. GiveFits hart s m × GiveApart second.reference m) (λ _. Unit {0}) stepped → LeftOf (QuitFits hart s) IsSpent result }
 {
     match stepped {
         Stepped::Waits(give) => Stepped::Waits(Quit::Two(ending, txn, second, give)),
@@ -184,8 +185,8 @@ fn giving_first(
 }
 
 // A step of the tail.
-fn tailing(stepped: Stepped<Tail, Reply, Kind>) -> Stepped<Quit, Reply, Kind>
-    ensures { result ≡ ends_within (λ m. quitting.Tail m) (λ reply. reply) stepped }
+fn tailing(stepped: Stepped<Tail, Answered, Kind>) -> Stepped<Quit, Answered, Kind>
+    ensures { result ≡ ends_within (λ m. quitting.Tail m) (λ answered. answered) stepped }
 {
     match stepped {
         Stepped::Waits(tail) => Stepped::Waits(Quit::Tail(tail)),

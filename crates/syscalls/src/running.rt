@@ -6,8 +6,10 @@ ghost use Rattle.fs_machine.specs.Machines.{MayNext, Moves, Answers, CallsOnce};
 ghost use Rattle.fs_machine.specs.Tied.{LeavesTied};
 ghost use Rattle.inode_data.specs.Machines.{ends_within};
 ghost use Rattle.syscalls.specs.Machines.{onward_as, running_of, RunningFits};
+ghost use Rattle.syscalls.specs.Spent.{reply_in, with_list, IsSpent};
 ghost use Rattle.syscalls.specs.declared.running.Running.TheVariants as running;
 
+use crate::answered::Answered;
 use crate::chdir::Chdir;
 use crate::close::Close;
 use crate::dup::Dup;
@@ -26,9 +28,10 @@ use atomic_programs::machines::Stepped;
 use block_device::Device;
 use buffer_cache::HARTS;
 use fs_machine::{Core, Kind, RetiredCore};
+use fs_tables::Listed;
 use plain_tree::Reply;
 
-/// A call under way.
+/// A call under way. A call without a path has its hart's list beside it, which it doesn't need.
 pub enum Running {
     /// An open without CREATE.
     Open(OpenOld),
@@ -37,13 +40,13 @@ pub enum Running {
     Link(Link),
     Mkdir(Mkdir),
     Chdir(Chdir),
-    Dup(Dup),
-    Close(Close),
-    Fstat(Fstat),
-    Read(Read),
-    Write(Write),
+    Dup(Dup, Listed),
+    Close(Close, Listed),
+    Fstat(Fstat, Listed),
+    Read(Read, Listed),
+    Write(Write, Listed),
     Unlink(Unlink),
-    Inherit(Inherit),
+    Inherit(Inherit, Listed),
     /// The end of a call on a path.
     Ends(Quit),
 }
@@ -56,14 +59,14 @@ const _: () = prove!(size_of::<Running>() <= MOST_BYTES);
 impl Running {
     /// One operation.
     #[tactic(auto, unfolding(crate::specs::Machines::running_of, crate::specs::Machines::RunningFits))]
-    pub fn step<D: Device>(self, hart: u8, core: &mut Core<D>) -> Stepped<Running, Reply, Kind>
+    pub fn step<D: Device>(self, hart: u8, core: &mut Core<D>) -> Stepped<Running, Answered, Kind>
         requires hart { hart < HARTS }
         requires may { MayNext hart (running_of self) (state_of D.contents D.failures core.old) }
         requires fits { RunningFits hart (state_of D.contents D.failures core.old) self }
-        ensures moves { Moves running_of (λ reply. reply) hart self result (state_of D.contents D.failures core.old) (state_of D.contents D.failures core.new) }
+        ensures moves { Moves running_of reply_in hart self result (state_of D.contents D.failures core.old) (state_of D.contents D.failures core.new) }
         ensures honest { Answers running_of hart self result (state_of D.contents D.failures core.old) (state_of D.contents D.failures core.new) }
         ensures still { Still running_of result self core.old core.new }
-        ensures fits { LeftOf (RunningFits hart (state_of D.contents D.failures core.new)) (λ _. Unit {0}) result }
+        ensures fits { LeftOf (RunningFits hart (state_of D.contents D.failures core.new)) IsSpent result }
         ensures others { LeavesTied hart (state_of D.contents D.failures core.old) (state_of D.contents D.failures core.new) }
         ensures called { CallsOnce D.Called core.old.log.cache.device core.new.log.cache.device }
     {
@@ -73,13 +76,13 @@ impl Running {
             Running::Link(m) => in_link(m.step(hart, core)),
             Running::Mkdir(m) => in_mkdir(m.step(hart, core)),
             Running::Chdir(m) => in_chdir(m.step(hart, core)),
-            Running::Dup(m) => in_dup(m.step(hart, core)),
-            Running::Close(m) => in_close(m.step(hart, core)),
-            Running::Fstat(m) => in_fstat(m.step(hart, core)),
-            Running::Read(m) => in_read(m.step(hart, core)),
-            Running::Write(m) => in_write(m.step(hart, core)),
+            Running::Dup(m, list) => in_dup(list, m.step(hart, core)),
+            Running::Close(m, list) => in_close(list, m.step(hart, core)),
+            Running::Fstat(m, list) => in_fstat(list, m.step(hart, core)),
+            Running::Read(m, list) => in_read(list, m.step(hart, core)),
+            Running::Write(m, list) => in_write(list, m.step(hart, core)),
             Running::Unlink(m) => in_unlink(m.step(hart, core)),
-            Running::Inherit(m) => in_inherit(m.step(hart, core)),
+            Running::Inherit(m, list) => in_inherit(list, m.step(hart, core)),
             Running::Ends(m) => in_ends(m.step(hart, core)),
         }
     }
@@ -92,13 +95,31 @@ impl Running {
             Running::Link(m) => m.retire(retired),
             Running::Mkdir(m) => m.retire(retired),
             Running::Chdir(m) => m.retire(retired),
-            Running::Dup(m) => m.retire(retired),
-            Running::Close(m) => m.retire(retired),
-            Running::Fstat(m) => m.retire(retired),
-            Running::Read(m) => m.retire(retired),
-            Running::Write(m) => m.retire(retired),
+            Running::Dup(m, list) => {
+                m.retire(retired);
+                list.retire(&retired.inodes);
+            }
+            Running::Close(m, list) => {
+                m.retire(retired);
+                list.retire(&retired.inodes);
+            }
+            Running::Fstat(m, list) => {
+                m.retire(retired);
+                list.retire(&retired.inodes);
+            }
+            Running::Read(m, list) => {
+                m.retire(retired);
+                list.retire(&retired.inodes);
+            }
+            Running::Write(m, list) => {
+                m.retire(retired);
+                list.retire(&retired.inodes);
+            }
             Running::Unlink(m) => m.retire(retired),
-            Running::Inherit(m) => m.retire(retired),
+            Running::Inherit(m, list) => {
+                m.retire(retired);
+                list.retire(&retired.inodes);
+            }
             Running::Ends(m) => m.retire(retired),
         }
     }
@@ -113,7 +134,7 @@ fn left_of_open(left: Onward<OpenOld>) -> Running
     }
 }
 
-fn in_open(stepped: Stepped<Onward<OpenOld>, Reply, Kind>) -> Stepped<Running, Reply, Kind>
+fn in_open(stepped: Stepped<Onward<OpenOld>, Answered, Kind>) -> Stepped<Running, Answered, Kind>
     ensures { result ≡ ends_within (onward_as (λ m. running.Open m)) (λ reply. reply) stepped }
 {
     match stepped {
@@ -133,7 +154,7 @@ fn left_of_create(left: Onward<OpenNew>) -> Running
     }
 }
 
-fn in_create(stepped: Stepped<Onward<OpenNew>, Reply, Kind>) -> Stepped<Running, Reply, Kind>
+fn in_create(stepped: Stepped<Onward<OpenNew>, Answered, Kind>) -> Stepped<Running, Answered, Kind>
     ensures { result ≡ ends_within (onward_as (λ m. running.Create m)) (λ reply. reply) stepped }
 {
     match stepped {
@@ -153,7 +174,7 @@ fn left_of_link(left: Onward<Link>) -> Running
     }
 }
 
-fn in_link(stepped: Stepped<Onward<Link>, Reply, Kind>) -> Stepped<Running, Reply, Kind>
+fn in_link(stepped: Stepped<Onward<Link>, Answered, Kind>) -> Stepped<Running, Answered, Kind>
     ensures { result ≡ ends_within (onward_as (λ m. running.Link m)) (λ reply. reply) stepped }
 {
     match stepped {
@@ -173,7 +194,7 @@ fn left_of_mkdir(left: Onward<Mkdir>) -> Running
     }
 }
 
-fn in_mkdir(stepped: Stepped<Onward<Mkdir>, Reply, Kind>) -> Stepped<Running, Reply, Kind>
+fn in_mkdir(stepped: Stepped<Onward<Mkdir>, Answered, Kind>) -> Stepped<Running, Answered, Kind>
     ensures { result ≡ ends_within (onward_as (λ m. running.Mkdir m)) (λ reply. reply) stepped }
 {
     match stepped {
@@ -193,7 +214,7 @@ fn left_of_chdir(left: Onward<Chdir>) -> Running
     }
 }
 
-fn in_chdir(stepped: Stepped<Onward<Chdir>, Reply, Kind>) -> Stepped<Running, Reply, Kind>
+fn in_chdir(stepped: Stepped<Onward<Chdir>, Answered, Kind>) -> Stepped<Running, Answered, Kind>
     ensures { result ≡ ends_within (onward_as (λ m. running.Chdir m)) (λ reply. reply) stepped }
 {
     match stepped {
@@ -204,58 +225,58 @@ fn in_chdir(stepped: Stepped<Onward<Chdir>, Reply, Kind>) -> Stepped<Running, Re
     }
 }
 
-fn in_dup(stepped: Stepped<Dup, Reply, Kind>) -> Stepped<Running, Reply, Kind>
-    ensures { result ≡ ends_within (λ m. running.Dup m) (λ reply. reply) stepped }
+fn in_dup(list: Listed, stepped: Stepped<Dup, Reply, Kind>) -> Stepped<Running, Answered, Kind>
+    ensures { result ≡ ends_within (λ m. running.Dup m list) (with_list list) stepped }
 {
     match stepped {
-        Stepped::Waits(m) => Stepped::Waits(Running::Dup(m)),
-        Stepped::Ran(m, kind) => Stepped::Ran(Running::Dup(m), kind),
-        Stepped::Done(reply, kind) => Stepped::Done(reply, kind),
-        Stepped::Stopped(m) => Stepped::Stopped(Running::Dup(m)),
+        Stepped::Waits(m) => Stepped::Waits(Running::Dup(m, list)),
+        Stepped::Ran(m, kind) => Stepped::Ran(Running::Dup(m, list), kind),
+        Stepped::Done(reply, kind) => Stepped::Done(Answered { reply, list }, kind),
+        Stepped::Stopped(m) => Stepped::Stopped(Running::Dup(m, list)),
     }
 }
 
-fn in_close(stepped: Stepped<Close, Reply, Kind>) -> Stepped<Running, Reply, Kind>
-    ensures { result ≡ ends_within (λ m. running.Close m) (λ reply. reply) stepped }
+fn in_close(list: Listed, stepped: Stepped<Close, Reply, Kind>) -> Stepped<Running, Answered, Kind>
+    ensures { result ≡ ends_within (λ m. running.Close m list) (with_list list) stepped }
 {
     match stepped {
-        Stepped::Waits(m) => Stepped::Waits(Running::Close(m)),
-        Stepped::Ran(m, kind) => Stepped::Ran(Running::Close(m), kind),
-        Stepped::Done(reply, kind) => Stepped::Done(reply, kind),
-        Stepped::Stopped(m) => Stepped::Stopped(Running::Close(m)),
+        Stepped::Waits(m) => Stepped::Waits(Running::Close(m, list)),
+        Stepped::Ran(m, kind) => Stepped::Ran(Running::Close(m, list), kind),
+        Stepped::Done(reply, kind) => Stepped::Done(Answered { reply, list }, kind),
+        Stepped::Stopped(m) => Stepped::Stopped(Running::Close(m, list)),
     }
 }
 
-fn in_fstat(stepped: Stepped<Fstat, Reply, Kind>) -> Stepped<Running, Reply, Kind>
-    ensures { result ≡ ends_within (λ m. running.Fstat m) (λ reply. reply) stepped }
+fn in_fstat(list: Listed, stepped: Stepped<Fstat, Reply, Kind>) -> Stepped<Running, Answered, Kind>
+    ensures { result ≡ ends_within (λ m. running.Fstat m list) (with_list list) stepped }
 {
     match stepped {
-        Stepped::Waits(m) => Stepped::Waits(Running::Fstat(m)),
-        Stepped::Ran(m, kind) => Stepped::Ran(Running::Fstat(m), kind),
-        Stepped::Done(reply, kind) => Stepped::Done(reply, kind),
-        Stepped::Stopped(m) => Stepped::Stopped(Running::Fstat(m)),
+        Stepped::Waits(m) => Stepped::Waits(Running::Fstat(m, list)),
+        Stepped::Ran(m, kind) => Stepped::Ran(Running::Fstat(m, list), kind),
+        Stepped::Done(reply, kind) => Stepped::Done(Answered { reply, list }, kind),
+        Stepped::Stopped(m) => Stepped::Stopped(Running::Fstat(m, list)),
     }
 }
 
-fn in_read(stepped: Stepped<Read, Reply, Kind>) -> Stepped<Running, Reply, Kind>
-    ensures { result ≡ ends_within (λ m. running.Read m) (λ reply. reply) stepped }
+fn in_read(list: Listed, stepped: Stepped<Read, Reply, Kind>) -> Stepped<Running, Answered, Kind>
+    ensures { result ≡ ends_within (λ m. running.Read m list) (with_list list) stepped }
 {
     match stepped {
-        Stepped::Waits(m) => Stepped::Waits(Running::Read(m)),
-        Stepped::Ran(m, kind) => Stepped::Ran(Running::Read(m), kind),
-        Stepped::Done(reply, kind) => Stepped::Done(reply, kind),
-        Stepped::Stopped(m) => Stepped::Stopped(Running::Read(m)),
+        Stepped::Waits(m) => Stepped::Waits(Running::Read(m, list)),
+        Stepped::Ran(m, kind) => Stepped::Ran(Running::Read(m, list), kind),
+        Stepped::Done(reply, kind) => Stepped::Done(Answered { reply, list }, kind),
+        Stepped::Stopped(m) => Stepped::Stopped(Running::Read(m, list)),
     }
 }
 
-fn in_write(stepped: Stepped<Write, Reply, Kind>) -> Stepped<Running, Reply, Kind>
-    ensures { result ≡ ends_within (λ m. running.Write m) (λ reply. reply) stepped }
+fn in_write(list: Listed, stepped: Stepped<Write, Reply, Kind>) -> Stepped<Running, Answered, Kind>
+    ensures { result ≡ ends_within (λ m. running.Write m list) (with_list list) stepped }
 {
     match stepped {
-        Stepped::Waits(m) => Stepped::Waits(Running::Write(m)),
-        Stepped::Ran(m, kind) => Stepped::Ran(Running::Write(m), kind),
-        Stepped::Done(reply, kind) => Stepped::Done(reply, kind),
-        Stepped::Stopped(m) => Stepped::Stopped(Running::Write(m)),
+        Stepped::Waits(m) => Stepped::Waits(Running::Write(m, list)),
+        Stepped::Ran(m, kind) => Stepped::Ran(Running::Write(m, list), kind),
+        Stepped::Done(reply, kind) => Stepped::Done(Answered { reply, list }, kind),
+        Stepped::Stopped(m) => Stepped::Stopped(Running::Write(m, list)),
     }
 }
 
@@ -268,7 +289,7 @@ fn left_of_unlink(left: Onward<Unlink>) -> Running
     }
 }
 
-fn in_unlink(stepped: Stepped<Onward<Unlink>, Reply, Kind>) -> Stepped<Running, Reply, Kind>
+fn in_unlink(stepped: Stepped<Onward<Unlink>, Answered, Kind>) -> Stepped<Running, Answered, Kind>
     ensures { result ≡ ends_within (onward_as (λ m. running.Unlink m)) (λ reply. reply) stepped }
 {
     match stepped {
@@ -279,18 +300,21 @@ fn in_unlink(stepped: Stepped<Onward<Unlink>, Reply, Kind>) -> Stepped<Running, 
     }
 }
 
-fn in_inherit(stepped: Stepped<Inherit, Reply, Kind>) -> Stepped<Running, Reply, Kind>
-    ensures { result ≡ ends_within (λ m. running.Inherit m) (λ reply. reply) stepped }
+fn in_inherit(
+    list: Listed,
+    stepped: Stepped<Inherit, Reply, Kind>,
+) -> Stepped<Running, Answered, Kind>
+    ensures { result ≡ ends_within (λ m. running.Inherit m list) (with_list list) stepped }
 {
     match stepped {
-        Stepped::Waits(m) => Stepped::Waits(Running::Inherit(m)),
-        Stepped::Ran(m, kind) => Stepped::Ran(Running::Inherit(m), kind),
-        Stepped::Done(reply, kind) => Stepped::Done(reply, kind),
-        Stepped::Stopped(m) => Stepped::Stopped(Running::Inherit(m)),
+        Stepped::Waits(m) => Stepped::Waits(Running::Inherit(m, list)),
+        Stepped::Ran(m, kind) => Stepped::Ran(Running::Inherit(m, list), kind),
+        Stepped::Done(reply, kind) => Stepped::Done(Answered { reply, list }, kind),
+        Stepped::Stopped(m) => Stepped::Stopped(Running::Inherit(m, list)),
     }
 }
 
-fn in_ends(stepped: Stepped<Quit, Reply, Kind>) -> Stepped<Running, Reply, Kind>
+fn in_ends(stepped: Stepped<Quit, Answered, Kind>) -> Stepped<Running, Answered, Kind>
     ensures { result ≡ ends_within (λ m. running.Ends m) (λ reply. reply) stepped }
 {
     match stepped {

@@ -10,9 +10,11 @@ ghost use Rattle.inode_table.specs.Machines.{load_of, LoadFits};
 ghost use Rattle.inode_data.specs.Dropping.{free_inode_of, FreeInodeFits};
 ghost use Rattle.file_table.specs.Machines.{IsEarly};
 ghost use Rattle.syscalls.specs.Nesting.{Follows};
+ghost use Rattle.syscalls.specs.Spent.{reply_in, IsSpent};
 ghost use Rattle.syscalls.specs.Programs.{tail, free_locked};
 ghost use Rattle.syscalls.specs.Tails.{tail_of, TailFits, rest_of, leave_freed, free_loaded};
 
+use crate::answered::Answered;
 use atomic_programs::machines::Stepped;
 use block_device::Device;
 use fs_layout::{Dinode, Super};
@@ -57,8 +59,8 @@ pub enum Tail {
     Loading(Ending, Reference, Txn, Guard<Inode>, LoadInode),
     /// The inode is freed.
     Freeing(Ending, Txn, FreeInode),
-    /// The reply is given.
-    Say(Reply),
+    /// The reply is given, with the list, which is empty.
+    Say(Reply, Listed),
 }
 
 impl Tail {
@@ -74,13 +76,13 @@ impl Tail {
 
     /// One operation.
     #[tactic(auto, unfolding(crate::specs::Tails::tail_of, crate::specs::Tails::TailFits, fs_machine::specs::Premises::Honest))]
-    pub fn step<D: Device>(self, hart: u8, core: &mut Core<D>) -> Stepped<Tail, Reply, Kind>
+    pub fn step<D: Device>(self, hart: u8, core: &mut Core<D>) -> Stepped<Tail, Answered, Kind>
         requires may { MayNext hart (tail_of self) (state_of D.contents D.failures core.old) }
         requires fits { TailFits hart (state_of D.contents D.failures core.old) self }
-        ensures moves { Moves tail_of (λ reply. reply) hart self result (state_of D.contents D.failures core.old) (state_of D.contents D.failures core.new) }
+        ensures moves { Moves tail_of reply_in hart self result (state_of D.contents D.failures core.old) (state_of D.contents D.failures core.new) }
         ensures honest { Answers tail_of hart self result (state_of D.contents D.failures core.old) (state_of D.contents D.failures core.new) }
         ensures still { Still tail_of result self core.old core.new }
-        ensures fits { LeftOf (TailFits hart (state_of D.contents D.failures core.new)) (λ _. Unit {0}) result }
+        ensures fits { LeftOf (TailFits hart (state_of D.contents D.failures core.new)) IsSpent result }
         ensures others { LeavesTied hart (state_of D.contents D.failures core.old) (state_of D.contents D.failures core.new) }
         ensures called { CallsOnce D.Called core.old.log.cache.device core.new.log.cache.device }
     {
@@ -102,9 +104,9 @@ impl Tail {
                 let stepped = free.step(hart, &mut txn, core);
                 freeing(ending, txn, stepped)
             }
-            Tail::Say(reply) => {
+            Tail::Say(reply, list) => {
                 core.reply(hart);
-                Stepped::Done(reply, Kind::Reply)
+                Stepped::Done(Answered { reply, list }, Kind::Reply)
             }
         }
     }
@@ -137,7 +139,7 @@ impl Tail {
                 txn.retire(&retired.log);
                 free.retire(retired);
             }
-            Tail::Say(_) => {}
+            Tail::Say(_, list) => list.retire(&retired.inodes),
         }
     }
 }
@@ -155,10 +157,7 @@ fn next(ending: Ending) -> Tail
         reply,
     } = ending;
     match list.take_first() {
-        None => {
-            list.end();
-            Tail::Say(reply)
-        }
+        None => Tail::Say(reply, list),
         Some(reference) => Tail::Join(Ending { sizes, list, reply }, reference),
     }
 }
@@ -195,10 +194,10 @@ fn locked(ending: Ending, reference: Reference, txn: Txn, guard: Guard<Inode>) -
 
 // A step while a transaction is left.
 #[tactic(auto, unfolding(crate::specs::Tails::tail_of, crate::specs::Tails::TailFits))]
-fn leaving(ending: Ending, stepped: Stepped<Finish, (), Kind>) -> Stepped<Tail, Reply, Kind>
+fn leaving(ending: Ending, stepped: Stepped<Finish, (), Kind>) -> Stepped<Tail, Answered, Kind>
     requires early { IsEarly ending.sizes.inodestart }
-    ensures follows { Follows finish_of (λ x. x) tail_of (λ reply. reply) (λ _. rest_of ending) stepped result }
-    ensures fits { (hart : ℕ) (s : State) → LeftOf (FinishFits hart) (λ _. Unit {0}) stepped → LeftOf (TailFits hart s) (λ _. Unit {0}) result }
+    ensures follows { Follows finish_of (λ x. x) tail_of reply_in (λ _. rest_of ending) stepped result }
+    ensures fits { (hart : ℕ) (s : State) → LeftOf (FinishFits hart) (λ _. Unit {0}) stepped → LeftOf (TailFits hart s) IsSpent result }
 {
     match stepped {
         Stepped::Waits(finish) => Stepped::Waits(Tail::Leaving(ending, finish)),
@@ -216,11 +215,11 @@ fn loading(
     txn: Txn,
     guard: Guard<Inode>,
     stepped: Stepped<LoadInode, Dinode, Kind>,
-) -> Stepped<Tail, Reply, Kind>
+) -> Stepped<Tail, Answered, Kind>
     requires early { IsEarly ending.sizes.inodestart }
     requires same { guard.value.number ≡ reference }
-    ensures follows { Follows load_of (λ d. d) tail_of (λ reply. reply) (free_loaded ending reference) stepped result }
-    ensures fits { (hart : ℕ) (s : State) → txn ≡ hart → IsOwnInode hart reference guard s → LeftOf (LoadFits hart s) (λ _. Unit {0}) stepped → LeftOf (TailFits hart s) (λ _. Unit {0}) result }
+    ensures follows { Follows load_of (λ d. d) tail_of reply_in (free_loaded ending reference) stepped result }
+    ensures fits { (hart : ℕ) (s : State) → txn ≡ hart → IsOwnInode hart reference guard s → LeftOf (LoadFits hart s) (λ _. Unit {0}) stepped → LeftOf (TailFits hart s) IsSpent result }
 {
     match stepped {
         Stepped::Waits(load) => {
@@ -246,10 +245,10 @@ fn freeing(
     ending: Ending,
     txn: Txn,
     stepped: Stepped<FreeInode, (), Kind>,
-) -> Stepped<Tail, Reply, Kind>
+) -> Stepped<Tail, Answered, Kind>
     requires early { IsEarly ending.sizes.inodestart }
-    ensures follows { Follows free_inode_of (λ x. x) tail_of (λ reply. reply) (λ _. leave_freed ending) stepped result }
-    ensures fits { (hart : ℕ) (s : State) → txn ≡ hart → LeftOf (FreeInodeFits hart s) (λ _. Unit {0}) stepped → LeftOf (TailFits hart s) (λ _. Unit {0}) result }
+    ensures follows { Follows free_inode_of (λ x. x) tail_of reply_in (λ _. leave_freed ending) stepped result }
+    ensures fits { (hart : ℕ) (s : State) → txn ≡ hart → LeftOf (FreeInodeFits hart s) (λ _. Unit {0}) stepped → LeftOf (TailFits hart s) IsSpent result }
 {
     match stepped {
         Stepped::Waits(free) => Stepped::Waits(Tail::Freeing(ending, txn, free)),

@@ -16,6 +16,7 @@ ghost use Rattle.path_walk.specs.Programs.{loaded};
 ghost use Rattle.sleep_lock.specs.SleepLock.{GuardState};
 ghost use Rattle.fs_tables.specs.declared.inodes.Inode.{Inode as InodeState};
 ghost use Rattle.syscalls.specs.Nesting.{Follows};
+ghost use Rattle.syscalls.specs.Spent.{reply_in, IsSpent};
 ghost use Rattle.syscalls.specs.Onwards.{onward_in, onward_of, OnwardFits};
 ghost use Rattle.syscalls.specs.Parts.{quit};
 ghost use Rattle.syscalls.specs.Taking.{inode_in, take_of, IsHeld, TakeApart, TakeFits};
@@ -25,6 +26,7 @@ ghost use Rattle.syscalls.specs.Unlinking.{clear_name, name_cleared, see_child, 
 ghost use Rattle.syscalls.specs.declared.unlink.Unlink.TheVariants as unlinking;
 ghost use Rattle.syscalls.specs.declared.onward.Onward.TheVariants as onward;
 
+use crate::answered::Answered;
 use crate::lower::Lower;
 use crate::on_path::{OnPath, ending, stopped};
 use crate::onward::Onward;
@@ -40,7 +42,7 @@ use fs_machine::{Core, Kind, RetiredCore};
 use fs_tables::{Inode, Listed, Reference};
 use group_log::Txn;
 use inode_data::{Begun, record};
-use plain_tree::{Answer, Bytes, Call, Cause, Full, Reply};
+use plain_tree::{Answer, Bytes, Call, Cause, Full};
 use sleep_lock::Guard;
 
 /// A name that is to go.
@@ -71,7 +73,7 @@ impl Removing {
 /// An unlink under way. A directory with entries stays. The counts of links go down once the name is gone.
 pub enum Unlink {
     /// A transaction is joined.
-    Join(OnPath),
+    Join(OnPath, Listed),
     /// The name is looked up in its directory.
     Seeking(OnPath, Txn, Seek),
     /// A reference to what it names is taken.
@@ -89,17 +91,19 @@ pub enum Unlink {
 impl Unlink {
     /// On a disk with this superblock.
     #[tactic(auto, unfolding(crate::specs::Unlinking::unlink_of, crate::specs::Unlinking::UnlinkFits))]
-    pub fn new(sizes: &Super, path: Bytes) -> Unlink
+    pub fn new(sizes: &Super, path: Bytes, list: Listed) -> Unlink
         requires early { IsEarly sizes.now.inodestart }
         requires short { length path ≤ longest_path }
         requires nonzero { All (λ b. b ≢ 0) path }
+        requires none { list ≡ [] }
         ensures program { unlink_of result ≡ unlink_program sizes.now path }
         ensures fits { (hart : ℕ) (s : State) → UnlinkFits hart s result }
     {
-        Unlink::Join(OnPath {
+        let on = OnPath {
             sizes: *sizes,
             path,
-        })
+        };
+        Unlink::Join(on, list)
     }
 
     /// One operation.
@@ -108,20 +112,20 @@ impl Unlink {
         self,
         hart: u8,
         core: &mut Core<D>,
-    ) -> Stepped<Onward<Unlink>, Reply, Kind>
+    ) -> Stepped<Onward<Unlink>, Answered, Kind>
         requires may { MayNext hart (unlink_of self) (state_of D.contents D.failures core.old) }
         requires fits { UnlinkFits hart (state_of D.contents D.failures core.old) self }
-        ensures moves { Moves (onward_of unlink_of) (λ reply. reply) hart (onward.Runs self) result (state_of D.contents D.failures core.old) (state_of D.contents D.failures core.new) }
+        ensures moves { Moves (onward_of unlink_of) reply_in hart (onward.Runs self) result (state_of D.contents D.failures core.old) (state_of D.contents D.failures core.new) }
         ensures honest { Answers (onward_of unlink_of) hart (onward.Runs self) result (state_of D.contents D.failures core.old) (state_of D.contents D.failures core.new) }
         ensures still { Still (onward_of unlink_of) result (onward.Runs self) core.old core.new }
-        ensures fits { LeftOf (OnwardFits UnlinkFits hart (state_of D.contents D.failures core.new)) (λ _. Unit {0}) result }
+        ensures fits { LeftOf (OnwardFits UnlinkFits hart (state_of D.contents D.failures core.new)) IsSpent result }
         ensures others { LeavesTied hart (state_of D.contents D.failures core.old) (state_of D.contents D.failures core.new) }
         ensures called { CallsOnce D.Called core.old.log.cache.device core.new.log.cache.device }
     {
         match self {
-            Unlink::Join(on) => match core.join(hart) {
-                None => Stepped::Waits(Onward::Runs(Unlink::Join(on))),
-                Some(txn) => Stepped::Ran(begin(on, txn), Kind::Join),
+            Unlink::Join(on, list) => match core.join(hart) {
+                None => Stepped::Waits(Onward::Runs(Unlink::Join(on, list))),
+                Some(txn) => Stepped::Ran(begin(on, txn, list), Kind::Join),
             },
             Unlink::Seeking(on, txn, seek) => {
                 let stepped = seek.step(hart, on.path.as_slice(), core);
@@ -148,7 +152,7 @@ impl Unlink {
     /// Ends it in mid-call, after all that harts share has ended.
     pub fn retire(self, retired: &RetiredCore) {
         match self {
-            Unlink::Join(_) => {}
+            Unlink::Join(_, list) => list.retire(&retired.inodes),
             Unlink::Seeking(_, txn, seek) => {
                 txn.retire(&retired.log);
                 seek.retire(retired);
@@ -247,17 +251,13 @@ fn named(on: OnPath, txn: Txn, name: LastName) -> Onward<Unlink>
 
 // The transaction is joined.
 #[tactic(auto, unfolding(crate::specs::Unlinking::unlink_of, crate::specs::Unlinking::UnlinkFits))]
-fn begin(on: OnPath, txn: Txn) -> Onward<Unlink>
-    requires { IsOnPath on }
+fn begin(on: OnPath, txn: Txn, list: Listed) -> Onward<Unlink>
+    requires on { IsOnPath on }
+    requires none { list ≡ [] }
     ensures program { onward_of unlink_of result ≡ unlink_joined on.sizes on.path }
     ensures fits { (hart : ℕ) (s : State) → txn ≡ hart → OnwardFits UnlinkFits hart s result }
 {
-    let begun = Seek::begin(
-        on.path.as_slice(),
-        on.sizes.inodestart,
-        Dots::Apart,
-        Listed::new(),
-    );
+    let begun = Seek::begin(on.path.as_slice(), on.sizes.inodestart, Dots::Apart, list);
     match begun {
         Begun::Runs(seek) => Onward::Runs(Unlink::Seeking(on, txn, seek)),
         Begun::Is(came) => seen(on, txn, came),
@@ -270,10 +270,10 @@ fn seeking(
     on: OnPath,
     txn: Txn,
     stepped: Stepped<Seek, Seen, Kind>,
-) -> Stepped<Onward<Unlink>, Reply, Kind>
+) -> Stepped<Onward<Unlink>, Answered, Kind>
     requires { IsOnPath on }
-    ensures follows { Follows (seek_of on.path) (seen_as on.path) (onward_of unlink_of) (λ reply. reply) (unlink_seen on.sizes on.path) stepped result }
-    ensures fits { (hart : ℕ) (s : State) → txn ≡ hart → LeftOf (SeekFits on.path hart s) (IsSeen on.path hart s) stepped → LeftOf (OnwardFits UnlinkFits hart s) (λ _. Unit {0}) result }
+    ensures follows { Follows (seek_of on.path) (seen_as on.path) (onward_of unlink_of) reply_in (unlink_seen on.sizes on.path) stepped result }
+    ensures fits { (hart : ℕ) (s : State) → txn ≡ hart → LeftOf (SeekFits on.path hart s) (IsSeen on.path hart s) stepped → LeftOf (OnwardFits UnlinkFits hart s) IsSpent result }
 {
     match stepped {
         Stepped::Waits(seek) => Stepped::Waits(Onward::Runs(Unlink::Seeking(on, txn, seek))),
@@ -387,15 +387,15 @@ fn taking(
     removing: Removing,
     txn: Txn,
     stepped: Stepped<TakeInode, Held, Kind>,
-) -> Stepped<Onward<Unlink>, Reply, Kind>
+) -> Stepped<Onward<Unlink>, Answered, Kind>
     requires early { IsEarly removing.on.sizes.inodestart }
     requires slot { removing.slot < most_slots }
     requires parent { IsSome removing.parent.inode.value.content }
     requires child { LeftOf (λ _. Unit {0}) (λ held. IsSome held.inode.value.content) stepped }
-    ensures follows { Follows take_of inode_in (onward_of unlink_of) (λ reply. reply) (see_child removing.on.sizes removing.on.path (inode_in removing.parent) removing.slot removing.list) stepped result }
+    ensures follows { Follows take_of inode_in (onward_of unlink_of) reply_in (see_child removing.on.sizes removing.on.path (inode_in removing.parent) removing.slot removing.list) stepped result }
     ensures fits { (hart : ℕ) (s : State) → txn ≡ hart → IsRemoving hart removing s
         → LeftOf (λ m. TakeFits hart s m × TakeApart removing.parent.reference m) (λ held. IsHeld hart held s × (removing.parent.reference ≢ held.reference)) stepped
-        → LeftOf (OnwardFits UnlinkFits hart s) (λ _. Unit {0}) result }
+        → LeftOf (OnwardFits UnlinkFits hart s) IsSpent result }
 {
     match stepped {
         Stepped::Waits(take) => Stepped::Waits(Onward::Runs(Unlink::Taking(removing, txn, take))),
@@ -417,16 +417,16 @@ fn looking(
     txn: Txn,
     reference: Reference,
     stepped: Stepped<Search, Searched, Kind>,
-) -> Stepped<Onward<Unlink>, Reply, Kind>
+) -> Stepped<Onward<Unlink>, Answered, Kind>
     requires early { IsEarly removing.on.sizes.inodestart }
     requires slot { removing.slot < most_slots }
     requires parent { IsSome removing.parent.inode.value.content }
     requires child { LeftOf (λ _. Unit {0}) (λ r. IsSome r.inode.value.content) stepped }
     ensures follows { (guard : GuardState InodeState) → LeftOf (λ m. inode_of m ≡ guard) (λ r. r.inode ≡ guard) stepped
-        → Follows (search_of Entry) found_of (onward_of unlink_of) (λ reply. reply) (unless_entries removing.on.sizes removing.on.path (inode_in removing.parent) removing.slot removing.list guard.value) stepped result }
+        → Follows (search_of Entry) found_of (onward_of unlink_of) reply_in (unless_entries removing.on.sizes removing.on.path (inode_in removing.parent) removing.slot removing.list guard.value) stepped result }
     ensures fits { (hart : ℕ) (s : State) → txn ≡ hart → IsRemoving hart removing s → removing.parent.reference ≢ reference
         → LeftOf (λ m. IsHeld hart (record { reference = reference; inode = inode_of m }) s × SearchFits hart s m) (λ r. IsHeld hart (record { reference = reference; inode = r.inode }) s) stepped
-        → LeftOf (OnwardFits UnlinkFits hart s) (λ _. Unit {0}) result }
+        → LeftOf (OnwardFits UnlinkFits hart s) IsSpent result }
 {
     match stepped {
         Stepped::Waits(m) => Stepped::Waits(Onward::Runs(Unlink::Looking(
@@ -453,15 +453,15 @@ fn clearing(
     reference: Reference,
     child: Held,
     stepped: Stepped<PutEntry, Guard<Inode>, Kind>,
-) -> Stepped<Onward<Unlink>, Reply, Kind>
+) -> Stepped<Onward<Unlink>, Answered, Kind>
     requires early { IsEarly ending.sizes.inodestart }
     requires child { IsSome child.inode.value.content }
     requires there { LeftOf (λ _. Unit {0}) (λ guard. IsSome guard.value.content) stepped }
     ensures follows { (n : ℕ) → LeftOf (λ m. (putter_of m).value.number ≡ n) (λ guard. guard.value ≡ loaded n (record_in guard)) stepped
-        → Follows (put_of Free) record_in (onward_of unlink_of) (λ reply. reply) (name_cleared ending n (inode_in child)) stepped result }
+        → Follows (put_of Free) record_in (onward_of unlink_of) reply_in (name_cleared ending n (inode_in child)) stepped result }
     ensures fits { (hart : ℕ) (s : State) → txn ≡ hart
         → LeftOf (λ m. AreHeld hart (record { reference = reference; inode = putter_of m }) child s × PutFits hart s m) (λ guard. AreHeld hart (record { reference = reference; inode = guard }) child s) stepped
-        → LeftOf (OnwardFits UnlinkFits hart s) (λ _. Unit {0}) result }
+        → LeftOf (OnwardFits UnlinkFits hart s) IsSpent result }
 {
     match stepped {
         Stepped::Waits(put) => {
@@ -495,8 +495,10 @@ fn in_lowering(left: Onward<Lower>) -> Onward<Unlink>
 }
 
 // A step while the counts go down.
-fn lowering(stepped: Stepped<Onward<Lower>, Reply, Kind>) -> Stepped<Onward<Unlink>, Reply, Kind>
-    ensures { result ≡ ends_within (onward_in (λ m. unlinking.Lowering m)) (λ reply. reply) stepped }
+fn lowering(
+    stepped: Stepped<Onward<Lower>, Answered, Kind>,
+) -> Stepped<Onward<Unlink>, Answered, Kind>
+    ensures { result ≡ ends_within (onward_in (λ m. unlinking.Lowering m)) (λ answered. answered) stepped }
 {
     match stepped {
         Stepped::Waits(left) => Stepped::Waits(in_lowering(left)),

@@ -2,13 +2,14 @@ use Rattle.std.proofs.Common.{◌∙◌, refl, sym, ap, subst}
 use Rattle.std.specs.Prelude.{IfSome}
 use Rattle.atomic_programs.specs.Machines.{Left}
 use Rattle.atomic_programs.specs.declared.machines.Stepped.TheVariants.{Done, Ran}
-use Rattle.plain_tree.specs.declared.answer.Reply.{Reply}
 use Rattle.path_walk.specs.Elements.{IsElement}
 use Rattle.syscalls.specs.Nesting.{Follows}
 use Rattle.syscalls.specs.Moving.{chdir_found}
 use Rattle.syscalls.specs.Taking.{IsHeld, reach_of, ReachFits, reached_as, IsReached}
 use Rattle.syscalls.specs.Chdirs.{chdir_of}
 use Rattle.syscalls.specs.Onwards.{onward_of}
+use Rattle.syscalls.specs.Spent.{reply_in}
+use Rattle.syscalls.specs.declared.answered.Answered.{Answered}
 use Rattle.syscalls.proofs.chdir.reaching.Goals as goal
 
 pub returns-in-At-clause-fits : goal.returns-in-At-clause-fits
@@ -21,5 +22,5 @@ returns-in-At-clause-fits c hart s txn left =
 pub returns-in-Lost-clause-follows : goal.returns-in-Lost-clause-follows
 returns-in-Lost-clause-follows c =
     let path = c.args.on.path in
-    subst (λ stepped. Follows {T = Reply} (reach_of path) (reached_as path) (onward_of chdir_of) (λ reply. reply) (chdir_found c.args.on.sizes c.args.on.path) stepped (Ran c.lost.result c.in-Done.kind))
+    subst (λ stepped. Follows {T = Answered} (reach_of path) (reached_as path) (onward_of chdir_of) reply_in (chdir_found c.args.on.sizes c.args.on.path) stepped (Ran c.lost.result c.in-Done.kind))
     (sym (c.in-Done.is ∙ ap (λ reached. Done reached c.in-Done.kind) c.in-Lost.is)) (refl, c.lost.ensures.program)

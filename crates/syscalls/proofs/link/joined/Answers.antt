@@ -9,9 +9,9 @@ pub returns-clause-fits : goal.returns-clause-fits
 unfolding LinkFits
 returns-clause-fits c hart s txn =
     let path = c.args.l.old in
-    let list = c.new.result in (
-      c.requires,
+    let list = c.args.list in (
+      c.requires.linking,
       txn,
-      subst (λ (k : ℕ). k ≤ most_elements) (sym (c.new-reach.ensures.most path)) (few_at_first path list c.requires.old_short c.new.ensures),
-      c.new-reach.ensures.fits path hart s (room_at_first path list c.requires.old_short c.new.ensures),
+      subst (λ (k : ℕ). k ≤ most_elements) (sym (c.new-reach.ensures.most path)) (few_at_first path list c.requires.linking.old_short c.requires.none),
+      c.new-reach.ensures.fits path hart s (room_at_first path list c.requires.linking.old_short c.requires.none),
     )

@@ -2,11 +2,12 @@ use Rattle.std.proofs.Common.{◌≤◌, ◌∙◌, length, refl, sym, ap, subst
 use Rattle.std.specs.Prelude.{IfSome}
 use Rattle.atomic_programs.specs.Machines.{Left}
 use Rattle.atomic_programs.specs.declared.machines.Stepped.TheVariants.{Done, Ran}
-use Rattle.plain_tree.specs.declared.answer.Reply.{Reply}
 use Rattle.path_walk.specs.Elements.{most_elements, IsElement}
 use Rattle.syscalls.specs.Nesting.{Follows}
 use Rattle.syscalls.specs.Taking.{kept_by, most_reached, reach_of, reached_as, IsHeld, IsReached, ReachFits}
 use Rattle.syscalls.specs.Links.{link_found, link_of}
+use Rattle.syscalls.specs.Spent.{reply_in}
+use Rattle.syscalls.specs.declared.answered.Answered.{Answered}
 use Rattle.syscalls.proofs.Linkings.{room_after}
 use Rattle.syscalls.specs.Onwards.{onward_of}
 use Rattle.syscalls.proofs.link.reaching.Goals as goal
@@ -21,5 +22,5 @@ returns-in-At-clause-fits c hart s txn left =
 pub returns-in-Lost-clause-follows : goal.returns-in-Lost-clause-follows
 returns-in-Lost-clause-follows c =
     let l = c.args.l in
-    subst (λ stepped. Follows {T = Reply} (reach_of l.old) (reached_as l.old) (onward_of link_of) (λ reply. reply) (link_found l.sizes l.old l.new) stepped (Ran c.lost.result c.in-Done.kind))
+    subst (λ stepped. Follows {T = Answered} (reach_of l.old) (reached_as l.old) (onward_of link_of) reply_in (link_found l.sizes l.old l.new) stepped (Ran c.lost.result c.in-Done.kind))
     (sym (c.in-Done.is ∙ ap (λ reached. Done reached c.in-Done.kind) c.in-Lost.is)) (refl, c.lost.ensures.program)

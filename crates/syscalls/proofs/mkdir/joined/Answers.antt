@@ -10,15 +10,15 @@ pub returns-in-Runs-clause-fits : goal.returns-in-Runs-clause-fits
 unfolding MkdirFits
 returns-in-Runs-clause-fits c hart s txn =
     let path = c.args.on.path in
-    let list = c.new.result in
-    let room = room_at_first path list c.requires.path.short c.new.ensures in
+    let list = c.args.list in
+    let room = room_at_first path list c.requires.naming.path.short c.requires.none in
     let known = rw c.in-Runs.is at c.begin-begun.ensures.fits hart s (subst (λ p. length list + length (elements p) ≤ listed_places) (sym c.as_slice.ensures) room) in
-    (c.requires, txn, subst (λ p. SeekFits p hart s c.in-Runs.seek) c.as_slice.ensures known)
+    (c.requires.naming, txn, subst (λ p. SeekFits p hart s c.in-Runs.seek) c.as_slice.ensures known)
 
 pub returns-in-Is-clause-fits : goal.returns-in-Is-clause-fits
 returns-in-Is-clause-fits c hart s txn =
     let path = c.args.on.path in
-    let list = c.new.result in
-    let room = room_at_first path list c.requires.path.short c.new.ensures in
+    let list = c.args.list in
+    let room = room_at_first path list c.requires.naming.path.short c.requires.none in
     let known = rw c.in-Is.is at c.begin-begun.ensures.fits hart s (subst (λ p. length list + length (elements p) ≤ listed_places) (sym c.as_slice.ensures) room) in
     c.sees.ensures.fits hart s txn (subst (λ p. IsSeen p hart s c.in-Is.seen) c.as_slice.ensures known)

@@ -1,7 +1,6 @@
 use Rattle.std.proofs.Common.{refl, sym, ap, subst}
 use Rattle.atomic_programs.specs.Prog.{bind}
 use Rattle.atomic_programs.specs.declared.machines.Stepped.TheVariants.{Ran}
-use Rattle.plain_tree.specs.declared.answer.Reply.{Reply}
 use Rattle.syscalls.specs.Nesting.{Follows}
 use Rattle.syscalls.specs.Opening.{open_at}
 use Rattle.syscalls.specs.Ends.{give_of}
@@ -9,11 +8,13 @@ use Rattle.syscalls.specs.Creating.{open_new_of, open_taken}
 use Rattle.syscalls.specs.declared.open_new.OpenNew.TheVariants.{Taking}
 use Rattle.syscalls.specs.Onwards.{onward_of}
 use Rattle.syscalls.specs.declared.onward.Onward.TheVariants as onward
+use Rattle.syscalls.specs.Spent.{reply_in}
+use Rattle.syscalls.specs.declared.answered.Answered.{Answered}
 use Rattle.syscalls.proofs.open_new.leaving.Goals as goal
 
 pub returns-in-Done-clause-follows : goal.returns-in-Done-clause-follows
 unfolding open_new_of
 returns-in-Done-clause-follows c =
     let o = c.args.opening in
-    subst (λ stepped. Follows {T = Reply} give_of (λ x. x) (onward_of open_new_of) (λ reply. reply) (λ _. open_taken o.sizes o.path o.flags c.args.reference c.args.list) stepped (Ran (onward.Runs (Taking o c.args.txn c.args.list c.new-take.result)) c.in-Done.kind))
+    subst (λ stepped. Follows {T = Answered} give_of (λ x. x) (onward_of open_new_of) reply_in (λ _. open_taken o.sizes o.path o.flags c.args.reference c.args.list) stepped (Ran (onward.Runs (Taking o c.args.txn c.args.list c.new-take.result)) c.in-Done.kind))
     (sym c.in-Done.is) (refl, ap (λ p. bind p (λ w. open_at o.sizes o.path o.flags w c.args.list)) c.new-take.ensures.program)

@@ -14,8 +14,8 @@ begin-requires-clause-idle g c =
     (subst (λ (v : WorldOf _). length v.harts.calls ≡ 8) (sym c.self.view_is) c.find_start_refusal.ensures.eight) c.args.hart c.args.call c.find_start_refusal.ensures.bytes
     (subst (λ (v : WorldOf _). refusal_of v.harts c.args.hart c.args.call ≡ None) (sym c.self.view_is) (sym c.find_start_refusal.ensures.refusal ∙ c.in-None.is))
 
-pub running-running-requires-clause-faultless : goal.running-running-requires-clause-faultless
-running-running-requires-clause-faultless g c =
+pub begin-requires-clause-faultless : goal.begin-requires-clause-faultless
+begin-requires-clause-faultless g c =
     may_start c.args.self.now.harts c.args.hart c.args.call (sym c.find_start_refusal.ensures.refusal ∙ c.in-None.is)
 
 pub invariant_of-self : goal.invariant_of-self
@@ -24,7 +24,7 @@ invariant_of-self g c =
     let long = subst (λ (v : WorldOf _). length v.harts.calls ≡ 8) (sym c.self.view_is) c.find_start_refusal.ensures.eight in
     let none = subst (λ (v : WorldOf _). refusal_of v.harts c.args.hart c.args.call ≡ None) (sym c.self.view_is) (sym c.find_start_refusal.ensures.refusal ∙ c.in-None.is) in
     world_started g.D.Device.contents g.D.Device.failures w.sizes w.harts long c.args.hart c.args.call c.find_start_refusal.ensures.bytes c.begin.new.self c.self.invariant
-    (made_start g.D.Device.contents g.D.Device.failures w.sizes w.harts long c.args.hart c.args.call c.find_start_refusal.ensures.bytes c.running-running.result c.begin.new.self none c.running-running.ensures.program c.begin.ensures.makes c.begin.ensures.eight (c.begin.ensures.children ∙ ap (slice_set w.harts.children c.args.hart) c.find_child-child.ensures))
+    (made_start g.D.Device.contents g.D.Device.failures w.sizes w.harts long c.args.hart c.args.call c.find_start_refusal.ensures.bytes c.begin.new.self none c.begin.ensures.makes c.begin.ensures.eight (c.begin.ensures.children ∙ ap (slice_set w.harts.children c.args.hart) c.find_child-child.ensures))
 
 pub returns-in-Some-clause-makes : goal.returns-in-Some-clause-makes
 returns-in-Some-clause-makes g c =
@@ -37,4 +37,4 @@ returns-in-None-clause-makes g c =
     let long = subst (λ (v : WorldOf _). length v.harts.calls ≡ 8) (sym c.self.view_is) c.find_start_refusal.ensures.eight in
     let none = subst (λ (v : WorldOf _). refusal_of v.harts c.args.hart c.args.call ≡ None) (sym c.self.view_is) (sym c.find_start_refusal.ensures.refusal ∙ c.in-None.is) in
     subst (λ (v : WorldOf _). Makes g.D.Device.contents g.D.Device.failures v.sizes (Start c.args.hart c.args.call) v.harts Started c.begin.new.self) c.self.view_is
-    (made_start g.D.Device.contents g.D.Device.failures w.sizes w.harts long c.args.hart c.args.call c.find_start_refusal.ensures.bytes c.running-running.result c.begin.new.self none c.running-running.ensures.program c.begin.ensures.makes c.begin.ensures.eight (c.begin.ensures.children ∙ ap (slice_set w.harts.children c.args.hart) c.find_child-child.ensures))
+    (made_start g.D.Device.contents g.D.Device.failures w.sizes w.harts long c.args.hart c.args.call c.find_start_refusal.ensures.bytes c.begin.new.self none c.begin.ensures.makes c.begin.ensures.eight (c.begin.ensures.children ∙ ap (slice_set w.harts.children c.args.hart) c.find_child-child.ensures))

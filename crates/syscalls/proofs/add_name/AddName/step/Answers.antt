@@ -10,6 +10,7 @@ use Rattle.syscalls.specs.Ends.{give_of, GiveFits}
 use Rattle.syscalls.specs.Seeking.{seek_of, seen_as, IsSeen, SeekFits}
 use Rattle.syscalls.specs.Unlinking.{lower_child}
 use Rattle.syscalls.specs.Links.{add_of, leave_file, name_entered, name_seen, AddFits, IsLinking}
+use Rattle.syscalls.specs.Spent.{reply_in}
 use Rattle.syscalls.proofs.Makings.{number_left, own_left, there_left}
 use Rattle.syscalls.proofs.Nesting.{nested_moves, nested_honest, nested_still}
 use Rattle.syscalls.proofs.Seeks.{sight_left}
@@ -33,7 +34,7 @@ unfolding add_of
 returns-in-Seeking-clause-moves g c =
     let s = state_of g.D.Device.contents g.D.Device.failures in
     let at = c.in-Seeking in
-    nested_moves (seek_of at.l.new) (seen_as at.l.new) (onward_of add_of) (λ reply. reply) (name_seen at.l.sizes at.l.old at.l.new at.file) c.args.hart at.seek (onward.Runs c.args.self) c.step-stepped.result _ (s c.args.core.now) (s c.step-stepped.new.core) (ap add_of at.is) c.seeking.ensures.follows
+    nested_moves (seek_of at.l.new) (seen_as at.l.new) (onward_of add_of) reply_in (name_seen at.l.sizes at.l.old at.l.new at.file) c.args.hart at.seek (onward.Runs c.args.self) c.step-stepped.result _ (s c.args.core.now) (s c.step-stepped.new.core) (ap add_of at.is) c.seeking.ensures.follows
     (subst (λ p. Moves (seek_of p) (seen_as p) c.args.hart at.seek c.step-stepped.result (s c.args.core.now) (s c.step-stepped.new.core)) c.as_slice.ensures c.step-stepped.ensures.moves)
 
 pub returns-in-Seeking-clause-honest : goal.returns-in-Seeking-clause-honest
@@ -41,7 +42,7 @@ unfolding add_of
 returns-in-Seeking-clause-honest g c =
     let s = state_of g.D.Device.contents g.D.Device.failures in
     let at = c.in-Seeking in
-    nested_honest (seek_of at.l.new) (seen_as at.l.new) (onward_of add_of) (λ reply. reply) (name_seen at.l.sizes at.l.old at.l.new at.file) c.args.hart at.seek (onward.Runs c.args.self) c.step-stepped.result _ (s c.args.core.now) (s c.step-stepped.new.core) (ap add_of at.is) c.seeking.ensures.follows
+    nested_honest (seek_of at.l.new) (seen_as at.l.new) (onward_of add_of) reply_in (name_seen at.l.sizes at.l.old at.l.new at.file) c.args.hart at.seek (onward.Runs c.args.self) c.step-stepped.result _ (s c.args.core.now) (s c.step-stepped.new.core) (ap add_of at.is) c.seeking.ensures.follows
     (subst (λ p. Moves (seek_of p) (seen_as p) c.args.hart at.seek c.step-stepped.result (s c.args.core.now) (s c.step-stepped.new.core)) c.as_slice.ensures c.step-stepped.ensures.moves)
     (subst (λ p. Answers (seek_of p) c.args.hart at.seek c.step-stepped.result (s c.args.core.now) (s c.step-stepped.new.core)) c.as_slice.ensures c.step-stepped.ensures.honest)
 
@@ -49,7 +50,7 @@ pub returns-in-Seeking-clause-still : goal.returns-in-Seeking-clause-still
 unfolding add_of
 returns-in-Seeking-clause-still g c =
     let at = c.in-Seeking in
-    nested_still (seek_of at.l.new) (seen_as at.l.new) (onward_of add_of) (λ reply. reply) (name_seen at.l.sizes at.l.old at.l.new at.file) at.seek (onward.Runs c.args.self) c.step-stepped.result _ c.args.core.now c.step-stepped.new.core (ap add_of at.is) c.seeking.ensures.follows
+    nested_still (seek_of at.l.new) (seen_as at.l.new) (onward_of add_of) reply_in (name_seen at.l.sizes at.l.old at.l.new at.file) at.seek (onward.Runs c.args.self) c.step-stepped.result _ c.args.core.now c.step-stepped.new.core (ap add_of at.is) c.seeking.ensures.follows
     (subst (λ p. Still (seek_of p) c.step-stepped.result at.seek c.args.core.now c.step-stepped.new.core) c.as_slice.ensures c.step-stepped.ensures.still)
 
 pub returns-in-Seeking-clause-fits : goal.returns-in-Seeking-clause-fits
@@ -73,20 +74,20 @@ unfolding add_of
 returns-in-Entering-clause-moves g c =
     let s = state_of g.D.Device.contents g.D.Device.failures in
     let at = c.in-Entering in
-    nested_moves enter_of entered_of (onward_of add_of) (λ reply. reply) (name_entered at.l.sizes at.l.old at.l.new at.file (enterer_of at.enter).value.number at.list) c.args.hart at.enter (onward.Runs c.args.self) c.step-stepped-in-Entering.result _ (s c.args.core.now) (s c.step-stepped-in-Entering.new.core) (ap add_of at.is) (c.entering.ensures.follows (enterer_of at.enter).value.number (number_left enterer_of (λ r. r.inode) (enterer_of at.enter) c.step-stepped-in-Entering.result c.step-stepped-in-Entering.ensures.inode)) c.step-stepped-in-Entering.ensures.moves
+    nested_moves enter_of entered_of (onward_of add_of) reply_in (name_entered at.l.sizes at.l.old at.l.new at.file (enterer_of at.enter).value.number at.list) c.args.hart at.enter (onward.Runs c.args.self) c.step-stepped-in-Entering.result _ (s c.args.core.now) (s c.step-stepped-in-Entering.new.core) (ap add_of at.is) (c.entering.ensures.follows (enterer_of at.enter).value.number (number_left enterer_of (λ r. r.inode) (enterer_of at.enter) c.step-stepped-in-Entering.result c.step-stepped-in-Entering.ensures.inode)) c.step-stepped-in-Entering.ensures.moves
 
 pub returns-in-Entering-clause-honest : goal.returns-in-Entering-clause-honest
 unfolding add_of
 returns-in-Entering-clause-honest g c =
     let s = state_of g.D.Device.contents g.D.Device.failures in
     let at = c.in-Entering in
-    nested_honest enter_of entered_of (onward_of add_of) (λ reply. reply) (name_entered at.l.sizes at.l.old at.l.new at.file (enterer_of at.enter).value.number at.list) c.args.hart at.enter (onward.Runs c.args.self) c.step-stepped-in-Entering.result _ (s c.args.core.now) (s c.step-stepped-in-Entering.new.core) (ap add_of at.is) (c.entering.ensures.follows (enterer_of at.enter).value.number (number_left enterer_of (λ r. r.inode) (enterer_of at.enter) c.step-stepped-in-Entering.result c.step-stepped-in-Entering.ensures.inode)) c.step-stepped-in-Entering.ensures.moves c.step-stepped-in-Entering.ensures.honest
+    nested_honest enter_of entered_of (onward_of add_of) reply_in (name_entered at.l.sizes at.l.old at.l.new at.file (enterer_of at.enter).value.number at.list) c.args.hart at.enter (onward.Runs c.args.self) c.step-stepped-in-Entering.result _ (s c.args.core.now) (s c.step-stepped-in-Entering.new.core) (ap add_of at.is) (c.entering.ensures.follows (enterer_of at.enter).value.number (number_left enterer_of (λ r. r.inode) (enterer_of at.enter) c.step-stepped-in-Entering.result c.step-stepped-in-Entering.ensures.inode)) c.step-stepped-in-Entering.ensures.moves c.step-stepped-in-Entering.ensures.honest
 
 pub returns-in-Entering-clause-still : goal.returns-in-Entering-clause-still
 unfolding add_of
 returns-in-Entering-clause-still g c =
     let at = c.in-Entering in
-    nested_still enter_of entered_of (onward_of add_of) (λ reply. reply) (name_entered at.l.sizes at.l.old at.l.new at.file (enterer_of at.enter).value.number at.list) at.enter (onward.Runs c.args.self) c.step-stepped-in-Entering.result _ c.args.core.now c.step-stepped-in-Entering.new.core (ap add_of at.is) (c.entering.ensures.follows (enterer_of at.enter).value.number (number_left enterer_of (λ r. r.inode) (enterer_of at.enter) c.step-stepped-in-Entering.result c.step-stepped-in-Entering.ensures.inode)) c.step-stepped-in-Entering.ensures.still
+    nested_still enter_of entered_of (onward_of add_of) reply_in (name_entered at.l.sizes at.l.old at.l.new at.file (enterer_of at.enter).value.number at.list) at.enter (onward.Runs c.args.self) c.step-stepped-in-Entering.result _ c.args.core.now c.step-stepped-in-Entering.new.core (ap add_of at.is) (c.entering.ensures.follows (enterer_of at.enter).value.number (number_left enterer_of (λ r. r.inode) (enterer_of at.enter) c.step-stepped-in-Entering.result c.step-stepped-in-Entering.ensures.inode)) c.step-stepped-in-Entering.ensures.still
 
 pub returns-in-Entering-clause-fits : goal.returns-in-Entering-clause-fits
 unfolding AddFits
@@ -108,20 +109,20 @@ unfolding add_of
 returns-in-Leaving-clause-moves g c =
     let s = state_of g.D.Device.contents g.D.Device.failures in
     let at = c.in-Leaving in
-    nested_moves give_of (λ x. x) (onward_of add_of) (λ reply. reply) (λ _. leave_file at.l.sizes at.l.old at.l.new at.file at.list at.why) c.args.hart at.give (onward.Runs c.args.self) c.step-stepped-in-Leaving.result _ (s c.args.core.now) (s c.step-stepped-in-Leaving.new.core) (ap add_of at.is) c.leaving.ensures.follows c.step-stepped-in-Leaving.ensures.moves
+    nested_moves give_of (λ x. x) (onward_of add_of) reply_in (λ _. leave_file at.l.sizes at.l.old at.l.new at.file at.list at.why) c.args.hart at.give (onward.Runs c.args.self) c.step-stepped-in-Leaving.result _ (s c.args.core.now) (s c.step-stepped-in-Leaving.new.core) (ap add_of at.is) c.leaving.ensures.follows c.step-stepped-in-Leaving.ensures.moves
 
 pub returns-in-Leaving-clause-honest : goal.returns-in-Leaving-clause-honest
 unfolding add_of
 returns-in-Leaving-clause-honest g c =
     let s = state_of g.D.Device.contents g.D.Device.failures in
     let at = c.in-Leaving in
-    nested_honest give_of (λ x. x) (onward_of add_of) (λ reply. reply) (λ _. leave_file at.l.sizes at.l.old at.l.new at.file at.list at.why) c.args.hart at.give (onward.Runs c.args.self) c.step-stepped-in-Leaving.result _ (s c.args.core.now) (s c.step-stepped-in-Leaving.new.core) (ap add_of at.is) c.leaving.ensures.follows c.step-stepped-in-Leaving.ensures.moves c.step-stepped-in-Leaving.ensures.honest
+    nested_honest give_of (λ x. x) (onward_of add_of) reply_in (λ _. leave_file at.l.sizes at.l.old at.l.new at.file at.list at.why) c.args.hart at.give (onward.Runs c.args.self) c.step-stepped-in-Leaving.result _ (s c.args.core.now) (s c.step-stepped-in-Leaving.new.core) (ap add_of at.is) c.leaving.ensures.follows c.step-stepped-in-Leaving.ensures.moves c.step-stepped-in-Leaving.ensures.honest
 
 pub returns-in-Leaving-clause-still : goal.returns-in-Leaving-clause-still
 unfolding add_of
 returns-in-Leaving-clause-still g c =
     let at = c.in-Leaving in
-    nested_still give_of (λ x. x) (onward_of add_of) (λ reply. reply) (λ _. leave_file at.l.sizes at.l.old at.l.new at.file at.list at.why) at.give (onward.Runs c.args.self) c.step-stepped-in-Leaving.result _ c.args.core.now c.step-stepped-in-Leaving.new.core (ap add_of at.is) c.leaving.ensures.follows c.step-stepped-in-Leaving.ensures.still
+    nested_still give_of (λ x. x) (onward_of add_of) reply_in (λ _. leave_file at.l.sizes at.l.old at.l.new at.file at.list at.why) at.give (onward.Runs c.args.self) c.step-stepped-in-Leaving.result _ c.args.core.now c.step-stepped-in-Leaving.new.core (ap add_of at.is) c.leaving.ensures.follows c.step-stepped-in-Leaving.ensures.still
 
 pub returns-in-Leaving-clause-fits : goal.returns-in-Leaving-clause-fits
 unfolding AddFits
@@ -144,20 +145,20 @@ unfolding add_of
 returns-in-Taking-clause-moves g c =
     let s = state_of g.D.Device.contents g.D.Device.failures in
     let at = c.in-Taking in
-    nested_moves take_of inode_in (onward_of add_of) (λ reply. reply) (lower_child at.ending) c.args.hart at.take (onward.Runs c.args.self) c.step.result _ (s c.args.core.now) (s c.step.new.core) (ap add_of at.is) c.taking.ensures.follows c.step.ensures.moves
+    nested_moves take_of inode_in (onward_of add_of) reply_in (lower_child at.ending) c.args.hart at.take (onward.Runs c.args.self) c.step.result _ (s c.args.core.now) (s c.step.new.core) (ap add_of at.is) c.taking.ensures.follows c.step.ensures.moves
 
 pub returns-in-Taking-clause-honest : goal.returns-in-Taking-clause-honest
 unfolding add_of
 returns-in-Taking-clause-honest g c =
     let s = state_of g.D.Device.contents g.D.Device.failures in
     let at = c.in-Taking in
-    nested_honest take_of inode_in (onward_of add_of) (λ reply. reply) (lower_child at.ending) c.args.hart at.take (onward.Runs c.args.self) c.step.result _ (s c.args.core.now) (s c.step.new.core) (ap add_of at.is) c.taking.ensures.follows c.step.ensures.moves c.step.ensures.honest
+    nested_honest take_of inode_in (onward_of add_of) reply_in (lower_child at.ending) c.args.hart at.take (onward.Runs c.args.self) c.step.result _ (s c.args.core.now) (s c.step.new.core) (ap add_of at.is) c.taking.ensures.follows c.step.ensures.moves c.step.ensures.honest
 
 pub returns-in-Taking-clause-still : goal.returns-in-Taking-clause-still
 unfolding add_of
 returns-in-Taking-clause-still g c =
     let at = c.in-Taking in
-    nested_still take_of inode_in (onward_of add_of) (λ reply. reply) (lower_child at.ending) at.take (onward.Runs c.args.self) c.step.result _ c.args.core.now c.step.new.core (ap add_of at.is) c.taking.ensures.follows c.step.ensures.still
+    nested_still take_of inode_in (onward_of add_of) reply_in (lower_child at.ending) at.take (onward.Runs c.args.self) c.step.result _ c.args.core.now c.step.new.core (ap add_of at.is) c.taking.ensures.follows c.step.ensures.still
 
 pub returns-in-Taking-clause-fits : goal.returns-in-Taking-clause-fits
 unfolding AddFits

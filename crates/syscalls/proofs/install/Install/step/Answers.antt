@@ -8,6 +8,7 @@ use Rattle.file_table.specs.Machines.{IsEarly}
 use Rattle.fs_tables.specs.Results.{opened_as}
 use Rattle.syscalls.specs.Taking.{IsHeld}
 use Rattle.syscalls.specs.Opens.{emptied, install_of, InstallFits}
+use Rattle.syscalls.specs.Spent.{reply_in}
 use Rattle.syscalls.proofs.Installing.{held_on, place_moves, descriptor_moves}
 use Rattle.syscalls.proofs.Nesting.{nested_moves, nested_honest, nested_still}
 use Rattle.syscalls.proofs.Emptying.{same_number, emptied_fits}
@@ -20,7 +21,7 @@ unfolding install_of
 returns-in-Emptying-clause-moves g c =
     let s = state_of g.D.Device.contents g.D.Device.failures in
     let guard = emptied_of c.in-Emptying.truncate in
-    nested_moves truncate_of record_in (onward_of install_of) (λ reply. reply) (emptied c.in-Emptying.ending guard.value.number) c.args.hart c.in-Emptying.truncate (onward.Runs c.args.self) c.step-stepped.result _ (s c.args.core.now) (s c.step-stepped.new.core) (ap install_of c.in-Emptying.is)
+    nested_moves truncate_of record_in (onward_of install_of) reply_in (emptied c.in-Emptying.ending guard.value.number) c.args.hart c.in-Emptying.truncate (onward.Runs c.args.self) c.step-stepped.result _ (s c.args.core.now) (s c.step-stepped.new.core) (ap install_of c.in-Emptying.is)
     (c.emptying.ensures.follows guard.value.number (same_number guard c.step-stepped.result c.step-stepped.ensures.inode)) c.step-stepped.ensures.moves
 
 pub returns-in-Emptying-clause-honest : goal.returns-in-Emptying-clause-honest
@@ -28,14 +29,14 @@ unfolding install_of
 returns-in-Emptying-clause-honest g c =
     let s = state_of g.D.Device.contents g.D.Device.failures in
     let guard = emptied_of c.in-Emptying.truncate in
-    nested_honest truncate_of record_in (onward_of install_of) (λ reply. reply) (emptied c.in-Emptying.ending guard.value.number) c.args.hart c.in-Emptying.truncate (onward.Runs c.args.self) c.step-stepped.result _ (s c.args.core.now) (s c.step-stepped.new.core) (ap install_of c.in-Emptying.is)
+    nested_honest truncate_of record_in (onward_of install_of) reply_in (emptied c.in-Emptying.ending guard.value.number) c.args.hart c.in-Emptying.truncate (onward.Runs c.args.self) c.step-stepped.result _ (s c.args.core.now) (s c.step-stepped.new.core) (ap install_of c.in-Emptying.is)
     (c.emptying.ensures.follows guard.value.number (same_number guard c.step-stepped.result c.step-stepped.ensures.inode)) c.step-stepped.ensures.moves c.step-stepped.ensures.honest
 
 pub returns-in-Emptying-clause-still : goal.returns-in-Emptying-clause-still
 unfolding install_of
 returns-in-Emptying-clause-still g c =
     let guard = emptied_of c.in-Emptying.truncate in
-    nested_still truncate_of record_in (onward_of install_of) (λ reply. reply) (emptied c.in-Emptying.ending guard.value.number) c.in-Emptying.truncate (onward.Runs c.args.self) c.step-stepped.result _ c.args.core.now c.step-stepped.new.core (ap install_of c.in-Emptying.is)
+    nested_still truncate_of record_in (onward_of install_of) reply_in (emptied c.in-Emptying.ending guard.value.number) c.in-Emptying.truncate (onward.Runs c.args.self) c.step-stepped.result _ c.args.core.now c.step-stepped.new.core (ap install_of c.in-Emptying.is)
     (c.emptying.ensures.follows guard.value.number (same_number guard c.step-stepped.result c.step-stepped.ensures.inode)) c.step-stepped.ensures.still
 
 pub returns-in-Emptying-clause-fits : goal.returns-in-Emptying-clause-fits

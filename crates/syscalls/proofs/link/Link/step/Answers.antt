@@ -7,6 +7,7 @@ use Rattle.inode_table.specs.Machines.{store_of, StoreFits}
 use Rattle.path_walk.specs.Elements.{most_elements}
 use Rattle.syscalls.specs.Taking.{inode_in, kept_by, most_reached, reach_of, reached_as, IsHeld, IsReached, ReachFits}
 use Rattle.syscalls.specs.Links.{add_name, link_found, link_joined, link_of, link_raised, HasRoom, IsLinking, LinkFits}
+use Rattle.syscalls.specs.Spent.{reply_in}
 use Rattle.syscalls.proofs.Having.{held_stays}
 use Rattle.syscalls.proofs.Joining.{joined_moves}
 use Rattle.syscalls.proofs.Linkings.{few_left, unlocked_moves}
@@ -38,7 +39,7 @@ returns-in-Reaching-clause-moves g c =
     let old = state_of g.D.Device.contents g.D.Device.failures c.args.core.now in
     let new = state_of g.D.Device.contents g.D.Device.failures c.step-stepped.new.core in
     let l = c.in-Reaching.l in
-    nested_moves (reach_of l.old) (reached_as l.old) (onward_of link_of) (λ reply. reply) (link_found l.sizes l.old l.new) c.args.hart c.in-Reaching.reach (onward.Runs c.args.self) c.step-stepped.result _ old new (ap link_of c.in-Reaching.is) c.reaching.ensures.follows
+    nested_moves (reach_of l.old) (reached_as l.old) (onward_of link_of) reply_in (link_found l.sizes l.old l.new) c.args.hart c.in-Reaching.reach (onward.Runs c.args.self) c.step-stepped.result _ old new (ap link_of c.in-Reaching.is) c.reaching.ensures.follows
     (subst (λ p. Moves (reach_of p) (reached_as p) c.args.hart c.in-Reaching.reach c.step-stepped.result old new) c.as_slice.ensures c.step-stepped.ensures.moves)
 
 pub returns-in-Reaching-clause-honest : goal.returns-in-Reaching-clause-honest
@@ -47,7 +48,7 @@ returns-in-Reaching-clause-honest g c =
     let old = state_of g.D.Device.contents g.D.Device.failures c.args.core.now in
     let new = state_of g.D.Device.contents g.D.Device.failures c.step-stepped.new.core in
     let l = c.in-Reaching.l in
-    nested_honest (reach_of l.old) (reached_as l.old) (onward_of link_of) (λ reply. reply) (link_found l.sizes l.old l.new) c.args.hart c.in-Reaching.reach (onward.Runs c.args.self) c.step-stepped.result _ old new (ap link_of c.in-Reaching.is) c.reaching.ensures.follows
+    nested_honest (reach_of l.old) (reached_as l.old) (onward_of link_of) reply_in (link_found l.sizes l.old l.new) c.args.hart c.in-Reaching.reach (onward.Runs c.args.self) c.step-stepped.result _ old new (ap link_of c.in-Reaching.is) c.reaching.ensures.follows
     (subst (λ p. Moves (reach_of p) (reached_as p) c.args.hart c.in-Reaching.reach c.step-stepped.result old new) c.as_slice.ensures c.step-stepped.ensures.moves)
     (subst (λ p. Answers (reach_of p) c.args.hart c.in-Reaching.reach c.step-stepped.result old new) c.as_slice.ensures c.step-stepped.ensures.honest)
 
@@ -55,7 +56,7 @@ pub returns-in-Reaching-clause-still : goal.returns-in-Reaching-clause-still
 unfolding link_of
 returns-in-Reaching-clause-still g c =
     let l = c.in-Reaching.l in
-    nested_still (reach_of l.old) (reached_as l.old) (onward_of link_of) (λ reply. reply) (link_found l.sizes l.old l.new) c.in-Reaching.reach (onward.Runs c.args.self) c.step-stepped.result _ c.args.core.now c.step-stepped.new.core (ap link_of c.in-Reaching.is) c.reaching.ensures.follows
+    nested_still (reach_of l.old) (reached_as l.old) (onward_of link_of) reply_in (link_found l.sizes l.old l.new) c.in-Reaching.reach (onward.Runs c.args.self) c.step-stepped.result _ c.args.core.now c.step-stepped.new.core (ap link_of c.in-Reaching.is) c.reaching.ensures.follows
     (subst (λ p. Still (reach_of p) c.step-stepped.result c.in-Reaching.reach c.args.core.now c.step-stepped.new.core) c.as_slice.ensures c.step-stepped.ensures.still)
 
 pub returns-in-Reaching-clause-fits : goal.returns-in-Reaching-clause-fits
@@ -80,7 +81,7 @@ returns-in-Raising-clause-moves g c =
     let s = state_of g.D.Device.contents g.D.Device.failures in
     let at = c.in-Raising in
     let l = at.l in
-    nested_moves store_of (λ x. x) (onward_of link_of) (λ reply. reply) (λ _. link_raised l.sizes l.old l.new (inode_in at.file) at.list) c.args.hart at.store (onward.Runs c.args.self) c.step-stepped-in-Raising.result _ (s c.args.core.now) (s c.step-stepped-in-Raising.new.core) (ap link_of at.is) c.raising.ensures.follows c.step-stepped-in-Raising.ensures.moves
+    nested_moves store_of (λ x. x) (onward_of link_of) reply_in (λ _. link_raised l.sizes l.old l.new (inode_in at.file) at.list) c.args.hart at.store (onward.Runs c.args.self) c.step-stepped-in-Raising.result _ (s c.args.core.now) (s c.step-stepped-in-Raising.new.core) (ap link_of at.is) c.raising.ensures.follows c.step-stepped-in-Raising.ensures.moves
 
 pub returns-in-Raising-clause-honest : goal.returns-in-Raising-clause-honest
 unfolding link_of
@@ -88,14 +89,14 @@ returns-in-Raising-clause-honest g c =
     let s = state_of g.D.Device.contents g.D.Device.failures in
     let at = c.in-Raising in
     let l = at.l in
-    nested_honest store_of (λ x. x) (onward_of link_of) (λ reply. reply) (λ _. link_raised l.sizes l.old l.new (inode_in at.file) at.list) c.args.hart at.store (onward.Runs c.args.self) c.step-stepped-in-Raising.result _ (s c.args.core.now) (s c.step-stepped-in-Raising.new.core) (ap link_of at.is) c.raising.ensures.follows c.step-stepped-in-Raising.ensures.moves c.step-stepped-in-Raising.ensures.honest
+    nested_honest store_of (λ x. x) (onward_of link_of) reply_in (λ _. link_raised l.sizes l.old l.new (inode_in at.file) at.list) c.args.hart at.store (onward.Runs c.args.self) c.step-stepped-in-Raising.result _ (s c.args.core.now) (s c.step-stepped-in-Raising.new.core) (ap link_of at.is) c.raising.ensures.follows c.step-stepped-in-Raising.ensures.moves c.step-stepped-in-Raising.ensures.honest
 
 pub returns-in-Raising-clause-still : goal.returns-in-Raising-clause-still
 unfolding link_of
 returns-in-Raising-clause-still g c =
     let at = c.in-Raising in
     let l = at.l in
-    nested_still store_of (λ x. x) (onward_of link_of) (λ reply. reply) (λ _. link_raised l.sizes l.old l.new (inode_in at.file) at.list) at.store (onward.Runs c.args.self) c.step-stepped-in-Raising.result _ c.args.core.now c.step-stepped-in-Raising.new.core (ap link_of at.is) c.raising.ensures.follows c.step-stepped-in-Raising.ensures.still
+    nested_still store_of (λ x. x) (onward_of link_of) reply_in (λ _. link_raised l.sizes l.old l.new (inode_in at.file) at.list) at.store (onward.Runs c.args.self) c.step-stepped-in-Raising.result _ c.args.core.now c.step-stepped-in-Raising.new.core (ap link_of at.is) c.raising.ensures.follows c.step-stepped-in-Raising.ensures.still
 
 pub returns-in-Raising-clause-fits : goal.returns-in-Raising-clause-fits
 unfolding LinkFits

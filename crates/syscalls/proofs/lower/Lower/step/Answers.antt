@@ -6,6 +6,7 @@ use Rattle.syscalls.specs.Parts.{quit}
 use Rattle.syscalls.specs.Taking.{inode_in, IsHeld}
 use Rattle.syscalls.specs.Ends.{give_of, GiveApart, GiveFits}
 use Rattle.syscalls.specs.Unlinking.{leave_parent, lower_child, lower_of, AreHeld, LowerFits}
+use Rattle.syscalls.specs.Spent.{reply_in}
 use Rattle.syscalls.proofs.Having.{both_stay, gave_apart, held_stays}
 use Rattle.syscalls.proofs.Nesting.{nested_moves, nested_honest, nested_still}
 use Rattle.syscalls.specs.Onwards.{onward_of}
@@ -19,13 +20,13 @@ unfolding lower_of
 returns-in-Parent-clause-moves g c =
     let s = state_of g.D.Device.contents g.D.Device.failures in
     let at = c.in-Parent in
-    nested_moves store_of (λ x. x) (onward_of lower_of) (λ reply. reply) (λ _. leave_parent at.ending (inode_in at.parent) (inode_in at.child)) c.args.hart at.store (onward.Runs c.args.self) c.step-stepped.result _ (s c.args.core.now) (s c.step-stepped.new.core) (ap lower_of at.is) c.parent_storing.ensures.follows c.step-stepped.ensures.moves
+    nested_moves store_of (λ x. x) (onward_of lower_of) reply_in (λ _. leave_parent at.ending (inode_in at.parent) (inode_in at.child)) c.args.hart at.store (onward.Runs c.args.self) c.step-stepped.result _ (s c.args.core.now) (s c.step-stepped.new.core) (ap lower_of at.is) c.parent_storing.ensures.follows c.step-stepped.ensures.moves
 
 pub returns-in-Parent-clause-still : goal.returns-in-Parent-clause-still
 unfolding lower_of
 returns-in-Parent-clause-still g c =
     let at = c.in-Parent in
-    nested_still store_of (λ x. x) (onward_of lower_of) (λ reply. reply) (λ _. leave_parent at.ending (inode_in at.parent) (inode_in at.child)) at.store (onward.Runs c.args.self) c.step-stepped.result _ c.args.core.now c.step-stepped.new.core (ap lower_of at.is) c.parent_storing.ensures.follows c.step-stepped.ensures.still
+    nested_still store_of (λ x. x) (onward_of lower_of) reply_in (λ _. leave_parent at.ending (inode_in at.parent) (inode_in at.child)) at.store (onward.Runs c.args.self) c.step-stepped.result _ c.args.core.now c.step-stepped.new.core (ap lower_of at.is) c.parent_storing.ensures.follows c.step-stepped.ensures.still
 
 pub returns-in-Parent-clause-fits : goal.returns-in-Parent-clause-fits
 unfolding LowerFits
@@ -45,13 +46,13 @@ unfolding lower_of
 returns-in-Leaving-clause-moves g c =
     let s = state_of g.D.Device.contents g.D.Device.failures in
     let at = c.in-Leaving in
-    nested_moves give_of (λ x. x) (onward_of lower_of) (λ reply. reply) (λ _. lower_child at.ending (inode_in at.child)) c.args.hart at.give (onward.Runs c.args.self) c.step-stepped-in-Leaving.result _ (s c.args.core.now) (s c.step-stepped-in-Leaving.new.core) (ap lower_of at.is) c.leaving.ensures.follows c.step-stepped-in-Leaving.ensures.moves
+    nested_moves give_of (λ x. x) (onward_of lower_of) reply_in (λ _. lower_child at.ending (inode_in at.child)) c.args.hart at.give (onward.Runs c.args.self) c.step-stepped-in-Leaving.result _ (s c.args.core.now) (s c.step-stepped-in-Leaving.new.core) (ap lower_of at.is) c.leaving.ensures.follows c.step-stepped-in-Leaving.ensures.moves
 
 pub returns-in-Leaving-clause-still : goal.returns-in-Leaving-clause-still
 unfolding lower_of
 returns-in-Leaving-clause-still g c =
     let at = c.in-Leaving in
-    nested_still give_of (λ x. x) (onward_of lower_of) (λ reply. reply) (λ _. lower_child at.ending (inode_in at.child)) at.give (onward.Runs c.args.self) c.step-stepped-in-Leaving.result _ c.args.core.now c.step-stepped-in-Leaving.new.core (ap lower_of at.is) c.leaving.ensures.follows c.step-stepped-in-Leaving.ensures.still
+    nested_still give_of (λ x. x) (onward_of lower_of) reply_in (λ _. lower_child at.ending (inode_in at.child)) at.give (onward.Runs c.args.self) c.step-stepped-in-Leaving.result _ c.args.core.now c.step-stepped-in-Leaving.new.core (ap lower_of at.is) c.leaving.ensures.follows c.step-stepped-in-Leaving.ensures.still
 
 pub returns-in-Leaving-clause-fits : goal.returns-in-Leaving-clause-fits
 unfolding LowerFits
@@ -72,13 +73,13 @@ unfolding lower_of
 returns-in-Child-clause-moves g c =
     let s = state_of g.D.Device.contents g.D.Device.failures in
     let at = c.in-Child in
-    nested_moves store_of (λ x. x) (onward_of lower_of) (λ reply. reply) (λ _. quit at.ending.sizes (inode_in at.child ∷ []) at.ending.list at.ending.reply) c.args.hart at.store (onward.Runs c.args.self) c.step-stepped-in-Child.result _ (s c.args.core.now) (s c.step-stepped-in-Child.new.core) (ap lower_of at.is) c.child_storing.ensures.follows c.step-stepped-in-Child.ensures.moves
+    nested_moves store_of (λ x. x) (onward_of lower_of) reply_in (λ _. quit at.ending.sizes (inode_in at.child ∷ []) at.ending.list at.ending.reply) c.args.hart at.store (onward.Runs c.args.self) c.step-stepped-in-Child.result _ (s c.args.core.now) (s c.step-stepped-in-Child.new.core) (ap lower_of at.is) c.child_storing.ensures.follows c.step-stepped-in-Child.ensures.moves
 
 pub returns-in-Child-clause-still : goal.returns-in-Child-clause-still
 unfolding lower_of
 returns-in-Child-clause-still g c =
     let at = c.in-Child in
-    nested_still store_of (λ x. x) (onward_of lower_of) (λ reply. reply) (λ _. quit at.ending.sizes (inode_in at.child ∷ []) at.ending.list at.ending.reply) at.store (onward.Runs c.args.self) c.step-stepped-in-Child.result _ c.args.core.now c.step-stepped-in-Child.new.core (ap lower_of at.is) c.child_storing.ensures.follows c.step-stepped-in-Child.ensures.still
+    nested_still store_of (λ x. x) (onward_of lower_of) reply_in (λ _. quit at.ending.sizes (inode_in at.child ∷ []) at.ending.list at.ending.reply) at.store (onward.Runs c.args.self) c.step-stepped-in-Child.result _ c.args.core.now c.step-stepped-in-Child.new.core (ap lower_of at.is) c.child_storing.ensures.follows c.step-stepped-in-Child.ensures.still
 
 pub returns-in-Child-clause-fits : goal.returns-in-Child-clause-fits
 unfolding LowerFits
@@ -98,11 +99,11 @@ unfolding lower_of
 returns-in-Parent-clause-honest g c =
     let s = state_of g.D.Device.contents g.D.Device.failures in
     let at = c.in-Parent in
-    nested_honest store_of (λ x. x) (onward_of lower_of) (λ reply. reply) (λ _. leave_parent at.ending (inode_in at.parent) (inode_in at.child)) c.args.hart at.store (onward.Runs c.args.self) c.step-stepped.result _ (s c.args.core.now) (s c.step-stepped.new.core) (ap lower_of at.is) c.parent_storing.ensures.follows c.step-stepped.ensures.moves c.step-stepped.ensures.honest
+    nested_honest store_of (λ x. x) (onward_of lower_of) reply_in (λ _. leave_parent at.ending (inode_in at.parent) (inode_in at.child)) c.args.hart at.store (onward.Runs c.args.self) c.step-stepped.result _ (s c.args.core.now) (s c.step-stepped.new.core) (ap lower_of at.is) c.parent_storing.ensures.follows c.step-stepped.ensures.moves c.step-stepped.ensures.honest
 
 pub returns-in-Child-clause-honest : goal.returns-in-Child-clause-honest
 unfolding lower_of
 returns-in-Child-clause-honest g c =
     let s = state_of g.D.Device.contents g.D.Device.failures in
     let at = c.in-Child in
-    nested_honest store_of (λ x. x) (onward_of lower_of) (λ reply. reply) (λ _. quit at.ending.sizes (inode_in at.child ∷ []) at.ending.list at.ending.reply) c.args.hart at.store (onward.Runs c.args.self) c.step-stepped-in-Child.result _ (s c.args.core.now) (s c.step-stepped-in-Child.new.core) (ap lower_of at.is) c.child_storing.ensures.follows c.step-stepped-in-Child.ensures.moves c.step-stepped-in-Child.ensures.honest
+    nested_honest store_of (λ x. x) (onward_of lower_of) reply_in (λ _. quit at.ending.sizes (inode_in at.child ∷ []) at.ending.list at.ending.reply) c.args.hart at.store (onward.Runs c.args.self) c.step-stepped-in-Child.result _ (s c.args.core.now) (s c.step-stepped-in-Child.new.core) (ap lower_of at.is) c.child_storing.ensures.follows c.step-stepped-in-Child.ensures.moves c.step-stepped-in-Child.ensures.honest

@@ -12,6 +12,7 @@ use Rattle.syscalls.specs.Ends.{give_of, GiveApart, GiveFits}
 use Rattle.syscalls.specs.Seeking.{seek_of, seen_as, IsSeen, SeekFits}
 use Rattle.syscalls.specs.Making.{make_of, named_as, MakeFits}
 use Rattle.syscalls.specs.Mkdirs.{leave_made, mkdir_named, mkdir_of, mkdir_reply, mkdir_seen, IsNaming, MkdirFits}
+use Rattle.syscalls.specs.Spent.{reply_in}
 use Rattle.syscalls.proofs.Nesting.{nested_moves, nested_honest, nested_still, left_zip}
 use Rattle.syscalls.proofs.Makings.{held_same, named_left}
 use Rattle.syscalls.proofs.Seeks.{sight_left}
@@ -37,7 +38,7 @@ returns-in-Seeking-clause-moves g c =
     let old = state_of g.D.Device.contents g.D.Device.failures c.args.core.now in
     let new = state_of g.D.Device.contents g.D.Device.failures c.step-stepped.new.core in
     let on = c.in-Seeking.on in
-    nested_moves (seek_of on.path) (seen_as on.path) (onward_of mkdir_of) (λ reply. reply) (mkdir_seen on.sizes on.path) c.args.hart c.in-Seeking.seek (onward.Runs c.args.self) c.step-stepped.result _ old new (ap mkdir_of c.in-Seeking.is) c.seeking.ensures.follows
+    nested_moves (seek_of on.path) (seen_as on.path) (onward_of mkdir_of) reply_in (mkdir_seen on.sizes on.path) c.args.hart c.in-Seeking.seek (onward.Runs c.args.self) c.step-stepped.result _ old new (ap mkdir_of c.in-Seeking.is) c.seeking.ensures.follows
     (subst (λ p. Moves (seek_of p) (seen_as p) c.args.hart c.in-Seeking.seek c.step-stepped.result old new) c.as_slice.ensures c.step-stepped.ensures.moves)
 
 pub returns-in-Seeking-clause-honest : goal.returns-in-Seeking-clause-honest
@@ -46,7 +47,7 @@ returns-in-Seeking-clause-honest g c =
     let old = state_of g.D.Device.contents g.D.Device.failures c.args.core.now in
     let new = state_of g.D.Device.contents g.D.Device.failures c.step-stepped.new.core in
     let on = c.in-Seeking.on in
-    nested_honest (seek_of on.path) (seen_as on.path) (onward_of mkdir_of) (λ reply. reply) (mkdir_seen on.sizes on.path) c.args.hart c.in-Seeking.seek (onward.Runs c.args.self) c.step-stepped.result _ old new (ap mkdir_of c.in-Seeking.is) c.seeking.ensures.follows
+    nested_honest (seek_of on.path) (seen_as on.path) (onward_of mkdir_of) reply_in (mkdir_seen on.sizes on.path) c.args.hart c.in-Seeking.seek (onward.Runs c.args.self) c.step-stepped.result _ old new (ap mkdir_of c.in-Seeking.is) c.seeking.ensures.follows
     (subst (λ p. Moves (seek_of p) (seen_as p) c.args.hart c.in-Seeking.seek c.step-stepped.result old new) c.as_slice.ensures c.step-stepped.ensures.moves)
     (subst (λ p. Answers (seek_of p) c.args.hart c.in-Seeking.seek c.step-stepped.result old new) c.as_slice.ensures c.step-stepped.ensures.honest)
 
@@ -54,7 +55,7 @@ pub returns-in-Seeking-clause-still : goal.returns-in-Seeking-clause-still
 unfolding mkdir_of
 returns-in-Seeking-clause-still g c =
     let on = c.in-Seeking.on in
-    nested_still (seek_of on.path) (seen_as on.path) (onward_of mkdir_of) (λ reply. reply) (mkdir_seen on.sizes on.path) c.in-Seeking.seek (onward.Runs c.args.self) c.step-stepped.result _ c.args.core.now c.step-stepped.new.core (ap mkdir_of c.in-Seeking.is) c.seeking.ensures.follows
+    nested_still (seek_of on.path) (seen_as on.path) (onward_of mkdir_of) reply_in (mkdir_seen on.sizes on.path) c.in-Seeking.seek (onward.Runs c.args.self) c.step-stepped.result _ c.args.core.now c.step-stepped.new.core (ap mkdir_of c.in-Seeking.is) c.seeking.ensures.follows
     (subst (λ p. Still (seek_of p) c.step-stepped.result c.in-Seeking.seek c.args.core.now c.step-stepped.new.core) c.as_slice.ensures c.step-stepped.ensures.still)
 
 pub returns-in-Seeking-clause-fits : goal.returns-in-Seeking-clause-fits
@@ -74,7 +75,7 @@ returns-in-Making-clause-moves g c =
     let new = state_of g.D.Device.contents g.D.Device.failures c.step-stepped-in-Making.new.core in
     let on = c.in-Making.on in
     let e = c.in-Making.element in
-    nested_moves (make_of (name_in on.path e)) named_as (onward_of mkdir_of) (λ reply. reply) (mkdir_named on.sizes on.path c.in-Making.links c.in-Making.list) c.args.hart c.in-Making.make (onward.Runs c.args.self) c.step-stepped-in-Making.result _ old new (ap mkdir_of c.in-Making.is) c.making.ensures.follows
+    nested_moves (make_of (name_in on.path e)) named_as (onward_of mkdir_of) reply_in (mkdir_named on.sizes on.path c.in-Making.links c.in-Making.list) c.args.hart c.in-Making.make (onward.Runs c.args.self) c.step-stepped-in-Making.result _ old new (ap mkdir_of c.in-Making.is) c.making.ensures.follows
     (subst (λ p. Moves (make_of (slice_range p e.start e.end)) named_as c.args.hart c.in-Making.make c.step-stepped-in-Making.result old new) c.as_slice-in-Making.ensures c.step-stepped-in-Making.ensures.moves)
 
 pub returns-in-Making-clause-honest : goal.returns-in-Making-clause-honest
@@ -84,7 +85,7 @@ returns-in-Making-clause-honest g c =
     let new = state_of g.D.Device.contents g.D.Device.failures c.step-stepped-in-Making.new.core in
     let on = c.in-Making.on in
     let e = c.in-Making.element in
-    nested_honest (make_of (name_in on.path e)) named_as (onward_of mkdir_of) (λ reply. reply) (mkdir_named on.sizes on.path c.in-Making.links c.in-Making.list) c.args.hart c.in-Making.make (onward.Runs c.args.self) c.step-stepped-in-Making.result _ old new (ap mkdir_of c.in-Making.is) c.making.ensures.follows
+    nested_honest (make_of (name_in on.path e)) named_as (onward_of mkdir_of) reply_in (mkdir_named on.sizes on.path c.in-Making.links c.in-Making.list) c.args.hart c.in-Making.make (onward.Runs c.args.self) c.step-stepped-in-Making.result _ old new (ap mkdir_of c.in-Making.is) c.making.ensures.follows
     (subst (λ p. Moves (make_of (slice_range p e.start e.end)) named_as c.args.hart c.in-Making.make c.step-stepped-in-Making.result old new) c.as_slice-in-Making.ensures c.step-stepped-in-Making.ensures.moves)
     (subst (λ p. Answers (make_of (slice_range p e.start e.end)) c.args.hart c.in-Making.make c.step-stepped-in-Making.result old new) c.as_slice-in-Making.ensures c.step-stepped-in-Making.ensures.honest)
 
@@ -93,7 +94,7 @@ unfolding mkdir_of
 returns-in-Making-clause-still g c =
     let on = c.in-Making.on in
     let e = c.in-Making.element in
-    nested_still (make_of (name_in on.path e)) named_as (onward_of mkdir_of) (λ reply. reply) (mkdir_named on.sizes on.path c.in-Making.links c.in-Making.list) c.in-Making.make (onward.Runs c.args.self) c.step-stepped-in-Making.result _ c.args.core.now c.step-stepped-in-Making.new.core (ap mkdir_of c.in-Making.is) c.making.ensures.follows
+    nested_still (make_of (name_in on.path e)) named_as (onward_of mkdir_of) reply_in (mkdir_named on.sizes on.path c.in-Making.links c.in-Making.list) c.in-Making.make (onward.Runs c.args.self) c.step-stepped-in-Making.result _ c.args.core.now c.step-stepped-in-Making.new.core (ap mkdir_of c.in-Making.is) c.making.ensures.follows
     (subst (λ p. Still (make_of (slice_range p e.start e.end)) c.step-stepped-in-Making.result c.in-Making.make c.args.core.now c.step-stepped-in-Making.new.core) c.as_slice-in-Making.ensures c.step-stepped-in-Making.ensures.still)
 
 pub returns-in-Making-clause-fits : goal.returns-in-Making-clause-fits
@@ -112,7 +113,7 @@ returns-in-Raising-clause-moves g c =
     let old = state_of g.D.Device.contents g.D.Device.failures c.args.core.now in
     let new = state_of g.D.Device.contents g.D.Device.failures c.step-stepped-in-Raising.new.core in
     let on = c.in-Raising.on in
-    nested_moves store_of (λ x. x) (onward_of mkdir_of) (λ reply. reply) (λ _. leave_made on.sizes on.path (inode_in c.in-Raising.parent) (inode_in c.in-Raising.child) c.in-Raising.list) c.args.hart c.in-Raising.store (onward.Runs c.args.self) c.step-stepped-in-Raising.result _ old new (ap mkdir_of c.in-Raising.is) c.raising.ensures.follows
+    nested_moves store_of (λ x. x) (onward_of mkdir_of) reply_in (λ _. leave_made on.sizes on.path (inode_in c.in-Raising.parent) (inode_in c.in-Raising.child) c.in-Raising.list) c.args.hart c.in-Raising.store (onward.Runs c.args.self) c.step-stepped-in-Raising.result _ old new (ap mkdir_of c.in-Raising.is) c.raising.ensures.follows
     c.step-stepped-in-Raising.ensures.moves
 
 pub returns-in-Raising-clause-honest : goal.returns-in-Raising-clause-honest
@@ -121,7 +122,7 @@ returns-in-Raising-clause-honest g c =
     let old = state_of g.D.Device.contents g.D.Device.failures c.args.core.now in
     let new = state_of g.D.Device.contents g.D.Device.failures c.step-stepped-in-Raising.new.core in
     let on = c.in-Raising.on in
-    nested_honest store_of (λ x. x) (onward_of mkdir_of) (λ reply. reply) (λ _. leave_made on.sizes on.path (inode_in c.in-Raising.parent) (inode_in c.in-Raising.child) c.in-Raising.list) c.args.hart c.in-Raising.store (onward.Runs c.args.self) c.step-stepped-in-Raising.result _ old new (ap mkdir_of c.in-Raising.is) c.raising.ensures.follows
+    nested_honest store_of (λ x. x) (onward_of mkdir_of) reply_in (λ _. leave_made on.sizes on.path (inode_in c.in-Raising.parent) (inode_in c.in-Raising.child) c.in-Raising.list) c.args.hart c.in-Raising.store (onward.Runs c.args.self) c.step-stepped-in-Raising.result _ old new (ap mkdir_of c.in-Raising.is) c.raising.ensures.follows
     c.step-stepped-in-Raising.ensures.moves
     c.step-stepped-in-Raising.ensures.honest
 
@@ -129,7 +130,7 @@ pub returns-in-Raising-clause-still : goal.returns-in-Raising-clause-still
 unfolding mkdir_of
 returns-in-Raising-clause-still g c =
     let on = c.in-Raising.on in
-    nested_still store_of (λ x. x) (onward_of mkdir_of) (λ reply. reply) (λ _. leave_made on.sizes on.path (inode_in c.in-Raising.parent) (inode_in c.in-Raising.child) c.in-Raising.list) c.in-Raising.store (onward.Runs c.args.self) c.step-stepped-in-Raising.result _ c.args.core.now c.step-stepped-in-Raising.new.core (ap mkdir_of c.in-Raising.is) c.raising.ensures.follows
+    nested_still store_of (λ x. x) (onward_of mkdir_of) reply_in (λ _. leave_made on.sizes on.path (inode_in c.in-Raising.parent) (inode_in c.in-Raising.child) c.in-Raising.list) c.in-Raising.store (onward.Runs c.args.self) c.step-stepped-in-Raising.result _ c.args.core.now c.step-stepped-in-Raising.new.core (ap mkdir_of c.in-Raising.is) c.raising.ensures.follows
     c.step-stepped-in-Raising.ensures.still
 
 pub returns-in-Raising-clause-fits : goal.returns-in-Raising-clause-fits
@@ -149,7 +150,7 @@ returns-in-Leaving-clause-moves g c =
     let old = state_of g.D.Device.contents g.D.Device.failures c.args.core.now in
     let new = state_of g.D.Device.contents g.D.Device.failures c.step-stepped-in-Leaving.new.core in
     let on = c.in-Leaving.on in
-    nested_moves give_of (λ x. x) (onward_of mkdir_of) (λ reply. reply) (λ _. quit on.sizes (inode_in c.in-Leaving.child ∷ []) c.in-Leaving.list (mkdir_reply on.path answers.Done)) c.args.hart c.in-Leaving.give (onward.Runs c.args.self) c.step-stepped-in-Leaving.result _ old new (ap mkdir_of c.in-Leaving.is) c.leaving.ensures.follows
+    nested_moves give_of (λ x. x) (onward_of mkdir_of) reply_in (λ _. quit on.sizes (inode_in c.in-Leaving.child ∷ []) c.in-Leaving.list (mkdir_reply on.path answers.Done)) c.args.hart c.in-Leaving.give (onward.Runs c.args.self) c.step-stepped-in-Leaving.result _ old new (ap mkdir_of c.in-Leaving.is) c.leaving.ensures.follows
     c.step-stepped-in-Leaving.ensures.moves
 
 pub returns-in-Leaving-clause-honest : goal.returns-in-Leaving-clause-honest
@@ -158,7 +159,7 @@ returns-in-Leaving-clause-honest g c =
     let old = state_of g.D.Device.contents g.D.Device.failures c.args.core.now in
     let new = state_of g.D.Device.contents g.D.Device.failures c.step-stepped-in-Leaving.new.core in
     let on = c.in-Leaving.on in
-    nested_honest give_of (λ x. x) (onward_of mkdir_of) (λ reply. reply) (λ _. quit on.sizes (inode_in c.in-Leaving.child ∷ []) c.in-Leaving.list (mkdir_reply on.path answers.Done)) c.args.hart c.in-Leaving.give (onward.Runs c.args.self) c.step-stepped-in-Leaving.result _ old new (ap mkdir_of c.in-Leaving.is) c.leaving.ensures.follows
+    nested_honest give_of (λ x. x) (onward_of mkdir_of) reply_in (λ _. quit on.sizes (inode_in c.in-Leaving.child ∷ []) c.in-Leaving.list (mkdir_reply on.path answers.Done)) c.args.hart c.in-Leaving.give (onward.Runs c.args.self) c.step-stepped-in-Leaving.result _ old new (ap mkdir_of c.in-Leaving.is) c.leaving.ensures.follows
     c.step-stepped-in-Leaving.ensures.moves
     c.step-stepped-in-Leaving.ensures.honest
 
@@ -166,7 +167,7 @@ pub returns-in-Leaving-clause-still : goal.returns-in-Leaving-clause-still
 unfolding mkdir_of
 returns-in-Leaving-clause-still g c =
     let on = c.in-Leaving.on in
-    nested_still give_of (λ x. x) (onward_of mkdir_of) (λ reply. reply) (λ _. quit on.sizes (inode_in c.in-Leaving.child ∷ []) c.in-Leaving.list (mkdir_reply on.path answers.Done)) c.in-Leaving.give (onward.Runs c.args.self) c.step-stepped-in-Leaving.result _ c.args.core.now c.step-stepped-in-Leaving.new.core (ap mkdir_of c.in-Leaving.is) c.leaving.ensures.follows
+    nested_still give_of (λ x. x) (onward_of mkdir_of) reply_in (λ _. quit on.sizes (inode_in c.in-Leaving.child ∷ []) c.in-Leaving.list (mkdir_reply on.path answers.Done)) c.in-Leaving.give (onward.Runs c.args.self) c.step-stepped-in-Leaving.result _ c.args.core.now c.step-stepped-in-Leaving.new.core (ap mkdir_of c.in-Leaving.is) c.leaving.ensures.follows
     c.step-stepped-in-Leaving.ensures.still
 
 pub returns-in-Leaving-clause-fits : goal.returns-in-Leaving-clause-fits

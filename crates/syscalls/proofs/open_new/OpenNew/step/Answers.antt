@@ -10,6 +10,7 @@ use Rattle.syscalls.specs.Ends.{give_of, GiveApart, GiveFits}
 use Rattle.syscalls.specs.Seeking.{seek_of, seen_as, IsSeen, SeekFits}
 use Rattle.syscalls.specs.Making.{make_of, named_as, MakeFits}
 use Rattle.syscalls.specs.Creating.{open_made, open_named, open_new_of, open_seen, open_taken, IsCreating, OpenNewFits}
+use Rattle.syscalls.specs.Spent.{reply_in}
 use Rattle.syscalls.proofs.Nesting.{nested_moves, nested_honest, nested_still, left_zip}
 use Rattle.syscalls.specs.Onwards.{onward_of}
 use Rattle.syscalls.specs.declared.onward.Onward.TheVariants as onward
@@ -21,7 +22,7 @@ returns-in-Seeking-clause-moves g c =
     let old = state_of g.D.Device.contents g.D.Device.failures c.args.core.now in
     let new = state_of g.D.Device.contents g.D.Device.failures c.step-stepped.new.core in
     let o = c.in-Seeking.o in
-    nested_moves (seek_of o.path) (seen_as o.path) (onward_of open_new_of) (λ reply. reply) (open_seen o.sizes o.path o.flags) c.args.hart c.in-Seeking.seek (onward.Runs c.args.self) c.step-stepped.result _ old new (ap open_new_of c.in-Seeking.is) c.seeking.ensures.follows
+    nested_moves (seek_of o.path) (seen_as o.path) (onward_of open_new_of) reply_in (open_seen o.sizes o.path o.flags) c.args.hart c.in-Seeking.seek (onward.Runs c.args.self) c.step-stepped.result _ old new (ap open_new_of c.in-Seeking.is) c.seeking.ensures.follows
     (subst (λ p. Moves (seek_of p) (seen_as p) c.args.hart c.in-Seeking.seek c.step-stepped.result old new) c.as_slice.ensures c.step-stepped.ensures.moves)
 
 pub returns-in-Seeking-clause-honest : goal.returns-in-Seeking-clause-honest
@@ -30,7 +31,7 @@ returns-in-Seeking-clause-honest g c =
     let old = state_of g.D.Device.contents g.D.Device.failures c.args.core.now in
     let new = state_of g.D.Device.contents g.D.Device.failures c.step-stepped.new.core in
     let o = c.in-Seeking.o in
-    nested_honest (seek_of o.path) (seen_as o.path) (onward_of open_new_of) (λ reply. reply) (open_seen o.sizes o.path o.flags) c.args.hart c.in-Seeking.seek (onward.Runs c.args.self) c.step-stepped.result _ old new (ap open_new_of c.in-Seeking.is) c.seeking.ensures.follows
+    nested_honest (seek_of o.path) (seen_as o.path) (onward_of open_new_of) reply_in (open_seen o.sizes o.path o.flags) c.args.hart c.in-Seeking.seek (onward.Runs c.args.self) c.step-stepped.result _ old new (ap open_new_of c.in-Seeking.is) c.seeking.ensures.follows
     (subst (λ p. Moves (seek_of p) (seen_as p) c.args.hart c.in-Seeking.seek c.step-stepped.result old new) c.as_slice.ensures c.step-stepped.ensures.moves)
     (subst (λ p. Answers (seek_of p) c.args.hart c.in-Seeking.seek c.step-stepped.result old new) c.as_slice.ensures c.step-stepped.ensures.honest)
 
@@ -38,7 +39,7 @@ pub returns-in-Seeking-clause-still : goal.returns-in-Seeking-clause-still
 unfolding open_new_of
 returns-in-Seeking-clause-still g c =
     let o = c.in-Seeking.o in
-    nested_still (seek_of o.path) (seen_as o.path) (onward_of open_new_of) (λ reply. reply) (open_seen o.sizes o.path o.flags) c.in-Seeking.seek (onward.Runs c.args.self) c.step-stepped.result _ c.args.core.now c.step-stepped.new.core (ap open_new_of c.in-Seeking.is) c.seeking.ensures.follows
+    nested_still (seek_of o.path) (seen_as o.path) (onward_of open_new_of) reply_in (open_seen o.sizes o.path o.flags) c.in-Seeking.seek (onward.Runs c.args.self) c.step-stepped.result _ c.args.core.now c.step-stepped.new.core (ap open_new_of c.in-Seeking.is) c.seeking.ensures.follows
     (subst (λ p. Still (seek_of p) c.step-stepped.result c.in-Seeking.seek c.args.core.now c.step-stepped.new.core) c.as_slice.ensures c.step-stepped.ensures.still)
 
 pub returns-in-Seeking-clause-fits : goal.returns-in-Seeking-clause-fits
@@ -68,7 +69,7 @@ returns-in-Leaving-clause-moves g c =
     let old = state_of g.D.Device.contents g.D.Device.failures c.args.core.now in
     let new = state_of g.D.Device.contents g.D.Device.failures c.step-stepped-in-Leaving.new.core in
     let o = c.in-Leaving.o in
-    nested_moves give_of (λ x. x) (onward_of open_new_of) (λ reply. reply) (λ _. open_taken o.sizes o.path o.flags c.in-Leaving.reference c.in-Leaving.list) c.args.hart c.in-Leaving.give (onward.Runs c.args.self) c.step-stepped-in-Leaving.result _ old new (ap open_new_of c.in-Leaving.is) c.leaving.ensures.follows
+    nested_moves give_of (λ x. x) (onward_of open_new_of) reply_in (λ _. open_taken o.sizes o.path o.flags c.in-Leaving.reference c.in-Leaving.list) c.args.hart c.in-Leaving.give (onward.Runs c.args.self) c.step-stepped-in-Leaving.result _ old new (ap open_new_of c.in-Leaving.is) c.leaving.ensures.follows
     c.step-stepped-in-Leaving.ensures.moves
 
 pub returns-in-Leaving-clause-honest : goal.returns-in-Leaving-clause-honest
@@ -77,7 +78,7 @@ returns-in-Leaving-clause-honest g c =
     let old = state_of g.D.Device.contents g.D.Device.failures c.args.core.now in
     let new = state_of g.D.Device.contents g.D.Device.failures c.step-stepped-in-Leaving.new.core in
     let o = c.in-Leaving.o in
-    nested_honest give_of (λ x. x) (onward_of open_new_of) (λ reply. reply) (λ _. open_taken o.sizes o.path o.flags c.in-Leaving.reference c.in-Leaving.list) c.args.hart c.in-Leaving.give (onward.Runs c.args.self) c.step-stepped-in-Leaving.result _ old new (ap open_new_of c.in-Leaving.is) c.leaving.ensures.follows
+    nested_honest give_of (λ x. x) (onward_of open_new_of) reply_in (λ _. open_taken o.sizes o.path o.flags c.in-Leaving.reference c.in-Leaving.list) c.args.hart c.in-Leaving.give (onward.Runs c.args.self) c.step-stepped-in-Leaving.result _ old new (ap open_new_of c.in-Leaving.is) c.leaving.ensures.follows
     c.step-stepped-in-Leaving.ensures.moves
     c.step-stepped-in-Leaving.ensures.honest
 
@@ -85,7 +86,7 @@ pub returns-in-Leaving-clause-still : goal.returns-in-Leaving-clause-still
 unfolding open_new_of
 returns-in-Leaving-clause-still g c =
     let o = c.in-Leaving.o in
-    nested_still give_of (λ x. x) (onward_of open_new_of) (λ reply. reply) (λ _. open_taken o.sizes o.path o.flags c.in-Leaving.reference c.in-Leaving.list) c.in-Leaving.give (onward.Runs c.args.self) c.step-stepped-in-Leaving.result _ c.args.core.now c.step-stepped-in-Leaving.new.core (ap open_new_of c.in-Leaving.is) c.leaving.ensures.follows
+    nested_still give_of (λ x. x) (onward_of open_new_of) reply_in (λ _. open_taken o.sizes o.path o.flags c.in-Leaving.reference c.in-Leaving.list) c.in-Leaving.give (onward.Runs c.args.self) c.step-stepped-in-Leaving.result _ c.args.core.now c.step-stepped-in-Leaving.new.core (ap open_new_of c.in-Leaving.is) c.leaving.ensures.follows
     c.step-stepped-in-Leaving.ensures.still
 
 pub returns-in-Leaving-clause-fits : goal.returns-in-Leaving-clause-fits
@@ -104,7 +105,7 @@ returns-in-Taking-clause-moves g c =
     let old = state_of g.D.Device.contents g.D.Device.failures c.args.core.now in
     let new = state_of g.D.Device.contents g.D.Device.failures c.step.new.core in
     let o = c.in-Taking.o in
-    nested_moves take_of inode_in (onward_of open_new_of) (λ reply. reply) (λ w. open_at o.sizes o.path o.flags w c.in-Taking.list) c.args.hart c.in-Taking.take (onward.Runs c.args.self) c.step.result _ old new (ap open_new_of c.in-Taking.is) c.taking.ensures.follows
+    nested_moves take_of inode_in (onward_of open_new_of) reply_in (λ w. open_at o.sizes o.path o.flags w c.in-Taking.list) c.args.hart c.in-Taking.take (onward.Runs c.args.self) c.step.result _ old new (ap open_new_of c.in-Taking.is) c.taking.ensures.follows
     c.step.ensures.moves
 
 pub returns-in-Taking-clause-honest : goal.returns-in-Taking-clause-honest
@@ -113,7 +114,7 @@ returns-in-Taking-clause-honest g c =
     let old = state_of g.D.Device.contents g.D.Device.failures c.args.core.now in
     let new = state_of g.D.Device.contents g.D.Device.failures c.step.new.core in
     let o = c.in-Taking.o in
-    nested_honest take_of inode_in (onward_of open_new_of) (λ reply. reply) (λ w. open_at o.sizes o.path o.flags w c.in-Taking.list) c.args.hart c.in-Taking.take (onward.Runs c.args.self) c.step.result _ old new (ap open_new_of c.in-Taking.is) c.taking.ensures.follows
+    nested_honest take_of inode_in (onward_of open_new_of) reply_in (λ w. open_at o.sizes o.path o.flags w c.in-Taking.list) c.args.hart c.in-Taking.take (onward.Runs c.args.self) c.step.result _ old new (ap open_new_of c.in-Taking.is) c.taking.ensures.follows
     c.step.ensures.moves
     c.step.ensures.honest
 
@@ -121,7 +122,7 @@ pub returns-in-Taking-clause-still : goal.returns-in-Taking-clause-still
 unfolding open_new_of
 returns-in-Taking-clause-still g c =
     let o = c.in-Taking.o in
-    nested_still take_of inode_in (onward_of open_new_of) (λ reply. reply) (λ w. open_at o.sizes o.path o.flags w c.in-Taking.list) c.in-Taking.take (onward.Runs c.args.self) c.step.result _ c.args.core.now c.step.new.core (ap open_new_of c.in-Taking.is) c.taking.ensures.follows
+    nested_still take_of inode_in (onward_of open_new_of) reply_in (λ w. open_at o.sizes o.path o.flags w c.in-Taking.list) c.in-Taking.take (onward.Runs c.args.self) c.step.result _ c.args.core.now c.step.new.core (ap open_new_of c.in-Taking.is) c.taking.ensures.follows
     c.step.ensures.still
 
 pub returns-in-Taking-clause-fits : goal.returns-in-Taking-clause-fits
@@ -141,7 +142,7 @@ returns-in-Making-clause-moves g c =
     let new = state_of g.D.Device.contents g.D.Device.failures c.step-stepped-in-Making.new.core in
     let o = c.in-Making.o in
     let e = c.in-Making.element in
-    nested_moves (make_of (name_in o.path e)) named_as (onward_of open_new_of) (λ reply. reply) (open_named o.sizes o.path o.flags c.in-Making.list) c.args.hart c.in-Making.make (onward.Runs c.args.self) c.step-stepped-in-Making.result _ old new (ap open_new_of c.in-Making.is) c.making.ensures.follows
+    nested_moves (make_of (name_in o.path e)) named_as (onward_of open_new_of) reply_in (open_named o.sizes o.path o.flags c.in-Making.list) c.args.hart c.in-Making.make (onward.Runs c.args.self) c.step-stepped-in-Making.result _ old new (ap open_new_of c.in-Making.is) c.making.ensures.follows
     (subst (λ p. Moves (make_of (slice_range p e.start e.end)) named_as c.args.hart c.in-Making.make c.step-stepped-in-Making.result old new) c.as_slice-in-Making.ensures c.step-stepped-in-Making.ensures.moves)
 
 pub returns-in-Making-clause-honest : goal.returns-in-Making-clause-honest
@@ -151,7 +152,7 @@ returns-in-Making-clause-honest g c =
     let new = state_of g.D.Device.contents g.D.Device.failures c.step-stepped-in-Making.new.core in
     let o = c.in-Making.o in
     let e = c.in-Making.element in
-    nested_honest (make_of (name_in o.path e)) named_as (onward_of open_new_of) (λ reply. reply) (open_named o.sizes o.path o.flags c.in-Making.list) c.args.hart c.in-Making.make (onward.Runs c.args.self) c.step-stepped-in-Making.result _ old new (ap open_new_of c.in-Making.is) c.making.ensures.follows
+    nested_honest (make_of (name_in o.path e)) named_as (onward_of open_new_of) reply_in (open_named o.sizes o.path o.flags c.in-Making.list) c.args.hart c.in-Making.make (onward.Runs c.args.self) c.step-stepped-in-Making.result _ old new (ap open_new_of c.in-Making.is) c.making.ensures.follows
     (subst (λ p. Moves (make_of (slice_range p e.start e.end)) named_as c.args.hart c.in-Making.make c.step-stepped-in-Making.result old new) c.as_slice-in-Making.ensures c.step-stepped-in-Making.ensures.moves)
     (subst (λ p. Answers (make_of (slice_range p e.start e.end)) c.args.hart c.in-Making.make c.step-stepped-in-Making.result old new) c.as_slice-in-Making.ensures c.step-stepped-in-Making.ensures.honest)
 
@@ -160,7 +161,7 @@ unfolding open_new_of
 returns-in-Making-clause-still g c =
     let o = c.in-Making.o in
     let e = c.in-Making.element in
-    nested_still (make_of (name_in o.path e)) named_as (onward_of open_new_of) (λ reply. reply) (open_named o.sizes o.path o.flags c.in-Making.list) c.in-Making.make (onward.Runs c.args.self) c.step-stepped-in-Making.result _ c.args.core.now c.step-stepped-in-Making.new.core (ap open_new_of c.in-Making.is) c.making.ensures.follows
+    nested_still (make_of (name_in o.path e)) named_as (onward_of open_new_of) reply_in (open_named o.sizes o.path o.flags c.in-Making.list) c.in-Making.make (onward.Runs c.args.self) c.step-stepped-in-Making.result _ c.args.core.now c.step-stepped-in-Making.new.core (ap open_new_of c.in-Making.is) c.making.ensures.follows
     (subst (λ p. Still (make_of (slice_range p e.start e.end)) c.step-stepped-in-Making.result c.in-Making.make c.args.core.now c.step-stepped-in-Making.new.core) c.as_slice-in-Making.ensures c.step-stepped-in-Making.ensures.still)
 
 pub returns-in-Making-clause-fits : goal.returns-in-Making-clause-fits
@@ -179,7 +180,7 @@ returns-in-Made-clause-moves g c =
     let old = state_of g.D.Device.contents g.D.Device.failures c.args.core.now in
     let new = state_of g.D.Device.contents g.D.Device.failures c.step-stepped-in-Made.new.core in
     let o = c.in-Made.o in
-    nested_moves give_of (λ x. x) (onward_of open_new_of) (λ reply. reply) (λ _. open_made o.sizes o.path o.flags (inode_in c.in-Made.held) c.in-Made.list) c.args.hart c.in-Made.give (onward.Runs c.args.self) c.step-stepped-in-Made.result _ old new (ap open_new_of c.in-Made.is) c.made.ensures.follows
+    nested_moves give_of (λ x. x) (onward_of open_new_of) reply_in (λ _. open_made o.sizes o.path o.flags (inode_in c.in-Made.held) c.in-Made.list) c.args.hart c.in-Made.give (onward.Runs c.args.self) c.step-stepped-in-Made.result _ old new (ap open_new_of c.in-Made.is) c.made.ensures.follows
     c.step-stepped-in-Made.ensures.moves
 
 pub returns-in-Made-clause-honest : goal.returns-in-Made-clause-honest
@@ -188,7 +189,7 @@ returns-in-Made-clause-honest g c =
     let old = state_of g.D.Device.contents g.D.Device.failures c.args.core.now in
     let new = state_of g.D.Device.contents g.D.Device.failures c.step-stepped-in-Made.new.core in
     let o = c.in-Made.o in
-    nested_honest give_of (λ x. x) (onward_of open_new_of) (λ reply. reply) (λ _. open_made o.sizes o.path o.flags (inode_in c.in-Made.held) c.in-Made.list) c.args.hart c.in-Made.give (onward.Runs c.args.self) c.step-stepped-in-Made.result _ old new (ap open_new_of c.in-Made.is) c.made.ensures.follows
+    nested_honest give_of (λ x. x) (onward_of open_new_of) reply_in (λ _. open_made o.sizes o.path o.flags (inode_in c.in-Made.held) c.in-Made.list) c.args.hart c.in-Made.give (onward.Runs c.args.self) c.step-stepped-in-Made.result _ old new (ap open_new_of c.in-Made.is) c.made.ensures.follows
     c.step-stepped-in-Made.ensures.moves
     c.step-stepped-in-Made.ensures.honest
 
@@ -196,7 +197,7 @@ pub returns-in-Made-clause-still : goal.returns-in-Made-clause-still
 unfolding open_new_of
 returns-in-Made-clause-still g c =
     let o = c.in-Made.o in
-    nested_still give_of (λ x. x) (onward_of open_new_of) (λ reply. reply) (λ _. open_made o.sizes o.path o.flags (inode_in c.in-Made.held) c.in-Made.list) c.in-Made.give (onward.Runs c.args.self) c.step-stepped-in-Made.result _ c.args.core.now c.step-stepped-in-Made.new.core (ap open_new_of c.in-Made.is) c.made.ensures.follows
+    nested_still give_of (λ x. x) (onward_of open_new_of) reply_in (λ _. open_made o.sizes o.path o.flags (inode_in c.in-Made.held) c.in-Made.list) c.in-Made.give (onward.Runs c.args.self) c.step-stepped-in-Made.result _ c.args.core.now c.step-stepped-in-Made.new.core (ap open_new_of c.in-Made.is) c.made.ensures.follows
     c.step-stepped-in-Made.ensures.still
 
 pub returns-in-Made-clause-fits : goal.returns-in-Made-clause-fits

@@ -5,6 +5,7 @@ use Rattle.file_table.specs.Machines.{IsEarly}
 use Rattle.syscalls.specs.Parts.{quit}
 use Rattle.syscalls.specs.Taking.{inode_in, IsHeld}
 use Rattle.syscalls.specs.Ends.{give_of, GiveApart, GiveFits, quit_of, QuitFits, tail_for}
+use Rattle.syscalls.specs.Spent.{reply_in}
 use Rattle.syscalls.proofs.Nesting.{nested_moves, nested_still}
 use Rattle.syscalls.proofs.Having.{gave_apart}
 use Rattle.syscalls.proofs.quit.Quit.step.Goals as goal
@@ -22,12 +23,12 @@ pub returns-in-Giving-clause-moves : goal.returns-in-Giving-clause-moves
 unfolding quit_of
 returns-in-Giving-clause-moves g c =
     let s = state_of g.D.Device.contents g.D.Device.failures in
-    nested_moves give_of (λ x. x) quit_of (λ reply. reply) (λ _. tail_for c.in-Giving.ending) c.args.hart c.in-Giving.give c.args.self c.step-stepped.result _ (s c.args.core.now) (s c.step-stepped.new.core) (ap quit_of c.in-Giving.is) c.giving.ensures.follows c.step-stepped.ensures.moves
+    nested_moves give_of (λ x. x) quit_of reply_in (λ _. tail_for c.in-Giving.ending) c.args.hart c.in-Giving.give c.args.self c.step-stepped.result _ (s c.args.core.now) (s c.step-stepped.new.core) (ap quit_of c.in-Giving.is) c.giving.ensures.follows c.step-stepped.ensures.moves
 
 pub returns-in-Giving-clause-still : goal.returns-in-Giving-clause-still
 unfolding quit_of
 returns-in-Giving-clause-still g c =
-    nested_still give_of (λ x. x) quit_of (λ reply. reply) (λ _. tail_for c.in-Giving.ending) c.in-Giving.give c.args.self c.step-stepped.result _ c.args.core.now c.step-stepped.new.core (ap quit_of c.in-Giving.is) c.giving.ensures.follows c.step-stepped.ensures.still
+    nested_still give_of (λ x. x) quit_of reply_in (λ _. tail_for c.in-Giving.ending) c.in-Giving.give c.args.self c.step-stepped.result _ c.args.core.now c.step-stepped.new.core (ap quit_of c.in-Giving.is) c.giving.ensures.follows c.step-stepped.ensures.still
 
 pub returns-in-Giving-clause-fits : goal.returns-in-Giving-clause-fits
 unfolding QuitFits
@@ -42,13 +43,13 @@ unfolding quit_of
 returns-in-Two-clause-moves g c =
     let s = state_of g.D.Device.contents g.D.Device.failures in
     let e = c.in-Two.ending in
-    nested_moves give_of (λ x. x) quit_of (λ reply. reply) (λ _. quit e.sizes (inode_in c.in-Two.second ∷ []) e.list e.reply) c.args.hart c.in-Two.give c.args.self c.step-stepped-in-Two.result _ (s c.args.core.now) (s c.step-stepped-in-Two.new.core) (ap quit_of c.in-Two.is) c.giving_first.ensures.follows c.step-stepped-in-Two.ensures.moves
+    nested_moves give_of (λ x. x) quit_of reply_in (λ _. quit e.sizes (inode_in c.in-Two.second ∷ []) e.list e.reply) c.args.hart c.in-Two.give c.args.self c.step-stepped-in-Two.result _ (s c.args.core.now) (s c.step-stepped-in-Two.new.core) (ap quit_of c.in-Two.is) c.giving_first.ensures.follows c.step-stepped-in-Two.ensures.moves
 
 pub returns-in-Two-clause-still : goal.returns-in-Two-clause-still
 unfolding quit_of
 returns-in-Two-clause-still g c =
     let e = c.in-Two.ending in
-    nested_still give_of (λ x. x) quit_of (λ reply. reply) (λ _. quit e.sizes (inode_in c.in-Two.second ∷ []) e.list e.reply) c.in-Two.give c.args.self c.step-stepped-in-Two.result _ c.args.core.now c.step-stepped-in-Two.new.core (ap quit_of c.in-Two.is) c.giving_first.ensures.follows c.step-stepped-in-Two.ensures.still
+    nested_still give_of (λ x. x) quit_of reply_in (λ _. quit e.sizes (inode_in c.in-Two.second ∷ []) e.list e.reply) c.in-Two.give c.args.self c.step-stepped-in-Two.result _ c.args.core.now c.step-stepped-in-Two.new.core (ap quit_of c.in-Two.is) c.giving_first.ensures.follows c.step-stepped-in-Two.ensures.still
 
 pub returns-in-Two-clause-fits : goal.returns-in-Two-clause-fits
 unfolding QuitFits

@@ -6,6 +6,7 @@ use Rattle.inode_table.specs.Machines.{load_of, LoadFits}
 use Rattle.inode_data.specs.Dropping.{free_inode_of, FreeInodeFits}
 use Rattle.file_table.specs.Machines.{IsEarly}
 use Rattle.syscalls.specs.Tails.{tail_of, TailFits, rest_of, leave_freed, free_loaded}
+use Rattle.syscalls.specs.Spent.{reply_in}
 use Rattle.syscalls.proofs.Nesting.{nested_moves, nested_still}
 use Rattle.syscalls.proofs.Tails.{own_on}
 use Rattle.syscalls.proofs.tail.Tail.step.Goals as goal
@@ -14,12 +15,12 @@ pub returns-in-Leaving-clause-moves : goal.returns-in-Leaving-clause-moves
 unfolding tail_of
 returns-in-Leaving-clause-moves g c =
     let s = state_of g.D.Device.contents g.D.Device.failures in
-    nested_moves finish_of (λ x. x) tail_of (λ reply. reply) (λ _. rest_of c.in-Leaving.ending) c.args.hart c.in-Leaving.finish c.args.self c.step.result _ (s c.args.core.now) (s c.step.new.core) (ap tail_of c.in-Leaving.is) c.leaving.ensures.follows c.step.ensures.moves
+    nested_moves finish_of (λ x. x) tail_of reply_in (λ _. rest_of c.in-Leaving.ending) c.args.hart c.in-Leaving.finish c.args.self c.step.result _ (s c.args.core.now) (s c.step.new.core) (ap tail_of c.in-Leaving.is) c.leaving.ensures.follows c.step.ensures.moves
 
 pub returns-in-Leaving-clause-still : goal.returns-in-Leaving-clause-still
 unfolding tail_of
 returns-in-Leaving-clause-still g c =
-    nested_still finish_of (λ x. x) tail_of (λ reply. reply) (λ _. rest_of c.in-Leaving.ending) c.in-Leaving.finish c.args.self c.step.result _ c.args.core.now c.step.new.core (ap tail_of c.in-Leaving.is) c.leaving.ensures.follows c.step.ensures.still
+    nested_still finish_of (λ x. x) tail_of reply_in (λ _. rest_of c.in-Leaving.ending) c.in-Leaving.finish c.args.self c.step.result _ c.args.core.now c.step.new.core (ap tail_of c.in-Leaving.is) c.leaving.ensures.follows c.step.ensures.still
 
 pub returns-in-Leaving-clause-fits : goal.returns-in-Leaving-clause-fits
 returns-in-Leaving-clause-fits g c = c.leaving.ensures.fits c.args.hart (state_of g.D.Device.contents g.D.Device.failures c.step.new.core) c.step.ensures.fits
@@ -36,7 +37,7 @@ pub returns-in-Loading-clause-moves : goal.returns-in-Loading-clause-moves
 unfolding tail_of
 returns-in-Loading-clause-moves g c =
     let s = state_of g.D.Device.contents g.D.Device.failures in
-    nested_moves load_of (λ d. d) tail_of (λ reply. reply) (free_loaded c.in-Loading.ending c.in-Loading.reference) c.args.hart c.in-Loading.load c.args.self c.step-in-Loading.result _ (s c.args.core.now) (s c.step-in-Loading.new.core) (ap tail_of c.in-Loading.is) c.loading.ensures.follows c.step-in-Loading.ensures.moves
+    nested_moves load_of (λ d. d) tail_of reply_in (free_loaded c.in-Loading.ending c.in-Loading.reference) c.args.hart c.in-Loading.load c.args.self c.step-in-Loading.result _ (s c.args.core.now) (s c.step-in-Loading.new.core) (ap tail_of c.in-Loading.is) c.loading.ensures.follows c.step-in-Loading.ensures.moves
 
 pub returns-in-Loading-clause-fits : goal.returns-in-Loading-clause-fits
 unfolding TailFits
@@ -53,12 +54,12 @@ pub returns-in-Freeing-clause-moves : goal.returns-in-Freeing-clause-moves
 unfolding tail_of
 returns-in-Freeing-clause-moves g c =
     let s = state_of g.D.Device.contents g.D.Device.failures in
-    nested_moves free_inode_of (λ x. x) tail_of (λ reply. reply) (λ _. leave_freed c.in-Freeing.ending) c.args.hart c.in-Freeing.free c.args.self c.step-stepped.result _ (s c.args.core.now) (s c.step-stepped.new.core) (ap tail_of c.in-Freeing.is) c.freeing.ensures.follows c.step-stepped.ensures.moves
+    nested_moves free_inode_of (λ x. x) tail_of reply_in (λ _. leave_freed c.in-Freeing.ending) c.args.hart c.in-Freeing.free c.args.self c.step-stepped.result _ (s c.args.core.now) (s c.step-stepped.new.core) (ap tail_of c.in-Freeing.is) c.freeing.ensures.follows c.step-stepped.ensures.moves
 
 pub returns-in-Freeing-clause-still : goal.returns-in-Freeing-clause-still
 unfolding tail_of
 returns-in-Freeing-clause-still g c =
-    nested_still free_inode_of (λ x. x) tail_of (λ reply. reply) (λ _. leave_freed c.in-Freeing.ending) c.in-Freeing.free c.args.self c.step-stepped.result _ c.args.core.now c.step-stepped.new.core (ap tail_of c.in-Freeing.is) c.freeing.ensures.follows c.step-stepped.ensures.still
+    nested_still free_inode_of (λ x. x) tail_of reply_in (λ _. leave_freed c.in-Freeing.ending) c.in-Freeing.free c.args.self c.step-stepped.result _ c.args.core.now c.step-stepped.new.core (ap tail_of c.in-Freeing.is) c.freeing.ensures.follows c.step-stepped.ensures.still
 
 pub returns-in-Freeing-clause-fits : goal.returns-in-Freeing-clause-fits
 unfolding TailFits

@@ -13,6 +13,7 @@ use Rattle.syscalls.specs.Taking.{inode_in, take_of, IsHeld, TakeApart, TakeFits
 use Rattle.syscalls.specs.Chdirs.{IsOnPath}
 use Rattle.syscalls.specs.Seeking.{seek_of, seen_as, IsSeen, SeekFits}
 use Rattle.syscalls.specs.Unlinking.{name_cleared, see_child, unless_entries, unlink_joined, unlink_of, unlink_seen, unlink_up, AreHeld, IsRemoving, UnlinkFits}
+use Rattle.syscalls.specs.Spent.{reply_in}
 use Rattle.syscalls.proofs.Installing.{held_on}
 use Rattle.syscalls.proofs.Joining.{joined_moves}
 use Rattle.syscalls.proofs.Nesting.{nested_moves, nested_honest, nested_still}
@@ -36,7 +37,7 @@ returns-in-Seeking-clause-moves g c =
     let old = state_of g.D.Device.contents g.D.Device.failures c.args.core.now in
     let new = state_of g.D.Device.contents g.D.Device.failures c.step-stepped.new.core in
     let on = c.in-Seeking.on in
-    nested_moves (seek_of on.path) (seen_as on.path) (onward_of unlink_of) (λ reply. reply) (unlink_seen on.sizes on.path) c.args.hart c.in-Seeking.seek (onward.Runs c.args.self) c.step-stepped.result _ old new (ap unlink_of c.in-Seeking.is) c.seeking.ensures.follows
+    nested_moves (seek_of on.path) (seen_as on.path) (onward_of unlink_of) reply_in (unlink_seen on.sizes on.path) c.args.hart c.in-Seeking.seek (onward.Runs c.args.self) c.step-stepped.result _ old new (ap unlink_of c.in-Seeking.is) c.seeking.ensures.follows
     (subst (λ p. Moves (seek_of p) (seen_as p) c.args.hart c.in-Seeking.seek c.step-stepped.result old new) c.as_slice.ensures c.step-stepped.ensures.moves)
 
 pub returns-in-Seeking-clause-honest : goal.returns-in-Seeking-clause-honest
@@ -45,7 +46,7 @@ returns-in-Seeking-clause-honest g c =
     let old = state_of g.D.Device.contents g.D.Device.failures c.args.core.now in
     let new = state_of g.D.Device.contents g.D.Device.failures c.step-stepped.new.core in
     let on = c.in-Seeking.on in
-    nested_honest (seek_of on.path) (seen_as on.path) (onward_of unlink_of) (λ reply. reply) (unlink_seen on.sizes on.path) c.args.hart c.in-Seeking.seek (onward.Runs c.args.self) c.step-stepped.result _ old new (ap unlink_of c.in-Seeking.is) c.seeking.ensures.follows
+    nested_honest (seek_of on.path) (seen_as on.path) (onward_of unlink_of) reply_in (unlink_seen on.sizes on.path) c.args.hart c.in-Seeking.seek (onward.Runs c.args.self) c.step-stepped.result _ old new (ap unlink_of c.in-Seeking.is) c.seeking.ensures.follows
     (subst (λ p. Moves (seek_of p) (seen_as p) c.args.hart c.in-Seeking.seek c.step-stepped.result old new) c.as_slice.ensures c.step-stepped.ensures.moves)
     (subst (λ p. Answers (seek_of p) c.args.hart c.in-Seeking.seek c.step-stepped.result old new) c.as_slice.ensures c.step-stepped.ensures.honest)
 
@@ -53,7 +54,7 @@ pub returns-in-Seeking-clause-still : goal.returns-in-Seeking-clause-still
 unfolding unlink_of
 returns-in-Seeking-clause-still g c =
     let on = c.in-Seeking.on in
-    nested_still (seek_of on.path) (seen_as on.path) (onward_of unlink_of) (λ reply. reply) (unlink_seen on.sizes on.path) c.in-Seeking.seek (onward.Runs c.args.self) c.step-stepped.result _ c.args.core.now c.step-stepped.new.core (ap unlink_of c.in-Seeking.is) c.seeking.ensures.follows
+    nested_still (seek_of on.path) (seen_as on.path) (onward_of unlink_of) reply_in (unlink_seen on.sizes on.path) c.in-Seeking.seek (onward.Runs c.args.self) c.step-stepped.result _ c.args.core.now c.step-stepped.new.core (ap unlink_of c.in-Seeking.is) c.seeking.ensures.follows
     (subst (λ p. Still (seek_of p) c.step-stepped.result c.in-Seeking.seek c.args.core.now c.step-stepped.new.core) c.as_slice.ensures c.step-stepped.ensures.still)
 
 pub returns-in-Seeking-clause-fits : goal.returns-in-Seeking-clause-fits
@@ -98,13 +99,13 @@ unfolding unlink_of
 returns-in-Taking-clause-moves g c =
     let s = state_of g.D.Device.contents g.D.Device.failures in
     let r = c.in-Taking.removing in
-    nested_moves take_of inode_in (onward_of unlink_of) (λ reply. reply) (see_child r.on.sizes r.on.path (inode_in r.parent) r.slot r.list) c.args.hart c.in-Taking.take (onward.Runs c.args.self) c.step.result _ (s c.args.core.now) (s c.step.new.core) (ap unlink_of c.in-Taking.is) c.taking.ensures.follows c.step.ensures.moves
+    nested_moves take_of inode_in (onward_of unlink_of) reply_in (see_child r.on.sizes r.on.path (inode_in r.parent) r.slot r.list) c.args.hart c.in-Taking.take (onward.Runs c.args.self) c.step.result _ (s c.args.core.now) (s c.step.new.core) (ap unlink_of c.in-Taking.is) c.taking.ensures.follows c.step.ensures.moves
 
 pub returns-in-Taking-clause-still : goal.returns-in-Taking-clause-still
 unfolding unlink_of
 returns-in-Taking-clause-still g c =
     let r = c.in-Taking.removing in
-    nested_still take_of inode_in (onward_of unlink_of) (λ reply. reply) (see_child r.on.sizes r.on.path (inode_in r.parent) r.slot r.list) c.in-Taking.take (onward.Runs c.args.self) c.step.result _ c.args.core.now c.step.new.core (ap unlink_of c.in-Taking.is) c.taking.ensures.follows c.step.ensures.still
+    nested_still take_of inode_in (onward_of unlink_of) reply_in (see_child r.on.sizes r.on.path (inode_in r.parent) r.slot r.list) c.in-Taking.take (onward.Runs c.args.self) c.step.result _ c.args.core.now c.step.new.core (ap unlink_of c.in-Taking.is) c.taking.ensures.follows c.step.ensures.still
 
 pub returns-in-Taking-clause-fits : goal.returns-in-Taking-clause-fits
 unfolding UnlinkFits
@@ -138,7 +139,7 @@ returns-in-Looking-clause-moves g c =
     let s = state_of g.D.Device.contents g.D.Device.failures in
     let at = c.in-Looking in
     let r = at.removing in
-    nested_moves (search_of Entry) found_of (onward_of unlink_of) (λ reply. reply) (unless_entries r.on.sizes r.on.path (inode_in r.parent) r.slot r.list (inode_of at.search).value) c.args.hart at.search (onward.Runs c.args.self) c.step-stepped-in-Looking.result _ (s c.args.core.now) (s c.step-stepped-in-Looking.new.core) (ap unlink_of at.is)
+    nested_moves (search_of Entry) found_of (onward_of unlink_of) reply_in (unless_entries r.on.sizes r.on.path (inode_in r.parent) r.slot r.list (inode_of at.search).value) c.args.hart at.search (onward.Runs c.args.self) c.step-stepped-in-Looking.result _ (s c.args.core.now) (s c.step-stepped-in-Looking.new.core) (ap unlink_of at.is)
     (c.looking.ensures.follows (inode_of at.search) c.step-stepped-in-Looking.ensures.inode) c.step-stepped-in-Looking.ensures.moves
 
 pub returns-in-Looking-clause-honest : goal.returns-in-Looking-clause-honest
@@ -147,7 +148,7 @@ returns-in-Looking-clause-honest g c =
     let s = state_of g.D.Device.contents g.D.Device.failures in
     let at = c.in-Looking in
     let r = at.removing in
-    nested_honest (search_of Entry) found_of (onward_of unlink_of) (λ reply. reply) (unless_entries r.on.sizes r.on.path (inode_in r.parent) r.slot r.list (inode_of at.search).value) c.args.hart at.search (onward.Runs c.args.self) c.step-stepped-in-Looking.result _ (s c.args.core.now) (s c.step-stepped-in-Looking.new.core) (ap unlink_of at.is)
+    nested_honest (search_of Entry) found_of (onward_of unlink_of) reply_in (unless_entries r.on.sizes r.on.path (inode_in r.parent) r.slot r.list (inode_of at.search).value) c.args.hart at.search (onward.Runs c.args.self) c.step-stepped-in-Looking.result _ (s c.args.core.now) (s c.step-stepped-in-Looking.new.core) (ap unlink_of at.is)
     (c.looking.ensures.follows (inode_of at.search) c.step-stepped-in-Looking.ensures.inode) c.step-stepped-in-Looking.ensures.moves c.step-stepped-in-Looking.ensures.honest
 
 pub returns-in-Looking-clause-still : goal.returns-in-Looking-clause-still
@@ -155,7 +156,7 @@ unfolding unlink_of
 returns-in-Looking-clause-still g c =
     let at = c.in-Looking in
     let r = at.removing in
-    nested_still (search_of Entry) found_of (onward_of unlink_of) (λ reply. reply) (unless_entries r.on.sizes r.on.path (inode_in r.parent) r.slot r.list (inode_of at.search).value) at.search (onward.Runs c.args.self) c.step-stepped-in-Looking.result _ c.args.core.now c.step-stepped-in-Looking.new.core (ap unlink_of at.is)
+    nested_still (search_of Entry) found_of (onward_of unlink_of) reply_in (unless_entries r.on.sizes r.on.path (inode_in r.parent) r.slot r.list (inode_of at.search).value) at.search (onward.Runs c.args.self) c.step-stepped-in-Looking.result _ c.args.core.now c.step-stepped-in-Looking.new.core (ap unlink_of at.is)
     (c.looking.ensures.follows (inode_of at.search) c.step-stepped-in-Looking.ensures.inode) c.step-stepped-in-Looking.ensures.still
 
 pub returns-in-Looking-clause-fits : goal.returns-in-Looking-clause-fits
@@ -182,7 +183,7 @@ unfolding unlink_of
 returns-in-Clearing-clause-moves g c =
     let s = state_of g.D.Device.contents g.D.Device.failures in
     let at = c.in-Clearing in
-    nested_moves (put_of Free) record_in (onward_of unlink_of) (λ reply. reply) (name_cleared at.ending (putter_of at.put).value.number (inode_in at.child)) c.args.hart at.put (onward.Runs c.args.self) c.step-stepped-in-Clearing.result _ (s c.args.core.now) (s c.step-stepped-in-Clearing.new.core) (ap unlink_of at.is)
+    nested_moves (put_of Free) record_in (onward_of unlink_of) reply_in (name_cleared at.ending (putter_of at.put).value.number (inode_in at.child)) c.args.hart at.put (onward.Runs c.args.self) c.step-stepped-in-Clearing.result _ (s c.args.core.now) (s c.step-stepped-in-Clearing.new.core) (ap unlink_of at.is)
     (c.clearing.ensures.follows (putter_of at.put).value.number (cleared_number (putter_of at.put) c.step-stepped-in-Clearing.result c.step-stepped-in-Clearing.ensures.inode)) c.step-stepped-in-Clearing.ensures.moves
 
 pub returns-in-Clearing-clause-honest : goal.returns-in-Clearing-clause-honest
@@ -190,14 +191,14 @@ unfolding unlink_of
 returns-in-Clearing-clause-honest g c =
     let s = state_of g.D.Device.contents g.D.Device.failures in
     let at = c.in-Clearing in
-    nested_honest (put_of Free) record_in (onward_of unlink_of) (λ reply. reply) (name_cleared at.ending (putter_of at.put).value.number (inode_in at.child)) c.args.hart at.put (onward.Runs c.args.self) c.step-stepped-in-Clearing.result _ (s c.args.core.now) (s c.step-stepped-in-Clearing.new.core) (ap unlink_of at.is)
+    nested_honest (put_of Free) record_in (onward_of unlink_of) reply_in (name_cleared at.ending (putter_of at.put).value.number (inode_in at.child)) c.args.hart at.put (onward.Runs c.args.self) c.step-stepped-in-Clearing.result _ (s c.args.core.now) (s c.step-stepped-in-Clearing.new.core) (ap unlink_of at.is)
     (c.clearing.ensures.follows (putter_of at.put).value.number (cleared_number (putter_of at.put) c.step-stepped-in-Clearing.result c.step-stepped-in-Clearing.ensures.inode)) c.step-stepped-in-Clearing.ensures.moves c.step-stepped-in-Clearing.ensures.honest
 
 pub returns-in-Clearing-clause-still : goal.returns-in-Clearing-clause-still
 unfolding unlink_of
 returns-in-Clearing-clause-still g c =
     let at = c.in-Clearing in
-    nested_still (put_of Free) record_in (onward_of unlink_of) (λ reply. reply) (name_cleared at.ending (putter_of at.put).value.number (inode_in at.child)) at.put (onward.Runs c.args.self) c.step-stepped-in-Clearing.result _ c.args.core.now c.step-stepped-in-Clearing.new.core (ap unlink_of at.is)
+    nested_still (put_of Free) record_in (onward_of unlink_of) reply_in (name_cleared at.ending (putter_of at.put).value.number (inode_in at.child)) at.put (onward.Runs c.args.self) c.step-stepped-in-Clearing.result _ c.args.core.now c.step-stepped-in-Clearing.new.core (ap unlink_of at.is)
     (c.clearing.ensures.follows (putter_of at.put).value.number (cleared_number (putter_of at.put) c.step-stepped-in-Clearing.result c.step-stepped-in-Clearing.ensures.inode)) c.step-stepped-in-Clearing.ensures.still
 
 pub returns-in-Clearing-clause-fits : goal.returns-in-Clearing-clause-fits

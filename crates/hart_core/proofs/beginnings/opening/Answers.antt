@@ -3,7 +3,7 @@ use Rattle.std.specs.Prelude.{bit_and, not}
 use Rattle.std.proofs.lemmas.Bool.{ne_eqb}
 use Rattle.syscalls.specs.Machines.{running_of}
 use Rattle.calls_on_blocks.proofs.Bridges.{programs_are_lowered}
-use Rattle.hart_core.proofs.world.opening.Goals as goal
+use Rattle.hart_core.proofs.beginnings.opening.Goals as goal
 
 pub returns-then-flags-eq0-clause-program : goal.returns-then-flags-eq0-clause-program
 unfolding running_of

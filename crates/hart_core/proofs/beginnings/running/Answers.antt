@@ -6,7 +6,7 @@ use Rattle.calls_on_blocks.specs.Theory.{block_calls}
 use Rattle.calls_on_blocks.proofs.Bridges.{programs_are_lowered}
 use Rattle.hart_core.specs.Starts.{fault_of}
 use Rattle.hart_core.proofs.Refusals.{right_part, right_path, right_paths}
-use Rattle.hart_core.proofs.world.running.Goals as goal
+use Rattle.hart_core.proofs.beginnings.running.Goals as goal
 
 pub new-requires-in-Unlink-clause-short : goal.new-requires-in-Unlink-clause-short
 new-requires-in-Unlink-clause-short c = (right_path c.in-Unlink.path (sym (ap fault_of c.in-Unlink.is) ∙ c.requires.faultless)).0
