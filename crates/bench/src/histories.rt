@@ -25,13 +25,13 @@ const OWN: u8 = 7;
 
 const SHARED: u8 = 0;
 
-// What a hart calls, again and again. It asks for the state of a file of the image: that of a file which harts have just made tells its number,
-// which no hint does, and the search for it takes minutes or more.
-const WORK: [(u8, Ask); 18] = [
+// What a hart calls, again and again. It asks for the state of a file of the image, and of one that it has just made.
+const WORK: [(u8, Ask); 19] = [
     (OWN, Ask::Mkdir(b"/d")),
     (OWN, Ask::Chdir(b"/d")),
     (OWN, Ask::Open(b"n", CREATE | WRITE)),
     (OWN, Ask::Write(5)),
+    (OWN, Ask::Stray),
     (OWN, Ask::Close),
     (OWN, Ask::Link(b"n", b"m")),
     (OWN, Ask::Unlink(b"n")),

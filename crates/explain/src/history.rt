@@ -25,7 +25,7 @@ fn find(
     ensures { IsFound base.now trace.now result }
 {
     let ran = ran_of(alloc, events, outcomes, trace.calls.as_slice().len())?;
-    let hints = hints(alloc, trace.calls.as_slice(), &ran)?;
+    let hints = hints(alloc, base, trace.calls.as_slice(), &ran)?;
     find_history(alloc, base, trace, &hints)
 }
 

@@ -2,6 +2,7 @@
 #![tactic(auto)]
 
 mod marks;
+mod numbers;
 mod order;
 mod paths;
 

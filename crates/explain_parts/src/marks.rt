@@ -126,6 +126,30 @@ fn failed_walk(steps: &[Ran], before: usize, locks: usize, most: usize) -> Walke
     Walked { event, lost }
 }
 
+/// Whether the steps took a child's lock while they had its parent's, at the end of a path. The walk to the parent takes a lock for each of
+/// the path's elements, and gives it up.
+fn locks_child(steps: &[Ran], path: &[u8]) -> bool {
+    let inner = before_leave(steps);
+    let elements = element_count(path).min(1000);
+    let parent = place_of(inner, Kind::Lock, elements);
+    let child = place_of(inner, Kind::Lock, elements + 1);
+    match (parent, child) {
+        (Some(parent), Some(child)) if parent < child && child < inner.len() => {
+            count_of(&inner[parent..child], Kind::Unlock) == 0
+        }
+        _ => false,
+    }
+}
+
+/// Whether a call that made these steps made a node: it then takes the node's lock while it has the directory's.
+pub(crate) fn makes_node(call: &Call, steps: &[Ran]) -> bool {
+    match call {
+        Call::Open { path, flags } => flags & CREATE != 0 && locks_child(steps, path.as_slice()),
+        Call::Mkdir { path } => locks_child(steps, path.as_slice()),
+        _ => false,
+    }
+}
+
 /// The steps at which a call acts, in turn; none where that isn't known, or not yet.
 #[derive(Clone, Copy)]
 pub(crate) struct Acts {

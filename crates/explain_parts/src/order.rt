@@ -1,9 +1,10 @@
 // The order in which a run's steps acted, as far as the kinds of its steps tell. Nothing rests on it: it says which way is tried
 // first.
 use crate::marks::{Acts, Ran, act_on_file, acts_of};
+use crate::numbers::numbers_of;
 use crate::paths::next_element;
 use history_search::Hint;
-use plain_tree::{Answer, Call, Cause, NoMemory, TracedCall};
+use plain_tree::{Answer, Call, Cause, NoMemory, TracedCall, Tree};
 use std::alloc::Global;
 
 const HARTS: usize = 8;
@@ -28,7 +29,7 @@ struct Removed {
 }
 
 // The path from the root to which the first elements of the path lead, from this directory; the element "." leads nowhere else.
-fn path_from(
+pub(crate) fn path_from(
     alloc: Global,
     directory: &[u8],
     path: &[u8],
@@ -147,7 +148,7 @@ fn removal(removed: &[Removed], path: &[u8], since: u64, until: u64) -> Option<u
 }
 
 // The path that the call walks first.
-fn path_of(call: &Call) -> &[u8] {
+pub(crate) fn path_of(call: &Call) -> &[u8] {
     match call {
         Call::Open { path, .. } => path.as_slice(),
         Call::Link { old, .. } => old.as_slice(),
@@ -231,11 +232,14 @@ fn push_marks(
     Ok(())
 }
 
-/// The steps of these calls in the order in which they acted, as far as the steps tell that ran of each call (`ran`, in the order
-/// of the calls). A search tries them first; what it finds to exist doesn't rest on them.
-pub fn hints(alloc: Global, calls: &[TracedCall], ran: &[Vec<Ran>]) -> Result<Vec<Hint>, NoMemory> {
-    let directories = directories(alloc, calls)?;
-    let removed = removals(alloc, calls, ran, &directories)?;
+// The marks of all calls, in the order in which they acted.
+fn all_marks(
+    alloc: Global,
+    calls: &[TracedCall],
+    ran: &[Vec<Ran>],
+    directories: &[Vec<u8>],
+) -> Result<Vec<Mark>, NoMemory> {
+    let removed = removals(alloc, calls, ran, directories)?;
     let mut marks = Vec::new(alloc);
     for (call, traced) in calls.iter().enumerate() {
         if call < ran.len() && call < directories.len() {
@@ -246,12 +250,28 @@ pub fn hints(alloc: Global, calls: &[TracedCall], ran: &[Vec<Ran>]) -> Result<Ve
         }
     }
     marks.sort_by_key(|mark: &Mark| (mark.event, mark.late, mark.step))?;
+    Ok(marks)
+}
+
+/// The steps of these calls in the order in which they acted, as far as the steps tell that ran of each call (`ran`, in the order
+/// of the calls), and for the nodes that they made in this tree the numbers which replies tell. A search tries them first; what it
+/// finds to exist doesn't rest on them.
+pub fn hints(
+    alloc: Global,
+    base: &Tree,
+    calls: &[TracedCall],
+    ran: &[Vec<Ran>],
+) -> Result<Vec<Hint>, NoMemory> {
+    let directories = directories(alloc, calls)?;
+    let marks = all_marks(alloc, calls, ran, &directories)?;
+    let numbers = numbers_of(alloc, base, calls, ran, &directories)?;
     let mut hints = Vec::new(alloc);
     for mark in &marks {
+        let number = numbers.get(mark.call).copied().unwrap_or(0);
         hints.push(Hint {
             call: mark.call,
             step: mark.step,
-            new: 0,
+            new: if mark.step == 0 { number } else { 0 },
         })?;
     }
     Ok(hints)

@@ -12,6 +12,8 @@ use std::test::Fail;
 /// More steps than a call of these runs has.
 const MANY: usize = 100000;
 
+const HARTS: u8 = 8;
+
 /// A fresh image of 2000 blocks and 200 inodes, and the events that a script comes to on it.
 #[derive(Drop)]
 pub struct Play {
@@ -108,6 +110,32 @@ fn go_on(
     Ok(())
 }
 
+// A step of each hart; and whether one of them ran.
+fn turn(world: &mut World<MemoryDisk>, events: &mut Vec<Event>) -> Result<bool, AllocError> {
+    let mut has_run = false;
+    for hart in 0..HARTS {
+        events.push(Event::Step { hart })?;
+        match world.step(hart) {
+            Outcome::Ran(_) | Outcome::Done(_) => has_run = true,
+            _ => {}
+        }
+    }
+    Ok(has_run)
+}
+
+// Steps of all harts in turn, until none of them runs.
+fn go_on_together(
+    world: &mut World<MemoryDisk>,
+    events: &mut Vec<Event>,
+) -> Result<(), AllocError> {
+    for _ in 0..MANY {
+        if !turn(world, events)? {
+            return Ok(());
+        }
+    }
+    Ok(())
+}
+
 fn play_command(
     world: &mut World<MemoryDisk>,
     events: &mut Vec<Event>,
@@ -122,6 +150,7 @@ fn play_command(
         }
         Command::Upto { hart, kind, steps } => go_on(world, events, hart, kind, steps),
         Command::End { hart } => go_on(world, events, hart, Kind::Reply, 1),
+        Command::All => go_on_together(world, events),
         _ => Ok(()),
     }
 }
