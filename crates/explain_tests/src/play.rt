@@ -179,8 +179,7 @@ fn events_of(
 
 /// Plays a script on a world over a fresh image.
 pub fn played(alloc: Global, text: &str) -> Result<Play, Fail> {
-    let none: [(Vec<u8>, Vec<u8>); 0] = [];
-    let Ok(disk) = make(alloc, 2000, 200, &none) else {
+    let Ok(disk) = make(alloc, 2000, 200, &[]) else {
         return Err(Fail::from(AllocError));
     };
     let image = disk.into_bytes();

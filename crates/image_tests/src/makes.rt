@@ -5,11 +5,9 @@ ghost use Rattle.mkfs.specs.Options.{HasNumber};
 use block_device::MemoryDisk;
 use clap::error::ErrorKind;
 use clap::{ArgMatches, Error};
-use mkfs::{INODES, MakeRefused, SIZE, number, options};
+use mkfs::{INODES, MakeRefused, NewFile, SIZE, number, options};
 use std::alloc::{AllocError, Global};
 use std::test::Fail;
-
-type Files = Vec<(Vec<u8>, Vec<u8>)>;
 
 /// The superblock of a fresh disk of 2000 blocks with 200 inodes.
 const FRESH: [u8; 32] = [
@@ -38,7 +36,7 @@ fn make(
     alloc: Global,
     size: u32,
     ninodes: u32,
-    files: &[(Vec<u8>, Vec<u8>)],
+    files: &[NewFile],
 ) -> Result<MemoryDisk, MakeRefused> {
     match mkfs::make(alloc, size, ninodes, files) {
         Err(MakeRefused::NoMemory) => mkfs::make(alloc, size, ninodes, files),
@@ -62,7 +60,7 @@ fn bytes_of(alloc: Global, len: usize, parts: &[(usize, &[u8])]) -> Result<Vec<u
 }
 
 // Files with these names, and as many bytes.
-fn files_of(alloc: Global, asked: &[(&[u8], usize)]) -> Result<Files, AllocError> {
+fn files_of(alloc: Global, asked: &[(&[u8], usize)]) -> Result<Vec<NewFile>, AllocError> {
     let mut files = Vec::new(alloc);
     for (name, len) in asked {
         let name = Vec::from_slice(alloc, name)?;
@@ -70,23 +68,26 @@ fn files_of(alloc: Global, asked: &[(&[u8], usize)]) -> Result<Files, AllocError
         for i in 0..*len {
             content.push((i % 251) as u8)?;
         }
-        files.push((name, content))?;
+        files.push(NewFile { name, content })?;
     }
     Ok(files)
 }
 
 // Files of no bytes, as many as asked for, whose names are numbers of six digits.
-fn many(alloc: Global, count: usize) -> Result<Files, AllocError> {
+fn many(alloc: Global, count: usize) -> Result<Vec<NewFile>, AllocError> {
     let mut files = Vec::new(alloc);
     for i in 0..count {
         let name = format!(in alloc; "{i:06}")?;
         let name = Vec::from_slice(alloc, name.as_bytes())?;
-        files.push((name, Vec::new(alloc)))?;
+        files.push(NewFile {
+            name,
+            content: Vec::new(alloc),
+        })?;
     }
     Ok(files)
 }
 
-fn made(alloc: Global, size: u32, ninodes: u32, files: &Files) -> Option<Vec<u8>> {
+fn made(alloc: Global, size: u32, ninodes: u32, files: &[NewFile]) -> Option<Vec<u8>> {
     Some(make(alloc, size, ninodes, files).ok()?.into_bytes())
 }
 
@@ -115,7 +116,7 @@ fn empty_images(rt: HostRuntime) -> Result<(), Fail> {
         (47 * 1024, &ENTRIES),
     ];
     let fresh = bytes_of(rt.alloc(), 2_048_000, &parts)?;
-    assert!(rt; made(rt.alloc(), 2000, 200, &Vec::new(rt.alloc())) == Some(fresh));
+    assert!(rt; made(rt.alloc(), 2000, 200, &[]) == Some(fresh));
     let parts: [(usize, &[u8]); 4] = [
         (1024, &SMALL),
         (33 * 1024 + 64, &SMALL_ROOT),
@@ -123,7 +124,7 @@ fn empty_images(rt: HostRuntime) -> Result<(), Fail> {
         (36 * 1024, &ENTRIES),
     ];
     let small = bytes_of(rt.alloc(), 60 * 1024, &parts)?;
-    assert!(rt; made(rt.alloc(), 60, 16, &Vec::new(rt.alloc())) == Some(small));
+    assert!(rt; made(rt.alloc(), 60, 16, &[]) == Some(small));
     Ok(())
 }
 

@@ -2,7 +2,7 @@
 use Rattle.std.proofs.Common.{◌≡◌, ℕ, zero, suc, ◌+◌, ◌-◌, ◌*◌, ◌<◌, ◌≤◌, List, [], ◌∷◌, ◌++◌, length, take, drop, replicate, get_or, ap, ◌∙◌, sym, arith, append_assoc, length-append}
 use Rattle.std.proofs.lemmas.List.{take_at, drop_at, drop-drop}
 use Rattle.std.proofs.lemmas.List.Sums.{sum_by-cons}
-use Rattle.fs_layout.specs.Recovered.{block_at}
+use Rattle.block_device.specs.Blocks.{block_at}
 use Rattle.mkfs.specs.Layout.{data_start, bitmap_start, inode_blocks}
 use Rattle.mkfs.specs.Image.{Node, front, inode_table, bitmap, data_from, used_by, image_with, node_bytes, blocks_of_node, blocks_before}
 use Rattle.mkfs.proofs.Lengths.{AreNodes, Fits, length-front, length-table, length-bitmap, length-node}

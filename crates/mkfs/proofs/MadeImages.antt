@@ -4,7 +4,8 @@ use Rattle.std.proofs.lemmas.List.{length-map}
 use Rattle.block_device.specs.Blocks.{blocks_of}
 use Rattle.image_tree.specs.Damage.{IsWellFormed}
 use Rattle.image_tree.specs.Trees.{tree_in}
-use Rattle.mkfs.specs.Image.{File, image_of, root_content, nodes_with, names_of, contents_of}
+use Rattle.mkfs.specs.declared.new_file.NewFile.{NewFile}
+use Rattle.mkfs.specs.Image.{image_of, root_content, nodes_with, names_of, contents_of}
 use Rattle.mkfs.specs.Made.{IsMade}
 use Rattle.mkfs.specs.Refusals.{CanBeMade}
 use Rattle.mkfs.specs.Stated.{stated_tree}
@@ -14,10 +15,10 @@ use Rattle.mkfs.proofs.UpToSizes.{up_to_sizes}
 use Rattle.mkfs.proofs.TreeChecks.{shown_well_formed, shown_tree}
 
 -- as many names as contents
-pub same-length : (files : List File) → length (names_of files) ≡ length (contents_of files)
-same-length files = length-map files (λ (f : File). f.0.items) ∙ sym (length-map files (λ (f : File). f.1.items))
+pub same-length : (files : List NewFile) → length (names_of files) ≡ length (contents_of files)
+same-length files = length-map files (λ (f : NewFile). f.name.items) ∙ sym (length-map files (λ (f : NewFile). f.content.items))
 
-pub is-made : (size ninodes : ℕ) (files : List File) (disk : List ℕ) → CanBeMade size ninodes (names_of files) (contents_of files)
+pub is-made : (size ninodes : ℕ) (files : List NewFile) (disk : List ℕ) → CanBeMade size ninodes (names_of files) (contents_of files)
     → disk ≡ image_of size ninodes (names_of files) (contents_of files) → IsMade size ninodes (names_of files) (contents_of files) disk
 is-made size ninodes files disk can is =
     let names : List (List ℕ) = names_of files in

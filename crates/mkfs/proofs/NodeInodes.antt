@@ -4,7 +4,8 @@ use Rattle.std.specs.List.{All}
 use Rattle.fs_layout.specs.declared.superblock.Super.{Super}
 use Rattle.fs_layout.specs.declared.inode.Dinode.{Dinode}
 use Rattle.fs_layout.specs.Inode.{dinode_at}
-use Rattle.fs_layout.specs.Recovered.{block_at, recovered}
+use Rattle.block_device.specs.Blocks.{block_at}
+use Rattle.fs_layout.specs.Recovered.{recovered}
 use Rattle.image_tree.specs.Inodes.{inode_of}
 use Rattle.mkfs.specs.Layout.{data_start}
 use Rattle.mkfs.specs.Image.{Node, inodes_from}

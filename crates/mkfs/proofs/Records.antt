@@ -6,7 +6,7 @@ use Rattle.std.proofs.lemmas.List.Sums.{sum_by-cons}
 use Rattle.fs_layout.specs.declared.inode.Dinode.{Dinode}
 use Rattle.fs_layout.specs.Bytes.{record_at}
 use Rattle.fs_layout.specs.Inode.{dinode_at, dinode_of, spell_dinode, IsDinode}
-use Rattle.fs_layout.specs.Recovered.{block_at}
+use Rattle.block_device.specs.Blocks.{block_at}
 use Rattle.fs_layout.proofs.Inodes.{dinode_of-spell}
 use Rattle.mkfs.specs.Layout.{data_start, inode_blocks}
 use Rattle.mkfs.specs.Image.{Node, padded, front, inode_for, inodes_from, inode_table, bitmap, data_from, used_by, image_with, blocks_of_node, nodes_with, file_node}

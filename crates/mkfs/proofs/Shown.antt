@@ -3,7 +3,8 @@ use Rattle.std.proofs.Common.{◌≡◌, ℕ, ◌+◌, ◌*◌, ◌<◌, nat_lt,
 use Rattle.std.specs.List.{range_with_len}
 use Rattle.fs_layout.specs.declared.inode.Dinode.{Dinode}
 use Rattle.fs_layout.specs.Bytes.{u32_at}
-use Rattle.fs_layout.specs.Recovered.{block_at, sizes_of, log_count, logged, recovered}
+use Rattle.block_device.specs.Blocks.{block_at}
+use Rattle.fs_layout.specs.Recovered.{sizes_of, log_count, logged, recovered}
 use Rattle.image_tree.specs.Inodes.{inode_of, numbers_of, content_block}
 use Rattle.image_tree.specs.Checks.{is_marked}
 use Rattle.mkfs.specs.Layout.{data_start, super_for}

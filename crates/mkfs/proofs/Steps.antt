@@ -9,7 +9,8 @@ use Rattle.fs_layout.specs.Indirect.{spell_numbers}
 use Rattle.fs_layout.specs.declared.entry.Dirent.TheVariants.{Used}
 use Rattle.image_tree.specs.Inodes.{blocks_for}
 use Rattle.mkfs.specs.Layout.{node_blocks, file_blocks}
-use Rattle.mkfs.specs.Image.{File, contents_of, names_of, entries_from, inodes_from, data_from, file_node, inode_for, node_bytes, padded, whole}
+use Rattle.mkfs.specs.declared.new_file.NewFile.{NewFile}
+use Rattle.mkfs.specs.Image.{contents_of, names_of, entries_from, inodes_from, data_from, file_node, inode_for, node_bytes, padded, whole}
 use Rattle.mkfs.proofs.Padding.{node_bytes-large, whole-front}
 
 -- one part more, of those that are left
@@ -21,47 +22,47 @@ pub blocks_more : (blocks part rest left all n : ℕ) → part ≡ n → left �
 blocks_more blocks part rest left all n e f h = omega arith
 
 -- the file at i, and those behind it
-files-next : (files : List File) (i : ℕ) (file : File) → i < length files → file ≡ get_or files i file → drop i files ≡ file ∷ drop (i + 1) files
-files-next files i file l e = drop_more files i file l ∙ ap (λ (f : File). f ∷ drop (i + 1) files) (sym e)
+files-next : (files : List NewFile) (i : ℕ) (file : NewFile) → i < length files → file ≡ get_or files i file → drop i files ≡ file ∷ drop (i + 1) files
+files-next files i file l e = drop_more files i file l ∙ ap (λ (f : NewFile). f ∷ drop (i + 1) files) (sym e)
 
-pub entries-next : (files : List File) (i n : ℕ) (file : File) → i < length files → file ≡ get_or files i file
+pub entries-next : (files : List NewFile) (i n : ℕ) (file : NewFile) → i < length files → file ≡ get_or files i file
     → flat_map spell_dirent (entries_from n (names_of (drop i files)))
-    ≡ spell_dirent (Used n file.0.items) ++ flat_map spell_dirent (entries_from (n + 1) (names_of (drop (i + 1) files)))
-entries-next files i n file l e = ap (λ (fs : List File). flat_map spell_dirent (entries_from n (names_of fs))) (files-next files i file l e)
+    ≡ spell_dirent (Used n file.name.items) ++ flat_map spell_dirent (entries_from (n + 1) (names_of (drop (i + 1) files)))
+entries-next files i n file l e = ap (λ (fs : List NewFile). flat_map spell_dirent (entries_from n (names_of fs))) (files-next files i file l e)
 
-pub inodes-next : (files : List File) (i first : ℕ) (file : File) → i < length files → file ≡ get_or files i file
+pub inodes-next : (files : List NewFile) (i first : ℕ) (file : NewFile) → i < length files → file ≡ get_or files i file
     → flat_map spell_dinode (inodes_from first (map file_node (contents_of (drop i files))))
-    ≡ spell_dinode (inode_for first (file_node file.1.items))
-    ++ flat_map spell_dinode (inodes_from (first + node_blocks (length file.1.items)) (map file_node (contents_of (drop (i + 1) files))))
+    ≡ spell_dinode (inode_for first (file_node file.content.items))
+    ++ flat_map spell_dinode (inodes_from (first + node_blocks (length file.content.items)) (map file_node (contents_of (drop (i + 1) files))))
 inodes-next files i first file l e =
-    ap (λ (fs : List File). flat_map spell_dinode (inodes_from first (map file_node (contents_of fs)))) (files-next files i file l e)
+    ap (λ (fs : List NewFile). flat_map spell_dinode (inodes_from first (map file_node (contents_of fs)))) (files-next files i file l e)
 
-pub data-next : (files : List File) (i first : ℕ) (file : File) → i < length files → file ≡ get_or files i file
+pub data-next : (files : List NewFile) (i first : ℕ) (file : NewFile) → i < length files → file ≡ get_or files i file
     → data_from first (map file_node (contents_of (drop i files)))
-    ≡ node_bytes first file.1.items ++ data_from (first + node_blocks (length file.1.items)) (map file_node (contents_of (drop (i + 1) files)))
-data-next files i first file l e = ap (λ (fs : List File). data_from first (map file_node (contents_of fs))) (files-next files i file l e)
+    ≡ node_bytes first file.content.items ++ data_from (first + node_blocks (length file.content.items)) (map file_node (contents_of (drop (i + 1) files)))
+data-next files i first file l e = ap (λ (fs : List NewFile). data_from first (map file_node (contents_of fs))) (files-next files i file l e)
 
-pub blocks-next : (files : List File) (i : ℕ) (file : File) → i < length files → file ≡ get_or files i file
-    → file_blocks (contents_of (drop i files)) ≡ node_blocks (length file.1.items) + file_blocks (contents_of (drop (i + 1) files))
+pub blocks-next : (files : List NewFile) (i : ℕ) (file : NewFile) → i < length files → file ≡ get_or files i file
+    → file_blocks (contents_of (drop i files)) ≡ node_blocks (length file.content.items) + file_blocks (contents_of (drop (i + 1) files))
 blocks-next files i file l e =
-    ap (λ (fs : List File). file_blocks (contents_of fs)) (files-next files i file l e)
-    ∙ sum_by-cons (λ (content : List ℕ). node_blocks (length content)) file.1.items (contents_of (drop (i + 1) files))
+    ap (λ (fs : List NewFile). file_blocks (contents_of fs)) (files-next files i file l e)
+    ∙ sum_by-cons (λ (content : List ℕ). node_blocks (length content)) file.content.items (contents_of (drop (i + 1) files))
 
 -- what holds of each name or content, of one file
-pub at-file : (f : File → List ℕ) (P : List ℕ → Type 0) (files : List File) (i : ℕ) (file : File)
+pub at-file : (f : NewFile → List ℕ) (P : List ℕ → Type 0) (files : List NewFile) (i : ℕ) (file : NewFile)
     → All P (map f files) → i < length files → file ≡ get_or files i file → P (f file)
 at-file f P files i file h l e =
     let many : i < length (map f files) = omega (arith, length-map files f) in
     subst P (get_or-map f files i file (f file) l ∙ ap f (sym e)) (h i (f file) many)
 
-pub name-at : (files : List File) (i : ℕ) (file : File) (name : List ℕ) → name ≡ file.0.items → i < length files → file ≡ get_or files i file
+pub name-at : (files : List NewFile) (i : ℕ) (file : NewFile) (name : List ℕ) → name ≡ file.name.items → i < length files → file ≡ get_or files i file
     → name ≡ get_or (names_of files) i []
-name-at files i file name same l e = same ∙ ap (λ (f : File). f.0.items) e ∙ sym (get_or-map (λ (f : File). f.0.items) files i file [] l)
+name-at files i file name same l e = same ∙ ap (λ (f : NewFile). f.name.items) e ∙ sym (get_or-map (λ (f : NewFile). f.name.items) files i file [] l)
 
-pub size-at : (files : List File) (i : ℕ) (file : File) (bytes : List ℕ) → bytes ≡ file.1.items
+pub size-at : (files : List NewFile) (i : ℕ) (file : NewFile) (bytes : List ℕ) → bytes ≡ file.content.items
     → All (λ content. length content ≤ 274432) (contents_of files) → i < length files → file ≡ get_or files i file → length bytes ≤ 274432
 size-at files i file bytes same h l e =
-    subst (λ (xs : List ℕ). length xs ≤ 274432) (sym same) (at-file (λ f. f.1.items) (λ content. length content ≤ 274432) files i file h l e)
+    subst (λ (xs : List ℕ). length xs ≤ 274432) (sym same) (at-file (λ (f : NewFile). f.content.items) (λ content. length content ≤ 274432) files i file h l e)
 
 -- the parts of a node with more than twelve blocks, as they are appended
 pub content-parts : (old content front rest : List ℕ) (first n : ℕ) → 12288 < length content

@@ -1,6 +1,5 @@
 -- The image that is made: its bytes, one part after another.
-use Rattle.std.specs.Prelude.{ℕ, ◌+◌, ◌-◌, ◌*◌, ◌/◌, ◌%◌, ◌^◌, min, nat_lt, if◌then◌else◌, ℤ, pos, List, [], ◌∷◌, ◌++◌, length, take, drop, map, replicate, sum_by, Vec}
-use Rattle.std.specs.declared.alloc.Global.{Global}
+use Rattle.std.specs.Prelude.{ℕ, ◌+◌, ◌-◌, ◌*◌, ◌/◌, ◌%◌, ◌^◌, min, nat_lt, if◌then◌else◌, ℤ, pos, List, [], ◌∷◌, ◌++◌, length, take, drop, map, replicate, sum_by}
 use Rattle.std.specs.List.{flat_map, range_with_len}
 use Rattle.fs_layout.specs.declared.inode.Dinode.{Dinode}
 use Rattle.fs_layout.specs.declared.entry.Dirent.{Dirent}
@@ -13,20 +12,18 @@ use Rattle.fs_layout.specs.Widths.{addresses, block_len, inode_len, inodes_per_b
 use Rattle.image_tree.specs.Inodes.{blocks_for, direct}
 use Rattle.plain_tree.specs.Tree.{dot, dotdot}
 use Rattle.plain_tree.specs.Widths.{root}
+use Rattle.mkfs.specs.declared.new_file.NewFile.{NewFile}
 use Rattle.mkfs.specs.Layout.{log_blocks, inode_blocks, data_start, super_for, node_blocks}
 use Rattle.mkfs.specs.Widths.{bits_per_byte, direct_len, directory_kind, file_kind, first_file}
 
 -- ---- what is given
 
--- a file's name, and its content
-abbrev pub File : Type 0
-File = Vec ℕ Global × Vec ℕ Global
+-- the files' names, and their contents
+abbrev pub names_of : List NewFile → List (List ℕ)
+names_of files = map (λ (file : NewFile). file.name.items) files
 
-abbrev pub names_of : List File → List (List ℕ)
-names_of files = map (λ file. file.0.items) files
-
-abbrev pub contents_of : List File → List (List ℕ)
-contents_of files = map (λ file. file.1.items) files
+abbrev pub contents_of : List NewFile → List (List ℕ)
+contents_of files = map (λ (file : NewFile). file.content.items) files
 
 -- ---- zeros
 

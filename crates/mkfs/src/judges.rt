@@ -4,6 +4,7 @@ ghost use Rattle.mkfs.specs.Image.{contents_of, names_of};
 ghost use Rattle.mkfs.specs.Refusals.{HasGoodFiles, HasGoodNames, HasGoodSizes, IsFileName};
 
 use crate::layout::{data_start, node_blocks, root_size};
+use crate::new_file::NewFile;
 use crate::widths::{LARGEST_SIZE, MOST_BLOCKS, MOST_ENTRIES, MOST_INODES};
 use fs_layout::Name;
 use std::alloc::{AllocError, Global};
@@ -27,11 +28,11 @@ fn is_file_name(name: &[u8]) -> bool
 }
 
 // Whether each file may be named so.
-fn are_file_names(files: &[(Vec<u8>, Vec<u8>)]) -> bool
+fn are_file_names(files: &[NewFile]) -> bool
     ensures { IsTrue result ↔ All IsFileName (names_of files.now) }
 {
     for file in files {
-        let name = file.0.as_slice();
+        let name = file.name.as_slice();
         if !is_file_name(name) {
             return false;
         }
@@ -40,12 +41,12 @@ fn are_file_names(files: &[(Vec<u8>, Vec<u8>)]) -> bool
 }
 
 // Whether no two files have one name.
-fn has_no_double(alloc: Global, files: &[(Vec<u8>, Vec<u8>)]) -> Result<bool, AllocError>
+fn has_no_double(alloc: Global, files: &[NewFile]) -> Result<bool, AllocError>
     ensures { IfOk result (λ once. IsTrue once ↔ AllPairs (λ x y. x ≢ y) (names_of files.now)) }
 {
     let mut seen = BTreeSet::new(alloc);
     for file in files {
-        let name = file.0.as_slice();
+        let name = file.name.as_slice();
         if !seen.insert(name)? {
             return Ok(false);
         }
@@ -54,7 +55,7 @@ fn has_no_double(alloc: Global, files: &[(Vec<u8>, Vec<u8>)]) -> Result<bool, Al
 }
 
 /// Whether files may be named so.
-pub fn has_good_names(alloc: Global, files: &[(Vec<u8>, Vec<u8>)]) -> Result<bool, AllocError>
+pub fn has_good_names(alloc: Global, files: &[NewFile]) -> Result<bool, AllocError>
     ensures { IfOk result (λ good. IsTrue good ↔ HasGoodNames (names_of files.now)) }
 {
     if !are_file_names(files) {
@@ -64,14 +65,14 @@ pub fn has_good_names(alloc: Global, files: &[(Vec<u8>, Vec<u8>)]) -> Result<boo
 }
 
 /// Whether no file is too large, and a directory may name as many.
-pub fn has_good_files(files: &[(Vec<u8>, Vec<u8>)]) -> bool
+pub fn has_good_files(files: &[NewFile]) -> bool
     ensures { IsTrue result ↔ HasGoodFiles (contents_of files.now) }
 {
     if files.len() > MOST_ENTRIES - 2 {
         return false;
     }
     for file in files {
-        let content = file.1.as_slice();
+        let content = file.content.as_slice();
         if content.len() > LARGEST_SIZE {
             return false;
         }

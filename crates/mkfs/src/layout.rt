@@ -7,6 +7,7 @@ ghost use Rattle.image_tree.specs.Checks.{largest_size};
 ghost use Rattle.mkfs.specs.Refusals.{HasGoodFiles};
 ghost use Rattle.mkfs.specs.Widths.{most_node_blocks};
 
+use crate::new_file::NewFile;
 use crate::widths::{DIRECT_BLOCKS, INODE_START, LOG_BLOCKS, LOG_START};
 use fs_layout::Super;
 use fs_layout::widths::{BLOCK_LEN, DIRENT_LEN, INODES_PER_BLOCK};
@@ -58,7 +59,7 @@ pub fn super_for(size: u32, ninodes: u32) -> Super
 }
 
 /// How many blocks the files take.
-pub fn file_blocks(files: &[(Vec<u8>, Vec<u8>)]) -> usize
+pub fn file_blocks(files: &[NewFile]) -> usize
     requires each { All (λ content. length content ≤ largest_size) (contents_of files.now) }
     requires few { length files.now < 2 ^ 32 }
     ensures value { result ≡ file_blocks (contents_of files.now) }
@@ -66,7 +67,7 @@ pub fn file_blocks(files: &[(Vec<u8>, Vec<u8>)]) -> usize
 {
     let mut blocks = 0;
     for file in files {
-        let content = file.1.as_slice();
+        let content = file.content.as_slice();
         blocks += node_blocks(content.len());
     }
     blocks
@@ -81,7 +82,7 @@ pub fn root_size(files: usize) -> usize
 }
 
 /// How many blocks are used in all, where the data begins at `first` and the root has so many bytes.
-pub fn used_blocks(first: u32, root: usize, files: &[(Vec<u8>, Vec<u8>)]) -> usize
+pub fn used_blocks(first: u32, root: usize, files: &[NewFile]) -> usize
     requires root { root ≤ largest_size }
     requires files { HasGoodFiles (contents_of files.now) }
     ensures { result ≡ first + node_blocks root + file_blocks (contents_of files.now) }

@@ -1,9 +1,9 @@
 //! Making an image.
 ghost use Rattle.std.specs.Prelude.{◌≡◌, ◌^◌, ◌<◌, ◌≤◌, ◌+◌, ◌*◌, ◌/◌, ◌%◌, ◌++◌, ℕ, List, [], drop, length, slice_index_or, take, IfOk, OnOk, MatchResult};
-ghost use Rattle.block_device.specs.Blocks.{blocks_of};
+ghost use Rattle.block_device.specs.Blocks.{blocks_of, block_at};
 ghost use Rattle.fs_layout.specs.Inode.{dinode_at};
 ghost use Rattle.fs_layout.specs.declared.inode.Dinode.{Dinode};
-ghost use Rattle.fs_layout.specs.Recovered.{block_at, logged, recovered, sizes_of};
+ghost use Rattle.fs_layout.specs.Recovered.{logged, recovered, sizes_of};
 ghost use Rattle.mkfs.specs.Layout.{bitmap_start, data_start, inode_start, super_for};
 ghost use Rattle.mkfs.specs.Image.{bitmap, blocks_before, blocks_of_node, contents_of, data_from, front, image_of, image_with, inode_table, inodes_from, names_of, node_bytes, nodes_with, root_content, used_by, Node};
 ghost use Rattle.mkfs.specs.Made.{IsMade};
@@ -14,6 +14,7 @@ ghost use Rattle.mkfs.specs.Widths.{most_blocks, most_inodes};
 use crate::appends::push_many;
 use crate::judges::{has_good_files, has_good_names, has_good_sizes};
 use crate::layout::{data_start, node_blocks, root_size, super_for, used_blocks};
+use crate::new_file::NewFile;
 use crate::nodes::{push_file_inodes, push_files, root_content};
 use crate::parts::{push_bitmap, push_content, push_inode, push_super};
 use crate::refused::MakeRefused;
@@ -27,7 +28,7 @@ fn push_table(
     image: &mut Vec<u8>,
     ninodes: u32,
     root: &[u8],
-    files: &[(Vec<u8>, Vec<u8>)],
+    files: &[NewFile],
 ) -> Result<(), AllocError>
     requires ninodes { ninodes ≤ most_inodes }
     requires root { length root.now ≤ largest_size }
@@ -49,7 +50,7 @@ fn push_data(
     image: &mut Vec<u8>,
     first: u32,
     root: &[u8],
-    files: &[(Vec<u8>, Vec<u8>)],
+    files: &[NewFile],
 ) -> Result<(), AllocError>
     requires first { first < 2 ^ 15 }
     requires root { length root.now ≤ largest_size }
@@ -77,7 +78,7 @@ fn push_parts(
     size: u32,
     ninodes: u32,
     root: &[u8],
-    files: &[(Vec<u8>, Vec<u8>)],
+    files: &[NewFile],
 ) -> Result<(), AllocError>
     requires size { size ≤ most_blocks }
     requires ninodes { ninodes ≤ most_inodes }
@@ -101,7 +102,7 @@ fn image_bytes(
     alloc: Global,
     size: u32,
     ninodes: u32,
-    files: &[(Vec<u8>, Vec<u8>)],
+    files: &[NewFile],
 ) -> Result<Vec<u8>, AllocError>
     requires { CanBeMade size ninodes (names_of files.now) (contents_of files.now) }
     ensures { IfOk result (λ bytes. IsMade size ninodes (names_of files.now) (contents_of files.now) bytes.items) }
@@ -118,7 +119,7 @@ pub fn make(
     alloc: Global,
     size: u32,
     ninodes: u32,
-    files: &[(Vec<u8>, Vec<u8>)],
+    files: &[NewFile],
 ) -> Result<MemoryDisk, MakeRefused>
     ensures { MatchResult result
         (IsMade size ninodes (names_of files.now) (contents_of files.now))

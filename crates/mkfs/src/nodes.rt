@@ -11,26 +11,27 @@ ghost use Rattle.image_tree.specs.Checks.{largest_size};
 
 use crate::appends::push_whole;
 use crate::layout::node_blocks;
+use crate::new_file::NewFile;
 use crate::parts::{push_content, push_entry, push_inode};
 use crate::widths::{FILE, FIRST_FILE, ROOT};
 use std::alloc::{AllocError, Global};
 
 // Appends the files' entries.
-fn push_entries(content: &mut Vec<u8>, files: &[(Vec<u8>, Vec<u8>)]) -> Result<(), AllocError>
+fn push_entries(content: &mut Vec<u8>, files: &[NewFile]) -> Result<(), AllocError>
     requires names { All IsName (names_of files.now) }
     requires few { 2 + length files.now < 2 ^ 16 }
     ensures { OnOk result (content.new.items ≡ content.old.items ++ flat_map spell_dirent (entries_from FIRST_FILE (names_of files.now))) }
 {
     let mut number = FIRST_FILE;
     for file in files {
-        push_entry(content, number, file.0.as_slice())?;
+        push_entry(content, number, file.name.as_slice())?;
         number += 1;
     }
     Ok(())
 }
 
 /// The root's content: its entries, and free ones up to a whole block.
-pub fn root_content(alloc: Global, files: &[(Vec<u8>, Vec<u8>)]) -> Result<Vec<u8>, AllocError>
+pub fn root_content(alloc: Global, files: &[NewFile]) -> Result<Vec<u8>, AllocError>
     requires names { All IsName (names_of files.now) }
     requires few { 2 + length files.now < 2 ^ 16 }
     ensures { IfOk result (λ content. content.items ≡ root_content (names_of files.now)) }
@@ -48,7 +49,7 @@ pub fn root_content(alloc: Global, files: &[(Vec<u8>, Vec<u8>)]) -> Result<Vec<u
 pub fn push_file_inodes(
     image: &mut Vec<u8>,
     first: u32,
-    files: &[(Vec<u8>, Vec<u8>)],
+    files: &[NewFile],
 ) -> Result<(), AllocError>
     requires each { All (λ content. length content ≤ largest_size) (contents_of files.now) }
     requires few { length files.now < 2 ^ 16 }
@@ -57,7 +58,7 @@ pub fn push_file_inodes(
 {
     let mut at = first;
     for file in files {
-        let content = file.1.as_slice();
+        let content = file.content.as_slice();
         push_inode(image, FILE, at, content.len())?;
         at += node_blocks(content.len()) as u32;
     }
@@ -65,11 +66,7 @@ pub fn push_file_inodes(
 }
 
 /// Appends the files' blocks, of which the first will be block `first`.
-pub fn push_files(
-    image: &mut Vec<u8>,
-    first: u32,
-    files: &[(Vec<u8>, Vec<u8>)],
-) -> Result<(), AllocError>
+pub fn push_files(image: &mut Vec<u8>, first: u32, files: &[NewFile]) -> Result<(), AllocError>
     requires each { All (λ content. length content ≤ largest_size) (contents_of files.now) }
     requires few { length files.now < 2 ^ 16 }
     requires first { first < 2 ^ 16 }
@@ -77,7 +74,7 @@ pub fn push_files(
 {
     let mut at = first;
     for file in files {
-        let content = file.1.as_slice();
+        let content = file.content.as_slice();
         push_content(image, at, content)?;
         at += node_blocks(content.len()) as u32;
     }

@@ -9,7 +9,7 @@ use clap::ArgMatches;
 use clap::error::ErrorKind;
 use image_files::{SaveRefused, read_at_most, save};
 use mkfs::widths::{INODE_START, LARGEST_SIZE, LOG_BLOCKS};
-use mkfs::{FILES, IMAGE, INODES, MakeRefused, SIZE, data_start, make, number, options};
+use mkfs::{FILES, IMAGE, INODES, MakeRefused, NewFile, SIZE, data_start, make, number, options};
 use std::alloc::{AllocError, Global};
 use std::process::ExitCode;
 use std::{env, io};
@@ -87,15 +87,17 @@ fn last_element(path: &str) -> &str {
     }
 }
 
-// The names and contents of the FILEs, in their order. Of one that is too long for an image only so much is read that it is seen.
-fn load<'a>(rt: &HostRuntime, paths: &[&'a str]) -> Result<Vec<(Vec<u8>, Vec<u8>)>, Fault<'a>> {
+// The FILEs, in their order. Of one that is too long for an image only so much is read that it is seen.
+fn load<'a>(rt: &HostRuntime, paths: &[&'a str]) -> Result<Vec<NewFile>, Fault<'a>> {
     let mut files = Vec::new(rt.alloc());
     for &path in paths {
         let name = Vec::from_slice(rt.alloc(), last_element(path).as_bytes())?;
         let content = read_at_most(rt, path, LARGEST_SIZE).map_err(|error| Fault::of_file(
             path, error,
         ))?;
-        files.push((name, content)).map_err(AllocError::from)?;
+        files
+            .push(NewFile { name, content })
+            .map_err(AllocError::from)?;
     }
     Ok(files)
 }

@@ -1,6 +1,6 @@
 use Rattle.std.proofs.Common.{arith, refl, subst, sym, ◌∙◌}
 use Rattle.std.proofs.lemmas.List.Elements.{All-map}
-use Rattle.mkfs.specs.Image.{File}
+use Rattle.mkfs.specs.declared.new_file.NewFile.{NewFile}
 use Rattle.mkfs.specs.Refusals.{IsFileName}
 use Rattle.mkfs.proofs.Steps.{at-file}
 use Rattle.mkfs.proofs.judges.are_file_names.Goals as goal
@@ -9,10 +9,10 @@ pub returns-then-not-is_file_name : goal.returns-then-not-is_file_name
 returns-then-not-is_file_name c = (
   λ t. (cc),
   λ all.
-      let this = at-file (λ f. f.0.items) IsFileName c.args.files.now c.loop-file.file-index c.file-item.result all c.loop-file-test.true c.file-item.is in
+      let this = at-file (λ (f : NewFile). f.name.items) IsFileName c.args.files.now c.loop-file.file-index c.file-item.result all c.loop-file-test.true c.file-item.is in
       sym c.if-not-is_file_name.true ∙ c.is_file_name.ensures.1 (subst IsFileName (sym c.as_slice-name.ensures.value) this),
 )
 
 pub returns : goal.returns
 returns c =
-    (λ _. All-map IsFileName (λ (f : File). f.0.items) c.args.files.now (λ i d l. c.loop-file.invariant i d (omega arith)), λ _. refl)
+    (λ _. All-map IsFileName (λ (f : NewFile). f.name.items) c.args.files.now (λ i d l. c.loop-file.invariant i d (omega arith)), λ _. refl)

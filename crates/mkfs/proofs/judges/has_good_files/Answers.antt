@@ -1,7 +1,7 @@
 use Rattle.std.proofs.Common.{arith, refl, ℕ, List, length, ◌≤◌}
 use Rattle.std.proofs.lemmas.List.{length-map}
 use Rattle.std.proofs.lemmas.List.Elements.{All-map}
-use Rattle.mkfs.specs.Image.{File}
+use Rattle.mkfs.specs.declared.new_file.NewFile.{NewFile}
 use Rattle.mkfs.proofs.Steps.{size-at}
 use Rattle.mkfs.proofs.judges.has_good_files.Goals as goal
 
@@ -14,8 +14,8 @@ returns-then-content-gt-LARGEST_SIZE c = (
 pub returns : goal.returns
 returns c = (
   λ _. record {
-    each = All-map (λ (content : List ℕ). length content ≤ 274432) (λ (f : File). f.1.items) c.args.files.now (λ i d l. c.loop-file.invariant i d (omega arith));
-    few = omega (arith, length-map c.args.files.now (λ (f : File). f.1.items));
+    each = All-map (λ (content : List ℕ). length content ≤ 274432) (λ (f : NewFile). f.content.items) c.args.files.now (λ i d l. c.loop-file.invariant i d (omega arith));
+    few = omega (arith, length-map c.args.files.now (λ (f : NewFile). f.content.items));
   },
   λ _. refl,
 )

@@ -1,6 +1,6 @@
 use Rattle.std.proofs.Common.{ℕ, ◌<◌, ◌≤◌, get_or, length}
-use Rattle.mkfs.specs.Image.{File}
+use Rattle.mkfs.specs.declared.new_file.NewFile.{NewFile}
 use Rattle.mkfs.proofs.judges.has_good_files.Given as goal
 
 abbrev pub invariant-loop-file : goal.invariant-loop-file
-invariant-loop-file l = (k : ℕ) (d : File) → k < l.file-index → length (get_or l.files k d).1.items ≤ 274432
+invariant-loop-file l = (k : ℕ) (d : NewFile) → k < l.file-index → length (get_or l.files k d).content.items ≤ 274432

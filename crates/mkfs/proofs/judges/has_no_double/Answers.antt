@@ -1,7 +1,8 @@
 use Rattle.std.proofs.Common.{ℕ, ◌<◌, List, length, refl, sym, ◌∙◌, arith}
 use Rattle.std.proofs.lemmas.List.{length-map}
 use denote.Bor.{Bor}
-use Rattle.mkfs.specs.Image.{File, names_of}
+use Rattle.mkfs.specs.declared.new_file.NewFile.{NewFile}
+use Rattle.mkfs.specs.Image.{names_of}
 use Rattle.mkfs.proofs.Doubles.{seen-none, seen-more, seen-all, seen-double, contains-has, not-true, not-false}
 use Rattle.mkfs.proofs.Steps.{name-at}
 use Rattle.mkfs.proofs.judges.has_no_double.Goals as goal
@@ -11,7 +12,7 @@ loop-file-init c = seen-none (λ (k : Bor (List ℕ)). k.now) (names_of c.args.f
 
 pub loop-file-preserved : goal.loop-file-preserved
 loop-file-preserved c =
-    let files : List File = c.args.files.now in
+    let files : List NewFile = c.args.files.now in
     let i : ℕ = c.loop-file.file-index in
     let same = name-at files i c.file-item.result _ c.as_slice-name.ensures.value c.loop-file-test.true c.file-item.is in
     let v : Bor (List ℕ) → List ℕ = λ k. k.now in
@@ -21,18 +22,18 @@ loop-file-preserved c =
 
 pub returns-then-not-branch : goal.returns-then-not-branch
 returns-then-not-branch c =
-    let files : List File = c.args.files.now in
+    let files : List NewFile = c.args.files.now in
     let i : ℕ = c.loop-file.file-index in
     let same = name-at files i c.file-item.result _ c.as_slice-name.ensures.value c.loop-file-test.true c.file-item.is in
     let v : Bor (List ℕ) → List ℕ = λ k. k.now in
     let keys : List (Bor (List ℕ)) = c.loop-file.seen.keys in
     let there = sym (contains-has v keys c.as_slice-name.result) ∙ not-false _ c.in_ok-insert.field-0 c.in_ok-insert.ensures.added c.if-not-branch.true in
-    let within : i < length (names_of files) = omega (arith, length-map files (λ (f : File). f.0.items)) in
+    let within : i < length (names_of files) = omega (arith, length-map files (λ (f : NewFile). f.name.items)) in
     ((λ t. (cc)), λ all. absurd (seen-double v (names_of files) keys c.as_slice-name.result i within same there c.loop-file.invariant all))
 
 pub returns : goal.returns
 returns c =
-    let files : List File = c.args.files.now in (
-      λ _. seen-all (λ (k : Bor (List ℕ)). k.now) (names_of files) c.loop-file.seen.keys c.loop-file.file-index (omega (arith, length-map files (λ (f : File). f.0.items))) c.loop-file.invariant,
+    let files : List NewFile = c.args.files.now in (
+      λ _. seen-all (λ (k : Bor (List ℕ)). k.now) (names_of files) c.loop-file.seen.keys c.loop-file.file-index (omega (arith, length-map files (λ (f : NewFile). f.name.items))) c.loop-file.invariant,
       λ _. refl,
     )

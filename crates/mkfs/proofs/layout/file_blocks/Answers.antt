@@ -1,5 +1,5 @@
 use Rattle.std.proofs.Common.{ℕ, List, length, ap, ◌∙◌, arith}
-use Rattle.mkfs.specs.Image.{File}
+use Rattle.mkfs.specs.declared.new_file.NewFile.{NewFile}
 use Rattle.mkfs.specs.Layout.{node_blocks}
 use Rattle.mkfs.proofs.Steps.{size-at, blocks-next, blocks_more}
 use Rattle.mkfs.proofs.layout.file_blocks.Goals as goal
@@ -10,7 +10,7 @@ node_blocks-blocks-requires c =
 
 pub loop-file-preserved : goal.loop-file-preserved
 loop-file-preserved c =
-    let file : File = c.file-item.result in
+    let file : NewFile = c.file-item.result in
     let few = size-at c.args.files.now c.loop-file.file-index file _ c.as_slice-content.ensures.value c.requires.each c.loop-file-test.true c.file-item.is in
     let part = c.node_blocks-blocks.ensures.value ∙ ap (λ (bytes : List ℕ). node_blocks (length bytes)) c.as_slice-content.ensures.value in (
       blocks_more _ _ _ _ _ _ part (blocks-next c.args.files.now c.loop-file.file-index file c.loop-file-test.true c.file-item.is) c.loop-file.invariant.0,

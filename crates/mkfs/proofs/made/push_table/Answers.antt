@@ -4,7 +4,8 @@ use Rattle.std.proofs.lemmas.Result.{IfOk-equal}
 use Rattle.std.specs.List.{flat_map}
 use Rattle.fs_layout.specs.Inode.{spell_dinode}
 use Rattle.mkfs.specs.Layout.{node_blocks, data_start, inode_blocks}
-use Rattle.mkfs.specs.Image.{File, Node, contents_of, file_node, root_node, inode_for, inodes_from}
+use Rattle.mkfs.specs.declared.new_file.NewFile.{NewFile}
+use Rattle.mkfs.specs.Image.{Node, contents_of, file_node, root_node, inode_for, inodes_from}
 use Rattle.mkfs.proofs.Joins.{table-parts}
 use Rattle.mkfs.proofs.made.push_table.Goals as goal
 
@@ -12,11 +13,11 @@ pub returns : goal.returns
 returns c =
     let old : List ℕ = c.args.image.now.items in
     let root : List ℕ = c.args.root.now in
-    let files : List File = c.args.files.now in
+    let files : List NewFile = c.args.files.now in
     let nodes : List Node = map file_node (contents_of files) in
     let first : ℕ = data_start c.args.ninodes in
     let k : ℕ = 64 * ((c.args.ninodes / 16 + 1) * 16 - (2 + length files)) in
-    let many : length nodes ≡ length files = length-map (contents_of files) file_node ∙ length-map files (λ (f : File). f.1.items) in
+    let many : length nodes ≡ length files = length-map (contents_of files) file_node ∙ length-map files (λ (f : NewFile). f.content.items) in
     let free : (c.args.ninodes / 16 + 1) * 16 - (2 + length files) ≡ 16 * inode_blocks c.args.ninodes - (2 + length nodes) = omega (arith, many) in
     let inode : ℕ → List ℕ = λ at. spell_dinode (inode_for at (root_node root)) in
     let rest : ℕ → List ℕ = λ at. flat_map spell_dinode (inodes_from at nodes) in

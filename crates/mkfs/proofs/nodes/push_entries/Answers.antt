@@ -2,13 +2,14 @@ use Rattle.std.proofs.Common.{◌++◌, ℕ, List, ap, ◌∙◌, subst, sym, ar
 use Rattle.fs_layout.specs.Name.{IsName}
 use Rattle.fs_layout.specs.Entry.{spell_dirent}
 use Rattle.fs_layout.specs.declared.entry.Dirent.TheVariants.{Used}
+use Rattle.mkfs.specs.declared.new_file.NewFile.{NewFile}
 use Rattle.mkfs.proofs.Steps.{at-file, entries-next, one_more}
 use Rattle.mkfs.proofs.nodes.push_entries.Goals as goal
 
 pub push_entry-requires-clause-name : goal.push_entry-requires-clause-name
 push_entry-requires-clause-name c =
     subst IsName (sym c.as_slice.ensures.value)
-    (at-file (λ f. f.0.items) IsName c.args.files.now c.loop-file.file-index c.file-item.result c.requires.names c.loop-file-test.true c.file-item.is)
+    (at-file (λ (f : NewFile). f.name.items) IsName c.args.files.now c.loop-file.file-index c.file-item.result c.requires.names c.loop-file-test.true c.file-item.is)
 
 pub loop-file-preserved : goal.loop-file-preserved
 loop-file-preserved c =

@@ -1,6 +1,7 @@
 use Rattle.std.proofs.Common.{◌≡◌, ◌≤◌, ◌++◌, ◌+◌, ℕ, List, ap, ◌∙◌, arith, length, map, drop}
 use Rattle.mkfs.specs.Layout.{node_blocks}
-use Rattle.mkfs.specs.Image.{File, file_node, data_from, contents_of, node_bytes}
+use Rattle.mkfs.specs.declared.new_file.NewFile.{NewFile}
+use Rattle.mkfs.specs.Image.{file_node, data_from, contents_of, node_bytes}
 use Rattle.mkfs.proofs.Steps.{size-at, data-next, one_more}
 use Rattle.mkfs.proofs.nodes.push_files.Goals as goal
 
@@ -19,15 +20,15 @@ overflow_cast-at c = omega (arith, few c)
 pub overflow_add-at : goal.overflow_add-at
 overflow_add-at c = omega (arith, c.loop-file.invariant.0, few c)
 
-blocks : (c : goal.After-node_blocks) → c.loop-file.at + c.node_blocks.result ≡ c.loop-file.at + node_blocks (length c.file-item.result.1.items)
+blocks : (c : goal.After-node_blocks) → c.loop-file.at + c.node_blocks.result ≡ c.loop-file.at + node_blocks (length c.file-item.result.content.items)
 blocks c =
     ap (λ (n : ℕ). c.loop-file.at + n) (c.node_blocks.ensures.value ∙ ap (λ (bytes : List ℕ). node_blocks (length bytes)) c.as_slice-content.ensures.value)
 
 pub loop-file-preserved : goal.loop-file-preserved
 loop-file-preserved c =
-    let file : File = c.file-item.result in
+    let file : NewFile = c.file-item.result in
     let old : List ℕ = c.loop-file.image.items in
-    let files : List File = drop (c.loop-file.file-index + 1) c.args.files.now in
+    let files : List NewFile = drop (c.loop-file.file-index + 1) c.args.files.now in
     let new = c.in_ok-push_content.ensures ∙ ap (λ (bytes : List ℕ). old ++ node_bytes c.loop-file.at bytes) c.as_slice-content.ensures.value in (
       omega (arith, c.loop-file.invariant.0, few c),
       ap (λ (at : ℕ). c.push_content.new.image.items ++ data_from at (map file_node (contents_of files))) (blocks c)
