@@ -1,6 +1,5 @@
 -- Going up by "..", step by step and by jumps.
-use Rattle.std.proofs.Common.{◌≡◌, ◌≢◌, ◌∙◌, ap, sym, refl, ℕ, zero, suc, ◌+◌, ◌-◌, ◌^◌, ◌<◌, ◌≤◌, Bool, true, false, eqb, List, [], ◌∷◌, length, get_or, map, arith, ⊎_elim}
-use Rattle.std.specs.Bool.{MatchBool}
+use Rattle.std.proofs.Common.{◌≡◌, ◌≢◌, ◌↔◌, ◌∙◌, ap, sym, refl, ℕ, zero, suc, ◌+◌, ◌-◌, ◌^◌, ◌<◌, ◌≤◌, Bool, true, IsTrue, eqb, List, [], ◌∷◌, length, get_or, map, arith, ⊎_elim}
 use Rattle.std.specs.List.{AllPairs, list_any}
 use Rattle.std.proofs.Math.Nat.{pow-suc}
 use Rattle.std.proofs.lemmas.List.{get_or_past, get_or-map, length-map}
@@ -156,15 +155,15 @@ jumps_more ups jumps shown twice r none t same e =
 -- what the jumps tell
 pub reach_told : (ups jumps shown : List ℕ) (told : Bool) → get_or ups 1 0 ≡ 1 → ((i : ℕ) → get_or ups i 0 < 65536) → length ups ≤ 65536 → shown ≡ jumps
     → IsJumpTable ups 65536 jumps
-    → MatchBool told ((i : ℕ) → i < length ups → get_or ups i 0 ≢ 0 → get_or shown i 0 ≡ 1) (((i : ℕ) → i < length ups → get_or ups i 0 ≢ 0 → get_or shown i 0 ≡ 1) → ⊥)
-    → MatchBool told ((i : ℕ) → get_or ups i 0 ≢ 0 → Reaches (λ n. get_or ups n 0) i) (((i : ℕ) → get_or ups i 0 ≢ 0 → Reaches (λ n. get_or ups n 0) i) → ⊥)
-reach_told ups jumps shown true root small short same t says =
-    λ i ne.
-    ⊎_elim
-    (λ (h : i < length ups). record { steps = (65536, sym (t.says i) ∙ ap (λ (xs : List ℕ). get_or xs i 0) (sym same) ∙ says i h ne) })
-    (λ (h : length ups ≤ i). absurd (ne (get_or_past ups i 0 h)))
-    (cases_lt i (length ups))
-reach_told ups jumps shown false root small short same t says =
-    λ reach.
-    says (λ i h ne.
-    ap (λ (xs : List ℕ). get_or xs i 0) same ∙ t.says i ∙ reach_bound (λ n. get_or ups n 0) i 65536 small (omega arith) root (reach i ne))
+    → (IsTrue told ↔ ((i : ℕ) → i < length ups → get_or ups i 0 ≢ 0 → get_or shown i 0 ≡ 1))
+    → IsTrue told ↔ ((i : ℕ) → get_or ups i 0 ≢ 0 → Reaches (λ n. get_or ups n 0) i)
+reach_told ups jumps shown told root small short same t says = (
+  λ yes i ne.
+      ⊎_elim
+      (λ (h : i < length ups). record { steps = (65536, sym (t.says i) ∙ ap (λ (xs : List ℕ). get_or xs i 0) (sym same) ∙ says.0 yes i h ne) })
+      (λ (h : length ups ≤ i). absurd (ne (get_or_past ups i 0 h)))
+      (cases_lt i (length ups)),
+  λ reach.
+      says.1 (λ i h ne.
+      ap (λ (xs : List ℕ). get_or xs i 0) same ∙ t.says i ∙ reach_bound (λ n. get_or ups n 0) i 65536 small (omega arith) root (reach i ne)),
+)

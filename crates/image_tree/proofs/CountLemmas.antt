@@ -1,6 +1,5 @@
 -- Counts, and how often inodes are named.
-use Rattle.std.proofs.Common.{◌≡◌, ◌∙◌, sym, subst, ℕ, ◌<◌, ◌≤◌, min, Bool, true, false, List, length, get_or, arith}
-use Rattle.std.specs.Bool.{MatchBool}
+use Rattle.std.proofs.Common.{◌≡◌, ◌↔◌, ◌∙◌, sym, subst, ℕ, ◌<◌, ◌≤◌, min, Bool, true, false, IsTrue, List, length, get_or, arith}
 use Rattle.std.proofs.lemmas.List.{get_or_default}
 use Rattle.std.proofs.lemmas.Bool.{false≢true}
 use Rattle.fs_layout.specs.declared.inode.Dinode.{Dinode}
@@ -25,12 +24,11 @@ table_at table xs i n read t l bound is = is ∙ get_or_default table i read 0 (
 
 pub count_told : (disk : List (List ℕ)) (layout : Layout) (i : ℕ) (d : Dinode) (told : Bool) → IsLayout disk layout → 1 ≤ i → i < layout.sizes.ninodes
     → d ≡ inode_of disk i → is_free d ≡ false
-    → MatchBool told (IsGoodCount d (names_of disk i) (further_names_of disk i) (children_of disk i))
-    (IsGoodCount d (names_of disk i) (further_names_of disk i) (children_of disk i) → ⊥)
-    → MatchBool told (GoodCount disk i) (GoodCount disk i → ⊥)
-count_told disk layout i d true h low bound e used says =
-    λ node. subst (λ (x : Dinode). IsGoodCount x (names_of disk i) (further_names_of disk i) (children_of disk i)) e says
-count_told disk layout i d false h low bound e used says =
-    λ good.
-    let node = node_from disk i (record { low = low; bound = rw (← h.sizes) bound; used = rw e at used }) in
-    says (subst (λ (x : Dinode). IsGoodCount x (names_of disk i) (further_names_of disk i) (children_of disk i)) (sym e) (good node))
+    → (IsTrue told ↔ IsGoodCount d (names_of disk i) (further_names_of disk i) (children_of disk i))
+    → IsTrue told ↔ GoodCount disk i
+count_told disk layout i d told h low bound e used says = (
+  λ yes node. subst (λ (x : Dinode). IsGoodCount x (names_of disk i) (further_names_of disk i) (children_of disk i)) e (says.0 yes),
+  λ good.
+      let node = node_from disk i (record { low = low; bound = rw (← h.sizes) bound; used = rw e at used }) in
+      says.1 (subst (λ (x : Dinode). IsGoodCount x (names_of disk i) (further_names_of disk i) (children_of disk i)) (sym e) (good node)),
+)

@@ -1,7 +1,6 @@
 -- The slots of live directories, and the table of nodes.
-use Rattle.std.proofs.Common.{◌≡◌, ◌∙◌, ap, sym, refl, subst, ℕ, ◌+◌, ◌<◌, ◌≤◌, Bool, true, false, not, List, [], ◌∷◌, ◌++◌, length, get_or, arith, length-append, ⊎_elim, Option, None}
+use Rattle.std.proofs.Common.{◌≡◌, ◌↔◌, ◌∙◌, ap, sym, refl, subst, ℕ, ◌+◌, ◌<◌, ◌≤◌, Bool, true, false, not, IsTrue, List, [], ◌∷◌, ◌++◌, length, get_or, arith, length-append, ⊎_elim, Option, None}
 use Rattle.std.specs.Prelude.{◌&&◌, nat_lt}
-use Rattle.std.specs.Bool.{MatchBool}
 use Rattle.std.proofs.lemmas.List.{get_or_past, get_or_append_left, get_or_at}
 use Rattle.std.proofs.lemmas.Bool.{false≢true, false_from_ne_true, cases_lt, lt-ltb, and_parts}
 use Rattle.fs_layout.specs.declared.inode.Dinode.{Dinode}
@@ -92,14 +91,13 @@ no_directory disk i d e not t =
 pub slots_told : (disk : List (List ℕ)) (layout : Layout) (i : ℕ) (d : Dinode) (nodes : List Bool) (slots : List (Option Dirent)) (told : Bool)
     → IsLayout disk layout → 1 ≤ i → i < layout.sizes.ninodes → d ≡ inode_of disk i → (is_directory d && is_live d) ≡ true
     → IsNodeTable disk nodes → slots ≡ slots_in disk i
-    → MatchBool told (AreGoodSlots (λ n. get_or nodes n false) i slots) (AreGoodSlots (λ n. get_or nodes n false) i slots → ⊥)
-    → MatchBool told (is_live_directory disk i ≡ true → AreGoodSlots (is_node disk) i (slots_in disk i))
-    ((is_live_directory disk i ≡ true → AreGoodSlots (is_node disk) i (slots_in disk i)) → ⊥)
-slots_told disk layout i d nodes slots true h low bound e is table same says =
-    λ _. subst (AreGoodSlots (is_node disk) i) same (good_slots_same (λ n. get_or nodes n false) (is_node disk) i slots table.says says)
-slots_told disk layout i d nodes slots false h low bound e is table same says =
-    λ good.
-    let parts = and_parts (is_directory d) (is_live d) is in
-    let live : is_live_directory disk i ≡ true =
-    directory_from disk i (record { low = low; bound = rw (← h.sizes) bound; directory = rw e at parts.0; live = rw e at parts.1 }) in
-    says (good_slots_same (is_node disk) (λ n. get_or nodes n false) i slots (λ n. sym (table.says n)) (subst (AreGoodSlots (is_node disk) i) (sym same) (good live)))
+    → (IsTrue told ↔ AreGoodSlots (λ n. get_or nodes n false) i slots)
+    → IsTrue told ↔ (is_live_directory disk i ≡ true → AreGoodSlots (is_node disk) i (slots_in disk i))
+slots_told disk layout i d nodes slots told h low bound e is table same says = (
+  λ yes _. subst (AreGoodSlots (is_node disk) i) same (good_slots_same (λ n. get_or nodes n false) (is_node disk) i slots table.says (says.0 yes)),
+  λ good.
+      let parts = and_parts (is_directory d) (is_live d) is in
+      let live : is_live_directory disk i ≡ true =
+      directory_from disk i (record { low = low; bound = rw (← h.sizes) bound; directory = rw e at parts.0; live = rw e at parts.1 }) in
+      says.1 (good_slots_same (is_node disk) (λ n. get_or nodes n false) i slots (λ n. sym (table.says n)) (subst (AreGoodSlots (is_node disk) i) (sym same) (good live))),
+)

@@ -3,9 +3,11 @@ use Rattle.std.proofs.Common.{◌≡◌, ◌≢◌, ◌⊎◌, inl, inr, ℕ, �
 use Rattle.std.proofs.lemmas.Bool.{cases_eq}
 use Rattle.std.proofs.Math.ListN.{length-set}
 use Rattle.fs_layout.specs.declared.superblock.Super.{Super}
-use Rattle.fs_layout.specs.Recovered.{block_at, sizes_of, log_count, log_head_at, logged, recovered, IsOutsideLog}
+use Rattle.block_device.specs.Blocks.{block_at}
+use Rattle.fs_layout.specs.Recovered.{sizes_of, log_count, log_head_at, logged, recovered, IsOutsideLog}
 use Rattle.fs_layout.specs.Bytes.{u32_at}
-use Rattle.fs_layout.proofs.RecoveredDisk.{block_at-set_same, block_at-set_other, sizes_of-set, logged-set, logged-empty, recovered-empty, recovered-copy, recovered-own, first_copy, IsFirstCopy}
+use Rattle.block_device.specs.BlockLaws.{block_at-set_same, block_at-set_other}
+use Rattle.fs_layout.proofs.RecoveredDisk.{sizes_of-set, logged-set, logged-empty, recovered-empty, recovered-copy, recovered-own, first_copy, IsFirstCopy}
 use Rattle.image_tree.specs.declared.disk.Layout.{Layout}
 use Rattle.image_tree.specs.Layout.{IsLayout}
 use Rattle.image_tree.proofs.Layouts.{length-logged}

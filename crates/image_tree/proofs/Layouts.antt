@@ -6,7 +6,8 @@ use Rattle.std.specs.Option.{option_map_or}
 use Rattle.fs_layout.specs.Inode.{dinode_at}
 use Rattle.fs_layout.proofs.Numbers.{length-u32s_at}
 use Rattle.image_tree.specs.declared.disk.Layout.{Layout}
-use Rattle.fs_layout.specs.Recovered.{place_of, logged, log_count, sizes_of, block_at, recovered}
+use Rattle.block_device.specs.Blocks.{block_at}
+use Rattle.fs_layout.specs.Recovered.{place_of, logged, log_count, sizes_of, recovered}
 use Rattle.image_tree.specs.Inodes.{inode_of}
 use Rattle.image_tree.specs.Layout.{IsLayout}
 

@@ -1,3 +1,4 @@
+pub mod Told
 pub mod Layouts
 pub mod NumberLists
 pub mod MarkLemmas

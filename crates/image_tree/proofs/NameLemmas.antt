@@ -1,7 +1,6 @@
 -- The numbers of names: no two names have one.
-use Rattle.std.proofs.Common.{◌≡◌, ◌≢◌, ◌∙◌, ap, sym, refl, subst, ℕ, zero, suc, ◌+◌, ◌-◌, ◌*◌, ◌^◌, ◌<◌, ◌≤◌, Bool, true, false, eqb, List, [], ◌∷◌, length, drop, get_or, map, arith}
+use Rattle.std.proofs.Common.{◌≡◌, ◌≢◌, ◌↔◌, ◌∙◌, ap, sym, refl, subst, ℕ, zero, suc, ◌+◌, ◌-◌, ◌*◌, ◌^◌, ◌<◌, ◌≤◌, Bool, true, IsTrue, eqb, List, [], ◌∷◌, length, drop, get_or, map, arith}
 use Rattle.std.specs.Prelude.{◌&&◌, nat_lt, nat_le}
-use Rattle.std.specs.Bool.{MatchBool}
 use Rattle.std.specs.List.{All, AllByRecursion, AllPairs, list_all}
 use Rattle.std.specs.List.Sorted.{IsStrictlyIncreasing, IsNonDecreasing, IsPermutation}
 use Rattle.std.proofs.Math.Nat.{pow-suc, pow-le-pow_right}
@@ -90,9 +89,11 @@ names_once names once = record {
 }
 
 pub names_told : (told : Bool) (keys : List ℕ) (names : List (List ℕ)) → keys ≡ map name_key names → All IsKeyed names
-    → MatchBool told (IsOnce keys) (IsOnce keys → ⊥) → MatchBool told (IsOnce names) (IsOnce names → ⊥)
-names_told true keys names is keyed says = names_once names (subst IsOnce is says)
-names_told false keys names is keyed says = λ once. says (subst IsOnce (sym is) (keys_once names keyed once))
+    → (IsTrue told ↔ IsOnce keys) → IsTrue told ↔ IsOnce names
+names_told told keys names is keyed says = (
+  λ yes. names_once names (subst IsOnce is (says.0 yes)),
+  λ once. says.1 (subst IsOnce (sym is) (keys_once names keyed once)),
+)
 
 -- numbers stand once just where they increase strictly once sorted
 increasing_below : (xs : List ℕ) → IsStrictlyIncreasing xs → (i n : ℕ) → i + suc n < length xs → get_or xs i 0 < get_or xs (i + suc n) 0
@@ -119,11 +120,12 @@ flips : (x y : ℕ) → eqb x y ≡ eqb y x
 flips x y = grind (arith, nat_tests)
 
 pub distinct_told : (told : Bool) (keys sorted shown : List ℕ) → IsPermutation keys sorted → IsNonDecreasing sorted → shown ≡ sorted
-    → MatchBool told (IsStrictlyIncreasing shown) (IsStrictlyIncreasing shown → ⊥) → MatchBool told (IsOnce keys) (IsOnce keys → ⊥)
-distinct_told true keys sorted shown same order is says =
-    let once = IsDistinct-from_AllPairs Decides-eqb sorted (increasing_once sorted (subst IsStrictlyIncreasing is says)) in
-    record { apart = AllPairs-from_IsDistinct Decides-eqb keys (IsDistinct-IsPermutation eqb flips sorted keys (IsPermutation-sym keys sorted same) once) }
-distinct_told false keys sorted shown same order is says =
-    λ once.
-    let apart = IsDistinct-IsPermutation eqb flips keys sorted same (IsDistinct-from_AllPairs Decides-eqb keys once.apart) in
-    says (subst IsStrictlyIncreasing (sym is) (IsStrictlyIncreasing-from_distinct sorted order apart))
+    → (IsTrue told ↔ IsStrictlyIncreasing shown) → IsTrue told ↔ IsOnce keys
+distinct_told told keys sorted shown same order is says = (
+  λ yes.
+      let once = IsDistinct-from_AllPairs Decides-eqb sorted (increasing_once sorted (subst IsStrictlyIncreasing is (says.0 yes))) in
+      record { apart = AllPairs-from_IsDistinct Decides-eqb keys (IsDistinct-IsPermutation eqb flips sorted keys (IsPermutation-sym keys sorted same) once) },
+  λ once.
+      let apart = IsDistinct-IsPermutation eqb flips keys sorted same (IsDistinct-from_AllPairs Decides-eqb keys once.apart) in
+      says.1 (subst IsStrictlyIncreasing (sym is) (IsStrictlyIncreasing-from_distinct sorted order apart)),
+)

@@ -1,6 +1,5 @@
 -- What the parts of the check of a size say of the whole.
-use Rattle.std.proofs.Common.{◌≡◌, ◌≢◌, ◌∙◌, sym, subst, ℕ, ◌<◌, ◌≤◌, ◌*◌, List, Bool, true, false}
-use Rattle.std.specs.Bool.{MatchBool}
+use Rattle.std.proofs.Common.{◌≡◌, ◌≢◌, ◌↔◌, ◌∙◌, sym, subst, ℕ, ◌<◌, ◌≤◌, ◌*◌, List, Bool, true, false, IsTrue}
 use Rattle.std.proofs.lemmas.Bool.{false≢true}
 use Rattle.fs_layout.specs.declared.inode.Dinode.{Dinode}
 use Rattle.image_tree.specs.Inodes.{inode_of, is_free, is_node, numbers_of, block_number}
@@ -24,9 +23,9 @@ unfit_no_size disk layout i d h low bound e used bad good =
 
 pub size_told : (disk : List (List ℕ)) (layout : Layout) (i : ℕ) (d : Dinode) → IsLayout disk layout → 1 ≤ i → i < layout.sizes.ninodes
     → d ≡ inode_of disk i → is_free d ≡ false → IsFittingSize d → (told : Bool) (numbers : List ℕ) → numbers ≡ numbers_of disk d
-    → MatchBool told ((k : ℕ) → 1024 * k < d.size → block_number numbers k ≢ 0) (((k : ℕ) → 1024 * k < d.size → block_number numbers k ≢ 0) → ⊥)
-    → MatchBool told (is_node disk i ≡ true → IsGoodSize disk (inode_of disk i)) ((is_node disk i ≡ true → IsGoodSize disk (inode_of disk i)) → ⊥)
-size_told disk layout i d h low bound e used fits true numbers is says =
-    λ _. subst (IsGoodSize disk) e (record { fits = fits; named = rw (← is) says })
-size_told disk layout i d h low bound e used fits false numbers is says =
-    λ good. says (rw is (subst (IsGoodSize disk) (sym e) (good (is_used disk layout i d h low bound e used))).named)
+    → (IsTrue told ↔ ((k : ℕ) → 1024 * k < d.size → block_number numbers k ≢ 0))
+    → IsTrue told ↔ (is_node disk i ≡ true → IsGoodSize disk (inode_of disk i))
+size_told disk layout i d h low bound e used fits told numbers is says = (
+  λ yes _. subst (IsGoodSize disk) e (record { fits = fits; named = rw (← is) (says.0 yes) }),
+  λ good. says.1 (rw is (subst (IsGoodSize disk) (sym e) (good (is_used disk layout i d h low bound e used))).named),
+)

@@ -7,7 +7,8 @@ use Rattle.fs_layout.specs.declared.log_head.LogHead.{LogHead}
 use Rattle.fs_layout.specs.Bytes.{u32_at, u32s_at}
 use Rattle.fs_layout.specs.Super.{super_of, super_fields}
 use Rattle.fs_layout.specs.LogHead.{log_head_of}
-use Rattle.fs_layout.specs.Recovered.{sizes_of, logged, log_count, block_at}
+use Rattle.block_device.specs.Blocks.{block_at}
+use Rattle.fs_layout.specs.Recovered.{sizes_of, logged, log_count}
 use Rattle.image_tree.specs.Checks.{HasGoodLog}
 
 some_from : {T : Type 0} (b : Bool) (x y : T) → cond b (Some x) None ≡ Some y → (b ≡ true) × (x ≡ y)

@@ -1,6 +1,5 @@
 -- What the tables tell of the live directories.
-use Rattle.std.proofs.Common.{◌≡◌, ◌≢◌, ◌∙◌, ap, sym, refl, subst, ℕ, ◌<◌, ◌≤◌, Bool, true, false, List, length, get_or, arith, ⊎_elim, Option, Some, None}
-use Rattle.std.specs.Bool.{MatchBool}
+use Rattle.std.proofs.Common.{◌≡◌, ◌≢◌, ◌↔◌, ◌∙◌, ap, sym, refl, subst, ℕ, ◌<◌, ◌≤◌, Bool, true, false, IsTrue, List, length, get_or, arith, ⊎_elim, Option, Some, None}
 use Rattle.std.specs.List.{All}
 use Rattle.std.proofs.lemmas.List.{get_or_past, get_or_default}
 use Rattle.std.proofs.lemmas.Bool.{cases_lt}
@@ -78,36 +77,37 @@ reaches_same f g i same r = record { steps = (r.steps.0, sym (climb-same f g r.s
 pub tree_told : (disk : List (List ℕ)) (ups further proper : List ℕ) (told : Bool) → Tables disk ups further proper → HasGoodSlots disk → 2 ≤ length ups
     → get_or ups 1 0 ≡ 1 → get_or further 1 0 ≡ 0
     → ((i : ℕ) → 2 ≤ i → i < length ups → get_or ups i 0 ≢ 0 → (get_or further i 0 ≡ 1) × (get_or proper i 0 ≡ 1))
-    → MatchBool told ((i : ℕ) → get_or ups i 0 ≢ 0 → Reaches (λ n. get_or ups n 0) i) (((i : ℕ) → get_or ups i 0 ≢ 0 → Reaches (λ n. get_or ups n 0) i) → ⊥)
-    → MatchBool told (IsOneTree disk) (IsOneTree disk → ⊥)
-tree_told disk ups further proper true t good two root unnamed named says =
-    let fl = t.further_length in
-    let pl = t.proper_length in
-    let n = t.up_table.length in
-    record {
-      root = sym (t.up_table.says 1) ∙ root;
-      root_unnamed = counted further (gathered (further_in disk) (last disk)) 1 0 t.further_table (omega arith) (omega arith) unnamed;
-      named = λ i live ne.
-          let is = directory_is disk i live in
-          let low = is.low in
-          let bound = is.bound in
-          let at = named i (at_least_two i low ne) (omega arith) (λ e. live_up disk i good live (sym (t.up_table.says i) ∙ e)) in
-          counted further (gathered (further_in disk) (last disk)) i 1 t.further_table (omega arith) (omega arith) at.0;
-      proper = λ i live ne.
-          let is = directory_is disk i live in
-          let low = is.low in
-          let bound = is.bound in
-          let at = named i (at_least_two i low ne) (omega arith) (λ e. live_up disk i good live (sym (t.up_table.says i) ∙ e)) in
-          counted proper (gathered (proper_in disk) (last disk)) i 1 t.proper_table (omega arith) (omega arith) at.1;
-      reaches = λ i live.
-          reaches_same (λ n. get_or ups n 0) (up disk) i t.up_table.says (says i (λ e. live_up disk i good live (sym (t.up_table.says i) ∙ e)));
-    }
+    → (IsTrue told ↔ ((i : ℕ) → get_or ups i 0 ≢ 0 → Reaches (λ n. get_or ups n 0) i))
+    → IsTrue told ↔ IsOneTree disk
+tree_told disk ups further proper told t good two root unnamed named says = (
+  λ yes.
+      let fl = t.further_length in
+      let pl = t.proper_length in
+      let n = t.up_table.length in
+      record {
+        root = sym (t.up_table.says 1) ∙ root;
+        root_unnamed = counted further (gathered (further_in disk) (last disk)) 1 0 t.further_table (omega arith) (omega arith) unnamed;
+        named = λ i live ne.
+            let is = directory_is disk i live in
+            let low = is.low in
+            let bound = is.bound in
+            let at = named i (at_least_two i low ne) (omega arith) (λ e. live_up disk i good live (sym (t.up_table.says i) ∙ e)) in
+            counted further (gathered (further_in disk) (last disk)) i 1 t.further_table (omega arith) (omega arith) at.0;
+        proper = λ i live ne.
+            let is = directory_is disk i live in
+            let low = is.low in
+            let bound = is.bound in
+            let at = named i (at_least_two i low ne) (omega arith) (λ e. live_up disk i good live (sym (t.up_table.says i) ∙ e)) in
+            counted proper (gathered (proper_in disk) (last disk)) i 1 t.proper_table (omega arith) (omega arith) at.1;
+        reaches = λ i live.
+            reaches_same (λ n. get_or ups n 0) (up disk) i t.up_table.says (says.0 yes i (λ e. live_up disk i good live (sym (t.up_table.says i) ∙ e)));
+      },
+  λ one.
+      says.1 (λ i ne. reaches_same (up disk) (λ n. get_or ups n 0) i (λ n. sym (t.up_table.says n)) (one.reaches i (up_live disk i (λ e. ne (t.up_table.says i ∙ e))))),
+)
   where
     at_least_two : (i : ℕ) → 1 ≤ i → i ≢ 1 → 2 ≤ i
     at_least_two i low ne = ⊎_elim (λ (h : 1 < i). omega arith) (λ (h : i ≤ 1). absurd (ne (omega arith))) (cases_lt 1 i)
-tree_told disk ups further proper false t good two root unnamed named says =
-    λ one.
-    says (λ i ne. reaches_same (up disk) (λ n. get_or ups n 0) i (λ n. sym (t.up_table.says n)) (one.reaches i (up_live disk i (λ e. ne (t.up_table.says i ∙ e)))))
 
 pub tables_of : (disk : List (List ℕ)) (links : Links) (ups further proper : List ℕ) → IsLinks disk links → ups ≡ links.ups.items → further ≡ links.further.items
     → proper ≡ links.proper.items → Tables disk ups further proper

@@ -7,7 +7,8 @@ use Rattle.fs_layout.specs.declared.entry.Dirent.TheVariants.{Free, Used}
 use Rattle.fs_layout.specs.Bytes.{u32_at}
 use Rattle.fs_layout.specs.Bits.{bit_of}
 use Rattle.fs_layout.specs.Widths.{block_len, dirent_len, inodes_per_block, log_head_len, magic, super_block, super_magic_at}
-use Rattle.fs_layout.specs.Recovered.{block_at, sizes_of, log_count, logged, recovered}
+use Rattle.block_device.specs.Blocks.{block_at}
+use Rattle.fs_layout.specs.Recovered.{sizes_of, log_count, logged, recovered}
 use Rattle.image_tree.specs.Lists.{IsOnce, gathered}
 use Rattle.image_tree.specs.Inodes.{inode_of, last, is_directory, is_live, is_node, is_live_directory, numbers_of, numbers_by, named_by, block_number}
 use Rattle.image_tree.specs.Links.{slots_in, slot_numbers, slot_names, up, names_of, further_names_of, proper_names_of, children_of, Reaches}

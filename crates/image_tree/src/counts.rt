@@ -1,6 +1,5 @@
 //! That counts are how often nodes are named.
-ghost use Rattle.std.specs.Prelude.{◌≡◌, ◌+◌, ◌<◌, ◌≤◌, ℕ, true, min, IfOk};
-ghost use Rattle.std.specs.Bool.{MatchBool};
+ghost use Rattle.std.specs.Prelude.{◌≡◌, ◌+◌, ◌<◌, ◌≤◌, ◌↔◌, ℕ, true, min, IfOk, IsTrue};
 ghost use Rattle.block_device.specs.Blocks.{faults_after};
 ghost use Rattle.image_tree.specs.Inodes.{inode_of, is_node};
 ghost use Rattle.image_tree.specs.Links.{children_of, further_names_of, names_of};
@@ -17,7 +16,7 @@ use fs_layout::Dinode;
 /// Whether an inode has the right count, where tables that stop at the greatest u16 count it so.
 fn is_good_count(inode: &Dinode, names: u16, further: u16, children: u16) -> bool
     ensures { (n f k : ℕ) → names ≡ min n 65535 → further ≡ min f 65535 → children ≡ min k 65535
-        → MatchBool result (IsGoodCount inode.now n f k) (¬ IsGoodCount inode.now n f k) }
+        → IsTrue result ↔ IsGoodCount inode.now n f k }
 {
     let count = i32::from(inode.nlink);
     if !is_directory(inode) {
@@ -40,9 +39,8 @@ fn has_good_count<D: Device>(
     requires links { IsLinks (D.contents device.old) links.now }
     requires low { 1 ≤ i }
     requires bound { i < layout.now.sizes.ninodes }
-    ensures good { IfOk result (λ good. MatchBool good
-        (is_node (D.contents device.old) i ≡ true → IsGoodCount (inode_of (D.contents device.old) i) (names_of (D.contents device.old) i) (further_names_of (D.contents device.old) i) (children_of (D.contents device.old) i))
-        (¬ (is_node (D.contents device.old) i ≡ true → IsGoodCount (inode_of (D.contents device.old) i) (names_of (D.contents device.old) i) (further_names_of (D.contents device.old) i) (children_of (D.contents device.old) i)))) }
+    ensures good { IfOk result (λ good. IsTrue good
+        ↔ (is_node (D.contents device.old) i ≡ true → IsGoodCount (inode_of (D.contents device.old) i) (names_of (D.contents device.old) i) (further_names_of (D.contents device.old) i) (children_of (D.contents device.old) i))) }
     ensures contents { D.contents device.new ≡ D.contents device.old }
     ensures faults { D.failures device.new ≡ faults_after result (D.failures device.old) }
 {
@@ -67,7 +65,7 @@ pub fn has_good_counts<D: Device>(
 ) -> Result<bool, Fault>
     requires layout { IsLayout (D.contents device.old) layout.now }
     requires links { IsLinks (D.contents device.old) links.now }
-    ensures good { IfOk result (λ good. MatchBool good (HasGoodCounts (D.contents device.old)) (¬ HasGoodCounts (D.contents device.old))) }
+    ensures good { IfOk result (λ good. IsTrue good ↔ HasGoodCounts (D.contents device.old)) }
     ensures contents { D.contents device.new ≡ D.contents device.old }
     ensures faults { D.failures device.new ≡ faults_after result (D.failures device.old) }
 {

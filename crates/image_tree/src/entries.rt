@@ -1,6 +1,5 @@
 //! That live directories have good slots.
-ghost use Rattle.std.specs.Prelude.{◌≡◌, ◌≢◌, ◌+◌, ◌<◌, ◌≤◌, ℕ, Bool, true, false, List, length, slice_index_or, IfOk, IfErr, Option, Some, None};
-ghost use Rattle.std.specs.Bool.{MatchBool};
+ghost use Rattle.std.specs.Prelude.{◌≡◌, ◌≢◌, ◌+◌, ◌<◌, ◌≤◌, ◌↔◌, ℕ, Bool, true, false, List, length, slice_index_or, IfOk, IfErr, Option, Some, None, IsTrue};
 ghost use Rattle.std.specs.List.{All};
 ghost use Rattle.std.specs.Option.{option_to_list};
 ghost use Rattle.fs_layout.specs.declared.entry.Dirent.TheVariants.{Used};
@@ -37,7 +36,7 @@ pub fn slot_number(slot: &Option<Dirent>) -> Option<u16>
 }
 
 fn is_dot(slot: &Option<Dirent>, i: u16) -> bool
-    ensures { MatchBool result (slot.now ≡ Some (Used i dot)) (¬ (slot.now ≡ Some (Used i dot))) }
+    ensures { IsTrue result ↔ (slot.now ≡ Some (Used i dot)) }
 {
     match slot {
         Some(Dirent::Used { number, name }) => *number == i && name.as_bytes() == DOT.as_slice(),
@@ -46,7 +45,7 @@ fn is_dot(slot: &Option<Dirent>, i: u16) -> bool
 }
 
 fn is_dotdot(slot: &Option<Dirent>) -> bool
-    ensures { MatchBool result (IsDotDot slot.now) (¬ IsDotDot slot.now) }
+    ensures { IsTrue result ↔ IsDotDot slot.now }
 {
     match slot {
         Some(Dirent::Used { name, .. }) => name.as_bytes() == DOTDOT.as_slice(),
@@ -55,8 +54,8 @@ fn is_dotdot(slot: &Option<Dirent>) -> bool
 }
 
 fn has_dots(i: u16, slots: &[Option<Dirent>]) -> bool
-    ensures { MatchBool result ((slice_index_or slots.now 0 None ≡ Some (Used i dot)) × IsDotDot (slice_index_or slots.now 1 None))
-        (¬ ((slice_index_or slots.now 0 None ≡ Some (Used i dot)) × IsDotDot (slice_index_or slots.now 1 None))) }
+    ensures { IsTrue result
+        ↔ ((slice_index_or slots.now 0 None ≡ Some (Used i dot)) × IsDotDot (slice_index_or slots.now 1 None)) }
 {
     if slots.len() < 2 {
         return false;
@@ -65,7 +64,7 @@ fn has_dots(i: u16, slots: &[Option<Dirent>]) -> bool
 }
 
 fn are_entries(slots: &[Option<Dirent>]) -> bool
-    ensures { MatchBool result (All (λ slot. slot ≢ None) slots.now) (¬ All (λ slot. slot ≢ None) slots.now) }
+    ensures { IsTrue result ↔ All (λ slot. slot ≢ None) slots.now }
 {
     for s in 0..slots.len() {
         if slots[s].is_none() {
@@ -76,8 +75,8 @@ fn are_entries(slots: &[Option<Dirent>]) -> bool
 }
 
 fn names_node(slot: &Option<Dirent>, nodes: &[bool]) -> bool
-    ensures { MatchBool result (All (λ n. slice_index_or nodes.now n false ≡ true) (slot_number slot.now))
-        (¬ All (λ n. slice_index_or nodes.now n false ≡ true) (slot_number slot.now)) }
+    ensures { IsTrue result
+        ↔ All (λ n. slice_index_or nodes.now n false ≡ true) (slot_number slot.now) }
 {
     match slot_number(slot) {
         Some(n) => (n as usize) < nodes.len() && nodes[n as usize],
@@ -86,8 +85,8 @@ fn names_node(slot: &Option<Dirent>, nodes: &[bool]) -> bool
 }
 
 fn name_nodes(slots: &[Option<Dirent>], nodes: &[bool]) -> bool
-    ensures { MatchBool result (All (λ n. slice_index_or nodes.now n false ≡ true) (slot_numbers slots.now))
-        (¬ All (λ n. slice_index_or nodes.now n false ≡ true) (slot_numbers slots.now)) }
+    ensures { IsTrue result
+        ↔ All (λ n. slice_index_or nodes.now n false ≡ true) (slot_numbers slots.now) }
 {
     for s in 0..slots.len() {
         if !names_node(&slots[s], nodes) {
@@ -104,8 +103,8 @@ fn are_good_slots(
     slots: &[Option<Dirent>],
     nodes: &[bool],
 ) -> Result<bool, AllocError>
-    ensures { IfOk result (λ good. MatchBool good (AreGoodSlots (λ n. slice_index_or nodes.now n false) i slots.now)
-        (¬ AreGoodSlots (λ n. slice_index_or nodes.now n false) i slots.now)) }
+    ensures { IfOk result (λ good. IsTrue good
+        ↔ AreGoodSlots (λ n. slice_index_or nodes.now n false) i slots.now) }
 {
     if !has_dots(i, slots) || !are_entries(slots) || !name_nodes(slots, nodes) {
         return Ok(false);
@@ -143,7 +142,7 @@ pub fn has_good_slots<D: Device>(
 ) -> Result<bool, MountFault>
     requires layout { IsLayout (D.contents device.old) layout.now }
     requires numbers { HasGoodNumbers (D.contents device.old) }
-    ensures good { IfOk result (λ good. MatchBool good (HasGoodSlots (D.contents device.old)) (¬ HasGoodSlots (D.contents device.old))) }
+    ensures good { IfOk result (λ good. IsTrue good ↔ HasGoodSlots (D.contents device.old)) }
     ensures err { IfErr result (JudgesFault (D.contents device.old)) }
     ensures contents { D.contents device.new ≡ D.contents device.old }
     ensures faults { D.failures device.new ≡ faults_with result (D.failures device.old) }
@@ -171,9 +170,8 @@ fn has_good_slots_at<D: Device>(
     requires bound { i < layout.now.sizes.ninodes }
     requires numbers { HasGoodNumbers (D.contents device.old) }
     requires table { IsNodeTable (D.contents device.old) nodes.now }
-    ensures good { IfOk result (λ good. MatchBool good
-        (is_live_directory (D.contents device.old) i ≡ true → AreGoodSlots (is_node (D.contents device.old)) i (slots_in (D.contents device.old) i))
-        (¬ (is_live_directory (D.contents device.old) i ≡ true → AreGoodSlots (is_node (D.contents device.old)) i (slots_in (D.contents device.old) i)))) }
+    ensures good { IfOk result (λ good. IsTrue good
+        ↔ (is_live_directory (D.contents device.old) i ≡ true → AreGoodSlots (is_node (D.contents device.old)) i (slots_in (D.contents device.old) i))) }
     ensures err { IfErr result (JudgesFault (D.contents device.old)) }
     ensures contents { D.contents device.new ≡ D.contents device.old }
     ensures faults { D.failures device.new ≡ faults_with result (D.failures device.old) }

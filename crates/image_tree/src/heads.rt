@@ -1,6 +1,5 @@
 //! The superblock and the log's head.
-ghost use Rattle.std.specs.Prelude.{◌≡◌, ◌≢◌, ◌<◌, ◌≤◌, length, All, Err};
-ghost use Rattle.std.specs.Bool.{MatchBool};
+ghost use Rattle.std.specs.Prelude.{◌≡◌, ◌≢◌, ◌<◌, ◌≤◌, ◌↔◌, length, All, Err, IsFalse, IsTrue};
 ghost use Rattle.image_tree.specs.Checks.{IsGoodSuper, HasSuper, HasGoodLog};
 ghost use Rattle.fs_layout.specs.Recovered.{sizes_of, logged};
 ghost use Rattle.image_tree.specs.Damage.{JudgesWith, UpToShort, UpToSize, faults_with};
@@ -17,7 +16,7 @@ use fs_layout::widths::{BLOCK_LEN, INODES_PER_BLOCK};
 use fs_layout::{LogHead, Super, read_log_head, read_super};
 
 fn is_good(s: &Super) -> bool
-    ensures { MatchBool result (IsGoodSuper s.now) (¬ IsGoodSuper s.now) }
+    ensures { IsTrue result ↔ IsGoodSuper s.now }
 {
     s.size <= MOST_BLOCKS
         && s.ninodes >= FEWEST_INODES
@@ -49,7 +48,7 @@ fn find_super<D: Device>(device: &mut D) -> Result<Super, MountFault>
 }
 
 fn has_repeat(numbers: &[u32]) -> bool
-    ensures { MatchBool result (¬ IsOnce numbers.now) (IsOnce numbers.now) }
+    ensures { IsFalse result ↔ IsOnce numbers.now }
 {
     for i in 0..numbers.len() {
         if numbers[..i].contains(&numbers[i]) {
@@ -60,8 +59,7 @@ fn has_repeat(numbers: &[u32]) -> bool
 }
 
 fn are_between(numbers: &[u32], low: u32, high: u32) -> bool
-    ensures { MatchBool result (All (λ b. (low ≤ b) × (b < high)) numbers.now)
-        (¬ All (λ b. (low ≤ b) × (b < high)) numbers.now) }
+    ensures { IsTrue result ↔ All (λ b. (low ≤ b) × (b < high)) numbers.now }
 {
     for b in numbers {
         if *b < low || high <= *b {

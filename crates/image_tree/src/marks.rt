@@ -1,6 +1,5 @@
 //! That the bitmap shows the blocks in use as used.
-ghost use Rattle.std.specs.Prelude.{◌≡◌, ◌≢◌, ◌<◌, ◌≤◌, ℕ, Bool, true, length, IfOk, All};
-ghost use Rattle.std.specs.Bool.{MatchBool};
+ghost use Rattle.std.specs.Prelude.{◌≡◌, ◌≢◌, ◌<◌, ◌≤◌, ◌↔◌, ℕ, Bool, true, length, IfOk, All, IsTrue};
 ghost use Rattle.block_device.specs.Blocks.{faults_after};
 ghost use Rattle.fs_layout.specs.Bits.{bit_of};
 ghost use Rattle.image_tree.specs.Checks.{HasGoodNumbers, HasMarks};
@@ -14,8 +13,7 @@ use fs_layout::widths::{BLOCK_LEN, Block};
 
 fn are_marked(bitmap: &Block, numbers: &[u32]) -> bool
     requires { All (λ b. b < 8192) numbers.now }
-    ensures { MatchBool result (All (λ b. b ≢ 0 → bit_of bitmap.now b ≡ true) numbers.now)
-        (¬ All (λ b. b ≢ 0 → bit_of bitmap.now b ≡ true) numbers.now) }
+    ensures { IsTrue result ↔ All (λ b. b ≢ 0 → bit_of bitmap.now b ≡ true) numbers.now }
 {
     for i in 0..numbers.len() {
         if numbers[i] != 0 && !bit(bitmap, numbers[i] as usize) {
@@ -27,8 +25,7 @@ fn are_marked(bitmap: &Block, numbers: &[u32]) -> bool
 
 fn is_front_marked(bitmap: &Block, last: u32) -> bool
     requires { last < 8192 }
-    ensures { MatchBool result ((b : ℕ) → b ≤ last → bit_of bitmap.now b ≡ true)
-        (¬ ((b : ℕ) → b ≤ last → bit_of bitmap.now b ≡ true)) }
+    ensures { IsTrue result ↔ ((b : ℕ) → b ≤ last → bit_of bitmap.now b ≡ true) }
 {
     for b in 0..last as usize + 1 {
         if !bit(bitmap, b) {
@@ -42,7 +39,7 @@ fn is_front_marked(bitmap: &Block, last: u32) -> bool
 pub fn has_marks<D: Device>(device: &mut D, layout: &Layout) -> Result<bool, Fault>
     requires layout { IsLayout (D.contents device.old) layout.now }
     requires numbers { HasGoodNumbers (D.contents device.old) }
-    ensures marked { IfOk result (λ marked. MatchBool marked (HasMarks (D.contents device.old)) (¬ HasMarks (D.contents device.old))) }
+    ensures marked { IfOk result (λ marked. IsTrue marked ↔ HasMarks (D.contents device.old)) }
     ensures contents { D.contents device.new ≡ D.contents device.old }
     ensures faults { D.failures device.new ≡ faults_after result (D.failures device.old) }
 {

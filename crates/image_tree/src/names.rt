@@ -1,6 +1,5 @@
 //! That no name stands twice in a directory.
-ghost use Rattle.std.specs.Prelude.{◌≡◌, ◌+◌, ◌*◌, ◌<◌, ◌≤◌, ◌++◌, ℕ, List, length, map, IfOk, OnOk};
-ghost use Rattle.std.specs.Bool.{MatchBool};
+ghost use Rattle.std.specs.Prelude.{◌≡◌, ◌+◌, ◌*◌, ◌<◌, ◌≤◌, ◌++◌, ◌↔◌, ℕ, List, length, map, IfOk, OnOk, IsTrue};
 ghost use Rattle.std.specs.List.{All};
 ghost use Rattle.std.specs.List.Sorted.{IsStrictlyIncreasing};
 ghost use Rattle.image_tree.specs.Links.{slot_name, slot_names};
@@ -57,7 +56,7 @@ fn name_keys(alloc: Global, slots: &[Option<Dirent>]) -> Result<Vec<u128>, Alloc
 }
 
 fn are_increasing(keys: &[u128]) -> bool
-    ensures { MatchBool result (IsStrictlyIncreasing keys.now) (¬ IsStrictlyIncreasing keys.now) }
+    ensures { IsTrue result ↔ IsStrictlyIncreasing keys.now }
 {
     for k in 1..keys.len() {
         if keys[k - 1] >= keys[k] {
@@ -68,7 +67,7 @@ fn are_increasing(keys: &[u128]) -> bool
 }
 
 fn are_distinct(mut keys: Vec<u128>) -> bool
-    ensures { MatchBool result (IsOnce keys.items) (¬ IsOnce keys.items) }
+    ensures { IsTrue result ↔ IsOnce keys.items }
 {
     keys.sort_unstable();
     are_increasing(keys.as_slice())
@@ -76,7 +75,7 @@ fn are_distinct(mut keys: Vec<u128>) -> bool
 
 /// Whether no name stands in two of the slots.
 pub fn are_names_once(alloc: Global, slots: &[Option<Dirent>]) -> Result<bool, AllocError>
-    ensures { IfOk result (λ once. MatchBool once (IsOnce (slot_names slots.now)) (¬ IsOnce (slot_names slots.now))) }
+    ensures { IfOk result (λ once. IsTrue once ↔ IsOnce (slot_names slots.now)) }
 {
     let keys = name_keys(alloc, slots)?;
     Ok(are_distinct(keys))

@@ -1,6 +1,5 @@
 //! The block numbers that inodes name.
-ghost use Rattle.std.specs.Prelude.{◌≡◌, ◌≢◌, ◌<◌, ◌≤◌, ◌++◌, ◌+◌, ◌∷◌, [], ℕ, Bool, List, length, filter, slice_index, IfOk, IfErr, All};
-ghost use Rattle.std.specs.Bool.{MatchBool};
+ghost use Rattle.std.specs.Prelude.{◌≡◌, ◌≢◌, ◌<◌, ◌≤◌, ◌++◌, ◌+◌, ◌∷◌, ◌↔◌, [], ℕ, Bool, List, length, filter, slice_index, IfOk, IfErr, All, IsTrue};
 ghost use Rattle.block_device.specs.Blocks.{faults_after};
 ghost use Rattle.image_tree.specs.Checks.{IsData, HasGoodNumbers, NamesOnce};
 ghost use Rattle.image_tree.specs.Inodes.{numbers_of, numbers_by, is_block};
@@ -21,14 +20,13 @@ use fs_layout::{Dinode, Super, read_numbers};
 use std::alloc::Global;
 
 fn is_good(sizes: &Super, b: u32) -> bool
-    ensures { MatchBool result (b ≢ 0 → IsData sizes.now b) (¬ (b ≢ 0 → IsData sizes.now b)) }
+    ensures { IsTrue result ↔ (b ≢ 0 → IsData sizes.now b) }
 {
     b == 0 || (sizes.bmapstart < b && b < sizes.size)
 }
 
 fn are_good(sizes: &Super, numbers: &[u32]) -> bool
-    ensures { MatchBool result (All (λ b. b ≢ 0 → IsData sizes.now b) numbers.now)
-        (¬ All (λ b. b ≢ 0 → IsData sizes.now b) numbers.now) }
+    ensures { IsTrue result ↔ All (λ b. b ≢ 0 → IsData sizes.now b) numbers.now }
 {
     for i in 0..numbers.len() {
         if !is_good(sizes, numbers[i]) {
@@ -73,9 +71,8 @@ fn append(numbers: &mut ArrayVec<u32, NUMBERS>, more: &[u32])
 fn has_good<D: Device>(device: &mut D, layout: &Layout, i: u32) -> Result<bool, Fault>
     requires layout { IsLayout (D.contents device.old) layout.now }
     requires bound { i < layout.now.sizes.ninodes }
-    ensures good { IfOk result (λ good. MatchBool good
-        (All (λ b. b ≢ 0 → IsData (sizes_of (D.contents device.old)) b) (numbers_by (D.contents device.old) i))
-        (¬ All (λ b. b ≢ 0 → IsData (sizes_of (D.contents device.old)) b) (numbers_by (D.contents device.old) i))) }
+    ensures good { IfOk result (λ good. IsTrue good
+        ↔ All (λ b. b ≢ 0 → IsData (sizes_of (D.contents device.old)) b) (numbers_by (D.contents device.old) i)) }
     ensures contents { D.contents device.new ≡ D.contents device.old }
     ensures faults { D.failures device.new ≡ faults_after result (D.failures device.old) }
 {
@@ -93,7 +90,7 @@ fn has_good<D: Device>(device: &mut D, layout: &Layout, i: u32) -> Result<bool, 
 /// Whether each number that an inode names is a data block's.
 pub fn has_good_numbers<D: Device>(device: &mut D, layout: &Layout) -> Result<bool, Fault>
     requires layout { IsLayout (D.contents device.old) layout.now }
-    ensures good { IfOk result (λ good. MatchBool good (HasGoodNumbers (D.contents device.old)) (¬ HasGoodNumbers (D.contents device.old))) }
+    ensures good { IfOk result (λ good. IsTrue good ↔ HasGoodNumbers (D.contents device.old)) }
     ensures contents { D.contents device.new ≡ D.contents device.old }
     ensures faults { D.failures device.new ≡ faults_after result (D.failures device.old) }
 {

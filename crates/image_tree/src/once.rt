@@ -1,6 +1,5 @@
 //! That no block number is named twice.
-ghost use Rattle.std.specs.Prelude.{◌≡◌, ◌<◌, ◌++◌, ◌∷◌, [], ℕ, Bool, List, length, filter, IfOk, IfErr, All};
-ghost use Rattle.std.specs.Bool.{MatchBool};
+ghost use Rattle.std.specs.Prelude.{◌≡◌, ◌<◌, ◌++◌, ◌∷◌, ◌↔◌, [], ℕ, Bool, List, length, filter, IfOk, IfErr, All, IsTrue};
 ghost use Rattle.block_device.specs.Blocks.{faults_after};
 ghost use Rattle.image_tree.specs.Inodes.{is_block};
 ghost use Rattle.image_tree.specs.Checks.{HasGoodNumbers, NamesOnce};
@@ -19,9 +18,10 @@ use std::alloc::Global;
 fn mark_all(seen: &mut [bool], numbers: &[u32]) -> bool
     requires length { length seen.old ≡ 8192 }
     requires small { All (λ b. b < 8192) numbers.now }
-    ensures { (xs : List ℕ) → Marks seen.old xs → IsOnce xs → MatchBool result
-        (Marks seen.new (xs ++ filter is_block numbers.now) × IsOnce (xs ++ filter is_block numbers.now))
-        (¬ IsOnce (xs ++ filter is_block numbers.now)) }
+    ensures once { (xs : List ℕ) → Marks seen.old xs → IsOnce xs
+        → IsTrue result ↔ IsOnce (xs ++ filter is_block numbers.now) }
+    ensures marks { (xs : List ℕ) → Marks seen.old xs → IsOnce xs
+        → IsTrue result → Marks seen.new (xs ++ filter is_block numbers.now) }
 {
     for i in 0..numbers.len() {
         if !mark(seen, numbers[i]) {
@@ -35,9 +35,10 @@ fn mark_all(seen: &mut [bool], numbers: &[u32]) -> bool
 fn mark(seen: &mut [bool], b: u32) -> bool
     requires length { length seen.old ≡ 8192 }
     requires small { b < 8192 }
-    ensures { (xs : List ℕ) → Marks seen.old xs → IsOnce xs → MatchBool result
-        (Marks seen.new (xs ++ filter is_block (b ∷ [])) × IsOnce (xs ++ filter is_block (b ∷ [])))
-        (¬ IsOnce (xs ++ filter is_block (b ∷ []))) }
+    ensures once { (xs : List ℕ) → Marks seen.old xs → IsOnce xs
+        → IsTrue result ↔ IsOnce (xs ++ filter is_block (b ∷ [])) }
+    ensures marks { (xs : List ℕ) → Marks seen.old xs → IsOnce xs
+        → IsTrue result → Marks seen.new (xs ++ filter is_block (b ∷ [])) }
 {
     if b == 0 {
         return true;
@@ -57,7 +58,7 @@ pub fn names_once<D: Device>(
 ) -> Result<bool, MountFault>
     requires layout { IsLayout (D.contents device.old) layout.now }
     requires numbers { HasGoodNumbers (D.contents device.old) }
-    ensures once { IfOk result (λ once. MatchBool once (NamesOnce (D.contents device.old)) (¬ NamesOnce (D.contents device.old))) }
+    ensures once { IfOk result (λ once. IsTrue once ↔ NamesOnce (D.contents device.old)) }
     ensures err { IfErr result (JudgesFault (D.contents device.old)) }
     ensures contents { D.contents device.new ≡ D.contents device.old }
     ensures faults { D.failures device.new ≡ faults_with result (D.failures device.old) }
@@ -76,7 +77,7 @@ fn has_no_repeat<D: Device>(
     requires numbers { HasGoodNumbers (D.contents device.old) }
     requires length { length seen.old ≡ 8192 }
     requires blank { Marks seen.old [] }
-    ensures once { IfOk result (λ once. MatchBool once (NamesOnce (D.contents device.old)) (¬ NamesOnce (D.contents device.old))) }
+    ensures once { IfOk result (λ once. IsTrue once ↔ NamesOnce (D.contents device.old)) }
     ensures contents { D.contents device.new ≡ D.contents device.old }
     ensures faults { D.failures device.new ≡ faults_after result (D.failures device.old) }
 {

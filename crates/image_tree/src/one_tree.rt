@@ -1,6 +1,5 @@
 //! That the live directories are one tree.
-ghost use Rattle.std.specs.Prelude.{◌≡◌, ◌≢◌, ◌+◌, ◌<◌, ◌≤◌, ℕ, List, length, map, slice_index, IfOk};
-ghost use Rattle.std.specs.Bool.{MatchBool};
+ghost use Rattle.std.specs.Prelude.{◌≡◌, ◌≢◌, ◌+◌, ◌<◌, ◌≤◌, ◌↔◌, ℕ, List, length, map, slice_index, IfOk, IsTrue};
 ghost use Rattle.image_tree.specs.Links.{Reaches};
 ghost use Rattle.image_tree.specs.Checks.{HasGoodSlots, IsOneTree};
 ghost use Rattle.image_tree.specs.Marks.{IsLinks};
@@ -20,9 +19,8 @@ const DOUBLINGS: u32 = 16;
 fn are_named(ups: &[u16], further: &[u16], proper: &[u16]) -> bool
     requires further { length further.now ≡ length ups.now }
     requires proper { length proper.now ≡ length ups.now }
-    ensures { MatchBool result
-        ((i : ℕ) → 2 ≤ i → i < length ups.now → slice_index ups.now i ≢ 0 → (slice_index further.now i ≡ 1) × (slice_index proper.now i ≡ 1))
-        (¬ ((i : ℕ) → 2 ≤ i → i < length ups.now → slice_index ups.now i ≢ 0 → (slice_index further.now i ≡ 1) × (slice_index proper.now i ≡ 1))) }
+    ensures { IsTrue result
+        ↔ ((i : ℕ) → 2 ≤ i → i < length ups.now → slice_index ups.now i ≢ 0 → (slice_index further.now i ≡ 1) × (slice_index proper.now i ≡ 1)) }
 {
     for i in 2..ups.len() {
         if ups[i] != 0 && (further[i] != 1 || proper[i] != 1) {
@@ -41,8 +39,8 @@ fn doubled(alloc: Global, jumps: &[u16]) -> Result<Vec<u16>, AllocError>
 
 fn end_at_root(ups: &[u16], jumps: &[u16]) -> bool
     requires { length jumps.now ≡ length ups.now }
-    ensures { MatchBool result ((i : ℕ) → i < length ups.now → slice_index ups.now i ≢ 0 → slice_index jumps.now i ≡ 1)
-        (¬ ((i : ℕ) → i < length ups.now → slice_index ups.now i ≢ 0 → slice_index jumps.now i ≡ 1)) }
+    ensures { IsTrue result
+        ↔ ((i : ℕ) → i < length ups.now → slice_index ups.now i ≢ 0 → slice_index jumps.now i ≡ 1) }
 {
     for i in 0..ups.len() {
         if ups[i] != 0 && jumps[i] != ROOT {
@@ -57,9 +55,8 @@ fn reach_root(alloc: Global, ups: &[u16]) -> Result<bool, AllocError>
     requires none { slice_index ups.now 0 ≡ 0 }
     requires root { slice_index ups.now 1 ≡ 1 }
     requires size { length ups.now ≤ 65536 }
-    ensures { IfOk result (λ reach. MatchBool reach
-        ((i : ℕ) → slice_index ups.now i ≢ 0 → Reaches (λ n. slice_index ups.now n) i)
-        (¬ ((i : ℕ) → slice_index ups.now i ≢ 0 → Reaches (λ n. slice_index ups.now n) i))) }
+    ensures { IfOk result (λ reach. IsTrue reach
+        ↔ ((i : ℕ) → slice_index ups.now i ≢ 0 → Reaches (λ n. slice_index ups.now n) i)) }
 {
     let mut jumps = doubled(alloc, ups)?;
     for _doubling in 1..DOUBLINGS {
@@ -73,7 +70,7 @@ pub fn is_one_tree(alloc: Global, links: &Links) -> Result<bool, AllocError>
     requires links { (disk : List (List ℕ)) × IsLinks disk links.now }
     requires size { length links.now.ups.items ≤ 65536 }
     ensures { IfOk result (λ one. (disk : List (List ℕ)) → IsLinks disk links.now → HasGoodSlots disk
-        → MatchBool one (IsOneTree disk) (¬ IsOneTree disk)) }
+        → IsTrue one ↔ IsOneTree disk) }
 {
     let ups = links.ups.as_slice();
     let further = links.further.as_slice();

@@ -1,7 +1,7 @@
 //! Recovery: what the log holds goes home.
 ghost use Rattle.std.specs.Prelude.{◌≡◌, ◌≢◌, ◌⊎◌, ◌<◌, ℕ, [], length, replicate, slice_set, Err, OnOk, OnErr, IfOk};
-ghost use Rattle.block_device.specs.Blocks.{faults_after};
-ghost use Rattle.fs_layout.specs.Recovered.{block_at, logged, recovered, sizes_of, IsOutsideLog, SameRecovered};
+ghost use Rattle.block_device.specs.Blocks.{faults_after, block_at};
+ghost use Rattle.fs_layout.specs.Recovered.{logged, recovered, sizes_of, IsOutsideLog, SameRecovered};
 ghost use Rattle.image_tree.specs.Damage.{JudgesWith, UpToLog, IsWellFormed, faults_with};
 ghost use Rattle.image_tree.specs.Trees.{tree_in};
 ghost use Rattle.image_tree.specs.Layout.{IsLayout};
@@ -11,7 +11,7 @@ ghost use Rattle.image_tree.specs.Views.{ChecksSeeRecovered, TreesSeeRecovered};
 use crate::disk::Layout;
 use crate::fault::MountFault;
 use crate::heads::find_layout;
-use block_device::{BLOCK_SIZE, Device, Fault};
+use block_device::{BLOCK_LEN, Device, Fault};
 
 /// Copies the logged blocks home, and then clears the log's head (the xv6 book, chapter "File system", "Logging
 /// layer"). Where nothing is logged it writes nothing. It takes no memory.
@@ -79,22 +79,22 @@ fn copy<D: Device>(device: &mut D, from: u32, to: u32) -> Result<(), Fault>
     device.write(to, &block)
 }
 
-fn read<D: Device>(device: &mut D, b: u32) -> Result<[u8; BLOCK_SIZE], Fault>
+fn read<D: Device>(device: &mut D, b: u32) -> Result<[u8; BLOCK_LEN], Fault>
     requires { b < length (D.contents device.old) }
     ensures read { IfOk result (λ block. block ≡ block_at (D.contents device.old) b) }
     ensures contents { D.contents device.new ≡ D.contents device.old }
     ensures faults { D.failures device.new ≡ faults_after result (D.failures device.old) }
 {
-    let mut block = [0; BLOCK_SIZE];
+    let mut block = [0; BLOCK_LEN];
     device.read(b, &mut block)?;
     Ok(block)
 }
 
 // A head that names no block.
-fn zeros() -> [u8; BLOCK_SIZE]
-    ensures { result ≡ replicate BLOCK_SIZE 0 }
+fn zeros() -> [u8; BLOCK_LEN]
+    ensures { result ≡ replicate BLOCK_LEN 0 }
 {
-    [0; BLOCK_SIZE]
+    [0; BLOCK_LEN]
 }
 
 /// Checks and trees see a disk's recovered blocks outside the log alone. The function does nothing: it carries the law.

@@ -1,6 +1,5 @@
 //! That nodes have sizes that their blocks can hold.
-ghost use Rattle.std.specs.Prelude.{◌≡◌, ◌≢◌, ◌+◌, ◌*◌, ◌<◌, ◌≤◌, ◌^◌, ℕ, Bool, true, length, IfOk};
-ghost use Rattle.std.specs.Bool.{MatchBool};
+ghost use Rattle.std.specs.Prelude.{◌≡◌, ◌≢◌, ◌+◌, ◌*◌, ◌<◌, ◌≤◌, ◌^◌, ◌↔◌, ℕ, Bool, true, length, IfOk, IsTrue};
 ghost use Rattle.block_device.specs.Blocks.{faults_after};
 ghost use Rattle.image_tree.specs.Checks.{HasGoodNumbers, HasGoodSizes, IsFittingSize, IsGoodSize};
 ghost use Rattle.image_tree.specs.Inodes.{block_number, inode_of, is_node};
@@ -30,8 +29,7 @@ pub fn block_number(numbers: &[u32], k: usize) -> u32
 /// Whether each block inside the size is there.
 fn has_blocks(numbers: &[u32], size: u32) -> bool
     requires { size ≤ LARGEST_SIZE }
-    ensures { MatchBool result ((k : ℕ) → 1024 * k < size → block_number numbers.now k ≢ 0)
-        (¬ ((k : ℕ) → 1024 * k < size → block_number numbers.now k ≢ 0)) }
+    ensures { IsTrue result ↔ ((k : ℕ) → 1024 * k < size → block_number numbers.now k ≢ 0) }
 {
     for k in 0..(size as usize).div_ceil(BLOCK_LEN) {
         if block_number(numbers, k) == 0 {
@@ -43,7 +41,7 @@ fn has_blocks(numbers: &[u32], size: u32) -> bool
 
 /// Whether the size is one that a node of this inode's kind can have.
 fn is_fitting(inode: &Dinode) -> bool
-    ensures { MatchBool result (IsFittingSize inode.now) (¬ IsFittingSize inode.now) }
+    ensures { IsTrue result ↔ IsFittingSize inode.now }
 {
     let size = inode.size as usize;
     inode.size <= LARGEST_SIZE
@@ -55,9 +53,8 @@ fn has_good_size<D: Device>(device: &mut D, layout: &Layout, i: u32) -> Result<b
     requires low { 1 ≤ i }
     requires bound { i < layout.now.sizes.ninodes }
     requires numbers { HasGoodNumbers (D.contents device.old) }
-    ensures good { IfOk result (λ good. MatchBool good
-        (is_node (D.contents device.old) i ≡ true → IsGoodSize (D.contents device.old) (inode_of (D.contents device.old) i))
-        (¬ (is_node (D.contents device.old) i ≡ true → IsGoodSize (D.contents device.old) (inode_of (D.contents device.old) i)))) }
+    ensures good { IfOk result (λ good. IsTrue good
+        ↔ (is_node (D.contents device.old) i ≡ true → IsGoodSize (D.contents device.old) (inode_of (D.contents device.old) i))) }
     ensures contents { D.contents device.new ≡ D.contents device.old }
     ensures faults { D.failures device.new ≡ faults_after result (D.failures device.old) }
 {
@@ -76,7 +73,7 @@ fn has_good_size<D: Device>(device: &mut D, layout: &Layout, i: u32) -> Result<b
 pub fn has_good_sizes<D: Device>(device: &mut D, layout: &Layout) -> Result<bool, Fault>
     requires layout { IsLayout (D.contents device.old) layout.now }
     requires numbers { HasGoodNumbers (D.contents device.old) }
-    ensures good { IfOk result (λ good. MatchBool good (HasGoodSizes (D.contents device.old)) (¬ HasGoodSizes (D.contents device.old))) }
+    ensures good { IfOk result (λ good. IsTrue good ↔ HasGoodSizes (D.contents device.old)) }
     ensures contents { D.contents device.new ≡ D.contents device.old }
     ensures faults { D.failures device.new ≡ faults_after result (D.failures device.old) }
 {

@@ -1,6 +1,5 @@
 //! The types of inodes, and the root.
 ghost use Rattle.std.specs.Prelude.{◌≡◌, ◌↔◌, ◌<◌, IsTrue, IfOk};
-ghost use Rattle.std.specs.Bool.{MatchBool};
 ghost use Rattle.block_device.specs.Blocks.{faults_after};
 ghost use Rattle.image_tree.specs.Checks.{IsGoodType, HasGoodTypes, HasRoot};
 ghost use Rattle.image_tree.specs.Layout.{IsLayout};
@@ -11,7 +10,7 @@ use block_device::{Device, Fault};
 use fs_layout::Dinode;
 
 fn has_good_type(inode: &Dinode) -> bool
-    ensures { MatchBool result (IsGoodType inode.now) (¬ IsGoodType inode.now) }
+    ensures { IsTrue result ↔ IsGoodType inode.now }
 {
     KIND_FREE <= inode.kind
         && inode.kind <= KIND_DEVICE
@@ -21,7 +20,7 @@ fn has_good_type(inode: &Dinode) -> bool
 /// Whether each inode's type is one, and no node's count is negative.
 pub fn has_good_types<D: Device>(device: &mut D, layout: &Layout) -> Result<bool, Fault>
     requires layout { IsLayout (D.contents device.old) layout.now }
-    ensures good { IfOk result (λ good. MatchBool good (HasGoodTypes (D.contents device.old)) (¬ HasGoodTypes (D.contents device.old))) }
+    ensures good { IfOk result (λ good. IsTrue good ↔ HasGoodTypes (D.contents device.old)) }
     ensures contents { D.contents device.new ≡ D.contents device.old }
     ensures faults { D.failures device.new ≡ faults_after result (D.failures device.old) }
 {
@@ -37,7 +36,7 @@ pub fn has_good_types<D: Device>(device: &mut D, layout: &Layout) -> Result<bool
 /// Whether inode 1 is a live directory.
 pub fn has_root<D: Device>(device: &mut D, layout: &Layout) -> Result<bool, Fault>
     requires layout { IsLayout (D.contents device.old) layout.now }
-    ensures good { IfOk result (λ good. MatchBool good (HasRoot (D.contents device.old)) (¬ HasRoot (D.contents device.old))) }
+    ensures good { IfOk result (λ good. IsTrue good ↔ HasRoot (D.contents device.old)) }
     ensures contents { D.contents device.new ≡ D.contents device.old }
     ensures faults { D.failures device.new ≡ faults_after result (D.failures device.old) }
 {

@@ -3,12 +3,13 @@ use Rattle.fs_layout.specs.Recovered.{sizes_of}
 use Rattle.image_tree.specs.Lists.{gathered}
 use Rattle.image_tree.specs.Inodes.{last}
 use Rattle.image_tree.specs.Links.{named_in, further_in, parent_of, names_of, further_names_of, children_of}
+use Rattle.image_tree.proofs.Told.{held}
 use Rattle.image_tree.proofs.CountLemmas.{free_count, table_at, count_told}
 use Rattle.image_tree.proofs.counts.has_good_count.Goals as goal
 
 pub returns-then-is_free-clause-good : goal.returns-then-is_free-clause-good
 returns-then-is_free-clause-good g c =
-    free_count (g.D.Device.contents c.args.device.now) c.args.i c.in_ok-inode.inode c.in_ok-inode.ensures.inode (sym c.is_free.ensures ∙ c.if-is_free.true)
+    held _ (free_count (g.D.Device.contents c.args.device.now) c.args.i c.in_ok-inode.inode c.in_ok-inode.ensures.inode (sym c.is_free.ensures ∙ c.if-is_free.true))
 
 pub returns-clause-good : goal.returns-clause-good
 returns-clause-good g c =

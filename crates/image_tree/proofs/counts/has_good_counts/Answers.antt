@@ -1,5 +1,5 @@
 use Rattle.std.proofs.Common.{◌∙◌, subst, ℕ, ◌<◌, List, arith}
-use Rattle.std.proofs.lemmas.Bool.{MatchBool-at_true}
+use Rattle.image_tree.proofs.Told.{held}
 use Rattle.image_tree.proofs.Nodes.{node_is, one_more}
 use Rattle.image_tree.proofs.CountLemmas.{GoodCount}
 use Rattle.image_tree.proofs.counts.has_good_counts.Goals as goal
@@ -7,7 +7,7 @@ use Rattle.image_tree.proofs.counts.has_good_counts.Goals as goal
 pub loop-i-preserved : goal.loop-i-preserved
 loop-i-preserved g c =
     let disk : List (List ℕ) = g.D.Device.contents c.args.device.now in
-    let here : GoodCount (g.D.Device.contents c.loop-i.device) c.loop-i.i = MatchBool-at_true _ _ c.if-not-good.false c.in_ok-good.ensures.good in (
+    let here : GoodCount (g.D.Device.contents c.loop-i.device) c.loop-i.i = c.in_ok-good.ensures.good.0 c.if-not-good.false in (
       c.in_ok-good.ensures.contents ∙ c.loop-i.invariant.0,
       c.in_ok-good.ensures.faults ∙ c.loop-i.invariant.1,
       one_more (GoodCount disk) c.loop-i.i c.loop-i.invariant.2 (subst (λ (d : List (List ℕ)). GoodCount d c.loop-i.i) c.loop-i.invariant.0 here),
@@ -15,7 +15,7 @@ loop-i-preserved g c =
 
 pub returns-clause-good : goal.returns-clause-good
 returns-clause-good g c =
-    λ i node.
+    held _ (λ i node.
     let is = node_is (g.D.Device.contents c.args.device.now) i node in
     let bound : i < c.args.layout.now.sizes.ninodes = rw c.requires.layout.sizes is.bound in
-    c.loop-i.invariant.2 i is.low (omega arith) node
+    c.loop-i.invariant.2 i is.low (omega arith) node)

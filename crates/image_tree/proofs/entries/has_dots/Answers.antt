@@ -1,5 +1,6 @@
+use Rattle.image_tree.proofs.Told.{refuted}
 use Rattle.image_tree.proofs.EntryLemmas.{few_slots}
 use Rattle.image_tree.proofs.entries.has_dots.Goals as goal
 
 pub returns-then-slots-lt2 : goal.returns-then-slots-lt2
-returns-then-slots-lt2 c = λ h. few_slots c.args.slots.now c.if-slots-lt2.true h.1
+returns-then-slots-lt2 c = refuted _ (λ h. few_slots c.args.slots.now c.if-slots-lt2.true h.1)

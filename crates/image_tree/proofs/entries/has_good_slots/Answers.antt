@@ -1,5 +1,5 @@
 use Rattle.std.proofs.Common.{◌≡◌, ◌∙◌, subst, ℕ, ◌<◌, List, true, arith}
-use Rattle.std.proofs.lemmas.Bool.{MatchBool-at_true}
+use Rattle.image_tree.proofs.Told.{held}
 use Rattle.image_tree.specs.Inodes.{is_node, is_live_directory}
 use Rattle.image_tree.specs.Links.{slots_in}
 use Rattle.image_tree.specs.Checks.{AreGoodSlots}
@@ -10,7 +10,7 @@ pub loop-i-preserved : goal.loop-i-preserved
 loop-i-preserved g c =
     let disk : List (List ℕ) = g.D.Device.contents c.args.device.now in
     let Good = λ (d : List (List ℕ)) (k : ℕ). is_live_directory d k ≡ true → AreGoodSlots (is_node d) k (slots_in d k) in
-    let here : Good (g.D.Device.contents c.loop-i.device) c.loop-i.i = MatchBool-at_true _ _ c.if-not-good.false c.in_ok-good.ensures.good in (
+    let here : Good (g.D.Device.contents c.loop-i.device) c.loop-i.i = c.in_ok-good.ensures.good.0 c.if-not-good.false in (
       c.in_ok-good.ensures.contents ∙ c.loop-i.invariant.0,
       c.in_ok-good.ensures.faults ∙ c.loop-i.invariant.1,
       one_more (Good disk) c.loop-i.i c.loop-i.invariant.2 (subst (λ (d : List (List ℕ)). Good d c.loop-i.i) c.loop-i.invariant.0 here),
@@ -18,7 +18,7 @@ loop-i-preserved g c =
 
 pub returns-clause-good : goal.returns-clause-good
 returns-clause-good g c =
-    λ i live.
+    held _ (λ i live.
     let is = directory_is (g.D.Device.contents c.args.device.now) i live in
     let bound : i < c.args.layout.now.sizes.ninodes = rw c.requires.layout.sizes is.bound in
-    c.loop-i.invariant.2 i is.low (omega arith) live
+    c.loop-i.invariant.2 i is.low (omega arith) live)

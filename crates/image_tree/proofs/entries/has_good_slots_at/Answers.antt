@@ -1,13 +1,14 @@
 use Rattle.std.proofs.Common.{◌∙◌, sym, ap, ℕ, List}
 use Rattle.image_tree.specs.Links.{slots_in}
+use Rattle.image_tree.proofs.Told.{held}
 use Rattle.image_tree.proofs.EntryLemmas.{no_directory, slots_told}
 use Rattle.image_tree.proofs.entries.has_good_slots_at.Goals as goal
 
 pub returns-then-not-is_live_directory-clause-good : goal.returns-then-not-is_live_directory-clause-good
 returns-then-not-is_live_directory-clause-good g c =
-    λ t.
+    held _ (λ t.
     absurd (no_directory (g.D.Device.contents c.args.device.now) c.args.i c.in_ok-inode.inode c.in_ok-inode.ensures.inode
-    (sym c.is_live_directory.ensures ∙ c.if-not-is_live_directory.true) t)
+    (sym c.is_live_directory.ensures ∙ c.if-not-is_live_directory.true) t))
 
 pub returns-clause-good : goal.returns-clause-good
 returns-clause-good g c =

@@ -1,14 +1,16 @@
 use Rattle.std.proofs.Common.{◌≡◌, true, false, get_or, arith}
 use Rattle.std.proofs.lemmas.List.{take_all}
+use Rattle.std.proofs.lemmas.Bool.{iff_false}
 use Rattle.image_tree.specs.Links.{slot_number}
+use Rattle.image_tree.proofs.Told.{held, refuted}
 use Rattle.image_tree.proofs.SlotNumbers.{All-at}
 use Rattle.image_tree.proofs.entries.name_nodes.Goals as goal
 
 pub returns-then-not-names_node : goal.returns-then-not-names_node
 returns-then-not-names_node c =
-    λ all.
-    c.if-not-names_node.ensures
-    (All-at (λ n. get_or c.args.nodes.now n false ≡ true) slot_number c.args.slots.now c.loop-s.s c.index-slots-s.result (omega arith) c.index-slots-s.is all)
+    refuted _ (λ all.
+    iff_false c.names_node.ensures c.if-not-names_node.true
+    (All-at (λ n. get_or c.args.nodes.now n false ≡ true) slot_number c.args.slots.now c.loop-s.s c.index-slots-s.result (omega arith) c.index-slots-s.is all))
 
 pub returns : goal.returns
-returns c = let whole = take_all c.loop-s.s c.args.slots.now (omega arith) in rw whole at c.loop-s.invariant
+returns c = let whole = take_all c.loop-s.s c.args.slots.now (omega arith) in held _ (rw whole at c.loop-s.invariant)

@@ -1,5 +1,7 @@
 use Rattle.std.proofs.Common.{◌≡◌, ◌∙◌, ◌≤◌, ◌<◌, sym, ap, ℕ, List, subst, arith, length, refl}
-use Rattle.fs_layout.specs.Recovered.{sizes_of, block_at, log_count}
+use Rattle.std.proofs.lemmas.Bool.{iff_false, both_ways}
+use Rattle.block_device.specs.Blocks.{block_at}
+use Rattle.fs_layout.specs.Recovered.{sizes_of, log_count}
 use Rattle.image_tree.specs.Lists.{IsOnce}
 use Rattle.image_tree.proofs.SuperAndLog.{head_is, no_head}
 use Rattle.image_tree.proofs.Layouts.{length-logged}
@@ -28,14 +30,14 @@ returns-then-not-are_between-clause-judges g c =
     let disk : List (List ℕ) = g.D.Device.contents c.args.device.now in
     let at : c.read.new.to ≡ block_at disk (sizes_of disk).logstart = rw (← c.requires.sizes) c.in_ok-read.ensures.read in
     let is = head_is disk c.read.new.to c.in-Some.head at (sym c.read_log_head.ensures ∙ c.in-Some.is) in
-    (c.requires.passed, λ h. c.if-not-are_between.ensures (rw (c.requires.sizes, c.as_slice-blocks.ensures.value, is.1) h.within))
+    (c.requires.passed, λ h. iff_false c.are_between.ensures c.if-not-are_between.true (rw (c.requires.sizes, c.as_slice-blocks.ensures.value, is.1) h.within))
 
 pub returns-then-has_repeat-clause-judges : goal.returns-then-has_repeat-clause-judges
 returns-then-has_repeat-clause-judges g c =
     let disk : List (List ℕ) = g.D.Device.contents c.args.device.now in
     let at : c.read.new.to ≡ block_at disk (sizes_of disk).logstart = rw (← c.requires.sizes) c.in_ok-read.ensures.read in
     let is = head_is disk c.read.new.to c.in-Some.head at (sym c.read_log_head.ensures ∙ c.in-Some.is) in
-    (c.requires.passed, λ h. c.if-has_repeat.ensures (subst IsOnce (sym (c.as_slice-blocks.ensures.value ∙ is.1)) h.once))
+    (c.requires.passed, λ h. both_ways _ (c.has_repeat.ensures.1 (subst IsOnce (sym (c.as_slice-blocks.ensures.value ∙ is.1)) h.once)) c.if-has_repeat.true)
 
 pub returns-clause-judges : goal.returns-clause-judges
 returns-clause-judges g c =
@@ -51,7 +53,7 @@ returns-clause-judges g c =
       record {
         count = omega arith;
         room = is.0;
-        within = rw (← c.requires.sizes, ← all) c.if-not-are_between.ensures;
-        once = subst IsOnce all c.if-has_repeat.ensures;
+        within = rw (← c.requires.sizes, ← all) (c.are_between.ensures.0 c.if-not-are_between.false);
+        once = subst IsOnce all (c.has_repeat.ensures.0 c.if-has_repeat.false);
       },
     )

@@ -2,17 +2,18 @@ use Rattle.std.proofs.Common.{◌≡◌, ◌<◌, length, sym, ◌∙◌, ℕ, s
 use Rattle.std.proofs.lemmas.List.{get_or-take, take_more, length-take-le}
 use Rattle.std.proofs.lemmas.Bool.{eqb-true, eqb-false}
 use Rattle.image_tree.specs.Lists.{IsOnce}
+use Rattle.image_tree.proofs.Told.{caught}
 use Rattle.image_tree.proofs.MarkLemmas.{push_once}
 use Rattle.image_tree.proofs.heads.has_repeat.Goals as goal
 
 pub returns-then-contains : goal.returns-then-contains
 returns-then-contains c =
-    λ once.
+    caught _ (λ once.
     let a = c.if-contains.ensures.cases in
     let short : length (take c.loop-i.i c.args.numbers.now) ≡ c.loop-i.i = length-take-le c.loop-i.i c.args.numbers.now (omega arith) in
     let within = a.1 in
     let before : a.0 < c.loop-i.i = omega arith in
-    once.apart a.0 c.loop-i.i 0 before c.loop-i-test.true (sym (get_or-take c.loop-i.i c.args.numbers.now a.0 0 before) ∙ eqb-true _ _ (a.2 0))
+    once.apart a.0 c.loop-i.i 0 before c.loop-i-test.true (sym (get_or-take c.loop-i.i c.args.numbers.now a.0 0 before) ∙ eqb-true _ _ (a.2 0)))
 
 pub loop-i-preserved : goal.loop-i-preserved
 loop-i-preserved c =

@@ -2,6 +2,8 @@ use Rattle.std.proofs.Common.{◌≢◌, sym, subst, ℕ, List, ◌∙◌}
 use Rattle.std.specs.List.{All}
 use Rattle.image_tree.specs.Checks.{IsData}
 use Rattle.fs_layout.specs.Recovered.{sizes_of}
+use Rattle.std.proofs.lemmas.Bool.{iff_false}
+use Rattle.image_tree.proofs.Told.{held, refuted}
 use Rattle.image_tree.proofs.NumberLists.{numbers_by_free, numbers_by_used, All-addrs, All-nil}
 use Rattle.image_tree.proofs.numbers.has_good.Goals as goal
 
@@ -9,16 +11,16 @@ pub returns-then-is_free-clause-good : goal.returns-then-is_free-clause-good
 returns-then-is_free-clause-good g c =
     let disk : List (List ℕ) = g.D.Device.contents c.args.device.now in
     let e = numbers_by_free disk c.args.i c.in_ok-inode.inode c.in_ok-inode.ensures.inode (sym c.is_free.ensures ∙ c.if-is_free.true) in
-    subst (All (λ b. b ≢ 0 → IsData (sizes_of disk) b)) (sym e) (All-nil _)
+    held _ (subst (All (λ b. b ≢ 0 → IsData (sizes_of disk) b)) (sym e) (All-nil _))
 
 pub returns-then-not-are_good-clause-good : goal.returns-then-not-are_good-clause-good
 returns-then-not-are_good-clause-good g c =
-    λ h.
+    refuted _ (λ h.
     let disk : List (List ℕ) = g.D.Device.contents c.args.device.now in
     let e = numbers_by_used disk c.args.i c.in_ok-inode.inode c.in_ok-inode.ensures.inode (sym c.is_free.ensures ∙ c.if-is_free.false) in
     let P : ℕ → Type 0 = λ b. b ≢ 0 → IsData (sizes_of disk) b in
     let front : All P c.in_ok-inode.inode.addrs = All-addrs P disk c.in_ok-inode.inode (subst (All P) e h) in
-    c.if-not-are_good.ensures (rw c.requires.layout.sizes front)
+    iff_false c.are_good.ensures c.if-not-are_good.true (rw c.requires.layout.sizes front))
 
 pub returns-clause-good : goal.returns-clause-good
 returns-clause-good g c =

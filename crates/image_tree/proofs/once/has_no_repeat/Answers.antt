@@ -1,9 +1,11 @@
 use Rattle.std.proofs.Common.{◌≡◌, ◌∙◌, sym, refl, subst, ℕ, List, ◌+◌, ◌-◌, arith}
+use Rattle.std.proofs.lemmas.Bool.{iff_false}
 use Rattle.image_tree.specs.Lists.{gathered}
 use Rattle.image_tree.specs.Inodes.{named_by}
 use Rattle.fs_layout.specs.Recovered.{sizes_of}
 use Rattle.image_tree.specs.Marks.{Marks}
 use Rattle.image_tree.specs.Lists.{IsOnce}
+use Rattle.image_tree.proofs.Told.{held, refuted}
 use Rattle.image_tree.proofs.MarkLemmas.{once_nil}
 use Rattle.image_tree.proofs.Gathered.{marked, twice_gathered, gathered-none}
 use Rattle.image_tree.proofs.Layouts.{in_order}
@@ -16,22 +18,21 @@ loop-i-init g c =
 
 pub returns-then-not-mark_all-clause-once : goal.returns-then-not-mark_all-clause-once
 returns-then-not-mark_all-clause-once g c =
-    λ once.
     let disk : List (List ℕ) = g.D.Device.contents c.args.device.now in
-    let bad = c.if-not-mark_all.ensures (gathered (named_by disk) (c.loop-i.i - 1)) c.loop-i.invariant.2 c.loop-i.invariant.3 in
+    let bad = iff_false (c.mark_all.ensures.once (gathered (named_by disk) (c.loop-i.i - 1)) c.loop-i.invariant.2 c.loop-i.invariant.3) c.if-not-mark_all.true in
     let e = marked disk (g.D.Device.contents c.loop-i.device) c.loop-i.i c.as_slice.result.now c.in_ok-numbers.numbers.items (omega arith) c.as_slice.ensures.value c.in_ok-numbers.ensures.numbers c.loop-i.invariant.0 in
-    twice_gathered (named_by disk) (c.loop-i.i + 1 - 1) ((sizes_of disk).ninodes - 1) (rw (← c.requires.layout.sizes) (omega arith))
-    (λ h. bad (subst IsOnce (sym e) h)) once
+    refuted _ (twice_gathered (named_by disk) (c.loop-i.i + 1 - 1) ((sizes_of disk).ninodes - 1) (rw (← c.requires.layout.sizes) (omega arith))
+    (λ h. bad (subst IsOnce (sym e) h)))
 
 pub loop-i-preserved : goal.loop-i-preserved
 loop-i-preserved g c =
     let disk : List (List ℕ) = g.D.Device.contents c.args.device.now in
-    let m = c.if-not-mark_all.ensures (gathered (named_by disk) (c.loop-i.i - 1)) c.loop-i.invariant.2 c.loop-i.invariant.3 in
+    let before = gathered (named_by disk) (c.loop-i.i - 1) in
     let e = marked disk (g.D.Device.contents c.loop-i.device) c.loop-i.i c.as_slice.result.now c.in_ok-numbers.numbers.items (omega arith) c.as_slice.ensures.value c.in_ok-numbers.ensures.numbers c.loop-i.invariant.0 in (
       c.in_ok-numbers.ensures.contents ∙ c.loop-i.invariant.0,
       c.in_ok-numbers.ensures.faults ∙ c.loop-i.invariant.1,
-      subst (Marks c.mark_all.new.seen) e m.0,
-      subst IsOnce e m.1,
+      subst (Marks c.mark_all.new.seen) e (c.mark_all.ensures.marks before c.loop-i.invariant.2 c.loop-i.invariant.3 c.if-not-mark_all.false),
+      subst IsOnce e ((c.mark_all.ensures.once before c.loop-i.invariant.2 c.loop-i.invariant.3).0 c.if-not-mark_all.false),
     )
 
 pub returns-clause-once : goal.returns-clause-once
@@ -40,4 +41,4 @@ returns-clause-once g c =
     let all = c.loop-i.invariant.3 in
     let order = in_order disk c.args.layout.now c.requires.layout in
     let end : c.loop-i.i ≡ (sizes_of disk).ninodes = rw (← c.requires.layout.sizes) (omega arith) in
-    subst (λ (n : ℕ). IsOnce (gathered (named_by disk) (n - 1))) end all
+    held _ (subst (λ (n : ℕ). IsOnce (gathered (named_by disk) (n - 1))) end all)

@@ -1,8 +1,10 @@
 use Rattle.std.proofs.Common.{◌++◌, sym, subst, filter, take, ◌+◌, arith}
 use Rattle.std.proofs.lemmas.List.{take_all, append-nil}
+use Rattle.std.proofs.lemmas.Bool.{iff_false}
 use Rattle.image_tree.specs.Inodes.{is_block}
 use Rattle.image_tree.specs.Marks.{Marks}
 use Rattle.image_tree.specs.Lists.{IsOnce}
+use Rattle.image_tree.proofs.Told.{held, refuted}
 use Rattle.image_tree.proofs.MarkLemmas.{kept_more, twice_front}
 use Rattle.image_tree.proofs.once.mark_all.Goals as goal
 
@@ -15,20 +17,20 @@ loop-i-preserved c =
     λ xs m o.
     let now = c.loop-i.invariant xs m o in
     let e = sym (kept_more xs c.args.numbers.now c.loop-i.i (omega arith)) in
-    let marked = c.if-not-mark.ensures (xs ++ filter is_block (take c.loop-i.i c.args.numbers.now)) now.0 now.1 in
-    (subst (Marks c.mark.new.seen) e marked.0, subst IsOnce e marked.1)
+    let before = xs ++ filter is_block (take c.loop-i.i c.args.numbers.now) in (
+      subst (Marks c.mark.new.seen) e (c.mark.ensures.marks before now.0 now.1 c.if-not-mark.false),
+      subst IsOnce e ((c.mark.ensures.once before now.0 now.1).0 c.if-not-mark.false),
+    )
 
-pub returns-then-not-mark : goal.returns-then-not-mark
-returns-then-not-mark c =
-    λ xs m o once.
+pub returns-then-not-mark-clause-once : goal.returns-then-not-mark-clause-once
+returns-then-not-mark-clause-once c =
+    λ xs m o.
     let now = c.loop-i.invariant xs m o in
     let e = kept_more xs c.args.numbers.now c.loop-i.i (omega arith) in
-    let bad = c.if-not-mark.ensures (xs ++ filter is_block (take c.loop-i.i c.args.numbers.now)) now.0 now.1 in
-    twice_front xs c.args.numbers.now (c.loop-i.i + 1) (λ h. bad (subst IsOnce e h)) once
+    let bad = iff_false (c.mark.ensures.once (xs ++ filter is_block (take c.loop-i.i c.args.numbers.now)) now.0 now.1) c.if-not-mark.true in
+    refuted _ (twice_front xs c.args.numbers.now (c.loop-i.i + 1) (λ h. bad (subst IsOnce e h)))
 
 pub returns : goal.returns
 returns c =
-    λ xs m o.
-    let now = c.loop-i.invariant xs m o in
     let whole = take_all c.loop-i.i c.args.numbers.now (omega arith) in
-    rw whole at now
+    record { once = λ xs m o. held _ (rw whole at (c.loop-i.invariant xs m o).1); marks = λ xs m o yes. rw whole at (c.loop-i.invariant xs m o).0 }

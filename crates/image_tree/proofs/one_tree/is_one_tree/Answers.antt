@@ -1,13 +1,15 @@
 use Rattle.std.proofs.Common.{◌∙◌, ℕ, List, ap, arith, get_or}
+use Rattle.std.proofs.lemmas.Bool.{iff_false}
+use Rattle.image_tree.proofs.Told.{refuted}
 use Rattle.image_tree.proofs.TreeLemmas.{tables_of, unnamed_no_tree, tree_told, up_zero}
 use Rattle.image_tree.proofs.one_tree.is_one_tree.Goals as goal
 
 pub returns-then-not-are_named : goal.returns-then-not-are_named
 returns-then-not-are_named c =
     λ disk links good.
-    unnamed_no_tree disk c.as_slice-ups.result.now c.as_slice-further.result.now c.as_slice.result.now
+    refuted _ (unnamed_no_tree disk c.as_slice-ups.result.now c.as_slice-further.result.now c.as_slice.result.now
     (tables_of disk c.args.links.now c.as_slice-ups.result.now c.as_slice-further.result.now c.as_slice.result.now links c.as_slice-ups.ensures.value c.as_slice-further.ensures.value
-    c.as_slice.ensures.value) good c.if-not-are_named.ensures
+    c.as_slice.ensures.value) good (iff_false c.are_named.ensures c.if-not-are_named.true))
 
 pub reach_root-requires-clause-none : goal.reach_root-requires-clause-none
 reach_root-requires-clause-none c =
@@ -18,4 +20,4 @@ returns c =
     λ disk links good.
     tree_told disk c.as_slice-ups.result.now c.as_slice-further.result.now c.as_slice.result.now c.in_ok-reach.reach
     (tables_of disk c.args.links.now c.as_slice-ups.result.now c.as_slice-further.result.now c.as_slice.result.now links c.as_slice-ups.ensures.value c.as_slice-further.ensures.value
-    c.as_slice.ensures.value) good c.if-ups-lt2.false (omega arith) (omega arith) c.if-not-are_named.ensures c.in_ok-reach.ensures
+    c.as_slice.ensures.value) good c.if-ups-lt2.false (omega arith) (omega arith) (c.are_named.ensures.0 c.if-not-are_named.false) c.in_ok-reach.ensures

@@ -1,7 +1,8 @@
 use Rattle.std.proofs.Common.{◌≡◌, ◌⊎◌, ◌∙◌, inr, ap, sym, subst, refl, ℕ, List, [], ◌∷◌, ◌+◌, ◌<◌, ◌≤◌, length, get_or, set, replicate, arith, Result, Ok, Err, OnOk, OnErr}
 use Rattle.std.proofs.lemmas.Bool.{eqb-true}
 use Rattle.fs_layout.specs.declared.superblock.Super.{Super}
-use Rattle.fs_layout.specs.Recovered.{block_at, logged, recovered, sizes_of, IsOutsideLog}
+use Rattle.block_device.specs.Blocks.{block_at}
+use Rattle.fs_layout.specs.Recovered.{logged, recovered, sizes_of, IsOutsideLog}
 use Rattle.fs_layout.proofs.RecoveredDisk.{recovered-empty}
 use Rattle.image_tree.specs.declared.disk.Layout.{Layout}
 use Rattle.image_tree.specs.Layout.{IsLayout}

@@ -1,17 +1,19 @@
 use Rattle.std.proofs.Common.{◌∙◌, ap, sym, ℕ, List, arith}
 use Rattle.image_tree.specs.Inodes.{numbers_of}
+use Rattle.std.proofs.lemmas.Bool.{iff_false}
+use Rattle.image_tree.proofs.Told.{held, refuted}
 use Rattle.image_tree.proofs.Nodes.{twelfth_of_node}
 use Rattle.image_tree.proofs.SizeLemmas.{free_no_size, unfit_no_size, size_told}
 use Rattle.image_tree.proofs.sizes.has_good_size.Goals as goal
 
 pub returns-then-is_free-clause-good : goal.returns-then-is_free-clause-good
 returns-then-is_free-clause-good g c =
-    free_no_size (g.D.Device.contents c.args.device.now) c.args.i c.in_ok-inode.inode c.in_ok-inode.ensures.inode (sym c.is_free.ensures ∙ c.if-is_free.true)
+    held _ (free_no_size (g.D.Device.contents c.args.device.now) c.args.i c.in_ok-inode.inode c.in_ok-inode.ensures.inode (sym c.is_free.ensures ∙ c.if-is_free.true))
 
 pub returns-then-not-is_fitting-clause-good : goal.returns-then-not-is_fitting-clause-good
 returns-then-not-is_fitting-clause-good g c =
-    unfit_no_size (g.D.Device.contents c.args.device.now) c.args.layout.now c.args.i c.in_ok-inode.inode c.requires.layout c.requires.low c.requires.bound
-    c.in_ok-inode.ensures.inode (sym c.is_free.ensures ∙ c.if-is_free.false) c.if-not-is_fitting.ensures
+    refuted _ (unfit_no_size (g.D.Device.contents c.args.device.now) c.args.layout.now c.args.i c.in_ok-inode.inode c.requires.layout c.requires.low c.requires.bound
+    c.in_ok-inode.ensures.inode (sym c.is_free.ensures ∙ c.if-is_free.false) (iff_false c.is_fitting.ensures c.if-not-is_fitting.true))
 
 pub load_numbers-requires-clause-bound : goal.load_numbers-requires-clause-bound
 load_numbers-requires-clause-bound g c =
@@ -23,6 +25,6 @@ pub returns-clause-good : goal.returns-clause-good
 returns-clause-good g c =
     let disk : List (List ℕ) = g.D.Device.contents c.args.device.now in
     size_told disk c.args.layout.now c.args.i c.in_ok-inode.inode c.requires.layout c.requires.low c.requires.bound c.in_ok-inode.ensures.inode
-    (sym c.is_free.ensures ∙ c.if-is_free.false) c.if-not-is_fitting.ensures c.has_blocks.result c.as_slice.result.now
+    (sym c.is_free.ensures ∙ c.if-is_free.false) (c.is_fitting.ensures.0 c.if-not-is_fitting.false) c.has_blocks.result c.as_slice.result.now
     (c.as_slice.ensures.value ∙ c.in_ok-numbers.ensures.numbers ∙ ap (λ (d : List (List ℕ)). numbers_of d c.in_ok-inode.inode) c.load_inode.ensures.contents)
     c.has_blocks.ensures
