@@ -22,9 +22,9 @@ use Rattle.inode_machine.specs.Moving as above
 use Rattle.inode_machine.specs.Parts as parts
 use Rattle.inode_machine.specs.World.Op.{Settle}
 use Rattle.inodes_on_blocks.specs.Lowering.{Carry, NothingMore, Has, Apart, nothing, record_had}
-use Rattle.syscalls.specs.Moving as syscalls
-use Rattle.syscalls.specs.Parts.{reach_on, give_up}
-use Rattle.syscalls.specs.Programs.{tail}
+use Rattle.naming_calls.specs.Moving as syscalls
+use Rattle.call_parts.specs.Parts.{reach_on, give_up}
+use Rattle.call_parts.specs.Programs.{tail}
 use Rattle.calls_on_blocks.proofs.Faces.{directory_same}
 use Rattle.calls_on_blocks.proofs.Pieces.{left_below, plain_drop}
 use Rattle.calls_on_blocks.proofs.WalkBridge.{seen, stop_of, take_same, path_same, reached_is}

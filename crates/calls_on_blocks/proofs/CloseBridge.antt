@@ -11,7 +11,7 @@ use Rattle.inode_machine.specs.Parts as parts
 use Rattle.inode_machine.specs.World.Op.{Leave}
 use Rattle.inodes_on_blocks.specs.Handlers.{shut_to}
 use Rattle.inodes_on_blocks.specs.Lowering.{nothing}
-use Rattle.syscalls.specs.Programs as syscalls
+use Rattle.descriptor_calls.specs.Programs as syscalls
 use Rattle.calls_on_blocks.proofs.Pieces.{left_below, left_then, plain_drop}
 
 module _ (sizes : Super) (fd : ℕ) where

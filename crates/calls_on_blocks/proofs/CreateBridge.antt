@@ -29,15 +29,16 @@ use Rattle.inode_machine.specs.World.Op.{Claim, Enter, Install, Up}
 use Rattle.inodes_on_blocks.specs.Lowering.{Carry, Has, nothing, record_had}
 use Rattle.inodes_on_blocks.specs.Reading.{learned, number_found}
 use Rattle.inodes_on_tables.specs.Shown.{kind_of}
-use Rattle.syscalls.specs.Creating as syscalls
-use Rattle.syscalls.specs.Making.{NamedState, Lacks, link_new, linked, with_links}
-use Rattle.syscalls.specs.Opening as openings
-use Rattle.syscalls.specs.Opening.{type_number}
-use Rattle.syscalls.specs.Parts.{ReachedState, Finds, reach, reach_on, give_reached, give_up, take_inode}
-use Rattle.syscalls.specs.Programs.{tail}
-use Rattle.syscalls.specs.Seeking.{Dead, seek_on, seek_through, seen_with}
-use Rattle.syscalls.specs.declared.make.Sort.TheVariants as sorts
-use Rattle.syscalls.specs.declared.seek.Dots.TheVariants as dots
+use Rattle.making_calls.specs.Creating as syscalls
+use Rattle.making_calls.specs.Making.{NamedState, Lacks, link_new, linked}
+use Rattle.call_parts.specs.Counts.{with_links}
+use Rattle.making_calls.specs.Opening as openings
+use Rattle.making_calls.specs.Opening.{type_number}
+use Rattle.call_parts.specs.Parts.{ReachedState, Finds, reach, reach_on, give_reached, give_up, take_inode}
+use Rattle.call_parts.specs.Programs.{tail}
+use Rattle.call_parts.specs.Seeking.{Dead, seek_on, seek_through, seen_with}
+use Rattle.making_calls.specs.declared.make.Sort.TheVariants as sorts
+use Rattle.call_parts.specs.declared.seek.Dots.TheVariants as dots
 use Rattle.calls_on_blocks.proofs.EndBridge.{tail_same, give_up_same}
 use Rattle.calls_on_blocks.proofs.Faces.{face_seen, kind_same, live_same, sort_seen}
 use Rattle.calls_on_blocks.proofs.MakeBridge.{claimed_to, make_same, name_same, taken_same}

@@ -8,7 +8,7 @@ use Rattle.fs_machine.specs.Steps.{Double}
 use Rattle.inode_machine.specs.Descriptors as above
 use Rattle.inodes_on_blocks.specs.Handlers.{doubled_to}
 use Rattle.inodes_on_blocks.specs.Lowering.{nothing}
-use Rattle.syscalls.specs.Programs as syscalls
+use Rattle.descriptor_calls.specs.Programs as syscalls
 use Rattle.calls_on_blocks.proofs.Pieces.{left_below}
 
 module _ (sizes : Super) (fd : ℕ) where

@@ -16,8 +16,8 @@ use Rattle.path_walk.specs.Programs.{loaded}
 use Rattle.inode_machine.specs.Parts as parts
 use Rattle.inode_machine.specs.World.Op.{Leave}
 use Rattle.inodes_on_blocks.specs.Lowering.{Carry, NothingMore, Has, record_had}
-use Rattle.syscalls.specs.Parts.{give_up}
-use Rattle.syscalls.specs.Programs.{say, free_listed, free_all, tail}
+use Rattle.call_parts.specs.Parts.{give_up}
+use Rattle.call_parts.specs.Programs.{say, free_listed, free_all, tail}
 use Rattle.calls_on_blocks.proofs.Pieces.{left_below, left_then, frees, plain_frees, plain_drop}
 use Rattle.calls_on_blocks.proofs.WalkBridge.{take_same, give_same}
 

@@ -13,9 +13,9 @@ use Rattle.directory.specs.Programs as directories
 use Rattle.inode_machine.specs.Inodes.{Sort, OfDirectory, OfFile, OfDevice, Face, face_or, is_directory_sort, is_file_sort, is_directory_face, is_live_face, open_refusal, type_of_sort, stat_of_face}
 use Rattle.inodes_on_tables.specs.Shown.{kind_of}
 use Rattle.inodes_on_blocks.specs.Reading.{sort_at, natural, face_in}
-use Rattle.syscalls.specs.Opening as code
-use Rattle.syscalls.specs.Replies.{type_of, stat_of}
-use Rattle.syscalls.specs.Unlinking.{links_of}
+use Rattle.making_calls.specs.Opening as code
+use Rattle.call_parts.specs.Replies.{type_of, stat_of}
+use Rattle.naming_calls.specs.Unlinking.{links_of}
 
 type_same : (d : Dinode) → type_of_sort (sort_at d.kind d.major) ≡ type_of d
 type_same d = by (is_number 1 d.kind) (is_number 2 d.kind)

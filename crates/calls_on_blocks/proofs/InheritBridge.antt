@@ -14,7 +14,7 @@ use Rattle.inode_machine.specs.Parts as parts
 use Rattle.inode_machine.specs.World.Op.{Leave, Release}
 use Rattle.inodes_on_blocks.specs.Handlers.{lent_to, old_directory}
 use Rattle.inodes_on_blocks.specs.Lowering.{Carry, nothing}
-use Rattle.syscalls.specs.Inheriting as syscalls
+use Rattle.descriptor_calls.specs.Inheriting as syscalls
 use Rattle.calls_on_blocks.proofs.Pieces.{left_below, left_then, plain_drop}
 
 module _ (sizes : Super) (child : ℕ) where

@@ -35,14 +35,14 @@ use Rattle.inode_machine.specs.World.Op.{Enter, Give, Store}
 use Rattle.inodes_on_blocks.specs.Handlers.{P}
 use Rattle.inodes_on_blocks.specs.Lowering.{Carry, NothingMore, Has, nothing, record_had}
 use Rattle.inodes_on_blocks.specs.Reading.{learned, number_found}
-use Rattle.syscalls.specs.Links as syscalls
-use Rattle.syscalls.specs.Making.{with_links}
-use Rattle.syscalls.specs.Parts.{ReachedState, Finds, reach, reach_on, give_up, stopped}
-use Rattle.syscalls.specs.Programs.{tail}
-use Rattle.syscalls.specs.Seeking.{Dead, seek_on, seek_through, seen_with}
-use Rattle.syscalls.specs.Unlinking.{links_of, lower_child}
-use Rattle.syscalls.specs.declared.tail.Ending.{Ending}
-use Rattle.syscalls.specs.declared.seek.Dots.TheVariants as dots
+use Rattle.naming_calls.specs.Links as syscalls
+use Rattle.call_parts.specs.Counts.{with_links}
+use Rattle.call_parts.specs.Parts.{ReachedState, Finds, reach, reach_on, give_up, stopped}
+use Rattle.call_parts.specs.Programs.{tail}
+use Rattle.call_parts.specs.Seeking.{Dead, seek_on, seek_through, seen_with}
+use Rattle.naming_calls.specs.Unlinking.{links_of, lower_child}
+use Rattle.call_parts.specs.declared.tail.Ending.{Ending}
+use Rattle.call_parts.specs.declared.seek.Dots.TheVariants as dots
 use Rattle.calls_on_blocks.specs.Programs.{handlers}
 use Rattle.calls_on_blocks.specs.Layer.{layer}
 use Rattle.calls_on_blocks.proofs.EndBridge.{tail_same, give_up_same}

@@ -28,11 +28,12 @@ use Rattle.inode_machine.specs.World.Op.{Claim, Enter, Forget, Store, Take}
 use Rattle.inodes_on_blocks.specs.Handlers.{P}
 use Rattle.inodes_on_blocks.specs.Lowering.{Carry, NothingMore, Has, record_had}
 use Rattle.inodes_on_tables.specs.Shown.{kind_of}
-use Rattle.syscalls.specs.Making as making
-use Rattle.syscalls.specs.Making.{NamedState, Names, Lacks, with_links}
-use Rattle.syscalls.specs.Parts.{give_up, take_inode}
-use Rattle.syscalls.specs.Programs.{tail}
-use Rattle.syscalls.specs.declared.make.Sort.{Sort as MadeSort}
+use Rattle.making_calls.specs.Making as making
+use Rattle.making_calls.specs.Making.{NamedState, Names, Lacks}
+use Rattle.call_parts.specs.Counts.{with_links}
+use Rattle.call_parts.specs.Parts.{give_up, take_inode}
+use Rattle.call_parts.specs.Programs.{tail}
+use Rattle.making_calls.specs.declared.make.Sort.{Sort as MadeSort}
 use Rattle.calls_on_blocks.specs.Programs.{handlers}
 use Rattle.calls_on_blocks.specs.Layer.{layer}
 use Rattle.calls_on_blocks.proofs.ClaimBridge.{claim_same, made_as}

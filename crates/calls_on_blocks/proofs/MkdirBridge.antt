@@ -34,14 +34,15 @@ use Rattle.inode_machine.specs.World as world
 use Rattle.inode_machine.specs.World.Op.{Enter, Fill, Store}
 use Rattle.inodes_on_blocks.specs.Lowering.{Carry, NothingMore, Has, nothing, record_had}
 use Rattle.inodes_on_blocks.specs.Reading.{learned, number_found}
-use Rattle.syscalls.specs.Making as making
-use Rattle.syscalls.specs.Making.{NamedState, Names, Lacks, link_new, linked, with_links}
-use Rattle.syscalls.specs.Mkdirs as syscalls
-use Rattle.syscalls.specs.Parts.{ReachedState, Finds, reach, reach_on, give_up, take_inode}
-use Rattle.syscalls.specs.Programs.{tail}
-use Rattle.syscalls.specs.Seeking.{Dead, seek_on, seek_through, seen_with}
-use Rattle.syscalls.specs.declared.make.Sort.TheVariants as sorts
-use Rattle.syscalls.specs.declared.seek.Dots.TheVariants as dots
+use Rattle.making_calls.specs.Making as making
+use Rattle.making_calls.specs.Making.{NamedState, Names, Lacks, link_new, linked}
+use Rattle.call_parts.specs.Counts.{with_links}
+use Rattle.making_calls.specs.Mkdirs as syscalls
+use Rattle.call_parts.specs.Parts.{ReachedState, Finds, reach, reach_on, give_up, take_inode}
+use Rattle.call_parts.specs.Programs.{tail}
+use Rattle.call_parts.specs.Seeking.{Dead, seek_on, seek_through, seen_with}
+use Rattle.making_calls.specs.declared.make.Sort.TheVariants as sorts
+use Rattle.call_parts.specs.declared.seek.Dots.TheVariants as dots
 use Rattle.calls_on_blocks.specs.Programs.{handlers}
 use Rattle.calls_on_blocks.specs.Layer.{layer}
 use Rattle.calls_on_blocks.proofs.EndBridge.{tail_same, give_up_same}

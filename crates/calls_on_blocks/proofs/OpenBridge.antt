@@ -31,9 +31,9 @@ use Rattle.inode_machine.specs.World.Op.{Empty, Install, Slot}
 use Rattle.inodes_on_blocks.specs.Handlers.{P}
 use Rattle.inodes_on_blocks.specs.Lowering.{Carry, NothingMore, Has, nothing, record_had}
 use Rattle.inodes_on_blocks.specs.Storing.{record_in, put_record}
-use Rattle.syscalls.specs.Opening as syscalls
-use Rattle.syscalls.specs.Parts.{reach_on, give_up}
-use Rattle.syscalls.specs.Programs.{tail}
+use Rattle.making_calls.specs.Opening as syscalls
+use Rattle.call_parts.specs.Parts.{reach_on, give_up}
+use Rattle.call_parts.specs.Programs.{tail}
 use Rattle.calls_on_blocks.specs.Programs.{handlers}
 use Rattle.calls_on_blocks.specs.Layer.{layer}
 use Rattle.calls_on_blocks.proofs.Faces.{sort_seen, refusal_same, file_same, kind_same}

@@ -33,7 +33,8 @@ use Rattle.inodes_on_blocks.specs.Files.{file_locked, give_read, with_file}
 use Rattle.inodes_on_blocks.specs.Handlers.{P}
 use Rattle.inodes_on_blocks.specs.Lowering.{Carry, Opened, Has, nothing, record_had}
 use Rattle.inodes_on_blocks.specs.Storing.{record_in}
-use Rattle.syscalls.specs.Programs as syscalls
+use Rattle.call_parts.specs.Programs.{say as say_reply}
+use Rattle.descriptor_calls.specs.Programs as syscalls
 use Rattle.calls_on_blocks.specs.Programs.{handlers}
 use Rattle.calls_on_blocks.specs.Layer.{layer}
 use Rattle.calls_on_blocks.proofs.Pieces.{left_below, plain_load, plain_block}
@@ -112,7 +113,7 @@ module _ (sizes : Super) (fd : ℕ) (buffer : List ℕ) where
     given : (b : List ℕ) → plain (bind (gives (alone b)) read_then) ≡ syscalls.give_read fd f.offset (loaded f d) (within buffer b)
     given b = λ i.
         Do (Unlock (record { number = f.number; content = record_had (has i) }) (Some (fd, f.offset + length b))) unmarked (λ _.
-        syscalls.say (syscalls.read_reply fd (within buffer b)))
+        say_reply (syscalls.read_reply fd (within buffer b)))
 
     loaded_is : plain (bind (with_file (LocksIt f.number f.offset) nothing fd f.number f.offset d) locked_then) ≡ syscalls.read_on fd buffer (Loads f (loaded f d))
     loaded_is =

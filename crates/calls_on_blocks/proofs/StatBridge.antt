@@ -22,7 +22,7 @@ use Rattle.inode_machine.specs.Rules.{machine}
 use Rattle.inodes_on_blocks.specs.Handlers.{P}
 use Rattle.inodes_on_blocks.specs.Lowering.{Carry, NothingMore, Has, nothing, record_had}
 use Rattle.inodes_on_blocks.specs.Reading.{stat_loaded, stat_locked}
-use Rattle.syscalls.specs.Programs as syscalls
+use Rattle.descriptor_calls.specs.Programs as syscalls
 use Rattle.calls_on_blocks.specs.Programs.{handlers}
 use Rattle.calls_on_blocks.specs.Layer.{layer}
 use Rattle.calls_on_blocks.proofs.Faces.{stat_same}

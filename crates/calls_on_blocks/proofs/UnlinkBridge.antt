@@ -38,13 +38,13 @@ use Rattle.inodes_on_blocks.specs.Lowering.{Carry, Had, NothingMore, Finds, Has,
 use Rattle.inodes_on_blocks.specs.Naming as naming
 use Rattle.inodes_on_blocks.specs.Reading.{learned, looked, number_found, search_entries as entries_above}
 use Rattle.inodes_on_blocks.specs.Storing.{record_in, put_record}
-use Rattle.syscalls.specs.Making.{with_links}
-use Rattle.syscalls.specs.Parts.{ReachedState, Finds as FindsNode, reach, reach_on, give_up}
-use Rattle.syscalls.specs.Programs.{tail}
-use Rattle.syscalls.specs.Seeking.{Dotted, Dead, seek_on, seek_through, seen_with}
-use Rattle.syscalls.specs.Unlinking as syscalls
-use Rattle.syscalls.specs.Unlinking.{links_of, search_entries}
-use Rattle.syscalls.specs.declared.seek.Dots.TheVariants as dots
+use Rattle.call_parts.specs.Counts.{with_links}
+use Rattle.call_parts.specs.Parts.{ReachedState, Finds as FindsNode, reach, reach_on, give_up}
+use Rattle.call_parts.specs.Programs.{tail}
+use Rattle.call_parts.specs.Seeking.{Dotted, Dead, seek_on, seek_through, seen_with}
+use Rattle.naming_calls.specs.Unlinking as syscalls
+use Rattle.naming_calls.specs.Unlinking.{links_of, search_entries}
+use Rattle.call_parts.specs.declared.seek.Dots.TheVariants as dots
 use Rattle.calls_on_blocks.specs.Programs.{handlers}
 use Rattle.calls_on_blocks.specs.Layer.{layer}
 use Rattle.calls_on_blocks.proofs.EndBridge.{tail_same, give_up_same}

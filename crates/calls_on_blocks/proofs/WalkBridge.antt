@@ -31,7 +31,7 @@ use Rattle.inode_machine.specs.World.Op.{Take, Give, UpStart, WalkDown}
 use Rattle.inodes_on_blocks.specs.Handlers.{Acts, P, is_listed, whom}
 use Rattle.inodes_on_blocks.specs.Lowering.{Carry, Learned, NothingMore, Has, Apart, record_had}
 use Rattle.inodes_on_blocks.specs.Reading.{learned, number_found, looked}
-use Rattle.syscalls.specs.Parts.{ReachedState, Finds, give_reached, reach_on}
+use Rattle.call_parts.specs.Parts.{ReachedState, Finds, give_reached, reach_on}
 use Rattle.calls_on_blocks.specs.Programs.{handlers}
 use Rattle.calls_on_blocks.specs.Layer.{layer}
 use Rattle.calls_on_blocks.proofs.Faces.{face_seen, directory_same}

@@ -30,9 +30,9 @@ use Rattle.inodes_on_blocks.specs.Files.{with_file}
 use Rattle.inodes_on_blocks.specs.Handlers.{Acts, P, cause_if, joining_to}
 use Rattle.inodes_on_blocks.specs.Lowering.{Apart, Carry, Has, Opened, nothing, record_had}
 use Rattle.inodes_on_blocks.specs.Writing.{give_written, refused_in, write_unless, wrote_to}
-use Rattle.syscalls.specs.declared.write.Ended.{Ended}
-use Rattle.syscalls.specs.declared.write.Ended.TheVariants as ended
-use Rattle.syscalls.specs.Writing as syscalls
+use Rattle.descriptor_calls.specs.declared.write.Ended.{Ended}
+use Rattle.descriptor_calls.specs.declared.write.Ended.TheVariants as ended
+use Rattle.descriptor_calls.specs.Writing as syscalls
 use Rattle.calls_on_blocks.specs.Programs.{handlers}
 use Rattle.calls_on_blocks.specs.Layer.{layer}
 use Rattle.calls_on_blocks.proofs.EntryPieces.{plain_writes}

@@ -10,7 +10,7 @@ use Rattle.plain_tree.specs.declared.answer.Reply.{Reply}
 use Rattle.plain_tree.specs.declared.call.Call.TheVariants as calls
 use Rattle.plain_tree.specs.declared.step.Action.TheVariants as actions
 use Rattle.plain_tree.specs.Calls.{piece, piece_count}
-use Rattle.plain_tree.specs.Widths.{hart_count, piece_width}
+use Rattle.plain_tree.specs.Widths.{hart_count, piece_len}
 use Rattle.tree_laws.proofs.Maps.{and_true, eq_is}
 use Rattle.atomic_programs.specs.Prog.{Do, unmarked}
 use Rattle.atomic_programs.specs.Lifting.{Uses}
@@ -36,7 +36,7 @@ bytes_are (b ∷ bs) e zero = byte_is b (and_true (nat_lt b 256) (are_bytes bs) 
 bytes_are (b ∷ bs) e (suc i) = bytes_are bs (and_true (nat_lt b 256) (are_bytes bs) e).1 i
 
 piece_bytes : (bytes : List ℕ) (i : ℕ) → IsBytes bytes → IsBytes (piece bytes i)
-piece_bytes bytes i are = take_bytes piece_width (drop (piece_width * i) bytes) (drop_bytes (piece_width * i) bytes are)
+piece_bytes bytes i are = take_bytes piece_len (drop (piece_len * i) bytes) (drop_bytes (piece_len * i) bytes are)
 
 -- there is one
 some_pieces : (n : ℕ) (none : Bool) → 0 < n → (n == 0) ≡ none → 0 < (if none then 1 else (n + (3072 - 1)) / 3072)
@@ -55,8 +55,8 @@ begins_within n i some false e lt =
 piece_some : (bytes : List ℕ) (i : ℕ) → 0 < length bytes → i < piece_count bytes → 0 < length (piece bytes i)
 piece_some bytes i some lt =
     let a = begins_within (length bytes) i some (length bytes == 0) refl lt in
-    let t = length-take piece_width (drop (piece_width * i) bytes) in
-    let d = length-drop (piece_width * i) bytes in
+    let t = length-take piece_len (drop (piece_len * i) bytes) in
+    let d = length-drop (piece_len * i) bytes in
     omega (arith, a, t, d)
 
 -- ---- the call

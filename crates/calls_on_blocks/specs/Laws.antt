@@ -6,15 +6,15 @@ use Rattle.plain_tree.specs.Steps.{creates}
 use Rattle.atomic_programs.specs.Prog.{plain}
 use Rattle.atomic_programs.specs.Calls.{Lawful}
 use Rattle.atomic_programs.specs.Plain.{IsCode}
-use Rattle.syscalls.specs.Creating as creating
-use Rattle.syscalls.specs.Inheriting.{inherit_program}
-use Rattle.syscalls.specs.Links.{link_program}
-use Rattle.syscalls.specs.Mkdirs.{mkdir_program}
-use Rattle.syscalls.specs.Moving.{chdir_program}
-use Rattle.syscalls.specs.Opening as opening
-use Rattle.syscalls.specs.Programs.{dup_program, stat_program, close_program, read_program}
-use Rattle.syscalls.specs.Unlinking.{unlink_program}
-use Rattle.syscalls.specs.Writing.{write_program}
+use Rattle.making_calls.specs.Creating as creating
+use Rattle.descriptor_calls.specs.Inheriting.{inherit_program}
+use Rattle.naming_calls.specs.Links.{link_program}
+use Rattle.making_calls.specs.Mkdirs.{mkdir_program}
+use Rattle.naming_calls.specs.Moving.{chdir_program}
+use Rattle.making_calls.specs.Opening as opening
+use Rattle.descriptor_calls.specs.Programs.{dup_program, stat_program, close_program, read_program}
+use Rattle.naming_calls.specs.Unlinking.{unlink_program}
+use Rattle.descriptor_calls.specs.Writing.{write_program}
 use Rattle.calls_on_blocks.specs.Theory.{block_calls, block_code}
 
 -- Each call that is served is right below, whatever the others do.

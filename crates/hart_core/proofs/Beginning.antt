@@ -59,7 +59,8 @@ use Rattle.inode_data.specs.declared.dropping.DropReference.TheVariants as dropp
 use Rattle.file_table.specs.Machines.{file_of}
 use Rattle.file_table.specs.declared.load_file.LoadFile.{LoadFile}
 use Rattle.file_table.specs.declared.load_file.LoadFile.TheVariants as file
-use Rattle.syscalls.specs.Machines.{dup_of, close_of, CloseFits, fstat_of, read_call_of, running_of, RunningFits}
+use Rattle.descriptor_calls.specs.Machines.{dup_of, close_of, CloseFits, fstat_of, read_call_of}
+use Rattle.syscalls.specs.Machines.{running_of, RunningFits}
 use Rattle.directory.specs.Programs.{Aim, Named, Entry, Unused}
 use Rattle.directory.specs.Machines.{search_of}
 use Rattle.path_walk.specs.Elements.{name_in}
@@ -68,75 +69,75 @@ use Rattle.directory.specs.declared.search.Search.TheVariants as searching
 use Rattle.path_walk.specs.Machines.{walk_of}
 use Rattle.path_walk.specs.declared.walk.Walk.{Walk}
 use Rattle.path_walk.specs.declared.walk.Walk.TheVariants as walking
-use Rattle.syscalls.specs.Taking.{take_of, reach_of}
-use Rattle.syscalls.specs.declared.take.TakeInode.{TakeInode}
-use Rattle.syscalls.specs.declared.take.TakeInode.TheVariants as taking
-use Rattle.syscalls.specs.declared.reach.Reach.{Reach}
-use Rattle.syscalls.specs.declared.reach.Reach.TheVariants as reaching
-use Rattle.syscalls.specs.Tails.{tail_of, TailFits}
-use Rattle.syscalls.specs.declared.tail.Tail.{Tail}
-use Rattle.syscalls.specs.declared.tail.Tail.TheVariants as tail
-use Rattle.syscalls.specs.Ends.{give_of, quit_of, QuitFits}
-use Rattle.syscalls.specs.declared.give.GiveUp.{GiveUp}
-use Rattle.syscalls.specs.declared.give.GiveUp.TheVariants as giving
-use Rattle.syscalls.specs.declared.quit.Quit.{Quit}
-use Rattle.syscalls.specs.declared.quit.Quit.TheVariants as quitting
-use Rattle.syscalls.specs.Seeking.{seek_of}
-use Rattle.syscalls.specs.declared.seek.Seek.{Seek}
-use Rattle.syscalls.specs.declared.seek.Seek.TheVariants as seeking
-use Rattle.syscalls.specs.Unlinking.{lower_of, LowerFits, unlink_of, UnlinkFits}
-use Rattle.syscalls.specs.declared.lower.Lower.{Lower}
-use Rattle.syscalls.specs.declared.lower.Lower.TheVariants as lowering
-use Rattle.syscalls.specs.declared.unlink.Unlink.{Unlink}
-use Rattle.syscalls.specs.declared.unlink.Unlink.TheVariants as unlinking
+use Rattle.call_parts.specs.Taking.{take_of, reach_of}
+use Rattle.call_parts.specs.declared.take.TakeInode.{TakeInode}
+use Rattle.call_parts.specs.declared.take.TakeInode.TheVariants as taking
+use Rattle.call_parts.specs.declared.reach.Reach.{Reach}
+use Rattle.call_parts.specs.declared.reach.Reach.TheVariants as reaching
+use Rattle.call_parts.specs.Tails.{tail_of, TailFits}
+use Rattle.call_parts.specs.declared.tail.Tail.{Tail}
+use Rattle.call_parts.specs.declared.tail.Tail.TheVariants as tail
+use Rattle.call_parts.specs.Ends.{give_of, quit_of, QuitFits}
+use Rattle.call_parts.specs.declared.give.GiveUp.{GiveUp}
+use Rattle.call_parts.specs.declared.give.GiveUp.TheVariants as giving
+use Rattle.call_parts.specs.declared.quit.Quit.{Quit}
+use Rattle.call_parts.specs.declared.quit.Quit.TheVariants as quitting
+use Rattle.call_parts.specs.Seeking.{seek_of}
+use Rattle.call_parts.specs.declared.seek.Seek.{Seek}
+use Rattle.call_parts.specs.declared.seek.Seek.TheVariants as seeking
+use Rattle.naming_calls.specs.Unlinking.{lower_of, LowerFits, unlink_of, UnlinkFits}
+use Rattle.naming_calls.specs.declared.lower.Lower.{Lower}
+use Rattle.naming_calls.specs.declared.lower.Lower.TheVariants as lowering
+use Rattle.naming_calls.specs.declared.unlink.Unlink.{Unlink}
+use Rattle.naming_calls.specs.declared.unlink.Unlink.TheVariants as unlinking
 use Rattle.directory.specs.Putting.{put_of}
 use Rattle.directory.specs.declared.put_entry.PutEntry.{PutEntry}
 use Rattle.directory.specs.declared.put_entry.PutEntry.TheVariants as putting
 use Rattle.fs_layout.specs.declared.entry.Dirent.{Dirent}
 use Rattle.fs_layout.specs.declared.entry.Dirent.TheVariants.{Free}
-use Rattle.syscalls.specs.Opens.{install_of, InstallFits, open_old_of, OpenOldFits}
-use Rattle.syscalls.specs.declared.install.Install.{Install}
-use Rattle.syscalls.specs.declared.install.Install.TheVariants as installing
-use Rattle.syscalls.specs.declared.open_old.OpenOld.{OpenOld}
-use Rattle.syscalls.specs.declared.open_old.OpenOld.TheVariants as opening
-use Rattle.syscalls.specs.Chdirs.{chdir_of, ChdirFits}
-use Rattle.syscalls.specs.declared.chdir.Chdir.{Chdir}
-use Rattle.syscalls.specs.declared.chdir.Chdir.TheVariants as chdir
-use Rattle.syscalls.specs.declared.dup.Dup.{Dup}
-use Rattle.syscalls.specs.declared.dup.Dup.TheVariants as dup
-use Rattle.syscalls.specs.declared.close.Close.{Close}
-use Rattle.syscalls.specs.declared.close.Close.TheVariants as close
-use Rattle.syscalls.specs.declared.fstat.Fstat.{Fstat}
-use Rattle.syscalls.specs.declared.fstat.Fstat.TheVariants as fstat
-use Rattle.syscalls.specs.declared.read.Read.{Read}
-use Rattle.syscalls.specs.declared.read.Read.TheVariants as read
-use Rattle.syscalls.specs.Writing.{part_of, write_call_of, WriteCallFits}
-use Rattle.syscalls.specs.declared.write.Write.{Write}
-use Rattle.syscalls.specs.declared.write.Write.TheVariants as write
+use Rattle.making_calls.specs.Opens.{install_of, InstallFits, open_old_of, OpenOldFits}
+use Rattle.making_calls.specs.declared.install.Install.{Install}
+use Rattle.making_calls.specs.declared.install.Install.TheVariants as installing
+use Rattle.making_calls.specs.declared.open_old.OpenOld.{OpenOld}
+use Rattle.making_calls.specs.declared.open_old.OpenOld.TheVariants as opening
+use Rattle.naming_calls.specs.Chdirs.{chdir_of, ChdirFits}
+use Rattle.naming_calls.specs.declared.chdir.Chdir.{Chdir}
+use Rattle.naming_calls.specs.declared.chdir.Chdir.TheVariants as chdir
+use Rattle.descriptor_calls.specs.declared.dup.Dup.{Dup}
+use Rattle.descriptor_calls.specs.declared.dup.Dup.TheVariants as dup
+use Rattle.descriptor_calls.specs.declared.close.Close.{Close}
+use Rattle.descriptor_calls.specs.declared.close.Close.TheVariants as close
+use Rattle.descriptor_calls.specs.declared.fstat.Fstat.{Fstat}
+use Rattle.descriptor_calls.specs.declared.fstat.Fstat.TheVariants as fstat
+use Rattle.descriptor_calls.specs.declared.read.Read.{Read}
+use Rattle.descriptor_calls.specs.declared.read.Read.TheVariants as read
+use Rattle.descriptor_calls.specs.Writing.{part_of, write_call_of, WriteCallFits}
+use Rattle.descriptor_calls.specs.declared.write.Write.{Write}
+use Rattle.descriptor_calls.specs.declared.write.Write.TheVariants as write
 use Rattle.inode_table.specs.NewMachines.{new_of}
 use Rattle.directory.specs.Entering.{enter_of}
-use Rattle.syscalls.specs.Making.{make_of}
-use Rattle.syscalls.specs.Creating.{open_new_of, OpenNewFits}
-use Rattle.syscalls.specs.Inheriting.{inherit_of, InheritFits}
-use Rattle.syscalls.specs.Links.{add_of, link_of, AddFits, LinkFits}
-use Rattle.syscalls.specs.Mkdirs.{mkdir_of, MkdirFits}
+use Rattle.making_calls.specs.Making.{make_of}
+use Rattle.making_calls.specs.Creating.{open_new_of, OpenNewFits}
+use Rattle.descriptor_calls.specs.Inheriting.{inherit_of, InheritFits}
+use Rattle.naming_calls.specs.Links.{add_of, link_of, AddFits, LinkFits}
+use Rattle.making_calls.specs.Mkdirs.{mkdir_of, MkdirFits}
 use Rattle.plain_tree.specs.Tree.{Name}
 use Rattle.inode_table.specs.declared.new_inode.NewInode.{NewInode}
 use Rattle.inode_table.specs.declared.new_inode.NewInode.TheVariants as making_inode
 use Rattle.directory.specs.declared.enter.Enter.{Enter}
 use Rattle.directory.specs.declared.enter.Enter.TheVariants as entering
-use Rattle.syscalls.specs.declared.make.Make.{Make}
-use Rattle.syscalls.specs.declared.make.Make.TheVariants as making
-use Rattle.syscalls.specs.declared.open_new.OpenNew.{OpenNew}
-use Rattle.syscalls.specs.declared.open_new.OpenNew.TheVariants as creating
-use Rattle.syscalls.specs.declared.add_name.AddName.{AddName}
-use Rattle.syscalls.specs.declared.add_name.AddName.TheVariants as adding
-use Rattle.syscalls.specs.declared.inherit.Inherit.{Inherit}
-use Rattle.syscalls.specs.declared.inherit.Inherit.TheVariants as inheriting
-use Rattle.syscalls.specs.declared.link.Link.{Link}
-use Rattle.syscalls.specs.declared.link.Link.TheVariants as linking
-use Rattle.syscalls.specs.declared.mkdir.Mkdir.{Mkdir}
-use Rattle.syscalls.specs.declared.mkdir.Mkdir.TheVariants as mkdir
+use Rattle.making_calls.specs.declared.make.Make.{Make}
+use Rattle.making_calls.specs.declared.make.Make.TheVariants as making
+use Rattle.making_calls.specs.declared.open_new.OpenNew.{OpenNew}
+use Rattle.making_calls.specs.declared.open_new.OpenNew.TheVariants as creating
+use Rattle.naming_calls.specs.declared.add_name.AddName.{AddName}
+use Rattle.naming_calls.specs.declared.add_name.AddName.TheVariants as adding
+use Rattle.descriptor_calls.specs.declared.inherit.Inherit.{Inherit}
+use Rattle.descriptor_calls.specs.declared.inherit.Inherit.TheVariants as inheriting
+use Rattle.naming_calls.specs.declared.link.Link.{Link}
+use Rattle.naming_calls.specs.declared.link.Link.TheVariants as linking
+use Rattle.making_calls.specs.declared.mkdir.Mkdir.{Mkdir}
+use Rattle.making_calls.specs.declared.mkdir.Mkdir.TheVariants as mkdir
 use Rattle.syscalls.specs.declared.running.Running.{Running}
 use Rattle.syscalls.specs.declared.running.Running.TheVariants as running
 

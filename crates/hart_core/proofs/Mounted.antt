@@ -1,7 +1,8 @@
 -- What a mount's recovery leaves.
 use Rattle.std.proofs.Common.{◌≡◌, ◌≢◌, ℕ, List, [], refl, sym, ◌∙◌, ap, subst}
 use Rattle.std.specs.Prelude.{Result, Err}
-use Rattle.fs_layout.specs.Recovered.{block_at, logged, recovered, sizes_of, IsOutsideLog}
+use Rattle.block_device.specs.Blocks.{block_at}
+use Rattle.fs_layout.specs.Recovered.{logged, recovered, sizes_of, IsOutsideLog}
 use Rattle.image_tree.specs.declared.fault.MountFault.{MountFault}
 use Rattle.image_tree.specs.declared.fault.MountFault.TheVariants.{Damaged, DeviceFault, NoMemory}
 use Rattle.image_tree.specs.Damage.{IsWellFormed, JudgesFault, fault_count_of}

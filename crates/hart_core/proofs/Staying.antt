@@ -43,80 +43,81 @@ use Rattle.inode_data.specs.declared.dropping.DropReference.TheVariants as dropp
 use Rattle.file_table.specs.Machines.{FileFits, IsLoaded}
 use Rattle.file_table.specs.declared.load_file.LoadFile.{LoadFile}
 use Rattle.file_table.specs.declared.load_file.LoadFile.TheVariants as file
-use Rattle.syscalls.specs.Machines.{CloseFits, FstatFits, ReadCallFits, RunningFits}
+use Rattle.descriptor_calls.specs.Machines.{CloseFits, FstatFits, ReadCallFits}
+use Rattle.syscalls.specs.Machines.{RunningFits}
 use Rattle.directory.specs.Machines.{inode_of, SearchFits}
 use Rattle.directory.specs.declared.search.Search.{Search}
 use Rattle.directory.specs.declared.search.Search.TheVariants as searching
 use Rattle.path_walk.specs.Machines.{WalkFits}
 use Rattle.path_walk.specs.declared.walk.Walk.{Walk}
 use Rattle.path_walk.specs.declared.walk.Walk.TheVariants as walking
-use Rattle.syscalls.specs.Taking.{IsHeld, TakeFits, ReachFits}
-use Rattle.syscalls.specs.declared.take.Held.{Held}
-use Rattle.syscalls.specs.declared.take.TakeInode.{TakeInode}
-use Rattle.syscalls.specs.declared.take.TakeInode.TheVariants as taking
-use Rattle.syscalls.specs.declared.reach.Reach.{Reach}
-use Rattle.syscalls.specs.declared.reach.Reach.TheVariants as reaching
-use Rattle.syscalls.specs.Tails.{TailFits}
-use Rattle.syscalls.specs.declared.tail.Tail.{Tail}
-use Rattle.syscalls.specs.declared.tail.Tail.TheVariants as tail
-use Rattle.syscalls.specs.Ends.{GiveFits, QuitFits}
-use Rattle.syscalls.specs.declared.give.GiveUp.{GiveUp}
-use Rattle.syscalls.specs.declared.give.GiveUp.TheVariants as giving
-use Rattle.syscalls.specs.declared.quit.Quit.{Quit}
-use Rattle.syscalls.specs.declared.quit.Quit.TheVariants as quitting
-use Rattle.syscalls.specs.Seeking.{IsParent, SeekFits}
-use Rattle.syscalls.specs.declared.seek.Seek.{Seek}
-use Rattle.syscalls.specs.declared.seek.Seek.TheVariants as seeking
-use Rattle.syscalls.specs.Unlinking.{AreHeld, IsRemoving, LowerFits, UnlinkFits}
-use Rattle.syscalls.specs.declared.lower.Lower.{Lower}
-use Rattle.syscalls.specs.declared.lower.Lower.TheVariants as lowering
-use Rattle.syscalls.specs.declared.unlink.Removing.{Removing}
-use Rattle.syscalls.specs.declared.unlink.Unlink.{Unlink}
-use Rattle.syscalls.specs.declared.unlink.Unlink.TheVariants as unlinking
+use Rattle.call_parts.specs.Taking.{IsHeld, TakeFits, ReachFits}
+use Rattle.call_parts.specs.declared.take.Held.{Held}
+use Rattle.call_parts.specs.declared.take.TakeInode.{TakeInode}
+use Rattle.call_parts.specs.declared.take.TakeInode.TheVariants as taking
+use Rattle.call_parts.specs.declared.reach.Reach.{Reach}
+use Rattle.call_parts.specs.declared.reach.Reach.TheVariants as reaching
+use Rattle.call_parts.specs.Tails.{TailFits}
+use Rattle.call_parts.specs.declared.tail.Tail.{Tail}
+use Rattle.call_parts.specs.declared.tail.Tail.TheVariants as tail
+use Rattle.call_parts.specs.Ends.{GiveFits, QuitFits}
+use Rattle.call_parts.specs.declared.give.GiveUp.{GiveUp}
+use Rattle.call_parts.specs.declared.give.GiveUp.TheVariants as giving
+use Rattle.call_parts.specs.declared.quit.Quit.{Quit}
+use Rattle.call_parts.specs.declared.quit.Quit.TheVariants as quitting
+use Rattle.call_parts.specs.Seeking.{IsParent, SeekFits}
+use Rattle.call_parts.specs.declared.seek.Seek.{Seek}
+use Rattle.call_parts.specs.declared.seek.Seek.TheVariants as seeking
+use Rattle.naming_calls.specs.Unlinking.{AreHeld, IsRemoving, LowerFits, UnlinkFits}
+use Rattle.naming_calls.specs.declared.lower.Lower.{Lower}
+use Rattle.naming_calls.specs.declared.lower.Lower.TheVariants as lowering
+use Rattle.naming_calls.specs.declared.unlink.Removing.{Removing}
+use Rattle.naming_calls.specs.declared.unlink.Unlink.{Unlink}
+use Rattle.naming_calls.specs.declared.unlink.Unlink.TheVariants as unlinking
 use Rattle.directory.specs.Putting.{putter_of, PutFits}
 use Rattle.directory.specs.declared.put_entry.PutEntry.{PutEntry}
 use Rattle.directory.specs.declared.put_entry.PutEntry.TheVariants as putting
-use Rattle.syscalls.specs.Opens.{InstallFits, OpenOldFits}
-use Rattle.syscalls.specs.declared.install.Install.{Install}
-use Rattle.syscalls.specs.declared.install.Install.TheVariants as installing
-use Rattle.syscalls.specs.declared.open_old.OpenOld.{OpenOld}
-use Rattle.syscalls.specs.declared.open_old.OpenOld.TheVariants as opening
-use Rattle.syscalls.specs.Chdirs.{ChdirFits}
-use Rattle.syscalls.specs.declared.chdir.Chdir.{Chdir}
-use Rattle.syscalls.specs.declared.chdir.Chdir.TheVariants as chdir
-use Rattle.syscalls.specs.declared.close.Close.{Close}
-use Rattle.syscalls.specs.declared.close.Close.TheVariants as close
-use Rattle.syscalls.specs.declared.fstat.Fstat.{Fstat}
-use Rattle.syscalls.specs.declared.fstat.Fstat.TheVariants as fstat
-use Rattle.syscalls.specs.declared.read.Read.{Read}
-use Rattle.syscalls.specs.declared.read.Read.TheVariants as read
-use Rattle.syscalls.specs.Writing.{part_of, WriteCallFits}
-use Rattle.syscalls.specs.declared.write.Write.{Write}
-use Rattle.syscalls.specs.declared.write.Write.TheVariants as write
+use Rattle.making_calls.specs.Opens.{InstallFits, OpenOldFits}
+use Rattle.making_calls.specs.declared.install.Install.{Install}
+use Rattle.making_calls.specs.declared.install.Install.TheVariants as installing
+use Rattle.making_calls.specs.declared.open_old.OpenOld.{OpenOld}
+use Rattle.making_calls.specs.declared.open_old.OpenOld.TheVariants as opening
+use Rattle.naming_calls.specs.Chdirs.{ChdirFits}
+use Rattle.naming_calls.specs.declared.chdir.Chdir.{Chdir}
+use Rattle.naming_calls.specs.declared.chdir.Chdir.TheVariants as chdir
+use Rattle.descriptor_calls.specs.declared.close.Close.{Close}
+use Rattle.descriptor_calls.specs.declared.close.Close.TheVariants as close
+use Rattle.descriptor_calls.specs.declared.fstat.Fstat.{Fstat}
+use Rattle.descriptor_calls.specs.declared.fstat.Fstat.TheVariants as fstat
+use Rattle.descriptor_calls.specs.declared.read.Read.{Read}
+use Rattle.descriptor_calls.specs.declared.read.Read.TheVariants as read
+use Rattle.descriptor_calls.specs.Writing.{part_of, WriteCallFits}
+use Rattle.descriptor_calls.specs.declared.write.Write.{Write}
+use Rattle.descriptor_calls.specs.declared.write.Write.TheVariants as write
 use Rattle.inode_table.specs.NewMachines.{NewFits}
 use Rattle.directory.specs.Entering.{EnterFits}
-use Rattle.syscalls.specs.Making.{IsMaking, MakeFits}
-use Rattle.syscalls.specs.Creating.{OpenNewFits}
-use Rattle.syscalls.specs.Inheriting.{InheritFits}
-use Rattle.syscalls.specs.Links.{AddFits, LinkFits}
-use Rattle.syscalls.specs.Mkdirs.{MkdirFits}
-use Rattle.syscalls.specs.declared.make.Making.{Making}
+use Rattle.making_calls.specs.Making.{IsMaking, MakeFits}
+use Rattle.making_calls.specs.Creating.{OpenNewFits}
+use Rattle.descriptor_calls.specs.Inheriting.{InheritFits}
+use Rattle.naming_calls.specs.Links.{AddFits, LinkFits}
+use Rattle.making_calls.specs.Mkdirs.{MkdirFits}
+use Rattle.making_calls.specs.declared.make.Making.{Making}
 use Rattle.inode_table.specs.declared.new_inode.NewInode.{NewInode}
 use Rattle.inode_table.specs.declared.new_inode.NewInode.TheVariants as making_inode
 use Rattle.directory.specs.declared.enter.Enter.{Enter}
 use Rattle.directory.specs.declared.enter.Enter.TheVariants as entering
-use Rattle.syscalls.specs.declared.make.Make.{Make}
-use Rattle.syscalls.specs.declared.make.Make.TheVariants as making
-use Rattle.syscalls.specs.declared.open_new.OpenNew.{OpenNew}
-use Rattle.syscalls.specs.declared.open_new.OpenNew.TheVariants as creating
-use Rattle.syscalls.specs.declared.add_name.AddName.{AddName}
-use Rattle.syscalls.specs.declared.add_name.AddName.TheVariants as adding
-use Rattle.syscalls.specs.declared.inherit.Inherit.{Inherit}
-use Rattle.syscalls.specs.declared.inherit.Inherit.TheVariants as inheriting
-use Rattle.syscalls.specs.declared.link.Link.{Link}
-use Rattle.syscalls.specs.declared.link.Link.TheVariants as linking
-use Rattle.syscalls.specs.declared.mkdir.Mkdir.{Mkdir}
-use Rattle.syscalls.specs.declared.mkdir.Mkdir.TheVariants as mkdir
+use Rattle.making_calls.specs.declared.make.Make.{Make}
+use Rattle.making_calls.specs.declared.make.Make.TheVariants as making
+use Rattle.making_calls.specs.declared.open_new.OpenNew.{OpenNew}
+use Rattle.making_calls.specs.declared.open_new.OpenNew.TheVariants as creating
+use Rattle.naming_calls.specs.declared.add_name.AddName.{AddName}
+use Rattle.naming_calls.specs.declared.add_name.AddName.TheVariants as adding
+use Rattle.descriptor_calls.specs.declared.inherit.Inherit.{Inherit}
+use Rattle.descriptor_calls.specs.declared.inherit.Inherit.TheVariants as inheriting
+use Rattle.naming_calls.specs.declared.link.Link.{Link}
+use Rattle.naming_calls.specs.declared.link.Link.TheVariants as linking
+use Rattle.making_calls.specs.declared.mkdir.Mkdir.{Mkdir}
+use Rattle.making_calls.specs.declared.mkdir.Mkdir.TheVariants as mkdir
 use Rattle.syscalls.specs.declared.running.Running.{Running}
 use Rattle.syscalls.specs.declared.running.Running.TheVariants as running
 

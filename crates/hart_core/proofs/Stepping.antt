@@ -21,8 +21,8 @@ use Rattle.fs_machine.specs.Machines.{P, Moves, said_in}
 use Rattle.fs_machine.specs.Tied.{LeavesTied}
 use Rattle.syscalls.specs.declared.running.Running.{Running}
 use Rattle.syscalls.specs.Machines.{running_of, RunningFits}
-use Rattle.syscalls.specs.Spent.{reply_in}
-use Rattle.syscalls.specs.declared.answered.Answered.{Answered}
+use Rattle.call_parts.specs.Spent.{reply_in}
+use Rattle.call_parts.specs.declared.answered.Answered.{Answered}
 use Rattle.hart_core.specs.Blocks.{blocks, code}
 use Rattle.hart_core.specs.Harts.{HartFits, AllFit, AreHarts}
 use Rattle.hart_core.proofs.Beginning.{HasOne, has_running}

@@ -1,7 +1,7 @@
 -- What a mount comes to.
 use Rattle.std.specs.Prelude.{◌≡◌, ◌≢◌, ℕ, false, List, [], None, replicate}
-use Rattle.block_device.specs.Blocks.{HasBytes, HasWholeBlocks}
-use Rattle.fs_layout.specs.Recovered.{block_at, logged, recovered, sizes_of, IsOutsideLog}
+use Rattle.block_device.specs.Blocks.{HasBytes, HasWholeBlocks, block_at}
+use Rattle.fs_layout.specs.Recovered.{logged, recovered, sizes_of, IsOutsideLog}
 use Rattle.buffer_cache.specs.Limits.{buffer_count, hart_count}
 use Rattle.buffer_cache.specs.Seats.{unused_from}
 use Rattle.group_log.specs.declared.phase.Phase.TheVariants.{Open}

@@ -3,17 +3,18 @@ ghost use Rattle.std.specs.Prelude.{◌≡◌, ℕ, [], None};
 ghost use Rattle.atomic_programs.specs.Prog.{plain};
 ghost use Rattle.fs_machine.specs.Steps.{State};
 ghost use Rattle.syscalls.specs.Machines.{running_of, RunningFits};
-ghost use Rattle.syscalls.specs.Making.{IsSized};
+ghost use Rattle.call_parts.specs.OnPaths.{IsSized};
 ghost use Rattle.plain_tree.specs.declared.call.Call.TheVariants.{Open};
 ghost use Rattle.calls_on_blocks.specs.Theory.{block_calls};
 ghost use Rattle.hart_core.specs.Starts.{fault_of, path_fault};
 
+use descriptor_calls::{Close, Dup, Fstat, Inherit, Read, Write};
 use fs_layout::Super;
 use fs_tables::Listed;
+use making_calls::{Mkdir, OpenNew, OpenOld};
+use naming_calls::{Chdir, Link, Unlink};
 use plain_tree::{Bytes, Call};
-use syscalls::{
-    Chdir, Close, Dup, Fstat, Inherit, Link, Mkdir, OpenNew, OpenOld, Read, Running, Unlink, Write,
-};
+use syscalls::Running;
 
 // An open's flag that makes a file.
 const CREATE: u32 = 512;

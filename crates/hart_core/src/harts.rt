@@ -13,7 +13,7 @@ ghost use Rattle.inode_machine.specs.Exec.{is_at};
 ghost use Rattle.calls_on_blocks.specs.Theory.{block_calls, has_file, reserved};
 ghost use Rattle.hart_core.specs.Harts.{outcome_of, said, HartFits, shared_of, programs_of, busy_in, children_in, AreIdle, HandsList};
 ghost use Rattle.hart_core.specs.Starts.{fault_of};
-ghost use Rattle.syscalls.specs.Making.{IsSized};
+ghost use Rattle.call_parts.specs.OnPaths.{IsSized};
 ghost use Rattle.atomic_programs.specs.Prog.{plain};
 
 use crate::beginnings::running;
@@ -22,13 +22,14 @@ use crate::outcome::{Outcome, Stop};
 use atomic_programs::machines::Stepped;
 use block_device::Device;
 use buffer_cache::HARTS;
+use call_parts::Answered;
 use fs_layout::Super;
 use fs_machine::Core;
 use fs_tables::{DESCRIPTORS, Listed};
 use group_log::Phase;
 use plain_tree::Call;
 use std::marker::Model;
-use syscalls::{Answered, Running};
+use syscalls::Running;
 
 // A step of a hart that does this; whether the world has stopped; and the list that a call hands back at its end.
 fn step<D: Device>(

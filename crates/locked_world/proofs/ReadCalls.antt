@@ -16,7 +16,7 @@ use Rattle.inode_data.specs.declared.addresses.Address.TheVariants.{Direct, InTa
 use Rattle.inode_data.specs.Addresses.{address, table_of}
 use Rattle.inode_data.specs.Programs.{Fetched, Filled, filled_with, give_fetched, fetch_number, fetch_named, fetch_at, fetch_block, next_block, blocks_between, part_of, read_part, read_blocks, end_of, read_from}
 use Rattle.file_table.specs.Programs.{FileState, Denies, Loads, load_file}
-use Rattle.syscalls.specs.Programs.{read_program, read_on, give_read}
+use Rattle.descriptor_calls.specs.Programs.{read_program, read_on, give_read}
 use Rattle.locked_world.specs.HandedBack.{HandsBack, FitsBlock, EndsWith}
 
 ends_bind : {A B : Type 0} (Is : B → Type 0) (Mid : A → Type 0) (p : P A) (f : A → P B) → EndsWith Mid p → ((a : A) → Mid a → EndsWith Is (f a)) → EndsWith Is (bind p f)

@@ -6,7 +6,7 @@ use Rattle.plain_tree.specs.declared.call.Call.{Call}
 use Rattle.plain_tree.specs.declared.call.Call.TheVariants as calls
 use Rattle.plain_tree.specs.Calls.{piece_count}
 use Rattle.plain_tree.specs.Tree.{elements, is_empty, pieces}
-use Rattle.plain_tree.specs.Widths.{name_width}
+use Rattle.plain_tree.specs.Widths.{name_len}
 use Rattle.tree_laws.proofs.Maps.{either}
 use Rattle.inode_machine.specs.Exec.{is_nothing}
 use Rattle.inode_machine.specs.Programs.{limit, path_cost}
@@ -40,7 +40,7 @@ few_pieces f (b ∷ bs) = elim (either (b == 47)) [
 few_elements : (p : List ℕ) → length (elements p) ≤ length p + 1
 few_elements p =
     let named : List (List ℕ) = filter (λ e. not (is_empty e)) (pieces [] p) in
-    let a : length (elements p) ≡ length named = length-map named (λ e. take name_width e) in
+    let a : length (elements p) ≡ length named = length-map named (λ e. take name_len e) in
     let b = few_left (λ e. not (is_empty e)) (pieces [] p) in
     let c = few_pieces [] p in
     omega (arith, a, b, c)

@@ -1,115 +1,26 @@
--- The programs that are left of the calls.
-use Rattle.std.specs.Prelude.{◌≡◌, [], ◌<◌, ◌^◌, ℕ, length, None}
-use Rattle.plain_tree.specs.declared.answer.Answer.TheVariants as answers
-use Rattle.plain_tree.specs.declared.answer.Cause.TheVariants as causes
-use Rattle.plain_tree.specs.declared.answer.Full.TheVariants as fulls
+-- The program that is left of a call, whichever it is.
+use Rattle.std.specs.Prelude.{◌≡◌, [], ℕ}
 use Rattle.plain_tree.specs.declared.answer.Reply.{Reply}
-use Rattle.plain_tree.specs.declared.call.Call.TheVariants as calls
-use Rattle.fs_layout.specs.declared.superblock.Super.{Super}
-use Rattle.atomic_programs.specs.Prog.{Do, bind, unmarked}
-use Rattle.atomic_programs.specs.declared.machines.Stepped.{Stepped}
-use Rattle.atomic_programs.specs.declared.machines.Stepped.TheVariants.{Ran, Done}
-use Rattle.fs_tables.specs.declared.slots.Doubled.{Doubled}
-use Rattle.fs_tables.specs.declared.slots.Doubled.TheVariants as doubled
-use Rattle.fs_tables.specs.declared.slots.Shut.{Shut}
-use Rattle.fs_tables.specs.declared.slots.Shut.TheVariants as shut
-use Rattle.fs_machine.specs.declared.kind.Kind.{Kind}
-use Rattle.fs_machine.specs.declared.kind.Kind.TheVariants as kind
-use Rattle.fs_machine.specs.Steps.{State, Unlock}
+use Rattle.fs_machine.specs.Steps.{State}
 use Rattle.fs_machine.specs.Machines.{P}
-use Rattle.fs_machine.specs.Tied.{IsOwnInode}
-use Rattle.fs_machine.specs.Fetching.{finish_of, FinishFits}
-use Rattle.file_table.specs.Machines.{IsEarly, file_of, FileFits, IsLoaded}
-use Rattle.inode_data.specs.Dropping.{drop_of, DropFits}
-use Rattle.inode_data.specs.Reading.{filled_in, read_of, reader_of, ReadFits}
-use Rattle.syscalls.specs.declared.read.Read.{Read}
-use Rattle.syscalls.specs.declared.read.Read.TheVariants as read
-use Rattle.syscalls.specs.Replies.{failed, full, done}
-use Rattle.syscalls.specs.Programs.{say, dup_program, leave_closed, drop_closed, close_program, stat_reply, stat_on, give_read, read_on}
-use Rattle.syscalls.specs.Ends.{quit_of, QuitFits}
-use Rattle.syscalls.specs.declared.onward.Onward.{Onward}
-use Rattle.syscalls.specs.declared.onward.Onward.TheVariants as onward
-use Rattle.syscalls.specs.Opens.{open_old_of, OpenOldFits}
-use Rattle.syscalls.specs.Creating.{open_new_of, OpenNewFits}
-use Rattle.syscalls.specs.Inheriting.{inherit_of, InheritFits}
-use Rattle.syscalls.specs.Links.{link_of, LinkFits}
-use Rattle.syscalls.specs.Mkdirs.{mkdir_of, MkdirFits}
-use Rattle.syscalls.specs.Chdirs.{chdir_of, ChdirFits}
-use Rattle.syscalls.specs.Writing.{write_call_of, WriteCallFits}
-use Rattle.syscalls.specs.Unlinking.{unlink_of, UnlinkFits}
+use Rattle.descriptor_calls.specs.declared.read.Read.{Read}
+use Rattle.call_parts.specs.Ends.{quit_of, QuitFits}
+use Rattle.call_parts.specs.declared.onward.Onward.{Onward}
+use Rattle.call_parts.specs.declared.onward.Onward.TheVariants as onward
+use Rattle.making_calls.specs.Opens.{open_old_of, OpenOldFits}
+use Rattle.making_calls.specs.Creating.{open_new_of, OpenNewFits}
+use Rattle.descriptor_calls.specs.Inheriting.{inherit_of, InheritFits}
+use Rattle.naming_calls.specs.Links.{link_of, LinkFits}
+use Rattle.making_calls.specs.Mkdirs.{mkdir_of, MkdirFits}
+use Rattle.naming_calls.specs.Chdirs.{chdir_of, ChdirFits}
+use Rattle.descriptor_calls.specs.Writing.{write_call_of, WriteCallFits}
+use Rattle.naming_calls.specs.Unlinking.{unlink_of, UnlinkFits}
 use Rattle.syscalls.specs.declared.running.Running.{Running}
 use Rattle.syscalls.specs.declared.running.Running.TheVariants as running
-use Rattle.syscalls.specs.declared.dup.Dup.{Dup}
-use Rattle.syscalls.specs.declared.dup.Dup.TheVariants as dup
-use Rattle.syscalls.specs.declared.close.Close.{Close}
-use Rattle.syscalls.specs.declared.close.Close.TheVariants as close
-use Rattle.syscalls.specs.declared.fstat.Fstat.{Fstat}
-use Rattle.syscalls.specs.declared.fstat.Fstat.TheVariants as fstat
-
--- ---- dup
-
-unfoldable pub dup_of : Dup → P Reply
-dup_of (dup.Double fd) = dup_program fd
-dup_of (dup.Say reply) = say reply
-
--- what a doubling came to
-abbrev pub dup_came : ℕ → Doubled → Stepped Dup Reply Kind
-dup_came fd doubled.BadDescriptor = Done (failed (calls.Dup fd) causes.BadDescriptor) kind.Reply
-dup_came fd doubled.Full = Ran (dup.Say (full (calls.Dup fd) fulls.Descriptors)) kind.Slot
-dup_came fd (doubled.Gave other) = Ran (dup.Say (record { answer = answers.Fd other; call = calls.Dup fd })) kind.Slot
-
--- ---- close
-
-unfoldable pub close_of : Close → P Reply
-close_of (close.Shut sizes fd) = close_program sizes fd
-close_of (close.Join sizes fd n) = drop_closed sizes fd n
-close_of (close.Dropping fd txn m) = bind (drop_of m) (λ _. leave_closed fd)
-close_of (close.Finishing fd m) = bind (finish_of m) (λ _. say (done (calls.Close fd)))
-close_of (close.Say reply) = say reply
-
--- its transaction and its guards go with the state
-unfoldable pub CloseFits : ℕ → State → Close → Type 0
-CloseFits hart s (close.Shut sizes fd) = IsEarly sizes.inodestart
-CloseFits hart s (close.Join sizes fd n) = IsEarly sizes.inodestart
-CloseFits hart s (close.Dropping fd txn m) = (txn ≡ hart) × DropFits hart s m
-CloseFits hart s (close.Finishing fd m) = FinishFits hart m
-CloseFits hart s (close.Say reply) = Unit {0}
-
--- what the closing of the descriptor came to
-abbrev pub close_came : Super → ℕ → Shut → Stepped Close Reply Kind
-close_came sizes fd shut.BadDescriptor = Done (failed (calls.Close fd) causes.BadDescriptor) kind.Reply
-close_came sizes fd shut.Closed = Ran (close.Say (done (calls.Close fd))) kind.Slot
-close_came sizes fd (shut.Last n) = Ran (close.Join sizes fd n) kind.Slot
-
--- ---- fstat
-
-unfoldable pub fstat_of : Fstat → P Reply
-fstat_of (fstat.Loading fd load) = bind (file_of load) (stat_on fd)
-fstat_of (fstat.Give fd guard) = Do (Unlock guard.value None) unmarked (λ _. say (stat_reply fd guard.value))
-fstat_of (fstat.Say reply) = say reply
-
--- its guards go with the state
-unfoldable pub FstatFits : ℕ → State → Fstat → Type 0
-FstatFits hart s (fstat.Loading fd load) = FileFits hart s load
-FstatFits hart s (fstat.Give fd guard) = IsLoaded hart guard.value.number guard s
-FstatFits hart s (fstat.Say reply) = Unit {0}
-
--- ---- read
-
-unfoldable pub read_call_of : Read → P Reply
-read_call_of (read.Loading fd buffer load) = bind (file_of load) (read_on fd buffer)
-read_call_of (read.Reading fd offset m) = bind (read_of m) (give_read fd offset (reader_of m).value)
-read_call_of (read.Give fd offset r) = give_read fd offset r.inode.value (filled_in r)
-read_call_of (read.Say reply) = say reply
-
--- its guards go with the state
-unfoldable pub ReadCallFits : ℕ → State → Read → Type 0
-ReadCallFits hart s (read.Loading fd buffer load) = (length buffer < 2 ^ 32) × FileFits hart s load
-ReadCallFits hart s (read.Reading fd offset m) = IsOwnInode hart (reader_of m).value.number (reader_of m) s × ReadFits hart s m
-ReadCallFits hart s (read.Give fd offset r) = IsOwnInode hart r.inode.value.number r.inode s
-ReadCallFits hart s (read.Say reply) = Unit {0}
-
--- ---- all of them
+use Rattle.descriptor_calls.specs.declared.dup.Dup.{Dup}
+use Rattle.descriptor_calls.specs.declared.close.Close.{Close}
+use Rattle.descriptor_calls.specs.declared.fstat.Fstat.{Fstat}
+use Rattle.descriptor_calls.specs.Machines.{dup_of, close_of, CloseFits, fstat_of, FstatFits, read_call_of, ReadCallFits}
 
 unfoldable pub running_of : Running → P Reply
 running_of (running.Open m) = open_old_of m

@@ -6,29 +6,18 @@ ghost use Rattle.fs_machine.specs.Machines.{MayNext, Moves, Answers, CallsOnce};
 ghost use Rattle.fs_machine.specs.Tied.{LeavesTied};
 ghost use Rattle.inode_data.specs.Machines.{ends_within};
 ghost use Rattle.syscalls.specs.Machines.{onward_as, running_of, RunningFits};
-ghost use Rattle.syscalls.specs.Spent.{reply_in, with_list, IsSpent};
+ghost use Rattle.call_parts.specs.Spent.{reply_in, with_list, IsSpent};
 ghost use Rattle.syscalls.specs.declared.running.Running.TheVariants as running;
 
-use crate::answered::Answered;
-use crate::chdir::Chdir;
-use crate::close::Close;
-use crate::dup::Dup;
-use crate::fstat::Fstat;
-use crate::inherit::Inherit;
-use crate::link::Link;
-use crate::mkdir::Mkdir;
-use crate::onward::Onward;
-use crate::open_new::OpenNew;
-use crate::open_old::OpenOld;
-use crate::quit::Quit;
-use crate::read::Read;
-use crate::unlink::Unlink;
-use crate::write::Write;
 use atomic_programs::machines::Stepped;
 use block_device::Device;
 use buffer_cache::HARTS;
+use call_parts::{Answered, Onward, Quit};
+use descriptor_calls::{Close, Dup, Fstat, Inherit, Read, Write};
 use fs_machine::{Core, Kind, RetiredCore};
 use fs_tables::Listed;
+use making_calls::{Mkdir, OpenNew, OpenOld};
+use naming_calls::{Chdir, Link, Unlink};
 use plain_tree::Reply;
 
 /// A call under way. A call without a path has its hart's list beside it, which it doesn't need.

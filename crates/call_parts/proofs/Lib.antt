@@ -1,0 +1,7 @@
+pub mod Nesting
+pub mod Onwards
+pub mod Tails
+pub mod Taken
+pub mod Joining
+pub mod Seeks
+pub mod Having

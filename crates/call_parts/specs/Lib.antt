@@ -1,0 +1,12 @@
+pub mod Replies
+pub mod Spent
+pub mod Programs
+pub mod Nesting
+pub mod Tails
+pub mod Parts
+pub mod Taking
+pub mod Ends
+pub mod Onwards
+pub mod Seeking
+pub mod Counts
+pub mod OnPaths

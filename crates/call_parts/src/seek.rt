@@ -1,0 +1,249 @@
+//! The last name of a path, looked up in its parent.
+ghost use Rattle.std.specs.Prelude.{◌≡◌, ◌≢◌, ◌+◌, ◌≤◌, ℕ, List, length, All, IfSome, IsSome, IsTrue};
+ghost use Rattle.atomic_programs.specs.Machines.{Still, Left as LeftOf};
+ghost use Rattle.fs_tables.specs.Limits.{listed_places};
+ghost use Rattle.fs_machine.specs.Steps.{State, state_of};
+ghost use Rattle.fs_machine.specs.Machines.{MayNext, Moves, Answers, CallsOnce};
+ghost use Rattle.fs_machine.specs.Tied.{LeavesTied};
+ghost use Rattle.inode_data.specs.Beginnings.{begun_of, IfBegun};
+ghost use Rattle.inode_data.specs.Records.{record_in};
+ghost use Rattle.file_table.specs.Machines.{IsEarly};
+ghost use Rattle.directory.specs.Programs.{is_live_directory};
+ghost use Rattle.plain_tree.specs.Tree.{elements};
+ghost use Rattle.path_walk.specs.Elements.{name_in, names_of, IsElement};
+ghost use Rattle.call_parts.specs.Nesting.{Follows};
+ghost use Rattle.call_parts.specs.Parts.{Finds};
+ghost use Rattle.call_parts.specs.Taking.{inode_in, IsHeld, reach_of, ReachFits, reached_as, IsReached, IsThere};
+ghost use Rattle.call_parts.specs.Seeking.{in_looking, is_apart, is_dots, seek, seek_live, seek_of, seek_on, seen_as, seen_of, IsParent, IsSeen, IsSight, SeekFits};
+
+use crate::reach::{Reach, Reached};
+use crate::take::Held;
+use atomic_programs::machines::Stepped;
+use block_device::Device;
+use directory::{Found, Search, Searched, Sought, is_live_directory};
+use fs_machine::{Core, Kind, RetiredCore};
+use fs_tables::{Listed, Reference};
+use inode_data::{Begun, record, went_on};
+use path_walk::{Element, Goal, Stop, next_element};
+
+/// How a call takes "." and ".." as a last name.
+#[derive(Clone, Copy, PartialEq, Eq, Debug)]
+pub enum Dots {
+    /// As any other name.
+    LookedUp,
+    /// They are not looked up.
+    Apart,
+}
+
+/// A last name, with what its parent has under it.
+pub struct LastName {
+    /// The parent. It is a directory that has a link.
+    pub parent: Held,
+    pub element: Element,
+    pub found: Option<Found>,
+    /// The call's references to inodes that it frees at its end.
+    pub list: Listed,
+}
+
+/// What a seek ends with.
+pub enum Seen {
+    /// A name that was looked up.
+    Name(LastName),
+    /// The parent has a link, and the last name is "." or "..", which isn't looked up.
+    Dots(Held, Listed),
+    /// The parent has no link: nothing was looked up, and nothing may be entered.
+    Dead(Held, Listed),
+    /// There is no parent.
+    Lost(Stop, Listed),
+}
+
+/// Walks to the parent of a path's last name, takes it, and looks the name up. The path is told with each step.
+pub enum Seek {
+    /// The parent is reached and taken.
+    Reaching(Dots, Reach),
+    /// The name is looked up.
+    Looking(Reference, Element, Listed, Search),
+}
+
+impl Seek {
+    /// From a path's start, on a disk whose inode blocks begin at block `inodestart`. A path without elements has no parent.
+    #[tactic(auto, unfolding(crate::specs::Seeking::seek_of, crate::specs::Seeking::SeekFits))]
+    pub fn begin(path: &[u8], inodestart: u32, dots: Dots, list: Listed) -> Begun<Seek, Seen>
+        requires early { IsEarly inodestart }
+        requires nonzero { All (λ b. b ≢ 0) path.now }
+        ensures program { begun_of (seek_of path.now) (seen_as path.now) result ≡ seek dots inodestart path.now list }
+        ensures fits { (hart : ℕ) (s : State) → length list + length (elements path.now) ≤ listed_places → IfBegun (SeekFits path.now hart s) (IsSeen path.now hart s) result }
+        ensures there { IfBegun (λ _. Unit {0}) (IsSight path.now) result }
+    {
+        match next_element(path, 0) {
+            None => Begun::Is(Seen::Lost(Stop::NotThere, list)),
+            Some(_) => Begun::Runs(Seek::Reaching(
+                dots,
+                Reach::new(inodestart, Goal::Parent, list),
+            )),
+        }
+    }
+
+    /// One operation.
+    #[tactic(auto, unfolding(crate::specs::Seeking::seek_of, crate::specs::Seeking::SeekFits))]
+    pub fn step<D: Device>(
+        self,
+        hart: u8,
+        path: &[u8],
+        core: &mut Core<D>,
+    ) -> Stepped<Seek, Seen, Kind>
+        requires nonzero { All (λ b. b ≢ 0) path.now }
+        requires may { MayNext hart (seek_of path.now self) (state_of D.contents D.failures core.old) }
+        requires fits { SeekFits path.now hart (state_of D.contents D.failures core.old) self }
+        ensures moves { Moves (seek_of path.now) (seen_as path.now) hart self result (state_of D.contents D.failures core.old) (state_of D.contents D.failures core.new) }
+        ensures honest { Answers (seek_of path.now) hart self result (state_of D.contents D.failures core.old) (state_of D.contents D.failures core.new) }
+        ensures still { Still (seek_of path.now) result self core.old core.new }
+        ensures fits { LeftOf (SeekFits path.now hart (state_of D.contents D.failures core.new)) (IsSeen path.now hart (state_of D.contents D.failures core.new)) result }
+        ensures others { LeavesTied hart (state_of D.contents D.failures core.old) (state_of D.contents D.failures core.new) }
+        ensures called { CallsOnce D.Called core.old.log.cache.device core.new.log.cache.device }
+    {
+        match self {
+            Seek::Reaching(dots, reach) => reaching(path, dots, reach.step(hart, path, core)),
+            Seek::Looking(parent, element, list, search) => {
+                let name = Sought::Name(&path[element.start..element.end]);
+                looking(parent, element, list, search.step(hart, name, core))
+            }
+        }
+    }
+
+    /// Ends it in mid-call, after all that harts share has ended.
+    pub fn retire(self, retired: &RetiredCore) {
+        match self {
+            Seek::Reaching(_, reach) => reach.retire(retired),
+            Seek::Looking(parent, _, list, search) => {
+                parent.retire(&retired.inodes);
+                list.retire(&retired.inodes);
+                search.retire(retired);
+            }
+        }
+    }
+}
+
+// "." or "..".
+fn is_dots(name: &[u8]) -> bool
+    ensures { result ≡ is_dots name.now }
+{
+    let len = name.len();
+    if len == 1 {
+        return name[0] == b'.';
+    }
+    if len == 2 {
+        return name[0] == b'.' && name[1] == b'.';
+    }
+    false
+}
+
+// The name isn't looked up.
+fn is_apart(dots: Dots, name: &[u8]) -> bool
+    ensures { result ≡ is_apart dots name.now }
+{
+    match dots {
+        Dots::LookedUp => false,
+        Dots::Apart => is_dots(name),
+    }
+}
+
+// In a parent that has a link.
+#[tactic(auto, unfolding(crate::specs::Seeking::seek_of, crate::specs::Seeking::SeekFits))]
+fn live(path: &[u8], dots: Dots, held: Held, element: Element, list: Listed) -> Begun<Seek, Seen>
+    requires there { IsSome held.inode.value.content }
+    requires live { IsTrue (is_live_directory (record_in held.inode)) }
+    requires element { IsElement path.now element }
+    ensures program { begun_of (seek_of path.now) (seen_as path.now) result ≡ seek_live dots (inode_in held) (name_in path.now element) list }
+    ensures fits { (hart : ℕ) (s : State) → IsHeld hart held s → IfBegun (SeekFits path.now hart s) (IsSeen path.now hart s) result }
+{
+    if is_apart(dots, &path[element.start..element.end]) {
+        return Begun::Is(Seen::Dots(held, list));
+    }
+    let Held { reference, inode } = held;
+    match Search::begin(inode) {
+        Begun::Runs(search) => Begun::Runs(Seek::Looking(reference, element, list, search)),
+        Begun::Is(searched) => Begun::Is(looked(reference, element, list, searched)),
+    }
+}
+
+// In the parent that was reached.
+#[tactic(auto, unfolding(crate::specs::Seeking::seek_of, crate::specs::Seeking::SeekFits))]
+fn at(path: &[u8], dots: Dots, held: Held, last: Option<Element>, list: Listed) -> Begun<Seek, Seen>
+    requires there { IsSome held.inode.value.content }
+    requires last { IfSome last (IsElement path.now) }
+    ensures program { begun_of (seek_of path.now) (seen_as path.now) result ≡ seek_on dots (Finds (inode_in held) (names_of path.now last) list) }
+    ensures fits { (hart : ℕ) (s : State) → IsHeld hart held s → IfBegun (SeekFits path.now hart s) (IsSeen path.now hart s) result }
+{
+    match last {
+        None => Begun::Is(Seen::Dead(held, list)),
+        Some(element) => {
+            if is_live_directory(&record(&held.inode)) {
+                live(path, dots, held, element, list)
+            } else {
+                Begun::Is(Seen::Dead(held, list))
+            }
+        }
+    }
+}
+
+// A step while the parent is reached.
+#[tactic(auto, unfolding(crate::specs::Seeking::seek_of, crate::specs::Seeking::SeekFits))]
+fn reaching(
+    path: &[u8],
+    dots: Dots,
+    stepped: Stepped<Reach, Reached, Kind>,
+) -> Stepped<Seek, Seen, Kind>
+    requires there { LeftOf (λ _. Unit {0}) (IsThere path.now) stepped }
+    ensures follows { Follows (reach_of path.now) (reached_as path.now) (seek_of path.now) (seen_as path.now) (seek_on dots) stepped result }
+    ensures fits { (hart : ℕ) (s : State) → LeftOf (ReachFits path.now hart s) (IsReached path.now hart s) stepped → LeftOf (SeekFits path.now hart s) (IsSeen path.now hart s) result }
+{
+    match stepped {
+        Stepped::Waits(reach) => Stepped::Waits(Seek::Reaching(dots, reach)),
+        Stepped::Ran(reach, kind) => Stepped::Ran(Seek::Reaching(dots, reach), kind),
+        Stepped::Done(reached, kind) => match reached {
+            Reached::At(held, last, list) => went_on(at(path, dots, held, last, list), kind),
+            Reached::Lost(why, list) => Stepped::Done(Seen::Lost(why, list), kind),
+        },
+        Stepped::Stopped(reach) => Stepped::Stopped(Seek::Reaching(dots, reach)),
+    }
+}
+
+// What a search that is done comes to.
+fn looked(parent: Reference, element: Element, list: Listed, searched: Searched) -> Seen
+    ensures { result ≡ seen_of parent element list searched }
+{
+    let Searched { inode, found } = searched;
+    Seen::Name(LastName {
+        parent: Held {
+            reference: parent,
+            inode,
+        },
+        element,
+        found,
+        list,
+    })
+}
+
+// A search's step, while the name is looked up.
+fn looking(
+    parent: Reference,
+    element: Element,
+    list: Listed,
+    stepped: Stepped<Search, Searched, Kind>,
+) -> Stepped<Seek, Seen, Kind>
+    ensures { result ≡ in_looking parent element list stepped }
+{
+    match stepped {
+        Stepped::Waits(search) => Stepped::Waits(Seek::Looking(parent, element, list, search)),
+        Stepped::Ran(search, kind) => {
+            Stepped::Ran(Seek::Looking(parent, element, list, search), kind)
+        }
+        Stepped::Done(searched, kind) => {
+            Stepped::Done(looked(parent, element, list, searched), kind)
+        }
+        Stepped::Stopped(search) => {
+            Stepped::Stopped(Seek::Looking(parent, element, list, search))
+        }
+    }
+}

@@ -1,0 +1,4 @@
+pub mod Reading
+pub mod Closing
+pub mod Pieces
+pub mod Lendings

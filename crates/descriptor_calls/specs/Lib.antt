@@ -1,0 +1,4 @@
+pub mod Programs
+pub mod Machines
+pub mod Writing
+pub mod Inheriting

@@ -1,0 +1,4 @@
+pub mod Emptying
+pub mod Installing
+pub mod Makings
+pub mod Raising

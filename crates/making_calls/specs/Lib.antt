@@ -1,0 +1,5 @@
+pub mod Opening
+pub mod Opens
+pub mod Making
+pub mod Creating
+pub mod Mkdirs

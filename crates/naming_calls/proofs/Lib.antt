@@ -1,0 +1,5 @@
+pub mod Having
+pub mod Lowers
+pub mod Unlinks
+pub mod Linkings
+pub mod BothHeld

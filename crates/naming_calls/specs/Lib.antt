@@ -1,0 +1,4 @@
+pub mod Moving
+pub mod Chdirs
+pub mod Unlinking
+pub mod Links

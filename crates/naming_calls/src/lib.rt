@@ -1,0 +1,17 @@
+//! The calls that give names and take them, or move to what one names: `link`, `unlink` and `chdir`, one machine each.
+//!
+//! `specs/Links`, `specs/Unlinking` and `specs/Moving` say what a call does, operation by operation; its machine is a value whose
+//! `step` makes the next one. A call under way takes no memory, and is handed back in its reply.
+#![tactic(auto)]
+
+mod add_name;
+mod chdir;
+mod link;
+mod lower;
+mod unlink;
+
+pub use crate::add_name::{AddName, Linking};
+pub use crate::chdir::Chdir;
+pub use crate::link::Link;
+pub use crate::lower::Lower;
+pub use crate::unlink::{Removing, Unlink};
