@@ -1,6 +1,6 @@
 //! Buffers over a disk in memory.
 use crate::workload::WorkloadError;
-use block_device::{BLOCK_SIZE, Device, MemoryDisk};
+use block_device::{BLOCK_LEN, Device, MemoryDisk};
 use buffer_cache::{BUFFERS, BUFFERS_OF_A_HART, Buffer, Buffers, Cache, Got};
 use std::alloc::Global;
 
@@ -45,7 +45,7 @@ pub fn get_most_recent(alloc: Global) -> Result<u64, WorkloadError> {
 
 // A cache that has each block of its disk, the last one most recently given back. Each block begins with a 1.
 fn full(alloc: Global) -> Result<Cache<MemoryDisk>, WorkloadError> {
-    let disk = MemoryDisk::new(vec![in alloc; 1; BUFFERS * BLOCK_SIZE]?);
+    let disk = MemoryDisk::new(vec![in alloc; 1; BUFFERS * BLOCK_LEN]?);
     let mut cache = Cache::new(Buffers::new(alloc)?, disk);
     let mut sum = 0u64;
     for b in 0..BUFFERS as u32 {

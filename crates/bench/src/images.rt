@@ -2,10 +2,8 @@
 use crate::workload::WorkloadError;
 use block_device::MemoryDisk;
 use image_tree::examine;
-use mkfs::make;
+use mkfs::{NewFile, make};
 use std::alloc::{AllocError, Global};
-
-type NewFile = (Vec<u8>, Vec<u8>);
 
 const FRESH_BLOCKS: u32 = 2000;
 
@@ -23,7 +21,10 @@ pub fn files(alloc: Global, count: u32, size: usize) -> Result<Vec<NewFile>, All
     for number in 0..count {
         let name = format!(in alloc; "f{number}")?;
         let name = Vec::from_slice(alloc, name.as_bytes())?;
-        files.push((name, vec![in alloc; b'x'; size]?))?;
+        files.push(NewFile {
+            name,
+            content: vec![in alloc; b'x'; size]?,
+        })?;
     }
     Ok(files)
 }

@@ -7,7 +7,7 @@ ghost use Rattle.group_log.specs.Soundness.{IsHome, IsPlaced};
 ghost use Rattle.group_log.specs.declared.phase.Phase.TheVariants.{Halted};
 
 use crate::workload::WorkloadError;
-use block_device::{BLOCK_SIZE, Device, MemoryDisk};
+use block_device::{BLOCK_LEN, Device, MemoryDisk};
 use buffer_cache::{BUFFERS_OF_A_HART, Buffers, Cache, Got};
 use fs_layout::Super;
 use group_log::{Left, Log, Phase, Progress, Txn};
@@ -179,5 +179,5 @@ fn commit<D: Device>(log: &mut Log<D>) -> bool {
 fn has_last_bytes(disk: MemoryDisk) -> bool {
     let bytes = disk.into_bytes();
     let byte = byte_of(COMMITS - 1);
-    CHANGED.iter().all(|b| bytes.get(*b as usize * BLOCK_SIZE).copied() == Some(byte))
+    CHANGED.iter().all(|b| bytes.get(*b as usize * BLOCK_LEN).copied() == Some(byte))
 }

@@ -1,10 +1,10 @@
-//! Calls of four harts in four threads, under one lock.
-ghost use Rattle.std.specs.Prelude.{◌≡◌};
+//! Calls of one hart or four, each in a thread of its own, under one lock.
+ghost use Rattle.std.specs.Prelude.{◌≡◌, ◌≤◌};
 
 use crate::images::{files, image};
 use crate::plans::{Ask, CREATE, Row, WRITE, plan};
 use crate::workload::WorkloadError;
-use hart_runner::{CallFault, Gate, Kernel, Seat};
+use hart_runner::{CallFault, Kernel, NoGate, Seat};
 use plain_tree::{Call, Reply};
 use std::alloc::Global;
 use std::marker::Brand;
@@ -13,7 +13,23 @@ use std::sync::ledger::{Blank, Ledger};
 use std::thread::Threads;
 use std::{mem, thread};
 
-const HARTS: u64 = 4;
+/// How many harts work.
+#[derive(Clone, Copy, PartialEq, Eq, Debug)]
+pub enum Crew {
+    One,
+    Four,
+}
+
+impl Crew {
+    fn harts(self) -> u64
+        ensures { result ≤ 4 }
+    {
+        match self {
+            Crew::One => 1,
+            Crew::Four => 4,
+        }
+    }
+}
 
 // How often each hart makes its calls.
 const ROUNDS: u32 = 1000;
@@ -33,14 +49,6 @@ const ROUND: [Ask; 4] = [
     Ask::Close,
     Ask::Unlink(b"new"),
 ];
-
-// A gate that does nothing.
-#[derive(Drop)]
-struct NoGate;
-
-impl Gate for NoGate {
-    fn at(&self, _rt: &impl Wait, _hart: u8, _number: u64) {}
-}
 
 // What a hart calls: at first, and again and again.
 #[derive(Drop)]
@@ -155,12 +163,26 @@ fn four_work<L: Ledger + Send + Sync, R: Threads + Wait + Sync>(
     ([a, b, c, d, e, f, g, h], of_a && of_b && of_c && of_d)
 }
 
-// Four harts at work, from the kernel's opening to its end.
+// One hart at work, and the seats that are left.
+fn one_works<L: Ledger, R: Wait>(
+    rt: &R,
+    kernel: &Kernel<L, NoGate>,
+    seats: [Seat<L>; 8],
+    plans: [Plan; 4],
+) -> ([Seat<L>; 8], bool) {
+    let [a, b, c, d, e, f, g, h] = seats;
+    let [of_a, _, _, _] = plans;
+    let (a, is_good) = work(rt, kernel, (a, of_a));
+    ([a, b, c, d, e, f, g, h], is_good)
+}
+
+// These harts at work, from the kernel's opening to its end.
 fn run<L: Ledger + Send + Sync, R: Threads + Wait + Sync>(
     rt: &R,
     alloc: Global,
     blank: Blank,
     image: Vec<u8>,
+    crew: Crew,
     plans: [Plan; 4],
 ) -> Result<u64, WorkloadError>
     requires name { blank.name ≡ L.name }
@@ -171,19 +193,23 @@ fn run<L: Ledger + Send + Sync, R: Threads + Wait + Sync>(
         return Err(WorkloadError::Wrong);
     };
     let (kernel, seats) = opened;
-    let (seats, is_good) = four_work(rt, &kernel, seats, plans);
+    let (seats, is_good) = match crew {
+        Crew::One => one_works(rt, &kernel, seats, plans),
+        Crew::Four => four_work(rt, &kernel, seats, plans),
+    };
     match kernel.close(seats) {
-        Ok(_closed) if is_good => Ok(HARTS * u64::from(ROUNDS)),
+        Ok(_closed) if is_good => Ok(crew.harts() * u64::from(ROUNDS)),
         _ => Err(WorkloadError::Wrong),
     }
 }
 
-/// A file made, written, closed and removed by each of four harts in a directory of its own, in threads of their own.
+/// A file made, written, closed and removed by each of these harts in a directory of its own, in threads of their own.
 pub fn make_write_remove<R: Threads + Wait + Sync>(
     rt: &R,
     alloc: Global,
+    crew: Crew,
 ) -> Result<u64, WorkloadError> {
     let files = files(alloc, FILES, 0)?;
     let image = image(alloc, DISK_BLOCKS, INODES, files.as_slice())?.into_bytes();
-    run::<Brand, R>(rt, alloc, Blank::new(8), image, plans(alloc)?)
+    run::<Brand, R>(rt, alloc, Blank::new(8), image, crew, plans(alloc)?)
 }

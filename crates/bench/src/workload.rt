@@ -1,4 +1,5 @@
 //! What is measured.
+use crate::threads::Crew;
 use crate::worlds::Line;
 use crate::{
     buffers, checks, devices, histories, images, locks, logs, records, tables, threads, trees,
@@ -50,12 +51,12 @@ pub enum Workload {
     TreeStep,
     CheckEntry,
     World(Line),
-    Threads,
+    Threads(Crew),
     ExplainEvent,
 }
 
 /// All of them with their names, in the order in which they run.
-pub const ALL: [(&str, Workload); 33] = [
+pub const ALL: [(&str, Workload); 34] = [
     ("device_read_block", Workload::DeviceRead),
     ("inode_read", Workload::InodeRead),
     ("inode_write", Workload::InodeWrite),
@@ -93,7 +94,14 @@ pub const ALL: [(&str, Workload); 33] = [
     ("write_3072_over", Workload::World(worlds::REWRITE)),
     ("write_274432_anew", Workload::World(worlds::WRITE_ANEW)),
     ("make_write_remove", Workload::World(worlds::REMOVE)),
-    ("make_write_remove_over_4_threads", Workload::Threads),
+    (
+        "make_write_remove_under_the_lock",
+        Workload::Threads(Crew::One),
+    ),
+    (
+        "make_write_remove_over_4_threads",
+        Workload::Threads(Crew::Four),
+    ),
     ("explain_event", Workload::ExplainEvent),
 ];
 
@@ -126,7 +134,7 @@ impl Workload {
             Workload::TreeStep => trees::apply_steps(alloc),
             Workload::CheckEntry => checks::check_entries(alloc),
             Workload::World(line) => worlds::run(alloc, line),
-            Workload::Threads => threads::make_write_remove(rt, alloc),
+            Workload::Threads(crew) => threads::make_write_remove(rt, alloc, crew),
             Workload::ExplainEvent => histories::explain_events(alloc),
         }
     }

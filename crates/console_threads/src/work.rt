@@ -7,21 +7,13 @@ ghost use Rattle.console_threads.specs.Worked.{AllAnswered, EachWorked, HasMade,
 
 use crate::fault::ThreadsFault;
 use console::ConsoleFault;
-use hart_runner::{CallFault, Gate, Kernel, Seat};
+use hart_runner::{CallFault, Kernel, NoGate, Seat};
 use locked_world::{Closed, Halt, Receipt};
 use plain_tree::Call;
 use std::sync::Wait;
 use std::sync::ledger::Ledger;
 use std::thread;
 use std::thread::Threads;
-
-/// A gate that does nothing.
-#[derive(Drop)]
-pub struct NoGate;
-
-impl Gate for NoGate {
-    fn at(&self, _rt: &impl Wait, _hart: u8, _number: u64) {}
-}
 
 /// A hart's seat, and the calls that it is to make.
 #[derive(Drop)]

@@ -3,7 +3,6 @@ use Rattle.std.specs.Prelude.{ℕ, ◌≡◌, ◌+◌, ◌++◌, ◌∷◌, [], 
 use Rattle.plain_tree.specs.declared.answer.Reply.{Reply}
 use Rattle.plain_tree.specs.declared.call.Call.{Call}
 use Rattle.locked_world.specs.HandedBack.{HandsBack}
-use Rattle.plain_tree.specs.declared.call.Call.{Call}
 use Rattle.locked_world.specs.declared.locked.Receipt.{Receipt}
 use Rattle.hart_runner.specs.Seats.{SeatV, BusyV, busy_of}
 use Rattle.hart_runner.specs.declared.kernel.CallFault.{CallFault}

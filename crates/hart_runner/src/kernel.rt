@@ -6,6 +6,8 @@ ghost use Rattle.locked_world.specs.Kept.{replies_of, count_of};
 ghost use Rattle.hart_runner.specs.Seats.{kept_view, kept_of, busy_of, IsListed, OneDiffers, Differs};
 ghost use Rattle.hart_runner.specs.Calls.{WentOn, Answered, Faulted, StillBusy};
 
+use crate::gate::Gate;
+use fs_machine::Kind;
 use hart_core::StartRefused;
 use image_tree::MountFault;
 use locked_world::{
@@ -17,17 +19,17 @@ use std::marker::Model;
 use std::sync::ledger::{Blank, Ledger};
 use std::sync::{Condvar, Mutex, Wait};
 
-/// Where a worker asks before each step of a call, with no lock held.
-pub trait Gate {
-    /// Before this hart makes a try of its call; they are numbered from 0, and the greatest number stays.
-    fn at(&self, rt: &impl Wait, hart: u8, number: u64);
+// What stands under the lock: the world, and how many workers wait for others.
+struct Inside<L: Ledger> {
+    locked: Box<Locked<L>>,
+    waiting: usize,
 }
 
 /// One lock round a locked world, of which threads make calls, each on a seat of its own.
 ///
 /// It must be spent, by `close`, which takes all seats: so no seat can be lost.
 pub struct Kernel<L: Ledger, G: Gate + Drop> {
-    locked: Mutex<Box<Locked<L>>>,
+    inside: Mutex<Inside<L>>,
     moved: Condvar,
     gate: G,
 }
@@ -229,7 +231,7 @@ impl<L: Ledger, G: Gate + Drop> Kernel<L, G> {
             }
         };
         let kernel = Kernel {
-            locked: Mutex::new(locked),
+            inside: Mutex::new(Inside { locked, waiting: 0 }),
             moved: Condvar::new(),
             gate,
         };
@@ -246,12 +248,13 @@ impl<L: Ledger, G: Gate + Drop> Kernel<L, G> {
         ensures strange { IfErr result (λ e. Differs e.hart e.place e.closed seats) }
     {
         let Kernel {
-            locked,
+            inside,
             moved: _,
             gate: _,
         } = self;
         let (shares, kept) = parted(seats);
-        let closed = Box::into_inner(locked.into_inner()).end(shares);
+        let Inside { locked, waiting: _ } = inside.into_inner();
+        let closed = Box::into_inner(locked).end(shares);
         match first_strange(&closed, &kept) {
             Some((hart, place)) => Err(Strange {
                 hart,
@@ -281,7 +284,7 @@ impl<L: Ledger, G: Gate + Drop> Kernel<L, G> {
             return Err(CallFault::Memory(Seat { share, replies }, call));
         }
         let hart = share.hart();
-        let started = self.locked.lock(rt).start(&mut share, hart, call);
+        let started = self.inside.lock(rt).locked.start(&mut share, hart, call);
         match started {
             Ok(begun) => {
                 let busy = BusySeat {
@@ -351,30 +354,37 @@ impl<L: Ledger, G: Gate + Drop> Kernel<L, G> {
         for _ in rt.forever() {
             self.gate.at(rt, hart, *tries);
             *tries = tries.saturating_add(1);
-            let mut guard = self.locked.lock(rt);
-            match guard.step(share, hart) {
-                Told::Waits => {
-                    let guard = self.moved.wait(rt, guard);
-                    drop(guard);
-                }
-                Told::Done(receipt) => {
-                    drop(guard);
-                    self.moved.notify_all();
-                    return Ended::Done(receipt);
-                }
-                Told::Stopped(stop) => {
-                    drop(guard);
-                    self.moved.notify_all();
-                    return Ended::Halts(stop);
-                }
-                _ => {
-                    drop(guard);
-                    self.moved.notify_all();
-                }
+            let mut guard = self.inside.lock(rt);
+            let told = guard.locked.step(share, hart);
+            if matches!(told, Told::Waits) {
+                guard.waiting = guard.waiting.saturating_add(1);
+                let mut guard = self.moved.wait(rt, guard);
+                guard.waiting = guard.waiting.saturating_sub(1);
+                drop(guard);
+                continue;
+            }
+            let wakes = guard.waiting > 0 && may_free(&told);
+            drop(guard);
+            if wakes {
+                self.moved.notify_all();
+            }
+            match told {
+                Told::Done(receipt) => return Ended::Done(receipt),
+                Told::Stopped(stop) => return Ended::Halts(stop),
+                _ => {}
             }
         }
         unreachable!()
     }
+}
+
+// Whether a worker that waits may go on after this step. One that takes a lock, a buffer or a place in a transaction, or reads a block
+// into a buffer, frees nothing.
+fn may_free<L: Ledger>(told: &Told<L>) -> bool {
+    !matches!(
+        told,
+        Told::Ran(Kind::Lock | Kind::Get | Kind::Read | Kind::Join)
+    )
 }
 
 // Does not return.

@@ -2,7 +2,8 @@
 ghost use Rattle.std.specs.Prelude.{◌≡◌, IfSome, slice_index_or};
 ghost use Rattle.hart_runner.specs.Session.{Has, StandsIn};
 
-use crate::kernel::{CallFault, Gate, Kernel, Seat};
+use crate::gate::Gate;
+use crate::kernel::{CallFault, Kernel, Seat};
 use locked_world::{Closed, Receipt};
 use plain_tree::Call;
 use std::sync::Wait;

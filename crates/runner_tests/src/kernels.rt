@@ -9,14 +9,6 @@ use std::sync::Wait;
 use std::sync::ledger::Ledger;
 use std::test::Fail;
 
-/// A gate that does nothing.
-#[derive(Drop)]
-pub struct NoGate;
-
-impl Gate for NoGate {
-    fn at(&self, _rt: &impl Wait, _hart: u8, _number: u64) {}
-}
-
 /// What a call came to: its reply, or why it was stopped, where it was started.
 pub type Came = Result<Reply, Option<Halt>>;
 

@@ -1,8 +1,8 @@
 //! What the calls of two seats come to: at a shared offset, and where the device fails.
 ghost use Rattle.std.specs.Prelude.{◌≡◌};
 
-use crate::kernels::{NoGate, all_of, bytes, called, first_two, image, no_kernel};
-use hart_runner::{Kernel, Seat, two_calls};
+use crate::kernels::{all_of, bytes, called, first_two, image, no_kernel};
+use hart_runner::{Kernel, NoGate, Seat, two_calls};
 use image_tree::MountFault;
 use locked_world::Halt;
 use plain_tree::Call;

@@ -1,9 +1,9 @@
 //! Eight harts at work in one directory at once.
 ghost use Rattle.std.specs.Prelude.{◌≡◌};
 
-use crate::kernels::{NoGate, all_of, bytes, called, first_two, image, no_kernel};
+use crate::kernels::{all_of, bytes, called, first_two, image, no_kernel};
 use block_device::MemoryDisk;
-use hart_runner::{Kernel, Seat};
+use hart_runner::{Kernel, NoGate, Seat};
 use image_tree::{MountFault, examine};
 use plain_tree::{Answer, Bytes, Call, Cause};
 use std::alloc::{AllocError, Global};
