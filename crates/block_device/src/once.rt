@@ -3,7 +3,7 @@ ghost use Rattle.std.specs.Prelude.{◌≡◌, ◌<◌, ◌↔◌, if◌then◌e
 ghost use Rattle.block_device.specs.Blocks.{block_at, blocks_of, faults_after, rest_of};
 ghost use Rattle.block_device.specs.Once.{bytes_after, left_after};
 
-use crate::device::{BLOCK_SIZE, Device, Fault};
+use crate::device::{BLOCK_LEN, Device, Fault};
 use crate::memory::MemoryDisk;
 use std::marker::Model;
 
@@ -92,7 +92,7 @@ impl Device for Once {
         self.faults
     }
 
-    fn read(&mut self, b: u32, to: &mut [u8; BLOCK_SIZE]) -> Result<(), Fault>
+    fn read(&mut self, b: u32, to: &mut [u8; BLOCK_LEN]) -> Result<(), Fault>
         requires { b < length (blocks_of self.old.bytes) }
         ensures fails { IsErr result ↔ (self.old.left ≡ Some 0) }
         ensures read { OnOk result (to.new ≡ block_at (blocks_of self.old.bytes) b) }
@@ -103,7 +103,7 @@ impl Device for Once {
         self.disk.read(b, to)
     }
 
-    fn write(&mut self, b: u32, from: &[u8; BLOCK_SIZE]) -> Result<(), Fault>
+    fn write(&mut self, b: u32, from: &[u8; BLOCK_LEN]) -> Result<(), Fault>
         requires { b < length (blocks_of self.old.bytes) }
         ensures fails { IsErr result ↔ (self.old.left ≡ Some 0) }
         ensures after { self.new ≡ record { bytes = bytes_after result self.old b from.now; left = left_after self.old.left; done = self.old.done; faults = faults_after result self.old.faults } }

@@ -4,8 +4,9 @@ use Rattle.std.specs.Option.{option_map, option_and_then, unwrap_or}
 use Rattle.std.proofs.lemmas.Bool.{cases_eq}
 use Rattle.std.proofs.lemmas.Bool.Decides.{nat_tests}
 use Rattle.std.proofs.lemmas.Option.{same_Some, none-some}
+use Rattle.std.specs.List.{find}
 use Rattle.block_device.specs.Blocks.{block_at}
-use Rattle.buffer_cache.specs.Lists.{first_of, change_first, count_of}
+use Rattle.buffer_cache.specs.Lists.{change_first, count_of}
 use Rattle.buffer_cache.specs.Seats.{SeatState, is_number, has_block, is_free, seat_of, kept, seen_in, with_seat, given_back, without_holder, as_new, AllClean, IsCleanSeat}
 use Rattle.buffer_cache.proofs.Firsts.{pick, none_first}
 
@@ -84,13 +85,13 @@ seat_back_here b (s ∷ ss) once =
     refl once
 
 -- a free seat taken for a block that none has
-pub seat_new_here : (hart b : ℕ) (ss : List SeatState) (s : SeatState) → seat_of b ss ≡ None → first_of is_free ss ≡ Some s → seat_of b (change_first is_free (as_new hart b) ss) ≡ Some (as_new hart b s)
+pub seat_new_here : (hart b : ℕ) (ss : List SeatState) (s : SeatState) → seat_of b ss ≡ None → find is_free ss ≡ Some s → seat_of b (change_first is_free (as_new hart b) ss) ≡ Some (as_new hart b s)
 seat_new_here hart b [] s none e = absurd (none-some s e)
 seat_new_here hart b (x ∷ ss) s none e =
     pick (has_block b x) (λ t. has_block b x ≡ t → (if t then Some x else seat_of b ss) ≡ None → seat_of b (change_first is_free (as_new hart b) (x ∷ ss)) ≡ Some (as_new hart b s))
     (λ _ _ none_here. absurd (none-some x (sym none_here)))
     (λ isnt _ none_here.
-    pick (is_free x) (λ t. (if t then Some x else first_of is_free ss) ≡ Some s → seat_of b (if t then as_new hart b x ∷ ss else x ∷ change_first is_free (as_new hart b) ss) ≡ Some (as_new hart b s))
+    pick (is_free x) (λ t. (if t then Some x else find is_free ss) ≡ Some s → seat_of b (if t then as_new hart b x ∷ ss else x ∷ change_first is_free (as_new hart b) ss) ≡ Some (as_new hart b s))
     (λ _ here.
     ap (λ (t : Bool). if t then Some (as_new hart b x) else seat_of b ss) (equals b)
     ∙ ap (λ (y : SeatState). Some (as_new hart b y)) (same_Some x s here))

@@ -3,15 +3,16 @@ use Rattle.std.proofs.Common.{◌≡◌, inl, inr, ℕ, zero, suc, ◌+◌, ◌*
 use Rattle.std.proofs.lemmas.Bool.{cases_eq}
 use Rattle.std.proofs.lemmas.Bool.Decides.{nat_tests}
 use Rattle.std.proofs.lemmas.Option.{none-some}
-use Rattle.buffer_cache.specs.Lists.{first_of, count_of}
+use Rattle.std.specs.List.{find}
+use Rattle.buffer_cache.specs.Lists.{count_of}
 use Rattle.buffer_cache.specs.Seats.{SeatState, is_number, is_held_by, is_out, is_pinned, is_free, IsBelow, HoldersBelow}
 
 -- where none is free each is pinned or out
-none_free : (ss : List SeatState) → first_of is_free ss ≡ None → length ss ≤ count_of is_pinned ss + count_of is_out ss
+none_free : (ss : List SeatState) → find is_free ss ≡ None → length ss ≤ count_of is_pinned ss + count_of is_out ss
 none_free [] e = omega arith
 none_free (s ∷ ss) e = seat s.pinned s.holder e (none_free ss)
   where
-    seat : (p : Bool) (h : Option ℕ) → (if not p && is_none h then Some s else first_of is_free ss) ≡ None → (first_of is_free ss ≡ None → length ss ≤ count_of is_pinned ss + count_of is_out ss)
+    seat : (p : Bool) (h : Option ℕ) → (if not p && is_none h then Some s else find is_free ss) ≡ None → (find is_free ss ≡ None → length ss ≤ count_of is_pinned ss + count_of is_out ss)
         → suc (length ss) ≤ (cond p 1 0 + count_of is_pinned ss) + (cond (is_some h) 1 0 + count_of is_out ss)
     seat true h e more = let a = more e in omega (arith, a)
     seat false (Some k) e more = let a = more e in omega (arith, a)
@@ -61,10 +62,10 @@ held_less ss two hart one (suc n) lt = elim (cases_eq n hart) [
 
 -- eight harts with two buffers at most, of which one asks with one at most, and thirty that are pinned, leave a free one of 46
 pub some_free : (ss : List SeatState) (hart : ℕ) → hart < 8 → length ss ≡ 46 → count_of is_pinned ss ≤ 30 → ((h : ℕ) → count_of (is_held_by h) ss ≤ 2) → HoldersBelow 8 ss → count_of (is_held_by hart) ss ≤ 1
-    → IsSome (first_of is_free ss)
-some_free ss hart lt long pinned two below one = by_first (first_of is_free ss) refl
+    → IsSome (find is_free ss)
+some_free ss hart lt long pinned two below one = by_first (find is_free ss) refl
   where
-    by_first : (o : Option SeatState) → first_of is_free ss ≡ o → IsSome o
+    by_first : (o : Option SeatState) → find is_free ss ≡ o → IsSome o
     by_first (Some s) e = refl
     by_first None e =
         let all = none_free ss e in

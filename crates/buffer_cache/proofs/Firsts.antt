@@ -1,9 +1,9 @@
 -- The first of a list that passes a test: where it stands, and what changing it does to counts.
 use Rattle.std.proofs.Common.{◌≡◌, ℕ, zero, suc, ◌+◌, ◌<◌, ◌≤◌, List, [], ◌∷◌, ◌++◌, length, get_or, set, Bool, true, false, cond, not, refl, sym, ◌∙◌, ap, subst, arith, Option, Some, None, IsSome, is_some, if◌then◌else◌, nat_lt}
 use Rattle.std.proofs.lemmas.Bool.Decides.{nat_tests}
-use Rattle.std.specs.List.{position, position_or_len, remove, count_by}
+use Rattle.std.specs.List.{position, position_or_len, remove, count_by, find}
 use Rattle.std.proofs.lemmas.List.Recursion.{is_count_by}
-use Rattle.buffer_cache.specs.Lists.{first_of, change_first, change_to_end, count_of}
+use Rattle.buffer_cache.specs.Lists.{change_first, change_to_end, count_of}
 
 pub pick : (t : Bool) (P : Bool → Type 0) → (t ≡ true → P true) → (t ≡ false → P false) → P t
 pick true P yes_ no_ = yes_ refl
@@ -22,34 +22,34 @@ position_none p xs e = tests (position_or_len p xs) (length xs) e
     tests : (a n : ℕ) → cond (nat_lt a n) (Some a) None ≡ None → n ≤ a
     tests a n e = grind (arith, nat_tests)
 
-first_here : {X : Type 0} (p : X → Bool) (xs : List X) (i : ℕ) (d : X) → i ≡ position_or_len p xs → i < length xs → first_of p xs ≡ Some (get_or xs i d)
+first_here : {X : Type 0} (p : X → Bool) (xs : List X) (i : ℕ) (d : X) → i ≡ position_or_len p xs → i < length xs → find p xs ≡ Some (get_or xs i d)
 first_here p [] i d e lt = absurd (omega arith)
 first_here {X} p (x ∷ xs) i d e lt = found (p x) i e lt (λ j f l. first_here p xs j d f l)
   where
     found : (t : Bool) (i : ℕ) → i ≡ cond (not t) (1 + position_or_len p xs) 0 → i < suc (length xs)
-        → ((j : ℕ) → j ≡ position_or_len p xs → j < length xs → first_of p xs ≡ Some (get_or xs j d))
-        → (if t then Some x else first_of p xs) ≡ Some (get_or (x ∷ xs) i d)
+        → ((j : ℕ) → j ≡ position_or_len p xs → j < length xs → find p xs ≡ Some (get_or xs j d))
+        → (if t then Some x else find p xs) ≡ Some (get_or (x ∷ xs) i d)
     found true zero e lt more = refl
     found true (suc i) e lt more = absurd (omega (arith, e))
     found false zero e lt more = absurd (omega (arith, e))
     found false (suc i) e lt more = more i (omega (arith, e)) (omega (arith, lt))
 
-pub place_first : {X : Type 0} (p : X → Bool) (xs : List X) (i : ℕ) (d : X) → position p xs ≡ Some i → first_of p xs ≡ Some (get_or xs i d)
+pub place_first : {X : Type 0} (p : X → Bool) (xs : List X) (i : ℕ) (d : X) → position p xs ≡ Some i → find p xs ≡ Some (get_or xs i d)
 place_first p xs i d e = let at = position_some p xs i e in first_here p xs i d at.0 at.1
 
-none_here : {X : Type 0} (p : X → Bool) (xs : List X) → length xs ≤ position_or_len p xs → first_of p xs ≡ None
+none_here : {X : Type 0} (p : X → Bool) (xs : List X) → length xs ≤ position_or_len p xs → find p xs ≡ None
 none_here p [] le = refl
 none_here {X} p (x ∷ xs) le = found (p x) le (λ l. none_here p xs l)
   where
-    found : (t : Bool) → suc (length xs) ≤ cond (not t) (1 + position_or_len p xs) 0 → (length xs ≤ position_or_len p xs → first_of p xs ≡ None) → (if t then Some x else first_of p xs) ≡ None
+    found : (t : Bool) → suc (length xs) ≤ cond (not t) (1 + position_or_len p xs) 0 → (length xs ≤ position_or_len p xs → find p xs ≡ None) → (if t then Some x else find p xs) ≡ None
     found true le more = absurd (omega (arith, le))
     found false le more = more (omega (arith, le))
 
-pub no_place : {X : Type 0} (p : X → Bool) (xs : List X) → position p xs ≡ None → first_of p xs ≡ None
+pub no_place : {X : Type 0} (p : X → Bool) (xs : List X) → position p xs ≡ None → find p xs ≡ None
 no_place p xs e = none_here p xs (position_none p xs e)
 
 -- where there is a first, it has a place
-pub has_place : {X : Type 0} (p : X → Bool) (xs : List X) (o : Option ℕ) → o ≡ position p xs → IsSome (first_of p xs) → IsSome o
+pub has_place : {X : Type 0} (p : X → Bool) (xs : List X) (o : Option ℕ) → o ≡ position p xs → IsSome (find p xs) → IsSome o
 has_place {X} p xs None e some = let none : IsSome {T = X} None = subst (λ (o : Option X). IsSome o) (no_place p xs (sym e)) some in absurd (cc none)
 has_place p xs (Some i) e some = refl
 
@@ -118,10 +118,10 @@ count_more q p f (x ∷ xs) =
     pick (p x) (λ t. count_of q (if t then f x ∷ xs else x ∷ change_first p f xs) ≤ cond (q x) 1 0 + count_of q xs + 1) (λ _. omega (arith, a)) (λ _. omega (arith, b))
 
 -- none more, where the change passes no test anew
-pub count_same : {X : Type 0} (q p : X → Bool) (f : X → X) (xs : List X) → ((x : X) → first_of p xs ≡ Some x → q (f x) ≡ true → q x ≡ true) → count_of q (change_first p f xs) ≤ count_of q xs
+pub count_same : {X : Type 0} (q p : X → Bool) (f : X → X) (xs : List X) → ((x : X) → find p xs ≡ Some x → q (f x) ≡ true → q x ≡ true) → count_of q (change_first p f xs) ≤ count_of q xs
 count_same q p f [] keeps = omega arith
 count_same {X} q p f (x ∷ xs) keeps =
-    pick (p x) (λ t. ((y : X) → (if t then Some x else first_of p xs) ≡ Some y → q (f y) ≡ true → q y ≡ true) → count_of q (if t then f x ∷ xs else x ∷ change_first p f xs) ≤ cond (q x) 1 0 + count_of q xs)
+    pick (p x) (λ t. ((y : X) → (if t then Some x else find p xs) ≡ Some y → q (f y) ≡ true → q y ≡ true) → count_of q (if t then f x ∷ xs else x ∷ change_first p f xs) ≤ cond (q x) 1 0 + count_of q xs)
     (λ _ k. let a = less (q (f x)) (q x) (k x refl) in omega (arith, a))
     (λ _ k. let b = count_same q p f xs k in omega (arith, b))
     keeps
@@ -139,32 +139,32 @@ count_to_end q p f (x ∷ xs) keeps =
     pick (p x) (λ t. count_of q (if t then xs ++ f x ∷ [] else x ∷ change_to_end p f xs) ≤ cond (q x) 1 0 + count_of q xs) (λ _. omega (arith, a, l)) (λ _. omega (arith, more))
 
 -- what is first passes, and is counted
-pub first_passes : {X : Type 0} (p : X → Bool) (xs : List X) (x : X) → first_of p xs ≡ Some x → p x ≡ true
+pub first_passes : {X : Type 0} (p : X → Bool) (xs : List X) (x : X) → find p xs ≡ Some x → p x ≡ true
 first_passes p [] x e = absurd (cc e)
 first_passes {X} p (y ∷ xs) x e =
-    pick (p y) (λ t. p y ≡ t → (if t then Some y else first_of p xs) ≡ Some x → p x ≡ true)
+    pick (p y) (λ t. p y ≡ t → (if t then Some y else find p xs) ≡ Some x → p x ≡ true)
     (λ _ is here. let same : y ≡ x = cc here in ap p (sym same) ∙ is)
     (λ _ isnt here. first_passes p xs x here)
     refl e
 
-pub first_counted : {X : Type 0} (q p : X → Bool) (xs : List X) (x : X) → first_of p xs ≡ Some x → q x ≡ true → 1 ≤ count_of q xs
+pub first_counted : {X : Type 0} (q p : X → Bool) (xs : List X) (x : X) → find p xs ≡ Some x → q x ≡ true → 1 ≤ count_of q xs
 first_counted q p [] x e is = absurd (cc e)
 first_counted {X} q p (y ∷ xs) x e is =
-    pick (p y) (λ t. (if t then Some y else first_of p xs) ≡ Some x → 1 ≤ cond (q y) 1 0 + count_of q xs)
+    pick (p y) (λ t. (if t then Some y else find p xs) ≡ Some x → 1 ≤ cond (q y) 1 0 + count_of q xs)
     (λ _ here. let same : y ≡ x = cc here in let passes : q y ≡ true = ap q same ∙ is in let one : ℕ = 1 in let a : cond (q y) one 0 ≡ one = ap (λ (t : Bool). cond t one 0) passes in omega (arith, a))
     (λ _ here. let a = first_counted q p xs x here is in omega (arith, a))
     e
 
-pub none_counted : {X : Type 0} (p : X → Bool) (xs : List X) → first_of p xs ≡ None → count_of p xs ≡ 0
+pub none_counted : {X : Type 0} (p : X → Bool) (xs : List X) → find p xs ≡ None → count_of p xs ≡ 0
 none_counted p [] e = refl
 none_counted {X} p (y ∷ xs) e =
-    pick (p y) (λ t. (if t then Some y else first_of p xs) ≡ None → cond t 1 0 + count_of p xs ≡ 0)
+    pick (p y) (λ t. (if t then Some y else find p xs) ≡ None → cond t 1 0 + count_of p xs ≡ 0)
     (λ _ here. absurd (cc here)) (λ _ here. let a = none_counted p xs here in omega (arith, a)) e
 
-pub none_first : {X : Type 0} (p : X → Bool) (xs : List X) → count_of p xs ≡ 0 → first_of p xs ≡ None
+pub none_first : {X : Type 0} (p : X → Bool) (xs : List X) → count_of p xs ≡ 0 → find p xs ≡ None
 none_first p [] e = refl
 none_first {X} p (y ∷ xs) e =
-    pick (p y) (λ t. cond t 1 0 + count_of p xs ≡ 0 → (if t then Some y else first_of p xs) ≡ None)
+    pick (p y) (λ t. cond t 1 0 + count_of p xs ≡ 0 → (if t then Some y else find p xs) ≡ None)
     (λ _ zero_. absurd (omega (arith, zero_))) (λ _ zero_. none_first p xs (omega (arith, zero_))) e
 
 -- std's count
@@ -178,19 +178,19 @@ counted {X} q xs = sym (is_count_by (count_of q) q refl each xs)
 pub counted_in : {X : Type 0} (q : X → Bool) (view xs : List X) (n : ℕ) → n ≡ count_by q view → view ≡ xs → n ≡ count_of q xs
 counted_in q view xs n e v = e ∙ counted q view ∙ ap (count_of q) v
 
-first_exists : {X : Type 0} (p : X → Bool) (xs : List X) → position_or_len p xs < length xs → IsSome (first_of p xs)
+first_exists : {X : Type 0} (p : X → Bool) (xs : List X) → position_or_len p xs < length xs → IsSome (find p xs)
 first_exists p [] lt = absurd (omega arith)
 first_exists {X} p (x ∷ xs) lt = found (p x) lt (λ l. first_exists p xs l)
   where
-    found : (t : Bool) → cond (not t) (1 + position_or_len p xs) 0 < suc (length xs) → (position_or_len p xs < length xs → IsSome (first_of p xs)) → IsSome (if t then Some x else first_of p xs)
+    found : (t : Bool) → cond (not t) (1 + position_or_len p xs) 0 < suc (length xs) → (position_or_len p xs < length xs → IsSome (find p xs)) → IsSome (if t then Some x else find p xs)
     found true lt more = refl
     found false lt more = more (omega (arith, lt))
 
 -- where there is a place there is a first
-pub placed : {X : Type 0} (p : X → Bool) (xs : List X) (b : Bool) → b ≡ is_some (position p xs) → (b ≡ true → IsSome (first_of p xs)) × (IsSome (first_of p xs) → b ≡ true)
+pub placed : {X : Type 0} (p : X → Bool) (xs : List X) (b : Bool) → b ≡ is_some (position p xs) → (b ≡ true → IsSome (find p xs)) × (IsSome (find p xs) → b ≡ true)
 placed {X} p xs b e = by_place (position p xs) refl e
   where
-    by_place : (o : Option ℕ) → position p xs ≡ o → b ≡ is_some o → (b ≡ true → IsSome (first_of p xs)) × (IsSome (first_of p xs) → b ≡ true)
+    by_place : (o : Option ℕ) → position p xs ≡ o → b ≡ is_some o → (b ≡ true → IsSome (find p xs)) × (IsSome (find p xs) → b ≡ true)
     by_place None at is = (
       λ yes. let clash : false ≡ true = sym is ∙ yes in absurd (cc clash),
       λ some. let none : IsSome {T = X} None = subst (λ (o : Option X). IsSome o) (no_place p xs at) some in absurd (cc none),

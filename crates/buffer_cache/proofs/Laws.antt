@@ -5,12 +5,13 @@ use Rattle.std.specs.Option.{MatchOption, option_map, option_and_then, unwrap_or
 use Rattle.std.proofs.lemmas.Bool.{cases_eq}
 use Rattle.std.proofs.lemmas.Bool.Decides.{nat_tests}
 use Rattle.std.proofs.lemmas.Option.{same_Some, none-some}
+use Rattle.std.specs.List.{find}
 use Rattle.sleep_lock.specs.SleepLock.{GuardState}
 use Rattle.sleep_lock.proofs.Locks.{IfSome_each}
 use Rattle.block_device.specs.Blocks.{block_at}
 use Rattle.block_device.specs.BlockLaws.{block_at-set_same}
 use Rattle.buffer_cache.specs.Buffers.{BufferState}
-use Rattle.buffer_cache.specs.Lists.{first_of, change_first, count_of}
+use Rattle.buffer_cache.specs.Lists.{change_first, count_of}
 use Rattle.buffer_cache.specs.Seats.{is_any, is_unused, is_settled, UnusedFirst, is_number, SeatState, has_block, without_holder, Passes, Keeps, IsPinned, IsRecorded, is_recorded, is_held_by, is_pinned, is_free, seat_of, holder_of, kept, seen_in, with_seat, given_back, with_holder, with_content, with_pin, as_new, IsGuardOf, IsHeld, KeepsHeld, KeepsOthers, IsSound}
 use Rattle.buffer_cache.specs.Getting.{get_of, get_by, get_new, guard_of, IfHeld}
 use Rattle.buffer_cache.specs.declared.got.Got.{Got}
@@ -91,10 +92,10 @@ recorded_then : (s : SeatState) (bytes : List ℕ) → is_recorded s ≡ true �
 recorded_then s bytes e = ap (λ (t : Bool). t && true) (recorded_pinned s e)
 
 -- as long as one was never used, such a one is taken
-taken_unused : (ss : List SeatState) (s : SeatState) → UnusedFirst ss → first_of is_free ss ≡ Some s → 0 < count_of is_unused ss → s.block ≡ None
+taken_unused : (ss : List SeatState) (s : SeatState) → UnusedFirst ss → find is_free ss ≡ Some s → 0 < count_of is_unused ss → s.block ≡ None
 taken_unused [] s old e some = absurd (none-some s e)
 taken_unused (x ∷ xs) s old e some =
-    pick (is_free x) (λ t. is_free x ≡ t → (if t then Some x else first_of is_free xs) ≡ Some s → s.block ≡ None)
+    pick (is_free x) (λ t. is_free x ≡ t → (if t then Some x else find is_free xs) ≡ Some s → s.block ≡ None)
     (λ _ free here. subst (λ (u : SeatState). u.block ≡ None) (same_Some x s here) (by_block x.block refl free))
     (λ _ taken_ here. taken_unused xs s old.2 here (more (is_unused x) refl taken_))
     refl e
@@ -120,10 +121,10 @@ taken_unused (x ∷ xs) s old e some =
         let a : cond (is_unused x) 1 zero_ ≡ zero_ = ap (λ (t : Bool). cond t 1 zero_) is in
         omega (arith, some, a)
 
-new_unused : (hart b k : ℕ) (ss : List SeatState) (s : SeatState) → first_of is_free ss ≡ Some s → s.block ≡ None → Passes is_any k ss → Passes is_any k (change_first is_free (as_new hart b) ss)
+new_unused : (hart b k : ℕ) (ss : List SeatState) (s : SeatState) → find is_free ss ≡ Some s → s.block ≡ None → Passes is_any k ss → Passes is_any k (change_first is_free (as_new hart b) ss)
 new_unused hart b k [] s e unused_ there = absurd (none-some s e)
 new_unused hart b k (x ∷ xs) s e unused_ there =
-    pick (is_free x) (λ t. (if t then Some x else first_of is_free xs) ≡ Some s → option_map is_any (seat_of k (if t then as_new hart b x ∷ xs else x ∷ change_first is_free (as_new hart b) xs)) ≡ Some true)
+    pick (is_free x) (λ t. (if t then Some x else find is_free xs) ≡ Some s → option_map is_any (seat_of k (if t then as_new hart b x ∷ xs else x ∷ change_first is_free (as_new hart b) xs)) ≡ Some true)
     (λ _ here.
     let blank : x.block ≡ None = ap (λ (u : SeatState). u.block) (same_Some x s here) ∙ unused_ in
     let isnt : has_block k x ≡ false = ap (λ (o : Option ℕ). is_number k o) blank in
@@ -151,10 +152,10 @@ pub get_laws : (disk : List (List ℕ)) (hart b : ℕ) (ss : List SeatState) →
 unfolding get_of
 get_laws disk hart b ss lt one sound = by_seat (seat_of b ss) refl
   where
-    free : IsSome (first_of is_free ss)
+    free : IsSome (find is_free ss)
     free = some_free ss hart lt sound.count sound.few_pinned sound.few_out sound.harts one
 
-    by_free : seat_of b ss ≡ None → (o : Option SeatState) → first_of is_free ss ≡ o → GetLaws disk hart b ss (get_new hart b ss o)
+    by_free : seat_of b ss ≡ None → (o : Option SeatState) → find is_free ss ≡ o → GetLaws disk hart b ss (get_new hart b ss o)
     by_free none None e = let isnt : IsSome {T = SeatState} None = subst (λ (o : Option SeatState). IsSome o) e free in absurd (cc isnt)
     by_free none (Some s) e = record {
       sound = sound_new disk ss b hart lt one none sound;
@@ -212,7 +213,7 @@ get_laws disk hart b ss lt one sound = by_seat (seat_of b ss) refl
         }
 
     by_seat : (o : Option SeatState) → seat_of b ss ≡ o → GetLaws disk hart b ss (get_by hart b ss o)
-    by_seat None none = by_free none (first_of is_free ss) refl
+    by_seat None none = by_free none (find is_free ss) refl
     by_seat (Some s) e = by_holder s e s.holder refl
 
 -- a filled buffer

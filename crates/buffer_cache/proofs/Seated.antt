@@ -2,7 +2,7 @@
 use Rattle.std.proofs.Common.{◌≡◌, ◌≢◌, ℕ, ◌+◌, ◌<◌, ◌≤◌, List, [], ◌∷◌, ◌++◌, length, get_or, set, take, drop, Bool, true, false, cond, not, ◌&&◌, refl, sym, ◌∙◌, ap, subst, arith, Option, Some, None, IsSome, is_some, is_none, if◌then◌else◌, ◌==◌}
 use Rattle.std.specs.Prelude.{slice_get, slice_set, Result, Ok, Err, OnOk, OnErr}
 use Rattle.std.specs.Option.{MatchOption}
-use Rattle.std.specs.List.{position}
+use Rattle.std.specs.List.{position, find}
 use Rattle.std.proofs.lemmas.Bool.Decides.{nat_tests}
 use Rattle.std.proofs.lemmas.List.{set-get_or, take_at}
 use Rattle.std.proofs.lemmas.Option.{slice_get_within, same_Some}
@@ -10,7 +10,7 @@ use Rattle.sleep_lock.specs.SleepLock.{SlotState, GuardState, filled, emptied}
 use Rattle.sleep_lock.specs.Row.{lock_at, lock_of, unlocked, IsOut}
 use Rattle.sleep_lock.proofs.Lists.{set_same, slice_get-set_same, slice_get-set_other}
 use Rattle.buffer_cache.specs.Buffers.{BufferState}
-use Rattle.buffer_cache.specs.Lists.{first_of, change_first, change_to_end, count_of}
+use Rattle.buffer_cache.specs.Lists.{change_first, change_to_end, count_of}
 use Rattle.buffer_cache.specs.Seats.{SeatState, has_block, is_free, seat_of, kept, with_holder, without_holder, with_content, with_pin, as_new, with_seat, given_back, IsHeld, IsGuardOf}
 use Rattle.buffer_cache.specs.Rows.{has_number, InsideFits, SlotFits, AllSeated, IsSeated}
 use Rattle.buffer_cache.specs.Getting.{get_of, get_by, get_new, guard_of}
@@ -32,10 +32,10 @@ counted_out true k one le = absurd (omega (arith, one, le))
 counted_out false k one le = refl
 
 -- a seat's slot
-pub seated_at : (slots : Row) (p : SeatState → Bool) (ss : List SeatState) (s : SeatState) → AllSeated slots ss → first_of p ss ≡ Some s → SlotFits s (slice_get slots s.number)
+pub seated_at : (slots : Row) (p : SeatState → Bool) (ss : List SeatState) (s : SeatState) → AllSeated slots ss → find p ss ≡ Some s → SlotFits s (slice_get slots s.number)
 seated_at slots p [] s all e = absurd (cc e)
 seated_at slots p (t ∷ ts) s all e =
-    pick (p t) (λ w. (if w then Some t else first_of p ts) ≡ Some s → SlotFits s (slice_get slots s.number))
+    pick (p t) (λ w. (if w then Some t else find p ts) ≡ Some s → SlotFits s (slice_get slots s.number))
     (λ _ here. subst (λ u. SlotFits u (slice_get slots u.number)) (same_Some t s here) all.0)
     (λ _ here. seated_at slots p ts s all.1 here)
     e
@@ -94,11 +94,11 @@ others_none n t s k is at le =
     omega (arith, few)
 
 pub seated_change : (slots : Row) (p : SeatState → Bool) (f : SeatState → SeatState) (ss : List SeatState) (s : SeatState) (y : SlotState BufferState)
-    → first_of p ss ≡ Some s → (f s).number ≡ s.number → SlotFits (f s) (Some y) → s.number < length slots → count_of (has_number s.number) ss ≤ 1 → AllSeated slots ss
+    → find p ss ≡ Some s → (f s).number ≡ s.number → SlotFits (f s) (Some y) → s.number < length slots → count_of (has_number s.number) ss ≤ 1 → AllSeated slots ss
     → AllSeated (slice_set slots s.number y) (change_first p f ss)
 seated_change slots p f [] s y e keeps fits within apart all = tt
 seated_change slots p f (t ∷ ts) s y e keeps fits within apart all =
-    pick (p t) (λ w. (if w then Some t else first_of p ts) ≡ Some s → AllSeated (slice_set slots s.number y) (if w then f t ∷ ts else t ∷ change_first p f ts))
+    pick (p t) (λ w. (if w then Some t else find p ts) ≡ Some s → AllSeated (slice_set slots s.number y) (if w then f t ∷ ts else t ∷ change_first p f ts))
     (λ _ here.
     let is = same_Some t s here in
     (seated_here slots f t s y is keeps fits within, seated_others slots ts s.number y (others_none s.number t s _ is refl apart) all.1))
@@ -115,11 +115,11 @@ seated_push slots [] x all fits = (fits, tt)
 seated_push slots (s ∷ ss) x all fits = (all.0, seated_push slots ss x all.1 fits)
 
 pub seated_to_end : (slots : Row) (p : SeatState → Bool) (f : SeatState → SeatState) (ss : List SeatState) (s : SeatState) (y : SlotState BufferState)
-    → first_of p ss ≡ Some s → (f s).number ≡ s.number → SlotFits (f s) (Some y) → s.number < length slots → count_of (has_number s.number) ss ≤ 1 → AllSeated slots ss
+    → find p ss ≡ Some s → (f s).number ≡ s.number → SlotFits (f s) (Some y) → s.number < length slots → count_of (has_number s.number) ss ≤ 1 → AllSeated slots ss
     → AllSeated (slice_set slots s.number y) (change_to_end p f ss)
 seated_to_end slots p f [] s y e keeps fits within apart all = tt
 seated_to_end slots p f (t ∷ ts) s y e keeps fits within apart all =
-    pick (p t) (λ w. (if w then Some t else first_of p ts) ≡ Some s → AllSeated (slice_set slots s.number y) (if w then ts ++ f t ∷ [] else t ∷ change_to_end p f ts))
+    pick (p t) (λ w. (if w then Some t else find p ts) ≡ Some s → AllSeated (slice_set slots s.number y) (if w then ts ++ f t ∷ [] else t ∷ change_to_end p f ts))
     (λ _ here.
     let is = same_Some t s here in
     seated_push (slice_set slots s.number y) ts (f t) (seated_others slots ts s.number y (others_none s.number t s _ is refl apart) all.1) (seated_here slots f t s y is keeps fits within))
@@ -133,10 +133,10 @@ seated_to_end slots p f (t ∷ ts) s y e keeps fits within apart all =
 
 -- a change of the seat alone
 seated_same : (slots : Row) (p : SeatState → Bool) (f : SeatState → SeatState) (ss : List SeatState)
-    → ((s : SeatState) → first_of p ss ≡ Some s → SlotFits s (slice_get slots s.number) → SlotFits (f s) (slice_get slots (f s).number)) → AllSeated slots ss → AllSeated slots (change_first p f ss)
+    → ((s : SeatState) → find p ss ≡ Some s → SlotFits s (slice_get slots s.number) → SlotFits (f s) (slice_get slots (f s).number)) → AllSeated slots ss → AllSeated slots (change_first p f ss)
 seated_same slots p f [] new all = tt
 seated_same slots p f (t ∷ ts) new all =
-    pick (p t) (λ w. ((s : SeatState) → (if w then Some t else first_of p ts) ≡ Some s → SlotFits s (slice_get slots s.number) → SlotFits (f s) (slice_get slots (f s).number))
+    pick (p t) (λ w. ((s : SeatState) → (if w then Some t else find p ts) ≡ Some s → SlotFits s (slice_get slots s.number) → SlotFits (f s) (slice_get slots (f s).number))
     → AllSeated slots (if w then f t ∷ ts else t ∷ change_first p f ts))
     (λ _ k. (k t refl all.0, all.1))
     (λ _ k. (all.0, seated_same slots p f ts k all.1))
@@ -180,7 +180,7 @@ unfolding get_of
 get_in hart b ss s e none =
     ap (get_by hart b ss) e ∙ ap (λ (h : Option ℕ). if is_some h then (ss, Waits) else (with_seat b (with_holder hart) ss, Held (guard_of hart b s s.content))) none
 
-get_free : (hart b : ℕ) (ss : List SeatState) (s : SeatState) → seat_of b ss ≡ None → first_of is_free ss ≡ Some s → get_of hart b ss ≡ (change_first is_free (as_new hart b) ss, Held (guard_of hart b s None))
+get_free : (hart b : ℕ) (ss : List SeatState) (s : SeatState) → seat_of b ss ≡ None → find is_free ss ≡ Some s → get_of hart b ss ≡ (change_first is_free (as_new hart b) ss, Held (guard_of hart b s None))
 unfolding get_of
 get_free hart b ss s none e = ap (get_by hart b ss) none ∙ ap (get_new hart b ss) e
 
@@ -246,7 +246,7 @@ renew_gives slots new ss i hart b s r none at is seated lock =
     let P : Row × Option (GuardState BufferState) → Type 0 = λ w. RenewGives w.0 ss i hart b s w.1 in
     subst P (sym locked) (got, subst (λ (w : List SeatState). IsSeated (slice_set slots s.number left) w) (sym set_is) seated_then)
   where
-    first : first_of is_free ss ≡ Some s
+    first : find is_free ss ≡ Some s
     first = place_first is_free ss i s at ∙ ap (λ (w : SeatState). Some w) (sym is)
 
     fits : SlotFits s (slice_get slots s.number)

@@ -4,9 +4,10 @@ use Rattle.std.specs.Prelude.{slice_set}
 use Rattle.std.specs.Option.{option_map, option_and_then, unwrap_or}
 use Rattle.std.proofs.lemmas.Bool.{cases_eq}
 use Rattle.std.proofs.lemmas.Option.{same_Some, none-some}
+use Rattle.std.specs.List.{find}
 use Rattle.block_device.specs.Blocks.{block_at}
 use Rattle.block_device.specs.BlockLaws.{block_at-set_same, block_at-set_other}
-use Rattle.buffer_cache.specs.Lists.{first_of, change_first, count_of}
+use Rattle.buffer_cache.specs.Lists.{change_first, count_of}
 use Rattle.buffer_cache.specs.Seats.{is_unused, is_settled, UnusedFirst, SeatState, is_number, has_block, is_held_by, is_pinned, is_free, seat_of, kept, seen_in, with_seat, given_back, with_holder, without_holder, with_content, with_pin, as_new, unused_from, unused, AllClean, IsCleanSeat, IsBelow, HoldersBelow, IsSound}
 use Rattle.buffer_cache.proofs.Firsts.{count_push, pick, none_counted, count_same, count_more, count_to_end, length-change_first, length-change_to_end}
 use Rattle.buffer_cache.proofs.Blocks.{equal, equals, seat_has, is_block}
@@ -18,10 +19,10 @@ holders_change n p f (s ∷ ss) new old =
     pick (p s) (λ t. HoldersBelow n (if t then f s ∷ ss else s ∷ change_first p f ss)) (λ _. (new s old.0, old.1)) (λ _. (old.0, holders_change n p f ss new old.1))
 
 clean_change : (disk : List (List ℕ)) (p : SeatState → Bool) (f : SeatState → SeatState) (ss : List SeatState)
-    → ((s : SeatState) → first_of p ss ≡ Some s → IsCleanSeat disk s → IsCleanSeat disk (f s)) → AllClean disk ss → AllClean disk (change_first p f ss)
+    → ((s : SeatState) → find p ss ≡ Some s → IsCleanSeat disk s → IsCleanSeat disk (f s)) → AllClean disk ss → AllClean disk (change_first p f ss)
 clean_change disk p f [] new old = tt
 clean_change disk p f (s ∷ ss) new old =
-    pick (p s) (λ t. ((x : SeatState) → (if t then Some s else first_of p ss) ≡ Some x → IsCleanSeat disk x → IsCleanSeat disk (f x)) → AllClean disk (if t then f s ∷ ss else s ∷ change_first p f ss))
+    pick (p s) (λ t. ((x : SeatState) → (if t then Some s else find p ss) ≡ Some x → IsCleanSeat disk x → IsCleanSeat disk (f x)) → AllClean disk (if t then f s ∷ ss else s ∷ change_first p f ss))
     (λ _ k. (k s refl old.0, old.1)) (λ _ k. (old.0, clean_change disk p f ss k old.1)) new
 
 holders_push : (n : ℕ) (ss : List SeatState) (x : SeatState) → HoldersBelow n ss → IsBelow n x.holder → HoldersBelow n (ss ++ x ∷ [])
@@ -42,18 +43,18 @@ clean_back disk b [] old = tt
 clean_back disk b (s ∷ ss) old =
     pick (has_block b s) (λ t. AllClean disk (if t then ss ++ without_holder s ∷ [] else s ∷ given_back b ss)) (λ _. clean_push disk ss (without_holder s) old.1 old.0) (λ _. (old.0, clean_back disk b ss old.1))
 
-pub clean_at : (disk : List (List ℕ)) (p : SeatState → Bool) (ss : List SeatState) (s : SeatState) → AllClean disk ss → first_of p ss ≡ Some s → IsCleanSeat disk s
+pub clean_at : (disk : List (List ℕ)) (p : SeatState → Bool) (ss : List SeatState) (s : SeatState) → AllClean disk ss → find p ss ≡ Some s → IsCleanSeat disk s
 clean_at disk p [] s clean e = absurd (none-some s e)
 clean_at disk p (x ∷ ss) s clean e =
-    pick (p x) (λ t. (if t then Some x else first_of p ss) ≡ Some s → IsCleanSeat disk s) (λ _ here. subst (λ u. IsCleanSeat disk u) (same_Some x s here) clean.0) (λ _ here. clean_at disk p ss s clean.1 here) e
+    pick (p x) (λ t. (if t then Some x else find p ss) ≡ Some s → IsCleanSeat disk s) (λ _ here. subst (λ u. IsCleanSeat disk u) (same_Some x s here) clean.0) (λ _ here. clean_at disk p ss s clean.1 here) e
 
 -- the unused stay in front
-unused_change : (p : SeatState → Bool) (f : SeatState → SeatState) (ss : List SeatState) → ((s : SeatState) → first_of p ss ≡ Some s → is_settled (f s) ≡ true → is_settled s ≡ true)
-    → ((s : SeatState) → first_of p ss ≡ Some s → is_unused (f s) ≡ true → (is_unused s ≡ true) × (is_free (f s) ≡ true)) → UnusedFirst ss → UnusedFirst (change_first p f ss)
+unused_change : (p : SeatState → Bool) (f : SeatState → SeatState) (ss : List SeatState) → ((s : SeatState) → find p ss ≡ Some s → is_settled (f s) ≡ true → is_settled s ≡ true)
+    → ((s : SeatState) → find p ss ≡ Some s → is_unused (f s) ≡ true → (is_unused s ≡ true) × (is_free (f s) ≡ true)) → UnusedFirst ss → UnusedFirst (change_first p f ss)
 unused_change p f [] settles uses old = tt
 unused_change p f (s ∷ ss) settles uses old =
-    pick (p s) (λ t. ((x : SeatState) → (if t then Some s else first_of p ss) ≡ Some x → is_settled (f x) ≡ true → is_settled x ≡ true)
-    → ((x : SeatState) → (if t then Some s else first_of p ss) ≡ Some x → is_unused (f x) ≡ true → (is_unused x ≡ true) × (is_free (f x) ≡ true)) → UnusedFirst (if t then f s ∷ ss else s ∷ change_first p f ss))
+    pick (p s) (λ t. ((x : SeatState) → (if t then Some s else find p ss) ≡ Some x → is_settled (f x) ≡ true → is_settled x ≡ true)
+    → ((x : SeatState) → (if t then Some s else find p ss) ≡ Some x → is_unused (f x) ≡ true → (is_unused x ≡ true) × (is_free (f x) ≡ true)) → UnusedFirst (if t then f s ∷ ss else s ∷ change_first p f ss))
     (λ _ settle uses_it. (λ is. old.0 (settle s refl is), λ is. (uses_it s refl is).1, old.2))
     (λ _ settle uses_it. (
       λ is. let a = count_same is_unused p f ss (λ x e u. (uses_it x e u).0) in let b = old.0 is in omega (arith, a, b),

@@ -1,8 +1,9 @@
 -- What a get answers, and what it leaves.
 use Rattle.std.specs.Prelude.{ℕ, List, if◌then◌else◌, Option, Some, None}
+use Rattle.std.specs.List.{find}
 use Rattle.sleep_lock.specs.SleepLock.{GuardState}
 use Rattle.buffer_cache.specs.Buffers.{BufferState}
-use Rattle.buffer_cache.specs.Lists.{first_of, change_first}
+use Rattle.buffer_cache.specs.Lists.{change_first}
 use Rattle.buffer_cache.specs.Seats.{SeatState, seat_of, is_free, is_out, with_holder, as_new, with_seat}
 use Rattle.buffer_cache.specs.declared.got.Got.{Got}
 use Rattle.buffer_cache.specs.declared.got.Got.TheVariants.{Held, Waits}
@@ -18,7 +19,7 @@ get_new hart b seats (Some s) = (change_first is_free (as_new hart b) seats, Hel
 
 -- by the buffer that has the block
 abbrev pub get_by : ℕ → ℕ → List SeatState → Option SeatState → List SeatState × Got
-get_by hart b seats None = get_new hart b seats (first_of is_free seats)
+get_by hart b seats None = get_new hart b seats (find is_free seats)
 get_by hart b seats (Some s) = if is_out s then (seats, Waits) else (with_seat b (with_holder hart) seats, Held (guard_of hart b s s.content))
 
 -- the block's buffer where one has it, and it waits where that is out; else the least recently given back one of those

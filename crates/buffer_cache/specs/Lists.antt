@@ -1,10 +1,5 @@
--- The first of a list that passes a test.
-use Rattle.std.specs.Prelude.{ℕ, ◌+◌, List, [], ◌∷◌, ◌++◌, Bool, if◌then◌else◌, cond, Option, Some, None}
-
--- the first that passes
-abbrev pub first_of : {X : Type 0} → (X → Bool) → List X → Option X
-first_of p [] = None
-first_of p (x ∷ xs) = if p x then Some x else first_of p xs
+-- The first of a list that passes a test, changed, and how many pass.
+use Rattle.std.specs.Prelude.{ℕ, ◌+◌, List, [], ◌∷◌, ◌++◌, Bool, if◌then◌else◌, cond}
 
 -- the list with the first that passes changed
 abbrev pub change_first : {X : Type 0} → (X → Bool) → (X → X) → List X → List X

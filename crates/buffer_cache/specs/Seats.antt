@@ -1,11 +1,12 @@
 -- The buffers of a cache, in order of giving back: the first was given back least recently.
 use Rattle.std.specs.Prelude.{◌≡◌, ◌≢◌, ℕ, zero, suc, ◌+◌, ◌<◌, ◌≤◌, List, [], ◌∷◌, length, Bool, true, false, not, ◌&&◌, ◌==◌, Option, Some, None, is_some, is_none}
 use Rattle.std.specs.Option.{MatchOption, option_map, option_and_then, unwrap_or}
+use Rattle.std.specs.List.{find}
 use Rattle.sleep_lock.specs.SleepLock.{GuardState}
 use Rattle.block_device.specs.Blocks.{block_at}
 use Rattle.buffer_cache.specs.Buffers.{BufferState}
 use Rattle.buffer_cache.specs.Limits.{buffer_count, most_pinned, hart_count, buffers_of_a_hart}
-use Rattle.buffer_cache.specs.Lists.{first_of, change_first, change_to_end, count_of}
+use Rattle.buffer_cache.specs.Lists.{change_first, change_to_end, count_of}
 
 -- what the cache keeps of a buffer: its number, which is its slot's; the block that it is for, if any; that block's bytes
 -- as they were last filled or recorded, if it is valid; whether it is pinned; and the hart that has it where it is out
@@ -68,7 +69,7 @@ unused_from n (suc count) = unused n ∷ unused_from (n + 1) count
 
 -- a block's buffer
 abbrev pub seat_of : ℕ → List SeatState → Option SeatState
-seat_of b seats = first_of (has_block b) seats
+seat_of b seats = find (has_block b) seats
 
 -- a block's buffer is there, and passes
 abbrev pub Passes : (SeatState → Bool) → ℕ → List SeatState → Type 0

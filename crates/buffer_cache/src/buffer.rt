@@ -2,7 +2,7 @@
 ghost use Rattle.std.specs.Prelude.{◌≡◌, ◌↔◌, Some, None, IsSome, IsTrue, IfOk};
 ghost use Rattle.std.specs.Borrow.{sem};
 
-use block_device::BLOCK_SIZE;
+use block_device::BLOCK_LEN;
 use std::alloc::{AllocError, Global};
 use std::marker::Model;
 
@@ -12,7 +12,7 @@ use std::marker::Model;
 pub struct Buffer {
     block: u32,
     valid: bool,
-    bytes: Box<[u8; BLOCK_SIZE]>,
+    bytes: Box<[u8; BLOCK_LEN]>,
 }
 
 impl Model for Buffer {
@@ -24,8 +24,8 @@ impl Model for Buffer {
 }
 
 // A block of zeros.
-pub(crate) fn zeros(alloc: Global) -> Result<Box<[u8; BLOCK_SIZE]>, AllocError> {
-    Ok(Box::new(alloc, [0; BLOCK_SIZE])?)
+pub(crate) fn zeros(alloc: Global) -> Result<Box<[u8; BLOCK_LEN]>, AllocError> {
+    Ok(Box::new(alloc, [0; BLOCK_LEN])?)
 }
 
 impl Buffer {
@@ -57,7 +57,7 @@ impl Buffer {
     }
 
     // From now on it has these bytes.
-    pub(crate) fn fill(&mut self, bytes: &[u8; BLOCK_SIZE])
+    pub(crate) fn fill(&mut self, bytes: &[u8; BLOCK_LEN])
         ensures { self.new ≡ record self.old { content = Some bytes.now } }
     {
         *self.bytes = *bytes;
@@ -79,7 +79,7 @@ impl Buffer {
     }
 
     /// The bytes.
-    pub fn bytes(&self) -> &[u8; BLOCK_SIZE]
+    pub fn bytes(&self) -> &[u8; BLOCK_LEN]
         requires { IsSome self.now.content }
         ensures { Some result.now ≡ self.now.content }
     {
@@ -87,7 +87,7 @@ impl Buffer {
     }
 
     /// The bytes, to be changed. What is changed has to be recorded when the buffer is given back.
-    pub fn bytes_mut(&mut self) -> &mut [u8; BLOCK_SIZE]
+    pub fn bytes_mut(&mut self) -> &mut [u8; BLOCK_LEN]
         requires { IsSome self.old.content }
         ensures* writes_back { sem 𝓛 (LendsBytes self.entry result) }
         ensures value { Some result.now ≡ self.old.content }

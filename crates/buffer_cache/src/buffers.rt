@@ -1,9 +1,10 @@
 // The buffers, their slots, and the order of giving back.
 ghost use Rattle.std.specs.Prelude.{count_by, ◌≡◌, ◌↔◌, ◌<◌, ◌≤◌, length, position, slice_get, Some, None, IsSome, IsTrue, IfOk, IfSome, OnOk, OnErr};
+ghost use Rattle.std.specs.List.{find};
 ghost use Rattle.sleep_lock.specs.SleepLock.{GuardState};
 ghost use Rattle.buffer_cache.specs.Buffers.{BufferState};
 ghost use Rattle.block_device.specs.Blocks.{block_at, faults_after};
-ghost use Rattle.buffer_cache.specs.Lists.{first_of, count_of};
+ghost use Rattle.buffer_cache.specs.Lists.{count_of};
 ghost use Rattle.buffer_cache.specs.Seats.{has_block, is_free, is_held_by, is_pinned, seat_of, kept, IsHeld, with_seat, with_content, with_pin, given_back, without_holder, unused_from};
 ghost use Rattle.buffer_cache.specs.Rows.{IsSeated};
 ghost use Rattle.buffer_cache.specs.Getting.{get_of};
@@ -68,7 +69,7 @@ impl Buffers {
 
     // A block's buffer, else the first that is free.
     pub(crate) fn get(&mut self, hart: u8, b: u32) -> Got
-        requires { IsSome (first_of is_free self.old) }
+        requires { IsSome (find is_free self.old) }
         ensures { (self.new, result) ≡ get_of hart b self.old }
     {
         get_in(&mut self.seats, &mut self.slots, hart, b)
@@ -183,7 +184,7 @@ fn count_pinned(seats: &[Seat]) -> usize
 }
 
 fn get_in(seats: &mut Vec<Seat>, slots: &mut Slots<Buffer>, hart: u8, b: u32) -> Got
-    requires free { IsSome (first_of is_free seats.old.items) }
+    requires free { IsSome (find is_free seats.old.items) }
     requires seated { IsSeated slots.old seats.old.items }
     ensures gives { (seats.new.items, result) ≡ get_of hart b seats.old.items }
     ensures seated { IsSeated slots.new seats.new.items }

@@ -11,7 +11,7 @@ ghost use Rattle.buffer_cache.specs.Seats.{is_any, is_held_by, is_pinned, is_rec
 use crate::buffer::Buffer;
 use crate::buffers::Buffers;
 use crate::got::Got;
-use block_device::{BLOCK_SIZE, Device, Fault};
+use block_device::{BLOCK_LEN, Device, Fault};
 use sleep_lock::{Guard, RetiredSlots};
 use std::marker::Model;
 
@@ -214,7 +214,7 @@ impl<D: Device> Cache<D> {
     }
 
     /// Writes a block that no buffer has, by one call. A write that fails leaves the old block there or the new one.
-    pub fn write_uncached(&mut self, b: u32, bytes: &[u8; BLOCK_SIZE]) -> Result<(), Fault>
+    pub fn write_uncached(&mut self, b: u32, bytes: &[u8; BLOCK_LEN]) -> Result<(), Fault>
         requires uncached { seat_of b self.old.seats ≡ None }
         requires within { b < length (D.contents self.old.device) }
         ensures called { D.Called self.old.device self.new.device }

@@ -4,7 +4,7 @@ ghost use Rattle.block_device.specs.Blocks.{block_at, faults_after};
 ghost use Rattle.buffer_cache.specs.Seats.{has_block, is_free, is_held_by, is_pinned, unused, with_holder, without_holder, with_content, with_pin, as_new};
 
 use crate::buffer::zeros;
-use block_device::{BLOCK_SIZE, Device, Fault};
+use block_device::{BLOCK_LEN, Device, Fault};
 use std::alloc::{AllocError, Global};
 use std::marker::Model;
 
@@ -16,7 +16,7 @@ pub(crate) struct Seat {
     valid: bool,
     pinned: bool,
     holder: Option<u8>,
-    bytes: Box<[u8; BLOCK_SIZE]>,
+    bytes: Box<[u8; BLOCK_LEN]>,
 }
 
 impl Model for Seat {
@@ -78,7 +78,7 @@ impl Seat {
         self.pinned
     }
 
-    pub fn bytes(&self) -> &[u8; BLOCK_SIZE]
+    pub fn bytes(&self) -> &[u8; BLOCK_LEN]
         requires { IsSome self.now.content }
         ensures { Some result.now ≡ self.now.content }
     {
@@ -105,7 +105,7 @@ impl Seat {
         self.holder = None;
     }
 
-    pub fn keep(&mut self, bytes: &[u8; BLOCK_SIZE])
+    pub fn keep(&mut self, bytes: &[u8; BLOCK_LEN])
         ensures { self.new ≡ with_content bytes.now self.old }
     {
         *self.bytes = *bytes;

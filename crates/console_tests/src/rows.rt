@@ -1,6 +1,6 @@
 //! Scripts of several harts, with all that they print.
 use crate::scripts::{disk, disk_with_f, image_after, run, run_in};
-use block_device::BLOCK_SIZE;
+use block_device::BLOCK_LEN;
 use console_parts::Mode;
 use image_tests::by_hand::{Change, with};
 use std::alloc::{AllocError, Global};
@@ -329,7 +329,7 @@ const COMMITS: [Commit; 2] = [
 
 // Whether two images differ in this block and in no other one, or where none is named, nowhere.
 fn differ_in(block: Option<&usize>, old: &[u8], new: &[u8]) -> bool {
-    let blocks = old.chunks(BLOCK_SIZE).zip(new.chunks(BLOCK_SIZE));
+    let blocks = old.chunks(BLOCK_LEN).zip(new.chunks(BLOCK_LEN));
     old.len() == new.len()
         && blocks
             .enumerate()
@@ -337,7 +337,7 @@ fn differ_in(block: Option<&usize>, old: &[u8], new: &[u8]) -> bool {
 }
 
 // Where the log's header begins.
-const HEADER: usize = 2 * BLOCK_SIZE;
+const HEADER: usize = 2 * BLOCK_LEN;
 
 // Leaves a call's commit after each of its writes in turn, and looks at the image.
 fn commits(rt: &impl Abort, alloc: Global, image: &[u8], commit: &Commit) -> Result<(), Fail> {
@@ -393,7 +393,7 @@ fn commits_are_left_at_each_write(rt: HostRuntime) -> Result<(), Fail> {
 }
 
 // The bit of block 48 in the bitmap, which is the lowest one of its byte.
-const BIT_48: usize = 46 * BLOCK_SIZE + 48 / 8;
+const BIT_48: usize = 46 * BLOCK_LEN + 48 / 8;
 
 #[test]
 fn an_emptied_file_gives_its_block_back(rt: HostRuntime) -> Result<(), Fail> {

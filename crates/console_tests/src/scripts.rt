@@ -7,7 +7,7 @@ use fs_machine::Kind;
 use hart_core::Stop;
 use image_tests::by_hand::{Change, fresh};
 use image_tree::MountFault;
-use mkfs::{MakeRefused, make};
+use mkfs::{MakeRefused, NewFile, make};
 use script::{CallLine, Command, Reason, ScriptFault, parse};
 use std::alloc::{AllocError, Global};
 use std::io;
@@ -28,19 +28,14 @@ pub fn disk_with_f(
     ninodes: u32,
     bytes: &[u8],
 ) -> Result<MemoryDisk, Fail> {
-    let file = (
-        Vec::from_slice(alloc, b"f")?,
-        Vec::from_slice(alloc, bytes)?,
-    );
+    let file = NewFile {
+        name: Vec::from_slice(alloc, b"f")?,
+        content: Vec::from_slice(alloc, bytes)?,
+    };
     made(alloc, size, ninodes, &[file])
 }
 
-fn made(
-    alloc: Global,
-    size: u32,
-    ninodes: u32,
-    files: &[(Vec<u8>, Vec<u8>)],
-) -> Result<MemoryDisk, Fail> {
+fn made(alloc: Global, size: u32, ninodes: u32, files: &[NewFile]) -> Result<MemoryDisk, Fail> {
     match make(alloc, size, ninodes, files) {
         Ok(disk) => Ok(disk),
         Err(MakeRefused::NoMemory) => Err(Fail::from(AllocError)),

@@ -9,7 +9,7 @@ use std::alloc::Global;
 
 const HARTS: usize = 8;
 
-const PIECE_WIDTH: usize = 3072;
+const PIECE_LEN: usize = 3072;
 
 /// A step of a call, at its event; after the others of that event where it is of a walk that was lost there.
 #[derive(Clone, Copy)]
@@ -189,7 +189,7 @@ fn first_mark(
 
 fn pieces_of(call: &Call) -> usize {
     match call {
-        Call::Write { bytes, .. } => bytes.as_slice().len() / PIECE_WIDTH + 1,
+        Call::Write { bytes, .. } => bytes.as_slice().len() / PIECE_LEN + 1,
         Call::Read { .. } | Call::Fstat { .. } => 1,
         _ => 0,
     }

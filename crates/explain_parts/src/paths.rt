@@ -9,7 +9,7 @@ use plain_tree::{Answer, Call, TracedCall};
 
 const SLASH: u8 = b'/';
 
-const NAME_WIDTH: usize = 14;
+const NAME_LEN: usize = 14;
 
 // Where the path's first '/' is, or its end.
 fn name_end(path: &[u8]) -> usize
@@ -48,7 +48,7 @@ pub(crate) fn next_element(path: &[u8]) -> Option<(&[u8], &[u8])>
             &rest[end..]
         };
         if end > 0 {
-            return Some((first(&rest[..end], NAME_WIDTH), after));
+            return Some((first(&rest[..end], NAME_LEN), after));
         }
         rest = after;
     }

@@ -2,25 +2,18 @@
 use Rattle.std.proofs.Common.{◌≡◌, ◌≢◌, ◌⊎◌, ⊎_elim, inl, inr, ℕ, zero, suc, ◌+◌, ◌^◌, ◌<◌, ◌≤◌, ◌==◌, nat_lt, Bool, true, false, cond, List, [], ◌∷◌, length, drop, get_or, set, refl, sym, ap, ◌∙◌, arith, Some, None}
 use Rattle.std.specs.List.{AllByRecursion, position_or_len}
 use Rattle.std.specs.Option.{option_map_or}
-use Rattle.std.proofs.lemmas.List.{get_or-set_same, get_or-set_other}
 use Rattle.std.proofs.lemmas.List.Sums.{position_or_len_is, passes_at_first, fails_before_first}
 use Rattle.std.proofs.lemmas.Bool.{eq-eqb, ne_eqb, eqb-true, eqb-false, cases_lt}
 use Rattle.std.proofs.lemmas.Bool.Decides.{nat_tests}
+use Rattle.block_device.specs.BlockLaws.{block_at-set_same, block_at-set_other}
 use Rattle.fs_layout.specs.Bytes.{overwrite, u32s_at}
 use Rattle.fs_layout.specs.LogHead.{spell_log_head, head_numbers}
 use Rattle.fs_layout.specs.declared.superblock.Super.{Super}
 use Rattle.fs_layout.specs.Super.{super_fields}
-use Rattle.fs_layout.specs.Recovered.{block_at, sizes_of, log_head_at, log_count, logged, place_of, overlay, recovered}
+use Rattle.block_device.specs.Blocks.{block_at}
+use Rattle.fs_layout.specs.Recovered.{sizes_of, log_head_at, log_count, logged, place_of, overlay, recovered}
 use Rattle.fs_layout.proofs.Numbers.{length-u32s_at}
 use Rattle.fs_layout.proofs.Words.{front-overwrite, head_numbers-spell}
-
--- ---- one block written
-
-pub block_at-set_same : (disk : List (List ℕ)) (b : ℕ) (bytes : List ℕ) → b < length disk → block_at (set disk b bytes) b ≡ bytes
-block_at-set_same disk b bytes h = get_or-set_same disk b bytes [] h
-
-pub block_at-set_other : (disk : List (List ℕ)) (b c : ℕ) (bytes : List ℕ) → c ≢ b → block_at (set disk b bytes) c ≡ block_at disk c
-block_at-set_other disk b c bytes h = get_or-set_other disk b c bytes [] h
 
 -- ---- where the recovered bytes of a block stand
 

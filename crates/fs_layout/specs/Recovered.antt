@@ -1,15 +1,12 @@
 -- The disk as recovery leaves it. A disk is the list of its blocks, each the list of its bytes.
-use Rattle.std.specs.Prelude.{◌≡◌, ◌⊎◌, ℕ, ◌+◌, ◌<◌, ◌≤◌, ◌==◌, List, [], slice_index_or, position}
+use Rattle.std.specs.Prelude.{◌≡◌, ◌⊎◌, ℕ, ◌+◌, ◌<◌, ◌≤◌, ◌==◌, List, position}
 use Rattle.std.specs.Option.{option_map_or}
+use Rattle.block_device.specs.Blocks.{block_at}
 use Rattle.fs_layout.specs.declared.superblock.Super.{Super}
 use Rattle.fs_layout.specs.Bytes.{u32_at}
 use Rattle.fs_layout.specs.Super.{super_fields}
 use Rattle.fs_layout.specs.LogHead.{head_numbers}
 use Rattle.fs_layout.specs.Widths.{super_block, log_head_count_at}
-
--- a block of the disk; one that the disk doesn't have has no bytes
-abbrev pub block_at : List (List ℕ) → ℕ → List ℕ
-block_at disk b = slice_index_or disk b []
 
 -- where the parts of the disk lie, as its superblock has it
 unfoldable pub sizes_of : List (List ℕ) → Super

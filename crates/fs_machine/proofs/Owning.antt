@@ -4,7 +4,8 @@ use Rattle.std.proofs.lemmas.Bool.{cases_eq, eqb-true}
 use Rattle.std.specs.Prelude.{slice_index, is_some, is_none, not, ◌&&◌, cond}
 use Rattle.std.specs.Option.{option_map, option_and_then}
 use Rattle.std.proofs.lemmas.Bool.Decides.{nat_tests}
-use Rattle.buffer_cache.specs.Lists.{first_of, change_first, change_to_end, count_of}
+use Rattle.std.specs.List.{find}
+use Rattle.buffer_cache.specs.Lists.{change_first, change_to_end, count_of}
 use Rattle.buffer_cache.specs.Getting.{get_of, get_by, get_new, guard_of}
 use Rattle.buffer_cache.specs.Seats.{SeatState, seat_of, holder_of, has_block, is_held_by, is_number, is_free, is_out, with_seat, with_holder, with_content, with_pin, without_holder, as_new, given_back}
 use Rattle.buffer_cache.specs.declared.got.Got.{Got}
@@ -17,10 +18,10 @@ use Rattle.fs_machine.specs.Own.{mine_of}
 
 -- ---- counts
 
-pub count_first : {X : Type 0} (q p : X → Bool) (f : X → X) (xs : List X) → ((x : X) → first_of p xs ≡ Some x → q (f x) ≡ q x) → count_of q (change_first p f xs) ≡ count_of q xs
+pub count_first : {X : Type 0} (q p : X → Bool) (f : X → X) (xs : List X) → ((x : X) → find p xs ≡ Some x → q (f x) ≡ q x) → count_of q (change_first p f xs) ≡ count_of q xs
 count_first q p f [] same = refl
 count_first {X} q p f (x ∷ xs) same =
-    pick (p x) (λ t. ((y : X) → (if t then Some x else first_of p xs) ≡ Some y → q (f y) ≡ q y) → count_of q (if t then f x ∷ xs else x ∷ change_first p f xs) ≡ count_of q (x ∷ xs))
+    pick (p x) (λ t. ((y : X) → (if t then Some x else find p xs) ≡ Some y → q (f y) ≡ q y) → count_of q (if t then f x ∷ xs else x ∷ change_first p f xs) ≡ count_of q (x ∷ xs))
     (λ _ all. ap (λ (t : Bool). cond t 1 0 + count_of q xs) (all x refl))
     (λ _ all. ap (λ (n : ℕ). cond (q x) 1 0 + n) (count_first q p f xs all))
     same
@@ -29,10 +30,10 @@ pub count_snoc : {X : Type 0} (q : X → Bool) (xs : List X) (y : X) → count_o
 count_snoc q [] y = refl
 count_snoc q (x ∷ xs) y = let more = count_snoc q xs y in omega (arith, more)
 
-count_end : {X : Type 0} (q p : X → Bool) (f : X → X) (xs : List X) → ((x : X) → first_of p xs ≡ Some x → q (f x) ≡ q x) → count_of q (change_to_end p f xs) ≡ count_of q xs
+count_end : {X : Type 0} (q p : X → Bool) (f : X → X) (xs : List X) → ((x : X) → find p xs ≡ Some x → q (f x) ≡ q x) → count_of q (change_to_end p f xs) ≡ count_of q xs
 count_end q p f [] same = refl
 count_end {X} q p f (x ∷ xs) same =
-    pick (p x) (λ t. ((y : X) → (if t then Some x else first_of p xs) ≡ Some y → q (f y) ≡ q y) → count_of q (if t then xs ++ f x ∷ [] else x ∷ change_to_end p f xs) ≡ count_of q (x ∷ xs))
+    pick (p x) (λ t. ((y : X) → (if t then Some x else find p xs) ≡ Some y → q (f y) ≡ q y) → count_of q (if t then xs ++ f x ∷ [] else x ∷ change_to_end p f xs) ≡ count_of q (x ∷ xs))
     (λ _ all. count_snoc q xs (f x) ∙ ap (λ (t : Bool). cond t 1 0 + count_of q xs) (all x refl))
     (λ _ all. ap (λ (n : ℕ). cond (q x) 1 0 + n) (count_end q p f xs all))
     same
@@ -173,7 +174,7 @@ same_get h g b ss ne once = by_seat (seat_of b ss) refl
         (not_same h g ne ∙ sym isnt, unheld g (with_holder h t) (not_same h g ne) ∙ sym (unheld g t isnt)))
 
     by_seat : (o : Option SeatState) → seat_of b ss ≡ o → SameFor g ss (get_by h b ss o).0
-    by_seat None e = by_free e (first_of is_free ss)
+    by_seat None e = by_free e (find is_free ss)
     by_seat (Some s) e = by_out s e (is_out s) refl
 
 pub same_content : (g b : ℕ) (bytes : List ℕ) (ss : List SeatState) → NotMine g b ss → SameFor g ss (with_seat b (with_content bytes) ss)

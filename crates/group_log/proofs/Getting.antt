@@ -2,14 +2,14 @@
 use Rattle.std.proofs.Common.{◌≡◌, ◌≢◌, inl, inr, ℕ, List, [], false, refl, sym, ◌∙◌, ap, subst, Option, Some, None, IsSome, is_some, if◌then◌else◌}
 use Rattle.std.proofs.lemmas.Bool.{cases_eq}
 use Rattle.std.specs.Option.{MatchOption, IfSome, option_and_then, unwrap_or}
+use Rattle.std.specs.List.{find}
 use Rattle.sleep_lock.specs.SleepLock.{GuardState}
 use Rattle.buffer_cache.specs.Buffers.{BufferState}
-use Rattle.buffer_cache.specs.Lists.{first_of}
 use Rattle.buffer_cache.specs.declared.got.Got.{Got}
 use Rattle.buffer_cache.specs.declared.got.Got.TheVariants.{Held, Waits}
 use Rattle.buffer_cache.specs.Getting.{get_of, get_by, get_new, guard_of}
 use Rattle.buffer_cache.specs.Seats.{SeatState, CacheState, has_block, is_free, seat_of, holder_of, with_seat, with_holder, without_holder, with_pin, given_back, IsHeld, IsGuardOf, KeepsHeld, KeepsOthers}
-use Rattle.group_log.specs.Pins.{IsRecorded, IsPinned}
+use Rattle.group_log.specs.Pins.{KeepsRecorded, HasRecorded}
 use Rattle.group_log.proofs.Seats.{pick, changed_twice, changed_and_ended}
 
 pub same_cache : {D : Type 0} (c d : CacheState D) → c.device ≡ d.device → c.seats ≡ d.seats → c ≡ d
@@ -36,12 +36,12 @@ by_holder hart b old new g s None valid e =
       valid = subst (λ (o : Option (List ℕ)). IsSome o) (sym (ap (λ (x : GuardState BufferState). x.value.content) same)) valid;
     }
 
-by_seat : (hart b : ℕ) (old new : List SeatState) (g : GuardState BufferState) (o : Option SeatState) → MatchOption o ⊥ IsRecorded
+by_seat : (hart b : ℕ) (old new : List SeatState) (g : GuardState BufferState) (o : Option SeatState) → MatchOption o ⊥ KeepsRecorded
     → pair new (Held g) ≡ get_by hart b old o → GetsRecorded hart b old new g
 by_seat hart b old new g None recorded e = absurd recorded
 by_seat hart b old new g (Some s) recorded e = by_holder hart b old new g s s.holder recorded.valid e
 
-pub gets_recorded : (hart b : ℕ) (old new : List SeatState) (r : Got) (g : GuardState BufferState) → IsPinned old b → pair new r ≡ get_of hart b old → r ≡ Held g
+pub gets_recorded : (hart b : ℕ) (old new : List SeatState) (r : Got) (g : GuardState BufferState) → HasRecorded old b → pair new r ≡ get_of hart b old → r ≡ Held g
     → GetsRecorded hart b old new g
 unfolding get_of
 gets_recorded hart b old new r g pinned e is = by_seat hart b old new g (seat_of b old) pinned (subst (λ (r : Got). pair new r ≡ get_by hart b old (seat_of b old)) is e)
@@ -53,7 +53,7 @@ waits_new hart b old new None e = ap (λ (p : List SeatState × Got). p.0) e
 waits_new hart b old new (Some s) e = let is : Waits ≡ Held (guard_of hart b s None) = ap (λ (p : List SeatState × Got). p.1) e in absurd (cc is)
 
 waits_by : (hart b : ℕ) (old new : List SeatState) (o : Option SeatState) → pair new Waits ≡ get_by hart b old o → new ≡ old
-waits_by hart b old new None e = waits_new hart b old new (first_of is_free old) e
+waits_by hart b old new None e = waits_new hart b old new (find is_free old) e
 waits_by hart b old new (Some s) e =
     pick (is_some s.holder) (λ t. pair new Waits ≡ (if t then (old, Waits) else (with_seat b (with_holder hart) old, Held (guard_of hart b s s.content))) → new ≡ old)
     (λ _ x. ap (λ (p : List SeatState × Got). p.0) x)
@@ -115,9 +115,9 @@ if_some None a b is e = tt
 if_some (Some v) a b is e = is ∙ e
 
 -- a block that no buffer has is another one
-pub apart_from : (b at : ℕ) (ss : List SeatState) → IsPinned ss b → seat_of at ss ≡ None → b ≢ at
+pub apart_from : (b at : ℕ) (ss : List SeatState) → HasRecorded ss b → seat_of at ss ≡ None → b ≢ at
 apart_from b at ss pinned none e = absent (seat_of b ss) pinned (ap (λ (k : ℕ). seat_of k ss) e ∙ none)
   where
-    absent : (o : Option SeatState) → MatchOption o ⊥ IsRecorded → o ≡ None → ⊥
+    absent : (o : Option SeatState) → MatchOption o ⊥ KeepsRecorded → o ≡ None → ⊥
     absent None recorded is = recorded
     absent (Some s) recorded is = cc is

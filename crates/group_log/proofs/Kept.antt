@@ -2,14 +2,15 @@
 use Rattle.std.proofs.Common.{◌≡◌, ◌≢◌, inl, inr, ℕ, ◌≤◌, List, [], ◌∷◌, get_or, Bool, true, false, not, ◌&&◌, refl, sym, ◌∙◌, ap, subst, arith, Option, Some, None, IsSome, is_some, is_none, if◌then◌else◌}
 use Rattle.std.proofs.lemmas.Bool.{cases_eq}
 use Rattle.std.specs.Option.{MatchOption, option_map}
+use Rattle.std.specs.List.{find}
 use Rattle.fs_layout.specs.declared.superblock.Super.{Super}
 use Rattle.fs_layout.specs.Recovered.{IsOutsideLog}
-use Rattle.buffer_cache.specs.Lists.{first_of, change_first, count_of}
+use Rattle.buffer_cache.specs.Lists.{change_first, count_of}
 use Rattle.buffer_cache.specs.declared.got.Got.{Got}
 use Rattle.buffer_cache.specs.declared.got.Got.TheVariants.{Held, Waits}
 use Rattle.buffer_cache.specs.Getting.{get_of, get_by, get_new, guard_of}
 use Rattle.buffer_cache.specs.Seats.{SeatState, has_block, is_free, is_pinned, seat_of, seen_in, with_seat, with_holder, without_holder, as_new, given_back}
-use Rattle.group_log.specs.Pins.{IsRecorded, IsPinned}
+use Rattle.group_log.specs.Pins.{KeepsRecorded, HasRecorded}
 use Rattle.group_log.specs.declared.phase.Phase.{Phase}
 use Rattle.group_log.specs.declared.phase.Phase.TheVariants.{Open, Staging, Installing, Halted}
 use Rattle.group_log.specs.Soundness.{DiskFits, PinsFrom, PinsFit, IsSoundLog}
@@ -18,7 +19,7 @@ use Rattle.group_log.proofs.Seats.{pick, first_of_others, count_same, count_to_e
 -- what a call does that is about block b
 pub record Kept (b : ℕ) (old new : List SeatState) : Type 0 where
   pub apart : (k : ℕ) → k ≢ b → seat_of k old ≡ None → seat_of k new ≡ None
-  pub pinned : (k : ℕ) → IsPinned old k → IsPinned new k
+  pub pinned : (k : ℕ) → HasRecorded old k → HasRecorded new k
   pub few : count_of is_pinned new ≤ count_of is_pinned old
 
 pub kept_same : (b : ℕ) (ss : List SeatState) → Kept b ss ss
@@ -31,19 +32,19 @@ kept_both b a m z first later = record {
   few = omega (arith, first.few, later.few);
 }
 
-pub recorded_map : (f : SeatState → SeatState) (o : Option SeatState) → ((s : SeatState) → IsRecorded s → IsRecorded (f s)) → MatchOption o ⊥ IsRecorded → MatchOption (option_map f o) ⊥ IsRecorded
+pub recorded_map : (f : SeatState → SeatState) (o : Option SeatState) → ((s : SeatState) → KeepsRecorded s → KeepsRecorded (f s)) → MatchOption o ⊥ KeepsRecorded → MatchOption (option_map f o) ⊥ KeepsRecorded
 recorded_map f None keeps is = is
 recorded_map f (Some s) keeps is = keeps s is
 
-pub recorded_of : (o n : Option SeatState) → n ≡ o → MatchOption o ⊥ IsRecorded → MatchOption n ⊥ IsRecorded
-recorded_of o n e is = subst (λ (o : Option SeatState). MatchOption o ⊥ IsRecorded) (sym e) is
+pub recorded_of : (o n : Option SeatState) → n ≡ o → MatchOption o ⊥ KeepsRecorded → MatchOption n ⊥ KeepsRecorded
+recorded_of o n e is = subst (λ (o : Option SeatState). MatchOption o ⊥ KeepsRecorded) (sym e) is
 
-pub pinned_at : (b : ℕ) (old new : List SeatState) (f : SeatState → SeatState) → seat_of b new ≡ option_map f (seat_of b old) → ((s : SeatState) → IsRecorded s → IsRecorded (f s))
-    → ((k : ℕ) → k ≢ b → seat_of k new ≡ seat_of k old) → (k : ℕ) → IsPinned old k → IsPinned new k
+pub pinned_at : (b : ℕ) (old new : List SeatState) (f : SeatState → SeatState) → seat_of b new ≡ option_map f (seat_of b old) → ((s : SeatState) → KeepsRecorded s → KeepsRecorded (f s))
+    → ((k : ℕ) → k ≢ b → seat_of k new ≡ seat_of k old) → (k : ℕ) → HasRecorded old k → HasRecorded new k
 pinned_at b old new f here keeps others k is = elim (cases_eq k b) [
   | inl e ↦
-      let at : IsPinned old b = subst (λ (j : ℕ). IsPinned old j) e is in
-      subst (λ (j : ℕ). IsPinned new j) (sym e) (recorded_of (option_map f (seat_of b old)) (seat_of b new) here (recorded_map f (seat_of b old) keeps at))
+      let at : HasRecorded old b = subst (λ (j : ℕ). HasRecorded old j) e is in
+      subst (λ (j : ℕ). HasRecorded new j) (sym e) (recorded_of (option_map f (seat_of b old)) (seat_of b new) here (recorded_map f (seat_of b old) keeps at))
   | inr ne ↦ recorded_of (seat_of k old) (seat_of k new) (others k ne) is
 ]
 
@@ -65,33 +66,33 @@ kept_back b ss once = record {
 
 -- ---- a buffer taken for another block
 
-none_passes : {X : Type 0} (q p : X → Bool) (xs : List X) (x : X) → first_of q xs ≡ None → first_of p xs ≡ Some x → q x ≡ false
+none_passes : {X : Type 0} (q p : X → Bool) (xs : List X) (x : X) → find q xs ≡ None → find p xs ≡ Some x → q x ≡ false
 none_passes q p [] x none here = absurd (cc here)
 none_passes {X} q p (y ∷ xs) x none here =
-    pick (q y) (λ t. q y ≡ t → (if t then Some y else first_of q xs) ≡ None → q x ≡ false)
+    pick (q y) (λ t. q y ≡ t → (if t then Some y else find q xs) ≡ None → q x ≡ false)
     (λ _ is some. absurd (cc some))
-    (λ _ isnt rest. pick (p y) (λ t. (if t then Some y else first_of p xs) ≡ Some x → q x ≡ false)
+    (λ _ isnt rest. pick (p y) (λ t. (if t then Some y else find p xs) ≡ Some x → q x ≡ false)
     (λ _ e. let same : y ≡ x = cc e in ap q (sym same) ∙ isnt)
     (λ _ later. none_passes q p xs x rest later)
     here)
     refl none
 
-first_stays : {X : Type 0} (q p : X → Bool) (f : X → X) (xs : List X) (s : X) → first_of q xs ≡ Some s → p s ≡ false → ((x : X) → q (f x) ≡ false) → first_of q (change_first p f xs) ≡ Some s
+first_stays : {X : Type 0} (q p : X → Bool) (f : X → X) (xs : List X) (s : X) → find q xs ≡ Some s → p s ≡ false → ((x : X) → q (f x) ≡ false) → find q (change_first p f xs) ≡ Some s
 first_stays q p f [] s here isnt apart = here
 first_stays {X} q p f (x ∷ xs) s here isnt apart =
-    pick (p x) (λ t. p x ≡ t → first_of q (if t then f x ∷ xs else x ∷ change_first p f xs) ≡ Some s)
-    (λ _ free. ap (λ (t : Bool). if t then Some (f x) else first_of q xs) (apart x)
-    ∙ pick (q x) (λ t. (if t then Some x else first_of q xs) ≡ Some s → first_of q xs ≡ Some s)
+    pick (p x) (λ t. p x ≡ t → find q (if t then f x ∷ xs else x ∷ change_first p f xs) ≡ Some s)
+    (λ _ free. ap (λ (t : Bool). if t then Some (f x) else find q xs) (apart x)
+    ∙ pick (q x) (λ t. (if t then Some x else find q xs) ≡ Some s → find q xs ≡ Some s)
     (λ _ e. let same : x ≡ s = cc e in let both : true ≡ false = sym free ∙ ap p same ∙ isnt in absurd (cc both))
     (λ _ later. later)
     here)
-    (λ _ _. pick (q x) (λ t. (if t then Some x else first_of q xs) ≡ Some s → (if t then Some x else first_of q (change_first p f xs)) ≡ Some s)
+    (λ _ _. pick (q x) (λ t. (if t then Some x else find q xs) ≡ Some s → (if t then Some x else find q (change_first p f xs)) ≡ Some s)
     (λ _ e. e)
     (λ _ later. first_stays q p f xs s later isnt apart)
     here)
     refl
 
-pub some_recorded : (o : Option SeatState) → MatchOption o ⊥ IsRecorded → (s : SeatState) × (o ≡ Some s) × IsRecorded s
+pub some_recorded : (o : Option SeatState) → MatchOption o ⊥ KeepsRecorded → (s : SeatState) × (o ≡ Some s) × KeepsRecorded s
 some_recorded None is = absurd is
 some_recorded (Some s) is = (s, refl, is)
 
@@ -117,7 +118,7 @@ by_free hart b old new r None none e = subst (λ (l : List SeatState). Kept b ol
 by_free hart b old new r (Some s) none e = subst (λ (l : List SeatState). Kept b old l) (sym (ap (λ (p : List SeatState × Got). p.0) e)) (kept_new hart b old none)
 
 by_seat : (hart b : ℕ) (old new : List SeatState) (r : Got) (o : Option SeatState) → seat_of b old ≡ o → pair new r ≡ get_by hart b old o → Kept b old new
-by_seat hart b old new r None none e = by_free hart b old new r (first_of is_free old) none e
+by_seat hart b old new r None none e = by_free hart b old new r (find is_free old) none e
 by_seat hart b old new r (Some s) some e =
     pick (is_some s.holder) (λ t. pair new r ≡ (if t then (old, Waits) else (with_seat b (with_holder hart) old, Held (guard_of hart b s s.content))) → Kept b old new)
     (λ _ x. subst (λ (l : List SeatState). Kept b old l) (sym (ap (λ (p : List SeatState × Got). p.0) x)) (kept_same b old))

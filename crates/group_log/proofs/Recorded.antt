@@ -7,7 +7,7 @@ use Rattle.fs_layout.specs.declared.superblock.Super.{Super}
 use Rattle.buffer_cache.specs.Buffers.{BufferState}
 use Rattle.buffer_cache.specs.Lists.{count_of}
 use Rattle.buffer_cache.specs.Seats.{SeatState, has_block, is_pinned, seat_of, seen_in, with_seat, with_content, with_pin, given_back, IsHeld}
-use Rattle.group_log.specs.Pins.{IsPinned}
+use Rattle.group_log.specs.Pins.{HasRecorded}
 use Rattle.group_log.specs.declared.phase.Phase.TheVariants.{Open}
 use Rattle.group_log.specs.Group.{has, with_block, HasRoom, members_with}
 use Rattle.group_log.specs.Soundness.{IsHome, IsSoundLog}
@@ -26,7 +26,7 @@ room_to_pin d ss sizes ks ms b hart sound has_room =
     pick (has ks b) (λ t. has ks b ≡ t → (option_map is_pinned (seat_of b ss) ≡ Some true) ⊎ (count_of is_pinned ss < 30))
     (λ _ is.
     let found = where_is ks b is in
-    let pin : IsPinned ss b = subst (λ (j : ℕ). IsPinned ss j) found.2 (sound.buffers.pinned found.0 (omega arith) found.1) in
+    let pin : HasRecorded ss b = subst (λ (j : ℕ). HasRecorded ss j) found.2 (sound.buffers.pinned found.0 (omega arith) found.1) in
     let seat = some_recorded (seat_of b ss) pin in
     inl (ap (λ (o : Option SeatState). option_map is_pinned o) seat.1 ∙ ap Some seat.2.pinned))
     (λ _ isnt. let a = room_to_add d ss sizes ks ms b hart sound (has_room isnt) in inr (omega (arith, a, sound.buffers.few)))

@@ -5,7 +5,7 @@ use Rattle.std.specs.Option.{MatchOption, option_map}
 use Rattle.fs_layout.specs.declared.superblock.Super.{Super}
 use Rattle.buffer_cache.specs.Lists.{count_of}
 use Rattle.buffer_cache.specs.Seats.{SeatState, has_block, is_pinned, seat_of, seen_in, with_seat, with_content, with_pin, without_holder, given_back}
-use Rattle.group_log.specs.Pins.{IsRecorded, IsPinned}
+use Rattle.group_log.specs.Pins.{KeepsRecorded, HasRecorded}
 use Rattle.group_log.specs.declared.phase.Phase.TheVariants.{Open}
 use Rattle.group_log.specs.Group.{has, with_block, rooms, HasRoom, one_more, members_with}
 use Rattle.group_log.specs.Soundness.{IsHome, IsSoundLog}
@@ -91,12 +91,12 @@ module _ (ss : List SeatState) (b : ℕ) (bytes : List ℕ) (once : (b : ℕ) �
       let z = count_same (has_block b) (has_block b) (with_content bytes) (with_seat b (with_pin true) ss) (λ s first e. e) in
       omega (arith, a, z, once b)
 
-  recorded_here : (o : Option SeatState) → IsSome o → MatchOption (option_map without_holder (option_map (with_content bytes) (option_map (with_pin true) o))) ⊥ IsRecorded
+  recorded_here : (o : Option SeatState) → IsSome o → MatchOption (option_map without_holder (option_map (with_content bytes) (option_map (with_pin true) o))) ⊥ KeepsRecorded
   recorded_here None is = absurd (cc is)
   recorded_here (Some s) is = record { pinned = refl; valid = refl }
 
   -- the recorded block's buffer is pinned
-  pub pinned_now : IsSome (seat_of b ss) → IsPinned (given_back b (with_seat b (with_content bytes) (with_seat b (with_pin true) ss))) b
+  pub pinned_now : IsSome (seat_of b ss) → HasRecorded (given_back b (with_seat b (with_content bytes) (with_seat b (with_pin true) ss))) b
   pinned_now is =
       recorded_of (option_map without_holder (option_map (with_content bytes) (option_map (with_pin true) (seat_of b ss)))) (seat_of b (given_back b (with_seat b (with_content bytes) (with_seat b (with_pin true) ss))))
       (seat_given_back b (with_seat b (with_content bytes) (with_seat b (with_pin true) ss)) once_filled
@@ -119,7 +119,7 @@ module _ (ss : List SeatState) (b : ℕ) (bytes : List ℕ) (once : (b : ℕ) �
   pub one_pin_more : count_of is_pinned (given_back b (with_seat b (with_content bytes) (with_seat b (with_pin true) ss))) ≤ count_of is_pinned ss + 1
   one_pin_more = let a = after_pin in let z = count_more is_pinned (has_block b) (with_pin true) ss in omega (arith, a, z)
 
-  pub no_pin_more : IsPinned ss b → count_of is_pinned (given_back b (with_seat b (with_content bytes) (with_seat b (with_pin true) ss))) ≤ count_of is_pinned ss
+  pub no_pin_more : HasRecorded ss b → count_of is_pinned (given_back b (with_seat b (with_content bytes) (with_seat b (with_pin true) ss))) ≤ count_of is_pinned ss
   no_pin_more is =
       let found = some_recorded (seat_of b ss) is in
       let a = after_pin in
@@ -142,7 +142,7 @@ recorded_good d e ss zs sizes ks ms b hart bytes once sound cached has_room home
       distinct = distinct_with ks b sound.distinct;
       buffers = record {
         apart = λ k from to. others_stay ss b bytes once k (λ x. not_inside sizes b k home.outside from to (sym x)) ∙ sound.buffers.apart k from to;
-        pinned = λ k le. each_with (λ x. IsPinned new x) ks b (λ j lt. still (get_or ks j 0) (sound.buffers.pinned j (omega arith) lt)) (pinned_now ss b bytes once cached) k;
+        pinned = λ k le. each_with (λ x. HasRecorded new x) ks b (λ j lt. still (get_or ks j 0) (sound.buffers.pinned j (omega arith) lt)) (pinned_now ss b bytes once cached) k;
         few = pins;
       };
       blocks = (sound.blocks.0, λ x out none. let other = none_with ks b x none in sound.blocks.1 x out other.1 ∙ sym (sees_new x other.0));
@@ -154,9 +154,9 @@ recorded_good d e ss zs sizes ks ms b hart bytes once sound cached has_room home
     sees_new : (k : ℕ) → k ≢ b → seen_in d new k ≡ seen_in d ss k
     sees_new k ne = ap (λ (l : List SeatState). seen_in d l k) (sym seats) ∙ ap (λ (x : List (List ℕ)). seen_in x zs k) (sym same) ∙ sees k ne
 
-    still : (x : ℕ) → IsPinned ss x → IsPinned new x
+    still : (x : ℕ) → HasRecorded ss x → HasRecorded new x
     still x is = elim (cases_eq x b) [
-      | inl at ↦ subst (λ (j : ℕ). IsPinned new j) (sym at) (pinned_now ss b bytes once cached)
+      | inl at ↦ subst (λ (j : ℕ). HasRecorded new j) (sym at) (pinned_now ss b bytes once cached)
       | inr ne ↦ recorded_of (seat_of x ss) (seat_of x new) (others_stay ss b bytes once x ne) is
     ]
 
@@ -169,7 +169,7 @@ recorded_good d e ss zs sizes ks ms b hart bytes once sound cached has_room home
     pins : count_of is_pinned new + 0 ≤ length (with_block ks b)
     pins = pick (has ks b) (λ t. has ks b ≡ t → count_of is_pinned new + 0 ≤ length (if t then ks else ks ++ b ∷ []))
         (λ _ is. let found = where_is ks b is in
-        let pin : IsPinned ss b = subst (λ (j : ℕ). IsPinned ss j) found.2 (sound.buffers.pinned found.0 (omega arith) found.1) in
+        let pin : HasRecorded ss b = subst (λ (j : ℕ). HasRecorded ss j) found.2 (sound.buffers.pinned found.0 (omega arith) found.1) in
         let a = no_pin_more ss b bytes once pin in omega (arith, a, sound.buffers.few))
         (λ _ _. let a = one_pin_more ss b bytes once in let l = length-push ks b in omega (arith, a, l, sound.buffers.few))
         refl

@@ -2,7 +2,8 @@
 use Rattle.std.proofs.Common.{◌≡◌, ◌≢◌, ℕ, ◌+◌, ◌≤◌, List, [], ◌∷◌, ◌++◌, Bool, true, false, cond, refl, sym, ◌∙◌, ap, arith, Option, Some, None, if◌then◌else◌}
 use Rattle.std.proofs.lemmas.Bool.{eqb-true, ne_eqb}
 use Rattle.std.specs.Option.{option_map}
-use Rattle.buffer_cache.specs.Lists.{first_of, change_first, change_to_end, count_of}
+use Rattle.std.specs.List.{find}
+use Rattle.buffer_cache.specs.Lists.{change_first, change_to_end, count_of}
 use Rattle.buffer_cache.specs.Seats.{SeatState, has_block, is_number, seat_of, with_seat, without_holder, given_back}
 
 pub pick : (t : Bool) (P : Bool → Type 0) → (t ≡ true → P true) → (t ≡ false → P false) → P t
@@ -11,61 +12,61 @@ pick false P yes_ no_ = no_ refl
 
 -- ---- the first that passes, after a change
 
-pub first_passes : {X : Type 0} (p : X → Bool) (xs : List X) (x : X) → first_of p xs ≡ Some x → p x ≡ true
+pub first_passes : {X : Type 0} (p : X → Bool) (xs : List X) (x : X) → find p xs ≡ Some x → p x ≡ true
 first_passes p [] x e = absurd (cc e)
 first_passes {X} p (y ∷ xs) x e =
-    pick (p y) (λ t. p y ≡ t → (if t then Some y else first_of p xs) ≡ Some x → p x ≡ true)
+    pick (p y) (λ t. p y ≡ t → (if t then Some y else find p xs) ≡ Some x → p x ≡ true)
     (λ _ is here. let same : y ≡ x = cc here in ap p (sym same) ∙ is)
     (λ _ isnt here. first_passes p xs x here)
     refl e
 
-pub first_changed : {X : Type 0} (p : X → Bool) (f : X → X) (xs : List X) → ((x : X) → p x ≡ true → p (f x) ≡ true) → first_of p (change_first p f xs) ≡ option_map f (first_of p xs)
+pub first_changed : {X : Type 0} (p : X → Bool) (f : X → X) (xs : List X) → ((x : X) → p x ≡ true → p (f x) ≡ true) → find p (change_first p f xs) ≡ option_map f (find p xs)
 first_changed p f [] keeps = refl
 first_changed {X} p f (x ∷ xs) keeps =
-    pick (p x) (λ t. p x ≡ t → first_of p (if t then f x ∷ xs else x ∷ change_first p f xs) ≡ option_map f (if t then Some x else first_of p xs))
-    (λ _ is. ap (λ (t : Bool). if t then Some (f x) else first_of p xs) (keeps x is))
-    (λ _ isnt. ap (λ (t : Bool). if t then Some x else first_of p (change_first p f xs)) isnt ∙ first_changed p f xs keeps)
+    pick (p x) (λ t. p x ≡ t → find p (if t then f x ∷ xs else x ∷ change_first p f xs) ≡ option_map f (if t then Some x else find p xs))
+    (λ _ is. ap (λ (t : Bool). if t then Some (f x) else find p xs) (keeps x is))
+    (λ _ isnt. ap (λ (t : Bool). if t then Some x else find p (change_first p f xs)) isnt ∙ first_changed p f xs keeps)
     refl
 
-pub first_of_others : {X : Type 0} (q p : X → Bool) (f : X → X) (xs : List X) → ((x : X) → first_of p xs ≡ Some x → (q x ≡ false) × (q (f x) ≡ false)) → first_of q (change_first p f xs) ≡ first_of q xs
+pub first_of_others : {X : Type 0} (q p : X → Bool) (f : X → X) (xs : List X) → ((x : X) → find p xs ≡ Some x → (q x ≡ false) × (q (f x) ≡ false)) → find q (change_first p f xs) ≡ find q xs
 first_of_others q p f [] apart = refl
 first_of_others {X} q p f (x ∷ xs) apart =
-    pick (p x) (λ t. ((y : X) → (if t then Some x else first_of p xs) ≡ Some y → (q y ≡ false) × (q (f y) ≡ false)) → first_of q (if t then f x ∷ xs else x ∷ change_first p f xs) ≡ first_of q (x ∷ xs))
-    (λ _ a. let both = a x refl in ap (λ (t : Bool). if t then Some (f x) else first_of q xs) both.1 ∙ sym (ap (λ (t : Bool). if t then Some x else first_of q xs) both.0))
+    pick (p x) (λ t. ((y : X) → (if t then Some x else find p xs) ≡ Some y → (q y ≡ false) × (q (f y) ≡ false)) → find q (if t then f x ∷ xs else x ∷ change_first p f xs) ≡ find q (x ∷ xs))
+    (λ _ a. let both = a x refl in ap (λ (t : Bool). if t then Some (f x) else find q xs) both.1 ∙ sym (ap (λ (t : Bool). if t then Some x else find q xs) both.0))
     (λ _ a. ap (λ (o : Option X). if q x then Some x else o) (first_of_others q p f xs a))
     apart
 
-none_first : {X : Type 0} (p : X → Bool) (xs : List X) → count_of p xs ≡ 0 → first_of p xs ≡ None
+none_first : {X : Type 0} (p : X → Bool) (xs : List X) → count_of p xs ≡ 0 → find p xs ≡ None
 none_first p [] e = refl
 none_first p (x ∷ xs) e =
-    pick (p x) (λ t. cond t 1 0 + count_of p xs ≡ 0 → (if t then Some x else first_of p xs) ≡ None)
+    pick (p x) (λ t. cond t 1 0 + count_of p xs ≡ 0 → (if t then Some x else find p xs) ≡ None)
     (λ _ more. absurd (omega (arith, more)))
     (λ _ rest. none_first p xs (omega (arith, rest)))
     e
 
-first_pushed : {X : Type 0} (p : X → Bool) (xs : List X) (x : X) → first_of p xs ≡ None → first_of p (xs ++ x ∷ []) ≡ (if p x then Some x else None)
+first_pushed : {X : Type 0} (p : X → Bool) (xs : List X) (x : X) → find p xs ≡ None → find p (xs ++ x ∷ []) ≡ (if p x then Some x else None)
 first_pushed p [] x e = refl
 first_pushed {X} p (y ∷ xs) x e =
-    pick (p y) (λ t. (if t then Some y else first_of p xs) ≡ None → (if t then Some y else first_of p (xs ++ x ∷ [])) ≡ (if p x then Some x else None))
+    pick (p y) (λ t. (if t then Some y else find p xs) ≡ None → (if t then Some y else find p (xs ++ x ∷ [])) ≡ (if p x then Some x else None))
     (λ _ here. absurd (cc here)) (λ _ none. first_pushed p xs x none) e
 
-pub first_to_end : {X : Type 0} (p : X → Bool) (f : X → X) (xs : List X) → ((x : X) → p x ≡ true → p (f x) ≡ true) → count_of p xs ≤ 1 → first_of p (change_to_end p f xs) ≡ option_map f (first_of p xs)
+pub first_to_end : {X : Type 0} (p : X → Bool) (f : X → X) (xs : List X) → ((x : X) → p x ≡ true → p (f x) ≡ true) → count_of p xs ≤ 1 → find p (change_to_end p f xs) ≡ option_map f (find p xs)
 first_to_end p f [] keeps once = refl
 first_to_end {X} p f (x ∷ xs) keeps once =
-    pick (p x) (λ t. p x ≡ t → cond t 1 0 + count_of p xs ≤ 1 → first_of p (if t then xs ++ f x ∷ [] else x ∷ change_to_end p f xs) ≡ option_map f (if t then Some x else first_of p xs))
+    pick (p x) (λ t. p x ≡ t → cond t 1 0 + count_of p xs ≤ 1 → find p (if t then xs ++ f x ∷ [] else x ∷ change_to_end p f xs) ≡ option_map f (if t then Some x else find p xs))
     (λ _ is one. first_pushed p xs (f x) (none_first p xs (omega (arith, one))) ∙ ap (λ (t : Bool). if t then Some (f x) else None) (keeps x is))
-    (λ _ isnt one. ap (λ (t : Bool). if t then Some x else first_of p (change_to_end p f xs)) isnt ∙ first_to_end p f xs keeps (omega (arith, one)))
+    (λ _ isnt one. ap (λ (t : Bool). if t then Some x else find p (change_to_end p f xs)) isnt ∙ first_to_end p f xs keeps (omega (arith, one)))
     refl once
 
-first_passed_by : {X : Type 0} (q : X → Bool) (xs : List X) (x : X) → q x ≡ false → first_of q (xs ++ x ∷ []) ≡ first_of q xs
+first_passed_by : {X : Type 0} (q : X → Bool) (xs : List X) (x : X) → q x ≡ false → find q (xs ++ x ∷ []) ≡ find q xs
 first_passed_by {X} q [] x isnt = ap (λ (t : Bool). if t then Some x else None) isnt
 first_passed_by {X} q (y ∷ xs) x isnt = ap (λ (o : Option X). if q y then Some y else o) (first_passed_by q xs x isnt)
 
-pub others_to_end : {X : Type 0} (q p : X → Bool) (f : X → X) (xs : List X) → ((x : X) → p x ≡ true → (q x ≡ false) × (q (f x) ≡ false)) → first_of q (change_to_end p f xs) ≡ first_of q xs
+pub others_to_end : {X : Type 0} (q p : X → Bool) (f : X → X) (xs : List X) → ((x : X) → p x ≡ true → (q x ≡ false) × (q (f x) ≡ false)) → find q (change_to_end p f xs) ≡ find q xs
 others_to_end q p f [] apart = refl
 others_to_end {X} q p f (x ∷ xs) apart =
-    pick (p x) (λ t. p x ≡ t → first_of q (if t then xs ++ f x ∷ [] else x ∷ change_to_end p f xs) ≡ first_of q (x ∷ xs))
-    (λ _ is. first_passed_by q xs (f x) (apart x is).1 ∙ sym (ap (λ (t : Bool). if t then Some x else first_of q xs) (apart x is).0))
+    pick (p x) (λ t. p x ≡ t → find q (if t then xs ++ f x ∷ [] else x ∷ change_to_end p f xs) ≡ find q (x ∷ xs))
+    (λ _ is. first_passed_by q xs (f x) (apart x is).1 ∙ sym (ap (λ (t : Bool). if t then Some x else find q xs) (apart x is).0))
     (λ _ isnt. ap (λ (o : Option X). if q x then Some x else o) (others_to_end q p f xs apart))
     refl
 
@@ -104,18 +105,18 @@ count_more q p f (x ∷ xs) =
     let b = count_more q p f xs in
     pick (p x) (λ t. count_of q (if t then f x ∷ xs else x ∷ change_first p f xs) ≤ cond (q x) 1 0 + count_of q xs + 1) (λ _. omega (arith, a)) (λ _. omega (arith, b))
 
-pub count_same : {X : Type 0} (q p : X → Bool) (f : X → X) (xs : List X) → ((x : X) → first_of p xs ≡ Some x → q (f x) ≡ true → q x ≡ true) → count_of q (change_first p f xs) ≤ count_of q xs
+pub count_same : {X : Type 0} (q p : X → Bool) (f : X → X) (xs : List X) → ((x : X) → find p xs ≡ Some x → q (f x) ≡ true → q x ≡ true) → count_of q (change_first p f xs) ≤ count_of q xs
 count_same q p f [] keeps = omega arith
 count_same {X} q p f (x ∷ xs) keeps =
-    pick (p x) (λ t. ((y : X) → (if t then Some x else first_of p xs) ≡ Some y → q (f y) ≡ true → q y ≡ true) → count_of q (if t then f x ∷ xs else x ∷ change_first p f xs) ≤ cond (q x) 1 0 + count_of q xs)
+    pick (p x) (λ t. ((y : X) → (if t then Some x else find p xs) ≡ Some y → q (f y) ≡ true → q y ≡ true) → count_of q (if t then f x ∷ xs else x ∷ change_first p f xs) ≤ cond (q x) 1 0 + count_of q xs)
     (λ _ k. let a = less (q (f x)) (q x) (k x refl) in omega (arith, a))
     (λ _ k. let b = count_same q p f xs k in omega (arith, b))
     keeps
 
-pub count_less : {X : Type 0} (q p : X → Bool) (f : X → X) (xs : List X) (x : X) → first_of p xs ≡ Some x → q x ≡ true → q (f x) ≡ false → count_of q (change_first p f xs) + 1 ≡ count_of q xs
+pub count_less : {X : Type 0} (q p : X → Bool) (f : X → X) (xs : List X) (x : X) → find p xs ≡ Some x → q x ≡ true → q (f x) ≡ false → count_of q (change_first p f xs) + 1 ≡ count_of q xs
 count_less q p f [] x e was isnt = absurd (cc e)
 count_less {X} q p f (y ∷ xs) x e was isnt =
-    pick (p y) (λ t. (if t then Some y else first_of p xs) ≡ Some x → count_of q (if t then f y ∷ xs else y ∷ change_first p f xs) + 1 ≡ cond (q y) 1 0 + count_of q xs)
+    pick (p y) (λ t. (if t then Some y else find p xs) ≡ Some x → count_of q (if t then f y ∷ xs else y ∷ change_first p f xs) + 1 ≡ cond (q y) 1 0 + count_of q xs)
     (λ _ here.
     let same : y ≡ x = cc here in
     let a : cond (q (f y)) 1 0 ≡ 0 = (let none : ℕ = 0 in let one : ℕ = 1 in ap (λ (t : Bool). cond t one none) (ap (λ (z : X). q (f z)) same ∙ isnt)) in

@@ -23,7 +23,7 @@ use Rattle.group_log.specs.Phases.{IsUnderWay, write_to, write_of, next_phase, g
 use Rattle.group_log.specs.Soundness.{IsSoundLog, IsHome, PinsFrom, limit_of}
 use Rattle.group_log.specs.Turns.{seats_after, seats_at_fault}
 use Rattle.group_log.specs.Waiting.{join_waits}
-use Rattle.group_log.specs.Pins.{IsPinned}
+use Rattle.group_log.specs.Pins.{HasRecorded}
 use Rattle.group_log.proofs.Rooms.{rooms_le, rooms_join, length-set_member}
 use Rattle.group_log.proofs.Seats.{pick}
 use Rattle.group_log.proofs.Steps.{below, open_of, can_write, under_way}
@@ -53,7 +53,7 @@ log_stands d ss sizes ks n at bytes sound pins from to = record {
   seen = λ b out. seen_past d ss at b bytes (λ e. elim out [ inl lt ↦ omega (arith, e, from, lt) | inr le ↦ omega (arith, e, to, le) ]);
 }
 
-kept_bytes : (d : List (List ℕ)) (ss : List SeatState) (b : ℕ) → IsPinned ss b → kept b ss ≡ Some (seen_in d ss b)
+kept_bytes : (d : List (List ℕ)) (ss : List SeatState) (b : ℕ) → HasRecorded ss b → kept b ss ≡ Some (seen_in d ss b)
 kept_bytes d ss b pin =
     let at = some_recorded (seat_of b ss) pin in
     let is : kept b ss ≡ at.0.content = ap (option_and_then (λ (s : SeatState). s.content)) at.1 in
@@ -64,7 +64,7 @@ kept_bytes d ss b pin =
     some (Some x) v = refl
 
 -- a write home
-home_stands : (d : List (List ℕ)) (ss : List SeatState) (sizes : Super) (b : ℕ) → IsSound d ss → IsPinned ss b → b < length d → Stands d ss sizes (slice_set d b (seen_in d ss b)) ss
+home_stands : (d : List (List ℕ)) (ss : List SeatState) (sizes : Super) (b : ℕ) → IsSound d ss → HasRecorded ss b → b < length d → Stands d ss sizes (slice_set d b (seen_in d ss b)) ss
 home_stands d ss sizes b sound pin within = record {
   sound = sound_home d ss b (seen_in d ss b) within (kept_bytes d ss b pin) sound;
   seen = λ k out. seen_home d ss b k (seen_in d ss b) (kept_bytes d ss b pin);
@@ -110,7 +110,7 @@ module _ (d : List (List ℕ)) (ss : List SeatState) (sizes : Super) (ks : List 
       let e = slice_set d b (seen_in d ss b) in
       let lt = below i (length ks) on isnt in
       let home = log.homes i lt in
-      let pin : IsPinned ss b = log.buffers.pinned i (omega arith) lt in
+      let pin : HasRecorded ss b = log.buffers.pinned i (omega arith) lt in
       let st : Stands d ss sizes e ss = home_stands d ss sizes b sound pin home.within in
       let there : block_at e b ≡ seen_in e ss b = block_at-set_same d b (seen_in d ss b) home.within ∙ sym (seen_home d ss b b (seen_in d ss b) (kept_bytes d ss b pin)) in
       let un : Stands d ss sizes e (with_seat b (with_pin false) ss) = record { sound = sound_unpin e ss b there st.sound; seen = λ k out. pin_seen e ss b false k ∙ st.seen k out } in

@@ -6,7 +6,8 @@ use Rattle.std.proofs.Math.ListN.{length-set}
 use Rattle.fs_layout.specs.declared.superblock.Super.{Super}
 use Rattle.fs_layout.specs.Bytes.{u32_at}
 use Rattle.fs_layout.specs.Recovered.{sizes_of, logged, recovered, IsOutsideLog}
-use Rattle.fs_layout.proofs.RecoveredDisk.{block_at-set_same, block_at-set_other, sizes_of-set, logged-set, logged-written, recovered-empty, recovered-copy, recovered-own, first_copy}
+use Rattle.block_device.specs.BlockLaws.{block_at-set_same, block_at-set_other}
+use Rattle.fs_layout.proofs.RecoveredDisk.{sizes_of-set, logged-set, logged-written, recovered-empty, recovered-copy, recovered-own, first_copy}
 use Rattle.block_device.specs.Blocks.{block_at}
 use Rattle.group_log.specs.declared.phase.Phase.TheVariants.{Open, Staging, Installing}
 use Rattle.group_log.specs.Phases.{head_block}

@@ -4,10 +4,10 @@ use Rattle.std.specs.Option.{MatchOption}
 use Rattle.buffer_cache.specs.Seats.{SeatState, seat_of}
 
 -- it keeps what was recorded until it was copied home
-pub record IsRecorded (s : SeatState) : Type 0 where
+pub record KeepsRecorded (s : SeatState) : Type 0 where
   pub pinned : s.pinned ≡ true
   pub valid : IsSome s.content
 
 -- the block has such a buffer
-abbrev pub IsPinned : List SeatState → ℕ → Type 0
-IsPinned seats b = MatchOption (seat_of b seats) ⊥ IsRecorded
+abbrev pub HasRecorded : List SeatState → ℕ → Type 0
+HasRecorded seats b = MatchOption (seat_of b seats) ⊥ KeepsRecorded

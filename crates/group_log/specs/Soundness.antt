@@ -11,7 +11,7 @@ use Rattle.group_log.specs.declared.limits.TheConstants.{MOST_LOGGED, PLACES}
 use Rattle.group_log.specs.declared.phase.Phase.{Phase}
 use Rattle.group_log.specs.declared.phase.Phase.TheVariants.{Open, Staging, Installing, Halted}
 use Rattle.group_log.specs.Group.{joined, rooms}
-use Rattle.group_log.specs.Pins.{IsPinned}
+use Rattle.group_log.specs.Pins.{HasRecorded}
 
 -- a log, to its callers: the cache, where the parts of its disk lie, the recorded blocks in the order of first recording, for each
 -- hart what its transaction has added to them, and where the commit is
@@ -63,7 +63,7 @@ DiskFits sizes disk see group Halted = (logged disk ≡ []) ⊎ (logged disk ≡
 -- no buffer has a block of the log; the group's blocks from the n-th on are pinned, and no others
 pub record PinsFrom (sizes : Super) (seats : List SeatState) (group : List ℕ) (n : ℕ) : Type 0 where
   pub apart : (b : ℕ) → sizes.logstart ≤ b → b < sizes.logstart + sizes.nlog → seat_of b seats ≡ None
-  pub pinned : (k : ℕ) → n ≤ k → k < length group → IsPinned seats (slice_index group k)
+  pub pinned : (k : ℕ) → n ≤ k → k < length group → HasRecorded seats (slice_index group k)
   pub few : count_of is_pinned seats + n ≤ length group
 
 abbrev pub PinsFit : Super → List SeatState → List ℕ → Phase → Type 0

@@ -4,7 +4,7 @@ ghost use Rattle.std.specs.Option.{unwrap_or};
 ghost use Rattle.block_device.specs.Blocks.{faults_after};
 ghost use Rattle.buffer_cache.specs.Lists.{count_of};
 ghost use Rattle.buffer_cache.specs.Seats.{is_held_by, seat_of, holder_of, with_seat, with_pin, given_back, seen, KeepsHeld};
-ghost use Rattle.group_log.specs.Pins.{IsPinned};
+ghost use Rattle.group_log.specs.Pins.{HasRecorded};
 ghost use Rattle.group_log.specs.Phases.{head_block};
 ghost use Rattle.group_log.specs.Written.{Writes, by_outcome, faults_of, outcome_of};
 
@@ -37,7 +37,7 @@ fn outcome(made: Result<(), Fault>) -> Written
 pub(crate) fn copy_to_log<D: Device>(cache: &mut Cache<D>, hart: u8, b: u32, at: u32) -> Written
     requires hart { hart < HARTS }
     requires few { count_of (is_held_by hart) cache.old.seats ≤ 1 }
-    requires pinned { IsPinned cache.old.seats b }
+    requires pinned { HasRecorded cache.old.seats b }
     requires uncached { seat_of at cache.old.seats ≡ None }
     requires within { at < length (D.contents cache.old.device) }
     ensures waits { (result ≡ Written.Waits) ↔ IsSome (holder_of b cache.old.seats) }
@@ -80,7 +80,7 @@ fn write_copy<D: Device>(cache: &mut Cache<D>, guard: &Guard<Buffer>, at: u32) -
 pub(crate) fn copy_home<D: Device>(cache: &mut Cache<D>, hart: u8, b: u32) -> Written
     requires hart { hart < HARTS }
     requires few { count_of (is_held_by hart) cache.old.seats ≤ 1 }
-    requires pinned { IsPinned cache.old.seats b }
+    requires pinned { HasRecorded cache.old.seats b }
     requires within { b < length (D.contents cache.old.device) }
     ensures waits { (result ≡ Written.Waits) ↔ IsSome (holder_of b cache.old.seats) }
     ensures same { (result ≡ Written.Waits) → cache.new ≡ cache.old }

@@ -13,7 +13,7 @@ pub(crate) type Attempt<T> = Result<T, NoMemory>;
 /// The flag of an open that empties the file.
 const EMPTY_IT: u32 = 0x400;
 /// Bytes of a write's piece.
-const PIECE_WIDTH: usize = 3072;
+const PIECE_LEN: usize = 3072;
 
 fn empties(flags: u32) -> bool
     ensures { result ≡ has flags 1024 }
@@ -28,7 +28,7 @@ fn piece_count(bytes: &[u8]) -> usize
     if bytes.is_empty() {
         1
     } else {
-        (bytes.len() - 1) / PIECE_WIDTH + 1
+        (bytes.len() - 1) / PIECE_LEN + 1
     }
 }
 
@@ -47,7 +47,7 @@ fn piece(bytes: &[u8], i: usize) -> &[u8]
     requires { i < piece_count bytes.now }
     ensures { result.now ≡ piece bytes.now i }
 {
-    first(&bytes[PIECE_WIDTH * i..], PIECE_WIDTH)
+    first(&bytes[PIECE_LEN * i..], PIECE_LEN)
 }
 
 fn truncate_next(flags: u32, file: Option<u32>) -> Option<Action>

@@ -9,8 +9,8 @@ use Rattle.std.proofs.lemmas.List.{length-map, length-take, get_or_past}
 use Rattle.std.proofs.lemmas.List.Elements.{All-head, All-tail}
 use Rattle.fs_layout.specs.declared.inode.Dinode.{Dinode}
 use Rattle.fs_layout.specs.declared.entry.Dirent.TheVariants.{Free, Used}
-use Rattle.block_device.specs.Blocks.{HasWholeBlocks}
-use Rattle.fs_layout.specs.Recovered.{block_at, place_of, logged, recovered, sizes_of}
+use Rattle.block_device.specs.Blocks.{HasWholeBlocks, block_at}
+use Rattle.fs_layout.specs.Recovered.{place_of, logged, recovered, sizes_of}
 use Rattle.fs_layout.proofs.RecoveredDisk.{length-logged, place_of_cases}
 use Rattle.plain_tree.specs.declared.node.Node.{Node}
 use Rattle.plain_tree.specs.declared.node.Kind.{Kind}

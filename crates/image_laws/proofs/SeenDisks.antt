@@ -6,11 +6,11 @@ use Rattle.std.specs.List.{All}
 use Rattle.std.proofs.lemmas.Bool.{cases_lt}
 use Rattle.std.proofs.lemmas.List.{get_or_past, get_or_append_left, length-replicate}
 use Rattle.std.proofs.lemmas.List.Elements.{All-nil}
-use Rattle.block_device.specs.Blocks.{HasWholeBlocks}
+use Rattle.block_device.specs.Blocks.{HasWholeBlocks, block_at}
 use Rattle.fs_layout.specs.declared.superblock.Super.{Super}
 use Rattle.fs_layout.specs.Bytes.{u32_at}
 use Rattle.fs_layout.specs.Super.{super_fields}
-use Rattle.fs_layout.specs.Recovered.{block_at, log_head_at, log_count, logged, recovered, sizes_of, IsOutsideLog}
+use Rattle.fs_layout.specs.Recovered.{log_head_at, log_count, logged, recovered, sizes_of, IsOutsideLog}
 use Rattle.fs_layout.proofs.RecoveredDisk.{logged-empty, recovered-empty, recovered-own}
 use Rattle.image_tree.specs.Lists.{IsOnce}
 use Rattle.image_tree.specs.Checks.{IsGoodSuper, HasGoodLog}

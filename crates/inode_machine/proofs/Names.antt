@@ -2,7 +2,7 @@
 use Rattle.std.proofs.Common.{◌≡◌, ◌≢◌, inl, inr, ℕ, zero, suc, ◌<◌, Bool, true, false, ◌==◌, not, nat_lt, List, [], ◌∷◌, ◌++◌, Option, Some, None, filter, length, map, take, refl, arith, if◌then◌else◌}
 use Rattle.std.proofs.lemmas.List.{length-take}
 use Rattle.plain_tree.specs.Tree.{Name, elements, is_empty, pieces}
-use Rattle.plain_tree.specs.Widths.{name_width}
+use Rattle.plain_tree.specs.Widths.{name_len}
 use Rattle.tree_laws.proofs.Maps.{and_true, either, eq_isnt, or_none}
 use Rattle.inode_machine.specs.Exec.{is_nothing}
 use Rattle.inode_machine.specs.Rules.{IsName, IsText}
@@ -49,10 +49,10 @@ pieces_text f (b ∷ bs) tf tp = elim (either (b == 47)) [
   | inr y ↦ rw y (pieces_text (f ++ b ∷ []) bs (text_more f b tf tp.0 (eq_isnt b 47 y) tp.1) tp.2)
 ]
 
-name_of : (b : ℕ) (bs : List ℕ) → IsText (b ∷ bs) → IsName (take name_width (b ∷ bs))
-name_of b bs t = record { some = omega arith; fits = (let a = length-take name_width (b ∷ bs) in omega (arith, a)); text = text_take name_width (b ∷ bs) t }
+name_of : (b : ℕ) (bs : List ℕ) → IsText (b ∷ bs) → IsName (take name_len (b ∷ bs))
+name_of b bs t = record { some = omega arith; fits = (let a = length-take name_len (b ∷ bs) in omega (arith, a)); text = text_take name_len (b ∷ bs) t }
 
-names_of : (es : List (List ℕ)) → AllTexts es → AllNames (map (λ e. take name_width e) (filter (λ e. not (is_empty e)) es))
+names_of : (es : List (List ℕ)) → AllTexts es → AllNames (map (λ e. take name_len e) (filter (λ e. not (is_empty e)) es))
 names_of [] t = tt
 names_of ([] ∷ es) t = names_of es t.1
 names_of ((b ∷ bs) ∷ es) t = (name_of b bs t.0, names_of es t.1)

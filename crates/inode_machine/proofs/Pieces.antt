@@ -10,7 +10,7 @@ use Rattle.plain_tree.specs.declared.node.Kind.TheVariants.{Directory, File, Dev
 use Rattle.plain_tree.specs.declared.tree.OpenFile.{OpenFile}
 use Rattle.plain_tree.specs.declared.step.Action.TheVariants.{WritePart}
 use Rattle.plain_tree.specs.declared.step.StepAnswer.TheVariants.{Done}
-use Rattle.plain_tree.specs.Widths.{hart_count, file_limit}
+use Rattle.plain_tree.specs.Widths.{hart_count, largest_size}
 use Rattle.plain_tree.specs.Tree.{Name, Tree, put, and_then, is_directory, is_live, settle}
 use Rattle.plain_tree.specs.Steps.{node_or, node_at, file_at, refusal_with, effect_with, answer_with, place_of, IsInPlace, with_nodes, written, written_kind, wrote, write_kind, part_refusal, moved}
 use Rattle.tree_laws.specs.WellFormed.{IsWellFormed}
@@ -108,14 +108,14 @@ part_less offset size b [] le q = refl
 part_less offset size [] (y ∷ ys) le q = absurd (omega (arith, le))
 part_less offset size (x ∷ xs) (y ∷ ys) le q = by_offset (nat_lt size offset) refl q
   where
-    by_offset : (a : Bool) → nat_lt size offset ≡ a → (if a then Some BadOffset else (if nat_lt file_limit (offset + length (x ∷ xs)) then Some TooBig else None)) ≡ None → (if a then Some BadOffset else (if nat_lt file_limit (offset + length (y ∷ ys)) then Some TooBig else None)) ≡ None
+    by_offset : (a : Bool) → nat_lt size offset ≡ a → (if a then Some BadOffset else (if nat_lt largest_size (offset + length (x ∷ xs)) then Some TooBig else None)) ≡ None → (if a then Some BadOffset else (if nat_lt largest_size (offset + length (y ∷ ys)) then Some TooBig else None)) ≡ None
     by_offset true e q = absurd cc
-    by_offset false e q = by_end (nat_lt file_limit (offset + length (y ∷ ys))) refl (nat_lt file_limit (offset + length (x ∷ xs))) refl q
+    by_offset false e q = by_end (nat_lt largest_size (offset + length (y ∷ ys))) refl (nat_lt largest_size (offset + length (x ∷ xs))) refl q
       where
-        by_end : (a : Bool) → nat_lt file_limit (offset + length (y ∷ ys)) ≡ a → (d : Bool) → nat_lt file_limit (offset + length (x ∷ xs)) ≡ d → ◌≡◌ {A = Option Cause} (if d then Some TooBig else None) None → ◌≡◌ {A = Option Cause} (if a then Some TooBig else None) None
+        by_end : (a : Bool) → nat_lt largest_size (offset + length (y ∷ ys)) ≡ a → (d : Bool) → nat_lt largest_size (offset + length (x ∷ xs)) ≡ d → ◌≡◌ {A = Option Cause} (if d then Some TooBig else None) None → ◌≡◌ {A = Option Cause} (if a then Some TooBig else None) None
         by_end false e d g q = refl
         by_end true e true g q = q
-        by_end true e false g q = absurd (reaches file_limit offset (length (x ∷ xs)) (length (y ∷ ys)) le e g)
+        by_end true e false g q = absurd (reaches largest_size offset (length (x ∷ xs)) (length (y ∷ ys)) le e g)
 
 pub fewer_go : (k : Kind) (offset n : ℕ) (b : List ℕ) → write_kind k offset b ≡ None → write_kind k offset (take n b) ≡ None
 fewer_go (Directory slots) offset n b q = part_less offset _ b (take n b) (take_less n b) q

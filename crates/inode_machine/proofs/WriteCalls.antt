@@ -12,7 +12,7 @@ use Rattle.plain_tree.specs.declared.call.Call.TheVariants as calls
 use Rattle.plain_tree.specs.declared.step.Action.TheVariants.{WritePart}
 use Rattle.plain_tree.specs.declared.step.StepAnswer.{StepAnswer}
 use Rattle.plain_tree.specs.declared.step.StepAnswer.TheVariants.{Opened, Bytes, Stat as Status, Fd as NewFd, Done, Failed, Full as NoRoom}
-use Rattle.plain_tree.specs.Widths.{hart_count, piece_width}
+use Rattle.plain_tree.specs.Widths.{hart_count, piece_len}
 use Rattle.plain_tree.specs.Tree.{put}
 use Rattle.plain_tree.specs.Calls.{Act, cause_of, last_cause, first_cause, had_room, counted, next_of, next_piece, reply_of, piece, piece_count}
 use Rattle.std.proofs.Math.Nat.{le-div_iff_mul-le}
@@ -207,8 +207,8 @@ s-leaves O i x own free lt pos empty joined none rest =
     s-leave-from (own ∙ (λ r. record O { inodes = given_is O.inodes i x empty r; mine = record { refs = O.mine.refs; walk = None; pending = None } })) free lt pos (unlocks_nothing nothing refl) joined (ap (λ (o : Option Hold). holds_raised true o) none)
     (λ j y is. absurd (let a : ◌≡◌ {A = Option Held} None (Some y) = is in cc)) rest
 
-piece_short : (bytes : List ℕ) (i : ℕ) → length (piece bytes i) ≤ piece_width
-piece_short bytes i = let a = length-take piece_width (drop (piece_width * i) bytes) in omega (arith, a)
+piece_short : (bytes : List ℕ) (i : ℕ) → length (piece bytes i) ≤ piece_len
+piece_short bytes i = let a = length-take piece_len (drop (piece_len * i) bytes) in omega (arith, a)
 
 -- One piece: the call ends with it, or goes on.
 s-piece : {h : ℕ} (fd n : ℕ) (bytes : List ℕ) (i : ℕ) (O : Own) {more : P machine Reply} {N : ℕ} {w : World}

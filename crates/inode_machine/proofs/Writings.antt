@@ -9,7 +9,7 @@ use Rattle.plain_tree.specs.declared.node.Kind.{Kind}
 use Rattle.plain_tree.specs.declared.node.Kind.TheVariants.{Directory, File, Device}
 use Rattle.plain_tree.specs.declared.step.Action.TheVariants.{WritePart}
 use Rattle.plain_tree.specs.declared.step.StepAnswer.TheVariants.{Done}
-use Rattle.plain_tree.specs.Widths.{hart_count, descriptor_count, piece_width}
+use Rattle.plain_tree.specs.Widths.{hart_count, descriptor_count, piece_len}
 use Rattle.plain_tree.specs.Tree.{Name, Tree, put, is_live, settle, resolve, parent}
 use Rattle.plain_tree.specs.Steps.{is_file, node_or, refusal_with, with_nodes, write_kind}
 use Rattle.tree_laws.specs.WellFormed.{IsWellFormed}
@@ -335,7 +335,7 @@ s-lock-open {A} {h} fd i {k} {B} {Q} {n} {es} {w} {O} owns free lt pos idle empt
 
 -- A piece: all of it, refused, or as much as there are blocks for; and the lock is given up.
 pub s-write-file : {A : Type 0} {h : ℕ} (fd i offset : ℕ) (b : List ℕ) (x : Node) {k : Wrote → P machine A} {B : List Step → Type 0} {Q : A → List Step → World → Type 0} {n : ℕ} {es : List Step} {w : World} {O : Own}
-    → own_of h w ≡ O → O.desk.lender ≡ None → h < hart_count → 97 < n → O.mine.walk ≡ None → O.mine.pending ≡ None → O.desk.opening ≡ None → O.inodes i ≡ Some (locked_held (Some x)) → O.desk.joined ≡ true → (key : IsWritable O fd i) → StandsBy w key.opened.slot i offset → OpensFile w key.opened.slot → length b ≤ piece_width
+    → own_of h w ≡ O → O.desk.lender ≡ None → h < hart_count → 97 < n → O.mine.walk ≡ None → O.mine.pending ≡ None → O.desk.opening ≡ None → O.inodes i ≡ Some (locked_held (Some x)) → O.desk.joined ≡ true → (key : IsWritable O fd i) → StandsBy w key.opened.slot i offset → OpensFile w key.opened.slot → length b ≤ piece_len
     → ((c : Cause) → B (fails (WritePart fd b) c ∷ es)) → B (wrote_step fd b ∷ es)
     → ((l : ℕ) (c : Cause) (u : World) → l + 98 ≡ n → own_of h u ≡ record O { inodes = put O.inodes i None; mine = record { refs = O.mine.refs; walk = None; pending = None } } → Safe machine h B Q (k (Stopped c)) l (fails (WritePart fd b) c ∷ es) u)
     → ((l j : ℕ) (u : World) → l + 98 ≡ n → u.clean ≡ false → own_of h u ≡ record O { inodes = put O.inodes i None; mine = record { refs = O.mine.refs; walk = None; pending = None }; desk = record (O.desk) { full = true } } → Safe machine h B Q (k (Short j)) l es u)

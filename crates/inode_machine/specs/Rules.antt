@@ -3,7 +3,7 @@ use Rattle.std.specs.Prelude.{◌≡◌, ◌≢◌, ◌⊎◌, ℕ, zero, suc, �
 use Rattle.plain_tree.specs.declared.node.Node.{Node}
 use Rattle.plain_tree.specs.declared.tree.OpenFile.{OpenFile}
 use Rattle.plain_tree.specs.declared.node.Kind.TheVariants.{Directory}
-use Rattle.plain_tree.specs.Widths.{hart_count, descriptor_count, name_width, piece_width, count_limit}
+use Rattle.plain_tree.specs.Widths.{hart_count, descriptor_count, name_len, piece_len, count_limit}
 use Rattle.plain_tree.specs.Steps.{is_file, no_driver, holds_raised}
 use Rattle.plain_tree.specs.Tree.{Name, hold_names, is_directory, is_live, look}
 use Rattle.plain_tree.specs.HartRow.{Key, Row, row_of, key_names}
@@ -278,7 +278,7 @@ IsText (b ∷ bs) = (0 < b) × (b ≢ 47) × (b < 256) × IsText bs
 -- a name that an entry can have
 pub record IsName (e : Name) : Type 0 where
   pub some : 0 < length e
-  pub fits : length e ≤ name_width
+  pub fits : length e ≤ name_len
   pub text : IsText e
 
 -- what is looked for is a name
@@ -376,7 +376,7 @@ Asks h (ReadFile fd n offset count) w = Locks h n w × Reads h fd n w × StandsA
 Asks h (CheckFile fd) w = Unit {0}
 Asks h (JoinFile fd) w = LocksNone h w × ((w.desks h).joined ≡ false)
 Asks h (LockOpen fd n) w = LocksNone h w × Writes h fd n w
-Asks h (WriteFile fd n offset bytes) w = Changes h n w × Writes h fd n w × StandsAt h fd offset w × HasRecord n w (λ v. is_file v.kind ≡ true) × (length bytes ≤ piece_width)
+Asks h (WriteFile fd n offset bytes) w = Changes h n w × Writes h fd n w × StandsAt h fd offset w × HasRecord n w (λ v. is_file v.kind ≡ true) × (length bytes ≤ piece_len)
 Asks h (Double fd) w = Unit {0}
 Asks h (Shut fd) w = LocksNone h w × ((w.desks h).lent ≡ nothing)
 Asks h (Settle n) w = Locks h n w × Spares h n w

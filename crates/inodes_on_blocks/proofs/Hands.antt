@@ -2,8 +2,9 @@
 use Rattle.std.proofs.Common.{◌≡◌, ◌≢◌, ℕ, suc, ◌+◌, ◌≤◌, ◌==◌, Bool, true, false, List, [], ◌∷◌, ◌++◌, Option, Some, None, refl, sym, ap, ◌∙◌, arith, if◌then◌else◌}
 use Rattle.std.specs.Prelude.{is_some, cond}
 use Rattle.std.specs.Option.{option_map, option_and_then, unwrap_or}
+use Rattle.std.specs.List.{find}
 use Rattle.block_device.specs.Blocks.{block_at}
-use Rattle.buffer_cache.specs.Lists.{first_of, change_first, change_to_end, count_of}
+use Rattle.buffer_cache.specs.Lists.{change_first, change_to_end, count_of}
 use Rattle.buffer_cache.specs.Getting.{get_of, get_by, get_new, guard_of}
 use Rattle.buffer_cache.specs.Seats.{SeatState, seat_of, holder_of, kept, has_block, is_held_by, is_number, is_free, with_seat, with_holder, with_content, without_holder, as_new, given_back}
 use Rattle.buffer_cache.specs.declared.got.Got.{Got}
@@ -26,20 +27,20 @@ counts_one true b n e f = absurd (cc e)
 counts_one false true n e f = omega arith
 counts_one false false n e f = absurd (cc f)
 
-count_up : {X : Type 0} (q p : X → Bool) (f : X → X) (xs : List X) (x : X) → first_of p xs ≡ Some x → q x ≡ false → q (f x) ≡ true → count_of q (change_first p f xs) ≡ suc (count_of q xs)
+count_up : {X : Type 0} (q p : X → Bool) (f : X → X) (xs : List X) (x : X) → find p xs ≡ Some x → q x ≡ false → q (f x) ≡ true → count_of q (change_first p f xs) ≡ suc (count_of q xs)
 count_up q p f [] x e was is = absurd (cc e)
 count_up {X} q p f (y ∷ ys) x e was is =
-    pick (p y) (λ t. (if t then Some y else first_of p ys) ≡ Some x → count_of q (if t then f y ∷ ys else y ∷ change_first p f ys) ≡ suc (count_of q (y ∷ ys)))
+    pick (p y) (λ t. (if t then Some y else find p ys) ≡ Some x → count_of q (if t then f y ∷ ys else y ∷ change_first p f ys) ≡ suc (count_of q (y ∷ ys)))
     (λ _ here.
     let same : y ≡ x = cc here in
     counts_one (q y) (q (f y)) (count_of q ys) (ap q same ∙ was) (ap (λ (z : X). q (f z)) same ∙ is))
     (λ _ there. let more = count_up q p f ys x there was is in omega (arith, more))
     e
 
-count_down : {X : Type 0} (q p : X → Bool) (f : X → X) (xs : List X) (x : X) → first_of p xs ≡ Some x → q x ≡ true → q (f x) ≡ false → count_of q xs ≡ suc (count_of q (change_to_end p f xs))
+count_down : {X : Type 0} (q p : X → Bool) (f : X → X) (xs : List X) (x : X) → find p xs ≡ Some x → q x ≡ true → q (f x) ≡ false → count_of q xs ≡ suc (count_of q (change_to_end p f xs))
 count_down q p f [] x e was is = absurd (cc e)
 count_down {X} q p f (y ∷ ys) x e was is =
-    pick (p y) (λ t. (if t then Some y else first_of p ys) ≡ Some x → count_of q (y ∷ ys) ≡ suc (count_of q (if t then ys ++ f y ∷ [] else y ∷ change_to_end p f ys)))
+    pick (p y) (λ t. (if t then Some y else find p ys) ≡ Some x → count_of q (y ∷ ys) ≡ suc (count_of q (if t then ys ++ f y ∷ [] else y ∷ change_to_end p f ys)))
     (λ _ here.
     let same : y ≡ x = cc here in
     let end = count_snoc q ys (f y) in
@@ -96,7 +97,7 @@ pub got_hand : (h b : ℕ) (ss : List SeatState) → ((j : ℕ) → count_of (ha
 unfolding get_of
 got_hand h b ss once = by_seat (seat_of b ss) refl
   where
-    by_free : seat_of b ss ≡ None → (o : Option SeatState) → first_of is_free ss ≡ o → IfGot h b ss (get_new h b ss o)
+    by_free : seat_of b ss ≡ None → (o : Option SeatState) → find is_free ss ≡ o → IfGot h b ss (get_new h b ss o)
     by_free none None e = tt
     by_free none (Some s) e =
         let at = seat_new_here h b ss s none e in
@@ -119,7 +120,7 @@ got_hand h b ss once = by_seat (seat_of b ss) refl
         }
 
     by_seat : (o : Option SeatState) → seat_of b ss ≡ o → IfGot h b ss (get_by h b ss o)
-    by_seat None e = by_free e (first_of is_free ss) refl
+    by_seat None e = by_free e (find is_free ss) refl
     by_seat (Some s) e = by_holder s e s.holder refl
 
 -- ---- a read

@@ -4,7 +4,8 @@ use Rattle.std.proofs.lemmas.List.{get_or-replicate}
 use Rattle.std.proofs.lemmas.Option.{none-some}
 use Rattle.std.specs.Prelude.{nat_lt, ◌==◌, ◌&&◌, ◌||◌, if◌then◌else◌}
 use Rattle.fs_layout.specs.Bytes.{IsBytes}
-use Rattle.fs_layout.specs.Recovered.{block_at, sizes_of}
+use Rattle.block_device.specs.Blocks.{block_at}
+use Rattle.fs_layout.specs.Recovered.{sizes_of}
 use Rattle.buffer_cache.specs.Lists as lists
 use Rattle.buffer_cache.specs.Seats.{SeatState, is_held_by, unused_from, seen_in}
 use Rattle.buffer_cache.proofs.Sound.{sound_unused}

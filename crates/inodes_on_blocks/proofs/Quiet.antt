@@ -1,11 +1,11 @@
 -- The nodes on the seen blocks, and what keeps them there.
 use Rattle.std.proofs.Common.{◌≡◌, ℕ, zero, suc, true, false, cond, refl, sym, ◌∙◌, ap, subst, arith, List, [], ◌∷◌, length, Option, Some, None, ◌+◌, is_some, ◌≢◌, ◌<◌, ◌≤◌, set, get_or-set_other}
 use Rattle.std.proofs.lemmas.List.Sums.{sum_by-cons}
-use Rattle.block_device.specs.Blocks.{HasWholeBlocks}
+use Rattle.block_device.specs.Blocks.{HasWholeBlocks, block_at}
 use Rattle.fs_layout.specs.declared.superblock.Super.{Super}
 use Rattle.fs_layout.specs.Bytes.{u32_at}
 use Rattle.fs_layout.specs.Super.{super_fields}
-use Rattle.fs_layout.specs.Recovered.{block_at, logged, sizes_of}
+use Rattle.fs_layout.specs.Recovered.{logged, sizes_of}
 use Rattle.fs_layout.proofs.RecoveredDisk.{recovered-empty}
 use Rattle.buffer_cache.specs.Seats.{SeatState, seen_in}
 use Rattle.group_log.specs.Group.{joined}

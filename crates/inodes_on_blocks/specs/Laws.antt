@@ -1,8 +1,8 @@
 -- The laws of the nodes on the seen blocks.
 use Rattle.std.specs.Prelude.{◌≢◌, ◌<◌, ◌≤◌, slice_set, ◌≡◌, ℕ, true, List, [], length, Option, Some, None}
-use Rattle.block_device.specs.Blocks.{HasWholeBlocks}
+use Rattle.block_device.specs.Blocks.{HasWholeBlocks, block_at}
 use Rattle.fs_layout.specs.declared.superblock.Super.{Super}
-use Rattle.fs_layout.specs.Recovered.{block_at, logged, sizes_of}
+use Rattle.fs_layout.specs.Recovered.{logged, sizes_of}
 use Rattle.buffer_cache.specs.Seats.{SeatState, seen_in}
 use Rattle.group_log.specs.Group.{joined}
 use Rattle.plain_tree.specs.declared.node.Node.{Node}

@@ -2,7 +2,7 @@
 ghost use Rattle.std.specs.Prelude.{◌≡◌};
 ghost use Rattle.buffer_cache.specs.Seats.{unused_from};
 
-use block_device::{BLOCK_SIZE, Device, Fused, MemoryDisk};
+use block_device::{BLOCK_LEN, Device, Fused, MemoryDisk};
 use buffer_cache::{BUFFERS, BUFFERS_OF_A_HART, Buffers, Cache, Got, HARTS, MOST_PINNED};
 use sleep_lock::Guard;
 use std::alloc::{AllocError, Global};
@@ -15,7 +15,7 @@ const BLOCKS: u32 = 60;
 fn numbered(alloc: Global) -> Result<MemoryDisk, AllocError> {
     let mut bytes = Vec::new(alloc);
     for b in 0..BLOCKS {
-        for _ in 0..BLOCK_SIZE {
+        for _ in 0..BLOCK_LEN {
             bytes.push(b as u8)?;
         }
     }
@@ -176,10 +176,10 @@ fn what_is_recorded_is_seen_and_comes_home(rt: HostRuntime) -> Result<(), Fail> 
         panic!(rt; "no hart asked for it");
     }
     assert!(rt; 50 < cache.device().blocks());
-    assert!(rt; cache.write_uncached(50, &[3; BLOCK_SIZE]).is_ok());
+    assert!(rt; cache.write_uncached(50, &[3; BLOCK_LEN]).is_ok());
     let (_retired, mut disk) = cache.retire();
     for (b, byte) in [(9, 200), (50, 3), (51, 51)] {
-        let mut bytes = [0; BLOCK_SIZE];
+        let mut bytes = [0; BLOCK_LEN];
         assert!(rt; b < disk.blocks());
         assert!(rt; disk.read(b, &mut bytes).is_ok());
         assert_eq!(rt; bytes[7], byte);

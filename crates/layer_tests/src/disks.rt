@@ -2,7 +2,7 @@
 ghost use Rattle.std.specs.Prelude.{◌≡◌, ◌<◌, length, IfOk};
 ghost use Rattle.block_device.specs.Blocks.{faults_after};
 
-use block_device::{BLOCK_SIZE, Device, Fault, Fused, MemoryDisk};
+use block_device::{BLOCK_LEN, Device, Fault, Fused, MemoryDisk};
 use std::alloc::{AllocError, Global};
 use std::test::Fail;
 
@@ -10,15 +10,15 @@ use std::test::Fail;
 fn write_and_read<D: Device>(
     device: &mut D,
     b: u32,
-    block: &[u8; BLOCK_SIZE],
-) -> Result<[u8; BLOCK_SIZE], Fault>
+    block: &[u8; BLOCK_LEN],
+) -> Result<[u8; BLOCK_LEN], Fault>
     requires { b < length (D.contents device.old) }
     ensures reads_back { IfOk result (λ bytes. bytes ≡ block.now) }
     ensures count { length (D.contents device.new) ≡ length (D.contents device.old) }
     ensures faults { D.failures device.new ≡ faults_after result (D.failures device.old) }
 {
     device.write(b, block)?;
-    let mut bytes = [0; BLOCK_SIZE];
+    let mut bytes = [0; BLOCK_LEN];
     device.read(b, &mut bytes)?;
     Ok(bytes)
 }
@@ -37,10 +37,10 @@ fn keeps_the_bytes_behind_the_last_block(rt: HostRuntime) -> Result<(), Fail> {
     let mut disk = MemoryDisk::new(given.clone()?);
     assert!(rt; 1 < disk.blocks());
     assert_eq!(rt;
-        write_and_read(&mut disk, 1, &[7; BLOCK_SIZE]),
-        Ok([7; BLOCK_SIZE])
+        write_and_read(&mut disk, 1, &[7; BLOCK_LEN]),
+        Ok([7; BLOCK_LEN])
     );
-    let mut first = [0; BLOCK_SIZE];
+    let mut first = [0; BLOCK_LEN];
     assert_eq!(rt; disk.read(0, &mut first), Ok(()));
     for (&was, &read) in given.iter().zip(first.iter()) {
         assert_eq!(rt; read, was);
@@ -63,7 +63,7 @@ fn passes_as_many_calls_as_the_fuse(rt: HostRuntime) -> Result<(), Fail> {
         let mut done = 0u64;
         for n in 1..6u8 {
             assert!(rt; 1 < disk.blocks());
-            if write_and_read(&mut disk, 1, &[n; BLOCK_SIZE]).is_ok() {
+            if write_and_read(&mut disk, 1, &[n; BLOCK_LEN]).is_ok() {
                 done = done.saturating_add(1);
             }
         }

@@ -4,7 +4,7 @@ ghost use Rattle.fs_layout.specs.Recovered.{logged};
 ghost use Rattle.group_log.specs.Soundness.{IsPlaced};
 
 use arrayvec::ArrayVec;
-use block_device::{BLOCK_SIZE, Device, Fault, Fused, MemoryDisk};
+use block_device::{BLOCK_LEN, Device, Fault, Fused, MemoryDisk};
 use buffer_cache::{BUFFERS_OF_A_HART, Buffers, Cache, Got, HARTS};
 use fs_layout::{Super, write_super};
 use group_log::{Left, Log, Marks, Phase, Progress, Txn};
@@ -28,8 +28,8 @@ const BLOCKS: usize = 64;
 
 // A disk of zeros with such a superblock.
 fn disk(rt: &impl Abort, alloc: Global, sizes: &Super) -> Result<MemoryDisk, AllocError> {
-    let mut disk = MemoryDisk::new(vec![in alloc; 0u8; BLOCKS * BLOCK_SIZE]?);
-    let mut block = [0; BLOCK_SIZE];
+    let mut disk = MemoryDisk::new(vec![in alloc; 0u8; BLOCKS * BLOCK_LEN]?);
+    let mut block = [0; BLOCK_LEN];
     write_super(&mut block, sizes);
     assert!(rt; 1 < disk.blocks());
     assert_eq!(rt; disk.write(1, &block), Ok(()));
@@ -63,11 +63,11 @@ impl Device for Watched {
         self.disk.faults()
     }
 
-    fn read(&mut self, b: u32, to: &mut [u8; BLOCK_SIZE]) -> Result<(), Fault> {
+    fn read(&mut self, b: u32, to: &mut [u8; BLOCK_LEN]) -> Result<(), Fault> {
         self.disk.read(b, to)
     }
 
-    fn write(&mut self, b: u32, from: &[u8; BLOCK_SIZE]) -> Result<(), Fault> {
+    fn write(&mut self, b: u32, from: &[u8; BLOCK_LEN]) -> Result<(), Fault> {
         self.disk.write(b, from)?;
         if !self.writes.is_full() {
             self.writes.push(b);
@@ -131,7 +131,7 @@ fn change<D: Device>(
                     return Err(Fault);
                 }
             }
-            *guard.value_mut().bytes_mut() = [byte; BLOCK_SIZE];
+            *guard.value_mut().bytes_mut() = [byte; BLOCK_LEN];
             assert!(rt; log.is_member(txn) && log.has_room(txn) && log.is_home(b));
             assert!(rt; log.phase() != Phase::Halted);
             log.record(txn, guard);
@@ -183,7 +183,7 @@ fn a_commit_writes_in_order(rt: HostRuntime) -> Result<(), Fail> {
     assert_eq!(rt; writes.as_slice(), [3, 4, 2, 48, 46, 2].as_slice());
     let bytes = disk.into_disk().into_bytes();
     for (b, byte) in [(46usize, 2), (48, 3), (3, 3), (4, 2), (2, 0)] {
-        assert_eq!(rt; bytes.get(b * BLOCK_SIZE).copied(), Some(byte), "block {b}");
+        assert_eq!(rt; bytes.get(b * BLOCK_LEN).copied(), Some(byte), "block {b}");
     }
     Ok(())
 }
@@ -260,7 +260,7 @@ fn a_group_is_there_whole_or_not_at_all(rt: HostRuntime) -> Result<(), Fail> {
         let byte = if writes < 4 { 0 } else { 9 };
         for b in 48..51 {
             assert_eq!(rt;
-                bytes.get(b * BLOCK_SIZE).copied(),
+                bytes.get(b * BLOCK_LEN).copied(),
                 Some(byte),
                 "block {b} after {writes} writes"
             );
@@ -306,7 +306,7 @@ fn marks_say_which_commit_stands(rt: HostRuntime) -> Result<(), Fail> {
         assert_eq!(rt; recover(&mut disk), Ok(()));
         let byte = if writes < 2 { 9 } else { 19 };
         assert_eq!(rt;
-            disk.into_bytes().get(48 * BLOCK_SIZE).copied(),
+            disk.into_bytes().get(48 * BLOCK_LEN).copied(),
             Some(byte),
             "after {writes} writes"
         );
@@ -338,7 +338,7 @@ fn harts_join_and_leave_for_a_hundred_commits(rt: HostRuntime) -> Result<(), Fai
     for n in 0..5u8 {
         for b in [48 + n as usize, 53 + n as usize] {
             assert_eq!(rt;
-                bytes.get(b * BLOCK_SIZE).copied(),
+                bytes.get(b * BLOCK_LEN).copied(),
                 Some(95 + n),
                 "block {b}"
             );
@@ -360,7 +360,7 @@ fn a_log_ends_at_any_moment(rt: HostRuntime) -> Result<(), Fail> {
             assert!(rt; (guard.number() as usize) < slots.count());
             guard.retire_in_row(&slots);
             txn.retire(&ended);
-            assert_eq!(rt; disk.into_bytes().get(48 * BLOCK_SIZE).copied(), Some(0));
+            assert_eq!(rt; disk.into_bytes().get(48 * BLOCK_LEN).copied(), Some(0));
         }
     }
     Ok(())

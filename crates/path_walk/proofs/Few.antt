@@ -2,12 +2,12 @@
 use Rattle.std.proofs.Common.{◌≡◌, ℕ, suc, ◌+◌, ◌*◌, ◌≤◌, Bool, true, false, not, List, [], ◌∷◌, ◌++◌, length, map, filter, take, if◌then◌else◌, ◌==◌, arith}
 use Rattle.std.proofs.lemmas.List.{length-append}
 use Rattle.plain_tree.specs.Tree.{elements, is_empty, pieces}
-use Rattle.plain_tree.specs.Widths.{name_width}
+use Rattle.plain_tree.specs.Widths.{name_len}
 use Rattle.path_walk.specs.Elements.{longest_path, most_elements}
 
 -- how many of them aren't empty
 count : List (List ℕ) → ℕ
-count ps = length (map (λ e. take name_width e) (filter (λ e. not (is_empty e)) ps))
+count ps = length (map (λ e. take name_len e) (filter (λ e. not (is_empty e)) ps))
 
 front_count : (w : List ℕ) (ps : List (List ℕ)) (n : ℕ) → 2 * count ps ≤ n + 1 → 2 * count (w ∷ ps) ≤ length w + n + 2
 unfolding count

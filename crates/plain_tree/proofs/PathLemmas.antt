@@ -5,7 +5,7 @@ use lib.Pointwise.{pointwise}
 use Rattle.std.proofs.lemmas.Bool.Decides.{nat_tests}
 use Rattle.plain_tree.specs.Tree.{Name, pieces, elements, is_empty, same_name}
 use Rattle.plain_tree.specs.Code.{with_element}
-use Rattle.plain_tree.specs.Widths.{name_width}
+use Rattle.plain_tree.specs.Widths.{name_len}
 
 other_byte : (x : ℕ) → x ≢ 47 → (x == 47) ≡ false
 other_byte x ne = grind (arith, nat_tests)
@@ -29,9 +29,9 @@ pub pieces_more : (p : List ℕ) (i : ℕ) → i < length p → get_or p i 0 ≢
 pieces_more p i h ne = rw (take_more p i 0 h, add-one i, drop-cons p i 0 h) (sym (pieces_other (take i p) (get_or p i 0) (drop (suc i) p) ne))
 
 cut_all : List (List ℕ) → List Name
-cut_all ps = map (λ e. take name_width e) (filter (λ e. not (is_empty e)) ps)
+cut_all ps = map (λ e. take name_len e) (filter (λ e. not (is_empty e)) ps)
 
-front_cut : (w : List ℕ) (ps : List (List ℕ)) → map (λ e. take name_width e) (filter (λ e. not (is_empty e)) (w ∷ ps)) ≡ with_element w (map (λ e. take name_width e) (filter (λ e. not (is_empty e)) ps))
+front_cut : (w : List ℕ) (ps : List (List ℕ)) → map (λ e. take name_len e) (filter (λ e. not (is_empty e)) (w ∷ ps)) ≡ with_element w (map (λ e. take name_len e) (filter (λ e. not (is_empty e)) ps))
 front_cut [] ps = refl
 front_cut (x ∷ xs) ps = refl
 
@@ -39,7 +39,7 @@ pub found_slash : (p : List ℕ) (i : ℕ) → i < length p → get_or p i 0 ≡
 found_slash p i h e inv =
     rw (← inv, add-one i, drop-cons p i 0 h, pieces_slash (take i p) (get_or p i 0) (drop (suc i) p) e) (front_cut (take i p) (pieces [] (drop (suc i) p)))
 
-none_left : (p : List ℕ) (ps : List (List ℕ)) → ps ≡ p ∷ [] → map (λ e. take name_width e) (filter (λ e. not (is_empty e)) ps) ≡ with_element p (elements [])
+none_left : (p : List ℕ) (ps : List (List ℕ)) → ps ≡ p ∷ [] → map (λ e. take name_len e) (filter (λ e. not (is_empty e)) ps) ≡ with_element p (elements [])
 unfolding pieces
 none_left [] ps e = rw e refl
 none_left (x ∷ xs) ps e = rw e refl

@@ -12,7 +12,7 @@ use Rattle.plain_tree.specs.declared.step.StepAnswer.{StepAnswer}
 use Rattle.plain_tree.specs.declared.step.StepAnswer.TheVariants.{Opened, Bytes, Stat as Status, Fd as NewFd, Done, Failed, Full as NoRoom}
 use Rattle.plain_tree.specs.Tree.{climbs}
 use Rattle.plain_tree.specs.Steps.{has, empty_it}
-use Rattle.plain_tree.specs.Widths.{piece_width}
+use Rattle.plain_tree.specs.Widths.{piece_len}
 
 -- what acted, with its answer
 pub record Act : Type 0 where
@@ -31,10 +31,10 @@ last_cause (a ∷ b ∷ bs) = last_cause (b ∷ bs)
 
 -- the number of pieces of a write: one for each 3072 bytes begun, one for none
 abbrev pub piece_count : List ℕ → ℕ
-piece_count bytes = if length bytes == 0 then 1 else (length bytes + (piece_width - 1)) / piece_width
+piece_count bytes = if length bytes == 0 then 1 else (length bytes + (piece_len - 1)) / piece_len
 
 abbrev pub piece : List ℕ → ℕ → List ℕ
-piece bytes i = take piece_width (drop (piece_width * i) bytes)
+piece bytes i = take piece_len (drop (piece_len * i) bytes)
 
 abbrev pub next_piece : ℕ → List ℕ → List Act → Option Cause → Option Action
 next_piece fd bytes acts (Some k) = None

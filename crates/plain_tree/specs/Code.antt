@@ -10,11 +10,11 @@ use Rattle.plain_tree.specs.declared.tree.OpenFileEntry.{OpenFileEntry}
 use Rattle.plain_tree.specs.Tree.{Name, Tree, tree_of, file_in, is_empty, and_then, settle}
 use Rattle.plain_tree.specs.TreeData.{TreeData}
 use Rattle.plain_tree.specs.Steps.{cleared, first_free, has_fd}
-use Rattle.plain_tree.specs.Widths.{name_width}
+use Rattle.plain_tree.specs.Widths.{name_len}
 
 -- the element that these bytes are, if there are any, before the others
 abbrev pub with_element : List ℕ → List Name → List Name
-with_element bytes es = if is_empty bytes then es else take name_width bytes ∷ es
+with_element bytes es = if is_empty bytes then es else take name_len bytes ∷ es
 
 -- the parent, with the last element
 abbrev pub with_name : Option ℕ → Name → Option (ℕ × Name)

@@ -18,7 +18,7 @@ use Rattle.plain_tree.specs.declared.step.TreeStep.{TreeStep}
 use Rattle.plain_tree.specs.declared.step.StepAnswer.{StepAnswer}
 use Rattle.plain_tree.specs.declared.step.StepAnswer.TheVariants.{Opened, Bytes, Stat as Status, Fd as NewFd, Done, Failed, Full as NoRoom}
 use Rattle.plain_tree.specs.Tree.{Name, Tree, put, any_below, same_name, dot, dotdot, is_directory, slots_of, look, and_then, resolve, parent, settle}
-use Rattle.plain_tree.specs.Widths.{name_width, entry_width, file_limit, count_limit, hart_count, descriptor_count, major_limit, root_device}
+use Rattle.plain_tree.specs.Widths.{name_len, dirent_len, largest_size, count_limit, hart_count, descriptor_count, major_limit, root_device}
 
 -- Flags of open: write only, read and write, make the file, empty it.
 
@@ -43,8 +43,8 @@ creates flags = has flags create
 -- Contents and sizes.
 
 abbrev pub entry_bytes : Option Slot → List ℕ
-entry_bytes None = replicate entry_width 0
-entry_bytes (Some s) = (s.number % 256) ∷ (s.number / 256) ∷ s.name ++ replicate (name_width - length s.name) 0
+entry_bytes None = replicate dirent_len 0
+entry_bytes (Some s) = (s.number % 256) ∷ (s.number / 256) ∷ s.name ++ replicate (name_len - length s.name) 0
 
 unfoldable pub entries : List (Option Slot) → List ℕ
 entries [] = []
@@ -56,7 +56,7 @@ content (File bytes) = bytes
 content (Device major minor size) = []
 
 abbrev pub size_of : Kind → ℕ
-size_of (Directory slots) = entry_width * length slots
+size_of (Directory slots) = dirent_len * length slots
 size_of (File bytes) = length bytes
 size_of (Device major minor size) = size
 
@@ -130,7 +130,7 @@ read_refusal t (Some f) = if f.readable then no_driver (node_at t f.number).kind
 
 abbrev pub part_refusal : ℕ → ℕ → List ℕ → Option Cause
 part_refusal offset size [] = None
-part_refusal offset size (b ∷ bs) = if nat_lt size offset then Some BadOffset else (if nat_lt file_limit (offset + length (b ∷ bs)) then Some TooBig else None)
+part_refusal offset size (b ∷ bs) = if nat_lt size offset then Some BadOffset else (if nat_lt largest_size (offset + length (b ∷ bs)) then Some TooBig else None)
 
 abbrev pub write_kind : Kind → ℕ → List ℕ → Option Cause
 write_kind (Directory slots) offset b = part_refusal offset (size_of (Directory slots)) b

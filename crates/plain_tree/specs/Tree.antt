@@ -9,7 +9,7 @@ use Rattle.plain_tree.specs.declared.tree.OpenFileEntry.{OpenFileEntry}
 use Rattle.plain_tree.specs.declared.tree.Hold.{Hold}
 use Rattle.plain_tree.specs.declared.tree.Hart.{Hart}
 use Rattle.plain_tree.specs.TreeData.{TreeData}
-use Rattle.plain_tree.specs.Widths.{name_width, hart_count, descriptor_count, root}
+use Rattle.plain_tree.specs.Widths.{name_len, hart_count, descriptor_count, root}
 
 -- a name is its bytes, at most 14, without a zero byte
 abbrev pub Name : Type 0
@@ -79,7 +79,7 @@ is_empty [] = true
 is_empty (x ∷ xs) = false
 
 abbrev pub elements : List ℕ → List Name
-elements path = map (λ e. take name_width e) (filter (λ e. not (is_empty e)) (pieces [] path))
+elements path = map (λ e. take name_len e) (filter (λ e. not (is_empty e)) (pieces [] path))
 
 abbrev pub is_absolute : List ℕ → Bool
 is_absolute [] = false

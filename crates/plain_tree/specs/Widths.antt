@@ -2,20 +2,20 @@
 use Rattle.std.specs.Prelude.{ℕ}
 
 -- bytes of a name; a longer element of a path is cut
-abbrev pub name_width : ℕ
-name_width = 14
+abbrev pub name_len : ℕ
+name_len = 14
 
 -- bytes of a slot in a directory's content: two of the number, then the name
-abbrev pub entry_width : ℕ
-entry_width = 16
+abbrev pub dirent_len : ℕ
+dirent_len = 16
 
 -- bytes of the largest file
-abbrev pub file_limit : ℕ
-file_limit = 274432
+abbrev pub largest_size : ℕ
+largest_size = 274432
 
 -- bytes of a write's piece
-abbrev pub piece_width : ℕ
-piece_width = 3072
+abbrev pub piece_len : ℕ
+piece_len = 3072
 
 -- the greatest count of a node
 abbrev pub count_limit : ℕ

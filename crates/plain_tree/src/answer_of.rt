@@ -13,7 +13,7 @@ use crate::refused::Attempt;
 use crate::slots::entries;
 use crate::step::{Action, StepAnswer};
 use crate::tree::{OpenFile, Tree};
-use crate::widths::{CREATE, DESCRIPTOR_COUNT, ENTRY_WIDTH, ROOT_DEVICE};
+use crate::widths::{CREATE, DESCRIPTOR_COUNT, DIRENT_LEN, ROOT_DEVICE};
 use std::alloc::Global;
 
 /// So many bytes from the offset on, as far as there are.
@@ -48,7 +48,7 @@ fn size(kind: &Kind) -> u64
     ensures { result ≡ size_of kind.now }
 {
     match kind {
-        Kind::Directory { slots } => slots.as_slice().len() as u64 * ENTRY_WIDTH as u64,
+        Kind::Directory { slots } => slots.as_slice().len() as u64 * DIRENT_LEN as u64,
         Kind::File { bytes } => bytes.as_slice().len() as u64,
         Kind::Device { size, .. } => u64::from(*size),
     }

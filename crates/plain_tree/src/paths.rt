@@ -2,9 +2,9 @@
 ghost use Rattle.std.specs.Prelude.{◌≡◌, ◌+◌, ◌<◌, ◌≤◌, [], ◌∷◌, length, take, drop, MatchOption};
 ghost use Rattle.plain_tree.specs.Code.{with_element};
 ghost use Rattle.plain_tree.specs.Tree.{elements, is_absolute, same_name};
-ghost use Rattle.plain_tree.specs.Widths.{name_width};
+ghost use Rattle.plain_tree.specs.Widths.{name_len};
 
-use crate::widths::{NAME_WIDTH, SLASH};
+use crate::widths::{NAME_LEN, SLASH};
 
 /// The same bytes.
 pub(crate) fn same(a: &[u8], b: &[u8]) -> bool
@@ -59,7 +59,7 @@ pub(crate) fn next_element(path: &[u8]) -> Option<(&[u8], &[u8])>
             &rest[end..]
         };
         if end > 0 {
-            return Some((first(&rest[..end], NAME_WIDTH), after));
+            return Some((first(&rest[..end], NAME_LEN), after));
         }
         rest = after;
     }

@@ -12,7 +12,7 @@ use crate::paths::same;
 use crate::step::Action;
 use crate::tree::{Hold, OpenFile, Tree};
 use crate::widths::{
-    COUNT_LIMIT, CREATE, DESCRIPTOR_COUNT, DOT, DOTDOT, ENTRY_WIDTH, FILE_LIMIT, HART_COUNT,
+    COUNT_LIMIT, CREATE, DESCRIPTOR_COUNT, DIRENT_LEN, DOT, DOTDOT, HART_COUNT, LARGEST_SIZE,
     MAJOR_LIMIT,
 };
 
@@ -42,7 +42,7 @@ fn part_refuses(offset: u64, size: u64, bytes: &[u8]) -> Option<Cause>
         None
     } else if size < offset {
         Some(Cause::BadOffset)
-    } else if FILE_LIMIT < offset || FILE_LIMIT - offset < bytes.len() as u64 {
+    } else if LARGEST_SIZE < offset || LARGEST_SIZE - offset < bytes.len() as u64 {
         Some(Cause::TooBig)
     } else {
         None
@@ -55,7 +55,7 @@ fn kind_refuses_write(kind: &Kind, offset: u64, bytes: &[u8]) -> Option<Cause>
     match kind {
         Kind::Directory { slots } => part_refuses(
             offset,
-            slots.as_slice().len() as u64 * ENTRY_WIDTH as u64,
+            slots.as_slice().len() as u64 * DIRENT_LEN as u64,
             bytes,
         ),
         Kind::File { bytes: old } => part_refuses(offset, old.as_slice().len() as u64, bytes),

@@ -6,7 +6,7 @@ ghost use Rattle.plain_tree.specs.Steps.{cleared, entries, entry_bytes, first_fr
 use crate::node::Slot;
 use crate::paths::same;
 use crate::refused::Attempt;
-use crate::widths::{ENTRY_WIDTH, NAME_WIDTH};
+use crate::widths::{DIRENT_LEN, NAME_LEN};
 use std::alloc::Global;
 
 /// Where the first free slot is.
@@ -79,13 +79,13 @@ fn push_entry(out: &mut Vec<u8>, slot: &Option<Slot>) -> Attempt
     ensures { IfOk result (λ _. out.new.items ≡ out.old.items ++ entry_bytes slot.now) }
 {
     match slot {
-        None => push_zeros(out, ENTRY_WIDTH),
+        None => push_zeros(out, DIRENT_LEN),
         Some(slot) => {
             let name = slot.name.as_slice();
             out.push((slot.number % 256) as u8)?;
             out.push((slot.number / 256) as u8)?;
             out.extend_from_slice(name)?;
-            push_zeros(out, NAME_WIDTH.saturating_sub(name.len()))
+            push_zeros(out, NAME_LEN.saturating_sub(name.len()))
         }
     }
 }

@@ -1,16 +1,16 @@
 //! The widths and limits of this version of the file system.
 
 /// Bytes of a name; a longer element of a path is cut.
-pub(crate) const NAME_WIDTH: usize = 14;
+pub(crate) const NAME_LEN: usize = 14;
 
 /// Bytes of a directory's slot in its content.
-pub(crate) const ENTRY_WIDTH: usize = 16;
+pub(crate) const DIRENT_LEN: usize = 16;
 
 /// Bytes of the largest file.
-pub(crate) const FILE_LIMIT: u64 = 274_432;
+pub(crate) const LARGEST_SIZE: u64 = 274_432;
 
 /// Bytes of a write's piece.
-pub(crate) const PIECE_WIDTH: usize = 3072;
+pub(crate) const PIECE_LEN: usize = 3072;
 
 /// The greatest count of a node.
 pub(crate) const COUNT_LIMIT: u16 = 32767;

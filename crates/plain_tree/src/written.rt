@@ -13,7 +13,7 @@ use crate::progress::{Last, Progress, START, after, progress_in};
 use crate::refusal::has_flag;
 use crate::step::Action;
 use crate::trace::Placed;
-use crate::widths::{EMPTY_IT, PIECE_WIDTH};
+use crate::widths::{EMPTY_IT, PIECE_LEN};
 
 /// The number of pieces of a write of these bytes.
 fn piece_count(bytes: &[u8]) -> usize
@@ -22,7 +22,7 @@ fn piece_count(bytes: &[u8]) -> usize
     if bytes.is_empty() {
         1
     } else {
-        (bytes.len() - 1) / PIECE_WIDTH + 1
+        (bytes.len() - 1) / PIECE_LEN + 1
     }
 }
 
@@ -30,7 +30,7 @@ fn piece(bytes: &[u8], i: usize) -> &[u8]
     requires { i < piece_count bytes.now }
     ensures { result.now ≡ piece bytes.now i }
 {
-    first(&bytes[PIECE_WIDTH * i..], PIECE_WIDTH)
+    first(&bytes[PIECE_LEN * i..], PIECE_LEN)
 }
 
 fn truncates(flags: u32, last: Last, action: &Action) -> bool

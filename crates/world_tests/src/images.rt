@@ -1,7 +1,7 @@
 //! Images that the tests begin with.
 use block_device::MemoryDisk;
 use image_tree::{MountFault, Shape, examine, tree_of};
-use mkfs::{MakeRefused, make};
+use mkfs::{MakeRefused, NewFile, make};
 use plain_tree::Tree;
 use std::alloc::{AllocError, Global};
 use std::ops::Range;
@@ -141,12 +141,7 @@ fn crowded(alloc: Global) -> Result<Vec<u8>, AllocError> {
     Ok(image)
 }
 
-fn made(
-    alloc: Global,
-    size: u32,
-    ninodes: u32,
-    files: &[(Vec<u8>, Vec<u8>)],
-) -> Result<MemoryDisk, Fail> {
+fn made(alloc: Global, size: u32, ninodes: u32, files: &[NewFile]) -> Result<MemoryDisk, Fail> {
     match make(alloc, size, ninodes, files) {
         Ok(disk) => Ok(disk),
         Err(MakeRefused::NoMemory) => Err(Fail::from(AllocError)),
@@ -162,8 +157,8 @@ pub fn disk_of(alloc: Global, image: Image) -> Result<MemoryDisk, Fail> {
         Image::Made(size, ninodes) => made(alloc, size, ninodes, &[]),
         Image::WithFile(size, bytes) => {
             let name = Vec::from_slice(alloc, b"f")?;
-            let bytes = Vec::from_slice(alloc, bytes)?;
-            made(alloc, size, 16, &[(name, bytes)])
+            let content = Vec::from_slice(alloc, bytes)?;
+            made(alloc, size, 16, &[NewFile { name, content }])
         }
     }
 }

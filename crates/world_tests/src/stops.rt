@@ -6,7 +6,7 @@ use crate::rows::Line::{Do, End, Start, Upto};
 use crate::rows::Says::{Bytes, Count, Fd, Idle, State, Waits};
 use crate::rows::{CREATE, Line, READ, TRUNCATE, WRITE};
 use crate::trees::is_same_tree;
-use block_device::{BLOCK_SIZE, Device, Fused, MemoryDisk, Once};
+use block_device::{BLOCK_LEN, Device, Fused, MemoryDisk, Once};
 use fs_machine::Kind;
 use hart_core::World;
 use image_tree::{Damage, MountFault};
@@ -70,7 +70,7 @@ pub fn stop<D: Device + Drop>(
 fn changed(old: &[u8], new: &[u8]) -> Option<usize> {
     for i in 0..old.len() {
         if new.get(i) != Some(&old[i]) {
-            return Some(i / BLOCK_SIZE);
+            return Some(i / BLOCK_LEN);
         }
     }
     None
@@ -204,7 +204,7 @@ fn a_recovery_is_stopped(rt: HostRuntime) -> Result<(), Fail> {
     let disk = disk_of(alloc, Image::WithFile(60, b""))?;
     let (_made, disk) = play(&rt, alloc, disk, &row)?;
     let image = disk.into_bytes();
-    assert!(rt; image.get(2 * BLOCK_SIZE) == Some(&3));
+    assert!(rt; image.get(2 * BLOCK_LEN) == Some(&3));
     let tree = tree_in(alloc, &mut copy_of(alloc, image.as_slice())?)?;
     for calls in 0..1000 {
         let disk = copy_of(alloc, image.as_slice())?;
