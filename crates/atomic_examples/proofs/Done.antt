@@ -3,7 +3,7 @@ use Rattle.std.proofs.Common.{◌≤◌, ℕ, Bool, true, false, None, Some, Lis
 use Rattle.std.specs.Prelude.{nat_eq, if◌then◌else◌}
 use Rattle.atomic_programs.specs.Logic.{PlacesOne}
 use Rattle.atomic_programs.specs.Calls.{Lawful, State, Event, hart_of, IsHonest, AllHonest, next, run, fresh, Sound}
-use Rattle.atomic_programs.specs.Explained.{Explained, Led}
+use Rattle.atomic_programs.specs.Explained.{IsExplained, Leads}
 use Rattle.atomic_programs.specs.Operations.{operations_of}
 use Rattle.atomic_programs.specs.Plain.{IsCode}
 use Rattle.atomic_programs.proofs.Explains.{explains}
@@ -13,7 +13,7 @@ use Rattle.atomic_programs.proofs.Lowered.{is_code_below}
 use Rattle.atomic_examples.specs.Whole.{whole}
 use Rattle.atomic_examples.specs.Blocks.{Op, Outside, Shows, Base, blocks, handler}
 use Rattle.atomic_examples.specs.OfWhole.{theory, begins_at_once, core}
-use Rattle.atomic_examples.specs.Swap.{Step, Swap, Nothing, labels, calls, swaps, swaps_above, code, code_above, rest}
+use Rattle.atomic_examples.specs.Swap.{Step, Swap, HasNothing, labels, calls, swaps, swaps_above, code, code_above, rest}
 use Rattle.atomic_examples.specs.Within.{swaps_noted}
 use Rattle.atomic_examples.proofs.Swap.{lawful, keeps}
 use Rattle.atomic_examples.proofs.OfWhole.{calls_lawful, calls_refined, calls_within}
@@ -24,13 +24,13 @@ rest_shows = record { locks = λ i. refl; dinos = λ i. refl; txns = λ h. refl;
 rest_base : (h : ℕ) → Base h rest.real rest.seen blocks.none
 rest_base h = record { free = λ b e. cc; tied = λ i e. absurd cc; in_hand = λ i e. absurd cc }
 
-rest_idle : (h : ℕ) → Nothing h false rest.seen
+rest_idle : (h : ℕ) → HasNothing h false rest.seen
 rest_idle h = record { none = λ i e. cc; txn = refl }
 
 pub swaps_lawful : Lawful swaps
 swaps_lawful = calls_lawful labels calls lawful keeps
 
-pub swaps_explained : (events : List (Event Swap Outside)) → AllHonest swaps events (fresh swaps rest) → Explained swaps rest.seen.dino (run swaps events (fresh swaps rest))
+pub swaps_explained : (events : List (Event Swap Outside)) → AllHonest swaps events (fresh swaps rest) → IsExplained swaps rest.seen.dino (run swaps events (fresh swaps rest))
 swaps_explained events honest = explains swaps swaps_lawful rest events (rest_shows, tt) (λ h. (rest_base h, rest_idle h)) honest
 
 -- a swap places its own step alone
@@ -42,13 +42,13 @@ places_one h op a (Some e) w inv = at (nat_eq h h)
     at true = omega arith
     at false = omega arith
 
-pub swaps_lead : (s : State swaps) (e : Event Swap Outside) → Sound swaps s → IsHonest swaps e s → Led swaps (hart_of e) s (next swaps e s)
+pub swaps_lead : (s : State swaps) (e : Event Swap Outside) → Sound swaps s → IsHonest swaps e s → Leads swaps (hart_of e) s (next swaps e s)
 swaps_lead = leads swaps swaps_lawful (joined_places_one (whole labels) blocks places_one)
 
-pub swaps_refined : (events : List (Event Swap Outside)) → AllHonest swaps_above events (fresh swaps_above rest) → Explained swaps_above rest.seen (run swaps_above events (fresh swaps_above rest))
+pub swaps_refined : (events : List (Event Swap Outside)) → AllHonest swaps_above events (fresh swaps_above rest) → IsExplained swaps_above rest.seen (run swaps_above events (fresh swaps_above rest))
 swaps_refined events honest = calls_refined labels calls lawful keeps rest rest_shows tt rest_base rest_idle events honest
 
-pub swaps_within : (events : List (Event Swap Outside)) → AllHonest swaps_noted events (fresh swaps_noted rest) → Explained swaps_noted rest.seen (run swaps_noted events (fresh swaps_noted rest))
+pub swaps_within : (events : List (Event Swap Outside)) → AllHonest swaps_noted events (fresh swaps_noted rest) → IsExplained swaps_noted rest.seen (run swaps_noted events (fresh swaps_noted rest))
 swaps_within events honest = calls_within labels calls lawful keeps rest rest_shows tt rest_base rest_idle events honest
 
 -- what the code makes is what both histories are of

@@ -3,7 +3,7 @@ use Rattle.std.proofs.Common.{◌≡◌, ◌≢◌, ◌<◌, ◌≤◌, ◌+◌,
 use Rattle.atomic_programs.specs.Prog.{Ret, Do, unmarked, Did, Waits, Ran, Stops, did_in}
 use Rattle.atomic_programs.specs.Logic.{Machine, Fine, Good, Wp, Safe, Laws}
 use Rattle.atomic_programs.specs.Calls.{Began, Begins, Begun, Ends, Right, Lawful, Event, AllHonest, run, fresh}
-use Rattle.atomic_programs.specs.Explained.{Explained}
+use Rattle.atomic_programs.specs.Explained.{IsExplained}
 use Rattle.atomic_programs.specs.Operations.{IsCore, operations, operations_of}
 use Rattle.atomic_programs.specs.Plain.{IsCode}
 use Rattle.atomic_programs.specs.Lowered.{BeginsBoth, StartsBoth}
@@ -527,7 +527,7 @@ is_core =
 rest_shows : Shows rest.real rest.seen
 rest_shows = record { locks = λ i. refl; owners = λ c. refl; free = λ c e. refl; used = λ c e. absurd cc; datas = λ c i o e. absurd cc }
 
-pub grabs_refined : (events : List (Event ℕ (Unit {0}))) → AllHonest grabs_above events (fresh grabs_above rest) → Explained grabs_above rest.seen (run grabs_above events (fresh grabs_above rest))
+pub grabs_refined : (events : List (Event ℕ (Unit {0}))) → AllHonest grabs_above events (fresh grabs_above rest) → IsExplained grabs_above rest.seen (run grabs_above events (fresh grabs_above rest))
 grabs_refined events honest =
     refined grabs core low handler (λ h i busy r. Begins r) lawful low_laws is_core starts_both (λ h can. atomic h) rest events rest_shows tt (λ h. record { free = λ e. cc; tied = λ c e. absurd cc }) (λ h i. refl) honest
 

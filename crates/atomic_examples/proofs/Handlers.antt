@@ -4,10 +4,10 @@ use Rattle.atomic_programs.specs.Prog.{Ret, Do, bind, unmarked}
 use Rattle.atomic_programs.specs.Logic.{Machine, P, Wp, Laws}
 use Rattle.atomic_programs.proofs.Prog.{bind-assoc}
 use Rattle.atomic_programs.proofs.Sound.{Wp-more}
-use Rattle.atomic_programs.specs.Joined.{Lasts, Both, joined, Handed, Below, Atomic}
+use Rattle.atomic_programs.specs.Joined.{Lasts, Both, joined, Handover, Below, Atomic}
 use Rattle.atomic_examples.specs.Whole as above
 use Rattle.atomic_examples.specs.Whole.{put, if_held, written, Dinode, Labels, Keeps, whole, take_if}
-use Rattle.atomic_examples.specs.Blocks.{hart_count, Block, World, Lock, Unlock, Get, Read, Put, Join, Leave, PutPart, GetPart, Outside, Passes, Fails, lock_if, bytes_if, get_if, read_if, IsOut, Shows, Same, Tied, Carry, InHand, Base, at, blocks, act, write_parts, read_or, fetch, look_back, load_or, with_record, record_of, handler}
+use Rattle.atomic_examples.specs.Blocks.{hart_count, Block, World, Lock, Unlock, Get, Read, Put, Join, Leave, PutPart, GetPart, Outside, Passes, Fails, lock_if, bytes_if, get_if, read_if, IsOut, Shows, Same, IsTied, Carry, InHand, Base, at, blocks, act, write_parts, read_or, fetch, look_back, load_or, with_record, record_of, handler}
 use Rattle.atomic_programs.proofs.Joined.{Wp-holding, Stable, Here, Silent, s-silent, ToAct, to_act, may_act, acted, Acting, s-act}
 use Rattle.atomic_examples.proofs.Maps.{Ours, put_same, put_other, same_or, put_elim, ours_none, ours_some}
 use Rattle.atomic_examples.proofs.Steps.{has_lock, has_buffer, has_none, has_part, tied_stays, hand_stays, blocks_laws, did_same, ours_is, did_lock, did_buffer, did_hand, did_read, did_txn, shows_same, shows_locked, shows_given, slot_new, slot_other, shows_stored, shows_txn, did_part, shows_part}
@@ -31,9 +31,9 @@ module _ (l : Labels) (laws : Laws (whole l)) (keeps : Keeps l) (h : ℕ) where
       pub bytes : v.cell b ≡ z
       pub valid : v.valid b ≡ true
       pub only : (c : ℕ) → c ≢ b → v.out c ≢ Some h
-      pub tied : Tied h v g
+      pub tied : IsTied h v g
 
-    s-fetch : (b : ℕ) (k : Block → P D A) (n : ℕ) (es : E) (w : W) → ((c : ℕ) → w.real.out c ≢ Some h) → Tied h w.real w.seen → G es w.seen
+    s-fetch : (b : ℕ) (k : Block → P D A) (n : ℕ) (es : E) (w : W) → ((c : ℕ) → w.real.out c ≢ Some h) → IsTied h w.real w.seen → G es w.seen
         → ((z : Block) (v : W) (fs : E) → Fetched b z w.real v.real v.seen → G fs v.seen → Wp D h B Q (k z) n fs v)
         → Wp D h B Q (bind (fetch l.Mark b) k) (suc (suc n)) es w
     s-fetch b k n es w none ties stage next =
@@ -43,7 +43,7 @@ module _ (l : Labels) (laws : Laws (whole l)) (keeps : Keeps l) (h : ℕ) where
         taken : World → World
         taken v = record v { out = put v.out b (Some h) }
 
-        tied : (v : W) (fs : E) → Here (whole l) blocks laws (blocks_laws l keeps) h B G w v fs → Tied h v.real v.seen
+        tied : (v : W) (fs : E) → Here (whole l) blocks laws (blocks_laws l keeps) h B G w v fs → IsTied h v.real v.seen
         tied v fs here = tied_stays h w.real v.real w.seen v.seen here.same.parts here.kept ties
 
         only : (v : W) (fs : E) → Here (whole l) blocks laws (blocks_laws l keeps) h B G w v fs → (c : ℕ) → c ≢ b → put v.real.out b (Some h) c ≢ Some h
@@ -86,8 +86,8 @@ module _ (l : Labels) (laws : Laws (whole l)) (keeps : Keeps l) (h : ℕ) where
         )
 
     -- the buffer is given back as it was got: what is left is shown where the hart has none
-    s-back : (b : ℕ) (k : P D A) (n : ℕ) (es : E) (w : W) → w.real.out b ≡ Some h → ((c : ℕ) → c ≢ b → w.real.out c ≢ Some h) → Tied h w.real w.seen → G es w.seen
-        → ((v : W) (fs : E) → ((c : ℕ) → v.real.out c ≢ Some h) → Tied h v.real v.seen → ((i : ℕ) → if_held (v.real.lock i) h (at v.real.cell i) ≡ if_held (w.real.lock i) h (at w.real.cell i)) → G fs v.seen → Wp D h B Q k n fs v)
+    s-back : (b : ℕ) (k : P D A) (n : ℕ) (es : E) (w : W) → w.real.out b ≡ Some h → ((c : ℕ) → c ≢ b → w.real.out c ≢ Some h) → IsTied h w.real w.seen → G es w.seen
+        → ((v : W) (fs : E) → ((c : ℕ) → v.real.out c ≢ Some h) → IsTied h v.real v.seen → ((i : ℕ) → if_held (v.real.lock i) h (at v.real.cell i) ≡ if_held (w.real.lock i) h (at w.real.cell i)) → G fs v.seen → Wp D h B Q k n fs v)
         → Wp D h B Q (Do (Put b None) unmarked (λ _. k)) (suc n) es w
     s-back b k n es w mine only tied stage next =
         s-silent (whole l) blocks laws (blocks_laws l keeps) h B (Put b None) (λ _. k) Q G n es w stable stage
@@ -117,17 +117,17 @@ module _ (l : Labels) (laws : Laws (whole l)) (keeps : Keeps l) (h : ℕ) where
       s-act (whole l) blocks laws (blocks_laws l keeps) h B (above.Take i) m C lasts tt (Lock i) rest Done 3 es w todo
       (λ v fs here may. (((λ e. may (here.shows.locks i ∙ e)), small), λ x t. locked v (base_at hand w v here.same here.kept base) here.shows may (v.real.lock i) refl))
     where
-      Done : Handed Dinode Carry → E → W → Type 0
+      Done : Handover Dinode Carry → E → W → Type 0
       Done = Below (whole l) blocks h C
 
-      rest : Option Dinode → P D (Handed Dinode Carry)
+      rest : Option Dinode → P D (Handover Dinode Carry)
       rest r = bind (load_or l.Mark i r) (λ d. Ret (with_record l.Mark hand i d))
 
       -- from here the inode is the hart's
       taken : W → W
       taken v = record { real = record (v.real) { lock = put v.real.lock i (Some h) }; seen = record (v.seen) { lock = put v.seen.lock i (Some h) } }
 
-      tied_taken : (v : W) → Tied h v.real v.seen → Shows v.real v.seen → v.real.lock i ≡ None → Tied h (taken v).real (taken v).seen
+      tied_taken : (v : W) → IsTied h v.real v.seen → Shows v.real v.seen → v.real.lock i ≡ None → IsTied h (taken v).real (taken v).seen
       tied_taken v tied shows is j e = elim (same_or j i) [
         | inl q ↦ (ap (put v.seen.lock i (Some h)) q ∙ put_same v.seen.lock i (Some h), ap v.seen.node q ∙ shows.parts i is ∙ ap v.real.part (sym q))
         | inr ne ↦ let t = tied j (sym (put_other v.real.lock i (Some h) j ne) ∙ e) in (put_other v.seen.lock i (Some h) j ne ∙ t.0, t.1)
@@ -140,7 +140,7 @@ module _ (l : Labels) (laws : Laws (whole l)) (keeps : Keeps l) (h : ℕ) where
         record { free = base.free; tied = tied_taken v base.tied shows is; in_hand = more_in_hand hand i d v.real (taken v).real base.in_hand (shows.loaded i d is e) (λ j. refl) },
       )
       loaded v fs base shows is c None e =
-          subst (λ (p : P D (Handed Dinode Carry)). Wp D h B Done p 3 fs (taken v)) (sym (bind-assoc (fetch l.Mark (i / 16)) (look_back l.Mark i) (λ d. Ret (with_record l.Mark hand i d))))
+          subst (λ (p : P D (Handover Dinode Carry)). Wp D h B Done p 3 fs (taken v)) (sym (bind-assoc (fetch l.Mark (i / 16)) (look_back l.Mark i) (λ d. Ret (with_record l.Mark hand i d))))
           (s-fetch B Done (C (v.seen.dino i)) (acted (whole l) blocks laws (blocks_laws l keeps) h B (above.Take i) m C lasts (v.seen.dino i)) (i / 16) (λ z. bind (look_back l.Mark i z) (λ d. Ret (with_record l.Mark hand i d))) 1 fs (taken v) base.free (tied_taken v base.tied shows is) c
           (λ z u gs f stage.
           let same = (has_lock h i (taken v).real u.real (f.inodes i) (put_same v.real.lock i (Some h))).1 in

@@ -4,7 +4,7 @@ use Rattle.std.specs.Prelude.{nat_lt}
 use Rattle.std.proofs.lemmas.Bool.{ltb-true}
 use Rattle.atomic_programs.specs.Prog.{Did, Waits, Ran, Stops, did_in, asks}
 use Rattle.atomic_programs.specs.Calls.{Began, Refuses, Begins, Lawful, Event, AllHonest, run, fresh, is_some}
-use Rattle.atomic_programs.specs.Explained.{Explained}
+use Rattle.atomic_programs.specs.Explained.{IsExplained}
 use Rattle.atomic_programs.specs.Joined.{Both}
 use Rattle.atomic_programs.specs.Lowered.{BeginsBoth, StartsBoth, CanBegin, AllAtomic, lowered_calls}
 use Rattle.atomic_programs.specs.Operations.{IsCore, operations_of}
@@ -116,13 +116,13 @@ module _ (l : Labels) (c : Calls l) (lawful : Lawful (theory l c)) (keeps : Keep
   -- each run on blocks is one of whole inodes, whatever the history is
   pub calls_refined : (w : Both World above.World) → Shows w.real w.seen → l.Inv w.seen → ((h : ℕ) → Base h w.real w.seen blocks.none) → ((h : ℕ) → l.Idle h w.seen) → (events : List (Event c.Call Outside))
       → AllHonest (lowered_calls (operations_of (theory l c) (core l)) blocks (handler l.Mark) (begins_at_once l c)) events (fresh (lowered_calls (operations_of (theory l c) (core l)) blocks (handler l.Mark) (begins_at_once l c)) w)
-      → Explained (lowered_calls (operations_of (theory l c) (core l)) blocks (handler l.Mark) (begins_at_once l c)) w.seen (run (lowered_calls (operations_of (theory l c) (core l)) blocks (handler l.Mark) (begins_at_once l c)) events (fresh (lowered_calls (operations_of (theory l c) (core l)) blocks (handler l.Mark) (begins_at_once l c)) w))
+      → IsExplained (lowered_calls (operations_of (theory l c) (core l)) blocks (handler l.Mark) (begins_at_once l c)) w.seen (run (lowered_calls (operations_of (theory l c) (core l)) blocks (handler l.Mark) (begins_at_once l c)) events (fresh (lowered_calls (operations_of (theory l c) (core l)) blocks (handler l.Mark) (begins_at_once l c)) w))
   calls_refined w shows inv base idle events honest =
       refined (theory l c) (core l) blocks (handler l.Mark) (begins_at_once l c) lawful (blocks_laws l keeps) is_core starts_both operations_atomic w events shows inv base idle honest
 
   -- and each operation above acts within its own program
   pub calls_within : (w : Both World above.World) → Shows w.real w.seen → l.Inv w.seen → ((h : ℕ) → Base h w.real w.seen blocks.none) → ((h : ℕ) → l.Idle h w.seen) → (events : List (Event c.Call Outside))
       → AllHonest (noted_calls (theory l c) (core l) blocks (handler l.Mark) (begins_at_once l c)) events (fresh (noted_calls (theory l c) (core l) blocks (handler l.Mark) (begins_at_once l c)) w)
-      → Explained (noted_calls (theory l c) (core l) blocks (handler l.Mark) (begins_at_once l c)) w.seen (run (noted_calls (theory l c) (core l) blocks (handler l.Mark) (begins_at_once l c)) events (fresh (noted_calls (theory l c) (core l) blocks (handler l.Mark) (begins_at_once l c)) w))
+      → IsExplained (noted_calls (theory l c) (core l) blocks (handler l.Mark) (begins_at_once l c)) w.seen (run (noted_calls (theory l c) (core l) blocks (handler l.Mark) (begins_at_once l c)) events (fresh (noted_calls (theory l c) (core l) blocks (handler l.Mark) (begins_at_once l c)) w))
   calls_within w shows inv base idle events honest =
       refined_within (theory l c) (core l) blocks (handler l.Mark) (begins_at_once l c) lawful (blocks_laws l keeps) is_core starts_both operations_atomic some_below (λ hand op m. steps l.Mark hand op m) w events shows inv base idle honest

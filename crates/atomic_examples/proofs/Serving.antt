@@ -5,28 +5,28 @@ use Rattle.std.specs.Prelude.{nat_eq, if◌then◌else◌}
 use Rattle.atomic_programs.specs.Prog.{Ret, Do, unmarked}
 use Rattle.atomic_programs.specs.Logic.{own, onto, PlacesOne, Grown, Fine, Good, Wp, Laws}
 use Rattle.atomic_programs.specs.Calls.{Began, Begins, IsBeginning, Begun, Ends, Right, Lawful, Event, changed, run, fresh}
-use Rattle.atomic_programs.specs.Explained.{Explained}
-use Rattle.atomic_examples.specs.Desk.{Slot, Empty, Asked, Served, World, Ask, Serve, Collect, Hand, Free, Wipe, Step, Swapped, Gave, serve_if, collect_if, served, Fared, is_for, Others, Idle, IsAsked, machine, Call, Request, Help, Give, Reset, Got, Helped, Given, Wiped, Refusal, Busy, program, unless, reserve_if, start_call, start_if, desk}
+use Rattle.atomic_programs.specs.Explained.{IsExplained}
+use Rattle.atomic_examples.specs.Desk.{Slot, Empty, Asked, Served, World, Ask, Serve, Collect, Hand, Free, Wipe, Step, Swapped, Gave, serve_if, collect_if, served, IsServedAs, is_for, Others, Idle, IsAsked, machine, Call, Request, Help, Give, Reset, Got, Helped, Given, Wiped, Refusal, Busy, program, unless, reserve_if, start_call, start_if, desk}
 use Rattle.atomic_programs.proofs.Explains.{changed_same, changed_other, explains, all_honest}
 
-fared_same : (s : Slot) → Fared s [] s
+fared_same : (s : Slot) → IsServedAs s [] s
 fared_same Empty = (refl, refl)
 fared_same (Asked n) = inl (refl, refl)
 fared_same (Served old) = (refl, refl)
 
-fared_trans : (s t u : Slot) (xs ys : List Step) → Fared s xs t → Fared t ys u → Fared s (xs ++ ys) u
+fared_trans : (s t u : Slot) (xs ys : List Step) → IsServedAs s xs t → IsServedAs t ys u → IsServedAs s (xs ++ ys) u
 fared_trans Empty t u xs ys a b =
-    let c : Fared Empty ys u = subst (λ (z : Slot). Fared z ys u) a.1 b in
+    let c : IsServedAs Empty ys u = subst (λ (z : Slot). IsServedAs z ys u) a.1 b in
     (rw (a.0, c.0) refl, c.1)
 fared_trans (Served old) t u xs ys a b =
-    let c : Fared (Served old) ys u = subst (λ (z : Slot). Fared z ys u) a.1 b in
+    let c : IsServedAs (Served old) ys u = subst (λ (z : Slot). IsServedAs z ys u) a.1 b in
     (rw (a.0, c.0) refl, c.1)
 fared_trans (Asked n) t u xs ys (inr a) b =
-    let c : Fared (Served a.0) ys u = subst (λ (z : Slot). Fared z ys u) a.2 b in
+    let c : IsServedAs (Served a.0) ys u = subst (λ (z : Slot). IsServedAs z ys u) a.2 b in
     inr (a.0, rw (a.1, c.0) refl, c.1)
-fared_trans (Asked n) t u xs ys (inl a) b = at (subst (λ (z : Slot). Fared z ys u) a.1 b)
+fared_trans (Asked n) t u xs ys (inl a) b = at (subst (λ (z : Slot). IsServedAs z ys u) a.1 b)
   where
-    at : Fared (Asked n) ys u → Fared (Asked n) (xs ++ ys) u
+    at : IsServedAs (Asked n) ys u → IsServedAs (Asked n) (xs ++ ys) u
     at (inl c) = inl (rw (a.0, c.0) refl, c.1)
     at (inr c) = inr (c.0, rw (a.0, c.1) refl, c.2)
 
@@ -44,7 +44,7 @@ others_trans h u v w xs ys a b =
 
 -- an empty place stays so
 pub empty_stays : (h : ℕ) (v w : World) (xs : List Step) → Others h v xs w → v.slots h ≡ Empty → (xs ≡ []) × (w.slots h ≡ Empty)
-empty_stays h v w xs o e = subst (λ (z : Slot). Fared z xs (w.slots h)) e o.fared
+empty_stays h v w xs o e = subst (λ (z : Slot). IsServedAs z xs (w.slots h)) e o.fared
 
 pub laws : Laws machine
 laws =
@@ -59,7 +59,7 @@ laws =
 -- what an operation changed is none of this hart's
 others_quiet : (g : ℕ) (v u : World) → u.slots g ≡ v.slots g → (v.lent g ≡ None → (u.lent g ≡ None) × (u.book.tokens g ≡ v.book.tokens g)) → ((j : ℕ) → is_for g (u.lent j) ≡ is_for g (v.lent j))
     → (u.clean ≡ true → v.clean ≡ true) → Others g v [] u
-others_quiet g v u slot tokens lends clean = record { fared = subst (λ (z : Slot). Fared (v.slots g) [] z) (sym slot) (fared_same (v.slots g)); tokens = tokens; lends = lends; clean = clean }
+others_quiet g v u slot tokens lends clean = record { fared = subst (λ (z : Slot). IsServedAs (v.slots g) [] z) (sym slot) (fared_same (v.slots g)); tokens = tokens; lends = lends; clean = clean }
 
 own_none : (g j : ℕ) (e : Step) → g ≢ j → own g ((j, e) ∷ []) ≡ []
 own_none g j e ne = rw (ne_eqb j g (λ q. ne (sym q))) refl
@@ -69,7 +69,7 @@ own_one g e = rw (eq-eqb g g refl) refl
 
 -- the last operation of a request: it waits until another hart has served it
 collect_ok : (h n : ℕ) (w : World) → w.slots h ≡ Asked n → ((j : ℕ) → is_for h (w.lent j) ≡ false) → Wp machine h (Begun desk (Request n)) (Ends desk h (Request n)) (Do Collect unmarked (λ old. Ret (Got old))) 1 [] w
-collect_ok h n w asked lends v xs o inv = at (subst (λ (z : Slot). Fared z xs (v.slots h)) asked o.fared)
+collect_ok h n w asked lends v xs o inv = at (subst (λ (z : Slot). IsServedAs z xs (v.slots h)) asked o.fared)
   where
     Goal : Slot → List Step → Type 0
     Goal s ys =
@@ -131,7 +131,7 @@ served_keeps j n v e other = at (nat_eq other j) refl
     asking : Others j v (Swapped n v.book.number ∷ []) (served_by j n v)
     asking =
         record {
-          fared = subst (λ (z : Slot). Fared z (Swapped n v.book.number ∷ []) (changed v.slots j (Served v.book.number) j)) (sym e) (inr (v.book.number, refl, changed_same v.slots j (Served v.book.number) j refl));
+          fared = subst (λ (z : Slot). IsServedAs z (Swapped n v.book.number ∷ []) (changed v.slots j (Served v.book.number) j)) (sym e) (inr (v.book.number, refl, changed_same v.slots j (Served v.book.number) j refl));
           tokens = λ q. (q, refl);
           lends = λ i. refl;
           clean = λ y. y;
@@ -390,7 +390,7 @@ own_at_most h j e = at (nat_eq j h)
     at true = omega arith
     at false = omega arith
 
-pub any_run : (w : World) (events : List (Event Call (Unit {0}))) → ((h : ℕ) → Idle h w) → Explained desk w.book (run desk events (fresh desk w))
+pub any_run : (w : World) (events : List (Event Call (Unit {0}))) → ((h : ℕ) → Idle h w) → IsExplained desk w.book (run desk events (fresh desk w))
 any_run w events idle = explains desk lawful w events tt idle (all_honest desk (λ h op v x. tt) events (fresh desk w))
 
 -- whose the only step is doesn't matter

@@ -4,7 +4,7 @@ use Rattle.std.proofs.lemmas.Bool.{ne_eqb}
 use Rattle.atomic_programs.specs.Joined.{LowerLaws}
 use Rattle.atomic_examples.specs.Whole as above
 use Rattle.atomic_examples.specs.Whole.{put, if_held, Dinode, Labels, Keeps, whole}
-use Rattle.atomic_examples.specs.Blocks.{Block, World, Shows, Same, Tied, Carry, InHand, at, blocks}
+use Rattle.atomic_examples.specs.Blocks.{Block, World, Shows, Same, IsTied, Carry, InHand, at, blocks}
 use Rattle.atomic_examples.proofs.Maps.{put_same, put_other, same_or, put_elim, Ours, ours_none, ours_some, not_held, held_is, held_here, none_is}
 
 pub not_mine : {A : Type 0} (h : ℕ) (o : Option ℕ) (x : A) → o ≢ Some h → if_held o h x ≡ None
@@ -32,7 +32,7 @@ pub has_part : (h i : ℕ) (v w : World) → if_held (w.lock i) h (w.part i) ≡
 has_part h i v w s e = held_is h (w.lock i) (w.part i) (v.part i) (s ∙ ap (λ (o : Option ℕ). if_held o h (v.part i)) e ∙ held_here h (v.part i))
 
 -- what the hart has of contents stays tied
-pub tied_stays : (h : ℕ) (v w : World) (g u : above.World) → ((i : ℕ) → if_held (w.lock i) h (w.part i) ≡ if_held (v.lock i) h (v.part i)) → above.Kept h g u → Tied h v g → Tied h w u
+pub tied_stays : (h : ℕ) (v w : World) (g u : above.World) → ((i : ℕ) → if_held (w.lock i) h (w.part i) ≡ if_held (v.lock i) h (v.part i)) → above.Kept h g u → IsTied h v g → IsTied h w u
 tied_stays h v w g u s kept tied i e =
     let p = has_part h i w v (sym (s i)) e in
     let t = tied i p.0 in

@@ -8,7 +8,7 @@ use Rattle.atomic_programs.proofs.Sound.{s-op}
 use Rattle.atomic_examples.specs.Whole.{put, if_held, Dinode, World, Op, Take, Store, Give, Exit, Keeps, whole, take_if}
 use Rattle.atomic_examples.specs.Blocks.{IsOut}
 use Rattle.atomic_examples.specs.OfWhole.{theory}
-use Rattle.atomic_examples.specs.Swap.{Step, Swapped, Mine, Nothing, Swap, program, labels, calls}
+use Rattle.atomic_examples.specs.Swap.{Step, Swapped, Mine, HasNothing, Swap, program, labels, calls}
 use Rattle.atomic_examples.proofs.Maps.{put_same, put_other, same_or, put_elim, Ours, ours_none, not_held, held_is, held_here, none_is}
 use Rattle.atomic_examples.proofs.Steps.{not_mine, ours_is, ours_put}
 
@@ -51,7 +51,7 @@ record Held (h i : ℕ) (d : Dinode) (w : World) : Type 0 where
 held_stays : (h i : ℕ) (d : Dinode) (v w : World) → Mine h v w → Held h i d v → Held h i d w
 held_stays h i d v w m p = let q = has h i v w m p.lock in record { lock = q.0; dino = q.1 ∙ p.dino; only = λ j ne. has_not h j v w m (p.only j ne); txn = m.txn ∙ p.txn }
 
-nothing_stays : (h : ℕ) (t : Bool) (v w : World) → Mine h v w → Nothing h t v → Nothing h t w
+nothing_stays : (h : ℕ) (t : Bool) (v w : World) → Mine h v w → HasNothing h t v → HasNothing h t w
 nothing_stays h t v w m p = record { none = λ j. has_not h j v w m (p.none j); txn = m.txn ∙ p.txn }
 
 mine_lock : (h i : ℕ) (y : Option ℕ) (v : World) → Ours h (v.lock i) → Ours h y → (g : ℕ) → g ≢ h → Mine g v (record v { lock = put v.lock i y })
@@ -88,7 +88,7 @@ module _ (h : ℕ) (c : Swap) where
   abbrev S : Op → Type 0
   S op = Unit {0}
 
-  exit_ok : (o : Dinode) (w : World) → Nothing h true w → Safe M h (Begun T c) (Ends T h c) (Do Exit unmarked (λ _. Ret o)) 1 (Swapped c.inode c.to o ∷ []) w
+  exit_ok : (o : Dinode) (w : World) → HasNothing h true w → Safe M h (Begun T c) (Ends T h c) (Do Exit unmarked (λ _. Ret o)) 1 (Swapped c.inode c.to o ∷ []) w
   exit_ok o w p =
       s-op (omega arith) (λ v xs y. y.0) (λ v y i. y.1.txn ∙ p.txn)
       (λ v x y i t. quiet 0 (omega arith) (mine_txn h false v) refl ((λ z. refl), record { none = (nothing_stays h true w v y.1 p).none; txn = put_same v.txn h false }))
@@ -118,18 +118,18 @@ module _ (h : ℕ) (c : Swap) where
       one : (o : Dinode) → own h ((h, Swapped c.inode c.to o) ∷ []) ≡ Swapped c.inode c.to o ∷ []
       one o = rw (eq-eqb h h refl) refl
 
-  take_ok : (w : World) → Nothing h true w → Safe M h (Begun T c) (Ends T h c) (Do (Take c.inode) unmarked (λ o. Do (Store c.inode c.to) (λ _. Some (Swapped c.inode c.to o)) (λ _. Do (Give c.inode) unmarked (λ _. Do Exit unmarked (λ _. Ret o))))) 9 [] w
+  take_ok : (w : World) → HasNothing h true w → Safe M h (Begun T c) (Ends T h c) (Do (Take c.inode) unmarked (λ o. Do (Store c.inode c.to) (λ _. Some (Swapped c.inode c.to o)) (λ _. Do (Give c.inode) unmarked (λ _. Do Exit unmarked (λ _. Ret o))))) 9 [] w
   take_ok w p =
       s-op (omega arith) (λ v xs y. y.0) (λ v y i. (nothing_stays h true w v y.1 p).none c.inode) (λ v x y i t. at v (nothing_stays h true w v y.1 p) (v.lock c.inode) refl)
     where
-      at : (v : World) → Nothing h true v → (o : Option ℕ) → v.lock c.inode ≡ o
+      at : (v : World) → HasNothing h true v → (o : Option ℕ) → v.lock c.inode ≡ o
           → Good M Dinode h (λ a. []) 3 9 (Begun T c) [] v (IsOut h (v.lock c.inode)) (take_if h c.inode v o) (λ l o u. Wp M h (Begun T c) (Ends T h c) (Do (Store c.inode c.to) (λ _. Some (Swapped c.inode c.to o)) (λ _. Do (Give c.inode) unmarked (λ _. Do Exit unmarked (λ _. Ret o)))) l [] u)
       at v q (Some g) e = (g, (λ n. q.none c.inode (e ∙ ap (λ (z : ℕ). Some z) n)), e)
       at v q None e =
           quiet 5 (omega arith) (mine_lock h c.inode (Some h) v (ours_is h (v.lock c.inode) (inl e)) (ours_is h (Some h) (inr refl))) refl
           (store_ok (v.dino c.inode) _ (record { lock = put_same v.lock c.inode (Some h); dino = refl; only = λ j ne n. q.none j (sym (put_other v.lock c.inode (Some h) j ne) ∙ n); txn = q.txn })).wp
 
-  swap_ok : (w : World) → Nothing h false w → Safe M h (Begun T c) (Ends T h c) (program c) 10 [] w
+  swap_ok : (w : World) → HasNothing h false w → Safe M h (Begun T c) (Ends T h c) (program c) 10 [] w
   swap_ok w p =
       s-op (omega arith) (λ v xs y. y.0) (λ v y i. y.1.txn ∙ p.txn)
       (λ v x y i t. quiet 9 (omega arith) (mine_txn h true v) refl (take_ok _ (record { none = (nothing_stays h false w v y.1 p).none; txn = put_same v.txn h true })).wp)

@@ -5,7 +5,7 @@ use Rattle.std.proofs.lemmas.Bool.{eqb-false, eq-eqb, ne_eqb}
 use Rattle.atomic_programs.specs.Prog.{Ret, once, unmarked, Stops, did_in, asks}
 use Rattle.atomic_programs.specs.Logic.{onto, own, Machine, Fine, Wp, Safe, Laws}
 use Rattle.atomic_programs.specs.Calls.{Began, Begins, Begun, Ends, Right, Lawful, Event, AllHonest, run, fresh, is_some}
-use Rattle.atomic_programs.specs.Explained.{Explained}
+use Rattle.atomic_programs.specs.Explained.{IsExplained}
 use Rattle.atomic_programs.specs.Operations.{IsCore, operations}
 use Rattle.atomic_programs.specs.Joined.{Both, joined, LowerLaws, holding, Below, Atomic}
 use Rattle.atomic_programs.specs.Lowered.{BeginsBoth, StartsBoth}
@@ -406,7 +406,7 @@ module _ (h j : ℕ) (m : Unit {0} → Option (Unit {0})) where
       ))
       base
 
-pub gifts_refined : (purse : ℕ → ℕ) (events : List (Event ℕ (Unit {0}))) → AllHonest gifts_above events (fresh gifts_above (rest purse)) → Explained gifts_above purse (run gifts_above events (fresh gifts_above (rest purse)))
+pub gifts_refined : (purse : ℕ → ℕ) (events : List (Event ℕ (Unit {0}))) → AllHonest gifts_above events (fresh gifts_above (rest purse)) → IsExplained gifts_above purse (run gifts_above events (fresh gifts_above (rest purse)))
 gifts_refined purse events honest =
     refined gifts core low handler start lawful low_laws is_core starts_both (λ h can. atomic h) (rest purse) events (record { wards = λ k. refl; purses = λ k e. refl }) tt (λ h k e. absurd (let c : ◌≡◌ {A = Option ℕ} None (Some h) = e in cc)) (λ h k e. (let c : ◌≡◌ {A = Option ℕ} None (Some h) = e in cc)) honest
 
@@ -420,6 +420,6 @@ steps : (hand : Unit {0}) (op : Op) (m : Answer op → Option (Unit {0})) → is
 steps hand (Give j) m = refl
 steps hand (Free j) m = refl
 
-pub gifts_within : (purse : ℕ → ℕ) (events : List (Event ℕ (Unit {0}))) → AllHonest gifts_noted events (fresh gifts_noted (rest purse)) → Explained gifts_noted purse (run gifts_noted events (fresh gifts_noted (rest purse)))
+pub gifts_within : (purse : ℕ → ℕ) (events : List (Event ℕ (Unit {0}))) → AllHonest gifts_noted events (fresh gifts_noted (rest purse)) → IsExplained gifts_noted purse (run gifts_noted events (fresh gifts_noted (rest purse)))
 gifts_within purse events honest =
     refined_within gifts core low handler start lawful low_laws is_core starts_both (λ h can. atomic h) some_below steps (rest purse) events (record { wards = λ k. refl; purses = λ k e. refl }) tt (λ h k e. absurd (let c : ◌≡◌ {A = Option ℕ} None (Some h) = e in cc)) (λ h k e. (let c : ◌≡◌ {A = Option ℕ} None (Some h) = e in cc)) honest

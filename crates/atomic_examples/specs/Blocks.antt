@@ -2,7 +2,7 @@
 -- with its record, which the program of the operation that took or stored it hands on.
 use Rattle.std.specs.Prelude.{◌≡◌, ◌≢◌, ◌<◌, ◌/◌, ◌%◌, ℕ, Bool, true, false, Option, Some, None, suc, List, [], ◌∷◌}
 use Rattle.atomic_programs.specs.Prog.{Prog, Ret, Do, bind, once, unmarked, Did, Waits, Ran, Stops}
-use Rattle.atomic_programs.specs.Joined.{Act, Lower, Handed, holding}
+use Rattle.atomic_programs.specs.Joined.{Act, Lower, Handover, holding}
 use Rattle.atomic_examples.specs.Whole as above
 use Rattle.atomic_examples.specs.Whole.{put, if_held, Dinode}
 
@@ -136,8 +136,8 @@ pub record Same (h : ℕ) (v w : World) : Type 0 where
   pub parts : (i : ℕ) → if_held (w.lock i) h (w.part i) ≡ if_held (v.lock i) h (v.part i)
 
 -- between two operations above the content of the hart's inodes is as above
-abbrev pub Tied : ℕ → World → above.World → Type 0
-Tied h r g = (i : ℕ) → r.lock i ≡ Some h → (g.lock i ≡ Some h) × (g.node i ≡ r.part i)
+abbrev pub IsTied : ℕ → World → above.World → Type 0
+IsTied h r g = (i : ℕ) → r.lock i ≡ Some h → (g.lock i ≡ Some h) × (g.node i ≡ r.part i)
 
 -- what a hart has in hand: the record of each inode of its own
 abbrev pub Carry : Type 0
@@ -149,7 +149,7 @@ InHand h r hand = (i : ℕ) → r.lock i ≡ Some h → hand i ≡ Some (at r.ce
 -- Between two operations above the hart has no buffer. Of inodes that aren't its own, nothing is said of what is in hand.
 pub record Base (h : ℕ) (r : World) (g : above.World) (hand : Carry) : Type 0 where
   pub free : (b : ℕ) → r.out b ≢ Some h
-  pub tied : Tied h r g
+  pub tied : IsTied h r g
   pub in_hand : InHand h r hand
 
 abbrev pub blocks : Lower above.World
@@ -204,7 +204,7 @@ module _ (M : Type 0) where
   write_parts i t k z (y ∷ ys) = Do (PutPart i k z) unmarked (λ _. write_parts i t (suc k) y ys)
 
   -- this record is in hand from here on
-  abbrev pub with_record : Carry → ℕ → Dinode → Handed Dinode Carry
+  abbrev pub with_record : Carry → ℕ → Dinode → Handover Dinode Carry
   with_record hand i d = record { answer = d; carry = put hand i (Some d) }
 
   -- the record in hand; where there is none, the hart hasn't the inode
@@ -212,7 +212,7 @@ module _ (M : Type 0) where
   record_of (Some d) = d
   record_of None = record { kind = 0; size = 0 }
 
-  abbrev pub handler : Carry → (op : above.Op) → (above.Answer op → Option M) → P (Handed (above.Answer op) Carry)
+  abbrev pub handler : Carry → (op : above.Op) → (above.Answer op → Option M) → P (Handover (above.Answer op) Carry)
   handler hand (above.Take i) m = Do (Lock i) (λ _. act (above.Take i) m) (λ r. bind (load_or i r) (λ d. Ret (with_record hand i d)))
   handler hand (above.Store i d) m = bind (fetch (i / 16)) (λ z. holding (put hand i (Some d)) (once (Put (i / 16) (Some (put z (i % 16) d))) (λ _. act (above.Store i d) m)))
   handler hand (above.Give i) m = holding (put hand i None) (once (Unlock i (record_of (hand i))) (λ _. act (above.Give i) m))

@@ -81,17 +81,17 @@ places h (Free j) a m w = []
 places h Wipe a m w = []
 
 -- how a hart's place fares while the others step: a request may be served, with its step
-abbrev pub Fared : Slot → List Step → Slot → Type 0
-Fared Empty xs s = (xs ≡ []) × (s ≡ Empty)
-Fared (Asked n) xs s = ((xs ≡ []) × (s ≡ Asked n)) ⊎ ((old : ℕ) × (xs ≡ Swapped n old ∷ []) × (s ≡ Served old))
-Fared (Served old) xs s = (xs ≡ []) × (s ≡ Served old)
+abbrev pub IsServedAs : Slot → List Step → Slot → Type 0
+IsServedAs Empty xs s = (xs ≡ []) × (s ≡ Empty)
+IsServedAs (Asked n) xs s = ((xs ≡ []) × (s ≡ Asked n)) ⊎ ((old : ℕ) × (xs ≡ Swapped n old ∷ []) × (s ≡ Served old))
+IsServedAs (Served old) xs s = (xs ≡ []) × (s ≡ Served old)
 
 abbrev pub is_for : ℕ → Option ℕ → Bool
 is_for h None = false
 is_for h (Some g) = nat_eq g h
 
 pub record Others (h : ℕ) (v : World) (xs : List Step) (w : World) : Type 0 where
-  pub fared : Fared (v.slots h) xs (w.slots h)
+  pub fared : IsServedAs (v.slots h) xs (w.slots h)
   -- the tokens of a hart that is reserved may change
   pub tokens : v.lent h ≡ None → (w.lent h ≡ None) × (w.book.tokens h ≡ v.book.tokens h)
   pub lends : (j : ℕ) → is_for h (w.lent j) ≡ is_for h (v.lent j)
@@ -165,23 +165,23 @@ program (Help j) = Do (Serve j) unmarked (λ b. Ret (Helped b))
 program (Give j) = Do (Hand j) unmarked (λ _. Do (Free j) unmarked (λ _. Ret Given))
 program Reset = Do Wipe unmarked (λ _. Ret Wiped)
 
-abbrev pub Written : Call → List Step → Reply → Type 0
-Written (Request n) es (Got old) = es ≡ Swapped n old ∷ []
-Written (Request n) es (Helped b) = ⊥
-Written (Request n) es Given = ⊥
-Written (Request n) es Wiped = ⊥
-Written (Help j) es (Got old) = ⊥
-Written (Help j) es (Helped b) = es ≡ []
-Written (Help j) es Given = ⊥
-Written (Help j) es Wiped = ⊥
-Written (Give j) es (Got old) = ⊥
-Written (Give j) es (Helped b) = ⊥
-Written (Give j) es Given = (x : ℕ) × (es ≡ Gave j x ∷ [])
-Written (Give j) es Wiped = ⊥
-Written Reset es (Got old) = ⊥
-Written Reset es (Helped b) = ⊥
-Written Reset es Given = ⊥
-Written Reset es Wiped = es ≡ []
+abbrev pub IsHistoryOf : Call → List Step → Reply → Type 0
+IsHistoryOf (Request n) es (Got old) = es ≡ Swapped n old ∷ []
+IsHistoryOf (Request n) es (Helped b) = ⊥
+IsHistoryOf (Request n) es Given = ⊥
+IsHistoryOf (Request n) es Wiped = ⊥
+IsHistoryOf (Help j) es (Got old) = ⊥
+IsHistoryOf (Help j) es (Helped b) = es ≡ []
+IsHistoryOf (Help j) es Given = ⊥
+IsHistoryOf (Help j) es Wiped = ⊥
+IsHistoryOf (Give j) es (Got old) = ⊥
+IsHistoryOf (Give j) es (Helped b) = ⊥
+IsHistoryOf (Give j) es Given = (x : ℕ) × (es ≡ Gave j x ∷ [])
+IsHistoryOf (Give j) es Wiped = ⊥
+IsHistoryOf Reset es (Got old) = ⊥
+IsHistoryOf Reset es (Helped b) = ⊥
+IsHistoryOf Reset es Given = ⊥
+IsHistoryOf Reset es Wiped = es ≡ []
 
 abbrev pub unless : Bool → Refusal → Began Refusal World → Began Refusal World
 unless true why b = Refuses why
@@ -212,7 +212,7 @@ desk =
       start = λ h call busy w. start_if (w.lent h) (start_call h call busy w);
       busy = Busy;
       program = program;
-      Written = Written;
+      Written = IsHistoryOf;
       limit = λ call. 2;
     }
 

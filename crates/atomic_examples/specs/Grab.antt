@@ -4,7 +4,7 @@ use Rattle.atomic_programs.specs.Prog.{Prog, Ret, Do, once, unmarked, Did, Waits
 use Rattle.atomic_programs.specs.Logic.{Machine}
 use Rattle.atomic_programs.specs.Calls.{Theory, Begins}
 use Rattle.atomic_programs.specs.Operations.{Core, all_of, operations_of}
-use Rattle.atomic_programs.specs.Joined.{Act, Lower, Handed, holding, Both}
+use Rattle.atomic_programs.specs.Joined.{Act, Lower, Handover, holding, Both}
 use Rattle.atomic_programs.specs.Lowered.{lowered_calls, Part, code_part}
 use Rattle.atomic_programs.specs.Plain.{Code}
 use Rattle.atomic_examples.specs.Whole.{put, if_held}
@@ -211,7 +211,7 @@ grab_at i m None = Do (PutBits None) (λ _. act (Grab i) m None) (λ _. Ret None
 grab_at i m (Some c) = Do (PutBits (Some (c, i))) (λ _. act (Grab i) m (Some c)) (λ _. Do (Zero c) unmarked (λ _. Ret (Some c)))
 
 -- nothing is handed on: whose a block is, the world tells
-abbrev pub handler : Unit {0} → (op : Op) → (Answer op → Option (Unit {0})) → P (Handed (Answer op) (Unit {0}))
+abbrev pub handler : Unit {0} → (op : Op) → (Answer op → Option (Unit {0})) → P (Handover (Answer op) (Unit {0}))
 handler hand (Hold i) m = holding hand (once (Lock i) (λ _. act (Hold i) m None))
 handler hand (Grab i) m = holding hand (Do GetBits unmarked (λ z. grab_at i m (first z 0 8)))
 handler hand (Drop i) m = holding hand (once (Unlock i) (λ _. act (Drop i) m None))
@@ -225,28 +225,28 @@ abbrev pub rest : Both World Above
 rest = record { real = record { lock = λ i. None; bits = λ c. false; bits_out = None; block = λ c. c; owner = λ c. None }; seen = record { lock = λ i. None; owner = λ c. None; bytes = λ c. c } }
 
 -- What the code has of the world below: all but which inode has a block.
-pub record Shared : Type 0 where
+pub record SharedState : Type 0 where
   pub lock : ℕ → Option ℕ
   pub bits : ℕ → Bool
   pub bits_out : Option ℕ
   pub block : ℕ → ℕ
 
-abbrev pub shared_of : World → Shared
+abbrev pub shared_of : World → SharedState
 shared_of w = record { lock = w.lock; bits = w.bits; bits_out = w.bits_out; block = w.block }
 
-abbrev pub lock_in : ℕ → ℕ → Shared → Option ℕ → Did (Unit {0}) Shared
+abbrev pub lock_in : ℕ → ℕ → SharedState → Option ℕ → Did (Unit {0}) SharedState
 lock_in h i s None = Ran tt (record s { lock = put s.lock i (Some h) })
 lock_in h i s (Some g) = Waits
 
-abbrev pub bits_in : ℕ → Shared → Option ℕ → Did (ℕ → Bool) Shared
+abbrev pub bits_in : ℕ → SharedState → Option ℕ → Did (ℕ → Bool) SharedState
 bits_in h s None = Ran s.bits (record s { bits_out = Some h })
 bits_in h s (Some g) = Waits
 
-abbrev pub put_in : Shared → Option (ℕ × ℕ) → Shared
+abbrev pub put_in : SharedState → Option (ℕ × ℕ) → SharedState
 put_in s None = record s { bits_out = None }
 put_in s (Some p) = record s { bits_out = None; bits = put s.bits p.0 true }
 
-abbrev pub exec_code : ℕ → Unit {0} → (op : LowOp) → Shared → Did (LowAnswer op) Shared
+abbrev pub exec_code : ℕ → Unit {0} → (op : LowOp) → SharedState → Did (LowAnswer op) SharedState
 exec_code h x (Lock i) s = lock_in h i s (s.lock i)
 exec_code h x (Unlock i) s = Ran tt (record s { lock = put s.lock i None })
 exec_code h x GetBits s = bits_in h s s.bits_out
@@ -254,7 +254,7 @@ exec_code h x (PutBits p) s = Ran tt (put_in s p)
 exec_code h x (Zero c) s = Ran tt (record s { block = put s.block c 0 })
 
 -- whose a block is, it can't ask
-abbrev pub may_code : ℕ → LowOp → Shared → Type 0
+abbrev pub may_code : ℕ → LowOp → SharedState → Type 0
 may_code h (Lock i) s = s.lock i ≢ Some h
 may_code h (Unlock i) s = s.lock i ≡ Some h
 may_code h GetBits s = s.bits_out ≢ Some h
@@ -262,7 +262,7 @@ may_code h (PutBits p) s = s.bits_out ≡ Some h
 may_code h (Zero c) s = Unit {0}
 
 abbrev pub grabs_part : Part (operations_of grabs core) low
-grabs_part = record { Shared = Shared; of = shared_of; exec = exec_code; may = may_code; honest = λ h op s x. Unit {0}; begin = λ h i busy s. Begins s }
+grabs_part = record { Shared = SharedState; of = shared_of; exec = exec_code; may = may_code; honest = λ h op s x. Unit {0}; begin = λ h i busy s. Begins s }
 
 abbrev pub grabs_code : Code grabs_above
 grabs_code = code_part (operations_of grabs core) low handler (λ h i busy r. Begins r) grabs_part LowOp (λ op a. op)

@@ -2,7 +2,7 @@
 use Rattle.std.specs.Prelude.{◌≡◌, ℕ, nat_lt, if◌then◌else◌, List, [], ◌∷◌}
 use Rattle.atomic_programs.specs.Prog.{Prog}
 use Rattle.atomic_programs.specs.Calls.{Theory, Refuses, Begins}
-use Rattle.atomic_programs.specs.Logic.{Answered}
+use Rattle.atomic_programs.specs.Logic.{OpWithAnswer}
 use Rattle.atomic_programs.specs.Operations.{Core, Makes, all_of}
 use Rattle.atomic_programs.specs.Lowered.{Starts}
 use Rattle.atomic_examples.specs.Blocks.{hart_count, blocks}
@@ -46,7 +46,7 @@ abbrev pub operation_labels : Labels → Labels
 operation_labels l =
     record {
       Mark = l.Mark;
-      Step = Answered (whole l);
+      Step = OpWithAnswer (whole l);
       Tree = World;
       places = λ h op a m w. (h, (op, a)) ∷ [];
       tree = λ w. w;

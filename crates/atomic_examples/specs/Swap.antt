@@ -37,7 +37,7 @@ MayWait h (Look i k) w = ⊥
 MayWait h (Write i k z zs) w = ⊥
 
 -- the hart has no inode
-pub record Nothing (h : ℕ) (t : Bool) (w : World) : Type 0 where
+pub record HasNothing (h : ℕ) (t : Bool) (w : World) : Type 0 where
   pub none : (i : ℕ) → w.lock i ≢ Some h
   pub txn : w.txn h ≡ t
 
@@ -60,7 +60,7 @@ labels =
       Takes = Happens;
       Inv = λ w. Unit {0};
       Others = λ h v xs w. (xs ≡ []) × Mine h v w;
-      Idle = λ h w. Nothing h false w;
+      Idle = λ h w. HasNothing h false w;
       MayWait = MayWait;
       Clean = λ w. Unit {0};
     }

@@ -5,7 +5,7 @@ use Rattle.atomic_programs.specs.Prog.{Prog, Do, once, unmarked, Did, Ran}
 use Rattle.atomic_programs.specs.Logic.{Machine}
 use Rattle.atomic_programs.specs.Calls.{Theory, Began, Refuses, Begins}
 use Rattle.atomic_programs.specs.Operations.{Core, operations_of}
-use Rattle.atomic_programs.specs.Joined.{Act, Lower, Handed, holding, Both}
+use Rattle.atomic_programs.specs.Joined.{Act, Lower, Handover, holding, Both}
 use Rattle.atomic_programs.specs.Lowered.{lowered_calls}
 use Rattle.atomic_examples.specs.Whole.{put, if_held}
 
@@ -173,7 +173,7 @@ abbrev pub act : (op : Op) → (Answer op → Option (Unit {0})) → Option (Act
 act op m = Some (record { op = op; outside = tt; mark = m })
 
 -- the look into the hart's own purse acts: from then on the ward has it above
-abbrev pub handler : Unit {0} → (op : Op) → (Answer op → Option (Unit {0})) → Prog LowOp LowAnswer (Act Op Answer (Unit {0}) (Unit {0})) (Handed (Answer op) (Unit {0}))
+abbrev pub handler : Unit {0} → (op : Op) → (Answer op → Option (Unit {0})) → Prog LowOp LowAnswer (Act Op Answer (Unit {0}) (Unit {0})) (Handover (Answer op) (Unit {0}))
 handler hand (Give j) m = holding hand (Do Peek (λ _. act (Give j) m) (λ x. once (Fill j x) unmarked))
 handler hand (Free j) m = holding hand (once (Release j) (λ _. act (Free j) m))
 

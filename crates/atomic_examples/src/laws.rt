@@ -2,7 +2,7 @@
 
 ghost use Rattle.std.specs.Prelude.{◌≡◌, ℕ, ◌∷◌, [], List, Option, Some, None, true, false};
 ghost use Rattle.atomic_programs.specs.Calls.{Event, Start, Step, Started, Refused, DidWait, DidRun, DidEnd, State, next, run, outcomes, fresh, hart_of, IsHonest, AllHonest, Sound};
-ghost use Rattle.atomic_programs.specs.Explained.{Explained, Led, history};
+ghost use Rattle.atomic_programs.specs.Explained.{IsExplained, Leads, history};
 ghost use Rattle.atomic_programs.specs.Plain.{IsCode};
 ghost use Rattle.atomic_programs.specs.Logic.{Wp};
 ghost use Rattle.atomic_programs.specs.Joined.{Both, joined};
@@ -21,12 +21,12 @@ ghost use Rattle.atomic_examples.specs.Swap.{Swap, Swapped, swaps, swaps_above, 
 
 /// Over every list of events the replies at the desk are explained, where a hart's step may be placed by another hart, and a start may reserve an idle one.
 pub fn desk_explained()
-    ensures { (w : desk.World) (events : List (Event desk.Call (Unit {0}))) → ((h : ℕ) → desk.Idle h w) → Explained desk.desk w.book (run desk.desk events (fresh desk.desk w)) }
+    ensures { (w : desk.World) (events : List (Event desk.Call (Unit {0}))) → ((h : ℕ) → desk.Idle h w) → IsExplained desk.desk w.book (run desk.desk events (fresh desk.desk w)) }
 {}
 
 /// At the desk an event may place another hart's step beside its own; what it places leads from book to book while nothing was wiped.
 pub fn desk_leads()
-    ensures { (s : State desk.desk) (e : Event desk.Call (Unit {0})) → Sound desk.desk s → IsHonest desk.desk e s → Led desk.desk (hart_of e) s (next desk.desk e s) }
+    ensures { (s : State desk.desk) (e : Event desk.Call (Unit {0})) → Sound desk.desk s → IsHonest desk.desk e s → Leads desk.desk (hart_of e) s (next desk.desk e s) }
 {}
 
 /// Every hart is idle at a desk at rest.
@@ -53,17 +53,17 @@ pub fn desk_unclean()
 
 /// Swaps of inodes' records, which were shown right over whole inodes, are explained where they run on blocks.
 pub fn swaps_explained()
-    ensures { (events : List (Event Swap blocks.Outside)) → AllHonest swaps events (fresh swaps rest) → Explained swaps rest.seen.dino (run swaps events (fresh swaps rest)) }
+    ensures { (events : List (Event Swap blocks.Outside)) → AllHonest swaps events (fresh swaps rest) → IsExplained swaps rest.seen.dino (run swaps events (fresh swaps rest)) }
 {}
 
 /// And each such run shows a run of whole operations on whole inodes, of each call those of its program.
 pub fn swaps_refined()
-    ensures { (events : List (Event Swap blocks.Outside)) → AllHonest swaps_above events (fresh swaps_above rest) → Explained swaps_above rest.seen (run swaps_above events (fresh swaps_above rest)) }
+    ensures { (events : List (Event Swap blocks.Outside)) → AllHonest swaps_above events (fresh swaps_above rest) → IsExplained swaps_above rest.seen (run swaps_above events (fresh swaps_above rest)) }
 {}
 
 /// What each event on blocks places leads from the records before it to those after it.
 pub fn swaps_lead()
-    ensures { (s : State swaps) (e : Event Swap blocks.Outside) → Sound swaps s → IsHonest swaps e s → Led swaps (hart_of e) s (next swaps e s) }
+    ensures { (s : State swaps) (e : Event Swap blocks.Outside) → Sound swaps s → IsHonest swaps e s → Leads swaps (hart_of e) s (next swaps e s) }
 {}
 
 /// Both are of the code on blocks, whose programs are the same: whichever history is kept beside, its outcomes are the code's.
@@ -103,7 +103,7 @@ pub fn swaps_stop()
 
 /// A block is taken below by two puts, of the bitmap and of the block, and above in one step.
 pub fn grabs_refined()
-    ensures { (events : List (Event ℕ (Unit {0}))) → AllHonest grabs_above events (fresh grabs_above grab.rest) → Explained grabs_above grab.rest.seen (run grabs_above events (fresh grabs_above grab.rest)) }
+    ensures { (events : List (Event ℕ (Unit {0}))) → AllHonest grabs_above events (fresh grabs_above grab.rest) → IsExplained grabs_above grab.rest.seen (run grabs_above events (fresh grabs_above grab.rest)) }
 {}
 
 /// It acts at the bitmap's put, which is the call's third step.
@@ -119,7 +119,7 @@ pub fn grabs_are_code()
 /// A start may reserve an idle hart for its call, in both worlds: each run below shows a run of whole operations above, which
 /// lead from purses to purses.
 pub fn gifts_refined()
-    ensures { (purse : ℕ → ℕ) (events : List (Event ℕ (Unit {0}))) → AllHonest gifts_above events (fresh gifts_above (purses purse)) → Explained gifts_above purse (run gifts_above events (fresh gifts_above (purses purse))) }
+    ensures { (purse : ℕ → ℕ) (events : List (Event ℕ (Unit {0}))) → AllHonest gifts_above events (fresh gifts_above (purses purse)) → IsExplained gifts_above purse (run gifts_above events (fresh gifts_above (purses purse))) }
 {}
 
 /// A hart that is reserved starts nothing until the call that reserved it has ended; the gift acts at its first step below.
@@ -137,12 +137,12 @@ pub fn gifts_act_once()
 /// event of its hart that isn't before that program's first step, nor after its last.
 pub fn swaps_act_within()
     ensures same { SameRuns swaps_above SwapIsWhole rest }
-    ensures explained { (events : List (Event Swap blocks.Outside)) → AllHonest swaps_above events (fresh swaps_above rest) → Explained swaps_noted rest.seen (run swaps_noted events (fresh swaps_noted rest)) }
+    ensures explained { (events : List (Event Swap blocks.Outside)) → AllHonest swaps_above events (fresh swaps_above rest) → IsExplained swaps_noted rest.seen (run swaps_noted events (fresh swaps_noted rest)) }
 {}
 
 /// The same of gifts, whose starts reserve a hart; and what is noted of one.
 pub fn gifts_act_within()
     ensures same { (purse : ℕ → ℕ) → SameRuns gifts_above GiftIsWhole (purses purse) }
-    ensures explained { (purse : ℕ → ℕ) (events : List (Event ℕ (Unit {0}))) → AllHonest gifts_above events (fresh gifts_above (purses purse)) → Explained gifts_noted purse (run gifts_noted events (fresh gifts_noted (purses purse))) }
+    ensures explained { (purse : ℕ → ℕ) (events : List (Event ℕ (Unit {0}))) → AllHonest gifts_above events (fresh gifts_above (purses purse)) → IsExplained gifts_noted purse (run gifts_noted events (fresh gifts_noted (purses purse))) }
     ensures history { history gifts_noted (run gifts_noted (Start 0 1 ∷ Step 0 tt ∷ Step 0 tt ∷ Step 0 tt ∷ []) (fresh gifts_noted (purses (λ h. h)))) ≡ record { number = 1; hart = 0; call = 0; step = Runs (wards.Peek, 0) } ∷ record { number = 1; hart = 0; call = 0; step = Places (wards.Give 1, tt) } ∷ record { number = 2; hart = 0; call = 0; step = Runs (wards.Fill 1 0, tt) } ∷ record { number = 3; hart = 0; call = 0; step = Runs (wards.Release 1, tt) } ∷ record { number = 3; hart = 0; call = 0; step = Places (wards.Free 1, tt) } ∷ [] }
 {}

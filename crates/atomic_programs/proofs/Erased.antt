@@ -2,9 +2,9 @@
 use Rattle.std.proofs.Common.{◌≡◌, ℕ, suc, Option, Some, None, Bool, true, false, List, [], ◌∷◌, ◌++◌, refl, sym, ◌∙◌, ap}
 use Rattle.std.specs.Prelude.{nat_eq, if◌then◌else◌}
 use Rattle.atomic_programs.specs.Prog.{Ret, Do, plain, Did, Waits, Ran, Stops, did_in}
-use Rattle.atomic_programs.specs.Logic.{P, Answered, own, onto}
+use Rattle.atomic_programs.specs.Logic.{P, OpWithAnswer, own, onto}
 use Rattle.atomic_programs.specs.Calls.{Theory, Began, Refuses, Begins, Run, State, Event, Start, Step, Made, changed, is_some, told, all_told, moved, tried, step_prog, step_unless, step_run, begun, busy_in, start_run, makes, next, run, Outcome, outcomes}
-use Rattle.atomic_programs.specs.Plain.{Unmarked, Code, IsCode, began_in, Plain, PlainMade, by_kind, plain_moved, plain_tried, plain_prog, plain_unless, plain_step, plain_begun, plain_start, plain_makes, plain_run, plain_outcomes, all_by_kind, prog_of, erase}
+use Rattle.atomic_programs.specs.Plain.{UnmarkedProgram, Code, IsCode, began_in, Plain, PlainMade, by_kind, plain_moved, plain_tried, plain_prog, plain_unless, plain_step, plain_begun, plain_start, plain_makes, plain_run, plain_outcomes, all_by_kind, prog_of, erase}
 
 module _ (L : Theory) (C : Code L) where
   -- an event with its history, without it
@@ -30,17 +30,17 @@ module _ (L : Theory) (C : Code L) where
       at k true = refl
       at k false = refl
 
-  erase-moved : (h : ℕ) (s : State L) (r : Run L) (did : Answered L.M) (ps : List (ℕ × L.M.Step)) (p : P L.M L.Reply) (w : L.M.World)
+  erase-moved : (h : ℕ) (s : State L) (r : Run L) (did : OpWithAnswer L.M) (ps : List (ℕ × L.M.Step)) (p : P L.M L.Reply) (w : L.M.World)
       → plain_moved L C h (erase L C s) (C.kind did.0 did.1) (plain p) (C.shared w) ≡ erased (moved L h s r did ps p w)
   erase-moved h s r did ps (Ret a) w =
-      ap (λ (f : ℕ → Option (Unmarked L)). (moved_to f)) (sym (erase-changed ps s.running h None))
+      ap (λ (f : ℕ → Option (UnmarkedProgram L)). (moved_to f)) (sym (erase-changed ps s.running h None))
     where
-      moved_to : (ℕ → Option (Unmarked L)) → PlainMade L C
+      moved_to : (ℕ → Option (UnmarkedProgram L)) → PlainMade L C
       moved_to f = record { came = by_kind L C (moved L h s r did ps (Ret a) w).came; after = record { shared = C.shared w; stopped = s.stopped; running = f } }
   erase-moved h s r did ps (Do op m k) w =
-      ap (λ (f : ℕ → Option (Unmarked L)). (moved_to f)) (sym (erase-changed ps s.running h (Some (record { call = r.call; start = r.start; prog = Do op m k; count = suc r.count; done = onto (own h ps) r.done }))))
+      ap (λ (f : ℕ → Option (UnmarkedProgram L)). (moved_to f)) (sym (erase-changed ps s.running h (Some (record { call = r.call; start = r.start; prog = Do op m k; count = suc r.count; done = onto (own h ps) r.done }))))
     where
-      moved_to : (ℕ → Option (Unmarked L)) → PlainMade L C
+      moved_to : (ℕ → Option (UnmarkedProgram L)) → PlainMade L C
       moved_to f = record { came = by_kind L C (moved L h s r did ps (Do op m k) w).came; after = record { shared = C.shared w; stopped = s.stopped; running = f } }
 
   erase-tried : (h : ℕ) (s : State L) (r : Run L) (op : L.M.Op) (ps : L.M.Answer op → List (ℕ × L.M.Step)) (k : L.M.Answer op → P L.M L.Reply) (x : Did (L.M.Answer op) L.M.World)
@@ -66,9 +66,9 @@ module _ (L : Theory) (C : Code L) where
     erase-begun : (h : ℕ) (call : L.Call) (s : State L) (x : Began L.Refusal L.M.World) → plain_begun L C h call (erase L C s) (began_in C.shared x) ≡ erased (begun L h call s x)
     erase-begun h call s (Refuses why) = refl
     erase-begun h call s (Begins w) =
-        ap (λ (f : ℕ → Option (Unmarked L)). (begun_to f)) (sym (erase-set s.running h (Some (record { call = call; start = s.now; prog = L.program call; count = 0; done = [] }))))
+        ap (λ (f : ℕ → Option (UnmarkedProgram L)). (begun_to f)) (sym (erase-set s.running h (Some (record { call = call; start = s.now; prog = L.program call; count = 0; done = [] }))))
       where
-        begun_to : (ℕ → Option (Unmarked L)) → PlainMade L C
+        begun_to : (ℕ → Option (UnmarkedProgram L)) → PlainMade L C
         begun_to f = record { came = by_kind L C (begun L h call s (Begins w)).came; after = record { shared = C.shared w; stopped = s.stopped; running = f } }
 
     busy_same : (s : State L) → (λ j. is_some (prog_of L C (s.running j))) ≡ busy_in L s

@@ -3,9 +3,9 @@ use Rattle.std.proofs.Common.{◌≡◌, ◌≢◌, ℕ, suc, ◌<◌, ◌≤◌
 use Rattle.std.proofs.lemmas.Bool.{eqb-true, eqb-false, eq-eqb, ne_eqb}
 use Rattle.std.specs.Prelude.{nat_eq, if◌then◌else◌}
 use Rattle.atomic_programs.specs.Prog.{Ret, Do, Did, Waits, Ran, Stops, asks, OfNext}
-use Rattle.atomic_programs.specs.Logic.{Machine, P, Answered, own, onto, oldest_first, Goes, Grown, Halts, Good, Wp}
-use Rattle.atomic_programs.specs.Calls.{Theory, Began, Refuses, Begins, IsBeginning, Begun, Ends, Right, Lawful, Run, Placed, Finished, State, Event, Start, Step, DidWait, changed, is_some, start_of, placed, told, all_told, unchanged, moved, tried, step_prog, step_unless, step_run, begun, busy_in, start_run, makes, next, run, fresh, HonestStep, IsHonest, AllHonest, Sound}
-use Rattle.atomic_programs.specs.Explained.{In, steps_of, IsOfCall, Blocked, Holds, Explained}
+use Rattle.atomic_programs.specs.Logic.{Machine, P, OpWithAnswer, own, onto, oldest_first, Goes, Grown, Halts, Good, Wp}
+use Rattle.atomic_programs.specs.Calls.{Theory, Began, Refuses, Begins, IsBeginning, Begun, Ends, Right, Lawful, Run, PlacedStep, FinishedCall, State, Event, Start, Step, DidWait, changed, is_some, start_of, placed, told, all_told, unchanged, moved, tried, step_prog, step_unless, step_run, begun, busy_in, start_run, makes, next, run, fresh, HonestStep, IsHonest, AllHonest, Sound}
+use Rattle.atomic_programs.specs.Explained.{In, steps_of, IsOfCall, IsBlocked, Holds, IsExplained}
 use Rattle.atomic_programs.proofs.Sound.{Wp-others, Grown-all}
 use Rattle.atomic_programs.proofs.History.{Chained, Falling, chain_turned, rising_turned, steps_turned, in_history, In-own, steps_of-placed, steps_of-other, steps_of-none, New, In-placed, Falling-more, Falling-placed, Chained-placed, below_of}
 
@@ -26,32 +26,32 @@ pub Some-inj : {A : Type 0} (x y : A) → Some x ≡ Some y → x ≡ y
 Some-inj x y e = cc
 
 -- a call under way is as it should be
-pub record Going (L : Theory) (h : ℕ) (r : Run L) (stopped : Bool) (w : L.M.World) (list : List (Placed L)) (finished : List (Finished L)) (now : ℕ) : Type 0 where
+pub record Going (L : Theory) (h : ℕ) (r : Run L) (stopped : Bool) (w : L.M.World) (list : List (PlacedStep L)) (finished : List (FinishedCall L)) (now : ℕ) : Type 0 where
   pub left : ℕ
   pub bounded : r.count + left ≤ L.limit r.call
   pub wp : stopped ≡ false → Wp L.M h (Begun L r.call) (Ends L h r.call) r.prog left r.done w
   pub first : L.M.Clean w → Begun L r.call r.done
   pub done_is : r.done ≡ steps_of L r.start list
   pub begun : r.start < now
-  pub after : (e : Placed L) → In e list → e.call ≡ r.start → r.start < e.number
-  pub apart : (f : Finished L) → In f finished → f.start ≢ r.start
+  pub after : (e : PlacedStep L) → In e list → e.call ≡ r.start → r.start < e.number
+  pub apart : (f : FinishedCall L) → In f finished → f.start ≢ r.start
 
-pub record Over (L : Theory) (f : Finished L) (world : L.M.World) (list : List (Placed L)) (now : ℕ) : Type 0 where
+pub record Over (L : Theory) (f : FinishedCall L) (world : L.M.World) (list : List (PlacedStep L)) (now : ℕ) : Type 0 where
   pub whole : L.M.Clean world → L.Written f.call (oldest_first (steps_of L f.start list)) f.reply
   pub begun : f.start < now
   pub ended : f.number < now
-  pub within : (e : Placed L) → In e list → e.call ≡ f.start → (f.start < e.number) × (e.number ≤ f.number)
+  pub within : (e : PlacedStep L) → In e list → e.call ≡ f.start → (f.start < e.number) × (e.number ≤ f.number)
   pub bounded : f.count ≤ L.limit f.call
 
 pub record Keeps (L : Theory) (base : L.M.Tree) (s : State L) : Type 0 where
   pub holds : Holds L s.stopped s.world
   pub falling : Falling L s.list s.now
   pub chained : L.M.Clean s.world → Chained L base s.list (L.M.tree s.world)
-  pub owned : (e : Placed L) → In e s.list → IsOfCall L s e
+  pub owned : (e : PlacedStep L) → In e s.list → IsOfCall L s e
   pub idle : (h : ℕ) → s.running h ≡ None → L.M.Idle h s.world
   pub going : (h : ℕ) (r : Run L) → s.running h ≡ Some r → Going L h r s.stopped s.world s.list s.finished s.now
   pub lone : (h k : ℕ) (r q : Run L) → s.running h ≡ Some r → s.running k ≡ Some q → r.start ≡ q.start → h ≡ k
-  pub over : (f : Finished L) → In f s.finished → Over L f s.world s.list s.now
+  pub over : (f : FinishedCall L) → In f s.finished → Over L f s.world s.list s.now
 
 pub inv_of : (L : Theory) (b : Bool) (w : L.M.World) → Holds L b w → b ≡ false → L.M.Inv w
 inv_of L true w h e = cc
@@ -62,18 +62,18 @@ holds_of L true w h = inr h
 holds_of L false w h = inl h
 
 -- each entry's call began before now
-pub known : (L : Theory) (base : L.M.Tree) (s : State L) → Keeps L base s → (e : Placed L) → In e s.list → e.call < s.now
+pub known : (L : Theory) (base : L.M.Tree) (s : State L) → Keeps L base s → (e : PlacedStep L) → In e s.list → e.call < s.now
 known L base s k e i = at (k.owned e i)
   where
     at : IsOfCall L s e → e.call < s.now
     at (inl x) = let a : (x.0).start < s.now = (k.over x.0 x.1).begun in let b : (x.0).start ≡ e.call = x.3 in omega arith
     at (inr x) = let a : (x.0).start < s.now = (k.going e.hart x.0 x.1).begun in let b : (x.0).start ≡ e.call = x.2 in omega arith
 
-pub Going-waited : (L : Theory) (h : ℕ) (r : Run L) (b : Bool) (w : L.M.World) (list : List (Placed L)) (fs : List (Finished L)) (n : ℕ) → Going L h r b w list fs n → Going L h r b w list fs (suc n)
+pub Going-waited : (L : Theory) (h : ℕ) (r : Run L) (b : Bool) (w : L.M.World) (list : List (PlacedStep L)) (fs : List (FinishedCall L)) (n : ℕ) → Going L h r b w list fs n → Going L h r b w list fs (suc n)
 Going-waited L h r b w list fs n g =
     record { left = g.left; bounded = g.bounded; wp = g.wp; first = g.first; done_is = g.done_is; begun = omega (arith, g.begun); after = g.after; apart = g.apart }
 
-pub Over-waited : (L : Theory) (f : Finished L) (v w : L.M.World) (list : List (Placed L)) (n : ℕ) → (L.M.Clean w → L.M.Clean v) → Over L f v list n → Over L f w list (suc n)
+pub Over-waited : (L : Theory) (f : FinishedCall L) (v w : L.M.World) (list : List (PlacedStep L)) (n : ℕ) → (L.M.Clean w → L.M.Clean v) → Over L f v list n → Over L f w list (suc n)
 Over-waited L f v w list n clean o =
     record { whole = λ y. o.whole (clean y); begun = omega (arith, o.begun); ended = omega (arith, o.ended); within = o.within; bounded = o.bounded }
 
@@ -168,7 +168,7 @@ module _ (L : Theory) (laws : Lawful L) (base : L.M.Tree) (h : ℕ) (call : L.Ca
   start_lone i j r q (inr a) (inr b) eq = k.lone i j r q a.1 b.1 eq
 
   -- the hart had no call, so no entry is of a call of its that is under way
-  start_owned : (e : Placed L) → IsOfCall L s e → IsOfCall L after_start e
+  start_owned : (e : PlacedStep L) → IsOfCall L s e → IsOfCall L after_start e
   start_owned e (inl x) = inl x
   start_owned e (inr x) = inr (x.0, at (nat_eq e.hart h) refl, x.2)
     where
@@ -259,14 +259,14 @@ module _ (L : Theory) (laws : Lawful L) (base : L.M.Tree) (h : ℕ) (s : State L
       at x true t = eq-eqb (start_of L (s.running p.0)) q.start (ap (start_of L) (ap s.running (eqb-true p.0 j t) ∙ e))
       at x false t = ne_eqb (start_of L (s.running p.0)) q.start (λ y. eqb-false p.0 j t (k.lone p.0 j x.0 q x.1 e (sym (ap (start_of L) x.1) ∙ y)))
 
-  pub not_over : (f : Finished L) → In f s.finished → (p : ℕ × L.M.Step) → In p ps → start_of L (s.running p.0) ≢ f.start
+  pub not_over : (f : FinishedCall L) → In f s.finished → (p : ℕ × L.M.Step) → In p ps → start_of L (s.running p.0) ≢ f.start
   not_over f i p j e = let x = busy p j in (k.going p.0 x.0 x.1).apart f i (sym e ∙ ap (start_of L) x.1)
 
-  abbrev list2 : List (Placed L)
+  abbrev list2 : List (PlacedStep L)
   list2 = placed L s.now s.running ps s.list
 
   -- each entry, also a new one, is of a call that was under way before, or had finished
-  pub owned2 : (e : Placed L) → In e list2 → IsOfCall L s e
+  pub owned2 : (e : PlacedStep L) → In e list2 → IsOfCall L s e
   owned2 e i = at (In-placed L s.now s.running ps s.list e i)
     where
       at : In e s.list ⊎ New L s.now s.running ps e → IsOfCall L s e
@@ -275,14 +275,14 @@ module _ (L : Theory) (laws : Lawful L) (base : L.M.Tree) (h : ℕ) (s : State L
           let x = busy n.of n.one in
           inr (x.0, ap s.running n.hart ∙ x.1, sym (n.call ∙ ap (start_of L) x.1))
 
-  pub after2 : (j : ℕ) (q : Run L) → s.running j ≡ Some q → (e : Placed L) → In e list2 → e.call ≡ q.start → q.start < e.number
+  pub after2 : (j : ℕ) (q : Run L) → s.running j ≡ Some q → (e : PlacedStep L) → In e list2 → e.call ≡ q.start → q.start < e.number
   after2 j q run e i eq = at (In-placed L s.now s.running ps s.list e i)
     where
       at : In e s.list ⊎ New L s.now s.running ps e → q.start < e.number
       at (inl m) = (k.going j q run).after e m eq
       at (inr n) = let b : q.start < s.now = (k.going j q run).begun in let c : e.number ≡ s.now = n.now in omega arith
 
-  pub over2 : (f : Finished L) → In f s.finished → Over L f w list2 (suc s.now)
+  pub over2 : (f : FinishedCall L) → In f s.finished → Over L f w list2 (suc s.now)
   over2 f i =
       let o = k.over f i in
       record {
@@ -293,7 +293,7 @@ module _ (L : Theory) (laws : Lawful L) (base : L.M.Tree) (h : ℕ) (s : State L
         bounded = o.bounded;
       }
     where
-      at : (e : Placed L) → In e s.list ⊎ New L s.now s.running ps e → e.call ≡ f.start → (f.start < e.number) × (e.number ≤ f.number)
+      at : (e : PlacedStep L) → In e s.list ⊎ New L s.now s.running ps e → e.call ≡ f.start → (f.start < e.number) × (e.number ≤ f.number)
       at e (inl j) eq = (k.over f i).within e j eq
       at e (inr n) eq = absurd (not_over f i n.of n.one (sym n.call ∙ eq))
 
@@ -351,7 +351,7 @@ module _ (L : Theory) (laws : Lawful L) (base : L.M.Tree) (h : ℕ) (s : State L
   holds2 true e = cc
   holds2 false e = st.inv
 
-pub Keeps-moved : (L : Theory) (laws : Lawful L) (base : L.M.Tree) (h : ℕ) (s : State L) (r : Run L) (did : Answered L.M) (ps : List (ℕ × L.M.Step)) (p : P L.M L.Reply) (w : L.M.World) (left : ℕ)
+pub Keeps-moved : (L : Theory) (laws : Lawful L) (base : L.M.Tree) (h : ℕ) (s : State L) (r : Run L) (did : OpWithAnswer L.M) (ps : List (ℕ × L.M.Step)) (p : P L.M L.Reply) (w : L.M.World) (left : ℕ)
     → (k : Keeps L base s) → (st : Stepped L h s r ps w) → left < (k.going h r st.is).left
     → Wp L.M h (Begun L r.call) (Ends L h r.call) p left (onto (own h ps) r.done) w → Keeps L base (moved L h s r did ps p w).after
 Keeps-moved L laws base h s r did ps (Do op m c) w left k st falls wp =
@@ -372,7 +372,7 @@ Keeps-moved L laws base h s r did ps (Do op m c) w left k st falls wp =
     new : Run L
     new = record { call = r.call; start = r.start; prog = Do op m c; count = suc r.count; done = onto (own h ps) r.done }
 
-    owned3 : (e : Placed L) → IsOfCall L s e → IsOfCall L (moved L h s r did ps (Do op m c) w).after e
+    owned3 : (e : PlacedStep L) → IsOfCall L s e → IsOfCall L (moved L h s r did ps (Do op m c) w).after e
     owned3 e (inl x) = inl x
     owned3 e (inr x) = at (nat_eq e.hart h) refl
       where
@@ -425,10 +425,10 @@ Keeps-moved L laws base h s r did ps (Ret reply) w left k st falls wp =
     old : Going L h r s.stopped s.world s.list s.finished s.now
     old = k.going h r st.is
 
-    ended : Finished L
+    ended : FinishedCall L
     ended = record { hart = h; call = r.call; start = r.start; number = s.now; count = suc r.count; reply = reply }
 
-    owned3 : (e : Placed L) → IsOfCall L s e → IsOfCall L (moved L h s r did ps (Ret reply) w).after e
+    owned3 : (e : PlacedStep L) → IsOfCall L s e → IsOfCall L (moved L h s r did ps (Ret reply) w).after e
     owned3 e (inl x) = inl (x.0, inr x.1, x.2, x.3)
     owned3 e (inr x) = at (nat_eq e.hart h) refl
       where
@@ -448,8 +448,8 @@ Keeps-moved L laws base h s r did ps (Ret reply) w left k st falls wp =
         let g = going2 L laws base h s r ps w k st j x.0 q x.1 in
         record { left = g.left; bounded = g.bounded; wp = g.wp; first = g.first; done_is = g.done_is; begun = g.begun; after = g.after; apart = λ f i. apart3 j q x f i g }
       where
-        apart3 : (j : ℕ) (q : Run L) → (j ≢ h) × (all_told L ps s.running j ≡ Some q) → (f : Finished L) → In f (ended ∷ s.finished) → Going L j q s.stopped w (placed L s.now s.running ps s.list) s.finished (suc s.now) → f.start ≢ q.start
-        apart3 j q x f (inl i) g eq = x.0 (lone_me L laws base h s r ps w k st j q x.1 (sym eq ∙ ap (λ (u : Finished L). u.start) i))
+        apart3 : (j : ℕ) (q : Run L) → (j ≢ h) × (all_told L ps s.running j ≡ Some q) → (f : FinishedCall L) → In f (ended ∷ s.finished) → Going L j q s.stopped w (placed L s.now s.running ps s.list) s.finished (suc s.now) → f.start ≢ q.start
+        apart3 j q x f (inl i) g eq = x.0 (lone_me L laws base h s r ps w k st j q x.1 (sym eq ∙ ap (λ (u : FinishedCall L). u.start) i))
         apart3 j q x f (inr i) g eq = g.apart f i eq
 
     lone3 : (i j : ℕ) (q x : Run L) → ((i ≡ h) × (None ≡ Some q)) ⊎ ((i ≢ h) × (all_told L ps s.running i ≡ Some q)) → ((j ≡ h) × (None ≡ Some x)) ⊎ ((j ≢ h) × (all_told L ps s.running j ≡ Some x)) → q.start ≡ x.start → i ≡ j
@@ -457,7 +457,7 @@ Keeps-moved L laws base h s r did ps (Ret reply) w left k st falls wp =
     lone3 i j q x (inr a) (inl b) eq = let y : None ≡ Some x = b.1 in cc
     lone3 i j q x (inr a) (inr b) eq = lone_old L laws base h s r ps w k st i j q x a.1 b.1 eq
 
-    within3 : (e : Placed L) → In e (placed L s.now s.running ps s.list) → e.call ≡ r.start → (r.start < e.number) × (e.number ≤ s.now)
+    within3 : (e : PlacedStep L) → In e (placed L s.now s.running ps s.list) → e.call ≡ r.start → (r.start < e.number) × (e.number ≤ s.now)
     within3 e i q = (after2 L laws base h s r ps w k st h r st.is e i q, at (In-placed L s.now s.running ps s.list e i))
       where
         at : In e s.list ⊎ New L s.now s.running ps e → e.number ≤ s.now
@@ -474,8 +474,8 @@ Keeps-moved L laws base h s r did ps (Ret reply) w left k st falls wp =
           bounded = (let a : left < old.left = falls in let b : r.count + old.left ≤ L.limit r.call = old.bounded in omega arith);
         }
 
-    over3 : (f : Finished L) → In f (ended ∷ s.finished) → Over L f w (placed L s.now s.running ps s.list) (suc s.now)
-    over3 f (inl i) = subst (λ (u : Finished L). Over L u w (placed L s.now s.running ps s.list) (suc s.now)) (sym i) done
+    over3 : (f : FinishedCall L) → In f (ended ∷ s.finished) → Over L f w (placed L s.now s.running ps s.list) (suc s.now)
+    over3 f (inl i) = subst (λ (u : FinishedCall L). Over L u w (placed L s.now s.running ps s.list) (suc s.now)) (sym i) done
     over3 f (inr i) = over2 L laws base h s r ps w k st f i
 
 pub Keeps-tried : (L : Theory) (laws : Lawful L) (base : L.M.Tree) (h : ℕ) (s : State L) (r : Run L) (op : L.M.Op) (ps : L.M.Answer op → List (ℕ × L.M.Step)) (c : L.M.Answer op → P L.M L.Reply) (wait : Type 0) (x : Did (L.M.Answer op) L.M.World)
@@ -535,7 +535,7 @@ may_make L laws base s k h r y e = at r.prog ((k.going h r e).wp y)
 module _ (L : Theory) (laws : Lawful L) (base : L.M.Tree) (s : State L) (k : Keeps L base s) (h : ℕ) (x : L.M.Outside) where
   wait_tried : (r : Run L) (op : L.M.Op) (m : L.M.Answer op → Option L.M.Mark) (c : L.M.Answer op → P L.M L.Reply) (d : Did (L.M.Answer op) L.M.World)
       → s.running h ≡ Some r → r.prog ≡ Do op m c → s.stopped ≡ false → L.M.Honest h op s.world x → L.M.go h x op m s.world ≡ d
-      → (tried L h s r op (λ a. L.M.places h op a (m a) s.world) c d).came ≡ DidWait → Blocked L h s
+      → (tried L h s r op (λ a. L.M.places h op a (m a) s.world) c d).came ≡ DidWait → IsBlocked L h s
   wait_tried r op m c Waits e is y t none w =
       let g = k.going h r e in
       let wp : Wp L.M h (Begun L r.call) (Ends L h r.call) (Do op m c) g.left r.done s.world = subst (λ (p : P L.M L.Reply). Wp L.M h (Begun L r.call) (Ends L h r.call) p g.left r.done s.world) is (g.wp y) in
@@ -556,23 +556,23 @@ module _ (L : Theory) (laws : Lawful L) (base : L.M.Tree) (s : State L) (k : Kee
       wait_moved (Do op' m' c') q = cc
   wait_tried r op m c (Stops u) e is y t none w = cc
 
-  wait_prog : (r : Run L) (p : P L.M L.Reply) → s.running h ≡ Some r → r.prog ≡ p → s.stopped ≡ false → OfNext (λ op v. L.M.Honest h op v x) (asks p) s.world → (step_prog L h x s r p).came ≡ DidWait → Blocked L h s
+  wait_prog : (r : Run L) (p : P L.M L.Reply) → s.running h ≡ Some r → r.prog ≡ p → s.stopped ≡ false → OfNext (λ op v. L.M.Honest h op v x) (asks p) s.world → (step_prog L h x s r p).came ≡ DidWait → IsBlocked L h s
   wait_prog r (Ret reply) e is y t w = cc
   wait_prog r (Do op m c) e is y t w = wait_tried r op m c (L.M.go h x op m s.world) e is y t refl w
 
-  wait_unless : (r : Run L) (b : Bool) → s.running h ≡ Some r → s.stopped ≡ b → HonestStep L h x s.world b (Some r) → (step_unless L h x s b r).came ≡ DidWait → Blocked L h s
+  wait_unless : (r : Run L) (b : Bool) → s.running h ≡ Some r → s.stopped ≡ b → HonestStep L h x s.world b (Some r) → (step_unless L h x s b r).came ≡ DidWait → IsBlocked L h s
   wait_unless r true e y t w = cc
   wait_unless r false e y t w = wait_prog r r.prog e refl y t w
 
-  wait_run : (r : Option (Run L)) → s.running h ≡ r → HonestStep L h x s.world s.stopped r → (step_run L h x s r).came ≡ DidWait → Blocked L h s
+  wait_run : (r : Option (Run L)) → s.running h ≡ r → HonestStep L h x s.world s.stopped r → (step_run L h x s r).came ≡ DidWait → IsBlocked L h s
   wait_run None e t w = cc
   wait_run (Some r) e t w = wait_unless r s.stopped e refl t w
 
-  pub may_wait : IsHonest L (Step h x) s → (makes L (Step h x) s).came ≡ DidWait → Blocked L h s
+  pub may_wait : IsHonest L (Step h x) s → (makes L (Step h x) s).came ≡ DidWait → IsBlocked L h s
   may_wait t w = wait_run (s.running h) refl t w
 
 -- all replies of a run are explained by the list that it made
-pub explained_by : (L : Theory) (laws : Lawful L) (base : L.M.Tree) (s : State L) → Keeps L base s → Explained L base s
+pub explained_by : (L : Theory) (laws : Lawful L) (base : L.M.Tree) (s : State L) → Keeps L base s → IsExplained L base s
 explained_by L laws base s k =
     record {
       rising = rising_turned L s.now s.list [] (Falling-more L s.list s.now k.falling) tt;
@@ -596,7 +596,7 @@ explained_by L laws base s k =
 pub sound_keeps : (L : Theory) (laws : Lawful L) (s : State L) (q : Sound L s) → Keeps L (L.M.tree q.first) s
 sound_keeps L laws s q = subst (Keeps L (L.M.tree q.first)) q.is (Keeps-run L laws (L.M.tree q.first) q.events (fresh L q.first) q.honest (Keeps-fresh L q.first q.inv q.idle))
 
-pub explains : (L : Theory) (laws : Lawful L) (w : L.M.World) (events : List (Event L.Call L.M.Outside)) → L.M.Inv w → ((h : ℕ) → L.M.Idle h w) → AllHonest L events (fresh L w) → Explained L (L.M.tree w) (run L events (fresh L w))
+pub explains : (L : Theory) (laws : Lawful L) (w : L.M.World) (events : List (Event L.Call L.M.Outside)) → L.M.Inv w → ((h : ℕ) → L.M.Idle h w) → AllHonest L events (fresh L w) → IsExplained L (L.M.tree w) (run L events (fresh L w))
 explains L laws w events inv idle honest =
     explained_by L laws (L.M.tree w) (run L events (fresh L w)) (Keeps-run L laws (L.M.tree w) events (fresh L w) honest (Keeps-fresh L w inv idle))
 

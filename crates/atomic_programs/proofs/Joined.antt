@@ -5,7 +5,7 @@ use Rattle.atomic_programs.specs.Logic.{Machine, P, PlacesOne, own, onto, Goes, 
 use Rattle.atomic_programs.proofs.Sound.{Wp-weaker, Wp-more, Wp-bind, Wp-others}
 use Rattle.atomic_programs.specs.Lifting.{Uses, Lifts}
 use Rattle.atomic_programs.specs.Spending.{Budget, Affords, AtomicWithin}
-use Rattle.atomic_programs.specs.Joined.{Lasts, ActOf, Lower, Both, ran_to, placed_at, both, joined, LowerLaws, Handed, holding, Handlers, lowered, Below, AtEnd, Atomic}
+use Rattle.atomic_programs.specs.Joined.{Lasts, ActOf, Lower, Both, ran_to, placed_at, both, joined, LowerLaws, Handover, holding, Handlers, lowered, Below, AtEnd, Atomic}
 
 pub joined_laws : (U : Machine) (R : Lower U.World) → Laws U → LowerLaws U R → Laws (joined U R)
 joined_laws U R above below =
@@ -52,7 +52,7 @@ lift_within U R handler laws h b Has {A} (Do op m k) used s affords c B Q lasts 
     (grows U h (k a) B Q (n - suc (U.more op)) fs xs v u lasts o i e.0, (Wp-others U laws h (k a) B Q (n - suc (U.more op)) fs xs v u (λ x d. (lasts x fs xs v u o i d).1) o e.0, i)))
     (λ v xs o i. ((g v xs o i).0, (g v xs o i).1, λ x t. one v (onto xs es) (U.go h x op m v) ((g v xs o i).2 x t), omega arith)) base affords.0 has)))
   where
-    rest : Handed (U.Answer op) R.Carry → P (joined U R) A
+    rest : Handover (U.Answer op) R.Carry → P (joined U R) A
     rest r = lowered U R handler r.carry (k r.answer)
 
     C : U.Answer op → List U.Step → U.World → Type 0
@@ -108,7 +108,7 @@ pub lift : (U : Machine) (R : Lower U.World) (handler : Handlers U R) (laws : La
 lift U R handler laws h atomic p c = lift_using U R handler laws h p (uses_all U (Atomic U R handler h) p atomic) c
 
 -- a program that hands on what it was handed
-pub Wp-holding : (L : Machine) {A C : Type 0} (h : ℕ) (c : C) (p : P L A) (B : List L.Step → Type 0) (Q : Handed A C → List L.Step → L.World → Type 0) (n : ℕ) (es : List L.Step) (w : L.World)
+pub Wp-holding : (L : Machine) {A C : Type 0} (h : ℕ) (c : C) (p : P L A) (B : List L.Step → Type 0) (Q : Handover A C → List L.Step → L.World → Type 0) (n : ℕ) (es : List L.Step) (w : L.World)
     → Wp L h B (λ a. Q (record { answer = a; carry = c })) p n es w → Wp L h B Q (holding c p) n es w
 Wp-holding L {A} {C} h c p B Q n es w g =
     Wp-more L h (holding c p) B Q (n + 0) n es w (omega arith) (Wp-bind L h p (λ a. Ret (record { answer = a; carry = c })) B Q n 0 es w g)

@@ -3,7 +3,7 @@ use Rattle.std.proofs.Common.{◌≡◌, ◌⊎◌, ℕ, Option, Bool, false, Li
 use Rattle.atomic_programs.specs.Prog.{Did, Waits, Ran, Stops, did_in}
 use Rattle.atomic_programs.specs.Logic.{Machine}
 use Rattle.atomic_programs.specs.Calls.{Theory, Began, Refuses, Begins, Begun, Ends, Right, Lawful, Event, AllHonest, run, fresh}
-use Rattle.atomic_programs.specs.Explained.{Explained}
+use Rattle.atomic_programs.specs.Explained.{IsExplained}
 use Rattle.atomic_programs.specs.Plain.{IsCode, began_in}
 use Rattle.atomic_programs.specs.Joined.{ActOf, both, Lower, Both, joined, LowerLaws, Handlers, lowered, AtEnd}
 use Rattle.atomic_programs.specs.Lowered.{Starts, began_to, began_both, lowered_calls, BeginsBoth, StartsBoth, AllAtomic, Part, IsPart, code_part, all_below, code_below}
@@ -80,7 +80,7 @@ pub refined : (T : Theory) (K : Core T.M) (R : Lower T.M.World) (handler : Handl
     → AllAtomic (operations_of T K) R handler begin
     → (w : Both R.World T.M.World) (events : List (Event T.Call R.Outside)) → R.Shows w.real w.seen → T.M.Inv w.seen → ((h : ℕ) → R.Base h w.real w.seen R.none) → ((h : ℕ) → T.M.Idle h w.seen)
     → AllHonest (lowered_calls (operations_of T K) R handler begin) events (fresh (lowered_calls (operations_of T K) R handler begin) w)
-    → Explained (lowered_calls (operations_of T K) R handler begin) (K.of w.seen) (run (lowered_calls (operations_of T K) R handler begin) events (fresh (lowered_calls (operations_of T K) R handler begin) w))
+    → IsExplained (lowered_calls (operations_of T K) R handler begin) (K.of w.seen) (run (lowered_calls (operations_of T K) R handler begin) events (fresh (lowered_calls (operations_of T K) R handler begin) w))
 refined T K R handler begin lawful below core starts atomic w events shows inv base idle honest =
     explains (lowered_calls (operations_of T K) R handler begin) (lowered_lawful (operations_of T K) R handler begin (operations_lawful T K lawful core) (operations_below T.M K R below) starts_too atomic) w events (shows, inv) (λ h. (base h, idle h)) honest
   where

@@ -3,13 +3,13 @@ use Rattle.std.proofs.Common.{◌≡◌, ◌≢◌, ◌<◌, ◌+◌, ◌-◌, �
 use Rattle.std.specs.Prelude.{nat_eq, if◌then◌else◌}
 use Rattle.std.proofs.lemmas.Bool.{eq-eqb, ne_eqb}
 use Rattle.atomic_programs.specs.Prog.{Ret, Do, bind, Did, Waits, Ran, Stops, asks}
-use Rattle.atomic_programs.specs.Logic.{Machine, P, Answered, own, onto, oldest_first, Goes, placed_with, Grown, Good, Wp, Laws}
+use Rattle.atomic_programs.specs.Logic.{Machine, P, OpWithAnswer, own, onto, oldest_first, Goes, placed_with, Grown, Good, Wp, Laws}
 use Rattle.atomic_programs.specs.Calls.{Theory, Begins, Begun, Ends, Lawful, Event, AllHonest, run, fresh, is_some}
-use Rattle.atomic_programs.specs.Explained.{Explained}
-use Rattle.atomic_programs.specs.Joined.{Lower, Both, joined, LowerLaws, Handed, Handlers, lowered, Lasts, Below, Atomic}
+use Rattle.atomic_programs.specs.Explained.{IsExplained}
+use Rattle.atomic_programs.specs.Joined.{Lower, Both, joined, LowerLaws, Handover, Handlers, lowered, Lasts, Below, Atomic}
 use Rattle.atomic_programs.specs.Lowered.{Starts, began_to, lowered_calls, StartsBoth, CanBegin, AllAtomic}
 use Rattle.atomic_programs.specs.Operations.{Core, IsCore, operations, operations_of}
-use Rattle.atomic_programs.specs.Noted.{Noted, Runs, Places, Notes, noted_steps, noted, After, Within, IsWhole, noted_calls}
+use Rattle.atomic_programs.specs.Noted.{Note, Runs, Places, Notes, noted_steps, noted, After, Within, IsWhole, noted_calls}
 use Rattle.atomic_programs.proofs.Sound.{Wp-weaker, Wp-more, Wp-bind, Wp-others}
 use Rattle.atomic_programs.proofs.Explains.{ends_last, explains}
 use Rattle.atomic_programs.proofs.Operations.{onto_rest, own_one, operations_laws, operations_lawful}
@@ -33,17 +33,17 @@ goes_noted : (L : Machine) (t : L.Tree) (ps : List (ℕ × L.Step)) (u : L.Tree)
 goes_noted L t [] u g = g
 goes_noted L t (p ∷ ps) u g = (g.0, g.1, goes_noted L g.0 ps u g.2)
 
-abbrev all_placed : {E S : Type 0} → List S → List (Noted E S)
+abbrev all_placed : {E S : Type 0} → List S → List (Note E S)
 all_placed [] = []
 all_placed (x ∷ xs) = Places x ∷ all_placed xs
 
-own_noted : {E S : Type 0} (j : ℕ) (ps : List (ℕ × S)) → ◌≡◌ {A = List (Noted E S)} (own j (noted_steps ps)) (all_placed (own j ps))
+own_noted : {E S : Type 0} (j : ℕ) (ps : List (ℕ × S)) → ◌≡◌ {A = List (Note E S)} (own j (noted_steps ps)) (all_placed (own j ps))
 own_noted j [] = refl
 own_noted {E} {S} j (p ∷ ps) = at (nat_eq p.0 j) (own_noted j ps)
   where
-    at : (b : Bool) → ◌≡◌ {A = List (Noted E S)} (own j (noted_steps ps)) (all_placed (own j ps))
-        → ◌≡◌ {A = List (Noted E S)} (if b then Places p.1 ∷ own j (noted_steps ps) else own j (noted_steps ps)) (all_placed (if b then p.1 ∷ own j ps else own j ps))
-    at true e = ap (λ (zs : List (Noted E S)). Places p.1 ∷ zs) e
+    at : (b : Bool) → ◌≡◌ {A = List (Note E S)} (own j (noted_steps ps)) (all_placed (own j ps))
+        → ◌≡◌ {A = List (Note E S)} (if b then Places p.1 ∷ own j (noted_steps ps) else own j (noted_steps ps)) (all_placed (if b then p.1 ∷ own j ps else own j ps))
+    at true e = ap (λ (zs : List (Note E S)). Places p.1 ∷ zs) e
     at false e = e
 
 -- a list of at least two isn't a list of one
@@ -119,7 +119,7 @@ module _ (L : Machine) (alone : Alone L) (clean : (w : L.World) → L.Clean w) (
     stage_on op m k a (e ∷ []) gs fs (inl s) (inr b) =
         inr (e, ap (λ (ys : List L.Step). e ∷ ys) s.0, (b.0, head_is e (entry b.0) gs [] b.1), λ c rest r is t. s.1 (Runs (op, a) ∷ Places e ∷ rest) r (a, refl, inr (c, ap (λ (x : L.Step). places x) is, t)))
       where
-        places : L.Step → Noted (Answered L) L.Step
+        places : L.Step → Note (OpWithAnswer L) L.Step
         places x = Places x
     stage_on op m k a (e ∷ []) gs fs (inr s) (inr b) = absurd (let q : s.0 ∷ [] ≡ [] = sym s.1 ∙ tail_is e (entry b.0) gs [] b.1 in cc)
     stage_on op m k a (e ∷ f ∷ zs) gs fs s (inr b) = absurd (two_left zs gs f e (entry b.0) b.1)
@@ -172,7 +172,7 @@ module _ (U : Machine) (K : Core U) (R : Lower U.World) (handler : Handlers U R)
   abbrev J : Machine
   J = joined (operations U K) R
 
-  some_within : {A B : Type 0} (entry : B → Answered U) (q : P J A) (b : B) (Then : B → A → Notes J → Type 0) → is_some (asks q) ≡ true → ((a : A) → (rest : Notes J) × Then b a rest) → (es : Notes J) × Within J entry q es Then
+  some_within : {A B : Type 0} (entry : B → OpWithAnswer U) (q : P J A) (b : B) (Then : B → A → Notes J → Type 0) → is_some (asks q) ≡ true → ((a : A) → (rest : Notes J) × Then b a rest) → (es : Notes J) × Within J entry q es Then
   some_within entry (Ret a) b Then e tail = absurd cc
   some_within entry (Do op m k) b Then e tail =
       let x = some_after J some_below (k (some_below op)) (Then b) tail in
@@ -189,55 +189,55 @@ module _ (U : Machine) (K : Core U) (R : Lower U.World) (handler : Handlers U R)
       some_within (λ b. (op, b)) (handler c op m) (some op) (λ b x es. IsWhole U K R handler x.carry (k b) es (some_reply (k (some op)))) (steps c op m) (λ x. some_whole x.carry (k (some op)))
 
   module _ (above : Laws U) (below : LowerLaws U R) (h : ℕ) (atomic : (op : U.Op) (m : U.Answer op → Option U.Mark) → Atomic (operations U K) R handler h op m) {A : Type 0} (whole : P U A)
-      (B : List (Answered U) → Type 0) (Q : A → List (Answered U) → U.World → Type 0) (lasts : Lasts (operations U K) h B Q) (idle : (a : A) (es : List (Answered U)) (w : U.World) → Q a es w → U.Idle h w) where
+      (B : List (OpWithAnswer U) → Type 0) (Q : A → List (OpWithAnswer U) → U.World → Type 0) (lasts : Lasts (operations U K) h B Q) (idle : (a : A) (es : List (OpWithAnswer U)) (w : U.World) → Q a es w → U.Idle h w) where
     abbrev pub Noted_so_far : Notes J → Type 0
     Noted_so_far fs = (rest : Notes J) × (r : A) × IsWhole U K R handler R.none whole (oldest_first fs ++ rest) r
 
     abbrev pub Noted_whole : A → Notes J → Both R.World U.World → Type 0
     Noted_whole r fs w = IsWhole U K R handler R.none whole (oldest_first fs) r × J.Idle h w
 
-    pub handles : (p : P U A) (c : R.Carry) (n : ℕ) (es : List (Answered U)) (fs : Notes J) (w : Both R.World U.World) → ((rest : Notes J) (r : A) → IsWhole U K R handler c p rest r → IsWhole U K R handler R.none whole (onto fs rest) r)
+    pub handles : (p : P U A) (c : R.Carry) (n : ℕ) (es : List (OpWithAnswer U)) (fs : Notes J) (w : Both R.World U.World) → ((rest : Notes J) (r : A) → IsWhole U K R handler c p rest r → IsWhole U K R handler R.none whole (onto fs rest) r)
         → Wp (operations U K) h B Q p n es w.seen → R.Base h w.real w.seen c → U.Inv w.seen → Wp (noted J) h Noted_so_far Noted_whole (lowered (operations U K) R handler c p) n fs w
     handles (Ret a) c n es fs w way g b inv = (way [] a refl, (below.idle h w.real w.seen c inv (idle a es w.seen g) b, idle a es w.seen g))
     handles (Do op m k) c n es fs w way g b inv =
         Wp-more (noted J) h (bind (handler c op m) rest) Noted_so_far Noted_whole (suc (U.more op) + (n - suc (U.more op))) n fs w (omega (arith, enough))
         (Wp-bind (noted J) h (handler c op m) rest Noted_so_far Noted_whole (suc (U.more op)) (n - suc (U.more op)) fs w
-        (Wp-weaker (noted J) h (handler c op m) Noted_so_far Noted_so_far (λ x ys u. Sm x ys × ((zs : List (Answered U)) × Below (operations U K) R h C x zs u)) (λ x. Wp (noted J) h Noted_so_far Noted_whole (rest x) (n - suc (U.more op))) (suc (U.more op)) fs w (λ ys e. e)
+        (Wp-weaker (noted J) h (handler c op m) Noted_so_far Noted_so_far (λ x ys u. Sm x ys × ((zs : List (OpWithAnswer U)) × Below (operations U K) R h C x zs u)) (λ x. Wp (noted J) h Noted_so_far Noted_whole (rest x) (n - suc (U.more op))) (suc (U.more op)) fs w (λ ys e. e)
         (λ x ys u e. let d = e.1.1 in handles (k x.answer) x.carry (n - suc (U.more op)) d.0.1.0 ys u e.0 d.0.1.1 d.1 d.0.2)
         (inside J (λ j v u xs o. o.1.0) (λ v. tt) some_below h (λ x. x.answer) (some op) (λ a. (op, a)) (λ a x ys r. IsWhole U K R handler x.carry (k a) ys r) (λ ys r. IsWhole U K R handler R.none whole ys r) (λ a. some_reply (k a)) (λ a x. some_whole x.carry (k a)) (Below (operations U K) R h C) (λ x zs u e. e.0.0) (handler c op m) (suc (U.more op)) [] w fs (inl (refl, way))
         (atomic op m c One C [] w
         (λ a gs xs v u o i e. (
           λ y. inl o.0,
           (
-            subst (λ (zs : List (Answered U)). onto zs gs ≡ (op, a) ∷ []) (sym o.0) e.0,
+            subst (λ (zs : List (OpWithAnswer U)). onto zs gs ≡ (op, a) ∷ []) (sym o.0) e.0,
             (onto xs e.1.0, Wp-others (operations U K) (operations_laws U K above) h (k a) B Q (n - suc (U.more op)) e.1.0 xs v u (λ x d. (lasts x e.1.0 xs v u o i d).1) o e.1.1),
             i,
           ),
         ))
-        (λ v xs o i. (λ y. inl o.0, (g v xs o i).1, λ x t. one v (onto xs es) (onto xs []) (ap (λ (zs : List (Answered U)). onto zs []) o.0) (U.go h x op m v) ((g v xs o i).2 x t), omega arith)) b))))
+        (λ v xs o i. (λ y. inl o.0, (g v xs o i).1, λ x t. one v (onto xs es) (onto xs []) (ap (λ (zs : List (OpWithAnswer U)). onto zs []) o.0) (U.go h x op m v) ((g v xs o i).2 x t), omega arith)) b))))
       where
-        One : List (Answered U) → Type 0
+        One : List (OpWithAnswer U) → Type 0
         One gs = (a : U.Answer op) × (gs ≡ (op, a) ∷ [])
 
-        C : U.Answer op → List (Answered U) → U.World → Type 0
-        C a gs u = (gs ≡ (op, a) ∷ []) × ((ys : List (Answered U)) × Wp (operations U K) h B Q (k a) (n - suc (U.more op)) ys u) × U.Inv u
+        C : U.Answer op → List (OpWithAnswer U) → U.World → Type 0
+        C a gs u = (gs ≡ (op, a) ∷ []) × ((ys : List (OpWithAnswer U)) × Wp (operations U K) h B Q (k a) (n - suc (U.more op)) ys u) × U.Inv u
 
-        rest : Handed (U.Answer op) R.Carry → P J A
+        rest : Handover (U.Answer op) R.Carry → P J A
         rest x = lowered (operations U K) R handler x.carry (k x.answer)
 
-        Sm : Handed (U.Answer op) R.Carry → Notes J → Type 0
+        Sm : Handover (U.Answer op) R.Carry → Notes J → Type 0
         Sm x ys = (rest : Notes J) (r : A) → IsWhole U K R handler x.carry (k x.answer) rest r → IsWhole U K R handler R.none whole (onto ys rest) r
 
         enough : U.more op < n
         enough = (g w.seen [] (refl, ([], above.same h w.seen)) inv).3
 
-        own_is : (a : U.Answer op) (gs : List (Answered U)) → gs ≡ [] → ◌≡◌ {A = List (Answered U)} (onto (own h ((h, (op, a)) ∷ [])) gs) ((op, a) ∷ [])
-        own_is a gs e = ap (λ (zs : List (Answered U)). onto zs gs) (own_one {A = Answered U} h (op, a)) ∙ ap (λ (zs : List (Answered U)). begins zs) e
+        own_is : (a : U.Answer op) (gs : List (OpWithAnswer U)) → gs ≡ [] → ◌≡◌ {A = List (OpWithAnswer U)} (onto (own h ((h, (op, a)) ∷ [])) gs) ((op, a) ∷ [])
+        own_is a gs e = ap (λ (zs : List (OpWithAnswer U)). onto zs gs) (own_one {A = OpWithAnswer U} h (op, a)) ∙ ap (λ (zs : List (OpWithAnswer U)). begins zs) e
           where
-            begins : List (Answered U) → List (Answered U)
+            begins : List (OpWithAnswer U) → List (OpWithAnswer U)
             begins zs = (op, a) ∷ zs
 
-        one : (v : U.World) (ys gs : List (Answered U)) → gs ≡ [] → (d : Did (U.Answer op) U.World)
+        one : (v : U.World) (ys gs : List (OpWithAnswer U)) → gs ≡ [] → (d : Did (U.Answer op) U.World)
             → Good (operations U K) (U.Answer op) h (placed_with (operations U K) h op m v) (U.more op) n B ys v (U.MayWait h op v) d (λ l a u. Wp (operations U K) h B Q (k a) l (onto (own h ((h, (op, a)) ∷ [])) ys) u)
             → Good (operations U K) (U.Answer op) h (placed_with (operations U K) h op m v) (U.more op) (suc (U.more op)) One gs v (U.MayWait h op v) d (λ l a u. C a (onto (own h ((h, (op, a)) ∷ [])) gs) u)
         one v ys gs e Waits q = q
@@ -316,10 +316,10 @@ module _ (T : Theory) (K : Core T.M) (R : Lower T.M.World) (handler : Handlers T
           lasts : Lasts (operations T.M K) h (Begun (operations_of T K) call) (Ends (operations_of T K) h call)
           lasts a fs xs v y o j c = (λ z. inl (lawful_above.laws.idle_none h v y xs o c.1), ends_last (operations_of T K) lawful_above h call a fs xs v y o c)
 
-          ends_idle : (a : T.Reply) (es : List (Answered T.M)) (v : T.M.World) → Ends (operations_of T K) h call a es v → T.M.Idle h v
+          ends_idle : (a : T.Reply) (es : List (OpWithAnswer T.M)) (v : T.M.World) → Ends (operations_of T K) h call a es v → T.M.Idle h v
           ends_idle a es v c = c.1
 
   -- each run of lowered calls, event by event
   pub refined_within : (w : Both R.World T.M.World) (events : List (Event T.Call R.Outside)) → R.Shows w.real w.seen → T.M.Inv w.seen → ((h : ℕ) → R.Base h w.real w.seen R.none) → ((h : ℕ) → T.M.Idle h w.seen) → AllHonest N events (fresh N w)
-      → Explained N (K.of w.seen) (run N events (fresh N w))
+      → IsExplained N (K.of w.seen) (run N events (fresh N w))
   refined_within w events shows inv base idle honest = explains N noted_lawful w events (shows, inv) (λ h. (base h, idle h)) honest

@@ -2,15 +2,15 @@
 use Rattle.std.proofs.Common.{◌≡◌, ℕ, suc, Option, Some, None, Bool, true, false, List, [], ◌∷◌, refl, sym, ◌∙◌, ap, subst}
 use Rattle.std.specs.Prelude.{nat_eq, if◌then◌else◌}
 use Rattle.atomic_programs.specs.Prog.{Ret, Do, Did, Waits, Ran, Stops}
-use Rattle.atomic_programs.specs.Logic.{P, Answered, own, onto}
-use Rattle.atomic_programs.specs.Calls.{Theory, Began, Refuses, Begins, Run, Placed, Finished, State, Event, Start, Step, Came, Started, DidRun, DidEnd, Made, changed, is_some, start_of, placed, told, all_told, moved, tried, step_prog, step_unless, step_run, begun, busy_in, start_run, HonestStep, IsHonest, AllHonest, makes, next, run, outcomes, fresh}
-use Rattle.atomic_programs.specs.Noted.{Noted, Runs, Places, Notes, noted_steps, with_notes, entry_of, entries_of, SameRuns}
+use Rattle.atomic_programs.specs.Logic.{P, OpWithAnswer, own, onto}
+use Rattle.atomic_programs.specs.Calls.{Theory, Began, Refuses, Begins, Run, PlacedStep, FinishedCall, State, Event, Start, Step, Came, Started, DidRun, DidEnd, Made, changed, is_some, start_of, placed, told, all_told, moved, tried, step_prog, step_unless, step_run, begun, busy_in, start_run, HonestStep, IsHonest, AllHonest, makes, next, run, outcomes, fresh}
+use Rattle.atomic_programs.specs.Noted.{Note, Runs, Places, Notes, noted_steps, with_notes, entry_of, entries_of, SameRuns}
 
 module _ (L : Theory) (Written : L.Call → Notes L.M → L.Reply → Type 0) where
   abbrev N : Theory
   N = with_notes L Written
 
-  abbrev step_of : Noted (Answered L.M) L.M.Step → List L.M.Step → List L.M.Step
+  abbrev step_of : Note (OpWithAnswer L.M) L.M.Step → List L.M.Step → List L.M.Step
   step_of (Runs e) xs = xs
   step_of (Places x) xs = x ∷ xs
 
@@ -25,7 +25,7 @@ module _ (L : Theory) (Written : L.Call → Notes L.M → L.Reply → Type 0) wh
   run_alone None = None
   run_alone (Some r) = Some (call_alone r)
 
-  abbrev finished_alone : List (Finished N) → List (Finished L)
+  abbrev finished_alone : List (FinishedCall N) → List (FinishedCall L)
   finished_alone [] = []
   finished_alone (f ∷ fs) = record { hart = f.hart; call = f.call; start = f.start; number = f.number; count = f.count; reply = f.reply } ∷ finished_alone fs
 
@@ -55,17 +55,17 @@ module _ (L : Theory) (Written : L.Call → Notes L.M → L.Reply → Type 0) wh
       at true e = ap (λ (zs : List L.M.Step). p.1 ∷ zs) e
       at false e = e
 
-  own_all : (h j : ℕ) (e : Answered L.M) (ps : List (ℕ × L.M.Step)) → steps_alone (own j ((h, Runs e) ∷ noted_steps ps)) ≡ own j ps
+  own_all : (h j : ℕ) (e : OpWithAnswer L.M) (ps : List (ℕ × L.M.Step)) → steps_alone (own j ((h, Runs e) ∷ noted_steps ps)) ≡ own j ps
   own_all h j e ps = at (nat_eq h j)
     where
       at : (b : Bool) → steps_alone (if b then Runs e ∷ own j (noted_steps ps) else own j (noted_steps ps)) ≡ own j ps
       at true = own_alone j ps
       at false = own_alone j ps
 
-  done_alone : (h j : ℕ) (e : Answered L.M) (ps : List (ℕ × L.M.Step)) (es : Notes L.M) → steps_alone (onto (own j ((h, Runs e) ∷ noted_steps ps)) es) ≡ onto (own j ps) (steps_alone es)
+  done_alone : (h j : ℕ) (e : OpWithAnswer L.M) (ps : List (ℕ × L.M.Step)) (es : Notes L.M) → steps_alone (onto (own j ((h, Runs e) ∷ noted_steps ps)) es) ≡ onto (own j ps) (steps_alone es)
   done_alone h j e ps es = steps_onto (own j ((h, Runs e) ∷ noted_steps ps)) es ∙ ap (λ (zs : List L.M.Step). onto zs (steps_alone es)) (own_all h j e ps)
 
-  told_alone : (h j : ℕ) (e : Answered L.M) (ps : List (ℕ × L.M.Step)) (x : Option (Run N)) → run_alone (told N (own j ((h, Runs e) ∷ noted_steps ps)) x) ≡ told L (own j ps) (run_alone x)
+  told_alone : (h j : ℕ) (e : OpWithAnswer L.M) (ps : List (ℕ × L.M.Step)) (x : Option (Run N)) → run_alone (told N (own j ((h, Runs e) ∷ noted_steps ps)) x) ≡ told L (own j ps) (run_alone x)
   told_alone h j e ps None = refl
   told_alone h j e ps (Some r) = λ i. Some (record { call = r.call; start = r.start; prog = r.prog; count = r.count; done = done_alone h j e ps r.done i })
 
@@ -73,14 +73,14 @@ module _ (L : Theory) (Written : L.Call → Notes L.M → L.Reply → Type 0) wh
   start_alone None = refl
   start_alone (Some r) = refl
 
-  placed_alone : (n : ℕ) (running : ℕ → Option (Run N)) (ps : List (ℕ × L.M.Step)) (list : List (Placed N)) (es : List (Placed L)) → entries_of L Written list ≡ es
+  placed_alone : (n : ℕ) (running : ℕ → Option (Run N)) (ps : List (ℕ × L.M.Step)) (list : List (PlacedStep N)) (es : List (PlacedStep L)) → entries_of L Written list ≡ es
       → entries_of L Written (placed N n running (noted_steps ps) list) ≡ placed L n (λ j. run_alone (running j)) ps es
   placed_alone n running [] list es e = e
   placed_alone n running (p ∷ ps) list es e =
       placed_alone n running ps (record { number = n; hart = p.0; call = start_of N (running p.0); step = Places p.1 } ∷ list) (record { number = n; hart = p.0; call = start_of L (run_alone (running p.0)); step = p.1 } ∷ es)
       (λ i. record { number = n; hart = p.0; call = start_alone (running p.0) i; step = p.1 } ∷ e i)
 
-  moved_alone : (h : ℕ) (s : State N) (r : Run N) (did : Answered L.M) (ps : List (ℕ × L.M.Step)) (p : P L.M L.Reply) (w : L.M.World) → made_alone (moved N h s r did ((h, Runs did) ∷ noted_steps ps) p w) ≡ moved L h (alone s) (call_alone r) did ps p w
+  moved_alone : (h : ℕ) (s : State N) (r : Run N) (did : OpWithAnswer L.M) (ps : List (ℕ × L.M.Step)) (p : P L.M L.Reply) (w : L.M.World) → made_alone (moved N h s r did ((h, Runs did) ∷ noted_steps ps) p w) ≡ moved L h (alone s) (call_alone r) did ps p w
   moved_alone h s r did ps (Ret reply) w =
       λ i. record {
         came = DidEnd reply;
@@ -184,11 +184,11 @@ module _ (L : Theory) (Written : L.Call → Notes L.M → L.Reply → Type 0) wh
   honest_all [] s t e a = tt
   honest_all (x ∷ es) s t e a = (honest_event x s (subst (IsHonest L x) (sym e) a.0), honest_all es (next N x s) (next L x t) ((λ i. (makes_alone x s i).after) ∙ ap (next L x) e) a.1)
 
-  entries_onto : (xs ys : List (Placed N)) → entries_of L Written (onto xs ys) ≡ onto (entries_of L Written xs) (entries_of L Written ys)
+  entries_onto : (xs ys : List (PlacedStep N)) → entries_of L Written (onto xs ys) ≡ onto (entries_of L Written xs) (entries_of L Written ys)
   entries_onto [] ys = refl
   entries_onto (x ∷ xs) ys = entries_onto xs (x ∷ ys) ∙ at x.step
     where
-      at : (z : Noted (Answered L.M) L.M.Step) → onto (entries_of L Written xs) (entry_of L x.number x.hart x.call z (entries_of L Written ys)) ≡ onto (entry_of L x.number x.hart x.call z (entries_of L Written xs)) (entries_of L Written ys)
+      at : (z : Note (OpWithAnswer L.M) L.M.Step) → onto (entries_of L Written xs) (entry_of L x.number x.hart x.call z (entries_of L Written ys)) ≡ onto (entry_of L x.number x.hart x.call z (entries_of L Written xs)) (entries_of L Written ys)
       at (Runs e) = refl
       at (Places y) = refl
 

@@ -2,7 +2,7 @@
 use Rattle.std.proofs.Common.{◌≡◌, ◌≢◌, ℕ, Option, List, [], ◌∷◌, ◌++◌, refl, sym, ◌∙◌, ap, subst, inl, inr, arith}
 use Rattle.std.proofs.lemmas.Bool.{eq-eqb, ne_eqb}
 use Rattle.atomic_programs.specs.Prog.{Ret, Do, Did, Waits, Ran, Stops, did_in}
-use Rattle.atomic_programs.specs.Logic.{Machine, P, Answered, PlacesOne, own, onto, oldest_first, placed_with, Good, Wp, Laws}
+use Rattle.atomic_programs.specs.Logic.{Machine, P, OpWithAnswer, PlacesOne, own, onto, oldest_first, placed_with, Good, Wp, Laws}
 use Rattle.atomic_programs.specs.Calls.{Theory, Begun, Ends, Lawful}
 use Rattle.atomic_programs.specs.Operations.{Core, IsCore, operations, IsRun, operations_of, bare, bare_calls}
 use Rattle.atomic_programs.proofs.Sound.{Wp-weaker}
@@ -18,7 +18,7 @@ operations_laws L K laws =
     }
 
 -- some run of a program
-some_run : (L : Machine) → ((op : L.Op) → L.Answer op) → {A : Type 0} (p : P L A) → (es : List (Answered L)) × (r : A) × IsRun L p es r
+some_run : (L : Machine) → ((op : L.Op) → L.Answer op) → {A : Type 0} (p : P L A) → (es : List (OpWithAnswer L)) × (r : A) × IsRun L p es r
 some_run L some (Ret a) = ([], a, refl)
 some_run L some (Do op m k) = let x = some_run L some (k (some op)) in ((op, some op) ∷ x.0, x.1, (some op, refl, x.2))
 
@@ -33,33 +33,33 @@ own_none : {A : Type 0} (g h : ℕ) (e : A) → g ≢ h → own g ((h, e) ∷ []
 own_none g h e ne = rw (ne_eqb h g (λ q. ne (sym q))) refl
 
 pub operations_places_one : (L : Machine) (K : Core L) → PlacesOne (operations L K)
-operations_places_one L K h op a m w inv = rw (own_one {A = Answered L} h (op, a)) (omega arith)
+operations_places_one L K h op a m w inv = rw (own_one {A = OpWithAnswer L} h (op, a)) (omega arith)
 
 module _ (L : Machine) (K : Core L) {A : Type 0} (whole : P L A) where
   -- after these operations, the newest first, p is what is left of the whole
-  abbrev pub OnWay : P L A → List (Answered L) → Type 0
-  OnWay p fs = (rest : List (Answered L)) (r : A) → IsRun L p rest r → IsRun L whole (onto fs rest) r
+  abbrev pub OnWay : P L A → List (OpWithAnswer L) → Type 0
+  OnWay p fs = (rest : List (OpWithAnswer L)) (r : A) → IsRun L p rest r → IsRun L whole (onto fs rest) r
 
-  abbrev pub RunBegun : List (Answered L) → Type 0
-  RunBegun fs = (rest : List (Answered L)) × (r : A) × IsRun L whole (oldest_first fs ++ rest) r
+  abbrev pub RunBegun : List (OpWithAnswer L) → Type 0
+  RunBegun fs = (rest : List (OpWithAnswer L)) × (r : A) × IsRun L whole (oldest_first fs ++ rest) r
 
-  abbrev pub RunEnds : ℕ → A → List (Answered L) → L.World → Type 0
+  abbrev pub RunEnds : ℕ → A → List (OpWithAnswer L) → L.World → Type 0
   RunEnds h r fs w = IsRun L whole (oldest_first fs) r × L.Idle h w
 
   module _ (some : (op : L.Op) → L.Answer op) (may : (h : ℕ) (op : L.Op) (w : L.World) → L.May h op w → K.May h op (K.of w)) (honest : (h : ℕ) (op : L.Op) (w : L.World) (x : L.Outside) → L.Honest h op w x → K.Honest h op (K.of w) x)
       (goes : (h : ℕ) (x : L.Outside) (op : L.Op) (m : L.Answer op → Option L.Mark) (w : L.World) → did_in K.of (L.go h x op m w) ≡ K.go h x op (K.of w)) (stops : (h : ℕ) (x : L.Outside) (op : L.Op) (t u : K.World) → K.go h x op t ≡ Stops u → u ≡ t) where
-    begun_run : (p : P L A) (fs : List (Answered L)) → OnWay p fs → RunBegun fs
-    begun_run p fs way = let x = some_run L some p in (x.0, x.1, subst (λ (zs : List (Answered L)). IsRun L whole zs x.1) (onto_rest fs [] x.0) (way x.0 x.1 x.2))
+    begun_run : (p : P L A) (fs : List (OpWithAnswer L)) → OnWay p fs → RunBegun fs
+    begun_run p fs way = let x = some_run L some p in (x.0, x.1, subst (λ (zs : List (OpWithAnswer L)). IsRun L whole zs x.1) (onto_rest fs [] x.0) (way x.0 x.1 x.2))
 
     -- whatever else is shown of a program over L, it makes its own operations one after the other
     pub follows : (h : ℕ) (B : List L.Step → Type 0) (Q : A → List L.Step → L.World → Type 0) → ((a : A) (es : List L.Step) (w : L.World) → Q a es w → L.Idle h w)
-        → (p : P L A) (n : ℕ) (es : List L.Step) (w : L.World) (fs : List (Answered L)) → OnWay p fs → Wp L h B Q p n es w → Wp (operations L K) h RunBegun (RunEnds h) p n fs w
+        → (p : P L A) (n : ℕ) (es : List L.Step) (w : L.World) (fs : List (OpWithAnswer L)) → OnWay p fs → Wp L h B Q p n es w → Wp (operations L K) h RunBegun (RunEnds h) p n fs w
     follows h B Q idle (Ret a) n es w fs way g = (way [] a refl, idle a es w g)
     follows h B Q idle (Do op m k) n es w fs way g =
         λ v xs o i. let q = g v o.1.0 o.1.1 i in (
           λ y. inl o.0,
           q.1,
-          λ x t. subst (λ (zs : List (Answered L)). Good (operations L K) (L.Answer op) h (placed_with (operations L K) h op m v) (L.more op) n RunBegun (onto zs fs) v (L.MayWait h op v) (L.go h x op m v) (λ l a u. Wp (operations L K) h RunBegun (RunEnds h) (k a) l (onto (own h ((h, (op, a)) ∷ [])) (onto zs fs)) u)) (sym o.0)
+          λ x t. subst (λ (zs : List (OpWithAnswer L)). Good (operations L K) (L.Answer op) h (placed_with (operations L K) h op m v) (L.more op) n RunBegun (onto zs fs) v (L.MayWait h op v) (L.go h x op m v) (λ l a u. Wp (operations L K) h RunBegun (RunEnds h) (k a) l (onto (own h ((h, (op, a)) ∷ [])) (onto zs fs)) u)) (sym o.0)
               (made v x (onto o.1.0 es) q.1 t (λ a l gs u then_. follows h B Q idle (k a) l gs u ((op, a) ∷ fs) (λ rest r is. way ((op, a) ∷ rest) r (a, refl, is)) then_) (L.go h x op m v) refl (q.2 x t)),
           q.3,
         )
@@ -76,10 +76,10 @@ module _ (L : Machine) (K : Core L) {A : Type 0} (whole : P L A) where
               kept = λ other ne. (own_none other h (op, a) ne, (own other (L.places h op a (m a) v), f.kept other ne));
               goes = λ y. (K.of u, (x, may h op v allowed, honest h op v x said, sym (goes h x op m v) ∙ ap (did_in K.of) is), refl);
               clean = λ y. tt;
-              begun = λ y. inr (subst (λ (zs : List (Answered L)). RunBegun (onto zs fs)) (sym (own_one h (op, a))) (begun_run (k a) ((op, a) ∷ fs) (λ rest r run. way ((op, a) ∷ rest) r (a, refl, run))));
+              begun = λ y. inr (subst (λ (zs : List (OpWithAnswer L)). RunBegun (onto zs fs)) (sym (own_one h (op, a))) (begun_run (k a) ((op, a) ∷ fs) (λ rest r run. way ((op, a) ∷ rest) r (a, refl, run))));
               left = f.left;
               falls = f.falls;
-              next = subst (λ (zs : List (Answered L)). Wp (operations L K) h RunBegun (RunEnds h) (k a) f.left (onto zs fs) u) (sym (own_one h (op, a))) (next a f.left (onto (own h (L.places h op a (m a) v)) gs) u f.next);
+              next = subst (λ (zs : List (OpWithAnswer L)). Wp (operations L K) h RunBegun (RunEnds h) (k a) f.left (onto zs fs) u) (sym (own_one h (op, a))) (next a f.left (onto (own h (L.places h op a (m a) v)) gs) u f.next);
             }
         made v x gs allowed said next (Stops u) is f =
             record { halted = f.halted; kept = λ other ne. (refl, ([], f.kept other ne)); tree = λ y. stops h x op (K.of v) (K.of u) (sym (goes h x op m v) ∙ ap (did_in K.of) is); clean = λ y. tt }

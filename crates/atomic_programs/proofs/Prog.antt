@@ -1,6 +1,6 @@
 -- Laws of programs.
 use Rattle.std.proofs.Common.{◌≡◌, Option, Some, refl, ap, ◌∙◌}
-use Rattle.atomic_programs.specs.Prog.{Prog, Ret, Do, bind, unmarked, marked, plain, Did, Waits, Ran, Stops, Moved, Ended, StillWaits, WentOn, Broke, went, advance, asks, OfNext, did_in, moved_in}
+use Rattle.atomic_programs.specs.Prog.{Prog, Ret, Do, bind, unmarked, marked, plain, Did, Waits, Ran, Stops, OperationResult, Ended, StillWaits, WentOn, Broke, went, advance, asks, OfNext, did_in, moved_in}
 
 pub bind-assoc : {Op : Type 0} {Answer : Op → Type 0} {M A B C : Type 0} (p : Prog Op Answer M A) (f : A → Prog Op Answer M B) (g : B → Prog Op Answer M C) → bind (bind p f) g ≡ bind p (λ a. bind (f a) g)
 bind-assoc (Ret a) f g = refl
@@ -22,7 +22,7 @@ asks-plain (Do op m k) = refl
 
 module _ {Op : Type 0} {Answer : Op → Type 0} {K S : Type 0} (kind : (op : Op) → Answer op → K) (exec : (op : Op) → S → Did (Answer op) S) {M A B : Type 0} where
   -- what a program moves to, in a larger one
-  abbrev pub moved_bind : (A → Prog Op Answer M B) → Moved K (Prog Op Answer M A) S → Moved K (Prog Op Answer M B) S
+  abbrev pub moved_bind : (A → Prog Op Answer M B) → OperationResult K (Prog Op Answer M A) S → OperationResult K (Prog Op Answer M B) S
   moved_bind f Ended = Ended
   moved_bind f StillWaits = StillWaits
   moved_bind f (WentOn k p s) = WentOn k (bind p f) s

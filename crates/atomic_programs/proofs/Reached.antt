@@ -3,7 +3,7 @@ use Rattle.std.proofs.Common.{◌≡◌, ℕ, Option, Some, None, Bool, true, fa
 use Rattle.atomic_programs.specs.Prog.{Ret, Do, plain, asks, OfNext}
 use Rattle.atomic_programs.specs.Logic.{P}
 use Rattle.atomic_programs.specs.Calls.{Theory, Lawful, Run, State, Event, Start, Step, Outcome, Came, HonestStep, IsHonest, AllHonest, Sound, asked, with_answer, all_asked, makes, next, run, outcomes, fresh}
-use Rattle.atomic_programs.specs.Explained.{Explained}
+use Rattle.atomic_programs.specs.Explained.{IsExplained}
 use Rattle.atomic_programs.specs.Plain.{Code, IsCode, Plain, PlainMade, plain_makes, by_kind, all_by_kind, prog_of, erase, PlainHonestStep, PlainHonest, MayOf, SoundPlain}
 use Rattle.atomic_programs.specs.Shown.{CameTo, Shown}
 use Rattle.atomic_programs.proofs.Explains.{may_make, sound_keeps, explained_by, explains}
@@ -48,7 +48,7 @@ sound_run L es s q honest =
 pub sound_fresh : (L : Theory) (w : L.M.World) → L.M.Inv w → ((h : ℕ) → L.M.Idle h w) → Sound L (fresh L w)
 sound_fresh L w inv idle = record { first = w; inv = inv; idle = idle; events = []; honest = tt; is = refl }
 
-pub sound_explained : (L : Theory) (laws : Lawful L) (s : State L) (q : Sound L s) → Explained L (L.M.tree q.first) s
+pub sound_explained : (L : Theory) (laws : Lawful L) (s : State L) (q : Sound L s) → IsExplained L (L.M.tree q.first) s
 sound_explained L laws s q = explained_by L laws (L.M.tree q.first) s (sound_keeps L laws s q)
 
 module _ (L : Theory) (C : Code L) (is : IsCode L C) where

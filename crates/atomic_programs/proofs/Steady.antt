@@ -1,13 +1,13 @@
 -- What holds of each event in any state.
 use Rattle.std.proofs.Common.{◌≡◌, ℕ, suc, Option, Some, None, Bool, true, false, List, [], ◌∷◌, ◌++◌, refl, sym, ◌∙◌, ap, append_assoc, inl, inr}
 use Rattle.atomic_programs.specs.Prog.{Ret, Do, Did, Waits, Ran, Stops}
-use Rattle.atomic_programs.specs.Logic.{P, Answered, oldest_first}
-use Rattle.atomic_programs.specs.Calls.{Theory, Began, Refuses, Begins, Run, State, Event, Start, Step, WasStopped, unchanged, moved, tried, step_prog, step_unless, step_run, begun, busy_in, start_run, makes, next, Placed, placed, start_of}
+use Rattle.atomic_programs.specs.Logic.{P, OpWithAnswer, oldest_first}
+use Rattle.atomic_programs.specs.Calls.{Theory, Began, Refuses, Begins, Run, State, Event, Start, Step, WasStopped, unchanged, moved, tried, step_prog, step_unless, step_run, begun, busy_in, start_run, makes, next, PlacedStep, placed, start_of}
 use Rattle.atomic_programs.specs.Explained.{In, is_quiet, Steady}
 use Rattle.atomic_programs.proofs.Beginnings.{append_nil, oldest_first_more}
 
 module _ (L : Theory) (s : State L) where
-  quiet_moved : (h : ℕ) (r : Run L) (did : Answered L.M) (ps : List (ℕ × L.M.Step)) (p : P L.M L.Reply) (w : L.M.World) → is_quiet (moved L h s r did ps p w).came ≡ true → (moved L h s r did ps p w).after ≡ unchanged L s
+  quiet_moved : (h : ℕ) (r : Run L) (did : OpWithAnswer L.M) (ps : List (ℕ × L.M.Step)) (p : P L.M L.Reply) (w : L.M.World) → is_quiet (moved L h s r did ps p w).came ≡ true → (moved L h s r did ps p w).after ≡ unchanged L s
   quiet_moved h r did ps (Ret reply) w q = cc
   quiet_moved h r did ps (Do op m k) w q = cc
 
@@ -70,31 +70,31 @@ module _ (L : Theory) (s : State L) where
   starts h call b (Some r) = refl
 
 -- a list with more at its end, all of one number
-record More (L : Theory) (n : ℕ) (list new : List (Placed L)) : Type 0 where
-  more : List (Placed L)
+record More (L : Theory) (n : ℕ) (list new : List (PlacedStep L)) : Type 0 where
+  more : List (PlacedStep L)
   is : oldest_first new ≡ oldest_first list ++ more
-  now : (e : Placed L) → In e more → e.number ≡ n
+  now : (e : PlacedStep L) → In e more → e.number ≡ n
 
-none_more : (L : Theory) (n : ℕ) (list : List (Placed L)) → More L n list list
+none_more : (L : Theory) (n : ℕ) (list : List (PlacedStep L)) → More L n list list
 none_more L n list = record { more = []; is = sym (append_nil (oldest_first list)); now = λ e i. absurd i }
 
-placed_more : (L : Theory) (n : ℕ) (running : ℕ → Option (Run L)) (ps : List (ℕ × L.M.Step)) (list : List (Placed L)) → More L n list (placed L n running ps list)
+placed_more : (L : Theory) (n : ℕ) (running : ℕ → Option (Run L)) (ps : List (ℕ × L.M.Step)) (list : List (PlacedStep L)) → More L n list (placed L n running ps list)
 placed_more L n running [] list = none_more L n list
 placed_more L n running (p ∷ ps) list =
-    let one : Placed L = record { number = n; hart = p.0; call = start_of L (running p.0); step = p.1 } in
+    let one : PlacedStep L = record { number = n; hart = p.0; call = start_of L (running p.0); step = p.1 } in
     let rest = placed_more L n running ps (one ∷ list) in
     record {
       more = one ∷ rest.more;
-      is = rest.is ∙ ap (λ (z : List (Placed L)). z ++ rest.more) (oldest_first_more one list) ∙ append_assoc (oldest_first list) (one ∷ []) rest.more;
+      is = rest.is ∙ ap (λ (z : List (PlacedStep L)). z ++ rest.more) (oldest_first_more one list) ∙ append_assoc (oldest_first list) (one ∷ []) rest.more;
       now = λ e i. among one rest.more refl rest.now e i;
     }
   where
-    among : (x : Placed L) (more : List (Placed L)) → x.number ≡ n → ((e : Placed L) → In e more → e.number ≡ n) → (e : Placed L) → In e (x ∷ more) → e.number ≡ n
-    among x more here all e (inl q) = ap (λ (z : Placed L). z.number) q ∙ here
+    among : (x : PlacedStep L) (more : List (PlacedStep L)) → x.number ≡ n → ((e : PlacedStep L) → In e more → e.number ≡ n) → (e : PlacedStep L) → In e (x ∷ more) → e.number ≡ n
+    among x more here all e (inl q) = ap (λ (z : PlacedStep L). z.number) q ∙ here
     among x more here all e (inr i) = all e i
 
 module _ (L : Theory) (s : State L) where
-  more_moved : (h : ℕ) (r : Run L) (did : Answered L.M) (ps : List (ℕ × L.M.Step)) (p : P L.M L.Reply) (w : L.M.World) → More L s.now s.list (moved L h s r did ps p w).after.list
+  more_moved : (h : ℕ) (r : Run L) (did : OpWithAnswer L.M) (ps : List (ℕ × L.M.Step)) (p : P L.M L.Reply) (w : L.M.World) → More L s.now s.list (moved L h s r did ps p w).after.list
   more_moved h r did ps (Ret reply) w = placed_more L s.now s.running ps s.list
   more_moved h r did ps (Do op m k) w = placed_more L s.now s.running ps s.list
 
@@ -127,7 +127,7 @@ module _ (L : Theory) (s : State L) where
   more_event (Start h call) = more_start h call (s.running h)
   more_event (Step h y) = more_run h y (s.running h)
 
-  counts_moved : (h : ℕ) (r : Run L) (did : Answered L.M) (ps : List (ℕ × L.M.Step)) (p : P L.M L.Reply) (w : L.M.World) → (moved L h s r did ps p w).after.now ≡ suc s.now
+  counts_moved : (h : ℕ) (r : Run L) (did : OpWithAnswer L.M) (ps : List (ℕ × L.M.Step)) (p : P L.M L.Reply) (w : L.M.World) → (moved L h s r did ps p w).after.now ≡ suc s.now
   counts_moved h r did ps (Ret reply) w = refl
   counts_moved h r did ps (Do op m k) w = refl
 

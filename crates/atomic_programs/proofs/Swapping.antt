@@ -5,7 +5,7 @@ use Rattle.std.specs.Prelude.{nat_eq, nat_lt, if◌then◌else◌}
 use Rattle.atomic_programs.specs.Prog.{Do, unmarked, Did, Waits, Ran}
 use Rattle.atomic_programs.specs.Logic.{own, onto, PlacesOne, Halts, Good, Wp, Safe, Laws}
 use Rattle.atomic_programs.specs.Calls.{Began, Begins, IsBeginning, Begun, Ends, Right, Lawful, Event, AllHonest, run, fresh}
-use Rattle.atomic_programs.specs.Explained.{Explained}
+use Rattle.atomic_programs.specs.Explained.{IsExplained}
 use Rattle.atomic_programs.specs.Cell.{Cell, Outside, Passes, Fails, LeavesIt, LeavesOne, failed, fetch_if, store_if, honest, may, fits, Op, Take, Fetch, Store, Drop, Answer, Step, Swapped, Saw, World, with_value, go, placed_by, if_held, own_of, Inv, IsOut, MayWait, machine, Call, Swap, Look, Refusal, P, program, begin_if, swaps}
 use Rattle.atomic_programs.proofs.Sound.{s-op}
 use Rattle.atomic_programs.proofs.Explains.{explains}
@@ -227,7 +227,7 @@ lawful = record { laws = laws; calls = λ h call busy w u holds idle free e. (le
     call_ok h (Swap j) busy w u idle free small is = right h (Swap j) busy w u idle free is (Swapped j 0 ∷ [], 0, refl) (swap_ok h j u (ltb-true j 256 small))
     call_ok h Look busy w u idle free small is = right h Look busy w u idle free is (Saw 0 ∷ [], 0, refl) (look_ok h u)
 
-pub any_run : (w : World) (events : List (Event Call Outside)) → Inv w → ((h : ℕ) → own_of h w ≡ None) → AllHonest swaps events (fresh swaps w) → Explained swaps w.value (run swaps events (fresh swaps w))
+pub any_run : (w : World) (events : List (Event Call Outside)) → Inv w → ((h : ℕ) → own_of h w ≡ None) → AllHonest swaps events (fresh swaps w) → IsExplained swaps w.value (run swaps events (fresh swaps w))
 any_run w events inv idle honest = explains swaps lawful w events inv idle honest
 
 -- the only step that an operation places is its own

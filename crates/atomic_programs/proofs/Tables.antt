@@ -5,7 +5,7 @@ use Rattle.std.proofs.lemmas.Bool.{eqb-true, eqb-false}
 use Rattle.std.proofs.lemmas.Option.{slice_get_within, get_or_from_slice_get}
 use Rattle.std.proofs.lemmas.List.{set-set}
 use Rattle.atomic_programs.specs.Calls.{Theory, Lawful, Event, Start, Step, Outcome, changed, is_some, fresh}
-use Rattle.atomic_programs.specs.Plain.{Unmarked, Code, IsCode, PlainMade, PlainHonest, PlainHonestStep, MayOf, plain_makes, hart_step, hart_start}
+use Rattle.atomic_programs.specs.Plain.{UnmarkedProgram, Code, IsCode, PlainMade, PlainHonest, PlainHonestStep, MayOf, plain_makes, hart_step, hart_start}
 use Rattle.atomic_programs.specs.Machines.{program_at, programs_in}
 use Rattle.atomic_programs.specs.Tables.{PlaceFits, plain_at, IsKept}
 use Rattle.atomic_programs.proofs.Advances.{programs_in-set, hart_steps, hart_starts}
@@ -21,7 +21,7 @@ none_at [] all (suc k) = refl
 none_at (x ∷ xs) all zero = all.0
 none_at (x ∷ xs) all (suc k) = none_at xs all.1 k
 
-module _ (L : Theory) (C : Code L) {M : Type 0} (program : M → Unmarked L) where
+module _ (L : Theory) (C : Code L) {M : Type 0} (program : M → UnmarkedProgram L) where
   -- a world at rest
   pub kept_first : (Fits : ℕ → M → Type 0) (w : L.M.World) (xs : List (Option M)) (n : ℕ) → L.M.Inv w → ((h : ℕ) → L.M.Idle h w) → AllNone xs → length xs ≡ n → IsKept L C program Fits n (C.shared w) false xs
   kept_first Fits w xs n inv idle none long =

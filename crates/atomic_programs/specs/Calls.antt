@@ -1,7 +1,7 @@
 -- A machine with its calls, and what a list of events makes of them.
 use Rattle.std.specs.Prelude.{◌≡◌, ◌≢◌, ◌⊎◌, ℕ, suc, Bool, true, false, Option, Some, None, nat_eq, if◌then◌else◌, List, [], ◌∷◌, ◌++◌}
 use Rattle.atomic_programs.specs.Prog.{Prog, Ret, Do, Did, Waits, Ran, Stops, asks, OfNext}
-use Rattle.atomic_programs.specs.Logic.{Machine, P, Answered, own, onto, oldest_first, Wp, Laws}
+use Rattle.atomic_programs.specs.Logic.{Machine, P, OpWithAnswer, own, onto, oldest_first, Wp, Laws}
 
 -- what the start of a call comes to: it is refused, or begun in a world where what the call needs is reserved for it
 pub data Began (Refusal World : Type 0) : Type 0 where
@@ -66,14 +66,14 @@ pub record Run (L : Theory) : Type 0 where
   pub done : List L.M.Step
 
 -- a placed step: the number of its event, its hart, the number of its call's start, and the step
-pub record Placed (L : Theory) : Type 0 where
+pub record PlacedStep (L : Theory) : Type 0 where
   pub number : ℕ
   pub hart : ℕ
   pub call : ℕ
   pub step : L.M.Step
 
 -- a finished call: the numbers of its start and its return, and how many steps it took
-pub record Finished (L : Theory) : Type 0 where
+pub record FinishedCall (L : Theory) : Type 0 where
   pub hart : ℕ
   pub call : L.Call
   pub start : ℕ
@@ -86,8 +86,8 @@ pub record State (L : Theory) : Type 0 where
   pub world : L.M.World
   pub stopped : Bool
   pub running : ℕ → Option (Run L)
-  pub list : List (Placed L)
-  pub finished : List (Finished L)
+  pub list : List (PlacedStep L)
+  pub finished : List (FinishedCall L)
   pub now : ℕ
 
 -- a start of a call, or a step with what the outside answers in it
@@ -128,7 +128,7 @@ pub data Outcome (Did Reply Refusal : Type 0) : Type 0 where
   WasStopped : Outcome Did Reply Refusal
 
 abbrev pub Came : Theory → Type 0
-Came L = Outcome (Answered L.M) L.Reply L.Refusal
+Came L = Outcome (OpWithAnswer L.M) L.Reply L.Refusal
 
 -- an event's outcome, and the state after it
 pub record Made (L : Theory) : Type 0 where
@@ -148,7 +148,7 @@ abbrev pub start_of : (L : Theory) → Option (Run L) → ℕ
 start_of L None = 0
 start_of L (Some r) = r.start
 
-abbrev pub placed : (L : Theory) → ℕ → (ℕ → Option (Run L)) → List (ℕ × L.M.Step) → List (Placed L) → List (Placed L)
+abbrev pub placed : (L : Theory) → ℕ → (ℕ → Option (Run L)) → List (ℕ × L.M.Step) → List (PlacedStep L) → List (PlacedStep L)
 placed L number running [] list = list
 placed L number running (p ∷ ps) list =
     placed L number running ps (record { number = number; hart = p.0; call = start_of L (running p.0); step = p.1 } ∷ list)
@@ -166,7 +166,7 @@ abbrev pub unchanged : (L : Theory) → State L → State L
 unchanged L s = record s { now = suc s.now }
 
 -- the hart's program went on to p, in this world
-abbrev pub moved : (L : Theory) → ℕ → State L → Run L → Answered L.M → List (ℕ × L.M.Step) → P L.M L.Reply → L.M.World → Made L
+abbrev pub moved : (L : Theory) → ℕ → State L → Run L → OpWithAnswer L.M → List (ℕ × L.M.Step) → P L.M L.Reply → L.M.World → Made L
 moved L h s r did ps (Ret reply) w =
     record {
       came = DidEnd reply;

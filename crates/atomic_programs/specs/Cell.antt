@@ -180,9 +180,9 @@ abbrev pub program : Call → P ℕ
 program (Swap n) = bind opened (stored_and n)
 program Look = bind (marked opened (λ x. Some (Saw x))) dropped
 
-abbrev pub Written : Call → List Step → ℕ → Type 0
-Written (Swap n) es old = es ≡ Swapped n old ∷ []
-Written Look es x = es ≡ Saw x ∷ []
+abbrev pub IsHistoryOf : Call → List Step → ℕ → Type 0
+IsHistoryOf (Swap n) es old = es ≡ Swapped n old ∷ []
+IsHistoryOf Look es x = es ≡ Saw x ∷ []
 
 abbrev pub limit_of : Call → ℕ
 limit_of (Swap n) = 4
@@ -209,7 +209,7 @@ swaps =
       start = λ h call busy w. begin_if (nat_lt h 8) (fits call) w;
       busy = Busy;
       program = program;
-      Written = Written;
+      Written = IsHistoryOf;
       limit = limit_of;
     }
 

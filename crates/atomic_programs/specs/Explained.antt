@@ -2,38 +2,38 @@
 use Rattle.std.specs.Prelude.{◌≡◌, ◌⊎◌, ℕ, ◌<◌, ◌≤◌, Bool, true, false, Option, Some, None, nat_eq, if◌then◌else◌, List, [], ◌∷◌, suc, ◌++◌, length}
 use Rattle.atomic_programs.specs.Prog.{Do, asks, OfNext}
 use Rattle.atomic_programs.specs.Logic.{P, oldest_first}
-use Rattle.atomic_programs.specs.Calls.{Theory, IsBeginning, Run, Placed, Finished, State, Event, Start, Step, Outcome, Started, Refused, WasIdle, DidWait, DidRun, DidEnd, DidStop, WasStopped, makes, next, unchanged, IsHonest}
+use Rattle.atomic_programs.specs.Calls.{Theory, IsBeginning, Run, PlacedStep, FinishedCall, State, Event, Start, Step, Outcome, Started, Refused, WasIdle, DidWait, DidRun, DidEnd, DidStop, WasStopped, makes, next, unchanged, IsHonest}
 
 abbrev pub In : {A : Type 0} → A → List A → Type 0
 In x [] = ⊥
 In x (y ∷ ys) = (x ≡ y) ⊎ In x ys
 
 -- the steps of the call that started at this number
-abbrev pub steps_of : (L : Theory) → ℕ → List (Placed L) → List L.M.Step
+abbrev pub steps_of : (L : Theory) → ℕ → List (PlacedStep L) → List L.M.Step
 steps_of L c [] = []
 steps_of L c (e ∷ es) = if nat_eq e.call c then e.step ∷ steps_of L c es else steps_of L c es
 
 -- from base the sequential object goes through the entries to t
-abbrev pub Chain : (L : Theory) → L.M.Tree → List (Placed L) → L.M.Tree → Type 0
+abbrev pub Chain : (L : Theory) → L.M.Tree → List (PlacedStep L) → L.M.Tree → Type 0
 Chain L base [] t = t ≡ base
 Chain L base (e ∷ es) t = (mid : L.M.Tree) × L.M.Takes base e.hart e.step mid × Chain L mid es t
 
 -- the numbers begin at n or above, and never fall
-abbrev pub Rising : (L : Theory) → ℕ → List (Placed L) → Type 0
-Rising L n [] = Unit {0}
-Rising L n (e ∷ es) = (n ≤ e.number) × Rising L e.number es
+abbrev pub IsRising : (L : Theory) → ℕ → List (PlacedStep L) → Type 0
+IsRising L n [] = Unit {0}
+IsRising L n (e ∷ es) = (n ≤ e.number) × IsRising L e.number es
 
 -- all that a run has placed, the oldest first
-abbrev pub history : (L : Theory) → State L → List (Placed L)
+abbrev pub history : (L : Theory) → State L → List (PlacedStep L)
 history L s = oldest_first s.list
 
 -- an entry is of a call of its hart that was started: it has finished, or is under way
-abbrev pub IsOfCall : (L : Theory) → State L → Placed L → Type 0
+abbrev pub IsOfCall : (L : Theory) → State L → PlacedStep L → Type 0
 IsOfCall L s e =
-    ((f : Finished L) × In f s.finished × (f.hart ≡ e.hart) × (f.start ≡ e.call)) ⊎ ((r : Run L) × (s.running e.hart ≡ Some r) × (r.start ≡ e.call))
+    ((f : FinishedCall L) × In f s.finished × (f.hart ≡ e.hart) × (f.start ≡ e.call)) ⊎ ((r : Run L) × (s.running e.hart ≡ Some r) × (r.start ≡ e.call))
 
 -- a hart that has a call whose next operation waits, and may
-pub record Blocked (L : Theory) (h : ℕ) (s : State L) : Type 0 where
+pub record IsBlocked (L : Theory) (h : ℕ) (s : State L) : Type 0 where
   pub call : Run L
   pub op : L.M.Op
   pub mark : L.M.Answer op → Option L.M.Mark
@@ -47,26 +47,26 @@ abbrev pub Holds : (L : Theory) → Bool → L.M.World → Type 0
 Holds L true w = L.M.Halted w
 Holds L false w = L.M.Inv w
 
-pub record Explained (L : Theory) (base : L.M.Tree) (s : State L) : Type 0 where
+pub record IsExplained (L : Theory) (base : L.M.Tree) (s : State L) : Type 0 where
   -- the entries rise in number and chain
-  pub rising : Rising L 0 (history L s)
+  pub rising : IsRising L 0 (history L s)
   pub chained : L.M.Clean s.world → Chain L base (history L s) (L.M.tree s.world)
   -- a finished call's steps are its sequence and make its reply
-  pub whole : L.M.Clean s.world → (f : Finished L) → In f s.finished → L.Written f.call (steps_of L f.start (history L s)) f.reply
+  pub whole : L.M.Clean s.world → (f : FinishedCall L) → In f s.finished → L.Written f.call (steps_of L f.start (history L s)) f.reply
   -- an unfinished call's steps are a beginning of its sequence
   pub begun : L.M.Clean s.world → (h : ℕ) (r : Run L) → s.running h ≡ Some r → IsBeginning L r.call (steps_of L r.start (history L s))
   -- no entry belongs to anything else
-  pub owned : (e : Placed L) → In e (history L s) → IsOfCall L s e
+  pub owned : (e : PlacedStep L) → In e (history L s) → IsOfCall L s e
   -- each is placed between its call's start and its return, or the last event where the call is under way
-  pub within : (f : Finished L) → In f s.finished → (e : Placed L) → In e (history L s) → e.call ≡ f.start → (f.start < e.number) × (e.number ≤ f.number)
-  pub after : (h : ℕ) (r : Run L) → s.running h ≡ Some r → (e : Placed L) → In e (history L s) → e.call ≡ r.start → (r.start < e.number) × (e.number < s.now)
+  pub within : (f : FinishedCall L) → In f s.finished → (e : PlacedStep L) → In e (history L s) → e.call ≡ f.start → (f.start < e.number) × (e.number ≤ f.number)
+  pub after : (h : ℕ) (r : Run L) → s.running h ≡ Some r → (e : PlacedStep L) → In e (history L s) → e.call ≡ r.start → (r.start < e.number) × (e.number < s.now)
   -- two calls never have one start
   pub apart : (h k : ℕ) (r q : Run L) → s.running h ≡ Some r → s.running k ≡ Some q → r.start ≡ q.start → h ≡ k
   -- no call takes more steps than its bound
-  pub bounded : (f : Finished L) → In f s.finished → f.count ≤ L.limit f.call
+  pub bounded : (f : FinishedCall L) → In f s.finished → f.count ≤ L.limit f.call
   pub bounded_yet : (h : ℕ) (r : Run L) → s.running h ≡ Some r → r.count ≤ L.limit r.call
   -- a step waits only where it may
-  pub waits : (h : ℕ) (x : L.M.Outside) → IsHonest L (Step h x) s → (makes L (Step h x) s).came ≡ DidWait → Blocked L h s
+  pub waits : (h : ℕ) (x : L.M.Outside) → IsHonest L (Step h x) s → (makes L (Step h x) s).came ≡ DidWait → IsBlocked L h s
   -- each hart's next operation may be made
   pub may : (h : ℕ) (r : Run L) → s.stopped ≡ false → s.running h ≡ Some r → OfNext (L.M.May h) (asks r.prog) s.world
   -- a hart without a call owns nothing
@@ -75,19 +75,19 @@ pub record Explained (L : Theory) (base : L.M.Tree) (s : State L) : Type 0 where
 
 -- the list of u is that of s with more at its end, all of the event that s is at
 pub record Appends (L : Theory) (s u : State L) : Type 0 where
-  pub more : List (Placed L)
+  pub more : List (PlacedStep L)
   pub is : history L u ≡ history L s ++ more
-  pub now : (e : Placed L) → In e more → e.number ≡ s.now
+  pub now : (e : PlacedStep L) → In e more → e.number ≡ s.now
 
 -- the entries of this hart
-abbrev pub of_hart : (L : Theory) → ℕ → List (Placed L) → List (Placed L)
+abbrev pub of_hart : (L : Theory) → ℕ → List (PlacedStep L) → List (PlacedStep L)
 of_hart L h [] = []
 of_hart L h (e ∷ es) = if nat_eq e.hart h then e ∷ of_hart L h es else of_hart L h es
 
 -- An event of hart h that led from s to u: what it placed leads the sequential object from where it was to where it is,
 -- and at most one step of it is the hart's own.
-pub record Led (L : Theory) (h : ℕ) (s u : State L) : Type 0 where
-  pub more : List (Placed L)
+pub record Leads (L : Theory) (h : ℕ) (s u : State L) : Type 0 where
+  pub more : List (PlacedStep L)
   pub is : history L u ≡ history L s ++ more
   pub clean : L.M.Clean u.world → L.M.Clean s.world
   pub chained : L.M.Clean u.world → Chain L (L.M.tree s.world) more (L.M.tree u.world)

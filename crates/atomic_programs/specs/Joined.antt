@@ -106,17 +106,17 @@ pub record LowerLaws (U : Machine) (R : Lower U.World) : Type 0 where
   pub idle : (h : ℕ) (w : R.World) (g : U.World) (c : R.Carry) → U.Inv g → U.Idle h g → R.Base h w g c → R.Base h w g R.none
 
 -- what an operation's program below ends with: the answer above, and what the hart has in hand after it
-pub record Handed (A C : Type 0) : Type 0 where
+pub record Handover (A C : Type 0) : Type 0 where
   pub answer : A
   pub carry : C
 
 -- a program that ends with this in hand
-abbrev pub holding : {Op : Type 0} {Answer : Op → Type 0} {M A C : Type 0} → C → Prog Op Answer M A → Prog Op Answer M (Handed A C)
+abbrev pub holding : {Op : Type 0} {Answer : Op → Type 0} {M A C : Type 0} → C → Prog Op Answer M A → Prog Op Answer M (Handover A C)
 holding c p = bind p (λ a. Ret (record { answer = a; carry = c }))
 
 -- each operation above as a program below, for a hart with this in hand
 abbrev pub Handlers : (U : Machine) → Lower U.World → Type 0
-Handlers U R = R.Carry → (op : U.Op) → (U.Answer op → Option U.Mark) → Prog R.Op R.Answer (ActOf U) (Handed (U.Answer op) R.Carry)
+Handlers U R = R.Carry → (op : U.Op) → (U.Answer op → Option U.Mark) → Prog R.Op R.Answer (ActOf U) (Handover (U.Answer op) R.Carry)
 
 -- each operation's program hands on to the next one's what is in hand
 abbrev pub lowered : (U : Machine) (R : Lower U.World) → Handlers U R → {A : Type 0} → R.Carry → P U A → Prog R.Op R.Answer (ActOf U) A
@@ -124,7 +124,7 @@ lowered U R handler c (Ret a) = Ret a
 lowered U R handler c (Do op m k) = bind (handler c op m) (λ r. lowered U R handler r.carry (k r.answer))
 
 -- C holds above, and the hart has below what it has between two operations, with what the program hands on
-abbrev pub Below : (U : Machine) (R : Lower U.World) → {A : Type 0} → ℕ → (A → List U.Step → U.World → Type 0) → Handed A R.Carry → List U.Step → Both R.World U.World → Type 0
+abbrev pub Below : (U : Machine) (R : Lower U.World) → {A : Type 0} → ℕ → (A → List U.Step → U.World → Type 0) → Handover A R.Carry → List U.Step → Both R.World U.World → Type 0
 Below U R h C r es w = C r.answer es w.seen × R.Base h w.real w.seen r.carry
 
 -- the same at the end of a whole program, whatever it leaves in hand, in a world above that holds

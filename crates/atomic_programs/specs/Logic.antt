@@ -45,8 +45,8 @@ abbrev pub P : Machine → Type 0 → Type 0
 P L A = Prog L.Op L.Answer L.Mark A
 
 -- an operation with its answer
-abbrev pub Answered : Machine → Type 0
-Answered L = (op : L.Op) × L.Answer op
+abbrev pub OpWithAnswer : Machine → Type 0
+OpWithAnswer L = (op : L.Op) × L.Answer op
 
 -- the steps that are hart j's
 abbrev pub own : {A : Type 0} → ℕ → List (ℕ × A) → List A

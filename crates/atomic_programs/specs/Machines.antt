@@ -1,11 +1,11 @@
 -- Machines in code: each value stands for the program that is left, without marks.
 use Rattle.std.specs.Prelude.{◌≡◌, ℕ, Option, Some, None, List, get_or}
-use Rattle.atomic_programs.specs.Prog.{Prog, Ret, Did, Waits as ItWaits, Ran as ItRan, Stops, Moved, StillWaits, WentOn, Broke}
+use Rattle.atomic_programs.specs.Prog.{Prog, Ret, Did, Waits as ItWaits, Ran as ItRan, Stops, OperationResult, StillWaits, WentOn, Broke}
 use Rattle.atomic_programs.specs.declared.machines.Stepped.{Stepped}
 use Rattle.atomic_programs.specs.declared.machines.Stepped.TheVariants.{Waits, Ran, Done, Stopped}
 
 -- where a step of a machine leads, as a program; its result stands for what the program returns
-abbrev pub moved_to : {M R K A S Op : Type 0} {Answer : Op → Type 0} → (M → Prog Op Answer ⊥ A) → (R → A) → Stepped M R K → S → Moved K (Prog Op Answer ⊥ A) S
+abbrev pub moved_to : {M R K A S Op : Type 0} {Answer : Op → Type 0} → (M → Prog Op Answer ⊥ A) → (R → A) → Stepped M R K → S → OperationResult K (Prog Op Answer ⊥ A) S
 moved_to program result (Waits m) s = StillWaits
 moved_to program result (Ran m kind) s = WentOn kind (program m) s
 moved_to program result (Done a kind) s = WentOn kind (Ret (result a)) s

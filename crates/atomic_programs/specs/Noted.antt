@@ -1,27 +1,27 @@
 -- Layers, event by event: the operations below as they run, and among them those above as they act.
 use Rattle.std.specs.Prelude.{◌≡◌, ◌⊎◌, ℕ, List, [], ◌∷◌}
 use Rattle.atomic_programs.specs.Prog.{Ret, Do}
-use Rattle.atomic_programs.specs.Logic.{Machine, P, Answered}
-use Rattle.atomic_programs.specs.Calls.{Theory, Placed, Event, AllHonest, outcomes, run, fresh}
+use Rattle.atomic_programs.specs.Logic.{Machine, P, OpWithAnswer}
+use Rattle.atomic_programs.specs.Calls.{Theory, PlacedStep, Event, AllHonest, outcomes, run, fresh}
 use Rattle.atomic_programs.specs.Explained.{history}
 use Rattle.atomic_programs.specs.Joined.{Lower, joined, Handlers}
 use Rattle.atomic_programs.specs.Lowered.{Starts, lowered_calls}
 use Rattle.atomic_programs.specs.Operations.{Core, operations, operations_of}
 
 -- An operation ran, with its answer; or a step was placed.
-pub data Noted (E S : Type 0) : Type 0 where
-  Runs : E → Noted E S
-  Places : S → Noted E S
+pub data Note (E S : Type 0) : Type 0 where
+  Runs : E → Note E S
+  Places : S → Note E S
 
 abbrev pub Notes : Machine → Type 0
-Notes L = List (Noted (Answered L) L.Step)
+Notes L = List (Note (OpWithAnswer L) L.Step)
 
-abbrev pub noted_steps : {E S : Type 0} → List (ℕ × S) → List (ℕ × Noted E S)
+abbrev pub noted_steps : {E S : Type 0} → List (ℕ × S) → List (ℕ × Note E S)
 noted_steps [] = []
 noted_steps (p ∷ ps) = (p.0, Places p.1) ∷ noted_steps ps
 
 -- that an operation ran changes nothing
-abbrev pub TakesNoted : (L : Machine) → L.Tree → ℕ → Noted (Answered L) L.Step → L.Tree → Type 0
+abbrev pub TakesNoted : (L : Machine) → L.Tree → ℕ → Note (OpWithAnswer L) L.Step → L.Tree → Type 0
 TakesNoted L t h (Runs e) u = u ≡ t
 TakesNoted L t h (Places x) u = L.Takes t h x u
 
@@ -33,7 +33,7 @@ noted L =
       Op = L.Op;
       Answer = L.Answer;
       Mark = L.Mark;
-      Step = Noted (Answered L) L.Step;
+      Step = Note (OpWithAnswer L) L.Step;
       World = L.World;
       Tree = L.Tree;
       more = L.more;
@@ -88,12 +88,12 @@ abbrev pub noted_calls : (T : Theory) (K : Core T.M) (R : Lower T.M.World) → H
 noted_calls T K R handler begin = with_notes (lowered_calls (operations_of T K) R handler begin) (λ call es r. IsWhole T.M K R handler R.none (T.program call) es r)
 
 -- an entry, where it is of a step that was placed
-abbrev pub entry_of : (L : Theory) → ℕ → ℕ → ℕ → Noted (Answered L.M) L.M.Step → List (Placed L) → List (Placed L)
+abbrev pub entry_of : (L : Theory) → ℕ → ℕ → ℕ → Note (OpWithAnswer L.M) L.M.Step → List (PlacedStep L) → List (PlacedStep L)
 entry_of L number hart call (Runs e) es = es
 entry_of L number hart call (Places x) es = record { number = number; hart = hart; call = call; step = x } ∷ es
 
 -- the entries of the steps that were placed
-abbrev pub entries_of : (L : Theory) (Written : L.Call → Notes L.M → L.Reply → Type 0) → List (Placed (with_notes L Written)) → List (Placed L)
+abbrev pub entries_of : (L : Theory) (Written : L.Call → Notes L.M → L.Reply → Type 0) → List (PlacedStep (with_notes L Written)) → List (PlacedStep L)
 entries_of L Written [] = []
 entries_of L Written (e ∷ es) = entry_of L e.number e.hart e.call e.step (entries_of L Written es)
 

@@ -1,7 +1,7 @@
 -- A machine whose steps are its own operations, each with its answer: what is explained by them is a run of the machine itself.
 use Rattle.std.specs.Prelude.{◌≡◌, ℕ, Bool, Option, List, [], ◌∷◌}
 use Rattle.atomic_programs.specs.Prog.{Ret, Do, Did, Ran, Stops, did_in}
-use Rattle.atomic_programs.specs.Logic.{Machine, P, Answered}
+use Rattle.atomic_programs.specs.Logic.{Machine, P, OpWithAnswer}
 use Rattle.atomic_programs.specs.Calls.{Theory, Begins}
 
 -- What is left of a machine's world where all that starts reserve, and that marks change, is left out; and what the
@@ -30,7 +30,7 @@ pub record IsCore (T : Theory) (K : Core T.M) : Type 0 where
   pub some : (op : T.M.Op) → T.M.Answer op
 
 -- the operation was made here by this hart, where it may be, and answered so
-abbrev pub Makes : (L : Machine) (K : Core L) → K.World → ℕ → Answered L → K.World → Type 0
+abbrev pub Makes : (L : Machine) (K : Core L) → K.World → ℕ → OpWithAnswer L → K.World → Type 0
 Makes L K t h e u = (x : L.Outside) × K.May h e.0 t × K.Honest h e.0 t x × (K.go h x e.0 t ≡ Ran e.1 u)
 
 abbrev pub operations : (L : Machine) → Core L → Machine
@@ -39,7 +39,7 @@ operations L K =
       Op = L.Op;
       Answer = L.Answer;
       Mark = L.Mark;
-      Step = Answered L;
+      Step = OpWithAnswer L;
       World = L.World;
       Tree = K.World;
       more = L.more;
@@ -59,7 +59,7 @@ operations L K =
     }
 
 -- these operations with their answers, the oldest first, are a run of the program that ends with r
-abbrev pub IsRun : (L : Machine) → {A : Type 0} → P L A → List (Answered L) → A → Type 0
+abbrev pub IsRun : (L : Machine) → {A : Type 0} → P L A → List (OpWithAnswer L) → A → Type 0
 IsRun L (Ret a) [] r = a ≡ r
 IsRun L (Ret a) (e ∷ es) r = ⊥
 IsRun L (Do op m k) [] r = ⊥

@@ -4,8 +4,8 @@ use Rattle.atomic_programs.specs.Prog.{Prog, Ret, Do, plain, Did, Waits, Ran, St
 use Rattle.atomic_programs.specs.Calls.{Theory, Began, Refuses, Begins, Run, State, Sound, Event, Start, Step, Outcome, Started, Refused, WasIdle, DidWait, DidRun, DidEnd, DidStop, WasStopped, Came, changed, is_some}
 
 -- a call's program as code knows it: without marks
-abbrev pub Unmarked : Theory → Type 0
-Unmarked L = Prog L.M.Op L.M.Answer ⊥ L.Reply
+abbrev pub UnmarkedProgram : Theory → Type 0
+UnmarkedProgram L = Prog L.M.Op L.M.Answer ⊥ L.Reply
 
 -- what the code has of a theory's world, what an operation and a start make of it, and of which kind an operation with
 -- its answer is
@@ -34,7 +34,7 @@ pub record IsCode (L : Theory) (C : Code L) : Type 0 where
 pub record Plain (L : Theory) (C : Code L) : Type 0 where
   pub shared : C.Shared
   pub stopped : Bool
-  pub running : ℕ → Option (Unmarked L)
+  pub running : ℕ → Option (UnmarkedProgram L)
 
 pub record PlainMade (L : Theory) (C : Code L) : Type 0 where
   pub came : Outcome C.Kind L.Reply L.Refusal
@@ -52,26 +52,26 @@ module _ (L : Theory) (C : Code L) where
   by_kind DidStop = DidStop
   by_kind WasStopped = WasStopped
 
-  abbrev pub plain_moved : ℕ → Plain L C → C.Kind → Unmarked L → C.Shared → PlainMade L C
+  abbrev pub plain_moved : ℕ → Plain L C → C.Kind → UnmarkedProgram L → C.Shared → PlainMade L C
   plain_moved h s kind (Ret reply) t =
       record { came = DidEnd reply; after = record { shared = t; stopped = s.stopped; running = changed s.running h None } }
   plain_moved h s kind (Do op m k) t =
       record { came = DidRun kind; after = record { shared = t; stopped = s.stopped; running = changed s.running h (Some (Do op m k)) } }
 
-  abbrev pub plain_tried : ℕ → Plain L C → (op : L.M.Op) → (L.M.Answer op → Unmarked L) → Did (L.M.Answer op) C.Shared → PlainMade L C
+  abbrev pub plain_tried : ℕ → Plain L C → (op : L.M.Op) → (L.M.Answer op → UnmarkedProgram L) → Did (L.M.Answer op) C.Shared → PlainMade L C
   plain_tried h s op k Waits = record { came = DidWait; after = s }
   plain_tried h s op k (Ran a t) = plain_moved h s (C.kind op a) (k a) t
   plain_tried h s op k (Stops t) = record { came = DidStop; after = record { shared = t; stopped = true; running = s.running } }
 
-  abbrev pub plain_prog : ℕ → L.M.Outside → Plain L C → Unmarked L → PlainMade L C
+  abbrev pub plain_prog : ℕ → L.M.Outside → Plain L C → UnmarkedProgram L → PlainMade L C
   plain_prog h x s (Ret reply) = record { came = WasIdle; after = s }
   plain_prog h x s (Do op m k) = plain_tried h s op k (C.exec h x op s.shared)
 
-  abbrev pub plain_unless : ℕ → L.M.Outside → Plain L C → Bool → Unmarked L → PlainMade L C
+  abbrev pub plain_unless : ℕ → L.M.Outside → Plain L C → Bool → UnmarkedProgram L → PlainMade L C
   plain_unless h x s true p = record { came = WasStopped; after = s }
   plain_unless h x s false p = plain_prog h x s p
 
-  abbrev pub plain_step : ℕ → L.M.Outside → Plain L C → Option (Unmarked L) → PlainMade L C
+  abbrev pub plain_step : ℕ → L.M.Outside → Plain L C → Option (UnmarkedProgram L) → PlainMade L C
   plain_step h x s None = record { came = WasIdle; after = s }
   plain_step h x s (Some p) = plain_unless h x s s.stopped p
 
@@ -80,7 +80,7 @@ module _ (L : Theory) (C : Code L) where
   plain_begun h call s (Begins t) =
       record { came = Started; after = record { shared = t; stopped = s.stopped; running = changed s.running h (Some (plain (L.program call))) } }
 
-  abbrev pub plain_start : ℕ → L.Call → Plain L C → Option (Unmarked L) → PlainMade L C
+  abbrev pub plain_start : ℕ → L.Call → Plain L C → Option (UnmarkedProgram L) → PlainMade L C
   plain_start h call s (Some p) = record { came = Refused L.busy; after = s }
   plain_start h call s None = plain_begun h call s (C.begin h call (λ j. is_some (s.running j)) s.shared)
 
@@ -102,7 +102,7 @@ module _ (L : Theory) (C : Code L) where
   all_by_kind [] = []
   all_by_kind (c ∷ cs) = by_kind c ∷ all_by_kind cs
 
-  abbrev pub prog_of : Option (Run L) → Option (Unmarked L)
+  abbrev pub prog_of : Option (Run L) → Option (UnmarkedProgram L)
   prog_of None = None
   prog_of (Some r) = Some (plain r.prog)
 
@@ -111,7 +111,7 @@ module _ (L : Theory) (C : Code L) where
   erase s = record { shared = C.shared s.world; stopped = s.stopped; running = λ h. prog_of (s.running h) }
 
   -- what the code says of the outside's answer in this event
-  abbrev pub PlainHonestStep : ℕ → L.M.Outside → C.Shared → Bool → Option (Unmarked L) → Type 0
+  abbrev pub PlainHonestStep : ℕ → L.M.Outside → C.Shared → Bool → Option (UnmarkedProgram L) → Type 0
   PlainHonestStep h x t true p = Unit {0}
   PlainHonestStep h x t false None = Unit {0}
   PlainHonestStep h x t false (Some p) = OfNext (λ op v. C.honest h op v x) (asks p) t
@@ -121,7 +121,7 @@ module _ (L : Theory) (C : Code L) where
   PlainHonest (Step h x) s = PlainHonestStep h x s.shared s.stopped (s.running h)
 
   -- what the code asks of the state, where this is the hart's program
-  abbrev pub MayOf : ℕ → C.Shared → Option (Unmarked L) → Type 0
+  abbrev pub MayOf : ℕ → C.Shared → Option (UnmarkedProgram L) → Type 0
   MayOf h t None = Unit {0}
   MayOf h t (Some p) = OfNext (C.may h) (asks p) t
 
@@ -134,24 +134,24 @@ module _ (L : Theory) (C : Code L) where
   -- one hart's step as the hart sees it: its outcome, its program afterwards, the shared state, and whether the world stopped
   pub record HartMade : Type 0 where
     pub came : Outcome C.Kind L.Reply L.Refusal
-    pub left : Option (Unmarked L)
+    pub left : Option (UnmarkedProgram L)
     pub shared : C.Shared
     pub stopped : Bool
 
-  abbrev pub hart_moved : Bool → C.Kind → Unmarked L → C.Shared → HartMade
+  abbrev pub hart_moved : Bool → C.Kind → UnmarkedProgram L → C.Shared → HartMade
   hart_moved b kind (Ret reply) t = record { came = DidEnd reply; left = None; shared = t; stopped = b }
   hart_moved b kind (Do op m k) t = record { came = DidRun kind; left = Some (Do op m k); shared = t; stopped = b }
 
-  abbrev pub hart_tried : Unmarked L → C.Shared → (op : L.M.Op) → (L.M.Answer op → Unmarked L) → Did (L.M.Answer op) C.Shared → HartMade
+  abbrev pub hart_tried : UnmarkedProgram L → C.Shared → (op : L.M.Op) → (L.M.Answer op → UnmarkedProgram L) → Did (L.M.Answer op) C.Shared → HartMade
   hart_tried p t op k Waits = record { came = DidWait; left = Some p; shared = t; stopped = false }
   hart_tried p t op k (Ran a u) = hart_moved false (C.kind op a) (k a) u
   hart_tried p t op k (Stops u) = record { came = DidStop; left = Some p; shared = u; stopped = true }
 
-  abbrev pub hart_prog : ℕ → L.M.Outside → C.Shared → Unmarked L → HartMade
+  abbrev pub hart_prog : ℕ → L.M.Outside → C.Shared → UnmarkedProgram L → HartMade
   hart_prog h x t (Ret reply) = record { came = WasIdle; left = Some (Ret reply); shared = t; stopped = false }
   hart_prog h x t (Do op m k) = hart_tried (Do op m k) t op k (C.exec h x op t)
 
-  abbrev pub hart_step : ℕ → L.M.Outside → C.Shared → Bool → Option (Unmarked L) → HartMade
+  abbrev pub hart_step : ℕ → L.M.Outside → C.Shared → Bool → Option (UnmarkedProgram L) → HartMade
   hart_step h x t b None = record { came = WasIdle; left = None; shared = t; stopped = b }
   hart_step h x t true (Some p) = record { came = WasStopped; left = Some p; shared = t; stopped = true }
   hart_step h x t false (Some p) = hart_prog h x t p
@@ -161,7 +161,7 @@ module _ (L : Theory) (C : Code L) where
   hart_begun call t b (Begins u) = record { came = Started; left = Some (plain (L.program call)); shared = u; stopped = b }
 
   -- a start, the same way
-  abbrev pub hart_start : ℕ → L.Call → (ℕ → Bool) → C.Shared → Bool → Option (Unmarked L) → HartMade
+  abbrev pub hart_start : ℕ → L.Call → (ℕ → Bool) → C.Shared → Bool → Option (UnmarkedProgram L) → HartMade
   hart_start h call busy t b None = hart_begun call t b (C.begin h call busy t)
   hart_start h call busy t b (Some p) = record { came = Refused L.busy; left = Some p; shared = t; stopped = b }
 

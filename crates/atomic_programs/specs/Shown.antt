@@ -1,8 +1,8 @@
 -- What a run of the code comes to.
 use Rattle.std.specs.Prelude.{◌≡◌, List}
 use Rattle.atomic_programs.specs.Calls.{Theory, State, Event, Outcome, AllHonest, all_asked, run, outcomes, fresh}
-use Rattle.atomic_programs.specs.Explained.{Explained, In}
-use Rattle.atomic_programs.specs.Trace.{Traced, happened}
+use Rattle.atomic_programs.specs.Explained.{IsExplained, In}
+use Rattle.atomic_programs.specs.Trace.{IsTraced, happened}
 use Rattle.atomic_programs.specs.Plain.{Code, Plain, erase, all_by_kind}
 
 module _ (L : Theory) (C : Code L) where
@@ -18,5 +18,5 @@ module _ (L : Theory) (C : Code L) where
   -- the same from a world at rest, where one list of steps explains the replies, which are those that were given
   pub record Shown (first : L.M.World) (asks : List (Event L.Call (Unit {0}))) (came : List (Outcome C.Kind L.Reply L.Refusal)) (p : Plain L C) : Type 0 where
     pub to : CameTo (fresh L first) asks came p
-    pub explained : Explained L (L.M.tree first) (run L to.events (fresh L first))
-    pub traced : Traced L (λ x. In x (happened L to.events (fresh L first))) (run L to.events (fresh L first))
+    pub explained : IsExplained L (L.M.tree first) (run L to.events (fresh L first))
+    pub traced : IsTraced L (λ x. In x (happened L to.events (fresh L first))) (run L to.events (fresh L first))

@@ -1,7 +1,7 @@
 -- A table of machines, a place for each hart, over the state that the code has.
 use Rattle.std.specs.Prelude.{◌≡◌, ℕ, Bool, Option, Some, None, List, length, get_or}
 use Rattle.atomic_programs.specs.Calls.{Theory}
-use Rattle.atomic_programs.specs.Plain.{Unmarked, Code, Plain, SoundPlain}
+use Rattle.atomic_programs.specs.Plain.{UnmarkedProgram, Code, Plain, SoundPlain}
 use Rattle.atomic_programs.specs.Machines.{programs_in}
 
 -- what a machine's own values keep, of a place of the table
@@ -9,7 +9,7 @@ abbrev pub PlaceFits : {M : Type 0} → (ℕ → M → Type 0) → ℕ → Optio
 PlaceFits Fits h None = Unit {0}
 PlaceFits Fits h (Some m) = Fits h m
 
-module _ (L : Theory) (C : Code L) {M : Type 0} (program : M → Unmarked L) where
+module _ (L : Theory) (C : Code L) {M : Type 0} (program : M → UnmarkedProgram L) where
   -- the table as programs
   abbrev pub plain_at : C.Shared → Bool → List (Option M) → Plain L C
   plain_at t b calls = record { shared = t; stopped = b; running = programs_in program calls }

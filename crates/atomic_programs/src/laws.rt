@@ -2,15 +2,15 @@
 //! project to use at its own theory, and each function here carries one of them at an example of this crate.
 
 ghost use Rattle.std.specs.Prelude.{◌≡◌, ℕ, ◌∷◌, [], List, Option, None, true, false};
-ghost use Rattle.atomic_programs.specs.Calls.{Event, Start, Step, Finished, Placed, Outcome, Started, Refused, WasIdle, DidWait, DidRun, DidEnd, DidStop, WasStopped, State, next, run, outcomes, fresh, hart_of, IsHonest, AllHonest, Sound};
-ghost use Rattle.atomic_programs.specs.Explained.{Explained, Led, Steady, In, history};
-ghost use Rattle.atomic_programs.specs.Trace.{Traced, happened};
+ghost use Rattle.atomic_programs.specs.Calls.{Event, Start, Step, FinishedCall, PlacedStep, Outcome, Started, Refused, WasIdle, DidWait, DidRun, DidEnd, DidStop, WasStopped, State, next, run, outcomes, fresh, hart_of, IsHonest, AllHonest, Sound};
+ghost use Rattle.atomic_programs.specs.Explained.{IsExplained, Leads, Steady, In, history};
+ghost use Rattle.atomic_programs.specs.Trace.{IsTraced, happened};
 ghost use Rattle.atomic_programs.specs.Cell as cell;
 
 /// Over every list of events, from any world that holds and where every hart is idle, the cell's replies are explained by
 /// one list of steps.
 pub fn cell_explained()
-    ensures { (w : cell.World) (events : List (Event cell.Call cell.Outside)) → cell.Inv w → ((h : ℕ) → cell.own_of h w ≡ None) → AllHonest cell.swaps events (fresh cell.swaps w) → Explained cell.swaps w.value (run cell.swaps events (fresh cell.swaps w)) }
+    ensures { (w : cell.World) (events : List (Event cell.Call cell.Outside)) → cell.Inv w → ((h : ℕ) → cell.own_of h w ≡ None) → AllHonest cell.swaps events (fresh cell.swaps w) → IsExplained cell.swaps w.value (run cell.swaps events (fresh cell.swaps w)) }
 {}
 
 /// A step that waits, a refused start and a step in a stopped world change nothing; a stopped world stays stopped, and
@@ -22,13 +22,13 @@ pub fn cell_steady()
 /// The calls that have finished or are under way are just those that the events with their outcomes show: each reply that was
 /// given is a finished call's, and each of these was started and gave its reply.
 pub fn cell_traced()
-    ensures { (w : cell.World) (events : List (Event cell.Call cell.Outside)) → Traced cell.swaps (λ x. In x (happened cell.swaps events (fresh cell.swaps w))) (run cell.swaps events (fresh cell.swaps w)) }
+    ensures { (w : cell.World) (events : List (Event cell.Call cell.Outside)) → IsTraced cell.swaps (λ x. In x (happened cell.swaps events (fresh cell.swaps w))) (run cell.swaps events (fresh cell.swaps w)) }
 {}
 
 /// What each event places leads from the number before it to the one after it, and at most one step of it is the event's own
 /// hart's.
 pub fn cell_leads()
-    ensures { (s : State cell.swaps) (e : Event cell.Call cell.Outside) → Sound cell.swaps s → IsHonest cell.swaps e s → Led cell.swaps (hart_of e) s (next cell.swaps e s) }
+    ensures { (s : State cell.swaps) (e : Event cell.Call cell.Outside) → Sound cell.swaps s → IsHonest cell.swaps e s → Leads cell.swaps (hart_of e) s (next cell.swaps e s) }
 {}
 
 /// There are worlds that hold and where every hart is idle: any byte, on a device that has failed so often.

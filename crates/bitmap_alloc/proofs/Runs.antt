@@ -9,11 +9,11 @@ use Rattle.fs_machine.specs.Programs.{fetch, read_unless}
 use Rattle.bitmap_alloc.specs.First.{first_clear_below}
 use Rattle.bitmap_alloc.specs.Bytes.{marked_by, without_bit, zeros}
 use Rattle.bitmap_alloc.specs.Programs.{give_zeros, zero_block, zero_found, take_first, clear_bit}
-use Rattle.bitmap_alloc.specs.Laws.{Answering, outcome, recorded, fetched, Takes, TakesTheFirst, FreesByTheBitmap}
+use Rattle.bitmap_alloc.specs.Laws.{Oracle, outcome, recorded, fetched, Takes, TakesTheFirst, FreesByTheBitmap}
 use Rattle.bitmap_alloc.proofs.First.{FirstIs, first_is}
 
 -- a fetch records nothing, and goes on with the bytes that were fetched
-fetch_then : {A : Type 0} (answer : Answering) (n b : ℕ) (k : List ℕ → P A) (Q : List (ℕ × List ℕ) → A → Type 0)
+fetch_then : {A : Type 0} (answer : Oracle) (n b : ℕ) (k : List ℕ → P A) (Q : List (ℕ × List ℕ) → A → Type 0)
     → ((m : ℕ) → Q (recorded answer m (k (fetched answer n b))) (outcome answer m (k (fetched answer n b))))
     → Q (recorded answer n (bind (fetch b) k)) (outcome answer n (bind (fetch b) k))
 fetch_then answer n b k Q =
@@ -22,7 +22,7 @@ fetch_then answer n b k Q =
     → Q (recorded answer (n + 1) (bind (read_unless b o) k)) (outcome answer (n + 1) (bind (read_unless b o) k)))
     [ Some bytes ↦ λ each. each (n + 1) | None ↦ λ each. each (n + 1 + 1) ]
 
-zeros_then : (answer : Answering) (n b : ℕ) → let p : P (Option ℕ) = zero_block b in (recorded answer n p ≡ (b, zeros) ∷ []) × (outcome answer n p ≡ Some b)
+zeros_then : (answer : Oracle) (n b : ℕ) → let p : P (Option ℕ) = zero_block b in (recorded answer n p ≡ (b, zeros) ∷ []) × (outcome answer n p ≡ Some b)
 zeros_then answer n b = fetch_then answer n b (give_zeros b) (λ changes a. (changes ≡ (b, zeros) ∷ []) × (a ≡ Some b)) (λ m. (refl, refl))
 
 is_set : (v : Bool) → not v ≡ false → v ≡ true
@@ -33,7 +33,7 @@ is_clear : (v : Bool) → not v ≡ true → v ≡ false
 is_clear true e = cc
 is_clear false e = refl
 
-first_then : (answer : Answering) (m at size : ℕ) (bitmap : List ℕ)
+first_then : (answer : Oracle) (m at size : ℕ) (bitmap : List ℕ)
     → let p : P (Option ℕ) = take_first at size bitmap in Takes at size bitmap (recorded answer m p) (outcome answer m p)
 unfolding first_clear_below
 first_then answer m at size bitmap = go (first_clear_below size bitmap) (first_is (λ b. not (bit_of bitmap b)) size)

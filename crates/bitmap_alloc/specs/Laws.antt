@@ -9,11 +9,11 @@ use Rattle.bitmap_alloc.specs.Bytes.{with_bit, without_bit, zeros}
 use Rattle.bitmap_alloc.specs.Programs.{take_block, free_block}
 
 -- what an operation answers, after so many others
-abbrev pub Answering : Type 0
-Answering = ℕ → (op : Op) → Answer op
+abbrev pub Oracle : Type 0
+Oracle = ℕ → (op : Op) → Answer op
 
 -- what a program ends with
-abbrev pub outcome : {A : Type 0} → Answering → ℕ → P A → A
+abbrev pub outcome : {A : Type 0} → Oracle → ℕ → P A → A
 outcome answer n (Ret a) = a
 outcome answer n (Do op m k) = outcome answer (n + 1) (k (answer n op))
 
@@ -23,12 +23,12 @@ recording (Put b (Some bytes)) = (b, bytes) ∷ []
 recording _ = []
 
 -- what a program records, the first first
-abbrev pub recorded : {A : Type 0} → Answering → ℕ → P A → List (ℕ × List ℕ)
+abbrev pub recorded : {A : Type 0} → Oracle → ℕ → P A → List (ℕ × List ℕ)
 recorded answer n (Ret a) = []
 recorded answer n (Do op m k) = recording op ++ recorded answer (n + 1) (k (answer n op))
 
 -- the bytes that are fetched after so many operations
-abbrev pub fetched : Answering → ℕ → ℕ → List ℕ
+abbrev pub fetched : Oracle → ℕ → ℕ → List ℕ
 fetched answer n b = unwrap_or (answer n (Get b)) (answer (n + 1) (Read b))
 
 -- No bit below the size is clear and nothing is recorded; or the first clear bit is found, and recorded are the bitmap with it set, and the block with zeros.
@@ -38,11 +38,11 @@ Takes at size bitmap changes (Some b) = (b < size) × (bit_of bitmap b ≡ false
 
 -- so a block is taken
 abbrev pub TakesTheFirst : Type 0
-TakesTheFirst = (answer : Answering) (at size : ℕ) → Takes at size (fetched answer 0 at) (recorded answer 0 (take_block at size)) (outcome answer 0 (take_block at size))
+TakesTheFirst = (answer : Oracle) (at size : ℕ) → Takes at size (fetched answer 0 at) (recorded answer 0 (take_block at size)) (outcome answer 0 (take_block at size))
 
 -- a block is given back by the bitmap alone
 abbrev pub FreesByTheBitmap : Type 0
-FreesByTheBitmap = (answer : Answering) (at b : ℕ) → recorded answer 0 (free_block at b) ≡ (at, without_bit b (fetched answer 0 at)) ∷ []
+FreesByTheBitmap = (answer : Oracle) (at b : ℕ) → recorded answer 0 (free_block at b) ≡ (at, without_bit b (fetched answer 0 at)) ∷ []
 
 -- of the bits, that one is set and no other changed
 abbrev pub SetsOneBit : Type 0

@@ -4,7 +4,7 @@ use Rattle.fs_layout.specs.declared.superblock.Super.{Super}
 use Rattle.fs_layout.specs.Inode.{dinode_at}
 use Rattle.plain_tree.specs.declared.answer.Reply.{Reply}
 use Rattle.atomic_programs.specs.Prog.{Do, bind, plain, unmarked}
-use Rattle.atomic_programs.specs.Joined.{Handed, lowered}
+use Rattle.atomic_programs.specs.Joined.{Handover, lowered}
 use Rattle.atomic_programs.proofs.Prog.{bind-assoc}
 use Rattle.fs_machine.specs.Machines as code
 use Rattle.fs_machine.specs.Programs.{fetch}
@@ -28,14 +28,14 @@ use Rattle.calls_on_blocks.proofs.Pieces.{left_below, plain_fetch}
 use Rattle.calls_on_blocks.proofs.Searches.{after_plain}
 
 -- what the code is told
-abbrev pub made_as : above.Claimed → Made
+abbrev pub made_as : above.ClaimResult → Made
 made_as (above.New n) = made.Inode n
 made_as above.NoInode = made.NoInode
 made_as above.NoPlace = made.NoPlace
 
 -- so many blocks looked through, with what comes after that
-plain_claim : {A : Type 0} (n : ℕ) (sizes : Super) (sort : Sort) (c : Carry) (m : above.Claimed → Option above.Mark) (q : ℕ) (k : Handed above.Claimed Carry → P A) (j : Made → code.P A)
-    → ((a : above.Claimed) → plain (k (record { answer = a; carry = c })) ≡ j (made_as a)) → plain (bind (claim_from n sizes sort c m q) k) ≡ bind (new_from n (kind_of sort) sizes q) j
+plain_claim : {A : Type 0} (n : ℕ) (sizes : Super) (sort : Sort) (c : Carry) (m : above.ClaimResult → Option above.Mark) (q : ℕ) (k : Handover above.ClaimResult Carry → P A) (j : Made → code.P A)
+    → ((a : above.ClaimResult) → plain (k (record { answer = a; carry = c })) ≡ j (made_as a)) → plain (bind (claim_from n sizes sort c m q) k) ≡ bind (new_from n (kind_of sort) sizes q) j
 unfolding claim_from new_from
 plain_claim zero sizes sort c m q k j same = same above.NoInode
 plain_claim {A} (suc n) sizes sort c m q k j same =
@@ -45,13 +45,13 @@ plain_claim {A} (suc n) sizes sort c m q k j same =
     (λ bytes i. Do (steps.Claim b (free_in sizes.ninodes q bytes)) unmarked (λ a. looked bytes rest a i))
     ∙ sym (bind-assoc (fetch b) (look_in (new_from n (kind_of sort) sizes (q + 1)) (kind_of sort) sizes.ninodes q b) j)
   where
-    looked : (bytes : List ℕ) → plain (bind (claim_from n sizes sort c m (q + 1)) k) ≡ bind (new_from n (kind_of sort) sizes (q + 1)) j → (a : steps.Claimed)
+    looked : (bytes : List ℕ) → plain (bind (claim_from n sizes sort c m (q + 1)) k) ≡ bind (new_from n (kind_of sort) sizes (q + 1)) j → (a : steps.ClaimResult)
         → plain (bind (claim_in (claim_from n sizes sort c m (q + 1)) (kind_of sort) (sizes.inodestart + q) bytes c a) k) ≡ bind (make_in (new_from n (kind_of sort) sizes (q + 1)) (kind_of sort) (sizes.inodestart + q) bytes a) j
     looked bytes rest (steps.Claims i) = λ z. Do (steps.Put (sizes.inodestart + q) (Some (with_dinode i (new_record (kind_of sort) (dinode_at (place_of i) bytes)) bytes))) unmarked (λ _. same (above.New i) z)
     looked bytes rest steps.NoPlace = λ z. Do (steps.Put (sizes.inodestart + q) None) unmarked (λ _. same above.NoPlace z)
     looked bytes rest steps.NoInode = rest
 
 -- An inode of this sort is taken, and what is in hand stays.
-pub claim_same : (sizes : Super) (c : Carry) (sort : Sort) (m : above.Claimed → Option above.Mark) (k : above.Claimed → parts.P Reply) (j : Made → code.P Reply)
-    → ((a : above.Claimed) → left_below sizes c (k a) ≡ j (made_as a)) → left_below sizes c (Do (Claim sort) m k) ≡ bind (new_inode (kind_of sort) sizes) j
+pub claim_same : (sizes : Super) (c : Carry) (sort : Sort) (m : above.ClaimResult → Option above.Mark) (k : above.ClaimResult → parts.P Reply) (j : Made → code.P Reply)
+    → ((a : above.ClaimResult) → left_below sizes c (k a) ≡ j (made_as a)) → left_below sizes c (Do (Claim sort) m k) ≡ bind (new_inode (kind_of sort) sizes) j
 claim_same sizes c sort m k j same = plain_claim (inode_blocks sizes.ninodes) sizes sort c m 0 (λ r. lowered machine (layer sizes) (handlers sizes) r.carry (k r.answer)) j same

@@ -90,7 +90,7 @@ module _ (sizes : Super) (path : List ℕ) (flags : ℕ) where
             (λ c had. opens_new c n (with_links 1 w) (sort_seen w) ns (kind_same w) had))
             c v has had
 
-    claimed_is : (a : world.Claimed) → above.make_with path flags d e ns a ≡ claimed_to sizes d ns reply go lacks (above.make_other path flags d e ns) a
+    claimed_is : (a : world.ClaimResult) → above.make_with path flags d e ns a ≡ claimed_to sizes d ns reply go lacks (above.make_other path flags d e ns) a
     claimed_is world.NoInode = refl
     claimed_is world.NoPlace = refl
     claimed_is (world.New n) = refl

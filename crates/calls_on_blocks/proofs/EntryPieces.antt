@@ -10,7 +10,7 @@ use Rattle.fs_layout.specs.Indirect.{numbers_in}
 use Rattle.fs_layout.specs.Widths.{block_len}
 use Rattle.plain_tree.specs.Tree.{Name, put}
 use Rattle.atomic_programs.specs.Prog.{Ret, Do, bind, plain, unmarked}
-use Rattle.atomic_programs.specs.Joined.{Handed}
+use Rattle.atomic_programs.specs.Joined.{Handover}
 use Rattle.atomic_programs.proofs.Prog.{bind-assoc}
 use Rattle.fs_machine.specs.Machines as code
 use Rattle.fs_machine.specs.Programs.{fetch}
@@ -24,7 +24,7 @@ use Rattle.inode_data.specs.declared.addresses.Address.TheVariants.{Direct, InTa
 use Rattle.inode_data.specs.Addresses.{address, table_of}
 use Rattle.inode_data.specs.Programs.{blocks_between, fetch_block}
 use Rattle.inode_data.specs.Widths.{direct}
-use Rattle.inode_data.specs.Writing.{Written, front_of, grown, locate, locate_at, locate_in_table, located, look_up, name_direct, name_in_table, put_part, store_written, take_one, with_address, with_part, with_table, write_blocks, write_in, write_located, write_part}
+use Rattle.inode_data.specs.Writing.{WriteResult, front_of, grown, locate, locate_at, locate_in_table, located, look_up, name_direct, name_in_table, put_part, store_written, take_one, with_address, with_part, with_table, write_blocks, write_in, write_located, write_part}
 use Rattle.directory.specs.declared.enter.Room.{Room}
 use Rattle.directory.specs.declared.enter.Room.TheVariants as room
 use Rattle.directory.specs.declared.found.Found.{Found}
@@ -88,7 +88,7 @@ plain_locate sizes d (InTable i) = by (table_of d == 0)
 
 -- ---- a content written
 
-plain_in : (more : Dinode → P Written) (rest : Dinode → code.P Written) → ((d : Dinode) → plain (more d) ≡ rest d) → (at : ℕ) (bytes : List ℕ) (d : Dinode) (o : Option ℕ) → plain (write_in more at bytes d o) ≡ write_in rest at bytes d o
+plain_in : (more : Dinode → P WriteResult) (rest : Dinode → code.P WriteResult) → ((d : Dinode) → plain (more d) ≡ rest d) → (at : ℕ) (bytes : List ℕ) (d : Dinode) (o : Option ℕ) → plain (write_in more at bytes d o) ≡ write_in rest at bytes d o
 plain_in more rest same at bytes d None = refl
 plain_in more rest same at bytes d (Some b) =
     then_plain (fetch b) (fetch b) (put_part (more d) b at bytes) (put_part (rest d) b at bytes) (plain_fetch b) (λ old i. Do (steps.Put b (Some (with_part at bytes old))) unmarked (λ _. same d i))
@@ -138,7 +138,7 @@ plain_seek mark d = by (nat_lt (slot_count d) 17152) refl
 
 module _ (sizes : Super) where
   -- the record goes back, and then what follows
-  plain_grown : {B : Type 0} (op : above.Op) (outside : above.Outside) (m : above.Answer op → Option above.Mark) (answer : above.Answer op) (n : ℕ) (c : Carry) (w : Written) (k : Handed (above.Answer op) Carry → P B)
+  plain_grown : {B : Type 0} (op : above.Op) (outside : above.Outside) (m : above.Answer op → Option above.Mark) (answer : above.Answer op) (n : ℕ) (c : Carry) (w : WriteResult) (k : Handover (above.Answer op) Carry → P B)
       → plain (bind (put_grown op outside m answer sizes n c w) k) ≡ bind (store_inode sizes.inodestart n (grown w)) (λ _. plain (k (record { answer = answer; carry = put c n (Has (grown w) NothingMore) })))
   plain_grown op outside m answer n c w k =
       after_plain (fetch b) (fetch b) (put_named op outside m answer b n (grown w) c) k (λ old. bind (put_inode b n (grown w) old) (λ _. plain (k (record { answer = answer; carry = put c n (Has (grown w) NothingMore) })))) (plain_fetch b) (λ old. refl)
@@ -148,7 +148,7 @@ module _ (sizes : Super) where
       b = inode_block sizes.inodestart n
 
   -- what a name's entering hands on
-  abbrev pub answer_of : Room → above.Entered
+  abbrev pub answer_of : Room → above.EntryResult
   answer_of room.There = above.InPlace
   answer_of room.NoBlock = above.NoBlock
   answer_of room.NoSlot = above.NoSlot
@@ -158,10 +158,10 @@ module _ (sizes : Super) where
   carry_of c n d room.NoBlock = put c n (Has d NothingMore)
   carry_of c n d room.NoSlot = c
 
-  abbrev pub handed : Carry → ℕ → EnteredState → Handed above.Entered Carry
+  abbrev pub handed : Carry → ℕ → EnteredState → Handover above.EntryResult Carry
   handed c n r = record { answer = answer_of r.room; carry = carry_of c n r.inode r.room }
 
-  module _ {B : Type 0} (n : ℕ) (e : Name) (q : ℕ) (c : Carry) (m : above.Entered → Option above.Mark) (k : Handed above.Entered Carry → P B) where
+  module _ {B : Type 0} (n : ℕ) (e : Name) (q : ℕ) (c : Carry) (m : above.EntryResult → Option above.Mark) (k : Handover above.EntryResult Carry → P B) where
     abbrev d : Dinode
     d = record_in c n
 
@@ -172,7 +172,7 @@ module _ (sizes : Super) where
     abbrev rest : EnteredState → code.P B
     rest r = plain (k (handed c n r))
 
-    ends : (slot : ℕ) (w : Written) → plain (bind (entered_to sizes n e q c m slot w) k) ≡ bind (store_written sizes n w) (λ x. bind (entered_by slot x) rest)
+    ends : (slot : ℕ) (w : WriteResult) → plain (bind (entered_to sizes n e q c m slot w) k) ≡ bind (store_written sizes n w) (λ x. bind (entered_by slot x) rest)
     ends slot w = by (w.upto == 16 * (slot + 1)) ∙ sym (bind-assoc (store_inode sizes.inodestart n (grown w)) (λ _. Ret (record { inode = grown w; upto = w.upto })) (λ x. bind (entered_by slot x) rest))
       where
         by : (t : Bool) → plain (bind (if t then put_grown (Enter n e q) above.Room m above.InPlace sizes n c w else put_grown (Enter n e q) (above.RoomFor 0) m above.NoBlock sizes n c w) k)
@@ -226,11 +226,11 @@ module _ (sizes : Super) where
         ∙ sym (bind-assoc (search Unused d) (enter_at sizes n d entry) g)
 
   -- A new directory's names are a part of its content, written.
-  module _ {B : Type 0} (n p : ℕ) (c : Carry) (m : Bool → Option above.Mark) (k : Handed Bool Carry → P B) where
-    abbrev filled : Written → code.P B
+  module _ {B : Type 0} (n p : ℕ) (c : Carry) (m : Bool → Option above.Mark) (k : Handover Bool Carry → P B) where
+    abbrev filled : WriteResult → code.P B
     filled w = plain (k (record { answer = w.upto == 32; carry = put c n (Has w.inode NothingMore) }))
 
-    fill_ends : (w : Written) → plain (bind (filled_to sizes n p c m w) k) ≡ bind (store_written sizes n w) filled
+    fill_ends : (w : WriteResult) → plain (bind (filled_to sizes n p c m w) k) ≡ bind (store_written sizes n w) filled
     fill_ends w = by (w.upto == 32) ∙ sym (bind-assoc (store_inode sizes.inodestart n (grown w)) (λ _. Ret (record { inode = grown w; upto = w.upto })) filled)
       where
         by : (t : Bool) → plain (bind (if t then put_grown (Fill n p) above.Room m true sizes n c w else put_grown (Fill n p) (above.RoomFor 0) m false sizes n c w) k)

@@ -9,7 +9,7 @@ use Rattle.atomic_programs.specs.Prog.{Ret, Do, unmarked}
 use Rattle.inode_machine.specs.Moving.{inherit_end, inherit_program, lend_from, lend_on, lends, lent_directory}
 use Rattle.inode_machine.specs.Parts.{P, done}
 use Rattle.inode_machine.specs.Rules.{machine}
-use Rattle.inode_machine.specs.World.{Lending, Lent, Moved}
+use Rattle.inode_machine.specs.World.{LoanResult, Lent, Moved}
 use Rattle.inode_machine.specs.World.Op.{Leave, Release}
 use Rattle.calls_on_blocks.proofs.Operations as ops
 use Rattle.calls_on_blocks.proofs.Operations.{Within}
@@ -26,7 +26,7 @@ module _ (sizes : Super) (h : ℕ) (lt : h < hart_count) (child : ℕ) where
   directory_uses : Uses machine (Within sizes h) (lent_directory child)
   directory_uses = (ops.lends_directory sizes h lt child unmarked, λ old. end_uses old)
 
-  on_uses : (again : ℕ → P Reply) → ((from : ℕ) → Uses machine (Within sizes h) (again from)) → (a : Lending) → Uses machine (Within sizes h) (lend_on child again a)
+  on_uses : (again : ℕ → P Reply) → ((from : ℕ) → Uses machine (Within sizes h) (again from)) → (a : LoanResult) → Uses machine (Within sizes h) (lend_on child again a)
   on_uses again uses (Lent i true) = uses (i + 1)
   on_uses again uses (Lent i false) = directory_uses
   on_uses again uses (Moved old) = end_uses old

@@ -23,7 +23,7 @@ use Rattle.fs_machine.specs.declared.kind.Kind.{Kind}
 use Rattle.fs_machine.specs.Steps as steps
 use Rattle.inode_machine.specs.Inodes.{Face}
 use Rattle.inode_machine.specs.World as above
-use Rattle.inode_machine.specs.World.{Locking, NotLocked, LocksIt}
+use Rattle.inode_machine.specs.World.{LockResult, NotLocked, LocksIt}
 use Rattle.inode_machine.specs.World.Op.{Leave}
 use Rattle.inode_machine.specs.Budget.{unspent}
 use Rattle.inode_machine.specs.Descriptors.{dups, dup_on, close_on, stat_on, stat_reply, read_on, read_reply, refused_read}
@@ -53,7 +53,7 @@ use Rattle.inodes_on_blocks.specs.Shown.{Shows}
 use Rattle.inodes_on_blocks.specs.Spending.{recorded_blocks}
 use Rattle.inodes_on_blocks.proofs.Withins.{affords, none_spent}
 use Rattle.calls_on_blocks.specs.Programs.{handlers}
-use Rattle.calls_on_blocks.specs.Layer.{Shared, World, layer, shared_of}
+use Rattle.calls_on_blocks.specs.Layer.{SharedState, World, layer, shared_of}
 use Rattle.calls_on_blocks.specs.Theory.{is_served, serves, served_calls, child_of, start_refusal, begun_by, if_hart, begins, block_calls, shared_part, block_code}
 use Rattle.calls_on_blocks.proofs.InheritUses.{inherit_uses}
 use Rattle.calls_on_blocks.proofs.LinkUses.{link_uses}
@@ -129,7 +129,7 @@ module _ (sizes : Super) (h : ℕ) (lt : h < hart_count) (inodes : HasInodes siz
   close_uses fd (Some (Some n)) =
       (joins sizes h lt unmarked, λ _. drop_uses sizes h lt n (Do Leave unmarked (λ _. say (done (calls.Close fd)))) (leaves sizes h lt unmarked, λ _. say_uses sizes h lt (done (calls.Close fd))))
 
-  read_uses : (fd : ℕ) (buffer : List ℕ) (a : Locking) → Uses machine (Within sizes h) (read_on fd buffer a)
+  read_uses : (fd : ℕ) (buffer : List ℕ) (a : LockResult) → Uses machine (Within sizes h) (read_on fd buffer a)
   read_uses fd buffer (NotLocked why) = tt
   read_uses fd buffer (LocksIt n offset) = (reads sizes h lt fd n offset (length buffer) (λ b. own_step (actions.Read fd (length buffer))), λ b. say_uses sizes h lt (read_reply fd buffer b))
 
@@ -190,7 +190,7 @@ is_part sizes = record {
     goes h op w (Stops s) = refl
 
     starts : (w : World) (children : ℕ → Option ℕ) (b : Bool) (o : Option Refusal)
-        → ◌≡◌ {A = Began Refusal Shared} (if_hart b (begun_by (record (shared_of w) { children = children }) o)) (began_in shared_of (if_hart b (begun_by (record w { children = children }) o)))
+        → ◌≡◌ {A = Began Refusal SharedState} (if_hart b (begun_by (record (shared_of w) { children = children }) o)) (began_in shared_of (if_hart b (begun_by (record w { children = children }) o)))
     starts w children false o = refl
     starts w children true None = refl
     starts w children true (Some why) = refl

@@ -16,7 +16,7 @@ use Rattle.plain_tree.specs.Widths.{count_limit}
 use Rattle.tree_laws.proofs.Maps.{put_same}
 use Rattle.tree_moves.specs.Moves.Move.{Begin}
 use Rattle.atomic_programs.specs.Prog.{Ret, Do, bind, plain, unmarked}
-use Rattle.atomic_programs.specs.Joined.{Handed, lowered}
+use Rattle.atomic_programs.specs.Joined.{Handover, lowered}
 use Rattle.atomic_programs.proofs.Prog.{bind-assoc}
 use Rattle.fs_machine.specs.Machines as code
 use Rattle.fs_machine.specs.Steps as steps
@@ -98,7 +98,7 @@ module _ (sizes : Super) (old new : List ℕ) where
         (λ w. refused_same (put c d (Has w NothingMore)) d w ns (answers.Full fulls.Blocks) (ap record_had (put_same c d (Has w NothingMore))))
         (refused_same c d v ns (answers.Full fulls.Directory) has)
       where
-        then_ : Handed world.Entered Carry → P Reply
+        then_ : Handover world.EntryResult Carry → P Reply
         then_ r = lowered machine (layer sizes) (handlers sizes) r.carry (above.named_on old new n d ns r.answer)
 
     -- what the directory has under the name

@@ -33,7 +33,7 @@ module _ (sizes : Super) (h : ℕ) (lt : h < hart_count) (old new : List ℕ) wh
   lost_uses : (n d : ℕ) (r : Reply) (ns : List ℕ) → Uses machine (Within sizes h) (give_up d (lower old new n r ns))
   lost_uses n d r ns = give_up_uses sizes h lt d (lower old new n r ns) (lower_uses n r ns)
 
-  named_uses : (n d : ℕ) (ns : List ℕ) (a : above.Entered) → Uses machine (Within sizes h) (named_on old new n d ns a)
+  named_uses : (n d : ℕ) (ns : List ℕ) (a : above.EntryResult) → Uses machine (Within sizes h) (named_on old new n d ns a)
   named_uses n d ns above.InPlace =
       give_up_uses sizes h lt d (drop n (tail ns (done (calls.Link old new)))) (drop_uses sizes h lt n (tail ns (done (calls.Link old new))) (tail_uses sizes h lt ns (done (calls.Link old new))))
   named_uses n d ns above.NoBlock = lost_uses n d (full (calls.Link old new) Blocks) ns

@@ -9,7 +9,7 @@ use Rattle.plain_tree.specs.declared.answer.Reply.{Reply}
 use Rattle.plain_tree.specs.Tree.{Name, put}
 use Rattle.tree_laws.proofs.Maps.{eq_isnt, put_same}
 use Rattle.atomic_programs.specs.Prog.{Ret, Do, bind, plain, unmarked}
-use Rattle.atomic_programs.specs.Joined.{Handed, lowered}
+use Rattle.atomic_programs.specs.Joined.{Handover, lowered}
 use Rattle.atomic_programs.proofs.Prog.{bind-assoc}
 use Rattle.fs_machine.specs.Machines as code
 use Rattle.fs_machine.specs.Steps as steps
@@ -18,7 +18,7 @@ use Rattle.inode_table.specs.Programs.{no_record, load_unless, store as store_in
 use Rattle.inode_table.specs.declared.new_inode.Made.{Made}
 use Rattle.directory.specs.Entering.{enter as code_enter}
 use Rattle.path_walk.specs.Programs.{loaded}
-use Rattle.inode_machine.specs.Inodes.{Seen, Sort, AtNothing}
+use Rattle.inode_machine.specs.Inodes.{Sight, Sort, AtNothing}
 use Rattle.inode_machine.specs.Opening as above
 use Rattle.inode_machine.specs.Parts as parts
 use Rattle.inode_machine.specs.Rules.{machine}
@@ -68,7 +68,7 @@ module _ (sizes : Super) (d : ℕ) (ns : List ℕ) (reply : Full → Reply) (go 
         none = with_links 0 w
 
     -- its name is entered
-    module _ (w : Dinode) (e : Name) (m : world.Entered → Option world.Mark) (named : world.Entered → parts.P Reply) (no_block : named world.NoBlock ≡ above.unmake n d ns (reply Blocks)) (no_slot : named world.NoSlot ≡ above.unmake n d ns (reply Directory))
+    module _ (w : Dinode) (e : Name) (m : world.EntryResult → Option world.Mark) (named : world.EntryResult → parts.P Reply) (no_block : named world.NoBlock ≡ above.unmake n d ns (reply Blocks)) (no_slot : named world.NoSlot ≡ above.unmake n d ns (reply Directory))
         (there : (c : Carry) (v : Dinode) → record_had (c d) ≡ Some v → record_had (c n) ≡ Some w → left_below sizes c (named world.InPlace) ≡ go (Names (loaded d v) (loaded n w))) where
       pub name_same : (c : Carry) (v : Dinode) → record_had (c d) ≡ Some v → record_had (c n) ≡ Some w → left_below sizes c (Do (Enter d e n) m named) ≡ bind (making.name_new sizes e (loaded d v) (loaded n w)) go
       name_same c v has had =
@@ -80,7 +80,7 @@ module _ (sizes : Super) (d : ℕ) (ns : List ℕ) (reply : Full → Reply) (go 
           (ap (left_below sizes c) no_slot ∙ unmake_same c v w Directory has had)
           ∙ sym (bind-assoc (code_enter sizes d v n e) (making.named_on sizes d (loaded n w)) go)
         where
-          then_ : Handed world.Entered Carry → P Reply
+          then_ : Handover world.EntryResult Carry → P Reply
           then_ r = lowered machine (layer sizes) (handlers sizes) r.carry (named r.answer)
 
           -- the directory's record, as it was put
@@ -95,7 +95,7 @@ module _ (sizes : Super) (d : ℕ) (ns : List ℕ) (reply : Full → Reply) (go 
 
     -- ---- its lock is taken, and it gets its link
 
-    module _ (kind : MadeSort) (e : Name) (v : Dinode) (linked : Seen → parts.P Reply)
+    module _ (kind : MadeSort) (e : Name) (v : Dinode) (linked : Sight → parts.P Reply)
         (linked_same : (c : Carry) (w : Dinode) → record_had (c d) ≡ Some v → record_had (c n) ≡ Some (with_links 1 w) → left_below sizes c (linked (seen w None)) ≡ bind (making.linked sizes kind e (loaded d v) (loaded n (with_links 1 w))) go) where
       abbrev links : Dinode → code.P Reply
       links w = bind (making.link_new sizes kind e (loaded d v) (loaded n w)) go
@@ -120,7 +120,7 @@ module _ (sizes : Super) (d : ℕ) (ns : List ℕ) (reply : Full → Reply) (go 
   -- ---- all of it
 
   -- after an inode was wanted
-  abbrev pub claimed_to : (ℕ → parts.P Reply) → world.Claimed → parts.P Reply
+  abbrev pub claimed_to : (ℕ → parts.P Reply) → world.ClaimResult → parts.P Reply
   claimed_to made world.NoInode = gives DiskInodes
   claimed_to made world.NoPlace = gives MemInodes
   claimed_to made (world.New n) = if n == d then Do (Forget n) unmarked (λ _. gives MemInodes) else made n
@@ -130,7 +130,7 @@ module _ (sizes : Super) (d : ℕ) (ns : List ℕ) (reply : Full → Reply) (go 
     abbrev after_made : Made → code.P Reply
     after_made a = bind (making.made_on sizes kind e (loaded d v) a) go
 
-    claimed_same : (c : Carry) (a : world.Claimed) → record_had (c d) ≡ Some v → left_below sizes c (claimed_to made a) ≡ after_made (made_as a)
+    claimed_same : (c : Carry) (a : world.ClaimResult) → record_had (c d) ≡ Some v → left_below sizes c (claimed_to made a) ≡ after_made (made_as a)
     claimed_same c world.NoInode has = given_same c v DiskInodes has
     claimed_same c world.NoPlace has = given_same c v MemInodes has
     claimed_same c (world.New n) has = by (n == d) refl
@@ -141,7 +141,7 @@ module _ (sizes : Super) (d : ℕ) (ns : List ℕ) (reply : Full → Reply) (go 
         by true is = λ i. Do (steps.Down (steps.Freed n)) unmarked (λ _. given_same c v MemInodes has i)
         by false is = made_same n (eq_isnt n d is) c has
 
-    pub make_same : (c : Carry) (sort : Sort) (m : world.Claimed → Option world.Mark) (then_ : world.Claimed → parts.P Reply) → kind_of sort ≡ making.type_of kind → ((a : world.Claimed) → then_ a ≡ claimed_to made a) → record_had (c d) ≡ Some v
+    pub make_same : (c : Carry) (sort : Sort) (m : world.ClaimResult → Option world.Mark) (then_ : world.ClaimResult → parts.P Reply) → kind_of sort ≡ making.type_of kind → ((a : world.ClaimResult) → then_ a ≡ claimed_to made a) → record_had (c d) ≡ Some v
         → left_below sizes c (Do (Claim sort) m then_) ≡ bind (making.make sizes kind e (loaded d v)) go
     make_same c sort m then_ kinds is has =
         claim_same sizes c sort m then_ after_made (λ a. ap (left_below sizes c) (is a) ∙ claimed_same c a has)

@@ -52,7 +52,7 @@ module _ (sizes : Super) (h : ℕ) (lt : h < hart_count) (inodes : HasInodes siz
         by true = (ops.installs sizes h lt (file_for n flags) sort (installs (truncates flags)), λ fd. installed fd)
         by false = refused_uses sizes h lt n ns (full (calls.Open path flags) OpenFiles)
 
-    named_uses : (n : ℕ) (sort : Sort) (d : ℕ) (ns : List ℕ) (a : above.Entered) → Uses machine (Within sizes h) (make_on path flags n sort d ns a)
+    named_uses : (n : ℕ) (sort : Sort) (d : ℕ) (ns : List ℕ) (a : above.EntryResult) → Uses machine (Within sizes h) (make_on path flags n sort d ns a)
     named_uses n sort d ns above.InPlace = give_up_uses sizes h lt d (open_made path flags n sort ns) (made_uses n sort ns)
     named_uses n sort d ns above.NoBlock = unmake_uses n d ns (full (calls.Open path flags) Blocks)
     named_uses n sort d ns above.NoSlot = unmake_uses n d ns (full (calls.Open path flags) Directory)
@@ -60,7 +60,7 @@ module _ (sizes : Super) (h : ℕ) (lt : h < hart_count) (inodes : HasInodes siz
     file_uses : (d : ℕ) (e : Name) (ns : List ℕ) (n : ℕ) → Uses machine (Within sizes h) (make_other path flags d e ns n)
     file_uses d e ns n = (ops.takes sizes h lt n AtNothing unmarked, λ a. (ops.stores sizes h lt n 1 unmarked, λ _. (ops.enters sizes h lt d e n (entered_file n), λ r. named_uses n (face_or a.face).sort d ns r)))
 
-    file_with_uses : (d : ℕ) (e : Name) (ns : List ℕ) (a : above.Claimed) → Uses machine (Within sizes h) (make_with path flags d e ns a)
+    file_with_uses : (d : ℕ) (e : Name) (ns : List ℕ) (a : above.ClaimResult) → Uses machine (Within sizes h) (make_with path flags d e ns a)
     file_with_uses d e ns above.NoInode = refused_uses sizes h lt d ns (full (calls.Open path flags) DiskInodes)
     file_with_uses d e ns above.NoPlace = refused_uses sizes h lt d ns (full (calls.Open path flags) MemInodes)
     file_with_uses d e ns (above.New n) = other_or n d ns (full (calls.Open path flags) MemInodes) (make_other path flags d e ns n) (file_uses d e ns n)
@@ -90,7 +90,7 @@ module _ (sizes : Super) (h : ℕ) (lt : h < hart_count) (inodes : HasInodes siz
   -- ---- mkdir
 
   module _ (path : List ℕ) where
-    raised_uses : (d : ℕ) (f : Face) (n : ℕ) (ns : List ℕ) (a : above.Entered) → Uses machine (Within sizes h) (name_directory path d f n ns a)
+    raised_uses : (d : ℕ) (f : Face) (n : ℕ) (ns : List ℕ) (a : above.EntryResult) → Uses machine (Within sizes h) (name_directory path d f n ns a)
     raised_uses d f n ns above.InPlace = (
       ops.stores sizes h lt d (f.count + 1) unmarked,
       λ _. give_up_uses sizes h lt d (give_up n (tail ns (done (calls.Mkdir path)))) (refused_uses sizes h lt n ns (done (calls.Mkdir path))),
@@ -105,7 +105,7 @@ module _ (sizes : Super) (h : ℕ) (lt : h < hart_count) (inodes : HasInodes siz
         by true = (ops.enters sizes h lt d e n (entered_file n), λ r. raised_uses d f n ns r)
         by false = unmake_uses n d ns (full (calls.Mkdir path) Blocks)
 
-    directory_with_uses : (d : ℕ) (e : Name) (ns : List ℕ) (f : Face) (a : above.Claimed) → Uses machine (Within sizes h) (mkdir_with path d e ns f a)
+    directory_with_uses : (d : ℕ) (e : Name) (ns : List ℕ) (f : Face) (a : above.ClaimResult) → Uses machine (Within sizes h) (mkdir_with path d e ns f a)
     directory_with_uses d e ns f above.NoInode = refused_uses sizes h lt d ns (full (calls.Mkdir path) DiskInodes)
     directory_with_uses d e ns f above.NoPlace = refused_uses sizes h lt d ns (full (calls.Mkdir path) MemInodes)
     directory_with_uses d e ns f (above.New n) = other_or n d ns (full (calls.Mkdir path) MemInodes) (mkdir_other path d e ns f n) (directory_uses d e ns f n)

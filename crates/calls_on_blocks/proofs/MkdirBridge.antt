@@ -20,7 +20,7 @@ use Rattle.atomic_programs.proofs.Prog.{bind-assoc}
 use Rattle.fs_machine.specs.Machines as code
 use Rattle.fs_machine.specs.Steps as steps
 use Rattle.inode_table.specs.Programs.{no_record, load_unless, store as store_inode}
-use Rattle.inode_data.specs.Writing.{Written, write_part}
+use Rattle.inode_data.specs.Writing.{WriteResult, write_part}
 use Rattle.directory.specs.declared.found.Found.{Found}
 use Rattle.directory.specs.Programs.{Named, is_live_directory, lookup, search}
 use Rattle.path_walk.specs.declared.walked.Goal.TheVariants as goals
@@ -101,16 +101,16 @@ module _ (sizes : Super) (path : List ℕ) where
           goes : Bool → parts.P Reply
           goes there = if there then Do (Enter d e n) (entered_file n) (above.name_directory path d f n ns) else unmake n d ns (reply Blocks)
 
-          filled : Written → Carry
+          filled : WriteResult → Carry
           filled x = put c n (Has x.inode NothingMore)
 
-          has_still : (x : Written) → record_had (filled x d) ≡ Some v
+          has_still : (x : WriteResult) → record_had (filled x d) ≡ Some v
           has_still x = kept_had d n v (λ q. ne (sym q)) c (Has x.inode NothingMore) has
 
-          has_new : (x : Written) → record_had (filled x n) ≡ Some x.inode
+          has_new : (x : WriteResult) → record_had (filled x n) ≡ Some x.inode
           has_new x = ap record_had (put_same c n (Has x.inode NothingMore))
 
-          filled_same : (x : Written) (b : Bool) → left_below sizes (filled x) (goes b) ≡ bind (if b then making.name_new sizes e (loaded d v) (loaded n x.inode) else making.unmake sizes (loaded d v) (loaded n x.inode) Blocks) go
+          filled_same : (x : WriteResult) (b : Bool) → left_below sizes (filled x) (goes b) ≡ bind (if b then making.name_new sizes e (loaded d v) (loaded n x.inode) else making.unmake sizes (loaded d v) (loaded n x.inode) Blocks) go
           filled_same x true = name_same sizes d ns reply go lacks n ne x.inode e (entered_file n) (above.name_directory path d f n ns) refl refl (λ c u has had. raise_same c u x.inode has had) (filled x) v (has_still x) (has_new x)
           filled_same x false = unmake_same sizes d ns reply go lacks n ne (filled x) v x.inode Blocks (has_still x) (has_new x)
 
@@ -120,7 +120,7 @@ module _ (sizes : Super) (path : List ℕ) where
         taken_same sizes d ns reply go lacks n ne sorts.Directory e v (λ _. Do (Fill n d) parts.mends_if_full (λ there. if there then Do (Enter d e n) (entered_file n) (above.name_directory path d f n ns) else unmake n d ns (reply Blocks)))
         (λ c w has had. fill_same n ne c v (with_links 1 w) has had) c has
 
-    claimed_is : (a : world.Claimed) → above.mkdir_with path d e ns f a ≡ claimed_to sizes d ns reply go lacks (above.mkdir_other path d e ns f) a
+    claimed_is : (a : world.ClaimResult) → above.mkdir_with path d e ns f a ≡ claimed_to sizes d ns reply go lacks (above.mkdir_other path d e ns f) a
     claimed_is world.NoInode = refl
     claimed_is world.NoPlace = refl
     claimed_is (world.New n) = refl

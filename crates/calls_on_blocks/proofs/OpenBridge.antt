@@ -13,7 +13,7 @@ use Rattle.plain_tree.specs.Steps.{has, creates, empty_it}
 use Rattle.plain_tree.specs.Tree.{put, elements}
 use Rattle.tree_laws.proofs.Maps.{put_same}
 use Rattle.atomic_programs.specs.Prog.{Ret, Do, bind, plain, unmarked}
-use Rattle.atomic_programs.specs.Joined.{Handed, lowered}
+use Rattle.atomic_programs.specs.Joined.{Handover, lowered}
 use Rattle.atomic_programs.proofs.Prog.{bind-assoc}
 use Rattle.fs_machine.specs.Machines as code
 use Rattle.fs_machine.specs.Programs.{fetch}
@@ -72,13 +72,13 @@ module _ (sizes : Super) (n : ℕ) (k : parts.P Reply) (rest : Dinode → code.P
       e : Dinode
       e = without_content (record_in c n)
 
-      puts : List ℕ → P (Handed (Unit {0}) Carry)
+      puts : List ℕ → P (Handover (Unit {0}) Carry)
       puts block = put_record (Empty n) m (tt {0}) (inode_block sizes.inodestart n) n e (Has e NothingMore) c block
 
-      last : P (Handed (Unit {0}) Carry)
+      last : P (Handover (Unit {0}) Carry)
       last = bind (fetch (inode_block sizes.inodestart n)) puts
 
-      then_ : Handed (Unit {0}) Carry → P Reply
+      then_ : Handover (Unit {0}) Carry → P Reply
       then_ r = lowered machine (layer sizes) (handlers sizes) r.carry k
 
       last_is : plain (bind last then_) ≡ stored e

@@ -8,12 +8,12 @@ use Rattle.plain_tree.specs.Tree.{Name}
 use Rattle.plain_tree.specs.Widths.{hart_count}
 use Rattle.atomic_programs.specs.Spending.{AtomicWithin}
 use Rattle.tree_moves.specs.Moves.{Stage, Step, Takes}
-use Rattle.inode_machine.specs.Inodes.{Face, Looking, Seen, Sort}
+use Rattle.inode_machine.specs.Inodes.{Face, Query, Sight, Sort}
 use Rattle.inode_machine.specs.Marks.{places}
 use Rattle.inode_machine.specs.Rules as rules
 use Rattle.inode_machine.specs.Rules.{machine}
 use Rattle.inode_machine.specs.World as above
-use Rattle.inode_machine.specs.World.{Joining, Lending, Locking, Wrote}
+use Rattle.inode_machine.specs.World.{JoinResult, LoanResult, LockResult, Wrote}
 use Rattle.inode_machine.specs.World.Op.{Take, Give, UpStart, Up, WalkDown, Down, Free, Forget, Claim, Store, Fill, Enter, Clear, Empty, Slot, Install, StatFile, LockFile, ReadFile, LockOpen, CheckFile, JoinFile, WriteFile, Double, Shut, Settle, Lend, LendDirectory, Release, Join, Leave, Say}
 use Rattle.inode_machine.proofs.Calls.{laws}
 use Rattle.inodes_on_blocks.specs.Acting.{ActsOnceAt}
@@ -79,7 +79,7 @@ module _ (sizes : Super) (h : ℕ) where
 
     -- locks and references
 
-    pub takes : (n : ℕ) (looking : Looking) (m : Seen → Option above.Mark) → Within (Take n looking) m
+    pub takes : (n : ℕ) (looking : Query) (m : Sight → Option above.Mark) → Within (Take n looking) m
     takes n looking m = acting (Take n looking) m (spend.take n looking) (take_acts history laws keeps h lt sizes n looking m)
 
     pub gives : (n : ℕ) (m : Unit {0} → Option above.Mark) → Within (Give n) m
@@ -105,7 +105,7 @@ module _ (sizes : Super) (h : ℕ) where
     pub frees : (n : ℕ) (m : Unit {0} → Option above.Mark) → Within (Free n) m
     frees n m = recorded (Free n) m (free_within sizes history laws keeps h lt n m)
 
-    pub claims : HasInodes sizes → (sort : Sort) → IsMade sort → (m : above.Claimed → Option above.Mark) → Within (Claim sort) m
+    pub claims : HasInodes sizes → (sort : Sort) → IsMade sort → (m : above.ClaimResult → Option above.Mark) → Within (Claim sort) m
     claims inodes sort made m = recorded (Claim sort) m (claim_within sizes history laws keeps h lt sort made inodes m)
 
     pub stores : (n count : ℕ) (m : Unit {0} → Option above.Mark) → Within (Store n count) m
@@ -114,7 +114,7 @@ module _ (sizes : Super) (h : ℕ) where
     pub fills : (n d : ℕ) (m : Bool → Option above.Mark) → Within (Fill n d) m
     fills n d m = recorded (Fill n d) m (fill_within sizes history laws keeps h lt n d m)
 
-    pub enters : (d : ℕ) (e : Name) (n : ℕ) (m : above.Entered → Option above.Mark) → Within (Enter d e n) m
+    pub enters : (d : ℕ) (e : Name) (n : ℕ) (m : above.EntryResult → Option above.Mark) → Within (Enter d e n) m
     enters d e n m = recorded (Enter d e n) m (enter_within sizes history laws keeps h lt d e n m)
 
     pub clears : (n : ℕ) (e : Name) (m : Unit {0} → Option above.Mark) → Within (Clear n e) m
@@ -140,7 +140,7 @@ module _ (sizes : Super) (h : ℕ) where
     pub stats : (fd : ℕ) (m : Option (ℕ × Face) → Option above.Mark) → Within (StatFile fd) m
     stats fd m = acting (StatFile fd) m (spend.stat_file fd) (stat_acts history laws keeps h lt sizes fd m)
 
-    pub locks_to_read : (fd : ℕ) (m : Locking → Option above.Mark) → Within (LockFile fd) m
+    pub locks_to_read : (fd : ℕ) (m : LockResult → Option above.Mark) → Within (LockFile fd) m
     locks_to_read fd m = acting (LockFile fd) m (spend.lock_file fd) (file_acts history laws keeps h lt sizes fd m)
 
     pub reads : (fd n offset count : ℕ) (m : List ℕ → Option above.Mark) → Within (ReadFile fd n offset count) m
@@ -155,7 +155,7 @@ module _ (sizes : Super) (h : ℕ) where
     pub checks : (fd : ℕ) (m : Option Cause → Option above.Mark) → Within (CheckFile fd) m
     checks fd m = acting (CheckFile fd) m (spend.check_file fd) (check_acts history laws keeps h lt fd m sizes)
 
-    pub joins_files : (fd : ℕ) (m : Joining → Option above.Mark) → Within (JoinFile fd) m
+    pub joins_files : (fd : ℕ) (m : JoinResult → Option above.Mark) → Within (JoinFile fd) m
     joins_files fd m = acting (JoinFile fd) m (spend.join_file fd) (join_file_acts history laws keeps h lt fd m sizes)
 
     -- the hart itself
@@ -174,7 +174,7 @@ module _ (sizes : Super) (h : ℕ) where
 
     -- what is handed to a child
 
-    pub lends : (child from : ℕ) (m : Lending → Option above.Mark) → Within (Lend child from) m
+    pub lends : (child from : ℕ) (m : LoanResult → Option above.Mark) → Within (Lend child from) m
     lends child from m = acting (Lend child from) m (spend.lend child from) (lend_acts history laws keeps h lt child from m sizes)
 
     pub lends_directory : (child : ℕ) (m : ℕ → Option above.Mark) → Within (LendDirectory child) m

@@ -10,7 +10,7 @@ use Rattle.group_log.specs.declared.log.Left.TheVariants.{Free, Commits}
 use Rattle.plain_tree.specs.Tree.{put}
 use Rattle.tree_laws.proofs.Maps.{put_same}
 use Rattle.atomic_programs.specs.Prog.{Prog, Ret, Do, bind, plain, unmarked}
-use Rattle.atomic_programs.specs.Joined.{Handed, holding, lowered}
+use Rattle.atomic_programs.specs.Joined.{Handover, holding, lowered}
 use Rattle.atomic_programs.proofs.Prog.{bind-assoc, plain-bind}
 use Rattle.fs_tables.specs.Inodes.{DroppedState, Counts, Keeps, Dies}
 use Rattle.fs_machine.specs.Machines as code
@@ -181,13 +181,13 @@ module _ (sizes : Super) where
       abbrev d : Dinode
       d = record_in c n
 
-      abbrev then_ : Handed (Unit {0}) Carry → P B
+      abbrev then_ : Handover (Unit {0}) Carry → P B
       then_ r = lowered machine (layer sizes) (handlers sizes) r.carry (Do (Give n) unmarked (λ _. Do (Forget n) unmarked (λ _. k)))
 
-      abbrev puts : List ℕ → P (Handed (Unit {0}) Carry)
+      abbrev puts : List ℕ → P (Handover (Unit {0}) Carry)
       puts block = put_record (above.Free n) (λ _. Some (Frees n)) (tt {0}) (inode_block sizes.inodestart n) n (freed (without_content d)) Emptied c block
 
-      abbrev last : P (Handed (Unit {0}) Carry)
+      abbrev last : P (Handover (Unit {0}) Carry)
       last = bind (fetch (inode_block sizes.inodestart n)) puts
 
       abbrev first : {M : Type 0} → Prog steps.Op steps.Answer M (Unit {0})
@@ -267,7 +267,7 @@ module _ (sizes : Super) where
   pub left_then : {B : Type 0} (c : Carry) (k : parts.P B) → left_below c (Do Leave unmarked (λ _. k)) ≡ bind finish (λ _. left_below c k)
   left_then {B} c k = λ i. Do steps.Leave unmarked (λ left. behind left i)
     where
-      then_ : Handed (Unit {0}) Carry → P B
+      then_ : Handover (Unit {0}) Carry → P B
       then_ r = lowered machine (layer sizes) (handlers sizes) r.carry k
 
       behind : (left : Left) → plain (bind (holding c (after_leave left)) then_) ≡ bind (after_leave left) (λ _. left_below c k)

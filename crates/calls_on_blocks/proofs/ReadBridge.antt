@@ -13,7 +13,7 @@ use Rattle.plain_tree.specs.declared.step.Action.TheVariants as actions
 use Rattle.plain_tree.specs.Tree.{put}
 use Rattle.tree_laws.proofs.Maps.{put_same}
 use Rattle.atomic_programs.specs.Prog.{Do, bind, plain, unmarked}
-use Rattle.atomic_programs.specs.Joined.{Handed, lowered}
+use Rattle.atomic_programs.specs.Joined.{Handover, lowered}
 use Rattle.atomic_programs.proofs.Prog.{bind-assoc, plain-bind}
 use Rattle.fs_tables.specs.declared.files.OpenFile.{OpenFile}
 use Rattle.fs_tables.specs.declared.files.Refused.TheVariants as refused
@@ -23,12 +23,12 @@ use Rattle.fs_machine.specs.Machines as code
 use Rattle.fs_machine.specs.Steps as steps
 use Rattle.fs_machine.specs.Steps.{LockFile, Unlock}
 use Rattle.inode_table.specs.Programs.{load_unless, no_record}
-use Rattle.inode_data.specs.Programs.{Fetched, Filled, blocks_between, end_of, fetch_block, filled_with, next_block, part_of, read_blocks, read_from, read_part}
+use Rattle.inode_data.specs.Programs.{FetchedBlock, FilledMemory, blocks_between, end_of, fetch_block, filled_with, next_block, part_of, read_blocks, read_from, read_part}
 use Rattle.file_table.specs.Programs.{Loads, give_loaded, load_locked, loaded}
 use Rattle.inode_machine.specs.Descriptors as above
 use Rattle.inode_machine.specs.Parts.{own_step, say}
 use Rattle.inode_machine.specs.Rules.{machine}
-use Rattle.inode_machine.specs.World.{Locking, LocksIt}
+use Rattle.inode_machine.specs.World.{LockResult, LocksIt}
 use Rattle.inodes_on_blocks.specs.Files.{file_locked, give_read, with_file}
 use Rattle.inodes_on_blocks.specs.Handlers.{P}
 use Rattle.inodes_on_blocks.specs.Lowering.{Carry, Opened, Has, nothing, record_had}
@@ -42,7 +42,7 @@ use Rattle.calls_on_blocks.proofs.Pieces.{left_below, plain_load, plain_block}
 -- ---- what was read
 
 -- alone
-abbrev alone : List ℕ → Filled
+abbrev alone : List ℕ → FilledMemory
 alone b = record { count = length b; bytes = b }
 
 alone_next : (b part : List ℕ) → filled_with (alone b) part ≡ alone (b ++ part)
@@ -53,7 +53,7 @@ alone_next b part = λ i. record { count = sym (length-append b part) i; bytes =
 
 -- in memory that held these bytes
 module _ (buffer : List ℕ) where
-  abbrev within : List ℕ → Filled
+  abbrev within : List ℕ → FilledMemory
   within b = record { count = length b; bytes = b ++ drop (length b) buffer }
 
   within_next : (b part : List ℕ) → filled_with (within b) part ≡ within (b ++ part)
@@ -67,7 +67,7 @@ module _ (buffer : List ℕ) where
           ∙ (λ i. (b ++ part) ++ drop (sym (length-append b part) i) buffer)
 
   -- block by block
-  module _ {A : Type 0} (f : Filled → P A) (g : Filled → code.P A) (same : (b : List ℕ) → plain (f (alone b)) ≡ g (within b)) where
+  module _ {A : Type 0} (f : FilledMemory → P A) (g : FilledMemory → code.P A) (same : (b : List ℕ) → plain (f (alone b)) ≡ g (within b)) where
     blocks_same : (n : ℕ) (d : Dinode) (from upto : ℕ) (b : List ℕ) → plain (bind (read_blocks n d from upto (alone b)) f) ≡ bind (read_blocks n d from upto (within b)) g
     unfolding read_blocks
     blocks_same zero d from upto b = same b
@@ -82,11 +82,11 @@ module _ (buffer : List ℕ) where
 
         more : (p : List ℕ) → Goes p → plain (bind (read_blocks n d (next_block from) upto (filled_with (alone b) p)) f) ≡ bind (read_blocks n d (next_block from) upto (filled_with (within b) p)) g
         more p goes =
-            ap (λ (m : Filled). plain (bind (read_blocks n d (next_block from) upto m) f)) (alone_next b p)
+            ap (λ (m : FilledMemory). plain (bind (read_blocks n d (next_block from) upto m) f)) (alone_next b p)
             ∙ goes
-            ∙ ap (λ (m : Filled). bind (read_blocks n d (next_block from) upto m) g) (sym (within_next b p))
+            ∙ ap (λ (m : FilledMemory). bind (read_blocks n d (next_block from) upto m) g) (sym (within_next b p))
 
-        part : ((p : List ℕ) → Goes p) → (t : Fetched)
+        part : ((p : List ℕ) → Goes p) → (t : FetchedBlock)
             → plain (bind (read_part (read_blocks n d (next_block from) upto) from upto (alone b) t) f) ≡ bind (read_part (read_blocks n d (next_block from) upto) from upto (within b) t) g
         part all t = λ i. Do (steps.Put t.number None) unmarked (λ _. more (part_of from upto t.bytes) (all (part_of from upto t.bytes)) i)
 
@@ -94,10 +94,10 @@ module _ (buffer : List ℕ) where
 
 module _ (sizes : Super) (fd : ℕ) (buffer : List ℕ) where
   -- what is left where the lock is had, or not, and after the part was read
-  abbrev locked_then : Handed Locking Carry → P Reply
+  abbrev locked_then : Handover LockResult Carry → P Reply
   locked_then r = lowered machine (layer sizes) (handlers sizes) r.carry (above.read_on fd buffer r.answer)
 
-  abbrev read_then : Handed (List ℕ) Carry → P Reply
+  abbrev read_then : Handover (List ℕ) Carry → P Reply
   read_then r = lowered machine (layer sizes) (handlers sizes) r.carry (say (above.read_reply fd buffer r.answer))
 
   module _ (f : OpenFile) (d : Dinode) where
@@ -107,7 +107,7 @@ module _ (sizes : Super) (fd : ℕ) (buffer : List ℕ) where
     has : c f.number ≡ Has d (Opened fd f.offset)
     has = put_same nothing f.number (Has d (Opened fd f.offset))
 
-    abbrev gives : Filled → P (Handed (List ℕ) Carry)
+    abbrev gives : FilledMemory → P (Handover (List ℕ) Carry)
     gives m = give_read fd f.number f.offset (length buffer) (λ b. own_step (actions.Read fd (length buffer))) c m
 
     given : (b : List ℕ) → plain (bind (gives (alone b)) read_then) ≡ syscalls.give_read fd f.offset (loaded f d) (within buffer b)

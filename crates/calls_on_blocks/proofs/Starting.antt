@@ -12,7 +12,7 @@ use Rattle.atomic_programs.specs.Calls.{Begins}
 use Rattle.atomic_programs.specs.Joined.{LowerLaws}
 use Rattle.atomic_programs.specs.Lowered.{BeginsBoth, StartsBoth}
 use Rattle.inode_machine.specs.World as above
-use Rattle.inode_machine.specs.World.{Locking, NotLocked, LocksIt}
+use Rattle.inode_machine.specs.World.{LockResult, NotLocked, LocksIt}
 use Rattle.inode_machine.specs.World.Op.{Leave}
 use Rattle.inode_machine.specs.Exec.{is_nothing}
 use Rattle.inode_machine.specs.Parts.{full}
@@ -26,14 +26,14 @@ use Rattle.inodes_on_tables.specs.Shown.{loaded}
 use Rattle.inodes_on_blocks.specs.Below.{tables_of}
 use Rattle.inodes_on_blocks.specs.Lowering.{nothing}
 use Rattle.inodes_on_blocks.proofs.Layer.{below_laws}
-use Rattle.calls_on_blocks.specs.Layer.{Shared, World, Reserves, layer, shared_of}
+use Rattle.calls_on_blocks.specs.Layer.{SharedState, World, Reserves, layer, shared_of}
 use Rattle.calls_on_blocks.specs.Theory.{serves, served_calls, fault_of, refusal_for, child_of, reserved, has_file, child_refusal, others_refusal, start_refusal, begun_by, if_hart, begin_in, begins}
 use Rattle.calls_on_blocks.proofs.Beside.{laws_beside}
 use Rattle.calls_on_blocks.proofs.Operations.{history, keeps}
 use Rattle.calls_on_blocks.proofs.Reserving.{part, tables_reserved, blocks_reserved, lender_other, other_children, child_reserved, unreserved, has_none}
 
 -- A start that begins its call: the hart is one, no call under way reserves it, the call is served, and the others let it begin; and it leaves what it should.
-pub record BeginsHere {S : Type 0} (h : ℕ) (call : Call) (busy : ℕ → Bool) (s : Shared) (t u : S) : Type 0 where
+pub record BeginsHere {S : Type 0} (h : ℕ) (call : Call) (busy : ℕ → Bool) (s : SharedState) (t u : S) : Type 0 where
   pub hart : nat_lt h hart_count ≡ true
   pub free : reserved busy s.children h ≡ false
   pub serves_it : serves call ≡ true
@@ -58,7 +58,7 @@ serves_then None true e = refl
 serves_then None false e = absurd cc
 serves_then (Some why) b e = absurd cc
 
-pub begun_here : {S : Type 0} (h : ℕ) (call : Call) (busy : ℕ → Bool) (s : Shared) (t u : S) → begin_in h call busy s t ≡ Begins u → BeginsHere h call busy s t u
+pub begun_here : {S : Type 0} (h : ℕ) (call : Call) (busy : ℕ → Bool) (s : SharedState) (t u : S) → begin_in h call busy s t ≡ Begins u → BeginsHere h call busy s t u
 begun_here {S} h call busy s t u e = by (nat_lt h hart_count) refl e
   where
     by : (b : Bool) → nat_lt h hart_count ≡ b → if_hart b (begun_by t (start_refusal h call busy s)) ≡ Begins u → BeginsHere h call busy s t u
@@ -73,14 +73,14 @@ pub below_count : (h : ℕ) → nat_lt h hart_count ≡ true → h < hart_count
 below_count h e = grind (arith, nat_tests)
 
 -- A hart that may be the child.
-record MayServe (h child : ℕ) (busy : ℕ → Bool) (s : Shared) : Type 0 where
+record MayServe (h child : ℕ) (busy : ℕ → Bool) (s : SharedState) : Type 0 where
   pub below : nat_lt child hart_count ≡ true
   pub apart : (child == h) ≡ false
   pub idle : busy child ≡ false
   pub free : reserved busy s.children child ≡ false
   pub empty : has_file child s.state.tables ≡ false
 
-may_serve : (h child : ℕ) (busy : ℕ → Bool) (s : Shared) → child_refusal h child busy s ≡ None → MayServe h child busy s
+may_serve : (h child : ℕ) (busy : ℕ → Bool) (s : SharedState) → child_refusal h child busy s ≡ None → MayServe h child busy s
 may_serve h child busy s e = by (nat_lt child hart_count) ((child == h) || (busy child || reserved busy s.children child)) (has_file child s.state.tables) refl refl refl e
   where
     by : (below taken full : Bool) → nat_lt child hart_count ≡ below → ((child == h) || (busy child || reserved busy s.children child)) ≡ taken → has_file child s.state.tables ≡ full

@@ -7,7 +7,7 @@ use Rattle.plain_tree.specs.declared.answer.Reply.{Reply}
 use Rattle.plain_tree.specs.declared.call.Call.TheVariants as calls
 use Rattle.tree_laws.proofs.Maps.{put_same}
 use Rattle.atomic_programs.specs.Prog.{Ret, Do, bind, plain, unmarked}
-use Rattle.atomic_programs.specs.Joined.{Handed, lowered}
+use Rattle.atomic_programs.specs.Joined.{Handover, lowered}
 use Rattle.atomic_programs.proofs.Prog.{bind-assoc, plain-bind}
 use Rattle.fs_tables.specs.declared.files.OpenFile.{OpenFile}
 use Rattle.fs_tables.specs.declared.files.Want.TheVariants as want
@@ -30,7 +30,7 @@ use Rattle.calls_on_blocks.proofs.Pieces.{left_below, plain_load}
 
 module _ (sizes : Super) (fd : ℕ) where
   -- the answer above, and what is in hand
-  abbrev stat_then : Handed (Option (ℕ × Face)) Carry → P Reply
+  abbrev stat_then : Handover (Option (ℕ × Face)) Carry → P Reply
   stat_then r = lowered machine (layer sizes) (handlers sizes) r.carry (above.stat_on fd r.answer)
 
   stat_given : (f : OpenFile) (d : Dinode) → plain (bind (stat_loaded nothing f.number d) stat_then) ≡ syscalls.stat_on fd (Loads f (loaded f d))

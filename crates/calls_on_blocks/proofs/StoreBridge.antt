@@ -7,7 +7,7 @@ use Rattle.plain_tree.specs.declared.answer.Reply.{Reply}
 use Rattle.plain_tree.specs.Tree.{put}
 use Rattle.tree_laws.proofs.Maps.{put_same}
 use Rattle.atomic_programs.specs.Prog.{Do, bind, unmarked}
-use Rattle.atomic_programs.specs.Joined.{Handed, lowered}
+use Rattle.atomic_programs.specs.Joined.{Handover, lowered}
 use Rattle.atomic_programs.proofs.Prog.{bind-assoc}
 use Rattle.fs_machine.specs.Machines as code
 use Rattle.fs_machine.specs.Programs.{fetch}
@@ -39,7 +39,7 @@ module _ (sizes : Super) (n count : ℕ) (k : parts.P Reply) (rest : code.P Repl
       b : ℕ
       b = inode_block sizes.inodestart n
 
-      then_ : Handed (Unit {0}) Carry → P Reply
+      then_ : Handover (Unit {0}) Carry → P Reply
       then_ r = lowered machine (layer sizes) (handlers sizes) r.carry k
 
       put_in : Dinode → List ℕ → code.P Reply

@@ -16,18 +16,18 @@ use Rattle.tree_laws.proofs.Maps.{eq_isnt, put_same, put_other}
 use Rattle.tree_laws.proofs.Slots.{same_self}
 use Rattle.tree_moves.specs.Moves.Move.{Look}
 use Rattle.atomic_programs.specs.Prog.{Ret, Do, bind, plain, unmarked}
-use Rattle.atomic_programs.specs.Joined.{Handed, lowered}
+use Rattle.atomic_programs.specs.Joined.{Handover, lowered}
 use Rattle.atomic_programs.proofs.Prog.{bind-assoc}
 use Rattle.fs_machine.specs.Machines as code
 use Rattle.fs_machine.specs.Programs.{fetch}
 use Rattle.fs_machine.specs.Steps as steps
 use Rattle.inode_table.specs.Programs.{no_record, inode_block, load_unless, put_inode, store as store_inode, with_dinode}
-use Rattle.inode_data.specs.Programs.{Fetched, fetch_block}
+use Rattle.inode_data.specs.Programs.{FetchedBlock, fetch_block}
 use Rattle.directory.specs.declared.found.Found.{Found}
 use Rattle.directory.specs.Programs.{Named, Entry, block_count, is_directory, is_live_directory, lookup, search, put_dirent, put_entry, with_dirent, with_slot}
 use Rattle.path_walk.specs.declared.walked.Goal.TheVariants as goals
 use Rattle.path_walk.specs.Programs.{WalkedState, Reaches, Loses, walk_path, loaded}
-use Rattle.inode_machine.specs.Inodes.{Seen, face_or, is_live_face, AtEntries}
+use Rattle.inode_machine.specs.Inodes.{Sight, face_or, is_live_face, AtEntries}
 use Rattle.inode_machine.specs.Naming as above
 use Rattle.inode_machine.specs.Parts as parts
 use Rattle.inode_machine.specs.Rules.{machine}
@@ -66,13 +66,13 @@ plain_entries d = by (is_directory d)
 
 module _ (sizes : Super) where
   -- an inode is taken, and it is seen whether it has entries
-  entries_same : (c : Carry) (n : ℕ) (m : Seen → Option world.Mark) (k : Seen → parts.P Reply) (rest : Dinode → Option Found → code.P Reply)
+  entries_same : (c : Carry) (n : ℕ) (m : Sight → Option world.Mark) (k : Sight → parts.P Reply) (rest : Dinode → Option Found → code.P Reply)
       → ((d : Dinode) (o : Option Found) → left_below sizes (put c n (Has d NothingMore)) (k (record { face = face_seen d; found = None; empty = not (is_some o) })) ≡ rest d o)
       → left_below sizes c (Do (Take n AtEntries) m k) ≡ Do (steps.Lock n) unmarked (λ content. bind (load_unless sizes.inodestart n content) (λ d. bind (search_entries d) (rest d)))
   entries_same c n m k rest same =
       λ i. Do (steps.Lock n) unmarked (λ content. after_plain (load_unless {M = Acts} sizes.inodestart n content) (load_unless sizes.inodestart n content) (looked AtEntries c n) then_ (λ d. bind (search_entries d) (rest d)) (plain_load sizes.inodestart n content) looks i)
     where
-      then_ : Handed Seen Carry → P Reply
+      then_ : Handover Sight Carry → P Reply
       then_ r = lowered machine (layer sizes) (handlers sizes) r.carry (k r.answer)
 
       looks : (d : Dinode) → plain (bind (looked AtEntries c n d) then_) ≡ bind (search_entries d) (rest d)
@@ -103,7 +103,7 @@ module _ (sizes : Super) where
         had : Had
         had = Has (with_links count (record_in c n)) NothingMore
 
-        then_ : Handed (Unit {0}) Carry → P Reply
+        then_ : Handover (Unit {0}) Carry → P Reply
         then_ r = lowered machine (layer sizes) (handlers sizes) r.carry k
 
         put_in : Dinode → List ℕ → code.P Reply
@@ -187,7 +187,7 @@ module _ (sizes : Super) (path : List ℕ) where
         abbrev b : ℕ
         b = inode_block sizes.inodestart d
 
-        abbrev then_ : Handed (Unit {0}) Carry → P Reply
+        abbrev then_ : Handover (Unit {0}) Carry → P Reply
         then_ r = lowered machine (layer sizes) (handlers sizes) r.carry lowers
 
         -- the directory's record, as it is put
@@ -206,7 +206,7 @@ module _ (sizes : Super) (path : List ℕ) where
             goes : left_below sizes (put c d (Has u NothingMore)) lowers ≡ rest
             goes = lowers_same (put c d (Has u NothingMore)) (ap record_had (put_same c d (Has u NothingMore)) ∙ ap (λ (x : Dinode). Some (with_slot s x)) is_record) (kept_had n d w ne c (Has u NothingMore) had)
 
-        put_back : (f : Fetched) → plain (bind (naming.clear_in sizes d e c m s f) then_) ≡ bind (put_dirent sizes.inodestart d v s Free f) (syscalls.name_cleared (syscalls.unlinked sizes path ns) d (loaded n w))
+        put_back : (f : FetchedBlock) → plain (bind (naming.clear_in sizes d e c m s f) then_) ≡ bind (put_dirent sizes.inodestart d v s Free f) (syscalls.name_cleared (syscalls.unlinked sizes path ns) d (loaded n w))
         put_back f = λ i. Do (steps.Put f.number (Some (with_dirent (s % dirents_per_block) Free f.bytes))) unmarked (λ _. stores i)
           where
             stores : plain (bind (bind (fetch b) (naming.put_named (Clear d e) world.Room m (tt {0}) b d u c)) then_)

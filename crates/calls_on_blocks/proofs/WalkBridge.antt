@@ -9,7 +9,7 @@ use Rattle.plain_tree.specs.Tree.{Name, put, elements, is_absolute}
 use Rattle.plain_tree.specs.Widths.{root}
 use Rattle.tree_laws.proofs.Maps.{put_same}
 use Rattle.atomic_programs.specs.Prog.{Ret, Do, bind, plain, unmarked}
-use Rattle.atomic_programs.specs.Joined.{Handed, lowered}
+use Rattle.atomic_programs.specs.Joined.{Handover, lowered}
 use Rattle.atomic_programs.proofs.Prog.{bind-assoc}
 use Rattle.fs_tables.specs.Inodes.{DroppedState, Counts, Keeps, Dies}
 use Rattle.fs_machine.specs.Machines as code
@@ -23,13 +23,13 @@ use Rattle.path_walk.specs.declared.walked.Stop as stops
 use Rattle.path_walk.specs.declared.walked.Stop.TheVariants as stop
 use Rattle.path_walk.specs.Programs as walks
 use Rattle.path_walk.specs.Programs.{WalkedState, Reaches, Loses, loaded}
-use Rattle.inode_machine.specs.Inodes.{Seen, AtNothing, AtName, is_directory_face}
+use Rattle.inode_machine.specs.Inodes.{Sight, AtNothing, AtName, is_directory_face}
 use Rattle.inode_machine.specs.Parts as parts
 use Rattle.inode_machine.specs.Rules.{machine}
 use Rattle.inode_machine.specs.World as above
 use Rattle.inode_machine.specs.World.Op.{Take, Give, UpStart, WalkDown}
 use Rattle.inodes_on_blocks.specs.Handlers.{Acts, P, is_listed, whom}
-use Rattle.inodes_on_blocks.specs.Lowering.{Carry, Learned, NothingMore, Has, Apart, record_had}
+use Rattle.inodes_on_blocks.specs.Lowering.{Carry, Knowledge, NothingMore, Has, Apart, record_had}
 use Rattle.inodes_on_blocks.specs.Reading.{learned, number_found, looked}
 use Rattle.call_parts.specs.Parts.{ReachedState, Finds, give_reached, reach_on}
 use Rattle.calls_on_blocks.specs.Programs.{handlers}
@@ -39,7 +39,7 @@ use Rattle.calls_on_blocks.proofs.Pieces.{left_below, plain_load}
 use Rattle.calls_on_blocks.proofs.Searches.{after_plain, plain_lookup}
 
 -- what is seen of an inode with this record
-abbrev pub seen : Dinode → Option ℕ → Seen
+abbrev pub seen : Dinode → Option ℕ → Sight
 seen d found = record { face = face_seen d; found = found; empty = true }
 
 -- why a walk ends, in the code's words
@@ -49,20 +49,20 @@ stop_of parts.NoMemory = stop.NoMemory
 
 module _ (sizes : Super) where
   -- what is left of a call after an operation, by its answer and what is in hand
-  abbrev rest_of : {A : Type 0} → (A → parts.P Reply) → Handed A Carry → P Reply
+  abbrev rest_of : {A : Type 0} → (A → parts.P Reply) → Handover A Carry → P Reply
   rest_of k r = lowered machine (layer sizes) (handlers sizes) r.carry (k r.answer)
 
   -- ---- locks
 
   -- an inode is taken for its record
-  pub take_same : (c : Carry) (n : ℕ) (m : Seen → Option above.Mark) (k : Seen → parts.P Reply) (rest : Dinode → code.P Reply)
+  pub take_same : (c : Carry) (n : ℕ) (m : Sight → Option above.Mark) (k : Sight → parts.P Reply) (rest : Dinode → code.P Reply)
       → ((d : Dinode) → left_below sizes (put c n (Has d NothingMore)) (k (seen d None)) ≡ rest d)
       → left_below sizes c (Do (Take n AtNothing) m k) ≡ Do (Lock n) unmarked (λ content. bind (load_unless sizes.inodestart n content) rest)
   take_same c n m k rest same =
       λ i. Do (Lock n) unmarked (λ content. after_plain (load_unless {M = Acts} sizes.inodestart n content) (load_unless sizes.inodestart n content) (looked AtNothing c n) (rest_of k) rest (plain_load sizes.inodestart n content) same i)
 
   -- a directory is taken, and a name looked up in it
-  pub look_same : (c : Carry) (n : ℕ) (e : Name) (m : Seen → Option above.Mark) (k : Seen → parts.P Reply) (rest : Dinode → Option Found → code.P Reply)
+  pub look_same : (c : Carry) (n : ℕ) (e : Name) (m : Sight → Option above.Mark) (k : Sight → parts.P Reply) (rest : Dinode → Option Found → code.P Reply)
       → ((d : Dinode) (o : Option Found) → left_below sizes (put c n (Has d (learned e o))) (k (seen d (number_found o))) ≡ rest d o)
       → left_below sizes c (Do (Take n (AtName e)) m k) ≡ Do (Lock n) unmarked (λ content. bind (load_unless sizes.inodestart n content) (λ d. bind (lookup e d) (rest d)))
   look_same c n e m k rest same =
@@ -98,7 +98,7 @@ module _ (sizes : Super) where
       abbrev after_look : ℕ → List ℕ → Dinode → Option Found → code.P Reply
       after_look d ns v o = bind (walks.walk_step d (loaded d v) ns (walks.walk goal sizes.inodestart es) o) go
 
-      step_same : (c : Carry) (d : ℕ) (ns : List ℕ) (v : Dinode) (l : Learned) (o : Option Found) → left_below sizes (put c d (Has v l)) (parts.walk_step d ns next lost (number_found o)) ≡ after_look d ns v o
+      step_same : (c : Carry) (d : ℕ) (ns : List ℕ) (v : Dinode) (l : Knowledge) (o : Option Found) → left_below sizes (put c d (Has v l)) (parts.walk_step d ns next lost (number_found o)) ≡ after_look d ns v o
       step_same c d ns v l None = leave_same (put c d (Has v l)) d v ns (lost parts.NotThere) (λ ms. go (Loses stop.NotThere ms)) (ap record_had (put_same c d (Has v l))) (λ c ms. lost_same c parts.NotThere ms)
       step_same c d ns v l (Some f) = λ i. Do (Up (Number f.number)) unmarked (λ up. by up i)
         where

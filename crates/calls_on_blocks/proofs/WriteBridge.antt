@@ -9,7 +9,7 @@ use Rattle.plain_tree.specs.Calls.{piece, piece_count}
 use Rattle.plain_tree.specs.Tree.{put}
 use Rattle.tree_laws.proofs.Maps.{put_same}
 use Rattle.atomic_programs.specs.Prog.{Ret, Do, bind, plain, unmarked}
-use Rattle.atomic_programs.specs.Joined.{Handed, lowered}
+use Rattle.atomic_programs.specs.Joined.{Handover, lowered}
 use Rattle.fs_tables.specs.declared.files.OpenFile.{OpenFile}
 use Rattle.fs_tables.specs.declared.files.Refused.{Refused}
 use Rattle.fs_tables.specs.declared.files.Refused.TheVariants as refused
@@ -17,10 +17,10 @@ use Rattle.fs_tables.specs.declared.files.Want.TheVariants as want
 use Rattle.fs_machine.specs.Machines as code
 use Rattle.fs_machine.specs.Programs.{finish}
 use Rattle.fs_machine.specs.Steps as steps
-use Rattle.fs_machine.specs.Steps.{CheckFile, JoinToWrite, Joined, Joins, LockOpen, RefusesJoin, Unlock}
+use Rattle.fs_machine.specs.Steps.{CheckFile, JoinToWrite, JoinResult, Joins, LockOpen, RefusesJoin, Unlock}
 use Rattle.inode_table.specs.Programs.{load_unless, no_record, store as store_inode}
 use Rattle.inode_data.specs.Programs.{blocks_between}
-use Rattle.inode_data.specs.Writing.{Written, grown, store_written, write_blocks, write_part}
+use Rattle.inode_data.specs.Writing.{WriteResult, grown, store_written, write_blocks, write_part}
 use Rattle.inode_machine.specs.Descriptors as above
 use Rattle.inode_machine.specs.Parts as parts
 use Rattle.inode_machine.specs.Rules.{machine}
@@ -47,7 +47,7 @@ plain_part sizes n d offset bytes = then_plain (write_blocks count sizes offset 
     count : ℕ
     count = blocks_between offset (offset + length bytes)
 
-    stored : (w : Written) → plain (store_written {M = Acts} sizes n w) ≡ store_written sizes n w
+    stored : (w : WriteResult) → plain (store_written {M = Acts} sizes n w) ≡ store_written sizes n w
     stored w =
         then_plain (store_inode sizes.inodestart n (grown w)) (store_inode sizes.inodestart n (grown w)) (λ _. Ret (record { inode = grown w; upto = w.upto })) (λ _. Ret (record { inode = grown w; upto = w.upto }))
         (plain_store sizes.inodestart n (grown w)) (λ _. refl)
@@ -58,7 +58,7 @@ ended_of world.Whole = ended.Whole
 ended_of (world.Refused why) = ended.Refused why
 ended_of (world.Short k) = ended.Short
 
-ended_to : (offset : ℕ) (bytes : List ℕ) (w : Written) → ended_of (wrote_to offset bytes w.upto) ≡ syscalls.end_of offset (length bytes) w
+ended_to : (offset : ℕ) (bytes : List ℕ) (w : WriteResult) → ended_of (wrote_to offset bytes w.upto) ≡ syscalls.end_of offset (length bytes) w
 ended_to offset bytes w = by (w.upto == offset + length bytes)
   where
     by : (b : Bool) → ended_of (if b then world.Whole else world.Short (w.upto - offset)) ≡ (if b then ended.Whole else ended.Short)
@@ -82,10 +82,10 @@ module _ (sizes : Super) (fd : ℕ) (bytes : List ℕ) where
     leaves c a = left_then sizes c (above.wrote_on fd bytes more a) ∙ (λ j. bind finish (λ _. ends c a j))
 
     -- what is left where the lock is had, and after the piece was written
-    abbrev then_ : Handed (ℕ × ℕ) Carry → P Reply
+    abbrev then_ : Handover (ℕ × ℕ) Carry → P Reply
     then_ r = lowered machine (layer sizes) (handlers sizes) r.carry (Do (WriteFile fd r.answer.0 r.answer.1 b) (above.writes fd b) (λ a. Do Leave unmarked (λ _. above.wrote_on fd bytes more a)))
 
-    abbrev last : Handed world.Wrote Carry → P Reply
+    abbrev last : Handover world.Wrote Carry → P Reply
     last r = lowered machine (layer sizes) (handlers sizes) r.carry (Do Leave unmarked (λ _. above.wrote_on fd bytes more r.answer))
 
     written_is : (c : Carry) (f : OpenFile) (d : Dinode) → record_had (c f.number) ≡ Some d → (o : Option Cause)
@@ -97,7 +97,7 @@ module _ (sizes : Super) (fd : ℕ) (bytes : List ℕ) where
         (syscalls.give_written fd f.number f.offset (length b) bytes rest) (plain_part sizes f.number d f.offset b)
         (λ w j. Do (Unlock (record { number = f.number; content = Some w.inode }) (Some (fd, w.upto))) unmarked (λ _. given w j))
       where
-        given : (w : Written) → left_below sizes (put c f.number Apart) (Do Leave unmarked (λ _. above.wrote_on fd bytes more (wrote_to f.offset b w.upto))) ≡ syscalls.leave_piece fd bytes rest (syscalls.end_of f.offset (length b) w)
+        given : (w : WriteResult) → left_below sizes (put c f.number Apart) (Do Leave unmarked (λ _. above.wrote_on fd bytes more (wrote_to f.offset b w.upto))) ≡ syscalls.leave_piece fd bytes rest (syscalls.end_of f.offset (length b) w)
         given w = leaves (put c f.number Apart) (wrote_to f.offset b w.upto) ∙ ap (syscalls.leave_piece fd bytes rest) (ended_to f.offset b w)
 
     loaded_is : (c : Carry) (f : OpenFile) (d : Dinode) → plain (bind (with_file (f.number, f.offset) c fd f.number f.offset d) then_) ≡ syscalls.write_loaded sizes fd bytes i rest f d
@@ -128,7 +128,7 @@ module _ (sizes : Super) (fd : ℕ) (bytes : List ℕ) where
       piece_same i (Do Join unmarked (λ _. above.write_from fd n bytes left (i + 1))) (syscalls.pieces_from (suc left) sizes fd bytes (i + 1))
       (λ e j. Do steps.Join unmarked (λ _. from_same left (i + 1) n e j)) c n
 
-  joined : (a : Joined) → left_below sizes nothing (above.joined_on fd bytes (joining_to a)) ≡ syscalls.joined_on fd bytes (syscalls.write_piece sizes fd bytes 0 (syscalls.pieces_from (piece_count bytes - 1) sizes fd bytes 1)) a
+  joined : (a : JoinResult) → left_below sizes nothing (above.joined_on fd bytes (joining_to a)) ≡ syscalls.joined_on fd bytes (syscalls.write_piece sizes fd bytes 0 (syscalls.pieces_from (piece_count bytes - 1) sizes fd bytes 1)) a
   joined (RefusesJoin refused.BadDescriptor) = refl
   joined (RefusesJoin refused.BadMode) = refl
   joined (RefusesJoin refused.NoDriver) = refl

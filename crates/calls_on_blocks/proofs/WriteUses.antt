@@ -18,7 +18,7 @@ use Rattle.inode_machine.specs.Descriptors.{joined_on, refused_to, write_from, w
 use Rattle.inode_machine.specs.Parts.{P, failed, full, own_step, say}
 use Rattle.inode_machine.specs.Rules.{machine}
 use Rattle.inode_machine.specs.Theory.{are_bytes}
-use Rattle.inode_machine.specs.World.{Joining, NotJoined, Joined, Wrote, Whole, Refused, Short}
+use Rattle.inode_machine.specs.World.{JoinResult, NotJoined, Joined, Wrote, Whole, Refused, Short}
 use Rattle.inode_machine.specs.World.Op.{Join}
 use Rattle.inodes_on_blocks.proofs.Records.{drop_bytes, take_bytes}
 use Rattle.calls_on_blocks.proofs.Operations as ops
@@ -83,7 +83,7 @@ module _ (sizes : Super) (h : ℕ) (lt : h < hart_count) (fd n b : ℕ) (bs : Li
   from_uses zero i e = piece_uses i (omega (arith, e)) (say (write_reply fd bytes)) (say_uses sizes h lt (write_reply fd bytes))
   from_uses (suc left) i e = piece_uses i (omega (arith, e)) (Do Join unmarked (λ _. write_from fd n bytes left (i + 1))) (ops.joins sizes h lt unmarked, λ _. from_uses left (i + 1) (omega (arith, e)))
 
-joined_uses : (sizes : Super) (h : ℕ) (lt : h < hart_count) (fd b : ℕ) (bs : List ℕ) → IsBytes (b ∷ bs) → (a : Joining) → Uses machine (Within sizes h) (joined_on fd (b ∷ bs) a)
+joined_uses : (sizes : Super) (h : ℕ) (lt : h < hart_count) (fd b : ℕ) (bs : List ℕ) → IsBytes (b ∷ bs) → (a : JoinResult) → Uses machine (Within sizes h) (joined_on fd (b ∷ bs) a)
 joined_uses sizes h lt fd b bs are (NotJoined why) = tt
 joined_uses sizes h lt fd b bs are (Joined n) = from_uses sizes h lt fd n b bs are (piece_count (b ∷ bs) - 1) 0 (some (piece_count (b ∷ bs)) (some_pieces (length (b ∷ bs)) (length (b ∷ bs) == 0) (omega arith) refl))
   where

@@ -8,13 +8,13 @@ use Rattle.atomic_programs.specs.Calls.{Event, AllHonest, fresh, run}
 use Rattle.atomic_programs.specs.Joined.{Both}
 use Rattle.fs_machine.specs.LogPart.{Outside}
 use Rattle.inode_machine.specs.World as above
-use Rattle.inode_machine.specs.MoveCalls.{Moving, HasOneHistory, NoneClimbs, Alone}
+use Rattle.inode_machine.specs.MoveCalls.{MoveMachine, HasOneHistory, NoneClimbs, Alone}
 use Rattle.inodes_on_blocks.specs.Mounted.{IsMountable, first_world, mounted}
 use Rattle.calls_on_blocks.specs.Layer.{World}
 use Rattle.calls_on_blocks.specs.Theory.{block_calls}
 
 -- the calls on the blocks, as calls whose steps are moves on the tree
-abbrev pub block_moves : Super → Moving
+abbrev pub block_moves : Super → MoveMachine
 block_moves sizes =
     let T = block_calls sizes in
     record {

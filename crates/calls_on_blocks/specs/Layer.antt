@@ -12,7 +12,7 @@ use Rattle.inodes_on_blocks.specs.Below.{World as Blocks, exec as exec_blocks}
 use Rattle.inodes_on_blocks.specs.Lowering.{below}
 
 -- what all harts share; and of each hart the child that the call reserves which it began last
-pub record Shared : Type 0 where
+pub record SharedState : Type 0 where
   pub state : steps.State
   pub children : ℕ → Option ℕ
 
@@ -21,11 +21,11 @@ pub record World : Type 0 where
   pub blocks : Blocks
   pub children : ℕ → Option ℕ
 
-abbrev pub shared_of : World → Shared
+abbrev pub shared_of : World → SharedState
 shared_of w = record { state = w.blocks.state; children = w.children }
 
 -- an operation leaves the children as they are
-abbrev pub exec_shared : ℕ → Outside → (op : Op) → Shared → Did (Answer op) Shared
+abbrev pub exec_shared : ℕ → Outside → (op : Op) → SharedState → Did (Answer op) SharedState
 exec_shared h x op s = did_in (λ t. record s { state = t }) (steps.exec h x op s.state)
 
 abbrev pub exec : ℕ → Outside → (op : Op) → World → Did (Answer op) World

@@ -1,7 +1,7 @@
 -- Each operation on whole inodes as its program below, on a disk of these sizes.
 use Rattle.std.specs.Prelude.{Option}
 use Rattle.fs_layout.specs.declared.superblock.Super.{Super}
-use Rattle.atomic_programs.specs.Joined.{Handed}
+use Rattle.atomic_programs.specs.Joined.{Handover}
 use Rattle.inode_machine.specs.World as above
 use Rattle.inode_machine.specs.World.Op.{Take, Give, UpStart, Up, WalkDown, Down, Free, Forget, Claim, Store, Fill, Enter, Clear, Empty, Slot, Install, StatFile, LockFile, ReadFile, CheckFile, JoinFile, LockOpen, WriteFile, Double, Shut, Settle, Lend, LendDirectory, Release, Join, Leave, Say}
 use Rattle.inodes_on_blocks.specs.Emptying.{empty, free}
@@ -16,7 +16,7 @@ use Rattle.inodes_on_blocks.specs.Reading.{stat_file, take}
 use Rattle.inodes_on_blocks.specs.Storing.{store}
 use Rattle.inodes_on_blocks.specs.Writing.{write_file}
 
-abbrev pub handlers : Super → Carry → (op : above.Op) → (above.Answer op → Option above.Mark) → P (Handed (above.Answer op) Carry)
+abbrev pub handlers : Super → Carry → (op : above.Op) → (above.Answer op → Option above.Mark) → P (Handover (above.Answer op) Carry)
 handlers sizes c (Take n looking) m = take sizes n looking c m
 handlers sizes c (Give n) m = one.give n c m
 handlers sizes c (UpStart absolute) m = one.up_start absolute c m

@@ -15,7 +15,7 @@ use Rattle.fs_machine.specs.Steps as steps
 use Rattle.fs_machine.specs.Premises as premises
 use Rattle.inode_machine.specs.Exec.{is_at}
 use Rattle.inode_machine.specs.Theory.{Refusal, NoSuchHart, Busy, PathTooLong, ZeroInPath, NotEmptyHart, NotCovered, calls_that, is_covered, path_limit, has_zero, are_bytes, asks_wrong}
-use Rattle.calls_on_blocks.specs.Layer.{Shared, exec_shared, layer, shared_of}
+use Rattle.calls_on_blocks.specs.Layer.{SharedState, exec_shared, layer, shared_of}
 use Rattle.calls_on_blocks.specs.Programs.{handlers}
 
 -- the calls of which each operation's program is known to act at one moment: of write those of bytes, as all are that code has
@@ -78,18 +78,18 @@ abbrev pub has_file : ℕ → TablesState → Bool
 has_file h t = any_below descriptor_count (λ fd. is_some (file_named h fd t))
 
 -- why a hart can't be the child: there is no such hart; it is the caller, has a call, or is another one's child; it has descriptors
-abbrev pub child_refusal : ℕ → ℕ → (ℕ → Bool) → Shared → Option Refusal
+abbrev pub child_refusal : ℕ → ℕ → (ℕ → Bool) → SharedState → Option Refusal
 child_refusal h child busy s =
     if nat_lt child hart_count then (if (child == h) || (busy child || reserved busy s.children child) then Some Busy else (if has_file child s.state.tables then Some NotEmptyHart else None)) else Some NoSuchHart
 
-abbrev pub others_refusal : ℕ → Call → (ℕ → Bool) → Shared → Option Refusal
+abbrev pub others_refusal : ℕ → Call → (ℕ → Bool) → SharedState → Option Refusal
 others_refusal h (Inherit child) busy s = child_refusal h child busy s
 others_refusal h call busy s = None
 
 -- ---- what a start comes to
 
 -- why hart h's call doesn't begin: a child starts nothing; then what is wrong with the call, and last what the other harts do
-abbrev pub start_refusal : ℕ → Call → (ℕ → Bool) → Shared → Option Refusal
+abbrev pub start_refusal : ℕ → Call → (ℕ → Bool) → SharedState → Option Refusal
 start_refusal h call busy s = or_else (if reserved busy s.children h then Some Busy else None) (or_else (refusal_for call) (others_refusal h call busy s))
 
 abbrev pub begun_by : {S : Type 0} → S → Option Refusal → Began Refusal S
@@ -101,7 +101,7 @@ if_hart true b = b
 if_hart false b = Refuses NoSuchHart
 
 -- There are eight harts. t is what a start leaves that isn't refused.
-abbrev pub begin_in : {S : Type 0} → ℕ → Call → (ℕ → Bool) → Shared → S → Began Refusal S
+abbrev pub begin_in : {S : Type 0} → ℕ → Call → (ℕ → Bool) → SharedState → S → Began Refusal S
 begin_in h call busy s t = if_hart (nat_lt h hart_count) (begun_by t (start_refusal h call busy s))
 
 -- it says whom its call reserves, and changes nothing else
@@ -115,7 +115,7 @@ block_calls sizes = lowered_calls served_calls (layer sizes) (handlers sizes) (b
 
 abbrev pub shared_part : (sizes : Super) → Part served_calls (layer sizes)
 shared_part sizes = record {
-  Shared = Shared;
+  Shared = SharedState;
   of = shared_of;
   exec = exec_shared;
   may = λ h op s. premises.May h op s.state;

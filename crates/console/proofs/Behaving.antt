@@ -6,15 +6,15 @@ use Rattle.console.specs.declared.fault.ConsoleFault.{ConsoleFault}
 use Rattle.console.specs.declared.fault.ConsoleFault.TheVariants as faults
 use Rattle.console.specs.Behaviours.{Behaviour, gives, in_case, followed_by, takes_memory, prints, IfTold, IsWritten, Told, Runs}
 use Rattle.console.specs.Notes.{NotesOf, all_noted, noted}
-use Rattle.console.specs.Sessions.{Happening}
+use Rattle.console.specs.Sessions.{EventOfCall}
 use Rattle.console_parts.proofs.Appending.{appends_nothing, appends_both}
 
-noted_both : (n : NotesOf) (xs ys : List Happening) → all_noted n (xs ++ ys) ≡ all_noted (all_noted n xs) ys
+noted_both : (n : NotesOf) (xs ys : List EventOfCall) → all_noted n (xs ++ ys) ≡ all_noted (all_noted n xs) ys
 unfolding all_noted
 noted_both n [] ys = refl
 noted_both n (x ∷ xs) ys = noted_both (noted n x) xs ys
 
-told_both : (out mid end : Option (List ℕ)) (n m l : NotesOf) (xs ys : List Happening) (front back : List ℕ) → Told out n xs front mid m → Told mid m ys back end l → Told out n (xs ++ ys) (front ++ back) end l
+told_both : (out mid end : Option (List ℕ)) (n m l : NotesOf) (xs ys : List EventOfCall) (front back : List ℕ) → Told out n xs front mid m → Told mid m ys back end l → Told out n (xs ++ ys) (front ++ back) end l
 told_both out mid end n m l xs ys front back first second = record {
   printed = appends_both out mid end front back first.printed second.printed;
   noted = second.noted ∙ ap (λ k. all_noted k ys) first.noted ∙ sym (noted_both n xs ys);

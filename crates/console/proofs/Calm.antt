@@ -15,7 +15,7 @@ use Rattle.console.specs.Behaviours.{Behaviour, GoesOn, gives, in_case, followed
 use Rattle.console.specs.Commands.{RunOf, IsPassed, acts, acts_as, all_harts, flow_of, goes_on, happens, in_steps, is_enough, joined, line, lines, settles, starts, tells_flow, tells_waits, to_end, turn, turns, up_to}
 use Rattle.console.specs.Lines.{called}
 use Rattle.console.specs.Queues.{left_to}
-use Rattle.console.specs.Sessions.{SessionOf, Happening, Happens, doing_at}
+use Rattle.console.specs.Sessions.{SessionOf, EventOfCall, Happens, doing_at}
 use Rattle.console.specs.Verbs.{verb_of}
 use Rattle.console_parts.specs.declared.mode.Mode.{Mode}
 use Rattle.console.specs.Histories.{IsUntold, TellsHistory, WhereSet}
@@ -46,7 +46,7 @@ same_fault A B (faults.Line n why) unstopped = unstopped
 
 -- what is known of an event in a file system that hasn't stopped
 abbrev pub KeepsStill : {D : Type 0} → (D → List (List ℕ)) → (D → ℕ) → Type 0
-KeepsStill {D} contents failures = (s t : SessionOf D) (x : Happening) → s.world.harts.stopped ≡ false → Happens contents failures s x t → (t.world.harts.stopped ≡ false) × ((stop : Stop) → flow_of x.came ≡ Err (faults.Stopped stop) → ⊥)
+KeepsStill {D} contents failures = (s t : SessionOf D) (x : EventOfCall) → s.world.harts.stopped ≡ false → Happens contents failures s x t → (t.world.harts.stopped ≡ false) × ((stop : Stop) → flow_of x.came ≡ Err (faults.Stopped stop) → ⊥)
 
 module _ {D : Type 0} (contents : D → List (List ℕ)) (failures : D → ℕ) (calm : KeepsStill contents failures) where
   abbrev pub IsStill : RunOf D → Type 0
@@ -54,7 +54,7 @@ module _ {D : Type 0} (contents : D → List (List ℕ)) (failures : D → ℕ) 
 
   -- run in a file system that hasn't stopped, it leaves one that hasn't, and isn't stopped
   abbrev pub StaysStill : {A : Type 0} → Behaviour (RunOf D) A → Type 0
-  StaysStill {A} behaviour = (s : RunOf D) (es : List Happening) (text : List ℕ) (r : Result A ConsoleFault) (t : RunOf D) → IsStill s → behaviour s es text r t → IsStill t × IsNoStop r
+  StaysStill {A} behaviour = (s : RunOf D) (es : List EventOfCall) (text : List ℕ) (r : Result A ConsoleFault) (t : RunOf D) → IsStill s → behaviour s es text r t → IsStill t × IsNoStop r
 
   gives_still : {A : Type 0} (a : A) → StaysStill (gives a)
   unfolding gives

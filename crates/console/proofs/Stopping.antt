@@ -7,12 +7,12 @@ use Rattle.plain_tree.specs.declared.call.Call.{Call}
 use Rattle.hart_core.specs.declared.outcome.Stop.{Stop}
 use Rattle.atomic_programs.specs.Prog.{Ret, Do, Did, Waits, Ran, Stops, did_in}
 use Rattle.atomic_programs.specs.Calls.{Event, Start, Step, Began, Refuses, Begins, Outcome, Started, Refused, WasIdle, DidWait, DidRun, DidEnd, DidStop, WasStopped}
-use Rattle.atomic_programs.specs.Plain.{Plain, PlainMade, Unmarked, plain_makes, plain_start, plain_begun, plain_step, plain_unless, plain_prog, plain_tried, plain_moved}
+use Rattle.atomic_programs.specs.Plain.{Plain, PlainMade, UnmarkedProgram, plain_makes, plain_start, plain_begun, plain_step, plain_unless, plain_prog, plain_tried, plain_moved}
 use Rattle.fs_machine.specs.declared.kind.Kind.{Kind}
 use Rattle.fs_machine.specs.LogPart.{Outside}
 use Rattle.fs_machine.specs.Steps.{State, Op, Answer, exec, kind_of}
 use Rattle.inode_machine.specs.Theory.{Refusal}
-use Rattle.calls_on_blocks.specs.Layer.{Shared, exec_shared}
+use Rattle.calls_on_blocks.specs.Layer.{SharedState, exec_shared}
 use Rattle.calls_on_blocks.specs.Theory.{block_calls, block_code}
 use Rattle.hart_core.specs.declared.events.Came.{Came}
 use Rattle.hart_core.specs.declared.events.Came.TheVariants as came
@@ -22,18 +22,18 @@ use Rattle.hart_core.specs.declared.outcome.Stop.TheVariants as stops
 use Rattle.hart_core.specs.Worlds.{calls_of}
 use Rattle.console.specs.declared.fault.ConsoleFault.TheVariants as faults
 use Rattle.console.specs.Commands.{flow_of}
-use Rattle.console.specs.Sessions.{SessionOf, Happening, Happens}
+use Rattle.console.specs.Sessions.{SessionOf, EventOfCall, Happens}
 use Rattle.console.proofs.Failing.{Raises, exec_raises}
 
 -- ---- an event
 
 -- the device has failed once more where an operation stops
-abbrev RaisesShared : {A : Type 0} → ℕ → Did A Shared → Type 0
+abbrev RaisesShared : {A : Type 0} → ℕ → Did A SharedState → Type 0
 RaisesShared n Waits = Unit {0}
 RaisesShared n (Ran a s) = Unit {0}
 RaisesShared n (Stops s) = s.state.log.failures ≡ min (n + 1) most_faults
 
-shared_raises : {A : Type 0} (n : ℕ) (s : Shared) (d : Did A State) → Raises n d → RaisesShared n (did_in (λ t. record s { state = t }) d)
+shared_raises : {A : Type 0} (n : ℕ) (s : SharedState) (d : Did A State) → Raises n d → RaisesShared n (did_in (λ t. record s { state = t }) d)
 shared_raises n s Waits raises = tt
 shared_raises n s (Ran a t) raises = tt
 shared_raises n s (Stops t) raises = raises
@@ -56,33 +56,33 @@ module _ (sizes : Super) where
   abbrev Calm : Harts → PlainMade (block_calls sizes) (block_code sizes) → Type 0
   Calm p m = CalmBy p m.came m.after
 
-  moved_calm : (h : ℕ) (p : Harts) (kind : Kind) (q : Unmarked (block_calls sizes)) (t : Shared) → p.stopped ≡ false → Calm p (plain_moved (block_calls sizes) (block_code sizes) h p kind q t)
+  moved_calm : (h : ℕ) (p : Harts) (kind : Kind) (q : UnmarkedProgram (block_calls sizes)) (t : SharedState) → p.stopped ≡ false → Calm p (plain_moved (block_calls sizes) (block_code sizes) h p kind q t)
   moved_calm h p kind (Ret reply) t is = is
   moved_calm h p kind (Do op m k) t is = is
 
-  tried_calm : (h : ℕ) (p : Harts) (op : Op) (k : Answer op → Unmarked (block_calls sizes)) (d : Did (Answer op) Shared) → RaisesShared p.shared.state.log.failures d → p.stopped ≡ false
+  tried_calm : (h : ℕ) (p : Harts) (op : Op) (k : Answer op → UnmarkedProgram (block_calls sizes)) (d : Did (Answer op) SharedState) → RaisesShared p.shared.state.log.failures d → p.stopped ≡ false
       → Calm p (plain_tried (block_calls sizes) (block_code sizes) h p op k d)
   tried_calm h p op k Waits raises is = is
   tried_calm h p op k (Ran a t) raises is = moved_calm h p (kind_of op a) (k a) t is
   tried_calm h p op k (Stops t) raises is = raises
 
-  prog_calm : (h : ℕ) (x : Outside) (p : Harts) (q : Unmarked (block_calls sizes)) → p.stopped ≡ false → Calm p (plain_prog (block_calls sizes) (block_code sizes) h x p q)
+  prog_calm : (h : ℕ) (x : Outside) (p : Harts) (q : UnmarkedProgram (block_calls sizes)) → p.stopped ≡ false → Calm p (plain_prog (block_calls sizes) (block_code sizes) h x p q)
   prog_calm h x p (Ret reply) is = is
   prog_calm h x p (Do op m k) is = tried_calm h p op k (exec_shared h x op p.shared) (shared_raises _ p.shared (exec h x op p.shared.state) (exec_raises h x p.shared.state op)) is
 
-  unless_calm : (h : ℕ) (x : Outside) (p : Harts) (b : Bool) (q : Unmarked (block_calls sizes)) → b ≡ false → p.stopped ≡ false → Calm p (plain_unless (block_calls sizes) (block_code sizes) h x p b q)
+  unless_calm : (h : ℕ) (x : Outside) (p : Harts) (b : Bool) (q : UnmarkedProgram (block_calls sizes)) → b ≡ false → p.stopped ≡ false → Calm p (plain_unless (block_calls sizes) (block_code sizes) h x p b q)
   unless_calm h x p true q unstopped is = absurd (cc unstopped)
   unless_calm h x p false q unstopped is = prog_calm h x p q is
 
-  step_calm : (h : ℕ) (x : Outside) (p : Harts) (o : Option (Unmarked (block_calls sizes))) → p.stopped ≡ false → Calm p (plain_step (block_calls sizes) (block_code sizes) h x p o)
+  step_calm : (h : ℕ) (x : Outside) (p : Harts) (o : Option (UnmarkedProgram (block_calls sizes))) → p.stopped ≡ false → Calm p (plain_step (block_calls sizes) (block_code sizes) h x p o)
   step_calm h x p None is = is
   step_calm h x p (Some q) is = unless_calm h x p p.stopped q is is
 
-  begun_calm : (h : ℕ) (call : Call) (p : Harts) (b : Began Refusal Shared) → p.stopped ≡ false → Calm p (plain_begun (block_calls sizes) (block_code sizes) h call p b)
+  begun_calm : (h : ℕ) (call : Call) (p : Harts) (b : Began Refusal SharedState) → p.stopped ≡ false → Calm p (plain_begun (block_calls sizes) (block_code sizes) h call p b)
   begun_calm h call p (Refuses why) is = is
   begun_calm h call p (Begins t) is = is
 
-  start_calm : (h : ℕ) (call : Call) (p : Harts) (o : Option (Unmarked (block_calls sizes))) → p.stopped ≡ false → Calm p (plain_start (block_calls sizes) (block_code sizes) h call p o)
+  start_calm : (h : ℕ) (call : Call) (p : Harts) (o : Option (UnmarkedProgram (block_calls sizes))) → p.stopped ≡ false → Calm p (plain_start (block_calls sizes) (block_code sizes) h call p o)
   start_calm h call p None is = begun_calm h call p _ is
   start_calm h call p (Some q) is = is
 
@@ -95,7 +95,7 @@ module _ {D : Type 0} (contents : D → List (List ℕ)) (failures : D → ℕ) 
   never a b none_a none_b rises = absurd (omega (arith, none_a, none_b, rises))
 
   -- what an event came to
-  pub came_calm : (s t : SessionOf D) (x : Happening) → s.world.harts.stopped ≡ false → Happens contents failures s x t → (t.world.harts.stopped ≡ false) × ((stop : Stop) → flow_of x.came ≡ Err (faults.Stopped stop) → ⊥)
+  pub came_calm : (s t : SessionOf D) (x : EventOfCall) → s.world.harts.stopped ≡ false → Happens contents failures s x t → (t.world.harts.stopped ≡ false) × ((stop : Stop) → flow_of x.came ≡ Err (faults.Stopped stop) → ⊥)
   came_calm s t x still happens = by x.came (subst (λ m. CalmBy s.world.sizes (calls_of contents failures s.world.sizes s.world.harts) m.came m.after) happens.makes (makes_calm s.world.sizes _ (calls_of contents failures s.world.sizes s.world.harts) still))
     where
       by : (c : Came) → CalmBy s.world.sizes (calls_of contents failures s.world.sizes s.world.harts) (came_of c) (calls_of contents failures s.world.sizes t.world.harts) → (t.world.harts.stopped ≡ false) × ((stop : Stop) → flow_of c ≡ Err (faults.Stopped stop) → ⊥)

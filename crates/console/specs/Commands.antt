@@ -20,7 +20,7 @@ use Rattle.console.specs.declared.doing.Doing.{Doing}
 use Rattle.console.specs.Behaviours.{Behaviour, gives, in_case, followed_by, takes_memory, prints}
 use Rattle.console.specs.Lines.{called}
 use Rattle.console.specs.Queues.{Left, left_to}
-use Rattle.console.specs.Sessions.{SessionOf, Happening, Happens, count_of, doing_at}
+use Rattle.console.specs.Sessions.{SessionOf, EventOfCall, Happens, count_of, doing_at}
 use Rattle.console.specs.Told.{told}
 use Rattle.console.specs.Verbs.{verb_of}
 
@@ -99,7 +99,7 @@ wait_text hart (Some d) = decimal hart ++ codes " waits\n"
 
 module _ {D : Type 0} (contents : D → List (List ℕ)) (failures : D → ℕ) where
   -- the event is made, told and noted
-  pub record HappensSo (e : Event) (verb : Verb) (s : RunOf D) (events : List Happening) (text : List ℕ) (result : Result Flow ConsoleFault) (t : RunOf D) : Type 0 where
+  pub record HappensSo (e : Event) (verb : Verb) (s : RunOf D) (events : List EventOfCall) (text : List ℕ) (result : Result Flow ConsoleFault) (t : RunOf D) : Type 0 where
     pub came : Came
     pub happens : Happens contents failures s.session (record { event = e; verb = verb; came = came }) t.session
     pub left : t.left ≡ s.left

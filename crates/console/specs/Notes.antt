@@ -9,7 +9,7 @@ use Rattle.console.specs.declared.verb.Verb.{Verb}
 use Rattle.console.specs.declared.notes.Note.{Note}
 use Rattle.console.specs.declared.notes.What.{What}
 use Rattle.console.specs.declared.notes.What.TheVariants.{Start, Refused, Ran, Waits, Done, Stopped}
-use Rattle.console.specs.Sessions.{Happening, hart_in}
+use Rattle.console.specs.Sessions.{EventOfCall, hart_in}
 use Rattle.console_parts.specs.Tails.{TailView, tail, with_event}
 
 -- a step of a hart without a call is no event
@@ -67,9 +67,9 @@ abbrev pub with_what : NotesOf → ℕ → Option What → Option Event → Note
 with_what n hart None copy = n
 with_what n hart (Some what) copy = with_note n hart what copy
 
-abbrev pub noted : NotesOf → Happening → NotesOf
+abbrev pub noted : NotesOf → EventOfCall → NotesOf
 noted n x = with_what n (hart_in x.event) (what_of x.verb x.came) (Some x.event)
 
-unfoldable pub all_noted : NotesOf → List Happening → NotesOf
+unfoldable pub all_noted : NotesOf → List EventOfCall → NotesOf
 all_noted n [] = n
 all_noted n (x ∷ xs) = all_noted (noted n x) xs

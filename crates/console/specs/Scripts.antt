@@ -25,7 +25,7 @@ IsUntaken (Err (faults.Line n why)) = ⊥
 IsUntaken (Err (faults.Stopped stop)) = ⊥
 
 -- the image isn't taken, and nothing is printed
-pub record Untaken {A : Type 0} (result : Result A ConsoleFault) (out out' : Option (List ℕ)) : Type 0 where
+pub record TakesNoImage {A : Type 0} (result : Result A ConsoleFault) (out out' : Option (List ℕ)) : Type 0 where
   pub untaken : IsUntaken result
   pub silent : out' ≡ out
 
@@ -62,4 +62,4 @@ Tells disk (Err (faults.Stopped stop)) out out' = ⊥
 abbrev pub RunsImage : Mode → Option (Vec ℕ Global) → Option (List ℕ) → Result (List ℕ) ConsoleFault → Option (List ℕ) → Option (List ℕ) → Type 0
 RunsImage mode image script result out out' =
     WhereSet mode.check (Tells (bytes_for image) result out out')
-    (RunsOn blocks_of (λ d. 0) mode (bytes_for image) (bytes_for image) script result out out' ⊎ Untaken result out out')
+    (RunsOn blocks_of (λ d. 0) mode (bytes_for image) (bytes_for image) script result out out' ⊎ TakesNoImage result out out')

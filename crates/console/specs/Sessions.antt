@@ -47,7 +47,7 @@ done_after verb (came.Stepped outcome) d = stepped outcome d
 -- ---- what happens
 
 -- an event, which call it is of, and what it came to
-pub record Happening : Type 0 where
+pub record EventOfCall : Type 0 where
   pub event : Event
   pub verb : Verb
   pub came : Came
@@ -66,7 +66,7 @@ pub record SessionOf (D : Type 0) : Type 0 where
 
 module _ {D : Type 0} (contents : D → List (List ℕ)) (failures : D → ℕ) where
   -- the event makes one file system of the other, and comes to this
-  pub record Happens (s : SessionOf D) (x : Happening) (t : SessionOf D) : Type 0 where
+  pub record Happens (s : SessionOf D) (x : EventOfCall) (t : SessionOf D) : Type 0 where
     pub makes : Makes contents failures s.world.sizes (with_answer (event_of x.event) (said_of x.came (shared_of contents failures t.world.harts))) s.world.harts (came_of x.came) t.world.harts
     pub honest : Answers contents failures s.world.sizes (with_answer (event_of x.event) (said_of x.came (shared_of contents failures t.world.harts))) s.world.harts
     pub sizes : t.world.sizes ≡ s.world.sizes

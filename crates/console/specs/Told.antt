@@ -8,7 +8,7 @@ use Rattle.hart_core.specs.declared.outcome.Stop.{Stop}
 use Rattle.hart_core.specs.declared.starts.StartRefused.{StartRefused}
 use Rattle.console.specs.declared.verb.Verb.{Verb}
 use Rattle.console.specs.Numbers.{start_name, start_number, stop_name, stop_number}
-use Rattle.console.specs.Sessions.{Happening, hart_in}
+use Rattle.console.specs.Sessions.{EventOfCall, hart_in}
 use Rattle.console_parts.specs.Text.{numbered_text, reply_line, told_line}
 use Rattle.console.specs.Verbs.{word_of}
 
@@ -31,5 +31,5 @@ told_of hart verb came.Started = []
 told_of hart verb (came.Refused why) = told_line hart (word_of verb) (refused_text why)
 told_of hart verb (came.Stepped outcome) = step_told hart verb outcome
 
-abbrev pub told : Happening → List ℕ
+abbrev pub told : EventOfCall → List ℕ
 told x = told_of (hart_in x.event) x.verb x.came

@@ -5,7 +5,7 @@ use Rattle.std.proofs.lemmas.List.Elements.{All-nil, All-cons, All-head, All-tai
 use Rattle.std.proofs.lemmas.List.Sums.{sum_by-cons}
 use Rattle.std.proofs.lemmas.Simd.{map-map}
 use Rattle.plain_tree.specs.declared.call.Call.{Call}
-use Rattle.locked_world.specs.Kept.{Stored, count_of, replies_of}
+use Rattle.locked_world.specs.Kept.{StoredRun, count_of, replies_of}
 use Rattle.hart_runner.specs.Seats.{SeatV}
 use Rattle.console_threads.specs.declared.work.Task.{Task}
 use Rattle.console_threads.specs.declared.work.Worked.{Worked}
@@ -19,7 +19,7 @@ sum_map : {X Y : Type 0} (g : Y → ℕ) (f : X → Y) (xs : List X) → sum_by 
 sum_map g f [] = refl
 sum_map g f (x ∷ xs) = sum_by-cons g (f x) (map f xs) ∙ ap (λ n. g (f x) + n) (sum_map g f xs) ∙ sym (sum_by-cons (λ y. g (f y)) x xs)
 
-module _ {L : _} (run : Stored) where
+module _ {L : _} (run : StoredRun) where
   abbrev pub IsFresh : Task L → Type 0
   IsFresh t = (t.seat.replies ≡ []) × (t.seat.count ≡ 0)
 

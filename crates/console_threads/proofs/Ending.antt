@@ -7,7 +7,7 @@ use Rattle.hart_core.specs.declared.events.Event.{Event}
 use Rattle.image_tree.specs.Damage.{IsWellFormed, JudgesFault}
 use Rattle.image_tree.specs.declared.fault.MountFault.{MountFault}
 use Rattle.image_tree.specs.declared.fault.MountFault.TheVariants as mounts
-use Rattle.locked_world.specs.Kept.{Stored}
+use Rattle.locked_world.specs.Kept.{StoredRun}
 use Rattle.plain_tree.specs.declared.call.Call.{Call}
 use Rattle.console_parts.specs.declared.mode.Mode.{Mode}
 use Rattle.console.specs.declared.fault.ConsoleFault.{ConsoleFault}
@@ -83,7 +83,7 @@ end_fails mode image notes (Ok u) between end ends = tt
 end_fails mode image notes (Err fault) between end ends = unended mode image notes fault between end ends
 
 -- all is printed
-pub end_prints : (mode : Mode) (image : List ℕ) (run : Stored) (events : List Event) (outcomes : List Came) (notes : NotesOf) (result : Result (Unit {0}) ConsoleFault) (out between end : Option (List ℕ)) → events ≡ run.events → outcomes ≡ run.outcomes
+pub end_prints : (mode : Mode) (image : List ℕ) (run : StoredRun) (events : List Event) (outcomes : List Came) (notes : NotesOf) (result : Result (Unit {0}) ConsoleFault) (out between end : Option (List ℕ)) → events ≡ run.events → outcomes ≡ run.outcomes
     → Appends out between (harts_text events outcomes eight_harts) → notes ≡ noted_in (no_notes (most_noted mode) mode.explain) events outcomes → EndsSo mode image notes (Ok tt) between result end → OnOk result (IsPrinted mode image run out end)
 end_prints mode image run events outcomes notes (Err fault) out between end these those lines noted ends = tt
 end_prints mode image run events outcomes notes (Ok u) out between end these those lines noted ends =

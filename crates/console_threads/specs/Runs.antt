@@ -2,7 +2,7 @@
 use Rattle.std.specs.Prelude.{◌≡◌, ℕ, ◌-◌, ◌^◌, List, Option, Result, Ok, Err}
 use Rattle.std.specs.Io.KnownBytes.{Appends}
 use Rattle.plain_tree.specs.declared.call.Call.{Call}
-use Rattle.locked_world.specs.Kept.{Stored, HasOneHistory, LeavesDisk}
+use Rattle.locked_world.specs.Kept.{StoredRun, HasOneHistory, LeavesDisk}
 use Rattle.console_parts.specs.declared.mode.Mode.{Mode}
 use Rattle.console.specs.declared.fault.ConsoleFault.{ConsoleFault}
 use Rattle.console.specs.declared.fault.ConsoleFault.TheVariants as faults
@@ -16,7 +16,7 @@ use Rattle.console_threads.specs.Told.{harts_text, noted_in}
 use Rattle.console_threads.specs.Worked.{AllAnswered, eight_harts}
 
 -- The lines of the harts are printed, one hart after the other, and then the last events, the timeline and the history, as they are wanted.
-pub record IsPrinted (mode : Mode) (image : List ℕ) (run : Stored) (out out' : Option (List ℕ)) : Type 0 where
+pub record IsPrinted (mode : Mode) (image : List ℕ) (run : StoredRun) (out out' : Option (List ℕ)) : Type 0 where
   pub between : Option (List ℕ)
   pub lines : Appends out between (harts_text run.events run.outcomes eight_harts)
   pub ends : EndsSo mode image (noted_in (no_notes (most_noted mode) mode.explain) run.events run.outcomes) (Ok tt) between (Ok tt) out'
@@ -24,7 +24,7 @@ pub record IsPrinted (mode : Mode) (image : List ℕ) (run : Stored) (out out' :
 -- A run on this image leaves this disk, one that doesn't fail, and is printed. Each hart was to start its calls, and all that were started are answered. One
 -- list of tree steps explains them, if no step found no room and no path climbs.
 pub record IsToldRun (mode : Mode) (image : List ℕ) (calls : List (List Call)) (disk : List ℕ) (out out' : Option (List ℕ)) : Type 0 where
-  pub run : Stored
+  pub run : StoredRun
   pub image_is : run.image ≡ image
   pub lasts : run.fuse ≡ 2 ^ 64 - 1
   pub leaves : LeavesDisk run disk

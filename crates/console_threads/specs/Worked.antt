@@ -3,7 +3,7 @@ use Rattle.std.specs.Prelude.{◌≡◌, ◌⊎◌, ℕ, ◌+◌, ◌*◌, List,
 use Rattle.plain_tree.specs.declared.answer.Reply.{Reply}
 use Rattle.plain_tree.specs.declared.call.Call.{Call}
 use Rattle.locked_world.specs.HandedBack.{HandsBack}
-use Rattle.locked_world.specs.Kept.{Stored, count_of, replies_of}
+use Rattle.locked_world.specs.Kept.{StoredRun, count_of, replies_of}
 use Rattle.hart_runner.specs.Seats.{SeatV}
 use Rattle.console_threads.specs.declared.work.Task.{Task}
 use Rattle.console_threads.specs.declared.work.Worked.{Worked}
@@ -47,13 +47,13 @@ abbrev pub eight_harts : List ℕ
 eight_harts = 0 ∷ 1 ∷ 2 ∷ 3 ∷ 4 ∷ 5 ∷ 6 ∷ 7 ∷ []
 
 -- the replies of each of these harts are of its calls, in their order
-abbrev pub EachAnswered : Stored → List ℕ → List (List Call) → Type 0
+abbrev pub EachAnswered : StoredRun → List ℕ → List (List Call) → Type 0
 EachAnswered run [] [] = Unit {0}
 EachAnswered run [] (calls ∷ more) = ⊥
 EachAnswered run (hart ∷ harts) [] = ⊥
 EachAnswered run (hart ∷ harts) (calls ∷ more) = AnswersSome calls (replies_of hart run) × EachAnswered run harts more
 
 -- of these calls of the eight harts, and as many calls were started as were answered
-pub record AllAnswered (calls : List (List Call)) (run : Stored) : Type 0 where
+pub record AllAnswered (calls : List (List Call)) (run : StoredRun) : Type 0 where
   pub each : EachAnswered run eight_harts calls
   pub none_left : count_of run ≡ sum_by (λ hart. 2 * length (replies_of hart run)) eight_harts

@@ -1,6 +1,6 @@
 //! Eight harts that make their calls at once.
 ghost use Rattle.std.specs.Prelude.{◌≡◌, [], None, IfOk, IfErr, IfNone, All, map};
-ghost use Rattle.hart_runner.specs.Calls.{Answered, Faulted};
+ghost use Rattle.hart_runner.specs.Calls.{IsAnswered, IsRefused};
 ghost use Rattle.hart_runner.specs.Seats.{busy_of};
 ghost use Rattle.console_threads.specs.Faults.{IsBroken};
 ghost use Rattle.console_threads.specs.Worked.{AllAnswered, EachWorked, HasMade, HasWorked, eight_harts};
@@ -43,8 +43,8 @@ fn call_twice<L: Ledger, R: Wait>(
     seat: Seat<L>,
     call: Call,
 ) -> Result<(Seat<L>, Receipt<L>), CallFault<L>>
-    ensures ok { IfOk result (λ r. Answered (busy_of seat call) r.0 r.1) }
-    ensures err { IfErr result (λ e. Faulted seat call e) }
+    ensures ok { IfOk result (λ r. IsAnswered (busy_of seat call) r.0 r.1) }
+    ensures err { IfErr result (λ e. IsRefused seat call e) }
 {
     match kernel.call(rt, seat, call) {
         Err(CallFault::Memory(seat, call)) => kernel.call(rt, seat, call),

@@ -18,7 +18,7 @@ use Rattle.fs_machine.specs.Programs.{finish}
 use Rattle.fs_machine.specs.Machines.{P}
 use Rattle.inode_table.specs.Programs.{record_of}
 use Rattle.inode_data.specs.Freeing.{drop_reference}
-use Rattle.inode_data.specs.Programs.{Filled, read_from}
+use Rattle.inode_data.specs.Programs.{FilledMemory, read_from}
 use Rattle.file_table.specs.Programs.{FileState, Denies, Loads, load_file}
 use Rattle.call_parts.specs.Replies.{failed, full, done, cause_of, stat_of}
 use Rattle.call_parts.specs.Programs.{say}
@@ -66,11 +66,11 @@ stat_program inodestart fd = bind (load_file inodestart want.Stat fd) (stat_on f
 
 -- ---- read
 
-abbrev pub read_reply : ℕ → Filled → Reply
+abbrev pub read_reply : ℕ → FilledMemory → Reply
 read_reply fd m = record { answer = answers.Count m.count; call = calls.Read fd m.bytes }
 
 -- the lock is given up, and the offset moves by what was read
-abbrev pub give_read : (fd offset : ℕ) → Inode → Filled → P Reply
+abbrev pub give_read : (fd offset : ℕ) → Inode → FilledMemory → P Reply
 give_read fd offset inode m = Do (Unlock inode (Some (fd, offset + m.count))) unmarked (λ _. say (read_reply fd m))
 
 abbrev pub read_on : ℕ → List ℕ → FileState → P Reply

@@ -16,7 +16,7 @@ use Rattle.fs_tables.specs.declared.inodes.Inode.{Inode}
 use Rattle.fs_tables.specs.declared.files.OpenFile.{OpenFile}
 use Rattle.fs_tables.specs.declared.files.Refused.{Refused}
 use Rattle.fs_tables.specs.declared.files.Want.TheVariants as want
-use Rattle.fs_machine.specs.Steps.{State, Join, JoinToWrite, LockOpen, CheckFile, Unlock, Joined, RefusesJoin, Joins}
+use Rattle.fs_machine.specs.Steps.{State, Join, JoinToWrite, LockOpen, CheckFile, Unlock, JoinResult, RefusesJoin, Joins}
 use Rattle.fs_machine.specs.Programs.{finish}
 use Rattle.fs_machine.specs.Machines.{P}
 use Rattle.fs_machine.specs.Tied.{IsOwnInode}
@@ -24,7 +24,7 @@ use Rattle.fs_machine.specs.Fetching.{finish_of, FinishFits}
 use Rattle.inode_table.specs.Programs.{load_unless}
 use Rattle.inode_table.specs.Machines.{load_of, LoadFits}
 use Rattle.inode_data.specs.Widths.{most_bytes}
-use Rattle.inode_data.specs.Writing.{Written, write_part}
+use Rattle.inode_data.specs.Writing.{WriteResult, write_part}
 use Rattle.inode_data.specs.declared.write_part.PartWritten.{PartWritten}
 use Rattle.inode_data.specs.PartWriting.{write_of, writer_of, written_of, WriteFits}
 use Rattle.file_table.specs.Machines.{IsEarly}
@@ -59,11 +59,11 @@ abbrev pub leave_piece : ℕ → List ℕ → P Reply → Ended → P Reply
 leave_piece fd bytes more end = bind finish (λ _. after_piece fd bytes more end)
 
 -- whether so many bytes from an offset on were written
-abbrev pub end_of : (offset count : ℕ) → Written → Ended
+abbrev pub end_of : (offset count : ℕ) → WriteResult → Ended
 end_of offset count w = if w.upto == offset + count then ended.Whole else ended.Short
 
 -- the lock is given up, and the offset moves to where the bytes end that were written
-abbrev pub give_written : (fd n offset count : ℕ) → List ℕ → P Reply → Written → P Reply
+abbrev pub give_written : (fd n offset count : ℕ) → List ℕ → P Reply → WriteResult → P Reply
 give_written fd n offset count bytes more w =
     Do (Unlock (record { number = n; content = Some w.inode }) (Some (fd, w.upto))) unmarked (λ _. leave_piece fd bytes more (end_of offset count w))
 
@@ -94,7 +94,7 @@ unfoldable pub pieces_from : ℕ → Super → ℕ → List ℕ → (i : ℕ) �
 pieces_from zero sizes fd bytes i = say_written fd bytes
 pieces_from (suc n) sizes fd bytes i = Do Join unmarked (λ _. write_piece sizes fd bytes i (pieces_from n sizes fd bytes (i + 1)))
 
-abbrev pub joined_on : ℕ → List ℕ → P Reply → Joined → P Reply
+abbrev pub joined_on : ℕ → List ℕ → P Reply → JoinResult → P Reply
 joined_on fd bytes more (RefusesJoin why) = Ret (failed (calls.Write fd bytes) (cause_of why))
 joined_on fd bytes more (Joins n) = more
 

@@ -11,12 +11,12 @@ use Rattle.fs_machine.specs.Machines.{P}
 use Rattle.fs_machine.specs.Programs.{fetch, read_unless}
 use Rattle.fs_machine.specs.Steps.{Get}
 use Rattle.bitmap_alloc.specs.First.{first_below}
-use Rattle.bitmap_alloc.specs.Laws.{Answering, outcome, recorded, recording}
+use Rattle.bitmap_alloc.specs.Laws.{Oracle, outcome, recorded, recording}
 use Rattle.bitmap_alloc.proofs.First.{FirstIs, first_is}
 use Rattle.inode_data.specs.declared.addresses.Address.{Address}
 use Rattle.inode_data.specs.declared.addresses.Address.TheVariants.{Direct, InTable}
 use Rattle.inode_data.specs.Addresses.{address, table_of}
-use Rattle.inode_data.specs.Programs.{Fetched, fetch_at, fetch_block, fetch_named, fetch_number, give_fetched}
+use Rattle.inode_data.specs.Programs.{FetchedBlock, fetch_at, fetch_block, fetch_named, fetch_number, give_fetched}
 use Rattle.directory.specs.declared.found.Found.{Found}
 use Rattle.directory.specs.Slots.{is_used, first_named, first_free, first_used}
 use Rattle.directory.specs.Programs.{Aim, Named, Unused, Entry, block_count, slot_count, slots_in, first_in, found_at, found_in, look_at, or_next, search_from}
@@ -25,7 +25,7 @@ use Rattle.directory.proofs.EntryNumbers.{sought-number}
 
 -- ---- one program after the other
 
-module _ (answer : Answering) where
+module _ (answer : Oracle) where
   record Later {A B : Type 0} (n : ℕ) (p : P A) (f : A → P B) : Type 0 where
     at : ℕ
     ends : outcome answer n (bind p f) ≡ outcome answer at (f (outcome answer n p))
@@ -53,10 +53,10 @@ module _ (answer : Answering) where
       at (Some bytes) = refl
       at None = refl
 
-  number-silent : (n b : ℕ) → let p : P Fetched = fetch_number b in recorded answer n p ≡ []
+  number-silent : (n b : ℕ) → let p : P FetchedBlock = fetch_number b in recorded answer n p ≡ []
   number-silent n b = silent n (fetch b) (give_fetched b) (fetch-silent n b) (λ m bytes. refl)
 
-  at-silent : (n : ℕ) (d : Dinode) (a : Address) → let p : P Fetched = fetch_at d a in recorded answer n p ≡ []
+  at-silent : (n : ℕ) (d : Dinode) (a : Address) → let p : P FetchedBlock = fetch_at d a in recorded answer n p ≡ []
   at-silent n d (Direct i) = number-silent n (slice_index d.addrs i)
   at-silent n d (InTable i) =
       silent n (fetch (table_of d)) (fetch_named (table_of d) i) (fetch-silent n (table_of d)) (λ m bytes. number-silent (m + 1) (slice_index (numbers_in bytes) i))
@@ -172,7 +172,7 @@ module _ (content : ℕ → List ℕ) (aim : Aim) where
     pub found_first : IsFirst aim (slot_at content) (slot_count d) (found_from (block_count d) aim d content 0)
     found_first = first-of (found_from (block_count d) aim d content 0) (finds_from (block_count d) 0 (zero-add (block_count d)))
 
-  module _ (answer : Answering) (d : Dinode) (shows : Shows answer d content) where
+  module _ (answer : Oracle) (d : Dinode) (shows : Shows answer d content) where
     -- a program finds this, and records nothing
     abbrev Finds : ℕ → P (Option Found) → Option Found → Type 0
     Finds m p o = (outcome answer m p ≡ o) × (recorded answer m p ≡ [])
@@ -185,7 +185,7 @@ module _ (content : ℕ → List ℕ) (aim : Aim) where
     unfolding search_from found_from
     from zero k e m = (refl, refl)
     from (suc n) k e m =
-        let p : P Fetched = fetch_block d k in
+        let p : P FetchedBlock = fetch_block d k in
         let next : P (Option Found) = search_from n aim d (k + 1) in
         let r = later answer m p (look_at aim d k next) in
         let same : (outcome answer m p).bytes ≡ content k = shows m k (omega arith) in

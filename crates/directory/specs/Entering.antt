@@ -14,7 +14,7 @@ use Rattle.fs_machine.specs.Steps.{State, Op, Answer}
 use Rattle.fs_machine.specs.Machines.{P}
 use Rattle.inode_table.specs.Programs.{inode_block}
 use Rattle.inode_data.specs.Records.{record_in}
-use Rattle.inode_data.specs.Writing.{Written, write_part}
+use Rattle.inode_data.specs.Writing.{WriteResult, write_part}
 use Rattle.inode_data.specs.Machines.{ends_within}
 use Rattle.inode_data.specs.declared.write_part.PartWritten.{PartWritten}
 use Rattle.inode_data.specs.declared.write_part.WritePart.{WritePart}
@@ -40,7 +40,7 @@ slot_for d (Some f) = f.slot
 slot_for d None = slot_count d
 
 -- a slot lies in one block, so all of it was written or nothing
-abbrev pub entered_by : {M : Type 0} → ℕ → Written → Prog Op Answer M EnteredState
+abbrev pub entered_by : {M : Type 0} → ℕ → WriteResult → Prog Op Answer M EnteredState
 entered_by slot w = Ret (record { inode = w.inode; room = if w.upto == dirent_len * (slot + 1) then There else NoBlock })
 
 -- the bytes of an entry go into a slot, where a directory may have so many

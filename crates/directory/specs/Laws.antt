@@ -7,15 +7,15 @@ use Rattle.fs_layout.specs.Entry.{dirent_at, IsDirent}
 use Rattle.fs_layout.specs.Widths.{block_len, dirents_per_block}
 use Rattle.atomic_programs.specs.Prog.{Ret}
 use Rattle.fs_machine.specs.Machines.{P}
-use Rattle.bitmap_alloc.specs.Laws.{Answering, outcome, recorded}
-use Rattle.inode_data.specs.Programs.{Fetched, fetch_block}
+use Rattle.bitmap_alloc.specs.Laws.{Oracle, outcome, recorded}
+use Rattle.inode_data.specs.Programs.{FetchedBlock, fetch_block}
 use Rattle.directory.specs.declared.found.Found.{Found}
 use Rattle.directory.specs.Slots.{is_named, is_free, is_used}
 use Rattle.directory.specs.Programs.{Aim, Named, Unused, Entry, block_count, slot_count, is_live_directory, lookup, search, with_dirent}
 
 -- the operations show these blocks as the directory's, at any time
-abbrev pub Shows : Answering → Dinode → (ℕ → List ℕ) → Type 0
-Shows answer d content = (n k : ℕ) → k < block_count d → (let p : P Fetched = fetch_block d k in (outcome answer n p).bytes ≡ content k)
+abbrev pub Shows : Oracle → Dinode → (ℕ → List ℕ) → Type 0
+Shows answer d content = (n k : ℕ) → k < block_count d → (let p : P FetchedBlock = fetch_block d k in (outcome answer n p).bytes ≡ content k)
 
 -- slot s of a directory with these blocks: None where its bytes are no entry
 abbrev pub slot_at : (ℕ → List ℕ) → ℕ → Option Dirent
@@ -42,7 +42,7 @@ IsFirst aim slots count (Some f) =
 
 -- a search finds the first of the directory's slots that is sought, and records nothing
 abbrev pub FindsTheFirst : Type 0
-FindsTheFirst = (answer : Answering) (d : Dinode) (content : ℕ → List ℕ) (aim : Aim) → Shows answer d content
+FindsTheFirst = (answer : Oracle) (d : Dinode) (content : ℕ → List ℕ) (aim : Aim) → Shows answer d content
     → let p : P (Option Found) = search aim d in
     IsFirst aim (slot_at content) (slot_count d) (outcome answer 0 p) × (recorded answer 0 p ≡ [])
 

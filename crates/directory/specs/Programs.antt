@@ -9,7 +9,7 @@ use Rattle.fs_layout.specs.Widths.{dirent_len, dirents_per_block}
 use Rattle.atomic_programs.specs.Prog.{Prog, Ret, Do, bind, unmarked}
 use Rattle.fs_machine.specs.Steps.{Op, Answer, Put}
 use Rattle.inode_table.specs.Programs.{store}
-use Rattle.inode_data.specs.Programs.{Fetched, fetch_block}
+use Rattle.inode_data.specs.Programs.{FetchedBlock, fetch_block}
 use Rattle.inode_data.specs.Widths.{most_blocks}
 use Rattle.directory.specs.Slots.{first_named, first_free, first_used}
 use Rattle.directory.specs.declared.found.Found.{Found}
@@ -62,7 +62,7 @@ or_next (Some a) next = Ret (Some a)
 or_next None next = next
 
 -- block k is given back as it was: what was sought stands there, or the blocks behind it are searched
-abbrev pub look_at : {M : Type 0} → Aim → Dinode → ℕ → Prog Op Answer M (Option Found) → Fetched → Prog Op Answer M (Option Found)
+abbrev pub look_at : {M : Type 0} → Aim → Dinode → ℕ → Prog Op Answer M (Option Found) → FetchedBlock → Prog Op Answer M (Option Found)
 look_at aim d k next f = Do (Put f.number None) unmarked (λ _. or_next (found_in aim d k f.bytes) next)
 
 -- so many blocks from block k on
@@ -113,7 +113,7 @@ abbrev pub store_slot : {M : Type 0} → (inodestart n : ℕ) → Dinode → Pro
 store_slot inodestart n d = bind (store inodestart n d) (give_record d)
 
 -- the block goes back with the entry in it
-abbrev pub put_dirent : {M : Type 0} → (inodestart n : ℕ) → Dinode → (s : ℕ) → Dirent → Fetched → Prog Op Answer M Dinode
+abbrev pub put_dirent : {M : Type 0} → (inodestart n : ℕ) → Dinode → (s : ℕ) → Dirent → FetchedBlock → Prog Op Answer M Dinode
 put_dirent inodestart n d s entry f =
     Do (Put f.number (Some (with_dirent (s % dirents_per_block) entry f.bytes))) unmarked (λ _. store_slot inodestart n (with_slot s d))
 

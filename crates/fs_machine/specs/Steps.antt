@@ -92,21 +92,21 @@ pub data Op : Type 0 where
   -- gives the reply
   Reply : Op
 
-pub data Joined : Type 0 where
-  RefusesJoin : Refused → Joined
+pub data JoinResult : Type 0 where
+  RefusesJoin : Refused → JoinResult
   -- for the inode of this number
-  Joins : ℕ → Joined
+  Joins : ℕ → JoinResult
 
-pub data Claimed : Type 0 where
-  Claims : ℕ → Claimed
+pub data ClaimResult : Type 0 where
+  Claims : ℕ → ClaimResult
   -- each of the fifty places is referred to
-  NoPlace : Claimed
+  NoPlace : ClaimResult
   -- none of them, and the buffer was given back
-  NoInode : Claimed
+  NoInode : ClaimResult
 
 abbrev pub Answer : Op → Type 0
 Answer Join = Unit {0}
-Answer (JoinToWrite fd) = Joined
+Answer (JoinToWrite fd) = JoinResult
 -- whether a commit begins
 Answer Leave = Left
 -- the bytes where the buffer is valid
@@ -124,7 +124,7 @@ Answer (Unlock v moved) = Unit {0}
 Answer (Settle v) = ℕ
 -- the inode's number; None where each of the fifty places is referred to
 Answer (Up whom) = Option ℕ
-Answer (Claim b candidates) = Claimed
+Answer (Claim b candidates) = ClaimResult
 Answer (Down drop) = DroppedState
 -- why not
 Answer (CheckFile w fd) = Option Refused
@@ -143,12 +143,12 @@ in_log s d = did_in (λ l. record s { log = l }) d
 abbrev pub in_tables : {A : Type 0} → State → Did A TablesState → Did A State
 in_tables s d = did_in (λ t. record s { tables = t }) d
 
-abbrev pub joins : OpenFile → Did (Unit {0}) State → Did Joined State
+abbrev pub joins : OpenFile → Did (Unit {0}) State → Did JoinResult State
 joins f Waits = Waits
 joins f (Ran a s) = Ran (Joins f.number) s
 joins f (Stops s) = Stops s
 
-abbrev pub join_unless : ℕ → State → Option OpenFile → Option Refused → Did Joined State
+abbrev pub join_unless : ℕ → State → Option OpenFile → Option Refused → Did JoinResult State
 join_unless h s f (Some why) = Ran (RefusesJoin why) s
 join_unless h s None None = Waits
 join_unless h s (Some f) None = joins f (in_log s (join_log h s.log))
@@ -166,13 +166,13 @@ abbrev pub up_whom : ℕ → Whom → TablesState → Did (Option ℕ) TablesSta
 up_whom h (Number n) t = up_inode n t
 up_whom h Directory t = up_directory h t
 
-abbrev pub claims : Did (Option ℕ) State → Did Claimed State
+abbrev pub claims : Did (Option ℕ) State → Did ClaimResult State
 claims Waits = Waits
 claims (Ran None s) = Ran NoPlace s
 claims (Ran (Some n) s) = Ran (Claims n) s
 claims (Stops s) = Stops s
 
-abbrev pub claim_first : ℕ → ℕ → State → Option ℕ → Did Claimed State
+abbrev pub claim_first : ℕ → ℕ → State → Option ℕ → Did ClaimResult State
 claim_first h b s None = Ran NoInode (record s { log = put_block h b None s.log })
 claim_first h b s (Some n) = claims (in_tables s (up_inode n s.tables))
 
@@ -209,7 +209,7 @@ exec h x Reply s = Ran tt s
 -- ---- of which kind an operation with its answer is
 
 -- what is refused by its descriptor is a reply and nothing else
-abbrev pub kind_joined : Joined → Kind
+abbrev pub kind_joined : JoinResult → Kind
 kind_joined (RefusesJoin why) = kind.Reply
 kind_joined (Joins n) = kind.Join
 
@@ -217,7 +217,7 @@ abbrev pub kind_locked : LockedState → Kind
 kind_locked (Refuses why) = kind.Reply
 kind_locked (Locks file content) = kind.Lock
 
-abbrev pub kind_claimed : Claimed → Kind
+abbrev pub kind_claimed : ClaimResult → Kind
 kind_claimed (Claims n) = kind.Up
 kind_claimed NoPlace = kind.Up
 kind_claimed NoInode = kind.Put

@@ -9,10 +9,10 @@ use Rattle.plain_tree.specs.Explains.{Shown}
 use Rattle.plain_tree.specs.Explains.Shown.{Started as Begun, Replied, Other}
 use Rattle.group_log.specs.declared.marks.Marks.{Marks}
 use Rattle.atomic_programs.specs.Prog.{Ret, Do, Did, Waits, Ran, Stops}
-use Rattle.atomic_programs.specs.Logic.{P, Answered, own}
+use Rattle.atomic_programs.specs.Logic.{P, OpWithAnswer, own}
 use Rattle.atomic_programs.specs.Calls.{Theory, Began, Refuses, Begins, Run, State, Event, Start, Step, Made, Refused, WasIdle, HonestStep, IsHonest, AllHonest, changed, told, all_told, unchanged, moved, tried, step_prog, step_unless, step_run, begun, start_run, busy_in, makes, next, run}
 use Rattle.stops_on_blocks.specs.Marks.{noted}
-use Rattle.inode_machine.specs.MoveCalls.{Moving, theory_of, shown_by, climbs_at, NoneClimbs, StartsBy, Alone, shows}
+use Rattle.inode_machine.specs.MoveCalls.{MoveMachine, theory_of, shown_by, climbs_at, NoneClimbs, StartsBy, Alone, shows}
 
 -- what holds of a call that was started
 abbrev pub IfStarted : (ℕ → Call → Type 0) → Shown → Type 0
@@ -37,7 +37,7 @@ module _ (L : Theory) (g : ℕ) (refused : (call : L.Call) (busy : ℕ → Bool)
   told_none xs None e = refl
   told_none xs (Some r) e = absurd cc
 
-  moved_stays : (h : ℕ) (s : State L) (r : Run L) (did : Answered L.M) (ps : List (ℕ × L.M.Step)) (p : P L.M L.Reply) (w : L.M.World) → g ≢ h → s.running g ≡ None → (moved L h s r did ps p w).after.running g ≡ None
+  moved_stays : (h : ℕ) (s : State L) (r : Run L) (did : OpWithAnswer L.M) (ps : List (ℕ × L.M.Step)) (p : P L.M L.Reply) (w : L.M.World) → g ≢ h → s.running g ≡ None → (moved L h s r did ps p w).after.running g ≡ None
   moved_stays h s r did ps (Ret reply) w other none = other_changed (all_told L ps s.running) g h None None other (told_none (own g ps) (s.running g) none)
   moved_stays h s r did ps (Do op m k) w other none = other_changed (all_told L ps s.running) g h _ None other (told_none (own g ps) (s.running g) none)
 
@@ -71,7 +71,7 @@ module _ (L : Theory) (g : ℕ) (refused : (call : L.Call) (busy : ℕ → Bool)
   stays_idle (Step h x) s none = step_stays h x s (s.running h) refl none
 
 -- In place of a refused start, a step of that hart.
-module _ (N : Moving) (g : ℕ) (refused : (call : Call) (busy : ℕ → Bool) (w u : N.World) → N.start g call busy w ≡ Begins u → ⊥) (x : N.Outside) where
+module _ (N : MoveMachine) (g : ℕ) (refused : (call : Call) (busy : ℕ → Bool) (w u : N.World) → N.start g call busy w ≡ Begins u → ⊥) (x : N.Outside) where
   abbrev L : Theory
   L = theory_of N
 

@@ -2,7 +2,7 @@
 use Rattle.std.proofs.Common.{◌≡◌, ℕ, Bool, false, Option, Some, None, List, refl, sym, ◌∙◌, ap, subst, get_or}
 use Rattle.fs_layout.specs.declared.superblock.Super.{Super}
 use Rattle.atomic_programs.specs.Calls.{Theory, Run, State}
-use Rattle.atomic_programs.specs.Explained.{Explained, Holds}
+use Rattle.atomic_programs.specs.Explained.{IsExplained, Holds}
 use Rattle.atomic_programs.specs.Machines.{program_at}
 use Rattle.atomic_programs.specs.Plain.{Code, Plain, SoundPlain, prog_of}
 use Rattle.atomic_programs.proofs.Reached.{sound_explained}
@@ -34,7 +34,7 @@ module _ {D : Type 0} (contents : D → List (List ℕ)) (failures : D → ℕ) 
   abbrev state : State L
   state = sound.state
 
-  told : Explained L (L.M.tree sound.sound.first) state
+  told : IsExplained L (L.M.tree sound.sound.first) state
   told = sound_explained L (lawful sizes) state sound.sound
 
   same : ◌≡◌ {A = steps.State} state.world.real.blocks.state (shared_of contents failures w)

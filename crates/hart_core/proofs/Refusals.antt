@@ -11,7 +11,7 @@ use Rattle.inode_machine.specs.Exec.{is_nothing}
 use Rattle.inode_machine.specs.Theory as calls
 use Rattle.inode_machine.specs.Theory.{path_limit, has_zero, are_bytes, first_wrong, path_wrong, asks_wrong}
 use Rattle.calls_on_blocks.specs.Theory as served
-use Rattle.calls_on_blocks.specs.Layer.{Shared}
+use Rattle.calls_on_blocks.specs.Layer.{SharedState}
 use Rattle.calls_on_blocks.specs.Theory.{serves, has_file}
 use Rattle.hart_core.specs.declared.starts.StartRefused.{StartRefused}
 use Rattle.hart_core.specs.declared.starts.StartRefused.TheVariants.{Busy, NoSuchHart, NotEmptyHart, PathTooLong, ZeroInPath, TooLong}
@@ -132,7 +132,7 @@ may_start w h call e = by (nat_lt h hart_count) (busy_in w.calls h || is_child w
 
 module _ {D : Type 0} (contents : D → List (List ℕ)) (failures : D → ℕ) (w : HartsOf D) where
   -- as the calls have it
-  abbrev pub now : Shared
+  abbrev pub now : SharedState
   now = record { state = shared_of contents failures w; children = children_in w.children }
 
   child_same : (h child : ℕ) → reason_for (child_refusal w h child) ≡ served.child_refusal h child (busy_in w.calls) now

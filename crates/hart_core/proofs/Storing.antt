@@ -18,7 +18,7 @@ use Rattle.calls_on_blocks.specs.History.{first}
 use Rattle.calls_on_blocks.specs.Theory.{block_calls, block_code}
 use Rattle.calls_on_blocks.proofs.Lawful.{is_code}
 use Rattle.stops_on_blocks.specs.Stops.{AreEventsOn, marks_at}
-use Rattle.stops_on_blocks.specs.Whole.{BeganCommit, Replied}
+use Rattle.stops_on_blocks.specs.Whole.{BeganCommit, HasReplied}
 use Rattle.stops_on_blocks.proofs.Whole.{marks_part_none, the_cuts_have_replies}
 use Rattle.hart_core.specs.declared.events.Event.{Event}
 use Rattle.hart_core.specs.declared.events.Event.TheVariants as event
@@ -124,7 +124,7 @@ module _ {D : Type 0} (contents : D → List (List ℕ)) (failures : D → ℕ) 
       let all : ◌≡◌ {A = List (OutcomeOf Kind Reply Refusal)} (all_by_kind L C (outcomes L history start)) (outcomes_of cs) =
       sym (erase-outcomes L C (is_code sizes) history start) ∙ ap (plain_outcomes L C history) (rests_erased contents failures device w rests) ∙ is.comes_to in
       let begins : BeganCommit disk count history i h = record { outside = f.0; event = f.1; begun = begun } in
-      let replies : Replied disk count history j h = record {
+      let replies : HasReplied disk count history j h = record {
         outside = g.0;
         reply = reply;
         event = g.1;

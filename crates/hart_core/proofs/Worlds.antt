@@ -21,7 +21,7 @@ use Rattle.syscalls.specs.declared.running.Running.{Running}
 use Rattle.syscalls.specs.Machines.{running_of}
 use Rattle.inode_machine.specs.Theory as calls
 use Rattle.inode_machine.proofs.Frame.{put_elim}
-use Rattle.calls_on_blocks.specs.Layer.{Shared}
+use Rattle.calls_on_blocks.specs.Layer.{SharedState}
 use Rattle.calls_on_blocks.specs.Theory.{child_of, begun_by, if_hart, begin_in, block_calls, block_code}
 use Rattle.calls_on_blocks.proofs.Lawful.{lawful, is_code}
 use Rattle.hart_core.specs.declared.outcome.Outcome.{Outcome}
@@ -39,7 +39,7 @@ use Rattle.hart_core.proofs.Lasting.{world_more, world_sound}
 
 module _ (sizes : Super) (children : ℕ → Option ℕ) where
   -- the state with these children
-  abbrev with_them : State → Shared
+  abbrev with_them : State → SharedState
   with_them t = record { state = t; children = children }
 
   -- the same harts
@@ -131,7 +131,7 @@ calling running j = is_called (running j)
 
 module _ (sizes : Super) (h : ℕ) (call : Call) where
   -- what a start leaves that isn't refused
-  abbrev pub with_child : Shared → Shared
+  abbrev pub with_child : SharedState → SharedState
   with_child s = record s { children = put s.children h (child_of call) }
 
   begun_calls : (p : Plain (block_calls sizes) (block_code sizes)) (o : Option (P Reply)) → o ≡ None → begin_in h call (calling p.running) p.shared (with_child p.shared) ≡ Begins (with_child p.shared)
@@ -166,7 +166,7 @@ module _ {D : Type 0} (contents : D → List (List ℕ)) (failures : D → ℕ) 
   abbrev pub here : Plain (block_calls sizes) (block_code sizes)
   here = calls_of contents failures sizes w
 
-  abbrev s : Shared
+  abbrev s : SharedState
   s = now contents failures w
 
   -- which reason it is, by what is tested

@@ -3,7 +3,7 @@ use Rattle.std.proofs.Common.{ℕ, ◌≡◌, ◌<◌, ◌+◌, ◌++◌, ◌∷
 use Rattle.std.proofs.lemmas.Option.{slice_get_read}
 use Rattle.std.proofs.lemmas.List.{length-append}
 use Rattle.std.proofs.Math.Seq.{get_or-append_seam}
-use Rattle.locked_world.specs.Kept.{Stored, replies_of}
+use Rattle.locked_world.specs.Kept.{StoredRun, replies_of}
 use Rattle.plain_tree.specs.declared.answer.Reply.{Reply}
 use Rattle.hart_runner.specs.Seats.{SeatV}
 
@@ -12,7 +12,7 @@ pub added : (xs : List Reply) (v : Reply) → slice_get (xs ++ v ∷ []) (length
 added xs v = slice_get_read (xs ++ v ∷ []) (length (xs ++ v ∷ [])) (length xs) v (λ i. length (xs ++ v ∷ [])) (omega (arith, length-append xs (v ∷ []))) (sym (get_or-append_seam xs v [] v))
 
 -- a reply of the seat at this place of the row
-pub stands : (c : Stored) (seats : List SeatV) (k : ℕ) (t : SeatV) (hart place : ℕ) (v : Reply) → All (λ s. s.replies ≡ replies_of s.hart c) seats → k < length seats → slice_index_or seats k t ≡ t → hart ≡ t.hart → slice_get t.replies place ≡ Some v → slice_get (replies_of hart c) place ≡ Some v
+pub stands : (c : StoredRun) (seats : List SeatV) (k : ℕ) (t : SeatV) (hart place : ℕ) (v : Reply) → All (λ s. s.replies ≡ replies_of s.hart c) seats → k < length seats → slice_index_or seats k t ≡ t → hart ≡ t.hart → slice_get t.replies place ≡ Some v → slice_get (replies_of hart c) place ≡ Some v
 stands c seats k t hart place v all lt at is has =
     let e : t.replies ≡ replies_of t.hart c = subst (λ (s : SeatV). s.replies ≡ replies_of s.hart c) at (all k t lt) in
     ap (λ h. slice_get (replies_of h c) place) is ∙ (ap (λ xs. slice_get xs place) (sym e) ∙ has)

@@ -16,16 +16,16 @@ WentOn hart a (Done r) b = (r.hart ≡ hart) × (b ≡ a + 1)
 WentOn hart a (Halts x) b = b ≡ a
 
 -- the receipt is the busy seat's next reply, of its call, and the seat has it
-abbrev pub Answered : {L : _} → BusyV → SeatV → Receipt L → Type 0
-Answered b t r =
+abbrev pub IsAnswered : {L : _} → BusyV → SeatV → Receipt L → Type 0
+IsAnswered b t r =
     (r.hart ≡ b.hart) × (r.place ≡ length b.replies) × HandsBack b.call r.reply.call
     × (t ≡ record { hart = b.hart; replies = b.replies ++ r.reply ∷ []; count = b.count + 1 })
 
 -- nothing was started, or the seat is busy with this call
-abbrev pub Faulted : {L : _} → SeatV → Call → CallFault L → Type 0
-Faulted s c (Start t d why) = (t ≡ s) × (d ≡ c)
-Faulted s c (Memory t d) = (t ≡ s) × (d ≡ c)
-Faulted s c (Stopped b x) = b ≡ busy_of s c
+abbrev pub IsRefused : {L : _} → SeatV → Call → CallFault L → Type 0
+IsRefused s c (Start t d why) = (t ≡ s) × (d ≡ c)
+IsRefused s c (Memory t d) = (t ≡ s) × (d ≡ c)
+IsRefused s c (Stopped b x) = b ≡ busy_of s c
 
 abbrev pub StillBusy : {L : _} → BusyV → CallFault L → Type 0
 StillBusy b (Start t d why) = ⊥

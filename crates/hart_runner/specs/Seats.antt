@@ -1,6 +1,6 @@
 -- Seats as callers see them.
 use Rattle.std.specs.Prelude.{ℕ, ◌+◌, ◌≡◌, ◌≢◌, List, Contains, map, slice_get}
-use Rattle.locked_world.specs.Kept.{Stored, replies_of}
+use Rattle.locked_world.specs.Kept.{StoredRun, replies_of}
 use Rattle.plain_tree.specs.declared.answer.Reply.{Reply}
 use Rattle.plain_tree.specs.declared.call.Call.{Call}
 use Rattle.hart_runner.specs.declared.kernel.Kept.{Kept}
@@ -35,15 +35,15 @@ abbrev pub busy_of : SeatV → Call → BusyV
 busy_of s c = record { hart = s.hart; replies = s.replies; count = s.count + 1; call = c }
 
 -- these are the replies of their hart in the list, in order
-abbrev pub IsListed : Stored → KeptV → Type 0
+abbrev pub IsListed : StoredRun → KeptV → Type 0
 IsListed c k = k.replies ≡ replies_of k.hart c
 
 -- the reply at this place of one of these is not its hart's in the list
-abbrev pub OneDiffers : ℕ → ℕ → Stored → List KeptV → Type 0
+abbrev pub OneDiffers : ℕ → ℕ → StoredRun → List KeptV → Type 0
 OneDiffers hart place c all =
     (k : KeptV) × Contains all k × (k.hart ≡ hart) × (slice_get k.replies place ≢ slice_get (replies_of hart c) place)
 
 -- the same of seats
-abbrev pub Differs : ℕ → ℕ → Stored → List SeatV → Type 0
+abbrev pub Differs : ℕ → ℕ → StoredRun → List SeatV → Type 0
 Differs hart place c seats =
     (s : SeatV) × Contains seats s × (s.hart ≡ hart) × (slice_get s.replies place ≢ slice_get (replies_of hart c) place)

@@ -1,6 +1,6 @@
 -- Receipts beside seats and lists.
 use Rattle.std.specs.Prelude.{◌≡◌, Some, slice_get}
-use Rattle.locked_world.specs.Kept.{Stored, replies_of}
+use Rattle.locked_world.specs.Kept.{StoredRun, replies_of}
 use Rattle.locked_world.specs.declared.locked.Receipt.{Receipt}
 use Rattle.hart_runner.specs.Seats.{SeatV}
 
@@ -9,5 +9,5 @@ abbrev pub Has : {L : _} → SeatV → Receipt L → Type 0
 Has t r = (r.hart ≡ t.hart) × (slice_get t.replies r.place ≡ Some (r.reply))
 
 -- the receipt's reply stands in the list, at its place among its hart's
-abbrev pub StandsIn : {L : _} → Stored → Receipt L → Type 0
+abbrev pub StandsIn : {L : _} → StoredRun → Receipt L → Type 0
 StandsIn c r = slice_get (replies_of r.hart c) r.place ≡ Some (r.reply)

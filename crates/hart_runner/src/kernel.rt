@@ -4,7 +4,7 @@ ghost use Rattle.block_device.specs.Blocks.{blocks_of};
 ghost use Rattle.image_tree.specs.Damage.{IsWellFormed, JudgesFault};
 ghost use Rattle.locked_world.specs.Kept.{replies_of, count_of};
 ghost use Rattle.hart_runner.specs.Seats.{kept_view, kept_of, busy_of, IsListed, OneDiffers, Differs};
-ghost use Rattle.hart_runner.specs.Calls.{WentOn, Answered, Faulted, StillBusy};
+ghost use Rattle.hart_runner.specs.Calls.{WentOn, IsAnswered, IsRefused, StillBusy};
 
 use crate::gate::Gate;
 use fs_machine::Kind;
@@ -273,8 +273,8 @@ impl<L: Ledger, G: Gate + Drop> Kernel<L, G> {
         seat: Seat<L>,
         call: Call,
     ) -> Result<(Seat<L>, Receipt<L>), CallFault<L>>
-        ensures ok { IfOk result (λ r. Answered (busy_of seat call) r.0 r.1) }
-        ensures err { IfErr result (λ e. Faulted seat call e) }
+        ensures ok { IfOk result (λ r. IsAnswered (busy_of seat call) r.0 r.1) }
+        ensures err { IfErr result (λ e. IsRefused seat call e) }
     {
         let Seat {
             mut share,
@@ -310,7 +310,7 @@ impl<L: Ledger, G: Gate + Drop> Kernel<L, G> {
         rt: &R,
         busy: BusySeat<L>,
     ) -> Result<(Seat<L>, Receipt<L>), CallFault<L>>
-        ensures ok { IfOk result (λ r. Answered busy r.0 r.1) }
+        ensures ok { IfOk result (λ r. IsAnswered busy r.0 r.1) }
         ensures err { IfErr result (λ e. StillBusy busy e) }
     {
         let BusySeat {

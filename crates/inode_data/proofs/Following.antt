@@ -1,6 +1,6 @@
 -- A machine in another one moves as it does alone.
 use Rattle.std.proofs.Common.{◌≡◌, ◌∙◌, ℕ, refl, sym, ap, subst}
-use Rattle.atomic_programs.specs.Prog.{Ret, Do, bind, advance, asks, went, OfNext, Did, Waits as ItWaits, Ran as ItRan, Stops, Moved, Ended, StillWaits, WentOn, Broke}
+use Rattle.atomic_programs.specs.Prog.{Ret, Do, bind, advance, asks, went, OfNext, Did, Waits as ItWaits, Ran as ItRan, Stops, OperationResult, Ended, StillWaits, WentOn, Broke}
 use Rattle.atomic_programs.specs.Machines.{moved_to, Still, Left}
 use Rattle.atomic_programs.specs.declared.machines.Stepped.{Stepped}
 use Rattle.atomic_programs.specs.declared.machines.Stepped.TheVariants.{Waits, Ran, Done, Stopped}
@@ -12,7 +12,7 @@ use Rattle.fs_machine.specs.Premises.{Honest}
 use Rattle.inode_data.specs.Following.{Follows}
 
 -- where an operation leads in the larger program
-abbrev moved_on : {A B S : Type 0} → (A → P B) → Moved Kind (P A) S → Moved Kind (P B) S
+abbrev moved_on : {A B S : Type 0} → (A → P B) → OperationResult Kind (P A) S → OperationResult Kind (P B) S
 moved_on k Ended = Ended
 moved_on k StillWaits = StillWaits
 moved_on k (WentOn kind p s) = WentOn kind (bind p k) s

@@ -1,6 +1,6 @@
 -- A nested machine's step, as one of the machine that it stands in.
 use Rattle.std.proofs.Common.{◌≡◌, ℕ, ap, refl, ◌∙◌, sym}
-use Rattle.atomic_programs.specs.Prog.{Ret, Do, bind, Did, Waits, Ran, Stops, Moved, Ended, WentOn, went, advance}
+use Rattle.atomic_programs.specs.Prog.{Ret, Do, bind, Did, Waits, Ran, Stops, OperationResult, Ended, WentOn, went, advance}
 use Rattle.atomic_programs.specs.Machines.{moved_to, Still, Left}
 use Rattle.atomic_programs.specs.declared.machines.Stepped.{Stepped}
 use Rattle.atomic_programs.specs.declared.machines.Stepped.TheVariants as stepped
@@ -17,10 +17,10 @@ use Rattle.inode_data.specs.Locating.{begins_within}
 use Rattle.inode_data.proofs.Beginnings.{went_on_left}
 
 -- a program that moves moves so in a larger one
-bind_moves : {A B : Type 0} (h : ℕ) (x : Outside) (p : P A) (k : A → P B) (s : State) (r : Moved Kind (P A) State)
+bind_moves : {A B : Type 0} (h : ℕ) (x : Outside) (p : P A) (k : A → P B) (s : State) (r : OperationResult Kind (P A) State)
     → (r ≡ Ended → ⊥) → advance kind_of (exec h x) p s ≡ r → advance kind_of (exec h x) (bind p k) s ≡ moved_bind kind_of (exec h x) k r
 bind_moves h x (Ret a) k s r not e = absurd (not (sym e))
-bind_moves {A} {B} h x (Do op m f) k s r not e = at (exec h x op s) ∙ ap (λ (w : Moved Kind (P A) State). moved_bind kind_of (exec h x) k w) e
+bind_moves {A} {B} h x (Do op m f) k s r not e = at (exec h x op s) ∙ ap (λ (w : OperationResult Kind (P A) State). moved_bind kind_of (exec h x) k w) e
   where
     at : (d : Did (Answer op) State) → went op (kind_of op) (λ a. bind (f a) k) d ≡ moved_bind kind_of (exec h x) k (went op (kind_of op) f d)
     at Waits = refl

@@ -4,12 +4,12 @@ use Rattle.fs_layout.specs.declared.inode.Dinode.{Dinode}
 use Rattle.fs_layout.specs.Widths.{block_len}
 use Rattle.atomic_programs.specs.Prog.{bind}
 use Rattle.fs_machine.specs.Machines.{P}
-use Rattle.inode_data.specs.Programs.{Fetched, Filled, fetch_block, next_block, read_part, read_blocks}
+use Rattle.inode_data.specs.Programs.{FetchedBlock, FilledMemory, fetch_block, next_block, read_part, read_blocks}
 
-pub next_read : (left : ℕ) (d : Dinode) (from upto : ℕ) (m : Filled) (p : P Fetched) → left ≢ 0 → p ≡ fetch_block d (from / block_len)
+pub next_read : (left : ℕ) (d : Dinode) (from upto : ℕ) (m : FilledMemory) (p : P FetchedBlock) → left ≢ 0 → p ≡ fetch_block d (from / block_len)
     → bind p (read_part (read_blocks (left - 1) d (next_block from) upto) from upto m) ≡ read_blocks left d from upto m
 unfolding read_blocks
 next_read zero d from upto m p some e = absurd (some refl)
 next_read (suc n) d from upto m p some e =
     let less : suc n - 1 ≡ n = omega arith in
-    rw less (ap (λ (q : P Fetched). bind q (read_part (read_blocks n d (next_block from) upto) from upto m)) e)
+    rw less (ap (λ (q : P FetchedBlock). bind q (read_part (read_blocks n d (next_block from) upto) from upto m)) e)

@@ -21,7 +21,7 @@ use Rattle.fs_machine.specs.Fetching.{fetch_of, block_of}
 use Rattle.inode_table.specs.Machines.{store_of}
 use Rattle.inode_table.specs.declared.store_inode.StoreInode.{StoreInode}
 use Rattle.inode_data.specs.Records.{record_in, with_record}
-use Rattle.inode_data.specs.Writing.{Written, locate, with_part, write_located, write_blocks, write_part}
+use Rattle.inode_data.specs.Writing.{WriteResult, locate, with_part, write_located, write_blocks, write_part}
 use Rattle.inode_data.specs.Programs.{blocks_between}
 use Rattle.inode_data.specs.PartWriting.{IsPast, after_fetch, after_location, blocks_behind, bytes_left, finished, give_written, in_write_fetch, in_write_store, next_count, stored, write_of, write_rest, writer_of, written_of, written_so}
 use Rattle.inode_data.specs.declared.location.Located.{Located}
@@ -110,7 +110,7 @@ pub there_moves : (h : ℕ) (bytes : List ℕ) (old new : State) (self next : Wr
 unfolding write_of
 there_moves h bytes old new self next w past guard is ran ready program =
     let op : Op = Put guard.value.block (Some (with_part w.at (bytes_left w bytes) (bytes_of guard))) in
-    let rest : P Written = bind (blocks_behind w bytes w.so_far) (stored w) in
+    let rest : P WriteResult = bind (blocks_behind w bytes w.so_far) (stored w) in
     ap (λ (m : WritePart). advance kind_of (exec h Passes) (write_of bytes m) old) is
     ∙ ap (λ (d : Did (Unit {0}) State). went op (λ _. kind.Put) (λ _. rest) d) ran
-    ∙ ap (λ (p : P Written). WentOn kind.Put p new) (sym (program ∙ past_so w past bytes ready))
+    ∙ ap (λ (p : P WriteResult). WentOn kind.Put p new) (sym (program ∙ past_so w past bytes ready))

@@ -9,17 +9,17 @@ use Rattle.atomic_programs.proofs.Prog.{bind-assoc}
 use Rattle.fs_machine.specs.Steps.{Get}
 use Rattle.fs_machine.specs.Machines.{P}
 use Rattle.fs_machine.specs.Programs.{fetch, read_unless}
-use Rattle.bitmap_alloc.specs.Laws.{Answering, outcome}
+use Rattle.bitmap_alloc.specs.Laws.{Oracle, outcome}
 use Rattle.inode_data.specs.declared.addresses.Address.{Address}
 use Rattle.inode_data.specs.declared.addresses.Address.TheVariants.{Direct, InTable}
 use Rattle.inode_data.specs.Addresses.{address, table_of}
-use Rattle.inode_data.specs.Programs.{Fetched, Filled, filled_with, give_fetched, fetch_number, fetch_named, fetch_at, fetch_block, next_block, blocks_between, part_of, read_part, read_blocks, end_of}
+use Rattle.inode_data.specs.Programs.{FetchedBlock, FilledMemory, filled_with, give_fetched, fetch_number, fetch_named, fetch_at, fetch_block, next_block, blocks_between, part_of, read_part, read_blocks, end_of}
 use Rattle.inode_data.proofs.ContentFronts.{front, part_then}
 use Rattle.inode_data.specs.Laws.{Shows, number_at, content_block, front_blocks, ReadsTheContent}
 
 -- ---- memory
 
-abbrev start : List ℕ → Filled
+abbrev start : List ℕ → FilledMemory
 start memory = record { count = 0; bytes = memory }
 
 filled_twice : (memory xs ys : List ℕ) → filled_with (filled_with (start memory) xs) ys ≡ filled_with (start memory) (xs ++ ys)
@@ -53,7 +53,7 @@ next_between n from upto e lt =
     (λ (m : upto ≤ next). let here : n ≡ 0 = omega (arith, is, m, lt) in here ∙ sym (ap (λ (b : Bool). cond b (((upto - 1) / 1024 + 1) - next / 1024) 0) (le-ltb next upto m)))
     (cases_lt next upto)
 
-module _ (answer : Answering) (seen : ℕ → List ℕ) (d : Dinode) (shows : Shows answer seen) where
+module _ (answer : Oracle) (seen : ℕ → List ℕ) (d : Dinode) (shows : Shows answer seen) where
   -- ---- the content's blocks
 
   abbrev content : ℕ → List ℕ
@@ -78,18 +78,18 @@ module _ (answer : Answering) (seen : ℕ → List ℕ) (d : Dinode) (shows : Sh
       (λ (e : answer n (Get b) ≡ Some (seen b)). subst (λ (o : Option (List ℕ)). Q (outcome answer (n + 1) (bind (read_unless b o) g))) (sym e) (each (n + 1)))
       (shows.got n b)
 
-  number_shows : {A : Type 0} (Q : A → Type 0) (b : ℕ) (g : Fetched → P A) → ((m : ℕ) → Q (outcome answer m (g (record { number = b; bytes = seen b })))) → (n : ℕ) → Q (outcome answer n (bind (fetch_number b) g))
+  number_shows : {A : Type 0} (Q : A → Type 0) (b : ℕ) (g : FetchedBlock → P A) → ((m : ℕ) → Q (outcome answer m (g (record { number = b; bytes = seen b })))) → (n : ℕ) → Q (outcome answer n (bind (fetch_number b) g))
   number_shows {A} Q b g each n =
       subst (λ (p : P A). Q (outcome answer n p)) (sym (bind-assoc (fetch b) (give_fetched b) g)) (fetch_shows Q b (λ bytes. g (record { number = b; bytes = bytes })) each n)
 
-  at_shows : {A : Type 0} (Q : A → Type 0) (a : Address) (g : Fetched → P A)
+  at_shows : {A : Type 0} (Q : A → Type 0) (a : Address) (g : FetchedBlock → P A)
       → ((m : ℕ) → Q (outcome answer m (g (record { number = number_at seen d a; bytes = seen (number_at seen d a) })))) → (n : ℕ) → Q (outcome answer n (bind (fetch_at d a) g))
   at_shows Q (Direct i) g each n = number_shows Q (get_or d.addrs i 0) g each n
   at_shows {A} Q (InTable i) g each n =
       subst (λ (p : P A). Q (outcome answer n p)) (sym (bind-assoc (fetch (table_of d)) (fetch_named (table_of d) i) g))
       (fetch_shows Q (table_of d) (λ bytes. bind (fetch_named (table_of d) i bytes) g) (λ m. number_shows Q (number_at seen d (InTable i)) g each (m + 1)) n)
 
-  block_shows : {A : Type 0} (Q : A → Type 0) (k : ℕ) (g : Fetched → P A)
+  block_shows : {A : Type 0} (Q : A → Type 0) (k : ℕ) (g : FetchedBlock → P A)
       → ((m : ℕ) → Q (outcome answer m (g (record { number = number_at seen d (address k); bytes = content_block seen d k })))) → (n : ℕ) → Q (outcome answer n (bind (fetch_block d k) g))
   unfolding content_block
   block_shows Q k g each n = at_shows Q (address k) g each n
@@ -108,10 +108,10 @@ module _ (answer : Answering) (seen : ℕ → List ℕ) (d : Dinode) (shows : Sh
       let q : from / 1024 < k = omega (arith, lt, within) in
       let all : List ℕ = drop from (take upto (front content k)) in
       let part : List ℕ = part_of from upto (content_block seen d (from / 1024)) in
-      block_shows (λ (m : Filled). m ≡ filled_with (start memory) (xs ++ all)) (from / 1024)
+      block_shows (λ (m : FilledMemory). m ≡ filled_with (start memory) (xs ++ all)) (from / 1024)
       (read_part (read_blocks n d (next_block from) upto) from upto (filled_with (start memory) xs))
       (λ m.
-      ap (λ (f : Filled). outcome answer (m + 1) (read_blocks n d (next_block from) upto f)) (filled_twice memory xs part)
+      ap (λ (f : FilledMemory). outcome answer (m + 1) (read_blocks n d (next_block from) upto f)) (filled_twice memory xs part)
       ∙ (read_more memory n (next_block from) upto k (xs ++ part) (m + 1) (next_between n from upto e lt) within
       ∙ ap (filled_with (start memory)) (append_assoc xs part _ ∙ ap (λ (ys : List ℕ). xs ++ ys) (part_then content k (whole k) from upto q)))) j
 

@@ -4,14 +4,14 @@ use Rattle.fs_layout.specs.declared.inode.Dinode.{Dinode}
 use Rattle.fs_layout.specs.Indirect.{numbers_in}
 use Rattle.fs_layout.specs.Widths.{block_len}
 use Rattle.fs_machine.specs.Steps.{Get, Read}
-use Rattle.bitmap_alloc.specs.Laws.{Answering, outcome}
+use Rattle.bitmap_alloc.specs.Laws.{Oracle, outcome}
 use Rattle.inode_data.specs.declared.addresses.Address.{Address}
 use Rattle.inode_data.specs.declared.addresses.Address.TheVariants.{Direct, InTable}
 use Rattle.inode_data.specs.Addresses.{address, table_of}
 use Rattle.inode_data.specs.Programs.{filled_with, read_from, end_of}
 
 -- each block is answered as it is seen, whether its buffer was valid or is read
-pub record Shows (answer : Answering) (seen : ℕ → List ℕ) : Type 0 where
+pub record Shows (answer : Oracle) (seen : ℕ → List ℕ) : Type 0 where
   pub got : (n b : ℕ) → (answer n (Get b) ≡ None) ⊎ (answer n (Get b) ≡ Some (seen b))
   pub read : (n b : ℕ) → answer n (Read b) ≡ seen b
   pub whole : (b : ℕ) → length (seen b) ≡ block_len
@@ -32,6 +32,6 @@ front_blocks seen d (suc k) = front_blocks seen d k ++ content_block seen d k
 
 -- The call's memory is filled with the content's bytes from the offset on, up to the end of the read, and nothing behind them changes.
 abbrev pub ReadsTheContent : Type 0
-ReadsTheContent = (answer : Answering) (seen : ℕ → List ℕ) (d : Dinode) (offset n k : ℕ) (memory : List ℕ)
+ReadsTheContent = (answer : Oracle) (seen : ℕ → List ℕ) (d : Dinode) (offset n k : ℕ) (memory : List ℕ)
     → Shows answer seen → end_of d offset n ≤ block_len * k
     → outcome answer 0 (read_from d offset n memory) ≡ filled_with (record { count = 0; bytes = memory }) (drop offset (take (end_of d offset n) (front_blocks seen d k)))

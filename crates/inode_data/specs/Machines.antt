@@ -12,15 +12,15 @@ use Rattle.fs_machine.specs.Steps.{State}
 use Rattle.fs_machine.specs.Machines.{P, within}
 use Rattle.fs_machine.specs.Tied.{bytes_of}
 use Rattle.fs_machine.specs.Fetching.{fetch_of, block_of, FetchFits, IsFetched}
-use Rattle.inode_data.specs.Programs.{Fetched, give_fetched, fetch_named}
+use Rattle.inode_data.specs.Programs.{FetchedBlock, give_fetched, fetch_named}
 use Rattle.inode_data.specs.declared.fetch_block.FetchBlock.{FetchBlock}
 use Rattle.inode_data.specs.declared.fetch_block.FetchBlock.TheVariants as fetching
 
 -- what a guard of a valid buffer stands for
-abbrev pub fetched_in : GuardState BufferState → Fetched
+abbrev pub fetched_in : GuardState BufferState → FetchedBlock
 fetched_in guard = record { number = guard.value.block; bytes = bytes_of guard }
 
-unfoldable pub block_fetch_of : FetchBlock → P Fetched
+unfoldable pub block_fetch_of : FetchBlock → P FetchedBlock
 block_fetch_of (fetching.Table i f) = bind (fetch_of f) (fetch_named (block_of f) i)
 block_fetch_of (fetching.Number i guard) = fetch_named guard.value.block i (bytes_of guard)
 block_fetch_of (fetching.Block f) = bind (fetch_of f) (give_fetched (block_of f))

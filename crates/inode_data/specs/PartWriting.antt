@@ -19,7 +19,7 @@ use Rattle.inode_table.specs.declared.store_inode.StoreInode.{StoreInode}
 use Rattle.inode_data.specs.Widths.{most_blocks}
 use Rattle.inode_data.specs.Records.{record_in, with_record}
 use Rattle.inode_data.specs.Machines.{ends_within}
-use Rattle.inode_data.specs.Writing.{Written, front_of, put_part, write_located, write_blocks, grown, store_written}
+use Rattle.inode_data.specs.Writing.{WriteResult, front_of, put_part, write_located, write_blocks, grown, store_written}
 use Rattle.inode_data.specs.Locating.{locate_of, LocateFits}
 use Rattle.inode_data.specs.declared.location.Located.{Located}
 use Rattle.inode_data.specs.declared.write_part.Writing.{Writing}
@@ -35,40 +35,40 @@ abbrev pub next_count : Writing → List ℕ → ℕ
 next_count w bytes = length (front_of w.at (bytes_left w bytes))
 
 -- what was written so far
-abbrev pub written_so : Writing → Written
+abbrev pub written_so : Writing → WriteResult
 written_so w = record { inode = w.so_far; upto = w.at }
 
 -- the blocks behind the next one, where the inode is so
-abbrev pub blocks_behind : Writing → List ℕ → Dinode → P Written
+abbrev pub blocks_behind : Writing → List ℕ → Dinode → P WriteResult
 blocks_behind w bytes d = write_blocks w.left w.sizes (w.at + next_count w bytes) (drop (next_count w bytes) (bytes_left w bytes)) d
 
 -- the inode is stored after these
-abbrev pub stored : Writing → Written → P Written
+abbrev pub stored : Writing → WriteResult → P WriteResult
 stored w written = store_written w.sizes w.inode.value.number written
 
 -- all that is left, where so many blocks are
-abbrev pub write_rest : Writing → List ℕ → P Written
+abbrev pub write_rest : Writing → List ℕ → P WriteResult
 write_rest w bytes = bind (write_blocks w.left w.sizes w.at (bytes_left w bytes) w.so_far) (stored w)
 
 -- the next block was sought
-abbrev pub after_location : Writing → List ℕ → Located → P Written
+abbrev pub after_location : Writing → List ℕ → Located → P WriteResult
 after_location w bytes l = bind (write_located (blocks_behind w bytes) w.at (bytes_left w bytes) l) (stored w)
 
 -- its buffer is there
-abbrev pub after_fetch : Writing → List ℕ → ℕ → List ℕ → P Written
+abbrev pub after_fetch : Writing → List ℕ → ℕ → List ℕ → P WriteResult
 after_fetch w bytes b block = bind (put_part (blocks_behind w bytes w.so_far) b w.at (bytes_left w bytes) block) (stored w)
 
-abbrev pub give_written : Writing → Unit {0} → P Written
+abbrev pub give_written : Writing → Unit {0} → P WriteResult
 give_written w _ = Ret (record { inode = grown (written_so w); upto = w.at })
 
-unfoldable pub write_of : List ℕ → WritePart → P Written
+unfoldable pub write_of : List ℕ → WritePart → P WriteResult
 write_of bytes (writing.Locating w m) = bind (locate_of m) (after_location w bytes)
 write_of bytes (writing.Fetching w f) = bind (fetch_of f) (after_fetch w bytes (block_of f))
 write_of bytes (writing.There w guard) = after_fetch w bytes guard.value.block (bytes_of guard)
 write_of bytes (writing.Storing w m) = bind (store_of m) (give_written w)
 
 -- what the result stands for
-abbrev pub written_of : PartWritten → Written
+abbrev pub written_of : PartWritten → WriteResult
 written_of r = record { inode = record_in r.inode; upto = r.upto }
 
 -- a writing that has so many blocks before it, the next one too: each is one of a content, on a disk whose blocks have bits

@@ -11,7 +11,7 @@ use Rattle.fs_machine.specs.Machines.{P, within}
 use Rattle.fs_machine.specs.Fetching.{IsFetched}
 use Rattle.inode_data.specs.Records.{record_in}
 use Rattle.inode_data.specs.Widths.{most_bytes}
-use Rattle.inode_data.specs.Programs.{Filled, filled_with, next_block, blocks_between, part_of, read_part, read_blocks}
+use Rattle.inode_data.specs.Programs.{FilledMemory, filled_with, next_block, blocks_between, part_of, read_part, read_blocks}
 use Rattle.inode_data.specs.Machines.{fetched_in, block_fetch_of, BlockFetchFits}
 use Rattle.inode_data.specs.declared.fetch_block.FetchBlock.{FetchBlock}
 use Rattle.inode_data.specs.declared.read_part.Reading.{Reading}
@@ -19,14 +19,14 @@ use Rattle.inode_data.specs.declared.read_part.ReadPart.{ReadPart}
 use Rattle.inode_data.specs.declared.read_part.ReadPart.TheVariants as reading
 
 -- the memory with what was read so far
-abbrev pub filled_in : Reading → Filled
+abbrev pub filled_in : Reading → FilledMemory
 filled_in r = record { count = r.filled; bytes = r.bytes.items }
 
 -- the blocks behind the one that is read next
-abbrev pub read_rest : Reading → Filled → P Filled
+abbrev pub read_rest : Reading → FilledMemory → P FilledMemory
 read_rest r = read_blocks r.left (record_in r.inode) (next_block r.from) r.upto
 
-unfoldable pub read_of : ReadPart → P Filled
+unfoldable pub read_of : ReadPart → P FilledMemory
 read_of (reading.Fetching r m) = bind (block_fetch_of m) (read_part (read_rest r) r.from r.upto (filled_in r))
 read_of (reading.There r guard) = read_part (read_rest r) r.from r.upto (filled_in r) (fetched_in guard)
 

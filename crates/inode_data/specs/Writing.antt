@@ -68,7 +68,7 @@ locate sizes d k = locate_at sizes d (address k)
 -- ---- writing
 
 -- the record, and up to which offset the bytes were written
-pub record Written : Type 0 where
+pub record WriteResult : Type 0 where
   pub inode : Dinode
   pub upto : ℕ
 
@@ -81,30 +81,30 @@ abbrev pub with_part : ℕ → List ℕ → List ℕ → List ℕ
 with_part at bytes block = overwrite block (at % block_len) (front_of at bytes)
 
 -- the block is recorded with its part of the bytes
-abbrev pub put_part : {M : Type 0} → Prog Op Answer M Written → ℕ → (at : ℕ) → List ℕ → List ℕ → Prog Op Answer M Written
+abbrev pub put_part : {M : Type 0} → Prog Op Answer M WriteResult → ℕ → (at : ℕ) → List ℕ → List ℕ → Prog Op Answer M WriteResult
 put_part more b at bytes block = Do (Put b (Some (with_part at bytes block))) unmarked (λ _. more)
 
 -- the part of the next block is written, where there is one; else the writing ends before it
-abbrev pub write_in : {M : Type 0} → (Dinode → Prog Op Answer M Written) → (at : ℕ) → List ℕ → Dinode → Option ℕ → Prog Op Answer M Written
+abbrev pub write_in : {M : Type 0} → (Dinode → Prog Op Answer M WriteResult) → (at : ℕ) → List ℕ → Dinode → Option ℕ → Prog Op Answer M WriteResult
 write_in more at bytes d None = Ret (record { inode = d; upto = at })
 write_in more at bytes d (Some b) = bind (fetch b) (put_part (more d) b at bytes)
 
-abbrev pub write_located : {M : Type 0} → (Dinode → Prog Op Answer M Written) → (at : ℕ) → List ℕ → Located → Prog Op Answer M Written
+abbrev pub write_located : {M : Type 0} → (Dinode → Prog Op Answer M WriteResult) → (at : ℕ) → List ℕ → Located → Prog Op Answer M WriteResult
 write_located more at bytes l = write_in more at bytes l.inode l.number
 
 -- these bytes go into so many blocks from an offset on, in order
-unfoldable pub write_blocks : {M : Type 0} → ℕ → Super → (at : ℕ) → List ℕ → Dinode → Prog Op Answer M Written
+unfoldable pub write_blocks : {M : Type 0} → ℕ → Super → (at : ℕ) → List ℕ → Dinode → Prog Op Answer M WriteResult
 write_blocks zero sizes at bytes d = Ret (record { inode = d; upto = at })
 write_blocks (suc n) sizes at bytes d =
     bind (locate sizes d (at / block_len)) (write_located (write_blocks n sizes (at + length (front_of at bytes)) (drop (length (front_of at bytes)) bytes)) at bytes)
 
 -- the inode's record after bytes were written up to an offset
-abbrev pub grown : Written → Dinode
+abbrev pub grown : WriteResult → Dinode
 grown w = record w.inode { size = max w.inode.size w.upto }
 
-abbrev pub store_written : {M : Type 0} → Super → ℕ → Written → Prog Op Answer M Written
+abbrev pub store_written : {M : Type 0} → Super → ℕ → WriteResult → Prog Op Answer M WriteResult
 store_written sizes n w = bind (store sizes.inodestart n (grown w)) (λ _. Ret (record { inode = grown w; upto = w.upto }))
 
 -- The bytes are written from an offset on; where a block is missing and none is free, those before it alone. The inode is stored at the end.
-abbrev pub write_part : {M : Type 0} → Super → ℕ → Dinode → (offset : ℕ) → List ℕ → Prog Op Answer M Written
+abbrev pub write_part : {M : Type 0} → Super → ℕ → Dinode → (offset : ℕ) → List ℕ → Prog Op Answer M WriteResult
 write_part sizes n d offset bytes = bind (write_blocks (blocks_between offset (offset + length bytes)) sizes offset bytes d) (store_written sizes n)

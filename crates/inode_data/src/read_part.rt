@@ -1,7 +1,7 @@
 //! A part of a content read.
 ghost use Rattle.std.specs.Prelude.{◌≡◌, ◌≢◌, ◌<◌, ◌≤◌, ◌+◌, ◌-◌, ◌%◌, ◌++◌, ℕ, min, take, length, IsSome};
 ghost use Rattle.fs_layout.specs.Widths.{block_len};
-ghost use Rattle.atomic_programs.specs.Prog.{Moved, WentOn, Ret};
+ghost use Rattle.atomic_programs.specs.Prog.{OperationResult, WentOn, Ret};
 ghost use Rattle.atomic_programs.specs.Machines.{Still, Left as LeftOf};
 ghost use Rattle.fs_machine.specs.Steps.{State, state_of};
 ghost use Rattle.fs_machine.specs.Machines.{MayNext, Moves, Answers, CallsOnce};

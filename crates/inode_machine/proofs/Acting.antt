@@ -23,7 +23,7 @@ use Rattle.inode_machine.specs.World.{Mine, Note, Desk, World, stage_of}
 use Rattle.inode_machine.specs.Inodes.{sort_of}
 use Rattle.inode_machine.specs.Exec.{with_walk}
 use Rattle.inode_machine.specs.Marks.{Made, acts, act_entered, act_left, found_by, look_made, looked, made_by, new_id, with_made}
-use Rattle.inode_machine.specs.Rules.{own_names, Stands, shop_of, Found, Pinned, Reached, IsAlone, Inv, machine}
+use Rattle.inode_machine.specs.Rules.{own_names, Stands, shop_of, Found, IsReferredTo, IsReached, IsAlone, Inv, machine}
 use Rattle.inode_machine.proofs.Frame.{ours_some, Kin, Did, Ours, Fair, two_refs, refers_on, type_on}
 use Rattle.inode_machine.proofs.Freeing.{lone_file}
 use Rattle.inode_machine.proofs.Walking.{refs_walk, moves_good}
@@ -95,7 +95,7 @@ acts_did h v all p alone next D c lt inv none fits =
     grow : (j : ℕ) → 0 < (v.harts h).refs j → 0 < (with_walk v.harts h None p h).refs j
     grow j a = let r = refs_walk v.harts h None p h j in omega (arith, r, a)
 
-    pin : (j : ℕ) → Pinned v.desks v.files v.harts h j → Pinned D v.files (with_walk v.harts h None p) h j
+    pin : (j : ℕ) → IsReferredTo v.desks v.files v.harts h j → IsReferredTo D v.files (with_walk v.harts h None p) h j
     pin j (inl o) = inl (record { fd = o.fd; below = o.below; slot = o.slot; is = ap (λ (f : ℕ → Option ℕ). f o.fd) fits.fds ∙ o.is; entry = o.entry; at = o.at; number = o.number })
     pin j (inr a) = inr (grow j a)
 
@@ -186,13 +186,13 @@ no_walk h i g v inv lt lone kept lg ne walks = at (v.harts g).walk refl walks
     counts : v.refs i ≡ (v.harts h).refs i
     counts = let s : Some a.hart ≡ Some h = sym a.kept ∙ kept in let e : a.hart ≡ h = cc in a.counts ∙ ap (λ (z : ℕ). (v.harts z).refs i) e
 
-    reached : Reached v g i → ⊥
+    reached : IsReached v g i → ⊥
     reached (inl p) = let o = two_refs v g h i inv lg lt ne in let c = counts in omega (arith, o, c, p)
     reached (inr p) = let f = inv.pending g i lg p in let l = look_live v.all f.directory i f.name inv.well f.finds in let u = a.dead in absurd (cc (l, u))
 
     at : (o : Option Walk) → (v.harts g).walk ≡ o → walks_at o i → ⊥
     at None q w = w
-    at (Some k) q w = reached (subst (λ (z : ℕ). Reached v g z) w (inv.walks g k lg q))
+    at (Some k) q w = reached (subst (λ (z : ℕ). IsReached v g z) w (inv.walks g k lg q))
 
 pub two_put : {A : Type 0} (f g : ℕ → A) (d c : ℕ) (x y : A) → g d ≡ x → g c ≡ y → ((n : ℕ) → n ≢ d → n ≢ c → g n ≡ f n) → g ≡ put (put f d x) c y
 two_put f g d c x y gd gc there = λ i n. each n i

@@ -11,7 +11,7 @@ use Rattle.tree_laws.proofs.Sums.{one_yes}
 use Rattle.inode_machine.specs.World.{Mine, Entry, Desk, World}
 use Rattle.inode_machine.specs.Exec.{child_of, given_of}
 use Rattle.inode_machine.specs.Inodes.{OfDirectory, sort_of}
-use Rattle.inode_machine.specs.Rules.{Own, Held, Rests, Idle, Others, Stands, Tied, own_names, own_of, Found, Pinned, Reached, reference_limit, References, IsAlone, Has, Lends, Inv, left_or, HasType}
+use Rattle.inode_machine.specs.Rules.{Own, Held, Rests, Idle, Others, Stands, IsTied, own_names, own_of, Found, IsReferredTo, IsReached, reference_limit, References, IsAlone, Has, Lends, Inv, left_or, HasType}
 use Rattle.inode_machine.proofs.Rules.{FairTo}
 use Rattle.inode_machine.proofs.Frame.{has_none, resting_names}
 use Rattle.inode_machine.proofs.Counting.{one_most}
@@ -34,7 +34,7 @@ pub record Serves (h c : ℕ) (v : World) (F : ℕ → Option Entry) (D : ℕ �
   pub fds : (g : ℕ) → g ≢ c → X g ≡ v.all.fds g
   pub cwd : (g : ℕ) → g ≢ c → C g ≡ v.all.cwd g
   pub numbers : (k : ℕ) (e : Entry) → v.files k ≡ Some e → (f : Entry) × (F k ≡ Some f) × (f.sort ≡ e.sort) × (f.file ≡ e.file)
-  pub tied : Tied (record { files = F; desks = D; ids = v.ids; slots = v.slots; clean = v.clean; tree_fds = X; tree_files = v.all.files })
+  pub tied : IsTied (record { files = F; desks = D; ids = v.ids; slots = v.slots; clean = v.clean; tree_fds = X; tree_files = v.all.files })
   pub sorts : (k : ℕ) (e : Entry) → F k ≡ Some e → HasType v.all.nodes e
   pub well : IsWellFormed (record (v.all) { fds = X; cwd = C })
   pub counts : (i : ℕ) → R i ≡ v.slots i + sum_below hart_count (λ g. (H g).refs i)
@@ -89,15 +89,15 @@ module _ (h c : ℕ) (v : World) (F : ℕ → Option Entry) (D : ℕ → Desk) (
     keys = (row_of (record (v.all) { fds = λ k. s.fds g ne i }) g).keys;
   }
 
-  pinned : (g i : ℕ) → g ≢ h → g ≢ c → Pinned v.desks v.files v.harts g i → Pinned D F H g i
+  pinned : (g i : ℕ) → g ≢ h → g ≢ c → IsReferredTo v.desks v.files v.harts g i → IsReferredTo D F H g i
   pinned g i nh nc (inl o) = let n = s.numbers o.slot o.entry o.at in inl (record { fd = o.fd; below = o.below; slot = o.slot; is = ap (λ (d : Desk). d.fds o.fd) (s.desks g nh nc) ∙ o.is; entry = n.0; at = n.1; number = ap (λ (z : OpenFile). z.number) n.3 ∙ o.number })
   pinned g i nh nc (inr p) = inr (let e = ap (λ (m : Mine). m.refs i) (s.others g nh nc) in omega (arith, e, p))
 
-  reached : (g i : ℕ) → g ≢ h → g ≢ c → Reached v g i → Reached u g i
+  reached : (g i : ℕ) → g ≢ h → g ≢ c → IsReached v g i → IsReached u g i
   reached g i nh nc (inl p) = inl (let e = ap (λ (m : Mine). m.refs i) (s.others g nh nc) in omega (arith, e, p))
   reached g i nh nc (inr f) = inr (ap (λ (m : Mine). m.pending) (s.others g nh nc) ∙ f)
 
-  reached_back : (g i : ℕ) → g ≢ h → g ≢ c → Reached u g i → Reached v g i
+  reached_back : (g i : ℕ) → g ≢ h → g ≢ c → IsReached u g i → IsReached v g i
   reached_back g i nh nc (inl p) = inl (let e = ap (λ (m : Mine). m.refs i) (s.others g nh nc) in omega (arith, e, p))
   reached_back g i nh nc (inr f) = inr (ap (λ (m : Mine). m.pending) (sym (s.others g nh nc)) ∙ f)
 
@@ -114,13 +114,13 @@ module _ (h c : ℕ) (v : World) (F : ℕ → Option Entry) (D : ℕ → Desk) (
       (λ e. subst (λ (z : ℕ). References (H z) (D z)) (sym e) (record { few = λ i. let a = s.rests.refs i in let b = one_most ((D c).directory == i) in omega (arith, a, b); home = child_home }))
       (λ nh nc. subst (λ (m : Mine). References m (D g)) (sym (s.others g nh nc)) (subst (λ (d : Desk). References (v.harts g) d) (sym (s.desks g nh nc)) (inv.refers g lt)))
 
-  named : (g i : ℕ) → g < hart_count → (D g).lender ≡ None → own_names (row_of u.all g) (D g) i ≡ true → Reached u g i
-  named g i lt free is = by_hart g (Reached u g i)
-      (λ e. subst (λ (z : ℕ). Reached u z i) (sym e) (elim (inv.named h i s.hart s.unlent (names (ap (λ (z : ℕ). own_names (row_of u.all z) (D z) i) (sym e) ∙ is))) [
+  named : (g i : ℕ) → g < hart_count → (D g).lender ≡ None → own_names (row_of u.all g) (D g) i ≡ true → IsReached u g i
+  named g i lt free is = by_hart g (IsReached u g i)
+      (λ e. subst (λ (z : ℕ). IsReached u z i) (sym e) (elim (inv.named h i s.hart s.unlent (names (ap (λ (z : ℕ). own_names (row_of u.all z) (D z) i) (sym e) ∙ is))) [
         | inl p ↦ inl (let r = s.refs i in omega (arith, r, p))
         | inr p ↦ absurd (let a = s.still in cc (a, p))
       ]))
-      (λ e. subst (λ (z : ℕ). Reached u z i) (sym e) (inl (let n = resting_names (row_of u.all c) (D c) i s.rests.hold s.rests.opening s.rests.left (ap (λ (z : ℕ). own_names (row_of u.all z) (D z) i) (sym e) ∙ is) in
+      (λ e. subst (λ (z : ℕ). IsReached u z i) (sym e) (inl (let n = resting_names (row_of u.all c) (D c) i s.rests.hold s.rests.opening s.rests.left (ap (λ (z : ℕ). own_names (row_of u.all z) (D z) i) (sym e) ∙ is) in
       subst (λ (z : ℕ). 0 < (H c).refs z) (sym (s.stands (ap (λ (z : ℕ). (D z).lender) (sym e) ∙ free)) ∙ n) child_home)))
       (λ nh nc. reached g i nh nc (inv.named g i lt (ap (λ (d : Desk). d.lender) (sym (s.desks g nh nc)) ∙ free) ((λ z. own_names (sym (row_same g nc) z) (sym (s.desks g nh nc) z) i) ∙ is)))
     where
@@ -190,7 +190,7 @@ module _ (h c : ℕ) (v : World) (F : ℕ → Option Entry) (D : ℕ → Desk) (
         (λ e. absurd (let a : (H h).pending ≡ Some i = ap (λ (z : ℕ). (H z).pending) (sym e) ∙ is in let b = s.found in cc (a, b)))
         (λ e. absurd (let a : (H c).pending ≡ Some i = ap (λ (z : ℕ). (H z).pending) (sym e) ∙ is in let b = s.rests.pending in cc (a, b)))
         (λ nh nc. inv.pending g i lt (ap (λ (m : Mine). m.pending) (sym (s.others g nh nc)) ∙ is));
-    walks = λ g k lt is. by_hart g (Reached u g k.at)
+    walks = λ g k lt is. by_hart g (IsReached u g k.at)
         (λ e. absurd (let a : (H h).walk ≡ Some k = ap (λ (z : ℕ). (H z).walk) (sym e) ∙ is in let b = s.walk in cc (a, b)))
         (λ e. absurd (let a : (H c).walk ≡ Some k = ap (λ (z : ℕ). (H z).walk) (sym e) ∙ is in let b = s.rests.walk in cc (a, b)))
         (λ nh nc. reached g k.at nh nc (inv.walks g k lt (ap (λ (m : Mine). m.walk) (sym (s.others g nh nc)) ∙ is)));

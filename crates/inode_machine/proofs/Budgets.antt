@@ -15,7 +15,7 @@ use Rattle.tree_laws.specs.WellFormed.{one_if}
 use Rattle.tree_laws.proofs.Maps.{either, eq_self}
 use Rattle.atomic_programs.specs.Prog.{Do, unmarked}
 use Rattle.inode_machine.specs.Inodes.{Sort, Face, face_or, is_live_face, is_directory_face, is_directory_sort}
-use Rattle.inode_machine.specs.World.{Mark, Claimed, New, NoInode, NoPlace, Entered, InPlace, NoBlock, NoSlot, Locking, NotLocked, LocksIt, Joining, NotJoined, Joined, Wrote, Whole, Refused, Short, Lending, Lent, Moved}
+use Rattle.inode_machine.specs.World.{Mark, ClaimResult, New, NoInode, NoPlace, EntryResult, InPlace, NoBlock, NoSlot, LockResult, NotLocked, LocksIt, JoinResult, NotJoined, Joined, Wrote, Whole, Refused, Short, LoanResult, Lent, Moved}
 use Rattle.inode_machine.specs.World.Op.{Free, Forget, Store, Enter, Clear}
 use Rattle.inode_machine.specs.Parts.{P, Stop, NotThere, NoMemory, done, failed, stopped, drop, give_up, free_all, tail, walk, walk_step, walk_parent, leave_directory, with_last, start, start_on}
 use Rattle.inode_machine.specs.Descriptors.{joined_on, read_on, dup_on, stat_on, close_on, write_from, wrote_on, write_program}
@@ -260,14 +260,14 @@ module _ (path : List ℕ) (d : ℕ) (e : Name) (list : List ℕ) where
     entered b s within = recorded both (b + 2) d (with_bitmap (with_contents 2 s)) old_here (let w = within in omega (arith, w))
 
     -- open
-    made : (flags : ℕ) (sort : Sort) (b : ℕ) (s : Spent) (a : Entered) → b ≤ 10 → Within both b s → HasRoom s (make_on path flags n sort d list a)
+    made : (flags : ℕ) (sort : Sort) (b : ℕ) (s : Spent) (a : EntryResult) → b ≤ 10 → Within both b s → HasRoom s (make_on path flags n sort d list a)
     made flags sort b s InPlace le within =
         (fits both b s within le, λ _. dropped both b le d _ s old_here within (λ t w. took path flags both b le n sort list _ _ t new_here w (λ fd. opened path flags both b le n list fd t w)))
     made flags sort b s NoBlock le within = undone b _ s le within
     made flags sort b s NoSlot le within = undone b _ s le within
 
     -- mkdir
-    directory_named : (f : Face) (b : ℕ) (s : Spent) (a : Entered) → b ≤ 10 → Within both b s → HasRoom s (name_directory path d f n list a)
+    directory_named : (f : Face) (b : ℕ) (s : Spent) (a : EntryResult) → b ≤ 10 → Within both b s → HasRoom s (name_directory path d f n list a)
     directory_named f b s InPlace le within =
         let stored : Within both b (with_record d s) = recorded both b d s old_here within in
         (fits both b (with_record d s) stored le, λ _. gave_up both b le d _ (with_record d s) old_here stored (λ t w. ended both b le n list _ t new_here w))
@@ -352,7 +352,7 @@ module _ (path : List ℕ) (d : ℕ) (e : Name) (list : List ℕ) where
   created : (flags : ℕ) (o : Option ℕ) → HasRoom unspent (create_found path flags d e list o)
   created flags None = (few_claimed, λ a. by a)
     where
-      by : (a : Claimed) → HasRoom (with_contents 1 unspent) (make_with path flags d e list a)
+      by : (a : ClaimResult) → HasRoom (with_contents 1 unspent) (make_with path flags d e list a)
       by (New n) = made_with n flags
       by NoInode = given_up_claimed _
       by NoPlace = given_up_claimed _
@@ -368,7 +368,7 @@ module _ (path : List ℕ) (d : ℕ) (e : Name) (list : List ℕ) where
   unlinks_in : HasRoom unspent (unlink_in path d e list)
   unlinks_in = either_way unspent (same_name e dot || same_name e dotdot) _ _ (few, λ a. given_up _) (few, λ a. unlinked (face_or a.face) a.found)
 
-  mkdir_made : (f : Face) (a : Claimed) → HasRoom (with_contents 1 unspent) (mkdir_with path d e list f a)
+  mkdir_made : (f : Face) (a : ClaimResult) → HasRoom (with_contents 1 unspent) (mkdir_with path d e list f a)
   mkdir_made f (New n) = directory_made n f
   mkdir_made f NoInode = given_up_claimed _
   mkdir_made f NoPlace = given_up_claimed _
@@ -410,7 +410,7 @@ module _ (old new : List ℕ) (n : ℕ) where
     backs : (b : ℕ) (r : Reply) (s : Spent) → b ≤ 10 → Within two b s → HasRoom s (give_up d (lower old new n r list))
     backs b r s le within = gave_up two b le d _ s (here d linked) within (λ t w. back_down two b r list t le new_in w)
 
-    link_named : (s : Spent) → Within two 5 s → (a : Entered) → HasRoom s (named_on old new n d list a)
+    link_named : (s : Spent) → Within two 5 s → (a : EntryResult) → HasRoom s (named_on old new n d list a)
     link_named s within InPlace = gave_up two 5 (omega arith) d _ s (here d linked) within (λ t w. dropped two 5 (omega arith) n _ t new_in w (λ u x. tailed list _ u (fits two 5 u x (omega arith))))
     link_named s within NoBlock = backs 5 _ s (omega arith) within
     link_named s within NoSlot = backs 5 _ s (omega arith) within
@@ -467,7 +467,7 @@ lends_from : (child left from : ℕ) → HasRoom unspent (lend_from child left f
 lends_from child zero from = (few, λ old. inherits_end child old)
 lends_from child (suc left) from = (few, λ a. by a (λ k. lends_from child left k))
   where
-    by : (a : Lending) → ((k : ℕ) → HasRoom unspent (lend_from child left k)) → HasRoom unspent (lend_on child (lend_from child left) a)
+    by : (a : LoanResult) → ((k : ℕ) → HasRoom unspent (lend_from child left k)) → HasRoom unspent (lend_on child (lend_from child left) a)
     by (Lent i true) again = again (i + 1)
     by (Lent i false) again = (few, λ old. inherits_end child old)
     by (Moved old) again = inherits_end child old
@@ -486,7 +486,7 @@ writes : (fd : ℕ) (bytes : List ℕ) → HasRoom unspent (write_program fd byt
 writes fd [] = (few, λ o. tt)
 writes fd (b ∷ bs) = (few, λ a. by a)
   where
-    by : (a : Joining) → HasRoom unspent (joined_on fd (b ∷ bs) a)
+    by : (a : JoinResult) → HasRoom unspent (joined_on fd (b ∷ bs) a)
     by (NotJoined c) = tt
     by (Joined n) = writes_from fd n (b ∷ bs) (piece_count (b ∷ bs) - 1) 0
 
@@ -499,7 +499,7 @@ pub transactions_are_small : TransactionsAreSmall
 transactions_are_small (calls.Open path flags) = either_way unspent (creates flags) (open_new path flags (elements path)) (open_old path flags) (creates_new path flags (elements path)) (opens_old path flags)
 transactions_are_small (calls.Read fd buffer) = (few, λ a. by a)
   where
-    by : (a : Locking) → HasRoom unspent (read_on fd buffer a)
+    by : (a : LockResult) → HasRoom unspent (read_on fd buffer a)
     by (NotLocked c) = tt
     by (LocksIt n offset) = (few, λ _. (few, λ _. tt))
 transactions_are_small (calls.Write fd bytes) = writes fd bytes

@@ -18,7 +18,7 @@ use Rattle.plain_tree.specs.declared.tree.Hold.{Hold}
 use Rattle.plain_tree.specs.Steps.{holds_raised}
 use Rattle.tree_laws.specs.WellFormed.{one_if}
 use Rattle.tree_laws.proofs.Maps.{put_same, put_other, same_or}
-use Rattle.tree_moves.specs.Moves.{Written}
+use Rattle.tree_moves.specs.Moves.{IsWholeCall}
 use Rattle.inode_machine.specs.World.{Desk, World, stage_of}
 use Rattle.inode_machine.specs.Inodes.{face_or, face_of}
 use Rattle.inode_machine.specs.Rules.{Held, Own, Others, Rests, own_of, Idle, Inv, machine, asked_limit}
@@ -82,11 +82,11 @@ rests_same O r d i row desk = rests_as O r d i row.hold desk.directory desk.hand
 
 -- Dup.
 
-dup_failed : (fd : ℕ) → Written (calls.Dup fd) (fails (steps.Dup fd) BadDescriptor ∷ []) (parts.failed (calls.Dup fd) BadDescriptor)
+dup_failed : (fd : ℕ) → IsWholeCall (calls.Dup fd) (fails (steps.Dup fd) BadDescriptor ∷ []) (parts.failed (calls.Dup fd) BadDescriptor)
 unfolding next_of reply_of had_room
 dup_failed fd = (refl, record { through = refl; reply = refl; room = refl })
 
-dup_written : (fd f : ℕ) → Written (calls.Dup fd) (dupped fd f ∷ []) (record { answer = answers.Fd f; call = calls.Dup fd })
+dup_written : (fd f : ℕ) → IsWholeCall (calls.Dup fd) (dupped fd f ∷ []) (record { answer = answers.Fd f; call = calls.Dup fd })
 unfolding next_of reply_of had_room
 dup_written fd f = (refl, record { through = refl; reply = refl; room = refl })
 
@@ -101,11 +101,11 @@ dup_ok h fd w free lt idle =
 
 -- Close.
 
-close_failed : (fd : ℕ) → Written (calls.Close fd) (fails (steps.Close fd) BadDescriptor ∷ []) (parts.failed (calls.Close fd) BadDescriptor)
+close_failed : (fd : ℕ) → IsWholeCall (calls.Close fd) (fails (steps.Close fd) BadDescriptor ∷ []) (parts.failed (calls.Close fd) BadDescriptor)
 unfolding next_of reply_of had_room
 close_failed fd = (refl, record { through = refl; reply = refl; room = refl })
 
-close_written : (fd : ℕ) → Written (calls.Close fd) (shut_step fd ∷ []) (parts.done (calls.Close fd))
+close_written : (fd : ℕ) → IsWholeCall (calls.Close fd) (shut_step fd ∷ []) (parts.done (calls.Close fd))
 unfolding next_of reply_of had_room
 close_written fd = (refl, record { through = refl; reply = refl; room = refl })
 
@@ -145,11 +145,11 @@ close_ok h fd w free lt idle =
 
 -- Fstat.
 
-stat_failed : (fd : ℕ) → Written (calls.Fstat fd) (fails (steps.Fstat fd) BadDescriptor ∷ []) (parts.failed (calls.Fstat fd) BadDescriptor)
+stat_failed : (fd : ℕ) → IsWholeCall (calls.Fstat fd) (fails (steps.Fstat fd) BadDescriptor ∷ []) (parts.failed (calls.Fstat fd) BadDescriptor)
 unfolding next_of reply_of had_room
 stat_failed fd = (refl, record { through = refl; reply = refl; room = refl })
 
-stat_written : (fd i : ℕ) (v : Node) → Written (calls.Fstat fd) (stat_step fd i v ∷ []) (stat_reply fd i (face_or (face_of (Some v))))
+stat_written : (fd i : ℕ) (v : Node) → IsWholeCall (calls.Fstat fd) (stat_step fd i v ∷ []) (stat_reply fd i (face_or (face_of (Some v))))
 unfolding next_of reply_of had_room
 stat_written fd i v = (refl, record { through = refl; reply = λ j. record { answer = answers.Stat (stat_face i v j); call = calls.Fstat fd }; room = refl })
 
@@ -170,11 +170,11 @@ stat_ok h fd w free lt idle =
 
 -- Read.
 
-read_failed : (fd : ℕ) (buffer : List ℕ) (c : Cause) → Written (calls.Read fd buffer) (fails (steps.Read fd (length buffer)) c ∷ []) (parts.failed (calls.Read fd buffer) c)
+read_failed : (fd : ℕ) (buffer : List ℕ) (c : Cause) → IsWholeCall (calls.Read fd buffer) (fails (steps.Read fd (length buffer)) c ∷ []) (parts.failed (calls.Read fd buffer) c)
 unfolding next_of reply_of had_room
 read_failed fd buffer c = (refl, record { through = refl; reply = refl; room = refl })
 
-read_written : (fd : ℕ) (buffer b : List ℕ) → Written (calls.Read fd buffer) (read_step fd (length buffer) b ∷ []) (read_reply fd buffer b)
+read_written : (fd : ℕ) (buffer b : List ℕ) → IsWholeCall (calls.Read fd buffer) (read_step fd (length buffer) b ∷ []) (read_reply fd buffer b)
 unfolding next_of reply_of had_room
 read_written fd buffer b = (refl, record { through = refl; reply = refl; room = refl })
 

@@ -21,7 +21,7 @@ use Rattle.inode_machine.specs.World.Op.{Settle}
 use Rattle.inode_machine.specs.Inodes.{OfDirectory, sort_of, sort_of_kind}
 use Rattle.inode_machine.specs.Exec.{is_at, unlocked, with_directory, with_walk, child_of}
 use Rattle.inode_machine.specs.Marks.{acts, mended, unheld, unmoved, unopened}
-use Rattle.inode_machine.specs.Rules.{Own, Held, key_in, left_or, own_names, own_of, shop_of, Inv, Reached, machine}
+use Rattle.inode_machine.specs.Rules.{Own, Held, key_in, left_or, own_names, own_of, shop_of, Inv, IsReached, machine}
 use Rattle.inode_machine.proofs.Frame.{shop_same, directory_named, Did, Fair, fair, fair_then, has_inode}
 use Rattle.inode_machine.proofs.Rules.{s-owned, quiet, locks_it, my_refs}
 use Rattle.inode_machine.proofs.Rows.{below_is}
@@ -66,7 +66,7 @@ kind_directory (Some v) e = at v.kind e
     at (Device major minor size) q = absurd cc
 
 -- The tree's current directory changes, where the one that the hart refers to is the one that it leaves.
-cwd_did : (h x k : ℕ) (v : World) → (v.desks h).lender ≡ None → h < hart_count → Inv v → (v.desks h).left ≡ Some k → sort_of (v.all.nodes x) ≡ Some OfDirectory → Reached v h x → Did h v (record v { all = record (v.all) { cwd = put v.all.cwd h x } })
+cwd_did : (h x k : ℕ) (v : World) → (v.desks h).lender ≡ None → h < hart_count → Inv v → (v.desks h).left ≡ Some k → sort_of (v.all.nodes x) ≡ Some OfDirectory → IsReached v h x → Did h v (record v { all = record (v.all) { cwd = put v.all.cwd h x } })
 cwd_did h x k v free lt inv left sort reached = record {
   hart = lt;
   inodes = λ j. inl (record { lock = refl; keeper = refl; disk = refl; node = refl; alone = refl });
@@ -93,9 +93,9 @@ cwd_did h x k v free lt inv left sort reached = record {
   walks = λ y is. inv.walks h y lt is;
 }
   where
-    named : (j : ℕ) → ((x == j) || (hold_names (v.all.holds h) j || (key_names (key_in (row_of v.all h).keys (v.desks h).opening) j || is_at (v.desks h).left j))) ≡ true → Reached v h j
+    named : (j : ℕ) → ((x == j) || (hold_names (v.all.holds h) j || (key_names (key_in (row_of v.all h).keys (v.desks h).opening) j || is_at (v.desks h).left j))) ≡ true → IsReached v h j
     named j is = elim (either (x == j)) [
-      | inl y ↦ subst (λ (z : ℕ). Reached v h z) (eq_is x j y) reached
+      | inl y ↦ subst (λ (z : ℕ). IsReached v h z) (eq_is x j y) reached
       | inr y ↦ inv.named h j lt free (or_right (v.all.cwd h == j) (hold_names (v.all.holds h) j || (key_names (key_in (row_of v.all h).keys (v.desks h).opening) j || is_at (v.desks h).left j)) ((λ z. sym y z || (hold_names (v.all.holds h) j || (key_names (key_in (row_of v.all h).keys (v.desks h).opening) j || is_at (v.desks h).left j))) ∙ is))
     ]
 
@@ -124,7 +124,7 @@ pub record Leaving (h j : ℕ) (v : World) (O : Own) : Type 0 where
   pub fair : Fair h v (left_world h j v)
   pub owned : own_of h (left_world h j v) ≡ record O { row = record (O.row) { cwd = j }; desk = record (O.desk) { left = Some (O.row.cwd) } }
 
-pub leaving : (h j : ℕ) (v : World) (O : Own) → own_of h v ≡ O → O.desk.lender ≡ None → h < hart_count → Inv v → O.desk.left ≡ None → sort_of (v.all.nodes j) ≡ Some OfDirectory → Reached v h j → Leaving h j v O
+pub leaving : (h j : ℕ) (v : World) (O : Own) → own_of h v ≡ O → O.desk.lender ≡ None → h < hart_count → Inv v → O.desk.left ≡ None → sort_of (v.all.nodes j) ≡ Some OfDirectory → IsReached v h j → Leaving h j v O
 leaving h j v O ov free lt inv none sort reached = record {
   fair = fair_then f.fair (fair f.fair.inv (cwd_did h j (v.all.cwd h) u (ap (λ (o : Own). o.desk.lender) f.owned ∙ free) lt f.fair.inv (ap (λ (z : Desk). z.left) (put_same v.desks h new)) sort reached));
   owned = own_cwd h j u (record O { desk = record (O.desk) { left = Some (O.row.cwd) } }) f.owned;
@@ -180,8 +180,8 @@ mends_left h k v O ov free lt inv opening left hold names = subst (λ (z : World
     sort : sort_of (v.all.nodes k) ≡ Some OfDirectory
     sort = ap (λ (z : ℕ). sort_of (v.all.nodes z)) (sym stands) ∙ (inv.directory h lt).sort
 
-    reached : Reached v h k
-    reached = subst (λ (z : ℕ). Reached v h z) stands (inv.named h (v.desks h).directory lt (ap (λ (o : Own). o.desk.lender) ov ∙ free) (directory_named (row_of v.all h) (v.desks h) ((inv.directory h lt).at (ap (λ (o : Own). o.desk.lender) ov ∙ free))))
+    reached : IsReached v h k
+    reached = subst (λ (z : ℕ). IsReached v h z) stands (inv.named h (v.desks h).directory lt (ap (λ (o : Own). o.desk.lender) ov ∙ free) (directory_named (row_of v.all h) (v.desks h) ((inv.directory h lt).at (ap (λ (o : Own). o.desk.lender) ov ∙ free))))
 
     back : Fair h v u1
     back = fair inv (cwd_did h k k v (ap (λ (o : Own). o.desk.lender) ov ∙ free) lt inv left_v sort reached)

@@ -10,12 +10,12 @@ use Rattle.plain_tree.specs.Steps.{node_or}
 use Rattle.tree_laws.specs.WellFormed.{sum_below}
 use Rattle.tree_laws.proofs.Maps.{eq_is, same_or, put_same, put_other, and_true}
 use Rattle.tree_moves.specs.Moves.{Walk, Step}
-use Rattle.inode_machine.specs.World.{Mine, World, Claimed, New, NoInode, NoPlace, Outside, Room, RoomFor, Picks}
+use Rattle.inode_machine.specs.World.{Mine, World, ClaimResult, New, NoInode, NoPlace, Outside, Room, RoomFor, Picks}
 use Rattle.inode_machine.specs.World.Op.{Claim, Store, Fill}
 use Rattle.inode_machine.specs.Inodes.{Sort}
 use Rattle.inode_machine.specs.Exec.{is_nothing, blank, claimed, claim_if, is_free, place_count, referenced, with_count, with_dots, fill_if}
 use Rattle.inode_machine.specs.Marks.{with_mark, mended, places}
-use Rattle.inode_machine.specs.Rules.{Own, shop_of, own_names, Held, view, is_hart, own_of, Pinned, Inv, machine, Reached, HonestClaim}
+use Rattle.inode_machine.specs.Rules.{Own, shop_of, own_names, Held, view, is_hart, own_of, IsReferredTo, Inv, machine, IsReached, HonestClaim}
 use Rattle.inode_machine.specs.Parts.{mends_if_full}
 use Rattle.inode_machine.specs.Opening.{mends_unless_new}
 use Rattle.inode_machine.proofs.Frame.{shop_same, put_elim, ours_none, ours_some, kept_here, Did, Fair, fair, own_inodes, has_inode, found_more, one_refs, refers_put}
@@ -103,15 +103,15 @@ claiming h i sort v O ov free lt inv joined is_free_i = record { fair = fair inv
       | inr ne ↦ (let r = each_refs v.harts h i ((v.harts h).refs i + 1) h j (inr ne) in omega (arith, r, a))
     ]
 
-    pin : (j : ℕ) → Pinned v.desks v.files v.harts h j → Pinned v.desks v.files u.harts h j
+    pin : (j : ℕ) → IsReferredTo v.desks v.files v.harts h j → IsReferredTo v.desks v.files u.harts h j
     pin j (inl a) = inl a
     pin j (inr a) = inr (grow j a)
 
-    reach : (j : ℕ) → Reached v h j → Reached u h j
+    reach : (j : ℕ) → IsReached v h j → IsReached u h j
     reach j (inl a) = inl (grow j a)
     reach j (inr a) = inr (ap (λ (m : Mine). m.pending) (put_same v.harts h new) ∙ a)
 
-    back : (j : ℕ) → j ≢ i → Reached u h j → Reached v h j
+    back : (j : ℕ) → j ≢ i → IsReached u h j → IsReached v h j
     back j ne (inl a) = inl (let r = each_refs v.harts h i ((v.harts h).refs i + 1) h j (inr ne) in omega (arith, r, a))
     back j ne (inr a) = inr (sym (ap (λ (m : Mine). m.pending) (put_same v.harts h new)) ∙ a)
 
@@ -199,7 +199,7 @@ claiming h i sort v O ov free lt inv joined is_free_i = record { fair = fair inv
       desk = ap (λ (o : Own). o.desk) ov z;
     }
 
-pub s-claim : {A : Type 0} {h : ℕ} (sort : Sort) {k : Claimed → P machine A} {B : List Step → Type 0} {Q : A → List Step → World → Type 0} {n : ℕ} {es : List Step} {w : World} {O : Own}
+pub s-claim : {A : Type 0} {h : ℕ} (sort : Sort) {k : ClaimResult → P machine A} {B : List Step → Type 0} {Q : A → List Step → World → Type 0} {n : ℕ} {es : List Step} {w : World} {O : Own}
     → own_of h w ≡ O → O.desk.lender ≡ None → h < hart_count → 12300 < n → O.desk.joined ≡ true → Mendable O
     → ((l i : ℕ) (u : World) → l + 12301 ≡ n → 1 ≤ i → i < O.ninodes → O.inodes i ≡ None → O.mine.refs i ≡ 0
     → own_of h u ≡ record O { inodes = put O.inodes i (Some (claimed_held sort)); mine = record { refs = put O.mine.refs i (O.mine.refs i + 1); walk = O.mine.walk; pending = O.mine.pending } } → Safe machine h B Q (k (New i)) l es u)
@@ -209,14 +209,14 @@ pub s-claim : {A : Type 0} {h : ℕ} (sort : Sort) {k : Claimed → P machine A}
 s-claim {A} {h} sort {k} {B} {Q} {n} {es} {w} {O} owns free lt pos joined can then_ none full = s-owned owns free pos (λ v inv ov. (ap (λ (o : Own). o.desk.joined) ov ∙ joined, (λ x honest. at v inv ov x honest)))
   where
     Goal : World → Outside → Type 0
-    Goal v x = Good machine Claimed h (λ a. places h (Claim sort) a (mends_unless_new a) v) 12300 n B es v ⊥ (with_mark h mends_unless_new (claim_if h sort v x)) (λ l a u. Wp machine h B Q (k a) l (onto (own h (places h (Claim sort) a (mends_unless_new a) v)) es) u)
+    Goal v x = Good machine ClaimResult h (λ a. places h (Claim sort) a (mends_unless_new a) v) 12300 n B es v ⊥ (with_mark h mends_unless_new (claim_if h sort v x)) (λ l a u. Wp machine h B Q (k a) l (onto (own h (places h (Claim sort) a (mends_unless_new a) v)) es) u)
 
     at : (v : World) → Inv v → own_of h v ≡ O → (x : Outside) → HonestClaim v x → Goal v x
     at v inv ov Room honest = mend_fine h 12300 n B Q es v O (k NoInode) ov free lt inv can pos none
     at v inv ov (RoomFor j) honest = mend_fine h 12300 n B Q es v O (k NoPlace) ov free lt inv can pos full
     at v inv ov (Picks i) honest = by_place (nat_lt (referenced v) place_count)
       where
-        by_place : (b : Bool) → Good machine Claimed h (λ a. places h (Claim sort) a (mends_unless_new a) v) 12300 n B es v ⊥ (with_mark h mends_unless_new (if b then Ran (New i) (claimed h sort v i) else Ran NoPlace v)) (λ l a u. Wp machine h B Q (k a) l (onto (own h (places h (Claim sort) a (mends_unless_new a) v)) es) u)
+        by_place : (b : Bool) → Good machine ClaimResult h (λ a. places h (Claim sort) a (mends_unless_new a) v) 12300 n B es v ⊥ (with_mark h mends_unless_new (if b then Ran (New i) (claimed h sort v i) else Ran NoPlace v)) (λ l a u. Wp machine h B Q (k a) l (onto (own h (places h (Claim sort) a (mends_unless_new a) v)) es) u)
         by_place false = mend_fine h 12300 n B Q es v O (k NoPlace) ov free lt inv can pos full
         by_place true =
             let c = claiming h i sort v O ov free lt inv joined honest.2 in

@@ -15,7 +15,7 @@ use Rattle.inode_machine.specs.World.{Mine, World, stage_of}
 use Rattle.inode_machine.specs.Marks.{with_mark}
 use Rattle.inode_machine.specs.Exec.{unlocked, counted_down, down_if, is_dead, is_last, reserved, walk_down_if}
 use Rattle.inode_machine.specs.World.Op.{Down, Give, WalkDown}
-use Rattle.inode_machine.specs.Rules.{Own, shop_of, own_names, Held, view, is_hart, if_kept, own_of, Pinned, Inv, machine, Reached, Spares, left_or}
+use Rattle.inode_machine.specs.Rules.{Own, shop_of, own_names, Held, view, is_hart, if_kept, own_of, IsReferredTo, Inv, machine, IsReached, Spares, left_or}
 use Rattle.inode_machine.proofs.Frame.{shop_same, put_elim, ours_none, ours_some, kept_here, Did, Fair, fair, own_inodes, has_inode, has_none, directory_named, one_refs, two_refs, refers_put}
 use Rattle.inode_machine.proofs.Rules.{opens_slots, s-owned, quiet, each_refs, here_refs, walks_refs, total_same, total_changed, my_refs, not_alone, has_disk, has_node, is_me, is_mine, locks_it, locks_not}
 
@@ -67,7 +67,7 @@ gives h i x O v free lt inv ov isi shared whole none = record { fair = fair inv 
             dead = a.dead;
             counts = a.counts;
           };
-          kept = λ j. put_elim v.keeper i None j (λ z. z ≡ Some h → Pinned v.desks v.files v.harts h j) (λ q is. absurd cc) (λ q is. (inv.kept j h is).1);
+          kept = λ j. put_elim v.keeper i None j (λ z. z ≡ Some h → IsReferredTo v.desks v.files v.harts h j) (λ q is. absurd cc) (λ q is. (inv.kept j h is).1);
           held = λ j is. elim (same_or j i) [
             | inl q ↦ absurd (let s : put v.keeper i None j ≡ None = ap (put v.keeper i None) q ∙ put_same v.keeper i None in cc)
             | inr ne ↦ elim (inv.held j h (sym (put_other v.keeper i None j ne) ∙ is)) [ inl a ↦ inl (put_other v.lock i None j ne ∙ a) | inr a ↦ inr a ]
@@ -247,7 +247,7 @@ lasting h i v O L b ov free lt inv out refers none e there here mine = record { 
             }
             | inr ne ↦ let a = inv.alone j (sym (put_other v.alone i true j ne) ∙ is) in record { hart = a.hart; kept = put_other v.keeper i (Some h) j ne ∙ a.kept; dead = a.dead; counts = a.counts }
           ];
-          kept = λ j. put_elim v.keeper i (Some h) j (λ z. z ≡ Some h → Pinned v.desks v.files v.harts h j) (λ q is. inr (subst (λ (z : ℕ). 0 < (v.harts h).refs z) (sym q) (more_v))) (λ q is. (inv.kept j h is).1);
+          kept = λ j. put_elim v.keeper i (Some h) j (λ z. z ≡ Some h → IsReferredTo v.desks v.files v.harts h j) (λ q is. inr (subst (λ (z : ℕ). 0 < (v.harts h).refs z) (sym q) (more_v))) (λ q is. (inv.kept j h is).1);
           held = λ j is. elim (same_or j i) [
             | inl q ↦ inr (ap u.alone q ∙ put_same v.alone i true)
             | inr ne ↦ elim (inv.held j h (sym (put_other v.keeper i (Some h) j ne) ∙ is)) [ inl a ↦ inl (there j ne ∙ a) | inr a ↦ inr (put_other v.alone i true j ne ∙ a) ]
@@ -326,11 +326,11 @@ counting h i v O ov free lt inv out refers none still = record { fair = fair inv
       | inr ne ↦ (let r = each_refs v.harts h i ((v.harts h).refs i - 1) h j (inr ne) in omega (arith, r, a))
     ]
 
-    pin : (j : ℕ) → ((j ≡ i) → 1 < (v.harts h).refs i) → Pinned v.desks v.files v.harts h j → Pinned v.desks v.files u.harts h j
+    pin : (j : ℕ) → ((j ≡ i) → 1 < (v.harts h).refs i) → IsReferredTo v.desks v.files v.harts h j → IsReferredTo v.desks v.files u.harts h j
     pin j ok (inl a) = inl a
     pin j ok (inr a) = inr (grow j ok a)
 
-    shrink : (j : ℕ) → Reached u h j → Reached v h j
+    shrink : (j : ℕ) → IsReached u h j → IsReached v h j
     shrink j (inr p) = inr (sym (ap (λ (m : Mine). m.pending) (put_same v.harts h new)) ∙ p)
     shrink j (inl p) = elim (same_or j i) [
       | inl q ↦ inl (subst (λ (z : ℕ). 0 < (v.harts h).refs z) (sym q) more_v)

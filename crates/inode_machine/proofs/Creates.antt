@@ -18,7 +18,7 @@ use Rattle.tree_laws.proofs.Kept.{absent_slot}
 use Rattle.tree_laws.proofs.Maps.{and_true}
 use Rattle.tree_moves.specs.Moves.{Walk, Step}
 use Rattle.tree_moves.specs.Moves.Move.{Look}
-use Rattle.inode_machine.specs.World.{Note, World, Mark, Entered, InPlace, NoBlock, NoSlot}
+use Rattle.inode_machine.specs.World.{Note, World, Mark, EntryResult, InPlace, NoBlock, NoSlot}
 use Rattle.inode_machine.specs.World.Op.{Enter}
 use Rattle.inode_machine.specs.World.Mark.{Mends}
 use Rattle.inode_machine.specs.Exec.{with_entry}
@@ -71,7 +71,7 @@ absent_is t d flags e c absent = rw (c, absent) refl
 abbrev pub created_inodes : Own → ℕ → ℕ → Name → Node → Held → Held → ℕ → Option Held
 created_inodes O d i e X x z = put (put O.inodes d (Some (record x { disk = Some (with_entry e i X); node = Some (with_entry e i X) }))) i (Some (record z { node = Some new_file; alone = false }))
 
-pub s-enter-file : {A : Type 0} {h : ℕ} (d i : ℕ) {x z : Held} (X : Node) (e : Name) (path : List ℕ) (flags : ℕ) {m : Entered → Option Mark} {k : Entered → P machine A} {B : List Step → Type 0} {Q : A → List Step → World → Type 0} {n : ℕ} {es : List Step} {w : World} {O : Own}
+pub s-enter-file : {A : Type 0} {h : ℕ} (d i : ℕ) {x z : Held} (X : Node) (e : Name) (path : List ℕ) (flags : ℕ) {m : EntryResult → Option Mark} {k : EntryResult → P machine A} {B : List Step → Type 0} {Q : A → List Step → World → Type 0} {n : ℕ} {es : List Step} {w : World} {O : Own}
     → own_of h w ≡ O → O.desk.lender ≡ None → h < hart_count → 1640 < n → O.desk.joined ≡ true → O.mine.walk ≡ Some (record { step = Open path flags; at = d; next = e; rest = [] }) → O.mine.pending ≡ None → Mendable O → creates flags ≡ true
     → m InPlace ≡ makes (Look i) → m NoBlock ≡ Some Mends → m NoSlot ≡ Some Mends
     → O.inodes d ≡ Some x → x.disk ≡ Some X → x.node ≡ Some X → x.alone ≡ false → x.locked ≡ true → live_directory (Some X) ≡ true → look (λ j. Some X) d e ≡ None

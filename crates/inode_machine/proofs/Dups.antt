@@ -25,7 +25,7 @@ use Rattle.inode_machine.specs.Marks.{places, with_mark, with_made, made_by, fou
 use Rattle.inode_machine.specs.World.{Mine, Entry, Desk, World, Note}
 use Rattle.inode_machine.specs.Descriptors.{dups}
 use Rattle.inode_machine.specs.World.Op.{Double, Join, Leave, Say}
-use Rattle.inode_machine.specs.Rules.{Own, shop_of, Shop, Tied, id_at, number_is, users, own_names, own_of, Inv, machine, Held, key_in, Stands, view, Reached, HasType, KeepsFiles}
+use Rattle.inode_machine.specs.Rules.{Own, shop_of, Shop, IsTied, id_at, number_is, users, own_names, own_of, Inv, machine, Held, key_in, Stands, view, IsReached, HasType, KeepsFiles}
 use Rattle.inode_machine.proofs.Frame.{bond_of, put_elim, stands_on, Fair, fair, fair_same, kept_here}
 use Rattle.inode_machine.proofs.Rules.{s-owned, quiet, UnlocksAll, locks_none, s-owned-from}
 use Rattle.inode_machine.proofs.Rows.{below_is}
@@ -123,7 +123,7 @@ pub record Flagging (h : ℕ) (v : World) (O : Own) (new d : Desk) (c : Bool) : 
 pub desk_changes : (h : ℕ) (v : World) (O : Own) (new d : Desk) (c : Bool) → own_of h v ≡ O → O.desk.lender ≡ None → h < hart_count → Inv v → new ≡ d → SameFiles new (v.desks h)
     → ((j : ℕ) → own_names (row_of v.all h) new j ≡ true → own_names (row_of v.all h) (v.desks h) j ≡ true) → Stands new (v.all.cwd h) v.all.nodes → 0 < (v.harts h).refs new.directory → ((new.directory ≡ (v.desks h).directory) ⊎ (child_of (v.desks h) ≡ None)) → new.lender ≡ None
     → (new.joined ≡ false → (j : ℕ) → v.keeper j ≡ Some h → v.disk j ≡ v.all.nodes j) → (holds_raised true (v.all.holds h) ≡ true → new.joined ≡ true)
-    → ((m : Note) → new.noted ≡ Some m → Reached v h m.number → v.alone m.number ≡ false → sort_of (v.all.nodes m.number) ≡ m.sort)
+    → ((m : Note) → new.noted ≡ Some m → IsReached v h m.number → v.alone m.number ≡ false → sort_of (v.all.nodes m.number) ≡ m.sort)
     → (new.full ≡ true → c ≡ false) → (v.clean ≡ false → c ≡ false) → (c ≡ true → v.clean ≡ true) → Flagging h v O new d c
 desk_changes h v O new d c ov free lt inv is same names stands home stays unlent quiet raises notes mine his back = record {
   fair = fair inv (record {
@@ -181,7 +181,7 @@ desk_changes h v O new d c ov free lt inv is same names stands home stays unlent
     users_is : (k : ℕ) → users D k ≡ users v.desks k
     users_is k = sum_same hart_count _ _ (λ g lg. λ z. sum_below descriptor_count (λ i. one_if (is_at (fds_is g i z) k)) + sum_below descriptor_count (λ i. one_if (is_at (lent_is g i z) k)))
 
-    tied : Tied (record { files = v.files; desks = D; ids = v.ids; slots = v.slots; clean = c; tree_fds = v.all.fds; tree_files = v.all.files })
+    tied : IsTied (record { files = v.files; desks = D; ids = v.ids; slots = v.slots; clean = c; tree_fds = v.all.fds; tree_files = v.all.files })
     tied = record {
       fds = λ g i lg li o. inv.tied.fds g i lg li (ap (λ (z : Option ℕ). is_at z i) (sym (opening_is g)) ∙ o) ∙ ap (λ (z : Option ℕ). id_at v.ids z) (sym (fds_is g i));
       fresh = λ g i lg o. let f = inv.tied.fresh g i lg (sym (opening_is g) ∙ o) in record { below = f.below; free = fds_is g i ∙ f.free; id = f.id; is = f.is; file = f.file; at = f.at; offset = f.offset; only = f.only };
@@ -203,7 +203,7 @@ desk_changes h v O new d c ov free lt inv is same names stands home stays unlent
 -- the same, where it leaves no directory and opens nothing else
 pub flagging : (h : ℕ) (v : World) (O : Own) (new d : Desk) (c : Bool) → own_of h v ≡ O → O.desk.lender ≡ None → h < hart_count → Inv v → new ≡ d → SameTable new (v.desks h) → new.lender ≡ None
     → (new.joined ≡ false → (j : ℕ) → v.keeper j ≡ Some h → v.disk j ≡ v.all.nodes j) → (holds_raised true (v.all.holds h) ≡ true → new.joined ≡ true)
-    → ((m : Note) → new.noted ≡ Some m → Reached v h m.number → v.alone m.number ≡ false → sort_of (v.all.nodes m.number) ≡ m.sort)
+    → ((m : Note) → new.noted ≡ Some m → IsReached v h m.number → v.alone m.number ≡ false → sort_of (v.all.nodes m.number) ≡ m.sort)
     → (new.full ≡ true → c ≡ false) → (v.clean ≡ false → c ≡ false) → (c ≡ true → v.clean ≡ true) → Flagging h v O new d c
 flagging h v O new d c ov free lt inv is same unlent quiet raises notes mine his back = desk_changes h v O new d c ov free lt inv is (record { fds = same.fds; hand = same.hand; lent = same.lent; opening = same.opening })
     (λ j q. (λ z. (v.all.cwd h == j) || (hold_names (v.all.holds h) j || (key_names (key_in (row_of v.all h).keys (sym same.opening z)) j || is_at (sym same.left z) j))) ∙ q)
@@ -267,7 +267,7 @@ pub record Renews (s : Shop) (k : ℕ) (e f : Entry) (D : ℕ → Desk) : Type 0
   pub more : 0 < f.references
   pub other : (j : ℕ) → j ≢ k → users D j ≡ users s.desks j
 
-pub renewed : (s : Shop) (k : ℕ) (e f : Entry) (D : ℕ → Desk) → Tied s → Renews s k e f D → (j : ℕ) (x : Entry) → put s.files k (Some f) j ≡ Some x → (d : Entry) × (s.files j ≡ Some d) × (x.file ≡ d.file) × (x.references ≡ users D j) × (0 < x.references)
+pub renewed : (s : Shop) (k : ℕ) (e f : Entry) (D : ℕ → Desk) → IsTied s → Renews s k e f D → (j : ℕ) (x : Entry) → put s.files k (Some f) j ≡ Some x → (d : Entry) × (s.files j ≡ Some d) × (x.file ≡ d.file) × (x.references ≡ users D j) × (0 < x.references)
 renewed s k e f D tied r j x q = elim (same_or j k) [
   | inl t ↦
       let a : Some f ≡ Some x = sym (put_same s.files k (Some f)) ∙ ap (put s.files k (Some f)) (sym t) ∙ q in
@@ -479,7 +479,7 @@ s-double {A} {h} fd {k} {B} {Q} {n} {es} {w} {O} owns free lt pos walks none idl
           other = λ j ne. let a = users_put v.desks h f j (Some s) lt spare.0 in let b = uses_free j in let c = not_one s j (λ z. ne (sym z)) in omega (arith, a, b, c);
         }
 
-        tied : Tied (record { files = F; desks = D; ids = v.ids; slots = v.slots; clean = v.clean; tree_fds = T.fds; tree_files = T.files })
+        tied : IsTied (record { files = F; desks = D; ids = v.ids; slots = v.slots; clean = v.clean; tree_fds = T.fds; tree_files = T.files })
         tied = changes (shop_of v) h f (Some s) (Some (v.ids s)) F v.slots inv.tied (record {
           hart = lt;
           below = spare.0;

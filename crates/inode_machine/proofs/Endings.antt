@@ -18,7 +18,7 @@ use Rattle.plain_tree.specs.Steps.{holds_raised}
 use Rattle.tree_laws.specs.WellFormed.{one_if}
 use Rattle.tree_laws.proofs.Sums.{one_yes}
 use Rattle.tree_laws.proofs.Maps.{either, same_or, put_same, put_other}
-use Rattle.tree_moves.specs.Moves.{Deed, Step, Move, begins, fail, IsNext, MayEnd, Played, Written}
+use Rattle.tree_moves.specs.Moves.{Deed, Step, Move, begins, fail, IsNext, MayEnd, IsPlayed, IsWholeCall}
 use Rattle.tree_moves.specs.Moves.Move.{Begin, Look, Quit}
 use Rattle.inode_machine.specs.World.{Desk, World}
 use Rattle.inode_machine.specs.Inodes.{Sort, sort_of, face_of, is_directory_face, is_directory_sort}
@@ -37,7 +37,7 @@ use Rattle.inode_machine.proofs.Walks.{Stays, Gone, Ready, Lost}
 
 -- these moves were made, the newest first, and told the call these acts: what may come after the acts comes after the moves
 abbrev pub Walked : Call → List Act → List Step → Type 0
-Walked c acts es = (xs : List Step) (r : Reply) → Played c acts xs r → Played c [] (onto es xs) r
+Walked c acts es = (xs : List Step) (r : Reply) → IsPlayed c acts xs r → IsPlayed c [] (onto es xs) r
 
 abbrev pub looks : Move → Step
 looks v = record { move = v; told = None }
@@ -55,8 +55,8 @@ pub walked_tells : (c : Call) (acts : List Act) (v : Move) (d : Deed) (es : List
 walked_tells c acts v d es next w = λ xs r p. w (tells v d ∷ xs) r (next, p)
 
 -- they begin the call, where something may come after them
-pub walked_begun : (c : Call) (acts : List Act) (es xs : List Step) (r : Reply) → Walked c acts es → Played c acts xs r → Begun covered_calls c es
-walked_begun c acts es xs r w p = (xs, r, subst (λ (z : List Step). Written c z r) (onto_is es xs) (w xs r p))
+pub walked_begun : (c : Call) (acts : List Act) (es xs : List Step) (r : Reply) → Walked c acts es → IsPlayed c acts xs r → Begun covered_calls c es
+walked_begun c acts es xs r w p = (xs, r, subst (λ (z : List Step). IsWholeCall c z r) (onto_is es xs) (w xs r p))
 
 abbrev pub missed : Action → Act
 missed s = record { step = s; answer = Failed NoEntry }
@@ -116,7 +116,7 @@ rests_through O P base t m = record {
 
 -- The call leaves its transaction, frees what is listed, and replies: it found no room, or its sequence is written.
 pub s-ends : (h : ℕ) (c : Call) (r : Reply) (base : ℕ → ℕ) (ns : List ℕ) (n : ℕ) (es : List Step) (w : World) (O : Own) → own_of h w ≡ O → O.desk.lender ≡ None → h < hart_count → 971 * length ns + 63 < n → O.desk.joined ≡ true
-    → Listed O base ns → ((i : ℕ) → O.mine.refs i ≡ base i + times i ns) → O.mine.walk ≡ None → O.mine.pending ≡ None → MayRest O base → ((O.desk.full ≡ true) ⊎ Written c (oldest_first es) r)
+    → Listed O base ns → ((i : ℕ) → O.mine.refs i ≡ base i + times i ns) → O.mine.walk ≡ None → O.mine.pending ≡ None → MayRest O base → ((O.desk.full ≡ true) ⊎ IsWholeCall c (oldest_first es) r)
     → Safe machine h (Begun covered_calls c) (Ends covered_calls h c) (tail ns r) n es w
 s-ends h c r base ns n es w O owns free lt few joined listed refs walk pending may told =
     s-tail h (Begun covered_calls c) (Ends covered_calls h c) r lt base ns n es w O owns free few joined (ap (λ (o : Option Hold). holds_raised true o) may.hold) listed refs walk pending (λ R u t full own. (
@@ -130,7 +130,7 @@ pub s-lost : (h : ℕ) (c : Call) (s : Action) (K : ℕ) (base : ℕ → ℕ) (O
 s-lost h c s K base O0 lt ready may f enough why ms l es u R few g told =
     s-ends h c (stopped c why) base ms l es u R g.owns (g.stays.lender ∙ ready.free) lt (omega (arith, few, enough)) (g.stays.joined ∙ ready.joined) g.listed g.refs g.walk g.pending (may_stay R O0 base g.stays may) (by why told)
   where
-    by : (why : Stop) → Lost (λ xs. Walked c (missed s ∷ []) xs) why es R → (R.desk.full ≡ true) ⊎ Written c (oldest_first es) (stopped c why)
+    by : (why : Stop) → Lost (λ xs. Walked c (missed s ∷ []) xs) why es R → (R.desk.full ≡ true) ⊎ IsWholeCall c (oldest_first es) (stopped c why)
     by NotThere t = inr (t [] (failed c NoEntry) f.missing)
     by NoMemory t = inl t
 
@@ -186,7 +186,7 @@ s-give-up {A} {h} j c base ns {k} {B} {Q} {n} {es} {w} {O} owns free lt few join
 
 -- It is given up, and the call ends: it found no room, or was refused.
 pub s-refuse : (h : ℕ) (c : Call) (r : Reply) (j : ℕ) (x : Option Node) (base : ℕ → ℕ) (ns : List ℕ) (n : ℕ) (es : List Step) (w : World) (O : Own) → own_of h w ≡ record O { inodes = put O.inodes j (Some (locked_held x)) } → O.desk.lender ≡ None → h < hart_count → 971 * length ns + 970 ≤ n → O.desk.joined ≡ true
-    → Listed O base ns → O.inodes j ≡ None → ((i : ℕ) → O.mine.refs i ≡ base i + times i ns + one_if (j == i)) → O.mine.walk ≡ None → O.mine.pending ≡ None → (own_names O.row O.desk j ≡ true → 0 < base j) → MayRest O base → ((O.desk.full ≡ true) ⊎ Written c (oldest_first es) r)
+    → Listed O base ns → O.inodes j ≡ None → ((i : ℕ) → O.mine.refs i ≡ base i + times i ns + one_if (j == i)) → O.mine.walk ≡ None → O.mine.pending ≡ None → (own_names O.row O.desk j ≡ true → 0 < base j) → MayRest O base → ((O.desk.full ≡ true) ⊎ IsWholeCall c (oldest_first es) r)
     → Safe machine h (Begun covered_calls c) (Ends covered_calls h c) (give_up j (tail ns r)) n es w
 s-refuse h c r j x base ns n es w O own free lt few joined listed out refs walk pending spare may told =
     s-give-up j x base ns own free lt (omega (arith, few)) joined listed out refs walk pending spare (λ l M u q own2 g.

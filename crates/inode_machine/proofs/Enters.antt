@@ -15,7 +15,7 @@ use Rattle.tree_laws.proofs.Walks.{look_same}
 use Rattle.tree_laws.proofs.Kept.{effect_well}
 use Rattle.tree_moves.specs.Moves.{Step}
 use Rattle.tree_moves.specs.Moves.Move.{Look}
-use Rattle.inode_machine.specs.World.{Note, World, Mark, Outside, Room, RoomFor, Picks, Entered, InPlace, NoBlock, NoSlot}
+use Rattle.inode_machine.specs.World.{Note, World, Mark, Outside, Room, RoomFor, Picks, EntryResult, InPlace, NoBlock, NoSlot}
 use Rattle.inode_machine.specs.World.Op.{Enter}
 use Rattle.inode_machine.specs.World.Mark.{Mends}
 use Rattle.inode_machine.specs.Exec.{with_entry, enter_if, enter_in, is_full_directory}
@@ -32,7 +32,7 @@ use Rattle.inode_machine.proofs.Addings.{Adding, added_world, adding}
 abbrev pub EnterFine : {A : Type 0} → ℕ → ℕ → Name → ℕ → Option Mark → ℕ → (List Step → Type 0) → (A → List Step → World → Type 0) → List Step → World → World → P machine A → Type 0
 EnterFine h d e i m n B Q es v u p = Fine machine h (places h (Enter d e i) InPlace m v) 1640 n B es v (marked h m u) (λ l. Wp machine h B Q p l (onto (own h (places h (Enter d e i) InPlace m v)) es) (marked h m u))
 
-pub s-enter-with : {A : Type 0} {h : ℕ} (d i : ℕ) {x : Held} (X : Node) (e : Name) {m : Entered → Option Mark} {k : Entered → P machine A} {B : List Step → Type 0} {Q : A → List Step → World → Type 0} {n : ℕ} {es : List Step} {w : World} {O : Own}
+pub s-enter-with : {A : Type 0} {h : ℕ} (d i : ℕ) {x : Held} (X : Node) (e : Name) {m : EntryResult → Option Mark} {k : EntryResult → P machine A} {B : List Step → Type 0} {Q : A → List Step → World → Type 0} {n : ℕ} {es : List Step} {w : World} {O : Own}
     → own_of h w ≡ O → O.desk.lender ≡ None → h < hart_count → 1640 < n → O.desk.joined ≡ true → O.inodes d ≡ Some x → x.disk ≡ Some X → x.locked ≡ true → is_directory X.kind ≡ true → IsName e → 1 ≤ i → i < O.ninodes → Mendable O → m NoBlock ≡ Some Mends → m NoSlot ≡ Some Mends
     → ((v : World) → Inv v → own_of h v ≡ O → EnterFine h d e i (m InPlace) n B Q es v (record v { disk = put v.disk d (Some (with_entry e i X)) }) (k InPlace))
     → ((l : ℕ) (u : World) → l + 1641 ≡ n → own_of h u ≡ mended_own O → Safe machine h B Q (k NoBlock) l es u)
@@ -43,11 +43,11 @@ s-enter-with {A} {h} d i {x} X e {m} {k} {B} {Q} {n} {es} {w} {O} owns free lt p
   (λ o _. by_slots v inv ov o (is_full_directory (v.disk d))),
 ))
   where
-    Goal : World → Came Entered World → Type 0
-    Goal v z = Good machine Entered h (λ a. places h (Enter d e i) a (m a) v) 1640 n B es v ⊥ (with_mark h m z) (λ l a u. Wp machine h B Q (k a) l (onto (own h (places h (Enter d e i) a (m a) v)) es) u)
+    Goal : World → Came EntryResult World → Type 0
+    Goal v z = Good machine EntryResult h (λ a. places h (Enter d e i) a (m a) v) 1640 n B es v ⊥ (with_mark h m z) (λ l a u. Wp machine h B Q (k a) l (onto (own h (places h (Enter d e i) a (m a) v)) es) u)
 
     -- nothing is entered
-    fails : (v : World) → Inv v → own_of h v ≡ O → (a : Entered) → m a ≡ Some Mends → ((l : ℕ) (u : World) → l + 1641 ≡ n → own_of h u ≡ mended_own O → Safe machine h B Q (k a) l es u) → Goal v (Ran a v)
+    fails : (v : World) → Inv v → own_of h v ≡ O → (a : EntryResult) → m a ≡ Some Mends → ((l : ℕ) (u : World) → l + 1641 ≡ n → own_of h u ≡ mended_own O → Safe machine h B Q (k a) l es u) → Goal v (Ran a v)
     fails v inv ov a is rest = subst (λ (o : Option Mark). Fine machine h (places h (Enter d e i) a o v) 1640 n B es v (marked h o v) (λ l. Wp machine h B Q (k a) l (onto (own h (places h (Enter d e i) a o v)) es) (marked h o v))) (sym is) (mend_fine h 1640 n B Q es v O (k a) ov free lt inv can pos rest)
 
     by_room : (v : World) → Inv v → own_of h v ≡ O → (o : Outside) → Goal v (enter_in d e i v o)
@@ -101,7 +101,7 @@ unfolding answer_with
 mkdir_answer t h id path res par = refl
 
 -- The entry is put: at this moment the directory is there, under its name. z: the new inode, with its two entries.
-pub s-enter-directory : {A : Type 0} {h : ℕ} (d i : ℕ) {x z : Held} (X : Node) (e : Name) (path : List ℕ) {m : Entered → Option Mark} {k : Entered → P machine A} {B : List Step → Type 0} {Q : A → List Step → World → Type 0} {n : ℕ} {es : List Step} {w : World} {O : Own}
+pub s-enter-directory : {A : Type 0} {h : ℕ} (d i : ℕ) {x z : Held} (X : Node) (e : Name) (path : List ℕ) {m : EntryResult → Option Mark} {k : EntryResult → P machine A} {B : List Step → Type 0} {Q : A → List Step → World → Type 0} {n : ℕ} {es : List Step} {w : World} {O : Own}
     → own_of h w ≡ O → O.desk.lender ≡ None → h < hart_count → 1640 < n → O.desk.joined ≡ true → O.mine.walk ≡ Some (record { step = Mkdir path; at = d; next = e; rest = [] }) → O.mine.pending ≡ None → Mendable O
     → m InPlace ≡ makes (Look i) → m NoBlock ≡ Some Mends → m NoSlot ≡ Some Mends
     → O.inodes d ≡ Some x → x.disk ≡ Some X → x.node ≡ Some X → x.alone ≡ false → x.locked ≡ true → live_directory (Some X) ≡ true → look (λ j. Some X) d e ≡ None → nat_lt X.count count_limit ≡ true

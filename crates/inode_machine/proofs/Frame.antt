@@ -15,7 +15,7 @@ use Rattle.inode_machine.specs.Inodes.{sort_of}
 use Rattle.tree_moves.specs.Moves.{Walk}
 use Rattle.inode_machine.specs.World.{Mine, Entry, Note, Desk, World}
 use Rattle.inode_machine.specs.Exec.{is_at, child_of, given_of}
-use Rattle.inode_machine.specs.Rules.{key_in, Own, Rests, left_or, Stands, shop_of, Shop, Tied, own_names, Held, view, is_hart, if_kept, own_of, Found, Pinned, Reached, reference_limit, References, IsAlone, Has, KeepsFiles, HasType, Lends, Inv}
+use Rattle.inode_machine.specs.Rules.{key_in, Own, Rests, left_or, Stands, shop_of, Shop, IsTied, own_names, Held, view, is_hart, if_kept, own_of, Found, IsReferredTo, IsReached, reference_limit, References, IsAlone, Has, KeepsFiles, HasType, Lends, Inv}
 
 -- Functions changed at one place, and what is kept.
 
@@ -99,7 +99,7 @@ stays_number Mine e f (inr moved) = moved.1
 
 -- what a step does to open files
 pub record Kin (h : ℕ) (Mine : ℕ → Type 0) (v u : Shop) : Type 0 where
-  pub tied : Tied u
+  pub tied : IsTied u
   pub desks : (g : ℕ) → g ≢ h → u.desks g ≡ v.desks g
   -- what another hart's descriptor has is as it was, or of an inode that is this hart's to change; its type stays
   pub numbers : (g i k : ℕ) (e : Entry) → g < hart_count → g ≢ h → i < descriptor_count → (v.desks g).fds i ≡ Some k → v.files k ≡ Some e → (f : Entry) × (u.files k ≡ Some f) × (f.sort ≡ e.sort) × Stays Mine e f
@@ -108,7 +108,7 @@ pub record Kin (h : ℕ) (Mine : ℕ → Type 0) (v u : Shop) : Type 0 where
   pub bond : bond_of (u.desks h) ≡ bond_of (v.desks h)
   pub stays : ((u.desks h).directory ≡ (v.desks h).directory) ⊎ (child_of (v.desks h) ≡ None)
 
-pub shop_same : {Mine : ℕ → Type 0} (h : ℕ) (s : Shop) → Tied s → Kin h Mine s s
+pub shop_same : {Mine : ℕ → Type 0} (h : ℕ) (s : Shop) → IsTied s → Kin h Mine s s
 shop_same h s tied = record { tied = tied; desks = λ g ne. refl; numbers = λ g i k e lt ne li is at. (e, at, refl, inl refl); clean = λ c. c; bond = refl; stays = inl refl }
 
 -- a step of hart h: of the invariant's parts only what isn't the others'
@@ -126,19 +126,19 @@ pub record Did (h : ℕ) (v u : World) : Type 0 where
   -- types stay, but for what the hart keeps alone
   pub sort : (j : ℕ) → (sort_of (u.all.nodes j) ≡ sort_of (v.all.nodes j)) ⊎ ((v.keeper j ≡ Some h) × (v.alone j ≡ true))
   pub sorts : (k : ℕ) (e : Entry) → u.files k ≡ Some e → HasType u.all.nodes e
-  pub noted : (n : Note) → (u.desks h).noted ≡ Some n → Reached u h n.number → u.alone n.number ≡ false → sort_of (u.all.nodes n.number) ≡ n.sort
+  pub noted : (n : Note) → (u.desks h).noted ≡ Some n → IsReached u h n.number → u.alone n.number ≡ false → sort_of (u.all.nodes n.number) ≡ n.sort
   pub directory : Stands (u.desks h) (u.all.cwd h) u.all.nodes
   pub well : IsWellFormed u.all
   pub counts : (i : ℕ) → u.refs i ≡ u.slots i + sum_below hart_count (λ g. (u.harts g).refs i)
   pub refers : References (u.harts h) (u.desks h)
   pub alone : (i : ℕ) → u.alone i ≡ true → IsAlone u.keeper u.all.nodes u.refs u.harts i
-  pub kept : (j : ℕ) → u.keeper j ≡ Some h → Pinned u.desks u.files u.harts h j
+  pub kept : (j : ℕ) → u.keeper j ≡ Some h → IsReferredTo u.desks u.files u.harts h j
   pub held : (j : ℕ) → u.keeper j ≡ Some h → (u.lock j ≡ Some h) ⊎ (u.alone j ≡ true)
-  pub named : (i : ℕ) → own_names (row_of u.all h) (u.desks h) i ≡ true → Reached u h i
+  pub named : (i : ℕ) → own_names (row_of u.all h) (u.desks h) i ≡ true → IsReached u h i
   pub pending : (i : ℕ) → (u.harts h).pending ≡ Some i → Found u.keeper u.all.nodes h i
-  pub walks : (k : Walk) → (u.harts h).walk ≡ Some k → Reached u h k.at
+  pub walks : (k : Walk) → (u.harts h).walk ≡ Some k → IsReached u h k.at
 
-pinned_on : (h : ℕ) (v u : World) (g i : ℕ) → Kin h (λ n. Ours h (v.keeper n)) (shop_of v) (shop_of u) → g < hart_count → g ≢ h → u.harts g ≡ v.harts g → Pinned v.desks v.files v.harts g i → Pinned u.desks u.files u.harts g i
+pinned_on : (h : ℕ) (v u : World) (g i : ℕ) → Kin h (λ n. Ours h (v.keeper n)) (shop_of v) (shop_of u) → g < hart_count → g ≢ h → u.harts g ≡ v.harts g → IsReferredTo v.desks v.files v.harts g i → IsReferredTo u.desks u.files u.harts g i
 pinned_on h v u g i kin lt ne same (inl o) =
     let n = kin.numbers g o.fd o.slot o.entry lt ne o.below o.is o.at in
     inl (record { fd = o.fd; below = o.below; slot = o.slot; is = ap (λ (d : Desk). d.fds o.fd) (kin.desks g ne) ∙ o.is; entry = n.0; at = n.1; number = stays_number (λ n. Ours h (v.keeper n)) o.entry n.0 n.3 ∙ o.number })
@@ -151,11 +151,11 @@ found_on h v u g i did ne f = at (did.inodes f.directory)
     at (inl k) = record { directory = f.directory; name = f.name; keeps = k.keeper ∙ f.keeps; finds = look_same v.all.nodes u.all.nodes f.directory f.name k.node ∙ f.finds }
     at (inr c) = not_ours h g (v.keeper f.directory) c.before ne f.keeps
 
-reached_on : (h : ℕ) (v u : World) (g i : ℕ) → Did h v u → g ≢ h → Reached v g i → Reached u g i
+reached_on : (h : ℕ) (v u : World) (g i : ℕ) → Did h v u → g ≢ h → IsReached v g i → IsReached u g i
 reached_on h v u g i did ne (inl p) = inl (let e = ap (λ (m : Mine). m.refs i) (did.mine g ne) in omega (arith, e, p))
 reached_on h v u g i did ne (inr f) = inr (ap (λ (m : Mine). m.pending) (did.mine g ne) ∙ f)
 
-reached_back : (h : ℕ) (v u : World) (g i : ℕ) → Did h v u → g ≢ h → Reached u g i → Reached v g i
+reached_back : (h : ℕ) (v u : World) (g i : ℕ) → Did h v u → g ≢ h → IsReached u g i → IsReached v g i
 reached_back h v u g i did ne (inl p) = inl (let e = ap (λ (m : Mine). m.refs i) (did.mine g ne) in omega (arith, e, p))
 reached_back h v u g i did ne (inr f) = inr (ap (λ (m : Mine). m.pending) (sym (did.mine g ne)) ∙ f)
 
@@ -167,7 +167,7 @@ pub one_refs : (v : World) (g i : ℕ) → Inv v → g < hart_count → (v.harts
 one_refs v g i inv lg = let s = sum_part hart_count g (λ k. (v.harts k).refs i) lg in let c = inv.counts i in omega (arith, s, c)
 
 -- what a hart keeps alone no other hart reaches
-pub lone_not : (h g i : ℕ) (v : World) → Inv v → g < hart_count → g ≢ h → v.keeper i ≡ Some h → v.alone i ≡ true → Reached v g i → ⊥
+pub lone_not : (h g i : ℕ) (v : World) → Inv v → g < hart_count → g ≢ h → v.keeper i ≡ Some h → v.alone i ≡ true → IsReached v g i → ⊥
 lone_not h g i v inv lg ne keeps is reaches =
     let a = inv.alone i is in
     let s : Some a.hart ≡ Some h = sym a.kept ∙ keeps in
@@ -277,7 +277,7 @@ did_inv h v u inv did =
       ];
       keeps = λ j g. keeps j g (did.inodes j);
       kept = λ j g is. elim (same_or g h) [
-        | inl e ↦ (subst (λ (z : ℕ). z < hart_count) (sym e) did.hart, subst (λ (z : ℕ). Pinned u.desks u.files u.harts z j) (sym e) (did.kept j (is ∙ ap (λ (z : ℕ). Some z) e)))
+        | inl e ↦ (subst (λ (z : ℕ). z < hart_count) (sym e) did.hart, subst (λ (z : ℕ). IsReferredTo u.desks u.files u.harts z j) (sym e) (did.kept j (is ∙ ap (λ (z : ℕ). Some z) e)))
         | inr ne ↦ kept j g ne is (did.inodes j)
       ];
       held = λ j g is. elim (same_or g h) [
@@ -293,7 +293,7 @@ did_inv h v u inv did =
       tied = did.shop.tied;
       sorts = did.sorts;
       named = λ g i lt free is. elim (same_or g h) [
-        | inl e ↦ subst (λ (z : ℕ). Reached u z i) (sym e) (did.named i (subst (λ (z : ℕ). own_names (row_of u.all z) (u.desks z) i ≡ true) e is))
+        | inl e ↦ subst (λ (z : ℕ). IsReached u z i) (sym e) (did.named i (subst (λ (z : ℕ). own_names (row_of u.all z) (u.desks z) i ≡ true) e is))
         | inr ne ↦ reached_on h v u g i did ne (inv.named g i lt (ap (λ (d : Desk). d.lender) (sym (did.shop.desks g ne)) ∙ free) ((λ z. own_names (sym (did.rows g ne) z) (sym (did.shop.desks g ne) z) i) ∙ is))
       ];
       pending = λ g i lt is. elim (same_or g h) [
@@ -301,11 +301,11 @@ did_inv h v u inv did =
         | inr ne ↦ found_on h v u g i did ne (inv.pending g i lt (ap (λ (m : Mine). m.pending) (sym (did.mine g ne)) ∙ is))
       ];
       walks = λ g k lt is. elim (same_or g h) [
-        | inl e ↦ subst (λ (z : ℕ). Reached u z k.at) (sym e) (did.walks k (subst (λ (z : ℕ). (u.harts z).walk ≡ Some k) e is))
+        | inl e ↦ subst (λ (z : ℕ). IsReached u z k.at) (sym e) (did.walks k (subst (λ (z : ℕ). (u.harts z).walk ≡ Some k) e is))
         | inr ne ↦ reached_on h v u g k.at did ne (inv.walks g k lt (ap (λ (m : Mine). m.walk) (sym (did.mine g ne)) ∙ is))
       ];
       noted = λ g n lt is r s. elim (same_or g h) [
-        | inl e ↦ did.noted n (ap (λ (z : ℕ). (u.desks z).noted) (sym e) ∙ is) (subst (λ (z : ℕ). Reached u z n.number) e r) s
+        | inl e ↦ did.noted n (ap (λ (z : ℕ). (u.desks z).noted) (sym e) ∙ is) (subst (λ (z : ℕ). IsReached u z n.number) e r) s
         | inr ne ↦ (let r2 = reached_back h v u g n.number did ne r in elim (did.sort n.number) [
           | inl e ↦ e ∙ inv.noted g n lt (ap (λ (d : Desk). d.noted) (sym (did.shop.desks g ne)) ∙ is) r2 (still_shared g n.number lt ne r2 s (did.inodes n.number))
           | inr a ↦ absurd (lone_not h g n.number v inv lt ne a.0 a.1 r2)
@@ -376,7 +376,7 @@ did_inv h v u inv did =
         ]
 
     -- what another hart reaches wasn't this one's alone
-    still_shared : (g j : ℕ) → g < hart_count → g ≢ h → Reached v g j → u.alone j ≡ false → Kept j v u ⊎ Changed h j v u → v.alone j ≡ false
+    still_shared : (g j : ℕ) → g < hart_count → g ≢ h → IsReached v g j → u.alone j ≡ false → Kept j v u ⊎ Changed h j v u → v.alone j ≡ false
     still_shared g j lg ne r s (inl k) = sym k.alone ∙ s
     still_shared g j lg ne r s (inr c) = elim (either (v.alone j)) [
       | inr y ↦ y
@@ -390,7 +390,7 @@ did_inv h v u inv did =
     keeps j g (inl k) is = k.keeper ∙ inv.keeps j g (sym k.lock ∙ is)
     keeps j g (inr c) is = c.keeps g is
 
-    kept : (j g : ℕ) → g ≢ h → u.keeper j ≡ Some g → Kept j v u ⊎ Changed h j v u → (g < hart_count) × Pinned u.desks u.files u.harts g j
+    kept : (j g : ℕ) → g ≢ h → u.keeper j ≡ Some g → Kept j v u ⊎ Changed h j v u → (g < hart_count) × IsReferredTo u.desks u.files u.harts g j
     kept j g ne is (inl k) = let p = inv.kept j g (sym k.keeper ∙ is) in (p.0, pinned_on h v u g j did.shop p.0 ne (did.mine g ne) p.1)
     kept j g ne is (inr c) = not_ours h g (u.keeper j) c.after ne is
 

@@ -17,7 +17,7 @@ use Rattle.inode_machine.specs.Marks.{with_mark}
 use Rattle.inode_machine.specs.Exec.{lock_if, blank, counted_down, file_count, locked, unlocked}
 use Rattle.inode_machine.specs.World.Mark.{Frees}
 use Rattle.inode_machine.specs.World.Op.{Take, Give, Free, Forget}
-use Rattle.inode_machine.specs.Rules.{shop_of, own_names, Held, view, is_hart, if_kept, own_of, Pinned, Reached, IsAlone, Inv, IsOut, machine, looking_cost, number_is, Sought}
+use Rattle.inode_machine.specs.Rules.{shop_of, own_names, Held, view, is_hart, if_kept, own_of, IsReferredTo, IsReached, IsAlone, Inv, IsOut, machine, looking_cost, number_is, Sought}
 use Rattle.tree_laws.proofs.Sums.{sum_part, one_yes}
 use Rattle.tree_laws.specs.WellFormed.{one_if}
 use Rattle.tree_laws.proofs.Maps.{eq_self}
@@ -26,7 +26,7 @@ use Rattle.inode_machine.proofs.Frame.{child_directory, shop_same, put_elim, our
 use Rattle.inode_machine.proofs.Rules.{s-owned, quiet, each_refs, here_refs, walks_refs, total_same, total_changed, my_refs, is_me, has_disk, has_node, locks_it}
 use Rattle.inode_machine.proofs.Counting.{Writes, writes, spares, not_home}
 use Rattle.inode_machine.proofs.Rows.{hart_not}
-use Rattle.inode_machine.specs.Inodes.{Looking, Seen, seen_in, sort_of}
+use Rattle.inode_machine.specs.Inodes.{Query, Sight, seen_in, sort_of}
 
 -- The lock of an inode that the hart keeps already is free.
 pub record LockingKept (h i : ℕ) (x : Held) (v : World) (O : Own) : Type 0 where
@@ -98,7 +98,7 @@ locking_kept h i x v O ov free lt inv isi out = record { unlocked = none (v.lock
       desk = ap (λ (o : Own). o.desk) ov z;
     }
 
-pub s-take-kept : {A : Type 0} {h i : ℕ} {x : Held} {looking : Looking} {k : Seen → P machine A} {B : List Step → Type 0} {Q : A → List Step → World → Type 0} {n : ℕ} {es : List Step} {w : World} {O : Own}
+pub s-take-kept : {A : Type 0} {h i : ℕ} {x : Held} {looking : Query} {k : Sight → P machine A} {B : List Step → Type 0} {Q : A → List Step → World → Type 0} {n : ℕ} {es : List Step} {w : World} {O : Own}
     → own_of h w ≡ O → O.desk.lender ≡ None → h < hart_count → looking_cost looking < n → O.inodes i ≡ Some x → x.locked ≡ false → x.disk ≢ None → Sought looking → 0 < O.mine.refs i
     → ((l : ℕ) (u : World) → l + (looking_cost looking + 1) ≡ n → own_of h u ≡ record O { inodes = put O.inodes i (Some (record x { locked = true })) } → Safe machine h B Q (k (seen_in i looking x.disk)) l es u)
     → Safe machine h B Q (Do (Take i looking) unmarked k) n es w
@@ -107,7 +107,7 @@ s-take-kept {A} {h} {i} {x} {looking} {k} {B} {Q} {n} {es} {w} {O} owns free lt 
   (λ _ _. at v inv ov (v.lock i) refl),
 ))
   where
-    at : (v : World) → Inv v → own_of h v ≡ O → (r : Option ℕ) → v.lock i ≡ r → Good machine Seen h (λ a. []) (looking_cost looking) n B es v (IsOut h (v.lock i)) (with_mark h unmarked (lock_if h i (seen_in i looking (v.disk i)) v (locked h i v) r)) (λ l a u. Wp machine h B Q (k a) l es u)
+    at : (v : World) → Inv v → own_of h v ≡ O → (r : Option ℕ) → v.lock i ≡ r → Good machine Sight h (λ a. []) (looking_cost looking) n B es v (IsOut h (v.lock i)) (with_mark h unmarked (lock_if h i (seen_in i looking (v.disk i)) v (locked h i v) r)) (λ l a u. Wp machine h B Q (k a) l es u)
     at v inv ov (Some g) e = absurd (let a = locking_kept h i x v O ov free lt inv isi out in let b = a.unlocked in cc (b, e))
     at v inv ov None e =
         let a = locking_kept h i x v O ov free lt inv isi out in
@@ -175,7 +175,7 @@ unnamed h i v inv lt lone kept mine = none_any hart_count _ (λ g lg. hart_not g
     counts : v.refs i ≡ (v.harts h).refs i
     counts = let s : Some a.hart ≡ Some h = sym a.kept ∙ kept in let e : a.hart ≡ h = cc in a.counts ∙ ap (λ (z : ℕ). (v.harts z).refs i) e
 
-    reached : (g : ℕ) → g < hart_count → g ≢ h → Reached v g i → ⊥
+    reached : (g : ℕ) → g < hart_count → g ≢ h → IsReached v g i → ⊥
     reached g lg ne (inl p) = let o = two_refs v g h i inv lg lt ne in let c = counts in omega (arith, o, c, p)
     reached g lg ne (inr p) = let f = inv.pending g i lg p in let l = look_live v.all f.directory i f.name inv.well f.finds in let u = a.dead in absurd (cc (l, u))
 
@@ -400,21 +400,21 @@ s-forget {A} {h} {i} {x} {k} {B} {Q} {n} {es} {w} {O} owns free lt pos isi lone 
         grow : (j : ℕ) → j ≢ i → 0 < (v.harts h).refs j → 0 < (u.harts h).refs j
         grow j ne a = let r = each_refs v.harts h i ((v.harts h).refs i - 1) h j (inr ne) in omega (arith, r, a)
 
-        pin : (j : ℕ) → j ≢ i → Pinned v.desks v.files v.harts h j → Pinned v.desks v.files u.harts h j
+        pin : (j : ℕ) → j ≢ i → IsReferredTo v.desks v.files v.harts h j → IsReferredTo v.desks v.files u.harts h j
         pin j ne (inl a) = inl a
         pin j ne (inr a) = inr (grow j ne a)
 
         pend : (v.harts h).pending ≡ None
         pend = ap (λ (o : Own). o.mine.pending) ov ∙ none
 
-        shrink : (j : ℕ) → Reached u h j → Reached v h j
+        shrink : (j : ℕ) → IsReached u h j → IsReached v h j
         shrink j (inr p) = inr (sym (ap (λ (m : Mine). m.pending) (put_same v.harts h new)) ∙ p)
         shrink j (inl p) = elim (same_or j i) [
           | inl q ↦ inl (subst (λ (z : ℕ). 0 < (v.harts h).refs z) (sym q) more)
           | inr ne ↦ inl (let r = each_refs v.harts h i ((v.harts h).refs i - 1) h j (inr ne) in omega (arith, r, p))
         ]
 
-        none_left : (j : ℕ) → j ≡ i → Reached u h j → ⊥
+        none_left : (j : ℕ) → j ≡ i → IsReached u h j → ⊥
         none_left j q (inl p) = let a : (u.harts h).refs j ≡ (u.harts h).refs i = ap (u.harts h).refs q in let b = here_refs v.harts h i ((v.harts h).refs i - 1) in let r = my_refs h v O i ov in omega (arith, a, b, r, one, p)
         none_left j q (inr p) = let a : (u.harts h).pending ≡ (v.harts h).pending = ap (λ (m : Mine). m.pending) (put_same v.harts h new) in cc (a, p, pend)
 

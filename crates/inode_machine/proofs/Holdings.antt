@@ -10,7 +10,7 @@ use Rattle.plain_tree.specs.Tree.{Name, put}
 use Rattle.plain_tree.specs.declared.step.Action.{Action}
 use Rattle.tree_laws.specs.WellFormed.{one_if}
 use Rattle.tree_laws.proofs.Maps.{either, same_or, put_same, put_other}
-use Rattle.tree_moves.specs.Moves.{Step, Written}
+use Rattle.tree_moves.specs.Moves.{Step, IsWholeCall}
 use Rattle.inode_machine.specs.World.{Desk, World}
 use Rattle.inode_machine.specs.Rules.{Held, Own, own_names, own_of, nothing, machine}
 use Rattle.inode_machine.specs.Parts.{P, give_up, tail}
@@ -145,7 +145,7 @@ pub record Joins (base : ℕ → ℕ) (O0 : Own) : Type 0 where
 
 -- the call found no room, or its steps are written
 abbrev pub Told : Call → Reply → List Step → Own → Type 0
-Told c r es O = (O.desk.full ≡ true) ⊎ Written c (oldest_first es) r
+Told c r es O = (O.desk.full ≡ true) ⊎ IsWholeCall c (oldest_first es) r
 
 -- The call ends.
 pub s-end : (h : ℕ) (c : Call) (r : Reply) {base : ℕ → ℕ} {O0 : Own} (ns : List ℕ) (E : ℕ → Option Held) (more : ℕ → ℕ) (n : ℕ) (es : List Step) (w : World) (O : Own) → h < hart_count → Joins base O0 → own_of h w ≡ O → 971 * length ns + 63 < n → Holding base ns O0 O E more → ((i : ℕ) → E i ≡ None) → ((i : ℕ) → more i ≡ 0) → O.mine.walk ≡ None → O.mine.pending ≡ None → Told c r es O

@@ -24,7 +24,7 @@ use Rattle.inode_machine.specs.World.{World}
 use Rattle.inode_machine.specs.Inodes.{sort_of}
 use Rattle.inode_machine.specs.Exec.{is_at}
 use Rattle.inode_machine.specs.Marks.{act_left, acts, found_by, made_by, new_id, own_made}
-use Rattle.inode_machine.specs.Rules.{Own, Held, key_in, own_of, shop_of, view, is_hart, Found, Reached, Inv}
+use Rattle.inode_machine.specs.Rules.{Own, Held, key_in, own_of, shop_of, view, is_hart, Found, IsReached, Inv}
 use Rattle.inode_machine.proofs.Frame.{shop_same, put_elim, ours_some, kept_here, Did, Fair, fair, own_inodes, has_inode, stands_in, type_on}
 use Rattle.inode_machine.proofs.Rows.{below_is}
 use Rattle.inode_machine.proofs.Acting.{acts_gone}
@@ -49,7 +49,7 @@ pub record Turns (h : ℕ) (v : World) (ns : ℕ → Option Node) (o : Option Ho
   pub well : IsWellFormed (held_tree v.all ns h o)
   pub nodes : (j : ℕ) → (ns j ≡ v.all.nodes j) ⊎ ((v.keeper j ≡ Some h) × (v.alone j ≡ false))
   pub sorts : (j : ℕ) → sort_of (ns j) ≡ sort_of (v.all.nodes j)
-  pub names : (j : ℕ) → hold_names o j ≡ true → Reached v h j
+  pub names : (j : ℕ) → hold_names o j ≡ true → IsReached v h j
   pub found : (j : ℕ) → (v.harts h).pending ≡ Some j → Found v.keeper ns h j
 
 pub turns_did : (h : ℕ) (v : World) (ns : ℕ → Option Node) (o : Option Hold) → (v.desks h).lender ≡ None → (v.desks h).joined ≡ true → h < hart_count → Inv v → Turns h v ns o → Did h v (held_world ns h o v)
@@ -93,7 +93,7 @@ turns_did h v ns o free joined lt inv t = record {
     more false false true false e q = refl
     more false false false d e q = absurd cc
 
-    named : (j : ℕ) → ((v.all.cwd h == j) || (hold_names o j || (key_names (key_in (row_of v.all h).keys (v.desks h).opening) j || is_at (v.desks h).left j))) ≡ true → Reached v h j
+    named : (j : ℕ) → ((v.all.cwd h == j) || (hold_names o j || (key_names (key_in (row_of v.all h).keys (v.desks h).opening) j || is_at (v.desks h).left j))) ≡ true → IsReached v h j
     named j is = elim (either (hold_names o j)) [
       | inl y ↦ t.names j y
       | inr y ↦ inv.named h j lt free (more (v.all.cwd h == j) (hold_names o j) (key_names (key_in (row_of v.all h).keys (v.desks h).opening) j || is_at (v.desks h).left j) (hold_names (v.all.holds h) j) y is)
@@ -104,7 +104,7 @@ pub record Rehold (h : ℕ) (o : Option Hold) (v : World) (O : Own) : Type 0 whe
   pub fair : Fair h v (held_world v.all.nodes h o v)
   pub owned : own_of h (held_world v.all.nodes h o v) ≡ record O { row = record (O.row) { hold = o } }
 
-pub reholds : (h : ℕ) (o : Option Hold) (v : World) (O : Own) → own_of h v ≡ O → O.desk.lender ≡ None → O.desk.joined ≡ true → h < hart_count → Inv v → ((j : ℕ) → hold_names o j ≡ true → Reached v h j) → IsWellFormed (held_tree v.all v.all.nodes h o) → Rehold h o v O
+pub reholds : (h : ℕ) (o : Option Hold) (v : World) (O : Own) → own_of h v ≡ O → O.desk.lender ≡ None → O.desk.joined ≡ true → h < hart_count → Inv v → ((j : ℕ) → hold_names o j ≡ true → IsReached v h j) → IsWellFormed (held_tree v.all v.all.nodes h o) → Rehold h o v O
 reholds h o v O ov free joined lt inv names well = record {
   fair = fair inv (turns_did h v v.all.nodes o (ap (λ (z : Own). z.desk.lender) ov ∙ free) (ap (λ (z : Own). z.desk.joined) ov ∙ joined) lt inv (record { well = well; nodes = λ j. inl refl; sorts = λ j. refl; names = names; found = λ j q. inv.pending h j lt q }));
   owned = λ z. record {
@@ -122,7 +122,7 @@ pub record Turned (h i : ℕ) (y : Node) (o : Option Hold) (x : Held) (v : World
   pub owned : own_of h (held_world (put v.all.nodes i (Some y)) h o v) ≡ record O { inodes = put O.inodes i (Some (record x { node = Some y })); row = record (O.row) { hold = o } }
 
 pub turned : (h i : ℕ) (y : Node) (o : Option Hold) (x : Held) (v : World) (O : Own) → own_of h v ≡ O → O.desk.lender ≡ None → O.desk.joined ≡ true → h < hart_count → Inv v → O.mine.pending ≡ None → O.inodes i ≡ Some x → x.alone ≡ false → sort_of (Some y) ≡ sort_of (v.all.nodes i)
-    → ((j : ℕ) → hold_names o j ≡ true → Reached v h j) → IsWellFormed (held_tree v.all (put v.all.nodes i (Some y)) h o) → Turned h i y o x v O
+    → ((j : ℕ) → hold_names o j ≡ true → IsReached v h j) → IsWellFormed (held_tree v.all (put v.all.nodes i (Some y)) h o) → Turned h i y o x v O
 turned h i y o x v O ov free joined lt inv none isi shared sort names well = record { fair = fair inv did; owned = owned }
   where
     ns : ℕ → Option Node

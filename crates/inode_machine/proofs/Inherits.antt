@@ -14,9 +14,9 @@ use Rattle.plain_tree.specs.declared.tree.Hold.{Hold}
 use Rattle.plain_tree.specs.Steps.{holds_raised}
 use Rattle.tree_laws.proofs.Maps.{either, same_or, put_same, put_other}
 use Rattle.tree_laws.proofs.Sums.{one_yes}
-use Rattle.tree_moves.specs.Moves.{Step, Written}
+use Rattle.tree_moves.specs.Moves.{Step, IsWholeCall}
 use Rattle.tree_moves.specs.Moves.Move.{Own as OwnMove}
-use Rattle.inode_machine.specs.World.{Entry, World, Lending, Lent, Moved}
+use Rattle.inode_machine.specs.World.{Entry, World, LoanResult, Lent, Moved}
 use Rattle.inode_machine.specs.World.Op.{Lend, LendDirectory, Release}
 use Rattle.inode_machine.specs.Exec.{is_nothing, next_used, with_lent, handed, moved_in, lend_last, lend_if, released, given_of, serving}
 use Rattle.inode_machine.specs.Marks.{with_mark, made_by, new_id, places}
@@ -63,7 +63,7 @@ abbrev pub all_own : ℕ → Own → Own
 all_own c O = record O { mine = record { refs = O.mine.refs; walk = None; pending = None }; desk = record (O.desk) { lent = serving c (Some 0) } }
 
 -- A descriptor is handed on; with the last one, or where there is none, the tree's step is made.
-pub s-lend : {A : Type 0} {h c from : ℕ} {k : Lending → P machine A} {B : List Step → Type 0} {Q : A → List Step → World → Type 0} {n : ℕ} {es : List Step} {w : World} {O : Own}
+pub s-lend : {A : Type 0} {h c from : ℕ} {k : LoanResult → P machine A} {B : List Step → Type 0} {Q : A → List Step → World → Type 0} {n : ℕ} {es : List Step} {w : World} {O : Own}
     → own_of h w ≡ O → 0 < n → Server h c O → OnTheWay from O → from ≤ descriptor_count → (next_used from O.desk.fds ≡ None → from ≡ 0) → B (inherited c ∷ es)
     → ((l old : ℕ) (u : World) → l + 1 ≡ n → own_of h u ≡ moved_own c old O → Safe machine h B Q (k (Moved old)) l (inherited c ∷ es) u)
     → ((l i : ℕ) (u : World) → l + 1 ≡ n → own_of h u ≡ all_own c O → Safe machine h B Q (k (Lent i false)) l (inherited c ∷ es) u)
@@ -76,7 +76,7 @@ s-lend {A} {h} {c} {from} {k} {B} {Q} {n} {es} {w} {O} owns pos srv way le first
     ))
   where
     Goes : (v : World) (z : World) (i : ℕ) (o : Option ℕ) → Type 0
-    Goes v z i o = Good machine Lending h (λ a. places h (Lend c from) a (lends c a) v) 0 n B es v ⊥ (with_mark h (lends c) (Ran (Lent i (not (is_nothing o))) (lend_last z h c o))) (λ l a u. Wp machine h B Q (k a) l (onto (own h (places h (Lend c from) a (lends c a) v)) es) u)
+    Goes v z i o = Good machine LoanResult h (λ a. places h (Lend c from) a (lends c a) v) 0 n B es v ⊥ (with_mark h (lends c) (Ran (Lent i (not (is_nothing o))) (lend_last z h c o))) (λ l a u. Wp machine h B Q (k a) l (onto (own h (places h (Lend c from) a (lends c a) v)) es) u)
 
     some : (v : World) → Inv v → own_of h v ≡ O → (i : ℕ) → NextUsed from i O.desk.fds → (o : Option ℕ) → next_used (i + 1) (v.desks h).fds ≡ o → Goes v (with_lent v h i) i o
     some v inv ov i x o q = subst (λ (z : World). Goes v z i o) (sym (lent_is v h i x.slot e.0 is e.1)) (at o q)
@@ -121,7 +121,7 @@ s-lend {A} {h} {c} {from} {k} {B} {Q} {n} {es} {w} {O} owns pos srv way le first
                 ]
 
     by : (v : World) → Inv v → own_of h v ≡ O → (o : Option ℕ) → next_used from (v.desks h).fds ≡ o
-        → Good machine Lending h (λ a. places h (Lend c from) a (lends c a) v) 0 n B es v ⊥ (with_mark h (lends c) (lend_if h v c o)) (λ l a u. Wp machine h B Q (k a) l (onto (own h (places h (Lend c from) a (lends c a) v)) es) u)
+        → Good machine LoanResult h (λ a. places h (Lend c from) a (lends c a) v) 0 n B es v ⊥ (with_mark h (lends c) (lend_if h v c o)) (λ l a u. Wp machine h B Q (k a) l (onto (own h (places h (Lend c from) a (lends c a) v)) es) u)
     by v inv ov (Some i) q = some v inv ov i (next_is from i O.desk.fds le (ap (λ (o : Own). next_used from o.desk.fds) (sym ov) ∙ q)) (next_used (i + 1) (v.desks h).fds) refl
     by v inv ov None q =
         moves_to h 0 n B Q es v (moved_in v h c) (OwnMove (Inherit c) 0) (k (Moved (v.desks c).directory)) (made_by v.all h (new_id v) (v.harts h).walk (OwnMove (Inherit c) 0)) (inherited_made v.all h c)
@@ -164,7 +164,7 @@ s-release {h = h} {c = c} {O = O} owns pos srv lent rest = s-owned owns srv.free
 
 -- The call.
 
-inherit_written : (c : ℕ) → Written (calls.Inherit c) (inherited c ∷ []) (done (calls.Inherit c))
+inherit_written : (c : ℕ) → IsWholeCall (calls.Inherit c) (inherited c ∷ []) (done (calls.Inherit c))
 unfolding next_of reply_of had_room
 inherit_written c = (refl, record { through = refl; reply = refl; room = refl })
 

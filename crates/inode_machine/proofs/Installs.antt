@@ -18,7 +18,7 @@ use Rattle.inode_machine.specs.World.Op.{Install}
 use Rattle.inode_machine.specs.Inodes.{Sort, sort_of, OfDirectory}
 use Rattle.inode_machine.specs.Exec.{file_count, install_if, installed, is_at, opening_id, or_zero}
 use Rattle.inode_machine.specs.Marks.{marked, places, with_mark}
-use Rattle.inode_machine.specs.Rules.{id_at, key_in, number_is, own_names, own_of, shop_of, uses, users, Held, IsOpening, Own, Inv, Opens, Reached, Shop, Tied, machine, HasType}
+use Rattle.inode_machine.specs.Rules.{id_at, key_in, number_is, own_names, own_of, shop_of, uses, users, Held, IsOpening, Own, Inv, Opens, IsReached, Shop, IsTied, machine, HasType}
 use Rattle.inode_machine.proofs.Frame.{bond_of, put_elim, stands_on, has_inode, one_refs, Did, Fair, fair, refers_put}
 use Rattle.inode_machine.proofs.Rules.{s-owned, quiet, each_refs, has_node, here_refs, my_refs, total_changed, total_same, walks_refs}
 use Rattle.inode_machine.proofs.Counting.{not_home, spares}
@@ -40,7 +40,7 @@ took D h fd k = put D h (record (D h) { fds = put (D h).fds fd (Some k); hand = 
 abbrev pub took_shop : Shop → ℕ → ℕ → ℕ → OpenFile → Sort → ℕ → Shop
 took_shop s h fd k f sort id = record { files = put s.files k (Some (record { file = f; sort = sort; references = 1 })); desks = took s.desks h fd k; ids = put s.ids k id; slots = put s.slots f.number (s.slots f.number + 1); clean = s.clean; tree_fds = s.tree_fds; tree_files = s.tree_files }
 
-pub takes_tied : (s : Shop) (h fd k : ℕ) (f : OpenFile) (sort : Sort) (o : IsOpening s h fd) → Tied s → Takes s h fd k f o → Tied (took_shop s h fd k f sort o.id)
+pub takes_tied : (s : Shop) (h fd k : ℕ) (f : OpenFile) (sort : Sort) (o : IsOpening s h fd) → IsTied s → Takes s h fd k f o → IsTied (took_shop s h fd k f sort o.id)
 takes_tied s h fd k f sort o tied t =
     record {
       fds = λ g i lg li q. elim (same_or g h) [
@@ -222,8 +222,8 @@ installing h fd s f sort x v O ov free lt inv opens hand keyed start walks none 
     id_is : opening_id v h ≡ o.id
     id_is = ap (λ (z : Option ℕ). or_zero (v.all.fds h (or_zero z))) opened ∙ ap (λ (z : Option ℕ). or_zero z) o.is
 
-    tied : Tied (shop_of u)
-    tied = subst (λ (z : ℕ). Tied (took_shop (shop_of v) h fd s f sort z)) (sym id_is) (takes_tied (shop_of v) h fd s f sort o inv.tied (record { hart = lt; opening = opened; hand = ap (λ (p : Own). p.desk.hand) ov ∙ hand; file = file }))
+    tied : IsTied (shop_of u)
+    tied = subst (λ (z : ℕ). IsTied (took_shop (shop_of v) h fd s f sort z)) (sym id_is) (takes_tied (shop_of v) h fd s f sort o inv.tied (record { hart = lt; opening = opened; hand = ap (λ (p : Own). p.desk.hand) ov ∙ hand; file = file }))
 
     new : Mine
     new = record { refs = put (v.harts h).refs i0 ((v.harts h).refs i0 - 1); walk = (v.harts h).walk; pending = (v.harts h).pending }
@@ -252,7 +252,7 @@ installing h fd s f sort x v O ov free lt inv opens hand keyed start walks none 
     pend : (v.harts h).pending ≡ None
     pend = ap (λ (p : Own). p.mine.pending) ov ∙ none
 
-    named : (j : ℕ) → own_names (row_of v.all h) (u.desks h) j ≡ true → Reached u h j
+    named : (j : ℕ) → own_names (row_of v.all h) (u.desks h) j ≡ true → IsReached u h j
     named j is =
         let bare : own_names (row_of v.all h) (record (v.desks h) { opening = None }) j ≡ true = (λ z. own_names (row_of v.all h) (sym (put_same v.desks h desk) z) j) ∙ is in
         elim (inv.named h j lt (ap (λ (o : Own). o.desk.lender) ov ∙ free) (key_more (v.all.cwd h == j) (hold_names (v.all.holds h) j) (key_names (key_in (row_of v.all h).keys (v.desks h).opening) j) (is_at (v.desks h).left j) bare)) [
@@ -264,7 +264,7 @@ installing h fd s f sort x v O ov free lt inv opens hand keyed start walks none 
         ]
 
     -- what it reaches now it did before
-    shrink : (j : ℕ) → Reached u h j → Reached v h j
+    shrink : (j : ℕ) → IsReached u h j → IsReached v h j
     shrink j (inr p) = inr (sym (ap (λ (m : Mine). m.pending) (put_same v.harts h new)) ∙ p)
     shrink j (inl p) = elim (same_or j i0) [
       | inl q ↦ inl (subst (λ (z : ℕ). 0 < (v.harts h).refs z) (sym q) more)

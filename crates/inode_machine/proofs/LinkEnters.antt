@@ -16,7 +16,7 @@ use Rattle.tree_laws.proofs.Walks.{look_same}
 use Rattle.tree_laws.proofs.Kept.{effect_well}
 use Rattle.tree_moves.specs.Moves.{Step}
 use Rattle.tree_moves.specs.Moves.Move.{Look}
-use Rattle.inode_machine.specs.World.{World, Entered, InPlace, NoBlock, NoSlot}
+use Rattle.inode_machine.specs.World.{World, EntryResult, InPlace, NoBlock, NoSlot}
 use Rattle.inode_machine.specs.World.Op.{Enter}
 use Rattle.inode_machine.specs.Inodes.{Sort, sort_of}
 use Rattle.inode_machine.specs.Exec.{with_entry, with_walk}
@@ -75,7 +75,7 @@ enter_leads h j path O0 lt holds = record {
 }
 
 -- The entry is put.
-pub s-enter-name : {A : Type 0} {h : ℕ} (d j : ℕ) {x : Held} (X : Node) (e : Name) (path : List ℕ) {k : Entered → P machine A} {B : List Step → Type 0} {Q : A → List Step → World → Type 0} {n : ℕ} {es : List Step} {w : World} {O : Own}
+pub s-enter-name : {A : Type 0} {h : ℕ} (d j : ℕ) {x : Held} (X : Node) (e : Name) (path : List ℕ) {k : EntryResult → P machine A} {B : List Step → Type 0} {Q : A → List Step → World → Type 0} {n : ℕ} {es : List Step} {w : World} {O : Own}
     → own_of h w ≡ O → O.desk.lender ≡ None → h < hart_count → 1640 < n → O.desk.joined ≡ true → O.mine.walk ≡ Some (record { step = EnterStep path; at = d; next = e; rest = [] }) → O.mine.pending ≡ None → Mendable O → O.row.hold ≡ Some (high j)
     → O.inodes d ≡ Some x → x.disk ≡ Some X → x.node ≡ Some X → x.alone ≡ false → x.locked ≡ true → live_directory (Some X) ≡ true → look (λ i. Some X) d e ≡ None → IsName e → 1 ≤ j → j < O.ninodes → B (told_step 0 (EnterStep path) Done ∷ es)
     → ((l : ℕ) (u : World) → l + 1641 ≡ n

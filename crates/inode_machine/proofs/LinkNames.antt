@@ -22,7 +22,7 @@ use Rattle.plain_tree.specs.Widths.{hart_count}
 use Rattle.tree_laws.specs.WellFormed.{IsThere, one_if}
 use Rattle.tree_laws.proofs.Maps.{either, same_or, put_same, put_other}
 use Rattle.tree_laws.proofs.Sums.{one_yes}
-use Rattle.tree_moves.specs.Moves.{Step, MayEnd, Written}
+use Rattle.tree_moves.specs.Moves.{Step, MayEnd, IsWholeCall}
 use Rattle.tree_moves.specs.Moves.Move.{Begin}
 use Rattle.inode_machine.proofs.Names.{AllNames}
 use Rattle.inode_machine.specs.World.{Desk, Note, World}
@@ -243,10 +243,10 @@ module _ (h : ℕ) (old new : List ℕ) (lt : h < hart_count) {base : ℕ → �
             | inr p ↦ inr (begun_by (calls.Link old new) (found old ∷ bumped ∷ not_entered new p.0 ∷ unbumped ∷ []) (done_step steps.Unbump ∷ es) [] (failed (calls.Link old new) p.0) (after p.0 p.2) (lowered_ends old new p.0))
           ]
 
-          ends : (R.desk.full ≡ true) ⊎ Written (calls.Link old new) (oldest_first (done_step steps.Unbump ∷ es)) r
+          ends : (R.desk.full ≡ true) ⊎ IsWholeCall (calls.Link old new) (oldest_first (done_step steps.Unbump ∷ es)) r
           ends = elim told [
             | inl p ↦ inl p
-            | inr p ↦ inr (subst (λ (z : Reply). Written (calls.Link old new) (oldest_first (done_step steps.Unbump ∷ es)) z) (sym p.1) (written_by (calls.Link old new) (found old ∷ bumped ∷ not_entered new p.0 ∷ unbumped ∷ []) (done_step steps.Unbump ∷ es) (failed (calls.Link old new) p.0) (after p.0 p.2) (lowered_ends old new p.0)))
+            | inr p ↦ inr (subst (λ (z : Reply). IsWholeCall (calls.Link old new) (oldest_first (done_step steps.Unbump ∷ es)) z) (sym p.1) (written_by (calls.Link old new) (found old ∷ bumped ∷ not_entered new p.0 ∷ unbumped ∷ []) (done_step steps.Unbump ∷ es) (failed (calls.Link old new) p.0) (after p.0 p.2) (lowered_ends old new p.0)))
           ]
 
   -- The directory alone is locked.
@@ -264,7 +264,7 @@ module _ (h : ℕ) (old new : List ℕ) (lt : h < hart_count) {base : ℕ → �
       (λ l2 u2 M q held2 desk walk2 none2 k2. lowers r ms l2 es u2 M (put (at_one d x) d None) (omega (arith, few, q)) held2 k2 (empty_one d x) walk2 none2 (elim told [ inl p ↦ inl (ap (λ (z : Desk). z.full) desk ∙ p) | inr p ↦ inr p ]))
 
   -- The name is entered: its directory is given up, the inode's reference dropped, and the call ends.
-  named : (d : ℕ) (x : Option Node) (ms : List ℕ) (l : ℕ) (es : List Step) (u : World) (R : Own) → 971 * length ms + 3000 ≤ l → own_of h u ≡ R → Holding base ms O0 R (at_one d x) (λ i. (0 + one_if (j == i)) + one_if (d == i)) → R.mine.walk ≡ None → R.mine.pending ≡ None → Written (calls.Link old new) (oldest_first es) (done (calls.Link old new))
+  named : (d : ℕ) (x : Option Node) (ms : List ℕ) (l : ℕ) (es : List Step) (u : World) (R : Own) → 971 * length ms + 3000 ≤ l → own_of h u ≡ R → Holding base ms O0 R (at_one d x) (λ i. (0 + one_if (j == i)) + one_if (d == i)) → R.mine.walk ≡ None → R.mine.pending ≡ None → IsWholeCall (calls.Link old new) (oldest_first es) (done (calls.Link old new))
       → Goes h old new (give_up d (drop j (tail ms (done (calls.Link old new))))) l es u
   named d x ms l es u R few held k walk none told =
       s-give-up d {more = λ i. 0 + one_if (j == i)} held lt joins.ready (omega (arith, few)) k walk none (put_same nothing d (Some (locked_held x))) (record { locked = refl; shared = refl; same = refl })

@@ -24,7 +24,7 @@ use Rattle.tree_moves.specs.Moves.Move.{Look, Quit}
 use Rattle.inode_machine.specs.World.{Desk, Note, World, Mark, stage_of}
 use Rattle.inode_machine.specs.World.Mark.{Makes, Frees, Orphans, Fills, Mends, Spoils}
 use Rattle.inode_machine.specs.World.Op.{Take}
-use Rattle.inode_machine.specs.Inodes.{Looking, Seen, sort_of, seen_in, face_of, is_live_face, is_directory_face}
+use Rattle.inode_machine.specs.Inodes.{Query, Sight, sort_of, seen_in, face_of, is_live_face, is_directory_face}
 use Rattle.inode_machine.specs.Exec.{locked, lock_if, with_walk}
 use Rattle.inode_machine.specs.Marks.{marked, with_mark, with_made, mended, made_by, look_made, looked, acts, found_by, places, new_id, unopened, unmoved, unheld}
 use Rattle.inode_machine.specs.Rules.{Own, Held, own_of, Inv, IsOut, looking_cost, machine, own_names, Sought}
@@ -62,7 +62,7 @@ no_directory (Some v) e = by_kind v.kind e
         none true = refl
         none false = refl
 
-places_locked : (h d i : ℕ) (looking : Looking) (a : Seen) (o : Option Mark) (v : World) → places h (Take d looking) a o (locked h i v) ≡ places h (Take d looking) a o v
+places_locked : (h d i : ℕ) (looking : Query) (a : Sight) (o : Option Mark) (v : World) → places h (Take d looking) a o (locked h i v) ≡ places h (Take d looking) a o v
 places_locked h d i looking a None v = refl
 places_locked h d i looking a (Some (Makes m)) v = refl
 places_locked h d i looking a (Some (Frees n)) v = refl
@@ -72,7 +72,7 @@ places_locked h d i looking a (Some Mends) v = refl
 places_locked h d i looking a (Some (Spoils s)) v = refl
 
 -- The lock is had, and then what is seen decides the move. u: the world in which the hart has it.
-pub s-take-then : {A : Type 0} {h d : ℕ} {looking : Looking} {m : Seen → Option Mark} {k : Seen → P machine A} {B : List Step → Type 0} {Q : A → List Step → World → Type 0} {n : ℕ} {es : List Step} {w : World} {O : Own}
+pub s-take-then : {A : Type 0} {h d : ℕ} {looking : Query} {m : Sight → Option Mark} {k : Sight → P machine A} {B : List Step → Type 0} {Q : A → List Step → World → Type 0} {n : ℕ} {es : List Step} {w : World} {O : Own}
     → own_of h w ≡ O → O.desk.lender ≡ None → h < hart_count → looking_cost looking < n → O.inodes d ≡ None → 0 < O.mine.refs d → ((v : World) → Inv v → own_of h v ≡ O → v.all.nodes d ≢ None) → Sought looking
     → ((u : World) (c : Option Node) → Inv u → own_of h u ≡ record O { inodes = put O.inodes d (Some (locked_held c)) }
     → Fine machine h (places h (Take d looking) (seen_in d looking c) (m (seen_in d looking c)) u) (looking_cost looking) n B es u (marked h (m (seen_in d looking c)) u)
@@ -84,7 +84,7 @@ s-take-then {A} {h} {d} {looking} {m} {k} {B} {Q} {n} {es} {w} {O} owns free lt 
 ))
   where
     at : (v : World) → Inv v → own_of h v ≡ O → (r : Option ℕ) → v.lock d ≡ r
-        → Good machine Seen h (λ a. places h (Take d looking) a (m a) v) (looking_cost looking) n B es v (IsOut h (v.lock d)) (with_mark h m (lock_if h d (seen_in d looking (v.disk d)) v (locked h d v) r)) (λ l a u. Wp machine h B Q (k a) l (onto (own h (places h (Take d looking) a (m a) v)) es) u)
+        → Good machine Sight h (λ a. places h (Take d looking) a (m a) v) (looking_cost looking) n B es v (IsOut h (v.lock d)) (with_mark h m (lock_if h d (seen_in d looking (v.disk d)) v (locked h d v) r)) (λ l a u. Wp machine h B Q (k a) l (onto (own h (places h (Take d looking) a (m a) v)) es) u)
     at v inv ov (Some g) e = is_out h d g v O inv ov out e
     at v inv ov None e =
         let a = locking h d v O ov free lt inv out (inr (let r = my_refs h v O d ov in omega (arith, r, refers))) e in

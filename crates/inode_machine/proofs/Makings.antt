@@ -17,7 +17,7 @@ use Rattle.plain_tree.specs.Tree.{Name, put, look, hold_names, live_directory}
 use Rattle.plain_tree.specs.Widths.{hart_count}
 use Rattle.tree_laws.specs.WellFormed.{one_if}
 use Rattle.tree_laws.proofs.Maps.{either, eq_not, or_none, same_or, put_same, put_other}
-use Rattle.tree_moves.specs.Moves.{Step, Written}
+use Rattle.tree_moves.specs.Moves.{Step, IsWholeCall}
 use Rattle.tree_moves.specs.Moves.Move.{Own as OwnMove}
 use Rattle.inode_machine.specs.World.{Desk, Note, World, New}
 use Rattle.inode_machine.specs.World.Op.{Forget, Install}
@@ -169,7 +169,7 @@ module _ (h : ℕ) (path : List ℕ) (flags : ℕ) (lt : h < hart_count) {base :
       R_in s = record R { desk = record (R.desk) { hand = Some s } }
 
       -- its lock is given up, and the call ends
-      ends : (s l3 : ℕ) (fs : List Step) (u3 : World) → 971 * length ns + 980 < l3 → own_of h u3 ≡ own_installed (R_in s) i fd s → Written (calls.Open path flags) (oldest_first fs) (opened_reply path flags fd) → Goes h path flags (open_end path flags i ns fd) l3 fs u3
+      ends : (s l3 : ℕ) (fs : List Step) (u3 : World) → 971 * length ns + 980 < l3 → own_of h u3 ≡ own_installed (R_in s) i fd s → IsWholeCall (calls.Open path flags) (oldest_first fs) (opened_reply path flags fd) → Goes h path flags (open_end path flags i ns fd) l3 fs u3
       ends s l3 fs u3 few3 held3 written =
           s-give held3 free lt (omega (arith, few3)) (k.has i (locked_held (Some new_file)) isi) refl refl refl none (λ l4 u4 q4 held4.
           s-ends h (calls.Open path flags) (opened_reply path flags fd) base ns l4 fs u4 _ held4 free lt (omega (arith, few3, q4)) (k.stays.joined ∙ joins.ready.joined) (listed s) fewer walk none

@@ -8,9 +8,9 @@ use Rattle.plain_tree.specs.TreeData.{TreeData}
 use Rattle.plain_tree.specs.Tree.{Tree, put, tree_of}
 use Rattle.plain_tree.specs.Widths.{hart_count}
 use Rattle.tree_laws.proofs.Maps.{eq_self, eq_not, put_same, put_other}
-use Rattle.tree_moves.specs.Moves.{Deed, Move, Stage, Step as MoveStep, IsNext, MayEnd, Takes, Written, after, begins, told_by}
+use Rattle.tree_moves.specs.Moves.{Deed, Move, Stage, Step as MoveStep, IsNext, MayEnd, Takes, IsWholeCall, after, begins, told_by}
 use Rattle.tree_moves.specs.History.{starts, passes}
-use Rattle.tree_moves.specs.History.Standing.{Free, Busy}
+use Rattle.tree_moves.specs.History.HartStanding.{Free, Busy}
 use Rattle.tree_moves.specs.Runs.{World as Told, Event as Turn, Happens, BeginsNext, PlaysAny, Runs as Goings, NoneClimbs as Calm, Alone as Lone, IsStartBy, climbing, opened, shown_of, stepped}
 use Rattle.tree_moves.specs.Runs.Event.{Starts, Steps, Nothing}
 use Rattle.tree_moves.specs.Laws.{Tells}
@@ -18,15 +18,15 @@ use Rattle.tree_moves.proofs.Appended.{runs_more, runs_none}
 use Rattle.tree_moves.proofs.History.{NeverClimbs, IsHart, apart_alone, apart_calm, opened_ok, run_explained, run_ok, starts_alone, starts_calm, AllMayStart, Apart}
 use Rattle.tree_moves.proofs.Told.{event_tells, played_end, played_next, told_more}
 use Rattle.atomic_programs.specs.Prog.{Prog, Ret, Do, Did, Waits, Ran, Stops, asks, OfNext}
-use Rattle.atomic_programs.specs.Logic.{Answered, Goes, Good, Grown, PlacesOne, Wp, onto, oldest_first, own}
+use Rattle.atomic_programs.specs.Logic.{OpWithAnswer, Goes, Good, Grown, PlacesOne, Wp, onto, oldest_first, own}
 use Rattle.atomic_programs.specs.Calls.{Theory, Began, Begins, Begun, Came, Refuses, busy_in, Ends, Event, Start, Step, HonestStep, IsHonest, Run, Sound, State, AllHonest, all_told, begun, fresh, makes, moved, next, run, start_run, step_prog, step_run, step_unless, told, tried, unchanged}
 use Rattle.atomic_programs.proofs.Beginnings.{append_nil, oldest_first_more}
 use Rattle.atomic_programs.proofs.Explains.{Keeps, changed_tells, inv_of, sound_keeps}
 use Rattle.atomic_programs.proofs.Leading.{leads}
 use Rattle.atomic_programs.proofs.Reached.{sound_fresh, sound_run}
-use Rattle.inode_machine.specs.MoveCalls.{Moving, IsMoving, HasOneHistory, RunsFrom, Alone, NoneClimbs, StartsBy, climbs_at, machine_of, shown_by, shows, theory_of}
+use Rattle.inode_machine.specs.MoveCalls.{MoveMachine, IsMoving, HasOneHistory, RunsFrom, Alone, NoneClimbs, StartsBy, climbs_at, machine_of, shown_by, shows, theory_of}
 
-module _ (N : Moving) (moving : IsMoving N) where
+module _ (N : MoveMachine) (moving : IsMoving N) where
   abbrev pub L : Theory
   L = theory_of N
 
@@ -163,15 +163,15 @@ module _ (N : Moving) (moving : IsMoving N) where
       begins_next : IsNext r.call (told_by [] (oldest_first r.done)) (begins e.move)
       begins_next = elim (subst (λ (z : List MoveStep). Grown (Begun L r.call) z r.done) mine grown) [
         | inl n ↦ absurd (let x : ◌≡◌ {A = List MoveStep} (e ∷ []) [] = n in cc (x))
-        | inr b ↦ played_next r.call [] (oldest_first r.done) b.0 e b.1 (subst (λ (z : List MoveStep). Written r.call z b.1) (ap (λ (z : List MoveStep). z ++ b.0) (oldest_first_more e r.done) ∙ append_assoc (oldest_first r.done) (e ∷ []) b.0) b.2)
+        | inr b ↦ played_next r.call [] (oldest_first r.done) b.0 e b.1 (subst (λ (z : List MoveStep). IsWholeCall r.call z b.1) (ap (λ (z : List MoveStep). z ++ b.0) (oldest_first_more e r.done) ∙ append_assoc (oldest_first r.done) (e ∷ []) b.0) b.2)
       ]
 
   -- where the program ends, the call's moves are written, and its hart walks no more
   abbrev EndsSo : ℕ → Run L → List (ℕ × MoveStep) → P Reply → N.World → Type 0
-  EndsSo h r ps (Ret reply) w = Written r.call (oldest_first (onto (own h ps) r.done)) reply × ((N.tree w).walk h ≡ None)
+  EndsSo h r ps (Ret reply) w = IsWholeCall r.call (oldest_first (onto (own h ps) r.done)) reply × ((N.tree w).walk h ≡ None)
   EndsSo h r ps (Do op m k) w = Unit {0}
 
-  moved_turns : (h : ℕ) (x : N.Outside) (s : State L) (t : Told) (r : Run L) (did : Answered (machine_of N)) (ps : List (ℕ × MoveStep)) (p : P Reply) (w : N.World) → Beside s t → s.running h ≡ Some r → PlacesAny h ps → Goes (machine_of N) (N.tree s.world) ps (N.tree w) → Grown (Begun L r.call) (own h ps) r.done → EndsSo h r ps p w
+  moved_turns : (h : ℕ) (x : N.Outside) (s : State L) (t : Told) (r : Run L) (did : OpWithAnswer (machine_of N)) (ps : List (ℕ × MoveStep)) (p : P Reply) (w : N.World) → Beside s t → s.running h ≡ Some r → PlacesAny h ps → Goes (machine_of N) (N.tree s.world) ps (N.tree w) → Grown (Begun L r.call) (own h ps) r.done → EndsSo h r ps p w
       → Turns (Step h x) (moved L h s r did ps p w).came (moved L h s r did ps p w).after t
   moved_turns h x s t r did ps (Do op m k) w b is any goes grown end = record {
     event = Steps h v.move None;
@@ -226,7 +226,7 @@ module _ (N : Moving) (moving : IsMoving N) where
       tells : Tells t h (b.busy h r is).0 r.call (told_by [] (oldest_first r.done)) v.deed (N.tree w)
       tells = event_tells t h (b.busy h r is).0 r.call (told_by [] (oldest_first r.done)) v.deed (N.tree w) (b.busy h r is).1
 
-  world_moved : (h : ℕ) (s : State L) (r : Run L) (did : Answered (machine_of N)) (ps : List (ℕ × MoveStep)) (p : P Reply) (w : N.World) → (moved L h s r did ps p w).after.world ≡ w
+  world_moved : (h : ℕ) (s : State L) (r : Run L) (did : OpWithAnswer (machine_of N)) (ps : List (ℕ × MoveStep)) (p : P Reply) (w : N.World) → (moved L h s r did ps p w).after.world ≡ w
   world_moved h s r did ps (Ret reply) w = refl
   world_moved h s r did ps (Do op m k) w = refl
 

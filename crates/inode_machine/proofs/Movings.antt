@@ -8,7 +8,7 @@ use Rattle.tree_laws.proofs.Opened.{well_inherit}
 use Rattle.tree_moves.specs.Moves.{Stage, Takes}
 use Rattle.inode_machine.specs.World.{Mine, Desk, World, stage_of}
 use Rattle.inode_machine.specs.Exec.{with_walk, moved_in, serving}
-use Rattle.inode_machine.specs.Rules.{Own, Rests, own_of, shop_of, Tied, Has, Inv}
+use Rattle.inode_machine.specs.Rules.{Own, Rests, own_of, shop_of, IsTied, Has, Inv}
 use Rattle.inode_machine.proofs.Frame.{put_elim, has_none}
 use Rattle.inode_machine.proofs.Rules.{FairTo, my_refs}
 use Rattle.inode_machine.proofs.Walking.{refs_walk, stage_walk}
@@ -81,7 +81,7 @@ module _ (h c : ℕ) (v : World) (O : Own) (inv : Inv v) (ov : own_of h v ≡ O)
   few r is i = let a = is i in let b = one_most (old == i) in let e = my_refs h v O i ov in let f = srv.few i in omega (arith, a, b, e, f)
 
   module _ (H : ℕ → Mine) (X : ℕ → ℕ → Option ℕ) (C : ℕ → ℕ) (refs : (g i : ℕ) → (H g).refs i ≡ (M g).refs i) (others : (g : ℕ) → g ≢ h → H g ≡ M g) (ended : (H h ≡ moved_mine_own old O)) (fds : (g : ℕ) → g ≢ c → X g ≡ v.all.fds g) (cwd : (g : ℕ) → g ≢ c → C g ≡ v.all.cwd g)
-      (tied : Tied (record { files = v.files; desks = D; ids = v.ids; slots = v.slots; clean = v.clean; tree_fds = X; tree_files = v.all.files })) (well : IsWellFormed (record (v.all) { fds = X; cwd = C })) (at : C c ≡ home) where
+      (tied : IsTied (record { files = v.files; desks = D; ids = v.ids; slots = v.slots; clean = v.clean; tree_fds = X; tree_files = v.all.files })) (well : IsWellFormed (record (v.all) { fds = X; cwd = C })) (at : C c ≡ home) where
     turns : Turns h c v v.files D R H X C (serving c (Some 1)) y
     turns = record {
       mine = at_hart;

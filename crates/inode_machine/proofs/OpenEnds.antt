@@ -19,7 +19,7 @@ use Rattle.plain_tree.specs.Steps.{empty_it, has, has_room, lowest, node_or}
 use Rattle.plain_tree.specs.HartRow.{Key, Row, key_is, key_names}
 use Rattle.tree_laws.specs.WellFormed.{one_if}
 use Rattle.tree_laws.proofs.Maps.{and_true, either, eq_is, or_none, same_or, put_same, put_other}
-use Rattle.tree_moves.specs.Moves.{Step, MayEnd, Written}
+use Rattle.tree_moves.specs.Moves.{Step, MayEnd, IsWholeCall}
 use Rattle.tree_moves.specs.Moves.Move.{Begin, Own as OwnMove}
 use Rattle.inode_machine.specs.World.{Desk, Note, World}
 use Rattle.inode_machine.specs.World.Op.{Empty}
@@ -192,7 +192,7 @@ module _ (h : ℕ) (path : List ℕ) (flags : ℕ) (w : World) (free : (w.desks 
 
   -- The inode's lock is given up, and the call ends.
   s-open-end : (j fd s id : ℕ) (key : Key) (ns : List ℕ) (t : Option Note) (x : Option Node) (n : ℕ) (es : List Step) (u u0 : World) (R : Own) → 1000 + 971 * length ns ≤ n → At h j base ns None t (went fd id key) R u0 → own_of h u ≡ record (own_installed R j fd s) { inodes = put R.inodes j (Some (locked_held x)) }
-      → Written c (oldest_first es) (opened_reply path flags fd) → Safe machine h B Q (open_end path flags j ns fd) n es u
+      → IsWholeCall c (oldest_first es) (opened_reply path flags fd) → Safe machine h B Q (open_end path flags j ns fd) n es u
   s-open-end j fd s id key ns t x n es u u0 R few at own told =
       s-give own (at.stays.lender ∙ free) lt (omega (arith, few)) (put_same R.inodes j (Some (locked_held x))) refl refl refl at.pending (λ l u2 q own2.
       s-ends h c (opened_reply path flags fd) base ns l es u2 _ own2 (at.stays.lender ∙ free) lt (omega (arith, few, q)) at.stays.joined

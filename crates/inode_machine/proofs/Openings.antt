@@ -15,7 +15,7 @@ use Rattle.inode_machine.specs.World.{Desk, World}
 use Rattle.inode_machine.specs.Exec.{first_from, is_at, is_nothing, or_zero}
 use Rattle.inode_machine.specs.Marks.{new_id}
 use Rattle.inode_machine.specs.Opening.{file_for}
-use Rattle.inode_machine.specs.Rules.{id_at, key_in, own_names, own_of, shop_of, users, Own, Inv, Reached, Shop, Tied}
+use Rattle.inode_machine.specs.Rules.{id_at, key_in, own_names, own_of, shop_of, users, Own, Inv, IsReached, Shop, IsTied}
 use Rattle.inode_machine.proofs.Frame.{bond_of, put_elim, is_put, stands_on, Did, refers_on}
 use Rattle.inode_machine.proofs.Tables.{less_is, lowest_free, lowest_same}
 use Rattle.inode_machine.proofs.Dups.{not_at}
@@ -33,7 +33,7 @@ pub record OpensIn (s : Shop) (h fd id : ℕ) (f : OpenFile) : Type 0 where
 abbrev pub opened_shop : Shop → ℕ → ℕ → ℕ → OpenFile → Shop
 opened_shop s h fd id f = record { files = s.files; desks = put s.desks h (record (s.desks h) { opening = Some fd }); ids = s.ids; slots = s.slots; clean = s.clean; tree_fds = put s.tree_fds h (put (s.tree_fds h) fd (Some id)); tree_files = put s.tree_files id (Some f) }
 
-pub opens_tied : (s : Shop) (h fd id : ℕ) (f : OpenFile) → Tied s → OpensIn s h fd id f → Tied (opened_shop s h fd id f)
+pub opens_tied : (s : Shop) (h fd id : ℕ) (f : OpenFile) → IsTied s → OpensIn s h fd id f → IsTied (opened_shop s h fd id f)
 opens_tied s h fd id f tied a =
     record {
       fds = λ g i lg li q. elim (same_or g h) [
@@ -216,7 +216,7 @@ pub record Opening (h fd j flags : ℕ) (v : World) (O : Own) : Type 0 where
   pub none : v.all.fds h fd ≡ None
   pub unkeyed : (row_of v.all h).keys fd ≡ None
 
-pub opening : (h fd j flags : ℕ) (x : Node) (v : World) (O : Own) → own_of h v ≡ O → O.desk.lender ≡ None → h < hart_count → Inv v → O.desk.opening ≡ None → lowest (v.all.fds h) ≡ fd → has_room (v.all.fds h) ≡ true → v.all.nodes j ≡ Some x → Reached v h j → Opening h fd j flags v O
+pub opening : (h fd j flags : ℕ) (x : Node) (v : World) (O : Own) → own_of h v ≡ O → O.desk.lender ≡ None → h < hart_count → Inv v → O.desk.opening ≡ None → lowest (v.all.fds h) ≡ fd → has_room (v.all.fds h) ≡ true → v.all.nodes j ≡ Some x → IsReached v h j → Opening h fd j flags v O
 opening h fd j flags x v O ov free lt inv idle low room is reached = record {
   did = record {
     hart = lt;
@@ -333,9 +333,9 @@ opening h fd j flags x v O ov free lt inv idle low room is reached = record {
     key_none false o q = refl
     key_none true (Some k) q = absurd cc
 
-    named : (i : ℕ) → own_names (row_of T h) (put v.desks h new h) i ≡ true → Reached v h i
+    named : (i : ℕ) → own_names (row_of T h) (put v.desks h new h) i ≡ true → IsReached v h i
     named i q = elim (either (j == i)) [
-      | inl y ↦ subst (λ (z : ℕ). Reached v h z) (eq_is j i y) reached
+      | inl y ↦ subst (λ (z : ℕ). IsReached v h z) (eq_is j i y) reached
       | inr y ↦ inv.named h i lt (ap (λ (o : Own). o.desk.lender) ov ∙ free) ((λ z. (v.all.cwd h == i) || (hold_names (v.all.holds h) i || (key_names (key_in (row_of v.all h).keys (opening_v z)) i || is_at (v.desks h).left i)))
           ∙ sym ((λ z. (v.all.cwd h == i) || (hold_names (v.all.holds h) i || (key_names (keyed z) i || is_at (v.desks h).left i))) ∙ (λ z. (v.all.cwd h == i) || (hold_names (v.all.holds h) i || (y z || is_at (v.desks h).left i))))
           ∙ (λ z. own_names (row_of T h) (sym here z) i) ∙ q)

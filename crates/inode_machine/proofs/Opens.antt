@@ -17,7 +17,7 @@ use Rattle.tree_moves.specs.Moves.{Step, Move}
 use Rattle.inode_machine.specs.World.{World}
 use Rattle.inode_machine.specs.Inodes.{Sort, face_of, face_or, is_file_sort, open_refusal, sort_of, sort_of_kind}
 use Rattle.inode_machine.specs.Marks.{Made, acts, with_made}
-use Rattle.inode_machine.specs.Rules.{Inv, Others, Tied, shop_of, machine}
+use Rattle.inode_machine.specs.Rules.{Inv, Others, IsTied, shop_of, machine}
 use Rattle.inode_machine.proofs.Frame.{Fair, fair}
 use Rattle.inode_machine.proofs.Rules.{others}
 use Rattle.inode_machine.proofs.Rows.{below_is}
@@ -136,7 +136,7 @@ dirties h v free lt inv = fair inv (record {
   walks = λ x is. inv.walks h x lt is;
 })
   where
-    t : Tied (shop_of v)
+    t : IsTied (shop_of v)
     t = inv.tied
 
 pub moves_full : {A : Type 0} (h more n : ℕ) (B : List Step → Type 0) (Q : A → List Step → World → Type 0) (es : List Step) (v u : World) (mv : Move) (p : P machine A) (made x : Made)

@@ -21,11 +21,11 @@ use Rattle.plain_tree.specs.HartRow.{row_of}
 use Rattle.tree_laws.proofs.Maps.{put_same}
 use Rattle.tree_laws.proofs.Nodes.{live_is}
 use Rattle.tree_laws.proofs.Walks.{look_same}
-use Rattle.tree_moves.specs.Moves.{Walk, Step, MayEnd, Played, Written, fail}
+use Rattle.tree_moves.specs.Moves.{Walk, Step, MayEnd, IsPlayed, IsWholeCall, fail}
 use Rattle.tree_moves.specs.Moves.Move.{Begin, Look, Quit}
 use Rattle.inode_machine.specs.World.{World, Mark}
 use Rattle.inode_machine.specs.World.Op.{Take}
-use Rattle.inode_machine.specs.Inodes.{Looking, Seen, seen_in}
+use Rattle.inode_machine.specs.Inodes.{Query, Sight, seen_in}
 use Rattle.inode_machine.specs.Marks.{found_by, marked, places}
 use Rattle.inode_machine.specs.Rules.{Own, own_of, Inv, looking_cost, machine, Sought}
 use Rattle.inode_machine.specs.Parts.{looks_if, looks_where, makes}
@@ -37,10 +37,10 @@ use Rattle.inode_machine.proofs.Walks.{On, Ready, known_there, on_refers}
 use Rattle.inode_machine.proofs.Acting.{told_step}
 use Rattle.inode_machine.proofs.Endings.{Walked}
 
-pub begun_by : (c : Call) (acts : List Act) (es rest : List Step) (r : Reply) → Walked c acts es → Played c acts rest r → Begun covered_calls c es
-begun_by c acts es rest r w p = (rest, r, subst (λ (z : List Step). Played c [] z r) (onto_is es rest) (w rest r p))
+pub begun_by : (c : Call) (acts : List Act) (es rest : List Step) (r : Reply) → Walked c acts es → IsPlayed c acts rest r → Begun covered_calls c es
+begun_by c acts es rest r w p = (rest, r, subst (λ (z : List Step). IsPlayed c [] z r) (onto_is es rest) (w rest r p))
 
-pub written_by : (c : Call) (acts : List Act) (es : List Step) (r : Reply) → Walked c acts es → MayEnd c acts r → Written c (oldest_first es) r
+pub written_by : (c : Call) (acts : List Act) (es : List Step) (r : Reply) → Walked c acts es → MayEnd c acts r → IsWholeCall c (oldest_first es) r
 written_by c acts es r w m = w [] r m
 
 -- The step that comes next in the call, and how the call may go on where it is refused.
@@ -48,7 +48,7 @@ pub record Follows (c : Call) (acts : List Act) (s : Action) : Type 0 where
   pub next : next_of c acts ≡ Some s
   pub rest : Cause → List Step
   pub reply : Cause → Reply
-  pub fails : (k : Cause) → Played c (acts ++ record { step = s; answer = Failed k } ∷ []) (rest k) (reply k)
+  pub fails : (k : Cause) → IsPlayed c (acts ++ record { step = s; answer = Failed k } ∷ []) (rest k) (reply k)
 
 -- the walk begins
 pub walking_begun : (c : Call) (acts : List Act) (s : Action) (es : List Step) → Follows c acts s → Walked c acts es → Walked c acts (record { move = Begin s 0; told = None } ∷ es)
@@ -79,7 +79,7 @@ pub agrees_look : (b : Tree) (d : ℕ) (e : Name) (x : Option Node) (O : Own) �
 agrees_look b d e x O live agrees = let q = agrees d (locked_held x) (put_same O.inodes d (Some (locked_held x))) (live_is x live) in (q, look_same (λ j. x) b.nodes d e q)
 
 -- The lock of the last name's directory is taken, and what is seen decides: its walk is lost where it has no links, its step is refused, or nothing is told yet.
-pub s-see : {h : ℕ} (c : Call) (acts : List Act) (s : Action) {looking : Looking} (refuses : Seen → Bool) {k : Seen → P machine Reply} {Q : Reply → List Step → World → Type 0} {base : ℕ → ℕ} {O0 : Own} (d : ℕ) (e : Name) {ns : List ℕ} {n : ℕ} {es : List Step} {w : World} {O : Own}
+pub s-see : {h : ℕ} (c : Call) (acts : List Act) (s : Action) {looking : Query} (refuses : Sight → Bool) {k : Sight → P machine Reply} {Q : Reply → List Step → World → Type 0} {base : ℕ → ℕ} {O0 : Own} (d : ℕ) (e : Name) {ns : List ℕ} {n : ℕ} {es : List Step} {w : World} {O : Own}
     → h < hart_count → Ready base O0 → On h s d e [] base ns O0 O w → looking_cost looking < n → Sought looking → Follows c acts s → Walked c acts es
     → ((t : Tree) → row_of t h ≡ O.row → IsInPlace t h s) → ((b : Tree) → refused b h s ≡ b) → ((g : ℕ) → s ≡ Inherit g → ⊥) → ((f : Option ℕ) → found_by s f ≡ None)
     → ((x : Option Node) (l : ℕ) (u : World) → live_directory x ≡ false → l + (looking_cost looking + 1) ≡ n → own_of h u ≡ record O { inodes = put O.inodes d (Some (locked_held x)); mine = record { refs = O.mine.refs; walk = None; pending = None } }

@@ -24,7 +24,7 @@ use Rattle.tree_laws.proofs.Sums.{sum_same}
 use Rattle.tree_laws.proofs.Opened.{well_moved}
 use Rattle.tree_moves.specs.Moves.{Stage, Step}
 use Rattle.tree_moves.specs.Moves.Move.{Own as OwnMove}
-use Rattle.inode_machine.specs.World.{Mine, Entry, World, Locking as Lockup, NotLocked, LocksIt}
+use Rattle.inode_machine.specs.World.{Mine, Entry, World, LockResult as Lockup, NotLocked, LocksIt}
 use Rattle.inode_machine.specs.Marks.{places, with_mark, made_by, new_id, with_made}
 use Rattle.inode_machine.specs.Descriptors.{refused_read}
 use Rattle.inode_machine.specs.Exec.{with_walk, slot_at, entry_at, entry_moved, part_of, entry_of, lock_at, offset_of, lock_if, locked, mode_refusal, read_at, read_refused, unlocked, with_offset}

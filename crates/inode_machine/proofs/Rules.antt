@@ -16,9 +16,9 @@ use Rattle.inode_machine.specs.World.{Mine, Entry, World, Op, Answer, Mark, stag
 use Rattle.inode_machine.specs.Exec.{file_count, with_refs, lock_if, counted_up, locked, up_if, has_place}
 use Rattle.inode_machine.specs.Marks.{marked, go, places, with_mark}
 use Rattle.inode_machine.specs.World.Op.{Up}
-use Rattle.inode_machine.specs.Rules.{Own, shop_of, Opens, number_is, Held, view, is_hart, own_of, Found, Pinned, Reached, IsAlone, reference_limit, Inv, IsOut, MayWait, machine, more, Others, LocksNone, Asks, Rests, looking_cost, Honest, KeepsFiles, Sought}
+use Rattle.inode_machine.specs.Rules.{Own, shop_of, Opens, number_is, Held, view, is_hart, own_of, Found, IsReferredTo, IsReached, IsAlone, reference_limit, Inv, IsOut, MayWait, machine, more, Others, LocksNone, Asks, Rests, looking_cost, Honest, KeepsFiles, Sought}
 use Rattle.inode_machine.proofs.Frame.{shop_same, put_elim, ours_none, ours_some, kept_here, Did, Fair, fair, files_then, own_inodes, has_inode, has_none, found_more, two_refs, refers_put}
-use Rattle.inode_machine.specs.Inodes.{Looking, Seen, Sort, seen_in, sort_of}
+use Rattle.inode_machine.specs.Inodes.{Query, Sight, Sort, seen_in, sort_of}
 
 -- an operation: what the hart owns stays until it runs, and what it has open of an inode that it keeps
 pub s-owned-from : {A : Type 0} {h : ℕ} {op : Op} {m : Answer op → Option Mark} {k : Answer op → P machine A} {B : List Step → Type 0} {Q : A → List Step → World → Type 0} {n : ℕ} {es : List Step} {w : World} {O : Own}
@@ -164,7 +164,7 @@ opens_slots v g i inv o =
     omega (arith, s, p, a, b)
 
 -- An inode that the hart refers to, and doesn't keep, is kept alone by nobody.
-pub not_alone : (h g i : ℕ) (v : World) → Inv v → h < hart_count → g ≢ h → Pinned v.desks v.files v.harts h i → v.alone i ≡ true → v.keeper i ≡ Some g → ⊥
+pub not_alone : (h g i : ℕ) (v : World) → Inv v → h < hart_count → g ≢ h → IsReferredTo v.desks v.files v.harts h i → v.alone i ≡ true → v.keeper i ≡ Some g → ⊥
 not_alone h g i v inv lt ne pos is kept =
     let a = inv.alone i is in
     let same : Some a.hart ≡ Some g = sym a.kept ∙ kept in
@@ -209,7 +209,7 @@ pub record Locking (h i : ℕ) (v : World) (O : Own) : Type 0 where
   pub whole : v.disk i ≡ v.all.nodes i
   pub owned : own_of h (locked h i v) ≡ record O { inodes = put O.inodes i (Some (locked_held (v.all.nodes i))) }
 
-pub locking : (h i : ℕ) (v : World) (O : Own) → own_of h v ≡ O → O.desk.lender ≡ None → h < hart_count → Inv v → O.inodes i ≡ None → Pinned v.desks v.files v.harts h i → v.lock i ≡ None → Locking h i v O
+pub locking : (h i : ℕ) (v : World) (O : Own) → own_of h v ≡ O → O.desk.lender ≡ None → h < hart_count → Inv v → O.inodes i ≡ None → IsReferredTo v.desks v.files v.harts h i → v.lock i ≡ None → Locking h i v O
 locking h i v O ov free lt inv out mine e = record { fair = fair inv did; whole = inv.whole i nobody; owned = owned }
   where
     nobody : v.keeper i ≡ None
@@ -262,7 +262,7 @@ locking h i v O ov free lt inv out mine e = record { fair = fair inv did; whole 
             dead = a.dead;
             counts = a.counts;
           };
-          kept = λ j. put_elim v.keeper i (Some h) j (λ z. z ≡ Some h → Pinned v.desks v.files v.harts h j) (λ q is. subst (λ (z : ℕ). Pinned v.desks v.files v.harts h z) (sym q) mine) (λ q is. (inv.kept j h is).1);
+          kept = λ j. put_elim v.keeper i (Some h) j (λ z. z ≡ Some h → IsReferredTo v.desks v.files v.harts h j) (λ q is. subst (λ (z : ℕ). IsReferredTo v.desks v.files v.harts h z) (sym q) mine) (λ q is. (inv.kept j h is).1);
           held = λ j is. put_elim v.lock i (Some h) j (λ z. (z ≡ Some h) ⊎ (v.alone j ≡ true)) (λ q. inl refl) (λ q. inv.held j h (sym (put_other v.keeper i (Some h) j q) ∙ is));
           named = λ j is. inv.named h j lt (ap (λ (o : Own). o.desk.lender) ov ∙ free) is;
           pending = λ j is. found_more h v u j more_kept (inv.pending h j lt is);
@@ -290,7 +290,7 @@ pub is_out : (h i g : ℕ) (v : World) (O : Own) → Inv v → own_of h v ≡ O 
 is_out h i g v O inv ov out e = (g, (λ q. has_none h i v O ov out (inv.keeps i h (e ∙ ap (λ (z : ℕ). Some z) q))), e)
 
 -- The lock is taken and the inode seen; F: what the invariant says of it, and that it has a type.
-pub s-take : {A : Type 0} {h i : ℕ} {looking : Looking} {k : Seen → P machine A} {B : List Step → Type 0} {Q : A → List Step → World → Type 0} {n : ℕ} {es : List Step} {w : World} {O : Own} (F : Option Node → Type 0) (there : (o : Option Node) → F o → o ≢ None) (sought : Sought looking)
+pub s-take : {A : Type 0} {h i : ℕ} {looking : Query} {k : Sight → P machine A} {B : List Step → Type 0} {Q : A → List Step → World → Type 0} {n : ℕ} {es : List Step} {w : World} {O : Own} (F : Option Node → Type 0) (there : (o : Option Node) → F o → o ≢ None) (sought : Sought looking)
     → own_of h w ≡ O → O.desk.lender ≡ None → h < hart_count → looking_cost looking < n → O.inodes i ≡ None → 0 < O.mine.refs i → ((v : World) → Inv v → own_of h v ≡ O → F (v.all.nodes i))
     → ((l : ℕ) (s : Option Node) (u : World) → l + (looking_cost looking + 1) ≡ n → F s → own_of h u ≡ record O { inodes = put O.inodes i (Some (locked_held s)) } → Safe machine h B Q (k (seen_in i looking s)) l es u)
     → Safe machine h B Q (Do (Take i looking) unmarked k) n es w
@@ -300,7 +300,7 @@ s-take {A} {h} {i} {looking} {k} {B} {Q} {n} {es} {w} {O} F there sought owns fr
 ))
   where
     at : (v : World) → Inv v → own_of h v ≡ O → (r : Option ℕ) → v.lock i ≡ r
-        → Good machine Seen h (λ a. []) (looking_cost looking) n B es v (IsOut h (v.lock i)) (with_mark h unmarked (lock_if h i (seen_in i looking (v.disk i)) v (locked h i v) r)) (λ l a u. Wp machine h B Q (k a) l es u)
+        → Good machine Sight h (λ a. []) (looking_cost looking) n B es v (IsOut h (v.lock i)) (with_mark h unmarked (lock_if h i (seen_in i looking (v.disk i)) v (locked h i v) r)) (λ l a u. Wp machine h B Q (k a) l es u)
     at v inv ov (Some g) e = is_out h i g v O inv ov out e
     at v inv ov None e =
         let a = locking h i v O ov free lt inv out (inr (let r = my_refs h v O i ov in omega (arith, r, refers))) e in
@@ -388,11 +388,11 @@ ups h i O v0 inv0 ov0 free0 lt may only notes room = record { fair = fair inv0 (
       | inr ne ↦ (let a = refs_other v h j (inr ne) in omega (arith, a, p))
     ]
 
-    pin : (v : World) (j : ℕ) → Pinned v.desks v.files v.harts h j → Pinned v.desks v.files (put v.harts h (new v)) h j
+    pin : (v : World) (j : ℕ) → IsReferredTo v.desks v.files v.harts h j → IsReferredTo v.desks v.files (put v.harts h (new v)) h j
     pin v j (inl p) = inl p
     pin v j (inr p) = inr (grow v j p)
 
-    reach : (v : World) (j : ℕ) → own_of h v ≡ O → Reached v h j → Reached (after v) h j
+    reach : (v : World) (j : ℕ) → own_of h v ≡ O → IsReached v h j → IsReached (after v) h j
     reach v j ov (inl p) = inl (grow v j p)
     reach v j ov (inr p) = inl (elim only [
       | inl e ↦ absurd (let a = ap (λ (o : Own). o.mine.pending) ov in cc (a, e, p))
@@ -401,7 +401,7 @@ ups h i O v0 inv0 ov0 free0 lt may only notes room = record { fair = fair inv0 (
     ])
 
     -- what it reaches now it did before
-    back : (v : World) (m : Note) → (v.desks h).noted ≡ Some m → own_of h v ≡ O → Reached (after v) h m.number → Reached v h m.number
+    back : (v : World) (m : Note) → (v.desks h).noted ≡ Some m → own_of h v ≡ O → IsReached (after v) h m.number → IsReached v h m.number
     back v m is ov r = elim (same_or m.number i) [
       | inl e ↦ elim (notes m (ap (λ (o : Own). o.desk.noted) (sym ov) ∙ is) e) [
         | inl p ↦ inl (let a = my_refs h v O i ov in let b : (v.harts h).refs m.number ≡ (v.harts h).refs i = ap (v.harts h).refs e in omega (arith, a, b, p))

@@ -13,7 +13,7 @@ use Rattle.tree_laws.specs.WellFormed.{sum_below, IsWellFormed}
 use Rattle.tree_moves.specs.Moves.{Takes}
 use Rattle.tree_moves.specs.Moves.Move.{Own as OwnMove}
 use Rattle.inode_machine.specs.World.{Mine, Entry, Desk, World, stage_of, Note}
-use Rattle.inode_machine.specs.Rules.{shop_of, Opens, own_names, Pinned, IsAlone, reference_limit, HasType, Inv, key_in, Stands}
+use Rattle.inode_machine.specs.Rules.{shop_of, Opens, own_names, IsReferredTo, IsAlone, reference_limit, HasType, Inv, key_in, Stands}
 use Rattle.inode_machine.proofs.Frame.{Kin, Did, Ours, stands_in, type_on}
 use Rattle.inode_machine.specs.Marks.{new_id}
 use Rattle.inode_machine.specs.Inodes.{sort_of}
@@ -39,7 +39,7 @@ pub record Sells (h : ℕ) (v : World) (F : ℕ → Option Entry) (D : ℕ → D
   pub others : (g : ℕ) → g ≢ h → H g ≡ v.harts g
   pub refs : (j : ℕ) → (v.harts h).refs j ≤ (H h).refs j
   pub counts : (j : ℕ) → v.refs j ≡ S j + sum_below hart_count (λ g. (H g).refs j)
-  pub pinned : (j : ℕ) → v.keeper j ≡ Some h → Opens (v.desks h).fds v.files j → Pinned D F H h j
+  pub pinned : (j : ℕ) → v.keeper j ≡ Some h → Opens (v.desks h).fds v.files j → IsReferredTo D F H h j
   pub names : (j : ℕ) → own_names (row_of T h) (D h) j ≡ true → own_names (row_of v.all h) (v.desks h) j ≡ true
   pub still : (v.harts h).pending ≡ None
   pub found : (H h).pending ≡ None

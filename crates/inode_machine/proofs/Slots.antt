@@ -17,7 +17,7 @@ use Rattle.inode_machine.specs.World.Mark.{Mends}
 use Rattle.inode_machine.specs.Inodes.{Sort}
 use Rattle.inode_machine.specs.Exec.{file_count, first_from, install_if, is_at, is_empty_slot, is_nothing, slot_if}
 use Rattle.inode_machine.specs.Marks.{marked, mended, places, with_mark}
-use Rattle.inode_machine.specs.Rules.{id_at, own_names, own_of, shop_of, users, Own, Inv, Tied, machine}
+use Rattle.inode_machine.specs.Rules.{id_at, own_names, own_of, shop_of, users, Own, Inv, IsTied, machine}
 use Rattle.inode_machine.proofs.Frame.{bond_of, put_elim, stands_on, Fair, fair, refers_on}
 use Rattle.inode_machine.proofs.Rules.{s-owned, fine_after, quiet}
 use Rattle.inode_machine.proofs.Dups.{with_new}
@@ -112,7 +112,7 @@ handing h o v O ov free lt inv empty = record {
     hands g i j lg li (inr a) (inl b) = absurd ((empty j b.1).2 g lg a.0 a.1)
     hands g i j lg li (inr a) (inr b) = inv.tied.hands g i j lg li a.1 b.1
 
-    tied : Tied (shop_of (with_new v h new v.clean))
+    tied : IsTied (shop_of (with_new v h new v.clean))
     tied = record {
       fds = λ g i lg li q. inv.tied.fds g i lg li (ap (λ (z : Option ℕ). is_at z i) (sym (opening_is g)) ∙ q) ∙ ap (λ (z : Option ℕ). id_at v.ids z) (sym (fds_is g i));
       fresh = λ g i lg q. let f = inv.tied.fresh g i lg (sym (opening_is g) ∙ q) in record { below = f.below; free = fds_is g i ∙ f.free; id = f.id; is = f.is; file = f.file; at = f.at; offset = f.offset; only = f.only };

@@ -10,7 +10,7 @@ use Rattle.tree_laws.proofs.Maps.{eq_self, either, same_or, put_same, put_other,
 use Rattle.tree_laws.proofs.Sums.{sum_changed, sum_part, one_yes, one_no}
 use Rattle.inode_machine.specs.Exec.{is_at, file_count}
 use Rattle.inode_machine.specs.World.{Entry, Desk}
-use Rattle.inode_machine.specs.Rules.{id_at, number_is, uses, users, Shop, Tied}
+use Rattle.inode_machine.specs.Rules.{id_at, number_is, uses, users, Shop, IsTied}
 use Rattle.inode_machine.proofs.Frame.{put_elim}
 use Rattle.inode_machine.proofs.Rows.{is_at_some}
 
@@ -115,7 +115,7 @@ pub record Changes (s : Shop) (h fd : ℕ) (y x : Option ℕ) (F : ℕ → Optio
 abbrev pub changed_shop : Shop → ℕ → ℕ → Option ℕ → Option ℕ → (ℕ → Option Entry) → (ℕ → ℕ) → Shop
 changed_shop s h fd y x F S = record { files = F; desks = with_fd s.desks h fd y; ids = s.ids; slots = S; clean = s.clean; tree_fds = put s.tree_fds h (put (s.tree_fds h) fd x); tree_files = s.tree_files }
 
-pub changes : (s : Shop) (h fd : ℕ) (y x : Option ℕ) (F : ℕ → Option Entry) (S : ℕ → ℕ) → Tied s → Changes s h fd y x F S → Tied (changed_shop s h fd y x F S)
+pub changes : (s : Shop) (h fd : ℕ) (y x : Option ℕ) (F : ℕ → Option Entry) (S : ℕ → ℕ) → IsTied s → Changes s h fd y x F S → IsTied (changed_shop s h fd y x F S)
 changes s h fd y x F S tied c =
     record {
       fds = λ g i lg li o. elim (same_or g h) [
@@ -223,7 +223,7 @@ kept_open t h i id lh li is = rw (has_it t h i id lh li is) refl
 abbrev pub closed_shop : Shop → (ℕ → Option OpenFile) → Shop
 closed_shop s f = record { files = s.files; desks = s.desks; ids = s.ids; slots = s.slots; clean = s.clean; tree_fds = s.tree_fds; tree_files = f }
 
-pub tied_closed : (s : Shop) (t : Tree) → Tied s → t.fds ≡ s.tree_fds → t.files ≡ s.tree_files → Tied (closed_shop s (closed t).files)
+pub tied_closed : (s : Shop) (t : Tree) → IsTied s → t.fds ≡ s.tree_fds → t.files ≡ s.tree_files → IsTied (closed_shop s (closed t).files)
 tied_closed s t tied fds files =
     record {
       fds = tied.fds;

@@ -9,7 +9,7 @@ use Rattle.tree_moves.specs.Moves.{Walk}
 use Rattle.inode_machine.specs.World.{Mine, Entry, Desk, World}
 use Rattle.inode_machine.specs.Exec.{child_of, given_of, serving, with_refs}
 use Rattle.inode_machine.specs.Inodes.{OfDirectory, sort_of}
-use Rattle.inode_machine.specs.Rules.{Own, Held, Tied, own_of, reference_limit, Has, Inv, Lends, nothing, HasType}
+use Rattle.inode_machine.specs.Rules.{Own, Held, IsTied, own_of, reference_limit, Has, Inv, Lends, nothing, HasType}
 use Rattle.inode_machine.proofs.Frame.{put_elim, has_none, two_refs}
 use Rattle.inode_machine.proofs.Rules.{FairTo, walks_refs}
 use Rattle.inode_machine.proofs.Dups.{not_one}
@@ -56,7 +56,7 @@ pub record Turns (h c : ℕ) (v : World) (F : ℕ → Option Entry) (D : ℕ →
   pub fds : (g : ℕ) → g ≢ c → X g ≡ v.all.fds g
   pub cwd : (g : ℕ) → g ≢ c → C g ≡ v.all.cwd g
   pub numbers : (k : ℕ) (e : Entry) → v.files k ≡ Some e → (f : Entry) × (F k ≡ Some f) × (f.sort ≡ e.sort) × (f.file ≡ e.file)
-  pub tied : Tied (record { files = F; desks = D; ids = v.ids; slots = v.slots; clean = v.clean; tree_fds = X; tree_files = v.all.files })
+  pub tied : IsTied (record { files = F; desks = D; ids = v.ids; slots = v.slots; clean = v.clean; tree_fds = X; tree_files = v.all.files })
   pub sorts : (k : ℕ) (e : Entry) → F k ≡ Some e → HasType v.all.nodes e
   pub well : IsWellFormed (record (v.all) { fds = X; cwd = C })
   pub counts : (i : ℕ) → R i ≡ v.slots i + sum_below hart_count (λ g. (H g).refs i)

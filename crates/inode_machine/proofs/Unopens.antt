@@ -12,7 +12,7 @@ use Rattle.tree_laws.proofs.Opened.{well_closed}
 use Rattle.inode_machine.specs.World.{Desk, World}
 use Rattle.inode_machine.specs.Exec.{is_at, with_walk}
 use Rattle.inode_machine.specs.Marks.{mended, unheld, unmoved, unopened}
-use Rattle.inode_machine.specs.Rules.{id_at, key_in, own_names, own_of, shop_of, users, IsOpening, Own, Inv, Shop, Tied}
+use Rattle.inode_machine.specs.Rules.{id_at, key_in, own_names, own_of, shop_of, users, IsOpening, Own, Inv, Shop, IsTied}
 use Rattle.inode_machine.proofs.Frame.{bond_of, put_elim, is_put, stands_on, Fair, fair, fair_then, refers_on}
 use Rattle.inode_machine.proofs.Rules.{my_refs}
 use Rattle.inode_machine.proofs.Walking.{walk_named_did, own_walk}
@@ -115,7 +115,7 @@ mends_opened h fd v O ov free lt inv opens left hold names = subst (λ (z : Worl
       ]
     ]
 
-    before : Tied shop
+    before : IsTied shop
     before = record {
       fds = λ g i lg li q. elim (same_or g h) [
         | inl r ↦ subst (λ (z : ℕ). X z i ≡ id_at v.ids ((D z).fds i)) (sym r) (mine i li ∙ ap (λ (z : Option ℕ). id_at v.ids z) (sym (fds_is h i)))
@@ -137,7 +137,7 @@ mends_opened h fd v O ov free lt inv opens left hold names = subst (λ (z : Worl
       spoiled = λ g e. refl;
     }
 
-    tied : Tied (closed_shop shop (closed (record (v.all) { fds = X })).files)
+    tied : IsTied (closed_shop shop (closed (record (v.all) { fds = X })).files)
     tied = tied_closed shop (record (v.all) { fds = X }) before refl refl
 
     here : D h ≡ new

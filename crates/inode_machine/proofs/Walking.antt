@@ -10,7 +10,7 @@ use Rattle.tree_moves.specs.Moves.{Walk, Step, Move, Takes}
 use Rattle.inode_machine.specs.World.{Mine, World, stage_of, Note}
 use Rattle.inode_machine.specs.Marks.{Made, with_made}
 use Rattle.inode_machine.specs.Exec.{with_walk}
-use Rattle.inode_machine.specs.Rules.{Own, shop_of, own_of, Found, Pinned, Inv, machine, own_names}
+use Rattle.inode_machine.specs.Rules.{Own, shop_of, own_of, Found, IsReferredTo, Inv, machine, own_names}
 use Rattle.inode_machine.proofs.Frame.{shop_same, put_elim, is_put, Did, Fair, refers_on}
 use Rattle.inode_machine.proofs.Rules.{FairTo, acted_to, fair_to}
 use Rattle.inode_machine.specs.Inodes.{sort_of}
@@ -66,7 +66,7 @@ walk_named_did h k p v free lt inv names notes lands finds =
     grow : (j : ℕ) → 0 < (v.harts h).refs j → 0 < (with_walk v.harts h k p h).refs j
     grow j a = let r = refs_walk v.harts h k p h j in omega (arith, r, a)
 
-    pin : (j : ℕ) → Pinned v.desks v.files v.harts h j → Pinned v.desks v.files (with_walk v.harts h k p) h j
+    pin : (j : ℕ) → IsReferredTo v.desks v.files v.harts h j → IsReferredTo v.desks v.files (with_walk v.harts h k p) h j
     pin j (inl a) = inl a
     pin j (inr a) = inr (grow j a)
 

@@ -23,7 +23,7 @@ use Rattle.atomic_programs.specs.Prog.{Do, unmarked}
 use Rattle.tree_laws.proofs.Maps.{either, eq_isnt, same_or, put_same}
 use Rattle.inode_machine.specs.World.Op.{Leave}
 use Rattle.inode_machine.proofs.Resting.{given_is, idle_as, unlocks_nothing}
-use Rattle.tree_moves.specs.Moves.{Step, Played, Written}
+use Rattle.tree_moves.specs.Moves.{Step, IsPlayed, IsWholeCall}
 use Rattle.inode_machine.specs.World.{World}
 use Rattle.inode_machine.specs.Rules.{Held, KeepsFiles, Own, Rests, own_of, nothing, Idle, machine}
 use Rattle.inode_machine.specs.Parts.{failed}
@@ -122,11 +122,11 @@ none_done fd bytes i e =
     ∙ (λ r. if not_below (piece_count bytes) r then Some (WritePart fd (piece bytes (length (done_acts fd bytes i)))) else None)
 
 -- what follows the first pieces ends the call
-played : (fd : ℕ) (bytes : List ℕ) (i : ℕ) (rest : List Step) (r : Reply) → i ≤ piece_count bytes → Played (calls.Write fd bytes) (done_acts fd bytes i) rest r → Played (calls.Write fd bytes) [] (onto (wrote_steps fd bytes i) rest) r
+played : (fd : ℕ) (bytes : List ℕ) (i : ℕ) (rest : List Step) (r : Reply) → i ≤ piece_count bytes → IsPlayed (calls.Write fd bytes) (done_acts fd bytes i) rest r → IsPlayed (calls.Write fd bytes) [] (onto (wrote_steps fd bytes i) rest) r
 played fd bytes zero rest r le p = p
 played fd bytes (suc i) rest r le p = played fd bytes i (wrote_step fd (piece bytes i) ∷ rest) r (omega (arith, le)) (next_done fd bytes i (omega (arith, le)), p)
 
-whole_written : (fd : ℕ) (bytes : List ℕ) (i : ℕ) → i ≡ piece_count bytes → Written (calls.Write fd bytes) (oldest_first (wrote_steps fd bytes i)) (write_reply fd bytes)
+whole_written : (fd : ℕ) (bytes : List ℕ) (i : ℕ) → i ≡ piece_count bytes → IsWholeCall (calls.Write fd bytes) (oldest_first (wrote_steps fd bytes i)) (write_reply fd bytes)
 unfolding reply_of
 whole_written fd bytes i e = played fd bytes i [] (write_reply fd bytes) (omega (arith, e)) (record {
   through = none_done fd bytes i e;
@@ -134,7 +134,7 @@ whole_written fd bytes i e = played fd bytes i [] (write_reply fd bytes) (omega 
   room = done_room fd bytes i;
 })
 
-fails_played : (fd : ℕ) (bytes : List ℕ) (i : ℕ) (c : Cause) → i < piece_count bytes → Played (calls.Write fd bytes) (done_acts fd bytes i) (fails (WritePart fd (piece bytes i)) c ∷ []) (failed (calls.Write fd bytes) c)
+fails_played : (fd : ℕ) (bytes : List ℕ) (i : ℕ) (c : Cause) → i < piece_count bytes → IsPlayed (calls.Write fd bytes) (done_acts fd bytes i) (fails (WritePart fd (piece bytes i)) c ∷ []) (failed (calls.Write fd bytes) c)
 unfolding next_of reply_of had_room
 fails_played fd bytes i c lt = (
   next_done fd bytes i lt,
@@ -148,12 +148,12 @@ fails_played fd bytes i c lt = (
     act : Act
     act = record { step = WritePart fd (piece bytes i); answer = Failed c }
 
-failed_written : (fd : ℕ) (bytes : List ℕ) (i : ℕ) (c : Cause) → i < piece_count bytes → Written (calls.Write fd bytes) (oldest_first (fails (WritePart fd (piece bytes i)) c ∷ wrote_steps fd bytes i)) (failed (calls.Write fd bytes) c)
+failed_written : (fd : ℕ) (bytes : List ℕ) (i : ℕ) (c : Cause) → i < piece_count bytes → IsWholeCall (calls.Write fd bytes) (oldest_first (fails (WritePart fd (piece bytes i)) c ∷ wrote_steps fd bytes i)) (failed (calls.Write fd bytes) c)
 failed_written fd bytes i c lt = played fd bytes i (fails (WritePart fd (piece bytes i)) c ∷ []) (failed (calls.Write fd bytes) c) (omega (arith, lt)) (fails_played fd bytes i c lt)
 
 -- a whole list begins a call
-pub begun_whole : (fd : ℕ) (bytes : List ℕ) (es : List Step) (r : Reply) → Written (calls.Write fd bytes) (oldest_first es) r → Begun descriptor_calls (calls.Write fd bytes) es
-begun_whole fd bytes es r w = ([], r, subst (λ (z : List Step). Written (calls.Write fd bytes) z r) (sym (append_nil (oldest_first es))) w)
+pub begun_whole : (fd : ℕ) (bytes : List ℕ) (es : List Step) (r : Reply) → IsWholeCall (calls.Write fd bytes) (oldest_first es) r → Begun descriptor_calls (calls.Write fd bytes) es
+begun_whole fd bytes es r w = ([], r, subst (λ (z : List Step). IsWholeCall (calls.Write fd bytes) z r) (sym (append_nil (oldest_first es))) w)
 
 begun_failed : (fd : ℕ) (bytes : List ℕ) (i : ℕ) (c : Cause) → i < piece_count bytes → Begun descriptor_calls (calls.Write fd bytes) (fails (WritePart fd (piece bytes i)) c ∷ wrote_steps fd bytes i)
 begun_failed fd bytes i c lt = begun_whole fd bytes (fails (WritePart fd (piece bytes i)) c ∷ wrote_steps fd bytes i) (failed (calls.Write fd bytes) c) (failed_written fd bytes i c lt)
@@ -165,7 +165,7 @@ begun_wrote fd bytes i lt = elim (same_or (suc i) (piece_count bytes)) [
       let less : suc i < piece_count bytes = omega (arith, lt, ne) in
       let rest : List Step = fails (WritePart fd (piece bytes (suc i))) BadDescriptor ∷ [] in
       let p = played fd bytes (suc i) rest (failed (calls.Write fd bytes) BadDescriptor) (omega (arith, less)) (fails_played fd bytes (suc i) BadDescriptor less) in
-      (rest, failed (calls.Write fd bytes) BadDescriptor, subst (λ (z : List Step). Written (calls.Write fd bytes) z (failed (calls.Write fd bytes) BadDescriptor)) (onto_is (wrote_steps fd bytes (suc i)) rest) p)
+      (rest, failed (calls.Write fd bytes) BadDescriptor, subst (λ (z : List Step). IsWholeCall (calls.Write fd bytes) z (failed (calls.Write fd bytes) BadDescriptor)) (onto_is (wrote_steps fd bytes (suc i)) rest) p)
 ]
 
 -- What the hart has between two pieces.

@@ -16,7 +16,7 @@ use Rattle.tree_laws.specs.WellFormed.{IsWellFormed}
 use Rattle.tree_laws.proofs.Maps.{same_or, put_same, put_other}
 use Rattle.tree_moves.specs.Moves.{Stage, Step, Takes}
 use Rattle.tree_moves.specs.Moves.Move.{Own as OwnMove}
-use Rattle.inode_machine.specs.World.{Entry, Desk, World, stage_of, Outside, Room, RoomFor, Picks, Joining, NotJoined, Joined, Wrote, Whole, Refused as Stopped, Short}
+use Rattle.inode_machine.specs.World.{Entry, Desk, World, stage_of, Outside, Room, RoomFor, Picks, JoinResult, NotJoined, Joined, Wrote, Whole, Refused as Stopped, Short}
 use Rattle.inode_machine.specs.World.Op.{CheckFile, JoinFile, LockOpen, WriteFile}
 use Rattle.inode_machine.specs.Inodes.{Sort, OfDirectory, OfFile, OfDevice, no_driver_for, sort_of, sort_of_kind}
 use Rattle.inode_machine.specs.Marks.{Made, places, with_mark, made_by, new_id, with_made, spoiled}
@@ -246,7 +246,7 @@ table_refuses h fd s e b c v inv lt hit stops = write_refused_at h fd b c v lt
     (λ res par. write_stops (settle v.all) h fd b e c res par (file_settled v.all h fd ∙ hit.file) (ap (λ (z : Option Node). sort_of z) (node_settled h fd v e s inv lt hit) ∙ (inv.sorts s e hit.at).sort) stops)
 
 -- The transaction is joined for a descriptor to write to; or the first piece is refused.
-pub s-join-file : {A : Type 0} {h : ℕ} (fd : ℕ) (b : List ℕ) {k : Joining → P machine A} {B : List Step → Type 0} {Q : A → List Step → World → Type 0} {n : ℕ} {es : List Step} {w : World} {O : Own}
+pub s-join-file : {A : Type 0} {h : ℕ} (fd : ℕ) (b : List ℕ) {k : JoinResult → P machine A} {B : List Step → Type 0} {Q : A → List Step → World → Type 0} {n : ℕ} {es : List Step} {w : World} {O : Own}
     → own_of h w ≡ O → O.desk.lender ≡ None → h < hart_count → 0 < n → O.mine.walk ≡ None → O.mine.pending ≡ None → O.desk.opening ≡ None → UnlocksAll O → O.desk.joined ≡ false
     → ((c : Cause) → B (fails (WritePart fd b) c ∷ es))
     → ((l : ℕ) (c : Cause) (u : World) → l + 1 ≡ n → own_of h u ≡ record O { mine = record { refs = O.mine.refs; walk = None; pending = None } } → Safe machine h B Q (k (NotJoined c)) l (fails (WritePart fd b) c ∷ es) u)
@@ -254,8 +254,8 @@ pub s-join-file : {A : Type 0} {h : ℕ} (fd : ℕ) (b : List ℕ) {k : Joining 
     → Safe machine h B Q (Do (JoinFile fd) (refused_to fd b) k) n es w
 s-join-file {A} {h} fd b {k} {B} {Q} {n} {es} {w} {O} owns free lt pos walks none idle unlocks out bf bad then_ = s-owned owns free pos (λ v inv ov. ((locks_none h v O inv ov unlocks, ap (λ (o : Own). o.desk.joined) ov ∙ out), (λ _ _. at v inv ov (slot_at v h fd) refl)))
   where
-    Goal : World → Came Joining World → Type 0
-    Goal v z = Good machine Joining h (λ a. places h (JoinFile fd) a (refused_to fd b a) v) 0 n B es v ⊥ (with_mark h (refused_to fd b) z) (λ l a u. Wp machine h B Q (k a) l (onto (own h (places h (JoinFile fd) a (refused_to fd b a) v)) es) u)
+    Goal : World → Came JoinResult World → Type 0
+    Goal v z = Good machine JoinResult h (λ a. places h (JoinFile fd) a (refused_to fd b a) v) 0 n B es v ⊥ (with_mark h (refused_to fd b) z) (λ l a u. Wp machine h B Q (k a) l (onto (own h (places h (JoinFile fd) a (refused_to fd b a) v)) es) u)
 
     opening_none : (v : World) → own_of h v ≡ O → (v.desks h).opening ≡ None
     opening_none v ov = ap (λ (o : Own). o.desk.opening) ov ∙ idle

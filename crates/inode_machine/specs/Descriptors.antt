@@ -10,7 +10,7 @@ use Rattle.plain_tree.specs.declared.step.Action.TheVariants as steps
 use Rattle.plain_tree.specs.Calls.{piece, piece_count}
 use Rattle.atomic_programs.specs.Prog.{Ret, Do, unmarked}
 use Rattle.inode_machine.specs.Inodes.{Face, stat_of_face}
-use Rattle.inode_machine.specs.World.{Mark, Locking, NotLocked, LocksIt, Joining, NotJoined, Joined, Wrote, Whole, Refused, Short}
+use Rattle.inode_machine.specs.World.{Mark, LockResult, NotLocked, LocksIt, JoinResult, NotJoined, Joined, Wrote, Whole, Refused, Short}
 use Rattle.inode_machine.specs.World.Op.{Give, StatFile, LockFile, ReadFile, CheckFile, JoinFile, LockOpen, WriteFile, Double, Shut, Join, Leave}
 use Rattle.inode_machine.specs.World.Mark.{Fills, Spoils}
 use Rattle.inode_machine.specs.Parts.{P, own_step, failed, full, done, say, drop}
@@ -57,11 +57,11 @@ stat_program fd = Do (StatFile fd) (λ a. own_step (steps.Fstat fd)) (stat_on fd
 abbrev pub read_reply : ℕ → List ℕ → List ℕ → Reply
 read_reply fd buffer b = record { answer = answers.Count (length b); call = calls.Read fd (b ++ past (length b) buffer) }
 
-abbrev pub refused_read : ℕ → ℕ → Locking → Option Mark
+abbrev pub refused_read : ℕ → ℕ → LockResult → Option Mark
 refused_read fd count (NotLocked c) = own_step (steps.Read fd count)
 refused_read fd count (LocksIt n offset) = None
 
-abbrev pub read_on : ℕ → List ℕ → Locking → P Reply
+abbrev pub read_on : ℕ → List ℕ → LockResult → P Reply
 read_on fd buffer (NotLocked c) = Ret (failed (calls.Read fd buffer) c)
 read_on fd buffer (LocksIt n offset) = Do (ReadFile fd n offset (length buffer)) (λ b. own_step (steps.Read fd (length buffer))) (λ b. say (read_reply fd buffer b))
 
@@ -95,11 +95,11 @@ abbrev pub write_from : ℕ → ℕ → List ℕ → ℕ → ℕ → P Reply
 write_from fd n bytes zero i = write_piece fd n bytes i (say (write_reply fd bytes))
 write_from fd n bytes (suc left) i = write_piece fd n bytes i (Do Join unmarked (λ _. write_from fd n bytes left (i + 1)))
 
-abbrev pub refused_to : ℕ → List ℕ → Joining → Option Mark
+abbrev pub refused_to : ℕ → List ℕ → JoinResult → Option Mark
 refused_to fd b (NotJoined c) = own_step (steps.WritePart fd b)
 refused_to fd b (Joined n) = None
 
-abbrev pub joined_on : ℕ → List ℕ → Joining → P Reply
+abbrev pub joined_on : ℕ → List ℕ → JoinResult → P Reply
 joined_on fd bytes (NotJoined c) = Ret (failed (calls.Write fd bytes) c)
 joined_on fd bytes (Joined n) = write_from fd n bytes (piece_count bytes - 1) 0
 

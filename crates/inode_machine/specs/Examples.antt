@@ -13,7 +13,7 @@ use Rattle.plain_tree.specs.Steps.{node_or, with_nodes}
 use Rattle.plain_tree.specs.Tree.{Tree, put, tree_of}
 use Rattle.plain_tree.specs.Widths.{count_limit}
 use Rattle.plain_tree.specs.Fresh.{fresh as fresh_tree}
-use Rattle.atomic_programs.specs.Calls.{Came, Event, Start, Step, Started, Refused, WasIdle, DidWait, DidRun, DidEnd, DidStop, WasStopped, Finished, State, fresh, outcomes, run}
+use Rattle.atomic_programs.specs.Calls.{Came, Event, Start, Step, Started, Refused, WasIdle, DidWait, DidRun, DidEnd, DidStop, WasStopped, FinishedCall, State, fresh, outcomes, run}
 use Rattle.inode_machine.specs.World.{Outside, Room, RoomFor, Picks}
 use Rattle.inode_machine.specs.Exec.{slot_limit, with_entry}
 use Rattle.inode_machine.specs.Theory.{at_rest, covered_calls, Refusal, NoSuchHart, Busy, NotEmptyHart, PathTooLong, ZeroInPath}
@@ -30,7 +30,7 @@ steps h (suc n) = Step h Room ∷ steps h n
 abbrev pub makes : ℕ → Call → ℕ → List (Event Call Outside)
 makes h call n = Start h call ∷ steps h n
 
-abbrev pub replies : List (Finished covered_calls) → List Reply
+abbrev pub replies : List (FinishedCall covered_calls) → List Reply
 replies [] = []
 replies (f ∷ fs) = f.reply ∷ replies fs
 

@@ -13,7 +13,7 @@ use Rattle.tree_laws.specs.WellFormed.{sum_below, one_if}
 use Rattle.atomic_programs.specs.Prog.{Did, Waits, Ran}
 use Rattle.inode_machine.specs.Inodes.{Sort, OfDirectory, OfFile, OfDevice, Face, face_of, face_or, seen_in, no_driver_for}
 use Rattle.tree_moves.specs.Moves.{Walk}
-use Rattle.inode_machine.specs.World.{Mine, Entry, Desk, World, Op, Answer, Claimed, New, NoInode, NoPlace, Entered, InPlace, NoBlock, NoSlot, Locking, NotLocked, LocksIt, Joining, NotJoined, Joined, Wrote, Whole, Refused, Short, Lending, Lent, Moved, Outside, Room, RoomFor, Picks}
+use Rattle.inode_machine.specs.World.{Mine, Entry, Desk, World, Op, Answer, ClaimResult, New, NoInode, NoPlace, EntryResult, InPlace, NoBlock, NoSlot, LockResult, NotLocked, LocksIt, JoinResult, NotJoined, Joined, Wrote, Whole, Refused, Short, LoanResult, Lent, Moved, Outside, Room, RoomFor, Picks}
 use Rattle.inode_machine.specs.World.Op.{Take, Give, UpStart, Up, WalkDown, Down, Free, Forget, Claim, Store, Fill, Enter, Clear, Empty, Slot, Install, StatFile, LockFile, ReadFile, CheckFile, JoinFile, LockOpen, WriteFile, Double, Shut, Settle, Lend, LendDirectory, Release, Join, Leave, Say}
 
 abbrev pub is_nothing : {A : Type 0} → Option A → Bool
@@ -126,7 +126,7 @@ claimed h sort w n = record w {
   alone = put w.alone n true;
 }
 
-abbrev pub claim_if : ℕ → Sort → World → Outside → Did Claimed World
+abbrev pub claim_if : ℕ → Sort → World → Outside → Did ClaimResult World
 claim_if h sort w (Picks n) = if nat_lt (referenced w) place_count then Ran (New n) (claimed h sort w n) else Ran NoPlace w
 claim_if h sort w Room = Ran NoInode w
 claim_if h sort w (RoomFor k) = Ran NoPlace w
@@ -155,12 +155,12 @@ is_full_directory v = (length (all_slots v) == slot_limit) && all_used (all_slot
 abbrev pub with_entry : Name → ℕ → Node → Node
 with_entry e n v = record v { kind = Directory (first_free (slots_of v.kind) (record { name = e; number = n })) }
 
-abbrev pub enter_in : ℕ → Name → ℕ → World → Outside → Did Entered World
+abbrev pub enter_in : ℕ → Name → ℕ → World → Outside → Did EntryResult World
 enter_in d e n w Room = Ran InPlace (changed_record w d (with_entry e n))
 enter_in d e n w (RoomFor k) = Ran NoBlock w
 enter_in d e n w (Picks k) = Ran NoBlock w
 
-abbrev pub enter_if : ℕ → Name → ℕ → World → Outside → Bool → Did Entered World
+abbrev pub enter_if : ℕ → Name → ℕ → World → Outside → Bool → Did EntryResult World
 enter_if d e n w x true = Ran NoSlot w
 enter_if d e n w x false = enter_in d e n w x
 
@@ -296,7 +296,7 @@ abbrev pub offset_of : Option Entry → ℕ
 offset_of None = 0
 offset_of (Some e) = e.file.offset
 
-abbrev pub lock_at : ℕ → World → Option Entry → Option Cause → Did Locking World
+abbrev pub lock_at : ℕ → World → Option Entry → Option Cause → Did LockResult World
 lock_at h w e (Some c) = Ran (NotLocked c) w
 lock_at h w None None = Ran (NotLocked BadDescriptor) w
 lock_at h w (Some e) None = lock_if h e.file.number (LocksIt e.file.number e.file.offset) w (locked h e.file.number w) (w.lock e.file.number)
@@ -309,7 +309,7 @@ read_at w n count s (Some e) =
 abbrev pub with_joined : World → ℕ → Bool → World
 with_joined w h b = record w { desks = put w.desks h (record (w.desks h) { joined = b }) }
 
-abbrev pub join_at : ℕ → World → Option Entry → Option Cause → Did Joining World
+abbrev pub join_at : ℕ → World → Option Entry → Option Cause → Did JoinResult World
 join_at h w e (Some c) = Ran (NotJoined c) w
 join_at h w None None = Ran (NotJoined BadDescriptor) w
 join_at h w (Some e) None = Ran (Joined e.file.number) (with_joined w h true)
@@ -389,7 +389,7 @@ abbrev pub lend_last : World → ℕ → ℕ → Option ℕ → World
 lend_last w h child None = handed w h child
 lend_last w h child (Some j) = w
 
-abbrev pub lend_if : ℕ → World → ℕ → Option ℕ → Did Lending World
+abbrev pub lend_if : ℕ → World → ℕ → Option ℕ → Did LoanResult World
 lend_if h w child None = Ran (Moved (w.desks child).directory) (moved_in w h child)
 lend_if h w child (Some i) =
     Ran (Lent i (not (is_nothing (next_used (i + 1) (w.desks h).fds)))) (lend_last (with_lent w h i) h child (next_used (i + 1) (w.desks h).fds))

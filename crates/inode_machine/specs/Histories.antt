@@ -8,14 +8,14 @@ use Rattle.plain_tree.specs.Explains.{Chain, Explains, trace_of}
 use Rattle.atomic_programs.specs.Calls.{Event, AllHonest, fresh, run}
 use Rattle.inode_machine.specs.World.{Op, Answer, Mark, World, Outside, stage_of}
 use Rattle.inode_machine.specs.Marks.{go, places}
-use Rattle.inode_machine.specs.MoveCalls.{Moving, Alone, NoneClimbs, shows}
+use Rattle.inode_machine.specs.MoveCalls.{MoveMachine, Alone, NoneClimbs, shows}
 use Rattle.inode_machine.specs.Programs.{program, limit}
 use Rattle.inode_machine.specs.Rules as rules
 use Rattle.inode_machine.specs.Rules.{Inv, Idle}
 use Rattle.inode_machine.specs.Theory.{Refusal, Busy, covered_calls}
 
 -- the machine with its calls, as one of moves on the tree
-abbrev pub covered : Moving
+abbrev pub covered : MoveMachine
 covered =
     record {
       Op = Op;

@@ -82,10 +82,10 @@ abbrev pub stat_of_face : ℕ → Face → Stat
 stat_of_face n f = record { device = root_device; inode = n; kind = type_of_sort f.sort; nlink = f.count; size = f.size }
 
 -- What is looked for in an inode whose lock is taken: nothing, a name, or whether a directory has entries.
-pub data Looking : Type 0 where
-  AtNothing : Looking
-  AtName : Name → Looking
-  AtEntries : Looking
+pub data Query : Type 0 where
+  AtNothing : Query
+  AtName : Name → Query
+  AtEntries : Query
 
 -- no slot past the first two is used
 abbrev pub is_empty_kind : Kind → Bool
@@ -97,21 +97,21 @@ abbrev pub is_empty_node : Option Node → Bool
 is_empty_node None = true
 is_empty_node (Some v) = is_empty_kind v.kind
 
-pub record Seen : Type 0 where
+pub record Sight : Type 0 where
   pub face : Option Face
   pub found : Option ℕ
   pub empty : Bool
 
-abbrev pub found_in : ℕ → Option Node → Looking → Option ℕ
+abbrev pub found_in : ℕ → Option Node → Query → Option ℕ
 found_in n v AtNothing = None
 found_in n v (AtName e) = look (λ j. v) n e
 found_in n v AtEntries = None
 
 -- told where it was looked for, and taken for empty elsewhere
-abbrev pub empty_in : Option Node → Looking → Bool
+abbrev pub empty_in : Option Node → Query → Bool
 empty_in v AtNothing = true
 empty_in v (AtName e) = true
 empty_in v AtEntries = is_empty_node v
 
-abbrev pub seen_in : ℕ → Looking → Option Node → Seen
+abbrev pub seen_in : ℕ → Query → Option Node → Sight
 seen_in n looking v = record { face = face_of v; found = found_in n v looking; empty = empty_in v looking }

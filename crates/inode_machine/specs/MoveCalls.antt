@@ -13,10 +13,10 @@ use Rattle.tree_laws.specs.WellFormed.{IsWellFormed}
 use Rattle.atomic_programs.specs.Prog.{Prog, Did}
 use Rattle.atomic_programs.specs.Logic.{Machine}
 use Rattle.atomic_programs.specs.Calls.{Theory, Began, Begins, Lawful, Event, Start, Step, Outcome, Started, Refused, WasIdle, DidWait, DidRun, DidEnd, DidStop, WasStopped, State, AllHonest, fresh, makes, next, run}
-use Rattle.tree_moves.specs.Moves.{Stage, Step as MoveStep, Takes, Written}
+use Rattle.tree_moves.specs.Moves.{Stage, Step as MoveStep, Takes, IsWholeCall}
 
 -- a machine whose steps are moves of a call on the tree, and calls over it
-pub record Moving : Type 1 where
+pub record MoveMachine : Type 1 where
   pub Op : Type 0
   pub Answer : Op → Type 0
   pub Mark : Type 0
@@ -40,7 +40,7 @@ pub record Moving : Type 1 where
   pub program : Call → Prog Op Answer Mark Reply
   pub limit : Call → ℕ
 
-abbrev pub machine_of : Moving → Machine
+abbrev pub machine_of : MoveMachine → Machine
 machine_of m =
     record {
       Op = m.Op;
@@ -65,7 +65,7 @@ machine_of m =
       Clean = m.Clean;
     }
 
-abbrev pub theory_of : Moving → Theory
+abbrev pub theory_of : MoveMachine → Theory
 theory_of m =
     record {
       M = machine_of m;
@@ -75,7 +75,7 @@ theory_of m =
       start = m.start;
       busy = m.busy;
       program = m.program;
-      Written = Written;
+      Written = IsWholeCall;
       limit = m.limit;
     }
 
@@ -124,7 +124,7 @@ abbrev pub Alone : {Outside : Type 0} → ℕ → List (Event Call Outside) → 
 Alone h [] = Unit {0}
 Alone h (e ∷ es) = StartsBy h e × Alone h es
 
-module _ (m : Moving) where
+module _ (m : MoveMachine) where
   abbrev pub shows : List (Event Call m.Outside) → State (theory_of m) → List Shown
   shows [] s = []
   shows (e ∷ es) s = shown_by e (makes (theory_of m) e s).came ∷ shows es (next (theory_of m) e s)

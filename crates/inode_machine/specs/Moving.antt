@@ -8,7 +8,7 @@ use Rattle.plain_tree.specs.Tree.{elements}
 use Rattle.plain_tree.specs.Widths.{descriptor_count}
 use Rattle.atomic_programs.specs.Prog.{Ret, Do, unmarked}
 use Rattle.inode_machine.specs.Inodes.{AtNothing, is_directory_face}
-use Rattle.inode_machine.specs.World.{Mark, Lending, Lent, Moved}
+use Rattle.inode_machine.specs.World.{Mark, LoanResult, Lent, Moved}
 use Rattle.inode_machine.specs.World.Op.{Take, Settle, Lend, LendDirectory, Release, Join, Leave}
 use Rattle.inode_machine.specs.Parts.{P, own_step, failed, done, drop, give_up, tail, stopped, walk, start}
 
@@ -31,7 +31,7 @@ chdir_program path =
 -- inherit: each descriptor in turn, then the directory; the child's old one is dropped
 
 -- the child has all with the last descriptor, or with the directory where there is none
-abbrev pub lends : ℕ → Lending → Option Mark
+abbrev pub lends : ℕ → LoanResult → Option Mark
 lends child (Lent i true) = None
 lends child (Lent i false) = own_step (steps.Inherit child)
 lends child (Moved old) = own_step (steps.Inherit child)
@@ -42,7 +42,7 @@ inherit_end child old = Do Join unmarked (λ _. drop old (Do Leave unmarked (λ 
 abbrev pub lent_directory : ℕ → P Reply
 lent_directory child = Do (LendDirectory child) unmarked (λ old. inherit_end child old)
 
-abbrev pub lend_on : ℕ → (ℕ → P Reply) → Lending → P Reply
+abbrev pub lend_on : ℕ → (ℕ → P Reply) → LoanResult → P Reply
 lend_on child again (Lent i true) = again (i + 1)
 lend_on child again (Lent i false) = lent_directory child
 lend_on child again (Moved old) = inherit_end child old

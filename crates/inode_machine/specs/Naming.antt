@@ -11,16 +11,16 @@ use Rattle.plain_tree.specs.declared.step.Action.TheVariants as steps
 use Rattle.plain_tree.specs.Tree.{Name, elements, same_name, dot, dotdot}
 use Rattle.plain_tree.specs.Widths.{count_limit}
 use Rattle.atomic_programs.specs.Prog.{Do, unmarked}
-use Rattle.inode_machine.specs.Inodes.{OfDirectory, Face, face_or, Seen, AtNothing, AtName, AtEntries, is_directory_sort, is_live_face}
+use Rattle.inode_machine.specs.Inodes.{OfDirectory, Face, face_or, Sight, AtNothing, AtName, AtEntries, is_directory_sort, is_live_face}
 use Rattle.tree_moves.specs.Moves.Move.{Begin, Look}
-use Rattle.inode_machine.specs.World.{Mark, Claimed, New, NoInode, NoPlace, Entered, InPlace, NoBlock, NoSlot}
+use Rattle.inode_machine.specs.World.{Mark, ClaimResult, New, NoInode, NoPlace, EntryResult, InPlace, NoBlock, NoSlot}
 use Rattle.inode_machine.specs.World.Op.{Take, Give, Up, Forget, Claim, Store, Fill, Enter, Clear, Join}
 use Rattle.inode_machine.specs.World.Mark.{Mends}
 use Rattle.inode_machine.specs.Parts.{P, makes, own_step, mends_if_full, failed, full, done, drop, give_up, tail, stopped, walk, walk_parent, start, looks_if, looks_where, is_there}
 use Rattle.inode_machine.specs.Opening.{entered_file, unmake, mends_unless_new}
 
 -- no room was found for a name
-abbrev pub no_room : Call → Entered → Reply
+abbrev pub no_room : Call → EntryResult → Reply
 no_room c InPlace = done c
 no_room c NoBlock = full c Blocks
 no_room c NoSlot = full c Directory
@@ -61,7 +61,7 @@ abbrev pub unlink_found : List ℕ → ℕ → Name → List ℕ → Face → Op
 unlink_found path d e ns f None = give_up d (tail ns (failed (calls.Unlink path) NoEntry))
 unlink_found path d e ns f (Some n) = if n == d then give_up d (tail ns (failed (calls.Unlink path) NoEntry)) else unlink_other path d e ns f n
 
-abbrev pub is_missing : Seen → Bool
+abbrev pub is_missing : Sight → Bool
 is_missing a = not (is_there a)
 
 abbrev pub unlink_named : List ℕ → ℕ → Name → List ℕ → P Reply
@@ -72,7 +72,7 @@ abbrev pub or_missing : Cause → Bool → Cause
 or_missing k true = k
 or_missing k false = NoEntry
 
-abbrev pub always : Seen → Bool
+abbrev pub always : Sight → Bool
 always a = true
 
 abbrev pub unlink_dots : List ℕ → ℕ → List ℕ → P Reply
@@ -87,7 +87,7 @@ unlink_program path = in_parent (calls.Unlink path) (steps.Unlink path) path (un
 
 -- Mkdir. The new directory with its two entries first, then its name and its parent's count.
 
-abbrev pub name_directory : List ℕ → ℕ → Face → ℕ → List ℕ → Entered → P Reply
+abbrev pub name_directory : List ℕ → ℕ → Face → ℕ → List ℕ → EntryResult → P Reply
 name_directory path d f n ns InPlace =
     Do (Store d (f.count + 1)) unmarked (λ _.
     give_up d
@@ -106,7 +106,7 @@ mkdir_other path d e ns f n =
     then Do (Enter d e n) (entered_file n) (name_directory path d f n ns)
     else unmake n d ns (full (calls.Mkdir path) Blocks))))
 
-abbrev pub mkdir_with : List ℕ → ℕ → Name → List ℕ → Face → Claimed → P Reply
+abbrev pub mkdir_with : List ℕ → ℕ → Name → List ℕ → Face → ClaimResult → P Reply
 mkdir_with path d e ns f NoInode = give_up d (tail ns (full (calls.Mkdir path) DiskInodes))
 mkdir_with path d e ns f NoPlace = give_up d (tail ns (full (calls.Mkdir path) MemInodes))
 mkdir_with path d e ns f (New n) = if n == d then Do (Forget n) unmarked (λ _. give_up d (tail ns (full (calls.Mkdir path) MemInodes))) else mkdir_other path d e ns f n
@@ -143,13 +143,13 @@ lower old new n r ns =
     give_up n
     (tail ns r)))
 
-abbrev pub named_on : List ℕ → List ℕ → ℕ → ℕ → List ℕ → Entered → P Reply
+abbrev pub named_on : List ℕ → List ℕ → ℕ → ℕ → List ℕ → EntryResult → P Reply
 named_on old new n d ns InPlace = give_up d (drop n (tail ns (done (calls.Link old new))))
 named_on old new n d ns NoBlock = give_up d (lower old new n (full (calls.Link old new) Blocks) ns)
 named_on old new n d ns NoSlot = give_up d (lower old new n (full (calls.Link old new) Directory) ns)
 
 -- a name is entered for a node that is there
-abbrev pub enters : Entered → Option Mark
+abbrev pub enters : EntryResult → Option Mark
 enters InPlace = makes (Look 0)
 enters NoBlock = Some Mends
 enters NoSlot = Some Mends

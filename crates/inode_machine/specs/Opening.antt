@@ -13,7 +13,7 @@ use Rattle.plain_tree.specs.Steps.{has, write_only, read_write, empty_it, create
 use Rattle.atomic_programs.specs.Prog.{Do, unmarked}
 use Rattle.inode_machine.specs.Inodes.{Sort, OfFile, face_or, AtNothing, AtName, is_file_sort, is_live_face, open_refusal}
 use Rattle.tree_moves.specs.Moves.Move.{Begin, Look}
-use Rattle.inode_machine.specs.World.{Mark, Claimed, New, NoInode, NoPlace, Entered, InPlace, NoBlock, NoSlot}
+use Rattle.inode_machine.specs.World.{Mark, ClaimResult, New, NoInode, NoPlace, EntryResult, InPlace, NoBlock, NoSlot}
 use Rattle.inode_machine.specs.World.Op.{Take, Give, Up, Forget, Claim, Store, Enter, Empty, Slot, Install, Join}
 use Rattle.inode_machine.specs.World.Mark.{Mends, Orphans}
 use Rattle.inode_machine.specs.Parts.{P, makes, own_step, mends_if_full, failed, full, drop, give_up, tail, stopped, walk, walk_parent, start, looks_where, is_there}
@@ -78,7 +78,7 @@ truncates flags fd = if has flags empty_it then own_step (steps.Truncate fd) els
 abbrev pub open_made : List ℕ → ℕ → ℕ → Sort → List ℕ → P Reply
 open_made path flags n sort ns = take_descriptor path flags n sort ns (truncates flags) (open_end path flags n ns)
 
-abbrev pub entered_file : ℕ → Entered → Option Mark
+abbrev pub entered_file : ℕ → EntryResult → Option Mark
 entered_file n InPlace = makes (Look n)
 entered_file n NoBlock = Some Mends
 entered_file n NoSlot = Some Mends
@@ -87,12 +87,12 @@ entered_file n NoSlot = Some Mends
 abbrev pub unmake : ℕ → ℕ → List ℕ → Reply → P Reply
 unmake n d ns r = Do (Store n 0) (λ _. Some (Orphans n)) (λ _. give_up n (give_up d (tail ns r)))
 
-abbrev pub make_on : List ℕ → ℕ → ℕ → Sort → ℕ → List ℕ → Entered → P Reply
+abbrev pub make_on : List ℕ → ℕ → ℕ → Sort → ℕ → List ℕ → EntryResult → P Reply
 make_on path flags n sort d ns InPlace = Do (Give d) unmarked (λ _. drop d (open_made path flags n sort ns))
 make_on path flags n sort d ns NoBlock = unmake n d ns (full (calls.Open path flags) Blocks)
 make_on path flags n sort d ns NoSlot = unmake n d ns (full (calls.Open path flags) Directory)
 
-abbrev pub mends_unless_new : Claimed → Option Mark
+abbrev pub mends_unless_new : ClaimResult → Option Mark
 mends_unless_new (New n) = None
 mends_unless_new NoInode = Some Mends
 mends_unless_new NoPlace = Some Mends
@@ -104,7 +104,7 @@ make_other path flags d e ns n =
     Do (Store n 1) unmarked (λ _.
     Do (Enter d e n) (entered_file n) (make_on path flags n (face_or a.face).sort d ns)))
 
-abbrev pub make_with : List ℕ → ℕ → ℕ → Name → List ℕ → Claimed → P Reply
+abbrev pub make_with : List ℕ → ℕ → ℕ → Name → List ℕ → ClaimResult → P Reply
 make_with path flags d e ns NoInode = give_up d (tail ns (full (calls.Open path flags) DiskInodes))
 make_with path flags d e ns NoPlace = give_up d (tail ns (full (calls.Open path flags) MemInodes))
 make_with path flags d e ns (New n) = if n == d then Do (Forget n) unmarked (λ _. give_up d (tail ns (full (calls.Open path flags) MemInodes))) else make_other path flags d e ns n

@@ -10,7 +10,7 @@ use Rattle.plain_tree.specs.declared.call.Call.{Call}
 use Rattle.plain_tree.specs.declared.step.Action.{Action}
 use Rattle.plain_tree.specs.Tree.{Name, is_absolute}
 use Rattle.atomic_programs.specs.Prog.{Prog, Ret, Do, unmarked}
-use Rattle.inode_machine.specs.Inodes.{Seen, AtNothing, AtName, is_live_face, is_directory_face}
+use Rattle.inode_machine.specs.Inodes.{Sight, AtNothing, AtName, is_live_face, is_directory_face}
 use Rattle.tree_moves.specs.Moves.{Move}
 use Rattle.tree_moves.specs.Moves.Move.{Begin, Look, Quit, Own}
 use Rattle.inode_machine.specs.World.{Op, Answer, Mark}
@@ -84,7 +84,7 @@ abbrev pub leave_directory : {A : Type 0} → ℕ → List ℕ → (List ℕ →
 leave_directory d ns k = Do (Give d) unmarked (λ _. Do (WalkDown d) unmarked (λ last. k (with_last ns d last)))
 
 -- the lookup is a move of the walk; where the directory has no links, or is none, the walk is lost
-abbrev pub looks_or_quits : Action → Seen → Option Mark
+abbrev pub looks_or_quits : Action → Sight → Option Mark
 looks_or_quits s a = if is_live_face a.face then makes (Look 0) else makes (Quit s)
 
 abbrev pub walk_step : {A : Type 0} → ℕ → List ℕ → (ℕ → List ℕ → P A) → (Stop → List ℕ → P A) → Option ℕ → P A
@@ -129,12 +129,12 @@ abbrev pub looks_if : Bool → Option Mark
 looks_if true = makes (Look 0)
 looks_if false = None
 
-abbrev pub looks_where : Action → (Seen → Bool) → Seen → Option Mark
+abbrev pub looks_where : Action → (Sight → Bool) → Sight → Option Mark
 looks_where s refuses a = if is_live_face a.face then looks_if (refuses a) else makes (Quit s)
 
 abbrev pub is_some : {A : Type 0} → Option A → Bool
 is_some None = false
 is_some (Some x) = true
 
-abbrev pub is_there : Seen → Bool
+abbrev pub is_there : Sight → Bool
 is_there a = is_some a.found

@@ -11,8 +11,8 @@ use Rattle.tree_laws.specs.WellFormed.{sum_below, one_if, IsWellFormed}
 use Rattle.tree_moves.specs.Moves.{Walk}
 use Rattle.atomic_programs.specs.Logic.{Machine}
 use Rattle.tree_moves.specs.Moves.{Stage, Step, Takes}
-use Rattle.inode_machine.specs.Inodes.{OfDirectory, sort_of, Looking}
-use Rattle.inode_machine.specs.Inodes.Looking.{AtNothing, AtName, AtEntries}
+use Rattle.inode_machine.specs.Inodes.{OfDirectory, sort_of, Query}
+use Rattle.inode_machine.specs.Inodes.Query.{AtNothing, AtName, AtEntries}
 use Rattle.inode_machine.specs.World.{Mine, Entry, Note, Desk, World, Op, Answer, Mark, Outside, stage_of}
 use Rattle.inode_machine.specs.World.Op.{Take, Give, UpStart, Up, WalkDown, Down, Free, Forget, Claim, Store, Fill, Enter, Clear, Empty, Slot, Install, StatFile, LockFile, ReadFile, CheckFile, JoinFile, LockOpen, WriteFile, Double, Shut, Settle, Lend, LendDirectory, Release, Join, Leave, Say}
 use Rattle.inode_machine.specs.World.Outside.{Room, RoomFor, Picks}
@@ -108,11 +108,11 @@ pub record Opens (fds : ℕ → Option ℕ) (files : ℕ → Option Entry) (n : 
   pub number : entry.file.number ≡ n
 
 -- a reference stands: of a descriptor of the hart, or of the hart itself
-abbrev pub Pinned : (desks : ℕ → Desk) (files : ℕ → Option Entry) (harts : ℕ → Mine) (g n : ℕ) → Type 0
-Pinned desks files harts g n = Opens (desks g).fds files n ⊎ (0 < (harts g).refs n)
+abbrev pub IsReferredTo : (desks : ℕ → Desk) (files : ℕ → Option Entry) (harts : ℕ → Mine) (g n : ℕ) → Type 0
+IsReferredTo desks files harts g n = Opens (desks g).fds files n ⊎ (0 < (harts g).refs n)
 
-abbrev pub Reached : World → ℕ → ℕ → Type 0
-Reached w g n = (0 < (w.harts g).refs n) ⊎ ((w.harts g).pending ≡ Some n)
+abbrev pub IsReached : World → ℕ → ℕ → Type 0
+IsReached w g n = (0 < (w.harts g).refs n) ⊎ ((w.harts g).pending ≡ Some n)
 
 -- The open-file table beside the tree's open files.
 
@@ -154,7 +154,7 @@ pub record IsOpening (s : Shop) (g i : ℕ) : Type 0 where
   pub offset : file.offset ≡ 0
   pub only : (j l : ℕ) → j < hart_count → l < descriptor_count → s.tree_fds j l ≡ Some id → (j ≡ g) × (l ≡ i)
 
-pub record Tied (s : Shop) : Type 0 where
+pub record IsTied (s : Shop) : Type 0 where
   -- a hart's descriptors are the tree's, but for what it is opening
   pub fds : (g i : ℕ) → g < hart_count → i < descriptor_count → is_at (s.desks g).opening i ≡ false → s.tree_fds g i ≡ id_at s.ids ((s.desks g).fds i)
   pub fresh : (g i : ℕ) → g < hart_count → (s.desks g).opening ≡ Some i → IsOpening s g i
@@ -228,21 +228,21 @@ pub record Inv (w : World) : Type 0 where
   -- who has the lock keeps it
   pub keeps : (i g : ℕ) → w.lock i ≡ Some g → w.keeper i ≡ Some g
   -- who keeps it has a reference
-  pub kept : (i g : ℕ) → w.keeper i ≡ Some g → (g < hart_count) × Pinned w.desks w.files w.harts g i
+  pub kept : (i g : ℕ) → w.keeper i ≡ Some g → (g < hart_count) × IsReferredTo w.desks w.files w.harts g i
   -- by its lock, or alone
   pub held : (i g : ℕ) → w.keeper i ≡ Some g → (w.lock i ≡ Some g) ⊎ (w.alone i ≡ true)
   pub alone : (i : ℕ) → w.alone i ≡ true → IsAlone w.keeper w.all.nodes w.refs w.harts i
   -- each reference is of a hart or of an open file
   pub counts : (i : ℕ) → w.refs i ≡ w.slots i + sum_below hart_count (λ g. (w.harts g).refs i)
   pub refers : (g : ℕ) → g < hart_count → References (w.harts g) (w.desks g)
-  pub tied : Tied (shop_of w)
+  pub tied : IsTied (shop_of w)
   pub sorts : (k : ℕ) (e : Entry) → w.files k ≡ Some e → HasType w.all.nodes e
   -- what a hart itself names it refers to, or it stands in a directory that the hart keeps; unless it gets another's
-  pub named : (g i : ℕ) → g < hart_count → (w.desks g).lender ≡ None → own_names (row_of w.all g) (w.desks g) i ≡ true → Reached w g i
+  pub named : (g i : ℕ) → g < hart_count → (w.desks g).lender ≡ None → own_names (row_of w.all g) (w.desks g) i ≡ true → IsReached w g i
   pub pending : (g i : ℕ) → g < hart_count → (w.harts g).pending ≡ Some i → Found w.keeper w.all.nodes g i
-  pub walks : (g : ℕ) (k : Walk) → g < hart_count → (w.harts g).walk ≡ Some k → Reached w g k.at
+  pub walks : (g : ℕ) (k : Walk) → g < hart_count → (w.harts g).walk ≡ Some k → IsReached w g k.at
   -- while it refers to what it found, and doesn't free it, that has the type that it had
-  pub noted : (g : ℕ) (n : Note) → g < hart_count → (w.desks g).noted ≡ Some n → Reached w g n.number → w.alone n.number ≡ false → sort_of (w.all.nodes n.number) ≡ n.sort
+  pub noted : (g : ℕ) (n : Note) → g < hart_count → (w.desks g).noted ≡ Some n → IsReached w g n.number → w.alone n.number ≡ false → sort_of (w.all.nodes n.number) ≡ n.sort
   pub directory : (g : ℕ) → g < hart_count → Stands (w.desks g) (w.all.cwd g) w.all.nodes
   -- who has raised a count for a link that is under way is in a transaction
   pub raised : (g : ℕ) → g < hart_count → holds_raised true (w.all.holds g) ≡ true → (w.desks g).joined ≡ true
@@ -282,7 +282,7 @@ pub record IsName (e : Name) : Type 0 where
   pub text : IsText e
 
 -- what is looked for is a name
-abbrev pub Sought : Looking → Type 0
+abbrev pub Sought : Query → Type 0
 Sought AtNothing = Unit {0}
 Sought (AtName e) = IsName e
 Sought AtEntries = Unit {0}
@@ -417,7 +417,7 @@ load_cost = 3
 abbrev pub search_cost : ℕ
 search_cost = 1608
 
-abbrev pub looking_cost : Looking → ℕ
+abbrev pub looking_cost : Query → ℕ
 looking_cost AtNothing = 3
 looking_cost (AtName e) = 1611
 looking_cost AtEntries = 1611

@@ -7,8 +7,8 @@ use Rattle.plain_tree.specs.Tree.{Tree, put, any_below}
 use Rattle.plain_tree.specs.Widths.{hart_count, descriptor_count}
 use Rattle.tree_laws.specs.WellFormed.{one_if, sum_below, IsWellFormed}
 use Rattle.atomic_programs.specs.Calls.{Theory, Began, Refuses, Begins, Event, AllHonest, run, fresh}
-use Rattle.atomic_programs.specs.Explained.{Explained}
-use Rattle.tree_moves.specs.Moves.{Written}
+use Rattle.atomic_programs.specs.Explained.{IsExplained}
+use Rattle.tree_moves.specs.Moves.{IsWholeCall}
 use Rattle.inode_machine.specs.World.{Mine, Desk, World, Outside, stage_of}
 use Rattle.plain_tree.specs.declared.tree.OpenFile.{OpenFile}
 use Rattle.plain_tree.specs.declared.node.Node.{Node}
@@ -127,13 +127,13 @@ calls_that kind =
       start = λ h call busy w. begin_if (kind call) h call busy w;
       busy = Busy;
       program = program;
-      Written = Written;
+      Written = IsWholeCall;
       limit = limit;
     }
 
 -- Every list of events, of any harts, from a world that holds and where every hart rests, is explained by one list of tree steps.
 abbrev pub AreExplained : (Call → Bool) → Type 0
-AreExplained kind = (w : World) (events : List (Event Call Outside)) → Inv w → ((h : ℕ) → Idle h w) → AllHonest (calls_that kind) events (fresh (calls_that kind) w) → Explained (calls_that kind) (stage_of w) (run (calls_that kind) events (fresh (calls_that kind) w))
+AreExplained kind = (w : World) (events : List (Event Call Outside)) → Inv w → ((h : ℕ) → Idle h w) → AllHonest (calls_that kind) events (fresh (calls_that kind) w) → IsExplained (calls_that kind) (stage_of w) (run (calls_that kind) events (fresh (calls_that kind) w))
 
 abbrev pub descriptor_calls : Theory
 descriptor_calls = calls_that on_descriptors

@@ -5,7 +5,7 @@ use Rattle.plain_tree.specs.declared.answer.Cause.{Cause}
 use Rattle.plain_tree.specs.declared.step.Action.{Action}
 use Rattle.plain_tree.specs.Tree.{Name, Tree, settle}
 use Rattle.plain_tree.specs.declared.tree.OpenFile.{OpenFile}
-use Rattle.inode_machine.specs.Inodes.{Sort, Face, Looking, Seen}
+use Rattle.inode_machine.specs.Inodes.{Sort, Face, Query, Sight}
 use Rattle.tree_moves.specs.Moves.{Walk, Stage, Move}
 
 -- a hart's references, counted for it, and its walk
@@ -65,7 +65,7 @@ stage_of w = record { tree = settle w.all; walk = λ h. (w.harts h).walk }
 -- Each operation is one step of a hart. One that takes a lock waits where that is out, and no other waits.
 pub data Op : Type 0 where
   -- an inode's lock is taken, and the inode looked at; given up
-  Take : ℕ → Looking → Op
+  Take : ℕ → Query → Op
   Give : ℕ → Op
   -- a reference more: to a path's start (true: to the root), to what was found
   UpStart : Bool → Op
@@ -115,26 +115,26 @@ pub data Op : Type 0 where
   Say : Op
 
 -- a new inode, or none is free, or no place in memory is
-pub data Claimed : Type 0 where
-  New : ℕ → Claimed
-  NoInode : Claimed
-  NoPlace : Claimed
+pub data ClaimResult : Type 0 where
+  New : ℕ → ClaimResult
+  NoInode : ClaimResult
+  NoPlace : ClaimResult
 
 -- a name is entered, or no block is left, or the directory has all its slots
-pub data Entered : Type 0 where
-  InPlace : Entered
-  NoBlock : Entered
-  NoSlot : Entered
+pub data EntryResult : Type 0 where
+  InPlace : EntryResult
+  NoBlock : EntryResult
+  NoSlot : EntryResult
 
 -- the lock was taken of this inode, and the file stands at this offset; or the descriptor isn't for that
-pub data Locking : Type 0 where
-  NotLocked : Cause → Locking
-  LocksIt : ℕ → ℕ → Locking
+pub data LockResult : Type 0 where
+  NotLocked : Cause → LockResult
+  LocksIt : ℕ → ℕ → LockResult
 
 -- the transaction is joined for this inode
-pub data Joining : Type 0 where
-  NotJoined : Cause → Joining
-  Joined : ℕ → Joining
+pub data JoinResult : Type 0 where
+  NotJoined : Cause → JoinResult
+  Joined : ℕ → JoinResult
 
 -- a piece was written, refused, or so many bytes of it were written, since no block was left
 pub data Wrote : Type 0 where
@@ -143,12 +143,12 @@ pub data Wrote : Type 0 where
   Short : ℕ → Wrote
 
 -- a descriptor was handed on, and whether more are to come; or there was none, and the directory was: the old one's number
-pub data Lending : Type 0 where
-  Lent : ℕ → Bool → Lending
-  Moved : ℕ → Lending
+pub data LoanResult : Type 0 where
+  Lent : ℕ → Bool → LoanResult
+  Moved : ℕ → LoanResult
 
 abbrev pub Answer : Op → Type 0
-Answer (Take n looking) = Seen
+Answer (Take n looking) = Sight
 Answer (Give n) = Unit {0}
 Answer (UpStart absolute) = Option ℕ
 Answer (Up n) = Bool
@@ -156,25 +156,25 @@ Answer (WalkDown n) = Bool
 Answer (Down n) = Bool
 Answer (Free n) = Unit {0}
 Answer (Forget n) = Unit {0}
-Answer (Claim sort) = Claimed
+Answer (Claim sort) = ClaimResult
 Answer (Store n count) = Unit {0}
 Answer (Fill n d) = Bool
-Answer (Enter d e n) = Entered
+Answer (Enter d e n) = EntryResult
 Answer (Clear d e) = Unit {0}
 Answer (Empty n) = Unit {0}
 Answer Slot = Bool
 Answer (Install f sort) = Option ℕ
 Answer (StatFile fd) = Option (ℕ × Face)
-Answer (LockFile fd) = Locking
+Answer (LockFile fd) = LockResult
 Answer (ReadFile fd n offset count) = List ℕ
 Answer (CheckFile fd) = Option Cause
-Answer (JoinFile fd) = Joining
+Answer (JoinFile fd) = JoinResult
 Answer (LockOpen fd n) = ℕ × ℕ
 Answer (WriteFile fd n offset bytes) = Wrote
 Answer (Double fd) = Option (Option ℕ)
 Answer (Shut fd) = Option (Option ℕ)
 Answer (Settle n) = ℕ
-Answer (Lend child from) = Lending
+Answer (Lend child from) = LoanResult
 Answer (LendDirectory child) = ℕ
 Answer (Release child) = Unit {0}
 Answer Join = Unit {0}

@@ -5,7 +5,7 @@ use Rattle.fs_layout.specs.declared.superblock.Super.{Super}
 use Rattle.fs_layout.specs.Inode.{dinode_at}
 use Rattle.fs_layout.specs.Widths.{addresses, inodes_per_block}
 use Rattle.atomic_programs.specs.Prog.{Prog, Ret, Do, bind, unmarked}
-use Rattle.fs_machine.specs.Steps.{Op, Answer, Put, Claim, Claimed, Claims, NoPlace as HasNoPlace, NoInode as HasNoInode}
+use Rattle.fs_machine.specs.Steps.{Op, Answer, Put, Claim, ClaimResult, Claims, NoPlace as HasNoPlace, NoInode as HasNoInode}
 use Rattle.fs_machine.specs.Programs.{fetch}
 use Rattle.inode_table.specs.Programs.{place_of, with_dinode}
 use Rattle.inode_table.specs.declared.new_inode.Made.{Made}
@@ -37,7 +37,7 @@ abbrev pub new_record : ℤ → Dinode → Dinode
 new_record kind old = record { kind = kind; major = old.major; minor = old.minor; nlink = pos 0; size = 0; addrs = replicate addresses 0 }
 
 -- the block is recorded with the inode that was claimed; or it is given back as it was, where no inode in memory was free; or it was given back
-abbrev pub make_in : {M : Type 0} → Prog Op Answer M Made → ℤ → ℕ → List ℕ → Claimed → Prog Op Answer M Made
+abbrev pub make_in : {M : Type 0} → Prog Op Answer M Made → ℤ → ℕ → List ℕ → ClaimResult → Prog Op Answer M Made
 make_in more kind b block (Claims n) = Do (Put b (Some (with_dinode n (new_record kind (dinode_at (place_of n) block)) block))) unmarked (λ _. Ret (Inode n))
 make_in more kind b block HasNoPlace = Do (Put b None) unmarked (λ _. Ret NoPlace)
 make_in more kind b block HasNoInode = more

@@ -36,7 +36,7 @@ use Rattle.inode_machine.specs.World as above
 use Rattle.inode_machine.specs.Rules.{if_kept, Inv}
 use Rattle.inodes_on_blocks.specs.Below.{World, log_of, disk_of}
 use Rattle.inodes_on_blocks.specs.Giving.{world_with, KeepsRoom}
-use Rattle.inodes_on_blocks.specs.Holding.{in_hand, Fetched}
+use Rattle.inodes_on_blocks.specs.Holding.{in_hand, IsFetched}
 use Rattle.inodes_on_blocks.specs.Lowering.{Kept, Carry, buffer_in, below, Labels, labelled, Keeps}
 use Rattle.inodes_on_blocks.specs.Recording.{IsChanging}
 use Rattle.inodes_on_blocks.specs.Shown.{Shows}
@@ -163,7 +163,7 @@ module _ (sizes : Super) (l : Labels) (laws : Laws (labelled l)) (keeps : Keeps 
       apart = table_past w.real w.seen shows_w changing at
 
       -- the bitmap is in hand at v
-      module _ (v : W) (fs : List l.Step) (got : Fetched h bitmap (G fs) w v) where
+      module _ (v : W) (fs : List l.Step) (got : IsFetched h bitmap (G fs) w v) where
         abbrev old : List ℕ
         old = seen_of (log_of v.real) bitmap
 

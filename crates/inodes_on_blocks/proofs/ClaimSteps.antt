@@ -12,7 +12,7 @@ use Rattle.plain_tree.specs.Widths.{hart_count}
 use Rattle.tree_laws.proofs.Maps.{and_true, put_same, put_other}
 use Rattle.atomic_programs.specs.Prog.{Do, unmarked, Did, Ran}
 use Rattle.atomic_programs.specs.Logic.{Machine, Laws, P, Wp}
-use Rattle.atomic_programs.specs.Joined.{Both, joined, Below, Handed, Lasts}
+use Rattle.atomic_programs.specs.Joined.{Both, joined, Below, Handover, Lasts}
 use Rattle.atomic_programs.proofs.Joined.{Here, Silent, ToAct, to_act, acted, s-silent}
 use Rattle.atomic_programs.proofs.Sound.{Wp-more}
 use Rattle.fs_tables.specs.Tables as places
@@ -112,15 +112,15 @@ unfolding claim_steps
 steps_are zero = refl
 steps_are (suc n) = let more_ = steps_are n in omega (arith, more_)
 
-module _ (sizes : Super) (l : Labels) (laws : Laws (labelled l)) (keeps : Keeps l) (h : ℕ) (lt : h < hart_count) (sort : Sort) (made : IsMade sort) (m : above.Claimed → Option above.Mark) (c : Carry) (s : Spent) (few : size s < most_recorded)
-    (B : List l.Step → Type 0) (C : above.Claimed → List l.Step → above.World → Type 0) (lasts : Lasts (labelled l) h B C) where
+module _ (sizes : Super) (l : Labels) (laws : Laws (labelled l)) (keeps : Keeps l) (h : ℕ) (lt : h < hart_count) (sort : Sort) (made : IsMade sort) (m : above.ClaimResult → Option above.Mark) (c : Carry) (s : Spent) (few : size s < most_recorded)
+    (B : List l.Step → Type 0) (C : above.ClaimResult → List l.Step → above.World → Type 0) (lasts : Lasts (labelled l) h B C) where
   abbrev W : Type 0
   W = Both World above.World
 
   abbrev M : Machine
   M = joined (labelled l) (below sizes)
 
-  abbrev Q : Handed above.Claimed Carry → List l.Step → W → Type 0
+  abbrev Q : Handover above.ClaimResult Carry → List l.Step → W → Type 0
   Q = Below (labelled l) (below sizes) h C
 
   abbrev Todo : List l.Step → above.World → Type 0
@@ -180,7 +180,7 @@ module _ (sizes : Super) (l : Labels) (laws : Laws (labelled l)) (keeps : Keeps 
     abbrev candidates : List ℕ
     candidates = free_in sizes.ninodes q bytes
 
-    abbrev Came : (n : ℕ) → P M (Handed above.Claimed Carry) → steps.Claimed → World → Type 0
+    abbrev Came : (n : ℕ) → P M (Handover above.ClaimResult Carry) → steps.ClaimResult → World → Type 0
     Came n rest a z = Answered (labelled l) (below sizes) laws (below_laws sizes l keeps) h B (Claim sort) m C lasts u z gs (claim_mark sort m n a) (λ fs y f. Wp M h B Q (claim_in rest kind b bytes c a) (claim_steps n) fs (record { real = y; seen = f }))
 
     lower_may : premises.May h (steps.Claim b candidates) r.state
@@ -228,7 +228,7 @@ module _ (sizes : Super) (l : Labels) (laws : Laws (labelled l)) (keeps : Keeps 
     some_steps : (n : ℕ) → 1 ≤ claim_steps n
     some_steps n = let e = steps_are n in omega (arith, e)
 
-    gives_back : (n : ℕ) (rest : P M (Handed above.Claimed Carry)) → nat_lt (referenced g) place_count ≡ false → Came n rest steps.NoPlace r
+    gives_back : (n : ℕ) (rest : P M (Handover above.ClaimResult Carry)) → nat_lt (referenced g) place_count ≡ false → Came n rest steps.NoPlace r
     gives_back n rest full =
         let s_ = marked_same h (m above.NoPlace) g in
         let g' = marked h (m above.NoPlace) g in
@@ -319,7 +319,7 @@ module _ (sizes : Super) (l : Labels) (laws : Laws (labelled l)) (keeps : Keeps 
                   (put_shows h i sort c v z.seen here.shows claims can made, put_same_others h i sort c v z.seen here.shows claims can, (here.stage, (put_base h i sort c v z.seen here.shows claims can one_v, size))),
             )
 
-        takes : (n : ℕ) (rest : P M (Handed above.Claimed Carry)) → nat_lt (referenced g) place_count ≡ true → Came n rest (steps.Claims i) then_
+        takes : (n : ℕ) (rest : P M (Handover above.ClaimResult Carry)) → nat_lt (referenced g) place_count ≡ true → Came n rest (steps.Claims i) then_
         takes n rest room =
             let low = is.low in
             inr (
@@ -338,8 +338,8 @@ module _ (sizes : Super) (l : Labels) (laws : Laws (labelled l)) (keeps : Keeps 
             )
 
     -- what the step comes to
-    abbrev Comes : (n : ℕ) → P M (Handed above.Claimed Carry) → Outside → Type 0
-    Comes n rest x = (a : steps.Claimed) × (z : World) × (exec h x (steps.Claim b candidates) r ≡ Ran a z) × Came n rest a z
+    abbrev Comes : (n : ℕ) → P M (Handover above.ClaimResult Carry) → Outside → Type 0
+    Comes n rest x = (a : steps.ClaimResult) × (z : World) × (exec h x (steps.Claim b candidates) r ≡ Ran a z) × Came n rest a z
 
     comes : (n : ℕ) (x : Outside) → Again n (q + 1) → (o : Option ℕ) → first_free (tables_of r).entries candidates ≡ o → Comes n (claim_from n sizes sort c m (q + 1)) x
     unfolding steps.exec
@@ -409,7 +409,7 @@ module _ (sizes : Super) (l : Labels) (laws : Laws (labelled l)) (keeps : Keeps 
           Wp-more M h (claim_from (suc n) sizes sort c m 0) B Q (claim_steps (suc n)) (suc (more (Claim sort))) es w (omega (arith, fewer, e, most)) (all_blocks n 0 es w (omega (arith, e)) todo looks stands.0.free)
 
 -- and within what the operation spends
-pub claim_within : (sizes : Super) (l : Labels) → Laws (labelled l) → Keeps l → (h : ℕ) → h < hart_count → (sort : Sort) → IsMade sort → HasInodes sizes → (m : above.Claimed → Option above.Mark) → ActsWithin sizes l h (Claim sort) m (claim sizes sort)
+pub claim_within : (sizes : Super) (l : Labels) → Laws (labelled l) → Keeps l → (h : ℕ) → h < hart_count → (sort : Sort) → IsMade sort → HasInodes sizes → (m : above.ClaimResult → Option above.Mark) → ActsWithin sizes l h (Claim sort) m (claim sizes sort)
 claim_within sizes l laws keeps h lt sort made inodes m c s B C es w lasts todo stands few has_ =
     stays_within sizes l h (Claim sort) m (claim sizes sort) ((programs_spend sizes).claim sort) c s B C (suc (more (Claim sort))) es w
     (claim_acts sizes l laws keeps h lt sort made m c s (omega (arith, few)) B C lasts inodes.some inodes.few es w todo stands has_) has_

@@ -29,7 +29,7 @@ use Rattle.plain_tree.specs.Widths.{hart_count}
 use Rattle.tree_laws.proofs.Maps.{eq_is}
 use Rattle.atomic_programs.specs.Prog.{Ret, bind, Ran}
 use Rattle.atomic_programs.specs.Logic.{Laws, Machine, P, Wp}
-use Rattle.atomic_programs.specs.Joined.{Both, joined, Below, Lasts, Handed}
+use Rattle.atomic_programs.specs.Joined.{Both, joined, Below, Lasts, Handover}
 use Rattle.atomic_programs.proofs.Joined.{ToAct, to_act, may_act}
 use Rattle.atomic_programs.proofs.Prog.{bind-assoc}
 use Rattle.atomic_programs.proofs.Sound.{Wp-more}
@@ -37,7 +37,7 @@ use Rattle.fs_tables.specs.Tables.{holder_of as lock_holder}
 use Rattle.fs_machine.specs.Programs.{fetch}
 use Rattle.fs_machine.specs.Shown.{seen_of}
 use Rattle.inode_data.specs.declared.addresses.Address.TheVariants.{Direct, InTable}
-use Rattle.inode_data.specs.Programs.{Fetched as BlockInHand, fetch_at, fetch_block}
+use Rattle.inode_data.specs.Programs.{FetchedBlock as BlockInHand, fetch_at, fetch_block}
 use Rattle.inode_table.specs.Programs.{no_record, inode_block}
 use Rattle.inode_machine.specs.World as above
 use Rattle.inode_machine.specs.World.Op.{Clear}
@@ -91,7 +91,7 @@ module _ (sizes : Super) (l : Labels) (laws : Laws (labelled l)) (keeps : Keeps 
   abbrev M : Machine
   M = joined (labelled l) (below sizes)
 
-  abbrev Q : Handed (Unit {0}) Carry → List l.Step → W → Type 0
+  abbrev Q : Handover (Unit {0}) Carry → List l.Step → W → Type 0
   Q = Below (labelled l) (below sizes) h C
 
   abbrev Todo : List l.Step → above.World → Type 0
@@ -299,14 +299,14 @@ module _ (sizes : Super) (l : Labels) (laws : Laws (labelled l)) (keeps : Keeps 
 
       searches : (x : Dinode) → x ≡ d → Wp M h B Q (bind (bind (search (Named e) x) slot_found) (clear_slot sizes n e c m)) 1621 fs v
       searches x is_d =
-          subst (λ (p : P M (Handed (Unit {0}) Carry)). Wp M h B Q p 1621 fs v) (sym (bind-assoc (search (Named e) x) slot_found (clear_slot sizes n e c m)))
+          subst (λ (p : P M (Handover (Unit {0}) Carry)). Wp M h B Q p 1621 fs v) (sym (bind-assoc (search (Named e) x) slot_found (clear_slot sizes n e c m)))
           (subst (λ (y : Dinode). Wp M h B Q (bind (search (Named e) y) goes) 1621 fs v) (sym is_d)
           (Wp-more M h (bind (search (Named e) d) goes) B Q (touches (block_count d) 9) 1621 fs v (let few = looks.few_blocks d in let steps_ = touches_are (block_count d) 9 in omega (arith, few, steps_))
           (s-search sizes l laws keeps h lt B Q Todo (to_act (labelled l) (below sizes) laws (below_laws sizes l keeps) h B (Clear n e) m C lasts) n (Some node) (Named e) goes 9 v holds used mine stands.0.free (block_count d) 0 v fs
           ((below_laws sizes l keeps).same h v.real) (kept_same h v.seen) todo (λ q low. let part = looks.block_within (disk_of (log_of v.real)) v.real.owner n node holds used q low in omega (arith, part))
           (λ w gs same kept stage. by found (looks.name_found (disk_of (log_of v.real)) v.real.owner n node holds used e live) (looks.slot_found (disk_of (log_of v.real)) v.real.owner n node holds used e live) w gs same kept stage))))
         where
-          goes : Option Found → P M (Handed (Unit {0}) Carry)
+          goes : Option Found → P M (Handover (Unit {0}) Carry)
           goes o = clear_slot sizes n e c m (unwrap_or (option_map (λ q. q.slot) o) 0)
 
           by : (o : Option Found) → number_found o ≡ look (λ j. Some node) n e → IsKnown (learned e o) (Some node) → (w : W) (gs : List l.Step) → Same h v.real w.real → Kept h v.seen w.seen → Todo gs w.seen → Wp M h B Q (goes o) 9 gs w

@@ -20,13 +20,13 @@ use Rattle.fs_machine.specs.Programs.{fetch}
 use Rattle.fs_machine.specs.Shown.{seen_of}
 use Rattle.fs_machine.specs.Steps.{Put}
 use Rattle.inode_data.specs.declared.addresses.Address.TheVariants.{Direct, InTable}
-use Rattle.inode_data.specs.Programs.{Fetched as BlockInHand, give_fetched, fetch_number, fetch_named, fetch_at, fetch_block}
+use Rattle.inode_data.specs.Programs.{FetchedBlock as BlockInHand, give_fetched, fetch_number, fetch_named, fetch_at, fetch_block}
 use Rattle.inode_machine.specs.World as above
 use Rattle.inode_machine.specs.Rules.{Inv}
 use Rattle.inodes_on_blocks.specs.Below.{World, log_of, tables_of, disk_of, inode_in}
 use Rattle.inodes_on_blocks.specs.Shown.{Shows}
 use Rattle.inodes_on_blocks.specs.Lowering.{Same, Kept, below, Labels, labelled, Keeps}
-use Rattle.inodes_on_blocks.specs.Holding.{in_hand, Fetched}
+use Rattle.inodes_on_blocks.specs.Holding.{in_hand, IsFetched}
 use Rattle.inodes_on_blocks.proofs.Alone.{kept_same, kept_then}
 use Rattle.inodes_on_blocks.proofs.ContentBlocks.{direct_number}
 use Rattle.inodes_on_blocks.proofs.ContentStays.{block_stays}
@@ -69,7 +69,7 @@ module _ (sizes : Super) (l : Labels) (laws : Laws (labelled l)) (keeps : Keeps 
     bytes = content_block (disk_of (log_of w.real)) d k
 
     abbrev Rest : Type 0
-    Rest = (v : W) (fs : List l.Step) → Fetched h b (G fs) w v → Wp M h B Q (f (record { number = b; bytes = bytes })) n fs v
+    Rest = (v : W) (fs : List l.Step) → IsFetched h b (G fs) w v → Wp M h B Q (f (record { number = b; bytes = bytes })) n fs v
 
     -- a world in which the hart has nothing in hand again
     record Since (u : W) : Type 0 where

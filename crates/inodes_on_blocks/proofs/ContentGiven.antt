@@ -31,7 +31,7 @@ use Rattle.inode_machine.specs.Rules.{if_kept, Inv}
 use Rattle.inodes_on_blocks.specs.Below.{World, log_of, tables_of, disk_of, inode_in}
 use Rattle.inodes_on_blocks.specs.Shown.{Shows}
 use Rattle.inodes_on_blocks.specs.Lowering.{KeepsInode, Kept, below, buffer_in, undertaken, Labels, labelled, Keeps}
-use Rattle.inodes_on_blocks.specs.Holding.{in_hand, SameBut, Fetched, PutBack}
+use Rattle.inodes_on_blocks.specs.Holding.{in_hand, SameBut, IsFetched, PutBack}
 use Rattle.inodes_on_blocks.specs.Recording.{IsChanging}
 use Rattle.inodes_on_blocks.specs.Giving.{Owns, KeepsRoom, GaveBlocks}
 use Rattle.inodes_on_blocks.proofs.Alone.{kept_same, kept_then}
@@ -199,7 +199,7 @@ module _ (sizes : Super) (l : Labels) (laws : Laws (labelled l)) (keeps : Keeps 
           own : IsData sizes t × (w.real.owner t ≡ n)
           own = owns_last sizes w.real.owner n t ns some here.owns
 
-          listed : (v : W) (fs : List l.Step) → Fetched h t (G fs) w v → Wp M h B Q (free_in_table bitmap t k (seen_of (log_of v.real) t)) (3 * 256 + last_steps) fs v
+          listed : (v : W) (fs : List l.Step) → IsFetched h t (G fs) w v → Wp M h B Q (free_in_table bitmap t k (seen_of (log_of v.real) t)) (3 * 256 + last_steps) fs v
           listed v fs got =
               subst (λ (z : ℕ). Wp M h B Q (free_in_table bitmap t k (seen_of (log_of v.real) t)) (3 * z + last_steps) fs v) (length-u32s_at 256 (seen_of (log_of v.real) t) 0)
               (s-numbers sizes l laws keeps h lt B Q G stable n changing (λ more. Knows) (λ more. room) (λ more u known. known) v inside (t ∷ []) (free_table bitmap t k) last_steps fs v

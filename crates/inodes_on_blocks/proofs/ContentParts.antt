@@ -4,7 +4,7 @@ use Rattle.std.specs.Prelude.{min}
 use Rattle.std.proofs.lemmas.Bool.{cases_lt, cases_eq}
 use Rattle.std.proofs.lemmas.List.{append-nil, drop-append-le, take-append-le, drop_at, take_all, drop-drop, drop_all, length-drop, length-take, take-take}
 use Rattle.fs_layout.specs.Bytes.{overwrite}
-use Rattle.inode_data.specs.Programs.{Filled, filled_with, next_block, blocks_between, part_of}
+use Rattle.inode_data.specs.Programs.{FilledMemory, filled_with, next_block, blocks_between, part_of}
 use Rattle.inode_data.proofs.ContentFronts.{drop_of_take, front, part_then}
 use Rattle.inode_data.proofs.ReadLaw.{none_between, some_between, next_between}
 use Rattle.inodes_on_blocks.proofs.ContentReads.{filled_from}
@@ -16,18 +16,18 @@ over_end xs ys n e =
     ∙ ap (λ (zs : List ℕ). xs ++ zs) (ap (λ (zs : List ℕ). ys ++ zs) (drop_all (n + length ys) xs (omega (arith, e))) ∙ append-nil ys)
 
 -- memory that begins with nothing
-abbrev pub with_bytes : List ℕ → Filled
+abbrev pub with_bytes : List ℕ → FilledMemory
 with_bytes bytes = record { count = length bytes; bytes = bytes }
 
-filled_is : (m : Filled) (part : List ℕ) → m ≡ with_bytes m.bytes → filled_with m part ≡ with_bytes (m.bytes ++ part)
+filled_is : (m : FilledMemory) (part : List ℕ) → m ≡ with_bytes m.bytes → filled_with m part ≡ with_bytes (m.bytes ++ part)
 filled_is m part e =
-    let count : m.count ≡ length m.bytes = ap (λ (f : Filled). f.count) e in
+    let count : m.count ≡ length m.bytes = ap (λ (f : FilledMemory). f.count) e in
     let sum : m.count + length part ≡ length (m.bytes ++ part) = omega (arith, count, length-append m.bytes part) in
     λ i. record { count = sum i; bytes = over_end m.bytes part m.count count i }
 
 module _ (content : ℕ → List ℕ) (k : ℕ) (whole : (q : ℕ) → q < k → length (content q) ≡ 1024) where
   -- the parts of the blocks between two offsets, behind what is there
-  pub read_all : (n from upto : ℕ) (m : Filled) → m ≡ with_bytes m.bytes → n ≡ blocks_between from upto → upto ≤ 1024 * k → filled_from content n from upto m ≡ with_bytes (m.bytes ++ drop from (take upto (front content k)))
+  pub read_all : (n from upto : ℕ) (m : FilledMemory) → m ≡ with_bytes m.bytes → n ≡ blocks_between from upto → upto ≤ 1024 * k → filled_from content n from upto m ≡ with_bytes (m.bytes ++ drop from (take upto (front content k)))
   unfolding filled_from
   read_all zero from upto m e n within =
       let le : upto ≤ from = none_between from upto n in

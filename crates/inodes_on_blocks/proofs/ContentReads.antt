@@ -14,7 +14,7 @@ use Rattle.atomic_programs.proofs.Joined.{Stable}
 use Rattle.atomic_programs.proofs.Prog.{bind-assoc}
 use Rattle.fs_tables.specs.Tables.{holder_of as lock_holder}
 use Rattle.fs_machine.specs.Steps.{Put}
-use Rattle.inode_data.specs.Programs.{Fetched as BlockInHand, Filled, filled_with, next_block, part_of, fetch_block, read_blocks, read_part}
+use Rattle.inode_data.specs.Programs.{FetchedBlock as BlockInHand, FilledMemory, filled_with, next_block, part_of, fetch_block, read_blocks, read_part}
 use Rattle.inode_machine.specs.World as above
 use Rattle.inodes_on_blocks.specs.Below.{World, log_of, tables_of, disk_of, inode_in}
 use Rattle.inodes_on_blocks.specs.Lowering.{KeepsInode, Same, Kept, below, Labels, labelled, Keeps}
@@ -25,7 +25,7 @@ use Rattle.inodes_on_blocks.proofs.ContentStays.{same_inode, holds_now, used_now
 use Rattle.inodes_on_blocks.proofs.Layer.{below_laws}
 
 -- the memory with the parts of so many blocks
-unfoldable pub filled_from : (ℕ → List ℕ) → ℕ → (from upto : ℕ) → Filled → Filled
+unfoldable pub filled_from : (ℕ → List ℕ) → ℕ → (from upto : ℕ) → FilledMemory → FilledMemory
 filled_from content zero from upto m = m
 filled_from content (suc n) from upto m = filled_from content n (next_block from) upto (filled_with m (part_of from upto (content (from / block_len))))
 
@@ -40,7 +40,7 @@ touches_are zero j = omega arith
 touches_are (suc n) j = let more = touches_are n j in omega (arith, more)
 
 module _ (sizes : Super) (l : Labels) (laws : Laws (labelled l)) (keeps : Keeps l) (h : ℕ) (lt : h < hart_count) (B : List l.Step → Type 0) {A : Type 0} (Q : A → List l.Step → Both World above.World → Type 0) (G : List l.Step → above.World → Type 0)
-    (stable : Stable (labelled l) (below sizes) laws (below_laws sizes l keeps) h B G) (i : ℕ) (o : Option Node) (k : Filled → P (joined (labelled l) (below sizes)) A) (j : ℕ) (w : Both World above.World)
+    (stable : Stable (labelled l) (below sizes) laws (below_laws sizes l keeps) h B G) (i : ℕ) (o : Option Node) (k : FilledMemory → P (joined (labelled l) (below sizes)) A) (j : ℕ) (w : Both World above.World)
     (holds : HoldsAt (disk_of (log_of w.real)) w.real.owner i o) (used : is_free (inode_in (log_of w.real) i) ≡ false) (mine : lock_holder i (tables_of w.real) ≡ Some h) (none : in_hand h w.real ≡ 0) where
   abbrev W : Type 0
   W = Both World above.World
@@ -54,7 +54,7 @@ module _ (sizes : Super) (l : Labels) (laws : Laws (labelled l)) (keeps : Keeps 
   abbrev content : ℕ → List ℕ
   content q = content_block (disk_of (log_of w.real)) d q
 
-  pub s-reads : (n from upto : ℕ) (m : Filled) (u : W) (es : List l.Step) → Same h w.real u.real → Kept h w.seen u.seen → G es u.seen → ((q : ℕ) → q < n → block_len * (from / block_len + q) < d.size)
+  pub s-reads : (n from upto : ℕ) (m : FilledMemory) (u : W) (es : List l.Step) → Same h w.real u.real → Kept h w.seen u.seen → G es u.seen → ((q : ℕ) → q < n → block_len * (from / block_len + q) < d.size)
       → ((v : W) (fs : List l.Step) → Same h w.real v.real → Kept h w.seen v.seen → G fs v.seen → Wp M h B Q (k (filled_from content n from upto m)) j fs v)
       → Wp M h B Q (bind (read_blocks n d from upto m) k) (touches n j) es u
   unfolding read_blocks touches filled_from

@@ -18,7 +18,7 @@ use Rattle.atomic_programs.proofs.Prog.{bind-assoc}
 use Rattle.atomic_programs.proofs.Sound.{Wp-more}
 use Rattle.fs_tables.specs.Tables.{holder_of as lock_holder}
 use Rattle.fs_machine.specs.Steps.{Put}
-use Rattle.inode_data.specs.Programs.{Fetched as BlockInHand, fetch_block}
+use Rattle.inode_data.specs.Programs.{FetchedBlock as BlockInHand, fetch_block}
 use Rattle.inode_machine.specs.World as above
 use Rattle.inodes_on_blocks.specs.Below.{World, log_of, tables_of, disk_of, inode_in}
 use Rattle.inodes_on_blocks.specs.Lowering.{KeepsInode, Same, Kept, below, Labels, labelled, Keeps}

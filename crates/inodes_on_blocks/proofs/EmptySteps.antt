@@ -18,7 +18,7 @@ use Rattle.image_laws.proofs.SeenDisks.{good_seen}
 use Rattle.image_tree.proofs.NumberLists.{numbers_by_free}
 use Rattle.atomic_programs.specs.Prog.{bind, once, Ran}
 use Rattle.atomic_programs.specs.Logic.{Laws, Machine, P, Wp}
-use Rattle.atomic_programs.specs.Joined.{Both, joined, Below, Lasts, Handed}
+use Rattle.atomic_programs.specs.Joined.{Both, joined, Below, Lasts, Handover}
 use Rattle.atomic_programs.proofs.Joined.{ToAct, to_act, may_act, Stable}
 use Rattle.atomic_programs.proofs.Sound.{Wp-more}
 use Rattle.fs_tables.specs.Tables.{holder_of as lock_holder}
@@ -255,7 +255,7 @@ module _ (sizes : Super) (l : Labels) (laws : Laws (labelled l)) (keeps : Keeps 
       d : Dinode
       d = without_content (record_in c n)
 
-      Q : Handed (Unit {0}) Carry → List l.Step → W → Type 0
+      Q : Handover (Unit {0}) Carry → List l.Step → W → Type 0
       Q = Below (labelled l) (below sizes) h C
 
       Todo : List l.Step → above.World → Type 0
@@ -264,7 +264,7 @@ module _ (sizes : Super) (l : Labels) (laws : Laws (labelled l)) (keeps : Keeps 
       todo_stays : Stable (labelled l) (below sizes) laws (below_laws sizes l keeps) h B Todo
       todo_stays = to_act (labelled l) (below sizes) laws (below_laws sizes l keeps) h B (Empty n) m C lasts
 
-      last : P M (Handed (Unit {0}) Carry)
+      last : P M (Handover (Unit {0}) Carry)
       last = bind (fetch (inode_block sizes.inodestart n)) (put_record (Empty n) m tt (inode_block sizes.inodestart n) n d (Has d NothingMore) c)
 
       may_there : (fs : List l.Step) (g : above.World) → Todo fs g → Inv g → rules.May h (Empty n) g

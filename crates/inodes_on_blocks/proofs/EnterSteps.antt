@@ -26,12 +26,12 @@ use Rattle.plain_tree.specs.Widths.{hart_count}
 use Rattle.tree_laws.proofs.Maps.{eq_not, eq_self}
 use Rattle.atomic_programs.specs.Prog.{Ret, bind, Ran}
 use Rattle.atomic_programs.specs.Logic.{Laws, Machine, P, Wp}
-use Rattle.atomic_programs.specs.Joined.{Both, joined, Below, Lasts, Handed}
+use Rattle.atomic_programs.specs.Joined.{Both, joined, Below, Lasts, Handover}
 use Rattle.atomic_programs.proofs.Joined.{ToAct, to_act, may_act}
 use Rattle.atomic_programs.proofs.Sound.{Wp-more}
 use Rattle.fs_tables.specs.Tables.{holder_of as lock_holder}
 use Rattle.inode_data.specs.Programs.{blocks_between}
-use Rattle.inode_data.specs.Writing.{Written, front_of, write_blocks}
+use Rattle.inode_data.specs.Writing.{WriteResult, front_of, write_blocks}
 use Rattle.inode_table.specs.Programs.{inode_block}
 use Rattle.inode_machine.specs.Budget.{Spent, size, with_contents, most_recorded}
 use Rattle.inode_machine.specs.World as above
@@ -77,15 +77,15 @@ one_block slot =
     let some : nat_lt (16 * slot) (16 * slot + 16) ≡ true = grind (arith, nat_tests) in
     ap (λ (t : Bool). if t then ((16 * slot + 16 - 1) / 1024 + 1) - 16 * slot / 1024 else 0) some ∙ (let e : ((16 * slot + 16 - 1) / 1024 + 1) - 16 * slot / 1024 ≡ 1 = omega arith in e)
 
-module _ (sizes : Super) (l : Labels) (laws : Laws (labelled l)) (keeps : Keeps l) (h : ℕ) (lt : h < hart_count) (n : ℕ) (e : Name) (q : ℕ) (m : above.Entered → Option above.Mark) (s : Spent) (bitmap : s.bitmap ≡ true)
-    (named : IsSpent sizes s (inode_block sizes.inodestart n)) (room : size s + 2 ≤ most_recorded) (c : Carry) (B : List l.Step → Type 0) (C : above.Entered → List l.Step → above.World → Type 0) (lasts : Lasts (labelled l) h B C) where
+module _ (sizes : Super) (l : Labels) (laws : Laws (labelled l)) (keeps : Keeps l) (h : ℕ) (lt : h < hart_count) (n : ℕ) (e : Name) (q : ℕ) (m : above.EntryResult → Option above.Mark) (s : Spent) (bitmap : s.bitmap ≡ true)
+    (named : IsSpent sizes s (inode_block sizes.inodestart n)) (room : size s + 2 ≤ most_recorded) (c : Carry) (B : List l.Step → Type 0) (C : above.EntryResult → List l.Step → above.World → Type 0) (lasts : Lasts (labelled l) h B C) where
   abbrev W : Type 0
   W = Both World above.World
 
   abbrev M : Machine
   M = joined (labelled l) (below sizes)
 
-  abbrev Q : Handed above.Entered Carry → List l.Step → W → Type 0
+  abbrev Q : Handover above.EntryResult Carry → List l.Step → W → Type 0
   Q r fs u = Below (labelled l) (below sizes) h C r fs u × HasSpent sizes h (with_contents 2 s) u.real
 
   abbrev Todo : List l.Step → above.World → Type 0
@@ -107,16 +107,16 @@ module _ (sizes : Super) (l : Labels) (laws : Laws (labelled l)) (keeps : Keeps 
   act = acts (Enter n e q) above.Room m
 
   -- the program where the record is x
-  abbrev goes_in : Dinode → ℕ → P M (Handed above.Entered Carry)
+  abbrev goes_in : Dinode → ℕ → P M (Handover above.EntryResult Carry)
   goes_in x slot =
       if nat_lt slot 17152 then bind (write_blocks (blocks_between (16 * slot) (16 * slot + length bytes)) sizes (16 * slot) bytes x) (entered_to sizes n e q c m slot) else Ret (record { answer = above.NoSlot; carry = c })
 
-  abbrev goes : Dinode → Option Found → P M (Handed above.Entered Carry)
+  abbrev goes : Dinode → Option Found → P M (Handover above.EntryResult Carry)
   goes x found = goes_in x (slot_for x found)
 
   -- ---- it takes a step
 
-  ends_take : (slot : ℕ) (w : Written) → TakesStep sizes l laws keeps h lt B (entered_to sizes n e q c m slot w)
+  ends_take : (slot : ℕ) (w : WriteResult) → TakesStep sizes l laws keeps h lt B (entered_to sizes n e q c m slot w)
   ends_take slot w = by (w.upto == 16 * (slot + 1))
     where
       by : (t : Bool) → TakesStep sizes l laws keeps h lt B (if t then put_grown (Enter n e q) above.Room m above.InPlace sizes n c w else put_grown (Enter n e q) (above.RoomFor 0) m above.NoBlock sizes n c w)

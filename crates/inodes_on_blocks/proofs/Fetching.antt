@@ -40,7 +40,7 @@ use Rattle.inodes_on_blocks.specs.Below.{World, log_of, tables_of, disk_of, came
 use Rattle.inodes_on_blocks.specs.OnBlocks.{shown}
 use Rattle.inodes_on_blocks.specs.Shown.{Shows, ghost_of, on_blocks}
 use Rattle.inodes_on_blocks.specs.Lowering.{KeepsInode, Same, Kept, below, buffer_in, Labels, labelled, Keeps}
-use Rattle.inodes_on_blocks.specs.Holding.{in_hand, HasBuffer, SameBut, Fetched, PutBack}
+use Rattle.inodes_on_blocks.specs.Holding.{in_hand, HasBuffer, SameBut, IsFetched, PutBack}
 use Rattle.inodes_on_blocks.proofs.Alone.{kept_then}
 use Rattle.inodes_on_blocks.proofs.Hands.{CameInHand, IfGot, got_hand, IsRead, read_hand, GivenBack, back_hand, same_view}
 use Rattle.inodes_on_blocks.proofs.Layer.{below_laws, held_back, untouched_then, kept_alike}
@@ -255,7 +255,7 @@ module _ (sizes : Super) (l : Labels) (laws : Laws (labelled l)) (keeps : Keeps 
   module _ {A : Type 0} (Q : A → List l.Step → W → Type 0) (G : List l.Step → above.World → Type 0) (stable : Stable (labelled l) (below sizes) laws (below_laws sizes l keeps) h B G) where
     -- A hart with at most one buffer in hand, and not this one, takes it; from there on its bytes are those seen of the block.
     pub s-fetch : (b : ℕ) (k : List ℕ → P M A) (n : ℕ) (es : List l.Step) (w : W) → G es w.seen → in_hand h w.real ≤ 1 → ((v : W) (fs : List l.Step) → Here (labelled l) (below sizes) laws (below_laws sizes l keeps) h B G w v fs → IsOutsideLog (log_of v.real).sizes b × (b < (log_of v.real).sizes.size))
-        → (holder_of b (log_of w.real).seats ≢ Some h) → ((v : W) (fs : List l.Step) → Fetched h b (G fs) w v → Wp M h B Q (k (seen_of (log_of v.real) b)) n fs v)
+        → (holder_of b (log_of w.real).seats ≢ Some h) → ((v : W) (fs : List l.Step) → IsFetched h b (G fs) w v → Wp M h B Q (k (seen_of (log_of v.real) b)) n fs v)
         → Wp M h B Q (bind (fetch b) k) (suc (suc n)) es w
     unfolding premises.May
     s-fetch b k n es w stage few place free rest =

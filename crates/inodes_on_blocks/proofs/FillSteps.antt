@@ -14,14 +14,14 @@ use Rattle.plain_tree.specs.Tree.{dot, dotdot}
 use Rattle.plain_tree.specs.Widths.{hart_count}
 use Rattle.atomic_programs.specs.Prog.{bind, Ran}
 use Rattle.atomic_programs.specs.Logic.{Laws, Machine, P, Wp}
-use Rattle.atomic_programs.specs.Joined.{Both, joined, Below, Lasts, Handed}
+use Rattle.atomic_programs.specs.Joined.{Both, joined, Below, Lasts, Handover}
 use Rattle.atomic_programs.proofs.Joined.{ToAct, to_act, may_act}
 use Rattle.atomic_programs.proofs.Sound.{Wp-more}
 use Rattle.fs_tables.specs.Tables.{holder_of as lock_holder}
 use Rattle.inode_data.specs.declared.addresses.Address.TheVariants.{Direct, InTable}
 use Rattle.inode_data.specs.Addresses.{table_of}
 use Rattle.inode_data.specs.Programs.{blocks_between}
-use Rattle.inode_data.specs.Writing.{Written, front_of, take_one, located, name_direct, with_table, locate_in_table, locate_at, write_located, write_blocks}
+use Rattle.inode_data.specs.Writing.{WriteResult, front_of, take_one, located, name_direct, with_table, locate_in_table, locate_at, write_located, write_blocks}
 use Rattle.inode_table.specs.Programs.{no_record, inode_block}
 use Rattle.inode_machine.specs.Budget.{Spent, size, with_contents, most_recorded}
 use Rattle.inode_machine.specs.World as above
@@ -66,12 +66,12 @@ module _ (sizes : Super) (l : Labels) (laws : Laws (labelled l)) (keeps : Keeps 
   M = joined (labelled l) (below sizes)
 
   -- a program that writes blocks takes a step, where what follows does
-  pub takes_write : {A : Type 0} (count at : ℕ) (bytes : List ℕ) (d : Dinode) (f : Written → P M A) → ((w : Written) → TakesStep sizes l laws keeps h lt B (f w)) → TakesStep sizes l laws keeps h lt B (bind (write_blocks count sizes at bytes d) f)
+  pub takes_write : {A : Type 0} (count at : ℕ) (bytes : List ℕ) (d : Dinode) (f : WriteResult → P M A) → ((w : WriteResult) → TakesStep sizes l laws keeps h lt B (f w)) → TakesStep sizes l laws keeps h lt B (bind (write_blocks count sizes at bytes d) f)
   unfolding write_blocks
   takes_write zero at bytes d f all = all (record { inode = d; upto = at })
   takes_write {A} (suc count) at bytes d f all = by (nat_lt (at / 1024) 12)
     where
-      more : Dinode → P M Written
+      more : Dinode → P M WriteResult
       more = write_blocks count sizes (at + length (front_of at bytes)) (drop (length (front_of at bytes)) bytes)
 
       direct : (t : Bool) → TakesStep sizes l laws keeps h lt B (bind (bind (if t then bind (take_one sizes) (name_direct (at / 1024) d) else located d (Some (slice_index d.addrs (at / 1024)))) (write_located more at bytes)) f)
@@ -94,7 +94,7 @@ module _ (sizes : Super) (l : Labels) (laws : Laws (labelled l)) (keeps : Keeps 
   abbrev N : Machine
   N = joined (labelled l) (below sizes)
 
-  abbrev Q : Handed Bool Carry → List l.Step → W → Type 0
+  abbrev Q : Handover Bool Carry → List l.Step → W → Type 0
   Q r fs u = Below (labelled l) (below sizes) h C r fs u × HasSpent sizes h (with_contents 1 s) u.real
 
   abbrev Todo : List l.Step → above.World → Type 0
@@ -109,7 +109,7 @@ module _ (sizes : Super) (l : Labels) (laws : Laws (labelled l)) (keeps : Keeps 
   asks : (g : above.World) → rules.May h (Fill n p) g → IsChanging h n g × ((g.desks h).lender ≡ None)
   asks g asked = (record { lock = asked.1.0.0; joined = asked.1.0.1 }, asked.0)
 
-  ends_take : (w : Written) → TakesStep sizes l laws keeps h lt B (filled_to sizes n p c m w)
+  ends_take : (w : WriteResult) → TakesStep sizes l laws keeps h lt B (filled_to sizes n p c m w)
   ends_take w = by (w.upto == 32)
     where
       by : (t : Bool) → TakesStep sizes l laws keeps h lt B (if t then put_grown (Fill n p) above.Room m true sizes n c w else put_grown (Fill n p) (above.RoomFor 0) m false sizes n c w)

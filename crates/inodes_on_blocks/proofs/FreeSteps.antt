@@ -10,7 +10,7 @@ use Rattle.plain_tree.specs.Widths.{hart_count}
 use Rattle.image_laws.proofs.LaidInodes.{freed_held}
 use Rattle.atomic_programs.specs.Prog.{bind, once}
 use Rattle.atomic_programs.specs.Logic.{Laws, Machine, P, Wp}
-use Rattle.atomic_programs.specs.Joined.{Both, joined, Below, Lasts, Handed}
+use Rattle.atomic_programs.specs.Joined.{Both, joined, Below, Lasts, Handover}
 use Rattle.atomic_programs.proofs.Joined.{Here, ToAct, to_act, may_act, Stable}
 use Rattle.atomic_programs.proofs.Prog.{bind-assoc}
 use Rattle.atomic_programs.proofs.Sound.{Wp-more}
@@ -28,7 +28,7 @@ use Rattle.inodes_on_blocks.specs.Owners.{Owners}
 use Rattle.inodes_on_blocks.specs.Below.{World, log_of, tables_of, disk_of, owners_of}
 use Rattle.inodes_on_blocks.specs.Emptying.{free}
 use Rattle.inodes_on_blocks.specs.Giving.{KeepsRoom, world_with}
-use Rattle.inodes_on_blocks.specs.Holding.{in_hand, HasBuffer, Fetched}
+use Rattle.inodes_on_blocks.specs.Holding.{in_hand, HasBuffer, IsFetched}
 use Rattle.inodes_on_blocks.specs.Lowering.{Emptied, Carry, Stands, below, Labels, labelled, Keeps, IsThrough}
 use Rattle.inodes_on_blocks.specs.Recording.{CanPut, IsChanging}
 use Rattle.inodes_on_blocks.specs.Shown.{Shows}
@@ -109,7 +109,7 @@ module _ (sizes : Super) (l : Labels) (laws : Laws (labelled l)) (keeps : Keeps 
         before e = let inodes = shows.blocks.seen.good.inodes in let bound = (lock_range n h u.real u.seen shows changes.lock).1 in absurd (omega (arith, inodes, bound, e))
 
     -- and from where the block was fetched on
-    puts : (x v u : W) (fs gs : List l.Step) → Ready sizes h (HasNone h n c o) x.real x.seen → Knows x.real → Fetched h b (G fs) x v → IsHere v u gs → IsPutting b (with_dinode n d (seen_of (log_of v.real) b)) gs u
+    puts : (x v u : W) (fs gs : List l.Step) → Ready sizes h (HasNone h n c o) x.real x.seen → Knows x.real → IsFetched h b (G fs) x v → IsHere v u gs → IsPutting b (with_dinode n d (seen_of (log_of v.real) b)) gs u
     puts x v u fs gs ready knows got here =
         let changes = changing gs u.seen here.stage here.inv in
         let middle = none_lasts h n c o x.real v.real x.seen v.seen got.since.inodes got.since.no_more got.kept ready.lent ready.this in
@@ -159,7 +159,7 @@ module _ (sizes : Super) (l : Labels) (laws : Laws (labelled l)) (keeps : Keeps 
       d : Dinode
       d = without_content (record_in c n)
 
-      Q : Handed (Unit {0}) Carry → List l.Step → W → Type 0
+      Q : Handover (Unit {0}) Carry → List l.Step → W → Type 0
       Q = Below (labelled l) (below sizes) h C
 
       Todo : List l.Step → above.World → Type 0
@@ -168,10 +168,10 @@ module _ (sizes : Super) (l : Labels) (laws : Laws (labelled l)) (keeps : Keeps 
       todo_stays : Stable (labelled l) (below sizes) laws (below_laws sizes l keeps) h B Todo
       todo_stays = to_act (labelled l) (below sizes) laws (below_laws sizes l keeps) h B (Free n) m C lasts
 
-      last : P M (Handed (Unit {0}) Carry)
+      last : P M (Handover (Unit {0}) Carry)
       last = bind (fetch (inode_block sizes.inodestart n)) (put_record (Free n) m tt (inode_block sizes.inodestart n) n (freed d) Emptied c)
 
-      stored : P M (Handed (Unit {0}) Carry)
+      stored : P M (Handover (Unit {0}) Carry)
       stored = bind (store_inode sizes.inodestart n d) (λ _. last)
 
       changing : (fs : List l.Step) (g : above.World) → Todo fs g → Inv g → IsChanging h n g

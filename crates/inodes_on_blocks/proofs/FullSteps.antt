@@ -26,7 +26,7 @@ use Rattle.fs_machine.specs.Steps.{Put}
 use Rattle.fs_machine.proofs.Keeping.{keeps_whole}
 use Rattle.fs_machine.proofs.Owned.{leaves_own}
 use Rattle.fs_machine.proofs.Showing.{shows_its_puts}
-use Rattle.inode_data.specs.Programs.{Fetched as BlockInHand, fetch_block}
+use Rattle.inode_data.specs.Programs.{FetchedBlock as BlockInHand, fetch_block}
 use Rattle.inode_machine.specs.World as above
 use Rattle.inode_machine.specs.Exec as above_exec
 use Rattle.inode_machine.specs.Marks.{marked, with_mark}
@@ -34,7 +34,7 @@ use Rattle.inode_machine.specs.Rules as rules
 use Rattle.inodes_on_blocks.specs.Below.{World, log_of, tables_of, disk_of, inode_in}
 use Rattle.inodes_on_blocks.specs.Entering.{if_none, look_last, search_full}
 use Rattle.inodes_on_blocks.specs.Handlers.{Acts, acts}
-use Rattle.inodes_on_blocks.specs.Holding.{in_hand, SameBut, Fetched}
+use Rattle.inodes_on_blocks.specs.Holding.{in_hand, SameBut, IsFetched}
 use Rattle.inodes_on_blocks.specs.Lowering.{KeepsInode, Same, Kept, below, Labels, labelled, Keeps}
 use Rattle.inodes_on_blocks.proofs.Alone.{kept_then}
 use Rattle.inodes_on_blocks.proofs.ContentFetch.{s-content, s-touch}
@@ -162,7 +162,7 @@ module _ (sizes : Super) (l : Labels) (laws : Laws (labelled l)) (keeps : Keeps 
             b : ℕ
             b = block_number (numbers_of (disk_of (log_of u.real)) (inode_in (log_of u.real) i)) k
 
-            by : (v : W) (fs : List l.Step) → Fetched h b (Todo fs) u v → IsOutsideLog (log_of v.real).sizes b → (found : Option Found) → Rests (else_found found None) → Wp M h B Q (Do (Put b None) (λ _. if_none found act) (λ _. g found)) (suc j) fs v
+            by : (v : W) (fs : List l.Step) → IsFetched h b (Todo fs) u v → IsOutsideLog (log_of v.real).sizes b → (found : Option Found) → Rests (else_found found None) → Wp M h B Q (Do (Put b None) (λ _. if_none found act) (λ _. g found)) (suc j) fs v
             by v fs got out (Some f) rests =
                 s-back sizes l laws keeps h lt B Q Todo (to_act (labelled l) (below sizes) laws (below_laws sizes l keeps) h B op m C lasts) b (λ _. g (Some f)) j fs v got.stage got.buffer.holder out
                 (λ z gs back.

@@ -9,7 +9,7 @@ use Rattle.plain_tree.specs.Widths.{hart_count}
 use Rattle.tree_laws.proofs.Maps.{same_or, put_same, put_other}
 use Rattle.atomic_programs.specs.Prog.{Ran, bind}
 use Rattle.atomic_programs.specs.Logic.{Laws, Machine, Wp}
-use Rattle.atomic_programs.specs.Joined.{Both, joined, Below, Lasts, Handed}
+use Rattle.atomic_programs.specs.Joined.{Both, joined, Below, Lasts, Handover}
 use Rattle.atomic_programs.proofs.Joined.{ToAct}
 use Rattle.atomic_programs.proofs.Sound.{Wp-weaker}
 use Rattle.fs_machine.specs.Programs.{fetch}
@@ -54,7 +54,7 @@ module _ (sizes : Super) (l : Labels) (laws : Laws (labelled l)) (keeps : Keeps 
   module _ (op : above.Op) (m : above.Answer op → Option above.Mark) (c : Carry) (asks : (g : above.World) → rules.May h op g → IsChanging h n g × ((g.desks h).lender ≡ None))
       (B : List l.Step → Type 0) (C : above.Answer op → List l.Step → above.World → Type 0) (lasts : Lasts (labelled l) h B C)
       (o : Option Node) (s : Spent) (named : IsSpent sizes s (inode_block sizes.inodestart n)) (most : ℕ) (room : size s + most ≤ most_recorded) where
-    abbrev pub Ends : Handed (above.Answer op) Carry → List l.Step → W → Type 0
+    abbrev pub Ends : Handover (above.Answer op) Carry → List l.Step → W → Type 0
     Ends r fs u = Below (labelled l) (below sizes) h C r fs u × HasSpent sizes h (with_contents most s) u.real
 
     -- the record d that the program has, of size `was`, goes back with what was written up to an offset; it is laid out so for node x

@@ -23,7 +23,7 @@ use Rattle.fs_machine.specs.Premises as premises
 use Rattle.fs_machine.specs.Whole.{IsWholeLog, After}
 use Rattle.fs_machine.proofs.Keeping.{keeps_whole}
 use Rattle.inode_machine.specs.World as above
-use Rattle.inode_machine.specs.World.{Entry, Joining, NotJoined, Joined}
+use Rattle.inode_machine.specs.World.{Entry, JoinResult, NotJoined, Joined}
 use Rattle.inode_machine.specs.World.Op.{JoinFile}
 use Rattle.inode_machine.specs.Exec as above_exec
 use Rattle.inode_machine.specs.Exec.{entry_of, write_refused, join_at}
@@ -75,7 +75,7 @@ module _ (l : Labels) (laws : Laws (labelled l)) (keeps : Keeps l) (h : ℕ) (lt
     by_entry None is whole = refused refused_variants.BadDescriptor causes.BadDescriptor refl (ap (λ (x : Option Entry). join_at h v.seen x (write_refused x)) is)
     by_entry (Some e) is whole = by_refusal e is (write_refused (Some e)) refl whole
 
-  pub join_file_acts : (fd : ℕ) (m : Joining → Option above.Mark) → ActsOnce l h (JoinFile fd) m (join_file fd)
+  pub join_file_acts : (fd : ℕ) (m : JoinResult → Option above.Mark) → ActsOnce l h (JoinFile fd) m (join_file fd)
   unfolding steps.exec premises.May premises.MayWait premises.Honest
   join_file_acts fd m =
       one_step l laws keeps h (JoinFile fd) m (λ c. steps.JoinToWrite fd) (λ c. joining_to) (λ c a. c) (λ v. tt)

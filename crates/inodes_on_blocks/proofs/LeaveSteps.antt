@@ -24,7 +24,7 @@ use Rattle.plain_tree.specs.Widths.{hart_count}
 use Rattle.tree_laws.proofs.Maps.{same_or, put_same, put_other}
 use Rattle.atomic_programs.specs.Prog.{Ret, bind, Did, Ran}
 use Rattle.atomic_programs.specs.Logic.{Machine, Laws, P, Wp}
-use Rattle.atomic_programs.specs.Joined.{Both, joined, Below, Lasts, Handed, holding}
+use Rattle.atomic_programs.specs.Joined.{Both, joined, Below, Lasts, Handover, holding}
 use Rattle.atomic_programs.proofs.Joined.{Silent, s-silent, Acting, s-act, acted}
 use Rattle.fs_tables.specs.Tables.{TablesState, holder_of as lock_holder}
 use Rattle.fs_machine.specs.LogPart.{LogPart, Outside, Passes, Fails, written, commit_if, is_open, failed}
@@ -313,10 +313,10 @@ module _ (sizes : Super) (l : Labels) (laws : Laws (labelled l)) (keeps : Keeps 
 
   -- all of them
   module _ (B : List l.Step → Type 0) (C : Unit {0} → List l.Step → above.World → Type 0) (m : Unit {0} → Option above.Mark) (lasts : Lasts (labelled l) h B C) (c : Carry) where
-    abbrev Q : Handed (Unit {0}) Carry → List l.Step → W → Type 0
+    abbrev Q : Handover (Unit {0}) Carry → List l.Step → W → Type 0
     Q = Below (labelled l) (below sizes) h C
 
-    abbrev ends : Unit {0} → P M (Handed (Unit {0}) Carry)
+    abbrev ends : Unit {0} → P M (Handover (Unit {0}) Carry)
     ends a = Ret (record { answer = a; carry = c })
 
     rests_with : (r : World) (g : above.World) → r.commits ≡ None → ((n : ℕ) → r.new n ≢ Some h) → count_of (is_held_by h) (log_of r).seats ≡ 0 → ((b : ℕ) → r.taken b ≢ Some h) → ((i : ℕ) → lock_holder i (tables_of r) ≢ Some h) → (g.desks h).lender ≡ None → Base h r g c

@@ -17,7 +17,7 @@ use Rattle.fs_tables.specs.Files.{give_next, descriptors_of}
 use Rattle.fs_machine.specs.Steps as steps
 use Rattle.fs_machine.specs.Premises as premises
 use Rattle.inode_machine.specs.World as above
-use Rattle.inode_machine.specs.World.{Desk, Lending, Lent, Moved, Entry}
+use Rattle.inode_machine.specs.World.{Desk, LoanResult, Lent, Moved, Entry}
 use Rattle.inode_machine.specs.World.Op.{Lend, LendDirectory, Release}
 use Rattle.inode_machine.specs.Exec as above_exec
 use Rattle.inode_machine.specs.Exec.{next_used, with_lent, handed, moved_in, lend_last, lend_if, released, serving, more_users, slot_or}
@@ -140,7 +140,7 @@ last_same : (h child i : ℕ) (w : above.World) (o : Option ℕ) → child ≢ h
 last_same h child i w None apart = same_then h w (with_lent w h i) (handed (with_lent w h i) h child) (lent_same h i w) (handed_same h child (with_lent w h i) apart)
 last_same h child i w (Some j) apart = lent_same h i w
 
-lend_same : (h child : ℕ) (w : above.World) (o : Option ℕ) (b : Lending) (u : above.World) → Inv w → h < hart_count → child ≢ h → lend_if h w child o ≡ Ran b u → SameInodes h w u
+lend_same : (h child : ℕ) (w : above.World) (o : Option ℕ) (b : LoanResult) (u : above.World) → Inv w → h < hart_count → child ≢ h → lend_if h w child o ≡ Ran b u → SameInodes h w u
 lend_same h child w None b u inv lt apart e = ran_same h w (moved_in w h child) u (Moved (w.desks child).directory) b e (moved_same h child w inv lt)
 lend_same h child w (Some i) b u inv lt apart e =
     ran_same h w (lend_last (with_lent w h i) h child (next_used (i + 1) (w.desks h).fds)) u _ b e (last_same h child i w (next_used (i + 1) (w.desks h).fds) apart)
@@ -149,7 +149,7 @@ lend_runs : (h child : ℕ) (w : above.World) (o : Option ℕ) → lend_if h w c
 lend_runs h child w None e = no_wait _ _ e
 lend_runs h child w (Some i) e = no_wait _ _ e
 
-lent_back : (b : Lending) → lent_to (given_as b) ≡ b
+lent_back : (b : LoanResult) → lent_to (given_as b) ≡ b
 lent_back (Lent fd more) = refl
 lent_back (Moved n) = refl
 
@@ -226,7 +226,7 @@ module _ (l : Labels) (laws : Laws (labelled l)) (keeps : Keeps l) (h : ℕ) (lt
       let has = subst (λ (z : Option ℕ). Has z (w.desks child).fds (w.all.cwd child) (w.desks child).directory (w.desks h).directory) asks.1 (inv.lent child h asks.0.0 asks.0.1).has in
       (λ z. first (has.0 i below z) (lent_by w.desks (asks.0.1 z) i)) ∙ asks.2 i low below
 
-  pub lend_acts : (child from : ℕ) (m : Lending → Option above.Mark) → ActsOnce l h (Lend child from) m (lend child from)
+  pub lend_acts : (child from : ℕ) (m : LoanResult → Option above.Mark) → ActsOnce l h (Lend child from) m (lend child from)
   unfolding steps.exec premises.May premises.MayWait
   lend_acts child from m =
       one_step l laws keeps h (Lend child from) m (λ c. steps.Give child from) (λ c. lent_to) (λ c a. c) (λ v. tt)

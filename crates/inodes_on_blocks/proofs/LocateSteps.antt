@@ -36,7 +36,7 @@ use Rattle.inode_machine.specs.World as above
 use Rattle.inode_machine.specs.Rules.{Inv}
 use Rattle.inodes_on_blocks.specs.Below.{World, log_of, disk_of}
 use Rattle.inodes_on_blocks.specs.Giving.{KeepsRoom}
-use Rattle.inodes_on_blocks.specs.Holding.{in_hand, Fetched}
+use Rattle.inodes_on_blocks.specs.Holding.{in_hand, IsFetched}
 use Rattle.inodes_on_blocks.specs.Lowering.{Carry, below, buffer_in, Labels, labelled, Keeps}
 use Rattle.inodes_on_blocks.specs.Recording.{IsChanging}
 use Rattle.inodes_on_blocks.specs.Shown.{Shows}
@@ -151,7 +151,7 @@ module _ (sizes : Super) (l : Labels) (laws : Laws (labelled l)) (keeps : Keeps 
           subst (λ (q : Super). IsData q t) ((good_seen (log_of r).sizes (seen_of (log_of r)) (length (log_of r).contents) shows.blocks.seen).sizes_are ∙ at) (table_owned r g changing).block
 
       -- its buffer is in hand at v
-      module _ (w : W) (es : List l.Step) (start : In d bs es w) (v : W) (fs : List l.Step) (got : Fetched h t (G fs) w v) where
+      module _ (w : W) (es : List l.Step) (start : In d bs es w) (v : W) (fs : List l.Step) (got : IsFetched h t (G fs) w v) where
         abbrev bytes : List ℕ
         bytes = seen_of (log_of v.real) t
 

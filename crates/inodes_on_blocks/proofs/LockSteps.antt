@@ -24,7 +24,7 @@ use Rattle.fs_machine.specs.Premises as premises
 use Rattle.fs_machine.specs.Premises.{MayLockFile, IsElsewhere}
 use Rattle.inode_machine.specs.Inodes.{Sort, OfDirectory, OfFile, OfDevice}
 use Rattle.inode_machine.specs.World as above
-use Rattle.inode_machine.specs.World.{Entry, Locking, NotLocked, LocksIt}
+use Rattle.inode_machine.specs.World.{Entry, LockResult, NotLocked, LocksIt}
 use Rattle.inode_machine.specs.World.Op.{LockFile, LockOpen}
 use Rattle.inode_machine.specs.Exec.{entry_at, entry_of, slot_at, lock_at, lock_if, locked, mode_refusal, offset_of, read_refused}
 use Rattle.inode_machine.specs.Rules as rules
@@ -118,14 +118,14 @@ module _ (l : Labels) (laws : Laws (labelled l)) (keeps : Keeps l) (h : ℕ) (lt
 
   -- ---- to read
 
-  module _ (m : Locking → Option above.Mark) where
+  module _ (m : LockResult → Option above.Mark) where
     pub file_acts : ActsOnceAt sizes l h (LockFile fd) m (lock_file sizes fd)
     unfolding steps.exec premises.May premises.MayWait lock_named
     file_acts c B C es w lasts todo stands =
         s-act (labelled l) (below sizes) laws (below_laws sizes l keeps) h B (LockFile fd) m C lasts above.Room (steps.LockFile want.Read fd) (file_locked sizes fd c) (Below (labelled l) (below sizes) h C) 3 es w todo
         (λ v fs here may. by v here.shows here.inv ((below_laws sizes l keeps).base h w.real v.real w.seen v.seen c here.same here.kept stands) may (entry_of v.seen h fd) refl (read_refused (entry_of v.seen h fd)) refl)
       where
-        Next : LockedState → Locking → World → above.World → Type 0
+        Next : LockedState → LockResult → World → above.World → Type 0
         Next a b u g = (gs : List l.Step) → Inv g → C b gs g → Wp (joined (labelled l) (below sizes)) h B (Below (labelled l) (below sizes) h C) (file_locked sizes fd c a) 3 gs (record { real = u; seen = g })
 
         IsActing : W → Did LockedState World → Type 0

@@ -11,7 +11,7 @@ use Rattle.plain_tree.specs.Tree.{put}
 use Rattle.plain_tree.specs.Widths.{hart_count}
 use Rattle.atomic_programs.specs.Prog.{Ret, bind, Ran}
 use Rattle.atomic_programs.specs.Logic.{Laws, Machine, Wp}
-use Rattle.atomic_programs.specs.Joined.{Both, joined, Below, Lasts, Handed}
+use Rattle.atomic_programs.specs.Joined.{Both, joined, Below, Lasts, Handover}
 use Rattle.atomic_programs.proofs.Sound.{Wp-weaker}
 use Rattle.atomic_programs.proofs.Joined.{Here, ToAct, to_act, may_act, Acting, s-act}
 use Rattle.fs_machine.specs.LogPart.{Outside}
@@ -28,7 +28,7 @@ use Rattle.inode_machine.specs.Rules as rules
 use Rattle.inode_machine.specs.Rules.{Inv}
 use Rattle.inodes_on_blocks.specs.Below.{World, log_of, exec}
 use Rattle.inodes_on_blocks.specs.Giving.{KeepsRoom, world_with}
-use Rattle.inodes_on_blocks.specs.Holding.{in_hand, Fetched}
+use Rattle.inodes_on_blocks.specs.Holding.{in_hand, IsFetched}
 use Rattle.inodes_on_blocks.specs.Lowering.{NothingMore, Has, Carry, below, Labels, labelled, Keeps}
 use Rattle.inodes_on_blocks.specs.Naming.{put_named}
 use Rattle.inodes_on_blocks.specs.Recording.{CanPut, IsChanging, owners_with, with_record}
@@ -65,7 +65,7 @@ module _ (sizes : Super) (l : Labels) (laws : Laws (labelled l)) (keeps : Keeps 
     abbrev b : ℕ
     b = inode_block sizes.inodestart n
 
-    abbrev Q : Handed (above.Answer op) Carry → List l.Step → W → Type 0
+    abbrev Q : Handover (above.Answer op) Carry → List l.Step → W → Type 0
     Q r fs u = Below (labelled l) (below sizes) h C r fs u × Then u.real
 
     abbrev Todo : List l.Step → above.World → Type 0
@@ -104,7 +104,7 @@ module _ (sizes : Super) (l : Labels) (laws : Laws (labelled l)) (keeps : Keeps 
         )
 
     -- and from where the block was fetched on
-    names_then : (w v : W) (fs : List l.Step) → Shows w.real w.seen → IsChanged w → in_hand h w.real ≡ 0 → (log_of w.real).sizes ≡ sizes → Knows w.real → Fetched h b (Todo fs) w v
+    names_then : (w v : W) (fs : List l.Step) → Shows w.real w.seen → IsChanged w → in_hand h w.real ≡ 0 → (log_of w.real).sizes ≡ sizes → Knows w.real → IsFetched h b (Todo fs) w v
         → Wp M h B Q (put_named op outside m answer b n d c (seen_of (log_of v.real) b)) 1 fs v
     names_then w v fs shows changing none here_ knows got =
         s-act (labelled l) (below sizes) laws (below_laws sizes l keeps) h B op m C lasts outside (Put b (Some (with_dinode n d (seen_of (log_of v.real) b))))

@@ -21,7 +21,7 @@ module _ (sizes : Super) (l : Labels) (laws : Laws (labelled l)) (keeps : Keeps 
   fill_within n d m c s B C es w lasts todo stands few has =
       fill_acts sizes l laws keeps h lt n d m (with_record n (with_bitmap s)) refl (record_spent sizes n (with_bitmap s)) (omega (arith, few)) c B C lasts es w todo stands (has.0, both_more h n s w.real has.1)
 
-  pub enter_within : (d : ℕ) (e : Name) (n : ℕ) (m : above.Entered → Option above.Mark) → ActsWithin sizes l h (Enter d e n) m (enter sizes d e n)
+  pub enter_within : (d : ℕ) (e : Name) (n : ℕ) (m : above.EntryResult → Option above.Mark) → ActsWithin sizes l h (Enter d e n) m (enter sizes d e n)
   enter_within d e n m c s B C es w lasts todo stands few has =
       enter_acts sizes l laws keeps h lt d e n m (with_record d (with_bitmap s)) refl (record_spent sizes d (with_bitmap s)) (omega (arith, few)) c B C lasts es w todo stands (has.0, both_more h d s w.real has.1)
 

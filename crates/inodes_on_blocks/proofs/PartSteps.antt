@@ -22,7 +22,7 @@ use Rattle.fs_machine.specs.Programs.{fetch}
 use Rattle.fs_machine.specs.Shown.{seen_of}
 use Rattle.inode_data.specs.declared.location.Located.{Located}
 use Rattle.inode_data.specs.Addresses.{table_of}
-use Rattle.inode_data.specs.Writing.{Written, front_of, with_part, put_part, write_in, write_located, locate}
+use Rattle.inode_data.specs.Writing.{WriteResult, front_of, with_part, put_part, write_in, write_located, locate}
 use Rattle.inode_machine.specs.Budget.{Spent, size, with_number as with_block, most_recorded}
 use Rattle.inode_machine.specs.World as above
 use Rattle.inode_machine.specs.Rules.{Inv}
@@ -69,7 +69,7 @@ module _ (sizes : Super) (l : Labels) (laws : Laws (labelled l)) (keeps : Keeps 
 
   module _ {A : Type 0} (Q : A → List l.Step → W → Type 0) (G : List l.Step → above.World → Type 0) (stable : Stable (labelled l) (below sizes) laws (below_laws sizes l keeps) h B G)
       (n : ℕ) (changes : (fs : List l.Step) (g : above.World) → G fs g → Inv g → IsChanging h n g) (c : Carry) (o : Option Node) (x y : Node) (s : Spent) (bitmap : s.bitmap ≡ true) (far : Bool) (k z e was most : ℕ) (small : size s + most < most_recorded)
-      (at : ℕ) (bytes : List ℕ) (are : IsBytes bytes) (makes : MakesPart h n k z e at bytes c o x y) (more : Dinode → P M Written) (f : Written → P M A) (j : ℕ)
+      (at : ℕ) (bytes : List ℕ) (are : IsBytes bytes) (makes : MakesPart h n k z e at bytes c o x y) (more : Dinode → P M WriteResult) (f : WriteResult → P M A) (j : ℕ)
       -- where it goes on: no block was free, or the part was written
       (lacks : (d : Dinode) (bs : List ℕ) (v : W) (fs : List l.Step) → Between sizes h n (G fs) c o (sized z d) x (HasBlocks sizes h s bs) v → Fits was d → length bs ≤ most → Wp M h B Q (f (record { inode = d; upto = at })) j fs v)
       (goes : (d : Dinode) (bs : List ℕ) (v : W) (fs : List l.Step) → Between sizes h n (G fs) c o (sized e d) y (HasBlocks sizes h s bs) v → Fits was d → length bs + extra far bs (table_of d) ≤ suc most → Wp M h B Q (bind (more d) f) j fs v) where

@@ -38,7 +38,7 @@ use Rattle.inode_machine.specs.Rules.{if_kept, Inv}
 use Rattle.inodes_on_blocks.specs.Below.{World, log_of, tables_of, disk_of}
 use Rattle.inodes_on_blocks.specs.Shown.{Shows}
 use Rattle.inodes_on_blocks.specs.Lowering.{below, Labels, labelled, Keeps}
-use Rattle.inodes_on_blocks.specs.Holding.{in_hand, SameBut, Fetched}
+use Rattle.inodes_on_blocks.specs.Holding.{in_hand, SameBut, IsFetched}
 use Rattle.inodes_on_blocks.specs.Recording.{CanPut, PutLeaves, IsChanging, log_with, owners_with}
 use Rattle.inodes_on_blocks.specs.Giving.{world_with, KeepsRoom, GaveBlock, Gave}
 use Rattle.inodes_on_blocks.proofs.Alone.{kept_then}
@@ -237,7 +237,7 @@ module _ (sizes : Super) (l : Labels) (laws : Laws (labelled l)) (keeps : Keeps 
 
       -- the bitmap is fetched, and at u goes back without the bit
       gives : (k : Unit {0} → P M A) (j : ℕ) (w v u : W) (fs gs : List l.Step) → (log_of w.real).sizes ≡ sizes → lock_holder n (tables_of w.real) ≡ Some h → w.real.owner b ≡ n → Knows w.real
-          → Fetched h bitmap (G fs) w v → IsHere v u gs → ((x : W) → Gave h n b (G gs) w x → Then x.real → Wp M h B Q (k tt) j gs x)
+          → IsFetched h bitmap (G fs) w v → IsHere v u gs → ((x : W) → Gave h n b (G gs) w x → Then x.real → Wp M h B Q (k tt) j gs x)
           → Putting n bitmap (without_bit b (seen_of (log_of v.real) bitmap)) k j gs u
       gives k j w v u fs gs at mine own knows got here rest =
           let old = seen_of (log_of v.real) bitmap in

@@ -13,7 +13,7 @@ use Rattle.plain_tree.specs.Widths.{hart_count}
 use Rattle.tree_laws.proofs.Maps.{put_other}
 use Rattle.atomic_programs.specs.Prog.{Ret, bind, Ran}
 use Rattle.atomic_programs.specs.Logic.{Machine, Laws, Wp}
-use Rattle.atomic_programs.specs.Joined.{Both, Handed, joined, Below, Lasts}
+use Rattle.atomic_programs.specs.Joined.{Both, Handover, joined, Below, Lasts}
 use Rattle.atomic_programs.proofs.Joined.{Acting, ToAct, to_act, may_act, s-act}
 use Rattle.atomic_programs.proofs.Sound.{Wp-more}
 use Rattle.fs_tables.specs.declared.files.OpenFile as files
@@ -25,7 +25,7 @@ use Rattle.fs_machine.specs.Premises as premises
 use Rattle.fs_machine.specs.Steps as steps
 use Rattle.inode_table.specs.Programs.{no_record}
 use Rattle.inode_data.specs.declared.addresses.Address.TheVariants.{Direct, InTable}
-use Rattle.inode_data.specs.Programs.{Filled, blocks_between, end_of, fetch_at, next_block, read_blocks, read_from, read_part}
+use Rattle.inode_data.specs.Programs.{FilledMemory, blocks_between, end_of, fetch_at, next_block, read_blocks, read_from, read_part}
 use Rattle.inode_machine.specs.World as above
 use Rattle.inode_machine.specs.World.{Entry}
 use Rattle.inode_machine.specs.World.Op.{ReadFile}
@@ -111,7 +111,7 @@ module _ (l : Labels) (laws : Laws (labelled l)) (keeps : Keeps l) (h : ℕ) (lt
   op = ReadFile fd n offset count
 
   -- the program takes a step
-  takes : (B : List l.Step → Type 0) (k : ℕ) (d : Dinode) (from upto : ℕ) (f : Filled) (c : Carry) → TakesStep sizes l laws keeps h lt B (bind (read_blocks k d from upto f) (give_read fd n offset count m c))
+  takes : (B : List l.Step → Type 0) (k : ℕ) (d : Dinode) (from upto : ℕ) (f : FilledMemory) (c : Carry) → TakesStep sizes l laws keeps h lt B (bind (read_blocks k d from upto f) (give_read fd n offset count m c))
   unfolding read_blocks
   takes B zero d from upto f c = tt
   takes B (suc k) d from upto f c = by (nat_lt (from / 1024) 12)
@@ -121,7 +121,7 @@ module _ (l : Labels) (laws : Laws (labelled l)) (keeps : Keeps l) (h : ℕ) (lt
       by false = tt
 
   module _ (c : Carry) (B : List l.Step → Type 0) (C : List ℕ → List l.Step → above.World → Type 0) (lasts : Lasts (labelled l) h B C) where
-    abbrev Q : Handed (List ℕ) Carry → List l.Step → W → Type 0
+    abbrev Q : Handover (List ℕ) Carry → List l.Step → W → Type 0
     Q = Below (labelled l) (below sizes) h C
 
     abbrev Todo : List l.Step → above.World → Type 0
@@ -214,7 +214,7 @@ module _ (l : Labels) (laws : Laws (labelled l)) (keeps : Keeps l) (h : ℕ) (lt
             (s-reads sizes l laws keeps h lt B Q Todo (to_act (labelled l) (below sizes) laws (below_laws sizes l keeps) h B op m C lasts) n (Some node) (give_read fd n offset count m c) 1 v holds used mine stands.0.free
             blocks offset (end_of d offset count) (with_bytes []) v fs ((below_laws sizes l keeps).same h v.real) (kept_same h v.seen) todo (blocks_within v.real v.seen shows n node holds used plain offset count)
             (λ z gs same kept stage.
-            subst (λ (f : Filled). Wp M h B Q (give_read fd n offset count m c f) 1 gs z) (sym (part_read v.real v.seen shows n node holds used plain offset count))
+            subst (λ (f : FilledMemory). Wp M h B Q (give_read fd n offset count m c f) 1 gs z) (sym (part_read v.real v.seen shows n node holds used plain offset count))
             (gives part (part_short v.real v.seen shows n node holds used plain offset count) gs z stage ((below_laws sizes l keeps).base h v.real z.real v.seen z.seen c same kept stands)
             (ap (λ (o : Option Node). part_of o offset count) ((kept_disk h n v.seen z.seen kept stands.0.lent hand.keeps).1 ∙ there))))))
 

@@ -9,24 +9,24 @@ use Rattle.plain_tree.specs.Tree.{Name, same_name}
 use Rattle.group_log.specs.declared.log.Left.{Left}
 use Rattle.group_log.specs.declared.log.Left.TheVariants.{Free, Commits}
 use Rattle.atomic_programs.specs.Prog.{Ret, Do, bind}
-use Rattle.atomic_programs.specs.Joined.{Handed}
+use Rattle.atomic_programs.specs.Joined.{Handover}
 use Rattle.fs_tables.specs.Inodes.{LockedState, Refuses, Locks}
 use Rattle.fs_machine.specs.LogPart.{LogPart}
-use Rattle.fs_machine.specs.Steps.{Claimed, Claims, NoPlace, NoInode}
+use Rattle.fs_machine.specs.Steps.{ClaimResult, Claims, NoPlace, NoInode}
 use Rattle.fs_machine.specs.Programs.{fetch, read_unless, commit_unless, commits, most_writes, after_leave}
 use Rattle.bitmap_alloc.specs.Programs.{free_block, clear_bit}
 use Rattle.inode_table.specs.NewInodes.{inode_blocks}
 use Rattle.inode_table.specs.Programs.{give_back, inode_block, load_unless, put_inode, store as store_inode}
 use Rattle.inode_data.specs.Addresses.{address, table_of}
 use Rattle.inode_data.specs.Freeing.{free_numbers, free_table, free_in_table, free_indirect, freed, without_content}
-use Rattle.inode_data.specs.Programs.{Filled, blocks_between, end_of, fetch_at, fetch_block, fetch_named, fetch_number, filled_with, give_fetched, next_block, part_of, read_blocks, read_from, read_part}
+use Rattle.inode_data.specs.Programs.{FilledMemory, blocks_between, end_of, fetch_at, fetch_block, fetch_named, fetch_number, filled_with, give_fetched, next_block, part_of, read_blocks, read_from, read_part}
 use Rattle.inode_data.specs.Widths.{direct}
 use Rattle.inode_data.specs.declared.addresses.Address.{Address}
 use Rattle.inode_data.specs.declared.addresses.Address.TheVariants.{Direct, InTable}
 use Rattle.directory.specs.Programs.{Aim, Entry, Named, block_count, found_in, is_directory, is_live_directory, look_at, lookup, or_next, search, search_from, with_slot}
 use Rattle.directory.specs.declared.found.Found.{Found}
 use Rattle.inode_machine.specs.Budget.{Spent, unspent, with_bitmap, with_contents, with_record}
-use Rattle.inode_machine.specs.Inodes.{Looking, AtNothing, AtName, AtEntries, Sort}
+use Rattle.inode_machine.specs.Inodes.{Query, AtNothing, AtName, AtEntries, Sort}
 use Rattle.inode_machine.specs.World as above
 use Rattle.inodes_on_blocks.specs.Accounts.{used, Accounts, IsSpent}
 use Rattle.inodes_on_blocks.specs.Handlers.{P}
@@ -127,7 +127,7 @@ module _ (sizes : Super) where
     no_slot_of (Has d (Opened fd offset)) e = no_sought d e
     no_slot_of Emptied e = same s
 
-    no_looked : (looking : Looking) (c : Carry) (n : ℕ) (d : Dinode) → Nothing (looked looking c n d)
+    no_looked : (looking : Query) (c : Carry) (n : ℕ) (d : Dinode) → Nothing (looked looking c n d)
     no_looked AtNothing c n d = same s
     no_looked (AtName e) c n d = records_bind (lookup e d) (λ o. seen_record c n d (learned e o) (number_found o) true) s s s (records_if (is_live_directory d) (search (Named e) d) (Ret None) s s (no_search (block_count d) (Named e) d 0) (same s)) (λ o. same s)
     no_looked AtEntries c n d = records_bind (search_entries d) (λ o. seen_record c n d NothingMore None (not (is_some o))) s s s (records_if (is_directory d) (search Entry d) (Ret None) s s (no_search (block_count d) Entry d 0) (same s)) (λ o. same s)
@@ -140,7 +140,7 @@ module _ (sizes : Super) where
     no_file fd c (Refuses why) = same s
     no_file fd c (Locks f content) = records_bind (load_unless sizes.inodestart f.number content) (with_file (above.LocksIt f.number f.offset) c fd f.number f.offset) s s s (no_load sizes.inodestart f.number content) (λ d. same s)
 
-    no_read : (n : ℕ) (d : Dinode) (from upto : ℕ) (m : Filled) → Nothing (read_blocks n d from upto m)
+    no_read : (n : ℕ) (d : Dinode) (from upto : ℕ) (m : FilledMemory) → Nothing (read_blocks n d from upto m)
     unfolding read_blocks
     no_read zero d from upto m = same s
     no_read (suc n) d from upto m =
@@ -198,16 +198,16 @@ module _ (sizes : Super) where
         records_bind (fetch (inode_block sizes.inodestart n)) (put_inode (inode_block sizes.inodestart n) n d) s s s (no_fetch s (inode_block sizes.inodestart n)) (λ bytes. (s, same s, λ a. (s, inl (is, refl), same s)))
 
   -- a block looked through, and the record of a new inode in it, whose number isn't known before: a block more
-  claimed_more : (s : Spent) (sort : Sort) (c : Carry) (b : ℕ) (bytes : List ℕ) (more : P (Handed above.Claimed Carry)) (a : Claimed) → Records sizes s more (with_contents 1 s) → Records sizes s (claim_in more (kind_of sort) b bytes c a) (with_contents 1 s)
+  claimed_more : (s : Spent) (sort : Sort) (c : Carry) (b : ℕ) (bytes : List ℕ) (more : P (Handover above.ClaimResult Carry)) (a : ClaimResult) → Records sizes s more (with_contents 1 s) → Records sizes s (claim_in more (kind_of sort) b bytes c a) (with_contents 1 s)
   claimed_more s sort c b bytes more (Claims i) rec = (s, same s, λ _. (with_contents 1 s, inr refl, same (with_contents 1 s)))
   claimed_more s sort c b bytes more NoPlace rec = (s, same s, λ _. (s, refl, one_more s))
   claimed_more s sort c b bytes more NoInode rec = rec
 
-  claims : (s : Spent) (sort : Sort) (c : Carry) (m : above.Claimed → Option above.Mark) (n q : ℕ) → Records sizes s (claim_from n sizes sort c m q) (with_contents 1 s)
+  claims : (s : Spent) (sort : Sort) (c : Carry) (m : above.ClaimResult → Option above.Mark) (n q : ℕ) → Records sizes s (claim_from n sizes sort c m q) (with_contents 1 s)
   unfolding claim_from
   claims s sort c m zero q = one_more s
   claims s sort c m (suc n) q =
-      let more : P (Handed above.Claimed Carry) = claim_from n sizes sort c m (q + 1) in
+      let more : P (Handover above.ClaimResult Carry) = claim_from n sizes sort c m (q + 1) in
       let b : ℕ = sizes.inodestart + q in
       records_bind (fetch b) (claim_at more sizes sort c m n q b) s s (with_contents 1 s) (no_fetch s b) (λ bytes. (s, same s, λ a. (s, refl, claimed_more s sort c b bytes more a (claims s sort c m n (q + 1)))))
 
@@ -226,7 +226,7 @@ module _ (sizes : Super) where
     free = λ n c m s.
         let d : Dinode = without_content (record_in c n) in
         let at : ℕ = inode_block sizes.inodestart n in
-        let last : P (Handed (Unit {0}) Carry) = bind (fetch at) (put_record (above.Free n) m (tt {0}) at n (freed d) Emptied c) in
+        let last : P (Handover (Unit {0}) Carry) = bind (fetch at) (put_record (above.Free n) m (tt {0}) at n (freed d) Emptied c) in
         let r : Spent = with_record n (with_bitmap s) in
         let is = record_spent sizes n (with_bitmap s) in
         records_from (give_content sizes (record_in c n) (bind (store_inode sizes.inodestart n d) (λ _. last))) s r r (emptied n s)
@@ -249,7 +249,7 @@ module _ (sizes : Super) where
     empty = λ n c m s.
         let d : Dinode = without_content (record_in c n) in
         let at : ℕ = inode_block sizes.inodestart n in
-        let last : P (Handed (Unit {0}) Carry) = bind (fetch at) (put_record (above.Empty n) m (tt {0}) at n d (Has d NothingMore) c) in
+        let last : P (Handover (Unit {0}) Carry) = bind (fetch at) (put_record (above.Empty n) m (tt {0}) at n d (Has d NothingMore) c) in
         let r : Spent = with_record n (with_bitmap s) in
         records_from (give_content sizes (record_in c n) last) s r r (emptied n s)
         (gives_content r (inr (refl, refl)) (record_in c n) last r (puts_record r (above.Empty n) m (tt {0}) n d (Has d NothingMore) c (record_spent sizes n (with_bitmap s))));

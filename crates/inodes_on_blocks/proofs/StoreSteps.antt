@@ -21,7 +21,7 @@ use Rattle.image_laws.proofs.LaidInodes.{laid_before, node_held, count_laid}
 use Rattle.image_laws.proofs.SeenDisks.{good_seen}
 use Rattle.atomic_programs.specs.Prog.{Ret, bind, once, Ran}
 use Rattle.atomic_programs.specs.Logic.{Laws, Machine, Wp}
-use Rattle.atomic_programs.specs.Joined.{Both, joined, Below, Lasts, Handed}
+use Rattle.atomic_programs.specs.Joined.{Both, joined, Below, Lasts, Handover}
 use Rattle.atomic_programs.proofs.Joined.{Here, ToAct, to_act, may_act, Acting, s-act}
 use Rattle.fs_tables.specs.Tables.{holder_of as lock_holder}
 use Rattle.fs_machine.specs.LogPart.{LogPart, Outside, put_block}
@@ -43,7 +43,7 @@ use Rattle.inodes_on_blocks.specs.Below.{World, log_of, tables_of, disk_of, inod
 use Rattle.inodes_on_blocks.specs.Recording.{CanPut}
 use Rattle.inodes_on_blocks.specs.Shown.{Shows}
 use Rattle.inodes_on_blocks.specs.Lowering.{NothingMore, Had, Apart, Has, Emptied, Carry, record_had, IsLoaded, InHand, Base, Stands, below, Labels, labelled, Keeps, IsOpened, IsThrough}
-use Rattle.inodes_on_blocks.specs.Holding.{in_hand, HasBuffer, Fetched}
+use Rattle.inodes_on_blocks.specs.Holding.{in_hand, HasBuffer, IsFetched}
 use Rattle.inodes_on_blocks.specs.Room.{GivesRoom}
 use Rattle.inodes_on_blocks.specs.Storing.{record_in, put_record, store}
 use Rattle.inodes_on_blocks.proofs.Marked.{marked_same, shows_marked}
@@ -137,7 +137,7 @@ module _ (sizes : Super) (l : Labels) (laws : Laws (labelled l)) (keeps : Keeps 
     abbrev b : ℕ
     b = inode_block sizes.inodestart n
 
-    abbrev Q : Handed (above.Answer op) Carry → List l.Step → W → Type 0
+    abbrev Q : Handover (above.Answer op) Carry → List l.Step → W → Type 0
     Q = Below (labelled l) (below sizes) h C
 
     abbrev Todo : List l.Step → above.World → Type 0
@@ -182,7 +182,7 @@ module _ (sizes : Super) (l : Labels) (laws : Laws (labelled l)) (keeps : Keeps 
             let inodes = shows.blocks.seen.good.inodes in let bound = (lock_range n h v.real v.seen shows mine).1 in absurd (omega (arith, inodes, bound, e))
 
     -- and from where the block was fetched on
-    puts_then : (w v : W) (fs : List l.Step) → Ready sizes h This w.real w.seen → Knows w.real → Fetched h b (Todo fs) w v → Wp M h B Q (put_record op m answer b n d had c (seen_of (log_of v.real) b)) 1 fs v
+    puts_then : (w v : W) (fs : List l.Step) → Ready sizes h This w.real w.seen → Knows w.real → IsFetched h b (Todo fs) w v → Wp M h B Q (put_record op m answer b n d had c (seen_of (log_of v.real) b)) 1 fs v
     puts_then w v fs ready knows got =
         s-act (labelled l) (below sizes) laws (below_laws sizes l keeps) h B op m C lasts above.Room (Put b (Some (with_dinode n d (seen_of (log_of v.real) b))))
         (λ a. Ret (record { answer = answer; carry = put c n had })) Q 0 fs v got.stage

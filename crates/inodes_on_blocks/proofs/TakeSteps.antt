@@ -14,7 +14,7 @@ use Rattle.image_tree.specs.Inodes.{is_free}
 use Rattle.image_laws.specs.Holds.{HoldsAt}
 use Rattle.atomic_programs.specs.Prog.{Ret, bind, Did, Waits, Ran, did_in}
 use Rattle.atomic_programs.specs.Logic.{Machine, Laws, P, Wp}
-use Rattle.atomic_programs.specs.Joined.{Both, Handed, joined, Below, Lasts}
+use Rattle.atomic_programs.specs.Joined.{Both, Handover, joined, Below, Lasts}
 use Rattle.atomic_programs.proofs.Joined.{Acting, acted, s-act}
 use Rattle.atomic_programs.proofs.Sound.{Wp-more}
 use Rattle.fs_tables.specs.Tables.{TablesState, holder_of as lock_holder}
@@ -23,7 +23,7 @@ use Rattle.fs_machine.specs.LogPart.{Outside}
 use Rattle.fs_machine.specs.Steps as steps
 use Rattle.fs_machine.specs.Steps.{Lock}
 use Rattle.fs_machine.specs.Premises as premises
-use Rattle.inode_machine.specs.Inodes.{Seen, Looking, AtNothing, AtName, AtEntries, seen_in}
+use Rattle.inode_machine.specs.Inodes.{Sight, Query, AtNothing, AtName, AtEntries, seen_in}
 use Rattle.inode_machine.specs.World as above
 use Rattle.inode_machine.specs.World.Op.{Take}
 use Rattle.inode_machine.specs.Exec.{lock_if, locked}
@@ -34,7 +34,7 @@ use Rattle.inodes_on_tables.specs.Shown.{loaded}
 use Rattle.inodes_on_tables.proofs.Locks.{by_lock, place_there}
 use Rattle.inodes_on_blocks.specs.Below.{World, log_of, tables_of, disk_of, inode_in, exec}
 use Rattle.inodes_on_blocks.specs.Shown.{Shows}
-use Rattle.inodes_on_blocks.specs.Lowering.{Same, Kept, Learned, NothingMore, Had, Has, Carry, IsKnown, IsLoaded, InHand, Base, Stands, below, Labels, labelled, Keeps, IsOpened}
+use Rattle.inodes_on_blocks.specs.Lowering.{Same, Kept, Knowledge, NothingMore, Had, Has, Carry, IsKnown, IsLoaded, InHand, Base, Stands, below, Labels, labelled, Keeps, IsOpened}
 use Rattle.inodes_on_blocks.specs.Acting.{ActsOnceAt}
 use Rattle.inodes_on_blocks.specs.Reading.{face_in, number_found, learned, seen_record, looked, take}
 use Rattle.inode_table.specs.Programs.{load_unless}
@@ -49,12 +49,12 @@ use Rattle.inodes_on_blocks.proofs.StatSteps.{in_use, face_seen, lock_came, came
 use Rattle.inodes_on_blocks.proofs.Tables.{with_tables, unlocked_holds}
 
 -- the steps after the load: six a block
-abbrev steps_of : Looking → ℕ
+abbrev steps_of : Query → ℕ
 steps_of AtNothing = 0
 steps_of (AtName e) = 1608
 steps_of AtEntries = 1608
 
-same_ran : (b : Seen) (g u : above.World) → Ran b g ≡ Ran b u → g ≡ u
+same_ran : (b : Sight) (g u : above.World) → Ran b g ≡ Ran b u → g ≡ u
 same_ran b g u e = cc e
 
 -- an inode that a hart refers to isn't new, where none is new by it
@@ -74,7 +74,7 @@ referred_old h n r g lt shows inv through some =
     ])
 
 -- what was learned of an inode beside its record
-pub learned_base : (h n : ℕ) (r : World) (g : above.World) (c : Carry) (d : Dinode) (learns : Learned) → IsKnown learns (g.disk n) → IsOpened h n (Has d learns) g → Base h r g (put c n (Has d NothingMore)) → Base h r g (put c n (Has d learns))
+pub learned_base : (h n : ℕ) (r : World) (g : above.World) (c : Carry) (d : Dinode) (learns : Knowledge) → IsKnown learns (g.disk n) → IsOpened h n (Has d learns) g → Base h r g (put c n (Has d NothingMore)) → Base h r g (put c n (Has d learns))
 learned_base h n r g c d learns known opened base = record {
   free = base.free;
   taken = base.taken;
@@ -105,16 +105,16 @@ module _ (l : Labels) (laws : Laws (labelled l)) (keeps : Keeps l) (h : ℕ) (lt
 
   -- ---- where the lock was had, in w, and the inode is loaded
 
-  module _ (m : Seen → Option above.Mark) (c : Carry) (B : List l.Step → Type 0) (C : Seen → List l.Step → above.World → Type 0) (lasts : Lasts (labelled l) h B C) (w : W) (node : Node)
+  module _ (m : Sight → Option above.Mark) (c : Carry) (B : List l.Step → Type 0) (C : Sight → List l.Step → above.World → Type 0) (lasts : Lasts (labelled l) h B C) (w : W) (node : Node)
       (is : w.seen.disk n ≡ Some node) (holds : HoldsAt (disk_of (log_of w.real)) w.real.owner n (Some node)) (mine : lock_holder n (tables_of w.real) ≡ Some h)
       (stands : Stands sizes h w.real w.seen (put c n (Has (inode_in (log_of w.real) n) NothingMore))) where
     abbrev d : Dinode
     d = inode_in (log_of w.real) n
 
-    abbrev Q : Handed Seen Carry → List l.Step → W → Type 0
+    abbrev Q : Handover Sight Carry → List l.Step → W → Type 0
     Q = Below (labelled l) (below sizes) h C
 
-    abbrev Goes : P M (Handed Seen Carry) → ℕ → Looking → Type 0
+    abbrev Goes : P M (Handover Sight Carry) → ℕ → Query → Type 0
     Goes p j looking = (v : W) (fs : List l.Step) → Same h w.real v.real → Kept h w.seen v.seen → C (seen_in n looking (Some node)) fs v.seen → Wp M h B Q p j fs v
 
     used : is_free d ≡ false
@@ -125,16 +125,16 @@ module _ (l : Labels) (laws : Laws (labelled l)) (keeps : Keeps l) (h : ℕ) (lt
     learned_apart e (Some f) g = tt
 
     -- what is answered is what is seen above
-    ends : (looking : Looking) (learns : Learned) (found : Option ℕ) (empty : Bool) → ((g : above.World) → IsOpened h n (Has d learns) g) → IsKnown learns (Some node) → found ≡ (seen_in n looking (Some node)).found → empty ≡ (seen_in n looking (Some node)).empty → Goes (seen_record c n d learns found empty) 0 looking
+    ends : (looking : Query) (learns : Knowledge) (found : Option ℕ) (empty : Bool) → ((g : above.World) → IsOpened h n (Has d learns) g) → IsKnown learns (Some node) → found ≡ (seen_in n looking (Some node)).found → empty ≡ (seen_in n looking (Some node)).empty → Goes (seen_record c n d learns found empty) 0 looking
     ends looking learns found empty apart known found_is empty_is v fs same kept stage =
         let face_is = face_seen d (Some node) holds.inode (λ e. none-some node (sym e)) in
         let answer : record { face = if is_free d then None else Some (face_in d); found = found; empty = empty } ≡ seen_in n looking (Some node) = λ i. record { face = face_is i; found = found_is i; empty = empty_is i } in
         let there = (below_laws sizes l keeps).base h w.real v.real w.seen v.seen (put c n (Has d NothingMore)) same kept stands in
         let still = (kept_disk h n w.seen v.seen kept stands.0.lent (stands.0.inodes n mine).keeps).1 ∙ is in
-        (subst (λ (a : Seen). C a fs v.seen) (sym answer) stage, (learned_base h n v.real v.seen c d learns (subst (IsKnown learns) (sym still) known) (apart v.seen) there.0, there.1))
+        (subst (λ (a : Sight). C a fs v.seen) (sym answer) stage, (learned_base h n v.real v.seen c d learns (subst (IsKnown learns) (sym still) known) (apart v.seen) there.0, there.1))
 
     -- a search, and what is answered by what it finds
-    searched : (looking : Looking) (aim : Aim) (learns : Option Found → Learned) (found : Option Found → Option ℕ) (empty : Option Found → Bool)
+    searched : (looking : Query) (aim : Aim) (learns : Option Found → Knowledge) (found : Option Found → Option ℕ) (empty : Option Found → Bool)
         → ((o : Option Found) (g : above.World) → IsOpened h n (Has d (learns o)) g) → IsKnown (learns (search_finds (disk_of (log_of w.real)) w.real.owner n node holds used aim)) (Some node)
         → found (search_finds (disk_of (log_of w.real)) w.real.owner n node holds used aim) ≡ (seen_in n looking (Some node)).found
         → empty (search_finds (disk_of (log_of w.real)) w.real.owner n node holds used aim) ≡ (seen_in n looking (Some node)).empty
@@ -148,7 +148,7 @@ module _ (l : Labels) (laws : Laws (labelled l)) (keeps : Keeps l) (h : ℕ) (lt
         (λ q low. let within = block_within (disk_of (log_of w.real)) w.real.owner n node holds used q low in omega (arith, within))
         (ends looking (learns (search_finds (disk_of (log_of w.real)) w.real.owner n node holds used aim)) (found (search_finds (disk_of (log_of w.real)) w.real.owner n node holds used aim)) (empty (search_finds (disk_of (log_of w.real)) w.real.owner n node holds used aim)) (apart (search_finds (disk_of (log_of w.real)) w.real.owner n node holds used aim)) known found_is empty_is))
 
-    s-looked : (looking : Looking) → Goes (looked looking c n d) (steps_of looking) looking
+    s-looked : (looking : Query) → Goes (looked looking c n d) (steps_of looking) looking
     s-looked AtNothing = ends AtNothing NothingMore None true (λ g. tt) tt refl refl
     s-looked (AtName e) = by (live_directory (Some node)) refl
       where
@@ -175,11 +175,11 @@ module _ (l : Labels) (laws : Laws (labelled l)) (keeps : Keeps l) (h : ℕ) (lt
 
   -- ---- the operation
 
-  module _ (looking : Looking) (m : Seen → Option above.Mark) (c : Carry) (B : List l.Step → Type 0) (C : Seen → List l.Step → above.World → Type 0) (lasts : Lasts (labelled l) h B C) where
-    abbrev rest : Option Dinode → P M (Handed Seen Carry)
+  module _ (looking : Query) (m : Sight → Option above.Mark) (c : Carry) (B : List l.Step → Type 0) (C : Sight → List l.Step → above.World → Type 0) (lasts : Lasts (labelled l) h B C) where
+    abbrev rest : Option Dinode → P M (Handover Sight Carry)
     rest content = bind (load_unless sizes.inodestart n content) (looked looking c n)
 
-    abbrev Next : Option Dinode → Seen → World → above.World → Type 0
+    abbrev Next : Option Dinode → Sight → World → above.World → Type 0
     Next a b u g = (gs : List l.Step) → Inv g → C b gs g → Wp M h B (Below (labelled l) (below sizes) h C) (rest a) (suc (suc (suc (steps_of looking)))) gs (record { real = u; seen = g })
 
     abbrev IsActing : W → Did (Option Dinode) World → Type 0
@@ -213,8 +213,8 @@ module _ (l : Labels) (laws : Laws (labelled l)) (keeps : Keeps l) (h : ℕ) (lt
             (λ x e. shows.loads.seen n x e)
             (λ z fs same kept stage stands_z. s-looked m c B C lasts (record { real = with_tables v.real u; seen = g }) node is holds mine stands looking z fs same kept stage)
 
-  module _ (looking : Looking) (m : Seen → Option above.Mark) where
-    cost : (asked : Looking) → suc (suc (suc (steps_of asked))) ≡ looking_cost asked
+  module _ (looking : Query) (m : Sight → Option above.Mark) where
+    cost : (asked : Query) → suc (suc (suc (steps_of asked))) ≡ looking_cost asked
     cost AtNothing = refl
     cost (AtName e) = refl
     cost AtEntries = refl

@@ -23,7 +23,7 @@ use Rattle.atomic_programs.proofs.Sound.{Wp-more}
 use Rattle.fs_machine.specs.Shown.{seen_of}
 use Rattle.inode_data.specs.Addresses.{table_of}
 use Rattle.inode_data.specs.Programs.{blocks_between, next_block}
-use Rattle.inode_data.specs.Writing.{Written, front_of, with_part, write_blocks}
+use Rattle.inode_data.specs.Writing.{WriteResult, front_of, with_part, write_blocks}
 use Rattle.inode_data.proofs.ContentFronts.{side_by_side}
 use Rattle.inode_data.proofs.ReadLaw.{some_between, next_between}
 use Rattle.inode_machine.specs.Budget.{Spent, size, most_recorded}
@@ -149,7 +149,7 @@ module _ (sizes : Super) (l : Labels) (laws : Laws (labelled l)) (keeps : Keeps 
   M = joined (labelled l) (below sizes)
 
   module _ {A : Type 0} (Q : A → List l.Step → W → Type 0) (G : List l.Step → above.World → Type 0) (stable : Stable (labelled l) (below sizes) laws (below_laws sizes l keeps) h B G)
-      (n : ℕ) (changes : (fs : List l.Step) (g : above.World) → G fs g → Inv g → IsChanging h n g) (c : Carry) (o : Option Node) (s : Spent) (bitmap : s.bitmap ≡ true) (count was : ℕ) (f : Written → P M A) (j : ℕ) where
+      (n : ℕ) (changes : (fs : List l.Step) (g : above.World) → G fs g → Inv g → IsChanging h n g) (c : Carry) (o : Option Node) (s : Spent) (bitmap : s.bitmap ≡ true) (count was : ℕ) (f : WriteResult → P M A) (j : ℕ) where
     -- of this size, with these bytes, after these blocks were recorded
     abbrev In : Dinode → ℕ → List ℕ → List ℕ → List l.Step → W → Type 0
     In d z cur bs fs v = Between sizes h n (G fs) c o (sized z d) (file count cur) (HasBlocks sizes h s bs) v

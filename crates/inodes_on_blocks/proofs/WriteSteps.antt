@@ -20,7 +20,7 @@ use Rattle.plain_tree.specs.Steps.{content, is_file, node_or, write_kind}
 use Rattle.plain_tree.specs.Widths.{hart_count}
 use Rattle.atomic_programs.specs.Prog.{Ret, bind}
 use Rattle.atomic_programs.specs.Logic.{Machine, Laws, P, Wp}
-use Rattle.atomic_programs.specs.Joined.{Both, Handed, joined, Below, Lasts}
+use Rattle.atomic_programs.specs.Joined.{Both, Handover, joined, Below, Lasts}
 use Rattle.atomic_programs.proofs.Joined.{ToAct, to_act, may_act}
 use Rattle.atomic_programs.proofs.Prog.{bind-assoc}
 use Rattle.atomic_programs.proofs.Sound.{Wp-more}
@@ -29,7 +29,7 @@ use Rattle.inode_table.specs.Programs.{inode_block, no_record, store as store_in
 use Rattle.inode_data.specs.declared.addresses.Address.TheVariants.{Direct, InTable}
 use Rattle.inode_data.specs.Addresses.{table_of}
 use Rattle.inode_data.specs.Programs.{blocks_between}
-use Rattle.inode_data.specs.Writing.{Written, front_of, grown, locate_at, locate_in_table, located, name_direct, store_written, take_one, with_table, write_blocks, write_located}
+use Rattle.inode_data.specs.Writing.{WriteResult, front_of, grown, locate_at, locate_in_table, located, name_direct, store_written, take_one, with_table, write_blocks, write_located}
 use Rattle.inode_machine.specs.Budget.{Spent, size, with_bitmap, with_contents, with_record as with_inode, most_recorded}
 use Rattle.inode_machine.specs.World as above
 use Rattle.inode_machine.specs.World.{Wrote}
@@ -127,7 +127,7 @@ module _ (sizes : Super) (l : Labels) (laws : Laws (labelled l)) (keeps : Keeps 
   abbrev end : Spent
   end = with_contents 5 mid
 
-  abbrev Q : Handed Wrote Carry → List l.Step → W → Type 0
+  abbrev Q : Handover Wrote Carry → List l.Step → W → Type 0
   Q r fs u = Below (labelled l) (below sizes) h C r fs u × HasSpent sizes h end u.real
 
   abbrev Todo : List l.Step → above.World → Type 0
@@ -141,12 +141,12 @@ module _ (sizes : Super) (l : Labels) (laws : Laws (labelled l)) (keeps : Keeps 
 
   -- ---- the program takes a step
 
-  blocks_take : {A : Type 0} (k at : ℕ) (bs : List ℕ) (d : Dinode) (f : Written → P M A) → ((w : Written) → TakesStep sizes l laws keeps h lt B (f w)) → TakesStep sizes l laws keeps h lt B (bind (write_blocks k sizes at bs d) f)
+  blocks_take : {A : Type 0} (k at : ℕ) (bs : List ℕ) (d : Dinode) (f : WriteResult → P M A) → ((w : WriteResult) → TakesStep sizes l laws keeps h lt B (f w)) → TakesStep sizes l laws keeps h lt B (bind (write_blocks k sizes at bs d) f)
   unfolding write_blocks
   blocks_take zero at bs d f each = each (record { inode = d; upto = at })
   blocks_take {A} (suc k) at bs d f each = by (nat_lt (at / 1024) 12)
     where
-      more : Dinode → P M Written
+      more : Dinode → P M WriteResult
       more = write_blocks k sizes (at + length (front_of at bs)) (drop (length (front_of at bs)) bs)
 
       direct : (b : Bool) → TakesStep sizes l laws keeps h lt B
@@ -206,7 +206,7 @@ module _ (sizes : Super) (l : Labels) (laws : Laws (labelled l)) (keeps : Keeps 
         → Between sizes h n (Todo hs) c (Some (file count fs)) (sized (max d.size (offset + k)) e) (file count (overwrite fs offset (take k bytes))) (HasBlocks sizes h mid bs) u → Fits d.size e → length bs ≤ 5
         → Wp M h B Q (bind (store_written sizes n (record { inode = e; upto = offset + k })) (give_written fd n offset bytes m c)) 4 hs u
     ends allowed e bs k u hs within now fits few =
-        subst (λ (p : P M (Handed Wrote Carry)). Wp M h B Q p 4 hs u) (sym (bind-assoc (store_inode sizes.inodestart n last) (λ _. Ret wrote) (give_written fd n offset bytes m c)))
+        subst (λ (p : P M (Handover Wrote Carry)). Wp M h B Q p 4 hs u) (sym (bind-assoc (store_inode sizes.inodestart n last) (λ _. Ret wrote) (give_written fd n offset bytes m c)))
         (s-stored sizes l laws keeps h lt B Q Todo (to_act (labelled l) (below sizes) laws (below_laws sizes l keeps) h B op m C lasts) n changes c (Some (file count fs)) last (file count (overwrite fs offset (take k bytes)))
         (sized_fits (max e.size (offset + k)) e (let size_is = fits.1 in let low = small in omega (arith, limit, within, size_is, low)) fits.0)
         (HasBlocks sizes h mid bs) (HasBlocks sizes h mid bs) (named_room sizes h (inode_block sizes.inodestart n) mid bs (record_spent sizes n (with_bitmap s)) (omega (arith, few, room)))
@@ -221,7 +221,7 @@ module _ (sizes : Super) (l : Labels) (laws : Laws (labelled l)) (keeps : Keeps 
         limit : offset + length bytes ≤ largest_size
         limit = (fits_in d offset bytes allowed).1
 
-        wrote : Written
+        wrote : WriteResult
         wrote = record { inode = grown (record { inode = e; upto = offset + k }); upto = offset + k }
 
         last : Dinode
@@ -236,7 +236,7 @@ module _ (sizes : Super) (l : Labels) (laws : Laws (labelled l)) (keeps : Keeps 
         let most = few_blocks offset (offset + length bytes) (let short = may.1.4 in omega (arith, short)) in
         let blocks : ℕ = blocks_between offset (offset + length bytes) in
         let fits_ = fits_in d offset bytes is in
-        subst (λ (p : P M (Handed Wrote Carry)). Wp M h B Q p 98 gs v) (sym (bind-assoc (write_blocks blocks sizes offset bytes (record_in c n)) (store_written sizes n) (give_written fd n offset bytes m c)))
+        subst (λ (p : P M (Handover Wrote Carry)). Wp M h B Q p 98 gs v) (sym (bind-assoc (write_blocks blocks sizes offset bytes (record_in c n)) (store_written sizes n) (give_written fd n offset bytes m c)))
         (subst (λ (x : Dinode). Wp M h B Q (bind (write_blocks blocks sizes offset bytes x) (λ w. bind (store_written sizes n w) (give_written fd n offset bytes m c))) 98 gs v) (sym record_is)
         (Wp-more M h (bind (write_blocks blocks sizes offset bytes d) (λ w. bind (store_written sizes n w) (give_written fd n offset bytes m c))) B Q (write_steps blocks 4) 98 gs v (let steps_ = write_steps_are blocks 4 in omega (arith, steps_, most))
         (s-blocks sizes l laws keeps h lt B Q Todo (to_act (labelled l) (below sizes) laws (below_laws sizes l keeps) h B op m C lasts) n changes c (Some (file count fs)) mid refl count d.size (λ w. bind (store_written sizes n w) (give_written fd n offset bytes m c)) 4

@@ -22,7 +22,7 @@ use Rattle.plain_tree.proofs.TreeLemmas.{put_again}
 use Rattle.tree_laws.proofs.Maps.{eq_is, eq_isnt, same_or, put_same, put_other}
 use Rattle.atomic_programs.specs.Prog.{Ret, Do, bind, Ran}
 use Rattle.atomic_programs.specs.Logic.{Machine, Laws, P, Wp}
-use Rattle.atomic_programs.specs.Joined.{Both, Handed, joined, Below, Lasts}
+use Rattle.atomic_programs.specs.Joined.{Both, Handover, joined, Below, Lasts}
 use Rattle.atomic_programs.proofs.Joined.{Acting, Here, Stable, ToAct, s-act}
 use Rattle.atomic_programs.proofs.Prog.{bind-assoc}
 use Rattle.fs_tables.specs.declared.files.OpenFile as files
@@ -34,7 +34,7 @@ use Rattle.fs_machine.specs.Premises as premises
 use Rattle.fs_machine.specs.Programs.{fetch}
 use Rattle.fs_machine.specs.Shown.{seen_of}
 use Rattle.fs_machine.specs.Steps as steps
-use Rattle.inode_data.specs.Writing.{Written}
+use Rattle.inode_data.specs.Writing.{WriteResult}
 use Rattle.inode_table.specs.Programs.{inode_block, put_inode, with_dinode, store as store_inode}
 use Rattle.inode_machine.specs.World as above
 use Rattle.inode_machine.specs.World.{Entry, Wrote, Whole, Refused, Short}
@@ -51,7 +51,7 @@ use Rattle.inodes_on_tables.proofs.Named.{file_is, offsets_are_moved}
 use Rattle.inodes_on_blocks.specs.Below.{World, log_of, tables_of, disk_of, inode_in, exec}
 use Rattle.inodes_on_blocks.specs.Giving.{KeepsRoom, world_with}
 use Rattle.inodes_on_blocks.specs.Handlers.{acts}
-use Rattle.inodes_on_blocks.specs.Holding.{in_hand, Fetched}
+use Rattle.inodes_on_blocks.specs.Holding.{in_hand, IsFetched}
 use Rattle.inodes_on_blocks.specs.Lowering.{Apart, Base, Carry, Had, Has, InHand, IsLoaded, IsOpened, Keeps, Kept, Labels, NothingMore, Same, Stands, below, labelled, record_had, IsThrough}
 use Rattle.inodes_on_blocks.specs.Recording.{CanPut, IsChanging, log_with, owners_with}
 use Rattle.inodes_on_blocks.specs.Recording as recording
@@ -212,7 +212,7 @@ module _ (sizes : Super) (l : Labels) (laws : Laws (labelled l)) (keeps : Keeps 
         }
 
     -- and from where the block was fetched on
-    puts : (w v u : W) (fs gs : List l.Step) → Shows w.real w.seen → Changing h n c o d x w.real w.seen → in_hand h w.real ≡ 0 → (log_of w.real).sizes ≡ sizes → Knows w.real → Fetched h b (G fs) w v → IsHere v u gs → Rest w
+    puts : (w v u : W) (fs gs : List l.Step) → Shows w.real w.seen → Changing h n c o d x w.real w.seen → in_hand h w.real ≡ 0 → (log_of w.real).sizes ≡ sizes → Knows w.real → IsFetched h b (G fs) w v → IsHere v u gs → Rest w
         → IsPutting b (with_dinode n d (seen_of (log_of v.real) b)) gs u
     puts w v u fs gs shows changing none here_ knows got here rest =
         let middle = changing_then h n c o d x w.real v.real w.seen v.seen shows got.shows (left_but h b w.real v.real got.since) got.kept changing in
@@ -266,13 +266,13 @@ module _ (l : Labels) (laws : Laws (labelled l)) (keeps : Keeps l) (h : ℕ) (lt
   abbrev op : above.Op
   op = WriteFile fd n offset bytes
 
-  abbrev Q : Handed Wrote Carry → List l.Step → Both World above.World → Type 0
+  abbrev Q : Handover Wrote Carry → List l.Step → Both World above.World → Type 0
   Q = Below (labelled l) (below sizes) h C
 
   abbrev Todo : List l.Step → above.World → Type 0
   Todo = ToAct (labelled l) (below sizes) laws (below_laws sizes l keeps) h B op m C lasts
 
-  abbrev answers : Wrote → P (joined (labelled l) (below sizes)) (Handed Wrote Carry)
+  abbrev answers : Wrote → P (joined (labelled l) (below sizes)) (Handover Wrote Carry)
   answers b = Ret (record { answer = b; carry = put c n Apart })
 
   -- by what lies outside: these bytes were written
@@ -358,7 +358,7 @@ module _ (l : Labels) (laws : Laws (labelled l)) (keeps : Keeps l) (h : ℕ) (lt
     long : length front ≡ k
     long = omega (arith, length-take k bytes, some)
 
-    pub gives_written : (f : Written) → f.upto ≡ offset + k → (es : List l.Step) (w : Both World above.World) → Todo es w.seen → IsWritten h n c (Some node) f.inode (with_bytes offset front node) w.real w.seen → (log_of w.real).sizes ≡ sizes
+    pub gives_written : (f : WriteResult) → f.upto ≡ offset + k → (es : List l.Step) (w : Both World above.World) → Todo es w.seen → IsWritten h n c (Some node) f.inode (with_bytes offset front node) w.real w.seen → (log_of w.real).sizes ≡ sizes
         → Wp (joined (labelled l) (below sizes)) h B Q (give_written fd n offset bytes m c f) 1 es w
     gives_written f ends es w todo written here = by (f.upto == offset + length bytes) refl
       where

@@ -10,12 +10,12 @@ use Rattle.fs_layout.specs.Entry.{spell_dirent}
 use Rattle.fs_layout.specs.Widths.{dirent_len}
 use Rattle.plain_tree.specs.Tree.{Name, dot, dotdot}
 use Rattle.atomic_programs.specs.Prog.{Ret, Do, bind}
-use Rattle.atomic_programs.specs.Joined.{Handed}
+use Rattle.atomic_programs.specs.Joined.{Handover}
 use Rattle.fs_machine.specs.Steps as steps
 use Rattle.fs_machine.specs.Programs.{fetch}
-use Rattle.inode_data.specs.Programs.{Fetched, blocks_between, fetch_block}
+use Rattle.inode_data.specs.Programs.{FetchedBlock, blocks_between, fetch_block}
 use Rattle.inode_data.specs.Widths.{most_blocks}
-use Rattle.inode_data.specs.Writing.{Written, grown, write_blocks}
+use Rattle.inode_data.specs.Writing.{WriteResult, grown, write_blocks}
 use Rattle.inode_table.specs.Programs.{inode_block}
 use Rattle.inode_machine.specs.World as above
 use Rattle.inode_machine.specs.World.Op.{Enter, Fill}
@@ -25,7 +25,7 @@ use Rattle.inodes_on_blocks.specs.Naming.{put_named}
 use Rattle.inodes_on_blocks.specs.Storing.{record_in}
 
 -- The inode's record goes back after its blocks were written, also where it is as it was; there the operation acts, as what lies outside made it.
-abbrev pub put_grown : (op : above.Op) → above.Outside → (above.Answer op → Option above.Mark) → above.Answer op → Super → (n : ℕ) → Carry → Written → P (Handed (above.Answer op) Carry)
+abbrev pub put_grown : (op : above.Op) → above.Outside → (above.Answer op → Option above.Mark) → above.Answer op → Super → (n : ℕ) → Carry → WriteResult → P (Handover (above.Answer op) Carry)
 put_grown op outside m answer sizes n c w = bind (fetch (inode_block sizes.inodestart n)) (put_named op outside m answer (inode_block sizes.inodestart n) n (grown w) c)
 
 -- ---- a free slot is sought
@@ -35,7 +35,7 @@ if_none None mark = mark
 if_none (Some a) mark = None
 
 -- where the last block of a directory that has all its slots has no free one, the operation acts as that block is given back
-abbrev pub look_last : Option Acts → Dinode → ℕ → Fetched → P (Option Found)
+abbrev pub look_last : Option Acts → Dinode → ℕ → FetchedBlock → P (Option Found)
 look_last mark d k f = Do (steps.Put f.number None) (λ _. if_none (found_in Unused d k f.bytes) mark) (λ _. Ret (found_in Unused d k f.bytes))
 
 -- block k, and so many behind it
@@ -49,11 +49,11 @@ seek_free mark d = if nat_lt (slot_count d) most_slots then search Unused d else
 -- ---- a name entered
 
 -- a slot lies in one block, so all of it was written or nothing
-abbrev pub entered_to : (sizes : Super) (d : ℕ) (e : Name) (n : ℕ) → Carry → (above.Entered → Option above.Mark) → (slot : ℕ) → Written → P (Handed above.Entered Carry)
+abbrev pub entered_to : (sizes : Super) (d : ℕ) (e : Name) (n : ℕ) → Carry → (above.EntryResult → Option above.Mark) → (slot : ℕ) → WriteResult → P (Handover above.EntryResult Carry)
 entered_to sizes d e n c m slot w =
     if w.upto == dirent_len * (slot + 1) then put_grown (Enter d e n) above.Room m above.InPlace sizes d c w else put_grown (Enter d e n) (above.RoomFor 0) m above.NoBlock sizes d c w
 
-abbrev pub enter_in : (sizes : Super) (d : ℕ) (e : Name) (n : ℕ) → Carry → (above.Entered → Option above.Mark) → (slot : ℕ) → P (Handed above.Entered Carry)
+abbrev pub enter_in : (sizes : Super) (d : ℕ) (e : Name) (n : ℕ) → Carry → (above.EntryResult → Option above.Mark) → (slot : ℕ) → P (Handover above.EntryResult Carry)
 enter_in sizes d e n c m slot =
     if nat_lt slot most_slots
     then bind (write_blocks (blocks_between (dirent_len * slot) (dirent_len * slot + length (spell_dirent (Used n e)))) sizes (dirent_len * slot) (spell_dirent (Used n e)) (record_in c d)) (entered_to sizes d e n c m slot)
@@ -71,7 +71,7 @@ abbrev pub dots : (n d : ℕ) → List ℕ
 dots n d = spell_dirent (Used n dot) ++ spell_dirent (Used d dotdot)
 
 -- they stand in one block
-abbrev pub filled_to : (sizes : Super) (n d : ℕ) → Carry → (Bool → Option above.Mark) → Written → P (Handed Bool Carry)
+abbrev pub filled_to : (sizes : Super) (n d : ℕ) → Carry → (Bool → Option above.Mark) → WriteResult → P (Handover Bool Carry)
 filled_to sizes n d c m w =
     if w.upto == 2 * dirent_len then put_grown (Fill n d) above.Room m true sizes n c w else put_grown (Fill n d) (above.RoomFor 0) m false sizes n c w
 

@@ -1,7 +1,7 @@
 -- The programs below of reading an open file. On a disk of these sizes; c: what the hart has of the inodes whose locks it has.
 use Rattle.std.specs.Prelude.{ℕ, ◌+◌, List, [], Option, Some}
 use Rattle.atomic_programs.specs.Prog.{Ret, Do, bind}
-use Rattle.atomic_programs.specs.Joined.{Handed}
+use Rattle.atomic_programs.specs.Joined.{Handover}
 use Rattle.fs_layout.specs.declared.inode.Dinode.{Dinode}
 use Rattle.fs_layout.specs.declared.superblock.Super.{Super}
 use Rattle.fs_tables.specs.declared.files.OpenFile.{OpenFile}
@@ -9,10 +9,10 @@ use Rattle.fs_tables.specs.declared.files.Want.TheVariants as want
 use Rattle.fs_tables.specs.Inodes.{LockedState, Refuses, Locks}
 use Rattle.fs_machine.specs.Steps as steps
 use Rattle.inode_table.specs.Programs.{load_unless}
-use Rattle.inode_data.specs.Programs.{Filled, read_from}
+use Rattle.inode_data.specs.Programs.{FilledMemory, read_from}
 use Rattle.plain_tree.specs.Tree.{put}
 use Rattle.inode_machine.specs.World as above
-use Rattle.inode_machine.specs.World.{Locking, NotLocked, LocksIt}
+use Rattle.inode_machine.specs.World.{LockResult, NotLocked, LocksIt}
 use Rattle.inode_machine.specs.World.Op.{LockFile, LockOpen, ReadFile}
 use Rattle.inodes_on_blocks.specs.Lowering.{Carry, Opened, Apart, Has, record_had}
 use Rattle.inodes_on_blocks.specs.Storing.{record_in}
@@ -21,10 +21,10 @@ use Rattle.inodes_on_blocks.specs.Handlers.{P, Handler, acts, cause_of}
 -- ---- locked, by a descriptor
 
 -- the record in hand, and where the file stands
-abbrev pub with_file : {A : Type 0} → A → Carry → (fd n offset : ℕ) → Dinode → P (Handed A Carry)
+abbrev pub with_file : {A : Type 0} → A → Carry → (fd n offset : ℕ) → Dinode → P (Handover A Carry)
 with_file a c fd n offset d = Ret (record { answer = a; carry = put c n (Has d (Opened fd offset)) })
 
-abbrev pub file_locked : Super → (fd : ℕ) → Carry → LockedState → P (Handed Locking Carry)
+abbrev pub file_locked : Super → (fd : ℕ) → Carry → LockedState → P (Handover LockResult Carry)
 file_locked sizes fd c (Refuses why) = Ret (record { answer = NotLocked (cause_of why); carry = c })
 file_locked sizes fd c (Locks f content) = bind (load_unless sizes.inodestart f.number content) (with_file (LocksIt f.number f.offset) c fd f.number f.offset)
 
@@ -32,7 +32,7 @@ file_locked sizes fd c (Locks f content) = bind (load_unless sizes.inodestart f.
 abbrev pub lock_file : Super → (fd : ℕ) → Handler (LockFile fd)
 lock_file sizes fd c m = Do (steps.LockFile want.Read fd) (λ a. acts (LockFile fd) above.Room m) (file_locked sizes fd c)
 
-abbrev pub open_locked : Super → (fd : ℕ) → Carry → OpenFile × Option Dinode → P (Handed (ℕ × ℕ) Carry)
+abbrev pub open_locked : Super → (fd : ℕ) → Carry → OpenFile × Option Dinode → P (Handover (ℕ × ℕ) Carry)
 open_locked sizes fd c locked = bind (load_unless sizes.inodestart locked.0.number locked.1) (with_file (locked.0.number, locked.0.offset) c fd locked.0.number locked.0.offset)
 
 -- to write
@@ -42,7 +42,7 @@ lock_open sizes fd n c m = Do (steps.LockOpen fd) (λ a. acts (LockOpen fd n) ab
 -- ---- read
 
 -- The lock is given up, and the offset moves by as much as was read: there the operation acts.
-abbrev pub give_read : (fd n offset count : ℕ) → (List ℕ → Option above.Mark) → Carry → Filled → P (Handed (List ℕ) Carry)
+abbrev pub give_read : (fd n offset count : ℕ) → (List ℕ → Option above.Mark) → Carry → FilledMemory → P (Handover (List ℕ) Carry)
 give_read fd n offset count m c f =
     Do (steps.Unlock (record { number = n; content = record_had (c n) }) (Some (fd, offset + f.count))) (λ a. acts (ReadFile fd n offset count) above.Room m)
     (λ a. Ret (record { answer = f.bytes; carry = put c n Apart }))

@@ -1,7 +1,7 @@
 -- The programs below of operations on whole inodes. c: what the hart has of the inodes whose locks it has.
 use Rattle.std.specs.Prelude.{ℕ, Bool, true, false, Option, Some, None, is_some}
 use Rattle.atomic_programs.specs.Prog.{Prog, Ret, Do}
-use Rattle.atomic_programs.specs.Joined.{Act, Handed, holding}
+use Rattle.atomic_programs.specs.Joined.{Act, Handover, holding}
 use Rattle.plain_tree.specs.declared.answer.Cause.{Cause}
 use Rattle.plain_tree.specs.declared.answer.Cause.TheVariants as causes
 use Rattle.plain_tree.specs.declared.tree.OpenFile.{OpenFile}
@@ -23,7 +23,7 @@ use Rattle.fs_machine.specs.Steps as steps
 use Rattle.fs_machine.specs.Steps.{Whom, Number, Directory, Held, Walked, Freed}
 use Rattle.inode_machine.specs.Inodes.{Sort}
 use Rattle.inode_machine.specs.World as above
-use Rattle.inode_machine.specs.World.{Lending, Lent, Moved}
+use Rattle.inode_machine.specs.World.{LoanResult, Lent, Moved}
 use Rattle.inode_machine.specs.World.Op.{Give, UpStart, Up, WalkDown, Down, Forget, Slot, Install, CheckFile, JoinFile, Double, Shut, Settle, Lend, LendDirectory, Release, Join, Leave, Say}
 use Rattle.inodes_on_tables.specs.Shown.{new_file}
 use Rattle.inodes_on_blocks.specs.Lowering.{NothingMore, Had, Apart, Has, Carry, record_had}
@@ -35,14 +35,14 @@ abbrev pub P : Type 0 → Type 0
 P A = Prog steps.Op steps.Answer Acts A
 
 abbrev pub Handler : above.Op → Type 0
-Handler op = Carry → (above.Answer op → Option above.Mark) → P (Handed (above.Answer op) Carry)
+Handler op = Carry → (above.Answer op → Option above.Mark) → P (Handover (above.Answer op) Carry)
 
 -- this operation acts at the step so marked
 abbrev pub acts : (op : above.Op) → above.Outside → (above.Answer op → Option above.Mark) → Option Acts
 acts op y m = Some (record { op = op; outside = y; mark = m })
 
 -- a program of one step: its answer above, and what the hart has in hand after it
-abbrev pub one : (op : above.Op) (m : above.Answer op → Option above.Mark) (lop : steps.Op) → (steps.Answer lop → above.Answer op) → (steps.Answer lop → Carry) → P (Handed (above.Answer op) Carry)
+abbrev pub one : (op : above.Op) (m : above.Answer op → Option above.Mark) (lop : steps.Op) → (steps.Answer lop → above.Answer op) → (steps.Answer lop → Carry) → P (Handover (above.Answer op) Carry)
 one op m lop answer carry = Do lop (λ a. acts op above.Room m) (λ a. Ret (record { answer = answer a; carry = carry a }))
 
 -- ---- answers
@@ -79,7 +79,7 @@ shut_to shut.BadDescriptor = None
 shut_to shut.Closed = Some None
 shut_to (shut.Last n) = Some (Some n)
 
-abbrev pub lent_to : Given → Lending
+abbrev pub lent_to : Given → LoanResult
 lent_to (given.Descriptor fd more) = Lent fd more
 lent_to (given.Directory n) = Moved n
 
@@ -98,7 +98,7 @@ cause_if None = None
 cause_if (Some why) = Some (cause_of why)
 
 -- the transaction is for this inode
-abbrev pub joining_to : steps.Joined → above.Joining
+abbrev pub joining_to : steps.JoinResult → above.JoinResult
 joining_to (steps.RefusesJoin why) = above.NotJoined (cause_of why)
 joining_to (steps.Joins n) = above.Joined n
 

@@ -32,7 +32,7 @@ pub record SameBut (h b : ℕ) (v w : World) : Type 0 where
   pub sizes : (log_of w).sizes ≡ (log_of v).sizes
 
 -- Where a hart goes on after a block's buffer came into its hand, from w: what it knows of v.
-pub record Fetched (h b : ℕ) (Stage : above.World → Type 0) (w v : Both World above.World) : Type 0 where
+pub record IsFetched (h b : ℕ) (Stage : above.World → Type 0) (w v : Both World above.World) : Type 0 where
   pub since : SameBut h b w.real v.real
   pub kept : Kept h w.seen v.seen
   pub shows : Shows v.real v.seen

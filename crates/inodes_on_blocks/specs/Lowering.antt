@@ -81,17 +81,17 @@ pub record Kept (h : ℕ) (v w : above.World) : Type 0 where
 -- ---- what a hart has between two operations above
 
 -- what it learned of an inode since it took the lock
-pub data Learned : Type 0 where
-  NothingMore : Learned
+pub data Knowledge : Type 0 where
+  NothingMore : Knowledge
   -- under this name a directory has this slot
-  Finds : Name → ℕ → Learned
+  Finds : Name → ℕ → Knowledge
   -- by this descriptor it was locked, whose open file has this offset
-  Opened : ℕ → ℕ → Learned
+  Opened : ℕ → ℕ → Knowledge
 
 -- what it has of an inode: nothing, where the lock isn't its own; the record, and what it learned; or that it has freed it
 pub data Had : Type 0 where
   Apart : Had
-  Has : Dinode → Learned → Had
+  Has : Dinode → Knowledge → Had
   Emptied : Had
 
 abbrev pub Carry : Type 0
@@ -117,7 +117,7 @@ pub record IsFirstNamed (slots : List (Option DirectorySlot)) (e : Name) (s : �
   pub first : (q : ℕ) → q < s → has_name e (slice_index_or slots q None) ≡ false
 
 -- what was learned is so still
-abbrev pub IsKnown : Learned → Option Node → Type 0
+abbrev pub IsKnown : Knowledge → Option Node → Type 0
 IsKnown NothingMore v = Unit {0}
 IsKnown (Finds e s) v = IsFirstNamed (all_slots v) e s
 IsKnown (Opened fd offset) v = Unit {0}
@@ -167,8 +167,8 @@ abbrev pub Stands : Super → ℕ → World → above.World → Carry → Type 0
 Stands sizes h r w c = Base h r w c × ((log_of r).sizes ≡ sizes)
 
 -- what is shown of the tables, once the world has stopped
-abbrev pub Stopped : World → above.World → Type 0
-Stopped r w = tables.Shows (tables_of r) w (loaded (tables_of r))
+abbrev pub ShowsStopped : World → above.World → Type 0
+ShowsStopped r w = tables.Shows (tables_of r) w (loaded (tables_of r))
 
 abbrev pub below : Super → Lower above.World
 below sizes =
@@ -182,7 +182,7 @@ below sizes =
       exec = exec;
       MayWait = λ h op w. premises.MayWait h op w.state;
       Shows = Shows;
-      Halted = Stopped;
+      Halted = ShowsStopped;
       Same = Same;
       Kept = Kept;
       Carry = Carry;

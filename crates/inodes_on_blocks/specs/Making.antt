@@ -3,7 +3,7 @@ use Rattle.std.specs.Prelude.{ℕ, zero, suc, ◌+◌, ◌<◌, ◌^◌, ℤ, Li
 use Rattle.fs_layout.specs.declared.superblock.Super.{Super}
 use Rattle.fs_layout.specs.Inode.{dinode_at}
 use Rattle.atomic_programs.specs.Prog.{Ret, Do, bind, unmarked}
-use Rattle.atomic_programs.specs.Joined.{Handed}
+use Rattle.atomic_programs.specs.Joined.{Handover}
 use Rattle.fs_machine.specs.Steps as steps
 use Rattle.fs_machine.specs.Programs.{fetch}
 use Rattle.inode_table.specs.NewInodes.{free_in, inode_blocks, new_record}
@@ -27,7 +27,7 @@ pub record HasInodes (sizes : Super) : Type 0 where
   pub few : sizes.ninodes < 2 ^ 16
 
 -- the answer, with what the hart had
-abbrev pub answers : above.Claimed → Carry → P (Handed above.Claimed Carry)
+abbrev pub answers : above.ClaimResult → Carry → P (Handover above.ClaimResult Carry)
 answers a c = Ret (record { answer = a; carry = c })
 
 -- where so many blocks are still to be looked through, that this one has no free inode decides nothing
@@ -36,22 +36,22 @@ if_last zero mark = mark
 if_last (suc n) mark = None
 
 -- It acts as a block is looked through: where a free inode is picked, where one has no place, and in the last block where there is none.
-abbrev pub claim_mark : (sort : Sort) → (above.Claimed → Option above.Mark) → ℕ → steps.Claimed → Option Acts
+abbrev pub claim_mark : (sort : Sort) → (above.ClaimResult → Option above.Mark) → ℕ → steps.ClaimResult → Option Acts
 claim_mark sort m n (steps.Claims i) = acts (Claim sort) (above.Picks i) m
 claim_mark sort m n steps.NoPlace = acts (Claim sort) (above.RoomFor 0) m
 claim_mark sort m n steps.NoInode = if_last n (acts (Claim sort) above.Room m)
 
 -- The inode's record goes into the block with its type; or the block is given back as it was; or it was given back, and it goes on.
-abbrev pub claim_in : P (Handed above.Claimed Carry) → ℤ → (b : ℕ) → List ℕ → Carry → steps.Claimed → P (Handed above.Claimed Carry)
+abbrev pub claim_in : P (Handover above.ClaimResult Carry) → ℤ → (b : ℕ) → List ℕ → Carry → steps.ClaimResult → P (Handover above.ClaimResult Carry)
 claim_in more kind b block c (steps.Claims i) = Do (steps.Put b (Some (with_dinode i (new_record kind (dinode_at (place_of i) block)) block))) unmarked (λ _. answers (above.New i) c)
 claim_in more kind b block c steps.NoPlace = Do (steps.Put b None) unmarked (λ _. answers above.NoPlace c)
 claim_in more kind b block c steps.NoInode = more
 
 -- block b, of which q stand before it, and so many behind it
-abbrev pub claim_at : P (Handed above.Claimed Carry) → (sizes : Super) (sort : Sort) → Carry → (above.Claimed → Option above.Mark) → (n q b : ℕ) → List ℕ → P (Handed above.Claimed Carry)
+abbrev pub claim_at : P (Handover above.ClaimResult Carry) → (sizes : Super) (sort : Sort) → Carry → (above.ClaimResult → Option above.Mark) → (n q b : ℕ) → List ℕ → P (Handover above.ClaimResult Carry)
 claim_at more sizes sort c m n q b block = Do (steps.Claim b (free_in sizes.ninodes q block)) (claim_mark sort m n) (claim_in more (kind_of sort) b block c)
 
-unfoldable pub claim_from : ℕ → (sizes : Super) (sort : Sort) → Carry → (above.Claimed → Option above.Mark) → (q : ℕ) → P (Handed above.Claimed Carry)
+unfoldable pub claim_from : ℕ → (sizes : Super) (sort : Sort) → Carry → (above.ClaimResult → Option above.Mark) → (q : ℕ) → P (Handover above.ClaimResult Carry)
 claim_from zero sizes sort c m q = answers above.NoInode c
 claim_from (suc n) sizes sort c m q = bind (fetch (sizes.inodestart + q)) (claim_at (claim_from n sizes sort c m (q + 1)) sizes sort c m n q (sizes.inodestart + q))
 

@@ -2,7 +2,7 @@
 use Rattle.std.specs.Prelude.{ℕ, ℤ, pos, negsuc, Bool, true, not, Option, Some, None, is_some, if◌then◌else◌}
 use Rattle.std.specs.Option.{option_map}
 use Rattle.atomic_programs.specs.Prog.{Ret, Do, bind}
-use Rattle.atomic_programs.specs.Joined.{Handed}
+use Rattle.atomic_programs.specs.Joined.{Handover}
 use Rattle.fs_layout.specs.declared.inode.Dinode.{Dinode}
 use Rattle.fs_layout.specs.declared.superblock.Super.{Super}
 use Rattle.directory.specs.declared.found.Found.{Found}
@@ -11,12 +11,12 @@ use Rattle.fs_machine.specs.Steps.{Lock, LockFile}
 use Rattle.fs_tables.specs.Inodes.{LockedState, Refuses, Locks}
 use Rattle.fs_tables.specs.declared.files.Want.TheVariants as want
 use Rattle.image_tree.specs.Inodes.{is_number, is_free}
-use Rattle.inode_machine.specs.Inodes.{Sort, OfDirectory, OfFile, OfDevice, Face, Seen, Looking, AtNothing, AtName, AtEntries}
+use Rattle.inode_machine.specs.Inodes.{Sort, OfDirectory, OfFile, OfDevice, Face, Sight, Query, AtNothing, AtName, AtEntries}
 use Rattle.inode_machine.specs.World as above
 use Rattle.inode_machine.specs.World.Op.{Take, StatFile}
 use Rattle.inode_table.specs.Programs.{load_unless}
 use Rattle.inodes_on_blocks.specs.Handlers.{P, Handler, acts}
-use Rattle.inodes_on_blocks.specs.Lowering.{Learned, NothingMore, Finds, Has, Carry}
+use Rattle.inodes_on_blocks.specs.Lowering.{Knowledge, NothingMore, Finds, Has, Carry}
 use Rattle.plain_tree.specs.Tree.{Name, put}
 
 -- ---- what a record tells
@@ -35,10 +35,10 @@ face_in d = record { sort = sort_at d.kind d.major; count = natural d.nlink; siz
 -- ---- a descriptor's inode, locked to tell its state
 
 -- the record in hand, and the answer by it
-abbrev pub stat_loaded : Carry → (n : ℕ) → Dinode → P (Handed (Option (ℕ × Face)) Carry)
+abbrev pub stat_loaded : Carry → (n : ℕ) → Dinode → P (Handover (Option (ℕ × Face)) Carry)
 stat_loaded c n d = Ret (record { answer = Some (n, face_in d); carry = put c n (Has d NothingMore) })
 
-abbrev pub stat_locked : Super → Carry → LockedState → P (Handed (Option (ℕ × Face)) Carry)
+abbrev pub stat_locked : Super → Carry → LockedState → P (Handover (Option (ℕ × Face)) Carry)
 stat_locked sizes c (Refuses why) = Ret (record { answer = None; carry = c })
 stat_locked sizes c (Locks f content) = bind (load_unless sizes.inodestart f.number content) (stat_loaded c f.number)
 
@@ -57,20 +57,20 @@ abbrev pub search_entries : Dinode → P (Option Found)
 search_entries d = if is_directory d then search Entry d else Ret None
 
 -- the slot under a name
-abbrev pub learned : Name → Option Found → Learned
+abbrev pub learned : Name → Option Found → Knowledge
 learned e None = NothingMore
 learned e (Some f) = Finds e f.slot
 
 -- what was seen of it, by its record, which is in hand from there on, with what else was learned
-abbrev pub seen_record : Carry → (n : ℕ) → Dinode → Learned → (found : Option ℕ) → (empty : Bool) → P (Handed Seen Carry)
+abbrev pub seen_record : Carry → (n : ℕ) → Dinode → Knowledge → (found : Option ℕ) → (empty : Bool) → P (Handover Sight Carry)
 seen_record c n d l found empty = Ret (record { answer = record { face = if is_free d then None else Some (face_in d); found = found; empty = empty }; carry = put c n (Has d l) })
 
 -- what is looked for in it
-abbrev pub looked : Looking → Carry → (n : ℕ) → Dinode → P (Handed Seen Carry)
+abbrev pub looked : Query → Carry → (n : ℕ) → Dinode → P (Handover Sight Carry)
 looked AtNothing c n d = seen_record c n d NothingMore None true
 looked (AtName e) c n d = bind (lookup e d) (λ o. seen_record c n d (learned e o) (number_found o) true)
 looked AtEntries c n d = bind (search_entries d) (λ o. seen_record c n d NothingMore None (not (is_some o)))
 
 -- It acts where the lock is had, as the other one does.
-abbrev pub take : Super → (n : ℕ) → (looking : Looking) → Handler (Take n looking)
+abbrev pub take : Super → (n : ℕ) → (looking : Query) → Handler (Take n looking)
 take sizes n looking c m = Do (Lock n) (λ a. acts (Take n looking) above.Room m) (λ content. bind (load_unless sizes.inodestart n content) (looked looking c n))

@@ -10,7 +10,7 @@ use Rattle.atomic_programs.specs.Joined.{Both, joined, Below, Lasts}
 use Rattle.atomic_programs.specs.Spending.{Budget}
 use Rattle.fs_machine.specs.LogPart.{LogPart}
 use Rattle.fs_machine.specs.Steps as steps
-use Rattle.inode_machine.specs.Inodes.{Looking, Sort}
+use Rattle.inode_machine.specs.Inodes.{Query, Sort}
 use Rattle.inode_machine.specs.World as above
 use Rattle.inode_machine.specs.World.Op.{Take, Give, UpStart, Up, WalkDown, Down, Forget, Free, Claim, Store, Clear, Empty, Slot, Install, StatFile, LockFile, ReadFile, LockOpen, CheckFile, JoinFile, Double, Shut, Settle, Lend, LendDirectory, Release, Join, Leave, Say}
 use Rattle.inode_machine.specs.Rules.{more}
@@ -56,7 +56,7 @@ Spends sizes op p = (c : Carry) (m : above.Answer op → Option above.Mark) (s :
 
 -- so do these
 pub record ProgramsSpend (sizes : Super) : Type 0 where
-  pub take : (n : ℕ) (looking : Looking) → Spends sizes (Take n looking) (take sizes n looking)
+  pub take : (n : ℕ) (looking : Query) → Spends sizes (Take n looking) (take sizes n looking)
   pub give : (n : ℕ) → Spends sizes (Give n) (give n)
   pub up_start : (absolute : Bool) → Spends sizes (UpStart absolute) (up_start absolute)
   pub up : (n : ℕ) → Spends sizes (Up n) (up n)

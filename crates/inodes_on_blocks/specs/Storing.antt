@@ -5,7 +5,7 @@ use Rattle.fs_layout.specs.declared.superblock.Super.{Super}
 use Rattle.fs_layout.specs.declared.inode.Dinode.{Dinode}
 use Rattle.plain_tree.specs.Tree.{put}
 use Rattle.atomic_programs.specs.Prog.{Ret, Do, bind}
-use Rattle.atomic_programs.specs.Joined.{Handed}
+use Rattle.atomic_programs.specs.Joined.{Handover}
 use Rattle.fs_machine.specs.Steps as steps
 use Rattle.fs_machine.specs.Programs.{fetch}
 use Rattle.inode_table.specs.Programs.{no_record, inode_block, with_dinode}
@@ -19,7 +19,7 @@ abbrev pub record_in : Carry → ℕ → Dinode
 record_in c n = unwrap_or (record_had (c n)) no_record
 
 -- The inode goes into its block as this record, and the hart has `had` of it from then on; there the operation acts.
-abbrev pub put_record : (op : above.Op) → (above.Answer op → Option above.Mark) → above.Answer op → (b n : ℕ) → Dinode → (had : Had) → Carry → List ℕ → P (Handed (above.Answer op) Carry)
+abbrev pub put_record : (op : above.Op) → (above.Answer op → Option above.Mark) → above.Answer op → (b n : ℕ) → Dinode → (had : Had) → Carry → List ℕ → P (Handover (above.Answer op) Carry)
 put_record op m answer b n d had c block =
     Do (steps.Put b (Some (with_dinode n d block))) (λ a. acts op above.Room m) (λ a. Ret (record { answer = answer; carry = put c n had }))
 

@@ -1,13 +1,13 @@
 -- The programs below of writing an open file. On a disk of these sizes; c: what the hart has of the inodes whose locks it has.
 use Rattle.std.specs.Prelude.{ℕ, ◌+◌, ◌-◌, ◌<◌, ◌==◌, nat_lt, if◌then◌else◌, List, length, Option, Some, None}
 use Rattle.atomic_programs.specs.Prog.{Ret, Do, bind}
-use Rattle.atomic_programs.specs.Joined.{Handed}
+use Rattle.atomic_programs.specs.Joined.{Handover}
 use Rattle.fs_layout.specs.declared.inode.Dinode.{Dinode}
 use Rattle.fs_layout.specs.declared.superblock.Super.{Super}
 use Rattle.fs_layout.specs.Bytes.{IsBytes}
 use Rattle.fs_machine.specs.Steps as steps
 use Rattle.inode_data.specs.Widths.{most_bytes}
-use Rattle.inode_data.specs.Writing.{Written, write_part}
+use Rattle.inode_data.specs.Writing.{WriteResult, write_part}
 use Rattle.plain_tree.specs.declared.answer.Cause.{Cause}
 use Rattle.plain_tree.specs.declared.answer.Cause.TheVariants as causes
 use Rattle.plain_tree.specs.Tree.{put}
@@ -24,7 +24,7 @@ abbrev pub refused_in : Dinode → (offset : ℕ) → List ℕ → Option Cause
 refused_in d offset bytes = if nat_lt d.size offset then Some causes.BadOffset else (if nat_lt most_bytes (offset + length bytes) then Some causes.TooBig else None)
 
 -- the lock is given up as it was
-abbrev pub deny_write : (fd n offset : ℕ) (bytes : List ℕ) → (Wrote → Option above.Mark) → Carry → Cause → P (Handed Wrote Carry)
+abbrev pub deny_write : (fd n offset : ℕ) (bytes : List ℕ) → (Wrote → Option above.Mark) → Carry → Cause → P (Handover Wrote Carry)
 deny_write fd n offset bytes m c why = one (WriteFile fd n offset bytes) m (steps.Unlock (record { number = n; content = record_had (c n) }) None) (λ a. Refused why) (λ a. put c n Apart)
 
 -- what is answered where the bytes are written up to an offset, and of what lies outside
@@ -35,12 +35,12 @@ abbrev pub room_to : (offset : ℕ) → List ℕ → (upto : ℕ) → above.Outs
 room_to offset bytes upto = if upto == offset + length bytes then above.Room else above.RoomFor (upto - offset)
 
 -- The lock is given up, and the offset moves to where the bytes end that were written: there the operation acts.
-abbrev pub give_written : (fd n offset : ℕ) (bytes : List ℕ) → (Wrote → Option above.Mark) → Carry → Written → P (Handed Wrote Carry)
+abbrev pub give_written : (fd n offset : ℕ) (bytes : List ℕ) → (Wrote → Option above.Mark) → Carry → WriteResult → P (Handover Wrote Carry)
 give_written fd n offset bytes m c w =
     Do (steps.Unlock (record { number = n; content = Some w.inode }) (Some (fd, w.upto))) (λ a. acts (WriteFile fd n offset bytes) (room_to offset bytes w.upto) m)
     (λ a. Ret (record { answer = wrote_to offset bytes w.upto; carry = put c n Apart }))
 
-abbrev pub write_unless : Super → (fd n offset : ℕ) (bytes : List ℕ) → (Wrote → Option above.Mark) → Carry → Option Cause → P (Handed Wrote Carry)
+abbrev pub write_unless : Super → (fd n offset : ℕ) (bytes : List ℕ) → (Wrote → Option above.Mark) → Carry → Option Cause → P (Handover Wrote Carry)
 write_unless sizes fd n offset bytes m c (Some why) = deny_write fd n offset bytes m c why
 write_unless sizes fd n offset bytes m c None = bind (write_part sizes n (record_in c n) offset bytes) (give_written fd n offset bytes m c)
 

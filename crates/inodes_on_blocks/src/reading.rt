@@ -2,7 +2,7 @@
 
 ghost use Rattle.std.specs.Prelude.{ℕ};
 ghost use Rattle.fs_layout.specs.declared.superblock.Super.{Super};
-ghost use Rattle.inode_machine.specs.Inodes.{Looking};
+ghost use Rattle.inode_machine.specs.Inodes.{Query};
 ghost use Rattle.inode_machine.specs.World.Op.{Take, StatFile};
 ghost use Rattle.inodes_on_blocks.specs.Reading.{stat_file, take};
 ghost use Rattle.inodes_on_blocks.specs.Acting.{DoesItAt};
@@ -16,5 +16,5 @@ pub fn stats_act_once()
 /// An inode's lock is taken, and the inode looked at: for its record alone, which is read from its block where it isn't loaded;
 /// under a name, or past its first two entries, which a directory's blocks show, read one after the other.
 pub fn takes_act_once()
-    ensures { (sizes : Super) (n : ℕ) (looking : Looking) → DoesItAt sizes (Take n looking) (take sizes n looking) }
+    ensures { (sizes : Super) (n : ℕ) (looking : Query) → DoesItAt sizes (Take n looking) (take sizes n looking) }
 {}

@@ -22,7 +22,7 @@ use Rattle.fs_tables.specs.Files.{double_descriptor, double_at, double_to, with_
 use Rattle.fs_tables.specs.Soundness.{IsSoundTables}
 use Rattle.inode_machine.specs.Inodes.{Sort, OfDirectory, OfFile, OfDevice, face_of, face_or}
 use Rattle.plain_tree.specs.declared.answer.Cause.{Cause}
-use Rattle.inode_machine.specs.World.{Desk, Entry, World, Locking, NotLocked, LocksIt}
+use Rattle.inode_machine.specs.World.{Desk, Entry, World, LockResult, NotLocked, LocksIt}
 use Rattle.inode_machine.specs.Exec as above
 use Rattle.inode_machine.specs.Exec.{file_count, slot_at, entry_at, entry_of, is_at, double_if, entry_moved, lock_if, locked, unlocked, mode_refusal, read_refused, with_offset, write_refused}
 use Rattle.inode_machine.specs.Rules.{Inv}
@@ -215,7 +215,7 @@ pub files_are_locked_to_read : FilesAreLockedToRead
 unfolding lock_file
 files_are_locked_to_read h fd t w load shows inv runs = at (entry_of w h fd) refl
   where
-    Fits : Option Entry → LockedState → Locking → Type 0
+    Fits : Option Entry → LockedState → LockResult → Type 0
     Fits o = FitsRead load o (read_refused o)
 
     both : (o : Option Entry) → Type 0

@@ -14,8 +14,8 @@ use Rattle.fs_tables.specs.Files.{take_place, open_file, double_descriptor, shut
 use Rattle.fs_tables.specs.declared.files.Want.TheVariants as want
 use Rattle.plain_tree.specs.declared.answer.Cause.{Cause}
 use Rattle.plain_tree.specs.declared.tree.OpenFile.{OpenFile}
-use Rattle.inode_machine.specs.Inodes.{Sort, Looking, seen_in}
-use Rattle.inode_machine.specs.World.{Entry, World, Locking, NotLocked, LocksIt, Room}
+use Rattle.inode_machine.specs.Inodes.{Sort, Query, seen_in}
+use Rattle.inode_machine.specs.World.{Entry, World, LockResult, NotLocked, LocksIt, Room}
 use Rattle.inode_machine.specs.World.Op.{Take, Up, UpStart, WalkDown, Down, Slot, Install, Double, Shut, Settle, StatFile, LockFile, Lend, LendDirectory, Release}
 use Rattle.inode_machine.specs.Exec.{exec, start_number, is_dead, slot_at, entry_of, read_refused, write_refused, with_offset, released}
 use Rattle.inode_machine.specs.Rules.{Inv, Asks}
@@ -25,7 +25,7 @@ use Rattle.inodes_on_tables.specs.Shown.{loaded, Shows, BothCame, Runs, file_of,
 -- a lock is tried of an inode to which a reference stands; it answers what is loaded
 abbrev pub LocksAreTaken : Type 0
 LocksAreTaken =
-    (h n : ℕ) (looking : Looking) (t : TablesState) (w : World) (load : ℕ → Option Dinode) → Shows t w load → 0 < w.refs n
+    (h n : ℕ) (looking : Query) (t : TablesState) (w : World) (load : ℕ → Option Dinode) → Shows t w load → 0 < w.refs n
     → BothCame (λ content seen. (content ≡ load n) × (seen ≡ seen_in n looking (w.disk n))) (λ content. put load n None) (lock_inode h n t) (exec h Room (Take n looking) w)
 
 -- it is given back with this inode
@@ -125,7 +125,7 @@ FilesAreLocked =
     → BothCame (λ a b. FitsStat load (entry_of w h fd) a) (load_locked load) (lock_file h want.Stat fd t) (exec h Room (StatFile fd) w)
 
 -- The same to read of it.
-abbrev pub FitsRead : (load : ℕ → Option Dinode) → Option Entry → Option Cause → LockedState → Locking → Type 0
+abbrev pub FitsRead : (load : ℕ → Option Dinode) → Option Entry → Option Cause → LockedState → LockResult → Type 0
 FitsRead load e (Some why) a b = (a ≡ Refuses (refused_as why)) × (b ≡ NotLocked why)
 FitsRead load None None a b = ⊥
 FitsRead load (Some e) None a b = (a ≡ Locks (file_of e) (load e.file.number)) × (b ≡ LocksIt e.file.number e.file.offset)

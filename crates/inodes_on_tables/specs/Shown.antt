@@ -26,7 +26,7 @@ use Rattle.fs_tables.specs.declared.desk.Desk as cards
 use Rattle.fs_tables.specs.Tables.{TablesState, place_of, references_in, holder_in}
 use Rattle.fs_tables.specs.Soundness.{IsSoundTables}
 use Rattle.inode_machine.specs.Inodes.{Sort, OfDirectory, OfFile, OfDevice}
-use Rattle.inode_machine.specs.World.{Entry, Desk, World, Lending, Lent, Moved}
+use Rattle.inode_machine.specs.World.{Entry, Desk, World, LoanResult, Lent, Moved}
 use Rattle.inode_machine.specs.Exec.{file_count, is_at}
 
 -- ---- inodes in memory
@@ -120,7 +120,7 @@ shut_as None = shut.BadDescriptor
 shut_as (Some None) = shut.Closed
 shut_as (Some (Some n)) = shut.Last n
 
-abbrev pub given_as : Lending → Given
+abbrev pub given_as : LoanResult → Given
 given_as (Lent fd more) = given.Descriptor fd more
 given_as (Moved n) = given.Directory n
 

@@ -22,7 +22,7 @@ use Rattle.inode_machine.specs.Theory.{Refusal}
 use Rattle.inodes_on_blocks.specs.Shown.{Shows}
 use Rattle.inodes_on_blocks.proofs.Mounted.{mounts_show_their_trees}
 use Rattle.calls_on_blocks.specs.History.{first}
-use Rattle.calls_on_blocks.specs.Layer.{Shared, layer, exec_shared}
+use Rattle.calls_on_blocks.specs.Layer.{SharedState, layer, exec_shared}
 use Rattle.calls_on_blocks.specs.Programs.{handlers}
 use Rattle.calls_on_blocks.specs.Theory.{served_calls, child_of, begin_in, block_calls, block_code}
 use Rattle.calls_on_blocks.proofs.Bridges.{programs_are_lowered}
@@ -35,7 +35,7 @@ use Rattle.hart_core.specs.Runs.{AllAnswer}
 use Rattle.hart_core.specs.Worlds.{WorldOf, calls_of}
 use Rattle.hart_core.proofs.Resting.{mountable, rests_erased}
 use Rattle.locked_world.specs.HandedBack.{HandsBack, FitsBlock, EndsWith, cleared}
-use Rattle.locked_world.specs.Kept.{Stored, IsRunOf, contents, failures, disk_of}
+use Rattle.locked_world.specs.Kept.{StoredRun, IsRunOf, contents, failures, disk_of}
 use Rattle.locked_world.proofs.Endings.{Leaves, OfCall, is_read, leaves_plain, leaves_lowered, program_ends}
 use Rattle.locked_world.proofs.Fitting.{SeesWhole, op_fits, ran_in}
 use Rattle.locked_world.proofs.ReadCalls.{read_hands_back}
@@ -61,7 +61,7 @@ sound_over sizes (e ∷ es) p s a =
     sound_over sizes es (plain_makes (block_calls sizes) (block_code sizes) e p).after (sound_event (block_calls sizes) (block_code sizes) (is_code sizes) e p (plain_makes (block_calls sizes) (block_code sizes) e p) s a.0 refl) a.1
 
 -- the world of a run is what the code has of a sound state
-pub sound_here : (s : Stored) (w : WorldOf Fuse) → IsRunOf s w → SoundPlain (block_calls w.sizes) (block_code w.sizes) (calls_of contents failures w.sizes w.harts)
+pub sound_here : (s : StoredRun) (w : WorldOf Fuse) → IsRunOf s w → SoundPlain (block_calls w.sizes) (block_code w.sizes) (calls_of contents failures w.sizes w.harts)
 sound_here s w run =
     let rests = run.mounted.rests in
     let sizes : Super = run.first.sizes in
@@ -72,7 +72,7 @@ sound_here s w run =
     subst (λ (z : Super). SoundPlain (block_calls z) (block_code z) (calls_of contents failures z w.harts)) (sym run.sizes) last
 
 -- and the operation that a hart's call makes next may be made
-pub may_here : (s : Stored) (w : WorldOf Fuse) → IsRunOf s w → (h : ℕ) → w.harts.stopped ≡ false
+pub may_here : (s : StoredRun) (w : WorldOf Fuse) → IsRunOf s w → (h : ℕ) → w.harts.stopped ≡ false
     → MayOf (block_calls w.sizes) (block_code w.sizes) h (calls_of contents failures w.sizes w.harts).shared ((calls_of contents failures w.sizes w.harts).running h)
 may_here s w run h on = sound_may (block_calls w.sizes) (block_code w.sizes) (is_code w.sizes) (lawful w.sizes) (calls_of contents failures w.sizes w.harts) (sound_here s w run) on h
 
@@ -84,7 +84,7 @@ pub record HasLog (l : LogPart) : Type 0 where
   pub runs : l.phase ≢ Halted
   pub long : SeesWhole l
 
-has_log : (s : Stored) (w : WorldOf Fuse) → IsRunOf s w → w.harts.stopped ≡ false → HasLog (shared_of contents failures w.harts).log
+has_log : (s : StoredRun) (w : WorldOf Fuse) → IsRunOf s w → w.harts.stopped ≡ false → HasLog (shared_of contents failures w.harts).log
 has_log s w run on =
     let L : Theory = block_calls w.sizes in
     let q : SoundPlain L (block_code w.sizes) (calls_of contents failures w.sizes w.harts) = sound_here s w run in
@@ -94,7 +94,7 @@ has_log s w run on =
     subst HasLog same (record { whole = shows.whole; runs = shows.runs; long = shows.blocks.seen.whole })
 
 -- in the world of a run every block that a hart is answered fits
-pub answers_fit : (s : Stored) (w : WorldOf Fuse) → IsRunOf s w → (h : ℕ) (x : Outside) → w.harts.stopped ≡ false → AnswersFit h x (calls_of contents failures w.sizes w.harts).shared
+pub answers_fit : (s : StoredRun) (w : WorldOf Fuse) → IsRunOf s w → (h : ℕ) (x : Outside) → w.harts.stopped ≡ false → AnswersFit h x (calls_of contents failures w.sizes w.harts).shared
 answers_fit s w run h x on op a t may e =
     let log = has_log s w run on in
     let state : State = shared_of contents failures w.harts in
@@ -149,10 +149,10 @@ started sizes h call p t = of (p.running h)
     busy : ℕ → Bool
     busy j = is_some (p.running j)
 
-    left : Shared
+    left : SharedState
     left = record p.shared { children = put p.shared.children h (child_of call) }
 
-    of_begun : (b : Began Refusal Shared) → begin_in h call busy p.shared left ≡ b → ◌≡◌ {A = PlainMade (block_calls sizes) (block_code sizes)} (plain_begun (block_calls sizes) (block_code sizes) h call p b) (record { came = Started; after = t }) → Begun sizes h call p t
+    of_begun : (b : Began Refusal SharedState) → begin_in h call busy p.shared left ≡ b → ◌≡◌ {A = PlainMade (block_calls sizes) (block_code sizes)} (plain_begun (block_calls sizes) (block_code sizes) h call p b) (record { came = Started; after = t }) → Begun sizes h call p t
     of_begun (Refuses why) is e = absurd (let z = ap (λ (m : PlainMade (block_calls sizes) (block_code sizes)). m.came) e in cc (z))
     of_begun (Begins u) is e = record {
       below = below_count h (begun_here h call busy p.shared left u is).hart;

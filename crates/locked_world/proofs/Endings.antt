@@ -15,7 +15,7 @@ use Rattle.atomic_programs.specs.Prog.{Prog, Ret, Do, bind, plain, unmarked}
 use Rattle.atomic_programs.specs.Logic.{Machine, P as PartOf}
 use Rattle.atomic_programs.specs.Joined.{Lower, Handlers, lowered}
 use Rattle.inode_machine.specs.Inodes.{Face, Sort, is_directory_face, is_live_face, is_directory_sort, face_or}
-use Rattle.inode_machine.specs.World.{Mark, Claimed, New, NoInode, NoPlace, Entered, InPlace, NoBlock, NoSlot, Joining, NotJoined, Joined, Wrote, Whole, Refused, Short, Lending, Lent, Moved}
+use Rattle.inode_machine.specs.World.{Mark, ClaimResult, New, NoInode, NoPlace, EntryResult, InPlace, NoBlock, NoSlot, JoinResult, NotJoined, Joined, Wrote, Whole, Refused, Short, LoanResult, Lent, Moved}
 use Rattle.inode_machine.specs.World.Op.{Store}
 use Rattle.inode_machine.specs.Parts.{P, done, failed, say, drop, give_up, free_all, tail, Stop, NotThere, NoMemory, stopped, leave_directory, with_last, walk_step, walk, see_parent, walk_parent, start_on, start}
 use Rattle.inode_machine.specs.Descriptors as fds
@@ -138,7 +138,7 @@ from_ends : (fd n : ℕ) (bytes : List ℕ) (left i : ℕ) → Leaves (OfCall (c
 from_ends fd n bytes zero i = piece_ends fd n bytes i (say (fds.write_reply fd bytes)) (λ a. refl)
 from_ends fd n bytes (suc left) i = piece_ends fd n bytes i _ (λ a. from_ends fd n bytes left (i + 1))
 
-joined_ends : (fd : ℕ) (bytes : List ℕ) (j : Joining) → Leaves (OfCall (calls.Write fd bytes)) (fds.joined_on fd bytes j)
+joined_ends : (fd : ℕ) (bytes : List ℕ) (j : JoinResult) → Leaves (OfCall (calls.Write fd bytes)) (fds.joined_on fd bytes j)
 joined_ends fd bytes (NotJoined c) = refl
 joined_ends fd bytes (Joined n) = from_ends fd n bytes _ 0
 
@@ -179,12 +179,12 @@ module _ (path : List ℕ) (flags : ℕ) where
   unmake_ends : (n d : ℕ) (ns : List ℕ) (r : Reply) → OfOpen r → Leaves OfOpen (opening.unmake n d ns r)
   unmake_ends n d ns r e = λ a. give_up_ends OfOpen n _ (give_up_ends OfOpen d _ (tail_ends OfOpen ns r e))
 
-  make_on_ends : (n : ℕ) (sort : Sort) (d : ℕ) (ns : List ℕ) (a : Entered) → Leaves OfOpen (opening.make_on path flags n sort d ns a)
+  make_on_ends : (n : ℕ) (sort : Sort) (d : ℕ) (ns : List ℕ) (a : EntryResult) → Leaves OfOpen (opening.make_on path flags n sort d ns a)
   make_on_ends n sort d ns InPlace = λ a. drop_ends OfOpen d _ (descriptor_ends n sort ns _ _ (λ fd. opened_ends n fd ns))
   make_on_ends n sort d ns NoBlock = unmake_ends n d ns _ refl
   make_on_ends n sort d ns NoSlot = unmake_ends n d ns _ refl
 
-  make_with_ends : (d : ℕ) (e : Name) (ns : List ℕ) (a : Claimed) → Leaves OfOpen (opening.make_with path flags d e ns a)
+  make_with_ends : (d : ℕ) (e : Name) (ns : List ℕ) (a : ClaimResult) → Leaves OfOpen (opening.make_with path flags d e ns a)
   make_with_ends d e ns NoInode = give_up_ends OfOpen d _ (tail_ends OfOpen ns _ refl)
   make_with_ends d e ns NoPlace = give_up_ends OfOpen d _ (tail_ends OfOpen ns _ refl)
   make_with_ends d e ns (New n) = if_ends OfOpen (n == d) _ _ (λ u. give_up_ends OfOpen d _ (tail_ends OfOpen ns _ refl)) (λ a b c. make_on_ends n (face_or a.face).sort d ns c)
@@ -241,12 +241,12 @@ module _ (path : List ℕ) where
   abbrev OfMkdir : Reply → Type 0
   OfMkdir = OfCall (calls.Mkdir path)
 
-  named_ends : (d : ℕ) (f : Face) (n : ℕ) (ns : List ℕ) (a : Entered) → Leaves OfMkdir (naming.name_directory path d f n ns a)
+  named_ends : (d : ℕ) (f : Face) (n : ℕ) (ns : List ℕ) (a : EntryResult) → Leaves OfMkdir (naming.name_directory path d f n ns a)
   named_ends d f n ns InPlace = λ a. give_up_ends OfMkdir d _ (give_up_ends OfMkdir n _ (tail_ends OfMkdir ns _ refl))
   named_ends d f n ns NoBlock = name_unmade_ends (calls.Mkdir path) n d ns _ refl
   named_ends d f n ns NoSlot = name_unmade_ends (calls.Mkdir path) n d ns _ refl
 
-  mkdir_with_ends : (d : ℕ) (e : Name) (ns : List ℕ) (f : Face) (a : Claimed) → Leaves OfMkdir (naming.mkdir_with path d e ns f a)
+  mkdir_with_ends : (d : ℕ) (e : Name) (ns : List ℕ) (f : Face) (a : ClaimResult) → Leaves OfMkdir (naming.mkdir_with path d e ns f a)
   mkdir_with_ends d e ns f NoInode = give_up_ends OfMkdir d _ (tail_ends OfMkdir ns _ refl)
   mkdir_with_ends d e ns f NoPlace = give_up_ends OfMkdir d _ (tail_ends OfMkdir ns _ refl)
   mkdir_with_ends d e ns f (New n) =
@@ -278,7 +278,7 @@ module _ (old new : List ℕ) where
   lower_ends : (n : ℕ) (r : Reply) (ns : List ℕ) → OfLink r → Leaves OfLink (naming.lower old new n r ns)
   lower_ends n r ns e = λ a b. give_up_ends OfLink n _ (tail_ends OfLink ns r e)
 
-  named_on_ends : (n d : ℕ) (ns : List ℕ) (a : Entered) → Leaves OfLink (naming.named_on old new n d ns a)
+  named_on_ends : (n d : ℕ) (ns : List ℕ) (a : EntryResult) → Leaves OfLink (naming.named_on old new n d ns a)
   named_on_ends n d ns InPlace = give_up_ends OfLink d _ (drop_ends OfLink n _ (tail_ends OfLink ns _ refl))
   named_on_ends n d ns NoBlock = give_up_ends OfLink d _ (lower_ends n _ ns refl)
   named_on_ends n d ns NoSlot = give_up_ends OfLink d _ (lower_ends n _ ns refl)
@@ -315,7 +315,7 @@ module _ (old new : List ℕ) where
 end_ends : (child old : ℕ) → Leaves (OfCall (calls.Inherit child)) (moving.inherit_end child old)
 end_ends child old = λ a. drop_ends (OfCall (calls.Inherit child)) old _ (λ b c. refl)
 
-lend_on_ends : (child : ℕ) (again : ℕ → P Reply) (a : Lending) → ((i : ℕ) → Leaves (OfCall (calls.Inherit child)) (again i)) → Leaves (OfCall (calls.Inherit child)) (moving.lend_on child again a)
+lend_on_ends : (child : ℕ) (again : ℕ → P Reply) (a : LoanResult) → ((i : ℕ) → Leaves (OfCall (calls.Inherit child)) (again i)) → Leaves (OfCall (calls.Inherit child)) (moving.lend_on child again a)
 lend_on_ends child again (Lent i true) e = e (i + 1)
 lend_on_ends child again (Lent i false) e = λ old. end_ends child old
 lend_on_ends child again (Moved old) e = end_ends child old

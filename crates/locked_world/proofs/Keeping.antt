@@ -28,7 +28,7 @@ use Rattle.hart_core.specs.Starts.{reason_of}
 use Rattle.hart_core.specs.Worlds.{WorldOf, calls_of, Makes, Answers}
 use Rattle.hart_core.proofs.Histories.{history_more, one_each}
 use Rattle.locked_world.specs.HandedBack.{HandsBack, SpareFits}
-use Rattle.locked_world.specs.Kept.{Stored, with_event, contents, failures, IsRunOf, IsKept, replied_by, replies_in, replies_of, counts, count_in, count_of, shown_in}
+use Rattle.locked_world.specs.Kept.{StoredRun, with_event, contents, failures, IsRunOf, IsKept, replied_by, replies_in, replies_of, counts, count_in, count_of, shown_in}
 use Rattle.locked_world.proofs.Blocks.{answers_fit, may_here, started}
 use Rattle.locked_world.proofs.Spares.{AnswersFit, Ends, step_keeps, step_ends, step_waits, start_refused}
 
@@ -67,7 +67,7 @@ shown_few [] cs = omega arith
 shown_few (e ∷ es) [] = omega arith
 shown_few (e ∷ es) (c ∷ cs) = omega (arith, shown_few es cs)
 
-pub replies_below : (h : ℕ) (s : Stored) → length (replies_of h s) ≤ length s.events
+pub replies_below : (h : ℕ) (s : StoredRun) → length (replies_of h s) ≤ length s.events
 replies_below h s = omega (arith, replies_few h (shown_in s), shown_few s.events s.outcomes)
 
 past_none : (xs : List (Option Call)) (h : ℕ) (call : Call) → get_or xs h None ≡ Some call → h < length xs
@@ -86,10 +86,10 @@ changed_here f h x = ap (λ (b : Bool). if b then x else f h) (eq_same h)
 
 -- ---- the run
 
-pub same_length : (s : Stored) (w : WorldOf Fuse) → IsRunOf s w → length s.outcomes ≡ length s.events
+pub same_length : (s : StoredRun) (w : WorldOf Fuse) → IsRunOf s w → length s.outcomes ≡ length s.events
 same_length s w run = one_each contents failures run.first.sizes run.first.harts w.harts s.events s.outcomes run.history
 
-run_more : (s : Stored) (w v : WorldOf Fuse) → IsRunOf s w → (e : Event) (c : Came) (x : Outside) → v.sizes ≡ w.sizes → Answers contents failures w.sizes (with_answer (event_of e) x) w.harts
+run_more : (s : StoredRun) (w v : WorldOf Fuse) → IsRunOf s w → (e : Event) (c : Came) (x : Outside) → v.sizes ≡ w.sizes → Answers contents failures w.sizes (with_answer (event_of e) x) w.harts
     → Makes contents failures w.sizes (with_answer (event_of e) x) w.harts (came_of c) v.harts → IsRunOf (with_event s e c) v
 run_more s w v run e c x sizes honest makes = record {
   first = run.first;
@@ -107,7 +107,7 @@ abbrev AllFit : List (Option Call) → WorldOf Fuse → Type 0
 AllFit spares w = (k : ℕ) → SpareFits (get_or spares k None) ((calls_of contents failures w.sizes w.harts).running k)
 
 -- one event more
-kept_grow : (s : Stored) (total : ℕ) (w : WorldOf Fuse) (given : List ℕ) (spares : List (Option Call)) → IsKept s total w given spares
+kept_grow : (s : StoredRun) (total : ℕ) (w : WorldOf Fuse) (given : List ℕ) (spares : List (Option Call)) → IsKept s total w given spares
     → (e : Event) (c : Came) (x : Outside) (es : List Event) (cs : List Came) (total' : ℕ) (v : WorldOf Fuse) (given' : List ℕ) (spares' : List (Option Call))
     → es ≡ s.events ++ e ∷ [] → cs ≡ s.outcomes ++ c ∷ [] → total' ≡ total + counts (shown e c)
     → v.sizes ≡ w.sizes → Answers contents failures w.sizes (with_answer (event_of e) x) w.harts → Makes contents failures w.sizes (with_answer (event_of e) x) w.harts (came_of c) v.harts
@@ -124,12 +124,12 @@ kept_grow s total w given spares k e c x es cs total' v given' spares' p q t siz
       eight = eight;
       spares_fit = fit;
     } in
-    subst (λ (z : Stored). IsKept z total' v given' spares') (λ i. record { image = s.image; fuse = s.fuse; events = sym p i; outcomes = sym q i }) all
+    subst (λ (z : StoredRun). IsKept z total' v given' spares') (λ i. record { image = s.image; fuse = s.fuse; events = sym p i; outcomes = sym q i }) all
 
 -- ---- steps
 
 -- the copies that are laid by fit after a step
-fit_step : (s : Stored) (w v : WorldOf Fuse) (spares : List (Option Call)) (h : ℕ) (x : Outside) (o : OutcomeOf Kind Reply Refusal) → IsRunOf s w → v.sizes ≡ w.sizes → Makes contents failures w.sizes (Step h x) w.harts o v.harts → AllFit spares w → AllFit spares v
+fit_step : (s : StoredRun) (w v : WorldOf Fuse) (spares : List (Option Call)) (h : ℕ) (x : Outside) (o : OutcomeOf Kind Reply Refusal) → IsRunOf s w → v.sizes ≡ w.sizes → Makes contents failures w.sizes (Step h x) w.harts o v.harts → AllFit spares w → AllFit spares v
 fit_step s w v spares h x o run sizes makes fit =
     let p : Plain (block_calls w.sizes) (block_code w.sizes) = calls_of contents failures w.sizes w.harts in
     subst (λ (z : Super). (k : ℕ) → SpareFits (get_or spares k None) ((calls_of contents failures z v.harts).running k)) (sym sizes)
@@ -137,7 +137,7 @@ fit_step s w v spares h x o run sizes makes fit =
     (step_keeps w.sizes h x (λ k. get_or spares k None) p fit (answers_fit s w run h x) (p.running h) refl (may_here s w run h)))
 
 -- and where it gave a reply, the hart's was of its call
-ended : (s : Stored) (w v : WorldOf Fuse) (spares : List (Option Call)) (h : ℕ) (x : Outside) (r : Reply) → IsRunOf s w → Makes contents failures w.sizes (Step h x) w.harts (DidEnd r) v.harts → (fit : AllFit spares w)
+ended : (s : StoredRun) (w v : WorldOf Fuse) (spares : List (Option Call)) (h : ℕ) (x : Outside) (r : Reply) → IsRunOf s w → Makes contents failures w.sizes (Step h x) w.harts (DidEnd r) v.harts → (fit : AllFit spares w)
     → Ends w.sizes h x (λ k. get_or spares k None) (calls_of contents failures w.sizes w.harts) fit r (calls_of contents failures w.sizes v.harts)
 ended s w v spares h x r run makes fit =
     let p : Plain (block_calls w.sizes) (block_code w.sizes) = calls_of contents failures w.sizes w.harts in
@@ -145,7 +145,7 @@ ended s w v spares h x r run makes fit =
     (step_ends w.sizes h x (λ k. get_or spares k None) p fit (answers_fit s w run h x) (p.running h) refl (may_here s w run h)) r refl
 
 -- a try that waits
-pub kept_waits : (s : Stored) (total : ℕ) (w : WorldOf Fuse) (given : List ℕ) (spares : List (Option Call)) → IsKept s total w given spares
+pub kept_waits : (s : StoredRun) (total : ℕ) (w : WorldOf Fuse) (given : List ℕ) (spares : List (Option Call)) → IsKept s total w given spares
     → (h : ℕ) (x : Outside) (v : WorldOf Fuse) → v.sizes ≡ w.sizes → Makes contents failures w.sizes (Step h x) w.harts DidWait v.harts → IsKept s total v given spares
 kept_waits s total w given spares k h x v sizes makes =
     let p : Plain (block_calls w.sizes) (block_code w.sizes) = calls_of contents failures w.sizes w.harts in
@@ -173,7 +173,7 @@ kept_waits s total w given spares k h x v sizes makes =
     }
 
 -- a step that gave no reply
-pub kept_step : (s : Stored) (total : ℕ) (w : WorldOf Fuse) (given : List ℕ) (spares : List (Option Call)) → IsKept s total w given spares
+pub kept_step : (s : StoredRun) (total : ℕ) (w : WorldOf Fuse) (given : List ℕ) (spares : List (Option Call)) → IsKept s total w given spares
     → (h : ℕ) (x : Outside) (o : Outcome) (es : List Event) (cs : List Came) (v : WorldOf Fuse)
     → shown_outcome h o ≡ Other → v.sizes ≡ w.sizes → Answers contents failures w.sizes (Step h x) w.harts → Makes contents failures w.sizes (Step h x) w.harts (outcome_of o) v.harts
     → es ≡ s.events ++ event.Step h ∷ [] → cs ≡ s.outcomes ++ came.Stepped o ∷ []
@@ -196,14 +196,14 @@ pub record HadSpare (spares : List (Option Call)) (h : ℕ) (r : Reply) : Type 0
   pub spare : get_or spares h None ≡ Some call
   pub back : HandsBack call r.call
 
-pub had_spare : (s : Stored) (total : ℕ) (w : WorldOf Fuse) (given : List ℕ) (spares : List (Option Call)) → IsKept s total w given spares
+pub had_spare : (s : StoredRun) (total : ℕ) (w : WorldOf Fuse) (given : List ℕ) (spares : List (Option Call)) → IsKept s total w given spares
     → (h : ℕ) (x : Outside) (r : Reply) (v : WorldOf Fuse) → Makes contents failures w.sizes (Step h x) w.harts (DidEnd r) v.harts → HadSpare spares h r
 had_spare s total w given spares k h x r v makes =
     let e = ended s w v spares h x r k.run makes k.spares_fit in
     record { below = past_none spares h e.call e.spare; call = e.call; spare = e.spare; back = e.back }
 
 -- a reply
-pub kept_done : (s : Stored) (total : ℕ) (w : WorldOf Fuse) (given : List ℕ) (spares : List (Option Call)) → IsKept s total w given spares
+pub kept_done : (s : StoredRun) (total : ℕ) (w : WorldOf Fuse) (given : List ℕ) (spares : List (Option Call)) → IsKept s total w given spares
     → (h : ℕ) (x : Outside) (r : Reply) (es : List Event) (cs : List Came) (total' : ℕ) (v : WorldOf Fuse) (spares' : List (Option Call))
     → h < length given → v.sizes ≡ w.sizes → Answers contents failures w.sizes (Step h x) w.harts → Makes contents failures w.sizes (Step h x) w.harts (DidEnd r) v.harts
     → es ≡ s.events ++ event.Step h ∷ [] → cs ≡ s.outcomes ++ came.Stepped (outcome.Done r) ∷ [] → total' ≡ total + 1 → spares' ≡ slice_set spares h None
@@ -224,7 +224,7 @@ kept_done s total w given spares k h x r es cs total' v spares' lt sizes honest 
 -- ---- starts
 
 -- a call begun
-pub kept_started : (s : Stored) (total : ℕ) (w : WorldOf Fuse) (given : List ℕ) (spares : List (Option Call)) → IsKept s total w given spares
+pub kept_started : (s : StoredRun) (total : ℕ) (w : WorldOf Fuse) (given : List ℕ) (spares : List (Option Call)) → IsKept s total w given spares
     → (h : ℕ) (call copy : Call) (x : Outside) (es : List Event) (cs : List Came) (total' : ℕ) (v : WorldOf Fuse) (spares' : List (Option Call))
     → copy ≡ call → v.sizes ≡ w.sizes → Makes contents failures w.sizes (Start h call) w.harts Started v.harts
     → es ≡ s.events ++ event.Start h call ∷ [] → cs ≡ s.outcomes ++ came.Started ∷ [] → total' ≡ total + 1 → spares' ≡ slice_set spares h (Some copy)
@@ -245,7 +245,7 @@ kept_started s total w given spares k h call copy x es cs total' v spares' same 
     (subst (λ (o : List (Option Call)). AllFit o v) (sym (laid ∙ ap (λ (c : Call). slice_set spares h (Some c)) same)) there) (ap length laid ∙ length-set spares h (Some copy) ∙ k.eight)
 
 -- a call refused
-pub kept_refused : (s : Stored) (total : ℕ) (w : WorldOf Fuse) (given : List ℕ) (spares : List (Option Call)) → IsKept s total w given spares
+pub kept_refused : (s : StoredRun) (total : ℕ) (w : WorldOf Fuse) (given : List ℕ) (spares : List (Option Call)) → IsKept s total w given spares
     → (h : ℕ) (call : Call) (why : StartRefused) (x : Outside) (es : List Event) (cs : List Came) (v : WorldOf Fuse)
     → v.sizes ≡ w.sizes → Makes contents failures w.sizes (Start h call) w.harts (Refused (reason_of why)) v.harts
     → es ≡ s.events ++ event.Start h call ∷ [] → cs ≡ s.outcomes ++ came.Refused why ∷ []

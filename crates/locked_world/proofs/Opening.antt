@@ -13,7 +13,7 @@ use Rattle.hart_core.specs.Worlds.{WorldOf, calls_of}
 use Rattle.hart_core.proofs.Histories.{no_history}
 use Rattle.hart_core.proofs.Stepping.{nones}
 use Rattle.locked_world.specs.HandedBack.{SpareFits}
-use Rattle.locked_world.specs.Kept.{Stored, IsKept, contents, failures, disk_of, opened}
+use Rattle.locked_world.specs.Kept.{StoredRun, IsKept, contents, failures, disk_of, opened}
 
 zeros : (n h : ℕ) → ◌≡◌ {A = ℕ} (get_or (replicate n 0) h 0) 0
 zeros zero zero = refl
@@ -41,4 +41,4 @@ kept_opened image fuse es cs total disk w p q t same rests sizes =
       spares_fit = λ h. subst (SpareFits (get_or (replicate 8 None) h None)) (sym (idle h)) tt;
     } in
     subst (λ (n : ℕ). IsKept (record { image = image; fuse = fuse; events = es; outcomes = cs }) n w (replicate 8 0) (replicate 8 None)) (sym t)
-    (subst (λ (z : Stored). IsKept z 0 w (replicate 8 0) (replicate 8 None)) (λ i. record { image = image; fuse = fuse; events = sym p i; outcomes = sym q i }) all)
+    (subst (λ (z : StoredRun). IsKept z 0 w (replicate 8 0) (replicate 8 None)) (λ i. record { image = image; fuse = fuse; events = sym p i; outcomes = sym q i }) all)

@@ -14,7 +14,7 @@ use Rattle.inode_table.specs.Programs.{record_of}
 use Rattle.inode_data.specs.declared.addresses.Address.{Address}
 use Rattle.inode_data.specs.declared.addresses.Address.TheVariants.{Direct, InTable}
 use Rattle.inode_data.specs.Addresses.{address, table_of}
-use Rattle.inode_data.specs.Programs.{Fetched, Filled, filled_with, give_fetched, fetch_number, fetch_named, fetch_at, fetch_block, next_block, blocks_between, part_of, read_part, read_blocks, end_of, read_from}
+use Rattle.inode_data.specs.Programs.{FetchedBlock, FilledMemory, filled_with, give_fetched, fetch_number, fetch_named, fetch_at, fetch_block, next_block, blocks_between, part_of, read_part, read_blocks, end_of, read_from}
 use Rattle.file_table.specs.Programs.{FileState, Denies, Loads, load_file}
 use Rattle.descriptor_calls.specs.Programs.{read_program, read_on, give_read}
 use Rattle.locked_world.specs.HandedBack.{HandsBack, FitsBlock, EndsWith}
@@ -29,7 +29,7 @@ ends_any (Do op m k) = λ a fits. ends_any (k a)
 
 -- ---- a block that is fetched
 
-abbrev IsShort : Fetched → Type 0
+abbrev IsShort : FetchedBlock → Type 0
 IsShort f = length f.bytes ≤ 1024
 
 fetched_short : (b : ℕ) → EndsWith (λ (bytes : List ℕ). length bytes ≤ 1024) (fetch b)
@@ -58,18 +58,18 @@ part_few from upto block short = omega (arith, length-take (upto - from) (drop (
 part_within : (from upto : ℕ) (block : List ℕ) → length block ≤ 1024 → length (part_of from upto block) + from ≤ next_block from
 part_within from upto block short = omega (arith, short, length-take (upto - from) (drop (from % 1024) block), length-drop (from % 1024) block)
 
-blocks_keep : (n : ℕ) (d : Dinode) (from upto : ℕ) (m : Filled) → m.count + (upto - from) ≤ length m.bytes → EndsWith (λ (f : Filled). length f.bytes ≡ length m.bytes) (read_blocks n d from upto m)
+blocks_keep : (n : ℕ) (d : Dinode) (from upto : ℕ) (m : FilledMemory) → m.count + (upto - from) ≤ length m.bytes → EndsWith (λ (f : FilledMemory). length f.bytes ≡ length m.bytes) (read_blocks n d from upto m)
 unfolding read_blocks
 blocks_keep zero d from upto m room = refl
 blocks_keep (suc n) d from upto m room =
-    ends_bind (λ (f : Filled). length f.bytes ≡ length m.bytes) IsShort (fetch_block d (from / 1024)) (read_part (read_blocks n d (next_block from) upto) from upto m) (at_short d (address (from / 1024)))
+    ends_bind (λ (f : FilledMemory). length f.bytes ≡ length m.bytes) IsShort (fetch_block d (from / 1024)) (read_part (read_blocks n d (next_block from) upto) from upto m) (at_short d (address (from / 1024)))
     (λ f short a fits.
     let part : List ℕ = part_of from upto f.bytes in
     let few = part_few from upto f.bytes short in
     let within = part_within from upto f.bytes short in
     let same : length (filled_with m part).bytes ≡ length m.bytes = overwritten m.bytes part m.count (omega (arith, few, room)) in
     let left : (filled_with m part).count + (upto - next_block from) ≤ length (filled_with m part).bytes = omega (arith, few, within, room, same) in
-    subst (λ (k : ℕ). EndsWith (λ (g : Filled). length g.bytes ≡ k) (read_blocks n d (next_block from) upto (filled_with m part))) same (blocks_keep n d (next_block from) upto (filled_with m part) left))
+    subst (λ (k : ℕ). EndsWith (λ (g : FilledMemory). length g.bytes ≡ k) (read_blocks n d (next_block from) upto (filled_with m part))) same (blocks_keep n d (next_block from) upto (filled_with m part) left))
 
 -- ---- the call
 
@@ -81,6 +81,6 @@ read_hands_back inodestart fd buffer =
     by (Denies why) = refl
     by (Loads file inode) =
         let d : Dinode = record_of inode in
-        ends_bind (λ (reply : Reply). HandsBack (Read fd buffer) reply.call) (λ (f : Filled). length f.bytes ≡ length buffer) (read_from d file.offset (length buffer) buffer) (give_read fd file.offset inode)
+        ends_bind (λ (reply : Reply). HandsBack (Read fd buffer) reply.call) (λ (f : FilledMemory). length f.bytes ≡ length buffer) (read_from d file.offset (length buffer) buffer) (give_read fd file.offset inode)
         (blocks_keep (blocks_between file.offset (end_of d file.offset (length buffer))) d file.offset (end_of d file.offset (length buffer)) (record { count = 0; bytes = buffer }) (omega arith))
         (λ f same a fits b fits'. ap (λ (k : ℕ). Read fd (replicate k 0)) same)

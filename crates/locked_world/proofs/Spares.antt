@@ -14,13 +14,13 @@ use Rattle.fs_machine.specs.Machines.{P}
 use Rattle.fs_machine.specs.Steps.{Op, Answer}
 use Rattle.fs_machine.specs.Premises.{May}
 use Rattle.inode_machine.specs.Theory.{Refusal}
-use Rattle.calls_on_blocks.specs.Layer.{Shared, exec_shared}
+use Rattle.calls_on_blocks.specs.Layer.{SharedState, exec_shared}
 use Rattle.calls_on_blocks.specs.Theory.{block_calls, block_code}
 use Rattle.locked_world.specs.HandedBack.{HandsBack, FitsBlock, EndsWith, SpareFits}
 
 -- In this state, where the device answers x, every block that hart h is answered fits, where it may ask.
-abbrev pub AnswersFit : ℕ → Outside → Shared → Type 0
-AnswersFit h x s = (op : Op) (a : Answer op) (t : Shared) → May h op s.state → exec_shared h x op s ≡ Ran a t → FitsBlock op a
+abbrev pub AnswersFit : ℕ → Outside → SharedState → Type 0
+AnswersFit h x s = (op : Op) (a : Answer op) (t : SharedState) → May h op s.state → exec_shared h x op s ≡ Ran a t → FitsBlock op a
 
 -- what is put back in a hart's place
 put_fits : (spares : ℕ → Option Call) (running : ℕ → Option (P Reply)) (h : ℕ) (p : Option (P Reply)) → ((k : ℕ) → SpareFits (spares k) (running k)) → SpareFits (spares h) p → (k : ℕ) → SpareFits (spares k) (changed running h p k)
@@ -50,24 +50,24 @@ module _ (sizes : Super) (h : ℕ) (x : Outside) (spares : ℕ → Option Call) 
   abbrev IfEnds : PlainMade (block_calls sizes) (block_code sizes) → Type 0
   IfEnds m = (reply : Reply) → m.came ≡ DidEnd reply → Ends reply m.after
 
-  moved_ends : (call : Call) → spares h ≡ Some call → (kind : Kind) (t : Shared) (q : P Reply) → EndsWith (λ reply. HandsBack call reply.call) q → IfEnds (plain_moved (block_calls sizes) (block_code sizes) h p kind q t)
+  moved_ends : (call : Call) → spares h ≡ Some call → (kind : Kind) (t : SharedState) (q : P Reply) → EndsWith (λ reply. HandsBack call reply.call) q → IfEnds (plain_moved (block_calls sizes) (block_code sizes) h p kind q t)
   moved_ends call spare kind t (Ret r) e reply is =
       let same : r ≡ reply = (let q = is in cc (q)) in
       record { call = call; spare = spare; back = subst (λ (z : Reply). HandsBack call z.call) same e; left = refl }
   moved_ends call spare kind t (Do op m k) e reply is = absurd (let q = is in cc (q))
 
-  moved_keeps : (call : Call) → spares h ≡ Some call → (kind : Kind) (t : Shared) (q : P Reply) → EndsWith (λ reply. HandsBack call reply.call) q → Keeps (plain_moved (block_calls sizes) (block_code sizes) h p kind q t)
+  moved_keeps : (call : Call) → spares h ≡ Some call → (kind : Kind) (t : SharedState) (q : P Reply) → EndsWith (λ reply. HandsBack call reply.call) q → Keeps (plain_moved (block_calls sizes) (block_code sizes) h p kind q t)
   moved_keeps call spare kind t (Ret r) e = put_fits spares p.running h None fits tt
   moved_keeps call spare kind t (Do op m k) e = put_fits spares p.running h (Some (Do op m k)) fits (call, spare, e)
 
   module _ (answers : AnswersFit h x p.shared) where
-    tried_keeps : (call : Call) → spares h ≡ Some call → (op : Op) → May h op p.shared.state → (k : Answer op → P Reply) → ((a : Answer op) → FitsBlock op a → EndsWith (λ reply. HandsBack call reply.call) (k a)) → (d : Did (Answer op) Shared) → exec_shared h x op p.shared ≡ d
+    tried_keeps : (call : Call) → spares h ≡ Some call → (op : Op) → May h op p.shared.state → (k : Answer op → P Reply) → ((a : Answer op) → FitsBlock op a → EndsWith (λ reply. HandsBack call reply.call) (k a)) → (d : Did (Answer op) SharedState) → exec_shared h x op p.shared ≡ d
         → Keeps (plain_tried (block_calls sizes) (block_code sizes) h p op k d)
     tried_keeps call spare op may k e Waits is = fits
     tried_keeps call spare op may k e (Ran a t) is = moved_keeps call spare ((block_code sizes).kind op a) t (k a) (e a (answers op a t may is))
     tried_keeps call spare op may k e (Stops t) is = fits
 
-    tried_ends : (call : Call) → spares h ≡ Some call → (op : Op) → May h op p.shared.state → (k : Answer op → P Reply) → ((a : Answer op) → FitsBlock op a → EndsWith (λ reply. HandsBack call reply.call) (k a)) → (d : Did (Answer op) Shared) → exec_shared h x op p.shared ≡ d
+    tried_ends : (call : Call) → spares h ≡ Some call → (op : Op) → May h op p.shared.state → (k : Answer op → P Reply) → ((a : Answer op) → FitsBlock op a → EndsWith (λ reply. HandsBack call reply.call) (k a)) → (d : Did (Answer op) SharedState) → exec_shared h x op p.shared ≡ d
         → IfEnds (plain_tried (block_calls sizes) (block_code sizes) h p op k d)
     tried_ends call spare op may k e Waits is reply r = absurd (let q = r in cc (q))
     tried_ends call spare op may k e (Ran a t) is reply r = moved_ends call spare ((block_code sizes).kind op a) t (k a) (e a (answers op a t may is)) reply r
@@ -105,11 +105,11 @@ module _ (sizes : Super) (h : ℕ) (x : Outside) (p : Plain (block_calls sizes) 
   abbrev IfWaits : PlainMade (block_calls sizes) (block_code sizes) → Type 0
   IfWaits m = m.came ≡ DidWait → m.after ≡ p
 
-  moved_waits : (kind : Kind) (t : Shared) (q : P Reply) → IfWaits (plain_moved (block_calls sizes) (block_code sizes) h p kind q t)
+  moved_waits : (kind : Kind) (t : SharedState) (q : P Reply) → IfWaits (plain_moved (block_calls sizes) (block_code sizes) h p kind q t)
   moved_waits kind t (Ret r) e = absurd (let z = e in cc (z))
   moved_waits kind t (Do op m k) e = absurd (let z = e in cc (z))
 
-  tried_waits : (op : Op) (k : Answer op → P Reply) (d : Did (Answer op) Shared) → IfWaits (plain_tried (block_calls sizes) (block_code sizes) h p op k d)
+  tried_waits : (op : Op) (k : Answer op → P Reply) (d : Did (Answer op) SharedState) → IfWaits (plain_tried (block_calls sizes) (block_code sizes) h p op k d)
   tried_waits op k Waits e = refl
   tried_waits op k (Ran a t) e = moved_waits ((block_code sizes).kind op a) t (k a) e
   tried_waits op k (Stops t) e = absurd (let z = e in cc (z))
@@ -131,7 +131,7 @@ module _ (sizes : Super) (h : ℕ) (call : Call) (p : Plain (block_calls sizes) 
   abbrev IfRefused : PlainMade (block_calls sizes) (block_code sizes) → Type 0
   IfRefused m = (why : Refusal) → m.came ≡ Refused why → m.after ≡ p
 
-  begun_refused : (b : Began Refusal Shared) → IfRefused (plain_begun (block_calls sizes) (block_code sizes) h call p b)
+  begun_refused : (b : Began Refusal SharedState) → IfRefused (plain_begun (block_calls sizes) (block_code sizes) h call p b)
   begun_refused (Refuses y) why e = refl
   begun_refused (Begins s) why e = absurd (let z = e in cc (z))
 

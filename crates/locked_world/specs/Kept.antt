@@ -16,7 +16,7 @@ use Rattle.hart_core.specs.Runs.{all_shown, trace_in, IsMounted, HasHistory, Fou
 use Rattle.hart_core.specs.Worlds.{WorldOf, Makes, calls_of}
 use Rattle.locked_world.specs.HandedBack.{SpareFits}
 
-pub record Stored : Type 0 where
+pub record StoredRun : Type 0 where
   pub image : List ℕ
   pub fuse : ℕ
   pub events : List Event
@@ -24,11 +24,11 @@ pub record Stored : Type 0 where
   pub outcomes : List Came
 
 -- nothing happened yet
-abbrev pub opened : List ℕ → ℕ → Stored
+abbrev pub opened : List ℕ → ℕ → StoredRun
 opened image fuse = record { image = image; fuse = fuse; events = []; outcomes = [] }
 
 -- one event more
-abbrev pub with_event : Stored → Event → Came → Stored
+abbrev pub with_event : StoredRun → Event → Came → StoredRun
 with_event s e c = record { image = s.image; fuse = s.fuse; events = s.events ++ e ∷ []; outcomes = s.outcomes ++ c ∷ [] }
 
 -- ---- the world
@@ -41,36 +41,36 @@ abbrev pub failures : Fuse → ℕ
 failures d = d.faults
 
 -- the image on a disk that passes so many calls
-abbrev pub disk_of : Stored → Fuse
+abbrev pub disk_of : StoredRun → Fuse
 disk_of s = record { bytes = s.image; left = s.fuse; faults = 0 }
 
 -- A run of what is stored: a world was mounted on the disk, the events came to their outcomes, one after the other, and made this world of it.
-pub record IsRunOf (s : Stored) (w : WorldOf Fuse) : Type 0 where
+pub record IsRunOf (s : StoredRun) (w : WorldOf Fuse) : Type 0 where
   pub first : WorldOf Fuse
   pub mounted : IsMounted contents failures (disk_of s) first
   pub history : HasHistory contents failures first.sizes first.harts s.events s.outcomes w.harts
   pub sizes : w.sizes ≡ first.sizes
 
-abbrev pub IsRun : Stored → Type 0
+abbrev pub IsRun : StoredRun → Type 0
 IsRun s = (w : WorldOf Fuse) × IsRunOf s w
 
 -- the world of a run has this disk
-abbrev pub LeavesDisk : Stored → List ℕ → Type 0
+abbrev pub LeavesDisk : StoredRun → List ℕ → Type 0
 LeavesDisk s bytes = (w : WorldOf Fuse) × IsRunOf s w × (bytes ≡ w.harts.core.log.cache.device.bytes)
 
 -- a step of the hart waits in the world of a run
-abbrev pub WaitsThere : Stored → ℕ → Type 0
+abbrev pub WaitsThere : StoredRun → ℕ → Type 0
 WaitsThere s h = (w : WorldOf Fuse) × IsRunOf s w × ((still : HartsOf Fuse) × Makes contents failures w.sizes (Step h Passes) w.harts DidWait still)
 
 -- If no step of the run found no room, one list of tree steps explains all calls that were started, from the image's tree: as long as no path climbs, or
 -- where one hart has made all calls.
-abbrev pub HasOneHistory : Stored → Type 0
+abbrev pub HasOneHistory : StoredRun → Type 0
 HasOneHistory s =
     (w : WorldOf Fuse) × ((run : IsRunOf s w) × (FoundRoom contents failures run.first run.history.0 → NoneClimbs (trace_in s.events s.outcomes) ⊎ OneHart (trace_in s.events s.outcomes) → IsExplained (tree_in (blocks_of s.image)) (trace_in s.events s.outcomes)))
 
 -- ---- calls and replies
 
-abbrev pub shown_in : Stored → List Shown
+abbrev pub shown_in : StoredRun → List Shown
 shown_in s = all_shown s.events s.outcomes
 
 abbrev pub replied_by : ℕ → Shown → List Reply
@@ -83,7 +83,7 @@ replies_in h [] = []
 replies_in h (s ∷ ss) = replied_by h s ++ replies_in h ss
 
 -- the replies of a hart, in their order
-abbrev pub replies_of : ℕ → Stored → List Reply
+abbrev pub replies_of : ℕ → StoredRun → List Reply
 replies_of h s = replies_in h (shown_in s)
 
 abbrev pub counts : Shown → ℕ
@@ -96,13 +96,13 @@ count_in [] = 0
 count_in (s ∷ ss) = counts s + count_in ss
 
 -- the calls that were started, and the replies, together
-abbrev pub count_of : Stored → ℕ
+abbrev pub count_of : StoredRun → ℕ
 count_of s = count_in (shown_in s)
 
 -- ---- all that is kept
 
 -- the ledger's total, how many replies each hart has had, and the copies that are laid by
-pub record IsKept (s : Stored) (total : ℕ) (w : WorldOf Fuse) (given : List ℕ) (spares : List (Option Call)) : Type 0 where
+pub record IsKept (s : StoredRun) (total : ℕ) (w : WorldOf Fuse) (given : List ℕ) (spares : List (Option Call)) : Type 0 where
   pub run : IsRunOf s w
   pub total_is : total ≡ count_of s
   pub eight : length spares ≡ 8

@@ -93,9 +93,9 @@ pub struct Locked<L: Ledger> {
 }
 
 impl<L: Ledger> Model for Locked<L> {
-    ghost use Rattle.locked_world.specs.Kept.{Stored, IsKept};
+    ghost use Rattle.locked_world.specs.Kept.{StoredRun, IsKept};
 
-    ghost Value = { Stored };
+    ghost Value = { StoredRun };
 
     ghost view = { λ s. record { image = s.image.items; fuse = s.fuse; events = s.events.items; outcomes = s.outcomes.items } };
 
@@ -114,9 +114,9 @@ pub struct Closed<L: Ledger> {
 }
 
 impl<L: Ledger> Model for Closed<L> {
-    ghost use Rattle.locked_world.specs.Kept.{Stored, LeavesDisk as HasLeft};
+    ghost use Rattle.locked_world.specs.Kept.{StoredRun, LeavesDisk as HasLeft};
 
-    ghost Value = { Stored };
+    ghost Value = { StoredRun };
 
     ghost view = { λ s. record { image = s.image.items; fuse = s.fuse; events = s.events.items; outcomes = s.outcomes.items } };
 

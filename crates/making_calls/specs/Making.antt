@@ -18,7 +18,7 @@ use Rattle.inode_table.specs.NewInodes.{new_inode}
 use Rattle.inode_table.specs.NewMachines.{new_of, NewFits}
 use Rattle.inode_table.specs.declared.new_inode.Made.{Made}
 use Rattle.inode_table.specs.declared.new_inode.Made.TheVariants as made
-use Rattle.inode_data.specs.Writing.{Written, write_part}
+use Rattle.inode_data.specs.Writing.{WriteResult, write_part}
 use Rattle.inode_data.specs.PartWriting.{write_of, writer_of, WriteFits}
 use Rattle.directory.specs.Entering.{EnteredState, enter, enter_of, enterer_of, EnterFits}
 use Rattle.directory.specs.declared.enter.Room.{Room}
@@ -74,7 +74,7 @@ module _ (sizes : Super) where
   name_new e v w = bind (enter sizes v.number (record_of v) w.number e) (named_on v.number w)
 
   -- a new directory has "." and "..", which stand in one block
-  abbrev pub filled_on : Name → Inode → ℕ → Written → P NamedState
+  abbrev pub filled_on : Name → Inode → ℕ → WriteResult → P NamedState
   filled_on e v n r = if r.upto == 2 * dirent_len then name_new e v (loaded n r.inode) else unmake v (loaded n r.inode) fulls.Blocks
 
   abbrev pub fill_new : Name → Inode → Inode → P NamedState

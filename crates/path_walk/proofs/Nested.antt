@@ -1,6 +1,6 @@
 -- A nested machine's step is one of the walk that it stands in.
 use Rattle.std.proofs.Common.{◌≡◌, ℕ, refl, sym, ap, subst, ◌∙◌}
-use Rattle.atomic_programs.specs.Prog.{Ret, Do, bind, Did, Waits as ItWaits, Ran as ItRan, Stops, Moved, Ended, StillWaits, WentOn, Broke, went, advance, asks, OfNext}
+use Rattle.atomic_programs.specs.Prog.{Ret, Do, bind, Did, Waits as ItWaits, Ran as ItRan, Stops, OperationResult, Ended, StillWaits, WentOn, Broke, went, advance, asks, OfNext}
 use Rattle.atomic_programs.specs.Machines.{moved_to, Left}
 use Rattle.atomic_programs.specs.declared.machines.Stepped.{Stepped}
 use Rattle.atomic_programs.specs.declared.machines.Stepped.TheVariants.{Waits, Ran, Done, Stopped}
@@ -13,7 +13,7 @@ use Rattle.path_walk.specs.declared.walk.Walk.{Walk}
 use Rattle.path_walk.specs.declared.walked.Walked.{Walked}
 use Rattle.path_walk.specs.Machines.{GoesOn}
 
-moved_by : {A B : Type 0} → (A → P B) → Moved Kind (P A) State → Moved Kind (P B) State
+moved_by : {A B : Type 0} → (A → P B) → OperationResult Kind (P A) State → OperationResult Kind (P B) State
 moved_by k Ended = Ended
 moved_by k StillWaits = StillWaits
 moved_by k (WentOn kind p s) = WentOn kind (bind p k) s

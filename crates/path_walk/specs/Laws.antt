@@ -5,7 +5,7 @@ use Rattle.fs_layout.specs.declared.inode.Dinode.{Dinode}
 use Rattle.fs_layout.specs.declared.entry.Dirent.{Dirent}
 use Rattle.fs_layout.specs.declared.entry.Dirent.TheVariants.{Free, Used}
 use Rattle.fs_machine.specs.Machines.{P}
-use Rattle.bitmap_alloc.specs.Laws.{Answering, outcome}
+use Rattle.bitmap_alloc.specs.Laws.{Oracle, outcome}
 use Rattle.directory.specs.declared.found.Found.{Found}
 use Rattle.directory.specs.Laws.{Shows, slot_at}
 use Rattle.directory.specs.Programs.{is_live_directory, lookup, slot_count}
@@ -29,6 +29,6 @@ number_found o = option_map (λ f. f.number) o
 -- As long as the operations show a directory's blocks as they are, a lookup finds the number that the plain tree has in the first slot of
 -- that name, and in what is no directory or has no link nothing.
 abbrev pub LooksUpAsTheTree : Type 0
-LooksUpAsTheTree = (answer : Answering) (d : Dinode) (content : ℕ → List ℕ) (name : Name) → Shows answer d content
+LooksUpAsTheTree = (answer : Oracle) (d : Dinode) (content : ℕ → List ℕ) (name : Name) → Shows answer d content
     → let p : P (Option Found) = lookup name d in
     number_found (outcome answer 0 p) ≡ (if is_live_directory d then first_slot (first_slots (slot_at content) (slot_count d)) name else None)

@@ -2,8 +2,8 @@
 use Rattle.std.proofs.Common.{◌≡◌, ◌≢◌, ◌≤◌, ◌+◌, ℕ, suc, Bool, true, false, nat_eq, if◌then◌else◌, Option, Some, None, List, [], ◌∷◌, refl, sym, ◌∙◌, ap, subst, inl, arith}
 use Rattle.std.proofs.lemmas.Bool.{eqb-true, eqb-false}
 use Rattle.atomic_programs.specs.Prog.{Ret, Do, Did, Waits, Ran, Stops}
-use Rattle.atomic_programs.specs.Logic.{P, Answered, own, onto}
-use Rattle.atomic_programs.specs.Calls.{Theory, Began, Refuses, Begins, Lawful, Run, Finished, State, Made, Event, Start, Step, hart_of, AllHonest, changed, told, all_told, moved, tried, step_prog, step_unless, step_run, begun, busy_in, start_run, makes, next, outcomes}
+use Rattle.atomic_programs.specs.Logic.{P, OpWithAnswer, own, onto}
+use Rattle.atomic_programs.specs.Calls.{Theory, Began, Refuses, Begins, Lawful, Run, FinishedCall, State, Made, Event, Start, Step, hart_of, AllHonest, changed, told, all_told, moved, tried, step_prog, step_unless, step_run, begun, busy_in, start_run, makes, next, outcomes}
 use Rattle.atomic_programs.specs.Explained.{In}
 use Rattle.atomic_programs.proofs.Explains.{Keeps, Keeps-next, changed_same, changed_other, Some-inj}
 use Rattle.step_bounds.specs.Steps.{with_outcome, steps_ran, OfBegun, OfEachCall}
@@ -13,7 +13,7 @@ module _ (L : Theory) (h : ℕ) (s : State L) (r : Run L) (is : s.running h ≡ 
   -- after the event, with the later steps, the call is within its limit; and so is each that has finished
   pub record Fits (m : Made L) : Type 0 where
     pub going : (q : Run L) → m.after.running h ≡ Some q → q.count + later ≤ L.limit q.call
-    pub over : (f : Finished L) → In f m.after.finished → f.count ≤ L.limit f.call
+    pub over : (f : FinishedCall L) → In f m.after.finished → f.count ≤ L.limit f.call
 
   abbrev Within : ℕ → Made L → Type 0
   Within g m = r.count + (if nat_eq g h then with_outcome m.came later else later) ≤ L.limit r.call
@@ -30,7 +30,7 @@ module _ (L : Theory) (h : ℕ) (s : State L) (r : Run L) (is : s.running h ≡ 
   other : (g : ℕ) → g ≢ h → (m : Made L) (xs : List L.M.Step) (x : Option (Run L)) (f : ℕ → Option (Run L)) → m.after.running ≡ changed f g x → f h ≡ told L xs (Some r) → Fits m → r.count + later ≤ L.limit r.call
   other g ne m xs x f e t fits = fits.going (record r { done = onto xs r.done }) (ap (λ (z : ℕ → Option (Run L)). z h) e ∙ changed_other f g x h (λ y. ne (sym y)) ∙ t)
 
-  ran : (g : ℕ) (q : Run L) (did : Answered L.M) (ps : List (ℕ × L.M.Step)) (p : P L.M L.Reply) (w : L.M.World) → s.running g ≡ Some q → Fits (moved L g s q did ps p w) → Within g (moved L g s q did ps p w)
+  ran : (g : ℕ) (q : Run L) (did : OpWithAnswer L.M) (ps : List (ℕ × L.M.Step)) (p : P L.M L.Reply) (w : L.M.World) → s.running g ≡ Some q → Fits (moved L g s q did ps p w) → Within g (moved L g s q did ps p w)
   ran g q did ps (Ret reply) w at f = by (nat_eq g h) refl
     where
       by : (b : Bool) → nat_eq g h ≡ b → r.count + (if b then 1 else later) ≤ L.limit r.call

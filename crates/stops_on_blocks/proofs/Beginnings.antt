@@ -21,7 +21,7 @@ use Rattle.group_log.proofs.Stories.{beginning}
 use Rattle.atomic_programs.specs.Calls.{Theory, Event, State, AllHonest, makes, next, run, Sound}
 use Rattle.atomic_programs.proofs.Reached.{sound_run}
 use Rattle.fs_machine.specs.LogPart.{Outside}
-use Rattle.inode_machine.specs.MoveCalls.{Moving, IsMoving, NoneClimbs, Alone, StartsBy, climbs_at, shown_by, shows}
+use Rattle.inode_machine.specs.MoveCalls.{MoveMachine, IsMoving, NoneClimbs, Alone, StartsBy, climbs_at, shown_by, shows}
 use Rattle.inode_machine.proofs.MoveCalls.{Turns, clean_before}
 use Rattle.inodes_on_blocks.specs.Mounted.{IsMountable}
 use Rattle.calls_on_blocks.specs.History.{block_moves, first, RunsOn}
@@ -45,7 +45,7 @@ AllObey OkAt [] = Unit {0}
 AllObey OkAt (e ∷ es) = OkAt e × AllObey OkAt es
 
 module _ (disk : List (List ℕ)) (failures : ℕ) (mountable : IsMountable disk) (Ok : ℕ → Call → Type 0) (apart : Apart Ok) (well : trees.IsWellFormed (tree_of (tree_in disk))) (OkAt : Event Call Outside → Type 0) where
-  abbrev N : Moving
+  abbrev N : MoveMachine
   N = block_moves (sizes disk failures mountable)
 
   abbrev L : Theory

@@ -17,7 +17,7 @@ use Rattle.tree_moves.proofs.Cut.{AllFrom, run_grew, run_below}
 use Rattle.tree_moves.proofs.History.{AllMayStart, MayStart, Apart, happens_trace, opened_ok, run_explained, run_ok}
 use Rattle.atomic_programs.specs.Calls.{Theory, Event, State, IsHonest, fresh, makes, next, Sound}
 use Rattle.atomic_programs.proofs.Explains.{sound_keeps}
-use Rattle.inode_machine.specs.MoveCalls.{Moving, IsMoving, shown_by, theory_of}
+use Rattle.inode_machine.specs.MoveCalls.{MoveMachine, IsMoving, shown_by, theory_of}
 use Rattle.inode_machine.proofs.MoveCalls.{Beside, Turns, event_turns}
 use Rattle.stops_on_blocks.proofs.Following.{event_of}
 
@@ -41,7 +41,7 @@ map_append : {A B : Type 0} (f : A → B) (xs ys : List A) → map f (xs ++ ys) 
 map_append f [] ys = refl
 map_append f (x ∷ xs) ys = ap (λ l. f x ∷ l) (map_append f xs ys)
 
-module _ (N : Moving) (moving : IsMoving N) (Ok : ℕ → Call → Type 0) (apart : Apart Ok) (base : TreeData) (well : IsWellFormed (tree_of base)) where
+module _ (N : MoveMachine) (moving : IsMoving N) (Ok : ℕ → Call → Type 0) (apart : Apart Ok) (base : TreeData) (well : IsWellFormed (tree_of base)) where
   abbrev pub L : Theory
   L = theory_of N
 

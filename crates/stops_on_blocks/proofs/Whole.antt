@@ -19,7 +19,7 @@ use Rattle.group_log.specs.Soundness.{LogState}
 use Rattle.group_log.specs.Stories.{no_marks, after_leave, after_write, Does, IsMarked, IsMarkedRun}
 use Rattle.group_log.proofs.Marked.{cuts_have_replies}
 use Rattle.atomic_programs.specs.Prog.{Ret, Do, Did, Waits, Ran, Stops}
-use Rattle.atomic_programs.specs.Logic.{Answered, P}
+use Rattle.atomic_programs.specs.Logic.{OpWithAnswer, P}
 use Rattle.atomic_programs.specs.Calls.{Theory, Event, Step, Run, State, DidEnd, IsHonest, AllHonest, all_told, hart_of, makes, moved, next, run, step_prog, step_run, step_unless, tried, Sound}
 use Rattle.atomic_programs.proofs.Explains.{Some-inj, changed_same, inv_of, sound_keeps}
 use Rattle.atomic_programs.proofs.Reached.{run-append, sound_run}
@@ -31,7 +31,7 @@ use Rattle.calls_on_blocks.specs.Theory.{block_calls}
 use Rattle.calls_on_blocks.proofs.Lawful.{lawful}
 use Rattle.stops_on_blocks.specs.Marks.{at_point, log_at, marks_after, marks_next}
 use Rattle.stops_on_blocks.specs.Stops.{AreEventsOn, marks_at}
-use Rattle.stops_on_blocks.specs.Whole.{BeganCommit, CutsHaveReplies, MarksPartNone, Replied, state_up_to}
+use Rattle.stops_on_blocks.specs.Whole.{BeganCommit, CutsHaveReplies, MarksPartNone, HasReplied, state_up_to}
 use Rattle.stops_on_blocks.proofs.Commits.{EventCommits, commits_of, event_commits}
 use Rattle.stops_on_blocks.proofs.Events.{EventGoes, event_goes, next_now}
 use Rattle.stops_on_blocks.proofs.Moves.{itself, log_in}
@@ -70,7 +70,7 @@ module _ (L : Theory) (h : ℕ) (s : State L) (reply : L.Reply) where
   abbrev IsOver : State L → Type 0
   IsOver t = (t.running h ≡ None) × (t.stopped ≡ false)
 
-  over_moved : (r : Run L) (did : Answered L.M) (ps : List (ℕ × L.M.Step)) (p : P L.M L.Reply) (w : L.M.World) → s.stopped ≡ false → (moved L h s r did ps p w).came ≡ DidEnd reply → IsOver (moved L h s r did ps p w).after
+  over_moved : (r : Run L) (did : OpWithAnswer L.M) (ps : List (ℕ × L.M.Step)) (p : P L.M L.Reply) (w : L.M.World) → s.stopped ≡ false → (moved L h s r did ps p w).came ≡ DidEnd reply → IsOver (moved L h s r did ps p w).after
   over_moved r did ps (Ret a) w runs e = (changed_same (all_told L ps s.running) h None h refl, runs)
   over_moved r did ps (Do op m k) w runs e = absurd cc
 
@@ -302,7 +302,7 @@ module _ (disk : List (List ℕ)) (failures : ℕ) (events : List (Event Call Ou
   marked_run : IsMarkedRun itself all (log sizes_here events start sound_start whole_start refl on.honest) (marks sizes_here events start sound_start whole_start refl on.honest)
   marked_run = record { fresh = first_agrees disk failures on.mountable; idle = refl; unmarked = refl; does = does sizes_here events start sound_start whole_start refl on.honest }
 
-  cut_has : (i j h : ℕ) → BeganCommit disk failures events i h → i < j → Replied disk failures events j h → i < (marks_at disk failures events).cut
+  cut_has : (i j h : ℕ) → BeganCommit disk failures events i h → i < j → HasReplied disk failures events j h → i < (marks_at disk failures events).cut
   cut_has i j h began lt replied =
       let past : j < all = slice_get_within events j (Step h replied.outside) replied.event in
       let over_at = replied_at sizes_here events start sound_start whole_start refl on.honest j h replied.outside replied.reply past (get_or_from_slice_get events j (Step h replied.outside) (Step 0 Passes) replied.event) replied.came in

@@ -28,7 +28,7 @@ pub record BeganCommit (disk : List (List ℕ)) (failures : ℕ) (events : List 
   pub begun : (marks_at disk failures (take (i + 1) events)).begun ≡ i + 1
 
 -- event j gave hart h's reply
-pub record Replied (disk : List (List ℕ)) (failures : ℕ) (events : List (Event Call Outside)) (j h : ℕ) : Type 0 where
+pub record HasReplied (disk : List (List ℕ)) (failures : ℕ) (events : List (Event Call Outside)) (j h : ℕ) : Type 0 where
   pub outside : Outside
   pub reply : Reply
   pub event : slice_get events j ≡ Some (Step h outside)
@@ -38,4 +38,4 @@ pub record Replied (disk : List (List ℕ)) (failures : ℕ) (events : List (Eve
 abbrev pub CutsHaveReplies : Type 0
 CutsHaveReplies =
     (disk : List (List ℕ)) (failures : ℕ) (events : List (Event Call Outside)) → AreEventsOn disk failures events
-    → (i j h : ℕ) → BeganCommit disk failures events i h → i < j → Replied disk failures events j h → i < (marks_at disk failures events).cut
+    → (i j h : ℕ) → BeganCommit disk failures events i h → i < j → HasReplied disk failures events j h → i < (marks_at disk failures events).cut

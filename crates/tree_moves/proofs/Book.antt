@@ -14,8 +14,8 @@ use Rattle.plain_tree.specs.Explains.{noted, ends_at, Chain, act_of as act_in, a
 use Rattle.plain_tree.specs.Explains.Shown.{Started, Replied}
 use Rattle.tree_laws.proofs.Maps.{either, eq_self, eq_not, eq_is, same_or, put_same, put_other, put_is, and_true}
 use Rattle.tree_moves.specs.Moves.{Deed, MayEnd}
-use Rattle.tree_moves.specs.History.{Standing, History, writes, tells, entry_of, starts, replies, passes}
-use Rattle.tree_moves.specs.History.Standing.{Free, Busy}
+use Rattle.tree_moves.specs.History.{HartStanding, History, writes, tells, entry_of, starts, replies, passes}
+use Rattle.tree_moves.specs.History.HartStanding.{Free, Busy}
 use Rattle.tree_moves.proofs.Lists.{get_left, get_last, get_more, get_past, get_map, map_get}
 
 -- late: by hart, what the list has of its call and the call wasn't told yet
@@ -121,13 +121,13 @@ later_ok base t late now later b le k =
       belongs = belong_map (record b.trace { events = now }) (record b.trace { events = later }) later b.list low (λ e lt o. record { traced = o.traced; is = o.is; hart = o.hart; after_start = o.after_start; before_return = in_time now later e.event o.traced.finished le o.before_return }) k.belongs;
     }
 
-same_id : (id id' : ℕ) (c c' : Call) (x x' : List Act) (s : Standing) → s ≡ Busy id c x → s ≡ Busy id' c' x' → id ≡ id'
+same_id : (id id' : ℕ) (c c' : Call) (x x' : List Act) (s : HartStanding) → s ≡ Busy id c x → s ≡ Busy id' c' x' → id ≡ id'
 same_id id id' c c' x x' s p q = cc
 
-same_acts : (id id' : ℕ) (c c' : Call) (x x' : List Act) (s : Standing) → s ≡ Busy id c x → s ≡ Busy id' c' x' → x ≡ x'
+same_acts : (id id' : ℕ) (c c' : Call) (x x' : List Act) (s : HartStanding) → s ≡ Busy id c x → s ≡ Busy id' c' x' → x ≡ x'
 same_acts id id' c c' x x' s p q = cc
 
-same_call : (id id' : ℕ) (c c' : Call) (x x' : List Act) (s : Standing) → s ≡ Busy id c x → s ≡ Busy id' c' x' → c ≡ c'
+same_call : (id id' : ℕ) (c c' : Call) (x x' : List Act) (s : HartStanding) → s ≡ Busy id c x → s ≡ Busy id' c' x' → c ≡ c'
 same_call id id' c c' x x' s p q = cc
 
 same_some : {A : Type 0} (a b : A) (o : Option A) → o ≡ Some a → o ≡ Some b → a ≡ b

@@ -10,8 +10,8 @@ use Rattle.plain_tree.specs.Explains.{noted, Shown}
 use Rattle.plain_tree.specs.Explains.Shown.{Started, Replied, Other}
 use Rattle.tree_laws.proofs.Maps.{either}
 use Rattle.tree_moves.specs.Moves.{Deed, Stage}
-use Rattle.tree_moves.specs.History.{Standing, History, writes, writes_any, tells_any, entry_of}
-use Rattle.tree_moves.specs.History.Standing.{Free, Busy}
+use Rattle.tree_moves.specs.History.{HartStanding, History, writes, writes_any, tells_any, entry_of}
+use Rattle.tree_moves.specs.History.HartStanding.{Free, Busy}
 use Rattle.tree_moves.specs.Runs.{World, Event, lost_of, unless, falls, all_fall, moves_on, finishes, Happens, Runs, opened, shown_of}
 use Rattle.tree_moves.specs.Runs.Event.{Starts, Steps, Nothing}
 use Rattle.tree_moves.specs.Laws.{before}
@@ -55,7 +55,7 @@ writes_grew : (a : Option Deed) (b : History) (h : ℕ) → Grew b.trace.events 
 writes_grew None b h = grew_same b.trace.events b.list
 writes_grew (Some d) b h = at (b.calls h)
   where
-    at : (s : Standing) → Grew b.trace.events b.list (writes s b h d).list
+    at : (s : HartStanding) → Grew b.trace.events b.list (writes s b h d).list
     at Free = grew_same b.trace.events b.list
     at (Busy id c x) = record { more = entry_of b.trace.events id h d ∷ []; is = refl; later = from_one b.trace.events (entry_of b.trace.events id h d) refl }
 
@@ -150,7 +150,7 @@ unfolding AllBelow
 writes_below None b h k = k
 writes_below (Some d) b h k = at (b.calls h)
   where
-    at : (s : Standing) → AllBelow (b.trace.events + 1) (writes s b h d).list
+    at : (s : HartStanding) → AllBelow (b.trace.events + 1) (writes s b h d).list
     at Free = k
     at (Busy id c x) = below_append (b.trace.events + 1) b.list (entry_of b.trace.events id h d ∷ []) k (omega arith, tt)
 

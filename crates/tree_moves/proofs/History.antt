@@ -11,8 +11,8 @@ use Rattle.plain_tree.specs.Explains.{Chain, Rises, AllBelong, noted, trace_from
 use Rattle.tree_laws.specs.WellFormed.{IsWellFormed}
 use Rattle.tree_laws.proofs.Maps.{same_or, put_same, put_other}
 use Rattle.tree_moves.specs.Moves.{Deed, Walk, Stage, Move, fail, after}
-use Rattle.tree_moves.specs.History.{Standing, History, writes, writes_any, tells, tells_any, passes}
-use Rattle.tree_moves.specs.History.Standing.{Free, Busy}
+use Rattle.tree_moves.specs.History.{HartStanding, History, writes, writes_any, tells, tells_any, passes}
+use Rattle.tree_moves.specs.History.HartStanding.{Free, Busy}
 use Rattle.tree_moves.specs.Runs.{World, Event, lost, lost_of, unless, falls, all_fall, moves_on, MayReply, finishes, stepped, Happens, Runs, opened, shown_of, climbing, NoneClimbs, IsStartBy, Alone}
 use Rattle.tree_moves.specs.Runs.Event.{Starts, Steps, Nothing}
 use Rattle.tree_moves.proofs.Book.{BookOk, AllBelow, write_ok, tell_ok, start_ok, reply_ok, passes_ok, later_ok, explained}
@@ -24,7 +24,7 @@ use Rattle.tree_moves.proofs.Moved.Way.{Stays, Did, Went, Ended}
 abbrev pub Apart : (ℕ → Call → Type 0) → Type 0
 Apart Ok = (h g : ℕ) (c c' : Call) → g ≢ h → Ok h c → Ok g c' → call_climbs c' ≡ false
 
-abbrev pub OwnOk : (ℕ → Call → Type 0) → Tree → ℕ → Standing → Option Walk → Type 0
+abbrev pub OwnOk : (ℕ → Call → Type 0) → Tree → ℕ → HartStanding → Option Walk → Type 0
 OwnOk Ok t h Free walk = walk ≡ None
 OwnOk Ok t h (Busy id c x) walk = Ok h c × WalkAt t h c x walk
 
@@ -34,7 +34,7 @@ pub writes_calls : (o : Option Deed) (h : ℕ) (b : History) → (writes_any o h
 writes_calls None h b = refl
 writes_calls (Some d) h b = at (b.calls h)
   where
-    at : (s : Standing) → (writes s b h d).calls ≡ b.calls
+    at : (s : HartStanding) → (writes s b h d).calls ≡ b.calls
     at Free = refl
     at (Busy id c x) = refl
 
@@ -42,7 +42,7 @@ pub writes_trace : (o : Option Deed) (h : ℕ) (b : History) → (writes_any o h
 writes_trace None h b = refl
 writes_trace (Some d) h b = at (b.calls h)
   where
-    at : (s : Standing) → (writes s b h d).trace ≡ b.trace
+    at : (s : HartStanding) → (writes s b h d).trace ≡ b.trace
     at Free = refl
     at (Busy id c x) = refl
 
@@ -50,7 +50,7 @@ pub tells_trace : (o : Option Deed) (h : ℕ) (b : History) → (tells_any o h b
 tells_trace None h b = refl
 tells_trace (Some d) h b = at (b.calls h)
   where
-    at : (s : Standing) → (tells s b h d).trace ≡ b.trace
+    at : (s : HartStanding) → (tells s b h d).trace ≡ b.trace
     at Free = refl
     at (Busy id c x) = refl
 
@@ -58,7 +58,7 @@ pub tells_list : (o : Option Deed) (h : ℕ) (b : History) → (tells_any o h b)
 tells_list None h b = refl
 tells_list (Some d) h b = at (b.calls h)
   where
-    at : (s : Standing) → (tells s b h d).list ≡ b.list
+    at : (s : HartStanding) → (tells s b h d).list ≡ b.list
     at Free = refl
     at (Busy id c x) = refl
 
@@ -66,13 +66,13 @@ pub tells_there : (o : Option Deed) (h g : ℕ) (b : History) → g ≢ h → (t
 tells_there None h g b ne = refl
 tells_there (Some d) h g b ne = at (b.calls h)
   where
-    at : (s : Standing) → (tells s b h d).calls g ≡ b.calls g
+    at : (s : HartStanding) → (tells s b h d).calls g ≡ b.calls g
     at Free = refl
     at (Busy id c x) = put_other b.calls h (Busy id c (x ++ d.act ∷ [])) g ne
 
 pub tells_here : (o : Option Deed) (h id : ℕ) (c : Call) (x : List Act) (b : History) → b.calls h ≡ Busy id c x → (tells_any o h b).calls h ≡ Busy id c (after o x)
 tells_here None h id c x b is = is
-tells_here (Some d) h id c x b is = subst (λ (s : Standing). (tells s b h d).calls h ≡ Busy id c (x ++ d.act ∷ [])) (sym is) (put_same b.calls h (Busy id c (x ++ d.act ∷ [])))
+tells_here (Some d) h id c x b is = subst (λ (s : HartStanding). (tells s b h d).calls h ≡ Busy id c (x ++ d.act ∷ [])) (sym is) (put_same b.calls h (Busy id c (x ++ d.act ∷ [])))
 
 pub falls_calls : (m m' : Stage) (n : ℕ) (b : History) → (all_fall m m' n b).calls ≡ b.calls
 unfolding all_fall
@@ -105,7 +105,7 @@ mid_writes : (base t t' : Tree) (late : ℕ → List Act) (n : ℕ) (b : History
 mid_writes base t t' late n b h id c x d k is none next step = record {
   events = ap (λ (z : Trace). z.events) (writes_trace (Some d) h b) ∙ k.events;
   ok =
-      subst (λ (s : Standing). BookOk base t' (put late h (d.act ∷ [])) (n + 1) (writes s b h d)) (sym is)
+      subst (λ (s : HartStanding). BookOk base t' (put late h (d.act ∷ [])) (n + 1) (writes s b h d)) (sym is)
       (subst (λ (z : ℕ). BookOk base t' (put late h (d.act ∷ [])) (z + 1) (writes (Busy id c x) b h d)) k.events
       (write_ok base t t' late b h id c x d (subst (λ (z : ℕ). BookOk base t late (z + 1) b) (sym k.events) k.ok) is none next step));
 }
@@ -113,7 +113,7 @@ mid_writes base t t' late n b h id c x d k is none next step = record {
 mid_tells : (base t : Tree) (late : ℕ → List Act) (n : ℕ) (b : History) (h id : ℕ) (c : Call) (x : List Act) (d : Deed) → Mid base t late n b → b.calls h ≡ Busy id c x → late h ≡ d.act ∷ [] → Mid base t (put late h []) n (tells_any (Some d) h b)
 mid_tells base t late n b h id c x d k is one = record {
   events = ap (λ (z : Trace). z.events) (tells_trace (Some d) h b) ∙ k.events;
-  ok = subst (λ (s : Standing). BookOk base t (put late h []) (n + 1) (tells s b h d)) (sym is) (tell_ok base t late (n + 1) b h id c x d k.ok is one);
+  ok = subst (λ (s : HartStanding). BookOk base t (put late h []) (n + 1) (tells s b h d)) (sym is) (tell_ok base t late (n + 1) b h id c x d k.ok is one);
 }
 
 -- what is lost in the event is the next step of its call, and fails there
@@ -140,7 +140,7 @@ one_falls base m m' late k n b may old None is = record {
 }
 one_falls base m m' late k n b may old (Some d) is =
     let f = may.some d is in
-    let calls : (all_fall m m' n b).calls n ≡ Busy f.2 f.3 f.4 = ap (λ (z : ℕ → Standing). z n) (falls_calls m m' n b) ∙ f.5 in
+    let calls : (all_fall m m' n b).calls n ≡ Busy f.2 f.3 f.4 = ap (λ (z : ℕ → HartStanding). z n) (falls_calls m m' n b) ∙ f.5 in
     record {
       left = put old.left n (d.act ∷ []);
       below = λ g l. elim (same_or g n) [
@@ -187,7 +187,7 @@ own_part base m m' late k b h id c x a mid is mine (Did d told stood ended next 
       left = put left h [];
       there = λ g ne. put_other left h [] g ne ∙ put_other late h (d.act ∷ []) g ne;
       mid = subst (λ (o : Option Deed). Mid base m'.tree (put left h []) k (tells_any (Some d) h (writes_any (unless o (Some d)) h b))) (sym stood)
-          (mid_tells base m'.tree left k (writes_any (Some d) h b) h id c x d (mid_writes base m.tree m'.tree late k b h id c x d mid is empty next step) (ap (λ (z : ℕ → Standing). z h) (writes_calls (Some d) h b) ∙ is) (put_same late h (d.act ∷ [])));
+          (mid_tells base m'.tree left k (writes_any (Some d) h b) h id c x d (mid_writes base m.tree m'.tree late k b h id c x d mid is empty next step) (ap (λ (z : ℕ → HartStanding). z h) (writes_calls (Some d) h b) ∙ is) (put_same late h (d.act ∷ [])));
       may = record {
         none = λ e. put_same left h [] ∙ ap (λ (o : Option Deed). lately o) (sym (no_walk m' h ended));
         some = λ e q. absurd (let z : falls m m' h ≡ None = ap (λ (o : Option Deed). unless o (lost_of m' h)) stood ∙ no_walk m' h ended in cc (z, q));
@@ -231,7 +231,7 @@ own_part base m m' late k b h id c x a mid is mine (Went w none stood at same ne
           id,
           c,
           x,
-          ap (λ (f : ℕ → Standing). f h) (writes_calls (unless (lost_of m h) None) h b) ∙ is,
+          ap (λ (f : ℕ → HartStanding). f h) (writes_calls (unless (lost_of m h) None) h b) ∙ is,
           subst (λ (z : Deed). next_of c x ≡ Some z.act.step) same next,
           subst (λ (z : Deed). StepBy m'.tree h z m'.tree) same (fails l),
         )
@@ -253,7 +253,7 @@ abbrev Calm : (ℕ → Call → Type 0) → ℕ → Type 0
 Calm Ok g = (c : Call) → Ok g c → call_climbs c ≡ false
 
 -- what was lost stays so, and what is lost now fails now
-may_fall : (Ok : ℕ → Call → Type 0) (m m' : Stage) (late : ℕ → List Act) (b : History) (g : ℕ) (s : Standing) (v : Option Walk) → Calm Ok g → b.calls g ≡ s → m.walk g ≡ v → m'.walk g ≡ v → late g ≡ lately (lost_of m g) → OwnOk Ok m.tree g s v
+may_fall : (Ok : ℕ → Call → Type 0) (m m' : Stage) (late : ℕ → List Act) (b : History) (g : ℕ) (s : HartStanding) (v : Option Walk) → Calm Ok g → b.calls g ≡ s → m.walk g ≡ v → m'.walk g ≡ v → late g ≡ lately (lost_of m g) → OwnOk Ok m.tree g s v
     → ((w : Walk) → m.walk g ≡ Some w → Left m.tree m'.tree g w.at) → MayFall m m' late b g
 may_fall Ok m m' late b g s None calm st old new mine own left = record {
   none = λ e. mine ∙ ap (λ (o : Option Deed). lately o) (no_walk m g old ∙ sym (no_walk m' g new));
@@ -293,7 +293,7 @@ may_fall Ok m m' late b g (Busy id c x) (Some w) calm st old new mine own left =
         }
 
 -- another hart's place after the event
-own_after : (Ok : ℕ → Call → Type 0) (m m' : Stage) (g : ℕ) (s : Standing) (v : Option Walk) → Calm Ok g → m.walk g ≡ v → OwnOk Ok m.tree g s v → ((w : Walk) → m.walk g ≡ Some w → Left m.tree m'.tree g w.at) → OwnOk Ok m'.tree g s v
+own_after : (Ok : ℕ → Call → Type 0) (m m' : Stage) (g : ℕ) (s : HartStanding) (v : Option Walk) → Calm Ok g → m.walk g ≡ v → OwnOk Ok m.tree g s v → ((w : Walk) → m.walk g ≡ Some w → Left m.tree m'.tree g w.at) → OwnOk Ok m'.tree g s v
 own_after Ok m m' g Free v calm vw own left = own
 own_after Ok m m' g (Busy id c x) None calm vw own left = own
 own_after Ok m m' g (Busy id c x) (Some w) calm vw own left = (own.0, walk_kept m.tree m'.tree g c x w (calm c own.0) own.1 (left w vw))
@@ -306,7 +306,7 @@ pub record Inv (Ok : ℕ → Call → Type 0) (base : Tree) (w : World) : Type 0
   pub book : BookOk base w.stage.tree late w.history.trace.events w.history
   pub harts : (g : ℕ) → g < hart_count → OwnOk Ok w.stage.tree g (w.history.calls g) (w.stage.walk g)
 
-abbrev finish_calls : Option Reply → Standing → Standing
+abbrev finish_calls : Option Reply → HartStanding → HartStanding
 finish_calls None s = s
 finish_calls (Some r) s = Free
 
@@ -336,15 +336,15 @@ step_ok Ok base w h id c x a m' r apart lt k is ok d may =
     let b1 : History = writes_any (unless (lost_of m h) a) h b in
     let b2 : History = tells_any a h b1 in
     let calm : (g : ℕ) → g ≢ h → Calm Ok g = (λ g ne c' ok'. apart h g c c' ne ok ok') in
-    let here : b1.calls h ≡ Busy id c x = ap (λ (f : ℕ → Standing). f h) (writes_calls (unless (lost_of m h) a) h b) ∙ is in
-    let there : (g : ℕ) → g ≢ h → b2.calls g ≡ b.calls g = (λ g ne. tells_there a h g b1 ne ∙ ap (λ (f : ℕ → Standing). f g) (writes_calls (unless (lost_of m h) a) h b)) in
+    let here : b1.calls h ≡ Busy id c x = ap (λ (f : ℕ → HartStanding). f h) (writes_calls (unless (lost_of m h) a) h b) ∙ is in
+    let there : (g : ℕ) → g ≢ h → b2.calls g ≡ b.calls g = (λ g ne. tells_there a h g b1 ne ∙ ap (λ (f : ℕ → HartStanding). f g) (writes_calls (unless (lost_of m h) a) h b)) in
     let own = own_part base m m' k.late n b h id c x a (record { events = refl; ok = later_ok base m.tree k.late n (n + 1) b (omega arith) k.book }) is (k.lost h lt) d.way in
     let all = all_fallen base m m' own.left n hart_count b2 own.mid (λ g l. elim (same_or g h) [
       | inl e ↦ subst (λ (z : ℕ). MayFall m m' own.left b2 z) (sym e) own.may
       | inr e ↦ may_fall Ok m m' own.left b2 g (b.calls g) (m.walk g) (calm g e) (there g e) refl (d.walks g e) (own.there g e ∙ k.lost g l) (k.harts g l) (λ v q. d.others g v l e q)
     ]) in
     let b3 : History = all_fall m m' hart_count b2 in
-    let calls : (g : ℕ) → b3.calls g ≡ b2.calls g = (λ g. ap (λ (f : ℕ → Standing). f g) (falls_calls m m' hart_count b2)) in
+    let calls : (g : ℕ) → b3.calls g ≡ b2.calls g = (λ g. ap (λ (f : ℕ → HartStanding). f g) (falls_calls m m' hart_count b2)) in
     let mine : b3.calls h ≡ Busy id c (after a x) = calls h ∙ tells_here a h id c x b1 here in
     record {
       good = d.good;
@@ -354,19 +354,19 @@ step_ok Ok base w h id c x a m' r apart lt k is ok d may =
       harts = λ g l. elim (same_or g h) [
         | inl e ↦
             subst (λ (z : ℕ). OwnOk Ok m'.tree z ((finishes r h b3).calls z) (m'.walk z)) (sym e)
-            (subst (λ (z : Standing). OwnOk Ok m'.tree h z (m'.walk h)) (sym (finish_here r b3 h ∙ ap (λ (z : Standing). finish_calls r z) mine)) (finish_own Ok m' h id c (after a x) r ok d.own may))
+            (subst (λ (z : HartStanding). OwnOk Ok m'.tree h z (m'.walk h)) (sym (finish_here r b3 h ∙ ap (λ (z : HartStanding). finish_calls r z) mine)) (finish_own Ok m' h id c (after a x) r ok d.own may))
         | inr e ↦
             subst (λ (z : Option Walk). OwnOk Ok m'.tree g ((finishes r h b3).calls g) z) (sym (d.walks g e))
-            (subst (λ (z : Standing). OwnOk Ok m'.tree g z (m.walk g)) (sym (finish_there r b3 h g e ∙ (calls g ∙ there g e)))
+            (subst (λ (z : HartStanding). OwnOk Ok m'.tree g z (m.walk g)) (sym (finish_there r b3 h g e ∙ (calls g ∙ there g e)))
             (own_after Ok m m' g (b.calls g) (m.walk g) (calm g e) refl (k.harts g l) (λ v q. d.others g v l e q)))
       ];
     }
 
-ok_of : (Ok : ℕ → Call → Type 0) (t : Tree) (g id : ℕ) (c : Call) (x : List Act) (s : Standing) (v : Option Walk) → s ≡ Busy id c x → OwnOk Ok t g s v → Ok g c × WalkAt t g c x v
-ok_of Ok t g id c x s v is o = subst (λ (z : Standing). OwnOk Ok t g z v) is o
+ok_of : (Ok : ℕ → Call → Type 0) (t : Tree) (g id : ℕ) (c : Call) (x : List Act) (s : HartStanding) (v : Option Walk) → s ≡ Busy id c x → OwnOk Ok t g s v → Ok g c × WalkAt t g c x v
+ok_of Ok t g id c x s v is o = subst (λ (z : HartStanding). OwnOk Ok t g z v) is o
 
-free_of : (Ok : ℕ → Call → Type 0) (t : Tree) (g : ℕ) (s : Standing) (v : Option Walk) → s ≡ Free → OwnOk Ok t g s v → v ≡ None
-free_of Ok t g s v is o = subst (λ (z : Standing). OwnOk Ok t g z v) is o
+free_of : (Ok : ℕ → Call → Type 0) (t : Tree) (g : ℕ) (s : HartStanding) (v : Option Walk) → s ≡ Free → OwnOk Ok t g s v → v ≡ None
+free_of Ok t g s v is o = subst (λ (z : HartStanding). OwnOk Ok t g z v) is o
 
 nothing_ok : (Ok : ℕ → Call → Type 0) (base : Tree) (w : World) → Inv Ok base w → Inv Ok base (record { stage = w.stage; history = passes w.history })
 nothing_ok Ok base w k = record {
@@ -397,15 +397,15 @@ happens_ok Ok base w w' (Starts h c) apart start k o = subst (λ (z : World). In
   harts = λ g l. elim (same_or g h) [
     | inl q ↦
         subst (λ (z : ℕ). OwnOk Ok w.stage.tree z (put w.history.calls h new z) (w.stage.walk z)) (sym q)
-        (subst (λ (z : Standing). OwnOk Ok w.stage.tree h z (w.stage.walk h)) (sym (put_same w.history.calls h new)) (start, subst (λ (z : Option Walk). WalkAt w.stage.tree h c [] z) (sym rests) tt))
-    | inr q ↦ subst (λ (z : Standing). OwnOk Ok w.stage.tree g z (w.stage.walk g)) (sym (put_other w.history.calls h new g q)) (k.harts g l)
+        (subst (λ (z : HartStanding). OwnOk Ok w.stage.tree h z (w.stage.walk h)) (sym (put_same w.history.calls h new)) (start, subst (λ (z : Option Walk). WalkAt w.stage.tree h c [] z) (sym rests) tt))
+    | inr q ↦ subst (λ (z : HartStanding). OwnOk Ok w.stage.tree g z (w.stage.walk g)) (sym (put_other w.history.calls h new g q)) (k.harts g l)
   ];
 })
   where
     rests : w.stage.walk h ≡ None
     rests = free_of Ok w.stage.tree h (w.history.calls h) (w.stage.walk h) o.free (k.harts h o.hart)
 
-    new : Standing
+    new : HartStanding
     new = Busy (length w.history.trace.calls) c []
 happens_ok Ok base w w' (Steps h v r) apart start k o =
     let mine = ok_of Ok w.stage.tree h o.id o.c o.acts (w.history.calls h) (w.stage.walk h) o.busy (k.harts h o.hart) in

@@ -16,8 +16,8 @@ use Rattle.plain_tree.specs.Calls.{Act, next_of, reply_of, had_room}
 use Rattle.tree_laws.proofs.Maps.{eq_self, eq_not, and_true, any_none}
 use Rattle.tree_moves.specs.Moves.{Deed, Walk, Stage, Move, Acts, Begins, Looks, walks_at, fail, after}
 use Rattle.tree_moves.specs.Moves.Move.{Begin, Look, Quit, Own}
-use Rattle.tree_moves.specs.History.{Standing, starts}
-use Rattle.tree_moves.specs.History.Standing.{Free, Busy}
+use Rattle.tree_moves.specs.History.{HartStanding, starts}
+use Rattle.tree_moves.specs.History.HartStanding.{Free, Busy}
 use Rattle.tree_moves.specs.Runs.{World, Event, PlaysAny, BeginsNext, stepped, Happens, Runs}
 use Rattle.tree_moves.specs.Runs.Event.{Starts, Steps, Nothing}
 
@@ -297,11 +297,11 @@ pub record Shows : Type 0 where
   pub world : World
   pub may : Bool
 
-abbrev pub is_free : Standing → Bool
+abbrev pub is_free : HartStanding → Bool
 is_free Free = true
 is_free (Busy id c acts) = false
 
-abbrev pub step_at : World → ℕ → Option Plan → Standing → Shows
+abbrev pub step_at : World → ℕ → Option Plan → HartStanding → Shows
 step_at w h v Free = record { event = Nothing; world = w; may = false }
 step_at w h v (Busy id c acts) = record {
   event = Steps h (moved w.stage h c acts v).move None;
@@ -312,7 +312,7 @@ step_at w h v (Busy id c acts) = record {
 abbrev pub last_of : Call → List Act → Played → Reply
 last_of c acts p = reply_of c (after p.told acts)
 
-abbrev pub last_at : World → ℕ → Option Plan → Standing → Shows
+abbrev pub last_at : World → ℕ → Option Plan → HartStanding → Shows
 last_at w h v Free = record { event = Nothing; world = w; may = false }
 last_at w h v (Busy id c acts) = record {
   event = Steps h (moved w.stage h c acts v).move (Some (last_of c acts (moved w.stage h c acts v)));
@@ -325,11 +325,11 @@ played w (Start h c) = record { event = Starts h c; world = record { stage = w.s
 played w (Step h v) = step_at w h v (w.history.calls h)
 played w (Last h v) = last_at w h v (w.history.calls h)
 
-free_is : (s : Standing) → is_free s ≡ true → s ≡ Free
+free_is : (s : HartStanding) → is_free s ≡ true → s ≡ Free
 free_is Free h = refl
 free_is (Busy id c acts) h = absurd cc
 
-step_ok : (w : World) (h : ℕ) (v : Option Plan) (s : Standing) → w.history.calls h ≡ s → (step_at w h v s).may ≡ true → Happens w (step_at w h v s).event (step_at w h v s).world
+step_ok : (w : World) (h : ℕ) (v : Option Plan) (s : HartStanding) → w.history.calls h ≡ s → (step_at w h v s).may ≡ true → Happens w (step_at w h v s).event (step_at w h v s).world
 step_ok w h v Free is may = absurd cc
 step_ok w h v (Busy id c acts) is may =
     let p = moved w.stage h c acts v in
@@ -337,7 +337,7 @@ step_ok w h v (Busy id c acts) is may =
     let one = moved_ok w.stage h c acts v a.1 in
     record { hart = less_is h hart_count a.0; id = id; c = c; acts = acts; busy = is; next = one.0; told = p.told; stage = p.stage; plays = one.1; reply = tt; world = refl }
 
-last_ok : (w : World) (h : ℕ) (v : Option Plan) (s : Standing) → w.history.calls h ≡ s → (last_at w h v s).may ≡ true → Happens w (last_at w h v s).event (last_at w h v s).world
+last_ok : (w : World) (h : ℕ) (v : Option Plan) (s : HartStanding) → w.history.calls h ≡ s → (last_at w h v s).may ≡ true → Happens w (last_at w h v s).event (last_at w h v s).world
 last_ok w h v Free is may = absurd cc
 last_ok w h v (Busy id c acts) is may =
     let p = moved w.stage h c acts v in

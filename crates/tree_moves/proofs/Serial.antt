@@ -13,8 +13,8 @@ use Rattle.plain_tree.specs.Explains.{trace_of, ends_at}
 use Rattle.tree_laws.specs.WellFormed.{IsWellFormed}
 use Rattle.tree_laws.proofs.Maps.{either, same_or, eq_self, eq_not, put_same}
 use Rattle.tree_moves.specs.Moves.{Deed, Stage}
-use Rattle.tree_moves.specs.History.{Standing, History, writes, writes_any, tells, tells_any, entry_of}
-use Rattle.tree_moves.specs.History.Standing.{Free, Busy}
+use Rattle.tree_moves.specs.History.{HartStanding, History, writes, writes_any, tells, tells_any, entry_of}
+use Rattle.tree_moves.specs.History.HartStanding.{Free, Busy}
 use Rattle.tree_moves.specs.Runs.{World, Event, lost_of, unless, falls, all_fall, moves_on, finishes, Happens, Runs, Alone, IsStartBy, opened, shown_of}
 use Rattle.tree_moves.specs.Runs.Event.{Starts, Steps, Nothing}
 use Rattle.tree_moves.specs.Laws.{of_call, in_turn}
@@ -86,14 +86,14 @@ pub record Turn (k : ℕ) (b : History) : Type 0 where
 idle_others : (k : ℕ) (base : Tree) (w : World) → Inv (IsHart k) base w → (g : ℕ) → g < hart_count → g ≢ k → w.history.calls g ≡ Free
 idle_others k base w inv g lt ne = go (w.history.calls g) refl (inv.harts g lt)
   where
-    go : (s : Standing) → w.history.calls g ≡ s → OwnOk (IsHart k) w.stage.tree g s (w.stage.walk g) → w.history.calls g ≡ Free
+    go : (s : HartStanding) → w.history.calls g ≡ s → OwnOk (IsHart k) w.stage.tree g s (w.stage.walk g) → w.history.calls g ≡ Free
     go Free is o = is
     go (Busy id c x) is o = absurd (ne o.0)
 
 mover_is : (k : ℕ) (base : Tree) (w : World) (h id : ℕ) (c : Call) (x : List Act) → Inv (IsHart k) base w → h < hart_count → w.history.calls h ≡ Busy id c x → h ≡ k
-mover_is k base w h id c x inv lt is = (subst (λ (s : Standing). OwnOk (IsHart k) w.stage.tree h s (w.stage.walk h)) is (inv.harts h lt)).0
+mover_is k base w h id c x inv lt is = (subst (λ (s : HartStanding). OwnOk (IsHart k) w.stage.tree h s (w.stage.walk h)) is (inv.harts h lt)).0
 
-write_turn : (k : ℕ) (b : History) (d : Deed) (s : Standing) → b.calls k ≡ s → Turn k b → Turn k (writes s b k d)
+write_turn : (k : ℕ) (b : History) (d : Deed) (s : HartStanding) → b.calls k ≡ s → Turn k b → Turn k (writes s b k d)
 write_turn k b d Free is t = t
 write_turn k b d (Busy id c x) is t =
     let e : Placed = entry_of b.trace.events id k d in
@@ -110,7 +110,7 @@ writes_turn : (k : ℕ) (b : History) (a : Option Deed) → Turn k b → Turn k 
 writes_turn k b None t = t
 writes_turn k b (Some d) t = write_turn k b d (b.calls k) refl t
 
-tell_turn : (k : ℕ) (b : History) (d : Deed) (s : Standing) → b.calls k ≡ s → Turn k b → Turn k (tells s b k d)
+tell_turn : (k : ℕ) (b : History) (d : Deed) (s : HartStanding) → b.calls k ≡ s → Turn k b → Turn k (tells s b k d)
 tell_turn k b d Free is t = t
 tell_turn k b d (Busy id c x) is t = record {
   list = t.list;
@@ -127,7 +127,7 @@ tells_turn k b (Some d) t = tell_turn k b d (b.calls k) refl t
 
 free_writes : (a : Option Deed) (b : History) (g : ℕ) → b.calls g ≡ Free → writes_any a g b ≡ b
 free_writes None b g is = refl
-free_writes (Some d) b g is = ap (λ (s : Standing). writes s b g d) is
+free_writes (Some d) b g is = ap (λ (s : HartStanding). writes s b g d) is
 
 -- no walk of another hart can be lost
 falls_turn : (k : ℕ) (m m' : Stage) (n : ℕ) (b : History) → ((g : ℕ) → g < n → g ≢ k → b.calls g ≡ Free) → Turn k b → Turn k (all_fall m m' n b)
@@ -137,7 +137,7 @@ falls_turn k m m' (suc n) b free t =
     let ih = falls_turn k m m' n b (λ g l. free g (omega (arith, l))) t in
     elim (same_or n k) [
       | inl e ↦ subst (λ (z : ℕ). Turn k (writes_any (falls m m' n) z (all_fall m m' n b))) (sym e) (writes_turn k (all_fall m m' n b) (falls m m' n) ih)
-      | inr ne ↦ subst (λ (z : History). Turn k z) (sym (free_writes (falls m m' n) (all_fall m m' n b) n (ap (λ (f : ℕ → Standing). f n) (falls_calls m m' n b) ∙ free n (omega arith) ne))) ih
+      | inr ne ↦ subst (λ (z : History). Turn k z) (sym (free_writes (falls m m' n) (all_fall m m' n b) n (ap (λ (f : ℕ → HartStanding). f n) (falls_calls m m' n b) ∙ free n (omega arith) ne))) ih
     ]
 
 finish_turn : (k : ℕ) (b : History) (r : Option Reply) → Turn k b → Turn k (finishes r k b)
@@ -168,7 +168,7 @@ happens_turn k base w w' (Steps h v r) inv by o t =
     let mine : h ≡ k = mover_is k base w h o.id o.c o.acts inv o.hart o.busy in
     let told : Option Deed = unless (lost_of w.stage k) o.told in
     let b1 : History = writes_any told k w.history in
-    let others : (g : ℕ) → g < hart_count → g ≢ k → (tells_any o.told k b1).calls g ≡ Free = (λ g l ne. tells_there o.told k g b1 ne ∙ (ap (λ (f : ℕ → Standing). f g) (writes_calls told k w.history) ∙ idle_others k base w inv g l ne)) in
+    let others : (g : ℕ) → g < hart_count → g ≢ k → (tells_any o.told k b1).calls g ≡ Free = (λ g l ne. tells_there o.told k g b1 ne ∙ (ap (λ (f : ℕ → HartStanding). f g) (writes_calls told k w.history) ∙ idle_others k base w inv g l ne)) in
     subst (λ (z : World). Turn k z.history) (sym o.world)
     (subst (λ (z : ℕ). Turn k (finishes r z (moves_on w.stage o.stage z o.told w.history))) (sym mine)
     (finish_turn k (moves_on w.stage o.stage k o.told w.history) r (falls_turn k w.stage o.stage hart_count (tells_any o.told k b1) others (tells_turn k b1 o.told (writes_turn k w.history told t)))))

@@ -11,21 +11,21 @@ use Rattle.plain_tree.specs.Explains.Shown.{Started, Replied, Other}
 use Rattle.tree_moves.specs.Moves.{Deed}
 
 -- id: the call's place in the trace; told: its acts, as far as it was told
-pub data Standing : Type 0 where
-  Free : Standing
-  Busy : (id : ℕ) → (c : Call) → (told : List Act) → Standing
+pub data HartStanding : Type 0 where
+  Free : HartStanding
+  Busy : (id : ℕ) → (c : Call) → (told : List Act) → HartStanding
 
 pub record History : Type 0 where
   pub list : List Placed
   pub trace : Trace
-  pub calls : ℕ → Standing  -- by hart
+  pub calls : ℕ → HartStanding  -- by hart
 
 -- a deed with its moment and its call
 abbrev pub entry_of : ℕ → ℕ → ℕ → Deed → Placed
 entry_of event id h d = record { event = event; call = id; step = record { hart = h; new = d.new; action = d.act.step }; answer = d.act.answer }
 
 -- the deed of the hart's call is written in the list
-abbrev pub writes : Standing → History → ℕ → Deed → History
+abbrev pub writes : HartStanding → History → ℕ → Deed → History
 writes Free b h d = b
 writes (Busy id c told) b h d = record b { list = b.list ++ entry_of b.trace.events id h d ∷ [] }
 
@@ -34,7 +34,7 @@ writes_any None h b = b
 writes_any (Some d) h b = writes (b.calls h) b h d
 
 -- the hart's call is told the deed
-abbrev pub tells : Standing → History → ℕ → Deed → History
+abbrev pub tells : HartStanding → History → ℕ → Deed → History
 tells Free b h d = b
 tells (Busy id c told) b h d = record b { calls = put b.calls h (Busy id c (told ++ d.act ∷ [])) }
 

@@ -9,8 +9,8 @@ use Rattle.plain_tree.specs.Tree.{Tree, tree_of}
 use Rattle.plain_tree.specs.Calls.{Act}
 use Rattle.plain_tree.specs.Explains.{Chain, acts_of, trace_of, Explains}
 use Rattle.tree_laws.specs.WellFormed.{IsWellFormed}
-use Rattle.tree_moves.specs.Moves.{Deed, Stage, Step, begins, IsNext, after, MayEnd, Written, told_by}
-use Rattle.tree_moves.specs.History.Standing.{Free, Busy}
+use Rattle.tree_moves.specs.Moves.{Deed, Stage, Step, begins, IsNext, after, MayEnd, IsWholeCall, told_by}
+use Rattle.tree_moves.specs.History.HartStanding.{Free, Busy}
 use Rattle.tree_moves.specs.Runs.{World, Event, lost_of, stepped, Runs, NoneClimbs, Alone, opened, shown_of}
 
 -- From a well-formed tree with idle harts, where no path climbs.
@@ -49,10 +49,10 @@ CallsAreToldLate = (base : TreeData) (w : World) (events : List Event) (h id : �
 
 -- Where a call's moves are written, each begins the step that is next for what the call was told so far, and after the last the call may end.
 abbrev pub WrittenMovesComeNext : Type 0
-WrittenMovesComeNext = (c : Call) (es rest : List Step) (e : Step) (r : Reply) → Written c (es ++ e ∷ rest) r → IsNext c (told_by [] es) (begins e.move)
+WrittenMovesComeNext = (c : Call) (es rest : List Step) (e : Step) (r : Reply) → IsWholeCall c (es ++ e ∷ rest) r → IsNext c (told_by [] es) (begins e.move)
 
 abbrev pub WrittenMovesEnd : Type 0
-WrittenMovesEnd = (c : Call) (es : List Step) (r : Reply) → Written c es r → MayEnd c (told_by [] es) r
+WrittenMovesEnd = (c : Call) (es : List Step) (r : Reply) → IsWholeCall c es r → MayEnd c (told_by [] es) r
 
 -- One move more tells the call one deed more, or nothing.
 abbrev pub MovesTellInTurn : Type 0

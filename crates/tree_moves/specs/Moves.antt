@@ -137,13 +137,13 @@ pub record MayEnd (c : Call) (acts : List Act) (r : Reply) : Type 0 where
   pub room : had_room acts ≡ true
 
 -- these moves, after the acts that were told so far, are the rest of the call, and make this reply
-abbrev pub Played : Call → List Act → List Step → Reply → Type 0
-Played c acts [] r = MayEnd c acts r
-Played c acts (e ∷ es) r = IsNext c acts (begins e.move) × Played c (after e.told acts) es r
+abbrev pub IsPlayed : Call → List Act → List Step → Reply → Type 0
+IsPlayed c acts [] r = MayEnd c acts r
+IsPlayed c acts (e ∷ es) r = IsNext c acts (begins e.move) × IsPlayed c (after e.told acts) es r
 
 -- these moves are the whole call
-abbrev pub Written : Call → List Step → Reply → Type 0
-Written c es r = Played c [] es r
+abbrev pub IsWholeCall : Call → List Step → Reply → Type 0
+IsWholeCall c es r = IsPlayed c [] es r
 
 -- what the call was told after these moves
 abbrev pub told_by : List Act → List Step → List Act

@@ -9,7 +9,7 @@ use Rattle.plain_tree.specs.Explains.{Shown, no_calls}
 use Rattle.plain_tree.specs.Explains.Shown.{Started, Replied, Other}
 use Rattle.tree_moves.specs.Moves.{Deed, Walk, Stage, Move, fail, Plays, begins, IsNext, after, MayEnd}
 use Rattle.tree_moves.specs.History.{History, writes_any, tells_any, starts, replies, passes}
-use Rattle.tree_moves.specs.History.Standing.{Free, Busy}
+use Rattle.tree_moves.specs.History.HartStanding.{Free, Busy}
 
 -- A walk is lost where it stands at no live directory. Its call fails at the very event in which that comes about, and is told when it gives the walk up.
 abbrev pub lost : Tree → Option Walk → Option Deed

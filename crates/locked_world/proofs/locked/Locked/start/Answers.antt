@@ -6,7 +6,7 @@ use Rattle.hart_core.specs.declared.events.Event.{Event}
 use Rattle.hart_core.specs.declared.events.Event.TheVariants.{Start}
 use Rattle.hart_core.specs.declared.events.Came.{Came}
 use Rattle.hart_core.specs.declared.events.Came.TheVariants.{Started, Refused}
-use Rattle.locked_world.specs.Kept.{Stored, with_event}
+use Rattle.locked_world.specs.Kept.{StoredRun, with_event}
 use Rattle.locked_world.proofs.Keeping.{kept_started, kept_refused, begun_below}
 use Rattle.locked_world.proofs.Endings.{program_ends}
 use Rattle.locked_world.proofs.locked.Locked.start.Goals as goal
@@ -36,11 +36,11 @@ returns-in-Ok-start-clause-answer g c =
     let i = c.self.inside in
     let p = c.push_reserved.ensures.items ∙ (λ j. c.reserve.ensures.items j ++ Start c.args.hart (c.in-Ok.ensures.0 j) ∷ []) in
     let q = c.push_reserved-in-Ok-start.ensures.items ∙ ap (λ (z : List Came). z ++ Started ∷ []) c.reserve-else-is_err.ensures.items in
-    (refl, c.in-Ok.ensures.2, (λ j. record { image = i.image.items; fuse = i.fuse; events = p j; outcomes = q j }) ∙ ap (λ (z : Stored). with_event z (Start c.args.hart c.args.call) Started) c.self.view_is, c.add.ensures.amount)
+    (refl, c.in-Ok.ensures.2, (λ j. record { image = i.image.items; fuse = i.fuse; events = p j; outcomes = q j }) ∙ ap (λ (z : StoredRun). with_event z (Start c.args.hart c.args.call) Started) c.self.view_is, c.add.ensures.amount)
 
 pub returns-in-Err-clause-answer : goal.returns-in-Err-clause-answer
 returns-in-Err-clause-answer g c =
     let i = c.self.inside in
     let p = c.push_reserved-in-Err.ensures.items ∙ (λ j. c.reserve.ensures.items j ++ Start c.args.hart ((c.one_of-event.ensures ∙ c.in-Ok.ensures.0) j) ∷ []) in
     let q = c.push_reserved-in-Err-2.ensures.items ∙ ap (λ (z : List Came). z ++ Refused c.in-Err.why ∷ []) c.reserve-else-is_err.ensures.items in
-    (c.in-Err.ensures.back.0, (λ j. record { image = i.image.items; fuse = i.fuse; events = p j; outcomes = q j }) ∙ ap (λ (z : Stored). with_event z (Start c.args.hart c.args.call) (Refused c.in-Err.why)) c.self.view_is, refl)
+    (c.in-Err.ensures.back.0, (λ j. record { image = i.image.items; fuse = i.fuse; events = p j; outcomes = q j }) ∙ ap (λ (z : StoredRun). with_event z (Start c.args.hart c.args.call) (Refused c.in-Err.why)) c.self.view_is, refl)

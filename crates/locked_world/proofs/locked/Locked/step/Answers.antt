@@ -10,7 +10,7 @@ use Rattle.hart_core.specs.declared.events.Came.TheVariants.{Stepped}
 use Rattle.hart_core.specs.declared.outcome.Outcome.TheVariants.{Idle, Ran, Done, Stopped}
 use Rattle.hart_core.specs.Harts.{said, shared_of}
 use Rattle.locked_world.specs.HandedBack.{HandsBack}
-use Rattle.locked_world.specs.Kept.{Stored, with_event, WaitsThere, IsKept, contents, failures, replies_of}
+use Rattle.locked_world.specs.Kept.{StoredRun, with_event, WaitsThere, IsKept, contents, failures, replies_of}
 use Rattle.locked_world.proofs.Keeping.{kept_step, kept_done, kept_waits, had_spare, replies_below}
 use Rattle.locked_world.proofs.locked.Locked.step.Goals as goal
 
@@ -25,13 +25,13 @@ invariant_of-self-in-Idle g c =
 pub invariant_of-self-in-Waits : goal.invariant_of-self-in-Waits
 invariant_of-self-in-Waits g c =
     let i = c.self.inside in
-    subst (λ (z : Stored). IsKept z i.book.total c.step.new.self i.given i.spare) (λ j. record { image = i.image.items; fuse = i.fuse; events = sym c.reserve.ensures.items j; outcomes = sym c.reserve-else-is_err.ensures.items j })
+    subst (λ (z : StoredRun). IsKept z i.book.total c.step.new.self i.given i.spare) (λ j. record { image = i.image.items; fuse = i.fuse; events = sym c.reserve.ensures.items j; outcomes = sym c.reserve-else-is_err.ensures.items j })
     (kept_waits (record { image = i.image.items; fuse = i.fuse; events = i.events.items; outcomes = i.outcomes.items }) i.book.total i.world i.given i.spare c.self.invariant c.args.hart Passes c.step.new.self c.in-Waits.ensures.sizes c.in-Waits.ensures.makes)
 
 pub returns-in-Waits-clause-answer : goal.returns-in-Waits-clause-answer
 returns-in-Waits-clause-answer g c =
     let i = c.self.inside in (
-      subst (λ (z : Stored). WaitsThere z c.args.hart) c.self.view_is (i.world, c.self.invariant.run, (c.step.new.self.harts, c.in-Waits.ensures.makes)),
+      subst (λ (z : StoredRun). WaitsThere z c.args.hart) c.self.view_is (i.world, c.self.invariant.run, (c.step.new.self.harts, c.in-Waits.ensures.makes)),
       (λ j. record { image = i.image.items; fuse = i.fuse; events = c.reserve.ensures.items j; outcomes = c.reserve-else-is_err.ensures.items j }) ∙ c.self.view_is,
       refl,
     )
@@ -86,7 +86,7 @@ returns-in-Some-clause-answer g c =
     let p = c.push_reserved-in-Done.ensures.items ∙ ap (λ (z : List Event). z ++ Step c.args.hart ∷ []) c.reserve.ensures.items in
     let q = c.push_reserved-in-Done-2.ensures.items ∙ (λ j. c.reserve-else-is_err.ensures.items j ++ Stepped (Done (record { answer = c.in-Done.reply.answer; call = c.filled.ensures j })) ∷ []) in (
       refl,
-      given ∙ ap (λ (z : Stored). length (replies_of c.args.hart z)) c.self.view_is,
-      (λ j. record { image = i.image.items; fuse = i.fuse; events = p j; outcomes = q j }) ∙ ap (λ (z : Stored). with_event z (Step c.args.hart) (Stepped (Done c.in-Done.reply))) c.self.view_is,
+      given ∙ ap (λ (z : StoredRun). length (replies_of c.args.hart z)) c.self.view_is,
+      (λ j. record { image = i.image.items; fuse = i.fuse; events = p j; outcomes = q j }) ∙ ap (λ (z : StoredRun). with_event z (Step c.args.hart) (Stepped (Done c.in-Done.reply))) c.self.view_is,
       c.add.ensures.amount,
     )
