@@ -9,5 +9,6 @@ pub mod Trees
 pub mod Layout
 pub mod Marks
 pub mod Names
+pub mod Reads
 pub mod Recovery
 pub mod Views

@@ -5,6 +5,7 @@ ghost use Rattle.image_tree.specs.Inodes.{content_of, numbers_of};
 ghost use Rattle.image_tree.specs.Checks.{IsData};
 ghost use Rattle.image_tree.specs.Damage.{JudgesFault, faults_with};
 ghost use Rattle.image_tree.specs.Layout.{IsLayout};
+ghost use Rattle.image_tree.specs.Reads.{OnlyReads};
 
 use crate::disk::{Layout, load};
 use crate::fault::MountFault;
@@ -34,8 +35,7 @@ pub fn load_content<D: Device>(
     requires good { All (λ b. b ≢ 0 → IsData (sizes_of (D.contents device.old)) b) numbers.now }
     ensures content { IfOk result (λ bytes. bytes.items ≡ content_of (D.contents device.old) inode.now) }
     ensures err { IfErr result (JudgesFault (D.contents device.old)) }
-    ensures contents { D.contents device.new ≡ D.contents device.old }
-    ensures faults { D.failures device.new ≡ faults_with result (D.failures device.old) }
+    ensures device { OnlyReads D.contents D.failures (faults_with result) device.old device.new }
 {
     let mut bytes = Vec::new(alloc);
     let mut block = [0; BLOCK_LEN];

@@ -6,6 +6,7 @@ ghost use Rattle.image_tree.specs.Links.{children_of, further_names_of, names_of
 ghost use Rattle.image_tree.specs.Checks.{HasGoodCounts, IsGoodCount};
 ghost use Rattle.image_tree.specs.Layout.{IsLayout};
 ghost use Rattle.image_tree.specs.Marks.{IsLinks};
+ghost use Rattle.image_tree.specs.Reads.{OnlyReads};
 
 use crate::disk::{Layout, load_inode};
 use crate::inodes::{is_directory, is_free, is_live};
@@ -41,8 +42,7 @@ fn has_good_count<D: Device>(
     requires bound { i < layout.now.sizes.ninodes }
     ensures good { IfOk result (λ good. IsTrue good
         ↔ (is_node (D.contents device.old) i ≡ true → IsGoodCount (inode_of (D.contents device.old) i) (names_of (D.contents device.old) i) (further_names_of (D.contents device.old) i) (children_of (D.contents device.old) i))) }
-    ensures contents { D.contents device.new ≡ D.contents device.old }
-    ensures faults { D.failures device.new ≡ faults_after result (D.failures device.old) }
+    ensures device { OnlyReads D.contents D.failures (faults_after result) device.old device.new }
 {
     let inode = load_inode(device, layout, i)?;
     if is_free(&inode) {
@@ -66,8 +66,7 @@ pub fn has_good_counts<D: Device>(
     requires layout { IsLayout (D.contents device.old) layout.now }
     requires links { IsLinks (D.contents device.old) links.now }
     ensures good { IfOk result (λ good. IsTrue good ↔ HasGoodCounts (D.contents device.old)) }
-    ensures contents { D.contents device.new ≡ D.contents device.old }
-    ensures faults { D.failures device.new ≡ faults_after result (D.failures device.old) }
+    ensures device { OnlyReads D.contents D.failures (faults_after result) device.old device.new }
 {
     for i in 1..layout.sizes.ninodes {
         let good = has_good_count(device, layout, links, i)?;

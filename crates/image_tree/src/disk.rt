@@ -4,6 +4,7 @@ ghost use Rattle.block_device.specs.Blocks.{faults_after};
 ghost use Rattle.fs_layout.specs.Recovered.{place_of, recovered};
 ghost use Rattle.image_tree.specs.Inodes.{inode_of};
 ghost use Rattle.image_tree.specs.Layout.{IsLayout};
+ghost use Rattle.image_tree.specs.Reads.{OnlyReads};
 
 use block_device::{Device, Fault};
 use fs_layout::widths::{BLOCK_LEN, Block, INODES_PER_BLOCK};
@@ -38,8 +39,7 @@ pub fn load<D: Device>(device: &mut D, layout: &Layout, b: u32, to: &mut Block) 
     requires layout { IsLayout (D.contents device.old) layout.now }
     requires bound { b < length (D.contents device.old) }
     ensures read { OnOk result (to.new ≡ recovered (D.contents device.old) b) }
-    ensures contents { D.contents device.new ≡ D.contents device.old }
-    ensures faults { D.failures device.new ≡ faults_after result (D.failures device.old) }
+    ensures device { OnlyReads D.contents D.failures (faults_after result) device.old device.new }
 {
     let place = place_in(layout.sizes.logstart, layout.head.blocks.as_slice(), b);
     device.read(place, to)
@@ -50,8 +50,7 @@ pub fn load_inode<D: Device>(device: &mut D, layout: &Layout, i: u32) -> Result<
     requires layout { IsLayout (D.contents device.old) layout.now }
     requires bound { i < layout.now.sizes.ninodes }
     ensures inode { IfOk result (λ d. d ≡ inode_of (D.contents device.old) i) }
-    ensures contents { D.contents device.new ≡ D.contents device.old }
-    ensures faults { D.failures device.new ≡ faults_after result (D.failures device.old) }
+    ensures device { OnlyReads D.contents D.failures (faults_after result) device.old device.new }
 {
     let mut block = [0; BLOCK_LEN];
     load(

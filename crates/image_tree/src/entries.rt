@@ -9,6 +9,7 @@ ghost use Rattle.image_tree.specs.Checks.{AreGoodSlots, HasGoodNumbers, HasGoodS
 ghost use Rattle.image_tree.specs.Damage.{JudgesFault, faults_with};
 ghost use Rattle.image_tree.specs.Layout.{IsLayout};
 ghost use Rattle.image_tree.specs.Marks.{IsNodeTable};
+ghost use Rattle.image_tree.specs.Reads.{OnlyReads};
 
 use crate::disk::{Layout, load_inode};
 use crate::fault::MountFault;
@@ -122,8 +123,7 @@ fn node_table<D: Device>(
     requires layout { IsLayout (D.contents device.old) layout.now }
     ensures table { IfOk result (λ nodes. IsNodeTable (D.contents device.old) nodes.items) }
     ensures err { IfErr result (JudgesFault (D.contents device.old)) }
-    ensures contents { D.contents device.new ≡ D.contents device.old }
-    ensures faults { D.failures device.new ≡ faults_with result (D.failures device.old) }
+    ensures device { OnlyReads D.contents D.failures (faults_with result) device.old device.new }
 {
     let mut nodes = Vec::new(alloc);
     push(&mut nodes, false)?;
@@ -144,8 +144,7 @@ pub fn has_good_slots<D: Device>(
     requires numbers { HasGoodNumbers (D.contents device.old) }
     ensures good { IfOk result (λ good. IsTrue good ↔ HasGoodSlots (D.contents device.old)) }
     ensures err { IfErr result (JudgesFault (D.contents device.old)) }
-    ensures contents { D.contents device.new ≡ D.contents device.old }
-    ensures faults { D.failures device.new ≡ faults_with result (D.failures device.old) }
+    ensures device { OnlyReads D.contents D.failures (faults_with result) device.old device.new }
 {
     let nodes = node_table(alloc, device, layout)?;
     for i in 1..layout.sizes.ninodes {
@@ -173,8 +172,7 @@ fn has_good_slots_at<D: Device>(
     ensures good { IfOk result (λ good. IsTrue good
         ↔ (is_live_directory (D.contents device.old) i ≡ true → AreGoodSlots (is_node (D.contents device.old)) i (slots_in (D.contents device.old) i))) }
     ensures err { IfErr result (JudgesFault (D.contents device.old)) }
-    ensures contents { D.contents device.new ≡ D.contents device.old }
-    ensures faults { D.failures device.new ≡ faults_with result (D.failures device.old) }
+    ensures device { OnlyReads D.contents D.failures (faults_with result) device.old device.new }
 {
     let inode = load_inode(device, layout, i)?;
     if !is_live_directory(&inode) {

@@ -3,6 +3,7 @@ ghost use Rattle.std.specs.Prelude.{◌≡◌, List, ℕ};
 ghost use Rattle.image_tree.specs.Damage.{IsWellFormed, JudgesWith, UpToOnce, UpToSlots, faults_with};
 ghost use Rattle.image_tree.specs.Layout.{IsLayout};
 ghost use Rattle.image_tree.specs.Shape.{shape_of};
+ghost use Rattle.image_tree.specs.Reads.{OnlyReads};
 
 use crate::counts::has_good_counts;
 use crate::disk::Layout;
@@ -23,8 +24,7 @@ use std::alloc::Global;
 /// The checks of what inodes say alone, and of the blocks that they name.
 fn examine_blocks<D: Device>(alloc: Global, device: &mut D) -> Result<Layout, MountFault>
     ensures judges { JudgesWith (λ layout. IsLayout (D.contents device.old) layout × UpToOnce (D.contents device.old)) (D.contents device.old) result }
-    ensures contents { D.contents device.new ≡ D.contents device.old }
-    ensures faults { D.failures device.new ≡ faults_with result (D.failures device.old) }
+    ensures device { OnlyReads D.contents D.failures (faults_with result) device.old device.new }
 {
     let layout = find_layout(device)?;
     if !has_good_types(device, &layout)? {
@@ -45,8 +45,7 @@ fn examine_blocks<D: Device>(alloc: Global, device: &mut D) -> Result<Layout, Mo
 /// The checks up to those of the slots of directories.
 fn examine_slots<D: Device>(alloc: Global, device: &mut D) -> Result<Layout, MountFault>
     ensures judges { JudgesWith (λ layout. IsLayout (D.contents device.old) layout × UpToSlots (D.contents device.old)) (D.contents device.old) result }
-    ensures contents { D.contents device.new ≡ D.contents device.old }
-    ensures faults { D.failures device.new ≡ faults_with result (D.failures device.old) }
+    ensures device { OnlyReads D.contents D.failures (faults_with result) device.old device.new }
 {
     let layout = examine_blocks(alloc, device)?;
     if !has_marks(device, &layout)? {
@@ -64,8 +63,7 @@ fn examine_slots<D: Device>(alloc: Global, device: &mut D) -> Result<Layout, Mou
 /// All checks, in their order. Where none fails it tells where the parts of the image lie.
 pub fn examine_layout<D: Device>(alloc: Global, device: &mut D) -> Result<Layout, MountFault>
     ensures judges { JudgesWith (λ layout. IsLayout (D.contents device.old) layout × IsWellFormed (D.contents device.old)) (D.contents device.old) result }
-    ensures contents { D.contents device.new ≡ D.contents device.old }
-    ensures faults { D.failures device.new ≡ faults_with result (D.failures device.old) }
+    ensures device { OnlyReads D.contents D.failures (faults_with result) device.old device.new }
 {
     let layout = examine_slots(alloc, device)?;
     let links = find_links(alloc, device, &layout)?;
@@ -82,8 +80,7 @@ pub fn examine_layout<D: Device>(alloc: Global, device: &mut D) -> Result<Layout
 /// which `Damage` has them; memory that is refused and a device that fails end the examination wherever it is.
 pub fn examine<D: Device>(alloc: Global, device: &mut D) -> Result<Shape, MountFault>
     ensures judges { JudgesWith (λ shape. IsWellFormed (D.contents device.old) × (shape ≡ shape_of (D.contents device.old))) (D.contents device.old) result }
-    ensures contents { D.contents device.new ≡ D.contents device.old }
-    ensures faults { D.failures device.new ≡ faults_with result (D.failures device.old) }
+    ensures device { OnlyReads D.contents D.failures (faults_with result) device.old device.new }
 {
     let layout = examine_layout(alloc, device)?;
     let shape = find_shape(device, &layout)?;

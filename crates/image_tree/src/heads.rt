@@ -5,6 +5,7 @@ ghost use Rattle.fs_layout.specs.Recovered.{sizes_of, logged};
 ghost use Rattle.image_tree.specs.Damage.{JudgesWith, UpToShort, UpToSize, faults_with};
 ghost use Rattle.image_tree.specs.Layout.{IsLayout};
 ghost use Rattle.image_tree.specs.Lists.{IsOnce};
+ghost use Rattle.image_tree.specs.Reads.{OnlyReads};
 
 use crate::disk::Layout;
 use crate::fault::{Damage, MountFault};
@@ -33,8 +34,7 @@ fn find_super<D: Device>(device: &mut D) -> Result<Super, MountFault>
     requires { UpToShort (D.contents device.old) }
     ensures judges { JudgesWith (λ s. (s ≡ sizes_of (D.contents device.old)) × HasSuper (D.contents device.old)) (D.contents device.old) result }
     ensures memory { result ≢ Err MountFault.NoMemory }
-    ensures contents { D.contents device.new ≡ D.contents device.old }
-    ensures faults { D.failures device.new ≡ faults_with result (D.failures device.old) }
+    ensures device { OnlyReads D.contents D.failures (faults_with result) device.old device.new }
 {
     let mut block = [0; BLOCK_LEN];
     device.read(SUPER_BLOCK, &mut block)?;
@@ -74,8 +74,7 @@ fn find_log<D: Device>(device: &mut D, sizes: &Super) -> Result<LogHead, MountFa
     requires passed { UpToSize (D.contents device.old) }
     ensures judges { JudgesWith (λ head. (head.blocks.items ≡ logged (D.contents device.old)) × HasGoodLog (D.contents device.old)) (D.contents device.old) result }
     ensures memory { result ≢ Err MountFault.NoMemory }
-    ensures contents { D.contents device.new ≡ D.contents device.old }
-    ensures faults { D.failures device.new ≡ faults_with result (D.failures device.old) }
+    ensures device { OnlyReads D.contents D.failures (faults_with result) device.old device.new }
 {
     let mut block = [0; BLOCK_LEN];
     device.read(sizes.logstart, &mut block)?;
@@ -99,8 +98,7 @@ fn find_log<D: Device>(device: &mut D, sizes: &Super) -> Result<LogHead, MountFa
 pub fn find_layout<D: Device>(device: &mut D) -> Result<Layout, MountFault>
     ensures judges { JudgesWith (IsLayout (D.contents device.old)) (D.contents device.old) result }
     ensures memory { result ≢ Err MountFault.NoMemory }
-    ensures contents { D.contents device.new ≡ D.contents device.old }
-    ensures faults { D.failures device.new ≡ faults_with result (D.failures device.old) }
+    ensures device { OnlyReads D.contents D.failures (faults_with result) device.old device.new }
 {
     let blocks = device.blocks();
     if blocks <= SUPER_BLOCK {

@@ -7,6 +7,7 @@ ghost use Rattle.image_tree.specs.Checks.{HasGoodNumbers};
 ghost use Rattle.image_tree.specs.Damage.{JudgesFault, faults_with};
 ghost use Rattle.image_tree.specs.Layout.{IsLayout};
 ghost use Rattle.image_tree.specs.Marks.{IsLinks, IsUpTable, Tallies};
+ghost use Rattle.image_tree.specs.Reads.{OnlyReads};
 
 use crate::disk::Layout;
 use crate::fault::MountFault;
@@ -54,8 +55,7 @@ fn find_ups<D: Device>(
     requires numbers { HasGoodNumbers (D.contents device.old) }
     ensures table { IfOk result (λ ups. IsUpTable (D.contents device.old) ups.items) }
     ensures err { IfErr result (JudgesFault (D.contents device.old)) }
-    ensures contents { D.contents device.new ≡ D.contents device.old }
-    ensures faults { D.failures device.new ≡ faults_with result (D.failures device.old) }
+    ensures device { OnlyReads D.contents D.failures (faults_with result) device.old device.new }
 {
     let mut ups = Vec::new(alloc);
     push(&mut ups, 0)?;
@@ -86,8 +86,7 @@ fn count_names<D: Device>(
     ensures further { OnOk result (Tallies further.new (gathered (further_in (D.contents device.old)) (last (D.contents device.old)))) }
     ensures proper { OnOk result (Tallies proper.new (gathered (proper_in (D.contents device.old)) (last (D.contents device.old)))) }
     ensures err { IfErr result (JudgesFault (D.contents device.old)) }
-    ensures contents { D.contents device.new ≡ D.contents device.old }
-    ensures faults { D.failures device.new ≡ faults_with result (D.failures device.old) }
+    ensures device { OnlyReads D.contents D.failures (faults_with result) device.old device.new }
 {
     for i in 1..layout.sizes.ninodes {
         let slots = slots_at(alloc, device, layout, i)?;
@@ -136,8 +135,7 @@ pub fn find_links<D: Device>(
     requires numbers { HasGoodNumbers (D.contents device.old) }
     ensures links { IfOk result (IsLinks (D.contents device.old)) }
     ensures err { IfErr result (JudgesFault (D.contents device.old)) }
-    ensures contents { D.contents device.new ≡ D.contents device.old }
-    ensures faults { D.failures device.new ≡ faults_with result (D.failures device.old) }
+    ensures device { OnlyReads D.contents D.failures (faults_with result) device.old device.new }
 {
     let ups = find_ups(alloc, device, layout)?;
     let mut names = zeros(alloc, layout.sizes.ninodes)?;

@@ -4,6 +4,7 @@ ghost use Rattle.block_device.specs.Blocks.{faults_after};
 ghost use Rattle.fs_layout.specs.Bits.{bit_of};
 ghost use Rattle.image_tree.specs.Checks.{HasGoodNumbers, HasMarks};
 ghost use Rattle.image_tree.specs.Layout.{IsLayout};
+ghost use Rattle.image_tree.specs.Reads.{OnlyReads};
 
 use crate::disk::{Layout, load};
 use crate::numbers::numbers_at;
@@ -40,8 +41,7 @@ pub fn has_marks<D: Device>(device: &mut D, layout: &Layout) -> Result<bool, Fau
     requires layout { IsLayout (D.contents device.old) layout.now }
     requires numbers { HasGoodNumbers (D.contents device.old) }
     ensures marked { IfOk result (λ marked. IsTrue marked ↔ HasMarks (D.contents device.old)) }
-    ensures contents { D.contents device.new ≡ D.contents device.old }
-    ensures faults { D.failures device.new ≡ faults_after result (D.failures device.old) }
+    ensures device { OnlyReads D.contents D.failures (faults_after result) device.old device.new }
 {
     let mut bitmap = [0; BLOCK_LEN];
     load(device, layout, layout.sizes.bmapstart, &mut bitmap)?;

@@ -8,6 +8,7 @@ ghost use Rattle.image_tree.specs.Damage.{JudgesFault, faults_with};
 ghost use Rattle.image_tree.specs.Layout.{IsLayout};
 ghost use Rattle.image_tree.specs.Marks.{Marks};
 ghost use Rattle.image_tree.specs.Lists.{IsOnce};
+ghost use Rattle.image_tree.specs.Reads.{OnlyReads};
 
 use crate::disk::{Layout, load, load_inode};
 use crate::fault::MountFault;
@@ -45,8 +46,7 @@ pub fn load_numbers<D: Device>(
     requires layout { IsLayout (D.contents device.old) layout.now }
     requires bound { slice_index inode.now.addrs 12 < length (D.contents device.old) }
     ensures numbers { IfOk result (λ v. v.items ≡ numbers_of (D.contents device.old) inode.now) }
-    ensures contents { D.contents device.new ≡ D.contents device.old }
-    ensures faults { D.failures device.new ≡ faults_after result (D.failures device.old) }
+    ensures device { OnlyReads D.contents D.failures (faults_after result) device.old device.new }
 {
     let mut numbers = ArrayVec::new();
     append(&mut numbers, &inode.addrs);
@@ -73,8 +73,7 @@ fn has_good<D: Device>(device: &mut D, layout: &Layout, i: u32) -> Result<bool, 
     requires bound { i < layout.now.sizes.ninodes }
     ensures good { IfOk result (λ good. IsTrue good
         ↔ All (λ b. b ≢ 0 → IsData (sizes_of (D.contents device.old)) b) (numbers_by (D.contents device.old) i)) }
-    ensures contents { D.contents device.new ≡ D.contents device.old }
-    ensures faults { D.failures device.new ≡ faults_after result (D.failures device.old) }
+    ensures device { OnlyReads D.contents D.failures (faults_after result) device.old device.new }
 {
     let inode = load_inode(device, layout, i)?;
     if is_free(&inode) {
@@ -91,8 +90,7 @@ fn has_good<D: Device>(device: &mut D, layout: &Layout, i: u32) -> Result<bool, 
 pub fn has_good_numbers<D: Device>(device: &mut D, layout: &Layout) -> Result<bool, Fault>
     requires layout { IsLayout (D.contents device.old) layout.now }
     ensures good { IfOk result (λ good. IsTrue good ↔ HasGoodNumbers (D.contents device.old)) }
-    ensures contents { D.contents device.new ≡ D.contents device.old }
-    ensures faults { D.failures device.new ≡ faults_after result (D.failures device.old) }
+    ensures device { OnlyReads D.contents D.failures (faults_after result) device.old device.new }
 {
     for i in 1..layout.sizes.ninodes {
         let good = has_good(device, layout, i)?;
@@ -115,8 +113,7 @@ pub fn numbers_at<D: Device>(
     requires good { HasGoodNumbers (D.contents device.old) }
     ensures numbers { IfOk result (λ v. v.items ≡ numbers_by (D.contents device.old) i) }
     ensures small { IfOk result (λ v. All (λ b. b < 8192) v.items) }
-    ensures contents { D.contents device.new ≡ D.contents device.old }
-    ensures faults { D.failures device.new ≡ faults_after result (D.failures device.old) }
+    ensures device { OnlyReads D.contents D.failures (faults_after result) device.old device.new }
 {
     let inode = load_inode(device, layout, i)?;
     if is_free(&inode) {

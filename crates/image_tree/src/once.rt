@@ -7,6 +7,7 @@ ghost use Rattle.image_tree.specs.Damage.{JudgesFault, faults_with};
 ghost use Rattle.image_tree.specs.Layout.{IsLayout};
 ghost use Rattle.image_tree.specs.Lists.{IsOnce};
 ghost use Rattle.image_tree.specs.Marks.{Marks};
+ghost use Rattle.image_tree.specs.Reads.{OnlyReads};
 
 use crate::disk::Layout;
 use crate::fault::MountFault;
@@ -60,8 +61,7 @@ pub fn names_once<D: Device>(
     requires numbers { HasGoodNumbers (D.contents device.old) }
     ensures once { IfOk result (λ once. IsTrue once ↔ NamesOnce (D.contents device.old)) }
     ensures err { IfErr result (JudgesFault (D.contents device.old)) }
-    ensures contents { D.contents device.new ≡ D.contents device.old }
-    ensures faults { D.failures device.new ≡ faults_with result (D.failures device.old) }
+    ensures device { OnlyReads D.contents D.failures (faults_with result) device.old device.new }
 {
     let mut seen = vec![in alloc; false; BITS_PER_BLOCK]?;
     let once = has_no_repeat(device, layout, &mut seen)?;
@@ -78,8 +78,7 @@ fn has_no_repeat<D: Device>(
     requires length { length seen.old ≡ 8192 }
     requires blank { Marks seen.old [] }
     ensures once { IfOk result (λ once. IsTrue once ↔ NamesOnce (D.contents device.old)) }
-    ensures contents { D.contents device.new ≡ D.contents device.old }
-    ensures faults { D.failures device.new ≡ faults_after result (D.failures device.old) }
+    ensures device { OnlyReads D.contents D.failures (faults_after result) device.old device.new }
 {
     for i in 1..layout.sizes.ninodes {
         let numbers = numbers_at(device, layout, i)?;

@@ -7,6 +7,7 @@ ghost use Rattle.image_tree.specs.Trees.{tree_in};
 ghost use Rattle.image_tree.specs.Layout.{IsLayout};
 ghost use Rattle.image_tree.specs.Recovery.{OnDamage};
 ghost use Rattle.image_tree.specs.Views.{ChecksSeeRecovered, TreesSeeRecovered};
+ghost use Rattle.image_tree.specs.Reads.{OnlyReads};
 
 use crate::disk::Layout;
 use crate::fault::MountFault;
@@ -82,8 +83,7 @@ fn copy<D: Device>(device: &mut D, from: u32, to: u32) -> Result<(), Fault>
 fn read<D: Device>(device: &mut D, b: u32) -> Result<[u8; BLOCK_LEN], Fault>
     requires { b < length (D.contents device.old) }
     ensures read { IfOk result (λ block. block ≡ block_at (D.contents device.old) b) }
-    ensures contents { D.contents device.new ≡ D.contents device.old }
-    ensures faults { D.failures device.new ≡ faults_after result (D.failures device.old) }
+    ensures device { OnlyReads D.contents D.failures (faults_after result) device.old device.new }
 {
     let mut block = [0; BLOCK_LEN];
     device.read(b, &mut block)?;

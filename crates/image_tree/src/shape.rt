@@ -5,6 +5,7 @@ ghost use Rattle.image_tree.specs.Inodes.{is_block, is_free, is_live};
 ghost use Rattle.image_tree.specs.Shape.{shape_of};
 ghost use Rattle.image_tree.specs.Checks.{HasGoodNumbers};
 ghost use Rattle.image_tree.specs.Layout.{IsLayout};
+ghost use Rattle.image_tree.specs.Reads.{OnlyReads};
 
 use crate::disk::{Layout, load_inode};
 use crate::inodes::{is_free, is_live};
@@ -61,8 +62,7 @@ pub fn find_shape<D: Device>(device: &mut D, layout: &Layout) -> Result<Shape, F
     requires layout { IsLayout (D.contents device.old) layout.now }
     requires numbers { HasGoodNumbers (D.contents device.old) }
     ensures shape { IfOk result (λ shape. shape ≡ shape_of (D.contents device.old)) }
-    ensures contents { D.contents device.new ≡ D.contents device.old }
-    ensures faults { D.failures device.new ≡ faults_after result (D.failures device.old) }
+    ensures device { OnlyReads D.contents D.failures (faults_after result) device.old device.new }
 {
     let mut live = 0;
     let mut orphans = 0;

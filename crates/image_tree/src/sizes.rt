@@ -4,6 +4,7 @@ ghost use Rattle.block_device.specs.Blocks.{faults_after};
 ghost use Rattle.image_tree.specs.Checks.{HasGoodNumbers, HasGoodSizes, IsFittingSize, IsGoodSize};
 ghost use Rattle.image_tree.specs.Inodes.{block_number, inode_of, is_node};
 ghost use Rattle.image_tree.specs.Layout.{IsLayout};
+ghost use Rattle.image_tree.specs.Reads.{OnlyReads};
 
 use crate::disk::{Layout, load_inode};
 use crate::inodes::{is_free, is_live_directory};
@@ -55,8 +56,7 @@ fn has_good_size<D: Device>(device: &mut D, layout: &Layout, i: u32) -> Result<b
     requires numbers { HasGoodNumbers (D.contents device.old) }
     ensures good { IfOk result (λ good. IsTrue good
         ↔ (is_node (D.contents device.old) i ≡ true → IsGoodSize (D.contents device.old) (inode_of (D.contents device.old) i))) }
-    ensures contents { D.contents device.new ≡ D.contents device.old }
-    ensures faults { D.failures device.new ≡ faults_after result (D.failures device.old) }
+    ensures device { OnlyReads D.contents D.failures (faults_after result) device.old device.new }
 {
     let inode = load_inode(device, layout, i)?;
     if is_free(&inode) {
@@ -74,8 +74,7 @@ pub fn has_good_sizes<D: Device>(device: &mut D, layout: &Layout) -> Result<bool
     requires layout { IsLayout (D.contents device.old) layout.now }
     requires numbers { HasGoodNumbers (D.contents device.old) }
     ensures good { IfOk result (λ good. IsTrue good ↔ HasGoodSizes (D.contents device.old)) }
-    ensures contents { D.contents device.new ≡ D.contents device.old }
-    ensures faults { D.failures device.new ≡ faults_after result (D.failures device.old) }
+    ensures device { OnlyReads D.contents D.failures (faults_after result) device.old device.new }
 {
     for i in 1..layout.sizes.ninodes {
         let good = has_good_size(device, layout, i)?;

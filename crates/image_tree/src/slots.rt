@@ -8,6 +8,7 @@ ghost use Rattle.image_tree.specs.Links.{slots_in};
 ghost use Rattle.image_tree.specs.Checks.{HasGoodNumbers, IsData};
 ghost use Rattle.image_tree.specs.Damage.{JudgesFault, faults_with};
 ghost use Rattle.image_tree.specs.Layout.{IsLayout};
+ghost use Rattle.image_tree.specs.Reads.{OnlyReads};
 
 use crate::disk::{Layout, load, load_inode};
 use crate::fault::MountFault;
@@ -31,8 +32,7 @@ fn load_slot<D: Device>(
     requires good { All (λ b. b ≢ 0 → IsData (sizes_of (D.contents device.old)) b) numbers.now }
     requires bound { s < 4294967296 }
     ensures slot { IfOk result (λ slot. slot ≡ dirent_at (s % 64) (recovered (D.contents device.old) (block_number numbers.now (s / 64)))) }
-    ensures contents { D.contents device.new ≡ D.contents device.old }
-    ensures faults { D.failures device.new ≡ faults_after result (D.failures device.old) }
+    ensures device { OnlyReads D.contents D.failures (faults_after result) device.old device.new }
 {
     let mut block = [0; BLOCK_LEN];
     let b = block_number(numbers, s / DIRENTS_PER_BLOCK);
@@ -53,8 +53,7 @@ pub fn load_slots<D: Device>(
     requires good { All (λ b. b ≢ 0 → IsData (sizes_of (D.contents device.old)) b) numbers.now }
     ensures slots { IfOk result (λ slots. slots.items ≡ slots_of (D.contents device.old) inode.now) }
     ensures err { IfErr result (JudgesFault (D.contents device.old)) }
-    ensures contents { D.contents device.new ≡ D.contents device.old }
-    ensures faults { D.failures device.new ≡ faults_with result (D.failures device.old) }
+    ensures device { OnlyReads D.contents D.failures (faults_with result) device.old device.new }
 {
     let mut slots = Vec::new(alloc);
     for s in 0..inode.size as usize / DIRENT_LEN {
@@ -77,8 +76,7 @@ pub fn slots_at<D: Device>(
     requires numbers { HasGoodNumbers (D.contents device.old) }
     ensures slots { IfOk result (λ slots. slots.items ≡ slots_in (D.contents device.old) i) }
     ensures err { IfErr result (JudgesFault (D.contents device.old)) }
-    ensures contents { D.contents device.new ≡ D.contents device.old }
-    ensures faults { D.failures device.new ≡ faults_with result (D.failures device.old) }
+    ensures device { OnlyReads D.contents D.failures (faults_with result) device.old device.new }
 {
     let inode = load_inode(device, layout, i)?;
     if !is_live_directory(&inode) {

@@ -5,6 +5,7 @@ ghost use Rattle.image_tree.specs.Damage.{IsWellFormed, JudgesFault, JudgesWith,
 ghost use Rattle.image_tree.specs.Inodes.{inode_of, is_free};
 ghost use Rattle.image_tree.specs.Layout.{IsLayout};
 ghost use Rattle.image_tree.specs.Trees.{count_of, first_nodes, is_file, kind_of, node_of, slot_of, tree_in};
+ghost use Rattle.image_tree.specs.Reads.{OnlyReads};
 ghost use Rattle.fs_layout.specs.Recovered.{sizes_of};
 
 use crate::content::load_content;
@@ -76,8 +77,7 @@ fn load_kind<D: Device>(
     requires used { is_free inode.now ≡ false }
     ensures kind { IfOk result (λ kind. kind ≡ kind_of (D.contents device.old) inode.now) }
     ensures err { IfErr result (JudgesFault (D.contents device.old)) }
-    ensures contents { D.contents device.new ≡ D.contents device.old }
-    ensures faults { D.failures device.new ≡ faults_with result (D.failures device.old) }
+    ensures device { OnlyReads D.contents D.failures (faults_with result) device.old device.new }
 {
     let numbers = numbers_at(device, layout, i)?;
     if is_directory(inode) {
@@ -120,8 +120,7 @@ fn load_node<D: Device>(
     requires numbers { HasGoodNumbers (D.contents device.old) }
     ensures node { IfOk result (λ node. node ≡ node_of (D.contents device.old) i) }
     ensures err { IfErr result (JudgesFault (D.contents device.old)) }
-    ensures contents { D.contents device.new ≡ D.contents device.old }
-    ensures faults { D.failures device.new ≡ faults_with result (D.failures device.old) }
+    ensures device { OnlyReads D.contents D.failures (faults_with result) device.old device.new }
 {
     let inode = load_inode(device, layout, i)?;
     if is_free(&inode) {
@@ -146,8 +145,7 @@ fn load_nodes<D: Device>(
     requires numbers { HasGoodNumbers (D.contents device.old) }
     ensures nodes { IfOk result (λ nodes. nodes.items ≡ first_nodes (D.contents device.old) (sizes_of (D.contents device.old)).ninodes) }
     ensures err { IfErr result (JudgesFault (D.contents device.old)) }
-    ensures contents { D.contents device.new ≡ D.contents device.old }
-    ensures faults { D.failures device.new ≡ faults_with result (D.failures device.old) }
+    ensures device { OnlyReads D.contents D.failures (faults_with result) device.old device.new }
 {
     let mut nodes = Vec::new(alloc);
     push(&mut nodes, None)?;
@@ -162,8 +160,7 @@ fn load_nodes<D: Device>(
 /// first, with the answers of [`examine`](crate::examine).
 pub fn tree_of<D: Device>(alloc: Global, device: &mut D) -> Result<Tree, MountFault>
     ensures judges { JudgesWith (λ tree. IsWellFormed (D.contents device.old) × (tree ≡ tree_in (D.contents device.old))) (D.contents device.old) result }
-    ensures contents { D.contents device.new ≡ D.contents device.old }
-    ensures faults { D.failures device.new ≡ faults_with result (D.failures device.old) }
+    ensures device { OnlyReads D.contents D.failures (faults_with result) device.old device.new }
 {
     let layout = examine_layout(alloc, device)?;
     let nodes = load_nodes(alloc, device, &layout)?;

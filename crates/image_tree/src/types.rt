@@ -1,8 +1,9 @@
 //! The types of inodes, and the root.
-ghost use Rattle.std.specs.Prelude.{◌≡◌, ◌↔◌, ◌<◌, IsTrue, IfOk};
+ghost use Rattle.std.specs.Prelude.{◌↔◌, ◌<◌, IsTrue, IfOk};
 ghost use Rattle.block_device.specs.Blocks.{faults_after};
 ghost use Rattle.image_tree.specs.Checks.{IsGoodType, HasGoodTypes, HasRoot};
 ghost use Rattle.image_tree.specs.Layout.{IsLayout};
+ghost use Rattle.image_tree.specs.Reads.{OnlyReads};
 
 use crate::disk::{Layout, load_inode};
 use crate::limits::{KIND_DEVICE, KIND_DIRECTORY, KIND_FREE, ROOT};
@@ -21,8 +22,7 @@ fn has_good_type(inode: &Dinode) -> bool
 pub fn has_good_types<D: Device>(device: &mut D, layout: &Layout) -> Result<bool, Fault>
     requires layout { IsLayout (D.contents device.old) layout.now }
     ensures good { IfOk result (λ good. IsTrue good ↔ HasGoodTypes (D.contents device.old)) }
-    ensures contents { D.contents device.new ≡ D.contents device.old }
-    ensures faults { D.failures device.new ≡ faults_after result (D.failures device.old) }
+    ensures device { OnlyReads D.contents D.failures (faults_after result) device.old device.new }
 {
     for i in 1..layout.sizes.ninodes {
         let inode = load_inode(device, layout, i)?;
@@ -37,8 +37,7 @@ pub fn has_good_types<D: Device>(device: &mut D, layout: &Layout) -> Result<bool
 pub fn has_root<D: Device>(device: &mut D, layout: &Layout) -> Result<bool, Fault>
     requires layout { IsLayout (D.contents device.old) layout.now }
     ensures good { IfOk result (λ good. IsTrue good ↔ HasRoot (D.contents device.old)) }
-    ensures contents { D.contents device.new ≡ D.contents device.old }
-    ensures faults { D.failures device.new ≡ faults_after result (D.failures device.old) }
+    ensures device { OnlyReads D.contents D.failures (faults_after result) device.old device.new }
 {
     let root = load_inode(device, layout, ROOT)?;
     Ok(root.kind == KIND_DIRECTORY && 0 < root.nlink)

@@ -7,8 +7,8 @@ loop-k-init g c = (refl, refl, c.new-bytes.ensures.items ∙ sym (front_blocks-n
 
 pub loop-k-preserved : goal.loop-k-preserved
 loop-k-preserved g c = (
-  c.in_ok-load.ensures.contents ∙ c.loop-k.invariant.0,
-  c.in_ok-load.ensures.faults ∙ c.loop-k.invariant.1,
+  c.in_ok-load.ensures.device.contents ∙ c.loop-k.invariant.0,
+  c.in_ok-load.ensures.device.faults ∙ c.loop-k.invariant.1,
   front_blocks-more (g.D.Device.contents c.args.device.now) (g.D.Device.contents c.loop-k.device) c.args.inode.now c.args.numbers.now c.loop-k.k c.block_number.result
       c.loop-k.bytes.items c.append_block.new.bytes.items c.load.new.to c.loop-k.invariant.0 c.requires.numbers c.block_number.ensures c.in_ok-load.ensures.read c.loop-k.invariant.2
       c.in_ok-append_block.ensures,

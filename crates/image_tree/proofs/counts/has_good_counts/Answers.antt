@@ -8,8 +8,8 @@ pub loop-i-preserved : goal.loop-i-preserved
 loop-i-preserved g c =
     let disk : List (List ℕ) = g.D.Device.contents c.args.device.now in
     let here : GoodCount (g.D.Device.contents c.loop-i.device) c.loop-i.i = c.in_ok-good.ensures.good.0 c.if-not-good.false in (
-      c.in_ok-good.ensures.contents ∙ c.loop-i.invariant.0,
-      c.in_ok-good.ensures.faults ∙ c.loop-i.invariant.1,
+      c.in_ok-good.ensures.device.contents ∙ c.loop-i.invariant.0,
+      c.in_ok-good.ensures.device.faults ∙ c.loop-i.invariant.1,
       one_more (GoodCount disk) c.loop-i.i c.loop-i.invariant.2 (subst (λ (d : List (List ℕ)). GoodCount d c.loop-i.i) c.loop-i.invariant.0 here),
     )
 

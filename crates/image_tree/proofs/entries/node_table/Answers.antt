@@ -15,7 +15,7 @@ loop-i-preserved g c =
     c.push-in-loop-i.new.items.items c.requires.layout (omega arith) (omega arith)
     (c.in_ok-inode.ensures.inode ∙ ap (λ (d : List (List ℕ)). inode_of d c.loop-i.i) c.loop-i.invariant.0) (ap not c.is_free.ensures) c.loop-i.invariant.2
     c.loop-i.invariant.3 c.in_ok-push-2.ensures in
-    (c.in_ok-inode.ensures.contents ∙ c.loop-i.invariant.0, c.in_ok-inode.ensures.faults ∙ c.loop-i.invariant.1, more.0, more.1)
+    (c.in_ok-inode.ensures.device.contents ∙ c.loop-i.invariant.0, c.in_ok-inode.ensures.device.faults ∙ c.loop-i.invariant.1, more.0, more.1)
 
 pub returns-clause-table : goal.returns-clause-table
 returns-clause-table g c =

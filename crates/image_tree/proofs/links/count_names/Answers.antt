@@ -21,8 +21,8 @@ loop-i-preserved g c =
     let i : ℕ = c.loop-i.i in
     let same : now ≡ disk = c.loop-i.invariant.0 in
     let low : 1 ≤ i = c.loop-i.auto.i in (
-      c.in_ok-slots.ensures.contents ∙ same,
-      c.in_ok-slots.ensures.faults ∙ c.loop-i.invariant.1,
+      c.in_ok-slots.ensures.device.contents ∙ same,
+      c.in_ok-slots.ensures.device.faults ∙ c.loop-i.invariant.1,
       tallies_more (named_in disk) c.tally_slots.new.table i _ low
           (named_loaded disk now i c.as_slice.result.now c.in_ok-slots.slots.items same c.as_slice.ensures.value c.in_ok-slots.ensures.slots)
           (c.tally_slots.ensures (gathered (named_in disk) (i - 1)) c.loop-i.invariant.2),

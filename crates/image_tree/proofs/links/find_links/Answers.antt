@@ -10,7 +10,7 @@ use Rattle.image_tree.proofs.links.find_links.Goals as goal
 pub returns-clause-links : goal.returns-clause-links
 returns-clause-links g c =
     let disk : List (List ℕ) = g.D.Device.contents c.args.device.now in
-    let same = c.in_ok-ups.ensures.contents in
+    let same = c.in_ok-ups.ensures.device.contents in
     let n : c.args.layout.now.sizes.ninodes ≡ (sizes_of disk).ninodes = ap (λ (s : Super). s.ninodes) c.requires.layout.sizes in
     let names = table_kept c.in_ok-names.names c.deref_mut.result.now c.count_names.new.names (sizes_of disk).ninodes c.count_names.auto.names c.deref_mut.ensures.len (c.in_ok-names.ensures.length ∙ n) in
     let further = table_kept c.in_ok-further.further c.deref_mut-2.result.now c.count_names.new.further (sizes_of disk).ninodes c.count_names.auto.further c.deref_mut-2.ensures.len (c.in_ok-further.ensures.length ∙ n) in

@@ -28,5 +28,5 @@ returns-clause-good g c =
     let e = numbers_by_used disk c.args.i c.in_ok-inode.inode c.in_ok-inode.ensures.inode (sym c.is_free.ensures ∙ c.if-is_free.false) in
     let n = c.in_ok-numbers.ensures.numbers in
     let v = c.as_slice.ensures.value in
-    let same = c.load_inode.ensures.contents in
+    let same = c.load_inode.ensures.device.contents in
     rw (e, ← c.requires.layout.sizes, ← same, ← n, ← v) c.are_good-2.ensures

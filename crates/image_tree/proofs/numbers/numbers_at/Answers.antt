@@ -19,13 +19,13 @@ load_numbers-requires-clause-bound g c =
     let e = numbers_by_used disk c.args.i c.in_ok-inode.inode c.in_ok-inode.ensures.inode (sym c.is_free.ensures ∙ c.if-is_free.false) in
     let size = in_order disk c.args.layout.now c.requires.layout in
     let all : All P (numbers_of disk c.in_ok-inode.inode) = subst (All P) e (c.requires.good c.args.i c.requires.low (rw (← c.requires.layout.sizes) c.requires.bound)) in
-    rw c.load_inode.ensures.contents (twelfth_within disk c.args.layout.now c.in_ok-inode.inode c.requires.layout (omega arith) (All-addrs P disk c.in_ok-inode.inode all))
+    rw c.load_inode.ensures.device.contents (twelfth_within disk c.args.layout.now c.in_ok-inode.inode c.requires.layout (omega arith) (All-addrs P disk c.in_ok-inode.inode all))
 
 pub returns-clause-numbers : goal.returns-clause-numbers
 returns-clause-numbers g c =
     let disk : List (List ℕ) = g.D.Device.contents c.args.device.now in
     let e = numbers_by_used disk c.args.i c.in_ok-inode.inode c.in_ok-inode.ensures.inode (sym c.is_free.ensures ∙ c.if-is_free.false) in
-    rw (e, ← c.load_inode.ensures.contents) c.in_ok-numbers.ensures.numbers
+    rw (e, ← c.load_inode.ensures.device.contents) c.in_ok-numbers.ensures.numbers
 
 pub returns-clause-small : goal.returns-clause-small
 returns-clause-small g c =

@@ -29,8 +29,8 @@ loop-i-preserved g c =
     let disk : List (List ℕ) = g.D.Device.contents c.args.device.now in
     let before = gathered (named_by disk) (c.loop-i.i - 1) in
     let e = marked disk (g.D.Device.contents c.loop-i.device) c.loop-i.i c.as_slice.result.now c.in_ok-numbers.numbers.items (omega arith) c.as_slice.ensures.value c.in_ok-numbers.ensures.numbers c.loop-i.invariant.0 in (
-      c.in_ok-numbers.ensures.contents ∙ c.loop-i.invariant.0,
-      c.in_ok-numbers.ensures.faults ∙ c.loop-i.invariant.1,
+      c.in_ok-numbers.ensures.device.contents ∙ c.loop-i.invariant.0,
+      c.in_ok-numbers.ensures.device.faults ∙ c.loop-i.invariant.1,
       subst (Marks c.mark_all.new.seen) e (c.mark_all.ensures.marks before c.loop-i.invariant.2 c.loop-i.invariant.3 c.if-not-mark_all.false),
       subst IsOnce e ((c.mark_all.ensures.once before c.loop-i.invariant.2 c.loop-i.invariant.3).0 c.if-not-mark_all.false),
     )

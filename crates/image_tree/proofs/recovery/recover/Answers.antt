@@ -9,19 +9,19 @@ from_same first old new same view = subst (λ (x : List (List ℕ)). IsViewOf x 
 pub returns-in_err-install-clause-well : goal.returns-in_err-install-clause-well
 returns-in_err-install-clause-well g c well =
     checks_see_recovered (g.D.Device.contents c.args.device.now) (g.D.Device.contents c.install.new.device)
-    (from_same _ (g.D.Device.contents c.find_layout.new.device) _ c.find_layout.ensures.contents (record { sizes = c.install.ensures.sizes; good = c.install.ensures.good; same = c.install.ensures.kept })) well
+    (from_same _ (g.D.Device.contents c.find_layout.new.device) _ c.find_layout.ensures.device.contents (record { sizes = c.install.ensures.sizes; good = c.install.ensures.good; same = c.install.ensures.kept })) well
 
 pub returns-in_err-install-clause-tree : goal.returns-in_err-install-clause-tree
 returns-in_err-install-clause-tree g c well =
     trees_see_recovered (g.D.Device.contents c.args.device.now) (g.D.Device.contents c.install.new.device)
-    (from_same _ (g.D.Device.contents c.find_layout.new.device) _ c.find_layout.ensures.contents (record { sizes = c.install.ensures.sizes; good = c.install.ensures.good; same = c.install.ensures.kept })) well
+    (from_same _ (g.D.Device.contents c.find_layout.new.device) _ c.find_layout.ensures.device.contents (record { sizes = c.install.ensures.sizes; good = c.install.ensures.good; same = c.install.ensures.kept })) well
 
 pub returns-clause-well : goal.returns-clause-well
 returns-clause-well g c well =
     checks_see_recovered (g.D.Device.contents c.args.device.now) (g.D.Device.contents c.install.new.device)
-    (from_same _ (g.D.Device.contents c.find_layout.new.device) _ c.find_layout.ensures.contents (record { sizes = c.install.ensures.sizes; good = c.install.ensures.good; same = c.install.ensures.kept })) well
+    (from_same _ (g.D.Device.contents c.find_layout.new.device) _ c.find_layout.ensures.device.contents (record { sizes = c.install.ensures.sizes; good = c.install.ensures.good; same = c.install.ensures.kept })) well
 
 pub returns-clause-tree : goal.returns-clause-tree
 returns-clause-tree g c well =
     trees_see_recovered (g.D.Device.contents c.args.device.now) (g.D.Device.contents c.install.new.device)
-    (from_same _ (g.D.Device.contents c.find_layout.new.device) _ c.find_layout.ensures.contents (record { sizes = c.install.ensures.sizes; good = c.install.ensures.good; same = c.install.ensures.kept })) well
+    (from_same _ (g.D.Device.contents c.find_layout.new.device) _ c.find_layout.ensures.device.contents (record { sizes = c.install.ensures.sizes; good = c.install.ensures.good; same = c.install.ensures.kept })) well

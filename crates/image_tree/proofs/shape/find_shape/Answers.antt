@@ -10,11 +10,11 @@ pub loop-i-preserved : goal.loop-i-preserved
 loop-i-preserved g c =
     let disk : List (List ℕ) = g.D.Device.contents c.args.device.now in
     let few = c.count_blocks-blocks.ensures.few in (
-      c.in_ok-numbers.ensures.contents ∙ c.in_ok-inode.ensures.contents ∙ c.loop-i.invariant.0,
-      c.in_ok-numbers.ensures.faults ∙ c.in_ok-inode.ensures.faults ∙ c.loop-i.invariant.1,
+      c.in_ok-numbers.ensures.device.contents ∙ c.in_ok-inode.ensures.device.contents ∙ c.loop-i.invariant.0,
+      c.in_ok-numbers.ensures.device.faults ∙ c.in_ok-inode.ensures.device.faults ∙ c.loop-i.invariant.1,
       shape_more disk (g.D.Device.contents c.load_inode.new.device) c.args.layout.now c.loop-i.i c.in_ok-inode.inode c.as_slice.result.now c.in_ok-numbers.numbers.items c.loop-i.live
           c.loop-i.orphans c.loop-i.blocks c.count_live-live.result c.count_orphan-orphans.result c.count_blocks-blocks.result c.requires.layout c.loop-i.auto.i c.loop-i-test.true
           (c.in_ok-inode.ensures.inode ∙ ap (λ (d : List (List ℕ)). inode_of d c.loop-i.i) c.loop-i.invariant.0)
-          (c.in_ok-inode.ensures.contents ∙ c.loop-i.invariant.0) c.as_slice.ensures.value c.in_ok-numbers.ensures.numbers (search rules) c.count_live-live.ensures c.count_orphan-orphans.ensures
+          (c.in_ok-inode.ensures.device.contents ∙ c.loop-i.invariant.0) c.as_slice.ensures.value c.in_ok-numbers.ensures.numbers (search rules) c.count_live-live.ensures c.count_orphan-orphans.ensures
           c.count_blocks-blocks.ensures.blocks (search rules) c.loop-i.invariant.2,
     )

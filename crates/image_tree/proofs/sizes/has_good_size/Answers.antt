@@ -17,7 +17,7 @@ returns-then-not-is_fitting-clause-good g c =
 
 pub load_numbers-requires-clause-bound : goal.load_numbers-requires-clause-bound
 load_numbers-requires-clause-bound g c =
-    rw c.load_inode.ensures.contents
+    rw c.load_inode.ensures.device.contents
     (twelfth_of_node (g.D.Device.contents c.args.device.now) c.args.layout.now c.args.i c.in_ok-inode.inode c.requires.layout c.requires.numbers c.requires.low
     c.requires.bound c.in_ok-inode.ensures.inode (sym c.is_free.ensures ∙ c.if-is_free.false) (omega arith))
 
@@ -26,5 +26,5 @@ returns-clause-good g c =
     let disk : List (List ℕ) = g.D.Device.contents c.args.device.now in
     size_told disk c.args.layout.now c.args.i c.in_ok-inode.inode c.requires.layout c.requires.low c.requires.bound c.in_ok-inode.ensures.inode
     (sym c.is_free.ensures ∙ c.if-is_free.false) (c.is_fitting.ensures.0 c.if-not-is_fitting.false) c.has_blocks.result c.as_slice.result.now
-    (c.as_slice.ensures.value ∙ c.in_ok-numbers.ensures.numbers ∙ ap (λ (d : List (List ℕ)). numbers_of d c.in_ok-inode.inode) c.load_inode.ensures.contents)
+    (c.as_slice.ensures.value ∙ c.in_ok-numbers.ensures.numbers ∙ ap (λ (d : List (List ℕ)). numbers_of d c.in_ok-inode.inode) c.load_inode.ensures.device.contents)
     c.has_blocks.ensures

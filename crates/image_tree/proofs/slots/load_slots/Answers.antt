@@ -7,8 +7,8 @@ loop-s-init g c = (refl, refl, c.new-slots.ensures.items ∙ sym (first_slots-no
 
 pub loop-s-preserved : goal.loop-s-preserved
 loop-s-preserved g c = (
-  c.in_ok-slot.ensures.contents ∙ c.loop-s.invariant.0,
-  c.in_ok-slot.ensures.faults ∙ c.loop-s.invariant.1,
+  c.in_ok-slot.ensures.device.contents ∙ c.loop-s.invariant.0,
+  c.in_ok-slot.ensures.device.faults ∙ c.loop-s.invariant.1,
   first_slots-more (g.D.Device.contents c.args.device.now) (g.D.Device.contents c.loop-s.device) c.args.inode.now c.args.numbers.now c.loop-s.s c.loop-s.slots.items
       c.push.new.items.items c.in_ok-slot.slot c.loop-s.invariant.0 c.requires.numbers c.in_ok-slot.ensures.slot c.loop-s.invariant.2 c.in_ok-push.ensures,
 )

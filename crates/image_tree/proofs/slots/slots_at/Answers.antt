@@ -12,12 +12,12 @@ returns-then-not-is_live_directory-clause-slots g c =
 pub load_slots-requires-clause-numbers : goal.load_slots-requires-clause-numbers
 load_slots-requires-clause-numbers g c =
     numbers_of_directory (g.D.Device.contents c.args.device.now) (g.D.Device.contents c.load_inode.new.device) (g.D.Device.contents c.numbers_at.new.device)
-    c.args.i c.in_ok-inode.inode c.as_slice.result.now c.in_ok-inode.ensures.contents c.in_ok-numbers.ensures.contents c.in_ok-inode.ensures.inode
+    c.args.i c.in_ok-inode.inode c.as_slice.result.now c.in_ok-inode.ensures.device.contents c.in_ok-numbers.ensures.device.contents c.in_ok-inode.ensures.inode
     (sym c.is_live_directory.ensures ∙ c.if-not-is_live_directory.false) (c.as_slice.ensures.value ∙ c.in_ok-numbers.ensures.numbers)
 
 pub returns-clause-slots : goal.returns-clause-slots
 returns-clause-slots g c =
     c.in_ok-slots.ensures.slots
-    ∙ ap (λ (d : List (List ℕ)). slots_of d c.in_ok-inode.inode) (c.in_ok-numbers.ensures.contents ∙ c.in_ok-inode.ensures.contents)
+    ∙ ap (λ (d : List (List ℕ)). slots_of d c.in_ok-inode.inode) (c.in_ok-numbers.ensures.device.contents ∙ c.in_ok-inode.ensures.device.contents)
     ∙ slots_in_directory (g.D.Device.contents c.args.device.now) c.args.layout.now c.args.i c.in_ok-inode.inode c.requires.layout c.requires.low c.requires.bound
     c.in_ok-inode.ensures.inode (sym c.is_live_directory.ensures ∙ c.if-not-is_live_directory.false)

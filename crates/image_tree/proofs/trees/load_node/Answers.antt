@@ -15,4 +15,4 @@ pub returns-clause-node : goal.returns-clause-node
 returns-clause-node g c =
     node_told (g.D.Device.contents c.args.device.now) (g.D.Device.contents c.load_inode.new.device) c.args.layout.now c.args.i c.count_in.result c.in_ok-inode.inode c.in_ok-kind.kind
     c.requires.layout c.requires.low c.requires.bound c.in_ok-inode.ensures.inode (sym c.is_free.ensures ∙ c.if-is_free.false) (sym c.is_live.ensures ∙ c.if-not-is_live.false)
-    c.count_in.ensures c.in_ok-kind.ensures.kind c.in_ok-inode.ensures.contents
+    c.count_in.ensures c.in_ok-kind.ensures.kind c.in_ok-inode.ensures.device.contents

@@ -8,8 +8,8 @@ loop-i-init g c =
 
 pub loop-i-preserved : goal.loop-i-preserved
 loop-i-preserved g c = (
-  c.in_ok-node.ensures.contents ∙ c.loop-i.invariant.0,
-  c.in_ok-node.ensures.faults ∙ c.loop-i.invariant.1,
+  c.in_ok-node.ensures.device.contents ∙ c.loop-i.invariant.0,
+  c.in_ok-node.ensures.device.faults ∙ c.loop-i.invariant.1,
   nodes_more (g.D.Device.contents c.args.device.now) (g.D.Device.contents c.loop-i.device) c.loop-i.i c.in_ok-node.node c.loop-i.nodes.items c.push-in-loop-i.new.items.items
       c.loop-i.invariant.0 c.in_ok-node.ensures.node c.loop-i.invariant.2 c.in_ok-push-2.ensures,
 )
