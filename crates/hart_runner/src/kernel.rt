@@ -8,10 +8,10 @@ ghost use Rattle.hart_runner.specs.Calls.{WentOn, IsAnswered, IsRefused, StillBu
 
 use crate::gate::Gate;
 use fs_machine::Kind;
-use hart_core::StartRefused;
 use image_tree::MountFault;
 use locked_world::{
-    Begun, Closed, Halt, Locked, NotStarted, Receipt, Share, Told, filled, is_handed_back,
+    Begun, Closed, Halt, Locked, NotStarted, Receipt, Share, StartRefused, Told, filled,
+    is_handed_back,
 };
 use plain_tree::{Call, Reply};
 use std::alloc::{AllocFailed, Global};

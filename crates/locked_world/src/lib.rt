@@ -9,3 +9,4 @@ mod locked;
 
 pub use crate::handing::{filled, is_handed_back, is_same};
 pub use crate::locked::{Begun, Closed, Halt, Locked, NotStarted, Receipt, Share, Told};
+pub use hart_core::StartRefused;

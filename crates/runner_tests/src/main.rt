@@ -12,3 +12,6 @@ mod scripts;
 mod seats;
 #[cfg(test)]
 mod work;
+
+// `rt test` runs the tests, and nothing else is here to be run.
+fn main() {}

@@ -8,3 +8,6 @@ mod histories;
 mod rows;
 #[cfg(test)]
 mod scripts;
+
+// `rt test` runs the tests, and nothing else is here to be run.
+fn main() {}

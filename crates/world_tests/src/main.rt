@@ -38,3 +38,6 @@ mod unlinks;
 mod worked;
 #[cfg(test)]
 mod writes;
+
+// `rt test` runs the tests, and nothing else is here to be run.
+fn main() {}

@@ -6,3 +6,6 @@
 mod play;
 #[cfg(test)]
 mod rows;
+
+// `rt test` runs the tests, and nothing else is here to be run.
+fn main() {}
