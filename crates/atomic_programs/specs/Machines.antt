@@ -3,6 +3,8 @@ use Rattle.std.specs.Prelude.{◌≡◌, ℕ, Option, Some, None, List, get_or}
 use Rattle.atomic_programs.specs.Prog.{Prog, Ret, Did, Waits as ItWaits, Ran as ItRan, Stops, OperationResult, StillWaits, WentOn, Broke}
 use Rattle.atomic_programs.specs.declared.machines.Stepped.{Stepped}
 use Rattle.atomic_programs.specs.declared.machines.Stepped.TheVariants.{Waits, Ran, Done, Stopped}
+use Rattle.atomic_programs.specs.declared.machines.Came.{Came}
+use Rattle.atomic_programs.specs.declared.machines.Came.TheVariants as came
 
 -- where a step of a machine leads, as a program; its result stands for what the program returns
 abbrev pub moved_to : {M R K A S Op : Type 0} {Answer : Op → Type 0} → (M → Prog Op Answer ⊥ A) → (R → A) → Stepped M R K → S → OperationResult K (Prog Op Answer ⊥ A) S
@@ -31,6 +33,24 @@ answered broke passed (Waits m) = passed
 answered broke passed (Ran m kind) = passed
 answered broke passed (Done a kind) = passed
 answered broke passed (Stopped m) = broke
+
+-- ---- in its place
+
+-- a step that left this of a machine in its place, as one that hands it on
+abbrev pub stepped_at : {M R K : Type 0} → M → Came R K → Stepped M R K
+stepped_at m came.Waits = Waits m
+stepped_at m (came.Ran kind) = Ran m kind
+stepped_at m (came.Done a kind) = Done a kind
+stepped_at m came.Stopped = Stopped m
+
+-- this is so where the machine is done
+abbrev pub OnDone : {R K : Type 0} → Came R K → Type 0 → Type 0
+OnDone came.Waits P = Unit {0}
+OnDone (came.Ran kind) P = Unit {0}
+OnDone (came.Done a kind) P = P
+OnDone came.Stopped P = Unit {0}
+
+-- ---- operations and tables
 
 -- a call of an operation, by its Option: None where it waits
 abbrev pub or_waits : {A S : Type 0} → Option A → S → Did A S

@@ -5,6 +5,7 @@ pub mod Tied
 pub mod Stays
 pub mod Did
 pub mod Machines
+pub mod Places
 pub mod Programs
 pub mod Fetching
 pub mod Whole
