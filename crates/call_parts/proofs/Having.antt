@@ -1,5 +1,5 @@
 -- What a call has stays had: while the tables stay, while another inode is given up, and with another record.
-use Rattle.std.proofs.Common.{◌≡◌, ◌≢◌, ℕ, refl, subst, sym, Option, Some, None, IsSome, ap}
+use Rattle.std.proofs.Common.{◌≡◌, ◌∙◌, ◌≢◌, ℕ, refl, subst, sym, Option, Some, None, IsSome, ap}
 use Rattle.sleep_lock.specs.SleepLock.{GuardState}
 use Rattle.atomic_programs.specs.Machines.{Left}
 use Rattle.atomic_programs.specs.declared.machines.Stepped.{Stepped}
@@ -10,9 +10,13 @@ use Rattle.fs_machine.specs.Stays.{LeavesApart, LeavesAll}
 use Rattle.fs_machine.specs.Tied.{IsOwnInode}
 use Rattle.inode_data.specs.Records.{record_in, with_record}
 use Rattle.call_parts.specs.Taking.{IsHeld}
-use Rattle.call_parts.specs.Ends.{GiveApart, GiveFits}
+use Rattle.call_parts.specs.Ends.{GiveApart, GiveFits, QuitFits}
 use Rattle.call_parts.specs.declared.give.GiveUp.{GiveUp}
+use Rattle.call_parts.specs.declared.quit.Quit.{Quit}
+use Rattle.call_parts.specs.declared.quit.Quit.TheVariants as quitting
+use Rattle.call_parts.specs.declared.tail.Ending.{Ending}
 use Rattle.call_parts.specs.declared.take.Held.{Held}
+use Rattle.file_table.specs.Machines.{IsEarly}
 use Rattle.call_parts.proofs.Nesting.{left_zip, left_map}
 use Rattle.call_parts.proofs.Tails.{own_loaded, own_on}
 use Rattle.std.specs.Option.{unwrap_or}
@@ -32,6 +36,16 @@ gave_apart hart held self stepped old new rest had apart fits =
       left_zip (GiveFits hart new) (GiveApart held.reference) (λ m. GiveFits hart new m × GiveApart held.reference m) (λ _. Unit {0}) (λ _. Unit {0}) (λ _. Unit {0})
           (λ m f a. (f, a)) (λ r f a. tt) stepped fits left.1,
     )
+
+-- the second of two inodes stays had while the first is given up
+pub two_on : (hart : ℕ) (old new : State) (self : Quit) (e : Ending) (txn after : ℕ) (second : Held) (give : GiveUp) (stepped : Stepped GiveUp (Unit {0}) Kind) → self ≡ quitting.Two e txn second give → QuitFits hart old self → after ≡ txn
+    → LeavesApart GiveApart (λ _ _. Unit {0}) (IsOwnInode hart) give stepped old new → Left (GiveFits hart new) (λ _. Unit {0}) stepped
+    → IsEarly e.sizes.inodestart × (after ≡ hart) × IsHeld hart second new × Left (λ m. GiveFits hart new m × GiveApart second.reference m) (λ _. Unit {0}) stepped
+unfolding QuitFits
+two_on hart old new self e txn after second give stepped is fits kept rest left =
+    let had : IsEarly e.sizes.inodestart × (txn ≡ hart) × IsHeld hart second old × GiveFits hart old give × GiveApart second.reference give = subst (λ m. QuitFits hart old m) is fits in
+    let on = gave_apart hart second give stepped old new rest had.2 had.4 left in
+    (had.0, kept ∙ had.1, on.0, on.1)
 
 -- what is held stays so while an operation leaves the hart's locks
 pub held_on : (hart : ℕ) (held : Held) (old new : State) → LeavesAll (IsOwnInode hart) old new → IsHeld hart held old → IsHeld hart held new

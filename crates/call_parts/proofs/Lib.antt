@@ -1,5 +1,5 @@
 pub mod Nesting
-pub mod Onwards
+pub mod Inside
 pub mod Tails
 pub mod Taken
 pub mod Joining

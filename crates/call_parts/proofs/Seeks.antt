@@ -1,49 +1,58 @@
 -- A last name looked up in its parent.
-use Rattle.std.proofs.Common.{◌≡◌, ℕ, suc, List, [], ◌∷◌, length, get_or, nat_eq, Bool, true, false, ◌&&◌, ◌||◌, refl, sym, ap, subst, arith}
+use Rattle.std.proofs.Common.{◌≡◌, ◌∙◌, ℕ, suc, Option, Some, List, [], ◌∷◌, length, get_or, nat_eq, Bool, true, false, ◌&&◌, ◌||◌, refl, sym, ap, subst, arith}
 use Rattle.plain_tree.specs.Tree.{same_name}
 use Rattle.sleep_lock.specs.SleepLock.{GuardState}
-use Rattle.atomic_programs.specs.Prog.{Ret, bind}
 use Rattle.atomic_programs.specs.Machines.{Left}
 use Rattle.atomic_programs.specs.declared.machines.Stepped.{Stepped}
-use Rattle.atomic_programs.specs.declared.machines.Stepped.TheVariants.{Waits, Ran, Done, Stopped}
 use Rattle.fs_tables.specs.declared.inodes.Inode.{Inode}
 use Rattle.fs_machine.specs.declared.kind.Kind.{Kind}
 use Rattle.fs_machine.specs.Steps.{State}
+use Rattle.call_parts.specs.Seeking.{SeekState, Sees, is_dots, seek_of, seen_as, seen_of, seen_with, IsParent, IsSeen, IsSight, SeekFits}
+use Rattle.call_parts.specs.declared.seek.Seek.{Seek}
+use Rattle.call_parts.specs.declared.seek.Seek.TheVariants as seeking
+use Rattle.call_parts.specs.declared.seek.Seen.{Seen}
+use Rattle.call_parts.specs.declared.seek.Seen.TheVariants as seen
+use Rattle.atomic_programs.specs.Prog.{Ret, bind}
 use Rattle.fs_machine.specs.Machines.{P}
 use Rattle.directory.specs.Programs.{Named}
-use Rattle.directory.specs.Machines.{found_of, inode_of, search_of, IsSlot, SearchFits}
+use Rattle.directory.specs.Machines.{inode_of, search_of, IsSlot, SearchFits}
 use Rattle.directory.specs.declared.search.Search.{Search}
 use Rattle.directory.specs.declared.search.Searched.{Searched}
 use Rattle.path_walk.specs.Elements.{name_in, IsElement}
 use Rattle.path_walk.specs.declared.elements.Element.{Element}
-use Rattle.call_parts.specs.Nesting.{Follows}
-use Rattle.call_parts.specs.Seeking.{SeekState, Sees, in_looking, is_dots, seek_of, seen_as, seen_with, IsParent, IsSeen, IsSight, SeekFits}
-use Rattle.call_parts.specs.declared.seek.Seek.{Seek}
-use Rattle.call_parts.specs.declared.seek.Seen.{Seen}
-use Rattle.call_parts.specs.declared.seek.Seen.TheVariants as seen
 use Rattle.call_parts.proofs.Nesting.{left_map}
 use Rattle.call_parts.proofs.Tails.{own_on}
-
-module _ (path : List ℕ) (n : ℕ) (e : Element) (list : List ℕ) (guard : GuardState Inode) where
-  pub looking_follows : (stepped : Stepped Search Searched Kind) → Left (λ m. inode_of m ≡ guard) (λ r. r.inode ≡ guard) stepped
-      → Follows (search_of (Named (name_in path e))) found_of (seek_of path) (seen_as path) (seen_with guard.value (name_in path e) list) stepped (in_looking n e list stepped)
-  unfolding seek_of
-  looking_follows (Waits m) inode = ap (λ (g : GuardState Inode). bind (search_of (Named (name_in path e)) m) (seen_with g.value (name_in path e) list)) inode
-  looking_follows (Ran m kind) inode = (refl, ap (λ (g : GuardState Inode). bind (search_of (Named (name_in path e)) m) (seen_with g.value (name_in path e) list)) inode)
-  looking_follows (Done r kind) inode = (refl, ap (λ (g : GuardState Inode). let p : P SeekState = Ret (Sees g.value (name_in path e) r.found list) in p) inode)
-  looking_follows (Stopped m) inode = ap (λ (g : GuardState Inode). bind (search_of (Named (name_in path e)) m) (seen_with g.value (name_in path e) list)) inode
-
-  pub looking_fits : (hart : ℕ) (s : State) (stepped : Stepped Search Searched Kind) → IsElement path e → IsParent hart n guard s → Left (λ m. inode_of m ≡ guard) (λ r. r.inode ≡ guard) stepped
-      → Left (SearchFits hart s) (λ _. Unit {0}) stepped → Left (λ _. Unit {0}) (λ r. IsSlot r.found) stepped → Left (SeekFits path hart s) (IsSeen path hart s) (in_looking n e list stepped)
-  unfolding SeekFits
-  looking_fits hart s (Waits m) element parent inode fits slot = (element, subst (λ g. IsParent hart n g s) (sym inode) parent, fits)
-  looking_fits hart s (Ran m kind) element parent inode fits slot = (element, subst (λ g. IsParent hart n g s) (sym inode) parent, fits)
-  looking_fits hart s (Done r kind) element parent inode fits slot = (element, subst (λ g. IsParent hart n g s) (sym inode) parent, slot)
-  looking_fits hart s (Stopped m) element parent inode fits slot = (element, subst (λ g. IsParent hart n g s) (sym inode) parent, fits)
 
 -- the parent stays the hart's while the tables stay
 pub parent_on : (hart n : ℕ) (guard : GuardState Inode) (old new : State) → new.tables ≡ old.tables → IsParent hart n guard old → IsParent hart n guard new
 parent_on hart n guard old new same parent = record { own = own_on hart n guard old new same parent.own; there = parent.there; live = parent.live }
+
+-- what is left of a search is in the same parent
+pub looking_goes : (path : List ℕ) (n : ℕ) (e : Element) (list : List ℕ) (place : Option Search) (m : Search) (guard : GuardState Inode) → place ≡ Some m → inode_of m ≡ guard
+    → seek_of path (seeking.Looking n e list place) ≡ bind (search_of (Named (name_in path e)) m) (seen_with guard.value (name_in path e) list)
+unfolding seek_of
+looking_goes path n e list place m guard is inode =
+    ap (λ p. seek_of path (seeking.Looking n e list p)) is ∙ ap (λ (g : GuardState Inode). bind (search_of (Named (name_in path e)) m) (seen_with g.value (name_in path e) list)) inode
+
+module _ (path : List ℕ) (n : ℕ) (e : Element) (list : List ℕ) (m : Search) (hart : ℕ) (old new : State) (self : Seek) (is : self ≡ seeking.Looking n e list (Some m)) (fits : SeekFits path hart old self) (same : new.tables ≡ old.tables) where
+  had_looking : IsElement path e × IsParent hart n (inode_of m) new
+  unfolding SeekFits
+  had_looking =
+      let had : IsElement path e × IsParent hart n (inode_of m) old × SearchFits hart old m = subst (λ m. SeekFits path hart old m) is fits in
+      (had.0, parent_on hart n (inode_of m) old new same had.1)
+
+  pub looking_fits : (place : Option Search) (m' : Search) → place ≡ Some m' → inode_of m' ≡ inode_of m → SearchFits hart new m' → SeekFits path hart new (seeking.Looking n e list place)
+  unfolding SeekFits
+  looking_fits place m' there inode searches =
+      subst (λ p. SeekFits path hart new (seeking.Looking n e list p)) (sym there) (had_looking.0, subst (λ g. IsParent hart n g new) (sym inode) had_looking.1, searches)
+
+  pub looked_fits : (r : Searched) (result : Seen) → result ≡ seen_of n e list r → r.inode ≡ inode_of m → IsSlot r.found → IsSeen path hart new result
+  looked_fits r result came inode slot = subst (λ x. IsSeen path hart new x) (sym came) (had_looking.0, subst (λ g. IsParent hart n g new) (sym inode) had_looking.1, slot)
+
+pub looked_goes : (path : List ℕ) (n : ℕ) (e : Element) (list : List ℕ) (r : Searched) (result : Seen) (guard : GuardState Inode) → result ≡ seen_of n e list r → r.inode ≡ guard
+    → (let p : P SeekState = Ret (seen_as path result) in p) ≡ seen_with guard.value (name_in path e) list r.found
+looked_goes path n e list r result guard came inode =
+    ap (λ (x : Seen). let p : P SeekState = Ret (seen_as path x) in p) came ∙ ap (λ (g : GuardState Inode). let p : P SeekState = Ret (Sees g.value (name_in path e) r.found list) in p) inode
 
 -- ---- "." and ".."
 

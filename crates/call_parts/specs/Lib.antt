@@ -6,7 +6,6 @@ pub mod Tails
 pub mod Parts
 pub mod Taking
 pub mod Ends
-pub mod Onwards
 pub mod Seeking
 pub mod Counts
 pub mod OnPaths

@@ -10,6 +10,9 @@ use Rattle.plain_tree.specs.declared.answer.NodeType.TheVariants as types
 use Rattle.plain_tree.specs.declared.answer.Stat.{Stat}
 use Rattle.plain_tree.specs.declared.answer.Reply.{Reply}
 use Rattle.plain_tree.specs.declared.call.Call.{Call}
+use Rattle.plain_tree.specs.declared.call.Call.TheVariants as calls
+use Rattle.atomic_programs.specs.Prog.{Ret}
+use Rattle.fs_machine.specs.Machines.{P}
 use Rattle.plain_tree.specs.Widths.{root_device}
 use Rattle.image_tree.specs.Inodes.{is_directory}
 use Rattle.image_tree.specs.Trees.{is_file, count_of}
@@ -24,6 +27,10 @@ full call what = record { answer = answers.Full what; call = call }
 
 abbrev pub done : Call → Reply
 done call = record { answer = answers.Done; call = call }
+
+-- what a machine of a call stands for that has gone: nothing in particular, since none fits
+abbrev pub no_program : P Reply
+no_program = Ret (done (calls.Dup 0))
 
 -- the cause by which a descriptor is refused
 abbrev pub cause_of : Refused → Cause

@@ -1,20 +1,16 @@
 -- A path's last name looked up in its parent: a program over what all harts share, and what is left of it. Nothing is marked in it.
-use Rattle.std.specs.Prelude.{ℕ, Bool, false, ◌||◌, List, [], ◌∷◌, Option, IsSome, IsTrue, if◌then◌else◌}
+use Rattle.std.specs.Prelude.{◌≡◌, ℕ, Bool, false, ◌||◌, List, [], ◌∷◌, Option, Some, None, IsSome, IsTrue, if◌then◌else◌}
 use Rattle.sleep_lock.specs.SleepLock.{GuardState}
 use Rattle.atomic_programs.specs.Prog.{Ret, bind}
-use Rattle.atomic_programs.specs.declared.machines.Stepped.{Stepped}
 use Rattle.fs_tables.specs.declared.inodes.Inode.{Inode}
-use Rattle.fs_machine.specs.declared.kind.Kind.{Kind}
 use Rattle.fs_machine.specs.Steps.{State}
 use Rattle.fs_machine.specs.Machines.{P}
 use Rattle.fs_machine.specs.Tied.{IsOwnInode}
 use Rattle.inode_table.specs.Programs.{record_of}
 use Rattle.inode_data.specs.Records.{record_in}
-use Rattle.inode_data.specs.Machines.{ends_within}
 use Rattle.directory.specs.Programs.{Named, is_live_directory, search}
 use Rattle.directory.specs.Machines.{inode_of, search_of, IsSlot, SearchFits}
 use Rattle.directory.specs.declared.found.Found.{Found}
-use Rattle.directory.specs.declared.search.Search.{Search}
 use Rattle.directory.specs.declared.search.Searched.{Searched}
 use Rattle.plain_tree.specs.Tree.{Name, elements, same_name, dot, dotdot}
 use Rattle.path_walk.specs.Elements.{name_in, IsElement}
@@ -79,7 +75,9 @@ seek how inodestart path ns = seek_through how inodestart path ns (elements path
 
 unfoldable pub seek_of : List ℕ → Seek → P SeekState
 seek_of path (seeking.Reaching how m) = bind (reach_of path m) (seek_on how)
-seek_of path (seeking.Looking n e list m) = bind (search_of (Named (name_in path e)) m) (seen_with (inode_of m).value (name_in path e) list)
+seek_of path (seeking.Looking n e list (Some m)) = bind (search_of (Named (name_in path e)) m) (seen_with (inode_of m).value (name_in path e) list)
+seek_of path (seeking.Looking n e list None) = Ret (NoParent NotThere [])
+seek_of path seeking.Gone = Ret (NoParent NotThere [])
 
 -- what its result stands for
 abbrev pub seen_as : List ℕ → Seen → SeekState
@@ -97,7 +95,9 @@ pub record IsParent (hart n : ℕ) (guard : GuardState Inode) (s : State) : Type
 -- its guards go with the state
 unfoldable pub SeekFits : List ℕ → ℕ → State → Seek → Type 0
 SeekFits path hart s (seeking.Reaching how m) = ReachFits path hart s m
-SeekFits path hart s (seeking.Looking n e list m) = IsElement path e × IsParent hart n (inode_of m) s × SearchFits hart s m
+SeekFits path hart s (seeking.Looking n e list (Some m)) = IsElement path e × IsParent hart n (inode_of m) s × SearchFits hart s m
+SeekFits path hart s (seeking.Looking n e list None) = ⊥
+SeekFits path hart s seeking.Gone = ⊥
 
 -- what is known of the result
 abbrev pub IsSeen : List ℕ → ℕ → State → Seen → Type 0
@@ -117,5 +117,12 @@ IsSight path (seen.Lost why list) = Unit {0}
 abbrev pub seen_of : ℕ → Element → List ℕ → Searched → Seen
 seen_of n e list r = seen.Name (record { parent = record { reference = n; inode = r.inode }; element = e; found = r.found; list = list })
 
-abbrev pub in_looking : ℕ → Element → List ℕ → Stepped Search Searched Kind → Stepped Seek Seen Kind
-in_looking n e list stepped = ends_within (λ m. seeking.Looking n e list m) (seen_of n e list) stepped
+-- the name has been looked up
+abbrev pub IsLooking : Seek → Type 0
+IsLooking (seeking.Looking n e list m) = m ≡ None
+IsLooking _ = ⊥
+
+-- and this is then the result
+abbrev pub seen_in : Seek → Searched → Seen
+seen_in (seeking.Looking n e list m) r = seen_of n e list r
+seen_in _ r = seen.Lost NotThere []

@@ -1,13 +1,10 @@
 -- The programs that are left while an inode is taken, and while a path's end is.
-use Rattle.std.specs.Prelude.{◌≢◌, ℕ, ◌≤◌, List, IsSome, IfSome, length}
+use Rattle.std.specs.Prelude.{◌≡◌, ◌≢◌, ℕ, ◌≤◌, List, [], Some, None, IsSome, IfSome, length}
 use Rattle.sleep_lock.specs.SleepLock.{GuardState}
 use Rattle.atomic_programs.specs.Prog.{Ret, bind}
-use Rattle.atomic_programs.specs.declared.machines.Stepped.{Stepped}
-use Rattle.atomic_programs.specs.declared.machines.Stepped.TheVariants.{Waits, Ran, Done, Stopped}
 use Rattle.fs_layout.specs.declared.inode.Dinode.{Dinode}
 use Rattle.fs_tables.specs.declared.inodes.Inode.{Inode}
 use Rattle.fs_tables.specs.Limits.{listed_places}
-use Rattle.fs_machine.specs.declared.kind.Kind.{Kind}
 use Rattle.fs_machine.specs.Steps.{State}
 use Rattle.fs_machine.specs.Machines.{P}
 use Rattle.fs_machine.specs.Tied.{IsOwnInode}
@@ -18,6 +15,7 @@ use Rattle.path_walk.specs.Elements.{IsElement, names_of}
 use Rattle.path_walk.specs.Programs.{loaded}
 use Rattle.path_walk.specs.Machines.{walk_of, most_listed, WalkFits}
 use Rattle.call_parts.specs.Parts.{take_inode, ReachedState, Finds, Misses, give_reached, reach_on}
+use Rattle.path_walk.specs.declared.walked.Stop.TheVariants.{NotThere}
 use Rattle.call_parts.specs.declared.take.Held.{Held}
 use Rattle.call_parts.specs.declared.take.TakeInode.{TakeInode}
 use Rattle.call_parts.specs.declared.take.TakeInode.TheVariants as taking
@@ -30,17 +28,22 @@ use Rattle.call_parts.specs.declared.reach.Reached.TheVariants as reached
 
 unfoldable pub take_of : TakeInode → P Inode
 take_of (taking.Lock inodestart n) = take_inode inodestart n
-take_of (taking.Loading n guard load) = bind (load_of load) (λ d. Ret (loaded n d))
+take_of (taking.Loading n guard (Some load)) = bind (load_of load) (λ d. Ret (loaded n d))
+take_of (taking.Loading n guard None) = Ret (record { number = n; content = None })
+take_of taking.Gone = Ret (record { number = 0; content = None })
 
 -- its guards go with the state
 unfoldable pub TakeFits : ℕ → State → TakeInode → Type 0
 TakeFits hart s (taking.Lock inodestart n) = IsEarly inodestart
-TakeFits hart s (taking.Loading n guard load) = IsOwnInode hart n guard s × LoadFits hart s load
+TakeFits hart s (taking.Loading n guard (Some load)) = IsOwnInode hart n guard s × LoadFits hart s load
+TakeFits hart s (taking.Loading n guard None) = ⊥
+TakeFits hart s taking.Gone = ⊥
 
 -- its lock isn't that of this inode
 unfoldable pub TakeApart : ℕ → TakeInode → Type 0
 TakeApart k (taking.Lock inodestart n) = Unit {0}
 TakeApart k (taking.Loading n guard load) = k ≢ n
+TakeApart k taking.Gone = Unit {0}
 
 -- the inode of what is held
 abbrev pub inode_in : Held → Inode
@@ -51,28 +54,47 @@ pub record IsHeld (hart : ℕ) (held : Held) (s : State) : Type 0 where
   pub own : IsOwnInode hart held.reference held.inode s
   pub there : IsSome held.inode.value.content
 
--- a loading's step, as one of the machine that it stands in
-abbrev pub in_take : ℕ → GuardState Inode → Stepped LoadInode Dinode Kind → Stepped TakeInode Held Kind
-in_take n guard (Waits load) = Waits (taking.Loading n guard load)
-in_take n guard (Ran load kind) = Ran (taking.Loading n guard load) kind
-in_take n guard (Done d kind) = Done (record { reference = n; inode = with_content guard d }) kind
-in_take n guard (Stopped load) = Stopped (taking.Loading n guard load)
+-- its lock was taken, and it is loaded already
+abbrev pub IsLocking : TakeInode → Type 0
+IsLocking (taking.Lock inodestart n) = Unit {0}
+IsLocking _ = ⊥
+
+abbrev pub TakenAs : GuardState Inode → TakeInode → Held → Type 0
+TakenAs guard (taking.Lock inodestart n) held = held ≡ record { reference = n; inode = guard }
+TakenAs guard _ held = Unit {0}
+
+-- or it is to be loaded
+abbrev pub loading_in : GuardState Inode → LoadInode → TakeInode → TakeInode
+loading_in guard load (taking.Lock inodestart n) = taking.Loading n guard (Some load)
+loading_in guard load _ = taking.Gone
+
+-- it has been loaded
+abbrev pub IsLoading : TakeInode → Type 0
+IsLoading (taking.Loading n guard load) = load ≡ None
+IsLoading _ = ⊥
+
+abbrev pub LoadedAs : Dinode → TakeInode → Held → Type 0
+LoadedAs d (taking.Loading n guard load) held = held ≡ record { reference = n; inode = with_content guard d }
+LoadedAs d _ held = Unit {0}
 
 -- ---- what a path leads to
 
 unfoldable pub reach_of : List ℕ → Reach → P ReachedState
 reach_of path (reaching.Walking inodestart m) = bind (walk_of path m) (reach_on inodestart)
 reach_of path (reaching.Taking last list m) = bind (take_of m) (give_reached (names_of path last) list)
+reach_of path reaching.Gone = Ret (Misses NotThere [])
 
 -- its guards go with the state, and the call's list has room for what the walk may put on it
 unfoldable pub ReachFits : List ℕ → ℕ → State → Reach → Type 0
 ReachFits path hart s (reaching.Walking inodestart m) = IsEarly inodestart × WalkFits path hart s m × (most_listed path m ≤ listed_places)
 ReachFits path hart s (reaching.Taking last list m) = IfSome last (IsElement path) × TakeFits hart s m
+ReachFits path hart s reaching.Gone = ⊥
 
 -- how long the call's list may get
 abbrev pub most_reached : List ℕ → Reach → ℕ
 most_reached path (reaching.Walking inodestart m) = most_listed path m
 most_reached path (reaching.Taking last list m) = length list
+most_reached path reaching.Gone = 0
 
 -- what its result stands for
 abbrev pub reached_as : List ℕ → Reached → ReachedState
@@ -83,6 +105,16 @@ reached_as path (reached.Lost why list) = Misses why list
 abbrev pub kept_by : Reached → List ℕ
 kept_by (reached.At held last list) = list
 kept_by (reached.Lost why list) = list
+
+-- what it leads to is taken
+abbrev pub IsTaken : Reach → Type 0
+IsTaken (reaching.Taking last list m) = m ≡ taking.Gone
+IsTaken _ = ⊥
+
+-- and this is then the result
+abbrev pub reached_with : Held → Reach → Reached
+reached_with held (reaching.Taking last list m) = reached.At held last list
+reached_with held _ = reached.Lost NotThere []
 
 -- what is known of it
 abbrev pub IsReached : List ℕ → ℕ → State → Reached → Type 0

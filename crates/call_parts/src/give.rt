@@ -1,34 +1,37 @@
 //! An inode given up.
-ghost use Rattle.std.specs.Prelude.{◌≡◌, ◌≢◌, ℕ};
+ghost use Rattle.std.specs.Prelude.{◌≡◌, ◌≢◌, ℕ, None};
 ghost use Rattle.atomic_programs.specs.Prog.{Ret, Do, unmarked};
-ghost use Rattle.atomic_programs.specs.Machines.{Still, Left as LeftOf};
+ghost use Rattle.atomic_programs.specs.Machines.{stepped_at};
 ghost use Rattle.fs_machine.specs.Steps.{State, state_of, Down, Freed};
-ghost use Rattle.fs_machine.specs.Machines.{MayNext, Moves, Answers, CallsOnce};
-ghost use Rattle.fs_machine.specs.Tied.{IsOwnInode, LeavesTied};
+ghost use Rattle.fs_machine.specs.Machines.{MayNext};
+ghost use Rattle.fs_machine.specs.Tied.{IsOwnInode};
+ghost use Rattle.fs_machine.specs.Places.{StepsAt};
 ghost use Rattle.fs_machine.specs.Stays.{LeavesApart};
 ghost use Rattle.inode_data.specs.Freeing.{drop_reference};
-ghost use Rattle.inode_data.specs.Machines.{ends_within};
 ghost use Rattle.file_table.specs.Machines.{IsEarly};
 ghost use Rattle.call_parts.specs.Parts.{give_up};
 ghost use Rattle.call_parts.specs.Taking.{inode_in, IsHeld};
-ghost use Rattle.call_parts.specs.Ends.{give_of, GiveApart, GiveFits};
+ghost use Rattle.call_parts.specs.Ends.{give_of, GiveApart, GiveFits, IsUnlocking};
 ghost use Rattle.call_parts.specs.declared.give.GiveUp.TheVariants as giving;
 
 use crate::take::Held;
-use atomic_programs::machines::Stepped;
+use atomic_programs::machines::{Came, Stepped, put};
 use block_device::Device;
 use fs_layout::Super;
 use fs_machine::{Core, Kind, RetiredCore};
 use fs_tables::Reference;
 use group_log::Txn;
 use inode_data::{DropReference, FreeInode};
+use std::mem;
 
 /// Gives an inode's lock back, and drops the reference to it. Where that is the last one to a dead inode the inode is freed.
 pub enum GiveUp {
     /// The lock is given back, on a disk with this superblock.
     Unlock(Super, Held),
     /// The reference is dropped.
-    Dropping(DropReference),
+    Dropping(Option<DropReference>),
+    /// It has ended, or is being changed.
+    Gone,
 }
 
 impl GiveUp {
@@ -51,7 +54,7 @@ impl GiveUp {
         ensures fits { (hart : ℕ) (s : State) → GiveFits hart s result }
         ensures apart { (k : ℕ) → GiveApart k result }
     {
-        GiveUp::Dropping(DropReference::new(reference, sizes))
+        GiveUp::Dropping(Some(DropReference::new(reference, sizes)))
     }
 
     /// This reference alone, of an inode to which another one stands: nothing is freed.
@@ -61,37 +64,87 @@ impl GiveUp {
         ensures fits { (hart : ℕ) (s : State) → GiveFits hart s result }
         ensures apart { (k : ℕ) → GiveApart k result }
     {
-        GiveUp::Dropping(DropReference::Freeing(FreeInode::Dropping(reference)))
+        GiveUp::Dropping(Some(DropReference::Freeing(FreeInode::Dropping(reference))))
     }
 
-    /// One operation.
-    #[tactic(auto, unfolding(crate::specs::Ends::give_of, crate::specs::Ends::GiveFits, fs_machine::specs::Premises::Honest))]
-    pub fn step<D: Device>(
-        self,
-        hart: u8,
-        txn: &mut Txn,
-        core: &mut Core<D>,
-    ) -> Stepped<GiveUp, (), Kind>
+    /// One operation of it in its place.
+    #[tactic(auto, unfolding(crate::specs::Ends::give_of, crate::specs::Ends::GiveFits, crate::specs::Ends::GiveApart, fs_machine::specs::Premises::Honest))]
+    pub fn step<D: Device>(&mut self, hart: u8, txn: &mut Txn, core: &mut Core<D>) -> Came<(), Kind>
         requires txn { txn.old ≡ hart }
-        requires may { MayNext hart (give_of self) (state_of D.contents D.failures core.old) }
-        requires fits { GiveFits hart (state_of D.contents D.failures core.old) self }
-        ensures moves { Moves give_of (λ x. x) hart self result (state_of D.contents D.failures core.old) (state_of D.contents D.failures core.new) }
-        ensures honest { Answers give_of hart self result (state_of D.contents D.failures core.old) (state_of D.contents D.failures core.new) }
-        ensures still { Still give_of result self core.old core.new }
+        requires may { MayNext hart (give_of self.old) (state_of D.contents D.failures core.old) }
+        requires fits { GiveFits hart (state_of D.contents D.failures core.old) self.old }
+        ensures steps { StepsAt D.contents D.failures D.Called give_of (λ x. x) GiveFits (λ _. Unit {0}) giving.Gone hart self.old self.new result core.old core.new }
         ensures kept { txn.new ≡ txn.old }
-        ensures fits { LeftOf (GiveFits hart (state_of D.contents D.failures core.new)) (λ _. Unit {0}) result }
-        ensures others { LeavesTied hart (state_of D.contents D.failures core.old) (state_of D.contents D.failures core.new) }
-        ensures called { CallsOnce D.Called core.old.log.cache.device core.new.log.cache.device }
-        ensures rest { LeavesApart GiveApart (λ _ _. Unit {0}) (IsOwnInode hart) self result (state_of D.contents D.failures core.old) (state_of D.contents D.failures core.new) }
+        ensures rest { LeavesApart GiveApart (λ _ _. Unit {0}) (IsOwnInode hart) self.old (stepped_at self.new result) (state_of D.contents D.failures core.old) (state_of D.contents D.failures core.new) }
     {
         match self {
+            GiveUp::Unlock(_, _) => self.unlock(hart, core),
+            GiveUp::Dropping(place) => match mem::replace(place, None) {
+                Some(drop) => match drop.step(hart, txn, core) {
+                    Stepped::Waits(drop) => {
+                        put(place, drop);
+                        Came::Waits
+                    }
+                    Stepped::Ran(drop, kind) => {
+                        put(place, drop);
+                        Came::Ran(kind)
+                    }
+                    Stepped::Done((), kind) => {
+                        self.end();
+                        Came::Done((), kind)
+                    }
+                    Stepped::Stopped(drop) => {
+                        put(place, drop);
+                        Came::Stopped
+                    }
+                },
+                None => unreachable!(),
+            },
+            GiveUp::Gone => unreachable!(),
+        }
+    }
+
+    // The lock is given back.
+    #[tactic(auto, unfolding(crate::specs::Ends::give_of, crate::specs::Ends::GiveFits, crate::specs::Ends::GiveApart, fs_machine::specs::Premises::Honest))]
+    fn unlock<D: Device>(&mut self, hart: u8, core: &mut Core<D>) -> Came<(), Kind>
+        requires at { IsUnlocking self.old }
+        requires may { MayNext hart (give_of self.old) (state_of D.contents D.failures core.old) }
+        requires fits { GiveFits hart (state_of D.contents D.failures core.old) self.old }
+        ensures steps { StepsAt D.contents D.failures D.Called give_of (λ x. x) GiveFits (λ _. Unit {0}) giving.Gone hart self.old self.new result core.old core.new }
+        ensures rest { LeavesApart GiveApart (λ _ _. Unit {0}) (IsOwnInode hart) self.old (stepped_at self.new result) (state_of D.contents D.failures core.old) (state_of D.contents D.failures core.new) }
+    {
+        match mem::replace(self, GiveUp::Gone) {
             GiveUp::Unlock(sizes, held) => {
                 let Held { reference, inode } = held;
                 core.unlock(hart, inode);
                 let drop = DropReference::new(reference, &sizes);
-                Stepped::Ran(GiveUp::Dropping(drop), Kind::Unlock)
+                self.put(GiveUp::Dropping(Some(drop)));
+                Came::Ran(Kind::Unlock)
             }
-            GiveUp::Dropping(drop) => dropping(drop.step(hart, txn, core)),
+            _ => unreachable!(),
+        }
+    }
+
+    fn end(&mut self)
+        requires { self.old ≡ giving.Dropping None }
+        ensures { self.new ≡ giving.Gone }
+    {
+        match mem::replace(self, GiveUp::Gone) {
+            GiveUp::Dropping(place) => match place {
+                None => {}
+                Some(_) => unreachable!(),
+            },
+            _ => unreachable!(),
+        }
+    }
+
+    fn put(&mut self, next: GiveUp)
+        requires { self.old ≡ giving.Gone }
+        ensures { self.new ≡ next }
+    {
+        match mem::replace(self, next) {
+            GiveUp::Gone => {}
+            _ => unreachable!(),
         }
     }
 
@@ -99,19 +152,11 @@ impl GiveUp {
     pub fn retire(self, retired: &RetiredCore) {
         match self {
             GiveUp::Unlock(_, held) => held.retire(retired),
-            GiveUp::Dropping(drop) => drop.retire(retired),
+            GiveUp::Dropping(place) => match place {
+                Some(drop) => drop.retire(retired),
+                None => {}
+            },
+            GiveUp::Gone => {}
         }
-    }
-}
-
-// A drop's step.
-fn dropping(stepped: Stepped<DropReference, (), Kind>) -> Stepped<GiveUp, (), Kind>
-    ensures { result ≡ ends_within (λ m. giving.Dropping m) (λ x. x) stepped }
-{
-    match stepped {
-        Stepped::Waits(drop) => Stepped::Waits(GiveUp::Dropping(drop)),
-        Stepped::Ran(drop, kind) => Stepped::Ran(GiveUp::Dropping(drop), kind),
-        Stepped::Done((), kind) => Stepped::Done((), kind),
-        Stepped::Stopped(drop) => Stepped::Stopped(GiveUp::Dropping(drop)),
     }
 }

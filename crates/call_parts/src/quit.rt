@@ -1,28 +1,28 @@
 //! How a call on a path ends: what it has in hand is given up, and then comes the tail.
 ghost use Rattle.std.specs.Prelude.{◌≡◌, ◌≢◌, ℕ, [], ◌∷◌};
-ghost use Rattle.atomic_programs.specs.Machines.{Still, Left as LeftOf};
 ghost use Rattle.fs_machine.specs.Steps.{State, state_of};
-ghost use Rattle.fs_machine.specs.Machines.{MayNext, Moves, Answers, CallsOnce};
-ghost use Rattle.fs_machine.specs.Tied.{IsOwnInode, LeavesTied};
-ghost use Rattle.inode_data.specs.Machines.{ends_within};
+ghost use Rattle.fs_machine.specs.Machines.{MayNext};
+ghost use Rattle.fs_machine.specs.Places.{StepsAt};
+ghost use Rattle.fs_machine.specs.Tied.{IsOwnInode};
 ghost use Rattle.file_table.specs.Machines.{IsEarly};
-ghost use Rattle.call_parts.specs.Nesting.{Follows};
 ghost use Rattle.call_parts.specs.Spent.{reply_in, IsSpent};
 ghost use Rattle.call_parts.specs.Parts.{quit, unlock_quit, drop_quit};
 ghost use Rattle.call_parts.specs.Taking.{inode_in, IsHeld};
-ghost use Rattle.call_parts.specs.Ends.{give_of, GiveApart, GiveFits, quit_of, QuitFits, tail_for};
+ghost use Rattle.call_parts.specs.Ends.{quit_of, QuitFits, given_of, tail_for, GivenFits, HasGiven, Unlocks};
+ghost use Rattle.call_parts.specs.declared.tail.Tail.TheVariants as tail;
 ghost use Rattle.call_parts.specs.declared.quit.Quit.TheVariants as quitting;
 
 use crate::answered::Answered;
 use crate::give::GiveUp;
 use crate::tail::{Ending, Tail};
 use crate::take::Held;
-use atomic_programs::machines::Stepped;
+use atomic_programs::machines::Came;
 use block_device::Device;
 use fs_machine::{Core, Kind, RetiredCore};
 use fs_tables::{Inode, Reference};
 use group_log::Txn;
 use sleep_lock::Guard;
+use std::mem;
 
 /// The end of a call with a transaction.
 pub enum Quit {
@@ -34,6 +34,8 @@ pub enum Quit {
     Two(Ending, Txn, Held, GiveUp),
     /// Nothing is in hand but the transaction.
     Tail(Tail),
+    /// It has ended, or is being changed.
+    Gone,
 }
 
 impl Quit {
@@ -90,34 +92,110 @@ impl Quit {
         Quit::Two(ending, txn, second, give)
     }
 
-    /// One operation.
-    #[tactic(auto, unfolding(crate::specs::Ends::quit_of, crate::specs::Ends::QuitFits, fs_machine::specs::Premises::Honest))]
-    pub fn step<D: Device>(self, hart: u8, core: &mut Core<D>) -> Stepped<Quit, Answered, Kind>
-        requires may { MayNext hart (quit_of self) (state_of D.contents D.failures core.old) }
-        requires fits { QuitFits hart (state_of D.contents D.failures core.old) self }
-        ensures moves { Moves quit_of reply_in hart self result (state_of D.contents D.failures core.old) (state_of D.contents D.failures core.new) }
-        ensures honest { Answers quit_of hart self result (state_of D.contents D.failures core.old) (state_of D.contents D.failures core.new) }
-        ensures still { Still quit_of result self core.old core.new }
-        ensures fits { LeftOf (QuitFits hart (state_of D.contents D.failures core.new)) IsSpent result }
-        ensures others { LeavesTied hart (state_of D.contents D.failures core.old) (state_of D.contents D.failures core.new) }
-        ensures called { CallsOnce D.Called core.old.log.cache.device core.new.log.cache.device }
+    /// One operation of it in its place.
+    #[tactic(auto, unfolding(crate::specs::Ends::quit_of, crate::specs::Ends::QuitFits))]
+    pub fn step<D: Device>(&mut self, hart: u8, core: &mut Core<D>) -> Came<Answered, Kind>
+        requires may { MayNext hart (quit_of self.old) (state_of D.contents D.failures core.old) }
+        requires fits { QuitFits hart (state_of D.contents D.failures core.old) self.old }
+        ensures steps { StepsAt D.contents D.failures D.Called quit_of reply_in QuitFits IsSpent quitting.Gone hart self.old self.new result core.old core.new }
     {
         match self {
+            Quit::Unlock(_, _, _) => self.unlock(hart, core),
+            Quit::Giving(_, txn, give) => match give.step(hart, txn, core) {
+                Came::Waits => Came::Waits,
+                Came::Ran(kind) => Came::Ran(kind),
+                Came::Done((), kind) => {
+                    self.gave();
+                    Came::Ran(kind)
+                }
+                Came::Stopped => Came::Stopped,
+            },
+            Quit::Two(_, txn, _, give) => match give.step(hart, txn, core) {
+                Came::Waits => Came::Waits,
+                Came::Ran(kind) => Came::Ran(kind),
+                Came::Done((), kind) => {
+                    self.gave();
+                    Came::Ran(kind)
+                }
+                Came::Stopped => Came::Stopped,
+            },
+            Quit::Tail(tail) => match tail.step(hart, core) {
+                Came::Waits => Came::Waits,
+                Came::Ran(kind) => Came::Ran(kind),
+                Came::Done(answered, kind) => {
+                    self.end();
+                    Came::Done(answered, kind)
+                }
+                Came::Stopped => Came::Stopped,
+            },
+            Quit::Gone => unreachable!(),
+        }
+    }
+
+    // The lock is given back.
+    #[tactic(auto, unfolding(crate::specs::Ends::quit_of, crate::specs::Ends::QuitFits, fs_machine::specs::Premises::Honest))]
+    fn unlock<D: Device>(&mut self, hart: u8, core: &mut Core<D>) -> Came<Answered, Kind>
+        requires unlocks { Unlocks self.old }
+        requires may { MayNext hart (quit_of self.old) (state_of D.contents D.failures core.old) }
+        requires fits { QuitFits hart (state_of D.contents D.failures core.old) self.old }
+        ensures steps { StepsAt D.contents D.failures D.Called quit_of reply_in QuitFits IsSpent quitting.Gone hart self.old self.new result core.old core.new }
+    {
+        match mem::replace(self, Quit::Gone) {
             Quit::Unlock(ending, txn, inode) => {
                 core.unlock(hart, inode);
-                Stepped::Ran(Quit::with_nothing(ending, txn), Kind::Unlock)
+                self.put(Quit::with_nothing(ending, txn));
+                Came::Ran(Kind::Unlock)
             }
+            _ => unreachable!(),
+        }
+    }
+
+    // An inode has been given up.
+    #[tactic(auto, unfolding(crate::specs::Ends::quit_of, crate::specs::Ends::QuitFits))]
+    fn gave(&mut self)
+        requires { HasGiven self.old }
+        ensures program { quit_of self.new ≡ given_of self.old }
+        ensures fits { (hart : ℕ) (s : State) → GivenFits hart s self.old → QuitFits hart s self.new }
+    {
+        match mem::replace(self, Quit::Gone) {
             Quit::Giving(ending, txn, give) => {
-                let mut txn = txn;
-                let stepped = give.step(hart, &mut txn, core);
-                giving(ending, txn, stepped)
+                match give {
+                    GiveUp::Gone => {}
+                    _ => unreachable!(),
+                }
+                self.put(Quit::with_nothing(ending, txn));
             }
             Quit::Two(ending, txn, second, give) => {
-                let mut txn = txn;
-                let stepped = give.step(hart, &mut txn, core);
-                giving_first(ending, txn, second, stepped)
+                match give {
+                    GiveUp::Gone => {}
+                    _ => unreachable!(),
+                }
+                self.put(Quit::with_inode(ending, txn, second));
             }
-            Quit::Tail(tail) => tailing(tail.step(hart, core)),
+            _ => unreachable!(),
+        }
+    }
+
+    fn end(&mut self)
+        requires { self.old ≡ quitting.Tail tail.Gone }
+        ensures { self.new ≡ quitting.Gone }
+    {
+        match mem::replace(self, Quit::Gone) {
+            Quit::Tail(tail) => match tail {
+                Tail::Gone => {}
+                _ => unreachable!(),
+            },
+            _ => unreachable!(),
+        }
+    }
+
+    fn put(&mut self, next: Quit)
+        requires { self.old ≡ quitting.Gone }
+        ensures { self.new ≡ next }
+    {
+        match mem::replace(self, next) {
+            Quit::Gone => {}
+            _ => unreachable!(),
         }
     }
 
@@ -141,57 +219,7 @@ impl Quit {
                 give.retire(retired);
             }
             Quit::Tail(tail) => tail.retire(retired),
+            Quit::Gone => {}
         }
-    }
-}
-
-// A step while an inode is given up.
-#[tactic(auto, unfolding(crate::specs::Ends::quit_of, crate::specs::Ends::QuitFits))]
-fn giving(
-    ending: Ending,
-    txn: Txn,
-    stepped: Stepped<GiveUp, (), Kind>,
-) -> Stepped<Quit, Answered, Kind>
-    requires early { IsEarly ending.sizes.inodestart }
-    ensures follows { Follows give_of (λ x. x) quit_of reply_in (λ _. tail_for ending) stepped result }
-    ensures fits { (hart : ℕ) (s : State) → txn ≡ hart → LeftOf (GiveFits hart s) (λ _. Unit {0}) stepped → LeftOf (QuitFits hart s) IsSpent result }
-{
-    match stepped {
-        Stepped::Waits(give) => Stepped::Waits(Quit::Giving(ending, txn, give)),
-        Stepped::Ran(give, kind) => Stepped::Ran(Quit::Giving(ending, txn, give), kind),
-        Stepped::Done((), kind) => Stepped::Ran(Quit::with_nothing(ending, txn), kind),
-        Stepped::Stopped(give) => Stepped::Stopped(Quit::Giving(ending, txn, give)),
-    }
-}
-
-// A step while the first of two inodes is given up.
-#[tactic(auto, unfolding(crate::specs::Ends::quit_of, crate::specs::Ends::QuitFits))]
-fn giving_first(
-    ending: Ending,
-    txn: Txn,
-    second: Held,
-    stepped: Stepped<GiveUp, (), Kind>,
-) -> Stepped<Quit, Answered, Kind>
-    requires early { IsEarly ending.sizes.inodestart }
-    ensures follows { Follows give_of (λ x. x) quit_of reply_in (λ _. quit ending.sizes (inode_in second ∷ []) ending.list ending.reply) stepped result }
-    ensures fits { (hart : ℕ) (s : State) → txn ≡ hart → IsHeld hart second s → LeftOf (λ m. GiveFits hart s m × GiveApart second.reference m) (λ _. Unit {0}) stepped → LeftOf (QuitFits hart s) IsSpent result }
-{
-    match stepped {
-        Stepped::Waits(give) => Stepped::Waits(Quit::Two(ending, txn, second, give)),
-        Stepped::Ran(give, kind) => Stepped::Ran(Quit::Two(ending, txn, second, give), kind),
-        Stepped::Done((), kind) => Stepped::Ran(Quit::with_inode(ending, txn, second), kind),
-        Stepped::Stopped(give) => Stepped::Stopped(Quit::Two(ending, txn, second, give)),
-    }
-}
-
-// A step of the tail.
-fn tailing(stepped: Stepped<Tail, Answered, Kind>) -> Stepped<Quit, Answered, Kind>
-    ensures { result ≡ ends_within (λ m. quitting.Tail m) (λ answered. answered) stepped }
-{
-    match stepped {
-        Stepped::Waits(tail) => Stepped::Waits(Quit::Tail(tail)),
-        Stepped::Ran(tail, kind) => Stepped::Ran(Quit::Tail(tail), kind),
-        Stepped::Done(reply, kind) => Stepped::Done(reply, kind),
-        Stepped::Stopped(tail) => Stepped::Stopped(Quit::Tail(tail)),
     }
 }

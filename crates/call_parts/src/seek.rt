@@ -1,30 +1,33 @@
 //! The last name of a path, looked up in its parent.
 ghost use Rattle.std.specs.Prelude.{◌≡◌, ◌≢◌, ◌+◌, ◌≤◌, ℕ, List, length, All, IfSome, IsSome, IsTrue};
-ghost use Rattle.atomic_programs.specs.Machines.{Still, Left as LeftOf};
+ghost use Rattle.atomic_programs.specs.Machines.{Left as LeftOf, OnDone, stepped_at};
 ghost use Rattle.fs_tables.specs.Limits.{listed_places};
 ghost use Rattle.fs_machine.specs.Steps.{State, state_of};
-ghost use Rattle.fs_machine.specs.Machines.{MayNext, Moves, Answers, CallsOnce};
-ghost use Rattle.fs_machine.specs.Tied.{LeavesTied};
+ghost use Rattle.fs_machine.specs.Machines.{MayNext};
+ghost use Rattle.fs_machine.specs.Places.{StepsAt};
 ghost use Rattle.inode_data.specs.Beginnings.{begun_of, IfBegun};
 ghost use Rattle.inode_data.specs.Records.{record_in};
 ghost use Rattle.file_table.specs.Machines.{IsEarly};
 ghost use Rattle.directory.specs.Programs.{is_live_directory};
 ghost use Rattle.plain_tree.specs.Tree.{elements};
 ghost use Rattle.path_walk.specs.Elements.{name_in, names_of, IsElement};
-ghost use Rattle.call_parts.specs.Nesting.{Follows};
+ghost use Rattle.call_parts.specs.Nesting.{GoesOn};
 ghost use Rattle.call_parts.specs.Parts.{Finds};
-ghost use Rattle.call_parts.specs.Taking.{inode_in, IsHeld, reach_of, ReachFits, reached_as, IsReached, IsThere};
-ghost use Rattle.call_parts.specs.Seeking.{in_looking, is_apart, is_dots, seek, seek_live, seek_of, seek_on, seen_as, seen_of, IsParent, IsSeen, IsSight, SeekFits};
+ghost use Rattle.call_parts.specs.Taking.{inode_in, IsHeld, reached_as, IsReached, IsThere};
+ghost use Rattle.call_parts.specs.Seeking.{is_apart, is_dots, seek, seek_live, seek_of, seek_on, seen_as, seen_in, seen_of, IsLooking, IsSeen, IsSight, SeekFits};
+ghost use Rattle.call_parts.specs.declared.reach.Reach.TheVariants as reaching;
+ghost use Rattle.call_parts.specs.declared.seek.Seek.TheVariants as seeking;
 
 use crate::reach::{Reach, Reached};
 use crate::take::Held;
-use atomic_programs::machines::Stepped;
+use atomic_programs::machines::{Came, Stepped, put};
 use block_device::Device;
 use directory::{Found, Search, Searched, Sought, is_live_directory};
 use fs_machine::{Core, Kind, RetiredCore};
 use fs_tables::{Listed, Reference};
-use inode_data::{Begun, record, went_on};
+use inode_data::{Begun, record};
 use path_walk::{Element, Goal, Stop, next_element};
+use std::mem;
 
 /// How a call takes "." and ".." as a last name.
 #[derive(Clone, Copy, PartialEq, Eq, Debug)]
@@ -62,7 +65,9 @@ pub enum Seek {
     /// The parent is reached and taken.
     Reaching(Dots, Reach),
     /// The name is looked up.
-    Looking(Reference, Element, Listed, Search),
+    Looking(Reference, Element, Listed, Option<Search>),
+    /// It has ended, or is being changed.
+    Gone,
 }
 
 impl Seek {
@@ -84,30 +89,102 @@ impl Seek {
         }
     }
 
-    /// One operation.
+    /// One operation of it in its place.
     #[tactic(auto, unfolding(crate::specs::Seeking::seek_of, crate::specs::Seeking::SeekFits))]
-    pub fn step<D: Device>(
-        self,
-        hart: u8,
-        path: &[u8],
-        core: &mut Core<D>,
-    ) -> Stepped<Seek, Seen, Kind>
+    pub fn step<D: Device>(&mut self, hart: u8, path: &[u8], core: &mut Core<D>) -> Came<Seen, Kind>
         requires nonzero { All (λ b. b ≢ 0) path.now }
-        requires may { MayNext hart (seek_of path.now self) (state_of D.contents D.failures core.old) }
-        requires fits { SeekFits path.now hart (state_of D.contents D.failures core.old) self }
-        ensures moves { Moves (seek_of path.now) (seen_as path.now) hart self result (state_of D.contents D.failures core.old) (state_of D.contents D.failures core.new) }
-        ensures honest { Answers (seek_of path.now) hart self result (state_of D.contents D.failures core.old) (state_of D.contents D.failures core.new) }
-        ensures still { Still (seek_of path.now) result self core.old core.new }
-        ensures fits { LeftOf (SeekFits path.now hart (state_of D.contents D.failures core.new)) (IsSeen path.now hart (state_of D.contents D.failures core.new)) result }
-        ensures others { LeavesTied hart (state_of D.contents D.failures core.old) (state_of D.contents D.failures core.new) }
-        ensures called { CallsOnce D.Called core.old.log.cache.device core.new.log.cache.device }
+        requires may { MayNext hart (seek_of path.now self.old) (state_of D.contents D.failures core.old) }
+        requires fits { SeekFits path.now hart (state_of D.contents D.failures core.old) self.old }
+        ensures steps { StepsAt D.contents D.failures D.Called (seek_of path.now) (seen_as path.now) (SeekFits path.now) (IsSeen path.now hart (state_of D.contents D.failures core.new)) seeking.Gone hart self.old self.new result core.old core.new }
     {
         match self {
-            Seek::Reaching(dots, reach) => reaching(path, dots, reach.step(hart, path, core)),
-            Seek::Looking(parent, element, list, search) => {
-                let name = Sought::Name(&path[element.start..element.end]);
-                looking(parent, element, list, search.step(hart, name, core))
+            Seek::Reaching(dots, reach) => match reach.step(hart, path, core) {
+                Came::Waits => Came::Waits,
+                Came::Ran(kind) => Came::Ran(kind),
+                Came::Done(reached, kind) => {
+                    let dots = *dots;
+                    self.reached(path, dots, reached, kind)
+                }
+                Came::Stopped => Came::Stopped,
+            },
+            Seek::Looking(_, element, _, place) => match mem::replace(place, None) {
+                Some(search) => {
+                    let name = Sought::Name(&path[element.start..element.end]);
+                    match search.step(hart, name, core) {
+                        Stepped::Waits(search) => {
+                            put(place, search);
+                            Came::Waits
+                        }
+                        Stepped::Ran(search, kind) => {
+                            put(place, search);
+                            Came::Ran(kind)
+                        }
+                        Stepped::Done(searched, kind) => Came::Done(self.looked(searched), kind),
+                        Stepped::Stopped(search) => {
+                            put(place, search);
+                            Came::Stopped
+                        }
+                    }
+                }
+                None => unreachable!(),
+            },
+            Seek::Gone => unreachable!(),
+        }
+    }
+
+    // The parent has been reached.
+    #[tactic(auto, unfolding(crate::specs::Seeking::seek_of, crate::specs::Seeking::SeekFits))]
+    fn reached(&mut self, path: &[u8], dots: Dots, reached: Reached, kind: Kind) -> Came<Seen, Kind>
+        requires reaching { self.old ≡ seeking.Reaching dots reaching.Gone }
+        requires there { IsThere path.now reached }
+        ensures follows { GoesOn (seek_of path.now) (seen_as path.now) kind (seek_on dots (reached_as path.now reached)) (stepped_at self.new result) }
+        ensures fits { (hart : ℕ) (s : State) → IsReached path.now hart s reached → LeftOf (SeekFits path.now hart s) (IsSeen path.now hart s) (stepped_at self.new result) }
+        ensures ended { OnDone result (self.new ≡ seeking.Gone) }
+    {
+        match mem::replace(self, Seek::Gone) {
+            Seek::Reaching(_, reach) => match reach {
+                Reach::Gone => {}
+                _ => unreachable!(),
+            },
+            _ => unreachable!(),
+        }
+        match reached {
+            Reached::At(held, last, list) => match at(path, dots, held, last, list) {
+                Begun::Runs(seek) => {
+                    self.put(seek);
+                    Came::Ran(kind)
+                }
+                Begun::Is(seen) => Came::Done(seen, kind),
+            },
+            Reached::Lost(why, list) => Came::Done(Seen::Lost(why, list), kind),
+        }
+    }
+
+    // The name has been looked up.
+    fn looked(&mut self, searched: Searched) -> Seen
+        requires { IsLooking self.old }
+        ensures seen { result ≡ seen_in self.old searched }
+        ensures ended { self.new ≡ seeking.Gone }
+    {
+        match mem::replace(self, Seek::Gone) {
+            Seek::Looking(parent, element, list, place) => {
+                match place {
+                    None => {}
+                    Some(_) => unreachable!(),
+                }
+                looked(parent, element, list, searched)
             }
+            _ => unreachable!(),
+        }
+    }
+
+    fn put(&mut self, next: Seek)
+        requires { self.old ≡ seeking.Gone }
+        ensures { self.new ≡ next }
+    {
+        match mem::replace(self, next) {
+            Seek::Gone => {}
+            _ => unreachable!(),
         }
     }
 
@@ -115,11 +192,15 @@ impl Seek {
     pub fn retire(self, retired: &RetiredCore) {
         match self {
             Seek::Reaching(_, reach) => reach.retire(retired),
-            Seek::Looking(parent, _, list, search) => {
+            Seek::Looking(parent, _, list, place) => {
                 parent.retire(&retired.inodes);
                 list.retire(&retired.inodes);
-                search.retire(retired);
+                match place {
+                    Some(search) => search.retire(retired),
+                    None => {}
+                }
             }
+            Seek::Gone => {}
         }
     }
 }
@@ -162,7 +243,7 @@ fn live(path: &[u8], dots: Dots, held: Held, element: Element, list: Listed) -> 
     }
     let Held { reference, inode } = held;
     match Search::begin(inode) {
-        Begun::Runs(search) => Begun::Runs(Seek::Looking(reference, element, list, search)),
+        Begun::Runs(search) => Begun::Runs(Seek::Looking(reference, element, list, Some(search))),
         Begun::Is(searched) => Begun::Is(looked(reference, element, list, searched)),
     }
 }
@@ -187,28 +268,6 @@ fn at(path: &[u8], dots: Dots, held: Held, last: Option<Element>, list: Listed) 
     }
 }
 
-// A step while the parent is reached.
-#[tactic(auto, unfolding(crate::specs::Seeking::seek_of, crate::specs::Seeking::SeekFits))]
-fn reaching(
-    path: &[u8],
-    dots: Dots,
-    stepped: Stepped<Reach, Reached, Kind>,
-) -> Stepped<Seek, Seen, Kind>
-    requires there { LeftOf (λ _. Unit {0}) (IsThere path.now) stepped }
-    ensures follows { Follows (reach_of path.now) (reached_as path.now) (seek_of path.now) (seen_as path.now) (seek_on dots) stepped result }
-    ensures fits { (hart : ℕ) (s : State) → LeftOf (ReachFits path.now hart s) (IsReached path.now hart s) stepped → LeftOf (SeekFits path.now hart s) (IsSeen path.now hart s) result }
-{
-    match stepped {
-        Stepped::Waits(reach) => Stepped::Waits(Seek::Reaching(dots, reach)),
-        Stepped::Ran(reach, kind) => Stepped::Ran(Seek::Reaching(dots, reach), kind),
-        Stepped::Done(reached, kind) => match reached {
-            Reached::At(held, last, list) => went_on(at(path, dots, held, last, list), kind),
-            Reached::Lost(why, list) => Stepped::Done(Seen::Lost(why, list), kind),
-        },
-        Stepped::Stopped(reach) => Stepped::Stopped(Seek::Reaching(dots, reach)),
-    }
-}
-
 // What a search that is done comes to.
 fn looked(parent: Reference, element: Element, list: Listed, searched: Searched) -> Seen
     ensures { result ≡ seen_of parent element list searched }
@@ -223,27 +282,4 @@ fn looked(parent: Reference, element: Element, list: Listed, searched: Searched)
         found,
         list,
     })
-}
-
-// A search's step, while the name is looked up.
-fn looking(
-    parent: Reference,
-    element: Element,
-    list: Listed,
-    stepped: Stepped<Search, Searched, Kind>,
-) -> Stepped<Seek, Seen, Kind>
-    ensures { result ≡ in_looking parent element list stepped }
-{
-    match stepped {
-        Stepped::Waits(search) => Stepped::Waits(Seek::Looking(parent, element, list, search)),
-        Stepped::Ran(search, kind) => {
-            Stepped::Ran(Seek::Looking(parent, element, list, search), kind)
-        }
-        Stepped::Done(searched, kind) => {
-            Stepped::Done(looked(parent, element, list, searched), kind)
-        }
-        Stepped::Stopped(search) => {
-            Stepped::Stopped(Seek::Looking(parent, element, list, search))
-        }
-    }
 }

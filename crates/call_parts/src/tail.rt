@@ -1,21 +1,18 @@
 //! How a call ends that has walked in a transaction.
 ghost use Rattle.std.specs.Prelude.{◌≡◌, ℕ, IsSome};
-ghost use Rattle.atomic_programs.specs.Machines.{Still, Left as LeftOf};
 ghost use Rattle.fs_machine.specs.Steps.{State, state_of};
-ghost use Rattle.fs_machine.specs.Machines.{MayNext, Moves, Answers, CallsOnce};
-ghost use Rattle.fs_machine.specs.Tied.{IsOwnInode, LeavesTied};
-ghost use Rattle.fs_machine.specs.Fetching.{finish_of, FinishFits};
+ghost use Rattle.fs_machine.specs.Machines.{MayNext};
+ghost use Rattle.fs_machine.specs.Places.{StepsAt};
+ghost use Rattle.fs_machine.specs.Tied.{IsOwnInode};
 ghost use Rattle.inode_table.specs.Programs.{record_of};
-ghost use Rattle.inode_table.specs.Machines.{load_of, LoadFits};
-ghost use Rattle.inode_data.specs.Dropping.{free_inode_of, FreeInodeFits};
 ghost use Rattle.file_table.specs.Machines.{IsEarly};
-ghost use Rattle.call_parts.specs.Nesting.{Follows};
 ghost use Rattle.call_parts.specs.Spent.{reply_in, IsSpent};
-ghost use Rattle.call_parts.specs.Programs.{tail, free_locked};
-ghost use Rattle.call_parts.specs.Tails.{tail_of, TailFits, rest_of, leave_freed, free_loaded};
+ghost use Rattle.call_parts.specs.Programs.{tail as tail_program, free_locked};
+ghost use Rattle.call_parts.specs.Tails.{tail_of, TailFits, rest_of, free_loaded, joined_in, FreedTo, HasFreed, HasLeft, HasLoaded, HasLocked, IsFreeing, IsJoining, IsLeaving, IsLoading, IsSaying, LeftTo, LoadedTo, LockedTo, SaidAs};
+ghost use Rattle.call_parts.specs.declared.tail.Tail.TheVariants as tail;
 
 use crate::answered::Answered;
-use atomic_programs::machines::Stepped;
+use atomic_programs::machines::{Came, Stepped, put};
 use block_device::Device;
 use fs_layout::{Dinode, Super};
 use fs_machine::{Core, Finish, Kind, RetiredCore};
@@ -25,6 +22,7 @@ use inode_data::FreeInode;
 use inode_table::LoadInode;
 use plain_tree::Reply;
 use sleep_lock::Guard;
+use std::mem;
 
 /// What a call has to do at its end.
 pub struct Ending {
@@ -50,17 +48,19 @@ impl Ending {
 /// Leaves a call's transaction, frees each inode of its list in a transaction of its own, and gives the reply.
 pub enum Tail {
     /// A transaction is left.
-    Leaving(Ending, Finish),
+    Leaving(Ending, Option<Finish>),
     /// A transaction is joined, to free this inode.
     Join(Ending, Reference),
     /// The inode's lock is taken.
     Lock(Ending, Reference, Txn),
     /// The inode is loaded.
-    Loading(Ending, Reference, Txn, Guard<Inode>, LoadInode),
+    Loading(Ending, Reference, Txn, Guard<Inode>, Option<LoadInode>),
     /// The inode is freed.
-    Freeing(Ending, Txn, FreeInode),
+    Freeing(Ending, Txn, Option<FreeInode>),
     /// The reply is given, with the list, which is empty.
     Say(Reply, Listed),
+    /// It has ended, or is being changed.
+    Gone,
 }
 
 impl Tail {
@@ -68,55 +68,259 @@ impl Tail {
     #[tactic(auto, unfolding(crate::specs::Tails::tail_of, crate::specs::Tails::TailFits, fs_machine::specs::Fetching::finish_of, fs_machine::specs::Fetching::FinishFits))]
     pub fn new(ending: Ending, txn: Txn) -> Tail
         requires { IsEarly ending.sizes.inodestart }
-        ensures program { tail_of result ≡ tail ending.sizes ending.list ending.reply }
+        ensures program { tail_of result ≡ tail_program ending.sizes ending.list ending.reply }
         ensures fits { (hart : ℕ) (s : State) → txn ≡ hart → TailFits hart s result }
     {
-        Tail::Leaving(ending, Finish::Leave(txn))
+        Tail::Leaving(ending, Some(Finish::Leave(txn)))
     }
 
-    /// One operation.
+    /// One operation of it in its place.
     #[tactic(auto, unfolding(crate::specs::Tails::tail_of, crate::specs::Tails::TailFits, fs_machine::specs::Premises::Honest))]
-    pub fn step<D: Device>(self, hart: u8, core: &mut Core<D>) -> Stepped<Tail, Answered, Kind>
-        requires may { MayNext hart (tail_of self) (state_of D.contents D.failures core.old) }
-        requires fits { TailFits hart (state_of D.contents D.failures core.old) self }
-        ensures moves { Moves tail_of reply_in hart self result (state_of D.contents D.failures core.old) (state_of D.contents D.failures core.new) }
-        ensures honest { Answers tail_of hart self result (state_of D.contents D.failures core.old) (state_of D.contents D.failures core.new) }
-        ensures still { Still tail_of result self core.old core.new }
-        ensures fits { LeftOf (TailFits hart (state_of D.contents D.failures core.new)) IsSpent result }
-        ensures others { LeavesTied hart (state_of D.contents D.failures core.old) (state_of D.contents D.failures core.new) }
-        ensures called { CallsOnce D.Called core.old.log.cache.device core.new.log.cache.device }
+    pub fn step<D: Device>(&mut self, hart: u8, core: &mut Core<D>) -> Came<Answered, Kind>
+        requires may { MayNext hart (tail_of self.old) (state_of D.contents D.failures core.old) }
+        requires fits { TailFits hart (state_of D.contents D.failures core.old) self.old }
+        ensures steps { StepsAt D.contents D.failures D.Called tail_of reply_in TailFits IsSpent tail.Gone hart self.old self.new result core.old core.new }
     {
         match self {
-            Tail::Leaving(ending, finish) => leaving(ending, finish.step(hart, core)),
-            Tail::Join(ending, reference) => match core.join(hart) {
-                None => Stepped::Waits(Tail::Join(ending, reference)),
-                Some(txn) => Stepped::Ran(Tail::Lock(ending, reference, txn), Kind::Join),
+            Tail::Leaving(_, _) => self.leave(hart, core),
+            Tail::Join(_, _) => match core.join(hart) {
+                None => Came::Waits,
+                Some(txn) => {
+                    self.joined(txn);
+                    Came::Ran(Kind::Join)
+                }
             },
-            Tail::Lock(ending, reference, txn) => match core.lock(hart, &reference) {
-                None => Stepped::Waits(Tail::Lock(ending, reference, txn)),
-                Some(guard) => Stepped::Ran(locked(ending, reference, txn, guard), Kind::Lock),
+            Tail::Lock(_, reference, _) => match core.lock(hart, reference) {
+                None => Came::Waits,
+                Some(guard) => {
+                    self.locked(guard);
+                    Came::Ran(Kind::Lock)
+                }
             },
-            Tail::Loading(ending, reference, txn, guard, load) => {
-                loading(ending, reference, txn, guard, load.step(hart, core))
-            }
-            Tail::Freeing(ending, txn, free) => {
-                let mut txn = txn;
-                let stepped = free.step(hart, &mut txn, core);
-                freeing(ending, txn, stepped)
-            }
-            Tail::Say(reply, list) => {
+            Tail::Loading(_, _, _, _, _) => self.load(hart, core),
+            Tail::Freeing(_, _, _) => self.free(hart, core),
+            Tail::Say(_, _) => {
                 core.reply(hart);
-                Stepped::Done(Answered { reply, list }, Kind::Reply)
+                Came::Done(self.said(), Kind::Reply)
             }
+            Tail::Gone => unreachable!(),
+        }
+    }
+
+    // A step while a transaction is left.
+    #[tactic(auto, unfolding(crate::specs::Tails::tail_of, crate::specs::Tails::TailFits))]
+    fn leave<D: Device>(&mut self, hart: u8, core: &mut Core<D>) -> Came<Answered, Kind>
+        requires at { IsLeaving self.old }
+        requires may { MayNext hart (tail_of self.old) (state_of D.contents D.failures core.old) }
+        requires fits { TailFits hart (state_of D.contents D.failures core.old) self.old }
+        ensures steps { StepsAt D.contents D.failures D.Called tail_of reply_in TailFits IsSpent tail.Gone hart self.old self.new result core.old core.new }
+    {
+        match self {
+            Tail::Leaving(_, place) => match mem::replace(place, None) {
+                Some(finish) => match finish.step(hart, core) {
+                    Stepped::Waits(finish) => {
+                        put(place, finish);
+                        Came::Waits
+                    }
+                    Stepped::Ran(finish, kind) => {
+                        put(place, finish);
+                        Came::Ran(kind)
+                    }
+                    Stepped::Done((), kind) => {
+                        self.left();
+                        Came::Ran(kind)
+                    }
+                    Stepped::Stopped(finish) => {
+                        put(place, finish);
+                        Came::Stopped
+                    }
+                },
+                None => unreachable!(),
+            },
+            _ => unreachable!(),
+        }
+    }
+
+    // A step while an inode is loaded.
+    #[tactic(auto, unfolding(crate::specs::Tails::tail_of, crate::specs::Tails::TailFits))]
+    fn load<D: Device>(&mut self, hart: u8, core: &mut Core<D>) -> Came<Answered, Kind>
+        requires at { IsLoading self.old }
+        requires may { MayNext hart (tail_of self.old) (state_of D.contents D.failures core.old) }
+        requires fits { TailFits hart (state_of D.contents D.failures core.old) self.old }
+        ensures steps { StepsAt D.contents D.failures D.Called tail_of reply_in TailFits IsSpent tail.Gone hart self.old self.new result core.old core.new }
+    {
+        match self {
+            Tail::Loading(_, _, _, _, place) => match mem::replace(place, None) {
+                Some(load) => match load.step(hart, core) {
+                    Stepped::Waits(load) => {
+                        put(place, load);
+                        Came::Waits
+                    }
+                    Stepped::Ran(load, kind) => {
+                        put(place, load);
+                        Came::Ran(kind)
+                    }
+                    Stepped::Done(inode, kind) => {
+                        self.loaded(inode);
+                        Came::Ran(kind)
+                    }
+                    Stepped::Stopped(load) => {
+                        put(place, load);
+                        Came::Stopped
+                    }
+                },
+                None => unreachable!(),
+            },
+            _ => unreachable!(),
+        }
+    }
+
+    // A step while an inode is freed.
+    #[tactic(auto, unfolding(crate::specs::Tails::tail_of, crate::specs::Tails::TailFits))]
+    fn free<D: Device>(&mut self, hart: u8, core: &mut Core<D>) -> Came<Answered, Kind>
+        requires at { IsFreeing self.old }
+        requires may { MayNext hart (tail_of self.old) (state_of D.contents D.failures core.old) }
+        requires fits { TailFits hart (state_of D.contents D.failures core.old) self.old }
+        ensures steps { StepsAt D.contents D.failures D.Called tail_of reply_in TailFits IsSpent tail.Gone hart self.old self.new result core.old core.new }
+    {
+        match self {
+            Tail::Freeing(_, txn, place) => match mem::replace(place, None) {
+                Some(free) => match free.step(hart, txn, core) {
+                    Stepped::Waits(free) => {
+                        put(place, free);
+                        Came::Waits
+                    }
+                    Stepped::Ran(free, kind) => {
+                        put(place, free);
+                        Came::Ran(kind)
+                    }
+                    Stepped::Done((), kind) => {
+                        self.freed();
+                        Came::Ran(kind)
+                    }
+                    Stepped::Stopped(free) => {
+                        put(place, free);
+                        Came::Stopped
+                    }
+                },
+                None => unreachable!(),
+            },
+            _ => unreachable!(),
+        }
+    }
+
+    // A transaction has been left.
+    #[tactic(auto, unfolding(crate::specs::Tails::tail_of, crate::specs::Tails::TailFits))]
+    fn left(&mut self)
+        requires { HasLeft self.old }
+        ensures { LeftTo self.old self.new }
+    {
+        match mem::replace(self, Tail::Gone) {
+            Tail::Leaving(ending, place) => {
+                match place {
+                    None => {}
+                    Some(_) => unreachable!(),
+                }
+                self.put(next(ending));
+            }
+            _ => unreachable!(),
+        }
+    }
+
+    // A transaction has been joined.
+    #[tactic(auto, unfolding(crate::specs::Tails::tail_of, crate::specs::Tails::TailFits))]
+    fn joined(&mut self, txn: Txn)
+        requires { IsJoining self.old }
+        ensures { self.new ≡ joined_in txn self.old }
+    {
+        match mem::replace(self, Tail::Gone) {
+            Tail::Join(ending, reference) => self.put(Tail::Lock(ending, reference, txn)),
+            _ => unreachable!(),
+        }
+    }
+
+    // An inode's lock is had.
+    #[tactic(auto, unfolding(crate::specs::Tails::tail_of, crate::specs::Tails::TailFits))]
+    fn locked(&mut self, guard: Guard<Inode>)
+        requires { HasLocked guard self.old }
+        ensures { LockedTo guard self.old self.new }
+    {
+        match mem::replace(self, Tail::Gone) {
+            Tail::Lock(ending, reference, txn) => {
+                self.put(locked(ending, reference, txn, guard));
+            }
+            _ => unreachable!(),
+        }
+    }
+
+    // An inode has been loaded.
+    #[tactic(auto, unfolding(crate::specs::Tails::tail_of, crate::specs::Tails::TailFits))]
+    fn loaded(&mut self, inode: Dinode)
+        requires { HasLoaded self.old }
+        ensures { LoadedTo inode self.old self.new }
+    {
+        match mem::replace(self, Tail::Gone) {
+            Tail::Loading(ending, reference, txn, mut guard, place) => {
+                match place {
+                    None => {}
+                    Some(_) => unreachable!(),
+                }
+                guard.value_mut().content = Some(inode);
+                self.put(free(ending, reference, txn, guard));
+            }
+            _ => unreachable!(),
+        }
+    }
+
+    // An inode has been freed.
+    #[tactic(auto, unfolding(crate::specs::Tails::tail_of, crate::specs::Tails::TailFits, fs_machine::specs::Fetching::finish_of, fs_machine::specs::Fetching::FinishFits))]
+    fn freed(&mut self)
+        requires { HasFreed self.old }
+        ensures { FreedTo self.old self.new }
+    {
+        match mem::replace(self, Tail::Gone) {
+            Tail::Freeing(ending, txn, place) => {
+                match place {
+                    None => {}
+                    Some(_) => unreachable!(),
+                }
+                self.put(Tail::Leaving(ending, Some(Finish::Leave(txn))));
+            }
+            _ => unreachable!(),
+        }
+    }
+
+    // The reply has been given.
+    fn said(&mut self) -> Answered
+        requires { IsSaying self.old }
+        ensures answered { SaidAs self.old result }
+        ensures ended { self.new ≡ tail.Gone }
+    {
+        match mem::replace(self, Tail::Gone) {
+            Tail::Say(reply, list) => Answered { reply, list },
+            _ => unreachable!(),
+        }
+    }
+
+    fn put(&mut self, next: Tail)
+        requires { self.old ≡ tail.Gone }
+        ensures { self.new ≡ next }
+    {
+        match mem::replace(self, next) {
+            Tail::Gone => {}
+            _ => unreachable!(),
         }
     }
 
     /// Ends it in mid-call, after all that harts share has ended.
     pub fn retire(self, retired: &RetiredCore) {
         match self {
-            Tail::Leaving(ending, finish) => {
+            Tail::Leaving(ending, place) => {
                 ending.retire(retired);
-                finish.retire(retired);
+                match place {
+                    Some(finish) => finish.retire(retired),
+                    None => {}
+                }
             }
             Tail::Join(ending, reference) => {
                 ending.retire(retired);
@@ -127,19 +331,26 @@ impl Tail {
                 reference.retire(&retired.inodes);
                 txn.retire(&retired.log);
             }
-            Tail::Loading(ending, reference, txn, guard, load) => {
+            Tail::Loading(ending, reference, txn, guard, place) => {
                 ending.retire(retired);
                 reference.retire(&retired.inodes);
                 txn.retire(&retired.log);
                 guard.retire_in_row(&retired.inodes);
-                load.retire(retired);
+                match place {
+                    Some(load) => load.retire(retired),
+                    None => {}
+                }
             }
-            Tail::Freeing(ending, txn, free) => {
+            Tail::Freeing(ending, txn, place) => {
                 ending.retire(retired);
                 txn.retire(&retired.log);
-                free.retire(retired);
+                match place {
+                    Some(free) => free.retire(retired),
+                    None => {}
+                }
             }
             Tail::Say(_, list) => list.retire(&retired.inodes),
+            Tail::Gone => {}
         }
     }
 }
@@ -172,7 +383,7 @@ fn free(ending: Ending, reference: Reference, txn: Txn, guard: Guard<Inode>) -> 
     ensures fits { (hart : ℕ) (s : State) → txn ≡ hart → IsOwnInode hart reference guard s → TailFits hart s result }
 {
     let free = FreeInode::new(reference, guard, &ending.sizes);
-    Tail::Freeing(ending, txn, free)
+    Tail::Freeing(ending, txn, Some(free))
 }
 
 // The inode's lock is had: it is to be loaded, unless it is.
@@ -187,73 +398,7 @@ fn locked(ending: Ending, reference: Reference, txn: Txn, guard: Guard<Inode>) -
         Some(_) => free(ending, reference, txn, guard),
         None => {
             let load = LoadInode::new(ending.sizes.inodestart, reference.number());
-            Tail::Loading(ending, reference, txn, guard, load)
+            Tail::Loading(ending, reference, txn, guard, Some(load))
         }
-    }
-}
-
-// A step while a transaction is left.
-#[tactic(auto, unfolding(crate::specs::Tails::tail_of, crate::specs::Tails::TailFits))]
-fn leaving(ending: Ending, stepped: Stepped<Finish, (), Kind>) -> Stepped<Tail, Answered, Kind>
-    requires early { IsEarly ending.sizes.inodestart }
-    ensures follows { Follows finish_of (λ x. x) tail_of reply_in (λ _. rest_of ending) stepped result }
-    ensures fits { (hart : ℕ) (s : State) → LeftOf (FinishFits hart) (λ _. Unit {0}) stepped → LeftOf (TailFits hart s) IsSpent result }
-{
-    match stepped {
-        Stepped::Waits(finish) => Stepped::Waits(Tail::Leaving(ending, finish)),
-        Stepped::Ran(finish, kind) => Stepped::Ran(Tail::Leaving(ending, finish), kind),
-        Stepped::Done((), kind) => Stepped::Ran(next(ending), kind),
-        Stepped::Stopped(finish) => Stepped::Stopped(Tail::Leaving(ending, finish)),
-    }
-}
-
-// A step while an inode is loaded.
-#[tactic(auto, unfolding(crate::specs::Tails::tail_of, crate::specs::Tails::TailFits))]
-fn loading(
-    ending: Ending,
-    reference: Reference,
-    txn: Txn,
-    guard: Guard<Inode>,
-    stepped: Stepped<LoadInode, Dinode, Kind>,
-) -> Stepped<Tail, Answered, Kind>
-    requires early { IsEarly ending.sizes.inodestart }
-    requires same { guard.value.number ≡ reference }
-    ensures follows { Follows load_of (λ d. d) tail_of reply_in (free_loaded ending reference) stepped result }
-    ensures fits { (hart : ℕ) (s : State) → txn ≡ hart → IsOwnInode hart reference guard s → LeftOf (LoadFits hart s) (λ _. Unit {0}) stepped → LeftOf (TailFits hart s) IsSpent result }
-{
-    match stepped {
-        Stepped::Waits(load) => {
-            Stepped::Waits(Tail::Loading(ending, reference, txn, guard, load))
-        }
-        Stepped::Ran(load, kind) => {
-            Stepped::Ran(Tail::Loading(ending, reference, txn, guard, load), kind)
-        }
-        Stepped::Done(inode, kind) => {
-            let mut guard = guard;
-            guard.value_mut().content = Some(inode);
-            Stepped::Ran(free(ending, reference, txn, guard), kind)
-        }
-        Stepped::Stopped(load) => {
-            Stepped::Stopped(Tail::Loading(ending, reference, txn, guard, load))
-        }
-    }
-}
-
-// A step while an inode is freed.
-#[tactic(auto, unfolding(crate::specs::Tails::tail_of, crate::specs::Tails::TailFits, fs_machine::specs::Fetching::finish_of, fs_machine::specs::Fetching::FinishFits))]
-fn freeing(
-    ending: Ending,
-    txn: Txn,
-    stepped: Stepped<FreeInode, (), Kind>,
-) -> Stepped<Tail, Answered, Kind>
-    requires early { IsEarly ending.sizes.inodestart }
-    ensures follows { Follows free_inode_of (λ x. x) tail_of reply_in (λ _. leave_freed ending) stepped result }
-    ensures fits { (hart : ℕ) (s : State) → txn ≡ hart → LeftOf (FreeInodeFits hart s) (λ _. Unit {0}) stepped → LeftOf (TailFits hart s) IsSpent result }
-{
-    match stepped {
-        Stepped::Waits(free) => Stepped::Waits(Tail::Freeing(ending, txn, free)),
-        Stepped::Ran(free, kind) => Stepped::Ran(Tail::Freeing(ending, txn, free), kind),
-        Stepped::Done((), kind) => Stepped::Ran(Tail::Leaving(ending, Finish::Leave(txn)), kind),
-        Stepped::Stopped(free) => Stepped::Stopped(Tail::Freeing(ending, txn, free)),
     }
 }

@@ -1,21 +1,24 @@
 //! An inode taken: its lock is had, and it is loaded.
 ghost use Rattle.std.specs.Prelude.{◌≡◌, ◌≢◌, ℕ};
-ghost use Rattle.atomic_programs.specs.Machines.{Still, Left as LeftOf};
+ghost use Rattle.atomic_programs.specs.Machines.{stepped_at};
 ghost use Rattle.fs_machine.specs.Steps.{State, state_of};
-ghost use Rattle.fs_machine.specs.Machines.{MayNext, Moves, Answers, CallsOnce};
-ghost use Rattle.fs_machine.specs.Tied.{IsOwnInode, LeavesTied};
+ghost use Rattle.fs_machine.specs.Machines.{MayNext};
+ghost use Rattle.fs_machine.specs.Tied.{IsOwnInode};
+ghost use Rattle.fs_machine.specs.Places.{StepsAt};
 ghost use Rattle.fs_machine.specs.Stays.{LeavesApart};
 ghost use Rattle.file_table.specs.Machines.{IsEarly};
 ghost use Rattle.call_parts.specs.Parts.{take_inode};
-ghost use Rattle.call_parts.specs.Taking.{take_of, TakeApart, TakeFits, inode_in, IsHeld, in_take};
+ghost use Rattle.call_parts.specs.Taking.{take_of, TakeApart, TakeFits, inode_in, loading_in, IsHeld, IsLoading, IsLocking, LoadedAs, TakenAs};
+ghost use Rattle.call_parts.specs.declared.take.TakeInode.TheVariants as taking;
 
-use atomic_programs::machines::Stepped;
+use atomic_programs::machines::{Came, Stepped, put};
 use block_device::Device;
 use fs_layout::Dinode;
 use fs_machine::{Core, Kind, RetiredCore};
 use fs_tables::{Inode, Reference};
 use inode_table::LoadInode;
 use sleep_lock::Guard;
+use std::mem;
 
 /// An inode in a hart's hand: the reference to it, and its lock.
 pub struct Held {
@@ -37,7 +40,9 @@ pub enum TakeInode {
     /// The lock is taken, on a disk whose inode blocks begin at this block.
     Lock(u32, Reference),
     /// It is had, and the inode is loaded.
-    Loading(Reference, Guard<Inode>, LoadInode),
+    Loading(Reference, Guard<Inode>, Option<LoadInode>),
+    /// It has ended, or is being changed.
+    Gone,
 }
 
 impl TakeInode {
@@ -52,33 +57,99 @@ impl TakeInode {
         TakeInode::Lock(inodestart, reference)
     }
 
-    /// One operation.
-    #[tactic(auto, unfolding(crate::specs::Taking::take_of, crate::specs::Taking::TakeFits, fs_machine::specs::Premises::Honest))]
-    pub fn step<D: Device>(self, hart: u8, core: &mut Core<D>) -> Stepped<TakeInode, Held, Kind>
-        requires may { MayNext hart (take_of self) (state_of D.contents D.failures core.old) }
-        requires fits { TakeFits hart (state_of D.contents D.failures core.old) self }
-        ensures moves { Moves take_of inode_in hart self result (state_of D.contents D.failures core.old) (state_of D.contents D.failures core.new) }
-        ensures honest { Answers take_of hart self result (state_of D.contents D.failures core.old) (state_of D.contents D.failures core.new) }
-        ensures still { Still take_of result self core.old core.new }
-        ensures fits { LeftOf (TakeFits hart (state_of D.contents D.failures core.new)) (λ held. IsHeld hart held (state_of D.contents D.failures core.new)) result }
-        ensures others { LeavesTied hart (state_of D.contents D.failures core.old) (state_of D.contents D.failures core.new) }
-        ensures called { CallsOnce D.Called core.old.log.cache.device core.new.log.cache.device }
-        ensures rest { LeavesApart TakeApart (λ k held. k ≢ held.reference) (IsOwnInode hart) self result (state_of D.contents D.failures core.old) (state_of D.contents D.failures core.new) }
+    /// One operation of it in its place.
+    #[tactic(auto, unfolding(crate::specs::Taking::take_of, crate::specs::Taking::TakeFits, crate::specs::Taking::TakeApart, fs_machine::specs::Premises::Honest))]
+    pub fn step<D: Device>(&mut self, hart: u8, core: &mut Core<D>) -> Came<Held, Kind>
+        requires may { MayNext hart (take_of self.old) (state_of D.contents D.failures core.old) }
+        requires fits { TakeFits hart (state_of D.contents D.failures core.old) self.old }
+        ensures steps { StepsAt D.contents D.failures D.Called take_of inode_in TakeFits (λ held. IsHeld hart held (state_of D.contents D.failures core.new)) taking.Gone hart self.old self.new result core.old core.new }
+        ensures rest { LeavesApart TakeApart (λ k held. k ≢ held.reference) (IsOwnInode hart) self.old (stepped_at self.new result) (state_of D.contents D.failures core.old) (state_of D.contents D.failures core.new) }
     {
         match self {
-            TakeInode::Lock(inodestart, reference) => match core.lock(hart, &reference) {
-                None => Stepped::Waits(TakeInode::Lock(inodestart, reference)),
+            TakeInode::Lock(inodestart, reference) => match core.lock(hart, reference) {
+                None => Came::Waits,
                 Some(inode) => match inode.value().content {
-                    Some(_) => Stepped::Done(Held { reference, inode }, Kind::Lock),
+                    Some(_) => Came::Done(self.held(inode), Kind::Lock),
                     None => {
-                        let load = LoadInode::new(inodestart, reference.number());
-                        Stepped::Ran(TakeInode::Loading(reference, inode, load), Kind::Lock)
+                        let load = LoadInode::new(*inodestart, reference.number());
+                        self.load(inode, load);
+                        Came::Ran(Kind::Lock)
                     }
                 },
             },
-            TakeInode::Loading(reference, inode, load) => {
-                loading(reference, inode, load.step(hart, core))
+            TakeInode::Loading(_, _, place) => match mem::replace(place, None) {
+                Some(load) => match load.step(hart, core) {
+                    Stepped::Waits(load) => {
+                        put(place, load);
+                        Came::Waits
+                    }
+                    Stepped::Ran(load, kind) => {
+                        put(place, load);
+                        Came::Ran(kind)
+                    }
+                    Stepped::Done(content, kind) => Came::Done(self.loaded(content), kind),
+                    Stepped::Stopped(load) => {
+                        put(place, load);
+                        Came::Stopped
+                    }
+                },
+                None => unreachable!(),
+            },
+            TakeInode::Gone => unreachable!(),
+        }
+    }
+
+    // The lock is had, and the inode is loaded already.
+    fn held(&mut self, inode: Guard<Inode>) -> Held
+        requires { IsLocking self.old }
+        ensures held { TakenAs inode self.old result }
+        ensures ended { self.new ≡ taking.Gone }
+    {
+        match mem::replace(self, TakeInode::Gone) {
+            TakeInode::Lock(_, reference) => Held { reference, inode },
+            _ => unreachable!(),
+        }
+    }
+
+    // The lock is had, and the inode is to be loaded.
+    fn load(&mut self, inode: Guard<Inode>, load: LoadInode)
+        requires { IsLocking self.old }
+        ensures { self.new ≡ loading_in inode load self.old }
+    {
+        match mem::replace(self, TakeInode::Gone) {
+            TakeInode::Lock(_, reference) => {
+                self.put(TakeInode::Loading(reference, inode, Some(load)));
             }
+            _ => unreachable!(),
+        }
+    }
+
+    // The inode has been loaded.
+    fn loaded(&mut self, content: Dinode) -> Held
+        requires { IsLoading self.old }
+        ensures held { LoadedAs content self.old result }
+        ensures ended { self.new ≡ taking.Gone }
+    {
+        match mem::replace(self, TakeInode::Gone) {
+            TakeInode::Loading(reference, mut inode, place) => {
+                match place {
+                    None => {}
+                    Some(_) => unreachable!(),
+                }
+                inode.value_mut().content = Some(content);
+                Held { reference, inode }
+            }
+            _ => unreachable!(),
+        }
+    }
+
+    fn put(&mut self, next: TakeInode)
+        requires { self.old ≡ taking.Gone }
+        ensures { self.new ≡ next }
+    {
+        match mem::replace(self, next) {
+            TakeInode::Gone => {}
+            _ => unreachable!(),
         }
     }
 
@@ -86,33 +157,15 @@ impl TakeInode {
     pub fn retire(self, retired: &RetiredCore) {
         match self {
             TakeInode::Lock(_, reference) => reference.retire(&retired.inodes),
-            TakeInode::Loading(reference, inode, load) => {
+            TakeInode::Loading(reference, inode, place) => {
                 reference.retire(&retired.inodes);
                 inode.retire_in_row(&retired.inodes);
-                load.retire(retired);
+                match place {
+                    Some(load) => load.retire(retired),
+                    None => {}
+                }
             }
+            TakeInode::Gone => {}
         }
-    }
-}
-
-// A loading's step, while the inode is loaded.
-fn loading(
-    reference: Reference,
-    inode: Guard<Inode>,
-    stepped: Stepped<LoadInode, Dinode, Kind>,
-) -> Stepped<TakeInode, Held, Kind>
-    ensures { result ≡ in_take reference inode stepped }
-{
-    match stepped {
-        Stepped::Waits(load) => Stepped::Waits(TakeInode::Loading(reference, inode, load)),
-        Stepped::Ran(load, kind) => {
-            Stepped::Ran(TakeInode::Loading(reference, inode, load), kind)
-        }
-        Stepped::Done(content, kind) => {
-            let mut inode = inode;
-            inode.value_mut().content = Some(content);
-            Stepped::Done(Held { reference, inode }, kind)
-        }
-        Stepped::Stopped(load) => Stepped::Stopped(TakeInode::Loading(reference, inode, load)),
     }
 }

@@ -1,7 +1,6 @@
 mod ElementLemmas
 pub mod Few
+pub mod Inside
 mod Visits
-mod Nested
 mod Steps
-mod Lists
 mod Lookups

@@ -1,31 +1,33 @@
 //! A path walked.
 ghost use Rattle.std.specs.Prelude.{◌≡◌, ◌≢◌, ◌^◌, ◌<◌, ◌≤◌, ◌+◌, ℕ, List, drop, length, All, IsSome};
 ghost use Rattle.atomic_programs.specs.Prog.{bind, Ran as ItRan};
-ghost use Rattle.atomic_programs.specs.Machines.{Still, Left as LeftOf};
+ghost use Rattle.atomic_programs.specs.Machines.{Left as LeftOf, OnDone, stepped_at};
 ghost use Rattle.fs_machine.specs.LogPart.{Outside};
 ghost use Rattle.fs_machine.specs.Steps.{State, state_of, exec, Up};
 ghost use Rattle.fs_machine.specs.Premises.{May};
-ghost use Rattle.fs_machine.specs.Machines.{MayNext, Moves, Answers, CallsOnce};
+ghost use Rattle.fs_machine.specs.Machines.{MayNext};
+ghost use Rattle.fs_machine.specs.Places.{StepsAt};
 ghost use Rattle.fs_machine.specs.Tied.{IsOwnInode, LeavesTied};
 ghost use Rattle.inode_table.specs.Programs.{load_unless};
-ghost use Rattle.inode_data.specs.Beginnings.{begun_of, IfBegun};
+ghost use Rattle.inode_data.specs.Beginnings.{begun_of, went_on_as, IfBegun};
 ghost use Rattle.plain_tree.specs.Tree.{elements};
 ghost use Rattle.path_walk.specs.Elements.{name_in};
 ghost use Rattle.path_walk.specs.Programs.{go_on, is_last, loaded, see_parent, start_of, walk, walk_path};
-ghost use Rattle.path_walk.specs.Machines.{found_state, in_lookup, keep, kept_in, most_listed, most_on, next_as, next_of, visit_of, walk_of, walked_as, EndsIn, GoesOn, IsWay, LoadedTo, WalkFits};
+ghost use Rattle.path_walk.specs.Machines.{found_in, found_state, keep, kept_in, most_listed, most_on, next_as, next_of, visit_of, walk_of, walked_as, EndsIn, HasLoaded, HasLocked, HasLooked, IsLoading, IsLooking, IsPassing, IsWay, LoadsTo, LocksTo, WalkFits};
 ghost use Rattle.path_walk.specs.declared.walk.Walk.TheVariants as walking;
 
 use crate::elements::{Element, is_absolute, next_element};
 use crate::walked::{Goal, Stop, Walked};
-use atomic_programs::machines::Stepped;
+use atomic_programs::machines::{Came, Stepped, put};
 use block_device::Device;
 use directory::{Search, Searched, Sought, is_directory};
 use fs_layout::Dinode;
 use fs_machine::{Core, Kind, RetiredCore};
 use fs_tables::{Inode, Listed, MOST_LISTED, ROOT, Reference};
-use inode_data::{Begun, record, went_on};
+use inode_data::{Begun, record};
 use inode_table::LoadInode;
 use sleep_lock::Guard;
+use std::mem;
 
 /// What a walk has in hand beside its directory.
 pub struct Way {
@@ -77,9 +79,9 @@ pub enum Walk {
     /// The lock of this directory is taken.
     Lock(Way, Reference),
     /// The directory is loaded.
-    Load(Way, Reference, Guard<Inode>, LoadInode),
+    Load(Way, Reference, Guard<Inode>, Option<LoadInode>),
     /// The element is looked up in it.
-    Lookup(Way, Reference, Search),
+    Lookup(Way, Reference, Option<Search>),
     /// A reference to what was found is taken.
     Up(Way, Reference, Guard<Inode>, u32),
     /// The directory's lock is given back ..
@@ -88,6 +90,8 @@ pub enum Walk {
     Down(Way, Reference, Next),
     /// The lock of the parent that was reached is given back.
     Leave(Way, Reference, Guard<Inode>),
+    /// It has ended, or is being changed.
+    Gone,
 }
 
 impl Walk {
@@ -102,53 +106,139 @@ impl Walk {
         Walk::Start(inodestart, goal, list)
     }
 
-    /// One operation.
+    /// One operation of it in its place.
     #[tactic(auto, unfolding(crate::specs::Machines::walk_of, crate::specs::Machines::WalkFits, fs_machine::specs::Premises::Honest))]
     pub fn step<D: Device>(
-        self,
+        &mut self,
         hart: u8,
         path: &[u8],
         core: &mut Core<D>,
-    ) -> Stepped<Walk, Walked, Kind>
+    ) -> Came<Walked, Kind>
         requires nonzero { All (λ b. b ≢ 0) path.now }
-        requires room { most_listed path.now self ≤ MOST_LISTED }
-        requires may { MayNext hart (walk_of path.now self) (state_of D.contents D.failures core.old) }
-        requires fits { WalkFits path.now hart (state_of D.contents D.failures core.old) self }
-        ensures moves { Moves (walk_of path.now) (walked_as path.now) hart self result (state_of D.contents D.failures core.old) (state_of D.contents D.failures core.new) }
-        ensures honest { Answers (walk_of path.now) hart self result (state_of D.contents D.failures core.old) (state_of D.contents D.failures core.new) }
-        ensures still { Still (walk_of path.now) result self core.old core.new }
-        ensures fits { LeftOf (WalkFits path.now hart (state_of D.contents D.failures core.new)) (EndsIn path.now) result }
-        ensures most { LeftOf (λ m. most_listed path.now m ≤ most_listed path.now self) (λ w. length (kept_in w) ≤ most_listed path.now self) result }
-        ensures others { LeavesTied hart (state_of D.contents D.failures core.old) (state_of D.contents D.failures core.new) }
-        ensures called { CallsOnce D.Called core.old.log.cache.device core.new.log.cache.device }
+        requires room { most_listed path.now self.old ≤ MOST_LISTED }
+        requires may { MayNext hart (walk_of path.now self.old) (state_of D.contents D.failures core.old) }
+        requires fits { WalkFits path.now hart (state_of D.contents D.failures core.old) self.old }
+        ensures steps { StepsAt D.contents D.failures D.Called (walk_of path.now) (walked_as path.now) (WalkFits path.now) (EndsIn path.now) walking.Gone hart self.old self.new result core.old core.new }
+        ensures most { LeftOf (λ m. most_listed path.now m ≤ most_listed path.now self.old) (λ w. length (kept_in w) ≤ most_listed path.now self.old) (stepped_at self.new result) }
     {
         match self {
+            Walk::Lock(_, directory) => match core.lock(hart, directory) {
+                None => Came::Waits,
+                Some(guard) => {
+                    self.locked(path, guard);
+                    Came::Ran(Kind::Lock)
+                }
+            },
+            Walk::Load(_, _, _, _) => self.load(hart, path, core),
+            Walk::Lookup(_, _, _) => self.look(hart, path, core),
+            _ => self.pass(hart, path, core),
+        }
+    }
+
+    // A step while the directory is loaded.
+    #[tactic(auto, unfolding(crate::specs::Machines::walk_of, crate::specs::Machines::WalkFits))]
+    fn load<D: Device>(&mut self, hart: u8, path: &[u8], core: &mut Core<D>) -> Came<Walked, Kind>
+        requires at { IsLoading self.old }
+        requires nonzero { All (λ b. b ≢ 0) path.now }
+        requires may { MayNext hart (walk_of path.now self.old) (state_of D.contents D.failures core.old) }
+        requires fits { WalkFits path.now hart (state_of D.contents D.failures core.old) self.old }
+        ensures steps { StepsAt D.contents D.failures D.Called (walk_of path.now) (walked_as path.now) (WalkFits path.now) (EndsIn path.now) walking.Gone hart self.old self.new result core.old core.new }
+        ensures most { LeftOf (λ m. most_listed path.now m ≤ most_listed path.now self.old) (λ w. length (kept_in w) ≤ most_listed path.now self.old) (stepped_at self.new result) }
+    {
+        match self {
+            Walk::Load(_, _, _, place) => match mem::replace(place, None) {
+                Some(load) => match load.step(hart, core) {
+                    Stepped::Waits(load) => {
+                        put(place, load);
+                        Came::Waits
+                    }
+                    Stepped::Ran(load, kind) => {
+                        put(place, load);
+                        Came::Ran(kind)
+                    }
+                    Stepped::Done(inode, kind) => {
+                        self.loaded(path, inode);
+                        Came::Ran(kind)
+                    }
+                    Stepped::Stopped(load) => {
+                        put(place, load);
+                        Came::Stopped
+                    }
+                },
+                None => unreachable!(),
+            },
+            _ => unreachable!(),
+        }
+    }
+
+    // A step while the element is looked up.
+    #[tactic(auto, unfolding(crate::specs::Machines::walk_of, crate::specs::Machines::WalkFits))]
+    fn look<D: Device>(&mut self, hart: u8, path: &[u8], core: &mut Core<D>) -> Came<Walked, Kind>
+        requires at { IsLooking self.old }
+        requires nonzero { All (λ b. b ≢ 0) path.now }
+        requires may { MayNext hart (walk_of path.now self.old) (state_of D.contents D.failures core.old) }
+        requires fits { WalkFits path.now hart (state_of D.contents D.failures core.old) self.old }
+        ensures steps { StepsAt D.contents D.failures D.Called (walk_of path.now) (walked_as path.now) (WalkFits path.now) (EndsIn path.now) walking.Gone hart self.old self.new result core.old core.new }
+        ensures most { LeftOf (λ m. most_listed path.now m ≤ most_listed path.now self.old) (λ w. length (kept_in w) ≤ most_listed path.now self.old) (stepped_at self.new result) }
+    {
+        match self {
+            Walk::Lookup(way, _, place) => match mem::replace(place, None) {
+                Some(search) => {
+                    let name = Sought::Name(&path[way.element.start..way.element.end]);
+                    match search.step(hart, name, core) {
+                        Stepped::Waits(search) => {
+                            put(place, search);
+                            Came::Waits
+                        }
+                        Stepped::Ran(search, kind) => {
+                            put(place, search);
+                            Came::Ran(kind)
+                        }
+                        Stepped::Done(searched, kind) => {
+                            self.found(searched);
+                            Came::Ran(kind)
+                        }
+                        Stepped::Stopped(search) => {
+                            put(place, search);
+                            Came::Stopped
+                        }
+                    }
+                }
+                None => unreachable!(),
+            },
+            _ => unreachable!(),
+        }
+    }
+
+    // A step in a state that ends with its one operation.
+    #[tactic(auto, unfolding(crate::specs::Machines::walk_of, crate::specs::Machines::WalkFits, fs_machine::specs::Premises::Honest))]
+    fn pass<D: Device>(&mut self, hart: u8, path: &[u8], core: &mut Core<D>) -> Came<Walked, Kind>
+        requires at { IsPassing self.old }
+        requires nonzero { All (λ b. b ≢ 0) path.now }
+        requires room { most_listed path.now self.old ≤ MOST_LISTED }
+        requires may { MayNext hart (walk_of path.now self.old) (state_of D.contents D.failures core.old) }
+        requires fits { WalkFits path.now hart (state_of D.contents D.failures core.old) self.old }
+        ensures steps { StepsAt D.contents D.failures D.Called (walk_of path.now) (walked_as path.now) (WalkFits path.now) (EndsIn path.now) walking.Gone hart self.old self.new result core.old core.new }
+        ensures most { LeftOf (λ m. most_listed path.now m ≤ most_listed path.now self.old) (λ w. length (kept_in w) ≤ most_listed path.now self.old) (stepped_at self.new result) }
+    {
+        match mem::replace(self, Walk::Gone) {
             Walk::Start(inodestart, goal, list) => {
                 let start = up_start(hart, path, core);
-                went_on(started(path, inodestart, goal, list, start), Kind::Up)
-            }
-            Walk::Lock(way, directory) => match core.lock(hart, &directory) {
-                None => Stepped::Waits(Walk::Lock(way, directory)),
-                Some(guard) => Stepped::Ran(locked(path, way, directory, guard), Kind::Lock),
-            },
-            Walk::Load(way, directory, guard, load) => {
-                loading(path, way, directory, guard, load.step(hart, core))
-            }
-            Walk::Lookup(way, directory, search) => {
-                let name = Sought::Name(&path[way.element.start..way.element.end]);
-                looking(way, directory, search.step(hart, name, core))
+                self.begun(started(path, inodestart, goal, list, start), Kind::Up)
             }
             Walk::Up(way, directory, guard, number) => {
                 let next = next_to(core.up(hart, number));
-                Stepped::Ran(Walk::Unlock(way, directory, guard, next), Kind::Up)
+                self.put(Walk::Unlock(way, directory, guard, next));
+                Came::Ran(Kind::Up)
             }
             Walk::Unlock(way, directory, guard, next) => {
                 core.unlock(hart, guard);
-                Stepped::Ran(Walk::Down(way, directory, next), Kind::Unlock)
+                self.put(Walk::Down(way, directory, next));
+                Came::Ran(Kind::Unlock)
             }
             Walk::Down(way, directory, next) => {
                 let way = with_kept(way, core.drop_walked(hart, directory));
-                went_on(after(path, way, next), Kind::Down)
+                self.begun(after(path, way, next), Kind::Down)
             }
             Walk::Leave(way, directory, guard) => {
                 core.unlock(hart, guard);
@@ -158,11 +248,87 @@ impl Walk {
                     element,
                     list,
                 } = way;
-                Stepped::Done(
+                Came::Done(
                     Walked::Reached(directory, Some(element), list),
                     Kind::Unlock,
                 )
             }
+            _ => unreachable!(),
+        }
+    }
+
+    // The lock of the directory is had.
+    #[tactic(auto, unfolding(crate::specs::Machines::walk_of, crate::specs::Machines::WalkFits))]
+    fn locked(&mut self, path: &[u8], guard: Guard<Inode>)
+        requires nonzero { All (λ b. b ≢ 0) path.now }
+        requires has { HasLocked path.now guard self.old }
+        ensures { LocksTo path.now guard self.old self.new }
+    {
+        match mem::replace(self, Walk::Gone) {
+            Walk::Lock(way, directory) => self.put(locked(path, way, directory, guard)),
+            _ => unreachable!(),
+        }
+    }
+
+    // The directory has been loaded.
+    #[tactic(auto, unfolding(crate::specs::Machines::walk_of, crate::specs::Machines::WalkFits))]
+    fn loaded(&mut self, path: &[u8], inode: Dinode)
+        requires nonzero { All (λ b. b ≢ 0) path.now }
+        requires has { HasLoaded path.now self.old }
+        ensures { LoadsTo path.now inode self.old self.new }
+    {
+        match mem::replace(self, Walk::Gone) {
+            Walk::Load(way, directory, guard, place) => {
+                match place {
+                    None => {}
+                    Some(_) => unreachable!(),
+                }
+                let guard = with_record(guard, directory.number(), inode);
+                self.put(visit(path, way, directory, guard));
+            }
+            _ => unreachable!(),
+        }
+    }
+
+    // The element has been looked up.
+    fn found(&mut self, searched: Searched)
+        requires { HasLooked self.old }
+        ensures { self.new ≡ found_in searched self.old }
+    {
+        match mem::replace(self, Walk::Gone) {
+            Walk::Lookup(way, directory, place) => {
+                match place {
+                    None => {}
+                    Some(_) => unreachable!(),
+                }
+                self.put(found(way, directory, searched));
+            }
+            _ => unreachable!(),
+        }
+    }
+
+    // It goes on so, after an operation of this kind.
+    fn begun(&mut self, begun: Begun<Walk, Walked>, kind: Kind) -> Came<Walked, Kind>
+        requires { self.old ≡ walking.Gone }
+        ensures goes { stepped_at self.new result ≡ went_on_as begun kind }
+        ensures ended { OnDone result (self.new ≡ walking.Gone) }
+    {
+        match begun {
+            Begun::Runs(walk) => {
+                self.put(walk);
+                Came::Ran(kind)
+            }
+            Begun::Is(walked) => Came::Done(walked, kind),
+        }
+    }
+
+    fn put(&mut self, next: Walk)
+        requires { self.old ≡ walking.Gone }
+        ensures { self.new ≡ next }
+    {
+        match mem::replace(self, next) {
+            Walk::Gone => {}
+            _ => unreachable!(),
         }
     }
 
@@ -174,16 +340,22 @@ impl Walk {
                 way.retire(retired);
                 directory.retire(&retired.inodes);
             }
-            Walk::Load(way, directory, guard, load) => {
+            Walk::Load(way, directory, guard, place) => {
                 way.retire(retired);
                 directory.retire(&retired.inodes);
                 guard.retire_in_row(&retired.inodes);
-                load.retire(retired);
+                match place {
+                    Some(load) => load.retire(retired),
+                    None => {}
+                }
             }
-            Walk::Lookup(way, directory, search) => {
+            Walk::Lookup(way, directory, place) => {
                 way.retire(retired);
                 directory.retire(&retired.inodes);
-                search.retire(retired);
+                match place {
+                    Some(search) => search.retire(retired),
+                    None => {}
+                }
             }
             Walk::Up(way, directory, guard, _) => {
                 way.retire(retired);
@@ -206,6 +378,7 @@ impl Walk {
                 directory.retire(&retired.inodes);
                 guard.retire_in_row(&retired.inodes);
             }
+            Walk::Gone => {}
         }
     }
 }
@@ -333,7 +506,7 @@ fn locked(path: &[u8], way: Way, directory: Reference, guard: Guard<Inode>) -> W
         visit(path, way, directory, guard)
     } else {
         let load = LoadInode::new(way.inodestart, directory.number());
-        Walk::Load(way, directory, guard, load)
+        Walk::Load(way, directory, guard, Some(load))
     }
 }
 
@@ -351,7 +524,7 @@ fn visit(path: &[u8], way: Way, directory: Reference, guard: Guard<Inode>) -> Wa
         return see(way, directory, guard);
     }
     match Search::lookup(guard) {
-        Begun::Runs(search) => Walk::Lookup(way, directory, search),
+        Begun::Runs(search) => Walk::Lookup(way, directory, Some(search)),
         Begun::Is(searched) => found(way, directory, searched),
     }
 }
@@ -395,29 +568,6 @@ fn found(way: Way, directory: Reference, searched: Searched) -> Walk
     }
 }
 
-// A load's step, while the directory is loaded.
-fn loading(
-    path: &[u8],
-    way: Way,
-    directory: Reference,
-    guard: Guard<Inode>,
-    stepped: Stepped<LoadInode, Dinode, Kind>,
-) -> Stepped<Walk, Walked, Kind>
-    requires nonzero { All (λ b. b ≢ 0) path.now }
-    requires way { IsWay path.now way }
-    ensures { GoesOn (λ m. walking.Load way directory guard m) (LoadedTo path.now way directory guard) stepped result }
-{
-    match stepped {
-        Stepped::Waits(load) => Stepped::Waits(Walk::Load(way, directory, guard, load)),
-        Stepped::Ran(load, kind) => Stepped::Ran(Walk::Load(way, directory, guard, load), kind),
-        Stepped::Done(inode, kind) => {
-            let guard = with_record(guard, directory.number(), inode);
-            Stepped::Ran(visit(path, way, directory, guard), kind)
-        }
-        Stepped::Stopped(load) => Stepped::Stopped(Walk::Load(way, directory, guard, load)),
-    }
-}
-
 // The inode, loaded.
 fn with_record(guard: Guard<Inode>, number: u32, inode: Dinode) -> Guard<Inode>
     ensures { result ≡ record guard { value = loaded number inode } }
@@ -428,20 +578,4 @@ fn with_record(guard: Guard<Inode>, number: u32, inode: Dinode) -> Guard<Inode>
         content: Some(inode),
     });
     guard
-}
-
-// A search's step, while the element is looked up.
-fn looking(
-    way: Way,
-    directory: Reference,
-    stepped: Stepped<Search, Searched, Kind>,
-) -> Stepped<Walk, Walked, Kind>
-    ensures { result ≡ in_lookup way directory stepped }
-{
-    match stepped {
-        Stepped::Waits(search) => Stepped::Waits(Walk::Lookup(way, directory, search)),
-        Stepped::Ran(search, kind) => Stepped::Ran(Walk::Lookup(way, directory, search), kind),
-        Stepped::Done(searched, kind) => Stepped::Ran(found(way, directory, searched), kind),
-        Stepped::Stopped(search) => Stepped::Stopped(Walk::Lookup(way, directory, search)),
-    }
 }

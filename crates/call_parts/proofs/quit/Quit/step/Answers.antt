@@ -1,64 +1,75 @@
-use Rattle.std.proofs.Common.{◌≡◌, ◌∙◌, [], ◌∷◌, ap, subst}
+use Rattle.std.proofs.Common.{◌≡◌, ◌∙◌, ap, subst, refl}
+use Rattle.std.proofs.Common.{[], ◌∷◌}
+use Rattle.atomic_programs.specs.Machines.{stepped_at}
 use Rattle.fs_machine.specs.Steps.{state_of}
-use Rattle.fs_machine.specs.Tied.{IsOwnInode}
 use Rattle.file_table.specs.Machines.{IsEarly}
 use Rattle.call_parts.specs.Parts.{quit}
-use Rattle.call_parts.specs.Taking.{inode_in, IsHeld}
-use Rattle.call_parts.specs.Ends.{give_of, GiveApart, GiveFits, quit_of, QuitFits, tail_for}
-use Rattle.call_parts.specs.Spent.{reply_in}
-use Rattle.call_parts.proofs.Nesting.{nested_moves, nested_still}
-use Rattle.call_parts.proofs.Having.{gave_apart}
+use Rattle.call_parts.specs.Taking.{inode_in}
+use Rattle.call_parts.specs.Ends.{quit_of, tail_for, GiveApart, GiveFits, QuitFits}
+use Rattle.call_parts.proofs.Having.{two_on}
+use Rattle.call_parts.proofs.Inside.{inside_waits, inside_ran, inside_done, inside_stopped, left_waits, left_ran, left_stopped}
 use Rattle.call_parts.proofs.quit.Quit.step.Goals as goal
 
-pub returns-in-Unlock-clause-fits : goal.returns-in-Unlock-clause-fits
-unfolding QuitFits
-returns-in-Unlock-clause-fits g c =
-    let s = state_of g.D.Device.contents g.D.Device.failures in
+pub returns-in-Done : goal.returns-in-Done
+unfolding quit_of QuitFits
+returns-in-Done g c =
     let h = c.args.hart in
-    let inode = c.in-Unlock.inode in
-    let held : IsEarly c.in-Unlock.ending.sizes.inodestart × (c.in-Unlock.txn ≡ h) × IsOwnInode h inode.value.number inode (s c.args.core.now) = subst (λ m. QuitFits h (s c.args.core.now) m) c.in-Unlock.is c.requires.fits in
-    c.with_nothing.ensures.fits h (s c.unlock.new.self) held.1
+    let old = state_of g.D.Device.contents g.D.Device.failures c.args.core.now in
+    let new = state_of g.D.Device.contents g.D.Device.failures c.step.new.core in
+    let e = c.in-Giving.field-0 in
+    let had : IsEarly e.sizes.inodestart × (c.in-Giving.txn ≡ h) × GiveFits h old c.in-Giving.give = subst (λ m. QuitFits h old m) c.in-Giving.is c.requires.fits in
+    record {
+      steps = inside_done c.step.ensures.steps (λ _. tail_for e) (ap quit_of c.in-Giving.is) c.in-Done.field-0 c.in-Done.kind c.in-Done.is c.gave.ensures.program
+          (λ _. c.gave.ensures.fits h new (c.step.ensures.kept ∙ had.1));
+    }
 
-pub returns-in-Giving-clause-moves : goal.returns-in-Giving-clause-moves
-unfolding quit_of
-returns-in-Giving-clause-moves g c =
-    let s = state_of g.D.Device.contents g.D.Device.failures in
-    nested_moves give_of (λ x. x) quit_of reply_in (λ _. tail_for c.in-Giving.ending) c.args.hart c.in-Giving.give c.args.self c.step-stepped.result _ (s c.args.core.now) (s c.step-stepped.new.core) (ap quit_of c.in-Giving.is) c.giving.ensures.follows c.step-stepped.ensures.moves
-
-pub returns-in-Giving-clause-still : goal.returns-in-Giving-clause-still
-unfolding quit_of
-returns-in-Giving-clause-still g c =
-    nested_still give_of (λ x. x) quit_of reply_in (λ _. tail_for c.in-Giving.ending) c.in-Giving.give c.args.self c.step-stepped.result _ c.args.core.now c.step-stepped.new.core (ap quit_of c.in-Giving.is) c.giving.ensures.follows c.step-stepped.ensures.still
-
-pub returns-in-Giving-clause-fits : goal.returns-in-Giving-clause-fits
-unfolding QuitFits
-returns-in-Giving-clause-fits g c =
-    let s = state_of g.D.Device.contents g.D.Device.failures in
+pub returns-in-Waits-step : goal.returns-in-Waits-step
+unfolding quit_of QuitFits
+returns-in-Waits-step g c =
     let h = c.args.hart in
-    let held : IsEarly c.in-Giving.ending.sizes.inodestart × (c.in-Giving.txn ≡ h) × GiveFits h (s c.args.core.now) c.in-Giving.give = subst (λ m. QuitFits h (s c.args.core.now) m) c.in-Giving.is c.requires.fits in
-    c.giving.ensures.fits h (s c.step-stepped.new.core) (c.step-stepped.ensures.kept ∙ held.1) c.step-stepped.ensures.fits
-
-pub returns-in-Two-clause-moves : goal.returns-in-Two-clause-moves
-unfolding quit_of
-returns-in-Two-clause-moves g c =
     let s = state_of g.D.Device.contents g.D.Device.failures in
-    let e = c.in-Two.ending in
-    nested_moves give_of (λ x. x) quit_of reply_in (λ _. quit e.sizes (inode_in c.in-Two.second ∷ []) e.list e.reply) c.args.hart c.in-Two.give c.args.self c.step-stepped-in-Two.result _ (s c.args.core.now) (s c.step-stepped-in-Two.new.core) (ap quit_of c.in-Two.is) c.giving_first.ensures.follows c.step-stepped-in-Two.ensures.moves
+    let e = c.in-Two.field-0 in
+    let second = c.in-Two.field-2 in
+    let step = c.step-in-Two in
+    let came = stepped_at step.new.self step.result in
+    let had = two_on h (s c.args.core.now) (s step.new.core) c.args.self.now e c.in-Two.txn step.new.txn second c.in-Two.give came c.in-Two.is c.requires.fits step.ensures.kept step.ensures.rest step.ensures.steps.fits in
+    let left : GiveFits h (s step.new.core) step.new.self × GiveApart second.reference step.new.self = left_waits (λ m. GiveFits h (s step.new.core) m × GiveApart second.reference m) (λ _. Unit {0}) step.new.self step.result had.3 c.in-Waits-step.is in
+    record { steps = inside_waits step.ensures.steps (λ _. quit e.sizes (inode_in second ∷ []) e.list e.reply) (ap quit_of c.in-Two.is) c.in-Waits-step.is refl (λ fits. (had.0, had.1, had.2, left.0, left.1)) }
 
-pub returns-in-Two-clause-still : goal.returns-in-Two-clause-still
-unfolding quit_of
-returns-in-Two-clause-still g c =
-    let e = c.in-Two.ending in
-    nested_still give_of (λ x. x) quit_of reply_in (λ _. quit e.sizes (inode_in c.in-Two.second ∷ []) e.list e.reply) c.in-Two.give c.args.self c.step-stepped-in-Two.result _ c.args.core.now c.step-stepped-in-Two.new.core (ap quit_of c.in-Two.is) c.giving_first.ensures.follows c.step-stepped-in-Two.ensures.still
-
-pub returns-in-Two-clause-fits : goal.returns-in-Two-clause-fits
-unfolding QuitFits
-returns-in-Two-clause-fits g c =
-    let s = state_of g.D.Device.contents g.D.Device.failures in
+pub returns-in-Ran-step : goal.returns-in-Ran-step
+unfolding quit_of QuitFits
+returns-in-Ran-step g c =
     let h = c.args.hart in
-    let second = c.in-Two.second in
-    let old = s c.args.core.now in
-    let held : IsEarly c.in-Two.ending.sizes.inodestart × (c.in-Two.txn ≡ h) × IsHeld h second old × GiveFits h old c.in-Two.give × GiveApart second.reference c.in-Two.give =
-    subst (λ m. QuitFits h old m) c.in-Two.is c.requires.fits in
-    let left = gave_apart h second c.in-Two.give c.step-stepped-in-Two.result old (s c.step-stepped-in-Two.new.core) c.step-stepped-in-Two.ensures.rest held.2 held.4 c.step-stepped-in-Two.ensures.fits in
-    c.giving_first.ensures.fits h (s c.step-stepped-in-Two.new.core) (c.step-stepped-in-Two.ensures.kept ∙ held.1) left.0 left.1
+    let s = state_of g.D.Device.contents g.D.Device.failures in
+    let e = c.in-Two.field-0 in
+    let second = c.in-Two.field-2 in
+    let step = c.step-in-Two in
+    let came = stepped_at step.new.self step.result in
+    let had = two_on h (s c.args.core.now) (s step.new.core) c.args.self.now e c.in-Two.txn step.new.txn second c.in-Two.give came c.in-Two.is c.requires.fits step.ensures.kept step.ensures.rest step.ensures.steps.fits in
+    let left : GiveFits h (s step.new.core) step.new.self × GiveApart second.reference step.new.self = left_ran (λ m. GiveFits h (s step.new.core) m × GiveApart second.reference m) (λ _. Unit {0}) step.new.self step.result had.3 c.in-Ran-step.kind c.in-Ran-step.is in
+    record { steps = inside_ran step.ensures.steps (λ _. quit e.sizes (inode_in second ∷ []) e.list e.reply) (ap quit_of c.in-Two.is) c.in-Ran-step.kind c.in-Ran-step.is refl (λ fits. (had.0, had.1, had.2, left.0, left.1)) }
+
+pub returns-in-Done-step : goal.returns-in-Done-step
+unfolding quit_of QuitFits
+returns-in-Done-step g c =
+    let h = c.args.hart in
+    let s = state_of g.D.Device.contents g.D.Device.failures in
+    let e = c.in-Two.field-0 in
+    let second = c.in-Two.field-2 in
+    let step = c.step-in-Two in
+    let came = stepped_at step.new.self step.result in
+    let had = two_on h (s c.args.core.now) (s step.new.core) c.args.self.now e c.in-Two.txn step.new.txn second c.in-Two.give came c.in-Two.is c.requires.fits step.ensures.kept step.ensures.rest step.ensures.steps.fits in
+    record { steps = inside_done step.ensures.steps (λ _. quit e.sizes (inode_in second ∷ []) e.list e.reply) (ap quit_of c.in-Two.is) c.in-Done-step.field-0 c.in-Done-step.kind c.in-Done-step.is c.gave-in-Done-step.ensures.program (λ _. c.gave-in-Done-step.ensures.fits h (s step.new.core) (had.1, had.2)) }
+
+pub returns-in-Stopped-step : goal.returns-in-Stopped-step
+unfolding quit_of QuitFits
+returns-in-Stopped-step g c =
+    let h = c.args.hart in
+    let s = state_of g.D.Device.contents g.D.Device.failures in
+    let e = c.in-Two.field-0 in
+    let second = c.in-Two.field-2 in
+    let step = c.step-in-Two in
+    let came = stepped_at step.new.self step.result in
+    let had = two_on h (s c.args.core.now) (s step.new.core) c.args.self.now e c.in-Two.txn step.new.txn second c.in-Two.give came c.in-Two.is c.requires.fits step.ensures.kept step.ensures.rest step.ensures.steps.fits in
+    let left : GiveFits h (s step.new.core) step.new.self × GiveApart second.reference step.new.self = left_stopped (λ m. GiveFits h (s step.new.core) m × GiveApart second.reference m) (λ _. Unit {0}) step.new.self step.result had.3 c.in-Stopped-step.is in
+    record { steps = inside_stopped step.ensures.steps (λ _. quit e.sizes (inode_in second ∷ []) e.list e.reply) (ap quit_of c.in-Two.is) c.in-Stopped-step.is refl (λ fits. (had.0, had.1, had.2, left.0, left.1)) }

@@ -1,82 +1,108 @@
-use Rattle.std.proofs.Common.{ap, subst}
+use Rattle.std.proofs.Common.{◌∙◌, ap, sym}
 use Rattle.fs_machine.specs.Steps.{state_of}
 use Rattle.directory.specs.Programs.{Named}
 use Rattle.directory.specs.Machines.{found_of, inode_of, search_of, SearchFits}
-use Rattle.path_walk.specs.Elements.{name_in, IsElement}
-use Rattle.call_parts.specs.Taking.{reach_of, reached_as}
-use Rattle.call_parts.specs.Seeking.{seek_of, seek_on, seen_as, seen_with, IsParent, SeekFits}
-use Rattle.call_parts.proofs.Nesting.{nested_moves, nested_honest, nested_still}
-use Rattle.call_parts.proofs.Taken.{reached_there}
-use Rattle.call_parts.proofs.Seeks.{looking_follows, looking_fits, parent_on}
+use Rattle.path_walk.specs.Elements.{name_in}
+use Rattle.call_parts.specs.Seeking.{seek_of, seek_on, seen_with}
+use Rattle.call_parts.specs.declared.seek.Seek.TheVariants as seeking
+use Rattle.call_parts.proofs.Inside.{inside_either, by_waits, by_ran, by_ended, by_stopped}
+use Rattle.call_parts.proofs.Seeks.{looking_goes, looking_fits, looked_fits, looked_goes}
 use Rattle.call_parts.proofs.seek.Seek.step.Goals as goal
 
-pub reaching-requires : goal.reaching-requires
-reaching-requires g c =
+pub returns-in-Done : goal.returns-in-Done
+unfolding seek_of
+returns-in-Done g c =
+    let path = c.args.path.now in
     let new = state_of g.D.Device.contents g.D.Device.failures c.step.new.core in
-    record { there = reached_there c.args.path.now c.args.hart new c.step.result c.step.ensures.fits }
+    record {
+      steps = inside_either c.step.ensures.steps (seek_on c.in-Reaching.dots) (ap (seek_of path) c.in-Reaching.is) c.in-Done.reached c.in-Done.kind c.reached.result c.in-Done.is c.reached.ensures.follows
+          (λ known. c.reached.ensures.fits c.args.hart new known) c.reached.ensures.ended;
+    }
 
-pub returns-in-Reaching-clause-moves : goal.returns-in-Reaching-clause-moves
+pub returns-in-Waits-step : goal.returns-in-Waits-step
 unfolding seek_of
-returns-in-Reaching-clause-moves g c =
-    let s = state_of g.D.Device.contents g.D.Device.failures in
-    let path = c.args.path.now in
-    nested_moves (reach_of path) (reached_as path) (seek_of path) (seen_as path) (seek_on c.in-Reaching.dots) c.args.hart c.in-Reaching.reach c.args.self c.step.result _ (s c.args.core.now) (s c.step.new.core) (ap (seek_of path) c.in-Reaching.is) c.reaching.ensures.follows
-    c.step.ensures.moves
-
-pub returns-in-Reaching-clause-honest : goal.returns-in-Reaching-clause-honest
-unfolding seek_of
-returns-in-Reaching-clause-honest g c =
-    let s = state_of g.D.Device.contents g.D.Device.failures in
-    let path = c.args.path.now in
-    nested_honest (reach_of path) (reached_as path) (seek_of path) (seen_as path) (seek_on c.in-Reaching.dots) c.args.hart c.in-Reaching.reach c.args.self c.step.result _ (s c.args.core.now) (s c.step.new.core) (ap (seek_of path) c.in-Reaching.is) c.reaching.ensures.follows
-    c.step.ensures.moves c.step.ensures.honest
-
-pub returns-in-Reaching-clause-still : goal.returns-in-Reaching-clause-still
-unfolding seek_of
-returns-in-Reaching-clause-still g c =
-    let path = c.args.path.now in
-    nested_still (reach_of path) (reached_as path) (seek_of path) (seen_as path) (seek_on c.in-Reaching.dots) c.in-Reaching.reach c.args.self c.step.result _ c.args.core.now c.step.new.core (ap (seek_of path) c.in-Reaching.is) c.reaching.ensures.follows
-    c.step.ensures.still
-
-pub returns-in-Reaching-clause-fits : goal.returns-in-Reaching-clause-fits
-returns-in-Reaching-clause-fits g c = c.reaching.ensures.fits c.args.hart (state_of g.D.Device.contents g.D.Device.failures c.step.new.core) c.step.ensures.fits
-
-pub returns-in-Looking-clause-moves : goal.returns-in-Looking-clause-moves
-unfolding seek_of
-returns-in-Looking-clause-moves g c =
-    let s = state_of g.D.Device.contents g.D.Device.failures in
-    let path = c.args.path.now in
-    let guard = inode_of c.in-Looking.search in
-    let name = name_in path c.in-Looking.element in
-    nested_moves (search_of (Named name)) found_of (seek_of path) (seen_as path) (seen_with guard.value name c.in-Looking.list) c.args.hart c.in-Looking.search c.args.self c.step-in-Looking.result _ (s c.args.core.now) (s c.step-in-Looking.new.core) (ap (seek_of path) c.in-Looking.is)
-    (rw c.looking.ensures (looking_follows path c.in-Looking.parent c.in-Looking.element c.in-Looking.list guard c.step-in-Looking.result c.step-in-Looking.ensures.inode)) c.step-in-Looking.ensures.moves
-
-pub returns-in-Looking-clause-honest : goal.returns-in-Looking-clause-honest
-unfolding seek_of
-returns-in-Looking-clause-honest g c =
-    let s = state_of g.D.Device.contents g.D.Device.failures in
-    let path = c.args.path.now in
-    let guard = inode_of c.in-Looking.search in
-    let name = name_in path c.in-Looking.element in
-    nested_honest (search_of (Named name)) found_of (seek_of path) (seen_as path) (seen_with guard.value name c.in-Looking.list) c.args.hart c.in-Looking.search c.args.self c.step-in-Looking.result _ (s c.args.core.now) (s c.step-in-Looking.new.core) (ap (seek_of path) c.in-Looking.is)
-    (rw c.looking.ensures (looking_follows path c.in-Looking.parent c.in-Looking.element c.in-Looking.list guard c.step-in-Looking.result c.step-in-Looking.ensures.inode)) c.step-in-Looking.ensures.moves c.step-in-Looking.ensures.honest
-
-pub returns-in-Looking-clause-still : goal.returns-in-Looking-clause-still
-unfolding seek_of
-returns-in-Looking-clause-still g c =
-    let path = c.args.path.now in
-    let guard = inode_of c.in-Looking.search in
-    let name = name_in path c.in-Looking.element in
-    nested_still (search_of (Named name)) found_of (seek_of path) (seen_as path) (seen_with guard.value name c.in-Looking.list) c.in-Looking.search c.args.self c.step-in-Looking.result _ c.args.core.now c.step-in-Looking.new.core (ap (seek_of path) c.in-Looking.is)
-    (rw c.looking.ensures (looking_follows path c.in-Looking.parent c.in-Looking.element c.in-Looking.list guard c.step-in-Looking.result c.step-in-Looking.ensures.inode)) c.step-in-Looking.ensures.still
-
-pub returns-in-Looking-clause-fits : goal.returns-in-Looking-clause-fits
-unfolding SeekFits
-returns-in-Looking-clause-fits g c =
-    let s = state_of g.D.Device.contents g.D.Device.failures in
-    let path = c.args.path.now in
+returns-in-Waits-step g c =
     let h = c.args.hart in
-    let guard = inode_of c.in-Looking.search in
-    let had : IsElement path c.in-Looking.element × IsParent h c.in-Looking.parent guard (s c.args.core.now) × SearchFits h (s c.args.core.now) c.in-Looking.search = subst (λ m. SeekFits path h (s c.args.core.now) m) c.in-Looking.is c.requires.fits in
-    rw c.looking.ensures (looking_fits path c.in-Looking.parent c.in-Looking.element c.in-Looking.list guard h (s c.step-in-Looking.new.core) c.step-in-Looking.result had.0
-    (parent_on h c.in-Looking.parent guard (s c.args.core.now) (s c.step-in-Looking.new.core) c.step-in-Looking.ensures.tables had.1) c.step-in-Looking.ensures.inode c.step-in-Looking.ensures.fits c.step-in-Looking.ensures.slot)
+    let path = c.args.path.now in
+    let old = state_of g.D.Device.contents g.D.Device.failures c.args.core.now in
+    let new = state_of g.D.Device.contents g.D.Device.failures c.step-in-Some.new.core in
+    let n = c.in-Looking.field-0 in
+    let e = c.in-Looking.element in
+    let list = c.in-Looking.field-2 in
+    let search = c.in-Some.search in
+    let guard = inode_of search in
+    let name = name_in path e in
+    let is = c.in-Looking.is ∙ ap (λ place. seeking.Looking n e list place) (sym c.in-Some.ensures.value) in
+    record {
+      steps = by_waits (search_of (Named name)) found_of search (seen_with guard.value name list) (ap (seek_of path) is) (SearchFits h new) (λ _. Unit {0}) c.step-in-Some.result
+          (record { moves = c.step-in-Some.ensures.moves; honest = c.step-in-Some.ensures.honest; still = c.step-in-Some.ensures.still; others = c.step-in-Some.ensures.others; called = c.step-in-Some.ensures.called }) c.step-in-Some.ensures.fits
+          c.in-Waits-step.search c.in-Waits-step.is
+          (looking_goes path n e list c.put.new.place c.in-Waits-step.search guard c.put.ensures c.in-Waits-step.ensures.inode)
+          (λ f. looking_fits path n e list search h old new c.args.self.now is c.requires.fits c.step-in-Some.ensures.tables c.put.new.place c.in-Waits-step.search c.put.ensures c.in-Waits-step.ensures.inode f);
+    }
+
+pub returns-in-Ran-step : goal.returns-in-Ran-step
+unfolding seek_of
+returns-in-Ran-step g c =
+    let h = c.args.hart in
+    let path = c.args.path.now in
+    let old = state_of g.D.Device.contents g.D.Device.failures c.args.core.now in
+    let new = state_of g.D.Device.contents g.D.Device.failures c.step-in-Some.new.core in
+    let n = c.in-Looking.field-0 in
+    let e = c.in-Looking.element in
+    let list = c.in-Looking.field-2 in
+    let search = c.in-Some.search in
+    let guard = inode_of search in
+    let name = name_in path e in
+    let is = c.in-Looking.is ∙ ap (λ place. seeking.Looking n e list place) (sym c.in-Some.ensures.value) in
+    record {
+      steps = by_ran (search_of (Named name)) found_of search (seen_with guard.value name list) (ap (seek_of path) is) (SearchFits h new) (λ _. Unit {0}) c.step-in-Some.result
+          (record { moves = c.step-in-Some.ensures.moves; honest = c.step-in-Some.ensures.honest; still = c.step-in-Some.ensures.still; others = c.step-in-Some.ensures.others; called = c.step-in-Some.ensures.called }) c.step-in-Some.ensures.fits
+          c.in-Ran-step.search c.in-Ran-step.kind c.in-Ran-step.is
+          (looking_goes path n e list c.put-in-Ran-step.new.place c.in-Ran-step.search guard c.put-in-Ran-step.ensures c.in-Ran-step.ensures.inode)
+          (λ f. looking_fits path n e list search h old new c.args.self.now is c.requires.fits c.step-in-Some.ensures.tables c.put-in-Ran-step.new.place c.in-Ran-step.search c.put-in-Ran-step.ensures c.in-Ran-step.ensures.inode f);
+    }
+
+pub returns-in-Done-step : goal.returns-in-Done-step
+unfolding seek_of
+returns-in-Done-step g c =
+    let h = c.args.hart in
+    let path = c.args.path.now in
+    let old = state_of g.D.Device.contents g.D.Device.failures c.args.core.now in
+    let new = state_of g.D.Device.contents g.D.Device.failures c.step-in-Some.new.core in
+    let n = c.in-Looking.field-0 in
+    let e = c.in-Looking.element in
+    let list = c.in-Looking.field-2 in
+    let search = c.in-Some.search in
+    let guard = inode_of search in
+    let name = name_in path e in
+    let is = c.in-Looking.is ∙ ap (λ place. seeking.Looking n e list place) (sym c.in-Some.ensures.value) in
+    record {
+      steps = by_ended (search_of (Named name)) found_of search (seen_with guard.value name list) (ap (seek_of path) is) (SearchFits h new) (λ _. Unit {0}) c.step-in-Some.result
+          (record { moves = c.step-in-Some.ensures.moves; honest = c.step-in-Some.ensures.honest; still = c.step-in-Some.ensures.still; others = c.step-in-Some.ensures.others; called = c.step-in-Some.ensures.called }) c.step-in-Some.ensures.fits
+          c.in-Done-step.searched c.looked.result c.in-Done-step.kind c.in-Done-step.is
+          (looked_goes path n e list c.in-Done-step.searched c.looked.result guard c.looked.ensures.seen c.in-Done-step.ensures.inode)
+          (λ _. looked_fits path n e list search h old new c.args.self.now is c.requires.fits c.step-in-Some.ensures.tables c.in-Done-step.searched c.looked.result c.looked.ensures.seen c.in-Done-step.ensures.inode c.in-Done-step.ensures.slot) c.looked.ensures.ended;
+    }
+
+pub returns-in-Stopped-step : goal.returns-in-Stopped-step
+unfolding seek_of
+returns-in-Stopped-step g c =
+    let h = c.args.hart in
+    let path = c.args.path.now in
+    let old = state_of g.D.Device.contents g.D.Device.failures c.args.core.now in
+    let new = state_of g.D.Device.contents g.D.Device.failures c.step-in-Some.new.core in
+    let n = c.in-Looking.field-0 in
+    let e = c.in-Looking.element in
+    let list = c.in-Looking.field-2 in
+    let search = c.in-Some.search in
+    let guard = inode_of search in
+    let name = name_in path e in
+    let is = c.in-Looking.is ∙ ap (λ place. seeking.Looking n e list place) (sym c.in-Some.ensures.value) in
+    record {
+      steps = by_stopped (search_of (Named name)) found_of search (seen_with guard.value name list) (ap (seek_of path) is) (SearchFits h new) (λ _. Unit {0}) c.step-in-Some.result
+          (record { moves = c.step-in-Some.ensures.moves; honest = c.step-in-Some.ensures.honest; still = c.step-in-Some.ensures.still; others = c.step-in-Some.ensures.others; called = c.step-in-Some.ensures.called }) c.step-in-Some.ensures.fits
+          c.in-Stopped-step.search c.in-Stopped-step.is
+          (looking_goes path n e list c.put-in-Stopped-step.new.place c.in-Stopped-step.search guard c.put-in-Stopped-step.ensures c.in-Stopped-step.ensures.inode)
+          (λ f. looking_fits path n e list search h old new c.args.self.now is c.requires.fits c.step-in-Some.ensures.tables c.put-in-Stopped-step.new.place c.in-Stopped-step.search c.put-in-Stopped-step.ensures c.in-Stopped-step.ensures.inode f);
+    }
