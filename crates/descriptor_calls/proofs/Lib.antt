@@ -1,4 +1,4 @@
-pub mod Reading
-pub mod Closing
+pub mod Inside
+pub mod Stats
 pub mod Pieces
 pub mod Lendings

@@ -1,11 +1,9 @@
 -- inherit: a program over what all harts share, and what is left of it. Nothing is marked in it.
-use Rattle.std.specs.Prelude.{◌≡◌, ℕ, zero, suc, ◌+◌, true, false}
+use Rattle.std.specs.Prelude.{◌≡◌, ℕ, zero, suc, ◌+◌, true, false, Some, None}
 use Rattle.fs_layout.specs.declared.superblock.Super.{Super}
 use Rattle.plain_tree.specs.declared.answer.Reply.{Reply}
 use Rattle.plain_tree.specs.declared.call.Call.TheVariants as calls
 use Rattle.atomic_programs.specs.Prog.{Do, bind, unmarked}
-use Rattle.atomic_programs.specs.declared.machines.Stepped.{Stepped}
-use Rattle.atomic_programs.specs.declared.machines.Stepped.TheVariants.{Waits, Ran, Done, Stopped}
 use Rattle.fs_tables.specs.Limits.{descriptor_count, root}
 use Rattle.fs_tables.specs.declared.slots.Given.{Given}
 use Rattle.fs_tables.specs.declared.slots.Given.TheVariants as given
@@ -18,7 +16,7 @@ use Rattle.inode_data.specs.Freeing.{drop_reference}
 use Rattle.inode_data.specs.Dropping.{drop_of, DropFits}
 use Rattle.file_table.specs.Machines.{IsEarly}
 use Rattle.call_parts.specs.Programs.{say}
-use Rattle.call_parts.specs.Replies.{done}
+use Rattle.call_parts.specs.Replies.{done, no_program}
 use Rattle.descriptor_calls.specs.declared.inherit.Lending.{Lending}
 use Rattle.descriptor_calls.specs.declared.inherit.Inherit.{Inherit}
 use Rattle.descriptor_calls.specs.declared.inherit.Inherit.TheVariants as inheriting
@@ -69,22 +67,33 @@ unfoldable pub inherit_of : Inherit → P Reply
 inherit_of (inheriting.Lend l) = Do (Give l.child l.from) unmarked (lent l)
 inherit_of (inheriting.Directory sizes child) = lend_directory sizes child
 inherit_of (inheriting.Join sizes child old) = drop_old sizes child old
-inherit_of (inheriting.Dropping child txn m) = bind (drop_of m) (λ _. leave_inherited child)
-inherit_of (inheriting.Finishing child m) = bind (finish_of m) (λ _. inherited child)
+inherit_of (inheriting.Dropping child txn (Some m)) = bind (drop_of m) (λ _. leave_inherited child)
+inherit_of (inheriting.Dropping child txn None) = no_program
+inherit_of (inheriting.Finishing child (Some m)) = bind (finish_of m) (λ _. inherited child)
+inherit_of (inheriting.Finishing child None) = no_program
 inherit_of (inheriting.Say reply) = say reply
+inherit_of inheriting.Gone = no_program
 
 -- its transaction goes with the state
 unfoldable pub InheritFits : ℕ → State → Inherit → Type 0
 InheritFits hart s (inheriting.Lend l) = IsEarly l.sizes.inodestart
 InheritFits hart s (inheriting.Directory sizes child) = IsEarly sizes.inodestart
 InheritFits hart s (inheriting.Join sizes child old) = IsEarly sizes.inodestart
-InheritFits hart s (inheriting.Dropping child txn m) = (txn ≡ hart) × DropFits hart s m
-InheritFits hart s (inheriting.Finishing child m) = FinishFits hart m
+InheritFits hart s (inheriting.Dropping child txn (Some m)) = (txn ≡ hart) × DropFits hart s m
+InheritFits hart s (inheriting.Dropping child txn None) = ⊥
+InheritFits hart s (inheriting.Finishing child (Some m)) = FinishFits hart m
+InheritFits hart s (inheriting.Finishing child None) = ⊥
 InheritFits hart s (inheriting.Say reply) = Unit {0}
+InheritFits hart s inheriting.Gone = ⊥
 
--- a step in which something was given goes on so
-abbrev pub GoesOnWith : (Given → P Reply) → Given → Stepped Inherit Reply Kind → Type 0
-GoesOnWith then_ came (Waits m) = ⊥
-GoesOnWith then_ came (Ran m kind) = (kind ≡ kind_given came) × (inherit_of m ≡ then_ came)
-GoesOnWith then_ came (Done reply kind) = ⊥
-GoesOnWith then_ came (Stopped m) = ⊥
+-- such a state holds nothing that has to be given back
+abbrev pub IsBareInherit : Inherit → Type 0
+IsBareInherit (inheriting.Lend l) = Unit {0}
+IsBareInherit (inheriting.Directory sizes child) = Unit {0}
+IsBareInherit (inheriting.Finishing child None) = Unit {0}
+IsBareInherit inheriting.Gone = Unit {0}
+IsBareInherit m = ⊥
+
+-- a step in which something was given goes on so, and is of this kind
+abbrev pub GoesOnWith : (Given → P Reply) → Given → Inherit × Kind → Type 0
+GoesOnWith then_ came next = (next.1 ≡ kind_given came) × (inherit_of next.0 ≡ then_ came)

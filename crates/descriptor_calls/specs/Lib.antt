@@ -1,4 +1,5 @@
 pub mod Programs
+pub mod Nested
 pub mod Machines
 pub mod Writing
 pub mod Inheriting

@@ -1,5 +1,5 @@
 -- The programs that are left of calls on descriptors.
-use Rattle.std.specs.Prelude.{◌≡◌, ◌<◌, ◌^◌, ℕ, length, None}
+use Rattle.std.specs.Prelude.{◌≡◌, ◌<◌, ◌^◌, ℕ, length, Some, None}
 use Rattle.plain_tree.specs.declared.answer.Answer.TheVariants as answers
 use Rattle.plain_tree.specs.declared.answer.Cause.TheVariants as causes
 use Rattle.plain_tree.specs.declared.answer.Full.TheVariants as fulls
@@ -19,12 +19,14 @@ use Rattle.fs_machine.specs.Steps.{State, Unlock}
 use Rattle.fs_machine.specs.Machines.{P}
 use Rattle.fs_machine.specs.Tied.{IsOwnInode}
 use Rattle.fs_machine.specs.Fetching.{finish_of, FinishFits}
+use Rattle.file_table.specs.declared.load_file.LoadedFile.{LoadedFile}
+use Rattle.file_table.specs.declared.load_file.LoadedFile.TheVariants as file
 use Rattle.file_table.specs.Machines.{IsEarly, file_of, FileFits, IsLoaded}
 use Rattle.inode_data.specs.Dropping.{drop_of, DropFits}
 use Rattle.inode_data.specs.Reading.{filled_in, read_of, reader_of, ReadFits}
 use Rattle.descriptor_calls.specs.declared.read.Read.{Read}
 use Rattle.descriptor_calls.specs.declared.read.Read.TheVariants as read
-use Rattle.call_parts.specs.Replies.{failed, full, done}
+use Rattle.call_parts.specs.Replies.{failed, full, done, no_program}
 use Rattle.call_parts.specs.Programs.{say}
 use Rattle.descriptor_calls.specs.Programs.{dup_program, leave_closed, drop_closed, close_program, stat_reply, stat_on, give_read, read_on}
 use Rattle.descriptor_calls.specs.declared.dup.Dup.{Dup}
@@ -39,6 +41,19 @@ use Rattle.descriptor_calls.specs.declared.fstat.Fstat.TheVariants as fstat
 unfoldable pub dup_of : Dup → P Reply
 dup_of (dup.Double fd) = dup_program fd
 dup_of (dup.Say reply) = say reply
+dup_of dup.Gone = no_program
+
+-- one that has gone doesn't
+unfoldable pub DupFits : ℕ → State → Dup → Type 0
+DupFits hart s (dup.Double fd) = Unit {0}
+DupFits hart s (dup.Say reply) = Unit {0}
+DupFits hart s dup.Gone = ⊥
+
+-- such a state holds nothing that has to be given back
+abbrev pub IsBareDup : Dup → Type 0
+IsBareDup (dup.Double fd) = Unit {0}
+IsBareDup dup.Gone = Unit {0}
+IsBareDup m = ⊥
 
 -- what a doubling came to
 abbrev pub dup_came : ℕ → Doubled → Stepped Dup Reply Kind
@@ -51,17 +66,30 @@ dup_came fd (doubled.Gave other) = Ran (dup.Say (record { answer = answers.Fd ot
 unfoldable pub close_of : Close → P Reply
 close_of (close.Shut sizes fd) = close_program sizes fd
 close_of (close.Join sizes fd n) = drop_closed sizes fd n
-close_of (close.Dropping fd txn m) = bind (drop_of m) (λ _. leave_closed fd)
-close_of (close.Finishing fd m) = bind (finish_of m) (λ _. say (done (calls.Close fd)))
+close_of (close.Dropping fd txn (Some m)) = bind (drop_of m) (λ _. leave_closed fd)
+close_of (close.Dropping fd txn None) = no_program
+close_of (close.Finishing fd (Some m)) = bind (finish_of m) (λ _. say (done (calls.Close fd)))
+close_of (close.Finishing fd None) = no_program
 close_of (close.Say reply) = say reply
+close_of close.Gone = no_program
 
 -- its transaction and its guards go with the state
 unfoldable pub CloseFits : ℕ → State → Close → Type 0
 CloseFits hart s (close.Shut sizes fd) = IsEarly sizes.inodestart
 CloseFits hart s (close.Join sizes fd n) = IsEarly sizes.inodestart
-CloseFits hart s (close.Dropping fd txn m) = (txn ≡ hart) × DropFits hart s m
-CloseFits hart s (close.Finishing fd m) = FinishFits hart m
+CloseFits hart s (close.Dropping fd txn (Some m)) = (txn ≡ hart) × DropFits hart s m
+CloseFits hart s (close.Dropping fd txn None) = ⊥
+CloseFits hart s (close.Finishing fd (Some m)) = FinishFits hart m
+CloseFits hart s (close.Finishing fd None) = ⊥
 CloseFits hart s (close.Say reply) = Unit {0}
+CloseFits hart s close.Gone = ⊥
+
+-- such a state holds nothing that has to be given back
+abbrev pub IsBareClose : Close → Type 0
+IsBareClose (close.Shut sizes fd) = Unit {0}
+IsBareClose (close.Finishing fd None) = Unit {0}
+IsBareClose close.Gone = Unit {0}
+IsBareClose m = ⊥
 
 -- what the closing of the descriptor came to
 abbrev pub close_came : Super → ℕ → Shut → Stepped Close Reply Kind
@@ -72,27 +100,54 @@ close_came sizes fd (shut.Last n) = Ran (close.Join sizes fd n) kind.Slot
 -- ---- fstat
 
 unfoldable pub fstat_of : Fstat → P Reply
-fstat_of (fstat.Loading fd load) = bind (file_of load) (stat_on fd)
+fstat_of (fstat.Loading fd (Some load)) = bind (file_of load) (stat_on fd)
+fstat_of (fstat.Loading fd None) = no_program
 fstat_of (fstat.Give fd guard) = Do (Unlock guard.value None) unmarked (λ _. say (stat_reply fd guard.value))
 fstat_of (fstat.Say reply) = say reply
+fstat_of fstat.Gone = no_program
 
 -- its guards go with the state
 unfoldable pub FstatFits : ℕ → State → Fstat → Type 0
-FstatFits hart s (fstat.Loading fd load) = FileFits hart s load
+FstatFits hart s (fstat.Loading fd (Some load)) = FileFits hart s load
+FstatFits hart s (fstat.Loading fd None) = ⊥
 FstatFits hart s (fstat.Give fd guard) = IsLoaded hart guard.value.number guard s
 FstatFits hart s (fstat.Say reply) = Unit {0}
+FstatFits hart s fstat.Gone = ⊥
+
+-- such a state holds nothing that has to be given back
+abbrev pub IsBareFstat : Fstat → Type 0
+IsBareFstat (fstat.Loading fd None) = Unit {0}
+IsBareFstat fstat.Gone = Unit {0}
+IsBareFstat m = ⊥
+
+-- what the loading came to, by a step of this kind
+abbrev pub stat_came : ℕ → LoadedFile → Kind → Stepped Fstat Reply Kind
+stat_came fd (file.Refused why) kind = Done (failed (calls.Fstat fd) causes.BadDescriptor) kind
+stat_came fd (file.Loaded file guard) kind = Ran (fstat.Give fd guard) kind
 
 -- ---- read
 
 unfoldable pub read_call_of : Read → P Reply
-read_call_of (read.Loading fd buffer load) = bind (file_of load) (read_on fd buffer)
-read_call_of (read.Reading fd offset m) = bind (read_of m) (give_read fd offset (reader_of m).value)
+read_call_of (read.Loading fd buffer (Some load)) = bind (file_of load) (read_on fd buffer)
+read_call_of (read.Loading fd buffer None) = no_program
+read_call_of (read.Reading fd offset (Some m)) = bind (read_of m) (give_read fd offset (reader_of m).value)
+read_call_of (read.Reading fd offset None) = no_program
 read_call_of (read.Give fd offset r) = give_read fd offset r.inode.value (filled_in r)
 read_call_of (read.Say reply) = say reply
+read_call_of read.Gone = no_program
 
 -- its guards go with the state
 unfoldable pub ReadCallFits : ℕ → State → Read → Type 0
-ReadCallFits hart s (read.Loading fd buffer load) = (length buffer < 2 ^ 32) × FileFits hart s load
-ReadCallFits hart s (read.Reading fd offset m) = IsOwnInode hart (reader_of m).value.number (reader_of m) s × ReadFits hart s m
+ReadCallFits hart s (read.Loading fd buffer (Some load)) = (length buffer < 2 ^ 32) × FileFits hart s load
+ReadCallFits hart s (read.Loading fd buffer None) = ⊥
+ReadCallFits hart s (read.Reading fd offset (Some m)) = IsOwnInode hart (reader_of m).value.number (reader_of m) s × ReadFits hart s m
+ReadCallFits hart s (read.Reading fd offset None) = ⊥
 ReadCallFits hart s (read.Give fd offset r) = IsOwnInode hart r.inode.value.number r.inode s
 ReadCallFits hart s (read.Say reply) = Unit {0}
+ReadCallFits hart s read.Gone = ⊥
+
+-- such a state holds nothing that has to be given back
+abbrev pub IsBareRead : Read → Type 0
+IsBareRead (read.Reading fd offset None) = Unit {0}
+IsBareRead read.Gone = Unit {0}
+IsBareRead m = ⊥

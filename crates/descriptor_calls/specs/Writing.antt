@@ -28,7 +28,7 @@ use Rattle.inode_data.specs.Writing.{WriteResult, write_part}
 use Rattle.inode_data.specs.declared.write_part.PartWritten.{PartWritten}
 use Rattle.inode_data.specs.PartWriting.{write_of, writer_of, written_of, WriteFits}
 use Rattle.file_table.specs.Machines.{IsEarly}
-use Rattle.call_parts.specs.Replies.{failed, full, cause_of}
+use Rattle.call_parts.specs.Replies.{failed, full, cause_of, no_program}
 use Rattle.call_parts.specs.Programs.{say}
 use Rattle.descriptor_calls.specs.declared.write.Writes.{Writes}
 use Rattle.descriptor_calls.specs.declared.write.Ended.{Ended}
@@ -138,12 +138,16 @@ write_call_of (write.Check fd bytes) = check_program fd
 write_call_of (write.Begin w) = join_first w.fd w.bytes (this_piece w)
 write_call_of (write.Join w) = Do Join unmarked (λ _. this_piece w)
 write_call_of (write.Lock w txn) = this_piece w
-write_call_of (write.Loading w txn file guard m) = bind (load_of m) (write_loaded w.sizes w.fd w.bytes w.piece (behind w) file)
-write_call_of (write.Writing w txn offset m) = bind (write_of (part_of w) m) (give_written w.fd (writer_of m).value.number offset (length (part_of w)) w.bytes (behind w))
+write_call_of (write.Loading w txn file guard (Some m)) = bind (load_of m) (write_loaded w.sizes w.fd w.bytes w.piece (behind w) file)
+write_call_of (write.Loading w txn file guard None) = no_program
+write_call_of (write.Writing w txn offset (Some m)) = bind (write_of (part_of w) m) (give_written w.fd (writer_of m).value.number offset (length (part_of w)) w.bytes (behind w))
+write_call_of (write.Writing w txn offset None) = no_program
 write_call_of (write.Deny w txn guard why) = deny_piece w.fd w.bytes (behind w) guard.value why
 write_call_of (write.Give w txn offset r) = give_part w offset r
-write_call_of (write.Leaving w end m) = bind (finish_of m) (λ _. after_piece w.fd w.bytes (behind w) end)
+write_call_of (write.Leaving w end (Some m)) = bind (finish_of m) (λ _. after_piece w.fd w.bytes (behind w) end)
+write_call_of (write.Leaving w end None) = no_program
 write_call_of (write.Say reply) = say reply
+write_call_of write.Gone = no_program
 
 -- the disk's blocks have bits and its inodes' blocks numbers; the bytes can be counted, and each piece begins among them
 pub record IsWrite (w : Writes) : Type 0 where
@@ -158,9 +162,13 @@ WriteCallFits hart s (write.Check fd bytes) = bytes ≡ []
 WriteCallFits hart s (write.Begin w) = IsWrite w
 WriteCallFits hart s (write.Join w) = IsWrite w
 WriteCallFits hart s (write.Lock w txn) = IsWrite w × (txn ≡ hart)
-WriteCallFits hart s (write.Loading w txn file guard m) = IsWrite w × (txn ≡ hart) × (file.number < 2 ^ 16) × IsOwnInode hart file.number guard s × LoadFits hart s m
-WriteCallFits hart s (write.Writing w txn offset m) = IsWrite w × (txn ≡ hart) × IsOwnInode hart (writer_of m).value.number (writer_of m) s × WriteFits hart (part_of w) s m
+WriteCallFits hart s (write.Loading w txn file guard (Some m)) = IsWrite w × (txn ≡ hart) × (file.number < 2 ^ 16) × IsOwnInode hart file.number guard s × LoadFits hart s m
+WriteCallFits hart s (write.Loading w txn file guard None) = ⊥
+WriteCallFits hart s (write.Writing w txn offset (Some m)) = IsWrite w × (txn ≡ hart) × IsOwnInode hart (writer_of m).value.number (writer_of m) s × WriteFits hart (part_of w) s m
+WriteCallFits hart s (write.Writing w txn offset None) = ⊥
 WriteCallFits hart s (write.Deny w txn guard why) = IsWrite w × (txn ≡ hart) × IsOwnInode hart guard.value.number guard s
 WriteCallFits hart s (write.Give w txn offset r) = IsWrite w × (txn ≡ hart) × IsOwnInode hart r.inode.value.number r.inode s
-WriteCallFits hart s (write.Leaving w end m) = IsWrite w × FinishFits hart m
+WriteCallFits hart s (write.Leaving w end (Some m)) = IsWrite w × FinishFits hart m
+WriteCallFits hart s (write.Leaving w end None) = ⊥
 WriteCallFits hart s (write.Say reply) = Unit {0}
+WriteCallFits hart s write.Gone = ⊥

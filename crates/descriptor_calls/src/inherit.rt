@@ -1,17 +1,17 @@
 //! inherit: a child hart gets the caller's descriptors and its directory.
-ghost use Rattle.std.specs.Prelude.{◌≡◌, ◌+◌, ◌<◌, ◌≤◌, ◌^◌, ℕ};
-ghost use Rattle.atomic_programs.specs.Machines.{Still, Left as LeftOf};
+ghost use Rattle.std.specs.Prelude.{◌≡◌, ◌+◌, ◌<◌, ◌≤◌, ◌^◌, ℕ, Option};
 ghost use Rattle.fs_tables.specs.Files.{IsDirectory};
 ghost use Rattle.fs_machine.specs.Steps.{State, state_of};
-ghost use Rattle.fs_machine.specs.Machines.{MayNext, Moves, Answers, CallsOnce};
-ghost use Rattle.fs_machine.specs.Tied.{LeavesTied};
-ghost use Rattle.fs_machine.specs.Fetching.{finish_of, FinishFits};
-ghost use Rattle.inode_data.specs.Dropping.{drop_of, DropFits};
+ghost use Rattle.fs_machine.specs.Machines.{MayNext};
+ghost use Rattle.fs_machine.specs.Places.{StepsAt};
+ghost use Rattle.fs_layout.specs.declared.superblock.Super.{Super as SuperState};
+ghost use Rattle.inode_data.specs.declared.dropping.DropReference.{DropReference as DropState};
 ghost use Rattle.file_table.specs.Machines.{IsEarly};
-ghost use Rattle.call_parts.specs.Nesting.{Follows};
-ghost use Rattle.descriptor_calls.specs.Inheriting.{directory_given, inherit_of, inherit_program, inherited, leave_inherited, lend_from, lent, GoesOnWith, InheritFits};
+ghost use Rattle.descriptor_calls.specs.Inheriting.{directory_given, inherit_of, inherit_program, lend_from, lent, GoesOnWith, InheritFits, IsBareInherit};
+ghost use Rattle.descriptor_calls.specs.declared.inherit.Inherit.TheVariants as inheriting;
 
-use atomic_programs::machines::Stepped;
+use crate::nested::{Nested, let_go, put_back, take};
+use atomic_programs::machines::Came;
 use block_device::Device;
 use call_parts::done;
 use fs_layout::Super;
@@ -20,6 +20,7 @@ use fs_tables::{DESCRIPTORS, Given, Reference};
 use group_log::Txn;
 use inode_data::DropReference;
 use plain_tree::{Call, Reply};
+use std::mem;
 
 /// Which descriptor goes to the child next.
 #[derive(Clone, Copy)]
@@ -42,11 +43,13 @@ pub enum Inherit {
     /// A transaction is joined, to drop the child's old directory.
     Join(Super, u8, Reference),
     /// The reference to that is dropped.
-    Dropping(u8, Txn, DropReference),
+    Dropping(u8, Txn, Option<DropReference>),
     /// The transaction is left.
-    Finishing(u8, Finish),
+    Finishing(u8, Option<Finish>),
     /// The reply is given.
     Say(Reply),
+    /// It has ended, or is being changed.
+    Gone,
 }
 
 impl Inherit {
@@ -60,40 +63,110 @@ impl Inherit {
         from(*sizes, child, DESCRIPTORS, 0)
     }
 
-    /// One operation.
+    /// One operation, in its place.
     #[tactic(auto, unfolding(crate::specs::Inheriting::inherit_of, crate::specs::Inheriting::InheritFits, fs_machine::specs::Premises::Honest))]
-    pub fn step<D: Device>(self, hart: u8, core: &mut Core<D>) -> Stepped<Inherit, Reply, Kind>
-        requires may { MayNext hart (inherit_of self) (state_of D.contents D.failures core.old) }
-        requires fits { InheritFits hart (state_of D.contents D.failures core.old) self }
-        ensures moves { Moves inherit_of (λ reply. reply) hart self result (state_of D.contents D.failures core.old) (state_of D.contents D.failures core.new) }
-        ensures honest { Answers inherit_of hart self result (state_of D.contents D.failures core.old) (state_of D.contents D.failures core.new) }
-        ensures still { Still inherit_of result self core.old core.new }
-        ensures fits { LeftOf (InheritFits hart (state_of D.contents D.failures core.new)) (λ _. Unit {0}) result }
-        ensures others { LeavesTied hart (state_of D.contents D.failures core.old) (state_of D.contents D.failures core.new) }
-        ensures called { CallsOnce D.Called core.old.log.cache.device core.new.log.cache.device }
+    pub fn step<D: Device>(&mut self, hart: u8, core: &mut Core<D>) -> Came<Reply, Kind>
+        requires may { MayNext hart (inherit_of self.old) (state_of D.contents D.failures core.old) }
+        requires fits { InheritFits hart (state_of D.contents D.failures core.old) self.old }
+        ensures steps { StepsAt D.contents D.failures D.Called inherit_of (λ reply. reply) InheritFits (λ _. Unit {0}) inheriting.Gone hart self.old self.new result core.old core.new }
     {
         match self {
-            Inherit::Lend(l) => lent(l, core.give(hart, l.child, l.from)),
+            Inherit::Lend(l) => {
+                let l = *l;
+                let (next, kind) = lent(l, core.give(hart, l.child, l.from));
+                self.put(next);
+                Came::Ran(kind)
+            }
             Inherit::Directory(sizes, child) => {
-                directory_given(sizes, child, core.give(hart, child, DESCRIPTORS as u32))
+                let (sizes, child) = (*sizes, *child);
+                let given = core.give(hart, child, DESCRIPTORS as u32);
+                let (next, kind) = directory_given(sizes, child, given);
+                self.put(next);
+                Came::Ran(kind)
             }
-            Inherit::Join(sizes, child, old) => match core.join(hart) {
-                None => Stepped::Waits(Inherit::Join(sizes, child, old)),
-                Some(txn) => {
-                    let drop = DropReference::new(old, &sizes);
-                    Stepped::Ran(Inherit::Dropping(child, txn, drop), Kind::Join)
+            Inherit::Join(_, _, _) => self.join(hart, core),
+            Inherit::Dropping(_, _, _) => self.drop_reference(hart, core),
+            Inherit::Finishing(child, place) => {
+                let child = *child;
+                let finish = take(place);
+                match put_back(place, finish.step(hart, core)) {
+                    Nested::Goes(came) => came,
+                    Nested::Ends((), kind) => {
+                        self.put(Inherit::Say(done(Call::Inherit { child })));
+                        Came::Ran(kind)
+                    }
                 }
+            }
+            Inherit::Say(_) => match mem::replace(self, Inherit::Gone) {
+                Inherit::Say(reply) => {
+                    core.reply(hart);
+                    Came::Done(reply, Kind::Reply)
+                }
+                _ => unreachable!(),
             },
-            Inherit::Dropping(child, txn, drop) => {
-                let mut txn = txn;
-                let stepped = drop.step(hart, &mut txn, core);
-                dropping(child, txn, stepped)
+            Inherit::Gone => unreachable!(),
+        }
+    }
+
+    // A transaction is joined.
+    #[tactic(auto, unfolding(crate::specs::Inheriting::inherit_of, crate::specs::Inheriting::InheritFits, fs_machine::specs::Premises::Honest))]
+    fn join<D: Device>(&mut self, hart: u8, core: &mut Core<D>) -> Came<Reply, Kind>
+        requires join { (x : SuperState × ℕ × ℕ) × (self.old ≡ inheriting.Join x.0 x.1 x.2) }
+        requires may { MayNext hart (inherit_of self.old) (state_of D.contents D.failures core.old) }
+        requires fits { InheritFits hart (state_of D.contents D.failures core.old) self.old }
+        ensures steps { StepsAt D.contents D.failures D.Called inherit_of (λ reply. reply) InheritFits (λ _. Unit {0}) inheriting.Gone hart self.old self.new result core.old core.new }
+    {
+        let Some(txn) = core.join(hart) else {
+            return Came::Waits;
+        };
+        match mem::replace(self, Inherit::Gone) {
+            Inherit::Join(sizes, child, old) => {
+                let drop = DropReference::new(old, &sizes);
+                self.put(Inherit::Dropping(child, txn, Some(drop)));
+                Came::Ran(Kind::Join)
             }
-            Inherit::Finishing(child, finish) => finishing(child, finish.step(hart, core)),
-            Inherit::Say(reply) => {
-                core.reply(hart);
-                Stepped::Done(reply, Kind::Reply)
+            _ => unreachable!(),
+        }
+    }
+
+    // The reference to the child's old directory is dropped.
+    #[tactic(auto, unfolding(crate::specs::Inheriting::inherit_of, crate::specs::Inheriting::InheritFits, fs_machine::specs::Fetching::finish_of, fs_machine::specs::Fetching::FinishFits))]
+    fn drop_reference<D: Device>(&mut self, hart: u8, core: &mut Core<D>) -> Came<Reply, Kind>
+        requires dropping { (x : ℕ × ℕ × Option DropState) × (self.old ≡ inheriting.Dropping x.0 x.1 x.2) }
+        requires may { MayNext hart (inherit_of self.old) (state_of D.contents D.failures core.old) }
+        requires fits { InheritFits hart (state_of D.contents D.failures core.old) self.old }
+        ensures steps { StepsAt D.contents D.failures D.Called inherit_of (λ reply. reply) InheritFits (λ _. Unit {0}) inheriting.Gone hart self.old self.new result core.old core.new }
+    {
+        match self {
+            Inherit::Dropping(_, txn, place) => {
+                let drop = take(place);
+                match put_back(place, drop.step(hart, txn, core)) {
+                    Nested::Goes(came) => came,
+                    Nested::Ends((), kind) => match mem::replace(self, Inherit::Gone) {
+                        Inherit::Dropping(child, txn, place) => {
+                            let_go(place);
+                            self.put(Inherit::Finishing(child, Some(Finish::Leave(txn))));
+                            Came::Ran(kind)
+                        }
+                        _ => unreachable!(),
+                    },
+                }
             }
+            _ => unreachable!(),
+        }
+    }
+
+    // Has this stand in the place of a state that holds nothing.
+    fn put(&mut self, next: Inherit)
+        requires { IsBareInherit self.old }
+        ensures { self.new ≡ next }
+    {
+        match mem::replace(self, next) {
+            Inherit::Lend(_) => {}
+            Inherit::Directory(_, _) => {}
+            Inherit::Finishing(_, place) => let_go(place),
+            Inherit::Gone => {}
+            _ => unreachable!(),
         }
     }
 
@@ -105,10 +178,17 @@ impl Inherit {
             Inherit::Join(_, _, old) => old.retire(&retired.inodes),
             Inherit::Dropping(_, txn, drop) => {
                 txn.retire(&retired.log);
-                drop.retire(retired);
+                match drop {
+                    None => {}
+                    Some(drop) => drop.retire(retired),
+                }
             }
-            Inherit::Finishing(_, finish) => finish.retire(retired),
+            Inherit::Finishing(_, finish) => match finish {
+                None => {}
+                Some(finish) => finish.retire(retired),
+            },
             Inherit::Say(_) => {}
+            Inherit::Gone => {}
         }
     }
 }
@@ -131,72 +211,36 @@ fn from(sizes: Super, child: u8, count: usize, from: u32) -> Inherit
     })
 }
 
-// What was given to the child comes first, and then the rest.
+// What was given to the child comes first, and then the rest. With it the kind of the step.
 #[tactic(auto, unfolding(crate::specs::Inheriting::inherit_of, crate::specs::Inheriting::InheritFits))]
-fn lent(l: Lending, given: Given) -> Stepped<Inherit, Reply, Kind>
+fn lent(l: Lending, given: Given) -> (Inherit, Kind)
     requires { IsEarly l.sizes.inodestart }
     ensures goes { GoesOnWith (lent l) given result }
-    ensures fits { (hart : ℕ) (s : State) → LeftOf (InheritFits hart s) (λ _. Unit {0}) result }
+    ensures fits { (hart : ℕ) (s : State) → InheritFits hart s result.0 }
 {
     match given {
         Given::Descriptor(fd, more) => {
             if more {
                 let next = from(l.sizes, l.child, l.left, fd as u32 + 1);
-                Stepped::Ran(next, Kind::Slot)
+                (next, Kind::Slot)
             } else {
-                Stepped::Ran(Inherit::Directory(l.sizes, l.child), Kind::Slot)
+                (Inherit::Directory(l.sizes, l.child), Kind::Slot)
             }
         }
-        Given::Directory(old) => Stepped::Ran(Inherit::Join(l.sizes, l.child, old), Kind::Up),
+        Given::Directory(old) => (Inherit::Join(l.sizes, l.child, old), Kind::Up),
     }
 }
 
 // The directory was given to the child.
 #[tactic(auto, unfolding(crate::specs::Inheriting::inherit_of, crate::specs::Inheriting::InheritFits))]
-fn directory_given(sizes: Super, child: u8, given: Given) -> Stepped<Inherit, Reply, Kind>
+fn directory_given(sizes: Super, child: u8, given: Given) -> (Inherit, Kind)
     requires early { IsEarly sizes.inodestart }
     requires directory { IsDirectory given }
     ensures goes { GoesOnWith (directory_given sizes child) given result }
-    ensures fits { (hart : ℕ) (s : State) → LeftOf (InheritFits hart s) (λ _. Unit {0}) result }
+    ensures fits { (hart : ℕ) (s : State) → InheritFits hart s result.0 }
 {
     match given {
         Given::Descriptor(_, _) => unreachable!(),
-        Given::Directory(old) => Stepped::Ran(Inherit::Join(sizes, child, old), Kind::Up),
-    }
-}
-
-// A step while the child's old directory is dropped.
-#[tactic(auto, unfolding(crate::specs::Inheriting::inherit_of, crate::specs::Inheriting::InheritFits, fs_machine::specs::Fetching::finish_of, fs_machine::specs::Fetching::FinishFits))]
-fn dropping(
-    child: u8,
-    txn: Txn,
-    stepped: Stepped<DropReference, (), Kind>,
-) -> Stepped<Inherit, Reply, Kind>
-    ensures follows { Follows drop_of (λ x. x) inherit_of (λ reply. reply) (λ _. leave_inherited child) stepped result }
-    ensures fits { (hart : ℕ) (s : State) → txn ≡ hart → LeftOf (DropFits hart s) (λ _. Unit {0}) stepped → LeftOf (InheritFits hart s) (λ _. Unit {0}) result }
-{
-    match stepped {
-        Stepped::Waits(drop) => Stepped::Waits(Inherit::Dropping(child, txn, drop)),
-        Stepped::Ran(drop, kind) => Stepped::Ran(Inherit::Dropping(child, txn, drop), kind),
-        Stepped::Done((), kind) => {
-            Stepped::Ran(Inherit::Finishing(child, Finish::Leave(txn)), kind)
-        }
-        Stepped::Stopped(drop) => Stepped::Stopped(Inherit::Dropping(child, txn, drop)),
-    }
-}
-
-// A step while the transaction is left.
-#[tactic(auto, unfolding(crate::specs::Inheriting::inherit_of, crate::specs::Inheriting::InheritFits))]
-fn finishing(child: u8, stepped: Stepped<Finish, (), Kind>) -> Stepped<Inherit, Reply, Kind>
-    ensures follows { Follows finish_of (λ x. x) inherit_of (λ reply. reply) (λ _. inherited child) stepped result }
-    ensures fits { (hart : ℕ) (s : State) → LeftOf (FinishFits hart) (λ _. Unit {0}) stepped → LeftOf (InheritFits hart s) (λ _. Unit {0}) result }
-{
-    match stepped {
-        Stepped::Waits(finish) => Stepped::Waits(Inherit::Finishing(child, finish)),
-        Stepped::Ran(finish, kind) => Stepped::Ran(Inherit::Finishing(child, finish), kind),
-        Stepped::Done((), kind) => {
-            Stepped::Ran(Inherit::Say(done(Call::Inherit { child })), kind)
-        }
-        Stepped::Stopped(finish) => Stepped::Stopped(Inherit::Finishing(child, finish)),
+        Given::Directory(old) => (Inherit::Join(sizes, child, old), Kind::Up),
     }
 }

@@ -1,13 +1,14 @@
 //! The calls on descriptors, one machine each: `dup`, `close`, `fstat`, `read`, `write` and `inherit`.
 //!
 //! `specs/Programs`, `specs/Writing` and `specs/Inheriting` say what a call does, operation by operation; its machine is a value whose
-//! `step` makes the next one. A call under way takes no memory, and is handed back in its reply.
+//! `step` makes the next one, in its place. A call under way takes no memory, and is handed back in its reply.
 #![tactic(auto)]
 
 mod close;
 mod dup;
 mod fstat;
 mod inherit;
+mod nested;
 mod read;
 mod write;
 

@@ -1,21 +1,25 @@
 //! read: a part of what a descriptor names.
-ghost use Rattle.std.specs.Prelude.{◌≡◌, ◌+◌, ◌<◌, ◌^◌, ℕ, Some, IsSome, length};
+ghost use Rattle.std.specs.Prelude.{◌≡◌, ◌+◌, ◌<◌, ◌^◌, ℕ, List, Option, Some, IsSome, length};
 ghost use Rattle.atomic_programs.specs.Prog.{Ran as ItRan};
+ghost use Rattle.atomic_programs.specs.Machines.{Left as LeftOf, OnDone, stepped_at};
+ghost use Rattle.atomic_programs.specs.declared.machines.Stepped.TheVariants.{Done};
 ghost use Rattle.fs_machine.specs.LogPart.{Outside};
 ghost use Rattle.fs_machine.specs.Premises.{May};
-ghost use Rattle.atomic_programs.specs.Machines.{Still, Left as LeftOf};
-ghost use Rattle.fs_tables.specs.declared.inodes.Inode.{Inode as InodeState};
 ghost use Rattle.fs_machine.specs.Steps.{State, state_of, exec, Unlock};
-ghost use Rattle.fs_machine.specs.Machines.{MayNext, Moves, Answers, CallsOnce};
+ghost use Rattle.fs_machine.specs.Machines.{MayNext};
+ghost use Rattle.fs_machine.specs.Places.{StepsAt};
 ghost use Rattle.fs_machine.specs.Tied.{IsOwnInode, LeavesTied};
-ghost use Rattle.inode_data.specs.Reading.{filled_in, read_of, reader_of, ReadFits};
+ghost use Rattle.inode_data.specs.Reading.{filled_in};
 ghost use Rattle.file_table.specs.Programs.{Loads};
-ghost use Rattle.file_table.specs.Machines.{IsEarly, file_of, loaded_as, FileFits, IsLoaded, IfLoaded};
-ghost use Rattle.descriptor_calls.specs.Programs.{read_program, read_on, read_reply, give_read};
+ghost use Rattle.file_table.specs.declared.load_file.LoadFile.{LoadFile as LoadState};
+ghost use Rattle.file_table.specs.Machines.{IsEarly, file_of, loaded_as, IsLoaded, IfLoaded};
 ghost use Rattle.call_parts.specs.Nesting.{Follows};
-ghost use Rattle.descriptor_calls.specs.Machines.{read_call_of, ReadCallFits};
+ghost use Rattle.descriptor_calls.specs.Programs.{read_program, read_on, read_reply};
+ghost use Rattle.descriptor_calls.specs.Machines.{read_call_of, ReadCallFits, IsBareRead};
+ghost use Rattle.descriptor_calls.specs.declared.read.Read.TheVariants as read;
 
-use atomic_programs::machines::Stepped;
+use crate::nested::{Nested, let_go, put_back, take};
+use atomic_programs::machines::Came;
 use block_device::Device;
 use buffer_cache::HARTS;
 use call_parts::{cause_of, failed};
@@ -25,17 +29,20 @@ use fs_tables::{Inode, OpenFile, Want};
 use inode_data::{Begun, ReadPart, Reading};
 use plain_tree::{Answer, Bytes, Call, Reply};
 use sleep_lock::Guard;
+use std::mem;
 
 /// A read under way.
 pub enum Read {
     /// What the descriptor names is locked and loaded, to be read into these bytes.
-    Loading(u32, Bytes, LoadFile),
+    Loading(u32, Bytes, Option<LoadFile>),
     /// It is read from this offset on.
-    Reading(u32, u32, ReadPart),
+    Reading(u32, u32, Option<ReadPart>),
     /// It was read: the lock is given up, and the offset moves.
     Give(u32, u32, Reading),
     /// The reply is given.
     Say(Reply),
+    /// It has ended, or is being changed.
+    Gone,
 }
 
 impl Read {
@@ -47,43 +54,122 @@ impl Read {
         ensures program { read_call_of result ≡ read_program inodestart fd buf }
         ensures fits { (hart : ℕ) (s : State) → ReadCallFits hart s result }
     {
-        Read::Loading(fd, buf, LoadFile::new(inodestart, Want::Read, fd))
+        Read::Loading(fd, buf, Some(LoadFile::new(inodestart, Want::Read, fd)))
     }
 
-    /// One operation.
+    /// One operation, in its place.
     #[tactic(auto, unfolding(crate::specs::Machines::read_call_of, crate::specs::Machines::ReadCallFits, fs_machine::specs::Premises::Honest))]
-    pub fn step<D: Device>(self, hart: u8, core: &mut Core<D>) -> Stepped<Read, Reply, Kind>
+    pub fn step<D: Device>(&mut self, hart: u8, core: &mut Core<D>) -> Came<Reply, Kind>
         requires hart { hart < HARTS }
-        requires may { MayNext hart (read_call_of self) (state_of D.contents D.failures core.old) }
-        requires fits { ReadCallFits hart (state_of D.contents D.failures core.old) self }
-        ensures moves { Moves read_call_of (λ reply. reply) hart self result (state_of D.contents D.failures core.old) (state_of D.contents D.failures core.new) }
-        ensures honest { Answers read_call_of hart self result (state_of D.contents D.failures core.old) (state_of D.contents D.failures core.new) }
-        ensures still { Still read_call_of result self core.old core.new }
-        ensures fits { LeftOf (ReadCallFits hart (state_of D.contents D.failures core.new)) (λ _. Unit {0}) result }
-        ensures others { LeavesTied hart (state_of D.contents D.failures core.old) (state_of D.contents D.failures core.new) }
-        ensures called { CallsOnce D.Called core.old.log.cache.device core.new.log.cache.device }
+        requires may { MayNext hart (read_call_of self.old) (state_of D.contents D.failures core.old) }
+        requires fits { ReadCallFits hart (state_of D.contents D.failures core.old) self.old }
+        ensures steps { StepsAt D.contents D.failures D.Called read_call_of (λ reply. reply) ReadCallFits (λ _. Unit {0}) read.Gone hart self.old self.new result core.old core.new }
     {
         match self {
-            Read::Loading(fd, buf, load) => loading(fd, buf, load.step(hart, core)),
-            Read::Reading(fd, offset, part) => reading(fd, offset, part.step(hart, core)),
-            Read::Give(fd, offset, reading) => {
-                let reply = give(fd, offset, reading, hart, core);
-                Stepped::Ran(Read::Say(reply), Kind::Unlock)
+            Read::Loading(_, _, _) => self.load(hart, core),
+            Read::Reading(fd, offset, place) => {
+                let (fd, offset) = (*fd, *offset);
+                let part = take(place);
+                match put_back(place, part.step(hart, core)) {
+                    Nested::Goes(came) => came,
+                    Nested::Ends(reading, kind) => {
+                        self.put(Read::Give(fd, offset, reading));
+                        Came::Ran(kind)
+                    }
+                }
             }
-            Read::Say(reply) => {
-                core.reply(hart);
-                Stepped::Done(reply, Kind::Reply)
+            Read::Give(_, _, _) => match mem::replace(self, Read::Gone) {
+                Read::Give(fd, offset, reading) => {
+                    let reply = give(fd, offset, reading, hart, core);
+                    self.put(Read::Say(reply));
+                    Came::Ran(Kind::Unlock)
+                }
+                _ => unreachable!(),
+            },
+            Read::Say(_) => match mem::replace(self, Read::Gone) {
+                Read::Say(reply) => {
+                    core.reply(hart);
+                    Came::Done(reply, Kind::Reply)
+                }
+                _ => unreachable!(),
+            },
+            Read::Gone => unreachable!(),
+        }
+    }
+
+    // What the descriptor names is locked and loaded.
+    #[tactic(auto, unfolding(crate::specs::Machines::read_call_of, crate::specs::Machines::ReadCallFits))]
+    fn load<D: Device>(&mut self, hart: u8, core: &mut Core<D>) -> Came<Reply, Kind>
+        requires loading { (x : ℕ × List ℕ × Option LoadState) × (self.old ≡ read.Loading x.0 x.1 x.2) }
+        requires may { MayNext hart (read_call_of self.old) (state_of D.contents D.failures core.old) }
+        requires fits { ReadCallFits hart (state_of D.contents D.failures core.old) self.old }
+        ensures steps { StepsAt D.contents D.failures D.Called read_call_of (λ reply. reply) ReadCallFits (λ _. Unit {0}) read.Gone hart self.old self.new result core.old core.new }
+    {
+        match self {
+            Read::Loading(_, _, place) => {
+                let load = take(place);
+                match put_back(place, load.step(hart, core)) {
+                    Nested::Goes(came) => came,
+                    Nested::Ends(loaded, kind) => match mem::replace(self, Read::Gone) {
+                        Read::Loading(fd, buf, place) => {
+                            let_go(place);
+                            self.loaded(fd, buf, loaded, kind)
+                        }
+                        _ => unreachable!(),
+                    },
+                }
             }
+            _ => unreachable!(),
+        }
+    }
+
+    // It is, or was refused.
+    #[tactic(auto, unfolding(crate::specs::Machines::read_call_of, crate::specs::Machines::ReadCallFits))]
+    fn loaded(&mut self, fd: u32, buf: Bytes, loaded: LoadedFile, kind: Kind) -> Came<Reply, Kind>
+        requires gone { self.old ≡ read.Gone }
+        requires short { length buf < 2 ^ 32 }
+        requires loaded { IfLoaded loaded (λ file guard. IsSome guard.value.content) }
+        ensures follows { Follows file_of loaded_as read_call_of (λ reply. reply) (read_on fd buf) (Done loaded kind) (stepped_at self.new result) }
+        ensures fits { (hart : ℕ) (s : State) → IfLoaded loaded (λ file guard. IsLoaded hart file.number guard s) → LeftOf (ReadCallFits hart s) (λ _. Unit {0}) (stepped_at self.new result) }
+        ensures ended { OnDone result (self.new ≡ read.Gone) }
+    {
+        match loaded {
+            LoadedFile::Refused(why) => {
+                Came::Done(failed(Call::Read { fd, buf }, cause_of(why)), kind)
+            }
+            LoadedFile::Loaded(file, inode) => {
+                self.put(begin(fd, buf, file, inode));
+                Came::Ran(kind)
+            }
+        }
+    }
+
+    // Has this stand in the place of a state that holds nothing.
+    fn put(&mut self, next: Read)
+        requires { IsBareRead self.old }
+        ensures { self.new ≡ next }
+    {
+        match mem::replace(self, next) {
+            Read::Reading(_, _, place) => let_go(place),
+            Read::Gone => {}
+            _ => unreachable!(),
         }
     }
 
     /// Ends it in mid-call, after all that harts share has ended.
     pub fn retire(self, retired: &RetiredCore) {
         match self {
-            Read::Loading(_, _, load) => load.retire(retired),
-            Read::Reading(_, _, part) => part.retire(retired),
+            Read::Loading(_, _, load) => match load {
+                None => {}
+                Some(load) => load.retire(retired),
+            },
+            Read::Reading(_, _, part) => match part {
+                None => {}
+                Some(part) => part.retire(retired),
+            },
             Read::Give(_, _, reading) => reading.retire(retired),
             Read::Say(_) => {}
+            Read::Gone => {}
         }
     }
 }
@@ -99,51 +185,8 @@ fn begin(fd: u32, buf: Bytes, file: OpenFile, inode: Guard<Inode>) -> Read
     let bytes = buf.into_vec();
     let count = bytes.len() as u32;
     match ReadPart::begin(inode, bytes, file.offset, count) {
-        Begun::Runs(part) => Read::Reading(fd, file.offset, part),
+        Begun::Runs(part) => Read::Reading(fd, file.offset, Some(part)),
         Begun::Is(reading) => Read::Give(fd, file.offset, reading),
-    }
-}
-
-// A loading's step, while what the descriptor names is locked and loaded.
-#[tactic(auto, unfolding(crate::specs::Machines::read_call_of, crate::specs::Machines::ReadCallFits))]
-fn loading(
-    fd: u32,
-    buf: Bytes,
-    stepped: Stepped<LoadFile, LoadedFile, Kind>,
-) -> Stepped<Read, Reply, Kind>
-    requires short { length buf < 2 ^ 32 }
-    requires loaded { LeftOf (λ _. Unit {0}) (λ came. IfLoaded came (λ file guard. IsSome guard.value.content)) stepped }
-    ensures follows { Follows file_of loaded_as read_call_of (λ reply. reply) (read_on fd buf) stepped result }
-    ensures fits { (hart : ℕ) (s : State) → LeftOf (FileFits hart s) (λ came. IfLoaded came (λ file guard. IsLoaded hart file.number guard s)) stepped → LeftOf (ReadCallFits hart s) (λ _. Unit {0}) result }
-{
-    match stepped {
-        Stepped::Waits(load) => Stepped::Waits(Read::Loading(fd, buf, load)),
-        Stepped::Ran(load, kind) => Stepped::Ran(Read::Loading(fd, buf, load), kind),
-        Stepped::Done(came, kind) => match came {
-            LoadedFile::Refused(why) => {
-                Stepped::Done(failed(Call::Read { fd, buf }, cause_of(why)), kind)
-            }
-            LoadedFile::Loaded(file, inode) => Stepped::Ran(begin(fd, buf, file, inode), kind),
-        },
-        Stepped::Stopped(load) => Stepped::Stopped(Read::Loading(fd, buf, load)),
-    }
-}
-
-// A step of the reading.
-#[tactic(auto, unfolding(crate::specs::Machines::read_call_of, crate::specs::Machines::ReadCallFits))]
-fn reading(
-    fd: u32,
-    offset: u32,
-    stepped: Stepped<ReadPart, Reading, Kind>,
-) -> Stepped<Read, Reply, Kind>
-    ensures follows { (v : InodeState) → LeftOf (λ m. (reader_of m).value ≡ v) (λ r. r.inode.value ≡ v) stepped → Follows read_of filled_in read_call_of (λ reply. reply) (give_read fd offset v) stepped result }
-    ensures fits { (hart : ℕ) (s : State) → LeftOf (λ m. IsOwnInode hart (reader_of m).value.number (reader_of m) s × ReadFits hart s m) (λ r. IsOwnInode hart r.inode.value.number r.inode s) stepped → LeftOf (ReadCallFits hart s) (λ _. Unit {0}) result }
-{
-    match stepped {
-        Stepped::Waits(part) => Stepped::Waits(Read::Reading(fd, offset, part)),
-        Stepped::Ran(part, kind) => Stepped::Ran(Read::Reading(fd, offset, part), kind),
-        Stepped::Done(reading, kind) => Stepped::Ran(Read::Give(fd, offset, reading), kind),
-        Stepped::Stopped(part) => Stepped::Stopped(Read::Reading(fd, offset, part)),
     }
 }
 

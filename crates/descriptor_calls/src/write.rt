@@ -1,24 +1,33 @@
 //! write: pieces, each in a transaction of its own.
-ghost use Rattle.std.specs.Prelude.{◌≡◌, ◌+◌, ◌≤◌, ◌<◌, ◌^◌, ℕ, Some, IsSome, List, [], length};
+ghost use Rattle.std.specs.Prelude.{◌≡◌, ◌+◌, ◌≤◌, ◌<◌, ◌^◌, ℕ, Option, Some, IsSome, List, [], length};
 ghost use Rattle.plain_tree.specs.declared.call.Call.TheVariants.{Write as WriteCall};
 ghost use Rattle.plain_tree.specs.Widths.{piece_len};
 ghost use Rattle.fs_layout.specs.Widths.{bits_per_block};
 ghost use Rattle.atomic_programs.specs.Prog.{Ran as ItRan};
-ghost use Rattle.atomic_programs.specs.Machines.{Still, Left as LeftOf};
 ghost use Rattle.fs_machine.specs.LogPart.{Outside};
 ghost use Rattle.fs_machine.specs.Premises.{May};
 ghost use Rattle.fs_machine.specs.Steps.{State, state_of, exec, Unlock};
-ghost use Rattle.fs_machine.specs.Machines.{MayNext, Moves, Answers, CallsOnce};
+ghost use Rattle.fs_machine.specs.Machines.{MayNext};
+ghost use Rattle.fs_machine.specs.Places.{StepsAt};
 ghost use Rattle.fs_machine.specs.Tied.{IsOwnInode, LeavesTied};
-ghost use Rattle.fs_machine.specs.Fetching.{finish_of, FinishFits};
-ghost use Rattle.inode_table.specs.Machines.{load_of, LoadFits};
-ghost use Rattle.inode_data.specs.Following.{Follows};
 ghost use Rattle.inode_data.specs.Records.{record_in};
-ghost use Rattle.inode_data.specs.PartWriting.{write_of, writer_of, written_of, WriteFits};
+ghost use Rattle.inode_data.specs.PartWriting.{written_of};
+ghost use Rattle.sleep_lock.specs.SleepLock.{GuardState};
+ghost use Rattle.plain_tree.specs.declared.answer.Cause.{Cause as CauseState};
+ghost use Rattle.fs_tables.specs.declared.inodes.Inode.{Inode as InodeState};
+ghost use Rattle.fs_tables.specs.declared.files.OpenFile.{OpenFile as OpenFileState};
+ghost use Rattle.fs_machine.specs.declared.finish.Finish.{Finish as FinishState};
+ghost use Rattle.inode_table.specs.declared.load_inode.LoadInode.{LoadInode as LoadState};
+ghost use Rattle.inode_data.specs.declared.write_part.PartWritten.{PartWritten as WrittenState};
+ghost use Rattle.inode_data.specs.declared.write_part.WritePart.{WritePart as PartState};
 ghost use Rattle.file_table.specs.Machines.{IsEarly};
-ghost use Rattle.descriptor_calls.specs.Writing.{after_piece, behind, checked_reply, end_of, give_written, leave_piece, part_of, piece_refused, write_call_of, write_loaded, write_locked, write_program, IsWrite, WriteCallFits};
+ghost use Rattle.descriptor_calls.specs.declared.write.Writes.{Writes as WritesState};
+ghost use Rattle.descriptor_calls.specs.declared.write.Ended.{Ended as EndedState};
+ghost use Rattle.descriptor_calls.specs.declared.write.Write.TheVariants as write;
+ghost use Rattle.descriptor_calls.specs.Writing.{after_piece, behind, checked_reply, end_of, leave_piece, part_of, piece_refused, write_call_of, write_loaded, write_locked, write_program, IsWrite, WriteCallFits};
 
-use atomic_programs::machines::Stepped;
+use crate::nested::{Nested, let_go, put_back, take};
+use atomic_programs::machines::Came;
 use block_device::Device;
 use buffer_cache::HARTS;
 use call_parts::{cause_of, failed, full};
@@ -31,6 +40,7 @@ use inode_data::{MOST_BLOCKS, PartWritten, WritePart, record, with_record};
 use inode_table::LoadInode;
 use plain_tree::{Answer, Bytes, Call, Cause, Full, Reply};
 use sleep_lock::Guard;
+use std::mem;
 
 /// How many bytes a piece has at most.
 const PIECE_LEN: usize = 3072;
@@ -70,17 +80,19 @@ pub enum Write {
     /// The lock of what the descriptor names is taken.
     Lock(Writes, Txn),
     /// The inode is loaded.
-    Loading(Writes, Txn, OpenFile, Guard<Inode>, LoadInode),
+    Loading(Writes, Txn, OpenFile, Guard<Inode>, Option<LoadInode>),
     /// The piece is written from this offset on.
-    Writing(Writes, Txn, u32, WritePart),
+    Writing(Writes, Txn, u32, Option<WritePart>),
     /// The piece is refused: the lock is given up.
     Deny(Writes, Txn, Guard<Inode>, Cause),
     /// The piece was written from this offset on: the lock is given up, and the offset moves.
     Give(Writes, Txn, u32, PartWritten),
     /// The transaction is left.
-    Leaving(Writes, Ended, Finish),
+    Leaving(Writes, Ended, Option<Finish>),
     /// The reply is given.
     Say(Reply),
+    /// It has ended, or is being changed.
+    Gone,
 }
 
 impl Write {
@@ -106,64 +118,239 @@ impl Write {
         })
     }
 
-    /// One operation.
+    /// One operation, in its place.
     #[tactic(auto, unfolding(crate::specs::Writing::write_call_of, crate::specs::Writing::WriteCallFits, fs_machine::specs::Premises::Honest))]
-    pub fn step<D: Device>(self, hart: u8, core: &mut Core<D>) -> Stepped<Write, Reply, Kind>
+    pub fn step<D: Device>(&mut self, hart: u8, core: &mut Core<D>) -> Came<Reply, Kind>
         requires hart { hart < HARTS }
-        requires may { MayNext hart (write_call_of self) (state_of D.contents D.failures core.old) }
-        requires fits { WriteCallFits hart (state_of D.contents D.failures core.old) self }
-        ensures moves { Moves write_call_of (λ reply. reply) hart self result (state_of D.contents D.failures core.old) (state_of D.contents D.failures core.new) }
-        ensures honest { Answers write_call_of hart self result (state_of D.contents D.failures core.old) (state_of D.contents D.failures core.new) }
-        ensures still { Still write_call_of result self core.old core.new }
-        ensures fits { LeftOf (WriteCallFits hart (state_of D.contents D.failures core.new)) (λ _. Unit {0}) result }
-        ensures others { LeavesTied hart (state_of D.contents D.failures core.old) (state_of D.contents D.failures core.new) }
-        ensures called { CallsOnce D.Called core.old.log.cache.device core.new.log.cache.device }
+        requires may { MayNext hart (write_call_of self.old) (state_of D.contents D.failures core.old) }
+        requires fits { WriteCallFits hart (state_of D.contents D.failures core.old) self.old }
+        ensures steps { StepsAt D.contents D.failures D.Called write_call_of (λ reply. reply) WriteCallFits (λ _. Unit {0}) write.Gone hart self.old self.new result core.old core.new }
     {
         match self {
-            Write::Check(fd, bytes) => {
-                let why = core.check_file(hart, Want::Write, fd);
-                Stepped::Done(checked(fd, bytes, why), Kind::Reply)
-            }
-            Write::Begin(writes) => match core.join_to_write(hart, writes.fd) {
-                JoinedToWrite::Waits => Stepped::Waits(Write::Begin(writes)),
-                JoinedToWrite::Refused(why) => {
-                    Stepped::Done(failed(call_of(writes), cause_of(why)), Kind::Reply)
+            Write::Check(_, _) => match mem::replace(self, Write::Gone) {
+                Write::Check(fd, bytes) => {
+                    let why = core.check_file(hart, Want::Write, fd);
+                    Came::Done(checked(fd, bytes, why), Kind::Reply)
                 }
-                JoinedToWrite::Joined(txn, _) => Stepped::Ran(Write::Lock(writes, txn), Kind::Join),
+                _ => unreachable!(),
             },
-            Write::Join(writes) => match core.join(hart) {
-                None => Stepped::Waits(Write::Join(writes)),
-                Some(txn) => Stepped::Ran(Write::Lock(writes, txn), Kind::Join),
+            Write::Begin(_) => self.begin(hart, core),
+            Write::Join(_) => self.join(hart, core),
+            Write::Lock(_, _) => self.lock(hart, core),
+            Write::Loading(_, _, _, _, _) => self.load(hart, core),
+            Write::Writing(_, _, _, _) => self.write(hart, core),
+            Write::Deny(_, _, _, _) => self.deny(hart, core),
+            Write::Give(_, _, _, _) => self.give_up(hart, core),
+            Write::Leaving(_, _, _) => self.finish(hart, core),
+            Write::Say(_) => match mem::replace(self, Write::Gone) {
+                Write::Say(reply) => {
+                    core.reply(hart);
+                    Came::Done(reply, Kind::Reply)
+                }
+                _ => unreachable!(),
             },
-            Write::Lock(writes, txn) => match core.lock_open(hart, writes.fd) {
-                None => Stepped::Waits(Write::Lock(writes, txn)),
-                Some((file, guard)) => Stepped::Ran(locked(writes, txn, file, guard), Kind::Lock),
+            Write::Gone => unreachable!(),
+        }
+    }
+
+    // A transaction is joined for the first piece.
+    #[tactic(auto, unfolding(crate::specs::Writing::write_call_of, crate::specs::Writing::WriteCallFits, fs_machine::specs::Premises::Honest))]
+    fn begin<D: Device>(&mut self, hart: u8, core: &mut Core<D>) -> Came<Reply, Kind>
+        requires begin { (x : WritesState) × (self.old ≡ write.Begin x) }
+        requires may { MayNext hart (write_call_of self.old) (state_of D.contents D.failures core.old) }
+        requires fits { WriteCallFits hart (state_of D.contents D.failures core.old) self.old }
+        ensures steps { StepsAt D.contents D.failures D.Called write_call_of (λ reply. reply) WriteCallFits (λ _. Unit {0}) write.Gone hart self.old self.new result core.old core.new }
+    {
+        match self {
+            Write::Begin(writes) => match core.join_to_write(hart, writes.fd) {
+                JoinedToWrite::Waits => Came::Waits,
+                JoinedToWrite::Refused(why) => match mem::replace(self, Write::Gone) {
+                    Write::Begin(writes) => {
+                        Came::Done(failed(call_of(writes), cause_of(why)), Kind::Reply)
+                    }
+                    _ => unreachable!(),
+                },
+                JoinedToWrite::Joined(txn, _) => match mem::replace(self, Write::Gone) {
+                    Write::Begin(writes) => {
+                        self.put(Write::Lock(writes, txn));
+                        Came::Ran(Kind::Join)
+                    }
+                    _ => unreachable!(),
+                },
             },
-            Write::Loading(writes, txn, file, guard, load) => {
-                loading(writes, txn, file, guard, load.step(hart, core))
+            _ => unreachable!(),
+        }
+    }
+
+    // A transaction is joined for a later piece.
+    #[tactic(auto, unfolding(crate::specs::Writing::write_call_of, crate::specs::Writing::WriteCallFits, fs_machine::specs::Premises::Honest))]
+    fn join<D: Device>(&mut self, hart: u8, core: &mut Core<D>) -> Came<Reply, Kind>
+        requires join { (x : WritesState) × (self.old ≡ write.Join x) }
+        requires may { MayNext hart (write_call_of self.old) (state_of D.contents D.failures core.old) }
+        requires fits { WriteCallFits hart (state_of D.contents D.failures core.old) self.old }
+        ensures steps { StepsAt D.contents D.failures D.Called write_call_of (λ reply. reply) WriteCallFits (λ _. Unit {0}) write.Gone hart self.old self.new result core.old core.new }
+    {
+        let Some(txn) = core.join(hart) else {
+            return Came::Waits;
+        };
+        match mem::replace(self, Write::Gone) {
+            Write::Join(writes) => {
+                self.put(Write::Lock(writes, txn));
+                Came::Ran(Kind::Join)
             }
-            Write::Writing(writes, txn, offset, part) => {
-                let mut txn = txn;
-                let stepped = part.step(hart, &mut txn, part_of(&writes), core);
-                writing(writes, txn, offset, stepped)
+            _ => unreachable!(),
+        }
+    }
+
+    // The lock of what the descriptor names is taken.
+    #[tactic(auto, unfolding(crate::specs::Writing::write_call_of, crate::specs::Writing::WriteCallFits, fs_machine::specs::Premises::Honest))]
+    fn lock<D: Device>(&mut self, hart: u8, core: &mut Core<D>) -> Came<Reply, Kind>
+        requires lock { (x : WritesState × ℕ) × (self.old ≡ write.Lock x.0 x.1) }
+        requires may { MayNext hart (write_call_of self.old) (state_of D.contents D.failures core.old) }
+        requires fits { WriteCallFits hart (state_of D.contents D.failures core.old) self.old }
+        ensures steps { StepsAt D.contents D.failures D.Called write_call_of (λ reply. reply) WriteCallFits (λ _. Unit {0}) write.Gone hart self.old self.new result core.old core.new }
+    {
+        match self {
+            Write::Lock(writes, _) => match core.lock_open(hart, writes.fd) {
+                None => Came::Waits,
+                Some((file, guard)) => match mem::replace(self, Write::Gone) {
+                    Write::Lock(writes, txn) => {
+                        self.put(locked(writes, txn, file, guard));
+                        Came::Ran(Kind::Lock)
+                    }
+                    _ => unreachable!(),
+                },
+            },
+            _ => unreachable!(),
+        }
+    }
+
+    // The inode is loaded.
+    #[tactic(auto, unfolding(crate::specs::Writing::write_call_of, crate::specs::Writing::WriteCallFits))]
+    fn load<D: Device>(&mut self, hart: u8, core: &mut Core<D>) -> Came<Reply, Kind>
+        requires loading { (x : WritesState × ℕ × OpenFileState × GuardState InodeState × Option LoadState) × (self.old ≡ write.Loading x.0 x.1 x.2 x.3 x.4) }
+        requires may { MayNext hart (write_call_of self.old) (state_of D.contents D.failures core.old) }
+        requires fits { WriteCallFits hart (state_of D.contents D.failures core.old) self.old }
+        ensures steps { StepsAt D.contents D.failures D.Called write_call_of (λ reply. reply) WriteCallFits (λ _. Unit {0}) write.Gone hart self.old self.new result core.old core.new }
+    {
+        match self {
+            Write::Loading(_, _, _, _, place) => {
+                let load = take(place);
+                match put_back(place, load.step(hart, core)) {
+                    Nested::Goes(came) => came,
+                    Nested::Ends(inode, kind) => match mem::replace(self, Write::Gone) {
+                        Write::Loading(writes, txn, file, guard, place) => {
+                            let_go(place);
+                            self.put(loaded(writes, txn, file, with_record(guard, inode)));
+                            Came::Ran(kind)
+                        }
+                        _ => unreachable!(),
+                    },
+                }
             }
+            _ => unreachable!(),
+        }
+    }
+
+    // The piece is written.
+    #[tactic(auto, unfolding(crate::specs::Writing::write_call_of, crate::specs::Writing::WriteCallFits))]
+    fn write<D: Device>(&mut self, hart: u8, core: &mut Core<D>) -> Came<Reply, Kind>
+        requires writing { (x : WritesState × ℕ × ℕ × Option PartState) × (self.old ≡ write.Writing x.0 x.1 x.2 x.3) }
+        requires may { MayNext hart (write_call_of self.old) (state_of D.contents D.failures core.old) }
+        requires fits { WriteCallFits hart (state_of D.contents D.failures core.old) self.old }
+        ensures steps { StepsAt D.contents D.failures D.Called write_call_of (λ reply. reply) WriteCallFits (λ _. Unit {0}) write.Gone hart self.old self.new result core.old core.new }
+    {
+        match self {
+            Write::Writing(writes, txn, _, place) => {
+                let part = take(place);
+                match put_back(place, part.step(hart, txn, part_of(writes), core)) {
+                    Nested::Goes(came) => came,
+                    Nested::Ends(written, kind) => match mem::replace(self, Write::Gone) {
+                        Write::Writing(writes, txn, offset, place) => {
+                            let_go(place);
+                            self.put(Write::Give(writes, txn, offset, written));
+                            Came::Ran(kind)
+                        }
+                        _ => unreachable!(),
+                    },
+                }
+            }
+            _ => unreachable!(),
+        }
+    }
+
+    // The lock is given up, of what isn't written.
+    #[tactic(auto, unfolding(crate::specs::Writing::write_call_of, crate::specs::Writing::WriteCallFits, fs_machine::specs::Premises::Honest))]
+    fn deny<D: Device>(&mut self, hart: u8, core: &mut Core<D>) -> Came<Reply, Kind>
+        requires deny { (x : WritesState × ℕ × GuardState InodeState × CauseState) × (self.old ≡ write.Deny x.0 x.1 x.2 x.3) }
+        requires may { MayNext hart (write_call_of self.old) (state_of D.contents D.failures core.old) }
+        requires fits { WriteCallFits hart (state_of D.contents D.failures core.old) self.old }
+        ensures steps { StepsAt D.contents D.failures D.Called write_call_of (λ reply. reply) WriteCallFits (λ _. Unit {0}) write.Gone hart self.old self.new result core.old core.new }
+    {
+        match mem::replace(self, Write::Gone) {
             Write::Deny(writes, txn, guard, why) => {
                 core.unlock(hart, guard);
-                Stepped::Ran(leave(writes, txn, Ended::Refused(why)), Kind::Unlock)
+                self.put(leave(writes, txn, Ended::Refused(why)));
+                Came::Ran(Kind::Unlock)
             }
+            _ => unreachable!(),
+        }
+    }
+
+    // The lock is given up, and the offset moves.
+    #[tactic(auto, unfolding(crate::specs::Writing::write_call_of, crate::specs::Writing::WriteCallFits, fs_machine::specs::Premises::Honest))]
+    fn give_up<D: Device>(&mut self, hart: u8, core: &mut Core<D>) -> Came<Reply, Kind>
+        requires hart { hart < HARTS }
+        requires give { (x : WritesState × ℕ × ℕ × WrittenState) × (self.old ≡ write.Give x.0 x.1 x.2 x.3) }
+        requires may { MayNext hart (write_call_of self.old) (state_of D.contents D.failures core.old) }
+        requires fits { WriteCallFits hart (state_of D.contents D.failures core.old) self.old }
+        ensures steps { StepsAt D.contents D.failures D.Called write_call_of (λ reply. reply) WriteCallFits (λ _. Unit {0}) write.Gone hart self.old self.new result core.old core.new }
+    {
+        match mem::replace(self, Write::Gone) {
             Write::Give(writes, txn, offset, written) => {
                 let ended = give(&writes, offset, written, hart, core);
-                Stepped::Ran(leave(writes, txn, ended), Kind::Unlock)
+                self.put(leave(writes, txn, ended));
+                Came::Ran(Kind::Unlock)
             }
-            Write::Leaving(writes, ended, finish) => leaving(
-                writes,
-                ended,
-                finish.step(hart, core),
-            ),
-            Write::Say(reply) => {
-                core.reply(hart);
-                Stepped::Done(reply, Kind::Reply)
+            _ => unreachable!(),
+        }
+    }
+
+    // The piece's transaction is left.
+    #[tactic(auto, unfolding(crate::specs::Writing::write_call_of, crate::specs::Writing::WriteCallFits))]
+    fn finish<D: Device>(&mut self, hart: u8, core: &mut Core<D>) -> Came<Reply, Kind>
+        requires leaving { (x : WritesState × EndedState × Option FinishState) × (self.old ≡ write.Leaving x.0 x.1 x.2) }
+        requires may { MayNext hart (write_call_of self.old) (state_of D.contents D.failures core.old) }
+        requires fits { WriteCallFits hart (state_of D.contents D.failures core.old) self.old }
+        ensures steps { StepsAt D.contents D.failures D.Called write_call_of (λ reply. reply) WriteCallFits (λ _. Unit {0}) write.Gone hart self.old self.new result core.old core.new }
+    {
+        match self {
+            Write::Leaving(_, _, place) => {
+                let finish = take(place);
+                match put_back(place, finish.step(hart, core)) {
+                    Nested::Goes(came) => came,
+                    Nested::Ends((), kind) => match mem::replace(self, Write::Gone) {
+                        Write::Leaving(writes, ended, place) => {
+                            let_go(place);
+                            self.put(next(writes, ended));
+                            Came::Ran(kind)
+                        }
+                        _ => unreachable!(),
+                    },
+                }
             }
+            _ => unreachable!(),
+        }
+    }
+
+    // Has this stand in the place of what has gone.
+    fn put(&mut self, next: Write)
+        requires { self.old ≡ write.Gone }
+        ensures { self.new ≡ next }
+    {
+        match mem::replace(self, next) {
+            Write::Gone => {}
+            _ => unreachable!(),
         }
     }
 
@@ -177,11 +364,17 @@ impl Write {
             Write::Loading(_, txn, _, guard, load) => {
                 txn.retire(&retired.log);
                 guard.retire_in_row(&retired.inodes);
-                load.retire(retired);
+                match load {
+                    None => {}
+                    Some(load) => load.retire(retired),
+                }
             }
             Write::Writing(_, txn, _, part) => {
                 txn.retire(&retired.log);
-                part.retire(retired);
+                match part {
+                    None => {}
+                    Some(part) => part.retire(retired),
+                }
             }
             Write::Deny(_, txn, guard, _) => {
                 txn.retire(&retired.log);
@@ -192,8 +385,12 @@ impl Write {
                 txn.retire(&retired.log);
                 inode.retire_in_row(&retired.inodes);
             }
-            Write::Leaving(_, _, finish) => finish.retire(retired),
+            Write::Leaving(_, _, finish) => match finish {
+                None => {}
+                Some(finish) => finish.retire(retired),
+            },
             Write::Say(_) => {}
+            Write::Gone => {}
         }
     }
 }
@@ -268,7 +465,7 @@ fn loaded(writes: Writes, txn: Txn, file: OpenFile, guard: Guard<Inode>) -> Writ
         Some(why) => Write::Deny(writes, txn, guard, why),
         None => {
             let part = WritePart::begin(guard, &writes.sizes, file.offset, count);
-            Write::Writing(writes, txn, file.offset, part)
+            Write::Writing(writes, txn, file.offset, Some(part))
         }
     }
 }
@@ -286,62 +483,8 @@ fn locked(writes: Writes, txn: Txn, file: OpenFile, guard: Guard<Inode>) -> Writ
         Some(_) => loaded(writes, txn, file, guard),
         None => {
             let load = LoadInode::new(writes.sizes.inodestart, file.number);
-            Write::Loading(writes, txn, file, guard, load)
+            Write::Loading(writes, txn, file, guard, Some(load))
         }
-    }
-}
-
-// A step while the inode is loaded.
-#[tactic(auto, unfolding(crate::specs::Writing::write_call_of, crate::specs::Writing::WriteCallFits))]
-fn loading(
-    writes: Writes,
-    txn: Txn,
-    file: OpenFile,
-    guard: Guard<Inode>,
-    stepped: Stepped<LoadInode, Dinode, Kind>,
-) -> Stepped<Write, Reply, Kind>
-    requires write { IsWrite writes }
-    requires number { file.number < 2 ^ 16 }
-    requires same { guard.value.number ≡ file.number }
-    ensures follows { Follows load_of (λ d. d) write_call_of (λ reply. reply) (write_loaded writes.sizes writes.fd writes.bytes writes.piece (behind writes) file) stepped result }
-    ensures fits { (hart : ℕ) (s : State) → txn ≡ hart → IsOwnInode hart file.number guard s → LeftOf (LoadFits hart s) (λ _. Unit {0}) stepped → LeftOf (WriteCallFits hart s) (λ _. Unit {0}) result }
-{
-    match stepped {
-        Stepped::Waits(load) => Stepped::Waits(Write::Loading(writes, txn, file, guard, load)),
-        Stepped::Ran(load, kind) => {
-            Stepped::Ran(Write::Loading(writes, txn, file, guard, load), kind)
-        }
-        Stepped::Done(inode, kind) => {
-            Stepped::Ran(loaded(writes, txn, file, with_record(guard, inode)), kind)
-        }
-        Stepped::Stopped(load) => {
-            Stepped::Stopped(Write::Loading(writes, txn, file, guard, load))
-        }
-    }
-}
-
-// A step of the piece's writing.
-#[tactic(auto, unfolding(crate::specs::Writing::write_call_of, crate::specs::Writing::WriteCallFits))]
-fn writing(
-    writes: Writes,
-    txn: Txn,
-    offset: u32,
-    stepped: Stepped<WritePart, PartWritten, Kind>,
-) -> Stepped<Write, Reply, Kind>
-    requires { IsWrite writes }
-    ensures follows { (n : ℕ) → LeftOf (λ m. (writer_of m).value.number ≡ n) (λ r. (r.inode.value.number ≡ n) × IsSome r.inode.value.content) stepped
-        → Follows (write_of (part_of writes)) written_of write_call_of (λ reply. reply) (give_written writes.fd n offset (length (part_of writes)) writes.bytes (behind writes)) stepped result }
-    ensures fits { (hart : ℕ) (s : State) → txn ≡ hart
-        → LeftOf (λ m. IsOwnInode hart (writer_of m).value.number (writer_of m) s × WriteFits hart (part_of writes) s m) (λ r. IsOwnInode hart r.inode.value.number r.inode s) stepped
-        → LeftOf (WriteCallFits hart s) (λ _. Unit {0}) result }
-{
-    match stepped {
-        Stepped::Waits(part) => Stepped::Waits(Write::Writing(writes, txn, offset, part)),
-        Stepped::Ran(part, kind) => Stepped::Ran(Write::Writing(writes, txn, offset, part), kind),
-        Stepped::Done(written, kind) => {
-            Stepped::Ran(Write::Give(writes, txn, offset, written), kind)
-        }
-        Stepped::Stopped(part) => Stepped::Stopped(Write::Writing(writes, txn, offset, part)),
     }
 }
 
@@ -379,7 +522,7 @@ fn leave(writes: Writes, txn: Txn, ended: Ended) -> Write
     ensures program { write_call_of result ≡ leave_piece writes.fd writes.bytes (behind writes) ended }
     ensures fits { (hart : ℕ) (s : State) → txn ≡ hart → WriteCallFits hart s result }
 {
-    Write::Leaving(writes, ended, Finish::Leave(txn))
+    Write::Leaving(writes, ended, Some(Finish::Leave(txn)))
 }
 
 // Goes on behind a piece that ended so.
@@ -414,23 +557,4 @@ fn more(writes: Writes) -> Write
     writes.piece += 1;
     writes.left -= 1;
     Write::Join(writes)
-}
-
-// A step while the piece's transaction is left.
-#[tactic(auto, unfolding(crate::specs::Writing::write_call_of, crate::specs::Writing::WriteCallFits))]
-fn leaving(
-    writes: Writes,
-    ended: Ended,
-    stepped: Stepped<Finish, (), Kind>,
-) -> Stepped<Write, Reply, Kind>
-    requires { IsWrite writes }
-    ensures follows { Follows finish_of (λ x. x) write_call_of (λ reply. reply) (λ _. after_piece writes.fd writes.bytes (behind writes) ended) stepped result }
-    ensures fits { (hart : ℕ) (s : State) → LeftOf (FinishFits hart) (λ _. Unit {0}) stepped → LeftOf (WriteCallFits hart s) (λ _. Unit {0}) result }
-{
-    match stepped {
-        Stepped::Waits(finish) => Stepped::Waits(Write::Leaving(writes, ended, finish)),
-        Stepped::Ran(finish, kind) => Stepped::Ran(Write::Leaving(writes, ended, finish), kind),
-        Stepped::Done((), kind) => Stepped::Ran(next(writes, ended), kind),
-        Stepped::Stopped(finish) => Stepped::Stopped(Write::Leaving(writes, ended, finish)),
-    }
 }

@@ -1,4 +1,5 @@
-pub mod Emptying
 pub mod Installing
 pub mod Makings
+pub mod Operating
+pub mod Placing
 pub mod Raising

@@ -1,10 +1,11 @@
 -- A new inode made and named.
-use Rattle.std.proofs.Common.{◌≡◌, ◌∙◌, ℕ, refl, ap}
+use Rattle.std.proofs.Common.{◌≡◌, ◌∙◌, ℕ, Some, refl, sym, ap, subst}
 use Rattle.fs_layout.specs.declared.superblock.Super.{Super}
 use Rattle.plain_tree.specs.declared.answer.Full.{Full}
 use Rattle.plain_tree.specs.Tree.{Name}
 use Rattle.atomic_programs.specs.Prog.{bind}
-use Rattle.atomic_programs.specs.Machines.{Left}
+use Rattle.atomic_programs.specs.Machines.{Left, stepped_at}
+use Rattle.atomic_programs.specs.declared.machines.Came.{Came}
 use Rattle.atomic_programs.specs.declared.machines.Stepped.{Stepped}
 use Rattle.fs_machine.specs.declared.kind.Kind.{Kind}
 use Rattle.fs_machine.specs.Steps.{State}
@@ -13,19 +14,18 @@ use Rattle.fs_machine.specs.Tied.{IsOwnInode}
 use Rattle.inode_table.specs.Programs.{store}
 use Rattle.inode_table.specs.Machines.{store_of}
 use Rattle.inode_table.specs.declared.store_inode.StoreInode.{StoreInode}
-use Rattle.inode_data.specs.Beginnings.{begun_of, went_on_as}
+use Rattle.inode_data.specs.Beginnings.{begun_of, went_on_as, IfBegun}
 use Rattle.inode_data.specs.declared.begun.Begun.{Begun}
 use Rattle.inode_data.specs.declared.begun.Begun.TheVariants.{Runs, Is}
 use Rattle.inode_data.specs.Records.{record_in, with_record}
 use Rattle.call_parts.specs.Nesting.{GoesOn}
 use Rattle.call_parts.specs.Taking.{inode_in, IsHeld}
-use Rattle.making_calls.specs.Making.{NamedState, give_new, linked, link_new, make_of, unmake, IsMaking, IsNamed, IsThereNamed, MakeFits}
+use Rattle.making_calls.specs.Making.{NamedState, give_new, linked, link_new, make_of, unmake, IsMaking, IsNamed, IsThereNamed}
 use Rattle.call_parts.specs.Counts.{with_links}
 use Rattle.call_parts.specs.declared.take.Held.{Held}
 use Rattle.making_calls.specs.declared.make.Making.{Making}
-use Rattle.making_calls.specs.declared.make.Make.{Make}
 use Rattle.making_calls.specs.declared.make.Named.{Named}
-use Rattle.call_parts.proofs.Nesting.{left_map}
+use Rattle.inode_data.proofs.Beginnings.{went_on_left}
 use Rattle.call_parts.proofs.Tails.{own_on}
 use Rattle.making_calls.specs.declared.make.Make.TheVariants as making
 use Rattle.making_calls.specs.declared.make.Named.TheVariants as named
@@ -33,14 +33,14 @@ use Rattle.making_calls.specs.declared.make.Named.TheVariants as named
 -- ---- an inode whose record is changed before it is stored
 
 pub link_is : (name : Name) (m : Making) (held child : Held) (st : StoreInode) → child ≡ record held { inode = with_record (with_links 1 (record_in held.inode)) held.inode }
-    → store_of st ≡ store m.sizes.inodestart child.inode.value.number (record_in child.inode) → make_of name (making.Linking m child st) ≡ link_new m.sizes m.sort name (inode_in m.parent) (inode_in held)
+    → store_of st ≡ store m.sizes.inodestart child.inode.value.number (record_in child.inode) → make_of name (making.Linking m child (Some st)) ≡ link_new m.sizes m.sort name (inode_in m.parent) (inode_in held)
 unfolding make_of
 link_is name m held child st is program =
     ap (λ (p : P (Unit {0})). bind p (λ _. linked m.sizes m.sort name (inode_in m.parent) (inode_in child))) program
     ∙ ap (λ (h : Held). let p : P NamedState = bind (store m.sizes.inodestart h.inode.value.number (record_in h.inode)) (λ _. linked m.sizes m.sort name (inode_in m.parent) (inode_in h)) in p) is
 
 pub unmake_is : (name : Name) (sizes : Super) (parent held child : Held) (what : Full) (st : StoreInode) → child ≡ record held { inode = with_record (with_links 0 (record_in held.inode)) held.inode }
-    → store_of st ≡ store sizes.inodestart child.inode.value.number (record_in child.inode) → make_of name (making.Unlinking sizes parent child what st) ≡ unmake sizes (inode_in parent) (inode_in held) what
+    → store_of st ≡ store sizes.inodestart child.inode.value.number (record_in child.inode) → make_of name (making.Unlinking sizes parent child what (Some st)) ≡ unmake sizes (inode_in parent) (inode_in held) what
 unfolding make_of
 unmake_is name sizes parent held child what st is program =
     ap (λ (p : P (Unit {0})). bind p (λ _. give_new sizes (inode_in parent) (inode_in child) what)) program
@@ -64,14 +64,18 @@ parent_held hart m s had = record { own = had.parent.own; there = had.parent.the
 -- ---- a machine that has an inode's guard, and gives it back with a record
 
 -- a step that goes on by a beginning
-pub begun_goes_on : {N T B : Type 0} (outer : N → P B) (worth : T → B) (b : Begun N T) (kind : Kind) (p : P B) → begun_of outer worth b ≡ p → GoesOn outer worth kind p (went_on_as b kind)
-begun_goes_on outer worth (Runs m) kind p e = (refl, e)
-begun_goes_on outer worth (Is r) kind p e = (refl, e)
+module _ {N T B : Type 0} (outer : N → P B) (worth : T → B) (kind : Kind) (p : P B) where
+  goes_on : (begun : Begun N T) → begun_of outer worth begun ≡ p → GoesOn outer worth kind p (went_on_as begun kind)
+  goes_on (Runs m) e = (refl, e)
+  goes_on (Is r) e = (refl, e)
+
+  pub begun_goes : (begun : Begun N T) (left : N) (to : Came T Kind) → stepped_at left to ≡ went_on_as begun kind → begun_of outer worth begun ≡ p → GoesOn outer worth kind p (stepped_at left to)
+  begun_goes begun left to is e = subst (λ (x : Stepped N T Kind). GoesOn outer worth kind p x) (sym is) (goes_on begun e)
+
+pub begun_left : {N T : Type 0} (Fits : N → Type 0) (Ends : T → Type 0) (begun : Begun N T) (kind : Kind) (left : N) (to : Came T Kind) → stepped_at left to ≡ went_on_as begun kind → IfBegun Fits Ends begun → Left Fits Ends (stepped_at left to)
+begun_left {N} {T} Fits Ends begun kind left to is fits = subst (λ (x : Stepped N T Kind). Left Fits Ends x) (sym is) (went_on_left Fits Ends begun kind fits)
 
 -- what is known of a result, without its state
-is_there_named : (hart : ℕ) (s : State) (r : Named) → IsNamed hart s r → IsThereNamed r
+pub is_there_named : (hart : ℕ) (s : State) (r : Named) → IsNamed hart s r → IsThereNamed r
 is_there_named hart s (named.There parent child) known = known.0.there
 is_there_named hart s (named.Lacks parent what) known = tt
-
-pub named_left : (hart : ℕ) (s : State) (stepped : Stepped Make Named Kind) → Left (MakeFits hart s) (IsNamed hart s) stepped → Left (λ _. Unit {0}) IsThereNamed stepped
-named_left hart s stepped left = left_map (MakeFits hart s) (λ _. Unit {0}) (IsNamed hart s) IsThereNamed (λ m f. tt) (λ r f. is_there_named hart s r f) stepped left

@@ -1,5 +1,5 @@
 -- A new directory's parent, stored with one link more.
-use Rattle.std.proofs.Common.{◌≡◌, ◌∙◌, ℕ, List, ap}
+use Rattle.std.proofs.Common.{◌≡◌, ◌∙◌, ℕ, List, Some, ap}
 use Rattle.plain_tree.specs.declared.answer.Reply.{Reply}
 use Rattle.atomic_programs.specs.Prog.{bind}
 use Rattle.fs_machine.specs.Machines.{P}
@@ -15,7 +15,7 @@ use Rattle.call_parts.specs.declared.on_path.OnPath.{OnPath}
 use Rattle.making_calls.specs.declared.mkdir.Mkdir.TheVariants as mkdir
 
 pub raise_is : (on : OnPath) (txn : ℕ) (list : List ℕ) (links : ℕ) (parent raised child : Held) (st : StoreInode) → raised ≡ record parent { inode = with_record (with_links links (record_in parent.inode)) parent.inode }
-    → store_of st ≡ store on.sizes.inodestart raised.inode.value.number (record_in raised.inode) → mkdir_of (mkdir.Raising on txn list raised child st) ≡ raise_parent on.sizes on.path links (inode_in parent) (inode_in child) list
+    → store_of st ≡ store on.sizes.inodestart raised.inode.value.number (record_in raised.inode) → mkdir_of (mkdir.Raising on txn list raised child (Some st)) ≡ raise_parent on.sizes on.path links (inode_in parent) (inode_in child) list
 unfolding mkdir_of
 raise_is on txn list links parent raised child st is program =
     ap (λ (p : P (Unit {0})). bind p (λ _. leave_made on.sizes on.path (inode_in raised) (inode_in child) list)) program

@@ -16,13 +16,16 @@ use Rattle.call_parts.specs.Parts.{give_up, quit, stopped, take_inode}
 use Rattle.making_calls.specs.Opening.{open_at, open_reply, take_descriptor}
 use Rattle.making_calls.specs.Opens.{open_old_of, IsOpening, OpenOldFits}
 use Rattle.call_parts.specs.Taking.{inode_in, take_of, IsHeld, TakeFits}
-use Rattle.call_parts.specs.Ends.{give_of, GiveApart, GiveFits}
+use Rattle.call_parts.specs.Replies.{no_program}
+use Rattle.call_parts.specs.Ends.{give_of, quit_of, GiveApart, GiveFits, QuitFits}
 use Rattle.call_parts.specs.Seeking.{SeekState, Sees, Dotted, Dead, NoParent, seek, seek_of, SeekFits}
 use Rattle.making_calls.specs.Making.{NamedState, Names, Lacks, make, make_of, MakeFits}
 use Rattle.call_parts.specs.OnPaths.{IsSized}
 use Rattle.call_parts.specs.declared.seek.Dots.TheVariants as dots
 use Rattle.making_calls.specs.declared.make.Sort.TheVariants as sort
 use Rattle.making_calls.specs.declared.install.Opening.{Opening}
+use Rattle.call_parts.specs.declared.quit.Quit.TheVariants as quitting
+use Rattle.making_calls.specs.declared.open_old.OpenOld.TheVariants as old
 use Rattle.making_calls.specs.declared.open_new.OpenNew.{OpenNew}
 use Rattle.making_calls.specs.declared.open_new.OpenNew.TheVariants as opening
 
@@ -73,6 +76,8 @@ open_new_of (opening.Taking o txn list m) = bind (take_of m) (λ w. open_at o.si
 open_new_of (opening.Making o txn list e m) = bind (make_of (name_in o.path e) m) (open_named o.sizes o.path o.flags list)
 open_new_of (opening.Made o txn list held m) = bind (give_of m) (λ _. open_made o.sizes o.path o.flags (inode_in held) list)
 open_new_of (opening.Opens m) = open_old_of m
+open_new_of (opening.Ends m) = quit_of m
+open_new_of opening.Gone = no_program
 
 -- a path without a zero byte, on a disk on which calls run
 pub record IsCreating (o : Opening) : Type 0 where
@@ -89,3 +94,18 @@ OpenNewFits hart s (opening.Taking o txn list m) = IsCreating o × (txn ≡ hart
 OpenNewFits hart s (opening.Making o txn list e m) = IsCreating o × (txn ≡ hart) × IsElement o.path e × MakeFits hart s m
 OpenNewFits hart s (opening.Made o txn list held m) = IsCreating o × (txn ≡ hart) × IsHeld hart held s × GiveFits hart s m × GiveApart held.reference m
 OpenNewFits hart s (opening.Opens m) = OpenOldFits hart s m
+OpenNewFits hart s (opening.Ends m) = QuitFits hart s m
+OpenNewFits hart s opening.Gone = ⊥
+
+-- nothing is left of what it ended with
+abbrev pub HasEnded : OpenNew → Type 0
+HasEnded (opening.Join o list) = ⊥
+HasEnded (opening.Seeking o txn m) = ⊥
+HasEnded (opening.Up o txn list held n) = ⊥
+HasEnded (opening.Leaving o txn list n m) = ⊥
+HasEnded (opening.Taking o txn list m) = ⊥
+HasEnded (opening.Making o txn list e m) = ⊥
+HasEnded (opening.Made o txn list held m) = ⊥
+HasEnded (opening.Opens m) = m ≡ old.Gone
+HasEnded (opening.Ends m) = m ≡ quitting.Gone
+HasEnded opening.Gone = ⊥

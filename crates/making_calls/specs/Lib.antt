@@ -1,3 +1,4 @@
+pub mod InPlace
 pub mod Opening
 pub mod Opens
 pub mod Making

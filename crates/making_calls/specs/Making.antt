@@ -1,5 +1,5 @@
 -- A new inode made and named: a program over what all harts share, and what is left of it. Nothing is marked in it.
-use Rattle.std.specs.Prelude.{◌≢◌, ℕ, ◌*◌, ◌==◌, List, ◌++◌, ℤ, pos, IsSome, if◌then◌else◌}
+use Rattle.std.specs.Prelude.{◌≢◌, ℕ, ◌*◌, ◌==◌, List, ◌++◌, ℤ, pos, None, IsSome, if◌then◌else◌}
 use Rattle.fs_layout.specs.declared.entry.Dirent.TheVariants.{Used}
 use Rattle.fs_layout.specs.declared.superblock.Super.{Super}
 use Rattle.fs_layout.specs.Entry.{spell_dirent}
@@ -13,14 +13,14 @@ use Rattle.fs_machine.specs.Steps.{State, Down, Freed}
 use Rattle.fs_machine.specs.Machines.{P}
 use Rattle.fs_machine.specs.Tied.{IsOwnInode}
 use Rattle.inode_table.specs.Programs.{record_of, store}
-use Rattle.inode_table.specs.Machines.{store_of, StoreFits}
+use Rattle.inode_table.specs.Machines.{StoreFits}
 use Rattle.inode_table.specs.NewInodes.{new_inode}
-use Rattle.inode_table.specs.NewMachines.{new_of, NewFits}
+use Rattle.inode_table.specs.NewMachines.{NewFits}
 use Rattle.inode_table.specs.declared.new_inode.Made.{Made}
 use Rattle.inode_table.specs.declared.new_inode.Made.TheVariants as made
 use Rattle.inode_data.specs.Writing.{WriteResult, write_part}
-use Rattle.inode_data.specs.PartWriting.{write_of, writer_of, WriteFits}
-use Rattle.directory.specs.Entering.{EnteredState, enter, enter_of, enterer_of, EnterFits}
+use Rattle.inode_data.specs.PartWriting.{writer_of, WriteFits}
+use Rattle.directory.specs.Entering.{EnteredState, enter, enterer_of, EnterFits}
 use Rattle.directory.specs.declared.enter.Room.{Room}
 use Rattle.directory.specs.declared.enter.Room.TheVariants as room
 use Rattle.path_walk.specs.Programs.{loaded}
@@ -28,6 +28,7 @@ use Rattle.call_parts.specs.Parts.{give_up, take_inode}
 use Rattle.call_parts.specs.Taking.{inode_in, take_of, IsHeld, TakeApart, TakeFits}
 use Rattle.call_parts.specs.Ends.{give_of, GiveApart, GiveFits}
 use Rattle.call_parts.specs.Seeking.{IsParent}
+use Rattle.making_calls.specs.InPlace.{enter_in, new_in, number_in, store_in, write_in, PlacedFits}
 use Rattle.making_calls.specs.declared.make.Sort.{Sort}
 use Rattle.making_calls.specs.declared.make.Sort.TheVariants as sort
 use Rattle.making_calls.specs.declared.make.Making.{Making}
@@ -101,13 +102,14 @@ module _ (sizes : Super) where
 -- ---- the programs that are left
 
 unfoldable pub make_of : Name → Make → P NamedState
-make_of e (making.Claiming m new) = bind (new_of new) (made_on m.sizes m.sort e (inode_in m.parent))
+make_of e (making.Claiming m new) = bind (new_in new) (made_on m.sizes m.sort e (inode_in m.parent))
 make_of e (making.Taking m take) = bind (take_of take) (link_new m.sizes m.sort e (inode_in m.parent))
-make_of e (making.Linking m child store) = bind (store_of store) (λ _. linked m.sizes m.sort e (inode_in m.parent) (inode_in child))
-make_of e (making.Filling m n bytes part) = bind (write_of bytes part) (filled_on m.sizes e (inode_in m.parent) (writer_of part).value.number)
-make_of e (making.Entering sizes n child enter) = bind (enter_of enter) (named_on sizes (enterer_of enter).value.number (inode_in child))
-make_of e (making.Unlinking sizes parent child what store) = bind (store_of store) (λ _. give_new sizes (inode_in parent) (inode_in child) what)
+make_of e (making.Linking m child store) = bind (store_in store) (λ _. linked m.sizes m.sort e (inode_in m.parent) (inode_in child))
+make_of e (making.Filling m n bytes part) = bind (write_in bytes part) (filled_on m.sizes e (inode_in m.parent) (number_in writer_of part))
+make_of e (making.Entering sizes n child enter) = bind (enter_in enter) (named_on sizes (number_in enterer_of enter) (inode_in child))
+make_of e (making.Unlinking sizes parent child what store) = bind (store_in store) (λ _. give_new sizes (inode_in parent) (inode_in child) what)
 make_of e (making.Giving parent what give) = bind (give_of give) (λ _. Ret (Lacks (inode_in parent) what))
+make_of e making.Gone = Ret (Lacks (record { number = 0; content = None }) fulls.Blocks)
 
 -- what its result stands for
 abbrev pub named_as : Named → NamedState
@@ -121,13 +123,14 @@ pub record IsMaking (hart : ℕ) (m : Making) (s : State) : Type 0 where
 
 -- its guards go with the state
 unfoldable pub MakeFits : ℕ → State → Make → Type 0
-MakeFits hart s (making.Claiming m new) = IsMaking hart m s × NewFits hart s new
+MakeFits hart s (making.Claiming m new) = IsMaking hart m s × PlacedFits (NewFits hart s) new
 MakeFits hart s (making.Taking m take) = IsMaking hart m s × TakeFits hart s take × TakeApart m.parent.reference take
-MakeFits hart s (making.Linking m child store) = IsMaking hart m s × IsHeld hart child s × (m.parent.reference ≢ child.reference) × StoreFits hart s store
-MakeFits hart s (making.Filling m n bytes part) = IsMaking hart m s × IsOwnInode hart n (writer_of part) s × (m.parent.reference ≢ n) × WriteFits hart bytes s part
-MakeFits hart s (making.Entering sizes n child enter) = IsSized sizes × IsOwnInode hart n (enterer_of enter) s × IsHeld hart child s × (n ≢ child.reference) × EnterFits hart s enter
-MakeFits hart s (making.Unlinking sizes parent child what store) = IsSized sizes × IsHeld hart parent s × IsHeld hart child s × (parent.reference ≢ child.reference) × StoreFits hart s store
+MakeFits hart s (making.Linking m child store) = IsMaking hart m s × IsHeld hart child s × (m.parent.reference ≢ child.reference) × PlacedFits (StoreFits hart s) store
+MakeFits hart s (making.Filling m n bytes part) = IsMaking hart m s × PlacedFits (λ w. IsOwnInode hart n (writer_of w) s) part × (m.parent.reference ≢ n) × PlacedFits (WriteFits hart bytes s) part
+MakeFits hart s (making.Entering sizes n child enter) = IsSized sizes × PlacedFits (λ w. IsOwnInode hart n (enterer_of w) s) enter × IsHeld hart child s × (n ≢ child.reference) × PlacedFits (EnterFits hart s) enter
+MakeFits hart s (making.Unlinking sizes parent child what store) = IsSized sizes × IsHeld hart parent s × IsHeld hart child s × (parent.reference ≢ child.reference) × PlacedFits (StoreFits hart s) store
 MakeFits hart s (making.Giving parent what give) = IsHeld hart parent s × GiveFits hart s give × GiveApart parent.reference give
+MakeFits hart s making.Gone = ⊥
 
 -- what is known of the result
 abbrev pub IsNamed : ℕ → State → Named → Type 0

@@ -16,15 +16,17 @@ use Rattle.fs_tables.specs.declared.inodes.Inode.{Inode}
 use Rattle.fs_machine.specs.Steps.{State, Join}
 use Rattle.fs_machine.specs.Machines.{P}
 use Rattle.inode_table.specs.Programs.{record_of, store}
-use Rattle.inode_table.specs.Machines.{store_of, StoreFits}
+use Rattle.inode_table.specs.Machines.{StoreFits}
 use Rattle.directory.specs.declared.found.Found.{Found}
 use Rattle.path_walk.specs.Elements.{name_in, IsElement}
 use Rattle.path_walk.specs.Programs.{loaded}
 use Rattle.call_parts.specs.Parts.{quit, stopped}
 use Rattle.call_parts.specs.Taking.{inode_in, IsHeld}
-use Rattle.call_parts.specs.Ends.{give_of, GiveApart, GiveFits}
+use Rattle.call_parts.specs.Replies.{no_program}
+use Rattle.call_parts.specs.Ends.{give_of, quit_of, GiveApart, GiveFits, QuitFits}
 use Rattle.call_parts.specs.OnPaths.{IsOnPath}
 use Rattle.call_parts.specs.Seeking.{SeekState, Sees, Dotted, Dead, NoParent, seek, seek_of, SeekFits}
+use Rattle.making_calls.specs.InPlace.{store_in, PlacedFits}
 use Rattle.making_calls.specs.Making.{NamedState, Names, Lacks, make, make_of, MakeFits}
 use Rattle.call_parts.specs.Counts.{with_links}
 use Rattle.call_parts.specs.OnPaths.{IsSized}
@@ -78,8 +80,10 @@ unfoldable pub mkdir_of : Mkdir → P Reply
 mkdir_of (mkdir.Join on list) = mkdir_program on.sizes on.path
 mkdir_of (mkdir.Seeking on txn m) = bind (seek_of on.path m) (mkdir_seen on.sizes on.path)
 mkdir_of (mkdir.Making on txn list e links m) = bind (make_of (name_in on.path e) m) (mkdir_named on.sizes on.path links list)
-mkdir_of (mkdir.Raising on txn list parent child m) = bind (store_of m) (λ _. leave_made on.sizes on.path (inode_in parent) (inode_in child) list)
+mkdir_of (mkdir.Raising on txn list parent child m) = bind (store_in m) (λ _. leave_made on.sizes on.path (inode_in parent) (inode_in child) list)
 mkdir_of (mkdir.Leaving on txn list child m) = bind (give_of m) (λ _. quit on.sizes (inode_in child ∷ []) list (mkdir_reply on.path answers.Done))
+mkdir_of (mkdir.Ends m) = quit_of m
+mkdir_of mkdir.Gone = no_program
 
 -- a path without a zero byte, on a disk on which calls run
 pub record IsNaming (on : OnPath) : Type 0 where
@@ -91,5 +95,7 @@ unfoldable pub MkdirFits : ℕ → State → Mkdir → Type 0
 MkdirFits hart s (mkdir.Join on list) = IsNaming on × (list ≡ [])
 MkdirFits hart s (mkdir.Seeking on txn m) = IsNaming on × (txn ≡ hart) × SeekFits on.path hart s m
 MkdirFits hart s (mkdir.Making on txn list e links m) = IsNaming on × (txn ≡ hart) × IsElement on.path e × (links < 2 ^ 15) × MakeFits hart s m
-MkdirFits hart s (mkdir.Raising on txn list parent child m) = IsNaming on × (txn ≡ hart) × IsHeld hart parent s × IsHeld hart child s × (parent.reference ≢ child.reference) × StoreFits hart s m
+MkdirFits hart s (mkdir.Raising on txn list parent child m) = IsNaming on × (txn ≡ hart) × IsHeld hart parent s × IsHeld hart child s × (parent.reference ≢ child.reference) × PlacedFits (StoreFits hart s) m
 MkdirFits hart s (mkdir.Leaving on txn list child m) = IsNaming on × (txn ≡ hart) × IsHeld hart child s × GiveFits hart s m × GiveApart child.reference m
+MkdirFits hart s (mkdir.Ends m) = QuitFits hart s m
+MkdirFits hart s mkdir.Gone = ⊥

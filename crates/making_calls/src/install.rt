@@ -1,28 +1,29 @@
 //! A place and a descriptor for an inode, and the end of an open.
-ghost use Rattle.std.specs.Prelude.{◌≡◌, ◌∷◌, ℕ, [], IsSome, IfErr};
-ghost use Rattle.atomic_programs.specs.Machines.{Still, Left as LeftOf};
+ghost use Rattle.std.specs.Prelude.{◌≡◌, ◌∷◌, ℕ, [], None, IsSome, IfErr, if◌then◌else◌};
 ghost use Rattle.fs_machine.specs.Steps.{State, state_of};
-ghost use Rattle.fs_machine.specs.Machines.{MayNext, Moves, Answers, CallsOnce};
-ghost use Rattle.fs_machine.specs.Tied.{IsOwnInode, LeavesTied};
+ghost use Rattle.fs_machine.specs.Machines.{MayNext};
+ghost use Rattle.fs_machine.specs.Places.{StepsAt};
+ghost use Rattle.fs_machine.specs.Tied.{IsOwnInode};
 ghost use Rattle.fs_tables.specs.Results.{opened_as};
-ghost use Rattle.inode_data.specs.Records.{record_in};
-ghost use Rattle.inode_data.specs.Truncating.{truncate_of, emptied_of, TruncateFits};
 ghost use Rattle.file_table.specs.Machines.{IsEarly};
-ghost use Rattle.path_walk.specs.Programs.{loaded};
 ghost use Rattle.plain_tree.specs.Steps.{has};
-ghost use Rattle.call_parts.specs.Nesting.{Follows};
 ghost use Rattle.call_parts.specs.Spent.{reply_in, IsSpent};
-ghost use Rattle.call_parts.specs.Onwards.{onward_of, OnwardFits};
 ghost use Rattle.call_parts.specs.Parts.{quit};
-ghost use Rattle.making_calls.specs.Opening.{file_for, installed_on, is_regular, open_reply, opened, take_descriptor, type_number};
+ghost use Rattle.making_calls.specs.Opening.{file_for, install, installed_on, is_regular, open_reply, opened, take_descriptor, type_number};
 ghost use Rattle.call_parts.specs.Taking.{inode_in, IsHeld};
-ghost use Rattle.making_calls.specs.Opens.{emptied, install_of, InstallFits};
+ghost use Rattle.making_calls.specs.Opens.{install_of, InstallFits};
+ghost use Rattle.call_parts.specs.declared.tail.Ending.{Ending};
+ghost use Rattle.call_parts.specs.declared.quit.Quit.TheVariants as quitting;
 ghost use Rattle.plain_tree.specs.declared.answer.Answer.TheVariants as answers;
-ghost use Rattle.call_parts.specs.declared.onward.Onward.TheVariants as onward;
+ghost use Rattle.plain_tree.specs.declared.answer.Full.TheVariants.{OpenFiles};
+ghost use Rattle.making_calls.specs.declared.install.Opening.{Opening};
+ghost use Rattle.making_calls.specs.declared.install.ToOpen.{ToOpen};
+ghost use Rattle.making_calls.specs.declared.install.Install.TheVariants as installing;
 
-use atomic_programs::machines::Stepped;
+use crate::in_place::step_truncate;
+use atomic_programs::machines::Came;
 use block_device::Device;
-use call_parts::{Answered, Ending, Held, Onward, Quit, ending};
+use call_parts::{Answered, Ending, Held, Quit, ending};
 use directory::is_directory;
 use fs_layout::{Dinode, Super};
 use fs_machine::{Core, Kind, RetiredCore};
@@ -31,6 +32,7 @@ use group_log::Txn;
 use inode_data::{Truncate, record};
 use plain_tree::{Answer, Bytes, Call, Full};
 use sleep_lock::Guard;
+use std::mem;
 
 const WRITE_ONLY: u32 = 1;
 
@@ -82,7 +84,11 @@ pub enum Install {
     /// A file is opened there, by the lowest free descriptor.
     Descriptor(Opening, Txn, ToOpen),
     /// It is emptied.
-    Emptying(Ending, Txn, Truncate),
+    Emptying(Ending, Txn, Option<Truncate>),
+    /// The call ends.
+    Ends(Quit),
+    /// It has ended, or is being changed.
+    Gone,
 }
 
 // The flags have this bit.
@@ -103,32 +109,22 @@ impl Install {
         Install::Place(opening, txn, inode)
     }
 
-    /// One operation.
+    /// One operation of it in its place.
     #[tactic(auto, unfolding(crate::specs::Opens::install_of, crate::specs::Opens::InstallFits, fs_machine::specs::Premises::Honest))]
-    pub fn step<D: Device>(
-        self,
-        hart: u8,
-        core: &mut Core<D>,
-    ) -> Stepped<Onward<Install>, Answered, Kind>
-        requires may { MayNext hart (install_of self) (state_of D.contents D.failures core.old) }
-        requires fits { InstallFits hart (state_of D.contents D.failures core.old) self }
-        ensures moves { Moves (onward_of install_of) reply_in hart (onward.Runs self) result (state_of D.contents D.failures core.old) (state_of D.contents D.failures core.new) }
-        ensures honest { Answers (onward_of install_of) hart (onward.Runs self) result (state_of D.contents D.failures core.old) (state_of D.contents D.failures core.new) }
-        ensures still { Still (onward_of install_of) result (onward.Runs self) core.old core.new }
-        ensures fits { LeftOf (OnwardFits InstallFits hart (state_of D.contents D.failures core.new)) IsSpent result }
-        ensures others { LeavesTied hart (state_of D.contents D.failures core.old) (state_of D.contents D.failures core.new) }
-        ensures called { CallsOnce D.Called core.old.log.cache.device core.new.log.cache.device }
+    pub fn step<D: Device>(&mut self, hart: u8, core: &mut Core<D>) -> Came<Answered, Kind>
+        requires may { MayNext hart (install_of self.old) (state_of D.contents D.failures core.old) }
+        requires fits { InstallFits hart (state_of D.contents D.failures core.old) self.old }
+        ensures steps { StepsAt D.contents D.failures D.Called install_of reply_in InstallFits IsSpent installing.Gone hart self.old self.new result core.old core.new }
     {
         match self {
-            Install::Place(opening, txn, inode) => {
-                if core.take_place(hart) {
-                    let next = Install::Descriptor(opening, txn, inode);
-                    Stepped::Ran(Onward::Runs(next), Kind::Slot)
-                } else {
-                    Stepped::Ran(full(opening, txn, inode, Full::OpenFiles), Kind::Slot)
-                }
+            Install::Place(_, _, _) => {
+                let there = core.take_place(hart);
+                let (opening, txn, inode) = self.placing();
+                self.put(placed(opening, txn, inode, there));
+                Came::Ran(Kind::Slot)
             }
-            Install::Descriptor(opening, txn, inode) => {
+            Install::Descriptor(_, _, _) => {
+                let (opening, txn, inode) = self.describing();
                 let ToOpen {
                     held,
                     empties,
@@ -137,14 +133,94 @@ impl Install {
                 let Held { reference, inode } = held;
                 let file = file_for(&inode, opening.flags);
                 let came = core.take_descriptor(hart, reference, file);
-                let next = descriptor_came(opening, txn, list, empties, inode, came);
-                Stepped::Ran(next, Kind::Slot)
+                self.put(descriptor_came(opening, txn, list, empties, inode, came));
+                Came::Ran(Kind::Slot)
             }
+            Install::Emptying(_, txn, truncate) => match step_truncate(truncate, hart, txn, core) {
+                Came::Waits => Came::Waits,
+                Came::Ran(kind) => Came::Ran(kind),
+                Came::Done(inode, kind) => {
+                    let (ending, txn) = self.emptied();
+                    self.put(Install::Ends(Quit::with_lock(ending, txn, inode)));
+                    Came::Ran(kind)
+                }
+                Came::Stopped => Came::Stopped,
+            },
+            Install::Ends(quit) => match quit.step(hart, core) {
+                Came::Waits => Came::Waits,
+                Came::Ran(kind) => Came::Ran(kind),
+                Came::Done(answered, kind) => {
+                    self.end();
+                    Came::Done(answered, kind)
+                }
+                Came::Stopped => Came::Stopped,
+            },
+            Install::Gone => unreachable!(),
+        }
+    }
+
+    // What one has that takes a place.
+    fn placing(&mut self) -> (Opening, Txn, ToOpen)
+        requires { (x : Opening × ℕ × ToOpen) × (self.old ≡ installing.Place x.0 x.1 x.2) }
+        ensures was { self.old ≡ installing.Place result.0 result.1 result.2 }
+        ensures gone { self.new ≡ installing.Gone }
+    {
+        match mem::replace(self, Install::Gone) {
+            Install::Place(opening, txn, inode) => (opening, txn, inode),
+            _ => unreachable!(),
+        }
+    }
+
+    // What one has that takes a descriptor.
+    fn describing(&mut self) -> (Opening, Txn, ToOpen)
+        requires { (x : Opening × ℕ × ToOpen) × (self.old ≡ installing.Descriptor x.0 x.1 x.2) }
+        ensures was { self.old ≡ installing.Descriptor result.0 result.1 result.2 }
+        ensures gone { self.new ≡ installing.Gone }
+    {
+        match mem::replace(self, Install::Gone) {
+            Install::Descriptor(opening, txn, inode) => (opening, txn, inode),
+            _ => unreachable!(),
+        }
+    }
+
+    // What one has whose file has been emptied.
+    fn emptied(&mut self) -> (Ending, Txn)
+        requires { (x : Ending × ℕ) × (self.old ≡ installing.Emptying x.0 x.1 None) }
+        ensures was { self.old ≡ installing.Emptying result.0 result.1 None }
+        ensures gone { self.new ≡ installing.Gone }
+    {
+        match mem::replace(self, Install::Gone) {
             Install::Emptying(ending, txn, truncate) => {
-                let mut txn = txn;
-                let stepped = truncate.step(hart, &mut txn, core);
-                emptying(ending, txn, stepped)
+                match truncate {
+                    None => {}
+                    Some(_) => unreachable!(),
+                }
+                (ending, txn)
             }
+            _ => unreachable!(),
+        }
+    }
+
+    fn end(&mut self)
+        requires { self.old ≡ installing.Ends quitting.Gone }
+        ensures { self.new ≡ installing.Gone }
+    {
+        match mem::replace(self, Install::Gone) {
+            Install::Ends(quit) => match quit {
+                Quit::Gone => {}
+                _ => unreachable!(),
+            },
+            _ => unreachable!(),
+        }
+    }
+
+    fn put(&mut self, next: Install)
+        requires { self.old ≡ installing.Gone }
+        ensures { self.new ≡ next }
+    {
+        match mem::replace(self, next) {
+            Install::Gone => {}
+            _ => unreachable!(),
         }
     }
 
@@ -162,8 +238,13 @@ impl Install {
             Install::Emptying(ending, txn, truncate) => {
                 ending.retire(retired);
                 txn.retire(&retired.log);
-                truncate.retire(retired);
+                match truncate {
+                    Some(truncate) => truncate.retire(retired),
+                    None => {}
+                }
             }
+            Install::Ends(quit) => quit.retire(retired),
+            Install::Gone => {}
         }
     }
 }
@@ -200,12 +281,25 @@ fn file_for(inode: &Guard<Inode>, flags: u32) -> NewFile
     }
 }
 
+// There was a place for it, or none.
+#[tactic(auto, unfolding(crate::specs::Opens::install_of, crate::specs::Opens::InstallFits))]
+fn placed(opening: Opening, txn: Txn, inode: ToOpen, there: bool) -> Install
+    requires { IsEarly opening.sizes.inodestart }
+    ensures program { install_of result ≡ (if there then install opening.sizes opening.path opening.flags inode.empties (inode_in inode.held) inode.list else quit opening.sizes (inode_in inode.held ∷ []) inode.list (open_reply opening.path opening.flags (answers.Full OpenFiles))) }
+    ensures fits { (hart : ℕ) (s : State) → txn ≡ hart → IsHeld hart inode.held s → InstallFits hart s result }
+{
+    if there {
+        return Install::Descriptor(opening, txn, inode);
+    }
+    full(opening, txn, inode, Full::OpenFiles)
+}
+
 // There was no room for it: the inode is given up.
 #[tactic(auto, unfolding(crate::specs::Opens::install_of, crate::specs::Opens::InstallFits))]
-fn full(opening: Opening, txn: Txn, inode: ToOpen, what: Full) -> Onward<Install>
+fn full(opening: Opening, txn: Txn, inode: ToOpen, what: Full) -> Install
     requires { IsEarly opening.sizes.inodestart }
-    ensures program { onward_of install_of result ≡ quit opening.sizes (inode_in inode.held ∷ []) inode.list (open_reply opening.path opening.flags (answers.Full what)) }
-    ensures fits { (hart : ℕ) (s : State) → txn ≡ hart → IsHeld hart inode.held s → OnwardFits InstallFits hart s result }
+    ensures program { install_of result ≡ quit opening.sizes (inode_in inode.held ∷ []) inode.list (open_reply opening.path opening.flags (answers.Full what)) }
+    ensures fits { (hart : ℕ) (s : State) → txn ≡ hart → IsHeld hart inode.held s → InstallFits hart s result }
 {
     let Opening { sizes, path, flags } = opening;
     let ToOpen {
@@ -214,7 +308,7 @@ fn full(opening: Opening, txn: Txn, inode: ToOpen, what: Full) -> Onward<Install
         list,
     } = inode;
     let ending = ending(&sizes, list, Call::Open { path, flags }, Answer::Full(what));
-    Onward::Ends(Quit::with_inode(ending, txn, held))
+    Install::Ends(Quit::with_inode(ending, txn, held))
 }
 
 // What the taking of a descriptor came to.
@@ -226,12 +320,12 @@ fn descriptor_came(
     empties: bool,
     inode: Guard<Inode>,
     came: Result<u8, Reference>,
-) -> Onward<Install>
+) -> Install
     requires early { IsEarly opening.sizes.inodestart }
     requires there { IsSome inode.value.content }
     requires back { IfErr came (λ back. back ≡ inode.value.number) }
-    ensures program { onward_of install_of result ≡ installed_on opening.sizes opening.path opening.flags empties inode.value list (opened_as came) }
-    ensures fits { (hart : ℕ) (s : State) → txn ≡ hart → IsOwnInode hart inode.value.number inode s → OnwardFits InstallFits hart s result }
+    ensures program { install_of result ≡ installed_on opening.sizes opening.path opening.flags empties inode.value list (opened_as came) }
+    ensures fits { (hart : ℕ) (s : State) → txn ≡ hart → IsOwnInode hart inode.value.number inode s → InstallFits hart s result }
 {
     match came {
         Ok(fd) => opened(opening, txn, list, empties, inode, fd),
@@ -256,48 +350,18 @@ fn opened(
     empties: bool,
     inode: Guard<Inode>,
     fd: u8,
-) -> Onward<Install>
+) -> Install
     requires early { IsEarly opening.sizes.inodestart }
     requires there { IsSome inode.value.content }
-    ensures program { onward_of install_of result ≡ opened opening.sizes opening.path opening.flags empties inode.value list fd }
-    ensures fits { (hart : ℕ) (s : State) → txn ≡ hart → IsOwnInode hart inode.value.number inode s → OnwardFits InstallFits hart s result }
+    ensures program { install_of result ≡ opened opening.sizes opening.path opening.flags empties inode.value list fd }
+    ensures fits { (hart : ℕ) (s : State) → txn ≡ hart → IsOwnInode hart inode.value.number inode s → InstallFits hart s result }
 {
     let Opening { sizes, path, flags } = opening;
     let answer = Answer::Fd(fd as u32);
     let ending = ending(&sizes, list, Call::Open { path, flags }, answer);
     if empties {
         let truncate = Truncate::new(inode, &sizes);
-        return Onward::Runs(Install::Emptying(ending, txn, truncate));
+        return Install::Emptying(ending, txn, Some(truncate));
     }
-    Onward::Ends(Quit::with_lock(ending, txn, inode))
-}
-
-// A step while the file is emptied.
-#[tactic(auto, unfolding(crate::specs::Opens::install_of, crate::specs::Opens::InstallFits))]
-fn emptying(
-    ending: Ending,
-    txn: Txn,
-    stepped: Stepped<Truncate, Guard<Inode>, Kind>,
-) -> Stepped<Onward<Install>, Answered, Kind>
-    requires early { IsEarly ending.sizes.inodestart }
-    ensures follows { (n : ℕ) → LeftOf (λ m. (emptied_of m).value.number ≡ n) (λ guard. guard.value ≡ loaded n (record_in guard)) stepped
-        → Follows truncate_of record_in (onward_of install_of) reply_in (emptied ending n) stepped result }
-    ensures fits { (hart : ℕ) (s : State) → txn ≡ hart
-        → LeftOf (λ m. IsOwnInode hart (emptied_of m).value.number (emptied_of m) s × TruncateFits hart s m) (λ guard. IsOwnInode hart guard.value.number guard s) stepped
-        → LeftOf (OnwardFits InstallFits hart s) IsSpent result }
-{
-    match stepped {
-        Stepped::Waits(truncate) => Stepped::Waits(Onward::Runs(Install::Emptying(
-            ending, txn, truncate,
-        ))),
-        Stepped::Ran(truncate, kind) => {
-            Stepped::Ran(Onward::Runs(Install::Emptying(ending, txn, truncate)), kind)
-        }
-        Stepped::Done(inode, kind) => {
-            Stepped::Ran(Onward::Ends(Quit::with_lock(ending, txn, inode)), kind)
-        }
-        Stepped::Stopped(truncate) => {
-            Stepped::Stopped(Onward::Runs(Install::Emptying(ending, txn, truncate)))
-        }
-    }
+    Install::Ends(Quit::with_lock(ending, txn, inode))
 }

@@ -1,9 +1,10 @@
 //! The calls that open what a path names, or make it: `open` and `mkdir`, a machine each, and one for an `open` that may make a file.
 //!
 //! `specs/Opening`, `specs/Creating` and `specs/Mkdirs` say what a call does, operation by operation; its machine is a value whose
-//! `step` makes the next one. A call under way takes no memory, and is handed back in its reply.
+//! `step` makes the next one in its place. A call under way takes no memory, and is handed back in its reply.
 #![tactic(auto)]
 
+mod in_place;
 mod install;
 mod make;
 mod mkdir;

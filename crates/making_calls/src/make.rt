@@ -1,31 +1,34 @@
 //! A new inode made, and named in its directory.
-ghost use Rattle.std.specs.Prelude.{◌≡◌, ◌≢◌, ◌<◌, ◌^◌, ℕ, List, IsSome, IsTrue};
+ghost use Rattle.std.specs.Prelude.{◌≡◌, ◌≢◌, ℕ, List, Option, None, IsSome, IsTrue};
 ghost use Rattle.fs_layout.specs.Name.{IsName};
-ghost use Rattle.atomic_programs.specs.Prog.{Ret};
-ghost use Rattle.atomic_programs.specs.Machines.{Still, Left as LeftOf};
+ghost use Rattle.fs_layout.specs.declared.superblock.Super.{Super};
+ghost use Rattle.plain_tree.specs.declared.answer.Full.{Full};
+ghost use Rattle.atomic_programs.specs.Machines.{OnDone, stepped_at};
 ghost use Rattle.fs_machine.specs.Steps.{State, state_of};
-ghost use Rattle.fs_machine.specs.Machines.{MayNext, Moves, Answers, CallsOnce};
-ghost use Rattle.fs_machine.specs.Tied.{IsOwnInode, LeavesTied};
-ghost use Rattle.inode_table.specs.Programs.{store};
-ghost use Rattle.inode_table.specs.Machines.{store_of, StoreFits};
-ghost use Rattle.inode_table.specs.NewMachines.{new_of, NewFits};
+ghost use Rattle.fs_machine.specs.Machines.{MayNext};
+ghost use Rattle.fs_machine.specs.Places.{StepsAt};
+ghost use Rattle.fs_machine.specs.Tied.{IsOwnInode};
 ghost use Rattle.inode_table.specs.declared.new_inode.Made.TheVariants as made;
-ghost use Rattle.inode_data.specs.Beginnings.{begun_of, IfBegun};
+ghost use Rattle.inode_data.specs.Beginnings.{begun_of, went_on_as, IfBegun};
 ghost use Rattle.inode_data.specs.Records.{record_in};
-ghost use Rattle.inode_data.specs.PartWriting.{write_of, writer_of, written_of, WriteFits};
-ghost use Rattle.directory.specs.Entering.{enter_of, entered_of, enterer_of, EnterFits};
+ghost use Rattle.inode_data.specs.PartWriting.{written_of};
+ghost use Rattle.inode_data.specs.declared.write_part.WritePart.{WritePart};
+ghost use Rattle.directory.specs.Entering.{entered_of};
 ghost use Rattle.directory.specs.Programs.{is_live_directory};
 ghost use Rattle.path_walk.specs.Programs.{loaded};
-ghost use Rattle.call_parts.specs.Nesting.{Follows};
-ghost use Rattle.call_parts.specs.Taking.{inode_in, take_of, IsHeld, TakeApart, TakeFits};
-ghost use Rattle.call_parts.specs.Ends.{give_of, GiveApart, GiveFits};
+ghost use Rattle.call_parts.specs.Taking.{inode_in, IsHeld};
 ghost use Rattle.call_parts.specs.Seeking.{IsParent};
-ghost use Rattle.making_calls.specs.Making.{dots_of, fill_new, filled_on, give_new, link_new, linked, made_on, make, make_of, name_new, named_as, named_on, type_of, unmake, IsMaking, IsNamed, MakeFits};
-ghost use Rattle.call_parts.specs.Counts.{with_links};
 ghost use Rattle.call_parts.specs.OnPaths.{IsSized};
+ghost use Rattle.call_parts.specs.declared.give.GiveUp.TheVariants as giving;
+ghost use Rattle.call_parts.specs.declared.take.Held.{Held};
+ghost use Rattle.call_parts.specs.declared.take.TakeInode.TheVariants as taking;
+ghost use Rattle.making_calls.specs.Making.{dots_of, fill_new, filled_on, give_new, link_new, linked, made_on, make, make_of, name_new, named_as, named_on, type_of, unmake, IsMaking, IsNamed, MakeFits};
 ghost use Rattle.making_calls.specs.Making.{Lacks as LacksState};
+ghost use Rattle.making_calls.specs.declared.make.Making.{Making};
+ghost use Rattle.making_calls.specs.declared.make.Make.TheVariants as making;
 
-use atomic_programs::machines::Stepped;
+use crate::in_place::{step_enter, step_new, step_store, step_write};
+use atomic_programs::machines::Came;
 use block_device::Device;
 use call_parts::{GiveUp, Held, TakeInode, store, with_links};
 use directory::{Enter, Entered, Room, entry_bytes};
@@ -34,9 +37,10 @@ use fs_layout::widths::DIRENT_LEN;
 use fs_machine::{Core, Kind, RetiredCore};
 use fs_tables::{Inode, Reference};
 use group_log::Txn;
-use inode_data::{Begun, PartWritten, WritePart, record, went_on};
+use inode_data::{Begun, PartWritten, WritePart, record};
 use inode_table::{Made, NewInode, StoreInode};
 use plain_tree::Full;
+use std::mem;
 
 // "." and "..".
 const DOTS_LEN: usize = 2 * DIRENT_LEN;
@@ -81,19 +85,21 @@ pub enum Named {
 /// Where a step has no room, the inode is stored without links and given up. The name is told with each step.
 pub enum Make {
     /// A free inode is claimed.
-    Claiming(Making, NewInode),
+    Claiming(Making, Option<NewInode>),
     /// Its lock is taken, and it is loaded.
     Taking(Making, TakeInode),
     /// It is stored with one link.
-    Linking(Making, Held, StoreInode),
+    Linking(Making, Held, Option<StoreInode>),
     /// These bytes of "." and ".." are written into it.
-    Filling(Making, Reference, [u8; 32], WritePart),
+    Filling(Making, Reference, [u8; 32], Option<WritePart>),
     /// Its name is entered.
-    Entering(Super, Reference, Held, Enter),
+    Entering(Super, Reference, Held, Option<Enter>),
     /// It has no name, and is stored without links.
-    Unlinking(Super, Held, Held, Full, StoreInode),
+    Unlinking(Super, Held, Held, Full, Option<StoreInode>),
     /// It is given up.
     Giving(Held, Full, GiveUp),
+    /// It has ended, or is being changed.
+    Gone,
 }
 
 impl Make {
@@ -110,50 +116,270 @@ impl Make {
             sort,
             parent,
         };
-        Make::Claiming(making, new)
+        Make::Claiming(making, Some(new))
     }
 
-    /// One operation.
+    /// One operation of it in its place.
     #[tactic(auto, unfolding(crate::specs::Making::make_of, crate::specs::Making::MakeFits))]
     pub fn step<D: Device>(
-        self,
+        &mut self,
         hart: u8,
         txn: &mut Txn,
         name: &[u8],
         core: &mut Core<D>,
-    ) -> Stepped<Make, Named, Kind>
+    ) -> Came<Named, Kind>
         requires txn { txn.old ≡ hart }
         requires name { IsName name.now }
-        requires may { MayNext hart (make_of name.now self) (state_of D.contents D.failures core.old) }
-        requires fits { MakeFits hart (state_of D.contents D.failures core.old) self }
-        ensures moves { Moves (make_of name.now) named_as hart self result (state_of D.contents D.failures core.old) (state_of D.contents D.failures core.new) }
-        ensures honest { Answers (make_of name.now) hart self result (state_of D.contents D.failures core.old) (state_of D.contents D.failures core.new) }
-        ensures still { Still (make_of name.now) result self core.old core.new }
+        requires may { MayNext hart (make_of name.now self.old) (state_of D.contents D.failures core.old) }
+        requires fits { MakeFits hart (state_of D.contents D.failures core.old) self.old }
+        ensures steps { StepsAt D.contents D.failures D.Called (make_of name.now) named_as MakeFits (IsNamed hart (state_of D.contents D.failures core.new)) making.Gone hart self.old self.new result core.old core.new }
         ensures kept { txn.new ≡ txn.old }
-        ensures fits { LeftOf (MakeFits hart (state_of D.contents D.failures core.new)) (IsNamed hart (state_of D.contents D.failures core.new)) result }
-        ensures others { LeavesTied hart (state_of D.contents D.failures core.old) (state_of D.contents D.failures core.new) }
-        ensures called { CallsOnce D.Called core.old.log.cache.device core.new.log.cache.device }
     {
         match self {
-            Make::Claiming(making, new) => claiming(making, new.step(hart, txn, core)),
-            Make::Taking(making, take) => taking(making, take.step(hart, core)),
+            Make::Claiming(_, new) => match step_new(new, hart, txn, core) {
+                Came::Waits => Came::Waits,
+                Came::Ran(kind) => Came::Ran(kind),
+                Came::Done(made, kind) => {
+                    let making = self.claimed();
+                    self.go_on(claimed(making, made), kind)
+                }
+                Came::Stopped => Came::Stopped,
+            },
+            Make::Taking(_, take) => match take.step(hart, core) {
+                Came::Waits => Came::Waits,
+                Came::Ran(kind) => Came::Ran(kind),
+                Came::Done(child, kind) => {
+                    let making = self.taken();
+                    self.put(link(making, child));
+                    Came::Ran(kind)
+                }
+                Came::Stopped => Came::Stopped,
+            },
+            Make::Linking(_, _, store) => match step_store(store, hart, txn, core) {
+                Came::Waits => Came::Waits,
+                Came::Ran(kind) => Came::Ran(kind),
+                Came::Done((), kind) => {
+                    let (making, child) = self.linked();
+                    self.go_on(furnish(making, name, child), kind)
+                }
+                Came::Stopped => Came::Stopped,
+            },
+            Make::Filling(_, _, bytes, _) => {
+                let bytes = *bytes;
+                self.write(hart, txn, name, bytes, core)
+            }
+            Make::Entering(_, _, _, enter) => match step_enter(enter, hart, txn, core) {
+                Came::Waits => Came::Waits,
+                Came::Ran(kind) => Came::Ran(kind),
+                Came::Done(entered, kind) => {
+                    let (sizes, parent, child) = self.entered();
+                    self.go_on(entered_so(sizes, parent, child, entered), kind)
+                }
+                Came::Stopped => Came::Stopped,
+            },
+            Make::Unlinking(_, _, _, _, store) => match step_store(store, hart, txn, core) {
+                Came::Waits => Came::Waits,
+                Came::Ran(kind) => Came::Ran(kind),
+                Came::Done((), kind) => {
+                    let (sizes, parent, child, what) = self.unlinked();
+                    self.put(Make::Giving(parent, what, GiveUp::new(child, &sizes)));
+                    Came::Ran(kind)
+                }
+                Came::Stopped => Came::Stopped,
+            },
+            Make::Giving(_, _, give) => match give.step(hart, txn, core) {
+                Came::Waits => Came::Waits,
+                Came::Ran(kind) => Came::Ran(kind),
+                Came::Done((), kind) => {
+                    let (parent, what) = self.given();
+                    Came::Done(Named::Lacks(parent, what), kind)
+                }
+                Came::Stopped => Came::Stopped,
+            },
+            Make::Gone => unreachable!(),
+        }
+    }
+
+    // One operation of one that writes these bytes.
+    #[tactic(auto, unfolding(crate::specs::Making::make_of, crate::specs::Making::MakeFits))]
+    fn write<D: Device>(
+        &mut self,
+        hart: u8,
+        txn: &mut Txn,
+        name: &[u8],
+        bytes: [u8; 32],
+        core: &mut Core<D>,
+    ) -> Came<Named, Kind>
+        requires at { (x : Making × ℕ × Option WritePart) × (self.old ≡ making.Filling x.0 x.1 bytes x.2) }
+        requires txn { txn.old ≡ hart }
+        requires name { IsName name.now }
+        requires may { MayNext hart (make_of name.now self.old) (state_of D.contents D.failures core.old) }
+        requires fits { MakeFits hart (state_of D.contents D.failures core.old) self.old }
+        ensures steps { StepsAt D.contents D.failures D.Called (make_of name.now) named_as MakeFits (IsNamed hart (state_of D.contents D.failures core.new)) making.Gone hart self.old self.new result core.old core.new }
+        ensures kept { txn.new ≡ txn.old }
+    {
+        match self {
+            Make::Filling(_, _, _, part) => match step_write(part, hart, txn, &bytes, core) {
+                Came::Waits => Came::Waits,
+                Came::Ran(kind) => Came::Ran(kind),
+                Came::Done(written, kind) => {
+                    let (making, child) = self.filled();
+                    self.go_on(filled(making, name, child, written), kind)
+                }
+                Came::Stopped => Came::Stopped,
+            },
+            _ => unreachable!(),
+        }
+    }
+
+    // What one has whose claim has been made.
+    fn claimed(&mut self) -> Making
+        requires { (x : Making) × (self.old ≡ making.Claiming x None) }
+        ensures was { self.old ≡ making.Claiming result None }
+        ensures gone { self.new ≡ making.Gone }
+    {
+        match mem::replace(self, Make::Gone) {
+            Make::Claiming(making, new) => {
+                match new {
+                    None => {}
+                    _ => unreachable!(),
+                }
+                making
+            }
+            _ => unreachable!(),
+        }
+    }
+
+    // What one has whose inode has been taken.
+    fn taken(&mut self) -> Making
+        requires { (x : Making) × (self.old ≡ making.Taking x taking.Gone) }
+        ensures was { self.old ≡ making.Taking result taking.Gone }
+        ensures gone { self.new ≡ making.Gone }
+    {
+        match mem::replace(self, Make::Gone) {
+            Make::Taking(making, take) => {
+                match take {
+                    TakeInode::Gone => {}
+                    _ => unreachable!(),
+                }
+                making
+            }
+            _ => unreachable!(),
+        }
+    }
+
+    // What one has whose inode has its link.
+    fn linked(&mut self) -> (Making, Held)
+        requires { (x : Making × Held) × (self.old ≡ making.Linking x.0 x.1 None) }
+        ensures was { self.old ≡ making.Linking result.0 result.1 None }
+        ensures gone { self.new ≡ making.Gone }
+    {
+        match mem::replace(self, Make::Gone) {
             Make::Linking(making, child, store) => {
-                let stepped = store.step(hart, txn, core);
-                linking(making, name, child, stepped)
+                match store {
+                    None => {}
+                    _ => unreachable!(),
+                }
+                (making, child)
             }
-            Make::Filling(making, child, bytes, part) => {
-                let stepped = part.step(hart, txn, &bytes, core);
-                filling(making, name, child, bytes, stepped)
+            _ => unreachable!(),
+        }
+    }
+
+    // What one has whose "." and ".." have been written, as far as they have room.
+    fn filled(&mut self) -> (Making, Reference)
+        requires { (x : Making × ℕ × List ℕ) × (self.old ≡ making.Filling x.0 x.1 x.2 None) }
+        ensures was { (bytes : List ℕ) × (self.old ≡ making.Filling result.0 result.1 bytes None) }
+        ensures gone { self.new ≡ making.Gone }
+    {
+        match mem::replace(self, Make::Gone) {
+            Make::Filling(making, child, _, part) => {
+                match part {
+                    None => {}
+                    _ => unreachable!(),
+                }
+                (making, child)
             }
+            _ => unreachable!(),
+        }
+    }
+
+    // What one has whose name has been entered, where it has room.
+    fn entered(&mut self) -> (Super, Reference, Held)
+        requires { (x : Super × ℕ × Held) × (self.old ≡ making.Entering x.0 x.1 x.2 None) }
+        ensures was { self.old ≡ making.Entering result.0 result.1 result.2 None }
+        ensures gone { self.new ≡ making.Gone }
+    {
+        match mem::replace(self, Make::Gone) {
             Make::Entering(sizes, parent, child, enter) => {
-                let stepped = enter.step(hart, txn, core);
-                entering(sizes, parent, child, stepped)
+                match enter {
+                    None => {}
+                    _ => unreachable!(),
+                }
+                (sizes, parent, child)
             }
+            _ => unreachable!(),
+        }
+    }
+
+    // What one has whose inode has no links.
+    fn unlinked(&mut self) -> (Super, Held, Held, Full)
+        requires { (x : Super × Held × Held × Full) × (self.old ≡ making.Unlinking x.0 x.1 x.2 x.3 None) }
+        ensures was { self.old ≡ making.Unlinking result.0 result.1 result.2 result.3 None }
+        ensures gone { self.new ≡ making.Gone }
+    {
+        match mem::replace(self, Make::Gone) {
             Make::Unlinking(sizes, parent, child, what, store) => {
-                let stepped = store.step(hart, txn, core);
-                unlinking(sizes, parent, child, what, stepped)
+                match store {
+                    None => {}
+                    _ => unreachable!(),
+                }
+                (sizes, parent, child, what)
             }
-            Make::Giving(parent, what, give) => giving(parent, what, give.step(hart, txn, core)),
+            _ => unreachable!(),
+        }
+    }
+
+    // What one has whose inode has been given up.
+    fn given(&mut self) -> (Held, Full)
+        requires { (x : Held × Full) × (self.old ≡ making.Giving x.0 x.1 giving.Gone) }
+        ensures was { self.old ≡ making.Giving result.0 result.1 giving.Gone }
+        ensures gone { self.new ≡ making.Gone }
+    {
+        match mem::replace(self, Make::Gone) {
+            Make::Giving(parent, what, give) => {
+                match give {
+                    GiveUp::Gone => {}
+                    _ => unreachable!(),
+                }
+                (parent, what)
+            }
+            _ => unreachable!(),
+        }
+    }
+
+    // Goes on so after an operation of this kind, or ends with it.
+    fn go_on(&mut self, begun: Begun<Make, Named>, kind: Kind) -> Came<Named, Kind>
+        requires { self.old ≡ making.Gone }
+        ensures is { stepped_at self.new result ≡ went_on_as begun kind }
+        ensures ended { OnDone result (self.new ≡ making.Gone) }
+    {
+        match begun {
+            Begun::Runs(make) => {
+                self.put(make);
+                Came::Ran(kind)
+            }
+            Begun::Is(named) => Came::Done(named, kind),
+        }
+    }
+
+    fn put(&mut self, next: Make)
+        requires { self.old ≡ making.Gone }
+        ensures { self.new ≡ next }
+    {
+        match mem::replace(self, next) {
+            Make::Gone => {}
+            _ => unreachable!(),
         }
     }
 
@@ -162,7 +388,10 @@ impl Make {
         match self {
             Make::Claiming(making, new) => {
                 making.retire(retired);
-                new.retire(retired);
+                match new {
+                    Some(new) => new.retire(retired),
+                    None => {}
+                }
             }
             Make::Taking(making, take) => {
                 making.retire(retired);
@@ -171,27 +400,40 @@ impl Make {
             Make::Linking(making, child, store) => {
                 making.retire(retired);
                 child.retire(retired);
-                store.retire(retired);
+                match store {
+                    Some(store) => store.retire(retired),
+                    None => {}
+                }
             }
             Make::Filling(making, child, _, part) => {
                 making.retire(retired);
                 child.retire(&retired.inodes);
-                part.retire(retired);
+                match part {
+                    Some(part) => part.retire(retired),
+                    None => {}
+                }
             }
             Make::Entering(_, parent, child, enter) => {
                 parent.retire(&retired.inodes);
                 child.retire(retired);
-                enter.retire(retired);
+                match enter {
+                    Some(enter) => enter.retire(retired),
+                    None => {}
+                }
             }
             Make::Unlinking(_, parent, child, _, store) => {
                 parent.retire(retired);
                 child.retire(retired);
-                store.retire(retired);
+                match store {
+                    Some(store) => store.retire(retired),
+                    None => {}
+                }
             }
             Make::Giving(parent, _, give) => {
                 parent.retire(retired);
                 give.retire(retired);
             }
+            Make::Gone => {}
         }
     }
 }
@@ -216,28 +458,23 @@ fn dots(number: u32, parent: u32) -> [u8; 32]
     bytes
 }
 
-// A step while an inode is claimed.
+// What the claim came to. A new inode isn't the directory.
 #[tactic(auto, unfolding(crate::specs::Making::make_of, crate::specs::Making::MakeFits))]
-fn claiming(making: Making, stepped: Stepped<NewInode, Made, Kind>) -> Stepped<Make, Named, Kind>
+fn claimed(making: Making, made: Made) -> Begun<Make, Named>
     requires { IsSized making.sizes }
-    ensures follows { (name : List ℕ) → Follows new_of (λ m. m) (make_of name) named_as (made_on making.sizes making.sort name (inode_in making.parent)) stepped result }
-    ensures fits { (hart : ℕ) (s : State) → IsMaking hart making s → LeftOf (NewFits hart s) (λ _. Unit {0}) stepped → LeftOf (MakeFits hart s) (IsNamed hart s) result }
+    ensures program { (name : List ℕ) → begun_of (make_of name) named_as result ≡ made_on making.sizes making.sort name (inode_in making.parent) made }
+    ensures fits { (hart : ℕ) (s : State) → IsMaking hart making s → IfBegun (MakeFits hart s) (IsNamed hart s) result }
 {
-    match stepped {
-        Stepped::Waits(new) => Stepped::Waits(Make::Claiming(making, new)),
-        Stepped::Ran(new, kind) => Stepped::Ran(Make::Claiming(making, new), kind),
-        Stepped::Done(made, kind) => match made {
-            Made::Inode(reference) => Stepped::Ran(claimed(making, reference), kind),
-            Made::NoPlace => Stepped::Done(lacks(making, Full::MemInodes), kind),
-            Made::NoInode => Stepped::Done(lacks(making, Full::DiskInodes), kind),
-        },
-        Stepped::Stopped(new) => Stepped::Stopped(Make::Claiming(making, new)),
+    match made {
+        Made::Inode(reference) => Begun::Runs(take(making, reference)),
+        Made::NoPlace => Begun::Is(lacks(making, Full::MemInodes)),
+        Made::NoInode => Begun::Is(lacks(making, Full::DiskInodes)),
     }
 }
 
-// An inode was claimed. It isn't the directory.
+// This inode was claimed. It isn't the directory.
 #[tactic(auto, unfolding(crate::specs::Making::make_of, crate::specs::Making::MakeFits))]
-fn claimed(making: Making, reference: Reference) -> Make
+fn take(making: Making, reference: Reference) -> Make
     requires { IsSized making.sizes }
     ensures program { (name : List ℕ) → make_of name result ≡ made_on making.sizes making.sort name (inode_in making.parent) (made.Inode reference) }
     ensures fits { (hart : ℕ) (s : State) → IsMaking hart making s → MakeFits hart s result }
@@ -268,23 +505,6 @@ fn lacks(making: Making, what: Full) -> Named
     Named::Lacks(parent, what)
 }
 
-// A step while the new inode is taken.
-#[tactic(auto, unfolding(crate::specs::Making::make_of, crate::specs::Making::MakeFits))]
-fn taking(making: Making, stepped: Stepped<TakeInode, Held, Kind>) -> Stepped<Make, Named, Kind>
-    requires sized { IsSized making.sizes }
-    requires there { LeftOf (λ _. Unit {0}) (λ held. IsSome held.inode.value.content) stepped }
-    ensures follows { (name : List ℕ) → Follows take_of inode_in (make_of name) named_as (link_new making.sizes making.sort name (inode_in making.parent)) stepped result }
-    ensures fits { (hart : ℕ) (s : State) → IsMaking hart making s → LeftOf (λ m. TakeFits hart s m × TakeApart making.parent.reference m) (λ held. IsHeld hart held s × (making.parent.reference ≢ held.reference)) stepped
-        → LeftOf (MakeFits hart s) (IsNamed hart s) result }
-{
-    match stepped {
-        Stepped::Waits(take) => Stepped::Waits(Make::Taking(making, take)),
-        Stepped::Ran(take, kind) => Stepped::Ran(Make::Taking(making, take), kind),
-        Stepped::Done(held, kind) => Stepped::Ran(link(making, held), kind),
-        Stepped::Stopped(take) => Stepped::Stopped(Make::Taking(making, take)),
-    }
-}
-
 // Gives the new inode its link.
 #[tactic(auto, unfolding(crate::specs::Making::make_of, crate::specs::Making::MakeFits))]
 fn link(making: Making, child: Held) -> Make
@@ -295,31 +515,7 @@ fn link(making: Making, child: Held) -> Make
 {
     let child = with_links(child, 1);
     let store = store(&making.sizes, &child);
-    Make::Linking(making, child, store)
-}
-
-// A step while the new inode is stored with its link.
-#[tactic(auto, unfolding(crate::specs::Making::make_of, crate::specs::Making::MakeFits))]
-fn linking(
-    making: Making,
-    name: &[u8],
-    child: Held,
-    stepped: Stepped<StoreInode, (), Kind>,
-) -> Stepped<Make, Named, Kind>
-    requires sized { IsSized making.sizes }
-    requires parent { IsSome making.parent.inode.value.content }
-    requires live { IsTrue (is_live_directory (record_in making.parent.inode)) }
-    requires there { IsSome child.inode.value.content }
-    requires name { IsName name.now }
-    ensures follows { Follows store_of (λ x. x) (make_of name.now) named_as (λ _. linked making.sizes making.sort name.now (inode_in making.parent) (inode_in child)) stepped result }
-    ensures fits { (hart : ℕ) (s : State) → IsMaking hart making s → IsHeld hart child s → making.parent.reference ≢ child.reference → LeftOf (StoreFits hart s) (λ _. Unit {0}) stepped → LeftOf (MakeFits hart s) (IsNamed hart s) result }
-{
-    match stepped {
-        Stepped::Waits(store) => Stepped::Waits(Make::Linking(making, child, store)),
-        Stepped::Ran(store, kind) => Stepped::Ran(Make::Linking(making, child, store), kind),
-        Stepped::Done((), kind) => went_on(furnish(making, name, child), kind),
-        Stepped::Stopped(store) => Stepped::Stopped(Make::Linking(making, child, store)),
-    }
+    Make::Linking(making, child, Some(store))
 }
 
 // Goes on with an inode that has its link.
@@ -357,34 +553,7 @@ fn fill(making: Making, child: Held) -> Make
     let Held { reference, inode } = child;
     let bytes = dots(inode.value().number, making.parent.inode.value().number);
     let part = WritePart::begin(inode, &making.sizes, 0, DOTS_LEN);
-    Make::Filling(making, reference, bytes, part)
-}
-
-// A step while "." and ".." are written.
-#[tactic(auto, unfolding(crate::specs::Making::make_of, crate::specs::Making::MakeFits))]
-fn filling(
-    making: Making,
-    name: &[u8],
-    child: Reference,
-    bytes: [u8; 32],
-    stepped: Stepped<WritePart, PartWritten, Kind>,
-) -> Stepped<Make, Named, Kind>
-    requires sized { IsSized making.sizes }
-    requires parent { IsSome making.parent.inode.value.content }
-    requires live { IsTrue (is_live_directory (record_in making.parent.inode)) }
-    requires there { LeftOf (λ _. Unit {0}) (λ r. IsSome r.inode.value.content) stepped }
-    requires name { IsName name.now }
-    ensures follows { (n : ℕ) → LeftOf (λ m. (writer_of m).value.number ≡ n) (λ r. r.inode.value ≡ loaded n (record_in r.inode)) stepped
-        → Follows (write_of bytes) written_of (make_of name.now) named_as (filled_on making.sizes name.now (inode_in making.parent) n) stepped result }
-    ensures fits { (hart : ℕ) (s : State) → IsMaking hart making s → making.parent.reference ≢ child
-        → LeftOf (λ m. IsOwnInode hart child (writer_of m) s × WriteFits hart bytes s m) (λ r. IsOwnInode hart child r.inode s) stepped → LeftOf (MakeFits hart s) (IsNamed hart s) result }
-{
-    match stepped {
-        Stepped::Waits(part) => Stepped::Waits(Make::Filling(making, child, bytes, part)),
-        Stepped::Ran(part, kind) => Stepped::Ran(Make::Filling(making, child, bytes, part), kind),
-        Stepped::Done(written, kind) => went_on(filled(making, name, child, written), kind),
-        Stepped::Stopped(part) => Stepped::Stopped(Make::Filling(making, child, bytes, part)),
-    }
+    Make::Filling(making, reference, bytes, Some(part))
 }
 
 // Goes on where "." and ".." are there, or had no block.
@@ -430,34 +599,8 @@ fn enter(sizes: Super, parent: Held, name: &[u8], child: Held) -> Begun<Make, Na
     let Held { reference, inode } = parent;
     let number = child.inode.value().number;
     match Enter::begin(inode, &sizes, number, name) {
-        Begun::Runs(enter) => Begun::Runs(Make::Entering(sizes, reference, child, enter)),
+        Begun::Runs(enter) => Begun::Runs(Make::Entering(sizes, reference, child, Some(enter))),
         Begun::Is(entered) => entered_so(sizes, reference, child, entered),
-    }
-}
-
-// A step while the name is entered.
-#[tactic(auto, unfolding(crate::specs::Making::make_of, crate::specs::Making::MakeFits))]
-fn entering(
-    sizes: Super,
-    parent: Reference,
-    child: Held,
-    stepped: Stepped<Enter, Entered, Kind>,
-) -> Stepped<Make, Named, Kind>
-    requires sized { IsSized sizes }
-    requires there { IsSome child.inode.value.content }
-    requires parent { LeftOf (λ _. Unit {0}) (λ r. IsSome r.inode.value.content) stepped }
-    ensures follows { (name : List ℕ) (n : ℕ) → LeftOf (λ m. (enterer_of m).value.number ≡ n) (λ r. r.inode.value ≡ loaded n (record_in r.inode)) stepped
-        → Follows enter_of entered_of (make_of name) named_as (named_on sizes n (inode_in child)) stepped result }
-    ensures fits { (hart : ℕ) (s : State) → IsHeld hart child s → parent ≢ child.reference
-        → LeftOf (λ m. IsOwnInode hart parent (enterer_of m) s × EnterFits hart s m) (λ r. IsOwnInode hart parent r.inode s) stepped → LeftOf (MakeFits hart s) (IsNamed hart s) result }
-{
-    match stepped {
-        Stepped::Waits(enter) => Stepped::Waits(Make::Entering(sizes, parent, child, enter)),
-        Stepped::Ran(enter, kind) => {
-            Stepped::Ran(Make::Entering(sizes, parent, child, enter), kind)
-        }
-        Stepped::Done(entered, kind) => went_on(entered_so(sizes, parent, child, entered), kind),
-        Stepped::Stopped(enter) => Stepped::Stopped(Make::Entering(sizes, parent, child, enter)),
     }
 }
 
@@ -493,53 +636,5 @@ fn unmake(sizes: Super, parent: Held, child: Held, what: Full) -> Make
 {
     let child = with_links(child, 0);
     let store = store(&sizes, &child);
-    Make::Unlinking(sizes, parent, child, what, store)
-}
-
-// A step while the new inode is stored without links.
-#[tactic(auto, unfolding(crate::specs::Making::make_of, crate::specs::Making::MakeFits))]
-fn unlinking(
-    sizes: Super,
-    parent: Held,
-    child: Held,
-    what: Full,
-    stepped: Stepped<StoreInode, (), Kind>,
-) -> Stepped<Make, Named, Kind>
-    requires sized { IsSized sizes }
-    ensures follows { (name : List ℕ) → Follows store_of (λ x. x) (make_of name) named_as (λ _. give_new sizes (inode_in parent) (inode_in child) what) stepped result }
-    ensures fits { (hart : ℕ) (s : State) → IsHeld hart parent s → IsHeld hart child s → parent.reference ≢ child.reference → LeftOf (StoreFits hart s) (λ _. Unit {0}) stepped → LeftOf (MakeFits hart s) (IsNamed hart s) result }
-{
-    match stepped {
-        Stepped::Waits(store) => {
-            Stepped::Waits(Make::Unlinking(sizes, parent, child, what, store))
-        }
-        Stepped::Ran(store, kind) => {
-            Stepped::Ran(Make::Unlinking(sizes, parent, child, what, store), kind)
-        }
-        Stepped::Done((), kind) => {
-            let give = GiveUp::new(child, &sizes);
-            Stepped::Ran(Make::Giving(parent, what, give), kind)
-        }
-        Stepped::Stopped(store) => {
-            Stepped::Stopped(Make::Unlinking(sizes, parent, child, what, store))
-        }
-    }
-}
-
-// A step while the new inode is given up.
-#[tactic(auto, unfolding(crate::specs::Making::make_of, crate::specs::Making::MakeFits))]
-fn giving(
-    parent: Held,
-    what: Full,
-    stepped: Stepped<GiveUp, (), Kind>,
-) -> Stepped<Make, Named, Kind>
-    ensures follows { (name : List ℕ) → Follows give_of (λ x. x) (make_of name) named_as (λ _. Ret (LacksState (inode_in parent) what)) stepped result }
-    ensures fits { (hart : ℕ) (s : State) → IsHeld hart parent s → LeftOf (λ m. GiveFits hart s m × GiveApart parent.reference m) (λ _. Unit {0}) stepped → LeftOf (MakeFits hart s) (IsNamed hart s) result }
-{
-    match stepped {
-        Stepped::Waits(give) => Stepped::Waits(Make::Giving(parent, what, give)),
-        Stepped::Ran(give, kind) => Stepped::Ran(Make::Giving(parent, what, give), kind),
-        Stepped::Done((), kind) => Stepped::Done(Named::Lacks(parent, what), kind),
-        Stepped::Stopped(give) => Stepped::Stopped(Make::Giving(parent, what, give)),
-    }
+    Make::Unlinking(sizes, parent, child, what, Some(store))
 }

@@ -1,36 +1,37 @@
 //! mkdir: a new directory.
-ghost use Rattle.std.specs.Prelude.{◌≡◌, ◌≢◌, ◌∷◌, ◌<◌, ◌≤◌, ◌^◌, [], ℕ, length, All, IfNone, IsSome};
+ghost use Rattle.std.specs.Prelude.{◌≡◌, ◌≢◌, ◌∷◌, ◌<◌, ◌≤◌, ◌^◌, [], None, ℕ, List, length, All, IfNone, IsSome};
 ghost use Rattle.atomic_programs.specs.Prog.{bind};
-ghost use Rattle.atomic_programs.specs.Machines.{Still, Left as LeftOf};
 ghost use Rattle.fs_machine.specs.Steps.{State, state_of};
-ghost use Rattle.fs_machine.specs.Machines.{MayNext, Moves, Answers, CallsOnce};
-ghost use Rattle.fs_machine.specs.Tied.{LeavesTied};
-ghost use Rattle.inode_table.specs.Machines.{store_of, StoreFits};
+ghost use Rattle.fs_machine.specs.Machines.{MayNext};
+ghost use Rattle.fs_machine.specs.Places.{StepsAt};
 ghost use Rattle.inode_table.specs.Programs.{record_of};
 ghost use Rattle.image_tree.specs.Trees.{count_of};
 ghost use Rattle.plain_tree.specs.Widths.{count_limit};
 ghost use Rattle.path_walk.specs.Elements.{longest_path, name_in, IsElement};
-ghost use Rattle.call_parts.specs.Nesting.{Follows};
+ghost use Rattle.path_walk.specs.declared.elements.Element.{Element};
 ghost use Rattle.call_parts.specs.Spent.{reply_in, IsSpent};
-ghost use Rattle.call_parts.specs.Onwards.{onward_of, OnwardFits};
 ghost use Rattle.call_parts.specs.Parts.{quit, stopped};
 ghost use Rattle.call_parts.specs.Taking.{inode_in, IsHeld};
-ghost use Rattle.call_parts.specs.Ends.{give_of, GiveApart, GiveFits};
-ghost use Rattle.call_parts.specs.Seeking.{seek, seek_of, seen_as, IsParent, IsSeen, IsSight, SeekFits};
-ghost use Rattle.making_calls.specs.Making.{make_of, named_as, IsNamed, IsThereNamed, MakeFits};
+ghost use Rattle.call_parts.specs.Seeking.{seek, seen_as, IsParent, IsSeen, IsSight};
 ghost use Rattle.call_parts.specs.OnPaths.{IsSized};
-ghost use Rattle.making_calls.specs.Mkdirs.{leave_made, mkdir_missing, mkdir_named, mkdir_of, mkdir_on, mkdir_program, mkdir_refused, mkdir_reply, mkdir_seen, raise_parent, IsNaming, MkdirFits};
-ghost use Rattle.plain_tree.specs.declared.answer.Answer.TheVariants as answers;
+ghost use Rattle.call_parts.specs.declared.give.GiveUp.TheVariants as giving;
+ghost use Rattle.call_parts.specs.declared.on_path.OnPath.{OnPath};
+ghost use Rattle.call_parts.specs.declared.quit.Quit.TheVariants as quitting;
 ghost use Rattle.call_parts.specs.declared.seek.Dots.TheVariants as dots;
+ghost use Rattle.call_parts.specs.declared.seek.Seek.TheVariants as seeking;
+ghost use Rattle.call_parts.specs.declared.take.Held.{Held};
+ghost use Rattle.making_calls.specs.Making.{named_as, IsNamed, IsThereNamed};
+ghost use Rattle.making_calls.specs.Mkdirs.{leave_made, mkdir_missing, mkdir_named, mkdir_of, mkdir_on, mkdir_program, mkdir_refused, mkdir_reply, mkdir_seen, raise_parent, IsNaming, MkdirFits};
+ghost use Rattle.making_calls.specs.declared.make.Make.TheVariants as making;
 ghost use Rattle.making_calls.specs.declared.mkdir.Mkdir.TheVariants as mkdir;
-ghost use Rattle.call_parts.specs.declared.onward.Onward.TheVariants as onward;
 
+use crate::in_place::step_store;
 use crate::make::{Make, Named, Sort};
-use atomic_programs::machines::Stepped;
+use atomic_programs::machines::Came;
 use block_device::Device;
 use call_parts::{
-    Answered, Dots, GiveUp, Held, LastName, MOST_LINKS, OnPath, Onward, Quit, Seek, Seen, count_of,
-    ending, stopped, store, with_links,
+    Answered, Dots, GiveUp, Held, LastName, MOST_LINKS, OnPath, Quit, Seek, Seen, count_of, ending,
+    stopped, store, with_links,
 };
 use directory::Found;
 use fs_layout::{Dinode, Super};
@@ -41,6 +42,7 @@ use inode_data::{Begun, record};
 use inode_table::StoreInode;
 use path_walk::{Element, Stop};
 use plain_tree::{Answer, Bytes, Call, Cause};
+use std::mem;
 
 /// A mkdir under way.
 pub enum Mkdir {
@@ -51,9 +53,13 @@ pub enum Mkdir {
     /// A directory is made. The parent gets this count of links then.
     Making(OnPath, Txn, Listed, Element, u16, Make),
     /// The parent is stored with its new count.
-    Raising(OnPath, Txn, Listed, Held, Held, StoreInode),
+    Raising(OnPath, Txn, Listed, Held, Held, Option<StoreInode>),
     /// The parent is given up.
     Leaving(OnPath, Txn, Listed, Held, GiveUp),
+    /// The call ends.
+    Ends(Quit),
+    /// It has ended, or is being changed.
+    Gone,
 }
 
 impl Mkdir {
@@ -74,47 +80,183 @@ impl Mkdir {
         Mkdir::Join(on, list)
     }
 
-    /// One operation.
+    /// One operation of it in its place.
     #[tactic(auto, unfolding(crate::specs::Mkdirs::mkdir_of, crate::specs::Mkdirs::MkdirFits, fs_machine::specs::Premises::Honest))]
-    pub fn step<D: Device>(
-        self,
-        hart: u8,
-        core: &mut Core<D>,
-    ) -> Stepped<Onward<Mkdir>, Answered, Kind>
-        requires may { MayNext hart (mkdir_of self) (state_of D.contents D.failures core.old) }
-        requires fits { MkdirFits hart (state_of D.contents D.failures core.old) self }
-        ensures moves { Moves (onward_of mkdir_of) reply_in hart (onward.Runs self) result (state_of D.contents D.failures core.old) (state_of D.contents D.failures core.new) }
-        ensures honest { Answers (onward_of mkdir_of) hart (onward.Runs self) result (state_of D.contents D.failures core.old) (state_of D.contents D.failures core.new) }
-        ensures still { Still (onward_of mkdir_of) result (onward.Runs self) core.old core.new }
-        ensures fits { LeftOf (OnwardFits MkdirFits hart (state_of D.contents D.failures core.new)) IsSpent result }
-        ensures others { LeavesTied hart (state_of D.contents D.failures core.old) (state_of D.contents D.failures core.new) }
-        ensures called { CallsOnce D.Called core.old.log.cache.device core.new.log.cache.device }
+    pub fn step<D: Device>(&mut self, hart: u8, core: &mut Core<D>) -> Came<Answered, Kind>
+        requires may { MayNext hart (mkdir_of self.old) (state_of D.contents D.failures core.old) }
+        requires fits { MkdirFits hart (state_of D.contents D.failures core.old) self.old }
+        ensures steps { StepsAt D.contents D.failures D.Called mkdir_of reply_in MkdirFits IsSpent mkdir.Gone hart self.old self.new result core.old core.new }
     {
         match self {
-            Mkdir::Join(on, list) => match core.join(hart) {
-                None => Stepped::Waits(Onward::Runs(Mkdir::Join(on, list))),
-                Some(txn) => Stepped::Ran(joined(on, txn, list), Kind::Join),
+            Mkdir::Join(_, _) => match core.join(hart) {
+                None => Came::Waits,
+                Some(txn) => {
+                    let (on, list) = self.joining();
+                    self.put(joined(on, txn, list));
+                    Came::Ran(Kind::Join)
+                }
             },
-            Mkdir::Seeking(on, txn, seek) => {
-                let stepped = seek.step(hart, on.path.as_slice(), core);
-                seeking(on, txn, stepped)
-            }
-            Mkdir::Making(on, txn, list, element, links, make) => {
-                let mut txn = txn;
+            Mkdir::Seeking(on, _, seek) => match seek.step(hart, on.path.as_slice(), core) {
+                Came::Waits => Came::Waits,
+                Came::Ran(kind) => Came::Ran(kind),
+                Came::Done(seen, kind) => {
+                    let (on, txn) = self.sought();
+                    self.put(sees(on, txn, seen));
+                    Came::Ran(kind)
+                }
+                Came::Stopped => Came::Stopped,
+            },
+            Mkdir::Making(on, txn, _, element, _, make) => {
                 let name = &on.path.as_slice()[element.start..element.end];
-                let stepped = make.step(hart, &mut txn, name, core);
-                making(on, txn, list, element, links, stepped)
+                match make.step(hart, txn, name, core) {
+                    Came::Waits => Came::Waits,
+                    Came::Ran(kind) => Came::Ran(kind),
+                    Came::Done(named, kind) => {
+                        let (on, txn, list, _, links) = self.made();
+                        self.put(came(on, txn, list, links, named));
+                        Came::Ran(kind)
+                    }
+                    Came::Stopped => Came::Stopped,
+                }
             }
+            Mkdir::Raising(_, txn, _, _, _, store) => match step_store(store, hart, txn, core) {
+                Came::Waits => Came::Waits,
+                Came::Ran(kind) => Came::Ran(kind),
+                Came::Done((), kind) => {
+                    let (on, txn, list, parent, child) = self.raised();
+                    let give = GiveUp::new(parent, &on.sizes);
+                    self.put(Mkdir::Leaving(on, txn, list, child, give));
+                    Came::Ran(kind)
+                }
+                Came::Stopped => Came::Stopped,
+            },
+            Mkdir::Leaving(_, txn, _, _, give) => match give.step(hart, txn, core) {
+                Came::Waits => Came::Waits,
+                Came::Ran(kind) => Came::Ran(kind),
+                Came::Done((), kind) => {
+                    let (on, txn, list, child) = self.left();
+                    self.put(quit(on, txn, list, child, Answer::Done));
+                    Came::Ran(kind)
+                }
+                Came::Stopped => Came::Stopped,
+            },
+            Mkdir::Ends(quit) => match quit.step(hart, core) {
+                Came::Waits => Came::Waits,
+                Came::Ran(kind) => Came::Ran(kind),
+                Came::Done(answered, kind) => {
+                    self.end();
+                    Came::Done(answered, kind)
+                }
+                Came::Stopped => Came::Stopped,
+            },
+            Mkdir::Gone => unreachable!(),
+        }
+    }
+
+    // What one has that joins a transaction.
+    fn joining(&mut self) -> (OnPath, Listed)
+        requires { (x : OnPath × List ℕ) × (self.old ≡ mkdir.Join x.0 x.1) }
+        ensures was { self.old ≡ mkdir.Join result.0 result.1 }
+        ensures gone { self.new ≡ mkdir.Gone }
+    {
+        match mem::replace(self, Mkdir::Gone) {
+            Mkdir::Join(on, list) => (on, list),
+            _ => unreachable!(),
+        }
+    }
+
+    // What one has whose last name has been sought.
+    fn sought(&mut self) -> (OnPath, Txn)
+        requires { (x : OnPath × ℕ) × (self.old ≡ mkdir.Seeking x.0 x.1 seeking.Gone) }
+        ensures was { self.old ≡ mkdir.Seeking result.0 result.1 seeking.Gone }
+        ensures gone { self.new ≡ mkdir.Gone }
+    {
+        match mem::replace(self, Mkdir::Gone) {
+            Mkdir::Seeking(on, txn, seek) => {
+                match seek {
+                    Seek::Gone => {}
+                    _ => unreachable!(),
+                }
+                (on, txn)
+            }
+            _ => unreachable!(),
+        }
+    }
+
+    // What one has that has made a directory, or could make none.
+    fn made(&mut self) -> (OnPath, Txn, Listed, Element, u16)
+        requires { (x : OnPath × ℕ × List ℕ × Element × ℕ) × (self.old ≡ mkdir.Making x.0 x.1 x.2 x.3 x.4 making.Gone) }
+        ensures was { self.old ≡ mkdir.Making result.0 result.1 result.2 result.3 result.4 making.Gone }
+        ensures gone { self.new ≡ mkdir.Gone }
+    {
+        match mem::replace(self, Mkdir::Gone) {
+            Mkdir::Making(on, txn, list, element, links, make) => {
+                match make {
+                    Make::Gone => {}
+                    _ => unreachable!(),
+                }
+                (on, txn, list, element, links)
+            }
+            _ => unreachable!(),
+        }
+    }
+
+    // What one has whose parent has its new count.
+    fn raised(&mut self) -> (OnPath, Txn, Listed, Held, Held)
+        requires { (x : OnPath × ℕ × List ℕ × Held × Held) × (self.old ≡ mkdir.Raising x.0 x.1 x.2 x.3 x.4 None) }
+        ensures was { self.old ≡ mkdir.Raising result.0 result.1 result.2 result.3 result.4 None }
+        ensures gone { self.new ≡ mkdir.Gone }
+    {
+        match mem::replace(self, Mkdir::Gone) {
             Mkdir::Raising(on, txn, list, parent, child, store) => {
-                let mut txn = txn;
-                let stepped = store.step(hart, &mut txn, core);
-                raising(on, txn, list, parent, child, stepped)
+                match store {
+                    None => {}
+                    _ => unreachable!(),
+                }
+                (on, txn, list, parent, child)
             }
+            _ => unreachable!(),
+        }
+    }
+
+    // What one has that has given the parent up.
+    fn left(&mut self) -> (OnPath, Txn, Listed, Held)
+        requires { (x : OnPath × ℕ × List ℕ × Held) × (self.old ≡ mkdir.Leaving x.0 x.1 x.2 x.3 giving.Gone) }
+        ensures was { self.old ≡ mkdir.Leaving result.0 result.1 result.2 result.3 giving.Gone }
+        ensures gone { self.new ≡ mkdir.Gone }
+    {
+        match mem::replace(self, Mkdir::Gone) {
             Mkdir::Leaving(on, txn, list, child, give) => {
-                let mut txn = txn;
-                let stepped = give.step(hart, &mut txn, core);
-                leaving(on, txn, list, child, stepped)
+                match give {
+                    GiveUp::Gone => {}
+                    _ => unreachable!(),
+                }
+                (on, txn, list, child)
             }
+            _ => unreachable!(),
+        }
+    }
+
+    fn end(&mut self)
+        requires { self.old ≡ mkdir.Ends quitting.Gone }
+        ensures { self.new ≡ mkdir.Gone }
+    {
+        match mem::replace(self, Mkdir::Gone) {
+            Mkdir::Ends(quit) => match quit {
+                Quit::Gone => {}
+                _ => unreachable!(),
+            },
+            _ => unreachable!(),
+        }
+    }
+
+    fn put(&mut self, next: Mkdir)
+        requires { self.old ≡ mkdir.Gone }
+        ensures { self.new ≡ next }
+    {
+        match mem::replace(self, next) {
+            Mkdir::Gone => {}
+            _ => unreachable!(),
         }
     }
 
@@ -136,7 +278,10 @@ impl Mkdir {
                 list.retire(&retired.inodes);
                 parent.retire(retired);
                 child.retire(retired);
-                store.retire(retired);
+                match store {
+                    Some(store) => store.retire(retired),
+                    None => {}
+                }
             }
             Mkdir::Leaving(_, txn, list, child, give) => {
                 txn.retire(&retired.log);
@@ -144,17 +289,19 @@ impl Mkdir {
                 child.retire(retired);
                 give.retire(retired);
             }
+            Mkdir::Ends(quit) => quit.retire(retired),
+            Mkdir::Gone => {}
         }
     }
 }
 
 // After a transaction was joined.
 #[tactic(auto, unfolding(crate::specs::Mkdirs::mkdir_of, crate::specs::Mkdirs::MkdirFits))]
-fn joined(on: OnPath, txn: Txn, list: Listed) -> Onward<Mkdir>
+fn joined(on: OnPath, txn: Txn, list: Listed) -> Mkdir
     requires naming { IsNaming on }
     requires none { list ≡ [] }
-    ensures program { onward_of mkdir_of result ≡ bind (seek dots.LookedUp on.sizes.inodestart on.path []) (mkdir_seen on.sizes on.path) }
-    ensures fits { (hart : ℕ) (s : State) → txn ≡ hart → OnwardFits MkdirFits hart s result }
+    ensures program { mkdir_of result ≡ bind (seek dots.LookedUp on.sizes.inodestart on.path []) (mkdir_seen on.sizes on.path) }
+    ensures fits { (hart : ℕ) (s : State) → txn ≡ hart → MkdirFits hart s result }
 {
     let begun = Seek::begin(
         on.path.as_slice(),
@@ -163,51 +310,51 @@ fn joined(on: OnPath, txn: Txn, list: Listed) -> Onward<Mkdir>
         list,
     );
     match begun {
-        Begun::Runs(seek) => Onward::Runs(Mkdir::Seeking(on, txn, seek)),
+        Begun::Runs(seek) => Mkdir::Seeking(on, txn, seek),
         Begun::Is(seen) => sees(on, txn, seen),
     }
 }
 
 // The call ends with this answer and the inode in hand, which it gives up.
 #[tactic(auto, unfolding(crate::specs::Mkdirs::mkdir_of, crate::specs::Mkdirs::MkdirFits))]
-fn quit(on: OnPath, txn: Txn, list: Listed, held: Held, answer: Answer) -> Onward<Mkdir>
+fn quit(on: OnPath, txn: Txn, list: Listed, held: Held, answer: Answer) -> Mkdir
     requires { IsNaming on }
-    ensures program { onward_of mkdir_of result ≡ quit on.sizes (inode_in held ∷ []) list (mkdir_reply on.path answer) }
-    ensures fits { (hart : ℕ) (s : State) → txn ≡ hart → IsHeld hart held s → OnwardFits MkdirFits hart s result }
+    ensures program { mkdir_of result ≡ quit on.sizes (inode_in held ∷ []) list (mkdir_reply on.path answer) }
+    ensures fits { (hart : ℕ) (s : State) → txn ≡ hart → IsHeld hart held s → MkdirFits hart s result }
 {
     let OnPath { sizes, path } = on;
     let ending = ending(&sizes, list, Call::Mkdir { path }, answer);
-    Onward::Ends(Quit::with_inode(ending, txn, held))
+    Mkdir::Ends(Quit::with_inode(ending, txn, held))
 }
 
 // The name can't be there.
-fn missing(on: OnPath, txn: Txn, list: Listed, held: Held) -> Onward<Mkdir>
+fn missing(on: OnPath, txn: Txn, list: Listed, held: Held) -> Mkdir
     requires { IsNaming on }
-    ensures program { onward_of mkdir_of result ≡ mkdir_missing on.sizes on.path (inode_in held) list }
-    ensures fits { (hart : ℕ) (s : State) → txn ≡ hart → IsHeld hart held s → OnwardFits MkdirFits hart s result }
+    ensures program { mkdir_of result ≡ mkdir_missing on.sizes on.path (inode_in held) list }
+    ensures fits { (hart : ℕ) (s : State) → txn ≡ hart → IsHeld hart held s → MkdirFits hart s result }
 {
     quit(on, txn, list, held, Answer::Failed(Cause::NoEntry))
 }
 
 // There is no parent.
 #[tactic(auto, unfolding(crate::specs::Mkdirs::mkdir_of, crate::specs::Mkdirs::MkdirFits))]
-fn lost(on: OnPath, txn: Txn, list: Listed, why: Stop) -> Onward<Mkdir>
+fn lost(on: OnPath, txn: Txn, list: Listed, why: Stop) -> Mkdir
     requires { IsNaming on }
-    ensures program { onward_of mkdir_of result ≡ quit on.sizes [] list (mkdir_reply on.path (stopped why)) }
-    ensures fits { (hart : ℕ) (s : State) → txn ≡ hart → OnwardFits MkdirFits hart s result }
+    ensures program { mkdir_of result ≡ quit on.sizes [] list (mkdir_reply on.path (stopped why)) }
+    ensures fits { (hart : ℕ) (s : State) → txn ≡ hart → MkdirFits hart s result }
 {
     let OnPath { sizes, path } = on;
     let ending = ending(&sizes, list, Call::Mkdir { path }, stopped(why));
-    Onward::Ends(Quit::with_nothing(ending, txn))
+    Mkdir::Ends(Quit::with_nothing(ending, txn))
 }
 
 // What the parent has under the last name.
 #[tactic(auto, unfolding(crate::specs::Mkdirs::mkdir_of, crate::specs::Mkdirs::MkdirFits))]
-fn sees(on: OnPath, txn: Txn, seen: Seen) -> Onward<Mkdir>
+fn sees(on: OnPath, txn: Txn, seen: Seen) -> Mkdir
     requires on { IsNaming on }
     requires there { IsSight on.path seen }
-    ensures program { onward_of mkdir_of result ≡ mkdir_seen on.sizes on.path (seen_as on.path seen) }
-    ensures fits { (hart : ℕ) (s : State) → txn ≡ hart → IsSeen on.path hart s seen → OnwardFits MkdirFits hart s result }
+    ensures program { mkdir_of result ≡ mkdir_seen on.sizes on.path (seen_as on.path seen) }
+    ensures fits { (hart : ℕ) (s : State) → txn ≡ hart → IsSeen on.path hart s seen → MkdirFits hart s result }
 {
     match seen {
         Seen::Name(last) => looked_up(on, txn, last),
@@ -233,11 +380,11 @@ fn refused(found: Option<Found>, parent: &Dinode) -> Option<Cause>
 
 // The last name was looked up.
 #[tactic(auto, unfolding(crate::specs::Mkdirs::mkdir_of, crate::specs::Mkdirs::MkdirFits))]
-fn looked_up(on: OnPath, txn: Txn, last: LastName) -> Onward<Mkdir>
+fn looked_up(on: OnPath, txn: Txn, last: LastName) -> Mkdir
     requires on { IsNaming on }
     requires there { IsSome last.parent.inode.value.content }
-    ensures program { onward_of mkdir_of result ≡ mkdir_on on.sizes on.path (inode_in last.parent) (name_in on.path last.element) last.list (mkdir_refused last.found (record_of (inode_in last.parent))) }
-    ensures fits { (hart : ℕ) (s : State) → txn ≡ hart → IsElement on.path last.element → IsParent hart last.parent.reference last.parent.inode s → OnwardFits MkdirFits hart s result }
+    ensures program { mkdir_of result ≡ mkdir_on on.sizes on.path (inode_in last.parent) (name_in on.path last.element) last.list (mkdir_refused last.found (record_of (inode_in last.parent))) }
+    ensures fits { (hart : ℕ) (s : State) → txn ≡ hart → IsElement on.path last.element → IsParent hart last.parent.reference last.parent.inode s → MkdirFits hart s result }
 {
     let LastName {
         parent,
@@ -251,75 +398,22 @@ fn looked_up(on: OnPath, txn: Txn, last: LastName) -> Onward<Mkdir>
         None => {
             let links = count_of(inode.nlink) + 1;
             let make = Make::new(&on.sizes, Sort::Directory, parent);
-            Onward::Runs(Mkdir::Making(on, txn, list, element, links, make))
-        }
-    }
-}
-
-// A step while the last name is sought.
-#[tactic(auto, unfolding(crate::specs::Mkdirs::mkdir_of, crate::specs::Mkdirs::MkdirFits))]
-fn seeking(
-    on: OnPath,
-    txn: Txn,
-    stepped: Stepped<Seek, Seen, Kind>,
-) -> Stepped<Onward<Mkdir>, Answered, Kind>
-    requires on { IsNaming on }
-    requires there { LeftOf (λ _. Unit {0}) (IsSight on.path) stepped }
-    ensures follows { Follows (seek_of on.path) (seen_as on.path) (onward_of mkdir_of) reply_in (mkdir_seen on.sizes on.path) stepped result }
-    ensures fits { (hart : ℕ) (s : State) → txn ≡ hart → LeftOf (SeekFits on.path hart s) (IsSeen on.path hart s) stepped → LeftOf (OnwardFits MkdirFits hart s) IsSpent result }
-{
-    match stepped {
-        Stepped::Waits(seek) => Stepped::Waits(Onward::Runs(Mkdir::Seeking(on, txn, seek))),
-        Stepped::Ran(seek, kind) => Stepped::Ran(Onward::Runs(Mkdir::Seeking(on, txn, seek)), kind),
-        Stepped::Done(seen, kind) => Stepped::Ran(sees(on, txn, seen), kind),
-        Stepped::Stopped(seek) => Stepped::Stopped(Onward::Runs(Mkdir::Seeking(on, txn, seek))),
-    }
-}
-
-// A step while the directory is made.
-#[tactic(auto, unfolding(crate::specs::Mkdirs::mkdir_of, crate::specs::Mkdirs::MkdirFits))]
-fn making(
-    on: OnPath,
-    txn: Txn,
-    list: Listed,
-    element: Element,
-    links: u16,
-    stepped: Stepped<Make, Named, Kind>,
-) -> Stepped<Onward<Mkdir>, Answered, Kind>
-    requires on { IsNaming on }
-    requires few { links < 2 ^ 15 }
-    requires there { LeftOf (λ _. Unit {0}) IsThereNamed stepped }
-    ensures follows { Follows (make_of (name_in on.path element)) named_as (onward_of mkdir_of) reply_in (mkdir_named on.sizes on.path links list) stepped result }
-    ensures fits { (hart : ℕ) (s : State) → txn ≡ hart → IsElement on.path element → LeftOf (MakeFits hart s) (IsNamed hart s) stepped → LeftOf (OnwardFits MkdirFits hart s) IsSpent result }
-{
-    match stepped {
-        Stepped::Waits(make) => {
-            Stepped::Waits(Onward::Runs(Mkdir::Making(on, txn, list, element, links, make)))
-        }
-        Stepped::Ran(make, kind) => {
-            Stepped::Ran(
-                Onward::Runs(Mkdir::Making(on, txn, list, element, links, make)),
-                kind,
-            )
-        }
-        Stepped::Done(named, kind) => Stepped::Ran(came(on, txn, list, links, named), kind),
-        Stepped::Stopped(make) => {
-            Stepped::Stopped(Onward::Runs(Mkdir::Making(on, txn, list, element, links, make)))
+            Mkdir::Making(on, txn, list, element, links, make)
         }
     }
 }
 
 // What the making came to.
 #[tactic(auto, unfolding(crate::specs::Mkdirs::mkdir_of, crate::specs::Mkdirs::MkdirFits))]
-fn came(on: OnPath, txn: Txn, list: Listed, links: u16, named: Named) -> Onward<Mkdir>
+fn came(on: OnPath, txn: Txn, list: Listed, links: u16, named: Named) -> Mkdir
     requires on { IsNaming on }
     requires few { links < 2 ^ 15 }
     requires there { IsThereNamed named }
-    ensures program { onward_of mkdir_of result ≡ mkdir_named on.sizes on.path links list (named_as named) }
-    ensures fits { (hart : ℕ) (s : State) → txn ≡ hart → IsNamed hart s named → OnwardFits MkdirFits hart s result }
+    ensures program { mkdir_of result ≡ mkdir_named on.sizes on.path links list (named_as named) }
+    ensures fits { (hart : ℕ) (s : State) → txn ≡ hart → IsNamed hart s named → MkdirFits hart s result }
 {
     match named {
-        Named::There(parent, child) => Onward::Runs(raise(on, txn, list, links, parent, child)),
+        Named::There(parent, child) => raise(on, txn, list, links, parent, child),
         Named::Lacks(parent, what) => quit(on, txn, list, parent, Answer::Full(what)),
     }
 }
@@ -335,72 +429,5 @@ fn raise(on: OnPath, txn: Txn, list: Listed, links: u16, parent: Held, child: He
 {
     let parent = with_links(parent, links);
     let store = store(&on.sizes, &parent);
-    Mkdir::Raising(on, txn, list, parent, child, store)
-}
-
-// A step while the parent is stored.
-#[tactic(auto, unfolding(crate::specs::Mkdirs::mkdir_of, crate::specs::Mkdirs::MkdirFits))]
-fn raising(
-    on: OnPath,
-    txn: Txn,
-    list: Listed,
-    parent: Held,
-    child: Held,
-    stepped: Stepped<StoreInode, (), Kind>,
-) -> Stepped<Onward<Mkdir>, Answered, Kind>
-    requires { IsNaming on }
-    ensures follows { Follows store_of (λ x. x) (onward_of mkdir_of) reply_in (λ _. leave_made on.sizes on.path (inode_in parent) (inode_in child) list) stepped result }
-    ensures fits { (hart : ℕ) (s : State) → txn ≡ hart → IsHeld hart parent s → IsHeld hart child s → parent.reference ≢ child.reference → LeftOf (StoreFits hart s) (λ _. Unit {0}) stepped → LeftOf (OnwardFits MkdirFits hart s) IsSpent result }
-{
-    match stepped {
-        Stepped::Waits(store) => {
-            Stepped::Waits(Onward::Runs(Mkdir::Raising(on, txn, list, parent, child, store)))
-        }
-        Stepped::Ran(store, kind) => {
-            Stepped::Ran(
-                Onward::Runs(Mkdir::Raising(on, txn, list, parent, child, store)),
-                kind,
-            )
-        }
-        Stepped::Done((), kind) => {
-            let give = GiveUp::new(parent, &on.sizes);
-            Stepped::Ran(
-                Onward::Runs(Mkdir::Leaving(on, txn, list, child, give)),
-                kind,
-            )
-        }
-        Stepped::Stopped(store) => {
-            Stepped::Stopped(Onward::Runs(Mkdir::Raising(on, txn, list, parent, child, store)))
-        }
-    }
-}
-
-// A step while the parent is given up.
-#[tactic(auto, unfolding(crate::specs::Mkdirs::mkdir_of, crate::specs::Mkdirs::MkdirFits))]
-fn leaving(
-    on: OnPath,
-    txn: Txn,
-    list: Listed,
-    child: Held,
-    stepped: Stepped<GiveUp, (), Kind>,
-) -> Stepped<Onward<Mkdir>, Answered, Kind>
-    requires { IsNaming on }
-    ensures follows { Follows give_of (λ x. x) (onward_of mkdir_of) reply_in (λ _. quit on.sizes (inode_in child ∷ []) list (mkdir_reply on.path answers.Done)) stepped result }
-    ensures fits { (hart : ℕ) (s : State) → txn ≡ hart → IsHeld hart child s → LeftOf (λ m. GiveFits hart s m × GiveApart child.reference m) (λ _. Unit {0}) stepped → LeftOf (OnwardFits MkdirFits hart s) IsSpent result }
-{
-    match stepped {
-        Stepped::Waits(give) => Stepped::Waits(Onward::Runs(Mkdir::Leaving(
-            on, txn, list, child, give,
-        ))),
-        Stepped::Ran(give, kind) => {
-            Stepped::Ran(
-                Onward::Runs(Mkdir::Leaving(on, txn, list, child, give)),
-                kind,
-            )
-        }
-        Stepped::Done((), kind) => { Stepped::Ran(quit(on, txn, list, child, Answer::Done), kind) }
-        Stepped::Stopped(give) => Stepped::Stopped(Onward::Runs(Mkdir::Leaving(
-            on, txn, list, child, give,
-        ))),
-    }
+    Mkdir::Raising(on, txn, list, parent, child, Some(store))
 }

@@ -1,34 +1,35 @@
 //! open with CREATE: of what is there, or of a new file.
-ghost use Rattle.std.specs.Prelude.{◌≡◌, ◌≢◌, ◌∷◌, ◌≤◌, [], ℕ, length, All, IfSome, IsSome};
+ghost use Rattle.std.specs.Prelude.{◌≡◌, ◌≢◌, ◌∷◌, ◌≤◌, [], false, ℕ, List, length, All, IfSome, IsSome};
 ghost use Rattle.atomic_programs.specs.Prog.{bind};
-ghost use Rattle.atomic_programs.specs.Machines.{Still, Left as LeftOf};
 ghost use Rattle.fs_machine.specs.Steps.{State, state_of};
-ghost use Rattle.fs_machine.specs.Machines.{MayNext, Moves, Answers, CallsOnce};
-ghost use Rattle.fs_machine.specs.Tied.{LeavesTied};
-ghost use Rattle.inode_data.specs.Machines.{ends_within};
+ghost use Rattle.fs_machine.specs.Machines.{MayNext};
+ghost use Rattle.fs_machine.specs.Places.{StepsAt};
 ghost use Rattle.path_walk.specs.Elements.{longest_path, name_in, IsElement};
-ghost use Rattle.call_parts.specs.Nesting.{Follows};
+ghost use Rattle.path_walk.specs.declared.elements.Element.{Element};
 ghost use Rattle.call_parts.specs.Spent.{reply_in, IsSpent};
-ghost use Rattle.call_parts.specs.Onwards.{onward_in, onward_of, OnwardFits};
 ghost use Rattle.call_parts.specs.Parts.{quit, stopped};
-ghost use Rattle.making_calls.specs.Opening.{open_at, open_reply};
-ghost use Rattle.call_parts.specs.Taking.{inode_in, take_of, IsHeld, TakeFits};
-ghost use Rattle.call_parts.specs.Ends.{give_of, GiveApart, GiveFits};
-ghost use Rattle.call_parts.specs.Seeking.{seek, seek_of, seen_as, IsParent, IsSeen, SeekFits};
-ghost use Rattle.making_calls.specs.Making.{make_of, named_as, IsNamed, MakeFits};
+ghost use Rattle.call_parts.specs.Taking.{inode_in, IsHeld};
+ghost use Rattle.call_parts.specs.Seeking.{seek, seen_as, IsParent, IsSeen};
 ghost use Rattle.call_parts.specs.OnPaths.{IsSized};
-ghost use Rattle.making_calls.specs.Creating.{open_found_in, open_made, open_missing, open_named, open_new, open_new_of, open_seen, open_taken, open_up, IsCreating, OpenNewFits};
+ghost use Rattle.call_parts.specs.declared.give.GiveUp.TheVariants as giving;
 ghost use Rattle.call_parts.specs.declared.seek.Dots.TheVariants as dots;
+ghost use Rattle.call_parts.specs.declared.seek.Seek.TheVariants as seeking;
+ghost use Rattle.call_parts.specs.declared.take.Held.{Held};
+ghost use Rattle.call_parts.specs.declared.take.TakeInode.TheVariants as taking;
+ghost use Rattle.making_calls.specs.Opening.{open_at, open_reply};
+ghost use Rattle.making_calls.specs.Making.{named_as, IsNamed};
+ghost use Rattle.making_calls.specs.Creating.{open_found_in, open_made, open_missing, open_named, open_new, open_new_of, open_seen, open_taken, open_up, HasEnded, IsCreating, OpenNewFits};
+ghost use Rattle.making_calls.specs.declared.install.Opening.{Opening};
+ghost use Rattle.making_calls.specs.declared.make.Make.TheVariants as making;
 ghost use Rattle.making_calls.specs.declared.open_new.OpenNew.TheVariants as opening_new;
-ghost use Rattle.call_parts.specs.declared.onward.Onward.TheVariants as onward;
 
 use crate::install::{Install, Opening, ToOpen};
 use crate::make::{Make, Named, Sort};
 use crate::open_old::{OpenOld, at};
-use atomic_programs::machines::Stepped;
+use atomic_programs::machines::Came;
 use block_device::Device;
 use call_parts::{
-    Answered, Dots, GiveUp, Held, LastName, Onward, Quit, Seek, Seen, TakeInode, ending, stopped,
+    Answered, Dots, GiveUp, Held, LastName, Quit, Seek, Seen, TakeInode, ending, stopped,
 };
 use fs_layout::Super;
 use fs_machine::{Core, Kind, RetiredCore};
@@ -37,6 +38,7 @@ use group_log::Txn;
 use inode_data::Begun;
 use path_walk::{Element, Stop};
 use plain_tree::{Answer, Bytes, Call, Cause, Full};
+use std::mem;
 
 /// An open with CREATE under way.
 pub enum OpenNew {
@@ -54,8 +56,12 @@ pub enum OpenNew {
     Making(Opening, Txn, Listed, Element, Make),
     /// The parent of the new file is given up.
     Made(Opening, Txn, Listed, Held, GiveUp),
-    /// The inode is opened, or the call ends.
+    /// The inode is opened.
     Opens(OpenOld),
+    /// The call ends.
+    Ends(Quit),
+    /// It has ended, or is being changed.
+    Gone,
 }
 
 impl OpenNew {
@@ -77,53 +83,243 @@ impl OpenNew {
         OpenNew::Join(opening, list)
     }
 
-    /// One operation.
+    /// One operation of it in its place.
     #[tactic(auto, unfolding(crate::specs::Creating::open_new_of, crate::specs::Creating::OpenNewFits, fs_machine::specs::Premises::Honest))]
-    pub fn step<D: Device>(
-        self,
-        hart: u8,
-        core: &mut Core<D>,
-    ) -> Stepped<Onward<OpenNew>, Answered, Kind>
-        requires may { MayNext hart (open_new_of self) (state_of D.contents D.failures core.old) }
-        requires fits { OpenNewFits hart (state_of D.contents D.failures core.old) self }
-        ensures moves { Moves (onward_of open_new_of) reply_in hart (onward.Runs self) result (state_of D.contents D.failures core.old) (state_of D.contents D.failures core.new) }
-        ensures honest { Answers (onward_of open_new_of) hart (onward.Runs self) result (state_of D.contents D.failures core.old) (state_of D.contents D.failures core.new) }
-        ensures still { Still (onward_of open_new_of) result (onward.Runs self) core.old core.new }
-        ensures fits { LeftOf (OnwardFits OpenNewFits hart (state_of D.contents D.failures core.new)) IsSpent result }
-        ensures others { LeavesTied hart (state_of D.contents D.failures core.old) (state_of D.contents D.failures core.new) }
-        ensures called { CallsOnce D.Called core.old.log.cache.device core.new.log.cache.device }
+    pub fn step<D: Device>(&mut self, hart: u8, core: &mut Core<D>) -> Came<Answered, Kind>
+        requires may { MayNext hart (open_new_of self.old) (state_of D.contents D.failures core.old) }
+        requires fits { OpenNewFits hart (state_of D.contents D.failures core.old) self.old }
+        ensures steps { StepsAt D.contents D.failures D.Called open_new_of reply_in OpenNewFits IsSpent opening_new.Gone hart self.old self.new result core.old core.new }
     {
         match self {
-            OpenNew::Join(o, list) => match core.join(hart) {
-                None => Stepped::Waits(Onward::Runs(OpenNew::Join(o, list))),
-                Some(txn) => Stepped::Ran(joined(o, txn, list), Kind::Join),
+            OpenNew::Join(_, _) => match core.join(hart) {
+                None => Came::Waits,
+                Some(txn) => {
+                    let (opening, list) = self.joining();
+                    self.put(joined(opening, txn, list));
+                    Came::Ran(Kind::Join)
+                }
             },
-            OpenNew::Seeking(o, txn, seek) => {
-                let stepped = seek.step(hart, o.path.as_slice(), core);
-                seeking(o, txn, stepped)
+            OpenNew::Seeking(opening, _, seek) => {
+                match seek.step(hart, opening.path.as_slice(), core) {
+                    Came::Waits => Came::Waits,
+                    Came::Ran(kind) => Came::Ran(kind),
+                    Came::Done(seen, kind) => {
+                        let (opening, txn) = self.sought();
+                        self.put(sees(opening, txn, seen));
+                        Came::Ran(kind)
+                    }
+                    Came::Stopped => Came::Stopped,
+                }
             }
-            OpenNew::Up(o, txn, list, held, number) => {
-                let there = core.up(hart, number);
-                Stepped::Ran(up(o, txn, list, held, there), Kind::Up)
+            OpenNew::Up(_, _, _, _, number) => {
+                let there = core.up(hart, *number);
+                let (opening, txn, list, held, _) = self.taking_up();
+                self.put(up(opening, txn, list, held, there));
+                Came::Ran(Kind::Up)
             }
-            OpenNew::Leaving(o, txn, list, reference, give) => {
-                let mut txn = txn;
-                let stepped = give.step(hart, &mut txn, core);
-                leaving(o, txn, list, reference, stepped)
+            OpenNew::Leaving(_, txn, _, _, give) => match give.step(hart, txn, core) {
+                Came::Waits => Came::Waits,
+                Came::Ran(kind) => Came::Ran(kind),
+                Came::Done((), kind) => {
+                    let (opening, txn, list, reference) = self.left();
+                    self.put(take(opening, txn, list, reference));
+                    Came::Ran(kind)
+                }
+                Came::Stopped => Came::Stopped,
+            },
+            OpenNew::Taking(_, _, _, take) => match take.step(hart, core) {
+                Came::Waits => Came::Waits,
+                Came::Ran(kind) => Came::Ran(kind),
+                Came::Done(held, kind) => {
+                    let (opening, txn, list) = self.taken();
+                    self.put(OpenNew::Opens(at(opening, txn, list, held)));
+                    Came::Ran(kind)
+                }
+                Came::Stopped => Came::Stopped,
+            },
+            OpenNew::Making(opening, txn, _, element, make) => {
+                let name = &opening.path.as_slice()[element.start..element.end];
+                match make.step(hart, txn, name, core) {
+                    Came::Waits => Came::Waits,
+                    Came::Ran(kind) => Came::Ran(kind),
+                    Came::Done(named, kind) => {
+                        let (opening, txn, list, _) = self.made();
+                        self.put(came(opening, txn, list, named));
+                        Came::Ran(kind)
+                    }
+                    Came::Stopped => Came::Stopped,
+                }
             }
-            OpenNew::Taking(o, txn, list, take) => taking(o, txn, list, take.step(hart, core)),
-            OpenNew::Making(o, txn, list, element, make) => {
-                let mut txn = txn;
-                let name = &o.path.as_slice()[element.start..element.end];
-                let stepped = make.step(hart, &mut txn, name, core);
-                making(o, txn, list, element, stepped)
+            OpenNew::Made(_, txn, _, _, give) => match give.step(hart, txn, core) {
+                Came::Waits => Came::Waits,
+                Came::Ran(kind) => Came::Ran(kind),
+                Came::Done((), kind) => {
+                    let (opening, txn, list, held) = self.left_made();
+                    self.put(open_made(opening, txn, list, held));
+                    Came::Ran(kind)
+                }
+                Came::Stopped => Came::Stopped,
+            },
+            OpenNew::Opens(open) => match open.step(hart, core) {
+                Came::Waits => Came::Waits,
+                Came::Ran(kind) => Came::Ran(kind),
+                Came::Done(answered, kind) => {
+                    self.end();
+                    Came::Done(answered, kind)
+                }
+                Came::Stopped => Came::Stopped,
+            },
+            OpenNew::Ends(quit) => match quit.step(hart, core) {
+                Came::Waits => Came::Waits,
+                Came::Ran(kind) => Came::Ran(kind),
+                Came::Done(answered, kind) => {
+                    self.end();
+                    Came::Done(answered, kind)
+                }
+                Came::Stopped => Came::Stopped,
+            },
+            OpenNew::Gone => unreachable!(),
+        }
+    }
+
+    // What one has that joins a transaction.
+    fn joining(&mut self) -> (Opening, Listed)
+        requires { (x : Opening × List ℕ) × (self.old ≡ opening_new.Join x.0 x.1) }
+        ensures was { self.old ≡ opening_new.Join result.0 result.1 }
+        ensures gone { self.new ≡ opening_new.Gone }
+    {
+        match mem::replace(self, OpenNew::Gone) {
+            OpenNew::Join(opening, list) => (opening, list),
+            _ => unreachable!(),
+        }
+    }
+
+    // What one has whose last name has been sought.
+    fn sought(&mut self) -> (Opening, Txn)
+        requires { (x : Opening × ℕ) × (self.old ≡ opening_new.Seeking x.0 x.1 seeking.Gone) }
+        ensures was { self.old ≡ opening_new.Seeking result.0 result.1 seeking.Gone }
+        ensures gone { self.new ≡ opening_new.Gone }
+    {
+        match mem::replace(self, OpenNew::Gone) {
+            OpenNew::Seeking(opening, txn, seek) => {
+                match seek {
+                    Seek::Gone => {}
+                    _ => unreachable!(),
+                }
+                (opening, txn)
             }
-            OpenNew::Made(o, txn, list, held, give) => {
-                let mut txn = txn;
-                let stepped = give.step(hart, &mut txn, core);
-                made(o, txn, list, held, stepped)
+            _ => unreachable!(),
+        }
+    }
+
+    // What one has that takes a reference.
+    fn taking_up(&mut self) -> (Opening, Txn, Listed, Held, u32)
+        requires { (x : Opening × ℕ × List ℕ × Held × ℕ) × (self.old ≡ opening_new.Up x.0 x.1 x.2 x.3 x.4) }
+        ensures was { self.old ≡ opening_new.Up result.0 result.1 result.2 result.3 result.4 }
+        ensures gone { self.new ≡ opening_new.Gone }
+    {
+        match mem::replace(self, OpenNew::Gone) {
+            OpenNew::Up(opening, txn, list, held, number) => (opening, txn, list, held, number),
+            _ => unreachable!(),
+        }
+    }
+
+    // What one has that has given the parent up.
+    fn left(&mut self) -> (Opening, Txn, Listed, Reference)
+        requires { (x : Opening × ℕ × List ℕ × ℕ) × (self.old ≡ opening_new.Leaving x.0 x.1 x.2 x.3 giving.Gone) }
+        ensures was { self.old ≡ opening_new.Leaving result.0 result.1 result.2 result.3 giving.Gone }
+        ensures gone { self.new ≡ opening_new.Gone }
+    {
+        match mem::replace(self, OpenNew::Gone) {
+            OpenNew::Leaving(opening, txn, list, reference, give) => {
+                match give {
+                    GiveUp::Gone => {}
+                    _ => unreachable!(),
+                }
+                (opening, txn, list, reference)
             }
-            OpenNew::Opens(open) => opens(open.step(hart, core)),
+            _ => unreachable!(),
+        }
+    }
+
+    // What one has that has taken the inode.
+    fn taken(&mut self) -> (Opening, Txn, Listed)
+        requires { (x : Opening × ℕ × List ℕ) × (self.old ≡ opening_new.Taking x.0 x.1 x.2 taking.Gone) }
+        ensures was { self.old ≡ opening_new.Taking result.0 result.1 result.2 taking.Gone }
+        ensures gone { self.new ≡ opening_new.Gone }
+    {
+        match mem::replace(self, OpenNew::Gone) {
+            OpenNew::Taking(opening, txn, list, take) => {
+                match take {
+                    TakeInode::Gone => {}
+                    _ => unreachable!(),
+                }
+                (opening, txn, list)
+            }
+            _ => unreachable!(),
+        }
+    }
+
+    // What one has that has made a file, or could make none.
+    fn made(&mut self) -> (Opening, Txn, Listed, Element)
+        requires { (x : Opening × ℕ × List ℕ × Element) × (self.old ≡ opening_new.Making x.0 x.1 x.2 x.3 making.Gone) }
+        ensures was { self.old ≡ opening_new.Making result.0 result.1 result.2 result.3 making.Gone }
+        ensures gone { self.new ≡ opening_new.Gone }
+    {
+        match mem::replace(self, OpenNew::Gone) {
+            OpenNew::Making(opening, txn, list, element, make) => {
+                match make {
+                    Make::Gone => {}
+                    _ => unreachable!(),
+                }
+                (opening, txn, list, element)
+            }
+            _ => unreachable!(),
+        }
+    }
+
+    // What one has that has given the parent of a new file up.
+    fn left_made(&mut self) -> (Opening, Txn, Listed, Held)
+        requires { (x : Opening × ℕ × List ℕ × Held) × (self.old ≡ opening_new.Made x.0 x.1 x.2 x.3 giving.Gone) }
+        ensures was { self.old ≡ opening_new.Made result.0 result.1 result.2 result.3 giving.Gone }
+        ensures gone { self.new ≡ opening_new.Gone }
+    {
+        match mem::replace(self, OpenNew::Gone) {
+            OpenNew::Made(opening, txn, list, held, give) => {
+                match give {
+                    GiveUp::Gone => {}
+                    _ => unreachable!(),
+                }
+                (opening, txn, list, held)
+            }
+            _ => unreachable!(),
+        }
+    }
+
+    fn end(&mut self)
+        requires { HasEnded self.old }
+        ensures { self.new ≡ opening_new.Gone }
+    {
+        match mem::replace(self, OpenNew::Gone) {
+            OpenNew::Opens(open) => match open {
+                OpenOld::Gone => {}
+                _ => unreachable!(),
+            },
+            OpenNew::Ends(quit) => match quit {
+                Quit::Gone => {}
+                _ => unreachable!(),
+            },
+            _ => unreachable!(),
+        }
+    }
+
+    fn put(&mut self, next: OpenNew)
+        requires { self.old ≡ opening_new.Gone }
+        ensures { self.new ≡ next }
+    {
+        match mem::replace(self, next) {
+            OpenNew::Gone => {}
+            _ => unreachable!(),
         }
     }
 
@@ -163,17 +359,19 @@ impl OpenNew {
                 give.retire(retired);
             }
             OpenNew::Opens(open) => open.retire(retired),
+            OpenNew::Ends(quit) => quit.retire(retired),
+            OpenNew::Gone => {}
         }
     }
 }
 
 // After a transaction was joined.
 #[tactic(auto, unfolding(crate::specs::Creating::open_new_of, crate::specs::Creating::OpenNewFits))]
-fn joined(opening: Opening, txn: Txn, list: Listed) -> Onward<OpenNew>
+fn joined(opening: Opening, txn: Txn, list: Listed) -> OpenNew
     requires creating { IsCreating opening }
     requires none { list ≡ [] }
-    ensures program { onward_of open_new_of result ≡ bind (seek dots.LookedUp opening.sizes.inodestart opening.path []) (open_seen opening.sizes opening.path opening.flags) }
-    ensures fits { (hart : ℕ) (s : State) → txn ≡ hart → OnwardFits OpenNewFits hart s result }
+    ensures program { open_new_of result ≡ bind (seek dots.LookedUp opening.sizes.inodestart opening.path []) (open_seen opening.sizes opening.path opening.flags) }
+    ensures fits { (hart : ℕ) (s : State) → txn ≡ hart → OpenNewFits hart s result }
 {
     let begun = Seek::begin(
         opening.path.as_slice(),
@@ -182,53 +380,53 @@ fn joined(opening: Opening, txn: Txn, list: Listed) -> Onward<OpenNew>
         list,
     );
     match begun {
-        Begun::Runs(seek) => Onward::Runs(OpenNew::Seeking(opening, txn, seek)),
+        Begun::Runs(seek) => OpenNew::Seeking(opening, txn, seek),
         Begun::Is(seen) => sees(opening, txn, seen),
     }
 }
 
 // The call ends with this answer and the inode in hand, which it gives up.
 #[tactic(auto, unfolding(crate::specs::Creating::open_new_of, crate::specs::Creating::OpenNewFits, crate::specs::Opens::open_old_of, crate::specs::Opens::OpenOldFits))]
-fn quit(opening: Opening, txn: Txn, list: Listed, held: Held, answer: Answer) -> Onward<OpenNew>
+fn quit(opening: Opening, txn: Txn, list: Listed, held: Held, answer: Answer) -> OpenNew
     requires { IsCreating opening }
-    ensures program { onward_of open_new_of result ≡ quit opening.sizes (inode_in held ∷ []) list (open_reply opening.path opening.flags answer) }
-    ensures fits { (hart : ℕ) (s : State) → txn ≡ hart → IsHeld hart held s → OnwardFits OpenNewFits hart s result }
+    ensures program { open_new_of result ≡ quit opening.sizes (inode_in held ∷ []) list (open_reply opening.path opening.flags answer) }
+    ensures fits { (hart : ℕ) (s : State) → txn ≡ hart → IsHeld hart held s → OpenNewFits hart s result }
 {
     let Opening { sizes, path, flags } = opening;
     let ending = ending(&sizes, list, Call::Open { path, flags }, answer);
-    Onward::Ends(Quit::with_inode(ending, txn, held))
+    OpenNew::Ends(Quit::with_inode(ending, txn, held))
 }
 
 // The name can't be there.
-fn missing(opening: Opening, txn: Txn, list: Listed, held: Held) -> Onward<OpenNew>
+fn missing(opening: Opening, txn: Txn, list: Listed, held: Held) -> OpenNew
     requires { IsCreating opening }
-    ensures program { onward_of open_new_of result ≡ open_missing opening.sizes opening.path opening.flags (inode_in held) list }
-    ensures fits { (hart : ℕ) (s : State) → txn ≡ hart → IsHeld hart held s → OnwardFits OpenNewFits hart s result }
+    ensures program { open_new_of result ≡ open_missing opening.sizes opening.path opening.flags (inode_in held) list }
+    ensures fits { (hart : ℕ) (s : State) → txn ≡ hart → IsHeld hart held s → OpenNewFits hart s result }
 {
     quit(opening, txn, list, held, Answer::Failed(Cause::NoEntry))
 }
 
 // There is no parent.
 #[tactic(auto, unfolding(crate::specs::Creating::open_new_of, crate::specs::Creating::OpenNewFits, crate::specs::Opens::open_old_of, crate::specs::Opens::OpenOldFits))]
-fn lost(opening: Opening, txn: Txn, list: Listed, why: Stop) -> Onward<OpenNew>
+fn lost(opening: Opening, txn: Txn, list: Listed, why: Stop) -> OpenNew
     requires { IsCreating opening }
-    ensures program { onward_of open_new_of result ≡ quit opening.sizes [] list (open_reply opening.path opening.flags (stopped why)) }
-    ensures fits { (hart : ℕ) (s : State) → txn ≡ hart → OnwardFits OpenNewFits hart s result }
+    ensures program { open_new_of result ≡ quit opening.sizes [] list (open_reply opening.path opening.flags (stopped why)) }
+    ensures fits { (hart : ℕ) (s : State) → txn ≡ hart → OpenNewFits hart s result }
 {
     let Opening { sizes, path, flags } = opening;
     let ending = ending(&sizes, list, Call::Open { path, flags }, stopped(why));
-    Onward::Ends(Quit::with_nothing(ending, txn))
+    OpenNew::Ends(Quit::with_nothing(ending, txn))
 }
 
 // What the parent has under the last name.
 #[tactic(auto, unfolding(crate::specs::Creating::open_new_of, crate::specs::Creating::OpenNewFits))]
-fn sees(opening: Opening, txn: Txn, seen: Seen) -> Onward<OpenNew>
+fn sees(opening: Opening, txn: Txn, seen: Seen) -> OpenNew
     requires { IsCreating opening }
-    ensures program { onward_of open_new_of result ≡ open_seen opening.sizes opening.path opening.flags (seen_as opening.path seen) }
-    ensures fits { (hart : ℕ) (s : State) → txn ≡ hart → IsSeen opening.path hart s seen → OnwardFits OpenNewFits hart s result }
+    ensures program { open_new_of result ≡ open_seen opening.sizes opening.path opening.flags (seen_as opening.path seen) }
+    ensures fits { (hart : ℕ) (s : State) → txn ≡ hart → IsSeen opening.path hart s seen → OpenNewFits hart s result }
 {
     match seen {
-        Seen::Name(last) => Onward::Runs(looked_up(opening, txn, last)),
+        Seen::Name(last) => looked_up(opening, txn, last),
         Seen::Dots(held, list) => missing(opening, txn, list, held),
         Seen::Dead(held, list) => missing(opening, txn, list, held),
         Seen::Lost(why, list) => lost(opening, txn, list, why),
@@ -259,221 +457,58 @@ fn looked_up(opening: Opening, txn: Txn, last: LastName) -> OpenNew
 
 // A reference to what was found was wanted.
 #[tactic(auto, unfolding(crate::specs::Creating::open_new_of, crate::specs::Creating::OpenNewFits))]
-fn up(
-    opening: Opening,
-    txn: Txn,
-    list: Listed,
-    held: Held,
-    there: Option<Reference>,
-) -> Onward<OpenNew>
+fn up(opening: Opening, txn: Txn, list: Listed, held: Held, there: Option<Reference>) -> OpenNew
     requires { IsCreating opening }
-    ensures program { (n : ℕ) → IfSome there (λ reference. reference ≡ n) → onward_of open_new_of result ≡ open_up opening.sizes opening.path opening.flags (inode_in held) n list there }
-    ensures fits { (hart : ℕ) (s : State) → txn ≡ hart → IsHeld hart held s → OnwardFits OpenNewFits hart s result }
+    ensures program { (n : ℕ) → IfSome there (λ reference. reference ≡ n) → open_new_of result ≡ open_up opening.sizes opening.path opening.flags (inode_in held) n list there }
+    ensures fits { (hart : ℕ) (s : State) → txn ≡ hart → IsHeld hart held s → OpenNewFits hart s result }
 {
     match there {
         None => quit(opening, txn, list, held, Answer::Full(Full::MemInodes)),
         Some(reference) => {
             let give = GiveUp::new(held, &opening.sizes);
-            Onward::Runs(OpenNew::Leaving(opening, txn, list, reference, give))
+            OpenNew::Leaving(opening, txn, list, reference, give)
         }
     }
 }
 
-// A step while the last name is sought.
+// The parent was given up: the inode is taken.
 #[tactic(auto, unfolding(crate::specs::Creating::open_new_of, crate::specs::Creating::OpenNewFits))]
-fn seeking(
-    opening: Opening,
-    txn: Txn,
-    stepped: Stepped<Seek, Seen, Kind>,
-) -> Stepped<Onward<OpenNew>, Answered, Kind>
+fn take(opening: Opening, txn: Txn, list: Listed, reference: Reference) -> OpenNew
     requires { IsCreating opening }
-    ensures follows { Follows (seek_of opening.path) (seen_as opening.path) (onward_of open_new_of) reply_in (open_seen opening.sizes opening.path opening.flags) stepped result }
-    ensures fits { (hart : ℕ) (s : State) → txn ≡ hart → LeftOf (SeekFits opening.path hart s) (IsSeen opening.path hart s) stepped → LeftOf (OnwardFits OpenNewFits hart s) IsSpent result }
+    ensures program { open_new_of result ≡ open_taken opening.sizes opening.path opening.flags reference list }
+    ensures fits { (hart : ℕ) (s : State) → txn ≡ hart → OpenNewFits hart s result }
 {
-    match stepped {
-        Stepped::Waits(seek) => Stepped::Waits(Onward::Runs(OpenNew::Seeking(opening, txn, seek))),
-        Stepped::Ran(seek, kind) => Stepped::Ran(
-            Onward::Runs(OpenNew::Seeking(opening, txn, seek)),
-            kind,
-        ),
-        Stepped::Done(seen, kind) => Stepped::Ran(sees(opening, txn, seen), kind),
-        Stepped::Stopped(seek) => Stepped::Stopped(Onward::Runs(OpenNew::Seeking(
-            opening, txn, seek,
-        ))),
-    }
-}
-
-// A step while the parent is given up.
-#[tactic(auto, unfolding(crate::specs::Creating::open_new_of, crate::specs::Creating::OpenNewFits))]
-fn leaving(
-    opening: Opening,
-    txn: Txn,
-    list: Listed,
-    reference: Reference,
-    stepped: Stepped<GiveUp, (), Kind>,
-) -> Stepped<Onward<OpenNew>, Answered, Kind>
-    requires { IsCreating opening }
-    ensures follows { Follows give_of (λ x. x) (onward_of open_new_of) reply_in (λ _. open_taken opening.sizes opening.path opening.flags reference list) stepped result }
-    ensures fits { (hart : ℕ) (s : State) → txn ≡ hart → LeftOf (GiveFits hart s) (λ _. Unit {0}) stepped → LeftOf (OnwardFits OpenNewFits hart s) IsSpent result }
-{
-    match stepped {
-        Stepped::Waits(give) => {
-            Stepped::Waits(Onward::Runs(OpenNew::Leaving(opening, txn, list, reference, give)))
-        }
-        Stepped::Ran(give, kind) => {
-            Stepped::Ran(
-                Onward::Runs(OpenNew::Leaving(opening, txn, list, reference, give)),
-                kind,
-            )
-        }
-        Stepped::Done((), kind) => {
-            let take = TakeInode::new(opening.sizes.inodestart, reference);
-            Stepped::Ran(
-                Onward::Runs(OpenNew::Taking(opening, txn, list, take)),
-                kind,
-            )
-        }
-        Stepped::Stopped(give) => {
-            Stepped::Stopped(Onward::Runs(OpenNew::Leaving(opening, txn, list, reference, give)))
-        }
-    }
-}
-
-// A step while the inode is taken.
-#[tactic(auto, unfolding(crate::specs::Creating::open_new_of, crate::specs::Creating::OpenNewFits))]
-fn taking(
-    opening: Opening,
-    txn: Txn,
-    list: Listed,
-    stepped: Stepped<TakeInode, Held, Kind>,
-) -> Stepped<Onward<OpenNew>, Answered, Kind>
-    requires opening { IsCreating opening }
-    requires there { LeftOf (λ _. Unit {0}) (λ held. IsSome held.inode.value.content) stepped }
-    ensures follows { Follows take_of inode_in (onward_of open_new_of) reply_in (λ w. open_at opening.sizes opening.path opening.flags w list) stepped result }
-    ensures fits { (hart : ℕ) (s : State) → txn ≡ hart → LeftOf (TakeFits hart s) (λ held. IsHeld hart held s) stepped → LeftOf (OnwardFits OpenNewFits hart s) IsSpent result }
-{
-    match stepped {
-        Stepped::Waits(take) => Stepped::Waits(Onward::Runs(OpenNew::Taking(
-            opening, txn, list, take,
-        ))),
-        Stepped::Ran(take, kind) => Stepped::Ran(
-            Onward::Runs(OpenNew::Taking(opening, txn, list, take)),
-            kind,
-        ),
-        Stepped::Done(held, kind) => { Stepped::Ran(in_opens(at(opening, txn, list, held)), kind) }
-        Stepped::Stopped(take) => Stepped::Stopped(Onward::Runs(OpenNew::Taking(
-            opening, txn, list, take,
-        ))),
-    }
-}
-
-// A step while a file is made.
-#[tactic(auto, unfolding(crate::specs::Creating::open_new_of, crate::specs::Creating::OpenNewFits))]
-fn making(
-    opening: Opening,
-    txn: Txn,
-    list: Listed,
-    element: Element,
-    stepped: Stepped<Make, Named, Kind>,
-) -> Stepped<Onward<OpenNew>, Answered, Kind>
-    requires { IsCreating opening }
-    ensures follows { Follows (make_of (name_in opening.path element)) named_as (onward_of open_new_of) reply_in (open_named opening.sizes opening.path opening.flags list) stepped result }
-    ensures fits { (hart : ℕ) (s : State) → txn ≡ hart → IsElement opening.path element → LeftOf (MakeFits hart s) (IsNamed hart s) stepped → LeftOf (OnwardFits OpenNewFits hart s) IsSpent result }
-{
-    match stepped {
-        Stepped::Waits(make) => {
-            Stepped::Waits(Onward::Runs(OpenNew::Making(opening, txn, list, element, make)))
-        }
-        Stepped::Ran(make, kind) => {
-            Stepped::Ran(
-                Onward::Runs(OpenNew::Making(opening, txn, list, element, make)),
-                kind,
-            )
-        }
-        Stepped::Done(named, kind) => Stepped::Ran(came(opening, txn, list, named), kind),
-        Stepped::Stopped(make) => {
-            Stepped::Stopped(Onward::Runs(OpenNew::Making(opening, txn, list, element, make)))
-        }
-    }
+    let take = TakeInode::new(opening.sizes.inodestart, reference);
+    OpenNew::Taking(opening, txn, list, take)
 }
 
 // What the making came to.
 #[tactic(auto, unfolding(crate::specs::Creating::open_new_of, crate::specs::Creating::OpenNewFits))]
-fn came(opening: Opening, txn: Txn, list: Listed, named: Named) -> Onward<OpenNew>
+fn came(opening: Opening, txn: Txn, list: Listed, named: Named) -> OpenNew
     requires { IsCreating opening }
-    ensures program { onward_of open_new_of result ≡ open_named opening.sizes opening.path opening.flags list (named_as named) }
-    ensures fits { (hart : ℕ) (s : State) → txn ≡ hart → IsNamed hart s named → OnwardFits OpenNewFits hart s result }
+    ensures program { open_new_of result ≡ open_named opening.sizes opening.path opening.flags list (named_as named) }
+    ensures fits { (hart : ℕ) (s : State) → txn ≡ hart → IsNamed hart s named → OpenNewFits hart s result }
 {
     match named {
         Named::There(parent, child) => {
             let give = GiveUp::new(parent, &opening.sizes);
-            Onward::Runs(OpenNew::Made(opening, txn, list, child, give))
+            OpenNew::Made(opening, txn, list, child, give)
         }
         Named::Lacks(parent, what) => quit(opening, txn, list, parent, Answer::Full(what)),
     }
 }
 
-// A step while the parent of a new file is given up.
+// The parent of a new file was given up: the file is opened.
 #[tactic(auto, unfolding(crate::specs::Creating::open_new_of, crate::specs::Creating::OpenNewFits, crate::specs::Opens::open_old_of, crate::specs::Opens::OpenOldFits))]
-fn made(
-    opening: Opening,
-    txn: Txn,
-    list: Listed,
-    held: Held,
-    stepped: Stepped<GiveUp, (), Kind>,
-) -> Stepped<Onward<OpenNew>, Answered, Kind>
+fn open_made(opening: Opening, txn: Txn, list: Listed, held: Held) -> OpenNew
     requires { IsCreating opening }
-    ensures follows { Follows give_of (λ x. x) (onward_of open_new_of) reply_in (λ _. open_made opening.sizes opening.path opening.flags (inode_in held) list) stepped result }
-    ensures fits { (hart : ℕ) (s : State) → txn ≡ hart → IsHeld hart held s → LeftOf (λ m. GiveFits hart s m × GiveApart held.reference m) (λ _. Unit {0}) stepped → LeftOf (OnwardFits OpenNewFits hart s) IsSpent result }
+    ensures program { open_new_of result ≡ open_made opening.sizes opening.path opening.flags (inode_in held) list }
+    ensures fits { (hart : ℕ) (s : State) → txn ≡ hart → IsHeld hart held s → OpenNewFits hart s result }
 {
-    match stepped {
-        Stepped::Waits(give) => Stepped::Waits(Onward::Runs(OpenNew::Made(
-            opening, txn, list, held, give,
-        ))),
-        Stepped::Ran(give, kind) => {
-            Stepped::Ran(
-                Onward::Runs(OpenNew::Made(opening, txn, list, held, give)),
-                kind,
-            )
-        }
-        Stepped::Done((), kind) => {
-            let inode = ToOpen {
-                held,
-                empties: false,
-                list,
-            };
-            let install = Install::new(opening, txn, inode);
-            Stepped::Ran(
-                Onward::Runs(OpenNew::Opens(OpenOld::Installing(install))),
-                kind,
-            )
-        }
-        Stepped::Stopped(give) => Stepped::Stopped(Onward::Runs(OpenNew::Made(
-            opening, txn, list, held, give,
-        ))),
-    }
-}
-
-// What is left of it while the inode is opened.
-fn in_opens(left: Onward<OpenOld>) -> Onward<OpenNew>
-    ensures { result ≡ onward_in (λ m. opening_new.Opens m) left }
-{
-    match left {
-        Onward::Runs(open) => Onward::Runs(OpenNew::Opens(open)),
-        Onward::Ends(quit) => Onward::Ends(quit),
-    }
-}
-
-// A step while the inode is opened, or the call ends.
-fn opens(
-    stepped: Stepped<Onward<OpenOld>, Answered, Kind>,
-) -> Stepped<Onward<OpenNew>, Answered, Kind>
-    ensures { result ≡ ends_within (onward_in (λ m. opening_new.Opens m)) (λ answered. answered) stepped }
-{
-    match stepped {
-        Stepped::Waits(left) => Stepped::Waits(in_opens(left)),
-        Stepped::Ran(left, kind) => Stepped::Ran(in_opens(left), kind),
-        Stepped::Done(reply, kind) => Stepped::Done(reply, kind),
-        Stepped::Stopped(left) => Stepped::Stopped(in_opens(left)),
-    }
+    let inode = ToOpen {
+        held,
+        empties: false,
+        list,
+    };
+    OpenNew::Opens(OpenOld::Installing(Install::new(opening, txn, inode)))
 }

@@ -1,27 +1,26 @@
 //! open without CREATE: of what is there.
-ghost use Rattle.std.specs.Prelude.{◌≡◌, [], ◌≢◌, ◌≤◌, ℕ, All, IsSome, length};
-ghost use Rattle.atomic_programs.specs.Machines.{Still, Left as LeftOf};
+ghost use Rattle.std.specs.Prelude.{◌≡◌, [], ◌≢◌, ◌≤◌, ℕ, List, All, IsSome, length};
+ghost use Rattle.atomic_programs.specs.Prog.{bind};
 ghost use Rattle.fs_machine.specs.Steps.{State, state_of};
-ghost use Rattle.fs_machine.specs.Machines.{MayNext, Moves, Answers, CallsOnce};
-ghost use Rattle.fs_machine.specs.Tied.{LeavesTied};
-ghost use Rattle.inode_data.specs.Machines.{ends_within};
+ghost use Rattle.fs_machine.specs.Machines.{MayNext};
+ghost use Rattle.fs_machine.specs.Places.{StepsAt};
 ghost use Rattle.file_table.specs.Machines.{IsEarly};
 ghost use Rattle.plain_tree.specs.Steps.{has_driver};
 ghost use Rattle.path_walk.specs.Elements.{longest_path};
-ghost use Rattle.call_parts.specs.Nesting.{Follows};
 ghost use Rattle.call_parts.specs.Spent.{reply_in, IsSpent};
-ghost use Rattle.call_parts.specs.Onwards.{onward_in, onward_of, OnwardFits};
-ghost use Rattle.call_parts.specs.Parts.{Misses};
+ghost use Rattle.call_parts.specs.Parts.{reach, Misses};
 ghost use Rattle.making_calls.specs.Opening.{empties, open_at, open_found, open_old, open_refusal};
-ghost use Rattle.call_parts.specs.Taking.{inode_in, IsHeld, reach_of, ReachFits, reached_as, IsReached, IsThere};
-ghost use Rattle.making_calls.specs.Opens.{open_old_of, OpenOldFits, IsOpening};
-ghost use Rattle.making_calls.specs.declared.open_old.OpenOld.TheVariants as old;
-ghost use Rattle.call_parts.specs.declared.onward.Onward.TheVariants as onward;
+ghost use Rattle.call_parts.specs.Taking.{inode_in, IsHeld, reached_as, IsReached, IsThere};
+ghost use Rattle.making_calls.specs.Opens.{open_old_of, HasEnded, OpenOldFits, IsOpening};
+ghost use Rattle.path_walk.specs.declared.walked.Goal.TheVariants as goals;
+ghost use Rattle.call_parts.specs.declared.reach.Reach.TheVariants as reaching;
+ghost use Rattle.making_calls.specs.declared.install.Opening.{Opening};
+ghost use Rattle.making_calls.specs.declared.open_old.OpenOld.TheVariants as opening_old;
 
 use crate::install::{Install, Opening, ToOpen, has_flag, is_regular};
-use atomic_programs::machines::Stepped;
+use atomic_programs::machines::Came;
 use block_device::Device;
-use call_parts::{Answered, Held, Onward, Quit, Reach, Reached, ending, stopped};
+use call_parts::{Answered, Held, Quit, Reach, Reached, ending, stopped};
 use directory::is_directory;
 use fs_layout::{Dinode, Super};
 use fs_machine::{Core, Kind, RetiredCore};
@@ -30,6 +29,7 @@ use group_log::Txn;
 use inode_data::record;
 use path_walk::{Goal, Stop};
 use plain_tree::{Answer, Bytes, Call, Cause};
+use std::mem;
 
 const TRUNCATE: u32 = 1024;
 
@@ -44,6 +44,10 @@ pub enum OpenOld {
     Reaching(Opening, Txn, Reach),
     /// It gets a place and a descriptor.
     Installing(Install),
+    /// The call ends.
+    Ends(Quit),
+    /// It has ended, or is being changed.
+    Gone,
 }
 
 impl OpenOld {
@@ -65,35 +69,110 @@ impl OpenOld {
         OpenOld::Join(opening, list)
     }
 
-    /// One operation.
+    /// One operation of it in its place.
     #[tactic(auto, unfolding(crate::specs::Opens::open_old_of, crate::specs::Opens::OpenOldFits, fs_machine::specs::Premises::Honest))]
-    pub fn step<D: Device>(
-        self,
-        hart: u8,
-        core: &mut Core<D>,
-    ) -> Stepped<Onward<OpenOld>, Answered, Kind>
-        requires may { MayNext hart (open_old_of self) (state_of D.contents D.failures core.old) }
-        requires fits { OpenOldFits hart (state_of D.contents D.failures core.old) self }
-        ensures moves { Moves (onward_of open_old_of) reply_in hart (onward.Runs self) result (state_of D.contents D.failures core.old) (state_of D.contents D.failures core.new) }
-        ensures honest { Answers (onward_of open_old_of) hart (onward.Runs self) result (state_of D.contents D.failures core.old) (state_of D.contents D.failures core.new) }
-        ensures still { Still (onward_of open_old_of) result (onward.Runs self) core.old core.new }
-        ensures fits { LeftOf (OnwardFits OpenOldFits hart (state_of D.contents D.failures core.new)) IsSpent result }
-        ensures others { LeavesTied hart (state_of D.contents D.failures core.old) (state_of D.contents D.failures core.new) }
-        ensures called { CallsOnce D.Called core.old.log.cache.device core.new.log.cache.device }
+    pub fn step<D: Device>(&mut self, hart: u8, core: &mut Core<D>) -> Came<Answered, Kind>
+        requires may { MayNext hart (open_old_of self.old) (state_of D.contents D.failures core.old) }
+        requires fits { OpenOldFits hart (state_of D.contents D.failures core.old) self.old }
+        ensures steps { StepsAt D.contents D.failures D.Called open_old_of reply_in OpenOldFits IsSpent opening_old.Gone hart self.old self.new result core.old core.new }
     {
         match self {
-            OpenOld::Join(o, list) => match core.join(hart) {
-                None => Stepped::Waits(Onward::Runs(OpenOld::Join(o, list))),
+            OpenOld::Join(_, _) => match core.join(hart) {
+                None => Came::Waits,
                 Some(txn) => {
-                    let reach = Reach::new(o.sizes.inodestart, Goal::Node, list);
-                    Stepped::Ran(Onward::Runs(OpenOld::Reaching(o, txn, reach)), Kind::Join)
+                    let (opening, list) = self.joining();
+                    self.put(joined(opening, txn, list));
+                    Came::Ran(Kind::Join)
                 }
             },
-            OpenOld::Reaching(o, txn, reach) => {
-                let stepped = reach.step(hart, o.path.as_slice(), core);
-                reaching(o, txn, stepped)
+            OpenOld::Reaching(opening, _, reach) => {
+                match reach.step(hart, opening.path.as_slice(), core) {
+                    Came::Waits => Came::Waits,
+                    Came::Ran(kind) => Came::Ran(kind),
+                    Came::Done(reached, kind) => {
+                        let (opening, txn) = self.reached();
+                        self.put(found(opening, txn, reached));
+                        Came::Ran(kind)
+                    }
+                    Came::Stopped => Came::Stopped,
+                }
             }
-            OpenOld::Installing(install) => installing(install.step(hart, core)),
+            OpenOld::Installing(install) => match install.step(hart, core) {
+                Came::Waits => Came::Waits,
+                Came::Ran(kind) => Came::Ran(kind),
+                Came::Done(answered, kind) => {
+                    self.end();
+                    Came::Done(answered, kind)
+                }
+                Came::Stopped => Came::Stopped,
+            },
+            OpenOld::Ends(quit) => match quit.step(hart, core) {
+                Came::Waits => Came::Waits,
+                Came::Ran(kind) => Came::Ran(kind),
+                Came::Done(answered, kind) => {
+                    self.end();
+                    Came::Done(answered, kind)
+                }
+                Came::Stopped => Came::Stopped,
+            },
+            OpenOld::Gone => unreachable!(),
+        }
+    }
+
+    // What one has that joins a transaction.
+    fn joining(&mut self) -> (Opening, Listed)
+        requires { (x : Opening × List ℕ) × (self.old ≡ opening_old.Join x.0 x.1) }
+        ensures was { self.old ≡ opening_old.Join result.0 result.1 }
+        ensures gone { self.new ≡ opening_old.Gone }
+    {
+        match mem::replace(self, OpenOld::Gone) {
+            OpenOld::Join(opening, list) => (opening, list),
+            _ => unreachable!(),
+        }
+    }
+
+    // What one has whose path has been followed to its end.
+    fn reached(&mut self) -> (Opening, Txn)
+        requires { (x : Opening × ℕ) × (self.old ≡ opening_old.Reaching x.0 x.1 reaching.Gone) }
+        ensures was { self.old ≡ opening_old.Reaching result.0 result.1 reaching.Gone }
+        ensures gone { self.new ≡ opening_old.Gone }
+    {
+        match mem::replace(self, OpenOld::Gone) {
+            OpenOld::Reaching(opening, txn, reach) => {
+                match reach {
+                    Reach::Gone => {}
+                    _ => unreachable!(),
+                }
+                (opening, txn)
+            }
+            _ => unreachable!(),
+        }
+    }
+
+    fn end(&mut self)
+        requires { HasEnded self.old }
+        ensures { self.new ≡ opening_old.Gone }
+    {
+        match mem::replace(self, OpenOld::Gone) {
+            OpenOld::Installing(install) => match install {
+                Install::Gone => {}
+                _ => unreachable!(),
+            },
+            OpenOld::Ends(quit) => match quit {
+                Quit::Gone => {}
+                _ => unreachable!(),
+            },
+            _ => unreachable!(),
+        }
+    }
+
+    fn put(&mut self, next: OpenOld)
+        requires { self.old ≡ opening_old.Gone }
+        ensures { self.new ≡ next }
+    {
+        match mem::replace(self, next) {
+            OpenOld::Gone => {}
+            _ => unreachable!(),
         }
     }
 
@@ -106,20 +185,34 @@ impl OpenOld {
                 reach.retire(retired);
             }
             OpenOld::Installing(install) => install.retire(retired),
+            OpenOld::Ends(quit) => quit.retire(retired),
+            OpenOld::Gone => {}
         }
     }
 }
 
+// After a transaction was joined.
+#[tactic(auto, unfolding(crate::specs::Opens::open_old_of, crate::specs::Opens::OpenOldFits))]
+fn joined(opening: Opening, txn: Txn, list: Listed) -> OpenOld
+    requires opening { IsOpening opening }
+    requires none { list ≡ [] }
+    ensures program { open_old_of result ≡ bind (reach goals.Node opening.sizes.inodestart opening.path []) (open_found opening.sizes opening.path opening.flags) }
+    ensures fits { (hart : ℕ) (s : State) → txn ≡ hart → OpenOldFits hart s result }
+{
+    let reach = Reach::new(opening.sizes.inodestart, Goal::Node, list);
+    OpenOld::Reaching(opening, txn, reach)
+}
+
 // The path leads nowhere.
 #[tactic(auto, unfolding(crate::specs::Opens::open_old_of, crate::specs::Opens::OpenOldFits))]
-fn lost(opening: Opening, txn: Txn, list: Listed, why: Stop) -> Onward<OpenOld>
+fn lost(opening: Opening, txn: Txn, list: Listed, why: Stop) -> OpenOld
     requires { IsEarly opening.sizes.inodestart }
-    ensures program { onward_of open_old_of result ≡ open_found opening.sizes opening.path opening.flags (Misses why list) }
-    ensures fits { (hart : ℕ) (s : State) → txn ≡ hart → OnwardFits OpenOldFits hart s result }
+    ensures program { open_old_of result ≡ open_found opening.sizes opening.path opening.flags (Misses why list) }
+    ensures fits { (hart : ℕ) (s : State) → txn ≡ hart → OpenOldFits hart s result }
 {
     let Opening { sizes, path, flags } = opening;
     let ending = ending(&sizes, list, Call::Open { path, flags }, stopped(why));
-    Onward::Ends(Quit::with_nothing(ending, txn))
+    OpenOld::Ends(Quit::with_nothing(ending, txn))
 }
 
 // Why an inode isn't opened with these flags, by its type.
@@ -148,11 +241,11 @@ fn has_driver(major: i16) -> bool
 
 // At what the path leads to.
 #[tactic(auto, unfolding(crate::specs::Opens::open_old_of, crate::specs::Opens::OpenOldFits))]
-pub(crate) fn at(opening: Opening, txn: Txn, list: Listed, held: Held) -> Onward<OpenOld>
+pub(crate) fn at(opening: Opening, txn: Txn, list: Listed, held: Held) -> OpenOld
     requires early { IsEarly opening.sizes.inodestart }
     requires there { IsSome held.inode.value.content }
-    ensures program { onward_of open_old_of result ≡ open_at opening.sizes opening.path opening.flags (inode_in held) list }
-    ensures fits { (hart : ℕ) (s : State) → txn ≡ hart → IsHeld hart held s → OnwardFits OpenOldFits hart s result }
+    ensures program { open_old_of result ≡ open_at opening.sizes opening.path opening.flags (inode_in held) list }
+    ensures fits { (hart : ℕ) (s : State) → txn ≡ hart → IsHeld hart held s → OpenOldFits hart s result }
 {
     let inode = record(&held.inode);
     match refusal(&inode, opening.flags) {
@@ -164,7 +257,7 @@ pub(crate) fn at(opening: Opening, txn: Txn, list: Listed, held: Held) -> Onward
                 Call::Open { path, flags },
                 Answer::Failed(why),
             );
-            Onward::Ends(Quit::with_inode(ending, txn, held))
+            OpenOld::Ends(Quit::with_inode(ending, txn, held))
         }
         None => {
             let empties = has_flag(opening.flags, TRUNCATE) && is_regular(&inode);
@@ -173,60 +266,21 @@ pub(crate) fn at(opening: Opening, txn: Txn, list: Listed, held: Held) -> Onward
                 empties,
                 list,
             };
-            Onward::Runs(OpenOld::Installing(Install::new(opening, txn, inode)))
+            OpenOld::Installing(Install::new(opening, txn, inode))
         }
     }
 }
 
-// A step while what the path leads to is taken.
+// What the path came to.
 #[tactic(auto, unfolding(crate::specs::Opens::open_old_of, crate::specs::Opens::OpenOldFits))]
-fn reaching(
-    opening: Opening,
-    txn: Txn,
-    stepped: Stepped<Reach, Reached, Kind>,
-) -> Stepped<Onward<OpenOld>, Answered, Kind>
-    requires opening { IsOpening opening }
-    requires there { LeftOf (λ _. Unit {0}) (IsThere opening.path) stepped }
-    ensures follows { Follows (reach_of opening.path) (reached_as opening.path) (onward_of open_old_of) reply_in (open_found opening.sizes opening.path opening.flags) stepped result }
-    ensures fits { (hart : ℕ) (s : State) → txn ≡ hart → LeftOf (ReachFits opening.path hart s) (IsReached opening.path hart s) stepped → LeftOf (OnwardFits OpenOldFits hart s) IsSpent result }
+fn found(opening: Opening, txn: Txn, reached: Reached) -> OpenOld
+    requires early { IsEarly opening.sizes.inodestart }
+    requires there { IsThere opening.path reached }
+    ensures program { open_old_of result ≡ open_found opening.sizes opening.path opening.flags (reached_as opening.path reached) }
+    ensures fits { (hart : ℕ) (s : State) → txn ≡ hart → IsReached opening.path hart s reached → OpenOldFits hart s result }
 {
-    match stepped {
-        Stepped::Waits(reach) => Stepped::Waits(Onward::Runs(OpenOld::Reaching(
-            opening, txn, reach,
-        ))),
-        Stepped::Ran(reach, kind) => {
-            Stepped::Ran(Onward::Runs(OpenOld::Reaching(opening, txn, reach)), kind)
-        }
-        Stepped::Done(reached, kind) => match reached {
-            Reached::At(held, _, list) => Stepped::Ran(at(opening, txn, list, held), kind),
-            Reached::Lost(why, list) => Stepped::Ran(lost(opening, txn, list, why), kind),
-        },
-        Stepped::Stopped(reach) => Stepped::Stopped(Onward::Runs(OpenOld::Reaching(
-            opening, txn, reach,
-        ))),
-    }
-}
-
-// What is left of it while the inode gets a place and a descriptor.
-fn in_installing(left: Onward<Install>) -> Onward<OpenOld>
-    ensures { result ≡ onward_in (λ m. old.Installing m) left }
-{
-    match left {
-        Onward::Runs(install) => Onward::Runs(OpenOld::Installing(install)),
-        Onward::Ends(quit) => Onward::Ends(quit),
-    }
-}
-
-// A step while the inode gets a place and a descriptor.
-fn installing(
-    stepped: Stepped<Onward<Install>, Answered, Kind>,
-) -> Stepped<Onward<OpenOld>, Answered, Kind>
-    ensures { result ≡ ends_within (onward_in (λ m. old.Installing m)) (λ answered. answered) stepped }
-{
-    match stepped {
-        Stepped::Waits(left) => Stepped::Waits(in_installing(left)),
-        Stepped::Ran(left, kind) => Stepped::Ran(in_installing(left), kind),
-        Stepped::Done(reply, kind) => Stepped::Done(reply, kind),
-        Stepped::Stopped(left) => Stepped::Stopped(in_installing(left)),
+    match reached {
+        Reached::At(held, _, list) => at(opening, txn, list, held),
+        Reached::Lost(why, list) => lost(opening, txn, list, why),
     }
 }

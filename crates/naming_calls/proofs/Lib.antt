@@ -1,4 +1,5 @@
-pub mod Having
+pub mod Finished
+pub mod Paths
 pub mod Lowers
 pub mod Unlinks
 pub mod Linkings

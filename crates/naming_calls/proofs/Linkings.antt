@@ -1,15 +1,8 @@
 -- A link: what its file is stored as, and what its list has room for.
-use Rattle.std.proofs.Common.{◌≡◌, ◌∙◌, ◌≤◌, ◌+◌, ℕ, List, [], length, None, sym, ap, arith}
-use Rattle.fs_tables.specs.declared.inodes.Inode.{Inode}
+use Rattle.std.proofs.Common.{◌≡◌, ◌∙◌, ◌≤◌, ◌+◌, ℕ, List, [], length, Some, ap, arith}
 use Rattle.plain_tree.specs.Tree.{elements}
 use Rattle.plain_tree.specs.declared.answer.Reply.{Reply}
-use Rattle.atomic_programs.specs.Prog.{Do, Ran as ItRan, WentOn, advance, bind, unmarked, went}
-use Rattle.atomic_programs.specs.Machines.{Left}
-use Rattle.atomic_programs.specs.declared.machines.Stepped.{Stepped}
-use Rattle.fs_machine.specs.declared.kind.Kind.{Kind}
-use Rattle.fs_machine.specs.declared.kind.Kind.TheVariants as kind
-use Rattle.fs_machine.specs.LogPart.{Passes}
-use Rattle.fs_machine.specs.Steps.{State, Unlock, exec, kind_of}
+use Rattle.atomic_programs.specs.Prog.{bind}
 use Rattle.fs_machine.specs.Machines.{P}
 use Rattle.inode_table.specs.Programs.{store}
 use Rattle.inode_table.specs.Machines.{store_of}
@@ -17,22 +10,19 @@ use Rattle.inode_table.specs.declared.store_inode.StoreInode.{StoreInode}
 use Rattle.inode_data.specs.Records.{record_in, with_record}
 use Rattle.path_walk.specs.Elements.{longest_path, most_elements}
 use Rattle.path_walk.proofs.Few.{few_elements}
-use Rattle.call_parts.specs.Taking.{inode_in, kept_by, most_reached, IsReached, ReachFits}
+use Rattle.call_parts.specs.Taking.{inode_in}
 use Rattle.call_parts.specs.Counts.{with_links}
 use Rattle.naming_calls.specs.Unlinking.{links_of}
 use Rattle.naming_calls.specs.Links.{link_of, link_raised, raise_file, HasRoom}
 use Rattle.call_parts.specs.declared.take.Held.{Held}
-use Rattle.call_parts.specs.declared.reach.Reach.{Reach}
-use Rattle.call_parts.specs.declared.reach.Reached.{Reached}
 use Rattle.naming_calls.specs.declared.add_name.Linking.{Linking}
 use Rattle.naming_calls.specs.declared.link.Link.TheVariants as linking
-use Rattle.call_parts.proofs.Nesting.{left_zip}
 
 abbrev counted : ℕ → Held → Held
 counted links held = record held { inode = with_record (with_links links (record_in held.inode)) held.inode }
 
 pub raise_is : (l : Linking) (txn : ℕ) (list : List ℕ) (links : ℕ) (file raised : Held) (st : StoreInode) → raised ≡ counted links file → links ≡ links_of (record_in file.inode) + 1
-    → store_of st ≡ store l.sizes.inodestart raised.inode.value.number (record_in raised.inode) → link_of (linking.Raising l txn list raised st) ≡ raise_file l.sizes l.old l.new (inode_in file) list
+    → store_of st ≡ store l.sizes.inodestart raised.inode.value.number (record_in raised.inode) → link_of (linking.Raising l txn list raised (Some st)) ≡ raise_file l.sizes l.old l.new (inode_in file) list
 unfolding link_of
 raise_is l txn list links file raised st is more program =
     ap (λ (p : P (Unit {0})). bind p (λ _. link_raised l.sizes l.old l.new (inode_in raised) list)) program
@@ -45,19 +35,3 @@ few_at_first path list short none = omega (arith, few_elements path short, ap le
 -- after a walk of one path the list has room for a walk of another
 pub room_after : (path list : List ℕ) → length list ≤ most_elements → length path ≤ longest_path → HasRoom path list
 room_after path list few short = omega (arith, few, few_elements path short)
-
-pub few_left : (path : List ℕ) (hart : ℕ) (s : State) (m : Reach) (stepped : Stepped Reach Reached Kind) → most_reached path m ≤ most_elements → Left (ReachFits path hart s) (IsReached path hart s) stepped
-    → Left (λ r. most_reached path r ≤ most_reached path m) (λ r. length (kept_by r) ≤ most_reached path m) stepped
-    → Left (λ r. (most_reached path r ≤ most_elements) × ReachFits path hart s r) (λ r. (length (kept_by r) ≤ most_elements) × IsReached path hart s r) stepped
-few_left path hart s m stepped few =
-    left_zip (ReachFits path hart s) (λ r. most_reached path r ≤ most_reached path m) (λ r. (most_reached path r ≤ most_elements) × ReachFits path hart s r)
-    (IsReached path hart s) (λ r. length (kept_by r) ≤ most_reached path m) (λ r. (length (kept_by r) ≤ most_elements) × IsReached path hart s r)
-    (λ r f k. (omega (arith, few, k), f)) (λ r f k. (omega (arith, few, k), f)) stepped
-
--- a lock was given back
-pub unlocked_moves : (hart : ℕ) (v : Inode) (p q r : P Reply) (old new : State) → p ≡ Do (Unlock v None) unmarked (λ _. q) → exec hart Passes (Unlock v None) old ≡ ItRan tt new → r ≡ q
-    → advance kind_of (exec hart Passes) p old ≡ WentOn kind.Unlock r new
-unlocked_moves hart v p q r old new is ran goes =
-    ap (λ (t : P Reply). advance kind_of (exec hart Passes) t old) is
-    ∙ ap (went (Unlock v None) (kind_of (Unlock v None)) (λ _. q)) ran
-    ∙ ap (λ (t : P Reply). WentOn kind.Unlock t new) (sym goes)

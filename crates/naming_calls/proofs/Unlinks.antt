@@ -1,17 +1,12 @@
 -- The steps of an unlink: what it has in hand goes on with the state.
-use Rattle.std.proofs.Common.{◌≡◌, ◌≢◌, ◌∙◌, ℕ, Option, IsSome, refl, sym, ap, subst}
+use Rattle.std.proofs.Common.{◌≡◌, ◌≢◌, ℕ, refl, sym, ap, subst}
 use Rattle.sleep_lock.specs.SleepLock.{GuardState}
-use Rattle.plain_tree.specs.declared.answer.Reply.{Reply}
-use Rattle.atomic_programs.specs.Prog.{Do, Ran as ItRan, WentOn, advance, unmarked, went}
 use Rattle.atomic_programs.specs.Machines.{Left}
 use Rattle.atomic_programs.specs.declared.machines.Stepped.{Stepped}
 use Rattle.fs_tables.specs.declared.inodes.Inode.{Inode}
 use Rattle.fs_machine.specs.declared.kind.Kind.{Kind}
-use Rattle.fs_machine.specs.declared.kind.Kind.TheVariants as kind
-use Rattle.fs_machine.specs.LogPart.{Passes}
-use Rattle.fs_machine.specs.Machines.{P}
 use Rattle.fs_machine.specs.Stays.{LeavesApart}
-use Rattle.fs_machine.specs.Steps.{State, Up, Number, exec, kind_of}
+use Rattle.fs_machine.specs.Steps.{State}
 use Rattle.fs_machine.specs.Tied.{IsOwnInode}
 use Rattle.inode_data.specs.Records.{record_in, with_record}
 use Rattle.directory.specs.Machines.{inode_of, SearchFits}
@@ -28,14 +23,6 @@ use Rattle.naming_calls.specs.declared.unlink.Removing.{Removing}
 use Rattle.call_parts.proofs.Having.{held_stays}
 use Rattle.call_parts.proofs.Nesting.{left_map, left_zip}
 use Rattle.call_parts.proofs.Tails.{own_loaded}
-
--- a reference was wanted
-pub referred_moves : (hart n : ℕ) (k : Option ℕ → P Reply) (p q : P Reply) (up : Option ℕ) (old new : State) → p ≡ Do (Up (Number n)) unmarked k → exec hart Passes (Up (Number n)) old ≡ ItRan up new → q ≡ k up
-    → advance kind_of (exec hart Passes) p old ≡ WentOn kind.Up q new
-referred_moves hart n k p q up old new is ran goes =
-    ap (λ (t : P Reply). advance kind_of (exec hart Passes) t old) is
-    ∙ ap (went (Up (Number n)) (kind_of (Up (Number n))) k) ran
-    ∙ ap (λ (t : P Reply). WentOn kind.Up t new) (sym goes)
 
 -- the name's directory stays had
 pub removing_on : (hart : ℕ) (r : Removing) (old new : State) → IsHeld hart r.parent new → IsRemoving hart r old → IsRemoving hart r new
@@ -56,9 +43,6 @@ took_apart hart held self stepped old new rest had apart fits =
           (λ m f a. (f, a)) (λ taken f a. (f, a)) stepped fits left.1,
     )
 
-pub taken_there : (hart : ℕ) (s : State) (stepped : Stepped TakeInode Held Kind) → Left (TakeFits hart s) (λ taken. IsHeld hart taken s) stepped → Left (λ _. Unit {0}) (λ taken. IsSome taken.inode.value.content) stepped
-taken_there hart s stepped left = left_map (TakeFits hart s) (λ _. Unit {0}) (λ taken. IsHeld hart taken s) (λ taken. IsSome taken.inode.value.content) (λ m f. tt) (λ taken f. f.there) stepped left
-
 -- an inode is had by this guard
 abbrev pub Has : ℕ → ℕ → State → GuardState Inode → Type 0
 Has hart n s guard = IsHeld hart (record { reference = n; inode = guard }) s
@@ -72,23 +56,12 @@ searched_held hart n guard old new stepped same had inode left =
     left_zip (λ m. inode_of m ≡ guard) (SearchFits hart new) (λ m. Has hart n new (inode_of m) × SearchFits hart new m) (λ r. r.inode ≡ guard) (λ _. Unit {0}) (λ r. Has hart n new r.inode)
     (λ m e f. (subst (Has hart n new) (sym e) there, f)) (λ r e f. subst (Has hart n new) (sym e) there) stepped inode left
 
-pub searched_there : (guard : GuardState Inode) (stepped : Stepped Search Searched Kind) → IsSome guard.value.content → Left (λ m. inode_of m ≡ guard) (λ r. r.inode ≡ guard) stepped
-    → Left (λ _. Unit {0}) (λ r. IsSome r.inode.value.content) stepped
-searched_there guard stepped there left =
-    left_map (λ m. inode_of m ≡ guard) (λ _. Unit {0}) (λ r. r.inode ≡ guard) (λ r. IsSome r.inode.value.content) (λ m e. tt) (λ r e. subst (λ (g : GuardState Inode). IsSome g.value.content) (sym e) there) stepped left
-
 -- while the name is cleared
 pub cleared_number : (guard : GuardState Inode) (stepped : Stepped PutEntry (GuardState Inode) Kind) → Left (λ m. putter_of m ≡ guard) (λ r. r ≡ with_record (record_in r) guard) stepped
     → Left (λ m. (putter_of m).value.number ≡ guard.value.number) (λ r. r.value ≡ loaded guard.value.number (record_in r)) stepped
 cleared_number guard stepped =
     left_map (λ m. putter_of m ≡ guard) (λ m. (putter_of m).value.number ≡ guard.value.number) (λ r. r ≡ with_record (record_in r) guard) (λ r. r.value ≡ loaded guard.value.number (record_in r))
     (λ m e. ap (λ (g : GuardState Inode). g.value.number) e) (λ r e. ap (λ (g : GuardState Inode). g.value) e) stepped
-
-pub cleared_there : (guard : GuardState Inode) (stepped : Stepped PutEntry (GuardState Inode) Kind) → Left (λ m. putter_of m ≡ guard) (λ r. r ≡ with_record (record_in r) guard) stepped
-    → Left (λ _. Unit {0}) (λ r. IsSome r.value.content) stepped
-cleared_there guard stepped =
-    left_map (λ m. putter_of m ≡ guard) (λ _. Unit {0}) (λ r. r ≡ with_record (record_in r) guard) (λ r. IsSome r.value.content)
-    (λ m e. tt) (λ r e. subst (λ (g : GuardState Inode). IsSome g.value.content) (sym e) refl) stepped
 
 pub cleared_held : (hart n : ℕ) (guard : GuardState Inode) (child : Held) (old new : State) (stepped : Stepped PutEntry (GuardState Inode) Kind) → new.tables ≡ old.tables
     → AreHeld hart (record { reference = n; inode = guard }) child old → Left (λ m. putter_of m ≡ guard) (λ r. r ≡ with_record (record_in r) guard) stepped → Left (PutFits hart new) (λ _. Unit {0}) stepped

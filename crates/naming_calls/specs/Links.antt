@@ -30,7 +30,8 @@ use Rattle.path_walk.specs.Programs.{loaded}
 use Rattle.path_walk.specs.declared.walked.Goal.TheVariants as goals
 use Rattle.call_parts.specs.Parts.{ReachedState, Finds, Misses, drop_quit, give_up, quit, reach, stopped, take_inode}
 use Rattle.call_parts.specs.Taking.{inode_in, most_reached, reach_of, take_of, IsHeld, ReachFits, TakeFits}
-use Rattle.call_parts.specs.Ends.{give_of, GiveFits}
+use Rattle.call_parts.specs.Ends.{give_of, quit_of, GiveFits, QuitFits}
+use Rattle.call_parts.specs.Replies.{no_program}
 use Rattle.call_parts.specs.Seeking.{SeekState, Sees, Dotted, Dead, NoParent, seek, seek_of, SeekFits}
 use Rattle.call_parts.specs.Counts.{with_links}
 use Rattle.call_parts.specs.OnPaths.{IsSized}
@@ -127,17 +128,23 @@ module _ (sizes : Super) (old new : List ℕ) where
 
 unfoldable pub add_of : AddName → P Reply
 add_of (adding.Seeking l txn n m) = bind (seek_of l.new m) (name_seen l.sizes l.old l.new n)
-add_of (adding.Entering l txn list n parent m) = bind (enter_of m) (name_entered l.sizes l.old l.new n (enterer_of m).value.number list)
+add_of (adding.Entering l txn list n parent (Some m)) = bind (enter_of m) (name_entered l.sizes l.old l.new n (enterer_of m).value.number list)
+add_of (adding.Entering l txn list n parent None) = no_program
 add_of (adding.Leaving l txn list n why m) = bind (give_of m) (λ _. leave_file l.sizes l.old l.new n list why)
 add_of (adding.Taking e txn m) = bind (take_of m) (lower_child e)
 add_of (adding.Lowering m) = lower_of m
+add_of (adding.Ends m) = quit_of m
+add_of adding.Gone = no_program
 
 unfoldable pub link_of : Link → P Reply
 link_of (linking.Join l list) = link_program l.sizes l.old l.new
 link_of (linking.Reaching l txn m) = bind (reach_of l.old m) (link_found l.sizes l.old l.new)
-link_of (linking.Raising l txn list held m) = bind (store_of m) (λ _. link_raised l.sizes l.old l.new (inode_in held) list)
+link_of (linking.Raising l txn list held (Some m)) = bind (store_of m) (λ _. link_raised l.sizes l.old l.new (inode_in held) list)
+link_of (linking.Raising l txn list held None) = no_program
 link_of (linking.Unlock l txn list held) = link_raised l.sizes l.old l.new (inode_in held) list
 link_of (linking.Naming m) = add_of m
+link_of (linking.Ends m) = quit_of m
+link_of linking.Gone = no_program
 
 -- paths that are short and have no zero byte, on a disk on which calls run
 pub record IsLinking (l : Linking) : Type 0 where
@@ -154,14 +161,20 @@ HasRoom path list = length list + length (elements path) ≤ listed_places
 -- its transaction and its guards go with the state
 unfoldable pub AddFits : ℕ → State → AddName → Type 0
 AddFits hart s (adding.Seeking l txn n m) = IsLinking l × (txn ≡ hart) × SeekFits l.new hart s m
-AddFits hart s (adding.Entering l txn list n parent m) = IsLinking l × (txn ≡ hart) × IsOwnInode hart parent (enterer_of m) s × EnterFits hart s m
+AddFits hart s (adding.Entering l txn list n parent None) = ⊥
+AddFits hart s (adding.Entering l txn list n parent (Some m)) = IsLinking l × (txn ≡ hart) × IsOwnInode hart parent (enterer_of m) s × EnterFits hart s m
 AddFits hart s (adding.Leaving l txn list n why m) = IsLinking l × (txn ≡ hart) × GiveFits hart s m
 AddFits hart s (adding.Taking e txn m) = IsEarly e.sizes.inodestart × (txn ≡ hart) × TakeFits hart s m
 AddFits hart s (adding.Lowering m) = LowerFits hart s m
+AddFits hart s (adding.Ends m) = QuitFits hart s m
+AddFits hart s adding.Gone = ⊥
 
 unfoldable pub LinkFits : ℕ → State → Link → Type 0
 LinkFits hart s (linking.Join l list) = IsLinking l × (list ≡ [])
 LinkFits hart s (linking.Reaching l txn m) = IsLinking l × (txn ≡ hart) × (most_reached l.old m ≤ most_elements) × ReachFits l.old hart s m
-LinkFits hart s (linking.Raising l txn list held m) = IsLinking l × (txn ≡ hart) × HasRoom l.new list × IsHeld hart held s × StoreFits hart s m
+LinkFits hart s (linking.Raising l txn list held None) = ⊥
+LinkFits hart s (linking.Raising l txn list held (Some m)) = IsLinking l × (txn ≡ hart) × HasRoom l.new list × IsHeld hart held s × StoreFits hart s m
 LinkFits hart s (linking.Unlock l txn list held) = IsLinking l × (txn ≡ hart) × HasRoom l.new list × IsHeld hart held s
 LinkFits hart s (linking.Naming m) = AddFits hart s m
+LinkFits hart s (linking.Ends m) = QuitFits hart s m
+LinkFits hart s linking.Gone = ⊥

@@ -31,5 +31,8 @@ module _ (sizes : Super) (path : List ℕ) where
   chdir_found (Finds v es ns) = chdir_at v ns
   chdir_found (Misses why ns) = quit sizes [] ns (chdir_reply path (stopped why))
 
+  abbrev pub chdir_joined : P Reply
+  chdir_joined = bind (reach goals.Node sizes.inodestart path []) chdir_found
+
   abbrev pub chdir_program : P Reply
-  chdir_program = Do Join unmarked (λ _. bind (reach goals.Node sizes.inodestart path []) chdir_found)
+  chdir_program = Do Join unmarked (λ _. chdir_joined)

@@ -26,7 +26,8 @@ use Rattle.path_walk.specs.Programs.{loaded}
 use Rattle.file_table.specs.Machines.{IsEarly}
 use Rattle.call_parts.specs.Parts.{give_up, quit, stopped, take_inode}
 use Rattle.call_parts.specs.Taking.{inode_in, take_of, IsHeld, TakeApart, TakeFits}
-use Rattle.call_parts.specs.Ends.{give_of, GiveApart, GiveFits}
+use Rattle.call_parts.specs.Ends.{give_of, quit_of, GiveApart, GiveFits, QuitFits}
+use Rattle.call_parts.specs.Replies.{no_program}
 use Rattle.call_parts.specs.Seeking.{SeekState, Sees, Dotted, Dead, NoParent, seek, seek_of, SeekFits}
 use Rattle.call_parts.specs.OnPaths.{IsOnPath}
 use Rattle.call_parts.specs.declared.seek.Dots.TheVariants as dots
@@ -128,9 +129,13 @@ abbrev pub with_link_less : Held → Held
 with_link_less held = record held { inode = with_record (lowered (record_in held.inode)) held.inode }
 
 unfoldable pub lower_of : Lower → P Reply
-lower_of (lowering.Parent e txn parent child m) = bind (store_of m) (λ _. leave_parent e (inode_in parent) (inode_in child))
+lower_of (lowering.Parent e txn parent child (Some m)) = bind (store_of m) (λ _. leave_parent e (inode_in parent) (inode_in child))
+lower_of (lowering.Parent e txn parent child None) = no_program
 lower_of (lowering.Leaving e txn child m) = bind (give_of m) (λ _. lower_child e (inode_in child))
-lower_of (lowering.Child e txn child m) = bind (store_of m) (λ _. quit e.sizes (inode_in child ∷ []) e.list e.reply)
+lower_of (lowering.Child e txn child (Some m)) = bind (store_of m) (λ _. quit e.sizes (inode_in child ∷ []) e.list e.reply)
+lower_of (lowering.Child e txn child None) = no_program
+lower_of (lowering.Ends m) = quit_of m
+lower_of lowering.Gone = no_program
 
 -- two inodes are had
 pub record AreHeld (hart : ℕ) (first second : Held) (s : State) : Type 0 where
@@ -140,18 +145,26 @@ pub record AreHeld (hart : ℕ) (first second : Held) (s : State) : Type 0 where
 
 -- its transaction and its guards go with the state
 unfoldable pub LowerFits : ℕ → State → Lower → Type 0
-LowerFits hart s (lowering.Parent e txn parent child m) = IsEarly e.sizes.inodestart × (txn ≡ hart) × AreHeld hart parent child s × StoreFits hart s m
+LowerFits hart s (lowering.Parent e txn parent child (Some m)) = IsEarly e.sizes.inodestart × (txn ≡ hart) × AreHeld hart parent child s × StoreFits hart s m
+LowerFits hart s (lowering.Parent e txn parent child None) = ⊥
 LowerFits hart s (lowering.Leaving e txn child m) = IsEarly e.sizes.inodestart × (txn ≡ hart) × IsHeld hart child s × GiveFits hart s m × GiveApart child.reference m
-LowerFits hart s (lowering.Child e txn child m) = IsEarly e.sizes.inodestart × (txn ≡ hart) × IsHeld hart child s × StoreFits hart s m
+LowerFits hart s (lowering.Child e txn child (Some m)) = IsEarly e.sizes.inodestart × (txn ≡ hart) × IsHeld hart child s × StoreFits hart s m
+LowerFits hart s (lowering.Child e txn child None) = ⊥
+LowerFits hart s (lowering.Ends m) = QuitFits hart s m
+LowerFits hart s lowering.Gone = ⊥
 
 unfoldable pub unlink_of : Unlink → P Reply
 unlink_of (unlinking.Join on list) = unlink_program on.sizes on.path
 unlink_of (unlinking.Seeking on txn m) = bind (seek_of on.path m) (unlink_seen on.sizes on.path)
 unlink_of (unlinking.Refer r txn n) = Do (Up (Number n)) unmarked (unlink_up r.on.sizes r.on.path (inode_in r.parent) r.slot r.list n)
 unlink_of (unlinking.Taking r txn m) = bind (take_of m) (see_child r.on.sizes r.on.path (inode_in r.parent) r.slot r.list)
-unlink_of (unlinking.Looking r txn n m) = bind (search_of Entry m) (unless_entries r.on.sizes r.on.path (inode_in r.parent) r.slot r.list (inode_of m).value)
-unlink_of (unlinking.Clearing e txn n child m) = bind (put_of Free m) (name_cleared e (putter_of m).value.number (inode_in child))
+unlink_of (unlinking.Looking r txn n (Some m)) = bind (search_of Entry m) (unless_entries r.on.sizes r.on.path (inode_in r.parent) r.slot r.list (inode_of m).value)
+unlink_of (unlinking.Looking r txn n None) = no_program
+unlink_of (unlinking.Clearing e txn n child (Some m)) = bind (put_of Free m) (name_cleared e (putter_of m).value.number (inode_in child))
+unlink_of (unlinking.Clearing e txn n child None) = no_program
 unlink_of (unlinking.Lowering m) = lower_of m
+unlink_of (unlinking.Ends m) = quit_of m
+unlink_of unlinking.Gone = no_program
 
 -- a name's directory is had, and its slot is one that a directory may have
 pub record IsRemoving (hart : ℕ) (r : Removing) (s : State) : Type 0 where
@@ -165,6 +178,10 @@ UnlinkFits hart s (unlinking.Join on list) = IsOnPath on × (list ≡ [])
 UnlinkFits hart s (unlinking.Seeking on txn m) = IsOnPath on × (txn ≡ hart) × SeekFits on.path hart s m
 UnlinkFits hart s (unlinking.Refer r txn n) = (txn ≡ hart) × IsRemoving hart r s
 UnlinkFits hart s (unlinking.Taking r txn m) = (txn ≡ hart) × IsRemoving hart r s × TakeFits hart s m × TakeApart r.parent.reference m
-UnlinkFits hart s (unlinking.Looking r txn n m) = (txn ≡ hart) × IsRemoving hart r s × IsHeld hart (record { reference = n; inode = inode_of m }) s × (r.parent.reference ≢ n) × SearchFits hart s m
-UnlinkFits hart s (unlinking.Clearing e txn n child m) = IsEarly e.sizes.inodestart × (txn ≡ hart) × AreHeld hart (record { reference = n; inode = putter_of m }) child s × PutFits hart s m
+UnlinkFits hart s (unlinking.Looking r txn n (Some m)) = (txn ≡ hart) × IsRemoving hart r s × IsHeld hart (record { reference = n; inode = inode_of m }) s × (r.parent.reference ≢ n) × SearchFits hart s m
+UnlinkFits hart s (unlinking.Looking r txn n None) = ⊥
+UnlinkFits hart s (unlinking.Clearing e txn n child (Some m)) = IsEarly e.sizes.inodestart × (txn ≡ hart) × AreHeld hart (record { reference = n; inode = putter_of m }) child s × PutFits hart s m
+UnlinkFits hart s (unlinking.Clearing e txn n child None) = ⊥
 UnlinkFits hart s (unlinking.Lowering m) = LowerFits hart s m
+UnlinkFits hart s (unlinking.Ends m) = QuitFits hart s m
+UnlinkFits hart s unlinking.Gone = ⊥

@@ -1,33 +1,26 @@
 //! Another name for a file that has one link more.
-ghost use Rattle.std.specs.Prelude.{◌≡◌, ◌≢◌, ◌≤◌, ℕ, IsSome, IsTrue, All, length};
-ghost use Rattle.atomic_programs.specs.Machines.{Still, Left as LeftOf};
+ghost use Rattle.std.specs.Prelude.{◌≡◌, ℕ, IsSome, IsTrue};
 ghost use Rattle.fs_machine.specs.Steps.{State, state_of};
-ghost use Rattle.fs_machine.specs.Machines.{MayNext, Moves, Answers, CallsOnce};
-ghost use Rattle.fs_machine.specs.Tied.{IsOwnInode, LeavesTied};
-ghost use Rattle.inode_data.specs.Machines.{ends_within};
+ghost use Rattle.fs_machine.specs.Machines.{MayNext};
+ghost use Rattle.fs_machine.specs.Places.{StepsAt};
+ghost use Rattle.fs_machine.specs.Tied.{IsOwnInode};
 ghost use Rattle.inode_data.specs.Records.{record_in};
-ghost use Rattle.directory.specs.Entering.{enter_of, entered_of, enterer_of, EnterFits};
+ghost use Rattle.directory.specs.Entering.{entered_of};
 ghost use Rattle.directory.specs.Programs.{is_live_directory};
-ghost use Rattle.file_table.specs.Machines.{IsEarly};
 ghost use Rattle.path_walk.specs.Elements.{name_in, IsElement};
 ghost use Rattle.path_walk.specs.Programs.{loaded};
-ghost use Rattle.call_parts.specs.Nesting.{Follows};
 ghost use Rattle.call_parts.specs.Spent.{reply_in, IsSpent};
-ghost use Rattle.call_parts.specs.Taking.{inode_in, take_of, IsHeld, TakeFits};
-ghost use Rattle.call_parts.specs.Ends.{give_of, GiveFits};
-ghost use Rattle.call_parts.specs.Seeking.{seek_of, seen_as, IsSeen, IsSight, SeekFits};
-ghost use Rattle.naming_calls.specs.Unlinking.{lower_child};
-ghost use Rattle.call_parts.specs.Onwards.{onward_in, onward_of, OnwardFits};
+ghost use Rattle.call_parts.specs.Taking.{inode_in, IsHeld};
+ghost use Rattle.call_parts.specs.Seeking.{seen_as, IsSeen, IsSight};
+ghost use Rattle.naming_calls.specs.AddTurns.{EnteredTo, Enters, HasEnded, IsEntering, Leaves, LeftTo, Seeks, SoughtTo, Takes, TookTo};
 ghost use Rattle.naming_calls.specs.Links.{add_name, add_of, leave_file, leave_named, name_entered, name_found, name_missing, name_seen, no_room, take_back, AddFits, HasRoom, IsLinking};
 ghost use Rattle.naming_calls.specs.declared.add_name.AddName.TheVariants as adding;
-ghost use Rattle.call_parts.specs.declared.onward.Onward.TheVariants as onward;
 
 use crate::lower::{Lower, to_child};
-use atomic_programs::machines::Stepped;
+use atomic_programs::machines::{Came, Stepped, put};
 use block_device::Device;
 use call_parts::{
-    Answered, Dots, Ending, GiveUp, Held, LastName, Onward, Quit, Seek, Seen, TakeInode, ending,
-    stopped,
+    Answered, Dots, Ending, GiveUp, Held, LastName, Quit, Seek, Seen, TakeInode, ending, stopped,
 };
 use directory::{Enter, Entered, Room};
 use fs_layout::Super;
@@ -37,6 +30,7 @@ use group_log::Txn;
 use inode_data::Begun;
 use path_walk::Element;
 use plain_tree::{Answer, Bytes, Call, Cause, Full};
+use std::mem;
 
 /// What a link has from its beginning to its end.
 #[derive(Drop)]
@@ -53,13 +47,17 @@ pub enum AddName {
     /// The new name is looked up in its directory.
     Seeking(Linking, Txn, Reference, Seek),
     /// It is entered there.
-    Entering(Linking, Txn, Listed, Reference, Reference, Enter),
+    Entering(Linking, Txn, Listed, Reference, Reference, Option<Enter>),
     /// The directory is given up. Where the name wasn't entered, this is answered.
     Leaving(Linking, Txn, Listed, Reference, Option<Answer>, GiveUp),
     /// The name wasn't entered: the file is taken again.
     Taking(Ending, Txn, TakeInode),
     /// It is stored with one link less.
     Lowering(Lower),
+    /// The call ends.
+    Ends(Quit),
+    /// It has ended, or is being changed.
+    Gone,
 }
 
 impl AddName {
@@ -77,39 +75,194 @@ impl AddName {
         }
     }
 
-    /// One operation.
+    /// One operation of it in its place.
     #[tactic(auto, unfolding(crate::specs::Links::add_of, crate::specs::Links::AddFits))]
-    pub fn step<D: Device>(
-        self,
-        hart: u8,
-        core: &mut Core<D>,
-    ) -> Stepped<Onward<AddName>, Answered, Kind>
-        requires may { MayNext hart (add_of self) (state_of D.contents D.failures core.old) }
-        requires fits { AddFits hart (state_of D.contents D.failures core.old) self }
-        ensures moves { Moves (onward_of add_of) reply_in hart (onward.Runs self) result (state_of D.contents D.failures core.old) (state_of D.contents D.failures core.new) }
-        ensures honest { Answers (onward_of add_of) hart (onward.Runs self) result (state_of D.contents D.failures core.old) (state_of D.contents D.failures core.new) }
-        ensures still { Still (onward_of add_of) result (onward.Runs self) core.old core.new }
-        ensures fits { LeftOf (OnwardFits AddFits hart (state_of D.contents D.failures core.new)) IsSpent result }
-        ensures others { LeavesTied hart (state_of D.contents D.failures core.old) (state_of D.contents D.failures core.new) }
-        ensures called { CallsOnce D.Called core.old.log.cache.device core.new.log.cache.device }
+    pub fn step<D: Device>(&mut self, hart: u8, core: &mut Core<D>) -> Came<Answered, Kind>
+        requires may { MayNext hart (add_of self.old) (state_of D.contents D.failures core.old) }
+        requires fits { AddFits hart (state_of D.contents D.failures core.old) self.old }
+        ensures steps { StepsAt D.contents D.failures D.Called add_of reply_in AddFits IsSpent adding.Gone hart self.old self.new result core.old core.new }
     {
         match self {
+            AddName::Seeking(l, _, _, seek) => match seek.step(hart, l.new.as_slice(), core) {
+                Came::Waits => Came::Waits,
+                Came::Ran(kind) => Came::Ran(kind),
+                Came::Done(seen, kind) => {
+                    self.sought(seen);
+                    Came::Ran(kind)
+                }
+                Came::Stopped => Came::Stopped,
+            },
+            AddName::Entering(_, _, _, _, _, _) => self.enter(hart, core),
+            AddName::Leaving(_, txn, _, _, _, give) => match give.step(hart, txn, core) {
+                Came::Waits => Came::Waits,
+                Came::Ran(kind) => Came::Ran(kind),
+                Came::Done((), kind) => {
+                    self.left();
+                    Came::Ran(kind)
+                }
+                Came::Stopped => Came::Stopped,
+            },
+            AddName::Taking(_, _, take) => match take.step(hart, core) {
+                Came::Waits => Came::Waits,
+                Came::Ran(kind) => Came::Ran(kind),
+                Came::Done(file, kind) => {
+                    self.took(file);
+                    Came::Ran(kind)
+                }
+                Came::Stopped => Came::Stopped,
+            },
+            AddName::Lowering(lower) => match lower.step(hart, core) {
+                Came::Waits => Came::Waits,
+                Came::Ran(kind) => Came::Ran(kind),
+                Came::Done(answered, kind) => {
+                    self.end();
+                    Came::Done(answered, kind)
+                }
+                Came::Stopped => Came::Stopped,
+            },
+            AddName::Ends(quit) => match quit.step(hart, core) {
+                Came::Waits => Came::Waits,
+                Came::Ran(kind) => Came::Ran(kind),
+                Came::Done(answered, kind) => {
+                    self.end();
+                    Came::Done(answered, kind)
+                }
+                Came::Stopped => Came::Stopped,
+            },
+            AddName::Gone => unreachable!(),
+        }
+    }
+
+    // A step while the name is entered.
+    #[tactic(auto, unfolding(crate::specs::Links::add_of, crate::specs::Links::AddFits))]
+    fn enter<D: Device>(&mut self, hart: u8, core: &mut Core<D>) -> Came<Answered, Kind>
+        requires at { IsEntering self.old }
+        requires may { MayNext hart (add_of self.old) (state_of D.contents D.failures core.old) }
+        requires fits { AddFits hart (state_of D.contents D.failures core.old) self.old }
+        ensures steps { StepsAt D.contents D.failures D.Called add_of reply_in AddFits IsSpent adding.Gone hart self.old self.new result core.old core.new }
+    {
+        match self {
+            AddName::Entering(_, txn, _, _, _, place) => match mem::replace(place, None) {
+                Some(enter) => match enter.step(hart, txn, core) {
+                    Stepped::Waits(enter) => {
+                        put(place, enter);
+                        Came::Waits
+                    }
+                    Stepped::Ran(enter, kind) => {
+                        put(place, enter);
+                        Came::Ran(kind)
+                    }
+                    Stepped::Done(entered, kind) => {
+                        self.entered(entered);
+                        Came::Ran(kind)
+                    }
+                    Stepped::Stopped(enter) => {
+                        put(place, enter);
+                        Came::Stopped
+                    }
+                },
+                None => unreachable!(),
+            },
+            _ => unreachable!(),
+        }
+    }
+
+    // The new name was looked up.
+    #[tactic(auto, unfolding(crate::specs::Links::add_of, crate::specs::Links::AddFits))]
+    fn sought(&mut self, seen: Seen)
+        requires { Seeks seen self.old }
+        ensures { SoughtTo seen self.old self.new }
+    {
+        match mem::replace(self, AddName::Gone) {
             AddName::Seeking(l, txn, file, seek) => {
-                let stepped = seek.step(hart, l.new.as_slice(), core);
-                seeking(l, txn, file, stepped)
+                match seek {
+                    Seek::Gone => {}
+                    _ => unreachable!(),
+                }
+                self.put(sees(l, txn, file, seen));
             }
+            _ => unreachable!(),
+        }
+    }
+
+    // It was entered.
+    #[tactic(auto, unfolding(crate::specs::Links::add_of, crate::specs::Links::AddFits))]
+    fn entered(&mut self, entered: Entered)
+        requires { Enters entered self.old }
+        ensures { EnteredTo entered self.old self.new }
+    {
+        match mem::replace(self, AddName::Gone) {
             AddName::Entering(l, txn, list, file, parent, enter) => {
-                let mut txn = txn;
-                let stepped = enter.step(hart, &mut txn, core);
-                entering(l, txn, list, file, parent, stepped)
+                match enter {
+                    None => {}
+                    Some(_) => unreachable!(),
+                }
+                self.put(entered_so(l, txn, list, file, parent, entered));
             }
+            _ => unreachable!(),
+        }
+    }
+
+    // The directory has been given up.
+    #[tactic(auto, unfolding(crate::specs::Links::add_of, crate::specs::Links::AddFits))]
+    fn left(&mut self)
+        requires { Leaves self.old }
+        ensures { LeftTo self.old self.new }
+    {
+        match mem::replace(self, AddName::Gone) {
             AddName::Leaving(l, txn, list, file, why, give) => {
-                let mut txn = txn;
-                let stepped = give.step(hart, &mut txn, core);
-                leaving(l, txn, list, file, why, stepped)
+                match give {
+                    GiveUp::Gone => {}
+                    _ => unreachable!(),
+                }
+                self.put(left(l, txn, list, file, why));
             }
-            AddName::Taking(ending, txn, take) => taking(ending, txn, take.step(hart, core)),
-            AddName::Lowering(lower) => lowering(lower.step(hart, core)),
+            _ => unreachable!(),
+        }
+    }
+
+    // The file has been taken again.
+    #[tactic(auto, unfolding(crate::specs::Links::add_of, crate::specs::Links::AddFits))]
+    fn took(&mut self, file: Held)
+        requires { Takes file self.old }
+        ensures { TookTo file self.old self.new }
+    {
+        match mem::replace(self, AddName::Gone) {
+            AddName::Taking(ending, txn, take) => {
+                match take {
+                    TakeInode::Gone => {}
+                    _ => unreachable!(),
+                }
+                self.put(AddName::Lowering(to_child(ending, txn, file)));
+            }
+            _ => unreachable!(),
+        }
+    }
+
+    fn end(&mut self)
+        requires { HasEnded self.old }
+        ensures { self.new ≡ adding.Gone }
+    {
+        match mem::replace(self, AddName::Gone) {
+            AddName::Lowering(lower) => match lower {
+                Lower::Gone => {}
+                _ => unreachable!(),
+            },
+            AddName::Ends(quit) => match quit {
+                Quit::Gone => {}
+                _ => unreachable!(),
+            },
+            _ => unreachable!(),
+        }
+    }
+
+    fn put(&mut self, next: AddName)
+        requires { self.old ≡ adding.Gone }
+        ensures { self.new ≡ next }
+    {
+        match mem::replace(self, next) {
+            AddName::Gone => {}
+            _ => unreachable!(),
         }
     }
 
@@ -126,7 +279,10 @@ impl AddName {
                 list.retire(&retired.inodes);
                 file.retire(&retired.inodes);
                 parent.retire(&retired.inodes);
-                enter.retire(retired);
+                match enter {
+                    Some(enter) => enter.retire(retired),
+                    None => {}
+                }
             }
             AddName::Leaving(_, txn, list, file, _, give) => {
                 txn.retire(&retired.log);
@@ -140,6 +296,8 @@ impl AddName {
                 take.retire(retired);
             }
             AddName::Lowering(lower) => lower.retire(retired),
+            AddName::Ends(quit) => quit.retire(retired),
+            AddName::Gone => {}
         }
     }
 }
@@ -260,7 +418,7 @@ fn enter(
     let name = &l.new.as_slice()[element.start..element.end];
     let begun = Enter::begin(inode, &l.sizes, file.number(), name);
     match begun {
-        Begun::Runs(enter) => AddName::Entering(l, txn, list, file, reference, enter),
+        Begun::Runs(enter) => { AddName::Entering(l, txn, list, file, reference, Some(enter)) }
         Begun::Is(entered) => entered_so(l, txn, list, file, reference, entered),
     }
 }
@@ -300,167 +458,17 @@ fn entered_so(
 
 // The directory was given up.
 #[tactic(auto, unfolding(crate::specs::Links::add_of, crate::specs::Links::AddFits))]
-fn left(l: Linking, txn: Txn, list: Listed, file: Reference, why: Option<Answer>) -> Onward<AddName>
+fn left(l: Linking, txn: Txn, list: Listed, file: Reference, why: Option<Answer>) -> AddName
     requires { IsLinking l }
-    ensures program { onward_of add_of result ≡ leave_file l.sizes l.old l.new file list why }
-    ensures fits { (hart : ℕ) (s : State) → txn ≡ hart → OnwardFits AddFits hart s result }
+    ensures program { add_of result ≡ leave_file l.sizes l.old l.new file list why }
+    ensures fits { (hart : ℕ) (s : State) → txn ≡ hart → AddFits hart s result }
 {
     match why {
-        Some(why) => Onward::Runs(take_back(l, txn, list, file, why)),
+        Some(why) => take_back(l, txn, list, file, why),
         None => {
             let Linking { sizes, old, new } = l;
             let ending = ending(&sizes, list, Call::Link { old, new }, Answer::Done);
-            Onward::Ends(Quit::with_reference(ending, txn, file))
+            AddName::Ends(Quit::with_reference(ending, txn, file))
         }
-    }
-}
-
-// A step while the new name is looked up.
-#[tactic(auto, unfolding(crate::specs::Links::add_of, crate::specs::Links::AddFits))]
-fn seeking(
-    l: Linking,
-    txn: Txn,
-    file: Reference,
-    stepped: Stepped<Seek, Seen, Kind>,
-) -> Stepped<Onward<AddName>, Answered, Kind>
-    requires l { IsLinking l }
-    requires there { LeftOf (λ _. Unit {0}) (IsSight l.new) stepped }
-    ensures follows { Follows (seek_of l.new) (seen_as l.new) (onward_of add_of) reply_in (name_seen l.sizes l.old l.new file) stepped result }
-    ensures fits { (hart : ℕ) (s : State) → txn ≡ hart → LeftOf (SeekFits l.new hart s) (IsSeen l.new hart s) stepped → LeftOf (OnwardFits AddFits hart s) IsSpent result }
-{
-    match stepped {
-        Stepped::Waits(seek) => Stepped::Waits(Onward::Runs(AddName::Seeking(l, txn, file, seek))),
-        Stepped::Ran(seek, kind) => Stepped::Ran(
-            Onward::Runs(AddName::Seeking(l, txn, file, seek)),
-            kind,
-        ),
-        Stepped::Done(seen, kind) => Stepped::Ran(Onward::Runs(sees(l, txn, file, seen)), kind),
-        Stepped::Stopped(seek) => Stepped::Stopped(Onward::Runs(AddName::Seeking(
-            l, txn, file, seek,
-        ))),
-    }
-}
-
-// A step while it is entered.
-#[tactic(auto, unfolding(crate::specs::Links::add_of, crate::specs::Links::AddFits))]
-fn entering(
-    l: Linking,
-    txn: Txn,
-    list: Listed,
-    file: Reference,
-    parent: Reference,
-    stepped: Stepped<Enter, Entered, Kind>,
-) -> Stepped<Onward<AddName>, Answered, Kind>
-    requires l { IsLinking l }
-    requires there { LeftOf (λ _. Unit {0}) (λ r. IsSome r.inode.value.content) stepped }
-    ensures follows { (n : ℕ) → LeftOf (λ m. (enterer_of m).value.number ≡ n) (λ r. r.inode.value ≡ loaded n (record_in r.inode)) stepped
-        → Follows enter_of entered_of (onward_of add_of) reply_in (name_entered l.sizes l.old l.new file n list) stepped result }
-    ensures fits { (hart : ℕ) (s : State) → txn ≡ hart
-        → LeftOf (λ m. IsOwnInode hart parent (enterer_of m) s × EnterFits hart s m) (λ r. IsOwnInode hart parent r.inode s) stepped → LeftOf (OnwardFits AddFits hart s) IsSpent result }
-{
-    match stepped {
-        Stepped::Waits(m) => Stepped::Waits(Onward::Runs(AddName::Entering(
-            l, txn, list, file, parent, m,
-        ))),
-        Stepped::Ran(m, kind) => {
-            Stepped::Ran(
-                Onward::Runs(AddName::Entering(l, txn, list, file, parent, m)),
-                kind,
-            )
-        }
-        Stepped::Done(entered, kind) => {
-            Stepped::Ran(
-                Onward::Runs(entered_so(l, txn, list, file, parent, entered)),
-                kind,
-            )
-        }
-        Stepped::Stopped(m) => Stepped::Stopped(Onward::Runs(AddName::Entering(
-            l, txn, list, file, parent, m,
-        ))),
-    }
-}
-
-// A step while the directory is given up.
-#[tactic(auto, unfolding(crate::specs::Links::add_of, crate::specs::Links::AddFits))]
-fn leaving(
-    l: Linking,
-    txn: Txn,
-    list: Listed,
-    file: Reference,
-    why: Option<Answer>,
-    stepped: Stepped<GiveUp, (), Kind>,
-) -> Stepped<Onward<AddName>, Answered, Kind>
-    requires { IsLinking l }
-    ensures follows { Follows give_of (λ x. x) (onward_of add_of) reply_in (λ _. leave_file l.sizes l.old l.new file list why) stepped result }
-    ensures fits { (hart : ℕ) (s : State) → txn ≡ hart → LeftOf (GiveFits hart s) (λ _. Unit {0}) stepped → LeftOf (OnwardFits AddFits hart s) IsSpent result }
-{
-    match stepped {
-        Stepped::Waits(give) => Stepped::Waits(Onward::Runs(AddName::Leaving(
-            l, txn, list, file, why, give,
-        ))),
-        Stepped::Ran(give, kind) => {
-            Stepped::Ran(
-                Onward::Runs(AddName::Leaving(l, txn, list, file, why, give)),
-                kind,
-            )
-        }
-        Stepped::Done((), kind) => Stepped::Ran(left(l, txn, list, file, why), kind),
-        Stepped::Stopped(give) => {
-            Stepped::Stopped(Onward::Runs(AddName::Leaving(l, txn, list, file, why, give)))
-        }
-    }
-}
-
-// A step while the file is taken again.
-#[tactic(auto, unfolding(crate::specs::Links::add_of, crate::specs::Links::AddFits))]
-fn taking(
-    ending: Ending,
-    txn: Txn,
-    stepped: Stepped<TakeInode, Held, Kind>,
-) -> Stepped<Onward<AddName>, Answered, Kind>
-    requires early { IsEarly ending.sizes.inodestart }
-    requires there { LeftOf (λ _. Unit {0}) (λ held. IsSome held.inode.value.content) stepped }
-    ensures follows { Follows take_of inode_in (onward_of add_of) reply_in (lower_child ending) stepped result }
-    ensures fits { (hart : ℕ) (s : State) → txn ≡ hart → LeftOf (TakeFits hart s) (λ held. IsHeld hart held s) stepped → LeftOf (OnwardFits AddFits hart s) IsSpent result }
-{
-    match stepped {
-        Stepped::Waits(take) => Stepped::Waits(Onward::Runs(AddName::Taking(ending, txn, take))),
-        Stepped::Ran(take, kind) => Stepped::Ran(
-            Onward::Runs(AddName::Taking(ending, txn, take)),
-            kind,
-        ),
-        Stepped::Done(file, kind) => {
-            Stepped::Ran(
-                Onward::Runs(AddName::Lowering(to_child(ending, txn, file))),
-                kind,
-            )
-        }
-        Stepped::Stopped(take) => Stepped::Stopped(Onward::Runs(AddName::Taking(
-            ending, txn, take,
-        ))),
-    }
-}
-
-// What is left of it while the file is stored with one link less.
-fn in_lowering(left: Onward<Lower>) -> Onward<AddName>
-    ensures { result ≡ onward_in (λ m. adding.Lowering m) left }
-{
-    match left {
-        Onward::Runs(lower) => Onward::Runs(AddName::Lowering(lower)),
-        Onward::Ends(quit) => Onward::Ends(quit),
-    }
-}
-
-// A step while it is stored with one link less.
-fn lowering(
-    stepped: Stepped<Onward<Lower>, Answered, Kind>,
-) -> Stepped<Onward<AddName>, Answered, Kind>
-    ensures { result ≡ ends_within (onward_in (λ m. adding.Lowering m)) (λ answered. answered) stepped }
-{
-    match stepped {
-        Stepped::Waits(left) => Stepped::Waits(in_lowering(left)),
-        Stepped::Ran(left, kind) => Stepped::Ran(in_lowering(left), kind),
-        Stepped::Done(reply, kind) => Stepped::Done(reply, kind),
-        Stepped::Stopped(left) => Stepped::Stopped(in_lowering(left)),
     }
 }

@@ -1,26 +1,25 @@
 //! chdir: another current directory.
 ghost use Rattle.std.specs.Prelude.{◌≡◌, [], ◌≢◌, ◌≤◌, ℕ, All, IsSome, length};
-ghost use Rattle.atomic_programs.specs.Machines.{Still, Left as LeftOf};
+ghost use Rattle.atomic_programs.specs.declared.machines.Came.TheVariants as came;
 ghost use Rattle.fs_machine.specs.Steps.{State, state_of};
-ghost use Rattle.fs_machine.specs.Machines.{MayNext, Moves, Answers, CallsOnce};
-ghost use Rattle.fs_machine.specs.Tied.{LeavesTied};
+ghost use Rattle.fs_machine.specs.Machines.{MayNext};
+ghost use Rattle.fs_machine.specs.Places.{StepsAt};
+ghost use Rattle.fs_machine.specs.declared.kind.Kind.TheVariants as kinds;
 ghost use Rattle.file_table.specs.Machines.{IsEarly};
 ghost use Rattle.path_walk.specs.Elements.{longest_path};
-ghost use Rattle.call_parts.specs.Nesting.{Follows};
 ghost use Rattle.call_parts.specs.Spent.{reply_in, IsSpent};
-ghost use Rattle.call_parts.specs.Onwards.{onward_of, OnwardFits};
 ghost use Rattle.call_parts.specs.Parts.{Misses, drop_quit};
 ghost use Rattle.naming_calls.specs.Moving.{chdir_at, chdir_found, chdir_program, chdir_reply};
-ghost use Rattle.call_parts.specs.Taking.{inode_in, IsHeld, reach_of, ReachFits, reached_as, IsReached, IsThere};
-ghost use Rattle.naming_calls.specs.Chdirs.{chdir_of, ChdirFits};
+ghost use Rattle.call_parts.specs.Taking.{inode_in, IsHeld, reached_as, IsReached, IsThere};
+ghost use Rattle.naming_calls.specs.Chdirs.{chdir_of, ChdirFits, JoinedTo, Joins, ReachedTo, Reaches, Settles};
 ghost use Rattle.call_parts.specs.OnPaths.{IsOnPath};
 ghost use Rattle.plain_tree.specs.declared.answer.Answer.TheVariants as answers;
 ghost use Rattle.naming_calls.specs.declared.chdir.Chdir.TheVariants as chdir;
-ghost use Rattle.call_parts.specs.declared.onward.Onward.TheVariants as onward;
+ghost use Rattle.call_parts.specs.declared.quit.Quit.TheVariants as quitting;
 
-use atomic_programs::machines::Stepped;
+use atomic_programs::machines::Came;
 use block_device::Device;
-use call_parts::{Answered, Held, OnPath, Onward, Quit, Reach, Reached, ending, stopped};
+use call_parts::{Answered, Held, OnPath, Quit, Reach, Reached, ending, stopped};
 use directory::is_directory;
 use fs_layout::Super;
 use fs_machine::{Core, Kind, RetiredCore};
@@ -29,6 +28,7 @@ use group_log::Txn;
 use inode_data::record;
 use path_walk::{Goal, Stop};
 use plain_tree::{Answer, Bytes, Call, Cause};
+use std::mem;
 
 /// A chdir under way.
 pub enum Chdir {
@@ -38,6 +38,10 @@ pub enum Chdir {
     Reaching(OnPath, Txn, Reach),
     /// It is a directory: it becomes the hart's, and its lock is given back.
     Settle(OnPath, Txn, Listed, Held),
+    /// The call ends.
+    Ends(Quit),
+    /// It has ended, or is being changed.
+    Gone,
 }
 
 impl Chdir {
@@ -58,39 +62,118 @@ impl Chdir {
         Chdir::Join(on, list)
     }
 
-    /// One operation.
+    /// One operation of it in its place.
     #[tactic(auto, unfolding(crate::specs::Chdirs::chdir_of, crate::specs::Chdirs::ChdirFits, fs_machine::specs::Premises::Honest))]
-    pub fn step<D: Device>(
-        self,
-        hart: u8,
-        core: &mut Core<D>,
-    ) -> Stepped<Onward<Chdir>, Answered, Kind>
-        requires may { MayNext hart (chdir_of self) (state_of D.contents D.failures core.old) }
-        requires fits { ChdirFits hart (state_of D.contents D.failures core.old) self }
-        ensures moves { Moves (onward_of chdir_of) reply_in hart (onward.Runs self) result (state_of D.contents D.failures core.old) (state_of D.contents D.failures core.new) }
-        ensures honest { Answers (onward_of chdir_of) hart (onward.Runs self) result (state_of D.contents D.failures core.old) (state_of D.contents D.failures core.new) }
-        ensures still { Still (onward_of chdir_of) result (onward.Runs self) core.old core.new }
-        ensures fits { LeftOf (OnwardFits ChdirFits hart (state_of D.contents D.failures core.new)) IsSpent result }
-        ensures others { LeavesTied hart (state_of D.contents D.failures core.old) (state_of D.contents D.failures core.new) }
-        ensures called { CallsOnce D.Called core.old.log.cache.device core.new.log.cache.device }
+    pub fn step<D: Device>(&mut self, hart: u8, core: &mut Core<D>) -> Came<Answered, Kind>
+        requires may { MayNext hart (chdir_of self.old) (state_of D.contents D.failures core.old) }
+        requires fits { ChdirFits hart (state_of D.contents D.failures core.old) self.old }
+        ensures steps { StepsAt D.contents D.failures D.Called chdir_of reply_in ChdirFits IsSpent chdir.Gone hart self.old self.new result core.old core.new }
     {
         match self {
-            Chdir::Join(on, list) => match core.join(hart) {
-                None => Stepped::Waits(Onward::Runs(Chdir::Join(on, list))),
+            Chdir::Join(_, _) => match core.join(hart) {
+                None => Came::Waits,
                 Some(txn) => {
-                    let reach = Reach::new(on.sizes.inodestart, Goal::Node, list);
-                    Stepped::Ran(Onward::Runs(Chdir::Reaching(on, txn, reach)), Kind::Join)
+                    self.joined(txn);
+                    Came::Ran(Kind::Join)
                 }
             },
-            Chdir::Reaching(on, txn, reach) => {
-                let stepped = reach.step(hart, on.path.as_slice(), core);
-                reaching(on, txn, stepped)
+            Chdir::Reaching(on, _, reach) => match reach.step(hart, on.path.as_slice(), core) {
+                Came::Waits => Came::Waits,
+                Came::Ran(kind) => Came::Ran(kind),
+                Came::Done(reached, kind) => {
+                    self.reached(reached);
+                    Came::Ran(kind)
+                }
+                Came::Stopped => Came::Stopped,
+            },
+            Chdir::Settle(_, _, _, _) => {
+                self.settle(hart, core);
+                Came::Ran(Kind::Unlock)
             }
+            Chdir::Ends(quit) => match quit.step(hart, core) {
+                Came::Waits => Came::Waits,
+                Came::Ran(kind) => Came::Ran(kind),
+                Came::Done(answered, kind) => {
+                    self.end();
+                    Came::Done(answered, kind)
+                }
+                Came::Stopped => Came::Stopped,
+            },
+            Chdir::Gone => unreachable!(),
+        }
+    }
+
+    // A transaction is joined.
+    #[tactic(auto, unfolding(crate::specs::Chdirs::chdir_of, crate::specs::Chdirs::ChdirFits))]
+    fn joined(&mut self, txn: Txn)
+        requires { Joins self.old }
+        ensures { JoinedTo txn self.old self.new }
+    {
+        match mem::replace(self, Chdir::Gone) {
+            Chdir::Join(on, list) => {
+                let reach = Reach::new(on.sizes.inodestart, Goal::Node, list);
+                self.put(Chdir::Reaching(on, txn, reach));
+            }
+            _ => unreachable!(),
+        }
+    }
+
+    // The path's end was reached.
+    #[tactic(auto, unfolding(crate::specs::Chdirs::chdir_of, crate::specs::Chdirs::ChdirFits))]
+    fn reached(&mut self, reached: Reached)
+        requires { Reaches reached self.old }
+        ensures { ReachedTo reached self.old self.new }
+    {
+        match mem::replace(self, Chdir::Gone) {
+            Chdir::Reaching(on, txn, reach) => {
+                match reach {
+                    Reach::Gone => {}
+                    _ => unreachable!(),
+                }
+                self.put(found(on, txn, reached));
+            }
+            _ => unreachable!(),
+        }
+    }
+
+    // The directory becomes the hart's.
+    #[tactic(auto, unfolding(crate::specs::Chdirs::chdir_of, crate::specs::Chdirs::ChdirFits, fs_machine::specs::Premises::Honest))]
+    fn settle<D: Device>(&mut self, hart: u8, core: &mut Core<D>)
+        requires settles { Settles self.old }
+        requires may { MayNext hart (chdir_of self.old) (state_of D.contents D.failures core.old) }
+        requires fits { ChdirFits hart (state_of D.contents D.failures core.old) self.old }
+        ensures steps { StepsAt D.contents D.failures D.Called chdir_of reply_in ChdirFits IsSpent chdir.Gone hart self.old self.new (came.Ran kinds.Unlock) core.old core.new }
+    {
+        match mem::replace(self, Chdir::Gone) {
             Chdir::Settle(on, txn, list, held) => {
                 let Held { reference, inode } = held;
                 let old = core.settle(hart, inode, reference);
-                Stepped::Ran(settled(on, txn, list, old), Kind::Unlock)
+                self.put(settled(on, txn, list, old));
             }
+            _ => unreachable!(),
+        }
+    }
+
+    fn end(&mut self)
+        requires { self.old ≡ chdir.Ends quitting.Gone }
+        ensures { self.new ≡ chdir.Gone }
+    {
+        match mem::replace(self, Chdir::Gone) {
+            Chdir::Ends(quit) => match quit {
+                Quit::Gone => {}
+                _ => unreachable!(),
+            },
+            _ => unreachable!(),
+        }
+    }
+
+    fn put(&mut self, next: Chdir)
+        requires { self.old ≡ chdir.Gone }
+        ensures { self.new ≡ next }
+    {
+        match mem::replace(self, next) {
+            Chdir::Gone => {}
+            _ => unreachable!(),
         }
     }
 
@@ -107,73 +190,63 @@ impl Chdir {
                 list.retire(&retired.inodes);
                 held.retire(retired);
             }
+            Chdir::Ends(quit) => quit.retire(retired),
+            Chdir::Gone => {}
         }
+    }
+}
+
+// At the path's end.
+#[tactic(auto, unfolding(crate::specs::Chdirs::chdir_of, crate::specs::Chdirs::ChdirFits))]
+fn found(on: OnPath, txn: Txn, reached: Reached) -> Chdir
+    requires on { IsOnPath on }
+    requires there { IsThere on.path reached }
+    ensures program { chdir_of result ≡ chdir_found on.sizes on.path (reached_as on.path reached) }
+    ensures fits { (hart : ℕ) (s : State) → txn ≡ hart → IsReached on.path hart s reached → ChdirFits hart s result }
+{
+    match reached {
+        Reached::At(held, _, list) => at(on, txn, list, held),
+        Reached::Lost(why, list) => lost(on, txn, list, why),
     }
 }
 
 // The path leads nowhere.
 #[tactic(auto, unfolding(crate::specs::Chdirs::chdir_of, crate::specs::Chdirs::ChdirFits))]
-fn lost(on: OnPath, txn: Txn, list: Listed, why: Stop) -> Onward<Chdir>
+fn lost(on: OnPath, txn: Txn, list: Listed, why: Stop) -> Chdir
     requires { IsEarly on.sizes.inodestart }
-    ensures program { onward_of chdir_of result ≡ chdir_found on.sizes on.path (Misses why list) }
-    ensures fits { (hart : ℕ) (s : State) → txn ≡ hart → OnwardFits ChdirFits hart s result }
+    ensures program { chdir_of result ≡ chdir_found on.sizes on.path (Misses why list) }
+    ensures fits { (hart : ℕ) (s : State) → txn ≡ hart → ChdirFits hart s result }
 {
     let OnPath { sizes, path } = on;
     let ending = ending(&sizes, list, Call::Chdir { path }, stopped(why));
-    Onward::Ends(Quit::with_nothing(ending, txn))
+    Chdir::Ends(Quit::with_nothing(ending, txn))
 }
 
 // At what the path leads to.
 #[tactic(auto, unfolding(crate::specs::Chdirs::chdir_of, crate::specs::Chdirs::ChdirFits))]
-fn at(on: OnPath, txn: Txn, list: Listed, held: Held) -> Onward<Chdir>
+fn at(on: OnPath, txn: Txn, list: Listed, held: Held) -> Chdir
     requires on { IsOnPath on }
     requires there { IsSome held.inode.value.content }
-    ensures program { onward_of chdir_of result ≡ chdir_at on.sizes on.path (inode_in held) list }
-    ensures fits { (hart : ℕ) (s : State) → txn ≡ hart → IsHeld hart held s → OnwardFits ChdirFits hart s result }
+    ensures program { chdir_of result ≡ chdir_at on.sizes on.path (inode_in held) list }
+    ensures fits { (hart : ℕ) (s : State) → txn ≡ hart → IsHeld hart held s → ChdirFits hart s result }
 {
     if is_directory(&record(&held.inode)) {
-        return Onward::Runs(Chdir::Settle(on, txn, list, held));
+        return Chdir::Settle(on, txn, list, held);
     }
     let OnPath { sizes, path } = on;
     let answer = Answer::Failed(Cause::NotDirectory);
     let ending = ending(&sizes, list, Call::Chdir { path }, answer);
-    Onward::Ends(Quit::with_inode(ending, txn, held))
+    Chdir::Ends(Quit::with_inode(ending, txn, held))
 }
 
 // The new directory is the hart's: the reference to the old one is to be dropped.
 #[tactic(auto, unfolding(crate::specs::Chdirs::chdir_of, crate::specs::Chdirs::ChdirFits))]
-fn settled(on: OnPath, txn: Txn, list: Listed, old: Reference) -> Onward<Chdir>
+fn settled(on: OnPath, txn: Txn, list: Listed, old: Reference) -> Chdir
     requires { IsEarly on.sizes.inodestart }
-    ensures program { onward_of chdir_of result ≡ drop_quit on.sizes old list (chdir_reply on.path answers.Done) }
-    ensures fits { (hart : ℕ) (s : State) → txn ≡ hart → OnwardFits ChdirFits hart s result }
+    ensures program { chdir_of result ≡ drop_quit on.sizes old list (chdir_reply on.path answers.Done) }
+    ensures fits { (hart : ℕ) (s : State) → txn ≡ hart → ChdirFits hart s result }
 {
     let OnPath { sizes, path } = on;
     let ending = ending(&sizes, list, Call::Chdir { path }, Answer::Done);
-    Onward::Ends(Quit::with_reference(ending, txn, old))
-}
-
-// A step while what the path leads to is taken.
-#[tactic(auto, unfolding(crate::specs::Chdirs::chdir_of, crate::specs::Chdirs::ChdirFits))]
-fn reaching(
-    on: OnPath,
-    txn: Txn,
-    stepped: Stepped<Reach, Reached, Kind>,
-) -> Stepped<Onward<Chdir>, Answered, Kind>
-    requires on { IsOnPath on }
-    requires there { LeftOf (λ _. Unit {0}) (IsThere on.path) stepped }
-    ensures follows { Follows (reach_of on.path) (reached_as on.path) (onward_of chdir_of) reply_in (chdir_found on.sizes on.path) stepped result }
-    ensures fits { (hart : ℕ) (s : State) → txn ≡ hart → LeftOf (ReachFits on.path hart s) (IsReached on.path hart s) stepped → LeftOf (OnwardFits ChdirFits hart s) IsSpent result }
-{
-    match stepped {
-        Stepped::Waits(reach) => Stepped::Waits(Onward::Runs(Chdir::Reaching(on, txn, reach))),
-        Stepped::Ran(reach, kind) => Stepped::Ran(
-            Onward::Runs(Chdir::Reaching(on, txn, reach)),
-            kind,
-        ),
-        Stepped::Done(reached, kind) => match reached {
-            Reached::At(held, _, list) => Stepped::Ran(at(on, txn, list, held), kind),
-            Reached::Lost(why, list) => Stepped::Ran(lost(on, txn, list, why), kind),
-        },
-        Stepped::Stopped(reach) => Stepped::Stopped(Onward::Runs(Chdir::Reaching(on, txn, reach))),
-    }
+    Chdir::Ends(Quit::with_reference(ending, txn, old))
 }

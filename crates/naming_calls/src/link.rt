@@ -1,33 +1,29 @@
 //! link: another name for a file.
 ghost use Rattle.std.specs.Prelude.{◌≡◌, ◌≢◌, ◌≤◌, ◌<◌, ◌+◌, ◌∷◌, [], ℕ, All, IfNone, IsSome, length};
-ghost use Rattle.atomic_programs.specs.Machines.{Still, Left as LeftOf};
+ghost use Rattle.atomic_programs.specs.declared.machines.Came.TheVariants as came;
 ghost use Rattle.fs_machine.specs.Steps.{State, state_of};
-ghost use Rattle.fs_machine.specs.Machines.{MayNext, Moves, Answers, CallsOnce};
-ghost use Rattle.fs_machine.specs.Tied.{LeavesTied};
-ghost use Rattle.inode_table.specs.Machines.{store_of, StoreFits};
+ghost use Rattle.fs_machine.specs.Machines.{MayNext};
+ghost use Rattle.fs_machine.specs.Places.{StepsAt};
+ghost use Rattle.fs_machine.specs.declared.kind.Kind.TheVariants as kinds;
 ghost use Rattle.inode_table.specs.Programs.{record_of};
-ghost use Rattle.inode_data.specs.Machines.{ends_within};
 ghost use Rattle.path_walk.specs.Elements.{longest_path, most_elements};
 ghost use Rattle.plain_tree.specs.Widths.{count_limit};
-ghost use Rattle.call_parts.specs.Nesting.{Follows};
 ghost use Rattle.call_parts.specs.Spent.{reply_in, IsSpent};
-ghost use Rattle.call_parts.specs.Onwards.{onward_in, onward_of, OnwardFits};
 ghost use Rattle.call_parts.specs.Parts.{Misses, quit};
-ghost use Rattle.call_parts.specs.Taking.{inode_in, kept_by, most_reached, reach_of, reached_as, IsHeld, IsReached, IsThere, ReachFits};
+ghost use Rattle.call_parts.specs.Taking.{inode_in, kept_by, reached_as, IsHeld, IsReached, IsThere};
 ghost use Rattle.call_parts.specs.OnPaths.{IsSized};
 ghost use Rattle.naming_calls.specs.Unlinking.{links_of};
-ghost use Rattle.naming_calls.specs.Links.{link_at, link_found, link_joined, link_of, link_program, link_raised, link_refused, link_reply, raise_file, HasRoom, IsLinking, LinkFits};
+ghost use Rattle.naming_calls.specs.Links.{link_at, link_found, link_joined, link_of, link_program, link_refused, link_reply, raise_file, HasRoom, IsLinking, LinkFits};
 ghost use Rattle.plain_tree.specs.declared.answer.Answer.TheVariants as answers;
 ghost use Rattle.naming_calls.specs.declared.link.Link.TheVariants as linking;
-ghost use Rattle.call_parts.specs.declared.onward.Onward.TheVariants as onward;
+ghost use Rattle.naming_calls.specs.LinkTurns.{HasEnded, IsRaising, JoinedTo, Joins, RaisedTo, Raises, ReachedTo, Reaches, Unlocks};
 
 use crate::add_name::{AddName, Linking};
-use crate::lower::links;
-use atomic_programs::machines::Stepped;
+use crate::lower::{links, retire_store};
+use atomic_programs::machines::{Came, Stepped, put};
 use block_device::Device;
 use call_parts::{
-    Answered, Held, MOST_LINKS, Onward, Quit, Reach, Reached, count_of, ending, stopped, store,
-    with_links,
+    Answered, Held, MOST_LINKS, Quit, Reach, Reached, count_of, ending, stopped, store, with_links,
 };
 use directory::is_directory;
 use fs_layout::{Dinode, Super};
@@ -38,6 +34,7 @@ use inode_data::record;
 use inode_table::StoreInode;
 use path_walk::{Goal, Stop};
 use plain_tree::{Answer, Bytes, Call, Cause};
+use std::mem;
 
 /// A link under way. The file has its new count of links before it has its new name.
 pub enum Link {
@@ -46,11 +43,15 @@ pub enum Link {
     /// What the old path leads to is taken.
     Reaching(Linking, Txn, Reach),
     /// The file is stored with one link more.
-    Raising(Linking, Txn, Listed, Held, StoreInode),
+    Raising(Linking, Txn, Listed, Held, Option<StoreInode>),
     /// Its lock is given back.
     Unlock(Linking, Txn, Listed, Held),
     /// The new name is entered.
     Naming(AddName),
+    /// The call ends.
+    Ends(Quit),
+    /// It has ended, or is being changed.
+    Gone,
 }
 
 impl Link {
@@ -74,43 +75,184 @@ impl Link {
         Link::Join(linking, list)
     }
 
-    /// One operation.
+    /// One operation of it in its place.
     #[tactic(auto, unfolding(crate::specs::Links::link_of, crate::specs::Links::LinkFits, fs_machine::specs::Premises::Honest))]
-    pub fn step<D: Device>(
-        self,
-        hart: u8,
-        core: &mut Core<D>,
-    ) -> Stepped<Onward<Link>, Answered, Kind>
-        requires may { MayNext hart (link_of self) (state_of D.contents D.failures core.old) }
-        requires fits { LinkFits hart (state_of D.contents D.failures core.old) self }
-        ensures moves { Moves (onward_of link_of) reply_in hart (onward.Runs self) result (state_of D.contents D.failures core.old) (state_of D.contents D.failures core.new) }
-        ensures honest { Answers (onward_of link_of) hart (onward.Runs self) result (state_of D.contents D.failures core.old) (state_of D.contents D.failures core.new) }
-        ensures still { Still (onward_of link_of) result (onward.Runs self) core.old core.new }
-        ensures fits { LeftOf (OnwardFits LinkFits hart (state_of D.contents D.failures core.new)) IsSpent result }
-        ensures others { LeavesTied hart (state_of D.contents D.failures core.old) (state_of D.contents D.failures core.new) }
-        ensures called { CallsOnce D.Called core.old.log.cache.device core.new.log.cache.device }
+    pub fn step<D: Device>(&mut self, hart: u8, core: &mut Core<D>) -> Came<Answered, Kind>
+        requires may { MayNext hart (link_of self.old) (state_of D.contents D.failures core.old) }
+        requires fits { LinkFits hart (state_of D.contents D.failures core.old) self.old }
+        ensures steps { StepsAt D.contents D.failures D.Called link_of reply_in LinkFits IsSpent linking.Gone hart self.old self.new result core.old core.new }
     {
         match self {
-            Link::Join(l, list) => match core.join(hart) {
-                None => Stepped::Waits(Onward::Runs(Link::Join(l, list))),
-                Some(txn) => Stepped::Ran(Onward::Runs(joined(l, txn, list)), Kind::Join),
+            Link::Join(_, _) => match core.join(hart) {
+                None => Came::Waits,
+                Some(txn) => {
+                    self.joined(txn);
+                    Came::Ran(Kind::Join)
+                }
             },
-            Link::Reaching(l, txn, reach) => {
-                let stepped = reach.step(hart, l.old.as_slice(), core);
-                reaching(l, txn, stepped)
+            Link::Reaching(l, _, reach) => match reach.step(hart, l.old.as_slice(), core) {
+                Came::Waits => Came::Waits,
+                Came::Ran(kind) => Came::Ran(kind),
+                Came::Done(reached, kind) => {
+                    self.reached(reached);
+                    Came::Ran(kind)
+                }
+                Came::Stopped => Came::Stopped,
+            },
+            Link::Raising(_, _, _, _, _) => self.raise(hart, core),
+            Link::Unlock(_, _, _, _) => {
+                self.unlock(hart, core);
+                Came::Ran(Kind::Unlock)
             }
-            Link::Raising(l, txn, list, file, store) => {
-                let mut txn = txn;
-                let stepped = store.step(hart, &mut txn, core);
-                raising(l, txn, list, file, stepped)
-            }
+            Link::Naming(add) => match add.step(hart, core) {
+                Came::Waits => Came::Waits,
+                Came::Ran(kind) => Came::Ran(kind),
+                Came::Done(answered, kind) => {
+                    self.end();
+                    Came::Done(answered, kind)
+                }
+                Came::Stopped => Came::Stopped,
+            },
+            Link::Ends(quit) => match quit.step(hart, core) {
+                Came::Waits => Came::Waits,
+                Came::Ran(kind) => Came::Ran(kind),
+                Came::Done(answered, kind) => {
+                    self.end();
+                    Came::Done(answered, kind)
+                }
+                Came::Stopped => Came::Stopped,
+            },
+            Link::Gone => unreachable!(),
+        }
+    }
+
+    // A step while the file is stored.
+    #[tactic(auto, unfolding(crate::specs::Links::link_of, crate::specs::Links::LinkFits))]
+    fn raise<D: Device>(&mut self, hart: u8, core: &mut Core<D>) -> Came<Answered, Kind>
+        requires at { IsRaising self.old }
+        requires may { MayNext hart (link_of self.old) (state_of D.contents D.failures core.old) }
+        requires fits { LinkFits hart (state_of D.contents D.failures core.old) self.old }
+        ensures steps { StepsAt D.contents D.failures D.Called link_of reply_in LinkFits IsSpent linking.Gone hart self.old self.new result core.old core.new }
+    {
+        match self {
+            Link::Raising(_, txn, _, _, place) => match mem::replace(place, None) {
+                Some(store) => match store.step(hart, txn, core) {
+                    Stepped::Waits(store) => {
+                        put(place, store);
+                        Came::Waits
+                    }
+                    Stepped::Ran(store, kind) => {
+                        put(place, store);
+                        Came::Ran(kind)
+                    }
+                    Stepped::Done((), kind) => {
+                        self.raised();
+                        Came::Ran(kind)
+                    }
+                    Stepped::Stopped(store) => {
+                        put(place, store);
+                        Came::Stopped
+                    }
+                },
+                None => unreachable!(),
+            },
+            _ => unreachable!(),
+        }
+    }
+
+    // Its lock is given back.
+    #[tactic(auto, unfolding(crate::specs::Links::link_of, crate::specs::Links::LinkFits, fs_machine::specs::Premises::Honest))]
+    fn unlock<D: Device>(&mut self, hart: u8, core: &mut Core<D>)
+        requires unlocks { Unlocks self.old }
+        requires may { MayNext hart (link_of self.old) (state_of D.contents D.failures core.old) }
+        requires fits { LinkFits hart (state_of D.contents D.failures core.old) self.old }
+        ensures steps { StepsAt D.contents D.failures D.Called link_of reply_in LinkFits IsSpent linking.Gone hart self.old self.new (came.Ran kinds.Unlock) core.old core.new }
+    {
+        match mem::replace(self, Link::Gone) {
             Link::Unlock(l, txn, list, file) => {
                 let Held { reference, inode } = file;
                 core.unlock(hart, inode);
                 let add = AddName::begin(l, txn, list, reference);
-                Stepped::Ran(Onward::Runs(Link::Naming(add)), Kind::Unlock)
+                self.put(Link::Naming(add));
             }
-            Link::Naming(add) => naming(add.step(hart, core)),
+            _ => unreachable!(),
+        }
+    }
+
+    // A transaction is joined.
+    #[tactic(auto, unfolding(crate::specs::Links::link_of, crate::specs::Links::LinkFits))]
+    fn joined(&mut self, txn: Txn)
+        requires { Joins self.old }
+        ensures { JoinedTo txn self.old self.new }
+    {
+        match mem::replace(self, Link::Gone) {
+            Link::Join(l, list) => {
+                self.put(joined(l, txn, list));
+            }
+            _ => unreachable!(),
+        }
+    }
+
+    // The old path's end was reached.
+    #[tactic(auto, unfolding(crate::specs::Links::link_of, crate::specs::Links::LinkFits))]
+    fn reached(&mut self, reached: Reached)
+        requires { Reaches reached self.old }
+        ensures { ReachedTo reached self.old self.new }
+    {
+        match mem::replace(self, Link::Gone) {
+            Link::Reaching(l, txn, reach) => {
+                match reach {
+                    Reach::Gone => {}
+                    _ => unreachable!(),
+                }
+                self.put(found(l, txn, reached));
+            }
+            _ => unreachable!(),
+        }
+    }
+
+    // The file has been stored.
+    #[tactic(auto, unfolding(crate::specs::Links::link_of, crate::specs::Links::LinkFits))]
+    fn raised(&mut self)
+        requires { Raises self.old }
+        ensures { RaisedTo self.old self.new }
+    {
+        match mem::replace(self, Link::Gone) {
+            Link::Raising(l, txn, list, file, store) => {
+                match store {
+                    None => {}
+                    Some(_) => unreachable!(),
+                }
+                self.put(Link::Unlock(l, txn, list, file));
+            }
+            _ => unreachable!(),
+        }
+    }
+
+    fn end(&mut self)
+        requires { HasEnded self.old }
+        ensures { self.new ≡ linking.Gone }
+    {
+        match mem::replace(self, Link::Gone) {
+            Link::Naming(add) => match add {
+                AddName::Gone => {}
+                _ => unreachable!(),
+            },
+            Link::Ends(quit) => match quit {
+                Quit::Gone => {}
+                _ => unreachable!(),
+            },
+            _ => unreachable!(),
+        }
+    }
+
+    fn put(&mut self, next: Link)
+        requires { self.old ≡ linking.Gone }
+        ensures { self.new ≡ next }
+    {
+        match mem::replace(self, next) {
+            Link::Gone => {}
+            _ => unreachable!(),
         }
     }
 
@@ -126,7 +268,7 @@ impl Link {
                 txn.retire(&retired.log);
                 list.retire(&retired.inodes);
                 file.retire(retired);
-                store.retire(retired);
+                retire_store(store, retired);
             }
             Link::Unlock(_, txn, list, file) => {
                 txn.retire(&retired.log);
@@ -134,6 +276,8 @@ impl Link {
                 file.retire(retired);
             }
             Link::Naming(add) => add.retire(retired),
+            Link::Ends(quit) => quit.retire(retired),
+            Link::Gone => {}
         }
     }
 }
@@ -150,28 +294,43 @@ fn joined(l: Linking, txn: Txn, list: Listed) -> Link
     Link::Reaching(l, txn, reach)
 }
 
+// At the old path's end.
+#[tactic(auto, unfolding(crate::specs::Links::link_of, crate::specs::Links::LinkFits))]
+fn found(l: Linking, txn: Txn, reached: Reached) -> Link
+    requires l { IsLinking l }
+    requires there { IsThere l.old reached }
+    requires few { length (kept_by reached) ≤ most_elements }
+    ensures program { link_of result ≡ link_found l.sizes l.old l.new (reached_as l.old reached) }
+    ensures fits { (hart : ℕ) (s : State) → txn ≡ hart → IsReached l.old hart s reached → LinkFits hart s result }
+{
+    match reached {
+        Reached::At(held, _, list) => at(l, txn, list, held),
+        Reached::Lost(why, list) => lost(l, txn, list, why),
+    }
+}
+
 // The old path leads nowhere.
 #[tactic(auto, unfolding(crate::specs::Links::link_of, crate::specs::Links::LinkFits))]
-fn lost(l: Linking, txn: Txn, list: Listed, why: Stop) -> Onward<Link>
+fn lost(l: Linking, txn: Txn, list: Listed, why: Stop) -> Link
     requires { IsLinking l }
-    ensures program { onward_of link_of result ≡ link_found l.sizes l.old l.new (Misses why list) }
-    ensures fits { (hart : ℕ) (s : State) → txn ≡ hart → OnwardFits LinkFits hart s result }
+    ensures program { link_of result ≡ link_found l.sizes l.old l.new (Misses why list) }
+    ensures fits { (hart : ℕ) (s : State) → txn ≡ hart → LinkFits hart s result }
 {
     let Linking { sizes, old, new } = l;
     let ending = ending(&sizes, list, Call::Link { old, new }, stopped(why));
-    Onward::Ends(Quit::with_nothing(ending, txn))
+    Link::Ends(Quit::with_nothing(ending, txn))
 }
 
 // The link is refused, and what the old path leads to given up.
 #[tactic(auto, unfolding(crate::specs::Links::link_of, crate::specs::Links::LinkFits))]
-fn refuse(l: Linking, txn: Txn, list: Listed, held: Held, why: Cause) -> Onward<Link>
+fn refuse(l: Linking, txn: Txn, list: Listed, held: Held, why: Cause) -> Link
     requires { IsLinking l }
-    ensures program { onward_of link_of result ≡ quit l.sizes (inode_in held ∷ []) list (link_reply l.old l.new (answers.Failed why)) }
-    ensures fits { (hart : ℕ) (s : State) → txn ≡ hart → IsHeld hart held s → OnwardFits LinkFits hart s result }
+    ensures program { link_of result ≡ quit l.sizes (inode_in held ∷ []) list (link_reply l.old l.new (answers.Failed why)) }
+    ensures fits { (hart : ℕ) (s : State) → txn ≡ hart → IsHeld hart held s → LinkFits hart s result }
 {
     let Linking { sizes, old, new } = l;
     let ending = ending(&sizes, list, Call::Link { old, new }, Answer::Failed(why));
-    Onward::Ends(Quit::with_inode(ending, txn, held))
+    Link::Ends(Quit::with_inode(ending, txn, held))
 }
 
 // Why a link isn't made.
@@ -198,15 +357,15 @@ fn raised(file: &Dinode) -> u16
 
 // At what the old path leads to.
 #[tactic(auto, unfolding(crate::specs::Links::link_of, crate::specs::Links::LinkFits))]
-fn at(l: Linking, txn: Txn, list: Listed, held: Held) -> Onward<Link>
+fn at(l: Linking, txn: Txn, list: Listed, held: Held) -> Link
     requires l { IsLinking l }
     requires there { IsSome held.inode.value.content }
-    ensures program { onward_of link_of result ≡ link_at l.sizes l.old l.new (inode_in held) list }
-    ensures fits { (hart : ℕ) (s : State) → txn ≡ hart → HasRoom l.new list → IsHeld hart held s → OnwardFits LinkFits hart s result }
+    ensures program { link_of result ≡ link_at l.sizes l.old l.new (inode_in held) list }
+    ensures fits { (hart : ℕ) (s : State) → txn ≡ hart → HasRoom l.new list → IsHeld hart held s → LinkFits hart s result }
 {
     match refused(&record(&held.inode)) {
         Some(why) => refuse(l, txn, list, held, why),
-        None => Onward::Runs(raise(l, txn, list, held)),
+        None => raise(l, txn, list, held),
     }
 }
 
@@ -222,88 +381,5 @@ fn raise(l: Linking, txn: Txn, list: Listed, file: Held) -> Link
     let links = raised(&record(&file.inode));
     let file = with_links(file, links);
     let store = store(&l.sizes, &file);
-    Link::Raising(l, txn, list, file, store)
-}
-
-// A step while what the old path leads to is taken.
-#[tactic(auto, unfolding(crate::specs::Links::link_of, crate::specs::Links::LinkFits))]
-fn reaching(
-    l: Linking,
-    txn: Txn,
-    stepped: Stepped<Reach, Reached, Kind>,
-) -> Stepped<Onward<Link>, Answered, Kind>
-    requires l { IsLinking l }
-    requires there { LeftOf (λ _. Unit {0}) (IsThere l.old) stepped }
-    ensures follows { Follows (reach_of l.old) (reached_as l.old) (onward_of link_of) reply_in (link_found l.sizes l.old l.new) stepped result }
-    ensures fits { (hart : ℕ) (s : State) → txn ≡ hart
-        → LeftOf (λ m. (most_reached l.old m ≤ most_elements) × ReachFits l.old hart s m) (λ r. (length (kept_by r) ≤ most_elements) × IsReached l.old hart s r) stepped
-        → LeftOf (OnwardFits LinkFits hart s) IsSpent result }
-{
-    match stepped {
-        Stepped::Waits(reach) => Stepped::Waits(Onward::Runs(Link::Reaching(l, txn, reach))),
-        Stepped::Ran(reach, kind) => Stepped::Ran(
-            Onward::Runs(Link::Reaching(l, txn, reach)),
-            kind,
-        ),
-        Stepped::Done(reached, kind) => match reached {
-            Reached::At(held, _, list) => Stepped::Ran(at(l, txn, list, held), kind),
-            Reached::Lost(why, list) => Stepped::Ran(lost(l, txn, list, why), kind),
-        },
-        Stepped::Stopped(reach) => Stepped::Stopped(Onward::Runs(Link::Reaching(l, txn, reach))),
-    }
-}
-
-// A step while the file is stored.
-#[tactic(auto, unfolding(crate::specs::Links::link_of, crate::specs::Links::LinkFits))]
-fn raising(
-    l: Linking,
-    txn: Txn,
-    list: Listed,
-    file: Held,
-    stepped: Stepped<StoreInode, (), Kind>,
-) -> Stepped<Onward<Link>, Answered, Kind>
-    requires { IsLinking l }
-    ensures follows { Follows store_of (λ x. x) (onward_of link_of) reply_in (λ _. link_raised l.sizes l.old l.new (inode_in file) list) stepped result }
-    ensures fits { (hart : ℕ) (s : State) → txn ≡ hart → HasRoom l.new list → IsHeld hart file s → LeftOf (StoreFits hart s) (λ _. Unit {0}) stepped → LeftOf (OnwardFits LinkFits hart s) IsSpent result }
-{
-    match stepped {
-        Stepped::Waits(store) => Stepped::Waits(Onward::Runs(Link::Raising(
-            l, txn, list, file, store,
-        ))),
-        Stepped::Ran(store, kind) => Stepped::Ran(
-            Onward::Runs(Link::Raising(l, txn, list, file, store)),
-            kind,
-        ),
-        Stepped::Done((), kind) => Stepped::Ran(
-            Onward::Runs(Link::Unlock(l, txn, list, file)),
-            kind,
-        ),
-        Stepped::Stopped(store) => Stepped::Stopped(Onward::Runs(Link::Raising(
-            l, txn, list, file, store,
-        ))),
-    }
-}
-
-// What is left of it while the new name is entered.
-fn in_naming(left: Onward<AddName>) -> Onward<Link>
-    ensures { result ≡ onward_in (λ m. linking.Naming m) left }
-{
-    match left {
-        Onward::Runs(add) => Onward::Runs(Link::Naming(add)),
-        Onward::Ends(quit) => Onward::Ends(quit),
-    }
-}
-
-// A step while the new name is entered.
-fn naming(
-    stepped: Stepped<Onward<AddName>, Answered, Kind>,
-) -> Stepped<Onward<Link>, Answered, Kind>
-    ensures { result ≡ ends_within (onward_in (λ m. linking.Naming m)) (λ answered. answered) stepped }
-{
-    match stepped {
-        Stepped::Waits(left) => Stepped::Waits(in_naming(left)),
-        Stepped::Ran(left, kind) => Stepped::Ran(in_naming(left), kind),
-        Stepped::Done(reply, kind) => Stepped::Done(reply, kind),
-        Stepped::Stopped(left) => Stepped::Stopped(in_naming(left)),
-    }
+    Link::Raising(l, txn, list, file, Some(store))
 }

@@ -1,40 +1,42 @@
 //! What is left of an unlink whose name is gone: the counts of links go down.
-ghost use Rattle.std.specs.Prelude.{◌≡◌, ◌∷◌, [], ℕ, IsSome, pos};
+ghost use Rattle.std.specs.Prelude.{◌≡◌, ℕ, IsSome, pos};
 ghost use Rattle.fs_layout.specs.declared.inode.Dinode.{Dinode as DinodeState};
-ghost use Rattle.atomic_programs.specs.Machines.{Still, Left as LeftOf};
 ghost use Rattle.fs_machine.specs.Steps.{State, state_of};
-ghost use Rattle.fs_machine.specs.Machines.{MayNext, Moves, Answers, CallsOnce};
-ghost use Rattle.fs_machine.specs.Tied.{LeavesTied};
+ghost use Rattle.fs_machine.specs.Machines.{MayNext};
+ghost use Rattle.fs_machine.specs.Places.{StepsAt};
 ghost use Rattle.inode_table.specs.Machines.{store_of, StoreFits};
 ghost use Rattle.file_table.specs.Machines.{IsEarly};
-ghost use Rattle.call_parts.specs.Nesting.{Follows};
 ghost use Rattle.call_parts.specs.Spent.{reply_in, IsSpent};
-ghost use Rattle.call_parts.specs.Onwards.{onward_of, OnwardFits};
-ghost use Rattle.call_parts.specs.Parts.{quit};
 ghost use Rattle.call_parts.specs.Taking.{inode_in, IsHeld};
-ghost use Rattle.call_parts.specs.Ends.{give_of, GiveApart, GiveFits};
-ghost use Rattle.naming_calls.specs.Unlinking.{leave_parent, links_of, lower_child, lower_of, lower_parent, lowered, store_held, with_link_less, AreHeld, LowerFits};
-ghost use Rattle.call_parts.specs.declared.onward.Onward.TheVariants as onward;
+ghost use Rattle.naming_calls.specs.Unlinking.{links_of, lower_child, lower_of, lower_parent, lowered, store_held, with_link_less, AreHeld, LowerFits};
+ghost use Rattle.naming_calls.specs.LowerTurns.{IsStoringChild, IsStoringParent, Leaves, LeftTo, StoredChildTo, StoredParentTo, StoresChild, StoresParent};
+ghost use Rattle.call_parts.specs.declared.quit.Quit.TheVariants as quitting;
+ghost use Rattle.naming_calls.specs.declared.lower.Lower.TheVariants as lowering;
 
-use atomic_programs::machines::Stepped;
+use atomic_programs::machines::{Came, Stepped, put};
 use block_device::Device;
-use call_parts::{Answered, Ending, GiveUp, Held, Onward, Quit};
+use call_parts::{Answered, Ending, GiveUp, Held, Quit};
 use directory::is_directory;
 use fs_layout::Dinode;
 use fs_machine::{Core, Kind, RetiredCore};
 use group_log::Txn;
 use inode_data::{record, with_record};
 use inode_table::StoreInode;
+use std::mem;
 
 /// Of a name that was cleared: its directory has a link less where what it named is one too, and is given up; then what it named has a
 /// link less, and is given up.
 pub enum Lower {
     /// The directory is stored, with a link less.
-    Parent(Ending, Txn, Held, Held, StoreInode),
+    Parent(Ending, Txn, Held, Held, Option<StoreInode>),
     /// It is given up.
     Leaving(Ending, Txn, Held, GiveUp),
     /// What the name was for is stored, with a link less.
-    Child(Ending, Txn, Held, StoreInode),
+    Child(Ending, Txn, Held, Option<StoreInode>),
+    /// The call ends.
+    Ends(Quit),
+    /// It has ended, or is being changed.
+    Gone,
 }
 
 impl Lower {
@@ -50,44 +52,187 @@ impl Lower {
         if is_directory(&record(&child.inode)) {
             let parent = lower_links(parent);
             let store = store(&ending, &parent);
-            return Lower::Parent(ending, txn, parent, child, store);
+            return Lower::Parent(ending, txn, parent, child, Some(store));
         }
         let give = GiveUp::new(parent, &ending.sizes);
         Lower::Leaving(ending, txn, child, give)
     }
 
-    /// One operation.
+    /// One operation of it in its place.
     #[tactic(auto, unfolding(crate::specs::Unlinking::lower_of, crate::specs::Unlinking::LowerFits))]
-    pub fn step<D: Device>(
-        self,
-        hart: u8,
-        core: &mut Core<D>,
-    ) -> Stepped<Onward<Lower>, Answered, Kind>
-        requires may { MayNext hart (lower_of self) (state_of D.contents D.failures core.old) }
-        requires fits { LowerFits hart (state_of D.contents D.failures core.old) self }
-        ensures moves { Moves (onward_of lower_of) reply_in hart (onward.Runs self) result (state_of D.contents D.failures core.old) (state_of D.contents D.failures core.new) }
-        ensures honest { Answers (onward_of lower_of) hart (onward.Runs self) result (state_of D.contents D.failures core.old) (state_of D.contents D.failures core.new) }
-        ensures still { Still (onward_of lower_of) result (onward.Runs self) core.old core.new }
-        ensures fits { LeftOf (OnwardFits LowerFits hart (state_of D.contents D.failures core.new)) IsSpent result }
-        ensures others { LeavesTied hart (state_of D.contents D.failures core.old) (state_of D.contents D.failures core.new) }
-        ensures called { CallsOnce D.Called core.old.log.cache.device core.new.log.cache.device }
+    pub fn step<D: Device>(&mut self, hart: u8, core: &mut Core<D>) -> Came<Answered, Kind>
+        requires may { MayNext hart (lower_of self.old) (state_of D.contents D.failures core.old) }
+        requires fits { LowerFits hart (state_of D.contents D.failures core.old) self.old }
+        ensures steps { StepsAt D.contents D.failures D.Called lower_of reply_in LowerFits IsSpent lowering.Gone hart self.old self.new result core.old core.new }
     {
         match self {
+            Lower::Parent(_, _, _, _, _) => self.store_parent(hart, core),
+            Lower::Leaving(_, txn, _, give) => match give.step(hart, txn, core) {
+                Came::Waits => Came::Waits,
+                Came::Ran(kind) => Came::Ran(kind),
+                Came::Done((), kind) => {
+                    self.left();
+                    Came::Ran(kind)
+                }
+                Came::Stopped => Came::Stopped,
+            },
+            Lower::Child(_, _, _, _) => self.store_child(hart, core),
+            Lower::Ends(quit) => match quit.step(hart, core) {
+                Came::Waits => Came::Waits,
+                Came::Ran(kind) => Came::Ran(kind),
+                Came::Done(answered, kind) => {
+                    self.end();
+                    Came::Done(answered, kind)
+                }
+                Came::Stopped => Came::Stopped,
+            },
+            Lower::Gone => unreachable!(),
+        }
+    }
+
+    // A step while the directory is stored.
+    #[tactic(auto, unfolding(crate::specs::Unlinking::lower_of, crate::specs::Unlinking::LowerFits))]
+    fn store_parent<D: Device>(&mut self, hart: u8, core: &mut Core<D>) -> Came<Answered, Kind>
+        requires at { IsStoringParent self.old }
+        requires may { MayNext hart (lower_of self.old) (state_of D.contents D.failures core.old) }
+        requires fits { LowerFits hart (state_of D.contents D.failures core.old) self.old }
+        ensures steps { StepsAt D.contents D.failures D.Called lower_of reply_in LowerFits IsSpent lowering.Gone hart self.old self.new result core.old core.new }
+    {
+        match self {
+            Lower::Parent(_, txn, _, _, place) => match mem::replace(place, None) {
+                Some(store) => match store.step(hart, txn, core) {
+                    Stepped::Waits(store) => {
+                        put(place, store);
+                        Came::Waits
+                    }
+                    Stepped::Ran(store, kind) => {
+                        put(place, store);
+                        Came::Ran(kind)
+                    }
+                    Stepped::Done((), kind) => {
+                        self.stored_parent();
+                        Came::Ran(kind)
+                    }
+                    Stepped::Stopped(store) => {
+                        put(place, store);
+                        Came::Stopped
+                    }
+                },
+                None => unreachable!(),
+            },
+            _ => unreachable!(),
+        }
+    }
+
+    // A step while what was named is stored.
+    #[tactic(auto, unfolding(crate::specs::Unlinking::lower_of, crate::specs::Unlinking::LowerFits))]
+    fn store_child<D: Device>(&mut self, hart: u8, core: &mut Core<D>) -> Came<Answered, Kind>
+        requires at { IsStoringChild self.old }
+        requires may { MayNext hart (lower_of self.old) (state_of D.contents D.failures core.old) }
+        requires fits { LowerFits hart (state_of D.contents D.failures core.old) self.old }
+        ensures steps { StepsAt D.contents D.failures D.Called lower_of reply_in LowerFits IsSpent lowering.Gone hart self.old self.new result core.old core.new }
+    {
+        match self {
+            Lower::Child(_, txn, _, place) => match mem::replace(place, None) {
+                Some(store) => match store.step(hart, txn, core) {
+                    Stepped::Waits(store) => {
+                        put(place, store);
+                        Came::Waits
+                    }
+                    Stepped::Ran(store, kind) => {
+                        put(place, store);
+                        Came::Ran(kind)
+                    }
+                    Stepped::Done((), kind) => {
+                        self.stored_child();
+                        Came::Ran(kind)
+                    }
+                    Stepped::Stopped(store) => {
+                        put(place, store);
+                        Came::Stopped
+                    }
+                },
+                None => unreachable!(),
+            },
+            _ => unreachable!(),
+        }
+    }
+
+    // The directory has been stored.
+    #[tactic(auto, unfolding(crate::specs::Unlinking::lower_of, crate::specs::Unlinking::LowerFits))]
+    fn stored_parent(&mut self)
+        requires { StoresParent self.old }
+        ensures { StoredParentTo self.old self.new }
+    {
+        match mem::replace(self, Lower::Gone) {
             Lower::Parent(ending, txn, parent, child, store) => {
-                let mut txn = txn;
-                let stepped = store.step(hart, &mut txn, core);
-                parent_storing(ending, txn, parent, child, stepped)
+                match store {
+                    None => {}
+                    Some(_) => unreachable!(),
+                }
+                let give = GiveUp::new(parent, &ending.sizes);
+                self.put(Lower::Leaving(ending, txn, child, give));
             }
+            _ => unreachable!(),
+        }
+    }
+
+    // The directory has been given up.
+    #[tactic(auto, unfolding(crate::specs::Unlinking::lower_of, crate::specs::Unlinking::LowerFits))]
+    fn left(&mut self)
+        requires { Leaves self.old }
+        ensures { LeftTo self.old self.new }
+    {
+        match mem::replace(self, Lower::Gone) {
             Lower::Leaving(ending, txn, child, give) => {
-                let mut txn = txn;
-                let stepped = give.step(hart, &mut txn, core);
-                leaving(ending, txn, child, stepped)
+                match give {
+                    GiveUp::Gone => {}
+                    _ => unreachable!(),
+                }
+                self.put(to_child(ending, txn, child));
             }
+            _ => unreachable!(),
+        }
+    }
+
+    // What was named has been stored.
+    #[tactic(auto, unfolding(crate::specs::Unlinking::lower_of, crate::specs::Unlinking::LowerFits))]
+    fn stored_child(&mut self)
+        requires { StoresChild self.old }
+        ensures { StoredChildTo self.old self.new }
+    {
+        match mem::replace(self, Lower::Gone) {
             Lower::Child(ending, txn, child, store) => {
-                let mut txn = txn;
-                let stepped = store.step(hart, &mut txn, core);
-                child_storing(ending, txn, child, stepped)
+                match store {
+                    None => {}
+                    Some(_) => unreachable!(),
+                }
+                self.put(Lower::Ends(Quit::with_inode(ending, txn, child)));
             }
+            _ => unreachable!(),
+        }
+    }
+
+    fn end(&mut self)
+        requires { self.old ≡ lowering.Ends quitting.Gone }
+        ensures { self.new ≡ lowering.Gone }
+    {
+        match mem::replace(self, Lower::Gone) {
+            Lower::Ends(quit) => match quit {
+                Quit::Gone => {}
+                _ => unreachable!(),
+            },
+            _ => unreachable!(),
+        }
+    }
+
+    fn put(&mut self, next: Lower)
+        requires { self.old ≡ lowering.Gone }
+        ensures { self.new ≡ next }
+    {
+        match mem::replace(self, next) {
+            Lower::Gone => {}
+            _ => unreachable!(),
         }
     }
 
@@ -99,7 +244,7 @@ impl Lower {
                 txn.retire(&retired.log);
                 parent.retire(retired);
                 child.retire(retired);
-                store.retire(retired);
+                retire_store(store, retired);
             }
             Lower::Leaving(ending, txn, child, give) => {
                 ending.retire(retired);
@@ -111,9 +256,19 @@ impl Lower {
                 ending.retire(retired);
                 txn.retire(&retired.log);
                 child.retire(retired);
-                store.retire(retired);
+                retire_store(store, retired);
             }
+            Lower::Ends(quit) => quit.retire(retired),
+            Lower::Gone => {}
         }
+    }
+}
+
+// Ends a storing in mid-call, where there is one.
+pub(crate) fn retire_store(store: Option<StoreInode>, retired: &RetiredCore) {
+    match store {
+        Some(store) => store.retire(retired),
+        None => {}
     }
 }
 
@@ -171,89 +326,5 @@ pub(crate) fn to_child(ending: Ending, txn: Txn, child: Held) -> Lower
 {
     let child = lower_links(child);
     let store = store(&ending, &child);
-    Lower::Child(ending, txn, child, store)
-}
-
-// A step while the directory is stored.
-#[tactic(auto, unfolding(crate::specs::Unlinking::lower_of, crate::specs::Unlinking::LowerFits))]
-fn parent_storing(
-    ending: Ending,
-    txn: Txn,
-    parent: Held,
-    child: Held,
-    stepped: Stepped<StoreInode, (), Kind>,
-) -> Stepped<Onward<Lower>, Answered, Kind>
-    requires { IsEarly ending.sizes.inodestart }
-    ensures follows { Follows store_of (λ x. x) (onward_of lower_of) reply_in (λ _. leave_parent ending (inode_in parent) (inode_in child)) stepped result }
-    ensures fits { (hart : ℕ) (s : State) → txn ≡ hart → AreHeld hart parent child s → LeftOf (StoreFits hart s) (λ _. Unit {0}) stepped → LeftOf (OnwardFits LowerFits hart s) IsSpent result }
-{
-    match stepped {
-        Stepped::Waits(m) => Stepped::Waits(Onward::Runs(Lower::Parent(
-            ending, txn, parent, child, m,
-        ))),
-        Stepped::Ran(m, kind) => Stepped::Ran(
-            Onward::Runs(Lower::Parent(ending, txn, parent, child, m)),
-            kind,
-        ),
-        Stepped::Done((), kind) => {
-            let give = GiveUp::new(parent, &ending.sizes);
-            Stepped::Ran(Onward::Runs(Lower::Leaving(ending, txn, child, give)), kind)
-        }
-        Stepped::Stopped(m) => Stepped::Stopped(Onward::Runs(Lower::Parent(
-            ending, txn, parent, child, m,
-        ))),
-    }
-}
-
-// A step while the directory is given up.
-#[tactic(auto, unfolding(crate::specs::Unlinking::lower_of, crate::specs::Unlinking::LowerFits))]
-fn leaving(
-    ending: Ending,
-    txn: Txn,
-    child: Held,
-    stepped: Stepped<GiveUp, (), Kind>,
-) -> Stepped<Onward<Lower>, Answered, Kind>
-    requires early { IsEarly ending.sizes.inodestart }
-    requires there { IsSome child.inode.value.content }
-    ensures follows { Follows give_of (λ x. x) (onward_of lower_of) reply_in (λ _. lower_child ending (inode_in child)) stepped result }
-    ensures fits { (hart : ℕ) (s : State) → txn ≡ hart → IsHeld hart child s → LeftOf (λ m. GiveFits hart s m × GiveApart child.reference m) (λ _. Unit {0}) stepped → LeftOf (OnwardFits LowerFits hart s) IsSpent result }
-{
-    match stepped {
-        Stepped::Waits(give) => Stepped::Waits(Onward::Runs(Lower::Leaving(
-            ending, txn, child, give,
-        ))),
-        Stepped::Ran(give, kind) => Stepped::Ran(
-            Onward::Runs(Lower::Leaving(ending, txn, child, give)),
-            kind,
-        ),
-        Stepped::Done((), kind) => Stepped::Ran(Onward::Runs(to_child(ending, txn, child)), kind),
-        Stepped::Stopped(give) => Stepped::Stopped(Onward::Runs(Lower::Leaving(
-            ending, txn, child, give,
-        ))),
-    }
-}
-
-// A step while what was named is stored.
-#[tactic(auto, unfolding(crate::specs::Unlinking::lower_of, crate::specs::Unlinking::LowerFits))]
-fn child_storing(
-    ending: Ending,
-    txn: Txn,
-    child: Held,
-    stepped: Stepped<StoreInode, (), Kind>,
-) -> Stepped<Onward<Lower>, Answered, Kind>
-    requires { IsEarly ending.sizes.inodestart }
-    ensures follows { Follows store_of (λ x. x) (onward_of lower_of) reply_in (λ _. quit ending.sizes (inode_in child ∷ []) ending.list ending.reply) stepped result }
-    ensures fits { (hart : ℕ) (s : State) → txn ≡ hart → IsHeld hart child s → LeftOf (StoreFits hart s) (λ _. Unit {0}) stepped → LeftOf (OnwardFits LowerFits hart s) IsSpent result }
-{
-    match stepped {
-        Stepped::Waits(m) => Stepped::Waits(Onward::Runs(Lower::Child(ending, txn, child, m))),
-        Stepped::Ran(m, kind) => Stepped::Ran(
-            Onward::Runs(Lower::Child(ending, txn, child, m)),
-            kind,
-        ),
-        Stepped::Done((), kind) => {
-            Stepped::Ran(Onward::Ends(Quit::with_inode(ending, txn, child)), kind)
-        }
-        Stepped::Stopped(m) => Stepped::Stopped(Onward::Runs(Lower::Child(ending, txn, child, m))),
-    }
+    Lower::Child(ending, txn, child, Some(store))
 }

@@ -1,37 +1,26 @@
 //! unlink: a name removed.
-ghost use Rattle.std.specs.Prelude.{◌≡◌, ◌≢◌, ◌≤◌, ◌<◌, ◌∷◌, [], ℕ, Some, None, All, IfSome, IsSome, length};
-ghost use Rattle.fs_layout.specs.declared.entry.Dirent.TheVariants.{Free};
-ghost use Rattle.atomic_programs.specs.Machines.{Still, Left as LeftOf};
+ghost use Rattle.std.specs.Prelude.{◌≡◌, ◌≢◌, ◌≤◌, ◌<◌, ◌∷◌, [], ℕ, All, IfSome, IsSome, length};
 ghost use Rattle.fs_machine.specs.Steps.{State, state_of};
-ghost use Rattle.fs_machine.specs.Machines.{MayNext, Moves, Answers, CallsOnce};
-ghost use Rattle.fs_machine.specs.Tied.{LeavesTied};
-ghost use Rattle.inode_data.specs.Machines.{ends_within};
-ghost use Rattle.inode_data.specs.Records.{record_in};
-ghost use Rattle.directory.specs.Machines.{found_of, inode_of, search_of, IsSlot, SearchFits};
-ghost use Rattle.directory.specs.Programs.{Entry, most_slots};
-ghost use Rattle.directory.specs.Putting.{put_of, putter_of, PutFits};
+ghost use Rattle.fs_machine.specs.Machines.{MayNext};
+ghost use Rattle.fs_machine.specs.Places.{StepsAt};
+ghost use Rattle.directory.specs.Machines.{IsSlot};
+ghost use Rattle.directory.specs.Programs.{most_slots};
 ghost use Rattle.file_table.specs.Machines.{IsEarly};
 ghost use Rattle.path_walk.specs.Elements.{longest_path};
-ghost use Rattle.path_walk.specs.Programs.{loaded};
-ghost use Rattle.sleep_lock.specs.SleepLock.{GuardState};
-ghost use Rattle.fs_tables.specs.declared.inodes.Inode.{Inode as InodeState};
-ghost use Rattle.call_parts.specs.Nesting.{Follows};
 ghost use Rattle.call_parts.specs.Spent.{reply_in, IsSpent};
-ghost use Rattle.call_parts.specs.Onwards.{onward_in, onward_of, OnwardFits};
 ghost use Rattle.call_parts.specs.Parts.{quit};
-ghost use Rattle.call_parts.specs.Taking.{inode_in, take_of, IsHeld, TakeApart, TakeFits};
-ghost use Rattle.call_parts.specs.Seeking.{seek_of, seen_as, IsSeen, SeekFits};
+ghost use Rattle.call_parts.specs.Taking.{inode_in, IsHeld};
+ghost use Rattle.call_parts.specs.Seeking.{seen_as, IsSeen};
 ghost use Rattle.call_parts.specs.OnPaths.{IsOnPath};
-ghost use Rattle.naming_calls.specs.Unlinking.{clear_name, name_cleared, see_child, unless_entries, unlink_found, unlink_joined, unlink_of, unlink_program, unlink_reply, unlink_seen, unlink_up, AreHeld, IsRemoving, UnlinkFits};
+ghost use Rattle.naming_calls.specs.Unlinking.{clear_name, see_child, unless_entries, unlink_found, unlink_joined, unlink_of, unlink_program, unlink_reply, unlink_seen, unlink_up, IsRemoving, UnlinkFits};
+ghost use Rattle.naming_calls.specs.UnlinkTurns.{ClearedTo, Clears, HasEnded, IsClearing, IsLooking, JoinedTo, Joins, LookedTo, Looks, ReferredTo, Refers, Seeks, SoughtTo, Takes, TookTo};
 ghost use Rattle.naming_calls.specs.declared.unlink.Unlink.TheVariants as unlinking;
-ghost use Rattle.call_parts.specs.declared.onward.Onward.TheVariants as onward;
 
 use crate::lower::Lower;
-use atomic_programs::machines::Stepped;
+use atomic_programs::machines::{Came, Stepped, put};
 use block_device::Device;
 use call_parts::{
-    Answered, Dots, Ending, Held, LastName, OnPath, Onward, Quit, Seek, Seen, TakeInode, ending,
-    stopped,
+    Answered, Dots, Ending, Held, LastName, OnPath, Quit, Seek, Seen, TakeInode, ending, stopped,
 };
 use directory::{Change, Found, PutEntry, Search, Searched, Sought, is_directory};
 use fs_layout::Super;
@@ -41,6 +30,7 @@ use group_log::Txn;
 use inode_data::{Begun, record};
 use plain_tree::{Answer, Bytes, Call, Cause, Full};
 use sleep_lock::Guard;
+use std::mem;
 
 /// A name that is to go.
 pub struct Removing {
@@ -78,11 +68,15 @@ pub enum Unlink {
     /// That is locked and loaded.
     Taking(Removing, Txn, TakeInode),
     /// It is a directory, and searched for entries.
-    Looking(Removing, Txn, Reference, Search),
+    Looking(Removing, Txn, Reference, Option<Search>),
     /// The name is cleared.
-    Clearing(Ending, Txn, Reference, Held, PutEntry),
+    Clearing(Ending, Txn, Reference, Held, Option<PutEntry>),
     /// The counts go down.
     Lowering(Lower),
+    /// The call ends.
+    Ends(Quit),
+    /// It has ended, or is being changed.
+    Gone,
 }
 
 impl Unlink {
@@ -103,46 +97,262 @@ impl Unlink {
         Unlink::Join(on, list)
     }
 
-    /// One operation.
+    /// One operation of it in its place.
     #[tactic(auto, unfolding(crate::specs::Unlinking::unlink_of, crate::specs::Unlinking::UnlinkFits, fs_machine::specs::Premises::Honest))]
-    pub fn step<D: Device>(
-        self,
-        hart: u8,
-        core: &mut Core<D>,
-    ) -> Stepped<Onward<Unlink>, Answered, Kind>
-        requires may { MayNext hart (unlink_of self) (state_of D.contents D.failures core.old) }
-        requires fits { UnlinkFits hart (state_of D.contents D.failures core.old) self }
-        ensures moves { Moves (onward_of unlink_of) reply_in hart (onward.Runs self) result (state_of D.contents D.failures core.old) (state_of D.contents D.failures core.new) }
-        ensures honest { Answers (onward_of unlink_of) hart (onward.Runs self) result (state_of D.contents D.failures core.old) (state_of D.contents D.failures core.new) }
-        ensures still { Still (onward_of unlink_of) result (onward.Runs self) core.old core.new }
-        ensures fits { LeftOf (OnwardFits UnlinkFits hart (state_of D.contents D.failures core.new)) IsSpent result }
-        ensures others { LeavesTied hart (state_of D.contents D.failures core.old) (state_of D.contents D.failures core.new) }
-        ensures called { CallsOnce D.Called core.old.log.cache.device core.new.log.cache.device }
+    pub fn step<D: Device>(&mut self, hart: u8, core: &mut Core<D>) -> Came<Answered, Kind>
+        requires may { MayNext hart (unlink_of self.old) (state_of D.contents D.failures core.old) }
+        requires fits { UnlinkFits hart (state_of D.contents D.failures core.old) self.old }
+        ensures steps { StepsAt D.contents D.failures D.Called unlink_of reply_in UnlinkFits IsSpent unlinking.Gone hart self.old self.new result core.old core.new }
     {
         match self {
-            Unlink::Join(on, list) => match core.join(hart) {
-                None => Stepped::Waits(Onward::Runs(Unlink::Join(on, list))),
-                Some(txn) => Stepped::Ran(begin(on, txn, list), Kind::Join),
+            Unlink::Join(_, _) => match core.join(hart) {
+                None => Came::Waits,
+                Some(txn) => {
+                    self.joined(txn);
+                    Came::Ran(Kind::Join)
+                }
             },
+            Unlink::Seeking(on, _, seek) => match seek.step(hart, on.path.as_slice(), core) {
+                Came::Waits => Came::Waits,
+                Came::Ran(kind) => Came::Ran(kind),
+                Came::Done(seen, kind) => {
+                    self.sought(seen);
+                    Came::Ran(kind)
+                }
+                Came::Stopped => Came::Stopped,
+            },
+            Unlink::Refer(_, _, number) => {
+                let up = core.up(hart, *number);
+                self.referred(up);
+                Came::Ran(Kind::Up)
+            }
+            Unlink::Taking(_, _, take) => match take.step(hart, core) {
+                Came::Waits => Came::Waits,
+                Came::Ran(kind) => Came::Ran(kind),
+                Came::Done(child, kind) => {
+                    self.took(child);
+                    Came::Ran(kind)
+                }
+                Came::Stopped => Came::Stopped,
+            },
+            Unlink::Looking(_, _, _, _) => self.look(hart, core),
+            Unlink::Clearing(_, _, _, _, _) => self.clear(hart, core),
+            Unlink::Lowering(lower) => match lower.step(hart, core) {
+                Came::Waits => Came::Waits,
+                Came::Ran(kind) => Came::Ran(kind),
+                Came::Done(answered, kind) => {
+                    self.end();
+                    Came::Done(answered, kind)
+                }
+                Came::Stopped => Came::Stopped,
+            },
+            Unlink::Ends(quit) => match quit.step(hart, core) {
+                Came::Waits => Came::Waits,
+                Came::Ran(kind) => Came::Ran(kind),
+                Came::Done(answered, kind) => {
+                    self.end();
+                    Came::Done(answered, kind)
+                }
+                Came::Stopped => Came::Stopped,
+            },
+            Unlink::Gone => unreachable!(),
+        }
+    }
+
+    // A step while it is searched for entries.
+    #[tactic(auto, unfolding(crate::specs::Unlinking::unlink_of, crate::specs::Unlinking::UnlinkFits))]
+    fn look<D: Device>(&mut self, hart: u8, core: &mut Core<D>) -> Came<Answered, Kind>
+        requires at { IsLooking self.old }
+        requires may { MayNext hart (unlink_of self.old) (state_of D.contents D.failures core.old) }
+        requires fits { UnlinkFits hart (state_of D.contents D.failures core.old) self.old }
+        ensures steps { StepsAt D.contents D.failures D.Called unlink_of reply_in UnlinkFits IsSpent unlinking.Gone hart self.old self.new result core.old core.new }
+    {
+        match self {
+            Unlink::Looking(_, _, _, place) => match mem::replace(place, None) {
+                Some(search) => match search.step(hart, Sought::Entry, core) {
+                    Stepped::Waits(search) => {
+                        put(place, search);
+                        Came::Waits
+                    }
+                    Stepped::Ran(search, kind) => {
+                        put(place, search);
+                        Came::Ran(kind)
+                    }
+                    Stepped::Done(searched, kind) => {
+                        self.searched(searched);
+                        Came::Ran(kind)
+                    }
+                    Stepped::Stopped(search) => {
+                        put(place, search);
+                        Came::Stopped
+                    }
+                },
+                None => unreachable!(),
+            },
+            _ => unreachable!(),
+        }
+    }
+
+    // A step while the name is cleared.
+    #[tactic(auto, unfolding(crate::specs::Unlinking::unlink_of, crate::specs::Unlinking::UnlinkFits))]
+    fn clear<D: Device>(&mut self, hart: u8, core: &mut Core<D>) -> Came<Answered, Kind>
+        requires at { IsClearing self.old }
+        requires may { MayNext hart (unlink_of self.old) (state_of D.contents D.failures core.old) }
+        requires fits { UnlinkFits hart (state_of D.contents D.failures core.old) self.old }
+        ensures steps { StepsAt D.contents D.failures D.Called unlink_of reply_in UnlinkFits IsSpent unlinking.Gone hart self.old self.new result core.old core.new }
+    {
+        match self {
+            Unlink::Clearing(_, txn, _, _, place) => match mem::replace(place, None) {
+                Some(clear) => match clear.step(hart, txn, Change::Clear, core) {
+                    Stepped::Waits(clear) => {
+                        put(place, clear);
+                        Came::Waits
+                    }
+                    Stepped::Ran(clear, kind) => {
+                        put(place, clear);
+                        Came::Ran(kind)
+                    }
+                    Stepped::Done(inode, kind) => {
+                        self.cleared(inode);
+                        Came::Ran(kind)
+                    }
+                    Stepped::Stopped(clear) => {
+                        put(place, clear);
+                        Came::Stopped
+                    }
+                },
+                None => unreachable!(),
+            },
+            _ => unreachable!(),
+        }
+    }
+
+    // A transaction is joined.
+    #[tactic(auto, unfolding(crate::specs::Unlinking::unlink_of, crate::specs::Unlinking::UnlinkFits))]
+    fn joined(&mut self, txn: Txn)
+        requires { Joins self.old }
+        ensures { JoinedTo txn self.old self.new }
+    {
+        match mem::replace(self, Unlink::Gone) {
+            Unlink::Join(on, list) => {
+                self.put(begin(on, txn, list));
+            }
+            _ => unreachable!(),
+        }
+    }
+
+    // The name was looked up.
+    #[tactic(auto, unfolding(crate::specs::Unlinking::unlink_of, crate::specs::Unlinking::UnlinkFits))]
+    fn sought(&mut self, seen: Seen)
+        requires { Seeks self.old }
+        ensures { SoughtTo seen self.old self.new }
+    {
+        match mem::replace(self, Unlink::Gone) {
             Unlink::Seeking(on, txn, seek) => {
-                let stepped = seek.step(hart, on.path.as_slice(), core);
-                seeking(on, txn, stepped)
+                match seek {
+                    Seek::Gone => {}
+                    _ => unreachable!(),
+                }
+                self.put(seen_so(on, txn, seen));
             }
-            Unlink::Refer(removing, txn, number) => {
-                let up = core.up(hart, number);
-                Stepped::Ran(referred(removing, txn, up), Kind::Up)
+            _ => unreachable!(),
+        }
+    }
+
+    // A reference to what it names was wanted.
+    #[tactic(auto, unfolding(crate::specs::Unlinking::unlink_of, crate::specs::Unlinking::UnlinkFits))]
+    fn referred(&mut self, up: Option<Reference>)
+        requires { Refers self.old }
+        ensures { ReferredTo up self.old self.new }
+    {
+        match mem::replace(self, Unlink::Gone) {
+            Unlink::Refer(removing, txn, _) => {
+                self.put(referred(removing, txn, up));
             }
-            Unlink::Taking(removing, txn, take) => taking(removing, txn, take.step(hart, core)),
+            _ => unreachable!(),
+        }
+    }
+
+    // That has been taken.
+    #[tactic(auto, unfolding(crate::specs::Unlinking::unlink_of, crate::specs::Unlinking::UnlinkFits))]
+    fn took(&mut self, child: Held)
+        requires { Takes child self.old }
+        ensures { TookTo child self.old self.new }
+    {
+        match mem::replace(self, Unlink::Gone) {
+            Unlink::Taking(removing, txn, take) => {
+                match take {
+                    TakeInode::Gone => {}
+                    _ => unreachable!(),
+                }
+                self.put(had(removing, txn, child));
+            }
+            _ => unreachable!(),
+        }
+    }
+
+    // It has been searched.
+    #[tactic(auto, unfolding(crate::specs::Unlinking::unlink_of, crate::specs::Unlinking::UnlinkFits))]
+    fn searched(&mut self, searched: Searched)
+        requires { Looks searched self.old }
+        ensures { LookedTo searched self.old self.new }
+    {
+        match mem::replace(self, Unlink::Gone) {
             Unlink::Looking(removing, txn, reference, search) => {
-                let stepped = search.step(hart, Sought::Entry, core);
-                looking(removing, txn, reference, stepped)
+                match search {
+                    None => {}
+                    Some(_) => unreachable!(),
+                }
+                self.put(looked(removing, txn, reference, searched));
             }
-            Unlink::Clearing(ending, txn, reference, child, put) => {
-                let mut txn = txn;
-                let stepped = put.step(hart, &mut txn, Change::Clear, core);
-                clearing(ending, txn, reference, child, stepped)
+            _ => unreachable!(),
+        }
+    }
+
+    // The name has been cleared.
+    #[tactic(auto, unfolding(crate::specs::Unlinking::unlink_of, crate::specs::Unlinking::UnlinkFits))]
+    fn cleared(&mut self, inode: Guard<Inode>)
+        requires { Clears inode self.old }
+        ensures { ClearedTo inode self.old self.new }
+    {
+        match mem::replace(self, Unlink::Gone) {
+            Unlink::Clearing(ending, txn, reference, child, clear) => {
+                match clear {
+                    None => {}
+                    Some(_) => unreachable!(),
+                }
+                let parent = Held { reference, inode };
+                let lower = Lower::new(ending, txn, parent, child);
+                self.put(Unlink::Lowering(lower));
             }
-            Unlink::Lowering(lower) => lowering(lower.step(hart, core)),
+            _ => unreachable!(),
+        }
+    }
+
+    fn end(&mut self)
+        requires { HasEnded self.old }
+        ensures { self.new ≡ unlinking.Gone }
+    {
+        match mem::replace(self, Unlink::Gone) {
+            Unlink::Lowering(lower) => match lower {
+                Lower::Gone => {}
+                _ => unreachable!(),
+            },
+            Unlink::Ends(quit) => match quit {
+                Quit::Gone => {}
+                _ => unreachable!(),
+            },
+            _ => unreachable!(),
+        }
+    }
+
+    fn put(&mut self, next: Unlink)
+        requires { self.old ≡ unlinking.Gone }
+        ensures { self.new ≡ next }
+    {
+        match mem::replace(self, next) {
+            Unlink::Gone => {}
+            _ => unreachable!(),
         }
     }
 
@@ -167,38 +377,46 @@ impl Unlink {
                 removing.retire(retired);
                 txn.retire(&retired.log);
                 reference.retire(&retired.inodes);
-                search.retire(retired);
+                match search {
+                    Some(search) => search.retire(retired),
+                    None => {}
+                }
             }
-            Unlink::Clearing(ending, txn, reference, child, put) => {
+            Unlink::Clearing(ending, txn, reference, child, clear) => {
                 ending.retire(retired);
                 txn.retire(&retired.log);
                 reference.retire(&retired.inodes);
                 child.retire(retired);
-                put.retire(retired);
+                match clear {
+                    Some(clear) => clear.retire(retired),
+                    None => {}
+                }
             }
             Unlink::Lowering(lower) => lower.retire(retired),
+            Unlink::Ends(quit) => quit.retire(retired),
+            Unlink::Gone => {}
         }
     }
 }
 
 // The end of a call with this answer, which has an inode to give up.
 #[tactic(auto, unfolding(crate::specs::Unlinking::unlink_of, crate::specs::Unlinking::UnlinkFits))]
-fn end_with(on: OnPath, txn: Txn, list: Listed, held: Held, answer: Answer) -> Onward<Unlink>
+fn end_with(on: OnPath, txn: Txn, list: Listed, held: Held, answer: Answer) -> Unlink
     requires { IsEarly on.sizes.inodestart }
-    ensures program { onward_of unlink_of result ≡ quit on.sizes (inode_in held ∷ []) list (unlink_reply on.path answer) }
-    ensures fits { (hart : ℕ) (s : State) → txn ≡ hart → IsHeld hart held s → OnwardFits UnlinkFits hart s result }
+    ensures program { unlink_of result ≡ quit on.sizes (inode_in held ∷ []) list (unlink_reply on.path answer) }
+    ensures fits { (hart : ℕ) (s : State) → txn ≡ hart → IsHeld hart held s → UnlinkFits hart s result }
 {
     let OnPath { sizes, path } = on;
     let ending = ending(&sizes, list, Call::Unlink { path }, answer);
-    Onward::Ends(Quit::with_inode(ending, txn, held))
+    Unlink::Ends(Quit::with_inode(ending, txn, held))
 }
 
 // What was seen under the name.
 #[tactic(auto, unfolding(crate::specs::Unlinking::unlink_of, crate::specs::Unlinking::UnlinkFits))]
-fn seen(on: OnPath, txn: Txn, seen: Seen) -> Onward<Unlink>
+fn seen_so(on: OnPath, txn: Txn, seen: Seen) -> Unlink
     requires { IsOnPath on }
-    ensures program { onward_of unlink_of result ≡ unlink_seen on.sizes on.path (seen_as on.path seen) }
-    ensures fits { (hart : ℕ) (s : State) → txn ≡ hart → IsSeen on.path hart s seen → OnwardFits UnlinkFits hart s result }
+    ensures program { unlink_of result ≡ unlink_seen on.sizes on.path (seen_as on.path seen) }
+    ensures fits { (hart : ℕ) (s : State) → txn ≡ hart → IsSeen on.path hart s seen → UnlinkFits hart s result }
 {
     match seen {
         Seen::Name(name) => named(on, txn, name),
@@ -211,17 +429,17 @@ fn seen(on: OnPath, txn: Txn, seen: Seen) -> Onward<Unlink>
         Seen::Lost(why, list) => {
             let OnPath { sizes, path } = on;
             let ending = ending(&sizes, list, Call::Unlink { path }, stopped(why));
-            Onward::Ends(Quit::with_nothing(ending, txn))
+            Unlink::Ends(Quit::with_nothing(ending, txn))
         }
     }
 }
 
 // What the directory has under the name.
 #[tactic(auto, unfolding(crate::specs::Unlinking::unlink_of, crate::specs::Unlinking::UnlinkFits))]
-fn named(on: OnPath, txn: Txn, name: LastName) -> Onward<Unlink>
+fn named(on: OnPath, txn: Txn, name: LastName) -> Unlink
     requires { IsOnPath on }
-    ensures program { onward_of unlink_of result ≡ unlink_found on.sizes on.path (inode_in name.parent) name.list name.found }
-    ensures fits { (hart : ℕ) (s : State) → txn ≡ hart → IsHeld hart name.parent s → IsSlot name.found → OnwardFits UnlinkFits hart s result }
+    ensures program { unlink_of result ≡ unlink_found on.sizes on.path (inode_in name.parent) name.list name.found }
+    ensures fits { (hart : ℕ) (s : State) → txn ≡ hart → IsHeld hart name.parent s → IsSlot name.found → UnlinkFits hart s result }
 {
     let LastName {
         parent,
@@ -241,55 +459,33 @@ fn named(on: OnPath, txn: Txn, name: LastName) -> Onward<Unlink>
                 slot,
                 list,
             };
-            Onward::Runs(Unlink::Refer(removing, txn, number))
+            Unlink::Refer(removing, txn, number)
         }
     }
 }
 
 // The transaction is joined.
 #[tactic(auto, unfolding(crate::specs::Unlinking::unlink_of, crate::specs::Unlinking::UnlinkFits))]
-fn begin(on: OnPath, txn: Txn, list: Listed) -> Onward<Unlink>
+fn begin(on: OnPath, txn: Txn, list: Listed) -> Unlink
     requires on { IsOnPath on }
     requires none { list ≡ [] }
-    ensures program { onward_of unlink_of result ≡ unlink_joined on.sizes on.path }
-    ensures fits { (hart : ℕ) (s : State) → txn ≡ hart → OnwardFits UnlinkFits hart s result }
+    ensures program { unlink_of result ≡ unlink_joined on.sizes on.path }
+    ensures fits { (hart : ℕ) (s : State) → txn ≡ hart → UnlinkFits hart s result }
 {
     let begun = Seek::begin(on.path.as_slice(), on.sizes.inodestart, Dots::Apart, list);
     match begun {
-        Begun::Runs(seek) => Onward::Runs(Unlink::Seeking(on, txn, seek)),
-        Begun::Is(came) => seen(on, txn, came),
-    }
-}
-
-// A step while the name is looked up.
-#[tactic(auto, unfolding(crate::specs::Unlinking::unlink_of, crate::specs::Unlinking::UnlinkFits))]
-fn seeking(
-    on: OnPath,
-    txn: Txn,
-    stepped: Stepped<Seek, Seen, Kind>,
-) -> Stepped<Onward<Unlink>, Answered, Kind>
-    requires { IsOnPath on }
-    ensures follows { Follows (seek_of on.path) (seen_as on.path) (onward_of unlink_of) reply_in (unlink_seen on.sizes on.path) stepped result }
-    ensures fits { (hart : ℕ) (s : State) → txn ≡ hart → LeftOf (SeekFits on.path hart s) (IsSeen on.path hart s) stepped → LeftOf (OnwardFits UnlinkFits hart s) IsSpent result }
-{
-    match stepped {
-        Stepped::Waits(seek) => Stepped::Waits(Onward::Runs(Unlink::Seeking(on, txn, seek))),
-        Stepped::Ran(seek, kind) => Stepped::Ran(
-            Onward::Runs(Unlink::Seeking(on, txn, seek)),
-            kind,
-        ),
-        Stepped::Done(came, kind) => Stepped::Ran(seen(on, txn, came), kind),
-        Stepped::Stopped(seek) => Stepped::Stopped(Onward::Runs(Unlink::Seeking(on, txn, seek))),
+        Begun::Runs(seek) => Unlink::Seeking(on, txn, seek),
+        Begun::Is(came) => seen_so(on, txn, came),
     }
 }
 
 // After a reference to what is named was wanted.
 #[tactic(auto, unfolding(crate::specs::Unlinking::unlink_of, crate::specs::Unlinking::UnlinkFits))]
-fn referred(removing: Removing, txn: Txn, up: Option<Reference>) -> Onward<Unlink>
+fn referred(removing: Removing, txn: Txn, up: Option<Reference>) -> Unlink
     requires { IsEarly removing.on.sizes.inodestart }
     ensures program { (n : ℕ) → IfSome up (λ reference. reference ≡ n)
-        → onward_of unlink_of result ≡ unlink_up removing.on.sizes removing.on.path (inode_in removing.parent) removing.slot removing.list n up }
-    ensures fits { (hart : ℕ) (s : State) → txn ≡ hart → IsRemoving hart removing s → OnwardFits UnlinkFits hart s result }
+        → unlink_of result ≡ unlink_up removing.on.sizes removing.on.path (inode_in removing.parent) removing.slot removing.list n up }
+    ensures fits { (hart : ℕ) (s : State) → txn ≡ hart → IsRemoving hart removing s → UnlinkFits hart s result }
 {
     match up {
         None => {
@@ -303,46 +499,46 @@ fn referred(removing: Removing, txn: Txn, up: Option<Reference>) -> Onward<Unlin
         }
         Some(reference) => {
             let take = TakeInode::new(removing.on.sizes.inodestart, reference);
-            Onward::Runs(Unlink::Taking(removing, txn, take))
+            Unlink::Taking(removing, txn, take)
         }
     }
 }
 
 // What is named is had: it is searched for entries, where it is a directory.
 #[tactic(auto, unfolding(crate::specs::Unlinking::unlink_of, crate::specs::Unlinking::UnlinkFits))]
-fn had(removing: Removing, txn: Txn, child: Held) -> Onward<Unlink>
+fn had(removing: Removing, txn: Txn, child: Held) -> Unlink
     requires early { IsEarly removing.on.sizes.inodestart }
     requires slot { removing.slot < most_slots }
     requires parent { IsSome removing.parent.inode.value.content }
     requires child { IsSome child.inode.value.content }
-    ensures program { onward_of unlink_of result ≡ see_child removing.on.sizes removing.on.path (inode_in removing.parent) removing.slot removing.list (inode_in child) }
-    ensures fits { (hart : ℕ) (s : State) → txn ≡ hart → IsRemoving hart removing s → IsHeld hart child s → removing.parent.reference ≢ child.reference → OnwardFits UnlinkFits hart s result }
+    ensures program { unlink_of result ≡ see_child removing.on.sizes removing.on.path (inode_in removing.parent) removing.slot removing.list (inode_in child) }
+    ensures fits { (hart : ℕ) (s : State) → txn ≡ hart → IsRemoving hart removing s → IsHeld hart child s → removing.parent.reference ≢ child.reference → UnlinkFits hart s result }
 {
     if !is_directory(&record(&child.inode)) {
-        return Onward::Runs(clear(removing, txn, child));
+        return clear(removing, txn, child);
     }
     let Held { reference, inode } = child;
     match Search::begin(inode) {
-        Begun::Runs(search) => Onward::Runs(Unlink::Looking(removing, txn, reference, search)),
+        Begun::Runs(search) => Unlink::Looking(removing, txn, reference, Some(search)),
         Begun::Is(searched) => looked(removing, txn, reference, searched),
     }
 }
 
 // The directory was searched for entries.
 #[tactic(auto, unfolding(crate::specs::Unlinking::unlink_of, crate::specs::Unlinking::UnlinkFits))]
-fn looked(removing: Removing, txn: Txn, reference: Reference, searched: Searched) -> Onward<Unlink>
+fn looked(removing: Removing, txn: Txn, reference: Reference, searched: Searched) -> Unlink
     requires early { IsEarly removing.on.sizes.inodestart }
     requires slot { removing.slot < most_slots }
     requires parent { IsSome removing.parent.inode.value.content }
     requires child { IsSome searched.inode.value.content }
-    ensures program { onward_of unlink_of result ≡ unless_entries removing.on.sizes removing.on.path (inode_in removing.parent) removing.slot removing.list searched.inode.value searched.found }
+    ensures program { unlink_of result ≡ unless_entries removing.on.sizes removing.on.path (inode_in removing.parent) removing.slot removing.list searched.inode.value searched.found }
     ensures fits { (hart : ℕ) (s : State) → txn ≡ hart → IsRemoving hart removing s → IsHeld hart (record { reference = reference; inode = searched.inode }) s
-        → removing.parent.reference ≢ reference → OnwardFits UnlinkFits hart s result }
+        → removing.parent.reference ≢ reference → UnlinkFits hart s result }
 {
     let Searched { inode, found } = searched;
     let child = Held { reference, inode };
     match found {
-        None => Onward::Runs(clear(removing, txn, child)),
+        None => clear(removing, txn, child),
         Some(_) => {
             let Removing {
                 on: OnPath { sizes, path },
@@ -352,7 +548,7 @@ fn looked(removing: Removing, txn: Txn, reference: Reference, searched: Searched
             } = removing;
             let answer = Answer::Failed(Cause::NotEmpty);
             let ending = ending(&sizes, list, Call::Unlink { path }, answer);
-            Onward::Ends(Quit::with_two(ending, txn, child, parent))
+            Unlink::Ends(Quit::with_two(ending, txn, child, parent))
         }
     }
 }
@@ -375,132 +571,5 @@ fn clear(removing: Removing, txn: Txn, child: Held) -> Unlink
     let Held { reference, inode } = parent;
     let clear = PutEntry::new(inode, sizes.inodestart, slot as usize);
     let ending = ending(&sizes, list, Call::Unlink { path }, Answer::Done);
-    Unlink::Clearing(ending, txn, reference, child, clear)
-}
-
-// A step while what is named is locked and loaded.
-#[tactic(auto, unfolding(crate::specs::Unlinking::unlink_of, crate::specs::Unlinking::UnlinkFits))]
-fn taking(
-    removing: Removing,
-    txn: Txn,
-    stepped: Stepped<TakeInode, Held, Kind>,
-) -> Stepped<Onward<Unlink>, Answered, Kind>
-    requires early { IsEarly removing.on.sizes.inodestart }
-    requires slot { removing.slot < most_slots }
-    requires parent { IsSome removing.parent.inode.value.content }
-    requires child { LeftOf (λ _. Unit {0}) (λ held. IsSome held.inode.value.content) stepped }
-    ensures follows { Follows take_of inode_in (onward_of unlink_of) reply_in (see_child removing.on.sizes removing.on.path (inode_in removing.parent) removing.slot removing.list) stepped result }
-    ensures fits { (hart : ℕ) (s : State) → txn ≡ hart → IsRemoving hart removing s
-        → LeftOf (λ m. TakeFits hart s m × TakeApart removing.parent.reference m) (λ held. IsHeld hart held s × (removing.parent.reference ≢ held.reference)) stepped
-        → LeftOf (OnwardFits UnlinkFits hart s) IsSpent result }
-{
-    match stepped {
-        Stepped::Waits(take) => Stepped::Waits(Onward::Runs(Unlink::Taking(removing, txn, take))),
-        Stepped::Ran(take, kind) => Stepped::Ran(
-            Onward::Runs(Unlink::Taking(removing, txn, take)),
-            kind,
-        ),
-        Stepped::Done(child, kind) => Stepped::Ran(had(removing, txn, child), kind),
-        Stepped::Stopped(take) => Stepped::Stopped(Onward::Runs(Unlink::Taking(
-            removing, txn, take,
-        ))),
-    }
-}
-
-// A step while it is searched for entries.
-#[tactic(auto, unfolding(crate::specs::Unlinking::unlink_of, crate::specs::Unlinking::UnlinkFits))]
-fn looking(
-    removing: Removing,
-    txn: Txn,
-    reference: Reference,
-    stepped: Stepped<Search, Searched, Kind>,
-) -> Stepped<Onward<Unlink>, Answered, Kind>
-    requires early { IsEarly removing.on.sizes.inodestart }
-    requires slot { removing.slot < most_slots }
-    requires parent { IsSome removing.parent.inode.value.content }
-    requires child { LeftOf (λ _. Unit {0}) (λ r. IsSome r.inode.value.content) stepped }
-    ensures follows { (guard : GuardState InodeState) → LeftOf (λ m. inode_of m ≡ guard) (λ r. r.inode ≡ guard) stepped
-        → Follows (search_of Entry) found_of (onward_of unlink_of) reply_in (unless_entries removing.on.sizes removing.on.path (inode_in removing.parent) removing.slot removing.list guard.value) stepped result }
-    ensures fits { (hart : ℕ) (s : State) → txn ≡ hart → IsRemoving hart removing s → removing.parent.reference ≢ reference
-        → LeftOf (λ m. IsHeld hart (record { reference = reference; inode = inode_of m }) s × SearchFits hart s m) (λ r. IsHeld hart (record { reference = reference; inode = r.inode }) s) stepped
-        → LeftOf (OnwardFits UnlinkFits hart s) IsSpent result }
-{
-    match stepped {
-        Stepped::Waits(m) => Stepped::Waits(Onward::Runs(Unlink::Looking(
-            removing, txn, reference, m,
-        ))),
-        Stepped::Ran(m, kind) => Stepped::Ran(
-            Onward::Runs(Unlink::Looking(removing, txn, reference, m)),
-            kind,
-        ),
-        Stepped::Done(searched, kind) => {
-            Stepped::Ran(looked(removing, txn, reference, searched), kind)
-        }
-        Stepped::Stopped(m) => Stepped::Stopped(Onward::Runs(Unlink::Looking(
-            removing, txn, reference, m,
-        ))),
-    }
-}
-
-// A step while the name is cleared.
-#[tactic(auto, unfolding(crate::specs::Unlinking::unlink_of, crate::specs::Unlinking::UnlinkFits))]
-fn clearing(
-    ending: Ending,
-    txn: Txn,
-    reference: Reference,
-    child: Held,
-    stepped: Stepped<PutEntry, Guard<Inode>, Kind>,
-) -> Stepped<Onward<Unlink>, Answered, Kind>
-    requires early { IsEarly ending.sizes.inodestart }
-    requires child { IsSome child.inode.value.content }
-    requires there { LeftOf (λ _. Unit {0}) (λ guard. IsSome guard.value.content) stepped }
-    ensures follows { (n : ℕ) → LeftOf (λ m. (putter_of m).value.number ≡ n) (λ guard. guard.value ≡ loaded n (record_in guard)) stepped
-        → Follows (put_of Free) record_in (onward_of unlink_of) reply_in (name_cleared ending n (inode_in child)) stepped result }
-    ensures fits { (hart : ℕ) (s : State) → txn ≡ hart
-        → LeftOf (λ m. AreHeld hart (record { reference = reference; inode = putter_of m }) child s × PutFits hart s m) (λ guard. AreHeld hart (record { reference = reference; inode = guard }) child s) stepped
-        → LeftOf (OnwardFits UnlinkFits hart s) IsSpent result }
-{
-    match stepped {
-        Stepped::Waits(put) => {
-            Stepped::Waits(Onward::Runs(Unlink::Clearing(ending, txn, reference, child, put)))
-        }
-        Stepped::Ran(put, kind) => {
-            Stepped::Ran(
-                Onward::Runs(Unlink::Clearing(ending, txn, reference, child, put)),
-                kind,
-            )
-        }
-        Stepped::Done(inode, kind) => {
-            let parent = Held { reference, inode };
-            let lower = Lower::new(ending, txn, parent, child);
-            Stepped::Ran(Onward::Runs(Unlink::Lowering(lower)), kind)
-        }
-        Stepped::Stopped(put) => {
-            Stepped::Stopped(Onward::Runs(Unlink::Clearing(ending, txn, reference, child, put)))
-        }
-    }
-}
-
-// What is left of it while the counts go down.
-fn in_lowering(left: Onward<Lower>) -> Onward<Unlink>
-    ensures { result ≡ onward_in (λ m. unlinking.Lowering m) left }
-{
-    match left {
-        Onward::Runs(lower) => Onward::Runs(Unlink::Lowering(lower)),
-        Onward::Ends(quit) => Onward::Ends(quit),
-    }
-}
-
-// A step while the counts go down.
-fn lowering(
-    stepped: Stepped<Onward<Lower>, Answered, Kind>,
-) -> Stepped<Onward<Unlink>, Answered, Kind>
-    ensures { result ≡ ends_within (onward_in (λ m. unlinking.Lowering m)) (λ answered. answered) stepped }
-{
-    match stepped {
-        Stepped::Waits(left) => Stepped::Waits(in_lowering(left)),
-        Stepped::Ran(left, kind) => Stepped::Ran(in_lowering(left), kind),
-        Stepped::Done(reply, kind) => Stepped::Done(reply, kind),
-        Stepped::Stopped(left) => Stepped::Stopped(in_lowering(left)),
-    }
+    Unlink::Clearing(ending, txn, reference, child, Some(clear))
 }

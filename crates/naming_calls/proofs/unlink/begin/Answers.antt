@@ -17,4 +17,4 @@ pub returns-in-Is-clause-fits : goal.returns-in-Is-clause-fits
 returns-in-Is-clause-fits c hart s txn =
     let on = c.args.on in
     let room = subst (λ (path : List ℕ). length c.args.list + length (elements path) ≤ listed_places) (sym c.as_slice.ensures) (room_at_first on.path c.args.list c.requires.on.short c.requires.none) in
-    c.seen.ensures.fits hart s txn (subst (λ path. IsSeen path hart s c.in-Is.came) c.as_slice.ensures (c.in-Is.ensures.fits hart s room))
+    c.seen_so.ensures.fits hart s txn (subst (λ path. IsSeen path hart s c.in-Is.came) c.as_slice.ensures (c.in-Is.ensures.fits hart s room))

@@ -1,6 +1,4 @@
 use Rattle.std.proofs.Common.{sym, subst}
-use Rattle.sleep_lock.specs.SleepLock.{GuardState}
-use Rattle.fs_tables.specs.declared.inodes.Inode.{Inode}
 use Rattle.naming_calls.proofs.Unlinks.{Has}
 use Rattle.naming_calls.proofs.unlink.had.Goals as goal
 

@@ -1,27 +1,42 @@
-use Rattle.std.proofs.Common.{ap}
+use Rattle.std.proofs.Common.{◌≡◌, ◌∙◌, Some, ap, refl, subst}
+use Rattle.atomic_programs.specs.Prog.{bind}
+use Rattle.atomic_programs.specs.Machines.{Left}
 use Rattle.fs_machine.specs.Steps.{state_of}
-use Rattle.file_table.specs.Machines.{file_of, loaded_as}
+use Rattle.file_table.specs.Machines.{file_of, loaded_as, FileFits, IsLoaded, IfLoaded}
+use Rattle.call_parts.proofs.Nesting.{left_map}
 use Rattle.descriptor_calls.specs.Programs.{stat_on}
-use Rattle.descriptor_calls.specs.Machines.{fstat_of}
-use Rattle.call_parts.proofs.Nesting.{nested_moves, nested_honest, nested_still}
+use Rattle.descriptor_calls.specs.Machines.{fstat_of, FstatFits}
+use Rattle.descriptor_calls.specs.declared.fstat.Fstat.TheVariants as fstat
+use Rattle.descriptor_calls.proofs.Inside.{goes_on, ends_so, done_so}
+use Rattle.descriptor_calls.proofs.Stats.{stat_goes, stat_fits}
 use Rattle.descriptor_calls.proofs.fstat.Fstat.step.Goals as goal
 
-pub returns-in-Loading-clause-moves : goal.returns-in-Loading-clause-moves
-unfolding fstat_of
-returns-in-Loading-clause-moves g c =
-    let s = state_of g.D.Device.contents g.D.Device.failures in
-    nested_moves file_of loaded_as fstat_of (λ reply. reply) (stat_on c.in-Loading.fd) c.args.hart c.in-Loading.load c.args.self c.step.result _ (s c.args.core.now) (s c.step.new.core) (ap fstat_of c.in-Loading.is) c.loading.ensures.follows c.step.ensures.moves
+pub returns-in-Goes : goal.returns-in-Goes
+unfolding fstat_of FstatFits
+returns-in-Goes g c =
+    let d = g.D.Device in
+    let fd = c.in-Loading.fd in
+    let s = state_of d.contents d.failures c.step.new.core in
+    let so =
+    left_map (FileFits c.args.hart s) (λ m. (fstat_of (fstat.Loading fd (Some m)) ≡ bind (file_of m) (stat_on fd)) × FstatFits c.args.hart s (fstat.Loading fd (Some m)))
+    (λ came. IfLoaded came (λ file guard. IsLoaded c.args.hart file.number guard s)) (λ _. Unit {0}) (λ m f. (refl, f)) (λ r f. tt) c.step.result c.step.ensures.fits in
+    record {
+      steps = goes_on d.contents d.failures d.Called file_of loaded_as fstat_of (λ reply. reply) (stat_on fd) FstatFits (λ _. Unit {0}) fstat.Gone (λ place. fstat.Loading fd place) c.args.hart c.take-load.result c.args.self.now
+          c.args.core.now c.step.new.core (ap fstat_of (c.in-Loading.is ∙ ap (λ place. fstat.Loading fd place) c.take-load.ensures.was)) c.step.result c.put_back.result c.in-Goes.came c.put_back.new.place
+          c.put_back.ensures.came c.in-Goes.is c.put_back.ensures.left so c.step.ensures.moves c.step.ensures.honest c.step.ensures.still c.step.ensures.others c.step.ensures.called;
+    }
 
-pub returns-in-Loading-clause-honest : goal.returns-in-Loading-clause-honest
+pub returns-in-Ends : goal.returns-in-Ends
 unfolding fstat_of
-returns-in-Loading-clause-honest g c =
-    let s = state_of g.D.Device.contents g.D.Device.failures in
-    nested_honest file_of loaded_as fstat_of (λ reply. reply) (stat_on c.in-Loading.fd) c.args.hart c.in-Loading.load c.args.self c.step.result _ (s c.args.core.now) (s c.step.new.core) (ap fstat_of c.in-Loading.is) c.loading.ensures.follows c.step.ensures.moves c.step.ensures.honest
-
-pub returns-in-Loading-clause-still : goal.returns-in-Loading-clause-still
-unfolding fstat_of
-returns-in-Loading-clause-still g c =
-    nested_still file_of loaded_as fstat_of (λ reply. reply) (stat_on c.in-Loading.fd) c.in-Loading.load c.args.self c.step.result _ c.args.core.now c.step.new.core (ap fstat_of c.in-Loading.is) c.loading.ensures.follows c.step.ensures.still
-
-pub returns-in-Loading-clause-fits : goal.returns-in-Loading-clause-fits
-returns-in-Loading-clause-fits g c = c.loading.ensures.fits c.args.hart (state_of g.D.Device.contents g.D.Device.failures c.step.new.core) c.step.ensures.fits
+returns-in-Ends g c =
+    let d = g.D.Device in
+    let fd = c.in-Loading.fd in
+    let s = state_of d.contents d.failures c.step.new.core in
+    let done = done_so c.step.result c.in-Ends.loaded c.in-Ends.kind c.put_back.result c.put_back.ensures.came c.in-Ends.is in
+    let had = subst (λ x. Left (FileFits c.args.hart s) (λ came. IfLoaded came (λ file guard. IsLoaded c.args.hart file.number guard s)) x) done c.step.ensures.fits in
+    record {
+      steps = ends_so d.contents d.failures d.Called file_of loaded_as fstat_of (λ reply. reply) (stat_on fd) FstatFits (λ _. Unit {0}) fstat.Gone c.args.hart c.take-load.result c.args.self.now c.loaded.new.self c.step.result
+          c.in-Ends.loaded c.in-Ends.kind c.loaded.result c.args.core.now c.step.new.core (ap fstat_of (c.in-Loading.is ∙ ap (λ place. fstat.Loading fd place) c.take-load.ensures.was)) done
+          (stat_goes fd c.in-Ends.loaded c.in-Ends.kind _ c.loaded.ensures.came) (stat_fits c.args.hart s fd c.in-Ends.loaded c.in-Ends.kind _ c.loaded.ensures.came had) c.loaded.ensures.ended
+          c.step.ensures.moves c.step.ensures.honest c.step.ensures.still c.step.ensures.others c.step.ensures.called;
+    }

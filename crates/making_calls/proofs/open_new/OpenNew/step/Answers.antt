@@ -1,214 +1,360 @@
-use Rattle.std.proofs.Common.{◌≡◌, ◌∙◌, ap, subst}
+use Rattle.std.proofs.Common.{◌≡◌, ◌≢◌, ◌∙◌, ℕ, List, [], Option, ap, refl, subst, sym}
 use Rattle.std.specs.Prelude.{slice_range}
-use Rattle.atomic_programs.specs.Machines.{Left, Still}
-use Rattle.fs_machine.specs.Steps.{State, state_of}
-use Rattle.fs_machine.specs.Machines.{Answers, Moves}
+use Rattle.atomic_programs.specs.Prog.{bind}
+use Rattle.fs_machine.specs.LogPart.{Passes}
+use Rattle.fs_machine.specs.Places.{StepsAt}
+use Rattle.fs_machine.specs.Premises.{Honest}
+use Rattle.fs_machine.specs.Steps.{State, Join, Number, Up, state_of}
+use Rattle.fs_machine.specs.Tied.{IsOwnInode}
 use Rattle.path_walk.specs.Elements.{name_in, IsElement}
+use Rattle.call_parts.specs.Taking.{inode_in, IsHeld, TakeFits}
+use Rattle.call_parts.specs.Ends.{GiveApart, GiveFits}
+use Rattle.call_parts.specs.Seeking.{seek, seek_of, seen_as, IsSeen, SeekFits}
+use Rattle.call_parts.specs.declared.give.GiveUp.{GiveUp}
+use Rattle.call_parts.specs.declared.seek.Dots.TheVariants as dots
+use Rattle.call_parts.specs.declared.seek.Seek.TheVariants as seeking
+use Rattle.call_parts.specs.declared.take.Held.{Held}
+use Rattle.call_parts.proofs.Inside.{gone_so, inside_done, inside_ran, inside_stopped, inside_waits}
 use Rattle.making_calls.specs.Opening.{open_at}
-use Rattle.call_parts.specs.Taking.{inode_in, take_of, IsHeld, TakeFits}
-use Rattle.call_parts.specs.Ends.{give_of, GiveApart, GiveFits}
-use Rattle.call_parts.specs.Seeking.{seek_of, seen_as, IsSeen, SeekFits}
-use Rattle.making_calls.specs.Making.{make_of, named_as, MakeFits}
-use Rattle.making_calls.specs.Creating.{open_made, open_named, open_new_of, open_seen, open_taken, IsCreating, OpenNewFits}
-use Rattle.call_parts.specs.Spent.{reply_in}
-use Rattle.call_parts.proofs.Nesting.{nested_moves, nested_honest, nested_still, left_zip}
-use Rattle.call_parts.specs.Onwards.{onward_of}
-use Rattle.call_parts.specs.declared.onward.Onward.TheVariants as onward
+use Rattle.making_calls.specs.Opens.{open_old_of, OpenOldFits}
+use Rattle.making_calls.specs.Making.{make_of, named_as, IsNamed, MakeFits}
+use Rattle.making_calls.specs.Creating.{open_made, open_named, open_new_of, open_seen, open_taken, open_up, IsCreating, OpenNewFits}
+use Rattle.making_calls.specs.declared.install.Opening.{Opening}
+use Rattle.making_calls.specs.declared.make.Make.TheVariants as making
+use Rattle.making_calls.specs.declared.open_new.OpenNew.TheVariants as opening
+use Rattle.making_calls.proofs.Operating.{operated}
 use Rattle.making_calls.proofs.open_new.OpenNew.step.Goals as goal
 
-pub returns-in-Seeking-clause-moves : goal.returns-in-Seeking-clause-moves
-unfolding open_new_of
-returns-in-Seeking-clause-moves g c =
-    let old = state_of g.D.Device.contents g.D.Device.failures c.args.core.now in
-    let new = state_of g.D.Device.contents g.D.Device.failures c.step-stepped.new.core in
-    let o = c.in-Seeking.o in
-    nested_moves (seek_of o.path) (seen_as o.path) (onward_of open_new_of) reply_in (open_seen o.sizes o.path o.flags) c.args.hart c.in-Seeking.seek (onward.Runs c.args.self) c.step-stepped.result _ old new (ap open_new_of c.in-Seeking.is) c.seeking.ensures.follows
-    (subst (λ p. Moves (seek_of p) (seen_as p) c.args.hart c.in-Seeking.seek c.step-stepped.result old new) c.as_slice.ensures c.step-stepped.ensures.moves)
+-- ---- what each has that is changed
 
-pub returns-in-Seeking-clause-honest : goal.returns-in-Seeking-clause-honest
-unfolding open_new_of
-returns-in-Seeking-clause-honest g c =
-    let old = state_of g.D.Device.contents g.D.Device.failures c.args.core.now in
-    let new = state_of g.D.Device.contents g.D.Device.failures c.step-stepped.new.core in
-    let o = c.in-Seeking.o in
-    nested_honest (seek_of o.path) (seen_as o.path) (onward_of open_new_of) reply_in (open_seen o.sizes o.path o.flags) c.args.hart c.in-Seeking.seek (onward.Runs c.args.self) c.step-stepped.result _ old new (ap open_new_of c.in-Seeking.is) c.seeking.ensures.follows
-    (subst (λ p. Moves (seek_of p) (seen_as p) c.args.hart c.in-Seeking.seek c.step-stepped.result old new) c.as_slice.ensures c.step-stepped.ensures.moves)
-    (subst (λ p. Answers (seek_of p) c.args.hart c.in-Seeking.seek c.step-stepped.result old new) c.as_slice.ensures c.step-stepped.ensures.honest)
+pub joining-opening-requires : goal.joining-opening-requires
+joining-opening-requires g c =
+    ((c.in-Join.field-0, c.in-Join.field-1), c.in-Join.is)
 
-pub returns-in-Seeking-clause-still : goal.returns-in-Seeking-clause-still
-unfolding open_new_of
-returns-in-Seeking-clause-still g c =
-    let o = c.in-Seeking.o in
-    nested_still (seek_of o.path) (seen_as o.path) (onward_of open_new_of) reply_in (open_seen o.sizes o.path o.flags) c.in-Seeking.seek (onward.Runs c.args.self) c.step-stepped.result _ c.args.core.now c.step-stepped.new.core (ap open_new_of c.in-Seeking.is) c.seeking.ensures.follows
-    (subst (λ p. Still (seek_of p) c.step-stepped.result c.in-Seeking.seek c.args.core.now c.step-stepped.new.core) c.as_slice.ensures c.step-stepped.ensures.still)
+pub sought-opening-requires : goal.sought-opening-requires
+sought-opening-requires g c =
+    let at = c.in-Seeking in
+    ((at.opening, at.field-1), ap (λ m. opening.Seeking at.opening at.field-1 m) (gone_so c.step.ensures.steps c.in-Done.seen c.in-Done.kind c.in-Done.is))
 
-pub returns-in-Seeking-clause-fits : goal.returns-in-Seeking-clause-fits
-unfolding OpenNewFits
-returns-in-Seeking-clause-fits g c =
+pub taking_up-opening-requires : goal.taking_up-opening-requires
+taking_up-opening-requires g c =
+    let at = c.in-Up in
+    ((at.field-0, at.field-1, at.field-2, at.field-3, at.number), refl)
+
+pub left-opening-requires : goal.left-opening-requires
+left-opening-requires g c =
+    let at = c.in-Leaving in
+    ((at.field-0, c.step-in-Leaving.new.txn, at.field-2, at.field-3), ap (λ m. opening.Leaving at.field-0 c.step-in-Leaving.new.txn at.field-2 at.field-3 m) (gone_so c.step-in-Leaving.ensures.steps c.in-Done-step.field-0 c.in-Done-step.kind c.in-Done-step.is))
+
+pub taken-opening-requires : goal.taken-opening-requires
+taken-opening-requires g c =
+    let at = c.in-Taking in
+    ((at.field-0, at.field-1, at.field-2), ap (λ m. opening.Taking at.field-0 at.field-1 at.field-2 m) (gone_so c.step-in-Taking.ensures.steps c.in-Done-step-2.held c.in-Done-step-2.kind c.in-Done-step-2.is))
+
+pub made-opening-requires : goal.made-opening-requires
+made-opening-requires g c =
+    let at = c.in-Making in
+    ((at.opening, c.step-in-Making.new.txn, at.field-2, at.element), ap (λ m. opening.Making at.opening c.step-in-Making.new.txn at.field-2 at.element m) (gone_so c.step-in-Making.ensures.steps c.in-Done-step-3.named c.in-Done-step-3.kind c.in-Done-step-3.is))
+
+pub left_made-opening-requires : goal.left_made-opening-requires
+left_made-opening-requires g c =
+    let at = c.in-Made in
+    ((at.field-0, c.step-in-Made.new.txn, at.field-2, at.field-3), ap (λ m. opening.Made at.field-0 c.step-in-Made.new.txn at.field-2 at.field-3 m) (gone_so c.step-in-Made.ensures.steps c.in-Done-step-4.field-0 c.in-Done-step-4.kind c.in-Done-step-4.is))
+
+-- ---- a transaction, and the last name
+
+pub returns-in-Some : goal.returns-in-Some
+unfolding open_new_of OpenNewFits Honest
+returns-in-Some g c =
     let h = c.args.hart in
-    let o = c.in-Seeking.o in
     let old : State = state_of g.D.Device.contents g.D.Device.failures c.args.core.now in
-    let new : State = state_of g.D.Device.contents g.D.Device.failures c.step-stepped.new.core in
-    let had : IsCreating o × (c.in-Seeking.txn ≡ h) × SeekFits o.path h old c.in-Seeking.seek = subst (λ m. OpenNewFits h old m) c.in-Seeking.is c.requires.fits in
-    c.seeking.ensures.fits h new had.1 (subst (λ p. Left (SeekFits p h new) (IsSeen p h new) c.step-stepped.result) c.as_slice.ensures c.step-stepped.ensures.fits)
+    let new : State = state_of g.D.Device.contents g.D.Device.failures c.join.new.self in
+    let o = c.joining-opening.result.0 in
+    let was = c.joining-opening.ensures.was in
+    record {
+      steps =
+          operated Join tt (λ _. bind (seek dots.LookedUp o.sizes.inodestart o.path []) (open_seen o.sizes o.path o.flags))
+          (ap open_new_of was) (c.in-Some.ensures.ran Passes) (ap open_new_of c.put.ensures ∙ c.joined.ensures.program) tt
+          (subst (λ m. OpenNewFits h new m) (sym c.put.ensures) (c.joined.ensures.fits h new c.in-Some.ensures.txn))
+          c.join.ensures.others c.join.ensures.device;
+    }
 
-pub returns-in-Up-clause-fits : goal.returns-in-Up-clause-fits
-unfolding OpenNewFits
-returns-in-Up-clause-fits g c =
+pub returns-in-Done : goal.returns-in-Done
+unfolding open_new_of OpenNewFits
+returns-in-Done g c =
     let h = c.args.hart in
-    let o = c.in-Up.o in
-    let held = c.in-Up.held in
+    let at = c.in-Seeking in
+    let st = c.step in
     let old : State = state_of g.D.Device.contents g.D.Device.failures c.args.core.now in
-    let new : State = state_of g.D.Device.contents g.D.Device.failures c.up-there.new.self in
-    let had : IsCreating o × (c.in-Up.txn ≡ h) × IsHeld h held old = subst (λ m. OpenNewFits h old m) c.in-Up.is c.requires.fits in
-    c.up.ensures.fits h new had.1 (record { own = c.up-there.ensures.rest held.reference held.inode had.2.own; there = had.2.there })
+    let new : State = state_of g.D.Device.contents g.D.Device.failures st.new.core in
+    let o = at.opening in
+    let had : IsCreating o × (at.field-1 ≡ h) × SeekFits o.path h old at.seek = subst (λ m. OpenNewFits h old m) at.is c.requires.fits in
+    let was = c.sought-opening.ensures.was in
+    let same : c.sought-opening.result.0 ≡ o = cc in
+    let txn : c.sought-opening.result.1 ≡ at.field-1 = cc in
+    let r = c.in-Done.seen in
+    record {
+      steps =
+          inside_done (subst (λ p. StepsAt g.D.Device.contents g.D.Device.failures g.D.Device.Called (seek_of p) (seen_as p) (SeekFits p) (IsSeen p h new) seeking.Gone h at.seek st.new.self st.result c.args.core.now st.new.core) c.as_slice.ensures st.ensures.steps)
+          (open_seen o.sizes o.path o.flags) (ap open_new_of at.is) r c.in-Done.kind c.in-Done.is
+          (ap open_new_of c.put-in-Done.ensures ∙ c.sees.ensures.program ∙ ap (λ (x : Opening). open_seen x.sizes x.path x.flags (seen_as x.path r)) same)
+          (λ known. subst (λ m. OpenNewFits h new m) (sym c.put-in-Done.ensures) (c.sees.ensures.fits h new (txn ∙ had.1) (subst (λ (x : Opening). IsSeen x.path h new r) (sym same) known)));
+    }
 
-pub returns-in-Leaving-clause-moves : goal.returns-in-Leaving-clause-moves
-unfolding open_new_of
-returns-in-Leaving-clause-moves g c =
-    let old = state_of g.D.Device.contents g.D.Device.failures c.args.core.now in
-    let new = state_of g.D.Device.contents g.D.Device.failures c.step-stepped-in-Leaving.new.core in
-    let o = c.in-Leaving.o in
-    nested_moves give_of (λ x. x) (onward_of open_new_of) reply_in (λ _. open_taken o.sizes o.path o.flags c.in-Leaving.reference c.in-Leaving.list) c.args.hart c.in-Leaving.give (onward.Runs c.args.self) c.step-stepped-in-Leaving.result _ old new (ap open_new_of c.in-Leaving.is) c.leaving.ensures.follows
-    c.step-stepped-in-Leaving.ensures.moves
+-- ---- what is there
 
-pub returns-in-Leaving-clause-honest : goal.returns-in-Leaving-clause-honest
-unfolding open_new_of
-returns-in-Leaving-clause-honest g c =
-    let old = state_of g.D.Device.contents g.D.Device.failures c.args.core.now in
-    let new = state_of g.D.Device.contents g.D.Device.failures c.step-stepped-in-Leaving.new.core in
-    let o = c.in-Leaving.o in
-    nested_honest give_of (λ x. x) (onward_of open_new_of) reply_in (λ _. open_taken o.sizes o.path o.flags c.in-Leaving.reference c.in-Leaving.list) c.args.hart c.in-Leaving.give (onward.Runs c.args.self) c.step-stepped-in-Leaving.result _ old new (ap open_new_of c.in-Leaving.is) c.leaving.ensures.follows
-    c.step-stepped-in-Leaving.ensures.moves
-    c.step-stepped-in-Leaving.ensures.honest
-
-pub returns-in-Leaving-clause-still : goal.returns-in-Leaving-clause-still
-unfolding open_new_of
-returns-in-Leaving-clause-still g c =
-    let o = c.in-Leaving.o in
-    nested_still give_of (λ x. x) (onward_of open_new_of) reply_in (λ _. open_taken o.sizes o.path o.flags c.in-Leaving.reference c.in-Leaving.list) c.in-Leaving.give (onward.Runs c.args.self) c.step-stepped-in-Leaving.result _ c.args.core.now c.step-stepped-in-Leaving.new.core (ap open_new_of c.in-Leaving.is) c.leaving.ensures.follows
-    c.step-stepped-in-Leaving.ensures.still
-
-pub returns-in-Leaving-clause-fits : goal.returns-in-Leaving-clause-fits
-unfolding OpenNewFits
-returns-in-Leaving-clause-fits g c =
+pub returns-in-Up : goal.returns-in-Up
+unfolding open_new_of OpenNewFits Honest
+returns-in-Up g c =
     let h = c.args.hart in
-    let o = c.in-Leaving.o in
+    let took = c.up-there in
     let old : State = state_of g.D.Device.contents g.D.Device.failures c.args.core.now in
-    let new : State = state_of g.D.Device.contents g.D.Device.failures c.step-stepped-in-Leaving.new.core in
-    let had : IsCreating o × (c.in-Leaving.txn ≡ h) × GiveFits h old c.in-Leaving.give = subst (λ m. OpenNewFits h old m) c.in-Leaving.is c.requires.fits in
-    c.leaving.ensures.fits h new (c.step-stepped-in-Leaving.ensures.kept ∙ had.1) c.step-stepped-in-Leaving.ensures.fits
+    let new : State = state_of g.D.Device.contents g.D.Device.failures took.new.self in
+    let at = c.in-Up in
+    let r = c.taking_up-opening.result in
+    let o = r.0 in
+    let is = c.taking_up-opening.ensures.was in
+    let was = at.is ∙ is in
+    let number : at.number ≡ r.4 = cc in
+    let had : IsCreating o × (r.1 ≡ h) × IsHeld h r.3 old = subst (λ m. OpenNewFits h old m) was c.requires.fits in
+    record {
+      steps =
+          operated (Up (Number at.number)) took.result (open_up o.sizes o.path o.flags (inode_in r.3) at.number r.2)
+          (ap open_new_of (was ∙ ap (λ (n : ℕ). opening.Up o r.1 r.2 r.3 n) (sym number))) (took.ensures.ran Passes)
+          (ap open_new_of c.put-in-Up.ensures ∙ c.up.ensures.program at.number took.ensures.number) tt
+          (subst (λ m. OpenNewFits h new m) (sym c.put-in-Up.ensures) (c.up.ensures.fits h new had.1 (record { own = took.ensures.rest r.3.reference r.3.inode had.2.own; there = had.2.there })))
+          took.ensures.others (ap (λ l. l.cache.device) took.ensures.log);
+    }
 
-pub returns-in-Taking-clause-moves : goal.returns-in-Taking-clause-moves
-unfolding open_new_of
-returns-in-Taking-clause-moves g c =
-    let old = state_of g.D.Device.contents g.D.Device.failures c.args.core.now in
-    let new = state_of g.D.Device.contents g.D.Device.failures c.step.new.core in
-    let o = c.in-Taking.o in
-    nested_moves take_of inode_in (onward_of open_new_of) reply_in (λ w. open_at o.sizes o.path o.flags w c.in-Taking.list) c.args.hart c.in-Taking.take (onward.Runs c.args.self) c.step.result _ old new (ap open_new_of c.in-Taking.is) c.taking.ensures.follows
-    c.step.ensures.moves
-
-pub returns-in-Taking-clause-honest : goal.returns-in-Taking-clause-honest
-unfolding open_new_of
-returns-in-Taking-clause-honest g c =
-    let old = state_of g.D.Device.contents g.D.Device.failures c.args.core.now in
-    let new = state_of g.D.Device.contents g.D.Device.failures c.step.new.core in
-    let o = c.in-Taking.o in
-    nested_honest take_of inode_in (onward_of open_new_of) reply_in (λ w. open_at o.sizes o.path o.flags w c.in-Taking.list) c.args.hart c.in-Taking.take (onward.Runs c.args.self) c.step.result _ old new (ap open_new_of c.in-Taking.is) c.taking.ensures.follows
-    c.step.ensures.moves
-    c.step.ensures.honest
-
-pub returns-in-Taking-clause-still : goal.returns-in-Taking-clause-still
-unfolding open_new_of
-returns-in-Taking-clause-still g c =
-    let o = c.in-Taking.o in
-    nested_still take_of inode_in (onward_of open_new_of) reply_in (λ w. open_at o.sizes o.path o.flags w c.in-Taking.list) c.in-Taking.take (onward.Runs c.args.self) c.step.result _ c.args.core.now c.step.new.core (ap open_new_of c.in-Taking.is) c.taking.ensures.follows
-    c.step.ensures.still
-
-pub returns-in-Taking-clause-fits : goal.returns-in-Taking-clause-fits
-unfolding OpenNewFits
-returns-in-Taking-clause-fits g c =
+pub returns-in-Done-step : goal.returns-in-Done-step
+unfolding open_new_of OpenNewFits
+returns-in-Done-step g c =
     let h = c.args.hart in
-    let o = c.in-Taking.o in
+    let at = c.in-Leaving in
+    let st = c.step-in-Leaving in
     let old : State = state_of g.D.Device.contents g.D.Device.failures c.args.core.now in
-    let new : State = state_of g.D.Device.contents g.D.Device.failures c.step.new.core in
-    let had : IsCreating o × (c.in-Taking.txn ≡ h) × TakeFits h old c.in-Taking.take = subst (λ m. OpenNewFits h old m) c.in-Taking.is c.requires.fits in
-    c.taking.ensures.fits h new had.1 c.step.ensures.fits
+    let new : State = state_of g.D.Device.contents g.D.Device.failures st.new.core in
+    let o = at.field-0 in
+    let had : IsCreating o × (at.txn ≡ h) × GiveFits h old at.give = subst (λ m. OpenNewFits h old m) at.is c.requires.fits in
+    let r = c.left-opening.result in
+    let was = c.left-opening.ensures.was in
+    let same : r.0 ≡ o = cc in
+    let txn : r.1 ≡ st.new.txn = cc in
+    let same_list : r.2 ≡ at.field-2 = cc in
+    let same_number : r.3 ≡ at.field-3 = cc in
+    let put = c.put-in-Done-step in
+    record {
+      steps =
+          inside_done st.ensures.steps (λ _. open_taken o.sizes o.path o.flags at.field-3 at.field-2) (ap open_new_of at.is) c.in-Done-step.field-0 c.in-Done-step.kind c.in-Done-step.is
+          (ap open_new_of put.ensures ∙ c.take.ensures.program
+          ∙ ap (λ (x : Opening). open_taken x.sizes x.path x.flags r.3 r.2) same
+          ∙ ap (λ (n : ℕ). open_taken o.sizes o.path o.flags n r.2) same_number
+          ∙ ap (λ (ns : List ℕ). open_taken o.sizes o.path o.flags at.field-3 ns) same_list)
+          (λ known. subst (λ m. OpenNewFits h new m) (sym put.ensures) (c.take.ensures.fits h new (txn ∙ st.ensures.kept ∙ had.1)));
+    }
 
-pub returns-in-Making-clause-moves : goal.returns-in-Making-clause-moves
-unfolding open_new_of
-returns-in-Making-clause-moves g c =
-    let old = state_of g.D.Device.contents g.D.Device.failures c.args.core.now in
-    let new = state_of g.D.Device.contents g.D.Device.failures c.step-stepped-in-Making.new.core in
-    let o = c.in-Making.o in
-    let e = c.in-Making.element in
-    nested_moves (make_of (name_in o.path e)) named_as (onward_of open_new_of) reply_in (open_named o.sizes o.path o.flags c.in-Making.list) c.args.hart c.in-Making.make (onward.Runs c.args.self) c.step-stepped-in-Making.result _ old new (ap open_new_of c.in-Making.is) c.making.ensures.follows
-    (subst (λ p. Moves (make_of (slice_range p e.start e.end)) named_as c.args.hart c.in-Making.make c.step-stepped-in-Making.result old new) c.as_slice-in-Making.ensures c.step-stepped-in-Making.ensures.moves)
-
-pub returns-in-Making-clause-honest : goal.returns-in-Making-clause-honest
-unfolding open_new_of
-returns-in-Making-clause-honest g c =
-    let old = state_of g.D.Device.contents g.D.Device.failures c.args.core.now in
-    let new = state_of g.D.Device.contents g.D.Device.failures c.step-stepped-in-Making.new.core in
-    let o = c.in-Making.o in
-    let e = c.in-Making.element in
-    nested_honest (make_of (name_in o.path e)) named_as (onward_of open_new_of) reply_in (open_named o.sizes o.path o.flags c.in-Making.list) c.args.hart c.in-Making.make (onward.Runs c.args.self) c.step-stepped-in-Making.result _ old new (ap open_new_of c.in-Making.is) c.making.ensures.follows
-    (subst (λ p. Moves (make_of (slice_range p e.start e.end)) named_as c.args.hart c.in-Making.make c.step-stepped-in-Making.result old new) c.as_slice-in-Making.ensures c.step-stepped-in-Making.ensures.moves)
-    (subst (λ p. Answers (make_of (slice_range p e.start e.end)) c.args.hart c.in-Making.make c.step-stepped-in-Making.result old new) c.as_slice-in-Making.ensures c.step-stepped-in-Making.ensures.honest)
-
-pub returns-in-Making-clause-still : goal.returns-in-Making-clause-still
-unfolding open_new_of
-returns-in-Making-clause-still g c =
-    let o = c.in-Making.o in
-    let e = c.in-Making.element in
-    nested_still (make_of (name_in o.path e)) named_as (onward_of open_new_of) reply_in (open_named o.sizes o.path o.flags c.in-Making.list) c.in-Making.make (onward.Runs c.args.self) c.step-stepped-in-Making.result _ c.args.core.now c.step-stepped-in-Making.new.core (ap open_new_of c.in-Making.is) c.making.ensures.follows
-    (subst (λ p. Still (make_of (slice_range p e.start e.end)) c.step-stepped-in-Making.result c.in-Making.make c.args.core.now c.step-stepped-in-Making.new.core) c.as_slice-in-Making.ensures c.step-stepped-in-Making.ensures.still)
-
-pub returns-in-Making-clause-fits : goal.returns-in-Making-clause-fits
-unfolding OpenNewFits
-returns-in-Making-clause-fits g c =
+pub returns-in-Done-step-2 : goal.returns-in-Done-step-2
+unfolding open_new_of OpenNewFits
+returns-in-Done-step-2 g c =
     let h = c.args.hart in
-    let o = c.in-Making.o in
+    let at = c.in-Taking in
+    let st = c.step-in-Taking in
     let old : State = state_of g.D.Device.contents g.D.Device.failures c.args.core.now in
-    let new : State = state_of g.D.Device.contents g.D.Device.failures c.step-stepped-in-Making.new.core in
-    let had : IsCreating o × (c.in-Making.txn ≡ h) × IsElement o.path c.in-Making.element × MakeFits h old c.in-Making.make = subst (λ m. OpenNewFits h old m) c.in-Making.is c.requires.fits in
-    c.making.ensures.fits h new (c.step-stepped-in-Making.ensures.kept ∙ had.1) had.2 c.step-stepped-in-Making.ensures.fits
+    let new : State = state_of g.D.Device.contents g.D.Device.failures st.new.core in
+    let o = at.field-0 in
+    let had : IsCreating o × (at.field-1 ≡ h) × TakeFits h old at.take = subst (λ m. OpenNewFits h old m) at.is c.requires.fits in
+    let r = c.taken-opening.result in
+    let was = c.taken-opening.ensures.was in
+    let same : r.0 ≡ o = cc in
+    let txn : r.1 ≡ at.field-1 = cc in
+    let same_list : r.2 ≡ at.field-2 = cc in
+    let put = c.put-in-Done-step-2 in
+    let held = c.in-Done-step-2.held in
+    let goes : open_old_of c.at.result ≡ open_at o.sizes o.path o.flags (inode_in held) at.field-2 =
+    c.at.ensures.program ∙ ap (λ (x : Opening). open_at x.sizes x.path x.flags (inode_in held) r.2) same ∙ ap (λ (ns : List ℕ). open_at o.sizes o.path o.flags (inode_in held) ns) same_list in
+    let fits : IsHeld h held new → OpenOldFits h new c.at.result = λ known. c.at.ensures.fits h new (txn ∙ had.1) known in
+    record {
+      steps =
+          inside_done st.ensures.steps (λ w. open_at o.sizes o.path o.flags w at.field-2) (ap open_new_of at.is) held c.in-Done-step-2.kind c.in-Done-step-2.is
+          (ap open_new_of put.ensures ∙ goes)
+          (λ known. subst (λ m. OpenNewFits h new m) (sym put.ensures) (fits known));
+    }
 
-pub returns-in-Made-clause-moves : goal.returns-in-Made-clause-moves
-unfolding open_new_of
-returns-in-Made-clause-moves g c =
-    let old = state_of g.D.Device.contents g.D.Device.failures c.args.core.now in
-    let new = state_of g.D.Device.contents g.D.Device.failures c.step-stepped-in-Made.new.core in
-    let o = c.in-Made.o in
-    nested_moves give_of (λ x. x) (onward_of open_new_of) reply_in (λ _. open_made o.sizes o.path o.flags (inode_in c.in-Made.held) c.in-Made.list) c.args.hart c.in-Made.give (onward.Runs c.args.self) c.step-stepped-in-Made.result _ old new (ap open_new_of c.in-Made.is) c.made.ensures.follows
-    c.step-stepped-in-Made.ensures.moves
+-- ---- a new file
 
-pub returns-in-Made-clause-honest : goal.returns-in-Made-clause-honest
-unfolding open_new_of
-returns-in-Made-clause-honest g c =
-    let old = state_of g.D.Device.contents g.D.Device.failures c.args.core.now in
-    let new = state_of g.D.Device.contents g.D.Device.failures c.step-stepped-in-Made.new.core in
-    let o = c.in-Made.o in
-    nested_honest give_of (λ x. x) (onward_of open_new_of) reply_in (λ _. open_made o.sizes o.path o.flags (inode_in c.in-Made.held) c.in-Made.list) c.args.hart c.in-Made.give (onward.Runs c.args.self) c.step-stepped-in-Made.result _ old new (ap open_new_of c.in-Made.is) c.made.ensures.follows
-    c.step-stepped-in-Made.ensures.moves
-    c.step-stepped-in-Made.ensures.honest
-
-pub returns-in-Made-clause-still : goal.returns-in-Made-clause-still
-unfolding open_new_of
-returns-in-Made-clause-still g c =
-    let o = c.in-Made.o in
-    nested_still give_of (λ x. x) (onward_of open_new_of) reply_in (λ _. open_made o.sizes o.path o.flags (inode_in c.in-Made.held) c.in-Made.list) c.in-Made.give (onward.Runs c.args.self) c.step-stepped-in-Made.result _ c.args.core.now c.step-stepped-in-Made.new.core (ap open_new_of c.in-Made.is) c.made.ensures.follows
-    c.step-stepped-in-Made.ensures.still
-
-pub returns-in-Made-clause-fits : goal.returns-in-Made-clause-fits
-unfolding OpenNewFits
-returns-in-Made-clause-fits g c =
+pub returns-in-Waits-step-3 : goal.returns-in-Waits-step-3
+unfolding open_new_of OpenNewFits
+returns-in-Waits-step-3 g c =
     let h = c.args.hart in
-    let o = c.in-Made.o in
+    let at = c.in-Making in
+    let st = c.step-in-Making in
     let old : State = state_of g.D.Device.contents g.D.Device.failures c.args.core.now in
-    let new : State = state_of g.D.Device.contents g.D.Device.failures c.step-stepped-in-Made.new.core in
-    let had : IsCreating o × (c.in-Made.txn ≡ h) × IsHeld h c.in-Made.held old × GiveFits h old c.in-Made.give × GiveApart c.in-Made.held.reference c.in-Made.give = subst (λ m. OpenNewFits h old m) c.in-Made.is c.requires.fits in
-    let held = c.in-Made.held in
-    let rest = c.step-stepped-in-Made.ensures.rest held.reference held.inode had.2.own had.4 in
-    c.made.ensures.fits h new (c.step-stepped-in-Made.ensures.kept ∙ had.1) (record { own = rest.0; there = had.2.there })
-    (left_zip (GiveFits h new) (GiveApart held.reference) (λ t. GiveFits h new t × GiveApart held.reference t) (λ _. Unit {0}) (λ _. Unit {0}) (λ _. Unit {0}) (λ t f a. (f, a)) (λ r f a. tt) c.step-stepped-in-Made.result c.step-stepped-in-Made.ensures.fits rest.1)
+    let new : State = state_of g.D.Device.contents g.D.Device.failures st.new.core in
+    let o = at.opening in
+    let e = at.element in
+    let had : IsCreating o × (at.txn ≡ h) × IsElement o.path e × MakeFits h old at.make = subst (λ m. OpenNewFits h old m) at.is c.requires.fits in
+    let inner : StepsAt g.D.Device.contents g.D.Device.failures g.D.Device.Called (make_of (name_in o.path e)) named_as MakeFits (IsNamed h new) making.Gone h at.make st.new.self st.result c.args.core.now st.new.core =
+    subst (λ p. StepsAt g.D.Device.contents g.D.Device.failures g.D.Device.Called (make_of (slice_range p e.start e.end)) named_as MakeFits (IsNamed h new) making.Gone h at.make st.new.self st.result c.args.core.now st.new.core) c.as_slice-in-Making.ensures st.ensures.steps in
+    record {
+      steps =
+          inside_waits inner (open_named o.sizes o.path o.flags at.field-2) (ap open_new_of at.is) c.in-Waits-step-3.is refl
+          (λ fits. (had.0, st.ensures.kept ∙ had.1, had.2, fits));
+    }
+
+pub returns-in-Ran-step-3 : goal.returns-in-Ran-step-3
+unfolding open_new_of OpenNewFits
+returns-in-Ran-step-3 g c =
+    let h = c.args.hart in
+    let at = c.in-Making in
+    let st = c.step-in-Making in
+    let old : State = state_of g.D.Device.contents g.D.Device.failures c.args.core.now in
+    let new : State = state_of g.D.Device.contents g.D.Device.failures st.new.core in
+    let o = at.opening in
+    let e = at.element in
+    let had : IsCreating o × (at.txn ≡ h) × IsElement o.path e × MakeFits h old at.make = subst (λ m. OpenNewFits h old m) at.is c.requires.fits in
+    let inner : StepsAt g.D.Device.contents g.D.Device.failures g.D.Device.Called (make_of (name_in o.path e)) named_as MakeFits (IsNamed h new) making.Gone h at.make st.new.self st.result c.args.core.now st.new.core =
+    subst (λ p. StepsAt g.D.Device.contents g.D.Device.failures g.D.Device.Called (make_of (slice_range p e.start e.end)) named_as MakeFits (IsNamed h new) making.Gone h at.make st.new.self st.result c.args.core.now st.new.core) c.as_slice-in-Making.ensures st.ensures.steps in
+    record {
+      steps =
+          inside_ran inner (open_named o.sizes o.path o.flags at.field-2) (ap open_new_of at.is) c.in-Ran-step-3.kind c.in-Ran-step-3.is refl
+          (λ fits. (had.0, st.ensures.kept ∙ had.1, had.2, fits));
+    }
+
+pub returns-in-Stopped-step-3 : goal.returns-in-Stopped-step-3
+unfolding open_new_of OpenNewFits
+returns-in-Stopped-step-3 g c =
+    let h = c.args.hart in
+    let at = c.in-Making in
+    let st = c.step-in-Making in
+    let old : State = state_of g.D.Device.contents g.D.Device.failures c.args.core.now in
+    let new : State = state_of g.D.Device.contents g.D.Device.failures st.new.core in
+    let o = at.opening in
+    let e = at.element in
+    let had : IsCreating o × (at.txn ≡ h) × IsElement o.path e × MakeFits h old at.make = subst (λ m. OpenNewFits h old m) at.is c.requires.fits in
+    let inner : StepsAt g.D.Device.contents g.D.Device.failures g.D.Device.Called (make_of (name_in o.path e)) named_as MakeFits (IsNamed h new) making.Gone h at.make st.new.self st.result c.args.core.now st.new.core =
+    subst (λ p. StepsAt g.D.Device.contents g.D.Device.failures g.D.Device.Called (make_of (slice_range p e.start e.end)) named_as MakeFits (IsNamed h new) making.Gone h at.make st.new.self st.result c.args.core.now st.new.core) c.as_slice-in-Making.ensures st.ensures.steps in
+    record {
+      steps =
+          inside_stopped inner (open_named o.sizes o.path o.flags at.field-2) (ap open_new_of at.is) c.in-Stopped-step-3.is refl
+          (λ fits. (had.0, st.ensures.kept ∙ had.1, had.2, fits));
+    }
+
+pub returns-in-Done-step-3 : goal.returns-in-Done-step-3
+unfolding open_new_of OpenNewFits
+returns-in-Done-step-3 g c =
+    let h = c.args.hart in
+    let at = c.in-Making in
+    let st = c.step-in-Making in
+    let old : State = state_of g.D.Device.contents g.D.Device.failures c.args.core.now in
+    let new : State = state_of g.D.Device.contents g.D.Device.failures st.new.core in
+    let o = at.opening in
+    let e = at.element in
+    let had : IsCreating o × (at.txn ≡ h) × IsElement o.path e × MakeFits h old at.make = subst (λ m. OpenNewFits h old m) at.is c.requires.fits in
+    let inner : StepsAt g.D.Device.contents g.D.Device.failures g.D.Device.Called (make_of (name_in o.path e)) named_as MakeFits (IsNamed h new) making.Gone h at.make st.new.self st.result c.args.core.now st.new.core =
+    subst (λ p. StepsAt g.D.Device.contents g.D.Device.failures g.D.Device.Called (make_of (slice_range p e.start e.end)) named_as MakeFits (IsNamed h new) making.Gone h at.make st.new.self st.result c.args.core.now st.new.core) c.as_slice-in-Making.ensures st.ensures.steps in
+    let r = c.made-opening.result in
+    let was = c.made-opening.ensures.was in
+    let same : r.0 ≡ o = cc in
+    let txn : r.1 ≡ st.new.txn = cc in
+    let same_list : r.2 ≡ at.field-2 = cc in
+    let put = c.put-in-Done-step-3 in
+    let named = c.in-Done-step-3.named in
+    record {
+      steps =
+          inside_done inner (open_named o.sizes o.path o.flags at.field-2) (ap open_new_of at.is) named c.in-Done-step-3.kind c.in-Done-step-3.is
+          (ap open_new_of put.ensures ∙ c.came.ensures.program
+          ∙ ap (λ (x : Opening). open_named x.sizes x.path x.flags r.2 (named_as named)) same
+          ∙ ap (λ (ns : List ℕ). open_named o.sizes o.path o.flags ns (named_as named)) same_list)
+          (λ known. subst (λ m. OpenNewFits h new m) (sym put.ensures) (c.came.ensures.fits h new (txn ∙ st.ensures.kept ∙ had.1) known));
+    }
+
+abbrev HadMade : ℕ → State → Opening → ℕ → Held → GiveUp → Type 0
+HadMade h s o txn held give = IsCreating o × (txn ≡ h) × IsHeld h held s × GiveFits h s give × GiveApart held.reference give
+
+pub returns-in-Waits-step-4 : goal.returns-in-Waits-step-4
+unfolding open_new_of OpenNewFits
+returns-in-Waits-step-4 g c =
+    let h = c.args.hart in
+    let at = c.in-Made in
+    let st = c.step-in-Made in
+    let old : State = state_of g.D.Device.contents g.D.Device.failures c.args.core.now in
+    let new : State = state_of g.D.Device.contents g.D.Device.failures st.new.core in
+    let o = at.field-0 in
+    let held = at.field-3 in
+    let k = held.reference in
+    let had : HadMade h old o at.txn held at.give = subst (λ m. OpenNewFits h old m) at.is c.requires.fits in
+    let rest : IsOwnInode h k held.inode new × GiveApart k st.new.self = c.in-Waits-step-4.ensures.rest k held.inode had.2.own had.4 in
+    record {
+      steps =
+          inside_waits st.ensures.steps (λ _. open_made o.sizes o.path o.flags (inode_in held) at.field-2) (ap open_new_of at.is) c.in-Waits-step-4.is refl
+          (λ fits. (had.0, st.ensures.kept ∙ had.1, record { own = rest.0; there = had.2.there }, fits, rest.1));
+    }
+
+pub returns-in-Ran-step-4 : goal.returns-in-Ran-step-4
+unfolding open_new_of OpenNewFits
+returns-in-Ran-step-4 g c =
+    let h = c.args.hart in
+    let at = c.in-Made in
+    let st = c.step-in-Made in
+    let old : State = state_of g.D.Device.contents g.D.Device.failures c.args.core.now in
+    let new : State = state_of g.D.Device.contents g.D.Device.failures st.new.core in
+    let o = at.field-0 in
+    let held = at.field-3 in
+    let k = held.reference in
+    let had : HadMade h old o at.txn held at.give = subst (λ m. OpenNewFits h old m) at.is c.requires.fits in
+    let rest : IsOwnInode h k held.inode new × GiveApart k st.new.self = c.in-Ran-step-4.ensures.rest k held.inode had.2.own had.4 in
+    record {
+      steps =
+          inside_ran st.ensures.steps (λ _. open_made o.sizes o.path o.flags (inode_in held) at.field-2) (ap open_new_of at.is) c.in-Ran-step-4.kind c.in-Ran-step-4.is refl
+          (λ fits. (had.0, st.ensures.kept ∙ had.1, record { own = rest.0; there = had.2.there }, fits, rest.1));
+    }
+
+pub returns-in-Stopped-step-4 : goal.returns-in-Stopped-step-4
+unfolding open_new_of OpenNewFits
+returns-in-Stopped-step-4 g c =
+    let h = c.args.hart in
+    let at = c.in-Made in
+    let st = c.step-in-Made in
+    let old : State = state_of g.D.Device.contents g.D.Device.failures c.args.core.now in
+    let new : State = state_of g.D.Device.contents g.D.Device.failures st.new.core in
+    let o = at.field-0 in
+    let held = at.field-3 in
+    let k = held.reference in
+    let had : HadMade h old o at.txn held at.give = subst (λ m. OpenNewFits h old m) at.is c.requires.fits in
+    let rest : IsOwnInode h k held.inode new × GiveApart k st.new.self = c.in-Stopped-step-4.ensures.rest k held.inode had.2.own had.4 in
+    record {
+      steps =
+          inside_stopped st.ensures.steps (λ _. open_made o.sizes o.path o.flags (inode_in held) at.field-2) (ap open_new_of at.is) c.in-Stopped-step-4.is refl
+          (λ fits. (had.0, st.ensures.kept ∙ had.1, record { own = rest.0; there = had.2.there }, fits, rest.1));
+    }
+
+pub returns-in-Done-step-4 : goal.returns-in-Done-step-4
+unfolding open_new_of OpenNewFits
+returns-in-Done-step-4 g c =
+    let h = c.args.hart in
+    let at = c.in-Made in
+    let st = c.step-in-Made in
+    let old : State = state_of g.D.Device.contents g.D.Device.failures c.args.core.now in
+    let new : State = state_of g.D.Device.contents g.D.Device.failures st.new.core in
+    let o = at.field-0 in
+    let held = at.field-3 in
+    let k = held.reference in
+    let had : HadMade h old o at.txn held at.give = subst (λ m. OpenNewFits h old m) at.is c.requires.fits in
+    let rest : IsOwnInode h k held.inode new × Unit {0} = c.in-Done-step-4.ensures.rest k held.inode had.2.own had.4 in
+    let kept : IsHeld h held new = record { own = rest.0; there = had.2.there } in
+    let r = c.left_made-opening.result in
+    let was = c.left_made-opening.ensures.was in
+    let same : r.0 ≡ o = cc in
+    let txn : r.1 ≡ st.new.txn = cc in
+    let same_list : r.2 ≡ at.field-2 = cc in
+    let same_held : r.3 ≡ held = cc in
+    let put = c.put-in-Done-step-4 in
+    record {
+      steps =
+          inside_done st.ensures.steps (λ _. open_made o.sizes o.path o.flags (inode_in held) at.field-2) (ap open_new_of at.is) c.in-Done-step-4.field-0 c.in-Done-step-4.kind c.in-Done-step-4.is
+          (ap open_new_of put.ensures ∙ c.open_made.ensures.program
+          ∙ ap (λ (x : Opening). open_made x.sizes x.path x.flags (inode_in r.3) r.2) same
+          ∙ ap (λ (x : Held). open_made o.sizes o.path o.flags (inode_in x) r.2) same_held
+          ∙ ap (λ (ns : List ℕ). open_made o.sizes o.path o.flags (inode_in held) ns) same_list)
+          (λ known. subst (λ m. OpenNewFits h new m) (sym put.ensures) (c.open_made.ensures.fits h new (txn ∙ st.ensures.kept ∙ had.1) (subst (λ (x : Held). IsHeld h x new) (sym same_held) kept)));
+    }

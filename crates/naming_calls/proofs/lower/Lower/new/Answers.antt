@@ -1,6 +1,5 @@
-use Rattle.std.proofs.Common.{ℕ, ◌∙◌, ap, sym, subst}
+use Rattle.std.proofs.Common.{◌∙◌, ap, sym, subst}
 use Rattle.fs_layout.specs.declared.inode.Dinode.{Dinode}
-use Rattle.fs_machine.specs.Steps.{State}
 use Rattle.directory.specs.Programs.{is_directory}
 use Rattle.naming_calls.specs.Unlinking.{AreHeld, LowerFits}
 use Rattle.call_parts.specs.declared.take.Held.{Held}
