@@ -59,17 +59,17 @@ use Rattle.inode_data.specs.declared.dropping.DropReference.TheVariants as dropp
 use Rattle.file_table.specs.Machines.{file_of}
 use Rattle.file_table.specs.declared.load_file.LoadFile.{LoadFile}
 use Rattle.file_table.specs.declared.load_file.LoadFile.TheVariants as file
-use Rattle.descriptor_calls.specs.Machines.{dup_of, close_of, CloseFits, fstat_of, read_call_of}
+use Rattle.descriptor_calls.specs.Machines.{dup_of, DupFits, close_of, CloseFits, fstat_of, FstatFits, read_call_of, ReadCallFits}
 use Rattle.syscalls.specs.Machines.{running_of, RunningFits}
 use Rattle.directory.specs.Programs.{Aim, Named, Entry, Unused}
 use Rattle.directory.specs.Machines.{search_of}
 use Rattle.path_walk.specs.Elements.{name_in}
 use Rattle.directory.specs.declared.search.Search.{Search}
 use Rattle.directory.specs.declared.search.Search.TheVariants as searching
-use Rattle.path_walk.specs.Machines.{walk_of}
+use Rattle.path_walk.specs.Machines.{walk_of, WalkFits}
 use Rattle.path_walk.specs.declared.walk.Walk.{Walk}
 use Rattle.path_walk.specs.declared.walk.Walk.TheVariants as walking
-use Rattle.call_parts.specs.Taking.{take_of, reach_of}
+use Rattle.call_parts.specs.Taking.{take_of, TakeFits, reach_of, ReachFits}
 use Rattle.call_parts.specs.declared.take.TakeInode.{TakeInode}
 use Rattle.call_parts.specs.declared.take.TakeInode.TheVariants as taking
 use Rattle.call_parts.specs.declared.reach.Reach.{Reach}
@@ -77,12 +77,12 @@ use Rattle.call_parts.specs.declared.reach.Reach.TheVariants as reaching
 use Rattle.call_parts.specs.Tails.{tail_of, TailFits}
 use Rattle.call_parts.specs.declared.tail.Tail.{Tail}
 use Rattle.call_parts.specs.declared.tail.Tail.TheVariants as tail
-use Rattle.call_parts.specs.Ends.{give_of, quit_of, QuitFits}
+use Rattle.call_parts.specs.Ends.{give_of, GiveFits, quit_of, QuitFits}
 use Rattle.call_parts.specs.declared.give.GiveUp.{GiveUp}
 use Rattle.call_parts.specs.declared.give.GiveUp.TheVariants as giving
 use Rattle.call_parts.specs.declared.quit.Quit.{Quit}
 use Rattle.call_parts.specs.declared.quit.Quit.TheVariants as quitting
-use Rattle.call_parts.specs.Seeking.{seek_of}
+use Rattle.call_parts.specs.Seeking.{seek_of, SeekFits}
 use Rattle.call_parts.specs.declared.seek.Seek.{Seek}
 use Rattle.call_parts.specs.declared.seek.Seek.TheVariants as seeking
 use Rattle.naming_calls.specs.Unlinking.{lower_of, LowerFits, unlink_of, UnlinkFits}
@@ -116,7 +116,7 @@ use Rattle.descriptor_calls.specs.declared.write.Write.{Write}
 use Rattle.descriptor_calls.specs.declared.write.Write.TheVariants as write
 use Rattle.inode_table.specs.NewMachines.{new_of}
 use Rattle.directory.specs.Entering.{enter_of}
-use Rattle.making_calls.specs.Making.{make_of}
+use Rattle.making_calls.specs.Making.{make_of, MakeFits}
 use Rattle.making_calls.specs.Creating.{open_new_of, OpenNewFits}
 use Rattle.descriptor_calls.specs.Inheriting.{inherit_of, InheritFits}
 use Rattle.naming_calls.specs.Links.{add_of, link_of, AddFits, LinkFits}
@@ -287,31 +287,40 @@ has_file (file.Loading f guard m) = first (load_of m) _ (has_load m)
 
 -- ---- calls
 
-has_dup : (m : Dup) → HasOne (dup_of m)
-unfolding dup_of
-has_dup (dup.Double fd) = tt
-has_dup (dup.Say reply) = tt
+has_dup : (h : ℕ) (s : State) (m : Dup) → DupFits h s m → HasOne (dup_of m)
+unfolding dup_of DupFits
+has_dup h s (dup.Double fd) fits = tt
+has_dup h s (dup.Say reply) fits = tt
+has_dup h s dup.Gone fits = absurd fits
 
 has_close : (h : ℕ) (s : State) (m : Close) → CloseFits h s m → HasOne (close_of m)
 unfolding close_of CloseFits
 has_close h s (close.Shut sizes fd) fits = tt
 has_close h s (close.Join sizes fd n) fits = tt
-has_close h s (close.Dropping fd txn m) fits = first (drop_of m) _ (has_drop m)
-has_close h s (close.Finishing fd m) fits = first (finish_of m) _ (has_finish h m fits)
+has_close h s (close.Dropping fd txn (Some m)) fits = first (drop_of m) _ (has_drop m)
+has_close h s (close.Dropping fd txn None) fits = absurd fits
+has_close h s (close.Finishing fd (Some m)) fits = first (finish_of m) _ (has_finish h m fits)
+has_close h s (close.Finishing fd None) fits = absurd fits
 has_close h s (close.Say reply) fits = tt
+has_close h s close.Gone fits = absurd fits
 
-has_fstat : (m : Fstat) → HasOne (fstat_of m)
-unfolding fstat_of
-has_fstat (fstat.Loading fd m) = first (file_of m) _ (has_file m)
-has_fstat (fstat.Give fd guard) = tt
-has_fstat (fstat.Say reply) = tt
+has_fstat : (h : ℕ) (s : State) (m : Fstat) → FstatFits h s m → HasOne (fstat_of m)
+unfolding fstat_of FstatFits
+has_fstat h s (fstat.Loading fd (Some m)) fits = first (file_of m) _ (has_file m)
+has_fstat h s (fstat.Loading fd None) fits = absurd fits
+has_fstat h s (fstat.Give fd guard) fits = tt
+has_fstat h s (fstat.Say reply) fits = tt
+has_fstat h s fstat.Gone fits = absurd fits
 
-has_read_call : (m : Read) → HasOne (read_call_of m)
-unfolding read_call_of
-has_read_call (read.Loading fd buffer m) = first (file_of m) _ (has_file m)
-has_read_call (read.Reading fd offset m) = first (read_of m) _ (has_read m)
-has_read_call (read.Give fd offset r) = tt
-has_read_call (read.Say reply) = tt
+has_read_call : (h : ℕ) (s : State) (m : Read) → ReadCallFits h s m → HasOne (read_call_of m)
+unfolding read_call_of ReadCallFits
+has_read_call h s (read.Loading fd buffer (Some m)) fits = first (file_of m) _ (has_file m)
+has_read_call h s (read.Loading fd buffer None) fits = absurd fits
+has_read_call h s (read.Reading fd offset (Some m)) fits = first (read_of m) _ (has_read m)
+has_read_call h s (read.Reading fd offset None) fits = absurd fits
+has_read_call h s (read.Give fd offset r) fits = tt
+has_read_call h s (read.Say reply) fits = tt
+has_read_call h s read.Gone fits = absurd fits
 
 has_write_call : (h : ℕ) (s : State) (m : Write) → WriteCallFits h s m → HasOne (write_call_of m)
 unfolding write_call_of WriteCallFits
@@ -319,12 +328,16 @@ has_write_call h s (write.Check fd bytes) fits = tt
 has_write_call h s (write.Begin w) fits = tt
 has_write_call h s (write.Join w) fits = tt
 has_write_call h s (write.Lock w txn) fits = tt
-has_write_call h s (write.Loading w txn file guard m) fits = first (load_of m) _ (has_load m)
-has_write_call h s (write.Writing w txn offset m) fits = first (write_of (part_of w) m) _ (has_write (part_of w) m)
+has_write_call h s (write.Loading w txn file guard (Some m)) fits = first (load_of m) _ (has_load m)
+has_write_call h s (write.Loading w txn file guard None) fits = absurd fits
+has_write_call h s (write.Writing w txn offset (Some m)) fits = first (write_of (part_of w) m) _ (has_write (part_of w) m)
+has_write_call h s (write.Writing w txn offset None) fits = absurd fits
 has_write_call h s (write.Deny w txn guard why) fits = tt
 has_write_call h s (write.Give w txn offset r) fits = tt
-has_write_call h s (write.Leaving w end m) fits = first (finish_of m) _ (has_finish h m fits.1)
+has_write_call h s (write.Leaving w end (Some m)) fits = first (finish_of m) _ (has_finish h m fits.1)
+has_write_call h s (write.Leaving w end None) fits = absurd fits
 has_write_call h s (write.Say reply) fits = tt
+has_write_call h s write.Gone fits = absurd fits
 
 -- ---- paths
 
@@ -339,88 +352,118 @@ has_put entry (putting.Fetching at m) = first (block_fetch_of m) _ (has_block m)
 has_put entry (putting.There at guard) = tt
 has_put entry (putting.Storing at m) = first (store_of m) _ (has_store m)
 
-has_walk : (path : List ℕ) (m : Walk) → HasOne (walk_of path m)
-unfolding walk_of
-has_walk path (walking.Start inodestart goal list) = tt
-has_walk path (walking.Lock way d) = tt
-has_walk path (walking.Load way d guard m) = first (load_of m) _ (has_load m)
-has_walk path (walking.Lookup way d m) = first (search_of (Named (name_in path way.element)) m) _ (has_search (Named (name_in path way.element)) m)
-has_walk path (walking.Up way d guard n) = tt
-has_walk path (walking.Unlock way d guard next) = tt
-has_walk path (walking.Down way d next) = tt
-has_walk path (walking.Leave way d guard) = tt
+has_walk : (path : List ℕ) (h : ℕ) (s : State) (m : Walk) → WalkFits path h s m → HasOne (walk_of path m)
+unfolding walk_of WalkFits
+has_walk path h s (walking.Start inodestart goal list) fits = tt
+has_walk path h s (walking.Lock way d) fits = tt
+has_walk path h s (walking.Load way d guard (Some m)) fits = first (load_of m) _ (has_load m)
+has_walk path h s (walking.Load way d guard None) fits = absurd fits
+has_walk path h s (walking.Lookup way d (Some m)) fits = first (search_of (Named (name_in path way.element)) m) _ (has_search (Named (name_in path way.element)) m)
+has_walk path h s (walking.Lookup way d None) fits = absurd fits
+has_walk path h s (walking.Up way d guard n) fits = tt
+has_walk path h s (walking.Unlock way d guard next) fits = tt
+has_walk path h s (walking.Down way d next) fits = tt
+has_walk path h s (walking.Leave way d guard) fits = tt
+has_walk path h s walking.Gone fits = absurd fits
 
-has_take : (m : TakeInode) → HasOne (take_of m)
-unfolding take_of
-has_take (taking.Lock inodestart n) = tt
-has_take (taking.Loading n guard m) = first (load_of m) _ (has_load m)
+has_take : (h : ℕ) (s : State) (m : TakeInode) → TakeFits h s m → HasOne (take_of m)
+unfolding take_of TakeFits
+has_take h s (taking.Lock inodestart n) fits = tt
+has_take h s (taking.Loading n guard (Some m)) fits = first (load_of m) _ (has_load m)
+has_take h s (taking.Loading n guard None) fits = absurd fits
+has_take h s taking.Gone fits = absurd fits
 
-has_reach : (path : List ℕ) (m : Reach) → HasOne (reach_of path m)
-unfolding reach_of
-has_reach path (reaching.Walking inodestart m) = first (walk_of path m) _ (has_walk path m)
-has_reach path (reaching.Taking last list m) = first (take_of m) _ (has_take m)
+has_reach : (path : List ℕ) (h : ℕ) (s : State) (m : Reach) → ReachFits path h s m → HasOne (reach_of path m)
+unfolding reach_of ReachFits
+has_reach path h s (reaching.Walking inodestart m) fits = first (walk_of path m) _ (has_walk path h s m fits.1)
+has_reach path h s (reaching.Taking last list m) fits = first (take_of m) _ (has_take h s m fits.1)
+has_reach path h s reaching.Gone fits = absurd fits
 
-has_seek : (path : List ℕ) (m : Seek) → HasOne (seek_of path m)
-unfolding seek_of
-has_seek path (seeking.Reaching how m) = first (reach_of path m) _ (has_reach path m)
-has_seek path (seeking.Looking n e list m) = first (search_of (Named (name_in path e)) m) _ (has_search (Named (name_in path e)) m)
+has_seek : (path : List ℕ) (h : ℕ) (s : State) (m : Seek) → SeekFits path h s m → HasOne (seek_of path m)
+unfolding seek_of SeekFits
+has_seek path h s (seeking.Reaching how m) fits = first (reach_of path m) _ (has_reach path h s m fits)
+has_seek path h s (seeking.Looking n e list (Some m)) fits = first (search_of (Named (name_in path e)) m) _ (has_search (Named (name_in path e)) m)
+has_seek path h s (seeking.Looking n e list None) fits = absurd fits
+has_seek path h s seeking.Gone fits = absurd fits
 
 -- ---- how a call on a path ends
 
 has_tail : (h : ℕ) (s : State) (m : Tail) → TailFits h s m → HasOne (tail_of m)
 unfolding tail_of TailFits
-has_tail h s (tail.Leaving e m) fits = first (finish_of m) _ (has_finish h m fits.1)
+has_tail h s (tail.Leaving e (Some m)) fits = first (finish_of m) _ (has_finish h m fits.1)
+has_tail h s (tail.Leaving e None) fits = absurd fits
 has_tail h s (tail.Join e n) fits = tt
 has_tail h s (tail.Lock e n txn) fits = tt
-has_tail h s (tail.Loading e n txn guard m) fits = first (load_of m) _ (has_load m)
-has_tail h s (tail.Freeing e txn m) fits = first (free_inode_of m) _ (has_free_inode m)
+has_tail h s (tail.Loading e n txn guard (Some m)) fits = first (load_of m) _ (has_load m)
+has_tail h s (tail.Loading e n txn guard None) fits = absurd fits
+has_tail h s (tail.Freeing e txn (Some m)) fits = first (free_inode_of m) _ (has_free_inode m)
+has_tail h s (tail.Freeing e txn None) fits = absurd fits
 has_tail h s (tail.Say reply list) fits = tt
+has_tail h s tail.Gone fits = absurd fits
 
-has_give : (m : GiveUp) → HasOne (give_of m)
-unfolding give_of
-has_give (giving.Unlock sizes held) = tt
-has_give (giving.Dropping m) = has_drop m
+has_give : (h : ℕ) (s : State) (m : GiveUp) → GiveFits h s m → HasOne (give_of m)
+unfolding give_of GiveFits
+has_give h s (giving.Unlock sizes held) fits = tt
+has_give h s (giving.Dropping (Some m)) fits = has_drop m
+has_give h s (giving.Dropping None) fits = absurd fits
+has_give h s giving.Gone fits = absurd fits
 
 has_quit : (h : ℕ) (s : State) (m : Quit) → QuitFits h s m → HasOne (quit_of m)
 unfolding quit_of QuitFits
 has_quit h s (quitting.Unlock e txn inode) fits = tt
-has_quit h s (quitting.Giving e txn m) fits = first (give_of m) _ (has_give m)
-has_quit h s (quitting.Two e txn second m) fits = first (give_of m) _ (has_give m)
+has_quit h s (quitting.Giving e txn m) fits = first (give_of m) _ (has_give h s m fits.2)
+has_quit h s (quitting.Two e txn second m) fits = first (give_of m) _ (has_give h s m fits.3)
 has_quit h s (quitting.Tail m) fits = has_tail h s m fits
+has_quit h s quitting.Gone fits = absurd fits
 
 has_install : (h : ℕ) (s : State) (m : Install) → InstallFits h s m → HasOne (install_of m)
 unfolding install_of InstallFits
 has_install h s (installing.Place o txn it) fits = tt
 has_install h s (installing.Descriptor o txn it) fits = tt
-has_install h s (installing.Emptying e txn m) fits = first (truncate_of m) _ (has_truncate m)
+has_install h s (installing.Emptying e txn (Some m)) fits = first (truncate_of m) _ (has_truncate m)
+has_install h s (installing.Emptying e txn None) fits = absurd fits.2
+has_install h s (installing.Ends m) fits = has_quit h s m fits
+has_install h s installing.Gone fits = absurd fits
 
 has_open : (h : ℕ) (s : State) (m : OpenOld) → OpenOldFits h s m → HasOne (open_old_of m)
 unfolding open_old_of OpenOldFits
 has_open h s (opening.Join o list) fits = tt
-has_open h s (opening.Reaching o txn m) fits = first (reach_of o.path m) _ (has_reach o.path m)
+has_open h s (opening.Reaching o txn m) fits = first (reach_of o.path m) _ (has_reach o.path h s m fits.2)
 has_open h s (opening.Installing m) fits = has_install h s m fits
+has_open h s (opening.Ends m) fits = has_quit h s m fits
+has_open h s opening.Gone fits = absurd fits
 
 has_chdir : (h : ℕ) (s : State) (m : Chdir) → ChdirFits h s m → HasOne (chdir_of m)
 unfolding chdir_of ChdirFits
 has_chdir h s (chdir.Join on list) fits = tt
-has_chdir h s (chdir.Reaching on txn m) fits = first (reach_of on.path m) _ (has_reach on.path m)
+has_chdir h s (chdir.Reaching on txn m) fits = first (reach_of on.path m) _ (has_reach on.path h s m fits.2)
 has_chdir h s (chdir.Settle on txn list held) fits = tt
+has_chdir h s (chdir.Ends m) fits = has_quit h s m fits
+has_chdir h s chdir.Gone fits = absurd fits
 
 has_lower : (h : ℕ) (s : State) (m : Lower) → LowerFits h s m → HasOne (lower_of m)
 unfolding lower_of LowerFits
-has_lower h s (lowering.Parent e txn parent child m) fits = first (store_of m) _ (has_store m)
-has_lower h s (lowering.Leaving e txn child m) fits = first (give_of m) _ (has_give m)
-has_lower h s (lowering.Child e txn child m) fits = first (store_of m) _ (has_store m)
+has_lower h s (lowering.Parent e txn parent child (Some m)) fits = first (store_of m) _ (has_store m)
+has_lower h s (lowering.Parent e txn parent child None) fits = absurd fits
+has_lower h s (lowering.Leaving e txn child m) fits = first (give_of m) _ (has_give h s m fits.3)
+has_lower h s (lowering.Child e txn child (Some m)) fits = first (store_of m) _ (has_store m)
+has_lower h s (lowering.Child e txn child None) fits = absurd fits
+has_lower h s (lowering.Ends m) fits = has_quit h s m fits
+has_lower h s lowering.Gone fits = absurd fits
 
 has_unlink : (h : ℕ) (s : State) (m : Unlink) → UnlinkFits h s m → HasOne (unlink_of m)
 unfolding unlink_of UnlinkFits
 has_unlink h s (unlinking.Join on list) fits = tt
-has_unlink h s (unlinking.Seeking on txn m) fits = first (seek_of on.path m) _ (has_seek on.path m)
+has_unlink h s (unlinking.Seeking on txn m) fits = first (seek_of on.path m) _ (has_seek on.path h s m fits.2)
 has_unlink h s (unlinking.Refer r txn n) fits = tt
-has_unlink h s (unlinking.Taking r txn m) fits = first (take_of m) _ (has_take m)
-has_unlink h s (unlinking.Looking r txn n m) fits = first (search_of Entry m) _ (has_search Entry m)
-has_unlink h s (unlinking.Clearing e txn n child m) fits = first (put_of Free m) _ (has_put Free m)
+has_unlink h s (unlinking.Taking r txn m) fits = first (take_of m) _ (has_take h s m fits.2)
+has_unlink h s (unlinking.Looking r txn n (Some m)) fits = first (search_of Entry m) _ (has_search Entry m)
+has_unlink h s (unlinking.Looking r txn n None) fits = absurd fits
+has_unlink h s (unlinking.Clearing e txn n child (Some m)) fits = first (put_of Free m) _ (has_put Free m)
+has_unlink h s (unlinking.Clearing e txn n child None) fits = absurd fits
 has_unlink h s (unlinking.Lowering m) fits = has_lower h s m fits
+has_unlink h s (unlinking.Ends m) fits = has_quit h s m fits
+has_unlink h s unlinking.Gone fits = absurd fits
 
 -- ---- names
 
@@ -436,59 +479,79 @@ unfolding enter_of
 has_enter (entering.Searching e m) = first (search_of Unused m) _ (has_search Unused m)
 has_enter (entering.Writing e slot m) = first (write_of _ m) _ (has_write _ m)
 
-has_make : (e : Name) (m : Make) → HasOne (make_of e m)
-unfolding make_of
-has_make e (making.Claiming m new) = first (new_of new) _ (has_new new)
-has_make e (making.Taking m take) = first (take_of take) _ (has_take take)
-has_make e (making.Linking m child st) = first (store_of st) _ (has_store st)
-has_make e (making.Filling m n bytes part) = first (write_of bytes part) _ (has_write bytes part)
-has_make e (making.Entering sizes n child enter) = first (enter_of enter) _ (has_enter enter)
-has_make e (making.Unlinking sizes parent child what st) = first (store_of st) _ (has_store st)
-has_make e (making.Giving parent what give) = first (give_of give) _ (has_give give)
+has_make : (e : Name) (h : ℕ) (s : State) (m : Make) → MakeFits h s m → HasOne (make_of e m)
+unfolding make_of MakeFits
+has_make e h s (making.Claiming m (Some new)) fits = first (new_of new) _ (has_new new)
+has_make e h s (making.Claiming m None) fits = absurd fits.1
+has_make e h s (making.Taking m take) fits = first (take_of take) _ (has_take h s take fits.1)
+has_make e h s (making.Linking m child (Some st)) fits = first (store_of st) _ (has_store st)
+has_make e h s (making.Linking m child None) fits = absurd fits.3
+has_make e h s (making.Filling m n bytes (Some part)) fits = first (write_of bytes part) _ (has_write bytes part)
+has_make e h s (making.Filling m n bytes None) fits = absurd fits.1
+has_make e h s (making.Entering sizes n child (Some enter)) fits = first (enter_of enter) _ (has_enter enter)
+has_make e h s (making.Entering sizes n child None) fits = absurd fits.1
+has_make e h s (making.Unlinking sizes parent child what (Some st)) fits = first (store_of st) _ (has_store st)
+has_make e h s (making.Unlinking sizes parent child what None) fits = absurd fits.4
+has_make e h s (making.Giving parent what give) fits = first (give_of give) _ (has_give h s give fits.1)
+has_make e h s making.Gone fits = absurd fits
 
 has_create : (h : ℕ) (s : State) (m : OpenNew) → OpenNewFits h s m → HasOne (open_new_of m)
 unfolding open_new_of OpenNewFits
 has_create h s (creating.Join o list) fits = tt
-has_create h s (creating.Seeking o txn m) fits = first (seek_of o.path m) _ (has_seek o.path m)
+has_create h s (creating.Seeking o txn m) fits = first (seek_of o.path m) _ (has_seek o.path h s m fits.2)
 has_create h s (creating.Up o txn list held n) fits = tt
-has_create h s (creating.Leaving o txn list n m) fits = first (give_of m) _ (has_give m)
-has_create h s (creating.Taking o txn list m) fits = first (take_of m) _ (has_take m)
-has_create h s (creating.Making o txn list e m) fits = first (make_of (name_in o.path e) m) _ (has_make (name_in o.path e) m)
-has_create h s (creating.Made o txn list held m) fits = first (give_of m) _ (has_give m)
+has_create h s (creating.Leaving o txn list n m) fits = first (give_of m) _ (has_give h s m fits.2)
+has_create h s (creating.Taking o txn list m) fits = first (take_of m) _ (has_take h s m fits.2)
+has_create h s (creating.Making o txn list e m) fits = first (make_of (name_in o.path e) m) _ (has_make (name_in o.path e) h s m fits.3)
+has_create h s (creating.Made o txn list held m) fits = first (give_of m) _ (has_give h s m fits.3)
 has_create h s (creating.Opens m) fits = has_open h s m fits
+has_create h s (creating.Ends m) fits = has_quit h s m fits
+has_create h s creating.Gone fits = absurd fits
 
 has_mkdir : (h : ℕ) (s : State) (m : Mkdir) → MkdirFits h s m → HasOne (mkdir_of m)
 unfolding mkdir_of MkdirFits
 has_mkdir h s (mkdir.Join on list) fits = tt
-has_mkdir h s (mkdir.Seeking on txn m) fits = first (seek_of on.path m) _ (has_seek on.path m)
-has_mkdir h s (mkdir.Making on txn list e links m) fits = first (make_of (name_in on.path e) m) _ (has_make (name_in on.path e) m)
-has_mkdir h s (mkdir.Raising on txn list parent child m) fits = first (store_of m) _ (has_store m)
-has_mkdir h s (mkdir.Leaving on txn list child m) fits = first (give_of m) _ (has_give m)
+has_mkdir h s (mkdir.Seeking on txn m) fits = first (seek_of on.path m) _ (has_seek on.path h s m fits.2)
+has_mkdir h s (mkdir.Making on txn list e links m) fits = first (make_of (name_in on.path e) m) _ (has_make (name_in on.path e) h s m fits.4)
+has_mkdir h s (mkdir.Raising on txn list parent child (Some m)) fits = first (store_of m) _ (has_store m)
+has_mkdir h s (mkdir.Raising on txn list parent child None) fits = absurd fits.5
+has_mkdir h s (mkdir.Leaving on txn list child m) fits = first (give_of m) _ (has_give h s m fits.3)
+has_mkdir h s (mkdir.Ends m) fits = has_quit h s m fits
+has_mkdir h s mkdir.Gone fits = absurd fits
 
 has_add : (h : ℕ) (s : State) (m : AddName) → AddFits h s m → HasOne (add_of m)
 unfolding add_of AddFits
-has_add h s (adding.Seeking l txn n m) fits = first (seek_of l.new m) _ (has_seek l.new m)
-has_add h s (adding.Entering l txn list n parent m) fits = first (enter_of m) _ (has_enter m)
-has_add h s (adding.Leaving l txn list n why m) fits = first (give_of m) _ (has_give m)
-has_add h s (adding.Taking e txn m) fits = first (take_of m) _ (has_take m)
+has_add h s (adding.Seeking l txn n m) fits = first (seek_of l.new m) _ (has_seek l.new h s m fits.2)
+has_add h s (adding.Entering l txn list n parent (Some m)) fits = first (enter_of m) _ (has_enter m)
+has_add h s (adding.Entering l txn list n parent None) fits = absurd fits
+has_add h s (adding.Leaving l txn list n why m) fits = first (give_of m) _ (has_give h s m fits.2)
+has_add h s (adding.Taking e txn m) fits = first (take_of m) _ (has_take h s m fits.2)
 has_add h s (adding.Lowering m) fits = has_lower h s m fits
+has_add h s (adding.Ends m) fits = has_quit h s m fits
+has_add h s adding.Gone fits = absurd fits
 
 has_link : (h : ℕ) (s : State) (m : Link) → LinkFits h s m → HasOne (link_of m)
 unfolding link_of LinkFits
 has_link h s (linking.Join l list) fits = tt
-has_link h s (linking.Reaching l txn m) fits = first (reach_of l.old m) _ (has_reach l.old m)
-has_link h s (linking.Raising l txn list held m) fits = first (store_of m) _ (has_store m)
+has_link h s (linking.Reaching l txn m) fits = first (reach_of l.old m) _ (has_reach l.old h s m fits.3)
+has_link h s (linking.Raising l txn list held (Some m)) fits = first (store_of m) _ (has_store m)
+has_link h s (linking.Raising l txn list held None) fits = absurd fits
 has_link h s (linking.Unlock l txn list held) fits = tt
 has_link h s (linking.Naming m) fits = has_add h s m fits
+has_link h s (linking.Ends m) fits = has_quit h s m fits
+has_link h s linking.Gone fits = absurd fits
 
 has_inherit : (h : ℕ) (s : State) (m : Inherit) → InheritFits h s m → HasOne (inherit_of m)
 unfolding inherit_of InheritFits
 has_inherit h s (inheriting.Lend l) fits = tt
 has_inherit h s (inheriting.Directory sizes child) fits = tt
 has_inherit h s (inheriting.Join sizes child old) fits = tt
-has_inherit h s (inheriting.Dropping child txn m) fits = first (drop_of m) _ (has_drop m)
-has_inherit h s (inheriting.Finishing child m) fits = first (finish_of m) _ (has_finish h m fits)
+has_inherit h s (inheriting.Dropping child txn (Some m)) fits = first (drop_of m) _ (has_drop m)
+has_inherit h s (inheriting.Dropping child txn None) fits = absurd fits
+has_inherit h s (inheriting.Finishing child (Some m)) fits = first (finish_of m) _ (has_finish h m fits)
+has_inherit h s (inheriting.Finishing child None) fits = absurd fits
 has_inherit h s (inheriting.Say reply) fits = tt
+has_inherit h s inheriting.Gone fits = absurd fits
 
 pub has_running : (h : ℕ) (s : State) (m : Running) → RunningFits h s m → HasOne (running_of m)
 unfolding running_of RunningFits
@@ -497,11 +560,10 @@ has_running h s (running.Create m) fits = has_create h s m fits
 has_running h s (running.Link m) fits = has_link h s m fits
 has_running h s (running.Mkdir m) fits = has_mkdir h s m fits
 has_running h s (running.Chdir m) fits = has_chdir h s m fits
-has_running h s (running.Dup m list) fits = has_dup m
+has_running h s (running.Dup m list) fits = has_dup h s m fits.0
 has_running h s (running.Close m list) fits = has_close h s m fits.0
-has_running h s (running.Fstat m list) fits = has_fstat m
-has_running h s (running.Read m list) fits = has_read_call m
+has_running h s (running.Fstat m list) fits = has_fstat h s m fits.0
+has_running h s (running.Read m list) fits = has_read_call h s m fits.0
 has_running h s (running.Write m list) fits = has_write_call h s m fits.0
 has_running h s (running.Unlink m) fits = has_unlink h s m fits
 has_running h s (running.Inherit m list) fits = has_inherit h s m fits.0
-has_running h s (running.Ends m) fits = has_quit h s m fits

@@ -2,7 +2,6 @@
 use Rattle.std.proofs.Common.{◌≡◌, ◌≢◌, ◌<◌, ℕ, zero, suc, Bool, true, false, List, [], ◌∷◌, Option, Some, None, refl, sym, ◌∙◌, ap, subst, arith, length, get_or, set, replicate, length-set, get_or-set_same, get_or-set_other}
 use Rattle.std.specs.Prelude.{nat_eq, slice_get, slice_set, IfSome}
 use Rattle.std.proofs.lemmas.Bool.{eqb-true, eqb-false}
-use Rattle.std.proofs.lemmas.List.{set-set}
 use Rattle.std.proofs.lemmas.Option.{slice_get_within, get_or_from_slice_get}
 use Rattle.syscalls.specs.declared.running.Running.{Running}
 use Rattle.hart_core.specs.Harts.{CallsOf, HaveLists, AreIdle, SeatFits, IsSpare, HandsList, given}
@@ -40,6 +39,12 @@ pub spare_at : (c : CallsOf) → HaveLists c → (h : ℕ) → h < 8 → slice_g
 spare_at c have h eight at list there =
     subst IsSpare (get_or_from_slice_get c.lists h list None there)
     (subst (λ (o : Option Running). SeatFits o (get_or c.lists h None)) (get_or_from_slice_get c.calls h None None at) (have.each h eight))
+
+-- what a hart does
+pub is_at : {A : Type 0} (list : List (Option A)) (h : ℕ) → h < length list → slice_get list h ≡ Some (get_or list h None)
+is_at [] h lt = absurd (omega (arith, lt))
+is_at (m ∷ ms) zero lt = refl
+is_at (m ∷ ms) (suc h) lt = is_at ms h (omega (arith, lt))
 
 -- where a call hands a list back, its hart has none
 pub freed : (c : CallsOf) → HaveLists c → (h : ℕ) → h < 8 → (doing left : Option Running) (list : Option (List ℕ)) → slice_get c.calls h ≡ Some doing → HandsList doing left list
@@ -99,11 +104,6 @@ module _ (h : ℕ) (c d : CallsOf) (have : HaveLists c) where
       back (Some m) None hands = hands
 
   -- so it is after each step
-  pub seat_back : (one : CallsOf) (doing left : Option Running) (list : Option (List ℕ)) → slice_get c.calls h ≡ Some doing → h < 8 → one.calls ≡ set c.calls h None → one.lists ≡ c.lists
-      → d.calls ≡ set one.calls h left → d.lists ≡ given one.lists h list → HandsList doing left list → HaveLists d
-  seat_back one doing left list at eight first same second lists hands =
-      by list (second ∙ ap (λ (z : List (Option Running)). set z h left) first ∙ set-set c.calls h None left) (lists ∙ ap (λ (z : List (Option (List ℕ))). given z h list) same) hands
-    where
-      by : (o : Option (List ℕ)) → d.calls ≡ set c.calls h left → d.lists ≡ given c.lists h o → HandsList doing left o → HaveLists d
-      by None calls ls hs = seat_kept doing left at eight calls ls hs
-      by (Some l) calls ls hs = let long = have.long in seat_given doing left l (slice_get_within c.calls h doing at) (omega (arith, long, eight)) calls ls hs
+  pub seat_stepped : (doing left : Option Running) (list : Option (List ℕ)) → slice_get c.calls h ≡ Some doing → h < 8 → d.calls ≡ set c.calls h left → d.lists ≡ given c.lists h list → HandsList doing left list → HaveLists d
+  seat_stepped doing left None at eight calls lists hands = seat_kept doing left at eight calls lists hands
+  seat_stepped doing left (Some l) at eight calls lists hands = let long = have.long in seat_given doing left l (slice_get_within c.calls h doing at) (omega (arith, long, eight)) calls lists hands

@@ -1,5 +1,5 @@
 -- What a call under way has in hand stays its hart's while another hart makes a step.
-use Rattle.std.proofs.Common.{List, ◌≢◌, ℕ, sym, ◌∙◌}
+use Rattle.std.proofs.Common.{List, ◌≢◌, ℕ, Some, None, sym, ◌∙◌}
 use Rattle.sleep_lock.specs.SleepLock.{GuardState}
 use Rattle.buffer_cache.specs.Buffers.{BufferState}
 use Rattle.fs_tables.specs.declared.inodes.Inode.{Inode}
@@ -43,7 +43,7 @@ use Rattle.inode_data.specs.declared.dropping.DropReference.TheVariants as dropp
 use Rattle.file_table.specs.Machines.{FileFits, IsLoaded}
 use Rattle.file_table.specs.declared.load_file.LoadFile.{LoadFile}
 use Rattle.file_table.specs.declared.load_file.LoadFile.TheVariants as file
-use Rattle.descriptor_calls.specs.Machines.{CloseFits, FstatFits, ReadCallFits}
+use Rattle.descriptor_calls.specs.Machines.{DupFits, CloseFits, FstatFits, ReadCallFits}
 use Rattle.syscalls.specs.Machines.{RunningFits}
 use Rattle.directory.specs.Machines.{inode_of, SearchFits}
 use Rattle.directory.specs.declared.search.Search.{Search}
@@ -85,6 +85,8 @@ use Rattle.making_calls.specs.declared.open_old.OpenOld.TheVariants as opening
 use Rattle.naming_calls.specs.Chdirs.{ChdirFits}
 use Rattle.naming_calls.specs.declared.chdir.Chdir.{Chdir}
 use Rattle.naming_calls.specs.declared.chdir.Chdir.TheVariants as chdir
+use Rattle.descriptor_calls.specs.declared.dup.Dup.{Dup}
+use Rattle.descriptor_calls.specs.declared.dup.Dup.TheVariants as dup
 use Rattle.descriptor_calls.specs.declared.close.Close.{Close}
 use Rattle.descriptor_calls.specs.declared.close.Close.TheVariants as close
 use Rattle.descriptor_calls.specs.declared.fstat.Fstat.{Fstat}
@@ -227,26 +229,40 @@ module _ (h g : ℕ) (s t : State) (other : h ≢ g) (leaves : LeavesTied g s t)
 
   -- ---- calls
 
+  dups : (m : Dup) → DupFits h s m → DupFits h t m
+  unfolding DupFits
+  dups (dup.Double fd) fits = fits
+  dups (dup.Say reply) fits = fits
+  dups dup.Gone fits = absurd fits
+
   closes : (m : Close) → CloseFits h s m → CloseFits h t m
   unfolding CloseFits
   closes (close.Shut sizes fd) fits = fits
   closes (close.Join sizes fd n) fits = fits
-  closes (close.Dropping fd txn m) fits = (fits.0, drops m fits.1)
-  closes (close.Finishing fd m) fits = fits
+  closes (close.Dropping fd txn (Some m)) fits = (fits.0, drops m fits.1)
+  closes (close.Dropping fd txn None) fits = absurd fits
+  closes (close.Finishing fd (Some m)) fits = fits
+  closes (close.Finishing fd None) fits = absurd fits
   closes (close.Say reply) fits = fits
+  closes close.Gone fits = absurd fits
 
   stats : (m : Fstat) → FstatFits h s m → FstatFits h t m
   unfolding FstatFits
-  stats (fstat.Loading fd m) fits = files m fits
+  stats (fstat.Loading fd (Some m)) fits = files m fits
+  stats (fstat.Loading fd None) fits = absurd fits
   stats (fstat.Give fd guard) fits = is_loaded _ guard fits
   stats (fstat.Say reply) fits = fits
+  stats fstat.Gone fits = absurd fits
 
   read_calls : (m : Read) → ReadCallFits h s m → ReadCallFits h t m
   unfolding ReadCallFits
-  read_calls (read.Loading fd buffer m) fits = (fits.0, files m fits.1)
-  read_calls (read.Reading fd offset m) fits = (own_inode _ _ fits.0, reads m fits.1)
+  read_calls (read.Loading fd buffer (Some m)) fits = (fits.0, files m fits.1)
+  read_calls (read.Loading fd buffer None) fits = absurd fits
+  read_calls (read.Reading fd offset (Some m)) fits = (own_inode _ _ fits.0, reads m fits.1)
+  read_calls (read.Reading fd offset None) fits = absurd fits
   read_calls (read.Give fd offset r) fits = own_inode _ _ fits
   read_calls (read.Say reply) fits = fits
+  read_calls read.Gone fits = absurd fits
 
   write_calls : (m : Write) → WriteCallFits h s m → WriteCallFits h t m
   unfolding WriteCallFits
@@ -254,12 +270,16 @@ module _ (h g : ℕ) (s t : State) (other : h ≢ g) (leaves : LeavesTied g s t)
   write_calls (write.Begin w) fits = fits
   write_calls (write.Join w) fits = fits
   write_calls (write.Lock w txn) fits = fits
-  write_calls (write.Loading w txn file guard m) fits = (fits.0, fits.1, fits.2, own_inode _ guard fits.3, load m fits.4)
-  write_calls (write.Writing w txn offset m) fits = (fits.0, fits.1, own_inode _ _ fits.2, writes (part_of w) m fits.3)
+  write_calls (write.Loading w txn file guard (Some m)) fits = (fits.0, fits.1, fits.2, own_inode _ guard fits.3, load m fits.4)
+  write_calls (write.Loading w txn file guard None) fits = absurd fits
+  write_calls (write.Writing w txn offset (Some m)) fits = (fits.0, fits.1, own_inode _ _ fits.2, writes (part_of w) m fits.3)
+  write_calls (write.Writing w txn offset None) fits = absurd fits
   write_calls (write.Deny w txn guard why) fits = (fits.0, fits.1, own_inode _ guard fits.2)
   write_calls (write.Give w txn offset r) fits = (fits.0, fits.1, own_inode _ r.inode fits.2)
-  write_calls (write.Leaving w end m) fits = fits
+  write_calls (write.Leaving w end (Some m)) fits = fits
+  write_calls (write.Leaving w end None) fits = absurd fits
   write_calls (write.Say reply) fits = fits
+  write_calls write.Gone fits = absurd fits
 
   -- ---- paths
 
@@ -272,12 +292,15 @@ module _ (h g : ℕ) (s t : State) (other : h ≢ g) (leaves : LeavesTied g s t)
   unfolding WalkFits
   walks path (walking.Start inodestart goal list) fits = fits
   walks path (walking.Lock way d) fits = fits
-  walks path (walking.Load way d guard m) fits = (fits.0, own_inode _ guard fits.1, load m fits.2)
-  walks path (walking.Lookup way d m) fits = (fits.0, own_inode _ _ fits.1, searches m fits.2)
+  walks path (walking.Load way d guard (Some m)) fits = (fits.0, own_inode _ guard fits.1, load m fits.2)
+  walks path (walking.Load way d guard None) fits = absurd fits
+  walks path (walking.Lookup way d (Some m)) fits = (fits.0, own_inode _ _ fits.1, searches m fits.2)
+  walks path (walking.Lookup way d None) fits = absurd fits
   walks path (walking.Up way d guard n) fits = (fits.0, own_inode _ guard fits.1)
   walks path (walking.Unlock way d guard next) fits = (fits.0, own_inode _ guard fits.1)
   walks path (walking.Down way d next) fits = fits
   walks path (walking.Leave way d guard) fits = (fits.0, own_inode _ guard fits.1)
+  walks path walking.Gone fits = absurd fits
 
   is_held : (held : Held) → IsHeld h held s → IsHeld h held t
   is_held held f = record { own = own_inode _ _ f.own; there = f.there }
@@ -285,12 +308,15 @@ module _ (h g : ℕ) (s t : State) (other : h ≢ g) (leaves : LeavesTied g s t)
   takes : (m : TakeInode) → TakeFits h s m → TakeFits h t m
   unfolding TakeFits
   takes (taking.Lock inodestart n) fits = fits
-  takes (taking.Loading n guard m) fits = (own_inode n guard fits.0, load m fits.1)
+  takes (taking.Loading n guard (Some m)) fits = (own_inode n guard fits.0, load m fits.1)
+  takes (taking.Loading n guard None) fits = absurd fits
+  takes taking.Gone fits = absurd fits
 
   reaches : (path : List ℕ) (m : Reach) → ReachFits path h s m → ReachFits path h t m
   unfolding ReachFits
   reaches path (reaching.Walking inodestart m) fits = (fits.0, walks path m fits.1, fits.2)
   reaches path (reaching.Taking last list m) fits = (fits.0, takes m fits.1)
+  reaches path reaching.Gone fits = absurd fits
 
   is_parent : (n : ℕ) (guard : GuardState Inode) → IsParent h n guard s → IsParent h n guard t
   is_parent n guard f = record { own = own_inode n guard f.own; there = f.there; live = f.live }
@@ -298,7 +324,9 @@ module _ (h g : ℕ) (s t : State) (other : h ≢ g) (leaves : LeavesTied g s t)
   seeks : (path : List ℕ) (m : Seek) → SeekFits path h s m → SeekFits path h t m
   unfolding SeekFits
   seeks path (seeking.Reaching how m) fits = reaches path m fits
-  seeks path (seeking.Looking n e list m) fits = (fits.0, is_parent n _ fits.1, searches m fits.2)
+  seeks path (seeking.Looking n e list (Some m)) fits = (fits.0, is_parent n _ fits.1, searches m fits.2)
+  seeks path (seeking.Looking n e list None) fits = absurd fits
+  seeks path seeking.Gone fits = absurd fits
 
   puts : (m : PutEntry) → PutFits h s m → PutFits h t m
   unfolding PutFits
@@ -310,17 +338,23 @@ module _ (h g : ℕ) (s t : State) (other : h ≢ g) (leaves : LeavesTied g s t)
 
   tails : (m : Tail) → TailFits h s m → TailFits h t m
   unfolding TailFits
-  tails (tail.Leaving e m) fits = fits
+  tails (tail.Leaving e (Some m)) fits = fits
+  tails (tail.Leaving e None) fits = absurd fits
   tails (tail.Join e n) fits = fits
   tails (tail.Lock e n txn) fits = fits
-  tails (tail.Loading e n txn guard m) fits = (fits.0, fits.1, own_inode n guard fits.2, load m fits.3)
-  tails (tail.Freeing e txn m) fits = (fits.0, fits.1, frees m fits.2)
+  tails (tail.Loading e n txn guard (Some m)) fits = (fits.0, fits.1, own_inode n guard fits.2, load m fits.3)
+  tails (tail.Loading e n txn guard None) fits = absurd fits
+  tails (tail.Freeing e txn (Some m)) fits = (fits.0, fits.1, frees m fits.2)
+  tails (tail.Freeing e txn None) fits = absurd fits
   tails (tail.Say reply list) fits = fits
+  tails tail.Gone fits = absurd fits
 
   gives : (m : GiveUp) → GiveFits h s m → GiveFits h t m
   unfolding GiveFits
   gives (giving.Unlock sizes held) fits = (fits.0, is_held held fits.1)
-  gives (giving.Dropping m) fits = drops m fits
+  gives (giving.Dropping (Some m)) fits = drops m fits
+  gives (giving.Dropping None) fits = absurd fits
+  gives giving.Gone fits = absurd fits
 
   quits : (m : Quit) → QuitFits h s m → QuitFits h t m
   unfolding QuitFits
@@ -328,33 +362,45 @@ module _ (h g : ℕ) (s t : State) (other : h ≢ g) (leaves : LeavesTied g s t)
   quits (quitting.Giving e txn m) fits = (fits.0, fits.1, gives m fits.2)
   quits (quitting.Two e txn second m) fits = (fits.0, fits.1, is_held second fits.2, gives m fits.3, fits.4)
   quits (quitting.Tail m) fits = tails m fits
+  quits quitting.Gone fits = absurd fits
 
   installs : (m : Install) → InstallFits h s m → InstallFits h t m
   unfolding InstallFits
   installs (installing.Place o txn it) fits = (fits.0, fits.1, is_held _ fits.2)
   installs (installing.Descriptor o txn it) fits = (fits.0, fits.1, is_held _ fits.2)
-  installs (installing.Emptying e txn m) fits = (fits.0, fits.1, own_inode _ _ fits.2, truncates m fits.3)
+  installs (installing.Emptying e txn (Some m)) fits = (fits.0, fits.1, own_inode _ _ fits.2, truncates m fits.3)
+  installs (installing.Emptying e txn None) fits = absurd fits.2
+  installs (installing.Ends m) fits = quits m fits
+  installs installing.Gone fits = absurd fits
 
   opens : (m : OpenOld) → OpenOldFits h s m → OpenOldFits h t m
   unfolding OpenOldFits
   opens (opening.Join o list) fits = fits
   opens (opening.Reaching o txn m) fits = (fits.0, fits.1, reaches o.path m fits.2)
   opens (opening.Installing m) fits = installs m fits
+  opens (opening.Ends m) fits = quits m fits
+  opens opening.Gone fits = absurd fits
 
   chdirs : (m : Chdir) → ChdirFits h s m → ChdirFits h t m
   unfolding ChdirFits
   chdirs (chdir.Join on list) fits = fits
   chdirs (chdir.Reaching on txn m) fits = (fits.0, fits.1, reaches on.path m fits.2)
   chdirs (chdir.Settle on txn list held) fits = (fits.0, fits.1, is_held held fits.2)
+  chdirs (chdir.Ends m) fits = quits m fits
+  chdirs chdir.Gone fits = absurd fits
 
   are_held : (first second : Held) → AreHeld h first second s → AreHeld h first second t
   are_held first second f = record { one = is_held first f.one; two = is_held second f.two; apart = f.apart }
 
   lowers : (m : Lower) → LowerFits h s m → LowerFits h t m
   unfolding LowerFits
-  lowers (lowering.Parent e txn parent child m) fits = (fits.0, fits.1, are_held parent child fits.2, store m fits.3)
+  lowers (lowering.Parent e txn parent child (Some m)) fits = (fits.0, fits.1, are_held parent child fits.2, store m fits.3)
+  lowers (lowering.Parent e txn parent child None) fits = absurd fits
   lowers (lowering.Leaving e txn child m) fits = (fits.0, fits.1, is_held child fits.2, gives m fits.3, fits.4)
-  lowers (lowering.Child e txn child m) fits = (fits.0, fits.1, is_held child fits.2, store m fits.3)
+  lowers (lowering.Child e txn child (Some m)) fits = (fits.0, fits.1, is_held child fits.2, store m fits.3)
+  lowers (lowering.Child e txn child None) fits = absurd fits
+  lowers (lowering.Ends m) fits = quits m fits
+  lowers lowering.Gone fits = absurd fits
 
   removing : (r : Removing) → IsRemoving h r s → IsRemoving h r t
   removing r f = record { on = f.on; parent = is_held r.parent f.parent; slot = f.slot }
@@ -365,9 +411,13 @@ module _ (h g : ℕ) (s t : State) (other : h ≢ g) (leaves : LeavesTied g s t)
   unlinks (unlinking.Seeking on txn m) fits = (fits.0, fits.1, seeks on.path m fits.2)
   unlinks (unlinking.Refer r txn n) fits = (fits.0, removing r fits.1)
   unlinks (unlinking.Taking r txn m) fits = (fits.0, removing r fits.1, takes m fits.2, fits.3)
-  unlinks (unlinking.Looking r txn n m) fits = (fits.0, removing r fits.1, is_held (record { reference = n; inode = inode_of m }) fits.2, fits.3, searches m fits.4)
-  unlinks (unlinking.Clearing e txn n child m) fits = (fits.0, fits.1, are_held (record { reference = n; inode = putter_of m }) child fits.2, puts m fits.3)
+  unlinks (unlinking.Looking r txn n (Some m)) fits = (fits.0, removing r fits.1, is_held (record { reference = n; inode = inode_of m }) fits.2, fits.3, searches m fits.4)
+  unlinks (unlinking.Looking r txn n None) fits = absurd fits
+  unlinks (unlinking.Clearing e txn n child (Some m)) fits = (fits.0, fits.1, are_held (record { reference = n; inode = putter_of m }) child fits.2, puts m fits.3)
+  unlinks (unlinking.Clearing e txn n child None) fits = absurd fits
   unlinks (unlinking.Lowering m) fits = lowers m fits
+  unlinks (unlinking.Ends m) fits = quits m fits
+  unlinks unlinking.Gone fits = absurd fits
 
   -- ---- names
 
@@ -388,13 +438,19 @@ module _ (h g : ℕ) (s t : State) (other : h ≢ g) (leaves : LeavesTied g s t)
 
   makes : (m : Make) → MakeFits h s m → MakeFits h t m
   unfolding MakeFits
-  makes (making.Claiming m new) fits = (is_making m fits.0, news new fits.1)
+  makes (making.Claiming m (Some new)) fits = (is_making m fits.0, news new fits.1)
+  makes (making.Claiming m None) fits = absurd fits.1
   makes (making.Taking m take) fits = (is_making m fits.0, takes take fits.1, fits.2)
-  makes (making.Linking m child st) fits = (is_making m fits.0, is_held child fits.1, fits.2, store st fits.3)
-  makes (making.Filling m n bytes part) fits = (is_making m fits.0, own_inode n _ fits.1, fits.2, writes bytes part fits.3)
-  makes (making.Entering sizes n child enter) fits = (fits.0, own_inode n _ fits.1, is_held child fits.2, fits.3, enters enter fits.4)
-  makes (making.Unlinking sizes parent child what st) fits = (fits.0, is_held parent fits.1, is_held child fits.2, fits.3, store st fits.4)
+  makes (making.Linking m child (Some st)) fits = (is_making m fits.0, is_held child fits.1, fits.2, store st fits.3)
+  makes (making.Linking m child None) fits = absurd fits.3
+  makes (making.Filling m n bytes (Some part)) fits = (is_making m fits.0, own_inode n _ fits.1, fits.2, writes bytes part fits.3)
+  makes (making.Filling m n bytes None) fits = absurd fits.1
+  makes (making.Entering sizes n child (Some enter)) fits = (fits.0, own_inode n _ fits.1, is_held child fits.2, fits.3, enters enter fits.4)
+  makes (making.Entering sizes n child None) fits = absurd fits.1
+  makes (making.Unlinking sizes parent child what (Some st)) fits = (fits.0, is_held parent fits.1, is_held child fits.2, fits.3, store st fits.4)
+  makes (making.Unlinking sizes parent child what None) fits = absurd fits.4
   makes (making.Giving parent what give) fits = (is_held parent fits.0, gives give fits.1, fits.2)
+  makes making.Gone fits = absurd fits
 
   creates : (m : OpenNew) → OpenNewFits h s m → OpenNewFits h t m
   unfolding OpenNewFits
@@ -406,39 +462,53 @@ module _ (h g : ℕ) (s t : State) (other : h ≢ g) (leaves : LeavesTied g s t)
   creates (creating.Making o txn list e m) fits = (fits.0, fits.1, fits.2, makes m fits.3)
   creates (creating.Made o txn list held m) fits = (fits.0, fits.1, is_held held fits.2, gives m fits.3, fits.4)
   creates (creating.Opens m) fits = opens m fits
+  creates (creating.Ends m) fits = quits m fits
+  creates creating.Gone fits = absurd fits
 
   mkdirs : (m : Mkdir) → MkdirFits h s m → MkdirFits h t m
   unfolding MkdirFits
   mkdirs (mkdir.Join on list) fits = fits
   mkdirs (mkdir.Seeking on txn m) fits = (fits.0, fits.1, seeks on.path m fits.2)
   mkdirs (mkdir.Making on txn list e links m) fits = (fits.0, fits.1, fits.2, fits.3, makes m fits.4)
-  mkdirs (mkdir.Raising on txn list parent child m) fits = (fits.0, fits.1, is_held parent fits.2, is_held child fits.3, fits.4, store m fits.5)
+  mkdirs (mkdir.Raising on txn list parent child (Some m)) fits = (fits.0, fits.1, is_held parent fits.2, is_held child fits.3, fits.4, store m fits.5)
+  mkdirs (mkdir.Raising on txn list parent child None) fits = absurd fits.5
   mkdirs (mkdir.Leaving on txn list child m) fits = (fits.0, fits.1, is_held child fits.2, gives m fits.3, fits.4)
+  mkdirs (mkdir.Ends m) fits = quits m fits
+  mkdirs mkdir.Gone fits = absurd fits
 
   adds : (m : AddName) → AddFits h s m → AddFits h t m
   unfolding AddFits
   adds (adding.Seeking l txn n m) fits = (fits.0, fits.1, seeks l.new m fits.2)
-  adds (adding.Entering l txn list n parent m) fits = (fits.0, fits.1, own_inode parent _ fits.2, enters m fits.3)
+  adds (adding.Entering l txn list n parent (Some m)) fits = (fits.0, fits.1, own_inode parent _ fits.2, enters m fits.3)
+  adds (adding.Entering l txn list n parent None) fits = absurd fits
   adds (adding.Leaving l txn list n why m) fits = (fits.0, fits.1, gives m fits.2)
   adds (adding.Taking e txn m) fits = (fits.0, fits.1, takes m fits.2)
   adds (adding.Lowering m) fits = lowers m fits
+  adds (adding.Ends m) fits = quits m fits
+  adds adding.Gone fits = absurd fits
 
   links : (m : Link) → LinkFits h s m → LinkFits h t m
   unfolding LinkFits
   links (linking.Join l list) fits = fits
   links (linking.Reaching l txn m) fits = (fits.0, fits.1, fits.2, reaches l.old m fits.3)
-  links (linking.Raising l txn list held m) fits = (fits.0, fits.1, fits.2, is_held held fits.3, store m fits.4)
+  links (linking.Raising l txn list held (Some m)) fits = (fits.0, fits.1, fits.2, is_held held fits.3, store m fits.4)
+  links (linking.Raising l txn list held None) fits = absurd fits
   links (linking.Unlock l txn list held) fits = (fits.0, fits.1, fits.2, is_held held fits.3)
   links (linking.Naming m) fits = adds m fits
+  links (linking.Ends m) fits = quits m fits
+  links linking.Gone fits = absurd fits
 
   inherits : (m : Inherit) → InheritFits h s m → InheritFits h t m
   unfolding InheritFits
   inherits (inheriting.Lend l) fits = fits
   inherits (inheriting.Directory sizes child) fits = fits
   inherits (inheriting.Join sizes child old) fits = fits
-  inherits (inheriting.Dropping child txn m) fits = (fits.0, drops m fits.1)
-  inherits (inheriting.Finishing child m) fits = fits
+  inherits (inheriting.Dropping child txn (Some m)) fits = (fits.0, drops m fits.1)
+  inherits (inheriting.Dropping child txn None) fits = absurd fits
+  inherits (inheriting.Finishing child (Some m)) fits = fits
+  inherits (inheriting.Finishing child None) fits = absurd fits
   inherits (inheriting.Say reply) fits = fits
+  inherits inheriting.Gone fits = absurd fits
 
   pub stays : (m : Running) → RunningFits h s m → RunningFits h t m
   unfolding RunningFits
@@ -447,11 +517,10 @@ module _ (h g : ℕ) (s t : State) (other : h ≢ g) (leaves : LeavesTied g s t)
   stays (running.Link m) fits = links m fits
   stays (running.Mkdir m) fits = mkdirs m fits
   stays (running.Chdir m) fits = chdirs m fits
-  stays (running.Dup m list) fits = fits
+  stays (running.Dup m list) fits = (dups m fits.0, fits.1)
   stays (running.Close m list) fits = (closes m fits.0, fits.1)
   stays (running.Fstat m list) fits = (stats m fits.0, fits.1)
   stays (running.Read m list) fits = (read_calls m fits.0, fits.1)
   stays (running.Write m list) fits = (write_calls m fits.0, fits.1)
   stays (running.Unlink m) fits = unlinks m fits
   stays (running.Inherit m list) fits = (inherits m fits.0, fits.1)
-  stays (running.Ends m) fits = quits m fits

@@ -2,7 +2,6 @@
 use Rattle.std.proofs.Common.{◌≡◌, ◌≢◌, ◌<◌, ◌≤◌, ℕ, zero, suc, Bool, true, false, List, Option, Some, None, refl, sym, ◌∙◌, ap, subst, length, get_or, set, replicate, length-set, get_or-set_same, get_or-set_other}
 use Rattle.std.specs.Prelude.{nat_eq, slice_get}
 use Rattle.std.proofs.lemmas.Bool.{eqb-true, eqb-false}
-use Rattle.std.proofs.lemmas.Option.{slice_get_within, get_or_from_slice_get}
 use Rattle.std.proofs.lemmas.List.{get_or_past, set-set}
 use Rattle.plain_tree.specs.declared.answer.Reply.{Reply}
 use Rattle.atomic_programs.specs.Prog.{Ret, Do, plain}
@@ -86,12 +85,6 @@ all_set h s t calls two left room is leaves all mine = record {
         subst (HartFits t k) (sym (get_or-set_other calls h k left None (eqb-false k h e)))
         (place_stays k h s t (get_or calls k None) (eqb-false k h e) leaves (all.fits k))
 
--- it was emptied before
-pub all_back : (h : ℕ) (s t : State) (calls one two : List (Option Running)) (doing left : Option Running) → slice_get calls h ≡ Some doing → one ≡ set calls h None → two ≡ set one h left → LeavesTied h s t
-    → AreHarts s calls → HartFits t h left → AreHarts t two
-all_back h s t calls one two doing left at first second =
-    all_set h s t calls two left (slice_get_within calls h doing at) (second ∙ ap (λ (z : List (Option Running)). set z h left) first ∙ set-set calls h None left)
-
 -- nothing is in any place
 pub none_of : {A : Type 0} (n h : ℕ) → ◌≡◌ {A = Option A} (get_or (replicate n None) h None) None
 none_of zero zero = refl
@@ -109,17 +102,6 @@ all_idle s = record { long = refl; fits = λ h. subst (HartFits s h) (sym (nones
 -- a hart leaves what is another's where it changes nothing
 pub leaves_same : (h : ℕ) (s : State) → LeavesTied h s s
 leaves_same h s = record { buffers = λ guard other tied. tied; inodes = λ guard other locked. locked }
-
--- what there is of a hart that does this
-module _ (h : ℕ) (s : State) (b : Bool) (calls : List (Option Running)) (doing : Option Running) (at : slice_get calls h ≡ Some doing) where
-  is_there : get_or calls h None ≡ doing
-  is_there = get_or_from_slice_get calls h doing None at
-
-  pub fits_there : AllFit s calls → HartFits s h doing
-  fits_there all = subst (HartFits s h) is_there (all h)
-
-  pub may_there : (b ≡ false → MayOf blocks code h s (program_at running_of (get_or calls h None))) → b ≡ false → MayOf blocks code h s (program_at running_of doing)
-  may_there may on = subst (λ (z : Option Running). MayOf blocks code h s (program_at running_of z)) is_there (may on)
 
 -- past the last hart
 module _ (h : ℕ) (x : Outside) (s : State) (b : Bool) (calls : List (Option Running)) (past : length calls ≤ h) where

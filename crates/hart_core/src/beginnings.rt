@@ -50,11 +50,11 @@ pub(crate) fn running(sizes: &Super, call: Call, list: Listed) -> Running
         Call::Unlink { path } => Running::Unlink(Unlink::new(sizes, path, list)),
         Call::Mkdir { path } => Running::Mkdir(Mkdir::new(sizes, path, list)),
         Call::Chdir { path } => Running::Chdir(Chdir::new(sizes, path, list)),
-        Call::Dup { fd } => Running::Dup(Dup::new(fd), list),
-        Call::Fstat { fd } => Running::Fstat(Fstat::new(sizes.inodestart, fd), list),
-        Call::Close { fd } => Running::Close(Close::new(sizes, fd), list),
-        Call::Read { fd, buf } => Running::Read(Read::new(sizes.inodestart, fd, buf), list),
-        Call::Inherit { child } => Running::Inherit(Inherit::new(sizes, child), list),
-        Call::Write { fd, bytes } => Running::Write(Write::new(sizes, fd, bytes), list),
+        Call::Dup { fd } => Running::Dup(Dup::new(fd), Some(list)),
+        Call::Fstat { fd } => Running::Fstat(Fstat::new(sizes.inodestart, fd), Some(list)),
+        Call::Close { fd } => Running::Close(Close::new(sizes, fd), Some(list)),
+        Call::Read { fd, buf } => Running::Read(Read::new(sizes.inodestart, fd, buf), Some(list)),
+        Call::Inherit { child } => Running::Inherit(Inherit::new(sizes, child), Some(list)),
+        Call::Write { fd, bytes } => Running::Write(Write::new(sizes, fd, bytes), Some(list)),
     }
 }

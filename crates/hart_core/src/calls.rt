@@ -1,9 +1,19 @@
 // The calls that eight harts have under way.
-ghost use Rattle.std.specs.Prelude.{◌≡◌, ◌<◌, [], ◌∷◌, Some, None, IfOk, IfSome, get_or, is_some, replicate, slice_get, slice_set};
-ghost use Rattle.hart_core.specs.Harts.{AreIdle, given};
+ghost use Rattle.std.specs.Prelude.{◌≡◌, ◌<◌, [], ◌∷◌, false, Some, None, IfOk, get_or, is_some, replicate, slice_get, slice_set};
+ghost use Rattle.atomic_programs.specs.Plain.{PlainHonestStep, MayOf, hart_step};
+ghost use Rattle.atomic_programs.specs.Machines.{program_at};
+ghost use Rattle.fs_machine.specs.Steps.{state_of};
+ghost use Rattle.fs_machine.specs.Machines.{CallsOnce};
+ghost use Rattle.fs_machine.specs.Tied.{LeavesTied};
+ghost use Rattle.syscalls.specs.Machines.{running_of};
+ghost use Rattle.hart_core.specs.Blocks.{blocks, code};
+ghost use Rattle.hart_core.specs.Harts.{outcome_of, said, AreIdle, HartFits, HaveLists};
 
+use crate::in_place::step;
+use crate::outcome::Outcome;
+use block_device::Device;
 use buffer_cache::HARTS;
-use fs_machine::RetiredCore;
+use fs_machine::{Core, RetiredCore};
 use fs_tables::Listed;
 use std::alloc::{AllocError, AllocFailed, Global};
 use std::marker::Model;
@@ -117,31 +127,39 @@ impl Calls {
         self.under_way[hart as usize].is_some()
     }
 
-    /// Takes out what a hart does.
-    pub fn take_out(&mut self, hart: u8) -> Option<Running>
-        requires { hart < HARTS }
-        ensures value { slice_get self.old.calls hart ≡ Some result }
-        ensures after { self.new.calls ≡ slice_set self.old.calls hart None }
-        ensures none { slice_get self.new.calls hart ≡ Some None }
-        ensures lists { self.new.lists ≡ self.old.lists }
+    /// One operation of a hart's call in its place, unless the world has stopped. A call that has replied leaves its place and hands its
+    /// hart's list back.
+    pub fn step<D: Device>(&mut self, hart: u8, core: &mut Core<D>, stopped: &mut bool) -> Outcome
+        requires eight { hart < HARTS }
+        requires may { stopped.old ≡ false → MayOf blocks code hart (state_of D.contents D.failures core.old) (program_at running_of (get_or self.old.calls hart None)) }
+        requires fits { HartFits (state_of D.contents D.failures core.old) hart (get_or self.old.calls hart None) }
+        requires seat { HaveLists self.old }
+        ensures makes { hart_step blocks code hart (said result (state_of D.contents D.failures core.new)) (state_of D.contents D.failures core.old) stopped.old (program_at running_of (get_or self.old.calls hart None))
+            ≡ record { came = outcome_of result; left = program_at running_of (get_or self.new.calls hart None); shared = state_of D.contents D.failures core.new; stopped = stopped.new } }
+        ensures honest { PlainHonestStep blocks code hart (said result (state_of D.contents D.failures core.new)) (state_of D.contents D.failures core.old) stopped.old (program_at running_of (get_or self.old.calls hart None)) }
+        ensures fits { HartFits (state_of D.contents D.failures core.new) hart (get_or self.new.calls hart None) }
+        ensures kept { self.new.calls ≡ slice_set self.old.calls hart (get_or self.new.calls hart None) }
+        ensures seat { HaveLists self.new }
+        ensures others { LeavesTied hart (state_of D.contents D.failures core.old) (state_of D.contents D.failures core.new) }
+        ensures called { CallsOnce D.Called core.old.log.cache.device core.new.log.cache.device }
     {
-        std::mem::replace(&mut self.under_way[hart as usize], None)
-    }
-
-    /// Puts back what a hart does, and the list that its call has handed back.
-    pub fn put_back(&mut self, hart: u8, call: Option<Running>, list: Option<Listed>)
-        requires idle { slice_get self.old.calls hart ≡ Some None }
-        requires free { IfSome list (λ _. slice_get self.old.lists hart ≡ Some None) }
-        ensures calls { self.new.calls ≡ slice_set self.old.calls hart call }
-        ensures lists { self.new.lists ≡ given self.old.lists hart list }
-    {
-        match std::mem::replace(&mut self.under_way[hart as usize], call) {
-            None => {}
-            Some(_other) => unreachable!(),
-        }
+        let (outcome, list) = step(&mut self.under_way[hart as usize], hart, core, stopped);
         match list {
             None => {}
             Some(list) => self.give_list(hart, list),
+        }
+        outcome
+    }
+
+    /// Has an idle hart begin a call.
+    pub fn put(&mut self, hart: u8, call: Running)
+        requires { slice_get self.old.calls hart ≡ Some None }
+        ensures calls { self.new.calls ≡ slice_set self.old.calls hart (Some call) }
+        ensures lists { self.new.lists ≡ self.old.lists }
+    {
+        match std::mem::replace(&mut self.under_way[hart as usize], Some(call)) {
+            None => {}
+            Some(_other) => unreachable!(),
         }
     }
 

@@ -1,77 +1,28 @@
 // Eight harts' machines over all that they share.
 ghost use Rattle.std.specs.Prelude.{◌≡◌, ◌<◌, ◌&&◌, false, Some, None, get_or, is_some, length, replicate, slice_get, slice_set};
 ghost use Rattle.atomic_programs.specs.Calls.{Start as StartOf, Step as StepOf, Started};
-ghost use Rattle.atomic_programs.specs.Plain.{plain_makes, PlainHonest, PlainHonestStep, MayOf, hart_step};
-ghost use Rattle.atomic_programs.specs.Machines.{program_at};
+ghost use Rattle.atomic_programs.specs.Plain.{plain_makes, PlainHonest};
 ghost use Rattle.group_log.specs.Phases.{is_point};
-ghost use Rattle.fs_machine.specs.Steps.{state_of};
 ghost use Rattle.fs_machine.specs.Machines.{CallsOnce};
-ghost use Rattle.fs_machine.specs.Tied.{LeavesTied};
-ghost use Rattle.syscalls.specs.Machines.{running_of, RunningFits};
 ghost use Rattle.hart_core.specs.Blocks.{blocks, code, MayStep};
 ghost use Rattle.inode_machine.specs.Exec.{is_at};
 ghost use Rattle.calls_on_blocks.specs.Theory.{block_calls, has_file, reserved};
-ghost use Rattle.hart_core.specs.Harts.{outcome_of, said, HartFits, shared_of, programs_of, busy_in, children_in, AreIdle, HandsList};
+ghost use Rattle.hart_core.specs.Harts.{outcome_of, said, shared_of, programs_of, busy_in, children_in, AreIdle};
 ghost use Rattle.hart_core.specs.Starts.{fault_of};
 ghost use Rattle.call_parts.specs.OnPaths.{IsSized};
 ghost use Rattle.atomic_programs.specs.Prog.{plain};
 
 use crate::beginnings::running;
 use crate::calls::Calls;
-use crate::outcome::{Outcome, Stop};
-use atomic_programs::machines::Stepped;
+use crate::outcome::Outcome;
 use block_device::Device;
 use buffer_cache::HARTS;
-use call_parts::Answered;
 use fs_layout::Super;
 use fs_machine::Core;
-use fs_tables::{DESCRIPTORS, Listed};
+use fs_tables::DESCRIPTORS;
 use group_log::Phase;
 use plain_tree::Call;
 use std::marker::Model;
-use syscalls::Running;
-
-// A step of a hart that does this; whether the world has stopped; and the list that a call hands back at its end.
-fn step<D: Device>(
-    doing: Option<Running>,
-    hart: u8,
-    core: &mut Core<D>,
-    stopped: bool,
-) -> (Option<Running>, Outcome, bool, Option<Listed>)
-    requires eight { hart < HARTS }
-    requires may { stopped ≡ false → MayOf blocks code hart (state_of D.contents D.failures core.old) (program_at running_of doing) }
-    requires fits { HartFits (state_of D.contents D.failures core.old) hart doing }
-    ensures makes { hart_step blocks code hart (said result.1 (state_of D.contents D.failures core.new)) (state_of D.contents D.failures core.old) stopped (program_at running_of doing)
-        ≡ record { came = outcome_of result.1; left = program_at running_of result.0; shared = state_of D.contents D.failures core.new; stopped = result.2 } }
-    ensures honest { PlainHonestStep blocks code hart (said result.1 (state_of D.contents D.failures core.new)) (state_of D.contents D.failures core.old) stopped (program_at running_of doing) }
-    ensures fits { HartFits (state_of D.contents D.failures core.new) hart result.0 }
-    ensures list { HandsList doing result.0 result.3 }
-    ensures others { LeavesTied hart (state_of D.contents D.failures core.old) (state_of D.contents D.failures core.new) }
-    ensures called { CallsOnce D.Called core.old.log.cache.device core.new.log.cache.device }
-{
-    match doing {
-        None => (None, Outcome::Idle, stopped, None),
-        Some(call) => {
-            if stopped {
-                return (Some(call), Outcome::Stopped(Stop::Halted), true, None);
-            }
-            match call.step(hart, core) {
-                Stepped::Waits(call) => (Some(call), Outcome::Waits, false, None),
-                Stepped::Ran(call, kind) => (Some(call), Outcome::Ran(kind), false, None),
-                Stepped::Done(answered, _kind) => {
-                    let Answered { reply, list } = answered;
-                    (None, Outcome::Done(reply), false, Some(list))
-                }
-                Stepped::Stopped(call) => (
-                    Some(call),
-                    Outcome::Stopped(Stop::DeviceFault),
-                    true,
-                    None,
-                ),
-            }
-        }
-    }
-}
 
 // Whether this is the child.
 fn is_child(child: Option<u8>, hart: u8) -> bool
@@ -177,7 +128,7 @@ impl<D: Device> Harts<D> {
             None => unreachable!(),
             Some(list) => {
                 let call = running(sizes, call, list);
-                self.calls.put_back(hart, Some(call), None);
+                self.calls.put(hart, call);
                 self.children[hart as usize] = child;
             }
         }
@@ -192,13 +143,11 @@ impl<D: Device> Harts<D> {
         ensures children { self.new.children ≡ self.old.children }
         ensures called { CallsOnce D.Called self.old.core.log.cache.device self.new.core.log.cache.device }
     {
-        let stopped = self.stopped;
+        let mut stopped = self.stopped;
         if hart >= HARTS {
             return Outcome::Idle;
         }
-        let doing = self.calls.take_out(hart);
-        let (doing, outcome, stopped, list) = step(doing, hart, &mut self.core, stopped);
-        self.calls.put_back(hart, doing, list);
+        let outcome = self.calls.step(hart, &mut self.core, &mut stopped);
         self.stopped = stopped;
         outcome
     }

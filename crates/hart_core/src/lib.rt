@@ -9,6 +9,7 @@ mod beginnings;
 mod calls;
 mod events;
 mod harts;
+mod in_place;
 mod marks;
 mod mount;
 mod outcome;

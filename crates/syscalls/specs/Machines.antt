@@ -1,12 +1,9 @@
 -- The program that is left of a call, whichever it is.
-use Rattle.std.specs.Prelude.{◌≡◌, [], ℕ}
+use Rattle.std.specs.Prelude.{◌≡◌, [], ℕ, Some}
 use Rattle.plain_tree.specs.declared.answer.Reply.{Reply}
 use Rattle.fs_machine.specs.Steps.{State}
 use Rattle.fs_machine.specs.Machines.{P}
 use Rattle.descriptor_calls.specs.declared.read.Read.{Read}
-use Rattle.call_parts.specs.Ends.{quit_of, QuitFits}
-use Rattle.call_parts.specs.declared.onward.Onward.{Onward}
-use Rattle.call_parts.specs.declared.onward.Onward.TheVariants as onward
 use Rattle.making_calls.specs.Opens.{open_old_of, OpenOldFits}
 use Rattle.making_calls.specs.Creating.{open_new_of, OpenNewFits}
 use Rattle.descriptor_calls.specs.Inheriting.{inherit_of, InheritFits}
@@ -20,7 +17,7 @@ use Rattle.syscalls.specs.declared.running.Running.TheVariants as running
 use Rattle.descriptor_calls.specs.declared.dup.Dup.{Dup}
 use Rattle.descriptor_calls.specs.declared.close.Close.{Close}
 use Rattle.descriptor_calls.specs.declared.fstat.Fstat.{Fstat}
-use Rattle.descriptor_calls.specs.Machines.{dup_of, close_of, CloseFits, fstat_of, FstatFits, read_call_of, ReadCallFits}
+use Rattle.descriptor_calls.specs.Machines.{dup_of, DupFits, close_of, CloseFits, fstat_of, FstatFits, read_call_of, ReadCallFits}
 
 unfoldable pub running_of : Running → P Reply
 running_of (running.Open m) = open_old_of m
@@ -35,7 +32,6 @@ running_of (running.Read m list) = read_call_of m
 running_of (running.Write m list) = write_call_of m
 running_of (running.Unlink m) = unlink_of m
 running_of (running.Inherit m list) = inherit_of m
-running_of (running.Ends m) = quit_of m
 
 unfoldable pub RunningFits : ℕ → State → Running → Type 0
 RunningFits hart s (running.Open m) = OpenOldFits hart s m
@@ -43,16 +39,10 @@ RunningFits hart s (running.Create m) = OpenNewFits hart s m
 RunningFits hart s (running.Link m) = LinkFits hart s m
 RunningFits hart s (running.Mkdir m) = MkdirFits hart s m
 RunningFits hart s (running.Chdir m) = ChdirFits hart s m
-RunningFits hart s (running.Dup m list) = list ≡ []
-RunningFits hart s (running.Close m list) = CloseFits hart s m × (list ≡ [])
-RunningFits hart s (running.Fstat m list) = FstatFits hart s m × (list ≡ [])
-RunningFits hart s (running.Read m list) = ReadCallFits hart s m × (list ≡ [])
-RunningFits hart s (running.Write m list) = WriteCallFits hart s m × (list ≡ [])
+RunningFits hart s (running.Dup m list) = DupFits hart s m × (list ≡ Some [])
+RunningFits hart s (running.Close m list) = CloseFits hart s m × (list ≡ Some [])
+RunningFits hart s (running.Fstat m list) = FstatFits hart s m × (list ≡ Some [])
+RunningFits hart s (running.Read m list) = ReadCallFits hart s m × (list ≡ Some [])
+RunningFits hart s (running.Write m list) = WriteCallFits hart s m × (list ≡ Some [])
 RunningFits hart s (running.Unlink m) = UnlinkFits hart s m
-RunningFits hart s (running.Inherit m list) = InheritFits hart s m × (list ≡ [])
-RunningFits hart s (running.Ends m) = QuitFits hart s m
-
--- what a step of a call on a path leaves, among all of them
-abbrev pub onward_as : {M : Type 0} → (M → Running) → Onward M → Running
-onward_as f (onward.Runs m) = f m
-onward_as f (onward.Ends m) = running.Ends m
+RunningFits hart s (running.Inherit m list) = InheritFits hart s m × (list ≡ Some [])

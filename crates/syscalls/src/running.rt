@@ -1,26 +1,23 @@
 //! A call under way, whichever it is.
-ghost use Rattle.std.specs.Prelude.{◌≡◌, ◌<◌};
-ghost use Rattle.atomic_programs.specs.Machines.{Still, Left as LeftOf};
+ghost use Rattle.std.specs.Prelude.{◌≡◌, ◌<◌, [], Some, None};
 ghost use Rattle.fs_machine.specs.Steps.{state_of};
-ghost use Rattle.fs_machine.specs.Machines.{MayNext, Moves, Answers, CallsOnce};
-ghost use Rattle.fs_machine.specs.Tied.{LeavesTied};
-ghost use Rattle.inode_data.specs.Machines.{ends_within};
-ghost use Rattle.syscalls.specs.Machines.{onward_as, running_of, RunningFits};
-ghost use Rattle.call_parts.specs.Spent.{reply_in, with_list, IsSpent};
-ghost use Rattle.syscalls.specs.declared.running.Running.TheVariants as running;
+ghost use Rattle.fs_machine.specs.Machines.{MayNext};
+ghost use Rattle.syscalls.specs.Machines.{running_of, RunningFits};
+ghost use Rattle.syscalls.specs.Places.{answered_with, list_left, HasEnded, StepsCall};
 
-use atomic_programs::machines::Stepped;
+use atomic_programs::machines::Came;
 use block_device::Device;
 use buffer_cache::HARTS;
-use call_parts::{Answered, Onward, Quit};
+use call_parts::Answered;
 use descriptor_calls::{Close, Dup, Fstat, Inherit, Read, Write};
 use fs_machine::{Core, Kind, RetiredCore};
 use fs_tables::Listed;
 use making_calls::{Mkdir, OpenNew, OpenOld};
 use naming_calls::{Chdir, Link, Unlink};
 use plain_tree::Reply;
+use std::mem;
 
-/// A call under way. A call without a path has its hart's list beside it, which it doesn't need.
+/// A call under way. A call without a path has its hart's list beside it, which it doesn't need, until it has replied.
 pub enum Running {
     /// An open without CREATE.
     Open(OpenOld),
@@ -29,15 +26,13 @@ pub enum Running {
     Link(Link),
     Mkdir(Mkdir),
     Chdir(Chdir),
-    Dup(Dup, Listed),
-    Close(Close, Listed),
-    Fstat(Fstat, Listed),
-    Read(Read, Listed),
-    Write(Write, Listed),
+    Dup(Dup, Option<Listed>),
+    Close(Close, Option<Listed>),
+    Fstat(Fstat, Option<Listed>),
+    Read(Read, Option<Listed>),
+    Write(Write, Option<Listed>),
     Unlink(Unlink),
-    Inherit(Inherit, Listed),
-    /// The end of a call on a path.
-    Ends(Quit),
+    Inherit(Inherit, Option<Listed>),
 }
 
 // Beside the bytes of its call and the blocks of the buffers that it holds, a call under way takes at most so many bytes.
@@ -46,33 +41,48 @@ const MOST_BYTES: usize = 4096;
 const _: () = prove!(size_of::<Running>() <= MOST_BYTES);
 
 impl Running {
-    /// One operation.
+    /// One operation of the call in its place. Nothing of it is left there but that it has ended, once it has replied.
     #[tactic(auto, unfolding(crate::specs::Machines::running_of, crate::specs::Machines::RunningFits))]
-    pub fn step<D: Device>(self, hart: u8, core: &mut Core<D>) -> Stepped<Running, Answered, Kind>
+    pub fn step<D: Device>(&mut self, hart: u8, core: &mut Core<D>) -> Came<Answered, Kind>
         requires hart { hart < HARTS }
-        requires may { MayNext hart (running_of self) (state_of D.contents D.failures core.old) }
-        requires fits { RunningFits hart (state_of D.contents D.failures core.old) self }
-        ensures moves { Moves running_of reply_in hart self result (state_of D.contents D.failures core.old) (state_of D.contents D.failures core.new) }
-        ensures honest { Answers running_of hart self result (state_of D.contents D.failures core.old) (state_of D.contents D.failures core.new) }
-        ensures still { Still running_of result self core.old core.new }
-        ensures fits { LeftOf (RunningFits hart (state_of D.contents D.failures core.new)) IsSpent result }
-        ensures others { LeavesTied hart (state_of D.contents D.failures core.old) (state_of D.contents D.failures core.new) }
-        ensures called { CallsOnce D.Called core.old.log.cache.device core.new.log.cache.device }
+        requires may { MayNext hart (running_of self.old) (state_of D.contents D.failures core.old) }
+        requires fits { RunningFits hart (state_of D.contents D.failures core.old) self.old }
+        ensures steps { StepsCall D.contents D.failures D.Called hart self.old self.new result core.old core.new }
     {
         match self {
-            Running::Open(m) => in_open(m.step(hart, core)),
-            Running::Create(m) => in_create(m.step(hart, core)),
-            Running::Link(m) => in_link(m.step(hart, core)),
-            Running::Mkdir(m) => in_mkdir(m.step(hart, core)),
-            Running::Chdir(m) => in_chdir(m.step(hart, core)),
-            Running::Dup(m, list) => in_dup(list, m.step(hart, core)),
-            Running::Close(m, list) => in_close(list, m.step(hart, core)),
-            Running::Fstat(m, list) => in_fstat(list, m.step(hart, core)),
-            Running::Read(m, list) => in_read(list, m.step(hart, core)),
-            Running::Write(m, list) => in_write(list, m.step(hart, core)),
-            Running::Unlink(m) => in_unlink(m.step(hart, core)),
-            Running::Inherit(m, list) => in_inherit(list, m.step(hart, core)),
-            Running::Ends(m) => in_ends(m.step(hart, core)),
+            Running::Open(m) => m.step(hart, core),
+            Running::Create(m) => m.step(hart, core),
+            Running::Link(m) => m.step(hart, core),
+            Running::Mkdir(m) => m.step(hart, core),
+            Running::Chdir(m) => m.step(hart, core),
+            Running::Dup(m, list) => with_list(m.step(hart, core), list),
+            Running::Close(m, list) => with_list(m.step(hart, core), list),
+            Running::Fstat(m, list) => with_list(m.step(hart, core), list),
+            Running::Read(m, list) => with_list(m.step(hart, core), list),
+            Running::Write(m, list) => with_list(m.step(hart, core), list),
+            Running::Unlink(m) => m.step(hart, core),
+            Running::Inherit(m, list) => with_list(m.step(hart, core), list),
+        }
+    }
+
+    /// Ends one that has replied.
+    pub fn end(self)
+        requires { HasEnded self }
+    {
+        match self {
+            Running::Open(OpenOld::Gone) => {}
+            Running::Create(OpenNew::Gone) => {}
+            Running::Link(Link::Gone) => {}
+            Running::Mkdir(Mkdir::Gone) => {}
+            Running::Chdir(Chdir::Gone) => {}
+            Running::Dup(Dup::Gone, list) => end_list(list),
+            Running::Close(Close::Gone, list) => end_list(list),
+            Running::Fstat(Fstat::Gone, list) => end_list(list),
+            Running::Read(Read::Gone, list) => end_list(list),
+            Running::Write(Write::Gone, list) => end_list(list),
+            Running::Unlink(Unlink::Gone) => {}
+            Running::Inherit(Inherit::Gone, list) => end_list(list),
+            _ => unreachable!(),
         }
     }
 
@@ -86,230 +96,64 @@ impl Running {
             Running::Chdir(m) => m.retire(retired),
             Running::Dup(m, list) => {
                 m.retire(retired);
-                list.retire(&retired.inodes);
+                retire_list(list, retired);
             }
             Running::Close(m, list) => {
                 m.retire(retired);
-                list.retire(&retired.inodes);
+                retire_list(list, retired);
             }
             Running::Fstat(m, list) => {
                 m.retire(retired);
-                list.retire(&retired.inodes);
+                retire_list(list, retired);
             }
             Running::Read(m, list) => {
                 m.retire(retired);
-                list.retire(&retired.inodes);
+                retire_list(list, retired);
             }
             Running::Write(m, list) => {
                 m.retire(retired);
-                list.retire(&retired.inodes);
+                retire_list(list, retired);
             }
             Running::Unlink(m) => m.retire(retired),
             Running::Inherit(m, list) => {
                 m.retire(retired);
-                list.retire(&retired.inodes);
+                retire_list(list, retired);
             }
-            Running::Ends(m) => m.retire(retired),
         }
     }
 }
 
-fn left_of_open(left: Onward<OpenOld>) -> Running
-    ensures { result ≡ onward_as (λ m. running.Open m) left }
-{
-    match left {
-        Onward::Runs(m) => Running::Open(m),
-        Onward::Ends(quit) => Running::Ends(quit),
+// Ends the list beside a call, in mid-call.
+fn retire_list(list: Option<Listed>, retired: &RetiredCore) {
+    match list {
+        None => {}
+        Some(list) => list.retire(&retired.inodes),
     }
 }
 
-fn in_open(stepped: Stepped<Onward<OpenOld>, Answered, Kind>) -> Stepped<Running, Answered, Kind>
-    ensures { result ≡ ends_within (onward_as (λ m. running.Open m)) (λ reply. reply) stepped }
+// Nothing is left of the list beside a call that has replied.
+fn end_list(list: Option<Listed>)
+    requires { list ≡ None }
 {
-    match stepped {
-        Stepped::Waits(left) => Stepped::Waits(left_of_open(left)),
-        Stepped::Ran(left, kind) => Stepped::Ran(left_of_open(left), kind),
-        Stepped::Done(reply, kind) => Stepped::Done(reply, kind),
-        Stepped::Stopped(left) => Stepped::Stopped(left_of_open(left)),
+    match list {
+        None => {}
+        Some(_) => unreachable!(),
     }
 }
 
-fn left_of_create(left: Onward<OpenNew>) -> Running
-    ensures { result ≡ onward_as (λ m. running.Create m) left }
+// A step of a call without a path, which hands the list beside it back once it has replied.
+fn with_list(came: Came<Reply, Kind>, list: &mut Option<Listed>) -> Came<Answered, Kind>
+    requires { list.old ≡ Some [] }
+    ensures came { result ≡ answered_with [] came }
+    ensures list { list.new ≡ list_left came list.old }
 {
-    match left {
-        Onward::Runs(m) => Running::Create(m),
-        Onward::Ends(quit) => Running::Ends(quit),
-    }
-}
-
-fn in_create(stepped: Stepped<Onward<OpenNew>, Answered, Kind>) -> Stepped<Running, Answered, Kind>
-    ensures { result ≡ ends_within (onward_as (λ m. running.Create m)) (λ reply. reply) stepped }
-{
-    match stepped {
-        Stepped::Waits(left) => Stepped::Waits(left_of_create(left)),
-        Stepped::Ran(left, kind) => Stepped::Ran(left_of_create(left), kind),
-        Stepped::Done(reply, kind) => Stepped::Done(reply, kind),
-        Stepped::Stopped(left) => Stepped::Stopped(left_of_create(left)),
-    }
-}
-
-fn left_of_link(left: Onward<Link>) -> Running
-    ensures { result ≡ onward_as (λ m. running.Link m) left }
-{
-    match left {
-        Onward::Runs(m) => Running::Link(m),
-        Onward::Ends(quit) => Running::Ends(quit),
-    }
-}
-
-fn in_link(stepped: Stepped<Onward<Link>, Answered, Kind>) -> Stepped<Running, Answered, Kind>
-    ensures { result ≡ ends_within (onward_as (λ m. running.Link m)) (λ reply. reply) stepped }
-{
-    match stepped {
-        Stepped::Waits(left) => Stepped::Waits(left_of_link(left)),
-        Stepped::Ran(left, kind) => Stepped::Ran(left_of_link(left), kind),
-        Stepped::Done(reply, kind) => Stepped::Done(reply, kind),
-        Stepped::Stopped(left) => Stepped::Stopped(left_of_link(left)),
-    }
-}
-
-fn left_of_mkdir(left: Onward<Mkdir>) -> Running
-    ensures { result ≡ onward_as (λ m. running.Mkdir m) left }
-{
-    match left {
-        Onward::Runs(m) => Running::Mkdir(m),
-        Onward::Ends(quit) => Running::Ends(quit),
-    }
-}
-
-fn in_mkdir(stepped: Stepped<Onward<Mkdir>, Answered, Kind>) -> Stepped<Running, Answered, Kind>
-    ensures { result ≡ ends_within (onward_as (λ m. running.Mkdir m)) (λ reply. reply) stepped }
-{
-    match stepped {
-        Stepped::Waits(left) => Stepped::Waits(left_of_mkdir(left)),
-        Stepped::Ran(left, kind) => Stepped::Ran(left_of_mkdir(left), kind),
-        Stepped::Done(reply, kind) => Stepped::Done(reply, kind),
-        Stepped::Stopped(left) => Stepped::Stopped(left_of_mkdir(left)),
-    }
-}
-
-fn left_of_chdir(left: Onward<Chdir>) -> Running
-    ensures { result ≡ onward_as (λ m. running.Chdir m) left }
-{
-    match left {
-        Onward::Runs(m) => Running::Chdir(m),
-        Onward::Ends(quit) => Running::Ends(quit),
-    }
-}
-
-fn in_chdir(stepped: Stepped<Onward<Chdir>, Answered, Kind>) -> Stepped<Running, Answered, Kind>
-    ensures { result ≡ ends_within (onward_as (λ m. running.Chdir m)) (λ reply. reply) stepped }
-{
-    match stepped {
-        Stepped::Waits(left) => Stepped::Waits(left_of_chdir(left)),
-        Stepped::Ran(left, kind) => Stepped::Ran(left_of_chdir(left), kind),
-        Stepped::Done(reply, kind) => Stepped::Done(reply, kind),
-        Stepped::Stopped(left) => Stepped::Stopped(left_of_chdir(left)),
-    }
-}
-
-fn in_dup(list: Listed, stepped: Stepped<Dup, Reply, Kind>) -> Stepped<Running, Answered, Kind>
-    ensures { result ≡ ends_within (λ m. running.Dup m list) (with_list list) stepped }
-{
-    match stepped {
-        Stepped::Waits(m) => Stepped::Waits(Running::Dup(m, list)),
-        Stepped::Ran(m, kind) => Stepped::Ran(Running::Dup(m, list), kind),
-        Stepped::Done(reply, kind) => Stepped::Done(Answered { reply, list }, kind),
-        Stepped::Stopped(m) => Stepped::Stopped(Running::Dup(m, list)),
-    }
-}
-
-fn in_close(list: Listed, stepped: Stepped<Close, Reply, Kind>) -> Stepped<Running, Answered, Kind>
-    ensures { result ≡ ends_within (λ m. running.Close m list) (with_list list) stepped }
-{
-    match stepped {
-        Stepped::Waits(m) => Stepped::Waits(Running::Close(m, list)),
-        Stepped::Ran(m, kind) => Stepped::Ran(Running::Close(m, list), kind),
-        Stepped::Done(reply, kind) => Stepped::Done(Answered { reply, list }, kind),
-        Stepped::Stopped(m) => Stepped::Stopped(Running::Close(m, list)),
-    }
-}
-
-fn in_fstat(list: Listed, stepped: Stepped<Fstat, Reply, Kind>) -> Stepped<Running, Answered, Kind>
-    ensures { result ≡ ends_within (λ m. running.Fstat m list) (with_list list) stepped }
-{
-    match stepped {
-        Stepped::Waits(m) => Stepped::Waits(Running::Fstat(m, list)),
-        Stepped::Ran(m, kind) => Stepped::Ran(Running::Fstat(m, list), kind),
-        Stepped::Done(reply, kind) => Stepped::Done(Answered { reply, list }, kind),
-        Stepped::Stopped(m) => Stepped::Stopped(Running::Fstat(m, list)),
-    }
-}
-
-fn in_read(list: Listed, stepped: Stepped<Read, Reply, Kind>) -> Stepped<Running, Answered, Kind>
-    ensures { result ≡ ends_within (λ m. running.Read m list) (with_list list) stepped }
-{
-    match stepped {
-        Stepped::Waits(m) => Stepped::Waits(Running::Read(m, list)),
-        Stepped::Ran(m, kind) => Stepped::Ran(Running::Read(m, list), kind),
-        Stepped::Done(reply, kind) => Stepped::Done(Answered { reply, list }, kind),
-        Stepped::Stopped(m) => Stepped::Stopped(Running::Read(m, list)),
-    }
-}
-
-fn in_write(list: Listed, stepped: Stepped<Write, Reply, Kind>) -> Stepped<Running, Answered, Kind>
-    ensures { result ≡ ends_within (λ m. running.Write m list) (with_list list) stepped }
-{
-    match stepped {
-        Stepped::Waits(m) => Stepped::Waits(Running::Write(m, list)),
-        Stepped::Ran(m, kind) => Stepped::Ran(Running::Write(m, list), kind),
-        Stepped::Done(reply, kind) => Stepped::Done(Answered { reply, list }, kind),
-        Stepped::Stopped(m) => Stepped::Stopped(Running::Write(m, list)),
-    }
-}
-
-fn left_of_unlink(left: Onward<Unlink>) -> Running
-    ensures { result ≡ onward_as (λ m. running.Unlink m) left }
-{
-    match left {
-        Onward::Runs(m) => Running::Unlink(m),
-        Onward::Ends(quit) => Running::Ends(quit),
-    }
-}
-
-fn in_unlink(stepped: Stepped<Onward<Unlink>, Answered, Kind>) -> Stepped<Running, Answered, Kind>
-    ensures { result ≡ ends_within (onward_as (λ m. running.Unlink m)) (λ reply. reply) stepped }
-{
-    match stepped {
-        Stepped::Waits(left) => Stepped::Waits(left_of_unlink(left)),
-        Stepped::Ran(left, kind) => Stepped::Ran(left_of_unlink(left), kind),
-        Stepped::Done(reply, kind) => Stepped::Done(reply, kind),
-        Stepped::Stopped(left) => Stepped::Stopped(left_of_unlink(left)),
-    }
-}
-
-fn in_inherit(
-    list: Listed,
-    stepped: Stepped<Inherit, Reply, Kind>,
-) -> Stepped<Running, Answered, Kind>
-    ensures { result ≡ ends_within (λ m. running.Inherit m list) (with_list list) stepped }
-{
-    match stepped {
-        Stepped::Waits(m) => Stepped::Waits(Running::Inherit(m, list)),
-        Stepped::Ran(m, kind) => Stepped::Ran(Running::Inherit(m, list), kind),
-        Stepped::Done(reply, kind) => Stepped::Done(Answered { reply, list }, kind),
-        Stepped::Stopped(m) => Stepped::Stopped(Running::Inherit(m, list)),
-    }
-}
-
-fn in_ends(stepped: Stepped<Quit, Answered, Kind>) -> Stepped<Running, Answered, Kind>
-    ensures { result ≡ ends_within (λ m. running.Ends m) (λ reply. reply) stepped }
-{
-    match stepped {
-        Stepped::Waits(m) => Stepped::Waits(Running::Ends(m)),
-        Stepped::Ran(m, kind) => Stepped::Ran(Running::Ends(m), kind),
-        Stepped::Done(reply, kind) => Stepped::Done(reply, kind),
-        Stepped::Stopped(m) => Stepped::Stopped(Running::Ends(m)),
+    match came {
+        Came::Waits => Came::Waits,
+        Came::Ran(kind) => Came::Ran(kind),
+        Came::Done(reply, kind) => match mem::replace(list, None) {
+            Some(list) => Came::Done(Answered { reply, list }, kind),
+            None => unreachable!(),
+        },
+        Came::Stopped => Came::Stopped,
     }
 }

@@ -22,12 +22,12 @@ invariant_of-self g c =
     let at = subst (λ (v : HartsOf _). slice_get v.calls c.args.hart ≡ Some None) (sym c.self.view_is) c.requires.idle in
     let room = slice_get_within w.calls.calls c.args.hart None at in
     let m = c.running-call.result in
-    let calls = c.put_back.ensures.calls ∙ ap (λ (l : List (Option Running)). slice_set l c.args.hart (Some m)) c.take_list.ensures.calls in
+    let calls = c.put.ensures.calls ∙ ap (λ (l : List (Option Running)). slice_set l c.args.hart (Some m)) c.take_list.ensures.calls in
     let have = c.self.invariant.1 in
     let eight = c.self.invariant.0.long in
     let long = have.long in (
       all_set c.args.hart s s w.calls.calls _ (Some m) room calls (leaves_same c.args.hart s) c.self.invariant.0 (c.running-call.ensures.fits c.args.hart s),
-      seat_begun c.args.hart w.calls c.put_back.new.self have m room (omega (arith, room, eight, long)) calls (c.put_back.ensures.lists ∙ c.take_list.ensures.after),
+      seat_begun c.args.hart w.calls c.put.new.self have m room (omega (arith, room, eight, long)) calls (c.put.ensures.lists ∙ c.take_list.ensures.after),
     )
 
 pub running-call-requires-clause-none : goal.running-call-requires-clause-none
@@ -44,13 +44,13 @@ returns-clause-makes g c =
     let s = state_of g.D.Device.contents g.D.Device.failures w.core in
     let at = subst (λ (v : HartsOf _). slice_get v.calls c.args.hart ≡ Some None) (sym c.self.view_is) c.requires.idle in
     let m = c.running-call.result in
-    let calls = c.put_back.ensures.calls ∙ ap (λ (l : List (Option Running)). slice_set l c.args.hart (Some m)) c.take_list.ensures.calls in
+    let calls = c.put.ensures.calls ∙ ap (λ (l : List (Option Running)). slice_set l c.args.hart (Some m)) c.take_list.ensures.calls in
     subst
     (λ (v : HartsOf _). plain_makes blocks code (Start c.args.hart (plain ((block_calls c.args.sizes.now).program c.args.call))) (programs_of g.D.Device.contents g.D.Device.failures v)
-    ≡ record { came = Started; after = programs_of g.D.Device.contents g.D.Device.failures (record { core = w.core; stopped = w.stopped; children = w.children; calls = c.put_back.new.self.calls }) })
+    ≡ record { came = Started; after = programs_of g.D.Device.contents g.D.Device.failures (record { core = w.core; stopped = w.stopped; children = w.children; calls = c.put.new.self.calls }) })
     c.self.view_is
     (subst
     (λ (p : P Reply). plain_makes blocks code (Start c.args.hart p) (programs_of g.D.Device.contents g.D.Device.failures (record { core = w.core; stopped = w.stopped; children = w.children; calls = w.calls.calls }))
-    ≡ record { came = Started; after = programs_of g.D.Device.contents g.D.Device.failures (record { core = w.core; stopped = w.stopped; children = w.children; calls = c.put_back.new.self.calls }) })
+    ≡ record { came = Started; after = programs_of g.D.Device.contents g.D.Device.failures (record { core = w.core; stopped = w.stopped; children = w.children; calls = c.put.new.self.calls }) })
     c.running-call.ensures.program
-    (begun c.args.hart s w.stopped w.calls.calls c.put_back.new.self.calls m at calls))
+    (begun c.args.hart s w.stopped w.calls.calls c.put.new.self.calls m at calls))
