@@ -24,4 +24,4 @@ pub use crate::reach::{Reach, Reached};
 pub use crate::replies::{cause_of, count_of, done, failed, full, record_in, stat_of};
 pub use crate::seek::{Dots, LastName, Seek, Seen};
 pub use crate::tail::{Ending, Tail};
-pub use crate::take::{Held, TakeInode};
+pub use crate::take::{Held, TakeInode, number_of};

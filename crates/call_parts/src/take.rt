@@ -35,6 +35,13 @@ impl Held {
     }
 }
 
+/// The number of an inode in hand. It is a word, so that its block's number is one too.
+pub fn number_of(inode: &Guard<Inode>) -> u32
+    ensures { result ≡ inode.now.value.number }
+{
+    inode.value().number
+}
+
 /// Takes the lock of an inode to which a reference is in hand, and loads the inode where it isn't loaded.
 pub enum TakeInode {
     /// The lock is taken, on a disk whose inode blocks begin at this block.

@@ -42,8 +42,8 @@ fn row_of_fifty(rt: &impl Abort, alloc: Global) -> Result<Slots<Box<u64>>, Alloc
 }
 
 #[test]
-fn a_slot_gives_and_takes_back(rt: HostRuntime) {
-    let mut slot: Slot<u16> = Slot::new(7, 40);
+fn a_slot_gives_and_takes_back(rt: HostRuntime) -> Result<(), Fail> {
+    let mut slot: Slot<u16> = Slot::new(7, Box::new(rt.alloc(), 40)?);
     let mut guard = slot.try_take(3).expect(&rt, "a new slot is not out");
     assert_eq!(rt; (guard.number(), guard.hart(), *guard.value()), (7, 3, 40));
     *guard.value_mut() += 1;
@@ -54,6 +54,7 @@ fn a_slot_gives_and_takes_back(rt: HostRuntime) {
     assert_eq!(rt; (guard.number(), guard.hart(), *guard.value()), (7, 4, 50));
     let ended = slot.retire();
     guard.retire(&ended);
+    Ok(())
 }
 
 #[test]

@@ -23,7 +23,7 @@ ghost use Rattle.making_calls.specs.declared.install.Install.TheVariants as inst
 use crate::in_place::step_truncate;
 use atomic_programs::machines::Came;
 use block_device::Device;
-use call_parts::{Answered, Ending, Held, Quit, ending};
+use call_parts::{Answered, Ending, Held, Quit, ending, number_of};
 use directory::is_directory;
 use fs_layout::{Dinode, Super};
 use fs_machine::{Core, Kind, RetiredCore};
@@ -360,6 +360,8 @@ fn opened(
     let answer = Answer::Fd(fd as u32);
     let ending = ending(&sizes, list, Call::Open { path, flags }, answer);
     if empties {
+        // Its number is a word, and so is its block's.
+        let _ = number_of(&inode);
         let truncate = Truncate::new(inode, &sizes);
         return Install::Emptying(ending, txn, Some(truncate));
     }

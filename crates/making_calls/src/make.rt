@@ -30,7 +30,7 @@ ghost use Rattle.making_calls.specs.declared.make.Make.TheVariants as making;
 use crate::in_place::{step_enter, step_new, step_store, step_write};
 use atomic_programs::machines::Came;
 use block_device::Device;
-use call_parts::{GiveUp, Held, TakeInode, store, with_links};
+use call_parts::{GiveUp, Held, TakeInode, number_of, store, with_links};
 use directory::{Enter, Entered, Room, entry_bytes};
 use fs_layout::Super;
 use fs_layout::widths::DIRENT_LEN;
@@ -597,6 +597,8 @@ fn enter(sizes: Super, parent: Held, name: &[u8], child: Held) -> Begun<Make, Na
     ensures fits { (hart : ℕ) (s : State) → IsHeld hart parent s → IsHeld hart child s → parent.reference ≢ child.reference → IfBegun (MakeFits hart s) (IsNamed hart s) result }
 {
     let Held { reference, inode } = parent;
+    // Its number is a word, and so is its block's.
+    let _ = number_of(&inode);
     let number = child.inode.value().number;
     match Enter::begin(inode, &sizes, number, name) {
         Begun::Runs(enter) => Begun::Runs(Make::Entering(sizes, reference, child, Some(enter))),

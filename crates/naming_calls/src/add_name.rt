@@ -20,7 +20,8 @@ use crate::lower::{Lower, to_child};
 use atomic_programs::machines::{Came, Stepped, put};
 use block_device::Device;
 use call_parts::{
-    Answered, Dots, Ending, GiveUp, Held, LastName, Quit, Seek, Seen, TakeInode, ending, stopped,
+    Answered, Dots, Ending, GiveUp, Held, LastName, Quit, Seek, Seen, TakeInode, ending, number_of,
+    stopped,
 };
 use directory::{Enter, Entered, Room};
 use fs_layout::Super;
@@ -415,6 +416,8 @@ fn enter(
     ensures fits { (hart : ℕ) (s : State) → txn ≡ hart → IsHeld hart parent s → AddFits hart s result }
 {
     let Held { reference, inode } = parent;
+    // Its number is a word, and so is its block's.
+    let _ = number_of(&inode);
     let name = &l.new.as_slice()[element.start..element.end];
     let begun = Enter::begin(inode, &l.sizes, file.number(), name);
     match begun {

@@ -20,7 +20,8 @@ use crate::lower::Lower;
 use atomic_programs::machines::{Came, Stepped, put};
 use block_device::Device;
 use call_parts::{
-    Answered, Dots, Ending, Held, LastName, OnPath, Quit, Seek, Seen, TakeInode, ending, stopped,
+    Answered, Dots, Ending, Held, LastName, OnPath, Quit, Seek, Seen, TakeInode, ending, number_of,
+    stopped,
 };
 use directory::{Change, Found, PutEntry, Search, Searched, Sought, is_directory};
 use fs_layout::Super;
@@ -569,6 +570,8 @@ fn clear(removing: Removing, txn: Txn, child: Held) -> Unlink
         list,
     } = removing;
     let Held { reference, inode } = parent;
+    // Its number is a word, and so is its block's.
+    let _ = number_of(&inode);
     let clear = PutEntry::new(inode, sizes.inodestart, slot as usize);
     let ending = ending(&sizes, list, Call::Unlink { path }, Answer::Done);
     Unlink::Clearing(ending, txn, reference, child, Some(clear))

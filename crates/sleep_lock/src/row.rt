@@ -61,7 +61,7 @@ impl<T> Slots<T> {
         let mut items = Vec::with_capacity(alloc, values.len())?;
         let mut number: u64 = 0;
         for value in values {
-            items.push(Slot::new(number as u32, value))?;
+            items.push(Slot::new(number as u32, Box::new(alloc, value)?))?;
             number += 1;
         }
         Ok(Slots { items })

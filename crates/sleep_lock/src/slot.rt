@@ -12,16 +12,17 @@ use std::marker::Model;
 #[derive(Drop)]
 pub struct Slot<T> {
     number: u32,
-    inside: Option<T>,
+    inside: Option<Box<T>>,
     holder: Option<u8>,
 }
 
 impl<T> Model for Slot<T> {
+    ghost use Rattle.std.specs.Option.{option_map};
     ghost use Rattle.sleep_lock.specs.SleepLock.{SlotState};
 
     ghost Value = { SlotState T };
 
-    ghost view = { λ s. record { number = s.number; inside = s.inside; holder = s.holder } };
+    ghost view = { λ s. record { number = s.number; inside = option_map (λ b. b.value) s.inside; holder = s.holder } };
 }
 
 /// The value of a slot while it is out in a hart's hand.
@@ -30,7 +31,7 @@ impl<T> Model for Slot<T> {
 pub struct Guard<T> {
     number: u32,
     hart: u8,
-    value: T,
+    value: Box<T>,
 }
 
 impl<T> Model for Guard<T> {
@@ -38,7 +39,7 @@ impl<T> Model for Guard<T> {
 
     ghost Value = { GuardState T };
 
-    ghost view = { λ g. record { number = g.number; hart = g.hart; value = g.value } };
+    ghost view = { λ g. record { number = g.number; hart = g.hart; value = g.value.value } };
 }
 
 /// The sign that the slot of this number has ended.
@@ -57,8 +58,8 @@ impl Model for Retired {
 
 impl<T> Slot<T> {
     /// A slot with this value in it.
-    pub fn new(number: u32, value: T) -> Slot<T>
-        ensures { result ≡ filled number value }
+    pub fn new(number: u32, value: Box<T>) -> Slot<T>
+        ensures { result ≡ filled number value.value }
     {
         Slot {
             number,
@@ -140,7 +141,7 @@ impl<T> Guard<T> {
     pub fn value(&self) -> &T
         ensures { result.now ≡ self.now.value }
     {
-        &self.value
+        &*self.value
     }
 
     /// The value, to be changed.
@@ -148,7 +149,7 @@ impl<T> Guard<T> {
         ensures* writes_back { sem 𝓛 (LendsValue T.row self.entry result) }
         ensures value { result.now ≡ self.old.value }
     {
-        &mut self.value
+        &mut *self.value
     }
 
     /// Puts another value into the guard, and gives the one that was there.
@@ -156,7 +157,7 @@ impl<T> Guard<T> {
         ensures value { result ≡ self.old.value }
         ensures guard { self.new ≡ record self.old { value = value } }
     {
-        std::mem::replace(&mut self.value, value)
+        std::mem::replace(&mut *self.value, value)
     }
 
     /// Ends a guard, and its value, once its slot has ended.

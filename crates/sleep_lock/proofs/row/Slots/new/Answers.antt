@@ -9,7 +9,9 @@ pub loop-value-preserved : goal.loop-value-preserved
 loop-value-preserved g c =
     let values = c.loop-value.yielded in
     let value = c.in-Some.value in
-    let at : filled (0 + length values) value ≡ c.new.result = ap (λ (n : ℕ). filled n value) (let n : 0 + length values ≡ c.loop-value.number = omega (arith, c.loop-value.invariant.number) in n) ∙ sym c.new.ensures in
+    let boxed : c.in_ok-new.field-0.value ≡ value = grind (arith, common_steps) in
+    let place : 0 + length values ≡ c.loop-value.number = omega (arith, c.loop-value.invariant.number) in
+    let at : filled (0 + length values) value ≡ c.new-in-loop-value.result = rw (place, sym boxed) (sym c.new-in-loop-value.ensures) in
     record {
       row = rw (c.in_ok-push.ensures.items, c.loop-value.invariant.row, row_of-push 0 values value, at) refl;
       number = omega (arith, length-append values (value ∷ []), c.loop-value.invariant.number);
