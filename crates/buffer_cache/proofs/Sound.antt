@@ -1,6 +1,6 @@
 -- What each call keeps of a sound cache, and of what is seen.
-use Rattle.std.proofs.Common.{is_none, is_some, ◌&&◌, ◌≡◌, ◌≢◌, ◌⊎◌, inl, inr, ℕ, zero, suc, ◌+◌, ◌<◌, ◌≤◌, List, [], ◌∷◌, ◌++◌, length, Bool, true, false, cond, ◌==◌, refl, sym, ◌∙◌, ap, subst, arith, Option, Some, None, if◌then◌else◌}
-use Rattle.std.specs.Prelude.{slice_set}
+use Rattle.std.proofs.Common.{IsSome, is_none, is_some, ◌&&◌, ◌≡◌, ◌≢◌, ◌⊎◌, inl, inr, ℕ, zero, suc, ◌+◌, ◌<◌, ◌≤◌, List, [], ◌∷◌, ◌++◌, length, Bool, true, false, cond, ◌==◌, refl, sym, ◌∙◌, ap, subst, arith, Option, Some, None, if◌then◌else◌}
+use Rattle.std.specs.Prelude.{slice_set, IfSome}
 use Rattle.std.specs.Option.{option_map, option_and_then, unwrap_or}
 use Rattle.std.proofs.lemmas.Bool.{cases_eq}
 use Rattle.std.proofs.lemmas.Option.{same_Some, none-some}
@@ -163,6 +163,14 @@ sound_content disk ss b bytes new sound = record {
       sym (same_Some bytes bytes_k valid) ∙ new s e unpinned ∙ ap (block_at disk) same) sound.clean;
   unused = unused_with b (with_content bytes) ss (λ _. refl) (λ s is. is) sound.unused;
 }
+
+-- a block whose bytes are kept has no buffer more
+pub once_content : (ss new : List SeatState) (b : ℕ) (o : Option (List ℕ)) → IsSome o → count_of (has_block b) ss ≤ 1 → IfSome o (λ bytes. new ≡ with_seat b (with_content bytes) ss) → count_of (has_block b) new ≤ 1
+once_content ss new b None some once is = absurd (cc some)
+once_content ss new b (Some bytes) some once is =
+    let same = count_same (has_block b) (has_block b) (with_content bytes) ss (λ s _ e. e) in
+    let at : count_of (has_block b) new ≡ count_of (has_block b) (with_seat b (with_content bytes) ss) = ap (count_of (has_block b)) is in
+    omega (arith, same, at, once)
 
 pinned_bit : (ss : List SeatState) (b : ℕ) → (option_map is_pinned (seat_of b ss) ≡ Some true) ⊎ (count_of is_pinned ss < 30) → count_of is_pinned ss ≤ 30 → count_of is_pinned (with_seat b (with_pin true) ss) ≤ 30
 pinned_bit ss b (inl is) few =

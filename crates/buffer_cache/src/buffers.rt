@@ -19,12 +19,18 @@ use sleep_lock::{Guard, RetiredSlots, Slots};
 use std::alloc::{AllocError, Global};
 use std::marker::Model;
 
+// So many buffers at the end of the list are found soonest by looking from there.
+const LATEST: usize = 8;
+
 /// Forty-six buffers: the memory of a cache, taken before there is one. A contract sees the list of what is kept of
 /// each, in order of giving back.
 #[derive(Drop)]
 pub struct Buffers {
     seats: Vec<Seat>,
     slots: Slots<Buffer>,
+    // The place at which a buffer was found last that isn't one of the latest. It is asked for again when it is given back; and where
+    // blocks are read in turn, the next one stands there then.
+    likely: usize,
 }
 
 impl Model for Buffers {
@@ -46,7 +52,11 @@ impl Buffers {
     {
         let seats = new_seats(alloc)?;
         let slots = new_slots(alloc)?;
-        Ok(Buffers { seats, slots })
+        Ok(Buffers {
+            seats,
+            slots,
+            likely: 0,
+        })
     }
 
     pub(crate) fn held_by(&self, hart: u8) -> usize
@@ -62,17 +72,19 @@ impl Buffers {
     }
 
     pub(crate) fn is_cached(&self, b: u32) -> bool
+        requires once { count_of (has_block b) self.now ≤ 1 }
         ensures { IsTrue result ↔ IsSome (seat_of b self.now) }
     {
-        place_of(&self.seats, b).is_some()
+        place_of(&self.seats, self.likely, b).is_some()
     }
 
     // A block's buffer, else the first that is free.
     pub(crate) fn get(&mut self, hart: u8, b: u32) -> Got
-        requires { IsSome (find is_free self.old) }
+        requires free { IsSome (find is_free self.old) }
+        requires once { count_of (has_block b) self.old ≤ 1 }
         ensures { (self.new, result) ≡ get_of hart b self.old }
     {
-        get_in(&mut self.seats, &mut self.slots, hart, b)
+        get_in(&mut self.seats, &mut self.slots, &mut self.likely, hart, b)
     }
 
     // The device's block into a buffer that isn't valid.
@@ -84,6 +96,7 @@ impl Buffers {
         requires held { IsHeld self.old guard.old }
         requires unread { guard.old.value.content ≡ None }
         requires within { guard.old.value.block < length (D.contents device.old) }
+        requires once { count_of (has_block guard.old.value.block) self.old ≤ 1 }
         ensures called { D.Called device.old device.new }
         ensures ok { OnOk result (guard.new ≡ record guard.old {
           value = record {
@@ -97,42 +110,49 @@ impl Buffers {
         ensures contents { D.contents device.new ≡ D.contents device.old }
         ensures faults { D.failures device.new ≡ faults_after result (D.failures device.old) }
     {
-        fill_in(&mut self.seats, device, guard)
+        fill_in(&mut self.seats, self.likely, device, guard)
     }
 
     // Keeps a guard's bytes.
     pub(crate) fn keep(&mut self, guard: &Guard<Buffer>)
         requires held { IsHeld self.old guard.now }
         requires valid { IsSome guard.now.value.content }
+        requires once { count_of (has_block guard.now.value.block) self.old ≤ 1 }
         ensures { IfSome guard.now.value.content (λ bytes. self.new ≡ with_seat guard.now.value.block (with_content bytes) self.old) }
     {
-        keep_in(&mut self.seats, guard)
+        keep_in(&mut self.seats, self.likely, guard)
     }
 
     // Gives a buffer back, with the bytes that are kept. It is the most recent one then.
     pub(crate) fn release(&mut self, guard: Guard<Buffer>)
         requires held { IsHeld self.old guard }
         requires unchanged { guard.value.content ≡ kept guard.value.block self.old }
+        requires once { count_of (has_block guard.value.block) self.old ≤ 1 }
         ensures { self.new ≡ given_back guard.value.block self.old }
     {
         let b = guard.value().block();
         self.slots.unlock(guard);
-        give_back(&mut self.seats, b);
+        give_back(&mut self.seats, self.likely, b);
     }
 
     // Pins a block's buffer, or takes the pin away.
     pub(crate) fn set_pinned(&mut self, b: u32, pinned: bool)
-        requires { IsSome (seat_of b self.old) }
+        requires there { IsSome (seat_of b self.old) }
+        requires once { count_of (has_block b) self.old ≤ 1 }
         ensures { self.new ≡ with_seat b (with_pin pinned) self.old }
     {
-        pin_in(&mut self.seats, b, pinned);
+        pin_in(&mut self.seats, self.likely, b, pinned);
     }
 
     // Ends the buffers. A guard that is out may then be ended too.
     pub(crate) fn retire(self) -> RetiredSlots
         ensures { (guard : GuardState BufferState) → IsHeld self guard → guard.number < result }
     {
-        let Buffers { seats: _, slots } = self;
+        let Buffers {
+            seats: _,
+            slots,
+            likely: _,
+        } = self;
         slots.retire()
     }
 }
@@ -157,11 +177,30 @@ fn new_slots(alloc: Global) -> Result<Slots<Buffer>, AllocError>
     Slots::new(alloc, buffers)
 }
 
-// Where a block's buffer is.
-fn place_of(seats: &[Seat], b: u32) -> Option<usize>
+// Where a block's buffer is: most often in this place.
+fn place_of(seats: &[Seat], likely: usize, b: u32) -> Option<usize>
+    requires once { count_of (has_block b) seats.now ≤ 1 }
     ensures { result ≡ position (has_block b) seats.now }
 {
-    seats.iter().position(|seat| seat.has_block(b))
+    if likely < seats.len() && seats[likely].has_block(b) {
+        return Some(likely);
+    }
+    latest_of(seats, b)
+}
+
+// The same, from the most recent one back.
+fn latest_of(seats: &[Seat], b: u32) -> Option<usize>
+    requires once { count_of (has_block b) seats.now ≤ 1 }
+    ensures { result ≡ position (has_block b) seats.now }
+{
+    let count = seats.len();
+    for back in 0..count {
+        let place = count - 1 - back;
+        if seats[place].has_block(b) {
+            return Some(place);
+        }
+    }
+    None
 }
 
 // The least recently given back buffer that is neither out nor pinned.
@@ -183,16 +222,29 @@ fn count_pinned(seats: &[Seat]) -> usize
     seats.iter().filter(|seat| seat.is_pinned()).count()
 }
 
-fn get_in(seats: &mut Vec<Seat>, slots: &mut Slots<Buffer>, hart: u8, b: u32) -> Got
+fn get_in(
+    seats: &mut Vec<Seat>,
+    slots: &mut Slots<Buffer>,
+    likely: &mut usize,
+    hart: u8,
+    b: u32,
+) -> Got
     requires free { IsSome (find is_free seats.old.items) }
+    requires once { count_of (has_block b) seats.old.items ≤ 1 }
     requires seated { IsSeated slots.old seats.old.items }
     ensures gives { (seats.new.items, result) ≡ get_of hart b seats.old.items }
     ensures seated { IsSeated slots.new seats.new.items }
 {
-    match place_of(seats, b) {
-        Some(i) => lend(seats, slots, i, hart, b),
+    match place_of(seats, *likely, b) {
+        Some(i) => {
+            if i + LATEST < seats.len() {
+                *likely = i;
+            }
+            lend(seats, slots, i, hart, b)
+        }
         None => {
             let i = first_free(seats).unwrap();
+            *likely = i;
             renew(seats, slots, i, hart, b)
         }
     }
@@ -237,12 +289,14 @@ fn renew(seats: &mut Vec<Seat>, slots: &mut Slots<Buffer>, i: usize, hart: u8, b
 
 fn fill_in<D: Device>(
     seats: &mut Vec<Seat>,
+    likely: usize,
     device: &mut D,
     guard: &mut Guard<Buffer>,
 ) -> Result<(), Fault>
     requires held { IsHeld seats.old.items guard.old }
     requires unread { guard.old.value.content ≡ None }
     requires within { guard.old.value.block < length (D.contents device.old) }
+    requires once { count_of (has_block guard.old.value.block) seats.old.items ≤ 1 }
     ensures called { D.Called device.old device.new }
     ensures ok { OnOk result (guard.new ≡ record guard.old {
       value = record {
@@ -257,38 +311,41 @@ fn fill_in<D: Device>(
     ensures faults { D.failures device.new ≡ faults_after result (D.failures device.old) }
 {
     let b = guard.value().block();
-    let i = place_of(seats, b).unwrap();
+    let i = place_of(seats, likely, b).unwrap();
     let seat = &mut seats[i];
     seat.read(device, b)?;
     guard.value_mut().fill(seat.bytes());
     Ok(())
 }
 
-fn keep_in(seats: &mut Vec<Seat>, guard: &Guard<Buffer>)
+fn keep_in(seats: &mut Vec<Seat>, likely: usize, guard: &Guard<Buffer>)
     requires held { IsSome (seat_of guard.now.value.block seats.old.items) }
     requires valid { IsSome guard.now.value.content }
+    requires once { count_of (has_block guard.now.value.block) seats.old.items ≤ 1 }
     ensures { IfSome guard.now.value.content (λ bytes. seats.new.items ≡ with_seat guard.now.value.block (with_content bytes) seats.old.items) }
 {
     let buffer = guard.value();
-    let i = place_of(seats, buffer.block()).unwrap();
+    let i = place_of(seats, likely, buffer.block()).unwrap();
     let seat = &mut seats[i];
     seat.keep(buffer.bytes());
 }
 
-fn pin_in(seats: &mut Vec<Seat>, b: u32, pinned: bool)
-    requires { IsSome (seat_of b seats.old.items) }
+fn pin_in(seats: &mut Vec<Seat>, likely: usize, b: u32, pinned: bool)
+    requires there { IsSome (seat_of b seats.old.items) }
+    requires once { count_of (has_block b) seats.old.items ≤ 1 }
     ensures { seats.new.items ≡ with_seat b (with_pin pinned) seats.old.items }
 {
-    let i = place_of(seats, b).unwrap();
+    let i = place_of(seats, likely, b).unwrap();
     let seat = &mut seats[i];
     seat.set_pinned(pinned);
 }
 
-fn give_back(seats: &mut [Seat], b: u32)
-    requires { IsSome (seat_of b seats.old) }
+fn give_back(seats: &mut [Seat], likely: usize, b: u32)
+    requires there { IsSome (seat_of b seats.old) }
+    requires once { count_of (has_block b) seats.old ≤ 1 }
     ensures { seats.new ≡ given_back b seats.old }
 {
-    let i = place_of(seats, b).unwrap();
+    let i = place_of(seats, likely, b).unwrap();
     let seat = &mut seats[i];
     seat.take_back();
     let rest = &mut seats[i..];

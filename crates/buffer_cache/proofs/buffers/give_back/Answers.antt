@@ -6,7 +6,7 @@ use Rattle.buffer_cache.proofs.Firsts.{has_place, place_to_end, position_some}
 use Rattle.buffer_cache.proofs.buffers.give_back.Goals as goal
 
 pub unwrap-i-requires : goal.unwrap-i-requires
-unwrap-i-requires c = has_place (has_block c.args.b) c.args.seats.now c.place_of.result c.place_of.ensures c.requires
+unwrap-i-requires c = has_place (has_block c.args.b) c.args.seats.now c.place_of.result c.place_of.ensures c.requires.there
 
 pub returns : goal.returns
 returns c =

@@ -7,7 +7,7 @@ use Rattle.buffer_cache.proofs.buffers.pin_in.Goals as goal
 pub unwrap-i-requires : goal.unwrap-i-requires
 unwrap-i-requires c =
     has_place (has_block c.args.b) c.deref.result.now c.place_of.result c.place_of.ensures
-    (subst (λ (l : List SeatState). IsSome (seat_of c.args.b l)) (sym c.deref.ensures.value) c.requires)
+    (subst (λ (l : List SeatState). IsSome (seat_of c.args.b l)) (sym c.deref.ensures.value) c.requires.there)
 
 pub returns : goal.returns
 returns c =

@@ -9,8 +9,8 @@ use Rattle.buffer_cache.proofs.Enough.{some_free}
 use Rattle.buffer_cache.proofs.Laws.{GetLaws, get_laws}
 use Rattle.buffer_cache.proofs.cache.Cache.get.Goals as goal
 
-pub get-requires : goal.get-requires
-get-requires g c =
+pub get-requires-clause-free : goal.get-requires-clause-free
+get-requires-clause-free g c =
     let sound = c.self.invariant in
     let one = subst (λ v. count_of (is_held_by c.args.hart) v.seats ≤ 1) (sym c.self.view_is) c.requires.few in
     some_free c.self.inside.buffers c.args.hart c.requires.hart sound.count sound.few_pinned sound.few_out sound.harts one

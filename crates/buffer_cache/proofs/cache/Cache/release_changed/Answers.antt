@@ -2,6 +2,7 @@ use Rattle.std.proofs.Common.{◌≡◌, List, sym, ◌∙◌, ap, subst, Some, 
 use Rattle.std.specs.Option.{option_map, unwrap_or}
 use Rattle.buffer_cache.specs.Seats.{Keeps, is_recorded, is_pinned, IsRecorded, SeatState, seat_of, seen, seen_in, IsHeld, KeepsOthers, IsSound}
 use Rattle.buffer_cache.proofs.Laws.{change_some}
+use Rattle.buffer_cache.proofs.Sound.{once_content}
 use Rattle.buffer_cache.proofs.cache.Cache.release_changed.Goals as goal
 
 pub release-requires-clause-held : goal.release-requires-clause-held
@@ -21,6 +22,9 @@ release-requires-clause-unchanged g c =
     let pinned = subst (λ v. option_map is_pinned (seat_of c.args.guard.value.block v.seats) ≡ Some true) (sym c.self.view_is) c.requires.pinned in
     let laws = change_some disk ss c.keep.new.self c.args.guard held c.requires.valid pinned c.self.invariant c.keep.ensures in
     laws.kept_then
+
+pub release-requires-clause-once : goal.release-requires-clause-once
+release-requires-clause-once g c = once_content c.self.inside.buffers c.keep.new.self c.args.guard.value.block c.args.guard.value.content c.requires.valid (c.self.invariant.once c.args.guard.value.block) c.keep.ensures
 
 pub invariant_of-self : goal.invariant_of-self
 invariant_of-self g c =
