@@ -1,6 +1,7 @@
 //! A new inode.
-ghost use Rattle.std.specs.Prelude.{◌≡◌, ◌<◌, ◌≤◌, ◌+◌, ◌-◌, ◌^◌, ℕ, Some, take};
-ghost use Rattle.fs_layout.specs.Widths.{inodes_per_block};
+ghost use Rattle.std.specs.Prelude.{◌≡◌, ◌<◌, ◌≤◌, ◌+◌, ◌-◌, ◌*◌, ◌^◌, ℕ, Some, take};
+ghost use Rattle.fs_layout.specs.Bytes.{i16_at};
+ghost use Rattle.fs_layout.specs.Widths.{inode_len, inodes_per_block};
 ghost use Rattle.fs_layout.specs.Inode.{dinode_at};
 ghost use Rattle.atomic_programs.specs.Prog.{Ret, Ran as ItRan};
 ghost use Rattle.atomic_programs.specs.Machines.{Still, Left as LeftOf};
@@ -19,8 +20,9 @@ use crate::place::{inode_in, write_in};
 use atomic_programs::machines::Stepped;
 use block_device::Device;
 use buffer_cache::Buffer;
-use fs_layout::widths::{ADDRESSES, Block, INODES_PER_BLOCK};
-use fs_layout::{Dinode, Super, read_dinode};
+use byteorder::{ByteOrder, LittleEndian};
+use fs_layout::widths::{ADDRESSES, Block, INODE_LEN, INODES_PER_BLOCK};
+use fs_layout::{Dinode, Super};
 use fs_machine::{Claim, Core, Fetch, Kind, RetiredCore};
 use fs_tables::Reference;
 use group_log::Txn;
@@ -183,13 +185,20 @@ fn none_left(looking: Looking) -> Made
     Made::NoInode
 }
 
+// The type of an inode, read alone.
+#[tactic(auto, unfolding(fs_layout::specs::Bytes::u16_at))]
+fn kind_at(block: &Block, place: usize) -> i16
+    requires { place < inodes_per_block }
+    ensures { result ≡ i16_at block.now (inode_len * place) }
+{
+    LittleEndian::read_i16(&block[INODE_LEN * place..])
+}
+
 // Whether an inode can be used and is free, by its block.
 fn is_free(block: &Block, number: usize, ninodes: u32) -> bool
     ensures { result ≡ is_free_in ninodes block.now number }
 {
-    0 < number
-        && number < ninodes as usize
-        && read_dinode(block, number % INODES_PER_BLOCK).kind == 0
+    0 < number && number < ninodes as usize && kind_at(block, number % INODES_PER_BLOCK) == 0
 }
 
 // The free inodes of a block, and how many there are.

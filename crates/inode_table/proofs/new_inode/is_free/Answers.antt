@@ -1,0 +1,14 @@
+use Rattle.std.proofs.Common.{rules, ◌≡◌, ◌+◌, ◌*◌, ◌%◌, ℕ, w16, sym, ◌∙◌, ap, arith}
+use Rattle.std.specs.Int.{cast_signed}
+use Rattle.fs_layout.specs.Bytes.{u16_at, i16_at}
+use Rattle.fs_layout.specs.Inode.{dinode_at}
+use Rattle.fs_layout.proofs.Numbers.{u16_at-part}
+use Rattle.inode_table.proofs.new_inode.is_free.Goals as goal
+
+pub returns-then-number-ninodes : goal.returns-then-number-ninodes
+returns-then-number-ninodes c =
+    let block = c.args.block.now in
+    let at = 64 * (c.args.number % 16) in
+    let same : at + 0 ≡ at = omega arith in
+    let kind : c.kind_at.result ≡ (dinode_at (c.args.number % 16) block).kind = c.kind_at.ensures ∙ ap (cast_signed w16) (sym (u16_at-part block at 64 0 (omega arith) ∙ ap (u16_at block) same)) in
+    search (rules, kind)
