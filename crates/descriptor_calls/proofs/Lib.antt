@@ -1,4 +1,3 @@
 pub mod Inside
-pub mod Stats
 pub mod Pieces
 pub mod Lendings

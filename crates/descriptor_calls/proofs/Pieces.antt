@@ -9,22 +9,17 @@ use Rattle.plain_tree.specs.declared.answer.Reply.{Reply}
 use Rattle.fs_layout.specs.declared.inode.Dinode.{Dinode}
 use Rattle.fs_layout.specs.declared.superblock.Super.{Super}
 use Rattle.atomic_programs.specs.Prog.{Do, unmarked}
-use Rattle.atomic_programs.specs.Machines.{Left}
-use Rattle.atomic_programs.specs.declared.machines.Stepped.{Stepped}
 use Rattle.fs_tables.specs.declared.inodes.Inode.{Inode}
 use Rattle.fs_tables.specs.declared.files.OpenFile.{OpenFile}
-use Rattle.fs_machine.specs.declared.kind.Kind.{Kind}
 use Rattle.fs_machine.specs.Steps.{State, Join, Unlock}
 use Rattle.fs_machine.specs.Machines.{P}
 use Rattle.fs_machine.specs.Tied.{IsOwnInode}
 use Rattle.inode_table.specs.Programs.{no_record, record_of}
 use Rattle.inode_data.specs.Records.{record_in, with_record}
-use Rattle.inode_data.specs.PartWriting.{writer_of, written_of, WriteFits}
+use Rattle.inode_data.specs.PartWriting.{written_of}
 use Rattle.inode_data.specs.declared.write_part.PartWritten.{PartWritten}
-use Rattle.inode_data.specs.declared.write_part.WritePart.{WritePart}
 use Rattle.descriptor_calls.specs.Writing.{behind, check_program, deny_piece, end_of, give_part, give_written, leave_piece, part_of, pieces_from, say_written, this_piece, write_bytes, write_loaded, write_locked, write_program, write_unless}
 use Rattle.descriptor_calls.specs.declared.write.Writes.{Writes}
-use Rattle.call_parts.proofs.Nesting.{left_map, left_zip}
 use Rattle.call_parts.proofs.Tails.{own_loaded, own_on}
 use Rattle.call_parts.proofs.Having.{value_so}
 
@@ -55,26 +50,19 @@ pub locked_so : (w : Writes) (file : OpenFile) (inode : Inode) (d : Dinode) → 
 locked_so w file inode d is =
     subst (λ o. write_loaded w.sizes w.fd w.bytes w.piece (behind w) file (unwrap_or o no_record) ≡ write_locked w.sizes w.fd w.bytes w.piece (behind w) (file, o)) (sym is) refl
 
--- ---- the guard, step by step
+-- ---- the guard, when the piece was written
 
-pub same_number : (guard : GuardState Inode) (stepped : Stepped WritePart PartWritten Kind) → Left (λ m. writer_of m ≡ guard) (λ r. r.inode ≡ with_record (record_in r.inode) guard) stepped
-    → Left (λ m. (writer_of m).value.number ≡ guard.value.number) (λ r. (r.inode.value.number ≡ guard.value.number) × IsSome r.inode.value.content) stepped
-same_number guard stepped =
-    left_map (λ m. writer_of m ≡ guard) (λ m. (writer_of m).value.number ≡ guard.value.number) (λ r. r.inode ≡ with_record (record_in r.inode) guard) (λ r. (r.inode.value.number ≡ guard.value.number) × IsSome r.inode.value.content)
-    (λ m e. ap (λ (g : GuardState Inode). g.value.number) e)
-    (λ r e. (ap (λ (g : GuardState Inode). g.value.number) e, subst (λ (g : GuardState Inode). IsSome g.value.content) (sym e) refl)) stepped
+module _ (guard : GuardState Inode) (r : PartWritten) where
+  pub number_written : r.inode ≡ with_record (record_in r.inode) guard → r.inode.value.number ≡ guard.value.number
+  number_written is = ap (λ (g : GuardState Inode). g.value.number) is
 
-pub own_fits : (hart : ℕ) (bytes : List ℕ) (old new : State) (part : WritePart) (stepped : Stepped WritePart PartWritten Kind) → IsOwnInode hart (writer_of part).value.number (writer_of part) old → new.tables ≡ old.tables
-    → Left (λ m. writer_of m ≡ writer_of part) (λ r. r.inode ≡ with_record (record_in r.inode) (writer_of part)) stepped → Left (WriteFits hart bytes new) (λ _. Unit {0}) stepped
-    → Left (λ m. IsOwnInode hart (writer_of m).value.number (writer_of m) new × WriteFits hart bytes new m) (λ r. IsOwnInode hart r.inode.value.number r.inode new) stepped
-own_fits hart bytes old new part stepped held same inode left =
-    let guard : GuardState Inode = writer_of part in
-    let own : IsOwnInode hart guard.value.number guard new = own_on hart guard.value.number guard old new same held in
-    left_zip (λ m. writer_of m ≡ guard) (WriteFits hart bytes new) (λ m. IsOwnInode hart (writer_of m).value.number (writer_of m) new × WriteFits hart bytes new m)
-    (λ r. r.inode ≡ with_record (record_in r.inode) guard) (λ _. Unit {0}) (λ r. IsOwnInode hart r.inode.value.number r.inode new)
-    (λ m e f. (subst (λ (g : GuardState Inode). IsOwnInode hart g.value.number g new) (sym e) own, f))
-    (λ r e f. subst (λ (g : GuardState Inode). IsOwnInode hart g.value.number g new) (sym e) (own_loaded hart guard.value.number guard guard.value (record_in r.inode) new refl own))
-    stepped inode left
+  pub some_written : r.inode ≡ with_record (record_in r.inode) guard → IsSome r.inode.value.content
+  some_written is = subst (λ (g : GuardState Inode). IsSome g.value.content) (sym is) refl
+
+pub own_written : (hart : ℕ) (guard : GuardState Inode) (r : PartWritten) (old new : State) → new.tables ≡ old.tables → r.inode ≡ with_record (record_in r.inode) guard
+    → IsOwnInode hart guard.value.number guard old → IsOwnInode hart r.inode.value.number r.inode new
+own_written hart guard r old new same is held =
+    subst (λ (g : GuardState Inode). IsOwnInode hart g.value.number g new) (sym is) (own_loaded hart guard.value.number guard guard.value (record_in r.inode) new refl (own_on hart guard.value.number guard old new same held))
 
 -- ---- what comes behind a piece
 

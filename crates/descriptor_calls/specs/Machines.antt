@@ -21,13 +21,16 @@ use Rattle.fs_machine.specs.Tied.{IsOwnInode}
 use Rattle.fs_machine.specs.Fetching.{finish_of, FinishFits}
 use Rattle.file_table.specs.declared.load_file.LoadedFile.{LoadedFile}
 use Rattle.file_table.specs.declared.load_file.LoadedFile.TheVariants as file
-use Rattle.file_table.specs.Machines.{IsEarly, file_of, FileFits, IsLoaded}
+use Rattle.file_table.specs.declared.load_file.LoadFile.TheVariants as loading
+use Rattle.file_table.specs.Machines.{IsEarly, file_of, FileFits, loaded_as, IsLoaded}
 use Rattle.inode_data.specs.Dropping.{drop_of, DropFits}
 use Rattle.inode_data.specs.Reading.{filled_in, read_of, reader_of, ReadFits}
+use Rattle.inode_data.specs.declared.read_part.ReadPart.TheVariants as part
 use Rattle.descriptor_calls.specs.declared.read.Read.{Read}
 use Rattle.descriptor_calls.specs.declared.read.Read.TheVariants as read
 use Rattle.call_parts.specs.Replies.{failed, full, done, no_program}
 use Rattle.call_parts.specs.Programs.{say}
+use Rattle.call_parts.specs.Nesting.{GoesOn}
 use Rattle.descriptor_calls.specs.Programs.{dup_program, leave_closed, drop_closed, close_program, stat_reply, stat_on, give_read, read_on}
 use Rattle.descriptor_calls.specs.declared.dup.Dup.{Dup}
 use Rattle.descriptor_calls.specs.declared.dup.Dup.TheVariants as dup
@@ -100,23 +103,21 @@ close_came sizes fd (shut.Last n) = Ran (close.Join sizes fd n) kind.Slot
 -- ---- fstat
 
 unfoldable pub fstat_of : Fstat → P Reply
-fstat_of (fstat.Loading fd (Some load)) = bind (file_of load) (stat_on fd)
-fstat_of (fstat.Loading fd None) = no_program
+fstat_of (fstat.Loading fd load) = bind (file_of load) (stat_on fd)
 fstat_of (fstat.Give fd guard) = Do (Unlock guard.value None) unmarked (λ _. say (stat_reply fd guard.value))
 fstat_of (fstat.Say reply) = say reply
 fstat_of fstat.Gone = no_program
 
 -- its guards go with the state
 unfoldable pub FstatFits : ℕ → State → Fstat → Type 0
-FstatFits hart s (fstat.Loading fd (Some load)) = FileFits hart s load
-FstatFits hart s (fstat.Loading fd None) = ⊥
+FstatFits hart s (fstat.Loading fd load) = FileFits hart s load
 FstatFits hart s (fstat.Give fd guard) = IsLoaded hart guard.value.number guard s
 FstatFits hart s (fstat.Say reply) = Unit {0}
 FstatFits hart s fstat.Gone = ⊥
 
 -- such a state holds nothing that has to be given back
 abbrev pub IsBareFstat : Fstat → Type 0
-IsBareFstat (fstat.Loading fd None) = Unit {0}
+IsBareFstat (fstat.Loading fd loading.Gone) = Unit {0}
 IsBareFstat fstat.Gone = Unit {0}
 IsBareFstat m = ⊥
 
@@ -128,26 +129,32 @@ stat_came fd (file.Loaded file guard) kind = Ran (fstat.Give fd guard) kind
 -- ---- read
 
 unfoldable pub read_call_of : Read → P Reply
-read_call_of (read.Loading fd buffer (Some load)) = bind (file_of load) (read_on fd buffer)
-read_call_of (read.Loading fd buffer None) = no_program
-read_call_of (read.Reading fd offset (Some m)) = bind (read_of m) (give_read fd offset (reader_of m).value)
-read_call_of (read.Reading fd offset None) = no_program
+read_call_of (read.Loading fd buffer load) = bind (file_of load) (read_on fd buffer)
+read_call_of (read.Reading fd offset m) = bind (read_of m) (give_read fd offset (reader_of m).value)
 read_call_of (read.Give fd offset r) = give_read fd offset r.inode.value (filled_in r)
 read_call_of (read.Say reply) = say reply
 read_call_of read.Gone = no_program
 
 -- its guards go with the state
 unfoldable pub ReadCallFits : ℕ → State → Read → Type 0
-ReadCallFits hart s (read.Loading fd buffer (Some load)) = (length buffer < 2 ^ 32) × FileFits hart s load
-ReadCallFits hart s (read.Loading fd buffer None) = ⊥
-ReadCallFits hart s (read.Reading fd offset (Some m)) = IsOwnInode hart (reader_of m).value.number (reader_of m) s × ReadFits hart s m
-ReadCallFits hart s (read.Reading fd offset None) = ⊥
+ReadCallFits hart s (read.Loading fd buffer load) = (length buffer < 2 ^ 32) × FileFits hart s load
+ReadCallFits hart s (read.Reading fd offset m) = IsOwnInode hart (reader_of m).value.number (reader_of m) s × ReadFits hart s m
 ReadCallFits hart s (read.Give fd offset r) = IsOwnInode hart r.inode.value.number r.inode s
 ReadCallFits hart s (read.Say reply) = Unit {0}
 ReadCallFits hart s read.Gone = ⊥
 
 -- such a state holds nothing that has to be given back
 abbrev pub IsBareRead : Read → Type 0
-IsBareRead (read.Reading fd offset None) = Unit {0}
+IsBareRead (read.Reading fd offset part.Gone) = Unit {0}
 IsBareRead read.Gone = Unit {0}
 IsBareRead m = ⊥
+
+-- what the descriptor names has been loaded, or was refused
+abbrev pub HasLoadedFile : Read → Type 0
+HasLoadedFile (read.Loading fd buffer load) = (length buffer < 2 ^ 32) × (load ≡ loading.Gone)
+HasLoadedFile m = ⊥
+
+-- and it goes on so, by a step of this kind
+abbrev pub ReadsOn : LoadedFile → Kind → Read → Stepped Read Reply Kind → Type 0
+ReadsOn loaded kind (read.Loading fd buffer load) stepped = GoesOn read_call_of (λ reply. reply) kind (read_on fd buffer (loaded_as loaded)) stepped
+ReadsOn loaded kind m stepped = Unit {0}

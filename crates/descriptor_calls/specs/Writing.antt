@@ -11,6 +11,7 @@ use Rattle.plain_tree.specs.Widths.{piece_len}
 use Rattle.fs_layout.specs.declared.inode.Dinode.{Dinode}
 use Rattle.fs_layout.specs.declared.superblock.Super.{Super}
 use Rattle.fs_layout.specs.Widths.{bits_per_block}
+use Rattle.sleep_lock.specs.SleepLock.{GuardState}
 use Rattle.atomic_programs.specs.Prog.{Ret, Do, bind, unmarked}
 use Rattle.fs_tables.specs.declared.inodes.Inode.{Inode}
 use Rattle.fs_tables.specs.declared.files.OpenFile.{OpenFile}
@@ -26,6 +27,7 @@ use Rattle.inode_table.specs.Machines.{load_of, LoadFits}
 use Rattle.inode_data.specs.Widths.{most_bytes}
 use Rattle.inode_data.specs.Writing.{WriteResult, write_part}
 use Rattle.inode_data.specs.declared.write_part.PartWritten.{PartWritten}
+use Rattle.inode_data.specs.declared.write_part.WritePart.TheVariants as writing
 use Rattle.inode_data.specs.PartWriting.{write_of, writer_of, written_of, WriteFits}
 use Rattle.file_table.specs.Machines.{IsEarly}
 use Rattle.call_parts.specs.Replies.{failed, full, cause_of, no_program}
@@ -140,8 +142,7 @@ write_call_of (write.Join w) = Do Join unmarked (λ _. this_piece w)
 write_call_of (write.Lock w txn) = this_piece w
 write_call_of (write.Loading w txn file guard (Some m)) = bind (load_of m) (write_loaded w.sizes w.fd w.bytes w.piece (behind w) file)
 write_call_of (write.Loading w txn file guard None) = no_program
-write_call_of (write.Writing w txn offset (Some m)) = bind (write_of (part_of w) m) (give_written w.fd (writer_of m).value.number offset (length (part_of w)) w.bytes (behind w))
-write_call_of (write.Writing w txn offset None) = no_program
+write_call_of (write.Writing w txn offset m) = bind (write_of (part_of w) m) (give_written w.fd (writer_of m).value.number offset (length (part_of w)) w.bytes (behind w))
 write_call_of (write.Deny w txn guard why) = deny_piece w.fd w.bytes (behind w) guard.value why
 write_call_of (write.Give w txn offset r) = give_part w offset r
 write_call_of (write.Leaving w end (Some m)) = bind (finish_of m) (λ _. after_piece w.fd w.bytes (behind w) end)
@@ -164,11 +165,83 @@ WriteCallFits hart s (write.Join w) = IsWrite w
 WriteCallFits hart s (write.Lock w txn) = IsWrite w × (txn ≡ hart)
 WriteCallFits hart s (write.Loading w txn file guard (Some m)) = IsWrite w × (txn ≡ hart) × (file.number < 2 ^ 16) × IsOwnInode hart file.number guard s × LoadFits hart s m
 WriteCallFits hart s (write.Loading w txn file guard None) = ⊥
-WriteCallFits hart s (write.Writing w txn offset (Some m)) = IsWrite w × (txn ≡ hart) × IsOwnInode hart (writer_of m).value.number (writer_of m) s × WriteFits hart (part_of w) s m
-WriteCallFits hart s (write.Writing w txn offset None) = ⊥
+WriteCallFits hart s (write.Writing w txn offset m) = IsWrite w × (txn ≡ hart) × IsOwnInode hart (writer_of m).value.number (writer_of m) s × WriteFits hart (part_of w) s m
 WriteCallFits hart s (write.Deny w txn guard why) = IsWrite w × (txn ≡ hart) × IsOwnInode hart guard.value.number guard s
 WriteCallFits hart s (write.Give w txn offset r) = IsWrite w × (txn ≡ hart) × IsOwnInode hart r.inode.value.number r.inode s
 WriteCallFits hart s (write.Leaving w end (Some m)) = IsWrite w × FinishFits hart m
 WriteCallFits hart s (write.Leaving w end None) = ⊥
 WriteCallFits hart s (write.Say reply) = Unit {0}
 WriteCallFits hart s write.Gone = ⊥
+
+-- ---- from one state to the next
+
+-- the descriptor is looked up
+abbrev pub IsChecking : Write → Type 0
+IsChecking (write.Check fd bytes) = Unit {0}
+IsChecking _ = ⊥
+
+-- the reply is given
+abbrev pub IsSaying : Write → Type 0
+IsSaying (write.Say reply) = Unit {0}
+IsSaying _ = ⊥
+
+-- a transaction is joined for the first piece, or refused
+abbrev pub IsBeginning : Write → Type 0
+IsBeginning (write.Begin w) = Unit {0}
+IsBeginning _ = ⊥
+
+abbrev pub RefusedAs : Refused → Write → Reply → Type 0
+RefusedAs why (write.Begin w) reply = reply ≡ failed (calls.Write w.fd w.bytes) (cause_of why)
+RefusedAs why _ reply = Unit {0}
+
+-- it is joined, for the first piece or a later one
+abbrev pub IsJoining : Write → Type 0
+IsJoining (write.Begin w) = Unit {0}
+IsJoining (write.Join w) = Unit {0}
+IsJoining _ = ⊥
+
+abbrev pub joined_in : ℕ → Write → Write
+joined_in txn (write.Begin w) = write.Lock w txn
+joined_in txn (write.Join w) = write.Lock w txn
+joined_in txn _ = write.Gone
+
+-- what goes on with this program, and fits where this holds
+abbrev pub GoesTo : P Reply → (ℕ → State → Type 0) → Write → Type 0
+GoesTo p Held next = (write_call_of next ≡ p) × ((hart : ℕ) (s : State) → Held hart s → WriteCallFits hart s next)
+
+-- the lock of this file was taken, by this guard
+abbrev pub HasLocked : OpenFile → GuardState Inode → Write → Type 0
+HasLocked file guard (write.Lock w txn) = IsWrite w × (file.number < 2 ^ 16) × (guard.value.number ≡ file.number)
+HasLocked file guard _ = ⊥
+
+abbrev pub LockedTo : OpenFile → GuardState Inode → Write → Write → Type 0
+LockedTo file guard (write.Lock w txn) next =
+    GoesTo (write_locked w.sizes w.fd w.bytes w.piece (behind w) (file, guard.value.content)) (λ hart s. (txn ≡ hart) × IsOwnInode hart file.number guard s) next
+LockedTo file guard _ next = Unit {0}
+
+-- its inode is loaded
+abbrev pub HasLoaded : Write → Type 0
+HasLoaded (write.Loading w txn file guard m) = IsWrite w × (file.number < 2 ^ 16) × (guard.value.number ≡ file.number) × (m ≡ None)
+HasLoaded _ = ⊥
+
+abbrev pub LoadedTo : Dinode → Write → Write → Type 0
+LoadedTo d (write.Loading w txn file guard m) next = GoesTo (write_loaded w.sizes w.fd w.bytes w.piece (behind w) file d) (λ hart s. (txn ≡ hart) × IsOwnInode hart file.number guard s) next
+LoadedTo d _ next = Unit {0}
+
+-- the piece is written
+abbrev pub HasWritten : Write → Type 0
+HasWritten (write.Writing w txn offset m) = m ≡ writing.Gone
+HasWritten _ = ⊥
+
+abbrev pub written_in : PartWritten → Write → Write
+written_in r (write.Writing w txn offset m) = write.Give w txn offset r
+written_in r _ = write.Gone
+
+-- its transaction is left
+abbrev pub HasLeft : Write → Type 0
+HasLeft (write.Leaving w end m) = IsWrite w × (m ≡ None)
+HasLeft _ = ⊥
+
+abbrev pub LeftTo : Write → Write → Type 0
+LeftTo (write.Leaving w end m) next = GoesTo (after_piece w.fd w.bytes (behind w) end) (λ hart s. Unit {0}) next
+LeftTo _ next = Unit {0}

@@ -1,15 +1,19 @@
 //! fstat: what a descriptor names.
-ghost use Rattle.std.specs.Prelude.{◌≡◌, ◌<◌, ◌^◌, ℕ, None, IsSome};
+ghost use Rattle.std.specs.Prelude.{◌≡◌, ◌<◌, ◌^◌, ℕ, IsSome};
 ghost use Rattle.atomic_programs.specs.Machines.{OnDone, stepped_at};
 ghost use Rattle.fs_machine.specs.Steps.{State, state_of};
 ghost use Rattle.fs_machine.specs.Machines.{MayNext};
 ghost use Rattle.fs_machine.specs.Places.{StepsAt};
+ghost use Rattle.plain_tree.specs.declared.answer.Reply.{Reply as ReplyState};
+ghost use Rattle.sleep_lock.specs.SleepLock.{GuardState};
+ghost use Rattle.fs_tables.specs.declared.inodes.Inode.{Inode as InodeState};
 ghost use Rattle.file_table.specs.Machines.{IsEarly};
+ghost use Rattle.file_table.specs.declared.load_file.LoadFile.{LoadFile as LoadState};
+ghost use Rattle.file_table.specs.declared.load_file.LoadFile.TheVariants as loading;
 ghost use Rattle.descriptor_calls.specs.Programs.{stat_program, stat_reply};
 ghost use Rattle.descriptor_calls.specs.Machines.{fstat_of, FstatFits, IsBareFstat, stat_came};
 ghost use Rattle.descriptor_calls.specs.declared.fstat.Fstat.TheVariants as fstat;
 
-use crate::nested::{Nested, let_go, put_back, take};
 use atomic_programs::machines::Came;
 use block_device::Device;
 use call_parts::{failed, record_in, stat_of};
@@ -23,7 +27,7 @@ use std::mem;
 /// An fstat under way.
 pub enum Fstat {
     /// What the descriptor names is locked and loaded.
-    Loading(u32, Option<LoadFile>),
+    Loading(u32, LoadFile),
     /// It is had: the lock is given up.
     Give(u32, Guard<Inode>),
     /// The reply is given.
@@ -40,48 +44,49 @@ impl Fstat {
         ensures program { fstat_of result ≡ stat_program inodestart fd }
         ensures fits { (hart : ℕ) (s : State) → FstatFits hart s result }
     {
-        Fstat::Loading(fd, Some(LoadFile::new(inodestart, Want::Stat, fd)))
+        Fstat::Loading(fd, LoadFile::new(inodestart, Want::Stat, fd))
     }
 
     /// One operation, in its place.
-    #[tactic(auto, unfolding(crate::specs::Machines::fstat_of, crate::specs::Machines::FstatFits, fs_machine::specs::Premises::Honest))]
+    #[tactic(auto, unfolding(crate::specs::Machines::fstat_of, crate::specs::Machines::FstatFits))]
     pub fn step<D: Device>(&mut self, hart: u8, core: &mut Core<D>) -> Came<Reply, Kind>
         requires may { MayNext hart (fstat_of self.old) (state_of D.contents D.failures core.old) }
         requires fits { FstatFits hart (state_of D.contents D.failures core.old) self.old }
         ensures steps { StepsAt D.contents D.failures D.Called fstat_of (λ reply. reply) FstatFits (λ _. Unit {0}) fstat.Gone hart self.old self.new result core.old core.new }
     {
         match self {
-            Fstat::Loading(fd, place) => {
-                let fd = *fd;
-                let load = take(place);
-                match put_back(place, load.step(hart, core)) {
-                    Nested::Goes(came) => came,
-                    Nested::Ends(loaded, kind) => self.loaded(fd, loaded, kind),
-                }
-            }
-            Fstat::Give(_, _) => match mem::replace(self, Fstat::Gone) {
-                Fstat::Give(fd, guard) => {
-                    let reply = stated(fd, guard.value());
-                    core.unlock(hart, guard);
-                    self.put(Fstat::Say(reply));
-                    Came::Ran(Kind::Unlock)
-                }
-                _ => unreachable!(),
-            },
-            Fstat::Say(_) => match mem::replace(self, Fstat::Gone) {
-                Fstat::Say(reply) => {
-                    core.reply(hart);
-                    Came::Done(reply, Kind::Reply)
-                }
-                _ => unreachable!(),
-            },
+            Fstat::Loading(_, _) => self.load(hart, core),
+            Fstat::Give(_, _) => self.give(hart, core),
+            Fstat::Say(_) => self.say(hart, core),
             Fstat::Gone => unreachable!(),
         }
     }
 
-    // What the descriptor names is locked and loaded, or it was refused.
+    // What the descriptor names is locked and loaded.
+    #[tactic(auto, unfolding(crate::specs::Machines::fstat_of, crate::specs::Machines::FstatFits))]
+    fn load<D: Device>(&mut self, hart: u8, core: &mut Core<D>) -> Came<Reply, Kind>
+        requires loading { (x : ℕ × LoadState) × (self.old ≡ fstat.Loading x.0 x.1) }
+        requires may { MayNext hart (fstat_of self.old) (state_of D.contents D.failures core.old) }
+        requires fits { FstatFits hart (state_of D.contents D.failures core.old) self.old }
+        ensures steps { StepsAt D.contents D.failures D.Called fstat_of (λ reply. reply) FstatFits (λ _. Unit {0}) fstat.Gone hart self.old self.new result core.old core.new }
+    {
+        match self {
+            Fstat::Loading(fd, load) => match load.step(hart, core) {
+                Came::Waits => Came::Waits,
+                Came::Ran(kind) => Came::Ran(kind),
+                Came::Done(loaded, kind) => {
+                    let fd = *fd;
+                    self.loaded(fd, loaded, kind)
+                }
+                Came::Stopped => Came::Stopped,
+            },
+            _ => unreachable!(),
+        }
+    }
+
+    // It has been, or was refused.
     fn loaded(&mut self, fd: u32, loaded: LoadedFile, kind: Kind) -> Came<Reply, Kind>
-        requires { self.old ≡ fstat.Loading fd None }
+        requires { self.old ≡ fstat.Loading fd loading.Gone }
         ensures came { stepped_at self.new result ≡ stat_came fd loaded kind }
         ensures ended { OnDone result (self.new ≡ fstat.Gone) }
     {
@@ -97,13 +102,52 @@ impl Fstat {
         }
     }
 
+    // The lock is given up.
+    #[tactic(auto, unfolding(crate::specs::Machines::fstat_of, crate::specs::Machines::FstatFits, fs_machine::specs::Premises::Honest))]
+    fn give<D: Device>(&mut self, hart: u8, core: &mut Core<D>) -> Came<Reply, Kind>
+        requires giving { (x : ℕ × GuardState InodeState) × (self.old ≡ fstat.Give x.0 x.1) }
+        requires may { MayNext hart (fstat_of self.old) (state_of D.contents D.failures core.old) }
+        requires fits { FstatFits hart (state_of D.contents D.failures core.old) self.old }
+        ensures steps { StepsAt D.contents D.failures D.Called fstat_of (λ reply. reply) FstatFits (λ _. Unit {0}) fstat.Gone hart self.old self.new result core.old core.new }
+    {
+        match mem::replace(self, Fstat::Gone) {
+            Fstat::Give(fd, guard) => {
+                let reply = stated(fd, guard.value());
+                core.unlock(hart, guard);
+                self.put(Fstat::Say(reply));
+                Came::Ran(Kind::Unlock)
+            }
+            _ => unreachable!(),
+        }
+    }
+
+    // The reply is given.
+    #[tactic(auto, unfolding(crate::specs::Machines::fstat_of, crate::specs::Machines::FstatFits, fs_machine::specs::Premises::Honest))]
+    fn say<D: Device>(&mut self, hart: u8, core: &mut Core<D>) -> Came<Reply, Kind>
+        requires saying { (x : ReplyState) × (self.old ≡ fstat.Say x) }
+        requires may { MayNext hart (fstat_of self.old) (state_of D.contents D.failures core.old) }
+        requires fits { FstatFits hart (state_of D.contents D.failures core.old) self.old }
+        ensures steps { StepsAt D.contents D.failures D.Called fstat_of (λ reply. reply) FstatFits (λ _. Unit {0}) fstat.Gone hart self.old self.new result core.old core.new }
+    {
+        match mem::replace(self, Fstat::Gone) {
+            Fstat::Say(reply) => {
+                core.reply(hart);
+                Came::Done(reply, Kind::Reply)
+            }
+            _ => unreachable!(),
+        }
+    }
+
     // Has this stand in the place of a state that holds nothing.
     fn put(&mut self, next: Fstat)
         requires { IsBareFstat self.old }
         ensures { self.new ≡ next }
     {
         match mem::replace(self, next) {
-            Fstat::Loading(_, place) => let_go(place),
+            Fstat::Loading(_, load) => match load {
+                LoadFile::Gone => {}
+                _ => unreachable!(),
+            },
             Fstat::Gone => {}
             _ => unreachable!(),
         }
@@ -112,10 +156,7 @@ impl Fstat {
     /// Ends it in mid-call, after all that harts share has ended.
     pub fn retire(self, retired: &RetiredCore) {
         match self {
-            Fstat::Loading(_, load) => match load {
-                None => {}
-                Some(load) => load.retire(retired),
-            },
+            Fstat::Loading(_, load) => load.retire(retired),
             Fstat::Give(_, guard) => guard.retire_in_row(&retired.inodes),
             Fstat::Say(_) => {}
             Fstat::Gone => {}

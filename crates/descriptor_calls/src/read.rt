@@ -1,8 +1,8 @@
 //! read: a part of what a descriptor names.
-ghost use Rattle.std.specs.Prelude.{◌≡◌, ◌+◌, ◌<◌, ◌^◌, ℕ, List, Option, Some, IsSome, length};
+ghost use Rattle.std.specs.Prelude.{◌≡◌, ◌+◌, ◌<◌, ◌^◌, ℕ, List, Some, IsSome, length};
 ghost use Rattle.atomic_programs.specs.Prog.{Ran as ItRan};
 ghost use Rattle.atomic_programs.specs.Machines.{Left as LeftOf, OnDone, stepped_at};
-ghost use Rattle.atomic_programs.specs.declared.machines.Stepped.TheVariants.{Done};
+ghost use Rattle.plain_tree.specs.declared.answer.Reply.{Reply as ReplyState};
 ghost use Rattle.fs_machine.specs.LogPart.{Outside};
 ghost use Rattle.fs_machine.specs.Premises.{May};
 ghost use Rattle.fs_machine.specs.Steps.{State, state_of, exec, Unlock};
@@ -10,15 +10,16 @@ ghost use Rattle.fs_machine.specs.Machines.{MayNext};
 ghost use Rattle.fs_machine.specs.Places.{StepsAt};
 ghost use Rattle.fs_machine.specs.Tied.{IsOwnInode, LeavesTied};
 ghost use Rattle.inode_data.specs.Reading.{filled_in};
+ghost use Rattle.inode_data.specs.declared.read_part.Reading.{Reading as ReadingState};
+ghost use Rattle.inode_data.specs.declared.read_part.ReadPart.{ReadPart as PartState};
+ghost use Rattle.inode_data.specs.declared.read_part.ReadPart.TheVariants as part;
 ghost use Rattle.file_table.specs.Programs.{Loads};
 ghost use Rattle.file_table.specs.declared.load_file.LoadFile.{LoadFile as LoadState};
-ghost use Rattle.file_table.specs.Machines.{IsEarly, file_of, loaded_as, IsLoaded, IfLoaded};
-ghost use Rattle.call_parts.specs.Nesting.{Follows};
+ghost use Rattle.file_table.specs.Machines.{IsEarly, IsLoaded, IfLoaded};
 ghost use Rattle.descriptor_calls.specs.Programs.{read_program, read_on, read_reply};
-ghost use Rattle.descriptor_calls.specs.Machines.{read_call_of, ReadCallFits, IsBareRead};
+ghost use Rattle.descriptor_calls.specs.Machines.{read_call_of, ReadCallFits, HasLoadedFile, IsBareRead, ReadsOn};
 ghost use Rattle.descriptor_calls.specs.declared.read.Read.TheVariants as read;
 
-use crate::nested::{Nested, let_go, put_back, take};
 use atomic_programs::machines::Came;
 use block_device::Device;
 use buffer_cache::HARTS;
@@ -34,9 +35,9 @@ use std::mem;
 /// A read under way.
 pub enum Read {
     /// What the descriptor names is locked and loaded, to be read into these bytes.
-    Loading(u32, Bytes, Option<LoadFile>),
+    Loading(u32, Bytes, LoadFile),
     /// It is read from this offset on.
-    Reading(u32, u32, Option<ReadPart>),
+    Reading(u32, u32, ReadPart),
     /// It was read: the lock is given up, and the offset moves.
     Give(u32, u32, Reading),
     /// The reply is given.
@@ -54,11 +55,11 @@ impl Read {
         ensures program { read_call_of result ≡ read_program inodestart fd buf }
         ensures fits { (hart : ℕ) (s : State) → ReadCallFits hart s result }
     {
-        Read::Loading(fd, buf, Some(LoadFile::new(inodestart, Want::Read, fd)))
+        Read::Loading(fd, buf, LoadFile::new(inodestart, Want::Read, fd))
     }
 
     /// One operation, in its place.
-    #[tactic(auto, unfolding(crate::specs::Machines::read_call_of, crate::specs::Machines::ReadCallFits, fs_machine::specs::Premises::Honest))]
+    #[tactic(auto, unfolding(crate::specs::Machines::read_call_of, crate::specs::Machines::ReadCallFits))]
     pub fn step<D: Device>(&mut self, hart: u8, core: &mut Core<D>) -> Came<Reply, Kind>
         requires hart { hart < HARTS }
         requires may { MayNext hart (read_call_of self.old) (state_of D.contents D.failures core.old) }
@@ -67,32 +68,9 @@ impl Read {
     {
         match self {
             Read::Loading(_, _, _) => self.load(hart, core),
-            Read::Reading(fd, offset, place) => {
-                let (fd, offset) = (*fd, *offset);
-                let part = take(place);
-                match put_back(place, part.step(hart, core)) {
-                    Nested::Goes(came) => came,
-                    Nested::Ends(reading, kind) => {
-                        self.put(Read::Give(fd, offset, reading));
-                        Came::Ran(kind)
-                    }
-                }
-            }
-            Read::Give(_, _, _) => match mem::replace(self, Read::Gone) {
-                Read::Give(fd, offset, reading) => {
-                    let reply = give(fd, offset, reading, hart, core);
-                    self.put(Read::Say(reply));
-                    Came::Ran(Kind::Unlock)
-                }
-                _ => unreachable!(),
-            },
-            Read::Say(_) => match mem::replace(self, Read::Gone) {
-                Read::Say(reply) => {
-                    core.reply(hart);
-                    Came::Done(reply, Kind::Reply)
-                }
-                _ => unreachable!(),
-            },
+            Read::Reading(_, _, _) => self.read(hart, core),
+            Read::Give(_, _, _) => self.give(hart, core),
+            Read::Say(_) => self.say(hart, core),
             Read::Gone => unreachable!(),
         }
     }
@@ -100,47 +78,115 @@ impl Read {
     // What the descriptor names is locked and loaded.
     #[tactic(auto, unfolding(crate::specs::Machines::read_call_of, crate::specs::Machines::ReadCallFits))]
     fn load<D: Device>(&mut self, hart: u8, core: &mut Core<D>) -> Came<Reply, Kind>
-        requires loading { (x : ℕ × List ℕ × Option LoadState) × (self.old ≡ read.Loading x.0 x.1 x.2) }
+        requires loading { (x : ℕ × List ℕ × LoadState) × (self.old ≡ read.Loading x.0 x.1 x.2) }
         requires may { MayNext hart (read_call_of self.old) (state_of D.contents D.failures core.old) }
         requires fits { ReadCallFits hart (state_of D.contents D.failures core.old) self.old }
         ensures steps { StepsAt D.contents D.failures D.Called read_call_of (λ reply. reply) ReadCallFits (λ _. Unit {0}) read.Gone hart self.old self.new result core.old core.new }
     {
         match self {
-            Read::Loading(_, _, place) => {
-                let load = take(place);
-                match put_back(place, load.step(hart, core)) {
-                    Nested::Goes(came) => came,
-                    Nested::Ends(loaded, kind) => match mem::replace(self, Read::Gone) {
-                        Read::Loading(fd, buf, place) => {
-                            let_go(place);
-                            self.loaded(fd, buf, loaded, kind)
-                        }
-                        _ => unreachable!(),
-                    },
+            Read::Loading(_, _, load) => match load.step(hart, core) {
+                Came::Waits => Came::Waits,
+                Came::Ran(kind) => Came::Ran(kind),
+                Came::Done(loaded, kind) => self.loaded(loaded, kind),
+                Came::Stopped => Came::Stopped,
+            },
+            _ => unreachable!(),
+        }
+    }
+
+    // It has been, or was refused.
+    #[tactic(auto, unfolding(crate::specs::Machines::read_call_of, crate::specs::Machines::ReadCallFits))]
+    fn loaded(&mut self, loaded: LoadedFile, kind: Kind) -> Came<Reply, Kind>
+        requires had { HasLoadedFile self.old }
+        requires loaded { IfLoaded loaded (λ file guard. IsSome guard.value.content) }
+        ensures goes { ReadsOn loaded kind self.old (stepped_at self.new result) }
+        ensures fits { (hart : ℕ) (s : State) → IfLoaded loaded (λ file guard. IsLoaded hart file.number guard s) → LeftOf (ReadCallFits hart s) (λ _. Unit {0}) (stepped_at self.new result) }
+        ensures ended { OnDone result (self.new ≡ read.Gone) }
+    {
+        match mem::replace(self, Read::Gone) {
+            Read::Loading(fd, buf, load) => {
+                match load {
+                    LoadFile::Gone => {}
+                    _ => unreachable!(),
+                }
+                match loaded {
+                    LoadedFile::Refused(why) => {
+                        Came::Done(failed(Call::Read { fd, buf }, cause_of(why)), kind)
+                    }
+                    LoadedFile::Loaded(file, inode) => {
+                        self.put(begin(fd, buf, file, inode));
+                        Came::Ran(kind)
+                    }
                 }
             }
             _ => unreachable!(),
         }
     }
 
-    // It is, or was refused.
+    // It is read.
     #[tactic(auto, unfolding(crate::specs::Machines::read_call_of, crate::specs::Machines::ReadCallFits))]
-    fn loaded(&mut self, fd: u32, buf: Bytes, loaded: LoadedFile, kind: Kind) -> Came<Reply, Kind>
-        requires gone { self.old ≡ read.Gone }
-        requires short { length buf < 2 ^ 32 }
-        requires loaded { IfLoaded loaded (λ file guard. IsSome guard.value.content) }
-        ensures follows { Follows file_of loaded_as read_call_of (λ reply. reply) (read_on fd buf) (Done loaded kind) (stepped_at self.new result) }
-        ensures fits { (hart : ℕ) (s : State) → IfLoaded loaded (λ file guard. IsLoaded hart file.number guard s) → LeftOf (ReadCallFits hart s) (λ _. Unit {0}) (stepped_at self.new result) }
-        ensures ended { OnDone result (self.new ≡ read.Gone) }
+    fn read<D: Device>(&mut self, hart: u8, core: &mut Core<D>) -> Came<Reply, Kind>
+        requires reading { (x : ℕ × ℕ × PartState) × (self.old ≡ read.Reading x.0 x.1 x.2) }
+        requires may { MayNext hart (read_call_of self.old) (state_of D.contents D.failures core.old) }
+        requires fits { ReadCallFits hart (state_of D.contents D.failures core.old) self.old }
+        ensures steps { StepsAt D.contents D.failures D.Called read_call_of (λ reply. reply) ReadCallFits (λ _. Unit {0}) read.Gone hart self.old self.new result core.old core.new }
     {
-        match loaded {
-            LoadedFile::Refused(why) => {
-                Came::Done(failed(Call::Read { fd, buf }, cause_of(why)), kind)
+        match self {
+            Read::Reading(fd, offset, part) => match part.step(hart, core) {
+                Came::Waits => Came::Waits,
+                Came::Ran(kind) => Came::Ran(kind),
+                Came::Done(reading, kind) => {
+                    let (fd, offset) = (*fd, *offset);
+                    self.was_read(fd, offset, reading);
+                    Came::Ran(kind)
+                }
+                Came::Stopped => Came::Stopped,
+            },
+            _ => unreachable!(),
+        }
+    }
+
+    // It has been read.
+    fn was_read(&mut self, fd: u32, offset: u32, reading: Reading)
+        requires { self.old ≡ read.Reading fd offset part.Gone }
+        ensures { self.new ≡ read.Give fd offset reading }
+    {
+        self.put(Read::Give(fd, offset, reading));
+    }
+
+    // The lock is given up, and the offset moves.
+    #[tactic(auto, unfolding(crate::specs::Machines::read_call_of, crate::specs::Machines::ReadCallFits, fs_machine::specs::Premises::Honest))]
+    fn give<D: Device>(&mut self, hart: u8, core: &mut Core<D>) -> Came<Reply, Kind>
+        requires hart { hart < HARTS }
+        requires giving { (x : ℕ × ℕ × ReadingState) × (self.old ≡ read.Give x.0 x.1 x.2) }
+        requires may { MayNext hart (read_call_of self.old) (state_of D.contents D.failures core.old) }
+        requires fits { ReadCallFits hart (state_of D.contents D.failures core.old) self.old }
+        ensures steps { StepsAt D.contents D.failures D.Called read_call_of (λ reply. reply) ReadCallFits (λ _. Unit {0}) read.Gone hart self.old self.new result core.old core.new }
+    {
+        match mem::replace(self, Read::Gone) {
+            Read::Give(fd, offset, reading) => {
+                let reply = give_up(fd, offset, reading, hart, core);
+                self.put(Read::Say(reply));
+                Came::Ran(Kind::Unlock)
             }
-            LoadedFile::Loaded(file, inode) => {
-                self.put(begin(fd, buf, file, inode));
-                Came::Ran(kind)
+            _ => unreachable!(),
+        }
+    }
+
+    // The reply is given.
+    #[tactic(auto, unfolding(crate::specs::Machines::read_call_of, crate::specs::Machines::ReadCallFits, fs_machine::specs::Premises::Honest))]
+    fn say<D: Device>(&mut self, hart: u8, core: &mut Core<D>) -> Came<Reply, Kind>
+        requires saying { (x : ReplyState) × (self.old ≡ read.Say x) }
+        requires may { MayNext hart (read_call_of self.old) (state_of D.contents D.failures core.old) }
+        requires fits { ReadCallFits hart (state_of D.contents D.failures core.old) self.old }
+        ensures steps { StepsAt D.contents D.failures D.Called read_call_of (λ reply. reply) ReadCallFits (λ _. Unit {0}) read.Gone hart self.old self.new result core.old core.new }
+    {
+        match mem::replace(self, Read::Gone) {
+            Read::Say(reply) => {
+                core.reply(hart);
+                Came::Done(reply, Kind::Reply)
             }
+            _ => unreachable!(),
         }
     }
 
@@ -150,7 +196,10 @@ impl Read {
         ensures { self.new ≡ next }
     {
         match mem::replace(self, next) {
-            Read::Reading(_, _, place) => let_go(place),
+            Read::Reading(_, _, part) => match part {
+                ReadPart::Gone => {}
+                _ => unreachable!(),
+            },
             Read::Gone => {}
             _ => unreachable!(),
         }
@@ -159,14 +208,8 @@ impl Read {
     /// Ends it in mid-call, after all that harts share has ended.
     pub fn retire(self, retired: &RetiredCore) {
         match self {
-            Read::Loading(_, _, load) => match load {
-                None => {}
-                Some(load) => load.retire(retired),
-            },
-            Read::Reading(_, _, part) => match part {
-                None => {}
-                Some(part) => part.retire(retired),
-            },
+            Read::Loading(_, _, load) => load.retire(retired),
+            Read::Reading(_, _, part) => part.retire(retired),
             Read::Give(_, _, reading) => reading.retire(retired),
             Read::Say(_) => {}
             Read::Gone => {}
@@ -185,14 +228,14 @@ fn begin(fd: u32, buf: Bytes, file: OpenFile, inode: Guard<Inode>) -> Read
     let bytes = buf.into_vec();
     let count = bytes.len() as u32;
     match ReadPart::begin(inode, bytes, file.offset, count) {
-        Begun::Runs(part) => Read::Reading(fd, file.offset, Some(part)),
+        Begun::Runs(part) => Read::Reading(fd, file.offset, part),
         Begun::Is(reading) => Read::Give(fd, file.offset, reading),
     }
 }
 
 // Gives the lock up, moves the offset by what was read, and makes the reply.
 #[tactic(auto, unfolding(fs_machine::specs::Premises::May))]
-fn give<D: Device>(fd: u32, offset: u32, reading: Reading, hart: u8, core: &mut Core<D>) -> Reply
+fn give_up<D: Device>(fd: u32, offset: u32, reading: Reading, hart: u8, core: &mut Core<D>) -> Reply
     requires hart { hart < HARTS }
     requires own { IsOwnInode hart reading.inode.value.number reading.inode (state_of D.contents D.failures core.old) }
     requires may { May hart (Unlock reading.inode.value (Some (fd, offset + reading.filled))) (state_of D.contents D.failures core.old) }

@@ -24,7 +24,7 @@ ghost use Rattle.file_table.specs.Machines.{IsEarly};
 ghost use Rattle.descriptor_calls.specs.declared.write.Writes.{Writes as WritesState};
 ghost use Rattle.descriptor_calls.specs.declared.write.Ended.{Ended as EndedState};
 ghost use Rattle.descriptor_calls.specs.declared.write.Write.TheVariants as write;
-ghost use Rattle.descriptor_calls.specs.Writing.{after_piece, behind, checked_reply, end_of, leave_piece, part_of, piece_refused, write_call_of, write_loaded, write_locked, write_program, IsWrite, WriteCallFits};
+ghost use Rattle.descriptor_calls.specs.Writing.{after_piece, behind, checked_reply, end_of, joined_in, leave_piece, part_of, piece_refused, write_call_of, write_loaded, write_locked, write_program, written_in, HasLeft, HasLoaded, HasLocked, HasWritten, IsBeginning, IsChecking, IsJoining, IsSaying, IsWrite, LeftTo, LoadedTo, LockedTo, RefusedAs, WriteCallFits};
 
 use crate::nested::{Nested, let_go, put_back, take};
 use atomic_programs::machines::Came;
@@ -82,7 +82,7 @@ pub enum Write {
     /// The inode is loaded.
     Loading(Writes, Txn, OpenFile, Guard<Inode>, Option<LoadInode>),
     /// The piece is written from this offset on.
-    Writing(Writes, Txn, u32, Option<WritePart>),
+    Writing(Writes, Txn, u32, WritePart),
     /// The piece is refused: the lock is given up.
     Deny(Writes, Txn, Guard<Inode>, Cause),
     /// The piece was written from this offset on: the lock is given up, and the offset moves.
@@ -127,13 +127,7 @@ impl Write {
         ensures steps { StepsAt D.contents D.failures D.Called write_call_of (λ reply. reply) WriteCallFits (λ _. Unit {0}) write.Gone hart self.old self.new result core.old core.new }
     {
         match self {
-            Write::Check(_, _) => match mem::replace(self, Write::Gone) {
-                Write::Check(fd, bytes) => {
-                    let why = core.check_file(hart, Want::Write, fd);
-                    Came::Done(checked(fd, bytes, why), Kind::Reply)
-                }
-                _ => unreachable!(),
-            },
+            Write::Check(_, _) => self.check(hart, core),
             Write::Begin(_) => self.begin(hart, core),
             Write::Join(_) => self.join(hart, core),
             Write::Lock(_, _) => self.lock(hart, core),
@@ -142,14 +136,42 @@ impl Write {
             Write::Deny(_, _, _, _) => self.deny(hart, core),
             Write::Give(_, _, _, _) => self.give_up(hart, core),
             Write::Leaving(_, _, _) => self.finish(hart, core),
-            Write::Say(_) => match mem::replace(self, Write::Gone) {
-                Write::Say(reply) => {
-                    core.reply(hart);
-                    Came::Done(reply, Kind::Reply)
-                }
-                _ => unreachable!(),
-            },
+            Write::Say(_) => self.say(hart, core),
             Write::Gone => unreachable!(),
+        }
+    }
+
+    // The descriptor is looked up.
+    #[tactic(auto, unfolding(crate::specs::Writing::write_call_of, crate::specs::Writing::WriteCallFits, fs_machine::specs::Premises::Honest))]
+    fn check<D: Device>(&mut self, hart: u8, core: &mut Core<D>) -> Came<Reply, Kind>
+        requires at { IsChecking self.old }
+        requires may { MayNext hart (write_call_of self.old) (state_of D.contents D.failures core.old) }
+        requires fits { WriteCallFits hart (state_of D.contents D.failures core.old) self.old }
+        ensures steps { StepsAt D.contents D.failures D.Called write_call_of (λ reply. reply) WriteCallFits (λ _. Unit {0}) write.Gone hart self.old self.new result core.old core.new }
+    {
+        match mem::replace(self, Write::Gone) {
+            Write::Check(fd, bytes) => {
+                let why = core.check_file(hart, Want::Write, fd);
+                Came::Done(checked(fd, bytes, why), Kind::Reply)
+            }
+            _ => unreachable!(),
+        }
+    }
+
+    // The reply is given.
+    #[tactic(auto, unfolding(crate::specs::Writing::write_call_of, crate::specs::Writing::WriteCallFits, fs_machine::specs::Premises::Honest))]
+    fn say<D: Device>(&mut self, hart: u8, core: &mut Core<D>) -> Came<Reply, Kind>
+        requires at { IsSaying self.old }
+        requires may { MayNext hart (write_call_of self.old) (state_of D.contents D.failures core.old) }
+        requires fits { WriteCallFits hart (state_of D.contents D.failures core.old) self.old }
+        ensures steps { StepsAt D.contents D.failures D.Called write_call_of (λ reply. reply) WriteCallFits (λ _. Unit {0}) write.Gone hart self.old self.new result core.old core.new }
+    {
+        match mem::replace(self, Write::Gone) {
+            Write::Say(reply) => {
+                core.reply(hart);
+                Came::Done(reply, Kind::Reply)
+            }
+            _ => unreachable!(),
         }
     }
 
@@ -164,19 +186,11 @@ impl Write {
         match self {
             Write::Begin(writes) => match core.join_to_write(hart, writes.fd) {
                 JoinedToWrite::Waits => Came::Waits,
-                JoinedToWrite::Refused(why) => match mem::replace(self, Write::Gone) {
-                    Write::Begin(writes) => {
-                        Came::Done(failed(call_of(writes), cause_of(why)), Kind::Reply)
-                    }
-                    _ => unreachable!(),
-                },
-                JoinedToWrite::Joined(txn, _) => match mem::replace(self, Write::Gone) {
-                    Write::Begin(writes) => {
-                        self.put(Write::Lock(writes, txn));
-                        Came::Ran(Kind::Join)
-                    }
-                    _ => unreachable!(),
-                },
+                JoinedToWrite::Refused(why) => Came::Done(self.refused(why), Kind::Reply),
+                JoinedToWrite::Joined(txn, _) => {
+                    self.joined(txn);
+                    Came::Ran(Kind::Join)
+                }
             },
             _ => unreachable!(),
         }
@@ -190,15 +204,12 @@ impl Write {
         requires fits { WriteCallFits hart (state_of D.contents D.failures core.old) self.old }
         ensures steps { StepsAt D.contents D.failures D.Called write_call_of (λ reply. reply) WriteCallFits (λ _. Unit {0}) write.Gone hart self.old self.new result core.old core.new }
     {
-        let Some(txn) = core.join(hart) else {
-            return Came::Waits;
-        };
-        match mem::replace(self, Write::Gone) {
-            Write::Join(writes) => {
-                self.put(Write::Lock(writes, txn));
+        match core.join(hart) {
+            None => Came::Waits,
+            Some(txn) => {
+                self.joined(txn);
                 Came::Ran(Kind::Join)
             }
-            _ => unreachable!(),
         }
     }
 
@@ -213,13 +224,10 @@ impl Write {
         match self {
             Write::Lock(writes, _) => match core.lock_open(hart, writes.fd) {
                 None => Came::Waits,
-                Some((file, guard)) => match mem::replace(self, Write::Gone) {
-                    Write::Lock(writes, txn) => {
-                        self.put(locked(writes, txn, file, guard));
-                        Came::Ran(Kind::Lock)
-                    }
-                    _ => unreachable!(),
-                },
+                Some((file, guard)) => {
+                    self.locked(file, guard);
+                    Came::Ran(Kind::Lock)
+                }
             },
             _ => unreachable!(),
         }
@@ -238,14 +246,10 @@ impl Write {
                 let load = take(place);
                 match put_back(place, load.step(hart, core)) {
                     Nested::Goes(came) => came,
-                    Nested::Ends(inode, kind) => match mem::replace(self, Write::Gone) {
-                        Write::Loading(writes, txn, file, guard, place) => {
-                            let_go(place);
-                            self.put(loaded(writes, txn, file, with_record(guard, inode)));
-                            Came::Ran(kind)
-                        }
-                        _ => unreachable!(),
-                    },
+                    Nested::Ends(inode, kind) => {
+                        self.loaded(inode);
+                        Came::Ran(kind)
+                    }
                 }
             }
             _ => unreachable!(),
@@ -255,24 +259,21 @@ impl Write {
     // The piece is written.
     #[tactic(auto, unfolding(crate::specs::Writing::write_call_of, crate::specs::Writing::WriteCallFits))]
     fn write<D: Device>(&mut self, hart: u8, core: &mut Core<D>) -> Came<Reply, Kind>
-        requires writing { (x : WritesState × ℕ × ℕ × Option PartState) × (self.old ≡ write.Writing x.0 x.1 x.2 x.3) }
+        requires writing { (x : WritesState × ℕ × ℕ × PartState) × (self.old ≡ write.Writing x.0 x.1 x.2 x.3) }
         requires may { MayNext hart (write_call_of self.old) (state_of D.contents D.failures core.old) }
         requires fits { WriteCallFits hart (state_of D.contents D.failures core.old) self.old }
         ensures steps { StepsAt D.contents D.failures D.Called write_call_of (λ reply. reply) WriteCallFits (λ _. Unit {0}) write.Gone hart self.old self.new result core.old core.new }
     {
         match self {
-            Write::Writing(writes, txn, _, place) => {
-                let part = take(place);
-                match put_back(place, part.step(hart, txn, part_of(writes), core)) {
-                    Nested::Goes(came) => came,
-                    Nested::Ends(written, kind) => match mem::replace(self, Write::Gone) {
-                        Write::Writing(writes, txn, offset, place) => {
-                            let_go(place);
-                            self.put(Write::Give(writes, txn, offset, written));
-                            Came::Ran(kind)
-                        }
-                        _ => unreachable!(),
-                    },
+            Write::Writing(writes, txn, _, part) => {
+                match part.step(hart, txn, part_of(writes), core) {
+                    Came::Waits => Came::Waits,
+                    Came::Ran(kind) => Came::Ran(kind),
+                    Came::Done(written, kind) => {
+                        self.wrote(written);
+                        Came::Ran(kind)
+                    }
+                    Came::Stopped => Came::Stopped,
                 }
             }
             _ => unreachable!(),
@@ -329,15 +330,94 @@ impl Write {
                 let finish = take(place);
                 match put_back(place, finish.step(hart, core)) {
                     Nested::Goes(came) => came,
-                    Nested::Ends((), kind) => match mem::replace(self, Write::Gone) {
-                        Write::Leaving(writes, ended, place) => {
-                            let_go(place);
-                            self.put(next(writes, ended));
-                            Came::Ran(kind)
-                        }
-                        _ => unreachable!(),
-                    },
+                    Nested::Ends((), kind) => {
+                        self.left();
+                        Came::Ran(kind)
+                    }
                 }
+            }
+            _ => unreachable!(),
+        }
+    }
+
+    // No transaction may be joined.
+    fn refused(&mut self, why: Refused) -> Reply
+        requires { IsBeginning self.old }
+        ensures reply { RefusedAs why self.old result }
+        ensures ended { self.new ≡ write.Gone }
+    {
+        match mem::replace(self, Write::Gone) {
+            Write::Begin(writes) => failed(call_of(writes), cause_of(why)),
+            _ => unreachable!(),
+        }
+    }
+
+    // A transaction has been joined.
+    fn joined(&mut self, txn: Txn)
+        requires { IsJoining self.old }
+        ensures { self.new ≡ joined_in txn self.old }
+    {
+        match mem::replace(self, Write::Gone) {
+            Write::Begin(writes) => self.put(Write::Lock(writes, txn)),
+            Write::Join(writes) => self.put(Write::Lock(writes, txn)),
+            _ => unreachable!(),
+        }
+    }
+
+    // The lock of what the descriptor names is had.
+    #[tactic(auto, unfolding(crate::specs::Writing::write_call_of, crate::specs::Writing::WriteCallFits))]
+    fn locked(&mut self, file: OpenFile, guard: Guard<Inode>)
+        requires { HasLocked file guard self.old }
+        ensures { LockedTo file guard self.old self.new }
+    {
+        match mem::replace(self, Write::Gone) {
+            Write::Lock(writes, txn) => self.put(locked(writes, txn, file, guard)),
+            _ => unreachable!(),
+        }
+    }
+
+    // The inode has been loaded.
+    #[tactic(auto, unfolding(crate::specs::Writing::write_call_of, crate::specs::Writing::WriteCallFits))]
+    fn loaded(&mut self, inode: Dinode)
+        requires { HasLoaded self.old }
+        ensures { LoadedTo inode self.old self.new }
+    {
+        match mem::replace(self, Write::Gone) {
+            Write::Loading(writes, txn, file, guard, place) => {
+                let_go(place);
+                self.put(loaded(writes, txn, file, with_record(guard, inode)));
+            }
+            _ => unreachable!(),
+        }
+    }
+
+    // The piece has been written.
+    fn wrote(&mut self, written: PartWritten)
+        requires { HasWritten self.old }
+        ensures { self.new ≡ written_in written self.old }
+    {
+        match mem::replace(self, Write::Gone) {
+            Write::Writing(writes, txn, offset, part) => {
+                match part {
+                    WritePart::Gone => {}
+                    _ => unreachable!(),
+                }
+                self.put(Write::Give(writes, txn, offset, written));
+            }
+            _ => unreachable!(),
+        }
+    }
+
+    // The piece's transaction has been left.
+    #[tactic(auto, unfolding(crate::specs::Writing::write_call_of, crate::specs::Writing::WriteCallFits))]
+    fn left(&mut self)
+        requires { HasLeft self.old }
+        ensures { LeftTo self.old self.new }
+    {
+        match mem::replace(self, Write::Gone) {
+            Write::Leaving(writes, ended, place) => {
+                let_go(place);
+                self.put(next(writes, ended));
             }
             _ => unreachable!(),
         }
@@ -371,10 +451,7 @@ impl Write {
             }
             Write::Writing(_, txn, _, part) => {
                 txn.retire(&retired.log);
-                match part {
-                    None => {}
-                    Some(part) => part.retire(retired),
-                }
+                part.retire(retired);
             }
             Write::Deny(_, txn, guard, _) => {
                 txn.retire(&retired.log);
@@ -465,7 +542,7 @@ fn loaded(writes: Writes, txn: Txn, file: OpenFile, guard: Guard<Inode>) -> Writ
         Some(why) => Write::Deny(writes, txn, guard, why),
         None => {
             let part = WritePart::begin(guard, &writes.sizes, file.offset, count);
-            Write::Writing(writes, txn, file.offset, Some(part))
+            Write::Writing(writes, txn, file.offset, part)
         }
     }
 }

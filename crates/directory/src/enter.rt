@@ -4,7 +4,7 @@ ghost use Rattle.fs_layout.specs.declared.entry.Dirent.TheVariants.{Used};
 ghost use Rattle.fs_layout.specs.Name.{IsName};
 ghost use Rattle.fs_layout.specs.Entry.{spell_dirent};
 ghost use Rattle.fs_layout.specs.Widths.{bits_per_block};
-ghost use Rattle.atomic_programs.specs.Machines.{Still, Left as LeftOf};
+ghost use Rattle.atomic_programs.specs.Machines.{OnDone, Still, Left as LeftOf, stepped_at};
 ghost use Rattle.fs_tables.specs.declared.inodes.Inode.{Inode as InodeState};
 ghost use Rattle.sleep_lock.specs.SleepLock.{GuardState};
 ghost use Rattle.fs_machine.specs.Steps.{State, state_of};
@@ -15,13 +15,14 @@ ghost use Rattle.inode_data.specs.Beginnings.{begun_of, IfBegun};
 ghost use Rattle.inode_data.specs.Following.{Follows};
 ghost use Rattle.inode_data.specs.PartWriting.{writer_of};
 ghost use Rattle.inode_data.specs.Records.{record_in, with_record};
+ghost use Rattle.inode_data.specs.declared.write_part.WritePart.TheVariants.{Gone};
 ghost use Rattle.directory.specs.Programs.{Unused, is_live_directory, most_slots};
 ghost use Rattle.directory.specs.Machines.{found_of, inode_of, search_of, SearchFits};
 ghost use Rattle.directory.specs.Entering.{enter, enter_at, enter_of, entered_of, enterer_of, in_entering, slot_for, slot_written, EnterFits, IsEntering};
 
 use crate::found::{Found, MOST_SLOTS, Sought, slot_count};
 use crate::search::{Search, Searched};
-use atomic_programs::machines::Stepped;
+use atomic_programs::machines::{Came, Stepped};
 use block_device::Device;
 use byteorder::{ByteOrder, LittleEndian};
 use fs_layout::widths::{DIRENT_LEN, DIRENT_NAME_AT};
@@ -124,8 +125,9 @@ impl Enter {
                 searching(entering, search.step(hart, Sought::Free, core))
             }
             Enter::Writing(entering, slot, part) => {
-                let stepped = part.step(hart, txn, &entering.entry, core);
-                writing(entering, slot, stepped)
+                let mut part = part;
+                let came = part.step(hart, txn, &entering.entry, core);
+                writing(entering, slot, part, came)
             }
         }
     }
@@ -206,16 +208,24 @@ fn searching(
 fn writing(
     entering: Entering,
     slot: usize,
-    stepped: Stepped<WritePart, PartWritten, Kind>,
+    part: WritePart,
+    came: Came<PartWritten, Kind>,
 ) -> Stepped<Enter, Entered, Kind>
-    requires { slot < most_slots }
-    ensures { result ≡ in_entering entering slot stepped }
+    requires slot { slot < most_slots }
+    requires ended { OnDone came (part ≡ Gone) }
+    ensures { result ≡ in_entering entering slot (stepped_at part came) }
 {
-    match stepped {
-        Stepped::Waits(part) => Stepped::Waits(Enter::Writing(entering, slot, part)),
-        Stepped::Ran(part, kind) => Stepped::Ran(Enter::Writing(entering, slot, part), kind),
-        Stepped::Done(written, kind) => Stepped::Done(slot_written(slot, written), kind),
-        Stepped::Stopped(part) => Stepped::Stopped(Enter::Writing(entering, slot, part)),
+    match came {
+        Came::Waits => Stepped::Waits(Enter::Writing(entering, slot, part)),
+        Came::Ran(kind) => Stepped::Ran(Enter::Writing(entering, slot, part), kind),
+        Came::Done(written, kind) => {
+            match part {
+                WritePart::Gone => {}
+                _ => unreachable!(),
+            }
+            Stepped::Done(slot_written(slot, written), kind)
+        }
+        Came::Stopped => Stepped::Stopped(Enter::Writing(entering, slot, part)),
     }
 }
 

@@ -1,17 +1,14 @@
 -- The program that is left of a descriptor's inode, locked and loaded.
-use Rattle.std.specs.Prelude.{◌<◌, ◌^◌, ℕ, Some, IsSome}
+use Rattle.std.specs.Prelude.{◌≡◌, ◌<◌, ◌^◌, ℕ, Some, None, IsSome}
 use Rattle.fs_layout.specs.declared.inode.Dinode.{Dinode}
 use Rattle.sleep_lock.specs.SleepLock.{GuardState}
-use Rattle.atomic_programs.specs.Prog.{bind}
-use Rattle.atomic_programs.specs.declared.machines.Stepped.{Stepped}
-use Rattle.atomic_programs.specs.declared.machines.Stepped.TheVariants.{Waits, Ran, Done, Stopped}
+use Rattle.atomic_programs.specs.Prog.{Ret, bind}
 use Rattle.fs_tables.specs.declared.inodes.Inode.{Inode}
 use Rattle.fs_tables.specs.declared.files.OpenFile.{OpenFile}
-use Rattle.fs_machine.specs.declared.kind.Kind.{Kind}
+use Rattle.fs_tables.specs.declared.files.Refused.TheVariants as refused
 use Rattle.fs_machine.specs.Steps.{State}
 use Rattle.fs_machine.specs.Machines.{P}
 use Rattle.fs_machine.specs.Tied.{IsOwnInode}
-use Rattle.inode_table.specs.declared.load_inode.LoadInode.{LoadInode}
 use Rattle.inode_table.specs.Machines.{load_of, LoadFits}
 use Rattle.file_table.specs.Programs.{FileState, Denies, Loads, give_loaded, load_file}
 use Rattle.file_table.specs.declared.load_file.LoadFile.{LoadFile}
@@ -23,14 +20,22 @@ use Rattle.file_table.specs.declared.load_file.LoadedFile.TheVariants as came
 abbrev pub IsEarly : ℕ → Type 0
 IsEarly inodestart = inodestart < 2 ^ 28
 
+abbrev pub nothing_loaded : P FileState
+nothing_loaded = Ret (Denies refused.BadDescriptor)
+
+-- one that has gone loads nothing
 unfoldable pub file_of : LoadFile → P FileState
 file_of (loading.Lock inodestart want fd) = load_file inodestart want fd
-file_of (loading.Loading file guard load) = bind (load_of load) (give_loaded file)
+file_of (loading.Loading file guard (Some load)) = bind (load_of load) (give_loaded file)
+file_of (loading.Loading file guard None) = nothing_loaded
+file_of loading.Gone = nothing_loaded
 
 -- its guards go with the state
 unfoldable pub FileFits : ℕ → State → LoadFile → Type 0
 FileFits hart s (loading.Lock inodestart want fd) = IsEarly inodestart
-FileFits hart s (loading.Loading file guard load) = (file.number < 2 ^ 16) × IsOwnInode hart file.number guard s × LoadFits hart s load
+FileFits hart s (loading.Loading file guard (Some load)) = (file.number < 2 ^ 16) × IsOwnInode hart file.number guard s × LoadFits hart s load
+FileFits hart s (loading.Loading file guard None) = ⊥
+FileFits hart s loading.Gone = ⊥
 
 -- what its result stands for
 abbrev pub loaded_as : LoadedFile → FileState
@@ -51,9 +56,28 @@ IfLoaded (came.Loaded file guard) P = P file guard
 abbrev pub with_content : GuardState Inode → Dinode → GuardState Inode
 with_content guard d = record guard { value = record guard.value { content = Some d } }
 
--- a loading's step, as one of the machine that it stands in
-abbrev pub in_file : OpenFile → GuardState Inode → Stepped LoadInode Dinode Kind → Stepped LoadFile LoadedFile Kind
-in_file file guard (Waits load) = Waits (loading.Loading file guard load)
-in_file file guard (Ran load kind) = Ran (loading.Loading file guard load) kind
-in_file file guard (Done d kind) = Done (came.Loaded file (with_content guard d)) kind
-in_file file guard (Stopped load) = Stopped (loading.Loading file guard load)
+-- ---- from one state to the next
+
+abbrev pub IsLocking : LoadFile → Type 0
+IsLocking (loading.Lock inodestart want fd) = Unit {0}
+IsLocking m = ⊥
+
+abbrev pub IsLoading : LoadFile → Type 0
+IsLoading (loading.Loading file guard load) = Unit {0}
+IsLoading m = ⊥
+
+-- such a state holds nothing that has to be given back
+abbrev pub IsBareFile : LoadFile → Type 0
+IsBareFile (loading.Lock inodestart want fd) = Unit {0}
+IsBareFile loading.Gone = Unit {0}
+IsBareFile m = ⊥
+
+-- the inode has been loaded
+abbrev pub HasLoaded : LoadFile → Type 0
+HasLoaded (loading.Loading file guard load) = load ≡ None
+HasLoaded m = ⊥
+
+-- and this is then the result
+abbrev pub LoadedWith : Dinode → LoadFile → LoadedFile → Type 0
+LoadedWith d (loading.Loading file guard load) result = result ≡ came.Loaded file (with_content guard d)
+LoadedWith d m result = Unit {0}

@@ -32,10 +32,10 @@ use Rattle.inode_data.specs.Freeing.{free_numbers, free_in_table, free_indirect,
 use Rattle.inode_data.specs.Truncating.{own_rest, listed_rest, indirect_rest, record_rest, clearing_of, truncate_of}
 use Rattle.inode_data.specs.Dropping.{free_inode_of, drop_of}
 use Rattle.inode_data.specs.Machines.{block_fetch_of}
-use Rattle.inode_data.specs.Reading.{read_of}
+use Rattle.inode_data.specs.Reading.{read_of, ReadFits}
 use Rattle.inode_data.specs.Writing.{located, look_up, name_in_table, take_one}
-use Rattle.inode_data.specs.Locating.{locate_of}
-use Rattle.inode_data.specs.PartWriting.{write_of}
+use Rattle.inode_data.specs.Locating.{locate_of, LocateFits}
+use Rattle.inode_data.specs.PartWriting.{write_of, WriteFits}
 use Rattle.inode_data.specs.declared.location.Located.{Located}
 use Rattle.inode_data.specs.declared.location.Locate.{Locate}
 use Rattle.inode_data.specs.declared.location.Locate.TheVariants as locating
@@ -56,7 +56,7 @@ use Rattle.inode_data.specs.declared.freeing.FreeInode.{FreeInode}
 use Rattle.inode_data.specs.declared.freeing.FreeInode.TheVariants as freed
 use Rattle.inode_data.specs.declared.dropping.DropReference.{DropReference}
 use Rattle.inode_data.specs.declared.dropping.DropReference.TheVariants as dropping
-use Rattle.file_table.specs.Machines.{file_of}
+use Rattle.file_table.specs.Machines.{file_of, FileFits}
 use Rattle.file_table.specs.declared.load_file.LoadFile.{LoadFile}
 use Rattle.file_table.specs.declared.load_file.LoadFile.TheVariants as file
 use Rattle.descriptor_calls.specs.Machines.{dup_of, DupFits, close_of, CloseFits, fstat_of, FstatFits, read_call_of, ReadCallFits}
@@ -115,7 +115,7 @@ use Rattle.descriptor_calls.specs.Writing.{part_of, write_call_of, WriteCallFits
 use Rattle.descriptor_calls.specs.declared.write.Write.{Write}
 use Rattle.descriptor_calls.specs.declared.write.Write.TheVariants as write
 use Rattle.inode_table.specs.NewMachines.{new_of}
-use Rattle.directory.specs.Entering.{enter_of}
+use Rattle.directory.specs.Entering.{enter_of, EnterFits}
 use Rattle.making_calls.specs.Making.{make_of, MakeFits}
 use Rattle.making_calls.specs.Creating.{open_new_of, OpenNewFits}
 use Rattle.descriptor_calls.specs.Inheriting.{inherit_of, InheritFits}
@@ -196,10 +196,12 @@ has_block (fetched.Table i f) = first (fetch_of f) _ (has_fetch f)
 has_block (fetched.Number i guard) = tt
 has_block (fetched.Block f) = first (fetch_of f) _ (has_fetch f)
 
-has_read : (m : ReadPart) → HasOne (read_of m)
-unfolding read_of
-has_read (reading.Fetching r m) = first (block_fetch_of m) _ (has_block m)
-has_read (reading.There r guard) = tt
+has_read : (h : ℕ) (s : State) (m : ReadPart) → ReadFits h s m → HasOne (read_of m)
+unfolding read_of ReadFits
+has_read h s (reading.Fetching r (Some m)) fits = first (block_fetch_of m) _ (has_block m)
+has_read h s (reading.Fetching r None) fits = absurd fits
+has_read h s (reading.There r guard) fits = tt
+has_read h s reading.Gone fits = absurd fits
 
 has_look_up : (sizes : Super) (i : ℕ) (d : Dinode) (table : ℕ) (bytes : List ℕ) → HasOne {A = Located} (look_up sizes i d table bytes)
 has_look_up sizes i d table bytes = each (slice_index (numbers_in bytes) i) (slice_index (numbers_in bytes) i == 0)
@@ -212,21 +214,29 @@ has_name : (i : ℕ) (d : Dinode) (table : ℕ) (bytes : List ℕ) (number : Opt
 has_name i d table bytes None = tt
 has_name i d table bytes (Some b) = tt
 
-has_locate : (m : Locate) → HasOne (locate_of m)
-unfolding locate_of
-has_locate (locating.Direct l i m) = first (take_block_of m) _ (has_take_block m)
-has_locate (locating.NewTable l i m) = first (take_block_of m) _ (has_take_block m)
-has_locate (locating.Table l i f) = first (fetch_of f) _ (has_fetch f)
-has_locate (locating.Entry l i table) = has_look_up l.sizes i l.inode table.value.block (bytes_of table)
-has_locate (locating.NewEntry l i table m) = first (take_block_of m) _ (has_take_block m)
-has_locate (locating.Name l i table number) = has_name i l.inode table.value.block (bytes_of table) number
+has_locate : (h : ℕ) (s : State) (m : Locate) → LocateFits h s m → HasOne (locate_of m)
+unfolding locate_of LocateFits
+has_locate h s (locating.Direct l i (Some m)) fits = first (take_block_of m) _ (has_take_block m)
+has_locate h s (locating.Direct l i None) fits = absurd fits
+has_locate h s (locating.NewTable l i (Some m)) fits = first (take_block_of m) _ (has_take_block m)
+has_locate h s (locating.NewTable l i None) fits = absurd fits
+has_locate h s (locating.Table l i (Some f)) fits = first (fetch_of f) _ (has_fetch f)
+has_locate h s (locating.Table l i None) fits = absurd fits
+has_locate h s (locating.Entry l i table) fits = has_look_up l.sizes i l.inode table.value.block (bytes_of table)
+has_locate h s (locating.NewEntry l i table (Some m)) fits = first (take_block_of m) _ (has_take_block m)
+has_locate h s (locating.NewEntry l i table None) fits = absurd fits
+has_locate h s (locating.Name l i table number) fits = has_name i l.inode table.value.block (bytes_of table) number
+has_locate h s locating.Gone fits = absurd fits
 
-has_write : (bytes : List ℕ) (m : WritePart) → HasOne (write_of bytes m)
-unfolding write_of
-has_write bytes (writing.Locating w m) = first (locate_of m) _ (has_locate m)
-has_write bytes (writing.Fetching w f) = first (fetch_of f) _ (has_fetch f)
-has_write bytes (writing.There w guard) = tt
-has_write bytes (writing.Storing w m) = first (store_of m) _ (has_store m)
+has_write : (h : ℕ) (bytes : List ℕ) (s : State) (m : WritePart) → WriteFits h bytes s m → HasOne (write_of bytes m)
+unfolding write_of WriteFits
+has_write h bytes s (writing.Locating w m) fits = first (locate_of m) _ (has_locate h s m fits.2)
+has_write h bytes s (writing.Fetching w (Some f)) fits = first (fetch_of f) _ (has_fetch f)
+has_write h bytes s (writing.Fetching w None) fits = absurd fits
+has_write h bytes s (writing.There w guard) fits = tt
+has_write h bytes s (writing.Storing w (Some m)) fits = first (store_of m) _ (has_store m)
+has_write h bytes s (writing.Storing w None) fits = absurd fits
+has_write h bytes s writing.Gone fits = absurd fits
 
 has_numbers : {A : Type 0} (bitmap : ℕ) (bs : List ℕ) (after : P A) → HasOne after → HasOne (free_numbers bitmap bs after)
 has_numbers bitmap [] after has = has
@@ -280,10 +290,12 @@ unfolding drop_of
 has_drop (dropping.Down sizes n) = tt
 has_drop (dropping.Freeing m) = has_free_inode m
 
-has_file : (m : LoadFile) → HasOne (file_of m)
-unfolding file_of
-has_file (file.Lock inodestart want fd) = tt
-has_file (file.Loading f guard m) = first (load_of m) _ (has_load m)
+has_file : (h : ℕ) (s : State) (m : LoadFile) → FileFits h s m → HasOne (file_of m)
+unfolding file_of FileFits
+has_file h s (file.Lock inodestart want fd) fits = tt
+has_file h s (file.Loading f guard (Some m)) fits = first (load_of m) _ (has_load m)
+has_file h s (file.Loading f guard None) fits = absurd fits
+has_file h s file.Gone fits = absurd fits
 
 -- ---- calls
 
@@ -306,18 +318,15 @@ has_close h s close.Gone fits = absurd fits
 
 has_fstat : (h : ℕ) (s : State) (m : Fstat) → FstatFits h s m → HasOne (fstat_of m)
 unfolding fstat_of FstatFits
-has_fstat h s (fstat.Loading fd (Some m)) fits = first (file_of m) _ (has_file m)
-has_fstat h s (fstat.Loading fd None) fits = absurd fits
+has_fstat h s (fstat.Loading fd m) fits = first (file_of m) _ (has_file h s m fits)
 has_fstat h s (fstat.Give fd guard) fits = tt
 has_fstat h s (fstat.Say reply) fits = tt
 has_fstat h s fstat.Gone fits = absurd fits
 
 has_read_call : (h : ℕ) (s : State) (m : Read) → ReadCallFits h s m → HasOne (read_call_of m)
 unfolding read_call_of ReadCallFits
-has_read_call h s (read.Loading fd buffer (Some m)) fits = first (file_of m) _ (has_file m)
-has_read_call h s (read.Loading fd buffer None) fits = absurd fits
-has_read_call h s (read.Reading fd offset (Some m)) fits = first (read_of m) _ (has_read m)
-has_read_call h s (read.Reading fd offset None) fits = absurd fits
+has_read_call h s (read.Loading fd buffer m) fits = first (file_of m) _ (has_file h s m fits.1)
+has_read_call h s (read.Reading fd offset m) fits = first (read_of m) _ (has_read h s m fits.1)
 has_read_call h s (read.Give fd offset r) fits = tt
 has_read_call h s (read.Say reply) fits = tt
 has_read_call h s read.Gone fits = absurd fits
@@ -330,8 +339,7 @@ has_write_call h s (write.Join w) fits = tt
 has_write_call h s (write.Lock w txn) fits = tt
 has_write_call h s (write.Loading w txn file guard (Some m)) fits = first (load_of m) _ (has_load m)
 has_write_call h s (write.Loading w txn file guard None) fits = absurd fits
-has_write_call h s (write.Writing w txn offset (Some m)) fits = first (write_of (part_of w) m) _ (has_write (part_of w) m)
-has_write_call h s (write.Writing w txn offset None) fits = absurd fits
+has_write_call h s (write.Writing w txn offset m) fits = first (write_of (part_of w) m) _ (has_write h (part_of w) s m fits.3)
 has_write_call h s (write.Deny w txn guard why) fits = tt
 has_write_call h s (write.Give w txn offset r) fits = tt
 has_write_call h s (write.Leaving w end (Some m)) fits = first (finish_of m) _ (has_finish h m fits.1)
@@ -474,10 +482,10 @@ has_new (making_inode.Look l guard) = tt
 has_new (making_inode.Record l n guard) = tt
 has_new (making_inode.GiveBack l guard) = tt
 
-has_enter : (m : Enter) → HasOne (enter_of m)
-unfolding enter_of
-has_enter (entering.Searching e m) = first (search_of Unused m) _ (has_search Unused m)
-has_enter (entering.Writing e slot m) = first (write_of _ m) _ (has_write _ m)
+has_enter : (h : ℕ) (s : State) (m : Enter) → EnterFits h s m → HasOne (enter_of m)
+unfolding enter_of EnterFits
+has_enter h s (entering.Searching e m) fits = first (search_of Unused m) _ (has_search Unused m)
+has_enter h s (entering.Writing e slot m) fits = first (write_of _ m) _ (has_write h _ s m fits.1)
 
 has_make : (e : Name) (h : ℕ) (s : State) (m : Make) → MakeFits h s m → HasOne (make_of e m)
 unfolding make_of MakeFits
@@ -486,9 +494,9 @@ has_make e h s (making.Claiming m None) fits = absurd fits.1
 has_make e h s (making.Taking m take) fits = first (take_of take) _ (has_take h s take fits.1)
 has_make e h s (making.Linking m child (Some st)) fits = first (store_of st) _ (has_store st)
 has_make e h s (making.Linking m child None) fits = absurd fits.3
-has_make e h s (making.Filling m n bytes (Some part)) fits = first (write_of bytes part) _ (has_write bytes part)
+has_make e h s (making.Filling m n bytes (Some part)) fits = first (write_of bytes part) _ (has_write h bytes s part fits.3)
 has_make e h s (making.Filling m n bytes None) fits = absurd fits.1
-has_make e h s (making.Entering sizes n child (Some enter)) fits = first (enter_of enter) _ (has_enter enter)
+has_make e h s (making.Entering sizes n child (Some enter)) fits = first (enter_of enter) _ (has_enter h s enter fits.4)
 has_make e h s (making.Entering sizes n child None) fits = absurd fits.1
 has_make e h s (making.Unlinking sizes parent child what (Some st)) fits = first (store_of st) _ (has_store st)
 has_make e h s (making.Unlinking sizes parent child what None) fits = absurd fits.4
@@ -522,7 +530,7 @@ has_mkdir h s mkdir.Gone fits = absurd fits
 has_add : (h : ℕ) (s : State) (m : AddName) → AddFits h s m → HasOne (add_of m)
 unfolding add_of AddFits
 has_add h s (adding.Seeking l txn n m) fits = first (seek_of l.new m) _ (has_seek l.new h s m fits.2)
-has_add h s (adding.Entering l txn list n parent (Some m)) fits = first (enter_of m) _ (has_enter m)
+has_add h s (adding.Entering l txn list n parent (Some m)) fits = first (enter_of m) _ (has_enter h s m fits.3)
 has_add h s (adding.Entering l txn list n parent None) fits = absurd fits
 has_add h s (adding.Leaving l txn list n why m) fits = first (give_of m) _ (has_give h s m fits.2)
 has_add h s (adding.Taking e txn m) fits = first (take_of m) _ (has_take h s m fits.2)

@@ -174,24 +174,34 @@ module _ (h g : ℕ) (s t : State) (other : h ≢ g) (leaves : LeavesTied g s t)
 
   reads : (m : ReadPart) → ReadFits h s m → ReadFits h t m
   unfolding ReadFits
-  reads (reading.Fetching r m) fits = (fits.0, block m fits.1)
+  reads (reading.Fetching r (Some m)) fits = (fits.0, block m fits.1)
+  reads (reading.Fetching r None) fits = absurd fits
   reads (reading.There r guard) fits = (fits.0, is_fetched _ guard fits.1)
+  reads reading.Gone fits = absurd fits
 
   locates : (m : Locate) → LocateFits h s m → LocateFits h t m
   unfolding LocateFits
-  locates (locating.Direct l i m) fits = (fits.0, take_block m fits.1)
-  locates (locating.NewTable l i m) fits = (fits.0, fits.1, take_block m fits.2)
-  locates (locating.Table l i f) fits = (fits.0, fits.1, fetch f fits.2)
+  locates (locating.Direct l i (Some m)) fits = (fits.0, take_block m fits.1)
+  locates (locating.Direct l i None) fits = absurd fits
+  locates (locating.NewTable l i (Some m)) fits = (fits.0, fits.1, take_block m fits.2)
+  locates (locating.NewTable l i None) fits = absurd fits
+  locates (locating.Table l i (Some f)) fits = (fits.0, fits.1, fetch f fits.2)
+  locates (locating.Table l i None) fits = absurd fits
   locates (locating.Entry l i table) fits = (fits.0, fits.1, is_fetched _ table fits.2)
-  locates (locating.NewEntry l i table m) fits = (fits.0, is_fetched _ table fits.1, take_block m fits.2, fits.3)
+  locates (locating.NewEntry l i table (Some m)) fits = (fits.0, is_fetched _ table fits.1, take_block m fits.2, fits.3)
+  locates (locating.NewEntry l i table None) fits = absurd fits
   locates (locating.Name l i table number) fits = (fits.0, is_fetched _ table fits.1)
+  locates locating.Gone fits = absurd fits
 
   writes : (bytes : List ℕ) (m : WritePart) → WriteFits h bytes s m → WriteFits h bytes t m
   unfolding WriteFits
   writes bytes (writing.Locating w m) fits = (fits.0, fits.1, locates m fits.2)
-  writes bytes (writing.Fetching w f) fits = (fits.0, fits.1, fetch f fits.2)
+  writes bytes (writing.Fetching w (Some f)) fits = (fits.0, fits.1, fetch f fits.2)
+  writes bytes (writing.Fetching w None) fits = absurd fits
   writes bytes (writing.There w guard) fits = (fits.0, fits.1, is_fetched _ guard fits.2)
-  writes bytes (writing.Storing w m) fits = (fits.0, store m fits.1)
+  writes bytes (writing.Storing w (Some m)) fits = (fits.0, store m fits.1)
+  writes bytes (writing.Storing w None) fits = absurd fits
+  writes bytes writing.Gone fits = absurd fits
 
   clears : (m : Clearing) → ClearingFits h s m → ClearingFits h t m
   unfolding ClearingFits
@@ -225,7 +235,9 @@ module _ (h g : ℕ) (s t : State) (other : h ≢ g) (leaves : LeavesTied g s t)
   files : (m : LoadFile) → FileFits h s m → FileFits h t m
   unfolding FileFits
   files (file.Lock inodestart want fd) fits = fits
-  files (file.Loading f guard m) fits = (fits.0, own_inode _ guard fits.1, load m fits.2)
+  files (file.Loading f guard (Some m)) fits = (fits.0, own_inode _ guard fits.1, load m fits.2)
+  files (file.Loading f guard None) fits = absurd fits
+  files file.Gone fits = absurd fits
 
   -- ---- calls
 
@@ -248,18 +260,15 @@ module _ (h g : ℕ) (s t : State) (other : h ≢ g) (leaves : LeavesTied g s t)
 
   stats : (m : Fstat) → FstatFits h s m → FstatFits h t m
   unfolding FstatFits
-  stats (fstat.Loading fd (Some m)) fits = files m fits
-  stats (fstat.Loading fd None) fits = absurd fits
+  stats (fstat.Loading fd m) fits = files m fits
   stats (fstat.Give fd guard) fits = is_loaded _ guard fits
   stats (fstat.Say reply) fits = fits
   stats fstat.Gone fits = absurd fits
 
   read_calls : (m : Read) → ReadCallFits h s m → ReadCallFits h t m
   unfolding ReadCallFits
-  read_calls (read.Loading fd buffer (Some m)) fits = (fits.0, files m fits.1)
-  read_calls (read.Loading fd buffer None) fits = absurd fits
-  read_calls (read.Reading fd offset (Some m)) fits = (own_inode _ _ fits.0, reads m fits.1)
-  read_calls (read.Reading fd offset None) fits = absurd fits
+  read_calls (read.Loading fd buffer m) fits = (fits.0, files m fits.1)
+  read_calls (read.Reading fd offset m) fits = (own_inode _ _ fits.0, reads m fits.1)
   read_calls (read.Give fd offset r) fits = own_inode _ _ fits
   read_calls (read.Say reply) fits = fits
   read_calls read.Gone fits = absurd fits
@@ -272,8 +281,7 @@ module _ (h g : ℕ) (s t : State) (other : h ≢ g) (leaves : LeavesTied g s t)
   write_calls (write.Lock w txn) fits = fits
   write_calls (write.Loading w txn file guard (Some m)) fits = (fits.0, fits.1, fits.2, own_inode _ guard fits.3, load m fits.4)
   write_calls (write.Loading w txn file guard None) fits = absurd fits
-  write_calls (write.Writing w txn offset (Some m)) fits = (fits.0, fits.1, own_inode _ _ fits.2, writes (part_of w) m fits.3)
-  write_calls (write.Writing w txn offset None) fits = absurd fits
+  write_calls (write.Writing w txn offset m) fits = (fits.0, fits.1, own_inode _ _ fits.2, writes (part_of w) m fits.3)
   write_calls (write.Deny w txn guard why) fits = (fits.0, fits.1, own_inode _ guard fits.2)
   write_calls (write.Give w txn offset r) fits = (fits.0, fits.1, own_inode _ r.inode fits.2)
   write_calls (write.Leaving w end (Some m)) fits = fits

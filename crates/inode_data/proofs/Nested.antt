@@ -6,15 +6,10 @@ use Rattle.atomic_programs.specs.declared.machines.Stepped.{Stepped}
 use Rattle.atomic_programs.specs.declared.machines.Stepped.TheVariants as stepped
 use Rattle.atomic_programs.proofs.Prog.{moved_bind}
 use Rattle.fs_machine.specs.declared.kind.Kind.{Kind}
-use Rattle.fs_machine.specs.LogPart.{Outside, Passes}
+use Rattle.fs_machine.specs.LogPart.{Outside}
 use Rattle.fs_machine.specs.Steps.{State, Answer, exec, kind_of}
 use Rattle.fs_machine.specs.Machines.{P, Moves, said_in, within}
 use Rattle.inode_data.specs.Machines.{ends_within}
-use Rattle.inode_data.specs.declared.begun.Begun.{Begun}
-use Rattle.inode_data.specs.declared.begun.Begun.TheVariants.{Runs, Is}
-use Rattle.inode_data.specs.Beginnings.{begun_of, IfBegun, went_on_as}
-use Rattle.inode_data.specs.Locating.{begins_within}
-use Rattle.inode_data.proofs.Beginnings.{went_on_left}
 
 -- a program that moves moves so in a larger one
 bind_moves : {A B : Type 0} (h : ℕ) (x : Outside) (p : P A) (k : A → P B) (s : State) (r : OperationResult Kind (P A) State)
@@ -87,33 +82,6 @@ module _ {M R N S : Type 0} (Fits : M → Type 0) (Ends : R → Type 0) (Outer :
   ending_left f g on done (stepped.Done r kind) l = done r l
   ending_left f g on done (stepped.Stopped m) l = on m l
 
--- the machine goes on, or ends, by the result of the nested one
-module _ {M R N S A B : Type 0} (program : M → P A) (value : R → A) (outer : N → P B) (last : S → B) (k : A → P B) where
-  by_begun : (b : Begun N S) (kind : Kind) (new : State) → WentOn kind (begun_of outer last b) new ≡ moved_to outer last (went_on_as b kind) new
-  by_begun (Runs m) kind new = refl
-  by_begun (Is r) kind new = refl
-
-  said_begun : (b : Begun N S) (kind : Kind) (new : State) → said_in (went_on_as b kind) new ≡ Passes
-  said_begun (Runs m) kind new = refl
-  said_begun (Is r) kind new = refl
-
-  pub begins_moves : (f : M → N) (g : R → Begun N S) (h : ℕ) (m : M) (s : Stepped M R Kind) (old new : State)
-      → Left (λ w. outer (f w) ≡ bind (program w) k) (λ r. begun_of outer last (g r) ≡ k (value r)) s → Moves program value h m s old new
-      → advance kind_of (exec h (said_in (begins_within f g s) new)) (bind (program m) k) old ≡ moved_to outer last (begins_within f g s) new
-  begins_moves f g h m (stepped.Waits w) old new on e = bind_moves h (said_in {R = R} (stepped.Waits w) new) (program m) k old _ (not_ended program value outer last k (stepped.Waits w) new) e
-  begins_moves f g h m (stepped.Ran w kind) old new on e = bind_moves h (said_in {R = R} (stepped.Ran w kind) new) (program m) k old _ (not_ended program value outer last k (stepped.Ran w kind) new) e ∙ ap (λ (q : P B). WentOn kind q new) (sym on)
-  begins_moves f g h m (stepped.Done r kind) old new on e =
-      ap (λ (x : Outside). advance kind_of (exec h x) (bind (program m) k) old) (said_begun (g r) kind new)
-      ∙ (bind_moves h (said_in {M = M} (stepped.Done r kind) new) (program m) k old _ (not_ended program value outer last k (stepped.Done r kind) new) e ∙ (ap (λ (q : P B). WentOn kind q new) (sym on) ∙ by_begun (g r) kind new))
-  begins_moves f g h m (stepped.Stopped w) old new on e = bind_moves h (said_in {R = R} (stepped.Stopped w) new) (program m) k old _ (not_ended program value outer last k (stepped.Stopped w) new) e
-
-pub begins_left : {M R N S : Type 0} (Fits : M → Type 0) (Ends : R → Type 0) (Outer : N → Type 0) (Last : S → Type 0) (f : M → N) (g : R → Begun N S) → ((m : M) → Fits m → Outer (f m)) → ((r : R) → Ends r → IfBegun Outer Last (g r))
-    → (s : Stepped M R Kind) → Left Fits Ends s → Left Outer Last (begins_within f g s)
-begins_left Fits Ends Outer Last f g on done (stepped.Waits m) l = on m l
-begins_left Fits Ends Outer Last f g on done (stepped.Ran m kind) l = on m l
-begins_left Fits Ends Outer Last f g on done (stepped.Done r kind) l = went_on_left Outer Last (g r) kind (done r l)
-begins_left Fits Ends Outer Last f g on done (stepped.Stopped m) l = on m l
-
 -- where the nested machine waits or stops
 module _ {M N A B T : Type 0} (program : M → P A) (outer : N → P B) (k : A → P B) (f : M → N) (self : N) (m : M) (old new : T) (is : outer self ≡ bind (program m) k) (on : (w : M) → outer (f w) ≡ bind (program w) k) where
   same_program : (w : M) → program w ≡ program m → outer (f w) ≡ outer self
@@ -130,13 +98,3 @@ module _ {M N A B T : Type 0} (program : M → P A) (outer : N → P B) (k : A �
   ending_still g (stepped.Ran w kind) p = tt
   ending_still g (stepped.Done r kind) p = tt
   ending_still g (stepped.Stopped w) p = same_program w p
-
-  went_on_still : {S : Type 0} (b : Begun N S) (kind : Kind) → Still outer (went_on_as b kind) self old new
-  went_on_still (Runs w) kind = tt
-  went_on_still (Is r) kind = tt
-
-  pub begins_still : {R S : Type 0} (g : R → Begun N S) (s : Stepped M R Kind) → Still program s m old new → Still outer (begins_within f g s) self old new
-  begins_still g (stepped.Waits w) p = (same_program w p.0, p.1)
-  begins_still g (stepped.Ran w kind) p = tt
-  begins_still g (stepped.Done r kind) p = went_on_still (g r) kind
-  begins_still g (stepped.Stopped w) p = same_program w p

@@ -6,30 +6,19 @@ use Rattle.buffer_cache.specs.Buffers.{BufferState}
 use Rattle.fs_layout.specs.Widths.{block_len}
 use Rattle.fs_layout.specs.declared.inode.Dinode.{Dinode}
 use Rattle.atomic_programs.specs.Prog.{Did, Ran, WentOn, advance, bind, went}
-use Rattle.atomic_programs.specs.Machines.{Left}
-use Rattle.atomic_programs.specs.declared.machines.Stepped.{Stepped}
 use Rattle.atomic_programs.proofs.Prog.{bind-assoc}
-use Rattle.fs_tables.specs.declared.inodes.Inode.{Inode}
-use Rattle.fs_machine.specs.declared.fetch.Fetch.{Fetch}
-use Rattle.fs_machine.specs.declared.kind.Kind.{Kind}
 use Rattle.fs_machine.specs.declared.kind.Kind.TheVariants as kind
 use Rattle.fs_machine.specs.LogPart.{Passes}
 use Rattle.fs_machine.specs.Steps.{State, Op, Put, exec, kind_of}
-use Rattle.fs_machine.specs.Machines.{P, Moves}
+use Rattle.fs_machine.specs.Machines.{P}
 use Rattle.fs_machine.specs.Tied.{bytes_of}
-use Rattle.fs_machine.specs.Fetching.{fetch_of, block_of}
-use Rattle.inode_table.specs.Machines.{store_of}
-use Rattle.inode_table.specs.declared.store_inode.StoreInode.{StoreInode}
-use Rattle.inode_data.specs.Records.{record_in, with_record}
 use Rattle.inode_data.specs.Writing.{WriteResult, locate, with_part, write_located, write_blocks, write_part}
 use Rattle.inode_data.specs.Programs.{blocks_between}
-use Rattle.inode_data.specs.PartWriting.{IsPast, after_fetch, after_location, blocks_behind, bytes_left, finished, give_written, in_write_fetch, in_write_store, next_count, stored, write_of, write_rest, writer_of, written_of, written_so}
+use Rattle.inode_data.specs.PartWriting.{IsPast, after_location, blocks_behind, bytes_left, next_count, stored, write_of, write_rest, written_so}
 use Rattle.inode_data.specs.declared.location.Located.{Located}
 use Rattle.inode_data.specs.declared.write_part.Writing.{Writing}
-use Rattle.inode_data.specs.declared.write_part.PartWritten.{PartWritten}
 use Rattle.inode_data.specs.declared.write_part.WritePart.{WritePart}
 use Rattle.inode_data.specs.declared.write_part.WritePart.TheVariants as writing
-use Rattle.inode_data.proofs.Nested.{nested_moves, ending_moves, left_all, left_map}
 
 -- ---- the next block
 
@@ -71,31 +60,6 @@ past_so w next bytes past =
     rw (past.inode, past.so_far, past.sizes, past.at, past.left, rest) refl
 
 -- ---- its steps
-
-module _ (h : ℕ) (bytes : List ℕ) (old new : State) (self : WritePart) (result : Stepped WritePart PartWritten Kind) (w : Writing) where
-  abbrev Steps : Type 0
-  Steps = Moves (write_of bytes) written_of h self result old new
-
-  module _ (f : Fetch) (s : Stepped Fetch (GuardState BufferState) Kind) (is : self ≡ writing.Fetching w f) (at : result ≡ in_write_fetch w s) where
-    pub fetch_moves : Left (λ m. block_of m ≡ block_of f) (λ guard. guard.value.block ≡ block_of f) s → Moves fetch_of bytes_of h f s old new → Steps
-    unfolding write_of
-    fetch_moves same moves =
-        rw (is, at) (nested_moves fetch_of bytes_of (write_of bytes) written_of (after_fetch w bytes (block_of f)) (λ f. writing.Fetching w f) (λ guard. writing.There w guard) h f s old new
-        (left_map _ _ _ _
-        (λ m q. ap (λ (b : ℕ). bind (fetch_of m) (after_fetch w bytes b)) q)
-        (λ guard q. ap (λ (b : ℕ). after_fetch w bytes b (bytes_of guard)) q) s same) moves)
-
-  module _ (m : StoreInode) (s : Stepped StoreInode (Unit {0}) Kind) (is : self ≡ writing.Storing w m) (at : result ≡ in_write_store w s) where
-    pub store_moves : Moves store_of (λ x. x) h m s old new → Steps
-    unfolding write_of
-    store_moves moves =
-        rw (is, at) (ending_moves store_of (λ x. x) (write_of bytes) written_of (give_written w) (λ m. writing.Storing w m) (λ _. finished w) h m s old new
-        (left_all _ _ (λ m. refl) (λ r. refl) s) moves)
-
--- the guard of the writing's beginning is that of what is left of it
-pub same_writer : (guard kept : GuardState Inode) (result : Stepped WritePart PartWritten Kind) → guard ≡ kept → Left (λ m. writer_of m ≡ guard) (λ _. ⊥) result
-    → Left (λ m. writer_of m ≡ kept) (λ r. r.inode ≡ with_record (record_in r.inode) kept) result
-same_writer guard kept result e = left_map (λ m. writer_of m ≡ guard) (λ _. ⊥) (λ m. writer_of m ≡ kept) (λ r. r.inode ≡ with_record (record_in r.inode) kept) (λ m q. q ∙ e) (λ r f. absurd f) result
 
 -- its part of the bytes that are left
 pub rest_ran : (h : ℕ) (old new : State) (guard : GuardState BufferState) (w : Writing) (bytes rest : List ℕ) → rest ≡ drop w.done bytes

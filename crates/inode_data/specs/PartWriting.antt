@@ -1,27 +1,23 @@
 -- The programs that are left of a writing.
-use Rattle.std.specs.Prelude.{◌≡◌, ℕ, ◌+◌, ◌/◌, ◌^◌, ◌<◌, ◌≤◌, List, length, drop}
+use Rattle.std.specs.Prelude.{◌≡◌, ℕ, ◌+◌, ◌/◌, ◌^◌, ◌<◌, ◌≤◌, List, length, drop, Some, None}
 use Rattle.sleep_lock.specs.SleepLock.{GuardState}
 use Rattle.buffer_cache.specs.Buffers.{BufferState}
 use Rattle.fs_layout.specs.Widths.{bits_per_block, block_len}
 use Rattle.fs_layout.specs.declared.inode.Dinode.{Dinode}
 use Rattle.atomic_programs.specs.Prog.{Ret, bind}
-use Rattle.atomic_programs.specs.declared.machines.Stepped.{Stepped}
 use Rattle.fs_tables.specs.declared.inodes.Inode.{Inode}
-use Rattle.fs_machine.specs.declared.fetch.Fetch.{Fetch}
-use Rattle.fs_machine.specs.declared.kind.Kind.{Kind}
 use Rattle.fs_machine.specs.Steps.{State}
-use Rattle.fs_machine.specs.Machines.{P, within}
+use Rattle.fs_machine.specs.Machines.{P}
 use Rattle.fs_machine.specs.Tied.{bytes_of}
 use Rattle.fs_machine.specs.Fetching.{fetch_of, block_of, FetchFits, IsFetched}
-use Rattle.inode_table.specs.Programs.{inode_block}
+use Rattle.inode_table.specs.Programs.{inode_block, no_record}
 use Rattle.inode_table.specs.Machines.{store_of, StoreFits}
-use Rattle.inode_table.specs.declared.store_inode.StoreInode.{StoreInode}
 use Rattle.inode_data.specs.Widths.{most_blocks}
 use Rattle.inode_data.specs.Records.{record_in, with_record}
-use Rattle.inode_data.specs.Machines.{ends_within}
 use Rattle.inode_data.specs.Writing.{WriteResult, front_of, put_part, write_located, write_blocks, grown, store_written}
 use Rattle.inode_data.specs.Locating.{locate_of, LocateFits}
 use Rattle.inode_data.specs.declared.location.Located.{Located}
+use Rattle.inode_data.specs.declared.location.Locate.TheVariants as locating
 use Rattle.inode_data.specs.declared.write_part.Writing.{Writing}
 use Rattle.inode_data.specs.declared.write_part.PartWritten.{PartWritten}
 use Rattle.inode_data.specs.declared.write_part.WritePart.{WritePart}
@@ -61,11 +57,18 @@ after_fetch w bytes b block = bind (put_part (blocks_behind w bytes w.so_far) b 
 abbrev pub give_written : Writing → Unit {0} → P WriteResult
 give_written w _ = Ret (record { inode = grown (written_so w); upto = w.at })
 
+-- that of nothing
+abbrev pub no_writing : P WriteResult
+no_writing = Ret (record { inode = no_record; upto = 0 })
+
 unfoldable pub write_of : List ℕ → WritePart → P WriteResult
 write_of bytes (writing.Locating w m) = bind (locate_of m) (after_location w bytes)
-write_of bytes (writing.Fetching w f) = bind (fetch_of f) (after_fetch w bytes (block_of f))
+write_of bytes (writing.Fetching w (Some f)) = bind (fetch_of f) (after_fetch w bytes (block_of f))
+write_of bytes (writing.Fetching w None) = no_writing
 write_of bytes (writing.There w guard) = after_fetch w bytes guard.value.block (bytes_of guard)
-write_of bytes (writing.Storing w m) = bind (store_of m) (give_written w)
+write_of bytes (writing.Storing w (Some m)) = bind (store_of m) (give_written w)
+write_of bytes (writing.Storing w None) = no_writing
+write_of bytes writing.Gone = no_writing
 
 -- what the result stands for
 abbrev pub written_of : PartWritten → WriteResult
@@ -80,9 +83,12 @@ pub record IsWriting (count : ℕ) (w : Writing) : Type 0 where
 -- its guards go with the state
 unfoldable pub WriteFits : ℕ → List ℕ → State → WritePart → Type 0
 WriteFits hart bytes s (writing.Locating w m) = IsWriting (w.left + 1) w × (w.done ≤ length bytes) × LocateFits hart s m
-WriteFits hart bytes s (writing.Fetching w f) = IsWriting (w.left + 1) w × (w.done ≤ length bytes) × FetchFits hart s f
+WriteFits hart bytes s (writing.Fetching w (Some f)) = IsWriting (w.left + 1) w × (w.done ≤ length bytes) × FetchFits hart s f
+WriteFits hart bytes s (writing.Fetching w None) = ⊥
 WriteFits hart bytes s (writing.There w guard) = IsWriting (w.left + 1) w × (w.done ≤ length bytes) × IsFetched hart guard.value.block guard s
-WriteFits hart bytes s (writing.Storing w m) = IsWriting 0 w × StoreFits hart s m
+WriteFits hart bytes s (writing.Storing w (Some m)) = IsWriting 0 w × StoreFits hart s m
+WriteFits hart bytes s (writing.Storing w None) = ⊥
+WriteFits hart bytes s writing.Gone = ⊥
 
 -- the next block was written
 pub record IsPast (w : Writing) (bytes : List ℕ) (next : Writing) : Type 0 where
@@ -96,19 +102,69 @@ pub record IsPast (w : Writing) (bytes : List ℕ) (next : Writing) : Type 0 whe
   pub there : next.done ≤ length bytes
 
 -- the inode's guard
+abbrev no_guard : GuardState Inode
+no_guard = record { number = 0; hart = 0; value = record { number = 0; content = None } }
+
 abbrev pub writer_of : WritePart → GuardState Inode
 writer_of (writing.Locating w m) = w.inode
 writer_of (writing.Fetching w f) = w.inode
 writer_of (writing.There w guard) = w.inode
 writer_of (writing.Storing w m) = w.inode
+writer_of writing.Gone = no_guard
 
 -- the writing's end
 abbrev pub finished : Writing → PartWritten
 finished w = record { inode = with_record (grown (written_so w)) w.inode; upto = w.at }
 
--- a nested machine's step, as one of the writing
-abbrev pub in_write_fetch : Writing → Stepped Fetch (GuardState BufferState) Kind → Stepped WritePart PartWritten Kind
-in_write_fetch w s = within (λ f. writing.Fetching w f) (λ guard. writing.There w guard) s
+-- ---- from one state to the next
 
-abbrev pub in_write_store : Writing → Stepped StoreInode (Unit {0}) Kind → Stepped WritePart PartWritten Kind
-in_write_store w s = ends_within (λ m. writing.Storing w m) (λ _. finished w) s
+-- the next block is sought
+abbrev pub IsLocating : WritePart → Type 0
+IsLocating (writing.Locating w m) = Unit {0}
+IsLocating _ = ⊥
+
+abbrev pub HasLocated : WritePart → Type 0
+HasLocated (writing.Locating w m) = IsWriting (w.left + 1) w × (m ≡ locating.Gone)
+HasLocated _ = ⊥
+
+-- what a search that is done goes on with
+abbrev pub FoundIn : Writing → Located → WritePart → Type 0
+FoundIn w l next =
+    ((bytes : List ℕ) → write_of bytes next ≡ after_location w bytes l)
+    × (writer_of next ≡ w.inode)
+    × ((hart : ℕ) (bytes : List ℕ) (s : State) → w.done ≤ length bytes → WriteFits hart bytes s next)
+
+abbrev pub FoundTo : Located → WritePart → WritePart → Type 0
+FoundTo l (writing.Locating w m) next = FoundIn w l next
+FoundTo l _ next = Unit {0}
+
+-- it is fetched
+abbrev pub IsFetching : WritePart → Type 0
+IsFetching (writing.Fetching w f) = Unit {0}
+IsFetching _ = ⊥
+
+abbrev pub HasFetched : WritePart → Type 0
+HasFetched (writing.Fetching w f) = f ≡ None
+HasFetched _ = ⊥
+
+abbrev pub fetched_in : GuardState BufferState → WritePart → WritePart
+fetched_in guard (writing.Fetching w f) = writing.There w guard
+fetched_in guard _ = writing.Gone
+
+-- it is there
+abbrev pub IsThere : WritePart → Type 0
+IsThere (writing.There w guard) = Unit {0}
+IsThere _ = ⊥
+
+-- the inode is stored
+abbrev pub IsStoring : WritePart → Type 0
+IsStoring (writing.Storing w m) = Unit {0}
+IsStoring _ = ⊥
+
+abbrev pub HasStored : WritePart → Type 0
+HasStored (writing.Storing w m) = IsWriting 0 w × (m ≡ None)
+HasStored _ = ⊥
+
+abbrev pub StoredAs : WritePart → PartWritten → Type 0
+StoredAs (writing.Storing w m) r = r ≡ finished w
+StoredAs _ r = Unit {0}

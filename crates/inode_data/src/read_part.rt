@@ -2,29 +2,31 @@
 ghost use Rattle.std.specs.Prelude.{◌≡◌, ◌≢◌, ◌<◌, ◌≤◌, ◌+◌, ◌-◌, ◌%◌, ◌++◌, ℕ, min, take, length, IsSome};
 ghost use Rattle.fs_layout.specs.Widths.{block_len};
 ghost use Rattle.atomic_programs.specs.Prog.{OperationResult, WentOn, Ret};
-ghost use Rattle.atomic_programs.specs.Machines.{Still, Left as LeftOf};
+ghost use Rattle.atomic_programs.specs.Machines.{Left as LeftOf, stepped_at};
 ghost use Rattle.fs_machine.specs.Steps.{State, state_of};
-ghost use Rattle.fs_machine.specs.Machines.{MayNext, Moves, Answers, CallsOnce};
-ghost use Rattle.fs_machine.specs.Tied.{LeavesTied};
+ghost use Rattle.fs_machine.specs.Machines.{MayNext};
+ghost use Rattle.fs_machine.specs.Places.{StepsAt};
 ghost use Rattle.inode_data.specs.Records.{record_in};
 ghost use Rattle.fs_layout.specs.Bytes.{overwrite};
 ghost use Rattle.inode_data.specs.Programs.{blocks_between, read_blocks, read_from};
 ghost use Rattle.inode_data.specs.Machines.{BlockFetchFits};
 ghost use Rattle.inode_data.specs.Beginnings.{begun_of, IfBegun};
-ghost use Rattle.inode_data.specs.Reading.{filled_in, read_of, reader_of, ReadFits, in_read_fetch, IsReading, IsAfter};
+ghost use Rattle.inode_data.specs.Reading.{filled_in, read_of, reader_of, there_in, HasFetched, IsAfter, IsFetching, IsReading, IsThere, ReadFits};
+ghost use Rattle.inode_data.specs.declared.read_part.ReadPart.TheVariants as reading;
 
 use crate::addresses::MOST_BLOCKS;
-use crate::begun::{Begun, went_on};
+use crate::begun::Begun;
 use crate::copies::copy_into;
 use crate::fetch_block::FetchBlock;
 use crate::records::record;
-use atomic_programs::machines::Stepped;
+use atomic_programs::machines::{Came, Stepped, put};
 use block_device::Device;
 use buffer_cache::Buffer;
 use fs_layout::widths::{BLOCK_LEN, Block};
 use fs_machine::{Core, Kind, RetiredCore};
 use fs_tables::Inode;
 use sleep_lock::Guard;
+use std::mem;
 
 /// What a read has in hand: the inode, whose lock its hart has, and the bytes.
 pub struct Reading {
@@ -58,9 +60,11 @@ impl Reading {
 /// Reads bytes of a content into memory of the call.
 pub enum ReadPart {
     /// The block of the next bytes is fetched.
-    Fetching(Reading, FetchBlock),
+    Fetching(Reading, Option<FetchBlock>),
     /// That block is there.
     There(Reading, Guard<Buffer>),
+    /// It has ended, or is being changed.
+    Gone,
 }
 
 impl ReadPart {
@@ -92,27 +96,108 @@ impl ReadPart {
         })
     }
 
-    /// One operation.
-    #[tactic(auto, unfolding(crate::specs::Reading::read_of, crate::specs::Reading::ReadFits, fs_machine::specs::Premises::Honest))]
-    pub fn step<D: Device>(self, hart: u8, core: &mut Core<D>) -> Stepped<ReadPart, Reading, Kind>
-        requires may { MayNext hart (read_of self) (state_of D.contents D.failures core.old) }
-        requires fits { ReadFits hart (state_of D.contents D.failures core.old) self }
-        ensures moves { Moves read_of filled_in hart self result (state_of D.contents D.failures core.old) (state_of D.contents D.failures core.new) }
-        ensures honest { Answers read_of hart self result (state_of D.contents D.failures core.old) (state_of D.contents D.failures core.new) }
-        ensures still { Still read_of result self core.old core.new }
-        ensures inode { LeftOf (λ m. reader_of m ≡ reader_of self) (λ r. r.inode ≡ reader_of self) result }
-        ensures fits { LeftOf (ReadFits hart (state_of D.contents D.failures core.new)) (λ _. Unit {0}) result }
-        ensures others { LeavesTied hart (state_of D.contents D.failures core.old) (state_of D.contents D.failures core.new) }
-        ensures called { CallsOnce D.Called core.old.log.cache.device core.new.log.cache.device }
+    /// One operation, in its place.
+    #[tactic(auto, unfolding(crate::specs::Reading::read_of, crate::specs::Reading::ReadFits))]
+    pub fn step<D: Device>(&mut self, hart: u8, core: &mut Core<D>) -> Came<Reading, Kind>
+        requires may { MayNext hart (read_of self.old) (state_of D.contents D.failures core.old) }
+        requires fits { ReadFits hart (state_of D.contents D.failures core.old) self.old }
+        ensures steps { StepsAt D.contents D.failures D.Called read_of filled_in ReadFits (λ _. Unit {0}) reading.Gone hart self.old self.new result core.old core.new }
+        ensures inode { LeftOf (λ m. reader_of m ≡ reader_of self.old) (λ r. r.inode ≡ reader_of self.old) (stepped_at self.new result) }
         ensures tables { core.new.tables ≡ core.old.tables }
     {
         match self {
-            ReadPart::Fetching(reading, fetch) => fetching(reading, fetch.step(hart, core)),
-            ReadPart::There(reading, guard) => {
-                let reading = after(reading, guard.value().bytes());
-                core.put_back(hart, guard);
-                went_on(next(reading), Kind::Put)
+            ReadPart::Fetching(_, _) => self.fetch(hart, core),
+            ReadPart::There(_, _) => self.copy(hart, core),
+            ReadPart::Gone => unreachable!(),
+        }
+    }
+
+    // A step while the block is fetched.
+    #[tactic(auto, unfolding(crate::specs::Reading::read_of, crate::specs::Reading::ReadFits))]
+    fn fetch<D: Device>(&mut self, hart: u8, core: &mut Core<D>) -> Came<Reading, Kind>
+        requires at { IsFetching self.old }
+        requires may { MayNext hart (read_of self.old) (state_of D.contents D.failures core.old) }
+        requires fits { ReadFits hart (state_of D.contents D.failures core.old) self.old }
+        ensures steps { StepsAt D.contents D.failures D.Called read_of filled_in ReadFits (λ _. Unit {0}) reading.Gone hart self.old self.new result core.old core.new }
+        ensures inode { LeftOf (λ m. reader_of m ≡ reader_of self.old) (λ r. r.inode ≡ reader_of self.old) (stepped_at self.new result) }
+        ensures tables { core.new.tables ≡ core.old.tables }
+    {
+        match self {
+            ReadPart::Fetching(_, place) => match mem::replace(place, None) {
+                Some(fetch) => match fetch.step(hart, core) {
+                    Stepped::Waits(fetch) => {
+                        put(place, fetch);
+                        Came::Waits
+                    }
+                    Stepped::Ran(fetch, kind) => {
+                        put(place, fetch);
+                        Came::Ran(kind)
+                    }
+                    Stepped::Done(guard, kind) => {
+                        self.there(guard);
+                        Came::Ran(kind)
+                    }
+                    Stepped::Stopped(fetch) => {
+                        put(place, fetch);
+                        Came::Stopped
+                    }
+                },
+                None => unreachable!(),
+            },
+            _ => unreachable!(),
+        }
+    }
+
+    // The block has been fetched.
+    fn there(&mut self, guard: Guard<Buffer>)
+        requires { HasFetched self.old }
+        ensures { self.new ≡ there_in guard self.old }
+    {
+        match mem::replace(self, ReadPart::Gone) {
+            ReadPart::Fetching(reading, place) => {
+                match place {
+                    None => {}
+                    Some(_) => unreachable!(),
+                }
+                self.put(ReadPart::There(reading, guard));
             }
+            _ => unreachable!(),
+        }
+    }
+
+    // The block's part is copied, and its buffer put back.
+    #[tactic(auto, unfolding(crate::specs::Reading::read_of, crate::specs::Reading::ReadFits, fs_machine::specs::Premises::Honest))]
+    fn copy<D: Device>(&mut self, hart: u8, core: &mut Core<D>) -> Came<Reading, Kind>
+        requires at { IsThere self.old }
+        requires may { MayNext hart (read_of self.old) (state_of D.contents D.failures core.old) }
+        requires fits { ReadFits hart (state_of D.contents D.failures core.old) self.old }
+        ensures steps { StepsAt D.contents D.failures D.Called read_of filled_in ReadFits (λ _. Unit {0}) reading.Gone hart self.old self.new result core.old core.new }
+        ensures inode { LeftOf (λ m. reader_of m ≡ reader_of self.old) (λ r. r.inode ≡ reader_of self.old) (stepped_at self.new result) }
+        ensures tables { core.new.tables ≡ core.old.tables }
+    {
+        match mem::replace(self, ReadPart::Gone) {
+            ReadPart::There(mut reading, guard) => {
+                after(&mut reading, guard.value().bytes());
+                core.put_back(hart, guard);
+                match next(reading) {
+                    Begun::Runs(part) => {
+                        self.put(part);
+                        Came::Ran(Kind::Put)
+                    }
+                    Begun::Is(reading) => Came::Done(reading, Kind::Put),
+                }
+            }
+            _ => unreachable!(),
+        }
+    }
+
+    fn put(&mut self, next: ReadPart)
+        requires { self.old ≡ reading.Gone }
+        ensures { self.new ≡ next }
+    {
+        match mem::replace(self, next) {
+            ReadPart::Gone => {}
+            _ => unreachable!(),
         }
     }
 
@@ -121,12 +206,16 @@ impl ReadPart {
         match self {
             ReadPart::Fetching(reading, fetch) => {
                 reading.retire(retired);
-                fetch.retire(retired);
+                match fetch {
+                    None => {}
+                    Some(fetch) => fetch.retire(retired),
+                }
             }
             ReadPart::There(reading, guard) => {
                 reading.retire(retired);
                 guard.retire_in_row(&retired.buffers);
             }
+            ReadPart::Gone => {}
         }
     }
 }
@@ -156,15 +245,14 @@ fn next(reading: Reading) -> Begun<ReadPart, Reading>
     let mut reading = reading;
     reading.left -= 1;
     let fetch = FetchBlock::new(&record(&reading.inode), reading.from / BLOCK_LEN);
-    Begun::Runs(ReadPart::Fetching(reading, fetch))
+    Begun::Runs(ReadPart::Fetching(reading, Some(fetch)))
 }
 
 // Copies the block's part behind what was read before.
-fn after(reading: Reading, block: &Block) -> Reading
-    requires { IsReading (reading.left + 1) reading }
-    ensures { IsAfter reading block.now result }
+fn after(reading: &mut Reading, block: &Block)
+    requires { IsReading (reading.old.left + 1) reading.old }
+    ensures { IsAfter reading.old block.now reading.new }
 {
-    let mut reading = reading;
     let start = reading.from % BLOCK_LEN;
     let count = (reading.upto - reading.from).min(BLOCK_LEN - start);
     let end = reading.filled + count;
@@ -175,20 +263,4 @@ fn after(reading: Reading, block: &Block) -> Reading
     );
     reading.filled = end;
     reading.from += BLOCK_LEN - start;
-    reading
-}
-
-// A fetch's step, while the block of the next bytes is fetched.
-fn fetching(
-    reading: Reading,
-    stepped: Stepped<FetchBlock, Guard<Buffer>, Kind>,
-) -> Stepped<ReadPart, Reading, Kind>
-    ensures { result ≡ in_read_fetch reading stepped }
-{
-    match stepped {
-        Stepped::Waits(fetch) => Stepped::Waits(ReadPart::Fetching(reading, fetch)),
-        Stepped::Ran(fetch, kind) => Stepped::Ran(ReadPart::Fetching(reading, fetch), kind),
-        Stepped::Done(guard, kind) => Stepped::Ran(ReadPart::There(reading, guard), kind),
-        Stepped::Stopped(fetch) => Stepped::Stopped(ReadPart::Fetching(reading, fetch)),
-    }
 }

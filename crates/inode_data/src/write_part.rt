@@ -2,27 +2,27 @@
 ghost use Rattle.std.specs.Prelude.{◌≡◌, ◌+◌, ◌/◌, ◌<◌, ◌≤◌, ◌^◌, ℕ, List, drop, length, Some, IsSome};
 ghost use Rattle.fs_layout.specs.Widths.{bits_per_block};
 ghost use Rattle.atomic_programs.specs.Prog.{Ran as ItRan, bind};
-ghost use Rattle.atomic_programs.specs.Machines.{Still, Left as LeftOf};
+ghost use Rattle.atomic_programs.specs.Machines.{Left as LeftOf, stepped_at};
 ghost use Rattle.fs_machine.specs.LogPart.{Outside};
 ghost use Rattle.fs_machine.specs.Steps.{State, state_of, exec, Put};
 ghost use Rattle.fs_machine.specs.Premises.{May};
-ghost use Rattle.fs_machine.specs.Machines.{MayNext, Moves, Answers, CallsOnce};
+ghost use Rattle.fs_machine.specs.Machines.{MayNext};
+ghost use Rattle.fs_machine.specs.Places.{StepsAt};
 ghost use Rattle.fs_machine.specs.Tied.{LeavesTied, bytes_of};
 ghost use Rattle.fs_machine.specs.Fetching.{IsFetched};
 ghost use Rattle.inode_table.specs.Programs.{inode_block};
 ghost use Rattle.inode_data.specs.Widths.{most_bytes};
 ghost use Rattle.inode_data.specs.Records.{record_in, with_record};
-ghost use Rattle.inode_data.specs.Following.{Follows};
-ghost use Rattle.inode_data.specs.Locating.{locate_of, LocateFits};
 ghost use Rattle.inode_data.specs.Writing.{grown, with_part, write_part};
-ghost use Rattle.inode_data.specs.PartWriting.{IsWriting, IsPast, WriteFits, after_fetch, after_location, bytes_left, finished, in_write_fetch, in_write_store, stored, write_of, write_rest, writer_of, written_of, written_so};
+ghost use Rattle.inode_data.specs.PartWriting.{after_location, finished, fetched_in, stored, write_of, write_rest, writer_of, written_of, written_so, FoundTo, HasFetched, HasLocated, HasStored, IsFetching, IsLocating, IsPast, IsStoring, IsThere, IsWriting, StoredAs, WriteFits};
+ghost use Rattle.inode_data.specs.declared.write_part.WritePart.TheVariants as writing;
 
 use crate::begun::Begun;
 use crate::copies::copy_into;
 use crate::location::{Locate, Located};
 use crate::read_part::blocks;
 use crate::records::{record, with_record};
-use atomic_programs::machines::Stepped;
+use atomic_programs::machines::{Came, Stepped, put as put_in};
 use block_device::Device;
 use buffer_cache::Buffer;
 use fs_layout::widths::BLOCK_LEN;
@@ -32,6 +32,7 @@ use fs_tables::Inode;
 use group_log::Txn;
 use inode_table::StoreInode;
 use sleep_lock::Guard;
+use std::mem;
 
 /// What a writing has in hand: the inode, whose lock its hart has, and how far it is.
 pub struct Writing {
@@ -61,11 +62,13 @@ pub enum WritePart {
     /// The next block is sought, and taken where it is missing.
     Locating(Writing, Locate),
     /// It is fetched.
-    Fetching(Writing, Fetch),
+    Fetching(Writing, Option<Fetch>),
     /// It is there.
     There(Writing, Guard<Buffer>),
     /// The inode is stored.
-    Storing(Writing, StoreInode),
+    Storing(Writing, Option<StoreInode>),
+    /// It has ended, or is being changed.
+    Gone,
 }
 
 impl Writing {
@@ -106,45 +109,236 @@ impl WritePart {
         })
     }
 
-    /// One operation.
-    #[tactic(auto, unfolding(crate::specs::PartWriting::write_of, crate::specs::PartWriting::WriteFits, fs_machine::specs::Premises::Honest))]
+    /// One operation, in its place.
+    #[tactic(auto, unfolding(crate::specs::PartWriting::write_of, crate::specs::PartWriting::WriteFits))]
     pub fn step<D: Device>(
-        self,
+        &mut self,
         hart: u8,
         txn: &mut Txn,
         bytes: &[u8],
         core: &mut Core<D>,
-    ) -> Stepped<WritePart, PartWritten, Kind>
+    ) -> Came<PartWritten, Kind>
         requires txn { txn.old ≡ hart }
-        requires may { MayNext hart (write_of bytes.now self) (state_of D.contents D.failures core.old) }
-        requires fits { WriteFits hart bytes.now (state_of D.contents D.failures core.old) self }
-        ensures moves { Moves (write_of bytes.now) written_of hart self result (state_of D.contents D.failures core.old) (state_of D.contents D.failures core.new) }
-        ensures honest { Answers (write_of bytes.now) hart self result (state_of D.contents D.failures core.old) (state_of D.contents D.failures core.new) }
-        ensures still { Still (write_of bytes.now) result self core.old core.new }
+        requires may { MayNext hart (write_of bytes.now self.old) (state_of D.contents D.failures core.old) }
+        requires fits { WriteFits hart bytes.now (state_of D.contents D.failures core.old) self.old }
+        ensures steps { StepsAt D.contents D.failures D.Called (write_of bytes.now) written_of (λ h s. WriteFits h bytes.now s) (λ _. Unit {0}) writing.Gone hart self.old self.new result core.old core.new }
         ensures kept { txn.new ≡ txn.old }
-        ensures inode { LeftOf (λ m. writer_of m ≡ writer_of self) (λ r. r.inode ≡ with_record (record_in r.inode) (writer_of self)) result }
-        ensures fits { LeftOf (WriteFits hart bytes.now (state_of D.contents D.failures core.new)) (λ _. Unit {0}) result }
-        ensures others { LeavesTied hart (state_of D.contents D.failures core.old) (state_of D.contents D.failures core.new) }
-        ensures called { CallsOnce D.Called core.old.log.cache.device core.new.log.cache.device }
+        ensures inode { LeftOf (λ m. writer_of m ≡ writer_of self.old) (λ r. r.inode ≡ with_record (record_in r.inode) (writer_of self.old)) (stepped_at self.new result) }
         ensures tables { core.new.tables ≡ core.old.tables }
     {
         match self {
-            WritePart::Locating(writing, locate) => {
-                locating(writing, locate.step(hart, txn, core))
-            }
-            WritePart::Fetching(writing, fetch) => fetching(writing, fetch.step(hart, core)),
+            WritePart::Locating(_, _) => self.locate(hart, txn, bytes, core),
+            WritePart::Fetching(_, _) => self.fetch(hart, bytes, core),
+            WritePart::There(_, _) => self.write(hart, txn, bytes, core),
+            WritePart::Storing(_, _) => self.store(hart, txn, bytes, core),
+            WritePart::Gone => unreachable!(),
+        }
+    }
+
+    // A step while the next block is sought.
+    #[tactic(auto, unfolding(crate::specs::PartWriting::write_of, crate::specs::PartWriting::WriteFits))]
+    fn locate<D: Device>(
+        &mut self,
+        hart: u8,
+        txn: &mut Txn,
+        bytes: &[u8],
+        core: &mut Core<D>,
+    ) -> Came<PartWritten, Kind>
+        requires at { IsLocating self.old }
+        requires txn { txn.old ≡ hart }
+        requires may { MayNext hart (write_of bytes.now self.old) (state_of D.contents D.failures core.old) }
+        requires fits { WriteFits hart bytes.now (state_of D.contents D.failures core.old) self.old }
+        ensures steps { StepsAt D.contents D.failures D.Called (write_of bytes.now) written_of (λ h s. WriteFits h bytes.now s) (λ _. Unit {0}) writing.Gone hart self.old self.new result core.old core.new }
+        ensures kept { txn.new ≡ txn.old }
+        ensures inode { LeftOf (λ m. writer_of m ≡ writer_of self.old) (λ r. r.inode ≡ with_record (record_in r.inode) (writer_of self.old)) (stepped_at self.new result) }
+        ensures tables { core.new.tables ≡ core.old.tables }
+    {
+        match self {
+            WritePart::Locating(_, locate) => match locate.step(hart, txn, core) {
+                Came::Waits => Came::Waits,
+                Came::Ran(kind) => Came::Ran(kind),
+                Came::Done(located, kind) => {
+                    self.found(located);
+                    Came::Ran(kind)
+                }
+                Came::Stopped => Came::Stopped,
+            },
+            _ => unreachable!(),
+        }
+    }
+
+    // A step while it is fetched.
+    #[tactic(auto, unfolding(crate::specs::PartWriting::write_of, crate::specs::PartWriting::WriteFits))]
+    fn fetch<D: Device>(
+        &mut self,
+        hart: u8,
+        bytes: &[u8],
+        core: &mut Core<D>,
+    ) -> Came<PartWritten, Kind>
+        requires at { IsFetching self.old }
+        requires may { MayNext hart (write_of bytes.now self.old) (state_of D.contents D.failures core.old) }
+        requires fits { WriteFits hart bytes.now (state_of D.contents D.failures core.old) self.old }
+        ensures steps { StepsAt D.contents D.failures D.Called (write_of bytes.now) written_of (λ h s. WriteFits h bytes.now s) (λ _. Unit {0}) writing.Gone hart self.old self.new result core.old core.new }
+        ensures inode { LeftOf (λ m. writer_of m ≡ writer_of self.old) (λ r. r.inode ≡ with_record (record_in r.inode) (writer_of self.old)) (stepped_at self.new result) }
+        ensures tables { core.new.tables ≡ core.old.tables }
+    {
+        match self {
+            WritePart::Fetching(_, place) => match mem::replace(place, None) {
+                Some(fetch) => match fetch.step(hart, core) {
+                    Stepped::Waits(fetch) => {
+                        put_in(place, fetch);
+                        Came::Waits
+                    }
+                    Stepped::Ran(fetch, kind) => {
+                        put_in(place, fetch);
+                        Came::Ran(kind)
+                    }
+                    Stepped::Done(guard, kind) => {
+                        self.fetched(guard);
+                        Came::Ran(kind)
+                    }
+                    Stepped::Stopped(fetch) => {
+                        put_in(place, fetch);
+                        Came::Stopped
+                    }
+                },
+                None => unreachable!(),
+            },
+            _ => unreachable!(),
+        }
+    }
+
+    // Its part of the bytes is written.
+    #[tactic(auto, unfolding(crate::specs::PartWriting::write_of, crate::specs::PartWriting::WriteFits, fs_machine::specs::Premises::Honest))]
+    fn write<D: Device>(
+        &mut self,
+        hart: u8,
+        txn: &mut Txn,
+        bytes: &[u8],
+        core: &mut Core<D>,
+    ) -> Came<PartWritten, Kind>
+        requires at { IsThere self.old }
+        requires txn { txn.old ≡ hart }
+        requires may { MayNext hart (write_of bytes.now self.old) (state_of D.contents D.failures core.old) }
+        requires fits { WriteFits hart bytes.now (state_of D.contents D.failures core.old) self.old }
+        ensures steps { StepsAt D.contents D.failures D.Called (write_of bytes.now) written_of (λ h s. WriteFits h bytes.now s) (λ _. Unit {0}) writing.Gone hart self.old self.new result core.old core.new }
+        ensures kept { txn.new ≡ txn.old }
+        ensures inode { LeftOf (λ m. writer_of m ≡ writer_of self.old) (λ r. r.inode ≡ with_record (record_in r.inode) (writer_of self.old)) (stepped_at self.new result) }
+        ensures tables { core.new.tables ≡ core.old.tables }
+    {
+        match mem::replace(self, WritePart::Gone) {
             WritePart::There(writing, guard) => {
-                put(
-                    writing.at,
-                    rest(bytes, writing.done),
-                    guard,
-                    hart,
-                    txn,
-                    core,
-                );
-                Stepped::Ran(next(past(writing, bytes.len())), Kind::Put)
+                let part = rest(bytes, writing.done);
+                put(writing.at, part, guard, hart, txn, core);
+                self.put(next(past(writing, bytes.len())));
+                Came::Ran(Kind::Put)
             }
-            WritePart::Storing(writing, store) => storing(writing, store.step(hart, txn, core)),
+            _ => unreachable!(),
+        }
+    }
+
+    // A step while the inode is stored.
+    #[tactic(auto, unfolding(crate::specs::PartWriting::write_of, crate::specs::PartWriting::WriteFits))]
+    fn store<D: Device>(
+        &mut self,
+        hart: u8,
+        txn: &mut Txn,
+        bytes: &[u8],
+        core: &mut Core<D>,
+    ) -> Came<PartWritten, Kind>
+        requires at { IsStoring self.old }
+        requires txn { txn.old ≡ hart }
+        requires may { MayNext hart (write_of bytes.now self.old) (state_of D.contents D.failures core.old) }
+        requires fits { WriteFits hart bytes.now (state_of D.contents D.failures core.old) self.old }
+        ensures steps { StepsAt D.contents D.failures D.Called (write_of bytes.now) written_of (λ h s. WriteFits h bytes.now s) (λ _. Unit {0}) writing.Gone hart self.old self.new result core.old core.new }
+        ensures kept { txn.new ≡ txn.old }
+        ensures inode { LeftOf (λ m. writer_of m ≡ writer_of self.old) (λ r. r.inode ≡ with_record (record_in r.inode) (writer_of self.old)) (stepped_at self.new result) }
+        ensures tables { core.new.tables ≡ core.old.tables }
+    {
+        match self {
+            WritePart::Storing(_, place) => match mem::replace(place, None) {
+                Some(store) => match store.step(hart, txn, core) {
+                    Stepped::Waits(store) => {
+                        put_in(place, store);
+                        Came::Waits
+                    }
+                    Stepped::Ran(store, kind) => {
+                        put_in(place, store);
+                        Came::Ran(kind)
+                    }
+                    Stepped::Done((), kind) => Came::Done(self.stored(), kind),
+                    Stepped::Stopped(store) => {
+                        put_in(place, store);
+                        Came::Stopped
+                    }
+                },
+                None => unreachable!(),
+            },
+            _ => unreachable!(),
+        }
+    }
+
+    // The next block has been sought.
+    #[tactic(auto, unfolding(crate::specs::PartWriting::write_of, crate::specs::PartWriting::WriteFits))]
+    fn found(&mut self, located: Located)
+        requires { HasLocated self.old }
+        ensures { FoundTo located self.old self.new }
+    {
+        match mem::replace(self, WritePart::Gone) {
+            WritePart::Locating(writing, locate) => {
+                match locate {
+                    Locate::Gone => {}
+                    _ => unreachable!(),
+                }
+                self.put(found(writing, located));
+            }
+            _ => unreachable!(),
+        }
+    }
+
+    // It has been fetched.
+    fn fetched(&mut self, guard: Guard<Buffer>)
+        requires { HasFetched self.old }
+        ensures { self.new ≡ fetched_in guard self.old }
+    {
+        match mem::replace(self, WritePart::Gone) {
+            WritePart::Fetching(writing, place) => {
+                match place {
+                    None => {}
+                    Some(_) => unreachable!(),
+                }
+                self.put(WritePart::There(writing, guard));
+            }
+            _ => unreachable!(),
+        }
+    }
+
+    // The inode has been stored.
+    fn stored(&mut self) -> PartWritten
+        requires { HasStored self.old }
+        ensures written { StoredAs self.old result }
+        ensures ended { self.new ≡ writing.Gone }
+    {
+        match mem::replace(self, WritePart::Gone) {
+            WritePart::Storing(writing, place) => {
+                match place {
+                    None => {}
+                    Some(_) => unreachable!(),
+                }
+                finished(writing)
+            }
+            _ => unreachable!(),
+        }
+    }
+
+    // Has this stand in the place of what has gone.
+    fn put(&mut self, next: WritePart)
+        requires { self.old ≡ writing.Gone }
+        ensures { self.new ≡ next }
+    {
+        match mem::replace(self, next) {
+            WritePart::Gone => {}
+            _ => unreachable!(),
         }
     }
 
@@ -155,18 +349,25 @@ impl WritePart {
                 writing.retire(retired);
                 locate.retire(retired);
             }
-            WritePart::Fetching(writing, fetch) => {
+            WritePart::Fetching(writing, place) => {
                 writing.retire(retired);
-                fetch.retire(retired);
+                match place {
+                    Some(fetch) => fetch.retire(retired),
+                    None => {}
+                }
             }
             WritePart::There(writing, guard) => {
                 writing.retire(retired);
                 guard.retire_in_row(&retired.buffers);
             }
-            WritePart::Storing(writing, store) => {
+            WritePart::Storing(writing, place) => {
                 writing.retire(retired);
-                store.retire(retired);
+                match place {
+                    Some(store) => store.retire(retired),
+                    None => {}
+                }
             }
+            WritePart::Gone => {}
         }
     }
 }
@@ -202,7 +403,7 @@ fn found(writing: Writing, located: Located) -> WritePart
     writing.so_far = located.inode;
     match located.number {
         None => store(writing),
-        Some(b) => WritePart::Fetching(writing, Fetch::Get(b)),
+        Some(b) => WritePart::Fetching(writing, Some(Fetch::Get(b))),
     }
 }
 
@@ -227,7 +428,7 @@ fn store(writing: Writing) -> WritePart
 {
     let number = writing.inode.value().number;
     let store = StoreInode::new(writing.sizes.inodestart, number, grown(&writing));
-    WritePart::Storing(writing, store)
+    WritePart::Storing(writing, Some(store))
 }
 
 // The writing after the next block was written, of so many bytes in all.
@@ -241,56 +442,6 @@ fn past(writing: Writing, count: usize) -> Writing
     writing.at += part;
     writing.done += part;
     writing
-}
-
-// A step while the next block is sought.
-#[tactic(auto, unfolding(crate::specs::PartWriting::write_of, crate::specs::PartWriting::WriteFits))]
-fn locating(
-    writing: Writing,
-    stepped: Stepped<Locate, Located, Kind>,
-) -> Stepped<WritePart, PartWritten, Kind>
-    requires { IsWriting (writing.left + 1) writing }
-    ensures follows { (bytes : List ℕ) → Follows locate_of (λ l. l) (write_of bytes) written_of (after_location writing bytes) stepped result }
-    ensures inode { LeftOf (λ m. writer_of m ≡ writing.inode) (λ _. ⊥) result }
-    ensures fits { (hart : ℕ) (bytes : List ℕ) (s : State) → writing.done ≤ length bytes → LeftOf (LocateFits hart s) (λ _. Unit {0}) stepped → LeftOf (WriteFits hart bytes s) (λ _. Unit {0}) result }
-{
-    match stepped {
-        Stepped::Waits(locate) => Stepped::Waits(WritePart::Locating(writing, locate)),
-        Stepped::Ran(locate, kind) => Stepped::Ran(WritePart::Locating(writing, locate), kind),
-        Stepped::Done(located, kind) => Stepped::Ran(found(writing, located), kind),
-        Stepped::Stopped(locate) => Stepped::Stopped(WritePart::Locating(writing, locate)),
-    }
-}
-
-// A step while the next block is fetched.
-fn fetching(
-    writing: Writing,
-    stepped: Stepped<Fetch, Guard<Buffer>, Kind>,
-) -> Stepped<WritePart, PartWritten, Kind>
-    ensures { result ≡ in_write_fetch writing stepped }
-{
-    match stepped {
-        Stepped::Waits(fetch) => Stepped::Waits(WritePart::Fetching(writing, fetch)),
-        Stepped::Ran(fetch, kind) => Stepped::Ran(WritePart::Fetching(writing, fetch), kind),
-        Stepped::Done(guard, kind) => Stepped::Ran(WritePart::There(writing, guard), kind),
-        Stepped::Stopped(fetch) => Stepped::Stopped(WritePart::Fetching(writing, fetch)),
-    }
-}
-
-// A step while the inode is stored.
-fn storing(
-    writing: Writing,
-    stepped: Stepped<StoreInode, (), Kind>,
-) -> Stepped<WritePart, PartWritten, Kind>
-    requires { IsWriting 0 writing }
-    ensures { result ≡ in_write_store writing stepped }
-{
-    match stepped {
-        Stepped::Waits(store) => Stepped::Waits(WritePart::Storing(writing, store)),
-        Stepped::Ran(store, kind) => Stepped::Ran(WritePart::Storing(writing, store), kind),
-        Stepped::Done((), kind) => Stepped::Done(finished(writing), kind),
-        Stepped::Stopped(store) => Stepped::Stopped(WritePart::Storing(writing, store)),
-    }
 }
 
 // The inode was stored.

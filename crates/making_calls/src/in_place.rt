@@ -12,6 +12,7 @@ ghost use Rattle.inode_table.specs.NewMachines.{NewFits};
 ghost use Rattle.inode_data.specs.Records.{record_in};
 ghost use Rattle.inode_data.specs.Truncating.{emptied_of, TruncateFits};
 ghost use Rattle.inode_data.specs.PartWriting.{writer_of, written_of, WriteFits};
+ghost use Rattle.inode_data.specs.declared.write_part.WritePart.TheVariants as writing;
 ghost use Rattle.directory.specs.Entering.{entered_of, enterer_of, EnterFits};
 ghost use Rattle.path_walk.specs.Programs.{loaded};
 ghost use Rattle.making_calls.specs.InPlace.{enter_in, new_in, number_in, placed, store_in, truncate_in, write_in, PlacedFits};
@@ -129,8 +130,30 @@ pub(crate) fn step_write<D: Device>(
     ensures own { (n : ℕ) (s : State) → PlacedFits (λ m. IsOwnInode hart n (writer_of m) s) place.old → LeftOf (λ p. PlacedFits (λ m. IsOwnInode hart n (writer_of m) s) p) (λ r. IsOwnInode hart n r.inode s) (stepped_at place.new result) }
     ensures tables { core.new.tables ≡ core.old.tables }
 {
+    match place {
+        Some(part) => match part.step(hart, txn, bytes, core) {
+            Came::Waits => Came::Waits,
+            Came::Ran(kind) => Came::Ran(kind),
+            Came::Done(written, kind) => {
+                clear(place);
+                Came::Done(written, kind)
+            }
+            Came::Stopped => Came::Stopped,
+        },
+        None => unreachable!(),
+    }
+}
+
+// Nothing stands any longer where a writing has ended.
+fn clear(place: &mut Option<WritePart>)
+    requires { place.old ≡ Some writing.Gone }
+    ensures { place.new ≡ None }
+{
     match mem::replace(place, None) {
-        Some(part) => put_back(place, part.step(hart, txn, bytes, core)),
+        Some(part) => match part {
+            WritePart::Gone => {}
+            _ => unreachable!(),
+        },
         None => unreachable!(),
     }
 }

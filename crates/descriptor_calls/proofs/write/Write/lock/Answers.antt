@@ -1,26 +1,22 @@
-use Rattle.std.proofs.Common.{◌≡◌, ◌∙◌, rules, sym, subst}
+use Rattle.std.proofs.Common.{◌≡◌, ap, inl, subst}
+use Rattle.fs_machine.specs.LogPart.{Passes}
 use Rattle.fs_machine.specs.Premises.{Honest}
-use Rattle.fs_machine.specs.Steps.{State, state_of}
-use Rattle.descriptor_calls.specs.Writing.{write_call_of, WriteCallFits}
+use Rattle.fs_machine.specs.Steps.{LockOpen, State, state_of}
+use Rattle.call_parts.proofs.Inside.{ran_at}
+use Rattle.descriptor_calls.specs.Writing.{behind, write_call_of, write_locked, IsWrite, WriteCallFits}
 use Rattle.descriptor_calls.specs.declared.write.Write.{Write}
-use Rattle.descriptor_calls.specs.declared.write.Write.TheVariants as write
+use Rattle.descriptor_calls.specs.declared.write.Writes.{Writes}
 use Rattle.descriptor_calls.proofs.write.Write.lock.Goals as goal
 
-pub returns-in-Lock-replace : goal.returns-in-Lock-replace
+pub returns-in-Some : goal.returns-in-Some
 unfolding write_call_of WriteCallFits Honest
-returns-in-Lock-replace g c =
+returns-in-Some g c =
     let h = c.args.hart in
+    let old : State = state_of g.D.Device.contents g.D.Device.failures c.args.core.now in
     let new : State = state_of g.D.Device.contents g.D.Device.failures c.lock_open.new.self in
-    let is : c.args.self.now ≡ write.Lock c.in-Lock-replace.writes c.in-Lock-replace.txn = c.in-Lock.is ∙ sym c.replace.ensures.value ∙ c.in-Lock-replace.is in
-    let held = rw is at c.requires.fits in
+    let w : Writes = c.in-Lock.writes in
+    let had : IsWrite w × (c.in-Lock.field-1 ≡ h) = subst (λ (m : Write). WriteCallFits h old m) c.in-Lock.is c.requires.fits in
     record {
-      steps = record {
-        moves = search rules;
-        honest = search rules;
-        still = tt;
-        fits = subst (λ (m : Write). WriteCallFits h new m) (sym c.put.ensures) (c.locked.ensures.fits h new held.1 c.in-Some.ensures.own);
-        ended = tt;
-        others = search rules;
-        called = search rules;
-      };
+      steps = ran_at (LockOpen w.fd) (write_locked w.sizes w.fd w.bytes w.piece (behind w)) (c.in-Some.file, c.in-Some.guard.value.content) (ap write_call_of c.in-Lock.is) (c.in-Some.ensures.ran Passes) tt c.locked.ensures.0
+          (c.locked.ensures.1 h new (had.1, c.in-Some.ensures.own)) c.lock_open.ensures.others (inl (ap (λ l. l.cache.device) c.lock_open.ensures.log));
     }

@@ -1,4 +1,5 @@
 use Rattle.std.proofs.Common.{IsSome, ap, sym}
+use Rattle.atomic_programs.specs.Machines.{stepped_at}
 use Rattle.fs_machine.specs.Steps.{state_of}
 use Rattle.inode_data.specs.PartWriting.{write_of, writer_of, written_of}
 use Rattle.inode_data.specs.Records.{record_in}
@@ -53,29 +54,41 @@ unfolding enter_of
 returns-in-Writing-clause-moves g c =
     let s = state_of g.D.Device.contents g.D.Device.failures in
     let e = c.in-Writing.entering in
-    nested_moves (write_of e.entry) written_of enter_of entered_of (entered_by c.in-Writing.slot) c.args.hart c.in-Writing.part c.args.self c.step-stepped.result _
-    (s c.args.core.now) (s c.step-stepped.new.core) (ap enter_of c.in-Writing.is) (rw c.writing.ensures (writing_follows e c.in-Writing.slot c.step-stepped.result)) c.step-stepped.ensures.moves
+    let slot = c.in-Writing.slot in
+    let step = c.step-came in
+    let stepped = stepped_at step.new.self step.result in
+    nested_moves (write_of e.entry) written_of enter_of entered_of (entered_by slot) c.args.hart c.in-Writing.part c.args.self stepped _
+    (s c.args.core.now) (s step.new.core) (ap enter_of c.in-Writing.is) (rw c.writing.ensures (writing_follows e slot stepped)) step.ensures.steps.moves
 
 pub returns-in-Writing-clause-honest : goal.returns-in-Writing-clause-honest
 unfolding enter_of
 returns-in-Writing-clause-honest g c =
     let s = state_of g.D.Device.contents g.D.Device.failures in
     let e = c.in-Writing.entering in
-    nested_honest (write_of e.entry) written_of enter_of entered_of (entered_by c.in-Writing.slot) c.args.hart c.in-Writing.part c.args.self c.step-stepped.result _
-    (s c.args.core.now) (s c.step-stepped.new.core) (ap enter_of c.in-Writing.is) (rw c.writing.ensures (writing_follows e c.in-Writing.slot c.step-stepped.result)) c.step-stepped.ensures.moves c.step-stepped.ensures.honest
+    let slot = c.in-Writing.slot in
+    let step = c.step-came in
+    let stepped = stepped_at step.new.self step.result in
+    nested_honest (write_of e.entry) written_of enter_of entered_of (entered_by slot) c.args.hart c.in-Writing.part c.args.self stepped _
+    (s c.args.core.now) (s step.new.core) (ap enter_of c.in-Writing.is) (rw c.writing.ensures (writing_follows e slot stepped)) step.ensures.steps.moves step.ensures.steps.honest
 
 pub returns-in-Writing-clause-still : goal.returns-in-Writing-clause-still
 unfolding enter_of
 returns-in-Writing-clause-still g c =
     let e = c.in-Writing.entering in
-    nested_still (write_of e.entry) written_of enter_of entered_of (entered_by c.in-Writing.slot) c.in-Writing.part c.args.self c.step-stepped.result _
-    c.args.core.now c.step-stepped.new.core (ap enter_of c.in-Writing.is) (rw c.writing.ensures (writing_follows e c.in-Writing.slot c.step-stepped.result)) c.step-stepped.ensures.still
+    let slot = c.in-Writing.slot in
+    let step = c.step-came in
+    let stepped = stepped_at step.new.self step.result in
+    nested_still (write_of e.entry) written_of enter_of entered_of (entered_by slot) c.in-Writing.part c.args.self stepped _
+    c.args.core.now step.new.core (ap enter_of c.in-Writing.is) (rw c.writing.ensures (writing_follows e slot stepped)) step.ensures.steps.still
 
 pub returns-in-Writing-clause-inode : goal.returns-in-Writing-clause-inode
-returns-in-Writing-clause-inode g c = rw (c.in-Writing.is, c.writing.ensures) (writing_left c.in-Writing.entering c.in-Writing.slot (writer_of c.in-Writing.part) c.step-stepped.result c.step-stepped.ensures.inode)
+returns-in-Writing-clause-inode g c =
+    let step = c.step-came in
+    rw (c.in-Writing.is, c.writing.ensures) (writing_left c.in-Writing.entering c.in-Writing.slot (writer_of c.in-Writing.part) (stepped_at step.new.self step.result) step.ensures.inode)
 
 pub returns-in-Writing-clause-fits : goal.returns-in-Writing-clause-fits
 unfolding EnterFits
 returns-in-Writing-clause-fits g c =
     let had = rw c.in-Writing.is at c.requires.fits in
-    rw c.writing.ensures (writing_fits c.args.hart (state_of g.D.Device.contents g.D.Device.failures c.step-stepped.new.core) c.in-Writing.entering c.in-Writing.slot c.step-stepped.result had.0 c.step-stepped.ensures.fits)
+    let step = c.step-came in
+    rw c.writing.ensures (writing_fits c.args.hart (state_of g.D.Device.contents g.D.Device.failures step.new.core) c.in-Writing.entering c.in-Writing.slot (stepped_at step.new.self step.result) had.0 step.ensures.steps.fits)
