@@ -26,6 +26,10 @@ use Rattle.hart_core.specs.Blocks.{blocks, code}
 use Rattle.hart_core.specs.Harts.{HartFits, AllFit, AreHarts}
 use Rattle.hart_core.proofs.Beginning.{HasOne, has_running}
 use Rattle.hart_core.proofs.Staying.{stays}
+use Rattle.hart_core.specs.Begun.{HasBegun}
+use Rattle.calls_on_blocks.specs.Theory.{block_calls}
+use Rattle.plain_tree.specs.declared.call.Call.{Call}
+use Rattle.fs_layout.specs.declared.superblock.Super.{Super}
 
 -- ---- marks
 
@@ -125,3 +129,12 @@ pub begun : (h : ℕ) (s : State) (b : Bool) (calls two : List (Option Running))
 begun h s b calls two call at is =
     start_gives blocks code running_of s b calls h None (Some call) (set calls h None) two at refl (is ∙ sym (set-set calls h None (Some call))) (running_of call) Started s b
     (λ i. record { came = Started; left = Some (plain_same (running_of call) i); shared = s; stopped = b })
+
+-- the same as it stands in its place
+pub begun_in : (sizes : Super) (call : Call) (h : ℕ) (s : State) (b : Bool) (calls two : List (Option Running)) (place : Option Running) → HasBegun sizes call place → slice_get calls h ≡ Some None → two ≡ set calls h place
+    → plain_makes blocks code (Start h (plain ((block_calls sizes).program call))) (record { shared = s; stopped = b; running = λ k. program_at running_of (get_or calls k None) })
+    ≡ record { came = Started; after = record { shared = s; stopped = b; running = λ k. program_at running_of (get_or two k None) } }
+begun_in sizes call h s b calls two None has at is = absurd has
+begun_in sizes call h s b calls two (Some m) has at is =
+    subst (λ (p : P Reply). plain_makes blocks code (Start h p) (record { shared = s; stopped = b; running = λ k. program_at running_of (get_or calls k None) })
+    ≡ record { came = Started; after = record { shared = s; stopped = b; running = λ k. program_at running_of (get_or two k None) } }) has.0 (begun h s b calls two m at is)

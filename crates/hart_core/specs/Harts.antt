@@ -70,17 +70,6 @@ pub record AreIdle (c : CallsOf) : Type 0 where
   pub calls : c.calls ≡ replicate hart_count None
   pub lists : c.lists ≡ replicate hart_count (Some [])
 
--- a call that has ended in a step hands its list back
-abbrev pub HandsList : Option Running → Option Running → Option (List ℕ) → Type 0
-HandsList None left list = (left ≡ None) × (list ≡ None)
-HandsList (Some m) (Some n) list = list ≡ None
-HandsList (Some m) None list = IsSpare list
-
--- the lists once this one was handed back
-abbrev pub given : List (Option (List ℕ)) → ℕ → Option (List ℕ) → List (Option (List ℕ))
-given lists h None = lists
-given lists h (Some list) = slice_set lists h (Some list)
-
 -- which harts have a call, and whom each one's last one reserves
 abbrev pub busy_in : List (Option Running) → ℕ → Bool
 busy_in calls h = is_some (get_or calls h None)

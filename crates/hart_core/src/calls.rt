@@ -6,17 +6,24 @@ ghost use Rattle.fs_machine.specs.Steps.{state_of};
 ghost use Rattle.fs_machine.specs.Machines.{CallsOnce};
 ghost use Rattle.fs_machine.specs.Tied.{LeavesTied};
 ghost use Rattle.syscalls.specs.Machines.{running_of};
+ghost use Rattle.call_parts.specs.OnPaths.{IsSized};
+ghost use Rattle.hart_core.specs.Begun.{HasBegun};
 ghost use Rattle.hart_core.specs.Blocks.{blocks, code};
+ghost use Rattle.hart_core.specs.Starts.{fault_of};
 ghost use Rattle.hart_core.specs.Harts.{outcome_of, said, AreIdle, HartFits, HaveLists};
 
+use crate::beginnings::begin;
 use crate::in_place::step;
 use crate::outcome::Outcome;
 use block_device::Device;
 use buffer_cache::HARTS;
+use fs_layout::Super;
 use fs_machine::{Core, RetiredCore};
 use fs_tables::Listed;
+use plain_tree::Call;
 use std::alloc::{AllocError, AllocFailed, Global};
 use std::marker::Model;
+use std::mem;
 use syscalls::Running;
 
 /// The calls that eight harts have under way, in memory of their own, so that whoever has them moves no more than where they are; and
@@ -143,45 +150,30 @@ impl Calls {
         ensures others { LeavesTied hart (state_of D.contents D.failures core.old) (state_of D.contents D.failures core.new) }
         ensures called { CallsOnce D.Called core.old.log.cache.device core.new.log.cache.device }
     {
-        let (outcome, list) = step(&mut self.under_way[hart as usize], hart, core, stopped);
-        match list {
-            None => {}
-            Some(list) => self.give_list(hart, list),
-        }
-        outcome
+        let Calls { under_way, lists } = self;
+        step(
+            &mut under_way[hart as usize],
+            &mut lists[hart as usize],
+            hart,
+            core,
+            stopped,
+        )
     }
 
-    /// Has an idle hart begin a call.
-    pub fn put(&mut self, hart: u8, call: Running)
-        requires { slice_get self.old.calls hart ≡ Some None }
-        ensures calls { self.new.calls ≡ slice_set self.old.calls hart (Some call) }
-        ensures lists { self.new.lists ≡ self.old.lists }
+    /// Has an idle hart begin a call, on a disk of these sizes, with its list.
+    pub fn begin(&mut self, hart: u8, sizes: &Super, call: Call)
+        requires eight { hart < HARTS }
+        requires idle { get_or self.old.calls hart None ≡ None }
+        requires faultless { fault_of call ≡ None }
+        requires sized { IsSized sizes.now }
+        requires seat { HaveLists self.old }
+        ensures begun { HasBegun sizes.now call (get_or self.new.calls hart None) }
+        ensures kept { self.new.calls ≡ slice_set self.old.calls hart (get_or self.new.calls hart None) }
+        ensures seat { HaveLists self.new }
     {
-        match std::mem::replace(&mut self.under_way[hart as usize], Some(call)) {
-            None => {}
-            Some(_other) => unreachable!(),
-        }
-    }
-
-    /// Takes a hart's list out.
-    pub fn take_list(&mut self, hart: u8) -> Option<Listed>
-        requires { hart < HARTS }
-        ensures value { slice_get self.old.lists hart ≡ Some result }
-        ensures after { self.new.lists ≡ slice_set self.old.lists hart None }
-        ensures calls { self.new.calls ≡ self.old.calls }
-    {
-        std::mem::replace(&mut self.lists[hart as usize], None)
-    }
-
-    // Gives a hart its list.
-    fn give_list(&mut self, hart: u8, list: Listed)
-        requires { slice_get self.old.lists hart ≡ Some None }
-        ensures lists { self.new.lists ≡ slice_set self.old.lists hart (Some list) }
-        ensures calls { self.new.calls ≡ self.old.calls }
-    {
-        match std::mem::replace(&mut self.lists[hart as usize], Some(list)) {
-            None => {}
-            Some(_other) => unreachable!(),
+        match mem::replace(&mut self.lists[hart as usize], None) {
+            None => unreachable!(),
+            Some(list) => begin(&mut self.under_way[hart as usize], sizes, call, list),
         }
     }
 

@@ -12,7 +12,6 @@ ghost use Rattle.hart_core.specs.Starts.{fault_of};
 ghost use Rattle.call_parts.specs.OnPaths.{IsSized};
 ghost use Rattle.atomic_programs.specs.Prog.{plain};
 
-use crate::beginnings::running;
 use crate::calls::Calls;
 use crate::outcome::Outcome;
 use block_device::Device;
@@ -124,14 +123,8 @@ impl<D: Device> Harts<D> {
         ensures children { self.new.children ≡ slice_set self.old.children hart child }
         ensures eight { length self.old.children ≡ HARTS }
     {
-        match self.calls.take_list(hart) {
-            None => unreachable!(),
-            Some(list) => {
-                let call = running(sizes, call, list);
-                self.calls.put(hart, call);
-                self.children[hart as usize] = child;
-            }
-        }
+        self.calls.begin(hart, sizes, call);
+        self.children[hart as usize] = child;
     }
 
     /// One operation of a hart's call. It is idle where there is no such hart, or the hart has no call; and a call is stopped by the
@@ -143,13 +136,12 @@ impl<D: Device> Harts<D> {
         ensures children { self.new.children ≡ self.old.children }
         ensures called { CallsOnce D.Called self.old.core.log.cache.device self.new.core.log.cache.device }
     {
-        let mut stopped = self.stopped;
+        // What holds of the harts is needed in both cases.
+        let _ = &self.calls;
         if hart >= HARTS {
             return Outcome::Idle;
         }
-        let outcome = self.calls.step(hart, &mut self.core, &mut stopped);
-        self.stopped = stopped;
-        outcome
+        self.calls.step(hart, &mut self.core, &mut self.stopped)
     }
 
     /// Where the log's commit is.

@@ -15,7 +15,7 @@ use Rattle.fs_machine.specs.declared.shared.Core.{Core}
 use Rattle.call_parts.specs.Spent.{reply_in, IsSpent}
 use Rattle.call_parts.specs.declared.answered.Answered.{Answered}
 use Rattle.syscalls.specs.Machines.{running_of, RunningFits}
-use Rattle.syscalls.specs.Places.{answered_with, list_left, HasEnded, StepsCall}
+use Rattle.syscalls.specs.Places.{answered_with, list_left, HasEnded, StepsBeside, StepsCall}
 use Rattle.syscalls.specs.declared.running.Running.{Running}
 
 module _ {M : Type 0} (program : M → P Reply) (hart : ℕ) (m left : M) (call place : Running) (is : running_of call ≡ program m) (now : running_of place ≡ program left) (s t : State) where
@@ -84,9 +84,9 @@ module _ {D : Type 0} (contents : D → List (List ℕ)) (failures : D → ℕ) 
         lifted hart m left (g m (Some [])) (g left (Some [])) (same m (Some [])) (same left (Some [])) old new Stopped (fit hart (state_of contents failures new) left steps.fits) tt (listed hart m left Stopped old new steps)
 
     -- as it stands in a step of such a call
-    pub on_descriptor : (call : Running) (list after : Option (List ℕ)) (came : Came Reply Kind) (result : Came Answered Kind) → call ≡ g m list → list ≡ Some [] → result ≡ answered_with [] came → after ≡ list_left came list
-        → StepsAt contents failures Called program (λ reply. reply) MachineFits (λ _. Unit {0}) gone hart m left came old new → StepsCall contents failures Called hart call (g left after) result old new
-    on_descriptor call list after came result is empty comes leaves steps =
+    pub on_descriptor : (call : Running) (list after : Option (List ℕ)) (result : Came Answered Kind) → call ≡ g m list → list ≡ Some []
+        → StepsBeside contents failures Called program MachineFits gone hart m left list after result old new → StepsCall contents failures Called hart call (g left after) result old new
+    on_descriptor call list after result is empty beside =
         subst (λ (c : Running). StepsCall contents failures Called hart c (g left after) result old new) (sym (is ∙ ap (g m) empty))
-        (subst (λ (o : Option (List ℕ)). StepsCall contents failures Called hart (g m (Some [])) (g left o) result old new) (sym (leaves ∙ ap (list_left came) empty))
-        (subst (λ (c : Came Answered Kind). StepsCall contents failures Called hart (g m (Some [])) (g left (list_left came (Some []))) c old new) (sym comes) (on_list came steps)))
+        (subst (λ (o : Option (List ℕ)). StepsCall contents failures Called hart (g m (Some [])) (g left o) result old new) (sym (beside.leaves ∙ ap (list_left beside.came) empty))
+        (subst (λ (c : Came Answered Kind). StepsCall contents failures Called hart (g m (Some [])) (g left (list_left beside.came (Some []))) c old new) (sym beside.tells) (on_list beside.came beside.steps)))

@@ -1,11 +1,12 @@
 -- A step of a call in its place.
-use Rattle.std.specs.Prelude.{◌≡◌, ℕ, List, Option, Some, None}
+use Rattle.std.specs.Prelude.{◌≡◌, ℕ, List, [], Option, Some, None}
 use Rattle.plain_tree.specs.declared.answer.Reply.{Reply}
 use Rattle.atomic_programs.specs.Machines.{Still, Left, OnDone, stepped_at}
 use Rattle.atomic_programs.specs.declared.machines.Came.{Came}
 use Rattle.atomic_programs.specs.declared.machines.Came.TheVariants.{Waits, Ran, Done, Stopped}
-use Rattle.fs_machine.specs.Steps.{state_of}
-use Rattle.fs_machine.specs.Machines.{Moves, Answers, CallsOnce}
+use Rattle.fs_machine.specs.Steps.{State, state_of}
+use Rattle.fs_machine.specs.Machines.{P, Moves, Answers, CallsOnce}
+use Rattle.fs_machine.specs.Places.{StepsAt}
 use Rattle.fs_machine.specs.Tied.{LeavesTied}
 use Rattle.fs_machine.specs.declared.kind.Kind.{Kind}
 use Rattle.fs_machine.specs.declared.shared.Core.{Core}
@@ -71,3 +72,10 @@ module _ {D : Type 0} (contents : D → List (List ℕ)) (failures : D → ℕ) 
     pub ended : OnDone result (HasEnded left)
     pub others : LeavesTied hart (state_of contents failures old) (state_of contents failures new)
     pub called : CallsOnce Called old.log.cache.device new.log.cache.device
+
+  -- the same of a call without a path, with the list beside it: it steps, and hands the list back with its reply
+  pub record StepsBeside {M : Type 0} (program : M → P Reply) (MachineFits : ℕ → State → M → Type 0) (gone : M) (hart : ℕ) (m left : M) (list after : Option (List ℕ)) (result : Came Answered Kind) (old new : Core D) : Type 0 where
+    pub came : Came Reply Kind
+    pub tells : result ≡ answered_with [] came
+    pub leaves : after ≡ list_left came list
+    pub steps : StepsAt contents failures Called program (λ reply. reply) MachineFits (λ _. Unit {0}) gone hart m left came old new

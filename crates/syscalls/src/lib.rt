@@ -3,6 +3,7 @@
 //! `specs/Machines` says which program is left of it: that of its own machine, which the crates below have.
 #![tactic(auto)]
 
+mod beside;
 mod running;
 
 pub use crate::running::Running;

@@ -3,8 +3,9 @@ ghost use Rattle.std.specs.Prelude.{◌≡◌, ◌<◌, [], Some, None};
 ghost use Rattle.fs_machine.specs.Steps.{state_of};
 ghost use Rattle.fs_machine.specs.Machines.{MayNext};
 ghost use Rattle.syscalls.specs.Machines.{running_of, RunningFits};
-ghost use Rattle.syscalls.specs.Places.{answered_with, list_left, HasEnded, StepsCall};
+ghost use Rattle.syscalls.specs.Places.{HasEnded, StepsCall};
 
+use crate::beside::{close, dup, fstat, inherit, read, write};
 use atomic_programs::machines::Came;
 use block_device::Device;
 use buffer_cache::HARTS;
@@ -14,8 +15,6 @@ use fs_machine::{Core, Kind, RetiredCore};
 use fs_tables::Listed;
 use making_calls::{Mkdir, OpenNew, OpenOld};
 use naming_calls::{Chdir, Link, Unlink};
-use plain_tree::Reply;
-use std::mem;
 
 /// A call under way. A call without a path has its hart's list beside it, which it doesn't need, until it has replied.
 pub enum Running {
@@ -55,13 +54,13 @@ impl Running {
             Running::Link(m) => m.step(hart, core),
             Running::Mkdir(m) => m.step(hart, core),
             Running::Chdir(m) => m.step(hart, core),
-            Running::Dup(m, list) => with_list(m.step(hart, core), list),
-            Running::Close(m, list) => with_list(m.step(hart, core), list),
-            Running::Fstat(m, list) => with_list(m.step(hart, core), list),
-            Running::Read(m, list) => with_list(m.step(hart, core), list),
-            Running::Write(m, list) => with_list(m.step(hart, core), list),
+            Running::Dup(m, list) => dup(m, list, hart, core),
+            Running::Close(m, list) => close(m, list, hart, core),
+            Running::Fstat(m, list) => fstat(m, list, hart, core),
+            Running::Read(m, list) => read(m, list, hart, core),
+            Running::Write(m, list) => write(m, list, hart, core),
             Running::Unlink(m) => m.step(hart, core),
-            Running::Inherit(m, list) => with_list(m.step(hart, core), list),
+            Running::Inherit(m, list) => inherit(m, list, hart, core),
         }
     }
 
@@ -138,22 +137,5 @@ fn end_list(list: Option<Listed>)
     match list {
         None => {}
         Some(_) => unreachable!(),
-    }
-}
-
-// A step of a call without a path, which hands the list beside it back once it has replied.
-fn with_list(came: Came<Reply, Kind>, list: &mut Option<Listed>) -> Came<Answered, Kind>
-    requires { list.old ≡ Some [] }
-    ensures came { result ≡ answered_with [] came }
-    ensures list { list.new ≡ list_left came list.old }
-{
-    match came {
-        Came::Waits => Came::Waits,
-        Came::Ran(kind) => Came::Ran(kind),
-        Came::Done(reply, kind) => match mem::replace(list, None) {
-            Some(list) => Came::Done(Answered { reply, list }, kind),
-            None => unreachable!(),
-        },
-        Came::Stopped => Came::Stopped,
     }
 }

@@ -13,48 +13,48 @@ use Rattle.hart_core.proofs.Stepping.{all_set, idle_past, honest_past}
 use Rattle.hart_core.proofs.Seats.{is_at}
 use Rattle.hart_core.proofs.harts.Harts.step.Goals as goal
 
-pub step-outcome-requires-clause-may : goal.step-outcome-requires-clause-may
-step-outcome-requires-clause-may g c = subst (λ (v : HartsOf _). MayStep c.args.hart (programs_of g.D.Device.contents g.D.Device.failures v)) (sym c.self.view_is) c.requires.may
+pub step-requires-clause-may : goal.step-requires-clause-may
+step-requires-clause-may g c = subst (λ (v : HartsOf _). MayStep c.args.hart (programs_of g.D.Device.contents g.D.Device.failures v)) (sym c.self.view_is) c.requires.may
 
-pub step-outcome-requires-clause-fits : goal.step-outcome-requires-clause-fits
-step-outcome-requires-clause-fits g c = c.self.invariant.0.fits c.args.hart
+pub step-requires-clause-fits : goal.step-requires-clause-fits
+step-requires-clause-fits g c = c.self.invariant.0.fits c.args.hart
 
 pub invariant_of-self : goal.invariant_of-self
 invariant_of-self g c =
     let w = c.self.inside in
     let eight = c.self.invariant.0.long in
     let less = c.if-hart-ge-HARTS.false in (
-      all_set c.args.hart (state_of g.D.Device.contents g.D.Device.failures w.core) (state_of g.D.Device.contents g.D.Device.failures c.step-outcome.new.core) w.calls.calls c.step-outcome.new.self.calls (get_or c.step-outcome.new.self.calls c.args.hart None)
-          (omega (arith, eight, less)) c.step-outcome.ensures.kept c.step-outcome.ensures.others c.self.invariant.0 c.step-outcome.ensures.fits,
-      c.step-outcome.ensures.seat,
+      all_set c.args.hart (state_of g.D.Device.contents g.D.Device.failures w.core) (state_of g.D.Device.contents g.D.Device.failures c.step.new.core) w.calls.calls c.step.new.self.calls (get_or c.step.new.self.calls c.args.hart None)
+          (omega (arith, eight, less)) c.step.ensures.kept c.step.ensures.others c.self.invariant.0 c.step.ensures.fits,
+      c.step.ensures.seat,
     )
 
 pub returns-clause-makes : goal.returns-clause-makes
 returns-clause-makes g c =
     let w = c.self.inside in
     let h = c.args.hart in
-    let t = state_of g.D.Device.contents g.D.Device.failures c.step-outcome.new.core in
+    let t = state_of g.D.Device.contents g.D.Device.failures c.step.new.core in
     let eight = c.self.invariant.0.long in
     let less = c.if-hart-ge-HARTS.false in
-    let left = get_or c.step-outcome.new.self.calls h None in
+    let left = get_or c.step.new.self.calls h None in
     subst
-    (λ (v : HartsOf _). plain_makes blocks code (Step h (said c.step-outcome.result t)) (programs_of g.D.Device.contents g.D.Device.failures v)
-    ≡ record { came = outcome_of c.step-outcome.result; after = programs_of g.D.Device.contents g.D.Device.failures (record { core = c.step-outcome.new.core; stopped = c.step-outcome.new.stopped; children = w.children; calls = c.step-outcome.new.self.calls }) })
+    (λ (v : HartsOf _). plain_makes blocks code (Step h (said c.step.result t)) (programs_of g.D.Device.contents g.D.Device.failures v)
+    ≡ record { came = outcome_of c.step.result; after = programs_of g.D.Device.contents g.D.Device.failures (record { core = c.step.new.core; stopped = c.step.new.stopped; children = w.children; calls = c.step.new.self.calls }) })
     c.self.view_is
-    (step_gives blocks code running_of (state_of g.D.Device.contents g.D.Device.failures w.core) w.stopped w.calls.calls h (get_or w.calls.calls h None) left (set w.calls.calls h None) c.step-outcome.new.self.calls (is_at w.calls.calls h (omega (arith, eight, less))) refl (c.step-outcome.ensures.kept ∙ sym (set-set w.calls.calls h None left)) (said c.step-outcome.result t)
-    (outcome_of c.step-outcome.result) t c.step-outcome.new.stopped c.step-outcome.ensures.makes)
+    (step_gives blocks code running_of (state_of g.D.Device.contents g.D.Device.failures w.core) w.stopped w.calls.calls h (get_or w.calls.calls h None) left (set w.calls.calls h None) c.step.new.self.calls (is_at w.calls.calls h (omega (arith, eight, less))) refl (c.step.ensures.kept ∙ sym (set-set w.calls.calls h None left)) (said c.step.result t)
+    (outcome_of c.step.result) t c.step.new.stopped c.step.ensures.makes)
 
 pub returns-clause-honest : goal.returns-clause-honest
 returns-clause-honest g c =
     let w = c.self.inside in
     let h = c.args.hart in
-    let t = state_of g.D.Device.contents g.D.Device.failures c.step-outcome.new.core in
+    let t = state_of g.D.Device.contents g.D.Device.failures c.step.new.core in
     let eight = c.self.invariant.0.long in
     let less = c.if-hart-ge-HARTS.false in
-    let left = get_or c.step-outcome.new.self.calls h None in
-    subst (λ (v : HartsOf _). PlainHonest blocks code (Step h (said c.step-outcome.result t)) (programs_of g.D.Device.contents g.D.Device.failures v)) c.self.view_is
-    (honest_here blocks code running_of (state_of g.D.Device.contents g.D.Device.failures w.core) w.stopped w.calls.calls h (get_or w.calls.calls h None) left (set w.calls.calls h None) c.step-outcome.new.self.calls (is_at w.calls.calls h (omega (arith, eight, less))) refl (c.step-outcome.ensures.kept ∙ sym (set-set w.calls.calls h None left))
-    (said c.step-outcome.result t) c.step-outcome.ensures.honest)
+    let left = get_or c.step.new.self.calls h None in
+    subst (λ (v : HartsOf _). PlainHonest blocks code (Step h (said c.step.result t)) (programs_of g.D.Device.contents g.D.Device.failures v)) c.self.view_is
+    (honest_here blocks code running_of (state_of g.D.Device.contents g.D.Device.failures w.core) w.stopped w.calls.calls h (get_or w.calls.calls h None) left (set w.calls.calls h None) c.step.new.self.calls (is_at w.calls.calls h (omega (arith, eight, less))) refl (c.step.ensures.kept ∙ sym (set-set w.calls.calls h None left))
+    (said c.step.result t) c.step.ensures.honest)
 
 -- there is no such hart
 pub returns-then-hart-ge-HARTS-clause-makes : goal.returns-then-hart-ge-HARTS-clause-makes

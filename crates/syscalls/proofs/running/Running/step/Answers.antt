@@ -61,34 +61,34 @@ pub returns-in-Dup : goal.returns-in-Dup
 unfolding running_of RunningFits
 returns-in-Dup g c =
     let had : DupFits c.args.hart (state_of g.D.Device.contents g.D.Device.failures c.args.core.now) c.in-Dup.m × (c.in-Dup.list ≡ Some []) = subst (RunningFits c.args.hart (state_of g.D.Device.contents g.D.Device.failures c.args.core.now)) c.in-Dup.is c.requires.fits in
-    record { steps = on_descriptor g.D.Device.contents g.D.Device.failures g.D.Device.Called dup_of DupFits dup.Gone (λ m list. running.Dup m list) (λ m list. refl) (λ h s m fits. (fits, refl)) (refl, refl) c.args.hart c.in-Dup.m c.step-in-Dup.new.self c.args.core.now c.step-in-Dup.new.core c.args.self.now c.in-Dup.list c.with_list.new.list c.step-in-Dup.result c.with_list.result c.in-Dup.is had.1 c.with_list.ensures.came c.with_list.ensures.list c.step-in-Dup.ensures.steps }
+    record { steps = on_descriptor g.D.Device.contents g.D.Device.failures g.D.Device.Called dup_of DupFits dup.Gone (λ m list. running.Dup m list) (λ m list. refl) (λ h s m fits. (fits, refl)) (refl, refl) c.args.hart c.in-Dup.m c.dup.new.m c.args.core.now c.dup.new.core c.args.self.now c.in-Dup.list c.dup.new.list c.dup.result c.in-Dup.is had.1 c.dup.ensures.beside }
 
 pub returns-in-Close : goal.returns-in-Close
 unfolding running_of RunningFits
 returns-in-Close g c =
     let had : CloseFits c.args.hart (state_of g.D.Device.contents g.D.Device.failures c.args.core.now) c.in-Close.m × (c.in-Close.list ≡ Some []) = subst (RunningFits c.args.hart (state_of g.D.Device.contents g.D.Device.failures c.args.core.now)) c.in-Close.is c.requires.fits in
-    record { steps = on_descriptor g.D.Device.contents g.D.Device.failures g.D.Device.Called close_of CloseFits close.Gone (λ m list. running.Close m list) (λ m list. refl) (λ h s m fits. (fits, refl)) (refl, refl) c.args.hart c.in-Close.m c.step-in-Close.new.self c.args.core.now c.step-in-Close.new.core c.args.self.now c.in-Close.list c.with_list-in-Close.new.list c.step-in-Close.result c.with_list-in-Close.result c.in-Close.is had.1 c.with_list-in-Close.ensures.came c.with_list-in-Close.ensures.list c.step-in-Close.ensures.steps }
+    record { steps = on_descriptor g.D.Device.contents g.D.Device.failures g.D.Device.Called close_of CloseFits close.Gone (λ m list. running.Close m list) (λ m list. refl) (λ h s m fits. (fits, refl)) (refl, refl) c.args.hart c.in-Close.m c.close.new.m c.args.core.now c.close.new.core c.args.self.now c.in-Close.list c.close.new.list c.close.result c.in-Close.is had.1 c.close.ensures.beside }
 
 pub returns-in-Fstat : goal.returns-in-Fstat
 unfolding running_of RunningFits
 returns-in-Fstat g c =
     let had : FstatFits c.args.hart (state_of g.D.Device.contents g.D.Device.failures c.args.core.now) c.in-Fstat.m × (c.in-Fstat.list ≡ Some []) = subst (RunningFits c.args.hart (state_of g.D.Device.contents g.D.Device.failures c.args.core.now)) c.in-Fstat.is c.requires.fits in
-    record { steps = on_descriptor g.D.Device.contents g.D.Device.failures g.D.Device.Called fstat_of FstatFits fstat.Gone (λ m list. running.Fstat m list) (λ m list. refl) (λ h s m fits. (fits, refl)) (refl, refl) c.args.hart c.in-Fstat.m c.step-in-Fstat.new.self c.args.core.now c.step-in-Fstat.new.core c.args.self.now c.in-Fstat.list c.with_list-in-Fstat.new.list c.step-in-Fstat.result c.with_list-in-Fstat.result c.in-Fstat.is had.1 c.with_list-in-Fstat.ensures.came c.with_list-in-Fstat.ensures.list c.step-in-Fstat.ensures.steps }
+    record { steps = on_descriptor g.D.Device.contents g.D.Device.failures g.D.Device.Called fstat_of FstatFits fstat.Gone (λ m list. running.Fstat m list) (λ m list. refl) (λ h s m fits. (fits, refl)) (refl, refl) c.args.hart c.in-Fstat.m c.fstat.new.m c.args.core.now c.fstat.new.core c.args.self.now c.in-Fstat.list c.fstat.new.list c.fstat.result c.in-Fstat.is had.1 c.fstat.ensures.beside }
 
 pub returns-in-Read : goal.returns-in-Read
 unfolding running_of RunningFits
 returns-in-Read g c =
     let had : ReadCallFits c.args.hart (state_of g.D.Device.contents g.D.Device.failures c.args.core.now) c.in-Read.m × (c.in-Read.list ≡ Some []) = subst (RunningFits c.args.hart (state_of g.D.Device.contents g.D.Device.failures c.args.core.now)) c.in-Read.is c.requires.fits in
-    record { steps = on_descriptor g.D.Device.contents g.D.Device.failures g.D.Device.Called read_call_of ReadCallFits read.Gone (λ m list. running.Read m list) (λ m list. refl) (λ h s m fits. (fits, refl)) (refl, refl) c.args.hart c.in-Read.m c.step-in-Read.new.self c.args.core.now c.step-in-Read.new.core c.args.self.now c.in-Read.list c.with_list-in-Read.new.list c.step-in-Read.result c.with_list-in-Read.result c.in-Read.is had.1 c.with_list-in-Read.ensures.came c.with_list-in-Read.ensures.list c.step-in-Read.ensures.steps }
+    record { steps = on_descriptor g.D.Device.contents g.D.Device.failures g.D.Device.Called read_call_of ReadCallFits read.Gone (λ m list. running.Read m list) (λ m list. refl) (λ h s m fits. (fits, refl)) (refl, refl) c.args.hart c.in-Read.m c.read.new.m c.args.core.now c.read.new.core c.args.self.now c.in-Read.list c.read.new.list c.read.result c.in-Read.is had.1 c.read.ensures.beside }
 
 pub returns-in-Write : goal.returns-in-Write
 unfolding running_of RunningFits
 returns-in-Write g c =
     let had : WriteCallFits c.args.hart (state_of g.D.Device.contents g.D.Device.failures c.args.core.now) c.in-Write.m × (c.in-Write.list ≡ Some []) = subst (RunningFits c.args.hart (state_of g.D.Device.contents g.D.Device.failures c.args.core.now)) c.in-Write.is c.requires.fits in
-    record { steps = on_descriptor g.D.Device.contents g.D.Device.failures g.D.Device.Called write_call_of WriteCallFits write.Gone (λ m list. running.Write m list) (λ m list. refl) (λ h s m fits. (fits, refl)) (refl, refl) c.args.hart c.in-Write.m c.step-in-Write.new.self c.args.core.now c.step-in-Write.new.core c.args.self.now c.in-Write.list c.with_list-in-Write.new.list c.step-in-Write.result c.with_list-in-Write.result c.in-Write.is had.1 c.with_list-in-Write.ensures.came c.with_list-in-Write.ensures.list c.step-in-Write.ensures.steps }
+    record { steps = on_descriptor g.D.Device.contents g.D.Device.failures g.D.Device.Called write_call_of WriteCallFits write.Gone (λ m list. running.Write m list) (λ m list. refl) (λ h s m fits. (fits, refl)) (refl, refl) c.args.hart c.in-Write.m c.write.new.m c.args.core.now c.write.new.core c.args.self.now c.in-Write.list c.write.new.list c.write.result c.in-Write.is had.1 c.write.ensures.beside }
 
 pub returns-in-Inherit : goal.returns-in-Inherit
 unfolding running_of RunningFits
 returns-in-Inherit g c =
     let had : InheritFits c.args.hart (state_of g.D.Device.contents g.D.Device.failures c.args.core.now) c.in-Inherit.m × (c.in-Inherit.list ≡ Some []) = subst (RunningFits c.args.hart (state_of g.D.Device.contents g.D.Device.failures c.args.core.now)) c.in-Inherit.is c.requires.fits in
-    record { steps = on_descriptor g.D.Device.contents g.D.Device.failures g.D.Device.Called inherit_of InheritFits inherit.Gone (λ m list. running.Inherit m list) (λ m list. refl) (λ h s m fits. (fits, refl)) (refl, refl) c.args.hart c.in-Inherit.m c.step-in-Inherit.new.self c.args.core.now c.step-in-Inherit.new.core c.args.self.now c.in-Inherit.list c.with_list-in-Inherit.new.list c.step-in-Inherit.result c.with_list-in-Inherit.result c.in-Inherit.is had.1 c.with_list-in-Inherit.ensures.came c.with_list-in-Inherit.ensures.list c.step-in-Inherit.ensures.steps }
+    record { steps = on_descriptor g.D.Device.contents g.D.Device.failures g.D.Device.Called inherit_of InheritFits inherit.Gone (λ m list. running.Inherit m list) (λ m list. refl) (λ h s m fits. (fits, refl)) (refl, refl) c.args.hart c.in-Inherit.m c.inherit.new.m c.args.core.now c.inherit.new.core c.args.self.now c.in-Inherit.list c.inherit.new.list c.inherit.result c.in-Inherit.is had.1 c.inherit.ensures.beside }

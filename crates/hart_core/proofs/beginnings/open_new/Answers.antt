@@ -1,0 +1,19 @@
+use Rattle.std.proofs.Common.{ℕ, ◌∙◌, sym, ap, subst, ◌==◌}
+use Rattle.std.specs.Prelude.{bit_and, not}
+use Rattle.std.proofs.lemmas.Bool.{ne_eqb}
+use Rattle.syscalls.specs.Machines.{running_of, RunningFits}
+use Rattle.calls_on_blocks.proofs.Bridges.{programs_are_lowered}
+use Rattle.hart_core.specs.Begun.{HasBegun}
+use Rattle.plain_tree.specs.declared.call.Call.TheVariants as calls
+use Rattle.hart_core.proofs.Refusals.{right_path}
+use Rattle.hart_core.proofs.beginnings.open_new.Goals as goal
+
+pub new-requires-clause-short : goal.new-requires-clause-short
+new-requires-clause-short c = (right_path c.args.path c.requires.faultless).0
+
+pub new-requires-clause-nonzero : goal.new-requires-clause-nonzero
+new-requires-clause-nonzero c = (right_path c.args.path c.requires.faultless).1
+
+pub returns : goal.returns
+unfolding running_of RunningFits
+returns c = subst (HasBegun c.args.sizes.now (calls.Open c.args.path c.args.flags)) (sym c.put.ensures) (c.new.ensures.program ∙ sym ((programs_are_lowered c.args.sizes.now).open_new c.args.path c.args.flags (ap not (ne_eqb (bit_and c.args.flags 512) 0 c.requires.new))), c.new.ensures.fits)
