@@ -56,7 +56,7 @@ pub enum Workload {
 }
 
 /// All of them with their names, in the order in which they run.
-pub const ALL: [(&str, Workload); 34] = [
+pub const ALL: [(&str, Workload); 35] = [
     ("device_read_block", Workload::DeviceRead),
     ("inode_read", Workload::InodeRead),
     ("inode_write", Workload::InodeWrite),
@@ -90,6 +90,7 @@ pub const ALL: [(&str, Workload); 34] = [
         Workload::World(worlds::TURNS),
     ),
     ("open_missing_of_1000", Workload::World(worlds::MISS)),
+    ("read_none", Workload::World(worlds::READ_NONE)),
     ("read_4096", Workload::World(worlds::READ)),
     ("write_3072_over", Workload::World(worlds::REWRITE)),
     ("write_274432_anew", Workload::World(worlds::WRITE_ANEW)),

@@ -121,6 +121,12 @@ pub const READ: Line = Line {
     ..ROOT
 };
 
+/// A read of no bytes, with the same: what a read costs beside its bytes.
+pub const READ_NONE: Line = Line {
+    round: &[(1, Ask::Open(b"/f", 0)), (9, Ask::Read(0)), (1, Ask::Close)],
+    ..READ
+};
+
 /// A write of 3072 bytes into blocks that are there, with its commit, and with a twelfth of an open and of a close.
 pub const REWRITE: Line = Line {
     files: (1, CACHED),

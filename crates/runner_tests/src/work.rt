@@ -18,7 +18,7 @@ use std::thread::Threads;
 const CREATE: u32 = 0x201;
 
 // So many times the harts do their work.
-const ROUNDS: u32 = 20;
+const ROUNDS: u32 = 100;
 
 // A name in the root. Each hart has two of its own; it begins with another one of the four that all share than its neighbour.
 #[derive(Clone, Copy)]
