@@ -3,20 +3,25 @@ ghost use Rattle.std.specs.Prelude.{◌≡◌, ◌↔◌, ◌<◌, length, posit
 ghost use Rattle.block_device.specs.Blocks.{block_at, faults_after};
 ghost use Rattle.buffer_cache.specs.Seats.{has_block, is_free, is_held_by, is_pinned, unused, with_holder, without_holder, with_content, with_pin, as_new};
 
-use crate::buffer::zeros;
 use block_device::{BLOCK_LEN, Device, Fault};
 use std::alloc::{AllocError, Global};
 use std::marker::Model;
 
-/// What the cache keeps of a buffer. The bytes are those of the last fill or record.
+/// What the cache keeps of a buffer, in a box, so that who changes the order of buffers moves no more than where they are.
 #[derive(Drop)]
 pub(crate) struct Seat {
+    kept: Box<Kept>,
+}
+
+// The bytes are those of the last fill or record.
+#[derive(Drop)]
+struct Kept {
     number: u32,
     block: Option<u32>,
     valid: bool,
     pinned: bool,
     holder: Option<u8>,
-    bytes: Box<[u8; BLOCK_LEN]>,
+    bytes: [u8; BLOCK_LEN],
 }
 
 impl Model for Seat {
@@ -26,11 +31,11 @@ impl Model for Seat {
     ghost Value = { SeatState };
 
     ghost view = { λ s. record {
-      number = s.number;
-      block = s.block;
-      content = content_of s.valid s.bytes.value;
-      pinned = s.pinned;
-      holder = s.holder;
+      number = s.kept.value.number;
+      block = s.kept.value.block;
+      content = content_of s.kept.value.valid s.kept.value.bytes;
+      pinned = s.kept.value.pinned;
+      holder = s.kept.value.holder;
     } };
 }
 
@@ -38,84 +43,87 @@ impl Seat {
     pub fn new(alloc: Global, number: u32) -> Result<Seat, AllocError>
         ensures { IfOk result (λ seat. seat ≡ unused number) }
     {
-        Ok(Seat {
+        let kept = Kept {
             number,
             block: None,
             valid: false,
             pinned: false,
             holder: None,
-            bytes: zeros(alloc)?,
+            bytes: [0; BLOCK_LEN],
+        };
+        Ok(Seat {
+            kept: Box::new(alloc, kept)?,
         })
     }
 
     pub fn number(&self) -> u32
         ensures { result ≡ self.now.number }
     {
-        self.number
+        self.kept.number
     }
 
     pub fn has_block(&self, b: u32) -> bool
         ensures { result ≡ has_block b self.now }
     {
-        self.block == Some(b)
+        self.kept.block == Some(b)
     }
 
     pub fn is_free(&self) -> bool
         ensures { result ≡ is_free self.now }
     {
-        !self.pinned && self.holder.is_none()
+        !self.kept.pinned && self.kept.holder.is_none()
     }
 
     pub fn is_held_by(&self, hart: u8) -> bool
         ensures { result ≡ is_held_by hart self.now }
     {
-        self.holder == Some(hart)
+        self.kept.holder == Some(hart)
     }
 
     pub fn is_pinned(&self) -> bool
         ensures { result ≡ is_pinned self.now }
     {
-        self.pinned
+        self.kept.pinned
     }
 
     pub fn bytes(&self) -> &[u8; BLOCK_LEN]
         requires { IsSome self.now.content }
         ensures { Some result.now ≡ self.now.content }
     {
-        &*self.bytes
+        &self.kept.bytes
     }
 
     pub fn lend(&mut self, hart: u8)
         ensures { self.new ≡ with_holder hart self.old }
     {
-        self.holder = Some(hart);
+        self.kept.holder = Some(hart);
     }
 
     pub fn renew(&mut self, hart: u8, b: u32)
         ensures { self.new ≡ as_new hart b self.old }
     {
-        self.block = Some(b);
-        self.valid = false;
-        self.holder = Some(hart);
+        self.kept.block = Some(b);
+        self.kept.valid = false;
+        self.kept.holder = Some(hart);
     }
 
     pub fn take_back(&mut self)
         ensures { self.new ≡ without_holder self.old }
     {
-        self.holder = None;
+        self.kept.holder = None;
     }
 
     pub fn keep(&mut self, bytes: &[u8; BLOCK_LEN])
         ensures { self.new ≡ with_content bytes.now self.old }
     {
-        *self.bytes = *bytes;
-        self.valid = true;
+        self.kept.bytes = *bytes;
+        self.kept.valid = true;
     }
 
     pub fn set_pinned(&mut self, pinned: bool)
         ensures { self.new ≡ with_pin pinned self.old }
     {
-        self.pinned = pinned;
+        self.kept.pinned = pinned;
     }
 
     // Reads block b of the device.
@@ -128,8 +136,8 @@ impl Seat {
         ensures contents { D.contents device.new ≡ D.contents device.old }
         ensures faults { D.failures device.new ≡ faults_after result (D.failures device.old) }
     {
-        device.read(b, &mut *self.bytes)?;
-        self.valid = true;
+        device.read(b, &mut self.kept.bytes)?;
+        self.kept.valid = true;
         Ok(())
     }
 }
